@@ -6,9 +6,9 @@ use Rattle.std.proofs.Math.Nat.{mod-eq_of_lt, mul-le-mul_right, pow-le-pow_right
 use Rattle.std.proofs.lemmas.List.{take_rest}
 use Rattle.std.proofs.lemmas.Bool.{eq-eqb}
 use Rattle.pdl_kit.specs.declared.rule.Rule.{Rule}
-use Rattle.pdl_asmtable.specs.Tables.{TableValue}
-use Rattle.pdl_asmtable.specs.declared.table.Arg.{Arg}
-use Rattle.pdl_asmtable.specs.Dictionaries.{value_of}
+use Rattle.pdl_asm_table.specs.Tables.{TableValue}
+use Rattle.pdl_asm_table.specs.declared.table.Arg.{Arg}
+use Rattle.pdl_asm_table.specs.Dictionaries.{value_of}
 use Rattle.pdl_asm.specs.Assembly.{insn_rule, operation_rule}
 use Rattle.pdl_asm.specs.declared.line.Operation.{Operation}
 use Rattle.pdl_asm.specs.declared.line.Operation.TheVariants.{Insn}

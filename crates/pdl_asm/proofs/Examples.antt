@@ -2,8 +2,8 @@
 use Rattle.std.proofs.Common.{◌≡◌, List, ℕ, [], ◌∷◌, Some, None, Option, codes, ◌+◌, refl, pos}
 use Rattle.pdl_image.specs.Lines.{lines}
 use Rattle.pdl_kit.specs.declared.rule.Rule.TheVariants.{A1, A2, A3, A4, A5, A6, A7, A8}
-use Rattle.pdl_asmtable.specs.declared.table.Kind.TheVariants.{Reg, Uint, Sint, Rel}
-use Rattle.pdl_asmtable.specs.Tables.{TableValue}
+use Rattle.pdl_asm_table.specs.declared.table.Kind.TheVariants.{Reg, Uint, Sint, Rel}
+use Rattle.pdl_asm_table.specs.Tables.{TableValue}
 use Rattle.pdl_asm.specs.declared.line.Operand.TheVariants.{Label, Number}
 use Rattle.pdl_asm.specs.declared.line.Operation.TheVariants.{Nothing, Insn}
 use Rattle.pdl_asm.specs.declared.asm_error.AsmError.{AsmError}

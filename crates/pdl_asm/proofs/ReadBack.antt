@@ -10,7 +10,7 @@ use Rattle.pdl_kit.specs.declared.mem_info.MemInfo.{MemInfo}
 use Rattle.pdl_semantics.specs.Lines.{hex_digits}
 use Rattle.pdl_image.specs.Images.{image as image_read, is_name}
 use Rattle.pdl_image.proofs.Written.{Gives, Says, read_back, says}
-use Rattle.pdl_asmtable.specs.Tables.{IsTable, TableValue}
+use Rattle.pdl_asm_table.specs.Tables.{IsTable, TableValue}
 use Rattle.pdl_asm.specs.declared.asm_error.AsmError.{AsmError}
 use Rattle.pdl_asm.specs.Assembly.{addresses, first_wrong, image, image_text, image_unless, labels_of, word_line}
 use Rattle.pdl_asm.specs.ReadBack.{IsReadBack, Takes, lines_in, word_in, words_in}

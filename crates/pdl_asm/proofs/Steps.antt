@@ -1,7 +1,7 @@
 -- One line more, for labels and places.
 use Rattle.std.proofs.Common.{◌≡◌, ℕ, ◌≤◌, refl, sym, ◌∙◌, ap, arith, List, ◌∷◌, Option, fold, ℤ}
 use Rattle.std.proofs.lemmas.Int.{ints}
-use Rattle.pdl_asmtable.specs.Tables.{TableValue}
+use Rattle.pdl_asm_table.specs.Tables.{TableValue}
 use Rattle.pdl_asm.specs.declared.line.Line.{Line}
 use Rattle.pdl_asm.specs.Lines.{line_of}
 use Rattle.pdl_asm.specs.Values.{Labels}

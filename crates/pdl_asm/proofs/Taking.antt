@@ -11,9 +11,9 @@ use Rattle.pdl_image.proofs.Filling.{or_else_assoc, or_else_none}
 use Rattle.pdl_image.proofs.MapSet.{map_same, map_set}
 use Rattle.pdl_image.specs.Images.{or_else}
 use Rattle.pdl_image.specs.Lines.{lines}
-use Rattle.pdl_asmtable.specs.Dictionaries.{value_of}
-use Rattle.pdl_asmtable.specs.Tables.{TableValue}
-use Rattle.pdl_asmtable.specs.declared.table.Insn.{Insn as TableInsn}
+use Rattle.pdl_asm_table.specs.Dictionaries.{value_of}
+use Rattle.pdl_asm_table.specs.Tables.{TableValue}
+use Rattle.pdl_asm_table.specs.declared.table.Insn.{Insn as TableInsn}
 use Rattle.pdl_asm.specs.declared.line.Operand.{Operand}
 use Rattle.pdl_asm.specs.declared.line.Operation.{Operation}
 use Rattle.pdl_asm.specs.declared.line.Operation.TheVariants.{Nothing, At, Word, Insn}

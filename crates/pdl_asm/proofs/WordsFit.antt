@@ -4,10 +4,10 @@ use Rattle.std.proofs.Math.Nat.{mod-lt, mul-le-mul_right, pow-suc}
 use Rattle.std.proofs.lemmas.Bool.{ltb-true}
 use Rattle.std.proofs.lemmas.Nat.{pow_pos}
 use Rattle.pdl_image.specs.Images.{or_else}
-use Rattle.pdl_asmtable.specs.Dictionaries.{value_of}
-use Rattle.pdl_asmtable.specs.Tables.{IsTable, TableValue}
-use Rattle.pdl_asmtable.specs.declared.table.Insn.{Insn as TableInsn}
-use Rattle.pdl_asmtable.proofs.Entries.{wide_found}
+use Rattle.pdl_asm_table.specs.Dictionaries.{value_of}
+use Rattle.pdl_asm_table.specs.Tables.{IsTable, TableValue}
+use Rattle.pdl_asm_table.specs.declared.table.Insn.{Insn as TableInsn}
+use Rattle.pdl_asm_table.proofs.Entries.{wide_found}
 use Rattle.pdl_asm.specs.declared.line.Line.{Line}
 use Rattle.pdl_asm.specs.declared.line.Operand.{Operand}
 use Rattle.pdl_asm.specs.declared.line.Operation.{Operation}

@@ -6,9 +6,9 @@ use Rattle.pdl_kit.specs.declared.rule.Rule.TheVariants.{A1, A2, A5, A6, A7, A8}
 use Rattle.pdl_semantics.specs.Lines.{hex_digits}
 use Rattle.pdl_image.specs.Images.{or_else}
 use Rattle.pdl_image.specs.Lines.{lines}
-use Rattle.pdl_asmtable.specs.Dictionaries.{value_of, with_definition}
-use Rattle.pdl_asmtable.specs.declared.table.Insn.{Insn as TableInsn}
-use Rattle.pdl_asmtable.specs.Tables.{TableValue}
+use Rattle.pdl_asm_table.specs.Dictionaries.{value_of, with_definition}
+use Rattle.pdl_asm_table.specs.declared.table.Insn.{Insn as TableInsn}
+use Rattle.pdl_asm_table.specs.Tables.{TableValue}
 use Rattle.pdl_asm.specs.Lines.{line_of}
 use Rattle.pdl_asm.specs.Values.{Labels, in_word, letter_value, lower, operands_rule, word_of_bits}
 use Rattle.pdl_asm.specs.declared.line.Operand.{Operand}

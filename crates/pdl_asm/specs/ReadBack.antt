@@ -4,7 +4,7 @@ use Rattle.std.specs.List.{range_with_len}
 use Rattle.pdl_kit.specs.declared.mem_info.MemInfo.{MemInfo}
 use Rattle.pdl_image.specs.Images.{image}
 use Rattle.pdl_image.specs.Lines.{lines}
-use Rattle.pdl_asmtable.specs.Tables.{TableValue}
+use Rattle.pdl_asm_table.specs.Tables.{TableValue}
 use Rattle.pdl_asm.specs.Assembly.{Placed, labels_of, lines_from, written_word}
 
 -- the lines of a text with their places

@@ -2,7 +2,7 @@
 use Rattle.std.specs.Prelude.{◌≡◌, ℕ, ℤ, pos, negsuc, nat_lt, Bool, false, ◌&&◌, List, [], map, slice_index_or, slice_set, Option, Some, None, is_some, Result, Ok, Err, if◌then◌else◌}
 use Rattle.std.specs.List.{range_with_len}
 use Rattle.pdl_kit.specs.declared.rule.Rule.{Rule}
-use Rattle.pdl_asmtable.specs.Tables.{TableValue}
+use Rattle.pdl_asm_table.specs.Tables.{TableValue}
 use Rattle.pdl_asm.specs.Values.{Labels}
 use Rattle.pdl_asm.specs.Assembly.{Placed, addresses, first_wrong, written_word}
 use Rattle.pdl_asm.specs.declared.asm_error.AsmError.{AsmError}

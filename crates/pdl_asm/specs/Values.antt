@@ -2,11 +2,11 @@
 use Rattle.std.specs.Prelude.{ℕ, ℤ, pos, negsuc, ◌-ℤ◌, ◌+◌, ◌-◌, ◌*◌, ◌/◌, ◌%◌, ◌^◌, ◌==◌, nat_lt, nat_le, List, [], ◌∷◌, length, count_by, Option, Some, None, Result, Ok, Err, if◌then◌else◌}
 use Rattle.pdl_kit.specs.declared.rule.Rule.{Rule}
 use Rattle.pdl_kit.specs.declared.rule.Rule.TheVariants.{A2, A3, A4, A5, A6, A7, A8}
-use Rattle.pdl_asmtable.specs.Dictionaries.{value_of}
-use Rattle.pdl_asmtable.specs.declared.table.Kind.{Kind}
-use Rattle.pdl_asmtable.specs.declared.table.Kind.TheVariants.{Reg, Uint, Sint, Rel}
-use Rattle.pdl_asmtable.specs.declared.table.Arg.{Arg}
-use Rattle.pdl_asmtable.specs.Tables.{TableValue}
+use Rattle.pdl_asm_table.specs.Dictionaries.{value_of}
+use Rattle.pdl_asm_table.specs.declared.table.Kind.{Kind}
+use Rattle.pdl_asm_table.specs.declared.table.Kind.TheVariants.{Reg, Uint, Sint, Rel}
+use Rattle.pdl_asm_table.specs.declared.table.Arg.{Arg}
+use Rattle.pdl_asm_table.specs.Tables.{TableValue}
 use Rattle.pdl_asm.specs.declared.line.Operand.{Operand}
 use Rattle.pdl_asm.specs.declared.line.Operand.TheVariants.{Label, Number}
 

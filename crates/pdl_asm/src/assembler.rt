@@ -15,7 +15,7 @@ use crate::place::{after_line, define_label};
 use crate::rules::line_rule;
 use crate::text::split_line;
 use crate::words::Words;
-use pdl_asmtable::{Dictionary, Table};
+use pdl_asm_table::{Dictionary, Table};
 use pdl_kit::NoMemory;
 use std::alloc::Global;
 

@@ -1,12 +1,12 @@
 // The words that lines give.
 ghost use Rattle.std.specs.Prelude.{◌≡◌, ◌≤◌, ◌<◌, ◌^◌, Some, None, IfSome, length};
-ghost use Rattle.pdl_asmtable.specs.Dictionaries.{value_of};
+ghost use Rattle.pdl_asm_table.specs.Dictionaries.{value_of};
 ghost use Rattle.pdl_asm.specs.Values.{bit_of, letter_value as letter_value_of, word_of_bits};
 ghost use Rattle.pdl_asm.specs.Assembly.{insn_word as insn_word_of, line_word as line_word_of, operation_word as operation_word_of};
 
 use crate::line::{Line, Operand, Operation};
 use crate::values::{argument_value, field_bits, in_word};
-use pdl_asmtable::{Arg, Dictionary, Insn, Table};
+use pdl_asm_table::{Arg, Dictionary, Insn, Table};
 use pdl_kit::Name;
 
 // The value of a letter: that of its argument's operand.

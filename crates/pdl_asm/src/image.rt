@@ -1,11 +1,11 @@
 // The text of an image.
 ghost use Rattle.std.specs.Prelude.{◌≡◌, ◌≤◌, ◌<◌, ◌++◌, ◌^◌, IfOk, OnOk, true, length, codes, decimal, flat_map, slice_index_or, None, List, ℕ};
 ghost use Rattle.std.specs.List.{range_with_len};
-ghost use Rattle.pdl_asmtable.specs.Tables.{IsTable};
+ghost use Rattle.pdl_asm_table.specs.Tables.{IsTable};
 ghost use Rattle.pdl_asm.specs.Assembly.{image_text, word_line};
 
 use crate::words::Words;
-use pdl_asmtable::Table;
+use pdl_asm_table::Table;
 use pdl_kit::{Name, NoMemory};
 use pdl_trace::word_line as line_of_word;
 use std::alloc::Global;

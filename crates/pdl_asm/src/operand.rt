@@ -8,7 +8,7 @@ use crate::digits::{read_decimal, read_hexadecimal};
 use crate::line::Operand;
 use crate::number::Number;
 use crate::text::{find_byte, without_blanks};
-use pdl_asmtable::is_name;
+use pdl_asm_table::is_name;
 use pdl_kit::{Name, NoMemory, Seq};
 use std::alloc::Global;
 

@@ -5,7 +5,7 @@ ghost use Rattle.pdl_asm.specs.Lines.{line_of, line_of_text, number_of, line_wit
 use crate::line::{Line, Operation};
 use crate::operand::{read_number, read_operands};
 use crate::text::{find_blank, find_byte, trim_start, without_blanks, without_comment};
-use pdl_asmtable::is_name;
+use pdl_asm_table::is_name;
 use pdl_kit::{Name, NoMemory};
 use std::alloc::Global;
 

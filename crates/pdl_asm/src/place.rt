@@ -1,11 +1,11 @@
 // Places, and the labels that lines define.
 ghost use Rattle.std.specs.Prelude.{◌≡◌, ◌^◌, ◌+◌, ◌+ℤ◌, ◌≤ℤ◌, ℕ, pos, neg_ℤ, OnOk, is_some};
-ghost use Rattle.pdl_asmtable.specs.Dictionaries.{value_of};
+ghost use Rattle.pdl_asm_table.specs.Dictionaries.{value_of};
 ghost use Rattle.pdl_asm.specs.Assembly.{after_line as after_line_of, after_operation as after_operation_of, label_of, with_label};
 ghost use Rattle.pdl_asm.specs.Places.{IsNear};
 
 use crate::line::{Line, Operation};
-use pdl_asmtable::{Dictionary, Table};
+use pdl_asm_table::{Dictionary, Table};
 use pdl_kit::NoMemory;
 
 // The place after an operation.

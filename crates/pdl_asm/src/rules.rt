@@ -1,12 +1,12 @@
 // The rules that a line breaks.
 ghost use Rattle.std.specs.Prelude.{◌≡◌, ◌≤◌, IfSome, Some, None, length};
-ghost use Rattle.pdl_asmtable.specs.Dictionaries.{value_of};
+ghost use Rattle.pdl_asm_table.specs.Dictionaries.{value_of};
 ghost use Rattle.pdl_asm.specs.Values.{lower as lower_of, operands_rule as operands_rule_of, rank as rank_of, rule_of as rule_of_value};
 ghost use Rattle.pdl_asm.specs.Assembly.{free_rule, insn_rule as insn_rule_of, is_address as is_address_of, label_rule as label_rule_of, line_rule as line_rule_of, operation_rule as operation_rule_of, place_rule as place_rule_of};
 
 use crate::line::{Line, Operand, Operation};
 use crate::values::{argument_value, in_word};
-use pdl_asmtable::{Arg, Dictionary, Insn, Table};
+use pdl_asm_table::{Arg, Dictionary, Insn, Table};
 use pdl_kit::{Name, Rule};
 
 // The order of rules.

@@ -5,7 +5,7 @@ ghost use Rattle.pdl_asm.specs.Values.{amount as amount_of, argument_value as ar
 
 use crate::line::Operand;
 use crate::sign::{below_minus_one, magnitude, power};
-use pdl_asmtable::{Arg, Dictionary, Kind, Table};
+use pdl_asm_table::{Arg, Dictionary, Kind, Table};
 use pdl_kit::Rule;
 
 // A number in a field of so many bits: 0 to 2^f - 1.

@@ -10,11 +10,11 @@ use Rattle.pdl_lockapi.specs.declared.LockRegs.{LockRegs}
 use Rattle.pdl_lockapi.specs.Lock.{LockState, look_ready, Covered}
 use Rattle.pdl_word.specs.Words.{bit}
 use Rattle.pdl_lockapi.specs.Laws.{HasWords, StartLaw, LookLaw, first_array}
-use Rattle.pdl_entries.specs.declared.layout.Layout.{Layout}
-use Rattle.pdl_entries.specs.Slots.{IsSized, Stands, HasEntries, content_signal}
-use Rattle.pdl_entries.specs.Looks.{less_base, youngest_look, youngest_ready, youngest_value}
-use Rattle.pdl_entries.proofs.Reading.{less_value}
-use Rattle.pdl_entries.proofs.Youngest.{youngest_is_ready, youngest_is_value, same_signal}
+use Rattle.pdl_lock_entries.specs.declared.layout.Layout.{Layout}
+use Rattle.pdl_lock_entries.specs.Slots.{IsSized, Stands, HasEntries, content_signal}
+use Rattle.pdl_lock_entries.specs.Looks.{less_base, youngest_look, youngest_ready, youngest_value}
+use Rattle.pdl_lock_entries.proofs.Reading.{less_value}
+use Rattle.pdl_lock_entries.proofs.Youngest.{youngest_is_ready, youngest_is_value, same_signal}
 use Rattle.pdl_bypass.specs.Bypasses.{word_signal}
 
 -- the image of a queue is that of a bypass lock

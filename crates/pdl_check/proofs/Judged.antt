@@ -4,10 +4,10 @@ use Rattle.std.proofs.lemmas.Bool.Decides.{leb_tells}
 use Rattle.pdl_kit.specs.declared.rule.Rule.{Rule}
 use Rattle.pdl_kit.specs.declared.rule.Rule.TheVariants.{Z1, G1}
 use Rattle.pdl_semantics.specs.Tree.{Pipe}
-use Rattle.pdl_tree.specs.declared.tree.Pipe as r_pipe
-use Rattle.pdl_tree.specs.View.{pipe_view}
-use Rattle.pdl_grammar.specs.Text.{IsText, IsOutOfPlace}
-use Rattle.pdl_grammar.proofs.Places.{one_tree, apart, one_place}
+use Rattle.pdl_syntax_tree.specs.declared.tree.Pipe as r_pipe
+use Rattle.pdl_syntax_tree.specs.View.{pipe_view}
+use Rattle.pdl_syntax_grammar.specs.Text.{IsText, IsOutOfPlace}
+use Rattle.pdl_syntax_grammar.proofs.Places.{one_tree, apart, one_place}
 use Rattle.pdl_syntax.specs.declared.error.ParseError.TheVariants as parse_error
 use Rattle.pdl_syntax.specs.Text as text
 use Rattle.pdl_rules.specs.Limits.{is_too_long}

@@ -1,8 +1,8 @@
 -- A memory's width and depth fit their types.
 use Rattle.std.proofs.Common.{◌≡◌, ℕ, zero, suc, ◌<◌, List, [], ◌∷◌, map, length, get_or, sym, subst, arith}
-use Rattle.pdl_tree.specs.declared.tree.Mem as r_mem
-use Rattle.pdl_tree.specs.View.{mem_view}
-use Rattle.pdl_flat.specs.Sized.{IsSizedMem, AreSizedMems}
+use Rattle.pdl_syntax_tree.specs.declared.tree.Mem as r_mem
+use Rattle.pdl_syntax_tree.specs.View.{mem_view}
+use Rattle.pdl_form_lower.specs.Sized.{IsSizedMem, AreSizedMems}
 
 pub sized_here : (xs : List r_mem.Mem) (i : ℕ) (x : r_mem.Mem) → AreSizedMems (map mem_view xs) → i < length xs → x ≡ get_or xs i x → IsSizedMem (mem_view x)
 sized_here [] i x h below here = absurd (omega arith)

@@ -2,9 +2,9 @@
 use Rattle.std.specs.Prelude.{◌≡◌, ℕ, false, ◌⊎◌, ◌++◌, List, Option, Some, None, Result, Ok, Err}
 use Rattle.pdl_kit.specs.declared.rule.Rule.TheVariants.{G1}
 use Rattle.pdl_semantics.specs.Tree.{Pipe}
-use Rattle.pdl_tree.specs.declared.tree.Pipe as r
-use Rattle.pdl_tree.specs.View.{pipe_view}
-use Rattle.pdl_grammar.specs.Text.{IsText, IsOutOfPlace}
+use Rattle.pdl_syntax_tree.specs.declared.tree.Pipe as r
+use Rattle.pdl_syntax_tree.specs.View.{pipe_view}
+use Rattle.pdl_syntax_grammar.specs.Text.{IsText, IsOutOfPlace}
 use Rattle.pdl_rules.specs.Limits.{is_too_long}
 use Rattle.pdl_rules.specs.Refusal.{Refused, refusal, limits, after_limits, first_broken}
 use Rattle.pdl_check.specs.declared.accepted.Accepted.{Accepted}

@@ -6,7 +6,7 @@ use Rattle.pdl_rules.specs.Memories.{infos_of}
 use Rattle.pdl_rules.specs.Places.{places, guards}
 use Rattle.pdl_form.specs.Form.{form_of}
 use Rattle.pdl_form.specs.Whole.{form}
-use Rattle.pdl_stagegraph.specs.Graph.{graph_of}
+use Rattle.pdl_stages.specs.Graph.{graph_of}
 use Rattle.pdl_check.specs.declared.check.Made.{Made}
 
 -- its guards, its memories as they are told, its flat form, and the graph of its stages

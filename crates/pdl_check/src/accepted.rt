@@ -1,6 +1,6 @@
 // Accepted pipes.
 ghost use Rattle.std.specs.Prelude.{◌≡◌, IsTrue};
-ghost use Rattle.pdl_tree.specs.View.{pipe_view};
+ghost use Rattle.pdl_syntax_tree.specs.View.{pipe_view};
 ghost use Rattle.pdl_rules.specs.Places.{places, guards as guards_in};
 ghost use Rattle.pdl_rules.specs.Refusal.{KeepsRules};
 ghost use Rattle.pdl_rules.specs.Speculation.{verify_stage};
@@ -9,20 +9,20 @@ ghost use Rattle.pdl_semantics.specs.Flatten.{flat as flat_of};
 ghost use Rattle.pdl_semantics.specs.Stages.{depth as depth_of};
 ghost use Rattle.pdl_form.specs.Form.{form_of};
 ghost use Rattle.pdl_form.specs.Whole.{form};
-ghost use Rattle.pdl_formtypes.specs.Same.{same_form};
-ghost use Rattle.pdl_stagegraph.specs.Graph.{graph_of};
-ghost use Rattle.pdl_pathfacts.specs.Source.{is_source, is_named};
+ghost use Rattle.pdl_form_types.specs.Same.{same_form};
+ghost use Rattle.pdl_stages.specs.Graph.{graph_of};
+ghost use Rattle.pdl_source_paths.specs.Source.{is_source, is_named};
 ghost use Rattle.pdl_rules.specs.Memories.{infos_of};
 
 use pdl_form::FlatPipe;
-use pdl_judge::Plans;
+use pdl_rules_judge::Plans;
 use pdl_kit::{MemInfo, Seq};
 use pdl_locks::LockPlan;
 use pdl_paths::Guards;
 use pdl_spec::SpecPlan;
-use pdl_stagegraph::StageGraph;
-use pdl_tree::Pipe;
-use pdl_typed::TypedPipe;
+use pdl_stages::StageGraph;
+use pdl_syntax_tree::Pipe;
+use pdl_types::TypedPipe;
 
 /// A pipe that is read from a text and breaks no rule, with the widths of its variables, its guards in text order, its memories in declared order, the stages of its locks and verifies, its flat form, and its stages.
 pub struct Accepted {

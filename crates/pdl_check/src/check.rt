@@ -2,29 +2,29 @@
 ghost use Rattle.std.specs.Prelude.{◌≡◌, ◌≤◌, ◌++◌, ℕ, None, IfOk, IsTrue, length};
 ghost use Rattle.pdl_kit.specs.declared.rule.Rule.TheVariants as rules;
 ghost use Rattle.pdl_semantics.specs.Tree as tree;
-ghost use Rattle.pdl_grammar.specs.Text.{IsText, IsOutOfPlace};
-ghost use Rattle.pdl_tree.specs.View.{pipe_view};
+ghost use Rattle.pdl_syntax_grammar.specs.Text.{IsText, IsOutOfPlace};
+ghost use Rattle.pdl_syntax_tree.specs.View.{pipe_view};
 ghost use Rattle.pdl_rules.specs.Places.{places as places_of};
 ghost use Rattle.pdl_rules.specs.Refusal.{refusal, first_broken, limits, after_limits};
 ghost use Rattle.pdl_rules.specs.Speculation.{verify_stage};
 ghost use Rattle.pdl_locks.specs.Plan.{plan_of};
 ghost use Rattle.pdl_form.specs.Whole.{form};
-ghost use Rattle.pdl_stagegraph.specs.Graph.{graph_of};
-ghost use Rattle.pdl_pathfacts.specs.Source.{is_source, is_named};
+ghost use Rattle.pdl_stages.specs.Graph.{graph_of};
+ghost use Rattle.pdl_source_paths.specs.Source.{is_source, is_named};
 ghost use Rattle.pdl_check.specs.Made.{IsMadeOf};
 ghost use Rattle.pdl_check.specs.Answers.{check_answer, Gives, Refuses, IsRefused, IsChecked, IsJudged};
 
 use crate::accepted::Accepted;
 use crate::infos::infos_of;
 use crate::read::read;
-use pdl_flat::lower;
+use pdl_form_lower::lower;
 use pdl_form::FlatPipe;
-use pdl_judge::{Plans, judge as plan};
+use pdl_rules_judge::{Plans, judge as plan};
 use pdl_kit::{MemInfo, NoMemory, Refusal, Seq};
 use pdl_paths::{Guards, guards_of, places};
-use pdl_stagegraph::{StageGraph, stage_graph};
-use pdl_tree::Pipe;
-use pdl_typed::TypedPipe;
+use pdl_stages::{StageGraph, stage_graph};
+use pdl_syntax_tree::Pipe;
+use pdl_types::TypedPipe;
 use std::alloc::Global;
 
 /// Checks a source of at most 268,435,456 bytes. A text that is no pipe is refused at its first token out of place (G1). That of a pipe is asked all rules: it is accepted where it breaks none, and else refused by the lowest rule that it breaks, at the line of that rule's lowest place.

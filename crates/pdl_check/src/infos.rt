@@ -1,11 +1,11 @@
 // The memories of a pipe as they are told to later steps.
 ghost use Rattle.std.specs.Prelude.{◌≡◌, IfOk, map};
-ghost use Rattle.pdl_tree.specs.View.{mem_view};
-ghost use Rattle.pdl_flat.specs.Sized.{AreSizedMems, IsSizedMem};
+ghost use Rattle.pdl_syntax_tree.specs.View.{mem_view};
+ghost use Rattle.pdl_form_lower.specs.Sized.{AreSizedMems, IsSizedMem};
 ghost use Rattle.pdl_rules.specs.Memories as spec;
 
 use pdl_kit::{MemInfo, NoMemory, Seq};
-use pdl_tree::tree::Mem;
+use pdl_syntax_tree::tree::Mem;
 use std::alloc::Global;
 
 /// The memories as later steps are told them, in declared order.

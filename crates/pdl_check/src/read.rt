@@ -5,7 +5,7 @@ ghost use Rattle.pdl_check.specs.Answers.{IsRead};
 use pdl_kit::{Refusal, Rule};
 use pdl_syntax::error::ParseError;
 use pdl_syntax::parse::parse;
-use pdl_tree::tree::Pipe;
+use pdl_syntax_tree::tree::Pipe;
 use std::alloc::Global;
 
 /// The pipe of a source that isn't too long. A token out of place (G1) is told before the length (Z1).

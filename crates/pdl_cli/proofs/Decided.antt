@@ -5,33 +5,33 @@ use Rattle.pdl_kit.specs.declared.rule.Rule.TheVariants.{G1}
 use Rattle.pdl_kit.specs.Files.{Held, Gives}
 use Rattle.pdl_semantics.specs.Tree.{Pipe}
 use Rattle.pdl_semantics.specs.Flatten.{flat}
-use Rattle.pdl_grammar.specs.Text.{IsText}
-use Rattle.pdl_grammar.proofs.Places.{one_tree}
+use Rattle.pdl_syntax_grammar.specs.Text.{IsText}
+use Rattle.pdl_syntax_grammar.proofs.Places.{one_tree}
 use Rattle.pdl_rules.specs.Refusal.{refused_at, refusal}
 use Rattle.pdl_net.specs.declared.Netlist.{Netlist}
 use Rattle.pdl_net.specs.Run.{delayed_mems}
-use Rattle.pdl_pipe_law.specs.Places.{delayed_count}
+use Rattle.pdl_law_parts.specs.Places.{delayed_count}
 use Rattle.pdl_image.specs.Images.{image}
 use Rattle.pdl_image.specs.Delays.{delays as delay_rows}
 use Rattle.pdl_image.specs.declared.file_error.FileError.TheVariants as file
 use Rattle.pdl_vread.specs.Reads.{Reads, Breaks}
-use Rattle.pdl_asmtable.specs.declared.table_error.TableError.TheVariants as table_error
-use Rattle.pdl_asmtable.specs.Tables.{TableValue}
-use Rattle.pdl_asmtable.specs.Documents as documents
+use Rattle.pdl_asm_table.specs.declared.table_error.TableError.TheVariants as table_error
+use Rattle.pdl_asm_table.specs.Tables.{TableValue}
+use Rattle.pdl_asm_table.specs.Documents as documents
 use Rattle.pdl_asm.specs.declared.asm_error.AsmError.TheVariants as asm_error
 use Rattle.pdl_asm.specs.Assembly as assembly
 use Rattle.pdl_gen.specs.Generated.{source}
-use Rattle.pdl_args.specs.Line.{Command, check, run, seq, asm, gen, build, sim, wave, view}
-use Rattle.pdl_failure.specs.declared.failure.Position.{Position}
-use Rattle.pdl_failure.specs.declared.failure.Position.TheVariants.{Line, Insn}
-use Rattle.pdl_failure.specs.declared.failure.Failure.{Failure}
-use Rattle.pdl_failure.specs.declared.failure.Failure.TheVariants.{Usage, Refused, ReadFault, WriteFault, NoMemory}
-use Rattle.pdl_failure.specs.Failures.{status_of}
-use Rattle.pdl_commands.specs.Assembled.{IsTabled, IsWrongTable, IsWrongText, IsAssembled}
-use Rattle.pdl_commands.specs.Replies.{IsSchedule, DelaysRefused}
-use Rattle.pdl_commands.specs.Simulated.{HoldsNetlist, IsStarted, IsWrongNetlist, IsWrongStart, IsWrongSim, IsSimulated}
-use Rattle.pdl_commands.specs.Commands.{SourceRefused, IsAccepted, IsLoaded, IsWrongSource, IsWrongImage, IsWrong, IsWrongRun, IsWrongFor, Writes}
-use Rattle.pdl_commands.specs.Outcomes.{Seen, Explains}
+use Rattle.pdl_cli_args.specs.Line.{Command, check, run, seq, asm, gen, build, sim, wave, view}
+use Rattle.pdl_cli_failure.specs.declared.failure.Position.{Position}
+use Rattle.pdl_cli_failure.specs.declared.failure.Position.TheVariants.{Line, Insn}
+use Rattle.pdl_cli_failure.specs.declared.failure.Failure.{Failure}
+use Rattle.pdl_cli_failure.specs.declared.failure.Failure.TheVariants.{Usage, Refused, ReadFault, WriteFault, NoMemory}
+use Rattle.pdl_cli_failure.specs.Failures.{status_of}
+use Rattle.pdl_cli_commands.specs.Assembled.{IsTabled, IsWrongTable, IsWrongText, IsAssembled}
+use Rattle.pdl_cli_commands.specs.Replies.{IsSchedule, DelaysRefused}
+use Rattle.pdl_cli_commands.specs.Simulated.{HoldsNetlist, IsStarted, IsWrongNetlist, IsWrongStart, IsWrongSim, IsSimulated}
+use Rattle.pdl_cli_commands.specs.Commands.{SourceRefused, IsAccepted, IsLoaded, IsWrongSource, IsWrongImage, IsWrong, IsWrongRun, IsWrongFor, Writes}
+use Rattle.pdl_cli_commands.specs.Outcomes.{Seen, Explains}
 use Rattle.pdl_cli.specs.Top.{IsDecided, Decides}
 use Rattle.pdl_cli.proofs.OneNetlist.{one_netlist, read_right}
 use Rattle.pdl_rules.specs.Memories.{infos_of}

@@ -8,10 +8,10 @@ use Rattle.clap.specs.Walk.{Row, Text, first_of}
 use Rattle.clap.specs.Simple.{subcommand_of}
 use Rattle.clap.specs.Faults.{fault_of}
 use Rattle.clap.specs.Kinds.{Kinds}
-use Rattle.pdl_args.specs.App.{pdl_app}
-use Rattle.pdl_args.specs.Number.{number_of, is_numeral_of}
+use Rattle.pdl_cli_args.specs.App.{pdl_app}
+use Rattle.pdl_cli_args.specs.Number.{number_of, is_numeral_of}
 use Rattle.pdl_cli.specs.Top.{IsFew}
-use Rattle.pdl_args.specs.Line.{Command, check, run, seq, asm, gen, build, sim, wave, view, check_of, run_of, seq_of, asm_of, gen_of, build_of, sim_of, wave_of, view_of, netlist_command_of, command_of, where_taken, line}
+use Rattle.pdl_cli_args.specs.Line.{Command, check, run, seq, asm, gen, build, sim, wave, view, check_of, run_of, seq_of, asm_of, gen_of, build_of, sim_of, wave_of, view_of, netlist_command_of, command_of, where_taken, line}
 
 tested : (a b : Bool) (n m : ℕ) → (b ≡ true → n ≤ m) → (c : ℕ) → (if a && b then Some n else None) ≡ Some c → c ≤ m
 tested true true n m h c e = let s : n ≡ c = cc e in rw (← s) (h refl)

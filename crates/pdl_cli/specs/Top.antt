@@ -3,13 +3,13 @@ use Rattle.std.specs.Prelude.{◌≡◌, ◌≤◌, ℕ, ◌⊎◌, Bool, IsTrue
 use Rattle.pdl_kit.specs.declared.rule.Rule.{Rule}
 use Rattle.pdl_kit.specs.Counts.{Rose}
 use Rattle.pdl_kit.specs.Files.{Held}
-use Rattle.pdl_args.specs.Line.{Command, check, run, seq, asm, gen, build, sim, wave, view}
-use Rattle.pdl_failure.specs.declared.failure.Position.{Position}
-use Rattle.pdl_failure.specs.declared.failure.Failure.{Failure}
-use Rattle.pdl_failure.specs.Failures.{status_of, text_of}
-use Rattle.pdl_commands.specs.Replies.{AllowsFile}
-use Rattle.pdl_commands.specs.Commands.{IsWrongFor}
-use Rattle.pdl_commands.specs.Outcomes.{Seen, Explains}
+use Rattle.pdl_cli_args.specs.Line.{Command, check, run, seq, asm, gen, build, sim, wave, view}
+use Rattle.pdl_cli_failure.specs.declared.failure.Position.{Position}
+use Rattle.pdl_cli_failure.specs.declared.failure.Failure.{Failure}
+use Rattle.pdl_cli_failure.specs.Failures.{status_of, text_of}
+use Rattle.pdl_cli_commands.specs.Replies.{AllowsFile}
+use Rattle.pdl_cli_commands.specs.Commands.{IsWrongFor}
+use Rattle.pdl_cli_commands.specs.Outcomes.{Seen, Explains}
 
 -- the files that a command names may be read
 abbrev pub Allows : (List ℕ → Bool) → Option Command → Type 0

@@ -1,6 +1,6 @@
 -- What is answered where there are no words.
-use Rattle.pdl_failure.specs.declared.failure.Failure.{Failure}
-use Rattle.pdl_failure.specs.declared.failure.Failure.TheVariants as failure
+use Rattle.pdl_cli_failure.specs.declared.failure.Failure.{Failure}
+use Rattle.pdl_cli_failure.specs.declared.failure.Failure.TheVariants as failure
 use Rattle.pdl_cli.specs.declared.words.NoWords.{NoWords}
 use Rattle.pdl_cli.specs.declared.words.NoWords.TheVariants.{Unreadable, NoMemory}
 

@@ -1,9 +1,9 @@
 // What is built runs as its source does.
 ghost use Rattle.std.specs.Prelude.{ℕ, List, Option, Some};
 ghost use Rattle.pdl_kit.specs.Files.{Held, Gives};
-ghost use Rattle.pdl_args.specs.Line.{run, sim};
+ghost use Rattle.pdl_cli_args.specs.Line.{run, sim};
 ghost use Rattle.pdl_cli.specs.Alike.{DoTheSame};
-ghost use Rattle.pdl_commands.specs.Commands.{IsBuilt};
+ghost use Rattle.pdl_cli_commands.specs.Commands.{IsBuilt};
 
 /// Where a file has the text that `build` writes for a source, `sim` of this file writes what `run` of the source writes, with each image, each number of cycles and each delay file or none, and is refused where `run` is.
 pub fn same_as_run()

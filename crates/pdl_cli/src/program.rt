@@ -1,17 +1,17 @@
 // The whole program.
 ghost use Rattle.std.specs.Prelude.{◌≡◌, ◌≤◌, ℕ, List, Option, IsTrue, IfOk, IfErr, map, string_bytes};
 ghost use Rattle.std.specs.Prelude.{Some, Err};
-ghost use Rattle.pdl_args.specs.Line.{line};
-ghost use Rattle.pdl_args.specs.View.{view};
-ghost use Rattle.pdl_failure.specs.Texts.{Says};
-ghost use Rattle.pdl_commands.specs.Outcomes.{seen_of, Explains, Streamed};
+ghost use Rattle.pdl_cli_args.specs.Line.{line};
+ghost use Rattle.pdl_cli_args.specs.View.{view};
+ghost use Rattle.pdl_cli_failure.specs.Texts.{Says};
+ghost use Rattle.pdl_cli_commands.specs.Outcomes.{seen_of, Explains, Streamed};
 ghost use Rattle.pdl_cli.specs.Top.{Allows, IsFew, Answers, Decides};
 
-use pdl_args::{Line, read_line};
-use pdl_commands::{
+use pdl_cli_args::{Line, read_line};
+use pdl_cli_commands::{
     assembly_text, build, generate, run_in_turn, run_source, simulate, verdict, view_source, wave,
 };
-use pdl_failure::{Failure, report, status_of};
+use pdl_cli_failure::{Failure, report, status_of};
 use pdl_kit::files::Files;
 use pdl_kit::sink::{Sink, write_whole};
 use std::alloc::Global;
@@ -33,7 +33,7 @@ fn write_text<O: Sink>(text: Result<Vec<u8>, Failure>, out: &mut O) -> Result<()
 }
 
 // Does what a command asks for.
-#[tactic(auto, using(pdl_commands::proofs::Explaining::text_explains))]
+#[tactic(auto, using(pdl_cli_commands::proofs::Explaining::text_explains))]
 fn obey_line<F: Files, O: Sink>(
     alloc: Global,
     line: Line<'_>,

@@ -2,9 +2,9 @@
 ghost use Rattle.std.specs.Prelude.{◌≡◌, Some};
 ghost use Rattle.pdl_kit.specs.declared.rule.Rule.{Rule as rules};
 ghost use Rattle.pdl_kit.specs.Files.{Held};
-ghost use Rattle.pdl_args.specs.Line.{Command};
-ghost use Rattle.pdl_failure.specs.declared.failure.Position.{Position as positions};
-ghost use Rattle.pdl_commands.specs.Commands.{IsWrongFor};
+ghost use Rattle.pdl_cli_args.specs.Line.{Command};
+ghost use Rattle.pdl_cli_failure.specs.declared.failure.Position.{Position as positions};
+ghost use Rattle.pdl_cli_commands.specs.Commands.{IsWrongFor};
 
 /// Two refusals of one command over the same told files name one rule and one position.
 #[tactic(auto, using(crate::proofs::Refusals::one_refusal))]

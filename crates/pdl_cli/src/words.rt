@@ -1,10 +1,10 @@
 // What is answered where there are no words.
 ghost use Rattle.std.specs.Prelude.{◌≡◌};
-ghost use Rattle.pdl_failure.specs.Texts.{Says};
-ghost use Rattle.pdl_failure.specs.Failures.{failure_status, failure_text};
+ghost use Rattle.pdl_cli_failure.specs.Texts.{Says};
+ghost use Rattle.pdl_cli_failure.specs.Failures.{failure_status, failure_text};
 ghost use Rattle.pdl_cli.specs.Words.{failure_of};
 
-use pdl_failure::{Failure, report, status_of};
+use pdl_cli_failure::{Failure, report, status_of};
 use pdl_kit::sink::Sink;
 
 /// Why the words after the program's name are not there.

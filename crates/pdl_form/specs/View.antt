@@ -1,6 +1,6 @@
 -- The flat form that values of the program stand for.
 use Rattle.std.specs.Prelude.{ℕ, List, map, Option, Some, None}
-use Rattle.pdl_tree.specs.View.{op_view}
+use Rattle.pdl_syntax_tree.specs.View.{op_view}
 use Rattle.pdl_form.specs.declared.form.Expr as r_expr
 use Rattle.pdl_form.specs.declared.form.Expr.TheOpen.{Expr-F}
 use Rattle.pdl_form.specs.declared.form.Op as r_op

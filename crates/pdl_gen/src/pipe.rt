@@ -1,10 +1,10 @@
 // What the pipe of a generated run is like.
 ghost use Rattle.std.specs.Prelude.{◌≡◌, ◌<◌, ◌≤◌, ◌%◌};
-ghost use Rattle.pdl_tree.specs.View.{lock_kind_view};
+ghost use Rattle.pdl_syntax_tree.specs.View.{lock_kind_view};
 ghost use Rattle.pdl_gen.specs.Generated as spec;
 
 use crate::numbers::{byte_of, next};
-use pdl_tree::LockKind;
+use pdl_syntax_tree::LockKind;
 
 /// How many stages the pipe has: 2 to 15.
 pub fn stages(n: u32) -> u32

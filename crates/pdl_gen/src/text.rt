@@ -1,12 +1,12 @@
 // The text of the source, and the first line of what is printed.
 ghost use Rattle.std.specs.Prelude.{◌≡◌, ◌≤◌, ◌++◌, IfOk, OnOk, decimal, vec_len};
-ghost use Rattle.pdl_tree.specs.View.{lock_kind_view};
+ghost use Rattle.pdl_syntax_tree.specs.View.{lock_kind_view};
 ghost use Rattle.pdl_gen.specs.Generated as spec;
 
 use crate::pipe::{kind, stages, step};
 use itoa::Buffer;
 use pdl_kit::NoMemory;
-use pdl_tree::LockKind;
+use pdl_syntax_tree::LockKind;
 use std::alloc::Global;
 
 /// The word for a kind of lock.

@@ -8,7 +8,7 @@ use Rattle.pdl_rules.specs.Places.{Place, Guard, on_path}
 use Rattle.pdl_rules.specs.Parts.{is_some_and}
 use Rattle.pdl_paths.specs.declared.place.Place as r_place
 use Rattle.pdl_paths.specs.Actions.{location_at, place_view}
-use Rattle.pdl_pathrules.specs.Earlier.{earlier_more}
+use Rattle.pdl_rules_on_paths.specs.Earlier.{earlier_more}
 use Rattle.pdl_locks.specs.declared.numbers.Keys.{Keys}
 use Rattle.pdl_locks.specs.Numbers.{are_one, is_at, first_place, first_of, number_at, AreNumbered}
 use Rattle.pdl_locks.specs.Uses.{AreKept, IsOwn}

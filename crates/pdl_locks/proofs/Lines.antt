@@ -5,10 +5,10 @@ use Rattle.pdl_semantics.specs.Tree.{Pipe}
 use Rattle.pdl_rules.specs.Places.{Place, Guard, places, guards, on_path}
 use Rattle.pdl_rules.specs.Refusal.{broken_line}
 use Rattle.pdl_rules.specs.Stages.{bound_late}
-use Rattle.pdl_pathrules.specs.Lowest.{line_where, on_some}
-use Rattle.pdl_pathrules.proofs.Lines.{rule_lines}
-use Rattle.pdl_pathwalk.specs.Course.{path_line}
-use Rattle.pdl_pathwalk.proofs.Lines.{at_places}
+use Rattle.pdl_rules_on_paths.specs.Lowest.{line_where, on_some}
+use Rattle.pdl_rules_on_paths.proofs.Lines.{rule_lines}
+use Rattle.pdl_rules_walk.specs.Course.{path_line}
+use Rattle.pdl_rules_walk.proofs.Lines.{at_places}
 use Rattle.pdl_locks.specs.declared.at_locations.LocationRule.{LocationRule}
 use Rattle.pdl_locks.specs.declared.at_locations.LocationRule.TheVariants.{Held, ReservedOnce, WrittenOnce, Released}
 use Rattle.pdl_locks.specs.declared.at_memories.MemoryRule.{MemoryRule}

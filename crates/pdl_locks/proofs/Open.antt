@@ -20,7 +20,7 @@ use Rattle.pdl_locks.specs.Numbers.{first_place, first_of, number_at, AreNumbere
 use Rattle.pdl_locks.specs.Holds.{hold_view}
 use Rattle.pdl_locks.specs.Uses.{IsUsed, AreKept, is_open}
 use Rattle.pdl_locks.proofs.Keyed.{found, is_own}
-use Rattle.pdl_pathrules.proofs.Nth.{past_last}
+use Rattle.pdl_rules_on_paths.proofs.Nth.{past_last}
 use Rattle.pdl_word.proofs.Lists.{some_filtered}
 
 -- A LOCATION THAT IS OPEN WAS RESERVED

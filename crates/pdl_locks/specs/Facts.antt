@@ -7,7 +7,7 @@ use Rattle.pdl_rules.specs.Places.{places}
 use Rattle.pdl_rules.specs.Refusal.{broken_line}
 use Rattle.pdl_paths.specs.declared.place.Place as r_place
 use Rattle.pdl_paths.specs.Actions.{place_view}
-use Rattle.pdl_textstages.specs.Stages.{stages_in}
+use Rattle.pdl_rules_stages.specs.Stages.{stages_in}
 use Rattle.pdl_locks.specs.declared.numbers.Keys.TheVariants.{Locations, Memories}
 use Rattle.pdl_locks.specs.declared.facts.LockFacts as facts
 use Rattle.pdl_locks.specs.declared.walk.PerRule.{PerRule}

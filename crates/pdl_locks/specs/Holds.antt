@@ -1,5 +1,5 @@
 -- What is held of locations.
-use Rattle.pdl_tree.specs.View.{kind_view}
+use Rattle.pdl_syntax_tree.specs.View.{kind_view}
 use Rattle.pdl_rules.specs.Locks as spec
 use Rattle.pdl_locks.specs.declared.hold.Hold.{Hold}
 use Rattle.pdl_locks.specs.declared.hold.Hold.TheVariants.{Nothing, Reserved, Blocked, Released}

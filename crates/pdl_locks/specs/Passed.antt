@@ -2,7 +2,7 @@
 use Rattle.std.proofs.Common.{◌≡◌, sym, subst, false, List, [], ◌∷◌, ◌++◌, filter}
 use Rattle.pdl_semantics.specs.Tree.{Location}
 use Rattle.pdl_rules.specs.Places.{Place, Guard, on_path}
-use Rattle.pdl_pathrules.specs.Earlier.{earlier_same}
+use Rattle.pdl_rules_on_paths.specs.Earlier.{earlier_same}
 use Rattle.pdl_locks.specs.declared.numbers.Keys.{Keys}
 use Rattle.pdl_locks.specs.Uses.{AreKept}
 

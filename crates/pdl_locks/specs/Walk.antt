@@ -6,9 +6,9 @@ use Rattle.pdl_rules.specs.Stages.{bound_late}
 use Rattle.pdl_paths.specs.declared.place.Place as r_place
 use Rattle.pdl_paths.specs.Actions.{place_view}
 use Rattle.pdl_paths.specs.Masks.{path_of}
-use Rattle.pdl_textstages.specs.Along.{IsPath}
-use Rattle.pdl_pathwalk.specs.Course.{IsOnPath}
-use Rattle.pdl_pathwalk.specs.Aside.{aside}
+use Rattle.pdl_rules_stages.specs.Along.{IsPath}
+use Rattle.pdl_rules_walk.specs.Course.{IsOnPath}
+use Rattle.pdl_rules_walk.specs.Aside.{aside}
 use Rattle.pdl_locks.specs.declared.numbers.Keys.TheVariants.{Locations, Memories}
 use Rattle.pdl_locks.specs.declared.uses.LocationUse as location
 use Rattle.pdl_locks.specs.declared.uses.MemoryUse as memory

@@ -1,7 +1,7 @@
 // Rules on what is done at a location: L1, L5, L6 and L7.
 ghost use Rattle.std.specs.Prelude.{◌≡◌, ◌&&◌, true, [], ◌∷◌, ◌++◌, List, filter, map, length};
 ghost use Rattle.std.specs.List.{list_any};
-ghost use Rattle.pdl_tree.specs.View.{mem_view, pipe_view};
+ghost use Rattle.pdl_syntax_tree.specs.View.{mem_view, pipe_view};
 ghost use Rattle.pdl_rules.specs.Places as rules;
 ghost use Rattle.pdl_rules.specs.Places.{on_path};
 ghost use Rattle.pdl_rules.specs.Locks as spec;
@@ -16,9 +16,9 @@ ghost use Rattle.pdl_locks.specs.Asked.{breaks_at_location};
 use crate::numbers::number_of;
 use crate::uses::{LocationUse, use_at};
 use pdl_kit::{Name, NoMemory};
-use pdl_pathrules::PathRule;
+use pdl_rules_on_paths::PathRule;
 use pdl_paths::{Action, Path, Place};
-use pdl_tree::{Kind, Mem, Pipe};
+use pdl_syntax_tree::{Kind, Mem, Pipe};
 use std::alloc::Global;
 
 /// What is asked of the places at one location.

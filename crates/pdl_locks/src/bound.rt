@@ -1,20 +1,20 @@
 // Reads of locked memories that are bound too late: rule L8.
 ghost use Rattle.std.specs.Prelude.{◌≡◌, None, map, get_or, nat_lt, IfOk};
-ghost use Rattle.pdl_tree.specs.View.{pipe_view};
+ghost use Rattle.pdl_syntax_tree.specs.View.{pipe_view};
 ghost use Rattle.pdl_rules.specs.Places.{places as spec_places};
 ghost use Rattle.pdl_rules.specs.Parts.{is_some_and};
 ghost use Rattle.pdl_rules.specs.Stages.{bound_late};
 ghost use Rattle.pdl_paths.specs.Actions.{place_view};
-ghost use Rattle.pdl_textstages.specs.Along.{IsPath};
-ghost use Rattle.pdl_textstages.specs.Stages.{stages_in};
+ghost use Rattle.pdl_rules_stages.specs.Along.{IsPath};
+ghost use Rattle.pdl_rules_stages.specs.Stages.{stages_in};
 ghost use Rattle.pdl_locks.specs.Bound.{AreOfPipe, last_at as spec_last_at};
 
 use crate::at_locations::is_locked;
 use pdl_kit::NoMemory;
-use pdl_pathrules::PathRule;
+use pdl_rules_on_paths::PathRule;
 use pdl_paths::{Action, Guards, Path, Place, location_at};
-use pdl_textstages::{Sought, among, first_stage, next_on, stage_at};
-use pdl_tree::Pipe;
+use pdl_rules_stages::{Sought, among, first_stage, next_on, stage_at};
+use pdl_syntax_tree::Pipe;
 use std::alloc::Global;
 
 /// Each read of a locked memory is bound no later than in the stage of the memory's releases.

@@ -1,6 +1,6 @@
 // All rules on locks.
 ghost use Rattle.std.specs.Prelude.{◌≡◌, ◌≤◌, [], None, map, length, IfOk, MatchResult};
-ghost use Rattle.pdl_tree.specs.View.{pipe_view};
+ghost use Rattle.pdl_syntax_tree.specs.View.{pipe_view};
 ghost use Rattle.pdl_rules.specs.Places.{places as spec_places, guards as spec_guards};
 ghost use Rattle.pdl_rules.specs.Refusal.{first_broken};
 ghost use Rattle.pdl_paths.specs.Actions.{place_view};
@@ -13,9 +13,9 @@ use crate::plan::LockPlan;
 use crate::walk::{LockLines, lock_path_rules};
 use pdl_kit::{NoMemory, Refusal, Rule};
 use pdl_paths::{Guards, Place};
-use pdl_pathwalk::broken_lines;
-use pdl_textstages::{Kinds, astray_line};
-use pdl_tree::Pipe;
+use pdl_rules_walk::broken_lines;
+use pdl_rules_stages::{Kinds, astray_line};
+use pdl_syntax_tree::Pipe;
 use std::alloc::Global;
 
 /// The stages of reserves and releases of a pipe that keeps the rules on locks, L1 to L8; else the lowest that it breaks, at its lowest place.

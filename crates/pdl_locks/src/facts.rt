@@ -1,6 +1,6 @@
 // What the rules on locks are asked with.
 ghost use Rattle.std.specs.Prelude.{◌≡◌, map, IfOk};
-ghost use Rattle.pdl_tree.specs.View.{pipe_view};
+ghost use Rattle.pdl_syntax_tree.specs.View.{pipe_view};
 ghost use Rattle.pdl_rules.specs.Places.{places as spec_places};
 ghost use Rattle.pdl_paths.specs.Actions.{place_view};
 ghost use Rattle.pdl_locks.specs.Facts.{AreFacts};
@@ -9,8 +9,8 @@ use crate::bound::last_stages;
 use crate::numbers::{Keys, first_places};
 use pdl_kit::NoMemory;
 use pdl_paths::Place;
-use pdl_textstages::stages_of;
-use pdl_tree::Pipe;
+use pdl_rules_stages::stages_of;
+use pdl_syntax_tree::Pipe;
 use std::alloc::Global;
 
 /// What is known of each place of a pipe by the text.

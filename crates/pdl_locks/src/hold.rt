@@ -1,13 +1,13 @@
 // What is held of a location.
 ghost use Rattle.std.specs.Prelude.{◌≡◌, Some};
-ghost use Rattle.pdl_tree.specs.View.{kind_view, location_view};
+ghost use Rattle.pdl_syntax_tree.specs.View.{kind_view, location_view};
 ghost use Rattle.pdl_semantics.specs.Tree.{Location as SpecLocation};
 ghost use Rattle.pdl_rules.specs.Locks as spec;
 ghost use Rattle.pdl_paths.specs.Actions.{location_at as spec_location_at, place_view};
 ghost use Rattle.pdl_locks.specs.Holds.{hold_view};
 
 use pdl_paths::{Action, Place};
-use pdl_tree::{Kind, Location};
+use pdl_syntax_tree::{Kind, Location};
 
 /// What a thread holds of a location.
 #[derive(Clone, Copy)]

@@ -1,13 +1,13 @@
 // Numbers of locations or of memories: that of the first place at which one stands.
 ghost use Rattle.std.specs.Prelude.{◌≡◌, map, get_or, IfOk};
-ghost use Rattle.pdl_tree.specs.View.{location_view};
+ghost use Rattle.pdl_syntax_tree.specs.View.{location_view};
 ghost use Rattle.pdl_paths.specs.Actions.{place_view};
 ghost use Rattle.pdl_locks.specs.Numbers as spec;
 
 use crate::hold::same_location;
 use pdl_kit::NoMemory;
 use pdl_paths::{Place, location_at};
-use pdl_tree::Location;
+use pdl_syntax_tree::Location;
 use std::alloc::Global;
 
 /// What has one number: a location, by its memory and its address, or a memory with all its locations.

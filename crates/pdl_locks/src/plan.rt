@@ -1,16 +1,16 @@
 // The stages in which memories are reserved and released.
 ghost use Rattle.std.specs.Prelude.{◌≡◌, map, slice_get, IfOk};
 ghost use Rattle.pdl_semantics.specs.Tree as tree;
-ghost use Rattle.pdl_tree.specs.View.{mem_view, pipe_view};
+ghost use Rattle.pdl_syntax_tree.specs.View.{mem_view, pipe_view};
 ghost use Rattle.pdl_rules.specs.Places.{places as spec_places};
 ghost use Rattle.pdl_paths.specs.Actions.{place_view};
-ghost use Rattle.pdl_textstages.specs.Stages.{stages_in};
+ghost use Rattle.pdl_rules_stages.specs.Stages.{stages_in};
 ghost use Rattle.pdl_locks.specs.Plan as spec;
 
 use pdl_kit::NoMemory;
 use pdl_paths::Place;
-use pdl_textstages::{Sought, first_stage};
-use pdl_tree::{Mem, Pipe};
+use pdl_rules_stages::{Sought, first_stage};
+use pdl_syntax_tree::{Mem, Pipe};
 use std::alloc::Global;
 use std::marker::Model;
 

@@ -1,7 +1,7 @@
 // What was done so far on a path, at a location and with a memory.
 ghost use Rattle.std.specs.Prelude.{◌≡◌, ℕ, ◌+◌, [], ◌∷◌, ◌++◌, List, cond, min, get_or, Some};
 ghost use Rattle.pdl_semantics.specs.Tree.{Location as SpecLocation};
-ghost use Rattle.pdl_tree.specs.View.{kind_view};
+ghost use Rattle.pdl_syntax_tree.specs.View.{kind_view};
 ghost use Rattle.pdl_rules.specs.Places as rules;
 ghost use Rattle.pdl_rules.specs.Locks as spec;
 ghost use Rattle.pdl_paths.specs.Actions.{location_at as spec_location_at, place_view};
@@ -9,7 +9,7 @@ ghost use Rattle.pdl_locks.specs.Uses.{IsUsed, IsUsedMemory};
 
 use crate::hold::{Hold, same_kind};
 use pdl_paths::{Action, Place};
-use pdl_tree::Kind;
+use pdl_syntax_tree::Kind;
 
 /// What was done so far at a location. Writes count up to two.
 #[derive(Clone, Copy)]

@@ -1,11 +1,11 @@
 // The rules on locks that are asked on paths, on one walk along each path.
 ghost use Rattle.std.specs.Prelude.{◌≡◌, ◌≤◌, ℕ, ◌+◌, List, true, Some, map, length, slice_get, IfOk, OnOk};
-ghost use Rattle.pdl_tree.specs.View.{pipe_view};
+ghost use Rattle.pdl_syntax_tree.specs.View.{pipe_view};
 ghost use Rattle.pdl_rules.specs.Places as spec;
 ghost use Rattle.pdl_rules.specs.Stages.{bound_late};
 ghost use Rattle.pdl_paths.specs.Actions.{place_view};
 ghost use Rattle.pdl_paths.specs.Masks.{AreMasked, path_of};
-ghost use Rattle.pdl_pathwalk.specs.Course.{IsFound};
+ghost use Rattle.pdl_rules_walk.specs.Course.{IsFound};
 ghost use Rattle.pdl_locks.specs.declared.at_locations.LocationRule.TheVariants as at;
 ghost use Rattle.pdl_locks.specs.declared.at_memories.MemoryRule.TheVariants as of;
 ghost use Rattle.pdl_locks.specs.declared.numbers.Keys.TheVariants as keys;
@@ -21,9 +21,9 @@ use crate::facts::LockFacts;
 use crate::uses::{LocationUse, MemoryUse};
 use pdl_kit::NoMemory;
 use pdl_paths::{Guards, Path, Place};
-use pdl_pathwalk::{Alone, Course, PathRules, line_at};
-use pdl_textstages::all_true;
-use pdl_tree::Pipe;
+use pdl_rules_walk::{Alone, Course, PathRules, line_at};
+use pdl_rules_stages::all_true;
+use pdl_syntax_tree::Pipe;
 use std::alloc::Global;
 
 /// The rules on locks that are asked on the paths of a pipe.

@@ -9,24 +9,24 @@ use Rattle.pdl_semantics.specs.Flatten.{mems_of, flat}
 use Rattle.pdl_semantics.specs.Stages.{plain_mem, is_branch_of}
 use Rattle.pdl_semantics.specs.Machine.{fork_of}
 use Rattle.pdl_semantics.specs.Cycle.{first, state_after}
-use Rattle.pdl_derived.specs.Derived
-use Rattle.pdl_facts.specs.Facts.{Sound}
-use Rattle.pdl_invariant.specs.Strict.{Strict}
-use Rattle.pdl_invariant.proofs.Reached.{reached}
-use Rattle.pdl_simulation.proofs.Joined.{sound_flows}
-use Rattle.pdl_inflight.proofs.ForkLists.{list_few}
-use Rattle.pdl_lockuse.proofs.InUse.{leads_sound}
-use Rattle.pdl_lockuse.proofs.InRuns.{in_use_here, stages_here}
-use Rattle.pdl_lockuse.proofs.FromRules.{careful_source}
+use Rattle.pdl_theory_derived.specs.Derived
+use Rattle.pdl_theory_facts.specs.Facts.{Sound}
+use Rattle.pdl_theory_states.specs.Strict.{Strict}
+use Rattle.pdl_theory_states.proofs.Reached.{reached}
+use Rattle.pdl_theory_simulation.proofs.Joined.{sound_flows}
+use Rattle.pdl_machine_inflight.proofs.ForkLists.{list_few}
+use Rattle.pdl_machine_lockuse.proofs.InUse.{leads_sound}
+use Rattle.pdl_machine_lockuse.proofs.InRuns.{in_use_here, stages_here}
+use Rattle.pdl_machine_lockuse.proofs.FromRules.{careful_source}
 use Rattle.pdl_rules.specs.Refusal.{KeepsRules}
-use Rattle.pdl_pathfacts.specs.Source.{is_source, is_named}
-use Rattle.pdl_pathfacts.proofs.Whole.{of_source}
-use Rattle.pdl_strict.proofs.Paths.{paths_strict}
+use Rattle.pdl_source_paths.specs.Source.{is_source, is_named}
+use Rattle.pdl_source_paths.proofs.Whole.{of_source}
+use Rattle.pdl_source_strict.proofs.Paths.{paths_strict}
 use Rattle.pdl_form.specs.Form.{form_of}
-use Rattle.pdl_formtypes.specs.Stmts.{IsTypedForm}
+use Rattle.pdl_form_types.specs.Stmts.{IsTypedForm}
 use Rattle.pdl_kit.specs.declared.mem_info.MemInfo.{MemInfo}
 use Rattle.pdl_image.specs.Images.{IsImage}
-use Rattle.pdl_run.specs.Running.{IsRunnable, AreImages}
+use Rattle.pdl_machine_run.specs.Running.{IsRunnable, AreImages}
 use Rattle.pdl_rules.specs.Memories.{infos_of}
 use Rattle.pdl_rules.proofs.ToldMemories.{infos_count}
 

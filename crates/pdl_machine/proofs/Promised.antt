@@ -9,13 +9,13 @@ use Rattle.pdl_semantics.specs.Machine.{State}
 use Rattle.pdl_semantics.specs.Cycle as stated
 use Rattle.pdl_semantics.specs.Promises.{Refines, Advances, KeepsPace}
 use Rattle.pdl_semantics.specs.Sound.{is_sound}
-use Rattle.pdl_facts.specs.Facts.{Sound}
+use Rattle.pdl_theory_facts.specs.Facts.{Sound}
 use Rattle.pdl_rules.specs.Refusal.{KeepsRules}
-use Rattle.pdl_pathfacts.specs.Source.{is_source, is_named}
-use Rattle.pdl_theorems.proofs.Stated.{whole_refines, whole_advances, whole_paces}
-use Rattle.pdl_pathfacts.proofs.Whole.{of_source}
-use Rattle.pdl_strict.proofs.Paths.{paths_strict}
-use Rattle.pdl_invariant.proofs.EveryState
+use Rattle.pdl_source_paths.specs.Source.{is_source, is_named}
+use Rattle.pdl_theory.proofs.Stated.{whole_refines, whole_advances, whole_paces}
+use Rattle.pdl_source_paths.proofs.Whole.{of_source}
+use Rattle.pdl_source_strict.proofs.Paths.{paths_strict}
+use Rattle.pdl_theory_states.proofs.EveryState
 
 -- one cycle more
 pub run_on : (p : Flat.Pipe) (st : State) (schedule : List (List Bool)) (bits : List Bool) → stated.state_after p st (schedule ++ bits ∷ []) ≡ stated.cycle p (stated.state_after p st schedule) bits

@@ -5,8 +5,8 @@ use Rattle.pdl_semantics.specs.Flat.{arrays_of}
 use Rattle.pdl_semantics.specs.Flatten as flatten
 use Rattle.pdl_semantics.specs.Machine.{Thread, Pending, Request, State}
 use Rattle.pdl_semantics.specs.Cycle as stated
-use Rattle.pdl_tree.specs.declared.tree.Pipe as r_pipe
-use Rattle.pdl_tree.specs.View.{pipe_view}
+use Rattle.pdl_syntax_tree.specs.declared.tree.Pipe as r_pipe
+use Rattle.pdl_syntax_tree.specs.View.{pipe_view}
 use Rattle.pdl_machine_facts.specs.Ports.{delayed_count, replies_of}
 
 -- its pipe; the thread in each stage; of each memory the words, the pending writes and the request; of each fork the branches of those inside; the next thread's number; how many cycles were run; what the ports showed in the last one, and whether it was a wait

@@ -6,10 +6,10 @@ ghost use Rattle.pdl_semantics.specs.Moves.{all_acts};
 ghost use Rattle.pdl_semantics.specs.Cycle as stated;
 ghost use Rattle.pdl_semantics.specs.Promises.{Refines, Advances, KeepsPace};
 ghost use Rattle.pdl_semantics.specs.Sound.{is_sound};
-ghost use Rattle.pdl_tree.specs.View.{pipe_view};
+ghost use Rattle.pdl_syntax_tree.specs.View.{pipe_view};
 ghost use Rattle.pdl_image.specs.Images.{IsImage};
 ghost use Rattle.pdl_machine_facts.specs.Ports.{whole_values};
-ghost use Rattle.pdl_run.specs.Outputs.{output_count};
+ghost use Rattle.pdl_machine_run.specs.Outputs.{output_count};
 ghost use Rattle.pdl_machine.specs.Running.{flat_of, state_of, replies_to, HasRun};
 ghost use Rattle.pdl_rules.specs.Memories.{infos_of};
 
@@ -17,7 +17,7 @@ use crate::replies::{no_replies, put_bits};
 use pdl_check::Accepted;
 use pdl_image::Image;
 use pdl_kit::NoMemory;
-use pdl_run::Run;
+use pdl_machine_run::Run;
 use std::alloc::Global;
 use std::marker::Model;
 
@@ -32,8 +32,8 @@ pub struct Machine<'a> {
 
 impl<'a> Model for Machine<'a> {
     ghost use Rattle.std.specs.Coded.{codes};
-    ghost use Rattle.pdl_tree.specs.contracts.tree.Stmt as stmt;
-    ghost use Rattle.pdl_tree.specs.contracts.tree.Expr as expr;
+    ghost use Rattle.pdl_syntax_tree.specs.contracts.tree.Stmt as stmt;
+    ghost use Rattle.pdl_syntax_tree.specs.contracts.tree.Expr as expr;
     ghost use Rattle.pdl_machine.specs.Running.{Running};
 
     ghost Value = { Running };
@@ -64,7 +64,7 @@ impl<'a> Machine<'a> {
         ensures pipe { IfOk result (λ m. m.pipe ≡ accepted.now.typed.pipe) }
         ensures cycles { IfOk result (λ m. m.cycles ≡ 0) }
     {
-        pdl_formtypes::typed_form();
+        pdl_form_types::typed_form();
         let run = Run::new(alloc, &accepted.flat, image)?;
         let replies = no_replies(alloc, accepted.flat.mems())?;
         Ok(Machine {

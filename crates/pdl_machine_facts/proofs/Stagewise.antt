@@ -7,7 +7,7 @@ use Rattle.pdl_semantics.specs.Machine.{State, Pending, lock_of}
 use Rattle.pdl_semantics.specs.Locks.{commit_value}
 use Rattle.pdl_semantics.specs.Moves.{Act, next_stage, all_acts, movers}
 use Rattle.pdl_semantics.specs.Cycle.{after_these, cycle, for_mems, list_three, taken_out, port_write, with_commit, with_commits, entries_left, or_then, if_kept, born_thread, child_of, squasher, stage_next}
-use Rattle.pdl_simulation.proofs.PerMemory.{at_mem, other_commit, before_commits}
+use Rattle.pdl_theory_simulation.proofs.PerMemory.{at_mem, other_commit, before_commits}
 use Rattle.pdl_machine_facts.specs.Slots
 use Rattle.pdl_machine_facts.specs.Slots.{LeadsOn, slot, stage_moves, movers_from, moving, arriving_thread}
 use Rattle.pdl_machine_facts.specs.Cycle.{newborn, IsByStages}

@@ -2,9 +2,9 @@
 use Rattle.std.proofs.Common.{◌≡◌, refl, sym, ap, ap₂, ◌∙◌, ℕ, zero, suc, ◌+◌, ◌<◌, List, [], ◌∷◌, ◌++◌, map, drop, length, slice_index_or, arith, append_assoc}
 use Rattle.std.proofs.lemmas.List.{map-append}
 use Rattle.pdl_rules.specs.Places.{Guard, Place, Parameter, Memory}
-use Rattle.pdl_tree.specs.declared.tree.Param as r_param
-use Rattle.pdl_tree.specs.declared.tree.Mem as r_mem
-use Rattle.pdl_tree.specs.View.{param_view, mem_view}
+use Rattle.pdl_syntax_tree.specs.declared.tree.Param as r_param
+use Rattle.pdl_syntax_tree.specs.declared.tree.Mem as r_mem
+use Rattle.pdl_syntax_tree.specs.View.{param_view, mem_view}
 use Rattle.pdl_paths.specs.declared.mask.Mask.{Mask}
 use Rattle.pdl_paths.specs.declared.place.Place as r_place
 use Rattle.pdl_paths.specs.Actions.{place_view}

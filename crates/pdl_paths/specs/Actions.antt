@@ -4,7 +4,7 @@ use Rattle.pdl_semantics.specs.Tree as tree
 use Rattle.pdl_semantics.specs.Tree.{Span, Location}
 use Rattle.pdl_rules.specs.Places.{Branch, Place, Parameter, Memory, Statement, End, StartClause, at_statement}
 use Rattle.pdl_rules.specs.Parts.{location_of}
-use Rattle.pdl_tree.specs.View.{span_view, param_view, mem_view, start_view, ident_view, location_view, kind_view, expr_view, exprs_view, stmts_view}
+use Rattle.pdl_syntax_tree.specs.View.{span_view, param_view, mem_view, start_view, ident_view, location_view, kind_view, expr_view, exprs_view, stmts_view}
 use Rattle.pdl_paths.specs.Guards.{branch_view}
 use Rattle.pdl_paths.specs.declared.place.Place as r_place
 use Rattle.pdl_paths.specs.declared.action.Action.{Action}

@@ -1,6 +1,6 @@
 -- The guards and branches that values of the program stand for.
 use Rattle.pdl_rules.specs.Places as rules
-use Rattle.pdl_tree.specs.View.{stmts_view}
+use Rattle.pdl_syntax_tree.specs.View.{stmts_view}
 use Rattle.pdl_paths.specs.declared.branch.Guard.{Guard}
 use Rattle.pdl_paths.specs.declared.branch.Guard.TheVariants.{Shared, Own}
 use Rattle.pdl_paths.specs.declared.branch.Branch.{Branch}

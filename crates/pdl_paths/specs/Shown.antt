@@ -1,9 +1,9 @@
 -- Places with their masks.
 use Rattle.std.specs.Prelude.{List}
 use Rattle.pdl_rules.specs.Places.{Guard, Place, Parameter, Memory}
-use Rattle.pdl_tree.specs.declared.tree.Param.{Param}
-use Rattle.pdl_tree.specs.declared.tree.Mem.{Mem}
-use Rattle.pdl_tree.specs.View.{param_view, mem_view}
+use Rattle.pdl_syntax_tree.specs.declared.tree.Param.{Param}
+use Rattle.pdl_syntax_tree.specs.declared.tree.Mem.{Mem}
+use Rattle.pdl_syntax_tree.specs.View.{param_view, mem_view}
 use Rattle.pdl_paths.specs.declared.mask.Mask.{Mask}
 use Rattle.pdl_paths.specs.declared.place.Place as r_place
 use Rattle.pdl_paths.specs.Actions.{place_view}

@@ -1,10 +1,10 @@
 // What stands at a place.
 ghost use Rattle.std.specs.Prelude.{◌≡◌, List};
-ghost use Rattle.pdl_tree.specs.View.{span_view, stmt_view};
+ghost use Rattle.pdl_syntax_tree.specs.View.{span_view, stmt_view};
 ghost use Rattle.pdl_rules.specs.Places as rules;
 ghost use Rattle.pdl_paths.specs.Actions.{place_at};
 
-use pdl_tree::{Expr, Ident, Kind, Location, Mem, Param, Span, Start, Stmt};
+use pdl_syntax_tree::{Expr, Ident, Kind, Location, Mem, Param, Span, Start, Stmt};
 
 /// What stands at a place: a parameter, a memory, one of the kinds of statement with its parts, the end of the body or the start clause.
 #[derive(Clone, Copy)]

@@ -1,11 +1,11 @@
 // Guards and branches.
 ghost use Rattle.std.specs.Prelude.{◌≡◌};
-ghost use Rattle.pdl_tree.specs.View.{expr_view, span_view};
+ghost use Rattle.pdl_syntax_tree.specs.View.{expr_view, span_view};
 ghost use Rattle.pdl_rules.specs.Places as rules;
 ghost use Rattle.pdl_paths.specs.Guards.{guard_view};
 
 use pdl_kit::Name;
-use pdl_tree::{Expr, Span, Stmt};
+use pdl_syntax_tree::{Expr, Span, Stmt};
 
 /// What decides an `if`: a variable, with every other `if` on that variable, or a condition of its own, known by the byte at which its `if` begins.
 #[derive(Clone, Copy)]

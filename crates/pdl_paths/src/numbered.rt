@@ -1,6 +1,6 @@
 // Places by their numbers.
 ghost use Rattle.std.specs.Prelude.{◌≡◌, ◌^◌, ◌<◌, ◌≤◌, List, length, map, slice_index_or};
-ghost use Rattle.pdl_tree.specs.View.{pipe_view, stmt_view, stmts_view};
+ghost use Rattle.pdl_syntax_tree.specs.View.{pipe_view, stmt_view, stmts_view};
 ghost use Rattle.pdl_rules.specs.Places as rules;
 ghost use Rattle.pdl_paths.specs.Masks.{everywhere, mask_in, mask_of, path_of};
 ghost use Rattle.pdl_paths.specs.Numbered.{Tells};
@@ -9,7 +9,7 @@ use crate::branch::guard_of;
 use crate::guards::Guards;
 use crate::mask::{EVERYWHERE, Mask};
 use crate::path::Path;
-use pdl_tree::{Pipe, Stmt};
+use pdl_syntax_tree::{Pipe, Stmt};
 
 // What a search for the place of a number finds among some places: its mask, or the number that it has among those after them.
 #[derive(Clone, Copy)]

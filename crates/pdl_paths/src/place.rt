@@ -1,6 +1,6 @@
 // Places.
 ghost use Rattle.std.specs.Prelude.{◌≡◌, ℕ, ◌^◌, ◌<◌, ◌≤◌, List, length, true};
-ghost use Rattle.pdl_tree.specs.View.{span_view};
+ghost use Rattle.pdl_syntax_tree.specs.View.{span_view};
 ghost use Rattle.pdl_rules.specs.Places as rules;
 ghost use Rattle.pdl_paths.specs.Actions.{place_view};
 ghost use Rattle.pdl_paths.specs.Masks.{IsMasked, are_distinct, path_of};
@@ -10,7 +10,7 @@ use crate::branch::Branch;
 use crate::mask::Mask;
 use crate::path::Path;
 use pdl_kit::Seq;
-use pdl_tree::Span;
+use pdl_syntax_tree::Span;
 
 /// A part of a source that a rule can name: what stands there, and the branches that it stands in, the outermost first.
 #[derive(Drop)]

@@ -1,7 +1,7 @@
 // What rules read of a place.
 ghost use Rattle.std.specs.Prelude.{◌≡◌, option_map};
 ghost use Rattle.std.specs.Option.{option_copied};
-ghost use Rattle.pdl_tree.specs.View.{location_view};
+ghost use Rattle.pdl_syntax_tree.specs.View.{location_view};
 ghost use Rattle.pdl_rules.specs.Calls as calls;
 ghost use Rattle.pdl_rules.specs.Limits as limits;
 ghost use Rattle.pdl_rules.specs.Names as names;
@@ -10,7 +10,7 @@ ghost use Rattle.pdl_paths.specs.Actions.{location_at as spec_location_at, place
 use crate::action::Action;
 use crate::place::Place;
 use pdl_kit::Name;
-use pdl_tree::Location;
+use pdl_syntax_tree::Location;
 
 /// The variable that a place defines: a parameter, or what a statement binds.
 pub fn variable_at<'a>(place: &Place<'a>) -> Option<&'a Name>

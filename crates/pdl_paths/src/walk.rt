@@ -1,6 +1,6 @@
 // The places of a pipe.
 ghost use Rattle.std.specs.Prelude.{◌≡◌, ◌++◌, List, [], ◌∷◌, map, IfOk, OnOk};
-ghost use Rattle.pdl_tree.specs.View.{pipe_view, span_view, stmt_view, stmts_view};
+ghost use Rattle.pdl_syntax_tree.specs.View.{pipe_view, span_view, stmt_view, stmts_view};
 ghost use Rattle.pdl_rules.specs.Places as rules;
 ghost use Rattle.pdl_paths.specs.Actions.{place_at, place_view};
 ghost use Rattle.pdl_paths.specs.Guards.{branch_view};
@@ -13,7 +13,7 @@ use crate::guards::Guards;
 use crate::mask::{EVERYWHERE, Mask};
 use crate::place::Place;
 use pdl_kit::{NoMemory, Seq};
-use pdl_tree::{Mem, Param, Pipe, Span, Stmt};
+use pdl_syntax_tree::{Mem, Param, Pipe, Span, Stmt};
 use std::alloc::Global;
 
 /// The places of a pipe in text order, with masks of these guards.

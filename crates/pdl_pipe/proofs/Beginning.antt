@@ -11,25 +11,25 @@ use Rattle.pdl_net.specs.Growth.{Extends, ExtendsArrays, Keeps}
 use Rattle.pdl_net.proofs.Keeps.{extends_keeps, extends_trans, arrays_keeps, keeps_trans, regs_grow}
 use Rattle.pdl_port.specs.declared.PortRegs.{PortRegs}
 use Rattle.pdl_port.specs.Laws.{own as port_own}
-use Rattle.pdl_flatnets.specs.declared.bits.Bits.{Bits}
-use Rattle.pdl_flatnets.specs.Conditions.{AreBits}
-use Rattle.pdl_stagenets.specs.declared.locks.MemLock.{MemLock}
-use Rattle.pdl_stagenets.specs.Locked.{Members, AreLocked}
-use Rattle.pdl_stagenets.proofs.Kept.{bits_keep}
-use Rattle.pdl_answernets.specs.Ports.{HasAnswers}
-use Rattle.pdl_beside.specs.declared.PortInput.{PortInput}
-use Rattle.pdl_beside.specs.Parts.{AreParts}
-use Rattle.pdl_beside.specs.Ports.{ReadsLeadOn, has_port}
-use Rattle.pdl_beside.proofs.Beside.{made_ports}
-use Rattle.pdl_locknets.specs.Lawful.{AreLawful, AreUnwritten}
-use Rattle.pdl_locknets.specs.Suited.{shapes_in}
-use Rattle.pdl_locknets.proofs.Law.{locks_end}
-use Rattle.pdl_locknets.proofs.LocksKept.{Stays, locked_kept, laws_kept}
-use Rattle.pdl_outnets.specs.Inputs.{AreReplies, AreReadDelayed, AreWhereRead, HasReplies}
-use Rattle.pdl_outnets.proofs.Joined.{are_taken}
-use Rattle.pdl_outnets.proofs.InputLists.{replies_kept}
+use Rattle.pdl_pipe_exprs.specs.declared.bits.Bits.{Bits}
+use Rattle.pdl_pipe_exprs.specs.Conditions.{AreBits}
+use Rattle.pdl_pipe_walk.specs.declared.locks.MemLock.{MemLock}
+use Rattle.pdl_pipe_walk.specs.Locked.{Members, AreLocked}
+use Rattle.pdl_pipe_walk.proofs.Kept.{bits_keep}
+use Rattle.pdl_pipe_answers.specs.Ports.{HasAnswers}
+use Rattle.pdl_pipe_beside.specs.declared.PortInput.{PortInput}
+use Rattle.pdl_pipe_beside.specs.Parts.{AreParts}
+use Rattle.pdl_pipe_beside.specs.Ports.{ReadsLeadOn, has_port}
+use Rattle.pdl_pipe_beside.proofs.Beside.{made_ports}
+use Rattle.pdl_pipe_locks.specs.Lawful.{AreLawful, AreUnwritten}
+use Rattle.pdl_pipe_locks.specs.Suited.{shapes_in}
+use Rattle.pdl_pipe_locks.proofs.Law.{locks_end}
+use Rattle.pdl_pipe_locks.proofs.LocksKept.{Stays, locked_kept, laws_kept}
+use Rattle.pdl_pipe_outputs.specs.Inputs.{AreReplies, AreReadDelayed, AreWhereRead, HasReplies}
+use Rattle.pdl_pipe_outputs.proofs.Joined.{are_taken}
+use Rattle.pdl_pipe_outputs.proofs.InputLists.{replies_kept}
 use Rattle.pdl_pipe.specs.Emitted.{HasMemoriesIn}
-use Rattle.pdl_emitted.specs.Emitted.{name_in}
+use Rattle.pdl_pipe_emitted.specs.Emitted.{name_in}
 use Rattle.pdl_pipe.proofs.Stepping.{unwritten_kept}
 
 -- no arrays have no shapes

@@ -6,22 +6,22 @@ use Rattle.pdl_net.specs.declared.Net.{Net}
 use Rattle.pdl_net.specs.Circuit.{Circuit}
 use Rattle.pdl_net.specs.Signal.{Signal}
 use Rattle.pdl_net.specs.Meaning.{signal}
-use Rattle.pdl_flatnets.specs.Nets.{signals_in, widths_of}
-use Rattle.pdl_stagenets.specs.declared.locks.MemLock.{MemLock}
-use Rattle.pdl_stagenets.specs.declared.nets.WalkNets.{WalkNets}
-use Rattle.pdl_stagenets.specs.Locked.{Members, AreLocked, AreTickets}
-use Rattle.pdl_stagenets.specs.Sized.{IsWalk}
-use Rattle.pdl_stageregs.specs.Staged.{next_signals}
-use Rattle.pdl_stageregs.proofs.TicketsMade.{tickets_fit}
-use Rattle.pdl_answernets.specs.Ports.{IsBit}
-use Rattle.pdl_beside.specs.declared.ends.StageEnd.{StageEnd}
-use Rattle.pdl_beside.specs.Ends.{IsEnd, AreEnds}
-use Rattle.pdl_stagenexts.specs.declared.line.Line.{Line}
-use Rattle.pdl_stagenexts.specs.Lines.{line_form, line_pipe, IsLineIn}
-use Rattle.pdl_locknets.specs.declared.deeds.StageDeeds.{StageDeeds}
-use Rattle.pdl_locknets.specs.Deeds.{IsDeed, AreDeeds}
-use Rattle.pdl_emitted.specs.Emitted.{AreEndsOf, AreDeedsOf}
-use Rattle.pdl_emitted.proofs.SidesStages.{some_of}
+use Rattle.pdl_pipe_exprs.specs.Nets.{signals_in, widths_of}
+use Rattle.pdl_pipe_walk.specs.declared.locks.MemLock.{MemLock}
+use Rattle.pdl_pipe_walk.specs.declared.nets.WalkNets.{WalkNets}
+use Rattle.pdl_pipe_walk.specs.Locked.{Members, AreLocked, AreTickets}
+use Rattle.pdl_pipe_walk.specs.Sized.{IsWalk}
+use Rattle.pdl_pipe_registers.specs.Staged.{next_signals}
+use Rattle.pdl_pipe_registers.proofs.TicketsMade.{tickets_fit}
+use Rattle.pdl_pipe_answers.specs.Ports.{IsBit}
+use Rattle.pdl_pipe_beside.specs.declared.ends.StageEnd.{StageEnd}
+use Rattle.pdl_pipe_beside.specs.Ends.{IsEnd, AreEnds}
+use Rattle.pdl_pipe_nexts.specs.declared.line.Line.{Line}
+use Rattle.pdl_pipe_nexts.specs.Lines.{line_form, line_pipe, IsLineIn}
+use Rattle.pdl_pipe_locks.specs.declared.deeds.StageDeeds.{StageDeeds}
+use Rattle.pdl_pipe_locks.specs.Deeds.{IsDeed, AreDeeds}
+use Rattle.pdl_pipe_emitted.specs.Emitted.{AreEndsOf, AreDeedsOf}
+use Rattle.pdl_pipe_emitted.proofs.SidesStages.{some_of}
 
 each_from : {X : Type 0} (P : X → Type 0) (xs : List X) → ((k : ℕ) (x : X) → k < length xs → slice_index_or xs k x ≡ x → P x) → Each P xs
 each_from P [] h = tt

@@ -13,33 +13,33 @@ use Rattle.pdl_net.proofs.Keeps.{extends_keeps, extends_trans, keeps_refl, regs_
 use Rattle.pdl_order.specs.declared.OrderRegs.{OrderRegs}
 use Rattle.pdl_order.specs.Laws.{own as order_own}
 use Rattle.pdl_port.specs.Laws.{AnswerSignals}
-use Rattle.pdl_flatnets.specs.Nets.{NetsThere, signals_in, signal_at}
-use Rattle.pdl_flatnets.specs.Conditions.{AreBits}
-use Rattle.pdl_flatnets.specs.declared.bits.Bits.{Bits}
-use Rattle.pdl_pipe_law.specs.Walk.{Locks, zero_bit}
+use Rattle.pdl_pipe_exprs.specs.Nets.{NetsThere, signals_in, signal_at}
+use Rattle.pdl_pipe_exprs.specs.Conditions.{AreBits}
+use Rattle.pdl_pipe_exprs.specs.declared.bits.Bits.{Bits}
+use Rattle.pdl_law_parts.specs.Walk.{Locks, zero_bit}
 use Rattle.pdl_form.specs.Form.{Form}
-use Rattle.pdl_stagenets.specs.declared.locks.MemLock.{MemLock}
-use Rattle.pdl_stagenets.specs.Locked.{Members, locks_in, AreLocked}
-use Rattle.pdl_stagenets.proofs.Kept.{bits_keep}
-use Rattle.pdl_stagenets.proofs.MadeLocks.{locks_same}
-use Rattle.pdl_answernets.specs.Ports.{answers_in, HasAnswers, IsBit}
-use Rattle.pdl_answernets.proofs.Answered.{answers_keep, answer_same}
-use Rattle.pdl_beside.specs.Parts.{AreParts}
-use Rattle.pdl_beside.specs.Orders.{HasOrderOf}
-use Rattle.pdl_beside.proofs.Beside.{made_orders}
-use Rattle.pdl_beside.proofs.PortSteps.{ports_stand}
-use Rattle.pdl_beside.proofs.OrderSteps.{orders_stand}
-use Rattle.pdl_stageregs.specs.declared.nets.StageNets.{StageNets}
-use Rattle.pdl_stageregs.specs.Begun.{IsShared, ticket_net}
-use Rattle.pdl_stageregs.specs.Stages.{IsAt, zero_signal}
-use Rattle.pdl_stageregs.specs.Staged.{IsStaged, AreStaged, AreApart, next_signals}
-use Rattle.pdl_stageregs.proofs.TicketsMade.{next_are, next_there, next_same}
-use Rattle.pdl_stagenexts.specs.declared.line.Line.{Line}
-use Rattle.pdl_stagenexts.specs.Lines.{line_form, line_pipe, IsLineIn}
-use Rattle.pdl_locknets.proofs.LocksKept.{Stays, locked_kept, laws_kept}
-use Rattle.pdl_line.proofs.Later.{made_keep, line_there}
-use Rattle.pdl_stagemoves.proofs.MovedWhole.{filled_bits}
-use Rattle.pdl_emitted.specs.Emitted.{CanEmit, IsLayout}
+use Rattle.pdl_pipe_walk.specs.declared.locks.MemLock.{MemLock}
+use Rattle.pdl_pipe_walk.specs.Locked.{Members, locks_in, AreLocked}
+use Rattle.pdl_pipe_walk.proofs.Kept.{bits_keep}
+use Rattle.pdl_pipe_walk.proofs.MadeLocks.{locks_same}
+use Rattle.pdl_pipe_answers.specs.Ports.{answers_in, HasAnswers, IsBit}
+use Rattle.pdl_pipe_answers.proofs.Answered.{answers_keep, answer_same}
+use Rattle.pdl_pipe_beside.specs.Parts.{AreParts}
+use Rattle.pdl_pipe_beside.specs.Orders.{HasOrderOf}
+use Rattle.pdl_pipe_beside.proofs.Beside.{made_orders}
+use Rattle.pdl_pipe_beside.proofs.PortSteps.{ports_stand}
+use Rattle.pdl_pipe_beside.proofs.OrderSteps.{orders_stand}
+use Rattle.pdl_pipe_registers.specs.declared.nets.StageNets.{StageNets}
+use Rattle.pdl_pipe_registers.specs.Begun.{IsShared, ticket_net}
+use Rattle.pdl_pipe_registers.specs.Stages.{IsAt, zero_signal}
+use Rattle.pdl_pipe_registers.specs.Staged.{IsStaged, AreStaged, AreApart, next_signals}
+use Rattle.pdl_pipe_registers.proofs.TicketsMade.{next_are, next_there, next_same}
+use Rattle.pdl_pipe_nexts.specs.declared.line.Line.{Line}
+use Rattle.pdl_pipe_nexts.specs.Lines.{line_form, line_pipe, IsLineIn}
+use Rattle.pdl_pipe_locks.proofs.LocksKept.{Stays, locked_kept, laws_kept}
+use Rattle.pdl_pipe_line.proofs.Later.{made_keep, line_there}
+use Rattle.pdl_pipe_moves.proofs.MovedWhole.{filled_bits}
+use Rattle.pdl_pipe_emitted.specs.Emitted.{CanEmit, IsLayout}
 use Rattle.pdl_pipe.specs.Emitted.{HasMemories, IsLaidOut}
 use Rattle.pdl_pipe.proofs.Stepping.{apart_from, unwritten_kept}
 

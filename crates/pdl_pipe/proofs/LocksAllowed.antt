@@ -14,14 +14,14 @@ use Rattle.pdl_rules.specs.Limits.{is_size, is_width, is_depth, allows_lock, is_
 use Rattle.pdl_rules.specs.Refusal.{KeepsRules}
 use Rattle.pdl_lockapi.proofs.LockKinds.{lock_is}
 use Rattle.pdl_lockapi.specs.Forget.{as_lock}
-use Rattle.pdl_entries.specs.Slots.{IsSize}
-use Rattle.pdl_anylock.specs.Asked.{IsSizedLock}
-use Rattle.pdl_anylock.proofs.Asked.{sized_allowed}
+use Rattle.pdl_lock_entries.specs.Slots.{IsSize}
+use Rattle.pdl_lock_any.specs.Asked.{IsSizedLock}
+use Rattle.pdl_lock_any.proofs.Asked.{sized_allowed}
 use Rattle.pdl_form.specs.Form.{Form}
-use Rattle.pdl_stagenets.specs.Locked.{Members}
-use Rattle.pdl_locknets.specs.Suited.{AreSuited}
+use Rattle.pdl_pipe_walk.specs.Locked.{Members}
+use Rattle.pdl_pipe_locks.specs.Suited.{AreSuited}
 use Rattle.pdl_word.specs.Each.{Each}
-use Rattle.pdl_lockkinds.specs.Asked.{IsInTime, AreInTime, AreSizedLocks}
+use Rattle.pdl_lock_kinds.specs.Asked.{IsInTime, AreInTime, AreSizedLocks}
 
 -- ---- sizes
 

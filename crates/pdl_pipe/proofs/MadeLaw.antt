@@ -9,30 +9,30 @@ use Rattle.pdl_net.specs.Signal.{Signal}
 use Rattle.pdl_net.specs.Growth.{ExtendsPorts}
 use Rattle.pdl_net.specs.Well.{IsWell}
 use Rattle.pdl_lockapi.specs.declared.LockNets.{LockNets}
-use Rattle.pdl_pipe_law.specs.Walk.{Locks, is_locked}
-use Rattle.pdl_pipe_law.specs.Views.{View, Gates}
-use Rattle.pdl_pipe_law.specs.Ports.{step_of}
-use Rattle.pdl_pipe_law.specs.Places.{comb_place}
-use Rattle.pdl_pipe_law.specs.Compiled.{port_in, IsLaid}
-use Rattle.pdl_pipe_law.specs.Declared.{AreBitsWide}
-use Rattle.pdl_sides.specs.Sides.{Sides}
-use Rattle.pdl_sides.specs.Whole.{IsWhole}
-use Rattle.pdl_stagenets.specs.declared.locks.MemLock.{MemLock}
-use Rattle.pdl_stagenets.specs.Locked.{Members, locks_in, AreLocked}
-use Rattle.pdl_stagenexts.specs.Lines.{line_form, line_pipe}
-use Rattle.pdl_locknets.specs.Suited.{shapes_in}
-use Rattle.pdl_locknets.specs.Lawful.{AreLawful}
-use Rattle.pdl_locknets.specs.Stepped.{AreStepped}
-use Rattle.pdl_locknets.proofs.LocksKept.{Stays}
-use Rattle.pdl_outnets.specs.declared.outputs.StageNets.{StageNets as ShownNets}
-use Rattle.pdl_outnets.specs.declared.outputs.OutNet.{OutNet}
-use Rattle.pdl_outnets.specs.Told.{asks_in, output_of, OutsThere, ShowAll}
-use Rattle.pdl_emitted.specs.Emitted.{Nets, Emission, name_in, locks_of, views_of, moves_of, gates_of, sides_of}
-use Rattle.pdl_emitted.proofs.Laid.{laid}
-use Rattle.pdl_emitted.proofs.LaidLocks.{locks_made, locked_made, lawful_made, stepped_made, starts_lock, fits_at}
-use Rattle.pdl_emitted.proofs.LaidWidths.{bits_wide}
-use Rattle.pdl_emitted.proofs.SidesHeld.{has_sides}
-use Rattle.pdl_emitted.proofs.SidesLeaves.{leaves}
+use Rattle.pdl_law_parts.specs.Walk.{Locks, is_locked}
+use Rattle.pdl_law_parts.specs.Views.{View, Gates}
+use Rattle.pdl_law_parts.specs.Ports.{step_of}
+use Rattle.pdl_law_parts.specs.Places.{comb_place}
+use Rattle.pdl_law_parts.specs.Compiled.{port_in, IsLaid}
+use Rattle.pdl_law_parts.specs.Declared.{AreBitsWide}
+use Rattle.pdl_law_sides.specs.Sides.{Sides}
+use Rattle.pdl_law_sides.specs.Whole.{IsWhole}
+use Rattle.pdl_pipe_walk.specs.declared.locks.MemLock.{MemLock}
+use Rattle.pdl_pipe_walk.specs.Locked.{Members, locks_in, AreLocked}
+use Rattle.pdl_pipe_nexts.specs.Lines.{line_form, line_pipe}
+use Rattle.pdl_pipe_locks.specs.Suited.{shapes_in}
+use Rattle.pdl_pipe_locks.specs.Lawful.{AreLawful}
+use Rattle.pdl_pipe_locks.specs.Stepped.{AreStepped}
+use Rattle.pdl_pipe_locks.proofs.LocksKept.{Stays}
+use Rattle.pdl_pipe_outputs.specs.declared.outputs.StageNets.{StageNets as ShownNets}
+use Rattle.pdl_pipe_outputs.specs.declared.outputs.OutNet.{OutNet}
+use Rattle.pdl_pipe_outputs.specs.Told.{asks_in, output_of, OutsThere, ShowAll}
+use Rattle.pdl_pipe_emitted.specs.Emitted.{Nets, Emission, name_in, locks_of, views_of, moves_of, gates_of, sides_of}
+use Rattle.pdl_pipe_emitted.proofs.Laid.{laid}
+use Rattle.pdl_pipe_emitted.proofs.LaidLocks.{locks_made, locked_made, lawful_made, stepped_made, starts_lock, fits_at}
+use Rattle.pdl_pipe_emitted.proofs.LaidWidths.{bits_wide}
+use Rattle.pdl_pipe_emitted.proofs.SidesHeld.{has_sides}
+use Rattle.pdl_pipe_emitted.proofs.SidesLeaves.{leaves}
 use Rattle.pdl_pipe.specs.Emitted.{AreShownOf, IsEmitted}
 use Rattle.pdl_pipe.proofs.MadeMemories.{Fits}
 use Rattle.pdl_pipe.proofs.MadeOutputs.{shown_made, ports_made, shapes_made}

@@ -11,12 +11,12 @@ use Rattle.pdl_semantics.proofs.Facts.{lock_declared}
 use Rattle.pdl_rules.specs.Memories.{infos_of, info_of}
 use Rattle.pdl_net.specs.Circuit.{Shape}
 use Rattle.pdl_form.specs.Form.{names_of}
-use Rattle.pdl_pipe_law.specs.Ports.{Commit}
-use Rattle.pdl_pipe_law.specs.Declared.{array_words, shape_of_mem, mem_names, CommitsFit}
+use Rattle.pdl_law_parts.specs.Ports.{Commit}
+use Rattle.pdl_law_parts.specs.Declared.{array_words, shape_of_mem, mem_names, CommitsFit}
 use Rattle.pdl_lockapi.specs.Sizes.{words_in}
 use Rattle.pdl_lockapi.proofs.LockKinds.{lock_is, words_are}
-use Rattle.pdl_locknets.specs.Suited.{shapes_in}
-use Rattle.pdl_follows.specs.Memories.{delayed_of, comb_of, net_infos}
+use Rattle.pdl_pipe_locks.specs.Suited.{shapes_in}
+use Rattle.pdl_law_follows.specs.Memories.{delayed_of, comb_of, net_infos}
 use Rattle.pdl_pipe.specs.Infos.{is_told}
 
 -- ---- arrays

@@ -5,25 +5,25 @@ use Rattle.std.specs.Prelude.{Option}
 use Rattle.pdl_semantics.specs.Tree as tree
 use Rattle.pdl_semantics.specs.Flatten.{flat}
 use Rattle.pdl_rules.specs.Refusal.{KeepsRules}
-use Rattle.pdl_pathfacts.specs.Source.{is_source, is_named}
+use Rattle.pdl_source_paths.specs.Source.{is_source, is_named}
 use Rattle.pdl_form.specs.Form.{Form, form_of}
 use Rattle.pdl_net.specs.declared.Netlist.{Netlist}
 use Rattle.pdl_net.specs.Circuit.{Circuit, circuit_of, shape_of, shapes_of}
 use Rattle.pdl_net.specs.Signal.{Signal}
 use Rattle.pdl_net.specs.Well.{IsWell}
-use Rattle.pdl_pipe_law.specs.Walk.{Locks}
-use Rattle.pdl_pipe_law.specs.Views.{View, Gates}
-use Rattle.pdl_pipe_law.specs.Declared.{mem_names}
-use Rattle.pdl_sides.specs.Sides.{Sides}
-use Rattle.pdl_stagenets.specs.declared.locks.MemLock.{MemLock}
-use Rattle.pdl_stagenets.specs.Locked.{Members, locks_in}
-use Rattle.pdl_locknets.proofs.LocksKept.{Stays}
-use Rattle.pdl_follows.specs.Follows.{Follows, IsMade}
-use Rattle.pdl_follows.specs.Memories.{net_infos}
-use Rattle.pdl_follows.proofs.FollowsMade.{follows}
-use Rattle.pdl_lockruns.proofs.UsedMade.{stages_made}
-use Rattle.pdl_lockruns.proofs.Locking.{used_locks}
-use Rattle.pdl_emitted.specs.Emitted.{name_in, views_of, moves_of, gates_of, sides_of}
+use Rattle.pdl_law_parts.specs.Walk.{Locks}
+use Rattle.pdl_law_parts.specs.Views.{View, Gates}
+use Rattle.pdl_law_parts.specs.Declared.{mem_names}
+use Rattle.pdl_law_sides.specs.Sides.{Sides}
+use Rattle.pdl_pipe_walk.specs.declared.locks.MemLock.{MemLock}
+use Rattle.pdl_pipe_walk.specs.Locked.{Members, locks_in}
+use Rattle.pdl_pipe_locks.proofs.LocksKept.{Stays}
+use Rattle.pdl_law_follows.specs.Follows.{Follows, IsMade}
+use Rattle.pdl_law_follows.specs.Memories.{net_infos}
+use Rattle.pdl_law_follows.proofs.FollowsMade.{follows}
+use Rattle.pdl_law_lockruns.proofs.UsedMade.{stages_made}
+use Rattle.pdl_law_lockruns.proofs.Locking.{used_locks}
+use Rattle.pdl_pipe_emitted.specs.Emitted.{name_in, views_of, moves_of, gates_of, sides_of}
 use Rattle.pdl_pipe.specs.Emitted.{IsEmitted}
 use Rattle.pdl_pipe.specs.Locks.{HasLocks}
 use Rattle.pdl_pipe.proofs.MadeMemories.{same_names, same_shapes, commits_fit}

@@ -10,33 +10,33 @@ use Rattle.pdl_net.specs.Circuit.{Circuit}
 use Rattle.pdl_net.specs.Signal.{Signal}
 use Rattle.pdl_net.specs.Meaning.{signal}
 use Rattle.pdl_net.specs.Growth.{Keeps}
-use Rattle.pdl_flatnets.specs.Nets.{signals_in, signal_at}
-use Rattle.pdl_inflight.specs.Readings.{reading}
-use Rattle.pdl_pipe_law.specs.Walk.{zero_bit, is_locked}
-use Rattle.pdl_pipe_law.specs.Views.{View, Gates}
-use Rattle.pdl_sides.specs.Sides.{Sides}
-use Rattle.pdl_sides.specs.Whole.{IsOutside, FitsOutside}
-use Rattle.pdl_stagenets.specs.Parts.{walk_in}
-use Rattle.pdl_stagenets.specs.Locked.{Members, some_at}
-use Rattle.pdl_beside.specs.declared.ends.StageEnd.{StageEnd}
-use Rattle.pdl_beside.specs.declared.outside.RequestNets.{RequestNets}
-use Rattle.pdl_beside.specs.Ends.{ends_in, moves_in, kills_in}
-use Rattle.pdl_beside.specs.Requests.{IsRequest}
-use Rattle.pdl_beside.specs.Beside.{AreStagesOf}
-use Rattle.pdl_beside.proofs.EndsKept as ends_kept
-use Rattle.pdl_beside.proofs.Beside.{is_outside}
-use Rattle.pdl_stageregs.proofs.Lists.{view_at}
-use Rattle.pdl_stagenexts.specs.Lines.{line_pipe}
-use Rattle.pdl_locknets.specs.Stepped.{commits_in}
-use Rattle.pdl_locknets.proofs.LocksKept.{Stays}
-use Rattle.pdl_outnets.specs.Told.{ask_of, asks_in}
-use Rattle.pdl_tails.specs.Tails.{tails_in}
-use Rattle.pdl_emitted.specs.Emitted.{Nets, Emission, views_of, moves_of, sides_of, inputs_of, free_of, clear_of}
-use Rattle.pdl_emitted.proofs.LaidGrowth.{keeps_bd, keeps_cd}
-use Rattle.pdl_emitted.proofs.LaidLocks.{fits_at, word_at}
-use Rattle.pdl_emitted.proofs.SidesStages.{some_of, at_signal}
-use Rattle.pdl_emitted.proofs.SidesPorts.{moves_first}
-use Rattle.pdl_emitted.proofs.SidesRemoved.{views_first}
+use Rattle.pdl_pipe_exprs.specs.Nets.{signals_in, signal_at}
+use Rattle.pdl_machine_inflight.specs.Readings.{reading}
+use Rattle.pdl_law_parts.specs.Walk.{zero_bit, is_locked}
+use Rattle.pdl_law_parts.specs.Views.{View, Gates}
+use Rattle.pdl_law_sides.specs.Sides.{Sides}
+use Rattle.pdl_law_sides.specs.Whole.{IsOutside, FitsOutside}
+use Rattle.pdl_pipe_walk.specs.Parts.{walk_in}
+use Rattle.pdl_pipe_walk.specs.Locked.{Members, some_at}
+use Rattle.pdl_pipe_beside.specs.declared.ends.StageEnd.{StageEnd}
+use Rattle.pdl_pipe_beside.specs.declared.outside.RequestNets.{RequestNets}
+use Rattle.pdl_pipe_beside.specs.Ends.{ends_in, moves_in, kills_in}
+use Rattle.pdl_pipe_beside.specs.Requests.{IsRequest}
+use Rattle.pdl_pipe_beside.specs.Beside.{AreStagesOf}
+use Rattle.pdl_pipe_beside.proofs.EndsKept as ends_kept
+use Rattle.pdl_pipe_beside.proofs.Beside.{is_outside}
+use Rattle.pdl_pipe_registers.proofs.Lists.{view_at}
+use Rattle.pdl_pipe_nexts.specs.Lines.{line_pipe}
+use Rattle.pdl_pipe_locks.specs.Stepped.{commits_in}
+use Rattle.pdl_pipe_locks.proofs.LocksKept.{Stays}
+use Rattle.pdl_pipe_outputs.specs.Told.{ask_of, asks_in}
+use Rattle.pdl_pipe_tails.specs.Tails.{tails_in}
+use Rattle.pdl_pipe_emitted.specs.Emitted.{Nets, Emission, views_of, moves_of, sides_of, inputs_of, free_of, clear_of}
+use Rattle.pdl_pipe_emitted.proofs.LaidGrowth.{keeps_bd, keeps_cd}
+use Rattle.pdl_pipe_emitted.proofs.LaidLocks.{fits_at, word_at}
+use Rattle.pdl_pipe_emitted.proofs.SidesStages.{some_of, at_signal}
+use Rattle.pdl_pipe_emitted.proofs.SidesPorts.{moves_first}
+use Rattle.pdl_pipe_emitted.proofs.SidesRemoved.{views_first}
 
 -- nets that have the values of a request have them in all later circuits
 request_kept : (a b c : Circuit) (p : Pipe) (es : List StageEnd) (m : ℕ) (x : RequestNets) → Keeps b c → IsRequest a b p es m x → IsRequest a c p es m x

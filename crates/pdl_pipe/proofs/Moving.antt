@@ -8,17 +8,17 @@ use Rattle.pdl_semantics.specs.Stages.{stage_at}
 use Rattle.pdl_net.specs.declared.Net.{Net}
 use Rattle.pdl_net.specs.Circuit.{Circuit}
 use Rattle.pdl_order.specs.declared.OrderRegs.{OrderRegs}
-use Rattle.pdl_stagenets.specs.declared.locks.MemLock.{MemLock}
-use Rattle.pdl_stagenets.specs.Locked.{Members, some_at}
-use Rattle.pdl_answernets.specs.Ports.{IsBit}
-use Rattle.pdl_beside.specs.Orders.{StandOrders}
-use Rattle.pdl_beside.proofs.OrderParts.{is_merged_by}
-use Rattle.pdl_stagenexts.specs.declared.line.Line.{Line}
-use Rattle.pdl_stagenexts.specs.Lines.{line_pipe, IsLineIn}
-use Rattle.pdl_stagemoves.specs.declared.whole.MoveNets.{MoveNets}
-use Rattle.pdl_stagemoves.specs.Gates.{HasTurns, IsOrderThere}
-use Rattle.pdl_stagemoves.specs.Passed.{AreMoved}
-use Rattle.pdl_emitted.specs.Emitted.{IsLayout}
+use Rattle.pdl_pipe_walk.specs.declared.locks.MemLock.{MemLock}
+use Rattle.pdl_pipe_walk.specs.Locked.{Members, some_at}
+use Rattle.pdl_pipe_answers.specs.Ports.{IsBit}
+use Rattle.pdl_pipe_beside.specs.Orders.{StandOrders}
+use Rattle.pdl_pipe_beside.proofs.OrderParts.{is_merged_by}
+use Rattle.pdl_pipe_nexts.specs.declared.line.Line.{Line}
+use Rattle.pdl_pipe_nexts.specs.Lines.{line_pipe, IsLineIn}
+use Rattle.pdl_pipe_moves.specs.declared.whole.MoveNets.{MoveNets}
+use Rattle.pdl_pipe_moves.specs.Gates.{HasTurns, IsOrderThere}
+use Rattle.pdl_pipe_moves.specs.Passed.{AreMoved}
+use Rattle.pdl_pipe_emitted.specs.Emitted.{IsLayout}
 
 -- each merge has the order of its fork
 pub has_turns : (c : Circuit) (p : Pipe) (rs : List (Option OrderRegs)) → ((q i : ℕ) → q < length p.stages → (stage_at p q).merges ≡ Some i → i < length p.stages) → StandOrders c p rs → HasTurns c p rs

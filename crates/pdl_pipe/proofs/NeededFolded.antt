@@ -10,11 +10,11 @@ use Rattle.pdl_net.specs.declared.Cell.TheVariants.{Const, Not, Bin, Mux, Slice,
 use Rattle.pdl_net.specs.declared.Netlist.{Netlist}
 use Rattle.pdl_net.specs.Circuit.{circuit_of}
 use Rattle.pdl_build.specs.Folded.{is_const, cell_in, is_constant, is_foldable, AreFolded}
-use Rattle.pdl_needed.specs.Needed.{reads_of, cell_at, Choice, IsKept}
-use Rattle.pdl_needed.specs.Pruned.{kept_of, moved_net, moved_cell, pruned, IsPruned}
-use Rattle.pdl_needed.proofs.Counts.{kept_length, within_marks, kept_from}
-use Rattle.pdl_needed.proofs.Closed.{IsClosed, closed}
-use Rattle.pdl_needed.proofs.Needs.{cell_moved}
+use Rattle.pdl_net_needed.specs.Needed.{reads_of, cell_at, Choice, IsKept}
+use Rattle.pdl_net_needed.specs.Pruned.{kept_of, moved_net, moved_cell, pruned, IsPruned}
+use Rattle.pdl_net_needed.proofs.Counts.{kept_length, within_marks, kept_from}
+use Rattle.pdl_net_needed.proofs.Closed.{IsClosed, closed}
+use Rattle.pdl_net_needed.proofs.Needs.{cell_moved}
 
 -- whether a cell is a constant doesn't hang on the numbers of nets
 const_moved : (k : Choice) (g : Cell) → is_const (moved_cell k g) ≡ is_const g

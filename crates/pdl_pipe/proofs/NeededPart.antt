@@ -5,10 +5,10 @@ use Rattle.pdl_net.specs.declared.Netlist.{Netlist}
 use Rattle.pdl_net.specs.Circuit.{shape_of, shapes_of}
 use Rattle.pdl_net.specs.Pipe.{IsWellFormed}
 use Rattle.pdl_net.specs.Run.{nports}
-use Rattle.pdl_needed.specs.Pruned.{IsPruned, HasSameFrame}
-use Rattle.pdl_stagenets.specs.Locked.{Members}
-use Rattle.pdl_follows.specs.Follows.{Follows}
-use Rattle.pdl_follows.proofs.FollowsLike.{follows_like}
+use Rattle.pdl_net_needed.specs.Pruned.{IsPruned, HasSameFrame}
+use Rattle.pdl_pipe_walk.specs.Locked.{Members}
+use Rattle.pdl_law_follows.specs.Follows.{Follows}
+use Rattle.pdl_law_follows.proofs.FollowsLike.{follows_like}
 use Rattle.pdl_pipe.specs.Locks.{HasLocks, HasLocksOf}
 
 arrays_same : (n q : Netlist) → HasSameFrame n q → map shape_of q.arrays ≡ map shape_of n.arrays

@@ -10,16 +10,16 @@ use Rattle.pdl_net.specs.Meaning.{IsThere}
 use Rattle.pdl_net.specs.Growth.{Keeps}
 use Rattle.pdl_lockapi.specs.declared.LockNets.{LockNets}
 use Rattle.pdl_lockapi.specs.Laws.{StepSignals}
-use Rattle.pdl_stagenets.specs.declared.locks.MemLock.{MemLock}
-use Rattle.pdl_stagenets.specs.Locked.{Members, some_at, AreLocked}
-use Rattle.pdl_beside.specs.declared.outside.RequestNets.{RequestNets}
-use Rattle.pdl_stagenexts.specs.declared.line.Line.{Line}
-use Rattle.pdl_stagenexts.specs.Lines.{line_pipe, IsLineIn}
-use Rattle.pdl_stagenexts.proofs.LinesKept.{bits_there}
-use Rattle.pdl_locknets.specs.Stepped.{AreStepped}
-use Rattle.pdl_outnets.specs.declared.outputs.StageNets.{StageNets as ShownNets}
-use Rattle.pdl_outnets.specs.Told.{AreThereStages, AreCommits, AreAsked, IsThereCommit, IsThereRequest}
-use Rattle.pdl_emitted.proofs.SidesStages.{some_of}
+use Rattle.pdl_pipe_walk.specs.declared.locks.MemLock.{MemLock}
+use Rattle.pdl_pipe_walk.specs.Locked.{Members, some_at, AreLocked}
+use Rattle.pdl_pipe_beside.specs.declared.outside.RequestNets.{RequestNets}
+use Rattle.pdl_pipe_nexts.specs.declared.line.Line.{Line}
+use Rattle.pdl_pipe_nexts.specs.Lines.{line_pipe, IsLineIn}
+use Rattle.pdl_pipe_nexts.proofs.LinesKept.{bits_there}
+use Rattle.pdl_pipe_locks.specs.Stepped.{AreStepped}
+use Rattle.pdl_pipe_outputs.specs.declared.outputs.StageNets.{StageNets as ShownNets}
+use Rattle.pdl_pipe_outputs.specs.Told.{AreThereStages, AreCommits, AreAsked, IsThereCommit, IsThereRequest}
+use Rattle.pdl_pipe_emitted.proofs.SidesStages.{some_of}
 use Rattle.pdl_pipe.specs.Emitted.{AreShownOf}
 use Rattle.pdl_pipe.proofs.Deeding.{at_bit}
 

@@ -3,7 +3,7 @@ use Rattle.std.proofs.Common.{◌≡◌, ◌<◌, ◌≤◌, ℕ, false, sym, ap
 use Rattle.std.specs.Prelude.{Option}
 use Rattle.pdl_semantics.specs.Flat.{Pipe}
 use Rattle.pdl_semantics.specs.Stages.{mem_at}
-use Rattle.pdl_pipe_law.specs.Places.{comb_place}
+use Rattle.pdl_law_parts.specs.Places.{comb_place}
 use Rattle.pdl_net.specs.declared.Net.{Net}
 use Rattle.pdl_net.specs.Circuit.{Circuit, HasArray}
 use Rattle.pdl_net.specs.Meaning.{write_signals}
@@ -11,19 +11,19 @@ use Rattle.pdl_net.specs.Growth.{Keeps}
 use Rattle.pdl_net.proofs.Keeps.{but_keeps, extends_keeps, keeps_trans}
 use Rattle.pdl_lockapi.specs.declared.LockNets.{LockNets}
 use Rattle.pdl_order.specs.declared.OrderRegs.{OrderRegs}
-use Rattle.pdl_beside.specs.declared.ends.StageEnd.{StageEnd}
-use Rattle.pdl_stageregs.specs.declared.nets.StageNets.{StageNets}
-use Rattle.pdl_stagenexts.specs.declared.line.Line.{Line}
-use Rattle.pdl_stagenexts.specs.Nexts.{regs_of}
-use Rattle.pdl_tails.specs.declared.whole.TailNets.{TailNets}
+use Rattle.pdl_pipe_beside.specs.declared.ends.StageEnd.{StageEnd}
+use Rattle.pdl_pipe_registers.specs.declared.nets.StageNets.{StageNets}
+use Rattle.pdl_pipe_nexts.specs.declared.line.Line.{Line}
+use Rattle.pdl_pipe_nexts.specs.Nexts.{regs_of}
+use Rattle.pdl_pipe_tails.specs.declared.whole.TailNets.{TailNets}
 use Rattle.pdl_pipe.specs.Emitted.{HasSteps}
-use Rattle.pdl_flatnets.specs.Nets.{NetsThere, signals_in, widths_of}
-use Rattle.pdl_flatnets.proofs.NetLists.{there_keeps, signals_keep}
-use Rattle.pdl_stagenets.specs.declared.locks.MemLock.{MemLock}
-use Rattle.pdl_stagenets.specs.Locked.{Members, AreLocked, AreTickets}
-use Rattle.pdl_stageregs.specs.Staged.{AreApart, next_signals}
-use Rattle.pdl_stageregs.proofs.TicketsMade.{next_same, tickets_fit}
-use Rattle.pdl_locknets.specs.Lawful.{AreUnwritten}
+use Rattle.pdl_pipe_exprs.specs.Nets.{NetsThere, signals_in, widths_of}
+use Rattle.pdl_pipe_exprs.proofs.NetLists.{there_keeps, signals_keep}
+use Rattle.pdl_pipe_walk.specs.declared.locks.MemLock.{MemLock}
+use Rattle.pdl_pipe_walk.specs.Locked.{Members, AreLocked, AreTickets}
+use Rattle.pdl_pipe_registers.specs.Staged.{AreApart, next_signals}
+use Rattle.pdl_pipe_registers.proofs.TicketsMade.{next_same, tickets_fit}
+use Rattle.pdl_pipe_locks.specs.Lawful.{AreUnwritten}
 
 -- the next tickets stay those of the locks
 pub next_kept : {T : Type 0} (l : Members T) (a b : Circuit) (p : Pipe) (xs : List (Option (MemLock T))) (ts : List Net) → Keeps a b → AreLocked l a p xs → NetsThere a ts → signals_in a ts ≡ next_signals a xs → signals_in b ts ≡ next_signals b xs

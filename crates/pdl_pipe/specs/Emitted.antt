@@ -14,38 +14,38 @@ use Rattle.pdl_port.specs.declared.PortRegs.{PortRegs}
 use Rattle.pdl_port.specs.Laws as port_laws
 use Rattle.pdl_order.specs.declared.OrderRegs.{OrderRegs}
 use Rattle.pdl_order.specs.Laws as order_laws
-use Rattle.pdl_flatnets.specs.declared.bits.Bits.{Bits}
-use Rattle.pdl_flatnets.specs.Conditions.{AreBits}
-use Rattle.pdl_pipe_law.specs.Compiled.{port_in}
-use Rattle.pdl_sides.specs.Whole.{reply_ports}
-use Rattle.pdl_stagenets.specs.declared.locks.MemLock.{MemLock}
-use Rattle.pdl_stagenets.specs.Locked.{Members, some_at, AreLocked}
-use Rattle.pdl_answernets.specs.Ports.{HasAnswers}
-use Rattle.pdl_beside.specs.declared.ends.StageEnd.{StageEnd}
-use Rattle.pdl_beside.specs.declared.outside.RequestNets.{RequestNets}
-use Rattle.pdl_beside.specs.Ports.{StandPorts}
-use Rattle.pdl_beside.specs.Parts.{own_at, ExtendsParts}
-use Rattle.pdl_beside.specs.Beside.{AreTaken}
-use Rattle.pdl_beside.specs.Steps.{IsPortStepped, IsOrderStepped}
-use Rattle.pdl_stageregs.specs.declared.nets.StageNets.{StageNets}
-use Rattle.pdl_stageregs.specs.Stages.{IsAt}
-use Rattle.pdl_stageregs.specs.Staged.{AreApart}
-use Rattle.pdl_stagenexts.specs.declared.line.Line.{Line}
-use Rattle.pdl_stagenexts.specs.Lines.{line_form, line_pipe}
-use Rattle.pdl_stagenexts.specs.Nexts.{regs_of, TakesNext}
-use Rattle.pdl_stagemoves.specs.declared.whole.MoveNets.{MoveNets}
-use Rattle.pdl_stagemoves.specs.Passed.{AreMoved}
-use Rattle.pdl_tails.specs.declared.whole.TailNets.{TailNets}
-use Rattle.pdl_tails.specs.Tails.{HasCut, IsRow}
-use Rattle.pdl_locknets.specs.declared.deeds.StageDeeds.{StageDeeds}
-use Rattle.pdl_locknets.specs.Deeds.{steps_in}
-use Rattle.pdl_locknets.specs.Lawful.{AreLawful, AreUnwritten}
-use Rattle.pdl_locknets.specs.Stepped.{own_of, AreStepped, ExtendsLocks}
-use Rattle.pdl_locknets.specs.Suited.{shapes_in}
-use Rattle.pdl_outnets.specs.declared.outputs.OutNet.{OutNet}
-use Rattle.pdl_outnets.specs.declared.outputs.StageNets.{StageNets as ShownNets}
-use Rattle.pdl_outnets.specs.Told.{OutsThere, ShowAll, output_of}
-use Rattle.pdl_emitted.specs.Emitted.{AreDeedsOf, Emission, IsLayout, Nets, inputs_of, name_in}
+use Rattle.pdl_pipe_exprs.specs.declared.bits.Bits.{Bits}
+use Rattle.pdl_pipe_exprs.specs.Conditions.{AreBits}
+use Rattle.pdl_law_parts.specs.Compiled.{port_in}
+use Rattle.pdl_law_sides.specs.Whole.{reply_ports}
+use Rattle.pdl_pipe_walk.specs.declared.locks.MemLock.{MemLock}
+use Rattle.pdl_pipe_walk.specs.Locked.{Members, some_at, AreLocked}
+use Rattle.pdl_pipe_answers.specs.Ports.{HasAnswers}
+use Rattle.pdl_pipe_beside.specs.declared.ends.StageEnd.{StageEnd}
+use Rattle.pdl_pipe_beside.specs.declared.outside.RequestNets.{RequestNets}
+use Rattle.pdl_pipe_beside.specs.Ports.{StandPorts}
+use Rattle.pdl_pipe_beside.specs.Parts.{own_at, ExtendsParts}
+use Rattle.pdl_pipe_beside.specs.Beside.{AreTaken}
+use Rattle.pdl_pipe_beside.specs.Steps.{IsPortStepped, IsOrderStepped}
+use Rattle.pdl_pipe_registers.specs.declared.nets.StageNets.{StageNets}
+use Rattle.pdl_pipe_registers.specs.Stages.{IsAt}
+use Rattle.pdl_pipe_registers.specs.Staged.{AreApart}
+use Rattle.pdl_pipe_nexts.specs.declared.line.Line.{Line}
+use Rattle.pdl_pipe_nexts.specs.Lines.{line_form, line_pipe}
+use Rattle.pdl_pipe_nexts.specs.Nexts.{regs_of, TakesNext}
+use Rattle.pdl_pipe_moves.specs.declared.whole.MoveNets.{MoveNets}
+use Rattle.pdl_pipe_moves.specs.Passed.{AreMoved}
+use Rattle.pdl_pipe_tails.specs.declared.whole.TailNets.{TailNets}
+use Rattle.pdl_pipe_tails.specs.Tails.{HasCut, IsRow}
+use Rattle.pdl_pipe_locks.specs.declared.deeds.StageDeeds.{StageDeeds}
+use Rattle.pdl_pipe_locks.specs.Deeds.{steps_in}
+use Rattle.pdl_pipe_locks.specs.Lawful.{AreLawful, AreUnwritten}
+use Rattle.pdl_pipe_locks.specs.Stepped.{own_of, AreStepped, ExtendsLocks}
+use Rattle.pdl_pipe_locks.specs.Suited.{shapes_in}
+use Rattle.pdl_pipe_outputs.specs.declared.outputs.OutNet.{OutNet}
+use Rattle.pdl_pipe_outputs.specs.declared.outputs.StageNets.{StageNets as ShownNets}
+use Rattle.pdl_pipe_outputs.specs.Told.{OutsThere, ShowAll, output_of}
+use Rattle.pdl_pipe_emitted.specs.Emitted.{AreDeedsOf, Emission, IsLayout, Nets, inputs_of, name_in}
 
 -- of each stage whether it holds a thread, and whether that moves
 pub record AreShownOf (x : Line) (ss : List ShownNets) : Type 0 where

@@ -6,23 +6,23 @@ use Rattle.pdl_net.specs.declared.Netlist.{Netlist}
 use Rattle.pdl_net.specs.Circuit.{circuit_of}
 use Rattle.pdl_net.specs.Signal.{Signal}
 use Rattle.pdl_net.specs.Run.{start, state_in}
-use Rattle.pdl_needed.specs.Pruned.{IsPruned}
+use Rattle.pdl_net_needed.specs.Pruned.{IsPruned}
 use Rattle.pdl_image.specs.Images.{IsImage}
 use Rattle.pdl_lockapi.specs.declared.LockNets.{LockNets}
-use Rattle.pdl_anylock.specs.declared.AnyLock.{AnyLock}
-use Rattle.pdl_anylock.specs.Any.{any_kind, any_size, any_tickets, any_placed, any_stands}
-use Rattle.pdl_pipe_law.specs.Places.{delayed_count}
-use Rattle.pdl_pipe_law.specs.Views.{View, Gates}
-use Rattle.pdl_pipe_law.specs.Ports.{step_of}
-use Rattle.pdl_pipe_law.specs.Compiled.{IsStage}
-use Rattle.pdl_pipe_law.specs.States.{held_after}
-use Rattle.pdl_sides.specs.Whole.{replies_of}
-use Rattle.pdl_follows.specs.Refined.{machine_after}
-use Rattle.pdl_lockruns.specs.Used.{IsUsed, IsStageAs}
-use Rattle.pdl_stagenets.specs.declared.locks.MemLock.{MemLock}
-use Rattle.pdl_stagenets.specs.Locked.{Members, some_at, locks_in, AreLocked}
-use Rattle.pdl_locknets.specs.Lawful.{AreLawful}
-use Rattle.pdl_locknets.specs.Stepped.{AreStepped}
+use Rattle.pdl_lock_any.specs.declared.AnyLock.{AnyLock}
+use Rattle.pdl_lock_any.specs.Any.{any_kind, any_size, any_tickets, any_placed, any_stands}
+use Rattle.pdl_law_parts.specs.Places.{delayed_count}
+use Rattle.pdl_law_parts.specs.Views.{View, Gates}
+use Rattle.pdl_law_parts.specs.Ports.{step_of}
+use Rattle.pdl_law_parts.specs.Compiled.{IsStage}
+use Rattle.pdl_law_parts.specs.States.{held_after}
+use Rattle.pdl_law_sides.specs.Whole.{replies_of}
+use Rattle.pdl_law_follows.specs.Refined.{machine_after}
+use Rattle.pdl_law_lockruns.specs.Used.{IsUsed, IsStageAs}
+use Rattle.pdl_pipe_walk.specs.declared.locks.MemLock.{MemLock}
+use Rattle.pdl_pipe_walk.specs.Locked.{Members, some_at, locks_in, AreLocked}
+use Rattle.pdl_pipe_locks.specs.Lawful.{AreLawful}
+use Rattle.pdl_pipe_locks.specs.Stepped.{AreStepped}
 
 -- a netlist with the locks that a pipe asks for
 pub record HasLocks {T : Type 0} (l : Members T) (p : tree.Pipe) (n : Netlist) : Type 0 where

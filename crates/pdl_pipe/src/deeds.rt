@@ -1,15 +1,15 @@
 // What the stages do, as ports, orders, locks and outputs are told it.
 ghost use Rattle.std.specs.Prelude.{◌≡◌, ◌<◌, IfOk, length, slice_index_or};
-ghost use Rattle.pdl_emitted.specs.Emitted.{AreEndsOf, AreDeedsOf};
+ghost use Rattle.pdl_pipe_emitted.specs.Emitted.{AreEndsOf, AreDeedsOf};
 ghost use Rattle.pdl_pipe.specs.Emitted.{AreShownOf};
 
-use pdl_beside::StageEnd;
+use pdl_pipe_beside::StageEnd;
 use pdl_kit::NoMemory;
-use pdl_locknets::StageDeeds;
+use pdl_pipe_locks::StageDeeds;
 use pdl_net::Net;
-use pdl_outnets::StageNets as ShownNets;
-use pdl_stagenexts::Line;
-use pdl_stagenexts::line::stage_of;
+use pdl_pipe_outputs::StageNets as ShownNets;
+use pdl_pipe_nexts::Line;
+use pdl_pipe_nexts::line::stage_of;
 use std::alloc::Global;
 
 // A net, by its place.

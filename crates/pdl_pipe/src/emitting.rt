@@ -1,36 +1,36 @@
 // All nets of a pipe, one after the other.
 ghost use Rattle.std.specs.Prelude.{◌≡◌, [], IfOk, OnOk, length, map};
 ghost use Rattle.pdl_word.specs.Each.{Each};
-ghost use Rattle.pdl_formtypes.specs.Stmts.{AreWidths};
-ghost use Rattle.pdl_stageregs.specs.Stages.{zero_signal};
+ghost use Rattle.pdl_form_types.specs.Stmts.{AreWidths};
+ghost use Rattle.pdl_pipe_registers.specs.Stages.{zero_signal};
 ghost use Rattle.pdl_form.specs.Whole.{form};
 ghost use Rattle.pdl_build.specs.Change.{empty_circuit};
 ghost use Rattle.pdl_net.specs.Growth.{Extends};
-ghost use Rattle.pdl_flatnets.specs.Nets.{signals_in, NetsThere};
-ghost use Rattle.pdl_stagenets.specs.Locked.{members};
-ghost use Rattle.pdl_stagenexts.specs.Lines.{line_form, IsLineIn};
-ghost use Rattle.pdl_locknets.specs.Suited.{AreSuited};
-ghost use Rattle.pdl_emitted.specs.Emitted.{CanEmit};
+ghost use Rattle.pdl_pipe_exprs.specs.Nets.{signals_in, NetsThere};
+ghost use Rattle.pdl_pipe_walk.specs.Locked.{members};
+ghost use Rattle.pdl_pipe_nexts.specs.Lines.{line_form, IsLineIn};
+ghost use Rattle.pdl_pipe_locks.specs.Suited.{AreSuited};
+ghost use Rattle.pdl_pipe_emitted.specs.Emitted.{CanEmit};
 ghost use Rattle.pdl_pipe.specs.Emitted.{HasMemoriesIn, HasMoves, IsEmitted, IsLaidOut};
 
 use crate::deeds::{stage_ends, stage_ports};
 use crate::steps::{Standing, set_registers};
-use pdl_beside::{Round, order_states, port_states, requests};
+use pdl_pipe_beside::{Round, order_states, port_states, requests};
 use pdl_build::Builder;
-use pdl_flatnets::Bits;
+use pdl_pipe_exprs::Bits;
 use pdl_form::FlatPipe;
 use pdl_kit::{NoMemory, Seq};
 use pdl_lockapi::LockModule;
-use pdl_locknets::memories;
+use pdl_pipe_locks::memories;
 use pdl_net::Net;
 use pdl_order::OrderRegs;
-use pdl_outnets::{all_outputs, read_inputs, reply_inputs, show};
+use pdl_pipe_outputs::{all_outputs, read_inputs, reply_inputs, show};
 use pdl_port::PortRegs;
-use pdl_stagemoves::{MoveNets, all_moves};
-use pdl_stagenets::MemLock;
-use pdl_stagenexts::Line;
-use pdl_stageregs::tickets::next_tickets;
-use pdl_stageregs::{Shared, stages};
+use pdl_pipe_moves::{MoveNets, all_moves};
+use pdl_pipe_walk::MemLock;
+use pdl_pipe_nexts::Line;
+use pdl_pipe_registers::tickets::next_tickets;
+use pdl_pipe_registers::{Shared, stages};
 use std::alloc::Global;
 
 // What is asked of delayed memories, what the registers take next, and the outputs.

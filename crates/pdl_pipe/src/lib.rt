@@ -9,4 +9,4 @@ pub mod netlist;
 pub mod steps;
 
 pub use netlist::compile;
-pub use pdl_anylock::AnyLock;
+pub use pdl_lock_any::AnyLock;

@@ -1,13 +1,13 @@
 // The netlist of a pipe.
 ghost use Rattle.std.specs.Prelude.{◌≡◌, ◌≢◌, ◌++◌, true, false, AllPairs, IfOk, OnOk, filter};
-ghost use Rattle.pdl_tree.specs.View.{pipe_view};
+ghost use Rattle.pdl_syntax_tree.specs.View.{pipe_view};
 ghost use Rattle.pdl_form.specs.Form.{form_of};
 ghost use Rattle.pdl_net.specs.Circuit.{circuit_of};
 ghost use Rattle.pdl_build.specs.Folded.{AreFolded};
-ghost use Rattle.pdl_needed.specs.Needed.{AllNeeded};
-ghost use Rattle.pdl_stagenets.specs.Locked.{members};
-ghost use Rattle.pdl_locknets.specs.Suited.{AreSuited};
-ghost use Rattle.pdl_follows.specs.Follows.{Follows};
+ghost use Rattle.pdl_net_needed.specs.Needed.{AllNeeded};
+ghost use Rattle.pdl_pipe_walk.specs.Locked.{members};
+ghost use Rattle.pdl_pipe_locks.specs.Suited.{AreSuited};
+ghost use Rattle.pdl_law_follows.specs.Follows.{Follows};
 ghost use Rattle.pdl_pipe.specs.Infos.{is_told};
 ghost use Rattle.pdl_pipe.specs.Locks.{HasLocks, HasLocksOf, any_lock};
 
@@ -16,8 +16,8 @@ use pdl_build::Builder;
 use pdl_check::Accepted;
 use pdl_kit::{MemInfo, NoMemory, Seq};
 use pdl_lockapi::LockModule;
-use pdl_lockkinds::locks_of;
-use pdl_needed::needed_part;
+use pdl_lock_kinds::locks_of;
+use pdl_net_needed::needed_part;
 use pdl_net::Netlist;
 use std::alloc::Global;
 use std::mem::drop;

@@ -1,28 +1,28 @@
 // What the registers of a pipe take next.
 ghost use Rattle.std.specs.Prelude.{◌≡◌, IfOk, length};
-ghost use Rattle.pdl_answernets.specs.Ports.{IsBit};
-ghost use Rattle.pdl_stagenets.specs.Locked.{members, AreLocked, AreTickets};
-ghost use Rattle.pdl_beside.specs.Ends.{AreEnds};
-ghost use Rattle.pdl_beside.specs.Ports.{StandPorts};
-ghost use Rattle.pdl_beside.specs.Orders.{StandOrders};
-ghost use Rattle.pdl_stageregs.specs.Staged.{AreApart, next_signals};
-ghost use Rattle.pdl_flatnets.specs.Nets.{signals_in};
-ghost use Rattle.pdl_stagenexts.specs.Lines.{line_pipe, line_form, IsLineIn};
-ghost use Rattle.pdl_locknets.specs.Lawful.{AreLawful, AreUnwritten};
-ghost use Rattle.pdl_emitted.specs.Emitted.{CanEmit};
+ghost use Rattle.pdl_pipe_answers.specs.Ports.{IsBit};
+ghost use Rattle.pdl_pipe_walk.specs.Locked.{members, AreLocked, AreTickets};
+ghost use Rattle.pdl_pipe_beside.specs.Ends.{AreEnds};
+ghost use Rattle.pdl_pipe_beside.specs.Ports.{StandPorts};
+ghost use Rattle.pdl_pipe_beside.specs.Orders.{StandOrders};
+ghost use Rattle.pdl_pipe_registers.specs.Staged.{AreApart, next_signals};
+ghost use Rattle.pdl_pipe_exprs.specs.Nets.{signals_in};
+ghost use Rattle.pdl_pipe_nexts.specs.Lines.{line_pipe, line_form, IsLineIn};
+ghost use Rattle.pdl_pipe_locks.specs.Lawful.{AreLawful, AreUnwritten};
+ghost use Rattle.pdl_pipe_emitted.specs.Emitted.{CanEmit};
 ghost use Rattle.pdl_pipe.specs.Emitted.{HasLockSteps, HasSteps};
 
 use crate::deeds::deeds;
-use pdl_beside::{Round, StageEnd, order_steps, port_steps};
+use pdl_pipe_beside::{Round, StageEnd, order_steps, port_steps};
 use pdl_build::Builder;
 use pdl_kit::NoMemory;
 use pdl_lockapi::{LockModule, LockNets};
-use pdl_locknets::{Round as LockRound, step};
+use pdl_pipe_locks::{Round as LockRound, step};
 use pdl_net::Net;
 use pdl_order::OrderRegs;
-use pdl_stagenets::MemLock;
-use pdl_stagenexts::{Line, connect};
-use pdl_tails::{TailNets, tails};
+use pdl_pipe_walk::MemLock;
+use pdl_pipe_nexts::{Line, connect};
+use pdl_pipe_tails::{TailNets, tails};
 use std::alloc::Global;
 
 /// Where a squash would cut the locks, and what the memories commit.

@@ -11,10 +11,10 @@ use Rattle.pdl_net.specs.Signal.{Signal, const_value, mux_value}
 use Rattle.pdl_lockapi.specs.declared.Kind.{Kind}
 use Rattle.pdl_lockapi.specs.Lock.{or_zero, older}
 use Rattle.pdl_lockapi.specs.Laws.{LookLaw}
-use Rattle.pdl_entries.specs.declared.layout.Layout.{Layout}
-use Rattle.pdl_entries.specs.Slots.{IsSized, Stands, content_signal}
-use Rattle.pdl_entries.specs.Looks.{less_base, ready_signal, GivesWord}
-use Rattle.pdl_entries.proofs.Reading.{taken, hit_value, less_value, free_taken, free_youngest, word_given}
+use Rattle.pdl_lock_entries.specs.declared.layout.Layout.{Layout}
+use Rattle.pdl_lock_entries.specs.Slots.{IsSized, Stands, content_signal}
+use Rattle.pdl_lock_entries.specs.Looks.{less_base, ready_signal, GivesWord}
+use Rattle.pdl_lock_entries.proofs.Reading.{taken, hit_value, less_value, free_taken, free_youngest, word_given}
 
 pub look_law : (c : Circuit) (l : Layout) (u : Kind) (a t : Signal) (v : Option Net) → IsSized l → t.width ≡ l.ticket → GivesWord c l a v
     → LookLaw (Stands l) Queue l.ticket u a t (ready_signal l a t) (option_map (signal c) v)

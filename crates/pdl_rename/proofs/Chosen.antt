@@ -8,13 +8,13 @@ use Rattle.pdl_word.specs.Words as words
 use Rattle.pdl_net.specs.declared.BinOp.TheVariants.{Eq}
 use Rattle.pdl_net.specs.Circuit.{State}
 use Rattle.pdl_net.specs.Signal.{Signal, const_signal, bin_signal, mux_signal, slice_signal, const_value, bin_value, mux_value, slice_value}
-use Rattle.pdl_entries.specs.Slots.{content_signal}
-use Rattle.pdl_entries.specs.Looks.{youngest_value}
-use Rattle.pdl_entries.proofs.Looks.{youngest_width}
+use Rattle.pdl_lock_entries.specs.Slots.{content_signal}
+use Rattle.pdl_lock_entries.specs.Looks.{youngest_value}
+use Rattle.pdl_lock_entries.proofs.Looks.{youngest_width}
 use Rattle.pdl_rename.specs.declared.layout.Layout.{Layout}
 use Rattle.pdl_rename.specs.Places.{map_signal}
 use Rattle.pdl_rename.specs.Nets.{chosen_signal, selected_signal, mapped_place}
-use Rattle.pdl_entries.proofs.Youngest.{mux_off}
+use Rattle.pdl_lock_entries.proofs.Youngest.{mux_off}
 
 pub chosen_none : (f : ℕ → Signal) (w : ℕ) (d : Signal) → chosen_signal f w d 0 ≡ f 0
 unfolding chosen_signal

@@ -6,10 +6,10 @@ use Rattle.pdl_net.specs.Circuit.{Circuit, State}
 use Rattle.pdl_net.specs.Signal.{Signal, reg_value, const_value, bin_value, mux_value, slice_value}
 use Rattle.pdl_net.specs.Meaning.{next_signal}
 use Rattle.pdl_lockapi.specs.Laws.{StepSignals, SameButValues, HidesValues}
-use Rattle.pdl_entries.specs.Slots.{valid_at, addr_at, has_at, value_at, content_signal}
-use Rattle.pdl_entries.specs.Steps.{slot_value, top_value}
-use Rattle.pdl_entries.proofs.Steps.{content_place}
-use Rattle.pdl_entries.proofs.Alike.{Alike, reg_same, slot_addr_same, next_valid_same, next_addr_same, next_bit_same, of_each}
+use Rattle.pdl_lock_entries.specs.Slots.{valid_at, addr_at, has_at, value_at, content_signal}
+use Rattle.pdl_lock_entries.specs.Steps.{slot_value, top_value}
+use Rattle.pdl_lock_entries.proofs.Steps.{content_place}
+use Rattle.pdl_lock_entries.proofs.Alike.{Alike, reg_same, slot_addr_same, next_valid_same, next_addr_same, next_bit_same, of_each}
 use Rattle.pdl_rename.specs.declared.layout.Layout.{Layout}
 use Rattle.pdl_rename.specs.Places.{IsRenaming, map_at, map_signal}
 use Rattle.pdl_rename.specs.Nets.{selected_signal, oldest_addr, freed_place, NextRename, own_rename}

@@ -12,16 +12,16 @@ use Rattle.pdl_lockapi.specs.declared.Kind.{Kind}
 use Rattle.pdl_lockapi.specs.declared.Kind.TheVariants.{R, W}
 use Rattle.pdl_lockapi.specs.Lock.{LockState, LockAct, act_at, entry_at, or_zero, filled_entries, committed_words, step, look_ready, Proper, Covered}
 use Rattle.pdl_lockapi.specs.Laws.{StepSignals, Drives, IsNext, LookLaw, StepLaw, after_writes, ticket_at, reserve_at}
-use Rattle.pdl_entries.specs.Slots.{HasEntries, content_signal, value_at, reg_of}
-use Rattle.pdl_entries.specs.Looks.{hit_at, less_base, youngest_look, youngest_ready, youngest_value}
-use Rattle.pdl_entries.specs.Steps.{enabled_slot, filled_value, slot_value, top_value}
-use Rattle.pdl_entries.proofs.Law.{if_one, if_other, test_bit}
-use Rattle.pdl_entries.proofs.Reading.{less_value}
-use Rattle.pdl_entries.proofs.Youngest.{youngest_is_ready, youngest_is_value, same_signal}
-use Rattle.pdl_entries.proofs.Filled.{TicketsFit, Cycle}
-use Rattle.pdl_entries.proofs.Steps.{content_place}
-use Rattle.pdl_entries.proofs.Final as final
-use Rattle.pdl_entries.proofs.Final.{after_fill, entries_next, top_value_at, top_value_end, commits_addr, commits_value, same_choice}
+use Rattle.pdl_lock_entries.specs.Slots.{HasEntries, content_signal, value_at, reg_of}
+use Rattle.pdl_lock_entries.specs.Looks.{hit_at, less_base, youngest_look, youngest_ready, youngest_value}
+use Rattle.pdl_lock_entries.specs.Steps.{enabled_slot, filled_value, slot_value, top_value}
+use Rattle.pdl_lock_entries.proofs.Law.{if_one, if_other, test_bit}
+use Rattle.pdl_lock_entries.proofs.Reading.{less_value}
+use Rattle.pdl_lock_entries.proofs.Youngest.{youngest_is_ready, youngest_is_value, same_signal}
+use Rattle.pdl_lock_entries.proofs.Filled.{TicketsFit, Cycle}
+use Rattle.pdl_lock_entries.proofs.Steps.{content_place}
+use Rattle.pdl_lock_entries.proofs.Final as final
+use Rattle.pdl_lock_entries.proofs.Final.{after_fill, entries_next, top_value_at, top_value_end, commits_addr, commits_value, same_choice}
 use Rattle.pdl_rename.specs.declared.layout.Layout.{Layout}
 use Rattle.pdl_rename.specs.Places.{IsRenaming, Stands, AreApart, AreBelow, map_at, map_signal, store_of, word_place, slot_place, placed_signal}
 use Rattle.pdl_rename.specs.Nets.{mapped_place, place_of, found_word, place_writes, one_put, oldest_addr, oldest_value, freed_place, NextRename, own_rename}

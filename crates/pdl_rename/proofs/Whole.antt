@@ -8,15 +8,15 @@ use Rattle.pdl_net.proofs.Keeps.{keeps_trans, extends_keeps, but_keeps}
 use Rattle.pdl_lockapi.specs.declared.LockPorts.{LockPorts}
 use Rattle.pdl_lockapi.specs.Laws.{StepSignals, step_signals, PortsThere}
 use Rattle.pdl_lockapi.proofs.Kept.{same_signals}
-use Rattle.pdl_entries.specs.Slots.{HasSlots}
-use Rattle.pdl_entries.specs.Kept.{slots_keep}
-use Rattle.pdl_entries.specs.Steps.{base_after, NextSlots, own_slots, own_base}
-use Rattle.pdl_entries.proofs.Tops.{next_kept, next_kept_but}
+use Rattle.pdl_lock_entries.specs.Slots.{HasSlots}
+use Rattle.pdl_lock_entries.specs.Kept.{slots_keep}
+use Rattle.pdl_lock_entries.specs.Steps.{base_after, NextSlots, own_slots, own_base}
+use Rattle.pdl_lock_entries.proofs.Tops.{next_kept, next_kept_but}
 use Rattle.pdl_rename.specs.declared.layout.Layout.{Layout}
 use Rattle.pdl_rename.specs.Places.{IsRenaming, HasMap, HasStore, map_at}
 use Rattle.pdl_rename.specs.Kept.{map_keep}
 use Rattle.pdl_rename.specs.Nets.{freed_place, next_map, one_put, place_writes, NextMap, NextRename, own_word, own_map, own_store, own_rename}
-use Rattle.pdl_entries.proofs.Made.{upto}
+use Rattle.pdl_lock_entries.proofs.Made.{upto}
 
 -- the loop over the map
 

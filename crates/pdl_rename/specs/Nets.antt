@@ -6,9 +6,9 @@ use Rattle.pdl_net.specs.Signal.{Signal, const_signal, bin_signal, mux_signal, s
 use Rattle.pdl_net.specs.Meaning.{next_signal, WriteSignal, write_signals}
 use Rattle.pdl_net.specs.Growth.{Own}
 use Rattle.pdl_lockapi.specs.Laws.{StepSignals, ticket_at}
-use Rattle.pdl_entries.specs.Slots.{content_signal}
-use Rattle.pdl_entries.specs.Looks.{less_base, youngest_value}
-use Rattle.pdl_entries.specs.Steps.{enabled_slot, base_after, slot_addr, filled_value, NextSlots}
+use Rattle.pdl_lock_entries.specs.Slots.{content_signal}
+use Rattle.pdl_lock_entries.specs.Looks.{less_base, youngest_value}
+use Rattle.pdl_lock_entries.specs.Steps.{enabled_slot, base_after, slot_addr, filled_value, NextSlots}
 use Rattle.pdl_rename.specs.declared.layout.Layout.{Layout}
 use Rattle.pdl_rename.specs.Places.{map_at, map_signal, placed_signal}
 

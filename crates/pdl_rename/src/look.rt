@@ -2,14 +2,14 @@
 ghost use Rattle.std.specs.Prelude.{◌≡◌, ℕ, ◌+◌, ◌*◌, ◌^◌, ◌<◌, ◌≤◌, IfOk};
 ghost use Rattle.pdl_net.specs.Meaning.{IsThere, Means, signal};
 ghost use Rattle.pdl_net.specs.Growth.{Extends};
-ghost use Rattle.pdl_entries.specs.Slots.{HasSlots};
-ghost use Rattle.pdl_entries.specs.Looks.{less_base, youngest_look, youngest_ready};
+ghost use Rattle.pdl_lock_entries.specs.Slots.{HasSlots};
+ghost use Rattle.pdl_lock_entries.specs.Looks.{less_base, youngest_look, youngest_ready};
 ghost use Rattle.pdl_rename.specs.Places.{IsRenaming, HasMap, HasStore, map_at, map_signal};
 ghost use Rattle.pdl_rename.specs.Nets.{selected_signal, mapped_place, found_word};
 
 use crate::layout::Layout;
 use pdl_build::Builder;
-use pdl_entries::look::{by_kind, emit_less, emit_youngest};
+use pdl_lock_entries::look::{by_kind, emit_less, emit_youngest};
 use pdl_kit::NoMemory;
 use pdl_lockapi::Kind;
 use pdl_net::Net;
@@ -75,7 +75,7 @@ pub fn emit_mapped(b: &mut Builder, l: Layout, addr: Net) -> Result<Net, NoMemor
 }
 
 /// The nets of a look: whether it is ready, and its value.
-#[tactic(auto, using(pdl_entries::proofs::Kept::slots_kept, pdl_entries::proofs::Looks::picked_means, crate::proofs::Made::map_kept, crate::proofs::Made::store_kept, crate::proofs::Chosen::widths))]
+#[tactic(auto, using(pdl_lock_entries::proofs::Kept::slots_kept, pdl_lock_entries::proofs::Looks::picked_means, crate::proofs::Made::map_kept, crate::proofs::Made::store_kept, crate::proofs::Chosen::widths))]
 pub fn emit_look(
     b: &mut Builder,
     l: Layout,

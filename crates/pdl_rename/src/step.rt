@@ -4,17 +4,17 @@ ghost use Rattle.pdl_net.specs.Signal.{const_signal, mux_signal};
 ghost use Rattle.pdl_net.specs.Meaning.{IsThere, Means, signal, next_signal, write_signals};
 ghost use Rattle.pdl_net.specs.Growth.{Extends, ExtendsBut};
 ghost use Rattle.pdl_lockapi.specs.Laws.{PortsThere, PortsFit, step_signals, ticket_at};
-ghost use Rattle.pdl_entries.specs.Slots.{HasSlots};
-ghost use Rattle.pdl_entries.specs.Steps.{push_addr, left_signal};
+ghost use Rattle.pdl_lock_entries.specs.Slots.{HasSlots};
+ghost use Rattle.pdl_lock_entries.specs.Steps.{push_addr, left_signal};
 ghost use Rattle.pdl_rename.specs.Places.{IsRenaming, HasMap, HasStore, map_at};
 ghost use Rattle.pdl_rename.specs.Nets.{place_of, place_writes, one_put, oldest_addr, oldest_value, freed_place, next_map, NextMap, NextRename, own_word, own_map, own_store, own_rename};
 
 use crate::layout::Layout;
 use crate::look::emit_mapped;
 use pdl_build::Builder;
-use pdl_entries::fill::{emit_gate, emit_push, emit_value, write_port};
-use pdl_entries::slot::{content, emit_addr, emit_slots};
-use pdl_entries::step::{emit_base, emit_left};
+use pdl_lock_entries::fill::{emit_gate, emit_push, emit_value, write_port};
+use pdl_lock_entries::slot::{content, emit_addr, emit_slots};
+use pdl_lock_entries::step::{emit_base, emit_left};
 use pdl_kit::NoMemory;
 use pdl_lockapi::{LockNets, LockPorts};
 use pdl_net::{BinOp, Net};
@@ -29,7 +29,7 @@ struct Front {
 }
 
 /// What the next values of slots and map are made of.
-#[tactic(auto, using(pdl_entries::proofs::Kept::slots_kept, crate::proofs::Made::map_kept, crate::proofs::Chosen::widths))]
+#[tactic(auto, using(pdl_lock_entries::proofs::Kept::slots_kept, crate::proofs::Made::map_kept, crate::proofs::Chosen::widths))]
 fn emit_front(b: &mut Builder, l: Layout, p: &LockPorts) -> Result<Front, NoMemory>
     requires renaming { IsRenaming l }
     requires slots { HasSlots b.old l.slots l.slots.size }
@@ -62,7 +62,7 @@ fn emit_front(b: &mut Builder, l: Layout, p: &LockPorts) -> Result<Front, NoMemo
 }
 
 /// What the map has next for an address.
-#[tactic(auto, using(pdl_entries::proofs::Steps::release_is, crate::proofs::Made::map_kept))]
+#[tactic(auto, using(pdl_lock_entries::proofs::Steps::release_is, crate::proofs::Made::map_kept))]
 fn emit_word(
     b: &mut Builder,
     l: Layout,
@@ -109,7 +109,7 @@ fn emit_map(b: &mut Builder, l: Layout, p: &LockPorts, oldest: Net) -> Result<()
 }
 
 /// The commit port.
-#[tactic(auto, using(pdl_entries::proofs::Steps::release_is, pdl_entries::proofs::Kept::slots_kept, pdl_lockapi::proofs::Kept::ports))]
+#[tactic(auto, using(pdl_lock_entries::proofs::Steps::release_is, pdl_lock_entries::proofs::Kept::slots_kept, pdl_lockapi::proofs::Kept::ports))]
 fn emit_commit(b: &mut Builder, l: Layout, p: &LockPorts, oldest: Net) -> Result<LockNets, NoMemory>
     requires renaming { IsRenaming l }
     requires slots { HasSlots b.old l.slots l.slots.size }
@@ -143,7 +143,7 @@ fn emit_commit(b: &mut Builder, l: Layout, p: &LockPorts, oldest: Net) -> Result
 }
 
 /// The place that the slot holds into which write port j writes.
-#[tactic(auto, using(crate::proofs::Chosen::placing, pdl_entries::proofs::Kept::slots_kept))]
+#[tactic(auto, using(crate::proofs::Chosen::placing, pdl_lock_entries::proofs::Kept::slots_kept))]
 fn emit_place(b: &mut Builder, l: Layout, p: &LockPorts, j: usize) -> Result<Net, NoMemory>
     requires renaming { IsRenaming l }
     requires slots { HasSlots b.old l.slots l.slots.size }
@@ -164,7 +164,7 @@ fn emit_place(b: &mut Builder, l: Layout, p: &LockPorts, j: usize) -> Result<Net
 }
 
 /// Write port j as a port of the array.
-#[tactic(auto, using(pdl_entries::proofs::Steps::ticket_is, crate::proofs::Chosen::widths, crate::proofs::Made::store_kept))]
+#[tactic(auto, using(pdl_lock_entries::proofs::Steps::ticket_is, crate::proofs::Chosen::widths, crate::proofs::Made::store_kept))]
 fn emit_put(b: &mut Builder, l: Layout, p: &LockPorts, j: usize) -> Result<(), NoMemory>
     requires renaming { IsRenaming l }
     requires slots { HasSlots b.old l.slots l.slots.size }
@@ -201,7 +201,7 @@ fn emit_writes(b: &mut Builder, l: Layout, p: &LockPorts) -> Result<(), NoMemory
 }
 
 /// The whole step.
-#[tactic(auto, using(pdl_entries::proofs::Kept::slots_kept, pdl_entries::proofs::Kept::slots_kept_but, crate::proofs::Made::map_kept, crate::proofs::Made::map_kept_but, crate::proofs::Made::store_kept, crate::proofs::Made::store_kept_but))]
+#[tactic(auto, using(pdl_lock_entries::proofs::Kept::slots_kept, pdl_lock_entries::proofs::Kept::slots_kept_but, crate::proofs::Made::map_kept, crate::proofs::Made::map_kept_but, crate::proofs::Made::store_kept, crate::proofs::Made::store_kept_but))]
 pub fn emit_step(b: &mut Builder, l: Layout, p: &LockPorts) -> Result<LockNets, NoMemory>
     requires renaming { IsRenaming l }
     requires slots { HasSlots b.old l.slots l.slots.size }

@@ -4,12 +4,12 @@ use Rattle.std.proofs.lemmas.List.{length-map}
 use Rattle.pdl_semantics.specs.Flat.{Op, Bind, CombRead, DelayedRead, Write, ReserveRead, ReserveWrite, Block, Release, Call, SpecCall, Verify, SpecCheck, SpecBarrier, Stmt, Arrays, Commit, of_mem, all_hold, start_env}
 use Rattle.pdl_semantics.specs.Stages.{onpath}
 use Rattle.pdl_semantics.specs.Sequential.{Run, run_after, run_all, thread}
-use Rattle.pdl_facts.specs.Scans.{Fresh}
-use Rattle.pdl_facts.specs.Facts.{looked_all}
-use Rattle.pdl_turns.proofs.Paths.{run_path}
-use Rattle.pdl_turns.proofs.Looks.{run_looked}
+use Rattle.pdl_theory_facts.specs.Scans.{Fresh}
+use Rattle.pdl_theory_facts.specs.Facts.{looked_all}
+use Rattle.pdl_theory_turns.proofs.Paths.{run_path}
+use Rattle.pdl_theory_turns.proofs.Looks.{run_looked}
 use Rattle.pdl_form.specs.Form.{Form}
-use Rattle.pdl_formtypes.specs.Stmts.{IsTypedOp, AreTypedStmts}
+use Rattle.pdl_form_types.specs.Stmts.{IsTypedOp, AreTypedStmts}
 use Rattle.pdl_seq.specs.declared.commit.Commit as r_commit
 use Rattle.pdl_seq.specs.Turns.{commits_view}
 use Rattle.pdl_seq.specs.Runs.{IsRunnable}

@@ -6,8 +6,8 @@ use Rattle.std.proofs.lemmas.Nat.{pow_pos}
 use Rattle.pdl_semantics.specs.Flat.{arrays_of, word_at}
 use Rattle.pdl_semantics.specs.Stages.{mem_at}
 use Rattle.pdl_form.specs.Form.{Form}
-use Rattle.pdl_formtypes.specs.Stmts.{AreBelow, param_widths}
-use Rattle.pdl_values.specs.Widths.{Fit}
+use Rattle.pdl_form_types.specs.Stmts.{AreBelow, param_widths}
+use Rattle.pdl_form_values.specs.Widths.{Fit}
 use Rattle.pdl_seq.specs.declared.commit.Commit as r_commit
 use Rattle.pdl_seq.specs.declared.turn.Turn as r_turn
 use Rattle.pdl_seq.specs.Turns.{commits_view}

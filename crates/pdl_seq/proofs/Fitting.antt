@@ -8,12 +8,12 @@ use Rattle.pdl_semantics.specs.Flat.{Expr, Op, Bind, CombRead, DelayedRead, Writ
 use Rattle.pdl_semantics.specs.Stages.{mem_at}
 use Rattle.pdl_semantics.specs.Sequential.{Run, run_after}
 use Rattle.pdl_form.specs.Form.{Form}
-use Rattle.pdl_formtypes.specs.Stmts.{param_widths, AreArguments, AreWidths, IsTypedOp}
-use Rattle.pdl_values.specs.Widths.{Fit}
-use Rattle.pdl_values.proofs.Fitting.{fits_in, values_count}
+use Rattle.pdl_form_types.specs.Stmts.{param_widths, AreArguments, AreWidths, IsTypedOp}
+use Rattle.pdl_form_values.specs.Widths.{Fit}
+use Rattle.pdl_form_values.proofs.Fitting.{fits_in, values_count}
 use Rattle.pdl_seq.specs.Turns.{list_at, shape}
 use Rattle.pdl_seq.specs.Fits.{IsWord, AreArgs, IsShaped, AreFitting}
-use Rattle.pdl_formtypes.proofs.Arguments.{args_count}
+use Rattle.pdl_form_types.proofs.Arguments.{args_count}
 
 -- VALUES
 

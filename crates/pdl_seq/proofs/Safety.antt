@@ -5,8 +5,8 @@ use Rattle.pdl_semantics.specs.Flat.{Op, Bind, CombRead, DelayedRead, Write, Res
 use Rattle.pdl_semantics.specs.Stages.{mem_at}
 use Rattle.pdl_semantics.specs.Sequential.{Run}
 use Rattle.pdl_form.specs.Form.{Form}
-use Rattle.pdl_formtypes.specs.Stmts.{param_widths, IsTypedMem, AreTypedMems, IsTypedOp, IsTypedForm}
-use Rattle.pdl_values.proofs.Fitting.{safe, all_safe}
+use Rattle.pdl_form_types.specs.Stmts.{param_widths, IsTypedMem, AreTypedMems, IsTypedOp, IsTypedForm}
+use Rattle.pdl_form_values.proofs.Fitting.{safe, all_safe}
 use Rattle.pdl_seq.specs.Turns.{IsSafeOp, list_at}
 use Rattle.pdl_seq.specs.Fits.{IsShaped, AreFitting}
 use Rattle.pdl_seq.proofs.Fitting.{few_args, there_in}

@@ -6,7 +6,7 @@ use Rattle.pdl_semantics.specs.Sequential.{Run, run_after, run_all}
 use Rattle.pdl_form.specs.declared.form.Stmt as r_stmt
 use Rattle.pdl_form.specs.View.{stmt_view, stmts_view}
 use Rattle.pdl_form.specs.Form.{Form}
-use Rattle.pdl_formtypes.specs.Stmts.{IsTypedStmt, AreTypedStmts}
+use Rattle.pdl_form_types.specs.Stmts.{IsTypedStmt, AreTypedStmts}
 
 -- WRITES ONLY COME TO THE OTHERS
 

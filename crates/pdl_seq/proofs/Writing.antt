@@ -2,9 +2,9 @@
 use Rattle.std.proofs.Common.{◌≡◌, refl, sym, ap, ◌∙◌, subst, ℕ, ◌+◌, ◌≤◌, Bool, true, false, ◌||◌, not, cond, if◌then◌else◌, ◌==◌, List, [], ◌∷◌, ◌++◌, length, length-append, arith}
 use Rattle.pdl_semantics.specs.Flat.{Op, Bind, CombRead, DelayedRead, Write, ReserveRead, ReserveWrite, Block, Release, Call, SpecCall, Verify, SpecCheck, SpecBarrier, Stmt, Commit, of_mem, all_hold}
 use Rattle.pdl_semantics.specs.Sequential.{Run, run_after, run_all}
-use Rattle.pdl_derived.proofs.Writes.{and_left, and_right, of_mem_append}
-use Rattle.pdl_facts.specs.Scans.{Phase, Fresh, Held, Written, Done, after_release, next_phase, holds_location, is_fresh, phase_ok, phases_ok}
-use Rattle.pdl_turns.proofs.Alike.{taken_none}
+use Rattle.pdl_theory_derived.proofs.Writes.{and_left, and_right, of_mem_append}
+use Rattle.pdl_theory_facts.specs.Scans.{Phase, Fresh, Held, Written, Done, after_release, next_phase, holds_location, is_fresh, phase_ok, phases_ok}
+use Rattle.pdl_theory_turns.proofs.Alike.{taken_none}
 
 -- how many writes of the memory may follow
 abbrev pub left : Phase → ℕ

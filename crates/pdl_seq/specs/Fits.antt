@@ -6,7 +6,7 @@ use Rattle.pdl_semantics.specs.Flat.{Pipe, Commit, word_at}
 use Rattle.pdl_semantics.specs.Stages.{mem_at}
 use Rattle.pdl_semantics.specs.Sequential.{Run}
 use Rattle.pdl_form.specs.Form.{Form}
-use Rattle.pdl_values.specs.Widths.{Fit}
+use Rattle.pdl_form_values.specs.Widths.{Fit}
 use Rattle.pdl_seq.specs.declared.commit.Write as r_write
 use Rattle.pdl_seq.specs.declared.turn.Turn as r_turn
 use Rattle.pdl_seq.specs.Turns.{list_at, run_view}

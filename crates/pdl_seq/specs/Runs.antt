@@ -3,11 +3,11 @@ use Rattle.std.specs.Prelude.{◌≡◌, ℕ, suc, ◌-◌, ◌≤◌, Bool, tru
 use Rattle.pdl_semantics.specs.Flat.{Arrays, Commit, Pipe, arrays_of}
 use Rattle.pdl_semantics.specs.Sequential.{threads, after_turns}
 use Rattle.pdl_semantics.specs.Lines.{Column, column_at, put_line}
-use Rattle.pdl_facts.specs.Facts.{Sound}
+use Rattle.pdl_theory_facts.specs.Facts.{Sound}
 use Rattle.pdl_form.specs.Form.{Form}
 use Rattle.pdl_form.specs.declared.flat.FlatPipe as r_pipe
 use Rattle.pdl_form.specs.Whole.{form}
-use Rattle.pdl_formtypes.specs.Stmts.{IsTypedForm}
+use Rattle.pdl_form_types.specs.Stmts.{IsTypedForm}
 use Rattle.pdl_seq.specs.declared.commit.Write as r_write
 
 -- a pipe that can be run thread by thread: its flat form is typed and has the facts of an accepted pipe, and it has at most 16 memories

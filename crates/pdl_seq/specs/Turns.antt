@@ -2,7 +2,7 @@
 use Rattle.std.specs.Prelude.{ℕ, ◌^◌, ◌<◌, ◌≤◌, List, [], map, length, slice_index, slice_index_or, vec_capacity, ⊤}
 use Rattle.pdl_semantics.specs.Flat.{Op, Bind, CombRead, DelayedRead, Write, ReserveRead, ReserveWrite, Block, Release, Call, SpecCall, Verify, SpecCheck, SpecBarrier, Commit, Pipe, arrays_of, start_env}
 use Rattle.pdl_semantics.specs.Sequential.{Run}
-use Rattle.pdl_values.specs.Safe.{IsSafe, AreSafe}
+use Rattle.pdl_form_values.specs.Safe.{IsSafe, AreSafe}
 use Rattle.pdl_seq.specs.declared.commit.Commit as r_commit
 use Rattle.pdl_seq.specs.declared.turn.Turn as r_turn
 

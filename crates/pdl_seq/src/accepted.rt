@@ -8,7 +8,7 @@ ghost use Rattle.pdl_semantics.specs.Sequential.{threads};
 ghost use Rattle.pdl_semantics.specs.Lines as text;
 ghost use Rattle.pdl_rules.specs.Refusal.{KeepsRules};
 ghost use Rattle.pdl_form.specs.Form.{form_of};
-ghost use Rattle.pdl_pathfacts.specs.Source.{is_source, is_named};
+ghost use Rattle.pdl_source_paths.specs.Source.{is_source, is_named};
 ghost use Rattle.pdl_seq.specs.Runs.{IsRunnable, numbered_writes, write_line};
 
 /// Every pipe that keeps the rules can be run, where no two `if`s on expressions begin at one byte and no variable has the empty name: so it is in every tree that is read from a source.
@@ -16,8 +16,8 @@ pub fn runnable()
     ensures { (p : Pipe) → KeepsRules p → IsTrue (is_source p) → IsTrue (is_named p) →
         IsRunnable (form_of p) }
 {
-    pdl_formtypes::typed_form();
-    pdl_pathfacts::sound();
+    pdl_form_types::typed_form();
+    pdl_source_paths::sound();
 }
 
 /// The lines of the writes of k threads, and the line that ends them, are the text of the sequential run.

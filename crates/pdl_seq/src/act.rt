@@ -3,14 +3,14 @@ ghost use Rattle.std.specs.Prelude.{◌≡◌, ◌≤◌, ◌<◌, ◌+◌, ◌^
 ghost use Rattle.pdl_semantics.specs.Flat.{arrays_of, with_word, word_at, value_of as spec_value_of, values_of as spec_values_of};
 ghost use Rattle.pdl_semantics.specs.Sequential.{run_after};
 ghost use Rattle.pdl_form.specs.View.{expr_view, exprs_view, act_view};
-ghost use Rattle.pdl_values.specs.Safe.{IsSafe, AreSafe};
+ghost use Rattle.pdl_form_values.specs.Safe.{IsSafe, AreSafe};
 ghost use Rattle.pdl_seq.specs.Turns.{run_view, rooms, list_at, shape, IsSafeOp};
 
 use crate::commit::Commit;
 use crate::turn::Turn;
 use crate::words::Words;
 use pdl_form::{Expr, Op};
-use pdl_values::{value_of, values_of, variable};
+use pdl_form_values::{value_of, values_of, variable};
 
 // A variable is bound to the value of an expression.
 fn bind(x: usize, e: &Expr, values: &mut [u64])

@@ -7,7 +7,7 @@ ghost use Rattle.pdl_seq.specs.Runs.{IsRunnable, numbered_write};
 
 use crate::commit::{Commit, Write};
 use crate::turn::Turn;
-use pdl_values::fill;
+use pdl_form_values::fill;
 
 /// The next thread begins: it has its arguments, and has done nothing yet.
 pub fn begin(turn: &mut Turn)

@@ -12,7 +12,7 @@ use crate::act::act;
 use crate::commit::Commit;
 use crate::words::Words;
 use pdl_form::{FlatPipe, Stmt};
-use pdl_values::are_taken;
+use pdl_form_values::are_taken;
 
 /// A thread on its way: the words of the memories, its variables, the next thread's arguments, and its writes so far.
 #[derive(Drop)]

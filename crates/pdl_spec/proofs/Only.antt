@@ -4,8 +4,8 @@ use Rattle.pdl_rules.specs.Places.{Place}
 use Rattle.pdl_rules.specs.Parts.{is_some_and}
 use Rattle.pdl_rules.specs.Stages.{stages_that, stage_of}
 use Rattle.pdl_rules.specs.Speculation.{is_once_after}
-use Rattle.pdl_textstages.proofs.Nth.{split, taken}
-use Rattle.pdl_textstages.proofs.Found.{that_append, that_more}
+use Rattle.pdl_rules_stages.proofs.Nth.{split, taken}
+use Rattle.pdl_rules_stages.proofs.Found.{that_append, that_more}
 use Rattle.pdl_spec.specs.Verified.{only}
 
 abbrev pub as_list : Option ℕ → List ℕ

@@ -8,8 +8,8 @@ use Rattle.pdl_rules.specs.Places.{Guard, on_path, guards, places, paths}
 use Rattle.pdl_rules.specs.Stages.{stage_of}
 use Rattle.pdl_rules.specs.Speculation.{verify_stage, releases_unsure, needs_check, is_checked, breaks_s4, breaks_s5}
 use Rattle.pdl_rules.specs.Refusal.{broken_line}
-use Rattle.pdl_pathrules.specs.Lowest.{line_where, on_some}
-use Rattle.pdl_pathrules.proofs.Lines.{rule_lines, same_lines}
+use Rattle.pdl_rules_on_paths.specs.Lowest.{line_where, on_some}
+use Rattle.pdl_rules_on_paths.proofs.Lines.{rule_lines, same_lines}
 use Rattle.pdl_spec.specs.Sure.{is_before, breaks_sure}
 use Rattle.pdl_spec.specs.Checked.{breaks_checked}
 

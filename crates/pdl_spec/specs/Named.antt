@@ -2,7 +2,7 @@
 use Rattle.std.specs.Prelude.{ℕ, Option}
 use Rattle.pdl_kit.specs.declared.rule.Rule.TheVariants.{S1, S2, S4, S5}
 use Rattle.pdl_semantics.specs.Tree.{Pipe}
-use Rattle.pdl_pathwalk.specs.declared.both.Both.{Both}
+use Rattle.pdl_rules_walk.specs.declared.both.Both.{Both}
 use Rattle.pdl_locks.specs.Facts.{IsLine}
 use Rattle.pdl_spec.specs.declared.lines.SpecLines.{SpecLines}
 

@@ -7,8 +7,8 @@ use Rattle.pdl_rules.specs.Stages.{stage_of}
 use Rattle.pdl_rules.specs.Speculation.{is_barrier, releases_unsure}
 use Rattle.pdl_paths.specs.declared.place.Place as r_place
 use Rattle.pdl_paths.specs.Actions.{place_view}
-use Rattle.pdl_pathrules.specs.Earlier.{earlier_same}
-use Rattle.pdl_textstages.specs.Stages.{stages_in}
+use Rattle.pdl_rules_on_paths.specs.Earlier.{earlier_same}
+use Rattle.pdl_rules_stages.specs.Stages.{stages_in}
 use Rattle.pdl_locks.specs.declared.numbers.Keys.TheVariants.{Locations}
 use Rattle.pdl_locks.specs.declared.uses.LocationUse as location
 use Rattle.pdl_locks.specs.Numbers.{AreNumbered}

@@ -4,8 +4,8 @@ use Rattle.pdl_semantics.specs.Tree.{Pipe}
 use Rattle.pdl_rules.specs.Places.{Place, Guard, places}
 use Rattle.pdl_paths.specs.declared.place.Place as r_place
 use Rattle.pdl_paths.specs.Actions.{place_view}
-use Rattle.pdl_textstages.specs.Stages.{stages_in}
-use Rattle.pdl_textstages.specs.Along.{HavePaths}
+use Rattle.pdl_rules_stages.specs.Stages.{stages_in}
+use Rattle.pdl_rules_stages.specs.Along.{HavePaths}
 
 -- the only one of some numbers
 abbrev pub only : List ℕ → Option ℕ

@@ -1,6 +1,6 @@
 // All rules on calls and guesses.
 ghost use Rattle.std.specs.Prelude.{◌≡◌, ◌≤◌, None, map, length, IfOk, MatchResult};
-ghost use Rattle.pdl_tree.specs.View.{pipe_view};
+ghost use Rattle.pdl_syntax_tree.specs.View.{pipe_view};
 ghost use Rattle.pdl_rules.specs.Places.{places as spec_places, guards as spec_guards};
 ghost use Rattle.pdl_rules.specs.Refusal.{first_broken};
 ghost use Rattle.pdl_rules.specs.Speculation.{verify_stage};
@@ -16,9 +16,9 @@ use crate::plan::SpecPlan;
 use pdl_kit::{NoMemory, Refusal, Rule};
 use pdl_locks::{LockFacts, refuse};
 use pdl_paths::{Guards, Place};
-use pdl_pathwalk::broken_lines;
-use pdl_textstages::{Kinds, Sought, astray_line, first_stage};
-use pdl_tree::Pipe;
+use pdl_rules_walk::broken_lines;
+use pdl_rules_stages::{Kinds, Sought, astray_line, first_stage};
+use pdl_syntax_tree::Pipe;
 use std::alloc::Global;
 
 /// The stage that verifies the guesses of a pipe that keeps the rules on calls and guesses, S1 to S5; else the lowest that it breaks, at its lowest place.

@@ -4,14 +4,14 @@ ghost use Rattle.std.specs.List.{list_any};
 ghost use Rattle.pdl_rules.specs.Stages.{stages_that};
 ghost use Rattle.pdl_rules.specs.Speculation as spec;
 ghost use Rattle.pdl_paths.specs.Actions.{place_view};
-ghost use Rattle.pdl_textstages.specs.Stages.{stages_in};
+ghost use Rattle.pdl_rules_stages.specs.Stages.{stages_in};
 ghost use Rattle.pdl_spec.specs.Checked.{breaks_checked, is_check_on, unchecked};
 
 use crate::sure::is_before;
 use pdl_kit::NoMemory;
-use pdl_pathrules::PathRule;
+use pdl_rules_on_paths::PathRule;
 use pdl_paths::{Action, Path, Place};
-use pdl_textstages::stage_at;
+use pdl_rules_stages::stage_at;
 use std::alloc::Global;
 
 /// A reserve or a guess before the stage that verifies guesses stands after a `spec_check` or `spec_barrier` of its stage.

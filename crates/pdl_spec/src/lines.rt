@@ -1,6 +1,6 @@
 // The rules on calls and guesses that are asked on paths, and the lines at which they are broken.
 ghost use Rattle.std.specs.Prelude.{◌≡◌, ◌≤◌, map, length};
-ghost use Rattle.pdl_tree.specs.View.{pipe_view};
+ghost use Rattle.pdl_syntax_tree.specs.View.{pipe_view};
 ghost use Rattle.pdl_rules.specs.Places.{places as spec_places, guards as spec_guards};
 ghost use Rattle.pdl_rules.specs.Speculation.{verify_stage};
 ghost use Rattle.pdl_paths.specs.Actions.{place_view};
@@ -12,11 +12,11 @@ use crate::checked::CheckedFirst;
 use crate::sure::ReleasedSure;
 use crate::verified::VerifiedOnce;
 use pdl_locks::LockFacts;
-use pdl_pathrules::OneCall;
+use pdl_rules_on_paths::OneCall;
 use pdl_paths::{Guards, Place};
-use pdl_pathwalk::{Alone, Both, PathRules};
-use pdl_textstages::all_true;
-use pdl_tree::Pipe;
+use pdl_rules_walk::{Alone, Both, PathRules};
+use pdl_rules_stages::all_true;
+use pdl_syntax_tree::Pipe;
 
 /// The rules on calls and guesses that are asked on paths: S1 and S2, S4 and S5.
 pub type SpecRules<'a, 'p> = Both<

@@ -10,10 +10,10 @@ ghost use Rattle.pdl_spec.specs.Sure.{AreOfPlaces, IsSure, breaks_sure, is_befor
 
 use pdl_kit::NoMemory;
 use pdl_locks::{LocationUse, number_of, pass, use_at};
-use pdl_pathrules::PathRule;
+use pdl_rules_on_paths::PathRule;
 use pdl_paths::{Action, Path, Place};
-use pdl_textstages::stage_at;
-use pdl_tree::Kind;
+use pdl_rules_stages::stage_at;
+use pdl_syntax_tree::Kind;
 use std::alloc::Global;
 
 /// A reservation to write is released in the stage that verifies guesses or later, or after a `spec_barrier`.

@@ -1,21 +1,21 @@
 // Guesses that are verified once, in a later stage: rule S2.
 ghost use Rattle.std.specs.Prelude.{◌≡◌, ◌≤◌, ◌&&◌, [], List, true, map, length, nat_lt, IfOk};
-ghost use Rattle.pdl_tree.specs.View.{pipe_view};
+ghost use Rattle.pdl_syntax_tree.specs.View.{pipe_view};
 ghost use Rattle.pdl_rules.specs.Places.{Guard as SpecGuard, on_path};
 ghost use Rattle.pdl_rules.specs.Parts.{is_some_and};
 ghost use Rattle.pdl_rules.specs.Stages.{stages_that};
 ghost use Rattle.pdl_rules.specs.Speculation as spec;
 ghost use Rattle.pdl_paths.specs.Actions.{place_view};
 ghost use Rattle.pdl_paths.specs.Masks.{IsMasked, are_distinct};
-ghost use Rattle.pdl_textstages.specs.Along.{HavePaths, IsPath};
-ghost use Rattle.pdl_textstages.specs.Stages.{stages_in};
+ghost use Rattle.pdl_rules_stages.specs.Along.{HavePaths, IsPath};
+ghost use Rattle.pdl_rules_stages.specs.Stages.{stages_in};
 ghost use Rattle.pdl_spec.specs.Verified.{AreOfPipe, only};
 
 use pdl_kit::{Name, NoMemory};
-use pdl_pathrules::PathRule;
+use pdl_rules_on_paths::PathRule;
 use pdl_paths::{Action, Guards, Path, Place};
-use pdl_textstages::{among, stage_at};
-use pdl_tree::Pipe;
+use pdl_rules_stages::{among, stage_at};
+use pdl_syntax_tree::Pipe;
 use std::alloc::Global;
 
 /// Each guess that a path makes is verified once on the path, in a later stage.

@@ -4,13 +4,13 @@ use Rattle.std.proofs.lemmas.Bool.Decides.{nat_tests}
 use Rattle.pdl_kit.specs.declared.rule.Rule.{Rule}
 use Rattle.pdl_kit.specs.declared.rule.Rule.TheVariants.{Z1}
 use Rattle.pdl_semantics.specs.Tree.{Pipe}
-use Rattle.pdl_tree.specs.declared.tree.Pipe as r_pipe
-use Rattle.pdl_tree.specs.View.{pipe_view}
-use Rattle.pdl_grammar.specs.declared.error.ReadError.{ReadError}
-use Rattle.pdl_grammar.specs.declared.error.ReadError.TheVariants as read
-use Rattle.pdl_grammar.specs.Text as grammar
-use Rattle.pdl_grammar.specs.Text.{IsText, IsOutOfPlace}
-use Rattle.pdl_grammar.proofs.Places.{one_tree, apart, one_place}
+use Rattle.pdl_syntax_tree.specs.declared.tree.Pipe as r_pipe
+use Rattle.pdl_syntax_tree.specs.View.{pipe_view}
+use Rattle.pdl_syntax_grammar.specs.declared.error.ReadError.{ReadError}
+use Rattle.pdl_syntax_grammar.specs.declared.error.ReadError.TheVariants as read
+use Rattle.pdl_syntax_grammar.specs.Text as grammar
+use Rattle.pdl_syntax_grammar.specs.Text.{IsText, IsOutOfPlace}
+use Rattle.pdl_syntax_grammar.proofs.Places.{one_tree, apart, one_place}
 use Rattle.pdl_syntax.specs.declared.error.ParseError.{ParseError}
 use Rattle.pdl_syntax.specs.declared.error.ParseError.TheVariants as error
 use Rattle.pdl_syntax.specs.Text.{refusal, broken_limit, Answer, Tree, Misplaced, Over, parse_answer, Gives, IsRefusal, IsRefused, IsParsed}

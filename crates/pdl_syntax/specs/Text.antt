@@ -3,11 +3,11 @@ use Rattle.std.specs.Prelude.{◌≡◌, ℕ, nat_le, cond, List, length, Option
 use Rattle.pdl_kit.specs.declared.rule.Rule.{Rule}
 use Rattle.pdl_kit.specs.declared.rule.Rule.TheVariants.{Z1}
 use Rattle.pdl_semantics.specs.Tree.{Pipe}
-use Rattle.pdl_tree.specs.declared.tree.Pipe as r
-use Rattle.pdl_tree.specs.View.{pipe_view}
-use Rattle.pdl_grammar.specs.declared.error.ReadError.{ReadError}
-use Rattle.pdl_grammar.specs.declared.error.ReadError.TheVariants as read
-use Rattle.pdl_grammar.specs.Text.{IsText, IsOutOfPlace}
+use Rattle.pdl_syntax_tree.specs.declared.tree.Pipe as r
+use Rattle.pdl_syntax_tree.specs.View.{pipe_view}
+use Rattle.pdl_syntax_grammar.specs.declared.error.ReadError.{ReadError}
+use Rattle.pdl_syntax_grammar.specs.declared.error.ReadError.TheVariants as read
+use Rattle.pdl_syntax_grammar.specs.Text.{IsText, IsOutOfPlace}
 use Rattle.pdl_syntax.specs.declared.error.ParseError.{ParseError}
 use Rattle.pdl_syntax.specs.declared.error.ParseError.TheVariants as error
 

@@ -3,7 +3,7 @@ ghost use Rattle.std.specs.Prelude.{◌≡◌};
 ghost use Rattle.pdl_syntax.specs.declared.error.ParseError.TheVariants.{NoMemory as no_memory};
 ghost use Rattle.pdl_syntax.specs.Text.{refusal};
 
-use pdl_grammar::ReadError;
+use pdl_syntax_grammar::ReadError;
 use pdl_kit::{NoMemory, Rule};
 use std::alloc::AllocError;
 

@@ -1,16 +1,16 @@
 // The parser.
 ghost use Rattle.std.specs.Prelude.{◌≡◌, ◌≤◌, ◌<◌, ℕ, None, Err, IfOk, length};
 ghost use Rattle.pdl_semantics.specs.Tree as tree;
-ghost use Rattle.pdl_grammar.specs.Text.{IsText, IsOutOfPlace};
+ghost use Rattle.pdl_syntax_grammar.specs.Text.{IsText, IsOutOfPlace};
 ghost use Rattle.pdl_syntax.specs.Text.{broken_limit, parse_answer, Misplaced, Gives};
 ghost use Rattle.pdl_syntax.specs.Text.{IsRefusal, IsRefused, IsParsed};
-ghost use Rattle.pdl_tree.specs.View.{pipe_view};
+ghost use Rattle.pdl_syntax_tree.specs.View.{pipe_view};
 
 use crate::error::ParseError;
-use pdl_grammar::read::read;
+use pdl_syntax_grammar::read::read;
 use pdl_kit::Rule;
-use pdl_recogniser::misplaced::misplaced_line;
-use pdl_tree::Pipe;
+use pdl_syntax_recogniser::misplaced::misplaced_line;
+use pdl_syntax_tree::Pipe;
 use std::alloc::Global;
 
 /// The greatest length of a source text, in bytes.

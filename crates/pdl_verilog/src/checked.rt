@@ -7,7 +7,7 @@ ghost use Rattle.pdl_vread.specs.Reads.{Reads};
 
 use pdl_kit::{LONGEST_FILE, NoMemory};
 use pdl_net::Netlist;
-use pdl_netsame::is_same_netlist;
+use pdl_net_same::is_same_netlist;
 use pdl_vlog::write_verilog;
 use pdl_vread::read_verilog;
 use std::alloc::Global;
@@ -27,7 +27,7 @@ fn is_text_of(alloc: Global, text: &[u8], net: &Netlist) -> bool
 
 /// The text of a netlist in the Verilog subset, which reads as this netlist.
 ///
-/// What was written is read back and compared: a text that reads as anything else, or that is longer than 268,435,456 bytes, isn't given, and the answer is that of want of memory. The text of the netlist of a source reads as it, where its registers and cells are fewer than 2^64 each (`pdl_written`), so of such a netlist only a text of that length or want of memory is left. It takes time and memory linear in the text.
+/// What was written is read back and compared: a text that reads as anything else, or that is longer than 268,435,456 bytes, isn't given, and the answer is that of want of memory. The text of the netlist of a source reads as it, where its registers and cells are fewer than 2^64 each (`pdl_verilog_written`), so of such a netlist only a text of that length or want of memory is left. It takes time and memory linear in the text.
 pub fn verilog_text(alloc: Global, net: &Netlist) -> Result<Vec<u8>, NoMemory>
     requires { IsWell (circuit_of net.now) }
     ensures text { IfOk result (λ t. t.items ≡ verilog net.now) }

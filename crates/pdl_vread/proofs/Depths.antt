@@ -4,14 +4,14 @@ use Rattle.std.specs.Int.{is_power_of_two}
 use Rattle.std.proofs.lemmas.Bool.{and_parts, leb-true}
 use Rattle.pdl_kit.specs.declared.mem_info.MemInfo.{MemInfo}
 use Rattle.pdl_net.specs.Pipe.{IsPipe}
-use Rattle.pdl_vtext.specs.declared.file.File.{File}
-use Rattle.pdl_vtext.specs.declared.file.ArrayDecl.{ArrayDecl}
-use Rattle.pdl_vnets.specs.declared.wiring.ArrayWrite.{ArrayWrite}
-use Rattle.pdl_vnets.specs.declared.wiring.Wiring.{Wiring}
-use Rattle.pdl_vrules.specs.Asked.{Asked, first_wrong, both}
-use Rattle.pdl_vrules.specs.Widths.{asked_port, asked_reg, asked_array, asked_cell, asked_output, asked_block, asked_writes, declared_questions, driven_questions, widths_of, width_line, bits, is_width, is_depth}
-use Rattle.pdl_vpipe.specs.Told.{with_mems}
-use Rattle.pdl_vpipe.proofs.Pipes.{length_mems}
+use Rattle.pdl_vread_text.specs.declared.file.File.{File}
+use Rattle.pdl_vread_text.specs.declared.file.ArrayDecl.{ArrayDecl}
+use Rattle.pdl_vread_nets.specs.declared.wiring.ArrayWrite.{ArrayWrite}
+use Rattle.pdl_vread_nets.specs.declared.wiring.Wiring.{Wiring}
+use Rattle.pdl_vread_rules.specs.Asked.{Asked, first_wrong, both}
+use Rattle.pdl_vread_rules.specs.Widths.{asked_port, asked_reg, asked_array, asked_cell, asked_output, asked_block, asked_writes, declared_questions, driven_questions, widths_of, width_line, bits, is_width, is_depth}
+use Rattle.pdl_vread_pipe.specs.Told.{with_mems}
+use Rattle.pdl_vread_pipe.proofs.Pipes.{length_mems}
 use Rattle.pdl_vread.specs.Built.{built, arrays}
 
 pub right_both : (b : Bool) (o : Option ℕ) (n : ℕ) → cond b o (Some n) ≡ None → (b ≡ true) × (o ≡ None)

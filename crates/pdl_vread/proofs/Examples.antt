@@ -7,19 +7,19 @@ use Rattle.pdl_net.specs.declared.Cell.TheVariants as c
 use Rattle.pdl_net.specs.declared.BinOp.TheVariants.{Add}
 use Rattle.pdl_net.specs.declared.Dir.TheVariants.{Out}
 use Rattle.pdl_net.specs.declared.Netlist.{Netlist}
-use Rattle.pdl_vtext.specs.declared.file.File.{File}
-use Rattle.pdl_vtext.specs.declared.file.PortDecl.{PortDecl}
-use Rattle.pdl_vtext.specs.declared.file.OutputDecl.{OutputDecl}
-use Rattle.pdl_vtext.specs.declared.file.CellDecl.{CellDecl}
-use Rattle.pdl_vtext.specs.declared.file.Term.{Term}
-use Rattle.pdl_vtext.specs.declared.file.Term.TheVariants as t
-use Rattle.pdl_vnets.specs.declared.wiring.Wiring.{Wiring}
-use Rattle.pdl_vnets.specs.Wired.{wiring, net_of}
-use Rattle.pdl_vrules.specs.Widths.{width_line}
-use Rattle.pdl_vrules.specs.Once.{once_line}
-use Rattle.pdl_vpipe.specs.Told.{with_mems}
-use Rattle.pdl_vpipe.specs.Tests.{judged}
-use Rattle.pdl_vpipe.proofs.Pipes.{is_pipe_of}
+use Rattle.pdl_vread_text.specs.declared.file.File.{File}
+use Rattle.pdl_vread_text.specs.declared.file.PortDecl.{PortDecl}
+use Rattle.pdl_vread_text.specs.declared.file.OutputDecl.{OutputDecl}
+use Rattle.pdl_vread_text.specs.declared.file.CellDecl.{CellDecl}
+use Rattle.pdl_vread_text.specs.declared.file.Term.{Term}
+use Rattle.pdl_vread_text.specs.declared.file.Term.TheVariants as t
+use Rattle.pdl_vread_nets.specs.declared.wiring.Wiring.{Wiring}
+use Rattle.pdl_vread_nets.specs.Wired.{wiring, net_of}
+use Rattle.pdl_vread_rules.specs.Widths.{width_line}
+use Rattle.pdl_vread_rules.specs.Once.{once_line}
+use Rattle.pdl_vread_pipe.specs.Told.{with_mems}
+use Rattle.pdl_vread_pipe.specs.Tests.{judged}
+use Rattle.pdl_vread_pipe.proofs.Pipes.{is_pipe_of}
 use Rattle.pdl_vread.specs.Built.{built}
 use Rattle.pdl_vread.specs.Reads.{IsNetlistOf, FileBreaks}
 

@@ -7,10 +7,10 @@ use Rattle.pdl_net.specs.declared.Net.{Net}
 use Rattle.pdl_net.specs.declared.Net.TheVariants.{Input}
 use Rattle.pdl_net.specs.declared.Port.{Port}
 use Rattle.pdl_net.specs.declared.Reg.{Reg}
-use Rattle.pdl_vtext.specs.declared.file.PortDecl.{PortDecl}
-use Rattle.pdl_vtext.specs.declared.file.RegDecl.{RegDecl}
-use Rattle.pdl_vnets.specs.declared.wiring.OutputDrive.{OutputDrive}
-use Rattle.pdl_vnets.specs.declared.wiring.RegDrive.{RegDrive}
+use Rattle.pdl_vread_text.specs.declared.file.PortDecl.{PortDecl}
+use Rattle.pdl_vread_text.specs.declared.file.RegDecl.{RegDecl}
+use Rattle.pdl_vread_nets.specs.declared.wiring.OutputDrive.{OutputDrive}
+use Rattle.pdl_vread_nets.specs.declared.wiring.RegDrive.{RegDrive}
 use Rattle.pdl_vread.specs.Built.{driver, drivers, port, ports, undriven, given, driven, regs}
 
 -- ---- outputs

@@ -4,18 +4,18 @@ use Rattle.std.specs.List.{AllPairs}
 use Rattle.std.proofs.lemmas.Bool.{and_parts}
 use Rattle.std.proofs.lemmas.List.{length-map, take-append-drop}
 use Rattle.std.proofs.lemmas.Slice.Eq.{bytes_eq-Decides}
-use Rattle.pdl_vtext.specs.declared.field.Field.{Field}
-use Rattle.pdl_vtext.specs.declared.field.Field.TheVariants as field
-use Rattle.pdl_vtext.specs.declared.rule.Part.{Part}
-use Rattle.pdl_vtext.specs.declared.rule.Rule.{Rule}
-use Rattle.pdl_vtext.specs.declared.rule.Rule.TheVariants as rule
-use Rattle.pdl_vtext.specs.declared.draft.Draft.{Draft}
-use Rattle.pdl_vtext.specs.declared.file.File.{File}
-use Rattle.pdl_vtext.specs.declared.file.ArrayDecl.{ArrayDecl}
-use Rattle.pdl_vtext.specs.Words.{is_name, is_array}
-use Rattle.pdl_vtext.specs.Grammar.{Row, Taken, AllFit, none, more, Derives, finished, goes, fits, fields}
-use Rattle.pdl_vtext.specs.Drafts.{no_draft, taken, all_taken, text_at}
-use Rattle.pdl_vtext.specs.Text.{IsFile}
+use Rattle.pdl_vread_text.specs.declared.field.Field.{Field}
+use Rattle.pdl_vread_text.specs.declared.field.Field.TheVariants as field
+use Rattle.pdl_vread_text.specs.declared.rule.Part.{Part}
+use Rattle.pdl_vread_text.specs.declared.rule.Rule.{Rule}
+use Rattle.pdl_vread_text.specs.declared.rule.Rule.TheVariants as rule
+use Rattle.pdl_vread_text.specs.declared.draft.Draft.{Draft}
+use Rattle.pdl_vread_text.specs.declared.file.File.{File}
+use Rattle.pdl_vread_text.specs.declared.file.ArrayDecl.{ArrayDecl}
+use Rattle.pdl_vread_text.specs.Words.{is_name, is_array}
+use Rattle.pdl_vread_text.specs.Grammar.{Row, Taken, AllFit, none, more, Derives, finished, goes, fits, fields}
+use Rattle.pdl_vread_text.specs.Drafts.{no_draft, taken, all_taken, text_at}
+use Rattle.pdl_vread_text.specs.Text.{IsFile}
 use Rattle.pdl_word.specs.Each.{Each}
 use Rattle.pdl_word.proofs.Each.{each_push}
 

@@ -5,17 +5,17 @@ use Rattle.std.proofs.lemmas.Bool.{eqb-true}
 use Rattle.std.proofs.lemmas.List.{length-take, get_or-take}
 use Rattle.std.proofs.lemmas.Slice.Eq.{bytes_eq-Decides}
 use Rattle.pdl_net.specs.declared.Cell.{Cell}
-use Rattle.pdl_vtext.specs.declared.file.File.{File}
-use Rattle.pdl_vtext.specs.declared.file.ArrayBlock.{ArrayBlock}
-use Rattle.pdl_vtext.specs.declared.file.WriteDecl.{WriteDecl}
-use Rattle.pdl_vnets.specs.declared.wiring.OutputDrive.{OutputDrive}
-use Rattle.pdl_vnets.specs.declared.wiring.RegDrive.{RegDrive}
-use Rattle.pdl_vnets.specs.declared.wiring.ArrayWrite.{ArrayWrite}
-use Rattle.pdl_vnets.specs.declared.wiring.Wiring.{Wiring}
-use Rattle.pdl_vnets.specs.Wired.{place, shifted, each, onto_block, cells_from, all_outputs, all_regs, wired_write, writes_of, blocks_of, with_parts, wiring}
-use Rattle.pdl_vrules.specs.Asked.{Asked, first_wrong, both}
-use Rattle.pdl_vrules.specs.Widths.{asked_write, asked_writes, widths_of}
-use Rattle.pdl_vrules.specs.Once.{owner, in_turn, port_once, reg_once, array_once, cell_once, write_once, blocks_once, once_line}
+use Rattle.pdl_vread_text.specs.declared.file.File.{File}
+use Rattle.pdl_vread_text.specs.declared.file.ArrayBlock.{ArrayBlock}
+use Rattle.pdl_vread_text.specs.declared.file.WriteDecl.{WriteDecl}
+use Rattle.pdl_vread_nets.specs.declared.wiring.OutputDrive.{OutputDrive}
+use Rattle.pdl_vread_nets.specs.declared.wiring.RegDrive.{RegDrive}
+use Rattle.pdl_vread_nets.specs.declared.wiring.ArrayWrite.{ArrayWrite}
+use Rattle.pdl_vread_nets.specs.declared.wiring.Wiring.{Wiring}
+use Rattle.pdl_vread_nets.specs.Wired.{place, shifted, each, onto_block, cells_from, all_outputs, all_regs, wired_write, writes_of, blocks_of, with_parts, wiring}
+use Rattle.pdl_vread_rules.specs.Asked.{Asked, first_wrong, both}
+use Rattle.pdl_vread_rules.specs.Widths.{asked_write, asked_writes, widths_of}
+use Rattle.pdl_vread_rules.specs.Once.{owner, in_turn, port_once, reg_once, array_once, cell_once, write_once, blocks_once, once_line}
 use Rattle.pdl_vread.proofs.Depths.{right_both, right_parts}
 use Rattle.pdl_vread.proofs.Wide.{onto_inv}
 use Rattle.pdl_word.specs.Each.{Each}

@@ -6,7 +6,7 @@ use Rattle.std.proofs.lemmas.Bool.{and_parts, leb-true, eqb-true, cases_lt, case
 use Rattle.std.specs.Int.{is_power_of_two}
 use lib.Count.{ones, ones_step}
 use Rattle.pdl_net.specs.Well.{IsDepth}
-use Rattle.pdl_vrules.specs.Widths.{is_depth}
+use Rattle.pdl_vread_rules.specs.Widths.{is_depth}
 
 no_ones : (k n : ℕ) → n < 2 ^ k → ones n ≡ 0 → n ≡ 0
 no_ones zero n h e = omega arith

@@ -4,9 +4,9 @@ use Rattle.pdl_kit.specs.declared.mem_info.MemInfo.{MemInfo}
 use Rattle.pdl_kit.specs.declared.rule.Rule.TheVariants.{V5}
 use Rattle.pdl_net.specs.declared.Netlist.{Netlist}
 use Rattle.pdl_net.specs.Pipe.{IsPipe}
-use Rattle.pdl_vtext.specs.declared.file.File.{File}
-use Rattle.pdl_vnets.specs.declared.wiring.Wiring.{Wiring}
-use Rattle.pdl_vpipe.specs.Told.{with_mems}
+use Rattle.pdl_vread_text.specs.declared.file.File.{File}
+use Rattle.pdl_vread_nets.specs.declared.wiring.Wiring.{Wiring}
+use Rattle.pdl_vread_pipe.specs.Told.{with_mems}
 use Rattle.pdl_vread.specs.Built.{built}
 use Rattle.pdl_vread.specs.declared.read.VError.{VError}
 use Rattle.pdl_vread.specs.declared.read.VError.TheVariants.{Refused, NoMemory}

@@ -8,13 +8,13 @@ use Rattle.pdl_net.specs.declared.Cell.{Cell}
 use Rattle.pdl_net.specs.declared.Cell.TheVariants as made
 use Rattle.pdl_net.specs.Circuit.{Circuit, inputs_of, reg_at, array_at}
 use Rattle.pdl_net.specs.Meaning.{IsThereAt}
-use Rattle.pdl_vtext.specs.declared.file.File.{File}
-use Rattle.pdl_vtext.specs.declared.file.PortDecl.{PortDecl}
-use Rattle.pdl_vtext.specs.declared.file.CellDecl.{CellDecl}
-use Rattle.pdl_vtext.specs.declared.file.Term.{Term}
-use Rattle.pdl_vtext.specs.declared.file.Term.TheVariants as t
-use Rattle.pdl_vnets.specs.Wired.{place, shifted, port_place, reg_place, array_place, cell_place, port_nets, net_at, input_of, net_of, cell_or, reg_or, with_one, with_two, with_three, small, cell_of, wired_cell}
-use Rattle.pdl_vrules.specs.Widths.{bits, input_width, widths_of}
+use Rattle.pdl_vread_text.specs.declared.file.File.{File}
+use Rattle.pdl_vread_text.specs.declared.file.PortDecl.{PortDecl}
+use Rattle.pdl_vread_text.specs.declared.file.CellDecl.{CellDecl}
+use Rattle.pdl_vread_text.specs.declared.file.Term.{Term}
+use Rattle.pdl_vread_text.specs.declared.file.Term.TheVariants as t
+use Rattle.pdl_vread_nets.specs.Wired.{place, shifted, port_place, reg_place, array_place, cell_place, port_nets, net_at, input_of, net_of, cell_or, reg_or, with_one, with_two, with_three, small, cell_of, wired_cell}
+use Rattle.pdl_vread_rules.specs.Widths.{bits, input_width, widths_of}
 
 -- a circuit has the inputs, registers and arrays of a file, with their widths
 pub record Has (c : Circuit) (f : File) : Type 0 where

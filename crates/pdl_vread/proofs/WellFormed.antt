@@ -15,23 +15,23 @@ use Rattle.pdl_net.specs.Circuit.{Circuit, circuit_of, input_with, port_input, n
 use Rattle.pdl_net.specs.Meaning.{signal, IsThereAt, IsThere}
 use Rattle.pdl_net.specs.Well.{IsDriven, IsWellPort, IsWellReg, IsWellWrite, IsWellArray, IsWell}
 use Rattle.pdl_net.specs.Pipe.{IsWellFormed}
-use Rattle.pdl_vtext.specs.declared.file.File.{File}
-use Rattle.pdl_vtext.specs.declared.file.PortDecl.{PortDecl}
-use Rattle.pdl_vtext.specs.declared.file.RegDecl.{RegDecl}
-use Rattle.pdl_vtext.specs.declared.file.ArrayDecl.{ArrayDecl}
-use Rattle.pdl_vtext.specs.declared.file.CellDecl.{CellDecl}
-use Rattle.pdl_vtext.specs.declared.file.OutputDecl.{OutputDecl}
-use Rattle.pdl_vtext.specs.declared.file.RegBlock.{RegBlock}
-use Rattle.pdl_vtext.specs.declared.file.WriteDecl.{WriteDecl}
+use Rattle.pdl_vread_text.specs.declared.file.File.{File}
+use Rattle.pdl_vread_text.specs.declared.file.PortDecl.{PortDecl}
+use Rattle.pdl_vread_text.specs.declared.file.RegDecl.{RegDecl}
+use Rattle.pdl_vread_text.specs.declared.file.ArrayDecl.{ArrayDecl}
+use Rattle.pdl_vread_text.specs.declared.file.CellDecl.{CellDecl}
+use Rattle.pdl_vread_text.specs.declared.file.OutputDecl.{OutputDecl}
+use Rattle.pdl_vread_text.specs.declared.file.RegBlock.{RegBlock}
+use Rattle.pdl_vread_text.specs.declared.file.WriteDecl.{WriteDecl}
 use Rattle.pdl_net.specs.declared.Cell.{Cell}
-use Rattle.pdl_vnets.specs.declared.wiring.OutputDrive.{OutputDrive}
-use Rattle.pdl_vnets.specs.declared.wiring.RegDrive.{RegDrive}
-use Rattle.pdl_vnets.specs.declared.wiring.ArrayWrite.{ArrayWrite}
-use Rattle.pdl_vnets.specs.declared.wiring.Wiring.{Wiring}
-use Rattle.pdl_vnets.specs.Wired.{place, net_of, output_of, reg_place, array_place, wired_cell, wired_output, wired_reg, wired_port, wired_array, wired_write, cells_from}
-use Rattle.pdl_vrules.specs.Widths.{bits, input_width, widths_of, net_width, is_width, is_depth, fits, asked_port, asked_reg, asked_array, asked_output, asked_block, asked_write}
-use Rattle.pdl_vrules.specs.Once.{owner, is_new, output_drives, reg_drives, port_once, reg_once, array_once}
-use Rattle.pdl_vpipe.specs.Told.{with_mems}
+use Rattle.pdl_vread_nets.specs.declared.wiring.OutputDrive.{OutputDrive}
+use Rattle.pdl_vread_nets.specs.declared.wiring.RegDrive.{RegDrive}
+use Rattle.pdl_vread_nets.specs.declared.wiring.ArrayWrite.{ArrayWrite}
+use Rattle.pdl_vread_nets.specs.declared.wiring.Wiring.{Wiring}
+use Rattle.pdl_vread_nets.specs.Wired.{place, net_of, output_of, reg_place, array_place, wired_cell, wired_output, wired_reg, wired_port, wired_array, wired_write, cells_from}
+use Rattle.pdl_vread_rules.specs.Widths.{bits, input_width, widths_of, net_width, is_width, is_depth, fits, asked_port, asked_reg, asked_array, asked_output, asked_block, asked_write}
+use Rattle.pdl_vread_rules.specs.Once.{owner, is_new, output_drives, reg_drives, port_once, reg_once, array_once}
+use Rattle.pdl_vread_pipe.specs.Told.{with_mems}
 use Rattle.pdl_vread.specs.declared.read.VError.{VError}
 use Rattle.pdl_vread.specs.Built.{driver, port, ports, undriven, given, driven, regs, writes, arrays, built}
 use Rattle.pdl_vread.specs.Reads.{IsWired, Reads, Judges}

@@ -11,11 +11,11 @@ use Rattle.pdl_net.specs.Signal.{Signal, no_signal, bin_width}
 use Rattle.pdl_net.specs.Meaning.{look, cell_signal, signals_from, signals, signal, IsThereAt, IsThere}
 use Rattle.pdl_net.specs.Well.{FitsIn, AllFit}
 use Rattle.pdl_net.proofs.Signals.{length_signals}
-use Rattle.pdl_vtext.specs.declared.file.File.{File}
-use Rattle.pdl_vtext.specs.declared.file.CellDecl.{CellDecl}
-use Rattle.pdl_vnets.specs.Wired.{wired_cell, onto_line, cells_from}
-use Rattle.pdl_vrules.specs.Asked.{first_wrong, both}
-use Rattle.pdl_vrules.specs.Widths.{bits, widths_of, net_width, is_width, fits, fits_cell, asked_cell}
+use Rattle.pdl_vread_text.specs.declared.file.File.{File}
+use Rattle.pdl_vread_text.specs.declared.file.CellDecl.{CellDecl}
+use Rattle.pdl_vread_nets.specs.Wired.{wired_cell, onto_line, cells_from}
+use Rattle.pdl_vread_rules.specs.Asked.{first_wrong, both}
+use Rattle.pdl_vread_rules.specs.Widths.{bits, widths_of, net_width, is_width, fits, fits_cell, asked_cell}
 use Rattle.pdl_vread.proofs.Depths.{right_both}
 use Rattle.pdl_vread.proofs.There.{Has, NetsThere, cell_there}
 

@@ -9,16 +9,16 @@ use Rattle.pdl_net.specs.declared.Reg.{Reg}
 use Rattle.pdl_net.specs.declared.WritePort.{WritePort}
 use Rattle.pdl_net.specs.declared.Array.{Array}
 use Rattle.pdl_net.specs.declared.Netlist.{Netlist}
-use Rattle.pdl_vtext.specs.declared.file.File.{File}
-use Rattle.pdl_vtext.specs.declared.file.PortDecl.{PortDecl}
-use Rattle.pdl_vtext.specs.declared.file.RegDecl.{RegDecl}
-use Rattle.pdl_vtext.specs.declared.file.ArrayDecl.{ArrayDecl}
-use Rattle.pdl_vnets.specs.declared.wiring.OutputDrive.{OutputDrive}
-use Rattle.pdl_vnets.specs.declared.wiring.RegDrive.{RegDrive}
-use Rattle.pdl_vnets.specs.declared.wiring.ArrayWrite.{ArrayWrite}
-use Rattle.pdl_vnets.specs.declared.wiring.Wiring.{Wiring}
-use Rattle.pdl_vrules.specs.Widths.{bits}
-use Rattle.pdl_vrules.specs.Once.{owner}
+use Rattle.pdl_vread_text.specs.declared.file.File.{File}
+use Rattle.pdl_vread_text.specs.declared.file.PortDecl.{PortDecl}
+use Rattle.pdl_vread_text.specs.declared.file.RegDecl.{RegDecl}
+use Rattle.pdl_vread_text.specs.declared.file.ArrayDecl.{ArrayDecl}
+use Rattle.pdl_vread_nets.specs.declared.wiring.OutputDrive.{OutputDrive}
+use Rattle.pdl_vread_nets.specs.declared.wiring.RegDrive.{RegDrive}
+use Rattle.pdl_vread_nets.specs.declared.wiring.ArrayWrite.{ArrayWrite}
+use Rattle.pdl_vread_nets.specs.declared.wiring.Wiring.{Wiring}
+use Rattle.pdl_vread_rules.specs.Widths.{bits}
+use Rattle.pdl_vread_rules.specs.Once.{owner}
 
 -- the net that the last `assign` to the i-th port gives it, another where there is none
 abbrev pub driver : ℕ → Net → List OutputDrive → Net

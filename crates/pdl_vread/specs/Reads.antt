@@ -5,15 +5,15 @@ use Rattle.pdl_kit.specs.declared.rule.Rule.{Rule}
 use Rattle.pdl_kit.specs.declared.rule.Rule.TheVariants.{V1, V2, V3, V4, V5}
 use Rattle.pdl_net.specs.declared.Netlist.{Netlist}
 use Rattle.pdl_net.specs.Pipe.{IsPipe}
-use Rattle.pdl_vtext.specs.declared.file.File.{File}
-use Rattle.pdl_vtext.specs.Text.{IsFile, IsOutOfPlace}
-use Rattle.pdl_vnets.specs.declared.passes.Stop.{Stop}
-use Rattle.pdl_vnets.specs.declared.passes.Stop.TheVariants as stop
-use Rattle.pdl_vnets.specs.declared.wiring.Wiring.{Wiring}
-use Rattle.pdl_vnets.specs.Wired.{wiring}
-use Rattle.pdl_vrules.specs.Widths.{width_line}
-use Rattle.pdl_vrules.specs.Once.{once_line}
-use Rattle.pdl_vpipe.specs.Told.{with_mems}
+use Rattle.pdl_vread_text.specs.declared.file.File.{File}
+use Rattle.pdl_vread_text.specs.Text.{IsFile, IsOutOfPlace}
+use Rattle.pdl_vread_nets.specs.declared.passes.Stop.{Stop}
+use Rattle.pdl_vread_nets.specs.declared.passes.Stop.TheVariants as stop
+use Rattle.pdl_vread_nets.specs.declared.wiring.Wiring.{Wiring}
+use Rattle.pdl_vread_nets.specs.Wired.{wiring}
+use Rattle.pdl_vread_rules.specs.Widths.{width_line}
+use Rattle.pdl_vread_rules.specs.Once.{once_line}
+use Rattle.pdl_vread_pipe.specs.Told.{with_mems}
 use Rattle.pdl_vread.specs.declared.read.VError.{VError}
 use Rattle.pdl_vread.specs.declared.read.VError.TheVariants.{Refused, NoMemory}
 use Rattle.pdl_vread.specs.Built.{built}

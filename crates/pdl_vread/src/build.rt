@@ -1,15 +1,15 @@
 // The netlist of a file that breaks none of V1 to V4.
 ghost use Rattle.std.specs.Prelude.{◌≡◌, ◌≤◌, ◌+◌, ◌<◌, ◌^◌, IfOk, OnOk, None, All, [], drop, length, map};
 ghost use Rattle.pdl_net.specs.declared.Net.TheVariants.{Input};
-ghost use Rattle.pdl_vrules.specs.Once.{owner};
-ghost use Rattle.pdl_vrules.specs.Widths.{bits as width_of, width_line};
+ghost use Rattle.pdl_vread_rules.specs.Once.{owner};
+ghost use Rattle.pdl_vread_rules.specs.Widths.{bits as width_of, width_line};
 ghost use Rattle.pdl_vread.specs.Built as spec;
 
 use pdl_kit::{Name, NoMemory, Seq};
 use pdl_net::{Array, Dir, Net, Netlist, Port, Reg, WritePort};
-use pdl_vnets::{ArrayWrite, OutputDrive, RegDrive, Wiring};
-use pdl_vrules::bits;
-use pdl_vtext::{ArrayDecl, File, PortDecl, RegDecl};
+use pdl_vread_nets::{ArrayWrite, OutputDrive, RegDrive, Wiring};
+use pdl_vread_rules::bits;
+use pdl_vread_text::{ArrayDecl, File, PortDecl, RegDecl};
 use std::alloc::Global;
 
 // The net that each port takes, where it is an output.

@@ -5,19 +5,19 @@ ghost use Rattle.pdl_kit.specs.declared.rule.Rule.{Rule as Rule'};
 ghost use Rattle.pdl_kit.specs.declared.rule.Rule.TheVariants.{V5};
 ghost use Rattle.pdl_net.specs.declared.Netlist.{Netlist as Netlist'};
 ghost use Rattle.pdl_net.specs.Pipe.{IsPipe, IsWellFormed};
-ghost use Rattle.pdl_vnets.specs.Wired.{wiring as names_of};
-ghost use Rattle.pdl_vpipe.specs.Told.{with_mems};
-ghost use Rattle.pdl_vtext.specs.Text.{IsFile};
+ghost use Rattle.pdl_vread_nets.specs.Wired.{wiring as names_of};
+ghost use Rattle.pdl_vread_pipe.specs.Told.{with_mems};
+ghost use Rattle.pdl_vread_text.specs.Text.{IsFile};
 ghost use Rattle.pdl_vread.specs.Reads.{Breaks, FileBreaks, GivesNetlist, GivesRefusal, IsWired, IsNetlistOf, Judges, Reads, Refuses};
 ghost use Rattle.pdl_vread.specs.Reads as spec;
 
 use crate::build::build;
 use pdl_kit::{NoMemory, Rule};
 use pdl_net::Netlist;
-use pdl_vnets::{Stop, Wiring, wire};
-use pdl_vpipe::pipe_mems;
-use pdl_vrules::{check_once, check_widths};
-use pdl_vtext::{File, TextError, read_file};
+use pdl_vread_nets::{Stop, Wiring, wire};
+use pdl_vread_pipe::pipe_mems;
+use pdl_vread_rules::{check_once, check_widths};
+use pdl_vread_text::{File, TextError, read_file};
 use std::alloc::Global;
 
 /// Why a text was not taken: the lowest rule that it breaks, with the lowest line where it breaks it (counted from 1), or want of memory.

@@ -2,21 +2,21 @@ use Rattle.std.proofs.Common.{◌≡◌, ap, subst, sym}
 use Rattle.std.specs.Prelude.{IsTrue}
 use Rattle.pdl_semantics.specs.Tree as tree
 use Rattle.pdl_semantics.specs.Flatten.{flat}
-use Rattle.pdl_tree.specs.declared.tree.Pipe as r_pipe
-use Rattle.pdl_tree.specs.View.{pipe_view}
+use Rattle.pdl_syntax_tree.specs.declared.tree.Pipe as r_pipe
+use Rattle.pdl_syntax_tree.specs.View.{pipe_view}
 use Rattle.pdl_rules.specs.Refusal.{KeepsRules, limits, after_limits}
 use Rattle.pdl_rules.specs.Speculation.{verify_stage}
 use Rattle.pdl_locks.specs.Plan.{plan_of}
-use Rattle.pdl_pathfacts.specs.Source.{is_source, is_named}
+use Rattle.pdl_source_paths.specs.Source.{is_source, is_named}
 use Rattle.pdl_rules.proofs.Unbroken.{keeps_unbroken}
-use Rattle.pdl_names.specs.Order.{name_rules}
-use Rattle.pdl_widths.specs.Order.{width_rules}
-use Rattle.pdl_judge.specs.Told.{after_names, after_widths}
+use Rattle.pdl_rules_names.specs.Order.{name_rules}
+use Rattle.pdl_rules_widths.specs.Order.{width_rules}
+use Rattle.pdl_rules_judge.specs.Told.{after_names, after_widths}
 use Rattle.pdl_form.specs.Form.{form_of}
 use Rattle.pdl_form.specs.Whole.{form}
-use Rattle.pdl_formtypes.specs.Same.{same_form}
-use Rattle.pdl_formtypes.proofs.Same.{forms_pass}
-use Rattle.pdl_stagegraph.specs.Graph.{graph_of}
+use Rattle.pdl_form_types.specs.Same.{same_form}
+use Rattle.pdl_form_types.proofs.Same.{forms_pass}
+use Rattle.pdl_stages.specs.Graph.{graph_of}
 use Rattle.pdl_rules.specs.Places.{places, guards}
 use Rattle.pdl_check.proofs.Parts.{kept_parts}
 use Rattle.pdl_check.proofs.check.accept.Goals as goal

@@ -1,4 +1,4 @@
-use Rattle.pdl_tree.specs.View.{pipe_view}
+use Rattle.pdl_syntax_tree.specs.View.{pipe_view}
 use Rattle.pdl_check.proofs.Judged.{judged_error}
 use Rattle.pdl_check.proofs.check.judge.Goals as goal
 

@@ -1,12 +1,12 @@
 use Rattle.std.proofs.Common.{ap, ◌∙◌, map, subst, sym}
-use Rattle.pdl_tree.specs.View.{pipe_view, mem_view}
+use Rattle.pdl_syntax_tree.specs.View.{pipe_view, mem_view}
 use Rattle.pdl_rules.specs.Memories.{infos_of}
 use Rattle.pdl_rules.specs.Places.{places}
 use Rattle.pdl_rules.proofs.Unbroken.{keeps_unbroken}
-use Rattle.pdl_flat.specs.Sized.{AreSizedMems}
-use Rattle.pdl_flat.proofs.Accepted.{keeps_lowered}
+use Rattle.pdl_form_lower.specs.Sized.{AreSizedMems}
+use Rattle.pdl_form_lower.proofs.Accepted.{keeps_lowered}
 use Rattle.pdl_form.specs.Form.{Form}
-use Rattle.pdl_stagegraph.specs.Graph.{graph_of}
+use Rattle.pdl_stages.specs.Graph.{graph_of}
 use Rattle.pdl_check.proofs.check.make.Goals as goal
 
 pub infos_of-requires : goal.infos_of-requires

@@ -1,5 +1,5 @@
 use Rattle.std.proofs.Common.{◌≡◌, map, take}
-use Rattle.pdl_tree.specs.View.{mem_view}
+use Rattle.pdl_syntax_tree.specs.View.{mem_view}
 use Rattle.pdl_check.proofs.infos.infos_of.Given as goal
 use Rattle.pdl_rules.specs.Memories.{infos_of}
 

@@ -1,5 +1,5 @@
 use Rattle.std.proofs.Common.{◌≡◌, map, drop}
-use Rattle.pdl_tree.specs.View.{mem_view}
+use Rattle.pdl_syntax_tree.specs.View.{mem_view}
 use Rattle.pdl_rules.specs.Locks.{is_locked}
 use Rattle.pdl_locks.proofs.at_locations.is_locked.Given as goal
 

@@ -1,5 +1,5 @@
 use Rattle.std.proofs.Common.{◌≡◌, ◌∙◌, refl, sym, ap, map, subst}
-use Rattle.pdl_tree.specs.View.{span_view, location_view}
+use Rattle.pdl_syntax_tree.specs.View.{span_view, location_view}
 use Rattle.pdl_rules.specs.Locks as spec
 use Rattle.pdl_paths.specs.declared.action.Action.{Action}
 use Rattle.pdl_paths.specs.declared.action.Action.TheVariants.{Reserve}

@@ -1,12 +1,12 @@
 use Rattle.std.proofs.Common.{◌∙◌, ap, [], refl}
 use Rattle.std.proofs.lemmas.Result.{err_from_is_err_and}
 use Rattle.pdl_kit.specs.declared.rule.Rule.TheVariants.{L1, L2, L3, L4, L5, L6, L7, L8}
-use Rattle.pdl_tree.specs.View.{pipe_view}
+use Rattle.pdl_syntax_tree.specs.View.{pipe_view}
 use Rattle.pdl_rules.specs.Places.{places}
-use Rattle.pdl_pathrules.specs.Lowest.{line_where}
-use Rattle.pdl_pathrules.proofs.Lines.{rule_lines}
-use Rattle.pdl_textstages.specs.declared.astray.Kinds.TheVariants.{Locks}
-use Rattle.pdl_textstages.specs.Astray.{is_astray}
+use Rattle.pdl_rules_on_paths.specs.Lowest.{line_where}
+use Rattle.pdl_rules_on_paths.proofs.Lines.{rule_lines}
+use Rattle.pdl_rules_stages.specs.declared.astray.Kinds.TheVariants.{Locks}
+use Rattle.pdl_rules_stages.specs.Astray.{is_astray}
 use Rattle.pdl_locks.proofs.Told.{told, later, none_more, after_l1, after_l2, after_l3, after_l4, after_l5, after_l6, after_l7}
 use Rattle.pdl_locks.proofs.check.plan_locks.Goals as goal
 

@@ -1,5 +1,5 @@
 use Rattle.std.proofs.Common.{◌≡◌, sym, ◌∙◌, ◌+◌, map, drop, arith}
-use Rattle.pdl_tree.specs.View.{location_view}
+use Rattle.pdl_syntax_tree.specs.View.{location_view}
 use Rattle.pdl_paths.specs.Actions.{place_view}
 use Rattle.pdl_locks.specs.Numbers.{is_at, first_place}
 use Rattle.pdl_locks.proofs.Ahead.{is_first, is_later}

@@ -1,5 +1,5 @@
 use Rattle.std.proofs.Common.{◌≡◌, ◌+◌, ◌≤◌, map, drop}
-use Rattle.pdl_tree.specs.View.{location_view}
+use Rattle.pdl_syntax_tree.specs.View.{location_view}
 use Rattle.pdl_paths.specs.Actions.{place_view}
 use Rattle.pdl_locks.specs.Numbers.{first_place}
 use Rattle.pdl_locks.proofs.numbers.first_place.Given as goal

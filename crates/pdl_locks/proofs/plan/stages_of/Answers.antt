@@ -1,5 +1,5 @@
 use Rattle.std.proofs.Common.{ap, ap₂, ◌∙◌, ℕ, List, [], Option}
-use Rattle.pdl_tree.specs.View.{mem_view}
+use Rattle.pdl_syntax_tree.specs.View.{mem_view}
 use Rattle.pdl_rules.specs.Places.{Place}
 use Rattle.pdl_rules.specs.Stages.{first_stage, reserves_memory, releases_memory}
 use Rattle.pdl_locks.specs.declared.plan.MemStages.{MemStages}

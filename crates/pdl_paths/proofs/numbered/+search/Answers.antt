@@ -4,10 +4,10 @@ use Rattle.std.proofs.lemmas.List.{drop_all}
 use Rattle.pdl_word.proofs.Lists.{drop_next}
 use Rattle.pdl_semantics.specs.Tree as Tree
 use Rattle.pdl_rules.specs.Places.{Branch, guard_of, with_inner, statements, Statement}
-use Rattle.pdl_tree.specs.declared.tree.Stmt as r_stmt
-use Rattle.pdl_tree.specs.declared.tree.Stmt.TheVariants as r_stmts
-use Rattle.pdl_tree.specs.declared.tree.Stmt.TheOpen.{Stmt-F}
-use Rattle.pdl_tree.specs.View as tree
+use Rattle.pdl_syntax_tree.specs.declared.tree.Stmt as r_stmt
+use Rattle.pdl_syntax_tree.specs.declared.tree.Stmt.TheVariants as r_stmts
+use Rattle.pdl_syntax_tree.specs.declared.tree.Stmt.TheOpen.{Stmt-F}
+use Rattle.pdl_syntax_tree.specs.View as tree
 use Rattle.pdl_paths.specs.declared.numbered.Found.TheVariants.{Here, After}
 use Rattle.pdl_paths.specs.Masks.{everywhere, mask_in, mask_of, number_of, with_number, with_branch}
 use Rattle.pdl_paths.specs.Numbered.{Tells}

@@ -1,6 +1,6 @@
 use Rattle.std.proofs.Common.{◌≡◌, List, map, drop}
 use Rattle.pdl_rules.specs.Places.{Branch, statements}
-use Rattle.pdl_tree.specs.View.{stmts_view}
+use Rattle.pdl_syntax_tree.specs.View.{stmts_view}
 use Rattle.pdl_paths.specs.declared.numbered.Found.{Found}
 use Rattle.pdl_paths.specs.Masks.{mask_in, mask_of}
 use Rattle.pdl_paths.specs.Numbered.{Tells}

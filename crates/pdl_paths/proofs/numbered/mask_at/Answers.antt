@@ -1,7 +1,7 @@
 use Rattle.std.proofs.Common.{refl, sym, ap, subst, ◌∙◌, ◌-◌, [], map, arith}
 use Rattle.std.proofs.lemmas.List.{length-map}
 use Rattle.pdl_rules.specs.Places.{statements}
-use Rattle.pdl_tree.specs.View as tree
+use Rattle.pdl_syntax_tree.specs.View as tree
 use Rattle.pdl_paths.specs.Masks.{mask_in}
 use Rattle.pdl_paths.specs.Numbered.{Tells}
 use Rattle.pdl_paths.proofs.Nth.{at_params, at_mems, at_body, found_mask}

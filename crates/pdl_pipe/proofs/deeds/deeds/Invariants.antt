@@ -1,9 +1,9 @@
 use Rattle.std.proofs.Common.{◌≡◌, ◌<◌, ℕ, length}
 use Rattle.std.specs.Prelude.{slice_index_or}
 use Rattle.pdl_net.specs.declared.Net.{Net}
-use Rattle.pdl_locknets.specs.declared.deeds.StageDeeds.{StageDeeds}
-use Rattle.pdl_stageregs.specs.declared.nets.StageNets.{StageNets}
-use Rattle.pdl_stageregs.specs.Stages.{IsAt}
+use Rattle.pdl_pipe_locks.specs.declared.deeds.StageDeeds.{StageDeeds}
+use Rattle.pdl_pipe_registers.specs.declared.nets.StageNets.{StageNets}
+use Rattle.pdl_pipe_registers.specs.Stages.{IsAt}
 use Rattle.pdl_pipe.proofs.deeds.deeds.Given as goal
 
 -- those of the first stages

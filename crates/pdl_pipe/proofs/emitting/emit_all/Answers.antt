@@ -1,10 +1,10 @@
 use Rattle.std.proofs.Common.{◌≡◌, sym, ap, ◌∙◌, subst, length, []}
 use Rattle.pdl_net.proofs.Keeps.{extends_refl}
 use Rattle.pdl_form.specs.Whole.{form}
-use Rattle.pdl_stagenets.specs.Locked.{members}
-use Rattle.pdl_outnets.specs.Inputs.{AreReplies, AreWhereRead}
-use Rattle.pdl_beside.specs.Ports.{AreInputs, has_port}
-use Rattle.pdl_beside.specs.Parts.{AreParts}
+use Rattle.pdl_pipe_walk.specs.Locked.{members}
+use Rattle.pdl_pipe_outputs.specs.Inputs.{AreReplies, AreWhereRead}
+use Rattle.pdl_pipe_beside.specs.Ports.{AreInputs, has_port}
+use Rattle.pdl_pipe_beside.specs.Parts.{AreParts}
 use Rattle.pdl_port.specs.Laws.{own as port_own}
 use Rattle.pdl_pipe.specs.Emitted.{HasMemoriesIn}
 use Rattle.pdl_pipe.proofs.Beginning.{empty_shapes, no_arrays, inputs_now, memories_now}

@@ -1,10 +1,10 @@
 use Rattle.std.proofs.Common.{◌≡◌, sym, ap, ◌∙◌, subst, length}
 use Rattle.pdl_word.specs.Each.{Each}
 use Rattle.pdl_net.proofs.Keeps.{extends_keeps}
-use Rattle.pdl_answernets.specs.Ports.{IsBit}
-use Rattle.pdl_stagenets.specs.Locked.{members}
-use Rattle.pdl_stagenexts.specs.Lines.{line_pipe}
-use Rattle.pdl_stagenexts.proofs.LinesKept.{line_keep}
+use Rattle.pdl_pipe_answers.specs.Ports.{IsBit}
+use Rattle.pdl_pipe_walk.specs.Locked.{members}
+use Rattle.pdl_pipe_nexts.specs.Lines.{line_pipe}
+use Rattle.pdl_pipe_nexts.proofs.LinesKept.{line_keep}
 use Rattle.pdl_pipe.proofs.Moving.{has_turns, line_with, layout_with, moved_with}
 use Rattle.pdl_pipe.proofs.emitting.emit_moves.Goals as goal
 

@@ -4,11 +4,11 @@ use Rattle.std.specs.Prelude.{slice_index}
 use Rattle.pdl_form.specs.Whole.{form}
 use Rattle.pdl_net.specs.Growth.{Keeps}
 use Rattle.pdl_net.proofs.Keeps.{extends_keeps, extends_trans}
-use Rattle.pdl_flatnets.specs.Nets.{NetsThere, signals_in}
-use Rattle.pdl_flatnets.proofs.NetLists.{there_keeps, signals_keep, net_more}
-use Rattle.pdl_stageregs.specs.Stages.{zero_signal}
-use Rattle.pdl_stageregs.proofs.Widths.{wide_low, wide_high}
-use Rattle.pdl_stageregs.proofs.Begins.{signals_more}
+use Rattle.pdl_pipe_exprs.specs.Nets.{NetsThere, signals_in}
+use Rattle.pdl_pipe_exprs.proofs.NetLists.{there_keeps, signals_keep, net_more}
+use Rattle.pdl_pipe_registers.specs.Stages.{zero_signal}
+use Rattle.pdl_pipe_registers.proofs.Widths.{wide_low, wide_high}
+use Rattle.pdl_pipe_registers.proofs.Begins.{signals_more}
 use Rattle.pdl_pipe.proofs.emitting.zeros.Goals as goal
 
 pub constant-requires-clause-low : goal.constant-requires-clause-low

@@ -1,8 +1,8 @@
 use Rattle.std.proofs.Common.{◌≡◌, map, take}
 use Rattle.pdl_form.specs.Whole.{form}
 use Rattle.pdl_net.specs.Growth.{Extends}
-use Rattle.pdl_flatnets.specs.Nets.{NetsThere, signals_in}
-use Rattle.pdl_stageregs.specs.Stages.{zero_signal}
+use Rattle.pdl_pipe_exprs.specs.Nets.{NetsThere, signals_in}
+use Rattle.pdl_pipe_registers.specs.Stages.{zero_signal}
 use Rattle.pdl_pipe.proofs.emitting.zeros.Given as goal
 
 -- the first variables have their zeros

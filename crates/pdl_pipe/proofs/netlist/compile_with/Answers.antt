@@ -1,11 +1,11 @@
 use Rattle.std.proofs.Common.{◌≡◌, sym, subst, rules}
-use Rattle.pdl_tree.specs.View.{pipe_view}
+use Rattle.pdl_syntax_tree.specs.View.{pipe_view}
 use Rattle.pdl_form.specs.Form.{Form, form_of}
 use Rattle.pdl_net.specs.Circuit.{circuit_of}
-use Rattle.pdl_stagenets.specs.Locked.{members}
-use Rattle.pdl_locknets.specs.Suited.{AreSuited}
-use Rattle.pdl_emitted.specs.Emitted.{CanEmit}
-use Rattle.pdl_emitted.proofs.Emittable.{can_emit}
+use Rattle.pdl_pipe_walk.specs.Locked.{members}
+use Rattle.pdl_pipe_locks.specs.Suited.{AreSuited}
+use Rattle.pdl_pipe_emitted.specs.Emitted.{CanEmit}
+use Rattle.pdl_pipe_emitted.proofs.Emittable.{can_emit}
 use Rattle.pdl_pipe.proofs.MadeMemories.{mems_as}
 use Rattle.pdl_pipe.proofs.MadeNetlist.{emitted_as, follows_made, locks_made}
 use Rattle.pdl_pipe.proofs.netlist.compile_with.Goals as goal

@@ -1,5 +1,5 @@
-use Rattle.pdl_tree.specs.View.{pipe_view}
-use Rattle.pdl_stagenets.specs.Locked.{members}
+use Rattle.pdl_syntax_tree.specs.View.{pipe_view}
+use Rattle.pdl_pipe_walk.specs.Locked.{members}
 use Rattle.pdl_pipe.proofs.NeededPart.{needed_follows, needed_locks}
 use Rattle.pdl_pipe.proofs.NeededFolded.{needed_folded, needed_different}
 use Rattle.pdl_pipe.proofs.netlist.needed_with.Goals as goal

@@ -1,6 +1,6 @@
 use Rattle.std.proofs.Common.{sym, subst}
-use Rattle.pdl_stagenets.specs.Locked.{members}
-use Rattle.pdl_emitted.specs.Emitted.{AreDeedsOf}
+use Rattle.pdl_pipe_walk.specs.Locked.{members}
+use Rattle.pdl_pipe_emitted.specs.Emitted.{AreDeedsOf}
 use Rattle.pdl_pipe.proofs.Deeding.{deeds_there}
 use Rattle.pdl_pipe.proofs.steps.lock_steps.Goals as goal
 

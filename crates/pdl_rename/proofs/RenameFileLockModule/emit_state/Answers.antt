@@ -5,11 +5,11 @@ use Rattle.pdl_net.specs.Growth.{Extends}
 use Rattle.pdl_net.proofs.Keeps.{extends_trans, means_kept}
 use Rattle.pdl_lockapi.specs.declared.LockRegs.{LockRegs}
 use Rattle.pdl_lockapi.specs.Laws.{RoomLaw, TicketLaw}
-use Rattle.pdl_entries.specs.Slots.{AreReset, ticket_bits}
-use Rattle.pdl_entries.specs.Looks.{room_signal, next_number}
-use Rattle.pdl_entries.proofs.Kept.{slots_kept}
-use Rattle.pdl_entries.proofs.Kept as slots
-use Rattle.pdl_entries.proofs.Reading.{room_law, ticket_law}
+use Rattle.pdl_lock_entries.specs.Slots.{AreReset, ticket_bits}
+use Rattle.pdl_lock_entries.specs.Looks.{room_signal, next_number}
+use Rattle.pdl_lock_entries.proofs.Kept.{slots_kept}
+use Rattle.pdl_lock_entries.proofs.Kept as slots
+use Rattle.pdl_lock_entries.proofs.Reading.{room_law, ticket_law}
 use Rattle.pdl_rename.specs.declared.layout.Layout.{Layout}
 use Rattle.pdl_rename.specs.Places.{IsMapReset, Stands, placed_signal, layout_of}
 use Rattle.pdl_rename.proofs.Made.{map_kept, store_kept, reset_kept}

@@ -3,7 +3,7 @@ use Rattle.pdl_net.specs.Signal.{Signal, slice_signal}
 use Rattle.pdl_net.specs.Growth.{Extends}
 use Rattle.pdl_net.specs.Meaning.{signal}
 use Rattle.pdl_net.proofs.Keeps.{extends_trans}
-use Rattle.pdl_entries.proofs.Tops.{means_as, same_mux}
+use Rattle.pdl_lock_entries.proofs.Tops.{means_as, same_mux}
 use Rattle.pdl_rename.specs.Places.{map_signal}
 use Rattle.pdl_rename.specs.Nets.{selected_signal}
 use Rattle.pdl_rename.proofs.Chosen.{halved, selected_more}

@@ -3,9 +3,9 @@ use Rattle.pdl_net.specs.Signal.{Signal}
 use Rattle.pdl_net.proofs.Keeps.{extends_keeps, extends_trans, means_kept}
 use Rattle.pdl_lockapi.specs.Laws.{step_signals, StepSignals}
 use Rattle.pdl_lockapi.proofs.Kept.{same_signals}
-use Rattle.pdl_entries.specs.Steps.{push_signal, left_signal}
-use Rattle.pdl_entries.proofs.Steps.{reserves_count, slot_addr_width}
-use Rattle.pdl_entries.proofs.Tops.{means_as}
+use Rattle.pdl_lock_entries.specs.Steps.{push_signal, left_signal}
+use Rattle.pdl_lock_entries.proofs.Steps.{reserves_count, slot_addr_width}
+use Rattle.pdl_lock_entries.proofs.Tops.{means_as}
 use Rattle.pdl_rename.specs.Nets.{mapped_place, oldest_addr}
 use Rattle.pdl_rename.proofs.step.emit_front.Goals as goal
 

@@ -2,8 +2,8 @@ use Rattle.std.proofs.Common.{◌≡◌}
 use Rattle.pdl_net.specs.Growth.{Extends}
 use Rattle.pdl_net.specs.Meaning.{Means, signal}
 use Rattle.pdl_lockapi.specs.Laws.{step_signals}
-use Rattle.pdl_entries.specs.Slots.{content_signal}
-use Rattle.pdl_entries.specs.Steps.{enabled_slot}
+use Rattle.pdl_lock_entries.specs.Slots.{content_signal}
+use Rattle.pdl_lock_entries.specs.Steps.{enabled_slot}
 use Rattle.pdl_rename.specs.Nets.{chosen_signal}
 use Rattle.pdl_rename.proofs.step.emit_place.Given as goal
 

@@ -4,10 +4,10 @@ use Rattle.pdl_net.specs.Meaning.{signal}
 use Rattle.pdl_net.proofs.Keeps.{keeps_trans, extends_keeps, but_keeps, but_extends, but_trans, but_means, means_keeps}
 use Rattle.pdl_lockapi.specs.Laws.{step_signals, StepSignals}
 use Rattle.pdl_lockapi.proofs.Kept.{same_signals, ports_there, ports_fit}
-use Rattle.pdl_entries.specs.Kept.{slots_keep}
-use Rattle.pdl_entries.specs.Steps.{left_signal, own_slots, own_base}
-use Rattle.pdl_entries.proofs.Steps.{reserves_count, writes_count, slot_addr_width}
-use Rattle.pdl_entries.proofs.Tops.{means_as, same_mux}
+use Rattle.pdl_lock_entries.specs.Kept.{slots_keep}
+use Rattle.pdl_lock_entries.specs.Steps.{left_signal, own_slots, own_base}
+use Rattle.pdl_lock_entries.proofs.Steps.{reserves_count, writes_count, slot_addr_width}
+use Rattle.pdl_lock_entries.proofs.Tops.{means_as, same_mux}
 use Rattle.pdl_rename.specs.Kept.{map_keep, store_keep}
 use Rattle.pdl_rename.specs.Nets.{own_map, own_store, own_rename, oldest_addr, oldest_value}
 use Rattle.pdl_rename.proofs.Chosen.{mapped_width}

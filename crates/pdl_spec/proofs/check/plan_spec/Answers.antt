@@ -1,12 +1,12 @@
 use Rattle.std.proofs.Common.{◌∙◌, ap, [], ◌∷◌, refl}
 use Rattle.std.proofs.lemmas.Result.{err_from_is_err_and}
 use Rattle.pdl_kit.specs.declared.rule.Rule.TheVariants.{S1, S2, S3, S4, S5}
-use Rattle.pdl_tree.specs.View.{pipe_view}
+use Rattle.pdl_syntax_tree.specs.View.{pipe_view}
 use Rattle.pdl_rules.specs.Places.{places}
-use Rattle.pdl_pathrules.specs.Lowest.{line_where}
-use Rattle.pdl_pathrules.proofs.Lines.{rule_lines}
-use Rattle.pdl_textstages.specs.declared.astray.Kinds.TheVariants.{Verifies}
-use Rattle.pdl_textstages.specs.Astray.{is_astray}
+use Rattle.pdl_rules_on_paths.specs.Lowest.{line_where}
+use Rattle.pdl_rules_on_paths.proofs.Lines.{rule_lines}
+use Rattle.pdl_rules_stages.specs.declared.astray.Kinds.TheVariants.{Verifies}
+use Rattle.pdl_rules_stages.specs.Astray.{is_astray}
 use Rattle.pdl_locks.proofs.Told.{told, later, none_more}
 use Rattle.pdl_spec.proofs.check.plan_spec.Goals as goal
 

@@ -1,14 +1,14 @@
 use Rattle.std.proofs.Common.{◌∙◌, refl, ap, sym, subst, [], filter, map}
 use Rattle.pdl_kit.specs.declared.rule.Rule.TheVariants.{S1, S2}
-use Rattle.pdl_tree.specs.View.{pipe_view}
+use Rattle.pdl_syntax_tree.specs.View.{pipe_view}
 use Rattle.pdl_rules.specs.Places.{places, on_path}
 use Rattle.pdl_rules.specs.Calls.{is_wrong_call}
 use Rattle.pdl_rules.specs.Speculation.{is_unverified}
 use Rattle.pdl_paths.specs.Actions.{place_view}
 use Rattle.pdl_paths.specs.Masks.{are_distinct}
 use Rattle.pdl_paths.proofs.Distinct.{guards_distinct}
-use Rattle.pdl_pathrules.proofs.Lines.{rule_lines}
-use Rattle.pdl_pathwalk.proofs.Lines.{at_places}
+use Rattle.pdl_rules_on_paths.proofs.Lines.{rule_lines}
+use Rattle.pdl_rules_walk.proofs.Lines.{at_places}
 use Rattle.pdl_locks.specs.declared.numbers.Keys.TheVariants.{Locations}
 use Rattle.pdl_locks.specs.Numbers.{AreNumbered}
 use Rattle.pdl_spec.specs.Sure.{breaks_sure}

@@ -1,6 +1,6 @@
 use Rattle.std.proofs.Common.{◌∙◌, sym, ap, filter, get_or, ◌&&◌}
 use Rattle.std.specs.List.{list_any}
-use Rattle.pdl_tree.specs.View.{pipe_view}
+use Rattle.pdl_syntax_tree.specs.View.{pipe_view}
 use Rattle.pdl_rules.specs.Places.{on_path}
 use Rattle.pdl_rules.specs.Locks as spec
 use Rattle.pdl_paths.specs.Actions.{place_view}

@@ -1,13 +1,13 @@
 use Rattle.std.proofs.Common.{◌≡◌, ◌∙◌, sym, ap, ap₂, subst, get_or, nat_lt, map, None}
-use Rattle.pdl_tree.specs.View.{span_view, location_view, pipe_view}
+use Rattle.pdl_syntax_tree.specs.View.{span_view, location_view, pipe_view}
 use Rattle.pdl_rules.specs.Parts.{is_some_and}
 use Rattle.pdl_rules.specs.Places.{places_after}
 use Rattle.pdl_rules.specs.Stages.{bound_late, stage_of, stage_in, next_on, stage_after}
 use Rattle.pdl_paths.specs.declared.action.Action.{Action}
 use Rattle.pdl_paths.specs.Actions.{place_at, place_view}
 use Rattle.pdl_paths.specs.Guards.{branch_view}
-use Rattle.pdl_textstages.specs.Along.{HavePaths}
-use Rattle.pdl_textstages.proofs.Found.{nth_stage}
+use Rattle.pdl_rules_stages.specs.Along.{HavePaths}
+use Rattle.pdl_rules_stages.proofs.Found.{nth_stage}
 use Rattle.pdl_locks.specs.Bound.{last_at}
 use Rattle.pdl_locks.proofs.Keyed.{nth_told}
 use Rattle.pdl_locks.proofs.Late.{late_as, is_within, next_as}

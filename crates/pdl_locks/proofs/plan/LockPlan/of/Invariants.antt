@@ -1,5 +1,5 @@
 use Rattle.std.proofs.Common.{◌≡◌, map, take}
-use Rattle.pdl_tree.specs.View.{mem_view, pipe_view}
+use Rattle.pdl_syntax_tree.specs.View.{mem_view, pipe_view}
 use Rattle.pdl_locks.specs.Plan.{stages_of}
 use Rattle.pdl_locks.proofs.plan.LockPlan.of.Given as goal
 

@@ -1,11 +1,11 @@
 use Rattle.std.proofs.Common.{map, take, filter, length, List}
-use Rattle.pdl_tree.specs.View.{pipe_view}
+use Rattle.pdl_syntax_tree.specs.View.{pipe_view}
 use Rattle.pdl_rules.specs.Places.{Place, on_path}
 use Rattle.pdl_rules.specs.Stages.{bound_late}
 use Rattle.pdl_paths.specs.Actions.{place_view}
 use Rattle.pdl_paths.specs.Masks.{path_of}
-use Rattle.pdl_pathwalk.specs.Course.{by_bits}
-use Rattle.pdl_pathwalk.proofs.Steps.{walked}
+use Rattle.pdl_rules_walk.specs.Course.{by_bits}
+use Rattle.pdl_rules_walk.proofs.Steps.{walked}
 use Rattle.pdl_locks.specs.declared.at_locations.LocationRule.TheVariants.{Held, ReservedOnce, WrittenOnce, Released}
 use Rattle.pdl_locks.specs.declared.at_memories.MemoryRule.TheVariants.{ReadFirst, FewReserves}
 use Rattle.pdl_locks.specs.Walk.{at_location, of_memory}

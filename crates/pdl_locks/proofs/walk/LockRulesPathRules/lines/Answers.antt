@@ -1,8 +1,8 @@
 use Rattle.std.proofs.Common.{◌∙◌, map}
-use Rattle.pdl_tree.specs.View.{pipe_view}
+use Rattle.pdl_syntax_tree.specs.View.{pipe_view}
 use Rattle.pdl_rules.specs.Stages.{bound_late}
 use Rattle.pdl_paths.specs.Actions.{place_view}
-use Rattle.pdl_pathwalk.proofs.Lines.{found_line}
+use Rattle.pdl_rules_walk.proofs.Lines.{found_line}
 use Rattle.pdl_locks.specs.declared.at_locations.LocationRule.TheVariants.{Held, ReservedOnce, WrittenOnce, Released}
 use Rattle.pdl_locks.specs.declared.at_memories.MemoryRule.TheVariants.{ReadFirst, FewReserves}
 use Rattle.pdl_locks.specs.Walk.{at_location, of_memory}

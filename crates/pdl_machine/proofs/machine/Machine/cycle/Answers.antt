@@ -9,10 +9,10 @@ use Rattle.pdl_semantics.specs.Moves.{all_acts}
 use Rattle.pdl_semantics.specs.Cycle as stated
 use Rattle.pdl_semantics.specs.Promises.{Advances}
 use Rattle.pdl_semantics.specs.Sound.{is_sound}
-use Rattle.pdl_tree.specs.View.{pipe_view}
+use Rattle.pdl_syntax_tree.specs.View.{pipe_view}
 use Rattle.pdl_form.specs.Form.{Form}
 use Rattle.pdl_machine_facts.specs.Ports.{delayed_count, replies_of, whole_values}
-use Rattle.pdl_run.specs.Runs.{state_in}
+use Rattle.pdl_machine_run.specs.Runs.{state_in}
 use Rattle.pdl_machine.specs.Running.{Running, flat_of, state_of, replies_to}
 use Rattle.pdl_machine.proofs.Seen.{form_is}
 use Rattle.pdl_machine.proofs.Promised.{run_on, refines, advances, paces, stays_sound}

@@ -3,11 +3,11 @@ use Rattle.std.specs.Prelude.{count_by}
 use Rattle.pdl_semantics.specs.Flat.{Mem}
 use Rattle.pdl_semantics.specs.Flat.{arrays_of}
 use Rattle.pdl_semantics.specs.Cycle as stated
-use Rattle.pdl_tree.specs.View.{pipe_view}
+use Rattle.pdl_syntax_tree.specs.View.{pipe_view}
 use Rattle.pdl_form.specs.Form.{Form}
-use Rattle.pdl_run.specs.Running.{IsRunnable, AreImages}
-use Rattle.pdl_run.specs.Outputs.{output_count}
-use Rattle.pdl_run.specs.Runs.{state_in}
+use Rattle.pdl_machine_run.specs.Running.{IsRunnable, AreImages}
+use Rattle.pdl_machine_run.specs.Outputs.{output_count}
+use Rattle.pdl_machine_run.specs.Runs.{state_in}
 use Rattle.pdl_machine.proofs.Seen.{form_is}
 use Rattle.pdl_machine.proofs.Accepting.{runnable, images}
 use Rattle.pdl_machine.proofs.machine.Machine.new.Goals as goal

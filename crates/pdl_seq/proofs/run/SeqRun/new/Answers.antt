@@ -1,5 +1,5 @@
 use Rattle.std.proofs.Common.{subst, sym}
-use Rattle.pdl_tree.specs.View.{pipe_view}
+use Rattle.pdl_syntax_tree.specs.View.{pipe_view}
 use Rattle.pdl_form.specs.Form.{Form}
 use Rattle.pdl_seq.specs.Fits.{IsImageFor}
 use Rattle.pdl_seq.specs.Runs.{IsRunnable}

@@ -1,5 +1,5 @@
 use Rattle.std.proofs.Common.{◌≡◌, ◌∙◌, refl, sym, ap, ap₂, subst, ◌&&◌, not, get_or, nat_lt, map, []}
-use Rattle.pdl_tree.specs.View.{span_view, pipe_view}
+use Rattle.pdl_syntax_tree.specs.View.{span_view, pipe_view}
 use Rattle.pdl_rules.specs.Places.{on_path}
 use Rattle.pdl_rules.specs.Parts.{is_some_and}
 use Rattle.pdl_rules.specs.Stages.{stage_of, stages_that}
@@ -7,9 +7,9 @@ use Rattle.pdl_rules.specs.Speculation.{is_unverified, is_once_after, verify_sta
 use Rattle.pdl_paths.specs.declared.action.Action.{Action}
 use Rattle.pdl_paths.specs.Actions.{place_at, place_view}
 use Rattle.pdl_paths.specs.Guards.{branch_view}
-use Rattle.pdl_textstages.specs.Along.{HavePaths}
-use Rattle.pdl_textstages.specs.Stages.{stages_in}
-use Rattle.pdl_textstages.proofs.Found.{nth_stage}
+use Rattle.pdl_rules_stages.specs.Along.{HavePaths}
+use Rattle.pdl_rules_stages.specs.Stages.{stages_in}
+use Rattle.pdl_rules_stages.proofs.Found.{nth_stage}
 use Rattle.pdl_spec.specs.Verified.{only}
 use Rattle.pdl_spec.proofs.Only.{once_after}
 use Rattle.pdl_spec.proofs.verified.VerifiedOncePathRule.breaks.Goals as goal

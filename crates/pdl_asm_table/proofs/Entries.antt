@@ -1,0 +1,55 @@
+-- Entries of a dictionary.
+use Rattle.std.proofs.Common.{◌≡◌, ℕ, ◌+◌, not, ◌&&◌, Bool, true, false, cond, List, [], ◌∷◌, ◌++◌, length, refl, ap, sym, ◌∙◌, Option, Some, None, is_some, bytes_eq, nat_eq, if◌then◌else◌}
+use Rattle.std.specs.Cmp.Lexicographic.{pointwise}
+use Rattle.std.specs.Map.{lookup}
+use Rattle.indexmap.specs.IndexMap.{insert_entry}
+use Rattle.pdl_asm_table.specs.Dictionaries.{value_of, with_definition}
+use Rattle.std.proofs.lemmas.Bool.{eqb-true}
+use Rattle.pdl_asm_table.specs.Tables.{AreWide, breaks_b3, first_broken}
+use Rattle.pdl_asm_table.specs.declared.table.Insn.{Insn}
+use Rattle.pdl_word.proofs.Bools.{none_given}
+
+insert_step : {T : Type 0} (a : Bool) (x : List ℕ) (v : T) (e : List ℕ × T) (es fs : List (List ℕ × T)) (o : Option T) → is_some (cond a (Some e.1) o) ≡ false
+    → (is_some o ≡ false → fs ≡ es ++ (x, v) ∷ []) → (if a then (e.0, v) ∷ es else e ∷ fs) ≡ e ∷ (es ++ (x, v) ∷ [])
+insert_step true x v e es fs o h k = cc
+insert_step false x v e es fs o h k = ap (λ gs. e ∷ gs) (k h)
+
+-- a new name comes last
+pub insert_new : {T : Type 0} (es : List (List ℕ × T)) (x : List ℕ) (v : T) → is_some (value_of es x) ≡ false → insert_entry (pointwise nat_eq) es x v ≡ es ++ (x, v) ∷ []
+insert_new [] x v h = refl
+insert_new (e ∷ es) x v h = insert_step (bytes_eq x e.0) x v e es _ _ h (λ k. insert_new es x v k)
+
+-- a name that is there already
+pub defined_there : {T : Type 0} (es fs : List (List ℕ × T)) (x : List ℕ) (v : T) (o : Option T) → o ≡ lookup (pointwise nat_eq x) es → es ≡ fs → is_some o ≡ true → fs ≡ with_definition fs x v
+defined_there es fs x v o h k s =
+    let known = ap (λ gs. is_some (value_of gs x)) (sym k) ∙ ap is_some (sym h) ∙ s in
+    sym (ap (λ b. if b then fs else fs ++ (x, v) ∷ []) known)
+
+pub defined_new : {T : Type 0} (es fs gs : List (List ℕ × T)) (x : List ℕ) (v : T) (o : Option T) → o ≡ lookup (pointwise nat_eq x) es → es ≡ fs → is_some o ≡ false
+    → gs ≡ insert_entry (pointwise nat_eq) es x v → gs ≡ with_definition fs x v
+defined_new es fs gs x v o h k s i =
+    let missing = ap is_some (sym h) ∙ s in
+    let unknown = ap (λ hs. is_some (value_of hs x)) (sym k) ∙ missing in
+    i ∙ insert_new es x v missing ∙ ap (λ hs. hs ++ (x, v) ∷ []) k ∙ sym (ap (λ b. if b then fs else fs ++ (x, v) ∷ []) unknown)
+
+wide_step : (bits : ℕ) (b : Bool) (e : Insn) (o : Option Insn) (i : Insn) → length e.bits ≡ bits → (o ≡ Some i → length i.bits ≡ bits) → cond b (Some e) o ≡ Some i → length i.bits ≡ bits
+wide_step bits true e o i h k f = let s : e ≡ i = cc f in ap (λ (j : Insn). length j.bits) (sym s) ∙ h
+wide_step bits false e o i h k f = k f
+
+-- an instruction that a table has is as wide as all are
+pub wide_found : (bits : ℕ) (es : List (List ℕ × Insn)) (name : List ℕ) (i : Insn) → AreWide bits es → value_of es name ≡ Some i → length i.bits ≡ bits
+wide_found bits [] name i h f = cc
+wide_found bits (e ∷ es) name i h f = wide_step bits (bytes_eq name e.0) e.1 (value_of es name) i h.0 (λ g. wide_found bits es name i h.1 g) f
+
+-- ---- instructions that keep B3
+
+and_true : (a b : Bool) → not (a && b) ≡ false → b ≡ true
+and_true true true h = refl
+and_true true false h = cc
+and_true false b h = cc
+
+pub wide_if_none : (word k : ℕ) (es : List (List ℕ × Insn)) → first_broken (breaks_b3 word) k es ≡ None → AreWide word es
+wide_if_none word k [] h = tt
+wide_if_none word k (e ∷ es) h =
+    let f = none_given (breaks_b3 word e.1) k _ h in
+    (eqb-true (length e.1.bits) word (and_true _ _ f.0), wide_if_none word (k + 1) es f.1)

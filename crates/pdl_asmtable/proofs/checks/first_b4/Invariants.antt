@@ -1,7 +1,0 @@
-use Rattle.std.proofs.Common.{◌≡◌, ◌+◌, drop}
-use Rattle.pdl_asmtable.specs.Tables.{first_broken, breaks_b4}
-use Rattle.pdl_asmtable.proofs.checks.first_b4.Given as goal
-
--- those so far are right
-abbrev pub invariant-loop-i : goal.invariant-loop-i
-invariant-loop-i l = first_broken breaks_b4 (l.i + 1) (drop l.i l.insns) ≡ first_broken breaks_b4 1 l.insns

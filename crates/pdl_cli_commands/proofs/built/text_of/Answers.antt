@@ -1,0 +1,13 @@
+use Rattle.pdl_syntax_tree.specs.View.{pipe_view}
+use Rattle.pdl_cli_commands.proofs.Accepting.{is_built, both_ok}
+use Rattle.pdl_cli_commands.proofs.built.text_of.Goals as goal
+
+pub verilog_text-text-requires : goal.verilog_text-text-requires
+verilog_text-text-requires c = c.in_ok-netlist.ensures.follows.well_formed.well
+
+pub returns : goal.returns
+returns c =
+    let n = c.in_ok-netlist in
+    both_ok c.verilog_text-text.result _ _ _
+    (λ t text reads holds source b given accepted. is_built holds source b (pipe_view c.args.accepted.now.typed.pipe) n.netlist given accepted n.ensures.follows t.items n.ensures.locks text reads)
+    c.verilog_text-text.ensures.text c.verilog_text-text.ensures.reads

@@ -1,0 +1,28 @@
+-- The replies of delayed memories in a run: those of the delay file that a command names, or all of them.
+use Rattle.std.specs.Prelude.{◌≡◌, ℕ, List, Bool, IsTrue, Option, Some, None, Ok, Err, replicate, ⊤}
+use Rattle.pdl_kit.specs.declared.rule.Rule.{Rule}
+use Rattle.pdl_kit.specs.Files.{Held, Gives}
+use Rattle.pdl_image.specs.Delays.{delays}
+use Rattle.pdl_image.specs.declared.file_error.FileError.TheVariants as file
+use Rattle.pdl_netrun_lines.specs.Printed.{schedule as scheduled}
+
+-- a file that may be left out may be read
+abbrev pub AllowsFile : (List ℕ → Bool) → Option (List ℕ) → Type 0
+AllowsFile may None = ⊤
+AllowsFile may (Some name) = IsTrue (may name)
+
+-- in each of so many cycles all requests are answered: each reply bit is 1
+abbrev pub all_answered : ℕ → List ℕ
+all_answered cycles = replicate cycles 65535
+
+-- the reply bits of a run of so many cycles with so many delayed memories: all are 1 where no delay file is named; else they are those of its rows, and after the last row all are 1
+abbrev pub IsSchedule : Option Held → Option (List ℕ) → ℕ → ℕ → List ℕ → Type 0
+IsSchedule holds None count cycles schedule = schedule ≡ all_answered cycles
+IsSchedule holds (Some name) count cycles schedule =
+    (text : List ℕ) × (rows : List ℕ) × Gives holds name text × (delays count text ≡ Ok rows) × (schedule ≡ scheduled rows cycles)
+
+-- the delay file, where one is named, is refused by the rule at the line
+abbrev pub DelaysRefused : Option Held → Option (List ℕ) → ℕ → Rule → ℕ → Type 0
+DelaysRefused holds None count rule line = ⊥
+DelaysRefused holds (Some name) count rule line =
+    (text : List ℕ) × Gives holds name text × (delays count text ≡ Err (file.Refused rule line))

@@ -1,0 +1,44 @@
+// The text that the command `build` writes.
+ghost use Rattle.std.specs.Prelude.{◌≡◌, ◌≤◌, IsTrue, IfOk, IfErr, ℕ, List, Option};
+ghost use Rattle.pdl_kit.specs.Files.{Held, Gives};
+ghost use Rattle.pdl_syntax_tree.specs.View.{pipe_view};
+ghost use Rattle.pdl_cli_args.specs.Line as command;
+ghost use Rattle.pdl_cli_commands.specs.Commands.{IsAccepted, IsBuilt, Fails};
+
+use crate::run::accept;
+use pdl_check::Accepted;
+use pdl_cli_failure::{Failure, in_memory};
+use pdl_kit::NoMemory;
+use pdl_kit::files::Files;
+use pdl_pipe::compile;
+use pdl_verilog::verilog_text;
+use std::alloc::Global;
+use std::mem::drop;
+
+// The text of the netlist of an accepted pipe: what is built of whatever file gives the pipe.
+fn text_of(alloc: Global, accepted: &Accepted) -> Result<Vec<u8>, NoMemory>
+    ensures { IfOk result (λ t. (holds : Option Held) (source text : List ℕ)
+        → Gives holds source text → IsAccepted text (pipe_view accepted.now.typed.pipe)
+        → IsBuilt holds source t.items) }
+{
+    let netlist = compile(alloc, accepted)?;
+    let text = verilog_text(alloc, &netlist);
+    drop(netlist);
+    text
+}
+
+/// The text that `build` writes for a source with this name.
+pub fn build<F: Files>(alloc: Global, files: &mut F, source: &str) -> Result<Vec<u8>, Failure>
+    requires { IsTrue (F.may files.old source.now) }
+    ensures ok { IfOk result (λ t. IsBuilt (F.holds files.old) source.now t.items) }
+    ensures err { IfErr result (Fails (F.holds files.old) (F.faults files.old) (F.faults files.new)
+        (command.build source.now)) }
+    ensures held { F.holds files.new ≡ F.holds files.old }
+    ensures allowed { (n : List ℕ) → F.may files.new n ≡ F.may files.old n }
+    ensures later { F.faults files.old ≤ F.faults files.new }
+{
+    let accepted = accept(alloc, files, source)?;
+    let text = in_memory(text_of(alloc, &accepted));
+    drop(accepted);
+    text
+}

@@ -1,5 +1,0 @@
-use Rattle.pdl_flat.proofs.Leading.{next_seen}
-use Rattle.pdl_flat.proofs.body.way_on.Goals as goal
-
-pub returns : goal.returns
-returns c = next_seen c.args.stages.now c.args.k _ c.requires

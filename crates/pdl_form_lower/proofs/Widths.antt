@@ -1,0 +1,61 @@
+-- No variable or expression of a pipe that keeps the rules is wider than 64 bits.
+use Rattle.std.proofs.Common.{ℕ, ◌+◌, ◌-◌, ◌≤◌, ◌<◌, Bool, true, false, List, [], ◌∷◌, ◌++◌, if◌then◌else◌, nat_lt, bytes_eq, arith}
+use Rattle.pdl_semantics.specs.Tree.{Expr, Constant, Variable, Slice, Not, Binary, Cat, LessSigned, ZeroExtend, SignExtend, Choose, Mem}
+use Rattle.pdl_semantics.specs.Flatten.{Var, widest, var_width, mem_width, width_of}
+use Rattle.pdl_rules.specs.Typed.{IsTyped}
+use Rattle.pdl_form_lower.specs.Sized.{IsSized, AreSizedMems}
+use Rattle.pdl_semantics.proofs.Facts.{op_narrow}
+
+-- EXPRESSIONS
+
+-- no variable is wider than 64 bits
+abbrev pub Small : List Var → Type 0
+Small [] = Unit {0}
+Small (v ∷ vs) = (v.width ≤ 64) × Small vs
+
+pub small_width : (vs : List Var) → Small vs → (x : List ℕ) → var_width vs x ≤ 64
+small_width [] small x = omega arith
+small_width (v ∷ vs) small x = go (bytes_eq v.name x) (small_width vs small.1 x)
+  where
+    go : (b : Bool) → var_width vs x ≤ 64 → (if b then v.width else var_width vs x) ≤ 64
+    go true h = small.0
+    go false h = h
+
+small_if : (b : Bool) (n : ℕ) → n ≤ 64 → (if b then 1 else n) ≤ 64
+small_if true n h = omega arith
+small_if false n h = h
+
+pub sized_typed : (vs : List Var) → Small vs → (e : Expr) → IsTyped vs e → IsSized e × (width_of vs e ≤ 64)
+sized_typed vs small (Constant l) t = (t.1, t.1)
+sized_typed vs small (Variable x) t = (tt, small_width vs small x.name)
+sized_typed vs small (Slice x high low) t =
+    let wide : var_width vs x.name ≤ 64 = small_width vs small x.name in
+    let order : low.value ≤ high.value = t.1 in
+    let below : high.value < var_width vs x.name = t.2 in
+    ((omega arith, omega arith), small_if (nat_lt high.value low.value) (high.value + 1 - low.value) (omega arith))
+sized_typed vs small (Not a) t = sized_typed vs small a t
+sized_typed vs small (Binary op a b) t =
+    let left = sized_typed vs small a t.0 in
+    ((left.0, (sized_typed vs small b t.1).0), op_narrow op (width_of vs a) left.1)
+sized_typed vs small (Cat a b) t =
+    (((sized_typed vs small a t.0).0, (sized_typed vs small b t.1).0), small_if (nat_lt widest (width_of vs a + width_of vs b)) (width_of vs a + width_of vs b) t.2)
+sized_typed vs small (LessSigned a b) t = (((sized_typed vs small a t.0).0, (sized_typed vs small b t.1).0), omega arith)
+sized_typed vs small (ZeroExtend a n) t = ((t.2, (sized_typed vs small a t.0).0), t.2)
+sized_typed vs small (SignExtend a n) t = ((t.2, (sized_typed vs small a t.0).0), t.2)
+sized_typed vs small (Choose c a b) t =
+    let first = sized_typed vs small a t.1 in
+    (((sized_typed vs small c t.0).0, (first.0, (sized_typed vs small b t.2).0)), first.1)
+
+-- VARIABLES
+
+pub small_more : (vs : List Var) (v : Var) → Small vs → v.width ≤ 64 → Small (vs ++ v ∷ [])
+small_more [] v small h = (h, tt)
+small_more (u ∷ vs) v small h = (small.0, small_more vs v small.1 h)
+
+pub small_mem : (ms : List Mem) (m : List ℕ) → AreSizedMems ms → mem_width ms m ≤ 64
+small_mem [] m s = omega arith
+small_mem (x ∷ ms) m s = go (bytes_eq x.name.name m) (small_mem ms m s.1)
+  where
+    go : (b : Bool) → mem_width ms m ≤ 64 → (if b then x.width.value else mem_width ms m) ≤ 64
+    go true h = s.0.width
+    go false h = h

@@ -1,0 +1,5 @@
+use Rattle.pdl_form_lower.proofs.Leading.{next_seen}
+use Rattle.pdl_form_lower.proofs.body.way_on.Goals as goal
+
+pub returns : goal.returns
+returns c = next_seen c.args.stages.now c.args.k _ c.requires

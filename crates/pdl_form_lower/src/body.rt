@@ -1,0 +1,287 @@
+// The walk over the statements of a pipe.
+ghost use Rattle.std.specs.Prelude.{◌≡◌, ◌≤◌, ◌<◌, ◌++◌, ◌+◌, ◌==◌, suc, true, false, [], ◌∷◌, map, IfOk, OnOk, length, if◌then◌else◌};
+ghost use Rattle.pdl_semantics.specs.Flat as flat;
+ghost use Rattle.pdl_semantics.specs.Flatten as spec;
+ghost use Rattle.pdl_syntax_tree.specs.View as tree;
+ghost use Rattle.pdl_form.specs.View.{guards_view, stmts_view, stages_view, next_view, branch_view};
+ghost use Rattle.pdl_form_lower.specs.Sized.{IsSized, IsSizedStmt, AreSizedStmts, AreSizedMems};
+ghost use Rattle.pdl_form_lower.specs.Walking.{place_of, IsWhole, closed_stages, next_at, settled_stages};
+
+use crate::count::separators;
+use crate::expr::flat_expr;
+use crate::row::{add, row};
+use crate::walk::{Round, Walk, begin, lead, mark};
+use pdl_form::{Branch, Guard, Next, Op, Stage};
+use pdl_kit::{Name, NoMemory, Seq};
+use pdl_syntax_tree::{Expr, Mem, Stmt};
+use std::alloc::Global;
+
+// The variable of a condition's truth value: the plain variable itself, else one of its own, which is bound here.
+fn guard(alloc: Global, walk: &mut Walk, guards: &[Guard], c: &Expr) -> Result<usize, NoMemory>
+    requires { IsSized (tree.expr_view c.now) }
+    ensures var { IfOk result (λ x. x ≡ spec.guard_of walk.old.vars (tree.expr_view c.now)) }
+    ensures stmts { OnOk result (stmts_view walk.new.stmts.items
+        ≡ stmts_view walk.old.stmts.items ++ spec.binds_guard (guards_view guards.now)
+        (place_of walk.old) (tree.expr_view c.now)) }
+    ensures place { OnOk result (place_of walk.new
+        ≡ spec.with_guard (tree.expr_view c.now) (place_of walk.old)) }
+    ensures stages { OnOk result (walk.new.stages.items ≡ walk.old.stages.items) }
+{
+    if let Expr::Variable(x) = c {
+        return Ok(walk.vars.number(&x.name));
+    }
+    let value = flat_expr(alloc, &walk.vars, c)?;
+    let x = walk.vars.len();
+    add(alloc, walk, guards, Op::Bind { x, e: value.e })?;
+    let unnamed = Name::copy_of(alloc, b"")?;
+    walk.vars.define(&unnamed, 1)?;
+    Ok(x)
+}
+
+// An `if` that the walk has come to: its guard, its stage with where that stage led so far, the stage that begins after both branches, and whether it is a fork.
+#[derive(Clone, Copy)]
+struct Choice {
+    var: usize,
+    stage: usize,
+    before: Next,
+    begun: usize,
+    merge: usize,
+}
+
+// Where a stage leads.
+fn way_on(stages: &[Stage], k: usize) -> Next
+    requires { k < length stages.now }
+    ensures { next_view result ≡ next_at k (stages_view stages.now) }
+{
+    stages[k].next
+}
+
+// Enters an `if` in which this many stages begin.
+fn enter(
+    alloc: Global,
+    walk: &mut Walk,
+    guards: &[Guard],
+    c: &Expr,
+    more: usize,
+) -> Result<Choice, NoMemory>
+    requires whole { IsWhole walk.old }
+    requires few { walk.old.begun + more ≤ 63 }
+    requires sized { IsSized (tree.expr_view c.now) }
+    ensures stmts { OnOk result (stmts_view walk.new.stmts.items
+        ≡ stmts_view walk.old.stmts.items ++ spec.binds_guard (guards_view guards.now)
+        (place_of walk.old) (tree.expr_view c.now)) }
+    ensures place { OnOk result (place_of walk.new
+        ≡ spec.with_guard (tree.expr_view c.now) (place_of walk.old)) }
+    ensures stages { OnOk result (walk.new.stages.items ≡ walk.old.stages.items) }
+    ensures var { IfOk result (λ x. x.var ≡ spec.guard_of walk.old.vars (tree.expr_view c.now)) }
+    ensures stage { IfOk result (λ x. x.stage ≡ walk.old.stage) }
+    ensures before { IfOk result (λ x.
+        next_view x.before ≡ next_at walk.old.stage (stages_view walk.old.stages.items)) }
+    ensures begun { IfOk result (λ x. x.begun ≡ walk.old.begun) }
+    ensures merge { IfOk result (λ x. x.merge ≡ suc (walk.old.begun + more)) }
+{
+    let stage = walk.stage;
+    let before = way_on(walk.stages.as_slice(), stage);
+    let begun = walk.begun;
+    let var = guard(alloc, walk, guards, c)?;
+    Ok(Choice {
+        var,
+        stage,
+        before,
+        begun,
+        merge: begun + more + 1,
+    })
+}
+
+// What stands round a branch.
+fn inside(alloc: Global, guards: &[Guard], choice: Choice, first: bool) -> Result<Round, NoMemory>
+    ensures guards { IfOk result (λ r.
+        guards_view r.guards ≡ guards_view guards.now ++ record {
+          var = choice.var;
+          first = first;
+        } ∷ []) }
+    ensures branch { IfOk result (λ r. branch_view r.branch ≡ spec.side choice.stage first) }
+    ensures exit { IfOk result (λ r. next_view r.exit ≡ flat.Goes choice.merge) }
+{
+    let mut guards = Seq::copy_of(alloc, guards)?;
+    let var = choice.var;
+    guards.push(Guard { var, first })?;
+    let fork = choice.stage;
+    Ok(Round {
+        guards,
+        branch: Some(Branch { fork, first }),
+        exit: Next::Goes(choice.merge),
+    })
+}
+
+// The stage to which this one leads alone.
+fn entry(stages: &[Stage], k: usize) -> usize
+    requires { k < length stages.now }
+    ensures { result ≡ spec.entry (next_at k (stages_view stages.now)) }
+{
+    match way_on(stages, k) {
+        Next::Goes(to) => to,
+        Next::Ends | Next::Forks { .. } => 0,
+    }
+}
+
+// Ends an `if` whose branches enter these stages first, and answers whether a fork now stands in its stage.
+fn leave(walk: &mut Walk, choice: Choice, first: usize, second: usize, forked: bool) -> bool
+    requires whole { IsWhole walk.old }
+    requires stage { choice.stage ≤ walk.old.begun }
+    requires begun { choice.begun ≤ walk.old.begun }
+    ensures place { place_of walk.new ≡ place_of walk.old }
+    ensures stmts { walk.new.stmts.items ≡ walk.old.stmts.items }
+    ensures stages { stages_view walk.new.stages.items
+        ≡ settled_stages (walk.old.begun == choice.begun) forked choice.stage choice.begun
+        (next_view choice.before) (flat.Forks choice.var first second)
+        (stages_view walk.old.stages.items) }
+    ensures whole { IsWhole walk.new }
+    ensures value { result ≡ (if walk.old.begun == choice.begun then forked else true) }
+{
+    let x = choice.var;
+    if walk.begun == choice.begun {
+        lead(&mut walk.stages, choice.stage, choice.before);
+        return forked;
+    }
+    if forked {
+        lead(&mut walk.stages, choice.stage, choice.before);
+        mark(&mut walk.stages, choice.begun + 1, choice.stage);
+    } else {
+        let next = Next::Forks { x, first, second };
+        lead(&mut walk.stages, choice.stage, next);
+    }
+    true
+}
+
+// Walks over a branch, goes back to the stage of its `if`, and answers the stage that the branch enters first.
+#[cycle(walk)]
+fn branch(
+    alloc: Global,
+    walk: &mut Walk,
+    mems: &[Mem],
+    guards: &[Guard],
+    choice: Choice,
+    first: bool,
+    ss: &[Stmt],
+) -> Result<usize, NoMemory>
+    requires whole { IsWhole walk.old }
+    requires stage { walk.old.stage ≡ choice.stage }
+    requires few { walk.old.begun + spec.separators (tree.stmts_view ss.now) ≤ 63 }
+    requires sized { AreSizedStmts (tree.stmts_view ss.now) }
+    requires mems { AreSizedMems (map tree.mem_view mems.now) }
+    ensures place { OnOk result (place_of walk.new
+        ≡ spec.back_in choice.stage
+        (spec.past_all (map tree.mem_view mems.now) (tree.stmts_view ss.now) (place_of walk.old))) }
+    ensures stmts { OnOk result (stmts_view walk.new.stmts.items
+        ≡ stmts_view walk.old.stmts.items ++ spec.flat_stmts (map tree.mem_view mems.now)
+        (guards_view guards.now ++ record { var = choice.var; first = first } ∷ [])
+        (tree.stmts_view ss.now) (place_of walk.old)) }
+    ensures graph { OnOk result (stages_view walk.new.stages.items
+        ≡ closed_stages choice.stage false (stages_view walk.old.stages.items)
+        (spec.graph (map tree.mem_view mems.now) (spec.side choice.stage first)
+        (flat.Goes choice.merge) (tree.stmts_view ss.now) (place_of walk.old))) }
+    ensures entry { IfOk result (λ k.
+        k ≡ spec.entry (spec.graph (map tree.mem_view mems.now) (spec.side choice.stage first)
+        (flat.Goes choice.merge) (tree.stmts_view ss.now) (place_of walk.old)).next) }
+    ensures whole { OnOk result (IsWhole walk.new) }
+    ensures count { OnOk result (walk.new.begun
+        ≡ walk.old.begun + spec.separators (tree.stmts_view ss.now)) }
+{
+    let round = inside(alloc, guards, choice, first)?;
+    statements(alloc, walk, mems, &round, ss)?;
+    walk.stage = choice.stage;
+    Ok(entry(walk.stages.as_slice(), choice.stage))
+}
+
+/// Walks over a statement, and answers whether a fork now stands in the stage of the walk.
+#[cycle(walk)]
+pub fn statement(
+    alloc: Global,
+    walk: &mut Walk,
+    mems: &[Mem],
+    round: &Round,
+    forked: bool,
+    s: &Stmt,
+) -> Result<bool, NoMemory>
+    requires whole { IsWhole walk.old }
+    requires few { walk.old.begun + spec.separators_in (tree.stmt_view s.now) ≤ 63 }
+    requires sized { IsSizedStmt (tree.stmt_view s.now) }
+    requires mems { AreSizedMems (map tree.mem_view mems.now) }
+    ensures place { OnOk result (place_of walk.new
+        ≡ spec.past (map tree.mem_view mems.now) (tree.stmt_view s.now) (place_of walk.old)) }
+    ensures stmts { OnOk result (stmts_view walk.new.stmts.items
+        ≡ stmts_view walk.old.stmts.items ++ spec.flat_stmt (map tree.mem_view mems.now)
+        (guards_view round.now.guards) (tree.stmt_view s.now) (place_of walk.old)) }
+    ensures graph { IfOk result (λ after. (rest : spec.Graph) →
+        closed_stages walk.new.stage after (stages_view walk.new.stages.items) rest
+        ≡ closed_stages walk.old.stage forked (stages_view walk.old.stages.items)
+        (spec.graph_before (map tree.mem_view mems.now) (branch_view round.now.branch)
+        (tree.stmt_view s.now) (place_of walk.old) rest)) }
+    ensures whole { OnOk result (IsWhole walk.new) }
+    ensures count { OnOk result (walk.new.begun
+        ≡ walk.old.begun + spec.separators_in (tree.stmt_view s.now)) }
+{
+    match s {
+        Stmt::Separator { .. } => {
+            begin(walk, round.branch, forked)?;
+            Ok(false)
+        }
+        Stmt::If {
+            condition,
+            then,
+            otherwise,
+            ..
+        } => {
+            let guards = round.guards.as_slice();
+            let when = then.as_slice();
+            let other = otherwise.as_slice();
+            let more = separators(when) + separators(other);
+            let choice = enter(alloc, walk, guards, condition, more)?;
+            let first = branch(alloc, walk, mems, guards, choice, true, when)?;
+            let second = branch(alloc, walk, mems, guards, choice, false, other)?;
+            Ok(leave(walk, choice, first, second, forked))
+        }
+        _ => {
+            row(alloc, walk, mems, round.guards.as_slice(), s)?;
+            Ok(forked)
+        }
+    }
+}
+
+/// Walks over statements.
+#[cycle(walk)]
+pub fn statements(
+    alloc: Global,
+    walk: &mut Walk,
+    mems: &[Mem],
+    round: &Round,
+    ss: &[Stmt],
+) -> Result<(), NoMemory>
+    requires whole { IsWhole walk.old }
+    requires few { walk.old.begun + spec.separators (tree.stmts_view ss.now) ≤ 63 }
+    requires sized { AreSizedStmts (tree.stmts_view ss.now) }
+    requires mems { AreSizedMems (map tree.mem_view mems.now) }
+    ensures place { OnOk result (place_of walk.new
+        ≡ spec.past_all (map tree.mem_view mems.now) (tree.stmts_view ss.now) (place_of walk.old)) }
+    ensures stmts { OnOk result (stmts_view walk.new.stmts.items
+        ≡ stmts_view walk.old.stmts.items ++ spec.flat_stmts (map tree.mem_view mems.now)
+        (guards_view round.now.guards) (tree.stmts_view ss.now) (place_of walk.old)) }
+    ensures graph { OnOk result (stages_view walk.new.stages.items
+        ≡ closed_stages walk.old.stage false (stages_view walk.old.stages.items)
+        (spec.graph (map tree.mem_view mems.now) (branch_view round.now.branch)
+        (next_view round.now.exit) (tree.stmts_view ss.now) (place_of walk.old))) }
+    ensures whole { OnOk result (IsWhole walk.new) }
+    ensures count { OnOk result (walk.new.begun
+        ≡ walk.old.begun + spec.separators (tree.stmts_view ss.now)) }
+{
+    let mut forked = false;
+    for s in ss {
+        forked = statement(alloc, walk, mems, round, forked, s)?;
+    }
+    if !forked {
+        let stage = walk.stage;
+        lead(&mut walk.stages, stage, round.exit);
+    }
+    Ok(())
+}

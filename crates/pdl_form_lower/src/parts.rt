@@ -1,0 +1,94 @@
+// The parts of a pipe round its body.
+ghost use Rattle.std.specs.Prelude.{◌≡◌, map, unwrap_or, IfOk};
+ghost use Rattle.pdl_semantics.specs.Flatten as spec;
+ghost use Rattle.pdl_syntax_tree.specs.View as tree;
+ghost use Rattle.pdl_form.specs.View.{mem_view, mems_view, lock_view, mem_names};
+ghost use Rattle.pdl_form.specs.Form.{names_of};
+ghost use Rattle.pdl_form_lower.specs.Sized.{IsSizedLock, IsSizedMem, AreSizedMems, AreSizedParams};
+
+use crate::vars::Vars;
+use pdl_form::{Lock, Mem};
+use pdl_kit::NoMemory;
+use pdl_syntax_tree::{Literal, LockDecl, LockKind, Mem as Tree, Param};
+use std::alloc::Global;
+
+/// The parameters as variables.
+pub fn params(alloc: Global, params: &[Param]) -> Result<Vars, NoMemory>
+    requires { AreSizedParams (map tree.param_view params.now) }
+    ensures { IfOk result (λ vs. vs ≡ spec.params_of (map tree.param_view params.now)) }
+{
+    let mut vars = Vars::new(alloc);
+    for param in params {
+        vars.define(&param.name.name, param.width.value as u8)?;
+    }
+    Ok(vars)
+}
+
+fn lock(lock: Option<LockDecl>) -> Lock
+    requires { IsSizedLock (tree.maybe_lock_view lock) }
+    ensures { lock_view result ≡ spec.flat_lock (tree.maybe_lock_view lock) }
+{
+    match lock {
+        None => Lock::Plain,
+        Some(lock) => {
+            let size = lock.size.value as u8;
+            match lock.kind {
+                LockKind::Queue => Lock::Queue(size),
+                LockKind::Bypass => Lock::Bypass(size),
+                LockKind::Rename => Lock::Rename(size),
+            }
+        }
+    }
+}
+
+fn memory(mem: &Tree) -> Result<Mem, NoMemory>
+    requires { IsSizedMem (tree.mem_view mem.now) }
+    ensures view { IfOk result (λ m.
+        mem_view m ≡ record {
+          width = mem.now.width.value;
+          depth = mem.now.depth.value;
+          delayed = mem.now.delayed;
+          lock = spec.flat_lock (tree.maybe_lock_view mem.now.lock);
+        }) }
+    ensures name { IfOk result (λ m. m.name ≡ mem.now.name.name) }
+{
+    let lock = lock(mem.lock);
+    Ok(Mem {
+        name: mem.name.name.clone()?,
+        width: mem.width.value as u8,
+        depth: mem.depth.value as u32,
+        delayed: mem.delayed,
+        lock,
+    })
+}
+
+/// The memories.
+pub fn memories(alloc: Global, mems: &[Tree]) -> Result<Vec<Mem>, NoMemory>
+    requires { AreSizedMems (map tree.mem_view mems.now) }
+    ensures view { IfOk result (λ ms.
+        mems_view ms.items ≡ spec.mems_of (map tree.mem_view mems.now)) }
+    ensures names { IfOk result (λ ms. mem_names ms.items ≡ names_of (map tree.mem_view mems.now)) }
+{
+    let mut memories = Vec::new(alloc);
+    for mem in mems {
+        memories.push(memory(mem)?)?;
+    }
+    Ok(memories)
+}
+
+/// The start arguments.
+pub fn start(alloc: Global, args: &[Literal]) -> Result<Vec<u64>, NoMemory>
+    ensures { IfOk result (λ vs. vs.items ≡ spec.start_of (map tree.literal_view args.now)) }
+{
+    let mut start = Vec::new(alloc);
+    for arg in args {
+        start.push(value_of(arg))?;
+    }
+    Ok(start)
+}
+
+fn value_of(arg: &Literal) -> u64
+    ensures { result ≡ unwrap_or arg.now.value 0 }
+{
+    arg.value.unwrap_or(0)
+}

@@ -1,0 +1,121 @@
+// The flat form of a whole pipe.
+ghost use Rattle.std.specs.Prelude.{◌≡◌, ◌≤◌, [], map, IfOk, OnOk};
+ghost use Rattle.pdl_semantics.specs.Flatten as spec;
+ghost use Rattle.pdl_syntax_tree.specs.View.{pipe_view};
+ghost use Rattle.pdl_form.specs.View.{stmts_view, stages_view, mems_view, mem_names};
+ghost use Rattle.pdl_form.specs.Form.{form_of, names_of};
+ghost use Rattle.pdl_form.specs.Whole.{form};
+ghost use Rattle.pdl_form_lower.specs.Sized.{IsSizedPipe};
+ghost use Rattle.pdl_form_lower.specs.Walking.{place_of};
+
+use crate::body::statements;
+use crate::parts::{memories, params, start};
+use crate::vars::Vars;
+use crate::walk::{Round, Walk};
+use pdl_form::{FlatPipe, Mem, Next, Stage};
+use pdl_kit::{NoMemory, Seq};
+use pdl_syntax_tree::Pipe;
+use std::alloc::Global;
+
+// The walk over the whole body.
+fn walk_over(alloc: Global, pipe: &Pipe) -> Result<Walk, NoMemory>
+    requires sized { IsSizedPipe (pipe_view pipe.now) }
+    requires few { spec.separators (pipe_view pipe.now).body ≤ 63 }
+    ensures vars { IfOk result (λ w.
+        w.vars ≡ (spec.past_all (pipe_view pipe.now).mems (pipe_view pipe.now).body
+        (spec.at_start (pipe_view pipe.now))).vars) }
+    ensures stmts { IfOk result (λ w.
+        stmts_view w.stmts.items ≡ spec.flat_stmts (pipe_view pipe.now).mems []
+        (pipe_view pipe.now).body (spec.at_start (pipe_view pipe.now))) }
+    ensures stages { IfOk result (λ w.
+        stages_view w.stages.items ≡ spec.stages_of (pipe_view pipe.now)) }
+{
+    let mut walk = Walk {
+        vars: params(alloc, pipe.params.as_slice())?,
+        stmts: Vec::new(alloc),
+        stages: Vec::new(alloc),
+        stage: 0,
+        begun: 0,
+    };
+    walk_body(alloc, &mut walk, pipe)?;
+    Ok(walk)
+}
+
+// Walks over the whole body, where nothing but the parameters is known.
+fn walk_body(alloc: Global, walk: &mut Walk, pipe: &Pipe) -> Result<(), NoMemory>
+    requires sized { IsSizedPipe (pipe_view pipe.now) }
+    requires few { spec.separators (pipe_view pipe.now).body ≤ 63 }
+    requires place { place_of walk.old ≡ spec.at_start (pipe_view pipe.now) }
+    requires stmts { walk.old.stmts.items ≡ [] }
+    requires stages { walk.old.stages.items ≡ [] }
+    ensures vars { OnOk result (
+        walk.new.vars ≡ (spec.past_all (pipe_view pipe.now).mems (pipe_view pipe.now).body
+        (spec.at_start (pipe_view pipe.now))).vars) }
+    ensures stmts { OnOk result (
+        stmts_view walk.new.stmts.items ≡ spec.flat_stmts (pipe_view pipe.now).mems []
+        (pipe_view pipe.now).body (spec.at_start (pipe_view pipe.now))) }
+    ensures stages { OnOk result (
+        stages_view walk.new.stages.items ≡ spec.stages_of (pipe_view pipe.now)) }
+{
+    walk.stages.push(Stage {
+        next: Next::Ends,
+        branch: None,
+        merges: None,
+    })?;
+    let round = Round {
+        guards: Seq::new(alloc),
+        branch: None,
+        exit: Next::Ends,
+    };
+    statements(
+        alloc,
+        walk,
+        pipe.mems.as_slice(),
+        &round,
+        pipe.body.as_slice(),
+    )
+}
+
+// The parts of a flat form that don't come from the walk itself.
+#[derive(Drop)]
+struct Parts {
+    widths: Vec<u8>,
+    mems: Vec<Mem>,
+    start: Vec<u64>,
+}
+
+// The widths of these variables, and a pipe's memories and start arguments.
+fn parts_beside(alloc: Global, pipe: &Pipe, vars: &Vars) -> Result<Parts, NoMemory>
+    requires { IsSizedPipe (pipe_view pipe.now) }
+    ensures widths { IfOk result (λ r. r.widths.items ≡ map (λ (v : spec.Var). v.width) vars.now) }
+    ensures mems { IfOk result (λ r. mems_view r.mems.items
+        ≡ spec.mems_of (pipe_view pipe.now).mems) }
+    ensures names { IfOk result (λ r. mem_names r.mems.items
+        ≡ names_of (pipe_view pipe.now).mems) }
+    ensures start { IfOk result (λ r. r.start.items
+        ≡ spec.start_of (pipe_view pipe.now).start.args) }
+{
+    let widths = vars.widths(alloc)?;
+    let mems = memories(alloc, pipe.mems.as_slice())?;
+    let start = start(alloc, pipe.start.args.as_slice())?;
+    Ok(Parts {
+        widths,
+        mems,
+        start,
+    })
+}
+
+/// The flat form of a pipe.
+pub fn lower(alloc: Global, pipe: &Pipe) -> Result<FlatPipe, NoMemory>
+    requires sized { IsSizedPipe (pipe_view pipe.now) }
+    requires few { spec.separators (pipe_view pipe.now).body ≤ 63 }
+    ensures { IfOk result (λ f. form f ≡ form_of (pipe_view pipe.now)) }
+{
+    let walk = walk_over(alloc, pipe)?;
+    let Parts {
+        widths,
+        mems,
+        start,
+    } = parts_beside(alloc, pipe, &walk.vars)?;
+    FlatPipe::new(alloc, widths, mems, walk.stmts, walk.stages, start)
+}

@@ -1,0 +1,5 @@
+use Rattle.pdl_form_types.proofs.Whole.{typed_whole}
+use Rattle.pdl_form_types.proofs.typed_form.Goals as goal
+
+pub returns : goal.returns
+returns c = typed_whole

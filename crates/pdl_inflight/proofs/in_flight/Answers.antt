@@ -1,5 +1,0 @@
-use Rattle.pdl_inflight.proofs.Flights.{flights}
-use Rattle.pdl_inflight.proofs.in_flight.Goals as goal
-
-pub returns : goal.returns
-returns c = flights

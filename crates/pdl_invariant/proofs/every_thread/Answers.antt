@@ -1,5 +1,0 @@
-use Rattle.pdl_invariant.proofs.EveryState.{order, chain_here, certain, requests, owners, pending, blocks, paths}
-use Rattle.pdl_invariant.proofs.every_thread.Goals as goal
-
-pub returns : goal.returns
-returns c = record { order = order; chain = chain_here; certain = certain; requests = requests; outstanding = owners; pending = pending; blocks = blocks; paths = paths }

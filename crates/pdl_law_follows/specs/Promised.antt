@@ -1,0 +1,24 @@
+-- All that is promised of a run.
+use Rattle.std.specs.Prelude.{◌≡◌, ℕ, ◌<◌, List, length, take, slice_index}
+use Rattle.pdl_semantics.specs.Tree as tree
+use Rattle.pdl_semantics.specs.Flat.{arrays_of}
+use Rattle.pdl_semantics.specs.Flatten.{flat}
+use Rattle.pdl_semantics.specs.Lines.{run_lines}
+use Rattle.pdl_semantics.specs.Promises.{Refines, Advances, KeepsPace}
+use Rattle.pdl_net.specs.declared.Netlist.{Netlist}
+use Rattle.pdl_law_parts.specs.Places.{delayed_count}
+use Rattle.pdl_law_parts.specs.Runs.{shown_lines}
+use Rattle.pdl_law_sides.specs.Whole.{in_order, replies_of}
+use Rattle.pdl_law_follows.specs.Memories.{replies_in}
+
+-- a run of a netlist, from an image of its memories with a schedule of replies, and of the machine of a pipe
+pub record IsRunOf (p : tree.Pipe) (n : Netlist) (image : List (List ℕ)) (schedule : List ℕ) : Type 0 where
+  -- what is printed of the netlist are the machine's lines
+  pub lines : shown_lines n image schedule ≡ run_lines p (in_order (flat p) image) (replies_in (flat p) schedule)
+  -- each memory's commits have the sequential writes of the threads that ended, and are a prefix of the sequential writes
+  pub refines : Refines (flat p) (arrays_of (in_order (flat p) image)) (replies_in (flat p) schedule)
+  -- in each cycle that is no wait the oldest thread moves
+  pub moves : (k : ℕ) → k < length schedule
+      → Advances (flat p) (arrays_of (in_order (flat p) image)) (replies_in (flat p) (take k schedule)) (replies_of (delayed_count (flat p)) (slice_index schedule k))
+  -- and so enough threads end
+  pub pace : KeepsPace (flat p) (arrays_of (in_order (flat p) image)) (replies_in (flat p) schedule)

@@ -1,0 +1,95 @@
+-- The memories with a commit port are those with a lock, in declared order, and the lines of a cycle are those of all memories.
+use Rattle.std.proofs.Common.{◌≡◌, inl, inr, ℕ, zero, suc, Bool, true, false, ◌&&◌, if◌then◌else◌, List, [], ◌∷◌, ◌++◌, map, Option, Some, None, codes, decimal, bytes_eq, refl, sym, ap, ap₂, ◌∙◌, subst}
+use Rattle.std.specs.Prelude.{filter_map}
+use Rattle.std.specs.List.{cons_option}
+use Rattle.std.specs.Option.{is_some}
+use Rattle.pdl_kit.specs.declared.mem_info.MemInfo.{MemInfo}
+use Rattle.pdl_semantics.specs.Tree.{Mem}
+use Rattle.pdl_semantics.specs.Flatten.{mems_of}
+use Rattle.pdl_semantics.specs.Cycle.{PortWrite}
+use Rattle.pdl_semantics.specs.Lines.{column, columns, cycle_lines, mem_lines, put_of, puts_in}
+use Rattle.pdl_rules.specs.Typed.{AreDistinct}
+use Rattle.pdl_rules.specs.Memories.{info_of}
+use Rattle.pdl_net.specs.Circuit.{Output}
+use Rattle.pdl_law_parts.specs.Declared.{if_locked}
+use Rattle.pdl_law_parts.specs.Runs.{column_of, commit_mem}
+use Rattle.pdl_law_parts.proofs.WellFormedNames.{Among, name_turned, among_other}
+use Rattle.pdl_law_parts.proofs.WellFormedPorts.{stage_names}
+use Rattle.pdl_law_parts.proofs.LinesMachine.{AreCommits}
+use Rattle.pdl_law_parts.proofs.LinesNames.{name_of_output}
+use Rattle.pdl_law_parts.proofs.LinesPorts.{found, found_first}
+use Rattle.pdl_word.proofs.Bytes.{bytes_refl}
+use Rattle.pdl_semantics.proofs.Facts.{lock_declared}
+
+-- the memories with a lock, in declared order
+abbrev pub locked_infos : List Mem → List MemInfo
+locked_infos [] = []
+locked_infos (m ∷ ms) = if_locked m (info_of m ∷ []) ++ locked_infos ms
+
+-- each of these memories is the one whose commit port has its name
+abbrev pub AreFound : List Mem → List MemInfo → Type 0
+AreFound ms infos =
+    (m : Mem) → Among m ms → commit_mem infos (codes "c_" ++ m.name.name) ≡ Some (info_of m)
+
+-- of the declared memories each is the one of its name
+pub declared_found : (ms : List Mem) → AreDistinct ms → AreFound ms (map info_of ms)
+declared_found [] d m a = absurd a
+declared_found (x ∷ xs) d m (inl s) =
+    subst (λ (y : Mem). commit_mem (map info_of (x ∷ xs)) (codes "c_" ++ y.name.name) ≡ Some (info_of y)) s
+    (ap (λ b. if b then Some (info_of x) else commit_mem (map info_of xs) (codes "c_" ++ x.name.name)) (bytes_refl x.name.name))
+declared_found (x ∷ xs) d m (inr a) =
+    ap (λ b. if b then Some (info_of x) else commit_mem (map info_of xs) (codes "c_" ++ m.name.name)) (among_other x.name.name xs m d.0 a)
+    ∙ declared_found xs d.1 m a
+
+-- ---- which memories have a commit port
+
+-- a name that is none of a commit port
+other_port : (infos : List MemInfo) (port : List ℕ) → ((x : List ℕ) → bytes_eq port (codes "c_" ++ x) ≡ false) → commit_mem infos port ≡ None
+other_port [] port h = refl
+other_port (m ∷ ms) port h = ap (λ b. if b then Some m else commit_mem ms port) (h m.name) ∙ other_port ms port h
+
+-- those among these names
+abbrev pub with_port : List MemInfo → List (List ℕ) → List MemInfo
+with_port infos names = filter_map (commit_mem infos) names
+
+pub skipped : (infos : List MemInfo) (port : List ℕ) (names : List (List ℕ)) → ((x : List ℕ) → bytes_eq port (codes "c_" ++ x) ≡ false) → with_port infos (port ∷ names) ≡ with_port infos names
+skipped infos port names h = ap (λ o. cons_option o (with_port infos names)) (other_port infos port h)
+
+pub none_of_stages : (infos : List MemInfo) (k n : ℕ) (names : List (List ℕ)) → with_port infos (stage_names k n names) ≡ with_port infos names
+none_of_stages infos k zero names = refl
+none_of_stages infos k (suc n) names =
+    skipped infos (codes "v_" ++ decimal k) ((codes "g_" ++ decimal k) ∷ stage_names (suc k) n names) (λ x. refl)
+    ∙ skipped infos (codes "g_" ++ decimal k) (stage_names (suc k) n names) (λ x. refl)
+    ∙ none_of_stages infos (suc k) n names
+
+pub one_of_locked : (infos : List MemInfo) (x : List ℕ) (i : MemInfo) (names : List (List ℕ)) → commit_mem infos (codes "c_" ++ x) ≡ Some i
+    → with_port infos ((codes "c_" ++ x) ∷ (codes "ca_" ++ x) ∷ (codes "cd_" ++ x) ∷ names) ≡ i ∷ with_port infos names
+one_of_locked infos x i names e =
+    ap (λ o. cons_option o (with_port infos ((codes "ca_" ++ x) ∷ (codes "cd_" ++ x) ∷ names))) e
+    ∙ ap (λ l. i ∷ l) (skipped infos (codes "ca_" ++ x) ((codes "cd_" ++ x) ∷ names) (λ y. refl) ∙ skipped infos (codes "cd_" ++ x) names (λ y. refl))
+
+pub by_names : (infos : List MemInfo) (outs : List Output) → filter_map (λ (o : Output). commit_mem infos o.name) outs ≡ with_port infos (map name_of_output outs)
+by_names infos [] = refl
+by_names infos (o ∷ outs) = ap (cons_option (commit_mem infos o.name)) (by_names infos outs)
+
+-- ---- the lines of a cycle
+
+-- the lines of what the locked memories commit are those of what all commit
+pub locked_lines : (f : List ℕ → Option PortWrite) (number : ℕ) (ms : List Mem) (es : List (Option PortWrite)) → AreDistinct ms → AreCommits (mems_of ms) es → ((m : Mem) → Among m ms → f m.name.name ≡ found ms es m.name.name)
+    → cycle_lines number (map column_of (locked_infos ms)) (map (λ (i : MemInfo). put_of (f i.name)) (locked_infos ms)) ≡ cycle_lines number (columns ms) (puts_in es)
+locked_lines f number [] [] d h g = refl
+locked_lines f number [] (e ∷ es) d h g = absurd h
+locked_lines f number (m ∷ ms) [] d h g = absurd h
+locked_lines f number (m ∷ ms) (e ∷ es) d h g =
+    go (is_some m.lock) (λ n. h.0 (lock_declared m.lock ∙ n))
+    (locked_lines f number ms es d.1 h.1
+    (λ k a. g k (inr a) ∙ ap (λ t. if t && is_some m.lock then e else found ms es k.name.name) (name_turned k.name.name m.name.name (among_other m.name.name ms k d.0 a))))
+  where
+    here : f m.name.name ≡ e
+    here = g m (inl refl) ∙ found_first m ms e es d.0 h.0
+
+    go : (b : Bool) → (b ≡ false → e ≡ None)
+        → cycle_lines number (map column_of (locked_infos ms)) (map (λ (i : MemInfo). put_of (f i.name)) (locked_infos ms)) ≡ cycle_lines number (columns ms) (puts_in es)
+        → cycle_lines number (map column_of ((if b then info_of m ∷ [] else []) ++ locked_infos ms)) (map (λ (i : MemInfo). put_of (f i.name)) ((if b then info_of m ∷ [] else []) ++ locked_infos ms)) ≡ cycle_lines number (columns (m ∷ ms)) (puts_in (e ∷ es))
+    go true n rest = ap₂ (λ o l. mem_lines number (column m) (put_of o) ++ l) here rest
+    go false n rest = rest ∙ ap (λ o. mem_lines number (column m) (put_of o) ++ cycle_lines number (columns ms) (puts_in es)) (sym (n refl))

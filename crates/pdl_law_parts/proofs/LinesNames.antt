@@ -1,0 +1,13 @@
+-- The names of the outputs of a compiled pipe.
+use Rattle.std.proofs.Common.{◌≡◌, ℕ, zero, suc, ◌+◌, ◌-◌, ◌<◌, ◌≤◌, if◌then◌else◌, List, ◌∷◌, ◌++◌, length, ◌∙◌, arith}
+use Rattle.pdl_net.specs.Circuit.{Output}
+use Rattle.pdl_law_parts.proofs.WellFormedPorts.{stage_names}
+
+abbrev pub name_of_output : Output → List ℕ
+name_of_output o = o.name
+
+-- ---- how many
+
+pub some_stages : (k n : ℕ) (rest : List (List ℕ)) → length rest ≤ length (stage_names k n rest)
+some_stages k zero rest = omega arith
+some_stages k (suc n) rest = let e = some_stages (suc k) n rest in omega arith

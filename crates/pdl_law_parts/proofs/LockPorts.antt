@@ -1,0 +1,206 @@
+-- The ports of a lock that one stage drives: what they ask where its thread moves, and that they ask nothing where it doesn't.
+use Rattle.std.proofs.Common.{◌≡◌, refl, sym, ap, ap₂, ◌∙◌, ℕ, zero, suc, ◌<◌, ◌≤◌, Bool, true, false, ◌&&◌, ◌||◌, List, [], ◌∷◌, ◌++◌, length, Option, Some, None, arith, ◌==◌, ◌⊎◌, inl, inr}
+use Rattle.std.specs.Prelude.{if◌then◌else◌, ⊤}
+use Rattle.std.proofs.lemmas.Bool.{false≢true, and_parts, eqb-true}
+use Rattle.pdl_word.specs.Words.{bit}
+use Rattle.pdl_semantics.specs.Flat.{Pipe, list_all}
+use Rattle.pdl_semantics.specs.Stages.{mem_at, list_any}
+use Rattle.pdl_semantics.specs.Locks as locks
+use Rattle.pdl_semantics.specs.Machine as machine
+use Rattle.pdl_semantics.specs.Machine.{Thread, Reserved}
+use Rattle.pdl_net.specs.Circuit.{State}
+use Rattle.pdl_net.specs.Signal.{Signal, mux_signal}
+use Rattle.pdl_lockapi.specs.Lock.{WriteAct}
+use Rattle.pdl_lockapi.specs.Lock as lock
+use Rattle.pdl_lockapi.specs.Laws.{ReserveSignal, TicketSignal, FitsIn, holds_ticket, reserve_at, ticket_at, asked_addresses}
+use Rattle.pdl_lockapi.specs.Forget.{addresses_of}
+use Rattle.pdl_machine_facts.specs.Slots.{here, slot_moves, stage_moves, mover, act_at}
+use Rattle.pdl_law_parts.specs.Walk.{Reservation, Put, Letting, both, one, zero_bit, is_on}
+use Rattle.pdl_law_parts.specs.Ports.{reserves_to, puts_to, release_moves}
+use Rattle.pdl_law_parts.specs.Stands.{AddressesFit, AreBits, reserved_in, written_in, let_in}
+use Rattle.pdl_law_parts.proofs.Signals.{mux_at, mux_by, both_at, one_is, zero_is}
+use Rattle.pdl_law_parts.proofs.LockUse.{writes_to, write_acts}
+
+-- PORTS OF ONE STAGE
+
+pub asked_append : (s : State) (xs ys : List ReserveSignal) → asked_addresses s (xs ++ ys) ≡ asked_addresses s xs ++ asked_addresses s ys
+asked_append s [] ys = refl
+asked_append s (x ∷ xs) ys = at (x.enable.value s == 1) (asked_append s xs ys)
+  where
+    at : (b : Bool) → asked_addresses s (xs ++ ys) ≡ asked_addresses s xs ++ asked_addresses s ys → (if b then x.addr.value s ∷ asked_addresses s (xs ++ ys) else asked_addresses s (xs ++ ys)) ≡ (if b then x.addr.value s ∷ asked_addresses s xs else asked_addresses s xs) ++ asked_addresses s ys
+    at true e = ap (λ l. x.addr.value s ∷ l) e
+    at false e = e
+
+-- a condition of a thread that moves, or of one that stays
+pub both_is : (s : State) (a b : Signal) (g : Bool) → a.value s ≡ bit g → ((both a b).value s == 1) ≡ (g && is_on b s)
+both_is s a b true e = ap (λ n. n == 1) (mux_at s a b zero_bit true e)
+both_is s a b false e = ap (λ n. n == 1) (mux_at s a b zero_bit false e ∙ zero_is s)
+
+-- the addresses of reservations that a stage asks
+pub asked_stage : (s : State) (m : ℕ) (moves : Signal) (g : Bool) → moves.value s ≡ bit g → (rs : List Reservation) → (if g then addresses_of m (reserved_in s rs) else []) ≡ asked_addresses s (reserves_to m moves rs)
+asked_stage s m moves true e [] = refl
+asked_stage s m moves false e [] = refl
+asked_stage s m moves false e (r ∷ rs) = at (r.mem == m) (asked_stage s m moves false e rs)
+  where
+    at : (b : Bool) → [] ≡ asked_addresses s (reserves_to m moves rs) → [] ≡ asked_addresses s (if b then record { enable = both moves r.on; addr = r.addr } ∷ reserves_to m moves rs else reserves_to m moves rs)
+    at true i = i ∙ ap (λ t. if t then r.addr.value s ∷ asked_addresses s (reserves_to m moves rs) else asked_addresses s (reserves_to m moves rs)) (sym (both_is s moves r.on false e))
+    at false i = i
+asked_stage s m moves true e (r ∷ rs) = at (is_on r.on s) (both_is s moves r.on true e) (asked_stage s m moves true e rs)
+  where
+    rest : List ReserveSignal
+    rest = reserves_to m moves rs
+
+    at : (o : Bool) → ((both moves r.on).value s == 1) ≡ o → addresses_of m (reserved_in s rs) ≡ asked_addresses s rest
+        → addresses_of m (if o then record { mem = r.mem; address = r.addr.value s } ∷ reserved_in s rs else reserved_in s rs) ≡ asked_addresses s (if r.mem == m then record { enable = both moves r.on; addr = r.addr } ∷ rest else rest)
+    at true f i = by (r.mem == m)
+      where
+        by : (b : Bool) → (if b then r.addr.value s ∷ [] else []) ++ addresses_of m (reserved_in s rs) ≡ asked_addresses s (if b then record { enable = both moves r.on; addr = r.addr } ∷ rest else rest)
+        by true = ap (λ l. r.addr.value s ∷ l) i ∙ ap (λ t. if t then r.addr.value s ∷ asked_addresses s rest else asked_addresses s rest) (sym f)
+        by false = i
+    at false f i = by (r.mem == m)
+      where
+        by : (b : Bool) → addresses_of m (reserved_in s rs) ≡ asked_addresses s (if b then record { enable = both moves r.on; addr = r.addr } ∷ rest else rest)
+        by true = i ∙ ap (λ t. if t then r.addr.value s ∷ asked_addresses s rest else asked_addresses s rest) (sym f)
+        by false = i
+
+-- the address of each reservation that is made fits
+abbrev pub AreFitting : State → List ReserveSignal → Type 0
+AreFitting s [] = ⊤
+AreFitting s (f ∷ fs) = (f.enable.value s ≡ 1 → FitsIn f.addr s) × AreFitting s fs
+
+pub fitting_append : (s : State) (fs gs : List ReserveSignal) → AreFitting s fs → AreFitting s gs → AreFitting s (fs ++ gs)
+fitting_append s [] gs h i = i
+fitting_append s (f ∷ fs) gs h i = (h.0, fitting_append s fs gs h.1 i)
+
+pub fitting_at : (s : State) (fs : List ReserveSignal) → AreFitting s fs → (k : ℕ) → k < length fs → (reserve_at fs k).enable.value s ≡ 1 → FitsIn (reserve_at fs k).addr s
+fitting_at s [] h k l = absurd (omega arith)
+fitting_at s (f ∷ fs) h zero l = h.0
+fitting_at s (f ∷ fs) h (suc k) l = fitting_at s fs h.1 k (omega arith)
+
+pub fitting_stage : (s : State) (m : ℕ) (moves : Signal) (g : Bool) → moves.value s ≡ bit g → (rs : List Reservation) → (g ≡ true → AddressesFit s rs) → AreFitting s (reserves_to m moves rs)
+fitting_stage s m moves g e [] h = tt
+fitting_stage s m moves g e (r ∷ rs) h = at (fitting_stage s m moves g e rs (λ z. (h z).1)) (r.mem == m)
+  where
+    made : (both moves r.on).value s ≡ 1 → FitsIn r.addr s
+    made i =
+        let both_on : (g && is_on r.on s) ≡ true = sym (both_is s moves r.on g e) ∙ ap (λ n. n == 1) i in
+        let parts = and_parts g (is_on r.on s) both_on in
+        (h parts.0).0 parts.1
+
+    at : AreFitting s (reserves_to m moves rs) → (b : Bool) → AreFitting s (if b then record { enable = both moves r.on; addr = r.addr } ∷ reserves_to m moves rs else reserves_to m moves rs)
+    at i true = (made, i)
+    at i false = i
+
+-- whether a stage lets go
+pub lets_stage : (s : State) (m : ℕ) (moves : Signal) (g : Bool) → moves.value s ≡ bit g → (ls : List Letting) (rest : Signal) (b : Bool) → rest.value s ≡ bit b → (release_moves m moves ls rest).value s ≡ bit ((g && list_any (λ n. n == m) (let_in s ls)) || b)
+lets_stage s m moves true e [] rest b h = h
+lets_stage s m moves false e [] rest b h = h
+lets_stage s m moves false e (l ∷ ls) rest b h = at (l.mem == m) (lets_stage s m moves false e ls rest b h)
+  where
+    at : (t : Bool) → (release_moves m moves ls rest).value s ≡ bit b → (if t then mux_signal (both moves l.on) one (release_moves m moves ls rest) else release_moves m moves ls rest).value s ≡ bit b
+    at true i = mux_by s (both moves l.on) one (release_moves m moves ls rest) ∙ ap (λ t. if t then one.value s else (release_moves m moves ls rest).value s) (both_is s moves l.on false e) ∙ i
+    at false i = i
+lets_stage s m moves true e (l ∷ ls) rest b h = at (is_on l.on s) (both_is s moves l.on true e) (lets_stage s m moves true e ls rest b h)
+  where
+    more : Signal
+    more = release_moves m moves ls rest
+
+    left : Bool
+    left = list_any (λ n. n == m) (let_in s ls)
+
+    at : (o : Bool) → ((both moves l.on).value s == 1) ≡ o → more.value s ≡ bit (left || b) → (if l.mem == m then mux_signal (both moves l.on) one more else more).value s ≡ bit (list_any (λ n. n == m) (if o then l.mem ∷ let_in s ls else let_in s ls) || b)
+    at true f i = by (l.mem == m)
+      where
+        by : (t : Bool) → (if t then mux_signal (both moves l.on) one more else more).value s ≡ bit ((t || left) || b)
+        by true = mux_by s (both moves l.on) one more ∙ ap (λ t. if t then one.value s else more.value s) f ∙ one_is s
+        by false = i
+    at false f i = by (l.mem == m)
+      where
+        by : (t : Bool) → (if t then mux_signal (both moves l.on) one more else more).value s ≡ bit (left || b)
+        by true = mux_by s (both moves l.on) one more ∙ ap (λ t. if t then one.value s else more.value s) f ∙ i
+        by false = i
+
+-- a write port does what it is to do
+pub record IsDriven (w : ℕ) (s : State) (a : WriteAct) (f : TicketSignal) : Type 0 where
+  pub on : f.enable.value s ≡ bit a.on
+  pub ticket : a.on ≡ true → holds_ticket w f.ticket s a.ticket
+  pub value : f.value.value s ≡ a.value
+
+abbrev pub AreDriven : ℕ → State → List WriteAct → List TicketSignal → Type 0
+AreDriven w s [] [] = ⊤
+AreDriven w s (a ∷ as') (f ∷ fs) = IsDriven w s a f × AreDriven w s as' fs
+AreDriven w s _ _ = ⊥
+
+pub driven_append : (w : ℕ) (s : State) (as' bs : List WriteAct) (fs gs : List TicketSignal) → AreDriven w s as' fs → AreDriven w s bs gs → AreDriven w s (as' ++ bs) (fs ++ gs)
+driven_append w s [] bs [] gs h i = i
+driven_append w s [] bs (f ∷ fs) gs h i = absurd h
+driven_append w s (a ∷ as') bs [] gs h i = absurd h
+driven_append w s (a ∷ as') bs (f ∷ fs) gs h i = (h.0, driven_append w s as' bs fs gs h.1 i)
+
+pub driven_count : (w : ℕ) (s : State) (as' : List WriteAct) (fs : List TicketSignal) → AreDriven w s as' fs → length as' ≡ length fs
+driven_count w s [] [] h = refl
+driven_count w s [] (f ∷ fs) h = absurd h
+driven_count w s (a ∷ as') [] h = absurd h
+driven_count w s (a ∷ as') (f ∷ fs) h = ap suc (driven_count w s as' fs h.1)
+
+pub driven_at : (w : ℕ) (s : State) (as' : List WriteAct) (fs : List TicketSignal) → AreDriven w s as' fs → (k : ℕ) → k < length as' → IsDriven w s (lock.act_at as' k) (ticket_at fs k)
+driven_at w s [] fs h k l = absurd (omega arith)
+driven_at w s (a ∷ as') [] h k l = absurd h
+driven_at w s (a ∷ as') (f ∷ fs) h zero l = h.0
+driven_at w s (a ∷ as') (f ∷ fs) h (suc k) l = driven_at w s as' fs h.1 k (omega arith)
+
+-- the write ports of a stage, with the ticket of its thread
+pub driven_stage : (w : ℕ) (s : State) (m number : ℕ) (moves ticket : Signal) (g : Bool) (xs : List Put) → moves.value s ≡ bit g → (g ≡ true → AreBits s xs)
+    → (g ≡ true → writes_to m (written_in s xs) ≡ true → holds_ticket w ticket s number) → AreDriven w s (write_acts s m g number xs) (puts_to m moves ticket xs)
+driven_stage w s m number moves ticket g [] e b h = tt
+driven_stage w s m number moves ticket g (x ∷ xs) e b h = at (is_on x.on s) refl (x.mem == m) refl (h) (λ f. driven_stage w s m number moves ticket g xs e (λ z. (b z).1) f)
+  where
+    Tail : Type 0
+    Tail = AreDriven w s (write_acts s m g number xs) (puts_to m moves ticket xs)
+
+    on : (both moves x.on).value s ≡ bit (g && is_on x.on s)
+    on = both_at s moves x.on g (is_on x.on s) e (λ z. (b z).0)
+
+    at : (o : Bool) → is_on x.on s ≡ o → (c : Bool) → (x.mem == m) ≡ c → (g ≡ true → writes_to m (if o then record { mem = x.mem; value = x.value.value s } ∷ written_in s xs else written_in s xs) ≡ true → holds_ticket w ticket s number)
+        → ((g ≡ true → writes_to m (written_in s xs) ≡ true → holds_ticket w ticket s number) → Tail)
+        → AreDriven w s (if c then record { on = g && is_on x.on s; ticket = number; value = x.value.value s } ∷ write_acts s m g number xs else write_acts s m g number xs) (if c then record { enable = both moves x.on; ticket = ticket; value = x.value } ∷ puts_to m moves ticket xs else puts_to m moves ticket xs)
+    at true f true i h rest = (
+      record { on = on; ticket = λ z. h (and_parts g (is_on x.on s) z).0 (ap (λ c. if c then true else writes_to m (written_in s xs)) i); value = refl },
+      rest (λ z y. h z (ap (λ c. if c then true else writes_to m (written_in s xs)) i)),
+    )
+    at true f false i h rest = rest (λ z y. h z (ap (λ c. if c then true else writes_to m (written_in s xs)) i ∙ y))
+    at false f true i h rest = (
+      record { on = on; ticket = λ z. absurd (false≢true (sym f ∙ (and_parts g (is_on x.on s) z).1)); value = refl },
+      rest h,
+    )
+    at false f false i h rest = rest h
+
+-- ROOM
+
+-- who reserves a memory finds room
+pub room_of : (q : Pipe) (st : machine.State) (m : ℕ) (rs : List Reserved) → list_all (λ (r : Reserved). locks.has_room (mem_at q r.mem).lock (length (machine.lock_of st r.mem))) rs ≡ true → 1 ≤ length (addresses_of m rs) → locks.has_room (mem_at q m).lock (length (machine.lock_of st m)) ≡ true
+room_of q st m [] h l = absurd (omega (arith, l))
+room_of q st m (r ∷ rs) h l =
+    let test : Reserved → Bool = λ r. locks.has_room (mem_at q r.mem).lock (length (machine.lock_of st r.mem)) in
+    let parts = and_parts (test r) (list_all test rs) h in
+    at (λ i. room_of q st m rs parts.1 i) parts.0 (r.mem == m) refl l
+  where
+    at : (1 ≤ length (addresses_of m rs) → locks.has_room (mem_at q m).lock (length (machine.lock_of st m)) ≡ true) → locks.has_room (mem_at q r.mem).lock (length (machine.lock_of st r.mem)) ≡ true
+        → (b : Bool) → (r.mem == m) ≡ b → 1 ≤ length ((if b then r.address ∷ [] else []) ++ addresses_of m rs) → locks.has_room (mem_at q m).lock (length (machine.lock_of st m)) ≡ true
+    at rest here true e i = ap (λ n. locks.has_room (mem_at q n).lock (length (machine.lock_of st n))) (sym (eqb-true r.mem m e)) ∙ here
+    at rest here false e i = rest i
+
+-- nobody moves out of a stage, or its thread does
+pub moves_or_not : (p : Pipe) (st : machine.State) (bits : List Bool) (k : ℕ) → (stage_moves p st bits k ≡ false) ⊎ ((t : Thread) × (here p st bits k ≡ Some t) × (stage_moves p st bits k ≡ true))
+moves_or_not p st bits k = at (stage_moves p st bits k) (here p st bits k) refl refl
+  where
+    at : (b : Bool) (o : Option Thread) → stage_moves p st bits k ≡ b → here p st bits k ≡ o → (stage_moves p st bits k ≡ false) ⊎ ((t : Thread) × (here p st bits k ≡ Some t) × (stage_moves p st bits k ≡ true))
+    at false o e h = inl e
+    at true (Some t) e h = inr (t, h, e)
+    at true None e h = absurd (false≢true (sym (ap (slot_moves p st bits k) h) ∙ e))
+
+pub no_mover : (p : Pipe) (st : machine.State) (bits : List Bool) (k : ℕ) → stage_moves p st bits k ≡ false → mover p st k (stage_moves p st bits k) (here p st bits k) ≡ []
+no_mover p st bits k e = ap (λ b. mover p st k b (here p st bits k)) e
+
+pub one_mover : (p : Pipe) (st : machine.State) (bits : List Bool) (k : ℕ) (t : Thread) → here p st bits k ≡ Some t → stage_moves p st bits k ≡ true → mover p st k (stage_moves p st bits k) (here p st bits k) ≡ act_at p st k t ∷ []
+one_mover p st bits k t h e = ap₂ (mover p st k) e h

@@ -1,0 +1,84 @@
+-- The outputs of a compiled netlist have the values of the machine's ports.
+use Rattle.std.proofs.Common.{◌≡◌, refl, sym, ap, ap₂, ◌∙◌, subst, ℕ, zero, suc, ◌+◌, ◌-◌, ◌<◌, ◌≤◌, Bool, true, false, List, [], ◌∷◌, ◌++◌, length, map, Some, is_some, arith, add-zero}
+use Rattle.std.specs.Prelude.{if◌then◌else◌, slice_index_or, filter_map}
+use Rattle.std.proofs.lemmas.List.{map-append}
+use Rattle.pdl_semantics.specs.Flat.{Lock, Mem, Stage, Pipe, has_lock}
+use Rattle.pdl_semantics.specs.Stages.{plain_mem, mem_at}
+use Rattle.pdl_semantics.specs.Machine as machine
+use Rattle.pdl_semantics.specs.Machine.{Thread}
+use Rattle.pdl_semantics.specs.Moves.{Act}
+use Rattle.pdl_semantics.specs.Cycle.{for_stages, for_mems, taken_out, port_write}
+use Rattle.pdl_net.specs.Circuit.{Circuit, State, Output, port_output}
+use Rattle.pdl_net.specs.Signal.{Signal}
+use Rattle.pdl_net.specs.Cycle.{net_value}
+use Rattle.pdl_machine_facts.specs.Slots.{slot, here, stage_moves, moving}
+use Rattle.pdl_machine_facts.specs.Ports.{stage_values, commit_values, all_commit_values}
+use Rattle.pdl_machine_facts.specs.Cycle.{IsByStages}
+use Rattle.pdl_machine_facts.specs.Use.{IsInUse}
+use Rattle.pdl_lockapi.proofs.LockKinds.{plain_is}
+use Rattle.pdl_law_parts.proofs.Stood.{Stood}
+use Rattle.pdl_law_parts.specs.Walk.{Locks, is_locked}
+use Rattle.pdl_law_parts.specs.Views.{Gates, View}
+use Rattle.pdl_law_parts.specs.Ports.{Shown, Commit, stages_shown, commit_shown, commits_shown}
+use Rattle.pdl_law_parts.specs.Compiled.{shown_in, port_in, IsLaid}
+use Rattle.pdl_law_parts.specs.Stands.{StandsFor, IsSeen, IsSquashed}
+use Rattle.pdl_law_parts.proofs.LockStep.{commit_as, commit_is}
+
+-- the outputs of a circuit with these ports
+pub outputs_all : (c : Circuit) (outs : List Output) → filter_map port_output (map (port_in c) outs) ≡ outs
+outputs_all c [] = refl
+outputs_all c (o ∷ outs) = ap (λ l. o ∷ l) (outputs_all c outs)
+
+-- the value of an output
+abbrev pub shown_value : State → Shown → ℕ
+shown_value s f = f.signal.value s
+
+pub values_shown : (c : Circuit) (s : State) (outs : List Output) → map (λ (o : Output). net_value c s o.net) outs ≡ map (shown_value s) (map (shown_in c) outs)
+values_shown c s [] = refl
+values_shown c s (o ∷ outs) = ap (λ l. net_value c s o.net ∷ l) (values_shown c s outs)
+
+-- of each stage, where all are as the machine's
+module _ (p : Pipe) (vs : ℕ → View) (moves : ℕ → Signal) (s : State) (st : machine.State) (bits : List Bool) (seen : (j : ℕ) → j < length p.stages → IsSeen p vs moves s st bits j) where
+  pub stages_are : (n k : ℕ) (xs : List Stage) → k + n ≡ length p.stages → n ≡ length xs
+      → map (shown_value s) (stages_shown vs moves n k) ≡ stage_values (for_stages (λ i. is_some (slot st i)) k xs) (for_stages (λ i. stage_moves p st bits i) k xs)
+  stages_are zero k [] e f = refl
+  stages_are zero k (x ∷ xs) e f = absurd (omega (arith, f))
+  stages_are (suc n) k [] e f = absurd (omega (arith, f))
+  stages_are (suc n) k (x ∷ xs) e f =
+      ap₂ (λ a l. a ∷ l) (seen k (omega (arith, e))).valid
+      (ap₂ (λ a l. a ∷ l) (seen k (omega (arith, e))).leaves (stages_are n (suc k) xs (omega (arith, e)) (omega (arith, f))))
+
+-- of each memory with a lock
+module _ (names : ℕ → List ℕ) (s : State) (st : machine.State) where
+  abbrev pub commit_words : Commit → List ℕ
+  commit_words x = x.enable.value s ∷ x.addr.value s ∷ x.value.value s ∷ []
+
+  pub commits_are : (ms : List Act) (commits : ℕ → Commit) (m : ℕ) (xs : List Mem)
+      → ((i : ℕ) → i < length xs → has_lock (slice_index_or xs i plain_mem).lock ≡ true → commit_words (commits (m + i)) ≡ commit_values (slice_index_or xs i plain_mem).lock (port_write (taken_out st ms (m + i))))
+      → map (shown_value s) (commits_shown names commits m xs) ≡ all_commit_values xs (for_mems (λ i. port_write (taken_out st ms i)) m xs)
+  commits_are ms commits m [] h = refl
+  commits_are ms commits m (x ∷ xs) h =
+      map-append (shown_value s) (if has_lock x.lock then commit_shown (names m) (commits m) else []) (commits_shown names commits (suc m) xs)
+      ∙ ap₂ (λ a b. a ++ b) (mine x.lock (λ e. at (h 0 (omega arith) e)))
+      (commits_are ms commits (suc m) xs (λ i l e. later i (h (suc i) (omega (arith, l)) e)))
+    where
+      at : commit_words (commits (m + 0)) ≡ commit_values x.lock (port_write (taken_out st ms (m + 0))) → commit_words (commits m) ≡ commit_values x.lock (port_write (taken_out st ms m))
+      at e = ap (λ i. commit_words (commits i)) (sym (add-zero m)) ∙ e ∙ ap (λ i. commit_values x.lock (port_write (taken_out st ms i))) (add-zero m)
+
+      mine : (l : Lock) → (has_lock l ≡ true → commit_words (commits m) ≡ commit_values l (port_write (taken_out st ms m))) → map (shown_value s) (if has_lock l then commit_shown (names m) (commits m) else []) ≡ commit_values l (port_write (taken_out st ms m))
+      mine l g = told (has_lock l) refl
+        where
+          told : (b : Bool) → has_lock l ≡ b → map (shown_value s) (if b then commit_shown (names m) (commits m) else []) ≡ commit_values l (port_write (taken_out st ms m))
+          told false e = ap (λ (x : Lock). commit_values x (port_write (taken_out st ms m))) (sym (plain_is l e))
+          told true e = g e
+
+      later : (i : ℕ) → commit_words (commits (m + suc i)) ≡ commit_values (slice_index_or xs i plain_mem).lock (port_write (taken_out st ms (m + suc i))) → commit_words (commits (suc m + i)) ≡ commit_values (slice_index_or xs i plain_mem).lock (port_write (taken_out st ms (suc m + i)))
+      later i e = let z : m + suc i ≡ suc m + i = omega arith in subst (λ j. commit_words (commits j) ≡ commit_values (slice_index_or xs i plain_mem).lock (port_write (taken_out st ms j))) z e
+
+-- what a lock commits
+pub commit_laid : (p : Pipe) (names : ℕ → List ℕ) (ls : Locks) (vs : ℕ → View) (gates : Gates) (moves : ℕ → Signal) (c : Circuit) (laid : IsLaid p ls vs gates moves c) (s : State) (st : machine.State) (bits : List Bool) → StandsFor p ls vs s st → IsInUse p st bits → IsByStages p st bits → ((j : ℕ) → j < length p.stages → IsSeen p vs moves s st bits j)
+    → ((k : ℕ) (t : Thread) → here p st bits k ≡ Some t → Stood st k t) → IsSquashed p ls vs gates s st bits → (m : ℕ) → is_locked p m ≡ true → commit_words names s st (laid.commits m) ≡ commit_values (mem_at p m).lock (port_write (taken_out st (moving p st bits) m))
+commit_laid p names ls vs gates moves c laid s st bits stands used by seen stood squashed m e =
+    let x = laid.locks m e in
+    commit_is p ls vs moves s st bits by used seen stood m e (stands.locks m e) gates squashed x.kind (laid.owns m) c (laid.commits m) x.step
+    ∙ sym (commit_as (ls.kind m) (ls.size m) (mem_at p m).lock (taken_out st (moving p st bits) m) x.kind)

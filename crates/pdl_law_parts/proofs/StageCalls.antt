@@ -1,0 +1,196 @@
+-- Rows that make threads, requests and guesses.
+use Rattle.std.proofs.Common.{◌≡◌, ℕ, Bool, true, false, List, [], ◌∷◌, ◌++◌, map, refl, sym, ap, ap₂, ◌∙◌, append-nil}
+use Rattle.std.specs.Prelude.{Some, ◌==◌, if◌then◌else◌, not}
+use Rattle.std.proofs.lemmas.Bool.{or_right, or_left}
+use Rattle.pdl_word.specs.Words.{bit}
+use Rattle.pdl_semantics.specs.Flat.{Expr, Call, Pipe, all_hold, values_of, DelayedRead, SpecCall, Verify, SpecCheck, SpecBarrier}
+use Rattle.pdl_semantics.specs.Machine as machine
+use Rattle.pdl_semantics.specs.Machine.{Deeds, same_args}
+use Rattle.pdl_net.specs.Circuit.{Circuit, State}
+use Rattle.pdl_net.specs.Signal.{Signal}
+use Rattle.pdl_machine_facts.specs.Slots.{locks_ready}
+use Rattle.pdl_law_parts.specs.Lives.{are_using, guards_use, lives_from}
+use Rattle.pdl_law_parts.specs.Walk.{Locks, Walk, one, both, walk_after, values_at}
+use Rattle.pdl_law_parts.specs.Views.{View}
+use Rattle.pdl_law_parts.specs.Stands.{IsSo, child_in, IsGuess, asked_in}
+use Rattle.pdl_law_parts.proofs.Signals.{mux_at, both_at, on_is, one_is, asked_more}
+use Rattle.pdl_law_parts.proofs.StageRow.{IsAround, done, quiet, is_taken, is_not, on_at, values_same, FollowsOp}
+use Rattle.pdl_word.proofs.Numbers.{eqb_self}
+
+module _ (c : Circuit) (p : Pipe) (ls : Locks) (vs : ℕ → View) (s : State) (st : machine.State) (k thread : ℕ) (around : IsAround c p ls vs s st k thread) where
+  pub follows_call : (args : List Expr) → FollowsOp c p ls vs s st k thread around (Call args)
+  follows_call args j gs r w d live on row here fine q =
+      quiet c p ls vs s st k thread around gs r w d glive on q (Call args) (walk_after (Call args) r ls w) refl (λ b. same b) (λ h z b f. so h b f)
+    where
+      glive : (z : ℕ) → guards_use gs z ≡ true → lives_from p k z ≡ true
+      glive z u = live.vars z (or_left (guards_use gs z) (are_using args z) u)
+
+      same : (b : Bool) → locks_ready p st thread (done st thread b (Call args) d) ≡ locks_ready p st thread d
+      same true = refl
+      same false = refl
+
+      child_at : IsSo p k s w d → (b : Bool) → all_hold gs d.env ≡ b → (done st thread b (Call args) d).child ≡ child_in s (record { on = r.on; args = r.args } ∷ w.births)
+      child_at h true f =
+          ap (λ l. Some l) (values_same c p ls vs s st k thread around args r.args w d.env (row.1 s around.suits (is_taken c p ls vs s st k thread around gs r w d glive on q h f)) (λ e i y u. h.env y (live.vars y (or_right (guards_use gs y) (are_using args y) (i y u)))))
+          ∙ ap (λ c. if c then Some (map (λ (f : Signal). f.value s) r.args) else child_in s w.births) (sym (on_is s r.on true (on_at c p ls vs s st k thread around gs r w d glive on q h ∙ ap bit f)))
+      child_at h false f =
+          h.child ∙ ap (λ c. if c then Some (map (λ (f : Signal). f.value s) r.args) else child_in s w.births) (sym (on_is s r.on false (on_at c p ls vs s st k thread around gs r w d glive on q h ∙ ap bit f)))
+
+      so : IsSo p k s w d → (b : Bool) → all_hold gs d.env ≡ b → IsSo p k s (walk_after (Call args) r ls w) (done st thread b (Call args) d)
+      so h true f = record { long = h.long; env = h.env; held = h.held; reserves = h.reserves; fits = h.fits; writes = h.writes; bits = h.bits; releases = h.releases; child = child_at h true f; short = (row.0, h.short); asks = h.asks; guess_long = h.guess_long; guess = h.guess; fails = h.fails; barrier = h.barrier }
+      so h false f = record { long = h.long; env = h.env; held = h.held; reserves = h.reserves; fits = h.fits; writes = h.writes; bits = h.bits; releases = h.releases; child = child_at h false f; short = (row.0, h.short); asks = h.asks; guess_long = h.guess_long; guess = h.guess; fails = h.fails; barrier = h.barrier }
+
+  pub follows_fetch : (y m a : ℕ) → FollowsOp c p ls vs s st k thread around (DelayedRead y m a)
+  follows_fetch y m a j gs r w d live on row here fine q =
+      quiet c p ls vs s st k thread around gs r w d glive on q (DelayedRead y m a) (walk_after (DelayedRead y m a) r ls w) refl (λ b. same b) (λ h z b f. so h b f)
+    where
+      glive : (z : ℕ) → guards_use gs z ≡ true → lives_from p k z ≡ true
+      glive z u = live.vars z (or_left (guards_use gs z) (a == z) u)
+
+      same : (b : Bool) → locks_ready p st thread (done st thread b (DelayedRead y m a) d) ≡ locks_ready p st thread d
+      same true = refl
+      same false = refl
+
+      more : IsSo p k s w d → (b : Bool) → all_hold gs d.env ≡ b → asked_in s (w.asks ++ record { mem = m; var = y; on = r.on; addr = w.vars a } ∷ []) ≡ asked_in s w.asks ++ (if b then record { mem = m; var = y; address = (w.vars a).value s } ∷ [] else [])
+      more h b f = asked_more s w.asks (record { mem = m; var = y; on = r.on; addr = w.vars a }) ∙ ap (λ c. asked_in s w.asks ++ (if c then record { mem = m; var = y; address = (w.vars a).value s } ∷ [] else [])) (on_is s r.on b (on_at c p ls vs s st k thread around gs r w d glive on q h ∙ ap bit f))
+
+      asks_at : IsSo p k s w d → (b : Bool) → all_hold gs d.env ≡ b → (done st thread b (DelayedRead y m a) d).asks ≡ asked_in s (w.asks ++ record { mem = m; var = y; on = r.on; addr = w.vars a } ∷ [])
+      asks_at h true f = ap₂ (λ l v. l ++ record { mem = m; var = y; address = v } ∷ []) h.asks (h.env a (live.vars a (or_right (guards_use gs a) (a == a) (eqb_self a)))) ∙ sym (more h true f)
+      asks_at h false f = h.asks ∙ sym (append-nil (asked_in s w.asks)) ∙ sym (more h false f)
+
+      so : IsSo p k s w d → (b : Bool) → all_hold gs d.env ≡ b → IsSo p k s (walk_after (DelayedRead y m a) r ls w) (done st thread b (DelayedRead y m a) d)
+      so h true f = record { long = h.long; env = h.env; held = h.held; reserves = h.reserves; fits = h.fits; writes = h.writes; bits = h.bits; releases = h.releases; child = h.child; short = h.short; asks = asks_at h true f; guess_long = h.guess_long; guess = h.guess; fails = h.fails; barrier = h.barrier }
+      so h false f = record { long = h.long; env = h.env; held = h.held; reserves = h.reserves; fits = h.fits; writes = h.writes; bits = h.bits; releases = h.releases; child = h.child; short = h.short; asks = asks_at h false f; guess_long = h.guess_long; guess = h.guess; fails = h.fails; barrier = h.barrier }
+
+  pub follows_spec_call : (args : List Expr) → FollowsOp c p ls vs s st k thread around (SpecCall args)
+  follows_spec_call args j gs r w d live on row here fine q =
+      quiet c p ls vs s st k thread around gs r w d glive on q (SpecCall args) (walk_after (SpecCall args) r ls w) refl (λ b. same b) (λ h z b f. so h b f)
+    where
+      glive : (z : ℕ) → guards_use gs z ≡ true → lives_from p k z ≡ true
+      glive z u = live.vars z (or_left (guards_use gs z) (are_using args z) u)
+
+      same : (b : Bool) → locks_ready p st thread (done st thread b (SpecCall args) d) ≡ locks_ready p st thread d
+      same true = refl
+      same false = refl
+
+      values : IsSo p k s w d → all_hold gs d.env ≡ true → values_of args d.env ≡ values_at s r.args
+      values h f = values_same c p ls vs s st k thread around args r.args w d.env (row.1 s around.suits (is_taken c p ls vs s st k thread around gs r w d glive on q h f)) (λ e i y u. h.env y (live.vars y (or_right (guards_use gs y) (are_using args y) (i y u))))
+
+      child_at : IsSo p k s w d → (b : Bool) → all_hold gs d.env ≡ b → (done st thread b (SpecCall args) d).child ≡ child_in s (record { on = r.on; args = r.args } ∷ w.births)
+      child_at h true f =
+          ap (λ l. Some l) (values h f)
+          ∙ ap (λ c. if c then Some (map (λ (f : Signal). f.value s) r.args) else child_in s w.births) (sym (on_is s r.on true (on_at c p ls vs s st k thread around gs r w d glive on q h ∙ ap bit f)))
+      child_at h false f =
+          h.child ∙ ap (λ c. if c then Some (map (λ (f : Signal). f.value s) r.args) else child_in s w.births) (sym (on_is s r.on false (on_at c p ls vs s st k thread around gs r w d glive on q h ∙ ap bit f)))
+
+      guess_at : IsSo p k s w d → (b : Bool) → all_hold gs d.env ≡ b → IsGuess p k s r.guess (done st thread b (SpecCall args) d).guess
+      guess_at h true f v l = values h f ∙ sym (row.3 s around.suits (is_taken c p ls vs s st k thread around gs r w d glive on q h f))
+      guess_at h false f v l = h.guess v l ∙ sym (row.4 s around.suits (is_not c p ls vs s st k thread around gs r w d glive on q h f))
+
+      so : IsSo p k s w d → (b : Bool) → all_hold gs d.env ≡ b → IsSo p k s (walk_after (SpecCall args) r ls w) (done st thread b (SpecCall args) d)
+      so h true f = record { long = h.long; env = h.env; held = h.held; reserves = h.reserves; fits = h.fits; writes = h.writes; bits = h.bits; releases = h.releases; child = child_at h true f; short = (row.0, h.short); asks = h.asks; guess_long = row.2 ∙ h.guess_long; guess = guess_at h true f; fails = h.fails; barrier = h.barrier }
+      so h false f = record { long = h.long; env = h.env; held = h.held; reserves = h.reserves; fits = h.fits; writes = h.writes; bits = h.bits; releases = h.releases; child = child_at h false f; short = (row.0, h.short); asks = h.asks; guess_long = row.2 ∙ h.guess_long; guess = guess_at h false f; fails = h.fails; barrier = h.barrier }
+
+  pub follows_verify : (args : List Expr) → FollowsOp c p ls vs s st k thread around (Verify args)
+  follows_verify args j gs r w d live on row here fine q =
+      quiet c p ls vs s st k thread around gs r w d glive on q (Verify args) (walk_after (Verify args) r ls w) refl (λ b. same b) (λ h z b f. so h z b f)
+    where
+      glive : (z : ℕ) → guards_use gs z ≡ true → lives_from p k z ≡ true
+      glive z u = live.vars z (or_left (guards_use gs z) (are_using args z) u)
+
+      failed : Deeds
+      failed = record d { child = Some (values_of args d.env); fails = true }
+
+      same : (b : Bool) → locks_ready p st thread (done st thread b (Verify args) d) ≡ locks_ready p st thread d
+      same true = at (same_args (values_of args d.env) d.guess)
+        where
+          at : (b : Bool) → locks_ready p st thread (if b then d else failed) ≡ locks_ready p st thread d
+          at true = refl
+          at false = refl
+      same false = refl
+
+      wrong : Signal
+      wrong = both r.on r.value
+
+      new : Walk
+      new = walk_after (Verify args) r ls w
+
+      -- after a verify of which this says whether it fails
+      after : IsSo p k s w d → (b : Bool) → wrong.value s ≡ bit b → (b ≡ true → values_of args d.env ≡ values_at s r.args) → IsSo p k s new (if b then failed else d)
+      after h true e v = record {
+        long = h.long;
+        env = h.env;
+        held = h.held;
+        reserves = h.reserves;
+        fits = h.fits;
+        writes = h.writes;
+        bits = h.bits;
+        releases = h.releases;
+        child = ap (λ l. Some l) (v refl) ∙ ap (λ c. if c then Some (map (λ (f : Signal). f.value s) r.args) else child_in s w.births) (sym (on_is s wrong true e));
+        short = (row.0, h.short);
+        asks = h.asks;
+        guess_long = h.guess_long;
+        guess = h.guess;
+        fails = mux_at s wrong one w.fails true e ∙ one_is s;
+        barrier = h.barrier;
+      }
+      after h false e v = record {
+        long = h.long;
+        env = h.env;
+        held = h.held;
+        reserves = h.reserves;
+        fits = h.fits;
+        writes = h.writes;
+        bits = h.bits;
+        releases = h.releases;
+        child = h.child ∙ ap (λ c. if c then Some (map (λ (f : Signal). f.value s) r.args) else child_in s w.births) (sym (on_is s wrong false e));
+        short = (row.0, h.short);
+        asks = h.asks;
+        guess_long = h.guess_long;
+        guess = h.guess;
+        fails = mux_at s wrong one w.fails false e ∙ h.fails;
+        barrier = h.barrier;
+      }
+
+      so : IsSo p k s w d → locks_ready p st thread d ≡ true → (b : Bool) → all_hold gs d.env ≡ b → IsSo p k s new (done st thread b (Verify args) d)
+      so h z false f = after h false (both_at s r.on r.value false true (on_at c p ls vs s st k thread around gs r w d glive on q h ∙ ap bit f) (λ e. absurd (cc e))) (λ e. absurd (cc e))
+      so h z true f =
+          let t = is_taken c p ls vs s st k thread around gs r w d glive on q h f in
+          let v : values_of args d.env ≡ values_at s r.args = values_same c p ls vs s st k thread around args r.args w d.env (row.1 s around.suits t) (λ e i y u. h.env y (live.vars y (or_right (guards_use gs y) (are_using args y) (i y u)))) in
+          let g : d.guess ≡ values_at s w.guess = h.guess (live.verify refl) ((fine f z).1 ∙ sym row.2 ∙ h.guess_long) in
+          let e : r.value.value s ≡ bit (not (same_args (values_of args d.env) d.guess)) = row.3 s around.suits t ∙ ap₂ (λ x y. bit (not (same_args x y))) (sym v) (sym g) in
+          at (same_args (values_of args d.env) d.guess) (both_at s r.on r.value true (not (same_args (values_of args d.env) d.guess)) (on_at c p ls vs s st k thread around gs r w d glive on q h ∙ ap bit f) (λ x. e)) v
+        where
+          at : (b : Bool) → wrong.value s ≡ bit (not b) → values_of args d.env ≡ values_at s r.args → IsSo p k s new (if b then d else failed)
+          at true e v = after h false e (λ x. v)
+          at false e v = after h true e (λ x. v)
+
+  pub follows_check : FollowsOp c p ls vs s st k thread around SpecCheck
+  follows_check j gs r w d live on row here fine q =
+      quiet c p ls vs s st k thread around gs r w d glive on q SpecCheck w refl (λ b. same b) (λ h z b f. so h b)
+    where
+      glive : (z : ℕ) → guards_use gs z ≡ true → lives_from p k z ≡ true
+      glive z u = live.vars z (or_left (guards_use gs z) false u)
+
+      same : (b : Bool) → locks_ready p st thread (done st thread b SpecCheck d) ≡ locks_ready p st thread d
+      same true = refl
+      same false = refl
+
+      so : IsSo p k s w d → (b : Bool) → IsSo p k s w (done st thread b SpecCheck d)
+      so h true = h
+      so h false = h
+
+  pub follows_barrier : FollowsOp c p ls vs s st k thread around SpecBarrier
+  follows_barrier j gs r w d live on row here fine q =
+      quiet c p ls vs s st k thread around gs r w d glive on q SpecBarrier (walk_after SpecBarrier r ls w) refl (λ b. same b) (λ h z b f. so h b f)
+    where
+      glive : (z : ℕ) → guards_use gs z ≡ true → lives_from p k z ≡ true
+      glive z u = live.vars z (or_left (guards_use gs z) false u)
+
+      same : (b : Bool) → locks_ready p st thread (done st thread b SpecBarrier d) ≡ locks_ready p st thread d
+      same true = refl
+      same false = refl
+
+      so : IsSo p k s w d → (b : Bool) → all_hold gs d.env ≡ b → IsSo p k s (walk_after SpecBarrier r ls w) (done st thread b SpecBarrier d)
+      so h true f = record { long = h.long; env = h.env; held = h.held; reserves = h.reserves; fits = h.fits; writes = h.writes; bits = h.bits; releases = h.releases; child = h.child; short = h.short; asks = h.asks; guess_long = h.guess_long; guess = h.guess; fails = h.fails; barrier = mux_at s r.on one w.barrier true (on_at c p ls vs s st k thread around gs r w d glive on q h ∙ ap bit f) ∙ one_is s }
+      so h false f = record { long = h.long; env = h.env; held = h.held; reserves = h.reserves; fits = h.fits; writes = h.writes; bits = h.bits; releases = h.releases; child = h.child; short = h.short; asks = h.asks; guess_long = h.guess_long; guess = h.guess; fails = h.fails; barrier = mux_at s r.on one w.barrier false (on_at c p ls vs s st k thread around gs r w d glive on q h ∙ ap bit f) ∙ h.barrier }

@@ -1,0 +1,230 @@
+-- Rows that use the locks: reservations, writes, blocks and releases.
+use Rattle.std.proofs.Common.{◌≡◌, ℕ, Bool, true, false, ◌&&◌, ◌||◌, [], ◌∷◌, ◌++◌, length, refl, sym, ap, ap₂, ◌∙◌, append-nil}
+use Rattle.std.specs.Prelude.{slice_index, ◌==◌, if◌then◌else◌}
+use Rattle.std.proofs.lemmas.Bool.{or_right, or_left}
+use Rattle.std.proofs.Math.Bool.{and_assoc}
+use Rattle.pdl_word.specs.Words.{bit}
+use Rattle.pdl_semantics.specs.Flat.{Expr, Write, ReserveRead, ReserveWrite, Block, Release, Pipe, all_hold}
+use Rattle.pdl_semantics.specs.Stages.{mem_at, commit_stage}
+use Rattle.pdl_semantics.specs.Locks.{has_room}
+use Rattle.pdl_semantics.specs.Machine as machine
+use Rattle.pdl_semantics.specs.Machine.{Blocked, Reserved, is_held, let_go}
+use Rattle.pdl_semantics.specs.Moves.{block_ready, blocks_ready, have_room}
+use Rattle.pdl_net.specs.Circuit.{Circuit, State}
+use Rattle.pdl_net.specs.Signal.{mux_signal}
+use Rattle.pdl_lockapi.specs.Laws.{FitsIn}
+use Rattle.pdl_machine_facts.specs.Slots.{locks_ready}
+use Rattle.pdl_law_parts.specs.Lives.{uses_var, guards_use, lives_from, held_from}
+use Rattle.pdl_law_parts.specs.Walk.{Locks, Walk, is_on, one, zero_bit, both, walk_after}
+use Rattle.pdl_law_parts.specs.Views.{View}
+use Rattle.pdl_law_parts.specs.Stands.{IsSo, reserved_in, written_in, let_in}
+use Rattle.pdl_law_parts.proofs.Signals.{mux_at, both_at, on_is, one_is, zero_is, reserved_more, written_more, let_more, bits_more, fits_more}
+use Rattle.pdl_law_parts.proofs.StageLooks.{finds, room_is, block_is}
+use Rattle.pdl_law_parts.proofs.StageRow.{other_held, IsAround, done, quiet, asking, hold, is_taken, on_at, early, FollowsOp}
+use Rattle.pdl_word.proofs.Bools.{and_true, and_swap}
+use Rattle.pdl_word.proofs.Numbers.{eqb_self}
+use Rattle.pdl_semantics.proofs.Facts.{all_push}
+
+module _ (c : Circuit) (p : Pipe) (ls : Locks) (vs : ℕ → View) (s : State) (st : machine.State) (k thread : ℕ) (around : IsAround c p ls vs s st k thread) where
+  pub follows_write : (m a : ℕ) (e : Expr) → FollowsOp c p ls vs s st k thread around (Write m a e)
+  follows_write m a e j gs r w d live on row here fine q =
+      quiet c p ls vs s st k thread around gs r w d glive on q (Write m a e) (walk_after (Write m a e) r ls w) refl (λ b. same b) (λ h z b f. so h b f)
+    where
+      glive : (z : ℕ) → guards_use gs z ≡ true → lives_from p k z ≡ true
+      glive z u = live.vars z (or_left (guards_use gs z) (uses_var e z) u)
+
+      same : (b : Bool) → locks_ready p st thread (done st thread b (Write m a e) d) ≡ locks_ready p st thread d
+      same true = refl
+      same false = refl
+
+      writes_at : IsSo p k s w d → (b : Bool) → all_hold gs d.env ≡ b → (done st thread b (Write m a e) d).writes ≡ written_in s (w.puts ++ record { mem = m; on = r.on; value = r.value } ∷ [])
+      writes_at h true f =
+          ap₂ (λ l v. l ++ record { mem = m; value = v } ∷ []) h.writes (sym (row s around.suits (is_taken c p ls vs s st k thread around gs r w d glive on q h f) d.env (λ z u. h.env z (live.vars z (or_right (guards_use gs z) (uses_var e z) u)))))
+          ∙ ap (λ c. written_in s w.puts ++ (if c then record { mem = m; value = r.value.value s } ∷ [] else [])) (sym (on_is s r.on true (on_at c p ls vs s st k thread around gs r w d glive on q h ∙ ap bit f)))
+          ∙ sym (written_more s w.puts (record { mem = m; on = r.on; value = r.value }))
+      writes_at h false f =
+          h.writes ∙ sym (append-nil (written_in s w.puts))
+          ∙ ap (λ c. written_in s w.puts ++ (if c then record { mem = m; value = r.value.value s } ∷ [] else [])) (sym (on_is s r.on false (on_at c p ls vs s st k thread around gs r w d glive on q h ∙ ap bit f)))
+          ∙ sym (written_more s w.puts (record { mem = m; on = r.on; value = r.value }))
+
+      bit_on : IsSo p k s w d → r.on.value s ≡ bit (is_on r.on s)
+      bit_on h = on_at c p ls vs s st k thread around gs r w d glive on q h ∙ ap bit (sym (on_is s r.on (all_hold gs d.env) (on_at c p ls vs s st k thread around gs r w d glive on q h)))
+
+      so : IsSo p k s w d → (b : Bool) → all_hold gs d.env ≡ b → IsSo p k s (walk_after (Write m a e) r ls w) (done st thread b (Write m a e) d)
+      so h true f = record { long = h.long; env = h.env; held = h.held; reserves = h.reserves; fits = h.fits; writes = writes_at h true f; bits = bits_more s w.puts _ h.bits (bit_on h); releases = h.releases; child = h.child; short = h.short; asks = h.asks; guess_long = h.guess_long; guess = h.guess; fails = h.fails; barrier = h.barrier }
+      so h false f = record { long = h.long; env = h.env; held = h.held; reserves = h.reserves; fits = h.fits; writes = writes_at h false f; bits = bits_more s w.puts _ h.bits (bit_on h); releases = h.releases; child = h.child; short = h.short; asks = h.asks; guess_long = h.guess_long; guess = h.guess; fails = h.fails; barrier = h.barrier }
+
+  pub follows_reserve_read : (m a : ℕ) → FollowsOp c p ls vs s st k thread around (ReserveRead m a)
+  follows_reserve_read m a j gs r w d live on row here fine q =
+      quiet c p ls vs s st k thread around gs r w d glive on q (ReserveRead m a) w refl (λ b. same b) (λ h z b f. so h b)
+    where
+      glive : (z : ℕ) → guards_use gs z ≡ true → lives_from p k z ≡ true
+      glive z u = live.vars z (or_left (guards_use gs z) false u)
+
+      same : (b : Bool) → locks_ready p st thread (done st thread b (ReserveRead m a) d) ≡ locks_ready p st thread d
+      same true = refl
+      same false = refl
+
+      so : IsSo p k s w d → (b : Bool) → IsSo p k s w (done st thread b (ReserveRead m a) d)
+      so h true = h
+      so h false = h
+
+  pub follows_reserve_write : (m a : ℕ) → FollowsOp c p ls vs s st k thread around (ReserveWrite m a)
+  follows_reserve_write m a j gs r w d live on row here fine q =
+      asking c p ls vs s st k thread around gs r w d glive on q (ReserveWrite m a) (walk_after (ReserveWrite m a) r ls w) (ls.room m) roomy refl (λ b. split b) (λ h z f. room_is p ls vs s st m (around.kind m row.0) (around.locks m row.0) (around.ordered m) (around.room m row.0)) (λ h b f. so h b f)
+    where
+      glive : (z : ℕ) → guards_use gs z ≡ true → lives_from p k z ≡ true
+      glive z u = live.vars z (or_left (guards_use gs z) (a == z) u)
+
+      roomy : Bool
+      roomy = has_room (mem_at p m).lock (length (machine.lock_of st m))
+
+      new : Walk
+      new = walk_after (ReserveWrite m a) r ls w
+
+      split : (b : Bool) → locks_ready p st thread (done st thread b (ReserveWrite m a) d) ≡ (locks_ready p st thread d && (if b then roomy else true))
+      split true =
+          ap (λ b. blocks_ready p st thread d && b) (all_push (λ (r : Reserved). has_room (mem_at p r.mem).lock (length (machine.lock_of st r.mem))) d.reserves (record { mem = m; address = slice_index d.env a }))
+          ∙ sym (and_assoc (blocks_ready p st thread d) (have_room p st d) roomy)
+      split false = and_true (locks_ready p st thread d)
+
+      more : IsSo p k s w d → (b : Bool) → all_hold gs d.env ≡ b → reserved_in s (w.reserves ++ record { mem = m; on = r.on; addr = w.vars a } ∷ []) ≡ reserved_in s w.reserves ++ (if b then record { mem = m; address = (w.vars a).value s } ∷ [] else [])
+      more h b f = reserved_more s w.reserves (record { mem = m; on = r.on; addr = w.vars a }) ∙ ap (λ c. reserved_in s w.reserves ++ (if c then record { mem = m; address = (w.vars a).value s } ∷ [] else [])) (on_is s r.on b (on_at c p ls vs s st k thread around gs r w d glive on q h ∙ ap bit f))
+
+      mine : (b : Bool) → IsSo p k s w d → all_hold gs d.env ≡ b → held_from p k m a ≡ true → (mux_signal r.on one (w.held m a)).value s ≡ bit (if b then true else is_held d.held m a)
+      mine true h f l = mux_at s r.on one (w.held m a) true (on_at c p ls vs s st k thread around gs r w d glive on q h ∙ ap bit f) ∙ one_is s
+      mine false h f l = mux_at s r.on one (w.held m a) false (on_at c p ls vs s st k thread around gs r w d glive on q h ∙ ap bit f) ∙ h.held m a l
+
+      fits_new : IsSo p k s w d → (b : Bool) → all_hold gs d.env ≡ b → is_on r.on s ≡ true → FitsIn (w.vars a) s
+      fits_new h true f e = row.1 s around.suits (is_taken c p ls vs s st k thread around gs r w d glive on q h f)
+      fits_new h false f e = absurd (cc (sym e ∙ on_is s r.on false (on_at c p ls vs s st k thread around gs r w d glive on q h ∙ ap bit f)))
+
+      so : IsSo p k s w d → (b : Bool) → all_hold gs d.env ≡ b → IsSo p k s new (done st thread b (ReserveWrite m a) d)
+      so h true f = record {
+        long = h.long;
+        env = h.env;
+        held = hold c p ls vs s st k thread around gs r w d glive on q m a (mux_signal r.on one (w.held m a)) (record { mem = m; var = a } ∷ d.held)
+            (λ l. mine true h f l ∙ ap bit (sym (or_left ((m == m) && (a == a)) (is_held d.held m a) (ap₂ (λ x y. x && y) (eqb_self m) (eqb_self a)))))
+            (λ n b e. ap (λ x. x || is_held d.held n b) e) h.held;
+        reserves = ap₂ (λ l v. l ++ record { mem = m; address = v } ∷ []) h.reserves (h.env a (live.vars a (or_right (guards_use gs a) (a == a) (eqb_self a)))) ∙ sym (more h true f);
+        fits = fits_more s w.reserves _ h.fits (fits_new h true f);
+        writes = h.writes;
+        bits = h.bits;
+        releases = h.releases;
+        child = h.child;
+        short = h.short;
+        asks = h.asks;
+        guess_long = h.guess_long;
+        guess = h.guess;
+        fails = h.fails;
+        barrier = h.barrier;
+      }
+      so h false f = record {
+        long = h.long;
+        env = h.env;
+        held = hold c p ls vs s st k thread around gs r w d glive on q m a (mux_signal r.on one (w.held m a)) d.held (λ l. mine false h f l) (λ n b e. refl) h.held;
+        reserves = h.reserves ∙ sym (append-nil (reserved_in s w.reserves)) ∙ sym (more h false f);
+        fits = fits_more s w.reserves _ h.fits (fits_new h false f);
+        writes = h.writes;
+        bits = h.bits;
+        releases = h.releases;
+        child = h.child;
+        short = h.short;
+        asks = h.asks;
+        guess_long = h.guess_long;
+        guess = h.guess;
+        fails = h.fails;
+        barrier = h.barrier;
+      }
+
+  pub follows_block : (m a : ℕ) → FollowsOp c p ls vs s st k thread around (Block m a)
+  follows_block m a j gs r w d live on row here fine q =
+      asking c p ls vs s st k thread around gs r w d glive on q (Block m a) (walk_after (Block m a) r ls w) r.value found refl (λ b. split b) told (λ h b f. so h b)
+    where
+      glive : (z : ℕ) → guards_use gs z ≡ true → lives_from p k z ≡ true
+      glive z u = live.vars z (or_left (guards_use gs z) (a == z) u)
+
+      more : Blocked
+      more = record { mem = m; address = slice_index d.env a; writes = is_held d.held m a }
+
+      found : Bool
+      found = block_ready p st thread more
+
+      split : (b : Bool) → locks_ready p st thread (done st thread b (Block m a) d) ≡ (locks_ready p st thread d && (if b then found else true))
+      split true =
+          ap (λ b. b && have_room p st d) (all_push (λ b. block_ready p st thread b) d.blocks more)
+          ∙ and_swap (blocks_ready p st thread d) found (have_room p st d)
+      split false = and_true (locks_ready p st thread d)
+
+      told : IsSo p k s w d → locks_ready p st thread d ≡ true → all_hold gs d.env ≡ true → r.value.value s ≡ bit found
+      told h z f =
+          let e = row.0 in
+          let low = early c p ls vs s st k thread around j (commit_stage p m) here (fine f z).0 in
+          let kept : is_on (w.held m a) s ≡ is_held d.held m a = on_is s (w.held m a) (is_held d.held m a) (h.held m a (live.held m a (ap₂ (λ x y. x && y) (eqb_self m) (eqb_self a)))) in
+          let addr : slice_index d.env a ≡ (w.vars a).value s = h.env a (live.vars a (or_right (guards_use gs a) (a == a) (eqb_self a))) in
+          block_is p ls vs s st m (around.kind m e) (around.locks m e) (around.ordered m) thread ((vs k).tickets m) (around.tickets m e low) (is_on (w.held m a) s) ((w.vars a).value s) r.value (row.1 s around.suits (is_taken c p ls vs s st k thread around gs r w d glive on q h f))
+          ∙ ap₂ (λ u v. bit (finds p st thread m u v)) kept (sym addr)
+
+      so : IsSo p k s w d → (b : Bool) → IsSo p k s (walk_after (Block m a) r ls w) (done st thread b (Block m a) d)
+      so h true = record { long = h.long; env = h.env; held = h.held; reserves = h.reserves; fits = h.fits; writes = h.writes; bits = h.bits; releases = h.releases; child = h.child; short = h.short; asks = h.asks; guess_long = h.guess_long; guess = h.guess; fails = h.fails; barrier = h.barrier }
+      so h false = record { long = h.long; env = h.env; held = h.held; reserves = h.reserves; fits = h.fits; writes = h.writes; bits = h.bits; releases = h.releases; child = h.child; short = h.short; asks = h.asks; guess_long = h.guess_long; guess = h.guess; fails = h.fails; barrier = h.barrier }
+
+  pub follows_release : (m a : ℕ) → FollowsOp c p ls vs s st k thread around (Release m a)
+  follows_release m a j gs r w d live on row here fine q =
+      quiet c p ls vs s st k thread around gs r w d glive on q (Release m a) new refl (λ b. same b) (λ h z b f. so h z b f)
+    where
+      new : Walk
+      new = walk_after (Release m a) r ls w
+
+      glive : (z : ℕ) → guards_use gs z ≡ true → lives_from p k z ≡ true
+      glive z u = live.vars z (or_left (guards_use gs z) false u)
+
+      same : (b : Bool) → locks_ready p st thread (done st thread b (Release m a) d) ≡ locks_ready p st thread d
+      same true = refl
+      same false = refl
+
+      holding : IsSo p k s w d → (w.held m a).value s ≡ bit (is_held d.held m a)
+      holding h = h.held m a (live.held m a (ap₂ (λ x y. x && y) (eqb_self m) (eqb_self a)))
+
+      letting : IsSo p k s w d → (b : Bool) → all_hold gs d.env ≡ b → let_in s (w.lettings ++ record { mem = m; on = both r.on (w.held m a) } ∷ []) ≡ let_in s w.lettings ++ (if b && is_held d.held m a then m ∷ [] else [])
+      letting h b f =
+          let_more s w.lettings (record { mem = m; on = both r.on (w.held m a) })
+          ∙ ap (λ c. let_in s w.lettings ++ (if c then m ∷ [] else [])) (on_is s (both r.on (w.held m a)) (b && is_held d.held m a) (both_at s r.on (w.held m a) b (is_held d.held m a) (on_at c p ls vs s st k thread around gs r w d glive on q h ∙ ap bit f) (λ z. holding h)))
+
+      so : IsSo p k s w d → locks_ready p st thread d ≡ true → (b : Bool) → all_hold gs d.env ≡ b → IsSo p k s new (done st thread b (Release m a) d)
+      so h z true f = record {
+        long = h.long;
+        env = h.env;
+        held = hold c p ls vs s st k thread around gs r w d glive on q m a (mux_signal r.on zero_bit (w.held m a)) (let_go d.held m a)
+            (λ l. mux_at s r.on zero_bit (w.held m a) true (on_at c p ls vs s st k thread around gs r w d glive on q h ∙ ap bit f) ∙ zero_is s ∙ ap bit (sym (fine f z).1))
+            (λ n b e. other_held d.held m a n b e) h.held;
+        reserves = h.reserves;
+        fits = h.fits;
+        writes = h.writes;
+        bits = h.bits;
+        releases = ap (λ l. l ++ (if is_held d.held m a then m ∷ [] else [])) h.releases ∙ sym (letting h true f);
+        child = h.child;
+        short = h.short;
+        asks = h.asks;
+        guess_long = h.guess_long;
+        guess = h.guess;
+        fails = h.fails;
+        barrier = h.barrier;
+      }
+      so h z false f = record {
+        long = h.long;
+        env = h.env;
+        held = hold c p ls vs s st k thread around gs r w d glive on q m a (mux_signal r.on zero_bit (w.held m a)) d.held (λ l. mux_at s r.on zero_bit (w.held m a) false (on_at c p ls vs s st k thread around gs r w d glive on q h ∙ ap bit f) ∙ holding h) (λ n b e. refl) h.held;
+        reserves = h.reserves;
+        fits = h.fits;
+        writes = h.writes;
+        bits = h.bits;
+        releases = h.releases ∙ sym (append-nil (let_in s w.lettings)) ∙ sym (letting h false f);
+        child = h.child;
+        short = h.short;
+        asks = h.asks;
+        guess_long = h.guess_long;
+        guess = h.guess;
+        fails = h.fails;
+        barrier = h.barrier;
+      }

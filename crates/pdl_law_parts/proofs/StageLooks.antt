@@ -1,0 +1,72 @@
+-- What the looks of a stage find: the machine's pending writes and words, through the lock that stands for them.
+use Rattle.std.proofs.Common.{◌≡◌, ℕ, ◌+◌, Bool, true, false, [], length, sym, ap, ◌∙◌, arith}
+use Rattle.std.specs.Prelude.{slice_index, slice_index_or, if◌then◌else◌}
+use Rattle.std.proofs.lemmas.List.{length-map}
+use Rattle.pdl_word.specs.Words.{bit}
+use Rattle.pdl_semantics.specs.Flat.{Plain, Pipe}
+use Rattle.pdl_semantics.specs.Stages.{mem_at}
+use Rattle.pdl_semantics.specs.Locks.{Nothing, read_ready, write_ready, has_room, value_or}
+use Rattle.pdl_semantics.specs.Machine as machine
+use Rattle.pdl_semantics.specs.Machine.{older_write, word_for}
+use Rattle.pdl_net.specs.Circuit.{State}
+use Rattle.pdl_net.specs.Signal.{Signal}
+use Rattle.pdl_lockapi.specs.Laws.{holds_ticket, RoomLaw}
+use Rattle.pdl_lockapi.specs.Lock.{LockState, look_ready, Covered}
+use Rattle.pdl_lockapi.specs.Forget.{forget, as_lock, lock_state_of}
+use Rattle.pdl_lockapi.proofs.LockKinds as kinds
+use Rattle.pdl_lockapi.proofs.Threads.{same_meaning, ticket_covered}
+use Rattle.pdl_law_parts.specs.Walk.{Locks, is_locked, look_of, ThroughLock, IsWord}
+use Rattle.pdl_law_parts.specs.Views.{View}
+use Rattle.pdl_law_parts.specs.Stands.{StandsLock}
+use Rattle.pdl_semantics.specs.PendingLists.{AreOrdered, count_older}
+
+pub plain_is : (p : Pipe) (m : ℕ) → is_locked p m ≡ false → (mem_at p m).lock ≡ Plain
+plain_is p m e = kinds.plain_is (mem_at p m).lock e
+
+-- what a look finds of the machine's pending writes: for writing, or for reading
+abbrev pub finds : Pipe → machine.State → ℕ → ℕ → Bool → ℕ → Bool
+finds p st thread m u a =
+    if u then write_ready (mem_at p m).lock (older_write st thread m a) else read_ready (mem_at p m).lock (older_write st thread m a)
+
+module _ (p : Pipe) (ls : Locks) (vs : ℕ → View) (s : State) (st : machine.State) (m : ℕ) (kind : (mem_at p m).lock ≡ as_lock (ls.kind m) (ls.size m)) (stands : StandsLock p ls vs s st m) (ordered : AreOrdered 0 (machine.lock_of st m)) where
+  -- the lock that stands for the pending writes, and the number of a thread's ticket
+  abbrev state_of : LockState
+  state_of = lock_state_of stands.base (machine.lock_of st m) stands.words
+
+  abbrev number_of : ℕ → ℕ
+  number_of thread = stands.base + count_older thread (machine.lock_of st m)
+
+  covered : (thread : ℕ) → Covered state_of (number_of thread)
+  covered thread =
+      let l = ticket_covered thread (machine.lock_of st m) in
+      let e = length-map (machine.lock_of st m) forget in
+      record { from = omega arith; to = omega (arith, l, e) }
+
+  pub room_is : RoomLaw (ls.stands m) (ls.size m) (ls.room m) → (ls.room m).value s ≡ bit (has_room (mem_at p m).lock (length (machine.lock_of st m)))
+  room_is law =
+      law.holds s state_of stands.stands
+      ∙ ap bit ((same_meaning (ls.kind m) (ls.size m) stands.base 0 0 0 (machine.lock_of st m) stands.words ordered).3 ∙ ap (λ l. has_room l (length (machine.lock_of st m))) (sym kind))
+
+  module _ (thread : ℕ) (ticket : Signal) (mine : holds_ticket (ls.bits m) ticket s (stands.base + count_older thread (machine.lock_of st m))) where
+    look_same : (u : Bool) (a : ℕ) → look_ready (ls.kind m) (look_of u) state_of (number_of thread) a ≡ finds p st thread m u a
+    look_same true a = (same_meaning (ls.kind m) (ls.size m) stands.base 0 thread a (machine.lock_of st m) stands.words ordered).1 ∙ ap (λ l. write_ready l (older_write st thread m a)) (sym kind)
+    look_same false a = (same_meaning (ls.kind m) (ls.size m) stands.base 0 thread a (machine.lock_of st m) stands.words ordered).0 ∙ ap (λ l. read_ready l (older_write st thread m a)) (sym kind)
+
+    -- a block's signal says whether the block is ready
+    pub block_is : (u : Bool) (a : ℕ) (f : Signal) → ThroughLock ls m ticket s (λ x t. f.value s ≡ bit (look_ready (ls.kind m) (look_of u) x t a)) → f.value s ≡ bit (finds p st thread m u a)
+    block_is u a f h = h state_of (number_of thread) stands.stands (covered thread) mine ∙ ap bit (look_same u a)
+
+    -- a ready read gives the word that the thread finds
+    pub read_is : (addr f : Signal) → IsWord p ls m addr ticket f s → is_locked p m ≡ true → finds p st thread m false (addr.value s) ≡ true → f.value s ≡ word_for st thread m (addr.value s)
+    read_is addr f h e ready =
+        let a = addr.value s in
+        let r = look_same false a ∙ ready in
+        h.locked e state_of (number_of thread) stands.stands (covered thread) mine r
+        ∙ (same_meaning (ls.kind m) (ls.size m) stands.base 0 thread a (machine.lock_of st m) stands.words ordered).2 r
+        ∙ ap (value_or (older_write st thread m a)) (sym (stands.same a h.reach))
+
+-- a read of a memory without lock finds the word of the array
+pub word_is : (p : Pipe) (ls : Locks) (s : State) (st : machine.State) (thread m : ℕ) (addr ticket f : Signal) → IsWord p ls m addr ticket f s → is_locked p m ≡ false → machine.lock_of st m ≡ []
+    → st.arrays m (addr.value s) ≡ slice_index (slice_index_or s.arrays (ls.array m) []) (addr.value s) → f.value s ≡ word_for st thread m (addr.value s)
+word_is p ls s st thread m addr ticket f h e l w =
+    h.plain e ∙ sym w ∙ ap (λ es. value_or (machine.youngest es thread (addr.value s) Nothing) (st.arrays m (addr.value s))) (sym l)

@@ -1,0 +1,155 @@
+-- One row of a stage: what it may rest on, where its guards are taken and where they aren't.
+use Rattle.std.proofs.Common.{◌≡◌, ℕ, ◌+◌, ◌<◌, ◌≤◌, Bool, true, false, IsTrue, ◌&&◌, ◌||◌, List, [], ◌∷◌, map, length, refl, sym, ap, ap₂, ◌∙◌, subst}
+use Rattle.std.specs.Prelude.{nat_le, slice_index, slice_set, slice_index_or, ◌==◌, if◌then◌else◌}
+use Rattle.std.proofs.lemmas.Bool.{or_left, or_right, and_parts, eqb-true, eqb-false, leb-true}
+use Rattle.std.proofs.lemmas.List.{get_or-set_same, get_or-set_other}
+use Rattle.pdl_word.specs.Words.{bit}
+use Rattle.pdl_semantics.specs.Flat.{Expr, Op, Guard, Stmt, Pipe, all_hold, takes_branch, values_of}
+use Rattle.pdl_semantics.specs.Stages.{mem_at, commit_stage, is_verify}
+use Rattle.pdl_semantics.specs.Locks.{read_ready}
+use Rattle.pdl_semantics.specs.Machine as machine
+use Rattle.pdl_semantics.specs.Machine.{HeldLocation, Deeds, deeds_after, is_held, let_go, older_write, word_for}
+use Rattle.pdl_net.specs.Circuit.{Circuit, State}
+use Rattle.pdl_net.specs.Signal.{Signal}
+use Rattle.pdl_net.specs.Well.{Suits}
+use Rattle.pdl_lockapi.specs.Laws.{holds_ticket, RoomLaw}
+use Rattle.pdl_lockapi.specs.Forget.{as_lock}
+use Rattle.pdl_machine_facts.specs.Slots.{locks_ready}
+use Rattle.pdl_machine_facts.specs.Use.{is_early, IsOpFine}
+use Rattle.pdl_law_parts.specs.Lives.{uses_var, are_using, guards_use, row_uses, asks_held, lives_from, held_from, verifies_from}
+use Rattle.pdl_law_parts.specs.Walk.{Locks, Row, Walk, is_locked, taken_in, AgreeOn, HaveValues, IsWord, IsOp, both, if_on, with_var, with_held, walk_after}
+use Rattle.pdl_law_parts.specs.Reads.{IsAtOnce}
+use Rattle.pdl_law_parts.specs.Views.{View}
+use Rattle.pdl_law_parts.specs.Stands.{IsEnv, IsHolding, StandsLock, IsSo, Follows}
+use Rattle.pdl_law_parts.proofs.Signals.{both_at, if_on_at}
+use Rattle.pdl_law_parts.proofs.StageLooks.{read_is, word_is}
+use Rattle.pdl_word.proofs.Numbers.{eqb_self}
+use Rattle.pdl_semantics.specs.PendingLists.{count_older}
+
+-- TESTS
+
+-- what is let go is another location's no matter
+pub other_held : (ls : List HeldLocation) (m a n b : ℕ) → ((m == n) && (a == b)) ≡ false → is_held (let_go ls m a) n b ≡ is_held ls n b
+other_held [] m a n b e = refl
+other_held (l ∷ ls) m a n b e = at ((l.mem == m) && (l.var == a)) refl (other_held ls m a n b e)
+  where
+    at : (t : Bool) → ((l.mem == m) && (l.var == a)) ≡ t → is_held (let_go ls m a) n b ≡ is_held ls n b → is_held (if t then ls else l ∷ let_go ls m a) n b ≡ (((l.mem == n) && (l.var == b)) || is_held ls n b)
+    at true f h =
+        let g = and_parts (l.mem == m) (l.var == a) f in
+        sym (ap (λ x. x || is_held ls n b) (ap₂ (λ i j. (i == n) && (j == b)) (eqb-true l.mem m g.0) (eqb-true l.var a g.1) ∙ e))
+    at false f h = ap (λ x. ((l.mem == n) && (l.var == b)) || x) h
+
+-- a row of stage k, whose variables and locations live there
+pub record IsLive (p : Pipe) (k : ℕ) (x : Stmt) : Type 0 where
+  pub vars : (y : ℕ) → row_uses x y ≡ true → lives_from p k y ≡ true
+  pub held : (m a : ℕ) → asks_held x.op m a ≡ true → held_from p k m a ≡ true
+  pub verify : is_verify x.op ≡ true → verifies_from p k ≡ true
+  pub at_once : IsAtOnce p x.op
+
+-- the thread of a stage, in a state of the netlist that stands for the machine's
+pub record IsAround (c : Circuit) (p : Pipe) (ls : Locks) (vs : ℕ → View) (s : State) (st : machine.State) (k thread : ℕ) : Type 0 where
+  pub suits : Suits c s
+  pub kind : (m : ℕ) → is_locked p m ≡ true → (mem_at p m).lock ≡ as_lock (ls.kind m) (ls.size m)
+  pub room : (m : ℕ) → is_locked p m ≡ true → RoomLaw (ls.stands m) (ls.size m) (ls.room m)
+  pub ordered : (m : ℕ) → Rattle.pdl_semantics.specs.PendingLists.AreOrdered 0 (machine.lock_of st m)
+  pub unlocked : (m : ℕ) → is_locked p m ≡ false → machine.lock_of st m ≡ []
+  pub words : (m : ℕ) → is_locked p m ≡ false → (mem_at p m).delayed ≡ false → (a : ℕ) → a < (mem_at p m).depth → st.arrays m a ≡ slice_index (slice_index_or s.arrays (ls.array m) []) a
+  pub locks : (m : ℕ) → is_locked p m ≡ true → StandsLock p ls vs s st m
+  pub tickets : (m : ℕ) (e : is_locked p m ≡ true) → k ≤ commit_stage p m → holds_ticket (ls.bits m) ((vs k).tickets m) s ((locks m e).base + count_older thread (machine.lock_of st m))
+
+-- guards are taken as the signals say
+pub taken_same : (gs : List Guard) (w : Walk) (s : State) (env : List ℕ) → ((x : ℕ) → guards_use gs x ≡ true → slice_index env x ≡ (w.vars x).value s) → all_hold gs env ≡ taken_in gs w s
+taken_same [] w s env h = refl
+taken_same (g ∷ gs) w s env h =
+    ap₂ (λ n b. takes_branch g.first n && b) (h g.var (or_left (g.var == g.var) (guards_use gs g.var) (eqb_self g.var))) (taken_same gs w s env (λ x u. h x (or_right (g.var == x) (guards_use gs x) u)))
+
+-- what a thread has done after an operation, where it is taken
+abbrev pub done : machine.State → ℕ → Bool → Op → Deeds → Deeds
+done st thread b op d = if b then deeds_after (word_for st thread) op d else d
+
+module _ (c : Circuit) (p : Pipe) (ls : Locks) (vs : ℕ → View) (s : State) (st : machine.State) (k thread : ℕ) (around : IsAround c p ls vs s st k thread) where
+  -- a row under these guards, after deeds that have come so far
+  module _ (gs : List Guard) (r : Row) (w : Walk) (d : Deeds) (glive : (y : ℕ) → guards_use gs y ≡ true → lives_from p k y ≡ true) (on : (s : State) → Suits c s → r.on.value s ≡ bit (taken_in gs w s)) (q : Follows p k s st thread w d) where
+    pub guards_same : IsSo p k s w d → all_hold gs d.env ≡ taken_in gs w s
+    guards_same h = taken_same gs w s d.env (λ y u. h.env y (glive y u))
+
+    -- where the row is on the path, and where it isn't
+    pub is_taken : IsSo p k s w d → all_hold gs d.env ≡ true → taken_in gs w s ≡ true
+    is_taken h e = sym (guards_same h) ∙ e
+
+    pub is_not : IsSo p k s w d → all_hold gs d.env ≡ false → taken_in gs w s ≡ false
+    is_not h e = sym (guards_same h) ∙ e
+
+    pub on_at : IsSo p k s w d → r.on.value s ≡ bit (all_hold gs d.env)
+    on_at h = on s around.suits ∙ ap bit (sym (guards_same h))
+
+    -- a row that asks nothing of the locks
+    pub quiet : (op : Op) (w' : Walk) → w'.ready ≡ w.ready → ((b : Bool) → locks_ready p st thread (done st thread b op d) ≡ locks_ready p st thread d) → (IsSo p k s w d → locks_ready p st thread d ≡ true → (b : Bool) → all_hold gs d.env ≡ b → IsSo p k s w' (done st thread b op d)) → Follows p k s st thread w' (done st thread (all_hold gs d.env) op d)
+    quiet op w' e f g = record {
+      ready = ap (λ (h : Signal). h.value s) e ∙ q.ready ∙ ap bit (sym (f (all_hold gs d.env)));
+      so = λ z. let y = sym (f (all_hold gs d.env)) ∙ z in g (q.so y) y (all_hold gs d.env) refl;
+    }
+
+    -- a row that asks this of them where it is on the path
+    pub asking : (op : Op) (w' : Walk) (f : Signal) (y : Bool) → w'.ready ≡ both w.ready (if_on r.on f) → ((b : Bool) → locks_ready p st thread (done st thread b op d) ≡ (locks_ready p st thread d && (if b then y else true)))
+        → (IsSo p k s w d → locks_ready p st thread d ≡ true → all_hold gs d.env ≡ true → f.value s ≡ bit y)
+        → (IsSo p k s w d → (b : Bool) → all_hold gs d.env ≡ b → IsSo p k s w' (done st thread b op d)) → Follows p k s st thread w' (done st thread (all_hold gs d.env) op d)
+    asking op w' f y e split told g =
+        let b = all_hold gs d.env in
+        record {
+          ready = ap (λ (h : Signal). h.value s) e ∙ both_at s w.ready (if_on r.on f) (locks_ready p st thread d) (if b then y else true) q.ready (λ z. if_on_at s r.on f b y (on_at (q.so z)) (told (q.so z) z)) ∙ ap bit (sym (split b));
+          so = λ z. g (q.so (and_parts (locks_ready p st thread d) (if b then y else true) (sym (split b) ∙ z)).0) b refl;
+        }
+
+    -- VARIABLES
+
+    pub set_env : (y v : ℕ) (f : Signal) → y < length d.env → f.value s ≡ v → IsEnv p k s w.vars d.env → IsEnv p k s (with_var y f w).vars (slice_set d.env y v)
+    set_env y v f l e h z live = at (z == y) refl
+      where
+        at : (b : Bool) → (z == y) ≡ b → slice_index (slice_set d.env y v) z ≡ (if b then f else w.vars z).value s
+        at true g = ap (slice_index (slice_set d.env y v)) (eqb-true z y g) ∙ get_or-set_same d.env y v 0 l ∙ sym e
+        at false g = get_or-set_other d.env y z v 0 (eqb-false z y g) ∙ h z live
+
+    pub keep_env : (y : ℕ) (f : Signal) → f.value s ≡ (w.vars y).value s → IsEnv p k s w.vars d.env → IsEnv p k s (with_var y f w).vars d.env
+    keep_env y f e h z live = at (z == y) refl
+      where
+        at : (b : Bool) → (z == y) ≡ b → slice_index d.env z ≡ (if b then f else w.vars z).value s
+        at true g = h z live ∙ ap (λ i. (w.vars i).value s) (eqb-true z y g) ∙ sym e
+        at false g = h z live
+
+    -- LOCATIONS
+
+    pub hold : (m a : ℕ) (f : Signal) (new : List HeldLocation) → (held_from p k m a ≡ true → f.value s ≡ bit (is_held new m a)) → ((n b : ℕ) → ((m == n) && (a == b)) ≡ false → is_held new n b ≡ is_held d.held n b) → IsHolding p k s w.held d.held → IsHolding p k s (with_held m a f w.held) new
+    hold m a f new e other h n b live = at ((m == n) && (a == b)) refl
+      where
+        at : (t : Bool) → ((m == n) && (a == b)) ≡ t → (if t then f else w.held n b).value s ≡ bit (is_held new n b)
+        at true g =
+            let i = and_parts (m == n) (a == b) g in
+            e (subst (λ j. held_from p k j a ≡ true) (sym (eqb-true m n i.0)) (subst (λ j. held_from p k n j ≡ true) (sym (eqb-true a b i.1)) live))
+            ∙ ap₂ (λ i j. bit (is_held new i j)) (eqb-true m n i.0) (eqb-true a b i.1)
+        at false g = h n b live ∙ ap bit (sym (other n b g))
+
+    -- a memory's word
+    pub word_at : (m a : ℕ) → (mem_at p m).delayed ≡ false → IsWord p ls m (w.vars a) ((vs k).tickets m) r.value s → k ≤ commit_stage p m → IsTrue (read_ready (mem_at p m).lock (older_write st thread m ((w.vars a).value s))) → r.value.value s ≡ word_for st thread m ((w.vars a).value s)
+    word_at m a comb word low ready = at (is_locked p m) refl
+      where
+        at : (b : Bool) → is_locked p m ≡ b → r.value.value s ≡ word_for st thread m ((w.vars a).value s)
+        at true e = read_is p ls vs s st m (around.kind m e) (around.locks m e) (around.ordered m) thread ((vs k).tickets m) (around.tickets m e low) (w.vars a) r.value word e ready
+        at false e = word_is p ls s st thread m (w.vars a) ((vs k).tickets m) r.value word e (around.unlocked m e) (around.words m e comb ((w.vars a).value s) word.reach)
+
+  pub values_same : (args : List Expr) (fs : List Signal) (w : Walk) (env : List ℕ) → HaveValues args w fs s → ((e : Expr) → ((y : ℕ) → uses_var e y ≡ true → are_using args y ≡ true) → AgreeOn e w s env) → values_of args env ≡ map (λ (f : Signal). f.value s) fs
+  values_same [] [] w env h g = refl
+  values_same [] (f ∷ fs) w env h g = absurd h
+  values_same (e ∷ es) [] w env h g = absurd h
+  values_same (e ∷ es) (f ∷ fs) w env h g =
+      ap₂ (λ v l. v ∷ l) (sym (h.0 env (g e (λ y u. or_left (uses_var e y) (are_using es y) u))))
+      (values_same es fs w env h.1 (λ a u. g a (λ y i. or_right (uses_var e y) (are_using es y) (u y i))))
+
+  pub early : (j n : ℕ) → j ≡ k → nat_le j n ≡ true → k ≤ n
+  early j n here e = subst (λ i. i ≤ n) here (leb-true j n e)
+
+  -- a row with this operation: after it the walk tells what the thread does
+  abbrev pub FollowsOp : Op → Type 0
+  FollowsOp op = (j : ℕ) (gs : List Guard) (r : Row) (w : Walk) (d : Deeds) → IsLive p k (record { stage = j; guards = gs; op = op }) → ((s : State) → Suits c s → r.on.value s ≡ bit (taken_in gs w s)) → IsOp c p ls (vs k).tickets gs op w r → j ≡ k
+      → (all_hold gs d.env ≡ true → locks_ready p st thread d ≡ true → (is_early p (record { stage = j; guards = gs; op = op }) ≡ true) × IsOpFine p st thread op d)
+      → Follows p k s st thread w d → Follows p k s st thread (walk_after op r ls w) (done st thread (all_hold gs d.env) op d)

@@ -1,0 +1,83 @@
+-- From what holds of each act of a cycle to the thread in each stage, and what two layers count alike.
+use Rattle.std.proofs.Common.{◌≡◌, refl, sym, subst, ap, ap₂, ◌∙◌, ℕ, zero, suc, ◌+◌, Bool, true, false, List, [], ◌∷◌, ◌++◌, length, drop, Option, Some, None, ◌==◌, cond, if◌then◌else◌, arith, nat_lt, length-append, slice_index_or}
+use Rattle.pdl_word.specs.Words
+use Rattle.pdl_semantics.specs.Flat.{Pipe}
+use Rattle.pdl_semantics.specs.Machine.{State, Thread, Pending, Reserved, with_answers, deeds}
+use Rattle.pdl_semantics.specs.Moves.{Act, act, acts, all_acts}
+use Rattle.pdl_lockapi.specs.Forget as forget
+use Rattle.pdl_machine_facts.specs.Slots.{slot, with_now, here, stage_moves, slot_moves, later_acts}
+use Rattle.pdl_theory_states.specs.Use.{AllActs, bit, reserved_in, reserved_count}
+use Rattle.pdl_semantics.specs.PendingLists.{AreOrdered, count_older}
+
+-- EACH STAGE
+
+module _ (p : Pipe) (st : State) (bits : List Bool) (P : Act → Type 0) where
+  none_some : (t : Thread) → None ≡ Some t → ⊥
+  none_some t e = cc
+
+  acts_at : (xs : List (Option Thread)) (s k : ℕ) (t : Thread) → AllActs P (acts p st bits s xs) → slice_index_or xs k None ≡ Some t
+      → P (act p st bits (acts p st bits (suc (s + k)) (drop (suc k) xs)) (s + k) (with_answers p st bits t))
+  acts_at [] s k t h e = absurd (none_some t e)
+  acts_at (None ∷ xs) s zero t h e = absurd (none_some t e)
+  acts_at (None ∷ xs) s (suc k) t h e =
+      let same : suc s + k ≡ s + suc k = omega arith in
+      subst (λ n. P (act p st bits (acts p st bits (suc n) (drop (suc k) xs)) n (with_answers p st bits t))) same (acts_at xs (suc s) k t h e)
+  acts_at (Some u ∷ xs) s zero t h e =
+      let same : s ≡ s + 0 = omega arith in
+      let is : u ≡ t = cc in
+      subst (λ n. P (act p st bits (acts p st bits (suc n) xs) n (with_answers p st bits t))) same
+      (subst (λ v. P (act p st bits (acts p st bits (suc s) xs) s (with_answers p st bits v))) is h.0)
+  acts_at (Some u ∷ xs) s (suc k) t h e =
+      let same : suc s + k ≡ s + suc k = omega arith in
+      subst (λ n. P (act p st bits (acts p st bits (suc n) (drop (suc k) xs)) n (with_answers p st bits t))) same (acts_at xs (suc s) k t h.1 e)
+
+  -- the act of the thread in a stage
+  abbrev pub act_here : ℕ → Thread → Act
+  act_here k t = record { stage = k; thread = t; does = deeds p st k t; moves = stage_moves p st bits k }
+
+  pub at_here : AllActs P (all_acts p st bits) → (k : ℕ) (t : Thread) → here p st bits k ≡ Some t → P (act_here k t)
+  at_here h k t e = at (slot st k) refl e
+    where
+      zero_k : 0 + k ≡ k
+      zero_k = omega arith
+
+      at : (o : Option Thread) → slot st k ≡ o → with_now p st bits o ≡ Some t → P (act_here k t)
+      at None f g = absurd (none_some t g)
+      at (Some u) f g =
+          let is : with_answers p st bits u ≡ t = cc in
+          let a = acts_at st.stages 0 k u h f in
+          subst (λ b. P (record { stage = k; thread = t; does = deeds p st k t; moves = b })) (ap (slot_moves p st bits k) (sym e))
+          (subst (λ v. P (act p st bits (later_acts p st bits k) k v)) is
+          (subst (λ n. P (act p st bits (acts p st bits (suc n) (drop (suc k) st.stages)) n (with_answers p st bits u))) zero_k a))
+
+  -- and of the thread that stood there
+  pub at_slot : AllActs P (all_acts p st bits) → (k : ℕ) (t : Thread) → slot st k ≡ Some t → P (act_here k (with_answers p st bits t))
+  at_slot h k t e = at_here h k (with_answers p st bits t) (ap (with_now p st bits) e)
+
+-- LISTS
+
+pub same_order : (t : ℕ) (es : List Pending) → AreOrdered t es → AreOrdered t es
+same_order t [] h = tt
+same_order t (e ∷ es) h = (h.0, same_order (e.thread + 1) es h.1)
+
+pub same_count : (t : ℕ) (es : List Pending) → count_older t es ≡ count_older t es
+same_count t [] = refl
+same_count t (e ∷ es) = ap (λ n. if nat_lt e.thread t then suc n else n) (same_count t es)
+
+pub same_bit : (b : Bool) → bit b ≡ Words.bit b
+same_bit true = refl
+same_bit false = refl
+
+as_many : (m : ℕ) (rs : List Reserved) → reserved_in m rs ≡ length (forget.addresses_of m rs)
+as_many m [] = refl
+as_many m (r ∷ rs) = at (r.mem == m) (as_many m rs)
+  where
+    at : (b : Bool) → reserved_in m rs ≡ length (forget.addresses_of m rs)
+        → cond b (suc (reserved_in m rs)) (reserved_in m rs) ≡ length (cond b (r.address ∷ []) [] ++ forget.addresses_of m rs)
+    at true h = ap suc h
+    at false h = h
+
+pub same_reserved : (m : ℕ) (ms : List Act) → reserved_count m ms ≡ length (forget.addresses m ms)
+same_reserved m [] = refl
+same_reserved m (a ∷ ms) =
+    ap₂ (λ x y. x + y) (same_reserved m ms) (as_many m a.does.reserves) ∙ sym (length-append (forget.addresses m ms) (forget.addresses_of m a.does.reserves))

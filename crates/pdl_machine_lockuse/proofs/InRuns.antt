@@ -1,0 +1,68 @@
+-- The same of each state that a run comes to.
+use Rattle.std.proofs.Common.{refl, ℕ, Bool, List, Some}
+use Rattle.pdl_semantics.specs.Flat.{Arrays, Pipe}
+use Rattle.pdl_semantics.specs.Machine.{State}
+use Rattle.pdl_semantics.specs.Moves.{all_acts}
+use Rattle.pdl_semantics.specs.Cycle.{first, state_after}
+use Rattle.pdl_theory_derived.specs.Derived
+use Rattle.pdl_theory_facts.specs.Facts.{Sound}
+use Rattle.pdl_machine_facts.specs.Cycle.{IsByStages}
+use Rattle.pdl_machine_facts.specs.Use.{IsInUse}
+use Rattle.pdl_theory_states.specs.Strict.{Strict}
+use Rattle.pdl_theory_states.specs.Use.{AllActs, ShiftsTail, ReleasesWritten}
+use Rattle.pdl_theory_states.proofs.Reached.{reached}
+use Rattle.pdl_machine_lockuse.specs.Careful.{Careful}
+use Rattle.pdl_machine_lockuse.specs.Use.{ReleasesOwn, ReleasesOlder, FindsAll, KeepsTail, LeavesTail, Cuts, IsSpared, WritesOnce, IsLet, AwaitsOlder}
+use Rattle.pdl_machine_lockuse.proofs.InUse.{by, spared, owns, written, older_released, awaits_released, tails, finds_all, tails_kept, tails_left, cuts, once, lets_in, in_use}
+
+module _ (p : Pipe) (sound : Sound p) (strict : Strict p) (image : Arrays) (before : List (List Bool)) (bits : List Bool) where
+  abbrev now : State
+  now = state_after p (first p image) before
+
+  abbrev twin : Derived.State
+  twin = Derived.state_after p (Derived.first p image) before
+
+  pub in_use_here : Careful p → IsInUse p (state_after p (first p image) before) bits
+  in_use_here careful = let r = reached p sound strict image before in in_use p sound strict now twin bits r.0 r.1 r.2 careful
+
+  pub lets_here : Careful p → AllActs (IsLet p (state_after p (first p image) before)) (all_acts p (state_after p (first p image) before) bits)
+  lets_here careful = let r = reached p sound strict image before in lets_in p sound strict now twin bits r.0 r.1 r.2 careful
+
+  pub stages_here : IsByStages p (state_after p (first p image) before) bits
+  stages_here = let r = reached p sound strict image before in by p sound strict now twin bits r.0 r.1 r.2
+
+  pub spared_here : AllActs (IsSpared p (state_after p (first p image) before) bits) (all_acts p (state_after p (first p image) before) bits)
+  spared_here = let r = reached p sound strict image before in spared p sound strict now twin bits r.0 r.1 r.2
+
+  pub owns_here : (m : ℕ) → AllActs (ReleasesOwn p (state_after p (first p image) before) bits m) (all_acts p (state_after p (first p image) before) bits)
+  owns_here m = let r = reached p sound strict image before in owns p sound strict now twin bits r.0 r.1 r.2 m
+
+  pub written_here : (m : ℕ) → ReleasesWritten p (state_after p (first p image) before) bits m
+  written_here m h =
+      let r = reached p sound strict image before in
+      let w = written p sound strict now twin bits r.0 r.1 r.2 m h in
+      record { entry = record { thread = w.0; address = w.1.address; value = Some w.1.value }; rest = w.1.rest; value = w.1.value; is = w.1.is; written = refl }
+
+  pub once_here : (m : ℕ) → AllActs (WritesOnce p (state_after p (first p image) before) bits m) (all_acts p (state_after p (first p image) before) bits)
+  once_here m = let r = reached p sound strict image before in once p sound strict now twin bits r.0 r.1 r.2 m
+
+  pub older_here : (m : ℕ) → AllActs (ReleasesOlder p (state_after p (first p image) before) bits m) (all_acts p (state_after p (first p image) before) bits)
+  older_here m = let r = reached p sound strict image before in older_released p sound strict now twin bits r.0 r.1 r.2 m
+
+  pub awaits_here : (m : ℕ) → AllActs (AwaitsOlder p (state_after p (first p image) before) bits m) (all_acts p (state_after p (first p image) before) bits)
+  awaits_here m = let r = reached p sound strict image before in awaits_released p sound strict now twin bits r.0 r.1 r.2 m
+
+  pub tails_here : (m : ℕ) → AllActs (ShiftsTail p (state_after p (first p image) before) bits m) (all_acts p (state_after p (first p image) before) bits)
+  tails_here m = let r = reached p sound strict image before in tails p sound strict now twin bits r.0 r.1 r.2 m
+
+  pub all_here : (m : ℕ) → AllActs (FindsAll p (state_after p (first p image) before) bits m) (all_acts p (state_after p (first p image) before) bits)
+  all_here m = let r = reached p sound strict image before in finds_all p sound strict now twin bits r.0 r.1 r.2 m
+
+  pub kept_here : (m : ℕ) → AllActs (KeepsTail p (state_after p (first p image) before) bits m) (all_acts p (state_after p (first p image) before) bits)
+  kept_here m = let r = reached p sound strict image before in tails_kept p sound strict now twin bits r.0 r.1 r.2 m
+
+  pub left_here : (m : ℕ) → AllActs (LeavesTail p (state_after p (first p image) before) bits m) (all_acts p (state_after p (first p image) before) bits)
+  left_here m = let r = reached p sound strict image before in tails_left p sound strict now twin bits r.0 r.1 r.2 m
+
+  pub cuts_here : (m : ℕ) → Cuts p (state_after p (first p image) before) bits m
+  cuts_here m = let r = reached p sound strict image before in cuts p sound strict now twin bits r.0 r.1 r.2 m

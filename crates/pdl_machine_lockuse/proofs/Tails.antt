@@ -1,0 +1,181 @@
+-- Places among the pending writes of a lock in a cycle: what is appended and what is released is no younger than a thread, up to the stages where that matters.
+use Rattle.std.proofs.Common.{◌≡◌, refl, sym, ap, ◌∙◌, subst, ℕ, suc, ◌≤◌, ◌<◌, inl, inr, Bool, true, false, ◌||◌, List, [], ◌∷◌, ◌++◌, length, Option, Some, None, ◌==◌, nat_le, cond, arith, le_refl, leb-true, leb-false, append-nil}
+use Rattle.pdl_semantics.specs.Flat.{Pipe}
+use Rattle.pdl_semantics.specs.Stages.{list_any, stage_at, reserve_stage, commit_stage, verify_stage}
+use Rattle.pdl_semantics.specs.Machine.{State, Pending}
+use Rattle.pdl_semantics.specs.Moves.{movers}
+use Rattle.pdl_semantics.specs.Cycle.{with_reserves, has_release}
+use Rattle.pdl_theory_derived.specs.Derived
+use Rattle.pdl_theory_facts.specs.Facts.{Sound}
+use Rattle.pdl_theory_turns.proofs.CourseOf
+use Rattle.pdl_theory_derived.proofs.Lists.{pend}
+use Rattle.pdl_theory_simulation.proofs.Joined.{sound_flows}
+use Rattle.pdl_theory_simulation.proofs.Stretches.{Behind}
+use Rattle.pdl_theory_simulation.proofs.Seats.{Live, Falls, falls_each, Ordered, pends, lact, lacts, did, deeds_of}
+use Rattle.pdl_theory_simulation.proofs.Telling.{Pair, pairs, EachPair, pair_map, pair_both, pairs_each}
+use Rattle.pdl_theory_simulation.proofs.Choices.{Seated, AllKnown}
+use Rattle.pdl_theory_simulation.proofs.Turned.{release_here}
+use Rattle.pdl_theory_states.proofs.Lasting.{Lasting, Along}
+use Rattle.pdl_theory_states.proofs.PendingLists.{within_count}
+use Rattle.pdl_theory_states.proofs.LockCycle.{NoOlder, movers_no_older, count_appended, quiet_new, past_new, older_past, within_new, appended_more}
+use Rattle.pdl_theory_states.proofs.OwnWrites.{none_pending}
+use Rattle.pdl_theory_states.proofs.LockRelease.{some_pending, first_low}
+use Rattle.pdl_machine_lockuse.proofs.Certain.{certain_here}
+use Rattle.pdl_semantics.specs.PendingLists.{count_older}
+use Rattle.pdl_word.specs.Each.{Each}
+
+-- V is a trunk stage
+verify_trunk : (p : Pipe) → Sound p → (v : ℕ) → verify_stage p.stmts ≡ Some v → (stage_at p v).branch ≡ None
+verify_trunk p sound v e = subst (λ n. (stage_at p n).branch ≡ None) (v_is (verify_stage p.stmts) e) (CourseOf.v_trunk p sound (verify_stage p.stmts) refl)
+  where
+    v_is : (o : Option ℕ) → o ≡ Some v → CourseOf.v_of p sound o ≡ v
+    v_is None i = absurd (cc i)
+    v_is (Some w) i = cc i
+
+-- a thread before the stage of the reserves leaves the list of the older ones as it is
+quiet_same : (p : Pipe) (sound : Sound p) (st : State) (d : Derived.State) (bits : List Bool) (arrays : st.arrays ≡ d.arrays) (m : ℕ) (ls : List Live)
+    (l : Live)
+    → Seated p st l → l.thread.stage < reserve_stage p m
+    → with_reserves m (movers (lacts p st d bits (l ∷ ls))) (pends m (l ∷ ls)) ≡ with_reserves m (movers (lacts p st d bits ls)) (pends m ls)
+quiet_same p sound st d bits arrays m ls l s low =
+    ap (λ x. with_reserves m (movers (lacts p st d bits (l ∷ ls))) (pends m ls ++ x)) none
+    ∙ ap (with_reserves m (movers (lacts p st d bits (l ∷ ls)))) (append-nil (pends m ls)) ∙ at (did p d bits ls l).moves
+  where
+    none : pend m l.number l.thread.entries ≡ []
+    none = none_pending p (sound_flows p sound) st m l s (omega (arith, low))
+
+    at : (b : Bool)
+        → with_reserves m (cond b (lact p st d bits ls l ∷ movers (lacts p st d bits ls)) (movers (lacts p st d bits ls))) (pends m ls) ≡ with_reserves m
+        (movers (lacts p st d bits ls)) (pends m ls)
+    at true =
+        ap (λ x. with_reserves m (movers (lacts p st d bits ls)) (pends m ls) ++ x)
+        (quiet_new p (sound_flows p sound) st d bits arrays m l (λ e. absurd (omega (arith, low, e))))
+        ∙ append-nil (with_reserves m (movers (lacts p st d bits ls)) (pends m ls))
+    at false = refl
+
+module _ (p : Pipe) (sound : Sound p) (st : State) (d : Derived.State) (bits : List Bool) (arrays : st.arrays ≡ d.arrays) (m : ℕ) where
+  abbrev new : List Live → List Pending
+  new ls = with_reserves m (movers (lacts p st d bits ls)) (pends m ls)
+
+  abbrev lets : Live → Bool
+  lets l = list_any (λ j. j == m) (deeds_of p st bits l).releases
+
+  -- WHAT IS RELEASED
+
+  -- who releases has no older thread of a kind
+  abbrev pub Bars : (Pair → Type 0) → List Live → Type 0
+  Bars P [] = Unit {0}
+  Bars P (l ∷ ls) = ((did p d bits ls l).moves ≡ true → lets l ≡ true → EachPair (λ x. P x → ⊥) (pairs ls)) × Bars P ls
+
+  -- then what is released is no younger than such a thread
+  pub up_released : (P : Pair → Type 0) (n : ℕ) (ls : List Live) → Bars P ls → Each (Seated p st) ls → AllKnown p (sound_flows p sound) st d bits arrays ls
+      → Ordered p ls → Falls n ls → has_release m (movers (lacts p st d bits ls)) ≡ true
+      → EachPair
+      (λ x. P x → (e : Pending) (rest : List Pending) → with_reserves m (movers (lacts p st d bits ls)) (pends m ls) ≡ e ∷ rest → e.thread < suc x.live.number)
+      (pairs ls)
+  up_released P n [] bars s k o f h = tt
+  up_released P n (l ∷ ls) bars s k o f h = (
+    (λ g e rest i. first_low p (sound_flows p sound) st d bits arrays m 0 (suc l.number) (new (l ∷ ls)) e rest i (within_new p (sound_flows p sound) st d bits arrays m (suc l.number) (l ∷ ls) k o (le_refl (suc l.number), f.1))),
+    at (did p d bits ls l).moves refl (lets l) refl h (appended_more p (sound_flows p sound) st d bits arrays m ls l s.0 o.0)
+        (λ i. (up_released P l.number ls bars.1 s.1 k.1 o.1 f.1 i, some_pending p (sound_flows p sound) st d bits arrays m l.number ls s.1 k.1 o.1 f.1 i)),
+  )
+    where
+      -- another one releases
+      other : (all : List Pending) → ((tail : List Pending) × (all ≡ new ls ++ tail))
+          → EachPair (λ x. P x → (e : Pending) (rest : List Pending) → new ls ≡ e ∷ rest → e.thread < suc x.live.number) (pairs ls) ×
+          ((x : Pending) × (xs : List Pending) × (new ls ≡ x ∷ xs))
+          → EachPair (λ x. P x → (e : Pending) (rest : List Pending) → all ≡ e ∷ rest → e.thread < suc x.live.number) (pairs ls)
+      other all t g = pair_map (λ x h i e rest j. subst (λ (y : Pending). y.thread < suc x.live.number) (same e rest j) (h i g.1.0 g.1.1 g.1.2)) (pairs ls) g.0
+        where
+          first : {x y : Pending} {xs ys : List Pending} → x ∷ xs ≡ y ∷ ys → x ≡ y
+          first h = cc
+
+          same : (e : Pending) (rest : List Pending) → all ≡ e ∷ rest → g.1.0 ≡ e
+          same e rest j = first (ap (λ l. l ++ t.0) (sym g.1.2) ∙ sym t.1 ∙ j)
+
+      at : (b : Bool) → (did p d bits ls l).moves ≡ b → (c : Bool) → lets l ≡ c
+          → has_release m (cond b (lact p st d bits ls l ∷ movers (lacts p st d bits ls)) (movers (lacts p st d bits ls))) ≡ true
+          →
+          ((b : Bool) → (tail : List Pending) × (with_reserves m (cond b (lact p st d bits ls l ∷ movers (lacts p st d bits ls)) (movers (lacts p st d bits ls))) (pends m ls ++ pend m l.number l.thread.entries) ≡ new ls ++ tail))
+          →
+          (has_release m (movers (lacts p st d bits ls)) ≡ true → EachPair (λ x. P x → (e : Pending) (rest : List Pending) → new ls ≡ e ∷ rest → e.thread < suc x.live.number) (pairs ls) × ((x : Pending) × (xs : List Pending) × (new ls ≡ x ∷ xs)))
+          → EachPair
+          (λ x. P x → (e : Pending) (rest : List Pending) → with_reserves m (cond b (lact p st d bits ls l ∷ movers (lacts p st d bits ls)) (movers (lacts p st d bits ls))) (pends m ls ++ pend m l.number l.thread.entries) ≡ e ∷ rest → e.thread < suc x.live.number)
+          (pairs ls)
+      at true i true j h t r = pair_map (λ x g i. absurd (g i)) (pairs ls) (bars.0 i j)
+      at true i false j h t r = other _ (t true) (r (sym (ap (λ c. c || has_release m (movers (lacts p st d bits ls))) j) ∙ h))
+      at false i c j h t r = other _ (t false) (r h)
+
+  -- no older thread stands up to the stage of the releases
+  pub bars_commit : (ls : List Live) → AllKnown p (sound_flows p sound) st d bits arrays ls → Ordered p ls
+      → Bars (λ x. x.live.thread.stage ≤ commit_stage p m) ls
+  bars_commit [] k o = tt
+  bars_commit (l ∷ ls) k o = (
+    (λ i j. pair_map (λ x b g. absurd (let here = release_here p (sound_flows p sound) st d bits arrays ls l k.0 m j in let u : commit_stage p m < x.live.thread.stage = b.trunk (commit_stage p m) ((sound_flows p sound).trunk_commit m) (let v = here in omega arith) in let v = g in omega arith))
+        (pairs ls) (pairs_each (λ k. Behind p l.thread.stage k.thread.stage) ls o.0)),
+    bars_commit ls k.1 o.1,
+  )
+
+  -- and none up to V
+  pub bars_verify : (v : ℕ) → verify_stage p.stmts ≡ Some v → (ls : List Live) → AllKnown p (sound_flows p sound) st d bits arrays ls → Ordered p ls
+      → Along (Lasting p st) ls → Bars (λ x. x.live.thread.stage ≤ v) ls
+  bars_verify v e [] k o a = tt
+  bars_verify v e (l ∷ ls) k o a = ((λ i j. at (nat_le v l.thread.stage) refl i j), bars_verify v e ls k.1 o.1 a.1)
+    where
+      trunk : (stage_at p v).branch ≡ None
+      trunk = verify_trunk p sound v e
+
+      at : (b : Bool) → nat_le v l.thread.stage ≡ b → (did p d bits ls l).moves ≡ true → lets l ≡ true → EachPair (λ x. x.live.thread.stage ≤ v → ⊥) (pairs ls)
+      at true f i j =
+          pair_map (λ x b g. let u : v < x.live.thread.stage = b.trunk v trunk (leb-true _ _ f) in absurd (let w = g in omega (arith, u, w))) (pairs ls)
+          (pairs_each (λ k. Behind p l.thread.stage k.thread.stage) ls o.0)
+      at false f i j =
+          pair_map (λ x b g. absurd (let u = b in let w = g in omega (arith, u, w))) (pairs ls)
+          (pairs_each (λ k. v < k.thread.stage) ls (certain_here p sound st d bits arrays ls l k.0 a.0 o.0 i m v e (leb-false _ _ f) j))
+
+  -- WHAT IS APPENDED
+
+  -- up to the stage of the reserves all are its own or older
+  pub all_own : (n : ℕ) (ls : List Live) → AllKnown p (sound_flows p sound) st d bits arrays ls → Each (Seated p st) ls → Ordered p ls → Falls n ls
+      → EachPair
+      (λ x. x.live.thread.stage ≤ reserve_stage p m → count_older (suc x.live.number) (with_reserves m (movers (lacts p st d bits ls)) (pends m ls)) ≡ length (with_reserves m (movers (lacts p st d bits ls)) (pends m ls)))
+      (pairs ls)
+  all_own n [] k s o f = tt
+  all_own n (l ∷ ls) k s o f = (
+    (λ h. within_count 0 (suc l.number) (suc l.number) (new (l ∷ ls)) (within_new p (sound_flows p sound) st d bits arrays m (suc l.number) (l ∷ ls) k o (le_refl (suc l.number), f.1)) (le_refl (suc l.number))),
+    pair_both (λ x b g h. subst (λ xs. count_older (suc x.live.number) xs ≡ length xs) (sym (same x b h)) (g h)) (pairs ls)
+        (pairs_each (λ k. Behind p l.thread.stage k.thread.stage) ls o.0) (all_own l.number ls k.1 s.1 o.1 f.1),
+  )
+    where
+      -- behind a thread up to the stage of the reserves nobody has come to it
+      same : (x : Pair) → Behind p l.thread.stage x.live.thread.stage → x.live.thread.stage ≤ reserve_stage p m → new (l ∷ ls) ≡ new ls
+      same x b h = quiet_same p sound st d bits arrays m ls l s.0 (low (nat_le (reserve_stage p m) l.thread.stage) refl)
+        where
+          low : (c : Bool) → nat_le (reserve_stage p m) l.thread.stage ≡ c → l.thread.stage < reserve_stage p m
+          low true e =
+              absurd
+              (let u : reserve_stage p m < x.live.thread.stage = b.trunk (reserve_stage p m) ((sound_flows p sound).trunk_reserve m) (leb-true _ _ e) in omega (arith, u, h))
+          low false e = leb-false _ _ e
+
+  -- behind it nothing up to its own is appended
+  past_older : (t : ℕ) (ls : List Live) → Each (λ k. reserve_stage p m < k.thread.stage) ls → NoOlder t m (lacts p st d bits ls)
+  past_older t [] h = tt
+  past_older t (l ∷ ls) h = (inl (past_new p (sound_flows p sound) st d bits arrays m l h.0), past_older t ls h.1)
+
+  no_older : (n : ℕ) (ls : List Live) → Ordered p ls → Falls n ls
+      → EachPair (λ x. reserve_stage p m < x.live.thread.stage → NoOlder (suc x.live.number) m (lacts p st d bits ls)) (pairs ls)
+  no_older n [] o f = tt
+  no_older n (l ∷ ls) o f = (
+    (λ h. (inl (past_new p (sound_flows p sound) st d bits arrays m l h), past_older (suc l.number) ls (older_past p (sound_flows p sound) st d bits arrays m l ls o.0 (let i = h in omega arith)))),
+    pair_both (λ x a g h. (inr (let i = a in omega arith), g h)) (pairs ls) (pairs_each (λ k. k.number < l.number) ls (falls_each l.number ls f.1))
+        (no_older l.number ls o.1 f.1),
+  )
+
+  pub tail_kept : (n : ℕ) (ls : List Live) (list : List Pending) → Ordered p ls → Falls n ls
+      → EachPair
+      (λ x. reserve_stage p m < x.live.thread.stage → count_older (suc x.live.number) (with_reserves m (movers (lacts p st d bits ls)) list) ≡ count_older (suc x.live.number) list)
+      (pairs ls)
+  tail_kept n ls list o f =
+      pair_map
+      (λ x g h. count_appended (suc x.live.number) m (movers (lacts p st d bits ls)) list (movers_no_older (suc x.live.number) m (lacts p st d bits ls) (g h)))
+      (pairs ls) (no_older n ls o f)

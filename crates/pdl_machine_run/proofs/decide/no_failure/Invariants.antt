@@ -1,0 +1,8 @@
+use Rattle.std.proofs.Common.{◌≡◌, drop}
+use Rattle.pdl_machine_run.specs.Acts.{all_of}
+use Rattle.pdl_semantics.specs.Moves as moves
+use Rattle.pdl_machine_run.proofs.decide.no_failure.Given as goal
+
+-- the stages left decide
+abbrev pub invariant-loop-k : goal.invariant-loop-k
+invariant-loop-k l = moves.no_failure (all_of l.k (drop l.k l.stages)) ≡ moves.no_failure (all_of l.first (drop l.first l.stages))

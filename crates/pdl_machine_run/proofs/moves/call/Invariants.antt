@@ -1,0 +1,12 @@
+use Rattle.std.proofs.Common.{◌≡◌, drop}
+use Rattle.pdl_machine_run.specs.Acts.{acts_of}
+use Rattle.pdl_semantics.specs.Cycle as stated
+use Rattle.pdl_machine_run.proofs.moves.call.Given as goal
+
+-- the stages left decide
+abbrev pub invariant-loop-stage : goal.invariant-loop-stage
+invariant-loop-stage l =
+    record {
+      left : stated.child_of (acts_of l.stage-index (drop l.stage-index l.stages)) ≡ stated.child_of (acts_of 0 l.stages);
+      place : l.place ≡ l.initial.place;
+    }

@@ -1,0 +1,172 @@
+// What the statements of a stage do for its thread.
+ghost use Rattle.std.specs.Prelude.{◌≡◌, ◌≤◌, ◌<◌, ◌+◌, ℕ, length, map, slice_set, vec_len, vec_capacity};
+ghost use Rattle.pdl_semantics.specs.Machine as machine;
+ghost use Rattle.pdl_form.specs.View.{act_view, stmts_view};
+ghost use Rattle.pdl_form.specs.Whole.{form};
+ghost use Rattle.pdl_machine_facts.specs.Use.{before_stage};
+ghost use Rattle.pdl_machine_run.specs.View.{place_view, kept_view, deeds_view, thread_of};
+ghost use Rattle.pdl_machine_run.specs.Room.{capacities, IsLarge, HasRoomFor, IsEmpty};
+ghost use Rattle.pdl_machine_run.specs.Doing.{nothing_done};
+
+use crate::place::{Place, hold, let_go};
+use crate::stage::{Kept, Slot};
+use pdl_form::{FlatPipe, Op, Stmt};
+use pdl_machine_pending::{Reserved, Written};
+use pdl_form_values::are_taken;
+
+/// A block: the number of its memory, its address, and whether the location is reserved for writing.
+#[derive(Clone, Copy)]
+pub struct Blocked {
+    pub mem: usize,
+    pub address: u64,
+    pub writes: bool,
+}
+
+/// A delayed read: the numbers of its memory and of the variable that it binds, and its address.
+#[derive(Clone, Copy)]
+pub struct Ask {
+    pub mem: usize,
+    pub var: usize,
+    pub address: u64,
+}
+
+/// What the statements of a stage on its thread's path have done so far: its values, its guess and what it holds; the blocks, the reservations, the writes, the memories whose write reservation was released, and the delayed reads; whether there was a barrier, the arguments of the thread that it called, if it did, and whether a verify failed.
+pub struct Deeds {
+    pub values: Vec<u64>,
+    pub guess: Vec<u64>,
+    pub held: Vec<Place>,
+    pub blocks: Vec<Blocked>,
+    pub reserves: Vec<Reserved>,
+    pub writes: Vec<Written>,
+    pub releases: Vec<usize>,
+    pub asks: Vec<Ask>,
+    pub barrier: bool,
+    pub called: bool,
+    pub args: Vec<u64>,
+    pub fails: bool,
+    // Room for the arguments of a verify.
+    pub verified: Vec<u64>,
+}
+
+// As the derive would, but by a call of its owners: docs/DECISIONS.md says why.
+impl Drop for Deeds {
+    fn drop(self) {
+        let Deeds {
+            values: _,
+            guess: _,
+            held: _,
+            blocks: _,
+            reserves: _,
+            writes: _,
+            releases: _,
+            asks: _,
+            barrier: _,
+            called: _,
+            args: _,
+            fails: _,
+            verified: _,
+        } = self;
+    }
+}
+
+/// Copies words into a vector in place of what it held.
+pub fn copy_words(from: &[u64], to: &mut Vec<u64>)
+    requires { length from.now ≤ vec_capacity to.old }
+    ensures items { to.new.items ≡ from.now }
+    ensures capacity { vec_capacity to.new ≡ vec_capacity to.old }
+{
+    to.clear();
+    for word in from {
+        to.push_reserved(*word);
+    }
+}
+
+/// Sets a variable, if there is one of this number.
+pub fn set_variable(values: &mut [u64], x: usize, word: u64)
+    ensures { values.new ≡ slice_set values.old x word }
+{
+    if x < values.len() {
+        values[x] = word;
+    }
+}
+
+// Puts the answers of delayed reads into their variables.
+fn put_answers(kept: &[Kept], values: &mut [u64])
+    ensures { values.new ≡ machine.with_kept (map kept_view kept.now) values.old }
+{
+    for answer in kept {
+        set_variable(values, answer.var, answer.word);
+    }
+}
+
+// What is held after an operation.
+fn hold_after(op: &Op, held: &mut Vec<Place>)
+    requires { vec_len held.old < vec_capacity held.old }
+    ensures held { map place_view held.new.items
+        ≡ machine.held_after (act_view op.now) (map place_view held.old.items) }
+    ensures more { vec_len held.new ≤ vec_len held.old + 1 }
+    ensures capacity { vec_capacity held.new ≡ vec_capacity held.old }
+{
+    match op {
+        Op::ReserveWrite { m, a } => hold(held, *m, *a),
+        Op::Release { m, a } => let_go(held, *m, *a),
+        Op::Bind { .. } | Op::CombRead { .. } | Op::DelayedRead { .. } | Op::Write { .. } => {}
+        Op::ReserveRead { .. } | Op::Block { .. } | Op::SpecCheck | Op::SpecBarrier => {}
+        Op::Call(_) | Op::SpecCall(_) | Op::Verify(_) => {}
+    }
+}
+
+// What is held after these statements, of which those on the path in the stages before one count.
+fn hold_before(stmts: &[Stmt], stage: usize, path: &[u64], held: &mut Vec<Place>)
+    requires { vec_len held.old + length stmts.now ≤ vec_capacity held.old }
+    ensures held { map place_view held.new.items
+        ≡ machine.held_before stage path.now (stmts_view stmts.now)
+        (map place_view held.old.items) }
+    ensures more { vec_len held.new ≤ vec_len held.old + length stmts.now }
+    ensures capacity { vec_capacity held.new ≡ vec_capacity held.old }
+{
+    for stmt in stmts {
+        if stmt.stage < stage && are_taken(stmt.guards.as_slice(), path) {
+            hold_after(&stmt.op, held);
+        }
+    }
+}
+
+impl Deeds {
+    // Nothing is done yet, and nothing is held.
+    fn clear(&mut self)
+        ensures deeds { deeds_view self.new
+            ≡ nothing_done self.old.values.items self.old.guess.items }
+        ensures empty { IsEmpty self.new }
+        ensures capacities { capacities self.new ≡ capacities self.old }
+    {
+        self.held.clear();
+        self.blocks.clear();
+        self.reserves.clear();
+        self.writes.clear();
+        self.releases.clear();
+        self.asks.clear();
+        self.args.clear();
+        self.barrier = false;
+        self.called = false;
+        self.fails = false;
+    }
+
+    /// Nothing is done yet for the thread of a stage, of any number.
+    pub fn begin(&mut self, pipe: &FlatPipe, stage: usize, slot: &Slot)
+        requires values { length self.old.values.items ≡ length slot.now.values.items }
+        requires large { IsLarge (length (form pipe.now).pipe.stmts)
+            (length (form pipe.now).pipe.start) (capacities self.old) }
+        requires guess { vec_len slot.now.guess ≤ length (form pipe.now).pipe.start }
+        ensures deeds { (number : ℕ) → deeds_view self.new
+            ≡ before_stage (form pipe.now).pipe stage (thread_of number slot.now) }
+        ensures room { HasRoomFor (length (form pipe.now).pipe.stmts) self.new }
+        ensures capacities { capacities self.new ≡ capacities self.old }
+    {
+        self.clear();
+        self.values.copy_from_slice(slot.values.as_slice());
+        put_answers(slot.kept.as_slice(), self.values.as_mut_slice());
+        copy_words(slot.guess.as_slice(), &mut self.guess);
+        hold_before(pipe.stmts(), stage, slot.values.as_slice(), &mut self.held);
+    }
+}

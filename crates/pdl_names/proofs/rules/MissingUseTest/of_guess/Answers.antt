@@ -1,7 +1,0 @@
-use Rattle.std.proofs.Common.{◌∙◌, map}
-use Rattle.pdl_paths.specs.Actions.{place_view}
-use Rattle.pdl_names.proofs.Firsts.{missing}
-use Rattle.pdl_names.proofs.rules.MissingUseTest.of_guess.Goals as goal
-
-pub returns : goal.returns
-returns c = missing _ (map place_view c.args.self.now.places.now) c.number.result _ c.is_none.ensures (c.number.ensures ∙ c.requires.guesses c.args.name.now)

@@ -1,0 +1,6 @@
+use Rattle.std.proofs.Common.{◌≡◌, map, take}
+use Rattle.pdl_net_needed.specs.Pruned.{moved_array}
+use Rattle.pdl_net_needed.proofs.parts.arrays.Given as goal
+
+abbrev pub invariant-loop-i : goal.invariant-loop-i
+invariant-loop-i l = l.moved ≡ map (moved_array l.kept) (take l.i l.arrays)

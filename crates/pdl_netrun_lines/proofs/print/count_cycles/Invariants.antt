@@ -1,0 +1,10 @@
+use Rattle.std.proofs.Common.{◌≡◌}
+use Rattle.pdl_netrun_lines.proofs.Running.{Counted, whole, left}
+use Rattle.pdl_netrun_lines.proofs.print.count_cycles.Given as goal
+
+-- those so far are counted
+abbrev pub invariant-loop-done : goal.invariant-loop-done
+invariant-loop-done l = record {
+  netlist : l.sim.netlist ≡ l.fn.sim.netlist;
+  counted : Counted l.counts (left l.sim.netlist l.sim.held l.delays l.done l.cycles) (whole l.fn.sim.netlist l.fn.sim.held l.delays l.cycles) l.done;
+}

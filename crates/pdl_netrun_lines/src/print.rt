@@ -1,0 +1,240 @@
+// A run that is printed while it goes on, and one that is counted.
+ghost use Rattle.std.specs.Prelude.{◌≡◌, ◌≤◌, ◌<◌, ◌+◌, ◌-◌, ◌++◌, ℕ, List, All, IfOk, length, map, vec_len, if◌then◌else◌};
+ghost use Rattle.pdl_semantics.specs.Lines.{lines_from, lines, end_line as end_text};
+ghost use Rattle.pdl_net.specs.Circuit.{circuit_of, outputs_of};
+ghost use Rattle.pdl_law_parts.specs.Runs.{column_of, cycle_of, commit_mems, output_count};
+ghost use Rattle.pdl_netrun_lines.specs.Printed.{AreOrdered, cycles_from, run_text, schedule};
+ghost use Rattle.pdl_net.specs.Pipe.{IsWellFormed};
+ghost use Rattle.pdl_net.specs.Run.{nports};
+ghost use Rattle.pdl_image.specs.Delays.{bits_in};
+ghost use Rattle.pdl_image.specs.Images.{IsImage};
+ghost use Rattle.pdl_netrun.specs.Sim.{run_after};
+ghost use Rattle.pdl_netrun_lines.specs.Tally.{tallied_of, counts_of};
+ghost use Rattle.pdl_kit.specs.Counts.{HasCause};
+ghost use Rattle.pdl_trace.specs.Passed.{Passes, Streams};
+
+use crate::commits::{commit_order, push_commits};
+use pdl_image::{Delays, Image};
+use pdl_kit::sink::{Sink, WriteFailed};
+use pdl_kit::{MemInfo, NoMemory};
+use pdl_net::{Dir, Netlist};
+use pdl_netrun::Sim;
+use pdl_trace::{LineOut, TextError, end_line};
+use std::alloc::Global;
+
+/// How many cycles a run has had, in how many a thread ended, a request stayed unanswered, and a squash happened.
+#[derive(Clone, Copy)]
+pub struct Counts {
+    pub ended: u32,
+    pub waits: u32,
+    pub squashes: u32,
+}
+
+// One where it holds, else none.
+fn one_if(holds: bool) -> u32
+    ensures { result ≡ (if holds then 1 else 0) }
+{
+    if holds { 1 } else { 0 }
+}
+
+// Counts with the last cycle; `outputs` is how many outputs there are.
+fn with_cycle(counts: Counts, sim: &Sim, outputs: usize) -> Counts
+    requires outputs { outputs ≡ output_count sim.now.netlist }
+    requires two { 2 ≤ outputs }
+    requires room { (counts.ended < 1000000) × (counts.waits < 1000000)
+        × (counts.squashes < 1000000) }
+    ensures { result ≡ tallied_of counts (cycle_of sim.now.netlist sim.now.last) }
+{
+    Counts {
+        ended: counts.ended + one_if(sim.port(outputs - 2) == 1),
+        waits: counts.waits + one_if(sim.waited()),
+        squashes: counts.squashes + one_if(sim.port(outputs - 1) == 1),
+    }
+}
+
+// Runs the cycle of this number, with its reply bits.
+fn run_cycle(sim: &mut Sim, delays: &Delays, number: u32)
+    requires first { 1 ≤ number }
+    requires few { number ≤ 1000000 }
+    ensures { sim.new ≡ run_after sim.old (bits_in delays.now number) }
+{
+    sim.cycle(delays.bits(number));
+}
+
+// Runs cycles numbered from 1, with the reply bits of each, and passes on the lines of what they commit.
+fn run_cycles<S: Sink>(
+    out: &mut LineOut,
+    sink: &mut S,
+    sim: &mut Sim,
+    mems: &[MemInfo],
+    order: &[usize],
+    outputs: usize,
+    delays: &Delays,
+    cycles: u32,
+) -> Result<Counts, WriteFailed>
+    requires mems { mems.now ≡ sim.old.netlist.mems }
+    requires order { AreOrdered sim.old.netlist order.now }
+    requires names { All (λ m. length m.name ≤ 32) mems.now }
+    requires widths { All (λ m. m.width ≤ 64) mems.now }
+    requires outputs { outputs ≡ output_count sim.old.netlist }
+    requires two { 2 ≤ outputs }
+    requires few { cycles ≤ 1000000 }
+    ensures bytes { Passes (S.written sink.old) (S.written sink.new) result (out.old
+        ++ lines_from 1 (map column_of (commit_mems sim.old.netlist))
+        (cycles_from sim.old.netlist sim.old.held (schedule delays.now cycles))) out.new }
+    ensures counts { IfOk result
+        (λ c. c ≡ counts_of (cycles_from sim.old.netlist sim.old.held (schedule delays.now cycles))) }
+    ensures cause { HasCause (S.faults sink.old) (S.faults sink.new) result }
+{
+    let mut counts = Counts {
+        ended: 0,
+        waits: 0,
+        squashes: 0,
+    };
+    for done in 0..cycles {
+        run_cycle(sim, delays, done + 1);
+        push_commits(out, sink, done + 1, mems, order, sim)?;
+        counts = with_cycle(counts, sim, outputs);
+    }
+    Ok(counts)
+}
+
+// Passes on the lines of a run of so many cycles.
+#[tactic(auto, using(crate::proofs::Running::run_length))]
+fn push_run<S: Sink>(
+    out: &mut LineOut,
+    sink: &mut S,
+    sim: &mut Sim,
+    mems: &[MemInfo],
+    order: &[usize],
+    outputs: usize,
+    delays: &Delays,
+    cycles: u32,
+) -> Result<(), WriteFailed>
+    requires mems { mems.now ≡ sim.old.netlist.mems }
+    requires order { AreOrdered sim.old.netlist order.now }
+    requires names { All (λ m. length m.name ≤ 32) mems.now }
+    requires widths { All (λ m. m.width ≤ 64) mems.now }
+    requires outputs { outputs ≡ output_count sim.old.netlist }
+    requires two { 2 ≤ outputs }
+    requires few { cycles ≤ 1000000 }
+    ensures bytes { Passes (S.written sink.old) (S.written sink.new) result (out.old
+        ++ lines (map column_of (commit_mems sim.old.netlist))
+        (cycles_from sim.old.netlist sim.old.held (schedule delays.now cycles))) out.new }
+    ensures cause { HasCause (S.faults sink.old) (S.faults sink.new) result }
+{
+    let counts = run_cycles(out, sink, sim, mems, order, outputs, delays, cycles)?;
+    let line = end_line(cycles, counts.ended, counts.waits, counts.squashes);
+    out.push(sink, line.as_bytes())
+}
+
+// Writes the text of a run of so many cycles while it runs, and takes no memory.
+fn print_run<S: Sink>(
+    sink: &mut S,
+    sim: &mut Sim,
+    mems: &[MemInfo],
+    order: &[usize],
+    outputs: usize,
+    delays: &Delays,
+    cycles: u32,
+) -> Result<(), TextError>
+    requires mems { mems.now ≡ sim.old.netlist.mems }
+    requires order { AreOrdered sim.old.netlist order.now }
+    requires names { All (λ m. length m.name ≤ 32) mems.now }
+    requires widths { All (λ m. m.width ≤ 64) mems.now }
+    requires outputs { outputs ≡ output_count sim.old.netlist }
+    requires two { 2 ≤ outputs }
+    requires few { cycles ≤ 1000000 }
+    ensures text { Streams (S.written sink.old) (S.written sink.new)
+        (S.faults sink.old) (S.faults sink.new)
+        (lines (map column_of (commit_mems sim.old.netlist))
+        (cycles_from sim.old.netlist sim.old.held (schedule delays.now cycles))) result }
+    ensures later { S.faults sink.old ≤ S.faults sink.new }
+{
+    let mut out = LineOut::new();
+    push_run(&mut out, sink, sim, mems, order, outputs, delays, cycles)?;
+    match out.finish(sink) {
+        Ok(()) => Ok(()),
+        Err(_) => Err(TextError::WriteFailed),
+    }
+}
+
+// Runs cycles with the reply bits of each, and counts them.
+fn count_cycles(sim: &mut Sim, outputs: usize, delays: &Delays, cycles: u32) -> Counts
+    requires outputs { outputs ≡ output_count sim.old.netlist }
+    requires two { 2 ≤ outputs }
+    requires few { cycles ≤ 1000000 }
+    ensures { result ≡ counts_of (cycles_from sim.old.netlist sim.old.held (schedule delays.now cycles)) }
+{
+    let mut counts = Counts {
+        ended: 0,
+        waits: 0,
+        squashes: 0,
+    };
+    for done in 0..cycles {
+        run_cycle(sim, delays, done + 1);
+        counts = with_cycle(counts, sim, outputs);
+    }
+    counts
+}
+
+// How many outputs a netlist has.
+fn count_outputs(net: &Netlist) -> usize
+    ensures { result ≡ output_count net.now }
+{
+    let mut count = 0;
+    for port in net.ports.as_slice() {
+        if let Dir::Out(_) = port.dir {
+            count += 1;
+        }
+    }
+    count
+}
+
+/// Writes the text of a run of a netlist, with this image and the reply bits of these delays, for so many cycles, while it runs: all memory is taken before the first byte.
+///
+/// `WriteFailed` comes only where the sink's count of faults rose, or stands at the last value of a `u64`; the sink then has a prefix of the text. On `NoMemory` it has what it had.
+pub fn run<S: Sink>(
+    alloc: Global,
+    net: &Netlist,
+    image: &Image,
+    delays: &Delays,
+    cycles: u32,
+    sink: &mut S,
+) -> Result<(), TextError>
+    requires well { IsWellFormed net.now }
+    requires image { IsImage net.now.mems image.now }
+    requires names { All (λ m. length m.name ≤ 32) net.now.mems }
+    requires widths { All (λ m. m.width ≤ 64) net.now.mems }
+    requires two { 2 ≤ output_count net.now }
+    requires few { cycles ≤ 1000000 }
+    ensures text { Streams (S.written sink.old) (S.written sink.new)
+        (S.faults sink.old) (S.faults sink.new)
+        (run_text net.now image.now (schedule delays.now cycles)) result }
+    ensures later { S.faults sink.old ≤ S.faults sink.new }
+{
+    let order = commit_order(alloc, net)?;
+    let mut sim = Sim::new(alloc, net, image)?;
+    let outputs = count_outputs(net);
+    let mems = net.mems.as_slice();
+    print_run(sink, &mut sim, mems, &order, outputs, delays, cycles)
+}
+
+/// The counts of a run of a netlist, with this image and the reply bits of these delays, for so many cycles.
+pub fn count(
+    alloc: Global,
+    net: &Netlist,
+    image: &Image,
+    delays: &Delays,
+    cycles: u32,
+) -> Result<Counts, NoMemory>
+    requires well { IsWellFormed net.now }
+    requires image { IsImage net.now.mems image.now }
+    requires two { 2 ≤ output_count net.now }
+    requires few { cycles ≤ 1000000 }
+    ensures { IfOk result (λ c. c ≡ counts_of
+        (map (cycle_of net.now) (nports net.now image.now (schedule delays.now cycles)))) }
+{
+    let mut sim = Sim::new(alloc, net, image)?;
+    Ok(count_cycles(&mut sim, count_outputs(net), delays, cycles))
+}

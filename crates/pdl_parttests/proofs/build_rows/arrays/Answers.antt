@@ -1,5 +1,0 @@
-use Rattle.std.proofs.Common.{refl, arith}
-use Rattle.pdl_parttests.proofs.build_rows.arrays.Goals as goal
-
-pub array-requires-clause-depth : goal.array-requires-clause-depth
-array-requires-clause-depth c = record { bits = 1; low = omega arith; high = omega arith; power = refl }

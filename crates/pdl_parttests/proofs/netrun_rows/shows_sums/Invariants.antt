@@ -1,6 +1,0 @@
-use Rattle.std.proofs.Common.{◌≡◌}
-use Rattle.pdl_netrun.specs.Sample.{sample}
-use Rattle.pdl_parttests.proofs.netrun_rows.shows_sums.Given as goal
-
-abbrev pub invariant-loop-sum : goal.invariant-loop-sum
-invariant-loop-sum l = l.sim.netlist ≡ sample

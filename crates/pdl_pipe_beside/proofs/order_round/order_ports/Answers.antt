@@ -1,0 +1,98 @@
+use Rattle.std.proofs.Common.{◌∙◌, ap, ap₂, sym}
+use Rattle.std.specs.Prelude.{if◌then◌else◌}
+use Rattle.pdl_form.specs.Whole.{form}
+use Rattle.pdl_semantics.specs.Stages.{stage_at}
+use Rattle.pdl_net.specs.Meaning.{signal}
+use Rattle.pdl_net.proofs.Keeps.{extends_keeps, extends_trans}
+use Rattle.pdl_law_parts.specs.Walk.{zero_bit, both}
+use Rattle.pdl_law_parts.specs.Views.{View}
+use Rattle.pdl_law_sides.specs.Sides.{into_second}
+use Rattle.pdl_pipe_beside.proofs.EndsKept.{ends_kept}
+use Rattle.pdl_pipe_beside.proofs.OrderSteps.{move_same, view_same, leaves_same, ports_same}
+use Rattle.pdl_pipe_beside.proofs.order_round.order_ports.Goals as goal
+
+pub enters-requires-clause-ends : goal.enters-requires-clause-ends
+enters-requires-clause-ends c = ends_kept (form c.args.round.now.pipe.now) c.args.round.now.ends.now c.args.b.now c.into_first.new.b c.requires.ends c.in_ok-first.ensures.extends
+
+pub into_second-requires-clause-ends : goal.into_second-requires-clause-ends
+into_second-requires-clause-ends c =
+    let a = c.args.b.now in
+    let e = extends_trans a c.into_first.new.b c.enters.new.b c.in_ok-first.ensures.extends c.in_ok-entered_first.ensures.extends in
+    ends_kept (form c.args.round.now.pipe.now) c.args.round.now.ends.now a c.enters.new.b c.requires.ends e
+
+pub enters-requires-2-clause-ends : goal.enters-requires-2-clause-ends
+enters-requires-2-clause-ends c =
+    let a = c.args.b.now in
+    let e = extends_trans a c.into_first.new.b c.enters.new.b c.in_ok-first.ensures.extends c.in_ok-entered_first.ensures.extends in
+    let g = extends_trans a c.enters.new.b c.into_second.new.b e c.in_ok-second.ensures.extends in
+    ends_kept (form c.args.round.now.pipe.now) c.args.round.now.ends.now a c.into_second.new.b c.requires.ends g
+
+pub leaves_fork-requires-clause-ends : goal.leaves_fork-requires-clause-ends
+leaves_fork-requires-clause-ends c =
+    let a = c.args.b.now in
+    let e = extends_trans a c.into_first.new.b c.enters.new.b c.in_ok-first.ensures.extends c.in_ok-entered_first.ensures.extends in
+    let g = extends_trans a c.enters.new.b c.into_second.new.b e c.in_ok-second.ensures.extends in
+    let h = extends_trans a c.into_second.new.b c.enters-2.new.b g c.in_ok-entered_second.ensures.extends in
+    ends_kept (form c.args.round.now.pipe.now) c.args.round.now.ends.now a c.enters-2.new.b c.requires.ends h
+
+pub returns-then-is_emptied-clause-same : goal.returns-then-is_emptied-clause-same
+returns-then-is_emptied-clause-same c =
+    let f = form c.args.round.now.pipe.now in
+    let p = f.pipe in
+    let es = c.args.round.now.ends.now in
+    let k = c.args.fork in
+    let n = (stage_at p k).next in
+    let a = c.args.b.now in
+    let b1 = c.into_first.new.b in
+    let b2 = c.enters.new.b in
+    let b3 = c.into_second.new.b in
+    let b4 = c.enters-2.new.b in
+    let d = c.leaves_fork.new.b in
+    let first = c.in_ok-first.ensures in
+    let in_first = c.in_ok-entered_first.ensures in
+    let second = c.in_ok-second.ensures in
+    let in_second = c.in_ok-entered_second.ensures in
+    let left = c.in_ok-left.ensures in
+    let to2 = extends_trans a b1 b2 first.extends in_first.extends in
+    let to3 = extends_trans a b2 b3 to2 second.extends in
+    let to4 = extends_trans a b3 b4 to3 in_second.extends in
+    let to_end = extends_trans a b4 d to4 left.extends in
+    let rest2 = extends_trans b2 b3 d second.extends (extends_trans b3 b4 d in_second.extends left.extends) in
+    ports_same a d p es c.args.squash k
+    (record { entered_first = c.in_ok-entered_first.entered_first; entered_second = c.in_ok-entered_second.entered_second; left = c.in_ok-left.left; emptied = c.args.squash })
+    (rest2.kept c.in_ok-entered_first.entered_first in_first.means.there ∙ in_first.means.same ∙ ap₂ both (move_same a b1 f es k (extends_keeps a b1 first.extends) c.requires.ends) first.means.same)
+    (left.extends.kept c.in_ok-entered_second.entered_second in_second.means.there ∙ in_second.means.same
+    ∙ ap₂ both (move_same a b3 f es k (extends_keeps a b3 to3) c.requires.ends) (second.means.same ∙ ap (λ (v : View). into_second p k n v.ended) (view_same a b2 f es k (extends_keeps a b2 to2) c.requires.ends)))
+    (left.means.same ∙ leaves_same a b4 f es k (extends_keeps a b4 to4) c.requires.ends)
+    (to_end.kept c.args.squash c.requires.squash ∙ sym (ap (λ b. if b then signal a c.args.squash else zero_bit) (sym c.is_emptied.ensures ∙ c.if-is_emptied.true)))
+
+pub returns-else-is_emptied-clause-same : goal.returns-else-is_emptied-clause-same
+returns-else-is_emptied-clause-same c =
+    let f = form c.args.round.now.pipe.now in
+    let p = f.pipe in
+    let es = c.args.round.now.ends.now in
+    let k = c.args.fork in
+    let n = (stage_at p k).next in
+    let a = c.args.b.now in
+    let b1 = c.into_first.new.b in
+    let b2 = c.enters.new.b in
+    let b3 = c.into_second.new.b in
+    let b4 = c.enters-2.new.b in
+    let d = c.leaves_fork.new.b in
+    let first = c.in_ok-first.ensures in
+    let in_first = c.in_ok-entered_first.ensures in
+    let second = c.in_ok-second.ensures in
+    let in_second = c.in_ok-entered_second.ensures in
+    let left = c.in_ok-left.ensures in
+    let to2 = extends_trans a b1 b2 first.extends in_first.extends in
+    let to3 = extends_trans a b2 b3 to2 second.extends in
+    let to4 = extends_trans a b3 b4 to3 in_second.extends in
+    let to_end = extends_trans a b4 d to4 left.extends in
+    let rest2 = extends_trans b2 b3 d second.extends (extends_trans b3 b4 d in_second.extends left.extends) in
+    ports_same a d p es c.args.squash k
+    (record { entered_first = c.in_ok-entered_first.entered_first; entered_second = c.in_ok-entered_second.entered_second; left = c.in_ok-left.left; emptied = c.args.round.now.bits.zero })
+    (rest2.kept c.in_ok-entered_first.entered_first in_first.means.there ∙ in_first.means.same ∙ ap₂ both (move_same a b1 f es k (extends_keeps a b1 first.extends) c.requires.ends) first.means.same)
+    (left.extends.kept c.in_ok-entered_second.entered_second in_second.means.there ∙ in_second.means.same
+    ∙ ap₂ both (move_same a b3 f es k (extends_keeps a b3 to3) c.requires.ends) (second.means.same ∙ ap (λ (v : View). into_second p k n v.ended) (view_same a b2 f es k (extends_keeps a b2 to2) c.requires.ends)))
+    (left.means.same ∙ leaves_same a b4 f es k (extends_keeps a b4 to4) c.requires.ends)
+    (to_end.kept c.args.round.now.bits.zero c.requires.bits.zero.there ∙ c.requires.bits.zero.same ∙ sym (ap (λ b. if b then signal a c.args.squash else zero_bit) (sym c.is_emptied.ensures ∙ c.if-is_emptied.false)))

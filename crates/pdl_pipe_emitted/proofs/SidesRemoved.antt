@@ -1,0 +1,118 @@
+-- The squashes of an emission: whom they remove, and where they cut each lock.
+use Rattle.std.proofs.Common.{◌≡◌, refl, sym, ap, ◌∙◌, subst, ℕ, ◌<◌, true, List, length}
+use mathlib.Core.Path.{fun_ext}
+use Rattle.std.proofs.lemmas.Bool.{false≢true}
+use Rattle.std.specs.Prelude.{Option, Some, None, is_some}
+use Rattle.pdl_semantics.specs.Flat.{Pipe}
+use Rattle.pdl_semantics.specs.Stages.{verify_stage}
+use Rattle.pdl_net.specs.declared.Net.{Net}
+use Rattle.pdl_net.specs.Circuit.{Circuit}
+use Rattle.pdl_net.specs.Signal.{Signal}
+use Rattle.pdl_net.specs.Meaning.{signal}
+use Rattle.pdl_net.specs.Growth.{Keeps}
+use Rattle.pdl_lockapi.specs.Laws.{TicketLaw}
+use Rattle.pdl_pipe_exprs.specs.Nets.{signals_in, signal_at}
+use Rattle.pdl_pipe_exprs.proofs.NetLists.{signals_keep}
+use Rattle.pdl_squash.specs.Laws.{SquashLaw}
+use Rattle.pdl_law_parts.specs.Walk.{Locks, is_locked, zero_bit}
+use Rattle.pdl_law_parts.specs.Views.{View, Gates}
+use Rattle.pdl_law_parts.proofs.Next.{lock_there}
+use Rattle.pdl_law_sides.specs.Sides.{Sides}
+use Rattle.pdl_law_sides.specs.HasSides.{squash_of, HasRemovals, HasTails}
+use Rattle.pdl_pipe_walk.specs.declared.locks.MemLock.{MemLock}
+use Rattle.pdl_pipe_walk.specs.Locked.{Members, some_at, of_lock, locks_in}
+use Rattle.pdl_pipe_answers.specs.Ports.{answers_in}
+use Rattle.pdl_pipe_registers.specs.Staged.{next_signals}
+use Rattle.pdl_pipe_registers.proofs.TicketsMade.{next_at}
+use Rattle.pdl_pipe_nexts.specs.Lines.{line_form, line_pipe, line_views, line_kills}
+use Rattle.pdl_pipe_nexts.proofs.LinesKept.{bits_there, line_keep, views_same, all_moves_same}
+use Rattle.pdl_pipe_line.proofs.Later.{made_views_same}
+use Rattle.pdl_pipe_tails.specs.Tails.{HasCut, AreTails, IsNextOf}
+use Rattle.pdl_pipe_tails.proofs.Tailed.{has_tails}
+use Rattle.pdl_pipe_emitted.specs.Emitted.{Nets, Emission, locks_of, views_of, moves_of, gates_of, sides_of, clear_of}
+use Rattle.pdl_pipe_emitted.proofs.SidesGrown.{keeps_ab, keeps_ac, keeps_ae, keeps_bc, keeps_ce, keeps_fd, tails_alone}
+use Rattle.pdl_pipe_emitted.proofs.SidesPorts.{moves_first}
+
+module _ {T : Type 0} (l : Members T) (n : Nets T) (em : Emission l n) where
+  abbrev p : Pipe
+  p = line_pipe n.line
+
+  abbrev vs : ℕ → View
+  vs = views_of l n em
+
+  abbrev moves : ℕ → Signal
+  moves = moves_of l n em
+
+  abbrev gates : Gates
+  gates = gates_of l n em
+
+  abbrev sides : Sides
+  sides = sides_of l n em
+
+  abbrev ls : Locks
+  ls = locks_of l n em
+
+  abbrev clear : ℕ → Signal
+  clear = clear_of l n em
+
+  -- ---- the line before the requests
+
+  views_from : (y : Circuit) → Keeps em.a y → line_views y n.line ≡ line_views em.a n.line
+  views_from y keeps =
+      let answers = answers_in em.a n.line.shared.now.ports.now in
+      made_views_same (line_form n.line) (next_signals em.a n.locks) answers (locks_in l p em.a n.locks) n.line.stages.now em.a y keeps em.layout.staged
+
+  pub views_first : line_views em.b n.line ≡ vs
+  views_first = views_from em.b (keeps_ab l n em) ∙ sym (views_from em.c (keeps_ac l n em))
+
+  kills_first : (k : ℕ) → signal_at (signals_in em.b n.moves.kills.items) k ≡ line_kills em.c n.line k
+  kills_first k =
+      sym (ap (λ fs. signal_at fs k) (signals_keep em.b em.c n.moves.kills.items (keeps_bc l n em) (bits_there em.b n.moves.kills.items em.moved.kills)))
+      ∙ ap (λ (xs : List Net). signal_at (signals_in em.c xs) k) (sym em.line_kills_are)
+
+  -- ---- who is removed
+
+  removes : (v : ℕ) → verify_stage p.stmts ≡ Some v → SquashLaw (squash_of vs moves v) gates.squash gates.kill sides.clear
+  removes v is =
+      let squash = signal em.b n.moves.squash in
+      let first = signal_at (signals_in em.b n.moves.moves.items) in
+      let kills = signal_at (signals_in em.b n.moves.kills.items) in
+      subst (λ (vs : ℕ → View). SquashLaw (squash_of vs moves v) squash (line_kills em.c n.line) clear) views_first
+      (subst (λ (ms : ℕ → Signal). SquashLaw (squash_of (line_views em.b n.line) ms v) squash (line_kills em.c n.line) clear) (fun_ext (moves_first l n em))
+      (subst (λ (ks : ℕ → Signal). SquashLaw (squash_of (line_views em.b n.line) first v) squash ks clear) (fun_ext kills_first) (em.moved.law v is)))
+
+  pub removals_are : HasRemovals p em.d vs gates moves sides
+  removals_are = record {
+    law = removes;
+    never = λ is s suits. ap (λ (f : Signal). f.value s) (em.moved.never is);
+    spared = λ k low late s suits. ap (λ (f : Signal). f.value s) (sym (kills_first k) ∙ em.moved.spared k low late);
+  }
+
+  -- ---- where locks are cut
+
+  -- a lock's ticket has its bits and tells its state
+  ticket_law : (m : ℕ) (o : Option (MemLock T)) → some_at n.locks m ≡ o → m < length p.mems → is_some o ≡ true
+      → ((of_lock (λ x. signal em.a x.regs.ticket) zero_bit o).width ≡ of_lock (λ x. l.tickets x.lock) 1 o)
+      × TicketLaw (of_lock (λ x. l.stands x.lock x.regs) (λ s y. Unit {0}) o) (of_lock (λ x. l.tickets x.lock) 1 o) (of_lock (λ x. signal em.a x.regs.ticket) zero_bit o)
+  ticket_law m None at low e = absurd (false≢true e)
+  ticket_law m (Some x) at low e = ((em.layout.locked.locks m x low at).ticket_wide, (em.layout.lawful.laws m x low at).ticket)
+
+  next_of : (m : ℕ) → is_locked p m ≡ true → IsNextOf em.e n.line ls m
+  next_of m locked =
+      let low = lock_there p m locked in
+      let law = ticket_law m (some_at n.locks m) refl low (em.layout.locked.locked m low ∙ locked) in
+      record {
+        ticket =
+            ap (λ fs. signal_at fs m) (signals_keep em.a em.e n.line.shared.now.next (keeps_ae l n em) em.layout.shared.next_there ∙ em.layout.next)
+            ∙ next_at l em.a p n.locks em.layout.locked m low;
+        wide = law.0;
+        law = law.1;
+      }
+
+  pub tails_are : (v : ℕ) → verify_stage p.stmts ≡ Some v → HasTails p ls em.d vs gates moves sides v
+  tails_are v is =
+      let line = line_keep em.c em.e n.line (keeps_ce l n em) em.line in
+      let made : AreTails em.e em.f n.line n.tails v = subst (λ o. HasCut em.e em.f n.line n.tails o) is em.cut in
+      subst (λ (vs : ℕ → View). HasTails p ls em.d vs gates moves sides v) (views_same em.c em.e n.line (keeps_ce l n em) em.line)
+      (subst (λ (ms : ℕ → Signal). HasTails p ls em.d (line_views em.e n.line) gates ms sides v) (all_moves_same em.c em.e n.line (keeps_ce l n em) em.line)
+      (has_tails em.e em.f em.d n.line n.tails v ls line made (keeps_fd l n em) (tails_alone l n em) next_of gates sides refl (λ m. refl)))

@@ -1,0 +1,42 @@
+use Rattle.std.proofs.Common.{get_or, refl, ap, ◌∙◌}
+use Rattle.pdl_net.specs.declared.Net.TheVariants.{Input}
+use Rattle.pdl_net.specs.Signal.{Signal}
+use Rattle.pdl_net.proofs.Keeps.{extends_keeps, extends_trans}
+use Rattle.pdl_pipe_exprs.proofs.NetLists.{bits_kept}
+use Rattle.pdl_pipe_walk.specs.declared.nets.PutNet.{PutNet}
+use Rattle.pdl_pipe_locks.specs.Ports.{IsGivenPut}
+use Rattle.pdl_pipe_locks.proofs.PortLists.{given_puts, writes_step, writes_end}
+use Rattle.pdl_pipe_locks.proofs.ports.push_writes.Goals as goal
+use Rattle.pdl_word.proofs.Each.{each_get}
+
+abbrev no_put : PutNet
+no_put = record { mem = 0; on = Input 0; value = Input 0 }
+
+pub push_write-requires-clause-bits : goal.push_write-requires-clause-bits
+push_write-requires-clause-bits c = bits_kept c.args.b.now c.loop-x.b c.args.bits c.loop-x.invariant.extends c.requires.bits
+
+pub push_write-requires-clause-given : goal.push_write-requires-clause-given
+push_write-requires-clause-given c =
+    let k = extends_keeps c.args.b.now c.loop-x.b c.loop-x.invariant.extends in
+    each_get (IsGivenPut c.loop-x.b) c.args.puts.now c.loop-x.x-index no_put c.loop-x-test.true (given_puts c.args.b.now c.loop-x.b k c.args.puts.now c.requires.given)
+
+pub push_write-requires-clause-one : goal.push_write-requires-clause-one
+push_write-requires-clause-one c = ap (λ (f : Signal). f.width) (c.loop-x.invariant.extends.kept c.args.moves c.requires.moves) ∙ c.requires.one
+
+pub loop-x-preserved : goal.loop-x-preserved
+loop-x-preserved c =
+    let a = c.args.b.now in
+    let b = c.loop-x.b in
+    let d = c.push_write.new.b in
+    let i = c.loop-x.x-index in
+    let rs = c.args.puts.now in
+    let v = c.loop-x.invariant in
+    let given = each_get (IsGivenPut a) rs i no_put c.loop-x-test.true c.requires.given in
+    record {
+      extends = extends_trans a b d v.extends c.in_ok-push_write.ensures.extends;
+      adds = writes_step a b d c.args.ports.now c.loop-x.ports c.push_write.new.ports c.args.m c.args.moves c.args.ticket rs i no_put (get_or rs i no_put)
+          (extends_keeps a b v.extends) c.requires.moves c.requires.ticket c.loop-x-test.true refl given v.adds c.in_ok-push_write.ensures.adds;
+    }
+
+pub returns-clause-adds : goal.returns-clause-adds
+returns-clause-adds c = writes_end c.args.b.now c.loop-x.b c.args.ports.now c.loop-x.ports c.args.m c.args.moves c.args.ticket c.args.puts.now c.loop-x.x-index c.loop-x-test.false c.loop-x.invariant.adds

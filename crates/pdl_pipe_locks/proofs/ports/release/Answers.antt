@@ -1,0 +1,64 @@
+use Rattle.std.proofs.Common.{◌-◌, List, length, map, sym, ap, ◌∙◌, subst, arith}
+use Rattle.pdl_net.specs.Meaning.{signal, Means}
+use Rattle.pdl_net.specs.Signal.{Signal}
+use Rattle.pdl_net.proofs.Keeps.{extends_keeps, extends_trans}
+use Rattle.pdl_pipe_exprs.proofs.NetLists.{bits_kept}
+use Rattle.pdl_law_parts.specs.Ports.{release_moves}
+use Rattle.pdl_pipe_walk.specs.declared.nets.LettingNet.{LettingNet}
+use Rattle.pdl_pipe_walk.specs.Parts.{letting_in}
+use Rattle.pdl_pipe_locks.specs.Deeds.{views_in, moves_in}
+use Rattle.pdl_pipe_locks.specs.Ports.{IsGivenLetting, IsGiven}
+use Rattle.pdl_pipe_locks.proofs.PortStages.{each_at, given_kept}
+use Rattle.pdl_pipe_locks.proofs.Releases.{released_one, released_more}
+use Rattle.pdl_pipe_locks.proofs.ports.release.Goals as goal
+use Rattle.pdl_word.specs.Each.{Each}
+
+pub releases_or-requires-clause-bits : goal.releases_or-requires-clause-bits
+releases_or-requires-clause-bits c = bits_kept c.args.b.now c.loop-i.b c.args.bits c.loop-i.invariant.extends c.requires.bits
+
+pub releases_or-requires-clause-given : goal.releases_or-requires-clause-given
+releases_or-requires-clause-given c =
+    let k = extends_keeps c.args.b.now c.loop-i.b c.loop-i.invariant.extends in
+    let ds = c.args.deeds.now in
+    let d = c.deed_at-deed.result in
+    let given = each_at (IsGiven c.args.b.now c.args.m) ds (length ds - 1 - c.loop-i.i) d (omega (arith, c.loop-i-test.true)) c.deed_at-deed.ensures c.requires.given in
+    subst (λ (xs : List LettingNet). Each (IsGivenLetting c.loop-i.b) xs) (sym c.as_slice.ensures) (given_kept c.args.b.now c.loop-i.b k c.args.m d given).lettings
+
+pub releases_or-requires-clause-moves : goal.releases_or-requires-clause-moves
+releases_or-requires-clause-moves c =
+    let k = extends_keeps c.args.b.now c.loop-i.b c.loop-i.invariant.extends in
+    let ds = c.args.deeds.now in
+    let d = c.deed_at-deed.result in
+    let given = each_at (IsGiven c.args.b.now c.args.m) ds (length ds - 1 - c.loop-i.i) d (omega (arith, c.loop-i-test.true)) c.deed_at-deed.ensures c.requires.given in
+    k.there d.moves given.moves
+
+pub releases_or-requires-clause-one : goal.releases_or-requires-clause-one
+releases_or-requires-clause-one c =
+    let k = extends_keeps c.args.b.now c.loop-i.b c.loop-i.invariant.extends in
+    let ds = c.args.deeds.now in
+    let d = c.deed_at-deed.result in
+    let given = each_at (IsGiven c.args.b.now c.args.m) ds (length ds - 1 - c.loop-i.i) d (omega (arith, c.loop-i-test.true)) c.deed_at-deed.ensures c.requires.given in
+    (given_kept c.args.b.now c.loop-i.b k c.args.m d given).one
+
+pub releases_or-requires-clause-rest : goal.releases_or-requires-clause-rest
+releases_or-requires-clause-rest c = c.loop-i.invariant.means.there
+
+pub releases_or-requires-clause-rest_one : goal.releases_or-requires-clause-rest_one
+releases_or-requires-clause-rest_one c =
+    let a = c.args.b.now in
+    let ds = c.args.deeds.now in
+    ap (λ (f : Signal). f.width) c.loop-i.invariant.means.same ∙ released_one c.args.m (views_in a ds) (moves_in a ds) c.loop-i.i (length ds - c.loop-i.i)
+
+pub loop-i-preserved : goal.loop-i-preserved
+loop-i-preserved c =
+    let a = c.args.b.now in
+    let b = c.loop-i.b in
+    let e = c.releases_or.new.b in
+    let m = c.args.m in
+    let d = c.deed_at-deed.result in
+    let v = c.loop-i.invariant in
+    let means = subst (λ (xs : List LettingNet). Means e c.in_ok-net.net (release_moves m (signal b d.moves) (map (letting_in b) xs) (signal b c.loop-i.net))) c.as_slice.ensures c.in_ok-net.ensures.means in
+    record {
+      extends = extends_trans a b e v.extends c.in_ok-net.ensures.extends;
+      means = released_more a b e m c.args.deeds.now c.loop-i.i d c.loop-i.net c.in_ok-net.net (extends_keeps a b v.extends) c.loop-i-test.true c.deed_at-deed.ensures c.requires.given v.means means;
+    }

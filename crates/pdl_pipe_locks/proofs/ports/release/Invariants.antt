@@ -1,0 +1,12 @@
+use Rattle.std.proofs.Common.{◌-◌, length}
+use Rattle.pdl_net.specs.Growth.{Extends}
+use Rattle.pdl_net.specs.Meaning.{Means}
+use Rattle.pdl_law_parts.specs.Ports.{release_signal}
+use Rattle.pdl_pipe_locks.specs.Deeds.{views_in, moves_in}
+use Rattle.pdl_pipe_locks.proofs.ports.release.Given as goal
+
+abbrev pub invariant-loop-i : goal.invariant-loop-i
+invariant-loop-i l = record {
+  extends : Extends l.fn.b l.b;
+  means : Means l.b l.net (release_signal l.m (views_in l.fn.b l.deeds) (moves_in l.fn.b l.deeds) l.i (length l.deeds - l.i));
+}

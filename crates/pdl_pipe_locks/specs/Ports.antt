@@ -1,0 +1,100 @@
+-- The ports of a lock as the stages make them.
+use Rattle.std.specs.Prelude.{◌≡◌, ℕ, ◌<◌, List, ◌++◌, map, length}
+use Rattle.pdl_net.specs.Circuit.{Circuit}
+use Rattle.pdl_net.specs.Signal.{Signal}
+use Rattle.pdl_net.specs.Meaning.{signal, IsThere, Means}
+use Rattle.pdl_lockapi.specs.declared.Kind.TheVariants.{W}
+use Rattle.pdl_lockapi.specs.declared.ReservePort.{ReservePort}
+use Rattle.pdl_lockapi.specs.declared.TicketWrite.{TicketWrite}
+use Rattle.pdl_lockapi.specs.declared.LockPorts.{LockPorts}
+use Rattle.pdl_lockapi.specs.Laws.{ReserveSignal, TicketSignal, StepSignals, reserve_signal, ticket_signal}
+use Rattle.pdl_pipe_exprs.specs.Nets.{NetsThere}
+use Rattle.pdl_law_parts.specs.Ports.{all_reserves, all_puts, release_signal}
+use Rattle.pdl_pipe_walk.specs.declared.nets.ReserveNet.{ReserveNet}
+use Rattle.pdl_pipe_walk.specs.declared.nets.PutNet.{PutNet}
+use Rattle.pdl_pipe_walk.specs.declared.nets.LettingNet.{LettingNet}
+use Rattle.pdl_pipe_locks.specs.declared.deeds.StageDeeds.{StageDeeds}
+use Rattle.pdl_pipe_locks.specs.Deeds.{views_in, moves_in}
+use Rattle.pdl_word.specs.Each.{Each}
+
+-- ---- what a stage brings for a memory's lock
+
+pub record IsGivenReserve (c : Circuit) (r : ReserveNet) : Type 0 where
+  pub on : IsThere c r.on
+  pub one : (signal c r.on).width ≡ 1
+  pub addr : IsThere c r.addr
+
+pub record IsGivenPut (c : Circuit) (x : PutNet) : Type 0 where
+  pub on : IsThere c x.on
+  pub one : (signal c x.on).width ≡ 1
+  pub value : IsThere c x.value
+
+pub record IsGivenLetting (c : Circuit) (x : LettingNet) : Type 0 where
+  pub on : IsThere c x.on
+  pub one : (signal c x.on).width ≡ 1
+
+-- its nets are there, conditions with 1 bit, and it has a ticket of memory m
+pub record IsGiven (c : Circuit) (m : ℕ) (d : StageDeeds) : Type 0 where
+  pub moves : IsThere c d.moves
+  pub one : (signal c d.moves).width ≡ 1
+  pub reserves : Each (IsGivenReserve c) d.ended.now.reserves
+  pub puts : Each (IsGivenPut c) d.ended.now.puts
+  pub lettings : Each (IsGivenLetting c) d.ended.now.lettings
+  pub low : m < length d.tickets.now
+  pub tickets : NetsThere c d.tickets.now
+
+-- ---- ports
+
+-- a reservation for writing
+pub record IsThereReserve (c : Circuit) (q : ReservePort) : Type 0 where
+  pub kind : q.kind ≡ W
+  pub enable : IsThere c q.enable
+  pub addr : IsThere c q.addr
+
+pub record IsThereWrite (c : Circuit) (q : TicketWrite) : Type 0 where
+  pub enable : IsThere c q.enable
+  pub ticket : IsThere c q.ticket
+  pub value : IsThere c q.value
+
+-- ports that are there and mean this
+pub record AreReserves (c : Circuit) (ps : List ReservePort) (fs : List ReserveSignal) : Type 0 where
+  pub there : Each (IsThereReserve c) ps
+  pub same : map (reserve_signal c) ps ≡ fs
+
+pub record AreWrites (c : Circuit) (ps : List TicketWrite) (fs : List TicketSignal) : Type 0 where
+  pub there : Each (IsThereWrite c) ps
+  pub same : map (ticket_signal c) ps ≡ fs
+
+-- after what earlier ports mean stands this
+abbrev pub AddsReserves : Circuit → Circuit → List ReservePort → List ReservePort → List ReserveSignal → Type 0
+AddsReserves a b ps qs fs = AreReserves b qs (map (reserve_signal a) ps ++ fs)
+
+abbrev pub AddsWrites : Circuit → Circuit → List TicketWrite → List TicketWrite → List TicketSignal → Type 0
+AddsWrites a b ps qs fs = AreWrites b qs (map (ticket_signal a) ps ++ fs)
+
+-- all ports of a step
+pub record ArePorts (c : Circuit) (p : LockPorts) (f : StepSignals) : Type 0 where
+  pub reserves : AreReserves c p.reserves f.reserves
+  pub writes : AreWrites c p.writes f.writes
+  pub release : Means c p.release f.release
+  pub squash : Means c p.squash f.squash
+  pub tail : Means c p.tail f.tail
+
+-- what the stages do to the lock of memory m, with what a squash does to it
+abbrev pub signals_of : Circuit → List StageDeeds → ℕ → Signal → Signal → StepSignals
+signals_of c ds m squash tail =
+    record {
+      reserves = all_reserves m (views_in c ds) (moves_in c ds) (length ds) 0;
+      writes = all_puts m (views_in c ds) (moves_in c ds) (length ds) 0;
+      release = release_signal m (views_in c ds) (moves_in c ds) (length ds) 0;
+      squash = squash;
+      tail = tail;
+    }
+
+-- the widths that a lock takes: of addresses, words and tickets
+pub record SignalsFit (bits width tickets : ℕ) (f : StepSignals) : Type 0 where
+  pub reserves : Each (λ (r : ReserveSignal). (r.enable.width ≡ 1) × (r.addr.width ≡ bits)) f.reserves
+  pub writes : Each (λ (x : TicketSignal). (x.enable.width ≡ 1) × (x.ticket.width ≡ tickets) × (x.value.width ≡ width)) f.writes
+  pub release : f.release.width ≡ 1
+  pub squash : f.squash.width ≡ 1
+  pub tail : f.tail.width ≡ tickets

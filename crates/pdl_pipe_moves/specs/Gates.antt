@@ -1,0 +1,45 @@
+-- What stands beside the stages and lets a thread move, by what it is.
+use Rattle.std.specs.Prelude.{◌≡◌, ℕ, ◌<◌, List, [], ◌∷◌, length, Option, Some, None, if◌then◌else◌}
+use Rattle.pdl_semantics.specs.Flat.{Branch, Pipe}
+use Rattle.pdl_semantics.specs.Stages.{stage_at}
+use Rattle.pdl_order.specs.declared.OrderRegs.{OrderRegs}
+use Rattle.pdl_order.specs.Laws.{HasOrderNets}
+use Rattle.pdl_pipe_beside.specs.Beside.{order_first, order_empty}
+use Rattle.pdl_pipe_walk.specs.Locked.{some_at}
+use Rattle.pdl_net.specs.Circuit.{Circuit}
+use Rattle.pdl_net.specs.Signal.{Signal, mux_signal}
+use Rattle.pdl_net.specs.declared.Net.{Net}
+use Rattle.pdl_law_parts.specs.Walk.{Ask, one, zero_bit, both, if_on}
+use Rattle.pdl_pipe_walk.specs.declared.nets.AskNet.{AskNet}
+use Rattle.pdl_pipe_answers.specs.Ports.{IsBit}
+
+-- the port of each delayed read on its path is free, where the ports of the memories are free as this says
+abbrev pub opens_by : (ℕ → Signal) → List Ask → Signal
+opens_by free [] = one
+opens_by free (q ∷ qs) = both (if_on q.on (free q.mem)) (opens_by free qs)
+
+-- a request's condition is there, and whether its memory's port is free
+pub record IsAsked (c : Circuit) (frees : List Net) (q : AskNet) : Type 0 where
+  pub on : IsBit c q.on
+  pub mem : q.mem < length frees
+
+-- into a merge from a branch that is the first of the fork's list, and straight from the fork where that is empty
+abbrev pub turn_by : Signal → Signal → Option Branch → Signal
+turn_by first empty None = empty
+turn_by first empty (Some b) = mux_signal empty zero_bit (if b.first then first else mux_signal first zero_bit one)
+
+-- into stage q out of stage k, by the orders of the forks
+abbrev pub merge_by : Circuit → List (Option OrderRegs) → Option ℕ → Option Branch → Signal
+merge_by c rs None from = one
+merge_by c rs (Some f) from = turn_by (order_first c (some_at rs f)) (order_empty c (some_at rs f)) from
+
+abbrev pub turn_in : Circuit → Pipe → List (Option OrderRegs) → ℕ → ℕ → Signal
+turn_in c p rs k q = merge_by c rs (stage_at p q).merges (stage_at p k).branch
+
+-- a fork whose branches meet has its order
+abbrev pub IsOrderThere : Circuit → Option OrderRegs → Type 0
+IsOrderThere c None = ⊥
+IsOrderThere c (Some r) = HasOrderNets c r
+
+abbrev pub HasTurns : Circuit → Pipe → List (Option OrderRegs) → Type 0
+HasTurns c p rs = (q f : ℕ) → q < length p.stages → (stage_at p q).merges ≡ Some f → (f < length rs) × IsOrderThere c (some_at rs f)

@@ -1,0 +1,56 @@
+-- What the gates of stages go by, in signals, and a gate.
+use Rattle.std.specs.Prelude.{◌≡◌, ℕ, List, length, Option}
+use Rattle.pdl_word.specs.Each.{Each}
+use Rattle.pdl_semantics.specs.Flat.{Pipe}
+use Rattle.pdl_semantics.specs.Stages.{stage_at, verify_stage}
+use Rattle.pdl_net.specs.Circuit.{Circuit}
+use Rattle.pdl_net.specs.declared.Net.{Net}
+use Rattle.pdl_order.specs.declared.OrderRegs.{OrderRegs}
+use Rattle.pdl_net.specs.Signal.{Signal}
+use Rattle.pdl_net.specs.Meaning.{signal}
+use Rattle.pdl_port.specs.Laws.{AnswerSignals}
+use Rattle.pdl_law_parts.specs.Walk.{both}
+use Rattle.pdl_law_parts.specs.Views.{View, way_on}
+use Rattle.pdl_pipe_exprs.specs.Nets.{signals_in, signal_at}
+use Rattle.pdl_law_sides.specs.Sides.{all_answered, unsquashed, barrier_open}
+use Rattle.pdl_pipe_answers.specs.Ports.{IsBit, answers_in}
+use Rattle.pdl_pipe_nexts.specs.declared.line.Line.{Line}
+use Rattle.pdl_pipe_nexts.specs.Lines.{line_pipe}
+use Rattle.pdl_pipe_moves.specs.declared.controls.Controls.{Controls}
+use Rattle.pdl_pipe_moves.specs.Gates.{opens_by, turn_in, HasTurns}
+
+-- the answers of delayed memories, whose turn it is to go out of a stage into another one, whether a squash happens, and which stages are clear for a barrier
+pub record Signs : Type 0 where
+  pub answers : ℕ → ℕ → AnswerSignals
+  pub turns : ℕ → ℕ → Signal
+  pub squash : Signal
+  pub clear : ℕ → Signal
+
+-- the ports that the thread asks are free, no barrier holds it, and it is its turn
+abbrev pub path_by : Pipe → (ℕ → View) → Signs → (ℕ → Signal) → ℕ → Signal
+path_by p vs g frees k =
+    both (opens_by frees (vs k).ended.asks)
+    (both (barrier_open (verify_stage p.stmts) k (vs k).ended.barrier (g.clear k)) (way_on (stage_at p k).next (g.turns k) (vs k).ended))
+
+-- and it awaits no answer, and no squash keeps it
+abbrev pub gate_by : Pipe → (ℕ → View) → Signs → (ℕ → Signal) → ℕ → Signal
+gate_by p vs g frees k = both (all_answered p g.answers k (length p.mems) 0) (both (unsquashed (verify_stage p.stmts) k g.squash) (path_by p vs g frees k))
+
+-- those of a line, by nets: the orders of the forks, whether a squash happens, and which stages are clear
+abbrev pub signs_in : Circuit → Line → List (Option OrderRegs) → Net → List Net → Signs
+signs_in c x orders squash clear = record {
+  answers = answers_in c x.shared.now.ports.now;
+  turns = turn_in c (line_pipe x) orders;
+  squash = signal c squash;
+  clear = λ k. signal_at (signals_in c clear) k;
+}
+
+abbrev pub signs_by : Circuit → Line → Controls → Signs
+signs_by c x y = signs_in c x y.orders.now y.squash y.clear.now
+
+-- these nets are there
+pub record IsControlled (c : Circuit) (p : Pipe) (y : Controls) : Type 0 where
+  pub turns : HasTurns c p y.orders.now
+  pub squash : IsBit c y.squash
+  pub clear_count : length y.clear.now ≡ length p.stages
+  pub clear : Each (IsBit c) y.clear.now

@@ -1,0 +1,93 @@
+-- What a stage keeps of its thread: variables, held locations, tickets, the arguments of its guess.
+use Rattle.std.specs.Prelude.{◌≡◌, ℕ, zero, suc, ◌<◌, ◌≤◌, Bool, false, ◌&&◌, List, slice_index, slice_index_or, length, nat_lt, ⊤}
+use Rattle.pdl_semantics.specs.Flat.{Pipe}
+use Rattle.pdl_form.specs.Form.{Form}
+use Rattle.pdl_net.specs.Signal.{Signal, const_signal}
+use Rattle.pdl_pipe_exprs.specs.Nets.{signal_at}
+use Rattle.pdl_law_parts.specs.Lives.{lives_from, held_from, verifies_from}
+use Rattle.pdl_law_parts.specs.Walk.{zero_bit}
+use Rattle.pdl_law_parts.specs.Views.{View, Comer}
+use Rattle.pdl_pipe_lives.specs.Needs.{goes_with}
+use Rattle.pdl_pipe_answers.specs.Readings.{gets_answer}
+use Rattle.pdl_pipe_registers.specs.declared.nets.Item.{Item}
+use Rattle.pdl_pipe_registers.specs.declared.nets.Item.TheVariants.{Var, Held, Ticket, Guess}
+
+abbrev pub item_at : List Item → ℕ → Item
+item_at xs i = slice_index_or xs i (Var 0)
+
+-- whether a thread needs it in stage k
+abbrev pub is_needed : Pipe → ℕ → Item → Bool
+is_needed p k (Var x) = lives_from p k x
+is_needed p k (Held m a) = held_from p k m a
+is_needed p k (Ticket m) = goes_with p k m
+is_needed p k (Guess i) = verifies_from p k && nat_lt i (length p.start)
+
+-- as a stage keeps it, after its rows, and of a thread that comes
+abbrev pub kept_item : View → Item → Signal
+kept_item v (Var x) = v.kept x
+kept_item v (Held m a) = v.begun.held m a
+kept_item v (Ticket m) = v.tickets m
+kept_item v (Guess i) = signal_at v.begun.guess i
+
+abbrev pub ended_item : View → Item → Signal
+ended_item v (Var x) = v.ended.vars x
+ended_item v (Held m a) = v.ended.held m a
+ended_item v (Ticket m) = v.tickets m
+ended_item v (Guess i) = signal_at v.ended.guess i
+
+abbrev pub comer_item : Item → Comer → Signal
+comer_item (Var x) o = o.vars x
+comer_item (Held m a) o = o.held m a
+comer_item (Ticket m) o = o.tickets m
+comer_item (Guess i) o = o.guess i
+
+-- the width of its register, where the next tickets of the locks have these signals
+abbrev pub item_width : Form → List Signal → Item → ℕ
+item_width f nexts (Var x) = slice_index f.widths x
+item_width f nexts (Held m a) = 1
+item_width f nexts (Ticket m) = (signal_at nexts m).width
+item_width f nexts (Guess i) = slice_index f.widths i
+
+-- what its register holds at reset: in stage 0 the first thread's argument
+abbrev pub start_value : Pipe → ℕ → ℕ → ℕ
+start_value p zero x = slice_index p.start x
+start_value p (suc k) x = 0
+
+abbrev pub first_value : Pipe → ℕ → Item → ℕ
+first_value p k (Var x) = start_value p k x
+first_value p k (Held m a) = 0
+first_value p k (Ticket m) = 0
+first_value p k (Guess i) = 0
+
+-- what may have a register in stage k: in the first one a parameter, in another a variable, a location, a memory's ticket, an argument of the guess
+abbrev pub IsOwn : Form → ℕ → Item → Type 0
+IsOwn f zero (Var x) = x < length f.pipe.start
+IsOwn f zero (Held m a) = ⊥
+IsOwn f zero (Ticket m) = ⊥
+IsOwn f zero (Guess i) = ⊥
+IsOwn f (suc k) (Var x) = x < length f.widths
+IsOwn f (suc k) (Held m a) = ⊤
+IsOwn f (suc k) (Ticket m) = m < length f.pipe.mems
+IsOwn f (suc k) (Guess i) = i < length f.pipe.start
+
+-- a signal that never changes
+abbrev pub IsConstant : Signal → Type 0
+IsConstant f = (w v : ℕ) × (f ≡ const_signal w v)
+
+-- as in a stage after another one, which ends with g for it: where that is constant it is the same
+abbrev pub IsSameConstant : Signal → Signal → Type 0
+IsSameConstant g f = IsConstant g × (f ≡ g)
+
+-- as in stage 0: a variable that is no parameter is zero, and nothing is held
+abbrev pub IsZero : Pipe → Item → Signal → Type 0
+IsZero p (Var x) f = (length p.start ≤ x) × ((w : ℕ) × (f ≡ const_signal w 0))
+IsZero p (Held m a) f = f ≡ zero_bit
+IsZero p (Ticket m) f = f ≡ zero_bit
+IsZero p (Guess i) f = (w : ℕ) × (f ≡ const_signal w 0)
+
+-- a thread may get it in stage k by an answer
+abbrev pub is_answered : Pipe → ℕ → Item → Bool
+is_answered p k (Var x) = gets_answer p k x
+is_answered p k (Held m a) = false
+is_answered p k (Ticket m) = false
+is_answered p k (Guess i) = false

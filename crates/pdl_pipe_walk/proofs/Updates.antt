@@ -1,0 +1,198 @@
+-- The nets of a walk after a change.
+use Rattle.std.proofs.Common.{◌≡◌, ℕ, ◌<◌, ◌^◌, List, [], ◌∷◌, ◌++◌, map, length, sym, ap, ap₂, ◌∙◌, subst}
+use Rattle.std.specs.Prelude.{take, slice_index, slice_set}
+use Rattle.std.proofs.lemmas.List.{map-append, map-set}
+use Rattle.pdl_semantics.specs.Flat.{Pipe}
+use Rattle.pdl_semantics.specs.Stages.{mem_at}
+use Rattle.pdl_net.specs.declared.Net.{Net}
+use Rattle.pdl_net.specs.Circuit.{Circuit}
+use Rattle.pdl_net.specs.Signal.{Signal, mux_signal}
+use Rattle.pdl_net.specs.Meaning.{signal, IsThere}
+use Rattle.pdl_net.specs.Growth.{Keeps}
+use Rattle.pdl_pipe_exprs.specs.Nets.{NetsThere, signals_in, signal_at, widths_of}
+use Rattle.pdl_law_parts.specs.Walk.{Birth, Letting, both, if_on}
+use Rattle.pdl_pipe_walk.specs.declared.nets.HeldNet.{HeldNet}
+use Rattle.pdl_pipe_walk.specs.declared.nets.ReserveNet.{ReserveNet}
+use Rattle.pdl_pipe_walk.specs.declared.nets.PutNet.{PutNet}
+use Rattle.pdl_pipe_walk.specs.declared.nets.LettingNet.{LettingNet}
+use Rattle.pdl_pipe_walk.specs.declared.nets.BirthNet.{BirthNet}
+use Rattle.pdl_pipe_walk.specs.declared.nets.AskNet.{AskNet}
+use Rattle.pdl_pipe_walk.specs.declared.nets.WalkNets.{WalkNets}
+use Rattle.pdl_pipe_walk.specs.Parts.{Held, Parts, held_in, reservation_in, put_in, letting_in, birth_in, ask_in, parts_in, IsThereWalk}
+use Rattle.pdl_pipe_walk.specs.Frames.{SameRest}
+use Rattle.pdl_pipe_walk.specs.Sized.{IsSized, IsSizedReserve, IsSizedPut, IsSizedAsk}
+use Rattle.pdl_pipe_walk.specs.Steps.{with_var, with_put, with_held, with_call}
+use Rattle.pdl_pipe_walk.proofs.Lists.{widths_set}
+use Rattle.pdl_pipe_walk.proofs.Kept.{parts_keep, var_width}
+use Rattle.pdl_word.specs.Each.{Each}
+use Rattle.pdl_word.proofs.Each.{each_push}
+
+-- ---- parts by their lists
+
+-- all but the three of a walk that has the rest of another one
+same_rest : (b : Circuit) (w new : WalkNets) (vars : List Signal) (held : List Held) (births : List Birth) → signals_in b new.vars.items ≡ vars → map (held_in b) new.held.items ≡ held → map (birth_in b) new.births.items ≡ births → SameRest w new
+    → parts_in b new ≡ record (parts_in b w) { vars = vars; held = held; births = births }
+same_rest b w new vars held births e1 e2 e3 r =
+    cc (e1, e2, e3, ap (signal b) r.ready, ap (map (reservation_in b)) r.reserves, ap (map (put_in b)) r.puts, ap (map (letting_in b)) r.lettings, ap (map (ask_in b)) r.asks, ap (signals_in b) r.guess, ap (signal b) r.fails, ap (signal b) r.barrier)
+
+-- its nets are there
+pub there_rest : (b : Circuit) (w new : WalkNets) → IsThereWalk b w → SameRest w new → NetsThere b new.vars.items → Each (λ (y : HeldNet). IsThere b y.net) new.held.items → Each (λ (y : BirthNet). IsThere b y.on × NetsThere b y.args) new.births.items → IsThereWalk b new
+there_rest b w new t r vars held births = record {
+  vars = vars;
+  held = held;
+  ready = subst (IsThere b) (sym r.ready) t.ready;
+  reserves = subst (λ (l : List ReserveNet). Each (λ (y : ReserveNet). IsThere b y.on × IsThere b y.addr) l) (sym r.reserves) t.reserves;
+  puts = subst (λ (l : List PutNet). Each (λ (y : PutNet). IsThere b y.on × IsThere b y.value) l) (sym r.puts) t.puts;
+  lettings = subst (λ (l : List LettingNet). Each (λ (y : LettingNet). IsThere b y.on) l) (sym r.lettings) t.lettings;
+  births = births;
+  asks = subst (λ (l : List AskNet). Each (λ (y : AskNet). IsThere b y.on × IsThere b y.addr) l) (sym r.asks) t.asks;
+  guess = subst (λ (l : List Net). NetsThere b l) (sym r.guess) t.guess;
+  fails = subst (IsThere b) (sym r.fails) t.fails;
+  barrier = subst (IsThere b) (sym r.barrier) t.barrier;
+}
+
+-- as they stand in an earlier circuit, with other variables, another ready net, more held locations
+module _ (a b : Circuit) (e : Keeps a b) (w : WalkNets) (t : IsThereWalk a w) where
+  kept : parts_in b w ≡ parts_in a w
+  kept = parts_keep a b e w t
+
+  pub vars_parts : (new : WalkNets) (x : ℕ) (n : Net) (f : Signal) → signal b n ≡ f → new.vars.items ≡ slice_set w.vars.items x n → new.held ≡ w.held → new.births ≡ w.births → SameRest w new
+      → parts_in b new ≡ record (parts_in a w) { vars = slice_set (signals_in a w.vars.items) x f }
+  vars_parts new x n f m v h k r =
+      same_rest b w new (slice_set (signals_in b w.vars.items) x f) (parts_in b w).held (parts_in b w).births
+      (ap (signals_in b) v ∙ map-set (signal b) w.vars.items x n ∙ ap (λ g. slice_set (signals_in b w.vars.items) x g) m) (ap (λ h. map (held_in b) h.items) h) (ap (λ h. map (birth_in b) h.items) k) r
+      ∙ ap (λ (q : Parts). record q { vars = slice_set q.vars x f }) kept
+
+  pub ready_parts : (n : Net) (f : Signal) → signal b n ≡ f → parts_in b (record w { ready = n }) ≡ record (parts_in a w) { ready = f }
+  ready_parts n f m = ap₂ (λ (q : Parts) g. record q { ready = g }) kept m
+
+  pub held_parts : (new : WalkNets) (m v : ℕ) (n : Net) (f : Signal) → signal b n ≡ f → new.held.items ≡ record { mem = m; var = v; net = n } ∷ w.held.items → new.vars ≡ w.vars → new.births ≡ w.births → SameRest w new
+      → parts_in b new ≡ record (parts_in a w) { held = record { mem = m; var = v; signal = f } ∷ (parts_in a w).held }
+  held_parts new m v n f s h h1 h2 r =
+      same_rest b w new (parts_in b w).vars (record { mem = m; var = v; signal = f } ∷ (parts_in b w).held) (parts_in b w).births
+      (ap (λ h. signals_in b h.items) h1) (ap (map (held_in b)) h ∙ ap (λ g. record { mem = m; var = v; signal = g } ∷ (parts_in b w).held) s) (ap (λ h. map (birth_in b) h.items) h2) r
+      ∙ ap (λ (q : Parts). record q { held = record { mem = m; var = v; signal = f } ∷ q.held }) kept
+
+  pub fails_parts : (n : Net) (f : Signal) → signal b n ≡ f → parts_in b (record w { fails = n }) ≡ record (parts_in a w) { fails = f }
+  fails_parts n f m = ap₂ (λ (q : Parts) g. record q { fails = g }) kept m
+
+  pub barrier_parts : (n : Net) (f : Signal) → signal b n ≡ f → parts_in b (record w { barrier = n }) ≡ record (parts_in a w) { barrier = f }
+  barrier_parts n f m = ap₂ (λ (q : Parts) g. record q { barrier = g }) kept m
+
+  pub guess_parts : (ns : List Net) (fs : List Signal) → signals_in b ns ≡ fs → parts_in b (record w { guess = ns }) ≡ record (parts_in a w) { guess = fs }
+  guess_parts ns fs m = ap₂ (λ (q : Parts) gs. record q { guess = gs }) kept m
+
+-- in the same circuit, with one more of each kind
+module _ (b : Circuit) (w : WalkNets) where
+  pub reserve_parts : (n : ReserveNet) → parts_in b (record w { reserves = w.reserves ++ n ∷ [] }) ≡ record (parts_in b w) { reserves = (parts_in b w).reserves ++ reservation_in b n ∷ [] }
+  reserve_parts n = ap (λ l. record (parts_in b w) { reserves = l }) (map-append (reservation_in b) w.reserves (n ∷ []))
+
+  pub put_parts : (n : PutNet) → parts_in b (record w { puts = w.puts ++ n ∷ [] }) ≡ record (parts_in b w) { puts = (parts_in b w).puts ++ put_in b n ∷ [] }
+  put_parts n = ap (λ l. record (parts_in b w) { puts = l }) (map-append (put_in b) w.puts (n ∷ []))
+
+  pub letting_parts : (n : LettingNet) → parts_in b (record w { lettings = w.lettings ++ n ∷ [] }) ≡ record (parts_in b w) { lettings = (parts_in b w).lettings ++ letting_in b n ∷ [] }
+  letting_parts n = ap (λ l. record (parts_in b w) { lettings = l }) (map-append (letting_in b) w.lettings (n ∷ []))
+
+  pub ask_parts : (n : AskNet) → parts_in b (record w { asks = w.asks ++ n ∷ [] }) ≡ record (parts_in b w) { asks = (parts_in b w).asks ++ ask_in b n ∷ [] }
+  ask_parts n = ap (λ l. record (parts_in b w) { asks = l }) (map-append (ask_in b) w.asks (n ∷ []))
+
+  pub birth_parts : (new : WalkNets) (n : BirthNet) → new.births.items ≡ n ∷ w.births.items → new.vars ≡ w.vars → new.held ≡ w.held → SameRest w new
+      → parts_in b new ≡ record (parts_in b w) { births = birth_in b n ∷ (parts_in b w).births }
+  birth_parts new n h h1 h2 r =
+      same_rest b w new (parts_in b w).vars (parts_in b w).held (birth_in b n ∷ (parts_in b w).births) (ap (λ h. signals_in b h.items) h1) (ap (λ h. map (held_in b) h.items) h2) (ap (map (birth_in b)) h) r
+
+-- ---- widths after a change
+
+module _ (p : Pipe) (ws : List ℕ) (w : Parts) (s : IsSized p ws w) where
+  pub sized_var : (x : ℕ) (on f : Signal) → f.width ≡ slice_index ws x → IsSized p ws (with_var x on f w)
+  sized_var x on f e = record {
+    vars = widths_set w.vars x (mux_signal on f (signal_at w.vars x)) (e ∙ sym (var_width p ws w x s)) ∙ s.vars;
+    held = s.held;
+    ready = s.ready;
+    reserves = s.reserves;
+    puts = s.puts;
+    lettings = s.lettings;
+    births = s.births;
+    asks = s.asks;
+    guess = s.guess;
+    fails = s.fails;
+    barrier = s.barrier;
+  }
+
+  pub sized_ready : (on f : Signal) → f.width ≡ 1 → IsSized p ws (record w { ready = both w.ready (if_on on f) })
+  sized_ready on f e = record { vars = s.vars; held = s.held; ready = e; reserves = s.reserves; puts = s.puts; lettings = s.lettings; births = s.births; asks = s.asks; guess = s.guess; fails = s.fails; barrier = s.barrier }
+
+  pub sized_held : (m a : ℕ) (on bit : Signal) → bit.width ≡ 1 → IsSized p ws (with_held m a on bit w)
+  sized_held m a on bit e = record { vars = s.vars; held = (e, s.held); ready = s.ready; reserves = s.reserves; puts = s.puts; lettings = s.lettings; births = s.births; asks = s.asks; guess = s.guess; fails = s.fails; barrier = s.barrier }
+
+  pub sized_put : (m : ℕ) (on f : Signal) → m < length p.mems → on.width ≡ 1 → f.width ≡ (mem_at p m).width → IsSized p ws (with_put m on f w)
+  sized_put m on f l o e = record {
+    vars = s.vars;
+    held = s.held;
+    ready = s.ready;
+    reserves = s.reserves;
+    lettings = s.lettings;
+    births = s.births;
+    asks = s.asks;
+    guess = s.guess;
+    fails = s.fails;
+    barrier = s.barrier;
+    puts = each_push (IsSizedPut p) w.puts (record { mem = m; on = on; value = f }) s.puts (l, o, e);
+  }
+
+  pub sized_reserve : (m : ℕ) (on f : Signal) → m < length p.mems → on.width ≡ 1 → 2 ^ f.width ≡ (mem_at p m).depth → IsSized p ws (record w { reserves = w.reserves ++ record { mem = m; on = on; addr = f } ∷ [] })
+  sized_reserve m on f l o e = record {
+    vars = s.vars;
+    held = s.held;
+    ready = s.ready;
+    puts = s.puts;
+    lettings = s.lettings;
+    births = s.births;
+    asks = s.asks;
+    guess = s.guess;
+    fails = s.fails;
+    barrier = s.barrier;
+    reserves = each_push (IsSizedReserve p) w.reserves (record { mem = m; on = on; addr = f }) s.reserves (l, o, e);
+  }
+
+  pub sized_letting : (m : ℕ) (on : Signal) → on.width ≡ 1 → IsSized p ws (record w { lettings = w.lettings ++ record { mem = m; on = on } ∷ [] })
+  sized_letting m on o = record {
+    vars = s.vars;
+    held = s.held;
+    ready = s.ready;
+    reserves = s.reserves;
+    puts = s.puts;
+    births = s.births;
+    asks = s.asks;
+    guess = s.guess;
+    fails = s.fails;
+    barrier = s.barrier;
+    lettings = each_push (λ (x : Letting). x.on.width ≡ 1) w.lettings (record { mem = m; on = on }) s.lettings o;
+  }
+
+  pub sized_ask : (m x : ℕ) (on f : Signal) → m < length p.mems → on.width ≡ 1 → 2 ^ f.width ≡ (mem_at p m).depth → IsSized p ws (record w { asks = w.asks ++ record { mem = m; var = x; on = on; addr = f } ∷ [] })
+  sized_ask m x on f l o e = record {
+    vars = s.vars;
+    held = s.held;
+    ready = s.ready;
+    reserves = s.reserves;
+    puts = s.puts;
+    lettings = s.lettings;
+    births = s.births;
+    guess = s.guess;
+    fails = s.fails;
+    barrier = s.barrier;
+    asks = each_push (IsSizedAsk p) w.asks (record { mem = m; var = x; on = on; addr = f }) s.asks (l, o, e);
+  }
+
+  pub sized_fails : (f : Signal) → f.width ≡ 1 → IsSized p ws (record w { fails = f })
+  sized_fails f e = record { vars = s.vars; held = s.held; ready = s.ready; reserves = s.reserves; puts = s.puts; lettings = s.lettings; births = s.births; asks = s.asks; guess = s.guess; fails = e; barrier = s.barrier }
+
+  pub sized_barrier : (f : Signal) → f.width ≡ 1 → IsSized p ws (record w { barrier = f })
+  sized_barrier f e = record { vars = s.vars; held = s.held; ready = s.ready; reserves = s.reserves; puts = s.puts; lettings = s.lettings; births = s.births; asks = s.asks; guess = s.guess; fails = s.fails; barrier = e }
+
+  pub sized_guess : (fs : List Signal) → widths_of fs ≡ take (length p.start) ws → IsSized p ws (record w { guess = fs })
+  sized_guess fs e = record { vars = s.vars; held = s.held; ready = s.ready; reserves = s.reserves; puts = s.puts; lettings = s.lettings; births = s.births; asks = s.asks; guess = e; fails = s.fails; barrier = s.barrier }
+
+  pub sized_call : (on : Signal) (args : List Signal) → on.width ≡ 1 → widths_of args ≡ take (length p.start) ws → IsSized p ws (with_call on args w)
+  sized_call on args o k = record { vars = s.vars; held = s.held; ready = s.ready; reserves = s.reserves; puts = s.puts; lettings = s.lettings; births = ((o, k), s.births); asks = s.asks; guess = s.guess; fails = s.fails; barrier = s.barrier }

@@ -1,0 +1,63 @@
+-- Widths of what stands in a stage, and the statements of which nets are made.
+use Rattle.std.specs.Prelude.{◌≡◌, ℕ, ◌^◌, ◌<◌, List, length, take}
+use Rattle.pdl_semantics.specs.Flat.{Stmt, Pipe}
+use Rattle.pdl_semantics.specs.Stages.{mem_at}
+use Rattle.pdl_form.specs.Form.{Form, stmt_at}
+use Rattle.pdl_form_types.specs.Stmts.{IsTypedStmt}
+use Rattle.pdl_net.specs.Circuit.{Circuit}
+use Rattle.pdl_pipe_exprs.specs.Nets.{widths_of}
+use Rattle.pdl_law_parts.specs.Walk.{Reservation, Put, Letting, Birth, Ask}
+use Rattle.pdl_law_parts.specs.Reads.{IsAtOnce}
+use Rattle.pdl_pipe_walk.specs.declared.nets.WalkNets.{WalkNets}
+use Rattle.pdl_pipe_walk.specs.Parts.{Held, Parts, parts_in, IsThereWalk}
+use Rattle.pdl_word.specs.Each.{Each}
+
+-- conditions have 1 bit, an address reaches each word of its memory and no more, a value has its memory's width
+abbrev pub IsSizedReserve : Pipe → Reservation → Type 0
+IsSizedReserve p r = (r.mem < length p.mems) × (r.on.width ≡ 1) × (2 ^ r.addr.width ≡ (mem_at p r.mem).depth)
+
+abbrev pub IsSizedPut : Pipe → Put → Type 0
+IsSizedPut p x = (x.mem < length p.mems) × (x.on.width ≡ 1) × (x.value.width ≡ (mem_at p x.mem).width)
+
+-- a call's arguments have the widths of the first variables
+abbrev pub IsSizedBirth : Pipe → List ℕ → Birth → Type 0
+IsSizedBirth p ws x = (x.on.width ≡ 1) × (widths_of x.args ≡ take (length p.start) ws)
+
+abbrev pub IsSizedAsk : Pipe → Ask → Type 0
+IsSizedAsk p x = (x.mem < length p.mems) × (x.on.width ≡ 1) × (2 ^ x.addr.width ≡ (mem_at p x.mem).depth)
+
+-- the variables have these widths
+pub record IsSized (p : Pipe) (ws : List ℕ) (w : Parts) : Type 0 where
+  pub vars : widths_of w.vars ≡ ws
+  pub held : Each (λ (h : Held). h.signal.width ≡ 1) w.held
+  pub ready : w.ready.width ≡ 1
+  pub reserves : Each (IsSizedReserve p) w.reserves
+  pub puts : Each (IsSizedPut p) w.puts
+  pub lettings : Each (λ (x : Letting). x.on.width ≡ 1) w.lettings
+  pub births : Each (IsSizedBirth p ws) w.births
+  pub asks : Each (IsSizedAsk p) w.asks
+  pub guess : widths_of w.guess ≡ take (length p.start) ws
+  pub fails : w.fails.width ≡ 1
+  pub barrier : w.barrier.width ≡ 1
+
+-- a stage's nets are there, with their widths
+pub record IsWalk (c : Circuit) (p : Pipe) (ws : List ℕ) (w : WalkNets) : Type 0 where
+  pub there : IsThereWalk c w
+  pub sized : IsSized p ws (parts_in c w)
+
+-- those of a stage of a flat form
+abbrev pub IsWalkOf : Form → Circuit → WalkNets → Type 0
+IsWalkOf f c w = IsWalk c f.pipe f.widths w
+
+-- ---- statements
+
+-- a typed statement; one that reads at once reads a memory that answers at once
+abbrev pub IsWalked : Form → Stmt → Type 0
+IsWalked f x = IsTypedStmt f x × IsAtOnce f.pipe x.op
+
+abbrev pub AreWalked : Form → List Stmt → Type 0
+AreWalked f xs = Each (IsWalked f) xs
+
+-- each of these numbers is that of such a statement
+abbrev pub AreWalkedRows : Form → List Stmt → List ℕ → Type 0
+AreWalkedRows f xs is = Each (λ (i : ℕ). (i < length xs) × IsWalked f (stmt_at xs i)) is

@@ -1,0 +1,75 @@
+-- A statement as a step from one walk to another, while the circuit grows.
+use Rattle.std.specs.Prelude.{◌≡◌, ℕ, List, [], ◌∷◌, ◌++◌, Option, slice_set}
+use Rattle.pdl_word.specs.Words.{bit}
+use Rattle.pdl_semantics.specs.Flat.{Guard, Op, Stmt, Pipe}
+use Rattle.pdl_net.specs.declared.Net.{Net}
+use Rattle.pdl_net.specs.Circuit.{Circuit, State}
+use Rattle.pdl_net.specs.Signal.{Signal, mux_signal}
+use Rattle.pdl_net.specs.Growth.{Keeps}
+use Rattle.pdl_net.specs.Well.{IsWell, Suits}
+use Rattle.pdl_pipe_exprs.specs.Nets.{signal_at}
+use Rattle.pdl_law_parts.specs.Walk.{Locks, Walk, Row, IsOp, taken_in, walk_after, AreRows, one, zero_bit, both, if_on}
+use Rattle.pdl_pipe_walk.specs.declared.locks.MemLock.{MemLock}
+use Rattle.pdl_pipe_walk.specs.declared.nets.WalkNets.{WalkNets}
+use Rattle.pdl_pipe_walk.specs.Parts.{Parts, held_of, walk_in}
+use Rattle.pdl_pipe_walk.specs.Guesses.{choices, differ_signal}
+use Rattle.pdl_pipe_walk.specs.Locked.{Members, locks_in, tickets_in}
+
+-- ---- what statements change, each under its condition
+
+abbrev pub with_var : ℕ → Signal → Signal → Parts → Parts
+with_var x on f w = record w { vars = slice_set w.vars x (mux_signal on f (signal_at w.vars x)) }
+
+abbrev pub with_put : ℕ → Signal → Signal → Parts → Parts
+with_put m on f w = record w { puts = w.puts ++ record { mem = m; on = on; value = f } ∷ [] }
+
+-- a location becomes held or not
+abbrev pub with_held : ℕ → ℕ → Signal → Signal → Parts → Parts
+with_held m a on bit w = record w { held = record { mem = m; var = a; signal = mux_signal on bit (held_of w.held m a) } ∷ w.held }
+
+abbrev pub with_reserve : ℕ → ℕ → Signal → Signal → Parts → Parts
+with_reserve m a on room w =
+    record (with_held m a on one w) {
+      ready = both w.ready (if_on on room);
+      reserves = w.reserves ++ record { mem = m; on = on; addr = signal_at w.vars a } ∷ [];
+    }
+
+abbrev pub with_release : ℕ → ℕ → Signal → Parts → Parts
+with_release m a on w = record (with_held m a on zero_bit w) { lettings = w.lettings ++ record { mem = m; on = both on (held_of w.held m a) } ∷ [] }
+
+abbrev pub with_call : Signal → List Signal → Parts → Parts
+with_call on args w = record w { births = record { on = on; args = args } ∷ w.births }
+
+abbrev pub with_ask : ℕ → ℕ → ℕ → Signal → Parts → Parts
+with_ask m x a on w = record w { asks = w.asks ++ record { mem = m; var = x; on = on; addr = signal_at w.vars a } ∷ [] }
+
+abbrev pub with_guess : Signal → List Signal → Parts → Parts
+with_guess on args w = record (with_call on args w) { guess = choices on args w.guess }
+
+-- a call with these arguments where they aren't those of the guess
+abbrev pub with_verify : Signal → List Signal → Parts → Parts
+with_verify on args w = record (with_call (both on (differ_signal args w.guess)) args w) { fails = mux_signal (both on (differ_signal args w.guess)) one w.fails }
+
+abbrev pub with_barrier : Signal → Parts → Parts
+with_barrier on w = record w { barrier = mux_signal on one w.barrier }
+
+-- ---- steps
+
+-- in each well-formed circuit that this one grows to
+abbrev pub Later : Circuit → (Circuit → Type 0) → Type 0
+Later c P = (d : Circuit) → Keeps c d → IsWell d → P d
+
+-- a row under these guards leads from one walk to another
+pub record IsStep (c : Circuit) (p : Pipe) (ls : Locks) (tickets : ℕ → Signal) (gs : List Guard) (op : Op) (w w' : Walk) : Type 0 where
+  pub row : Row
+  pub on : Later c (λ d. (s : State) → Suits d s → row.on.value s ≡ bit (taken_in gs w s))
+  pub does : Later c (λ d. IsOp d p ls tickets gs op w row)
+  pub next : w' ≡ walk_after op row ls w
+
+-- and so do rows one after another
+abbrev pub AreSteps : Circuit → Pipe → Locks → (ℕ → Signal) → List Stmt → Walk → Walk → Type 0
+AreSteps c p ls tickets xs w w' = Later c (λ d. AreRows d p ls tickets xs w w')
+
+-- the rows lead from a stage's nets in one circuit to its nets in a later one, with these locks and tickets
+abbrev pub AreNetSteps : {T : Type 0} → Members T → Pipe → List (Option (MemLock T)) → List Net → List Stmt → Circuit → WalkNets → Circuit → WalkNets → Type 0
+AreNetSteps l p locks tickets xs a w b w' = AreSteps b p (locks_in l p a locks) (tickets_in a tickets) xs (walk_in a w) (walk_in b w')

@@ -1,0 +1,392 @@
+// The statements of a stage, one after another.
+ghost use Rattle.std.specs.Prelude.{◌≡◌, ◌==◌, ◌<◌, ◌≤◌, ◌^◌, ◌++◌, ◌∷◌, [], true, false, IfOk, OnOk, length, map, slice_index};
+ghost use Rattle.pdl_semantics.specs.Stages.{mem_at, in_stage};
+ghost use Rattle.pdl_form.specs.Whole.{form};
+ghost use Rattle.pdl_form.specs.Form.{stmt_at};
+ghost use Rattle.pdl_form.specs.View.{guards_view, stmt_view, stmts_view, expr_view, exprs_view};
+ghost use Rattle.pdl_net.specs.Meaning.{IsThere, signal};
+ghost use Rattle.pdl_net.specs.Growth.{Extends};
+ghost use Rattle.pdl_pipe_exprs.specs.Nets.{signals_in, signal_at};
+ghost use Rattle.pdl_pipe_exprs.specs.Conditions.{AreBits};
+ghost use Rattle.pdl_form_types.specs.Stmts.{AreGuards, IsLocation, AreArguments, param_widths};
+ghost use Rattle.pdl_form_types.specs.Exprs.{width_in, IsTyped};
+ghost use Rattle.pdl_law_parts.specs.Walk.{is_locked, one, both};
+ghost use Rattle.pdl_pipe_walk.specs.Parts.{held_of, parts_in, walk_in, taken_by, value_by, values_by};
+ghost use Rattle.pdl_pipe_walk.specs.Locked.{members};
+ghost use Rattle.pdl_pipe_walk.specs.Setting.{HasLocks, HasTickets, set_locks, set_tickets, AreSetSteps};
+ghost use Rattle.pdl_pipe_walk.specs.Sized.{IsWalked, AreWalked, AreWalkedRows, IsWalkOf};
+ghost use Rattle.pdl_pipe_walk.specs.Words.{IsLooked, IsRead, IsBlocked};
+ghost use Rattle.pdl_pipe_walk.specs.Steps.{with_var, with_put, with_reserve, with_release, with_call, with_ask, IsStep};
+
+use crate::locks::{Setting, look_held, room, word};
+use crate::nets::{AskNet, WalkNets};
+use pdl_build::Builder;
+use pdl_pipe_exprs::Bits;
+use pdl_pipe_exprs::exprs::variable;
+use pdl_form::{Expr, FlatPipe, Guard, Op, Stmt};
+use pdl_kit::NoMemory;
+use pdl_lockapi::LockModule;
+use pdl_net::Net;
+use std::alloc::Global;
+
+// The statement of a number.
+fn row(stmts: &[Stmt], i: usize) -> &Stmt
+    requires { i < length stmts.now }
+    ensures { stmt_view result.now ≡ stmt_at (stmts_view stmts.now) i }
+{
+    &stmts[i]
+}
+
+impl WalkNets {
+    /// A binding: where its guards are taken a variable becomes the value.
+    pub(crate) fn bind(
+        &mut self,
+        b: &mut Builder,
+        pipe: &FlatPipe,
+        bits: Bits,
+        guards: &[Guard],
+        x: usize,
+        e: &Expr,
+    ) -> Result<(), NoMemory>
+        requires walk { IsWalkOf (form pipe.now) b.old self.old }
+        requires bits { AreBits b.old bits }
+        requires guards { AreGuards (form pipe.now).widths (guards_view guards.now) }
+        requires low { x < length (form pipe.now).widths }
+        requires typed { IsTyped (form pipe.now).widths (expr_view e.now) }
+        requires wide { width_in (form pipe.now).widths (expr_view e.now)
+            ≡ slice_index (form pipe.now).widths x }
+        ensures walk { OnOk result (IsWalkOf (form pipe.now) b.new self.new) }
+        ensures parts { OnOk result (parts_in b.new self.new
+            ≡ with_var x (taken_by b.old self.old guards.now) (value_by b.old self.old e.now)
+            (parts_in b.old self.old)) }
+        ensures extends { Extends b.old b.new }
+    {
+        let on = self.all_taken(b, pipe, bits, guards)?;
+        let net = self.value(b, pipe, e)?;
+        self.set(b, pipe, bits, on, x, net)
+    }
+
+    /// A read: where its guards are taken a variable becomes the word.
+    pub(crate) fn read<L: LockModule>(
+        &mut self,
+        b: &mut Builder,
+        setting: &Setting<'_, L>,
+        guards: &[Guard],
+        x: usize,
+        m: usize,
+        a: usize,
+    ) -> Result<(), NoMemory>
+        requires walk { IsWalkOf (form setting.now.pipe.now) b.old self.old }
+        requires bits { AreBits b.old setting.now.bits }
+        requires guards { AreGuards (form setting.now.pipe.now).widths (guards_view guards.now) }
+        requires locks { HasLocks (members L.LockModule) b.old setting.now }
+        requires tickets { HasTickets (members L.LockModule) b.old setting.now }
+        requires low { x < length (form setting.now.pipe.now).widths }
+        requires wide { slice_index (form setting.now.pipe.now).widths x
+            ≡ (mem_at (form setting.now.pipe.now).pipe m).width }
+        requires at { IsLocation (form setting.now.pipe.now).pipe
+            (form setting.now.pipe.now).widths m a }
+        requires at_once { (mem_at (form setting.now.pipe.now).pipe m).delayed ≡ false }
+        ensures walk { OnOk result (IsWalkOf (form setting.now.pipe.now) b.new self.new) }
+        ensures parts { OnOk result (IsRead (form setting.now.pipe.now).pipe
+            (set_locks (members L.LockModule) b.old setting.now) (set_tickets b.old setting.now)
+            (taken_by b.old self.old guards.now) x m a (parts_in b.old self.old)
+            (parts_in b.new self.new)) }
+        ensures extends { Extends b.old b.new }
+    {
+        let on = self.all_taken(b, setting.pipe, setting.bits, guards)?;
+        let addr = self.variable(b, setting.pipe, a);
+        let ticket = variable(b, setting.tickets, m);
+        let net = word(b, setting, m, addr, ticket)?;
+        self.set(b, setting.pipe, setting.bits, on, x, net)
+    }
+
+    /// A request of a delayed memory: where its guards are taken it asks for the word, which a variable becomes later.
+    pub(crate) fn delayed_read(
+        &mut self,
+        b: &mut Builder,
+        pipe: &FlatPipe,
+        bits: Bits,
+        guards: &[Guard],
+        x: usize,
+        m: usize,
+        a: usize,
+    ) -> Result<(), NoMemory>
+        requires walk { IsWalkOf (form pipe.now) b.old self.old }
+        requires bits { AreBits b.old bits }
+        requires guards { AreGuards (form pipe.now).widths (guards_view guards.now) }
+        requires at { IsLocation (form pipe.now).pipe (form pipe.now).widths m a }
+        ensures walk { OnOk result (IsWalkOf (form pipe.now) b.new self.new) }
+        ensures parts { OnOk result (parts_in b.new self.new
+            ≡ with_ask m x a (taken_by b.old self.old guards.now) (parts_in b.old self.old)) }
+        ensures extends { Extends b.old b.new }
+    {
+        let on = self.all_taken(b, pipe, bits, guards)?;
+        let addr = self.variable(b, pipe, a);
+        self.push_ask(AskNet {
+            mem: m,
+            var: x,
+            on,
+            addr,
+        })
+    }
+
+    /// A write.
+    pub(crate) fn write(
+        &mut self,
+        b: &mut Builder,
+        pipe: &FlatPipe,
+        bits: Bits,
+        guards: &[Guard],
+        m: usize,
+        e: &Expr,
+    ) -> Result<(), NoMemory>
+        requires walk { IsWalkOf (form pipe.now) b.old self.old }
+        requires bits { AreBits b.old bits }
+        requires guards { AreGuards (form pipe.now).widths (guards_view guards.now) }
+        requires low { m < length (form pipe.now).pipe.mems }
+        requires typed { IsTyped (form pipe.now).widths (expr_view e.now) }
+        requires wide { width_in (form pipe.now).widths (expr_view e.now)
+            ≡ (mem_at (form pipe.now).pipe m).width }
+        ensures walk { OnOk result (IsWalkOf (form pipe.now) b.new self.new) }
+        ensures parts { OnOk result (parts_in b.new self.new
+            ≡ with_put m (taken_by b.old self.old guards.now) (value_by b.old self.old e.now)
+            (parts_in b.old self.old)) }
+        ensures extends { Extends b.old b.new }
+    {
+        let on = self.all_taken(b, pipe, bits, guards)?;
+        let net = self.value(b, pipe, e)?;
+        self.push_put(m, on, net)
+    }
+
+    /// A reservation for writing: it waits for room.
+    pub(crate) fn reserve<L: LockModule>(
+        &mut self,
+        b: &mut Builder,
+        setting: &Setting<'_, L>,
+        guards: &[Guard],
+        m: usize,
+        a: usize,
+    ) -> Result<(), NoMemory>
+        requires walk { IsWalkOf (form setting.now.pipe.now) b.old self.old }
+        requires bits { AreBits b.old setting.now.bits }
+        requires guards { AreGuards (form setting.now.pipe.now).widths (guards_view guards.now) }
+        requires locks { HasLocks (members L.LockModule) b.old setting.now }
+        requires at { IsLocation (form setting.now.pipe.now).pipe
+            (form setting.now.pipe.now).widths m a }
+        requires locked { is_locked (form setting.now.pipe.now).pipe m ≡ true }
+        ensures walk { OnOk result (IsWalkOf (form setting.now.pipe.now) b.new self.new) }
+        ensures parts { OnOk result (parts_in b.new self.new
+            ≡ with_reserve m a (taken_by b.old self.old guards.now)
+            ((set_locks (members L.LockModule) b.old setting.now).room m)
+            (parts_in b.old self.old)) }
+        ensures extends { Extends b.old b.new }
+    {
+        let on = self.all_taken(b, setting.pipe, setting.bits, guards)?;
+        let addr = self.variable(b, setting.pipe, a);
+        self.hold(b, setting.pipe, setting.bits, on, m, a, setting.bits.one)?;
+        self.wait(b, setting.pipe, setting.bits, on, room(setting.locks, m))?;
+        self.push_reserve(m, on, addr)
+    }
+
+    // Whether a location is ready for its block.
+    fn look_ready<L: LockModule>(
+        &self,
+        b: &mut Builder,
+        setting: &Setting<'_, L>,
+        m: usize,
+        a: usize,
+    ) -> Result<Net, NoMemory>
+        requires walk { IsWalkOf (form setting.now.pipe.now) b.old self.now }
+        requires bits { AreBits b.old setting.now.bits }
+        requires locks { HasLocks (members L.LockModule) b.old setting.now }
+        requires tickets { HasTickets (members L.LockModule) b.old setting.now }
+        requires at { IsLocation (form setting.now.pipe.now).pipe
+            (form setting.now.pipe.now).widths m a }
+        requires locked { is_locked (form setting.now.pipe.now).pipe m ≡ true }
+        ensures there { IfOk result (λ x. IsThere b.new x) }
+        ensures one { IfOk result (λ x. (signal b.new x).width ≡ 1) }
+        ensures looked { IfOk result (λ x.
+            IsLooked (set_locks (members L.LockModule) b.old setting.now) m
+            (held_of (parts_in b.old self.now).held m a)
+            (signal_at (signals_in b.old self.now.vars.items) a) (set_tickets b.old setting.now m)
+            (signal b.new x)) }
+        ensures extends { Extends b.old b.new }
+    {
+        let held = self.is_held(b, setting.bits, m, a);
+        let addr = self.variable(b, setting.pipe, a);
+        let ticket = variable(b, setting.tickets, m);
+        look_held(b, setting, m, held, addr, ticket)
+    }
+
+    /// A block: it waits until a look at its location is ready.
+    pub(crate) fn block<L: LockModule>(
+        &mut self,
+        b: &mut Builder,
+        setting: &Setting<'_, L>,
+        guards: &[Guard],
+        m: usize,
+        a: usize,
+    ) -> Result<(), NoMemory>
+        requires walk { IsWalkOf (form setting.now.pipe.now) b.old self.old }
+        requires bits { AreBits b.old setting.now.bits }
+        requires guards { AreGuards (form setting.now.pipe.now).widths (guards_view guards.now) }
+        requires locks { HasLocks (members L.LockModule) b.old setting.now }
+        requires tickets { HasTickets (members L.LockModule) b.old setting.now }
+        requires at { IsLocation (form setting.now.pipe.now).pipe
+            (form setting.now.pipe.now).widths m a }
+        requires locked { is_locked (form setting.now.pipe.now).pipe m ≡ true }
+        ensures walk { OnOk result (IsWalkOf (form setting.now.pipe.now) b.new self.new) }
+        ensures parts { OnOk result (IsBlocked (set_locks (members L.LockModule) b.old setting.now)
+            (set_tickets b.old setting.now) (taken_by b.old self.old guards.now) m a
+            (parts_in b.old self.old) (parts_in b.new self.new)) }
+        ensures extends { Extends b.old b.new }
+    {
+        let on = self.all_taken(b, setting.pipe, setting.bits, guards)?;
+        let ready = self.look_ready(b, setting, m, a)?;
+        self.wait(b, setting.pipe, setting.bits, on, ready)
+    }
+
+    /// A release.
+    pub(crate) fn release(
+        &mut self,
+        b: &mut Builder,
+        pipe: &FlatPipe,
+        bits: Bits,
+        guards: &[Guard],
+        m: usize,
+        a: usize,
+    ) -> Result<(), NoMemory>
+        requires walk { IsWalkOf (form pipe.now) b.old self.old }
+        requires bits { AreBits b.old bits }
+        requires guards { AreGuards (form pipe.now).widths (guards_view guards.now) }
+        ensures walk { OnOk result (IsWalkOf (form pipe.now) b.new self.new) }
+        ensures parts { OnOk result (parts_in b.new self.new
+            ≡ with_release m a (taken_by b.old self.old guards.now) (parts_in b.old self.old)) }
+        ensures extends { Extends b.old b.new }
+    {
+        let on = self.all_taken(b, pipe, bits, guards)?;
+        let held = self.is_held(b, bits, m, a);
+        let lets = bits.both(b, on, held)?;
+        self.hold(b, pipe, bits, on, m, a, bits.zero)?;
+        self.push_letting(m, lets)
+    }
+
+    /// A call.
+    pub(crate) fn call(
+        &mut self,
+        alloc: Global,
+        b: &mut Builder,
+        pipe: &FlatPipe,
+        bits: Bits,
+        guards: &[Guard],
+        args: &[Expr],
+    ) -> Result<(), NoMemory>
+        requires walk { IsWalkOf (form pipe.now) b.old self.old }
+        requires bits { AreBits b.old bits }
+        requires guards { AreGuards (form pipe.now).widths (guards_view guards.now) }
+        requires typed { AreArguments (form pipe.now).widths (param_widths (form pipe.now))
+            (exprs_view args.now) }
+        ensures walk { OnOk result (IsWalkOf (form pipe.now) b.new self.new) }
+        ensures parts { OnOk result (parts_in b.new self.new
+            ≡ with_call (taken_by b.old self.old guards.now) (values_by b.old self.old args.now)
+            (parts_in b.old self.old)) }
+        ensures extends { Extends b.old b.new }
+    {
+        let on = self.all_taken(b, pipe, bits, guards)?;
+        let nets = self.values(alloc, b, pipe, args)?;
+        self.push_birth(on, nets)
+    }
+
+    /// A statement.
+    pub(crate) fn statement<L: LockModule>(
+        &mut self,
+        alloc: Global,
+        b: &mut Builder,
+        setting: &Setting<'_, L>,
+        s: &Stmt,
+    ) -> Result<(), NoMemory>
+        requires walk { IsWalkOf (form setting.now.pipe.now) b.old self.old }
+        requires bits { AreBits b.old setting.now.bits }
+        requires locks { HasLocks (members L.LockModule) b.old setting.now }
+        requires tickets { HasTickets (members L.LockModule) b.old setting.now }
+        requires typed { IsWalked (form setting.now.pipe.now) (stmt_view s.now) }
+        ensures walk { OnOk result (IsWalkOf (form setting.now.pipe.now) b.new self.new) }
+        ensures step { OnOk result (IsStep b.new (form setting.now.pipe.now).pipe
+            (set_locks (members L.LockModule) b.old setting.now) (set_tickets b.old setting.now)
+            (stmt_view s.now).guards (stmt_view s.now).op (walk_in b.old self.old)
+            (walk_in b.new self.new)) }
+        ensures extends { Extends b.old b.new }
+    {
+        let guards = s.guards.as_slice();
+        let pipe = setting.pipe;
+        let bits = setting.bits;
+        match &s.op {
+            Op::Bind { x, e } => self.bind(b, pipe, bits, guards, *x, e),
+            Op::CombRead { x, m, a } => self.read(b, setting, guards, *x, *m, *a),
+            Op::Write { m, e, .. } => self.write(b, pipe, bits, guards, *m, e),
+            Op::ReserveRead { .. } => Ok(()),
+            Op::ReserveWrite { m, a } => self.reserve(b, setting, guards, *m, *a),
+            Op::Block { m, a } => self.block(b, setting, guards, *m, *a),
+            Op::Release { m, a } => self.release(b, pipe, bits, guards, *m, *a),
+            Op::Call(args) => self.call(alloc, b, pipe, bits, guards, args.as_slice()),
+            Op::DelayedRead { x, m, a } => self.delayed_read(b, pipe, bits, guards, *x, *m, *a),
+            Op::SpecCall(args) => self.spec_call(alloc, b, pipe, bits, guards, args.as_slice()),
+            Op::Verify(args) => self.verify(alloc, b, pipe, bits, guards, args.as_slice()),
+            Op::SpecCheck => Ok(()),
+            Op::SpecBarrier => self.spec_barrier(b, pipe, bits, guards),
+        }
+    }
+
+    // The statements of these numbers.
+    fn walk_rows<L: LockModule>(
+        &mut self,
+        alloc: Global,
+        b: &mut Builder,
+        setting: &Setting<'_, L>,
+        stmts: &[Stmt],
+        rows: &[usize],
+    ) -> Result<(), NoMemory>
+        requires walk { IsWalkOf (form setting.now.pipe.now) b.old self.old }
+        requires bits { AreBits b.old setting.now.bits }
+        requires locks { HasLocks (members L.LockModule) b.old setting.now }
+        requires tickets { HasTickets (members L.LockModule) b.old setting.now }
+        requires typed { AreWalkedRows (form setting.now.pipe.now) (stmts_view stmts.now) rows.now }
+        ensures walk { OnOk result (IsWalkOf (form setting.now.pipe.now) b.new self.new) }
+        ensures steps { OnOk result (AreSetSteps (members L.LockModule) setting.now
+            (map (stmt_at (stmts_view stmts.now)) rows.now) b.old self.old b.new self.new) }
+        ensures extends { Extends b.old b.new }
+    {
+        for i in rows {
+            let s = row(stmts, *i);
+            self.statement(alloc, b, setting, s)?;
+        }
+        Ok(())
+    }
+
+    /// The statements of a stage, one after another.
+    ///
+    /// Where memory runs out, cells may have been added, and every earlier net means what it meant.
+    pub fn walk<L: LockModule>(
+        &mut self,
+        alloc: Global,
+        b: &mut Builder,
+        setting: &Setting<'_, L>,
+        stage: usize,
+    ) -> Result<(), NoMemory>
+        requires walk { IsWalkOf (form setting.now.pipe.now) b.old self.old }
+        requires bits { AreBits b.old setting.now.bits }
+        requires locks { HasLocks (members L.LockModule) b.old setting.now }
+        requires tickets { HasTickets (members L.LockModule) b.old setting.now }
+        requires stage { stage < length (form setting.now.pipe.now).pipe.stages }
+        requires typed { AreWalked (form setting.now.pipe.now)
+            (form setting.now.pipe.now).pipe.stmts }
+        ensures walk { OnOk result (IsWalkOf (form setting.now.pipe.now) b.new self.new) }
+        ensures steps { OnOk result (AreSetSteps (members L.LockModule) setting.now
+            (in_stage stage (form setting.now.pipe.now).pipe.stmts) b.old self.old b.new self.new) }
+        ensures extends { Extends b.old b.new }
+    {
+        let rows = setting.pipe.rows(stage);
+        self.walk_rows(alloc, b, setting, setting.pipe.stmts(), rows)
+    }
+}

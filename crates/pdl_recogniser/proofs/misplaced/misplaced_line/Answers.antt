@@ -1,5 +1,0 @@
-use Rattle.pdl_recogniser.proofs.Running.{told_place}
-use Rattle.pdl_recogniser.proofs.misplaced.misplaced_line.Goals as goal
-
-pub returns-clause-place : goal.returns-clause-place
-returns-clause-place c = λ line h. told_place c.args.source.now c.first_misplaced.result line c.first_misplaced.ensures h

@@ -1,0 +1,55 @@
+-- Rules F1 to F5 in their order.
+use Rattle.std.specs.Prelude.{ℕ, ◌+◌, Bool, not, ◌&&◌, ◌||◌, List, [], ◌∷◌, ◌++◌, if◌then◌else◌, drop, length, Option, Some, None}
+use Rattle.pdl_kit.specs.declared.rule.Rule.{Rule}
+use Rattle.pdl_kit.specs.declared.rule.Rule.TheVariants as rules
+use Rattle.pdl_semantics.specs.Tree.{Stmts, Pipe}
+use Rattle.pdl_rules.specs.Places.{Place, Branch, line_of, statements}
+use Rattle.pdl_rules.specs.Forks.{holds_separator, starts_with_separator, is_in_branch, breaks_f1, breaks_f2, breaks_f3, breaks_f4}
+use Rattle.pdl_rules.specs.Locks.{breaks_f5}
+use Rattle.pdl_rules.specs.Refusal.{Refused, refused_at}
+use Rattle.pdl_rules_forks.specs.declared.scan.ForkRule.{ForkRule}
+use Rattle.pdl_rules_forks.specs.declared.scan.ForkRule.TheVariants.{F1, F2, F3, F4, F5}
+use Rattle.pdl_rules_forks.specs.declared.scan.Broken.{Broken}
+
+-- no separator follows what stands in both branches of an `if`, where these places stand after the `if`
+abbrev pub is_unfollowed : Stmts → Stmts → List Place → Bool
+is_unfollowed when otherwise later = not (starts_with_separator (drop (length (statements [] when) + (length (statements [] otherwise) + 0)) later))
+
+-- an `if` with these branches is a fork inside a branch, or an unfollowed one
+abbrev pub is_wrong_fork : Stmts → Stmts → List Branch → List Place → Bool
+is_wrong_fork when otherwise bs later =
+    (holds_separator when || holds_separator otherwise) && (is_in_branch bs || is_unfollowed when otherwise later)
+
+abbrev pub order : List ForkRule
+order = F1 ∷ F2 ∷ F3 ∷ F4 ∷ F5 ∷ []
+
+abbrev pub rule_of : ForkRule → Rule
+rule_of F1 = rules.F1
+rule_of F2 = rules.F2
+rule_of F3 = rules.F3
+rule_of F4 = rules.F4
+rule_of F5 = rules.F5
+
+-- whether the place breaks the rule
+unfoldable pub breaks_fork_rule : ForkRule → Pipe → List Place → Place → Bool
+breaks_fork_rule F1 p before x = breaks_f1 x
+breaks_fork_rule F2 p before x = breaks_f2 p before x
+breaks_fork_rule F3 p before x = breaks_f3 p before x
+breaks_fork_rule F4 p before x = breaks_f4 p x
+breaks_fork_rule F5 p before x = breaks_f5 p x
+
+-- the line of the first of these places that does
+abbrev pub line_from : ForkRule → Pipe → List Place → List Place → Option ℕ
+line_from r p before [] = None
+line_from r p before (x ∷ xs) = if breaks_fork_rule r p before x then Some (line_of x) else line_from r p (before ++ x ∷ []) xs
+
+unfoldable pub broken_line : ForkRule → Pipe → List Place → Option ℕ
+broken_line r p all = line_from r p [] all
+
+-- the first of these rules that is broken, at its lowest place
+abbrev pub first_of : List ForkRule → Pipe → List Place → Option Refused
+first_of [] p all = None
+first_of (r ∷ rs) p all = refused_at (rule_of r) (broken_line r p all) (first_of rs p all)
+
+abbrev pub refused_of : Broken → Refused
+refused_of b = record { rule = b.rule; line = b.line }

@@ -1,0 +1,56 @@
+-- The line of the lowest place.
+use Rattle.std.proofs.Common.{◌≡◌, refl, sym, ap, ◌∙◌, subst, ℕ, zero, suc, ◌<◌, Bool, true, false, List, [], ◌∷◌, ◌++◌, take, length, slice_get, Some, None, if◌then◌else◌, arith, append_assoc, append-nil, option_map, ◌⊎◌, inl, inr}
+use Rattle.std.proofs.Math.Nat.{eq-or-lt_of_le}
+use Rattle.pdl_kit.specs.declared.rule.Rule.{Rule}
+use Rattle.pdl_semantics.specs.Tree.{Pipe}
+use Rattle.pdl_rules.specs.Places.{Place, line_of}
+use Rattle.pdl_rules.specs.Parts.{is_some_and}
+use Rattle.pdl_rules.specs.Refusal.{breaks_rule, broken_line}
+use Rattle.pdl_rules_on_paths.specs.Lowest.{line_where, breaks_at, nth_line, IsLowest}
+use Rattle.pdl_rules_on_paths.proofs.Nth.{past_last}
+
+-- the lines of a rule of the definitions
+pub rule_lines : (r : Rule) (p : Pipe) (before xs : List Place) → line_where (breaks_rule r p) before xs ≡ broken_line r p before xs
+rule_lines r p before [] = refl
+rule_lines r p before (x ∷ xs) = ap (λ later. if breaks_rule r p before x then Some (line_of x) else later) (rule_lines r p (before ++ x ∷ []) xs)
+
+-- and of a test that agrees with another
+pub same_lines : (f g : List Place → Place → Bool) → ((before : List Place) (x : Place) → f before x ≡ g before x) → (before xs : List Place) → line_where f before xs ≡ line_where g before xs
+same_lines f g same before [] = refl
+same_lines f g same before (x ∷ xs) =
+    ap (λ b. if b then Some (line_of x) else line_where f (before ++ x ∷ []) xs) (same before x)
+    ∙ ap (λ later. if g before x then Some (line_of x) else later) (same_lines f g same (before ++ x ∷ []) xs)
+
+-- places after others
+abbrev at_from : (List Place → Place → Bool) → List Place → List Place → ℕ → Bool
+at_from test before xs j = is_some_and (test (before ++ take j xs)) (slice_get xs j)
+
+moved : (test : List Place → Place → Bool) (before xs : List Place) (x : Place) (j : ℕ) → at_from test before (x ∷ xs) (suc j) ≡ at_from test (before ++ x ∷ []) xs j
+moved test before xs x j = ap (λ b. is_some_and (test b) (slice_get xs j)) (sym (append_assoc before (x ∷ []) (take j xs)))
+
+first_fails : (test : List Place → Place → Bool) (before xs : List Place) (x : Place) → at_from test before (x ∷ xs) 0 ≡ false
+    → line_where test before (x ∷ xs) ≡ line_where test (before ++ x ∷ []) xs
+first_fails test before xs x e =
+    ap (λ b. if b then Some (line_of x) else line_where test (before ++ x ∷ []) xs) (sym (ap (λ b. test b x) (append-nil before)) ∙ e)
+
+line_some : (test : List Place → Place → Bool) (before xs : List Place) (k : ℕ) → k < length xs → at_from test before xs k ≡ true → ((j : ℕ) → j < k → at_from test before xs j ≡ false)
+    → line_where test before xs ≡ nth_line xs k
+line_some test before [] k l e others = absurd (omega arith)
+line_some test before (x ∷ xs) zero l e others =
+    ap (λ b. if b then Some (line_of x) else line_where test (before ++ x ∷ []) xs) (sym (ap (λ b. test b x) (append-nil before)) ∙ e)
+line_some test before (x ∷ xs) (suc k) l e others =
+    first_fails test before xs x (others 0 (omega arith))
+    ∙ line_some test (before ++ x ∷ []) xs k (omega arith) (sym (moved test before xs x k) ∙ e) (λ j m. sym (moved test before xs x j) ∙ others (suc j) (omega arith))
+
+line_none : (test : List Place → Place → Bool) (before xs : List Place) → ((j : ℕ) → j < length xs → at_from test before xs j ≡ false) → line_where test before xs ≡ None
+line_none test before [] others = refl
+line_none test before (x ∷ xs) others =
+    first_fails test before xs x (others 0 (omega arith))
+    ∙ line_none test (before ++ x ∷ []) xs (λ j m. sym (moved test before xs x j) ∙ others (suc j) (omega arith))
+
+pub lowest_line : (test : List Place → Place → Bool) (xs : List Place) (k : ℕ) → IsLowest (breaks_at test xs) (length xs) k → nth_line xs k ≡ line_where test [] xs
+lowest_line test xs k h = at (eq-or-lt_of_le h.within)
+  where
+    at : (k ≡ length xs) ⊎ (k < length xs) → nth_line xs k ≡ line_where test [] xs
+    at (inr l) = sym (line_some test [] xs k l (h.found l) h.others)
+    at (inl e) = ap (λ o. option_map line_of o) (past_last xs k e) ∙ sym (line_none test [] xs (λ j m. h.others j (subst (λ n. j < n) (sym e) m)))

@@ -1,0 +1,84 @@
+-- The entries of a map as variables.
+use Rattle.std.proofs.Common.{◌≡◌, ℕ, ◌+◌, Bool, true, false, cond, List, [], ◌∷◌, ◌++◌, refl, ap, sym, ◌∙◌, Option, unwrap_or, is_some, bytes_eq, nat_eq, ◌||◌, if◌then◌else◌, Some, fold, take, slice_get}
+use Rattle.std.specs.List.{list_any}
+use Rattle.std.specs.Cmp.Lexicographic.{pointwise}
+use Rattle.std.specs.Map.{lookup}
+use Rattle.std.proofs.lemmas.List.Sums.{fold_push}
+use Rattle.indexmap.specs.IndexMap.{insert_entry}
+use Rattle.pdl_semantics.specs.Flatten.{Var, var_width}
+use Rattle.pdl_semantics.specs.Tree.{Mem}
+use Rattle.pdl_rules.specs.Places.{Place}
+use Rattle.pdl_rules.specs.Widths.{with_variable, after_place}
+use Rattle.pdl_rules_widths.specs.Variables.{var_of, vars_of, width_among}
+use Rattle.pdl_word.proofs.Bytes.{bytes_swap}
+use Rattle.pdl_rules_on_paths.proofs.Nth.{take_next}
+
+width_step : (a b : Bool) (w : ℕ) (o : Option ℕ) (n : ℕ) → a ≡ b → unwrap_or o 0 ≡ n → unwrap_or (cond a (Some w) o) 0 ≡ if b then w else n
+width_step true true w o n h k = refl
+width_step false false w o n h k = k
+width_step true false w o n h k = cc
+width_step false true w o n h k = cc
+
+width-lookup : (es : List (List ℕ × ℕ)) (x : List ℕ) → unwrap_or (lookup (pointwise nat_eq x) es) 0 ≡ var_width (vars_of es) x
+width-lookup [] x = refl
+width-lookup (e ∷ es) x = width_step (bytes_eq x e.0) (bytes_eq e.0 x) e.1 _ _ (bytes_swap x e.0) (width-lookup es x)
+
+-- what a look-up gives, as the width of the variable
+pub width_found : (es : List (List ℕ × ℕ)) (vs : List Var) (x : List ℕ) (o : Option ℕ) → o ≡ lookup (pointwise nat_eq x) es → vars_of es ≡ vs
+    → unwrap_or o 0 ≡ var_width vs x
+width_found es vs x o h k = ap (λ r. unwrap_or r 0) h ∙ width-lookup es x ∙ ap (λ us. var_width us x) k
+
+any_step : (a : Bool) (w : ℕ) (o : Option ℕ) (b : Bool) → b ≡ is_some o → (a || b) ≡ is_some (cond a (Some w) o)
+any_step true w o b h = refl
+any_step false w o b h = h
+
+any-lookup : (es : List (List ℕ × ℕ)) (x : List ℕ) → list_any (λ (v : Var). bytes_eq x v.name) (vars_of es) ≡ is_some (lookup (pointwise nat_eq x) es)
+any-lookup [] x = refl
+any-lookup (e ∷ es) x = any_step (bytes_eq x e.0) e.1 _ _ (any-lookup es x)
+
+insert_step : (a : Bool) (x : List ℕ) (w : ℕ) (e : List ℕ × ℕ) (es fs : List (List ℕ × ℕ)) (o : Option ℕ) → is_some (cond a (Some e.1) o) ≡ false
+    → (is_some o ≡ false → vars_of fs ≡ vars_of es ++ record { name = x; width = w } ∷ [])
+    → vars_of (if a then (e.0, w) ∷ es else e ∷ fs) ≡ var_of e ∷ (vars_of es ++ record { name = x; width = w } ∷ [])
+insert_step true x w e es fs o h k = cc
+insert_step false x w e es fs o h k = ap (λ vs. var_of e ∷ vs) (k h)
+
+vars_of-insert : (es : List (List ℕ × ℕ)) (x : List ℕ) (w : ℕ) → is_some (lookup (pointwise nat_eq x) es) ≡ false
+    → vars_of (insert_entry (pointwise nat_eq) es x w) ≡ vars_of es ++ record { name = x; width = w } ∷ []
+vars_of-insert [] x w h = refl
+vars_of-insert (e ∷ es) x w h = insert_step (bytes_eq x e.0) x w e es _ _ h (λ k. vars_of-insert es x w k)
+
+-- a variable that is there already
+pub with_variable-there : (es : List (List ℕ × ℕ)) (vs : List Var) (x : List ℕ) (w : ℕ) (o : Option ℕ) → o ≡ lookup (pointwise nat_eq x) es → vars_of es ≡ vs
+    → is_some o ≡ true → vs ≡ with_variable vs x w
+with_variable-there es vs x w o h k s =
+    let known = ap (λ us. list_any (λ (v : Var). bytes_eq x v.name) us) (sym k) ∙ any-lookup es x ∙ ap is_some (sym h) ∙ s in
+    sym (ap (λ b. if b then vs else vs ++ record { name = x; width = w } ∷ []) known)
+
+-- a new one
+pub with_variable-new : (es fs : List (List ℕ × ℕ)) (vs : List Var) (x : List ℕ) (w : ℕ) (o : Option ℕ) → o ≡ lookup (pointwise nat_eq x) es → vars_of es ≡ vs
+    → is_some o ≡ false → fs ≡ insert_entry (pointwise nat_eq) es x w → vars_of fs ≡ with_variable vs x w
+with_variable-new es fs vs x w o h k s i =
+    let missing = ap is_some (sym h) ∙ s in
+    let unknown = ap (λ us. list_any (λ (v : Var). bytes_eq x v.name) us) (sym k) ∙ any-lookup es x ∙ missing in
+    ap vars_of i ∙ vars_of-insert es x w missing ∙ ap (λ us. us ++ record { name = x; width = w } ∷ []) k
+    ∙ sym (ap (λ b. if b then vs else vs ++ record { name = x; width = w } ∷ []) unknown)
+
+-- the variables with those of one place more
+pub variables_next : (ms : List Mem) (xs : List Place) (k : ℕ) (y : Place) (vs ws : List Var) → slice_get xs k ≡ Some y → ws ≡ after_place ms vs y → vs ≡ fold (after_place ms) [] (take k xs)
+    → ws ≡ fold (after_place ms) [] (take (k + 1) xs)
+variables_next ms xs k y vs ws got made h =
+    made ∙ ap (λ us. after_place ms us y) h ∙ sym (fold_push (after_place ms) [] (take k xs) y) ∙ ap (fold (after_place ms) []) (take_next xs k y got)
+
+among_step : (a b : Bool) (w : ℕ) (o p : Option ℕ) → a ≡ b → o ≡ p → cond a (Some w) o ≡ if b then Some w else p
+among_step true true w o p h k = refl
+among_step false false w o p h k = k
+among_step true false w o p h k = cc
+among_step false true w o p h k = cc
+
+among-lookup : (es : List (List ℕ × ℕ)) (x : List ℕ) → lookup (pointwise nat_eq x) es ≡ width_among (vars_of es) x
+among-lookup [] x = refl
+among-lookup (e ∷ es) x = among_step (bytes_eq x e.0) (bytes_eq e.0 x) e.1 _ _ (bytes_swap x e.0) (among-lookup es x)
+
+-- what a look-up gives
+pub found_among : (es : List (List ℕ × ℕ)) (vs : List Var) (x : List ℕ) (o : Option ℕ) → o ≡ lookup (pointwise nat_eq x) es → vars_of es ≡ vs → o ≡ width_among vs x
+found_among es vs x o h k = h ∙ among-lookup es x ∙ ap (λ us. width_among us x) k

@@ -1,0 +1,114 @@
+// The variables of a pipe.
+ghost use Rattle.std.specs.Prelude.{◌≡◌, List, [], OnOk, IfOk, map, fold};
+ghost use Rattle.pdl_semantics.specs.Flatten.{Var, var_width};
+ghost use Rattle.pdl_syntax_tree.specs.View.{mem_view};
+ghost use Rattle.pdl_rules.specs.Widths.{with_variable, after_place};
+ghost use Rattle.pdl_paths.specs.Actions.{place_view};
+ghost use Rattle.pdl_rules_widths.specs.Variables.{vars_of, width_among};
+
+use crate::memories::mem_width;
+use crate::width::width_of;
+use indexmap::IndexMap;
+use pdl_kit::{Name, NoMemory};
+use pdl_paths::{Action, Place};
+use pdl_syntax_tree::Mem;
+use std::alloc::Global;
+use std::marker::Model;
+
+/// Variables, each by its first definition, with its width in bits.
+pub struct Variables {
+    widths: IndexMap<Name, u128>,
+}
+
+// As the derive would, but by a call of its owners: docs/DECISIONS.md says why.
+impl Drop for Variables {
+    fn drop(self) {
+        let Variables { widths: _ } = self;
+    }
+}
+
+impl Model for Variables {
+    ghost use Rattle.std.specs.Prelude.{List};
+    ghost use Rattle.pdl_semantics.specs.Flatten.{Var};
+    ghost use Rattle.pdl_rules_widths.specs.Variables.{vars_of};
+
+    ghost Value = { List Var };
+
+    ghost view = { λ s. vars_of s.widths.entries };
+}
+
+impl Variables {
+    /// No variables yet.
+    pub fn new(alloc: Global) -> Variables
+        ensures { result ≡ [] }
+    {
+        Variables {
+            widths: IndexMap::new(alloc),
+        }
+    }
+
+    /// The variables that these places define, in text order.
+    pub fn of(alloc: Global, mems: &[Mem], places: &[Place<'_>]) -> Result<Variables, NoMemory>
+        ensures { IfOk result (λ vs. vs
+            ≡ fold (after_place (map mem_view mems.now)) [] (map place_view places.now)) }
+    {
+        let mut variables = Variables::new(alloc);
+        for k in 0..places.len() {
+            variables.add(mems, &places[k])?;
+        }
+        Ok(variables)
+    }
+
+    // Adds the variable that a place defines.
+    fn add(&mut self, mems: &[Mem], place: &Place<'_>) -> Result<(), NoMemory>
+        ensures { OnOk result (self.new
+            ≡ after_place (map mem_view mems.now) self.old (place_view place.now)) }
+    {
+        match place.action {
+            Action::Parameter(param) => self.define(&param.name.name, param.width.value as u128),
+            Action::CombRead(x, at) => self.define(&x.name, mem_width(mems, &at.mem.name)),
+            Action::DelayedRead(x, at) => self.define(&x.name, mem_width(mems, &at.mem.name)),
+            Action::Bind(x, e) => {
+                let width = width_of(self, e);
+                self.define(&x.name, width)
+            }
+            Action::Memory(_) | Action::Separator | Action::SpecCall(_, _) => Ok(()),
+            Action::Write(_, _) | Action::Reserve(_, _) | Action::Block(_) => Ok(()),
+            Action::Release(_) | Action::If(_, _, _) | Action::Call(_) => Ok(()),
+            Action::Verify(_, _) | Action::SpecCheck | Action::SpecBarrier => Ok(()),
+            Action::End | Action::StartClause(_) => Ok(()),
+        }
+    }
+
+    // Adds a variable, unless it is there.
+    fn define(&mut self, name: &Name, width: u128) -> Result<(), NoMemory>
+        ensures ok { OnOk result (self.new ≡ with_variable self.old name.now width) }
+    {
+        if self.widths.get(name).is_some() {
+            return Ok(());
+        }
+        let name = name.clone()?;
+        self.widths.insert(name, width)?;
+        Ok(())
+    }
+
+    /// The width of a variable in bits, 0 where there is none of that name.
+    pub fn width(&self, name: &Name) -> u128
+        ensures { result ≡ var_width self.now name.now }
+    {
+        match self.widths.get(name) {
+            Some(width) => *width,
+            None => 0,
+        }
+    }
+
+    /// The width of a variable in bits, none where there is none of that name.
+    pub fn find(&self, name: &Name) -> Option<u128>
+        ensures { result ≡ width_among self.now name.now }
+    {
+        match self.widths.get(name) {
+            Some(width) => Some(*width),
+            None => None,
+        }
+    }
+}

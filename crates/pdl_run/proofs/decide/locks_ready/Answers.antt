@@ -1,5 +1,0 @@
-use Rattle.pdl_form.specs.Whole.{form}
-use Rattle.pdl_run.proofs.decide.locks_ready.Goals as goal
-
-pub returns : goal.returns
-returns c = c.locks_in.ensures (form c.args.pipe.now).pipe c.args.beside.now c.requires.memories c.as_slice.ensures.value

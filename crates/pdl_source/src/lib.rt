@@ -1,0 +1,63 @@
+//! From source texts to the promises: the tree of each text has the two properties that the theorems on accepted pipes take, so they hold of every text that keeps the rules.
+//!
+//! The functions change nothing: each clause is a theorem on every text of the grammar of `pdl_syntax_grammar`.
+#![tactic(auto)]
+
+ghost use Rattle.std.specs.Prelude.{ℕ, Bool, IsTrue, List};
+ghost use Rattle.pdl_semantics.specs.Tree.{Pipe};
+ghost use Rattle.pdl_semantics.specs.Flat.{Arrays};
+ghost use Rattle.pdl_semantics.specs.Flatten.{flat};
+ghost use Rattle.pdl_semantics.specs.Promises.{Refines, Advances, KeepsPace};
+ghost use Rattle.pdl_semantics.specs.Cycle.{first, state_after, turns, ended_in};
+ghost use Rattle.pdl_semantics.specs.Sound.{is_sound};
+ghost use Rattle.pdl_syntax_grammar.specs.Text.{IsText};
+ghost use Rattle.pdl_rules.specs.Refusal.{KeepsRules};
+ghost use Rattle.pdl_theory_derived.specs.Derived;
+ghost use Rattle.pdl_theory_derived.specs.Simulation.{SameTurns};
+ghost use Rattle.pdl_theory_facts.specs.Facts.{Sound};
+ghost use Rattle.pdl_theory_states.specs.Strict.{Strict};
+ghost use Rattle.pdl_source_paths.specs.Source.{is_source, is_named};
+
+/// The tree of a text: no two `if`s on expressions begin at one byte, and no variable has the empty name.
+pub fn trees()
+    ensures source { (text : List ℕ) (p : Pipe) → IsText text p → IsTrue (is_source p) }
+    ensures named { (text : List ℕ) (p : Pipe) → IsText text p → IsTrue (is_named p) }
+{}
+
+/// All facts of the flat form of each text that keeps the rules: those that both theorems take, and what Sound state takes beside them.
+pub fn facts()
+    ensures sound { (text : List ℕ) (p : Pipe) → IsText text p → KeepsRules p → Sound (flat p) }
+    ensures strict { (text : List ℕ) (p : Pipe) → IsText text p → KeepsRules p → Strict (flat p) }
+{
+    trees();
+    pdl_source_paths::sound();
+    pdl_source_strict::strict();
+}
+
+/// The promises of each text that keeps the rules, with guards, any locks, guesses, delayed reads and forks: each run commits what the sequential run writes, the oldest thread moves, enough threads end, and the machine that the proofs use has the same ports and waits.
+pub fn promises()
+    ensures refines { (text : List ℕ) (p : Pipe) → IsText text p → KeepsRules p →
+        (image : Arrays) (schedule : List (List Bool)) → Refines (flat p) image schedule }
+    ensures oldest_moves { (text : List ℕ) (p : Pipe) → IsText text p → KeepsRules p →
+        (image : Arrays) (schedule : List (List Bool)) (bits : List Bool) →
+        Advances (flat p) image schedule bits }
+    ensures keeps_pace { (text : List ℕ) (p : Pipe) → IsText text p → KeepsRules p →
+        (image : Arrays) (schedule : List (List Bool)) → KeepsPace (flat p) image schedule }
+    ensures simulation { (text : List ℕ) (p : Pipe) → IsText text p → KeepsRules p →
+        (image : Arrays) (schedule : List (List Bool)) →
+        SameTurns (flat p) (turns (flat p) image schedule) (Derived.turns (flat p) image schedule) }
+{
+    trees();
+    pdl_source_soundness::accepted();
+}
+
+/// Every state that a run of such a text comes to passes the whole test of Sound state, with as many turns ended as threads.
+pub fn sound_states()
+    ensures { (text : List ℕ) (p : Pipe) → IsText text p → KeepsRules p →
+        (image : Arrays) (schedule : List (List Bool)) →
+        IsTrue (is_sound (flat p) image (ended_in (turns (flat p) image schedule))
+        (state_after (flat p) (first (flat p) image) schedule)) }
+{
+    facts();
+    pdl_theory_states::sound_state();
+}

@@ -1,0 +1,364 @@
+-- What the rules of calls, guesses and releases ask of each site on a path.
+use Rattle.std.proofs.Common.{◌≡◌, refl, sym, ap, ap₂, ◌∙◌, subst, ℕ, suc, ◌+◌, ◌≤◌, ◌<◌, ◌⊎◌, inl, inr, Bool, true, false, ◌&&◌, ◌||◌, not, List, [], ◌∷◌, ◌++◌, length, map, filter, cond, if◌then◌else◌, nat_lt, count_by, Option, Some, None, arith, append_assoc, append-nil, ltb-true, lt-ltb, eq-eqb, ⊎_elim}
+use Rattle.std.proofs.lemmas.Bool.{false≢true, and_parts, and_from, or_parts, or_cases, or_left, or_right, false_from_ne_true, not-false, cases_Bool}
+use Rattle.std.proofs.lemmas.List.Folds.{list_any-append}
+use Rattle.std.proofs.lemmas.List.Sums.{sum_by-append}
+use Rattle.std.specs.List.{list_any}
+use Rattle.pdl_semantics.specs.Tree.{Span, Ident, Expr, Variable, R, W, Stmt, Separator, CombRead, Bind, SpecCall, DelayedRead, Write, Reserve, Block, Release, If, Call, Verify, SpecCheck, SpecBarrier, Param, Mem, Pipe}
+use Rattle.pdl_semantics.specs.Stages
+use Rattle.pdl_kit.specs.declared.rule.Rule.TheVariants.{N3, S2, S4}
+use Rattle.pdl_rules.specs.Places.{Place, Parameter, Memory, Statement, Guard, places, guards, on_path}
+use Rattle.pdl_rules.specs.Parts.{is_some_and, location_of, some_expr_of, some_part}
+use Rattle.pdl_rules.specs.Names.{OfGuess, Use, defines_use, is_given, is_undefined, is_too_early, is_delayed, in_location, in_verify, reads_some}
+use Rattle.pdl_rules.specs.Limits.{is_separator}
+use Rattle.pdl_rules.specs.Calls.{is_call, is_wrong_call}
+use Rattle.pdl_rules.specs.Stages.{stage_of, first_stage, stages_that}
+use Rattle.pdl_rules.specs.Speculation.{is_verify, is_verify_of, verify_stages, is_once_after, is_unverified, releases_unsure, is_before_verify}
+use Rattle.pdl_rules.specs.Speculation
+use Rattle.pdl_rules.specs.Refusal.{KeepsRules}
+use Rattle.pdl_rules.proofs.Once.{any_weaker, counted, count_push, count_cons, count_none, weight}
+use Rattle.pdl_rules.proofs.Defined.{any_split}
+use Rattle.pdl_theory_facts.specs.Scans
+use Rattle.pdl_theory_facts.specs.Certain.{stands_at, stands_before}
+use Rattle.pdl_theory_facts.proofs.Texts.{no_verify}
+use Rattle.pdl_source_stages.proofs.Sites.{Site, sites_of, front_of, place_of, All, stmts_are}
+use Rattle.pdl_source_stages.proofs.Staged.{Staged}
+use Rattle.pdl_semantics.specs.Flatten.{flat}
+use Rattle.pdl_source_paths.proofs.Choices.{path_of, unbroken_on, by_choice}
+use Rattle.pdl_source_paths.proofs.Along
+use Rattle.pdl_source_paths.proofs.Along.{ops}
+use Rattle.pdl_source_paths.proofs.Variables.{Here}
+use Rattle.pdl_source_paths.proofs.Walk.{all_in_text, OnPath, calls_right, text_places}
+use Rattle.pdl_source_paths.proofs.Sited.{first_skip, first_sited, each_sited, some_op, none_sited}
+use Rattle.pdl_source_paths.proofs.Calls.{Asked, guess_calls}
+use Rattle.pdl_source_paths.proofs.Scanning.{AllAsked, AllSure}
+use Rattle.pdl_word.proofs.Bytes.{bytes_same, bytes_refl}
+use Rattle.pdl_rules.proofs.EachPlace.{closing}
+
+-- COUNTS
+
+-- as many stages as places that pass
+count_stages : (test : Place → Bool) (before xs : List Place) → length (stages_that test before xs) ≡ count_by test xs
+count_stages test before [] = refl
+count_stages test before (x ∷ xs) = at (test x) refl (count_stages test (before ++ x ∷ []) xs)
+  where
+    at : (b : Bool) → test x ≡ b → length (stages_that test (before ++ x ∷ []) xs) ≡ count_by test xs
+        → length (if b then stage_of before x ∷ stages_that test (before ++ x ∷ []) xs else stages_that test (before ++ x ∷ []) xs) ≡ count_by test (x ∷ xs)
+    at true e h = let f = count_cons test x xs in let g : weight (test x) ≡ 1 = ap weight e in omega arith
+    at false e h = let f = count_cons test x xs in let g : weight (test x) ≡ 0 = ap weight e in omega arith
+
+count_append : (test : Place → Bool) (xs ys : List Place) → count_by test (xs ++ ys) ≡ count_by test xs + count_by test ys
+count_append test xs ys = sum_by-append (λ x. weight (test x)) xs ys
+
+stages_past : (test : Place → Bool) (before xs ys : List Place) → list_any test xs ≡ false → stages_that test before (xs ++ ys) ≡ stages_that test (before ++ xs) ys
+stages_past test before [] ys h = ap (λ l. stages_that test l ys) (sym (append-nil before))
+stages_past test before (x ∷ xs) ys h =
+    let parts = or_parts (test x) (list_any test xs) h in
+    ap (λ b. if b then stage_of before x ∷ stages_that test (before ++ x ∷ []) (xs ++ ys) else stages_that test (before ++ x ∷ []) (xs ++ ys)) parts.0
+    ∙ stages_past test (before ++ x ∷ []) xs ys parts.1
+    ∙ ap (λ l. stages_that test l ys) (append_assoc before (x ∷ []) xs)
+
+-- a test of the places on a path
+any_on : (f test : Place → Bool) (xs : List Place) → list_any (λ y. f y && test y) xs ≡ list_any test (filter f xs)
+any_on f test [] = refl
+any_on f test (x ∷ xs) = at (f x) (any_on f test xs)
+  where
+    at : (b : Bool) → list_any (λ y. f y && test y) xs ≡ list_any test (filter f xs) → ((b && test x) || list_any (λ y. f y && test y) xs) ≡ list_any test (cond b (x ∷ filter f xs) (filter f xs))
+    at true h = ap (λ b. test x || b) h
+    at false h = h
+
+-- of one call there is one guess
+one_name : (n g : List ℕ) (x : Place) → defines_use (OfGuess n) x ≡ true → defines_use (OfGuess g) x ≡ true → n ≡ g
+one_name n g (Statement (SpecCall _ y _) bs) e f = bytes_same n y.name e ∙ sym (bytes_same g y.name f)
+one_name n g (Statement (Call _ _) bs) e f = absurd (false≢true e)
+one_name n g (Statement (Separator _) bs) e f = absurd (false≢true e)
+one_name n g (Statement (CombRead _ _ _) bs) e f = absurd (false≢true e)
+one_name n g (Statement (Bind _ _ _) bs) e f = absurd (false≢true e)
+one_name n g (Statement (DelayedRead _ _ _) bs) e f = absurd (false≢true e)
+one_name n g (Statement (Write _ _ _) bs) e f = absurd (false≢true e)
+one_name n g (Statement (Reserve _ _ _) bs) e f = absurd (false≢true e)
+one_name n g (Statement (Block _ _) bs) e f = absurd (false≢true e)
+one_name n g (Statement (Release _ _) bs) e f = absurd (false≢true e)
+one_name n g (Statement (If _ _ _ _) bs) e f = absurd (false≢true e)
+one_name n g (Statement (Verify _ _ _) bs) e f = absurd (false≢true e)
+one_name n g (Statement (SpecCheck _) bs) e f = absurd (false≢true e)
+one_name n g (Statement (SpecBarrier _) bs) e f = absurd (false≢true e)
+one_name n g _ e f = absurd (false≢true e)
+
+one_guess : (n g : List ℕ) (xs : List Place) → count_by is_call xs ≤ 1 → list_any (defines_use (OfGuess n)) xs ≡ true → list_any (defines_use (OfGuess g)) xs ≡ true → n ≡ g
+one_guess n g [] few e f = absurd (false≢true e)
+one_guess n g (x ∷ xs) few e f = by (or_cases (defines_use (OfGuess n) x) _ e) (or_cases (defines_use (OfGuess g) x) _ f) (one_guess n g xs fewer)
+  where
+    fewer : count_by is_call xs ≤ 1
+    fewer = let sum = count_cons is_call x xs in omega arith
+
+    more : (l : List ℕ) → is_call x ≡ true → list_any (defines_use (OfGuess l)) xs ≡ true → ⊥
+    more l t u =
+        let one : 1 ≤ count_by is_call xs = counted is_call xs (any_weaker _ _ (guess_calls l) xs u) in
+        let here : weight (is_call x) ≡ 1 = ap weight t in
+        let sum = count_cons is_call x xs in
+        omega arith
+
+    by : (defines_use (OfGuess n) x ≡ true) ⊎ (list_any (defines_use (OfGuess n)) xs ≡ true) → (defines_use (OfGuess g) x ≡ true) ⊎ (list_any (defines_use (OfGuess g)) xs ≡ true) → (list_any (defines_use (OfGuess n)) xs ≡ true → list_any (defines_use (OfGuess g)) xs ≡ true → n ≡ g) → n ≡ g
+    by (inl a) (inl b) r = one_name n g x a b
+    by (inl a) (inr b) r = absurd (more g (guess_calls n x a) b)
+    by (inr a) (inl b) r = absurd (more n (guess_calls g x b) a)
+    by (inr a) (inr b) r = r a b
+
+pub given_any : (u : Use) (xs : List Place) → is_given xs u ≡ true → list_any (defines_use u) xs ≡ true
+given_any u [] e = absurd (false≢true e)
+given_any u (x ∷ xs) e = ⊎_elim (λ a. or_left _ _ (and_parts (defines_use u x) _ a).0) (λ a. or_right (defines_use u x) _ (given_any u xs a)) (or_cases (defines_use u x && (not (is_delayed x) || list_any is_separator xs)) _ e)
+
+-- THE RULES
+
+module _ (p : Pipe) (rules : KeepsRules p) (v : Guard → Bool) (staged : All Staged (sites_of p)) (verify_at : All (λ t. is_verify (place_of t) ≡ true → Stages.verify_stage (flat p).stmts ≡ Some t.walk.stage) (sites_of p)) where
+  abbrev pub c : List Guard
+  c = path_of p v
+
+  abbrev pub o : Option ℕ
+  o = Stages.verify_stage (flat p).stmts
+
+  abbrev pub verified_on : List ℕ → Place → Bool
+  verified_on g y = on_path c y && is_verify_of g y
+
+  none_front : (test : Place → Bool) → ((a : Param) → test (Parameter a) ≡ false) → ((m : Mem) → test (Memory m) ≡ false) → list_any test (front_of p) ≡ false
+  none_front test f g = list_any-append test (map Parameter p.params) (map Memory p.mems) ∙ ap₂ (λ a b. a || b) (of_params p.params) (of_mems p.mems)
+    where
+      of_params : (xs : List Param) → list_any test (map Parameter xs) ≡ false
+      of_params [] = refl
+      of_params (a ∷ xs) = ap₂ (λ a b. a || b) (f a) (of_params xs)
+
+      of_mems : (xs : List Mem) → list_any test (map Memory xs) ≡ false
+      of_mems [] = refl
+      of_mems (m ∷ xs) = ap₂ (λ a b. a || b) (g m) (of_mems xs)
+
+  -- a guess on the path is verified once on it, in V
+  abbrev pub Once : List ℕ → Type 0
+  Once g = count_by (verified_on g) (places p) ≡ 1
+
+  once_of : (s : ℕ) (l : List ℕ) → is_once_after s l ≡ true → (w : ℕ) × (l ≡ w ∷ []) × (s < w)
+  once_of s [] e = absurd (false≢true e)
+  once_of s (w ∷ []) e = (w, refl, ltb-true s w e)
+  once_of s (w ∷ x ∷ l) e = absurd (false≢true e)
+
+  verify_sites : (V : ℕ) (g : List ℕ) → ((t : Site) → o ≡ Some t.walk.stage → t.walk.stage ≡ V) → (ts : List Site) → All (λ t. is_verify (place_of t) ≡ true → o ≡ Some t.walk.stage) ts → All (λ t. verified_on g (place_of t) ≡ true → t.walk.stage ≡ V) ts
+  verify_sites V g f [] h = tt
+  verify_sites V g f (t ∷ ts) h = ((λ e. f t (h.0 (one (place_of t) (and_parts (on_path c (place_of t)) _ e).1))), verify_sites V g f ts h.1)
+    where
+      one : (x : Place) → is_verify_of g x ≡ true → is_verify x ≡ true
+      one (Statement (Verify _ _ _) bs) e = refl
+      one _ e = absurd (false≢true e)
+
+  stages_verified : (g : List ℕ) → verify_stages p c g ≡ stages_that (verified_on g) (front_of p) (map place_of (sites_of p) ++ closing p)
+  stages_verified g =
+      ap (stages_that (verified_on g) []) (text_places p)
+      ∙ stages_past (verified_on g) [] (front_of p) (map place_of (sites_of p) ++ closing p) (none_front (verified_on g) (λ a. refl) (λ m. refl))
+
+  guess_before : (t : Site) → Here p t → Staged t → on_path c (place_of t) ≡ true → (sp : Span) (g : Ident) (args : List Expr) → t.stmt ≡ SpecCall sp g args → (stands_before o t.walk.stage ≡ true) × Once g.name
+  guess_before t h st on sp g args e = (stands, sym (count_stages (verified_on g.name) [] (places p)) ∙ ap length one.1)
+    where
+      right : is_unverified p c t.front (Statement (SpecCall sp g args) t.branches) ≡ false
+      right =
+          let r = by_choice (λ path. on_path path (place_of t) && is_unverified p path t.front (place_of t)) v (guards (places p)) (rules S2 t.front (place_of t) h.later h.whole) in
+          ap (λ s. is_unverified p c t.front (Statement s t.branches)) (sym e) ∙ ap (λ b. b && is_unverified p c t.front (place_of t)) (sym on) ∙ r
+
+      one : (w : ℕ) × (verify_stages p c g.name ≡ w ∷ []) × (t.walk.stage < w)
+      one = once_of t.walk.stage (verify_stages p c g.name) (subst (λ s. is_once_after s (verify_stages p c g.name) ≡ true) st (not-false _ right))
+
+      is_v : (V : ℕ) → ((u : Site) → o ≡ Some u.walk.stage → u.walk.stage ≡ V) → one.0 ≡ V
+      is_v V f =
+          each_sited (verified_on g.name) V (front_of p) (closing p) (sites_of p) (all_in_text p) staged (verify_sites V g.name f (sites_of p) verify_at) (λ front. refl) one.0 []
+          (sym (stages_verified g.name) ∙ one.1)
+
+      by : (x : Option ℕ) → o ≡ x → stands_before x t.walk.stage ≡ true
+      by None i = absurd (let j = is_v (suc one.0) (λ u k. absurd (nothing (sym i ∙ k))) in omega arith)
+        where
+          nothing : {n : ℕ} → None ≡ Some n → ⊥
+          nothing z = cc z
+      by (Some V) i = lt-ltb t.walk.stage V (let j = is_v V (λ u k. sym (some (sym i ∙ k))) in let l = one.2 in omega arith)
+        where
+          some : {n : ℕ} → Some V ≡ Some n → V ≡ n
+          some z = cc z
+
+      stands : stands_before o t.walk.stage ≡ true
+      stands = by o refl
+
+  -- what is known of the calls before a site
+  pub record Called (before : List Place) : Type 0 where
+    pub few : count_by is_call before ≤ 1
+    pub once : (g : List ℕ) → list_any (defines_use (OfGuess g)) before ≡ true → Once g
+
+  called_next : (before : List Place) (t : Site) → Here p t → Staged t → filter (on_path c) t.front ≡ before → on_path c (place_of t) ≡ true → Called before → Called (before ++ place_of t ∷ [])
+  called_next before t h st same on k = record { few = few (is_call (place_of t)) refl; once = λ g e. ⊎_elim (k.once g) (here t.stmt refl g) (any_split (defines_use (OfGuess g)) before (place_of t) e) }
+    where
+      wrong : is_wrong_call before (place_of t) ≡ false
+      wrong = subst (λ l. is_wrong_call l (place_of t) ≡ false) same (calls_right p rules v t.front h.later (place_of t) h.whole on)
+
+      none : (x : Place) → is_call x ≡ true → is_wrong_call before x ≡ list_any is_call before
+      none (Statement (SpecCall _ _ _) bs) e = refl
+      none (Statement (Call _ _) bs) e = refl
+      none _ e = absurd (false≢true e)
+
+      few : (b : Bool) → is_call (place_of t) ≡ b → count_by is_call (before ++ place_of t ∷ []) ≤ 1
+      few true e =
+          let z = count_none is_call before (sym (none (place_of t) e) ∙ wrong) in
+          let w : weight (is_call (place_of t)) ≡ 1 = ap weight e in
+          omega (arith, count_push is_call before (place_of t))
+      few false e =
+          let z : count_by is_call before ≤ 1 = k.few in
+          let w : weight (is_call (place_of t)) ≡ 0 = ap weight e in
+          omega (arith, count_push is_call before (place_of t))
+
+      here : (s : Stmt) → t.stmt ≡ s → (g : List ℕ) → defines_use (OfGuess g) (Statement s t.branches) ≡ true → Once g
+      here (SpecCall sp y args) i g e = subst Once (sym (bytes_same g y.name e)) (guess_before t h st on sp y args i).1
+      here (Separator _) i g e = absurd (false≢true e)
+      here (CombRead _ _ _) i g e = absurd (false≢true e)
+      here (Bind _ _ _) i g e = absurd (false≢true e)
+      here (DelayedRead _ _ _) i g e = absurd (false≢true e)
+      here (Write _ _ _) i g e = absurd (false≢true e)
+      here (Reserve _ _ _) i g e = absurd (false≢true e)
+      here (Block _ _) i g e = absurd (false≢true e)
+      here (Release _ _) i g e = absurd (false≢true e)
+      here (If _ _ _ _) i g e = absurd (false≢true e)
+      here (Call _ _) i g e = absurd (false≢true e)
+      here (Verify _ _ _) i g e = absurd (false≢true e)
+      here (SpecCheck _) i g e = absurd (false≢true e)
+      here (SpecBarrier _) i g e = absurd (false≢true e)
+
+  asked_here : (before : List Place) (t : Site) → Here p t → Staged t → filter (on_path c) t.front ≡ before → on_path c (place_of t) ≡ true → (is_verify (place_of t) ≡ true → o ≡ Some t.walk.stage) → Called before
+      → (s : Stmt) → t.stmt ≡ s → Asked p.mems o before t.branches t.walk.vars t.walk.stage s
+  asked_here before t h st same on at k (Call sp args) e =
+      ap (λ x. is_wrong_call before (Statement x t.branches)) (sym e) ∙ subst (λ l. is_wrong_call l (place_of t) ≡ false) same (calls_right p rules v t.front h.later (place_of t) h.whole on)
+  asked_here before t h st same on at k (SpecCall sp g args) e = (
+    ap (λ x. is_wrong_call before (Statement x t.branches)) (sym e) ∙ subst (λ l. is_wrong_call l (place_of t) ≡ false) same (calls_right p rules v t.front h.later (place_of t) h.whole on),
+    (guess_before t h st on sp g args e).0,
+  )
+  asked_here before t h st same on at k (Verify sp g args) e = (there, (λ n d. one_guess n g.name before k.few d there), unverified, ap (λ x. stands_at x t.walk.stage) is_v ∙ eq-eqb t.walk.stage t.walk.stage refl)
+    where
+      early : Use → Bool
+      early = is_too_early p t.front (place_of t)
+
+      used : early (OfGuess g.name) ≡ false
+      used =
+          sym (ap (in_verify early) e)
+          ∙ (or_parts (in_verify early t.stmt) (some_expr_of (some_part (reads_some early)) t.stmt) (or_parts (is_some_and (in_location early) (location_of t.stmt)) _ (rules N3 t.front (place_of t) h.later h.whole)).1).0
+
+      given : is_given before (OfGuess g.name) ≡ true
+      given =
+          subst (λ l. is_given l (OfGuess g.name) ≡ true) same
+          (not-false _ (unbroken_on (λ earlier. not (is_given earlier (OfGuess g.name))) p v t.front (place_of t) (or_parts (is_undefined t.front (OfGuess g.name)) _ used).1 on))
+
+      there : list_any (defines_use (OfGuess g.name)) before ≡ true
+      there = given_any (OfGuess g.name) before given
+
+      is_v : o ≡ Some t.walk.stage
+      is_v = at (ap (λ x. is_verify (Statement x t.branches)) e)
+
+      here : verified_on g.name (place_of t) ≡ true
+      here = and_from _ _ on (ap (λ x. is_verify_of g.name (Statement x t.branches)) e ∙ bytes_refl g.name)
+
+      unverified : list_any (is_verify_of g.name) before ≡ false
+      unverified = ap (list_any (is_verify_of g.name)) (sym same) ∙ sym (any_on (on_path c) (is_verify_of g.name) t.front) ∙ false_from_ne_true _ (λ u. absurd (twice u))
+        where
+          twice : list_any (verified_on g.name) t.front ≡ true → ⊥
+          twice u =
+              let one : count_by (verified_on g.name) (places p) ≡ 1 = k.once g.name there in
+              let more = counted (verified_on g.name) t.front u in
+              let w : weight (verified_on g.name (place_of t)) ≡ 1 = ap weight here in
+              let sum = ap (count_by (verified_on g.name)) h.whole ∙ count_append (verified_on g.name) t.front (place_of t ∷ h.later) in
+              let rest = count_cons (verified_on g.name) (place_of t) h.later in
+              omega arith
+  asked_here before t h st same on at k (Separator sp) e = tt
+  asked_here before t h st same on at k (CombRead sp x l) e = tt
+  asked_here before t h st same on at k (Bind sp x l) e = tt
+  asked_here before t h st same on at k (DelayedRead sp x l) e = tt
+  asked_here before t h st same on at k (Write sp l x) e = tt
+  asked_here before t h st same on at k (Reserve sp l x) e = tt
+  asked_here before t h st same on at k (Block sp l) e = tt
+  asked_here before t h st same on at k (Release sp l) e = tt
+  asked_here before t h st same on at k (If sp x a b) e = tt
+  asked_here before t h st same on at k (SpecCheck sp) e = tt
+  asked_here before t h st same on at k (SpecBarrier sp) e = tt
+
+  -- ALONG THE PATH
+
+  -- what is known of each site of the text
+  pub record Told (t : Site) : Type 0 where
+    pub here : Here p t
+    pub stage : Staged t
+    pub verify : is_verify (place_of t) ≡ true → o ≡ Some t.walk.stage
+
+  pub all_asked : (before : List Place) (ts : List Site) → OnPath c before ts → All Told ts → Called before → AllAsked p o before ts × Called (before ++ map place_of ts)
+  all_asked before [] on h k = (tt, subst Called (sym (append-nil before)) k)
+  all_asked before (t ∷ ts) on h k =
+      let next = called_next before t h.0.here h.0.stage on.0 on.1 k in
+      let rest = all_asked (before ++ place_of t ∷ []) ts on.2 h.1 next in
+      ((asked_here before t h.0.here h.0.stage on.0 on.1 h.0.verify k t.stmt refl, rest.0), subst Called (append_assoc before (place_of t ∷ []) (map place_of ts)) rest.1)
+
+  -- at the end each guess is verified on the path
+  pub verified_end : (before : List Place) → filter (on_path c) (places p) ≡ before ++ closing p → Called before → (g : List ℕ) → list_any (defines_use (OfGuess g)) before ≡ true → list_any (is_verify_of g) before ≡ true
+  verified_end before e k g d =
+      ⊎_elim (λ a. a) (λ a. absurd (false≢true a))
+      (or_cases (list_any (is_verify_of g) before) (list_any (is_verify_of g) (closing p)) (sym (list_any-append (is_verify_of g) before (closing p)) ∙ ap (list_any (is_verify_of g)) (sym e) ∙ sym (any_on (on_path c) (is_verify_of g) (places p)) ∙ some (k.once g d)))
+    where
+      some : count_by (verified_on g) (places p) ≡ 1 → list_any (verified_on g) (places p) ≡ true
+      some f = ⊎_elim (λ a. a) (λ a. absurd (let z = count_none (verified_on g) (places p) a in omega arith)) (cases_Bool (list_any (verified_on g) (places p)))
+
+  -- RELEASES
+
+  -- V of the flat form is V of the rules
+  before_verify : (s : ℕ) → stands_before o s ≡ true → is_before_verify p s ≡ true
+  before_verify s e = by o refl e
+    where
+      by : (x : Option ℕ) → o ≡ x → stands_before x s ≡ true → is_before_verify p s ≡ true
+      by None i f = absurd (false≢true f)
+      by (Some V) i f = ap (is_some_and (λ k. nat_lt s k)) (found (first_sited is_verify V (front_of p) (closing p) (sites_of p) (all_in_text p) staged (in_v (sites_of p) verify_at) (λ front. refl))) ∙ f
+        where
+          same : {n : ℕ} → Some V ≡ Some n → n ≡ V
+          same z = cc z
+
+          in_v : (ts : List Site) → All (λ t. is_verify (place_of t) ≡ true → o ≡ Some t.walk.stage) ts → All (λ t. is_verify (place_of t) ≡ true → t.walk.stage ≡ V) ts
+          in_v [] h = tt
+          in_v (t ∷ ts) h = ((λ k. same (sym i ∙ h.0 k)), in_v ts h.1)
+
+          skip : Speculation.verify_stage p ≡ first_stage is_verify (front_of p) (map place_of (sites_of p) ++ closing p)
+          skip = ap (first_stage is_verify []) (text_places p) ∙ first_skip is_verify [] (front_of p) (map place_of (sites_of p) ++ closing p) (none_front is_verify (λ a. refl) (λ m. refl))
+
+          unverified : (ts : List Site) → list_any is_verify (map place_of ts) ≡ false → All (λ t. some_op Stages.is_verify (ops p.mems t) ≡ false) ts
+          unverified [] h = tt
+          unverified (t ∷ ts) h = let parts = or_parts (is_verify (place_of t)) (list_any is_verify (map place_of ts)) h in (none t t.stmt refl parts.0, unverified ts parts.1)
+            where
+              none : (u : Site) (x : Stmt) → u.stmt ≡ x → is_verify (place_of u) ≡ false → some_op Stages.is_verify (ops p.mems u) ≡ false
+              none u x j h = ap (λ y. some_op Stages.is_verify (Along.ops_of p.mems u.walk.vars y)) j ∙ of_stmt x (sym (ap (λ y. is_verify (Statement y u.branches)) j) ∙ h)
+                where
+                  of_if : (d : Expr) → some_op Stages.is_verify (Along.if_ops u.walk.vars d) ≡ false
+                  of_if (Variable y) = refl
+                  of_if _ = refl
+
+                  of_stmt : (y : Stmt) → is_verify (Statement y u.branches) ≡ false → some_op Stages.is_verify (Along.ops_of p.mems u.walk.vars y) ≡ false
+                  of_stmt (Verify sp g args) k = absurd (false≢true (sym k))
+                  of_stmt (If sp d a b) k = of_if d
+                  of_stmt (Reserve sp l R) k = refl
+                  of_stmt (Reserve sp l W) k = refl
+                  of_stmt _ k = refl
+
+          found : ((first_stage is_verify (front_of p) (map place_of (sites_of p) ++ closing p) ≡ None) × (list_any is_verify (map place_of (sites_of p)) ≡ false)) ⊎ (first_stage is_verify (front_of p) (map place_of (sites_of p) ++ closing p) ≡ Some V) → Speculation.verify_stage p ≡ Some V
+          found (inl r) = absurd (clash (sym (no_verify (flat p).stmts (ap (Scans.none_of Stages.is_verify) (stmts_are p) ∙ none_sited Stages.is_verify p.mems (sites_of p) (unverified (sites_of p) r.1))) ∙ i))
+            where
+              clash : None ≡ Some V → ⊥
+              clash z = cc z
+          found (inr r) = skip ∙ r
+
+  pub all_sure : (before : List Place) (ts : List Site) → OnPath c before ts → All Told ts → AllSure o before ts
+  all_sure before [] on h = tt
+  all_sure before (t ∷ ts) on h = (sure, all_sure (before ++ place_of t ∷ []) ts on.2 h.1)
+    where
+      other : (a b : Bool) → a ≡ true → (a && b) ≡ false → b ≡ false
+      other true b f g = g
+      other false b f g = absurd (false≢true f)
+
+      sure : stands_before o t.walk.stage ≡ true → releases_unsure before (place_of t) ≡ false
+      sure e =
+          subst (λ l. releases_unsure l (place_of t) ≡ false) on.0
+          (unbroken_on (λ earlier. releases_unsure earlier (place_of t)) p v t.front (place_of t)
+          (other (is_before_verify p (stage_of t.front (place_of t))) _ (ap (is_before_verify p) h.0.stage ∙ before_verify t.walk.stage e) (rules S4 t.front (place_of t) h.0.here.later h.0.here.whole)) on.1)

@@ -1,0 +1,5 @@
+use Rattle.pdl_source_paths.proofs.Whole.{of_source}
+use Rattle.pdl_source_paths.proofs.sound.Goals as goal
+
+pub returns : goal.returns
+returns c = of_source

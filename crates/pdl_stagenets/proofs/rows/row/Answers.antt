@@ -1,5 +1,0 @@
-use Rattle.pdl_stagenets.proofs.OneByOne.{row_view}
-use Rattle.pdl_stagenets.proofs.rows.row.Goals as goal
-
-pub returns : goal.returns
-returns c = row_view c.args.stmts.now c.args.i _ c.requires c.index-stmts-i.is

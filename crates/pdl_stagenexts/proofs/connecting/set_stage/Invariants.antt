@@ -1,6 +1,0 @@
-use Rattle.pdl_stagenexts.proofs.Setting.{SetSoFar}
-use Rattle.pdl_stagenexts.proofs.connecting.set_stage.Given as goal
-
--- the first registers are told
-abbrev pub invariant-loop-i : goal.invariant-loop-i
-invariant-loop-i l = SetSoFar l.fn.b l.b l.s l.nets l.i

@@ -1,7 +1,0 @@
-use Rattle.std.proofs.Common.{◌≡◌, drop}
-use Rattle.pdl_stageregs.specs.Begun.{is_listed}
-use Rattle.pdl_stageregs.proofs.helds.is_listed.Given as goal
-
--- none before is
-abbrev pub invariant-loop-h : goal.invariant-loop-h
-invariant-loop-h l = is_listed (drop l.h-index l.held) l.mem l.var ≡ is_listed l.held l.mem l.var

@@ -1,7 +1,0 @@
-use Rattle.std.proofs.Common.{◌≡◌, map, take}
-use Rattle.pdl_stageregs.specs.Begun.{ticket_net}
-use Rattle.pdl_stageregs.proofs.tickets.next_tickets.Given as goal
-
--- the first locks' tickets
-abbrev pub invariant-loop-lock : goal.invariant-loop-lock
-invariant-loop-lock g l = l.nets ≡ map (ticket_net l.none) (take l.lock-index l.locks)

@@ -1,0 +1,10 @@
+-- Forks of the program.
+use Rattle.std.specs.Prelude.{List, map}
+use Rattle.pdl_stages.specs.declared.fork.Fork as r_fork
+use Rattle.pdl_stages.specs.Graph.{Fork}
+
+abbrev pub fork_view : r_fork.Fork → Fork
+fork_view f = record { stage = f.stage; merge = f.merge }
+
+abbrev pub forks_view : List r_fork.Fork → List Fork
+forks_view fs = map fork_view fs

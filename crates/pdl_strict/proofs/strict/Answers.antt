@@ -1,5 +1,0 @@
-use Rattle.pdl_strict.proofs.Paths.{paths_strict}
-use Rattle.pdl_strict.proofs.strict.Goals as goal
-
-pub returns : goal.returns
-returns c = paths_strict

@@ -1,0 +1,10 @@
+use Rattle.std.proofs.Common.{◌≡◌, ◌-◌, map}
+use Rattle.pdl_syntax_tokens.specs.declared.token.Mark.TheVariants as mark
+use Rattle.pdl_syntax_grammar.specs.Read.{after}
+use Rattle.pdl_syntax_grammar.specs.Reading as spec
+use Rattle.pdl_syntax_tree.specs.View.{expr_view}
+use Rattle.pdl_syntax_grammar.proofs.expression.args.Given as goal
+
+-- what is read and what is to come are the whole
+abbrev pub invariant-loop-turn : goal.invariant-loop-turn
+invariant-loop-turn l = after (map expr_view l.done) (spec.list_of (spec.expr l.room) mark.CloseRound (l.room - l._turn) l.tokens) ≡ spec.args l.room l.fn.tokens

@@ -1,0 +1,48 @@
+-- Registers that drive a lock: they are there, with the widths of what they drive.
+use Rattle.std.specs.Prelude.{◌≡◌, ℕ}
+use Rattle.pdl_net.specs.declared.Net.TheVariants.{Reg}
+use Rattle.pdl_net.specs.Circuit.{Circuit}
+use Rattle.pdl_net.specs.Meaning.{IsThere, signal}
+use Rattle.pdl_lockapi.specs.declared.Kind.TheVariants.{W}
+use Rattle.pdl_lockapi.specs.declared.ReservePort.{ReservePort}
+use Rattle.pdl_lockapi.specs.declared.TicketWrite.{TicketWrite}
+use Rattle.pdl_tests_of_parts.specs.declared.drives.LookDrive.{LookDrive}
+use Rattle.pdl_tests_of_parts.specs.declared.drives.ReserveDrive.{ReserveDrive}
+use Rattle.pdl_tests_of_parts.specs.declared.drives.WriteDrive.{WriteDrive}
+use Rattle.pdl_tests_of_parts.specs.declared.drives.EndDrive.{EndDrive}
+use Rattle.pdl_tests_of_parts.specs.declared.drives.PortDrive.{PortDrive}
+
+-- a register of this width
+pub record Drives (c : Circuit) (width r : ℕ) : Type 0 where
+  pub there : IsThere c (Reg r)
+  pub wide : (signal c (Reg r)).width ≡ width
+
+pub record IsLook (c : Circuit) (bits tickets : ℕ) (d : LookDrive) : Type 0 where
+  pub addr : Drives c bits d.addr
+  pub ticket : Drives c tickets d.ticket
+
+pub record IsReserve (c : Circuit) (bits : ℕ) (d : ReserveDrive) : Type 0 where
+  pub enable : Drives c 1 d.enable
+  pub addr : Drives c bits d.addr
+
+pub record IsWrite (c : Circuit) (tickets width : ℕ) (d : WriteDrive) : Type 0 where
+  pub enable : Drives c 1 d.enable
+  pub ticket : Drives c tickets d.ticket
+  pub value : Drives c width d.value
+
+pub record IsEnd (c : Circuit) (tickets : ℕ) (d : EndDrive) : Type 0 where
+  pub release : Drives c 1 d.release
+  pub squash : Drives c 1 d.squash
+  pub tail : Drives c tickets d.tail
+
+pub record AreDrivers (c : Circuit) (bits width tickets : ℕ) (d : PortDrive) : Type 0 where
+  pub reserve : IsReserve c bits d.reserve
+  pub write : IsWrite c tickets width d.write
+  pub end : IsEnd c tickets d.end
+
+-- the ports that they drive
+abbrev pub reserve_of : ReserveDrive → ReservePort
+reserve_of d = record { enable = Reg d.enable; kind = W; addr = Reg d.addr }
+
+abbrev pub write_of : WriteDrive → TicketWrite
+write_of d = record { enable = Reg d.enable; ticket = Reg d.ticket; value = Reg d.value }

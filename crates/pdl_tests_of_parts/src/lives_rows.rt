@@ -1,0 +1,64 @@
+// What a thread still needs.
+ghost use Rattle.std.specs.Prelude.{◌≡◌, length, IfOk};
+ghost use Rattle.pdl_form.specs.Whole.{form};
+
+use crate::form_rows::{memory, statements};
+use pdl_form::{FlatPipe, Next, Stage};
+use pdl_kit::NoMemory;
+use pdl_pipe_lives::{held_from, keeps_ticket, lives_from};
+use std::alloc::Global;
+use std::mem::drop;
+
+const STAGES: [Stage; 2] = [
+    Stage {
+        next: Next::Goes(1),
+        branch: None,
+        merges: None,
+    },
+    Stage {
+        next: Next::Ends,
+        branch: None,
+        merges: None,
+    },
+];
+
+// Two stages: a reserve in the first, its write and its release in the second.
+fn writer(alloc: Global) -> Result<FlatPipe, NoMemory>
+    ensures mems { IfOk result (λ f. length (form f).pipe.mems ≡ 1) }
+    ensures stages { IfOk result (λ f. length (form f).pipe.stages ≡ 2) }
+    ensures reserves { IfOk result (λ f. length (form f).pipe.reserves_at ≡ 1) }
+    ensures releases { IfOk result (λ f. length (form f).pipe.releases_at ≡ 1) }
+{
+    let widths = Vec::from_slice(alloc, &[3])?;
+    let start = Vec::from_slice(alloc, &[5])?;
+    let stages = Vec::from_slice(alloc, &STAGES)?;
+    let stmts = statements(alloc, 1)?;
+    let mut mems = Vec::new(alloc);
+    mems.push(memory(alloc)?)?;
+    FlatPipe::new(alloc, widths, mems, stmts, stages, start)
+}
+
+// Whether the address is needed in each stage, whether its lock is held in the second, and whether each keeps its ticket.
+fn needed(flat: &FlatPipe) -> [bool; 5]
+    requires mems { length (form flat.now).pipe.mems ≡ 1 }
+    requires stages { length (form flat.now).pipe.stages ≡ 2 }
+    requires reserves { length (form flat.now).pipe.reserves_at ≡ 1 }
+    requires releases { length (form flat.now).pipe.releases_at ≡ 1 }
+{
+    [
+        lives_from(flat, 0, 0),
+        lives_from(flat, 1, 0),
+        held_from(flat, 1, 0, 0),
+        keeps_ticket(flat, 0, 0),
+        keeps_ticket(flat, 1, 0),
+    ]
+}
+
+#[test]
+fn needs(rt: HostRuntime) -> Result<(), NoMemory> {
+    let flat = writer(rt.alloc())?;
+    let needed = needed(&flat);
+    drop(flat);
+    assert!(rt; needed == [true, false, true, false, true]);
+    Ok(())
+}

@@ -1,6 +1,0 @@
--- The refusal that a broken rule stands for.
-use Rattle.pdl_rules.specs.Refusal.{Refused}
-use Rattle.pdl_textrules.specs.declared.broken.Broken.{Broken}
-
-abbrev pub refused_of : Broken → Refused
-refused_of b = record { rule = b.rule; line = b.line }

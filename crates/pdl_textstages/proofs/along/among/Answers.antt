@@ -1,5 +1,0 @@
-use Rattle.pdl_textstages.proofs.Bits.{among_path}
-use Rattle.pdl_textstages.proofs.along.among.Goals as goal
-
-pub returns : goal.returns
-returns c gs e = among_path gs c.args.path.bits c.args.all.bits e

@@ -1,6 +1,0 @@
--- proofs/whole_language/Answers.antt
-use Rattle.pdl_theorems.proofs.Stated.{whole_refines, whole_advances, whole_paces}
-use Rattle.pdl_theorems.proofs.whole_language.Goals as goal
-
-pub returns : goal.returns
-returns c = record { refines = whole_refines; oldest_moves = whole_advances; keeps_pace = whole_paces }

@@ -1,0 +1,106 @@
+-- Written pipes pass the tests of the whole language.
+use Rattle.std.proofs.Common.{◌≡◌, refl, Bool, true, false, List, [], ◌∷◌, None}
+use Rattle.pdl_semantics.specs.Tree
+use Rattle.pdl_semantics.specs.Flatten.{flat}
+use Rattle.pdl_semantics.proofs.Pipes.{one_stage, shared_guard, count_queue, guess, far_barrier, copy, copy_guessed, count_slow, two_branches, one_branch, forked, everything, dead_read}
+use Rattle.pdl_semantics.proofs.Texts.{number, constant, variable, slice, plus, separator, bind, delayed_read, call, spec_barrier, if_else, slow, pipe}
+use Rattle.pdl_semantics.specs.Flat.{Arrays, Pipe}
+use Rattle.pdl_theory_derived.specs.Alone.{Refines, Advances, KeepsPace}
+use Rattle.pdl_theory_facts.specs.SoundChecks.{passes_tests}
+use Rattle.pdl_theory_turns.proofs.Courses.{Course}
+use Rattle.pdl_theory_turns.proofs.CourseOf.{course}
+use Rattle.pdl_theory_refinement.proofs.Follows.{refines, advances}
+use Rattle.pdl_theory_progress.proofs.Rates.{keeps_pace}
+use Rattle.pdl_theory_progress.proofs.Sounded.{sounded}
+use Rattle.pdl_theory.proofs.Stated.{whole_refines, whole_advances, whole_paces}
+use Rattle.pdl_semantics.specs.Promises
+
+one_stage_sounds : passes_tests (flat one_stage) ≡ true
+one_stage_sounds = refl
+
+guards_sound : passes_tests (flat shared_guard) ≡ true
+guards_sound = refl
+
+queue_sounds : passes_tests (flat (count_queue 1)) ≡ true
+queue_sounds = refl
+
+guess_sounds : passes_tests (flat (guess 3)) ≡ true
+guess_sounds = refl
+
+far_barrier_sounds : passes_tests (flat far_barrier) ≡ true
+far_barrier_sounds = refl
+
+copy_sounds : passes_tests (flat copy) ≡ true
+copy_sounds = refl
+
+copy_guessed_sounds : passes_tests (flat copy_guessed) ≡ true
+copy_guessed_sounds = refl
+
+count_slow_sounds : passes_tests (flat count_slow) ≡ true
+count_slow_sounds = refl
+
+two_branches_sound : passes_tests (flat two_branches) ≡ true
+two_branches_sound = refl
+
+-- a second branch with statements in the fork's stage, which stand in the text behind later stages
+fork_text_sounds : passes_tests (flat (forked (separator ∷ separator ∷ []) (bind "w" (variable "n") ∷ separator ∷ []))) ≡ true
+fork_text_sounds = refl
+
+one_branch_sounds : passes_tests (flat one_branch) ≡ true
+one_branch_sounds = refl
+
+everything_sounds : passes_tests (flat everything) ≡ true
+everything_sounds = refl
+
+dead_read_sounds : passes_tests (flat dead_read) ≡ true
+dead_read_sounds = refl
+
+-- a delayed read before a fork, whose first branch has an `if` on it in a stage that the second passes over
+abbrev pub passed_by : Tree.Pipe
+passed_by =
+    pipe 2 (record (slow "d" 4 None) { width = number 1 } ∷ [])
+    (bind "g" (slice "n" 0 0) ∷ delayed_read "x" "d" "n" ∷ call (plus (variable "n") (constant 2 1))
+    ∷ if_else (variable "g") (separator ∷ if_else (variable "x") (bind "y" (constant 1 1) ∷ []) [] ∷ []) (separator ∷ separator ∷ []) ∷ separator ∷ [])
+
+passed_by_sounds : passes_tests (flat passed_by) ≡ true
+passed_by_sounds = refl
+
+-- an `if` on a delayed read in its stage breaks a rule
+early_guard_fails : passes_tests (flat (pipe 2 (record (slow "d" 4 None) { width = number 1 } ∷ []) (delayed_read "x" "d" "n" ∷ call (plus (variable "n") (constant 2 1)) ∷ if_else (variable "x") (bind "y" (constant 1 1) ∷ []) [] ∷ separator ∷ []))) ≡ false
+early_guard_fails = refl
+
+-- a barrier in a branch breaks a rule
+branch_barrier_fails : passes_tests (flat (forked (separator ∷ spec_barrier ∷ separator ∷ []) [])) ≡ false
+branch_barrier_fails = refl
+
+-- so both theorems hold of them with no premise left
+abbrev whole : (p : Pipe) → passes_tests p ≡ true → Course p
+whole p h = course p (sounded p h)
+
+copy_guessed_refines : (image : Arrays) (schedule : List (List Bool)) → Refines (flat copy_guessed) image schedule
+copy_guessed_refines = refines (flat copy_guessed) (whole (flat copy_guessed) copy_guessed_sounds)
+
+branches_refine : (image : Arrays) (schedule : List (List Bool)) → Refines (flat two_branches) image schedule
+branches_refine = refines (flat two_branches) (whole (flat two_branches) two_branches_sound)
+
+slow_advances : (image : Arrays) (schedule : List (List Bool)) (bits : List Bool) → Advances (flat count_slow) image schedule bits
+slow_advances = advances (flat count_slow) (whole (flat count_slow) count_slow_sounds)
+
+branches_keep_pace : (image : Arrays) (schedule : List (List Bool)) → KeepsPace (flat one_branch) image schedule
+branches_keep_pace = keeps_pace (flat one_branch) (sounded (flat one_branch) one_branch_sounds)
+
+-- and of the stated machine
+stated_guesses_refine : (image : Arrays) (schedule : List (List Bool)) → Promises.Refines (flat copy_guessed) image schedule
+stated_guesses_refine = whole_refines (flat copy_guessed) (sounded (flat copy_guessed) copy_guessed_sounds)
+
+stated_branches_refine : (image : Arrays) (schedule : List (List Bool)) → Promises.Refines (flat two_branches) image schedule
+stated_branches_refine = whole_refines (flat two_branches) (sounded (flat two_branches) two_branches_sound)
+
+stated_slow_advances : (image : Arrays) (schedule : List (List Bool)) (bits : List Bool) → Promises.Advances (flat count_slow) image schedule bits
+stated_slow_advances = whole_advances (flat count_slow) (sounded (flat count_slow) count_slow_sounds)
+
+stated_branches_keep_pace : (image : Arrays) (schedule : List (List Bool)) → Promises.KeepsPace (flat one_branch) image schedule
+stated_branches_keep_pace = whole_paces (flat one_branch) (sounded (flat one_branch) one_branch_sounds)
+
+stated_everything_refines : (image : Arrays) (schedule : List (List Bool)) → Promises.Refines (flat everything) image schedule
+stated_everything_refines = whole_refines (flat everything) (sounded (flat everything) everything_sounds)

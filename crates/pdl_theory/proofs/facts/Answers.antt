@@ -1,0 +1,6 @@
+-- proofs/facts/Answers.antt
+use Rattle.pdl_theory_progress.proofs.Sounded.{sounded}
+use Rattle.pdl_theory.proofs.facts.Goals as goal
+
+pub returns : goal.returns
+returns c = sounded

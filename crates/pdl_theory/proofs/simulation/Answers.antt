@@ -1,0 +1,6 @@
+-- proofs/simulation/Answers.antt
+use Rattle.pdl_theory.proofs.Stated.{whole_same}
+use Rattle.pdl_theory.proofs.simulation.Goals as goal
+
+pub returns : goal.returns
+returns c = whole_same

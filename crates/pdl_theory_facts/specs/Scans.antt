@@ -1,0 +1,180 @@
+-- Scans over the statements of one path, and over a text, that tell whether locks and values are used as the rules of the language say.
+use Rattle.std.specs.Prelude.{ℕ, Bool, true, false, ◌&&◌, ◌||◌, not, List, [], ◌∷◌, if◌then◌else◌, ◌==◌, nat_le}
+use Rattle.pdl_semantics.specs.Flat.{Op, Bind, CombRead, DelayedRead, Write, ReserveRead, ReserveWrite, Block, Release, Call, SpecCall, Verify, SpecCheck, SpecBarrier, Stmt, Guard, Pipe}
+use Rattle.pdl_semantics.specs.Forms.{on_binding}
+use Rattle.pdl_semantics.specs.Stages.{mem_at, commit_stage, reserve_stage}
+pub use Rattle.pdl_semantics.specs.Locks.{is_plain}
+use Rattle.pdl_theory_derived.specs.Alone.{Location}
+use Rattle.pdl_semantics.specs.Sound.{is_call}
+
+abbrev pub no_guards : List Guard → Bool
+no_guards [] = true
+no_guards (g ∷ gs) = false
+
+-- whether a variable is the address of one of these locations, and whether this location is among them
+abbrev pub is_address : List Location → ℕ → Bool
+is_address [] x = false
+is_address (l ∷ ls) x = (l.var == x) || is_address ls x
+
+abbrev pub has_location : List Location → ℕ → ℕ → Bool
+has_location [] m a = false
+has_location (l ∷ ls) m a = ((l.mem == m) && (l.var == a)) || has_location ls m a
+
+-- the locations that were reserved for writing, and those that were blocked for reading
+pub record Scan : Type 0 where
+  pub held : List Location
+  pub blocked : List Location
+
+abbrev pub no_scan : Scan
+no_scan = record { held = []; blocked = [] }
+
+abbrev pub location : ℕ → ℕ → Location
+location m a = record { mem = m; var = a }
+
+abbrev pub scan_after : Op → Scan → Scan
+scan_after (Block m a) c = if has_location c.held m a then c else record { held = c.held; blocked = location m a ∷ c.blocked }
+scan_after (ReserveWrite m a) c = record { held = location m a ∷ c.held; blocked = c.blocked }
+scan_after (Bind x e) c = c
+scan_after (CombRead x m a) c = c
+scan_after (DelayedRead x m a) c = c
+scan_after (Write m a e) c = c
+scan_after (ReserveRead m a) c = c
+scan_after (Release m a) c = c
+scan_after (Call args) c = c
+scan_after (SpecCall args) c = c
+scan_after (Verify args) c = c
+scan_after SpecCheck c = c
+scan_after SpecBarrier c = c
+
+abbrev pub scan_after_all : List Stmt → Scan → Scan
+scan_after_all [] c = c
+scan_after_all (x ∷ xs) c = scan_after_all xs (scan_after x.op c)
+
+-- a statement of stage s after such statements: a variable that is the address of a blocked read is not bound again, a block stands no earlier than the reserves, and a read of a lock is blocked for reading and stands no later than the releases
+abbrev pub op_ok : Pipe → ℕ → Scan → Op → Bool
+op_ok p s c (Bind x e) = not (is_address c.blocked x)
+op_ok p s c (CombRead x m a) =
+    not (is_address c.blocked x) && (is_plain (mem_at p m).lock || (has_location c.blocked m a && nat_le s (commit_stage p m)))
+op_ok p s c (Block m a) = nat_le (reserve_stage p m) s
+op_ok p s c (DelayedRead x m a) = false
+op_ok p s c (Write m a e) = true
+op_ok p s c (ReserveRead m a) = true
+op_ok p s c (ReserveWrite m a) = true
+op_ok p s c (Release m a) = true
+op_ok p s c (Call args) = true
+op_ok p s c (SpecCall args) = true
+op_ok p s c (Verify args) = true
+op_ok p s c SpecCheck = true
+op_ok p s c SpecBarrier = true
+
+abbrev pub reads_ok : Pipe → Scan → List Stmt → Bool
+reads_ok p c [] = true
+reads_ok p c (x ∷ xs) = (no_guards x.guards && op_ok p x.stage c x.op) && reads_ok p (scan_after x.op c) xs
+
+-- each statement of memory m's kind stands in this stage
+abbrev pub all_at : (Op → Bool) → ℕ → List Stmt → Bool
+all_at test s [] = true
+all_at test s (x ∷ xs) = (not (test x.op) || (x.stage == s)) && all_at test s xs
+
+abbrev pub none_of : (Op → Bool) → List Stmt → Bool
+none_of test [] = true
+none_of test (x ∷ xs) = not (test x.op) && none_of test xs
+
+-- how far a thread is with its write to a memory; x is the location's variable
+pub data Phase : Type 0 where
+  Fresh : Phase
+  Held : (x : ℕ) → Phase
+  Written : (x : ℕ) → Phase
+  Done : Phase
+
+abbrev pub after_release : Phase → ℕ → Phase
+after_release Fresh a = Fresh
+after_release (Held x) a = Held x
+after_release (Written x) a = if x == a then Done else Written x
+after_release Done a = Done
+
+abbrev pub next_phase : ℕ → Phase → Op → Phase
+next_phase m ph (ReserveWrite n a) = if n == m then Held a else ph
+next_phase m ph (Write n a e) = if n == m then Written a else ph
+next_phase m ph (Release n a) = if n == m then after_release ph a else ph
+next_phase m ph (Bind x e) = ph
+next_phase m ph (CombRead x n a) = ph
+next_phase m ph (DelayedRead x n a) = ph
+next_phase m ph (ReserveRead n a) = ph
+next_phase m ph (Block n a) = ph
+next_phase m ph (Call args) = ph
+next_phase m ph (SpecCall args) = ph
+next_phase m ph (Verify args) = ph
+next_phase m ph SpecCheck = ph
+next_phase m ph SpecBarrier = ph
+
+abbrev pub holds_location : Phase → ℕ → Bool
+holds_location (Held y) x = y == x
+holds_location _ x = false
+
+abbrev pub may_read : Phase → Bool
+may_read Fresh = true
+may_read (Held x) = true
+may_read _ = false
+
+abbrev pub is_fresh : Phase → Bool
+is_fresh Fresh = true
+is_fresh _ = false
+
+-- a statement in this phase of m: a location's variable is not bound again before the write, a read precedes it, at most one reservation, one write through it, and no release before it
+abbrev pub phase_ok : ℕ → Phase → Op → Bool
+phase_ok m ph (Bind x e) = not (holds_location ph x)
+phase_ok m ph (CombRead x n a) = not (holds_location ph x) && (not (n == m) || may_read ph)
+phase_ok m ph (DelayedRead x n a) = false
+phase_ok m ph (Write n a e) = not (n == m) || holds_location ph a
+phase_ok m ph (ReserveWrite n a) = not (n == m) || is_fresh ph
+phase_ok m ph (Release n a) = not (n == m) || not (holds_location ph a)
+phase_ok m ph (ReserveRead n a) = true
+phase_ok m ph (Block n a) = true
+phase_ok m ph (Call args) = true
+phase_ok m ph (SpecCall args) = true
+phase_ok m ph (Verify args) = true
+phase_ok m ph SpecCheck = true
+phase_ok m ph SpecBarrier = true
+
+abbrev pub phases_ok : ℕ → Phase → List Stmt → Bool
+phases_ok m ph [] = true
+phases_ok m ph (x ∷ xs) = (no_guards x.guards && phase_ok m ph x.op) && phases_ok m (next_phase m ph x.op) xs
+
+abbrev pub phase_all : ℕ → Phase → List Stmt → Phase
+phase_all m ph [] = ph
+phase_all m ph (x ∷ xs) = phase_all m (next_phase m ph x.op) xs
+
+abbrev pub is_over : Phase → Bool
+is_over Fresh = true
+is_over Done = true
+is_over _ = false
+
+abbrev pub called : Bool → List Stmt → Bool
+called c [] = c
+called c (x ∷ xs) = called (c || is_call x.op) xs
+
+abbrev pub binds_var : ℕ → Op → Bool
+binds_var g op = on_binding (λ x. x == g) false op
+
+-- a guard's variable is not bound where it is tested or later
+abbrev pub free_of : List Guard → List Stmt → Bool
+free_of [] xs = true
+free_of (g ∷ gs) xs = none_of (binds_var g.var) xs && free_of gs xs
+
+-- whether guards contradict one another, so that the statement stands on no path
+abbrev pub against : Guard → List Guard → Bool
+against g [] = false
+against g (h ∷ hs) = ((g.var == h.var) && (if g.first then not h.first else h.first)) || against g hs
+
+abbrev pub is_dead : List Guard → Bool
+is_dead [] = false
+is_dead (g ∷ gs) = against g gs || is_dead gs
+
+-- or the statement is never carried out
+abbrev pub keeps_guards : List Guard → List Stmt → Bool
+keeps_guards gs xs = is_dead gs || free_of gs xs
+
+abbrev pub is_fixed : List Stmt → Bool
+is_fixed [] = true
+is_fixed (x ∷ xs) = keeps_guards x.guards (x ∷ xs) && is_fixed xs

@@ -1,0 +1,189 @@
+-- The facts of an accepted pipe of the whole language, as tests that compute.
+use Rattle.std.specs.Prelude.{ℕ, suc, Bool, true, false, ◌&&◌, ◌||◌, not, List, [], ◌∷◌, ◌++◌, Option, Some, None, is_none, if◌then◌else◌, nat_lt, nat_le, ◌==◌, length, slice_set}
+use Rattle.pdl_semantics.specs.Flat.{list_all, Op, Guard, Stmt, Next, Ends, Goes, Forks, Branch, Pipe, all_hold, start_env}
+use Rattle.pdl_semantics.specs.Forms.{on_delayed_read}
+use Rattle.pdl_semantics.specs.Stages.{onpath, in_stage, stage_at, is_inside, mem_at, commit_stage, reserve_stage, verify_stage, is_verify, fork_guards}
+use Rattle.pdl_semantics.specs.Sound.{all_below, stages_from, is_fetch, is_delayed_read}
+use Rattle.pdl_theory_derived.specs.Alone.{before}
+use Rattle.pdl_theory_facts.specs.Scans.{none_of, all_at, binds_var}
+use Rattle.pdl_semantics.specs.Cycle.{merges_by}
+use Rattle.pdl_theory_facts.specs.Graphs.{next_of}
+use Rattle.pdl_theory_facts.specs.Facts.{trunk_only, is_dead, late_for, is_unseen, fetch_apart, is_exact, is_fetch_of, visits_stage, at_once}
+use Rattle.pdl_theory_facts.specs.Checks.{guard_vars, paths_pass}
+
+-- THE STAGE GRAPH
+
+-- the stages that may come next, K after the last one
+abbrev pub nexts_of : ℕ → Next → List ℕ
+nexts_of k Ends = k ∷ []
+nexts_of k (Goes to) = to ∷ []
+nexts_of k (Forks x a b) = a ∷ b ∷ []
+
+abbrev pub nexts : Pipe → ℕ → List ℕ
+nexts p s = nexts_of (length p.stages) (stage_at p s).next
+
+abbrev pub is_trunk : Pipe → ℕ → Bool
+is_trunk p s = is_none (stage_at p s).branch
+
+abbrev pub same_branch : Option Branch → Branch → Bool
+same_branch None c = false
+same_branch (Some b) c = (b.fork == c.fork) && (if b.first then c.first else not c.first)
+
+-- a way on leads to a stage
+abbrev pub leads_in : ℕ → Next → Bool
+leads_in k Ends = true
+leads_in k (Goes to) = nat_lt to k
+leads_in k (Forks x a b) = nat_lt a k && nat_lt b k
+
+abbrev pub any_below : (ℕ → Bool) → ℕ → Bool
+any_below test n = not (all_below (λ m. not (test m)) n)
+
+-- a trunk stage that stage s has passed or stands in stands at b or after it
+abbrev pub is_passed : Pipe → ℕ → ℕ → Bool
+is_passed p s b = any_below (λ r. is_trunk p r && nat_le b r) (suc s)
+
+abbrev pub is_in_merge : Pipe → Option ℕ → ℕ → Bool
+is_in_merge p None b = false
+is_in_merge p (Some f) b = is_inside p f b
+
+-- a branch is entered in its first stage stages_from its fork, else stages_from the stage before
+abbrev pub is_entered : Pipe → ℕ → ℕ → Option Branch → Bool
+is_entered p s n None = true
+is_entered p s n (Some c) =
+    ((s == c.fork) && all_below (λ r. not (same_branch (stage_at p r).branch c) || nat_le n r) (length p.stages))
+    || (same_branch (stage_at p s).branch c && (n == suc s))
+
+abbrev pub next_passes : Pipe → ℕ → ℕ → Bool
+next_passes p s n =
+    nat_lt s n
+    && (nat_le n (length p.stages)
+    && (all_below (λ r. not (is_trunk p r) || not (nat_lt s r && nat_lt r n)) (length p.stages)
+    && ((not (n == length p.stages) || (is_trunk p s && (suc s == length p.stages)))
+    && ((not (is_trunk p n && nat_lt n (length p.stages)) || all_below (λ b. is_passed p s b || is_in_merge p (stage_at p n).merges b) n)
+    && is_entered p s n (stage_at p n).branch))))
+
+-- a branch's fork stands in the trunk before it
+abbrev pub branch_passes : Pipe → ℕ → Option Branch → Bool
+branch_passes p s None = true
+branch_passes p s (Some c) = is_trunk p c.fork && nat_lt c.fork s
+
+-- a way stages_from a fork leads into a branch of its own side
+abbrev pub side_is : ℕ → Bool → Option Branch → Bool
+side_is s first None = true
+side_is s first (Some c) = not (c.fork == s) || (if c.first then first else not first)
+
+abbrev pub no_side : ℕ → Option Branch → Bool
+no_side s None = true
+no_side s (Some c) = not (c.fork == s)
+
+abbrev pub side_passes : Pipe → ℕ → Next → Bool
+side_passes p s Ends = true
+side_passes p s (Goes to) = no_side s (stage_at p to).branch
+side_passes p s (Forks x a b) = side_is s true (stage_at p a).branch && side_is s false (stage_at p b).branch
+
+abbrev pub stage_sound : Pipe → ℕ → Bool
+stage_sound p s =
+    leads_in (length p.stages) (stage_at p s).next
+    && (list_all (next_passes p s) (nexts p s) && (branch_passes p s (stage_at p s).branch && side_passes p s (stage_at p s).next))
+
+-- FORKS AND BARRIERS
+
+abbrev pub fork_sound : Pipe → ℕ → Next → Bool
+fork_sound p s Ends = true
+fork_sound p s (Goes to) = true
+fork_sound p s (Forks x a b) = nat_lt x p.vars && (none_of (binds_var x) (stages_from (suc s) p.stmts) && none_of (is_fetch_of x) (in_stage s p.stmts))
+
+-- a stage is the last one of a branch of this fork
+abbrev pub is_last_of : Pipe → ℕ → ℕ → Option Branch → Bool
+is_last_of p s f None = false
+is_last_of p s f (Some c) = (c.fork == f) && all_below (λ b. not (same_branch (stage_at p b).branch c) || nat_le b s) (length p.stages)
+
+-- a merge is entered stages_from its fork or stages_from the last stage of a branch
+abbrev pub merge_sound : Pipe → ℕ → Option ℕ → ℕ → Bool
+merge_sound p s None n = true
+merge_sound p s (Some f) n = is_trunk p n && (((s == f) && is_trunk p s) || is_last_of p s f (stage_at p s).branch)
+
+-- a branch is wholly before the verifies' stage v, or its fork is not before v
+abbrev pub branch_whole : Pipe → ℕ → ℕ → Option Branch → Bool
+branch_whole p v b None = true
+branch_whole p v b (Some c) = if merges_by p c.fork (Some v) then nat_lt b v else nat_le v c.fork
+
+abbrev pub forks_whole : Pipe → Option ℕ → Bool
+forks_whole p None = true
+forks_whole p (Some v) = all_below (λ b. branch_whole p v b (stage_at p b).branch) (length p.stages)
+
+abbrev pub verifies_at : Pipe → Option ℕ → Bool
+verifies_at p None = true
+verifies_at p (Some v) = all_at is_verify v p.stmts
+
+-- PATHS
+
+-- over all values of these guards
+abbrev pub all_paths : List ℕ → (List ℕ → Bool) → List ℕ → Bool
+all_paths [] test path = test path
+all_paths (g ∷ gs) test path = all_paths gs test (slice_set path g 0) && all_paths gs test (slice_set path g 1)
+
+-- no statement stands in a stage stages_from a on and before b
+abbrev pub none_between : ℕ → ℕ → List Stmt → Bool
+none_between a b [] = true
+none_between a b (x ∷ xs) = not (nat_le a x.stage && nat_lt x.stage b) && none_between a b xs
+
+abbrev pub skip_passes : Pipe → List ℕ → Bool
+skip_passes p path = all_below (λ s. not (visits_stage p path s) || none_between (suc s) (next_of p s path) (onpath path p.stmts)) (length p.stages)
+
+abbrev pub all_guards : Pipe → List ℕ
+all_guards p = guard_vars p.stmts ++ fork_guards p.stages
+
+-- DELAYED READS
+
+-- the stage of the first delayed read of m
+abbrev pub fetch_stage : ℕ → List Stmt → ℕ
+fetch_stage m [] = 0
+fetch_stage m (y ∷ ys) = if is_delayed_read m y.op then y.stage else fetch_stage m ys
+
+abbrev pub fetch_sound : Pipe → ℕ → List Guard → Op → Bool
+fetch_sound p s gs op =
+    on_delayed_read (λ x m a. (fetch_stage m p.stmts == s)
+    && (nat_lt m (length p.mems)
+    && (is_exact (mem_at p m).lock
+    && (is_dead gs || list_all (λ n. nat_le n (commit_stage p m)) (nexts p s)))))
+    true op
+
+-- the guards on variables that these statements don't read delayed
+abbrev pub unfetched_guards : List Stmt → List Guard → List Guard
+unfetched_guards ys [] = []
+unfetched_guards ys (g ∷ gs) = if none_of (is_fetch_of g.var) ys then g ∷ unfetched_guards ys gs else unfetched_guards ys gs
+
+-- a path takes none of these statements that has another guard, whatever the values of those variables
+abbrev pub none_hangs : List ℕ → List Stmt → List Stmt → Bool
+none_hangs path ys [] = true
+none_hangs path ys (z ∷ zs) = (list_all (λ g. none_of (is_fetch_of g.var) ys) z.guards || not (all_hold (unfetched_guards ys z.guards) path)) && none_hangs path ys zs
+
+abbrev pub blind_passes : Pipe → List ℕ → Bool
+blind_passes p path = all_below (λ s. none_hangs path (in_stage s p.stmts) (before (next_of p s path) p.stmts)) (length p.stages)
+
+-- all tests
+abbrev pub tests : Pipe → List Bool
+tests p =
+    paths_pass (at_once p)
+    ∷ is_trunk p 0
+    ∷ all_below (stage_sound p) (length p.stages)
+    ∷ all_below (λ m. is_trunk p (reserve_stage p m) && is_trunk p (commit_stage p m)) (length p.mems)
+    ∷ all_below (λ s. is_trunk p s || none_of trunk_only (in_stage s p.stmts)) (length p.stages)
+    ∷ all_below (λ s. fork_sound p s (stage_at p s).next) (length p.stages)
+    ∷ list_all (λ g. nat_lt g p.vars) (all_guards p)
+    ∷ all_paths (all_guards p) (skip_passes p) (start_env p [])
+    ∷ list_all (λ y. fetch_sound p y.stage y.guards y.op) p.stmts
+    ∷ list_all (λ y. nat_lt y.stage (length p.stages)) p.stmts
+    ∷ all_below (λ s. is_unseen (in_stage s p.stmts)) (length p.stages)
+    ∷ all_below (λ s. fetch_apart (in_stage s p.stmts)) (length p.stages)
+    ∷ all_below (λ s. list_all (λ n. merge_sound p s (stage_at p n).merges n) (nexts p s)) (length p.stages)
+    ∷ forks_whole p (verify_stage p.stmts)
+    ∷ verifies_at p (verify_stage p.stmts)
+    ∷ list_all (λ z. is_dead z.guards || late_for z p.stmts) p.stmts
+    ∷ all_below (λ s. not (suc s == length p.stages) || none_of is_fetch (in_stage s p.stmts)) (length p.stages)
+    ∷ all_paths (all_guards p) (blind_passes p) (start_env p [])
+    ∷ []
+
+abbrev pub passes_tests : Pipe → Bool
+passes_tests p = list_all (λ b. b) (tests p)

@@ -1,0 +1,480 @@
+-- What a stage does to a thread: to its pending writes, its values and its successor.
+use Rattle.std.proofs.Common.{◌≡◌, refl, sym, ap, ap₂, ◌∙◌, subst, ℕ, ◌≤◌, ◌<◌, ◌⊎◌, inl, inr, Bool, true, false, ◌&&◌, ◌||◌, not, List, [], ◌∷◌, ◌++◌, length, Option, Some, None, is_some, ◌==◌, cond, if◌then◌else◌, arith, slice_index, slice_set, le_refl}
+use Rattle.std.proofs.lemmas.List.{get_or-set_other}
+use Rattle.std.proofs.lemmas.Bool.Decides.{eqb_tells}
+use Rattle.pdl_semantics.specs.Flat.{Commit, of_mem, Op, Bind, CombRead, DelayedRead, Write, ReserveWrite, Release, Call, SpecCall, Verify, Stmt, Branch, Pipe, value_of, values_of, all_hold}
+use Rattle.pdl_semantics.specs.Stages.{onpath, in_stage, stage_at, goes_to, is_reserve, is_release, reserve_stage, commit_stage}
+use Rattle.pdl_semantics.specs.Machine.{Ask, Awaited, same_args, is_answered, Pending, Blocked, Reserved, Deeds, held_before, deeds_after_all, is_held}
+use Rattle.pdl_semantics.specs.Cycle.{awaited_of}
+use Rattle.pdl_semantics.specs.Sound.{stages_before, stages_from, is_call, is_delayed_read}
+use Rattle.pdl_semantics.specs.Machine
+use Rattle.pdl_theory_derived.specs.Derived.{Entry, Work, Around, work_after, do_all, work_of_stage, still, with_answers, answered_thread}
+use Rattle.pdl_theory_derived.specs.Derived
+use Rattle.pdl_theory_facts.specs.Scans.{Phase, Fresh, next_phase, phase_all, is_over, none_of, called}
+use Rattle.pdl_theory_simulation.proofs.FlowFacts.{Flows, SameBut, sets, is_fetch_of, use_ok, uses_ok, call_ok, calls_ok, visits_stage, next_of, stage_or, comes_by, Leads, Ways}
+use Rattle.pdl_theory_derived.proofs.Writes.{and_left, and_right}
+use Rattle.pdl_theory_derived.proofs.Entries.{entries_of}
+use Rattle.pdl_theory_derived.proofs.Stages.{step}
+use Rattle.pdl_theory_turns.proofs.Paths.{Fixed, none_onpath}
+use Rattle.pdl_theory_derived.proofs.Deeds.{places, places_has, work_of, AllFit, told_step}
+use Rattle.pdl_theory_derived.proofs.Lists.{pend}
+use Rattle.pdl_theory_turns.proofs.Steps.{Here, step_write, step_reserve, step_release}
+use Rattle.pdl_theory_turns.proofs.Own.{Worked, worked}
+use Rattle.pdl_theory_simulation.proofs.Shapes.{Shape, shape_over, shape_start, shape_end, uses_front, uses_back, called_append, calls_front, calls_back, none_before, none_till, fixed_to, stays_fresh, over_early, held_ops, held_append, held_path, held_work}
+use Rattle.pdl_theory_turns.proofs.Pending.{phase_append}
+use Rattle.pdl_theory_turns.proofs.OfStage.{fixed_stage}
+use Rattle.pdl_theory_turns.proofs.Turn.{none_from}
+
+-- WHAT A STAGE DOES
+
+-- to the pending writes of m
+module _ (o : Around) (read : ℕ → ℕ → ℕ) (block : Blocked → Bool) (room : Reserved → Bool) (free : Ask → Bool) (m n : ℕ) (start : List Pending) where
+  step_op : (op : Op) (ph : Phase) (d : Deeds) (es : List Entry) (cs : List Commit) → places es ≡ d.held → use_ok m ph op ≡ true
+      → Here o read block room free m n start ph d (work_of o read block room free d es cs)
+      → Here o read block room free m n start (next_phase m ph op) (Machine.deeds_after read op d) (work_after o op (work_of o read block room free d es cs))
+  step_op (Write j a e) ph d es cs h k g = step_write m n j a (value_of e d.env) ph es (of_mem m cs) _ d.writes _ (j == m) refl k g
+  step_op (ReserveWrite j a) ph d es cs h k g = step_reserve m n j a (slice_index d.env a) ph es (of_mem m cs) start d.reserves d.writes _ (j == m) refl k g
+  step_op (Release j a) ph d es cs h k g = step_release m n j a ph es cs _ d.writes d.releases (is_held d.held j a) (ap (λ l. is_held l j a) (sym h) ∙ places_has es j a) (j == m) refl k g
+  step_op (Verify args) ph d es cs h k g = at (same_args (values_of args d.env) d.guess)
+    where
+      at : (b : Bool) → Here o read block room free m n start ph (cond b d (record d { child = Some (values_of args d.env); fails = true })) (cond b (work_of o read block room free d es cs) (record (work_of o read block room free d es cs) { child = Some (values_of args d.env); fails = true }))
+      at true = g
+      at false = g
+  step_op _ ph d es cs h k g = g
+
+  step_if : (b : Bool) (op : Op) (ph : Phase) (d : Deeds) (es : List Entry) (cs : List Commit) → places es ≡ d.held → (b ≡ true → use_ok m ph op ≡ true)
+      → Here o read block room free m n start ph d (work_of o read block room free d es cs)
+      → Here o read block room free m n start (cond b (next_phase m ph op) ph) (cond b (Machine.deeds_after read op d) d) (cond b (work_after o op (work_of o read block room free d es cs)) (work_of o read block room free d es cs))
+  step_if true op ph d es cs h k g = step_op op ph d es cs h (k refl) g
+  step_if false op ph d es cs h k g = g
+
+  -- the statements of a stage
+  steps_all : (path : List ℕ) (xs : List Stmt) (ph : Phase) (d : Deeds) (es : List Entry) (cs : List Commit) → places es ≡ d.held → AllFit o read block room free xs
+      → Fixed path o xs (work_of o read block room free d es cs) → uses_ok m ph (onpath path xs) ≡ true → Here o read block room free m n start ph d (work_of o read block room free d es cs)
+      → Here o read block room free m n start (phase_all m ph (onpath path xs)) (deeds_after_all read xs d) (do_all o xs (work_of o read block room free d es cs))
+  steps_all path [] ph d es cs h f q k g = g
+  steps_all path (x ∷ xs) ph d es cs h f q k g =
+      let t = told_step o read block room free (all_hold x.guards d.env) x.op d es cs h f.0 in
+      let w' : Work = cond (all_hold x.guards d.env) (work_after o x.op (work_of o read block room free d es cs)) (work_of o read block room free d es cs) in
+      let ok = allowed (all_hold x.guards d.env) (all_hold x.guards path) q.0 k in
+      let r = steps_all path xs (cond (all_hold x.guards d.env) (next_phase m ph x.op) ph) (if all_hold x.guards d.env then Machine.deeds_after read x.op d else d) w'.entries w'.commits t.held f.1
+      (subst (λ w. Fixed path o xs w) t.is q.1) ok.1
+      (subst (λ w. Here o read block room free m n start (cond (all_hold x.guards d.env) (next_phase m ph x.op) ph) (if all_hold x.guards d.env then Machine.deeds_after read x.op d else d) w) t.is (step_if (all_hold x.guards d.env) x.op ph d es cs h ok.0 g)) in
+      subst (λ u. Here o read block room free m n start u (deeds_after_all read xs (if all_hold x.guards d.env then Machine.deeds_after read x.op d else d)) (do_all o xs w')) ok.2
+      (subst (λ w. Here o read block room free m n start (phase_all m (cond (all_hold x.guards d.env) (next_phase m ph x.op) ph) (onpath path xs)) (deeds_after_all read xs (if all_hold x.guards d.env then Machine.deeds_after read x.op d else d)) (do_all o xs w)) (sym t.is) r)
+    where
+      allowed : (b c : Bool) → b ≡ c → uses_ok m ph (cond c (record x { guards = [] } ∷ onpath path xs) (onpath path xs)) ≡ true
+          → (b ≡ true → use_ok m ph x.op ≡ true) × (uses_ok m (cond b (next_phase m ph x.op) ph) (onpath path xs) ≡ true) × (phase_all m (cond b (next_phase m ph x.op) ph) (onpath path xs) ≡ phase_all m ph (cond c (record x { guards = [] } ∷ onpath path xs) (onpath path xs)))
+      allowed true true e k = ((λ _. and_left _ _ k), and_right (use_ok m ph x.op) _ k, refl)
+      allowed true false e k = absurd (cc e)
+      allowed false true e k = absurd (cc e)
+      allowed false false e k = ((λ i. absurd (cc i)), k, refl)
+
+-- to the values
+set_stays : (env : List ℕ) (x g v : ℕ) → not (x == g) ≡ true → slice_index env g ≡ slice_index (slice_set env x v) g
+set_stays env x g v h = sym (get_or-set_other env x g v 0 apart)
+  where
+    apart : g ≡ x → ⊥
+    apart e = grind (arith, eqb_tells)
+
+op_sets : (g : ℕ) (o : Around) (op : Op) (w : Work) → not (sets g op) ≡ true → slice_index w.env g ≡ slice_index (work_after o op w).env g
+op_sets g o (Bind x e) w h = set_stays w.env x g _ h
+op_sets g o (CombRead x m a) w h = set_stays w.env x g _ h
+op_sets g o (Verify args) w h = at (same_args (values_of args w.env) w.guess)
+  where
+    at : (b : Bool) → slice_index w.env g ≡ slice_index (cond b w (record w { child = Some (values_of args w.env); fails = true })).env g
+    at true = refl
+    at false = refl
+op_sets g o _ w h = refl
+
+-- only what a path's statements bind at once changes
+only_sets : (path : List ℕ) (o : Around) (xs : List Stmt) (w : Work) → Fixed path o xs w → SameBut sets (onpath path xs) w.env (do_all o xs w).env
+only_sets path o [] w f g h = refl
+only_sets path o (x ∷ xs) w f g h = at (all_hold x.guards w.env) (all_hold x.guards path) f.0 h (λ k. only_sets path o xs (step o x w) f.1 g k)
+  where
+    at : (b c : Bool) → b ≡ c → none_of (sets g) (cond c (record x { guards = [] } ∷ onpath path xs) (onpath path xs)) ≡ true
+        → (none_of (sets g) (onpath path xs) ≡ true → slice_index (cond b (work_after o x.op w) w).env g ≡ slice_index (do_all o xs (cond b (work_after o x.op w) w)).env g)
+        → slice_index w.env g ≡ slice_index (do_all o xs (cond b (work_after o x.op w) w)).env g
+    at true true e k r = op_sets g o x.op w (and_left _ _ k) ∙ r (and_right (not (sets g x.op)) _ k)
+    at true false e k r = absurd (cc e)
+    at false true e k r = absurd (cc e)
+    at false false e k r = r k
+
+-- whether a variable is awaited
+abbrev pub awaits_var : List Awaited → ℕ → Bool
+awaits_var [] g = false
+awaits_var (r ∷ rs) g = (r.var == g) || awaits_var rs g
+
+-- only what a path's statements ask for is awaited
+op_asks : (g : ℕ) (o : Around) (op : Op) (w : Work) → not (is_fetch_of g op) ≡ true → awaits_var (awaited_of (work_after o op w).asks) g ≡ awaits_var (awaited_of w.asks) g
+op_asks g o (DelayedRead x m a) w h = more w.asks
+  where
+    off : (b : Bool) → not b ≡ true → (b || false) ≡ false
+    off true k = absurd (cc k)
+    off false k = refl
+
+    more : (qs : List Ask) → awaits_var (awaited_of (qs ++ record { mem = m; var = x; address = slice_index w.env a } ∷ [])) g ≡ awaits_var (awaited_of qs) g
+    more [] = off (x == g) h
+    more (q ∷ qs) = ap (λ b. (q.var == g) || b) (more qs)
+op_asks g o (Verify args) w h = at (same_args (values_of args w.env) w.guess)
+  where
+    at : (b : Bool) → awaits_var (awaited_of (cond b w (record w { child = Some (values_of args w.env); fails = true })).asks) g ≡ awaits_var (awaited_of w.asks) g
+    at true = refl
+    at false = refl
+op_asks g o _ w h = refl
+
+only_asks : (path : List ℕ) (o : Around) (xs : List Stmt) (w : Work) → Fixed path o xs w → (g : ℕ) → none_of (is_fetch_of g) (onpath path xs) ≡ true → awaits_var (awaited_of (do_all o xs w).asks) g ≡ awaits_var (awaited_of w.asks) g
+only_asks path o [] w f g h = refl
+only_asks path o (x ∷ xs) w f g h = at (all_hold x.guards w.env) (all_hold x.guards path) f.0 h (λ k. only_asks path o xs (step o x w) f.1 g k)
+  where
+    at : (b c : Bool) → b ≡ c → none_of (is_fetch_of g) (cond c (record x { guards = [] } ∷ onpath path xs) (onpath path xs)) ≡ true
+        → (none_of (is_fetch_of g) (onpath path xs) ≡ true → awaits_var (awaited_of (do_all o xs (cond b (work_after o x.op w) w)).asks) g ≡ awaits_var (awaited_of (cond b (work_after o x.op w) w).asks) g)
+        → awaits_var (awaited_of (do_all o xs (cond b (work_after o x.op w) w)).asks) g ≡ awaits_var (awaited_of w.asks) g
+    at true true e k r = r (and_right (not (is_fetch_of g x.op)) _ k) ∙ op_asks g o x.op w (and_left _ _ k)
+    at true false e k r = absurd (cc e)
+    at false true e k r = absurd (cc e)
+    at false false e k r = r k
+
+-- a memory that is asked for is one that a statement of the stage reads
+abbrev pub AsksFrom : List Stmt → List Ask → Type 0
+AsksFrom all [] = Unit {0}
+AsksFrom all (q ∷ qs) = (none_of (is_delayed_read q.mem) all ≡ false) × AsksFrom all qs
+
+op_from : (all : List Stmt) (o : Around) (op : Op) (w : Work) → ((m : ℕ) → not (is_delayed_read m op) ≡ false → none_of (is_delayed_read m) all ≡ false) → AsksFrom all w.asks → AsksFrom all (work_after o op w).asks
+op_from all o (DelayedRead x m a) w f h = more w.asks h
+  where
+    same : (m == m) ≡ true
+    same = grind (arith, eqb_tells)
+
+    more : (qs : List Ask) → AsksFrom all qs → AsksFrom all (qs ++ record { mem = m; var = x; address = slice_index w.env a } ∷ [])
+    more [] k = (f m (ap not same), tt)
+    more (q ∷ qs) k = (k.0, more qs k.1)
+op_from all o (Verify args) w f h = at (same_args (values_of args w.env) w.guess)
+  where
+    at : (b : Bool) → AsksFrom all (cond b w (record w { child = Some (values_of args w.env); fails = true })).asks
+    at true = h
+    at false = h
+op_from all o _ w f h = h
+
+pub asks_from : (all : List Stmt) (o : Around) (xs : List Stmt) (w : Work) → ((m : ℕ) → none_of (is_delayed_read m) xs ≡ false → none_of (is_delayed_read m) all ≡ false) → AsksFrom all w.asks → AsksFrom all (do_all o xs w).asks
+asks_from all o [] w f h = h
+asks_from all o (x ∷ xs) w f h = asks_from all o xs (step o x w) (λ m k. f m (more (not (is_delayed_read m x.op)) k)) (at (all_hold x.guards w.env))
+  where
+    more : (b : Bool) {c : Bool} → c ≡ false → (b && c) ≡ false
+    more true k = k
+    more false k = refl
+
+    first : (b c : Bool) → b ≡ false → (b && c) ≡ false
+    first true c k = absurd (cc k)
+    first false c k = refl
+
+    at : (b : Bool) → AsksFrom all (cond b (work_after o x.op w) w).asks
+    at true = op_from all o x.op w (λ m k. f m (first (not (is_delayed_read m x.op)) (none_of (is_delayed_read m) xs) k)) h
+    at false = h
+
+-- to the successor: no second one is made but by a failing verify, and one that is made was called
+pub record Childed (been : Bool) (c : Bool) (w : Work) : Type 0 where
+  pub since : been ≡ true → c ≡ true
+  pub called_it : is_some w.child ≡ true → c ≡ true
+  pub no_second : been ≡ true → w.fails ≡ false → w.child ≡ None
+  pub squashes : w.fails ≡ true → is_some w.child ≡ true
+
+made_op : (been c : Bool) (o : Around) (op : Op) (w : Work) → call_ok c op ≡ true → Childed been c w → Childed been (c || is_call op) (work_after o op w)
+made_op been c o (Call args) w h k = fresh_call c (and_left (not (c && true)) _ h) k
+  where
+    fresh_call : (c : Bool) → not (c && true) ≡ true → Childed been c w → Childed been (c || true) (record w { child = Some (values_of args w.env) })
+    fresh_call true h k = absurd (cc h)
+    fresh_call false h k = record {
+      since = λ e. refl;
+      called_it = λ e. refl;
+      no_second = λ e f. absurd (clash (k.since e));
+      squashes = λ e. refl;
+    }
+      where
+        clash : false ≡ true → ⊥
+        clash i = cc
+made_op been c o (SpecCall args) w h k = fresh_call c (and_left (not (c && true)) _ h) k
+  where
+    fresh_call : (c : Bool) → not (c && true) ≡ true → Childed been c w → Childed been (c || true) (record w { child = Some (values_of args w.env); guess = values_of args w.env })
+    fresh_call true h k = absurd (cc h)
+    fresh_call false h k = record {
+      since = λ e. refl;
+      called_it = λ e. refl;
+      no_second = λ e f. absurd (clash (k.since e));
+      squashes = λ e. refl;
+    }
+      where
+        clash : false ≡ true → ⊥
+        clash i = cc
+made_op been c o (Verify args) w h k = at c (and_right (not (c && false)) _ h) k (same_args (values_of args w.env) w.guess)
+  where
+    at : (c : Bool) → (c || not true) ≡ true → Childed been c w → (b : Bool) → Childed been (c || false) (cond b w (record w { child = Some (values_of args w.env); fails = true }))
+    at false h k b = absurd (cc h)
+    at true h k true = k
+    at true h k false = record { since = λ e. refl; called_it = λ e. refl; no_second = λ e f. absurd (clash f); squashes = λ e. refl }
+      where
+        clash : true ≡ false → ⊥
+        clash i = cc
+made_op been c o _ w h k = record { since = λ e. or_left (k.since e); called_it = λ e. or_left (k.called_it e); no_second = k.no_second; squashes = k.squashes }
+  where
+    or_left : {b : Bool} → b ≡ true → (b || false) ≡ true
+    or_left e = ap (λ b. b || false) e
+
+made_all : (been c : Bool) (path : List ℕ) (o : Around) (xs : List Stmt) (w : Work) → Fixed path o xs w → calls_ok c (onpath path xs) ≡ true → Childed been c w → Childed been (called c (onpath path xs)) (do_all o xs w)
+made_all been c path o [] w f h k = k
+made_all been c path o (x ∷ xs) w f h k =
+    at (all_hold x.guards w.env) (all_hold x.guards path) f.0 h (λ c' w' f' h' k'. made_all been c' path o xs w' f' h' k') f.1
+  where
+    at : (b d : Bool) → b ≡ d → calls_ok c (cond d (record x { guards = [] } ∷ onpath path xs) (onpath path xs)) ≡ true
+        → ((c' : Bool) (w' : Work) → Fixed path o xs w' → calls_ok c' (onpath path xs) ≡ true → Childed been c' w' → Childed been (called c' (onpath path xs)) (do_all o xs w'))
+        → Fixed path o xs (cond b (work_after o x.op w) w)
+        → Childed been (called c (cond d (record x { guards = [] } ∷ onpath path xs) (onpath path xs))) (do_all o xs (cond b (work_after o x.op w) w))
+    at true true e i r g = r (c || is_call x.op) (work_after o x.op w) g (and_right (call_ok c x.op) _ i) (made_op been c o x.op w (and_left _ _ i) k)
+    at true false e i r g = absurd (cc e)
+    at false true e i r g = absurd (cc e)
+    at false false e i r g = r c w g i k
+
+-- THREADS
+
+-- what a thread on this path has done before stage s
+abbrev pub on_way : Pipe → List ℕ → ℕ → List Stmt
+on_way p path s = onpath path (stages_before s p.stmts)
+
+-- values that differ at most in awaited variables
+abbrev pub Unlike : List Awaited → List ℕ → List ℕ → Type 0
+Unlike rs env env' = (g : ℕ) → awaits_var rs g ≡ false → slice_index env g ≡ slice_index env' g
+
+-- stage s stands after stage b: each trunk stage that was reached from s on was left from b on, and in one branch s is the smaller
+pub record Behind (p : Pipe) (s b : ℕ) : Type 0 where
+  pub trunk : (r : ℕ) → (stage_at p r).branch ≡ None → r ≤ s → r < b
+  pub branch : (stage_at p s).branch ≡ (stage_at p b).branch → s < b
+
+-- a stage does not stand after one that leads to it
+pub not_behind : (p : Pipe) → Ways p → (k s : ℕ) → Leads p k s → Behind p s k → ⊥
+not_behind p g k s l h = at (stage_at p s).branch refl
+  where
+    up : k < s
+    up = (g.up k s l).0
+
+    at : (b : Option Branch) → (stage_at p s).branch ≡ b → ⊥
+    at None e = absurd (let i : s < k = h.trunk s e (le_refl s) in let u = up in omega arith)
+    at (Some x) e = by (g.into k s x l e)
+      where
+        by : ((stage_at p k).branch ≡ Some x) ⊎ ((k ≡ x.fork) × ((stage_at p k).branch ≡ None)) → ⊥
+        by (inl i) = absurd (let j : s < k = h.branch (e ∙ sym i) in let u = up in omega arith)
+        by (inr i) = absurd (let j : k < k = h.trunk k i.1 (let u = up in omega arith) in omega arith)
+
+-- each awaited memory is read in the stage before
+abbrev pub Fetched : Pipe → ℕ → ℕ → Type 0
+Fetched p s m = (k : ℕ) × Leads p k s × (none_of (is_delayed_read m) (in_stage k p.stmts) ≡ false)
+
+abbrev pub AllFetched : Pipe → ℕ → List Awaited → Type 0
+AllFetched p s [] = Unit {0}
+AllFetched p s (r ∷ rs) = Fetched p s r.mem × AllFetched p s rs
+
+-- a thread that came into its stage with these values
+pub record Keeps (p : Pipe) (env : List ℕ) (t : Derived.Thread) : Type 0 where
+  pub inside : t.stage < length p.stages
+  pub held : places t.entries ≡ held_before t.stage env p.stmts []
+  pub shape : (m : ℕ) → Shape m (phase_all m Fresh (on_way p env t.stage)) (entries_of m t.entries)
+  pub reached : visits_stage p env t.stage ≡ true
+  pub path : (env' : List ℕ) → Unlike t.awaits t.env env' → (on_way p env' t.stage ≡ on_way p env t.stage) × (visits_stage p env' t.stage ≡ visits_stage p env t.stage)
+  pub fetched : AllFetched p t.stage t.awaits
+
+-- whether it made its successor
+abbrev pub has_made : Pipe → List ℕ → ℕ → Bool
+has_made p env s = called false (on_way p env s)
+
+-- ANSWERS
+
+still_less : (p : Pipe) (bits : List Bool) (rs : List Awaited) (g : ℕ) → awaits_var rs g ≡ false → awaits_var (still p bits rs) g ≡ false
+still_less p bits [] g h = refl
+still_less p bits (r ∷ rs) g h = at (r.var == g) refl h (λ k. still_less p bits rs g k)
+  where
+    at : (b : Bool) → (r.var == g) ≡ b → (b || awaits_var rs g) ≡ false → (awaits_var rs g ≡ false → awaits_var (still p bits rs) g ≡ false) → awaits_var (if is_answered p bits r.mem then still p bits rs else r ∷ still p bits rs) g ≡ false
+    at true e k f = absurd (cc k)
+    at false e k f = by (is_answered p bits r.mem)
+      where
+        by : (c : Bool) → awaits_var (cond c (still p bits rs) (r ∷ still p bits rs)) g ≡ false
+        by true = f k
+        by false = ap₂ (λ a b. a || b) e (f k)
+
+answers_only : (p : Pipe) (d : Derived.State) (bits : List Bool) (rs : List Awaited) (env : List ℕ) (g : ℕ) → awaits_var rs g ≡ false → slice_index (with_answers p d bits rs env) g ≡ slice_index env g
+answers_only p d bits [] env g h = refl
+answers_only p d bits (r ∷ rs) env g h = at (r.var == g) refl h (λ e k. answers_only p d bits rs e g k)
+  where
+    word : ℕ
+    word = Derived.word_of d.arrays r.mem (Derived.asked_at d r.mem)
+
+    at : (b : Bool) → (r.var == g) ≡ b → (b || awaits_var rs g) ≡ false → ((e : List ℕ) → awaits_var rs g ≡ false → slice_index (with_answers p d bits rs e) g ≡ slice_index e g)
+        → slice_index (with_answers p d bits rs (if is_answered p bits r.mem then slice_set env r.var word else env)) g ≡ slice_index env g
+    at true e k f = absurd (cc k)
+    at false e k f = f _ k ∙ by (is_answered p bits r.mem)
+      where
+        by : (c : Bool) → slice_index (cond c (slice_set env r.var word) env) g ≡ slice_index env g
+        by true = sym (set_stays env r.var g word (ap not e))
+        by false = refl
+
+fetched_still : (p : Pipe) (bits : List Bool) (s : ℕ) (rs : List Awaited) → AllFetched p s rs → AllFetched p s (still p bits rs)
+fetched_still p bits s [] h = tt
+fetched_still p bits s (r ∷ rs) h = at (is_answered p bits r.mem) (fetched_still p bits s rs h.1)
+  where
+    at : (b : Bool) → AllFetched p s (still p bits rs) → AllFetched p s (cond b (still p bits rs) (r ∷ still p bits rs))
+    at true k = k
+    at false k = (h.0, k)
+
+-- a thread keeps to its way as answers come
+pub keeps_answered : (p : Pipe) (d : Derived.State) (bits : List Bool) (env : List ℕ) (t : Derived.Thread) → Keeps p env t → Keeps p env (answered_thread p d bits t)
+keeps_answered p d bits env t k =
+    record {
+      inside = k.inside;
+      held = k.held;
+      shape = k.shape;
+      reached = k.reached;
+      path = λ env' u. k.path env' (λ g h. sym (answers_only p d bits t.awaits t.env g h) ∙ u g (still_less p bits t.awaits g h));
+      fetched = fetched_still p bits t.stage t.awaits k.fetched;
+    }
+
+-- A STAGE
+
+-- the work with which a thread's stage begins
+abbrev pub start_of : Derived.Thread → Work
+start_of t =
+    record { env = t.env; entries = t.entries; guess = t.guess; asks = []; commits = []; child = None; fails = false; ready = true }
+
+module _ (p : Pipe) (flows : Flows p) (env : List ℕ) (t : Derived.Thread) (k : Keeps p env t) where
+  -- the deeds with which its stage begins
+  abbrev pub start_deeds : Deeds
+  start_deeds = record {
+    env = t.env;
+    guess = t.guess;
+    held = held_before t.stage env p.stmts [];
+    blocks = [];
+    reserves = [];
+    writes = [];
+    releases = [];
+    asks = [];
+    barrier = false;
+    child = None;
+    fails = false;
+  }
+
+  way : (on_way p t.env t.stage ≡ on_way p env t.stage) × (visits_stage p t.env t.stage ≡ visits_stage p env t.stage)
+  way = k.path t.env (λ g h. refl)
+
+  pub fixed_here : (o : Around) → Fixed (work_of_stage p o t).env o (in_stage t.stage p.stmts) (start_of t)
+  fixed_here o = fixed_to (work_of_stage p o t).env o (in_stage t.stage p.stmts) (start_of t) (fixed_stage t.stage p.stmts flows.fixed_guards) refl
+
+  steady_here : (o : Around) → (on_way p t.env t.stage ≡ on_way p (work_of_stage p o t).env t.stage) × (visits_stage p t.env t.stage ≡ visits_stage p (work_of_stage p o t).env t.stage)
+  steady_here o = flows.steady t.stage t.env (work_of_stage p o t).env (way.1 ∙ k.reached) (only_sets (work_of_stage p o t).env o (in_stage t.stage p.stmts) (start_of t) (fixed_here o))
+
+  -- its way so far is that of its values at the end of the stage
+  pub way_on : (o : Around) → on_way p (work_of_stage p o t).env t.stage ≡ on_way p env t.stage
+  way_on o = sym (steady_here o).0 ∙ way.0
+
+  reached_on : (o : Around) → visits_stage p (work_of_stage p o t).env t.stage ≡ true
+  reached_on o = sym (steady_here o).1 ∙ way.1 ∙ k.reached
+
+  pub way_next : (o : Around) → on_way p (work_of_stage p o t).env (next_of p t.stage (work_of_stage p o t).env) ≡ on_way p env t.stage ++ onpath (work_of_stage p o t).env (in_stage t.stage p.stmts)
+  way_next o = flows.next_piece (work_of_stage p o t).env t.stage k.inside (reached_on o) ∙ ap (λ l. l ++ onpath (work_of_stage p o t).env (in_stage t.stage p.stmts)) (way_on o)
+
+  -- the lock of m
+  uses_way : (path : List ℕ) (s m : ℕ) → uses_ok m Fresh (on_way p path s) ≡ true
+  uses_way path s m = uses_front m (on_way p path s) (onpath path (stages_from s p.stmts)) Fresh (subst (λ l. uses_ok m Fresh l ≡ true) (flows.all_pieces path s) (flows.uses path m))
+
+  over_at : (path : List ℕ) (s m : ℕ) → commit_stage p m < s → is_over (phase_all m Fresh (on_way p path s)) ≡ true
+  over_at path s m h =
+      over_early m (onpath path (stages_from s p.stmts)) _ (none_onpath (is_release m) path (stages_from s p.stmts) (none_from (is_release m) (commit_stage p m) s p.stmts (flows.releases m) h))
+      (subst (λ q. is_over q ≡ true) (ap (phase_all m Fresh) (flows.all_pieces path s) ∙ phase_append m (on_way p path s) (onpath path (stages_from s p.stmts)) Fresh) (flows.over path m))
+
+  over_end : (path : List ℕ) (s m : ℕ) → s ≡ length p.stages → is_over (phase_all m Fresh (on_way p path s)) ≡ true
+  over_end path s m e = subst (λ q. is_over q ≡ true) (ap (phase_all m Fresh) (sym (ap (on_way p path) e ∙ flows.whole path))) (flows.over path m)
+
+  no_entry : (m : ℕ) → none_of (is_reserve m) (on_way p env t.stage) ≡ true → entries_of m t.entries ≡ []
+  no_entry m h = subst (λ q. Shape m q (entries_of m t.entries)) (stays_fresh m (on_way p env t.stage) (uses_way env t.stage m) h) (k.shape m)
+
+  -- it has no entry of m before the stage of the reserves and after that of the releases
+  pub early : (m : ℕ) → t.stage ≤ reserve_stage p m → entries_of m t.entries ≡ []
+  early m h = no_entry m (none_onpath (is_reserve m) env (stages_before t.stage p.stmts) (none_till (is_reserve m) (reserve_stage p m) t.stage p.stmts (flows.reserves m) h))
+
+  pub unknown : (m : ℕ) → length p.mems ≤ m → entries_of m t.entries ≡ []
+  unknown m h = no_entry m (none_onpath (is_reserve m) env (stages_before t.stage p.stmts) (none_before (is_reserve m) t.stage p.stmts (flows.unreserved m h)))
+
+  pub late : (m : ℕ) → commit_stage p m < t.stage → entries_of m t.entries ≡ []
+  late m h = shape_over m _ _ (over_at env t.stage m h) (k.shape m)
+
+  -- its work on the entries of m
+  module _ (o : Around) (read : ℕ → ℕ → ℕ) (block : Blocked → Bool) (room : Reserved → Bool) (free : Ask → Bool) (fit : AllFit o read block room free (in_stage t.stage p.stmts)) (m n : ℕ) where
+    here : Here o read block room free m n (pend m n t.entries) (phase_all m Fresh (on_way p (work_of_stage p o t).env (next_of p t.stage (work_of_stage p o t).env))) (deeds_after_all read (in_stage t.stage p.stmts) start_deeds) (work_of_stage p o t)
+    here =
+        subst (λ q. Here o read block room free m n (pend m n t.entries) q (deeds_after_all read (in_stage t.stage p.stmts) start_deeds) (work_of_stage p o t))
+        (sym (ap (phase_all m Fresh) (way_next o) ∙ phase_append m (on_way p env t.stage) _ Fresh))
+        (steps_all o read block room free m n (pend m n t.entries) (work_of_stage p o t).env (in_stage t.stage p.stmts) (phase_all m Fresh (on_way p env t.stage)) start_deeds t.entries [] k.held fit (fixed_here o)
+        (uses_back m (on_way p env t.stage) (onpath (work_of_stage p o t).env (in_stage t.stage p.stmts)) Fresh (subst (λ l. uses_ok m Fresh l ≡ true) (way_next o) (uses_way (work_of_stage p o t).env (next_of p t.stage (work_of_stage p o t).env) m)))
+        (shape_start m n _ t.entries (k.shape m)))
+
+    pub stage_worked : Worked m n (pend m n t.entries) (deeds_after_all read (in_stage t.stage p.stmts) start_deeds) (work_of_stage p o t)
+    stage_worked = worked m n _ _ _ _ here
+
+    stage_shape : Shape m (phase_all m Fresh (on_way p (work_of_stage p o t).env (next_of p t.stage (work_of_stage p o t).env))) (entries_of m (work_of_stage p o t).entries)
+    stage_shape = shape_end m n _ _ _ _ _ _ here
+
+    pub ends_empty : next_of p t.stage (work_of_stage p o t).env ≡ length p.stages → entries_of m (work_of_stage p o t).entries ≡ []
+    ends_empty e = shape_over m _ _ (over_end _ _ m e) stage_shape
+
+    pub late_empty : commit_stage p m < next_of p t.stage (work_of_stage p o t).env → entries_of m (work_of_stage p o t).entries ≡ []
+    late_empty e = shape_over m _ _ (over_at _ _ m e) stage_shape
+
+  -- its successor
+  pub stage_child : (o : Around) → Childed (has_made p env t.stage) (has_made p (work_of_stage p o t).env (next_of p t.stage (work_of_stage p o t).env)) (work_of_stage p o t)
+  stage_child o =
+      subst (λ c. Childed (has_made p env t.stage) c (work_of_stage p o t)) (sym (ap (called false) (way_next o) ∙ called_append false (on_way p env t.stage) _))
+      (made_all (has_made p env t.stage) (has_made p env t.stage) (work_of_stage p o t).env o (in_stage t.stage p.stmts) (start_of t) (fixed_here o)
+      (calls_back false (on_way p env t.stage) _ (subst (λ l. calls_ok false l ≡ true) (way_next o)
+      (calls_front false (on_way p (work_of_stage p o t).env (next_of p t.stage (work_of_stage p o t).env)) _ (subst (λ l. calls_ok false l ≡ true) (flows.all_pieces (work_of_stage p o t).env (next_of p t.stage (work_of_stage p o t).env)) (flows.calls (work_of_stage p o t).env)))))
+      (record { since = λ e. e; called_it = λ e. absurd (clash e); no_second = λ e f. refl; squashes = λ e. absurd (clash e) }))
+    where
+      clash : false ≡ true → ⊥
+      clash i = cc
+
+  fetched_asks : (s q : ℕ) → Leads p s q → (qs : List Ask) → AsksFrom (in_stage s p.stmts) qs → AllFetched p q (awaited_of qs)
+  fetched_asks s q l [] h = tt
+  fetched_asks s q l (x ∷ qs) h = ((s, l, h.0), fetched_asks s q l qs h.1)
+
+  -- it keeps to its way in the next stage
+  pub keeps_next : (o : Around) (read : ℕ → ℕ → ℕ) (block : Blocked → Bool) (room : Reserved → Bool) (free : Ask → Bool) → AllFit o read block room free (in_stage t.stage p.stmts) → (q : ℕ) → goes_to (stage_at p t.stage).next (work_of_stage p o t).env ≡ Some q
+      → Keeps p (work_of_stage p o t).env (record { stage = q; env = (work_of_stage p o t).env; entries = (work_of_stage p o t).entries; guess = (work_of_stage p o t).guess; awaits = awaited_of (work_of_stage p o t).asks })
+  keeps_next o read block room free fit q goes =
+      subst (λ n. Keeps p (work_of_stage p o t).env (record { stage = n; env = (work_of_stage p o t).env; entries = (work_of_stage p o t).entries; guess = (work_of_stage p o t).guess; awaits = awaited_of (work_of_stage p o t).asks })) is
+      (record {
+        inside = subst (λ n. n < length p.stages) (sym is) (flows.graph.up t.stage q leads).1;
+        held =
+            held_work (work_of_stage p o t).env o (in_stage t.stage p.stmts) (start_of t) (fixed_here o)
+            ∙ ap (held_ops (onpath (work_of_stage p o t).env (in_stage t.stage p.stmts))) (k.held ∙ held_path t.stage env p.stmts [])
+            ∙ sym (held_path (next_of p t.stage (work_of_stage p o t).env) (work_of_stage p o t).env p.stmts [] ∙ ap (λ l. held_ops l []) (way_next o) ∙ held_append (on_way p env t.stage) _ []);
+        shape = λ m. stage_shape o read block room free fit m 0;
+        reached = subst (λ n. visits_stage p (work_of_stage p o t).env n ≡ true) (sym is) (flows.arrives (work_of_stage p o t).env t.stage q k.inside goes (reached_on o));
+        path = λ env' u. flows.settled t.stage env' (work_of_stage p o t).env k.inside (reached_on o) (λ g h. sym (u g (only_asks (work_of_stage p o t).env o (in_stage t.stage p.stmts) (start_of t) (fixed_here o) g h)));
+        fetched = fetched_asks t.stage (next_of p t.stage (work_of_stage p o t).env) (subst (λ n. Leads p t.stage n) (sym is) leads) (work_of_stage p o t).asks (asks_from (in_stage t.stage p.stmts) o (in_stage t.stage p.stmts) (start_of t) (λ m h. h) tt);
+      })
+    where
+      is : next_of p t.stage (work_of_stage p o t).env ≡ q
+      is = ap (stage_or (length p.stages)) goes
+
+      leads : Leads p t.stage q
+      leads = ((work_of_stage p o t).env, goes, k.inside)
+
+-- a new thread
+pub keeps_fresh : (p : Pipe) → Flows p → (args : List ℕ) → Keeps p (Derived.fresh p args).env (Derived.fresh p args)
+keeps_fresh p flows args =
+    record {
+      inside = flows.graph.some_stage;
+      held = sym (held_path 0 _ p.stmts [] ∙ ap (λ l. held_ops l []) (flows.first_piece _));
+      shape = λ m. subst (λ l. Shape m (phase_all m Fresh l) []) (sym (flows.first_piece (Derived.fresh p args).env)) refl;
+      reached = trunk (Derived.fresh p args).env;
+      path = λ env' u. (flows.first_piece env' ∙ sym (flows.first_piece _), trunk env' ∙ sym (trunk _));
+      fetched = tt;
+    }
+  where
+    trunk : (path : List ℕ) → visits_stage p path 0 ≡ true
+    trunk path = ap (λ b. comes_by p path b) flows.graph.trunk_start

@@ -1,0 +1,202 @@
+-- Sound state's points on all live threads, as the clauses say them.
+use Rattle.std.proofs.Common.{◌≡◌, refl, sym, ap, ap₂, ◌∙◌, length, ℕ, zero, suc, Bool, true, false, ◌&&◌, not, ◌==◌, eq-eqb, List, [], ◌∷◌, ◌++◌, IsTrue}
+use Rattle.pdl_semantics.specs.Flat.{Arrays, Array, Pipe, Stmt, Mem, list_all, word_at}
+use Rattle.pdl_semantics.specs.Stages.{verify_stage}
+use Rattle.pdl_semantics.specs.Machine.{State, request_of, lock_of}
+use Rattle.pdl_semantics.specs.Cycle.{first, state_after}
+use Rattle.pdl_semantics.specs.Sound.{live, all_pairs, all_from, in_order, are_linked, certain_after, asks_right, has_owner, stays_ready, past_stmts, on_path}
+use Rattle.pdl_theory_derived.specs.Derived
+use Rattle.pdl_theory_facts.specs.Facts.{Sound}
+use Rattle.pdl_theory_turns.proofs.CourseOf.{course}
+use Rattle.pdl_theory_refinement.proofs.Follows
+use Rattle.pdl_theory_refinement.proofs.Spots.{Spot, seats, is_nil}
+use Rattle.pdl_theory_derived.proofs.Slots.{rev}
+use Rattle.pdl_theory_simulation.proofs.Seats.{threads_of}
+use Rattle.pdl_semantics.specs.Machine.{same_args}
+use Rattle.pdl_semantics.specs.Sound
+use Rattle.pdl_semantics.specs.Cycle
+use Rattle.pdl_semantics.specs.Sequential.{after_turns, writes_from, seqwrites}
+use Rattle.pdl_semantics.specs.Sound.{Follower, followers, followers_of, strays, strays_of, follows_values, pending_right, right_entries, released_by, has_released, still_looks, all_below, arrays_right, is_sound}
+use Rattle.pdl_semantics.specs.Flat.{of_mem, Commit}
+use Rattle.pdl_theory_derived.proofs.Writes.{row_committed}
+use Rattle.pdl_theory_simulation.proofs.Joined.{sound_flows}
+use Rattle.pdl_theory_simulation.proofs.Carried.{ended_same}
+use Rattle.pdl_theory_simulation.proofs.Together.{same_turns}
+use Rattle.pdl_theory_turns.proofs.Lives.{RowsAt}
+use Rattle.pdl_theory_simulation.proofs.Choices.{Seated}
+use Rattle.pdl_semantics.specs.Promises.{row, wrote}
+use Rattle.pdl_theory_states.specs.Strict.{Strict}
+use Rattle.pdl_theory_states.proofs.Reached.{Whole, reached}
+use Rattle.pdl_theory_states.proofs.Mine.{Mine, each_mine}
+use Rattle.pdl_theory_states.proofs.Followers.{tells, oldest_tells, threads_back, each_back, Good, AllGood, walk, values_good, asks_good, right_good, good_all}
+use Rattle.pdl_theory_states.proofs.Order.{from_all}
+use Rattle.pdl_theory_states.proofs.TurnByTurn.{lined, behind, parted, past_is, pairs_good, strays_good}
+use Rattle.pdl_theory_states.proofs.Holders.{holders_same, holders_point}
+use Rattle.pdl_theory_states.proofs.AllThreads.{live_here, order_point, chain_point, certain_point, requests_point, owners_point, ready_point, paths_point}
+use Rattle.pdl_word.specs.Each.{Each}
+use Rattle.pdl_theory_simulation.proofs.Simulated.{Sim}
+
+true_is : (b : Bool) → b ≡ true → IsTrue b
+true_is b h = h
+
+is_true : (b : Bool) → IsTrue b → b ≡ true
+is_true b h = h
+
+module _ (p : Pipe) (sound : Sound p) (strict : Strict p) (image : Arrays) (schedule : List (List Bool)) where
+  abbrev st : State
+  st = state_after p (first p image) schedule
+
+  abbrev d : Derived.State
+  d = Derived.state_after p (Derived.first p image) schedule
+
+  sim_here : Sim p (state_after p (first p image) schedule) (Derived.state_after p (Derived.first p image) schedule) (reached p sound strict image schedule).0
+  sim_here = (reached p sound strict image schedule).1
+
+  whole_here : Whole p (state_after p (first p image) schedule) (reached p sound strict image schedule).0
+  whole_here = (reached p sound strict image schedule).2
+
+  pub order : IsTrue (in_order p (state_after p (first p image) schedule))
+  order = true_is _ (order_point p sound _ _ _ sim_here whole_here)
+
+  pub certain : IsTrue (all_pairs (certain_after p (verify_stage p.stmts)) (live (state_after p (first p image) schedule)))
+  certain = true_is _ (certain_point p sound _ _ _ sim_here whole_here)
+
+  pub requests : IsTrue (list_all (asks_right p (state_after p (first p image) schedule)) (live (state_after p (first p image) schedule)))
+  requests = true_is _ (requests_point p sound _ _ _ sim_here whole_here)
+
+  pub owners : IsTrue (all_from (λ m. has_owner (state_after p (first p image) schedule) m (request_of (state_after p (first p image) schedule) m)) 0 p.mems)
+  owners = true_is _ (owners_point p sound _ _ _ sim_here whole_here)
+
+  pub blocks : IsTrue (list_all (λ l. list_all (λ (x : Stmt). stays_ready p (state_after p (first p image) schedule) l x.op) (past_stmts p l)) (live (state_after p (first p image) schedule)))
+  blocks = true_is _ (ready_point p sound _ _ _ sim_here whole_here)
+
+  pub paths : IsTrue (list_all (on_path p (state_after p (first p image) schedule)) (live (state_after p (first p image) schedule)))
+  paths = true_is _ (paths_point p sound _ _ _ sim_here whole_here)
+
+  pub pending : IsTrue (all_from (λ m. same_args (Sound.owners (lock_of (state_after p (first p image) schedule) m)) (Sound.holders p m (live (state_after p (first p image) schedule)))) 0 p.mems)
+  pending = true_is _ (holders_point p sound _ _ _ sim_here whole_here)
+
+  pub runs_here : Follows.Runs p (course p sound) image (Derived.ended_in (Derived.turns p image schedule)) (Derived.all_commits (Derived.turns p image schedule)) (Derived.state_after p (Derived.first p image) schedule)
+  runs_here = Follows.run_of p (course p sound) image schedule
+
+  some_seat : (arrays : Arrays) (args : List ℕ) (strays : List Derived.Thread) (sps : List Spot) → seats p arrays args sps ++ strays ≡ [] → is_nil sps ≡ false → ⊥
+  some_seat arrays args strays [] h k = cc k
+  some_seat arrays args strays (sp ∷ sps) h k = cc h
+
+  -- somebody lives
+  some_live : (reached p sound strict image schedule).0 ≡ [] → ⊥
+  some_live e = some_seat _ _ runs_here.strays runs_here.spots (sym runs_here.threads ∙ sim_here.threads ∙ ap (λ ls. rev (threads_of ls)) e) runs_here.live
+
+  pub chain_here : IsTrue (are_linked p (live (state_after p (first p image) schedule)))
+  chain_here = true_is _ (chain_point p sound _ _ _ sim_here whole_here some_live)
+
+  -- THE THREADS ON THEIR TURNS
+
+  abbrev ended : ℕ
+  ended = Derived.ended_in (Derived.turns p image schedule)
+
+  abbrev past : ℕ → List Commit
+  past m = of_mem m (Derived.all_commits (Derived.turns p image schedule))
+
+  rows_now : RowsAt image (λ m. of_mem m (Derived.all_commits (Derived.turns p image schedule))) (Derived.state_after p (Derived.first p image) schedule).arrays
+  rows_now m = ap (λ l. row l m) runs_here.arrays ∙ row_committed m (Derived.all_commits (Derived.turns p image schedule)) image
+
+  all_good : AllGood p sound image (state_after p (first p image) schedule) (Derived.state_after p (Derived.first p image) schedule) sim_here.arrays (λ m. of_mem m (Derived.all_commits (Derived.turns p image schedule))) rows_now (reached p sound strict image schedule).0 sim_here.matched
+      (followers_of p (after_turns p image (Derived.ended_in (Derived.turns p image schedule))).arrays (after_turns p image (Derived.ended_in (Derived.turns p image schedule))).next (tells (rev (reached p sound strict image schedule).0)))
+  all_good =
+      walk p sound image (state_after p (first p image) schedule) (Derived.state_after p (Derived.first p image) schedule) sim_here.arrays (λ m. of_mem m (Derived.all_commits (Derived.turns p image schedule))) rows_now (reached p sound strict image schedule).0 sim_here.matched
+      (λ m. of_mem m (writes_from p (Derived.ended_in (Derived.turns p image schedule)) image p.start)) (λ m. []) (after_turns p image (Derived.ended_in (Derived.turns p image schedule))).arrays (after_turns p image (Derived.ended_in (Derived.turns p image schedule))).next (length p.stages ∷ [])
+      (rev (reached p sound strict image schedule).0) runs_here.spots runs_here.strays (Follows.rows_at p (course p sound) image (Derived.ended_in (Derived.turns p image schedule))) (λ m h. refl) runs_here.standing runs_here.tail
+      (sym (threads_back (reached p sound strict image schedule).0) ∙ sym sim_here.threads ∙ runs_here.threads) (each_back (Seated p (state_after p (first p image) schedule)) (reached p sound strict image schedule).0 sim_here.seated) (each_back (Mine p (state_after p (first p image) schedule)) (reached p sound strict image schedule).0 (each_mine p (state_after p (first p image) schedule) (reached p sound strict image schedule).0 sim_here.falls whole_here.along sim_here.locks))
+
+  -- how many threads have ended
+  same : Cycle.ended_in (Cycle.turns p image schedule) ≡ Derived.ended_in (Derived.turns p image schedule)
+  same = ended_same p _ _ (same_turns p (sound_flows p sound) image schedule)
+
+  lives_are : live (state_after p (first p image) schedule) ≡ tells (rev (reached p sound strict image schedule).0)
+  lives_are = live_here p sound _ _ _ sim_here whole_here ∙ oldest_tells (reached p sound strict image schedule).0
+
+  followers_here : followers p image (Cycle.ended_in (Cycle.turns p image schedule)) (state_after p (first p image) schedule)
+      ≡ followers_of p (after_turns p image (Derived.ended_in (Derived.turns p image schedule))).arrays (after_turns p image (Derived.ended_in (Derived.turns p image schedule))).next (tells (rev (reached p sound strict image schedule).0))
+  followers_here = λ i. followers_of p (after_turns p image (same i)).arrays (after_turns p image (same i)).next (lives_are i)
+
+  strays_here : strays p image (Cycle.ended_in (Cycle.turns p image schedule)) (state_after p (first p image) schedule)
+      ≡ strays_of p (after_turns p image (Derived.ended_in (Derived.turns p image schedule))).arrays (after_turns p image (Derived.ended_in (Derived.turns p image schedule))).next (tells (rev (reached p sound strict image schedule).0))
+  strays_here = λ i. strays_of p (after_turns p image (same i)).arrays (after_turns p image (same i)).next (lives_are i)
+
+  -- what each follower passes, all pass
+  all_follow : (test : Follower → Bool)
+      → ((f : Follower) → Good p sound image (state_after p (first p image) schedule) (Derived.state_after p (Derived.first p image) schedule) sim_here.arrays (λ m. of_mem m (Derived.all_commits (Derived.turns p image schedule))) rows_now (reached p sound strict image schedule).0 sim_here.matched f → test f ≡ true)
+      → list_all test (followers p image (Cycle.ended_in (Cycle.turns p image schedule)) (state_after p (first p image) schedule)) ≡ true
+  all_follow test g =
+      ap (list_all test) followers_here
+      ∙ good_all p sound image (state_after p (first p image) schedule) (Derived.state_after p (Derived.first p image) schedule) sim_here.arrays (λ m. of_mem m (Derived.all_commits (Derived.turns p image schedule))) rows_now (reached p sound strict image schedule).0 sim_here.matched test g _ all_good
+
+  -- 3.
+  pub values : IsTrue (list_all (follows_values p (state_after p (first p image) schedule)) (followers p image (Cycle.ended_in (Cycle.turns p image schedule)) (state_after p (first p image) schedule)))
+  values = true_is _ (all_follow (follows_values p (state_after p (first p image) schedule))
+      (λ f g. ap₂ (λ a b. a && b)
+      (values_good p sound image (state_after p (first p image) schedule) (Derived.state_after p (Derived.first p image) schedule) sim_here.arrays (λ m. of_mem m (Derived.all_commits (Derived.turns p image schedule))) rows_now (reached p sound strict image schedule).0 sim_here.matched f g)
+      (asks_good p sound image (state_after p (first p image) schedule) (Derived.state_after p (Derived.first p image) schedule) sim_here.arrays (λ m. of_mem m (Derived.all_commits (Derived.turns p image schedule))) rows_now (reached p sound strict image schedule).0 sim_here.matched f g)))
+
+  -- 4.
+  pub entries : IsTrue (all_from (pending_right p image (Cycle.ended_in (Cycle.turns p image schedule)) (state_after p (first p image) schedule)) 0 p.mems)
+  entries = true_is _ (from_all _ 0 p.mems (λ m. ap₂ (λ a b. a && b) (holders_same p sound _ _ _ sim_here whole_here m)
+      (all_follow (right_entries p (state_after p (first p image) schedule) m)
+      (right_good p sound image (state_after p (first p image) schedule) (Derived.state_after p (Derived.first p image) schedule) sim_here.arrays (λ m. of_mem m (Derived.all_commits (Derived.turns p image schedule))) rows_now (reached p sound strict image schedule).0 sim_here.matched m))))
+
+  -- TURN BY TURN
+
+  seated_back : Each (Seated p (state_after p (first p image) schedule)) (rev (reached p sound strict image schedule).0)
+  seated_back = each_back (Seated p (state_after p (first p image) schedule)) (reached p sound strict image schedule).0 sim_here.seated
+
+  seats_here : threads_of (rev (reached p sound strict image schedule).0) ≡ seats p (after_turns p image (Derived.ended_in (Derived.turns p image schedule))).arrays (after_turns p image (Derived.ended_in (Derived.turns p image schedule))).next runs_here.spots ++ runs_here.strays
+  seats_here = sym (threads_back (reached p sound strict image schedule).0) ∙ sym sim_here.threads ∙ runs_here.threads
+
+  parted_here : (followers_of p (after_turns p image (Derived.ended_in (Derived.turns p image schedule))).arrays (after_turns p image (Derived.ended_in (Derived.turns p image schedule))).next (tells (rev (reached p sound strict image schedule).0))
+      ≡ lined p (after_turns p image (Derived.ended_in (Derived.turns p image schedule))).arrays (after_turns p image (Derived.ended_in (Derived.turns p image schedule))).next (rev (reached p sound strict image schedule).0) runs_here.spots)
+      × (strays_of p (after_turns p image (Derived.ended_in (Derived.turns p image schedule))).arrays (after_turns p image (Derived.ended_in (Derived.turns p image schedule))).next (tells (rev (reached p sound strict image schedule).0)) ≡ tells (behind (rev (reached p sound strict image schedule).0) runs_here.spots))
+  parted_here = parted p sound _ _ _ _ _ _ _ _ _ runs_here.spots runs_here.strays runs_here.standing runs_here.tail seats_here seated_back
+
+  certain_back : all_pairs (certain_after p (verify_stage p.stmts)) (tells (rev (reached p sound strict image schedule).0)) ≡ true
+  certain_back = ap (all_pairs (certain_after p (verify_stage p.stmts))) (sym lives_are) ∙ certain_point p sound _ _ _ sim_here whole_here
+
+  -- 5.
+  commits_are : (m : ℕ) → seqwrites p image m (Cycle.ended_in (Cycle.turns p image schedule)) ++ released_by m p (followers p image (Cycle.ended_in (Cycle.turns p image schedule)) (state_after p (first p image) schedule)) ≡ of_mem m (Derived.all_commits (Derived.turns p image schedule))
+  commits_are m =
+      ap₂ (λ n fs. seqwrites p image m n ++ released_by m p fs) same (followers_here ∙ parted_here.0)
+      ∙ past_is p sound _ _ _ m _ _ _ _ _ _ runs_here.spots runs_here.strays runs_here.standing seats_here seated_back refl
+
+  word_right : (m a : ℕ) → (word_at (state_after p (first p image) schedule).arrays m a
+      == wrote (row image m) (seqwrites p image m (Cycle.ended_in (Cycle.turns p image schedule)) ++ released_by m p (followers p image (Cycle.ended_in (Cycle.turns p image schedule)) (state_after p (first p image) schedule))) a) ≡ true
+  word_right m a = eq-eqb _ _ (ap (λ l. word_at l m a) sim_here.arrays ∙ ap (λ (l : Array). l a) (rows_now m ∙ ap (wrote (row image m)) (sym (commits_are m))))
+
+  none_astray : (m : ℕ) → list_all (λ l. not (has_released m p l)) (strays p image (Cycle.ended_in (Cycle.turns p image schedule)) (state_after p (first p image) schedule)) ≡ true
+  none_astray m =
+      ap (list_all (λ l. not (has_released m p l))) (strays_here ∙ parted_here.1)
+      ∙ strays_good p sound _ _ _ m _ _ _ _ _ _ runs_here.spots runs_here.strays runs_here.standing runs_here.tail seats_here seated_back certain_back
+
+  below_all : (test : ℕ → Bool) (n : ℕ) → ((a : ℕ) → test a ≡ true) → all_below test n ≡ true
+  below_all test zero f = refl
+  below_all test (suc n) f = ap₂ (λ a b. a && b) (below_all test n f) (f n)
+
+  arrays_from : (m : ℕ) (xs : List Mem) → arrays_right p image (Cycle.ended_in (Cycle.turns p image schedule)) (state_after p (first p image) schedule) m xs ≡ true
+  arrays_from m [] = refl
+  arrays_from m (x ∷ xs) = ap₂ (λ a b. a && b) (ap₂ (λ a b. a && b) (below_all _ x.depth (word_right m)) (none_astray m)) (arrays_from (suc m) xs)
+
+  pub arrays : IsTrue (arrays_right p image (Cycle.ended_in (Cycle.turns p image schedule)) (state_after p (first p image) schedule) 0 p.mems)
+  arrays = true_is _ (arrays_from 0 p.mems)
+
+  -- 8.
+  pub looks : IsTrue (all_from (λ m. all_pairs (λ older younger. not (still_looks m p older && has_released m p younger.live)) (followers p image (Cycle.ended_in (Cycle.turns p image schedule)) (state_after p (first p image) schedule))) 0 p.mems)
+  looks = true_is _ (from_all _ 0 p.mems (λ m.
+      ap (all_pairs (λ older younger. not (still_looks m p older && has_released m p younger.live))) (followers_here ∙ parted_here.0)
+      ∙ pairs_good p sound _ _ _ strict m _ _ _ _ _ _ runs_here.spots runs_here.strays runs_here.standing seats_here seated_back))
+
+  -- THE WHOLE
+
+  both : {a b : Bool} → IsTrue a → IsTrue b → IsTrue (a && b)
+  both {a} {b} h k = true_is _ (ap₂ (λ a b. a && b) (is_true a h) (is_true b k))
+
+  pub sound_state : IsTrue (is_sound p image (Cycle.ended_in (Cycle.turns p image schedule)) (state_after p (first p image) schedule))
+  sound_state = both (both (both (both (both (both (both (both (both (both order chain_here) values) entries) arrays) certain) requests) owners) looks) blocks) paths

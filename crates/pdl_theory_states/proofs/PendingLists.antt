@@ -1,0 +1,87 @@
+-- Lists of pending writes by their threads.
+use Rattle.std.proofs.Common.{◌≡◌, refl, ap, ◌∙◌, ℕ, suc, ◌+◌, ◌≤◌, ◌<◌, Bool, true, false, List, [], ◌∷◌, ◌++◌, length, ◌==◌, cond, if◌then◌else◌, arith, nat_lt, lt-ltb, le-ltb}
+use Rattle.pdl_semantics.specs.Machine.{Pending, Reserved, Written}
+use Rattle.pdl_semantics.specs.Moves.{Act}
+use Rattle.pdl_semantics.specs.Cycle.{new_entries, with_value_of, with_writes_of, with_all_writes}
+use Rattle.pdl_theory_derived.specs.Derived.{Entry}
+use Rattle.pdl_theory_derived.proofs.Lists.{own, pend}
+use Rattle.pdl_semantics.specs.PendingLists.{AreOrdered, count_older}
+use Rattle.pdl_semantics.proofs.Facts.{put_older}
+
+-- how many are older
+pub count_append : (t : ℕ) (xs ys : List Pending) → count_older t (xs ++ ys) ≡ count_older t xs + count_older t ys
+count_append t [] ys = omega arith
+count_append t (x ∷ xs) ys = at (nat_lt x.thread t) (count_append t xs ys)
+  where
+    at : (b : Bool) → count_older t (xs ++ ys) ≡ count_older t xs + count_older t ys → cond b (suc (count_older t (xs ++ ys))) (count_older t (xs ++ ys)) ≡ cond b (suc (count_older t xs)) (count_older t xs) + count_older t ys
+    at true h = omega arith
+    at false h = h
+
+count_put_all : (t m n : ℕ) (ws : List Written) (xs : List Pending) → count_older t (with_writes_of m n ws xs) ≡ count_older t xs
+count_put_all t m n [] xs = refl
+count_put_all t m n (w ∷ ws) xs = count_put_all t m n ws (if w.mem == m then with_value_of n w.value xs else xs) ∙ at (w.mem == m)
+  where
+    at : (b : Bool) → count_older t (cond b (with_value_of n w.value xs) xs) ≡ count_older t xs
+    at true = put_older t n w.value xs
+    at false = refl
+
+pub count_filled : (t m : ℕ) (ms : List Act) (xs : List Pending) → count_older t (with_all_writes m ms xs) ≡ count_older t xs
+count_filled t m [] xs = refl
+count_filled t m (a ∷ ms) xs = count_put_all t m a.thread.number a.does.writes (with_all_writes m ms xs) ∙ count_filled t m ms xs
+
+-- pending writes of one thread
+abbrev pub AllOf : ℕ → List Pending → Type 0
+AllOf k [] = Unit {0}
+AllOf k (x ∷ xs) = (x.thread ≡ k) × AllOf k xs
+
+pub of_append : (k : ℕ) (xs ys : List Pending) → AllOf k xs → AllOf k ys → AllOf k (xs ++ ys)
+of_append k [] ys f g = g
+of_append k (x ∷ xs) ys f g = (f.0, of_append k xs ys f.1 g)
+
+of_if : (k : ℕ) (b : Bool) (e : Pending) → e.thread ≡ k → AllOf k (cond b (e ∷ []) [])
+of_if k true e h = (h, tt)
+of_if k false e h = tt
+
+pub of_pend : (m n : ℕ) (es : List Entry) → AllOf n (pend m n es)
+of_pend m n [] = tt
+of_pend m n (e ∷ es) = of_append n (pend m n es) _ (of_pend m n es) (of_if n (e.mem == m) (own n e) refl)
+
+pub of_new : (m n : ℕ) (rs : List Reserved) → AllOf n (new_entries m n rs)
+of_new m n [] = tt
+of_new m n (r ∷ rs) = of_append n _ (new_entries m n rs) (of_if n (r.mem == m) _ refl) (of_new m n rs)
+
+pub none_older : (t k : ℕ) (xs : List Pending) → AllOf k xs → t ≤ k → count_older t xs ≡ 0
+none_older t k [] f h = refl
+none_older t k (x ∷ xs) f h = ap (λ b. cond b (suc (count_older t xs)) (count_older t xs)) (le-ltb x.thread t (let e = f.0 in omega arith)) ∙ none_older t k xs f.1 h
+
+-- in the order of their threads, each once, from a on and below b
+abbrev pub Within : ℕ → ℕ → List Pending → Type 0
+Within a b [] = a ≤ b
+Within a b (x ∷ xs) = (a ≤ x.thread) × Within (x.thread + 1) b xs
+
+within_low : (a b c : ℕ) (xs : List Pending) → a ≤ b → Within b c xs → Within a c xs
+within_low a b c [] h w = omega arith
+within_low a b c (x ∷ xs) h w = (let i = w.0 in omega arith, w.1)
+
+pub within_append : (a b c : ℕ) (xs ys : List Pending) → Within a b xs → Within b c ys → Within a c (xs ++ ys)
+within_append a b c [] ys v w = within_low a b c ys v w
+within_append a b c (x ∷ xs) ys v w = (v.0, within_append (x.thread + 1) b c xs ys v.1 w)
+
+pub within_one : (a b n : ℕ) (xs : List Pending) → a ≤ n → n < b → AllOf n xs → length xs ≤ 1 → Within a b xs
+within_one a b n [] h i f k = omega arith
+within_one a b n (x ∷ []) h i f k = (let e = f.0 in omega arith, let e = f.0 in omega arith)
+within_one a b n (x ∷ y ∷ xs) h i f k = absurd (omega arith)
+
+pub within_ordered : (a b : ℕ) (xs : List Pending) → Within a b xs → AreOrdered a xs
+within_ordered a b [] w = tt
+within_ordered a b (x ∷ xs) w = (w.0, within_ordered (x.thread + 1) b xs w.1)
+
+within_order : (a b : ℕ) (xs : List Pending) → Within a b xs → a ≤ b
+within_order a b [] w = w
+within_order a b (x ∷ xs) w = let h = within_order (x.thread + 1) b xs w.1 in let i = w.0 in omega arith
+
+pub within_count : (a b t : ℕ) (xs : List Pending) → Within a b xs → b ≤ t → count_older t xs ≡ length xs
+within_count a b t [] w h = refl
+within_count a b t (x ∷ xs) w h =
+    ap (λ c. cond c (suc (count_older t xs)) (count_older t xs)) (lt-ltb x.thread t (let i = within_order (x.thread + 1) b xs w.1 in omega arith))
+    ∙ ap suc (within_count (x.thread + 1) b t xs w.1 h)

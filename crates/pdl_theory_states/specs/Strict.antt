@@ -1,0 +1,62 @@
+-- What Sound state takes of an accepted pipe beside the facts of a sound one: each path binds a variable before it is used, and lets go of each location that it blocks.
+use Rattle.std.specs.Prelude.{◌≡◌, ℕ, Bool, true, false, ◌&&◌, ◌||◌, not, List, [], ◌∷◌, Option, Some, None, ◌==◌, nat_lt}
+use Rattle.pdl_semantics.specs.Flat.{Op, Bind, CombRead, DelayedRead, Write, ReserveRead, ReserveWrite, Block, Release, Call, SpecCall, Verify, SpecCheck, SpecBarrier, Stmt, Pipe, start_env}
+use Rattle.pdl_semantics.specs.Forms.{on_binding, on_block}
+use Rattle.pdl_semantics.specs.Stages.{list_any, onpath}
+use Rattle.pdl_semantics.specs.Sound.{is_release_at}
+use Rattle.pdl_theory_facts.specs.Facts.{uses_in, mentions_var}
+use Rattle.pdl_theory_facts.specs.SoundChecks.{all_paths, all_guards}
+
+-- the variable that a statement binds
+abbrev pub bound_by : Op → Option ℕ
+bound_by op = on_binding Some None op
+
+-- whether a statement uses the variable that it binds
+abbrev pub uses_own : Op → Bool
+uses_own (Bind x e) = uses_in x e
+uses_own (CombRead x m a) = a == x
+uses_own (DelayedRead x m a) = a == x
+uses_own (Write m a e) = false
+uses_own (ReserveRead m a) = false
+uses_own (ReserveWrite m a) = false
+uses_own (Block m a) = false
+uses_own (Release m a) = false
+uses_own (Call args) = false
+uses_own (SpecCall args) = false
+uses_own (Verify args) = false
+uses_own SpecCheck = false
+uses_own SpecBarrier = false
+
+-- whether one of these binds or uses a variable
+abbrev pub is_mentioned : ℕ → List Op → Bool
+is_mentioned x [] = false
+is_mentioned x (op ∷ ops) = mentions_var x op || is_mentioned x ops
+
+-- a variable of the pipe with which none of these has to do
+abbrev pub is_new : ℕ → List Op → Option ℕ → Bool
+is_new vars past None = true
+is_new vars past (Some x) = nat_lt x vars && not (is_mentioned x past)
+
+-- each statement binds a variable that it doesn't use and with which no earlier one has to do; the earlier ones are the last first
+abbrev pub all_new : ℕ → List Op → List Stmt → Bool
+all_new vars past [] = true
+all_new vars past (y ∷ ys) = (is_new vars past (bound_by y.op) && not (uses_own y.op)) && all_new vars (y.op ∷ past) ys
+
+-- after a block its location is released
+abbrev pub lets_go : Op → List Stmt → Bool
+lets_go op ys = on_block (λ m a. list_any (λ (z : Stmt). is_release_at m a z.op) ys) true op
+
+abbrev pub all_let_go : List Stmt → Bool
+all_let_go [] = true
+all_let_go (y ∷ ys) = lets_go y.op ys && all_let_go ys
+
+-- of each path, whose guards have these truth values
+pub record Strict (p : Pipe) : Type 0 where
+  -- N1, N2
+  pub names : (path : List ℕ) → all_new p.vars [] (onpath path p.stmts) ≡ true
+  -- L1, L7
+  pub blocks : (path : List ℕ) → all_let_go (onpath path p.stmts) ≡ true
+
+-- the same, computed
+abbrev pub is_strict : Pipe → Bool
+is_strict p = all_paths (all_guards p) (λ path. all_new p.vars [] (onpath path p.stmts) && all_let_go (onpath path p.stmts)) (start_env p [])

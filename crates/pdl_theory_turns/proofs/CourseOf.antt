@@ -1,0 +1,272 @@
+-- A sound pipe of the whole language has the facts that the pipeline's proof takes.
+use Rattle.std.proofs.Common.{◌≡◌, ◌≢◌, refl, sym, ap, ap₂, ◌∙◌, subst, ℕ, zero, suc, ◌≤◌, ◌<◌, inl, inr, Bool, true, false, ◌&&◌, ◌||◌, not, List, [], ◌∷◌, length, Option, Some, None, is_some, ◌==◌, cond, arith, slice_index, lt-ltb, eq-eqb}
+use Rattle.std.proofs.lemmas.Bool.{eqb-true, eqb-false, ne_eqb}
+use Rattle.pdl_semantics.specs.Flat.{Arrays, Op, DelayedRead, Verify, SpecBarrier, Stmt, Pipe, Branch, values_of, all_hold}
+use Rattle.pdl_semantics.specs.Stages.{onpath, in_stage, stage_at, commit_stage, is_release, is_verify, verify_stage}
+use Rattle.pdl_semantics.specs.Machine.{Ask, same_args}
+use Rattle.pdl_semantics.specs.Sequential.{Run, thread}
+use Rattle.pdl_theory_derived.specs.Derived.{Work, Around, Thread, work_of_stage, work_after, do_all, find_ask}
+use Rattle.pdl_theory_derived.specs.Alone.{alone, before, start_work, so_far, thread_at}
+use Rattle.pdl_theory_facts.specs.Scans.{none_of, all_at, no_scan, scan_after_all}
+use Rattle.pdl_theory_facts.specs.Certain.{stands_at, stands_before, is_barrier}
+use Rattle.pdl_theory_facts.specs.Graphs.{Trunk, next_of}
+use Rattle.pdl_theory_facts.specs.Facts.{fetches_no, none_like, alone_op, fetch_apart, FetchOk, looked_all, at_once, visits_stage, Sound}
+use Rattle.pdl_theory_facts.specs.Accepted.{along}
+use Rattle.pdl_theory_facts.specs.Facts.{trunk_only}
+use Rattle.pdl_theory_derived.proofs.Writes.{and_left, and_right}
+use Rattle.pdl_theory_derived.proofs.Stages.{step}
+use Rattle.pdl_theory_turns.proofs.Paths.{before_path, none_onpath}
+use Rattle.pdl_theory_turns.proofs.Turn.{quiet, none_in_stage, release_looked}
+use Rattle.pdl_theory_turns.proofs.Guesses.{same_args_refl}
+use Rattle.pdl_theory_turns.proofs.TurnFacts.{next_at, right_guess, stage_work}
+use Rattle.pdl_theory_derived.proofs.Answering.{AllAsks, all_more, all_snoc, Apart, apart_snoc}
+use Rattle.pdl_theory_turns.proofs.Courses.{Course, AskOk, Strayed}
+use Rattle.pdl_theory_turns.proofs.Sounds.{EachFetch, asks_each, fetch_each, alive}
+use Rattle.pdl_theory_turns.proofs.Roams.{verify_looked, before_none, Barred}
+use Rattle.pdl_theory_turns.proofs.Roaming.{Roams, has_made, roams_answered, fresh_roams, roam_step}
+use Rattle.pdl_theory_turns.proofs.Sounds
+use Rattle.pdl_theory_turns.proofs.Turns
+use Rattle.pdl_theory_turns.proofs.Makes
+
+-- DIFFERENT REQUESTS
+
+-- a request that later delayed reads avoid
+abbrev Later : Ask → List Stmt → Type 0
+Later q ys = EachFetch (λ x m. (x ≢ q.var) × (m ≢ q.mem)) ys
+
+later_like : (x m : ℕ) (q : Ask) (ys : List Stmt) → q.var ≡ x → q.mem ≡ m → none_like x m ys ≡ true → Later q ys
+later_like x m q [] e f h = tt
+later_like x m q (y ∷ ys) e f h = ((λ d z n a i. one z n (ap (fetches_no x m) (sym i) ∙ and_left (fetches_no x m y.op) _ h)), later_like x m q ys e f (and_right (fetches_no x m y.op) _ h))
+  where
+    differ : (a b : ℕ) → not (a == b) ≡ true → b ≢ a
+    differ a b k i = at (a == b) refl k
+      where
+        at : (c : Bool) → (a == b) ≡ c → not c ≡ true → ⊥
+        at true j l = absurd (cc l)
+        at false j l = eqb-false a b j (sym i)
+
+    one : (z n : ℕ) → (not (x == z) && not (m == n)) ≡ true → (z ≢ q.var) × (n ≢ q.mem)
+    one z n k = ((λ i. differ x z (and_left _ _ k) (i ∙ e)), (λ i. differ m n (and_right (not (x == z)) _ k) (i ∙ f)))
+
+apart_op : (o : Around) (op : Op) (ys : List Stmt) (w : Work) → alone_op op ys ≡ true → Apart w.asks → AllAsks (λ q. ((x m a : ℕ) → op ≡ DelayedRead x m a → (x ≢ q.var) × (m ≢ q.mem)) × Later q ys) w.asks
+    → Apart (work_after o op w).asks × AllAsks (λ q. Later q ys) (work_after o op w).asks
+apart_op o (DelayedRead x m a) ys w h p l = (
+  apart_snoc w.asks (record { mem = m; var = x; address = slice_index w.env a }) p (all_more _ (λ r. (r.var ≢ x) × (r.mem ≢ m)) w.asks (λ q k. ((λ i. (k.0 x m a refl).0 (sym i)), (λ i. (k.0 x m a refl).1 (sym i)))) l),
+  all_snoc (λ q. Later q ys) w.asks (record { mem = m; var = x; address = slice_index w.env a }) (all_more _ (λ q. Later q ys) w.asks (λ q k. k.1) l) (later_like x m (record { mem = m; var = x; address = slice_index w.env a }) ys refl refl h),
+)
+apart_op o (Verify args) ys w h p l = at (same_args (values_of args w.env) w.guess)
+  where
+    at : (b : Bool) → Apart (cond b w (record w { child = Some (values_of args w.env); fails = true })).asks × AllAsks (λ q. Later q ys) (cond b w (record w { child = Some (values_of args w.env); fails = true })).asks
+    at true = (p, all_more _ (λ q. Later q ys) w.asks (λ q k. k.1) l)
+    at false = (p, all_more _ (λ q. Later q ys) w.asks (λ q k. k.1) l)
+apart_op o _ ys w h p l = (p, all_more _ (λ q. Later q ys) w.asks (λ q k. k.1) l)
+
+pub apart_asks : (o : Around) (ys : List Stmt) (w : Work) → fetch_apart ys ≡ true → Apart w.asks → AllAsks (λ q. Later q ys) w.asks → Apart (do_all o ys w).asks
+apart_asks o [] w h p l = p
+apart_asks o (y ∷ ys) w h p l =
+    let s = at (all_hold y.guards w.env) refl in apart_asks o ys (step o y w) (and_right (alone_op y.op ys) _ h) s.0 s.1
+  where
+    at : (b : Bool) → all_hold y.guards w.env ≡ b → Apart (cond b (work_after o y.op w) w).asks × AllAsks (λ q. Later q ys) (cond b (work_after o y.op w) w).asks
+    at true e = apart_op o y.op ys w (and_left _ _ h) p (all_more _ (λ q. ((x m a : ℕ) → y.op ≡ DelayedRead x m a → (x ≢ q.var) × (m ≢ q.mem)) × Later q ys) w.asks (λ q k. (k.0 (alive y.guards w.env e), k.1)) l)
+    at false e = (p, all_more _ (λ q. Later q ys) w.asks (λ q k. k.1) l)
+
+-- what is known of a request that is found
+found_one : (P : ℕ → Type 0) (qs : List Ask) (m : ℕ) → AllAsks (λ q. P q.mem) qs → is_some (find_ask qs m) ≡ true → P m
+found_one P [] m h k = absurd (cc k)
+found_one P (q ∷ qs) m h k = at (q.mem == m) refl k (found_one P qs m h.1)
+  where
+    at : (b : Bool) → (q.mem == m) ≡ b → is_some (cond b (Some q.address) (find_ask qs m)) ≡ true → (is_some (find_ask qs m) ≡ true → P m) → P m
+    at true e i f = subst P (eqb-true q.mem m e) h.0
+    at false e i f = f i
+
+pub all_at_looked : (m c : ℕ) (xs : List Stmt) → all_at (is_release m) c (looked_all xs) ≡ all_at (is_release m) c xs
+all_at_looked m c [] = refl
+all_at_looked m c (x ∷ xs) = ap₂ (λ b d. (not b || (x.stage == c)) && d) (release_looked m x.op) (all_at_looked m c xs)
+
+-- what no branch may hold
+trunk_none : (test : Op → Bool) → ((op : Op) → not (trunk_only op) ≡ true → not (test op) ≡ true) → (xs : List Stmt) → none_of trunk_only xs ≡ true → none_of test xs ≡ true
+trunk_none test f [] h = refl
+trunk_none test f (x ∷ xs) h = ap₂ (λ a b. a && b) (f x.op (and_left (not (trunk_only x.op)) _ h)) (trunk_none test f xs (and_right (not (trunk_only x.op)) _ h))
+
+no_barrier : (op : Op) → not (trunk_only op) ≡ true → not (is_barrier op) ≡ true
+no_barrier SpecBarrier h = absurd (cc h)
+no_barrier _ h = refl
+
+no_verify : (op : Op) → not (trunk_only op) ≡ true → not (is_verify op) ≡ true
+no_verify (Verify args) h = absurd (cc h)
+no_verify _ h = refl
+
+-- the stage of the verifies has one
+verify_here : (xs : List Stmt) (v : ℕ) → verify_stage xs ≡ Some v → none_of is_verify (in_stage v xs) ≡ true → ⊥
+verify_here [] v e h = cc e
+verify_here (x ∷ xs) v e h = at (is_verify x.op) refl e (λ i. verify_here xs v i (rest (x.stage == v) h))
+  where
+    rest : (b : Bool) → none_of is_verify (cond b (x ∷ in_stage v xs) (in_stage v xs)) ≡ true → none_of is_verify (in_stage v xs) ≡ true
+    rest true k = and_right (not (is_verify x.op)) _ k
+    rest false k = k
+
+    same : Some x.stage ≡ Some v → x.stage ≡ v
+    same k = cc
+
+    clash : false ≡ true → ⊥
+    clash k = cc
+
+    at : (b : Bool) → is_verify x.op ≡ b → cond b (Some x.stage) (verify_stage xs) ≡ Some v → (verify_stage xs ≡ Some v → ⊥) → ⊥
+    at true f i g =
+        clash (sym (ap not f) ∙ and_left (not (is_verify x.op)) _ (subst (λ b. none_of is_verify (cond b (x ∷ in_stage v xs) (in_stage v xs)) ≡ true) (eq-eqb x.stage v (same i)) h))
+    at false f i g = g i
+
+-- the stages that a path comes to one after another, and whether it comes to this one
+abbrev pub walk : Pipe → List ℕ → ℕ → ℕ
+walk p path zero = 0
+walk p path (suc k) = next_of p (walk p path k) path
+
+abbrev pub Reached : Pipe → List ℕ → ℕ → Type 0
+Reached p path s = (k : ℕ) × (s ≡ walk p path k)
+
+module _ (p : Pipe) (acc : Sound p) where
+  -- V, or 0 where there is none
+  abbrev pub v_of : Option ℕ → ℕ
+  v_of None = 0
+  v_of (Some v) = v
+
+  v_low : (o : Option ℕ) → verify_stage p.stmts ≡ o → v_of o < length p.stages
+  v_low None e = acc.graph.some_stage
+  v_low (Some v) e = acc.pathwise.verify_inside v (verify_looked p.stmts ∙ e)
+
+  pub v_trunk : (o : Option ℕ) → verify_stage p.stmts ≡ o → Trunk p (v_of o)
+  v_trunk None e = acc.graph.trunk_start
+  v_trunk (Some v) e = at (stage_at p v).branch refl
+    where
+      at : (b : Option Branch) → (stage_at p v).branch ≡ b → Trunk p v
+      at None i = i
+      at (Some c) i = absurd (verify_here p.stmts v e (trunk_none is_verify no_verify (in_stage v p.stmts) (acc.trunk_holds v c i)))
+
+  no_start : before 0 p.stmts ≡ []
+  no_start = before_none p.stmts
+
+  module _ (arrays : Arrays) (args : List ℕ) where
+    so : (s : ℕ) → so_far p arrays args s ≡ so_far (along (thread (at_once p) arrays args).env (at_once p)) arrays args s
+    so s = sym (Sounds.same_so p acc arrays args s) ∙ Turns.so_path (at_once p) acc.pathwise arrays args s
+
+    whole : thread p arrays args ≡ thread (along (thread (at_once p) arrays args).env (at_once p)) arrays args
+    whole = sym (Sounds.same_thread p acc arrays args) ∙ Turns.thread_path (at_once p) acc.pathwise arrays args
+
+    child_here : (s : ℕ) → (stage_work p arrays args s).child ≡ (stage_work (along (thread (at_once p) arrays args).env (at_once p)) arrays args s).child
+    child_here s = ap (λ (w : Work). w.child) (sym (Sounds.same_stage p acc arrays args s)) ∙ ap (λ (w : Work). w.child) (Turns.works_path (at_once p) acc.pathwise arrays args s)
+
+    fails_here : (s : ℕ) → (stage_work p arrays args s).fails ≡ (stage_work (along (thread (at_once p) arrays args).env (at_once p)) arrays args s).fails
+    fails_here s = ap (λ (w : Work). w.fails) (sym (Sounds.same_stage p acc arrays args s)) ∙ ap (λ (w : Work). w.fails) (Turns.works_path (at_once p) acc.pathwise arrays args s)
+
+    moved_here : (s : ℕ) (c : Option (List ℕ)) (f : Bool)
+        → ((stage_work (along (thread (at_once p) arrays args).env (at_once p)) arrays args s).child ≡ c) × ((stage_work (along (thread (at_once p) arrays args).env (at_once p)) arrays args s).fails ≡ f)
+        → ((stage_work p arrays args s).child ≡ c) × ((stage_work p arrays args s).fails ≡ f)
+    moved_here s c f h = (child_here s ∙ h.0, fails_here s ∙ h.1)
+
+    child_end : right_guess (so_far p arrays args (length p.stages)).child (thread p arrays args).next ≡ true
+    child_end =
+        ap₂ (λ (w : Work) (r : Run). right_guess w.child r.next) (so (length p.stages)) whole
+        ∙ ap (λ c. right_guess c (thread (along (thread (at_once p) arrays args).env (at_once p)) arrays args).next) (Makes.child_in_end (at_once p) acc.pathwise (thread (at_once p) arrays args).env arrays args)
+        ∙ same_args_refl (thread (along (thread (at_once p) arrays args).env (at_once p)) arrays args).next
+
+    not_yet : (s : ℕ) → (so_far p arrays args s).child ≡ None → (stage_work p arrays args s).fails ≡ false
+    not_yet s h = fails_here s ∙ Makes.not_yet (at_once p) acc.pathwise (thread (at_once p) arrays args).env arrays args (alone arrays) s (ap (λ (w : Work). w.child) (sym (so s)) ∙ h)
+
+    right_stays : (s : ℕ) → right_guess (so_far p arrays args s).child (thread p arrays args).next ≡ true → ((stage_work p arrays args s).child ≡ None) × ((stage_work p arrays args s).fails ≡ false)
+    right_stays s h = moved_here s None false (Makes.right_stays (at_once p) acc.pathwise (thread (at_once p) arrays args).env arrays args s (ap₂ (λ (w : Work) (r : Run). right_guess w.child r.next) (sym (so s)) (sym whole) ∙ h))
+
+    -- a wrong guess, along the path
+    module _ (s : ℕ) (x : List ℕ) (e : (so_far p arrays args s).child ≡ Some x) (h : same_args x (thread p arrays args).next ≡ false) where
+      made_here : (so_far (along (thread (at_once p) arrays args).env (at_once p)) arrays args s).child ≡ Some x
+      made_here = ap (λ (w : Work). w.child) (sym (so s)) ∙ e
+
+      wrong_here : same_args x (thread (along (thread (at_once p) arrays args).env (at_once p)) arrays args).next ≡ false
+      wrong_here = ap (λ (r : Run). same_args x r.next) (sym whole) ∙ h
+
+      inside : (v : ℕ) × (verify_stage (looked_all p.stmts) ≡ Some v) × (s ≤ v)
+      inside = Makes.guess_inside (at_once p) acc.pathwise (thread (at_once p) arrays args).env arrays args s (Makes.wrong_made (at_once p) acc.pathwise (thread (at_once p) arrays args).env arrays args s x made_here wrong_here)
+
+      there : verify_stage p.stmts ≡ Some inside.0
+      there = sym (verify_looked p.stmts) ∙ inside.1
+
+      wrong_made : (s ≤ v_of (verify_stage p.stmts)) × (verify_stage p.stmts ≡ Some (v_of (verify_stage p.stmts)))
+      wrong_made = (subst (λ o. s ≤ v_of o) (sym there) inside.2, there ∙ ap (λ o. Some (v_of o)) (sym there))
+
+      wrong_before : s < v_of (verify_stage p.stmts) → ((stage_work p arrays args s).child ≡ None) × ((stage_work p arrays args s).fails ≡ false)
+      wrong_before low =
+          moved_here s None false (Makes.no_second (at_once p) acc.pathwise (thread (at_once p) arrays args).env arrays args (alone arrays) s x made_here
+          (ap (λ o. stands_at o s) inside.1 ∙ ne_eqb s inside.0 (λ i. absurd (let j : s < inside.0 = subst (λ o. s < v_of o) there low in omega arith))))
+
+      wrong_at : s ≡ v_of (verify_stage p.stmts) → ((stage_work p arrays args s).child ≡ Some (thread p arrays args).next) × ((stage_work p arrays args s).fails ≡ true)
+      wrong_at i =
+          let w = moved_here s (Some (thread (along (thread (at_once p) arrays args).env (at_once p)) arrays args).next) true (Makes.wrong_at (at_once p) acc.pathwise (thread (at_once p) arrays args).env arrays args s x made_here wrong_here (verify_looked p.stmts ∙ wrong_made.1 ∙ ap Some (sym i))) in
+          (w.0 ∙ ap (λ (r : Run). Some r.next) (sym whole), w.1)
+
+    fetched : (o : Around) (t : Thread) → AllAsks (λ q. FetchOk p acc.fetch t.stage q.var q.mem) (work_of_stage p o t).asks
+    fetched o t = asks_each (λ x m. FetchOk p acc.fetch t.stage x m) o (in_stage t.stage p.stmts) _ (fetch_each p acc.fetch t.stage (in_stage t.stage p.stmts) (acc.fetch_ok t.stage)) tt
+
+  roams_step : (o : Around) (t : Thread) → Roams p t → t.awaits ≡ [] → t.stage < v_of (verify_stage p.stmts) → (Trunk p t.stage → o.clear ≡ false) → (work_of_stage p o t).ready ≡ true → Strayed p (Roams p) (has_made p) t (work_of_stage p o t)
+  roams_step o t r done low clear ready = at (verify_stage p.stmts) refl
+    where
+      below_last : v_of (verify_stage p.stmts) < length p.stages → t.stage < v_of (verify_stage p.stmts) → t.stage < length p.stages
+      below_last i j = omega arith
+
+      barred : (b : Option Branch) → (stage_at p t.stage).branch ≡ b → Barred o (onpath (work_of_stage p o t).env (in_stage t.stage p.stmts))
+      barred None e = inr (clear e)
+      barred (Some c) e = inl (none_onpath is_barrier (work_of_stage p o t).env (in_stage t.stage p.stmts) (trunk_none is_barrier no_barrier (in_stage t.stage p.stmts) (acc.trunk_holds t.stage c e)))
+
+      at : (v : Option ℕ) → verify_stage p.stmts ≡ v → Strayed p (Roams p) (has_made p) t (work_of_stage p o t)
+      at None e = absurd (let i : t.stage < 0 = subst (λ v. t.stage < v_of v) e low in omega arith)
+      at (Some v) e =
+          let i : t.stage < v = subst (λ o. t.stage < v_of o) e low in
+          let h = roam_step p acc o t r (below_last (v_low (verify_stage p.stmts) refl) low) (ap (λ o. stands_before o t.stage) e ∙ lt-ltb _ _ i) (ap (λ o. stands_at o t.stage) e ∙ ne_eqb t.stage v (λ j. absurd (omega arith))) (barred (stage_at p t.stage).branch refl) ready in
+          record { fails = h.2; commits = h.0; goes_on = h.1; once = h.3; born = λ x k. fresh_roams p acc x; made_next = h.4 }
+
+  pub course : Course p
+  course =
+      record {
+        graph = acc.graph;
+        branches = acc.branches;
+        locks = (acc.pathwise.paths []).locks;
+        plain_from = (acc.pathwise.paths []).plain_from;
+        plain_to = (acc.pathwise.paths []).plain_to;
+        on = λ arrays args s. (visits_stage p (thread (at_once p) arrays args).env s ≡ true) × Reached p (thread (at_once p) arrays args).env s;
+        on_start = λ arrays args. (Sounds.on_start p acc arrays args, (0, refl));
+        on_next = λ arrays args s on low. (Sounds.on_next p acc arrays args s on.0 low, (suc on.1.0, Sounds.path_next p acc arrays args s ∙ ap (λ n. next_of p n (thread (at_once p) arrays args).env) on.1.1));
+        start_so = λ arrays args. ap (λ l. do_all (alone arrays) l (start_work p args)) no_start;
+        start_blocked = λ arrays args. ap (λ l. (scan_after_all l no_scan).blocked) (before_path (thread p arrays args).env 0 p.stmts ∙ ap (onpath (thread p arrays args).env) no_start);
+        here_alike = λ arrays args o s clean on low f plain ready r. Sounds.here_alike p acc arrays args o s clean on.0 low f plain ready r;
+        next_so = λ arrays args s on low. Sounds.next_values p acc arrays args s on.0 low;
+        fetch = acc.fetch;
+        asks_at = λ o t m h. sym (found_one (λ n. acc.fetch n ≡ t.stage) (work_of_stage p o t).asks m (all_more _ (λ q. acc.fetch q.mem ≡ t.stage) (work_of_stage p o t).asks (λ q k. k.here) (fetched (λ n a. 0) [] o t)) h);
+        asks_ok = λ arrays args s on low. all_more _ (AskOk p acc.fetch s (next_at p arrays args s)) (stage_work p arrays args s).asks (λ q k. record { here = k.here; known = k.known; exact = k.exact; early = k.early (stage_work p arrays args s).env }) (fetched arrays args (alone arrays) (thread_at p arrays args s));
+        asks_apart = λ arrays args s on low. apart_asks (alone arrays) (in_stage s p.stmts) _ (acc.fetch_alone s) tt tt;
+        row_after = λ arrays args m. Sounds.row_after p acc arrays args m;
+        quiet_at = λ o t m h. quiet m o (in_stage t.stage p.stmts) _ (none_in_stage (is_release m) (commit_stage p m) t.stage p.stmts (sym (all_at_looked m (commit_stage p m) p.stmts) ∙ acc.pathwise.releases m) h);
+        marks_start = λ arrays args m. Sounds.marks_start p acc arrays args m;
+        marks_step = λ arrays args s m on low. Sounds.marks_step p acc arrays args s m on.0 low;
+        marks_seen = λ arrays args s m a rest h. Sounds.marks_seen p acc arrays args s m a rest h;
+        marks_plain = λ arrays args s m h. Sounds.marks_plain p acc arrays args s m h;
+        marks_late = λ arrays args s m h. Sounds.marks_late p acc arrays args s m h;
+        marks_end = λ arrays args m. Sounds.marks_end p acc arrays args m;
+        v = v_of (verify_stage p.stmts);
+        v_inside = v_low (verify_stage p.stmts) refl;
+        trunk_v = v_trunk (verify_stage p.stmts) refl;
+        child_next = λ arrays args s on low. Sounds.child_next p acc arrays args s on.0 low;
+        child_end = child_end;
+        not_yet = λ arrays args s on low h. not_yet arrays args s h;
+        right_stays = λ arrays args s on low h. right_stays arrays args s h;
+        wrong_made = wrong_made;
+        wrong_before = λ arrays args s x on e h low. wrong_before arrays args s x e h low;
+        wrong_at = λ arrays args s x on e h i. wrong_at arrays args s x e h i;
+        stray = Roams p;
+        made = has_made p;
+        stray_fresh = fresh_roams p acc;
+        stray_answered = λ st bits t r. roams_answered p st bits t r;
+        stray_step = roams_step;
+      }
+
+  -- a stage that a turn comes to is reached on its path
+  pub on_reached : (arrays : Arrays) (args : List ℕ) (s : ℕ) → course.on arrays args s → Reached p (thread (at_once p) arrays args).env s
+  unfolding course
+  on_reached arrays args s on = on.1

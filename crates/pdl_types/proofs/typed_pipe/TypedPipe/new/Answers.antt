@@ -1,0 +1,14 @@
+use Rattle.std.proofs.Common.{ap, ◌∙◌}
+use Rattle.pdl_syntax_tree.specs.View.{pipe_view}
+use Rattle.pdl_types.specs.Narrow.{are_narrow}
+use Rattle.pdl_types.proofs.Unbroken.{keeps_widths}
+use Rattle.pdl_types.proofs.Narrow.{variables_narrow}
+use Rattle.pdl_types.proofs.typed_pipe.TypedPipe.new.Goals as goal
+
+pub invariant_of-result : goal.invariant_of-result
+invariant_of-result c =
+    let p = pipe_view c.args.pipe in
+    record {
+      told = c.in_ok-variables.ensures;
+      narrow = ap are_narrow c.in_ok-variables.ensures ∙ variables_narrow p (keeps_widths p c.requires.within c.requires.named c.requires.fitting);
+    }

@@ -1,0 +1,8 @@
+use Rattle.std.proofs.Common.{◌≤◌, sym, arith}
+use Rattle.pdl_types.proofs.Narrow.{narrow_among}
+use Rattle.pdl_types.proofs.typed_pipe.TypedPipe.width.Goals as goal
+
+pub overflow_cast-result : goal.overflow_cast-result
+overflow_cast-result c =
+    let most : c.in-Some.width ≤ 64 = narrow_among c.args.self.now.variables c.args.self.now.narrow c.args.name.now c.in-Some.width (sym c.in-Some.ensures) in
+    omega (arith, most)

@@ -1,6 +1,0 @@
-use Rattle.std.proofs.Common.{take, map}
-use Rattle.pdl_vnets.specs.Places.{AreFirsts}
-use Rattle.pdl_vnets.proofs.scope.arrays_of.Given as goal
-
-abbrev pub invariant-loop-array : goal.invariant-loop-array
-invariant-loop-array l = AreFirsts (map (λ d. d.name) (take l.array-index l.arrays)) l.places

@@ -1,7 +1,0 @@
-use Rattle.std.proofs.Common.{◌≡◌, drop}
-use Rattle.std.specs.List.{list_all}
-use Rattle.pdl_vpipe.specs.Tests as spec
-use Rattle.pdl_vpipe.proofs.memories.agrees_with_all.Given as goal
-
-abbrev pub invariant-loop-mem : goal.invariant-loop-mem
-invariant-loop-mem l = list_all (spec.agrees l.delayed) (drop l.mem-index l.locked) ≡ list_all (spec.agrees l.delayed) l.locked

@@ -1,7 +1,0 @@
-use Rattle.std.proofs.Common.{◌≡◌, drop, flat_map}
-use Rattle.pdl_net.specs.Pipe.{reply_ports}
-use Rattle.pdl_vpipe.specs.Matched.{after, heads}
-use Rattle.pdl_vpipe.proofs.ports.replies.Given as goal
-
-abbrev pub invariant-loop-mem : goal.invariant-loop-mem
-invariant-loop-mem l = after (flat_map reply_ports (drop l.mem-index l.mems)) (heads l.left) ≡ after (flat_map reply_ports l.mems) (heads l.ports)

@@ -1,7 +1,0 @@
-use Rattle.std.proofs.Common.{◌≡◌, take}
-use Rattle.pdl_vpipe.specs.Matched.{heads}
-use Rattle.pdl_vpipe.specs.Told as spec
-use Rattle.pdl_vpipe.proofs.shape.widths.Given as goal
-
-abbrev pub invariant-loop-port : goal.invariant-loop-port
-invariant-loop-port l = l.widths ≡ spec.widths l.prefix (heads (take l.port-index l.ports))

@@ -1,0 +1,276 @@
+-- A netlist is a pipe's exactly where the tests pass.
+use Rattle.std.proofs.Common.{◌≡◌, ◌≢◌, ◌⊎◌, inl, inr, ℕ, ◌+◌, ◌*◌, ◌^◌, ◌<◌, ◌≤◌, Bool, true, false, not, ◌&&◌, ◌||◌, cond, eqb, leb, List, [], ◌∷◌, length, get_or, map, Some, None, All, Contains, bytes_eq, refl, sym, ap, ◌∙◌, subst, arith, length-append}
+use Rattle.std.specs.List.{list_all, list_any}
+use Rattle.std.proofs.lemmas.Bool.{and_parts, and_from, or_cases, or_left, or_right, leb-true, le-leb, eqb-true, eq-eqb, not-true, not_from_false, true≢false, false_from_ne_true, cond_both}
+use Rattle.std.proofs.lemmas.List.{get_or_default, get_or-map, length-map}
+use Rattle.std.proofs.lemmas.List.Sums.{AllPass-from_list_all, list_all-from_AllPass}
+use Rattle.std.proofs.lemmas.List.Folds.{Any-from_list_any, list_any-from_Any, list_any_none}
+use Rattle.pdl_kit.specs.declared.mem_info.MemInfo.{MemInfo}
+use Rattle.pdl_net.specs.declared.Array.{Array}
+use Rattle.pdl_net.specs.declared.WritePort.{WritePort}
+use Rattle.pdl_net.specs.declared.Netlist.{Netlist}
+use Rattle.pdl_net.specs.Circuit.{no_array}
+use Rattle.pdl_net.specs.Pipe.{Head, PortMem, pipe_ports, IsAddress, IsPipeArray, IsKept, IsPipe, mems_of, delayed_info, comb_info}
+use Rattle.pdl_vread_pipe.specs.declared.shape.Shape.{Shape}
+use Rattle.pdl_vread_pipe.specs.Told.{told, with_mems}
+use Rattle.pdl_vread_pipe.specs.Matched.{heads, same, after}
+use Rattle.pdl_vread_pipe.specs.Tests as spec
+use Rattle.pdl_vread_pipe.specs.Tests.{judged}
+use Rattle.pdl_vread_pipe.proofs.Telling.{told_of}
+use Rattle.pdl_word.proofs.Bytes.{same_bytes, bytes_same}
+
+-- ---- names
+
+-- ---- lists
+
+module _ {X : Type 0} (f : X → Bool) (P : X → Type 0) where
+  all_to : ((x : X) → f x ≡ true → P x) → (xs : List X) → list_all f xs ≡ true → All P xs
+  all_to to xs h = λ k d l. to (get_or xs k d) (AllPass-from_list_all f xs h k d l)
+
+  all_from : ((x : X) → P x → f x ≡ true) → (xs : List X) → All P xs → list_all f xs ≡ true
+  all_from from xs h = list_all-from_AllPass f xs (λ k d l. from (get_or xs k d) (h k d l))
+
+-- an element passes what all pass
+at_element : {X : Type 0} (f : X → Bool) (xs : List X) (x : X) → list_all f xs ≡ true → Contains xs x → f x ≡ true
+at_element f xs x h c = subst (λ y. f y ≡ true) c.2 (AllPass-from_list_all f xs h c.0 x c.1)
+
+each_element : {X : Type 0} (f : X → Bool) (xs : List X) → ((x : X) → Contains xs x → f x ≡ true) → list_all f xs ≡ true
+each_element f xs h = list_all-from_AllPass f xs (λ k d l. h (get_or xs k d) (k, l, get_or_default xs k (get_or xs k d) d l))
+
+-- ---- ports
+
+flag : (a b : Bool) → cond a b (not b) ≡ true → b ≡ a
+flag true b h = h
+flag false true h = sym h
+flag false false h = refl
+
+flag_same : (a : Bool) → cond a a (not a) ≡ true
+flag_same true = refl
+flag_same false = refl
+
+same_is : (e h : Head) → same e h ≡ true → h ≡ e
+same_is e h k =
+    let make : List ℕ → ℕ → Bool → Head = λ n w i. record { name = n; width = w; input = i } in
+    let a = and_parts (bytes_eq h.name e.name) _ k in
+    let b = and_parts (eqb h.width e.width) _ a.1 in
+    ap (λ n. make n h.width h.input) (bytes_same h.name e.name a.0) ∙ (ap (λ w. make e.name w h.input) (eqb-true h.width e.width b.0) ∙ ap (λ i. make e.name e.width i) (flag e.input h.input b.1))
+
+same_self : (e : Head) → same e e ≡ true
+same_self e = and_from _ _ (same_bytes e.name e.name refl) (and_from _ _ (eq-eqb e.width e.width refl) (flag_same e.input))
+
+over_is : (es hs : List Head) → spec.is_over (after es hs) ≡ true → hs ≡ es
+over_is [] [] h = refl
+over_is [] (x ∷ xs) h = absurd (true≢false (sym h))
+over_is (e ∷ es) [] h = absurd (true≢false (sym h))
+over_is (e ∷ es) (x ∷ xs) h = go (same e x) refl (over_is es xs) h
+  where
+    go : (b : Bool) → same e x ≡ b → (spec.is_over (after es xs) ≡ true → xs ≡ es) → spec.is_over (cond b (after es xs) None) ≡ true → x ∷ xs ≡ e ∷ es
+    go true k i h = let j = same_is e x k in let l = i h in cc
+    go false k i h = absurd (true≢false (sym h))
+
+over_self : (es : List Head) → spec.is_over (after es es) ≡ true
+over_self [] = refl
+over_self (e ∷ es) = ap (λ b. spec.is_over (cond b (after es es) None)) (same_self e) ∙ over_self es
+
+-- ---- memories
+
+address_is : (m : PortMem) → spec.has_address m ≡ true → IsAddress m
+address_is m h = let a = and_parts (leb 1 m.bits) (leb m.bits 16) h in record { low = leb-true 1 m.bits a.0; high = leb-true m.bits 16 a.1 }
+
+is_address : (m : PortMem) → IsAddress m → spec.has_address m ≡ true
+is_address m a = and_from _ _ (le-leb 1 m.bits a.low) (le-leb m.bits 16 a.high)
+
+sizes_are : (d l : PortMem) → d.name ≡ l.name → spec.same_sizes d l ≡ true → d ≡ l
+sizes_are d l e h =
+    let make : List ℕ → ℕ → ℕ → PortMem = λ n w b. record { name = n; width = w; bits = b } in
+    let a = and_parts (eqb d.width l.width) (eqb d.bits l.bits) h in
+    ap (λ n. make n d.width d.bits) e ∙ (ap (λ w. make l.name w d.bits) (eqb-true d.width l.width a.0) ∙ ap (λ b. make l.name l.width b) (eqb-true d.bits l.bits a.1))
+
+sizes_same : (d l : PortMem) → d ≡ l → spec.same_sizes d l ≡ true
+sizes_same d l e = and_from _ _ (eq-eqb d.width l.width (ap (λ m. m.width) e)) (eq-eqb d.bits l.bits (ap (λ m. m.bits) e))
+
+agree_is : (delayed locked : List PortMem) → list_all (spec.all_agree locked) delayed ≡ true → (d l : PortMem) → Contains delayed d → Contains locked l → d.name ≡ l.name → d ≡ l
+agree_is delayed locked h d l c k e =
+    let a : spec.agrees d l ≡ true = at_element (spec.agrees d) locked l (at_element (spec.all_agree locked) delayed d h c) k in
+    sizes_are d l e (ap (λ b. cond b (spec.same_sizes d l) true) (sym (same_bytes d.name l.name e)) ∙ a)
+
+is_agree : (delayed locked : List PortMem) → ((d l : PortMem) → Contains delayed d → Contains locked l → d.name ≡ l.name → d ≡ l) → list_all (spec.all_agree locked) delayed ≡ true
+is_agree delayed locked h = each_element (spec.all_agree locked) delayed (λ d c. each_element (spec.agrees d) locked (λ l k. cond_both (bytes_eq d.name l.name) (spec.same_sizes d l) true (λ b. b ≡ true) (λ e. sizes_same d l (h d l c k (bytes_same d.name l.name e))) (λ e. refl)))
+
+-- ---- arrays
+
+-- no memory has the name
+none_named : (x : List ℕ) (ms : List PortMem) → list_any (spec.is_named x) ms ≡ false → All (λ m. m.name ≢ x) ms
+none_named x ms h = λ k d l e.
+    let m = get_or ms k d in
+    true≢false (sym (list_any-from_Any (spec.is_named x) ms (k, m, l, get_or_default ms k m d l, same_bytes m.name x e)) ∙ h)
+
+named_none : (x : List ℕ) (ms : List PortMem) → All (λ m. m.name ≢ x) ms → list_any (spec.is_named x) ms ≡ false
+named_none x ms h = list_any_none (spec.is_named x) ms (λ k d l. false_from_ne_true _ (λ e. h k d l (bytes_same _ x e)))
+
+-- where all have other names none is found
+unnamed_clash : (x : List ℕ) (ms : List PortMem) → list_any (spec.is_named x) ms ≡ true → All (λ m. m.name ≢ x) ms → ⊥
+unnamed_clash x ms h a = true≢false (sym h ∙ named_none x ms a)
+
+depth_is : (b d : ℕ) → spec.has_depth b d ≡ true → (d ≡ 2 ^ b) ⊎ (d ≡ 2 * 2 ^ b)
+depth_is b d h = go (or_cases (eqb d (2 ^ b)) (eqb d (2 * 2 ^ b)) h)
+  where
+    go : (eqb d (2 ^ b) ≡ true) ⊎ (eqb d (2 * 2 ^ b) ≡ true) → (d ≡ 2 ^ b) ⊎ (d ≡ 2 * 2 ^ b)
+    go (inl e) = inl (eqb-true d (2 ^ b) e)
+    go (inr e) = inr (eqb-true d (2 * 2 ^ b) e)
+
+is_depth : (b d : ℕ) → (d ≡ 2 ^ b) ⊎ (d ≡ 2 * 2 ^ b) → spec.has_depth b d ≡ true
+is_depth b d (inl e) = or_left _ _ (eq-eqb d (2 ^ b) e)
+is_depth b d (inr e) = or_right _ _ (eq-eqb d (2 * 2 ^ b) e)
+
+-- what the test of a locked memory says where it has the array's name
+lock_is : (a : Array) (m : PortMem) → spec.fits_lock a m ≡ true → m.name ≡ a.name → (a.width ≡ m.width) × ((a.depth ≡ 2 ^ m.bits) ⊎ (a.depth ≡ 2 * 2 ^ m.bits))
+lock_is a m h e =
+    let k : eqb a.width m.width && spec.has_depth m.bits a.depth ≡ true = ap (λ b. cond b (eqb a.width m.width && spec.has_depth m.bits a.depth) true) (sym (same_bytes m.name a.name e)) ∙ h in
+    let p = and_parts (eqb a.width m.width) (spec.has_depth m.bits a.depth) k in
+    (eqb-true a.width m.width p.0, depth_is m.bits a.depth p.1)
+
+is_lock : (a : Array) (m : PortMem) → (m.name ≡ a.name → a.width ≡ m.width) → (m.name ≡ a.name → (a.depth ≡ 2 ^ m.bits) ⊎ (a.depth ≡ 2 * 2 ^ m.bits)) → spec.fits_lock a m ≡ true
+is_lock a m w d = cond_both (bytes_eq m.name a.name) (eqb a.width m.width && spec.has_depth m.bits a.depth) true (λ b. b ≡ true)
+    (λ e. let n = bytes_same m.name a.name e in and_from _ _ (eq-eqb a.width m.width (w n)) (is_depth m.bits a.depth (d n))) (λ e. refl)
+
+unwritten_is : (ws : List WritePort) → spec.is_unwritten ws ≡ true → ws ≡ []
+unwritten_is [] h = refl
+unwritten_is (w ∷ ws) h = absurd (true≢false (sym h))
+
+unlocked_is : (a : Array) (locked : List PortMem) → (list_any (spec.is_named a.name) locked || (leb a.depth 65536 && spec.is_unwritten a.writes)) ≡ true → All (λ m. m.name ≢ a.name) locked → (a.depth ≤ 65536) × (a.writes ≡ [])
+unlocked_is a locked h none = go (or_cases (list_any (spec.is_named a.name) locked) (leb a.depth 65536 && spec.is_unwritten a.writes) h)
+  where
+    go : (list_any (spec.is_named a.name) locked ≡ true) ⊎ (leb a.depth 65536 && spec.is_unwritten a.writes ≡ true) → (a.depth ≤ 65536) × (a.writes ≡ [])
+    go (inl e) = absurd (unnamed_clash a.name locked e none)
+    go (inr e) = let p = and_parts (leb a.depth 65536) (spec.is_unwritten a.writes) e in (leb-true a.depth 65536 p.0, unwritten_is a.writes p.1)
+
+is_unlocked : (a : Array) (locked : List PortMem) → (All (λ m. m.name ≢ a.name) locked → (a.depth ≤ 65536) × (a.writes ≡ [])) → (list_any (spec.is_named a.name) locked || (leb a.depth 65536 && spec.is_unwritten a.writes)) ≡ true
+is_unlocked a locked h = go (list_any (spec.is_named a.name) locked) refl
+  where
+    go : (b : Bool) → list_any (spec.is_named a.name) locked ≡ b → (b || (leb a.depth 65536 && spec.is_unwritten a.writes)) ≡ true
+    go true e = refl
+    go false e = let p = h (none_named a.name locked e) in and_from _ _ (le-leb a.depth 65536 p.0) (ap spec.is_unwritten p.1)
+
+array_is : (delayed locked : List PortMem) (a : Array) → spec.is_array delayed locked a ≡ true → IsPipeArray delayed locked a
+array_is delayed locked a h =
+    let p = and_parts (not (list_any (spec.is_named a.name) delayed)) _ h in
+    let q = and_parts (list_all (spec.fits_lock a) locked) _ p.1 in
+    record {
+      inside = none_named a.name delayed (not-true _ p.0);
+      width = λ k d l e. (lock_is a (get_or locked k d) (AllPass-from_list_all (spec.fits_lock a) locked q.0 k d l) e).0;
+      depth = λ k d l e. (lock_is a (get_or locked k d) (AllPass-from_list_all (spec.fits_lock a) locked q.0 k d l) e).1;
+      unlocked = unlocked_is a locked q.1;
+    }
+
+is_array : (delayed locked : List PortMem) (a : Array) → IsPipeArray delayed locked a → spec.is_array delayed locked a ≡ true
+is_array delayed locked a p =
+    and_from _ _ (not_from_false _ (named_none a.name delayed p.inside))
+    (and_from _ _ (list_all-from_AllPass (spec.fits_lock a) locked (λ k d l. is_lock a (get_or locked k d) (p.width k d l) (p.depth k d l))) (is_unlocked a locked p.unlocked))
+
+-- ---- what is kept
+
+found_mem : (delayed : List PortMem) (m : PortMem) → list_any (spec.same_mem m) delayed ≡ true → Contains delayed m
+found_mem delayed m h =
+    let a = Any-from_list_any (spec.same_mem m) delayed h in
+    let d = a.1 in
+    let p = and_parts (bytes_eq d.name m.name) (spec.same_sizes d m) a.4 in
+    let e : d ≡ m = sizes_are d m (bytes_same d.name m.name p.0) p.1 in
+    (a.0, a.2, get_or_default delayed a.0 m d a.2 ∙ (a.3 ∙ e))
+
+mem_found : (delayed : List PortMem) (m : PortMem) → Contains delayed m → list_any (spec.same_mem m) delayed ≡ true
+mem_found delayed m c = list_any-from_Any (spec.same_mem m) delayed (c.0, m, c.1, c.2, and_from _ _ (same_bytes m.name m.name refl) (sizes_same m m refl))
+
+abbrev has : List ℕ → Array → Bool
+has x a = bytes_eq a.name x
+
+found_array : (arrays : List Array) (x : List ℕ) → list_any (has x) arrays ≡ true → Contains (map (λ a. a.name) arrays) x
+found_array arrays x h =
+    let a = Any-from_list_any (has x) arrays h in
+    let n = length-map arrays (λ (y : Array). y.name) in
+    (a.0, omega (arith, n, a.2), get_or-map (λ (y : Array). y.name) arrays a.0 a.1 x a.2 ∙ (ap (λ (y : Array). y.name) a.3 ∙ bytes_same a.1.name x a.4))
+
+array_found : (arrays : List Array) (x : List ℕ) → Contains (map (λ a. a.name) arrays) x → list_any (has x) arrays ≡ true
+array_found arrays x c =
+    let n = length-map arrays (λ (y : Array). y.name) in
+    let l : c.0 < length arrays = omega (arith, n, c.1) in
+    let a = get_or arrays c.0 no_array in
+    let e : a.name ≡ x = sym (get_or-map (λ (y : Array). y.name) arrays c.0 no_array x l) ∙ c.2 in
+    list_any-from_Any (has x) arrays (c.0, a, l, get_or_default arrays c.0 a no_array l, same_bytes a.name x e)
+
+kept_is : (delayed : List PortMem) (arrays : List Array) (m : PortMem) → spec.is_kept delayed arrays m ≡ true → IsKept delayed arrays m
+kept_is delayed arrays m h = go (or_cases (list_any (spec.same_mem m) delayed) (list_any (has m.name) arrays) h)
+  where
+    go : (list_any (spec.same_mem m) delayed ≡ true) ⊎ (list_any (has m.name) arrays ≡ true) → IsKept delayed arrays m
+    go (inl e) = inl (found_mem delayed m e)
+    go (inr e) = inr (found_array arrays m.name e)
+
+is_kept : (delayed : List PortMem) (arrays : List Array) (m : PortMem) → IsKept delayed arrays m → spec.is_kept delayed arrays m ≡ true
+is_kept delayed arrays m (inl c) = or_left _ _ (mem_found delayed m c)
+is_kept delayed arrays m (inr c) = or_right _ _ (array_found arrays m.name c)
+
+-- ---- all of it
+
+pub length_mems : (d l : List PortMem) (arrays : List Array) → length (mems_of d l arrays) ≡ length d + length arrays
+length_mems d l arrays =
+    let info : Array → MemInfo = λ a. comb_info a (spec.find_named a.name l) in
+    length-append (map delayed_info d) (map info arrays) ∙ (ap (λ k. k + length (map info arrays)) (length-map d delayed_info) ∙ ap (λ k. length d + k) (length-map arrays info))
+
+passed : (n : Netlist) (s : Shape) → spec.is_pipe n s ≡ true → IsPipe (with_mems n (mems_of s.delayed s.locked n.arrays))
+passed n s h =
+    let p = and_parts (spec.has_counts s n.arrays) _ h in
+    let q = and_parts (spec.has_ports (heads n.ports) s) (spec.has_mems s n.arrays) p.1 in
+    let c = and_parts (leb 1 s.stages) _ p.0 in
+    let e = and_parts (leb s.stages 64) (leb (length s.delayed + length n.arrays) 16) c.1 in
+    let a = and_parts (list_all spec.has_address s.delayed) _ q.1 in
+    let b = and_parts (list_all spec.has_address s.locked) _ a.1 in
+    let g = and_parts (list_all (spec.all_agree s.locked) s.delayed) _ b.1 in
+    let k = and_parts (list_all (spec.is_array s.delayed s.locked) n.arrays) (list_all (spec.is_kept s.delayed n.arrays) s.locked) g.1 in
+    let few : length s.delayed + length n.arrays ≤ 16 = leb-true _ 16 e.1 in
+    record {
+      stages = s.stages;
+      delayed = s.delayed;
+      locked = s.locked;
+      few = leb-true 1 s.stages c.0;
+      many = leb-true s.stages 64 e.0;
+      ports = over_is (pipe_ports s.stages s.delayed s.locked) (heads n.ports) q.0;
+      delayed_addresses = all_to spec.has_address IsAddress address_is s.delayed a.0;
+      locked_addresses = all_to spec.has_address IsAddress address_is s.locked b.0;
+      agree = agree_is s.delayed s.locked g.0;
+      arrays = all_to (spec.is_array s.delayed s.locked) (IsPipeArray s.delayed s.locked) (array_is s.delayed s.locked) n.arrays k.0;
+      kept = all_to (spec.is_kept s.delayed n.arrays) (IsKept s.delayed n.arrays) (kept_is s.delayed n.arrays) s.locked k.1;
+      mems = refl;
+      count = let i = length_mems s.delayed s.locked n.arrays in omega (arith, i, few);
+    }
+
+passes : (n : Netlist) (ms : List MemInfo) (p : IsPipe (with_mems n ms)) → spec.is_pipe n (record { stages = p.stages; delayed = p.delayed; locked = p.locked }) ≡ true
+passes n ms p =
+    let i : length ms ≡ length p.delayed + length n.arrays = ap length p.mems ∙ length_mems p.delayed p.locked n.arrays in
+    let few = p.count in
+    and_from _ _ (and_from _ _ (le-leb 1 p.stages p.few) (and_from _ _ (le-leb p.stages 64 p.many) (le-leb _ 16 (omega (arith, i, few)))))
+    (and_from _ _ (ap (λ hs. spec.is_over (after (pipe_ports p.stages p.delayed p.locked) hs)) p.ports ∙ over_self (pipe_ports p.stages p.delayed p.locked))
+    (and_from _ _ (all_from spec.has_address IsAddress is_address p.delayed p.delayed_addresses)
+    (and_from _ _ (all_from spec.has_address IsAddress is_address p.locked p.locked_addresses)
+    (and_from _ _ (is_agree p.delayed p.locked p.agree)
+    (and_from _ _ (all_from (spec.is_array p.delayed p.locked) (IsPipeArray p.delayed p.locked) (is_array p.delayed p.locked) n.arrays p.arrays) (all_from (spec.is_kept p.delayed n.arrays) (IsKept p.delayed n.arrays) (is_kept p.delayed n.arrays) p.locked p.kept))))))
+
+pub is_pipe_of : (n : Netlist) (ms : List MemInfo) → judged n ≡ Some ms → IsPipe (with_mems n ms)
+unfolding judged
+is_pipe_of n ms h = go (spec.is_pipe n (told (heads n.ports))) refl h
+  where
+    go : (b : Bool) → spec.is_pipe n (told (heads n.ports)) ≡ b → cond b (Some (mems_of (told (heads n.ports)).delayed (told (heads n.ports)).locked n.arrays)) None ≡ Some ms → IsPipe (with_mems n ms)
+    go true k e =
+        let i : mems_of (told (heads n.ports)).delayed (told (heads n.ports)).locked n.arrays ≡ ms = cc in
+        subst (λ x. IsPipe (with_mems n x)) i (passed n (told (heads n.ports)) k)
+    go false k e = let i : true ≡ false = cc in absurd (true≢false i)
+
+pub judged_of : (n : Netlist) (ms : List MemInfo) → IsPipe (with_mems n ms) → judged n ≡ Some ms
+unfolding judged
+judged_of n ms p =
+    let s : Shape = record { stages = p.stages; delayed = p.delayed; locked = p.locked } in
+    let e : told (heads n.ports) ≡ s = ap told p.ports ∙ told_of p.stages p.delayed p.locked in
+    let Q : Shape → Type 0 = λ t. cond (spec.is_pipe n t) (Some (mems_of t.delayed t.locked n.arrays)) None ≡ Some ms in
+    let k : Q s = ap (λ b. cond b (Some (mems_of p.delayed p.locked n.arrays)) None) (passes n ms p) ∙ ap Some (sym p.mems) in
+    subst Q (sym e) k
+
+pub ruleset both_ways = (is_pipe_of, judged_of)

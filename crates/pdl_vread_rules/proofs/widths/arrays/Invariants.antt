@@ -1,0 +1,7 @@
+use Rattle.std.proofs.Common.{◌≡◌, map, drop}
+use Rattle.pdl_vread_rules.specs.Asked.{first_wrong}
+use Rattle.pdl_vread_rules.specs.Widths as spec
+use Rattle.pdl_vread_rules.proofs.widths.arrays.Given as goal
+
+abbrev pub invariant-loop-decl : goal.invariant-loop-decl
+invariant-loop-decl l = first_wrong (map spec.asked_array (drop l.decl-index l.decls)) ≡ first_wrong (map spec.asked_array l.decls)

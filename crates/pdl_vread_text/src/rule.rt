@@ -1,0 +1,500 @@
+//! The rules of the grammar: what may come where, and what each rule is made of.
+ghost use Rattle.std.specs.Prelude.{◌≡◌};
+ghost use Rattle.pdl_vread_text.specs.Grammar as spec;
+
+use crate::field::Field;
+
+/// A place in a file, by what may come there.
+#[derive(Clone, Copy)]
+pub enum Part {
+    /// The beginning of a file.
+    Start,
+    /// After the reset or a port.
+    Ports,
+    /// A port, after its comma.
+    Direction,
+    /// The declarations of registers.
+    Regs,
+    /// What a range after `reg` belongs to.
+    Declared,
+    /// The declarations of arrays.
+    Arrays,
+    /// The array that a range after `reg` belongs to.
+    LaterArray,
+    /// The cells.
+    Cells,
+    /// The right side of a cell.
+    Term,
+    /// A term after the operand that begins it.
+    AfterOperand,
+    /// A term after its `{`.
+    Braced,
+    /// The `assign`s of outputs.
+    Outputs,
+    /// The blocks of registers.
+    Blocks,
+    /// What a block drives.
+    Block,
+    /// The blocks of arrays.
+    ArrayBlocks,
+    /// The first write of a block.
+    FirstWrite,
+    /// A block after a write.
+    Writes,
+    /// Nothing more.
+    Finished,
+}
+
+/// A rule: a row of tokens that may come at some part, and the part after it.
+#[derive(Clone, Copy)]
+pub enum Rule {
+    /// `module module_name ( input wire clk , input wire [ num : 0 ] rst`
+    Opening,
+    /// `,`
+    NextPort,
+    /// `input wire [ num : 0 ] port`
+    InputPort,
+    /// `output wire [ num : 0 ] port`
+    OutputPort,
+    /// `) ;`
+    Closing,
+    /// `reg [ num : 0 ]`
+    RegRange,
+    /// `r_id ;`
+    RegDeclared,
+    /// `a_id [ 0 : num ] ;`
+    ArrayDeclared,
+    /// `reg [ num : 0 ]`
+    ArrayRange,
+    /// `wire [ num : 0 ] n_id ; assign n_id =`
+    CellHead,
+    /// `const ;`
+    ConstTerm,
+    /// `~ id ;`
+    NotTerm,
+    /// `a_id [ id ] ;`
+    ReadTerm,
+    /// `id`
+    FirstOperand,
+    /// `op id ;`
+    BinTerm,
+    /// `? id : id ;`
+    MuxTerm,
+    /// `[ num : num ] ;`
+    SliceTerm,
+    /// `{`
+    OpenTerm,
+    /// `id , id } ;`
+    CatTerm,
+    /// `num { id } } ;`
+    RepTerm,
+    /// `assign port = id ;`
+    OutputDriven,
+    /// `always @ ( posedge clk )`
+    BlockHead,
+    /// `r_id <= rst ? const : id ;`
+    RegDriven,
+    /// `begin`
+    ArrayBegin,
+    /// `always @ ( posedge clk ) begin`
+    ArrayHead,
+    /// `if ( id ) a_id [ id ] <= id ;`
+    Written,
+    /// `end`
+    ArrayEnd,
+    /// `endmodule`
+    Ending,
+}
+
+static OPENING: [Field; 15] = [
+    Field::Module,
+    Field::ModuleName,
+    Field::OpenRound,
+    Field::Input,
+    Field::Wire,
+    Field::Clock,
+    Field::Comma,
+    Field::Input,
+    Field::Wire,
+    Field::OpenSquare,
+    Field::Number,
+    Field::Colon,
+    Field::Zero,
+    Field::CloseSquare,
+    Field::Reset,
+];
+
+static NEXT_PORT: [Field; 1] = [Field::Comma];
+
+static INPUT_PORT: [Field; 8] = [
+    Field::Input,
+    Field::Wire,
+    Field::OpenSquare,
+    Field::Number,
+    Field::Colon,
+    Field::Zero,
+    Field::CloseSquare,
+    Field::PortName,
+];
+
+static OUTPUT_PORT: [Field; 8] = [
+    Field::Output,
+    Field::Wire,
+    Field::OpenSquare,
+    Field::Number,
+    Field::Colon,
+    Field::Zero,
+    Field::CloseSquare,
+    Field::PortName,
+];
+
+static CLOSING: [Field; 2] = [Field::CloseRound, Field::Semicolon];
+
+static REG_RANGE: [Field; 6] = [
+    Field::Reg,
+    Field::OpenSquare,
+    Field::Number,
+    Field::Colon,
+    Field::Zero,
+    Field::CloseSquare,
+];
+
+static REG_DECLARED: [Field; 2] = [Field::RegName, Field::Semicolon];
+
+static ARRAY_DECLARED: [Field; 7] = [
+    Field::ArrayName,
+    Field::OpenSquare,
+    Field::Zero,
+    Field::Colon,
+    Field::Number,
+    Field::CloseSquare,
+    Field::Semicolon,
+];
+
+static ARRAY_RANGE: [Field; 6] = [
+    Field::Reg,
+    Field::OpenSquare,
+    Field::Number,
+    Field::Colon,
+    Field::Zero,
+    Field::CloseSquare,
+];
+
+static CELL_HEAD: [Field; 11] = [
+    Field::Wire,
+    Field::OpenSquare,
+    Field::Number,
+    Field::Colon,
+    Field::Zero,
+    Field::CloseSquare,
+    Field::CellName,
+    Field::Semicolon,
+    Field::Assign,
+    Field::CellName,
+    Field::Equals,
+];
+
+static CONST_TERM: [Field; 2] = [Field::Constant, Field::Semicolon];
+
+static NOT_TERM: [Field; 3] = [Field::Tilde, Field::Operand, Field::Semicolon];
+
+static READ_TERM: [Field; 5] = [
+    Field::ArrayName,
+    Field::OpenSquare,
+    Field::Operand,
+    Field::CloseSquare,
+    Field::Semicolon,
+];
+
+static FIRST_OPERAND: [Field; 1] = [Field::Operand];
+
+static BIN_TERM: [Field; 3] = [Field::Operator, Field::Operand, Field::Semicolon];
+
+static MUX_TERM: [Field; 5] = [
+    Field::Question,
+    Field::Operand,
+    Field::Colon,
+    Field::Operand,
+    Field::Semicolon,
+];
+
+static SLICE_TERM: [Field; 6] = [
+    Field::OpenSquare,
+    Field::Number,
+    Field::Colon,
+    Field::Number,
+    Field::CloseSquare,
+    Field::Semicolon,
+];
+
+static OPEN_TERM: [Field; 1] = [Field::OpenBrace];
+
+static CAT_TERM: [Field; 5] = [
+    Field::Operand,
+    Field::Comma,
+    Field::Operand,
+    Field::CloseBrace,
+    Field::Semicolon,
+];
+
+static REP_TERM: [Field; 6] = [
+    Field::Number,
+    Field::OpenBrace,
+    Field::Operand,
+    Field::CloseBrace,
+    Field::CloseBrace,
+    Field::Semicolon,
+];
+
+static OUTPUT_DRIVEN: [Field; 5] = [
+    Field::Assign,
+    Field::PortName,
+    Field::Equals,
+    Field::Operand,
+    Field::Semicolon,
+];
+
+static BLOCK_HEAD: [Field; 6] = [
+    Field::Always,
+    Field::At,
+    Field::OpenRound,
+    Field::Posedge,
+    Field::Clock,
+    Field::CloseRound,
+];
+
+static REG_DRIVEN: [Field; 8] = [
+    Field::RegName,
+    Field::Takes,
+    Field::Reset,
+    Field::Question,
+    Field::Constant,
+    Field::Colon,
+    Field::Operand,
+    Field::Semicolon,
+];
+
+static ARRAY_BEGIN: [Field; 1] = [Field::Begin];
+
+static ARRAY_HEAD: [Field; 7] = [
+    Field::Always,
+    Field::At,
+    Field::OpenRound,
+    Field::Posedge,
+    Field::Clock,
+    Field::CloseRound,
+    Field::Begin,
+];
+
+static WRITTEN: [Field; 11] = [
+    Field::If,
+    Field::OpenRound,
+    Field::Operand,
+    Field::CloseRound,
+    Field::ArrayName,
+    Field::OpenSquare,
+    Field::Operand,
+    Field::CloseSquare,
+    Field::Takes,
+    Field::Operand,
+    Field::Semicolon,
+];
+
+static ARRAY_END: [Field; 1] = [Field::End];
+
+static ENDING: [Field; 1] = [Field::EndModule];
+
+static AT_START: [Rule; 1] = [Rule::Opening];
+
+static AT_PORTS: [Rule; 2] = [Rule::NextPort, Rule::Closing];
+
+static AT_DIRECTION: [Rule; 2] = [Rule::InputPort, Rule::OutputPort];
+
+static AT_REGS: [Rule; 5] = [
+    Rule::RegRange,
+    Rule::CellHead,
+    Rule::OutputDriven,
+    Rule::BlockHead,
+    Rule::Ending,
+];
+
+static AT_DECLARED: [Rule; 2] = [Rule::RegDeclared, Rule::ArrayDeclared];
+
+static AT_ARRAYS: [Rule; 5] = [
+    Rule::ArrayRange,
+    Rule::CellHead,
+    Rule::OutputDriven,
+    Rule::BlockHead,
+    Rule::Ending,
+];
+
+static AT_LATER_ARRAY: [Rule; 1] = [Rule::ArrayDeclared];
+
+static AT_CELLS: [Rule; 4] = [
+    Rule::CellHead,
+    Rule::OutputDriven,
+    Rule::BlockHead,
+    Rule::Ending,
+];
+
+static AT_TERM: [Rule; 5] = [
+    Rule::ConstTerm,
+    Rule::NotTerm,
+    Rule::FirstOperand,
+    Rule::ReadTerm,
+    Rule::OpenTerm,
+];
+
+static AT_AFTER_OPERAND: [Rule; 3] = [Rule::BinTerm, Rule::MuxTerm, Rule::SliceTerm];
+
+static AT_BRACED: [Rule; 2] = [Rule::CatTerm, Rule::RepTerm];
+
+static AT_OUTPUTS: [Rule; 3] = [Rule::OutputDriven, Rule::BlockHead, Rule::Ending];
+
+static AT_BLOCKS: [Rule; 2] = [Rule::BlockHead, Rule::Ending];
+
+static AT_BLOCK: [Rule; 2] = [Rule::RegDriven, Rule::ArrayBegin];
+
+static AT_ARRAY_BLOCKS: [Rule; 2] = [Rule::ArrayHead, Rule::Ending];
+
+static AT_FIRST_WRITE: [Rule; 1] = [Rule::Written];
+
+static AT_WRITES: [Rule; 2] = [Rule::Written, Rule::ArrayEnd];
+
+// The first of the rules whose first token a word may be.
+fn first_with(rules: &[Rule], text: &[u8]) -> Option<Rule>
+    ensures { result ≡ spec.first_with rules.now text.now }
+{
+    for rule in rules {
+        if rule.begins_with(text) {
+            return Some(*rule);
+        }
+    }
+    None
+}
+
+impl Part {
+    /// The rules that may come here.
+    fn rules(self) -> &'static [Rule]
+        ensures { result.now ≡ spec.rules self }
+    {
+        match self {
+            Part::Start => &AT_START,
+            Part::Ports => &AT_PORTS,
+            Part::Direction => &AT_DIRECTION,
+            Part::Regs => &AT_REGS,
+            Part::Declared => &AT_DECLARED,
+            Part::Arrays => &AT_ARRAYS,
+            Part::LaterArray => &AT_LATER_ARRAY,
+            Part::Cells => &AT_CELLS,
+            Part::Term => &AT_TERM,
+            Part::AfterOperand => &AT_AFTER_OPERAND,
+            Part::Braced => &AT_BRACED,
+            Part::Outputs => &AT_OUTPUTS,
+            Part::Blocks => &AT_BLOCKS,
+            Part::Block => &AT_BLOCK,
+            Part::ArrayBlocks => &AT_ARRAY_BLOCKS,
+            Part::FirstWrite => &AT_FIRST_WRITE,
+            Part::Writes => &AT_WRITES,
+            Part::Finished => &[],
+        }
+    }
+
+    /// Whether nothing may come here.
+    pub fn is_finished(self) -> bool
+        ensures { result ≡ spec.is_finished self }
+    {
+        match self {
+            Part::Finished => true,
+            _ => false,
+        }
+    }
+
+    /// The rule that comes here where the next token is this word: the first whose first token it may be.
+    #[tactic(auto, unfolding(crate::specs::Grammar::chosen))]
+    pub fn chosen(self, text: &[u8]) -> Option<Rule>
+        ensures { result ≡ spec.chosen self text.now }
+    {
+        first_with(self.rules(), text)
+    }
+}
+
+impl Rule {
+    /// What its tokens have to be.
+    pub fn fields(self) -> &'static [Field]
+        ensures { result.now ≡ spec.fields self }
+    {
+        match self {
+            Rule::Opening => &OPENING,
+            Rule::NextPort => &NEXT_PORT,
+            Rule::InputPort => &INPUT_PORT,
+            Rule::OutputPort => &OUTPUT_PORT,
+            Rule::Closing => &CLOSING,
+            Rule::RegRange => &REG_RANGE,
+            Rule::RegDeclared => &REG_DECLARED,
+            Rule::ArrayDeclared => &ARRAY_DECLARED,
+            Rule::ArrayRange => &ARRAY_RANGE,
+            Rule::CellHead => &CELL_HEAD,
+            Rule::ConstTerm => &CONST_TERM,
+            Rule::NotTerm => &NOT_TERM,
+            Rule::ReadTerm => &READ_TERM,
+            Rule::FirstOperand => &FIRST_OPERAND,
+            Rule::BinTerm => &BIN_TERM,
+            Rule::MuxTerm => &MUX_TERM,
+            Rule::SliceTerm => &SLICE_TERM,
+            Rule::OpenTerm => &OPEN_TERM,
+            Rule::CatTerm => &CAT_TERM,
+            Rule::RepTerm => &REP_TERM,
+            Rule::OutputDriven => &OUTPUT_DRIVEN,
+            Rule::BlockHead => &BLOCK_HEAD,
+            Rule::RegDriven => &REG_DRIVEN,
+            Rule::ArrayBegin => &ARRAY_BEGIN,
+            Rule::ArrayHead => &ARRAY_HEAD,
+            Rule::Written => &WRITTEN,
+            Rule::ArrayEnd => &ARRAY_END,
+            Rule::Ending => &ENDING,
+        }
+    }
+
+    // Whether a word may be its first token.
+    fn begins_with(self, text: &[u8]) -> bool
+        ensures { result ≡ spec.begins_with self text.now }
+    {
+        match self.fields().first() {
+            Some(field) => field.fits(text),
+            None => false,
+        }
+    }
+
+    /// The part after it.
+    pub fn next(self) -> Part
+        ensures { result ≡ spec.next self }
+    {
+        match self {
+            Rule::Opening | Rule::InputPort | Rule::OutputPort => Part::Ports,
+            Rule::NextPort => Part::Direction,
+            Rule::Closing | Rule::RegDeclared => Part::Regs,
+            Rule::RegRange => Part::Declared,
+            Rule::ArrayDeclared => Part::Arrays,
+            Rule::ArrayRange => Part::LaterArray,
+            Rule::CellHead => Part::Term,
+            Rule::ConstTerm
+            | Rule::NotTerm
+            | Rule::ReadTerm
+            | Rule::BinTerm
+            | Rule::MuxTerm
+            | Rule::SliceTerm
+            | Rule::CatTerm
+            | Rule::RepTerm => Part::Cells,
+            Rule::FirstOperand => Part::AfterOperand,
+            Rule::OpenTerm => Part::Braced,
+            Rule::OutputDriven => Part::Outputs,
+            Rule::BlockHead => Part::Block,
+            Rule::RegDriven => Part::Blocks,
+            Rule::ArrayBegin | Rule::ArrayHead => Part::FirstWrite,
+            Rule::Written => Part::Writes,
+            Rule::ArrayEnd => Part::ArrayBlocks,
+            Rule::Ending => Part::Finished,
+        }
+    }
+}

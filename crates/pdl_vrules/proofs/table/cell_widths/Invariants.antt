@@ -1,6 +1,0 @@
-use Rattle.std.proofs.Common.{◌≡◌, map, take}
-use Rattle.pdl_vrules.specs.Widths as spec
-use Rattle.pdl_vrules.proofs.table.cell_widths.Given as goal
-
-abbrev pub invariant-loop-decl : goal.invariant-loop-decl
-invariant-loop-decl l = l.widths ≡ map (λ d. spec.bits d.high) (take l.decl-index l.decls)

@@ -1,7 +1,0 @@
-use Rattle.std.proofs.Common.{◌≡◌, length, drop}
-use Rattle.pdl_vrules.specs.Asked.{first_wrong, both}
-use Rattle.pdl_vrules.specs.Widths as spec
-use Rattle.pdl_vrules.proofs.widths.cells.Given as goal
-
-abbrev pub invariant-loop-decl : goal.invariant-loop-decl
-invariant-loop-decl l = first_wrong (both (spec.asked_cell l.widths) (drop (length l.yielded) l.decls) (drop (length l.yielded) l.cells)) ≡ first_wrong (both (spec.asked_cell l.widths) l.decls l.cells)

@@ -1,7 +1,0 @@
-use Rattle.std.proofs.Common.{◌≡◌, map, drop}
-use Rattle.pdl_vrules.specs.Asked.{first_wrong}
-use Rattle.pdl_vrules.specs.Widths as spec
-use Rattle.pdl_vrules.proofs.widths.regs.Given as goal
-
-abbrev pub invariant-loop-decl : goal.invariant-loop-decl
-invariant-loop-decl l = first_wrong (map spec.asked_reg (drop l.decl-index l.decls)) ≡ first_wrong (map spec.asked_reg l.decls)
