@@ -15,10 +15,10 @@ ghost use Rattle.pdl_source_paths.specs.Source.{is_source, is_named};
 ghost use Rattle.pdl_rules.specs.Memories.{infos_of};
 
 use pdl_form::FlatPipe;
-use pdl_rules_judge::Plans;
 use pdl_kit::{MemInfo, Seq};
 use pdl_locks::LockPlan;
 use pdl_paths::Guards;
+use pdl_rules_judge::Plans;
 use pdl_spec::SpecPlan;
 use pdl_stages::StageGraph;
 use pdl_syntax_tree::Pipe;

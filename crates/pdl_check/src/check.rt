@@ -17,11 +17,11 @@ ghost use Rattle.pdl_check.specs.Answers.{check_answer, Gives, Refuses, IsRefuse
 use crate::accepted::Accepted;
 use crate::infos::infos_of;
 use crate::read::read;
-use pdl_form_lower::lower;
 use pdl_form::FlatPipe;
-use pdl_rules_judge::{Plans, judge as plan};
+use pdl_form_lower::lower;
 use pdl_kit::{MemInfo, NoMemory, Refusal, Seq};
 use pdl_paths::{Guards, guards_of, places};
+use pdl_rules_judge::{Plans, judge as plan};
 use pdl_stages::{StageGraph, stage_graph};
 use pdl_syntax_tree::Pipe;
 use pdl_types::TypedPipe;

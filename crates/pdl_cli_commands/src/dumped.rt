@@ -22,8 +22,8 @@ use pdl_cli_failure::{Failure, in_text};
 use pdl_kit::files::Files;
 use pdl_kit::sink::Sink;
 use pdl_net::Netlist;
-use pdl_pipe::compile;
 use pdl_netrun_wave::dump;
+use pdl_pipe::compile;
 use std::alloc::Global;
 
 // Writes the dump of a run of a netlist while it runs.

@@ -6,9 +6,9 @@ ghost use Rattle.pdl_cli_failure.specs.Failures.{refused_at};
 ghost use Rattle.pdl_cli_failure.specs.Failures as spec;
 ghost use Rattle.pdl_cli_failure.specs.declared.failure.Failure.TheVariants.{NoMemory as no_memory};
 
-use pdl_cli_args::LineError;
 use pdl_asm::AsmError;
 use pdl_asm_table::TableError;
+use pdl_cli_args::LineError;
 use pdl_image::FileError;
 use pdl_kit::files::ReadError;
 use pdl_kit::sink::{Sink, WriteFailed, write_whole};

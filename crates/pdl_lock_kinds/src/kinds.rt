@@ -9,10 +9,10 @@ ghost use Rattle.pdl_pipe_locks.specs.Suited.{AreSuited};
 ghost use Rattle.pdl_lock_any.specs.Asked.{lock_asked};
 ghost use Rattle.pdl_lock_kinds.specs.Asked.{locks_asked, AreInTime, AreSizedLocks};
 
-use pdl_lock_any::AnyLock;
 use pdl_bypass::BypassLock;
 use pdl_form::{FlatPipe, Lock};
 use pdl_kit::NoMemory;
+use pdl_lock_any::AnyLock;
 use pdl_lockapi::LockModule;
 use pdl_queue::QueueLock;
 use pdl_rename::RenameFile;

@@ -16,8 +16,8 @@ ghost use Rattle.pdl_locks.specs.Asked.{breaks_at_location};
 use crate::numbers::number_of;
 use crate::uses::{LocationUse, use_at};
 use pdl_kit::{Name, NoMemory};
-use pdl_rules_on_paths::PathRule;
 use pdl_paths::{Action, Path, Place};
+use pdl_rules_on_paths::PathRule;
 use pdl_syntax_tree::{Kind, Mem, Pipe};
 use std::alloc::Global;
 

@@ -13,8 +13,8 @@ ghost use Rattle.pdl_locks.specs.Asked.{breaks_at_memory};
 use crate::numbers::number_of;
 use crate::uses::{MemoryUse, use_at};
 use pdl_kit::NoMemory;
-use pdl_rules_on_paths::PathRule;
 use pdl_paths::{Action, Path, Place};
+use pdl_rules_on_paths::PathRule;
 use pdl_syntax_tree::Kind;
 use std::alloc::Global;
 

@@ -13,8 +13,8 @@ use crate::plan::LockPlan;
 use crate::walk::{LockLines, lock_path_rules};
 use pdl_kit::{NoMemory, Refusal, Rule};
 use pdl_paths::{Guards, Place};
-use pdl_rules_walk::broken_lines;
 use pdl_rules_stages::{Kinds, astray_line};
+use pdl_rules_walk::broken_lines;
 use pdl_syntax_tree::Pipe;
 use std::alloc::Global;
 

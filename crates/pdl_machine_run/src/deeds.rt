@@ -11,8 +11,8 @@ ghost use Rattle.pdl_machine_run.specs.Doing.{nothing_done};
 use crate::place::{Place, hold, let_go};
 use crate::stage::{Kept, Slot};
 use pdl_form::{FlatPipe, Op, Stmt};
-use pdl_machine_pending::{Reserved, Written};
 use pdl_form_values::are_taken;
+use pdl_machine_pending::{Reserved, Written};
 
 /// A block: the number of its memory, its address, and whether the location is reserved for writing.
 #[derive(Clone, Copy)]

@@ -15,8 +15,8 @@ ghost use Rattle.pdl_machine_run.specs.Typed.{AreFit, AreMemories};
 use crate::deeds::{Ask, Blocked, Deeds, copy_words, set_variable};
 use crate::place::{hold, is_held, let_go};
 use pdl_form::{Expr, FlatPipe, Op, Stmt};
-use pdl_machine_pending::{Memory, Reserved, Written};
 use pdl_form_values::{are_taken, value_of, values_of, variable};
+use pdl_machine_pending::{Memory, Reserved, Written};
 use std::mem::swap;
 
 // A variable is bound to the value of an expression.

@@ -3,13 +3,13 @@ ghost use Rattle.std.specs.Prelude.{◌≡◌, ◌<◌, IfOk, length, slice_inde
 ghost use Rattle.pdl_pipe_emitted.specs.Emitted.{AreEndsOf, AreDeedsOf};
 ghost use Rattle.pdl_pipe.specs.Emitted.{AreShownOf};
 
-use pdl_pipe_beside::StageEnd;
 use pdl_kit::NoMemory;
-use pdl_pipe_locks::StageDeeds;
 use pdl_net::Net;
-use pdl_pipe_outputs::StageNets as ShownNets;
+use pdl_pipe_beside::StageEnd;
+use pdl_pipe_locks::StageDeeds;
 use pdl_pipe_nexts::Line;
 use pdl_pipe_nexts::line::stage_of;
+use pdl_pipe_outputs::StageNets as ShownNets;
 use std::alloc::Global;
 
 // A net, by its place.

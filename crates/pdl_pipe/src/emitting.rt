@@ -15,22 +15,22 @@ ghost use Rattle.pdl_pipe.specs.Emitted.{HasMemoriesIn, HasMoves, IsEmitted, IsL
 
 use crate::deeds::{stage_ends, stage_ports};
 use crate::steps::{Standing, set_registers};
-use pdl_pipe_beside::{Round, order_states, port_states, requests};
 use pdl_build::Builder;
-use pdl_pipe_exprs::Bits;
 use pdl_form::FlatPipe;
 use pdl_kit::{NoMemory, Seq};
 use pdl_lockapi::LockModule;
-use pdl_pipe_locks::memories;
 use pdl_net::Net;
 use pdl_order::OrderRegs;
-use pdl_pipe_outputs::{all_outputs, read_inputs, reply_inputs, show};
-use pdl_port::PortRegs;
+use pdl_pipe_beside::{Round, order_states, port_states, requests};
+use pdl_pipe_exprs::Bits;
+use pdl_pipe_locks::memories;
 use pdl_pipe_moves::{MoveNets, all_moves};
-use pdl_pipe_walk::MemLock;
 use pdl_pipe_nexts::Line;
+use pdl_pipe_outputs::{all_outputs, read_inputs, reply_inputs, show};
 use pdl_pipe_registers::tickets::next_tickets;
 use pdl_pipe_registers::{Shared, stages};
+use pdl_pipe_walk::MemLock;
+use pdl_port::PortRegs;
 use std::alloc::Global;
 
 // What is asked of delayed memories, what the registers take next, and the outputs.

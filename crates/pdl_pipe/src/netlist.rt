@@ -15,10 +15,10 @@ use crate::emitting::emit_all;
 use pdl_build::Builder;
 use pdl_check::Accepted;
 use pdl_kit::{MemInfo, NoMemory, Seq};
-use pdl_lockapi::LockModule;
 use pdl_lock_kinds::locks_of;
-use pdl_net_needed::needed_part;
+use pdl_lockapi::LockModule;
 use pdl_net::Netlist;
+use pdl_net_needed::needed_part;
 use std::alloc::Global;
 use std::mem::drop;
 

@@ -13,16 +13,16 @@ ghost use Rattle.pdl_pipe_emitted.specs.Emitted.{CanEmit};
 ghost use Rattle.pdl_pipe.specs.Emitted.{HasLockSteps, HasSteps};
 
 use crate::deeds::deeds;
-use pdl_pipe_beside::{Round, StageEnd, order_steps, port_steps};
 use pdl_build::Builder;
 use pdl_kit::NoMemory;
 use pdl_lockapi::{LockModule, LockNets};
-use pdl_pipe_locks::{Round as LockRound, step};
 use pdl_net::Net;
 use pdl_order::OrderRegs;
-use pdl_pipe_walk::MemLock;
+use pdl_pipe_beside::{Round, StageEnd, order_steps, port_steps};
+use pdl_pipe_locks::{Round as LockRound, step};
 use pdl_pipe_nexts::{Line, connect};
 use pdl_pipe_tails::{TailNets, tails};
+use pdl_pipe_walk::MemLock;
 use std::alloc::Global;
 
 /// Where a squash would cut the locks, and what the memories commit.

@@ -14,10 +14,10 @@ ghost use Rattle.pdl_pipe_answers.specs.Ports.{answers_in, HasAnswers, IsBit, Is
 use crate::answers::{answer_of, port_of};
 use crate::readings::{next_of, read_delayed};
 use pdl_build::Builder;
-use pdl_pipe_exprs::{Bits, are_same};
 use pdl_form::{FlatPipe, Next};
 use pdl_kit::NoMemory;
 use pdl_net::Net;
+use pdl_pipe_exprs::{Bits, are_same};
 use pdl_port::PortRegs;
 
 /// Both of two bits: the other one where one is the constant 1.

@@ -12,11 +12,11 @@ ghost use Rattle.pdl_word.specs.Each.{Each};
 ghost use Rattle.pdl_pipe_beside.specs.Steps.{ask_or as ask_signal, IsAskNet};
 
 use pdl_build::Builder;
-use pdl_pipe_exprs::Bits;
-use pdl_pipe_exprs::exprs::variable;
 use pdl_form::Next;
 use pdl_kit::NoMemory;
 use pdl_net::Net;
+use pdl_pipe_exprs::Bits;
+use pdl_pipe_exprs::exprs::variable;
 use pdl_pipe_walk::{AskNet, WalkNets};
 
 // The request of a number.

@@ -1,9 +1,9 @@
 // Stages after their statements.
 ghost use Rattle.std.specs.Prelude.{◌≡◌, ◌<◌, length, slice_index_or};
 
-use pdl_pipe_exprs::Bits;
 use pdl_form::FlatPipe;
 use pdl_net::Net;
+use pdl_pipe_exprs::Bits;
 use pdl_pipe_walk::WalkNets;
 
 /// A stage after its statements: what it does, whether its thread moves, and whether it is removed, each 1 bit.

@@ -12,11 +12,11 @@ ghost use Rattle.pdl_pipe_beside.specs.Steps.{AreNetsOf};
 
 use crate::port_round::place;
 use crate::ports::place_count;
-use pdl_pipe_answers::next_of;
 use pdl_build::Builder;
 use pdl_form::{FlatPipe, Next};
 use pdl_kit::{NoMemory, Seq};
 use pdl_net::Net;
+use pdl_pipe_answers::next_of;
 use pdl_port::{PortRegs, emit_port_free};
 use std::alloc::Global;
 

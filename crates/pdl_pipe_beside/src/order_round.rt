@@ -22,13 +22,13 @@ ghost use Rattle.pdl_pipe_beside.specs.Steps.{leave_or as leave_signal, order_si
 
 use crate::ends::{Round, end_at};
 use crate::orders::{is_merged, merges, stands_in};
-use pdl_pipe_answers::next_of;
 use pdl_build::Builder;
-use pdl_pipe_exprs::exprs::variable;
 use pdl_form::{FlatPipe, Next, Stage};
 use pdl_kit::NoMemory;
 use pdl_net::Net;
 use pdl_order::{OrderPorts, OrderRegs, emit_order_step};
+use pdl_pipe_answers::next_of;
+use pdl_pipe_exprs::exprs::variable;
 
 // Whether a stage stands in a branch of a fork.
 fn is_inside(pipe: &FlatPipe, fork: usize, k: usize) -> bool

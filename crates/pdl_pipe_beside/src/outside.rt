@@ -17,12 +17,12 @@ ghost use Rattle.pdl_pipe_beside.specs.Requests.{address_or as or_signal, addres
 use crate::asks::{ask_at, asks_memory};
 use crate::ends::{Round, end_at};
 use crate::ports::memory;
-use pdl_pipe_answers::read_delayed;
 use pdl_build::Builder;
-use pdl_pipe_exprs::Bits;
 use pdl_form::Mem;
 use pdl_kit::NoMemory;
 use pdl_net::Net;
+use pdl_pipe_answers::read_delayed;
+use pdl_pipe_exprs::Bits;
 use pdl_pipe_walk::AskNet;
 use std::alloc::Global;
 

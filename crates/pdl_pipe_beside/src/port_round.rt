@@ -21,11 +21,11 @@ ghost use Rattle.pdl_pipe_beside.specs.Steps.{AreNetsOf, IsPortStepped};
 use crate::asks::{asks_memory, goes_to_place};
 use crate::ends::{Round, end_at};
 use crate::ports::place_count;
-use pdl_pipe_answers::{Reading, next_of, read_delayed};
 use pdl_build::Builder;
 use pdl_form::{FlatPipe, Next};
 use pdl_kit::{NoMemory, Seq};
 use pdl_net::Net;
+use pdl_pipe_answers::{Reading, next_of, read_delayed};
 use pdl_port::{PortRegs, PortStep, emit_port_step};
 use std::alloc::Global;
 

@@ -11,10 +11,10 @@ ghost use Rattle.pdl_pipe_beside.specs.Parts.{AreParts, IsNewPart};
 ghost use Rattle.pdl_pipe_beside.specs.Ports.{ReadsLeadOn, input_at as input_in, IsInput, AreInputs, IsPort, HasPortOf, has_port};
 
 use crate::PortInput;
-use pdl_pipe_answers::{next_of, read_delayed};
 use pdl_build::Builder;
 use pdl_form::{FlatPipe, Mem, Next};
 use pdl_kit::{MemInfo, NoMemory};
+use pdl_pipe_answers::{next_of, read_delayed};
 use pdl_port::{PortRegs, emit_port_state};
 use std::alloc::Global;
 

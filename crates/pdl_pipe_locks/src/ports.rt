@@ -11,10 +11,10 @@ ghost use Rattle.pdl_pipe_locks.specs.Ports.{IsGivenReserve, IsGivenPut, IsGiven
 
 use crate::deeds::StageDeeds;
 use pdl_build::Builder;
-use pdl_pipe_exprs::Bits;
 use pdl_kit::{NoMemory, Seq};
 use pdl_lockapi::{Kind, LockPorts, ReservePort, TicketWrite};
 use pdl_net::Net;
+use pdl_pipe_exprs::Bits;
 use pdl_pipe_walk::{LettingNet, PutNet, ReserveNet};
 use std::alloc::Global;
 

@@ -19,12 +19,12 @@ ghost use Rattle.pdl_pipe_locks.specs.Stepped.{own_of, IsSteppedMemory, AreStepp
 use crate::deeds::StageDeeds;
 use crate::ports::lock_ports;
 use pdl_build::Builder;
-use pdl_pipe_exprs::Bits;
-use pdl_pipe_exprs::exprs::variable;
 use pdl_form::FlatPipe;
 use pdl_kit::NoMemory;
 use pdl_lockapi::{LockModule, LockNets};
 use pdl_net::Net;
+use pdl_pipe_exprs::Bits;
+use pdl_pipe_exprs::exprs::variable;
 use pdl_pipe_walk::MemLock;
 use std::alloc::Global;
 

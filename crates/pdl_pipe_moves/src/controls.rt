@@ -10,12 +10,12 @@ ghost use Rattle.pdl_word.specs.Each.{Each};
 
 use crate::gates::{barrier_open, ports_open, unsquashed};
 use crate::ways::way_turn;
-use pdl_pipe_answers::{all_answered, both_bits};
 use pdl_build::Builder;
-use pdl_pipe_exprs::exprs::variable;
 use pdl_kit::NoMemory;
 use pdl_net::Net;
 use pdl_order::OrderRegs;
+use pdl_pipe_answers::{all_answered, both_bits};
+use pdl_pipe_exprs::exprs::variable;
 use pdl_pipe_nexts::Line;
 use pdl_pipe_nexts::line::stage_of;
 

@@ -12,13 +12,13 @@ ghost use Rattle.pdl_pipe_answers.specs.Ports.{IsBit, IsBitFor};
 ghost use Rattle.pdl_pipe_moves.specs.Gates.{opens_by, IsAsked};
 ghost use Rattle.pdl_word.specs.Each.{Each};
 
-use pdl_pipe_answers::both_bits;
 use pdl_build::Builder;
-use pdl_pipe_exprs::Bits;
-use pdl_pipe_exprs::exprs::variable;
 use pdl_form::FlatPipe;
 use pdl_kit::NoMemory;
 use pdl_net::Net;
+use pdl_pipe_answers::both_bits;
+use pdl_pipe_exprs::Bits;
+use pdl_pipe_exprs::exprs::variable;
 use pdl_pipe_walk::AskNet;
 
 /// Whether no squash keeps the thread of stage k where it is: a stage before the one that verifies moves only where no squash happens.

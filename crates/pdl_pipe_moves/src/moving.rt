@@ -8,12 +8,12 @@ ghost use Rattle.pdl_pipe_answers.specs.Ports.{IsBit, IsBitFor};
 ghost use Rattle.pdl_pipe_nexts.specs.Lines.{line_pipe, line_views, line_moves, IsLineIn};
 ghost use Rattle.pdl_pipe_moves.specs.Inside.{LeadsInside};
 
-use pdl_pipe_answers::{both_bits, next_of};
 use pdl_build::Builder;
-use pdl_pipe_exprs::exprs::variable;
 use pdl_form::Next;
 use pdl_kit::NoMemory;
 use pdl_net::Net;
+use pdl_pipe_answers::{both_bits, next_of};
+use pdl_pipe_exprs::exprs::variable;
 use pdl_pipe_nexts::Line;
 use pdl_pipe_nexts::line::stage_of;
 

@@ -11,13 +11,13 @@ ghost use Rattle.pdl_pipe_moves.specs.Passed.{HasFree, HaveFree, IsPassage, AreP
 
 use crate::controls::{Controls, gate};
 use crate::moving::stage_moves;
-use pdl_pipe_answers::read_delayed;
-use pdl_pipe_beside::port_free;
 use pdl_build::Builder;
 use pdl_kit::{NoMemory, Seq};
 use pdl_net::Net;
-use pdl_port::PortRegs;
+use pdl_pipe_answers::read_delayed;
+use pdl_pipe_beside::port_free;
 use pdl_pipe_nexts::Line;
+use pdl_port::PortRegs;
 use std::alloc::Global;
 
 /// Of a stage: whether its thread moves, 1 bit, and of each memory whether its port is free for a delayed read there, 1 bit each.

@@ -14,11 +14,11 @@ ghost use Rattle.pdl_pipe_moves.specs.Gates.{turn_by, turn_in, HasTurns};
 ghost use Rattle.pdl_pipe_walk.specs.Locked.{some_at};
 
 use pdl_build::Builder;
-use pdl_pipe_exprs::Bits;
 use pdl_form::{Branch, FlatPipe, Stage};
 use pdl_kit::NoMemory;
 use pdl_net::Net;
 use pdl_order::OrderRegs;
+use pdl_pipe_exprs::Bits;
 
 // Whether the oldest thread inside took this branch.
 fn took(b: &mut Builder, bits: Bits, order: &OrderRegs, first: bool) -> Result<Net, NoMemory>

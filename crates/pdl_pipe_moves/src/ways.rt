@@ -9,13 +9,13 @@ ghost use Rattle.pdl_pipe_moves.specs.Inside.{LeadsInside};
 ghost use Rattle.pdl_pipe_moves.specs.Gates.{turn_in, HasTurns};
 
 use crate::turns::turn;
-use pdl_pipe_answers::next_of;
 use pdl_build::Builder;
-use pdl_pipe_exprs::exprs::variable;
 use pdl_form::Next;
 use pdl_kit::NoMemory;
 use pdl_net::Net;
 use pdl_order::OrderRegs;
+use pdl_pipe_answers::next_of;
+use pdl_pipe_exprs::exprs::variable;
 use pdl_pipe_nexts::Line;
 use pdl_pipe_nexts::line::stage_of;
 

@@ -17,9 +17,9 @@ use pdl_build::Builder;
 use pdl_kit::{NoMemory, Seq};
 use pdl_net::Net;
 use pdl_order::OrderRegs;
-use pdl_squash::{SquashNets, SquashPorts, emit_squash};
 use pdl_pipe_nexts::Line;
 use pdl_pipe_nexts::line::stage_of;
+use pdl_squash::{SquashNets, SquashPorts, emit_squash};
 use std::alloc::Global;
 
 /// Of each stage whether its thread moves, of each memory whether its port is free for the stage that reads it, whether a squash happens, which threads it removes, and of which stages no later one up to the one that verifies holds a thread; 1 bit each.

@@ -9,13 +9,13 @@ ghost use Rattle.pdl_pipe_nexts.specs.Lines.{bit_signal, line_pipe, line_views, 
 ghost use Rattle.pdl_pipe_nexts.specs.Arrivals.{Comes, AreArrivals};
 
 use crate::line::{Line, stage_of};
-use pdl_pipe_answers::next_of;
 use pdl_build::Builder;
-use pdl_pipe_exprs::Bits;
-use pdl_pipe_exprs::exprs::variable;
 use pdl_form::Next;
 use pdl_kit::{NoMemory, Seq};
 use pdl_net::Net;
+use pdl_pipe_answers::next_of;
+use pdl_pipe_exprs::Bits;
+use pdl_pipe_exprs::exprs::variable;
 use pdl_pipe_registers::ways_into;
 use std::alloc::Global;
 

@@ -13,13 +13,13 @@ ghost use Rattle.pdl_word.specs.Each.{Each};
 
 use crate::line::{Line, stage_of};
 use pdl_build::Builder;
-use pdl_pipe_exprs::Bits;
-use pdl_pipe_exprs::exprs::variable;
 use pdl_form::FlatPipe;
 use pdl_kit::NoMemory;
 use pdl_net::Net;
-use pdl_pipe_walk::BirthNet;
+use pdl_pipe_exprs::Bits;
+use pdl_pipe_exprs::exprs::variable;
 use pdl_pipe_registers::Item;
+use pdl_pipe_walk::BirthNet;
 
 // What a call brings: that the new thread is there, or an argument.
 fn brought(b: &Builder, pipe: &FlatPipe, bits: Bits, birth: &BirthNet, what: Option<Item>) -> Net

@@ -13,9 +13,9 @@ use crate::arrivals::threads_into;
 use crate::coming::coming;
 use crate::line::{Line, stage_of};
 use pdl_build::Builder;
-use pdl_pipe_exprs::exprs::variable;
 use pdl_kit::{NoMemory, Seq};
 use pdl_net::Net;
+use pdl_pipe_exprs::exprs::variable;
 use pdl_pipe_registers::{Item, StageNets};
 use std::alloc::Global;
 

@@ -12,11 +12,11 @@ ghost use Rattle.pdl_pipe_beside.specs.Ports.{AreInputs};
 ghost use Rattle.pdl_pipe_outputs.specs.Inputs.{reply_pair, mem_ports, IsReplyOf, AreReplies, HasReplies, AddsReplies, input_where, AreWhereRead, AreReadDelayed};
 
 use crate::outputs::with_prefix;
-use pdl_pipe_answers::read_delayed;
-use pdl_pipe_beside::PortInput;
 use pdl_build::Builder;
 use pdl_form::{FlatPipe, Mem};
 use pdl_kit::NoMemory;
+use pdl_pipe_answers::read_delayed;
+use pdl_pipe_beside::PortInput;
 use std::alloc::Global;
 
 // The two inputs of a delayed memory: the reply, and the word.

@@ -9,12 +9,12 @@ ghost use Rattle.pdl_pipe_outputs.specs.Told.{AreTold, output_of, OutsThere, Sho
 ghost use Rattle.pdl_pipe_outputs.specs.Listed.{stages_outs, commit_outs, commits_outs, request_outs, requests_outs, last_moves, all_outs};
 
 use itoa::Buffer;
-use pdl_pipe_beside::RequestNets;
 use pdl_build::Builder;
 use pdl_form::{FlatPipe, Mem};
 use pdl_kit::{Name, NoMemory, Seq};
 use pdl_lockapi::LockNets;
 use pdl_net::Net;
+use pdl_pipe_beside::RequestNets;
 use std::alloc::Global;
 
 /// Whether a stage holds a thread, and whether that moves, 1 bit each.

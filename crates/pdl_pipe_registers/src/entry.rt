@@ -21,14 +21,14 @@ use crate::helds::begin_helds;
 use crate::nets::{Earlier, Item, Kept, Shared, StageNets};
 use crate::registers::common;
 use crate::tickets::begin_tickets;
-use pdl_pipe_answers::{gets_answer, with_answers};
 use pdl_build::Builder;
-use pdl_pipe_exprs::Bits;
-use pdl_pipe_exprs::exprs::variable;
 use pdl_form::FlatPipe;
 use pdl_kit::{NoMemory, Seq};
-use pdl_pipe_lives::lives_from;
 use pdl_net::Net;
+use pdl_pipe_answers::{gets_answer, with_answers};
+use pdl_pipe_exprs::Bits;
+use pdl_pipe_exprs::exprs::variable;
+use pdl_pipe_lives::lives_from;
 use pdl_pipe_walk::{HeldNet, WalkNets};
 use std::alloc::Global;
 

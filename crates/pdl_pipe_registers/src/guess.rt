@@ -14,14 +14,14 @@ ghost use Rattle.pdl_pipe_registers.specs.Begun.{earlier_views, earlier_count, I
 use crate::entry::begin_item;
 use crate::nets::{Earlier, Item, Kept, Shared};
 use crate::registers::coming;
-use pdl_pipe_answers::gets_answer;
 use pdl_build::Builder;
-use pdl_pipe_exprs::are_same;
-use pdl_pipe_exprs::exprs::variable;
 use pdl_form::FlatPipe;
 use pdl_kit::{NoMemory, Seq};
-use pdl_pipe_lives::{lives_from, verifies_from};
 use pdl_net::Net;
+use pdl_pipe_answers::gets_answer;
+use pdl_pipe_exprs::are_same;
+use pdl_pipe_exprs::exprs::variable;
+use pdl_pipe_lives::{lives_from, verifies_from};
 use std::alloc::Global;
 
 // Whether there is a stage that may lead here, and each ends with one net for two items.

@@ -1,9 +1,9 @@
 // The nets of a stage.
-use pdl_pipe_exprs::Bits;
 use pdl_kit::Seq;
 use pdl_net::Net;
-use pdl_port::PortRegs;
+use pdl_pipe_exprs::Bits;
 use pdl_pipe_walk::{HeldNet, WalkNets};
+use pdl_port::PortRegs;
 
 /// What a register of a stage keeps of its thread: the value of a variable, whether a location is held, by its memory and the variable of its address, the ticket of a memory's lock, or an argument of the guess.
 #[derive(Clone, Copy)]

@@ -12,11 +12,11 @@ ghost use Rattle.pdl_pipe_registers.specs.Begun.{earlier_views, with_item, IsSha
 
 use crate::nets::{Earlier, Item, Kept, Shared, StageNets};
 use pdl_build::Builder;
-use pdl_pipe_exprs::are_same;
-use pdl_pipe_exprs::exprs::variable;
 use pdl_form::FlatPipe;
 use pdl_kit::{NoMemory, Seq};
 use pdl_net::Net;
+use pdl_pipe_exprs::are_same;
+use pdl_pipe_exprs::exprs::variable;
 use std::alloc::Global;
 
 impl Kept {

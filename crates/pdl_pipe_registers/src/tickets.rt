@@ -13,11 +13,11 @@ ghost use Rattle.pdl_pipe_registers.specs.Begun.{ticket_net, IsShared, IsLonger,
 
 use crate::nets::{Item, Kept, Shared};
 use pdl_build::Builder;
-use pdl_pipe_exprs::exprs::variable;
 use pdl_form::FlatPipe;
 use pdl_kit::{NoMemory, Seq};
-use pdl_pipe_lives::keeps_ticket;
 use pdl_net::Net;
+use pdl_pipe_exprs::exprs::variable;
+use pdl_pipe_lives::keeps_ticket;
 use pdl_pipe_walk::MemLock;
 use std::alloc::Global;
 

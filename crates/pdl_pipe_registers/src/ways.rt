@@ -3,9 +3,9 @@ ghost use Rattle.std.specs.Prelude.{◌≡◌, ◌<◌, ◌≤◌, IfOk, length}
 ghost use Rattle.pdl_form.specs.Whole.{form};
 ghost use Rattle.pdl_machine_facts.specs.Slots.{ways as all_ways};
 
-use pdl_pipe_answers::{leads_to, next_of};
 use pdl_form::FlatPipe;
 use pdl_kit::NoMemory;
+use pdl_pipe_answers::{leads_to, next_of};
 use std::alloc::Global;
 
 /// The numbers of the stages that may lead to stage q, the lower ones first.

@@ -17,13 +17,13 @@ use crate::nets::{Earlier, Shared, StageNets};
 use crate::tickets::next_tickets;
 use crate::ways::ways_into;
 use pdl_build::Builder;
-use pdl_pipe_exprs::Bits;
 use pdl_form::FlatPipe;
 use pdl_kit::{NoMemory, Seq};
 use pdl_lockapi::LockModule;
 use pdl_net::Net;
-use pdl_port::PortRegs;
+use pdl_pipe_exprs::Bits;
 use pdl_pipe_walk::{MemLock, Setting};
+use pdl_port::PortRegs;
 use std::alloc::Global;
 
 // A zero of the width of each variable.

@@ -11,11 +11,11 @@ ghost use Rattle.pdl_pipe_tails.specs.Carried.{brought_tail, carries_tail as has
 ghost use Rattle.pdl_pipe_tails.specs.Tails.{AreStageTails, IsTail};
 
 use pdl_build::Builder;
-use pdl_pipe_exprs::exprs::variable;
 use pdl_form::FlatPipe;
 use pdl_kit::{NoMemory, Seq};
-use pdl_pipe_lives::needs::has_lock;
 use pdl_net::Net;
+use pdl_pipe_exprs::exprs::variable;
+use pdl_pipe_lives::needs::has_lock;
 use pdl_pipe_nexts::Line;
 use pdl_pipe_nexts::arrivals::{Arrival, threads_into};
 use std::alloc::Global;

@@ -10,13 +10,13 @@ ghost use Rattle.pdl_pipe_tails.specs.Reserved.{one_more as one_more_signal, IsA
 ghost use Rattle.pdl_word.specs.Each.{Each};
 
 use pdl_build::Builder;
-use pdl_pipe_exprs::Bits;
-use pdl_pipe_exprs::exprs::variable;
 use pdl_kit::{NoMemory, Seq};
 use pdl_net::{BinOp, Net};
-use pdl_pipe_walk::ReserveNet;
+use pdl_pipe_exprs::Bits;
+use pdl_pipe_exprs::exprs::variable;
 use pdl_pipe_nexts::Line;
 use pdl_pipe_nexts::line::stage_of;
+use pdl_pipe_walk::ReserveNet;
 use std::alloc::Global;
 
 // The ticket after this one where `on`, of 1 bit, is 1, else this one.

@@ -15,11 +15,11 @@ ghost use Rattle.pdl_pipe_walk.specs.Setting.{HasLocks, set_locks};
 ghost use Rattle.pdl_pipe_walk.specs.Words.{IsLookOf, IsWordSignal, IsLooked};
 
 use pdl_build::Builder;
-use pdl_pipe_exprs::{Bits, are_same};
 use pdl_form::{FlatPipe, Mem};
 use pdl_kit::NoMemory;
 use pdl_lockapi::{Kind, LockModule, LockRegs, Look};
 use pdl_net::Net;
+use pdl_pipe_exprs::{Bits, are_same};
 
 /// The lock of a memory: what makes it, and its part of the circuit.
 #[derive(Drop)]

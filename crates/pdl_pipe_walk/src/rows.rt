@@ -21,12 +21,12 @@ ghost use Rattle.pdl_pipe_walk.specs.Steps.{with_var, with_put, with_reserve, wi
 use crate::locks::{Setting, look_held, room, word};
 use crate::nets::{AskNet, WalkNets};
 use pdl_build::Builder;
-use pdl_pipe_exprs::Bits;
-use pdl_pipe_exprs::exprs::variable;
 use pdl_form::{Expr, FlatPipe, Guard, Op, Stmt};
 use pdl_kit::NoMemory;
 use pdl_lockapi::LockModule;
 use pdl_net::Net;
+use pdl_pipe_exprs::Bits;
+use pdl_pipe_exprs::exprs::variable;
 use std::alloc::Global;
 
 // The statement of a number.

@@ -13,10 +13,10 @@ ghost use Rattle.pdl_pipe_walk.specs.Steps.{with_var, with_held};
 
 use crate::nets::{AskNet, BirthNet, HeldNet, LettingNet, PutNet, ReserveNet, WalkNets};
 use pdl_build::Builder;
-use pdl_pipe_exprs::Bits;
 use pdl_form::FlatPipe;
 use pdl_kit::{NoMemory, Seq};
 use pdl_net::Net;
+use pdl_pipe_exprs::Bits;
 
 // The net of whether a location is held; `zero` is always 0.
 fn held_net(hs: &[HeldNet], zero: Net, mem: usize, var: usize) -> Net

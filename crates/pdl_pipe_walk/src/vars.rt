@@ -13,10 +13,10 @@ ghost use Rattle.pdl_pipe_walk.specs.Parts.{taken_by, value_by, values_by};
 
 use crate::nets::WalkNets;
 use pdl_build::Builder;
-use pdl_pipe_exprs::{Bits, exprs, guards as conditions};
 use pdl_form::{Expr, FlatPipe, Guard};
 use pdl_kit::{NoMemory, Seq};
 use pdl_net::Net;
+use pdl_pipe_exprs::{Bits, exprs, guards as conditions};
 use std::alloc::Global;
 
 impl WalkNets {

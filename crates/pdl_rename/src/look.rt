@@ -9,8 +9,8 @@ ghost use Rattle.pdl_rename.specs.Nets.{selected_signal, mapped_place, found_wor
 
 use crate::layout::Layout;
 use pdl_build::Builder;
-use pdl_lock_entries::look::{by_kind, emit_less, emit_youngest};
 use pdl_kit::NoMemory;
+use pdl_lock_entries::look::{by_kind, emit_less, emit_youngest};
 use pdl_lockapi::Kind;
 use pdl_net::Net;
 

@@ -12,10 +12,10 @@ ghost use Rattle.pdl_rename.specs.Nets.{place_of, place_writes, one_put, oldest_
 use crate::layout::Layout;
 use crate::look::emit_mapped;
 use pdl_build::Builder;
+use pdl_kit::NoMemory;
 use pdl_lock_entries::fill::{emit_gate, emit_push, emit_value, write_port};
 use pdl_lock_entries::slot::{content, emit_addr, emit_slots};
 use pdl_lock_entries::step::{emit_base, emit_left};
-use pdl_kit::NoMemory;
 use pdl_lockapi::{LockNets, LockPorts};
 use pdl_net::{BinOp, Net};
 

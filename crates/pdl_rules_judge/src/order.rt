@@ -16,17 +16,17 @@ ghost use Rattle.pdl_spec.specs.Named.{AreLines as AreSpecLines};
 ghost use Rattle.pdl_spec.specs.Plan.{spec_rules};
 ghost use Rattle.pdl_rules_judge.specs.Told.{Answers, fork_rules, after_names, after_widths, after_forks};
 
-use pdl_rules_limits::check_limits;
-use pdl_rules_forks::forks_broken;
 use pdl_kit::{NoMemory, Refusal, Rule};
 use pdl_locks::{LockFacts, LockLines, LockPlan, lock_path_rules, plan_locks};
-use pdl_rules_names::check_names;
 use pdl_paths::{Guards, Place, guards_of, places};
-use pdl_rules_walk::{Both, broken_lines};
-use pdl_spec::{SpecLines, SpecPlan, plan_spec, spec_path_rules};
+use pdl_rules_forks::forks_broken;
+use pdl_rules_limits::check_limits;
+use pdl_rules_names::check_names;
 use pdl_rules_stages::{Sought, first_stage};
-use pdl_syntax_tree::Pipe;
+use pdl_rules_walk::{Both, broken_lines};
 use pdl_rules_widths::check_widths;
+use pdl_spec::{SpecLines, SpecPlan, plan_spec, spec_path_rules};
+use pdl_syntax_tree::Pipe;
 use std::alloc::Global;
 
 /// What a pipe that keeps all rules is planned by: for each memory the stages of its reserves and releases, and the stage of the verifies.

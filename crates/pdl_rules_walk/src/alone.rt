@@ -7,8 +7,8 @@ ghost use Rattle.pdl_rules_walk.specs.Aside.{aside};
 
 use crate::path_rules::PathRules;
 use pdl_kit::NoMemory;
-use pdl_rules_on_paths::PathRule;
 use pdl_paths::{Path, Place};
+use pdl_rules_on_paths::PathRule;
 use std::alloc::Global;
 
 /// A rule that is asked alone.

@@ -16,8 +16,8 @@ use crate::plan::SpecPlan;
 use pdl_kit::{NoMemory, Refusal, Rule};
 use pdl_locks::{LockFacts, refuse};
 use pdl_paths::{Guards, Place};
-use pdl_rules_walk::broken_lines;
 use pdl_rules_stages::{Kinds, Sought, astray_line, first_stage};
+use pdl_rules_walk::broken_lines;
 use pdl_syntax_tree::Pipe;
 use std::alloc::Global;
 

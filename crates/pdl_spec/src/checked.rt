@@ -9,8 +9,8 @@ ghost use Rattle.pdl_spec.specs.Checked.{breaks_checked, is_check_on, unchecked}
 
 use crate::sure::is_before;
 use pdl_kit::NoMemory;
-use pdl_rules_on_paths::PathRule;
 use pdl_paths::{Action, Path, Place};
+use pdl_rules_on_paths::PathRule;
 use pdl_rules_stages::stage_at;
 use std::alloc::Global;
 

@@ -12,10 +12,10 @@ use crate::checked::CheckedFirst;
 use crate::sure::ReleasedSure;
 use crate::verified::VerifiedOnce;
 use pdl_locks::LockFacts;
-use pdl_rules_on_paths::OneCall;
 use pdl_paths::{Guards, Place};
-use pdl_rules_walk::{Alone, Both, PathRules};
+use pdl_rules_on_paths::OneCall;
 use pdl_rules_stages::all_true;
+use pdl_rules_walk::{Alone, Both, PathRules};
 use pdl_syntax_tree::Pipe;
 
 /// The rules on calls and guesses that are asked on paths: S1 and S2, S4 and S5.

@@ -10,8 +10,8 @@ ghost use Rattle.pdl_spec.specs.Sure.{AreOfPlaces, IsSure, breaks_sure, is_befor
 
 use pdl_kit::NoMemory;
 use pdl_locks::{LocationUse, number_of, pass, use_at};
-use pdl_rules_on_paths::PathRule;
 use pdl_paths::{Action, Path, Place};
+use pdl_rules_on_paths::PathRule;
 use pdl_rules_stages::stage_at;
 use pdl_syntax_tree::Kind;
 use std::alloc::Global;

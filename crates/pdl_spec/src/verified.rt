@@ -12,8 +12,8 @@ ghost use Rattle.pdl_rules_stages.specs.Stages.{stages_in};
 ghost use Rattle.pdl_spec.specs.Verified.{AreOfPipe, only};
 
 use pdl_kit::{Name, NoMemory};
-use pdl_rules_on_paths::PathRule;
 use pdl_paths::{Action, Guards, Path, Place};
+use pdl_rules_on_paths::PathRule;
 use pdl_rules_stages::{among, stage_at};
 use pdl_syntax_tree::Pipe;
 use std::alloc::Global;

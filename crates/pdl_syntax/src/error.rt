@@ -3,8 +3,8 @@ ghost use Rattle.std.specs.Prelude.{◌≡◌};
 ghost use Rattle.pdl_syntax.specs.declared.error.ParseError.TheVariants.{NoMemory as no_memory};
 ghost use Rattle.pdl_syntax.specs.Text.{refusal};
 
-use pdl_syntax_grammar::ReadError;
 use pdl_kit::{NoMemory, Rule};
+use pdl_syntax_grammar::ReadError;
 use std::alloc::AllocError;
 
 /// Why a source text was not taken: the line (counted from 1) of the first token out of place (rule G1), a broken limit with its line, or want of memory.

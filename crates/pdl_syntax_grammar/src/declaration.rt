@@ -8,8 +8,8 @@ ghost use Rattle.pdl_syntax_tokens.specs.declared.token.Mark.TheVariants as mark
 use crate::item::Shape;
 use crate::stop::Stop;
 use crate::words::{goes_on, lock_kind, name, number, pace, take};
-use pdl_syntax_cursor::Cursor;
 use pdl_kit::Seq;
+use pdl_syntax_cursor::Cursor;
 use pdl_syntax_tokens::Mark;
 use pdl_syntax_tree::{LockDecl, Mem, Number, Param};
 use std::alloc::Global;

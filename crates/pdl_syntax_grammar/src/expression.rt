@@ -11,8 +11,8 @@ ghost use Rattle.pdl_syntax_tree.specs.View.{ident_view, op_view, expr_view, may
 use crate::item::{Bounds, Pair, Sized};
 use crate::stop::Stop;
 use crate::words::{goes_on, literal, number, take};
-use pdl_syntax_cursor::Cursor;
 use pdl_kit::{Boxed, NoMemory, Seq};
+use pdl_syntax_cursor::Cursor;
 use pdl_syntax_tokens::{Mark, TokenKind};
 use pdl_syntax_tree::{BinaryOp, Expr, Ident};
 use std::alloc::Global;

@@ -1,6 +1,8 @@
 // Parts of expressions and statements.
 use pdl_kit::{Boxed, Seq};
-use pdl_syntax_tree::{Expr, Ident, Kind, Location, LockDecl, Mem, Number, Param, Span, Start, Stmt};
+use pdl_syntax_tree::{
+    Expr, Ident, Kind, Location, LockDecl, Mem, Number, Param, Span, Start, Stmt,
+};
 
 /// An item of the grammar: a statement, or two.
 #[derive(Drop)]

@@ -5,8 +5,8 @@ ghost use Rattle.pdl_semantics.specs.Tree as tree;
 ghost use Rattle.pdl_syntax_recogniser.specs.Answers.{IsRecognised};
 
 use crate::recogniser::Recogniser;
-use pdl_syntax_cursor::Cursor;
 use pdl_kit::NoMemory;
+use pdl_syntax_cursor::Cursor;
 use pdl_syntax_tokens::last_line;
 use std::alloc::Global;
 

@@ -1,9 +1,9 @@
 // Expressions and guards as nets.
 use pdl_build::Builder;
-use pdl_pipe_exprs::{Bits, all_taken, value};
 use pdl_form::{Expr, Guard};
 use pdl_kit::{Boxed, Name, NoMemory};
 use pdl_net::Net;
+use pdl_pipe_exprs::{Bits, all_taken, value};
 use pdl_syntax_tree::BinaryOp;
 use std::alloc::Global;
 

@@ -5,8 +5,8 @@ ghost use Rattle.pdl_netrun.specs.Sample.{out, sample};
 
 use pdl_image::read_image;
 use pdl_kit::{MemInfo, Name, NoMemory, Seq};
-use pdl_net_needed::needed_part;
 use pdl_net::{Array, BinOp, Cell, Dir, Net, Netlist, Port, Reg, WritePort};
+use pdl_net_needed::needed_part;
 use pdl_netrun::Sim;
 use std::alloc::Global;
 

@@ -6,11 +6,11 @@ ghost use Rattle.pdl_pipe_exprs.specs.Conditions.{AreBits};
 ghost use Rattle.pdl_pipe_walk.specs.Sized.{IsWalkOf, AreWalked};
 
 use pdl_build::Builder;
-use pdl_pipe_exprs::Bits;
 use pdl_form::{FlatPipe, Next, Op, Stage, Stmt};
 use pdl_kit::{NoMemory, Seq};
-use pdl_queue::QueueLock;
+use pdl_pipe_exprs::Bits;
 use pdl_pipe_walk::{Setting, WalkNets};
+use pdl_queue::QueueLock;
 use std::alloc::Global;
 
 // A statement of the first stage, which stands under no guard.

@@ -1,8 +1,8 @@
 // The values of expressions, arguments and guards.
 use pdl_form::{Expr, Guard};
+use pdl_form_values::{are_taken, value_of, values_of};
 use pdl_kit::{Boxed, NoMemory};
 use pdl_syntax_tree::BinaryOp;
-use pdl_form_values::{are_taken, value_of, values_of};
 use std::alloc::Global;
 
 /// 200 and 100 in 8 bits.

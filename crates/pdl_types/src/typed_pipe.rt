@@ -10,8 +10,8 @@ ghost use Rattle.pdl_types.specs.Narrow.{are_narrow};
 
 use pdl_kit::{Name, NoMemory};
 use pdl_paths::{Guards, places};
-use pdl_syntax_tree::Pipe;
 use pdl_rules_widths::Variables;
+use pdl_syntax_tree::Pipe;
 use std::alloc::Global;
 
 /// A pipe that keeps the limits and the rules on names and widths, with the width of each of its variables, 1 to 64 bits.
