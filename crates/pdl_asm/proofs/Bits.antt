@@ -13,6 +13,7 @@ use Rattle.pdl_asm.specs.Assembly.{insn_rule, operation_rule}
 use Rattle.pdl_asm.specs.declared.line.Operation.{Operation}
 use Rattle.pdl_asm.specs.declared.line.Operation.TheVariants.{Insn}
 use Rattle.pdl_asm.specs.declared.line.Operand.{Operand}
+use Rattle.pdl_asm.specs.declared.line.Operands.{Operands}
 use Rattle.pdl_asm.specs.Values.{Labels, argument_value, bit_of, letter_value, lower, operands_rule, or_zero, rule_of, word_of_bits}
 
 -- the items after the first
@@ -56,7 +57,6 @@ rule_first t labels place bits (b ∷ bs) (p ∷ ps) a d o x y h k e f g i =
     ∙ ap (lower (rule_of (argument_value t labels place bits b p))) (i ∙ ap (λ xs. operands_rule t labels place bits xs (rest_of (p ∷ ps))) (take_rest (b ∷ bs) 1) ∙ ap (operands_rule t labels place bits bs) (take_rest (p ∷ ps) 1))
 
 -- the rule of an instruction is that of the operation
-pub rule_of_insn : (t : TableValue) (labels : Labels) (taken : Bool) (place : ℤ) (name : List ℕ) (os ps : List Operand) (op : Operation) (r : Option Rule)
-    → r ≡ insn_rule t labels taken place (value_of t.insns name) ps → ps ≡ os → op ≡ Insn name os → r ≡ operation_rule t labels taken place op
-rule_of_insn t labels taken place name os ps op r e f g =
-    e ∙ ap (insn_rule t labels taken place (value_of t.insns name)) f ∙ sym (ap (operation_rule t labels taken place) g)
+pub rule_of_insn : (t : TableValue) (labels : Labels) (taken : Bool) (place : ℤ) (name : List ℕ) (os : Operands) (op : Operation) (r : Option Rule)
+    → r ≡ insn_rule t labels taken place (value_of t.insns name) os → op ≡ Insn name os → r ≡ operation_rule t labels taken place op
+rule_of_insn t labels taken place name os op r e f = e ∙ sym (ap (operation_rule t labels taken place) f)

@@ -1,14 +1,16 @@
 -- Texts, right and wrong, as the definitions assemble them.
-use Rattle.std.proofs.Common.{◌≡◌, List, ℕ, [], ◌∷◌, Some, None, Option, codes, ◌+◌, refl, pos}
+use Rattle.std.proofs.Common.{◌≡◌, List, ℕ, [], ◌∷◌, Some, None, Option, codes, length, option_map, ◌+◌, refl, pos}
 use Rattle.pdl_image.specs.Lines.{lines}
 use Rattle.pdl_kit.specs.declared.rule.Rule.TheVariants.{A1, A2, A3, A4, A5, A6, A7, A8}
 use Rattle.pdl_asm_table.specs.declared.table.Kind.TheVariants.{Reg, Uint, Sint, Rel}
 use Rattle.pdl_asm_table.specs.Tables.{TableValue}
 use Rattle.pdl_asm.specs.declared.line.Operand.TheVariants.{Label, Number}
+use Rattle.pdl_asm.specs.declared.line.Operands.{Operands}
+use Rattle.pdl_asm.specs.declared.line.Operands.TheVariants.{Few, TooMany}
 use Rattle.pdl_asm.specs.declared.line.Operation.TheVariants.{Nothing, Insn}
 use Rattle.pdl_asm.specs.declared.asm_error.AsmError.{AsmError}
 use Rattle.pdl_asm.specs.declared.asm_error.AsmError.TheVariants.{Refused}
-use Rattle.pdl_asm.specs.Lines.{line_of}
+use Rattle.pdl_asm.specs.Lines.{line_of, operands_given}
 use Rattle.pdl_asm.specs.Assembly.{Placed, first_wrong, labels_of, lines_from, written_word}
 
 -- words of 8 bits with the registers r0 and r1, `add` of a register and a number, `b` to a place, and `ld` of a number from 0 on
@@ -164,7 +166,7 @@ carriage_return : line_of (codes "nop\r") ≡ None
 unfolding line_of
 carriage_return = refl
 
-carriage_return_in_comment : line_of (codes "nop //\r") ≡ Some (record { label = None; operation = Insn (codes "nop") [] })
+carriage_return_in_comment : line_of (codes "nop //\r") ≡ Some (record { label = None; operation = Insn (codes "nop") (Few []) })
 unfolding line_of
 carriage_return_in_comment = refl
 
@@ -188,6 +190,18 @@ keyword_label : line_of (codes "lock:") ≡ Some (record { label = Some (codes "
 unfolding line_of
 keyword_label = refl
 
-operands : line_of (codes "a:add r1 ,0x1f") ≡ Some (record { label = Some (codes "a"); operation = Insn (codes "add") (Label (codes "r1") ∷ Number (pos 31) ∷ []) })
+-- how many operands there are, where they are not too many
+abbrev operand_count : Operands → ℕ
+operand_count (Few os) = length os
+operand_count TooMany = 0
+
+-- 64 operands are kept, of 65 only that they are too many
+most_operands : option_map operand_count (operands_given (codes "1,1,1,1,1,1,1,1,1,1,1,1,1,1,1,1,1,1,1,1,1,1,1,1,1,1,1,1,1,1,1,1,1,1,1,1,1,1,1,1,1,1,1,1,1,1,1,1,1,1,1,1,1,1,1,1,1,1,1,1,1,1,1,1")) ≡ Some 64
+most_operands = refl
+
+too_many_operands : operands_given (codes "1,1,1,1,1,1,1,1,1,1,1,1,1,1,1,1,1,1,1,1,1,1,1,1,1,1,1,1,1,1,1,1,1,1,1,1,1,1,1,1,1,1,1,1,1,1,1,1,1,1,1,1,1,1,1,1,1,1,1,1,1,1,1,1,1") ≡ Some TooMany
+too_many_operands = refl
+
+operands : line_of (codes "a:add r1 ,0x1f") ≡ Some (record { label = Some (codes "a"); operation = Insn (codes "add") (Few (Label (codes "r1") ∷ Number (pos 31) ∷ [])) })
 unfolding line_of
 operands = refl

@@ -6,3 +6,4 @@ pub mod Taking
 pub mod Trimming
 pub mod WordsFit
 pub mod ReadBack
+pub mod FirstLabels

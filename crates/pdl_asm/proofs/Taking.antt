@@ -14,13 +14,13 @@ use Rattle.pdl_image.specs.Lines.{lines}
 use Rattle.pdl_asm_table.specs.Dictionaries.{value_of}
 use Rattle.pdl_asm_table.specs.Tables.{TableValue}
 use Rattle.pdl_asm_table.specs.declared.table.Insn.{Insn as TableInsn}
-use Rattle.pdl_asm.specs.declared.line.Operand.{Operand}
+use Rattle.pdl_asm.specs.declared.line.Operands.{Operands}
 use Rattle.pdl_asm.specs.declared.line.Operation.{Operation}
 use Rattle.pdl_asm.specs.declared.line.Operation.TheVariants.{Nothing, At, Word, Insn}
 use Rattle.pdl_asm.specs.declared.line.Line.{Line}
 use Rattle.pdl_asm.specs.declared.asm_error.AsmError.TheVariants.{NoMemory, Refused}
 use Rattle.pdl_asm.specs.Values.{Labels, lower, rank}
-use Rattle.pdl_asm.specs.Assembly.{Meets, Placed, addresses, image, image_text, image_unless, lines_from, word_line, at_line, broken_rule, first_wrong, free_rule, insn_rule, insn_word, is_at, is_taken, labels_of, line_rule, line_word, operation_rule, operation_word, place_rule, with_line, word_at, written_word}
+use Rattle.pdl_asm.specs.Assembly.{Placed, addresses, image, image_text, image_unless, lines_from, word_line, at_line, broken_rule, first_wrong, free_rule, insn_rule, insn_word, is_at, is_taken, labels_of, line_rule, line_word, operation_rule, operation_word, place_rule, with_line, word_at, written_word}
 use Rattle.pdl_asm.specs.Slots.{AreWritten, IsRefusal, is_taken_in, slots_of, with_word}
 use Rattle.pdl_asm.specs.declared.asm_error.AsmError.{AsmError}
 
@@ -86,7 +86,7 @@ some_rule : (b : Bool) (r s : Rule) → (if b then Some r else Some s) ≡ None 
 some_rule true r s e = cc e
 some_rule false r s e = cc e
 
-none_left : (a b : Option Rule) → lower a b ≡ None → a ≡ None
+pub none_left : (a b : Option Rule) → lower a b ≡ None → a ≡ None
 none_left None b e = refl
 none_left (Some r) None e =
     let f : Some r ≡ None = sym (ap (λ b. if b then Some r else None) (rank_low r)) ∙ e in
@@ -108,7 +108,7 @@ not_taken : (b : Bool) → free_rule true b ≡ None → b ≡ false
 not_taken true e = cc
 not_taken false e = refl
 
-free_insn : (t : TableValue) (labels : Labels) (taken : Bool) (place : ℤ) (o : Option TableInsn) (operands : List Operand) (w : ℕ)
+free_insn : (t : TableValue) (labels : Labels) (taken : Bool) (place : ℤ) (o : Option TableInsn) (operands : Operands) (w : ℕ)
     → insn_rule t labels taken place o operands ≡ None → insn_word t labels place o operands ≡ Some w → place_rule taken place ≡ None
 free_insn t labels taken place None operands w e f = cc
 free_insn t labels taken place (Some i) operands w e f = none_right _ _ taken e

@@ -9,10 +9,10 @@ use Rattle.pdl_asm_table.specs.Tables.{IsTable, TableValue}
 use Rattle.pdl_asm_table.specs.declared.table.Insn.{Insn as TableInsn}
 use Rattle.pdl_asm_table.proofs.Entries.{wide_found}
 use Rattle.pdl_asm.specs.declared.line.Line.{Line}
-use Rattle.pdl_asm.specs.declared.line.Operand.{Operand}
+use Rattle.pdl_asm.specs.declared.line.Operands.{Operands}
 use Rattle.pdl_asm.specs.declared.line.Operation.{Operation}
 use Rattle.pdl_asm.specs.declared.line.Operation.TheVariants.{Nothing, At, Word, Insn}
-use Rattle.pdl_asm.specs.Values.{Labels, bit_of, field_bits, in_word, letter_value, signed_field, unsigned_field, word_of_bits}
+use Rattle.pdl_asm.specs.Values.{Labels, bit_of, field_bits, in_word, given_value, signed_field, unsigned_field, word_of_bits}
 use Rattle.pdl_asm.specs.Assembly.{Placed, insn_word, is_at, line_word, operation_word, word_at, written_word}
 
 -- ---- numbers
@@ -52,13 +52,13 @@ bits_fit value (c ∷ right) =
     let small : bit_of value c right * 2 ^ length right + word_of_bits value right < 2 ^ length (c ∷ right) = omega (arith, high, bits_fit value right, twice) in
     small
 
-insn_fits : (t : TableValue) (labels : Labels) (place : ℤ) (name : List ℕ) (o : Option TableInsn) (operands : List Operand) (v : ℕ) → IsTable t → value_of t.insns name ≡ o
+insn_fits : (t : TableValue) (labels : Labels) (place : ℤ) (name : List ℕ) (o : Option TableInsn) (operands : Operands) (v : ℕ) → IsTable t → value_of t.insns name ≡ o
     → insn_word t labels place o operands ≡ Some v → v < 2 ^ t.word
 insn_fits t labels place name None operands v h f e = cc
 insn_fits t labels place name (Some i) operands v h f e =
-    let same : word_of_bits (letter_value t labels place i.bits i.args operands) i.bits ≡ v = cc e in
+    let same : word_of_bits (given_value t labels place i.bits i.args operands) i.bits ≡ v = cc e in
     let wide : length i.bits ≡ t.word = wide_found t.word t.insns name i h.bits f in
-    let small = bits_fit (letter_value t labels place i.bits i.args operands) i.bits in
+    let small = bits_fit (given_value t labels place i.bits i.args operands) i.bits in
     omega (arith, same, small, ap (λ n. 2 ^ n) wide)
 
 -- ---- lines

@@ -10,8 +10,8 @@ use Rattle.pdl_asm_table.specs.Dictionaries.{value_of, with_definition}
 use Rattle.pdl_asm_table.specs.declared.table.Insn.{Insn as TableInsn}
 use Rattle.pdl_asm_table.specs.Tables.{TableValue}
 use Rattle.pdl_asm.specs.Lines.{line_of}
-use Rattle.pdl_asm.specs.Values.{Labels, in_word, letter_value, lower, operands_rule, word_of_bits}
-use Rattle.pdl_asm.specs.declared.line.Operand.{Operand}
+use Rattle.pdl_asm.specs.Values.{Labels, given_rule, given_value, in_word, lower, word_of_bits}
+use Rattle.pdl_asm.specs.declared.line.Operands.{Operands}
 use Rattle.pdl_asm.specs.declared.line.Operation.{Operation}
 use Rattle.pdl_asm.specs.declared.line.Operation.TheVariants.{Nothing, At, Word, Insn}
 use Rattle.pdl_asm.specs.declared.line.Line.{Line}
@@ -55,6 +55,10 @@ abbrev pub label_of : Option Line → Option (List ℕ)
 label_of None = None
 label_of (Some l) = l.label
 
+-- how many labels are defined, with a line, of one that breaks no rule
+abbrev pub defined_by : ℕ → Option Line → ℕ
+defined_by before line = if is_some (label_of line) then before + 1 else before
+
 abbrev pub with_line : Labels → Placed → Labels
 with_line labels p = with_label labels p.place (label_of p.line)
 
@@ -65,9 +69,9 @@ labels_of ps = fold with_line [] ps
 -- ---- words
 
 -- the word of an instruction at a place
-abbrev pub insn_word : TableValue → Labels → ℤ → Option TableInsn → List Operand → Option ℕ
+abbrev pub insn_word : TableValue → Labels → ℤ → Option TableInsn → Operands → Option ℕ
 insn_word t labels place None operands = None
-insn_word t labels place (Some i) operands = Some (word_of_bits (letter_value t labels place i.bits i.args operands) i.bits)
+insn_word t labels place (Some i) operands = Some (word_of_bits (given_value t labels place i.bits i.args operands) i.bits)
 
 -- the word that an operation gives at a place
 abbrev pub operation_word : TableValue → Labels → ℤ → Operation → Option ℕ
@@ -111,9 +115,9 @@ abbrev pub place_rule : Bool → ℤ → Option Rule
 place_rule taken place = free_rule (is_address place) taken
 
 -- the lowest rule that an instruction breaks, by what the table has of its name; `taken` says whether a word was written at its place before
-abbrev pub insn_rule : TableValue → Labels → Bool → ℤ → Option TableInsn → List Operand → Option Rule
+abbrev pub insn_rule : TableValue → Labels → Bool → ℤ → Option TableInsn → Operands → Option Rule
 insn_rule t labels taken place None operands = Some A2
-insn_rule t labels taken place (Some i) operands = lower (operands_rule t labels place i.bits i.args operands) (place_rule taken place)
+insn_rule t labels taken place (Some i) operands = lower (given_rule t labels place i.bits i.args operands) (place_rule taken place)
 
 -- the lowest rule that an operation breaks
 abbrev pub operation_rule : TableValue → Labels → Bool → ℤ → Operation → Option Rule

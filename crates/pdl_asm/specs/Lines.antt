@@ -1,10 +1,12 @@
 -- What a line of an assembly text says by itself: `[label:] [operation]`, and a comment.
-use Rattle.std.specs.Prelude.{ℕ, ℤ, pos, neg_ℤ, ◌+◌, ◌==◌, Bool, false, ◌&&◌, ◌||◌, List, [], ◌∷◌, take, drop, position, Option, Some, None, option_map, bytes_eq, codes, if◌then◌else◌}
+use Rattle.std.specs.Prelude.{ℕ, ℤ, pos, neg_ℤ, ◌+◌, ◌==◌, Bool, false, ◌&&◌, ◌||◌, List, [], ◌∷◌, take, drop, length, nat_le, position, Option, Some, None, option_map, bytes_eq, codes, if◌then◌else◌}
 use Rattle.std.specs.List.{slice_split}
 use Rattle.std.specs.Str.Parse.{digits_value}
 use Rattle.pdl_image.specs.Images.{is_name}
 use Rattle.pdl_asm.specs.declared.line.Operand.{Operand}
 use Rattle.pdl_asm.specs.declared.line.Operand.TheVariants.{Label, Number}
+use Rattle.pdl_asm.specs.declared.line.Operands.{Operands}
+use Rattle.pdl_asm.specs.declared.line.Operands.TheVariants.{Few, TooMany}
 use Rattle.pdl_asm.specs.declared.line.Operation.{Operation}
 use Rattle.pdl_asm.specs.declared.line.Operation.TheVariants.{Nothing, At, Word, Insn}
 use Rattle.pdl_asm.specs.declared.line.Line.{Line}
@@ -87,6 +89,14 @@ abbrev pub operands_of : List ℕ → Option (List Operand)
 operands_of [] = Some []
 operands_of (c ∷ cs) = operands_in (slice_split (λ d. d == 44) (c ∷ cs))
 
+-- operands, unless they are more than 64, which no instruction has: each argument has a letter of its own
+abbrev pub counted : List Operand → Operands
+counted operands = if nat_le (length operands) 64 then Few operands else TooMany
+
+-- the operands of an instruction that a text gives
+abbrev pub operands_given : List ℕ → Option Operands
+operands_given text = option_map counted (operands_of text)
+
 -- ---- operations and lines
 
 -- an operation of its first word and the text after it
@@ -94,7 +104,7 @@ abbrev pub operation_with : List ℕ → List ℕ → Option Operation
 operation_with word after =
     if bytes_eq word (codes ".at") then option_map At (number_of after)
     else if bytes_eq word (codes ".word") then option_map Word (number_of after)
-    else if is_name word then option_map (Insn word) (operands_of after)
+    else if is_name word then option_map (Insn word) (operands_given after)
     else None
 
 -- the operation of a text whose first word ends at the place of a blank, if there is one

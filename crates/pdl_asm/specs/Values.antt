@@ -9,6 +9,8 @@ use Rattle.pdl_asm_table.specs.declared.table.Arg.{Arg}
 use Rattle.pdl_asm_table.specs.Tables.{TableValue}
 use Rattle.pdl_asm.specs.declared.line.Operand.{Operand}
 use Rattle.pdl_asm.specs.declared.line.Operand.TheVariants.{Label, Number}
+use Rattle.pdl_asm.specs.declared.line.Operands.{Operands}
+use Rattle.pdl_asm.specs.declared.line.Operands.TheVariants.{Few, TooMany}
 
 -- places by label
 abbrev pub Labels : Type 0
@@ -98,6 +100,11 @@ operands_rule t labels place bits [] [] = None
 operands_rule t labels place bits (a ∷ rest) (o ∷ os) = lower (rule_of (argument_value t labels place bits a o)) (operands_rule t labels place bits rest os)
 operands_rule t labels place bits _ _ = Some A3
 
+-- the lowest rule that an instruction's operands break
+abbrev pub given_rule : TableValue → Labels → ℤ → List ℕ → List Arg → Operands → Option Rule
+given_rule t labels place bits args (Few os) = operands_rule t labels place bits args os
+given_rule t labels place bits args TooMany = Some A3
+
 -- ---- words
 
 -- the value, 0 where there is none
@@ -109,6 +116,11 @@ or_zero (Err rule) = 0
 abbrev pub letter_value : TableValue → Labels → ℤ → List ℕ → List Arg → List Operand → ℕ → ℕ
 letter_value t labels place bits (a ∷ rest) (o ∷ os) c = if a.letter == c then or_zero (argument_value t labels place bits a o) else letter_value t labels place bits rest os c
 letter_value t labels place bits _ _ c = 0
+
+-- the value of a letter among an instruction's operands
+abbrev pub given_value : TableValue → Labels → ℤ → List ℕ → List Arg → Operands → ℕ → ℕ
+given_value t labels place bits args (Few os) c = letter_value t labels place bits args os c
+given_value t labels place bits args TooMany c = 0
 
 -- the bit of a place: `0`, `1`, or of a letter's value the bit whose number is how many of the letter's places stand to the right
 abbrev pub bit_of : (ℕ → ℕ) → ℕ → List ℕ → ℕ

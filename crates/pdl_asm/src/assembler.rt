@@ -1,8 +1,8 @@
 // The assembly of a text.
-ghost use Rattle.std.specs.Prelude.{◌≡◌, ◌≤◌, IfOk, IfErr, OnOk, MatchResult, Ok, Err, None, [], length, pos, replicate, List, ℕ};
+ghost use Rattle.std.specs.Prelude.{◌≡◌, ◌≤◌, IfOk, IfErr, OnOk, MatchResult, Ok, Err, None, [], length, pos, replicate, take, ◌+◌, List, ℕ};
 ghost use Rattle.pdl_kit.specs.declared.files.TheConstants.{LONGEST_FILE};
 ghost use Rattle.pdl_image.specs.Lines.{lines};
-ghost use Rattle.pdl_asm.specs.Assembly.{addresses, image, label_of, labels_of, line_rule as line_rule_of, line_word as line_word_of, lines_from, with_label, Meets};
+ghost use Rattle.pdl_asm.specs.Assembly.{addresses, defined_by, image, labels_of, line_rule as line_rule_of, line_word as line_word_of, lines_from, Meets};
 ghost use Rattle.pdl_asm.specs.ReadBack.{IsReadBack};
 ghost use Rattle.pdl_asm.specs.Slots.{AreWritten, IsRefusal, is_taken_in, with_word};
 
@@ -53,22 +53,33 @@ fn read_labels(alloc: Global, table: &Table, text: &[u8]) -> Result<Dictionary<i
     Ok(labels)
 }
 
-// Writes the word of a line at a place and defines its label, or refuses the line, which has this number.
+// How many labels are defined after a line, of which so many are before it.
+fn defined_after(before: usize, line: &Option<Line>) -> usize
+    requires { before ≤ LONGEST_FILE }
+    ensures { result ≡ defined_by before line.now }
+{
+    match line {
+        Some(Line { label: Some(_), .. }) => before + 1,
+        _ => before,
+    }
+}
+
+// Writes the word of a line at a place, or refuses the line, which has this number. Lines before it define the first `before` of all labels.
 fn take_line(
     table: &Table,
     labels: &Dictionary<i128>,
-    before: &mut Dictionary<i128>,
+    before: usize,
     words: &mut Words,
     place: i128,
     number: u32,
     line: &Option<Line>,
 ) -> Result<(), AsmError>
-    ensures right { OnOk result (line_rule_of table.now labels.now before.old
+    ensures right { OnOk result (line_rule_of table.now labels.now (take before labels.now)
         (is_taken_in words.old place) place line.now ≡ None) }
-    ensures label { OnOk result (before.new ≡ with_label before.old place (label_of line.now)) }
     ensures word { OnOk result (words.new ≡ with_word words.old place
         (line_word_of table.now labels.now place line.now)) }
-    ensures refused { IfErr result (IsRefusal (line_rule_of table.now labels.now before.old
+    ensures refused { IfErr result (IsRefusal (line_rule_of table.now labels.now
+        (take before labels.now)
         (is_taken_in words.old place) place line.now) number) }
 {
     let taken = words.is_taken(place);
@@ -76,20 +87,19 @@ fn take_line(
         return Err(AsmError::Refused { rule, line: number });
     }
     words.write(place, line_word(table, labels, place, line));
-    Ok(define_label(before, place, line)?)
+    Ok(())
 }
 
-// Writes the words of the lines of a text, up to the first wrong line, where no word is written and no label defined before.
+// Writes the words of the lines of a text, whose labels are known, up to the first wrong line, where no word is written before.
 fn write_lines(
     alloc: Global,
     table: &Table,
     labels: &Dictionary<i128>,
     text: &[u8],
-    before: &mut Dictionary<i128>,
     words: &mut Words,
 ) -> Result<(), AsmError>
     requires size { length text.now ≤ LONGEST_FILE }
-    requires none { before.old ≡ [] }
+    requires known { labels.now ≡ labels_of (lines_from table.now (pos 0) (lines text.now)) }
     requires empty { words.old ≡ replicate addresses None }
     ensures { MatchResult result
         (λ _. AreWritten table.now labels.now
@@ -99,6 +109,8 @@ fn write_lines(
 {
     let mut place = 0;
     let mut number = 1;
+    // How many of the labels the lines so far define.
+    let mut before = 0;
     let mut rest = text;
     while !rest.is_empty() {
         let (first, later) = split_line(rest);
@@ -107,6 +119,7 @@ fn write_lines(
             Ok(()) => (),
             Err(error) => return Err(error),
         }
+        before = defined_after(before, &line);
         place = after_line(table, place, &line);
         rest = later;
         number += 1;
@@ -121,13 +134,13 @@ fn write_words(
     labels: &Dictionary<i128>,
     text: &[u8],
 ) -> Result<Words, AsmError>
-    requires { length text.now ≤ LONGEST_FILE }
+    requires size { length text.now ≤ LONGEST_FILE }
+    requires known { labels.now ≡ labels_of (lines_from table.now (pos 0) (lines text.now)) }
     ensures { AreWritten table.now labels.now
         (lines_from table.now (pos 0) (lines text.now)) result }
 {
     let mut words = Words::new(alloc)?;
-    let mut before = Dictionary::new(alloc);
-    write_lines(alloc, table, labels, text, &mut before, &mut words)?;
+    write_lines(alloc, table, labels, text, &mut words)?;
     Ok(words)
 }
 

@@ -1,10 +1,10 @@
 // The words that lines give.
 ghost use Rattle.std.specs.Prelude.{◌≡◌, ◌≤◌, ◌<◌, ◌^◌, Some, None, IfSome, length};
 ghost use Rattle.pdl_asm_table.specs.Dictionaries.{value_of};
-ghost use Rattle.pdl_asm.specs.Values.{bit_of, letter_value as letter_value_of, word_of_bits};
+ghost use Rattle.pdl_asm.specs.Values.{bit_of, given_value as given_value_of, letter_value as letter_value_of, word_of_bits};
 ghost use Rattle.pdl_asm.specs.Assembly.{insn_word as insn_word_of, line_word as line_word_of, operation_word as operation_word_of};
 
-use crate::line::{Line, Operand, Operation};
+use crate::line::{Line, Operand, Operands, Operation};
 use crate::values::{argument_value, field_bits, in_word};
 use pdl_asm_table::{Arg, Dictionary, Insn, Table};
 use pdl_kit::Name;
@@ -38,20 +38,47 @@ fn letter_value(
     }
 }
 
+// The value of a letter among the operands of an instruction.
+fn given_value(
+    table: &Table,
+    labels: &Dictionary<i128>,
+    place: i128,
+    insn: &Insn,
+    operands: &Operands,
+    letter: u8,
+) -> u64
+    requires { length insn.now.bits ≤ 64 }
+    ensures { result
+        ≡ given_value_of table.now labels.now place insn.now.bits insn.now.args operands.now letter }
+{
+    match operands {
+        Operands::Few(few) => letter_value(
+            table,
+            labels,
+            place,
+            insn.bits.as_slice(),
+            insn.args.as_slice(),
+            few.as_slice(),
+            letter,
+        ),
+        Operands::TooMany => 0,
+    }
+}
+
 // The bit of an instruction's, to the right of which others stand.
 fn read_bit(
     table: &Table,
     labels: &Dictionary<i128>,
     place: i128,
     insn: &Insn,
-    operands: &[Operand],
+    operands: &Operands,
     bit: u8,
     right: &[u8],
 ) -> u64
     requires whole { length insn.now.bits ≤ 64 }
     requires right { length right.now < 64 }
     ensures value { result ≡ bit_of
-        (letter_value_of table.now labels.now place insn.now.bits insn.now.args operands.now)
+        (given_value_of table.now labels.now place insn.now.bits insn.now.args operands.now)
         bit right.now }
     ensures one { result ≤ 1 }
 {
@@ -59,15 +86,7 @@ fn read_bit(
         b'0' => 0,
         b'1' => 1,
         letter => {
-            let value = letter_value(
-                table,
-                labels,
-                place,
-                insn.bits.as_slice(),
-                insn.args.as_slice(),
-                operands,
-                letter,
-            );
+            let value = given_value(table, labels, place, insn, operands, letter);
             (value >> field_bits(right, letter)) % 2
         }
     }
@@ -79,13 +98,13 @@ fn word_of(
     labels: &Dictionary<i128>,
     place: i128,
     insn: &Insn,
-    operands: &[Operand],
+    operands: &Operands,
     bits: &[u8],
 ) -> u64
     requires whole { length insn.now.bits ≤ 64 }
     requires few { length bits.now ≤ 64 }
     ensures value { result ≡ word_of_bits
-        (letter_value_of table.now labels.now place insn.now.bits insn.now.args operands.now)
+        (given_value_of table.now labels.now place insn.now.bits insn.now.args operands.now)
         bits.now }
     ensures small { result < 2 ^ length bits.now }
 {
@@ -105,7 +124,7 @@ fn insn_word(
     labels: &Dictionary<i128>,
     place: i128,
     name: &Name,
-    operands: &[Operand],
+    operands: &Operands,
 ) -> Option<u64>
     ensures { result
         ≡ insn_word_of table.now labels.now place (value_of table.now.insns name.now) operands.now }
@@ -129,9 +148,7 @@ fn operation_word(
         Operation::Nothing => None,
         Operation::At(_) => None,
         Operation::Word(number) => in_word(table.word(), number.get()),
-        Operation::Insn(name, operands) => {
-            insn_word(table, labels, place, name, operands.as_slice())
-        }
+        Operation::Insn(name, operands) => insn_word(table, labels, place, name, operands),
     }
 }
 

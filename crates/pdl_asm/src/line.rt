@@ -9,6 +9,15 @@ pub enum Operand {
     Number(Number),
 }
 
+/// The operands of an instruction.
+#[derive(Drop)]
+pub enum Operands {
+    /// At most 64, in their order.
+    Few(Seq<Operand>),
+    /// More than 64, which no instruction has: each argument has a letter of its own.
+    TooMany,
+}
+
 /// What a line does.
 #[derive(Drop)]
 pub enum Operation {
@@ -18,7 +27,7 @@ pub enum Operation {
     /// `.word`: a word of a number.
     Word(Number),
     /// An instruction of this name with operands.
-    Insn(Name, Seq<Operand>),
+    Insn(Name, Operands),
 }
 
 /// A line: its label, if it has one, and its operation.

@@ -1,11 +1,11 @@
 // Numbers and operands of a line.
-ghost use Rattle.std.specs.Prelude.{◌≡◌, ◌≤◌, ◌<◌, ◌==◌, ◌^◌, IfOk, IfSome, MatchOption, Some, None, [], ◌∷◌, length};
+ghost use Rattle.std.specs.Prelude.{◌≡◌, ◌≤◌, ◌<◌, ◌==◌, ◌^◌, IfOk, IfSome, MatchOption, OnOk, Some, None, [], ◌∷◌, ◌++◌, length, take};
 ghost use Rattle.std.specs.List.{slice_split};
 ghost use Rattle.std.specs.Option.{option_copied};
-ghost use Rattle.pdl_asm.specs.Lines.{magnitude_of, number_of, operand_of, operands_in, operands_of, parts_after};
+ghost use Rattle.pdl_asm.specs.Lines.{counted as counted_of, magnitude_of, number_of, operand_of, operands_given, parts_after};
 
 use crate::digits::{read_decimal, read_hexadecimal};
-use crate::line::Operand;
+use crate::line::{Operand, Operands};
 use crate::number::Number;
 use crate::text::{find_byte, without_blanks};
 use pdl_asm_table::is_name;
@@ -65,22 +65,47 @@ fn split_part(text: &[u8]) -> (&[u8], Option<&[u8]>)
     }
 }
 
-/// The operands that commas separate, if each is one; an empty text has none.
-pub fn read_operands(alloc: Global, text: &[u8]) -> Result<Option<Seq<Operand>>, NoMemory>
-    ensures { IfOk result (λ o. o ≡ operands_of text.now) }
+/// More operands than this no instruction has: each argument has a letter of its own.
+const MOST: usize = 64;
+
+// The operands that were read, of which one too many is enough.
+fn counted(operands: Seq<Operand>) -> Operands
+    ensures { result ≡ counted_of operands }
+{
+    if operands.len() <= MOST {
+        Operands::Few(operands)
+    } else {
+        Operands::TooMany
+    }
+}
+
+// Appends an operand, unless there is one too many already.
+fn add(operands: &mut Seq<Operand>, operand: Operand) -> Result<(), NoMemory>
+    requires { length operands.old ≤ 65 }
+    ensures { OnOk result (operands.new ≡ take 65 (operands.old ++ operand ∷ [])) }
+{
+    if operands.len() <= MOST {
+        operands.push(operand)?;
+    }
+    Ok(())
+}
+
+/// The operands that commas separate, if each is one; an empty text has none. It keeps no more than one too many.
+pub fn read_operands(alloc: Global, text: &[u8]) -> Result<Option<Operands>, NoMemory>
+    ensures { IfOk result (λ o. o ≡ operands_given text.now) }
 {
     let mut operands = Seq::new(alloc);
     if text.is_empty() {
-        return Ok(Some(operands));
+        return Ok(Some(counted(operands)));
     }
     let mut rest = Some(text);
     while let Some(text) = rest {
         let (part, later) = split_part(text);
         match read_operand(alloc, without_blanks(part))? {
-            Some(operand) => operands.push(operand)?,
+            Some(operand) => add(&mut operands, operand)?,
             None => return Ok(None),
         }
         rest = later;
     }
-    Ok(Some(operands))
+    Ok(Some(counted(operands)))
 }

@@ -1,6 +1,6 @@
 // The operation and the label of a line.
 ghost use Rattle.std.specs.Prelude.{◌≡◌, IfOk, Some, None, option_map};
-ghost use Rattle.pdl_asm.specs.Lines.{line_of, line_of_text, number_of, line_with, operands_of, operation_of, operation_with, without_blanks as trimmed_of};
+ghost use Rattle.pdl_asm.specs.Lines.{line_of, line_of_text, number_of, line_with, operands_given, operation_of, operation_with, without_blanks as trimmed_of};
 
 use crate::line::{Line, Operation};
 use crate::operand::{read_number, read_operands};
@@ -11,7 +11,7 @@ use std::alloc::Global;
 
 // The instruction of a name with the operands of a text, if they are operands.
 fn read_insn(alloc: Global, name: &[u8], after: &[u8]) -> Result<Option<Operation>, NoMemory>
-    ensures { IfOk result (λ o. o ≡ option_map (Operation.Insn name.now) (operands_of after.now)) }
+    ensures { IfOk result (λ o. o ≡ option_map (Operation.Insn name.now) (operands_given after.now)) }
 {
     match read_operands(alloc, after)? {
         Some(operands) => Ok(Some(Operation::Insn(Name::copy_of(alloc, name)?, operands))),

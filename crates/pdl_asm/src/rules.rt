@@ -1,10 +1,10 @@
 // The rules that a line breaks.
-ghost use Rattle.std.specs.Prelude.{◌≡◌, ◌≤◌, IfSome, Some, None, length};
+ghost use Rattle.std.specs.Prelude.{◌≡◌, ◌≤◌, IfSome, Some, None, length, take};
 ghost use Rattle.pdl_asm_table.specs.Dictionaries.{value_of};
-ghost use Rattle.pdl_asm.specs.Values.{lower as lower_of, operands_rule as operands_rule_of, rank as rank_of, rule_of as rule_of_value};
+ghost use Rattle.pdl_asm.specs.Values.{given_rule as given_rule_of, lower as lower_of, operands_rule as operands_rule_of, rank as rank_of, rule_of as rule_of_value};
 ghost use Rattle.pdl_asm.specs.Assembly.{free_rule, insn_rule as insn_rule_of, is_address as is_address_of, label_rule as label_rule_of, line_rule as line_rule_of, operation_rule as operation_rule_of, place_rule as place_rule_of};
 
-use crate::line::{Line, Operand, Operation};
+use crate::line::{Line, Operand, Operands, Operation};
 use crate::values::{argument_value, in_word};
 use pdl_asm_table::{Arg, Dictionary, Insn, Table};
 use pdl_kit::{Name, Rule};
@@ -73,6 +73,30 @@ fn operands_rule(
     }
 }
 
+// The lowest rule that the operands of an instruction break.
+fn given_rule(
+    table: &Table,
+    labels: &Dictionary<i128>,
+    place: i128,
+    insn: &Insn,
+    operands: &Operands,
+) -> Option<Rule>
+    requires { length insn.now.bits ≤ 64 }
+    ensures { result ≡ given_rule_of table.now labels.now place insn.now.bits insn.now.args operands.now }
+{
+    match operands {
+        Operands::Few(few) => operands_rule(
+            table,
+            labels,
+            place,
+            insn.bits.as_slice(),
+            insn.args.as_slice(),
+            few.as_slice(),
+        ),
+        Operands::TooMany => Some(Rule::A3),
+    }
+}
+
 // Whether a place is an address, 0 to 65,535.
 fn is_address(place: i128) -> bool
     ensures { result ≡ is_address_of place }
@@ -100,21 +124,14 @@ fn insn_rule(
     taken: bool,
     place: i128,
     name: &Name,
-    operands: &[Operand],
+    operands: &Operands,
 ) -> Option<Rule>
     ensures { result ≡ insn_rule_of table.now labels.now taken place
         (value_of table.now.insns name.now) operands.now }
 {
     match table.insn(name) {
         Some(insn) => lower(
-            operands_rule(
-                table,
-                labels,
-                place,
-                insn.bits.as_slice(),
-                insn.args.as_slice(),
-                operands,
-            ),
+            given_rule(table, labels, place, insn, operands),
             place_rule(taken, place),
         ),
         None => Some(Rule::A2),
@@ -148,18 +165,18 @@ fn operation_rule(
             )
         }
         Operation::Insn(name, operands) => {
-            insn_rule(table, labels, taken, place, name, operands.as_slice())
+            insn_rule(table, labels, taken, place, name, operands)
         }
     }
 }
 
-// The rule that a label breaks, which lines before may have defined.
-fn label_rule(before: &Dictionary<i128>, label: &Option<Name>) -> Option<Rule>
-    ensures { result ≡ label_rule_of before.now label.now }
+// The rule that a label breaks; lines before defined the first `before` of all labels.
+fn label_rule(labels: &Dictionary<i128>, before: usize, label: &Option<Name>) -> Option<Rule>
+    ensures { result ≡ label_rule_of (take before labels.now) label.now }
 {
     match label {
         Some(name) => {
-            if before.get(name).is_some() {
+            if labels.is_among(before, name) {
                 Some(Rule::A6)
             } else {
                 None
@@ -169,21 +186,21 @@ fn label_rule(before: &Dictionary<i128>, label: &Option<Name>) -> Option<Rule>
     }
 }
 
-/// The lowest rule that a line breaks, by all labels and by those that lines before it defined; `taken` says whether a word was written at its place before.
+/// The lowest rule that a line breaks, by all labels, of which lines before it defined the first `before`; `taken` says whether a word was written at its place before.
 pub fn line_rule(
     table: &Table,
     labels: &Dictionary<i128>,
-    before: &Dictionary<i128>,
+    before: usize,
     taken: bool,
     place: i128,
     line: &Option<Line>,
 ) -> Option<Rule>
-    ensures { result ≡ line_rule_of table.now labels.now before.now taken place line.now }
+    ensures { result ≡ line_rule_of table.now labels.now (take before labels.now) taken place line.now }
 {
     match line {
         Some(line) => lower(
             operation_rule(table, labels, taken, place, &line.operation),
-            label_rule(before, &line.label),
+            label_rule(labels, before, &line.label),
         ),
         None => Some(Rule::A1),
     }

@@ -1,10 +1,11 @@
 -- Entries of a dictionary.
-use Rattle.std.proofs.Common.{◌≡◌, ℕ, ◌+◌, not, ◌&&◌, Bool, true, false, cond, List, [], ◌∷◌, ◌++◌, length, refl, ap, sym, ◌∙◌, Option, Some, None, is_some, bytes_eq, nat_eq, if◌then◌else◌}
+use Rattle.std.proofs.Common.{◌≡◌, ℕ, zero, suc, ◌+◌, arith, take, ltb, inl, inr, not, ◌&&◌, Bool, true, false, cond, List, [], ◌∷◌, ◌++◌, length, refl, ap, sym, ◌∙◌, Option, Some, None, is_some, bytes_eq, nat_eq, if◌then◌else◌}
 use Rattle.std.specs.Cmp.Lexicographic.{pointwise}
-use Rattle.std.specs.Map.{lookup}
+use Rattle.std.specs.List.{position, position_or_len}
+use Rattle.std.specs.Map.{keys_of, lookup}
 use Rattle.indexmap.specs.IndexMap.{insert_entry}
 use Rattle.pdl_asm_table.specs.Dictionaries.{value_of, with_definition}
-use Rattle.std.proofs.lemmas.Bool.{eqb-true}
+use Rattle.std.proofs.lemmas.Bool.{cases_lt, eqb-true, le-ltb, lt-ltb}
 use Rattle.pdl_asm_table.specs.Tables.{AreWide, breaks_b3, first_broken}
 use Rattle.pdl_asm_table.specs.declared.table.Insn.{Insn}
 use Rattle.pdl_word.proofs.Bools.{none_given}
@@ -31,6 +32,47 @@ defined_new es fs gs x v o h k s i =
     let missing = ap is_some (sym h) ∙ s in
     let unknown = ap (λ hs. is_some (value_of hs x)) (sym k) ∙ missing in
     i ∙ insert_new es x v missing ∙ ap (λ hs. hs ++ (x, v) ∷ []) k ∙ sym (ap (λ b. if b then fs else fs ++ (x, v) ∷ []) unknown)
+
+-- an index is below a count
+abbrev below : ℕ → Option ℕ → Bool
+below count (Some index) = ltb index count
+below count None = false
+
+below_zero : (o : Option ℕ) → below 0 o ≡ false
+below_zero None = refl
+below_zero (Some index) = le-ltb index 0 (omega arith)
+
+ltb_next : (k n : ℕ) → ltb (1 + k) (suc n) ≡ ltb k n
+ltb_next k n = elim (cases_lt k n) [
+  | inl h ↦ lt-ltb (1 + k) (suc n) (omega (arith, h)) ∙ sym (lt-ltb k n h)
+  | inr h ↦ le-ltb (1 + k) (suc n) (omega (arith, h)) ∙ sym (le-ltb k n h)
+]
+
+below_next : (b : Bool) (count index : ℕ) → below (suc count) (cond b (Some (1 + index)) None) ≡ below count (cond b (Some index) None)
+below_next true count index = ltb_next index count
+below_next false count index = refl
+
+-- the first place that passes, by whether the first item does
+abbrev place_from : (b : Bool) (k n : ℕ) → Option ℕ
+place_from b k n = cond (ltb (cond (not b) (1 + k) 0) (suc n)) (Some (cond (not b) (1 + k) 0)) None
+
+among_step : {T : Type 0} (b : Bool) (v : T) (o : Option T) (count k n : ℕ) → below count (cond (ltb k n) (Some k) None) ≡ is_some o
+    → below (suc count) (place_from b k n) ≡ is_some (cond b (Some v) o)
+among_step true v o count k n h =
+    ap (λ c. below (suc count) (cond c (Some 0) None)) (lt-ltb 0 (suc n) (omega arith)) ∙ lt-ltb 0 (suc count) (omega arith)
+among_step false v o count k n h =
+    ap (λ c. below (suc count) (cond c (Some (1 + k)) None)) (ltb_next k n) ∙ below_next (ltb k n) count k ∙ h
+
+-- a name is among the first entries where its index is below their count
+pub among : {T : Type 0} (es : List (List ℕ × T)) (count : ℕ) (x : List ℕ) → below count (position (bytes_eq x) (keys_of es)) ≡ is_some (value_of (take count es) x)
+among es zero x = below_zero (position (bytes_eq x) (keys_of es))
+among [] (suc count) x = refl
+among (e ∷ es) (suc count) x =
+    among_step (bytes_eq x e.0) e.1 (value_of (take count es) x) count (position_or_len (bytes_eq x) (keys_of es)) (length (keys_of es)) (among es count x)
+
+-- the index that was found tells whether the name is among the first entries
+pub among_found : {T : Type 0} (es fs : List (List ℕ × T)) (count : ℕ) (x : List ℕ) (o r : Option ℕ) → o ≡ position (pointwise nat_eq x) (keys_of es) → es ≡ fs → o ≡ r → below count r ≡ is_some (value_of (take count fs) x)
+among_found es fs count x o r h k e = ap (below count) (sym e ∙ h) ∙ among es count x ∙ ap (λ gs. is_some (value_of (take count gs) x)) k
 
 wide_step : (bits : ℕ) (b : Bool) (e : Insn) (o : Option Insn) (i : Insn) → length e.bits ≡ bits → (o ≡ Some i → length i.bits ≡ bits) → cond b (Some e) o ≡ Some i → length i.bits ≡ bits
 wide_step bits true e o i h k f = let s : e ≡ i = cc f in ap (λ (j : Insn). length j.bits) (sym s) ∙ h

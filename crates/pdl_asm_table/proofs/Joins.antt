@@ -1,5 +1,5 @@
 -- Lists read so far, and what comes after them.
-use Rattle.std.proofs.Common.{◌≡◌, List, [], ◌∷◌, ◌++◌, Option, Some, None}
+use Rattle.std.proofs.Common.{List, ◌++◌, Option, Some, None}
 use Rattle.std.specs.Prelude.{Result, Ok, Err}
 use Rattle.pdl_asm_table.specs.Tables.{Named}
 use Rattle.pdl_asm_table.specs.declared.table.Arg.{Arg}

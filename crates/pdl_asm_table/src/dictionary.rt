@@ -1,5 +1,5 @@
 // Values by name.
-ghost use Rattle.std.specs.Prelude.{◌≡◌, ℕ, List, [], OnOk, OnErr};
+ghost use Rattle.std.specs.Prelude.{◌≡◌, ℕ, List, [], OnOk, OnErr, is_some, take};
 ghost use Rattle.std.specs.Option.{option_copied};
 ghost use Rattle.pdl_asm_table.specs.Dictionaries.{value_of, with_definition};
 
@@ -46,6 +46,16 @@ impl<T> Dictionary<T> {
         ensures { option_copied result ≡ value_of self.now name.now }
     {
         self.values.get(name)
+    }
+
+    /// Whether one of the first `count` definitions is that of a name.
+    pub fn is_among(&self, count: usize, name: &Name) -> bool
+        ensures { result ≡ is_some (value_of (take count self.now) name.now) }
+    {
+        match self.values.get_index_of(name) {
+            Some(index) => index < count,
+            None => false,
+        }
     }
 }
 
