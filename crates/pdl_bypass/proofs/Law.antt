@@ -1,25 +1,34 @@
 -- The law of a bypass lock's look.
-use Rattle.std.proofs.Common.{◌≡◌, ◌-◌, ℕ, refl, sym, ap, ◌∙◌, arith}
-use Rattle.std.specs.Prelude.{List, Option, Some, None, true, is_some, slice_index, slice_index_or, []}
+use Rattle.std.proofs.Common.{◌≡◌, ◌+◌, ◌-◌, ℕ, refl, sym, ap, ◌∙◌, length}
+use Rattle.std.specs.Prelude.{List, Option, Some, None, true, is_some, slice_index, slice_index_or, [], take}
+use Rattle.pdl_word.specs.Words.{bit}
 use Rattle.pdl_semantics.specs.Tree.{Queue, Bypass}
 use Rattle.pdl_net.specs.Circuit.{Circuit, State}
 use Rattle.pdl_net.specs.Signal.{Signal, const_value, read_value}
 use Rattle.pdl_lockapi.specs.declared.Kind.{Kind}
 use Rattle.pdl_lockapi.specs.declared.Kind.TheVariants.{R, W}
 use Rattle.pdl_lockapi.specs.declared.LockRegs.{LockRegs}
-use Rattle.pdl_lockapi.specs.Lock.{LockState, look_ready, Covered}
-use Rattle.pdl_word.specs.Words.{bit}
+use Rattle.pdl_lockapi.specs.Lock.{LockState, Entry, look_ready, or_zero, youngest, older, next_ticket, Covered}
 use Rattle.pdl_lockapi.specs.Laws.{HasWords, StartLaw, LookLaw, first_array}
-use Rattle.pdl_lock_entries.specs.declared.layout.Layout.{Layout}
-use Rattle.pdl_lock_entries.specs.Slots.{IsSized, Stands, HasEntries, content_signal}
-use Rattle.pdl_lock_entries.specs.Looks.{less_base, youngest_look, youngest_ready, youngest_value}
-use Rattle.pdl_lock_entries.proofs.Reading.{less_value}
-use Rattle.pdl_lock_entries.proofs.Youngest.{youngest_is_ready, youngest_is_value, same_signal}
+use Rattle.pdl_lockapi.specs.Second.{LateLookLaw}
+use Rattle.pdl_lockapi.specs.SlotLaws.{SlotsLaw}
+use Rattle.pdl_lock_ring.specs.declared.layout.Layout.{Layout}
+use Rattle.pdl_lock_ring.specs.Slots.{IsSized, Stands, HasEntries, content_signal}
+use Rattle.pdl_lock_ring.specs.Looks.{youngest_look, youngest_ready, youngest_value}
+use Rattle.pdl_lock_ring.proofs.Seeking.{Seeks, seeks_covered, seeks_late}
+use Rattle.pdl_lock_ring.proofs.Looked.{youngest_looked, value_looked, all_older, same_signal}
 use Rattle.pdl_bypass.specs.Bypasses.{word_signal}
 
--- the image of a queue is that of a bypass lock
+-- the image of a queue is that of a bypass lock, and so are the registers of its slots
 pub start_law : (stands : State → LockState → Type 0) (c : Circuit) (r : LockRegs) → StartLaw stands Queue c r → StartLaw stands Bypass c r
 start_law stands c r h = record { starts = h.starts }
+
+pub slots_law : (stands : State → LockState → Type 0) (n : ℕ) (r : LockRegs) → SlotsLaw stands Queue n r → SlotsLaw stands Bypass n r
+slots_law stands n r h = record {
+  regs = record { count = h.regs.count; least = h.regs.least; within = h.regs.within };
+  addresses = h.addresses;
+  values = h.values;
+}
 
 -- the word of the memory
 word_held : (array : Option ℕ) (s : State) (ws : List ℕ) → is_some array ≡ true → HasWords array s ws → slice_index_or s.arrays (first_array array) [] ≡ ws
@@ -30,18 +39,35 @@ word_is : (l : Layout) (a : Signal) (s : State) (ws : List ℕ) → is_some l.ar
 unfolding read_value
 word_is l a s ws i h = ap (λ us. slice_index us (a.value s)) (word_held l.array s ws i h)
 
-picks_ready : (l : Layout) (u : Kind) (a d : Signal) (s : State) (x : LockState) (t : ℕ) → HasEntries l (content_signal l) s x → Covered x t → d.value s ≡ t - x.base
-    → (youngest_look u (youngest_ready l a d l.size)).value s ≡ bit (look_ready Bypass u x t (a.value s))
+-- whether a look is ready, by what the youngest of these says
+abbrev ready_of : Kind → List Entry → ℕ → ℕ
+ready_of R es a = bit (is_some (youngest es a (Some 0)))
+ready_of W es a = bit true
+
+picks : (l : Layout) (u : Kind) (a t : Signal) (s : State) (x : LockState) (d : ℕ) → IsSized l → HasEntries l (content_signal l) s x → Seeks l s x t d → (youngest_look u (youngest_ready l a t)).value s ≡ ready_of u (take d x.entries) (a.value s)
 unfolding const_value
-picks_ready l R a d s x t h k e = youngest_is_ready l (content_signal l) s x a d t h k e
-picks_ready l W a d s x t h k e = refl
+picks l R a t s x d z h k = youngest_looked l (content_signal l) s x a t d z h k
+picks l W a t s x d z h k = refl
+
+ready_is : (u : Kind) (x : LockState) (t a : ℕ) → ready_of u (older x t) a ≡ bit (look_ready Bypass u x t a)
+ready_is R x t a = refl
+ready_is W x t a = refl
 
 pub look_law : (l : Layout) (u : Kind) (a t : Signal) → IsSized l → is_some l.array ≡ true → t.width ≡ l.ticket
-    → LookLaw (Stands l) Bypass l.ticket u a t (youngest_look u (youngest_ready l a (less_base l t) l.size)) (Some (youngest_value l (content_signal l) (word_signal l a) a (less_base l t) l.size))
+    → LookLaw (Stands l) Bypass l.ticket u a t (youngest_look u (youngest_ready l a t)) (Some (youngest_value l (content_signal l) (word_signal l a) a t))
 look_law l u a t z i w = record {
-  answers = λ s x n h k e. picks_ready l u a (less_base l t) s x n h.entries k (less_value l (content_signal l) s x t n z h.entries w k.from (omega (arith, k.to, h.entries.slots.room)) e);
+  answers = λ s x n h k e. picks l u a t s x (n - x.base) z h.entries (seeks_covered l (content_signal l) s x t n z h.entries w k e) ∙ ready_is u x n (a.value s);
   gives = λ f q s x n h k e fit ready.
       ap (λ (g : Signal). g.value s) (sym (same_signal _ f q))
-      ∙ youngest_is_value l (content_signal l) s x (word_signal l a) a (less_base l t) n h.entries k (word_is l a s x.words i h.words)
-      (less_value l (content_signal l) s x t n z h.entries w k.from (omega (arith, k.to, h.entries.slots.room)) e) ready;
+      ∙ value_looked l (content_signal l) s x a t (n - x.base) z h.entries (seeks_covered l (content_signal l) s x t n z h.entries w k e) (word_signal l a) (word_is l a s x.words i h.words) ready;
+}
+
+pub late_law : (l : Layout) (u : Kind) (a t : Signal) → IsSized l → is_some l.array ≡ true → t.width ≡ l.ticket
+    → LateLookLaw (Stands l) Bypass l.size l.ticket u a t (youngest_look u (youngest_ready l a t)) (Some (youngest_value l (content_signal l) (word_signal l a) a t))
+late_law l u a t z i w = record {
+  answers = λ two s x h e. picks l u a t s x (length x.entries) z h.entries (seeks_late l (content_signal l) s x t z h.entries w two e) ∙ ap (λ zs. ready_of u zs (a.value s)) (all_older x) ∙ ready_is u x (next_ticket x + 1) (a.value s);
+  gives = λ two f q s x h e fit ready.
+      ap (λ (g : Signal). g.value s) (sym (same_signal _ f q))
+      ∙ value_looked l (content_signal l) s x a t (length x.entries) z h.entries (seeks_late l (content_signal l) s x t z h.entries w two e) (word_signal l a) (word_is l a s x.words i h.words) (ap (λ zs. is_some (youngest zs (a.value s) (Some 0))) (all_older x) ∙ ready)
+      ∙ ap (λ zs. or_zero (youngest zs (a.value s) (Some (slice_index x.words (a.value s))))) (all_older x);
 }

@@ -18,6 +18,7 @@ use Rattle.pdl_lockapi.specs.Lock as lock
 use Rattle.pdl_lockapi.specs.Laws.{holds_ticket, asked_addresses, Drives}
 use Rattle.pdl_lockapi.specs.Forget.{forget, forgotten_entries, as_lock, has_thread, lock_state_of, addresses, addresses_of}
 use Rattle.pdl_lockapi.proofs.Threads.{same_append, ticket_covered}
+use Rattle.pdl_lockapi.proofs.Single.{single_is_proper}
 use Rattle.pdl_machine_facts.specs.Slots.{here, stage_moves, movers_from, moving}
 use Rattle.pdl_machine_facts.specs.Cycle.{IsByStages}
 use Rattle.pdl_machine_facts.specs.Use.{IsInUse}
@@ -154,6 +155,7 @@ module _ (p : Pipe) (ls : Locks) (vs : ℕ → View) (moves : ℕ → Signal) (s
       reserves = addresses m (moving p st bits);
       writes = acts_of (length p.stages) 0;
       release = has_release m (moving p st bits);
+      release2 = false;
       squash = is_some (squasher (moving p st bits));
       tail = tail_with (squasher (moving p st bits));
     }
@@ -194,6 +196,7 @@ module _ (p : Pipe) (ls : Locks) (vs : ℕ → View) (moves : ℕ → Signal) (s
           ticket = λ k l. (driven_at (ls.bits m) s (acts_of (length p.stages) 0) (all_puts m vs moves (length p.stages) 0) d k l).ticket;
           value = λ k l. (driven_at (ls.bits m) s (acts_of (length p.stages) 0) (all_puts m vs moves (length p.stages) 0) d k l).value;
           release = release_is (length p.stages) 0 z;
+          release2 = zero_is s;
           squash = squashed.squash;
           tail = λ g. tail_told (squasher (moving p st bits)) refl g;
         }
@@ -314,7 +317,7 @@ module _ (p : Pipe) (ls : Locks) (vs : ℕ → View) (moves : ℕ → Signal) (s
         let long = length-map es forget in
         let count = pending_count in
         let within = all_within (length p.stages) 0 (omega arith) in
-        record {
+        single_is_proper (ls.size m) before act_of refl (record {
           one = used.one m;
           room = ⊎_elim
               (λ (i : 0 < length (addresses m ms)).
@@ -330,4 +333,4 @@ module _ (p : Pipe) (ls : Locks) (vs : ℕ → View) (moves : ℕ → Signal) (s
               ap (λ xs. is_some (entry_at xs 0).value) (filled_is ∙ ap forgotten_entries r.3) ∙ ap is_some r.4;
           tail_from = λ g. tail_low (squasher (moving p st bits)) g;
           tail_to = λ g. let z = tail_high (squasher (moving p st bits)) in omega (arith, z, count, long);
-        }
+        })

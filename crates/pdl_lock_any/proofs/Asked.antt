@@ -9,7 +9,7 @@ use Rattle.pdl_semantics.specs.Flat as flat
 use Rattle.pdl_semantics.specs.Flat.{Lock, has_lock}
 use Rattle.pdl_rules.specs.Limits.{allows_lock}
 use Rattle.pdl_lockapi.specs.Forget.{as_lock}
-use Rattle.pdl_lock_entries.specs.Slots.{Suits, IsSize}
+use Rattle.pdl_lock_ring.specs.Slots.{Suits, IsSize}
 use Rattle.pdl_lock_any.specs.declared.AnyLock.{AnyLock}
 use Rattle.pdl_lock_any.specs.declared.AnyLock.TheVariants.{Queue, Bypass, Rename}
 use Rattle.pdl_lock_any.specs.Any.{any_kind, any_size, any_suits}

@@ -7,8 +7,8 @@ use Rattle.pdl_net.specs.Circuit.{Circuit, State}
 use Rattle.pdl_net.specs.Growth.{Keeps}
 use Rattle.pdl_lockapi.specs.declared.LockRegs.{LockRegs}
 use Rattle.pdl_lockapi.specs.Lock.{LockState}
-use Rattle.pdl_lock_entries.specs.Slots.{ticket_bits}
-use Rattle.pdl_lock_entries.specs.Kept.{placed_stay}
+use Rattle.pdl_lock_ring.specs.Slots.{ticket_bits}
+use Rattle.pdl_lock_ring.specs.Kept.{placed_stay}
 use Rattle.pdl_queue.specs.Suited.{queue_suits, queue_placed, queue_stands}
 use Rattle.pdl_bypass.specs.Bypasses.{bypass_suits, IsBypass, bypass_stands, bypass_stays}
 use Rattle.pdl_rename.specs.Places.{rename_suits, IsRename, rename_stands}

@@ -2,7 +2,7 @@
 use Rattle.std.specs.Prelude.{ℕ, ◌≤◌, Option, Some, None, ⊤}
 use Rattle.pdl_semantics.specs.Flat as flat
 use Rattle.pdl_semantics.specs.Flat.{Lock}
-use Rattle.pdl_lock_entries.specs.Slots.{IsSize}
+use Rattle.pdl_lock_ring.specs.Slots.{IsSize}
 use Rattle.pdl_lock_any.specs.declared.AnyLock.{AnyLock}
 use Rattle.pdl_lock_any.specs.declared.AnyLock.TheVariants.{Queue, Bypass, Rename}
 

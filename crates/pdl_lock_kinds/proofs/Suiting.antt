@@ -7,7 +7,7 @@ use Rattle.pdl_semantics.specs.Stages.{plain_mem, mem_at}
 use Rattle.pdl_form.specs.Form.{Form}
 use Rattle.pdl_form_types.specs.Stmts.{IsTypedMem, AreTypedMems}
 use Rattle.pdl_lockapi.specs.Forget.{as_lock}
-use Rattle.pdl_lock_entries.specs.Slots.{Suits, IsSize}
+use Rattle.pdl_lock_ring.specs.Slots.{Suits, IsSize}
 use Rattle.pdl_lock_any.specs.declared.AnyLock.{AnyLock}
 use Rattle.pdl_lock_any.specs.declared.AnyLock.TheVariants as any_lock
 use Rattle.pdl_lock_any.specs.Any.{any_kind, any_size, any_suits}

@@ -152,6 +152,7 @@ pub record StepSignals : Type 0 where
   pub reserves : List ReserveSignal
   pub writes : List TicketSignal
   pub release : Signal
+  pub release2 : Signal
   pub squash : Signal
   pub tail : Signal
 
@@ -171,6 +172,7 @@ step_signals c p = record {
   reserves = map (reserve_signal c) p.reserves;
   writes = map (ticket_signal c) p.writes;
   release = signal c p.release;
+  release2 = signal c p.release2;
   squash = signal c p.squash;
   tail = signal c p.tail;
 }
@@ -201,6 +203,7 @@ pub record Drives (w : ℕ) (f : StepSignals) (s : State) (a : LockAct) : Type 0
   pub ticket : (k : ℕ) → k < length a.writes → (act_at a.writes k).on ≡ true → holds_ticket w (ticket_at f.writes k).ticket s (act_at a.writes k).ticket
   pub value : (k : ℕ) → k < length a.writes → (ticket_at f.writes k).value.value s ≡ (act_at a.writes k).value
   pub release : f.release.value s ≡ bit a.release
+  pub release2 : f.release2.value s ≡ bit a.release2
   pub squash : f.squash.value s ≡ bit a.squash
   pub tail : a.squash ≡ true → holds_ticket w f.tail s a.tail
 
@@ -219,6 +222,7 @@ pub record SameButValues (o : Own) (f : StepSignals) (s t : State) : Type 0 wher
   pub enable : (k : ℕ) → k < length f.writes → (ticket_at f.writes k).enable.value s ≡ (ticket_at f.writes k).enable.value t
   pub ticket : (k : ℕ) → k < length f.writes → (ticket_at f.writes k).ticket.value s ≡ (ticket_at f.writes k).ticket.value t
   pub release : f.release.value s ≡ f.release.value t
+  pub release2 : f.release2.value s ≡ f.release2.value t
   pub squash : f.squash.value s ≡ f.squash.value t
   pub tail : f.tail.value s ≡ f.tail.value t
 
@@ -249,6 +253,7 @@ pub record PortsThere (c : Circuit) (p : LockPorts) : Type 0 where
   pub ticket : (k : ℕ) (q : TicketWrite) → k < length p.writes → slice_index_or p.writes k q ≡ q → IsThere c q.ticket
   pub value : (k : ℕ) (q : TicketWrite) → k < length p.writes → slice_index_or p.writes k q ≡ q → IsThere c q.value
   pub release : IsThere c p.release
+  pub release2 : IsThere c p.release2
   pub squash : IsThere c p.squash
   pub tail : IsThere c p.tail
 
@@ -260,6 +265,7 @@ pub record PortsFit (c : Circuit) (bits width w : ℕ) (p : LockPorts) : Type 0 
   pub ticket_width : (k : ℕ) (q : TicketWrite) → k < length p.writes → slice_index_or p.writes k q ≡ q → (signal c q.ticket).width ≡ w
   pub value_width : (k : ℕ) (q : TicketWrite) → k < length p.writes → slice_index_or p.writes k q ≡ q → (signal c q.value).width ≡ width
   pub release_one : (signal c p.release).width ≡ 1
+  pub release2_one : (signal c p.release2).width ≡ 1
   pub squash_one : (signal c p.squash).width ≡ 1
   pub tail_width : (signal c p.tail).width ≡ w
 

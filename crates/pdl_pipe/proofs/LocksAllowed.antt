@@ -14,7 +14,7 @@ use Rattle.pdl_rules.specs.Limits.{is_size, is_width, is_depth, allows_lock, is_
 use Rattle.pdl_rules.specs.Refusal.{KeepsRules}
 use Rattle.pdl_lockapi.proofs.LockKinds.{lock_is}
 use Rattle.pdl_lockapi.specs.Forget.{as_lock}
-use Rattle.pdl_lock_entries.specs.Slots.{IsSize}
+use Rattle.pdl_lock_ring.specs.Slots.{IsSize}
 use Rattle.pdl_lock_any.specs.Asked.{IsSizedLock}
 use Rattle.pdl_lock_any.proofs.Asked.{sized_allowed}
 use Rattle.pdl_form.specs.Form.{Form}

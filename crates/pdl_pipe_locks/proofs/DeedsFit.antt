@@ -1,5 +1,5 @@
 -- What a lock takes of the stages' nets: they are there, with the widths of its memory.
-use Rattle.std.proofs.Common.{◌≡◌, ℕ, zero, suc, ◌^◌, ◌<◌, List, [], ◌∷◌, map, length, sym, ap, ◌∙◌, subst, arith, inl, inr}
+use Rattle.std.proofs.Common.{◌≡◌, ℕ, zero, suc, ◌^◌, ◌<◌, List, [], ◌∷◌, map, length, refl, sym, ap, ◌∙◌, subst, arith, inl, inr}
 use Rattle.std.specs.Prelude.{Option, Some}
 use Rattle.std.proofs.lemmas.Bool.Decides.{eqb_tells}
 use Rattle.pdl_semantics.specs.Flat.{Pipe}
@@ -110,6 +110,7 @@ module _ {T : Type 0} (l : Members T) (c : Circuit) (p : Pipe) (ws : List ℕ) (
         (all_puts_fit m (mem_at p m).width (l.tickets x.lock) (views_in c ds) (moves_in c ds) (length ds) 0
         (λ j. views_have c (λ v. Each (WriteFits (mem_at p m).width (l.tickets x.lock)) (puts_to m (moves_in c ds j) (v.tickets m) v.ended.puts)) ds j tt (views_put m x (moves_in c ds j) ds low e h)));
     release = released_one m (views_in c ds) (moves_in c ds) (length ds) 0;
+    release2 = refl;
     squash = s.one;
     tail = s.tails.wide m x low e;
   }

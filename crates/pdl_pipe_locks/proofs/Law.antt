@@ -40,7 +40,7 @@ step_is s p ds squash tails vs gates goes m count low of beside =
     let reserves = same_reserves m (views_in s ds) vs (moves_in s ds) goes n 0 moves (λ j u. ap (λ (w : Walk). w.reserves) (ended j u)) in
     let puts = same_puts m (views_in s ds) vs (moves_in s ds) goes n 0 moves tickets (λ j u. ap (λ (w : Walk). w.puts) (ended j u)) in
     let release = same_released m (views_in s ds) vs (moves_in s ds) goes n 0 moves (λ j u. ap (λ (w : Walk). w.lettings) (ended j u)) in
-    let F = λ (r : List ReserveSignal) (w : List TicketSignal) (x y z : Signal). (let f : StepSignals = record { reserves = r; writes = w; release = x; squash = y; tail = z } in f) in
+    let F = λ (r : List ReserveSignal) (w : List TicketSignal) (x y z : Signal). (let f : StepSignals = record { reserves = r; writes = w; release = x; release2 = zero_bit; squash = y; tail = z } in f) in
     let f = steps_in s p ds squash tails m in
     let g = step_of p vs gates goes m in
     let same : F f.reserves f.writes f.release f.squash f.tail ≡ F g.reserves g.writes g.release g.squash g.tail = cc (reserves, puts, release, sym beside.squash, sym (beside.tail m low)) in

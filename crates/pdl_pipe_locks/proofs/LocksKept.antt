@@ -16,6 +16,7 @@ use Rattle.pdl_pipe_exprs.specs.Nets.{signals_in, signal_at}
 use Rattle.pdl_pipe_exprs.proofs.NetLists.{there_keeps, signals_keep}
 use Rattle.pdl_law_parts.specs.Places.{comb_place}
 use Rattle.pdl_law_parts.specs.Views.{View}
+use Rattle.pdl_law_parts.specs.Walk.{zero_bit}
 use Rattle.pdl_law_parts.specs.Ports.{all_reserves, all_puts, release_signal}
 use Rattle.pdl_pipe_walk.specs.declared.locks.MemLock.{MemLock}
 use Rattle.pdl_pipe_walk.specs.Parts.{Parts, walk_of}
@@ -138,6 +139,7 @@ step_by n m vs fs squash tails =
       reserves = all_reserves m (λ k. slice_index_or vs k (view_with (λ m. no_signal) (walk_of no_parts))) (λ k. signal_at fs k) n 0;
       writes = all_puts m (λ k. slice_index_or vs k (view_with (λ m. no_signal) (walk_of no_parts))) (λ k. signal_at fs k) n 0;
       release = release_signal m (λ k. slice_index_or vs k (view_with (λ m. no_signal) (walk_of no_parts))) (λ k. signal_at fs k) n 0;
+      release2 = zero_bit;
       squash = squash;
       tail = signal_at tails m;
     }

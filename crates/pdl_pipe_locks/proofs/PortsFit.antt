@@ -28,6 +28,7 @@ ports_there c p f h = record {
   ticket = λ k q l e. (each_at (IsThereWrite c) p.writes k q l (sym e) h.writes.there).ticket;
   value = λ k q l e. (each_at (IsThereWrite c) p.writes k q l (sym e) h.writes.there).value;
   release = h.release.there;
+  release2 = h.release2.there;
   squash = h.squash.there;
   tail = h.tail.there;
 }
@@ -35,9 +36,9 @@ ports_there c p f h = record {
 pub ports_mean : (c : Circuit) (p : LockPorts) (f : StepSignals) → ArePorts c p f → step_signals c p ≡ f
 unfolding step_signals
 ports_mean c p f h =
-    let F = λ (r : List ReserveSignal) (w : List TicketSignal) (x y z : Signal). (let s : StepSignals = record { reserves = r; writes = w; release = x; squash = y; tail = z } in s) in
-    let same : F (map (reserve_signal c) p.reserves) (map (ticket_signal c) p.writes) (signal c p.release) (signal c p.squash) (signal c p.tail) ≡ F f.reserves f.writes f.release f.squash f.tail =
-    cc (h.reserves.same, h.writes.same, h.release.same, h.squash.same, h.tail.same) in
+    let F = λ (r : List ReserveSignal) (w : List TicketSignal) (x u y z : Signal). (let s : StepSignals = record { reserves = r; writes = w; release = x; release2 = u; squash = y; tail = z } in s) in
+    let same : F (map (reserve_signal c) p.reserves) (map (ticket_signal c) p.writes) (signal c p.release) (signal c p.release2) (signal c p.squash) (signal c p.tail) ≡ F f.reserves f.writes f.release f.release2 f.squash f.tail =
+    cc (h.reserves.same, h.writes.same, h.release.same, h.release2.same, h.squash.same, h.tail.same) in
     same
 
 abbrev pub ReserveFits : ℕ → ReserveSignal → Type 0
@@ -54,6 +55,7 @@ ports_fit c bits width tickets p f h w = record {
   ticket_width = λ k q l e. (write k q l e).1;
   value_width = λ k q l e. (write k q l e).2;
   release_one = ap (λ (g : Signal). g.width) h.release.same ∙ w.release;
+  release2_one = ap (λ (g : Signal). g.width) h.release2.same ∙ w.release2;
   squash_one = ap (λ (g : Signal). g.width) h.squash.same ∙ w.squash;
   tail_width = ap (λ (g : Signal). g.width) h.tail.same ∙ w.tail;
 }

@@ -9,6 +9,7 @@ use Rattle.pdl_lockapi.specs.declared.TicketWrite.{TicketWrite}
 use Rattle.pdl_lockapi.specs.declared.LockPorts.{LockPorts}
 use Rattle.pdl_lockapi.specs.Laws.{ReserveSignal, TicketSignal, StepSignals, reserve_signal, ticket_signal}
 use Rattle.pdl_pipe_exprs.specs.Nets.{NetsThere}
+use Rattle.pdl_law_parts.specs.Walk.{zero_bit}
 use Rattle.pdl_law_parts.specs.Ports.{all_reserves, all_puts, release_signal}
 use Rattle.pdl_pipe_walk.specs.declared.nets.ReserveNet.{ReserveNet}
 use Rattle.pdl_pipe_walk.specs.declared.nets.PutNet.{PutNet}
@@ -77,6 +78,7 @@ pub record ArePorts (c : Circuit) (p : LockPorts) (f : StepSignals) : Type 0 whe
   pub reserves : AreReserves c p.reserves f.reserves
   pub writes : AreWrites c p.writes f.writes
   pub release : Means c p.release f.release
+  pub release2 : Means c p.release2 f.release2
   pub squash : Means c p.squash f.squash
   pub tail : Means c p.tail f.tail
 
@@ -87,6 +89,7 @@ signals_of c ds m squash tail =
       reserves = all_reserves m (views_in c ds) (moves_in c ds) (length ds) 0;
       writes = all_puts m (views_in c ds) (moves_in c ds) (length ds) 0;
       release = release_signal m (views_in c ds) (moves_in c ds) (length ds) 0;
+      release2 = zero_bit;
       squash = squash;
       tail = tail;
     }
@@ -96,5 +99,6 @@ pub record SignalsFit (bits width tickets : ℕ) (f : StepSignals) : Type 0 wher
   pub reserves : Each (λ (r : ReserveSignal). (r.enable.width ≡ 1) × (r.addr.width ≡ bits)) f.reserves
   pub writes : Each (λ (x : TicketSignal). (x.enable.width ≡ 1) × (x.ticket.width ≡ tickets) × (x.value.width ≡ width)) f.writes
   pub release : f.release.width ≡ 1
+  pub release2 : f.release2.width ≡ 1
   pub squash : f.squash.width ≡ 1
   pub tail : f.tail.width ≡ tickets

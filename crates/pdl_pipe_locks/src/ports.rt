@@ -322,6 +322,7 @@ pub fn lock_ports<'d>(
         reserves,
         writes,
         release,
+        release2: bits.zero,
         squash,
         tail,
     })

@@ -1,183 +1,150 @@
-//! The step of a renaming lock: the commit port, and what base, slots, map and array take next.
+//! The step of a renaming lock: the commit ports, and what head, tail, slots, places, map and array take next.
 ghost use Rattle.std.specs.Prelude.{◌≡◌, ℕ, [], ◌∷◌, ◌++◌, ◌+◌, ◌-◌, ◌*◌, ◌^◌, ◌<◌, ◌≤◌, length, IfOk, OnOk};
-ghost use Rattle.pdl_net.specs.Signal.{const_signal, mux_signal};
-ghost use Rattle.pdl_net.specs.Meaning.{IsThere, Means, signal, next_signal, write_signals};
+ghost use Rattle.pdl_net.specs.Signal.{mux_signal};
+ghost use Rattle.pdl_net.specs.Meaning.{IsThere, Means, signal, write_signals};
 ghost use Rattle.pdl_net.specs.Growth.{Extends, ExtendsBut};
-ghost use Rattle.pdl_lockapi.specs.Laws.{PortsThere, PortsFit, step_signals, ticket_at};
-ghost use Rattle.pdl_lock_entries.specs.Slots.{HasSlots};
-ghost use Rattle.pdl_lock_entries.specs.Steps.{push_addr, left_signal};
-ghost use Rattle.pdl_rename.specs.Places.{IsRenaming, HasMap, HasStore, map_at};
-ghost use Rattle.pdl_rename.specs.Nets.{place_of, place_writes, one_put, oldest_addr, oldest_value, freed_place, next_map, NextMap, NextRename, own_word, own_map, own_store, own_rename};
+ghost use Rattle.pdl_lockapi.specs.Laws.{step_signals, ticket_at};
+ghost use Rattle.pdl_lock_ring.specs.Looks.{slot_of, head_signal};
+ghost use Rattle.pdl_lock_ring.specs.Steps.{next_head};
+ghost use Rattle.pdl_lock_ring.specs.Ready.{HasPorts, IsReady};
+ghost use Rattle.pdl_lock_ring.specs.Oldest.{AreOldest};
+ghost use Rattle.pdl_rename.specs.Places.{IsRenaming, HasMap, HasStore};
+ghost use Rattle.pdl_rename.specs.Freed.{AreFreed};
+ghost use Rattle.pdl_rename.specs.Nets.{place_of, place_writes, one_put, put_signal, stored_signal, oldest_value, next_value, AreRenamed, NextRename, own_store, own_rename};
 
 use crate::layout::Layout;
-use crate::look::emit_mapped;
+use crate::look::place_registers;
+use crate::map::emit_map;
+use crate::places::{Freed, emit_freed, emit_places};
 use pdl_build::Builder;
 use pdl_kit::NoMemory;
-use pdl_lock_entries::fill::{emit_gate, emit_push, emit_value, write_port};
-use pdl_lock_entries::slot::{content, emit_addr, emit_slots};
-use pdl_lock_entries::step::{emit_base, emit_left};
+use pdl_lock_ring::choice::emit_register;
+use pdl_lock_ring::fill::{emit_written, write_port};
+use pdl_lock_ring::look::emit_slot_of;
+use pdl_lock_ring::slot::emit_slots;
+use pdl_lock_ring::step::{Oldest, emit_commit, emit_ends, emit_next_head, emit_oldest};
+use pdl_lock_ring::taken::{Taken, emit_taken};
 use pdl_lockapi::{LockNets, LockPorts};
 use pdl_net::{BinOp, Net};
 
-/// How many pending writes are left, the address of one that is appended, that of the oldest one, and the place that its release sets free.
-#[derive(Clone, Copy)]
-struct Front {
-    left: Net,
-    addr: Net,
-    oldest: Net,
-    freed: Net,
-}
-
-/// What the next values of slots and map are made of.
-#[tactic(auto, using(pdl_lock_entries::proofs::Kept::slots_kept, crate::proofs::Made::map_kept, crate::proofs::Chosen::widths))]
-fn emit_front(b: &mut Builder, l: Layout, p: &LockPorts) -> Result<Front, NoMemory>
-    requires renaming { IsRenaming l }
-    requires slots { HasSlots b.old l.slots l.slots.size }
-    requires map { HasMap b.old l l.depth }
-    requires ports { PortsThere b.old p.now }
-    requires fit { PortsFit b.old l.slots.bits l.slots.width l.slots.ticket p.now }
-    ensures left { IfOk result (λ x.
-        Means b.new x.left (left_signal l.slots (step_signals b.old p.now))) }
-    ensures left_width { IfOk result (λ x. (signal b.new x.left).width ≡ l.slots.ticket) }
-    ensures addr { IfOk result (λ x.
-        Means b.new x.addr (push_addr l.slots.bits (step_signals b.old p.now)
-        (length p.now.reserves))) }
-    ensures addr_width { IfOk result (λ x. (signal b.new x.addr).width ≡ l.slots.bits) }
-    ensures oldest { IfOk result (λ x.
-        Means b.new x.oldest (oldest_addr l (step_signals b.old p.now))) }
-    ensures freed { IfOk result (λ x.
-        Means b.new x.freed (freed_place l (step_signals b.old p.now))) }
-    ensures extends { Extends b.old b.new }
-{
-    let (push, addr) = emit_push(b, l.slots, p)?;
-    let left = emit_left(b, l.slots, p, push)?;
-    let oldest = emit_addr(b, l.slots, p, 0, addr)?;
-    let freed = emit_mapped(b, l, oldest)?;
-    Ok(Front {
-        left,
-        addr,
-        oldest,
-        freed,
-    })
-}
-
-/// What the map has next for an address.
-#[tactic(auto, using(pdl_lock_entries::proofs::Steps::release_is, crate::proofs::Made::map_kept))]
-fn emit_word(
+/// The word of a slot after write port j, from what was before it.
+#[tactic(auto, using(pdl_lock_ring::proofs::Fills::ticket_is, pdl_lock_ring::proofs::Kept::ports_kept))]
+fn emit_put_word(
     b: &mut Builder,
     l: Layout,
     p: &LockPorts,
-    a: usize,
-    oldest: Net,
-) -> Result<(), NoMemory>
+    slot: Net,
+    j: usize,
+    before: Net,
+) -> Result<Net, NoMemory>
     requires renaming { IsRenaming l }
-    requires slots { HasSlots b.old l.slots l.slots.size }
-    requires map { HasMap b.old l l.depth }
-    requires release { IsThere b.old p.now.release }
-    requires release_one { (signal b.old p.now.release).width ≡ 1 }
-    requires address { a < l.depth }
-    requires oldest { Means b.old oldest (oldest_addr l (step_signals b.old p.now)) }
-    requires oldest_width { (signal b.old oldest).width ≡ l.slots.bits }
-    ensures next { OnOk result (next_signal b.new (map_at l a)
-        ≡ next_map l (step_signals b.old p.now) a) }
-    ensures extends { ExtendsBut (own_word l a) b.old b.new }
-{
-    let number = b.constant(l.slots.bits, a as u64)?;
-    let same = b.bin(BinOp::Eq, oldest, number)?;
-    let place = content(l.slots, 0);
-    let here = b.mux(same, place, Net::Reg(l.map + a))?;
-    let next = b.mux(p.release, here, Net::Reg(l.map + a))?;
-    b.next(l.map + a, next);
-    Ok(())
-}
-
-/// What the whole map has next.
-fn emit_map(b: &mut Builder, l: Layout, p: &LockPorts, oldest: Net) -> Result<(), NoMemory>
-    requires renaming { IsRenaming l }
-    requires slots { HasSlots b.old l.slots l.slots.size }
-    requires map { HasMap b.old l l.depth }
-    requires ports { PortsThere b.old p.now }
-    requires fit { PortsFit b.old l.slots.bits l.slots.width l.slots.ticket p.now }
-    requires oldest { Means b.old oldest (oldest_addr l (step_signals b.old p.now)) }
-    ensures next { OnOk result (NextMap b.new l (step_signals b.old p.now) l.depth) }
-    ensures extends { ExtendsBut (own_map l) b.old b.new }
-{
-    for a in 0..l.depth {
-        emit_word(b, l, p, a, oldest)?;
-    }
-    Ok(())
-}
-
-/// The commit port.
-#[tactic(auto, using(pdl_lock_entries::proofs::Steps::release_is, pdl_lock_entries::proofs::Kept::slots_kept, pdl_lockapi::proofs::Kept::ports))]
-fn emit_commit(b: &mut Builder, l: Layout, p: &LockPorts, oldest: Net) -> Result<LockNets, NoMemory>
-    requires renaming { IsRenaming l }
-    requires slots { HasSlots b.old l.slots l.slots.size }
-    requires store { HasStore b.old l }
-    requires ports { PortsThere b.old p.now }
-    requires fit { PortsFit b.old l.slots.bits l.slots.width l.slots.ticket p.now }
-    requires oldest { Means b.old oldest (oldest_addr l (step_signals b.old p.now)) }
-    requires oldest_width { (signal b.old oldest).width ≡ l.slots.bits }
-    ensures commit { IfOk result (λ n. Means b.new n.commit (step_signals b.old p.now).release) }
-    ensures addr { IfOk result (λ n.
-        Means b.new n.addr (mux_signal (step_signals b.old p.now).release
-        (oldest_addr l (step_signals b.old p.now)) (const_signal l.slots.bits 0))) }
-    ensures value { IfOk result (λ n.
-        Means b.new n.value (mux_signal (step_signals b.old p.now).release
-        (oldest_value l (step_signals b.old p.now)) (const_signal l.slots.width 0))) }
-    ensures value_width { IfOk result (λ n. (signal b.new n.value).width ≡ l.slots.width) }
+    requires given { HasPorts b.old l.slots p.now }
+    requires slot { IsThere b.old slot }
+    requires slot_width { (signal b.old slot).width ≡ l.slots.ticket }
+    requires within { j < length p.now.writes }
+    requires before { IsThere b.old before }
+    requires before_width { (signal b.old before).width ≡ l.slots.width }
+    ensures means { IfOk result (λ x.
+        Means b.new x (put_signal l (step_signals b.old p.now) (signal b.old slot) j
+        (signal b.old before))) }
+    ensures wide { IfOk result (λ x. (signal b.new x).width ≡ l.slots.width) }
     ensures extends { Extends b.old b.new }
 {
-    let place = content(l.slots, 0);
-    let word = b.read(l.array, place)?;
-    let value = emit_value(b, l.slots, p, 0, word)?;
-    let no_addr = b.constant(l.slots.bits, 0)?;
-    let no_value = b.constant(l.slots.width, 0)?;
-    let addr = b.mux(p.release, oldest, no_addr)?;
-    let value = b.mux(p.release, value, no_value)?;
+    let port = write_port(p, j);
+    let written = emit_written(b, l.slots, p, j)?;
+    let fills = b.bin(BinOp::Eq, written, slot)?;
+    let word = b.mux(fills, port.value, before)?;
+    Ok(word)
+}
+
+/// The word at a place, which is that of a slot, after this cycle's writes.
+#[tactic(auto, using(crate::proofs::Words::storing, pdl_lock_ring::proofs::Kept::ports_kept))]
+fn emit_stored(
+    b: &mut Builder,
+    l: Layout,
+    p: &LockPorts,
+    slot: Net,
+    place: Net,
+) -> Result<Net, NoMemory>
+    requires renaming { IsRenaming l }
+    requires given { HasPorts b.old l.slots p.now }
+    requires store { HasStore b.old l }
+    requires slot { IsThere b.old slot }
+    requires slot_width { (signal b.old slot).width ≡ l.slots.ticket }
+    requires place { IsThere b.old place }
+    requires place_width { (signal b.old place).width ≡ l.slots.kept }
+    ensures means { IfOk result (λ x.
+        Means b.new x (stored_signal l (step_signals b.old p.now) (signal b.old slot)
+        (signal b.old place) (length p.now.writes))) }
+    ensures wide { IfOk result (λ x. (signal b.new x).width ≡ l.slots.width) }
+    ensures extends { Extends b.old b.new }
+{
+    let mut word = b.read(l.array, place)?;
+    for j in 0..p.writes.len() {
+        word = emit_put_word(b, l, p, slot, j, word)?;
+    }
+    Ok(word)
+}
+
+/// The words that a cycle's releases commit.
+#[tactic(auto, using(pdl_lock_ring::proofs::Kept::ports_kept, pdl_lock_ring::proofs::Kept::oldest_kept, crate::proofs::Made::store_kept))]
+fn emit_words(b: &mut Builder, l: Layout, p: &LockPorts, o: Oldest) -> Result<(Net, Net), NoMemory>
+    requires renaming { IsRenaming l }
+    requires given { HasPorts b.old l.slots p.now }
+    requires store { HasStore b.old l }
+    requires oldest { AreOldest b.old l.slots (step_signals b.old p.now) o }
+    ensures first { IfOk result (λ x. Means b.new x.0 (oldest_value l (step_signals b.old p.now))) }
+    ensures second { IfOk result (λ x. Means b.new x.1 (next_value l (step_signals b.old p.now))) }
+    ensures first_wide { IfOk result (λ x. (signal b.new x.0).width ≡ l.slots.width) }
+    ensures second_wide { IfOk result (λ x. (signal b.new x.1).width ≡ l.slots.width) }
+    ensures extends { Extends b.old b.new }
+{
+    let slot = emit_slot_of(b, l.slots, Net::Reg(l.slots.from))?;
+    let first = emit_stored(b, l, p, slot, o.first.content)?;
+    let next = emit_next_head(b, l.slots)?;
+    let slot2 = emit_slot_of(b, l.slots, next)?;
+    let second = emit_stored(b, l, p, slot2, o.second.content)?;
+    Ok((first, second))
+}
+
+/// The commit ports.
+#[tactic(auto, using(pdl_lock_ring::proofs::Ends::release_is, pdl_lock_ring::proofs::Kept::ports_kept, pdl_lock_ring::proofs::Kept::oldest_kept))]
+fn emit_commits(b: &mut Builder, l: Layout, p: &LockPorts, o: Oldest) -> Result<LockNets, NoMemory>
+    requires renaming { IsRenaming l }
+    requires given { HasPorts b.old l.slots p.now }
+    requires store { HasStore b.old l }
+    requires oldest { AreOldest b.old l.slots (step_signals b.old p.now) o }
+    ensures commits { IfOk result (λ n. AreRenamed b.new l (step_signals b.old p.now) n) }
+    ensures extends { Extends b.old b.new }
+{
+    let (first, second) = emit_words(b, l, p, o)?;
+    let (addr, value) = emit_commit(b, l.slots, p.release, o.first.addr, first)?;
+    let (addr2, value2) = emit_commit(b, l.slots, p.release2, o.second.addr, second)?;
     Ok(LockNets {
         commit: p.release,
         addr,
         value,
+        commit2: p.release2,
+        addr2,
+        value2,
     })
 }
 
-/// The place that the slot holds into which write port j writes.
-#[tactic(auto, using(crate::proofs::Chosen::placing, pdl_lock_entries::proofs::Kept::slots_kept))]
-fn emit_place(b: &mut Builder, l: Layout, p: &LockPorts, j: usize) -> Result<Net, NoMemory>
-    requires renaming { IsRenaming l }
-    requires slots { HasSlots b.old l.slots l.slots.size }
-    requires ports { PortsThere b.old p.now }
-    requires fit { PortsFit b.old l.slots.bits l.slots.width l.slots.ticket p.now }
-    requires within { j < length p.now.writes }
-    ensures means { IfOk result (λ x. Means b.new x (place_of l (step_signals b.old p.now) j)) }
-    ensures extends { Extends b.old b.new }
-{
-    let gate = emit_gate(b, l.slots, p, j)?;
-    let mut place = content(l.slots, 0);
-    for k in 0..l.slots.size - 1 {
-        let number = b.constant(l.slots.ticket, k as u64 + 1)?;
-        let same = b.bin(BinOp::Eq, gate, number)?;
-        place = b.mux(same, content(l.slots, k + 1), place)?;
-    }
-    Ok(place)
-}
-
-/// Write port j as a port of the array.
-#[tactic(auto, using(pdl_lock_entries::proofs::Steps::ticket_is, crate::proofs::Chosen::widths, crate::proofs::Made::store_kept))]
+/// Write port j as a port of the array, at the place of its ticket's slot.
+#[tactic(auto, using(pdl_lock_ring::proofs::Fills::ticket_is, crate::proofs::Chosen::widths, crate::proofs::Made::places_there, crate::proofs::Made::store_kept))]
 fn emit_put(b: &mut Builder, l: Layout, p: &LockPorts, j: usize) -> Result<(), NoMemory>
     requires renaming { IsRenaming l }
-    requires slots { HasSlots b.old l.slots l.slots.size }
+    requires given { HasPorts b.old l.slots p.now }
     requires store { HasStore b.old l }
-    requires ports { PortsThere b.old p.now }
-    requires fit { PortsFit b.old l.slots.bits l.slots.width l.slots.ticket p.now }
     requires within { j < length p.now.writes }
     ensures write { OnOk result (write_signals b.new l.array
         ≡ write_signals b.old l.array ++ one_put l (step_signals b.old p.now) j ∷ []) }
     ensures extends { ExtendsBut (own_store l) b.old b.new }
 {
     let port = write_port(p, j);
-    let place = emit_place(b, l, p, j)?;
+    let bits = l.slots.ticket - 1;
+    let places = place_registers(l);
+    let place = emit_register(b, places, port.ticket, bits, 0)?;
     b.write(l.array, port.enable, place, port.value)?;
     Ok(())
 }
@@ -185,10 +152,8 @@ fn emit_put(b: &mut Builder, l: Layout, p: &LockPorts, j: usize) -> Result<(), N
 /// What the array takes next.
 fn emit_writes(b: &mut Builder, l: Layout, p: &LockPorts) -> Result<(), NoMemory>
     requires renaming { IsRenaming l }
-    requires slots { HasSlots b.old l.slots l.slots.size }
+    requires given { HasPorts b.old l.slots p.now }
     requires store { HasStore b.old l }
-    requires ports { PortsThere b.old p.now }
-    requires fit { PortsFit b.old l.slots.bits l.slots.width l.slots.ticket p.now }
     requires empty { write_signals b.old l.array ≡ [] }
     ensures writes { OnOk result (write_signals b.new l.array
         ≡ place_writes l (step_signals b.old p.now) (length p.now.writes)) }
@@ -200,32 +165,48 @@ fn emit_writes(b: &mut Builder, l: Layout, p: &LockPorts) -> Result<(), NoMemory
     Ok(())
 }
 
-/// The whole step.
-#[tactic(auto, using(pdl_lock_entries::proofs::Kept::slots_kept, pdl_lock_entries::proofs::Kept::slots_kept_but, crate::proofs::Made::map_kept, crate::proofs::Made::map_kept_but, crate::proofs::Made::store_kept, crate::proofs::Made::store_kept_but))]
-pub fn emit_step(b: &mut Builder, l: Layout, p: &LockPorts) -> Result<LockNets, NoMemory>
+/// What all registers and the array take next.
+fn emit_nexts(
+    b: &mut Builder,
+    l: Layout,
+    p: &LockPorts,
+    t: Taken,
+    o: Oldest,
+    f: Freed,
+) -> Result<(), NoMemory>
     requires renaming { IsRenaming l }
-    requires slots { HasSlots b.old l.slots l.slots.size }
+    requires ready { IsReady b.old l.slots p.now t }
+    requires oldest { AreOldest b.old l.slots (step_signals b.old p.now) o }
+    requires freed { AreFreed b.old l (step_signals b.old p.now) f }
     requires map { HasMap b.old l l.depth }
     requires store { HasStore b.old l }
     requires empty { write_signals b.old l.array ≡ [] }
-    requires ports { PortsThere b.old p.now }
-    requires fit { PortsFit b.old l.slots.bits l.slots.width l.slots.ticket p.now }
     ensures next { OnOk result (NextRename b.new l (step_signals b.old p.now)) }
-    ensures commit { IfOk result (λ n. Means b.new n.commit (step_signals b.old p.now).release) }
-    ensures addr { IfOk result (λ n.
-        Means b.new n.addr (mux_signal (step_signals b.old p.now).release
-        (oldest_addr l (step_signals b.old p.now)) (const_signal l.slots.bits 0))) }
-    ensures value { IfOk result (λ n.
-        Means b.new n.value (mux_signal (step_signals b.old p.now).release
-        (oldest_value l (step_signals b.old p.now)) (const_signal l.slots.width 0))) }
-    ensures value_width { IfOk result (λ n. (signal b.new n.value).width ≡ l.slots.width) }
     ensures extends { ExtendsBut (own_rename l) b.old b.new }
 {
-    let front = emit_front(b, l, p)?;
-    emit_slots(b, l.slots, p, front.left, front.addr, front.freed)?;
-    emit_base(b, l.slots, p)?;
-    emit_map(b, l, p, front.oldest)?;
-    let nets = emit_commit(b, l, p, front.oldest)?;
+    emit_slots(b, l.slots, p, t)?;
+    emit_ends(b, l.slots, p, t)?;
+    emit_places(b, l, p, f)?;
+    emit_map(b, l, p, o)?;
     emit_writes(b, l, p)?;
+    Ok(())
+}
+
+/// The commit nets, and what all registers and the array take next.
+pub fn emit_step(b: &mut Builder, l: Layout, p: &LockPorts) -> Result<LockNets, NoMemory>
+    requires renaming { IsRenaming l }
+    requires given { HasPorts b.old l.slots p.now }
+    requires map { HasMap b.old l l.depth }
+    requires store { HasStore b.old l }
+    requires empty { write_signals b.old l.array ≡ [] }
+    ensures next { OnOk result (NextRename b.new l (step_signals b.old p.now)) }
+    ensures commits { IfOk result (λ n. AreRenamed b.new l (step_signals b.old p.now) n) }
+    ensures extends { ExtendsBut (own_rename l) b.old b.new }
+{
+    let taken = emit_taken(b, l.slots, p)?;
+    let oldest = emit_oldest(b, l.slots, p, taken)?;
+    let nets = emit_commits(b, l, p, oldest)?;
+    let freed = emit_freed(b, l, p, oldest)?;
+    emit_nexts(b, l, p, taken, oldest, freed)?;
     Ok(nets)
 }

@@ -1,7 +1,7 @@
 -- The memory of the tests suits each lock.
 use Rattle.std.proofs.Common.{◌≡◌, ◌≤◌, ℕ, false, arith}
 use Rattle.pdl_kit.specs.declared.mem_info.MemInfo.{MemInfo}
-use Rattle.pdl_lock_entries.specs.Slots.{IsSize, Suits}
+use Rattle.pdl_lock_ring.specs.Slots.{IsSize, Suits}
 use Rattle.pdl_bypass.specs.declared.BypassLock.{BypassLock}
 use Rattle.pdl_bypass.specs.Bypasses.{BypassSuits}
 use Rattle.pdl_rename.specs.declared.RenameFile.{RenameFile}

@@ -32,12 +32,15 @@ pub record IsWrite (c : Circuit) (tickets width : ℕ) (d : WriteDrive) : Type 0
 
 pub record IsEnd (c : Circuit) (tickets : ℕ) (d : EndDrive) : Type 0 where
   pub release : Drives c 1 d.release
+  pub release2 : Drives c 1 d.release2
   pub squash : Drives c 1 d.squash
   pub tail : Drives c tickets d.tail
 
 pub record AreDrivers (c : Circuit) (bits width tickets : ℕ) (d : PortDrive) : Type 0 where
   pub reserve : IsReserve c bits d.reserve
+  pub reserve2 : IsReserve c bits d.reserve2
   pub write : IsWrite c tickets width d.write
+  pub write2 : IsWrite c tickets width d.write2
   pub end : IsEnd c tickets d.end
 
 -- the ports that they drive

@@ -22,10 +22,11 @@ pub struct WriteDrive {
     pub value: usize,
 }
 
-/// Those that drive the release and the squash.
+/// Those that drive the releases and the squash.
 #[derive(Clone, Copy)]
 pub struct EndDrive {
     pub release: usize,
+    pub release2: usize,
     pub squash: usize,
     pub tail: usize,
 }
@@ -34,6 +35,8 @@ pub struct EndDrive {
 #[derive(Clone, Copy)]
 pub struct PortDrive {
     pub reserve: ReserveDrive,
+    pub reserve2: ReserveDrive,
     pub write: WriteDrive,
+    pub write2: WriteDrive,
     pub end: EndDrive,
 }

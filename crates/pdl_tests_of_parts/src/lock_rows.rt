@@ -89,8 +89,8 @@ fn delayed_queue(alloc: Global) -> Result<(Option<usize>, usize), NoMemory> {
 #[test]
 fn registers_and_arrays(rt: HostRuntime) {
     let alloc = rt.alloc();
-    assert!(rt; queue_sizes(alloc) == Ok([17, 4, 1, 16, 3]));
-    assert!(rt; bypass_sizes(alloc) == Ok([17, 4, 1, 16, 3]));
-    assert!(rt; rename_sizes(alloc) == Ok([65, 5, 1, 64, 4]));
-    assert!(rt; delayed_queue(alloc) == Ok((None, 65)));
+    assert!(rt; queue_sizes(alloc) == Ok([14, 4, 1, 16, 3]));
+    assert!(rt; bypass_sizes(alloc) == Ok([14, 4, 1, 16, 3]));
+    assert!(rt; rename_sizes(alloc) == Ok([58, 5, 1, 64, 4]));
+    assert!(rt; delayed_queue(alloc) == Ok((None, 50)));
 }

@@ -74,6 +74,7 @@ fn queues(rt: HostRuntime) -> Result<(), NoMemory> {
     let mem = memory(alloc)?;
     assert!(rt; driven(&QueueLock { size: 1 }, alloc, &mem, false, 1) == Ok(200));
     assert!(rt; driven(&QueueLock { size: 2 }, alloc, &mem, false, 2) == Ok(200));
+    assert!(rt; driven(&QueueLock { size: 4 }, alloc, &mem, false, 4) == Ok(200));
     assert!(rt; driven(&QueueLock { size: 16 }, alloc, &mem, false, 16) == Ok(200));
     Ok(())
 }
@@ -84,6 +85,7 @@ fn bypasses(rt: HostRuntime) -> Result<(), NoMemory> {
     let mem = memory(alloc)?;
     assert!(rt; driven(&BypassLock { size: 1 }, alloc, &mem, true, 1) == Ok(200));
     assert!(rt; driven(&BypassLock { size: 2 }, alloc, &mem, true, 2) == Ok(200));
+    assert!(rt; driven(&BypassLock { size: 4 }, alloc, &mem, true, 4) == Ok(200));
     assert!(rt; driven(&BypassLock { size: 16 }, alloc, &mem, true, 16) == Ok(200));
     Ok(())
 }
@@ -94,6 +96,7 @@ fn renamings(rt: HostRuntime) -> Result<(), NoMemory> {
     let mem = memory(alloc)?;
     assert!(rt; driven(&RenameFile { size: 1 }, alloc, &mem, true, 1) == Ok(200));
     assert!(rt; driven(&RenameFile { size: 2 }, alloc, &mem, true, 2) == Ok(200));
+    assert!(rt; driven(&RenameFile { size: 4 }, alloc, &mem, true, 4) == Ok(200));
     assert!(rt; driven(&RenameFile { size: 16 }, alloc, &mem, true, 16) == Ok(200));
     Ok(())
 }

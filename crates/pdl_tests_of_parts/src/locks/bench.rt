@@ -1,4 +1,4 @@
-// A circuit round a lock: registers that a test sets drive two looks and one port of each kind.
+// A circuit round a lock: registers that a test sets drive two looks and two ports of each kind.
 ghost use Rattle.std.specs.Prelude.{◌≡◌, ◌≤◌, ◌∷◌, [], IfOk, OnOk};
 ghost use Rattle.pdl_net.specs.Meaning.{IsThere, signal};
 ghost use Rattle.pdl_net.specs.Growth.{Extends};
@@ -17,10 +17,9 @@ use std::alloc::Global;
 /// A lock in a circuit: what drives it, and what it shows.
 #[derive(Drop)]
 pub struct DrivenLock {
+    pub regs: LockRegs,
     pub looks: LookDrive,
     pub ports: PortDrive,
-    pub room: Net,
-    pub ticket: Net,
     pub read: Look,
     pub write: Look,
     pub nets: LockNets,
@@ -89,7 +88,7 @@ fn emit_write_drive(b: &mut Builder, tickets: u8, width: u8) -> Result<WriteDriv
     })
 }
 
-/// A release and a squash.
+/// Two releases and a squash.
 fn emit_end_drive(b: &mut Builder, tickets: u8) -> Result<EndDrive, NoMemory>
     requires tickets_low { 1 ≤ tickets }
     requires tickets_high { tickets ≤ 64 }
@@ -97,16 +96,18 @@ fn emit_end_drive(b: &mut Builder, tickets: u8) -> Result<EndDrive, NoMemory>
     ensures extends { Extends b.old b.new }
 {
     let release = emit_driver(b, 1)?;
+    let release2 = emit_driver(b, 1)?;
     let squash = emit_driver(b, 1)?;
     let tail = emit_driver(b, tickets)?;
     Ok(EndDrive {
         release,
+        release2,
         squash,
         tail,
     })
 }
 
-/// One port of each kind.
+/// Two ports of each kind.
 fn emit_port_drive(b: &mut Builder, bits: u8, width: u8, tickets: u8) -> Result<PortDrive, NoMemory>
     requires bits_low { 1 ≤ bits }
     requires bits_high { bits ≤ 64 }
@@ -118,39 +119,62 @@ fn emit_port_drive(b: &mut Builder, bits: u8, width: u8, tickets: u8) -> Result<
     ensures extends { Extends b.old b.new }
 {
     let reserve = emit_reserve_drive(b, bits)?;
+    let reserve2 = emit_reserve_drive(b, bits)?;
     let write = emit_write_drive(b, tickets, width)?;
+    let write2 = emit_write_drive(b, tickets, width)?;
     let end = emit_end_drive(b, tickets)?;
     Ok(PortDrive {
         reserve,
+        reserve2,
         write,
+        write2,
         end,
     })
 }
 
+/// The reserve port that a drive drives.
+fn reserve_port(d: ReserveDrive) -> ReservePort
+    ensures { result ≡ reserve_of d }
+{
+    ReservePort {
+        enable: Net::Reg(d.enable),
+        kind: Kind::W,
+        addr: Net::Reg(d.addr),
+    }
+}
+
+/// The write port that a drive drives.
+fn write_port(d: WriteDrive) -> TicketWrite
+    ensures { result ≡ write_of d }
+{
+    TicketWrite {
+        enable: Net::Reg(d.enable),
+        ticket: Net::Reg(d.ticket),
+        value: Net::Reg(d.value),
+    }
+}
+
 /// The ports that they drive.
 fn ports(alloc: Global, d: PortDrive) -> Result<LockPorts, NoMemory>
-    ensures reserves { IfOk result (λ p. p.reserves ≡ reserve_of d.reserve ∷ []) }
-    ensures writes { IfOk result (λ p. p.writes ≡ write_of d.write ∷ []) }
+    ensures reserves { IfOk result (λ p.
+        p.reserves ≡ reserve_of d.reserve ∷ reserve_of d.reserve2 ∷ []) }
+    ensures writes { IfOk result (λ p. p.writes ≡ write_of d.write ∷ write_of d.write2 ∷ []) }
     ensures release { IfOk result (λ p. p.release ≡ Net.Reg d.end.release) }
+    ensures release2 { IfOk result (λ p. p.release2 ≡ Net.Reg d.end.release2) }
     ensures squash { IfOk result (λ p. p.squash ≡ Net.Reg d.end.squash) }
     ensures tail { IfOk result (λ p. p.tail ≡ Net.Reg d.end.tail) }
 {
     let mut reserves = Seq::new(alloc);
-    reserves.push(ReservePort {
-        enable: Net::Reg(d.reserve.enable),
-        kind: Kind::W,
-        addr: Net::Reg(d.reserve.addr),
-    })?;
+    reserves.push(reserve_port(d.reserve))?;
+    reserves.push(reserve_port(d.reserve2))?;
     let mut writes = Seq::new(alloc);
-    writes.push(TicketWrite {
-        enable: Net::Reg(d.write.enable),
-        ticket: Net::Reg(d.write.ticket),
-        value: Net::Reg(d.write.value),
-    })?;
+    writes.push(write_port(d.write))?;
+    writes.push(write_port(d.write2))?;
     Ok(LockPorts {
         reserves,
         writes,
         release: Net::Reg(d.end.release),
+        release2: Net::Reg(d.end.release2),
         squash: Net::Reg(d.end.squash),
         tail: Net::Reg(d.end.tail),
     })
@@ -190,7 +214,7 @@ fn emit_step<L: LockModule>(
     lock.emit_step(b, regs, &ports)
 }
 
-/// A lock with two looks and one port of each kind.
+/// A lock with two looks and two ports of each kind.
 fn emit_lock<L: LockModule>(
     lock: &L,
     alloc: Global,
@@ -208,10 +232,9 @@ fn emit_lock<L: LockModule>(
     let (read, write) = emit_looks(lock, b, &regs, looks)?;
     let nets = emit_step(alloc, lock, b, &regs, ports)?;
     Ok(DrivenLock {
+        regs,
         looks,
         ports,
-        room: regs.room,
-        ticket: regs.ticket,
         read,
         write,
         nets,

@@ -96,6 +96,14 @@ impl Board {
         put(self.regs.as_mut_slice(), reg, value);
     }
 
+    /// What a register holds, and what it held in the cycle before.
+    pub fn reg(&self, reg: usize) -> (u64, u64) {
+        (
+            number(self.regs.as_slice(), reg),
+            number(self.next.as_slice(), reg),
+        )
+    }
+
     fn word(&self, net: &Netlist, x: Net) -> Word {
         match x {
             Net::Input(_) => ZERO,

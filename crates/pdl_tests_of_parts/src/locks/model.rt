@@ -5,18 +5,35 @@ use std::alloc::Global;
 
 /// A pending write; its ticket is that of the oldest one and its place in the list together.
 #[derive(Clone, Copy)]
-struct Pending {
-    addr: u64,
-    value: Option<u64>,
+pub struct Pending {
+    pub addr: u64,
+    pub value: Option<u64>,
 }
 
-/// What a cycle does.
+/// A write through a ticket.
+#[derive(Clone, Copy)]
+pub struct Write {
+    pub ticket: u64,
+    pub value: u64,
+}
+
+/// What a cycle does: up to two reservations, writes and releases, and a squash from a ticket on.
 #[derive(Clone, Copy)]
 pub struct Act {
     pub reserve: Option<u64>,
-    pub write: Option<(u64, u64)>,
+    pub reserve2: Option<u64>,
+    pub write: Option<Write>,
+    pub write2: Option<Write>,
     pub release: bool,
+    pub release2: bool,
     pub tail: Option<u64>,
+}
+
+/// A committed write.
+#[derive(Clone, Copy)]
+pub struct Commit {
+    pub addr: u64,
+    pub value: u64,
 }
 
 /// What a read finds: whether it is ready, and the word.
@@ -59,6 +76,21 @@ impl Lock {
         self.pending.len() < self.size
     }
 
+    /// Whether two more may be pending.
+    pub fn has_room2(&self) -> bool {
+        self.pending.len().wrapping_add(1) < self.size
+    }
+
+    /// How many slots there are.
+    pub fn size(&self) -> u64 {
+        self.size as u64
+    }
+
+    /// The pending writes, the oldest first.
+    pub fn pending(&self) -> &[Pending] {
+        self.pending.as_slice()
+    }
+
     /// How many writes are pending.
     pub fn count(&self) -> u64 {
         self.pending.len() as u64
@@ -74,9 +106,9 @@ impl Lock {
         self.base.wrapping_add(self.count())
     }
 
-    /// Whether the oldest pending write has its value.
-    pub fn is_done(&self) -> bool {
-        match self.pending.first() {
+    /// Whether the pending write at a place in the list has its value.
+    pub fn is_done(&self, at: usize) -> bool {
+        match self.pending.get(at) {
             Some(p) => p.value.is_some(),
             None => false,
         }
@@ -116,18 +148,29 @@ impl Lock {
         }
     }
 
-    /// Appends and writes; where memory runs out the lock falls behind the circuit.
-    pub fn fill(&mut self, act: Act) {
-        if let Some(addr) = act.reserve {
+    /// Appends a pending write; where memory runs out the lock falls behind the circuit.
+    fn reserve(&mut self, addr: Option<u64>) {
+        if let Some(addr) = addr {
             let _ = self.pending.push(Pending { addr, value: None });
-        }
-        if let Some((ticket, value)) = act.write {
-            self.put(ticket, value);
         }
     }
 
+    fn write(&mut self, write: Option<Write>) {
+        if let Some(w) = write {
+            self.put(w.ticket, w.value);
+        }
+    }
+
+    /// Appends and writes.
+    pub fn fill(&mut self, act: Act) {
+        self.reserve(act.reserve);
+        self.reserve(act.reserve2);
+        self.write(act.write);
+        self.write(act.write2);
+    }
+
     /// Takes the oldest pending write out, into the memory.
-    fn release(&mut self) -> Option<(u64, u64)> {
+    fn release(&mut self) -> Option<Commit> {
         if self.pending.is_empty() {
             return None;
         }
@@ -135,15 +178,19 @@ impl Lock {
         self.base = self.base.wrapping_add(1);
         let value = oldest.value.unwrap_or(0);
         put(self.words.as_mut_slice(), oldest.addr as usize, value);
-        Some((oldest.addr, value))
+        Some(Commit {
+            addr: oldest.addr,
+            value,
+        })
     }
 
     /// Releases and squashes; answers what is committed.
-    pub fn leave(&mut self, act: Act) -> Option<(u64, u64)> {
-        let committed = if act.release { self.release() } else { None };
+    pub fn leave(&mut self, act: Act) -> (Option<Commit>, Option<Commit>) {
+        let first = if act.release { self.release() } else { None };
+        let second = if act.release2 { self.release() } else { None };
         if let Some(tail) = act.tail {
             self.pending.truncate(tail.wrapping_sub(self.base) as usize);
         }
-        committed
+        (first, second)
     }
 }

@@ -1,8 +1,8 @@
-use Rattle.std.proofs.Common.{◌≡◌, [], ◌∷◌, ◌++◌, List, length, refl, ap, sym, subst, ◌∙◌}
+use Rattle.std.proofs.Common.{◌≡◌, [], ◌∷◌, ◌++◌, List, length, refl, ap, subst, ◌∙◌}
 use Rattle.std.specs.Prelude.{Option, Some, option_map, filter_map}
 use Rattle.pdl_net.specs.declared.Net.{Net}
 use Rattle.pdl_net.specs.declared.Port.{Port}
-use Rattle.pdl_net.specs.Circuit.{Circuit, inputs_of, port_output}
+use Rattle.pdl_net.specs.Circuit.{inputs_of, port_output}
 use Rattle.pdl_net.specs.Signal.{Signal, input_signal}
 use Rattle.pdl_net.specs.Growth.{Extends, ExtendsBut, ExtendsPorts}
 use Rattle.pdl_net.specs.Meaning.{signal}
@@ -10,7 +10,6 @@ use Rattle.pdl_net.proofs.Keeps.{keeps_trans, extends_trans, extends_keeps, but_
 use Rattle.pdl_build.specs.Change.{input_port, output_port}
 use Rattle.pdl_lockapi.specs.declared.Kind.TheVariants.{R}
 use Rattle.pdl_lockapi.specs.Laws.{StepSignals, step_signals, StepLaw, LookLaw, OwnKept, IsFragment, own}
-use Rattle.pdl_lockapi.specs.Writer.{FollowsSequential}
 use Rattle.pdl_lockapi.proofs.Kept.{fragment_kept, own_here, own_kept_ports}
 use Rattle.pdl_lockapi.proofs.Sequential.{driven, driven_is, follows, IsDriver, driver_there, driver_fits, no_ports_kept, inputs_as}
 use Rattle.pdl_lockapi.proofs.writer.emit_driven.Goals as goal
@@ -120,6 +119,7 @@ emit_step-requires-clause-ports g c =
       reserves = q.reserves;
       writes = q.writes;
       release = q.release;
+      release2 = q.release2;
       squash = q.squash;
       tail = q.tail;
       one_means = means_keeps b4 b6 c.in_ok-one.one _ k46 c.in_ok-one.ensures.means;
@@ -166,6 +166,7 @@ emit_step-requires-clause-fit g c =
       reserves = q.reserves;
       writes = q.writes;
       release = q.release;
+      release2 = q.release2;
       squash = q.squash;
       tail = q.tail;
       one_means = means_keeps b4 b6 c.in_ok-one.one _ k46 c.in_ok-one.ensures.means;
@@ -212,6 +213,7 @@ returns g c =
       reserves = q.reserves;
       writes = q.writes;
       release = q.release;
+      release2 = q.release2;
       squash = q.squash;
       tail = q.tail;
       one_means = means_keeps b4 b6 c.in_ok-one.one _ k46 c.in_ok-one.ensures.means;
@@ -245,7 +247,7 @@ returns g c =
     let v6 : signal b6 c.in_ok-value.value ≡ input_signal r.width 1 = k36.kept c.in_ok-value.value vm.there ∙ vm.same ∙ ap (input_signal r.width) n2 in
     let t6 : signal b6 r.ticket ≡ signal b1 r.ticket = k16.kept r.ticket s.nets.ticket_there in
     let t5 : signal b5 r.ticket ≡ signal b1 r.ticket = k15.kept r.ticket s.nets.ticket_there in
-    let f6 : step_signals b6 p ≡ driven (input_signal r.bits 0) (input_signal r.width 1) (signal b1 r.ticket) = driven_is b6 p c.in_ok-one.one c.in_ok-zero.zero c.in_ok-addr.addr c.in_ok-value.value r.ticket q.reserves q.writes q.release q.squash q.tail driver.one_means.same driver.off_means.same ∙ cc (a6, v6, t6) in
+    let f6 : step_signals b6 p ≡ driven (input_signal r.bits 0) (input_signal r.width 1) (signal b1 r.ticket) = driven_is b6 p c.in_ok-one.one c.in_ok-zero.zero c.in_ok-addr.addr c.in_ok-value.value r.ticket q.reserves q.writes q.release q.release2 q.squash q.tail driver.one_means.same driver.off_means.same ∙ cc (a6, v6, t6) in
     let is_word : look.value ≡ Some word = c.unwrap-word.ensures in
     let there6 = c.in_ok-look.ensures.value.there word is_word in
     let frag7 : IsFragment b0 b7 r = fragment_kept b0 b1 b7 r s.fragment (keeps_trans b1 b6 b7 k16 (but_keeps (own r) b6 b7 x67)) in

@@ -1,5 +1,6 @@
 use Rattle.std.proofs.Common.{List, length, ◌∙◌, subst}
-use Rattle.pdl_net.proofs.Keeps.{extends_keeps, extends_trans}
+use Rattle.pdl_net.proofs.Keeps.{extends_keeps, extends_trans, means_keeps}
+use Rattle.pdl_law_parts.specs.Walk.{zero_bit}
 use Rattle.pdl_lockapi.specs.Laws.{TicketSignal}
 use Rattle.pdl_law_parts.specs.Ports.{all_reserves, all_puts}
 use Rattle.pdl_pipe_locks.specs.Deeds.{views_in, moves_in}
@@ -37,6 +38,7 @@ returns-clause-ports c =
       reserves = are_reserves_kept b e (extends_keeps b e be) c.in_ok-reserves.reserves (all_reserves m (views_in a ds) (moves_in a ds) (length ds) 0) c.in_ok-reserves.ensures.are;
       writes = are_writes_kept d e (extends_keeps d e z) ps (all_puts m (views_in a ds) (moves_in a ds) (length ds) 0) writes;
       release = record { there = c.in_ok-release.ensures.means.there; same = c.in_ok-release.ensures.means.same ∙ released_kept a d (extends_keeps a d ad) m ds (length ds) c.requires.given };
+      release2 = means_keeps a e c.args.bits.zero zero_bit (extends_keeps a e ae) c.requires.bits.zero;
       squash = record { there = ae.there c.args.squash c.requires.squash; same = ae.kept c.args.squash c.requires.squash };
       tail = record { there = ae.there c.args.tail c.requires.tail; same = ae.kept c.args.tail c.requires.tail };
     }

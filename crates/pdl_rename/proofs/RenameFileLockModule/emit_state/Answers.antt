@@ -1,19 +1,17 @@
-use Rattle.std.proofs.Common.{length, sym, subst, ap, ◌∙◌, refl}
-use Rattle.std.specs.Prelude.{Some}
+use Rattle.std.proofs.Common.{length, sym, subst, ap, ◌∙◌}
 use Rattle.pdl_net.specs.Signal.{Signal}
-use Rattle.pdl_net.specs.Growth.{Extends}
-use Rattle.pdl_net.proofs.Keeps.{extends_trans, means_kept}
-use Rattle.pdl_lockapi.specs.declared.LockRegs.{LockRegs}
-use Rattle.pdl_lockapi.specs.Laws.{RoomLaw, TicketLaw}
-use Rattle.pdl_lock_entries.specs.Slots.{AreReset, ticket_bits}
-use Rattle.pdl_lock_entries.specs.Looks.{room_signal, next_number}
-use Rattle.pdl_lock_entries.proofs.Kept.{slots_kept}
-use Rattle.pdl_lock_entries.proofs.Kept as slots
-use Rattle.pdl_lock_entries.proofs.Reading.{room_law, ticket_law}
+use Rattle.pdl_net.specs.Meaning.{IsThere, signal}
+use Rattle.pdl_lockapi.specs.Laws.{HasNoPorts, RoomLaw, TicketLaw}
+use Rattle.pdl_lockapi.specs.Second.{Room2Law, Ticket2Law}
+use Rattle.pdl_lock_ring.specs.Slots.{AreReset, ticket_bits}
+use Rattle.pdl_lock_ring.specs.Looks.{tail_signal, second_ticket, room_signal, room2_signal}
+use Rattle.pdl_lock_ring.proofs.Kept.{slots_kept}
+use Rattle.pdl_lock_ring.proofs.Kept as slots
+use Rattle.pdl_lock_ring.proofs.Seeking.{room_law, room2_law, ticket_law, ticket2_law}
 use Rattle.pdl_rename.specs.declared.layout.Layout.{Layout}
 use Rattle.pdl_rename.specs.Places.{IsMapReset, Stands, placed_signal, layout_of}
 use Rattle.pdl_rename.proofs.Made.{map_kept, store_kept, reset_kept}
-use Rattle.pdl_rename.proofs.Module.{IsAnswered, layout_is, is_rename, is_fragment, start_law, places_law}
+use Rattle.pdl_rename.proofs.Module.{IsAnswered, layout_is, is_rename, is_fragment, start_law, places_law, slots_law}
 use Rattle.pdl_rename.proofs.RenameFileLockModule.emit_state.Goals as goal
 
 pub returns-clause-placed : goal.returns-clause-placed
@@ -22,11 +20,11 @@ returns-clause-placed c =
     let l = c.in_ok-l.l in
     let e = c.in_ok-l.ensures in
     let b = c.emit_layout.new.b in
-    let d = c.emit_ticket.new.b in
-    let r : LockRegs = record { regs = c.in_ok-regs.regs; array = Some l.array; room = c.in_ok-room.room; ticket = c.in_ok-ticket.ticket; width = l.slots.width; bits = l.slots.bits } in
-    let i : IsAnswered l r = record { regs = c.in_ok-regs.ensures; width = refl; bits = refl; array = refl } in
-    let x : Extends b d = extends_trans b c.emit_room.new.b d c.in_ok-room.ensures.extends c.in_ok-ticket.ensures.extends in
-    is_rename q c.args.mem.now _ l r d e.layout e.renaming i (slots_kept b d l.slots l.slots.size e.slots x) (map_kept b d l l.depth e.map x) (store_kept b d l e.store.has x)
+    let d = c.emit_regs.new.b in
+    let r = c.in_ok-regs.regs in
+    let g = c.in_ok-regs.ensures in
+    let i : IsAnswered l r = record { regs = g.regs; slots = g.slots; width = g.width; bits = g.bits; array = g.array } in
+    is_rename q c.args.mem.now _ l r d e.layout e.renaming i (slots_kept b d l.slots e.slots g.extends) (map_kept b d l l.depth e.map g.extends) (store_kept b d l e.store.has g.extends)
 
 pub returns-clause-fragment : goal.returns-clause-fragment
 returns-clause-fragment c =
@@ -34,33 +32,57 @@ returns-clause-fragment c =
     let l = c.in_ok-l.l in
     let e = c.in_ok-l.ensures in
     let b = c.emit_layout.new.b in
-    let d = c.emit_ticket.new.b in
-    let r : LockRegs = record { regs = c.in_ok-regs.regs; array = Some l.array; room = c.in_ok-room.room; ticket = c.in_ok-ticket.ticket; width = l.slots.width; bits = l.slots.bits } in
-    let i : IsAnswered l r = record { regs = c.in_ok-regs.ensures; width = refl; bits = refl; array = refl } in
-    let x : Extends b d = extends_trans b c.emit_room.new.b d c.in_ok-room.ensures.extends c.in_ok-ticket.ensures.extends in
-    is_fragment q c.args.mem.now (length c.args.b.now.regs) l r c.args.b.now b d e.layout e.renaming i e.count e.store x
+    let d = c.emit_regs.new.b in
+    let r = c.in_ok-regs.regs in
+    let g = c.in_ok-regs.ensures in
+    let i : IsAnswered l r = record { regs = g.regs; slots = g.slots; width = g.width; bits = g.bits; array = g.array } in
+    is_fragment q c.args.mem.now (length c.args.b.now.regs) l r c.args.b.now b d e.layout e.renaming i e.count e.store g.extends
 
 pub returns-clause-empty : goal.returns-clause-empty
 returns-clause-empty c =
+    let q = c.args.self.now in
     let l = c.in_ok-l.l in
     let e = c.in_ok-l.ensures in
     let b = c.emit_layout.new.b in
-    let d = c.emit_ticket.new.b in
-    let x : Extends b d = extends_trans b c.emit_room.new.b d c.in_ok-room.ensures.extends c.in_ok-ticket.ensures.extends in
-    x.writes l.array e.store.has.has_store ∙ e.store.empty
+    let d = c.emit_regs.new.b in
+    let r = c.in_ok-regs.regs in
+    let g = c.in_ok-regs.ensures in
+    let i : IsAnswered l r = record { regs = g.regs; slots = g.slots; width = g.width; bits = g.bits; array = g.array } in
+    subst (λ m. HasNoPorts m d) (sym g.array) (g.extends.writes l.array e.store.has.has_store ∙ e.store.empty)
 
 pub returns-clause-nets : goal.returns-clause-nets
 returns-clause-nets c =
+    let q = c.args.self.now in
     let l = c.in_ok-l.l in
     let e = c.in_ok-l.ensures in
-    let d = c.emit_ticket.new.b in
-    let room = means_kept c.emit_room.new.b d c.in_ok-room.room (room_signal l.slots) c.in_ok-ticket.ensures.extends c.in_ok-room.ensures.means in
-    let ticket = c.in_ok-ticket.ensures.means in
+    let b = c.emit_layout.new.b in
+    let d = c.emit_regs.new.b in
+    let r = c.in_ok-regs.regs in
+    let g = c.in_ok-regs.ensures in
+    let i : IsAnswered l r = record { regs = g.regs; slots = g.slots; width = g.width; bits = g.bits; array = g.array } in
+    let h = slots_kept b d l.slots e.slots g.extends in
     record {
-      room_there = room.there;
-      room_one = ap (λ (f : Signal). f.width) room.same;
-      ticket_there = ticket.there;
-      ticket_width = ap (λ (f : Signal). f.width) ticket.same ∙ e.layout.ticket;
+      room_there = g.room.there;
+      room_one = ap (λ (f : Signal). f.width) g.room.same;
+      ticket_there = subst (IsThere d) (sym g.ticket) h.tail_there;
+      ticket_width = ap (λ n. (signal d n).width) g.ticket ∙ ap (λ (f : Signal). f.width) h.tail ∙ e.layout.ticket;
+    }
+
+pub returns-clause-second : goal.returns-clause-second
+returns-clause-second c =
+    let q = c.args.self.now in
+    let l = c.in_ok-l.l in
+    let e = c.in_ok-l.ensures in
+    let b = c.emit_layout.new.b in
+    let d = c.emit_regs.new.b in
+    let r = c.in_ok-regs.regs in
+    let g = c.in_ok-regs.ensures in
+    let i : IsAnswered l r = record { regs = g.regs; slots = g.slots; width = g.width; bits = g.bits; array = g.array } in
+    record {
+      room2_there = g.room2.there;
+      room2_one = ap (λ (f : Signal). f.width) g.room2.same;
+      ticket2_there = g.ticket2.there;
+      ticket2_width = ap (λ (f : Signal). f.width) g.ticket2.same ∙ e.layout.ticket;
     }
 
 pub returns-clause-start : goal.returns-clause-start
@@ -69,16 +91,16 @@ returns-clause-start c =
     let l = c.in_ok-l.l in
     let e = c.in_ok-l.ensures in
     let b = c.emit_layout.new.b in
-    let d = c.emit_ticket.new.b in
-    let r : LockRegs = record { regs = c.in_ok-regs.regs; array = Some l.array; room = c.in_ok-room.room; ticket = c.in_ok-ticket.ticket; width = l.slots.width; bits = l.slots.bits } in
-    let i : IsAnswered l r = record { regs = c.in_ok-regs.ensures; width = refl; bits = refl; array = refl } in
-    let x : Extends b d = extends_trans b c.emit_room.new.b d c.in_ok-room.ensures.extends c.in_ok-ticket.ensures.extends in
+    let d = c.emit_regs.new.b in
+    let r = c.in_ok-regs.regs in
+    let g = c.in_ok-regs.ensures in
+    let i : IsAnswered l r = record { regs = g.regs; slots = g.slots; width = g.width; bits = g.bits; array = g.array } in
     let same = layout_is q c.args.mem.now _ l r e.layout e.renaming i in
-    let R : Layout → Type 0 = λ y. AreReset d y.slots y.depth y.slots.size in
+    let R : Layout → Type 0 = λ y. AreReset d y.slots y.depth in
     let M : Layout → Type 0 = λ y. IsMapReset d y y.depth in
-    start_law q d r (is_rename q c.args.mem.now _ l r d e.layout e.renaming i (slots_kept b d l.slots l.slots.size e.slots x) (map_kept b d l l.depth e.map x) (store_kept b d l e.store.has x))
-    (subst R (sym same) (slots.reset_kept b d l.slots l.depth l.slots.size e.slots e.slots_reset x))
-    (subst M (sym same) (reset_kept b d l l.depth e.map e.map_reset x))
+    start_law q d r (is_rename q c.args.mem.now _ l r d e.layout e.renaming i (slots_kept b d l.slots e.slots g.extends) (map_kept b d l l.depth e.map g.extends) (store_kept b d l e.store.has g.extends))
+    (subst R (sym same) (slots.reset_kept b d l.slots l.depth e.slots e.slots_reset g.extends))
+    (subst M (sym same) (reset_kept b d l l.depth e.map e.map_reset g.extends))
 
 pub returns-clause-places : goal.returns-clause-places
 returns-clause-places c =
@@ -86,34 +108,81 @@ returns-clause-places c =
     let l = c.in_ok-l.l in
     let e = c.in_ok-l.ensures in
     let b = c.emit_layout.new.b in
-    let d = c.emit_ticket.new.b in
-    let r : LockRegs = record { regs = c.in_ok-regs.regs; array = Some l.array; room = c.in_ok-room.room; ticket = c.in_ok-ticket.ticket; width = l.slots.width; bits = l.slots.bits } in
-    let i : IsAnswered l r = record { regs = c.in_ok-regs.ensures; width = refl; bits = refl; array = refl } in
-    let x : Extends b d = extends_trans b c.emit_room.new.b d c.in_ok-room.ensures.extends c.in_ok-ticket.ensures.extends in
-    places_law q d r (is_rename q c.args.mem.now _ l r d e.layout e.renaming i (slots_kept b d l.slots l.slots.size e.slots x) (map_kept b d l l.depth e.map x) (store_kept b d l e.store.has x))
+    let d = c.emit_regs.new.b in
+    let r = c.in_ok-regs.regs in
+    let g = c.in_ok-regs.ensures in
+    let i : IsAnswered l r = record { regs = g.regs; slots = g.slots; width = g.width; bits = g.bits; array = g.array } in
+    places_law q d r (is_rename q c.args.mem.now _ l r d e.layout e.renaming i (slots_kept b d l.slots e.slots g.extends) (map_kept b d l l.depth e.map g.extends) (store_kept b d l e.store.has g.extends))
+
+pub returns-clause-slots : goal.returns-clause-slots
+returns-clause-slots c =
+    let q = c.args.self.now in
+    let l = c.in_ok-l.l in
+    let e = c.in_ok-l.ensures in
+    let b = c.emit_layout.new.b in
+    let d = c.emit_regs.new.b in
+    let r = c.in_ok-regs.regs in
+    let g = c.in_ok-regs.ensures in
+    let i : IsAnswered l r = record { regs = g.regs; slots = g.slots; width = g.width; bits = g.bits; array = g.array } in
+    slots_law q d r (is_rename q c.args.mem.now _ l r d e.layout e.renaming i (slots_kept b d l.slots e.slots g.extends) (map_kept b d l l.depth e.map g.extends) (store_kept b d l e.store.has g.extends))
 
 pub returns-clause-room : goal.returns-clause-room
 returns-clause-room c =
     let q = c.args.self.now in
     let l = c.in_ok-l.l in
     let e = c.in_ok-l.ensures in
-    let d = c.emit_ticket.new.b in
-    let r : LockRegs = record { regs = c.in_ok-regs.regs; array = Some l.array; room = c.in_ok-room.room; ticket = c.in_ok-ticket.ticket; width = l.slots.width; bits = l.slots.bits } in
-    let i : IsAnswered l r = record { regs = c.in_ok-regs.ensures; width = refl; bits = refl; array = refl } in
+    let b = c.emit_layout.new.b in
+    let d = c.emit_regs.new.b in
+    let r = c.in_ok-regs.regs in
+    let g = c.in_ok-regs.ensures in
+    let i : IsAnswered l r = record { regs = g.regs; slots = g.slots; width = g.width; bits = g.bits; array = g.array } in
     let same = layout_is q c.args.mem.now _ l r e.layout e.renaming i in
-    let room = means_kept c.emit_room.new.b d c.in_ok-room.room (room_signal l.slots) c.in_ok-ticket.ensures.extends c.in_ok-room.ensures.means in
     let P : Layout → Type 0 = λ y. RoomLaw (Stands y) y.slots.size (room_signal l.slots) in
-    let Q : Signal → Type 0 = λ f. RoomLaw (Stands (layout_of q.size r)) q.size f in
-    subst Q (sym room.same) (subst P (sym same) (room_law (Stands l) l.slots (placed_signal l) e.renaming.sized (λ s x h. h.entries)))
+    let Q : Signal → Type 0 = λ f. RoomLaw (Stands (layout_of q.size r)) (q.size) f in
+    subst Q (sym g.room.same) (subst P (sym same) (room_law (Stands l) l.slots (placed_signal l) e.renaming.sized (λ s x h. h.entries)))
+
+pub returns-clause-room2 : goal.returns-clause-room2
+returns-clause-room2 c =
+    let q = c.args.self.now in
+    let l = c.in_ok-l.l in
+    let e = c.in_ok-l.ensures in
+    let b = c.emit_layout.new.b in
+    let d = c.emit_regs.new.b in
+    let r = c.in_ok-regs.regs in
+    let g = c.in_ok-regs.ensures in
+    let i : IsAnswered l r = record { regs = g.regs; slots = g.slots; width = g.width; bits = g.bits; array = g.array } in
+    let same = layout_is q c.args.mem.now _ l r e.layout e.renaming i in
+    let P : Layout → Type 0 = λ y. Room2Law (Stands y) y.slots.size (room2_signal l.slots) in
+    let Q : Signal → Type 0 = λ f. Room2Law (Stands (layout_of q.size r)) (q.size) f in
+    subst Q (sym g.room2.same) (subst P (sym same) (room2_law (Stands l) l.slots (placed_signal l) e.renaming.sized (λ s x h. h.entries)))
+
+pub returns-clause-ticket2 : goal.returns-clause-ticket2
+returns-clause-ticket2 c =
+    let q = c.args.self.now in
+    let l = c.in_ok-l.l in
+    let e = c.in_ok-l.ensures in
+    let b = c.emit_layout.new.b in
+    let d = c.emit_regs.new.b in
+    let r = c.in_ok-regs.regs in
+    let g = c.in_ok-regs.ensures in
+    let i : IsAnswered l r = record { regs = g.regs; slots = g.slots; width = g.width; bits = g.bits; array = g.array } in
+    let same = layout_is q c.args.mem.now _ l r e.layout e.renaming i in
+    let P : Layout → Type 0 = λ y. Ticket2Law (Stands y) y.slots.ticket (second_ticket l.slots) in
+    let Q : Signal → Type 0 = λ f. Ticket2Law (Stands (layout_of q.size r)) (ticket_bits q.size) f in
+    subst Q (sym g.ticket2.same) (subst P (sym same) (ticket2_law (Stands l) l.slots (placed_signal l) e.renaming.sized (λ s x h. h.entries)))
 
 pub returns-clause-ticket : goal.returns-clause-ticket
 returns-clause-ticket c =
     let q = c.args.self.now in
     let l = c.in_ok-l.l in
     let e = c.in_ok-l.ensures in
-    let r : LockRegs = record { regs = c.in_ok-regs.regs; array = Some l.array; room = c.in_ok-room.room; ticket = c.in_ok-ticket.ticket; width = l.slots.width; bits = l.slots.bits } in
-    let i : IsAnswered l r = record { regs = c.in_ok-regs.ensures; width = refl; bits = refl; array = refl } in
+    let b = c.emit_layout.new.b in
+    let d = c.emit_regs.new.b in
+    let r = c.in_ok-regs.regs in
+    let g = c.in_ok-regs.ensures in
+    let i : IsAnswered l r = record { regs = g.regs; slots = g.slots; width = g.width; bits = g.bits; array = g.array } in
     let same = layout_is q c.args.mem.now _ l r e.layout e.renaming i in
-    let P : Layout → Type 0 = λ y. TicketLaw (Stands y) y.slots.ticket (next_number l.slots) in
+    let h = slots_kept b d l.slots e.slots g.extends in
+    let P : Layout → Type 0 = λ y. TicketLaw (Stands y) y.slots.ticket (tail_signal l.slots) in
     let Q : Signal → Type 0 = λ f. TicketLaw (Stands (layout_of q.size r)) (ticket_bits q.size) f in
-    subst Q (sym c.in_ok-ticket.ensures.means.same) (subst P (sym same) (ticket_law (Stands l) l.slots (placed_signal l) e.renaming.sized (λ s x h. h.entries)))
+    subst Q (sym (ap (signal d) g.ticket ∙ h.tail)) (subst P (sym same) (ticket_law (Stands l) l.slots (placed_signal l) e.renaming.sized (λ s x h. h.entries)))

@@ -1,4 +1,4 @@
-use Rattle.std.proofs.Common.{refl, arith}
+use Rattle.std.proofs.Common.{refl}
 use Rattle.pdl_tests_of_parts.proofs.Memory.{suits_bypass}
 use Rattle.pdl_tests_of_parts.proofs.locks.bypasses.Goals as goal
 
@@ -10,3 +10,6 @@ driven-requires-2-clause-suits g c = suits_bypass _ _ refl (record { width = c.i
 
 pub driven-requires-3-clause-suits : goal.driven-requires-3-clause-suits
 driven-requires-3-clause-suits g c = suits_bypass _ _ refl (record { width = c.in_ok-mem.ensures.width; depth = c.in_ok-mem.ensures.depth; comb = c.in_ok-mem.ensures.comb })
+
+pub driven-requires-4-clause-suits : goal.driven-requires-4-clause-suits
+driven-requires-4-clause-suits g c = suits_bypass _ _ refl (record { width = c.in_ok-mem.ensures.width; depth = c.in_ok-mem.ensures.depth; comb = c.in_ok-mem.ensures.comb })

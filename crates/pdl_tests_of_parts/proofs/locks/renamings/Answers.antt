@@ -10,3 +10,6 @@ driven-requires-2-clause-suits g c = suits_rename _ _ refl (omega arith) (record
 
 pub driven-requires-3-clause-suits : goal.driven-requires-3-clause-suits
 driven-requires-3-clause-suits g c = suits_rename _ _ refl (omega arith) (record { width = c.in_ok-mem.ensures.width; depth = c.in_ok-mem.ensures.depth; comb = c.in_ok-mem.ensures.comb })
+
+pub driven-requires-4-clause-suits : goal.driven-requires-4-clause-suits
+driven-requires-4-clause-suits g c = suits_rename _ _ refl (omega arith) (record { width = c.in_ok-mem.ensures.width; depth = c.in_ok-mem.ensures.depth; comb = c.in_ok-mem.ensures.comb })

@@ -1,6 +1,0 @@
-use Rattle.std.proofs.Common.{◌≡◌}
-use Rattle.pdl_lock_entries.specs.Slots.{numbers_from}
-use Rattle.pdl_lock_entries.proofs.state.numbers.Given as goal
-
-abbrev pub invariant-loop-k : goal.invariant-loop-k
-invariant-loop-k l = l.found ≡ numbers_from l.from l.k

@@ -1,0 +1,204 @@
+-- What the nets of looks say of the pending writes.
+use Rattle.std.proofs.Common.{◌≡◌, ◌≢◌, ℕ, zero, suc, ◌+◌, ◌-◌, ◌*◌, ◌%◌, ◌^◌, ◌<◌, ◌≤◌, ◌⊎◌, inl, inr, List, [], ◌∷◌, length, take, refl, sym, ap, ◌∙◌, subst, arith, ⊎_elim, length-take, lt-ltb, le-ltb, eq-eqb, ne_eqb}
+use Rattle.std.specs.Prelude.{◌==◌, if◌then◌else◌, Bool, true, false, Option, Some, None, is_some, option_map, slice_index, slice_index_or}
+use Rattle.std.proofs.lemmas.Bool.{cases_lt, cases_eq}
+use Rattle.std.proofs.lemmas.List.{get_or-take, take_all}
+use Rattle.std.proofs.Math.Nat.{mod-eq_of_lt}
+use Rattle.std.proofs.lemmas.Nat.{mod_below}
+use Rattle.pdl_word.specs.Words as words
+use Rattle.pdl_word.specs.Words.{bit}
+use Rattle.pdl_net.specs.declared.Net.{Net}
+use Rattle.pdl_net.specs.Circuit.{Circuit, State}
+use Rattle.pdl_net.specs.Meaning.{IsThere, Means, signal}
+use Rattle.pdl_net.specs.Signal.{Signal, reg_signal, reg_value, const_value, bin_value, mux_value, read_value}
+use Rattle.pdl_lockapi.specs.Lock.{Entry, LockState, entry_at, no_entry, or_zero, is_free, youngest, older, look_value, Covered, has_room, has_room2, next_ticket}
+use Rattle.pdl_lockapi.specs.Laws.{HasWords, HasValueNet, RoomLaw, TicketLaw, holds_ticket}
+use Rattle.pdl_lockapi.specs.Second.{Room2Law, Ticket2Law}
+use Rattle.pdl_lock_ring.specs.declared.layout.Layout.{Layout}
+use Rattle.pdl_lock_ring.specs.Slots.{IsSized, HasEntries, reg_of, addr_at, has_at}
+use Rattle.pdl_lock_ring.specs.Looks.{head_signal, tail_signal, second_ticket, count_signal, room_signal, room2_signal, slot_of, ahead, is_late, older_count, last_older, order_at, back_at, same_at, hit_at, hit_signal, ready_signal, key_at, is_found, youngest_ready, youngest_value, GivesWord}
+use Rattle.pdl_lock_ring.specs.Choices.{least_key, least_of, some_signal}
+use Rattle.pdl_lock_ring.proofs.Nums.{sub_held, pred_held, sum_held, slot_held, half_mod, order_mod, index_of, back_older, back_younger, apart}
+use Rattle.pdl_lock_ring.proofs.Ring.{mux_one, mux_zero, eq_one, eq_none}
+use Rattle.pdl_lock_ring.proofs.Trees.{some_one, some_zero, less_one, less_none, IsLeast, least_is, least_from}
+
+-- how many writes are pending
+pub count_value : (l : Layout) (g : ℕ → Signal) (s : State) (x : LockState) → IsSized l → HasEntries l g s x → (count_signal l).value s ≡ length x.entries
+unfolding bin_value reg_value
+count_value l g s x z h =
+    ap (λ n. words.sub l.ticket n (reg_of s l.from)) h.tail
+    ∙ ap (words.sub l.ticket ((x.base + length x.entries) % 2 ^ l.ticket)) h.head
+    ∙ sub_held l.ticket x.base (x.base + length x.entries) (omega arith) (omega (arith, h.slots.room, z.fits))
+    ∙ (omega arith)
+
+-- the laws of tickets and room, for each meaning of a state in which the registers stand for the pending writes
+module _ (stands : State → LockState → Type 0) (l : Layout) (g : ℕ → Signal) (z : IsSized l) (f : (s : State) (x : LockState) → stands s x → HasEntries l g s x) where
+  pub ticket_law : TicketLaw stands l.ticket (tail_signal l)
+  unfolding reg_value
+  ticket_law = record { holds = λ s x i. (f s x i).tail }
+
+  pub ticket2_law : Ticket2Law stands l.ticket (second_ticket l)
+  unfolding bin_value reg_value const_value
+  ticket2_law = record { holds = λ s x i. ap (λ n. words.add l.ticket n 1) (f s x i).tail ∙ sum_held l.ticket (x.base + length x.entries) 1 }
+
+  pub room_law : RoomLaw stands l.size (room_signal l)
+  unfolding bin_value const_value words.less
+  room_law = record { holds = λ s x i. ap (λ n. words.less n l.size) (count_value l g s x z (f s x i)) }
+
+  pub room2_law : Room2Law stands l.size (room2_signal l)
+  unfolding bin_value const_value words.less
+  room2_law = record {
+    holds = λ s x i.
+        let n = length x.entries in
+        ap (λ m. words.less m (l.size - 1)) (count_value l g s x z (f s x i))
+        ∙ ⊎_elim
+        (λ (h : n + 1 < l.size). ap bit (lt-ltb n (l.size - 1) (omega arith)) ∙ sym (ap bit (lt-ltb (n + 1) l.size h)))
+        (λ (h : l.size ≤ n + 1). ap bit (le-ltb n (l.size - 1) (omega arith)) ∙ sym (ap bit (le-ltb (n + 1) l.size h)))
+        (cases_lt (n + 1) l.size);
+  }
+
+-- ---- which pending writes are older
+
+-- a look's nets: d pending writes are older, and the youngest of them has this ticket
+pub record Seeks (l : Layout) (s : State) (x : LockState) (t : Signal) (d : ℕ) : Type 0 where
+  pub few : d ≤ length x.entries
+  pub older : (older_count l t).value s ≡ d
+  pub last : 1 ≤ d → (last_older l t).value s ≡ (x.base + d - 1) % 2 ^ l.ticket
+
+ahead_value : (l : Layout) (g : ℕ → Signal) (s : State) (x : LockState) (f : Signal) (t : ℕ) → HasEntries l g s x → f.width ≡ l.ticket → x.base ≤ t → t - x.base < 2 ^ l.ticket → f.value s ≡ t % 2 ^ l.ticket → (ahead l f).value s ≡ t - x.base
+unfolding bin_value reg_value
+ahead_value l g s x f t h w from to e =
+    ap (λ n. words.sub n (f.value s) (reg_of s l.from)) w
+    ∙ ap (λ n. words.sub l.ticket n (reg_of s l.from)) e
+    ∙ ap (words.sub l.ticket (t % 2 ^ l.ticket)) h.head
+    ∙ sub_held l.ticket x.base t from to
+
+-- a ticket up to the next one
+pub seeks_covered : (l : Layout) (g : ℕ → Signal) (s : State) (x : LockState) (f : Signal) (t : ℕ) → IsSized l → HasEntries l g s x → f.width ≡ l.ticket → Covered x t → f.value s ≡ t % 2 ^ l.ticket → Seeks l s x f (t - x.base)
+unfolding mux_value bin_value const_value
+seeks_covered l g s x f t z h w c e =
+    let n = length x.entries in
+    let a = ahead_value l g s x f t h w c.from (omega (arith, c.to, c.from, h.slots.room, z.fits)) e in
+    let k = count_value l g s x z h in
+    let late : words.less ((count_signal l).value s) ((ahead l f).value s) ≡ 0 = less_none ((count_signal l).value s) ((ahead l f).value s) (omega (arith, a, k, c.from, c.to)) in
+    record {
+      few = omega (arith, c.from, c.to);
+      older = mux_zero _ ((count_signal l).value s) ((ahead l f).value s) late ∙ a;
+      last = λ some.
+          ap (λ m. words.sub l.ticket m 1) (mux_zero _ ((tail_signal l).value s) (f.value s) late ∙ e)
+          ∙ pred_held l.ticket t (omega (arith, z.whole, z.some)) (omega (arith, some))
+          ∙ ap (λ m. m % 2 ^ l.ticket) (omega (arith, some, c.from));
+    }
+
+-- the ticket after the next one
+pub seeks_late : (l : Layout) (g : ℕ → Signal) (s : State) (x : LockState) (f : Signal) → IsSized l → HasEntries l g s x → f.width ≡ l.ticket → 2 ≤ l.size → f.value s ≡ (next_ticket x + 1) % 2 ^ l.ticket → Seeks l s x f (length x.entries)
+unfolding mux_value bin_value reg_value const_value
+seeks_late l g s x f z h w two e =
+    let n = length x.entries in
+    let a = ahead_value l g s x f (next_ticket x + 1) h w (omega arith) (omega (arith, h.slots.room, z.whole, two)) e in
+    let k = count_value l g s x z h in
+    let late : words.less ((count_signal l).value s) ((ahead l f).value s) ≡ 1 = less_one ((count_signal l).value s) ((ahead l f).value s) (omega (arith, a, k)) in
+    record {
+      few = omega arith;
+      older = mux_one _ ((count_signal l).value s) ((ahead l f).value s) late ∙ k;
+      last = λ some.
+          ap (λ m. words.sub l.ticket m 1) (mux_one _ ((tail_signal l).value s) (f.value s) late ∙ h.tail)
+          ∙ pred_held l.ticket (x.base + n) (omega (arith, z.whole, z.some)) (omega (arith, some));
+    }
+
+-- ---- slots and pending writes
+
+-- slot k is that of the i-th pending write, or of a number after the last one
+pub record IsSlotOf (l : Layout) (x : LockState) (k i : ℕ) : Type 0 where
+  pub below : i < l.size
+  pub same : (x.base + i) % l.size ≡ k
+
+pub slot_has : (l : Layout) (x : LockState) (k : ℕ) → k < l.size → (i : ℕ) × IsSlotOf l x k i
+slot_has l x k h = let e = index_of l.size x.base k h in (e.0, record { below = e.1; same = e.2 })
+
+pub same_value : (l : Layout) (g : ℕ → Signal) (s : State) (x : LockState) (a : Signal) (k i : ℕ) → HasEntries l g s x → IsSlotOf l x k i → i < length x.entries → (same_at l a k).value s ≡ words.equal (entry_at x.entries i).addr (a.value s)
+unfolding bin_value reg_value
+same_value l g s x a k i h o lt = ap (λ m. words.equal m (a.value s)) (ap (λ m. reg_of s (addr_at l m)) (sym o.same) ∙ h.slots.has_addr i lt)
+
+-- a difference modulo a number, where that and what is taken away are other ones
+cc_sum : (k u m r q : ℕ) → u ≡ m → r ≡ q → q ≤ m → (k + u - r) % u ≡ (k + (m - q)) % m
+cc_sum k u m r q e f le =
+    let g : k + u - r ≡ k + (m - q) = omega (arith, e, f, le) in
+    ap (λ v. v % u) g ∙ ap (λ v. (k + (m - q)) % v) e
+
+cc_diff : (t q u m k : ℕ) → t ≡ q → u ≡ m → k ≤ m → (t + u - k) % u ≡ (q + (m - k)) % m
+cc_diff t q u m k e f le =
+    let g : t + u - k ≡ q + (m - k) = omega (arith, e, f, le) in
+    ap (λ v. v % u) g ∙ ap (λ v. (q + (m - k)) % v) f
+
+pub order_value : (l : Layout) (g : ℕ → Signal) (s : State) (x : LockState) (k i : ℕ) → IsSized l → HasEntries l g s x → IsSlotOf l x k i → (order_at l k).value s ≡ i
+unfolding bin_value reg_value const_value words.sub
+order_value l g s x k i z h o =
+    let n = l.size in
+    let m = 2 * n in
+    let b = x.base in
+    let below : b % m < m = mod_below b m (omega (arith, z.some)) in
+    let head : reg_of s l.from ≡ b % m = h.head ∙ ap (λ w. b % w) z.whole in
+    let e : (k + 2 ^ l.ticket - reg_of s l.from) % 2 ^ l.ticket ≡ (k + (m - b % m)) % m = cc_sum k (2 ^ l.ticket) m (reg_of s l.from) (b % m) z.whole head (omega (arith, below)) in
+    slot_held l.ticket n ((k + 2 ^ l.ticket - reg_of s l.from) % 2 ^ l.ticket) z.power
+    ∙ ap (λ v. v % n) e ∙ half_mod n (k + (m - b % m))
+    ∙ ap (λ v. (v + (m - b % m)) % n) (sym o.same)
+    ∙ order_mod n b i o.below
+
+pub back_value : (l : Layout) (s : State) (x : LockState) (f : Signal) (d k : ℕ) → IsSized l → f.width ≡ l.ticket → k < l.size → f.value s ≡ (x.base + d - 1) % 2 ^ l.ticket → (back_at l f k).value s ≡ ((x.base + d - 1) % (2 * l.size) + (2 * l.size - k)) % l.size
+unfolding bin_value const_value words.sub
+back_value l s x f d k z w h e =
+    let n = l.size in
+    let m = 2 * n in
+    let t = f.value s in
+    let same : t ≡ (x.base + d - 1) % m = e ∙ ap (λ v. (x.base + d - 1) % v) z.whole in
+    let wide : 2 ^ f.width ≡ m = ap (λ v. 2 ^ v) w ∙ z.whole in
+    let sum : (t + 2 ^ f.width - k) % 2 ^ f.width ≡ ((x.base + d - 1) % m + (m - k)) % m = cc_diff t ((x.base + d - 1) % m) (2 ^ f.width) m k same wide (omega (arith, h)) in
+    slot_held l.ticket n ((t + 2 ^ f.width - k) % 2 ^ f.width) z.power
+    ∙ ap (λ v. v % n) sum ∙ half_mod n ((x.base + d - 1) % m + (m - k))
+
+-- ---- which pending writes have an address
+
+-- the last one of them that has it
+pub record IsYoungest (xs : List Entry) (a i : ℕ) : Type 0 where
+  pub within : i < length xs
+  pub same : (entry_at xs i).addr ≡ a
+  pub last : (j : ℕ) → i < j → j < length xs → (entry_at xs j).addr ≢ a
+
+-- none has it
+abbrev pub HasNone : List Entry → ℕ → Type 0
+HasNone xs a = (j : ℕ) → j < length xs → (entry_at xs j).addr ≢ a
+
+none_more : (e : Entry) (es : List Entry) (a : ℕ) → e.addr ≢ a → HasNone es a → HasNone (e ∷ es) a
+none_more e es a n h zero lt = n
+none_more e es a n h (suc j) lt = h j (omega arith)
+
+last_first : (e : Entry) (es : List Entry) (a : ℕ) → HasNone es a → (j : ℕ) → 0 < j → j < length (e ∷ es) → (entry_at (e ∷ es) j).addr ≢ a
+last_first e es a h zero lo lt = absurd (omega arith)
+last_first e es a h (suc j) lo lt = h j (omega arith)
+
+last_later : (e : Entry) (es : List Entry) (a i : ℕ) → IsYoungest es a i → (j : ℕ) → suc i < j → j < length (e ∷ es) → (entry_at (e ∷ es) j).addr ≢ a
+last_later e es a i y zero lo lt = absurd (omega arith)
+last_later e es a i y (suc j) lo lt = y.last j (omega arith) (omega arith)
+
+later : (e : Entry) (es : List Entry) (a i : ℕ) → IsYoungest es a i → IsYoungest (e ∷ es) a (suc i)
+later e es a i y = record { within = omega (arith, y.within); same = y.same; last = last_later e es a i y }
+
+free_false : (b c : Bool) → c ≡ false → (if b then false else c) ≡ false
+free_false true c e = refl
+free_false false c e = e
+
+-- what the youngest of them says
+pub youngest_of : (xs : List Entry) (a : ℕ) → ((i : ℕ) × IsYoungest xs a i × ((f : Option ℕ) → youngest xs a f ≡ (entry_at xs i).value) × (is_free xs a ≡ false)) ⊎ (HasNone xs a × ((f : Option ℕ) → youngest xs a f ≡ f) × (is_free xs a ≡ true))
+youngest_of [] a = inr ((λ j h. absurd (omega arith)), (λ f. refl), refl)
+youngest_of (e ∷ es) a = elim (youngest_of es a) [
+  | inl y ↦ inl (suc y.0, later e es a y.0 y.1, (λ f. y.2 (if e.addr == a then e.value else f)), free_false (e.addr == a) (is_free es a) y.3)
+  | inr n ↦ ⊎_elim
+      (λ (q : e.addr ≡ a).
+      let t : (e.addr == a) ≡ true = eq-eqb e.addr a q in
+      inl (0, record { within = omega arith; same = q; last = last_first e es a n.0 }, (λ f. n.1 (if e.addr == a then e.value else f) ∙ ap (λ (b : Bool). if b then e.value else f) t), ap (λ (b : Bool). if b then false else is_free es a) t))
+      (λ (q : e.addr ≢ a).
+      let t : (e.addr == a) ≡ false = ne_eqb e.addr a q in
+      inr (none_more e es a q n.0, (λ f. n.1 (if e.addr == a then e.value else f) ∙ ap (λ (b : Bool). if b then e.value else f) t), ap (λ (b : Bool). if b then false else is_free es a) t ∙ n.2))
+      (cases_eq e.addr a)
+]

@@ -1,0 +1,30 @@
+use Rattle.std.proofs.Common.{◌≡◌, ◌+◌, ◌<◌, sym, ◌∙◌}
+use Rattle.pdl_net.specs.declared.Net.TheVariants.{Reg}
+use Rattle.pdl_net.specs.Growth.{Extends}
+use Rattle.pdl_net.proofs.Keeps.{extends_trans}
+use Rattle.pdl_lockapi.specs.Laws.{step_signals}
+use Rattle.pdl_lock_ring.specs.Slots.{has_at}
+use Rattle.pdl_lock_ring.proofs.Kept.{means_as, same_mux, later_is}
+use Rattle.pdl_lock_ring.proofs.Fills.{bit_none}
+use Rattle.pdl_lock_ring.proofs.fill.emit_emptied.Goals as goal
+
+pub returns-clause-means : goal.returns-clause-means
+returns-clause-means c =
+    let a = c.args.b.now in
+    let b1 = c.emit_takes.new.b in
+    let b2 = c.constant.new.self in
+    let b3 = c.mux.new.self in
+    let l = c.args.l in
+    let k = c.args.k in
+    let f = step_signals a c.args.p.now in
+    let r = c.requires.ready in
+    let x1 = c.in_ok-first.ensures.extends in
+    let x2 = c.in_ok-zero.ensures.extends in
+    let x3 = c.in_ok-kept.ensures.extends in
+    let x12 : Extends a b2 = extends_trans a b1 b2 x1 x2 in
+    let x23 : Extends b1 b3 = extends_trans b1 b2 b3 x2 x3 in
+    let e = r.given.slots in
+    let old = x12.kept (Reg (has_at l k)) (e.has_there k c.requires.slot_in) ∙ e.holds k c.requires.slot_in in
+    let zero = c.in_ok-zero.ensures.means in
+    let kept = c.in_ok-kept.ensures.means.same ∙ same_mux _ _ _ _ _ _ (later_is b1 b2 _ _ x2 c.in_ok-first.ensures.first) zero.same old in
+    means_as c.mux-2.new.self _ _ _ c.in_ok-bit.ensures.means (same_mux _ _ _ _ _ _ (later_is b1 b3 _ _ x23 c.in_ok-first.ensures.second) (later_is b2 b3 _ _ x3 zero) kept ∙ sym (bit_none l f k))

@@ -1,0 +1,10 @@
+use Rattle.pdl_net.specs.Growth.{ExtendsBut}
+use Rattle.pdl_lockapi.specs.Laws.{step_signals}
+use Rattle.pdl_lock_ring.specs.Steps.{NextContents, own_contents}
+use Rattle.pdl_lock_ring.proofs.slot.emit_contents.Given as goal
+
+abbrev pub invariant-loop-k : goal.invariant-loop-k
+invariant-loop-k l = record {
+  extends : ExtendsBut (own_contents l.l) l.fn.b l.b;
+  next : NextContents l.b l.l (step_signals l.fn.b l.p) l.k;
+}

@@ -1,0 +1,10 @@
+pub mod Slots
+pub mod Choices
+pub mod Registers
+pub mod Looks
+pub mod Seeks
+pub mod Steps
+pub mod Asks
+pub mod Ready
+pub mod Oldest
+pub mod Kept

@@ -1,0 +1,180 @@
+-- The signals of a step: what slots, head and tail take next.
+use Rattle.std.specs.Prelude.{◌≡◌, ℕ, zero, suc, ◌+◌, ◌-◌, ◌*◌, ◌<◌, ◌≤◌, List, [], ◌∷◌, length, Some}
+use Rattle.pdl_net.specs.declared.BinOp.TheVariants.{Add, Eq}
+use Rattle.pdl_net.specs.Circuit.{Circuit, State}
+use Rattle.pdl_net.specs.Signal.{Signal, reg_signal, const_signal, bin_signal, mux_signal}
+use Rattle.pdl_net.specs.Meaning.{next_signal, WriteSignal, write_signals}
+use Rattle.pdl_net.specs.Growth.{Own}
+use Rattle.pdl_lockapi.specs.Laws.{StepSignals, reserve_at, ticket_at, after_writes, first_array, end_array}
+use Rattle.pdl_lock_ring.specs.declared.layout.Layout.{Layout}
+use Rattle.pdl_lock_ring.specs.declared.layout.Content.{Content}
+use Rattle.pdl_lock_ring.specs.declared.layout.Content.TheVariants.{Value, Place}
+use Rattle.pdl_lock_ring.specs.Slots.{addr_at, has_at, value_at, content_signal}
+use Rattle.pdl_lock_ring.specs.Choices.{selected_signal}
+use Rattle.pdl_lock_ring.specs.Looks.{head_signal, tail_signal, second_ticket, slot_of}
+
+-- whether one of the first k reserve ports asks for an entry, and whether two do
+unfoldable pub push_signal : StepSignals → ℕ → Signal
+push_signal f zero = const_signal 1 0
+push_signal f (suc k) = mux_signal (reserve_at f.reserves k).enable (const_signal 1 1) (push_signal f k)
+
+unfoldable pub push2_signal : StepSignals → ℕ → Signal
+push2_signal f zero = const_signal 1 0
+push2_signal f (suc k) = mux_signal (reserve_at f.reserves k).enable (push_signal f k) (push2_signal f k)
+
+-- the address of the last that does, and that of the one before it
+unfoldable pub last_addr : ℕ → StepSignals → ℕ → Signal
+last_addr bits f zero = const_signal bits 0
+last_addr bits f (suc k) = mux_signal (reserve_at f.reserves k).enable (reserve_at f.reserves k).addr (last_addr bits f k)
+
+unfoldable pub before_addr : ℕ → StepSignals → ℕ → Signal
+before_addr bits f zero = const_signal bits 0
+before_addr bits f (suc k) = mux_signal (reserve_at f.reserves k).enable (last_addr bits f k) (before_addr bits f k)
+
+-- of all reserve ports
+abbrev pub pushes : StepSignals → Signal
+pushes f = push_signal f (length f.reserves)
+
+abbrev pub pushes2 : StepSignals → Signal
+pushes2 f = push2_signal f (length f.reserves)
+
+-- the addresses of a cycle's first and second reservation
+unfoldable pub first_addr : Layout → StepSignals → Signal
+first_addr l f = mux_signal (pushes2 f) (before_addr l.bits f (length f.reserves)) (last_addr l.bits f (length f.reserves))
+
+unfoldable pub second_addr : Layout → StepSignals → Signal
+second_addr l f = last_addr l.bits f (length f.reserves)
+
+-- the slots that they are given; where there is none, a number that no slot has
+unfoldable pub first_slot : Layout → StepSignals → Signal
+first_slot l f = mux_signal (pushes f) (slot_of l (tail_signal l)) (const_signal l.ticket l.size)
+
+unfoldable pub second_slot : Layout → StepSignals → Signal
+second_slot l f = mux_signal (pushes2 f) (slot_of l (second_ticket l)) (const_signal l.ticket l.size)
+
+-- slot k is given to the first, to the second
+abbrev pub takes_first : Layout → StepSignals → ℕ → Signal
+takes_first l f k = bin_signal Eq (first_slot l f) (const_signal l.ticket k)
+
+abbrev pub takes_second : Layout → StepSignals → ℕ → Signal
+takes_second l f k = bin_signal Eq (second_slot l f) (const_signal l.ticket k)
+
+-- the slot into which write port j writes; where it is off, a number that no slot has
+abbrev pub written_slot : Layout → StepSignals → ℕ → Signal
+written_slot l f j = mux_signal (ticket_at f.writes j).enable (slot_of l (ticket_at f.writes j).ticket) (const_signal l.ticket l.size)
+
+-- write port j writes into slot k
+abbrev pub fills_slot : Layout → StepSignals → ℕ → ℕ → Signal
+fills_slot l f k j = bin_signal Eq (written_slot l f j) (const_signal l.ticket k)
+
+-- slot k's address after the reservations
+unfoldable pub slot_addr : Layout → StepSignals → ℕ → Signal
+slot_addr l f k = mux_signal (takes_second l f k) (second_addr l f) (mux_signal (takes_first l f k) (first_addr l f) (reg_signal l.bits (addr_at l k)))
+
+-- its value bit, and its value from this one on, after the reservations and the first j write ports
+unfoldable pub filled_bit : Layout → StepSignals → ℕ → ℕ → Signal
+filled_bit l f k zero = mux_signal (takes_second l f k) (const_signal 1 0) (mux_signal (takes_first l f k) (const_signal 1 0) (reg_signal 1 (has_at l k)))
+filled_bit l f k (suc j) = mux_signal (fills_slot l f k j) (const_signal 1 1) (filled_bit l f k j)
+
+unfoldable pub filled_value : Layout → StepSignals → Signal → ℕ → ℕ → Signal
+filled_value l f value k zero = value
+filled_value l f value k (suc j) = mux_signal (fills_slot l f k j) (ticket_at f.writes j).value (filled_value l f value k j)
+
+abbrev pub slot_bit : Layout → StepSignals → ℕ → Signal
+slot_bit l f k = filled_bit l f k (length f.writes)
+
+-- writes change a value, and no place
+abbrev pub content_after : Content → Layout → StepSignals → ℕ → Signal
+content_after Value l f k = filled_value l f (content_signal l k) k (length f.writes)
+content_after Place l f k = content_signal l k
+
+abbrev pub slot_value : Layout → StepSignals → ℕ → Signal
+slot_value l f k = content_after l.content l f k
+
+-- the ticket after the oldest one
+abbrev pub next_head : Layout → Signal
+next_head l = bin_signal Add (head_signal l) (const_signal l.ticket 1)
+
+-- the head after the releases, and the tail after the reservations and the squash
+unfoldable pub head_after : Layout → StepSignals → Signal
+head_after l f = mux_signal f.release2 (bin_signal Add (next_head l) (const_signal l.ticket 1)) (mux_signal f.release (next_head l) (head_signal l))
+
+unfoldable pub tail_after : Layout → StepSignals → Signal
+tail_after l f = mux_signal f.squash f.tail (mux_signal (pushes2 f) (bin_signal Add (second_ticket l) (const_signal l.ticket 1)) (mux_signal (pushes f) (second_ticket l) (tail_signal l)))
+
+-- of a signal for each slot that of a ticket's slot
+abbrev pub at_ticket : Layout → (ℕ → Signal) → Signal → Signal
+at_ticket l g t = selected_signal g t (l.ticket - 1) 0
+
+-- the addresses and the contents of the oldest pending write and of the one after it, after this cycle's reservations and writes
+abbrev pub oldest_addr : Layout → StepSignals → Signal
+oldest_addr l f = at_ticket l (slot_addr l f) (head_signal l)
+
+abbrev pub oldest_value : Layout → StepSignals → Signal
+oldest_value l f = at_ticket l (slot_value l f) (head_signal l)
+
+abbrev pub next_addr : Layout → StepSignals → Signal
+next_addr l f = at_ticket l (slot_addr l f) (next_head l)
+
+abbrev pub next_value : Layout → StepSignals → Signal
+next_value l f = at_ticket l (slot_value l f) (next_head l)
+
+-- what addresses and value bits take next, and values where the slots keep them
+pub record NextAddrs (c : Circuit) (l : Layout) (f : StepSignals) (n : ℕ) : Type 0 where
+  pub addr : (k : ℕ) → k < n → next_signal c (addr_at l k) ≡ slot_addr l f k
+
+pub record NextBits (c : Circuit) (l : Layout) (f : StepSignals) (n : ℕ) : Type 0 where
+  pub bit : (k : ℕ) → k < n → next_signal c (has_at l k) ≡ slot_bit l f k
+
+pub record NextContents (c : Circuit) (l : Layout) (f : StepSignals) (n : ℕ) : Type 0 where
+  pub value : (k : ℕ) → k < n → next_signal c (value_at l k) ≡ slot_value l f k
+
+-- what head and tail take next
+pub record NextEnds (c : Circuit) (l : Layout) (f : StepSignals) : Type 0 where
+  pub head : next_signal c l.from ≡ head_after l f
+  pub tail : next_signal c (l.from + 1) ≡ tail_after l f
+
+abbrev pub two_writes : Signal → Signal → Signal → Signal → Signal → Signal → List WriteSignal
+two_writes e a v e' a' v' = record { enable = e; addr = a; value = v } ∷ record { enable = e'; addr = a'; value = v' } ∷ []
+
+-- the array, where there is one, has the words that these two writes leave, the second one last
+pub record WritesArray (c : Circuit) (l : Layout) (writes : List WriteSignal) : Type 0 where
+  pub words : (m : ℕ) → l.array ≡ Some m → (s : State) (ws : List ℕ) → after_writes s (write_signals c m) ws ≡ after_writes s writes ws
+
+-- what the registers and the array take next where the slots keep values
+pub record NextValues (c : Circuit) (l : Layout) (f : StepSignals) : Type 0 where
+  pub addrs : NextAddrs c l f l.size
+  pub bits : NextBits c l f l.size
+  pub contents : NextContents c l f l.size
+  pub ends : NextEnds c l f
+  pub array : WritesArray c l (two_writes f.release (oldest_addr l f) (oldest_value l f) f.release2 (next_addr l f) (next_value l f))
+
+-- one register, and so many from this one on
+abbrev pub own_reg : ℕ → Own
+own_reg r = record { from = r; to = r + 1; first = 0; last = 0 }
+
+abbrev pub own_row : ℕ → ℕ → Own
+own_row r n = record { from = r; to = r + n; first = 0; last = 0 }
+
+-- the registers of head and tail, those of addresses, of value bits, of both and of contents, and the array
+abbrev pub own_ends : Layout → Own
+own_ends l = own_row l.from 2
+
+abbrev pub own_addrs : Layout → Own
+own_addrs l = own_row (l.from + 2) l.size
+
+abbrev pub own_bits : Layout → Own
+own_bits l = own_row (l.from + 2 + l.size) l.size
+
+abbrev pub own_slots : Layout → Own
+own_slots l = own_row (l.from + 2) (2 * l.size)
+
+abbrev pub own_contents : Layout → Own
+own_contents l = own_row (l.from + 2 + 2 * l.size) l.size
+
+abbrev pub own_array : Layout → Own
+own_array l = record { from = 0; to = 0; first = first_array l.array; last = end_array l.array }
+
+-- all
+abbrev pub own_all : Layout → Own
+own_all l = record { from = l.from; to = l.from + (2 + 3 * l.size); first = first_array l.array; last = end_array l.array }

@@ -1,0 +1,212 @@
+//! What reservations and writes put into a slot.
+ghost use Rattle.std.specs.Prelude.{◌≡◌, ℕ, ◌+◌, ◌-◌, ◌*◌, ◌^◌, ◌<◌, ◌≤◌, length, IfOk, slice_index_or};
+ghost use Rattle.pdl_net.specs.Signal.{const_signal, mux_signal};
+ghost use Rattle.pdl_net.specs.Meaning.{IsThere, Means, signal};
+ghost use Rattle.pdl_net.specs.Growth.{Extends};
+ghost use Rattle.pdl_lockapi.specs.Laws.{step_signals, ticket_at};
+ghost use Rattle.pdl_lock_ring.specs.Ready.{HasPorts, IsReady};
+ghost use Rattle.pdl_lock_ring.specs.Steps.{takes_first, takes_second, written_slot, fills_slot, filled_bit, filled_value, slot_addr, slot_bit, slot_value};
+
+use crate::layout::{Content, Layout};
+use crate::taken::{Taken, emit_gate};
+use pdl_build::Builder;
+use pdl_kit::NoMemory;
+use pdl_lockapi::{LockPorts, TicketWrite};
+use pdl_net::{BinOp, Net};
+
+/// The write port of a number.
+pub fn write_port(p: &LockPorts, j: usize) -> TicketWrite
+    requires { j < length p.now.writes }
+    ensures { slice_index_or p.now.writes j result ≡ result }
+{
+    p.writes.as_slice()[j]
+}
+
+/// Whether slot k is given to the first reservation, and whether to the second one.
+#[tactic(auto, using(crate::proofs::Kept::ready_kept))]
+fn emit_takes(
+    b: &mut Builder,
+    l: Layout,
+    p: &LockPorts,
+    t: Taken,
+    k: usize,
+) -> Result<(Net, Net), NoMemory>
+    requires ready { IsReady b.old l p.now t }
+    requires slot_in { k < l.size }
+    ensures first { IfOk result (λ x.
+        Means b.new x.0 (takes_first l (step_signals b.old p.now) k)) }
+    ensures second { IfOk result (λ x.
+        Means b.new x.1 (takes_second l (step_signals b.old p.now) k)) }
+    ensures extends { Extends b.old b.new }
+{
+    let place = b.constant(l.ticket, k as u64)?;
+    let first = b.bin(BinOp::Eq, t.first_slot, place)?;
+    let second = b.bin(BinOp::Eq, t.second_slot, place)?;
+    Ok((first, second))
+}
+
+/// Slot k's address after the reservations.
+#[tactic(auto, using(crate::proofs::Fills::slot_addr_is, crate::proofs::Kept::ready_kept))]
+pub fn emit_addr(
+    b: &mut Builder,
+    l: Layout,
+    p: &LockPorts,
+    t: Taken,
+    k: usize,
+) -> Result<Net, NoMemory>
+    requires ready { IsReady b.old l p.now t }
+    requires slot_in { k < l.size }
+    ensures means { IfOk result (λ x. Means b.new x (slot_addr l (step_signals b.old p.now) k)) }
+    ensures wide { IfOk result (λ x. (signal b.new x).width ≡ l.bits) }
+    ensures extends { Extends b.old b.new }
+{
+    let (first, second) = emit_takes(b, l, p, t, k)?;
+    let kept = b.mux(first, t.first, Net::Reg(l.from + 2 + k))?;
+    let addr = b.mux(second, t.second, kept)?;
+    Ok(addr)
+}
+
+/// Slot k's value bit after the reservations.
+#[tactic(auto, using(crate::proofs::Fills::filling, crate::proofs::Kept::ready_kept))]
+fn emit_emptied(
+    b: &mut Builder,
+    l: Layout,
+    p: &LockPorts,
+    t: Taken,
+    k: usize,
+) -> Result<Net, NoMemory>
+    requires ready { IsReady b.old l p.now t }
+    requires slot_in { k < l.size }
+    ensures means { IfOk result (λ x. Means b.new x (filled_bit l (step_signals b.old p.now) k 0)) }
+    ensures extends { Extends b.old b.new }
+{
+    let (first, second) = emit_takes(b, l, p, t, k)?;
+    let zero = b.constant(1, 0)?;
+    let kept = b.mux(first, zero, Net::Reg(l.from + 2 + l.size + k))?;
+    let bit = b.mux(second, zero, kept)?;
+    Ok(bit)
+}
+
+/// The slot into which write port j writes, or a number that no slot has.
+#[tactic(auto, using(crate::proofs::Fills::ticket_is))]
+pub fn emit_written(b: &mut Builder, l: Layout, p: &LockPorts, j: usize) -> Result<Net, NoMemory>
+    requires given { HasPorts b.old l p.now }
+    requires within { j < length p.now.writes }
+    ensures means { IfOk result (λ x. Means b.new x (written_slot l (step_signals b.old p.now) j)) }
+    ensures wide { IfOk result (λ x. (signal b.new x).width ≡ l.ticket) }
+    ensures extends { Extends b.old b.new }
+{
+    let port = write_port(p, j);
+    emit_gate(b, l, port.enable, port.ticket)
+}
+
+/// Whether write port j writes into slot k.
+#[tactic(auto)]
+fn emit_match(
+    b: &mut Builder,
+    l: Layout,
+    p: &LockPorts,
+    k: usize,
+    j: usize,
+) -> Result<Net, NoMemory>
+    requires given { HasPorts b.old l p.now }
+    requires slot_in { k < l.size }
+    requires within { j < length p.now.writes }
+    ensures means { IfOk result (λ x. Means b.new x (fills_slot l (step_signals b.old p.now) k j)) }
+    ensures extends { Extends b.old b.new }
+{
+    let written = emit_written(b, l, p, j)?;
+    let place = b.constant(l.ticket, k as u64)?;
+    b.bin(BinOp::Eq, written, place)
+}
+
+/// Slot k's value bit after the reservations and all write ports.
+#[tactic(auto, using(crate::proofs::Fills::filling, crate::proofs::Kept::ports_kept))]
+pub fn emit_bit(
+    b: &mut Builder,
+    l: Layout,
+    p: &LockPorts,
+    t: Taken,
+    k: usize,
+) -> Result<Net, NoMemory>
+    requires ready { IsReady b.old l p.now t }
+    requires slot_in { k < l.size }
+    ensures bit { IfOk result (λ x. Means b.new x (slot_bit l (step_signals b.old p.now) k)) }
+    ensures extends { Extends b.old b.new }
+{
+    let one = b.constant(1, 1)?;
+    let mut bit = emit_emptied(b, l, p, t, k)?;
+    for j in 0..p.writes.len() {
+        let fills = emit_match(b, l, p, k, j)?;
+        bit = b.mux(fills, one, bit)?;
+    }
+    Ok(bit)
+}
+
+/// Slot k's value after write port j.
+#[tactic(auto, using(crate::proofs::Fills::ticket_is, crate::proofs::Kept::ports_kept))]
+fn emit_put(
+    b: &mut Builder,
+    l: Layout,
+    p: &LockPorts,
+    k: usize,
+    j: usize,
+    value: Net,
+) -> Result<Net, NoMemory>
+    requires given { HasPorts b.old l p.now }
+    requires slot_in { k < l.size }
+    requires within { j < length p.now.writes }
+    requires value_there { IsThere b.old value }
+    requires value_width { (signal b.old value).width ≡ l.width }
+    ensures value { IfOk result (λ x.
+        Means b.new x (mux_signal (fills_slot l (step_signals b.old p.now) k j)
+        (ticket_at (step_signals b.old p.now).writes j).value (signal b.old value))) }
+    ensures value_wide { IfOk result (λ x. (signal b.new x).width ≡ l.width) }
+    ensures extends { Extends b.old b.new }
+{
+    let port = write_port(p, j);
+    let fills = emit_match(b, l, p, k, j)?;
+    b.mux(fills, port.value, value)
+}
+
+/// Slot k's value after all write ports, from this one on.
+#[tactic(auto, using(crate::proofs::Fills::filling, crate::proofs::Kept::ports_kept))]
+fn emit_value(
+    b: &mut Builder,
+    l: Layout,
+    p: &LockPorts,
+    k: usize,
+    before: Net,
+) -> Result<Net, NoMemory>
+    requires given { HasPorts b.old l p.now }
+    requires slot_in { k < l.size }
+    requires before_there { IsThere b.old before }
+    requires before_width { (signal b.old before).width ≡ l.width }
+    ensures value { IfOk result (λ x.
+        Means b.new x (filled_value l (step_signals b.old p.now) (signal b.old before) k
+        (length p.now.writes))) }
+    ensures value_wide { IfOk result (λ x. (signal b.new x).width ≡ l.width) }
+    ensures extends { Extends b.old b.new }
+{
+    let mut value = before;
+    for j in 0..p.writes.len() {
+        value = emit_put(b, l, p, k, j, value)?;
+    }
+    Ok(value)
+}
+
+/// What slot k holds after all write ports, a value or a place.
+#[tactic(auto, using(crate::proofs::Fills::contents))]
+pub fn emit_content(b: &mut Builder, l: Layout, p: &LockPorts, k: usize) -> Result<Net, NoMemory>
+    requires given { HasPorts b.old l p.now }
+    requires slot_in { k < l.size }
+    ensures content { IfOk result (λ x. Means b.new x (slot_value l (step_signals b.old p.now) k)) }
+    ensures content_wide { IfOk result (λ x. (signal b.new x).width ≡ l.kept) }
+    ensures extends { Extends b.old b.new }
+{
+    let kept = Net::Reg(l.from + 2 + 2 * l.size + k);
+    match l.content {
+        Content::Value => emit_value(b, l, p, k, kept),
+        Content::Place => Ok(kept),
+    }
+}

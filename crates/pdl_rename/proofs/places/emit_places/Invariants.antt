@@ -1,0 +1,11 @@
+use Rattle.pdl_net.specs.Growth.{ExtendsBut}
+use Rattle.pdl_lockapi.specs.Laws.{step_signals}
+use Rattle.pdl_lock_ring.specs.Steps.{own_contents}
+use Rattle.pdl_rename.specs.Nets.{NextPlaces}
+use Rattle.pdl_rename.proofs.places.emit_places.Given as goal
+
+abbrev pub invariant-loop-k : goal.invariant-loop-k
+invariant-loop-k l = record {
+  extends : ExtendsBut (own_contents l.l.slots) l.fn.b l.b;
+  next : NextPlaces l.b l.l (step_signals l.fn.b l.p) l.k;
+}
