@@ -6,8 +6,7 @@ ghost use Rattle.pdl_syntax_grammar.specs.Text.{IsText, IsOutOfPlace};
 ghost use Rattle.pdl_syntax_tree.specs.View.{pipe_view};
 ghost use Rattle.pdl_rules.specs.Places.{places as places_of};
 ghost use Rattle.pdl_rules.specs.Refusal.{refusal, first_broken, limits, after_limits};
-ghost use Rattle.pdl_rules.specs.Speculation.{verify_stage};
-ghost use Rattle.pdl_locks.specs.Plan.{plan_of};
+ghost use Rattle.pdl_rules_judge.specs.Known.{AreFindings};
 ghost use Rattle.pdl_form.specs.Whole.{form};
 ghost use Rattle.pdl_stages.specs.Graph.{graph_of};
 ghost use Rattle.pdl_source_paths.specs.Source.{is_source, is_named};
@@ -20,8 +19,8 @@ use crate::read::read;
 use pdl_form::FlatPipe;
 use pdl_form_lower::lower;
 use pdl_kit::{MemInfo, NoMemory, Refusal, Seq};
-use pdl_paths::{Guards, guards_of, places};
-use pdl_rules_judge::{Plans, judge as plan};
+use pdl_paths::{Guards, places};
+use pdl_rules_judge::{Findings, judge as ask_rules};
 use pdl_stages::{StageGraph, stage_graph};
 use pdl_syntax_tree::Pipe;
 use pdl_types::TypedPipe;
@@ -63,35 +62,38 @@ fn judge(alloc: Global, pipe: Pipe) -> Result<Accepted, Refusal>
     requires letters { IsTrue (is_named (pipe_view pipe)) }
     ensures { IsJudged (pipe_view pipe) result }
 {
-    match plan(alloc, &pipe) {
-        Ok(plans) => Ok(accept(alloc, pipe, plans)?),
+    match ask_rules(alloc, &pipe) {
+        Ok(found) => Ok(accept(alloc, pipe, found)?),
         Err(refusal) => Err(refusal),
     }
 }
 
-/// What is made of a pipe that breaks no rule, beside its types: its guards, its memories as they are told, its flat form, and its stages.
+/// What is made of a pipe that breaks no rule, beside what the rules found: its memories as they are told, its flat form, and its stages.
 #[derive(Drop)]
 pub struct Made {
-    pub guards: Guards,
     pub mems: Seq<MemInfo>,
     pub flat: FlatPipe,
     pub graph: StageGraph,
 }
 
-// A pipe that breaks no rule, with all that is kept of it.
-fn accept(alloc: Global, pipe: Pipe, plans: Plans) -> Result<Accepted, NoMemory>
+// A pipe that breaks no rule, of which this was found, with all that is kept of it.
+fn accept(alloc: Global, pipe: Pipe, found: Findings) -> Result<Accepted, NoMemory>
     requires source { IsTrue (is_source (pipe_view pipe)) }
     requires letters { IsTrue (is_named (pipe_view pipe)) }
     requires kept { first_broken (limits ++ after_limits) (pipe_view pipe) ≡ None }
-    requires locks { plans.locks ≡ plan_of (pipe_view pipe) }
-    requires spec { plans.spec ≡ verify_stage (pipe_view pipe) }
+    requires found { AreFindings (pipe_view pipe) found }
     ensures { IfOk result (λ a. pipe_view a.typed.pipe ≡ pipe_view pipe) }
 {
-    let made = make(alloc, &pipe)?;
-    let typed = TypedPipe::new(alloc, pipe)?;
+    let Findings {
+        guards,
+        variables,
+        plans,
+    } = found;
+    let made = make(alloc, &pipe, &guards)?;
+    let typed = TypedPipe::new(pipe, variables);
     Ok(Accepted {
         typed,
-        guards: made.guards,
+        guards,
         mems: made.mems,
         plans,
         flat: made.flat,
@@ -99,21 +101,15 @@ fn accept(alloc: Global, pipe: Pipe, plans: Plans) -> Result<Accepted, NoMemory>
     })
 }
 
-// What is made of a pipe that breaks no rule.
-fn make(alloc: Global, pipe: &Pipe) -> Result<Made, NoMemory>
+// What is made of a pipe that breaks no rule, with its guards.
+fn make(alloc: Global, pipe: &Pipe, guards: &Guards) -> Result<Made, NoMemory>
     requires kept { first_broken (limits ++ after_limits) (pipe_view pipe.now) ≡ None }
     ensures { IfOk result (IsMadeOf (pipe_view pipe.now)) }
 {
-    let guards = guards_of(alloc, pipe)?;
     let mems = infos_of(alloc, pipe.mems.as_slice())?;
     let flat = lower(alloc, pipe)?;
-    let graph = graph_of(alloc, pipe, &guards, &flat)?;
-    Ok(Made {
-        guards,
-        mems,
-        flat,
-        graph,
-    })
+    let graph = graph_of(alloc, pipe, guards, &flat)?;
+    Ok(Made { mems, flat, graph })
 }
 
 // The stages of a pipe with this flat form.

@@ -9,7 +9,6 @@ use Rattle.pdl_rules.specs.Locks.{breaks_f5}
 use Rattle.pdl_rules.specs.Refusal.{Refused, refused_at}
 use Rattle.pdl_rules_forks.specs.declared.scan.ForkRule.{ForkRule}
 use Rattle.pdl_rules_forks.specs.declared.scan.ForkRule.TheVariants.{F1, F2, F3, F4, F5}
-use Rattle.pdl_rules_forks.specs.declared.scan.Broken.{Broken}
 
 -- no separator follows what stands in both branches of an `if`, where these places stand after the `if`
 abbrev pub is_unfollowed : Stmts → Stmts → List Place → Bool
@@ -50,6 +49,3 @@ broken_line r p all = line_from r p [] all
 abbrev pub first_of : List ForkRule → Pipe → List Place → Option Refused
 first_of [] p all = None
 first_of (r ∷ rs) p all = refused_at (rule_of r) (broken_line r p all) (first_of rs p all)
-
-abbrev pub refused_of : Broken → Refused
-refused_of b = record { rule = b.rule; line = b.line }

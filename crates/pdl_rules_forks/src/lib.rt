@@ -7,4 +7,4 @@ pub mod inside;
 pub mod rules;
 pub mod scan;
 
-pub use scan::{Broken, forks_broken};
+pub use scan::forks_broken;

@@ -5,19 +5,14 @@ ghost use Rattle.pdl_syntax_tree.specs.View.{pipe_view};
 ghost use Rattle.pdl_rules.specs.Places as spec;
 ghost use Rattle.pdl_rules.specs.Refusal as refusal;
 ghost use Rattle.pdl_paths.specs.Actions.{place_view};
+ghost use Rattle.pdl_rules_on_texts.specs.Refused.{refused_of};
 ghost use Rattle.pdl_rules_forks.specs.Order as ordered;
 
 use crate::rules::{breaks_f1, breaks_f2, breaks_f3, breaks_f4, breaks_f5};
 use pdl_kit::Rule;
 use pdl_paths::Place;
+use pdl_rules_on_texts::Broken;
 use pdl_syntax_tree::Pipe;
-
-/// A rule that is broken, and the line of its lowest place.
-#[derive(Clone, Copy)]
-pub struct Broken {
-    pub rule: Rule,
-    pub line: u32,
-}
 
 // The rules that are asked here.
 #[derive(Clone, Copy)]
@@ -92,7 +87,7 @@ fn broken_line(asked: ForkRule, pipe: &Pipe, all: &[Place<'_>]) -> Option<u32>
 /// The lowest of the rules F1 to F5 that a pipe with these places breaks, with its lowest place.
 pub fn forks_broken(pipe: &Pipe, all: &[Place<'_>]) -> Option<Broken>
     requires { spec.places (pipe_view pipe.now) ≡ map place_view all.now }
-    ensures { option_map ordered.refused_of result
+    ensures { option_map refused_of result
         ≡ refusal.first_broken (names.F1 ∷ names.F2 ∷ names.F3 ∷ names.F4 ∷ names.F5 ∷ [])
         (pipe_view pipe.now) }
 {
@@ -102,7 +97,7 @@ pub fn forks_broken(pipe: &Pipe, all: &[Place<'_>]) -> Option<Broken>
 // The first of the rules that is broken.
 fn first_of(rules: &[ForkRule], pipe: &Pipe, all: &[Place<'_>]) -> Option<Broken>
     requires { spec.places (pipe_view pipe.now) ≡ map place_view all.now }
-    ensures { option_map ordered.refused_of result
+    ensures { option_map refused_of result
         ≡ ordered.first_of rules.now (pipe_view pipe.now) (map place_view all.now) }
 {
     for asked in rules {

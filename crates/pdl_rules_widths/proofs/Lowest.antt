@@ -6,10 +6,10 @@ use Rattle.pdl_rules.specs.Places.{places}
 use Rattle.pdl_rules.specs.Refusal.{refused_at, first_broken}
 use Rattle.pdl_rules_on_paths.proofs.Lines.{rule_lines}
 use Rattle.pdl_rules_widths.specs.Lines.{AreLines}
-use Rattle.pdl_rules_widths.specs.declared.lines.Lines.{Lines}
+use Rattle.pdl_rules_widths.specs.declared.lines.WidthLines.{WidthLines}
 use Rattle.pdl_rules_widths.specs.Order.{width_rules}
 
-pub lowest_line : (p : Pipe) (ls : Lines) → AreLines p (places p) ls
+pub lowest_line : (p : Pipe) (ls : WidthLines) → AreLines p (places p) ls
     → refused_at W1 ls.w1 (refused_at W2 ls.w2 (refused_at W3 ls.w3 (refused_at W4 ls.w4 (refused_at W5 ls.w5 (refused_at W6 ls.w6 None)))))
     ≡ first_broken width_rules p
 lowest_line p ls h =

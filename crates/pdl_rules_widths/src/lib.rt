@@ -1,6 +1,6 @@
 //! The widths of a pipe: its variables with theirs, and the rules on widths, W1 to W6.
 //!
-//! The layers above may use `check_widths`, and `Variables`, the variables with their widths.
+//! The layers above may use `widths_broken`, and `Variables`, the variables with their widths.
 #![tactic(auto)]
 
 mod arguments;
@@ -13,4 +13,4 @@ mod width;
 pub mod widths;
 
 pub use variables::Variables;
-pub use widths::check_widths;
+pub use widths::widths_broken;

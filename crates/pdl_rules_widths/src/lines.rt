@@ -11,7 +11,7 @@ use pdl_rules_on_texts::{Broken, lowest_of, noted_line};
 
 /// Of each rule on widths the line of the first place that breaks it.
 #[derive(Clone, Copy)]
-pub struct Lines {
+pub struct WidthLines {
     pub w1: Option<u32>,
     pub w2: Option<u32>,
     pub w3: Option<u32>,
@@ -20,9 +20,9 @@ pub struct Lines {
     pub w6: Option<u32>,
 }
 
-impl Lines {
+impl WidthLines {
     /// No rule is broken yet.
-    pub fn new() -> Lines
+    pub fn new() -> WidthLines
         ensures w1 { result.w1 ≡ None }
         ensures w2 { result.w2 ≡ None }
         ensures w3 { result.w3 ≡ None }
@@ -30,7 +30,7 @@ impl Lines {
         ensures w5 { result.w5 ≡ None }
         ensures w6 { result.w6 ≡ None }
     {
-        Lines {
+        WidthLines {
             w1: None,
             w2: None,
             w3: None,
@@ -41,7 +41,7 @@ impl Lines {
     }
 
     /// The lines with one place more: what it breaks, and its line.
-    pub fn with(self, faults: Faults, line: u32) -> Lines
+    pub fn with(self, faults: Faults, line: u32) -> WidthLines
         ensures w1 { result.w1 ≡ spec_noted self.w1 faults.w1 line }
         ensures w2 { result.w2 ≡ spec_noted self.w2 faults.w2 line }
         ensures w3 { result.w3 ≡ spec_noted self.w3 faults.w3 line }
@@ -49,7 +49,7 @@ impl Lines {
         ensures w5 { result.w5 ≡ spec_noted self.w5 faults.w5 line }
         ensures w6 { result.w6 ≡ spec_noted self.w6 faults.w6 line }
     {
-        Lines {
+        WidthLines {
             w1: noted_line(self.w1, faults.w1, line),
             w2: noted_line(self.w2, faults.w2, line),
             w3: noted_line(self.w3, faults.w3, line),

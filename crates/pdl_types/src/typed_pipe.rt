@@ -1,5 +1,5 @@
 // Pipes whose variables have widths.
-ghost use Rattle.std.specs.Prelude.{◌≡◌, None, IfOk, IsTrue};
+ghost use Rattle.std.specs.Prelude.{◌≡◌, None, IsTrue};
 ghost use Rattle.pdl_syntax_tree.specs.View.{pipe_view};
 ghost use Rattle.pdl_rules.specs.Refusal.{first_broken, limits};
 ghost use Rattle.pdl_rules.specs.Widths.{variables as spec_variables};
@@ -8,11 +8,9 @@ ghost use Rattle.pdl_rules_widths.specs.Order.{width_rules};
 ghost use Rattle.pdl_rules_widths.specs.Variables.{width_among};
 ghost use Rattle.pdl_types.specs.Narrow.{are_narrow};
 
-use pdl_kit::{Name, NoMemory};
-use pdl_paths::{Guards, places};
+use pdl_kit::Name;
 use pdl_rules_widths::Variables;
 use pdl_syntax_tree::Pipe;
-use std::alloc::Global;
 
 /// A pipe that keeps the limits and the rules on names and widths, with the width of each of its variables, 1 to 64 bits.
 #[derive(Drop)]
@@ -24,15 +22,15 @@ pub struct TypedPipe {
 }
 
 impl TypedPipe {
-    /// The pipe with the widths of its variables.
-    pub fn new(alloc: Global, pipe: Pipe) -> Result<TypedPipe, NoMemory>
+    /// The pipe with its variables.
+    pub fn new(pipe: Pipe, variables: Variables) -> TypedPipe
+        requires told { variables ≡ spec_variables (pipe_view pipe) }
         requires within { first_broken limits (pipe_view pipe) ≡ None }
         requires named { first_broken name_rules (pipe_view pipe) ≡ None }
         requires fitting { first_broken width_rules (pipe_view pipe) ≡ None }
-        ensures { IfOk result (λ typed. typed.pipe ≡ pipe) }
+        ensures { result.pipe ≡ pipe }
     {
-        let variables = variables_of(alloc, &pipe)?;
-        Ok(TypedPipe { pipe, variables })
+        TypedPipe { pipe, variables }
     }
 
     /// Lends the pipe.
@@ -51,13 +49,4 @@ impl TypedPipe {
             None => None,
         }
     }
-}
-
-// The variables of a pipe.
-fn variables_of(alloc: Global, pipe: &Pipe) -> Result<Variables, NoMemory>
-    ensures { IfOk result (λ vs. vs ≡ spec_variables (pipe_view pipe.now)) }
-{
-    let none = Guards::new(alloc);
-    let places = places(alloc, pipe, &none)?;
-    Variables::of(alloc, pipe.mems.as_slice(), places.as_slice())
 }

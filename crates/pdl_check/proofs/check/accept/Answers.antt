@@ -22,12 +22,13 @@ use Rattle.pdl_check.proofs.Parts.{kept_parts}
 use Rattle.pdl_check.proofs.check.accept.Goals as goal
 use Rattle.pdl_rules.specs.Memories.{infos_of}
 
-pub new-requires : goal.new-requires
-new-requires c =
+pub new-typed-requires : goal.new-typed-requires
+new-typed-requires c =
     let p = pipe_view c.args.pipe in
     let some = kept_parts limits after_limits p c.requires.kept in
     let names = kept_parts name_rules after_names p some.1 in
     record {
+      told = c.requires.found.variables;
       within = some.0;
       named = names.0;
       fitting = (kept_parts width_rules after_widths p names.1).0;
@@ -35,19 +36,19 @@ new-requires c =
 
 pub invariant_of-result : goal.invariant_of-result
 invariant_of-result c =
-    let e : c.in_ok-typed.typed.pipe ≡ c.args.pipe = c.in_ok-typed.ensures in
-    let at : (P : tree.Pipe → Type 0) → P (pipe_view c.args.pipe) → P (pipe_view c.in_ok-typed.typed.pipe) = λ P h. subst (λ (q : r_pipe.Pipe). P (pipe_view q)) (sym e) h in
+    let e : c.new-typed.result.pipe ≡ c.args.pipe = c.new-typed.ensures in
+    let at : (P : tree.Pipe → Type 0) → P (pipe_view c.args.pipe) → P (pipe_view c.new-typed.result.pipe) = λ P h. subst (λ (q : r_pipe.Pipe). P (pipe_view q)) (sym e) h in
     record {
       source = at (λ p. IsTrue (is_source p)) c.requires.source;
       letters = at (λ p. IsTrue (is_named p)) c.requires.letters;
       kept = at KeepsRules (keeps_unbroken (pipe_view c.args.pipe) c.requires.kept);
-      guarded = at (λ p. c.in_ok-made.made.guards ≡ guards (places p)) c.in_ok-made.ensures.guarded;
+      guarded = at (λ p. c.args.found.guards ≡ guards (places p)) c.requires.found.guards;
       told = at (λ p. c.in_ok-made.made.mems ≡ infos_of p.mems) c.in_ok-made.ensures.told;
-      planned = at (λ p. c.args.plans.locks ≡ plan_of p) c.requires.locks;
-      verified = at (λ p. c.args.plans.spec ≡ verify_stage p) c.requires.spec;
+      planned = at (λ p. c.args.found.plans.locks ≡ plan_of p) c.requires.found.locks;
+      verified = at (λ p. c.args.found.plans.spec ≡ verify_stage p) c.requires.found.spec;
       lowered = at (λ p. IsTrue (same_form (form c.in_ok-made.made.flat) (form_of p))) (forms_pass _ _ c.in_ok-made.ensures.lowered);
       staged = at (λ p. c.in_ok-made.made.graph ≡ graph_of (flat p) (places p)) c.in_ok-made.ensures.staged;
     }
 
 pub returns : goal.returns
-returns c = ap pipe_view c.in_ok-typed.ensures
+returns c = ap pipe_view c.new-typed.ensures

@@ -24,7 +24,6 @@ lower-requires c =
 
 pub returns : goal.returns
 returns c = record {
-  guarded = c.in_ok-guards.ensures;
   told = c.in_ok-mems.ensures ∙ ap (λ ms. infos_of (map mem_view ms)) c.as_slice.ensures;
   lowered = c.in_ok-flat.ensures;
   staged = c.in_ok-graph.ensures ∙ ap (λ (f : Form). graph_of f.pipe (places (pipe_view c.args.pipe.now))) c.in_ok-flat.ensures;

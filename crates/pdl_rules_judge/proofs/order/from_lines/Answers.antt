@@ -4,6 +4,9 @@ use Rattle.pdl_spec.specs.Plan.{spec_rules}
 use Rattle.pdl_rules_judge.proofs.Told.{first_tells, then_answers}
 use Rattle.pdl_rules_judge.proofs.order.from_lines.Goals as goal
 
+pub plan_locks-requires : goal.plan_locks-requires
+plan_locks-requires c = record { of = c.requires.known.of; facts = c.requires.known.facts; lines = c.requires.locks }
+
 pub returns-in-Ok-clause-answers : goal.returns-in-Ok-clause-answers
 returns-in-Ok-clause-answers c = then_answers lock_rules spec_rules (pipe_view c.args.pipe.now) c.from_calls.result c.in-Ok.ensures.0 c.from_calls.ensures.answers
 

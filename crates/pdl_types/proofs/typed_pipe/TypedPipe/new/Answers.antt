@@ -9,6 +9,6 @@ pub invariant_of-result : goal.invariant_of-result
 invariant_of-result c =
     let p = pipe_view c.args.pipe in
     record {
-      told = c.in_ok-variables.ensures;
-      narrow = ap are_narrow c.in_ok-variables.ensures ∙ variables_narrow p (keeps_widths p c.requires.within c.requires.named c.requires.fitting);
+      told = c.requires.told;
+      narrow = ap are_narrow c.requires.told ∙ variables_narrow p (keeps_widths p c.requires.within c.requires.named c.requires.fitting);
     }
