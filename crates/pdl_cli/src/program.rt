@@ -52,12 +52,7 @@ fn obey_line<F: Files, O: Sink>(
 {
     match line {
         Line::Check { source } => write_text(verdict(alloc, files, source), out),
-        Line::Run {
-            source,
-            image,
-            cycles,
-            delays,
-        } => run_source(alloc, files, source, image, cycles, delays, out),
+        Line::Run { source, setup } => run_source(alloc, files, source, &setup, out),
         Line::Seq {
             source,
             image,
@@ -66,24 +61,9 @@ fn obey_line<F: Files, O: Sink>(
         Line::Asm { table, text } => write_text(assembly_text(alloc, files, table, text), out),
         Line::Gen { number } => write_text(generate(alloc, number), out),
         Line::Build { source } => write_text(build(alloc, files, source), out),
-        Line::Sim {
-            netlist,
-            image,
-            cycles,
-            delays,
-        } => simulate(alloc, files, netlist, image, cycles, delays, out),
-        Line::Wave {
-            source,
-            image,
-            cycles,
-            delays,
-        } => wave(alloc, files, source, image, cycles, delays, out),
-        Line::View {
-            source,
-            image,
-            cycles,
-            delays,
-        } => view_source(alloc, files, source, image, cycles, delays, out),
+        Line::Sim { netlist, setup } => simulate(alloc, files, netlist, &setup, out),
+        Line::Wave { source, setup } => wave(alloc, files, source, &setup, out),
+        Line::View { source, setup } => view_source(alloc, files, source, &setup, out),
     }
 }
 

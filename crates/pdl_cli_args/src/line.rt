@@ -11,6 +11,14 @@ use clap::ArgMatches;
 use clap::error::ErrorKind;
 use std::alloc::{AllocError, Global};
 
+/// What a run is given, but for what runs: the name of an image, how many cycles to run, up to 1,000,000, and the name of a delay file, if there is one.
+#[derive(Clone, Copy)]
+pub struct RunSetup<'a> {
+    pub image: &'a str,
+    pub cycles: u32,
+    pub delays: Option<&'a str>,
+}
+
 /// A command with its words.
 #[derive(Clone, Copy)]
 pub enum Line<'a> {
@@ -18,12 +26,10 @@ pub enum Line<'a> {
     Check {
         source: &'a str,
     },
-    /// `run SRC IMG CYCLES [--delays F]`: the names of two files, how many cycles to run, up to 1,000,000, and the name of a delay file, if there is one.
+    /// `run SRC IMG CYCLES [--delays F]`: the name of a source, and the setup of its run.
     Run {
         source: &'a str,
-        image: &'a str,
-        cycles: u32,
-        delays: Option<&'a str>,
+        setup: RunSetup<'a>,
     },
     /// `seq SRC IMG THREADS`: the names of two files, and how many threads to run, up to 1,000,000.
     Seq {
@@ -44,26 +50,20 @@ pub enum Line<'a> {
     Build {
         source: &'a str,
     },
-    /// `sim V IMG CYCLES [--delays F]`: the names of a netlist's text and of an image, how many cycles to run, up to 1,000,000, and the name of a delay file, if there is one.
+    /// `sim V IMG CYCLES [--delays F]`: the name of a netlist's text, and the setup of its run.
     Sim {
         netlist: &'a str,
-        image: &'a str,
-        cycles: u32,
-        delays: Option<&'a str>,
+        setup: RunSetup<'a>,
     },
-    /// `wave SRC IMG CYCLES [--delays F]`: the names of two files, how many cycles to run, up to 1,000,000, and the name of a delay file, if there is one.
+    /// `wave SRC IMG CYCLES [--delays F]`: the name of a source, and the setup of its run.
     Wave {
         source: &'a str,
-        image: &'a str,
-        cycles: u32,
-        delays: Option<&'a str>,
+        setup: RunSetup<'a>,
     },
-    /// `view SRC IMG CYCLES [--delays F]`: the names of two files, how many cycles to run, up to 1,000,000, and the name of a delay file, if there is one.
+    /// `view SRC IMG CYCLES [--delays F]`: the name of a source, and the setup of its run.
     View {
         source: &'a str,
-        image: &'a str,
-        cycles: u32,
-        delays: Option<&'a str>,
+        setup: RunSetup<'a>,
     },
 }
 
@@ -191,12 +191,12 @@ fn run_line<'a>(inner: &ArgMatches<'a>) -> Option<Line<'a>>
     let Some(cycles) = number(cycles, 7, 1_000_000) else {
         return None;
     };
-    Some(Line::Run {
-        source,
+    let setup = RunSetup {
         image,
         cycles,
         delays: value(inner, "delays"),
-    })
+    };
+    Some(Line::Run { source, setup })
 }
 
 fn seq_line<'a>(inner: &ArgMatches<'a>) -> Option<Line<'a>>
@@ -280,12 +280,12 @@ fn sim_line<'a>(inner: &ArgMatches<'a>) -> Option<Line<'a>>
     let Some(cycles) = number(cycles, 7, 1_000_000) else {
         return None;
     };
-    Some(Line::Sim {
-        netlist,
+    let setup = RunSetup {
         image,
         cycles,
         delays: value(inner, "delays"),
-    })
+    };
+    Some(Line::Sim { netlist, setup })
 }
 
 fn wave_line<'a>(inner: &ArgMatches<'a>) -> Option<Line<'a>>
@@ -307,12 +307,12 @@ fn wave_line<'a>(inner: &ArgMatches<'a>) -> Option<Line<'a>>
     let Some(cycles) = number(cycles, 7, 1_000_000) else {
         return None;
     };
-    Some(Line::Wave {
-        source,
+    let setup = RunSetup {
         image,
         cycles,
         delays: value(inner, "delays"),
-    })
+    };
+    Some(Line::Wave { source, setup })
 }
 
 fn view_line<'a>(inner: &ArgMatches<'a>) -> Option<Line<'a>>
@@ -334,10 +334,10 @@ fn view_line<'a>(inner: &ArgMatches<'a>) -> Option<Line<'a>>
     let Some(cycles) = number(cycles, 7, 1_000_000) else {
         return None;
     };
-    Some(Line::View {
-        source,
+    let setup = RunSetup {
         image,
         cycles,
         delays: value(inner, "delays"),
-    })
+    };
+    Some(Line::View { source, setup })
 }

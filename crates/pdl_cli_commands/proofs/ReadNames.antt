@@ -12,7 +12,7 @@ use Rattle.pdl_net.specs.Pipe.{Head, PortMem, head_of, output, reply_ports, stag
 use Rattle.pdl_net.proofs.PipeMems.{told, told_name}
 use Rattle.pdl_vread_text.specs.declared.field.Field.{Field}
 use Rattle.pdl_vread_text.specs.declared.field.Field.TheVariants as field
-use Rattle.pdl_vread_text.specs.declared.rule.Part.{Part}
+use Rattle.pdl_vread_text.specs.declared.part.Part.{Part}
 use Rattle.pdl_vread_text.specs.declared.rule.Rule.{Rule}
 use Rattle.pdl_vread_text.specs.declared.rule.Rule.TheVariants as rule
 use Rattle.pdl_vread_text.specs.declared.draft.Draft.{Draft}

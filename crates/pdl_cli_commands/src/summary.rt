@@ -10,7 +10,7 @@ use pdl_check::check::check;
 use pdl_cli_failure::{Failure, in_memory};
 use pdl_image::{Delays, Image};
 use pdl_kit::{MemInfo, NoMemory, Seq};
-use pdl_netrun_lines::count;
+use pdl_netrun_lines::{Schedule, count};
 use pdl_pipe::compile;
 use pdl_trace::{Line, end_line};
 use pdl_word::mask;
@@ -73,7 +73,11 @@ fn end_of(alloc: Global, accepted: &Accepted, words: &[u64], cycles: u32) -> Res
     let netlist = compile(alloc, accepted)?;
     let image = image_of(alloc, words, netlist.mems.as_slice())?;
     let delays = Delays::none(alloc);
-    let counts = count(alloc, &netlist, &image, &delays, cycles)?;
+    let schedule = Schedule {
+        delays: &delays,
+        cycles,
+    };
+    let counts = count(alloc, &netlist, &image, &schedule)?;
     Ok(end_line(cycles, counts.ended, counts.waits, counts.squashes))
 }
 

@@ -59,6 +59,13 @@ impl Operands {
         }
     }
 
+    /// A cell that reads the one word at this place.
+    pub fn reading_one(place: u32) -> Operands
+        ensures { result ≡ reading_at place place }
+    {
+        Operands::reading(place, place)
+    }
+
     /// The word at the first place.
     pub fn first(&self, values: &[u64]) -> u64
         requires { slice_index self.now.places 0 < length values.now }

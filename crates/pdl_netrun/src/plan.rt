@@ -124,13 +124,10 @@ fn operands_of(n: &Netlist, order: &Order, widths: &[u8], cell: Cell) -> Operand
 {
     match cell {
         Cell::Const { width: _, value: _ } => Operands::reading(0, 0),
-        Cell::Not(a) => {
-            let place = order.place(a);
-            Operands {
-                width: width_of(n, widths, a),
-                ..Operands::reading(place, place)
-            }
-        }
+        Cell::Not(a) => Operands {
+            width: width_of(n, widths, a),
+            ..Operands::reading_one(order.place(a))
+        },
         Cell::Bin(_, a, b) => Operands {
             width: width_of(n, widths, a),
             ..Operands::reading(order.place(a), order.place(b))
@@ -139,33 +136,24 @@ fn operands_of(n: &Netlist, order: &Order, widths: &[u8], cell: Cell) -> Operand
             selector: order.place(choice),
             ..Operands::reading(order.place(b), order.place(a))
         },
-        Cell::Slice { a, high, low } => {
-            let place = order.place(a);
-            Operands {
-                high,
-                low,
-                ..Operands::reading(place, place)
-            }
-        }
+        Cell::Slice { a, high, low } => Operands {
+            high,
+            low,
+            ..Operands::reading_one(order.place(a))
+        },
         Cell::Cat(a, b) => Operands {
             low: width_of(n, widths, b),
             ..Operands::reading(order.place(a), order.place(b))
         },
-        Cell::Rep { count, a } => {
-            let place = order.place(a);
-            Operands {
-                width: width_of(n, widths, a),
-                count,
-                ..Operands::reading(place, place)
-            }
-        }
-        Cell::Read { array, addr } => {
-            let place = order.place(addr);
-            Operands {
-                selector: array as u32,
-                ..Operands::reading(place, place)
-            }
-        }
+        Cell::Rep { count, a } => Operands {
+            width: width_of(n, widths, a),
+            count,
+            ..Operands::reading_one(order.place(a))
+        },
+        Cell::Read { array, addr } => Operands {
+            selector: array as u32,
+            ..Operands::reading_one(order.place(addr))
+        },
     }
 }
 

@@ -6,6 +6,7 @@ use Rattle.pdl_net.specs.declared.Netlist.{Netlist}
 use Rattle.pdl_net.specs.Run.{Held, mem_at, nports_from}
 use Rattle.pdl_image.specs.Delays.{bits_in}
 use Rattle.pdl_law_parts.specs.Runs.{cycle_of, commit_mems, shown_lines}
+use Rattle.pdl_netrun_lines.specs.declared.print.Schedule.{Schedule}
 
 -- the cycles of a run with these reply bits, from a state on
 abbrev pub cycles_from : Netlist → Held → List ℕ → List Cycle
@@ -27,3 +28,7 @@ replies_from rows first cycles = map (bits_in rows) (range_with_len first cycles
 -- the reply bits of a run of so many cycles: those of the rows, and after the last row each is 1
 abbrev pub schedule : List ℕ → ℕ → List ℕ
 schedule rows cycles = replies_from rows 1 cycles
+
+-- those of a run that is asked for
+abbrev pub replies_of : Schedule → List ℕ
+replies_of s = schedule s.delays.now s.cycles

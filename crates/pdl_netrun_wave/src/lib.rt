@@ -1,6 +1,6 @@
 //! The run of a netlist whose output ports are dumped: `dump` writes the value change dump while the run goes on.
 //!
-//! The layer above gives the netlist, an image of its memories, the replies of its delayed ones, a number of cycles and the sink.
+//! The layer above gives the netlist, an image of its memories, a `Schedule` and the sink.
 #![tactic(auto)]
 
 mod cycles;

@@ -71,44 +71,10 @@ pub fn span_of(stmt: &Stmt) -> Span
     ensures { span_view result ≡ rules.span_of (stmt_view stmt.now) }
 {
     match stmt {
-        Stmt::Separator { span } => *span,
-        Stmt::CombRead {
-            span,
-            x: _,
-            from: _,
-        } => *span,
-        Stmt::Bind { span, x: _, e: _ } => *span,
-        Stmt::SpecCall {
-            span,
-            guess: _,
-            args: _,
-        } => *span,
-        Stmt::DelayedRead {
-            span,
-            x: _,
-            from: _,
-        } => *span,
-        Stmt::Write { span, to: _, e: _ } => *span,
-        Stmt::Reserve {
-            span,
-            at: _,
-            kind: _,
-        } => *span,
-        Stmt::Block { span, at: _ } => *span,
-        Stmt::Release { span, at: _ } => *span,
-        Stmt::If {
-            span,
-            condition: _,
-            then: _,
-            otherwise: _,
-        } => *span,
-        Stmt::Call { span, args: _ } => *span,
-        Stmt::Verify {
-            span,
-            guess: _,
-            args: _,
-        } => *span,
-        Stmt::SpecCheck { span } => *span,
-        Stmt::SpecBarrier { span } => *span,
+        Stmt::Separator { span } | Stmt::CombRead { span, .. } | Stmt::Bind { span, .. } => *span,
+        Stmt::SpecCall { span, .. } | Stmt::DelayedRead { span, .. } => *span,
+        Stmt::Write { span, .. } | Stmt::Reserve { span, .. } | Stmt::Block { span, .. } => *span,
+        Stmt::Release { span, .. } | Stmt::If { span, .. } | Stmt::Call { span, .. } => *span,
+        Stmt::Verify { span, .. } | Stmt::SpecCheck { span } | Stmt::SpecBarrier { span } => *span,
     }
 }

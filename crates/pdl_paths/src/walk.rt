@@ -16,6 +16,13 @@ use pdl_kit::{NoMemory, Seq};
 use pdl_syntax_tree::{Mem, Param, Pipe, Span, Stmt};
 use std::alloc::Global;
 
+// The branches that a statement stands in, the outermost first, and their mask.
+#[derive(Drop)]
+struct Outer<'a> {
+    branches: Vec<Branch<'a>>,
+    mask: Mask,
+}
+
 /// The places of a pipe in text order, with masks of these guards.
 pub fn places<'a>(
     alloc: Global,
@@ -29,15 +36,12 @@ pub fn places<'a>(
     let mut places = Vec::new(alloc);
     add_params(alloc, &mut places, pipe.params.as_slice())?;
     add_mems(alloc, &mut places, pipe.mems.as_slice())?;
-    let outer = Vec::new(alloc);
-    add_stmts(
-        alloc,
-        guards,
-        &mut places,
-        outer.as_slice(),
-        EVERYWHERE,
-        pipe.body.as_slice(),
-    )?;
+    let branches = Vec::new(alloc);
+    let outer = Outer {
+        branches,
+        mask: EVERYWHERE,
+    };
+    add_stmts(alloc, guards, &mut places, &outer, pipe.body.as_slice())?;
     places.push(bare(alloc, Action::End, pipe.end))?;
     places.push(bare(alloc, Action::StartClause(&pipe.start), pipe.start.span))?;
     Ok(places)
@@ -94,16 +98,16 @@ fn add_stmt<'a>(
     alloc: Global,
     guards: &Guards,
     places: &mut Vec<Place<'a>>,
-    outer: &[Branch<'a>],
-    mask: Mask,
+    outer: &Outer<'a>,
     stmt: &'a Stmt,
 ) -> Result<(), NoMemory>
-    requires { mask ≡ mask_of guards.now (map branch_view outer.now) }
+    requires { outer.now.mask ≡ mask_of guards.now
+        (map branch_view outer.now.branches.items) }
     ensures { OnOk result (map masked_view places.new.items
         ≡ map masked_view places.old.items ++ map (masked_place guards.now)
-        (rules.with_inner (map branch_view outer.now) (stmt_view stmt.now))) }
+        (rules.with_inner (map branch_view outer.now.branches.items) (stmt_view stmt.now))) }
 {
-    push_stmt(places, outer, mask, stmt, alloc)?;
+    push_stmt(alloc, places, outer, stmt)?;
     match stmt {
         Stmt::If {
             span,
@@ -112,41 +116,20 @@ fn add_stmt<'a>(
             otherwise,
         } => {
             let guard = guard_of(*span, condition);
-            let number = guards.number(guard);
-            let first = further_in(
-                alloc,
-                outer,
-                Branch {
-                    guard,
-                    truth: true,
-                    inside: then.as_slice(),
-                },
-            )?;
-            add_stmts(
-                alloc,
-                guards,
-                places,
-                first.as_slice(),
-                mask.with(number, true),
-                then.as_slice(),
-            )?;
-            let second = further_in(
-                alloc,
-                outer,
-                Branch {
-                    guard,
-                    truth: false,
-                    inside: otherwise.as_slice(),
-                },
-            )?;
-            add_stmts(
-                alloc,
-                guards,
-                places,
-                second.as_slice(),
-                mask.with(number, false),
-                otherwise.as_slice(),
-            )
+            let taken = Branch {
+                guard,
+                truth: true,
+                inside: then.as_slice(),
+            };
+            let inner = further_in(alloc, guards, outer, taken)?;
+            add_stmts(alloc, guards, places, &inner, then.as_slice())?;
+            let other = Branch {
+                guard,
+                truth: false,
+                inside: otherwise.as_slice(),
+            };
+            let inner = further_in(alloc, guards, outer, other)?;
+            add_stmts(alloc, guards, places, &inner, otherwise.as_slice())
         }
         Stmt::Separator { .. } | Stmt::CombRead { .. } | Stmt::Bind { .. } => Ok(()),
         Stmt::SpecCall { .. } | Stmt::DelayedRead { .. } | Stmt::Write { .. } => Ok(()),
@@ -162,52 +145,62 @@ fn add_stmts<'a>(
     alloc: Global,
     guards: &Guards,
     places: &mut Vec<Place<'a>>,
-    outer: &[Branch<'a>],
-    mask: Mask,
+    outer: &Outer<'a>,
     stmts: &'a [Stmt],
 ) -> Result<(), NoMemory>
-    requires { mask ≡ mask_of guards.now (map branch_view outer.now) }
+    requires { outer.now.mask ≡ mask_of guards.now
+        (map branch_view outer.now.branches.items) }
     ensures { OnOk result (map masked_view places.new.items
         ≡ map masked_view places.old.items ++ map (masked_place guards.now)
-        (rules.statements (map branch_view outer.now) (stmts_view stmts.now))) }
+        (rules.statements (map branch_view outer.now.branches.items) (stmts_view stmts.now))) }
 {
     for stmt in stmts {
-        add_stmt(alloc, guards, places, outer, mask, stmt)?;
+        add_stmt(alloc, guards, places, outer, stmt)?;
     }
     Ok(())
 }
 
 // Adds a statement alone.
 fn push_stmt<'a>(
-    places: &mut Vec<Place<'a>>,
-    outer: &[Branch<'a>],
-    mask: Mask,
-    stmt: &'a Stmt,
     alloc: Global,
+    places: &mut Vec<Place<'a>>,
+    outer: &Outer<'a>,
+    stmt: &'a Stmt,
 ) -> Result<(), NoMemory>
     ensures { OnOk result (map masked_view places.new.items
-        ≡ map masked_view places.old.items ++
-        (rules.Statement (stmt_view stmt.now) (map branch_view outer.now), mask) ∷ []) }
+        ≡ map masked_view places.old.items ++ (
+          rules.Statement (stmt_view stmt.now) (map branch_view outer.now.branches.items),
+          outer.now.mask,
+        ) ∷ []) }
 {
-    let branches = Seq::copy_of(alloc, outer)?;
+    let branches = Seq::copy_of(alloc, outer.branches.as_slice())?;
     places.push(Place {
         action: action_of(stmt),
         span: span_of(stmt),
         branches,
-        mask,
+        mask: outer.mask,
     })?;
     Ok(())
 }
 
-// The branches of what stands in one more.
+// One branch further in.
 fn further_in<'a>(
     alloc: Global,
-    outer: &[Branch<'a>],
+    guards: &Guards,
+    outer: &Outer<'a>,
     branch: Branch<'a>,
-) -> Result<Vec<Branch<'a>>, NoMemory>
-    ensures { IfOk result (λ bs. bs.items ≡ outer.now ++ branch.entry ∷ []) }
+) -> Result<Outer<'a>, NoMemory>
+    requires { outer.now.mask ≡ mask_of guards.now
+        (map branch_view outer.now.branches.items) }
+    ensures branches { IfOk result (λ inner.
+        inner.branches.items ≡ outer.now.branches.items ++ branch.entry ∷ []) }
+    ensures mask { IfOk result (λ inner.
+        inner.mask ≡ mask_of guards.now (map branch_view inner.branches.items)) }
 {
-    let mut branches = Vec::from_slice(alloc, outer)?;
+    let mut branches = Vec::from_slice(alloc, outer.branches.as_slice())?;
     branches.push(branch)?;
-    Ok(branches)
+    Ok(Outer {
+        branches,
+        mask: outer.mask.with(guards.number(branch.guard), branch.truth),
+    })
 }

@@ -17,12 +17,19 @@ use pdl_pipe_lives::held_from;
 use pdl_pipe_walk::HeldNet;
 use std::alloc::Global;
 
+// A location, by its memory and the variable of its address.
+#[derive(Clone, Copy)]
+struct Location {
+    mem: usize,
+    var: usize,
+}
+
 // Whether a location is among these.
-fn is_listed(held: &[HeldNet], mem: usize, var: usize) -> bool
-    ensures { result ≡ is_listed_in held.now mem var }
+fn is_listed(held: &[HeldNet], at: Location) -> bool
+    ensures { result ≡ is_listed_in held.now at.mem at.var }
 {
     for h in held {
-        if h.mem == mem && h.var == var {
+        if h.mem == at.mem && h.var == at.var {
             return true;
         }
     }
@@ -37,8 +44,7 @@ fn push_held(
     earlier: &Earlier<'_>,
     regs: &mut Kept,
     held: &mut Seq<HeldNet>,
-    mem: usize,
-    var: usize,
+    at: Location,
 ) -> Result<(), NoMemory>
     requires shared { IsShared b.old (form pipe.now) shared.now }
     requires earlier { IsEarlier b.old (form pipe.now)
@@ -47,12 +53,13 @@ fn push_held(
     requires last { end_of regs.old ≡ length b.old.regs }
     ensures adds { OnOk result (AddsHeld b.new (form pipe.now)
         (signals_in b.old shared.now.next) (earlier_views b.old earlier.now)
-        (earlier_count earlier.now) mem var regs.old held.old regs.new held.new) }
+        (earlier_count earlier.now) at.mem at.var regs.old held.old regs.new held.new) }
     ensures last { OnOk result (end_of regs.new ≡ length b.new.regs) }
     ensures extends { Extends b.old b.new }
 {
     let stage = earlier.stages.len();
-    if is_listed(held.as_slice(), mem, var) || !held_from(pipe, stage, mem, var) {
+    let Location { mem, var } = at;
+    if is_listed(held.as_slice(), at) || !held_from(pipe, stage, mem, var) {
         return Ok(());
     }
     let item = Item::Held { mem, var };
@@ -103,7 +110,11 @@ fn push_helds(
     let from = stage_at(earlier, j);
     for i in 0..from.end.held.len() {
         let h = entry_of(from.end.held.as_slice(), i);
-        push_held(b, pipe, shared, earlier, regs, held, h.mem, h.var)?;
+        let at = Location {
+            mem: h.mem,
+            var: h.var,
+        };
+        push_held(b, pipe, shared, earlier, regs, held, at)?;
     }
     Ok(())
 }

@@ -19,7 +19,7 @@ ghost use Rattle.pdl_pipe_walk.specs.Words.{IsLooked, IsRead, IsBlocked};
 ghost use Rattle.pdl_pipe_walk.specs.Steps.{with_var, with_put, with_reserve, with_release, with_call, with_ask, IsStep};
 
 use crate::locks::{Setting, look_held, room, word};
-use crate::nets::{AskNet, WalkNets};
+use crate::nets::{AskNet, HeldNet, WalkNets};
 use pdl_build::Builder;
 use pdl_form::{Expr, FlatPipe, Guard, Op, Stmt};
 use pdl_kit::NoMemory;
@@ -102,27 +102,27 @@ impl WalkNets {
     }
 
     /// A request of a delayed memory: where its guards are taken it asks for the word, which a variable becomes later.
-    pub(crate) fn delayed_read(
+    pub(crate) fn delayed_read<L: LockModule>(
         &mut self,
         b: &mut Builder,
-        pipe: &FlatPipe,
-        bits: Bits,
+        setting: &Setting<'_, L>,
         guards: &[Guard],
         x: usize,
         m: usize,
         a: usize,
     ) -> Result<(), NoMemory>
-        requires walk { IsWalkOf (form pipe.now) b.old self.old }
-        requires bits { AreBits b.old bits }
-        requires guards { AreGuards (form pipe.now).widths (guards_view guards.now) }
-        requires at { IsLocation (form pipe.now).pipe (form pipe.now).widths m a }
-        ensures walk { OnOk result (IsWalkOf (form pipe.now) b.new self.new) }
+        requires walk { IsWalkOf (form setting.now.pipe.now) b.old self.old }
+        requires bits { AreBits b.old setting.now.bits }
+        requires guards { AreGuards (form setting.now.pipe.now).widths (guards_view guards.now) }
+        requires at { IsLocation (form setting.now.pipe.now).pipe
+            (form setting.now.pipe.now).widths m a }
+        ensures walk { OnOk result (IsWalkOf (form setting.now.pipe.now) b.new self.new) }
         ensures parts { OnOk result (parts_in b.new self.new
             ≡ with_ask m x a (taken_by b.old self.old guards.now) (parts_in b.old self.old)) }
         ensures extends { Extends b.old b.new }
     {
-        let on = self.all_taken(b, pipe, bits, guards)?;
-        let addr = self.variable(b, pipe, a);
+        let on = self.all_taken(b, setting.pipe, setting.bits, guards)?;
+        let addr = self.variable(b, setting.pipe, a);
         self.push_ask(AskNet {
             mem: m,
             var: x,
@@ -184,7 +184,12 @@ impl WalkNets {
     {
         let on = self.all_taken(b, setting.pipe, setting.bits, guards)?;
         let addr = self.variable(b, setting.pipe, a);
-        self.hold(b, setting.pipe, setting.bits, on, m, a, setting.bits.one)?;
+        let held = HeldNet {
+            mem: m,
+            var: a,
+            net: setting.bits.one,
+        };
+        self.hold(b, setting.pipe, setting.bits, on, held)?;
         self.wait(b, setting.pipe, setting.bits, on, room(setting.locks, m))?;
         self.push_reserve(m, on, addr)
     }
@@ -268,7 +273,12 @@ impl WalkNets {
         let on = self.all_taken(b, pipe, bits, guards)?;
         let held = self.is_held(b, bits, m, a);
         let lets = bits.both(b, on, held)?;
-        self.hold(b, pipe, bits, on, m, a, bits.zero)?;
+        let let_go = HeldNet {
+            mem: m,
+            var: a,
+            net: bits.zero,
+        };
+        self.hold(b, pipe, bits, on, let_go)?;
         self.push_letting(m, lets)
     }
 
@@ -330,7 +340,7 @@ impl WalkNets {
             Op::Block { m, a } => self.block(b, setting, guards, *m, *a),
             Op::Release { m, a } => self.release(b, pipe, bits, guards, *m, *a),
             Op::Call(args) => self.call(alloc, b, pipe, bits, guards, args.as_slice()),
-            Op::DelayedRead { x, m, a } => self.delayed_read(b, pipe, bits, guards, *x, *m, *a),
+            Op::DelayedRead { x, m, a } => self.delayed_read(b, setting, guards, *x, *m, *a),
             Op::SpecCall(args) => self.spec_call(alloc, b, pipe, bits, guards, args.as_slice()),
             Op::Verify(args) => self.verify(alloc, b, pipe, bits, guards, args.as_slice()),
             Op::SpecCheck => Ok(()),

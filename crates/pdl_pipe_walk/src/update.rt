@@ -91,31 +91,30 @@ impl WalkNets {
         Ok(())
     }
 
-    /// Where `on` is 1 a location becomes held or not, as a bit says.
+    /// Where `on` is 1 a location becomes held or not, as its bit says.
     pub(crate) fn hold(
         &mut self,
         b: &mut Builder,
         pipe: &FlatPipe,
         bits: Bits,
         on: Net,
-        mem: usize,
-        var: usize,
-        bit: Net,
+        held: HeldNet,
     ) -> Result<(), NoMemory>
         requires walk { IsWalkOf (form pipe.now) b.old self.old }
         requires bits { AreBits b.old bits }
         requires on { IsThere b.old on }
         requires on_one { (signal b.old on).width ≡ 1 }
-        requires there { IsThere b.old bit }
-        requires one { (signal b.old bit).width ≡ 1 }
+        requires there { IsThere b.old held.net }
+        requires one { (signal b.old held.net).width ≡ 1 }
         ensures walk { OnOk result (IsWalkOf (form pipe.now) b.new self.new) }
         ensures parts { OnOk result (parts_in b.new self.new
-            ≡ with_held mem var (signal b.old on) (signal b.old bit) (parts_in b.old self.old)) }
+            ≡ with_held held.mem held.var (signal b.old on) (signal b.old held.net)
+            (parts_in b.old self.old)) }
         ensures extends { Extends b.old b.new }
     {
-        let old = self.is_held(b, bits, mem, var);
-        let net = b.mux(on, bit, old)?;
-        self.push_held(HeldNet { mem, var, net })
+        let old = self.is_held(b, bits, held.mem, held.var);
+        let net = b.mux(on, held.net, old)?;
+        self.push_held(HeldNet { net, ..held })
     }
 
     /// Where `on` is 1 the thread waits until a net is 1.

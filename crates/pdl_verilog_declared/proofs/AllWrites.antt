@@ -2,8 +2,8 @@
 use Rattle.std.proofs.Common.{◌≡◌, ℕ, ◌+◌, true, Some, List, [], ◌∷◌, ◌++◌, append_assoc, append-nil, flat_map, codes, refl, sym, ap, ◌∙◌, subst}
 use Rattle.pdl_net.specs.declared.Array.{Array}
 use Rattle.pdl_net.specs.declared.WritePort.{WritePort}
-use Rattle.pdl_vread_text.specs.declared.rule.Part.{Part}
-use Rattle.pdl_vread_text.specs.declared.rule.Part.TheVariants as part
+use Rattle.pdl_vread_text.specs.declared.part.Part.{Part}
+use Rattle.pdl_vread_text.specs.declared.part.Part.TheVariants as part
 use Rattle.pdl_vread_text.specs.declared.rule.Rule.TheVariants as rule
 use Rattle.pdl_vread_text.specs.declared.file.File.{File}
 use Rattle.pdl_vread_text.specs.declared.file.ArrayBlock.{ArrayBlock}

@@ -1,7 +1,7 @@
 -- The parts from which a kind of line may come.
 use Rattle.std.proofs.Common.{◌≡◌, Some, codes, refl}
-use Rattle.pdl_vread_text.specs.declared.rule.Part.{Part}
-use Rattle.pdl_vread_text.specs.declared.rule.Part.TheVariants as part
+use Rattle.pdl_vread_text.specs.declared.part.Part.{Part}
+use Rattle.pdl_vread_text.specs.declared.part.Part.TheVariants as part
 use Rattle.pdl_vread_text.specs.declared.rule.Rule.TheVariants as rule
 use Rattle.pdl_vread_text.specs.Grammar.{chosen}
 

@@ -3,8 +3,8 @@ use Rattle.std.proofs.Common.{◌≡◌, ℕ, ◌+◌, ◌^◌, ◌<◌, true, L
 use Rattle.std.specs.List.{prefix_len}
 use Rattle.pdl_net.specs.declared.Array.{Array}
 use Rattle.pdl_net.specs.declared.Netlist.{Netlist}
-use Rattle.pdl_vread_text.specs.declared.rule.Part.{Part}
-use Rattle.pdl_vread_text.specs.declared.rule.Part.TheVariants as part
+use Rattle.pdl_vread_text.specs.declared.part.Part.{Part}
+use Rattle.pdl_vread_text.specs.declared.part.Part.TheVariants as part
 use Rattle.pdl_vread_text.specs.declared.rule.Rule.TheVariants as rule
 use Rattle.pdl_vread_text.specs.declared.file.File.{File}
 use Rattle.pdl_vread_text.specs.Tokens.{is_word, piece_at, tokens_from}

@@ -6,7 +6,7 @@ use Rattle.pdl_net.specs.declared.Dir.TheVariants.{In, Out}
 use Rattle.pdl_net.specs.declared.Port.{Port}
 use Rattle.pdl_net.specs.Well.{IsWidth}
 use Rattle.pdl_net.specs.Pipe.{is_input}
-use Rattle.pdl_vread_text.specs.declared.rule.Part.TheVariants as part
+use Rattle.pdl_vread_text.specs.declared.part.Part.TheVariants as part
 use Rattle.pdl_vread_text.specs.declared.rule.Rule.{Rule}
 use Rattle.pdl_vread_text.specs.declared.rule.Rule.TheVariants as rule
 use Rattle.pdl_vread_text.specs.declared.file.File.{File}

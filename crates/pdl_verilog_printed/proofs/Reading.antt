@@ -1,6 +1,6 @@
 -- A text that is read rule by rule, from a part of a file on.
 use Rattle.std.proofs.Common.{◌≡◌, ℕ, List, [], ◌∷◌, ◌++◌, Some, sym, subst}
-use Rattle.pdl_vread_text.specs.declared.rule.Part.{Part}
+use Rattle.pdl_vread_text.specs.declared.part.Part.{Part}
 use Rattle.pdl_vread_text.specs.declared.rule.Rule.{Rule}
 use Rattle.pdl_vread_text.specs.declared.file.File.{File}
 use Rattle.pdl_vread_text.specs.declared.draft.Draft.{Draft}

@@ -6,7 +6,7 @@ use Rattle.std.proofs.lemmas.List.{length-map, take-append-drop}
 use Rattle.std.proofs.lemmas.Slice.Eq.{bytes_eq-Decides}
 use Rattle.pdl_vread_text.specs.declared.field.Field.{Field}
 use Rattle.pdl_vread_text.specs.declared.field.Field.TheVariants as field
-use Rattle.pdl_vread_text.specs.declared.rule.Part.{Part}
+use Rattle.pdl_vread_text.specs.declared.part.Part.{Part}
 use Rattle.pdl_vread_text.specs.declared.rule.Rule.{Rule}
 use Rattle.pdl_vread_text.specs.declared.rule.Rule.TheVariants as rule
 use Rattle.pdl_vread_text.specs.declared.draft.Draft.{Draft}

@@ -2,8 +2,8 @@
 use Rattle.std.proofs.Common.{◌≡◌, ◌≢◌, ℕ, suc, ◌+◌, ◌<◌, Bool, true, false, cond, List, [], ◌∷◌, ◌++◌, length, take, map, get_or, Some, None, Err, refl, sym, ap, ◌∙◌, subst, arith, append_assoc, append-nil, length-append, drop}
 use Rattle.std.proofs.lemmas.List.{take_more, take-append-drop, drop_more, map-append}
 use Rattle.pdl_vread_text.specs.declared.field.Field.{Field}
-use Rattle.pdl_vread_text.specs.declared.rule.Part.{Part}
-use Rattle.pdl_vread_text.specs.declared.rule.Part.TheVariants as p
+use Rattle.pdl_vread_text.specs.declared.part.Part.{Part}
+use Rattle.pdl_vread_text.specs.declared.part.Part.TheVariants as p
 use Rattle.pdl_vread_text.specs.declared.rule.Rule.{Rule}
 use Rattle.pdl_vread_text.specs.declared.draft.Draft.{Draft}
 use Rattle.pdl_vread_text.specs.Tokens.{Token}

@@ -2,8 +2,8 @@
 use Rattle.std.specs.Prelude.{◌≡◌, ℕ, Bool, true, false, cond, List, [], ◌∷◌, ◌++◌, codes, Option, Some, None, is_some, bytes_eq}
 use Rattle.pdl_vread_text.specs.declared.field.Field.{Field}
 use Rattle.pdl_vread_text.specs.declared.field.Field.TheVariants as f
-use Rattle.pdl_vread_text.specs.declared.rule.Part.{Part}
-use Rattle.pdl_vread_text.specs.declared.rule.Part.TheVariants as p
+use Rattle.pdl_vread_text.specs.declared.part.Part.{Part}
+use Rattle.pdl_vread_text.specs.declared.part.Part.TheVariants as p
 use Rattle.pdl_vread_text.specs.declared.rule.Rule.{Rule}
 use Rattle.pdl_vread_text.specs.declared.rule.Rule.TheVariants as r
 use Rattle.pdl_vread_text.specs.Tokens.{Token}

@@ -1,8 +1,8 @@
 -- What the parts of the reader ensure.
 use Rattle.std.specs.Prelude.{◌≡◌, ◌≢◌, ℕ, true, false, List, [], ◌∷◌, ◌++◌, flat_map, Option, Some, None, Result, Ok, Err}
 use Rattle.pdl_vread_text.specs.declared.field.Field.{Field}
-use Rattle.pdl_vread_text.specs.declared.rule.Part.{Part}
-use Rattle.pdl_vread_text.specs.declared.rule.Part.TheVariants.{Start, Finished}
+use Rattle.pdl_vread_text.specs.declared.part.Part.{Part}
+use Rattle.pdl_vread_text.specs.declared.part.Part.TheVariants.{Start, Finished}
 use Rattle.pdl_vread_text.specs.declared.rule.Rule.{Rule}
 use Rattle.pdl_vread_text.specs.declared.draft.Draft.{Draft}
 use Rattle.pdl_vread_text.specs.declared.token.Token as r

@@ -1,7 +1,7 @@
 -- Which texts are files, and which token of any other text is the first out of place.
 use Rattle.std.specs.Prelude.{◌≡◌, ℕ, List, [], ◌∷◌, ◌++◌, Result, Ok, Err}
 use Rattle.pdl_vread_text.specs.declared.file.File.{File}
-use Rattle.pdl_vread_text.specs.declared.rule.Part.TheVariants.{Start}
+use Rattle.pdl_vread_text.specs.declared.part.Part.TheVariants.{Start}
 use Rattle.pdl_vread_text.specs.declared.read.TextError.{TextError}
 use Rattle.pdl_vread_text.specs.declared.read.TextError.TheVariants.{Misplaced, NoMemory}
 use Rattle.pdl_vread_text.specs.Tokens.{Token, tokens, last_line}

@@ -11,6 +11,7 @@ mod found;
 mod lexer;
 mod names;
 mod numbers;
+pub mod part;
 mod piece;
 pub mod read;
 pub mod rule;

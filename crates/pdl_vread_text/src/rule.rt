@@ -1,49 +1,9 @@
-//! The rules of the grammar: what may come where, and what each rule is made of.
+//! The rules of the grammar: what each is made of, and the part after it.
 ghost use Rattle.std.specs.Prelude.{◌≡◌};
 ghost use Rattle.pdl_vread_text.specs.Grammar as spec;
 
 use crate::field::Field;
-
-/// A place in a file, by what may come there.
-#[derive(Clone, Copy)]
-pub enum Part {
-    /// The beginning of a file.
-    Start,
-    /// After the reset or a port.
-    Ports,
-    /// A port, after its comma.
-    Direction,
-    /// The declarations of registers.
-    Regs,
-    /// What a range after `reg` belongs to.
-    Declared,
-    /// The declarations of arrays.
-    Arrays,
-    /// The array that a range after `reg` belongs to.
-    LaterArray,
-    /// The cells.
-    Cells,
-    /// The right side of a cell.
-    Term,
-    /// A term after the operand that begins it.
-    AfterOperand,
-    /// A term after its `{`.
-    Braced,
-    /// The `assign`s of outputs.
-    Outputs,
-    /// The blocks of registers.
-    Blocks,
-    /// What a block drives.
-    Block,
-    /// The blocks of arrays.
-    ArrayBlocks,
-    /// The first write of a block.
-    FirstWrite,
-    /// A block after a write.
-    Writes,
-    /// Nothing more.
-    Finished,
-}
+use crate::part::Part;
 
 /// A rule: a row of tokens that may come at some part, and the part after it.
 #[derive(Clone, Copy)]
@@ -304,121 +264,6 @@ static ARRAY_END: [Field; 1] = [Field::End];
 
 static ENDING: [Field; 1] = [Field::EndModule];
 
-static AT_START: [Rule; 1] = [Rule::Opening];
-
-static AT_PORTS: [Rule; 2] = [Rule::NextPort, Rule::Closing];
-
-static AT_DIRECTION: [Rule; 2] = [Rule::InputPort, Rule::OutputPort];
-
-static AT_REGS: [Rule; 5] = [
-    Rule::RegRange,
-    Rule::CellHead,
-    Rule::OutputDriven,
-    Rule::BlockHead,
-    Rule::Ending,
-];
-
-static AT_DECLARED: [Rule; 2] = [Rule::RegDeclared, Rule::ArrayDeclared];
-
-static AT_ARRAYS: [Rule; 5] = [
-    Rule::ArrayRange,
-    Rule::CellHead,
-    Rule::OutputDriven,
-    Rule::BlockHead,
-    Rule::Ending,
-];
-
-static AT_LATER_ARRAY: [Rule; 1] = [Rule::ArrayDeclared];
-
-static AT_CELLS: [Rule; 4] = [
-    Rule::CellHead,
-    Rule::OutputDriven,
-    Rule::BlockHead,
-    Rule::Ending,
-];
-
-static AT_TERM: [Rule; 5] = [
-    Rule::ConstTerm,
-    Rule::NotTerm,
-    Rule::FirstOperand,
-    Rule::ReadTerm,
-    Rule::OpenTerm,
-];
-
-static AT_AFTER_OPERAND: [Rule; 3] = [Rule::BinTerm, Rule::MuxTerm, Rule::SliceTerm];
-
-static AT_BRACED: [Rule; 2] = [Rule::CatTerm, Rule::RepTerm];
-
-static AT_OUTPUTS: [Rule; 3] = [Rule::OutputDriven, Rule::BlockHead, Rule::Ending];
-
-static AT_BLOCKS: [Rule; 2] = [Rule::BlockHead, Rule::Ending];
-
-static AT_BLOCK: [Rule; 2] = [Rule::RegDriven, Rule::ArrayBegin];
-
-static AT_ARRAY_BLOCKS: [Rule; 2] = [Rule::ArrayHead, Rule::Ending];
-
-static AT_FIRST_WRITE: [Rule; 1] = [Rule::Written];
-
-static AT_WRITES: [Rule; 2] = [Rule::Written, Rule::ArrayEnd];
-
-// The first of the rules whose first token a word may be.
-fn first_with(rules: &[Rule], text: &[u8]) -> Option<Rule>
-    ensures { result ≡ spec.first_with rules.now text.now }
-{
-    for rule in rules {
-        if rule.begins_with(text) {
-            return Some(*rule);
-        }
-    }
-    None
-}
-
-impl Part {
-    /// The rules that may come here.
-    fn rules(self) -> &'static [Rule]
-        ensures { result.now ≡ spec.rules self }
-    {
-        match self {
-            Part::Start => &AT_START,
-            Part::Ports => &AT_PORTS,
-            Part::Direction => &AT_DIRECTION,
-            Part::Regs => &AT_REGS,
-            Part::Declared => &AT_DECLARED,
-            Part::Arrays => &AT_ARRAYS,
-            Part::LaterArray => &AT_LATER_ARRAY,
-            Part::Cells => &AT_CELLS,
-            Part::Term => &AT_TERM,
-            Part::AfterOperand => &AT_AFTER_OPERAND,
-            Part::Braced => &AT_BRACED,
-            Part::Outputs => &AT_OUTPUTS,
-            Part::Blocks => &AT_BLOCKS,
-            Part::Block => &AT_BLOCK,
-            Part::ArrayBlocks => &AT_ARRAY_BLOCKS,
-            Part::FirstWrite => &AT_FIRST_WRITE,
-            Part::Writes => &AT_WRITES,
-            Part::Finished => &[],
-        }
-    }
-
-    /// Whether nothing may come here.
-    pub fn is_finished(self) -> bool
-        ensures { result ≡ spec.is_finished self }
-    {
-        match self {
-            Part::Finished => true,
-            _ => false,
-        }
-    }
-
-    /// The rule that comes here where the next token is this word: the first whose first token it may be.
-    #[tactic(auto, unfolding(crate::specs::Grammar::chosen))]
-    pub fn chosen(self, text: &[u8]) -> Option<Rule>
-        ensures { result ≡ spec.chosen self text.now }
-    {
-        first_with(self.rules(), text)
-    }
-}
-
 impl Rule {
     /// What its tokens have to be.
     pub fn fields(self) -> &'static [Field]
@@ -456,8 +301,8 @@ impl Rule {
         }
     }
 
-    // Whether a word may be its first token.
-    fn begins_with(self, text: &[u8]) -> bool
+    /// Whether a word may be its first token.
+    pub(crate) fn begins_with(self, text: &[u8]) -> bool
         ensures { result ≡ spec.begins_with self text.now }
     {
         match self.fields().first() {

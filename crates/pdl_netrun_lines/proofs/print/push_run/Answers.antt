@@ -14,7 +14,7 @@ returns-in_err-counts-clause-bytes g c =
     let o = g.S.Sink.written c.args.sink.now in
     let a = g.S.Sink.written c.run_cycles.new.sink in
     let sim = c.args.sim.now in
-    let cs = cycles_from sim.netlist sim.held (schedule c.args.delays.now c.args.cycles) in
+    let cs = cycles_from sim.netlist sim.held (schedule c.args.schedule.now.delays.now c.args.schedule.now.cycles) in
     let counts = counts_of cs in
     let front = lines_from 1 (map column_of (commit_mems sim.netlist)) cs in
     let last = end_line (length cs) counts.ended counts.waits counts.squashes in
@@ -27,12 +27,12 @@ returns-clause-bytes g c =
     let a = g.S.Sink.written c.run_cycles.new.sink in
     let b = g.S.Sink.written c.push.new.sink in
     let sim = c.args.sim.now in
-    let cs = cycles_from sim.netlist sim.held (schedule c.args.delays.now c.args.cycles) in
+    let cs = cycles_from sim.netlist sim.held (schedule c.args.schedule.now.delays.now c.args.schedule.now.cycles) in
     let counts = counts_of cs in
     let front = lines_from 1 (map column_of (commit_mems sim.netlist)) cs in
     let same : c.as_bytes.result.now ≡ end_line (length cs) counts.ended counts.waits counts.squashes =
     c.as_bytes.ensures.bytes ∙ c.end_line-line.ensures
-    ∙ ap (λ (k : Counts). end_line c.args.cycles k.ended k.waits k.squashes) c.in_ok-counts.ensures.counts
-    ∙ ap (λ k. end_line k counts.ended counts.waits counts.squashes) (sym (run_length sim.netlist sim.held c.args.delays.now c.args.cycles)) in
+    ∙ ap (λ (k : Counts). end_line c.args.schedule.now.cycles k.ended k.waits k.squashes) c.in_ok-counts.ensures.counts
+    ∙ ap (λ k. end_line k counts.ended counts.waits counts.squashes) (sym (run_length sim.netlist sim.held c.args.schedule.now.delays.now c.args.schedule.now.cycles)) in
     subst (λ l. Passes o b c.push.result (c.args.out.now ++ (front ++ l)) c.push.new.self) same
     (both_on o a b c.args.out.now front c.as_bytes.result.now c.run_cycles.new.out c.push.new.self c.in_ok-counts.ensures.bytes c.push.result c.push.ensures.bytes)

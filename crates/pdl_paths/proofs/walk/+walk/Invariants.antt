@@ -8,5 +8,5 @@ use Rattle.pdl_paths.proofs.walk.+walk.Given as goal
 -- what is there and what is to come are the whole
 abbrev pub invariant-add_stmts-loop-stmt : goal.invariant-add_stmts-loop-stmt
 invariant-add_stmts-loop-stmt l =
-    map masked_view l.places.items ++ map (masked_place l.guards) (statements (map branch_view l.outer) (stmts_view (drop l.stmt-index l.stmts)))
-    ≡ map masked_view l.fn.places.items ++ map (masked_place l.guards) (statements (map branch_view l.outer) (stmts_view l.stmts))
+    map masked_view l.places.items ++ map (masked_place l.guards) (statements (map branch_view l.outer.branches.items) (stmts_view (drop l.stmt-index l.stmts)))
+    ≡ map masked_view l.fn.places.items ++ map (masked_place l.guards) (statements (map branch_view l.outer.branches.items) (stmts_view l.stmts))

@@ -15,8 +15,8 @@ returns c =
     (c.in_ok-add_params.ensures ∙ ap (λ xs. map masked_view c.new-places.result.items ++ map parameter xs) c.as_slice.ensures ∙ ap (λ xs. map masked_view xs ++ map parameter p.params) c.new-places.ensures.items)
     (c.in_ok-add_mems.ensures ∙ ap (λ xs. map masked_view c.add_params.new.places.items ++ map memory xs) c.as_slice-2.ensures)
     (c.in_ok-add_stmts.ensures
-    ∙ ap (λ o. map masked_view c.add_mems.new.places.items ++ map (masked_place gs) (statements (map branch_view o) (stmts_view c.as_slice-4.result.now))) (c.as_slice-3.ensures.value ∙ c.new-outer.ensures.items)
-    ∙ ap (λ b. map masked_view c.add_mems.new.places.items ++ map (masked_place gs) (statements [] (stmts_view b))) c.as_slice-4.ensures)
+    ∙ ap (λ o. map masked_view c.add_mems.new.places.items ++ map (masked_place gs) (statements (map branch_view o) (stmts_view c.as_slice-3.result.now))) c.new-branches.ensures.items
+    ∙ ap (λ b. map masked_view c.add_mems.new.places.items ++ map (masked_place gs) (statements [] (stmts_view b))) c.as_slice-3.ensures)
     (one_more _ _ _ c.in_ok-push.ensures.items)
     (one_more _ _ _ c.in_ok-push-2.ensures.items)
     c.bare.ensures

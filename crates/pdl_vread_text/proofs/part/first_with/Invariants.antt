@@ -1,6 +1,6 @@
 use Rattle.std.proofs.Common.{◌≡◌, drop}
 use Rattle.pdl_vread_text.specs.Grammar as spec
-use Rattle.pdl_vread_text.proofs.rule.first_with.Given as goal
+use Rattle.pdl_vread_text.proofs.part.first_with.Given as goal
 
 -- none of the rules so far
 abbrev pub invariant-loop-rule : goal.invariant-loop-rule
