@@ -26,6 +26,7 @@ small_mod high n h l =
     let b : 2 ^ n ≤ 2 ^ 63 = pow-le-pow_right (omega arith) {i = n} {j = 63} (omega (arith, l)) in
     mod-eq_of_lt (omega (arith, a, b))
 
+-- the word of at most 64 bits is its first bit at its position, plus the word of the bits after it
 pub word_first : (value : ℕ → ℕ) (xs : List ℕ) (high low d : ℕ) → 1 ≤ length xs → length xs ≤ 64 → high ≤ 1 → high ≡ bit_of value (get_or xs 0 d) (rest_of xs) → low ≡ word_of_bits value (rest_of xs)
     → high * 2 ^ length (rest_of xs) % 2 ^ 64 + low ≡ word_of_bits value xs
 word_first value [] high low d h k one e f = absurd (omega (arith, h))
@@ -44,10 +45,12 @@ letter_first t labels place bits (b ∷ bs) (p ∷ ps) c a d o h k e f g =
     ap (λ x. or_zero (argument_value t labels place bits x o)) e ∙ ap (λ x. or_zero (argument_value t labels place bits b x)) f
     ∙ sym (ap (λ x. if x then or_zero (argument_value t labels place bits b p) else letter_value t labels place bits bs ps c) same)
 
+-- a result unwrapped with 0 as its default is its value, or 0 where it is a rule
 pub unwrap_is : (r : Result ℕ Rule) → result_unwrap_or r 0 ≡ or_zero r
 unwrap_is (Ok v) = refl
 unwrap_is (Err rule) = refl
 
+-- the lowest rule that operands break is the lower of the first one's and of that of those after it
 pub rule_first : (t : TableValue) (labels : Labels) (place : ℤ) (bits : List ℕ) (args : List Arg) (os : List Operand) (a d : Arg) (o : Operand) (x y : Option Rule) → 1 ≤ length args → 1 ≤ length os
     → a ≡ get_or args 0 d → o ≡ get_or os 0 o → x ≡ rule_of (argument_value t labels place bits a o) → y ≡ operands_rule t labels place bits (rest_of args) (rest_of os) → lower x y ≡ operands_rule t labels place bits args os
 rule_first t labels place bits [] os a d o x y h k e f g i = absurd (omega (arith, h))

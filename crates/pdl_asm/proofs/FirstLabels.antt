@@ -7,10 +7,10 @@ use Rattle.pdl_asm_table.specs.Tables.{TableValue}
 use Rattle.pdl_asm.specs.declared.line.Line.{Line}
 use Rattle.pdl_asm.specs.Values.{Labels, lower}
 use Rattle.pdl_asm.specs.Assembly.{Placed, defined_by, label_of, label_rule, labels_of, line_rule, operation_rule, with_label, with_line}
-use Rattle.pdl_asm.proofs.Taking.{Taken, none_left}
+use Rattle.pdl_asm.proofs.LineSteps.{Taken, none_left}
 
 -- labels of which the first are these
-abbrev pub BeginsWith : Labels → Labels → Type 0
+abbrev BeginsWith : Labels → Labels → Type 0
 BeginsWith labels first = (more : Labels) × (labels ≡ first ++ more)
 
 grown : (b : Bool) (xs ys : Labels) → BeginsWith (if b then xs else xs ++ ys) xs

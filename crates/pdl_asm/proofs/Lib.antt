@@ -2,8 +2,8 @@ pub mod Bits
 pub mod Examples
 pub mod Operands
 pub mod Steps
-pub mod Taking
-pub mod Trimming
+pub mod LineSteps
+pub mod Blanks
 pub mod WordsFit
 pub mod ReadBack
 pub mod FirstLabels

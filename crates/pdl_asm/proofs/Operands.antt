@@ -13,7 +13,7 @@ abbrev pub joined : List Operand → Option (List Operand) → Option (List Oper
 joined xs (Some ys) = Some (xs ++ ys)
 joined xs None = None
 
-pub joined-cons : (xs : List Operand) (x : Operand) (o : Option (List Operand)) → joined (xs ++ x ∷ []) o ≡ joined xs (with_operand (Some x) o)
+joined-cons : (xs : List Operand) (x : Operand) (o : Option (List Operand)) → joined (xs ++ x ∷ []) o ≡ joined xs (with_operand (Some x) o)
 joined-cons xs x (Some ys) = ap (λ zs. Some zs) (append_assoc xs (x ∷ []) ys)
 joined-cons xs x None = refl
 
@@ -95,5 +95,6 @@ pub commas_at : (xs : List ℕ) (i : ℕ) → position (λ c. eqb c 44) xs ≡ S
     → slice_split (λ c. eqb c 44) xs ≡ take i xs ∷ slice_split (λ c. eqb c 44) (take (length xs - (i + 1)) (drop (i + 1) xs))
 commas_at xs i e = rw take_rest (parts_at (λ c. eqb c 44) xs i e)
 
+-- a text without a comma is its only part
 pub commas_none : (xs : List ℕ) → position (λ c. eqb c 44) xs ≡ None → slice_split (λ c. eqb c 44) xs ≡ xs ∷ []
 commas_none xs e = parts_whole (λ c. eqb c 44) xs e

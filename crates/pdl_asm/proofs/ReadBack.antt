@@ -9,12 +9,12 @@ use Rattle.pdl_word.proofs.Digits.{decimal_digits, are_hex_digits, hex_value}
 use Rattle.pdl_kit.specs.declared.mem_info.MemInfo.{MemInfo}
 use Rattle.pdl_semantics.specs.Lines.{hex_digits}
 use Rattle.pdl_image.specs.Images.{image as image_read, is_name}
-use Rattle.pdl_image.proofs.Written.{Gives, Says, read_back, says}
+use Rattle.pdl_image.proofs.ReadBackImages.{Gives, Says, read_back, says}
 use Rattle.pdl_asm_table.specs.Tables.{IsTable, TableValue}
 use Rattle.pdl_asm.specs.declared.asm_error.AsmError.{AsmError}
 use Rattle.pdl_asm.specs.Assembly.{addresses, first_wrong, image, image_text, image_unless, labels_of, word_line}
 use Rattle.pdl_asm.specs.ReadBack.{IsReadBack, Takes, lines_in, word_in, words_in}
-use Rattle.pdl_asm.proofs.Taking.{addresses_are}
+use Rattle.pdl_asm.proofs.LineSteps.{addresses_are}
 use Rattle.pdl_asm.proofs.WordsFit.{written_fits}
 use Rattle.pdl_word.specs.Digits.{hex}
 
@@ -80,6 +80,7 @@ bytes_are : (t : TableValue) (text bytes : List ℕ) → image t text ≡ Ok byt
 unfolding image word_in
 bytes_are t text bytes e = ok_of (first_wrong t (labels_of (lines_in t text)) [] 1 (lines_in t text)) _ bytes e
 
+-- read back, the image of a text gives a memory that takes it the text's words
 pub reads_back : (t : TableValue) (text bytes : List ℕ) → IsTable t → image t text ≡ Ok bytes → IsReadBack t text bytes
 reads_back t text bytes h e m k =
     subst (λ b. image_read (m ∷ []) b ≡ Ok (words_in t text m.depth ∷ [])) (bytes_are t text bytes e)

@@ -81,6 +81,7 @@ first_fits : (n : ℕ) (a b : Option ℕ) (v : ℕ) → ((w : ℕ) → a ≡ Som
 first_fits n None b v h k e = k v e
 first_fits n (Some w) b v h k e = h v e
 
+-- a word that lines write at an address fits the width of the table's words
 pub written_fits : (t : TableValue) (labels : Labels) (ps : List Placed) (a v : ℕ) → IsTable t → written_word t labels ps a ≡ Some v → v < 2 ^ t.word
 written_fits t labels [] a v h e = cc
 written_fits t labels (p ∷ ps) a v h e =

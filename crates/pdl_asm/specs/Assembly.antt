@@ -59,6 +59,7 @@ label_of (Some l) = l.label
 abbrev pub defined_by : ℕ → Option Line → ℕ
 defined_by before line = if is_some (label_of line) then before + 1 else before
 
+-- the labels with that of a line that has a place
 abbrev pub with_line : Labels → Placed → Labels
 with_line labels p = with_label labels p.place (label_of p.line)
 
@@ -80,6 +81,7 @@ operation_word t labels place (At n) = None
 operation_word t labels place (Word n) = in_word t.word n
 operation_word t labels place (Insn name operands) = insn_word t labels place (value_of t.insns name) operands
 
+-- the word that a line gives at a place
 abbrev pub line_word : TableValue → Labels → ℤ → Option Line → Option ℕ
 line_word t labels place None = None
 line_word t labels place (Some l) = operation_word t labels place l.operation
@@ -111,6 +113,7 @@ free_rule false taken = Some A7
 free_rule true true = Some A8
 free_rule true false = None
 
+-- A7 and A8 of a word at a place, by whether a word was written there before
 abbrev pub place_rule : Bool → ℤ → Option Rule
 place_rule taken place = free_rule (is_address place) taken
 

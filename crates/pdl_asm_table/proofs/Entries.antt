@@ -26,6 +26,7 @@ defined_there es fs x v o h k s =
     let known = ap (λ gs. is_some (value_of gs x)) (sym k) ∙ ap is_some (sym h) ∙ s in
     sym (ap (λ b. if b then fs else fs ++ (x, v) ∷ []) known)
 
+-- a name that has no value yet, inserted with one, is a definition more
 pub defined_new : {T : Type 0} (es fs gs : List (List ℕ × T)) (x : List ℕ) (v : T) (o : Option T) → o ≡ lookup (pointwise nat_eq x) es → es ≡ fs → is_some o ≡ false
     → gs ≡ insert_entry (pointwise nat_eq) es x v → gs ≡ with_definition fs x v
 defined_new es fs gs x v o h k s i =
@@ -90,6 +91,7 @@ and_true true true h = refl
 and_true true false h = cc
 and_true false b h = cc
 
+-- where no instruction breaks B3, each has as many bits as a word
 pub wide_if_none : (word k : ℕ) (es : List (List ℕ × Insn)) → first_broken (breaks_b3 word) k es ≡ None → AreWide word es
 wide_if_none word k [] h = tt
 wide_if_none word k (e ∷ es) h =

@@ -1,5 +1,5 @@
 pub mod Examples
 pub mod Entries
 pub mod Joins
-pub mod Meeting
+pub mod PassedAnswers
 pub mod Members

@@ -82,6 +82,7 @@ insn_of_members ms =
     (text_at (codes "bits") ms)
     else None
 
+-- the instruction that a value is, if it is a table with an instruction's members
 abbrev pub insn_of : Data → Option Named
 insn_of d = option_and_then insn_of_members (as_table d)
 

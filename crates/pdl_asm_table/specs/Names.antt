@@ -10,6 +10,7 @@ keywords =
     ∷ codes "lock" ∷ codes "lts" ∷ codes "pipe" ∷ codes "queue" ∷ codes "release" ∷ codes "rename" ∷ codes "reserve" ∷ codes "sext"
     ∷ codes "spec_barrier" ∷ codes "spec_call" ∷ codes "spec_check" ∷ codes "start" ∷ codes "uint" ∷ codes "verify" ∷ codes "zext" ∷ []
 
+-- a name is one of these keywords
 abbrev pub is_keyword : List ℕ → Bool
 is_keyword name = list_any (λ k. bytes_eq name k) keywords
 

@@ -38,6 +38,7 @@ Named = List ℕ × Insn
 abbrev pub is_bit : ℕ → Bool
 is_bit c = c == 48 || (c == 49 || is_letter c)
 
+-- an instruction breaks B3 in a table with words of this width
 abbrev pub breaks_b3 : ℕ → Insn → Bool
 breaks_b3 word i = not (list_all is_bit i.bits && length i.bits == word)
 

@@ -10,6 +10,7 @@ use Rattle.pdl_net.specs.Well.{AllFit, IsWell}
 use Rattle.pdl_net.specs.Growth.{Grows}
 use Rattle.pdl_net.proofs.Signals.{signals_from_front, look_front, cell_signal_same}
 
+-- a circuit is itself with nothing added
 pub same_grows : (c : Circuit) → Grows c c
 same_grows c = record {
   inputs = λ i h. (h, refl);
@@ -45,6 +46,7 @@ signal_at c (x ∷ gs) done (suc k) g d fit l e =
     let n : length done + suc k ≡ length (done ++ f ∷ []) + k = omega (arith, length-append done (f ∷ [])) in
     ap (λ i. get_or (signals_from c (x ∷ gs) done) i no_signal) n ∙ signal_at c gs (done ++ f ∷ []) k g d fit.1 (omega (arith, l)) e
 
+-- the net of a cell that is there means the signal of an equal cell
 pub means_equal : (c : Circuit) (k : ℕ) (g d : Cell) → IsWell c → k < length c.cells → get_or c.cells k d ≡ g → Means c (CellNet k) (cell_signal c (signal c) g)
 unfolding IsThere signal signals
 means_equal c k g d w l e =

@@ -12,6 +12,7 @@ use Rattle.pdl_build.specs.Operators.{zext_signal, sext_signal, raised_signal}
 
 -- WIDTHS
 
+-- with zeros above it up to n bits, a signal of at most n bits has n bits
 pub zext_width : (n : ℕ) (a : Signal) → a.width ≤ n → (zext_signal n a).width ≡ n
 unfolding zext_signal
 zext_width n a h = elim (eqb_tells n a.width) [
@@ -23,6 +24,7 @@ zext_width n a h = elim (eqb_tells n a.width) [
 one_bit : (w : ℕ) → w - 1 + 1 - (w - 1) ≡ 1
 one_bit w = omega arith
 
+-- with copies of its top bit above it up to n bits, a signal of at most n bits has n bits
 pub sext_width : (n : ℕ) (a : Signal) → a.width ≤ n → (sext_signal n a).width ≡ n
 unfolding sext_signal
 sext_width n a h = elim (eqb_tells n a.width) [
@@ -36,6 +38,7 @@ zeros_above : (v a : ℕ) → cat v 0 a ≡ zext a
 unfolding cat zext
 zeros_above v a = omega arith
 
+-- zeros above a signal give its word extended by zeros
 pub zext_value : (n : ℕ) (a : Signal) (s : State) → (zext_signal n a).value s ≡ zext (a.value s)
 unfolding zext_signal zext cat_value const_value
 zext_value n a s = elim (eqb_tells n a.width) [
@@ -88,6 +91,7 @@ copied_high w n a l h k f =
     let q : (rep 1 (n - w) 1 + 1) * 2 ^ w ≡ 2 ^ n = ap (λ x. x * 2 ^ w) c ∙ sym p in
     rw (top_of_high w a l k f, sext_high w n a l h k f) (omega (arith, q))
 
+-- copies of the top bit above a signal that fits its width give its word extended by its sign
 pub sext_value : (n : ℕ) (a : Signal) (s : State) → 1 ≤ a.width → a.width ≤ n → a.value s < 2 ^ a.width → (sext_signal n a).value s ≡ sext a.width n (a.value s)
 unfolding sext_signal cat_value rep_value slice_value
 sext_value n a s l h f = elim (eqb_tells n a.width) [
@@ -100,6 +104,7 @@ sext_value n a s l h f = elim (eqb_tells n a.width) [
 
 -- HALF OF THE RANGE ADDED
 
+-- a signal with half of its range added is as wide as before
 pub raised_width : (a : Signal) → (raised_signal a).width ≡ a.width
 unfolding raised_signal
 raised_width a = refl

@@ -14,7 +14,7 @@ use Rattle.pdl_net.specs.Signal.{Value, const_value, not_value, bin_word, bin_va
 use Rattle.pdl_net.specs.Meaning.{IsThere, cell_signal, signal}
 use Rattle.pdl_net.specs.Well.{Fits, IsWell}
 use Rattle.pdl_net.proofs.Bounds.{bounded, cell_bounded}
-use Rattle.pdl_build.specs.Folded.{is_const, cell_in, is_constant, is_foldable, AreFolded}
+use Rattle.pdl_build.specs.FoldedCells.{is_const, cell_in, is_constant, is_foldable, AreFolded}
 use Rattle.pdl_build.proofs.Widths.{nothing, nothing_suits}
 
 -- ONE CELL MORE
@@ -29,10 +29,12 @@ constant_still cells g (Input i) e = refl
 constant_still cells g (RegNet r) e = refl
 constant_still cells g (CellNet k) e = constant_at cells g k e
 
+-- a conjunction is false where its first part is
 pub and_left : (a b : Bool) → a ≡ false → (a && b) ≡ false
 and_left true b e = absurd (cc)
 and_left false b e = refl
 
+-- a conjunction is false where its second part is
 pub and_right : (a b : Bool) → b ≡ false → (a && b) ≡ false
 and_right true b e = e
 and_right false b e = refl
@@ -51,6 +53,7 @@ foldable_still cells g (Cat a b) e = and_still _ _ _ _ (constant_still cells g a
 foldable_still cells g (Rep k a) e = constant_still cells g a e
 foldable_still cells g (Read m a) e = refl
 
+-- among cells of which none could be a constant, there is none with one more that couldn't be
 pub folded_pushed : (cells : List Cell) (g : Cell) → AreFolded cells → is_foldable cells g ≡ false → AreFolded (cells ++ g ∷ [])
 folded_pushed cells g f e =
     let P : Cell → Type 0 = λ h. is_foldable (cells ++ g ∷ []) h ≡ false in
@@ -63,26 +66,32 @@ folded_pushed cells g f e =
 
 -- VALUES OF CONSTANTS
 
+-- the complement of a constant is the constant of its word's complement
 pub not_of : (w x : ℕ) (f : Value) → f ≡ const_value x → not_value w f ≡ const_value (complement w x)
 unfolding not_value const_value
 not_of w x f e = ap (not_value w) e
 
+-- an operator on two constants gives the constant that it makes of their words
 pub bin_of : (op : BinOp) (w x y : ℕ) (f g : Value) → f ≡ const_value x → g ≡ const_value y → bin_value op w f g ≡ const_value (bin_word op w x y)
 unfolding bin_value const_value
 bin_of op w x y f g e h = ap (λ u. bin_value op w u g) e ∙ ap (bin_value op w (const_value x)) h
 
+-- a choice between constants by a constant is the constant that it chooses
 pub mux_of : (c x y : ℕ) (t f g : Value) → t ≡ const_value c → f ≡ const_value x → g ≡ const_value y → mux_value t f g ≡ const_value (mux c x y)
 unfolding mux_value const_value
 mux_of c x y t f g d e h = ap (λ u. mux_value u f g) d ∙ ap (λ u. mux_value (const_value c) u g) e ∙ ap (mux_value (const_value c) (const_value x)) h
 
+-- a slice of a constant is the constant of its word's slice
 pub slice_of : (high low x : ℕ) (f : Value) → f ≡ const_value x → slice_value high low f ≡ const_value (slice high low x)
 unfolding slice_value const_value
 slice_of high low x f e = ap (slice_value high low) e
 
+-- two constants joined are the constant of their words joined
 pub cat_of : (v x y : ℕ) (f g : Value) → f ≡ const_value x → g ≡ const_value y → cat_value v f g ≡ const_value (cat v x y)
 unfolding cat_value const_value
 cat_of v x y f g e h = ap (λ u. cat_value v u g) e ∙ ap (cat_value v (const_value x)) h
 
+-- copies of a constant are the constant of its word's copies
 pub rep_of : (u k x : ℕ) (f : Value) → f ≡ const_value x → rep_value u k f ≡ const_value (rep u k x)
 unfolding rep_value const_value
 rep_of u k x f e = ap (rep_value u k) e

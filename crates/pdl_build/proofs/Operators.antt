@@ -14,6 +14,7 @@ use Rattle.pdl_word.proofs.Numbers.{as_wide}
 
 -- WIDTHS
 
+-- an operator's cell has the width that the language gives its result
 pub op_widths : (op : BinaryOp) (w : ℕ) → bin_width (op_of op) w ≡ op_width op w
 op_widths Add w = refl
 op_widths Sub w = refl
@@ -29,6 +30,7 @@ op_widths ShiftRight w = refl
 
 -- BOUNDS
 
+-- an operator's signal has 1 to 64 bits and fits them where both operands do, which are equally wide
 pub op_bounded : (s : State) (op : BinaryOp) (a b : Signal) → a.width ≡ b.width → IsBounded s a → IsBounded s b → IsBounded s (bin_signal (op_of op) a b)
 unfolding bin_value
 op_bounded s Add a b e p q = record { low = p.low; high = p.high; fits = add_below a.width (a.value s) (b.value s) }
@@ -49,6 +51,7 @@ bounded_at s f n e l h v = record { low = omega (arith, e); high = omega (arith,
 
 -- VALUES
 
+-- an operator's cell makes of two words what the language's operator does
 pub op_value : (op : BinaryOp) (w a b : ℕ) → bin_word (op_of op) w a b ≡ operator_value op w a b
 op_value Add w a b = refl
 op_value Sub w a b = refl

@@ -46,24 +46,31 @@ cell_width : (c : Circuit) (ins : List ℕ) (ns : List Extent) (k : ℕ) → Hav
 unfolding IsThere
 cell_width c ins ns k h t = (h.cells k t).width
 
+-- the number of an input that is there is below the count of the widths that are kept
 pub input_in : (c v : Circuit) (ins : List ℕ) (ns : List Extent) (x : Net) (i : ℕ) → HaveExtents c ins ns → c ≡ v → x ≡ Input i → IsThere v x → i < length ins
 input_in c v ins ns x i h e f t = input_below c ins ns i h (there_as c v x (Input i) e f t)
 
+-- the number of a register whose net is there is below the count of registers
 pub reg_in : (c v : Circuit) (x : Net) (r : ℕ) → c ≡ v → x ≡ RegNet r → IsThere v x → r < length c.regs
 reg_in c v x r e f t = there_reg c r (there_as c v x (RegNet r) e f t)
 
+-- the number of a cell that is there is below the count of cells of which something is kept
 pub cell_in : (c v : Circuit) (ins : List ℕ) (ns : List Extent) (x : Net) (k : ℕ) → HaveExtents c ins ns → c ≡ v → x ≡ CellNet k → IsThere v x → k < length ns
 cell_in c v ins ns x k h e f t = cell_placed c ins ns k h (there_as c v x (CellNet k) e f t)
 
+-- the width that is kept of an input is that of its net
 pub input_is : (c v : Circuit) (ins : List ℕ) (ns : List Extent) (x : Net) (i : ℕ) → HaveExtents c ins ns → c ≡ v → x ≡ Input i → get_or ins i 0 ≡ (signal v x).width
 input_is c v ins ns x i h e f = input_width c ins ns i h ∙ width_as c v x (Input i) e f
 
+-- the width of a register is that of its net
 pub reg_is : (c v : Circuit) (x : Net) (r : ℕ) → c ≡ v → x ≡ RegNet r → (reg_at c r).width ≡ (signal v x).width
 reg_is c v x r e f = reg_width c r ∙ width_as c v x (RegNet r) e f
 
+-- the width that is kept of a cell is that of its net
 pub cell_is : (c v : Circuit) (ins : List ℕ) (ns : List Extent) (x : Net) (k : ℕ) → HaveExtents c ins ns → c ≡ v → x ≡ CellNet k → IsThere v x → (extent_in ns k).width ≡ (signal v x).width
 cell_is c v ins ns x k h e f t = cell_width c ins ns k h (there_as c v x (CellNet k) e f t) ∙ width_as c v x (CellNet k) e f
 
+-- a cell of which it is kept that it is below is below
 pub cell_below : (c v : Circuit) (ins : List ℕ) (ns : List Extent) (x : Net) (k : ℕ) → HaveExtents c ins ns → c ≡ v → x ≡ CellNet k → IsThere v x → (extent_in ns k).is_below ≡ true → IsBelow (signal v x)
 unfolding IsThere
 cell_below c v ins ns x k h e f t b =
@@ -77,6 +84,7 @@ nothing c = record { inputs = map (λ (w : ℕ). zero) (inputs_of c); regs = map
 zero_fits : (v w : ℕ) → v ≡ 0 → v < 2 ^ w
 zero_fits v w e = omega (arith, e, pow_pos w)
 
+-- the state in which all is 0 suits a circuit
 pub nothing_suits : (c : Circuit) → Suits c (nothing c)
 nothing_suits c =
     let at = λ (m : ℕ) (h : m < length c.arrays). get_or-map (λ (a : Array). replicate a.depth 0) c.arrays m no_array [] h in
@@ -94,6 +102,7 @@ nothing_suits c =
 pub wide : (c : Circuit) → IsWell c → (x : Net) → IsThere c x → IsWidth (signal c x).width
 wide c w x t = let b = bounded c (nothing c) w (nothing_suits c) x t in record { low = b.low; high = b.high }
 
+-- a slice that fits a well formed circuit has fewer than 256 bits
 pub slice_fits : (c v : Circuit) (g : Cell) (a : Net) (high low : ℕ) → IsWell c → c ≡ v → g ≡ Slice a high low → Fits v g → high - low + 1 < 256
 slice_fits c v g a high low w e f t =
     let r : Fits c (Slice a high low) = subst (λ y. Fits c y) f (subst (λ d. Fits d g) (sym e) t) in

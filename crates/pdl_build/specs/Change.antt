@@ -13,15 +13,19 @@ use Rattle.pdl_net.specs.Signal.{reg_signal}
 use Rattle.pdl_net.specs.Meaning.{IsThere, signal, next_signal, write_signals}
 use Rattle.pdl_net.specs.Growth.{Own}
 
+-- the circuit in which nothing is
 abbrev pub empty_circuit : Circuit
 empty_circuit = record { ports = []; regs = []; arrays = []; cells = [] }
 
+-- the circuit with a cell more
 abbrev pub with_cell : Circuit → Cell → Circuit
 with_cell c g = record c { cells = c.cells ++ g ∷ [] }
 
+-- the circuit with a port more
 abbrev pub with_port : Circuit → Port → Circuit
 with_port c p = record c { ports = c.ports ++ p ∷ [] }
 
+-- an input with this name and width
 abbrev pub input_port : List ℕ → ℕ → Port
 input_port n w = record { name = n; width = w; dir = In }
 
@@ -33,15 +37,19 @@ output_port c n x = record { name = n; width = (signal c x).width; dir = Out x }
 abbrev pub new_reg : Circuit → ℕ → ℕ → Reg
 new_reg c w v = record { width = w; reset = v; next = RegNet (length c.regs) }
 
+-- the circuit with a register more, of this width and reset value
 abbrev pub with_reg : Circuit → ℕ → ℕ → Circuit
 with_reg c w v = record c { regs = c.regs ++ new_reg c w v ∷ [] }
 
+-- the register of this number, which takes the net next
 abbrev pub next_reg : Circuit → ℕ → Net → Reg
 next_reg c r x = record (reg_at c r) { next = x }
 
+-- the circuit in which the register of this number takes the net next
 abbrev pub with_next : Circuit → ℕ → Net → Circuit
 with_next c r x = record c { regs = slice_set c.regs r (next_reg c r x) }
 
+-- the shape of an array with this name, width and depth
 abbrev pub new_shape : List ℕ → ℕ → ℕ → Shape
 new_shape n w d = record { name = n; width = w; depth = d }
 
@@ -49,15 +57,19 @@ new_shape n w d = record { name = n; width = w; depth = d }
 abbrev pub new_array : List ℕ → ℕ → ℕ → Array
 new_array n w d = record { name = n; width = w; depth = d; writes = [] }
 
+-- the circuit with an array more, which nothing writes
 abbrev pub with_array : Circuit → List ℕ → ℕ → ℕ → Circuit
 with_array c n w d = record c { arrays = c.arrays ++ new_array n w d ∷ [] }
 
+-- the array of this number with a write port more
 abbrev pub written_array : Circuit → ℕ → WritePort → Array
 written_array c m p = record (array_at c m) { writes = (array_at c m).writes ++ p ∷ [] }
 
+-- the circuit in which the array of this number has a write port more
 abbrev pub with_write : Circuit → ℕ → WritePort → Circuit
 with_write c m p = record c { arrays = slice_set c.arrays m (written_array c m p) }
 
+-- the write port of these nets for enable, address and value
 abbrev pub write_port : Net → Net → Net → WritePort
 write_port e a v = record { enable = e; addr = a; value = v }
 
@@ -65,6 +77,7 @@ write_port e a v = record { enable = e; addr = a; value = v }
 abbrev pub one_reg : ℕ → Own
 one_reg r = record { from = r; to = r + 1; first = 0; last = 0 }
 
+-- a fragment's one array, without registers
 abbrev pub one_array : ℕ → Own
 one_array m = record { from = 0; to = 0; first = m; last = m + 1 }
 

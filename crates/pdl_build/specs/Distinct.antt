@@ -4,6 +4,7 @@ use Rattle.std.specs.HashMap.{get}
 use Rattle.pdl_net.specs.declared.Cell.{Cell}
 use Rattle.pdl_build.specs.declared.distinct.DistinctCells.TheInside.{Inside}
 
+-- the cells, each at its number
 abbrev pub cells_of : Inside → List Cell
 cells_of b = b.cells.items
 

@@ -2,5 +2,5 @@ pub mod Parts
 pub mod Change
 pub mod Operators
 pub mod Distinct
-pub mod Folded
+pub mod FoldedCells
 pub mod Rules

@@ -5,11 +5,12 @@ use Rattle.pdl_net.specs.Circuit.{Circuit, inputs_of}
 use Rattle.pdl_net.specs.Signal.{Signal}
 use Rattle.pdl_net.specs.Meaning.{signal}
 use Rattle.pdl_net.specs.Well.{IsWell}
-use Rattle.pdl_build.specs.Folded.{AreFolded}
+use Rattle.pdl_build.specs.FoldedCells.{AreFolded}
 use Rattle.pdl_build.specs.Rules.{IsBelow}
 use Rattle.pdl_build.specs.declared.Extent.{Extent}
 use Rattle.pdl_build.specs.declared.Builder.TheInside.{Inside}
 
+-- the circuit of a builder's ports, registers, arrays and cells
 abbrev pub circuit_of_parts : Inside → Circuit
 circuit_of_parts b = record { ports = b.ports.items; regs = b.regs.items; arrays = b.arrays.items; cells = b.cells }
 
@@ -18,9 +19,11 @@ pub record IsExtent (f : Signal) (n : Extent) : Type 0 where
   pub width : n.width ≡ f.width
   pub below : n.is_below ≡ true → IsBelow f
 
+-- what is known where there is no cell: no bits, and nothing of its value
 abbrev pub no_cell : Extent
 no_cell = record { width = 0; is_below = false }
 
+-- what is known of the cell of this number
 abbrev pub extent_in : List Extent → ℕ → Extent
 extent_in ns k = slice_index_or ns k no_cell
 

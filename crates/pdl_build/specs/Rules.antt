@@ -12,7 +12,7 @@ use Rattle.pdl_build.specs.declared.rules.Rule.{Rule}
 use Rattle.pdl_build.specs.declared.rules.Rule.TheVariants.{First, Second, Complement, Number, Itself}
 use Rattle.pdl_build.specs.declared.simplify.Simple.{Simple}
 use Rattle.pdl_build.specs.declared.simplify.Simple.TheVariants.{Net as OfNet, Cell as OfCell}
-use Rattle.pdl_build.specs.Folded.{is_foldable}
+use Rattle.pdl_build.specs.FoldedCells.{is_foldable}
 
 -- what an operator makes of words x and y is what the rule says
 abbrev pub Gives : Rule → BinOp → ℕ → ℕ → ℕ → Type 0

@@ -6,7 +6,7 @@ ghost use Rattle.pdl_net.specs.Meaning.{IsThere, Means, signal, cell_signal};
 ghost use Rattle.pdl_net.specs.Well.{Fits};
 ghost use Rattle.pdl_net.specs.Growth.{Extends};
 ghost use Rattle.pdl_build.specs.Change.{with_cell};
-ghost use Rattle.pdl_build.specs.Folded.{is_foldable};
+ghost use Rattle.pdl_build.specs.FoldedCells.{is_foldable};
 
 use crate::simplify::Simple;
 use crate::{Builder, Extent};

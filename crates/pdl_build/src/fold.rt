@@ -3,7 +3,7 @@ ghost use Rattle.std.specs.Prelude.{◌≡◌, ◌+◌, ◌*◌, ◌≤◌, ◌<
 ghost use Rattle.pdl_net.specs.Signal.{bin_word};
 ghost use Rattle.pdl_net.specs.Meaning.{IsThere, signal, cell_signal};
 ghost use Rattle.pdl_net.specs.Well.{Fits};
-ghost use Rattle.pdl_build.specs.Folded.{is_foldable};
+ghost use Rattle.pdl_build.specs.FoldedCells.{is_foldable};
 ghost use Rattle.pdl_build.specs.Rules.{FoldsTo};
 
 use crate::Builder;

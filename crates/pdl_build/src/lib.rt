@@ -17,7 +17,7 @@ ghost use Rattle.pdl_net.specs.Signal.{input_signal, bin_width as op_width};
 ghost use Rattle.pdl_net.specs.Meaning.{IsThere, Means, signal, cell_signal, next_signal, write_signal, write_signals};
 ghost use Rattle.pdl_net.specs.Well.{Fits, IsWell, IsDepth};
 ghost use Rattle.pdl_net.specs.Growth.{Extends, ExtendsBut, ExtendsPorts, ExtendsArrays};
-ghost use Rattle.pdl_build.specs.Folded.{AreFolded};
+ghost use Rattle.pdl_build.specs.FoldedCells.{AreFolded};
 ghost use Rattle.pdl_build.specs.Change.{empty_circuit, with_port, input_port, output_port, with_reg, with_next, new_shape, with_array, with_write, write_port, one_reg, one_array, IsNewReg, IsNewArray};
 
 use distinct::DistinctCells;

@@ -4,7 +4,7 @@ ghost use Rattle.pdl_net.specs.Circuit.{State};
 ghost use Rattle.pdl_net.specs.Signal.{const_value, not_signal, bin_signal, mux_signal, slice_signal};
 ghost use Rattle.pdl_net.specs.Meaning.{IsThere, Means, signal, cell_signal};
 ghost use Rattle.pdl_net.specs.Well.{Fits};
-ghost use Rattle.pdl_build.specs.Folded.{is_const, is_constant};
+ghost use Rattle.pdl_build.specs.FoldedCells.{is_const, is_constant};
 ghost use Rattle.pdl_build.specs.Rules.{Gives, StandsFor, IsBelow, is_cut as cut};
 
 use crate::rules::{Rule, after_constant, on_constant, on_one_word};

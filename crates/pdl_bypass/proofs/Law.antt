@@ -16,13 +16,14 @@ use Rattle.pdl_lock_ring.specs.declared.layout.Layout.{Layout}
 use Rattle.pdl_lock_ring.specs.Slots.{IsSized, Stands, HasEntries, content_signal}
 use Rattle.pdl_lock_ring.specs.Looks.{youngest_look, youngest_ready, youngest_value}
 use Rattle.pdl_lock_ring.proofs.Seeking.{Seeks, seeks_covered, seeks_late}
-use Rattle.pdl_lock_ring.proofs.Looked.{youngest_looked, value_looked, all_older, same_signal}
+use Rattle.pdl_lock_ring.proofs.LookValues.{youngest_looked, value_looked, all_older, same_signal}
 use Rattle.pdl_bypass.specs.Bypasses.{word_signal}
 
 -- the image of a queue is that of a bypass lock, and so are the registers of its slots
 pub start_law : (stands : State → LockState → Type 0) (c : Circuit) (r : LockRegs) → StartLaw stands Queue c r → StartLaw stands Bypass c r
 start_law stands c r h = record { starts = h.starts }
 
+-- slots that keep the laws of a queue lock's slots keep those of a bypass lock's
 pub slots_law : (stands : State → LockState → Type 0) (n : ℕ) (r : LockRegs) → SlotsLaw stands Queue n r → SlotsLaw stands Bypass n r
 slots_law stands n r h = record {
   regs = record { count = h.regs.count; least = h.regs.least; within = h.regs.within };
@@ -53,6 +54,7 @@ ready_is : (u : Kind) (x : LockState) (t a : ℕ) → ready_of u (older x t) a �
 ready_is R x t a = refl
 ready_is W x t a = refl
 
+-- a look at the youngest older write to the address keeps the law of a bypass lock's look
 pub look_law : (l : Layout) (u : Kind) (a t : Signal) → IsSized l → is_some l.array ≡ true → t.width ≡ l.ticket
     → LookLaw (Stands l) Bypass l.ticket u a t (youngest_look u (youngest_ready l a t)) (Some (youngest_value l (content_signal l) (word_signal l a) a t))
 look_law l u a t z i w = record {
@@ -62,6 +64,7 @@ look_law l u a t z i w = record {
       ∙ value_looked l (content_signal l) s x a t (n - x.base) z h.entries (seeks_covered l (content_signal l) s x t n z h.entries w k e) (word_signal l a) (word_is l a s x.words i h.words) ready;
 }
 
+-- such a look keeps the law of a look with the ticket of a cycle's second reservation
 pub late_law : (l : Layout) (u : Kind) (a t : Signal) → IsSized l → is_some l.array ≡ true → t.width ≡ l.ticket
     → LateLookLaw (Stands l) Bypass l.size l.ticket u a t (youngest_look u (youngest_ready l a t)) (Some (youngest_value l (content_signal l) (word_signal l a) a t))
 late_law l u a t z i w = record {

@@ -1,3 +1,3 @@
-pub mod Sized
-pub mod Judged
+pub mod MemorySizes
+pub mod CheckAnswers
 pub mod Parts

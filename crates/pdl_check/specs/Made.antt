@@ -5,7 +5,7 @@ use Rattle.pdl_semantics.specs.Flatten.{flat}
 use Rattle.pdl_rules.specs.Memories.{infos_of}
 use Rattle.pdl_rules.specs.Places.{places}
 use Rattle.pdl_form.specs.Form.{form_of}
-use Rattle.pdl_form.specs.Whole.{form}
+use Rattle.pdl_form.specs.FormView.{form}
 use Rattle.pdl_stages.specs.Graph.{graph_of}
 use Rattle.pdl_check.specs.declared.check.Made.{Made}
 

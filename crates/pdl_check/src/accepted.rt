@@ -8,7 +8,7 @@ ghost use Rattle.pdl_locks.specs.Plan.{plan_of};
 ghost use Rattle.pdl_semantics.specs.Flatten.{flat as flat_of};
 ghost use Rattle.pdl_semantics.specs.Stages.{depth as depth_of};
 ghost use Rattle.pdl_form.specs.Form.{form_of};
-ghost use Rattle.pdl_form.specs.Whole.{form};
+ghost use Rattle.pdl_form.specs.FormView.{form};
 ghost use Rattle.pdl_form_types.specs.Same.{same_form};
 ghost use Rattle.pdl_stages.specs.Graph.{graph_of};
 ghost use Rattle.pdl_source_paths.specs.Source.{is_source, is_named};

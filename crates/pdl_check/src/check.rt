@@ -7,7 +7,7 @@ ghost use Rattle.pdl_syntax_tree.specs.View.{pipe_view};
 ghost use Rattle.pdl_rules.specs.Places.{places as places_of};
 ghost use Rattle.pdl_rules.specs.Refusal.{refusal, first_broken, limits, after_limits};
 ghost use Rattle.pdl_rules_judge.specs.Known.{AreFindings};
-ghost use Rattle.pdl_form.specs.Whole.{form};
+ghost use Rattle.pdl_form.specs.FormView.{form};
 ghost use Rattle.pdl_stages.specs.Graph.{graph_of};
 ghost use Rattle.pdl_source_paths.specs.Source.{is_source, is_named};
 ghost use Rattle.pdl_check.specs.Made.{IsMadeOf};
@@ -27,7 +27,7 @@ use pdl_types::TypedPipe;
 use std::alloc::Global;
 
 /// Checks a source of at most 268,435,456 bytes. A text that is no pipe is refused at its first token out of place (G1). That of a pipe is asked all rules: it is accepted where it breaks none, and else refused by the lowest rule that it breaks, at the line of that rule's lowest place.
-#[tactic(auto, using(crate::proofs::Judged::checked_found, crate::proofs::Judged::checked_kept, crate::proofs::Judged::checked_only, crate::proofs::Judged::checked_exact, crate::proofs::Judged::checked_refused))]
+#[tactic(auto, using(crate::proofs::CheckAnswers::checked_found, crate::proofs::CheckAnswers::checked_kept, crate::proofs::CheckAnswers::checked_only, crate::proofs::CheckAnswers::checked_exact, crate::proofs::CheckAnswers::checked_refused))]
 pub fn check(alloc: Global, source: &[u8]) -> Result<Accepted, Refusal>
     requires { length source.now ≤ 268435456 }
     // What is accepted is the pipe of the text, and breaks no rule.

@@ -9,7 +9,7 @@ use pdl_syntax_tree::tree::Pipe;
 use std::alloc::Global;
 
 /// The pipe of a source that isn't too long. A token out of place (G1) is told before the length (Z1).
-#[tactic(auto, using(crate::proofs::Judged::read_pipe, crate::proofs::Judged::read_misplaced))]
+#[tactic(auto, using(crate::proofs::CheckAnswers::read_pipe, crate::proofs::CheckAnswers::read_misplaced))]
 pub fn read(alloc: Global, source: &[u8]) -> Result<Pipe, Refusal>
     requires { length source.now ≤ 268435456 }
     ensures { IsRead source.now result }

@@ -1,5 +1,5 @@
 pub mod OneNetlist
-pub mod Decided
+pub mod ExitStatus
 pub mod Refusals
 pub mod SameRun
-pub mod Lined
+pub mod CycleLimits

@@ -28,7 +28,7 @@ use Rattle.pdl_cli_commands.specs.Replies.{DelaysRefused}
 use Rattle.pdl_cli_commands.specs.Simulated.{IsWrongNetlist, IsWrongStart, IsWrongReplies, IsWrongSim}
 use Rattle.pdl_cli_commands.specs.Commands.{SourceRefused, IsWrongSource, IsWrongImage, IsWrong, IsWrongDelays, IsWrongRun, IsWrongFor}
 use Rattle.pdl_cli.proofs.OneNetlist.{one_netlist_refusal}
-use Rattle.pdl_cli.proofs.Decided.{one_text, source_right, none_wrong, one_table, table_right, one_held, netlist_right, start_right}
+use Rattle.pdl_cli.proofs.ExitStatus.{one_text, source_right, none_wrong, one_table, table_right, one_held, netlist_right, start_right}
 use Rattle.pdl_rules.specs.Memories.{infos_of}
 
 -- a refusal of a source, an image, a table or a text is one
@@ -153,6 +153,7 @@ wrong_asm held table program r s (Insn n) (Line m) (inl v) (inr w) = absurd (tab
 wrong_asm held table program r s (Insn n) (Insn m) (inl v) (inl w) = let h = wrong_table held table r s n m v w in (h.0, ap Insn h.1)
 wrong_asm held table program r s (Insn n) (Insn m) (inl v) (inr w) = absurd w
 
+-- a command over told files is refused by one rule at most, at one position
 pub one_refusal : (held : Held) (command : Command) (r s : Rule) (p q : Position) → IsWrongFor (Some held) command r p → IsWrongFor (Some held) command s q → (r ≡ s) × (p ≡ q)
 one_refusal held (check source) r s (Insn n) q v w = absurd v
 one_refusal held (check source) r s (Line n) (Insn m) v w = absurd w

@@ -13,14 +13,14 @@ use Rattle.pdl_syntax_grammar.proofs.Places.{one_tree}
 use Rattle.pdl_net.specs.declared.Netlist.{Netlist}
 use Rattle.pdl_net.specs.Run.{delayed_mems}
 use Rattle.pdl_law_parts.specs.Places.{delayed_count}
-use Rattle.pdl_law_sides.specs.Whole.{in_order}
+use Rattle.pdl_law_sides.specs.WholeNetlist.{in_order}
 use Rattle.pdl_law_follows.specs.Memories.{replies_in, taken_in_order}
 use Rattle.pdl_image.specs.Lines as image_lines
 use Rattle.pdl_image.specs.Images.{IsImage, image, after_header, first_wrong}
 use Rattle.pdl_image.specs.Slots.{all_slots}
 use Rattle.pdl_image.specs.declared.file_error.FileError.{FileError}
 use Rattle.pdl_image.specs.declared.file_error.FileError.TheVariants as file
-use Rattle.pdl_image.proofs.Whole.{no_header, wrong_line, image_read, whole}
+use Rattle.pdl_image.proofs.WholeImage.{no_header, wrong_line, image_read, whole}
 use Rattle.pdl_vread.proofs.Memories.{read_names}
 use Rattle.pdl_cli_args.specs.Line.{run, sim}
 use Rattle.pdl_cli_failure.specs.declared.failure.Position.{Position}
@@ -30,9 +30,9 @@ use Rattle.pdl_netrun_lines.specs.Printed.{run_text}
 use Rattle.pdl_cli_commands.specs.Replies.{IsSchedule, DelaysRefused}
 use Rattle.pdl_cli_commands.specs.Simulated.{HoldsNetlist, IsStarted, IsSimulated, IsWrongSim}
 use Rattle.pdl_cli_commands.specs.Commands.{IsLoaded, IsBuilt, IsOutput, IsWrongRun, IsWrongFor}
-use Rattle.pdl_cli_commands.proofs.Told.{delayed_as_many}
-use Rattle.pdl_cli_commands.proofs.Accepting.{images}
-use Rattle.pdl_cli.proofs.Decided.{one_text, source_right, one_held, netlist_right}
+use Rattle.pdl_cli_commands.proofs.ToldMemories.{delayed_as_many}
+use Rattle.pdl_cli_commands.proofs.AcceptedNetlists.{images}
+use Rattle.pdl_cli.proofs.ExitStatus.{one_text, source_right, one_held, netlist_right}
 use Rattle.pdl_rules.specs.Memories.{infos_of}
 
 -- ---- images that are taken

@@ -33,7 +33,7 @@ fn write_text<O: Sink>(text: Result<Vec<u8>, Failure>, out: &mut O) -> Result<()
 }
 
 // Does what a command asks for.
-#[tactic(auto, using(pdl_cli_commands::proofs::Explaining::text_explains))]
+#[tactic(auto, using(pdl_cli_commands::proofs::Explanations::text_explains))]
 fn obey_line<F: Files, O: Sink>(
     alloc: Global,
     line: Line<'_>,
@@ -68,7 +68,7 @@ fn obey_line<F: Files, O: Sink>(
 }
 
 // Does what the words ask for.
-#[tactic(auto, using(crate::proofs::Lined::few))]
+#[tactic(auto, using(crate::proofs::CycleLimits::few))]
 fn obey<F: Files, O: Sink>(
     alloc: Global,
     words: &Vec<String>,
@@ -93,7 +93,7 @@ fn obey<F: Files, O: Sink>(
 /// Does all that the program does: reads the words after its name, the files that they name, writes to `out`, and says on `err` why it does not.
 ///
 /// The status that it answers is 0 where all was done; 1 where the words are no command; 2 where the first wrong file is refused; 3 where the count of faults of the files rose, and 4 where that of `out` did, or where it stands at the last value of a `u64`; 5 where memory ran out, which no clause tells.
-#[tactic(auto, using(crate::proofs::Decided::decided))]
+#[tactic(auto, using(crate::proofs::ExitStatus::decided))]
 pub fn top<F: Files, O: Sink, E: Sink>(
     alloc: Global,
     words: &Vec<String>,

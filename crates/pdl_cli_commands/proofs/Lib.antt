@@ -1,9 +1,9 @@
-pub mod Told
-pub mod Accepting
+pub mod ToldMemories
+pub mod AcceptedNetlists
 pub mod ShortNames
-pub mod Simulating
+pub mod OutputCount
 pub mod ReadNames
-pub mod Preparing
-pub mod Explaining
-pub mod InTurn
-pub mod Summing
+pub mod StartFailures
+pub mod Explanations
+pub mod SequentialLines
+pub mod RunSummaries

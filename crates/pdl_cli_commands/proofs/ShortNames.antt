@@ -60,6 +60,7 @@ piece_short c bytes =
 abbrev IsShort : Token → Type 0
 IsShort t = t.kind ≡ kind.Name → length t.text ≤ 32
 
+-- of some tokens, each that is a name is short
 abbrev pub AreShort : List Token → Type 0
 AreShort [] = ⊤
 AreShort (t ∷ ts) = IsShort t × AreShort ts
@@ -72,7 +73,7 @@ placed_short : (k : Option TokenKind) (n start line : ℕ) (bytes : List ℕ) �
 placed_short None n start line bytes h rest t = t
 placed_short (Some k) n start line bytes h rest t = (λ e. taken n bytes (h (ap (λ (j : TokenKind). Some j) e)), t)
 
-pub tokens_short : (inside start line : ℕ) (bytes : List ℕ) → AreShort (tokens_from inside start line bytes)
+tokens_short : (inside start line : ℕ) (bytes : List ℕ) → AreShort (tokens_from inside start line bytes)
 tokens_short inside start line [] = tt
 tokens_short (suc k) start line (c ∷ cs) = tokens_short k (start + 1) line cs
 tokens_short zero start line (c ∷ cs) =

@@ -19,7 +19,7 @@ use Rattle.pdl_wave.specs.Wave.{IsWaveOf}
 use Rattle.pdl_netrun_wave.specs.Dumped.{wave_ports, rows_of, run_dump}
 use Rattle.pdl_law_parts.specs.Places.{delayed_count}
 use Rattle.pdl_law_parts.specs.Runs.{cycle_of}
-use Rattle.pdl_law_sides.specs.Whole.{in_order}
+use Rattle.pdl_law_sides.specs.WholeNetlist.{in_order}
 use Rattle.pdl_law_follows.specs.Memories.{replies_in}
 use Rattle.pdl_law_follows.specs.Follows.{Follows}
 use Rattle.pdl_law_follows.specs.Refined.{RefinesThreads}

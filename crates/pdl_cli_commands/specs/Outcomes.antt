@@ -18,6 +18,7 @@ pub record Seen : Type 0 where
   pub writes : ℕ
   pub writes_now : ℕ
 
+-- what is seen from outside, from its parts
 abbrev pub seen_of : Option Held → ℕ → ℕ → Option (List ℕ) → Option (List ℕ) → ℕ → ℕ → Seen
 seen_of holds reads reads_now written written_now writes writes_now = record {
   holds = holds;

@@ -18,5 +18,6 @@ image_of ws ms = map (words_in ws) ms
 abbrev pub line_of : ℕ → Counts → List ℕ
 line_of cycles n = end_line cycles n.ended n.waits n.squashes
 
+-- the end line of these cycles
 abbrev pub end_of : List Cycle → List ℕ
 end_of cs = line_of (length cs) (counts_of cs)

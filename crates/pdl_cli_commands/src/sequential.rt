@@ -7,7 +7,7 @@ ghost use Rattle.pdl_semantics.specs.Flat.{arrays_of};
 ghost use Rattle.pdl_semantics.specs.Lines.{seq_lines};
 ghost use Rattle.pdl_semantics.specs.Sequential as meaning;
 ghost use Rattle.pdl_cli_failure.specs.declared.failure.Failure.TheVariants.{WriteFault};
-ghost use Rattle.pdl_form.specs.Whole.{form};
+ghost use Rattle.pdl_form.specs.FormView.{form};
 ghost use Rattle.pdl_image.specs.Images.{IsImage};
 ghost use Rattle.pdl_law_parts.specs.Runs.{column_of};
 ghost use Rattle.pdl_seq.specs.Runs.{HasRun, numbered_writes, write_line};

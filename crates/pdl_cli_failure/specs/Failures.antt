@@ -28,6 +28,7 @@ abbrev pub of_read : ReadError → Failure
 of_read Failed = ReadFault
 of_read read_memory = NoMemory
 
+-- the status of each cause
 abbrev pub failure_status : Failure → ℕ
 failure_status Usage = 1
 failure_status (Refused rule position) = 2
@@ -40,6 +41,7 @@ abbrev pub refused_at : Rule → Position → List ℕ
 refused_at rule (Line n) = refusal_text rule n
 refused_at rule (Insn n) = refused_insn_text rule n
 
+-- the text that each cause leaves
 abbrev pub failure_text : Failure → List ℕ
 failure_text Usage = codes "usage\n"
 failure_text (Refused rule position) = refused_at rule position
@@ -47,10 +49,12 @@ failure_text ReadFault = codes "read fault\n"
 failure_text WriteFault = []
 failure_text NoMemory = codes "no memory\n"
 
+-- the status of a command: 0 where it is done, else that of its failure
 abbrev pub status_of : {T : Type 0} → Result T Failure → ℕ
 status_of (Ok x) = 0
 status_of (Err f) = failure_status f
 
+-- the text that a command leaves as it fails, and none where it is done
 abbrev pub text_of : {T : Type 0} → Result T Failure → List ℕ
 text_of (Ok x) = []
 text_of (Err f) = failure_text f
@@ -60,6 +64,7 @@ abbrev pub of_check : Refusal → Failure
 of_check (check.Refused rule line) = Refused rule (Line line)
 of_check check.NoMemory = NoMemory
 
+-- why an image or a delay file was not taken
 abbrev pub of_file : FileError → Failure
 of_file (file.Refused rule line) = Refused rule (Line line)
 of_file file.NoMemory = NoMemory
@@ -69,6 +74,7 @@ abbrev pub of_table : TableError → Failure
 of_table (table.Refused rule insn) = Refused rule (Insn insn)
 of_table table.NoMemory = NoMemory
 
+-- why a text was not assembled
 abbrev pub of_asm : AsmError → Failure
 of_asm (asm.Refused rule line) = Refused rule (Line line)
 of_asm asm.NoMemory = NoMemory
@@ -78,6 +84,7 @@ abbrev pub of_netlist : VError → Failure
 of_netlist (netlist.Refused rule line) = Refused rule (Line line)
 of_netlist netlist.NoMemory = NoMemory
 
+-- why words are no command
 abbrev pub of_line : LineError → Failure
 of_line line.Usage = Usage
 of_line line.NoMemory = NoMemory

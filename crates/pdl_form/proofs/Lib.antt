@@ -1,1 +1,1 @@
-pub mod Staging
+pub mod StageRows

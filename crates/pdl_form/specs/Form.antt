@@ -34,6 +34,7 @@ form_with widths mems names stmts stages start =
       names = names;
     }
 
+-- the names of a tree's memories
 abbrev pub names_of : List tree.Mem → List (List ℕ)
 names_of ms = map (λ (m : tree.Mem). m.name.name) ms
 

@@ -1,3 +1,3 @@
 pub mod View
 pub mod Form
-pub mod Whole
+pub mod FormView

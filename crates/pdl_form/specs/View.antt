@@ -17,6 +17,7 @@ use Rattle.pdl_form.specs.declared.form.Stage as r_stage
 use Rattle.pdl_semantics.specs.Flat as flat
 use Rattle.pdl_semantics.specs.Flat.{Expr, Op, Guard, Stmt, Lock, Mem, Next, Branch, Stage}
 
+-- the flat expression that an operator of the program stands for, with operands that are flat already
 abbrev pub expr_step : Expr-F Expr → Expr
 expr_step (Expr-F.Constant width value) = flat.Constant width value
 expr_step (Expr-F.Variable x) = flat.Variable x
@@ -29,12 +30,15 @@ expr_step (Expr-F.ZeroExtend wide a) = flat.ZeroExtend wide a
 expr_step (Expr-F.SignExtend width wide a) = flat.SignExtend width wide a
 expr_step (Expr-F.Choose c a b) = flat.Choose c a b
 
+-- the flat expression that an expression of the program stands for
 abbrev pub expr_view : r_expr.Expr → Expr
 expr_view = r_expr.fold-Expr Expr expr_step
 
+-- the flat expressions that expressions of the program stand for
 abbrev pub exprs_view : List r_expr.Expr → List Expr
 exprs_view es = map expr_view es
 
+-- what a statement of the program does, in the flat form
 abbrev pub act_view : r_op.Op → Op
 act_view (r_ops.Bind x e) = flat.Bind x (expr_view e)
 act_view (r_ops.CombRead x m a) = flat.CombRead x m a
@@ -50,42 +54,53 @@ act_view (r_ops.Verify args) = flat.Verify (exprs_view args)
 act_view r_ops.SpecCheck = flat.SpecCheck
 act_view r_ops.SpecBarrier = flat.SpecBarrier
 
+-- the guard that a guard of the program stands for
 abbrev pub guard_view : r_guard.Guard → Guard
 guard_view g = record { var = g.var; first = g.first }
 
+-- the guards that guards of the program stand for
 abbrev pub guards_view : List r_guard.Guard → List Guard
 guards_view gs = map guard_view gs
 
+-- the statement that a statement of the program stands for
 abbrev pub stmt_view : r_stmt.Stmt → Stmt
 stmt_view s = record { stage = s.stage; guards = guards_view s.guards; op = act_view s.op }
 
+-- the statements that statements of the program stand for
 abbrev pub stmts_view : List r_stmt.Stmt → List Stmt
 stmts_view ss = map stmt_view ss
 
+-- the lock that a lock of the program stands for
 abbrev pub lock_view : r_lock.Lock → Lock
 lock_view r_locks.Plain = flat.Plain
 lock_view (r_locks.Queue size) = flat.Queue size
 lock_view (r_locks.Bypass size) = flat.Bypass size
 lock_view (r_locks.Rename size) = flat.Rename size
 
+-- the memory that a memory of the program stands for
 abbrev pub mem_view : r_mem.Mem → Mem
 mem_view m = record { width = m.width; depth = m.depth; delayed = m.delayed; lock = lock_view m.lock }
 
+-- the memories that memories of the program stand for
 abbrev pub mems_view : List r_mem.Mem → List Mem
 mems_view ms = map mem_view ms
 
+-- where a stage of the program leads, in the flat form
 abbrev pub next_view : r_next.Next → Next
 next_view r_nexts.Ends = flat.Ends
 next_view (r_nexts.Goes to) = flat.Goes to
 next_view (r_nexts.Forks x first second) = flat.Forks x first second
 
+-- the branch of a fork that a branch of the program stands for, where there is one
 abbrev pub branch_view : Option r_branch.Branch → Option Branch
 branch_view None = None
 branch_view (Some b) = Some (record { fork = b.fork; first = b.first })
 
+-- the stage that a stage of the program stands for
 abbrev pub stage_view : r_stage.Stage → Stage
 stage_view s = record { next = next_view s.next; branch = branch_view s.branch; merges = s.merges }
 
+-- the stages that stages of the program stand for
 abbrev pub stages_view : List r_stage.Stage → List Stage
 stages_view ss = map stage_view ss
 

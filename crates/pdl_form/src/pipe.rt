@@ -3,7 +3,7 @@ ghost use Rattle.std.specs.Prelude.{◌≡◌, ◌<◌, ℕ, map, length, slice_
 ghost use Rattle.pdl_semantics.specs.Stages.{in_stage, verify_stage};
 ghost use Rattle.pdl_form.specs.View.{stmts_view, stages_view, mems_view, mem_names};
 ghost use Rattle.pdl_form.specs.Form.{form_with, rows_in, stmt_at};
-ghost use Rattle.pdl_form.specs.Whole.{form};
+ghost use Rattle.pdl_form.specs.FormView.{form};
 
 use crate::flat::FlatPipe;
 use crate::form::{Mem, Stage, Stmt};

@@ -6,7 +6,7 @@ use Rattle.pdl_semantics.specs.Tree.{Span, Expr, Variable, Stmt, Separator, If, 
 use Rattle.pdl_semantics.specs.Flat.{Next, Forks, Goes, Stage, Branch}
 use Rattle.pdl_semantics.specs.Flatten.{Position, Graph, with_merge, entry, graph_with_fork, graph_before, graph, past, separators, separators_in, with_guard, at_otherwise, guard_of, side}
 use Rattle.pdl_form_lower.specs.Walking.{leading, with_merge_at, next_at, closed_stages, settled_stages}
-use Rattle.pdl_form_lower.proofs.Leading.{leading-append, leading-twice, leading-same, length-leading, next-leading, marked-after, merging-append}
+use Rattle.pdl_form_lower.proofs.StageWays.{leading-append, leading-twice, leading-same, length-leading, next-leading, marked-after, merging-append}
 
 -- AS MANY STAGES AS SEPARATORS
 
@@ -175,6 +175,7 @@ entry_seen ms b n first k i merge ss p s0 s1 h eb en ei low =
     ∙ ap (λ c. entry (graph ms c n ss p).next) eb
     ∙ ap (λ m. entry (graph ms (side k first) m ss p).next) en
 
+-- the guard of an `if` begins no stage
 pub guard_begun : (c : Expr) (at' : Position) → (with_guard c at').begun ≡ at'.begun
 guard_begun (Variable x) at' = refl
 guard_begun c at' = refl

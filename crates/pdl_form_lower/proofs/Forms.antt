@@ -41,6 +41,7 @@ of_tree p =
     ∙ ap₂ (λ rs cs. with_stages p (length (past_all p.mems p.body (at_start p)).vars) rs cs) (each_same is_reserve stmts 0 p.mems)
     (each_same is_release stmts 0 p.mems)
 
+-- widths, memories, names, statements, stages and start that are a tree's make the tree's flat form
 pub form_made : (p : tree.Pipe) (widths : List ℕ) (mems : List Mem) (names : List (List ℕ)) (stmts : List Stmt) (stages : List Stage) (start : List ℕ)
     → widths ≡ map (λ (v : Var). v.width) (past_all p.mems p.body (at_start p)).vars → mems ≡ mems_of p.mems → names ≡ names_of p.mems
     → stmts ≡ flat_stmts p.mems [] p.body (at_start p) → stages ≡ stages_of p → start ≡ start_of p.start.args

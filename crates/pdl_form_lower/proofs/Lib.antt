@@ -1,6 +1,6 @@
 pub mod Numbering
-pub mod Leading
+pub mod StageWays
 pub mod Branches
 pub mod Forms
 pub mod Widths
-pub mod Accepted
+pub mod PipeSizes

@@ -16,7 +16,7 @@ number_step true o n k h = refl
 number_step false None n k h = ap suc h
 number_step false (Some m) n k h = ap suc h
 
-pub number_found : (vs : List Var) (x : List ℕ) → unwrap_or (number_in vs x) (length vs) ≡ var_of vs x
+number_found : (vs : List Var) (x : List ℕ) → unwrap_or (number_in vs x) (length vs) ≡ var_of vs x
 number_found [] x = refl
 number_found (v ∷ vs) x = number_step (bytes_eq v.name x) (number_in vs x) (length vs) (var_of vs x) (number_found vs x)
 
@@ -25,6 +25,7 @@ below_step true o n l ih h = let e : 0 ≡ n = cc in omega arith
 below_step false None n l ih h = cc
 below_step false (Some m) n l ih h = let e : suc m ≡ n = cc in omega (arith, ih m refl)
 
+-- the number of a variable's name is below the count of variables
 pub number_below : (vs : List Variable) (x : List ℕ) (n : ℕ) → number_in (vars_of vs) x ≡ Some n → n < length vs
 number_below [] x n h = cc
 number_below (v ∷ vs) x n h = below_step (bytes_eq v.name x) (number_in (vars_of vs) x) n (length vs) (λ m e. number_below vs x m e) h
@@ -36,6 +37,7 @@ width_step true o n w v vs d ih h = let e : 0 ≡ n = cc in subst (λ k. (get_or
 width_step false None n w v vs d ih h = cc
 width_step false (Some m) n w v vs d ih h = let e : suc m ≡ n = cc in subst (λ k. (get_or (v ∷ vs) k d).width ≡ w) e (ih m refl)
 
+-- the variable of a name's number has the width that the name has
 pub width_found : (vs : List Variable) (x : List ℕ) (n : ℕ) (d : Variable) → number_in (vars_of vs) x ≡ Some n → (get_or vs n d).width ≡ var_width (vars_of vs) x
 width_found [] x n d h = cc
 width_found (v ∷ vs) x n d h =
@@ -51,10 +53,12 @@ none_step true o v w ih h = cc
 none_step false None v w ih h = ih refl
 none_step false (Some m) v w ih h = cc
 
+-- a name that no variable has has the width 0
 pub width_missing : (vs : List Var) (x : List ℕ) → number_in vs x ≡ None → var_width vs x ≡ 0
 width_missing [] x h = refl
 width_missing (v ∷ vs) x h = none_step (bytes_eq v.name x) (number_in vs x) v.width (var_width vs x) (λ e. width_missing vs x e) h
 
+-- the variables of the program have the widths of those that they stand for
 pub widths_seen : (vs : List Variable) → map (λ (v : Variable). v.width) vs ≡ map (λ (v : Var). v.width) (vars_of vs)
 widths_seen [] = refl
 widths_seen (v ∷ vs) = ap (λ ws. v.width ∷ ws) (widths_seen vs)
@@ -105,7 +109,7 @@ lookup_push (e ∷ es) k n x = lookup_step (bytes_eq x e.0) e.1 (lookup (pointwi
     (lookup (pointwise nat_eq x) (es ++ (k, n) ∷ [])) (lookup_push es k n x)
 
 -- a name that is new
-pub numbered_new : (es : List (List ℕ × ℕ)) (vs : List Var) (k : List ℕ) (w : ℕ) → AreNumbered es vs → w ≤ 64
+numbered_new : (es : List (List ℕ × ℕ)) (vs : List Var) (k : List ℕ) (w : ℕ) → AreNumbered es vs → w ≤ 64
     → AreNumbered (es ++ (k, length vs) ∷ []) (vs ++ record { name = k; width = w } ∷ [])
 numbered_new es vs k w h small =
     record {
@@ -127,7 +131,7 @@ same_number true o n h = sym (there_step o (Some n) (h refl))
 same_number false None n h = refl
 same_number false (Some m) n h = refl
 
-pub numbered_there : (es : List (List ℕ × ℕ)) (vs : List Var) (k : List ℕ) (w : ℕ) → AreNumbered es vs → w ≤ 64
+numbered_there : (es : List (List ℕ × ℕ)) (vs : List Var) (k : List ℕ) (w : ℕ) → AreNumbered es vs → w ≤ 64
     → is_some (lookup (pointwise nat_eq k) es) ≡ true → AreNumbered es (vs ++ record { name = k; width = w } ∷ [])
 numbered_there es vs k w h small there =
     record {
@@ -164,16 +168,19 @@ insert_new (e ∷ es) k n h = insert_step (bytes_eq k e.0) e es (insert_entry (p
 
 -- ONE VARIABLE MORE
 
+-- with a variable more whose name is there already, the same entries tell all numbers
 pub pushed_there : (es : List (List ℕ × ℕ)) (vs ws : List Variable) (own k : List ℕ) (w : ℕ) (o : Option ℕ) → AreNumbered es (vars_of vs) → w ≤ 64 → own ≡ k
     → o ≡ lookup (pointwise nat_eq k) es → is_some o ≡ true → ws ≡ vs ++ record { name = own; width = w } ∷ [] → AreNumbered es (vars_of ws)
 pushed_there es vs ws own k w o a small e h s g =
     subst (AreNumbered es) (sym (ap vars_of g ∙ vars_push vs (record { name = own; width = w }) ∙ ap (λ n. vars_of vs ++ record { name = n; width = w } ∷ []) e))
     (numbered_there es (vars_of vs) k w a small (found_some o _ h s))
 
+-- the program has as many variables as they stand for
 pub length_vars : (vs : List Variable) → length (vars_of vs) ≡ length vs
 length_vars [] = refl
 length_vars (v ∷ vs) = ap suc (length_vars vs)
 
+-- with a variable more whose name is new, the entries with its number tell all numbers
 pub pushed_new : (es fs : List (List ℕ × ℕ)) (vs ws : List Variable) (own key k : List ℕ) (w n : ℕ) (o : Option ℕ) → AreNumbered es (vars_of vs) → w ≤ 64
     → own ≡ k → key ≡ k
     → n ≡ length vs → o ≡ lookup (pointwise nat_eq k) es → is_some o ≡ false → fs ≡ insert_entry (pointwise nat_eq) es key n

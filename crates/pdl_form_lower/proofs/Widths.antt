@@ -13,7 +13,7 @@ abbrev pub Small : List Var → Type 0
 Small [] = Unit {0}
 Small (v ∷ vs) = (v.width ≤ 64) × Small vs
 
-pub small_width : (vs : List Var) → Small vs → (x : List ℕ) → var_width vs x ≤ 64
+small_width : (vs : List Var) → Small vs → (x : List ℕ) → var_width vs x ≤ 64
 small_width [] small x = omega arith
 small_width (v ∷ vs) small x = go (bytes_eq v.name x) (small_width vs small.1 x)
   where
@@ -25,6 +25,7 @@ small_if : (b : Bool) (n : ℕ) → n ≤ 64 → (if b then 1 else n) ≤ 64
 small_if true n h = omega arith
 small_if false n h = h
 
+-- a typed expression tells no width over 64 and has at most 64 bits, where no variable is wider
 pub sized_typed : (vs : List Var) → Small vs → (e : Expr) → IsTyped vs e → IsSized e × (width_of vs e ≤ 64)
 sized_typed vs small (Constant l) t = (t.1, t.1)
 sized_typed vs small (Variable x) t = (tt, small_width vs small x.name)
@@ -48,10 +49,12 @@ sized_typed vs small (Choose c a b) t =
 
 -- VARIABLES
 
+-- with a variable more of at most 64 bits, no variable is wider than 64 bits
 pub small_more : (vs : List Var) (v : Var) → Small vs → v.width ≤ 64 → Small (vs ++ v ∷ [])
 small_more [] v small h = (h, tt)
 small_more (u ∷ vs) v small h = (small.0, small_more vs v small.1 h)
 
+-- the words of a memory have at most 64 bits, where the memories' sizes are in bounds
 pub small_mem : (ms : List Mem) (m : List ℕ) → AreSizedMems ms → mem_width ms m ≤ 64
 small_mem [] m s = omega arith
 small_mem (x ∷ ms) m s = go (bytes_eq x.name.name m) (small_mem ms m s.1)

@@ -15,6 +15,7 @@ IsSized (ZeroExtend a n) = (n.value ≤ 64) × IsSized a
 IsSized (SignExtend a n) = (n.value ≤ 64) × IsSized a
 IsSized (Choose c a b) = IsSized c × (IsSized a × IsSized b)
 
+-- no literal, slice or extension in these expressions is wider than 64 bits
 abbrev pub AreSized : List Expr → Type 0
 AreSized [] = Unit {0}
 AreSized (e ∷ es) = IsSized e × AreSized es
@@ -51,10 +52,12 @@ pub record IsSizedMem (m : Mem) : Type 0 where
   pub depth : m.depth.value ≤ 65536
   pub lock : IsSizedLock m.lock
 
+-- the sizes of all memories are in bounds
 abbrev pub AreSizedMems : List Mem → Type 0
 AreSizedMems [] = Unit {0}
 AreSizedMems (m ∷ ms) = IsSizedMem m × AreSizedMems ms
 
+-- no parameter is wider than 64 bits
 abbrev pub AreSizedParams : List Param → Type 0
 AreSizedParams [] = Unit {0}
 AreSizedParams (x ∷ xs) = (x.width.value ≤ 64) × AreSizedParams xs

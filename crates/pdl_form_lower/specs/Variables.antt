@@ -6,9 +6,11 @@ use Rattle.std.specs.Option.{option_map}
 use Rattle.pdl_semantics.specs.Flatten.{Var, var_width}
 use Rattle.pdl_form_lower.specs.declared.vars.Variable.{Variable}
 
+-- the variable that a variable of the program stands for
 abbrev pub var_view : Variable → Var
 var_view v = record { name = v.name; width = v.width }
 
+-- the variables that variables of the program stand for
 abbrev pub vars_of : List Variable → List Var
 vars_of vs = map var_view vs
 

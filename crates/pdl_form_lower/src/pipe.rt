@@ -4,7 +4,7 @@ ghost use Rattle.pdl_semantics.specs.Flatten as spec;
 ghost use Rattle.pdl_syntax_tree.specs.View.{pipe_view};
 ghost use Rattle.pdl_form.specs.View.{stmts_view, stages_view, mems_view, mem_names};
 ghost use Rattle.pdl_form.specs.Form.{form_of, names_of};
-ghost use Rattle.pdl_form.specs.Whole.{form};
+ghost use Rattle.pdl_form.specs.FormView.{form};
 ghost use Rattle.pdl_form_lower.specs.Sized.{IsSizedPipe};
 ghost use Rattle.pdl_form_lower.specs.Walking.{place_of};
 

@@ -17,13 +17,13 @@ use Rattle.pdl_rules.specs.Widths.{mem_depth, address_bits}
 use Rattle.pdl_rules.specs.Locks.{is_locked}
 use Rattle.pdl_rules.specs.Refusal.{KeepsRules}
 use Rattle.pdl_rules.specs.Typed.{is_memory}
-use Rattle.pdl_rules.proofs.Once.{bytes_sym}
+use Rattle.pdl_rules.proofs.SingleWrites.{bytes_sym}
 use Rattle.pdl_rules.proofs.EachPlace.{closing}
 use Rattle.pdl_rules.proofs.Memories.{has_depth, bits_reach, of_each, shape}
 use Rattle.pdl_form_types.specs.Stmts.{IsTypedMem, AreTypedMems}
 use Rattle.pdl_form_types.proofs.Values.{IsWide}
-use Rattle.pdl_form_types.proofs.Found.{rest_named, number_step}
-use Rattle.pdl_rules.proofs.Defined.{no_params}
+use Rattle.pdl_form_types.proofs.VariableNames.{rest_named, number_step}
+use Rattle.pdl_rules.proofs.KnownVariables.{no_params}
 use Rattle.pdl_semantics.proofs.Facts.{lock_declared}
 
 -- SIZES
@@ -63,6 +63,7 @@ module _ (p : Pipe) (rules : KeepsRules p) where
 
 -- BY NUMBER
 
+-- the number of a memory's name is below the count of memories
 pub mem_low : (ms : List Mem) (m : List ℕ) → IsTrue (is_memory ms m) → mem_of ms m < length (mems_of ms)
 mem_low [] m h = absurd (false≢true h)
 mem_low (x ∷ ms) m h = number_step (bytes_eq x.name.name m) (mem_of ms m) (length (mems_of ms)) (λ e. mem_low ms m (rest_named _ _ h e))
@@ -76,14 +77,17 @@ found_step : {A : Type 0} (f : flat.Mem → A) (b : Bool) (x : flat.Mem) (xs : L
 found_step f true x xs k u h = refl
 found_step f false x xs k u h = h
 
+-- the memory of a name's number has the width of words that it has by name
 pub found_width : (ms : List Mem) (m : List ℕ) → (mem_found ms m).width ≡ mem_width ms m
 found_width [] m = refl
 found_width (x ∷ ms) m = found_step (λ (y : flat.Mem). y.width) (bytes_eq x.name.name m) _ (mems_of ms) (mem_of ms m) (mem_width ms m) (found_width ms m)
 
+-- the memory of a name's number has the depth that it has by name
 pub found_depth : (ms : List Mem) (m : List ℕ) → (mem_found ms m).depth ≡ mem_depth ms m
 found_depth [] m = refl
 found_depth (x ∷ ms) m = found_step (λ (y : flat.Mem). y.depth) (bytes_eq x.name.name m) _ (mems_of ms) (mem_of ms m) (mem_depth ms m) (found_depth ms m)
 
+-- the memory of a name's number has a lock where it has one by name, and only there
 pub found_lock : (ms : List Mem) (m : List ℕ) → has_lock (mem_found ms m).lock ≡ is_locked ms m
 found_lock [] m = refl
 found_lock (x ∷ ms) m =
@@ -94,6 +98,7 @@ wide_step : (b : Bool) (w u : ℕ) → IsWide w → (b ≡ false → IsWide u) �
 wide_step true w u h k = h
 wide_step false w u h k = k refl
 
+-- the words of a memory have 1 to 64 bits, where the memories are typed
 pub wide_mem : (ms : List Mem) (m : List ℕ) → AreTypedMems (mems_of ms) → IsTrue (is_memory ms m) → IsWide (mem_width ms m)
 wide_mem [] m t h = absurd (false≢true h)
 wide_mem (x ∷ ms) m t h =

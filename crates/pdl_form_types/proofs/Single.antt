@@ -14,15 +14,15 @@ use Rattle.pdl_rules.specs.Parts.{location_of}
 use Rattle.pdl_rules.specs.Names.{OfVariable, is_undefined, is_too_early}
 use Rattle.pdl_rules.specs.Widths.{variables}
 use Rattle.pdl_rules.specs.Refusal.{KeepsRules}
-use Rattle.pdl_rules.proofs.Typing.{Fits, of_one}
+use Rattle.pdl_rules.proofs.TypedExpressions.{Fits, of_one}
 use Rattle.pdl_form_types.specs.Stmts.{AreGuards, IsLocation, AreArguments, AreTypedStmts, AreTypedMems, param_widths}
-use Rattle.pdl_form_types.proofs.Found.{Found, found, Begins, begins_self, begins_then, widths_of}
+use Rattle.pdl_form_types.proofs.VariableNames.{Found, found, Begins, begins_self, begins_then, widths_of}
 use Rattle.pdl_form_types.proofs.Values.{Alike, alike, arguments_flat, IsWide, wide_expr}
 use Rattle.pdl_form_types.proofs.Memories.{found_width, wide_mem}
-use Rattle.pdl_form_types.proofs.After.{After, after_same, after_more, has_letters}
-use Rattle.pdl_form_types.proofs.Standing.{fits, tree_typed, tree_arguments, memory, located, locked}
-use Rattle.pdl_form_types.proofs.Starting.{params_are}
-use Rattle.pdl_form_types.proofs.Growing.{begins_same, new_last}
+use Rattle.pdl_form_types.proofs.VariableFacts.{After, after_same, after_more, has_letters}
+use Rattle.pdl_form_types.proofs.StatementFacts.{fits, tree_typed, tree_arguments, memory, located, locked}
+use Rattle.pdl_form_types.proofs.Parameters.{params_are}
+use Rattle.pdl_form_types.proofs.VariableGrowth.{begins_same, new_last}
 use Rattle.pdl_semantics.proofs.Facts.{all_vars}
 
 abbrev pub is_if : Stmt → Bool

@@ -7,7 +7,7 @@ use Rattle.pdl_rules.specs.Typed.{Holds, AreStarts}
 use Rattle.pdl_rules.specs.Typed as tree
 use Rattle.pdl_form_types.specs.Exprs.{width_in, IsTyped}
 use Rattle.pdl_form_types.specs.Stmts.{AreArguments, AreWidths, AreBelow}
-use Rattle.pdl_form_types.proofs.Found.{Found}
+use Rattle.pdl_form_types.proofs.VariableNames.{Found}
 
 -- WIDTHS
 
@@ -18,7 +18,7 @@ cat_width : (m n : ℕ) → m + n ≤ 64 → (if nat_lt widest (m + n) then 1 el
 cat_width m n h = grind arith
 
 -- the value of a literal, below the bound of its width
-pub held_value : (v : Option ℕ) (w : ℕ) → Holds v w → unwrap_or v 0 < 2 ^ w
+held_value : (v : Option ℕ) (w : ℕ) → Holds v w → unwrap_or v 0 < 2 ^ w
 held_value None w h = absurd h
 held_value (Some v) w h = h
 
@@ -32,6 +32,7 @@ pub record Alike (us vs : List Var) (ws : List ℕ) (e : Expr) : Type 0 where
 told : {us vs : List Var} {ws : List ℕ} (e : Expr) → Alike us vs ws e → width_in ws (flat_expr vs e) ≡ width_of vs e
 told e h = h.width ∙ sym h.same
 
+-- a typed expression whose names are found has a typed flat expression of its width
 pub alike : (us vs : List Var) (ws : List ℕ) → Found us vs ws → (e : Expr) → tree.IsTyped us e → Alike us vs ws e
 alike us vs ws f (Constant l) t = record { typed = (t.0, t.1, held_value l.value l.width t.2); width = refl; same = refl }
 alike us vs ws f (Variable x) t = record { typed = f.number x.name t; width = f.width x.name t; same = f.same x.name t }
@@ -77,9 +78,11 @@ alike us vs ws f (Choose c a b) t =
 
 -- ARGUMENTS
 
+-- the widths of parameters as the text tells them
 abbrev pub told_widths : List Param → List ℕ
 told_widths ps = map (λ (a : Param). a.width.value) ps
 
+-- typed arguments for some parameters are flat arguments for these parameters' widths
 pub arguments_flat : (us vs : List Var) (ws : List ℕ) → Found us vs ws → (ps : List Param) (es : List Expr) → tree.AreArguments us ps es
     → AreArguments ws (told_widths ps) (flat_exprs vs es)
 arguments_flat us vs ws f [] [] t = tt
@@ -89,12 +92,14 @@ arguments_flat us vs ws f (a ∷ ps) (e ∷ es) t =
     let h = alike us vs ws f e t.0 in
     (h.typed, h.width ∙ t.1, arguments_flat us vs ws f ps es t.2)
 
+-- start arguments that fit their parameters are below the powers of two of these widths
 pub below_start : (ps : List Param) (ls : List Literal) → AreStarts ps ls → AreBelow (told_widths ps) (start_of ls)
 below_start [] [] t = tt
 below_start [] (l ∷ ls) t = absurd t
 below_start (a ∷ ps) [] t = absurd t
 below_start (a ∷ ps) (l ∷ ls) t = (subst (λ w. unwrap_or l.value 0 < 2 ^ w) t.0 (held_value l.value l.width t.1), below_start ps ls t.2)
 
+-- there are as many start arguments as parameters
 pub long_start : (ps : List Param) (ls : List Literal) → AreStarts ps ls → length (start_of ls) ≡ length (told_widths ps)
 long_start [] [] t = refl
 long_start [] (l ∷ ls) t = absurd t

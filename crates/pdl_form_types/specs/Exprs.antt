@@ -29,6 +29,7 @@ IsTyped ws (ZeroExtend wide a) = IsTyped ws a × (width_in ws a ≤ wide) × (wi
 IsTyped ws (SignExtend width wide a) = IsTyped ws a × (width_in ws a ≡ width) × (width ≤ wide) × (wide ≤ 64)
 IsTyped ws (Choose c a b) = IsTyped ws c × IsTyped ws a × IsTyped ws b × (width_in ws c ≡ 1) × (width_in ws a ≡ width_in ws b)
 
+-- each of these expressions is typed
 abbrev pub AreTyped : List ℕ → List Expr → Type 0
 AreTyped ws [] = ⊤
 AreTyped ws (e ∷ es) = IsTyped ws e × AreTyped ws es

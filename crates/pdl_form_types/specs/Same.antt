@@ -10,16 +10,19 @@ same_list same [] [] = true
 same_list same (x ∷ xs) (y ∷ ys) = same x y && same_list same xs ys
 same_list same _ _ = false
 
+-- both are missing, or both are there and the same
 abbrev pub same_option : {X : Type 0} → (X → X → Bool) → Option X → Option X → Bool
 same_option same None None = true
 same_option same (Some x) (Some y) = same x y
 same_option same _ _ = false
 
+-- two truth values are the same
 abbrev pub same_bool : Bool → Bool → Bool
 same_bool true true = true
 same_bool false false = true
 same_bool _ _ = false
 
+-- two numbers are the same
 abbrev pub same_number : ℕ → ℕ → Bool
 same_number m n = m == n
 
@@ -37,6 +40,7 @@ number_of Less = 8
 number_of ShiftLeft = 9
 number_of ShiftRight = 10
 
+-- two expressions are the same
 abbrev pub same_expr : Expr → Expr → Bool
 same_expr (Constant w v) (Constant w' v') = (w == w') && (v == v')
 same_expr (Constant _ _) _ = false
@@ -59,6 +63,7 @@ same_expr (SignExtend _ _ _) _ = false
 same_expr (Choose c a b) (Choose c' a' b') = same_expr c c' && (same_expr a a' && same_expr b b')
 same_expr (Choose _ _ _) _ = false
 
+-- two statements do the same
 abbrev pub same_op : Op → Op → Bool
 same_op (Bind x e) (Bind x' e') = (x == x') && same_expr e e'
 same_op (Bind _ _) _ = false
@@ -87,12 +92,15 @@ same_op SpecCheck _ = false
 same_op SpecBarrier SpecBarrier = true
 same_op SpecBarrier _ = false
 
+-- two guards are the same
 abbrev pub same_guard : Guard → Guard → Bool
 same_guard g h = (g.var == h.var) && same_bool g.first h.first
 
+-- two statements are the same, in stage, guards and what they do
 abbrev pub same_stmt : Stmt → Stmt → Bool
 same_stmt x y = (x.stage == y.stage) && (same_list same_guard x.guards y.guards && same_op x.op y.op)
 
+-- two locks are of the same kind and size
 abbrev pub same_lock : Lock → Lock → Bool
 same_lock Plain Plain = true
 same_lock Plain _ = false
@@ -103,9 +111,11 @@ same_lock (Bypass _) _ = false
 same_lock (Rename n) (Rename n') = n == n'
 same_lock (Rename _) _ = false
 
+-- two memories have the same width and depth, answer alike and have the same lock
 abbrev pub same_mem : Mem → Mem → Bool
 same_mem x y = (x.width == y.width) && ((x.depth == y.depth) && (same_bool x.delayed y.delayed && same_lock x.lock y.lock))
 
+-- two stages lead to the same
 abbrev pub same_next : Next → Next → Bool
 same_next Ends Ends = true
 same_next Ends _ = false
@@ -114,14 +124,18 @@ same_next (Goes _) _ = false
 same_next (Forks x k l) (Forks x' k' l') = (x == x') && ((k == k') && (l == l'))
 same_next (Forks _ _ _) _ = false
 
+-- two branches are of the same fork, on the same side
 abbrev pub same_branch : Branch → Branch → Bool
 same_branch x y = (x.fork == y.fork) && same_bool x.first y.first
 
+-- two stages lead to the same, in the same branch, and merge the same fork
 abbrev pub same_stage : Stage → Stage → Bool
 same_stage x y = same_next x.next y.next && (same_option same_branch x.branch y.branch && same_option same_number x.merges y.merges)
 
+-- two pipes are the same
 abbrev pub same_pipe : Pipe → Pipe → Bool
 same_pipe p q = (p.vars == q.vars) && (same_list same_mem p.mems q.mems && (same_list same_stmt p.stmts q.stmts && (same_list same_stage p.stages q.stages && (bytes_eq p.start q.start && (same_list (same_option same_number) p.reserves_at q.reserves_at && same_list (same_option same_number) p.releases_at q.releases_at)))))
 
+-- two flat forms are the same, in pipe, widths and names
 abbrev pub same_form : Form → Form → Bool
 same_form f g = same_pipe f.pipe g.pipe && (bytes_eq f.widths g.widths && same_list bytes_eq f.names g.names)

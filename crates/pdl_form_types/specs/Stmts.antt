@@ -38,6 +38,7 @@ AreArguments ws _ _ = ⊥
 abbrev pub IsReadOf : Pipe → List ℕ → ℕ → ℕ → ℕ → Type 0
 IsReadOf p ws x m a = (x < length ws) × IsLocation p ws m a × (slice_index ws x ≡ (mem_at p m).width)
 
+-- what a statement does finds its variables, its memory and its lock, with the widths that it wants
 abbrev pub IsTypedOp : Form → Op → Type 0
 IsTypedOp f (Bind x e) = (x < length f.widths) × IsTyped f.widths e × (width_in f.widths e ≡ slice_index f.widths x)
 IsTypedOp f (CombRead x m a) = IsReadOf f.pipe f.widths x m a
@@ -54,9 +55,11 @@ IsTypedOp f (Verify args) = AreArguments f.widths (param_widths f) args
 IsTypedOp f SpecCheck = ⊤
 IsTypedOp f SpecBarrier = ⊤
 
+-- a statement under guards by variables of 1 bit that finds what it wants
 abbrev pub IsTypedStmt : Form → Stmt → Type 0
 IsTypedStmt f x = AreGuards f.widths x.guards × IsTypedOp f x.op
 
+-- each of these statements is typed
 abbrev pub AreTypedStmts : Form → List Stmt → Type 0
 AreTypedStmts f [] = ⊤
 AreTypedStmts f (x ∷ xs) = IsTypedStmt f x × AreTypedStmts f xs
@@ -81,6 +84,7 @@ pub record IsTypedMem (m : Mem) : Type 0 where
   pub few : bits ≤ 16
   pub depth : m.depth ≡ 2 ^ bits
 
+-- each of these memories is typed
 abbrev pub AreTypedMems : List Mem → Type 0
 AreTypedMems [] = ⊤
 AreTypedMems (m ∷ ms) = IsTypedMem m × AreTypedMems ms
@@ -91,6 +95,7 @@ IsFork ws Ends = ⊤
 IsFork ws (Goes to) = ⊤
 IsFork ws (Forks x first second) = (x < length ws) × (slice_index ws x ≡ 1)
 
+-- each of these stages that forks does so by a variable of 1 bit
 abbrev pub AreForks : List ℕ → List Stage → Type 0
 AreForks ws [] = ⊤
 AreForks ws (x ∷ xs) = IsFork ws x.next × AreForks ws xs

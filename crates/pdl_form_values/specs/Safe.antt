@@ -19,6 +19,7 @@ IsSafe (ZeroExtend wide a) env = IsSafe a env
 IsSafe (SignExtend w wide a) env = IsSafe a env × (1 ≤ w) × (w ≤ wide) × (wide ≤ 64) × (value_of a env < 2 ^ w)
 IsSafe (Choose c a b) env = IsSafe c env × IsSafe a env × IsSafe b env
 
+-- in each of these expressions every operator finds operands of its width
 abbrev pub AreSafe : List Expr → List ℕ → Type 0
 AreSafe [] env = ⊤
 AreSafe (e ∷ es) env = IsSafe e env × AreSafe es env

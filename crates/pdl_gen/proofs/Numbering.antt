@@ -3,10 +3,12 @@ use Rattle.std.proofs.Common.{◌≡◌, ◌≢◌, refl, sym, ap, ◌∙◌, �
 use Rattle.std.proofs.lemmas.Bool.{eqb-true}
 use Rattle.pdl_gen.specs.Generated.{next, number, made_odd}
 
+-- each number comes next after the one before it
 pub number_more : (n i j : ℕ) → j ≡ suc i → number n j ≡ next (number n i)
 unfolding number
 number_more n i j e = ap (number n) e
 
+-- the first number after `n` is the one that comes next after it
 pub first_number : (n : ℕ) → number n 1 ≡ next n
 unfolding number
 first_number n = refl
@@ -15,6 +17,7 @@ first_number n = refl
 pub odd_kept : (y z : ℕ) → y ≡ z → y % 2 ≡ 1 → y ≡ made_odd z
 odd_kept y z e h = e ∙ sym (ap (λ b. cond b z (z + 1)) (eq-eqb (z % 2) 1 (sym (ap (λ v. v % 2) e) ∙ h)))
 
+-- an even byte and 1 are that byte made odd
 pub even_raised : (y z : ℕ) → y ≡ z → y % 2 ≢ 1 → y + 1 ≡ made_odd z
 even_raised y z e h = ap (λ v. v + 1) e ∙ at (z % 2 == 1) refl
   where

@@ -38,6 +38,7 @@ few_stages n = omega arith
 writes_short : length writing_end ≤ 100
 writes_short = leb-true (length writing_end) 100 refl
 
+-- the source of each generated run has at most 500 bytes
 pub short_source : (n : ℕ) → length (source n) ≤ 500
 unfolding source
 short_source n =

@@ -47,9 +47,11 @@ next_row : (count number : ℕ) (row : List ℕ) (later : List (List ℕ)) → f
 unfolding first_wrong_row
 next_row count number row later = refl
 
+-- before the first row all rows are left and none is taken
 pub no_rows_taken : (count : ℕ) (all : List (List ℕ)) (words : List ℕ) → words ≡ [] → TakenRows count all all 1 words
 no_rows_taken count all words e = record { same = refl; given = ap (λ ws. ws ++ map row_word all) (sym e) }
 
+-- a row that breaks no rule is taken after those before it, with its word
 pub row_taken : (count : ℕ) (all left : List (List ℕ)) (number : ℕ) (words new : List ℕ) (row : List ℕ) (later : List (List ℕ)) (word : ℕ)
     → TakenRows count all left number words → left ≡ row ∷ later → broken_row count number row ≡ None → word ≡ row_word row → new ≡ words ++ word ∷ [] → TakenRows count all later (number + 1) new
 row_taken count all left number words new row later word t e b f g = record {
@@ -57,6 +59,7 @@ row_taken count all left number words new row later word t e b f g = record {
   given = t.given ∙ ap (λ rs. words ++ map row_word rs) e ∙ ap (λ w. words ++ w ∷ map row_word later) (sym f) ∙ sym (append_assoc words (word ∷ []) (map row_word later)) ∙ ap (λ ws. ws ++ map row_word later) (sym g);
 }
 
+-- where the next row breaks a rule, it is the first wrong row of all, refused by this rule
 pub wrong_row_found : (count : ℕ) (all left : List (List ℕ)) (number : ℕ) (words : List ℕ) (row : List ℕ) (later : List (List ℕ)) (rule : Rule)
     → TakenRows count all left number words → left ≡ row ∷ later → broken_row count number row ≡ Some rule → first_wrong_row count 1 all ≡ Some (Refused rule number)
 wrong_row_found count all left number words row later rule t e b =
@@ -66,6 +69,7 @@ no_row_wrong : (count number : ℕ) → first_wrong_row count number [] ≡ None
 unfolding first_wrong_row
 no_row_wrong count number = refl
 
+-- once all rows are taken, none is wrong and the words are those of all rows
 pub all_rows_taken : (count : ℕ) (all : List (List ℕ)) (number : ℕ) (text words : List ℕ) → TakenRows count all (lines text) number words → length text ≡ 0 → (first_wrong_row count 1 all ≡ None) × (words ≡ map row_word all)
 all_rows_taken count all number text words t h =
     let e : lines text ≡ [] = lines_of_none text h in

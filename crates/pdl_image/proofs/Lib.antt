@@ -1,10 +1,10 @@
 pub mod Parts
 pub mod LineWords
 pub mod MapSet
-pub mod Filling
+pub mod LineSteps
 pub mod TakenLines
 pub mod DelayRows
 pub mod DelayFiles
-pub mod Whole
+pub mod WholeImage
 pub mod Rows
-pub mod Written
+pub mod ReadBackImages

@@ -10,10 +10,12 @@ use Rattle.pdl_word.specs.Digits.{is_digit_of, are_digits}
 abbrev word_if : Bool → List ℕ → List ℕ → List ℕ → Option Word
 word_if b n a v = cond b (Some (record { name = n; address = digits_value 10 a; value = digits_value 16 v })) None
 
+-- a line of one part gives no word
 pub one_part : (line : List ℕ) → fields line ≡ line ∷ [] → word_of line ≡ None
 unfolding word_of
 one_part line e = rw e refl
 
+-- a line of two parts gives no word
 pub two_parts : (line n r : List ℕ) → fields line ≡ n ∷ fields r → fields r ≡ r ∷ [] → word_of line ≡ None
 unfolding word_of
 two_parts line n r e f = rw (e, f) refl
@@ -62,15 +64,19 @@ word_from : (line n r a v : List ℕ) → fields line ≡ n ∷ fields r → fie
 unfolding word_of
 word_from line n r a v e f = rw (e, f) (three_parts n a v)
 
+-- a line whose first part is no name gives no word
 pub no_name : (line n r a v : List ℕ) → fields line ≡ n ∷ fields r → fields r ≡ a ∷ fields v → is_name n ≡ false → word_of line ≡ None
 no_name line n r a v e f h = word_from line n r a v e f ∙ rw h refl
 
+-- a line whose second part has not 1 to 10 decimal digits gives no word
 pub no_address : (line n r a v : List ℕ) → fields line ≡ n ∷ fields r → fields r ≡ a ∷ fields v → is_name n ≡ true → are_digits 10 10 a ≡ false → word_of line ≡ None
 no_address line n r a v e f h k = word_from line n r a v e f ∙ rw (h, k) refl
 
+-- a line that has not 1 to 16 hexadecimal digits after its second part gives no word
 pub no_value : (line n r a v : List ℕ) → fields line ≡ n ∷ fields r → fields r ≡ a ∷ fields v → are_digits 16 16 v ≡ false → word_of line ≡ None
 no_value line n r a v e f k = word_from line n r a v e f ∙ third_fails _ (is_name n) (are_digits 10 10 a) (are_digits 16 16 v) k
 
+-- a line of a name, an address and a value gives their word
 pub word_found : (line n r a v : List ℕ) (address value : ℕ) → fields line ≡ n ∷ fields r → fields r ≡ a ∷ fields v → is_name n ≡ true → are_digits 10 10 a ≡ true → are_digits 16 16 v ≡ true
     → address ≡ digits_value 10 a → value ≡ digits_value 16 v → word_of line ≡ Some (record { name = n; address = address; value = value })
 word_found line n r a v address value e f h k l p q = word_from line n r a v e f ∙ rw (h, k, l, p, q) refl

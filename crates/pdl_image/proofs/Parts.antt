@@ -24,9 +24,11 @@ place_is p xs i e =
     let h : position_or_len p xs < length xs = ltb-true _ _ f.0 in
     (f.1, subst (λ n. n < length xs) f.1 h)
 
+-- where no element passes a test, the first place that passes is not before the end
 pub none_passes : {X : Type 0} (p : X → Bool) (xs : List X) → position p xs ≡ None → length xs ≤ position_or_len p xs
 none_passes p xs e = ltb-false _ _ (none_of _ _ e)
 
+-- a text's first part ends before its first byte of a kind, and the other parts are those after that byte
 pub parts_at : (p : ℕ → Bool) (xs : List ℕ) (i : ℕ) → position p xs ≡ Some i → slice_split p xs ≡ take i xs ∷ slice_split p (drop (i + 1) xs)
 parts_at p xs i e =
     let f = place_is p xs i e in
@@ -58,6 +60,7 @@ lines_at xs i e =
     let P : ℕ → Type 0 = λ n. lines xs ≡ take n xs ∷ lines (drop (n + 1) xs) in
     subst P f.0 (lines_at_place xs h)
 
+-- a text without a byte of a kind is its only part
 pub parts_whole : (p : ℕ → Bool) (xs : List ℕ) → position p xs ≡ None → slice_split p xs ≡ xs ∷ []
 parts_whole p xs e =
     let h : length xs ≤ position_or_len p xs = none_passes p xs e in
@@ -74,11 +77,11 @@ lines_none x [] h = whole_step (eqb x 10) x [] (position_or_len {X = ℕ} (λ c.
 lines_none x (y ∷ ys) h = whole_step (eqb x 10) x (y ∷ ys) (position_or_len (λ c. eqb c 10) (y ∷ ys)) (λ k. ap (onto_first x) (lines_none y ys k)) h
 
 -- the last line may lack its line feed
-pub lines_whole : (xs : List ℕ) → 0 < length xs → position (λ c. eqb c 10) xs ≡ None → lines xs ≡ xs ∷ []
+lines_whole : (xs : List ℕ) → 0 < length xs → position (λ c. eqb c 10) xs ≡ None → lines xs ≡ xs ∷ []
 lines_whole [] l e = absurd (omega arith)
 lines_whole (x ∷ xs) l e = lines_none x xs (none_passes (λ c. eqb c 10) (x ∷ xs) e)
 
-pub lines_none_left : lines [] ≡ []
+lines_none_left : lines [] ≡ []
 unfolding lines
 lines_none_left = refl
 
@@ -86,13 +89,16 @@ lines_none_left = refl
 pub split_at : (xs : List ℕ) (i : ℕ) → position (λ c. eqb c 10) xs ≡ Some i → lines xs ≡ take i xs ∷ lines (take (length xs - (i + 1)) (drop (i + 1) xs))
 split_at xs i e = rw take_rest (lines_at xs i e)
 
+-- a text that is not empty and has no line feed is one line, and then those of the empty text
 pub split_whole : (xs : List ℕ) → 0 < length xs → position (λ c. eqb c 10) xs ≡ None → lines xs ≡ xs ∷ lines (take (length xs - length xs) (drop (length xs) xs))
 split_whole xs l e = rw (take_rest, drop-length, lines_none_left) (lines_whole xs l e)
 
+-- a line's first part ends before its first space, and the other parts are those after that space
 pub fields_at : (xs : List ℕ) (i : ℕ) → position (λ c. eqb c 32) xs ≡ Some i → fields xs ≡ take i xs ∷ fields (take (length xs - (i + 1)) (drop (i + 1) xs))
 unfolding fields
 fields_at xs i e = rw take_rest (parts_at (λ c. eqb c 32) xs i e)
 
+-- a line without a space is its only part
 pub fields_whole : (xs : List ℕ) → position (λ c. eqb c 32) xs ≡ None → fields xs ≡ xs ∷ []
 unfolding fields
 fields_whole xs e = parts_whole (λ c. eqb c 32) xs e

@@ -18,6 +18,7 @@ pub record Taken (mems : List MemInfo) (all : List (List ℕ)) (n : ℕ) (left :
   pub given : slots ≡ all_slots mems (take n all)
   pub same : first_wrong mems [] 2 all ≡ first_wrong mems (take n all) (n + 2) left
 
+-- before the first line all lines are left, and the slots are those of no lines
 pub taken_none : (mems : List MemInfo) (all : List (List ℕ)) (slots : List (List (Option ℕ))) → slots ≡ all_slots mems [] → Taken mems all 0 all slots
 taken_none mems all slots e = record { rest = refl; many = refl; given = e; same = refl }
 
@@ -37,6 +38,7 @@ next_line : (mems : List MemInfo) (before : List (List ℕ)) (number : ℕ) (lin
 unfolding first_wrong
 next_line mems before number line later = refl
 
+-- a line that breaks no rule is taken after those before it, with the slots that it leaves
 pub taken_more : (mems : List MemInfo) (all : List (List ℕ)) (n : ℕ) (left : List (List ℕ)) (line : List ℕ) (later : List (List ℕ)) (slots new : List (List (Option ℕ)))
     → Taken mems all n left slots → left ≡ line ∷ later → broken_rule mems (take n all) line ≡ None → new ≡ all_slots mems (take n all ++ line ∷ []) → Taken mems all (n + 1) later new
 taken_more mems all n left line later slots new t e b f =
@@ -52,6 +54,7 @@ taken_more mems all n left line later slots new t e b f =
           ∙ ap (λ k. first_wrong mems (take (n + 1) all) k later) (omega arith);
     }
 
+-- where the next line breaks a rule, it is the first wrong line of all, refused by this rule
 pub wrong_found : (mems : List MemInfo) (all : List (List ℕ)) (n : ℕ) (left : List (List ℕ)) (line : List ℕ) (later : List (List ℕ)) (slots : List (List (Option ℕ))) (rule : Rule)
     → Taken mems all n left slots → left ≡ line ∷ later → broken_rule mems (take n all) line ≡ Some rule → first_wrong mems [] 2 all ≡ Some (Refused rule (n + 2))
 wrong_found mems all n left line later slots rule t e b =
@@ -68,6 +71,7 @@ unfolding lines
 lines_of_none [] h = refl
 lines_of_none (c ∷ cs) h = absurd (omega arith)
 
+-- once all lines are taken, none is wrong and the slots are those of all lines
 pub all_taken : (mems : List MemInfo) (all : List (List ℕ)) (n : ℕ) (text : List ℕ) (slots : List (List (Option ℕ))) → Taken mems all n (lines text) slots → length text ≡ 0
     → (first_wrong mems [] 2 all ≡ None) × (slots ≡ all_slots mems all)
 all_taken mems all n text slots t h =
@@ -81,10 +85,12 @@ empty_row : (m : MemInfo) → replicate m.depth None ≡ slots_of [] m
 unfolding slots_of given_value
 empty_row m = splat_is_map (range_with_len 0 m.depth) m.depth None (length-range_with_len 0 m.depth)
 
+-- without memories there are no slots
 pub no_slots : all_slots [] [] ≡ []
 unfolding all_slots
 no_slots = refl
 
+-- with one memory more, its slots, in which there is no word, come after those of the others
 pub one_more_row : (mems : List MemInfo) (i : ℕ) (m : MemInfo) (row : List (Option ℕ)) → i < length mems → m ≡ get_or mems i m → row ≡ replicate m.depth None
     → all_slots (take (i + 1) mems) [] ≡ all_slots (take i mems) [] ++ row ∷ []
 unfolding all_slots

@@ -51,7 +51,7 @@ fn put_word(mem: &MemInfo, slots: &mut Slots, address: u64, value: u64) -> Resul
 }
 
 // Takes a line after those before it, or the lowest rule that it breaks is the answer.
-#[tactic(auto, using(crate::proofs::Filling::as_many, crate::proofs::Filling::as_deep))]
+#[tactic(auto, using(crate::proofs::LineSteps::as_many, crate::proofs::LineSteps::as_deep))]
 fn take_line(mems: &[MemInfo], slots: &mut [Slots], line: &[u8]) -> Result<(), Rule>
     requires names { AllPairs (λ a b. a.name ≢ b.name) mems.now }
     requires low { All (λ m. 1 ≤ m.width) mems.now }
@@ -85,7 +85,7 @@ fn empty_slots(alloc: Global, mems: &[MemInfo]) -> Result<Vec<Slots>, NoMemory>
 }
 
 // Takes the lines after the first one, or the refusal of the first wrong one is the answer.
-#[tactic(auto, using(crate::proofs::TakenLines::taken_none, crate::proofs::Filling::slots_fit))]
+#[tactic(auto, using(crate::proofs::TakenLines::taken_none, crate::proofs::LineSteps::slots_fit))]
 fn take_lines(mems: &[MemInfo], slots: &mut [Slots], text: &[u8]) -> Result<(), FileError>
     requires names { AllPairs (λ a b. a.name ≢ b.name) mems.now }
     requires low { All (λ m. 1 ≤ m.width) mems.now }

@@ -1,3 +1,3 @@
-pub mod Told
-pub mod Held
+pub mod ResumedWrites
+pub mod FileMap
 pub mod Fits

@@ -89,7 +89,7 @@ impl Files for MemFiles {
     ghost may = { λ s n. true };
 
     /// Reads a file. It fails exactly where the name is missing, the file is too long, or this call is listed.
-    #[tactic(auto, using(crate::proofs::Held::held_is))]
+    #[tactic(auto, using(crate::proofs::FileMap::held_is))]
     fn read(&mut self, name: &str) -> Result<Vec<u8>, ReadError>
         ensures failed { IsErrOf result ReadError.Failed ↔ ReadFails self.old name.now }
         ensures state { self.new ≡ after_read self.old result }

@@ -27,7 +27,7 @@ pub trait Sink {
 }
 
 /// Writes the whole piece, or a prefix of it and fails. It takes no memory of its own.
-#[tactic(auto, using(crate::proofs::Told::told_on, crate::proofs::Told::told_none))]
+#[tactic(auto, using(crate::proofs::ResumedWrites::told_on, crate::proofs::ResumedWrites::told_none))]
 pub fn write_whole<S: Sink>(sink: &mut S, piece: &[u8]) -> Result<(), WriteFailed>
     ensures whole { OnOk result (S.written sink.new ≡ with_bytes piece.now (S.written sink.old)) }
     ensures part { OnErr result (TakesPrefix (S.written sink.old) (S.written sink.new) piece.now) }

@@ -16,14 +16,14 @@ use Rattle.pdl_rules.specs.Forks.{is_delayed_memory, is_wrong_read}
 use Rattle.pdl_rules.specs.Refusal.{KeepsRules}
 use Rattle.pdl_theory_facts.specs.Facts.{Sound}
 use Rattle.pdl_source_stages.proofs.Sites.{Site, sites_of, place_of, owns, stmts_are}
-use Rattle.pdl_source_stages.proofs.Fine.{op_of, rows_of, own_is, each_fine}
+use Rattle.pdl_source_stages.proofs.SiteFacts.{op_of, rows_of, own_is, each_fine}
 use Rattle.pdl_source_paths.specs.Source.{is_source, is_named}
 use Rattle.pdl_source_paths.proofs.Growth.{Grows, vars_past, past_grown, grows_all}
-use Rattle.pdl_source_paths.proofs.Whole.{of_source}
+use Rattle.pdl_source_paths.proofs.PipeFacts.{of_source}
 use Rattle.pdl_machine_lockuse.proofs.InUse.{leads_sound}
 use Rattle.pdl_law_parts.specs.Reads.{IsAtOnce}
 use Rattle.pdl_machine_inflight.specs.Readings.{ReadsAtOnce, Reads}
-use Rattle.pdl_law.specs.Standing.{IsLawful}
+use Rattle.pdl_law.specs.StandingStates.{IsLawful}
 use Rattle.pdl_law.proofs.DelayedReads.{RisesIn, rises_from, reading_has, risen, reads_apart, each_reading}
 use Rattle.pdl_word.specs.Each.{Each}
 use Rattle.pdl_word.proofs.Each.{each_weaker}
@@ -68,6 +68,7 @@ kind_at p (If sp c when otherwise) vs e = (tt, tt, tt)
 kind_at p (Separator sp) vs e = tt
 kind_at p _ vs e = (tt, tt, tt)
 
+-- each read of a pipe that keeps the rules is of a memory of its kind, delayed or at once
 pub kinds : (p : tree.Pipe) → KeepsRules p → Each (λ (x : Stmt). IsOfKind (flat p) x.op) (flat p).stmts
 kinds p rules = each_fine p rules (λ (x : Stmt). IsOfKind (flat p) x.op) (λ t h op e. subst (OnSome (IsOfKind (flat p))) e (kind_at p t.stmt t.walk.vars (rules F4 t.front (place_of t) h.later h.whole)))
 
@@ -113,7 +114,7 @@ each_low n (x ∷ xs) h = (at x.op, each_low n xs parts.1)
 
 -- ---- ALL
 
-pub reads_source : (p : tree.Pipe) → KeepsRules p → Sound (flat p) → Reads (flat p)
+reads_source : (p : tree.Pipe) → KeepsRules p → Sound (flat p) → Reads (flat p)
 reads_source p rules sound = record {
   one = each_reading (flat p) sound;
   apart = reads_apart (length (params_of p.params)) (flat p).vars (flat p).stmts (rises p);

@@ -19,9 +19,9 @@ use Rattle.pdl_net.specs.Cycle.{output_values}
 use Rattle.pdl_machine_facts.specs.Slots.{moving}
 use Rattle.pdl_machine_facts.proofs.Stagewise.{next_is}
 use Rattle.pdl_machine_inflight.specs.Readings.{reading}
-use Rattle.pdl_law.specs.Standing.{IsLawful, IsKnown}
+use Rattle.pdl_law.specs.StandingStates.{IsLawful, IsKnown}
 use Rattle.pdl_law.specs.Outside.{address_asked, IsStore, StoreThen, AreStores}
-use Rattle.pdl_law_sides.specs.Whole.{replies_of, names_delayed}
+use Rattle.pdl_law_sides.specs.WholeNetlist.{replies_of, names_delayed}
 use Rattle.pdl_law.proofs.Requests.{or_old, address_next, never_asked}
 use Rattle.pdl_law.proofs.WholeOutputs.{write_of}
 use Rattle.pdl_law.proofs.Stores.{delayed_in}
@@ -54,6 +54,7 @@ replied_here p bits m x xs b e h =
     ap (is_answered p bits) (let z : m ≡ m + 0 = omega arith in z) ∙ h 0 (omega arith) e
     ∙ ap (λ t. slice_index_or (replies_of (if t then suc (delayed_in xs) else delayed_in xs) b) 0 false) e
 
+-- a request is left unanswered outside where one of the machine's requests is, and only there
 pub waits_are : (p : Pipe) (st : machine.State) (bits : List Bool) (m : ℕ) (xs : List Mem) (ys : List Store) (b : ℕ) → AreStores st m xs ys → Replied p bits m xs b → ((i : ℕ) → i < length xs → (slice_index_or xs i plain_mem).delayed ≡ false → request_of st (m + i) ≡ NoRequest)
     → some_waits ys b ≡ waits_from p bits m (for_mems (request_of st) m xs)
 waits_are p st bits m [] [] b h r n = refl

@@ -16,7 +16,7 @@ use Rattle.pdl_net.specs.Circuit.{Circuit, State}
 use Rattle.pdl_net.specs.Signal.{Signal, mux_signal}
 use Rattle.pdl_net.specs.Cycle.{next_regs, next_arrays}
 use Rattle.pdl_net.specs.Growth.{Own}
-use Rattle.pdl_lockapi.proofs.Next.{is_next, is_reset}
+use Rattle.pdl_lockapi.proofs.NextState.{is_next, is_reset}
 use Rattle.pdl_order.specs.Laws.{Drives}
 use Rattle.pdl_machine_facts.specs.Slots.{LeadsOn, here, slot_moves, stage_moves, mover, movers_from, moving}
 use Rattle.pdl_machine_facts.specs.Cycle.{IsByStages}
@@ -30,7 +30,7 @@ use Rattle.pdl_law_parts.proofs.Moves.{ready_of, lives_fork}
 use Rattle.pdl_machine_inflight.specs.InFlight.{InFlight}
 use Rattle.pdl_law_sides.specs.Sides.{Sides, OrderNets, into_first, into_second, merging, into_merge, leaves_fork, order_step, branch_turn, merge_turn, turn}
 use Rattle.pdl_law_sides.specs.HasSides.{HasOrder, HasSides}
-use Rattle.pdl_law.proofs.Forking.{goes_first, goes_second, if_moves, order_act, step_is, proper_order}
+use Rattle.pdl_law.proofs.OrderSteps.{goes_first, goes_second, if_moves, order_act, step_is, proper_order}
 
 -- ---- WAYS
 
@@ -55,7 +55,7 @@ way_at s w (Forks x a b) env h f g none some = fork_at s w x a b env h (f a) (f 
 -- ---- THE START
 
 -- at the start no thread is in a fork
-pub list_first : (p : Pipe) (image : Arrays) (f : ℕ) → f < length p.stages → fork_of (first p image) f ≡ []
+list_first : (p : Pipe) (image : Arrays) (f : ℕ) → f < length p.stages → fork_of (first p image) f ≡ []
 list_first p image f low = at_stage (λ g. []) 0 p.stages f [] low
 
 module _ (p : Pipe) (c : Circuit) (vs : ℕ → View) (gates : Gates) (moves : ℕ → Signal) (sides : Sides) (own : Own) (f : ℕ) (low : f < length p.stages) (order : HasOrder p c vs gates moves sides own f) where
@@ -247,7 +247,7 @@ module _ (p : Pipe) (sound : Sound p) (c : Circuit) (vs : ℕ → View) (gates :
 -- ---- ALL FORKS
 
 -- the order of each fork that is merged stands for its list
-abbrev pub OrdersStand : Pipe → Sides → State → machine.State → Type 0
+abbrev OrdersStand : Pipe → Sides → State → machine.State → Type 0
 OrdersStand p sides s st = (f q : ℕ) → f < length p.stages → (stage_at p q).merges ≡ Some f → (sides.order f).stands s (fork_of st f)
 
 module _ (p : Pipe) (ls : Locks) (c : Circuit) (vs : ℕ → View) (gates : Gates) (moves : ℕ → Signal) (sides : Sides) (has : HasSides p ls c vs gates moves sides) where

@@ -11,13 +11,15 @@ use Rattle.pdl_net.specs.declared.Netlist.{Netlist}
 use Rattle.pdl_net.specs.Run.{delayed_mems}
 use Rattle.pdl_law_parts.specs.Walk.{Locks}
 use Rattle.pdl_law_parts.specs.Places.{delayed_count, comb_place, net_place}
-use Rattle.pdl_law_sides.specs.Whole.{names_delayed, in_order, HasWholeMems}
+use Rattle.pdl_law_sides.specs.WholeNetlist.{names_delayed, in_order, HasWholeMems}
 
 -- ---- COUNTS
 
+-- a memory before others that passes the test makes the count one more
 pub count_yes : (test : Mem → Bool) (x : Mem) (xs : List Mem) → test x ≡ true → count_by test (x ∷ xs) ≡ suc (count_by test xs)
 count_yes test x xs e = sum_by-cons (λ y. cond (test y) 1 0) x xs ∙ ap (λ b. cond b 1 0 + count_by test xs) e ∙ (let z : 1 + count_by test xs ≡ suc (count_by test xs) = omega arith in z)
 
+-- a memory before others that doesn't pass the test leaves the count
 pub count_no : (test : Mem → Bool) (x : Mem) (xs : List Mem) → test x ≡ false → count_by test (x ∷ xs) ≡ count_by test xs
 count_no test x xs e = sum_by-cons (λ y. cond (test y) 1 0) x xs ∙ ap (λ b. cond b 1 0 + count_by test xs) e ∙ (let z : 0 + count_by test xs ≡ count_by test xs = omega arith in z)
 
@@ -31,9 +33,11 @@ fewer_before test (x ∷ xs) (suc i) l e = at (test x) refl (fewer_before test x
     at true f h = let c = count_yes test x xs f in let d = count_yes test x (take i xs) f in omega (arith, c, d, h)
     at false f h = let c = count_no test x xs f in let d = count_no test x (take i xs) f in omega (arith, c, d, h)
 
+-- a memory is delayed
 abbrev pub is_delayed : Mem → Bool
 is_delayed x = x.delayed
 
+-- a memory answers at once
 abbrev pub is_comb : Mem → Bool
 is_comb x = if x.delayed then false else true
 
@@ -59,12 +63,15 @@ place_low p m l = at (mem_at p m).delayed refl
     at true e = let h = fewer_before is_delayed p.mems m l e in omega (arith, all, h)
     at false e = let h = fewer_before is_comb p.mems m l (ap (λ b. if b then false else true) e) in omega (arith, all, h)
 
+-- the place of a delayed memory in the netlist is that among the delayed ones
 pub place_delayed : (p : Pipe) (m : ℕ) → (mem_at p m).delayed ≡ true → net_place p m ≡ reply_place p m
 place_delayed p m e = ap (λ b. if b then reply_place p m else delayed_count p + comb_place p m) e
 
+-- a memory that answers at once stands after the delayed ones, in the order of such memories
 pub place_comb : (p : Pipe) (m : ℕ) → (mem_at p m).delayed ≡ false → net_place p m ≡ delayed_count p + comb_place p m
 place_comb p m e = ap (λ b. if b then reply_place p m else delayed_count p + comb_place p m) e
 
+-- the place of a delayed memory among the delayed ones is below their count
 pub reply_low : (p : Pipe) (m : ℕ) → m < length p.mems → (mem_at p m).delayed ≡ true → reply_place p m < delayed_count p
 reply_low p m l e = fewer_before is_delayed p.mems m l e
 

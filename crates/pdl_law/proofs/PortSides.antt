@@ -22,11 +22,12 @@ use Rattle.pdl_law_parts.proofs.Signals.{mux_at, mux_by, both_at, one_is}
 use Rattle.pdl_machine_inflight.specs.Readings.{Reading, reading, places, place_at, Reads}
 use Rattle.pdl_machine_inflight.specs.InFlight.{Some-of, Awaits, IsAwaited, InFlight}
 use Rattle.pdl_machine_inflight.proofs.DeedsIn.{AsksIn, asks_in}
-use Rattle.pdl_machine_inflight.proofs.Answers.{word_asked, kept_append, some_open, not_bound}
+use Rattle.pdl_machine_inflight.proofs.Answers.{word_asked, some_open, not_bound}
 use Rattle.pdl_law_sides.specs.Sides.{Sides, answers_of, place_answer, memory_answer, some_answer, with_answer, place_answered, memory_answered, all_answered, ports_open}
 use Rattle.pdl_law_sides.specs.HasSides.{HasPort}
-use Rattle.pdl_law.proofs.Waiting.{SamePort, reply_bit, answered_yes, answered_no, given_right, given_comes, free_is, place_up}
+use Rattle.pdl_law.proofs.WaitingPorts.{SamePort, reply_bit, answered_yes, answered_no, given_right, given_comes, free_is, place_up}
 use Rattle.pdl_word.specs.Each.{Each}
+use Rattle.pdl_semantics.proofs.Facts.{kept_append}
 
 -- in a state of the circuit each port stands for one that agrees with the machine
 pub record PortStands (p : Pipe) (sides : Sides) (s : State) (st : MachineState) (m : ℕ) (r : Reading) : Type 0 where
@@ -125,7 +126,7 @@ module _ (p : Pipe) (reads : Reads p) (leads : LeadsOn p) (inside : (m : ℕ) (r
     -- who awaits a memory reads it
     read_of : (m : ℕ) → Awaits u m → (r : Reading) × (reading p m ≡ Some r)
     read_of m w =
-        let a = Rattle.pdl_law.proofs.Waiting.each_some (IsAwaited p st k u.number) (λ (q : Awaited). q.mem ≡ m) u.awaits (flight.awaited k u f) w in
+        let a = Rattle.pdl_law.proofs.WaitingPorts.each_some (IsAwaited p st k u.number) (λ (q : Awaited). q.mem ≡ m) u.awaits (flight.awaited k u f) w in
         (a.1.read, ap (reading p) (sym a.2) ∙ a.1.is)
 
     memory_told : (m : ℕ) (o : Option Reading) → reading p m ≡ o → Told (memory_answered p (answers_of sides) k m o) (Open m)

@@ -11,7 +11,7 @@ use Rattle.pdl_net.specs.Circuit.{Circuit, State}
 use Rattle.pdl_net.specs.Signal.{Signal, mux_signal}
 use Rattle.pdl_net.specs.Cycle.{next_regs, next_arrays}
 use Rattle.pdl_lockapi.specs.Laws.{IsNext}
-use Rattle.pdl_lockapi.proofs.Next.{is_next, is_reset}
+use Rattle.pdl_lockapi.proofs.NextState.{is_next, is_reset}
 use Rattle.pdl_machine_facts.specs.Slots.{LeadsOn, slot, here, stage_moves, moving}
 use Rattle.pdl_machine_facts.specs.Cycle.{IsByStages}
 use Rattle.pdl_machine_facts.proofs.Requests.{none_requested}
@@ -29,7 +29,7 @@ use Rattle.pdl_machine_inflight.specs.Readings.{Reading, reading, places_of, pla
 use Rattle.pdl_machine_inflight.specs.InFlight.{InFlight}
 use Rattle.pdl_law_sides.specs.Sides.{Sides, asks_memory, asked_address, goes_to_place, asked_into, port_step}
 use Rattle.pdl_law_sides.specs.HasSides.{HasOwn, HasPort}
-use Rattle.pdl_law.proofs.Waiting.{SameRequest, SamePort, asks_of, asked_at, port_act}
+use Rattle.pdl_law.proofs.WaitingPorts.{SameRequest, SamePort, asks_of, asked_at, port_act}
 use Rattle.pdl_law.proofs.WaitingStep.{proper_port, same_next}
 use Rattle.pdl_law.proofs.PortSides.{PortStands, IsGiven}
 
@@ -70,6 +70,7 @@ abbrev pub address_or : Option ℕ → ℕ
 address_or None = 0
 address_or (Some a) = a
 
+-- the address that a stage asks of a memory is its thread's, 0 where that asks nothing or doesn't move
 pub address_value : (s : State) (m : ℕ) (moves : Signal) (g : Bool) → moves.value s ≡ bit g → (qs : List walk.Ask) → (asked_address m moves qs).value s ≡ (if g then address_or (address_of m (asked_in s qs) None) else 0)
 address_value s m moves g e [] = zero_is s ∙ at 0 g
   where
@@ -123,6 +124,7 @@ own_next c own s t h regs arrays = is_next own c c s t (record { has_reg = h.reg
 
 -- AT THE START
 
+-- at the start the port of a delayed memory stands for the machine's first state
 pub ports_first : (p : Pipe) (c : Circuit) (vs : ℕ → View) (gates : Gates) (moves : ℕ → Signal) (sides : Sides) (own : Rattle.pdl_net.specs.Growth.Own) (m : ℕ) (r : Reading) → HasPort p c vs gates moves sides own m r → (image : Arrays) (s : State) → s.regs ≡ map (λ (x : Reg). x.reset) c.regs → PortStands p sides s (first p image) m r
 ports_first p c vs gates moves sides own m r h image s regs = record {
   state = Idle;
@@ -160,7 +162,7 @@ module _ (p : Pipe) (reads : Reads p) (leads : LeadsOn p) (some : 0 < length p.s
           ∙ ap₂ (λ b o. bit (asked_at p st m r b o i)) (sym e.2) (sym e.1)
 
   place_low : (i : ℕ) → i < length (places p r) → place_at p r i < length p.stages
-  place_low i l = (Rattle.pdl_law.proofs.Waiting.place_up p reads leads st bits flight by m r is r_low stand.state stand.same i l).1
+  place_low i l = (Rattle.pdl_law.proofs.WaitingPorts.place_up p reads leads st bits flight by m r is r_low stand.state stand.same i l).1
 
   abbrev act : PortAct
   act = port_act p st bits m r (λ i. removed (place_at p r i))

@@ -23,9 +23,9 @@ use Rattle.pdl_machine_inflight.specs.Readings.{Reading, reading, Reads}
 use Rattle.pdl_machine_inflight.proofs.DeedsIn.{AsksIn, asks_in}
 use Rattle.pdl_law_sides.specs.Sides.{Sides}
 use Rattle.pdl_law.specs.Outside.{address_asked}
-use Rattle.pdl_law_sides.specs.Whole as whole
-use Rattle.pdl_law_sides.specs.Whole.{IsOutside}
-use Rattle.pdl_law.proofs.Waiting.{asks_of}
+use Rattle.pdl_law_sides.specs.WholeNetlist as whole
+use Rattle.pdl_law_sides.specs.WholeNetlist.{IsOutside}
+use Rattle.pdl_law.proofs.WaitingPorts.{asks_of}
 use Rattle.pdl_law.proofs.PortsNext.{asks_value, address_or, address_value}
 use Rattle.pdl_word.specs.Each.{Each}
 

@@ -25,25 +25,18 @@ use Rattle.pdl_law_parts.specs.Walk.{Locks}
 use Rattle.pdl_law_parts.specs.Views.{View, Gates}
 use Rattle.pdl_law_parts.specs.Declared.{mem_names}
 use Rattle.pdl_law_sides.specs.Sides.{Sides}
-use Rattle.pdl_law.specs.Standing.{IsLawful, IsKnown}
-use Rattle.pdl_law_sides.specs.Whole.{in_order, ShowsWhole}
-use Rattle.pdl_law.specs.Made.{IsMadeWhole}
-use Rattle.pdl_law.proofs.Named.{Apart}
+use Rattle.pdl_law.specs.StandingStates.{IsLawful, IsKnown}
+use Rattle.pdl_law_sides.specs.WholeNetlist.{in_order, ShowsWhole}
+use Rattle.pdl_law.specs.MadeNetlist.{IsMadeWhole}
+use Rattle.pdl_law.proofs.OutputNames.{Apart}
 use Rattle.pdl_law.proofs.WholeCycle.{whole_first}
 use Rattle.pdl_law.proofs.WholeRuns.{IsStanding, shows_whole}
 use Rattle.pdl_law.proofs.WholeStart.{stores_start, stands_start, holds_whole}
 use Rattle.pdl_law.proofs.FromRules.{lawful_source}
-use Rattle.pdl_law.proofs.Known.{known_here}
+use Rattle.pdl_law.proofs.CycleFacts.{known_here}
+use Rattle.pdl_law_parts.proofs.WellFormedNames.{name_turned}
 
 -- NAMES
-
--- two texts that differ differ the other way round
-apart_back : (a b : List ℕ) → bytes_eq a b ≡ false → bytes_eq b a ≡ false
-apart_back a b e = at (bytes_eq b a) refl
-  where
-    at : (t : Bool) → bytes_eq b a ≡ t → bytes_eq b a ≡ false
-    at false f = f
-    at true f = let same = (bytes_eq-Decides b a).0 f in absurd (false≢true (sym e ∙ ap (λ x. bytes_eq a x) same ∙ bytes_refl a))
 
 -- a name that no memory of these has
 other_name : (ms : List tree.Mem) (x : List ℕ) → is_memory ms x ≡ false → (j : ℕ) → j < length ms → bytes_eq (mem_names ms j) x ≡ false
@@ -62,7 +55,7 @@ other_name (m ∷ ms) x h (suc j) l = other_name ms x (second (bytes_eq m.name.n
 names_apart : (ms : List tree.Mem) → AreDistinct ms → Apart (mem_names ms) (length ms)
 names_apart [] h i j k l n = absurd (omega (arith, k))
 names_apart (m ∷ ms) h zero zero k l n = absurd (n refl)
-names_apart (m ∷ ms) h zero (suc j) k l n = apart_back (mem_names ms j) m.name.name (other_name ms m.name.name h.0 j (omega (arith, l)))
+names_apart (m ∷ ms) h zero (suc j) k l n = name_turned (mem_names ms j) m.name.name (other_name ms m.name.name h.0 j (omega (arith, l)))
 names_apart (m ∷ ms) h (suc i) zero k l n = other_name ms m.name.name h.0 i (omega (arith, k))
 names_apart (m ∷ ms) h (suc i) (suc j) k l n = names_apart ms h.1 i j (omega (arith, k)) (omega (arith, l)) (λ e. n (ap suc e))
 

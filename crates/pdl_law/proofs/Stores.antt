@@ -12,7 +12,7 @@ use Rattle.pdl_semantics.specs.Sound.{request_address}
 use Rattle.pdl_net.specs.Run.{Store, reply, answer, answers}
 use Rattle.pdl_machine_inflight.proofs.Answers.{word_asked}
 use Rattle.pdl_law.specs.Outside.{address_asked, IsStore, StoreThen, AreStores}
-use Rattle.pdl_law_sides.specs.Whole.{replies_of}
+use Rattle.pdl_law_sides.specs.WholeNetlist.{replies_of}
 
 -- COUNTS
 
@@ -21,6 +21,7 @@ abbrev pub delayed_in : List Mem → ℕ
 delayed_in [] = 0
 delayed_in (x ∷ xs) = if x.delayed then suc (delayed_in xs) else delayed_in xs
 
+-- how many memories are delayed is the count of those that pass the test for it
 pub counted : (xs : List Mem) → delayed_in xs ≡ count_by (λ (x : Mem). x.delayed) xs
 counted xs = is_count_by delayed_in (λ (x : Mem). x.delayed) refl (λ x ys. at x.delayed (delayed_in ys)) xs
   where
@@ -62,6 +63,7 @@ pair_after words (Some a) true rest i = refl
 pair_after words (Some a) false rest i = refl
 pair_after words None b rest i = refl
 
+-- the netlist reads of each delayed memory whether it replies, and the word that was asked for
 pub inputs_read : (st : State) (m : ℕ) (xs : List Mem) (ys : List Store) (b : ℕ) → AreStores st m xs ys → (i : ℕ) → i < length xs → (slice_index_or xs i plain_mem).delayed ≡ true
     → ReadsStore st (m + i) (replies_of (delayed_in xs) b) (answers ys b) (delayed_in (take i xs))
 inputs_read st m [] ys b h i l d = absurd (omega (arith, l))

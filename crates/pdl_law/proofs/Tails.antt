@@ -20,7 +20,7 @@ use Rattle.pdl_net.specs.Cycle.{next_regs, next_arrays}
 use Rattle.pdl_net.specs.Well.{Suits}
 use Rattle.pdl_lockapi.specs.Laws.{holds_ticket}
 use Rattle.pdl_lockapi.specs.Forget.{forget, lock_state_of}
-use Rattle.pdl_lockapi.proofs.Next.{is_next}
+use Rattle.pdl_lockapi.proofs.NextState.{is_next}
 use Rattle.pdl_machine_facts.specs.Slots.{LeadsOn, slot, here, stage_moves, moving, ways, ways_from, leads_to, act_at, thread_into, passing_thread, first_of, arriving_thread, staying_thread}
 use Rattle.pdl_machine_facts.specs.Cycle.{IsByStages}
 use Rattle.pdl_machine_facts.specs.Use.{IsInUse}
@@ -31,13 +31,13 @@ use Rattle.pdl_law_parts.specs.Views.{View, Gates, Comer, branch, out_of, new_fr
 use Rattle.pdl_law_parts.specs.Compiled.{IsLaid}
 use Rattle.pdl_law_parts.specs.Stands.{StandsLock, IsSeen, IsSquashed}
 use Rattle.pdl_law_parts.proofs.Signals.{one_is, zero_is, on_is}
-use Rattle.pdl_law_parts.proofs.Stood.{Stood}
+use Rattle.pdl_law_parts.proofs.AnsweredThreads.{Stood}
 use Rattle.pdl_law_parts.proofs.Moves.{ready_of, lives_fork}
 use Rattle.pdl_law_parts.proofs.LockActs.{reserves_are, pending_count}
 use Rattle.pdl_law_parts.proofs.LockStep.{words_next, stands_next}
 use Rattle.pdl_law_parts.proofs.LockPorts.{both_is, moves_or_not}
 use Rattle.pdl_law_parts.proofs.Comers.{first_come, brought, picked_is}
-use Rattle.pdl_law_parts.proofs.Next.{lock_there}
+use Rattle.pdl_law_parts.proofs.NextState.{lock_there}
 use Rattle.pdl_machine_inflight.specs.InFlight.{InFlight}
 use Rattle.pdl_machine_inflight.proofs.Squashing.{stood_in, squasher_in}
 use Rattle.pdl_machine_inflight.proofs.Comings.{stage_low}

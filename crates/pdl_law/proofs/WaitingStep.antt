@@ -22,7 +22,7 @@ use Rattle.pdl_machine_inflight.proofs.DeedsIn.{AsksIn, asks_in}
 use Rattle.pdl_machine_inflight.proofs.Squashing.{stood_in}
 use Rattle.pdl_machine_inflight.proofs.Comings.{CameFrom, born, moved, stayed, came_from}
 use Rattle.pdl_machine_inflight.proofs.Answers.{word_asked, still_awaited}
-use Rattle.pdl_law.proofs.Waiting.{StandsAt, SameRequest, SamePort, reply_bit, asks_of, asked_at, port_act, owner_here, free_is}
+use Rattle.pdl_law.proofs.WaitingPorts.{StandsAt, SameRequest, SamePort, reply_bit, asks_of, asked_at, port_act, owner_here, free_is}
 use Rattle.pdl_word.specs.Each.{Each}
 
 -- WHO ASKS
@@ -77,7 +77,7 @@ free_of_ask m test (q ∷ qs) h e = at (q.mem == m) refl e (free_of_ask m test q
     at false f g rest = rest g
 
 -- a stage that holds a thread is one of the pipe's
-pub here_low : (p : Pipe) (st : State) (bits : List Bool) → length st.stages ≡ length p.stages → (k : ℕ) (t : Thread) → here p st bits k ≡ Some t → k < length p.stages
+here_low : (p : Pipe) (st : State) (bits : List Bool) → length st.stages ≡ length p.stages → (k : ℕ) (t : Thread) → here p st bits k ≡ Some t → k < length p.stages
 here_low p st bits count k t e = ⊎_elim
     (λ (l : k < length p.stages). l)
     (λ (l : length p.stages ≤ k). absurd (none_some (sym (ap (with_now p st bits) (get_or_past st.stages k None (omega (arith, l, count)))) ∙ e)))

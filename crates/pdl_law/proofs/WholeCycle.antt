@@ -20,19 +20,19 @@ use Rattle.pdl_law_parts.specs.Compiled.{IsLaid}
 use Rattle.pdl_law_parts.specs.Beside.{TellsGate}
 use Rattle.pdl_law_parts.specs.Stands.{IsEnv, StandsFor, IsSeen, IsSquashed}
 use Rattle.pdl_law_parts.proofs.Signals.{both_at}
-use Rattle.pdl_law_parts.proofs.Stood.{stood}
+use Rattle.pdl_law_parts.proofs.AnsweredThreads.{stood}
 use Rattle.pdl_law_parts.proofs.Moves.{all_seen, lives_fork}
-use Rattle.pdl_law_parts.proofs.Next.{stands_after}
+use Rattle.pdl_law_parts.proofs.NextState.{stands_after}
 use Rattle.pdl_machine_inflight.specs.Readings.{Reading, reading}
 use Rattle.pdl_machine_inflight.proofs.Squashing.{stood_in}
 use Rattle.pdl_law_sides.specs.Sides.{Sides, answers_of, all_answered, unsquashed, ports_open, barrier_open, turn}
 use Rattle.pdl_law_sides.specs.HasSides.{HasSides}
-use Rattle.pdl_law.specs.Standing.{IsLawful, IsKnown}
+use Rattle.pdl_law.specs.StandingStates.{IsLawful, IsKnown}
 use Rattle.pdl_law.proofs.PortSides.{PortStands, IsGiven, awaits_told, variable_told, ports_told}
 use Rattle.pdl_law.proofs.PortsNext.{ports_first, ports_next}
 use Rattle.pdl_law.proofs.Removals.{removes, unsquashed_is, barrier_is, kill_is}
 use Rattle.pdl_law.proofs.OrderSides.{order_starts, order_kept, merges_is}
-use Rattle.pdl_law.proofs.Squashed.{TailsStand, tails_start, squashed_is, tails_next}
+use Rattle.pdl_law.proofs.SquashSides.{TailsStand, tails_start, squashed_is, tails_next}
 
 -- the stages and the locks, the ports, the orders, and the second tickets stand for the machine's
 pub record WholeStands (p : Pipe) (ls : Locks) (vs : ℕ → View) (sides : Sides) (s : State) (st : machine.State) : Type 0 where

@@ -21,16 +21,16 @@ use Rattle.pdl_law_parts.specs.Views.{View, Gates}
 use Rattle.pdl_law_parts.specs.Ports.{Shown, Commit, stages_shown, commits_shown, shown_signal}
 use Rattle.pdl_law_parts.specs.Compiled.{shown_in, port_in}
 use Rattle.pdl_law_parts.specs.Stands.{StandsFor, IsSeen, IsSquashed}
-use Rattle.pdl_law_parts.proofs.Stood.{stood}
+use Rattle.pdl_law_parts.proofs.AnsweredThreads.{stood}
 use Rattle.pdl_law_parts.proofs.LinesNames.{name_of_output}
 use Rattle.pdl_law_parts.proofs.LinesPorts.{named_value, port_is}
 use Rattle.pdl_law_parts.proofs.Outputs.{shown_value, outputs_all, values_shown, stages_are, commit_words, commits_are, commit_laid}
 use Rattle.pdl_law_sides.specs.Sides.{Sides}
-use Rattle.pdl_law.specs.Standing.{IsLawful, IsKnown}
-use Rattle.pdl_law_sides.specs.Whole.{Request, IsWhole, request_shown, requests_shown, whole_shown, reply_ports, request_values, all_request_values, whole_values}
+use Rattle.pdl_law.specs.StandingStates.{IsLawful, IsKnown}
+use Rattle.pdl_law_sides.specs.WholeNetlist.{Request, IsWhole, request_shown, requests_shown, whole_shown, reply_ports, request_values, all_request_values, whole_values}
 use Rattle.pdl_law.proofs.PortsNext.{address_or}
 use Rattle.pdl_law.proofs.Requests as requests
-use Rattle.pdl_law.proofs.Named.{look, Apart, past_stages, pick, pick_at, pick_not, commit_flag, commit_addr, commit_word, request_flag, request_addr, past_commits_q, past_commits_qa, past_requests_c, past_requests_ca, past_requests_cd}
+use Rattle.pdl_law.proofs.OutputNames.{look, Apart, past_stages, pick, pick_at, pick_not, commit_flag, commit_addr, commit_word, request_flag, request_addr, past_commits_q, past_commits_qa, past_requests_c, past_requests_ca, past_requests_cd}
 
 -- the ports of replies are no outputs
 no_outputs : (names : ℕ → List ℕ) (m : ℕ) (xs : List Mem) → filter_map port_output (reply_ports names m xs) ≡ []

@@ -28,22 +28,22 @@ use Rattle.pdl_law_parts.specs.Views.{View, Gates}
 use Rattle.pdl_law_parts.specs.Compiled.{port_in}
 use Rattle.pdl_law_parts.specs.Runs.{Seen, seen_of}
 use Rattle.pdl_law_parts.specs.Stands.{IsSeen, IsSquashed}
-use Rattle.pdl_law_parts.proofs.After.{after_more}
 use Rattle.pdl_law_parts.proofs.StageLooks.{plain_is}
 use Rattle.pdl_law_parts.proofs.Outputs.{commit_words}
 use Rattle.pdl_machine_inflight.specs.Readings.{reading}
 use Rattle.pdl_law_sides.specs.Sides.{Sides}
-use Rattle.pdl_law.specs.Standing.{IsLawful, IsKnown}
+use Rattle.pdl_law.specs.StandingStates.{IsLawful, IsKnown}
 use Rattle.pdl_law.specs.Outside.{AreStores}
-use Rattle.pdl_law_sides.specs.Whole.{IsWhole, reply_ports, in_order, replies_of, whole_had, HasWholeMems, ShowsWhole}
+use Rattle.pdl_law_sides.specs.WholeNetlist.{IsWhole, reply_ports, in_order, replies_of, whole_had, HasWholeMems, ShowsWhole}
 use Rattle.pdl_law_parts.specs.Places.{delayed_count}
 use Rattle.pdl_law.proofs.PortSides.{IsGiven}
 use Rattle.pdl_law.proofs.PortsNext.{address_or}
 use Rattle.pdl_law.proofs.WholeCycle.{WholeStands, seen_whole, squashed_whole, whole_next}
 use Rattle.pdl_law.proofs.Stores.{delayed_in, counted, ReadsStore, inputs_read, input_widths, inputs_fit}
-use Rattle.pdl_law.proofs.Named.{Apart}
+use Rattle.pdl_law.proofs.OutputNames.{Apart}
 use Rattle.pdl_law.proofs.WholeOutputs.{write_of, commit_at, request_at, commit_named, no_commit, request_named, whole_shows}
 use Rattle.pdl_law.proofs.NextStores.{Replied, waits_are, quiet_next, StepsTo, stores_next}
+use Rattle.pdl_semantics.proofs.Facts.{after_more}
 
 -- INPUTS
 

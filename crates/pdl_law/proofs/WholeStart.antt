@@ -21,19 +21,19 @@ use Rattle.pdl_net.specs.Holds.{Holds, ImageFits}
 use Rattle.pdl_net.specs.Pipe.{PortMem, delayed_info, comb_info, IsWellFormed}
 use Rattle.pdl_net.specs.Run as net_run
 use Rattle.pdl_net.specs.Run.{Store, delayed_mems, filled_words, loaded_arrays, no_mem}
-use Rattle.pdl_net.proofs.Loaded.{loaded_at, holds_start}
+use Rattle.pdl_net.proofs.StartState.{loaded_at, holds_start, held_found}
 use Rattle.pdl_lockapi.specs.Laws.{words_of, HasImage}
-use Rattle.pdl_lockapi.proofs.Next.{is_reset}
+use Rattle.pdl_lockapi.proofs.NextState.{is_reset}
 use Rattle.pdl_machine_facts.proofs.Requests.{none_requested}
 use Rattle.pdl_law_parts.specs.Walk.{Locks, is_locked}
 use Rattle.pdl_law_parts.specs.Views.{View, Gates}
 use Rattle.pdl_law_parts.specs.Compiled.{IsLaid}
 use Rattle.pdl_law_parts.specs.Stands.{StandsFor}
-use Rattle.pdl_law_parts.proofs.Next.{mem_there, lock_there}
-use Rattle.pdl_law_parts.proofs.First.{padded_at, StartsWith, stands_at_first}
+use Rattle.pdl_law_parts.proofs.NextState.{mem_there, lock_there}
+use Rattle.pdl_law_parts.proofs.FirstState.{padded_at, StartsWith, stands_at_first}
 use Rattle.pdl_law.specs.Outside.{IsStore, StoreThen, AreStores}
 use Rattle.pdl_law_parts.specs.Places.{comb_place, net_place}
-use Rattle.pdl_law_sides.specs.Whole.{StartsLock, in_order, HasWholeMems}
+use Rattle.pdl_law_sides.specs.WholeNetlist.{StartsLock, in_order, HasWholeMems}
 use Rattle.pdl_law.proofs.Places.{is_delayed, count_yes, count_no, place_low, place_delayed, place_comb, reply_low, part_is, delayed_as_many}
 
 -- ---- STORES
@@ -171,16 +171,6 @@ module _ (p : Pipe) (names : ℕ → List ℕ) (ls : Locks) (n : Netlist) (mems 
 record IsHeld (a : Array) (m : MemInfo) : Type 0 where
   width : a.width ≡ m.width
   depth : m.depth ≤ a.depth
-
-held_found : (a : Array) (ls : List PortMem) → All (λ m. m.name ≡ a.name → a.width ≡ m.width) ls → All (λ m. m.name ≡ a.name → (a.depth ≡ 2 ^ m.bits) ⊎ (a.depth ≡ 2 * 2 ^ m.bits)) ls → IsHeld a (comb_info a (find (λ m. bytes_eq m.name a.name) ls))
-held_found a [] w d = record { width = refl; depth = omega arith }
-held_found a (l ∷ ls) w d = at (bytes_eq l.name a.name) refl (held_found a ls (λ k x h. w (suc k) x (omega (arith, h))) (λ k x h. d (suc k) x (omega (arith, h))))
-  where
-    mine : l.name ≡ a.name → IsHeld a (comb_info a (Some l))
-    mine e = record {
-      width = w zero l (omega arith) e;
-      depth = ⊎_elim (λ (f : a.depth ≡ 2 ^ l.bits). omega (arith, f)) (λ (f : a.depth ≡ 2 * 2 ^ l.bits). omega (arith, f)) (d zero l (omega arith) e);
-    }
 
     at : (t : Bool) → bytes_eq l.name a.name ≡ t → IsHeld a (comb_info a (find (λ m. bytes_eq m.name a.name) ls)) → IsHeld a (comb_info a (cond t (Some l) (find (λ m. bytes_eq m.name a.name) ls)))
     at true e h = mine ((bytes_eq-Decides l.name a.name).0 e)

@@ -1,3 +1,3 @@
-pub mod Standing
+pub mod StandingStates
 pub mod Outside
-pub mod Made
+pub mod MadeNetlist

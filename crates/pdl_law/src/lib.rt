@@ -10,7 +10,7 @@ ghost use Rattle.pdl_semantics.specs.Flatten.{flat};
 ghost use Rattle.pdl_semantics.specs.Cycle.{first, state_after};
 ghost use Rattle.pdl_rules.specs.Refusal.{KeepsRules};
 ghost use Rattle.pdl_source_paths.specs.Source.{is_source, is_named};
-ghost use Rattle.pdl_law.specs.Standing.{IsLawful, IsKnown};
+ghost use Rattle.pdl_law.specs.StandingStates.{IsLawful, IsKnown};
 
 /// What the law of a netlist takes of a source that breaks no rule: of its text and stages, and of each cycle of its runs, whatever the image and the replies.
 pub fn whole_pipe()

@@ -32,11 +32,12 @@ some_rec P test (m ∷ ms) h = at (test m) refl (some_rec P test ms (λ k a t. h
     at true e x = (h m (inl refl) e, x)
     at false e x = x
 
+-- what holds of each delayed memory, as ports tell it, holds of all of them
 pub delayed_all : (P : PortMem → Type 0) (ms : List Mem) → ((m : Mem) → Among m ms → m.delayed ≡ true → P (port_mem m)) → All P (map port_mem (delayed_of ms))
 delayed_all P ms h = All-from_recursion P (map port_mem (delayed_of ms)) (some_rec P is_delayed ms h)
 
 -- one of these holds what all do
-pub all_contained : {X : Type 0} (P : X → Type 0) (xs : List X) (x : X) → All P xs → Contains xs x → P x
+all_contained : {X : Type 0} (P : X → Type 0) (xs : List X) (x : X) → All P xs → Contains xs x → P x
 all_contained P xs x h c = subst P c.2 (h c.0 x c.1)
 
 -- a memory is contained among its like
@@ -45,6 +46,7 @@ contained [] m a = absurd a
 contained (x ∷ xs) m (inl s) = (0, (omega arith), ap port_mem s)
 contained (x ∷ xs) m (inr a) = let r = contained xs m a in let l = r.1 in (suc r.0, (omega (arith, l)), r.2)
 
+-- a delayed memory is one of the delayed ones, as ports tell them
 pub delayed_contained : (ms : List Mem) (m : Mem) → Among m ms → m.delayed ≡ true → Contains (map port_mem (delayed_of ms)) (port_mem m)
 delayed_contained ms m a d = contained (delayed_of ms) m (some_among is_delayed ms m a d)
 

@@ -36,7 +36,7 @@ more_requests [] rest = omega arith
 more_requests (l ∷ ls) rest = let e = more_requests ls rest in omega (arith, e)
 
 -- there are at least two outputs
-pub few_outputs : (p : tree.Pipe) (n : Netlist) → Follows p n → 2 ≤ output_count n
+few_outputs : (p : tree.Pipe) (n : Netlist) → Follows p n → 2 ≤ output_count n
 few_outputs p n f =
     let stages = length (flat p).stages in
     let delayed = map port_mem (delayed_of p.mems) in

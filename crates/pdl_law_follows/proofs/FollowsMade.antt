@@ -18,7 +18,7 @@ use Rattle.pdl_law_parts.specs.Views.{View, Gates}
 use Rattle.pdl_law_parts.proofs.WellFormedMems.{few_mems}
 use Rattle.pdl_law_parts.proofs.WellFormedStages.{few_stages}
 use Rattle.pdl_law_sides.specs.Sides.{Sides}
-use Rattle.pdl_law.specs.Standing.{IsLawful}
+use Rattle.pdl_law.specs.StandingStates.{IsLawful}
 use Rattle.pdl_law.proofs.FromRules.{lawful_source}
 use Rattle.pdl_law.proofs.ShowsSource.{shows_source}
 use Rattle.pdl_law_follows.specs.Follows.{Follows, IsMade}
@@ -39,6 +39,7 @@ mems_keep p rules (m ∷ ms) before later e = (
     here : places p ≡ before ++ Memory m ∷ (map Memory ms ++ later)
     here = e ∙ append_assoc before (Memory m ∷ map Memory ms) later
 
+-- the memories of a pipe that keeps the rules keep the rules on names and sizes
 pub declared : (p : tree.Pipe) → KeepsRules p → AreDeclared p.mems
 declared p rules =
     let front = map Parameter p.params in

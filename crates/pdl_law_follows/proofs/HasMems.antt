@@ -15,7 +15,7 @@ use Rattle.pdl_net.specs.declared.Netlist.{Netlist}
 use Rattle.pdl_law_parts.specs.Walk.{Locks}
 use Rattle.pdl_law_parts.specs.Places.{delayed_count, comb_place, net_place}
 use Rattle.pdl_law_parts.specs.Declared.{mem_names}
-use Rattle.pdl_law_sides.specs.Whole.{names_delayed, HasWholeMems}
+use Rattle.pdl_law_sides.specs.WholeNetlist.{names_delayed, HasWholeMems}
 use Rattle.pdl_law.proofs.Places as places
 use Rattle.pdl_law.proofs.Places.{fewer_before, place_delayed, place_comb}
 use Rattle.pdl_law_follows.specs.Memories.{is_delayed, delayed_of, comb_of, net_infos}
@@ -60,6 +60,7 @@ module _ (ms : List Mem) (p : Pipe) (same : p.mems ≡ mems_of ms) where
           by true = refl
           by false = refl
 
+-- a netlist with a pipe's memories has each at its place, where the arrays are in the memories' order
 pub has_mems : (p : Pipe) (ms : List Mem) → p.mems ≡ mems_of ms → (ls : Locks) (n : Netlist) → ((m : ℕ) → m < length p.mems → (mem_at p m).delayed ≡ false → ls.array m ≡ comb_place p m) → n.mems ≡ net_infos ms → HasWholeMems p (mem_names ms) ls n
 has_mems p ms same ls n in_order mems = record {
   named =

@@ -3,7 +3,7 @@ use Rattle.std.proofs.Common.{◌≡◌, inl, inr, ℕ, zero, suc, ◌+◌, ◌<
 use Rattle.std.specs.Prelude.{if◌then◌else◌, slice_index_or}
 use Rattle.std.proofs.lemmas.List.{length-map, length-append}
 use Rattle.std.proofs.lemmas.Slice.Eq.{bytes_eq-Decides}
-use Rattle.pdl_word.proofs.Bytes.{bytes_refl}
+use Rattle.pdl_word.proofs.Bytes.{bytes_refl, bytes_swap}
 use Rattle.pdl_kit.specs.declared.mem_info.MemInfo.{MemInfo}
 use Rattle.pdl_semantics.specs.Tree as tree
 use Rattle.pdl_semantics.specs.Tree.{Mem}
@@ -22,7 +22,7 @@ use Rattle.pdl_law_parts.specs.Places.{net_place}
 use Rattle.pdl_law_parts.specs.Runs.{commit_mem}
 use Rattle.pdl_law_parts.proofs.WellFormedNames.{Among, name_turned}
 use Rattle.pdl_law_parts.proofs.LinesColumns.{declared_found}
-use Rattle.pdl_law_sides.specs.Whole.{in_order}
+use Rattle.pdl_law_sides.specs.WholeNetlist.{in_order}
 use Rattle.pdl_law.proofs.Places.{place_low}
 use Rattle.pdl_law_follows.specs.Memories.{is_delayed, delayed_of, comb_of, net_infos, taken_in_order}
 use Rattle.pdl_law_follows.proofs.Memories.{none_named, as_many}
@@ -31,17 +31,10 @@ use Rattle.pdl_law_follows.proofs.LinesPorts.{found_right, none_found, net_found
 
 -- ---- memories by name
 
-turned : (a b : List ℕ) → bytes_eq a b ≡ bytes_eq b a
-turned a b = at (bytes_eq a b) refl
-  where
-    at : (t : Bool) → bytes_eq a b ≡ t → bytes_eq a b ≡ bytes_eq b a
-    at false e = e ∙ sym (name_turned a b e)
-    at true e = e ∙ sym (let s = (bytes_eq-Decides a b).0 e in ap (λ x. bytes_eq b x) s ∙ bytes_refl b)
-
 -- a memory is found by its name as by its commit port's
 by_port : (infos : List MemInfo) (x : List ℕ) → mem_of infos x ≡ commit_mem infos (codes "c_" ++ x)
 by_port [] x = refl
-by_port (i ∷ is) x = ap₂ (λ b o. if b then Some i else o) (turned i.name x) (by_port is x)
+by_port (i ∷ is) x = ap₂ (λ b o. if b then Some i else o) (bytes_swap i.name x) (by_port is x)
 
 -- the memory of a name, where there is one
 named_among : (ms : List Mem) (x : List ℕ) → is_memory ms x ≡ true → (m : Mem) × Among m ms × (m.name.name ≡ x)

@@ -26,15 +26,14 @@ use Rattle.pdl_machine_facts.specs.Use.{IsInUse}
 use Rattle.pdl_law_parts.specs.Declared.{port_mem, locked_of}
 use Rattle.pdl_law_parts.specs.Runs.{Seen, seen_of, column_of, puts_of, output_count, cycle_by, cycle_of, commit_mems}
 use Rattle.pdl_law_parts.proofs.WellFormedPorts.{stage_names}
-use Rattle.pdl_law_parts.proofs.After.{after_more}
 use Rattle.pdl_law_parts.proofs.LinesMachine.{AreCommits, IsShaped, shaped}
 use Rattle.pdl_law_parts.proofs.LinesNames.{name_of_output}
 use Rattle.pdl_law_parts.proofs.LinesPorts.{named_value, port_is, past_stages, stages_same, found, put_in, put_cases, same_put, each_found}
 use Rattle.pdl_law_parts.proofs.LinesColumns.{AreFound, locked_infos, locked_lines}
 use Rattle.pdl_law_parts.proofs.LinesEnds.{map_same, bit_one, last_two, end_of, same_end}
 use Rattle.pdl_law_parts.proofs.LinesEnds as line
-use Rattle.pdl_law_sides.specs.Whole.{in_order, all_request_values, whole_values, whole_had}
-use Rattle.pdl_law.specs.Standing.{IsKnown}
+use Rattle.pdl_law_sides.specs.WholeNetlist.{in_order, all_request_values, whole_values, whole_had}
+use Rattle.pdl_law.specs.StandingStates.{IsKnown}
 use Rattle.pdl_law.proofs.ShowsSource.{known_source}
 use Rattle.pdl_law_follows.specs.Memories.{delayed_of, replies_in}
 use Rattle.pdl_law_follows.specs.Follows.{Follows}
@@ -43,6 +42,7 @@ use Rattle.pdl_law_follows.proofs.PortNames.{commit_names, request_names, last_n
 use Rattle.pdl_law_follows.proofs.Ports.{outputs_are}
 use Rattle.pdl_law_follows.proofs.LinesPorts.{commits_then, requests_then, flag_is, addr_is, word_is, commits_same, past_requests, requests_same, locked_shown, net_found}
 use Rattle.pdl_law_follows.proofs.FollowsMade.{declared}
+use Rattle.pdl_semantics.proofs.Facts.{after_more}
 
 -- ---- the machine's ports
 
@@ -51,7 +51,7 @@ pub record HasPorts (p : Pipe) (o : Ports) : Type 0 where
   pub shape : IsShaped p o
   pub requests : length o.requests ≡ length p.mems
 
-abbrev pub AllHave : Pipe → List Turn → Type 0
+abbrev AllHave : Pipe → List Turn → Type 0
 AllHave p [] = Rattle.std.specs.Prelude.⊤
 AllHave p (t ∷ ts) = HasPorts p t.ports × AllHave p ts
 

@@ -20,7 +20,7 @@ use Rattle.pdl_law_parts.proofs.LinesMachine.{AreCommits}
 use Rattle.pdl_law_parts.proofs.LinesNames.{name_of_output}
 use Rattle.pdl_law_parts.proofs.LinesPorts.{named_value, found, flag_of, addr_of, word_of, commit_if, commit_is, if_both, if_none}
 use Rattle.pdl_law_parts.proofs.LinesColumns.{locked_infos, AreFound, declared_found, with_port, skipped, none_of_stages, one_of_locked, by_names}
-use Rattle.pdl_law_sides.specs.Whole.{request_values, all_request_values}
+use Rattle.pdl_law_sides.specs.WholeNetlist.{request_values, all_request_values}
 use Rattle.pdl_law_follows.specs.Memories.{is_delayed, delayed_of, comb_of, net_infos}
 use Rattle.pdl_law_follows.proofs.Memories.{none_named, distinct_some, some_among}
 use Rattle.pdl_law_follows.proofs.PortNames.{commit_names, request_names, last_names, output_names}
@@ -54,6 +54,7 @@ commits_then ms es vals = all_commit_values (mems_of ms) es ++ vals
 commits_first : (m : Mem) (ms : List Mem) (e : Option PortWrite) (es : List (Option PortWrite)) (vals : List ℕ) → commits_then (m ∷ ms) (e ∷ es) vals ≡ commit_if (is_some m.lock) e ++ commits_then ms es vals
 commits_first m ms e es vals = append_assoc (commit_values (flat_lock m.lock) e) (all_commit_values (mems_of ms) es) vals ∙ ap (λ l. l ++ commits_then ms es vals) (commit_is m.lock e)
 
+-- the port `c_` of a name tells whether that memory commits, where the ports after have 0 for the name
 pub flag_is : (ms : List Mem) (es : List (Option PortWrite)) (names : List (List ℕ)) (vals x : List ℕ) → AreCommits (mems_of ms) es → named_value names vals (codes "c_" ++ x) ≡ 0 → named_value (commit_names (locked_of ms) names) (commits_then ms es vals) (codes "c_" ++ x) ≡ flag_of (found ms es x)
 flag_is [] [] names vals x h z = z
 flag_is [] (e ∷ es) names vals x h z = absurd h
@@ -62,6 +63,7 @@ flag_is (m ∷ ms) (e ∷ es) names vals x h z =
     ap (λ l. named_value (commit_names (locked_of (m ∷ ms)) names) l (codes "c_" ++ x)) (commits_first m ms e es vals)
     ∙ flag_step m ms names (is_some m.lock) e (found ms es x) (commits_then ms es vals) x (flag_is ms es names vals x h.1 z)
 
+-- the port `ca_` of a name tells that memory's commit address, where the ports after have 0 for the name
 pub addr_is : (ms : List Mem) (es : List (Option PortWrite)) (names : List (List ℕ)) (vals x : List ℕ) → AreCommits (mems_of ms) es → named_value names vals (codes "ca_" ++ x) ≡ 0 → named_value (commit_names (locked_of ms) names) (commits_then ms es vals) (codes "ca_" ++ x) ≡ addr_of (found ms es x)
 addr_is [] [] names vals x h z = z
 addr_is [] (e ∷ es) names vals x h z = absurd h
@@ -70,6 +72,7 @@ addr_is (m ∷ ms) (e ∷ es) names vals x h z =
     ap (λ l. named_value (commit_names (locked_of (m ∷ ms)) names) l (codes "ca_" ++ x)) (commits_first m ms e es vals)
     ∙ addr_step m ms names (is_some m.lock) e (found ms es x) (commits_then ms es vals) x (addr_is ms es names vals x h.1 z)
 
+-- the port `cd_` of a name tells that memory's committed word, where the ports after have 0 for the name
 pub word_is : (ms : List Mem) (es : List (Option PortWrite)) (names : List (List ℕ)) (vals x : List ℕ) → AreCommits (mems_of ms) es → named_value names vals (codes "cd_" ++ x) ≡ 0 → named_value (commit_names (locked_of ms) names) (commits_then ms es vals) (codes "cd_" ++ x) ≡ word_of (found ms es x)
 word_is [] [] names vals x h z = z
 word_is [] (e ∷ es) names vals x h z = absurd h
@@ -83,6 +86,7 @@ same_step : (b : Bool) (m : Mem) (ms : List Mem) (names : List (List ℕ)) (e : 
 same_step true m ms names e vals h = ap (λ i. suc (suc (suc i))) h
 same_step false m ms names e vals h = h
 
+-- with the commit ports before others, there are as many values as names
 pub commits_same : (ms : List Mem) (es : List (Option PortWrite)) (names : List (List ℕ)) (vals : List ℕ) → AreCommits (mems_of ms) es → length vals ≡ length names → length (commits_then ms es vals) ≡ length (commit_names (locked_of ms) names)
 commits_same [] [] names vals h l = l
 commits_same [] (e ∷ es) names vals h l = absurd h
@@ -91,6 +95,7 @@ commits_same (m ∷ ms) (e ∷ es) names vals h l = ap length (commits_first m m
 
 -- ---- requests
 
+-- the values of the ports of the memories' requests, and others after them
 abbrev pub requests_then : List Mem → List (Option ℕ) → List ℕ → List ℕ
 requests_then ms qs vals = all_request_values (mems_of ms) qs ++ vals
 
@@ -114,6 +119,7 @@ past_requests x f g (m ∷ ms) (q ∷ qs) names vals l = at m.delayed q (past_re
     at true None h = pair 0 0 h
     at true (Some a) h = pair 1 a h
 
+-- with the request ports before others, there are as many values as names
 pub requests_same : (ms : List Mem) (qs : List (Option ℕ)) (names : List (List ℕ)) (vals : List ℕ) → length qs ≡ length ms → length vals ≡ length names → length (requests_then ms qs vals) ≡ length (request_names (map port_mem (delayed_of ms)) names)
 requests_same [] [] names vals l e = e
 requests_same [] (q ∷ qs) names vals l e = absurd (cc l)
@@ -165,6 +171,7 @@ found_left (x ∷ xs) ys port i e = at (bytes_eq port (codes "c_" ++ x.name)) e 
     at true h rest = h
     at false h rest = rest h
 
+-- a commit port that is of none of the first memories is sought among the others
 pub found_right : (xs ys : List MemInfo) (port : List ℕ) → commit_mem xs port ≡ None → commit_mem (xs ++ ys) port ≡ commit_mem ys port
 found_right [] ys port e = refl
 found_right (x ∷ xs) ys port e = at (bytes_eq port (codes "c_" ++ x.name)) e (found_right xs ys port)
@@ -173,6 +180,7 @@ found_right (x ∷ xs) ys port e = at (bytes_eq port (codes "c_" ++ x.name)) e (
     at true h rest = absurd (cc h)
     at false h rest = rest h
 
+-- the commit port of a name that no declared memory has is of none of them
 pub none_found : (ms : List Mem) (x : List ℕ) → is_memory ms x ≡ false → commit_mem (map info_of ms) (codes "c_" ++ x) ≡ None
 none_found [] x e = refl
 none_found (m ∷ ms) x e =
@@ -193,6 +201,7 @@ not_among test (x ∷ xs) h m (inr a) t = at (test x) (not_among test xs h.1 m a
     at true r = rw (name_turned m.name.name x.name.name (among_other x.name.name xs m h.0 a), r) refl
     at false r = r
 
+-- each memory of a pipe is found in the netlist by its commit port, where names differ
 pub net_found : (ms : List Mem) → AreDistinct ms → AreFound ms (net_infos ms)
 net_found ms h m a = at m.delayed refl
   where

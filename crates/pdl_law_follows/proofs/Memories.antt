@@ -13,7 +13,7 @@ use Rattle.pdl_rules.specs.Typed.{is_memory, AreDistinct}
 use Rattle.pdl_rules.specs.Memories.{info_of}
 use Rattle.pdl_law_parts.specs.Declared.{has_lock, mem_names}
 use Rattle.pdl_law_parts.proofs.WellFormedNames.{Among}
-use Rattle.pdl_law_sides.specs.Whole.{names_delayed}
+use Rattle.pdl_law_sides.specs.WholeNetlist.{names_delayed}
 use Rattle.pdl_law.proofs.Places.{count_yes, count_no}
 use Rattle.pdl_law.proofs.Places as places
 use Rattle.pdl_law_follows.specs.Memories.{delayed_of, comb_of}
@@ -30,6 +30,7 @@ among_some test (x ∷ xs) m a = at (test x) refl a (among_some test xs m)
     at true e (inr i) rest = let r = rest i in (inr r.0, r.1)
     at false e i rest = let r = rest i in (inr r.0, r.1)
 
+-- a memory that passes a test is one of those that do
 pub some_among : (test : Mem → Bool) (ms : List Mem) (m : Mem) → Among m ms → test m ≡ true → Among m (filter test ms)
 some_among test [] m a t = absurd a
 some_among test (x ∷ xs) m a t = at (test x) refl a (λ i. some_among test xs m i t)
@@ -49,6 +50,7 @@ none_named test (m ∷ ms) x e = at (test m) (none_named test ms x (or_parts _ (
     at true h = rw ((or_parts _ (is_memory ms x) e).0, h) refl
     at false h = h
 
+-- of memories with distinct names, those that pass a test have distinct names
 pub distinct_some : (test : Mem → Bool) (ms : List Mem) → AreDistinct ms → AreDistinct (filter test ms)
 distinct_some test [] h = tt
 distinct_some test (m ∷ ms) h = at (test m) (distinct_some test ms h.1)
@@ -65,6 +67,7 @@ comb_delayed m e = at m.delayed e
     at false h = refl
     at true h = absurd (cc h)
 
+-- the delayed memories and those that answer at once are as many as all
 pub as_many : (ms : List Mem) → length (delayed_of ms) + length (comb_of ms) ≡ length ms
 as_many [] = omega arith
 as_many (m ∷ ms) = at m.delayed (as_many ms)
@@ -86,6 +89,7 @@ pub record IsCombAt (ms these : List Mem) (k : ℕ) : Type 0 where
 abbrev flat_mem : Mem → flat.Mem
 flat_mem m = record { width = m.width.value; depth = m.depth.value; delayed = m.delayed; lock = flat_lock m.lock }
 
+-- each memory that answers at once has its place in the pipe
 pub comb_at : (ms : List Mem) (k : ℕ) → k < length (comb_of ms) → IsCombAt ms (comb_of ms) k
 comb_at [] k l = absurd (omega (arith, l))
 comb_at (x ∷ xs) k l = at x.delayed refl k l (comb_at xs)
@@ -133,6 +137,7 @@ told_at [] m d l = absurd (omega (arith, l))
 told_at (x ∷ xs) zero d l = (refl, refl, refl)
 told_at (x ∷ xs) (suc m) d l = told_at xs m d (omega (arith, l))
 
+-- a memory is delayed, as it is told
 abbrev pub told_delayed : MemInfo → Bool
 told_delayed i = i.delayed
 
@@ -145,6 +150,7 @@ all_told (m ∷ ms) = at m.delayed refl (all_told ms)
     at true e h = ap (λ b. if b then info_of m ∷ filter told_delayed (map info_of (delayed_of ms)) else filter told_delayed (map info_of (delayed_of ms))) e ∙ ap (λ l. info_of m ∷ l) h
     at false e h = h
 
+-- no memory that answers at once is told as delayed
 pub none_told : (ms : List Mem) → filter told_delayed (map info_of (comb_of ms)) ≡ []
 none_told [] = refl
 none_told (m ∷ ms) = at m.delayed refl (none_told ms)

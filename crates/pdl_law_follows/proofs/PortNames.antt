@@ -11,18 +11,22 @@ use Rattle.pdl_law_follows.specs.Memories.{delayed_of}
 
 -- ---- the names, each kind before others
 
+-- the names of the reply ports of delayed memories, before others
 abbrev pub reply_names : List PortMem → List (List ℕ) → List (List ℕ)
 reply_names [] rest = rest
 reply_names (l ∷ ls) rest = (codes "p_" ++ l.name) ∷ (codes "pd_" ++ l.name) ∷ reply_names ls rest
 
+-- the names of the commit ports of memories with a lock, before others
 abbrev pub commit_names : List PortMem → List (List ℕ) → List (List ℕ)
 commit_names [] rest = rest
 commit_names (l ∷ ls) rest = (codes "c_" ++ l.name) ∷ (codes "ca_" ++ l.name) ∷ (codes "cd_" ++ l.name) ∷ commit_names ls rest
 
+-- the names of the request ports of delayed memories, before others
 abbrev pub request_names : List PortMem → List (List ℕ) → List (List ℕ)
 request_names [] rest = rest
 request_names (l ∷ ls) rest = (codes "q_" ++ l.name) ∷ (codes "qa_" ++ l.name) ∷ request_names ls rest
 
+-- the names of the last two outputs
 abbrev pub last_names : List (List ℕ)
 last_names = codes "ended" ∷ codes "squash" ∷ []
 
@@ -30,6 +34,7 @@ last_names = codes "ended" ∷ codes "squash" ∷ []
 abbrev pub output_names : ℕ → List PortMem → List PortMem → List (List ℕ)
 output_names stages delayed locked = stage_names 0 stages (commit_names locked (request_names delayed last_names))
 
+-- the names of all ports: the replies, and then the outputs
 abbrev pub port_names : ℕ → List PortMem → List PortMem → List (List ℕ)
 port_names stages delayed locked = reply_names delayed (output_names stages delayed locked)
 

@@ -20,8 +20,8 @@ use Rattle.pdl_law_parts.proofs.WellFormedNames.{Among}
 use Rattle.pdl_law_parts.proofs.WellFormedMems.{Reaches, power_one}
 use Rattle.pdl_law_parts.proofs.WellFormedPorts.{head_shown, stages_heads, commit_heads, last_heads, name_of_head, names_of_heads, stage_names}
 use Rattle.pdl_law_parts.proofs.LinesNames.{name_of_output}
-use Rattle.pdl_law_sides.specs.Whole as whole
-use Rattle.pdl_law_sides.specs.Whole.{Request, request_shown, requests_shown, whole_shown}
+use Rattle.pdl_law_sides.specs.WholeNetlist as whole
+use Rattle.pdl_law_sides.specs.WholeNetlist.{Request, request_shown, requests_shown, whole_shown}
 use Rattle.pdl_law_follows.specs.Memories.{delayed_of}
 use Rattle.pdl_law_follows.proofs.PortNames.{reply_names, commit_names, request_names, output_names, port_names}
 
@@ -80,6 +80,7 @@ by_kinds k delayed locked =
     let requests = flat_map request_ports delayed in
     append_assoc ((replies ++ stages) ++ commits) requests last_heads ∙ append_assoc (replies ++ stages) commits (requests ++ last_heads) ∙ append_assoc replies stages (commits ++ (requests ++ last_heads))
 
+-- what a whole netlist shows has the names, directions and widths of a pipe's outputs, kind by kind
 pub shown_heads : (p : Pipe) (ms : List Mem) → p.mems ≡ mems_of ms → 1 ≤ length p.stages → (commits : ℕ → Commit) (asks : ℕ → Request) (vs : ℕ → View) (gates : Gates) (moves : ℕ → Signal) → AreBitsWide vs gates moves (length p.stages) → ((m : Mem) → Among m ms → Reaches m)
     → CommitsFit commits 0 ms → AreAsked asks 0 ms
     → map head_shown (whole_shown p (mem_names ms) commits asks vs gates moves) ≡ flat_map stage_ports (range_with_len 0 (length p.stages)) ++ (flat_map commit_ports (locked_of ms) ++ (flat_map request_ports (map port_mem (delayed_of ms)) ++ last_heads))
@@ -94,6 +95,7 @@ shown_heads p ms same some commits asks vs gates moves wide r h f =
     ∙ ap₂ (λ a b. a ++ b) (ap (λ l. map head_shown (requests_shown (mem_names ms) asks 0 l)) same ∙ request_heads (mem_names ms) asks 0 ms named r f)
     (ap₂ (λ a b. output (codes "ended") a ∷ output (codes "squash") b ∷ []) (wide.stages (n - 1) (omega (arith, some))).1 wide.squash)))
 
+-- the reply ports of a netlist have the names, directions and widths of those of a pipe
 pub replies_heads : (p : Pipe) (ms : List Mem) → p.mems ≡ mems_of ms → map head_of (whole.reply_ports (mem_names ms) 0 p.mems) ≡ flat_map reply_ports (map port_mem (delayed_of ms))
 replies_heads p ms same = ap (λ l. map head_of (whole.reply_ports (mem_names ms) 0 l)) same ∙ reply_heads (mem_names ms) 0 ms (λ i l. ap (mem_names ms) (let z : 0 + i ≡ i = omega arith in z))
 
@@ -161,5 +163,6 @@ outputs_in (p ∷ ps) = at p.dir refl (outputs_in ps)
     at In e h = rw e h
     at (Out x) e h = rw e (ap (λ l. p.name ∷ l) h)
 
+-- the outputs of a circuit whose ports are those of a pipe have the names of the pipe's outputs
 pub outputs_are : (c : Circuit) (k : ℕ) (delayed locked : List PortMem) → map head_of c.ports ≡ pipe_ports k delayed locked → map name_of_output (outputs_of c) ≡ output_names k delayed locked
 outputs_are c k delayed locked e = outputs_in c.ports ∙ ap outs_in (e ∙ by_kinds k delayed locked) ∙ none_in delayed (outs_of k delayed locked) ∙ outs_named k delayed locked

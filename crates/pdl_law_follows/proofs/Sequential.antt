@@ -12,9 +12,9 @@ use Rattle.pdl_semantics.specs.Cycle.{PortWrite, Turn, turns, turns_from, first,
 use Rattle.pdl_semantics.specs.Cycle as stated
 use Rattle.pdl_semantics.specs.Lines.{Cycle, put_of, puts_in, turn_cycle, turn_cycles}
 use Rattle.pdl_semantics.specs.Promises.{Refines}
-use Rattle.pdl_theory.proofs.Stated.{whole_refines, whole_advances, whole_paces}
+use Rattle.pdl_theory.proofs.StatedTheorems.{whole_refines, whole_advances, whole_paces}
 use Rattle.pdl_source_paths.specs.Source.{is_source, is_named}
-use Rattle.pdl_source_paths.proofs.Whole.{of_source}
+use Rattle.pdl_source_paths.proofs.PipeFacts.{of_source}
 use Rattle.pdl_rules.specs.Refusal.{KeepsRules}
 use Rattle.pdl_net.specs.declared.Netlist.{Netlist}
 use Rattle.pdl_image.specs.Images.{IsImage}
@@ -22,7 +22,7 @@ use Rattle.pdl_net.specs.Run.{Held, start, next, nports_from, some_waits}
 use Rattle.pdl_law_parts.specs.Places.{delayed_count}
 use Rattle.pdl_law_parts.specs.Runs.{Seen, seen_of}
 use Rattle.pdl_law_parts.specs.States.{held_after}
-use Rattle.pdl_law_sides.specs.Whole.{in_order, replies_of, whole_had}
+use Rattle.pdl_law_sides.specs.WholeNetlist.{in_order, replies_of, whole_had}
 use Rattle.pdl_law_follows.specs.Memories.{replies_in}
 use Rattle.pdl_law_follows.specs.Follows.{Follows}
 use Rattle.pdl_law_follows.specs.Runs.{ShowsTurns}

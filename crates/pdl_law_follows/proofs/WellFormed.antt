@@ -28,7 +28,7 @@ use Rattle.pdl_law_parts.proofs.WellFormedPorts.{heads_of, head_shown}
 use Rattle.pdl_law_parts.proofs.WellFormedMems.{Reaches, reaches_all, sized_among, IsAddressed, addressed}
 use Rattle.pdl_law_parts.proofs.WellFormedArrays.{name_of_array, array_names_are, IsArrayOf, array_mem, mem_array, no_write, locked_all}
 use Rattle.pdl_law_sides.specs.Sides.{Sides}
-use Rattle.pdl_law_sides.specs.Whole.{IsWhole, reply_ports}
+use Rattle.pdl_law_sides.specs.WholeNetlist.{IsWhole, reply_ports}
 use Rattle.pdl_law_follows.specs.Memories.{delayed_of, comb_of, net_infos}
 use Rattle.pdl_law_follows.proofs.Memories.{among_some, some_among, distinct_some, comb_delayed, as_many, comb_at}
 use Rattle.pdl_law_follows.proofs.PortNames.{port_names_differ}

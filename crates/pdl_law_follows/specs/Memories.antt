@@ -6,8 +6,9 @@ use Rattle.pdl_semantics.specs.Flat.{Pipe}
 use Rattle.pdl_rules.specs.Refusal.{is_comb}
 use Rattle.pdl_rules.specs.Memories.{info_of}
 use Rattle.pdl_law_parts.specs.Places.{delayed_count}
-use Rattle.pdl_law_sides.specs.Whole.{in_order, replies_of}
+use Rattle.pdl_law_sides.specs.WholeNetlist.{in_order, replies_of}
 
+-- a memory is delayed
 abbrev pub is_delayed : Mem → Bool
 is_delayed m = m.delayed
 
@@ -15,6 +16,7 @@ is_delayed m = m.delayed
 abbrev pub delayed_of : List Mem → List Mem
 delayed_of ms = filter is_delayed ms
 
+-- the memories that answer at once, each of which has an array
 abbrev pub comb_of : List Mem → List Mem
 comb_of ms = filter is_comb ms
 

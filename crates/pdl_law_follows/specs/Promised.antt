@@ -8,7 +8,7 @@ use Rattle.pdl_semantics.specs.Promises.{Refines, Advances, KeepsPace}
 use Rattle.pdl_net.specs.declared.Netlist.{Netlist}
 use Rattle.pdl_law_parts.specs.Places.{delayed_count}
 use Rattle.pdl_law_parts.specs.Runs.{shown_lines}
-use Rattle.pdl_law_sides.specs.Whole.{in_order, replies_of}
+use Rattle.pdl_law_sides.specs.WholeNetlist.{in_order, replies_of}
 use Rattle.pdl_law_follows.specs.Memories.{replies_in}
 
 -- a run of a netlist, from an image of its memories with a schedule of replies, and of the machine of a pipe

@@ -17,7 +17,7 @@ use Rattle.pdl_image.specs.Images.{IsImage}
 use Rattle.pdl_law_parts.specs.Places.{delayed_count}
 use Rattle.pdl_law_parts.specs.Runs.{cycle_by}
 use Rattle.pdl_law_parts.specs.States.{held_after}
-use Rattle.pdl_law_sides.specs.Whole.{in_order, replies_of}
+use Rattle.pdl_law_sides.specs.WholeNetlist.{in_order, replies_of}
 use Rattle.pdl_law_follows.specs.Memories.{replies_in}
 
 -- the writes that reach memory m in some cycles, in order
@@ -25,6 +25,7 @@ abbrev pub writes_to : ℕ → List Put → List Commit
 writes_to m [] = []
 writes_to m (w ∷ ws) = record { mem = m; address = w.address; value = w.value } ∷ writes_to m ws
 
+-- the writes that reach memory m in all of some cycles
 abbrev pub commits_in : ℕ → List Cycle → List Commit
 commits_in m [] = []
 commits_in m (c ∷ cs) = writes_to m (slice_index_or c.puts m []) ++ commits_in m cs
@@ -33,6 +34,7 @@ commits_in m (c ∷ cs) = writes_to m (slice_index_or c.puts m []) ++ commits_in
 abbrev pub ended_in : List Cycle → ℕ
 ended_in cs = count_by (λ c. c.ended) cs
 
+-- how many cycles left a request unanswered
 abbrev pub waits_in : List Cycle → ℕ
 waits_in cs = count_by (λ c. c.wait) cs
 

@@ -10,7 +10,7 @@ use Rattle.pdl_net.specs.declared.Netlist.{Netlist}
 use Rattle.pdl_net.specs.Run.{nports}
 use Rattle.pdl_image.specs.Images.{IsImage}
 use Rattle.pdl_law_parts.specs.Runs.{cycle_by, shown_lines}
-use Rattle.pdl_law_sides.specs.Whole.{in_order}
+use Rattle.pdl_law_sides.specs.WholeNetlist.{in_order}
 use Rattle.pdl_law_follows.specs.Memories.{replies_in}
 
 -- from each image of its memories and with each schedule of replies, in each cycle each memory of the pipe, in declared order, commits what the machine's does, and the lines are the machine's

@@ -8,11 +8,7 @@ use Rattle.pdl_semantics.specs.Cycle.{but_oldest, entries_left}
 use Rattle.pdl_semantics.specs.PendingLists.{count_older}
 use Rattle.pdl_lockapi.specs.Lock.{Entry}
 use Rattle.pdl_lockapi.specs.Forget.{forget, forgotten_entries}
-
--- without a squash all are left
-all_left : (es : List Pending) → entries_left None es ≡ es
-all_left [] = refl
-all_left (e ∷ es) = ap (λ l. e ∷ l) (all_left es)
+use Rattle.pdl_semantics.proofs.Facts.{none_leaves}
 
 released : (release : Bool) (es : List Pending) → (if release then drop 1 (forgotten_entries es) else forgotten_entries es) ≡ forgotten_entries (if release then but_oldest es else es)
 released true [] = refl
@@ -27,7 +23,7 @@ next false base count = omega arith
 -- a squash of a thread leaves those before the next thread's place
 squashed : (squash : Option ℕ) (tail base : ℕ) (es : List Pending) → ((n : ℕ) → squash ≡ Some n → (tail - base ≡ count_older (suc n) es) × (entries_left (Some n) es ≡ take (count_older (suc n) es) es))
     → (if is_some squash then take (tail - base) (forgotten_entries es) else forgotten_entries es) ≡ forgotten_entries (entries_left squash es)
-squashed None tail base es h = ap forgotten_entries (sym (all_left es))
+squashed None tail base es h = ap forgotten_entries (sym (none_leaves es))
 squashed (Some n) tail base es h =
     let e = h n refl in
     ap (λ k. take k (forgotten_entries es)) e.0 ∙ take-map forget (count_older (suc n) es) es ∙ ap forgotten_entries (sym e.1)

@@ -1,3 +1,3 @@
 pub mod Left
-pub mod UsedMade
-pub mod Locking
+pub mod LockRuns
+pub mod LockCycles

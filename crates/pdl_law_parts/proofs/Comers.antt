@@ -16,7 +16,7 @@ use Rattle.pdl_lockapi.specs.Laws.{holds_ticket}
 use Rattle.pdl_machine_facts.specs.Slots.{LeadsOn, here, stage_moves, movers_from, moving, leads_to, ways_from, ways, passing_thread, thread_into, first_of, arriving_thread, act_at}
 use Rattle.pdl_machine_facts.specs.Cycle.{newborn, IsByStages}
 use Rattle.pdl_machine_facts.specs.Use.{IsInUse}
-use Rattle.pdl_law_parts.proofs.Stood.{Stood}
+use Rattle.pdl_law_parts.proofs.AnsweredThreads.{Stood}
 use Rattle.pdl_law_parts.specs.Lives.{row_uses, asks_held, forks_by, lives_from, held_from, verifies_from}
 use Rattle.pdl_law_parts.specs.Walk.{Locks, Birth, Walk, is_locked, one, zero_bit, both, is_on, values_at}
 use Rattle.pdl_law_parts.specs.Views.{View, Comer, branch, out_of, new_by, new_from, comers, first_coming}
@@ -72,16 +72,16 @@ or_map true b c d f g e = ap (λ x. x || d) (f refl)
 or_map false b true d f g e = refl
 or_map false b false d f g e = g e
 
-pub lives_down : (p : Pipe) (j q x : ℕ) → j ≤ q → lives_from p q x ≡ true → lives_from p j x ≡ true
+lives_down : (p : Pipe) (j q x : ℕ) → j ≤ q → lives_from p q x ≡ true → lives_from p j x ≡ true
 lives_down p j q x h =
     or_map (list_any (λ (r : Stmt). nat_le q r.stage && row_uses r x) p.stmts) (list_any (λ (s : Stage). forks_by s.next x) (drop q p.stages)) _ _
     (any_more (λ (r : Stmt). nat_le q r.stage && row_uses r x) (λ (r : Stmt). nat_le j r.stage && row_uses r x) p.stmts (λ r e. lower j q r.stage (row_uses r x) h e))
     (any_dropped (λ (s : Stage). forks_by s.next x) p.stages j q h)
 
-pub holds_down : (p : Pipe) (j q m a : ℕ) → j ≤ q → held_from p q m a ≡ true → held_from p j m a ≡ true
+holds_down : (p : Pipe) (j q m a : ℕ) → j ≤ q → held_from p q m a ≡ true → held_from p j m a ≡ true
 holds_down p j q m a h e = any_more (λ (r : Stmt). nat_le q r.stage && asks_held r.op m a) (λ (r : Stmt). nat_le j r.stage && asks_held r.op m a) p.stmts (λ r i. lower j q r.stage (asks_held r.op m a) h i) e
 
-pub verifies_down : (p : Pipe) (j q : ℕ) → j ≤ q → verifies_from p q ≡ true → verifies_from p j ≡ true
+verifies_down : (p : Pipe) (j q : ℕ) → j ≤ q → verifies_from p q ≡ true → verifies_from p j ≡ true
 verifies_down p j q h e = any_more (λ (r : Stmt). nat_le q r.stage && is_verify r.op) (λ (r : Stmt). nat_le j r.stage && is_verify r.op) p.stmts (λ r i. lower j q r.stage (is_verify r.op) h i) e
 
 -- one of the values of signals
@@ -99,14 +99,17 @@ signals_are s (f ∷ fs) (v ∷ vals) e h = ap₂ (λ x l. x ∷ l) (h 0 (omega 
 
 -- WHO COMES FIRST
 
+-- the first of these threads that comes, where one does
 abbrev pub first_come : State → List Comer → Option Comer
 first_come s [] = None
 first_come s (c ∷ cs) = if is_on c.comes s then Some c else first_come s cs
 
+-- what the thread that comes brings, else the value of this signal
 abbrev pub brought : State → (Comer → Signal) → Signal → Option Comer → ℕ
 brought s of f None = f.value s
 brought s of f (Some c) = (of c).value s
 
+-- the signal of what the first comer brings has that comer's value
 pub picked_is : (s : State) (of : Comer → Signal) (cs : List Comer) (f : Signal) → (first_coming of cs f).value s ≡ brought s of f (first_come s cs)
 picked_is s of [] f = refl
 picked_is s of (c ∷ cs) f = mux_by s c.comes (of c) (first_coming of cs f) ∙ at (is_on c.comes s) (picked_is s of cs f)

@@ -38,7 +38,7 @@ abbrev pub AllBring : (Comer → Signal) → ℕ → List Comer → Type 0
 AllBring of v [] = Unit {0}
 AllBring of v (o ∷ os) = ((s : State) → (of o).value s ≡ v) × AllBring of v os
 
-pub picked_same : (of : Comer → Signal) (v : ℕ) (os : List Comer) (f : Signal) (s : State) → AllBring of v os → f.value s ≡ v → (first_coming of os f).value s ≡ v
+picked_same : (of : Comer → Signal) (v : ℕ) (os : List Comer) (f : Signal) (s : State) → AllBring of v os → f.value s ≡ v → (first_coming of os f).value s ≡ v
 picked_same of v [] f s h e = e
 picked_same of v (o ∷ os) f s h e = mux_by s o.comes (of o) (first_coming of os f) ∙ at (is_on o.comes s) (picked_same of v os f s h.1 e)
   where
@@ -46,10 +46,12 @@ picked_same of v (o ∷ os) f s h e = mux_by s o.comes (of o) (first_coming of o
     at true g = h.0 s
     at false g = g
 
+-- a constant becomes what the first comer brings, where all that may come bring its value
 pub becomes_const : (c : Circuit) (w v : ℕ) (of : Comer → Signal) (os : List Comer) → AllBring of v os → Becomes c (const_signal w v) (first_coming of os (const_signal w v))
 unfolding const_value
 becomes_const c w v of os h s t suits regs = sym (picked_same of v os (const_signal w v) s h refl)
 
+-- a constant starts as its value
 pub starts_const : (c : Circuit) (w v : ℕ) → StartsAs c (const_signal w v) v
 unfolding const_value
 starts_const c w v s regs = refl

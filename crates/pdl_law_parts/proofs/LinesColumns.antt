@@ -52,9 +52,11 @@ other_port (m ∷ ms) port h = ap (λ b. if b then Some m else commit_mem ms por
 abbrev pub with_port : List MemInfo → List (List ℕ) → List MemInfo
 with_port infos names = filter_map (commit_mem infos) names
 
+-- a name that is of no commit port is skipped
 pub skipped : (infos : List MemInfo) (port : List ℕ) (names : List (List ℕ)) → ((x : List ℕ) → bytes_eq port (codes "c_" ++ x) ≡ false) → with_port infos (port ∷ names) ≡ with_port infos names
 skipped infos port names h = ap (λ o. cons_option o (with_port infos names)) (other_port infos port h)
 
+-- the names of the stages' ports are of no memory's commit port
 pub none_of_stages : (infos : List MemInfo) (k n : ℕ) (names : List (List ℕ)) → with_port infos (stage_names k n names) ≡ with_port infos names
 none_of_stages infos k zero names = refl
 none_of_stages infos k (suc n) names =
@@ -62,12 +64,14 @@ none_of_stages infos k (suc n) names =
     ∙ skipped infos (codes "g_" ++ decimal k) (stage_names (suc k) n names) (λ x. refl)
     ∙ none_of_stages infos (suc k) n names
 
+-- the names of a memory's three commit ports tell that memory, once
 pub one_of_locked : (infos : List MemInfo) (x : List ℕ) (i : MemInfo) (names : List (List ℕ)) → commit_mem infos (codes "c_" ++ x) ≡ Some i
     → with_port infos ((codes "c_" ++ x) ∷ (codes "ca_" ++ x) ∷ (codes "cd_" ++ x) ∷ names) ≡ i ∷ with_port infos names
 one_of_locked infos x i names e =
     ap (λ o. cons_option o (with_port infos ((codes "ca_" ++ x) ∷ (codes "cd_" ++ x) ∷ names))) e
     ∙ ap (λ l. i ∷ l) (skipped infos (codes "ca_" ++ x) ((codes "cd_" ++ x) ∷ names) (λ y. refl) ∙ skipped infos (codes "cd_" ++ x) names (λ y. refl))
 
+-- the memories whose commit ports are among the outputs are those by the outputs' names
 pub by_names : (infos : List MemInfo) (outs : List Output) → filter_map (λ (o : Output). commit_mem infos o.name) outs ≡ with_port infos (map name_of_output outs)
 by_names infos [] = refl
 by_names infos (o ∷ outs) = ap (cons_option (commit_mem infos o.name)) (by_names infos outs)

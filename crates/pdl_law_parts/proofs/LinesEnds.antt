@@ -15,6 +15,7 @@ pub map_same : {X Y : Type 0} (f g : X → Y) → ((x : X) → f x ≡ g x) → 
 map_same f g h [] = refl
 map_same f g h (x ∷ xs) = ap₂ (λ y ys. y ∷ ys) (h x) (map_same f g h xs)
 
+-- the bit of a truth value is 1 where that is true, and only there
 pub bit_one : (b : Bool) → (bit b == 1) ≡ b
 bit_one true = refl
 bit_one false = refl

@@ -65,6 +65,7 @@ past_stages x v g k (suc n) names (a ∷ valid) (b ∷ moves) vals e f =
     ∙ ap (λ t. if t then bit b else rest) (g k)
     ∙ past_stages x v g (suc k) n names valid moves vals (omega (arith, e)) (omega (arith, f))
 
+-- with the stages' ports before others, there are as many values as names
 pub stages_same : (k n : ℕ) (names : List (List ℕ)) (valid moves : List Bool) (vals : List ℕ) → length valid ≡ n → length moves ≡ n → length vals ≡ length names → length (stage_values valid moves ++ vals) ≡ length (stage_names k n names)
 stages_same k zero names [] [] vals e f l = l
 stages_same k zero names [] (b ∷ moves) vals e f l = absurd (cc f)
@@ -80,10 +81,12 @@ abbrev pub flag_of : Option PortWrite → ℕ
 flag_of None = 0
 flag_of (Some e) = 1
 
+-- where a memory commits, 0 where it does not
 abbrev pub addr_of : Option PortWrite → ℕ
 addr_of None = 0
 addr_of (Some e) = e.address
 
+-- what a memory commits, 0 where it commits nothing
 abbrev pub word_of : Option PortWrite → ℕ
 word_of None = 0
 word_of (Some e) = e.value
@@ -92,6 +95,7 @@ word_of (Some e) = e.value
 abbrev pub commit_if : Bool → Option PortWrite → List ℕ
 commit_if b e = if b then flag_of e ∷ addr_of e ∷ word_of e ∷ [] else []
 
+-- the values of a memory's commit ports are those of its ports, if it has a lock
 pub commit_is : (l : Option LockDecl) (e : Option PortWrite) → commit_values (flat_lock l) e ≡ commit_if (is_some l) e
 commit_is l e = ap (λ (b : Bool). if b then shown_values e else []) (lock_declared l) ∙ at (is_some l) e
   where
@@ -105,10 +109,12 @@ abbrev pub found : List Mem → List (Option PortWrite) → List ℕ → Option 
 found (m ∷ ms) (e ∷ es) x = if bytes_eq m.name.name x && is_some m.lock then e else found ms es x
 found _ _ x = None
 
+-- a function's values of two commits are chosen as the commits are, where the second condition holds
 pub if_both : (g : Option PortWrite → ℕ) (t : Bool) (e rest : Option PortWrite) → (if t then g e else g rest) ≡ g (if t && true then e else rest)
 if_both g true e rest = refl
 if_both g false e rest = refl
 
+-- where the second condition does not hold, a function has the value of the other commit
 pub if_none : (g : Option PortWrite → ℕ) (t : Bool) (e rest : Option PortWrite) → g rest ≡ g (if t && false then e else rest)
 if_none g true e rest = refl
 if_none g false e rest = refl
@@ -120,10 +126,12 @@ abbrev pub put_in : Option PortWrite → Option (ℕ × ℕ)
 put_in None = None
 put_in (Some e) = Some (e.address, e.value)
 
+-- the values of a memory's three commit ports tell its commit's address and word, where it has one
 pub put_cases : (o : Option PortWrite) (f a w : ℕ) → f ≡ flag_of o → a ≡ addr_of o → w ≡ word_of o → (if f == 1 then Some (a, w) else None) ≡ put_in o
 put_cases None f a w e i j = rw e refl
 put_cases (Some x) f a w e i j = rw (e, i, j) refl
 
+-- a commit by its address and word is shown as the commit is
 pub same_put : (o : Option PortWrite) → puts_of (put_in o) ≡ put_of o
 same_put None = refl
 same_put (Some e) = refl
@@ -141,6 +149,7 @@ found_if : (l : Option LockDecl) (e rest : Option PortWrite) → (has_lock (flat
 found_if None e rest h r = r ∙ sym (h refl)
 found_if (Some l) e rest h r = refl
 
+-- the first memory commits what is found by its name, where no other memory has that name
 pub found_first : (m : Mem) (ms : List Mem) (e : Option PortWrite) (es : List (Option PortWrite)) → is_memory ms m.name.name ≡ false → (has_lock (flat_lock m.lock) ≡ false → e ≡ None) → found (m ∷ ms) (e ∷ es) m.name.name ≡ e
 found_first m ms e es d h =
     ap (λ t. if t && is_some m.lock then e else found ms es m.name.name) (bytes_refl m.name.name)

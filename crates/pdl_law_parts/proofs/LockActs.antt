@@ -22,7 +22,7 @@ use Rattle.pdl_lockapi.proofs.Single.{single_is_proper}
 use Rattle.pdl_machine_facts.specs.Slots.{here, stage_moves, movers_from, moving}
 use Rattle.pdl_machine_facts.specs.Cycle.{IsByStages}
 use Rattle.pdl_machine_facts.specs.Use.{IsInUse}
-use Rattle.pdl_law_parts.proofs.Stood.{Stood}
+use Rattle.pdl_law_parts.proofs.AnsweredThreads.{Stood}
 use Rattle.pdl_law_parts.specs.Walk.{Locks, is_locked, Put, is_on}
 use Rattle.pdl_law_parts.specs.Views.{Gates, View}
 use Rattle.pdl_law_parts.specs.Ports.{reserves_to, all_reserves, puts_to, all_puts, release_signal, step_of}

@@ -23,6 +23,7 @@ use Rattle.pdl_law_parts.proofs.LockUse.{writes_to, write_acts}
 
 -- PORTS OF ONE STAGE
 
+-- the addresses that reserve ports ask for are those of the first ones, and then those of the others
 pub asked_append : (s : State) (xs ys : List ReserveSignal) → asked_addresses s (xs ++ ys) ≡ asked_addresses s xs ++ asked_addresses s ys
 asked_append s [] ys = refl
 asked_append s (x ∷ xs) ys = at (x.enable.value s == 1) (asked_append s xs ys)
@@ -68,15 +69,18 @@ abbrev pub AreFitting : State → List ReserveSignal → Type 0
 AreFitting s [] = ⊤
 AreFitting s (f ∷ fs) = (f.enable.value s ≡ 1 → FitsIn f.addr s) × AreFitting s fs
 
+-- where the addresses of two lists of reservations fit, those of both together do
 pub fitting_append : (s : State) (fs gs : List ReserveSignal) → AreFitting s fs → AreFitting s gs → AreFitting s (fs ++ gs)
 fitting_append s [] gs h i = i
 fitting_append s (f ∷ fs) gs h i = (h.0, fitting_append s fs gs h.1 i)
 
+-- where the addresses of reservations that are made fit, that of each one does
 pub fitting_at : (s : State) (fs : List ReserveSignal) → AreFitting s fs → (k : ℕ) → k < length fs → (reserve_at fs k).enable.value s ≡ 1 → FitsIn (reserve_at fs k).addr s
 fitting_at s [] h k l = absurd (omega arith)
 fitting_at s (f ∷ fs) h zero l = h.0
 fitting_at s (f ∷ fs) h (suc k) l = fitting_at s fs h.1 k (omega arith)
 
+-- the addresses that a stage reserves fit, where those of its thread do as that moves
 pub fitting_stage : (s : State) (m : ℕ) (moves : Signal) (g : Bool) → moves.value s ≡ bit g → (rs : List Reservation) → (g ≡ true → AddressesFit s rs) → AreFitting s (reserves_to m moves rs)
 fitting_stage s m moves g e [] h = tt
 fitting_stage s m moves g e (r ∷ rs) h = at (fitting_stage s m moves g e rs (λ z. (h z).1)) (r.mem == m)
@@ -126,23 +130,27 @@ pub record IsDriven (w : ℕ) (s : State) (a : WriteAct) (f : TicketSignal) : Ty
   pub ticket : a.on ≡ true → holds_ticket w f.ticket s a.ticket
   pub value : f.value.value s ≡ a.value
 
+-- each write port does what it is to do, and there are as many of them as writes
 abbrev pub AreDriven : ℕ → State → List WriteAct → List TicketSignal → Type 0
 AreDriven w s [] [] = ⊤
 AreDriven w s (a ∷ as') (f ∷ fs) = IsDriven w s a f × AreDriven w s as' fs
 AreDriven w s _ _ = ⊥
 
+-- where the write ports of two lists do what they are to do, those of both together do
 pub driven_append : (w : ℕ) (s : State) (as' bs : List WriteAct) (fs gs : List TicketSignal) → AreDriven w s as' fs → AreDriven w s bs gs → AreDriven w s (as' ++ bs) (fs ++ gs)
 driven_append w s [] bs [] gs h i = i
 driven_append w s [] bs (f ∷ fs) gs h i = absurd h
 driven_append w s (a ∷ as') bs [] gs h i = absurd h
 driven_append w s (a ∷ as') bs (f ∷ fs) gs h i = (h.0, driven_append w s as' bs fs gs h.1 i)
 
+-- there are as many writes as write ports that do them
 pub driven_count : (w : ℕ) (s : State) (as' : List WriteAct) (fs : List TicketSignal) → AreDriven w s as' fs → length as' ≡ length fs
 driven_count w s [] [] h = refl
 driven_count w s [] (f ∷ fs) h = absurd h
 driven_count w s (a ∷ as') [] h = absurd h
 driven_count w s (a ∷ as') (f ∷ fs) h = ap suc (driven_count w s as' fs h.1)
 
+-- where write ports do what they are to do, each of them does
 pub driven_at : (w : ℕ) (s : State) (as' : List WriteAct) (fs : List TicketSignal) → AreDriven w s as' fs → (k : ℕ) → k < length as' → IsDriven w s (lock.act_at as' k) (ticket_at fs k)
 driven_at w s [] fs h k l = absurd (omega arith)
 driven_at w s (a ∷ as') [] h k l = absurd h
@@ -199,8 +207,10 @@ moves_or_not p st bits k = at (stage_moves p st bits k) (here p st bits k) refl 
     at true (Some t) e h = inr (t, h, e)
     at true None e h = absurd (false≢true (sym (ap (slot_moves p st bits k) h) ∙ e))
 
+-- no thread moves out of a stage whose thread does not move
 pub no_mover : (p : Pipe) (st : machine.State) (bits : List Bool) (k : ℕ) → stage_moves p st bits k ≡ false → mover p st k (stage_moves p st bits k) (here p st bits k) ≡ []
 no_mover p st bits k e = ap (λ b. mover p st k b (here p st bits k)) e
 
+-- where the thread of a stage moves, it alone moves out of the stage, with what it does
 pub one_mover : (p : Pipe) (st : machine.State) (bits : List Bool) (k : ℕ) (t : Thread) → here p st bits k ≡ Some t → stage_moves p st bits k ≡ true → mover p st k (stage_moves p st bits k) (here p st bits k) ≡ act_at p st k t ∷ []
 one_mover p st bits k t h e = ap₂ (mover p st k) e h

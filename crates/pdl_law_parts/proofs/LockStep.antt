@@ -26,7 +26,7 @@ use Rattle.pdl_machine_facts.specs.Slots.{here, moving}
 use Rattle.pdl_machine_facts.specs.Ports.{shown_values, commit_values}
 use Rattle.pdl_machine_facts.specs.Cycle.{IsByStages}
 use Rattle.pdl_machine_facts.specs.Use.{IsInUse}
-use Rattle.pdl_law_parts.proofs.Stood.{Stood}
+use Rattle.pdl_law_parts.proofs.AnsweredThreads.{Stood}
 use Rattle.pdl_law_parts.specs.Walk.{Locks, is_locked}
 use Rattle.pdl_law_parts.specs.Views.{Gates, View}
 use Rattle.pdl_law_parts.specs.Ports.{Commit, step_of}
@@ -52,7 +52,7 @@ step_by false base xs es words e =
     ap (λ ys. record { base = base; entries = ys; words = words }) e ∙ ap (λ n. lock_state_of n es words) z
 
 -- what a memory with a lock commits, as its ports show it
-pub commit_shows : Option Pending → List ℕ
+commit_shows : Option Pending → List ℕ
 commit_shows None = 0 ∷ 0 ∷ 0 ∷ []
 commit_shows (Some e) = 1 ∷ e.address ∷ commit_value e.value ∷ []
 
@@ -71,6 +71,7 @@ commit_by true xs es some e =
     ∙ ap (λ v. 1 ∷ f.0.address ∷ v ∷ []) (or_zero_is f.0.value)
     ∙ ap (λ l. commit_shows (oldest l)) (sym f.2)
 
+-- the commit ports of a memory with a lock have the values of what it commits
 pub commit_as : (k : LockKind) (n : ℕ) (l : model.Lock) (o : Option Pending) → l ≡ as_lock k n → commit_values l (port_write o) ≡ commit_shows o
 unfolding commit_shows
 commit_as k n l o e = ap (λ x. commit_values x (port_write o)) e ∙ ap (λ (b : Bool). if b then shown_values (port_write o) else []) (locked_is k n) ∙ at o

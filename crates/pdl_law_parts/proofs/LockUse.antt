@@ -49,6 +49,7 @@ pub record IsAlike (es fs : List Pending) : Type 0 where
   pub has : (u : ℕ) → has_thread u es ≡ has_thread u fs
   pub long : length es ≡ length fs
 
+-- pending writes in the order of their threads have the same threads as themselves
 pub alike : (es : List Pending) → AreOrdered 0 es → IsAlike es es
 alike es o = record { ordered = o; count = λ u. refl; has = λ u. refl; long = refl }
 
@@ -67,7 +68,7 @@ put_ordered u t v (e ∷ es) o =
     let P : ℕ → Type 0 = λ n. (u ≤ n) × AreOrdered (n + 1) (with_value_of t v es) in
     subst P (sym (put_thread (e.thread == t) v e)) (o.0, put_ordered (e.thread + 1) t v es o.1)
 
-pub put_alike : (t v : ℕ) (es fs : List Pending) → IsAlike es fs → IsAlike (with_value_of t v es) fs
+put_alike : (t v : ℕ) (es fs : List Pending) → IsAlike es fs → IsAlike (with_value_of t v es) fs
 put_alike t v es fs h = record {
   ordered = put_ordered 0 t v es h.ordered;
   count = λ u. put_older u t v es ∙ h.count u;
@@ -82,10 +83,12 @@ abbrev pub all_new : ℕ → List Act → List Pending
 all_new m [] = []
 all_new m (a ∷ ms) = all_new m ms ++ new_entries m a.thread.number a.does.reserves
 
+-- what a cycle reserves comes after the pending writes that are there
 pub appended_is : (m : ℕ) (ms : List Act) (es : List Pending) → with_reserves m ms es ≡ es ++ all_new m ms
 appended_is m [] es = sym (append-nil es)
 appended_is m (a ∷ ms) es = ap (λ l. l ++ new_entries m a.thread.number a.does.reserves) (appended_is m ms es) ∙ append_assoc es (all_new m ms) (new_entries m a.thread.number a.does.reserves)
 
+-- threads that move add as many pending writes as they reserve addresses
 pub new_count : (m : ℕ) (ms : List Act) → length (all_new m ms) ≡ length (addresses m ms)
 new_count m [] = refl
 new_count m (a ∷ ms) =
@@ -117,6 +120,7 @@ abbrev pub write_acts : State → ℕ → Bool → ℕ → List Put → List Wri
 write_acts s m goes ticket [] = []
 write_acts s m goes ticket (x ∷ xs) = if x.mem == m then record { on = goes && is_on x.on s; ticket = ticket; value = x.value.value s } ∷ write_acts s m goes ticket xs else write_acts s m goes ticket xs
 
+-- writes of two lists are made one list after the other
 pub written_append : (base : ℕ) (xs ys : List WriteAct) (es : List lock.Entry) → with_writes base (xs ++ ys) es ≡ with_writes base ys (with_writes base xs es)
 written_append base [] ys es = refl
 written_append base (x ∷ xs) ys es = written_append base xs ys (lock.with_write base x es)

@@ -31,6 +31,7 @@ any_dropped test [] k l e = absurd (omega (arith, l))
 any_dropped test (x ∷ xs) zero l e = ap (λ b. b || list_any test xs) e
 any_dropped test (x ∷ xs) (suc k) l e = any_dropped test xs k (omega (arith, l)) e
 
+-- the variable by which a stage forks lives from that stage on
 pub lives_fork : (p : Pipe) (k x : ℕ) → k < length p.stages → forks_by (stage_at p k).next x ≡ true → lives_from p k x ≡ true
 lives_fork p k x l e = or_right _ _ (any_dropped (λ (s : Stage). forks_by s.next x) p.stages k l e)
 

@@ -16,7 +16,7 @@ use Rattle.pdl_machine_facts.specs.Ports.{stage_values, commit_values, all_commi
 use Rattle.pdl_machine_facts.specs.Cycle.{IsByStages}
 use Rattle.pdl_machine_facts.specs.Use.{IsInUse}
 use Rattle.pdl_lockapi.proofs.LockKinds.{plain_is}
-use Rattle.pdl_law_parts.proofs.Stood.{Stood}
+use Rattle.pdl_law_parts.proofs.AnsweredThreads.{Stood}
 use Rattle.pdl_law_parts.specs.Walk.{Locks, is_locked}
 use Rattle.pdl_law_parts.specs.Views.{Gates, View}
 use Rattle.pdl_law_parts.specs.Ports.{Shown, Commit, stages_shown, commit_shown, commits_shown}
@@ -33,6 +33,7 @@ outputs_all c (o ∷ outs) = ap (λ l. o ∷ l) (outputs_all c outs)
 abbrev pub shown_value : State → Shown → ℕ
 shown_value s f = f.signal.value s
 
+-- the values of outputs by their nets are those of what is shown
 pub values_shown : (c : Circuit) (s : State) (outs : List Output) → map (λ (o : Output). net_value c s o.net) outs ≡ map (shown_value s) (map (shown_in c) outs)
 values_shown c s [] = refl
 values_shown c s (o ∷ outs) = ap (λ l. net_value c s o.net ∷ l) (values_shown c s outs)

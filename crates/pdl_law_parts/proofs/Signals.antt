@@ -10,6 +10,7 @@ use Rattle.pdl_law_parts.specs.Walk.{Reservation, Put, Letting, one, zero_bit, b
 use Rattle.pdl_lockapi.specs.Laws.{FitsIn}
 use Rattle.pdl_law_parts.specs.Stands.{AddressesFit, AreBits, reserved_in, written_in, let_in, asked_in}
 
+-- a choice by a bit has the value of the arm that the bit takes
 pub mux_at : (s : State) (a b c : Signal) (x : Bool) → a.value s ≡ bit x → (mux_signal a b c).value s ≡ (if x then b.value s else c.value s)
 unfolding mux_value mux
 mux_at s a b c x e = ap (λ n. if n == 1 then b.value s else c.value s) e ∙ at x
@@ -29,10 +30,12 @@ unfolding const_value
 both_at s a b true y e f = mux_at s a b zero_bit true e ∙ f refl
 both_at s a b false y e f = mux_at s a b zero_bit false e
 
+-- the bit that is always 1 has the value 1
 pub one_is : (s : State) → one.value s ≡ 1
 unfolding const_value
 one_is s = refl
 
+-- the bit that is always 0 has the value 0
 pub zero_is : (s : State) → zero_bit.value s ≡ 0
 unfolding const_value
 zero_is s = refl
@@ -43,6 +46,7 @@ unfolding const_value
 if_on_at s on f true y e g = mux_at s on f one true e ∙ g refl
 if_on_at s on f false y e g = mux_at s on f one false e
 
+-- a signal with the bit of a truth value is on where that is true
 pub on_is : (s : State) (f : Signal) (b : Bool) → f.value s ≡ bit b → is_on f s ≡ b
 on_is s f b e = ap (λ n. n == 1) e ∙ at b
   where
@@ -62,10 +66,12 @@ reserved_more s (x ∷ rs) r = at (is_on x.on s) (reserved_more s rs r)
     at true e = ap (λ l. record { mem = x.mem; address = x.addr.value s } ∷ l) e
     at false e = e
 
+-- with a reservation more whose address fits where it is made, the addresses of all fit
 pub fits_more : (s : State) (rs : List Reservation) (r : Reservation) → AddressesFit s rs → (is_on r.on s ≡ true → FitsIn r.addr s) → AddressesFit s (rs ++ r ∷ [])
 fits_more s [] r h f = (f, tt)
 fits_more s (x ∷ rs) r h f = (h.0, fits_more s rs r h.1 f)
 
+-- with a write more, what is written is that of the others, and its own where its condition is 1
 pub written_more : (s : State) (xs : List Put) (y : Put) → written_in s (xs ++ y ∷ []) ≡ written_in s xs ++ (if is_on y.on s then record { mem = y.mem; value = y.value.value s } ∷ [] else [])
 written_more s [] y = refl
 written_more s (x ∷ xs) y = at (is_on x.on s) (written_more s xs y)
@@ -88,10 +94,12 @@ let_more s (x ∷ ls) l = at (is_on x.on s) (let_more s ls l)
     at true e = ap (λ k. x.mem ∷ k) e
     at false e = e
 
+-- with a write more whose condition is a bit, the conditions of all are bits
 pub bits_more : (s : State) (xs : List Put) (y : Put) → AreBits s xs → y.on.value s ≡ bit (is_on y.on s) → AreBits s (xs ++ y ∷ [])
 bits_more s [] y h e = (e, tt)
 bits_more s (x ∷ xs) y h e = (h.0, bits_more s xs y h.1 e)
 
+-- with a request more, what is asked is that of the others, and its own where its condition is 1
 pub asked_more : (s : State) (qs : List Ask) (q : Ask) → asked_in s (qs ++ q ∷ []) ≡ asked_in s qs ++ (if is_on q.on s then record { mem = q.mem; var = q.var; address = q.addr.value s } ∷ [] else [])
 asked_more s [] q = refl
 asked_more s (x ∷ qs) q = at (is_on x.on s) (asked_more s qs q)

@@ -15,7 +15,7 @@ use Rattle.pdl_lockapi.specs.Forget.{as_lock}
 use Rattle.pdl_machine_facts.specs.Slots.{here}
 use Rattle.pdl_machine_facts.specs.Use.{before_stage, AreFine, IsInUse}
 use Rattle.std.proofs.lemmas.List.{length-set}
-use Rattle.pdl_law_parts.proofs.Stood.{stood}
+use Rattle.pdl_law_parts.proofs.AnsweredThreads.{stood}
 use Rattle.pdl_law_parts.specs.Lives.{row_uses, asks_held, lives_from, held_from, verifies_from}
 use Rattle.pdl_law_parts.specs.Walk.{Locks, Put, Birth, Walk, is_locked, IsFresh, walk_after, AreRows}
 use Rattle.pdl_law_parts.specs.Reads.{IsAtOnce, AreAtOnce}
@@ -27,9 +27,11 @@ use Rattle.pdl_law_parts.proofs.StageLooks.{plain_is}
 use Rattle.pdl_law_parts.proofs.StageRow.{IsLive, IsAround}
 use Rattle.pdl_law_parts.proofs.StageStep.{follows_row}
 use Rattle.pdl_semantics.specs.PendingLists.{count_older}
+use Rattle.pdl_semantics.proofs.Facts.{kept_long}
 
 -- LIVE ROWS
 
+-- each of these rows stands in stage k, and what it uses lives from there on
 abbrev pub AllLive : Pipe → ℕ → List Stmt → Type 0
 AllLive p k [] = Unit {0}
 AllLive p k (x ∷ xs) = (IsLive p k x × (x.stage ≡ k)) × AllLive p k xs
@@ -67,11 +69,6 @@ module _ (c : Circuit) (p : Pipe) (ls : Locks) (vs : ℕ → View) (s : State) (
       follows_all xs (walk_after x.op rows.0 ls w) end (if all_hold x.guards d.env then deeds_after (word_for st thread) x.op d else d) live.1 rows.2 fine.1
       (follows_row c p ls vs s st k thread around x rows.0 w d live.0.0 rows.1 live.0.1 fine.0 q)
 
--- answers add no variable
-pub long_kept : (ks : List Kept) (env : List ℕ) → length (with_kept ks env) ≡ length env
-long_kept [] env = refl
-long_kept (x ∷ ks) env = long_kept ks (slice_set env x.var x.word) ∙ length-set env x.var x.word
-
 -- THE WHOLE STAGE
 
 module _ (c : Circuit) (p : Pipe) (ls : Locks) (vs : ℕ → View) (s : State) (st : machine.State) (bits : List Bool) (suits : Suits c s)
@@ -99,7 +96,7 @@ module _ (c : Circuit) (p : Pipe) (ls : Locks) (vs : ℕ → View) (s : State) (
       (record {
         ready = ap (λ (f : Signal). f.value s) fresh.ready ∙ one_is s;
         so = λ z. record {
-          long = long_kept t.kept t.env ∙ ap length (sym u.env) ∙ stands.long k u.thread u.slot;
+          long = kept_long t.kept t.env ∙ ap length (sym u.env) ∙ stands.long k u.thread u.slot;
           env = env;
           held = subst (λ e. IsHolding p k s (vs k).begun.held (held_before k e p.stmts [])) u.env (stands.held k u.thread u.slot);
           reserves = sym (ap (reserved_in s) fresh.reserves);

@@ -20,6 +20,7 @@ use Rattle.pdl_law_parts.specs.Views.{View}
 use Rattle.pdl_law_parts.specs.Stands.{StandsLock}
 use Rattle.pdl_semantics.specs.PendingLists.{AreOrdered, count_older}
 
+-- a memory that is not locked has no lock
 pub plain_is : (p : Pipe) (m : ℕ) → is_locked p m ≡ false → (mem_at p m).lock ≡ Plain
 plain_is p m e = kinds.plain_is (mem_at p m).lock e
 

@@ -23,6 +23,7 @@ use Rattle.pdl_rules.specs.Memories.{info_of}
 abbrev pub name_of_array : Array → List ℕ
 name_of_array a = a.name
 
+-- arrays with the shapes of memories have the memories' names
 pub array_names_are : (ars : List Array) (ms : List Mem) → map shape_of ars ≡ map shape_of_mem ms → map name_of_array ars ≡ map name_of_mem ms
 array_names_are [] [] e = refl
 array_names_are [] (m ∷ ms) e = absurd (cc e)
@@ -64,6 +65,7 @@ mem_array (a ∷ ars) (x ∷ xs) e m (inr h) d =
 
 -- ---- writes
 
+-- where no write has a signal there is no write port
 pub no_write : (c : Circuit) (ws : List WritePort) → map (write_signal c) ws ≡ [] → ws ≡ []
 no_write c [] e = refl
 no_write c (w ∷ ws) e = absurd (cc e)
@@ -77,9 +79,11 @@ locked_rec P (m ∷ ms) h = go (is_some m.lock) (h m (inl refl)) (locked_rec P m
     go true x xs = (x, xs)
     go false x xs = xs
 
+-- what holds of each memory, as ports tell it, holds of all that have a lock
 pub locked_all : (P : PortMem → Type 0) (ms : List Mem) → ((m : Mem) → Among m ms → P (port_mem m)) → All P (locked_of ms)
 locked_all P ms h = All-from_recursion P (locked_of ms) (locked_rec P ms h)
 
+-- what holds of all memories that have a lock holds of each that has one
 pub locked_at : (P : PortMem → Type 0) (ms : List Mem) (m : Mem) → Among m ms → is_some m.lock ≡ true → AllByRecursion P (locked_of ms) → P (port_mem m)
 locked_at P [] m a e h = absurd a
 locked_at P (x ∷ xs) m (inl s) e h = subst (λ (y : Mem). P (port_mem y)) s (go (is_some x.lock) (ap (λ (y : Mem). is_some y.lock) s ∙ e) h)
@@ -101,12 +105,14 @@ shallow (Some l) d e = absurd (false≢true (sym e))
 -- ---- memories as later steps are told them
 
 -- a memory as it is told, by its fields
-abbrev pub info_with : List ℕ → ℕ → ℕ → Bool → MemInfo
+abbrev info_with : List ℕ → ℕ → ℕ → Bool → MemInfo
 info_with x w d s = record { name = x; width = w; depth = d; delayed = s }
 
+-- memories are told the same where their names, widths, depths and ways of answering are
 pub info_same : (x y : List ℕ) (a b c d : ℕ) (s t : Bool) → x ≡ y → a ≡ b → c ≡ d → s ≡ t → info_with x a c s ≡ info_with y b d t
 info_same x y a b c d s t e f g h = cc
 
+-- a memory that answers at once is told as its array tells it, and its ports where it has a lock
 pub info_if : (b : Bool) (a : Array) (m : Mem) → is_some m.lock ≡ b → shape_of a ≡ shape_of_mem m → Reaches m → m.delayed ≡ false → info_of m ≡ comb_info a (if b then Some (port_mem m) else None)
 info_if true a m l e r d = info_same m.name.name a.name m.width.value m.width.value m.depth.value _ m.delayed false (sym (ap (λ (s : Shape). s.name) e)) refl (sym r) d
 info_if false a m l e r d = info_same m.name.name a.name m.width.value a.width m.depth.value a.depth m.delayed false (sym (ap (λ (s : Shape). s.name) e)) (sym (ap (λ (s : Shape). s.width) e)) (sym (ap (λ (s : Shape). s.depth) e ∙ shallow m.lock m.depth.value l)) d

@@ -12,7 +12,7 @@ use Rattle.pdl_rules.specs.Widths.{address_bits}
 use Rattle.pdl_rules.specs.Refusal.{KeepsRules}
 use Rattle.pdl_rules.specs.Typed.{IsSized, AreSized}
 use Rattle.pdl_rules.proofs.EachPlace.{Each, each_from, each_front, each_back, closing}
-use Rattle.pdl_rules.proofs.Once.{count_push, count_cons}
+use Rattle.pdl_rules.proofs.SingleWrites.{count_push, count_cons}
 use Rattle.pdl_rules.proofs.Memories.{has_depth, bits_reach}
 use Rattle.pdl_law_parts.proofs.WellFormedNames.{Among}
 

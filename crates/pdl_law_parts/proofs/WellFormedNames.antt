@@ -9,14 +9,17 @@ use Rattle.pdl_word.proofs.Bytes.{bytes_differ}
 
 -- ---- equal names
 
+-- names that the test tells apart differ
 pub name_apart : (x y : List ℕ) → bytes_eq x y ≡ false → x ≢ y
 name_apart x y e s = false≢true (sym e ∙ (bytes_eq-Decides x y).1 s)
 
+-- names that the test tells apart are told apart the other way round too
 pub name_turned : (x y : List ℕ) → bytes_eq x y ≡ false → bytes_eq y x ≡ false
 name_turned x y e = bytes_differ y x (λ s. name_apart x y e (sym s))
 
 -- ---- memories
 
+-- the name of a memory
 abbrev pub name_of_mem : Mem → List ℕ
 name_of_mem m = m.name.name
 
@@ -72,6 +75,7 @@ mem_none n (m ∷ ms) e =
     let parts = or_parts (bytes_eq m.name.name n) (is_memory ms n) e in
     ((λ s. name_apart m.name.name n parts.0 (sym s)), mem_none n ms parts.1)
 
+-- the names of distinct memories all differ
 pub mem_names_differ : (ms : List Mem) → AreDistinct ms → AllDiffer (map name_of_mem ms)
 mem_names_differ [] h = tt
 mem_names_differ (m ∷ ms) h = (mem_none m.name.name ms h.0, mem_names_differ ms h.1)

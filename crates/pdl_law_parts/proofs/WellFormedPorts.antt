@@ -24,7 +24,7 @@ use Rattle.pdl_semantics.proofs.Facts.{lock_declared}
 -- ---- the locked memories
 
 -- the locked memory of a name, if that memory has a lock
-abbrev pub if_some : Mem → Option PortMem
+abbrev if_some : Mem → Option PortMem
 if_some m = if is_some m.lock then Some (port_mem m) else None
 
 -- the locked memory of a name, if there is one
@@ -86,6 +86,7 @@ commit_heads_if : (b : Bool) (xs : List Shown) (l : PortMem) (rest : List Shown)
 commit_heads_if true xs l rest ls e f = map-append head_shown xs rest ∙ ap₂ (λ a b. a ++ b) (e refl) f
 commit_heads_if false xs l rest ls e f = f
 
+-- the commit outputs have the names, directions and widths of those of the memories with a lock
 pub commit_heads : (names : ℕ → List ℕ) (commits : ℕ → Commit) (k : ℕ) (ms : List Mem) → ((i : ℕ) → i < length ms → names (k + i) ≡ mem_names ms i) → ((m : Mem) → Among m ms → Reaches m) → CommitsFit commits k ms → map head_shown (commits_shown names commits k (mems_of ms)) ≡ flat_map commit_ports (locked_of ms)
 commit_heads names commits k [] f r h = refl
 commit_heads names commits k (x ∷ xs) f r h =
@@ -106,6 +107,7 @@ last_heads = output (codes "ended") 1 ∷ output (codes "squash") 1 ∷ []
 abbrev pub name_of_head : Head → List ℕ
 name_of_head h = h.name
 
+-- the names of ports are those that they are told with
 pub names_of_heads : (ps : List Port) → map (λ (p : Port). p.name) ps ≡ map name_of_head (map head_of ps)
 names_of_heads [] = refl
 names_of_heads (p ∷ ps) = ap (λ l. p.name ∷ l) (names_of_heads ps)
@@ -119,6 +121,7 @@ stage_names k (suc n) rest = (codes "v_" ++ decimal k) ∷ (codes "g_" ++ decima
 pub heads_apart : (a b : ℕ) (x y : List ℕ) → a ≢ b → a ∷ x ≢ b ∷ y
 heads_apart a b x y d e = d (cc e)
 
+-- names that begin with the same letter and differ after it differ
 pub tails_apart : (a : ℕ) (x y : List ℕ) → x ≢ y → a ∷ x ≢ a ∷ y
 tails_apart a x y d e = d (cc e)
 
@@ -132,7 +135,7 @@ abbrev pub AreFree : List PortMem → Type 0
 AreFree [] = ⊤
 AreFree (l ∷ ls) = IsFree l.name ls × AreFree ls
 
-pub locked_free : (n : List ℕ) (ms : List Mem) → IsNone n (map name_of_mem ms) → IsFree n (locked_of ms)
+locked_free : (n : List ℕ) (ms : List Mem) → IsNone n (map name_of_mem ms) → IsFree n (locked_of ms)
 locked_free n [] h = tt
 locked_free n (m ∷ ms) h = go (is_some m.lock) (locked_free n ms h.1)
   where
@@ -140,6 +143,7 @@ locked_free n (m ∷ ms) h = go (is_some m.lock) (locked_free n ms h.1)
     go true f = (h.0, f)
     go false f = f
 
+-- no two memories with a lock have one name, where the memories are distinct
 pub all_free : (ms : List Mem) → AreDistinct ms → AreFree (locked_of ms)
 all_free [] h = tt
 all_free (m ∷ ms) h = go (is_some m.lock) (locked_free m.name.name ms (mem_none m.name.name ms h.0)) (all_free ms h.1)
@@ -168,6 +172,7 @@ moves_none j k (suc n) rest l h r = (
   (tails_apart 103 _ _ (tails_apart 95 _ _ (stages_apart j k l (omega arith))), moves_none j (suc k) n rest (omega arith) (omega arith) r),
 )
 
+-- with the names of at most 64 stages' ports before others that differ from them, all names differ
 pub stages_differ : (k n : ℕ) (rest : List (List ℕ)) → k + n ≤ 64 → ((j : ℕ) → IsNone (codes "v_" ++ decimal j) rest) → ((j : ℕ) → IsNone (codes "g_" ++ decimal j) rest) → AllDiffer rest → AllDiffer (stage_names k n rest)
 stages_differ k zero rest h v g r = r
 stages_differ k (suc n) rest h v g r = (

@@ -8,10 +8,10 @@ use Rattle.pdl_rules.specs.Places.{Place, Parameter, Memory, End, StartClause, p
 use Rattle.pdl_rules.specs.Limits.{is_separator, breaks_z3}
 use Rattle.pdl_rules.specs.Refusal.{KeepsRules}
 use Rattle.pdl_rules.proofs.EachPlace.{Each, each_from}
-use Rattle.pdl_rules.proofs.Once.{weight, count_push}
+use Rattle.pdl_rules.proofs.SingleWrites.{weight, count_push}
 use Rattle.pdl_source_stages.proofs.Walks.{cut, cut_append, cut_all}
-use Rattle.pdl_source_stages.proofs.Formed.{body_forked}
-use Rattle.pdl_source_stages.proofs.Fine.{stage_count}
+use Rattle.pdl_source_stages.proofs.BodyShape.{body_forked}
+use Rattle.pdl_source_stages.proofs.SiteFacts.{stage_count}
 
 -- a place that is not a 64th separator
 abbrev IsShort : List Place → Place → Type 0
@@ -33,6 +33,7 @@ few_cuts : (xs before : List Place) → Each IsShort before xs → cut before �
 few_cuts [] before each low = subst (λ l. cut l ≤ 63) (sym (append-nil before)) low
 few_cuts (x ∷ xs) before each low = subst (λ l. cut l ≤ 63) (append_assoc before (x ∷ []) xs) (few_cuts xs (before ++ x ∷ []) each.1 (one_more before x each.0 low))
 
+-- the flat form of a pipe that keeps the rules has at most 64 stages
 pub few_stages : (p : Pipe) → KeepsRules p → length (flat p).stages ≤ 64
 few_stages p rules =
     let front = map Parameter p.params ++ map Memory p.mems in

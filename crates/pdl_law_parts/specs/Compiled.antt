@@ -23,9 +23,11 @@ use Rattle.pdl_law_parts.specs.Ports.{Shown, Commit, step_of}
 abbrev pub Same : Circuit → Signal → Signal → Type 0
 Same c f g = (s : State) → Suits c s → f.value s ≡ g.value s
 
+-- a signal has in the next cycle the value that the other has in this one
 abbrev pub Becomes : Circuit → Signal → Signal → Type 0
 Becomes c f g = (s t : State) → Suits c s → t.regs ≡ next_regs c s → f.value t ≡ g.value s
 
+-- a signal begins with this value, where the registers have their reset values
 abbrev pub StartsAs : Circuit → Signal → ℕ → Type 0
 StartsAs c f v = (s : State) → s.regs ≡ map (λ (r : Reg). r.reset) c.regs → f.value s ≡ v
 
@@ -69,8 +71,10 @@ pub record IsLaid (p : Pipe) (ls : Locks) (vs : ℕ → View) (gates : Gates) (m
   pub arrays : (m : ℕ) → m < length p.mems → (mem_at p m).delayed ≡ false → HasArray c (ls.array m)
   pub unwritten : (m : ℕ) → m < length p.mems → is_locked p m ≡ false → (mem_at p m).delayed ≡ false → write_signals c (ls.array m) ≡ []
 
+-- an output of a circuit with the signal of its net
 abbrev pub shown_in : Circuit → Output → Shown
 shown_in c o = record { name = o.name; signal = signal c o.net }
 
+-- the port of a circuit that an output is, with the width of its net
 abbrev pub port_in : Circuit → Output → Port
 port_in c o = record { name = o.name; width = (signal c o.net).width; dir = Out o.net }

@@ -30,6 +30,7 @@ abbrev pub array_words : Option LockDecl → ℕ → ℕ
 array_words None d = d
 array_words (Some l) d = words_of l.kind d
 
+-- the shape of a memory's array, with as many words as its lock keeps
 abbrev pub shape_of_mem : Mem → Shape
 shape_of_mem m = record { name = m.name.name; width = m.width.value; depth = array_words m.lock m.depth.value }
 
@@ -60,6 +61,7 @@ pub record FitsMem (m : Mem) (x : Commit) : Type 0 where
   pub reach : 2 ^ x.addr.width ≡ m.depth.value
   pub value : x.value.width ≡ m.width.value
 
+-- what each of these memories that has a lock commits fits it; the first has the number k
 abbrev pub CommitsFit : (ℕ → Commit) → ℕ → List Mem → Type 0
 CommitsFit commits k [] = Rattle.std.specs.Prelude.⊤
 CommitsFit commits k (m ∷ ms) = (is_some m.lock ≡ true → FitsMem m (commits k)) × CommitsFit commits (suc k) ms

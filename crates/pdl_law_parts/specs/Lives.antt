@@ -8,6 +8,7 @@ use Rattle.pdl_theory_facts.specs.Facts.{uses_in, uses_any}
 abbrev pub uses_var : Expr → ℕ → Bool
 uses_var e x = uses_in x e
 
+-- one of these expressions uses a variable
 abbrev pub are_using : List Expr → ℕ → Bool
 are_using es x = uses_any x es
 
@@ -27,10 +28,12 @@ op_uses (Verify args) x = are_using args x
 op_uses SpecCheck x = false
 op_uses SpecBarrier x = false
 
+-- one of these guards is by the variable
 abbrev pub guards_use : List Guard → ℕ → Bool
 guards_use [] x = false
 guards_use (g ∷ gs) x = (g.var == x) || guards_use gs x
 
+-- a row uses a variable, by a guard or by what it does
 abbrev pub row_uses : Stmt → ℕ → Bool
 row_uses r x = guards_use r.guards x || op_uses r.op x
 

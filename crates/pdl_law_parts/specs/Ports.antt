@@ -8,18 +8,22 @@ use Rattle.pdl_law_parts.specs.Views.{View, Gates}
 
 -- ---- the ports of a memory's lock over n stages, of which the first is k; those of the last stage stand first
 
+-- the reserve ports of a memory by the reservations of one stage, where its thread moves
 abbrev pub reserves_to : ℕ → Signal → List Reservation → List ReserveSignal
 reserves_to m moves [] = []
 reserves_to m moves (r ∷ rs) = if r.mem == m then record { enable = both moves r.on; addr = r.addr } ∷ reserves_to m moves rs else reserves_to m moves rs
 
+-- the reserve ports of a memory over n stages
 abbrev pub all_reserves : ℕ → (ℕ → View) → (ℕ → Signal) → ℕ → ℕ → List ReserveSignal
 all_reserves m vs moves zero k = []
 all_reserves m vs moves (suc n) k = all_reserves m vs moves n (suc k) ++ reserves_to m (moves k) (vs k).ended.reserves
 
+-- the write ports of a memory by the writes of one stage, where its thread moves, with the thread's ticket
 abbrev pub puts_to : ℕ → Signal → Signal → List Put → List TicketSignal
 puts_to m moves ticket [] = []
 puts_to m moves ticket (x ∷ xs) = if x.mem == m then record { enable = both moves x.on; ticket = ticket; value = x.value } ∷ puts_to m moves ticket xs else puts_to m moves ticket xs
 
+-- the write ports of a memory over n stages
 abbrev pub all_puts : ℕ → (ℕ → View) → (ℕ → Signal) → ℕ → ℕ → List TicketSignal
 all_puts m vs moves zero k = []
 all_puts m vs moves (suc n) k = all_puts m vs moves n (suc k) ++ puts_to m (moves k) ((vs k).tickets m) (vs k).ended.puts
@@ -29,6 +33,7 @@ abbrev pub release_moves : ℕ → Signal → List Letting → Signal → Signal
 release_moves m moves [] rest = rest
 release_moves m moves (l ∷ ls) rest = if l.mem == m then mux_signal (both moves l.on) one (release_moves m moves ls rest) else release_moves m moves ls rest
 
+-- whether in one of n stages a thread moves that releases its write reservation of the memory
 abbrev pub release_signal : ℕ → (ℕ → View) → (ℕ → Signal) → ℕ → ℕ → Signal
 release_signal m vs moves zero k = zero_bit
 release_signal m vs moves (suc n) k = release_moves m (moves k) (vs k).ended.lettings (release_signal m vs moves n (suc k))
@@ -51,6 +56,7 @@ pub record Shown : Type 0 where
   pub name : List ℕ
   pub signal : Signal
 
+-- an output with this name and signal
 abbrev pub shown_signal : List ℕ → Signal → Shown
 shown_signal x f = record { name = x; signal = f }
 
@@ -65,6 +71,7 @@ abbrev pub stages_shown : (ℕ → View) → (ℕ → Signal) → ℕ → ℕ �
 stages_shown vs moves zero k = []
 stages_shown vs moves (suc n) k = shown_signal (codes "v_" ++ decimal k) (vs k).valid ∷ shown_signal (codes "g_" ++ decimal k) (moves k) ∷ stages_shown vs moves n (suc k)
 
+-- the three outputs of what a memory commits, by its name
 abbrev pub commit_shown : List ℕ → Commit → List Shown
 commit_shown name c = shown_signal (codes "c_" ++ name) c.enable ∷ shown_signal (codes "ca_" ++ name) c.addr ∷ shown_signal (codes "cd_" ++ name) c.value ∷ []
 

@@ -12,6 +12,7 @@ pub record Seen : Type 0 where
   pub ports : List ℕ
   pub wait : Bool
 
+-- what is seen of a cycle that a netlist shows
 abbrev pub seen_of : Shown → Seen
 seen_of x = record { ports = x.ports; wait = x.waited }
 

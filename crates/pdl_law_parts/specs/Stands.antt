@@ -20,6 +20,7 @@ use Rattle.pdl_semantics.specs.PendingLists.{count_older}
 abbrev pub IsEnv : Pipe → ℕ → State → (ℕ → Signal) → List ℕ → Type 0
 IsEnv p k s vars env = (x : ℕ) → lives_from p k x ≡ true → slice_index env x ≡ (vars x).value s
 
+-- the signals tell which locations are held, as far as rows from stage k on ask for it
 abbrev pub IsHolding : Pipe → ℕ → State → (ℕ → ℕ → Signal) → List machine.HeldLocation → Type 0
 IsHolding p k s held places = (m a : ℕ) → held_from p k m a ≡ true → (held m a).value s ≡ bit (is_held places m a)
 
@@ -51,6 +52,7 @@ abbrev pub reserved_in : State → List Reservation → List Reserved
 reserved_in s [] = []
 reserved_in s (r ∷ rs) = if is_on r.on s then record { mem = r.mem; address = r.addr.value s } ∷ reserved_in s rs else reserved_in s rs
 
+-- the writes whose condition is 1 in a state, with their values
 abbrev pub written_in : State → List Put → List Written
 written_in s [] = []
 written_in s (x ∷ xs) = if is_on x.on s then record { mem = x.mem; value = x.value.value s } ∷ written_in s xs else written_in s xs
@@ -59,10 +61,12 @@ abbrev pub let_in : State → List Letting → List ℕ
 let_in s [] = []
 let_in s (l ∷ ls) = if is_on l.on s then l.mem ∷ let_in s ls else let_in s ls
 
+-- the requests whose condition is 1 in a state, with their addresses
 abbrev pub asked_in : State → List Ask → List machine.Ask
 asked_in s [] = []
 asked_in s (q ∷ qs) = if is_on q.on s then record { mem = q.mem; var = q.var; address = q.addr.value s } ∷ asked_in s qs else asked_in s qs
 
+-- the arguments of the first of these calls whose condition is 1 in a state, where one is
 abbrev pub child_in : State → List Birth → Option (List ℕ)
 child_in s [] = None
 child_in s (b ∷ bs) = if is_on b.on s then Some (map (λ (f : Signal). f.value s) b.args) else child_in s bs

@@ -32,12 +32,15 @@ is_locked p m = has_lock (mem_at p m).lock
 abbrev pub one : Signal
 one = const_signal 1 1
 
+-- one bit that is always 0
 abbrev pub zero_bit : Signal
 zero_bit = const_signal 1 0
 
+-- whether both of two bits are 1
 abbrev pub both : Signal → Signal → Signal
 both a b = mux_signal a b zero_bit
 
+-- a condition is 1 in a state
 abbrev pub is_on : Signal → State → Bool
 is_on f s = f.value s == 1
 
@@ -112,6 +115,7 @@ taken_in (g ∷ gs) w s = takes_branch g.first ((w.vars g.var).value s) && taken
 abbrev pub WhereTaken : Circuit → List Guard → Walk → (State → Type 0) → Type 0
 WhereTaken c gs w P = (s : State) → Suits c s → taken_in gs w s ≡ true → P s
 
+-- in each state in which the guards are not taken
 abbrev pub WhereNot : Circuit → List Guard → Walk → (State → Type 0) → Type 0
 WhereNot c gs w P = (s : State) → Suits c s → taken_in gs w s ≡ false → P s
 
@@ -123,11 +127,13 @@ AgreeOn e w s env = (x : ℕ) → uses_var e x ≡ true → slice_index env x �
 abbrev pub HasValue : Expr → Walk → Signal → State → Type 0
 HasValue e w f s = (env : List ℕ) → AgreeOn e w s env → f.value s ≡ value_of e env
 
+-- signals, one for each of these expressions, have their values
 abbrev pub HaveValues : List Expr → Walk → List Signal → State → Type 0
 HaveValues [] w [] s = ⊤
 HaveValues (e ∷ es) w (f ∷ fs) s = HasValue e w f s × HaveValues es w fs s
 HaveValues _ w _ s = ⊥
 
+-- the values of signals in a state
 abbrev pub values_at : State → List Signal → List ℕ
 values_at s fs = map (λ (f : Signal). f.value s) fs
 
@@ -174,9 +180,11 @@ pub record IsRow (c : Circuit) (p : Pipe) (ls : Locks) (tickets : ℕ → Signal
 
 -- ---- after a row
 
+-- the walk where a variable has this signal
 abbrev pub with_var : ℕ → Signal → Walk → Walk
 with_var x f w = record w { vars = λ y. if y == x then f else w.vars y }
 
+-- the signals of held locations, where one location has this one
 abbrev pub with_held : ℕ → ℕ → Signal → (ℕ → ℕ → Signal) → ℕ → ℕ → Signal
 with_held m a f held n b = if (m == n) && (a == b) then f else held n b
 
@@ -184,6 +192,7 @@ with_held m a f held n b = if (m == n) && (a == b) then f else held n b
 abbrev pub if_on : Signal → Signal → Signal
 if_on on f = mux_signal on f one
 
+-- the walk after a row, by what the row does and the signals that it brings
 abbrev pub walk_after : Op → Row → Locks → Walk → Walk
 walk_after (Bind x e) r ls w = with_var x r.value w
 walk_after (CombRead x m a) r ls w = with_var x r.value w

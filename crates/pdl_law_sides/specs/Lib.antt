@@ -1,3 +1,3 @@
 pub mod Sides
 pub mod HasSides
-pub mod Whole
+pub mod WholeNetlist

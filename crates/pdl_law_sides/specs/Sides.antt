@@ -66,10 +66,12 @@ abbrev pub place_answered : (ℕ → AnswerSignals) → ℕ → List ℕ → ℕ
 place_answered f k [] i = one
 place_answered f k (q ∷ qs) i = if q == k then both (f i).answered (place_answered f k qs (suc i)) else place_answered f k qs (suc i)
 
+-- whether the thread of stage k awaits no answer of memory m any more
 abbrev pub memory_answered : Pipe → (ℕ → ℕ → AnswerSignals) → ℕ → ℕ → Option Reading → Signal
 memory_answered p answers k m None = one
 memory_answered p answers k m (Some r) = place_answered (answers m) k (places p r) 0
 
+-- whether it awaits no answer of n memories any more, of which the first is m
 abbrev pub all_answered : Pipe → (ℕ → ℕ → AnswerSignals) → ℕ → ℕ → ℕ → Signal
 all_answered p answers k zero m = one
 all_answered p answers k (suc n) m = both (memory_answered p answers k m (reading p m)) (all_answered p answers k n (suc m))
@@ -94,10 +96,12 @@ abbrev pub branch_turn : OrderNets → Option Branch → Signal
 branch_turn o None = o.empty
 branch_turn o (Some b) = mux_signal o.empty zero_bit (if b.first then o.first else mux_signal o.first zero_bit one)
 
+-- whether a thread of this branch may go into a stage, which merges this fork or none
 abbrev pub merge_turn : Sides → Option ℕ → Option Branch → Signal
 merge_turn sides None from = one
 merge_turn sides (Some f) from = branch_turn (sides.order f) from
 
+-- whether the thread of stage k may go into stage q by the order of the fork that q merges
 abbrev pub turn : Pipe → Sides → ℕ → ℕ → Signal
 turn p sides k q = merge_turn sides (stage_at p q).merges (stage_at p k).branch
 
@@ -116,6 +120,7 @@ abbrev pub asks_memory : ℕ → Signal → List Ask → Signal
 asks_memory m moves [] = zero_bit
 asks_memory m moves (q ∷ qs) = if q.mem == m then mux_signal (both moves q.on) one (asks_memory m moves qs) else asks_memory m moves qs
 
+-- the address that a thread which moves asks of the memory, 0 where none does
 abbrev pub asked_address : ℕ → Signal → List Ask → Signal
 asked_address m moves [] = zero_bit
 asked_address m moves (q ∷ qs) = if q.mem == m then mux_signal (both moves q.on) q.addr (asked_address m moves qs) else asked_address m moves qs
@@ -130,6 +135,7 @@ goes_to_place (Forks x first second) i w = if i == 0 then mux_signal (w.vars x) 
 abbrev pub asked_into : Pipe → (ℕ → View) → (ℕ → Signal) → ℕ → Reading → ℕ → Signal
 asked_into p vs moves m r i = both (asks_memory m (moves r.stage) (vs r.stage).ended.asks) (goes_to_place (stage_at p r.stage).next i (vs r.stage).ended)
 
+-- what a cycle does to the port of a memory that is read delayed
 abbrev pub port_step : Pipe → (ℕ → View) → Gates → (ℕ → Signal) → Sides → ℕ → Reading → port_laws.StepSignals
 port_step p vs gates moves sides m r = record {
   reply = (sides.port m).reply;
@@ -146,6 +152,7 @@ into_first p f Ends w = zero_bit
 into_first p f (Goes to) w = zero_bit
 into_first p f (Forks x first second) w = if is_inside p f first then mux_signal (w.vars x) one zero_bit else zero_bit
 
+-- whether the thread of a fork goes into its second branch
 abbrev pub into_second : Pipe → ℕ → Next → Walk → Signal
 into_second p f Ends w = zero_bit
 into_second p f (Goes to) w = zero_bit
@@ -155,6 +162,7 @@ into_second p f (Forks x first second) w = if is_inside p f second then mux_sign
 abbrev pub merging : Pipe → ℕ → ℕ → Signal
 merging p f q = if merges_fork (stage_at p q).merges f then one else zero_bit
 
+-- whether a thread goes from a stage into one that merges the fork
 abbrev pub into_merge : Pipe → ℕ → Next → Walk → Signal
 into_merge p f Ends w = zero_bit
 into_merge p f (Goes to) w = merging p f to
@@ -166,6 +174,7 @@ leaves_fork p vs moves f zero k = zero_bit
 leaves_fork p vs moves f (suc n) k =
     if is_inside p f k then mux_signal (both (moves k) (into_merge p f (stage_at p k).next (vs k).ended)) one (leaves_fork p vs moves f n (suc k)) else leaves_fork p vs moves f n (suc k)
 
+-- what a cycle does to the order of a fork
 abbrev pub order_step : Pipe → (ℕ → View) → Gates → (ℕ → Signal) → ℕ → order_laws.StepSignals
 order_step p vs gates moves f = record {
   entered_first = both (moves f) (into_first p f (stage_at p f).next (vs f).ended);

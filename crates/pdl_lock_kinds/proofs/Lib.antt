@@ -1,1 +1,1 @@
-pub mod Suiting
+pub mod SuitedLocks

@@ -1,13 +1,13 @@
 // The locks that the memories of a pipe ask for.
 ghost use Rattle.std.specs.Prelude.{◌≡◌, IfOk};
-ghost use Rattle.pdl_form.specs.Whole.{form};
+ghost use Rattle.pdl_form.specs.FormView.{form};
 ghost use Rattle.pdl_form.specs.View.{lock_view};
 ghost use Rattle.pdl_form_types.specs.Stmts.{AreTypedMems};
 ghost use Rattle.pdl_lock_any.specs.declared.AnyLock.{AnyLock};
 ghost use Rattle.pdl_pipe_walk.specs.Locked.{members};
 ghost use Rattle.pdl_pipe_locks.specs.Suited.{AreSuited};
-ghost use Rattle.pdl_lock_any.specs.Asked.{lock_asked};
-ghost use Rattle.pdl_lock_kinds.specs.Asked.{locks_asked, AreInTime, AreSizedLocks};
+ghost use Rattle.pdl_lock_any.specs.AskedLock.{lock_asked};
+ghost use Rattle.pdl_lock_kinds.specs.AskedLocks.{locks_asked, AreInTime, AreSizedLocks};
 
 use pdl_bypass::BypassLock;
 use pdl_form::{FlatPipe, Lock};

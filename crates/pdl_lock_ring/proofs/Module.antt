@@ -34,9 +34,11 @@ fields size ticket width kept bits from array content = record { size = size; ti
 same_fields : (a b c d e f a' b' c' d' e' f' : ℕ) (x y : Option ℕ) (m n : Content) → a ≡ a' → b ≡ b' → c ≡ c' → d ≡ d' → e ≡ e' → f ≡ f' → x ≡ y → m ≡ n → fields a b c d e f x m ≡ fields a' b' c' d' e' f' y n
 same_fields a b c d e f a' b' c' d' e' f' x y m n p q r s t u v w = cc
 
+-- the first of a lock's registers has the number from which they are listed
 pub first_is : (from count : ℕ) (regs : List ℕ) → 1 ≤ count → regs ≡ numbers_from from count → slice_index regs 0 ≡ from
 first_is from count regs some e = ap (λ ns. get_or ns 0 0) e ∙ numbers_at from count 0 some ∙ (omega arith)
 
+-- a lock whose registers are listed from one number on has as many of them as the list
 pub count_is : (from count : ℕ) (regs : List ℕ) → regs ≡ numbers_from from count → length regs ≡ count
 count_is from count regs e = ap length e ∙ numbers_length from count
 
@@ -44,6 +46,7 @@ count_is from count regs e = ap length e ∙ numbers_length from count
 pub layout_is : (q : ℕ) (m : MemInfo) (n : ℕ) (l : Layout) (r : LockRegs) → IsLayout q m n l → r.regs ≡ numbers_from l.from (2 + 3 * l.size) → r.width ≡ l.width → r.bits ≡ l.bits → r.array ≡ l.array → layout_of q r ≡ l
 layout_is q m n l r i e w b a = same_fields q (ticket_bits q) r.width r.width r.bits (first_reg r) l.size l.ticket l.width l.kept l.bits l.from r.array l.array Value l.content (sym i.size) (sym i.ticket) w (w ∙ i.width ∙ sym i.kept) b (first_is l.from (2 + 3 * l.size) r.regs (omega arith) e) a (sym i.content)
 
+-- slots whose registers were answered are in a circuit where the slots of their layout are
 pub are_placed : (q : ℕ) (m : MemInfo) (n : ℕ) (c : Circuit) (l : Layout) (r : LockRegs) → IsLayout q m n l → layout_of q r ≡ l → r.regs ≡ numbers_from l.from (2 + 3 * l.size) → r.slots ≡ slots_of l l.size → IsSized l → HasSlots c l → ArePlaced q c r
 are_placed q m n c l r i same e listed z h =
     let S : Layout → Type 0 = λ y. HasSlots c y in
@@ -55,6 +58,7 @@ are_placed q m n c l r i same e listed z h =
       slots = subst S (sym same) h;
     }
 
+-- registers that are listed after the old ones, and a memory's new array, are a fragment of the new circuit
 pub is_fragment : (a b c : Circuit) (from count : ℕ) (m : MemInfo) (r : LockRegs) → 1 ≤ count → r.regs ≡ numbers_from from count → from ≡ length a.regs → length b.regs ≡ from + count → IsMemArray a b m r.array → Extends b c → IsFragment a c r
 unfolding HasReg
 is_fragment a b c from count m r some e place n x k =
@@ -91,6 +95,7 @@ none_hold n A H X = record {
   has_value = λ i v h e. absurd (omega arith);
 }
 
+-- registers at reset and an array with a whole image stand for a lock that keeps values, at its start
 pub start_law : (q : ℕ) (c : Circuit) (r : LockRegs) → ArePlaced q c r → AreReset c (layout_of q r) 0 → StartLaw (Stands (layout_of q r)) Queue c r
 start_law q c r i a =
     let l = layout_of q r in
@@ -110,6 +115,7 @@ start_law q c r i a =
 long_is : (gs : List ℕ) (a b c : ℕ) → gs ≡ a ∷ b ∷ c ∷ [] → length gs ≡ 3
 long_is gs a b c e = ap length e
 
+-- the slots of a ring that keeps values follow the laws of a lock's slots
 pub slots_law : (q : ℕ) (c : Circuit) (r : LockRegs) → ArePlaced q c r → SlotsLaw (Stands (layout_of q r)) Queue q r
 unfolding reg_value
 slots_law q c r i =
@@ -138,9 +144,10 @@ slots_law q c r i =
 
 -- ---- the commit nets
 
-wide_of : (c : Circuit) (x : Net) (f : Signal) → Means c x f → f.width ≡ 1 → (signal c x).width ≡ 1
+pub wide_of : (c : Circuit) (x : Net) (f : Signal) → Means c x f → f.width ≡ 1 → (signal c x).width ≡ 1
 wide_of c x f m e = ap (λ (g : Signal). g.width) m.same ∙ e
 
+-- the nets of the first commit are there with their widths, where the step's ports fit
 pub commit_nets : (a b : Circuit) (l : Layout) (w : ℕ) (p : LockPorts) (n : LockNets) → PortsFit a l.bits l.width w p → AreCommits b l (step_signals a p) n → HasCommitNets b l.bits l.width n.commit n.addr n.value
 commit_nets a b l w p n fit c = record {
   commit_there = c.commit.there;
@@ -151,6 +158,7 @@ commit_nets a b l w p n fit c = record {
   value_width = c.value_wide;
 }
 
+-- the nets of the second commit are there with their widths, where the step's ports fit
 pub commit2_nets : (a b : Circuit) (l : Layout) (w : ℕ) (p : LockPorts) (n : LockNets) → PortsFit a l.bits l.width w p → AreCommits b l (step_signals a p) n → HasCommitNets b l.bits l.width n.commit2 n.addr2 n.value2
 commit2_nets a b l w p n fit c = record {
   commit_there = c.commit2.there;

@@ -18,8 +18,9 @@ use Rattle.pdl_lock_ring.specs.declared.taken.Asked.{Asked}
 use Rattle.pdl_lock_ring.specs.Looks.{youngest_look, net_by_kind, slot_of, tail_signal, second_ticket}
 use Rattle.pdl_lock_ring.specs.Asks.{IsAsked, IsAskedNext}
 use Rattle.pdl_lock_ring.specs.Steps.{push_signal, push2_signal, last_addr, before_addr, pushes, pushes2, first_addr, second_addr, first_slot, second_slot}
-use Rattle.pdl_lock_ring.proofs.Kept.{wide_later}
+use Rattle.pdl_lock_ring.proofs.RingGrowth.{wide_later}
 
+-- whether a look at the youngest older write is ready is a signal of 1 bit, for reading and for writing
 pub picked_width : (u : Kind) (f : Signal) → f.width ≡ 1 → (youngest_look u f).width ≡ 1
 picked_width R f h = h
 picked_width W f h = refl
@@ -47,6 +48,7 @@ enabled_one W f h = h
 pub reserve_width : (c : Circuit) (bits width w : ℕ) (p : LockPorts) (k : ℕ) (q : ReservePort) → PortsFit c bits width w p → k < length p.reserves → slice_index_or p.reserves k q ≡ q → (enabled_reserve q.kind (signal c q.enable)).width ≡ 1
 reserve_width c bits width w p k q f h e = enabled_one q.kind (signal c q.enable) (f.ask_one k q h e)
 
+-- a step has as many signals of reserve ports as it has reserve ports
 pub reserves_count : (c : Circuit) (p : LockPorts) → length (step_signals c p).reserves ≡ length p.reserves
 unfolding step_signals
 reserves_count c p = length-map p.reserves (reserve_signal c)
@@ -67,11 +69,13 @@ before_more : (bits : ℕ) (f : StepSignals) (k : ℕ) → before_addr bits f (k
 unfolding before_addr
 before_more bits f k = ap (λ n. before_addr bits f n) (add-one k)
 
+-- whether one of the first k reserve ports asks is a signal of 1 bit
 pub push_width : (f : StepSignals) (k : ℕ) → (push_signal f k).width ≡ 1
 unfolding push_signal
 push_width f zero = refl
 push_width f (suc k) = refl
 
+-- whether two of the first k reserve ports ask is a signal of 1 bit
 pub push2_width : (f : StepSignals) (k : ℕ) → (push2_signal f k).width ≡ 1
 unfolding push2_signal
 push2_width f zero = refl
@@ -105,7 +109,7 @@ asked_more a c l f k y x i n =
       before_wide = n.before_wide;
     }
 
-pub asked_keep : (a b : Circuit) (l : Layout) (f : StepSignals) (k : ℕ) (x : Asked) → IsAsked a l f k x → Keeps a b → IsAsked b l f k x
+asked_keep : (a b : Circuit) (l : Layout) (f : StepSignals) (k : ℕ) (x : Asked) → IsAsked a l f k x → Keeps a b → IsAsked b l f k x
 asked_keep a b l f k x i y = record {
   one = means_keeps a b x.one _ y i.one;
   two = means_keeps a b x.two _ y i.two;
@@ -117,18 +121,22 @@ asked_keep a b l f k x i y = record {
 
 -- ---- what the reservations are given
 
+-- the address of the first reservation: of the last but one port that asks where two do, else of the last
 pub first_addr_is : (l : Layout) (f : StepSignals) → first_addr l f ≡ mux_signal (pushes2 f) (before_addr l.bits f (length f.reserves)) (last_addr l.bits f (length f.reserves))
 unfolding first_addr
 first_addr_is l f = refl
 
+-- the address of the second reservation: that of the last port that asks
 pub second_addr_is : (l : Layout) (f : StepSignals) → second_addr l f ≡ last_addr l.bits f (length f.reserves)
 unfolding second_addr
 second_addr_is l f = refl
 
+-- the slot of the first reservation: that of the tail where a port asks, else the number of slots
 pub first_slot_is : (l : Layout) (f : StepSignals) → first_slot l f ≡ mux_signal (pushes f) (slot_of l (tail_signal l)) (const_signal l.ticket l.size)
 unfolding first_slot
 first_slot_is l f = refl
 
+-- the slot of the second reservation: that after the tail's where two ports ask, else the number of slots
 pub second_slot_is : (l : Layout) (f : StepSignals) → second_slot l f ≡ mux_signal (pushes2 f) (slot_of l (second_ticket l)) (const_signal l.ticket l.size)
 unfolding second_slot
 second_slot_is l f = refl

@@ -12,11 +12,10 @@ use Rattle.pdl_lock_ring.specs.declared.layout.Layout.{Layout}
 use Rattle.pdl_lock_ring.specs.declared.layout.Content.TheVariants.{Value, Place}
 use Rattle.pdl_lock_ring.specs.Slots.{HasOwnArray, HasSlots, AreFirst, AreReset, first_content_of, addr_at, has_at, value_at}
 use Rattle.pdl_lock_ring.specs.Registers.{HasRow, IsRowReset, register_of, row_of}
-use Rattle.pdl_lock_ring.proofs.Kept.{row_kept}
+use Rattle.pdl_lock_ring.proofs.RingGrowth.{row_kept}
+use Rattle.pdl_word.proofs.Numbers.{upto}
 
-pub upto : (P : ℕ → Type 0) (k : ℕ) → P k → ((j : ℕ) → j < k → P j) → (j : ℕ) → j < k + 1 → P j
-upto P k here rest j lt = ⊎_elim (λ (h : j < k). rest j h) (λ (h : k ≤ j). let e : k ≡ j = omega arith in subst P e here) (cases_lt j k)
-
+-- the first 0 registers of a row are in each circuit
 pub row_none : (c : Circuit) (r : Registers) → HasRow c r 0
 row_none c r = record {
   there = λ k h. absurd (omega arith);
@@ -25,6 +24,7 @@ row_none c r = record {
   wide = λ k h. absurd (omega arith);
 }
 
+-- one register more of a row is in a circuit, where a new one was made after those before it
 pub row_more : (c d : Circuit) (r : Registers) (k v : ℕ) → HasRow c r k → Extends c d → IsNewReg d (r.first + k) r.width v → HasRow d r (k + 1)
 row_more c d r k v h e x =
     let g = row_kept c d r k h e in
@@ -35,9 +35,11 @@ row_more c d r k v h e x =
       wide = upto (λ j. reg_width d (r.first + j) ≡ r.width) k x.width g.wide;
     }
 
+-- the first 0 registers of a row hold first what they are to hold
 pub reset_none : (c : Circuit) (r : Registers) (start step : ℕ) → IsRowReset c r start step 0
 reset_none c r start step = record { reset = λ k h. absurd (omega arith) }
 
+-- one register more of a row holds first what it is to hold, where it was made with that reset value
 pub reset_more : (c d : Circuit) (r : Registers) (start step k : ℕ) → HasRow c r k → IsRowReset c r start step k → Extends c d → IsNewReg d (r.first + k) r.width (start + step * k) → IsRowReset d r start step (k + 1)
 reset_more c d r start step k h i e x = record { reset = upto (λ j. reg_reset d (r.first + j) ≡ start + step * j) k x.reset (λ j l. e.reset (r.first + j) (h.has j l) ∙ i.reset j l) }
 
@@ -55,6 +57,7 @@ fits start step k n w h b few lt = ⊎_elim
     omega (arith, q, p, h, lt))
     (cases_lt step 1)
 
+-- a new register stays so, with its reset value, in a circuit that is extended
 pub new_kept : (a b : Circuit) (r w v : ℕ) → IsNewReg a r w v → Extends a b → IsNewReg b r w v
 new_kept a b r w v x y = record {
   has = y.has_reg r x.has;
@@ -65,6 +68,7 @@ new_kept a b r w v x y = record {
   next = y.nexts r x.has ∙ x.next;
 }
 
+-- the array of a layout, where there is one, stays in a circuit that is extended
 pub own_array_kept : (a b : Circuit) (l : Layout) → HasOwnArray a l → Extends a b → HasOwnArray b l
 own_array_kept a b l x y = record {
   has_array = λ m e. y.has_array m (x.has_array m e);
@@ -100,6 +104,7 @@ slots_made c l head tail addrs bits contents array = record {
   array_depth = array.array_depth;
 }
 
+-- head and tail that were made with 0, and slots with what they hold first, are at reset
 pub reset_made : (c : Circuit) (l : Layout) (place : ℕ) → IsNewReg c l.from l.ticket 0 → IsNewReg c (l.from + 1) l.ticket 0 → AreFirst c l place → AreReset c l place
 reset_made c l place head tail first = record { head = head.reset; tail = tail.reset; contents = first }
 
@@ -112,5 +117,6 @@ first_places c l place e r = record { content = λ k h. r.reset k h ∙ (let z :
 
 pub ruleset contents_made = (first_values, first_places)
 
+-- slots that keep values keep no places
 pub value_has_no_place : Value ≡ Place → ⊥
 value_has_no_place e = absurd (cc e)

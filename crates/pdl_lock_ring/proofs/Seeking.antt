@@ -19,11 +19,12 @@ use Rattle.pdl_lock_ring.specs.Slots.{IsSized, HasEntries, reg_of, addr_at, has_
 use Rattle.pdl_lock_ring.specs.Looks.{head_signal, tail_signal, second_ticket, count_signal, room_signal, room2_signal, slot_of, ahead, is_late, older_count, last_older, order_at, back_at, same_at, hit_at, hit_signal, ready_signal, key_at, is_found, youngest_ready, youngest_value, GivesWord}
 use Rattle.pdl_lock_ring.specs.Choices.{least_key, least_of, some_signal}
 use Rattle.pdl_lock_ring.proofs.Nums.{sub_held, pred_held, sum_held, slot_held, half_mod, order_mod, index_of, back_older, back_younger, apart}
-use Rattle.pdl_lock_ring.proofs.Ring.{mux_one, mux_zero, eq_one, eq_none}
+use Rattle.pdl_lock_ring.proofs.RingValues.{mux_one, mux_zero, eq_one, eq_none}
 use Rattle.pdl_lock_ring.proofs.Trees.{some_one, some_zero, less_one, less_none, IsLeast, least_is, least_from}
+use Rattle.pdl_word.proofs.Bools.{if_false}
 
 -- how many writes are pending
-pub count_value : (l : Layout) (g : ℕ → Signal) (s : State) (x : LockState) → IsSized l → HasEntries l g s x → (count_signal l).value s ≡ length x.entries
+count_value : (l : Layout) (g : ℕ → Signal) (s : State) (x : LockState) → IsSized l → HasEntries l g s x → (count_signal l).value s ≡ length x.entries
 unfolding bin_value reg_value
 count_value l g s x z h =
     ap (λ n. words.sub l.ticket n (reg_of s l.from)) h.tail
@@ -113,9 +114,11 @@ pub record IsSlotOf (l : Layout) (x : LockState) (k i : ℕ) : Type 0 where
   pub below : i < l.size
   pub same : (x.base + i) % l.size ≡ k
 
+-- each slot is that of the i-th pending write, or of a number after the last one
 pub slot_has : (l : Layout) (x : LockState) (k : ℕ) → k < l.size → (i : ℕ) × IsSlotOf l x k i
 slot_has l x k h = let e = index_of l.size x.base k h in (e.0, record { below = e.1; same = e.2 })
 
+-- the slot of a pending write has an address where the pending write has it
 pub same_value : (l : Layout) (g : ℕ → Signal) (s : State) (x : LockState) (a : Signal) (k i : ℕ) → HasEntries l g s x → IsSlotOf l x k i → i < length x.entries → (same_at l a k).value s ≡ words.equal (entry_at x.entries i).addr (a.value s)
 unfolding bin_value reg_value
 same_value l g s x a k i h o lt = ap (λ m. words.equal m (a.value s)) (ap (λ m. reg_of s (addr_at l m)) (sym o.same) ∙ h.slots.has_addr i lt)
@@ -131,6 +134,7 @@ cc_diff t q u m k e f le =
     let g : t + u - k ≡ q + (m - k) = omega (arith, e, f, le) in
     ap (λ v. v % u) g ∙ ap (λ v. (q + (m - k)) % v) f
 
+-- how far the slot of the i-th pending write is after the head's slot: i
 pub order_value : (l : Layout) (g : ℕ → Signal) (s : State) (x : LockState) (k i : ℕ) → IsSized l → HasEntries l g s x → IsSlotOf l x k i → (order_at l k).value s ≡ i
 unfolding bin_value reg_value const_value words.sub
 order_value l g s x k i z h o =
@@ -145,6 +149,7 @@ order_value l g s x k i z h o =
     ∙ ap (λ v. (v + (m - b % m)) % n) (sym o.same)
     ∙ order_mod n b i o.below
 
+-- how far slot k is before the slot of the last of the d oldest, by that one's ticket
 pub back_value : (l : Layout) (s : State) (x : LockState) (f : Signal) (d k : ℕ) → IsSized l → f.width ≡ l.ticket → k < l.size → f.value s ≡ (x.base + d - 1) % 2 ^ l.ticket → (back_at l f k).value s ≡ ((x.base + d - 1) % (2 * l.size) + (2 * l.size - k)) % l.size
 unfolding bin_value const_value words.sub
 back_value l s x f d k z w h e =
@@ -184,15 +189,11 @@ last_later e es a i y (suc j) lo lt = y.last j (omega arith) (omega arith)
 later : (e : Entry) (es : List Entry) (a i : ℕ) → IsYoungest es a i → IsYoungest (e ∷ es) a (suc i)
 later e es a i y = record { within = omega (arith, y.within); same = y.same; last = last_later e es a i y }
 
-free_false : (b c : Bool) → c ≡ false → (if b then false else c) ≡ false
-free_false true c e = refl
-free_false false c e = e
-
 -- what the youngest of them says
 pub youngest_of : (xs : List Entry) (a : ℕ) → ((i : ℕ) × IsYoungest xs a i × ((f : Option ℕ) → youngest xs a f ≡ (entry_at xs i).value) × (is_free xs a ≡ false)) ⊎ (HasNone xs a × ((f : Option ℕ) → youngest xs a f ≡ f) × (is_free xs a ≡ true))
 youngest_of [] a = inr ((λ j h. absurd (omega arith)), (λ f. refl), refl)
 youngest_of (e ∷ es) a = elim (youngest_of es a) [
-  | inl y ↦ inl (suc y.0, later e es a y.0 y.1, (λ f. y.2 (if e.addr == a then e.value else f)), free_false (e.addr == a) (is_free es a) y.3)
+  | inl y ↦ inl (suc y.0, later e es a y.0 y.1, (λ f. y.2 (if e.addr == a then e.value else f)), if_false (e.addr == a) (is_free es a) y.3)
   | inr n ↦ ⊎_elim
       (λ (q : e.addr ≡ a).
       let t : (e.addr == a) ≡ true = eq-eqb e.addr a q in

@@ -8,26 +8,11 @@ use Rattle.std.proofs.lemmas.List.{get_or_append_left, get_or_push}
 use Rattle.std.proofs.lemmas.Nat.{pow_pos, pow-add}
 use Rattle.pdl_lock_ring.specs.declared.layout.Layout.{Layout}
 use Rattle.pdl_lock_ring.specs.Slots.{IsSize, IsSized, ticket_bits, numbers_from, slot_numbers, slots_of}
+use Rattle.pdl_word.proofs.Numbers.{less_power}
 
 -- a power of two that is not below another, and below twice the other
 double : (r : ℕ) → 2 * 2 ^ r ≡ 2 ^ (r + 1)
 double r = omega (arith, pow-add 2 r 1)
-
-less_power : (a b : ℕ) → a < b → 2 * 2 ^ a ≤ 2 ^ b
-less_power a b h =
-    let d = b - (a + 1) in
-    let e : a + 1 + d ≡ b = omega arith in
-    let p : 2 ^ b ≡ 2 ^ (a + 1) * 2 ^ d = ap (λ n. 2 ^ n) (sym e) ∙ pow-add 2 (a + 1) d in
-    grind (arith, p, double a, pow_pos d)
-
-pub same_power : (r b d : ℕ) → d ≡ 2 ^ b → 2 ^ r ≤ d → d < 2 * 2 ^ r → r ≡ b
-same_power r b d e low high = ⊎_elim
-    (λ (h : r < b). absurd (omega (arith, less_power r b h)))
-    (λ (h : b ≤ r). ⊎_elim
-    (λ (g : b < r). absurd (omega (arith, less_power b r g)))
-    (λ (g : r ≤ b). omega arith)
-    (cases_lt b r))
-    (cases_lt r b)
 
 -- what is so of each size
 by_size : (P : ℕ → Type 0) → P 1 → P 2 → P 4 → P 8 → P 16 → (n : ℕ) → IsSize n → P n
@@ -48,9 +33,11 @@ by_size P a b c d e n h = elim (eqb_tells n 1) [
   ]
 ]
 
+-- a size is at least 1
 pub size_some : (n : ℕ) → IsSize n → 1 ≤ n
 size_some = by_size (λ n. 1 ≤ n) (omega arith) (omega arith) (omega arith) (omega arith) (omega arith)
 
+-- a size is at most 16
 pub size_few : (n : ℕ) → IsSize n → n ≤ 16
 size_few = by_size (λ n. n ≤ 16) (omega arith) (omega arith) (omega arith) (omega arith) (omega arith)
 
@@ -58,9 +45,11 @@ size_few = by_size (λ n. n ≤ 16) (omega arith) (omega arith) (omega arith) (o
 pub size_tickets : (n : ℕ) → IsSize n → 2 ^ ticket_bits n ≡ 2 * n
 size_tickets = by_size (λ n. 2 ^ ticket_bits n ≡ 2 * n) refl refl refl refl refl
 
+-- a ticket has at least 1 bit
 pub ticket_some : (n : ℕ) → IsSize n → 1 ≤ ticket_bits n
 ticket_some = by_size (λ n. 1 ≤ ticket_bits n) (omega arith) (omega arith) (omega arith) (omega arith) (omega arith)
 
+-- a ticket has at most 64 bits
 pub ticket_few : (n : ℕ) → IsSize n → ticket_bits n ≤ 64
 ticket_few = by_size (λ n. ticket_bits n ≤ 64) (omega arith) (omega arith) (omega arith) (omega arith) (omega arith)
 
@@ -86,13 +75,16 @@ numbers_more : (a n : ℕ) → numbers_from a (suc n) ≡ numbers_from a n ++ (a
 numbers_more a zero = ap (λ x. x ∷ []) (omega arith)
 numbers_more a (suc n) = ap (λ l. a ∷ l) (numbers_more (a + 1) n ∙ ap (λ x. numbers_from (a + 1) n ++ x ∷ []) (omega arith))
 
+-- the numbers from one on with one more at their end
 pub numbers_push : (a n : ℕ) → numbers_from a (n + 1) ≡ numbers_from a n ++ (a + n) ∷ []
 numbers_push a n = ap (numbers_from a) (add-one n) ∙ numbers_more a n
 
+-- there are n numbers in the list of n numbers from one on
 pub numbers_length : (a n : ℕ) → length (numbers_from a n) ≡ n
 numbers_length a zero = refl
 numbers_length a (suc n) = ap suc (numbers_length (a + 1) n)
 
+-- the k-th of the numbers from a on is a + k
 pub numbers_at : (a n k : ℕ) → k < n → get_or (numbers_from a n) k 0 ≡ a + k
 numbers_at a zero k h = absurd (omega arith)
 numbers_at a (suc n) zero h = omega arith
@@ -102,6 +94,7 @@ numbers_at a (suc n) (suc k) h = numbers_at (a + 1) n k (omega arith) ∙ (omega
 pub slots_push : (l : Layout) (n : ℕ) → slots_of l (n + 1) ≡ slots_of l n ++ slot_numbers l.content l n ∷ []
 slots_push l n = ap (slots_of l) (add-one n)
 
+-- the registers of the first n slots are n lists
 pub slots_length : (l : Layout) (n : ℕ) → length (slots_of l n) ≡ n
 slots_length l zero = refl
 slots_length l (suc n) = length-append (slots_of l n) (slot_numbers l.content l n ∷ []) ∙ ap (λ k. k + 1) (slots_length l n) ∙ add-one n

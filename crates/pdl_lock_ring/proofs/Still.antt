@@ -14,9 +14,9 @@ use Rattle.pdl_lock_ring.specs.declared.layout.Layout.{Layout}
 use Rattle.pdl_lock_ring.specs.declared.layout.Content.TheVariants.{Value}
 use Rattle.pdl_lock_ring.specs.Slots.{IsSized, Stands, content_signal, reg_of, addr_at, has_at, value_at, slot_numbers, slots_of}
 use Rattle.pdl_lock_ring.specs.Steps.{first_addr, second_addr, first_slot, second_slot, takes_first, takes_second, fills_slot, filled_bit, filled_value, slot_addr, slot_bit, slot_value, NextValues, own_all}
-use Rattle.pdl_lock_ring.proofs.Ring.{mux_one, mux_zero, eq_none, AreGiven}
+use Rattle.pdl_lock_ring.proofs.RingValues.{mux_one, mux_zero, eq_none, AreGiven}
 use Rattle.pdl_lock_ring.proofs.Fills.{content_value}
-use Rattle.pdl_lock_ring.proofs.Filled.{TicketsFit, Cycle, are_given, fills_one, fills_none}
+use Rattle.pdl_lock_ring.proofs.FilledSlots.{TicketsFit, Cycle, are_given, fills_one, fills_none}
 use Rattle.pdl_lock_ring.proofs.Sizes.{slots_at}
 
 -- no reservation is given slot k
@@ -66,9 +66,11 @@ each_reg P a b c p q r (suc zero) h = q
 each_reg P a b c p q r (suc (suc zero)) h = r
 each_reg P a b c p q r (suc (suc (suc j))) h = absurd (omega arith)
 
+-- the registers of slot k of a ring that keeps values: its address, its value and its value bit
 pub regs_are : (l : Layout) (r : LockRegs) (k : ℕ) → l.content ≡ Value → r.slots ≡ slots_of l l.size → k < l.size → slot_regs r k ≡ addr_at l k ∷ value_at l k ∷ has_at l k ∷ []
 regs_are l r k e listed h = ap (λ ss. slice_index_or ss k []) listed ∙ slots_at l l.size k h ∙ ap (λ x. slot_numbers x l k) e
 
+-- a slot of a ring that keeps values stays as it is where no reservation and no write is of it
 pub still_law : (b : Circuit) (l : Layout) (f : StepSignals) (r : LockRegs) → l.content ≡ Value → r.slots ≡ slots_of l l.size → IsSized l → TicketsFit l.ticket f → NextValues b l f → StillLaw (Stands l) l.size l.ticket (own_all l) b f r
 unfolding reg_value
 still_law b l f r e listed z t n = record {

@@ -8,7 +8,7 @@ use Rattle.pdl_net.specs.declared.BinOp.TheVariants.{Lt}
 use Rattle.pdl_net.specs.Circuit.{State}
 use Rattle.pdl_net.specs.Signal.{Signal, const_signal, bin_signal, mux_signal, slice_signal, const_value, bin_value, mux_value, slice_value}
 use Rattle.pdl_lock_ring.specs.Choices.{selected_signal, some_signal, least_key, least_of}
-use Rattle.pdl_lock_ring.proofs.Ring.{if_other, mux_one, mux_zero}
+use Rattle.pdl_lock_ring.proofs.RingValues.{if_other, mux_one, mux_zero}
 
 -- half of a power of two
 pub halved : (b : ℕ) → b ≢ 0 → 2 ^ b ≡ 2 ^ (b - 1) + 2 ^ (b - 1)
@@ -17,15 +17,17 @@ halved (suc b) h = let e : suc b - 1 ≡ b = omega arith in two-pow-succ b ∙ a
 
 -- ---- a choice by the bits of a number
 
-pub selected_none : (f : ℕ → Signal) (d : Signal) (b from : ℕ) → b ≡ 0 → selected_signal f d b from ≡ f from
+selected_none : (f : ℕ → Signal) (d : Signal) (b from : ℕ) → b ≡ 0 → selected_signal f d b from ≡ f from
 unfolding selected_signal
 selected_none f d b from e = ap (λ n. selected_signal f d n from) e
 
+-- a choice by b bits is one by the highest of them between the choices of both halves, where b is not 0
 pub selected_more : (f : ℕ → Signal) (d : Signal) (b from : ℕ) → b ≢ 0 → selected_signal f d b from ≡ mux_signal (slice_signal (b - 1) (b - 1) d) (selected_signal f d (b - 1) (from + 2 ^ (b - 1))) (selected_signal f d (b - 1) from)
 unfolding selected_signal
 selected_more f d zero from h = absurd (h refl)
 selected_more f d (suc b) from h = let e : b ≡ suc b - 1 = omega arith in ap (λ n. mux_signal (slice_signal n n d) (selected_signal f d n (from + 2 ^ n)) (selected_signal f d n from)) e
 
+-- a choice by bits has the width that all its signals have
 pub selected_width : (f : ℕ → Signal) (d : Signal) (w : ℕ) → ((k : ℕ) → (f k).width ≡ w) → (b from : ℕ) → (selected_signal f d b from).width ≡ w
 unfolding selected_signal
 selected_width f d w e zero from = e from
@@ -61,12 +63,13 @@ pub some_none : (f : ℕ → Signal) (b from : ℕ) → b ≡ 0 → some_signal 
 unfolding some_signal
 some_none f b from e = ap (λ n. some_signal f n from) e
 
+-- whether one of 2 ^ b signals is 1, from whether one of each half is, where b is not 0
 pub some_more : (f : ℕ → Signal) (b from : ℕ) → b ≢ 0 → some_signal f b from ≡ mux_signal (some_signal f (b - 1) (from + 2 ^ (b - 1))) (const_signal 1 1) (some_signal f (b - 1) from)
 unfolding some_signal
 some_more f zero from h = absurd (h refl)
 some_more f (suc b) from h = let e : b ≡ suc b - 1 = omega arith in ap (λ n. mux_signal (some_signal f n (from + 2 ^ n)) (const_signal 1 1) (some_signal f n from)) e
 
-pub some_width : (f : ℕ → Signal) → ((k : ℕ) → (f k).width ≡ 1) → (b from : ℕ) → (some_signal f b from).width ≡ 1
+some_width : (f : ℕ → Signal) → ((k : ℕ) → (f k).width ≡ 1) → (b from : ℕ) → (some_signal f b from).width ≡ 1
 unfolding some_signal
 some_width f e zero from = e from
 some_width f e (suc b) from = refl
@@ -77,6 +80,7 @@ mux_ones : (c x : ℕ) → x ≡ 1 → words.mux c 1 x ≡ 1
 unfolding words.mux
 mux_ones c x e = ⊎_elim (λ (o : c ≡ 1). mux_one c 1 x o) (λ (o : c ≢ 1). if_other c 1 x o ∙ e) (cases_eq c 1)
 
+-- 1 comes of the signals where one of them is 1
 pub some_one : (f : ℕ → Signal) (s : State) (b from k : ℕ) → from ≤ k → k < from + 2 ^ b → (f k).value s ≡ 1 → (some_signal f b from).value s ≡ 1
 unfolding some_signal mux_value const_value
 some_one f s zero from k lo hi e = ap (λ n. (f n).value s) (omega arith) ∙ e
@@ -89,6 +93,7 @@ some_one f s (suc b) from k lo hi e =
     (λ (h : from + 2 ^ b ≤ k). mux_one high 1 low (some_one f s b (from + 2 ^ b) k h (omega (arith, two, hi)) e))
     (cases_lt k (from + 2 ^ b))
 
+-- 0 comes of the signals where all of them are 0
 pub some_zero : (f : ℕ → Signal) (s : State) (b from : ℕ) → ((k : ℕ) → from ≤ k → k < from + 2 ^ b → (f k).value s ≡ 0) → (some_signal f b from).value s ≡ 0
 unfolding some_signal mux_value const_value
 some_zero f s zero from h = h from (omega arith) (omega arith)
@@ -101,40 +106,48 @@ some_zero f s (suc b) from h =
 
 -- ---- the least key
 
+-- the least of one key is that key
 pub least_none : (key : ℕ → Signal) (b from : ℕ) → b ≡ 0 → least_key key b from ≡ key from
 unfolding least_key
 least_none key b from e = ap (λ n. least_key key n from) e
 
+-- the least of 2 ^ b keys is the lesser one of the least keys of both halves, where b is not 0
 pub least_more : (key : ℕ → Signal) (b from : ℕ) → b ≢ 0
     → least_key key b from ≡ mux_signal (bin_signal Lt (least_key key (b - 1) (from + 2 ^ (b - 1))) (least_key key (b - 1) from)) (least_key key (b - 1) (from + 2 ^ (b - 1))) (least_key key (b - 1) from)
 unfolding least_key
 least_more key zero from h = absurd (h refl)
 least_more key (suc b) from h = let e : b ≡ suc b - 1 = omega arith in ap (λ n. mux_signal (bin_signal Lt (least_key key n (from + 2 ^ n)) (least_key key n from)) (least_key key n (from + 2 ^ n)) (least_key key n from)) e
 
+-- the signal of the least of one key is the signal of that key
 pub least_of_none : (key f : ℕ → Signal) (b from : ℕ) → b ≡ 0 → least_of key f b from ≡ f from
 unfolding least_of
 least_of_none key f b from e = ap (λ n. least_of key f n from) e
 
+-- the signal of the least of 2 ^ b keys is that of the half with the lesser least key, where b is not 0
 pub least_of_more : (key f : ℕ → Signal) (b from : ℕ) → b ≢ 0
     → least_of key f b from ≡ mux_signal (bin_signal Lt (least_key key (b - 1) (from + 2 ^ (b - 1))) (least_key key (b - 1) from)) (least_of key f (b - 1) (from + 2 ^ (b - 1))) (least_of key f (b - 1) from)
 unfolding least_of
 least_of_more key f zero from h = absurd (h refl)
 least_of_more key f (suc b) from h = let e : b ≡ suc b - 1 = omega arith in ap (λ n. mux_signal (bin_signal Lt (least_key key n (from + 2 ^ n)) (least_key key n from)) (least_of key f n (from + 2 ^ n)) (least_of key f n from)) e
 
+-- the signal of the least key has the width that all signals have
 pub least_width : (key f : ℕ → Signal) (w : ℕ) → ((k : ℕ) → (f k).width ≡ w) → (b from : ℕ) → (least_of key f b from).width ≡ w
 unfolding least_of
 least_width key f w e zero from = e from
 least_width key f w e (suc b) from = least_width key f w e b (from + 2 ^ b)
 
+-- the least key has the width that all keys have
 pub key_width : (key : ℕ → Signal) (w : ℕ) → ((k : ℕ) → (key k).width ≡ w) → (b from : ℕ) → (least_key key b from).width ≡ w
 unfolding least_key
 key_width key w e zero from = e from
 key_width key w e (suc b) from = key_width key w e b (from + 2 ^ b)
 
+-- the test for less gives 1 where the first number is below the second
 pub less_one : (a b : ℕ) → a < b → words.less a b ≡ 1
 unfolding words.less
 less_one a b h = rw (lt-ltb a b h) refl
 
+-- the test for less gives 0 where the first number is not below the second
 pub less_none : (a b : ℕ) → b ≤ a → words.less a b ≡ 0
 unfolding words.less
 less_none a b h = rw (le-ltb a b h) refl
@@ -166,6 +179,7 @@ lower key s b from j i h = let two = two-pow-succ b in record { low = i.low; hig
 upper : (key : ℕ → Signal) (s : State) (b from j : ℕ) → IsLeast key s (suc b) from j → from + 2 ^ b ≤ j → IsLeast key s b (from + 2 ^ b) j
 upper key s b from j i h = let two = two-pow-succ b in record { low = h; high = omega (arith, i.high, two); least = λ k lo hi q. i.least k (omega (arith, lo)) (omega (arith, hi, two)) q }
 
+-- a key that is below all others is the least, and the signal of the least key is its signal
 pub least_is : (key f : ℕ → Signal) (s : State) (b from j : ℕ) → IsLeast key s b from j → ((least_key key b from).value s ≡ (key j).value s) × ((least_of key f b from).value s ≡ (f j).value s)
 unfolding least_key least_of mux_value bin_value
 least_is key f s zero from j i = let e : from ≡ j = omega (arith, i.low, i.high) in (ap (λ n. (key n).value s) e, ap (λ n. (f n).value s) e)

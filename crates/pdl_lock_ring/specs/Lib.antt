@@ -7,4 +7,4 @@ pub mod Steps
 pub mod Asks
 pub mod Ready
 pub mod Oldest
-pub mod Kept
+pub mod SlotGrowth

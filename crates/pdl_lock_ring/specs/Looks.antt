@@ -15,6 +15,7 @@ use Rattle.pdl_lock_ring.specs.Choices.{some_signal, least_key, least_of}
 abbrev pub head_signal : Layout → Signal
 head_signal l = reg_signal l.ticket l.from
 
+-- the ticket of the next reservation
 abbrev pub tail_signal : Layout → Signal
 tail_signal l = reg_signal l.ticket (l.from + 1)
 
@@ -30,6 +31,7 @@ count_signal l = bin_signal Sub (tail_signal l) (head_signal l)
 abbrev pub room_signal : Layout → Signal
 room_signal l = bin_signal Lt (count_signal l) (const_signal l.ticket l.size)
 
+-- room for two reservations
 abbrev pub room2_signal : Layout → Signal
 room2_signal l = bin_signal Lt (count_signal l) (const_signal l.ticket (l.size - 1))
 
@@ -41,6 +43,7 @@ slot_of l t = bin_signal And t (const_signal l.ticket (l.size - 1))
 abbrev pub ahead : Layout → Signal → Signal
 ahead l t = bin_signal Sub t (head_signal l)
 
+-- whether a ticket is after the next one
 abbrev pub is_late : Layout → Signal → Signal
 is_late l t = bin_signal Lt (count_signal l) (ahead l t)
 
@@ -56,6 +59,7 @@ last_older l t = bin_signal Sub (mux_signal (is_late l t) (tail_signal l) t) (co
 abbrev pub order_at : Layout → ℕ → Signal
 order_at l k = slot_of l (bin_signal Sub (const_signal l.ticket k) (head_signal l))
 
+-- how far slot k is before the slot of a ticket
 abbrev pub back_at : Layout → Signal → ℕ → Signal
 back_at l e k = slot_of l (bin_signal Sub e (const_signal l.ticket k))
 

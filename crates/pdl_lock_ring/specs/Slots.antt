@@ -17,9 +17,11 @@ use Rattle.pdl_lock_ring.specs.declared.layout.Content.TheVariants.{Value, Place
 abbrev pub addr_at : Layout → ℕ → ℕ
 addr_at l k = l.from + 2 + k
 
+-- the register of slot k that says whether it has its value
 abbrev pub has_at : Layout → ℕ → ℕ
 has_at l k = l.from + 2 + l.size + k
 
+-- the register of slot k that keeps its value, or its place in the array
 abbrev pub value_at : Layout → ℕ → ℕ
 value_at l k = l.from + 2 + 2 * l.size + k
 
@@ -164,6 +166,7 @@ pub record Holds (n base : ℕ) (addr full value : ℕ → ℕ) (xs : List Entry
   pub is_full : (i : ℕ) → i < length xs → full ((base + i) % n) ≡ bit (is_some (entry_at xs i).value)
   pub has_value : (i v : ℕ) → i < length xs → (entry_at xs i).value ≡ Some v → value ((base + i) % n) ≡ v
 
+-- the value of a register in a state
 abbrev pub reg_of : State → ℕ → ℕ
 reg_of s k = slice_index s.regs k
 

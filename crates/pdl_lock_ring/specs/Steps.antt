@@ -18,6 +18,7 @@ unfoldable pub push_signal : StepSignals → ℕ → Signal
 push_signal f zero = const_signal 1 0
 push_signal f (suc k) = mux_signal (reserve_at f.reserves k).enable (const_signal 1 1) (push_signal f k)
 
+-- whether two of the first k reserve ports ask for an entry
 unfoldable pub push2_signal : StepSignals → ℕ → Signal
 push2_signal f zero = const_signal 1 0
 push2_signal f (suc k) = mux_signal (reserve_at f.reserves k).enable (push_signal f k) (push2_signal f k)
@@ -27,6 +28,7 @@ unfoldable pub last_addr : ℕ → StepSignals → ℕ → Signal
 last_addr bits f zero = const_signal bits 0
 last_addr bits f (suc k) = mux_signal (reserve_at f.reserves k).enable (reserve_at f.reserves k).addr (last_addr bits f k)
 
+-- the address of the last but one that asks among the first k reserve ports
 unfoldable pub before_addr : ℕ → StepSignals → ℕ → Signal
 before_addr bits f zero = const_signal bits 0
 before_addr bits f (suc k) = mux_signal (reserve_at f.reserves k).enable (last_addr bits f k) (before_addr bits f k)
@@ -35,6 +37,7 @@ before_addr bits f (suc k) = mux_signal (reserve_at f.reserves k).enable (last_a
 abbrev pub pushes : StepSignals → Signal
 pushes f = push_signal f (length f.reserves)
 
+-- whether two of all reserve ports ask for an entry
 abbrev pub pushes2 : StepSignals → Signal
 pushes2 f = push2_signal f (length f.reserves)
 
@@ -42,6 +45,7 @@ pushes2 f = push2_signal f (length f.reserves)
 unfoldable pub first_addr : Layout → StepSignals → Signal
 first_addr l f = mux_signal (pushes2 f) (before_addr l.bits f (length f.reserves)) (last_addr l.bits f (length f.reserves))
 
+-- the address of a cycle's second reservation
 unfoldable pub second_addr : Layout → StepSignals → Signal
 second_addr l f = last_addr l.bits f (length f.reserves)
 
@@ -49,6 +53,7 @@ second_addr l f = last_addr l.bits f (length f.reserves)
 unfoldable pub first_slot : Layout → StepSignals → Signal
 first_slot l f = mux_signal (pushes f) (slot_of l (tail_signal l)) (const_signal l.ticket l.size)
 
+-- the slot of a cycle's second reservation, or a number that no slot has where there is none
 unfoldable pub second_slot : Layout → StepSignals → Signal
 second_slot l f = mux_signal (pushes2 f) (slot_of l (second_ticket l)) (const_signal l.ticket l.size)
 
@@ -56,6 +61,7 @@ second_slot l f = mux_signal (pushes2 f) (slot_of l (second_ticket l)) (const_si
 abbrev pub takes_first : Layout → StepSignals → ℕ → Signal
 takes_first l f k = bin_signal Eq (first_slot l f) (const_signal l.ticket k)
 
+-- slot k is given to a cycle's second reservation
 abbrev pub takes_second : Layout → StepSignals → ℕ → Signal
 takes_second l f k = bin_signal Eq (second_slot l f) (const_signal l.ticket k)
 
@@ -76,10 +82,12 @@ unfoldable pub filled_bit : Layout → StepSignals → ℕ → ℕ → Signal
 filled_bit l f k zero = mux_signal (takes_second l f k) (const_signal 1 0) (mux_signal (takes_first l f k) (const_signal 1 0) (reg_signal 1 (has_at l k)))
 filled_bit l f k (suc j) = mux_signal (fills_slot l f k j) (const_signal 1 1) (filled_bit l f k j)
 
+-- slot k's value from this one on, after the first j write ports
 unfoldable pub filled_value : Layout → StepSignals → Signal → ℕ → ℕ → Signal
 filled_value l f value k zero = value
 filled_value l f value k (suc j) = mux_signal (fills_slot l f k j) (ticket_at f.writes j).value (filled_value l f value k j)
 
+-- slot k's value bit after the reservations and all write ports
 abbrev pub slot_bit : Layout → StepSignals → ℕ → Signal
 slot_bit l f k = filled_bit l f k (length f.writes)
 
@@ -88,6 +96,7 @@ abbrev pub content_after : Content → Layout → StepSignals → ℕ → Signal
 content_after Value l f k = filled_value l f (content_signal l k) k (length f.writes)
 content_after Place l f k = content_signal l k
 
+-- what slot k keeps after all write ports: its value, or its place, which no write changes
 abbrev pub slot_value : Layout → StepSignals → ℕ → Signal
 slot_value l f k = content_after l.content l f k
 
@@ -99,6 +108,7 @@ next_head l = bin_signal Add (head_signal l) (const_signal l.ticket 1)
 unfoldable pub head_after : Layout → StepSignals → Signal
 head_after l f = mux_signal f.release2 (bin_signal Add (next_head l) (const_signal l.ticket 1)) (mux_signal f.release (next_head l) (head_signal l))
 
+-- the tail after the reservations and the squash
 unfoldable pub tail_after : Layout → StepSignals → Signal
 tail_after l f = mux_signal f.squash f.tail (mux_signal (pushes2 f) (bin_signal Add (second_ticket l) (const_signal l.ticket 1)) (mux_signal (pushes f) (second_ticket l) (tail_signal l)))
 
@@ -110,12 +120,15 @@ at_ticket l g t = selected_signal g t (l.ticket - 1) 0
 abbrev pub oldest_addr : Layout → StepSignals → Signal
 oldest_addr l f = at_ticket l (slot_addr l f) (head_signal l)
 
+-- the content of the oldest pending write after this cycle's reservations and writes
 abbrev pub oldest_value : Layout → StepSignals → Signal
 oldest_value l f = at_ticket l (slot_value l f) (head_signal l)
 
+-- the address of the pending write after the oldest one, after this cycle's reservations and writes
 abbrev pub next_addr : Layout → StepSignals → Signal
 next_addr l f = at_ticket l (slot_addr l f) (next_head l)
 
+-- the content of the pending write after the oldest one, after this cycle's reservations and writes
 abbrev pub next_value : Layout → StepSignals → Signal
 next_value l f = at_ticket l (slot_value l f) (next_head l)
 
@@ -134,6 +147,7 @@ pub record NextEnds (c : Circuit) (l : Layout) (f : StepSignals) : Type 0 where
   pub head : next_signal c l.from ≡ head_after l f
   pub tail : next_signal c (l.from + 1) ≡ tail_after l f
 
+-- two write ports of an array, each with its enable, address and value
 abbrev pub two_writes : Signal → Signal → Signal → Signal → Signal → Signal → List WriteSignal
 two_writes e a v e' a' v' = record { enable = e; addr = a; value = v } ∷ record { enable = e'; addr = a'; value = v' } ∷ []
 
@@ -153,6 +167,7 @@ pub record NextValues (c : Circuit) (l : Layout) (f : StepSignals) : Type 0 wher
 abbrev pub own_reg : ℕ → Own
 own_reg r = record { from = r; to = r + 1; first = 0; last = 0 }
 
+-- so many registers from this one on, and no array
 abbrev pub own_row : ℕ → ℕ → Own
 own_row r n = record { from = r; to = r + n; first = 0; last = 0 }
 
@@ -160,18 +175,23 @@ own_row r n = record { from = r; to = r + n; first = 0; last = 0 }
 abbrev pub own_ends : Layout → Own
 own_ends l = own_row l.from 2
 
+-- the registers of the slots' addresses
 abbrev pub own_addrs : Layout → Own
 own_addrs l = own_row (l.from + 2) l.size
 
+-- the registers of the slots' value bits
 abbrev pub own_bits : Layout → Own
 own_bits l = own_row (l.from + 2 + l.size) l.size
 
+-- the registers of the slots' addresses and value bits
 abbrev pub own_slots : Layout → Own
 own_slots l = own_row (l.from + 2) (2 * l.size)
 
+-- the registers of the slots' values, or places
 abbrev pub own_contents : Layout → Own
 own_contents l = own_row (l.from + 2 + 2 * l.size) l.size
 
+-- the array, where there is one, and no register
 abbrev pub own_array : Layout → Own
 own_array l = record { from = 0; to = 0; first = first_array l.array; last = end_array l.array }
 

@@ -28,7 +28,7 @@ pub fn power(bits: u8) -> usize
 }
 
 /// Of the `2 ^ bits` registers from the `from`-th on, that of the number in the lowest bits of `number`.
-#[tactic(auto, using(crate::proofs::Trees::selecting, crate::proofs::Kept::row_kept))]
+#[tactic(auto, using(crate::proofs::Trees::selecting, crate::proofs::RingGrowth::row_kept))]
 pub fn emit_register(
     b: &mut Builder,
     r: Registers,

@@ -23,7 +23,7 @@ pub fn write_port(p: &LockPorts, j: usize) -> TicketWrite
 }
 
 /// Whether slot k is given to the first reservation, and whether to the second one.
-#[tactic(auto, using(crate::proofs::Kept::ready_kept))]
+#[tactic(auto, using(crate::proofs::RingGrowth::ready_kept))]
 fn emit_takes(
     b: &mut Builder,
     l: Layout,
@@ -46,7 +46,7 @@ fn emit_takes(
 }
 
 /// Slot k's address after the reservations.
-#[tactic(auto, using(crate::proofs::Fills::slot_addr_is, crate::proofs::Kept::ready_kept))]
+#[tactic(auto, using(crate::proofs::Fills::slot_addr_is, crate::proofs::RingGrowth::ready_kept))]
 pub fn emit_addr(
     b: &mut Builder,
     l: Layout,
@@ -67,7 +67,7 @@ pub fn emit_addr(
 }
 
 /// Slot k's value bit after the reservations.
-#[tactic(auto, using(crate::proofs::Fills::filling, crate::proofs::Kept::ready_kept))]
+#[tactic(auto, using(crate::proofs::Fills::filling, crate::proofs::RingGrowth::ready_kept))]
 fn emit_emptied(
     b: &mut Builder,
     l: Layout,
@@ -121,7 +121,7 @@ fn emit_match(
 }
 
 /// Slot k's value bit after the reservations and all write ports.
-#[tactic(auto, using(crate::proofs::Fills::filling, crate::proofs::Kept::ports_kept))]
+#[tactic(auto, using(crate::proofs::Fills::filling, crate::proofs::RingGrowth::ports_kept))]
 pub fn emit_bit(
     b: &mut Builder,
     l: Layout,
@@ -144,7 +144,7 @@ pub fn emit_bit(
 }
 
 /// Slot k's value after write port j.
-#[tactic(auto, using(crate::proofs::Fills::ticket_is, crate::proofs::Kept::ports_kept))]
+#[tactic(auto, using(crate::proofs::Fills::ticket_is, crate::proofs::RingGrowth::ports_kept))]
 fn emit_put(
     b: &mut Builder,
     l: Layout,
@@ -170,7 +170,7 @@ fn emit_put(
 }
 
 /// Slot k's value after all write ports, from this one on.
-#[tactic(auto, using(crate::proofs::Fills::filling, crate::proofs::Kept::ports_kept))]
+#[tactic(auto, using(crate::proofs::Fills::filling, crate::proofs::RingGrowth::ports_kept))]
 fn emit_value(
     b: &mut Builder,
     l: Layout,

@@ -36,7 +36,7 @@ pub fn emit_slot_of(b: &mut Builder, l: Layout, ticket: Net) -> Result<Net, NoMe
 }
 
 /// What a look at an address with a ticket asks for.
-#[tactic(auto, using(crate::proofs::Kept::slots_kept))]
+#[tactic(auto, using(crate::proofs::RingGrowth::slots_kept))]
 pub fn emit_sought(b: &mut Builder, l: Layout, addr: Net, ticket: Net) -> Result<Sought, NoMemory>
     requires sized { IsSized l }
     requires slots { HasSlots b.old l }
@@ -89,7 +89,7 @@ pub fn emit_same(b: &mut Builder, l: Layout, addr: Net, k: usize) -> Result<Net,
 }
 
 /// Whether slot k has the address and is older.
-#[tactic(auto, using(crate::proofs::Kept::slots_kept))]
+#[tactic(auto, using(crate::proofs::RingGrowth::slots_kept))]
 fn emit_hit_slot(
     b: &mut Builder,
     l: Layout,
@@ -116,7 +116,7 @@ fn emit_hit_slot(
 }
 
 /// Whether one of the `2 ^ bits` slots from `from` on has the address and is older.
-#[tactic(auto, using(crate::proofs::Trees::some, crate::proofs::Kept::slots_kept))]
+#[tactic(auto, using(crate::proofs::Trees::some, crate::proofs::RingGrowth::slots_kept))]
 fn emit_hits(
     b: &mut Builder,
     l: Layout,

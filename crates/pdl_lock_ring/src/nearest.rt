@@ -23,7 +23,7 @@ pub struct Nearest {
 }
 
 /// How far slot k is before that of a ticket, where it has the address; else a number that no slot is away.
-#[tactic(auto, using(crate::proofs::Kept::slots_kept))]
+#[tactic(auto, using(crate::proofs::RingGrowth::slots_kept))]
 fn emit_key(b: &mut Builder, l: Layout, addr: Net, last: Net, k: usize) -> Result<Net, NoMemory>
     requires sized { IsSized l }
     requires slots { HasSlots b.old l }
@@ -46,7 +46,7 @@ fn emit_key(b: &mut Builder, l: Layout, addr: Net, last: Net, k: usize) -> Resul
 }
 
 /// Slot k.
-#[tactic(auto, using(crate::proofs::Trees::nearest, crate::proofs::Kept::slots_kept))]
+#[tactic(auto, using(crate::proofs::Trees::nearest, crate::proofs::RingGrowth::slots_kept))]
 fn emit_leaf(
     b: &mut Builder,
     l: Layout,
@@ -96,7 +96,7 @@ fn emit_nearer(b: &mut Builder, x: Nearest, y: Nearest) -> Result<Nearest, NoMem
 }
 
 /// The nearest of the `2 ^ bits` slots from `from` on.
-#[tactic(auto, using(crate::proofs::Trees::nearest, crate::proofs::Kept::slots_kept))]
+#[tactic(auto, using(crate::proofs::Trees::nearest, crate::proofs::RingGrowth::slots_kept))]
 fn emit_nearest(
     b: &mut Builder,
     l: Layout,
@@ -129,7 +129,7 @@ fn emit_nearest(
 }
 
 /// Whether the youngest older pending write of the address has its value or there is none, and what its slot holds, else `other`.
-#[tactic(auto, using(crate::proofs::Kept::slots_kept))]
+#[tactic(auto, using(crate::proofs::RingGrowth::slots_kept))]
 pub fn emit_youngest(
     b: &mut Builder,
     l: Layout,

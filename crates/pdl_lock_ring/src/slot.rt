@@ -25,7 +25,7 @@ pub struct Slot {
 }
 
 /// Address and content of slot k after the reservations and writes.
-#[tactic(auto, using(crate::proofs::Kept::ready_kept))]
+#[tactic(auto, using(crate::proofs::RingGrowth::ready_kept))]
 fn emit_slot(
     b: &mut Builder,
     l: Layout,
@@ -49,7 +49,7 @@ fn emit_slot(
 }
 
 /// Of the `2 ^ bits` slots from `from` on, after the reservations and writes, that of the number in the lowest bits of `number`.
-#[tactic(auto, using(crate::proofs::Trees::selecting, crate::proofs::Kept::ready_kept))]
+#[tactic(auto, using(crate::proofs::Trees::selecting, crate::proofs::RingGrowth::ready_kept))]
 fn emit_picked(
     b: &mut Builder,
     l: Layout,
@@ -113,7 +113,7 @@ pub fn emit_at(
 }
 
 /// What slot k's address takes next.
-#[tactic(auto, using(crate::proofs::Kept::slots_kept))]
+#[tactic(auto, using(crate::proofs::RingGrowth::slots_kept))]
 fn emit_next_addr(
     b: &mut Builder,
     l: Layout,
@@ -133,7 +133,7 @@ fn emit_next_addr(
 }
 
 /// What slot k's value bit takes next.
-#[tactic(auto, using(crate::proofs::Fills::bit_width, crate::proofs::Kept::slots_kept))]
+#[tactic(auto, using(crate::proofs::Fills::bit_width, crate::proofs::RingGrowth::slots_kept))]
 fn emit_next_bit(
     b: &mut Builder,
     l: Layout,
@@ -153,7 +153,7 @@ fn emit_next_bit(
 }
 
 /// What slot k's value takes next.
-#[tactic(auto, using(crate::proofs::Kept::slots_kept))]
+#[tactic(auto, using(crate::proofs::RingGrowth::slots_kept))]
 fn emit_next_content(b: &mut Builder, l: Layout, p: &LockPorts, k: usize) -> Result<(), NoMemory>
     requires given { HasPorts b.old l p.now }
     requires slot_in { k < l.size }
@@ -203,7 +203,7 @@ pub fn emit_contents(b: &mut Builder, l: Layout, p: &LockPorts) -> Result<(), No
 }
 
 /// What the addresses and value bits of all slots take next.
-#[tactic(auto, using(crate::proofs::Kept::ready_kept_but))]
+#[tactic(auto, using(crate::proofs::RingGrowth::ready_kept_but))]
 pub fn emit_slots(b: &mut Builder, l: Layout, p: &LockPorts, t: Taken) -> Result<(), NoMemory>
     requires ready { IsReady b.old l p.now t }
     ensures addrs { OnOk result (NextAddrs b.new l (step_signals b.old p.now) l.size) }

@@ -172,7 +172,7 @@ fn emit_array(b: &mut Builder, mem: &MemInfo) -> Result<Option<usize>, NoMemory>
 }
 
 /// The registers and the array of so many slots for a memory.
-#[tactic(auto, using(crate::proofs::Kept::arrays_extends, crate::proofs::Kept::mem_array_kept, crate::proofs::Sizes::sizes, pdl_net::proofs::Keeps::keeping, pdl_net::proofs::Keeps::keeps_trans))]
+#[tactic(auto, using(crate::proofs::RingGrowth::arrays_extends, crate::proofs::RingGrowth::mem_array_kept, crate::proofs::Sizes::sizes, pdl_net::proofs::Keeps::keeping, pdl_net::proofs::Keeps::keeps_trans))]
 fn emit_layout(b: &mut Builder, size: u8, mem: &MemInfo) -> Result<Layout, NoMemory>
     requires suits { Suits size mem.now }
     ensures layout { IfOk result (λ l. IsLayout size mem.now (length b.old.regs) l) }
@@ -229,7 +229,7 @@ pub fn slots(alloc: Global, l: Layout) -> Result<Seq<Seq<usize>>, NoMemory>
 }
 
 /// What is answered of a ring's registers: their numbers, and the nets of room and tickets.
-#[tactic(auto, using(crate::proofs::Kept::slots_kept))]
+#[tactic(auto, using(crate::proofs::RingGrowth::slots_kept))]
 pub fn emit_regs(
     alloc: Global,
     b: &mut Builder,

@@ -42,7 +42,7 @@ pub fn emit_next_head(b: &mut Builder, l: Layout) -> Result<Net, NoMemory>
 }
 
 /// The two oldest pending writes after the reservations and writes.
-#[tactic(auto, using(crate::proofs::Kept::ready_kept, pdl_lockapi::proofs::Kept::ports))]
+#[tactic(auto, using(crate::proofs::RingGrowth::ready_kept, pdl_lockapi::proofs::LockGrowth::ports))]
 pub fn emit_oldest(b: &mut Builder, l: Layout, p: &LockPorts, t: Taken) -> Result<Oldest, NoMemory>
     requires ready { IsReady b.old l p.now t }
     ensures oldest { IfOk result (λ o. AreOldest b.new l (step_signals b.old p.now) o) }
@@ -85,7 +85,7 @@ pub fn emit_commit(
 }
 
 /// The commit ports.
-#[tactic(auto, using(crate::proofs::Ends::release_is, crate::proofs::Kept::oldest_kept, pdl_lockapi::proofs::Kept::ports))]
+#[tactic(auto, using(crate::proofs::Ends::release_is, crate::proofs::RingGrowth::oldest_kept, pdl_lockapi::proofs::LockGrowth::ports))]
 fn emit_commits(b: &mut Builder, l: Layout, p: &LockPorts, o: Oldest) -> Result<LockNets, NoMemory>
     requires given { HasPorts b.old l p.now }
     requires same { l.kept ≡ l.width }
@@ -106,7 +106,7 @@ fn emit_commits(b: &mut Builder, l: Layout, p: &LockPorts, o: Oldest) -> Result<
 }
 
 /// What the head takes next.
-#[tactic(auto, using(crate::proofs::Ends::afters, crate::proofs::Kept::ports_kept))]
+#[tactic(auto, using(crate::proofs::Ends::afters, crate::proofs::RingGrowth::ports_kept))]
 fn emit_head(b: &mut Builder, l: Layout, p: &LockPorts) -> Result<Net, NoMemory>
     requires given { HasPorts b.old l p.now }
     ensures means { IfOk result (λ x. Means b.new x (head_after l (step_signals b.old p.now))) }
@@ -122,7 +122,7 @@ fn emit_head(b: &mut Builder, l: Layout, p: &LockPorts) -> Result<Net, NoMemory>
 }
 
 /// What the tail takes next.
-#[tactic(auto, using(crate::proofs::Ends::afters, crate::proofs::Kept::ready_kept))]
+#[tactic(auto, using(crate::proofs::Ends::afters, crate::proofs::RingGrowth::ready_kept))]
 fn emit_tail(b: &mut Builder, l: Layout, p: &LockPorts, t: Taken) -> Result<Net, NoMemory>
     requires ready { IsReady b.old l p.now t }
     ensures means { IfOk result (λ x. Means b.new x (tail_after l (step_signals b.old p.now))) }
@@ -139,7 +139,7 @@ fn emit_tail(b: &mut Builder, l: Layout, p: &LockPorts, t: Taken) -> Result<Net,
 }
 
 /// Sets what head and tail take next.
-#[tactic(auto, using(crate::proofs::Kept::ready_kept))]
+#[tactic(auto, using(crate::proofs::RingGrowth::ready_kept))]
 pub fn emit_ends(b: &mut Builder, l: Layout, p: &LockPorts, t: Taken) -> Result<(), NoMemory>
     requires ready { IsReady b.old l p.now t }
     ensures next { OnOk result (NextEnds b.new l (step_signals b.old p.now)) }

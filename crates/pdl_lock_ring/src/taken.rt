@@ -78,7 +78,7 @@ fn emit_ask(
 }
 
 /// What all reserve ports ask.
-#[tactic(auto, using(crate::proofs::Reserves::asked_none, crate::proofs::Reserves::asked_more, pdl_lockapi::proofs::Kept::ports))]
+#[tactic(auto, using(crate::proofs::Reserves::asked_none, crate::proofs::Reserves::asked_more, pdl_lockapi::proofs::LockGrowth::ports))]
 fn emit_asked(b: &mut Builder, l: Layout, p: &LockPorts) -> Result<Asked, NoMemory>
     requires given { HasPorts b.old l p.now }
     ensures asked { IfOk result (λ x.
@@ -119,7 +119,7 @@ pub fn emit_gate(b: &mut Builder, l: Layout, on: Net, ticket: Net) -> Result<Net
 }
 
 /// The entries that a cycle's reservations take.
-#[tactic(auto, using(crate::proofs::Kept::slots_kept, pdl_lockapi::proofs::Kept::ports))]
+#[tactic(auto, using(crate::proofs::RingGrowth::slots_kept, pdl_lockapi::proofs::LockGrowth::ports))]
 pub fn emit_taken(b: &mut Builder, l: Layout, p: &LockPorts) -> Result<Taken, NoMemory>
     requires given { HasPorts b.old l p.now }
     ensures ready { IfOk result (λ t. IsReady b.new l p.now t) }

@@ -16,6 +16,7 @@ new_long m t (r ∷ rs) = at (r.mem == m) (new_long m t rs)
     at true h = ap suc h
     at false h = h
 
+-- the threads that move append as many pending writes as they reserve addresses
 pub appended_long : (m : ℕ) (ms : List Act) (es : List Pending) → length (with_reserves m ms es) ≡ length es + length (addresses m ms)
 appended_long m [] es = omega arith
 appended_long m (a ∷ ms) es =

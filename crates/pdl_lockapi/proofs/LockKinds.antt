@@ -15,10 +15,12 @@ use Rattle.pdl_lockapi.specs.Sizes.{size_of, words_in}
 
 -- WHAT A LOCK IS
 
+-- a memory that has no lock is a plain one
 pub plain_is : (l : Lock) → has_lock l ≡ false → l ≡ flat.Plain
 plain_is flat.Plain e = refl
 plain_is _ e = absurd (cc e)
 
+-- a lock of each kind is a lock
 pub locked_is : (k : LockKind) (n : ℕ) → has_lock (as_lock k n) ≡ true
 locked_is Queue n = refl
 locked_is Bypass n = refl
@@ -41,9 +43,11 @@ room_is Queue size n = refl
 room_is Bypass size n = refl
 room_is Rename size n = refl
 
+-- where a lock has room, fewer writes are pending than its size
 pub room_there : (k : LockKind) (n size : ℕ) → has_room (as_lock k size) n ≡ true → n < size
 room_there k n size e = ltb-true n size (sym (room_is k size n) ∙ e)
 
+-- where there is room, the memory has no lock, or fewer writes are pending than its size
 pub room_size : (l : Lock) (n : ℕ) → has_room l n ≡ true → (l ≡ flat.Plain) ⊎ (n < size_of l)
 room_size flat.Plain n e = inl refl
 room_size (flat.Queue size) n e = inr (ltb-true n size e)
@@ -52,6 +56,7 @@ room_size (flat.Rename size) n e = inr (ltb-true n size e)
 
 -- THE WORDS OF THE MEMORY'S ARRAY
 
+-- the array of a lock has as many words as one of its kind has for the memory
 pub words_are : (k : LockKind) (n d : ℕ) → words_in (as_lock k n) d ≡ words_of k d
 words_are Queue n d = refl
 words_are Bypass n d = refl

@@ -21,13 +21,16 @@ use Rattle.pdl_lockapi.specs.Lock.{LockState, LockAct, entry_at, act_at, start, 
 abbrev pub first_reg : LockRegs → ℕ
 first_reg r = slice_index r.regs 0
 
+-- the number after a lock's last register
 abbrev pub end_reg : LockRegs → ℕ
 end_reg r = first_reg r + length r.regs
 
+-- the number of a lock's array, 0 where it has none
 abbrev pub first_array : Option ℕ → ℕ
 first_array None = 0
 first_array (Some m) = m
 
+-- the number after that of a lock's array, 0 where it has none
 abbrev pub end_array : Option ℕ → ℕ
 end_array None = 0
 end_array (Some m) = m + 1
@@ -65,6 +68,7 @@ words_of Rename d = d + d
 abbrev pub HasImage : LockKind → Option ℕ → State → List ℕ → Type 0
 HasImage k array s image = HasWords array s (filled_words (words_of k (length image)) image)
 
+-- the shapes of the arrays that a lock of this kind has for a memory: none where it is delayed
 abbrev pub arrays_of : LockKind → MemInfo → List Shape
 arrays_of k m = if m.delayed then [] else record { name = m.name; width = m.width; depth = words_of k m.depth } ∷ []
 
@@ -161,12 +165,15 @@ abbrev pub enabled_reserve : Kind → Signal → Signal
 enabled_reserve R f = const_signal 1 0
 enabled_reserve W f = f
 
+-- what the nets of a reserve port mean
 abbrev pub reserve_signal : Circuit → ReservePort → ReserveSignal
 reserve_signal c p = record { enable = enabled_reserve p.kind (signal c p.enable); addr = signal c p.addr }
 
+-- what the nets of a write port mean
 abbrev pub ticket_signal : Circuit → TicketWrite → TicketSignal
 ticket_signal c p = record { enable = signal c p.enable; ticket = signal c p.ticket; value = signal c p.value }
 
+-- what the nets of all ports of a step mean
 unfoldable pub step_signals : Circuit → LockPorts → StepSignals
 step_signals c p = record {
   reserves = map (reserve_signal c) p.reserves;
@@ -177,15 +184,19 @@ step_signals c p = record {
   tail = signal c p.tail;
 }
 
+-- the reserve port past the last one: it asks nothing
 abbrev pub no_reserve : ReserveSignal
 no_reserve = record { enable = const_signal 1 0; addr = const_signal 1 0 }
 
+-- the write port past the last one: it writes nothing
 abbrev pub no_ticket : TicketSignal
 no_ticket = record { enable = const_signal 1 0; ticket = const_signal 1 0; value = const_signal 1 0 }
 
+-- the k-th reserve port
 abbrev pub reserve_at : List ReserveSignal → ℕ → ReserveSignal
 reserve_at fs k = slice_index_or fs k no_reserve
 
+-- the k-th write port
 abbrev pub ticket_at : List TicketSignal → ℕ → TicketSignal
 ticket_at fs k = slice_index_or fs k no_ticket
 

@@ -36,5 +36,6 @@ StepsSingle = (x : LockState) (a : LockAct) → a.release2 ≡ false → step x 
 abbrev pub ProperIsSingle : Type 0
 ProperIsSingle = (n : ℕ) (x : LockState) (a : LockAct) → a.release2 ≡ false → length a.reserves ≤ 1 → Proper n x a → ProperSingle n x a
 
+-- proper use of a cycle with at most one release is proper use, where there is no second release
 abbrev pub SingleIsProper : Type 0
 SingleIsProper = (n : ℕ) (x : LockState) (a : LockAct) → a.release2 ≡ false → ProperSingle n x a → Proper n x a

@@ -1,9 +1,9 @@
 mod Ahead
 mod Keyed
-pub mod Kept
-pub mod Done
-pub mod Open
+pub mod UseSteps
+pub mod UseLaws
+pub mod OpenLocations
 mod Counted
 mod Lines
 mod Late
-pub mod Told
+pub mod LowestRule

@@ -13,7 +13,7 @@ use Rattle.pdl_locks.specs.declared.at_locations.LocationRule.{LocationRule}
 use Rattle.pdl_locks.specs.declared.at_locations.LocationRule.TheVariants.{Held, ReservedOnce, WrittenOnce, Released}
 use Rattle.pdl_locks.specs.declared.at_memories.MemoryRule.{MemoryRule}
 use Rattle.pdl_locks.specs.declared.at_memories.MemoryRule.TheVariants.{ReadFirst, FewReserves}
-use Rattle.pdl_locks.specs.Asked.{rule_of, memory_rule_of}
+use Rattle.pdl_locks.specs.RuleQuestions.{rule_of, memory_rule_of}
 use Rattle.pdl_locks.specs.Walk.{at_location, of_memory}
 
 of_locations : (rule : LocationRule) (p : Pipe)
@@ -28,13 +28,16 @@ of_memories : (rule : MemoryRule) (p : Pipe)
 of_memories ReadFirst p = rule_lines L3 p [] (places p)
 of_memories FewReserves p = rule_lines L4 p [] (places p)
 
+-- the line at which a rule on locations is broken on some path is that at which the pipe breaks it
 pub location_line : (rule : LocationRule) (p : Pipe) (gs : List Guard) (xs : List Place) → gs ≡ guards xs → xs ≡ places p
     → path_line (at_location p rule) gs xs ≡ broken_line (rule_of rule) p [] (places p)
 location_line rule p gs xs own of = at_places (at_location p rule) p gs xs own of ∙ of_locations rule p
 
+-- the line at which a rule on memories is broken on some path is that at which the pipe breaks it
 pub memory_line : (rule : MemoryRule) (p : Pipe) (gs : List Guard) (xs : List Place) → gs ≡ guards xs → xs ≡ places p
     → path_line (of_memory rule) gs xs ≡ broken_line (memory_rule_of rule) p [] (places p)
 memory_line rule p gs xs own of = at_places (of_memory rule) p gs xs own of ∙ of_memories rule p
 
+-- the line at which a read is bound too late on some path is that at which the pipe breaks L8
 pub bound_line : (p : Pipe) (gs : List Guard) (xs : List Place) → gs ≡ guards xs → xs ≡ places p → path_line (bound_late p) gs xs ≡ broken_line L8 p [] (places p)
 bound_line p gs xs own of = at_places (bound_late p) p gs xs own of ∙ rule_lines L8 p [] (places p)

@@ -7,7 +7,7 @@ use Rattle.pdl_rules.specs.Stages.{first_stage, releases_memory}
 use Rattle.pdl_paths.specs.declared.place.Place as r_place
 use Rattle.pdl_paths.specs.Actions.{location_at, place_view}
 use Rattle.pdl_rules_stages.specs.Stages.{stages_in}
-use Rattle.pdl_rules_stages.specs.Along.{HavePaths}
+use Rattle.pdl_rules_stages.specs.PathBits.{HavePaths}
 
 -- the stage of a locked memory's releases
 abbrev pub last_of : Pipe → List ℕ → Option ℕ

@@ -1,8 +1,8 @@
 pub mod Numbers
 pub mod Holds
 pub mod Uses
-pub mod Passed
-pub mod Asked
+pub mod PassedPlaces
+pub mod RuleQuestions
 pub mod Bound
 pub mod Facts
 pub mod Walk

@@ -23,6 +23,7 @@ is_at keys l x = is_some_and (λ m. are_one keys m l) (location_at x)
 abbrev pub first_place : Keys → Location → List Place → ℕ
 first_place keys l xs = position_or_len (is_at keys l) xs
 
+-- the number of a location, where there is one; else how many places there are
 abbrev pub first_of : Keys → Option Location → List Place → ℕ
 first_of keys (Some l) xs = first_place keys l xs
 first_of keys None xs = length xs

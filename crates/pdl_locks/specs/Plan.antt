@@ -14,6 +14,7 @@ use Rattle.pdl_locks.specs.declared.plan.MemStages.{MemStages}
 abbrev pub stages_of : Pipe → Mem → MemStages
 stages_of p m = record { reserved = first_stage (reserves_memory m.name.name) [] (places p); released = first_stage (releases_memory m.name.name) [] (places p) }
 
+-- the stages of the reserves and of the releases of each memory
 abbrev pub plan_of : Pipe → List MemStages
 plan_of p = map (stages_of p) p.mems
 

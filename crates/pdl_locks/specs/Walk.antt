@@ -6,7 +6,7 @@ use Rattle.pdl_rules.specs.Stages.{bound_late}
 use Rattle.pdl_paths.specs.declared.place.Place as r_place
 use Rattle.pdl_paths.specs.Actions.{place_view}
 use Rattle.pdl_paths.specs.Masks.{path_of}
-use Rattle.pdl_rules_stages.specs.Along.{IsPath}
+use Rattle.pdl_rules_stages.specs.PathBits.{IsPath}
 use Rattle.pdl_rules_walk.specs.Course.{IsOnPath}
 use Rattle.pdl_rules_walk.specs.Aside.{aside}
 use Rattle.pdl_locks.specs.declared.numbers.Keys.TheVariants.{Locations, Memories}
@@ -14,14 +14,15 @@ use Rattle.pdl_locks.specs.declared.uses.LocationUse as location
 use Rattle.pdl_locks.specs.declared.uses.MemoryUse as memory
 use Rattle.pdl_locks.specs.declared.at_locations.LocationRule.{LocationRule}
 use Rattle.pdl_locks.specs.declared.at_memories.MemoryRule.{MemoryRule}
-use Rattle.pdl_locks.specs.Asked.{breaks_at_location, breaks_at_memory}
+use Rattle.pdl_locks.specs.RuleQuestions.{breaks_at_location, breaks_at_memory}
 use Rattle.pdl_locks.specs.Uses.{AreKept, IsUsed, IsUsedMemory}
-use Rattle.pdl_locks.specs.Passed.{passed_by}
+use Rattle.pdl_locks.specs.PassedPlaces.{passed_by}
 
 -- what a rule asks on a path
 abbrev pub at_location : Pipe → LocationRule → List Guard → List Place → Place → Bool
 at_location p rule path before x = breaks_at_location rule p (filter (on_path path) before) x
 
+-- what a rule on memories asks of a place on a path
 abbrev pub of_memory : MemoryRule → List Guard → List Place → Place → Bool
 of_memory rule path before x = breaks_at_memory rule (filter (on_path path) before) x
 
@@ -30,10 +31,12 @@ abbrev pub StandsAt : Pipe → List r_place.Place → LocationRule → List Guar
 StandsAt p rows rule gs xs bits k uses lowest =
     IsOnPath (at_location p rule) (λ path before. AreKept Locations IsUsed (map place_view rows) (filter (on_path path) before) uses) gs xs bits k lowest
 
+-- a rule on memories after k places of a path, with the uses of its memories, and its lowest place so far
 abbrev pub StandsOf : List r_place.Place → MemoryRule → List Guard → List Place → ℕ → ℕ → List memory.MemoryUse → ℕ → Type 0
 StandsOf rows rule gs xs bits k uses lowest =
     IsOnPath (of_memory rule) (λ path before. AreKept Memories IsUsedMemory (map place_view rows) (filter (on_path path) before) uses) gs xs bits k lowest
 
+-- the rule on late reads after k places of a path, with the bits of that path, and its lowest place so far
 abbrev pub StandsBound : Pipe → List Guard → List Guard → List Place → ℕ → ℕ → ℕ → ℕ → Type 0
 StandsBound p guards gs xs bits k among lowest = IsOnPath (bound_late p) (λ path before. IsPath guards path among) gs xs bits k lowest
 
@@ -44,12 +47,14 @@ aside_at p rows rule gs xs bits k x uses lowest got off h =
     aside (at_location p rule) (λ path before. AreKept Locations IsUsed (map place_view rows) (filter (on_path path) before) uses) gs xs bits k lowest x
     (λ path before elsewhere kept. passed_by Locations IsUsed (map place_view rows) path before x uses elsewhere kept) got off h
 
+-- a place that isn't on the path changes nothing for a rule on memories
 pub aside_of : (rows : List r_place.Place) (rule : MemoryRule) (gs : List Guard) (xs : List Place) (bits k : ℕ) (x : Place) (uses : List memory.MemoryUse) (lowest : ℕ)
     → slice_get xs k ≡ Some x → on_path (path_of gs bits) x ≡ false → StandsOf rows rule gs xs bits k uses lowest → StandsOf rows rule gs xs bits (k + 1) uses lowest
 aside_of rows rule gs xs bits k x uses lowest got off h =
     aside (of_memory rule) (λ path before. AreKept Memories IsUsedMemory (map place_view rows) (filter (on_path path) before) uses) gs xs bits k lowest x
     (λ path before elsewhere kept. passed_by Memories IsUsedMemory (map place_view rows) path before x uses elsewhere kept) got off h
 
+-- a place that isn't on the path changes nothing for the rule on late reads
 pub aside_bound : (p : Pipe) (guards gs : List Guard) (xs : List Place) (bits k : ℕ) (x : Place) (among lowest : ℕ)
     → slice_get xs k ≡ Some x → on_path (path_of gs bits) x ≡ false → StandsBound p guards gs xs bits k among lowest → StandsBound p guards gs xs bits (k + 1) among lowest
 aside_bound p guards gs xs bits k x among lowest got off h =

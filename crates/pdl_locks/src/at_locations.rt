@@ -10,8 +10,8 @@ ghost use Rattle.pdl_paths.specs.Actions.{place_view};
 ghost use Rattle.pdl_locks.specs.declared.numbers.Keys.TheVariants as keys;
 ghost use Rattle.pdl_locks.specs.Uses.{AreKept, IsOwn, IsUsed, is_open as spec_is_open};
 ghost use Rattle.pdl_locks.specs.Numbers.{AreNumbered};
-ghost use Rattle.pdl_locks.specs.Passed.{passed_by};
-ghost use Rattle.pdl_locks.specs.Asked.{breaks_at_location};
+ghost use Rattle.pdl_locks.specs.PassedPlaces.{passed_by};
+ghost use Rattle.pdl_locks.specs.RuleQuestions.{breaks_at_location};
 
 use crate::numbers::number_of;
 use crate::uses::{LocationUse, use_at};

@@ -7,8 +7,8 @@ ghost use Rattle.pdl_paths.specs.Actions.{place_view};
 ghost use Rattle.pdl_locks.specs.declared.numbers.Keys.TheVariants as keys;
 ghost use Rattle.pdl_locks.specs.Uses.{AreKept, IsOwn, IsUsedMemory};
 ghost use Rattle.pdl_locks.specs.Numbers.{AreNumbered};
-ghost use Rattle.pdl_locks.specs.Passed.{passed_by};
-ghost use Rattle.pdl_locks.specs.Asked.{breaks_at_memory};
+ghost use Rattle.pdl_locks.specs.PassedPlaces.{passed_by};
+ghost use Rattle.pdl_locks.specs.RuleQuestions.{breaks_at_memory};
 
 use crate::numbers::number_of;
 use crate::uses::{MemoryUse, use_at};

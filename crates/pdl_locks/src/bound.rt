@@ -5,7 +5,7 @@ ghost use Rattle.pdl_rules.specs.Places.{places as spec_places};
 ghost use Rattle.pdl_rules.specs.Parts.{is_some_and};
 ghost use Rattle.pdl_rules.specs.Stages.{bound_late};
 ghost use Rattle.pdl_paths.specs.Actions.{place_view};
-ghost use Rattle.pdl_rules_stages.specs.Along.{IsPath};
+ghost use Rattle.pdl_rules_stages.specs.PathBits.{IsPath};
 ghost use Rattle.pdl_rules_stages.specs.Stages.{stages_in};
 ghost use Rattle.pdl_locks.specs.Bound.{AreOfPipe, last_at as spec_last_at};
 

@@ -1,6 +1,6 @@
 -- The fields of a machine.
 use Rattle.std.specs.Prelude.{◌≡◌, ◌≤◌, ◌+◌, map, length}
-use Rattle.pdl_form.specs.Whole.{form}
+use Rattle.pdl_form.specs.FormView.{form}
 use Rattle.pdl_machine_pending.specs.Memory.{Memory}
 use Rattle.pdl_machine_run.specs.View.{seats, request_view, order_views}
 use Rattle.pdl_machine_facts.specs.Ports.{delayed_count}
@@ -9,6 +9,7 @@ use Rattle.pdl_machine_run.specs.Runs.{IsRunning}
 use Rattle.pdl_machine.specs.declared.machine.Machine.TheInside.{Inside}
 use Rattle.pdl_machine.specs.Running.{Running}
 
+-- a machine as callers see it
 abbrev pub running : Inside → Running
 running m =
     record {

@@ -22,6 +22,7 @@ pub record Running : Type 0 where
   pub shown : List ℕ
   pub waited : Bool
 
+-- the flat form of its pipe
 abbrev pub flat_of : Running → flat.Pipe
 flat_of r = flatten.flat (pipe_view r.pipe)
 

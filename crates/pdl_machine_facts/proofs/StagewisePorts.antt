@@ -16,30 +16,34 @@ pub stages_below : {X : Type 0} → (f g : ℕ → X) (s : ℕ) (xs : List Stage
 stages_below f g s [] h = refl
 stages_below f g s (x ∷ xs) h = ap₂ (λ a l. a ∷ l) (h s (omega arith) (omega arith)) (stages_below f g (suc s) xs (λ q i j. h q (omega (arith, i)) (omega (arith, j))))
 
+-- what is listed for each stage is as long as the list of stages
 pub stages_count : {X : Type 0} → (f : ℕ → X) (s : ℕ) (xs : List Stage) → length (for_stages f s xs) ≡ length xs
 stages_count f s [] = refl
 stages_count f s (x ∷ xs) = ap suc (stages_count f (suc s) xs)
 
+-- the k-th of what is listed for the stages from s on is that of stage s + k
 pub at_stage : {X : Type 0} → (f : ℕ → X) (s : ℕ) (xs : List Stage) (k : ℕ) (none : X) → k < length xs → slice_index_or (for_stages f s xs) k none ≡ f (s + k)
 at_stage f s [] k none h = absurd (omega arith)
 at_stage f s (x ∷ xs) zero none h = ap f (sym (add-zero s))
 at_stage f s (x ∷ xs) (suc k) none h = at_stage f (suc s) xs k none (omega arith) ∙ ap f (suc-add s k ∙ sym (add-suc s k))
 
+-- past the last stage nothing is listed
 pub past_stage : {X : Type 0} → (f : ℕ → X) (s : ℕ) (xs : List Stage) (k : ℕ) (none : X) → length xs ≤ k → slice_index_or (for_stages f s xs) k none ≡ none
 past_stage f s [] k none h = refl
 past_stage f s (x ∷ xs) zero none h = absurd (omega arith)
 past_stage f s (x ∷ xs) (suc k) none h = past_stage f (suc s) xs k none (omega arith)
 
-pub then_none : (o : Option Thread) → or_then o None ≡ o
+then_none : (o : Option Thread) → or_then o None ≡ o
 then_none None = refl
 then_none (Some t) = refl
 
+-- the first thread that is there, of three that may be, however they are grouped
 pub then_then : (a b c : Option Thread) → or_then (or_then a b) c ≡ or_then a (or_then b c)
 then_then None b c = refl
 then_then (Some t) b c = refl
 
 -- a stage that isn't reached isn't gone to
-pub not_reached : (n : Next) (q : ℕ) (env : List ℕ) → leads_to n q ≡ false → is_stage q (goes_to n env) ≡ false
+not_reached : (n : Next) (q : ℕ) (env : List ℕ) → leads_to n q ≡ false → is_stage q (goes_to n env) ≡ false
 not_reached Ends q env h = refl
 not_reached (Goes to) q env h = h
 not_reached (Forks x a b) q env h = at (a == q) refl (b == q) refl h (Rattle.std.proofs.Common.slice_index env x == 1)

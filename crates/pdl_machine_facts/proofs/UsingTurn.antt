@@ -9,5 +9,6 @@ abbrev pub IsAlong : List ℕ → (ℕ → ℕ → ℕ) → List Stmt → Deeds 
 IsAlong path read [] d = Unit {0}
 IsAlong path read (x ∷ xs) d = (all_hold x.guards d.env ≡ all_hold x.guards path) × IsAlong path read xs (if all_hold x.guards d.env then deeds_after read x.op d else d)
 
+-- whether one of a thread's writes is to this memory
 abbrev pub writes_to : ℕ → List Written → Bool
 writes_to m ws = list_any (λ (w : Written). w.mem == m) ws

@@ -18,6 +18,7 @@ shown_values (Some w) = 1 ∷ w.address ∷ w.value ∷ []
 abbrev pub commit_values : Lock → Option PortWrite → List ℕ
 commit_values l e = if has_lock l then shown_values e else []
 
+-- of each memory with a lock its commit
 abbrev pub all_commit_values : List Mem → List (Option PortWrite) → List ℕ
 all_commit_values (m ∷ ms) (e ∷ es) = commit_values m.lock e ++ all_commit_values ms es
 all_commit_values _ _ = []
@@ -41,6 +42,7 @@ abbrev pub request_values : Option ℕ → List ℕ
 request_values None = 0 ∷ 0 ∷ []
 request_values (Some a) = 1 ∷ a ∷ []
 
+-- of each delayed memory its request
 abbrev pub all_request_values : List Mem → List (Option ℕ) → List ℕ
 all_request_values (m ∷ ms) (q ∷ qs) = (if m.delayed then request_values q else []) ++ all_request_values ms qs
 all_request_values _ _ = []

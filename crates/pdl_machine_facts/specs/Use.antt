@@ -44,6 +44,7 @@ in_time p k (Verify _) = true
 in_time p k SpecCheck = true
 in_time p k SpecBarrier = true
 
+-- whether a statement that looks at a memory or writes it stands no later than the stage of its releases
 abbrev pub is_early : Pipe → Stmt → Bool
 is_early p x = in_time p x.stage x.op
 

@@ -10,14 +10,6 @@ use Rattle.pdl_semantics.specs.Sound.{request_address}
 use Rattle.pdl_machine_inflight.specs.InFlight.{Some-of, IsAwaited}
 use Rattle.pdl_word.specs.Each.{Each}
 
-pub kept_append : (xs ys : List Kept) (env : List ℕ) → with_kept (xs ++ ys) env ≡ with_kept ys (with_kept xs env)
-kept_append [] ys env = refl
-kept_append (x ∷ xs) ys env = kept_append xs ys (slice_set env x.var x.word)
-
-pub kept_long : (xs : List Kept) (env : List ℕ) → length (with_kept xs env) ≡ length env
-kept_long [] env = refl
-kept_long (x ∷ xs) env = kept_long xs (slice_set env x.var x.word) ∙ length-set env x.var x.word
-
 -- the word that an outstanding request asks for
 abbrev pub word_asked : State → ℕ → ℕ
 word_asked st m = word_at st.arrays m (request_address (request_of st m))

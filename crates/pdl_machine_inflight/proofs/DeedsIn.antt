@@ -51,6 +51,7 @@ asks_all p k read (x ∷ xs) h d r = asks_all p k read xs h.1 (if all_hold x.gua
     at true = asks_op p k k read x h.0.0 h.0.1 d r
     at false = r
 
+-- a thread's requests are of the delayed reads of its stage
 pub asks_in : (p : Pipe) → Reads p → (st : State) (k : ℕ) (t : Thread) → Each (AsksIn p k) (deeds p st k t).asks
 asks_in p reads st k t = asks_all p k (word_for st t.number) (in_stage k p.stmts) (stage_each (IsTheReading p) k p.stmts reads.one) _ tt
 
@@ -95,6 +96,7 @@ unverified v k (x ∷ xs) h n = at (x.stage == k) refl (unverified v k xs parts.
     at true e r = (none (is_verify x.op) refl (eqb-true x.stage k e), r)
     at false e r = r
 
+-- in a stage other than that of the verifies no verify fails
 pub fails_not : (p : Pipe) (v : ℕ) → all_at is_verify v p.stmts ≡ true → (st : State) (k : ℕ) (t : Thread) → (k ≡ v → ⊥) → (deeds p st k t).fails ≡ false
 fails_not p v h st k t n = fails_all (word_for st t.number) (in_stage k p.stmts) (unverified v k p.stmts h n) _
 
@@ -115,5 +117,6 @@ stage_each_of P k (x ∷ xs) h = at (x.stage == k) (stage_each_of P k xs h.1)
     at true r = (h.0, r)
     at false r = r
 
+-- where a pipe has no verify none fails in any stage
 pub fails_never : (p : Pipe) → verify_stage p.stmts ≡ None → (st : State) (k : ℕ) (t : Thread) → (deeds p st k t).fails ≡ false
 fails_never p h st k t = fails_all (word_for st t.number) (in_stage k p.stmts) (stage_each_of (λ (x : Stmt). is_verify x.op ≡ false) k p.stmts (verifies_none p.stmts h)) _

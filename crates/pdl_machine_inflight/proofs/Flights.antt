@@ -14,12 +14,12 @@ use Rattle.pdl_theory_simulation.proofs.Stretches.{AllFetched, on_way}
 use Rattle.pdl_theory_simulation.proofs.Seats.{Live, seat}
 use Rattle.pdl_theory_simulation.proofs.Choices.{AllOwned, Matched, Seated}
 use Rattle.pdl_theory_simulation.proofs.Choices
-use Rattle.pdl_theory_simulation.proofs.Simulated.{Sim}
+use Rattle.pdl_theory_simulation.proofs.SimulatedStates.{Sim}
 use Rattle.pdl_theory_states.specs.Strict.{Strict}
-use Rattle.pdl_theory_states.proofs.Past.{AnyOp, onto, AskedBy}
-use Rattle.pdl_theory_states.proofs.Local.{AnyAsk, past_of, any_of}
-use Rattle.pdl_theory_states.proofs.Lasting.{Owns, Lasting, Along}
-use Rattle.pdl_theory_states.proofs.Reached.{Whole, reached}
+use Rattle.pdl_theory_states.proofs.PastStatements.{AnyOp, onto, AskedBy}
+use Rattle.pdl_theory_states.proofs.ThreadHistory.{AnyAsk, past_of, any_of}
+use Rattle.pdl_theory_states.proofs.ThreadFacts.{Owns, Lasting, Along}
+use Rattle.pdl_theory_states.proofs.ReachedStates.{Whole, reached}
 use Rattle.pdl_machine_facts.specs.Slots.{slot}
 use Rattle.pdl_machine_inflight.specs.Readings.{Reading, reading, IsTheReading, Reads}
 use Rattle.pdl_machine_inflight.specs.InFlight.{Some-of, Awaits, IsAwaited, InFlight}

@@ -10,8 +10,8 @@ use Rattle.pdl_semantics.specs.Sound.{side_in}
 use Rattle.pdl_theory_derived.specs.Derived
 use Rattle.pdl_theory_simulation.proofs.Stretches.{Behind}
 use Rattle.pdl_theory_simulation.proofs.Seats.{Live, seat, find, Ordered}
-use Rattle.pdl_theory_simulation.proofs.Telling.{sides}
-use Rattle.pdl_theory_simulation.proofs.Simulated.{Sim}
+use Rattle.pdl_theory_simulation.proofs.ThreadFacts.{sides}
+use Rattle.pdl_theory_simulation.proofs.SimulatedStates.{Sim}
 use Rattle.pdl_machine_inflight.specs.Readings.{branch_stages}
 use Rattle.pdl_word.specs.Each.{Each}
 
@@ -114,6 +114,7 @@ module _ (p : Pipe) (f : ℕ) where
       at true n = omega arith
       at false n = omega arith
 
+-- a fork's list is no longer than its branches have stages, where the state stands for live threads
 pub list_few : (p : Pipe) (st : State) (d : Derived.State) (ls : List Live) → Sim p st d ls → (f : ℕ) → length (fork_of st f) ≤ branch_stages p f
 list_few p st d ls sim f =
     subst (λ (xs : List Bool). length xs ≤ branch_stages p f) (sym (sim.forks f))

@@ -8,7 +8,7 @@ use Rattle.pdl_semantics.specs.Machine.{State, Thread}
 use Rattle.pdl_theory_derived.specs.Derived
 use Rattle.pdl_theory_simulation.proofs.Stretches.{Behind}
 use Rattle.pdl_theory_simulation.proofs.Seats.{Live, seat, find, Ordered, Falls, falls_each}
-use Rattle.pdl_theory_simulation.proofs.Simulated.{Sim}
+use Rattle.pdl_theory_simulation.proofs.SimulatedStates.{Sim}
 use Rattle.pdl_machine_facts.specs.Slots.{slot}
 use Rattle.pdl_machine_facts.proofs.StagewisePorts.{at_stage, past_stage, stages_count}
 use Rattle.pdl_word.specs.Each.{Each}
@@ -18,6 +18,7 @@ abbrev pub Among : Live → List Live → Type 0
 Among l [] = ⊥
 Among l (k ∷ ks) = (k ≡ l) ⊎ Among l ks
 
+-- what holds of each of these live threads holds of one among them
 pub each_among : (P : Live → Type 0) (l : Live) (ls : List Live) → Each P ls → Among l ls → P l
 each_among P l [] h i = absurd i
 each_among P l (k ∷ ks) h (inl e) = subst P e h.0
@@ -33,7 +34,7 @@ found q t (l ∷ ls) e = at (l.thread.stage == q) refl e (found q t ls)
     at false f g rest = let r = rest g in (r.0, inr r.1, r.2, r.3)
 
 -- no two stand in one stage
-pub stands_alone : (p : Pipe) (l : Live) (ls : List Live) → Ordered p ls → Among l ls → find l.thread.stage ls ≡ Some (seat l)
+stands_alone : (p : Pipe) (l : Live) (ls : List Live) → Ordered p ls → Among l ls → find l.thread.stage ls ≡ Some (seat l)
 stands_alone p l [] o i = absurd i
 stands_alone p l (k ∷ ks) o (inl e) = subst (λ (j : Live). find j.thread.stage (k ∷ ks) ≡ Some (seat j)) e (ap (λ b. cond b (Some (seat k)) (find k.thread.stage ks)) (Rattle.std.proofs.Common.eq-eqb k.thread.stage k.thread.stage refl))
 stands_alone p l (k ∷ ks) o (inr i) =
@@ -47,7 +48,7 @@ stands_alone p l (k ∷ ks) o (inr i) =
         omega (arith, low, e)
 
 -- two with one number are one
-pub one_number : (n : ℕ) (a b : Live) (ls : List Live) → Falls n ls → Among a ls → Among b ls → a.number ≡ b.number → a ≡ b
+one_number : (n : ℕ) (a b : Live) (ls : List Live) → Falls n ls → Among a ls → Among b ls → a.number ≡ b.number → a ≡ b
 one_number n a b [] f i j e = absurd i
 one_number n a b (k ∷ ks) f (inl i) (inl j) e = sym i ∙ j
 one_number n a b (k ∷ ks) f (inl i) (inr j) e =
@@ -57,7 +58,7 @@ one_number n a b (k ∷ ks) f (inr i) (inl j) e =
 one_number n a b (k ∷ ks) f (inr i) (inr j) e = one_number k.number a b ks f.1 i j e
 
 -- a younger one stands behind an older one
-pub stands_behind : (p : Pipe) (n : ℕ) (a b : Live) (ls : List Live) → Falls n ls → Ordered p ls → Among a ls → Among b ls → b.number < a.number → Behind p a.thread.stage b.thread.stage
+stands_behind : (p : Pipe) (n : ℕ) (a b : Live) (ls : List Live) → Falls n ls → Ordered p ls → Among a ls → Among b ls → b.number < a.number → Behind p a.thread.stage b.thread.stage
 stands_behind p n a b [] f o i j e = absurd i
 stands_behind p n a b (k ∷ ks) f o (inl i) (inl j) e = absurd (let z = ap (λ (l : Live). l.number) (sym i ∙ j) in omega (arith, e, z))
 stands_behind p n a b (k ∷ ks) f o (inl i) (inr j) e = subst (λ (l : Live). Behind p l.thread.stage b.thread.stage) i (each_among _ b ks o.0 j)

@@ -23,7 +23,7 @@ stood_in p st bits k t h = at (slot st k) refl h
     at (Some u) e g = (u, e, cc g)
 
 -- where the squasher of these movers is
-abbrev pub squasher_at : Pipe → State → ℕ → Bool → Option Thread → Option ℕ
+abbrev squasher_at : Pipe → State → ℕ → Bool → Option Thread → Option ℕ
 squasher_at p st v false o = None
 squasher_at p st v true None = None
 squasher_at p st v true (Some t) = if (deeds p st v t).fails then Some t.number else None
@@ -43,7 +43,7 @@ squasher_here p st k false o rest h = h
 squasher_here p st k true None rest h = h
 squasher_here p st k true (Some t) rest h = ap (λ r. if (deeds p st k t).fails then Some t.number else r) h
 
-pub some_squasher : (p : Pipe) (st : State) (k : ℕ) (b : Bool) (o : Option Thread) → is_some (squasher_at p st k b o) ≡ (b && failing p st k o)
+some_squasher : (p : Pipe) (st : State) (k : ℕ) (b : Bool) (o : Option Thread) → is_some (squasher_at p st k b o) ≡ (b && failing p st k o)
 some_squasher p st k false o = refl
 some_squasher p st k true None = refl
 some_squasher p st k true (Some t) = at (deeds p st k t).fails

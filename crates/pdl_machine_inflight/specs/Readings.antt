@@ -15,6 +15,7 @@ abbrev pub reading_in : ℕ → List Stmt → Option Reading
 reading_in m [] = None
 reading_in m (x ∷ xs) = on_delayed_read (λ y n a. if n == m then Some (record { stage = x.stage; var = y }) else reading_in m xs) (reading_in m xs) x.op
 
+-- the first delayed read of a memory in a pipe
 abbrev pub reading : Pipe → ℕ → Option Reading
 reading p m = reading_in m p.stmts
 
@@ -28,6 +29,7 @@ places_of (Forks x first second) = first ∷ second ∷ []
 abbrev pub places : Pipe → Reading → List ℕ
 places p r = places_of (stage_at p r.stage).next
 
+-- the i-th of the places to which a thread that reads delayed goes on
 abbrev pub place_at : Pipe → Reading → ℕ → ℕ
 place_at p r i = slice_index (places p r) i
 
@@ -41,6 +43,7 @@ place_to (Forks x first second) env = if slice_index env x == 1 then 0 else 1
 abbrev pub IsTheReading : Pipe → Stmt → Type 0
 IsTheReading p x = on_delayed_read (λ y m a. reading p m ≡ Some (record { stage = x.stage; var = y })) ⊤ x.op
 
+-- a statement that reads at once reads a memory that answers at once
 abbrev pub ReadsAtOnce : Pipe → Op → Type 0
 ReadsAtOnce p (CombRead x m a) = (mem_at p m).delayed ≡ false
 ReadsAtOnce p (Bind x e) = ⊤

@@ -56,14 +56,17 @@ module _ (p : Pipe) (st : State) (bits : List Bool) (P : Act → Type 0) where
 
 -- LISTS
 
+-- pending writes that stand in the order of their threads stand in it
 pub same_order : (t : ℕ) (es : List Pending) → AreOrdered t es → AreOrdered t es
 same_order t [] h = tt
 same_order t (e ∷ es) h = (h.0, same_order (e.thread + 1) es h.1)
 
+-- the pending writes that are older than a thread are as many on both sides
 pub same_count : (t : ℕ) (es : List Pending) → count_older t es ≡ count_older t es
 same_count t [] = refl
 same_count t (e ∷ es) = ap (λ n. if nat_lt e.thread t then suc n else n) (same_count t es)
 
+-- the bit of a truth value is that of words
 pub same_bit : (b : Bool) → bit b ≡ Words.bit b
 same_bit true = refl
 same_bit false = refl
@@ -77,6 +80,7 @@ as_many m (r ∷ rs) = at (r.mem == m) (as_many m rs)
     at true h = ap suc h
     at false h = h
 
+-- the addresses that acts reserve of a memory are as many as their reservations of it
 pub same_reserved : (m : ℕ) (ms : List Act) → reserved_count m ms ≡ length (forget.addresses m ms)
 same_reserved m [] = refl
 same_reserved m (a ∷ ms) =

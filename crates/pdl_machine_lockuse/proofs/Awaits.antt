@@ -13,10 +13,10 @@ use Rattle.pdl_theory_simulation.proofs.FlowFacts.{Leads}
 use Rattle.pdl_theory_simulation.proofs.Stretches.{Fetched, AllFetched}
 use Rattle.pdl_theory_simulation.proofs.Seats.{Live}
 use Rattle.pdl_theory_simulation.proofs.Choices.{Seated}
-use Rattle.pdl_theory_states.proofs.Past.{AllOps, AnyOp, any_both, AskedBy}
+use Rattle.pdl_theory_states.proofs.PastStatements.{AllOps, AnyOp, any_both, AskedBy}
 use Rattle.pdl_theory_states.proofs.Trails.{AllStmts, ops_stmts}
-use Rattle.pdl_theory_states.proofs.Local.{past_of, any_of}
-use Rattle.pdl_theory_states.proofs.Lasting.{Lasting, Owns}
+use Rattle.pdl_theory_states.proofs.ThreadHistory.{past_of, any_of}
+use Rattle.pdl_theory_states.proofs.ThreadFacts.{Lasting, Owns}
 
 module _ (p : Pipe) (fetch : ℕ → ℕ) where
   -- EACH STATEMENT

@@ -14,14 +14,14 @@ use Rattle.pdl_theory_derived.specs.Derived.{Entry, Work, Around, has_entry, lat
 use Rattle.pdl_theory_derived.specs.Derived
 use Rattle.pdl_theory_derived.specs.Alone.{answered_op}
 use Rattle.pdl_theory_facts.specs.Scans.{no_guards, Phase, Fresh, Held, Written, Done, phase_all, Scan, no_scan, has_location, scan_after, scan_after_all, op_ok, reads_ok, none_of, location}
-use Rattle.pdl_theory_facts.specs.Certain.{Making, Unmade, next_making, making_all, is_guessed}
+use Rattle.pdl_theory_facts.specs.GuessScans.{Making, Unmade, next_making, making_all, is_guessed}
 use Rattle.pdl_theory_facts.specs.Facts.{Sound, looked_all}
 use Rattle.pdl_theory_derived.proofs.Writes.{and_left, and_right}
 use Rattle.pdl_theory_derived.proofs.Entries.{entries_of}
 use Rattle.pdl_theory_derived.proofs.Deeds.{places, places_has, work_of, AllFit, told_step}
 use Rattle.pdl_theory_turns.proofs.Paths.{Fixed, none_onpath}
-use Rattle.pdl_theory_turns.proofs.Alike.{Right, in_stage_all}
-use Rattle.pdl_theory_simulation.proofs.Joined.{sound_flows}
+use Rattle.pdl_theory_turns.proofs.Surroundings.{Right, in_stage_all}
+use Rattle.pdl_theory_simulation.proofs.AcceptedFacts.{sound_flows}
 use Rattle.pdl_theory_simulation.proofs.Shapes.{Shape, none_till, held_ops, held_path}
 use Rattle.pdl_theory_simulation.proofs.Stretches.{Keeps, start_deeds, fixed_here}
 use Rattle.pdl_theory_simulation.proofs.Seats.{Live, seat, threads_of, dacts, now_of, befores_are}
@@ -29,16 +29,16 @@ use Rattle.pdl_theory_simulation.proofs.Choices.{Known, keeps_now, fit_all}
 use Rattle.pdl_machine_facts.specs.Use.{before_stage, AreFine}
 use Rattle.pdl_machine_facts.proofs.UsingTurn.{IsAlong}
 use Rattle.pdl_theory_states.specs.Strict.{Strict}
-use Rattle.pdl_theory_states.proofs.Past.{AllOps, onto, Done as DoneOp, BlockOk, is_released}
+use Rattle.pdl_theory_states.proofs.PastStatements.{AllOps, onto, Done as DoneOp, BlockOk, is_released}
 use Rattle.pdl_theory_states.proofs.Trails.{AllStmts, stmts_ops, ops_stmts}
-use Rattle.pdl_theory_states.proofs.Local.{Local, past_of, local_answered, kept_unused}
+use Rattle.pdl_theory_states.proofs.ThreadHistory.{Local, past_of, local_answered, kept_unused}
 use Rattle.pdl_semantics.proofs.Readiness.{read_write}
 use Rattle.pdl_theory_states.proofs.Releases.{low_stages}
 use Rattle.pdl_theory_states.proofs.Stage.{look_at, kept_blocks, LowBlock, low_blocks}
-use Rattle.pdl_theory_states.proofs.Lasting.{Lasting, any_ask_map, awaited_map}
+use Rattle.pdl_theory_states.proofs.ThreadFacts.{Lasting, any_ask_map, awaited_map}
 use Rattle.pdl_machine_lockuse.specs.Careful.{Careful, reserves_at, keeps_kind, all_keep_kind, passes_on}
-use Rattle.pdl_machine_lockuse.proofs.Clean.{Covers, covers_op, count_mem, IsOnce}
-use Rattle.pdl_machine_lockuse.proofs.Fine.{Clean, values_long, fine_all}
+use Rattle.pdl_machine_lockuse.proofs.HeldLocations.{Covers, covers_op, count_mem, IsOnce}
+use Rattle.pdl_machine_lockuse.proofs.StageStatements.{Clean, values_long, fine_all}
 use Rattle.pdl_machine_lockuse.specs.Use.{AreLetIn}
 use Rattle.pdl_machine_lockuse.proofs.LetIn.{blocks_of, Let, let_all, let_start}
 use Rattle.pdl_machine_lockuse.proofs.Paths.{path, mine, passed, mine_new, mine_let_in, mine_reads, mine_uses, mine_makings, mine_early, passed_kinds, all_way, all_here}

@@ -11,16 +11,16 @@ use Rattle.pdl_rules.specs.Locks
 use Rattle.pdl_rules.specs.Locks.{same_location, Hold, Nothing, Reserved, Blocked, Released, after_place, hold_after, is_blocked, is_blocked_for}
 use Rattle.pdl_rules.specs.Typed.{is_named}
 use Rattle.pdl_rules.proofs.EachPlace.{Each, closing}
-use Rattle.pdl_rules.proofs.Once.{KeepsLocks}
+use Rattle.pdl_rules.proofs.SingleWrites.{KeepsLocks}
 use Rattle.pdl_theory_derived.specs.Alone.{answered_op}
 use Rattle.pdl_theory_facts.specs.Facts.{looked_all}
 use Rattle.pdl_source_stages.proofs.Sites.{Site, front_of, place_of, All}
 use Rattle.pdl_source_paths.proofs.Numbers.{var_stays}
-use Rattle.pdl_source_paths.proofs.Along.{ops_of, seen_ops, seen}
+use Rattle.pdl_source_paths.proofs.PathStatements.{ops_of, seen_ops, seen}
 use Rattle.pdl_source_paths.proofs.Growth.{Grown, Grows, grown_more, past_grown, vars_past}
 use Rattle.pdl_source_paths.proofs.ReadsKept.{held_more}
 use Rattle.pdl_source_paths.proofs.Variables.{IsNamed}
-use Rattle.pdl_theory_states.proofs.Past.{onto}
+use Rattle.pdl_theory_states.proofs.PastStatements.{onto}
 use Rattle.pdl_machine_lockuse.specs.Careful.{is_block_at, was_blocked, is_let_in, all_let_in}
 use Rattle.pdl_word.proofs.Bytes.{bytes_same}
 
@@ -45,6 +45,7 @@ lets_looked past past' f (x ∷ xs) =
 
 -- WHAT IS BLOCKED
 
+-- the name of one of the variables is one of theirs where more variables follow
 pub named_grown : (vs ws : List Var) (x : List ℕ) → Grown vs ws → is_named vs x ≡ true → is_named ws x ≡ true
 named_grown vs ws x g n = ap (λ l. is_named l x) g.1 ∙ list_any-append _ vs g.0 ∙ or_left (is_named vs x) _ n
 
@@ -119,6 +120,7 @@ module _ (ms : List Mem) where
 
 -- A PATH
 
+-- on sites of a path that keep the rules on locks each write's location was blocked before
 pub sites_let : (p : Pipe) (vs us : List Var) (before : List Place) (past : List Flat.Op) (ts : List Site) → Grows p.mems vs ts us
     → Each (KeepsLocks p) before (map place_of ts ++ closing p) → All (λ t. (l : Location) → location_of t.stmt ≡ Some l → IsNamed p.mems t.walk.vars l) ts
     →
@@ -177,5 +179,6 @@ mems_still l test (m ∷ ms) = at (test (Memory m)) ∙ mems_still l test ms
     at true = refl
     at false = refl
 
+-- before the statements of a source no location is blocked
 pub none_blocked : (p : Pipe) (test : Place → Bool) (l : Location) → is_blocked (hold_after l (filter test (front_of p))) ≡ false
 none_blocked p test l = ap is_blocked (params_still l test p.params (map Memory p.mems) ∙ mems_still l test p.mems)

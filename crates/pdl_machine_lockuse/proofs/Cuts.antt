@@ -27,10 +27,12 @@ order_put_all m t n (w ∷ ws) es o = order_put_all m t n ws (if w.mem == m then
     at true = order_put t n w.value es o
     at false = o
 
+-- pending writes stand in the order of their threads after the writes of a cycle
 pub order_filled : (m t : ℕ) (ms : List Act) (es : List Pending) → AreOrdered t es → AreOrdered t (with_all_writes m ms es)
 order_filled m t [] es o = o
 order_filled m t (a ∷ ms) es o = order_put_all m t a.thread.number a.does.writes (with_all_writes m ms es) (order_filled m t ms es o)
 
+-- pending writes stand in the order of their threads without the oldest
 pub order_behind : (t : ℕ) (es : List Pending) → AreOrdered t es → AreOrdered t (but_oldest es)
 order_behind t [] o = tt
 order_behind t (e ∷ es) o = order_low t (e.thread + 1) es (let i = o.0 in omega (arith, i)) o.1

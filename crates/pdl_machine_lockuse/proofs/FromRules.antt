@@ -17,27 +17,27 @@ use Rattle.pdl_rules.specs.Locks.{same_location, hold_after, reserves_location}
 use Rattle.pdl_rules.specs.Refusal.{KeepsRules}
 use Rattle.pdl_rules.specs.Widths.{variables, are_no_arguments, breaks_w5}
 use Rattle.pdl_rules.proofs.EachPlace.{Each, closing}
-use Rattle.pdl_rules.proofs.Once.{KeepsLocks, any_weaker, any_front, reserves_alike}
+use Rattle.pdl_rules.proofs.SingleWrites.{KeepsLocks, any_weaker, any_front, reserves_alike}
 use Rattle.pdl_theory_derived.specs.Alone.{answered_op}
 use Rattle.pdl_theory_derived.proofs.Writes.{and_left, and_right}
 use Rattle.pdl_theory_facts.specs.Scans.{none_of}
 use Rattle.pdl_theory_facts.specs.Facts.{looked_all}
 use Rattle.pdl_theory_turns.proofs.Looks.{path_looked}
 use Rattle.pdl_source_stages.proofs.Sites.{Site, sites_of, front_of, place_of, own, owns, All, stmts_are}
-use Rattle.pdl_source_stages.proofs.Standing.{all_map}
+use Rattle.pdl_source_stages.proofs.SiteStages.{all_map}
 use Rattle.pdl_source_paths.specs.Source.{is_source}
 use Rattle.pdl_source_paths.proofs.Choices.{path_of}
 use Rattle.pdl_source_paths.proofs.Numbers.{var_stays, var_same, mem_same}
-use Rattle.pdl_source_paths.proofs.Along.{ops_of, stmts_at, own_is, seen_ops, seen, on_sites, path_is}
+use Rattle.pdl_source_paths.proofs.PathStatements.{ops_of, stmts_at, own_is, seen_ops, seen, on_sites, path_is}
 use Rattle.pdl_source_paths.proofs.Growth.{Grown, Grows, grown_more, past_grown, vars_past, grows_all, grows_on}
 use Rattle.pdl_source_paths.proofs.ReadsKept.{open_reserved, reserved_open}
 use Rattle.pdl_source_paths.proofs.Variables.{Here, all_here, IsNamed, located}
 use Rattle.pdl_source_paths.proofs.Walk.{all_on, keeps_all, text_places}
-use Rattle.pdl_source_paths.proofs.Same.{value, all_alike}
+use Rattle.pdl_source_paths.proofs.FlatPaths.{value, all_alike}
 use Rattle.pdl_machine_lockuse.specs.Careful.{Careful, reserves_at, keeps_kind, all_keep_kind, all_let_in, passes_on}
 use Rattle.pdl_machine_lockuse.proofs.BlockedFirst.{named_grown, lets_looked, sites_let, none_blocked}
 use Rattle.pdl_word.proofs.Bytes.{bytes_refl}
-use Rattle.pdl_source_paths.proofs.Sited.{none_append}
+use Rattle.pdl_source_paths.proofs.SiteStages.{none_append}
 use Rattle.pdl_semantics.proofs.Facts.{all_vars}
 
 -- WHERE DELAYED READS ARE READS

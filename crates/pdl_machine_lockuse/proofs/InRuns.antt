@@ -10,7 +10,7 @@ use Rattle.pdl_machine_facts.specs.Cycle.{IsByStages}
 use Rattle.pdl_machine_facts.specs.Use.{IsInUse}
 use Rattle.pdl_theory_states.specs.Strict.{Strict}
 use Rattle.pdl_theory_states.specs.Use.{AllActs, ShiftsTail, ReleasesWritten}
-use Rattle.pdl_theory_states.proofs.Reached.{reached}
+use Rattle.pdl_theory_states.proofs.ReachedStates.{reached}
 use Rattle.pdl_machine_lockuse.specs.Careful.{Careful}
 use Rattle.pdl_machine_lockuse.specs.Use.{ReleasesOwn, ReleasesOlder, FindsAll, KeepsTail, LeavesTail, Cuts, IsSpared, WritesOnce, IsLet, AwaitsOlder}
 use Rattle.pdl_machine_lockuse.proofs.InUse.{by, spared, owns, written, older_released, awaits_released, tails, finds_all, tails_kept, tails_left, cuts, once, lets_in, in_use}

@@ -16,18 +16,18 @@ use Rattle.pdl_theory_derived.specs.Alone.{answered_op}
 use Rattle.pdl_theory_derived.proofs.Writes.{and_left, and_right}
 use Rattle.pdl_theory_derived.proofs.Entries.{entries_of}
 use Rattle.pdl_theory_derived.proofs.Lists.{pend}
-use Rattle.pdl_theory_turns.proofs.Own.{pend_own}
+use Rattle.pdl_theory_turns.proofs.OwnEntries.{pend_own}
 use Rattle.pdl_theory_turns.proofs.Looks.{path_looked}
-use Rattle.pdl_theory_simulation.proofs.Joined.{sound_flows}
+use Rattle.pdl_theory_simulation.proofs.AcceptedFacts.{sound_flows}
 use Rattle.pdl_theory_simulation.proofs.Shapes.{shape_over, over_early}
 use Rattle.pdl_theory_simulation.proofs.Stretches.{on_way}
 use Rattle.pdl_theory_simulation.proofs.Seats.{Live, find, pends, dacts, lact, lacts, did, deeds_of}
-use Rattle.pdl_theory_simulation.proofs.Telling.{Pair, pairs, EachPair, pair_map, pair_both}
+use Rattle.pdl_theory_simulation.proofs.ThreadFacts.{Pair, pairs, EachPair, pair_map, pair_both}
 use Rattle.pdl_theory_simulation.proofs.Choices.{Known, AllKnown, Seated}
-use Rattle.pdl_theory_simulation.proofs.Turned.{two, Agrees, unreleased}
-use Rattle.pdl_theory_simulation.proofs.Swapped.{Swaps, same_taken, same_squasher}
-use Rattle.pdl_theory_simulation.proofs.Together.{known, acts_are, fit}
-use Rattle.pdl_theory_simulation.proofs.Turned.{two_is}
+use Rattle.pdl_theory_simulation.proofs.LockLists.{two, Agrees, unreleased}
+use Rattle.pdl_theory_simulation.proofs.ActOrder.{Swaps, same_taken, same_squasher}
+use Rattle.pdl_theory_simulation.proofs.WholeSimulation.{known, acts_are, fit}
+use Rattle.pdl_theory_simulation.proofs.LockLists.{two_is}
 use Rattle.pdl_lockapi.specs.Forget as forget
 use Rattle.pdl_machine_facts.specs.Slots
 use Rattle.pdl_machine_facts.specs.Slots.{LeadsOn}
@@ -37,8 +37,8 @@ use Rattle.pdl_machine_facts.proofs.Stagewise.{by_stages}
 use Rattle.pdl_machine_facts.proofs.StagewisePorts.{stages_count}
 use Rattle.pdl_theory_states.specs.Strict.{Strict}
 use Rattle.pdl_theory_states.specs.Use.{AllActs, moving, with_new, with_values, with_release, bit, FindsOlder, KeepsPlace, ShiftsPlace, ShiftsTail}
-use Rattle.pdl_theory_states.proofs.Lasting.{Lasting, Along}
-use Rattle.pdl_theory_states.proofs.Reached.{Whole}
+use Rattle.pdl_theory_states.proofs.ThreadFacts.{Lasting, Along}
+use Rattle.pdl_theory_states.proofs.ReachedStates.{Whole}
 use Rattle.pdl_theory_states.proofs.PendingLists.{count_filled}
 use Rattle.pdl_theory_states.proofs.LockRelease.{some_pending, count_released}
 use Rattle.pdl_theory_states.proofs.LockUse.{all_each, with_new_is, releases_are, swaps, list_ordered, finds_older, reserves, places, shifts}
@@ -51,10 +51,10 @@ use Rattle.pdl_machine_lockuse.proofs.Owns.{contains_write, first_is, own_two, h
 use Rattle.pdl_machine_lockuse.proofs.Awaits.{still_early}
 use Rattle.pdl_machine_lockuse.proofs.Tails.{Bars, up_released, bars_commit, bars_verify, all_own, tail_kept}
 use Rattle.pdl_machine_lockuse.proofs.Cuts.{order_filled, order_behind, tail_left, front_left}
-use Rattle.pdl_theory_turns.proofs.Pending.{phase_append}
+use Rattle.pdl_theory_turns.proofs.UndoneWrites.{phase_append}
 use Rattle.pdl_semantics.specs.PendingLists.{AreOrdered, count_older}
 use Rattle.pdl_word.specs.Each.{Each}
-use Rattle.pdl_theory_simulation.proofs.Simulated.{Sim}
+use Rattle.pdl_theory_simulation.proofs.SimulatedStates.{Sim}
 
 -- STAGES
 

@@ -11,24 +11,25 @@ use Rattle.pdl_theory_derived.specs.Alone.{Location, answered_op}
 use Rattle.pdl_theory_facts.specs.Scans.{no_guards, Scan, is_address, has_location, scan_after, op_ok, reads_ok, location}
 use Rattle.pdl_theory_facts.specs.Facts.{looked_all, mentions_var}
 use Rattle.pdl_theory_derived.proofs.Writes.{and_left, and_right}
-use Rattle.pdl_theory_turns.proofs.Alike.{Right, AllIn, right_set}
+use Rattle.pdl_theory_turns.proofs.Surroundings.{Right, AllIn, right_set}
 use Rattle.pdl_machine_facts.specs.Slots.{locks_ready}
 use Rattle.pdl_machine_facts.specs.Use.{in_time, is_early}
 use Rattle.pdl_machine_facts.proofs.UsingTurn.{IsAlong}
 use Rattle.pdl_theory_states.specs.Strict.{bound_by, uses_own, is_mentioned, is_new, all_new}
-use Rattle.pdl_theory_states.proofs.Past.{AllOps, BlockOk, is_released}
+use Rattle.pdl_theory_states.proofs.PastStatements.{AllOps, BlockOk, is_released}
 use Rattle.pdl_semantics.proofs.Readiness.{read_write}
 use Rattle.pdl_theory_states.proofs.Stage.{LowBlock}
 use Rattle.pdl_machine_lockuse.specs.Careful.{is_block_at, was_blocked, is_let_in, all_let_in}
 use Rattle.pdl_machine_lockuse.specs.Use.{IsLetIn, AreLetIn}
-use Rattle.pdl_machine_lockuse.proofs.Clean.{right_at, Covers, covers_op, held_does}
-use Rattle.pdl_machine_lockuse.proofs.Fine.{RightIf, all_last, read_here, right_next}
+use Rattle.pdl_machine_lockuse.proofs.HeldLocations.{right_at, Covers, covers_op, held_does}
+use Rattle.pdl_machine_lockuse.proofs.StageStatements.{RightIf, all_last, read_here, right_next}
 
 -- the locations that these statements blocked
 abbrev pub block_of : Op → List Location → List Location
 block_of (Block m a) ls = location m a ∷ ls
 block_of _ ls = ls
 
+-- the locations that these statements blocked, the last first
 abbrev pub blocks_of : List Op → List Location
 blocks_of [] = []
 blocks_of (op ∷ past) = block_of op (blocks_of past)

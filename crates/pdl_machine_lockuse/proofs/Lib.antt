@@ -1,11 +1,11 @@
 pub mod Acts
 pub mod Paths
-pub mod Clean
-pub mod Fine
+pub mod HeldLocations
+pub mod StageStatements
 pub mod LetIn
 pub mod Begins
 pub mod OwnWrite
-pub mod Certain
+pub mod ReleaseBarriers
 pub mod Tails
 pub mod Owns
 pub mod Cuts
@@ -14,7 +14,7 @@ pub mod InUse
 pub mod InRuns
 pub mod BlockedFirst
 pub mod FromRules
-pub mod Tried
+pub mod CarefulTest
 mod Examples
 pub mod Slotwise
-pub mod Timely
+pub mod ReleaseOrder

@@ -16,9 +16,9 @@ use Rattle.pdl_theory_derived.proofs.Entries.{entry}
 use Rattle.pdl_theory_derived.proofs.Deeds.{places, places_has, work_of, AllFit, told_step}
 use Rattle.pdl_theory_derived.proofs.Lists.{own, pend}
 use Rattle.pdl_theory_turns.proofs.Steps.{Gone, Staged, Here, step_write, step_reserve, step_release, new_more}
-use Rattle.pdl_theory_turns.proofs.Alike.{AllIn, in_stage_all}
+use Rattle.pdl_theory_turns.proofs.Surroundings.{AllIn, in_stage_all}
 use Rattle.pdl_theory_simulation.proofs.FlowFacts.{use_ok, uses_ok}
-use Rattle.pdl_theory_simulation.proofs.Joined.{sound_flows}
+use Rattle.pdl_theory_simulation.proofs.AcceptedFacts.{sound_flows}
 use Rattle.pdl_theory_simulation.proofs.Shapes.{shape_start}
 use Rattle.pdl_theory_simulation.proofs.Stretches.{Keeps, keeps_next}
 use Rattle.pdl_theory_simulation.proofs.Seats.{Live, dacts, now_of, work_of_live, deeds_of}
@@ -29,7 +29,7 @@ use Rattle.pdl_theory_states.specs.Strict.{Strict}
 use Rattle.pdl_machine_lockuse.specs.Use.{written_in, is_open}
 use Rattle.pdl_machine_lockuse.proofs.Paths.{path, mine, passed, mine_uses, mine_early}
 use Rattle.pdl_machine_lockuse.proofs.Begins.{begun, begun_is, along_here}
-use Rattle.pdl_theory_states.proofs.Local.{any_front}
+use Rattle.pdl_theory_states.proofs.ThreadHistory.{any_front}
 
 -- LISTS
 

@@ -10,19 +10,19 @@ use Rattle.pdl_semantics.specs.Cycle.{with_reserves, new_entries, oldest, but_ol
 use Rattle.pdl_theory_derived.specs.Derived
 use Rattle.pdl_theory_facts.specs.Facts.{Sound}
 use Rattle.pdl_theory_derived.proofs.Lists.{pend}
-use Rattle.pdl_theory_turns.proofs.Own.{Worked, pend_own}
-use Rattle.pdl_theory_simulation.proofs.Joined.{sound_flows}
+use Rattle.pdl_theory_turns.proofs.OwnEntries.{Worked, pend_own}
+use Rattle.pdl_theory_simulation.proofs.AcceptedFacts.{sound_flows}
 use Rattle.pdl_theory_simulation.proofs.Stretches.{late}
 use Rattle.pdl_theory_simulation.proofs.Seats.{Live, each_map, Ordered, pends, lact, lacts, did, deeds_of, work_of_live}
-use Rattle.pdl_theory_simulation.proofs.Telling.{Pair, pairs, EachPair, pair_map}
+use Rattle.pdl_theory_simulation.proofs.ThreadFacts.{Pair, pairs, EachPair, pair_map}
 use Rattle.pdl_theory_simulation.proofs.Choices.{AllKnown, Seated, worked_here, late_here}
-use Rattle.pdl_theory_simulation.proofs.Turned.{part, two, release_here, next_up}
+use Rattle.pdl_theory_simulation.proofs.LockLists.{part, two, release_here, next_up}
 use Rattle.pdl_lockapi.specs.Forget.{has_thread}
 use Rattle.pdl_machine_facts.proofs.UsingTurn.{writes_to}
 use Rattle.pdl_theory_states.proofs.LockCycle.{appended_more}
 use Rattle.pdl_machine_lockuse.specs.Use.{Own, is_open}
 use Rattle.pdl_machine_lockuse.proofs.OwnWrite.{used_here}
-use Rattle.pdl_theory_states.proofs.Local.{any_append, any_front}
+use Rattle.pdl_theory_states.proofs.ThreadHistory.{any_append, any_front}
 use Rattle.pdl_word.specs.Each.{Each}
 
 -- a write among others

@@ -9,30 +9,30 @@ use Rattle.pdl_theory_derived.specs.Derived
 use Rattle.pdl_theory_derived.specs.Derived.{Around, around}
 use Rattle.pdl_theory_derived.specs.Alone.{answered_op}
 use Rattle.pdl_theory_facts.specs.Scans.{no_guards, is_plain, Phase, Fresh, Written, next_phase, phase_all, is_over, Scan, no_scan, has_location, is_address, scan_after, scan_after_all, op_ok, reads_ok, none_of}
-use Rattle.pdl_theory_facts.specs.Certain.{Unmade, making_all, makings_ok}
+use Rattle.pdl_theory_facts.specs.GuessScans.{Unmade, making_all, makings_ok}
 use Rattle.pdl_theory_facts.specs.Facts.{Sound, looked_all, at_once}
 use Rattle.pdl_theory_facts.specs.Accepted.{along}
 use Rattle.pdl_theory_derived.proofs.Writes.{and_left, and_right}
 use Rattle.pdl_theory_turns.proofs.Looks.{path_looked}
 use Rattle.pdl_theory_turns.proofs.Turn.{none_in_stage, none_from}
 use Rattle.pdl_theory_simulation.proofs.FlowFacts.{uses_ok, next_of}
-use Rattle.pdl_theory_simulation.proofs.Joined.{sound_flows}
+use Rattle.pdl_theory_simulation.proofs.AcceptedFacts.{sound_flows}
 use Rattle.pdl_theory_simulation.proofs.Shapes.{uses_front, uses_back, over_early}
 use Rattle.pdl_theory_simulation.proofs.Stretches.{Keeps, on_way, way_next}
 use Rattle.pdl_theory_simulation.proofs.Seats.{Live, dacts, now_of, work_of_live}
 use Rattle.pdl_theory_simulation.proofs.Choices.{Known, keeps_now}
-use Rattle.pdl_theory_simulation.proofs.Turned.{next_up}
+use Rattle.pdl_theory_simulation.proofs.LockLists.{next_up}
 use Rattle.pdl_machine_facts.specs.Use.{in_time, is_early}
 use Rattle.pdl_theory_states.specs.Strict.{Strict, all_new, lets_go, all_let_go}
-use Rattle.pdl_theory_states.proofs.Past.{onto, all_new_append, all_new_front}
+use Rattle.pdl_theory_states.proofs.PastStatements.{onto, all_new_append, all_new_front}
 use Rattle.pdl_theory_states.proofs.Trails.{AllStmts, stage_stmts}
 use Rattle.pdl_theory_states.proofs.Stage.{way_looked}
 use Rattle.pdl_machine_lockuse.specs.Careful.{Careful, reserves_at, keeps_kind, all_keep_kind, is_let_in, all_let_in}
 use Rattle.pdl_theory_states.proofs.StillLooks.{let_go_behind}
 use Rattle.pdl_theory_turns.proofs.Roams.{looked_append}
 use Rattle.pdl_theory_turns.proofs.Guesses.{makings_first, makings_second}
-use Rattle.pdl_theory_turns.proofs.Own.{none_first}
-use Rattle.pdl_theory_turns.proofs.Pending.{phase_append}
+use Rattle.pdl_theory_turns.proofs.OwnEntries.{none_first}
+use Rattle.pdl_theory_turns.proofs.UndoneWrites.{phase_append}
 use Rattle.pdl_theory_turns.proofs.Paths.{none_onpath}
 
 -- PARTS OF A LIST OF STATEMENTS
@@ -223,6 +223,7 @@ all_way test path s (x ∷ xs) h = at (nat_lt x.stage s) (all_hold x.guards path
         ∙ r
     at false c e r = r
 
+-- what holds of each statement of the text holds of those of a stage on a path
 pub all_here : (test : Op → Bool) (path : List ℕ) (s : ℕ) (xs : List Stmt) → list_all (λ (x : Stmt). test x.op) xs ≡ true
     → list_all (λ (x : Stmt). test x.op) (onpath path (in_stage s xs)) ≡ true
 all_here test path s [] h = refl

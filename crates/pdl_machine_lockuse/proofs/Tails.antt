@@ -9,18 +9,18 @@ use Rattle.pdl_theory_derived.specs.Derived
 use Rattle.pdl_theory_facts.specs.Facts.{Sound}
 use Rattle.pdl_theory_turns.proofs.CourseOf
 use Rattle.pdl_theory_derived.proofs.Lists.{pend}
-use Rattle.pdl_theory_simulation.proofs.Joined.{sound_flows}
+use Rattle.pdl_theory_simulation.proofs.AcceptedFacts.{sound_flows}
 use Rattle.pdl_theory_simulation.proofs.Stretches.{Behind}
 use Rattle.pdl_theory_simulation.proofs.Seats.{Live, Falls, falls_each, Ordered, pends, lact, lacts, did, deeds_of}
-use Rattle.pdl_theory_simulation.proofs.Telling.{Pair, pairs, EachPair, pair_map, pair_both, pairs_each}
+use Rattle.pdl_theory_simulation.proofs.ThreadFacts.{Pair, pairs, EachPair, pair_map, pair_both, pairs_each}
 use Rattle.pdl_theory_simulation.proofs.Choices.{Seated, AllKnown}
-use Rattle.pdl_theory_simulation.proofs.Turned.{release_here}
-use Rattle.pdl_theory_states.proofs.Lasting.{Lasting, Along}
+use Rattle.pdl_theory_simulation.proofs.LockLists.{release_here}
+use Rattle.pdl_theory_states.proofs.ThreadFacts.{Lasting, Along}
 use Rattle.pdl_theory_states.proofs.PendingLists.{within_count}
 use Rattle.pdl_theory_states.proofs.LockCycle.{NoOlder, movers_no_older, count_appended, quiet_new, past_new, older_past, within_new, appended_more}
 use Rattle.pdl_theory_states.proofs.OwnWrites.{none_pending}
 use Rattle.pdl_theory_states.proofs.LockRelease.{some_pending, first_low}
-use Rattle.pdl_machine_lockuse.proofs.Certain.{certain_here}
+use Rattle.pdl_machine_lockuse.proofs.ReleaseBarriers.{certain_here}
 use Rattle.pdl_semantics.specs.PendingLists.{count_older}
 use Rattle.pdl_word.specs.Each.{Each}
 

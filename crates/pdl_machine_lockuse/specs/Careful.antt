@@ -37,6 +37,7 @@ keeps_kind (Verify _) ys = true
 keeps_kind SpecCheck ys = true
 keeps_kind SpecBarrier ys = true
 
+-- after each block of these statements its location is not reserved for writing
 abbrev pub all_keep_kind : List Stmt → Bool
 all_keep_kind [] = true
 all_keep_kind (y ∷ ys) = keeps_kind y.op ys && all_keep_kind ys
@@ -57,10 +58,12 @@ is_block_at m a (Verify _) = false
 is_block_at m a SpecCheck = false
 is_block_at m a SpecBarrier = false
 
+-- whether one of the earlier statements blocked this location
 abbrev pub was_blocked : ℕ → ℕ → List Op → Bool
 was_blocked m a [] = false
 was_blocked m a (op ∷ past) = is_block_at m a op || was_blocked m a past
 
+-- the location of a write was blocked by one of the earlier statements
 abbrev pub is_let_in : Op → List Op → Bool
 is_let_in (Bind _ _) past = true
 is_let_in (CombRead _ _ _) past = true
@@ -76,6 +79,7 @@ is_let_in (Verify _) past = true
 is_let_in SpecCheck past = true
 is_let_in SpecBarrier past = true
 
+-- the location of each write of these statements was blocked before it
 abbrev pub all_let_in : List Op → List Stmt → Bool
 all_let_in past [] = true
 all_let_in past (y ∷ ys) = is_let_in y.op past && all_let_in (y.op ∷ past) ys

@@ -10,5 +10,6 @@ use Rattle.pdl_theory_states.specs.Use.{AllActs}
 abbrev pub InEachCycle : Pipe → (State → List Bool → Type 0) → Type 0
 InEachCycle p P = (image : Arrays) (before : List (List Bool)) (bits : List Bool) → P (state_after p (first p image) before) bits
 
+-- of each act in each cycle of each run
 abbrev pub OfEachAct : Pipe → (State → List Bool → Act → Type 0) → Type 0
 OfEachAct p P = InEachCycle p (λ st bits. AllActs (P st bits) (all_acts p st bits))

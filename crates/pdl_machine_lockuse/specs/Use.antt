@@ -24,6 +24,7 @@ pub record Own (thread : ℕ) (list : List Pending) : Type 0 where
   pub rest : List Pending
   pub is : list ≡ record { thread = thread; address = address; value = Some value } ∷ rest
 
+-- what a thread that moves releases is its own pending write, the oldest, which has its value
 abbrev pub ReleasesOwn : Pipe → State → List Bool → ℕ → Act → Type 0
 ReleasesOwn p st bits m a = a.moves ≡ true → list_any (λ n. n == m) a.does.releases ≡ true → Own a.thread.number (with_values p st bits m)
 
@@ -61,6 +62,7 @@ AreLetIn p st thread (x ∷ xs) d =
     (all_hold x.guards d.env ≡ true → locks_ready p st thread d ≡ true → IsLetIn p st thread x.op d)
     × AreLetIn p st thread xs (if all_hold x.guards d.env then deeds_after (word_for st thread) x.op d else d)
 
+-- each read and each write of the thread's stage finds the block of its location ready
 abbrev pub IsLet : Pipe → State → Act → Type 0
 IsLet p st a = AreLetIn p st a.thread.number (in_stage a.stage p.stmts) (before_stage p a.stage a.thread)
 
@@ -69,6 +71,7 @@ abbrev pub written_in : ℕ → List Written → ℕ
 written_in m [] = 0
 written_in m (w ∷ ws) = if w.mem == m then suc (written_in m ws) else written_in m ws
 
+-- whether a thread has a pending write without value
 abbrev pub is_open : ℕ → List Pending → Bool
 is_open thread es = list_any (λ (e : Pending). (e.thread == thread) && is_none e.value) es
 
@@ -119,6 +122,7 @@ LeavesTail p st bits m a =
     is_kept (squasher (moving p st bits)) a.thread.number ≡ true
     → count_older (suc a.thread.number) (entries_left (squasher (moving p st bits)) (with_release p st bits m)) ≡ count_older (suc a.thread.number) (with_release p st bits m)
 
+-- a squash leaves of a memory's pending writes a front, those of the squasher and of older threads
 abbrev pub Cuts : Pipe → State → List Bool → ℕ → Type 0
 Cuts p st bits m =
     (thread : ℕ) → squasher (moving p st bits) ≡ Some thread

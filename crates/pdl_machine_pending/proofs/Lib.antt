@@ -1,3 +1,3 @@
 pub mod Sweeps
-pub mod Keeping
+pub mod WordBounds
 mod Dropping

@@ -1,3 +1,3 @@
 pub mod View
 pub mod Memory
-pub mod Kept
+pub mod KeptWords

@@ -8,6 +8,7 @@ use Rattle.pdl_machine_pending.specs.declared.pending.Written as r_written
 use Rattle.pdl_machine_pending.specs.declared.latest.Latest as r_latest
 use Rattle.pdl_machine_pending.specs.declared.latest.Latest.TheVariants as r_latests
 
+-- the pending write that an entry stands for
 abbrev pub pending_view : r_pending.Pending → Pending
 pending_view e = record { thread = e.thread; address = e.address; value = e.value }
 
@@ -16,12 +17,15 @@ abbrev pub entry_view : Option r_pending.Pending → Option Pending
 entry_view None = None
 entry_view (Some e) = Some (pending_view e)
 
+-- a reservation: the memory and the address
 abbrev pub reserved_view : r_reserved.Reserved → Reserved
 reserved_view r = record { mem = r.mem; address = r.address }
 
+-- a write: the memory and the value
 abbrev pub written_view : r_written.Written → Written
 written_view w = record { mem = w.mem; value = w.value }
 
+-- what the pending writes of older threads say of an address
 abbrev pub latest_view : r_latest.Latest → locks.Latest
 latest_view r_latests.Nothing = locks.Nothing
 latest_view r_latests.Coming = locks.Coming

@@ -10,10 +10,10 @@ use Rattle.pdl_semantics.specs.Moves.{Act}
 use Rattle.pdl_semantics.specs.Cycle.{list_three, taken_out, port_write, with_commit, with_commits, entries_left, for_mems}
 use Rattle.pdl_machine_facts.specs.Ports.{commit_values, all_commit_values}
 use Rattle.pdl_machine_pending.specs.Memory.{Memory, committed_to}
-use Rattle.pdl_machine_run.specs.Doing.{memory_at}
+use Rattle.pdl_machine_run.specs.StageDeeds.{memory_at}
 use Rattle.pdl_machine_run.specs.Outside.{arrays_in}
 use Rattle.pdl_machine_run.specs.Acts.{left_of, out_of, memories_after, commits_shown}
-use Rattle.pdl_machine_run.proofs.Carrying.{word_listed}
+use Rattle.pdl_machine_run.proofs.CarriedDeeds.{word_listed}
 use Rattle.pdl_word.proofs.Numbers.{eqb_self}
 
 module _ (st : State) (ms : List Act) where
@@ -121,5 +121,6 @@ module _ (st : State) (ms : List Act) where
       ∙ w (suc j) b)
       k.1 i a
 
+-- arrays whose words are those of these memories are their arrays
 pub arrays_listed : (arrays : Arrays) (xs : List Memory) → ((m a : ℕ) → arrays m a ≡ slice_index (memory_at xs m).words a) → arrays ≡ arrays_in xs
 arrays_listed arrays xs h = fun_ext (λ m. fun_ext (λ a. h m a ∙ sym (word_listed xs m a)))

@@ -13,13 +13,13 @@ use Rattle.pdl_machine_facts.specs.Use.{IsInUse}
 use Rattle.pdl_machine_facts.proofs.StagewisePorts.{at_stage}
 use Rattle.pdl_form.specs.Form.{Form}
 use Rattle.pdl_machine_pending.specs.Memory.{Memory}
-use Rattle.pdl_machine_pending.specs.Kept.{IsKept}
+use Rattle.pdl_machine_pending.specs.KeptWords.{IsKept}
 use Rattle.pdl_machine_run.specs.declared.stage.Stage as r_stage
 use Rattle.pdl_machine_run.specs.declared.beside.Beside as r_beside
 use Rattle.pdl_machine_run.specs.declared.beside.Order as r_order
 use Rattle.pdl_machine_run.specs.View.{seats, thread_in}
 use Rattle.pdl_machine_run.specs.Outside.{state_of, outside}
-use Rattle.pdl_machine_run.specs.Doing.{memory_at}
+use Rattle.pdl_machine_run.specs.StageDeeds.{memory_at}
 use Rattle.pdl_machine_run.specs.Acts.{acts_of, IsCarried, AreDecided, both, left_of, memory_after, memories_after}
 use Rattle.pdl_machine_run.specs.Orders.{order_after}
 use Rattle.pdl_machine_run.specs.Ready.{CanStep, AllCanStep}
@@ -28,18 +28,16 @@ use Rattle.pdl_machine_run.specs.Running.{IsRunnable, IsReached, IsBeside, AreRo
 use Rattle.pdl_machine_run.proofs.Memories.{Within}
 use Rattle.pdl_lockapi.proofs.LockKinds.{room_size}
 use Rattle.pdl_lockapi.proofs.Lengths.{appended_long}
-use Rattle.pdl_machine_run.proofs.Carrying.{lock_listed}
-use Rattle.pdl_machine_run.proofs.Keeping.{AllActed, all_acted, acts_sized, kept_both, oldest_within, kept_after, left_count, entries_few, room_acts, HasRoom, AllSized}
-use Rattle.pdl_machine_run.proofs.Cycling.{movers_known, cycle_is}
+use Rattle.pdl_machine_run.proofs.CarriedDeeds.{lock_listed}
+use Rattle.pdl_machine_run.proofs.ActedThreads.{AllActed, all_acted, acts_sized, kept_both, oldest_within, kept_after, left_count, entries_few, room_acts, HasRoom, AllSized}
+use Rattle.pdl_machine_run.proofs.MachineCycles.{movers_known, cycle_is}
+use Rattle.pdl_semantics.proofs.Facts.{after_more}
 
 -- RUNS
 
-pub reached_more : (p : Pipe) (st : State) (before : List (List Bool)) (bits : List Bool) → state_after p st (before ++ bits ∷ []) ≡ cycle p (state_after p st before) bits
-reached_more p st [] bits = refl
-reached_more p st (b ∷ before) bits = reached_more p (cycle p st b) before bits
-
+-- the state after a cycle is reached where the state before it is
 pub reached_next : (p : Pipe) (st : State) (bits : List Bool) → IsReached p st → IsReached p (cycle p st bits)
-reached_next p st bits r = (r.0, r.1 ++ bits ∷ [], ap (λ (s : State). cycle p s bits) r.2 ∙ sym (reached_more p (first p r.0) r.1 bits))
+reached_next p st bits r = (r.0, r.1 ++ bits ∷ [], ap (λ (s : State). cycle p s bits) r.2 ∙ sym (after_more p (first p r.0) r.1 bits))
 
 module _ (f : Form) (run : IsRunnable f) (st : State) (bits : List Bool) (r : IsReached f.pipe st) where
   pub by_run : IsByStages f.pipe st bits
@@ -53,13 +51,14 @@ module _ (f : Form) (run : IsRunnable f) (st : State) (bits : List Bool) (r : Is
 
 -- MEMORIES AFTER A CYCLE
 
-pub after_at : (ms : List Act) (sq : Option ℕ) (k m : ℕ) (xs : List Memory) → m < length xs → memory_at (memories_after k ms sq xs) m ≡ memory_after (k + m) ms sq (memory_at xs m)
+after_at : (ms : List Act) (sq : Option ℕ) (k m : ℕ) (xs : List Memory) → m < length xs → memory_at (memories_after k ms sq xs) m ≡ memory_after (k + m) ms sq (memory_at xs m)
 after_at ms sq k m [] less = absurd (omega arith)
 after_at ms sq k zero (x ∷ xs) less = let same : k ≡ k + 0 = omega arith in ap (λ i. memory_after i ms sq x) same
 after_at ms sq k (suc m) (x ∷ xs) less =
     let same : suc k + m ≡ k + suc m = omega arith in
     after_at ms sq (suc k) m xs (omega arith) ∙ ap (λ i. memory_after i ms sq (memory_at xs m)) same
 
+-- there are as many memories after a cycle as before it
 pub after_length : (ms : List Act) (sq : Option ℕ) (k : ℕ) (xs : List Memory) → length (memories_after k ms sq xs) ≡ length xs
 after_length ms sq k [] = refl
 after_length ms sq k (x ∷ xs) = ap suc (after_length ms sq (suc k) xs)

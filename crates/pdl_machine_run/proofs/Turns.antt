@@ -24,8 +24,8 @@ use Rattle.pdl_machine_run.specs.Orders.{order_after, orders_after}
 use Rattle.pdl_machine_run.specs.Requests.{requests_after, requests_shown}
 use Rattle.pdl_machine_run.specs.Ready.{IsWide, IsStage, AreStages, AreOrders, AllCanStep, HasAwaits}
 use Rattle.pdl_machine_run.specs.Running.{IsRunnable, IsReached, IsBeside, AreRoomy, AreReady}
-use Rattle.pdl_machine_run.proofs.Cycling.{next_state, next_ports}
-use Rattle.pdl_machine_run.proofs.Lasting.{born_fine, args_room, child_fits, stage_fine, awaits_room}
+use Rattle.pdl_machine_run.proofs.MachineCycles.{next_state, next_ports}
+use Rattle.pdl_machine_run.proofs.ThreadInvariants.{born_fine, args_room, child_fits, stage_fine, awaits_room}
 use Rattle.pdl_machine_run.proofs.Roomy.{acted, can_step, within, roomy_after, orders_room}
 
 -- stages with the threads of these, which have acted and of which it is decided who moves
@@ -53,6 +53,7 @@ same_stage f x z e g h =
 same_at : {Y : Type 0} (view : r_stage.Stage → Y) (xs zs : List r_stage.Stage) → map view zs ≡ map view xs → (i : ℕ) (d : r_stage.Stage) → view (get_or zs i d) ≡ view (get_or xs i d)
 same_at {Y} view xs zs e i d = sym (get_or-map view zs i d) ∙ ap (λ (l : List Y). get_or l i (view d)) e ∙ get_or-map view xs i d
 
+-- a turn of ready stages: their threads are carried on, and it is decided who moves
 pub turn_of : (f : Form) → IsRunnable f → (b : r_beside.Beside) (bits : List Bool) (next : ℕ) (ys xs zs : List r_stage.Stage) → AreReady f ys → IsBeside f.pipe b → IsReached f.pipe (state_of (seats ys) b next)
     → length xs ≡ length ys → length zs ≡ length xs → ((i : ℕ) (d : r_stage.Stage) → i < length ys → IsCarried f b bits i (thread_in (get_or ys i d).slot) (get_or xs i d)) → AreStages f xs
     → map (λ (x : r_stage.Stage). x.slot) zs ≡ map (λ (x : r_stage.Stage). x.slot) xs → map (λ (x : r_stage.Stage). x.deeds) zs ≡ map (λ (x : r_stage.Stage). x.deeds) xs → AreDecided f.pipe b bits 0 zs → Turn f b bits next ys zs
@@ -92,7 +93,7 @@ module _ (f : Form) (b : r_beside.Beside) (bits : List Bool) (next : ℕ) (ys zs
   pub turn_orders : (sq : Option ℕ) → sq ≡ squasher ms → (i : ℕ) (d : r_order.Order) → i < length b.orders.items → length (order_after p ms (is_some sq) i (get_or b.orders.items i d).branches.items) ≤ vec_capacity (get_or b.orders.items i d).branches
   turn_orders sq e = orders_room f t.run b bits next ys zs t.beside t.count t.long t.carried t.decided t.reached sq e
 
-  turn_acted : Rattle.pdl_machine_run.proofs.Keeping.AllActed f zs
+  turn_acted : Rattle.pdl_machine_run.proofs.ActedThreads.AllActed f zs
   turn_acted = acted f t.run b bits next ys zs t.beside t.count t.long t.carried t.decided t.reached
 
   pub turn_child : (way : r_slot.Slot) → IsWide f way → IfSome (child_of ms) (λ args. length args ≤ length way.values.items)

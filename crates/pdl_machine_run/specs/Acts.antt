@@ -13,7 +13,7 @@ use Rattle.pdl_machine_run.specs.declared.stage.Stage as r_stage
 use Rattle.pdl_machine_run.specs.declared.beside.Beside as r_beside
 use Rattle.pdl_machine_run.specs.View.{deeds_view, thread_of, thread_in}
 use Rattle.pdl_machine_run.specs.Outside.{outside}
-use Rattle.pdl_machine_run.specs.Doing.{memory_at, latest_in}
+use Rattle.pdl_machine_run.specs.StageDeeds.{memory_at, latest_in}
 use Rattle.pdl_machine_run.specs.Typed.{IsFine, AreFit}
 
 -- ACTS
@@ -37,6 +37,7 @@ abbrev pub act_of : ℕ → Option ℕ → r_stage.Stage → List Act
 act_of k None x = []
 act_of k (Some number) x = record { stage = k; thread = thread_of number x.slot; does = deeds_view x.deeds; moves = true } ∷ []
 
+-- the acts of those who move out of these stages, of which the first is k
 abbrev pub acts_of : ℕ → List r_stage.Stage → List Act
 acts_of k [] = []
 acts_of k (x ∷ xs) = act_of k (mover_of x) x ++ acts_of (suc k) xs
@@ -45,6 +46,7 @@ acts_of k (x ∷ xs) = act_of k (mover_of x) x ++ acts_of (suc k) xs
 abbrev pub are_held : List r_stage.Stage → List Bool
 are_held xs = map (λ (x : r_stage.Stage). is_some x.slot.number) xs
 
+-- of each stage whether its thread moves
 abbrev pub are_moving : List r_stage.Stage → List Bool
 are_moving xs = map (λ (x : r_stage.Stage). x.moves) xs
 
@@ -68,6 +70,7 @@ block_in xs thread b =
     then write_ready (memory_at xs b.mem).lock (latest_in xs thread b.mem b.address)
     else read_ready (memory_at xs b.mem).lock (latest_in xs thread b.mem b.address)
 
+-- whether a memory has room for a reservation
 abbrev pub is_roomy : List Memory → ℕ → Bool
 is_roomy xs m = has_room (memory_at xs m).lock (length (memory_at xs m).pending)
 
@@ -80,6 +83,7 @@ abbrev pub passes_beside : Pipe → State → ℕ → Thread → Deeds → Bool
 passes_beside p st k t d =
     (blocks_ready p st t.number d && have_room p st d) && (is_empty t.awaits && merges_well p st k (next_stage p k d))
 
+-- whether the threads in later stages let the thread in stage k move
 abbrev pub passes_later : Pipe → State → List Bool → List Act → ℕ → Deeds → Bool
 passes_later p st bits later k d =
     no_failure later && (ports_free p st bits later d && (barrier_clear p later d && can_enter (next_stage p k d) later))
@@ -106,15 +110,19 @@ one_ends p ms = list_any (λ (a : Act). is_none (next_stage p a.stage a.does)) m
 abbrev pub both : ℕ → List Act → List Pending → List Pending
 both m ms list = with_all_writes m ms (with_reserves m ms list)
 
+-- the pending writes of memory m that are left after these acts and their release
 abbrev pub left_of : ℕ → List Act → List Pending → List Pending
 left_of m ms list = if has_release m ms then but_oldest (both m ms list) else both m ms list
 
+-- the pending write of memory m that these acts release
 abbrev pub out_of : ℕ → List Act → List Pending → Option Pending
 out_of m ms list = if has_release m ms then oldest (both m ms list) else None
 
+-- memory m after these acts and a squash
 abbrev pub memory_after : ℕ → List Act → Option ℕ → Memory → Memory
 memory_after m ms sq x = record x { words = committed_to x.words (out_of m ms x.pending); pending = entries_left sq (left_of m ms x.pending) }
 
+-- the memories from m on after these acts and a squash
 abbrev pub memories_after : ℕ → List Act → Option ℕ → List Memory → List Memory
 memories_after m ms sq [] = []
 memories_after m ms sq (x ∷ xs) = memory_after m ms sq x ∷ memories_after (suc m) ms sq xs

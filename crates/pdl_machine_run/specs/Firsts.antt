@@ -6,7 +6,7 @@ use Rattle.pdl_semantics.specs.Machine.{Thread, NoRequest}
 use Rattle.pdl_semantics.specs.Cycle.{born_thread}
 use Rattle.pdl_machine_run.specs.declared.beside.Beside as r_beside
 use Rattle.pdl_machine_run.specs.View.{request_view, order_views}
-use Rattle.pdl_machine_run.specs.Doing.{memory_at}
+use Rattle.pdl_machine_run.specs.StageDeeds.{memory_at}
 use Rattle.pdl_machine_run.specs.Ready.{AreOrders}
 use Rattle.pdl_machine_run.specs.Running.{IsFirst}
 

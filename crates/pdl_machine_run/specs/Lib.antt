@@ -1,7 +1,7 @@
 pub mod View
 pub mod Places
 pub mod Room
-pub mod Doing
+pub mod StageDeeds
 pub mod Outside
 pub mod Typed
 pub mod Acts

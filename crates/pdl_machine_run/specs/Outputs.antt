@@ -6,6 +6,7 @@ use Rattle.pdl_semantics.specs.Flat.{Mem, Pipe, has_lock}
 abbrev pub memory_count : Mem → ℕ
 memory_count m = (if has_lock m.lock then 3 else 0) + (if m.delayed then 2 else 0)
 
+-- how many outputs all memories have
 abbrev pub all_memory_count : List Mem → ℕ
 all_memory_count [] = 0
 all_memory_count (m ∷ ms) = memory_count m + all_memory_count ms

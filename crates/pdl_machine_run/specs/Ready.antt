@@ -22,6 +22,7 @@ pub record IsStage (f : Form) (x : r_stage.Stage) : Type 0 where
   pub count : length x.deeds.values.items ≡ length f.widths
   pub deeds : IsLarge (length f.pipe.stmts) (length f.pipe.start) (capacities x.deeds)
 
+-- each of these stages is wide enough
 abbrev pub AreStages : Form → List r_stage.Stage → Type 0
 AreStages f xs = (k : ℕ) (d : r_stage.Stage) → k < length xs → IsStage f (slice_index_or xs k d)
 
@@ -38,6 +39,7 @@ pub record CanStep (m : ℕ) (ms : List Act) (x : Memory) : Type 0 where
   pub room : length (with_reserves m ms x.pending) ≤ x.capacity
   pub within : IfSome (oldest (both m ms x.pending)) (λ e. e.address < length x.words)
 
+-- each of these memories, of which the first is m, can take what these acts do to it
 abbrev pub AllCanStep : ℕ → List Act → List Memory → Type 0
 AllCanStep m ms [] = ⊤
 AllCanStep m ms (x ∷ xs) = CanStep m ms x × AllCanStep (suc m) ms xs

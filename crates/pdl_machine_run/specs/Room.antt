@@ -13,6 +13,7 @@ pub record Capacities : Type 0 where
   pub args : ℕ
   pub verified : ℕ
 
+-- the room in each vector of a stage's deeds
 abbrev pub capacities : r_deeds.Deeds → Capacities
 capacities r =
     record {

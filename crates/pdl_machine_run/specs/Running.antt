@@ -14,7 +14,7 @@ use Rattle.pdl_machine_pending.specs.Memory.{Memory}
 use Rattle.pdl_machine_run.specs.declared.stage.Stage as r_stage
 use Rattle.pdl_machine_run.specs.declared.beside.Beside as r_beside
 use Rattle.pdl_machine_run.specs.View.{thread_in}
-use Rattle.pdl_machine_run.specs.Doing.{memory_at}
+use Rattle.pdl_machine_run.specs.StageDeeds.{memory_at}
 use Rattle.pdl_machine_run.specs.Typed.{IsFine, AreMemories}
 use Rattle.pdl_machine_run.specs.Ready.{AreStages, AreOrders}
 

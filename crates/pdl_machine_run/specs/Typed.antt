@@ -7,14 +7,15 @@ use Rattle.pdl_form.specs.Form.{Form}
 use Rattle.pdl_form_types.specs.Stmts.{param_widths}
 use Rattle.pdl_form_values.specs.Widths.{Fit}
 use Rattle.pdl_machine_pending.specs.Memory.{Memory}
-use Rattle.pdl_machine_pending.specs.Kept.{IsKept}
-use Rattle.pdl_machine_run.specs.Doing.{memory_at}
+use Rattle.pdl_machine_pending.specs.KeptWords.{IsKept}
+use Rattle.pdl_machine_run.specs.StageDeeds.{memory_at}
 
 -- reservations of words that are there, and values of the width of their memory
 abbrev pub AreReserved : Pipe → List Reserved → Type 0
 AreReserved p [] = ⊤
 AreReserved p (r ∷ rs) = (r.address < (mem_at p r.mem).depth) × AreReserved p rs
 
+-- values of the width of their memory
 abbrev pub AreWritten : Pipe → List Written → Type 0
 AreWritten p [] = ⊤
 AreWritten p (w ∷ ws) = (w.value < 2 ^ (mem_at p w.mem).width) × AreWritten p ws
@@ -29,10 +30,12 @@ abbrev pub AreAsked : Form → List Ask → Type 0
 AreAsked f [] = ⊤
 AreAsked f (q ∷ qs) = IsReadInto f q.var q.mem × AreAsked f qs
 
+-- reads that are awaited, of variables of the width of their memory
 abbrev pub AreAwaited : Form → List Awaited → Type 0
 AreAwaited f [] = ⊤
 AreAwaited f (r ∷ rs) = IsReadInto f r.var r.mem × AreAwaited f rs
 
+-- answers of the width of their variable
 abbrev pub AreAnswers : Form → List Kept → Type 0
 AreAnswers f [] = ⊤
 AreAnswers f (k ∷ ks) = (k.var < length f.widths) × (k.word < 2 ^ slice_index f.widths k.var) × AreAnswers f ks

@@ -16,12 +16,15 @@ use Rattle.pdl_machine_run.specs.declared.beside.Order as r_order
 
 -- WHAT A STAGE DOES
 
+-- a held location: the memory and the variable
 abbrev pub place_view : r_place.Place → HeldLocation
 place_view l = record { mem = l.mem; var = l.var }
 
+-- a block: the memory, the address, and whether it is for writing
 abbrev pub blocked_view : r_blocked.Blocked → Blocked
 blocked_view b = record { mem = b.mem; address = b.address; writes = b.writes }
 
+-- a request: the memory, the variable, the address
 abbrev pub ask_view : r_ask.Ask → Ask
 ask_view q = record { mem = q.mem; var = q.var; address = q.address }
 
@@ -30,6 +33,7 @@ abbrev pub child_arguments : Bool → List ℕ → Option (List ℕ)
 child_arguments false args = None
 child_arguments true args = Some args
 
+-- what a stage does
 abbrev pub deeds_view : r_deeds.Deeds → Deeds
 deeds_view r =
     record {
@@ -48,9 +52,11 @@ deeds_view r =
 
 -- WHO STANDS IN A STAGE
 
+-- a read that is awaited: the memory and the variable
 abbrev pub awaited_view : r_awaited.Awaited → Awaited
 awaited_view r = record { mem = r.mem; var = r.var }
 
+-- an answer that is kept: the variable and the word
 abbrev pub kept_view : r_kept.Kept → Kept
 kept_view k = record { var = k.var; word = k.word }
 
@@ -63,6 +69,7 @@ abbrev pub thread_if : Option ℕ → r_slot.Slot → Option Thread
 thread_if None s = None
 thread_if (Some number) s = Some (thread_of number s)
 
+-- the thread that stands in a slot, if there is one
 abbrev pub thread_in : r_slot.Slot → Option Thread
 thread_in s = thread_if s.number s
 
@@ -72,10 +79,12 @@ seats xs = map (λ (x : r_stage.Stage). thread_in x.slot) xs
 
 -- WHAT STANDS BESIDE THE STAGES
 
+-- the outstanding request of a delayed memory
 abbrev pub request_view : r_request.Request → Request
 request_view r_requests.NoRequest = NoRequest
 request_view (r_requests.Owned owner address) = Owned owner address
 request_view (r_requests.Orphan address) = Orphan address
 
+-- of each fork the branches of the threads inside, in their order
 abbrev pub order_views : List r_order.Order → List (List Bool)
 order_views os = map (λ (o : r_order.Order). o.branches.items) os

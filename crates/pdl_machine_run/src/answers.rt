@@ -5,7 +5,7 @@ ghost use Rattle.pdl_semantics.specs.Flat.{word_at};
 ghost use Rattle.pdl_semantics.specs.Stages as stages;
 ghost use Rattle.pdl_semantics.specs.Machine as machine;
 ghost use Rattle.pdl_form.specs.View.{mems_view};
-ghost use Rattle.pdl_form.specs.Whole.{form};
+ghost use Rattle.pdl_form.specs.FormView.{form};
 ghost use Rattle.pdl_machine_run.specs.View.{awaited_view, kept_view, thread_of};
 ghost use Rattle.pdl_machine_run.specs.Outside.{arrays_in, outside};
 

@@ -1,6 +1,6 @@
 // The statements of all stages, carried out for their threads.
 ghost use Rattle.std.specs.Prelude.{◌≡◌, ◌<◌, ℕ, length, slice_index_or, IfSome};
-ghost use Rattle.pdl_form.specs.Whole.{form};
+ghost use Rattle.pdl_form.specs.FormView.{form};
 ghost use Rattle.pdl_form_types.specs.Stmts.{IsTypedForm};
 ghost use Rattle.pdl_machine_run.specs.View.{thread_in};
 ghost use Rattle.pdl_machine_run.specs.Acts.{IsCarried};

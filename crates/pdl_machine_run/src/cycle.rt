@@ -4,7 +4,7 @@ ghost use Rattle.pdl_semantics.specs.Moves.{all_acts};
 ghost use Rattle.pdl_semantics.specs.Cycle as stated;
 ghost use Rattle.pdl_machine_facts.specs.Slots.{LeadsOn};
 ghost use Rattle.pdl_form.specs.Form.{Form};
-ghost use Rattle.pdl_form.specs.Whole.{form};
+ghost use Rattle.pdl_form.specs.FormView.{form};
 ghost use Rattle.pdl_machine_run.specs.View.{thread_in, seats, request_view, order_views};
 ghost use Rattle.pdl_machine_run.specs.Outside.{state_of};
 ghost use Rattle.pdl_machine_run.specs.Acts.{acts_of, all_of, memories_after, commits_shown};

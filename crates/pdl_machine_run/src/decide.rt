@@ -4,7 +4,7 @@ ghost use Rattle.pdl_semantics.specs.Flat.{Pipe, list_all};
 ghost use Rattle.pdl_semantics.specs.Machine as machine;
 ghost use Rattle.pdl_semantics.specs.Moves as moves;
 ghost use Rattle.pdl_form.specs.View.{branch_view};
-ghost use Rattle.pdl_form.specs.Whole.{form};
+ghost use Rattle.pdl_form.specs.FormView.{form};
 ghost use Rattle.pdl_machine_pending.specs.View.{reserved_view};
 ghost use Rattle.pdl_machine_run.specs.View.{awaited_view, blocked_view, ask_view, deeds_view, thread_of, request_view};
 ghost use Rattle.pdl_machine_run.specs.Outside.{outside};
@@ -271,7 +271,7 @@ fn locks_ready(pipe: &FlatPipe, beside: &Beside, thread: u64, deeds: &Deeds) -> 
 }
 
 // Whether a thread awaits no answer.
-#[tactic(auto, using(crate::proofs::Acting::nothing_awaited))]
+#[tactic(auto, using(crate::proofs::ActLists::nothing_awaited))]
 fn awaits_nothing(slot: &Slot) -> bool
     ensures { result ≡ moves.is_empty (map awaited_view slot.now.awaits.items) }
 {

@@ -2,11 +2,11 @@
 ghost use Rattle.std.specs.Prelude.{◌≡◌, ◌≤◌, ◌<◌, ◌+◌, ℕ, length, map, slice_set, vec_len, vec_capacity};
 ghost use Rattle.pdl_semantics.specs.Machine as machine;
 ghost use Rattle.pdl_form.specs.View.{act_view, stmts_view};
-ghost use Rattle.pdl_form.specs.Whole.{form};
+ghost use Rattle.pdl_form.specs.FormView.{form};
 ghost use Rattle.pdl_machine_facts.specs.Use.{before_stage};
 ghost use Rattle.pdl_machine_run.specs.View.{place_view, kept_view, deeds_view, thread_of};
 ghost use Rattle.pdl_machine_run.specs.Room.{capacities, IsLarge, HasRoomFor, IsEmpty};
-ghost use Rattle.pdl_machine_run.specs.Doing.{nothing_done};
+ghost use Rattle.pdl_machine_run.specs.StageDeeds.{nothing_done};
 
 use crate::place::{Place, hold, let_go};
 use crate::stage::{Kept, Slot};

@@ -4,7 +4,7 @@ ghost use Rattle.pdl_semantics.specs.Flat.{Pipe};
 ghost use Rattle.pdl_semantics.specs.Cycle as stated;
 ghost use Rattle.pdl_machine_facts.specs.Slots.{LeadsOn};
 ghost use Rattle.pdl_form.specs.Form.{Form};
-ghost use Rattle.pdl_form.specs.Whole.{form};
+ghost use Rattle.pdl_form.specs.FormView.{form};
 ghost use Rattle.pdl_machine_run.specs.View.{awaited_view, ask_view, deeds_view, thread_of, thread_in};
 ghost use Rattle.pdl_machine_run.specs.Acts.{mover_of, act_of, acts_of, all_of, comes, stays};
 ghost use Rattle.pdl_machine_run.specs.Ready.{IsWide, IsStage, AreStages, HasAwaits};
@@ -138,7 +138,7 @@ pub fn move_on(pipe: &FlatPipe, stages: &mut [Stage])
 }
 
 /// The number of the thread that moves with a failing verify, if one does.
-#[tactic(auto, using(crate::proofs::Acting::squasher_on))]
+#[tactic(auto, using(crate::proofs::ActLists::squasher_on))]
 pub fn squasher(stages: &[Stage]) -> Option<u64>
     ensures { result ≡ stated.squasher (acts_of 0 stages.now) }
 {

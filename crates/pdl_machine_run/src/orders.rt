@@ -5,7 +5,7 @@ ghost use Rattle.pdl_semantics.specs.Stages as stages;
 ghost use Rattle.pdl_semantics.specs.Stages.{list_any, merges_fork};
 ghost use Rattle.pdl_semantics.specs.Cycle as stated;
 ghost use Rattle.pdl_form.specs.View.{branch_view, stages_view};
-ghost use Rattle.pdl_form.specs.Whole.{form};
+ghost use Rattle.pdl_form.specs.FormView.{form};
 ghost use Rattle.pdl_machine_run.specs.View.{order_views};
 ghost use Rattle.pdl_machine_run.specs.Acts.{mover_of, act_of, acts_of};
 ghost use Rattle.pdl_machine_run.specs.Orders.{listed, into, order_passed, order_after, orders_after};

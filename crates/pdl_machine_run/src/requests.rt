@@ -2,7 +2,7 @@
 ghost use Rattle.std.specs.Prelude.{◌≡◌, ℕ, None, ◌++◌, [], ◌≤◌, ◌+◌, ◌*◌, length, map, vec_len, vec_capacity, if◌then◌else◌};
 ghost use Rattle.pdl_semantics.specs.Cycle as stated;
 ghost use Rattle.pdl_form.specs.View.{mems_view};
-ghost use Rattle.pdl_form.specs.Whole.{form};
+ghost use Rattle.pdl_form.specs.FormView.{form};
 ghost use Rattle.pdl_machine_run.specs.View.{ask_view, request_view};
 ghost use Rattle.pdl_machine_run.specs.Acts.{mover_of, act_of, acts_of};
 ghost use Rattle.pdl_machine_facts.specs.Ports.{request_values};

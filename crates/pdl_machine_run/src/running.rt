@@ -3,7 +3,7 @@ ghost use Rattle.std.specs.Prelude.{◌≡◌, ◌<◌, ◌≤◌, ◌+◌, ◌^
 ghost use Rattle.pdl_semantics.specs.Flat.{arrays_of};
 ghost use Rattle.pdl_semantics.specs.Moves.{all_acts};
 ghost use Rattle.pdl_semantics.specs.Cycle as stated;
-ghost use Rattle.pdl_form.specs.Whole.{form};
+ghost use Rattle.pdl_form.specs.FormView.{form};
 ghost use Rattle.pdl_machine_run.specs.Running.{IsRunnable, AreImages};
 ghost use Rattle.pdl_machine_facts.specs.Ports.{whole_values};
 ghost use Rattle.pdl_machine_run.specs.Outputs.{output_count};

@@ -2,7 +2,7 @@
 ghost use Rattle.std.specs.Prelude.{◌≡◌, ◌≤◌, ◌+◌, ◌*◌, ◌++◌, ◌∷◌, [], is_some, length, vec_len, vec_capacity};
 ghost use Rattle.pdl_word.specs.Words.{bit};
 ghost use Rattle.pdl_machine_facts.specs.Ports.{stage_values};
-ghost use Rattle.pdl_form.specs.Whole.{form};
+ghost use Rattle.pdl_form.specs.FormView.{form};
 ghost use Rattle.pdl_machine_run.specs.Acts.{mover_of, act_of, acts_of, are_held, are_moving, one_ends};
 
 use crate::stage::Stage;

@@ -7,8 +7,8 @@ ghost use Rattle.pdl_form.specs.View.{expr_view, exprs_view, act_view, stmt_view
 ghost use Rattle.pdl_form_values.specs.Safe.{IsSafe, AreSafe};
 ghost use Rattle.pdl_machine_run.specs.View.{deeds_view};
 ghost use Rattle.pdl_machine_run.specs.Room.{capacities, HasRoomFor, IsLarge};
-ghost use Rattle.pdl_machine_run.specs.Doing.{word_of, IsSafeOp};
-ghost use Rattle.pdl_form.specs.Whole.{form};
+ghost use Rattle.pdl_machine_run.specs.StageDeeds.{word_of, IsSafeOp};
+ghost use Rattle.pdl_form.specs.FormView.{form};
 ghost use Rattle.pdl_form_types.specs.Stmts.{IsTypedForm};
 ghost use Rattle.pdl_machine_run.specs.Typed.{AreFit, AreMemories};
 

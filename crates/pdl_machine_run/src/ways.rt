@@ -3,7 +3,7 @@ ghost use Rattle.std.specs.Prelude.{◌≡◌};
 ghost use Rattle.pdl_semantics.specs.Stages as stages;
 ghost use Rattle.pdl_semantics.specs.Moves as moves;
 ghost use Rattle.pdl_form.specs.View.{next_view, stage_view};
-ghost use Rattle.pdl_form.specs.Whole.{form};
+ghost use Rattle.pdl_form.specs.FormView.{form};
 ghost use Rattle.pdl_machine_run.specs.View.{deeds_view};
 
 use crate::deeds::Deeds;

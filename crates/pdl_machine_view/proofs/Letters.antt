@@ -34,6 +34,7 @@ two_each : (f g : ℕ → Bool) (k : ℕ) (xs : List Stage) (rest : List ℕ) �
 two_each f g k [] rest = omega arith
 two_each f g k (x ∷ xs) rest = let h = two_each f g (suc k) xs rest in omega (arith, h)
 
+-- the ports show at least two values for each stage
 pub has_stages : (p : Pipe) (st : State) (these : List Act) → 2 * length p.stages ≤ length (whole_values p (ports p st these))
 has_stages p st these =
     two_each (λ s. list_any (λ (a : Act). a.stage == s) these) (λ s. list_any (λ (a : Act). a.stage == s) (movers these)) 0 p.stages _

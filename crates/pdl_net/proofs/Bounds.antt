@@ -17,8 +17,9 @@ use Rattle.pdl_net.specs.Circuit.{Circuit, State, inputs_of, input_with, port_in
 use Rattle.pdl_net.specs.Signal.{Signal, input_value, reg_value, const_value, not_value, bin_value, mux_value, slice_value, cat_value, rep_value, read_value, bin_signal}
 use Rattle.pdl_net.specs.Meaning.{cell_signal, signal, IsThereAt, IsThere}
 use Rattle.pdl_net.specs.Well.{IsWidth, FitsIn, IsWellPort, IsWell, Suits, IsBounded}
-use Rattle.pdl_net.proofs.Fix.{signal_cell, fits_cell, cell_at}
+use Rattle.pdl_net.proofs.CellSignals.{signal_cell, fits_cell, cell_at}
 
+-- k copies of u bits are at least 1 bit, where k and u are at least 1
 pub rep_wide : (k u : ℕ) → 1 ≤ k → 1 ≤ u → 1 ≤ k * u
 rep_wide zero u h p = absurd (omega arith)
 rep_wide (suc k) u h p = omega (arith, p)
@@ -75,6 +76,7 @@ inputs_well c (p ∷ ps) w i h =
     let g = w zero p refl in
     input_step p.dir p.width (filter_map port_input ps) (record { low = g.low; high = g.high }) (inputs_well c ps (λ k q e. w (suc k) q e)) i h
 
+-- each input of a well formed circuit has 1 to 64 bits
 pub input_well : (c : Circuit) → IsWell c → (i : ℕ) → i < length (inputs_of c) → IsWidth (get_or (inputs_of c) i 0)
 input_well c w i h = inputs_well c c.ports w.ports i h
 
@@ -95,6 +97,7 @@ bounded_at c s w t (suc n) l (CellNet k) h =
     subst P (sym (signal_cell c w.cells k i)) (cell_bounded c s (IsThereAt c n) (signal c) w t (bounded_at c s w t n (omega arith)) (cell_at c k) (subst Q e (fits_cell c w.cells k i))))
     (cases_lt k n)
 
+-- each net of a well formed circuit has 1 to 64 bits and a value that fits them, in each state that suits it
 pub bounded : (c : Circuit) (s : State) → IsWell c → Suits c s → (x : Net) → IsThere c x → IsBounded s (signal c x)
 unfolding IsThere
 bounded c s w t x h = bounded_at c s w t (length c.cells) (omega arith) x h

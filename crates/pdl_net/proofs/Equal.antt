@@ -12,12 +12,14 @@ use Rattle.pdl_net.specs.contracts.BinOpPartialEq.TheImpl as op
 use Rattle.pdl_net.specs.contracts.WritePortPartialEq.TheImpl as write
 use Rattle.pdl_net.specs.contracts.CellPartialEq.TheImpl as cell
 
+-- `==` of two nets passes where they are equal, and fails where they are not
 pub net_equal : (x y : Net) → Decides (net.ghosts.eq x y) (x ≡ y)
 net_equal x y = search rules
 
-pub op_equal : (x y : BinOp) → Decides (op.ghosts.eq x y) (x ≡ y)
+op_equal : (x y : BinOp) → Decides (op.ghosts.eq x y) (x ≡ y)
 op_equal x y = search rules
 
+-- `==` of two write ports passes where they are equal, and fails where they are not
 pub write_equal : (x y : WritePort) → Decides (write.ghosts.eq x y) (x ≡ y)
 write_equal x y = search (rules, net_equal)
 
@@ -48,6 +50,7 @@ mux_equal c a b (Cat x y) = search rules
 mux_equal c a b (Rep k x) = search rules
 mux_equal c a b (Read m x) = search rules
 
+-- `==` of two cells passes where they are equal, and fails where they are not
 pub cell_equal : (x y : Cell) → Decides (cell.ghosts.eq x y) (x ≡ y)
 cell_equal (Const w v) y = search rules
 cell_equal (Not a) y = search (rules, net_equal)

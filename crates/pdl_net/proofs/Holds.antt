@@ -22,12 +22,12 @@ arrays_at c s (m ∷ ms) k (suc j) h =
     let e : suc k + j ≡ k + suc j = omega arith in
     arrays_at c s ms (suc k) j (omega arith) ∙ ap (λ i. after_writes c s (get_or ms j no_array).writes (get_or s.arrays i [])) e
 
-pub arrays_length : (c : Circuit) (s : State) (ms : List Array) (k : ℕ) → length (arrays_from c s ms k) ≡ length ms
+arrays_length : (c : Circuit) (s : State) (ms : List Array) (k : ℕ) → length (arrays_from c s ms k) ≡ length ms
 arrays_length c s [] k = refl
 arrays_length c s (m ∷ ms) k = let e = arrays_length c s ms (suc k) in omega (arith, e)
 
 -- where there are no inputs
-pub suits_of : (c : Circuit) (regs : List ℕ) (arrays : List (List ℕ)) → Holds c regs arrays → inputs_of c ≡ [] → Suits c (record { inputs = []; regs = regs; arrays = arrays })
+suits_of : (c : Circuit) (regs : List ℕ) (arrays : List (List ℕ)) → Holds c regs arrays → inputs_of c ≡ [] → Suits c (record { inputs = []; regs = regs; arrays = arrays })
 suits_of c regs arrays h e = record {
   input_count = sym (ap length e);
   inputs = λ i l. let n = ap length e in absurd (omega (arith, n));

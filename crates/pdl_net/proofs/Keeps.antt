@@ -10,6 +10,7 @@ use Rattle.pdl_net.specs.Meaning.{Means, next_signal}
 use Rattle.pdl_net.specs.Growth.{Keeps, Extends, ExtendsBut, ExtendsPorts, ExtendsArrays, Own}
 use Rattle.pdl_net.specs.Cycle.{net_value, next_regs}
 
+-- a circuit keeps what it has
 pub keeps_refl : (c : Circuit) → Keeps c c
 keeps_refl c = record {
   there = λ x h. h;
@@ -22,6 +23,7 @@ keeps_refl c = record {
   depth = λ m h. refl;
 }
 
+-- what is kept from a circuit to a second and from that to a third is kept from the first to the third
 pub keeps_trans : (a b c : Circuit) → Keeps a b → Keeps b c → Keeps a c
 keeps_trans a b c x y = record {
   there = λ n h. y.there n (x.there n h);
@@ -38,15 +40,19 @@ keeps_trans a b c x y = record {
 pub extends_keeps : (a b : Circuit) → Extends a b → Keeps a b
 extends_keeps a b x = record { there = x.there; kept = x.kept; has_reg = x.has_reg; width = x.width; reset = x.reset; has_array = x.has_array; word = x.word; depth = x.depth }
 
+-- a circuit that is extended but for what a fragment takes next keeps what it had
 pub but_keeps : (o : Own) (a b : Circuit) → ExtendsBut o a b → Keeps a b
 but_keeps o a b x = record { there = x.there; kept = x.kept; has_reg = x.has_reg; width = x.width; reset = x.reset; has_array = x.has_array; word = x.word; depth = x.depth }
 
+-- a circuit that is extended with ports keeps what it had
 pub ports_keeps : (a b : Circuit) (added : List Port) → ExtendsPorts a b added → Keeps a b
 ports_keeps a b added x = record { there = x.there; kept = x.kept; has_reg = x.has_reg; width = x.width; reset = x.reset; has_array = x.has_array; word = x.word; depth = x.depth }
 
+-- a circuit that is extended with arrays keeps what it had
 pub arrays_keeps : (a b : Circuit) (added : List Shape) → ExtendsArrays a b added → Keeps a b
 arrays_keeps a b added x = record { there = x.there; kept = x.kept; has_reg = x.has_reg; width = x.width; reset = x.reset; has_array = x.has_array; word = x.word; depth = x.depth }
 
+-- a circuit extends itself
 pub extends_refl : (c : Circuit) → Extends c c
 extends_refl c = record {
   there = λ x h. h;
@@ -63,6 +69,7 @@ extends_refl c = record {
   shapes = refl;
 }
 
+-- a circuit that extends a second, which extends a third, extends the third
 pub extends_trans : (a b c : Circuit) → Extends a b → Extends b c → Extends a c
 extends_trans a b c x y = record {
   there = λ n h. y.there n (x.there n h);
@@ -79,6 +86,7 @@ extends_trans a b c x y = record {
   shapes = y.shapes ∙ x.shapes;
 }
 
+-- two extensions in turn, each but for what a fragment takes next, are one but for it
 pub but_trans : (o : Own) (a b c : Circuit) → ExtendsBut o a b → ExtendsBut o b c → ExtendsBut o a c
 but_trans o a b c x y = record {
   there = λ n h. y.there n (x.there n h);
@@ -95,6 +103,7 @@ but_trans o a b c x y = record {
   shapes = y.shapes ∙ x.shapes;
 }
 
+-- an extension is one but for what a fragment takes next
 pub but_extends : (o : Own) (a b : Circuit) → Extends a b → ExtendsBut o a b
 but_extends o a b x = record {
   there = x.there;
@@ -111,6 +120,7 @@ but_extends o a b x = record {
   shapes = x.shapes;
 }
 
+-- two extensions in turn, each with arrays, are one with the arrays of both
 pub arrays_trans : (a b c : Circuit) (front back : List Shape) → ExtendsArrays a b front → ExtendsArrays b c back → ExtendsArrays a c (front ++ back)
 arrays_trans a b c front back x y = record {
   there = λ n h. y.there n (x.there n h);
@@ -127,12 +137,14 @@ arrays_trans a b c front back x y = record {
   shapes = y.shapes ∙ ap (λ ss. ss ++ back) x.shapes ∙ append_assoc (shapes_of a) front back;
 }
 
+-- a net means its signal in a circuit that is extended
 pub means_kept : (a b : Circuit) (x : Net) (f : Signal) → Extends a b → Means a x f → Means b x f
 means_kept a b x f e m = record { there = e.there x m.there; same = e.kept x m.there ∙ m.same }
 
-pub but_means : (o : Own) (a b : Circuit) (x : Net) (f : Signal) → ExtendsBut o a b → Means a x f → Means b x f
+but_means : (o : Own) (a b : Circuit) (x : Net) (f : Signal) → ExtendsBut o a b → Means a x f → Means b x f
 but_means o a b x f e m = record { there = e.there x m.there; same = e.kept x m.there ∙ m.same }
 
+-- a net means its signal in a circuit that keeps what it had
 pub means_keeps : (a b : Circuit) (x : Net) (f : Signal) → Keeps a b → Means a x f → Means b x f
 means_keeps a b x f e m = record { there = e.there x m.there; same = e.kept x m.there ∙ m.same }
 
@@ -143,6 +155,7 @@ pub next_reg : (c : Circuit) (s : State) (r : ℕ) → HasReg c r → get_or (ne
 unfolding HasReg next_regs next_signal
 next_reg c s r h = get_or-map (λ (g : Reg). net_value c s g.next) c.regs r no_reg 0 h
 
+-- a circuit that keeps what it had has no fewer registers
 pub regs_grow : (a b : Circuit) → Keeps a b → length a.regs ≤ length b.regs
 unfolding HasReg
 regs_grow a b k = at (length a.regs) refl

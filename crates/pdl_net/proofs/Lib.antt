@@ -1,7 +1,7 @@
 pub mod Signals
-pub mod Well
+pub mod CircuitGrowth
 pub mod Keeps
-pub mod Fix
+pub mod CellSignals
 pub mod Bounds
 pub mod Widths
 pub mod Examples
@@ -9,5 +9,5 @@ pub mod WidthLists
 pub mod PipeMems
 pub mod Equal
 pub mod Holds
-pub mod Loaded
-pub mod Committed
+pub mod StartState
+pub mod CommitWidths

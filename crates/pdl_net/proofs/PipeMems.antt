@@ -29,6 +29,7 @@ delayed_first (d ∷ ds) locked arrays = ap (λ l. delayed_info d ∷ l) (delaye
 pub delayed_told : (n : Netlist) (p : IsPipe n) → delayed_mems n ≡ map delayed_info p.delayed
 delayed_told n p = ap (filter (λ m. m.delayed)) p.mems ∙ delayed_first p.delayed p.locked n.arrays
 
+-- the delayed memories of a pipe's netlist are its first ones
 pub delayed_in_front : (n : Netlist) (p : IsPipe n) → delayed_mems n ≡ take (length (delayed_mems n)) n.mems
 delayed_in_front n p =
     let front = map delayed_info p.delayed in
@@ -40,6 +41,7 @@ delayed_in_front n p =
 abbrev pub told : List PortMem → Array → MemInfo
 told locked a = comb_info a (find (λ m. bytes_eq m.name a.name) locked)
 
+-- the memory that an array tells has the array's name
 pub told_name : (a : Array) (o : Option PortMem) → (comb_info a o).name ≡ a.name
 told_name a None = refl
 told_name a (Some m) = refl

@@ -10,7 +10,7 @@ use Rattle.pdl_net.specs.declared.Netlist.{Netlist}
 use Rattle.pdl_net.specs.Circuit.{Circuit, array_at, no_array, circuit_of}
 use Rattle.pdl_net.specs.Meaning.{signal, cell_signal, IsThereAt, IsThere}
 use Rattle.pdl_net.specs.Well.{FitsIn, IsWell}
-use Rattle.pdl_net.proofs.Fix.{no_cell, signal_cell, fits_cell}
+use Rattle.pdl_net.proofs.CellSignals.{no_cell, signal_cell, fits_cell}
 use Rattle.pdl_net.proofs.Widths.{cells_well, width_of_input, width_of_reg}
 use Rattle.pdl_net.specs.Width.{HasWidths}
 
@@ -30,13 +30,14 @@ fits_read c xs k n w h e m =
     let Q : ℕ → Type 0 = λ j. FitsIn c (IsThereAt c j) (signal c) (get_or xs k no_cell) in
     subst Q (sym m) (subst P (sym e) (fits_cell c w.cells k h))
 
-pub signal_read : (c : Circuit) (xs : List Cell) (k : ℕ) → IsWell c → k < length c.cells → xs ≡ c.cells → signal c (CellNet k) ≡ cell_signal c (signal c) (get_or xs k no_cell)
+signal_read : (c : Circuit) (xs : List Cell) (k : ℕ) → IsWell c → k < length c.cells → xs ≡ c.cells → signal c (CellNet k) ≡ cell_signal c (signal c) (get_or xs k no_cell)
 signal_read c xs k w h e = signal_cell c w.cells k h ∙ ap (λ l. cell_signal c (signal c) (get_or l k no_cell)) (sym e)
 
 -- one width more
-pub widths_none : (c : Circuit) (ws : List ℕ) → ws ≡ [] → HasWidths c ws
+widths_none : (c : Circuit) (ws : List ℕ) → ws ≡ [] → HasWidths c ws
 widths_none c ws e = let n = ap length e in record { each = λ j h. absurd (omega (arith, n)) }
 
+-- the widths of the first cells with that of the next one
 pub widths_more : (c : Circuit) (ws us : List ℕ) (w : ℕ) → HasWidths c ws → w ≡ (signal c (CellNet (length ws))).width → us ≡ ws ++ w ∷ [] → HasWidths c us
 widths_more c ws us w h e f = record {
   each = λ j l. ap (λ xs. get_or xs j 0) f ∙ ⊎_elim
@@ -49,7 +50,7 @@ widths_more c ws us w h e f = record {
 
 pub ruleset widths = (fits_read, signal_read, widths_none, widths_more)
 
-pub width_of_array : (n : Netlist) (m : ℕ) (a : Array) → m < length n.arrays → a ≡ get_or n.arrays m a → (array_at (circuit_of n) m).width ≡ a.width
+width_of_array : (n : Netlist) (m : ℕ) (a : Array) → m < length n.arrays → a ≡ get_or n.arrays m a → (array_at (circuit_of n) m).width ≡ a.width
 width_of_array n m a h e = ap (λ (x : Array). x.width) (sym (e ∙ get_or_default n.arrays m a no_array h))
 
 pub ruleset array_widths = (width_of_array)

@@ -11,7 +11,7 @@ use Rattle.pdl_net.specs.declared.Cell.TheVariants.{Const, Not, Bin, Mux, Slice,
 use Rattle.pdl_net.specs.Signal.{Signal, bin_width}
 use Rattle.pdl_net.specs.Meaning.{signal, cell_signal, IsThere, IsThereAt}
 use Rattle.pdl_net.specs.Well.{IsWidth, FitsIn, IsWell, CellsWell}
-use Rattle.pdl_net.proofs.Fix.{cell_at, signal_cell, fits_cell}
+use Rattle.pdl_net.proofs.CellSignals.{cell_at, signal_cell, fits_cell}
 use Rattle.pdl_net.proofs.Bounds.{input_well, rep_wide}
 use Rattle.pdl_net.specs.Width.{IsBefore}
 
@@ -26,31 +26,38 @@ before c k (CellNet j) l h = record { there = omega arith; before = omega arith 
 pub width_is : (c : Circuit) → CellsWell c → (k : ℕ) → k < length c.cells → (signal c (CellNet k)).width ≡ (cell_signal c (signal c) (cell_at c k)).width
 width_is c w k h = ap (λ f. f.width) (signal_cell c w.fit k h)
 
+-- the k-th cell fits over the cells before it, where all cells are well formed
 pub fits_now : (c : Circuit) → CellsWell c → (k : ℕ) (g : Cell) → k < length c.cells → g ≡ cell_at c k → FitsIn c (IsThereAt c k) (signal c) g
 fits_now c w k g h e = let P : Cell → Type 0 = λ x. FitsIn c (IsThereAt c k) (signal c) x in subst P (sym e) (fits_cell c w.fit k h)
 
+-- what the k-th cell makes has at most 64 bits, where all cells are well formed
 pub width_now : (c : Circuit) → CellsWell c → (k : ℕ) (g : Cell) → k < length c.cells → g ≡ cell_at c k → (cell_signal c (signal c) g).width ≤ 64
 width_now c w k g h e =
     let P : Cell → Type 0 = λ x. (cell_signal c (signal c) x).width ≤ 64 in
     let b = (w.widths k h).high in
     subst P (sym e) (omega (arith, b, width_is c w k h))
 
+-- a cell whose net is there is one of the circuit's cells
 pub there_cell : (c : Circuit) (k : ℕ) → IsThere c (CellNet k) → k < length c.cells
 unfolding IsThere
 there_cell c k h = h
 
+-- an input whose net is there is one of the circuit's inputs
 pub there_input : (c : Circuit) (i : ℕ) → IsThere c (Input i) → i < length (inputs_of c)
 unfolding IsThere
 there_input c i h = h
 
+-- a register whose net is there is one of the circuit's registers
 pub there_reg : (c : Circuit) (r : ℕ) → IsThere c (RegNet r) → r < length c.regs
 unfolding IsThere
 there_reg c r h = h
 
+-- an input's net has the width of the input
 pub width_of_input : (c : Circuit) (i : ℕ) → (signal c (Input i)).width ≡ slice_index (inputs_of c) i
 unfolding signal
 width_of_input c i = refl
 
+-- a register's net has the width of the register
 pub width_of_reg : (c : Circuit) (r : ℕ) → (signal c (RegNet r)).width ≡ (reg_at c r).width
 unfolding signal
 width_of_reg c r = refl
@@ -98,6 +105,7 @@ wide_at c w (suc n) l (CellNet k) h =
     subst P (sym (signal_cell c w.cells k i)) (cell_wide c (IsThereAt c n) (signal c) w (wide_at c w n (omega arith)) (cell_at c k) (subst Q e (fits_cell c w.cells k i))))
     (cases_lt k n)
 
+-- all cells of a well formed circuit fit, and have 1 to 64 bits
 pub cells_well : (c : Circuit) → IsWell c → CellsWell c
 unfolding IsThere
 cells_well c w = record { fit = w.cells; widths = λ k h. wide_at c w (length c.cells) (omega arith) (CellNet k) h }

@@ -23,6 +23,7 @@ pub record State : Type 0 where
   pub regs : List ℕ
   pub arrays : List (List ℕ)
 
+-- a netlist as a circuit
 abbrev pub circuit_of : Netlist → Circuit
 circuit_of n = record { ports = n.ports; regs = n.regs; arrays = n.arrays; cells = n.cells }
 
@@ -31,6 +32,7 @@ abbrev pub input_with : Dir → ℕ → Option ℕ
 input_with In w = Some w
 input_with (Out x) w = None
 
+-- the width of a port, if it is an input
 abbrev pub port_input : Port → Option ℕ
 port_input p = input_with p.dir p.width
 
@@ -48,6 +50,7 @@ abbrev pub output_with : Dir → List ℕ → Option Output
 output_with In name = None
 output_with (Out x) name = Some (record { name = name; net = x })
 
+-- the name and the net of a port, if it is an output
 abbrev pub port_output : Port → Option Output
 port_output p = output_with p.dir p.name
 
@@ -61,21 +64,27 @@ pub record Shape : Type 0 where
   pub width : ℕ
   pub depth : ℕ
 
+-- an array's name, width and depth
 abbrev pub shape_of : Array → Shape
 shape_of a = record { name = a.name; width = a.width; depth = a.depth }
 
+-- the shapes of all arrays, in order
 unfoldable pub shapes_of : Circuit → List Shape
 shapes_of c = map shape_of c.arrays
 
+-- the register past the last one
 abbrev pub no_reg : Reg
 no_reg = record { width = 0; reset = 0; next = Input 0 }
 
+-- the array past the last one
 abbrev pub no_array : Array
 no_array = record { name = []; width = 0; depth = 0; writes = [] }
 
+-- the r-th register
 abbrev pub reg_at : Circuit → ℕ → Reg
 reg_at c r = slice_index_or c.regs r no_reg
 
+-- the m-th array
 abbrev pub array_at : Circuit → ℕ → Array
 array_at c m = slice_index_or c.arrays m no_array
 
@@ -83,9 +92,11 @@ array_at c m = slice_index_or c.arrays m no_array
 unfoldable pub HasReg : Circuit → ℕ → Type 0
 HasReg c r = r < length c.regs
 
+-- the width of a register
 unfoldable pub reg_width : Circuit → ℕ → ℕ
 reg_width c r = (reg_at c r).width
 
+-- the reset value of a register
 unfoldable pub reg_reset : Circuit → ℕ → ℕ
 reg_reset c r = (reg_at c r).reset
 
@@ -93,8 +104,10 @@ reg_reset c r = (reg_at c r).reset
 unfoldable pub HasArray : Circuit → ℕ → Type 0
 HasArray c m = m < length c.arrays
 
+-- the width of an array's words
 unfoldable pub array_width : Circuit → ℕ → ℕ
 array_width c m = (array_at c m).width
 
+-- how many words an array has
 unfoldable pub array_depth : Circuit → ℕ → ℕ
 array_depth c m = (array_at c m).depth

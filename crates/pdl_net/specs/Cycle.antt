@@ -28,5 +28,6 @@ abbrev pub arrays_from : Circuit → State → List Array → ℕ → List (List
 arrays_from c s [] k = []
 arrays_from c s (a ∷ rest) k = after_writes c s a.writes (slice_index_or s.arrays k []) ∷ arrays_from c s rest (suc k)
 
+-- the words of all arrays after the cycle
 unfoldable pub next_arrays : Circuit → State → List (List ℕ)
 next_arrays c s = arrays_from c s c.arrays 0

@@ -30,6 +30,7 @@ abbrev pub signals_from : Circuit → List Cell → List Signal → List Signal
 signals_from c [] done = done
 signals_from c (g ∷ gs) done = signals_from c gs (done ++ cell_signal c (look c done) g ∷ [])
 
+-- the signals of all cells, in order
 unfoldable pub signals : Circuit → List Signal
 signals c = signals_from c c.cells []
 
@@ -43,6 +44,7 @@ IsThereAt c n (Input i) = i < length (inputs_of c)
 IsThereAt c n (RegNet r) = r < length c.regs
 IsThereAt c n (CellNet k) = k < n
 
+-- a net is an input, a register or a cell of the circuit
 unfoldable pub IsThere : Circuit → Net → Type 0
 IsThere c x = IsThereAt c (length c.cells) x
 
@@ -61,6 +63,7 @@ pub record WriteSignal : Type 0 where
   pub addr : Signal
   pub value : Signal
 
+-- what the nets of a write port mean
 abbrev pub write_signal : Circuit → WritePort → WriteSignal
 write_signal c p = record { enable = signal c p.enable; addr = signal c p.addr; value = signal c p.value }
 

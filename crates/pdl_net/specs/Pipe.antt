@@ -16,16 +16,20 @@ pub record Head : Type 0 where
   pub width : ℕ
   pub input : Bool
 
+-- whether a port is an input
 abbrev pub is_input : Dir → Bool
 is_input In = true
 is_input (Out x) = false
 
+-- a port without the net that drives it, if it is an output
 abbrev pub head_of : Port → Head
 head_of p = record { name = p.name; width = p.width; input = is_input p.dir }
 
+-- the head of an input
 abbrev pub input : List ℕ → ℕ → Head
 input name width = record { name = name; width = width; input = true }
 
+-- the head of an output
 abbrev pub output : List ℕ → ℕ → Head
 output name width = record { name = name; width = width; input = false }
 
@@ -80,9 +84,11 @@ pub record IsPipeArray (delayed locked : List PortMem) (a : Array) : Type 0 wher
 abbrev pub IsKept : List PortMem → List Array → PortMem → Type 0
 IsKept delayed arrays m = Contains delayed m ⊎ Contains (map (λ a. a.name) arrays) m.name
 
+-- a delayed memory, as its ports tell it
 abbrev pub delayed_info : PortMem → MemInfo
 delayed_info m = record { name = m.name; width = m.width; depth = 2 ^ m.bits; delayed = true }
 
+-- the memory of an array, by the ports of the locked memory of its name, if there is one
 abbrev pub comb_info : Array → Option PortMem → MemInfo
 comb_info a None = record { name = a.name; width = a.width; depth = a.depth; delayed = false }
 comb_info a (Some m) = record { name = a.name; width = m.width; depth = 2 ^ m.bits; delayed = false }

@@ -42,6 +42,7 @@ abbrev pub is_waiting : Option ℕ → Bool → Bool
 is_waiting (Some a) false = true
 is_waiting _ _ = false
 
+-- whether an outstanding request of one of the delayed memories isn't answered
 abbrev pub some_waits : List Store → ℕ → Bool
 some_waits [] bits = false
 some_waits (m ∷ ms) bits = is_waiting m.request (reply bits) || some_waits ms (bits / 2)
@@ -50,9 +51,11 @@ some_waits (m ∷ ms) bits = is_waiting m.request (reply bits) || some_waits ms 
 abbrev pub state_in : Held → ℕ → State
 state_in h bits = record { inputs = answers h.stores bits; regs = h.regs; arrays = h.arrays }
 
+-- what is seen of a cycle that begins so, with these reply bits
 abbrev pub shown_ports : Netlist → Held → ℕ → Shown
 shown_ports n h bits = record { ports = output_values (circuit_of n) (state_in h bits); waited = some_waits h.stores bits }
 
+-- the value of the output at a place, 0 where there is none
 abbrev pub value_at : List ℕ → Option ℕ → ℕ
 value_at ports (Some i) = slice_index ports i
 value_at ports None = 0
@@ -95,6 +98,7 @@ next_stores c ports (i ∷ infos) (m ∷ ms) bits =
 abbrev pub delayed_mems : Netlist → List MemInfo
 delayed_mems n = filter (λ m. m.delayed) n.mems
 
+-- the registers, arrays and delayed memories after a cycle with these reply bits
 abbrev pub next : Netlist → Held → ℕ → Held
 next n h bits = record {
   regs = next_regs (circuit_of n) (state_in h bits);
@@ -128,6 +132,7 @@ nports_from n h (bits ∷ schedule) = shown_ports n h bits ∷ nports_from n (ne
 abbrev pub nports : Netlist → List (List ℕ) → List ℕ → List Shown
 nports n image schedule = nports_from n (start n image) schedule
 
+-- the memory past the last one
 abbrev pub no_mem : MemInfo
 no_mem = record { name = []; width = 0; depth = 0; delayed = false }
 

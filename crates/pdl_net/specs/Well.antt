@@ -37,6 +37,7 @@ FitsIn c There at (Cat a b) = There a × There b × ((at a).width + (at b).width
 FitsIn c There at (Rep k a) = There a × (1 ≤ k) × (k * (at a).width ≤ 64)
 FitsIn c There at (Read m a) = (m < length c.arrays) × There a × (2 ^ (at a).width ≡ (array_at c m).depth)
 
+-- a cell reads nets of the circuit, with the right widths
 abbrev pub Fits : Circuit → Cell → Type 0
 Fits c g = FitsIn c (IsThere c) (signal c) g
 

@@ -4,6 +4,7 @@ use Rattle.std.proofs.lemmas.List.{take_all}
 use Rattle.pdl_word.proofs.Bools.{untrue}
 use Rattle.pdl_net_needed.specs.Pruned.{kept_of, kept_before}
 
+-- of an empty list nothing is kept
 pub kept_none : {A : Type 0} (bs : List Bool) → kept_of {A = A} bs [] ≡ []
 kept_none [] = refl
 kept_none (b ∷ bs) = refl
@@ -17,12 +18,14 @@ kept_get (false ∷ bs) (x ∷ xs) zero d e = untrue e
 kept_get (true ∷ bs) (x ∷ xs) (suc n) d e = kept_get bs xs n d e
 kept_get (false ∷ bs) (x ∷ xs) (suc n) d e = kept_get bs xs n d e
 
+-- as many elements are kept as marks are set, where there is a mark for each
 pub kept_length : {A : Type 0} (bs : List Bool) (xs : List A) → length bs ≡ length xs → length (kept_of bs xs) ≡ kept_before bs (length bs)
 kept_length [] xs e = refl
 kept_length (b ∷ bs) [] e = absurd (omega (arith, e))
 kept_length (true ∷ bs) (x ∷ xs) e = ap suc (kept_length bs xs (omega (arith, e)))
 kept_length (false ∷ bs) (x ∷ xs) e = kept_length bs xs (omega (arith, e))
 
+-- what is made of the kept elements is what is kept of that which is made of all
 pub kept_map : {A B : Type 0} (f : A → B) (bs : List Bool) (xs : List A) → map f (kept_of bs xs) ≡ kept_of bs (map f xs)
 kept_map f [] xs = refl
 kept_map f (b ∷ bs) [] = refl
@@ -38,6 +41,7 @@ kept_less (false ∷ bs) zero (suc n) h e = untrue e
 kept_less (true ∷ bs) (suc m) (suc n) h e = let i = kept_less bs m n (omega arith) e in omega (arith, i)
 kept_less (false ∷ bs) (suc m) (suc n) h e = kept_less bs m n (omega arith) e
 
+-- a mark that is set is one of the marks
 pub within_marks : (bs : List Bool) (n : ℕ) → get_or bs n false ≡ true → n < length bs
 within_marks [] n e = untrue e
 within_marks (b ∷ bs) zero e = omega arith
@@ -62,6 +66,7 @@ pub record HasPlace (bs : List Bool) (i : ℕ) : Type 0 where
   pub kept : get_or bs old false ≡ true
   pub here : kept_before bs old ≡ i
 
+-- each number below that of the kept elements is the place of one among them
 pub kept_from : (bs : List Bool) (i : ℕ) → i < kept_before bs (length bs) → HasPlace bs i
 kept_from [] i h = absurd (omega arith)
 kept_from (true ∷ bs) zero h = record { old = zero; kept = refl; here = refl }
@@ -90,12 +95,14 @@ kept_left f (false ∷ bs) (x ∷ xs) (suc i) e = kept_left f bs xs i e
 pub kept_more : {A B : Type 0} (f : A → B) (bs : List Bool) (xs : List A) (i : ℕ) (d : A) → i < length xs → get_or bs i false ≡ true → map f (kept_of (take (i + 1) bs) (take (i + 1) xs)) ≡ map f (kept_of (take i bs) (take i xs)) ++ f (get_or xs i d) ∷ []
 kept_more f bs xs i d l e = rw add-one (kept_taken f d bs xs i l e)
 
+-- the kept ones of the first i + 1 elements are those of the first i, where the last of these isn't kept
 pub kept_fewer : {A B : Type 0} (f : A → B) (bs : List Bool) (xs : List A) (i : ℕ) → get_or bs i false ≡ false → map f (kept_of (take (i + 1) bs) (take (i + 1) xs)) ≡ map f (kept_of (take i bs) (take i xs))
 kept_fewer f bs xs i e = rw add-one (kept_left f bs xs i e)
 
-pub kept_all : {A B : Type 0} (f : A → B) (bs : List Bool) (xs : List A) (i : ℕ) → length bs ≡ length xs → length xs ≤ i → map f (kept_of (take i bs) (take i xs)) ≡ map f (kept_of bs xs)
+kept_all : {A B : Type 0} (f : A → B) (bs : List Bool) (xs : List A) (i : ℕ) → length bs ≡ length xs → length xs ≤ i → map f (kept_of (take i bs) (take i xs)) ≡ map f (kept_of bs xs)
 kept_all f bs xs i e l = ap (λ cs. map f (kept_of cs (take i xs))) (take_all i bs (omega arith)) ∙ ap (λ ys. map f (kept_of bs ys)) (take_all i xs l)
 
+-- no kept element stands before the first place
 pub none_before : (bs : List Bool) → kept_before bs zero ≡ zero
 none_before [] = refl
 none_before (b ∷ bs) = refl
@@ -118,6 +125,7 @@ kept_step (false ∷ bs) (suc i) = kept_step bs i
 pub count_more : (bs : List Bool) (i : ℕ) → get_or bs i false ≡ true → kept_before bs (i + 1) ≡ kept_before bs i + 1
 count_more bs i e = let s = kept_step bs i ∙ ap (λ b. cond b (suc (kept_before bs i)) (kept_before bs i)) e in let m : i + 1 ≡ suc i = omega arith in let n : kept_before bs i + 1 ≡ suc (kept_before bs i) = omega arith in ap (kept_before bs) m ∙ s ∙ sym n
 
+-- no more kept ones stand before place i + 1 than before place i, where the one there isn't kept
 pub count_same : (bs : List Bool) (i : ℕ) → get_or bs i false ≡ false → kept_before bs (i + 1) ≡ kept_before bs i
 count_same bs i e = rw add-one (kept_step bs i ∙ ap (λ b. cond b (suc (kept_before bs i)) (kept_before bs i)) e)
 

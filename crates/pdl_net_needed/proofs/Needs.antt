@@ -18,8 +18,8 @@ use Rattle.pdl_net_needed.specs.Needed.{reads_of, shown_by, read_by, written_fro
 use Rattle.pdl_net_needed.specs.Needed.IsNeeded.{outside, inside}
 use Rattle.pdl_net_needed.specs.Pruned.{kept_of, kept_before, moved_net, moved_cell, moved_port, moved_reg, moved_write, moved_array}
 use Rattle.pdl_net_needed.proofs.Counts.{kept_get, kept_length, kept_within, kept_from}
-use Rattle.pdl_net_needed.proofs.Closed.{IsClosed, closed}
-use Rattle.pdl_net_needed.proofs.Moved.{after, reg_moved}
+use Rattle.pdl_net_needed.proofs.ClosedChoices.{IsClosed, closed}
+use Rattle.pdl_net_needed.proofs.PrunedParts.{after, reg_moved}
 
 -- ---- what is read is read by its new number
 
@@ -58,6 +58,7 @@ used_moved k n =
     ∙ ap (λ xs. map (moved_net k) shown ++ xs) (arrays_moved k n.arrays)
     ∙ sym (map-append (moved_net k) shown (flat_map written_from n.arrays))
 
+-- a cell that a closed choice keeps stands at its new number, with the new numbers of what it reads
 pub cell_moved : (k : Choice) (n : Netlist) → IsClosed (circuit_of n) k → (j : ℕ) → IsKept k (CellNet j) → cell_at (after k n) (kept_before k.cells j) ≡ moved_cell k (cell_at (circuit_of n) j)
 cell_moved k n h j kept =
     let e = kept_length k.cells n.cells h.cell_count in
@@ -81,6 +82,7 @@ needed_moved : (k : Choice) (n : Netlist) → KeepsNeeded (circuit_of n) k → {
 needed_moved k n h (outside {x = x} m) = outside (contains_moved k (used_outside (circuit_of n)) (used_outside (after k n)) x (used_moved k n) m)
 needed_moved k n h (inside {x = x} {y = y} b m) = inside (needed_moved k n h b) (contains_moved k (sources (circuit_of n) x) (sources (after k n) (moved_net k x)) y (sources_moved k n (closed (circuit_of n) k h) x (h.needed x b)) m)
 
+-- each register and each cell of a pruned netlist is needed in it, where just what was needed is kept
 pub all_needed : (k : Choice) (n : Netlist) → KeepsNeeded (circuit_of n) k → AllNeeded (after k n)
 all_needed k n h = record {
   regs = λ r l.

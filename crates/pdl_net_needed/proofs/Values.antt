@@ -40,6 +40,7 @@ pub record IsSameNet (s s' : State) (There' : Net → Type 0) (f : Signal) (at' 
   pub there : There' y
   pub same : SameAt s s' f (at' y)
 
+-- each kept net that is there is there by its new number, with the same width and value
 abbrev pub KeepsNets : Choice → State → State → (Net → Type 0) → (Net → Type 0) → (Net → Signal) → (Net → Signal) → Type 0
 KeepsNets k s s' There There' at at' = (x : Net) → There x → IsKept k x → IsSameNet s s' There' (at x) at' (moved_net k x)
 
@@ -87,6 +88,7 @@ pub record Agrees (k : Choice) (s s' : State) (done done' : List Signal) : Type 
   pub count : length done' ≡ kept_before k.cells (length done)
   pub cells : (j : ℕ) → j < length done → IsKept k (CellNet j) → SameAt s s' (get_or done j no_signal) (get_or done' (kept_before k.cells j) no_signal)
 
+-- kept nets have the same values in the pruned circuit where those of the first cells have
 pub looked : (c c' : Circuit) (k : Choice) (s s' : State) → HasMoved c c' k → IsSameState k s s' → (done done' : List Signal) → Agrees k s s' done done' → KeepsNets k s s' (IsThereAt c (length done)) (IsThereAt c' (length done')) (look c done) (look c' done')
 unfolding input_value reg_value
 looked c c' k s s' m t done done' g (Input i) l e = record {
@@ -157,6 +159,7 @@ pub record IsSameRest (c c' : Circuit) (k : Choice) (s s' : State) (gs : List Ce
   pub fit : AllFit c' gs' done'
   pub agree : Agrees k s s' (signals_from c gs done) (signals_from c' gs' done')
 
+-- the kept ones among the other cells fit, and have the values that they had
 pub rest_same : (c c' : Circuit) (k : Choice) (s s' : State) → HasMoved c c' k → IsSameState k s s'
     → (gs : List Cell) (front bs : List Bool) (done done' : List Signal)
     → k.cells ≡ front ++ bs → length front ≡ length done → length bs ≡ length gs

@@ -12,6 +12,7 @@ pub record Work : Type 0 where
   pub kept : Choice
   pub waiting : List Net
 
+-- nothing is marked yet, and nothing is to be looked at
 abbrev pub begun : Circuit → Work
 begun c = record { kept = none_kept (length c.regs) (length c.cells); waiting = [] }
 

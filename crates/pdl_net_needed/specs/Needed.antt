@@ -38,9 +38,11 @@ written_from a = flat_map read_by a.writes
 abbrev pub used_outside : Circuit → List Net
 used_outside c = flat_map (λ p. shown_by p.dir) c.ports ++ flat_map written_from c.arrays
 
+-- the cell past the last one
 abbrev pub no_cell : Cell
 no_cell = Const 0 0
 
+-- the k-th cell
 abbrev pub cell_at : Circuit → ℕ → Cell
 cell_at c k = slice_index_or c.cells k no_cell
 
@@ -66,6 +68,7 @@ is_kept k (Input i) = true
 is_kept k (RegNet r) = slice_index_or k.regs r false
 is_kept k (CellNet j) = slice_index_or k.cells j false
 
+-- a net is kept, or is an input
 abbrev pub IsKept : Choice → Net → Type 0
 IsKept k x = IsTrue (is_kept k x)
 

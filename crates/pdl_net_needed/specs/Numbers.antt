@@ -3,6 +3,7 @@ use Rattle.pdl_net_needed.specs.declared.kept.Kept.TheInside.{Inside}
 use Rattle.pdl_net_needed.specs.Needed.{Choice}
 use Rattle.pdl_net_needed.specs.Marks.{AreNumbers}
 
+-- what is kept, without the new numbers
 abbrev pub choice_of_parts : Inside → Choice
 choice_of_parts k = k.marks
 

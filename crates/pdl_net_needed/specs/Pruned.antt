@@ -44,22 +44,28 @@ over_nets f (Cat a b) = Cat (f a) (f b)
 over_nets f (Rep n a) = Rep n (f a)
 over_nets f (Read m a) = Read m (f a)
 
+-- a cell over the new numbers of its nets
 abbrev pub moved_cell : Choice → Cell → Cell
 moved_cell k g = over_nets (moved_net k) g
 
+-- a port's direction, with the new number of the net that an output shows
 abbrev pub moved_dir : Choice → Dir → Dir
 moved_dir k In = In
 moved_dir k (Out x) = Out (moved_net k x)
 
+-- a port, with the new number of the net that it shows
 abbrev pub moved_port : Choice → Port → Port
 moved_port k p = record { name = p.name; width = p.width; dir = moved_dir k p.dir }
 
+-- a register, with the new number of the net that it takes next
 abbrev pub moved_reg : Choice → Reg → Reg
 moved_reg k r = record { width = r.width; reset = r.reset; next = moved_net k r.next }
 
+-- a write port, with the new numbers of its nets
 abbrev pub moved_write : Choice → WritePort → WritePort
 moved_write k p = record { enable = moved_net k p.enable; addr = moved_net k p.addr; value = moved_net k p.value }
 
+-- an array, with the new numbers of the nets of its write ports
 abbrev pub moved_array : Choice → Array → Array
 moved_array k a = record { name = a.name; width = a.width; depth = a.depth; writes = map (moved_write k) a.writes }
 

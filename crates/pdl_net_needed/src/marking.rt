@@ -59,7 +59,7 @@ impl Marking {
     }
 
     /// Marks a net.
-    #[tactic(auto, using(crate::proofs::Added::adds_marked))]
+    #[tactic(auto, using(crate::proofs::AddedMarks::adds_marked))]
     fn need(&mut self, net: Net) -> Result<(), NoMemory>
         requires { IsWithin self.old.kept net }
         ensures { OnOk result (Adds self.old self.new (net ∷ [])) }
@@ -72,7 +72,7 @@ impl Marking {
         Ok(())
     }
 
-    #[tactic(auto, using(crate::proofs::Added::firsts))]
+    #[tactic(auto, using(crate::proofs::AddedMarks::firsts))]
     fn need_reads(&mut self, cell: Cell) -> Result<(), NoMemory>
         requires { Each (IsWithin self.old.kept) (reads_of cell) }
         ensures { OnOk result (Adds self.old self.new (reads_of cell)) }
@@ -93,7 +93,7 @@ impl Marking {
         }
     }
 
-    #[tactic(auto, using(crate::proofs::Added::firsts))]
+    #[tactic(auto, using(crate::proofs::AddedMarks::firsts))]
     fn need_two(&mut self, a: Net, b: Net) -> Result<(), NoMemory>
         requires { Each (IsWithin self.old.kept) (a ∷ b ∷ []) }
         ensures { OnOk result (Adds self.old self.new (a ∷ b ∷ [])) }
@@ -104,7 +104,7 @@ impl Marking {
     }
 
     /// Marks what a net takes its value from.
-    #[tactic(auto, using(crate::proofs::Added::adds_none, pdl_net::proofs::Widths::nets))]
+    #[tactic(auto, using(crate::proofs::AddedMarks::adds_none, pdl_net::proofs::Widths::nets))]
     fn need_sources(&mut self, n: &Netlist, net: Net) -> Result<(), NoMemory>
         requires there { IsThere (circuit_of n.now) net }
         requires within { Each (IsWithin self.old.kept) (sources (circuit_of n.now) net) }
@@ -117,7 +117,7 @@ impl Marking {
         }
     }
 
-    #[tactic(auto, using(crate::proofs::Added::adds_none))]
+    #[tactic(auto, using(crate::proofs::AddedMarks::adds_none))]
     fn need_shown(&mut self, dir: Dir) -> Result<(), NoMemory>
         requires { Each (IsWithin self.old.kept) (shown_by dir) }
         ensures { OnOk result (Adds self.old self.new (shown_by dir)) }
@@ -129,7 +129,7 @@ impl Marking {
     }
 
     /// Marks what the outputs show.
-    #[tactic(auto, using(crate::proofs::Added::lists))]
+    #[tactic(auto, using(crate::proofs::AddedMarks::lists))]
     fn need_ports(&mut self, ports: &[Port]) -> Result<(), NoMemory>
         requires { Each (IsWithin self.old.kept) (flat_map (λ p. shown_by p.dir) ports.now) }
         ensures { OnOk result (Adds self.old self.new
@@ -142,7 +142,7 @@ impl Marking {
         Ok(())
     }
 
-    #[tactic(auto, using(crate::proofs::Added::firsts))]
+    #[tactic(auto, using(crate::proofs::AddedMarks::firsts))]
     fn need_write(&mut self, port: WritePort) -> Result<(), NoMemory>
         requires { Each (IsWithin self.old.kept) (read_by port) }
         ensures { OnOk result (Adds self.old self.new (read_by port)) }
@@ -152,7 +152,7 @@ impl Marking {
         Ok(())
     }
 
-    #[tactic(auto, using(crate::proofs::Added::lists))]
+    #[tactic(auto, using(crate::proofs::AddedMarks::lists))]
     fn need_writes(&mut self, ports: &[WritePort]) -> Result<(), NoMemory>
         requires { Each (IsWithin self.old.kept) (flat_map read_by ports.now) }
         ensures { OnOk result (Adds self.old self.new (flat_map read_by ports.now)) }
@@ -164,7 +164,7 @@ impl Marking {
     }
 
     /// Marks what the write ports read.
-    #[tactic(auto, using(crate::proofs::Added::lists))]
+    #[tactic(auto, using(crate::proofs::AddedMarks::lists))]
     fn need_arrays(&mut self, arrays: &[Array]) -> Result<(), NoMemory>
         requires { Each (IsWithin self.old.kept) (flat_map written_from arrays.now) }
         ensures { OnOk result (Adds self.old self.new (flat_map written_from arrays.now)) }
@@ -184,7 +184,7 @@ impl Marking {
     }
 
     /// Marks the sources of all that is marked.
-    #[tactic(auto, using(crate::proofs::Marked::taken))]
+    #[tactic(auto, using(crate::proofs::MarkedNets::taken))]
     fn close(&mut self, n: &Netlist) -> Result<(), NoMemory>
         requires well { IsWell (circuit_of n.now) }
         requires begun { IsMarking (circuit_of n.now) self.old }

@@ -21,7 +21,7 @@ use Rattle.pdl_netrun.proofs.Orders.{all_placed}
 
 -- WRITES ONE AFTER ANOTHER
 
-pub after_all_append : (ps qs : List ArrayWrite) (vs : List ℕ) (ws : List (List ℕ)) → after_all (ps ++ qs) vs ws ≡ after_all qs vs (after_all ps vs ws)
+after_all_append : (ps qs : List ArrayWrite) (vs : List ℕ) (ws : List (List ℕ)) → after_all (ps ++ qs) vs ws ≡ after_all qs vs (after_all ps vs ws)
 after_all_append [] qs vs ws = refl
 after_all_append (p ∷ ps) qs vs ws = after_all_append ps qs vs (after_write p vs ws)
 

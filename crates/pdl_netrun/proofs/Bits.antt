@@ -15,10 +15,12 @@ top_off n w h =
     let p : n * 2 ^ s % 2 ^ (w + s) ≡ n % 2 ^ w * 2 ^ s = mod-pow-add (n * 2 ^ s) w s ∙ ap₂ (λ x y. x % 2 ^ w * 2 ^ s + y) (shl-shr n s) (mul-mod_left n (2 ^ s)) ∙ z in
     ap (λ k. n * 2 ^ s % 2 ^ k / 2 ^ s) (sym e) ∙ ap (λ x. x / 2 ^ s) p ∙ shl-shr (n % 2 ^ w) s
 
+-- the lowest w bits of a sum of 64 bits are the sum of w bits
 pub added : (w a b : ℕ) → w ≤ 64 → (a + b) % 2 ^ 64 % 2 ^ w ≡ add w a b
 unfolding add
 added w a b h = mod_of_64 (a + b) w h
 
+-- the lowest w bits of a product of 64 bits are the product of w bits
 pub multiplied : (w a b : ℕ) → w ≤ 64 → a * b % 2 ^ 64 % 2 ^ w ≡ mul w a b
 unfolding mul
 multiplied w a b h = mod_of_64 (a * b) w h
@@ -33,11 +35,13 @@ sliced high low a h =
 
 -- A BIT, REPEATED
 
+-- k copies of the bit 0 are 0
 pub no_bits : (k a : ℕ) → a ≡ 0 → rep 1 k a ≡ 0
 unfolding rep
 no_bits zero a e = refl
 no_bits (suc k) a e = let r = no_bits k a e in omega (arith, r, e)
 
+-- k copies of the bit 1 are the largest word of k bits
 pub all_bits : (k a : ℕ) → a ≡ 1 → rep 1 k a ≡ mask k
 unfolding rep mask
 all_bits zero a e = refl
@@ -66,6 +70,7 @@ moved_up w a b h l =
     let m : b % 64 ≡ b = mod-eq_of_lt (omega arith) in
     ap (λ k. a * 2 ^ k % 2 ^ 64 % 2 ^ w) m ∙ mod_of_64 (a * 2 ^ b) w h ∙ sym (shl_within w a b l)
 
+-- a shift down of 64 bits is one of w bits, where it is by less than w
 pub moved_down : (w a b : ℕ) → w ≤ 64 → b < w → a / 2 ^ (b % 64) ≡ shr w a b
 moved_down w a b h l =
     let m : b % 64 ≡ b = mod-eq_of_lt (omega arith) in

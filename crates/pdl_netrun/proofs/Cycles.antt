@@ -18,12 +18,13 @@ use Rattle.pdl_netrun.specs.Outside.{AreOutside, WordsFit, stores_of, stores_aft
 use Rattle.pdl_netrun.specs.Inside.{IsReady, run_of, seen_at}
 use Rattle.pdl_netrun.proofs.Arrays.{arrays_written, writes_fit}
 use Rattle.pdl_netrun.proofs.Environment.{stores_named, words_kept}
-use Rattle.pdl_netrun.proofs.Stepped.{state_now, suits_now, answers_count, begun_values, begun_count, walked_now, drivers_below, outputs_read, nexts_below, nexts_read}
+use Rattle.pdl_netrun.proofs.SimCycle.{state_now, suits_now, answers_count, begun_values, begun_count, walked_now, drivers_below, outputs_read, nexts_below, nexts_read}
 
 -- the values after the walk
-abbrev pub walked_values : Inside → ℕ → List ℕ
+abbrev walked_values : Inside → ℕ → List ℕ
 walked_values a bits = after_steps (steps_of a.runs.items) a.first_cell (begun_values a bits) (array_words a.arrays.items)
 
+-- the steps of a cycle fit the values with which the walk begins
 pub fit_now : (a : Inside) (bits : ℕ) → IsReady a → (xs : List CellRun) (vs : List ℕ) (ws : List (Vec ℕ Global)) → xs ≡ a.runs.items → vs ≡ begun_values a bits → ws ≡ a.arrays.items → StepsFit (steps_of xs) a.first_cell vs (array_words ws)
 fit_now a bits r xs vs ws e f g =
     subst (λ x. StepsFit (steps_of x) a.first_cell vs (array_words ws)) (sym e)
@@ -38,6 +39,7 @@ pub record AreWalked (a : Inside) (bits : ℕ) (ps : List ℕ) (vs : List ℕ) :
   pub few : first_place (circuit_of a.net.now) ≤ length vs
   pub constants : HasConstants (circuit_of a.net.now) ps (length vs) vs
 
+-- after the walk the list has the values of all nets in the cycle
 pub now_walked : (a : Inside) (bits : ℕ) (r : IsReady a) (vs : List ℕ) → vs ≡ walked_values a bits → AreWalked a bits r.places vs
 now_walked a bits r vs e =
     let c = circuit_of a.net.now in
@@ -52,15 +54,19 @@ now_walked a bits r vs e =
       constants = subst (λ (i : ℕ). HasConstants c r.places i (walked_values a bits)) k w.constants;
     })
 
+-- the places of what the registers take next are among those of the values
 pub nexts_now : (a : Inside) (bits : ℕ) → IsReady a → (ps vs : List ℕ) → ps ≡ a.nexts.items → vs ≡ walked_values a bits → AreBelow (length vs) ps
 nexts_now a bits r ps vs e f = let w = now_walked a bits r vs f in nexts_below (circuit_of a.net.now) r.well r.places (length vs) w.all w.few ps (e ∙ r.nexts)
 
+-- the values at the places of what the registers take next are what they take next in the circuit
 pub regs_now : (a : Inside) (bits : ℕ) → IsReady a → (ps vs next : List ℕ) → ps ≡ a.nexts.items → vs ≡ walked_values a bits → next ≡ map (slice_index vs) ps → next ≡ next_regs (circuit_of a.net.now) (state_now a bits)
 regs_now a bits r ps vs next e f g = let w = now_walked a bits r vs f in g ∙ nexts_read (circuit_of a.net.now) (state_now a bits) r.well r.places vs w.values w.all w.few ps (e ∙ r.nexts)
 
+-- the values at the places of the outputs' nets are those that the outputs show
 pub outs_now : (a : Inside) (bits : ℕ) → IsReady a → (vs : List ℕ) → vs ≡ walked_values a bits → map (slice_index vs) a.drivers.items ≡ output_values (circuit_of a.net.now) (state_now a bits)
 outs_now a bits r vs f = let w = now_walked a bits r vs f in outputs_read (circuit_of a.net.now) (state_now a bits) r.well r.places vs w.values w.all w.few a.drivers.items r.drivers
 
+-- the planned writes of the arrays fit the values after the walk
 pub writes_now : (a : Inside) (bits : ℕ) → IsReady a → (ps : List ArrayWrite) (vs : List ℕ) (ws : List (Vec ℕ Global)) → ps ≡ a.writes.items → vs ≡ walked_values a bits → ws ≡ a.arrays.items → All (λ p. WriteFits p vs (array_words ws)) ps
 writes_now a bits r ps vs ws e f g =
     let w = now_walked a bits r vs f in
@@ -68,6 +74,7 @@ writes_now a bits r ps vs ws e f g =
     (subst (λ x. All (λ p. WriteFits p vs (array_words x)) (planned_writes (circuit_of a.net.now) r.places)) (sym g)
     (writes_fit (circuit_of a.net.now) (state_now a bits) r.well (suits_now a bits r) r.places vs w.values w.all w.few))
 
+-- the arrays after the planned writes are those after the cycle of the circuit
 pub arrays_now : (a : Inside) (bits : ℕ) → IsReady a → (ps : List ArrayWrite) (vs : List ℕ) (ws : List (Vec ℕ Global)) (new : List (List ℕ)) → ps ≡ a.writes.items → vs ≡ walked_values a bits → ws ≡ a.arrays.items → new ≡ after_all ps vs (array_words ws) → new ≡ next_arrays (circuit_of a.net.now) (state_now a bits)
 arrays_now a bits r ps vs ws new e f g h =
     let w = now_walked a bits r vs f in
@@ -78,6 +85,7 @@ arrays_now a bits r ps vs ws new e f g h =
 pub outs_below_now : (a : Inside) (bits : ℕ) → IsReady a → (ps vs : List ℕ) → ps ≡ a.drivers.items → vs ≡ walked_values a bits → AreBelow (length vs) ps
 outs_below_now a bits r ps vs e f = let w = now_walked a bits r vs f in drivers_below (circuit_of a.net.now) r.well r.places (length vs) w.all w.few ps (e ∙ r.drivers)
 
+-- the delayed memories go on by what the outputs show, where they go on by the values at their places
 pub stores_now : (a : Inside) (bits : ℕ) → IsReady a → (ps vs : List ℕ) (old new : List Outside) → ps ≡ a.drivers.items → vs ≡ walked_values a bits → old ≡ a.outside.items → stores_of new ≡ stores_after (map (slice_index vs) ps) old bits
     → stores_of new ≡ stores_after (output_values (circuit_of a.net.now) (state_now a bits)) a.outside.items bits
 stores_now a bits r ps vs old new e f g h = h ∙ ap (λ l. stores_after (map (slice_index vs) ps) l bits) g ∙ ap (λ l. stores_after l a.outside.items bits) (ap (map (slice_index vs)) e ∙ outs_now a bits r vs f)
@@ -102,6 +110,7 @@ outside_now a bits r new e f g =
 pub answers_room : (a : Inside) (bits : ℕ) → IsReady a → (xs vs : List ℕ) → xs ≡ answers (stores_of a.outside.items) bits → vs ≡ a.values.items → 0 + length xs ≤ length vs
 answers_room a bits r xs vs e f = let n = answers_count a bits r in let l = r.room in let d = ap length e in let g = ap length f in omega (arith, n, l, d, g)
 
+-- room for two inputs of each delayed memory is room for those of memories with the same commit ports
 pub inputs_kept : (old new : List Outside) (n : ℕ) → map (λ (m : Outside). m.commits) new ≡ map (λ (m : Outside). m.commits) old → 2 * length old ≤ n → 2 * length new ≤ n
 inputs_kept old new n e h =
     let l = ap length e in
@@ -117,6 +126,7 @@ holds_now a bits r next arrays g h =
 
 -- OUTPUTS
 
+-- the places of the outputs' nets are among those of the values
 pub drivers_now : (a : Inside) → IsReady a → (ps vs : List ℕ) → ps ≡ a.drivers.items → vs ≡ a.values.items → AreBelow (length vs) ps
 drivers_now a r ps vs e f =
     let m = r.room in

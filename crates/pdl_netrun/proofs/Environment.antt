@@ -16,8 +16,8 @@ use Rattle.pdl_net.specs.Well.{Suits}
 use Rattle.pdl_net.specs.Pipe.{PortMem, reply_widths, delayed_info, IsPipe, IsWellFormed}
 use Rattle.pdl_net.specs.Run.{Store, answer, answers, commit_of, committed_words, delayed_mems, is_waiting, next_stores, outstanding, port_value, reply, some_waits}
 use Rattle.pdl_net.proofs.PipeMems.{delayed_told, delayed_in_front}
-use Rattle.pdl_net.proofs.Loaded.{inputs_told}
-use Rattle.pdl_net.proofs.Committed.{committed_fits}
+use Rattle.pdl_net.proofs.StartState.{inputs_told}
+use Rattle.pdl_net.proofs.CommitWidths.{committed_fits}
 use Rattle.pdl_netrun.specs.declared.places.CommitPlaces.{CommitPlaces}
 use Rattle.pdl_netrun.specs.declared.places.RequestPlaces.{RequestPlaces}
 use Rattle.pdl_netrun.specs.declared.outside.Outside.{Outside}
@@ -26,6 +26,7 @@ use Rattle.pdl_netrun.specs.Places.{places_of}
 
 -- THE ANSWERS
 
+-- before the first memory there are no inputs yet
 pub answered_none : (ms : List Outside) (replies : ℕ) → answers (stores_of ms) replies ≡ [] ++ answers (stores_of (drop 0 ms)) replies
 answered_none ms replies = refl
 
@@ -37,6 +38,7 @@ answered_more ms k m bits replies xs h g e =
     e ∙ ap (λ l. xs ++ answers (stores_of l) bits) (drop_next ms k m h g)
     ∙ sym (append_assoc xs (answer m.words.items m.request (reply bits)) (answers (stores_of (drop (k + 1) ms)) (bits / 2)))
 
+-- after the last memory the inputs are those of all
 pub answered_all : (ms : List Outside) (k bits replies : ℕ) (xs : List ℕ) → length ms ≤ k → answers (stores_of ms) replies ≡ xs ++ answers (stores_of (drop k ms)) bits → xs ≡ answers (stores_of ms) replies
 answered_all ms k bits replies xs h e = sym (e ∙ ap (λ l. xs ++ answers (stores_of l) bits) (drop_all k ms h) ∙ append-nil xs)
 
@@ -50,6 +52,7 @@ or_false : (a : Bool) → (a || false) ≡ a
 or_false true = refl
 or_false false = refl
 
+-- whether one waits, with one memory more
 pub waiting_more : (ms : List Outside) (k : ℕ) (m : Outside) (bits replies : ℕ) (w : Bool) → k < length ms → m ≡ get_or ms k m
     → some_waits (stores_of ms) replies ≡ (w || some_waits (stores_of (drop k ms)) bits)
     → some_waits (stores_of ms) replies ≡ ((w || is_waiting m.request (reply bits)) || some_waits (stores_of (drop (k + 1) ms)) (bits / 2))
@@ -57,6 +60,7 @@ waiting_more ms k m bits replies w h g e =
     e ∙ ap (λ l. w || some_waits (stores_of l) bits) (drop_next ms k m h g)
     ∙ or_assoc w (is_waiting m.request (reply bits)) (some_waits (stores_of (drop (k + 1) ms)) (bits / 2))
 
+-- after the last memory it is known whether one waits
 pub waiting_all : (ms : List Outside) (k bits replies : ℕ) (w : Bool) → length ms ≤ k → some_waits (stores_of ms) replies ≡ (w || some_waits (stores_of (drop k ms)) bits) → w ≡ some_waits (stores_of ms) replies
 waiting_all ms k bits replies w h e = sym (e ∙ ap (λ l. w || some_waits (stores_of l) bits) (drop_all k ms h) ∙ or_false w)
 
@@ -70,9 +74,11 @@ pub record AreStepped (ports : List ℕ) (first now : List Outside) (k bits repl
   pub commits : map (λ (m : Outside). m.commits) now ≡ map (λ (m : Outside). m.commits) first
   pub requests : map (λ (m : Outside). m.requests) now ≡ map (λ (m : Outside). m.requests) first
 
+-- before the first memory none has had its cycle
 pub stepped_none : (ports : List ℕ) (ms : List Outside) (replies : ℕ) → AreStepped ports ms ms 0 replies replies
 stepped_none ports ms replies = record { many = refl; left = refl; stores = refl; commits = refl; requests = refl }
 
+-- one memory more has had its cycle
 pub stepped_more : (ports : List ℕ) (first now : List Outside) (k bits replies : ℕ) (m new : Outside) → k < length now → m ≡ get_or now k m
     → store_of new ≡ store_after ports (reply bits) m → new.commits ≡ m.commits → new.requests ≡ m.requests
     → AreStepped ports first now k bits replies → AreStepped ports first (set now k new) (k + 1) (bits / 2) replies
@@ -94,6 +100,7 @@ stepped_more ports first now k bits replies m new h g f c q s =
       requests = map-set_same (λ (x : Outside). x.requests) now k new m (q ∙ ap (λ (x : Outside). x.requests) g) ∙ s.requests;
     }
 
+-- after the last memory all have had their cycle
 pub stepped_all : (ports : List ℕ) (first now : List Outside) (k bits replies : ℕ) → length now ≤ k → AreStepped ports first now k bits replies → stores_of now ≡ stores_after ports first replies
 stepped_all ports first now k bits replies h s =
     let n = s.many in
@@ -114,6 +121,7 @@ pub record AreFirst (c : Circuit) (mems : List MemInfo) (image : List (List ℕ)
   pub commits : map (λ (m : Outside). m.commits) ms ≡ map (λ (i : MemInfo). places_of c i.name) (take k mems)
   pub requests : map (λ (m : Outside). m.requests) ms ≡ map (λ (i : MemInfo). requests_of c i.name) (take k mems)
 
+-- an empty list has the first 0 memories
 pub first_none : (c : Circuit) (mems : List MemInfo) (image : List (List ℕ)) (ms : List Outside) → ms ≡ [] → AreFirst c mems image 0 ms
 first_none c mems image ms e = record { stores = ap stores_of e; commits = ap (map (λ (m : Outside). m.commits)) e; requests = ap (map (λ (m : Outside). m.requests)) e }
 
@@ -123,6 +131,7 @@ mapped_next f g xs ys k x d e h q =
     map-append f xs (x ∷ []) ∙ ap (λ l. l ++ f x ∷ []) e ∙ ap (λ z. map g (take k ys) ++ z ∷ []) q
     ∙ sym (map-append g (take k ys) (get_or ys k d ∷ [])) ∙ ap (map g) (sym (take_more ys k d h))
 
+-- with one memory more, which has its part of the image, they are the first k + 1
 pub first_more : (c : Circuit) (mems : List MemInfo) (image : List (List ℕ)) (k : ℕ) (ms new : List Outside) (i : MemInfo) (m : Outside) → k < length mems → k < length image
     → i ≡ get_or mems k i → IsOutsideOf c i.name (get_or image k []) m → new ≡ ms ++ m ∷ [] → AreFirst c mems image k ms → AreFirst c mems image (k + 1) new
 first_more c mems image k ms new i m h l e o f s =
@@ -153,6 +162,7 @@ answer_fits w words None b ws inputs f h = pair_fits 1 w 0 0 ws inputs (omega ar
 answer_fits w words (Some a) true ws inputs f h = pair_fits 1 w 1 (slice_index words a) ws inputs (omega arith) (f a) h
 answer_fits w words (Some a) false ws inputs f h = pair_fits 1 w 0 0 ws inputs (omega arith) (pow_pos w) h
 
+-- what delayed memories answer fits their inputs, where their words do
 pub inputs_fit : (ws : List ℕ) (ms : List Store) (bits : ℕ) → WordsFit ws ms → InputsFit ws (answers ms bits)
 inputs_fit [] [] bits f = record { count = refl; each = λ i l. absurd (omega (arith, l)) }
 inputs_fit [] (m ∷ ms) bits f = absurd f
@@ -236,6 +246,7 @@ pub record FitAtStart (n : Netlist) (image : List (List ℕ)) : Type 0 where
   pub words : WordsFit (inputs_of (circuit_of n)) (first_stores (take (length (delayed_mems n)) image))
   pub commits : CommitsFit (circuit_of n) (inputs_of (circuit_of n)) (delayed_mems n)
 
+-- what a well formed netlist's delayed memories hold at the start, and commit, fits their inputs
 pub fit_at_start : (n : Netlist) (image : List (List ℕ)) → IsWellFormed n → IsImage n.mems image → FitAtStart n image
 fit_at_start n image w i =
     let c = circuit_of n in

@@ -6,7 +6,7 @@ pub mod PlanLemmas
 pub mod Values
 pub mod Arrays
 pub mod Environment
-pub mod Begun
-pub mod Stepped
+pub mod Reset
+pub mod SimCycle
 pub mod Cycles
 pub mod Sample

@@ -10,7 +10,7 @@ use Rattle.pdl_net.specs.declared.Cell.TheVariants as cell
 use Rattle.pdl_net.specs.Circuit.{Circuit}
 use Rattle.pdl_net.specs.Meaning.{signal, IsThereAt}
 use Rattle.pdl_net.specs.Well.{FitsIn, IsWell}
-use Rattle.pdl_net.proofs.Fix.{fits_cell}
+use Rattle.pdl_net.proofs.CellSignals.{fits_cell}
 use Rattle.pdl_netrun.specs.Order.{first_place, unplaced, IsPlaced, Reads, IsEarly, cell_at, IsTurn, HasTurn, IsOrder, AllEarly}
 
 -- WHAT A CELL READS
@@ -48,7 +48,7 @@ fits_both c There Also (cell.Rep k a) h r = (r, h.1, h.2)
 fits_both c There Also (cell.Read m a) h r = (h.0, r, h.2)
 
 -- a net that is there early is there later
-pub there_later : (c : Circuit) (k n : ℕ) (x : Net) → k ≤ n → IsThereAt c k x → IsThereAt c n x
+there_later : (c : Circuit) (k n : ℕ) (x : Net) → k ≤ n → IsThereAt c k x → IsThereAt c n x
 there_later c k n (Input i) l h = h
 there_later c k n (RegNet r) l h = h
 there_later c k n (CellNet j) l h = omega arith
@@ -147,6 +147,7 @@ all_unplaced zero k h = absurd (omega arith)
 all_unplaced (suc n) zero h = refl
 all_unplaced (suc n) (suc k) h = all_unplaced n k (omega arith)
 
+-- an order without cells, in which no cell has a place
 pub order_first : (c : Circuit) (order ps : List ℕ) → order ≡ [] → ps ≡ replicate (length c.cells) unplaced → first_place c < unplaced → IsOrder c order ps
 order_first c order ps e f h =
     let n = ap length e in
@@ -163,18 +164,19 @@ early_before c ps k n l f (Input i) h = omega arith
 early_before c ps k n l f (RegNet r) h = omega arith
 early_before c ps k n l f (CellNet j) h = f j h
 
+-- a cell reads nets of earlier places, where all cells before it have one before this place
 pub reads_before : (c : Circuit) (ps : List ℕ) (k n : ℕ) → IsWell c → k < length c.cells → first_place c ≤ n → ((j : ℕ) → j < k → slice_index ps j < n) → Reads (IsEarly c ps n) (cell_at c k)
 reads_before c ps k n w h l f = reads_each (IsThereAt c k) (IsEarly c ps n) (early_before c ps k n l f) (cell_at c k) (reads_fit c (IsThereAt c k) (cell_at c k) (fits_cell c w.cells k h))
 
 -- a cell with a place has one before the next
-pub placed_early : (c : Circuit) (order ps : List ℕ) (k : ℕ) → IsOrder c order ps → k < length c.cells → slice_index ps k ≢ unplaced → slice_index ps k < first_place c + length order
+placed_early : (c : Circuit) (order ps : List ℕ) (k : ℕ) → IsOrder c order ps → k < length c.cells → slice_index ps k ≢ unplaced → slice_index ps k < first_place c + length order
 placed_early c order ps k o h ne = ⊎_elim
     (λ (u : slice_index ps k ≡ unplaced). absurd (ne u))
     (λ (t : HasTurn c order ps k). let v = t.within in let e = t.own in omega (arith, v, e))
     (o.known k h)
 
 -- all cells up to one more
-pub early_more : (ps : List ℕ) (k n : ℕ) → k < length ps → ((j : ℕ) → j < k → slice_index ps j < n) → (j : ℕ) → j < k + 1 → slice_index (set ps k n) j < n + 1
+early_more : (ps : List ℕ) (k n : ℕ) → k < length ps → ((j : ℕ) → j < k → slice_index ps j < n) → (j : ℕ) → j < k + 1 → slice_index (set ps k n) j < n + 1
 early_more ps k n h f j l = ⊎_elim
     (λ (s : j ≡ k). let e = ap (slice_index (set ps k n)) s ∙ get_or-set_same ps k n 0 h in omega (arith, e))
     (λ (ne : j ≢ k). let e = get_or-set_other ps k j n 0 ne in let i : j < k = omega (arith, l, ne) in let q = f j i in omega (arith, e, q))
@@ -195,6 +197,7 @@ order_next c order ps cells k n o h u e r ne f =
 fits_later : (c : Circuit) (k n : ℕ) → k ≤ n → (g : Cell) → FitsIn c (IsThereAt c k) (signal c) g → FitsIn c (IsThereAt c n) (signal c) g
 fits_later c k n l g h = fits_both c (IsThereAt c k) (IsThereAt c n) g h (reads_each (IsThereAt c k) (IsThereAt c n) (λ x t. there_later c k n x l t) g (reads_fit c (IsThereAt c k) g h))
 
+-- each cell of a well formed circuit fits over all its nets
 pub fits_whole : (c : Circuit) → IsWell c → (k : ℕ) → k < length c.cells → FitsIn c (IsThereAt c (length c.cells)) (signal c) (cell_at c k)
 fits_whole c w k h = fits_later c k (length c.cells) (omega arith) (cell_at c k) (fits_cell c w.cells k h)
 

@@ -28,15 +28,16 @@ use Rattle.pdl_netrun.proofs.Orders.{fits_whole}
 -- RUNS
 
 -- one run more
-pub steps_append : (rs qs : List CellRun) → steps_of (rs ++ qs) ≡ steps_of rs ++ steps_of qs
+steps_append : (rs qs : List CellRun) → steps_of (rs ++ qs) ≡ steps_of rs ++ steps_of qs
 steps_append [] qs = refl
 steps_append (r ∷ rs) qs = ap (λ l. steps_with r.kind r.operands.items ++ l) (steps_append rs qs) ∙ sym (append_assoc (steps_with r.kind r.operands.items) (steps_of rs) (steps_of qs))
 
+-- the steps of one run more come after those of the runs before it
 pub steps_push : (rs : List CellRun) (r : CellRun) → steps_of (rs ++ r ∷ []) ≡ steps_of rs ++ steps_with r.kind r.operands.items
 steps_push rs r = steps_append rs (r ∷ []) ∙ ap (λ l. steps_of rs ++ l) (append-nil (steps_with r.kind r.operands.items))
 
 -- one cell more in a run
-pub with_push : (kind : Kind) (os : List Operands) (o : Operands) → steps_with kind (os ++ o ∷ []) ≡ steps_with kind os ++ step_of kind o ∷ []
+with_push : (kind : Kind) (os : List Operands) (o : Operands) → steps_with kind (os ++ o ∷ []) ≡ steps_with kind os ++ step_of kind o ∷ []
 with_push kind [] o = refl
 with_push kind (p ∷ os) o = ap (λ l. step_of kind p ∷ l) (with_push kind os o)
 
@@ -62,6 +63,7 @@ pub ruleset places = (map_more)
 pub there_in : (o : Order) (n : Netlist) → o.net.now ≡ n → (x : Net) → IsThereAt (circuit_of n) (length n.cells) x → IsNetThere o x
 there_in o n e x h = subst (λ (y : Netlist). IsThereAt (circuit_of y) (length y.cells) x) (sym e) h
 
+-- the net that a register of a well formed circuit takes next is there
 pub next_there : (c : Circuit) (xs : List Reg) (r : ℕ) → IsWell c → r < length c.regs → xs ≡ c.regs → IsThereAt c (length c.cells) (get_or xs r no_reg).next
 unfolding IsThere
 next_there c xs r w h e =
@@ -70,6 +72,7 @@ next_there c xs r w h e =
 
 pub ruleset nexts = (map_more)
 
+-- the net that an output of a well formed circuit shows is there
 pub driver_there : (c : Circuit) (xs : List Port) (i : ℕ) (p : Port) (x : Net) → IsWell c → i < length c.ports → xs ≡ c.ports → p ≡ get_or xs i p → p.dir ≡ Out x → IsThereAt c (length c.cells) x
 unfolding IsThere
 driver_there c xs i p x w h e f g =

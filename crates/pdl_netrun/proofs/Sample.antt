@@ -110,7 +110,7 @@ pipe_well = record {
   count = lit≤ tt;
 }
 
-pub sample_well : IsWellFormed sample
+sample_well : IsWellFormed sample
 sample_well = record {
   well = record { ports = each_got (IsWellPort circuit) circuit.ports ports_well; cells = cells_fit; regs = reg_well; arrays = arrays_well };
   port_names = differing (map (λ p. p.name) sample.ports) refl;
@@ -122,22 +122,27 @@ sample_well = record {
 pub well_of : (n : Netlist) → n ≡ sample → IsWellFormed n
 well_of n e = subst IsWellFormed (sym e) sample_well
 
-pub here_of : (n : Netlist) → n ≡ sample → delayed_mems n ≡ []
+here_of : (n : Netlist) → n ≡ sample → delayed_mems n ≡ []
 here_of n e = ap delayed_mems e
 
+-- the netlist of the tests has outputs 0 to 6
 pub output_of : (n : Netlist) (i : ℕ) → n ≡ sample → i < 7 → i < length (outputs_of (circuit_of n))
 output_of n i e h = let l : length (outputs_of (circuit_of n)) ≡ 7 = ap (λ x. length (outputs_of (circuit_of x))) e in omega (arith, h, l)
 
+-- the netlist of the tests has memory 0
 pub mem_of : (n : Netlist) (m : ℕ) → n ≡ sample → m < 1 → m < length n.mems
 mem_of n m e h = let l : length n.mems ≡ 1 = ap (λ x. length x.mems) e in omega (arith, h, l)
 
+-- the cells of the tests' netlist fit, and have 1 to 64 bits
 pub cells_of : (n : Netlist) → n ≡ sample → CellsWell (circuit_of n)
 cells_of n e = cells_well (circuit_of n) (well_of n e).well
 
+-- the netlist of the tests has cells 0 to 7
 pub cell_of : (n : Netlist) (k : ℕ) → n ≡ sample → k < 8 → IsThere (circuit_of n) (CellNet k)
 unfolding IsThere
 cell_of n k e h = let l : length n.cells ≡ 8 = ap (λ x. length x.cells) e in omega (arith, h, l)
 
+-- the netlist of the tests has register 0
 pub reg_of : (n : Netlist) (r : ℕ) → n ≡ sample → r < 1 → IsThere (circuit_of n) (RegNet r)
 unfolding IsThere
 reg_of n r e h = let l : length n.regs ≡ 1 = ap (λ x. length x.regs) e in omega (arith, h, l)

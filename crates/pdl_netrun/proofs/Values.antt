@@ -15,7 +15,7 @@ use Rattle.pdl_word.specs.Words as words
 use Rattle.pdl_net.specs.Signal.{Signal, bin_word, const_value, not_value, bin_value, mux_value, slice_value, cat_value, rep_value, read_value}
 use Rattle.pdl_net.specs.Meaning.{signal, cell_signal}
 use Rattle.pdl_net.specs.Well.{FitsIn, IsWell, Suits, IsBounded}
-use Rattle.pdl_net.proofs.Fix.{signal_cell}
+use Rattle.pdl_net.proofs.CellSignals.{signal_cell}
 use Rattle.pdl_net.proofs.Bounds.{bounded_at}
 use Rattle.pdl_netrun.specs.declared.operation.Kind.{Kind}
 use Rattle.pdl_netrun.specs.declared.operation.Kind.TheVariants as kinds
@@ -25,6 +25,8 @@ use Rattle.pdl_netrun.specs.Steps.{Step, KindFits, StepsFit, AreWords, after_kin
 use Rattle.pdl_netrun.specs.Order.{first_place, place, unplaced, IsPlaced, cell_at, IsTurn, HasTurn, IsOrder}
 use Rattle.pdl_netrun.specs.Plan.{step_of_cell, cell_operands, HasValues, HasConstants, IsHeld}
 use Rattle.pdl_netrun.proofs.Orders.{fits_turn}
+use Rattle.pdl_netrun.proofs.Steps.{after_kind_length}
+use Rattle.pdl_word.proofs.Lists.{either}
 
 -- ONE STEP
 
@@ -32,10 +34,6 @@ use Rattle.pdl_netrun.proofs.Orders.{fits_turn}
 after_other : (k : Kind) (o : Operands) (at j : ℕ) (vs : List ℕ) (ws : List (List ℕ)) → j ≢ at → slice_index (after_kind k o at vs ws) j ≡ slice_index vs j
 after_other kinds.Constant o at j vs ws ne = refl
 after_other _ o at j vs ws ne = get_or-set_other vs at j _ 0 ne
-
-after_count : (k : Kind) (o : Operands) (at : ℕ) (vs : List ℕ) (ws : List (List ℕ)) → length (after_kind k o at vs ws) ≡ length vs
-after_count kinds.Constant o at vs ws = refl
-after_count _ o at vs ws = length-set vs at _
 
 -- an operator's cell
 operated : (f : BinOp) (o : Operands) (at : ℕ) (vs : List ℕ) (ws : List (List ℕ)) → after_kind (operator_kind f) o at vs ws ≡ set vs at (bin_word f o.width (slice_index vs (slice_index o.places 0)) (slice_index vs (slice_index o.places 1)))
@@ -76,12 +74,6 @@ unfolding words.mux
 chosen vs x a b zero e l = ap (λ i. slice_index vs (slice_index (b ∷ a ∷ []) i)) e
 chosen vs x a b (suc zero) e l = ap (λ i. slice_index vs (slice_index (b ∷ a ∷ []) i)) e
 chosen vs x a b (suc (suc n)) e l = absurd (omega arith)
-
--- the first two of a list, by their numbers
-either : (P : ℕ → Type 0) (a b : ℕ) → P a → P b → (i : ℕ) → i < 2 → P (slice_index (a ∷ b ∷ []) i)
-either P a b p q zero l = p
-either P a b p q (suc zero) l = q
-either P a b p q (suc (suc i)) l = absurd (omega arith)
 
 module _ (c : Circuit) (s : State) (w : IsWell c) (t : Suits c s) (ps vs : List ℕ) (n : ℕ) (few : n ≤ length vs) (v : HasValues c ps s vs n) where
   bound : (x : Net) → IsPlaced c ps n x → IsBounded s (signal c x)
@@ -227,7 +219,7 @@ module _ (c : Circuit) (s : State) (w : IsWell c) (t : Suits c s) (order ps : Li
   step_values = record { each = each_new }
 
   pub step_count : length new ≡ length vs
-  step_count = after_count (step_of_cell c ps own_cell).kind (cell_operands c ps own_cell) at vs s.arrays
+  step_count = after_kind_length (step_of_cell c ps own_cell).kind (cell_operands c ps own_cell) at vs s.arrays
 
   kept : (k : ℕ) → k < length c.cells → slice_index ps k < length vs → IsHeld (cell_at c k) (slice_index new (slice_index ps k))
   kept k h b = ⊎_elim
@@ -247,6 +239,7 @@ pub record IsWalked (c : Circuit) (ps : List ℕ) (s : State) (vs : List ℕ) (s
   pub constants : HasConstants c ps (length vs) (after_steps steps at vs s.arrays)
   pub count : length (after_steps steps at vs s.arrays) ≡ length vs
 
+-- the steps of the cells in this order
 abbrev pub order_steps : Circuit → List ℕ → List ℕ → List Step
 order_steps c ps order = map (λ k. step_of_cell c ps (cell_at c k)) order
 

@@ -6,6 +6,7 @@ use Rattle.pdl_net.specs.declared.Cell.TheVariants as cell
 use Rattle.pdl_netrun.specs.declared.operation.Kind.{Kind}
 use Rattle.pdl_netrun.specs.declared.operation.Kind.TheVariants.{Constant, Complement, Add, Sub, Mul, And, Or, Xor, Equal, Differ, Less, ShiftLeft, ShiftRight, Choose, Slice, Join, Repeat, Look}
 
+-- the kind of a cell with this operator
 abbrev pub operator_kind : BinOp → Kind
 operator_kind op.Add = Add
 operator_kind op.Sub = Sub
@@ -19,6 +20,7 @@ operator_kind op.Lt = Less
 operator_kind op.Shl = ShiftLeft
 operator_kind op.Shr = ShiftRight
 
+-- the kind of a cell: that of its operator, a constant, a choice, a slice and so on
 abbrev pub cell_kind : Cell → Kind
 cell_kind (cell.Const w v) = Constant
 cell_kind (cell.Not a) = Complement

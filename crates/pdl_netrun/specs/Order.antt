@@ -40,6 +40,7 @@ Reads P (cell.Cat a b) = P a × P b
 Reads P (cell.Rep k a) = P a
 Reads P (cell.Read m a) = P a
 
+-- the place of a net is before this one
 abbrev pub IsEarly : Circuit → List ℕ → ℕ → Net → Type 0
 IsEarly c ps n x = place c ps x < n
 
@@ -75,6 +76,7 @@ AllEarly c ps n = (k : ℕ) → k < length c.cells → slice_index ps k < n
 
 -- OF A NETLIST
 
+-- the circuit of the netlist whose cells are being put in order
 abbrev pub order_circuit : Order → Circuit
 order_circuit o = circuit_of o.net.now
 
@@ -84,24 +86,31 @@ pub record IsOrderOf (o : Order) : Type 0 where
   pub arrays : length o.net.now.arrays < unplaced
   pub order : IsOrder (order_circuit o) o.cells.items o.places.items
 
+-- all cells of the netlist have a place before the next one to be given
 abbrev pub AllPlaced : Order → Type 0
 AllPlaced o = AllEarly (order_circuit o) o.places.items o.next
 
+-- the place of a net, by the places that an order has given so far
 abbrev pub place_in : Order → Net → ℕ
 place_in o x = place (order_circuit o) o.places.items x
 
+-- a net is an input, a register or a cell of the order's netlist
 abbrev pub IsNetThere : Order → Net → Type 0
 IsNetThere o x = IsThereAt (order_circuit o) (length o.net.now.cells) x
 
+-- all nets that a cell reads are in the order's netlist
 abbrev pub AreThere : Order → Cell → Type 0
 AreThere o g = Reads (IsNetThere o) g
 
+-- all nets that a cell reads have a place before the next one to be given
 abbrev pub AreEarly : Order → Cell → Type 0
 AreEarly o g = Reads (IsEarly (order_circuit o) o.places.items o.next) g
 
+-- the k-th cell of the order's netlist
 abbrev pub cell_of : Order → ℕ → Cell
 cell_of o k = cell_at (order_circuit o) k
 
+-- the netlist of an order is as it was
 abbrev pub IsSameNet : Order → Order → Type 0
 IsSameNet old new = new.net.now ≡ old.net.now
 

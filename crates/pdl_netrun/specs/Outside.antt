@@ -18,6 +18,7 @@ requests_of c mem = record { request = place_of c (codes "q_" ++ mem); addr = pl
 abbrev pub store_of : Outside → Store
 store_of m = record { words = m.words.items; request = m.request }
 
+-- the delayed memories of the simulator as those of the environment
 abbrev pub stores_of : List Outside → List Store
 stores_of ms = map store_of ms
 

@@ -17,6 +17,7 @@ use Rattle.pdl_netrun.specs.Order.{place, IsPlaced, IsNetThere, cell_at}
 
 -- STEPS
 
+-- the step of a cell of this kind, with what it reads
 abbrev pub step_of : Kind → Operands → Step
 step_of k o = record { kind = k; operands = o }
 
@@ -42,6 +43,7 @@ held_at_start _ = 0
 
 -- WRITES
 
+-- a write port of array m, with the places of its nets
 abbrev pub planned_write : Circuit → List ℕ → ℕ → WritePort → ArrayWrite
 planned_write c ps m p = record { array = m; enable = place c ps p.enable; addr = place c ps p.addr; value = place c ps p.value }
 
@@ -50,6 +52,7 @@ abbrev pub writes_from : Circuit → List ℕ → ℕ → List Array → List Ar
 writes_from c ps m [] = []
 writes_from c ps m (a ∷ rest) = map (planned_write c ps m) a.writes ++ writes_from c ps (suc m) rest
 
+-- the write ports of all arrays of a circuit, with the places of their nets
 abbrev pub planned_writes : Circuit → List ℕ → List ArrayWrite
 planned_writes c ps = writes_from c ps 0 c.arrays
 
@@ -65,6 +68,7 @@ pub record IsWriteThere (o : Order) (p : WritePort) : Type 0 where
 pub record HasValues (c : Circuit) (ps : List ℕ) (s : State) (vs : List ℕ) (n : ℕ) : Type 0 where
   pub each : (x : Net) → IsPlaced c ps n x → slice_index vs (place c ps x) ≡ (signal c x).value s
 
+-- this is the value of a cell, if that is a constant; of another cell it may be any
 abbrev pub IsHeld : Cell → ℕ → Type 0
 IsHeld (cell.Const w v) x = x ≡ v
 IsHeld _ x = Unit {0}

@@ -10,15 +10,19 @@ use Rattle.pdl_net.specs.declared.WritePort.{WritePort}
 use Rattle.pdl_net.specs.declared.Array.{Array}
 use Rattle.pdl_net.specs.declared.Netlist.{Netlist}
 
+-- an output port of this name and width, which shows this net
 abbrev pub out : List ℕ → ℕ → Net → Port
 out name width net = record { name = name; width = width; dir = Out net }
 
+-- the write port of the memory, which writes in the cycles in which the register is odd
 abbrev pub odd_write : WritePort
 odd_write = record { enable = CellNet 3; addr = CellNet 5; value = CellNet 7 }
 
+-- the memory: two words of 4 bits, with one write port
 abbrev pub memory : Array
 memory = record { name = codes "m"; width = 4; depth = 2; writes = odd_write ∷ [] }
 
+-- the whole netlist: its ports, its register, its memory and its cells
 abbrev pub sample : Netlist
 sample = record {
   name = codes "sample";

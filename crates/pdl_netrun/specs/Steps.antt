@@ -33,6 +33,7 @@ second_of o = slice_index o.places 1
 abbrev pub first : Operands → List ℕ → ℕ
 first o vs = slice_index vs (first_of o)
 
+-- the word at the second place
 abbrev pub second : Operands → List ℕ → ℕ
 second o vs = slice_index vs (second_of o)
 

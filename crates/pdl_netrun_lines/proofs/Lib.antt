@@ -1,3 +1,3 @@
-pub mod Ordering
-pub mod Printing
-pub mod Running
+pub mod CommitPorts
+pub mod CycleLines
+pub mod RunSteps

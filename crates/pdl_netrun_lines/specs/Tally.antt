@@ -3,6 +3,7 @@ use Rattle.std.specs.Prelude.{ℕ, ◌+◌, Bool, List, count_by, if◌then◌el
 use Rattle.pdl_semantics.specs.Lines.{Cycle}
 use Rattle.pdl_netrun_lines.specs.declared.print.Counts.{Counts}
 
+-- 1 for true, and 0 for false
 abbrev pub one_if : Bool → ℕ
 one_if b = if b then 1 else 0
 

@@ -47,7 +47,7 @@ pub fn commit_order(alloc: Global, net: &Netlist) -> Result<Vec<usize>, NoMemory
 }
 
 // The line of what one memory commits in a cycle of this number, if it does.
-#[tactic(auto, using(pdl_trace::proofs::Passing::nothing_more))]
+#[tactic(auto, using(pdl_trace::proofs::BytePieces::nothing_more))]
 fn push_commit<S: Sink>(
     out: &mut LineOut,
     sink: &mut S,

@@ -112,7 +112,7 @@ fn run_cycles<S: Sink>(
 }
 
 // Passes on the lines of a run with this schedule.
-#[tactic(auto, using(crate::proofs::Running::run_length))]
+#[tactic(auto, using(crate::proofs::RunSteps::run_length))]
 fn push_run<S: Sink>(
     out: &mut LineOut,
     sink: &mut S,

@@ -1,3 +1,3 @@
-pub mod Fitting
+pub mod PortWidths
 pub mod Texts
-pub mod Running
+pub mod DumpedRuns

@@ -60,7 +60,7 @@ next_line lines k l = ap (flat_map ended) (drop_more lines k [] l)
 
 -- ---- ports
 
-pub changed_as : (first : Bool) (before : List ℕ) (i v : ℕ) → i < length before → differs (slice_get (known first before) i) v ≡ (first || not (get_or before i 0 == v))
+changed_as : (first : Bool) (before : List ℕ) (i v : ℕ) → i < length before → differs (slice_get (known first before) i) v ≡ (first || not (get_or before i 0 == v))
 changed_as true before i v l = refl
 changed_as false before i v l = ap (λ o. differs o v) (got before i l)
 
@@ -88,7 +88,7 @@ header_length name ports =
 -- ---- a cycle
 
 -- one in which no port changes has no text
-pub quiet_text : (ports : List WavePort) (first : Bool) (cycle : ℕ) (before row : List ℕ) → (not first && is_none (changes 0 before row)) ≡ true →
+quiet_text : (ports : List WavePort) (first : Bool) (cycle : ℕ) (before row : List ℕ) → (not first && is_none (changes 0 before row)) ≡ true →
     moments_text ports (cycle_moments first cycle before row) ≡ []
 quiet_text ports true cycle before row quiet = absurd (cc quiet)
 quiet_text ports false cycle before row quiet = none (changes 0 before row) quiet
@@ -155,6 +155,7 @@ value_kept before row i l =
     let e : i + (i - i) ≡ i = omega arith in
     get_or-append_right (take i row) (drop i before) i i 0 n (omega arith) ∙ get_or-drop i before (i - i) 0 ∙ ap (λ k. get_or before k 0) e
 
+-- with the i-th port's value of a cycle, the first i + 1 values are those of the cycle
 pub value_taken : (before row : List ℕ) (i : ℕ) → i < length row → length before ≡ length row → set (take i row ++ drop i before) i (get_or row i 0) ≡ take (i + 1) row ++ drop (i + 1) before
 value_taken before row i l m =
     let n : length (take i row) ≡ i = length-take-le i row (omega (arith, l)) in

@@ -25,6 +25,7 @@ cycle_moments false cycle before now = with_moment cycle (changes 0 before now) 
 abbrev pub changes_text : List WavePort → List Change → List ℕ
 changes_text ports xs = flat_map ended (map (change_line ports) xs)
 
+-- the text of moments, line by line
 abbrev pub moments_text : List WavePort → List Moment → List ℕ
 moments_text ports ms = flat_map ended (flat_map (moment_lines ports) ms)
 

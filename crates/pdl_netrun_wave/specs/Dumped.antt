@@ -13,6 +13,7 @@ abbrev pub wave_with : Dir → List ℕ → ℕ → Option WavePort
 wave_with In name width = None
 wave_with (Out x) name width = Some (record { name = name; width = width })
 
+-- a port of a netlist as a dump declares it; none for an input
 abbrev pub wave_port : Port → Option WavePort
 wave_port p = wave_with p.dir p.name p.width
 

@@ -13,7 +13,10 @@ use Rattle.pdl_order.specs.Order.{OrderAct, Proper, step, after_left, after_ente
 use Rattle.pdl_order.specs.Laws.{StepSignals, Drives, StartLaw, FirstLaw, StepLaw}
 use Rattle.pdl_order.specs.Words.{sides_at, word_of, Stands}
 use Rattle.pdl_order.specs.Nets.{used_signal, sides_signal, empty_signal, first_signal, used_left, sides_left, place_signal, more_signal, used_entered, sides_entered, next_used, next_sides, NextWords, own_words}
-use Rattle.pdl_order.proofs.Lists.{twice, word_below, word_more, half, used_half, sides_half, sum_is, used_none, lowest}
+use Rattle.pdl_order.proofs.Lists.{word_below, word_more, half, used_half, sides_half, sum_is, used_none, lowest}
+use Rattle.pdl_word.proofs.Numbers.{twice_power}
+use Rattle.pdl_word.proofs.Laws.{mux_bit}
+use Rattle.pdl_net.proofs.Signals.{mux_at}
 
 -- registers at reset stand for no thread inside
 pub start_law : (c : Circuit) (l : Layout) → reg_reset c l.from ≡ 0 → reg_reset c (sides_at l) ≡ 0 → StartLaw (Stands l) c (own_words l)
@@ -41,21 +44,12 @@ first_value : (l : Layout) (s : State) (xs : List Bool) → Stands l s xs → (f
 unfolding slice_value
 first_value l s xs h = ap (words.slice 0 0) (sides_value l s xs h)
 
+-- the nets of emptiness and of the first entry keep their law, where they are an order's signals
 pub first_law : (l : Layout) (first empty : Signal) → first ≡ first_signal l → empty ≡ empty_signal l → FirstLaw (Stands l) first empty
 first_law l first empty f e = record {
   empties = λ s xs h. ap (λ (g : Signal). g.value s) e ∙ empty_value l s xs h ∙ used_none ((used_signal l).value s) xs (used_at l s xs h);
   leads = λ s x xs h. ap (λ (g : Signal). g.value s) f ∙ first_value l s (x ∷ xs) h ∙ lowest x xs;
 }
-
--- a choice by a bit
-mux_bit : (t : Bool) (a b : ℕ) → mux (bit t) a b ≡ (if t then a else b)
-unfolding mux
-mux_bit true a b = refl
-mux_bit false a b = refl
-
-mux_at : (c a b : Signal) (s : State) (t : Bool) → c.value s ≡ bit t → (mux_signal c a b).value s ≡ (if t then a.value s else b.value s)
-unfolding mux_value
-mux_at c a b s t e = ap (λ n. mux n (a.value s) (b.value s)) e ∙ mux_bit t (a.value s) (b.value s)
 
 -- signals whose values are the words of a list of at most n branches
 record AreWords (n : ℕ) (f g : Signal) (s : State) (xs : List Bool) : Type 0 where
@@ -123,7 +117,7 @@ more_value l f g s = refl
 place_is : (l : Layout) (f : StepSignals) (s : State) (ys : List Bool) → AreWords l.stages (used_left l f) (sides_left l f) s ys → length ys + 1 ≤ l.stages → (place_signal l f).value s ≡ 2 ^ length ys
 place_is l f s ys w h =
     let wide : 2 ^ (length ys + 1) ≤ 2 ^ l.stages = pow_mono h in
-    let double = twice (length ys) in
+    let double = twice_power (length ys) in
     let some = pow_pos (length ys) in
     let u = w.used in
     place_value l f s ∙ sum_is l.stages ((used_left l f).value s) 1 (omega (arith, wide, double, some, u)) ∙ u
@@ -132,7 +126,7 @@ used_grown : (l : Layout) (f : StepSignals) (s : State) (ys : List Bool) → Are
 used_grown l f s ys w h =
     let n = (used_left l f).value s in
     let wide : 2 ^ (length ys + 1) ≤ 2 ^ l.stages = pow_mono h in
-    let double = twice (length ys) in
+    let double = twice_power (length ys) in
     let u = w.used in
     let sum : words.add l.stages n (2 ^ length ys) ≡ n + 2 ^ length ys = sum_is l.stages n (2 ^ length ys) (omega (arith, wide, double, u)) in
     ap (λ m. m + 1) (more_value l f (used_left l f) s ∙ ap (words.add l.stages n) (place_is l f s ys w h) ∙ sum) ∙ omega (arith, double, u)
@@ -141,7 +135,7 @@ sides_grown : (l : Layout) (f : StepSignals) (s : State) (ys : List Bool) → Ar
 sides_grown l f s ys w h =
     let n = (sides_left l f).value s in
     let wide : 2 ^ (length ys + 1) ≤ 2 ^ l.stages = pow_mono h in
-    let double = twice (length ys) in
+    let double = twice_power (length ys) in
     let below = word_below ys in
     let d = w.sides in
     let sum : words.add l.stages n (2 ^ length ys) ≡ n + 2 ^ length ys = sum_is l.stages n (2 ^ length ys) (omega (arith, wide, double, below, d)) in
@@ -233,6 +227,7 @@ step_words l f s xs a one h d p = by_emptied a.emptied refl p.room
           sides = mux_at f.emptied none g s false m ∙ w.sides;
         }
 
+-- where the two registers take the next words, they keep the law of a step
 pub step_law : (c : Circuit) (l : Layout) (f : StepSignals) → 1 ≤ l.stages → NextWords c l f → StepLaw (Stands l) l.stages (own_words l) c f
 step_law c l f one p = record {
   next = λ s t xs a h d u n.

@@ -1,3 +1,3 @@
-pub mod Kept
+pub mod OrderGrowth
 pub mod Lists
 pub mod Law

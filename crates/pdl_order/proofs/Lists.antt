@@ -10,9 +10,6 @@ use Rattle.pdl_word.specs.Words.{bit}
 use Rattle.pdl_word.proofs.Shifts.{shr_within, shr_past}
 use Rattle.pdl_order.specs.Words.{word_of}
 
-pub twice : (n : ℕ) → 2 ^ (n + 1) ≡ 2 * 2 ^ n
-twice n = ap (λ k. 2 ^ k) (add-one n) ∙ pow-succ' 2 n
-
 -- the word of a list fits as many bits as it has entries
 pub word_below : (xs : List Bool) → word_of xs < 2 ^ length xs
 word_below [] = omega arith
@@ -42,6 +39,7 @@ half zero a h l = absurd (omega arith)
 pub used_half : (u : ℕ) (x : Bool) (xs : List Bool) → u + 1 ≡ 2 ^ length (x ∷ xs) → u / 2 + 1 ≡ 2 ^ length xs
 used_half u x xs e = omega (arith, e, pow-succ' 2 (length xs), pow_pos (length xs))
 
+-- half the word of a list is the word of the list without its first entry
 pub sides_half : (x : Bool) (xs : List Bool) → word_of (x ∷ xs) / 2 ≡ word_of xs
 sides_half true xs = omega arith
 sides_half false xs = omega arith
@@ -58,6 +56,7 @@ used_none u [] e = let z : u ≡ 0 = omega (arith, e) in ap bit (eq-eqb u 0 z)
 used_none u (x ∷ xs) e =
     ap bit (ne_eqb u 0 (λ (z : u ≡ 0). absurd (omega (arith, e, z, pow-succ' 2 (length xs), pow_pos (length xs))))) ∙ ap bit (sym (ne_eqb (length (x ∷ xs)) 0 (λ (z : length (x ∷ xs) ≡ 0). absurd (omega (arith, z)))))
 
+-- the lowest bit of a list's word is its first entry
 pub lowest : (x : Bool) (xs : List Bool) → words.slice 0 0 (word_of (x ∷ xs)) ≡ bit x
 unfolding words.slice
 lowest true xs = omega arith

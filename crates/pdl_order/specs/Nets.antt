@@ -12,6 +12,7 @@ use Rattle.pdl_order.specs.Words.{sides_at}
 abbrev pub used_signal : Layout → Signal
 used_signal l = reg_signal l.stages l.from
 
+-- the word of the branches, as its register holds it
 abbrev pub sides_signal : Layout → Signal
 sides_signal l = reg_signal l.stages (sides_at l)
 
@@ -19,6 +20,7 @@ sides_signal l = reg_signal l.stages (sides_at l)
 abbrev pub empty_signal : Layout → Signal
 empty_signal l = bin_signal Eq (used_signal l) (const_signal l.stages 0)
 
+-- whether the oldest thread took the first branch: the lowest bit of the word of the branches
 abbrev pub first_signal : Layout → Signal
 first_signal l = slice_signal 0 0 (sides_signal l)
 
@@ -29,6 +31,7 @@ left_signal l f g = mux_signal f.left (bin_signal Shr g (const_signal l.stages 1
 abbrev pub used_left : Layout → StepSignals → Signal
 used_left l f = left_signal l f (used_signal l)
 
+-- the word of the branches, without the oldest thread's where that leaves
 abbrev pub sides_left : Layout → StepSignals → Signal
 sides_left l f = left_signal l f (sides_signal l)
 
@@ -44,6 +47,7 @@ more_signal l f g = bin_signal Add g (place_signal l f)
 abbrev pub used_entered : Layout → StepSignals → Signal
 used_entered l f = mux_signal f.entered_first (more_signal l f (used_left l f)) (mux_signal f.entered_second (more_signal l f (used_left l f)) (used_left l f))
 
+-- the word of the branches, with a 1 for a thread that comes into the first branch
 abbrev pub sides_entered : Layout → StepSignals → Signal
 sides_entered l f = mux_signal f.entered_first (more_signal l f (sides_left l f)) (sides_left l f)
 
@@ -51,6 +55,7 @@ sides_entered l f = mux_signal f.entered_first (more_signal l f (sides_left l f)
 abbrev pub next_used : Layout → StepSignals → Signal
 next_used l f = mux_signal f.emptied (const_signal l.stages 0) (used_entered l f)
 
+-- what the register of the branches takes next: 0 where all threads are removed
 abbrev pub next_sides : Layout → StepSignals → Signal
 next_sides l f = mux_signal f.emptied (const_signal l.stages 0) (sides_entered l f)
 

@@ -41,6 +41,7 @@ abbrev pub word_of : List Bool → ℕ
 word_of [] = 0
 word_of (x ∷ xs) = bit x + 2 * word_of xs
 
+-- the value of a register in a state
 abbrev pub reg_of : State → ℕ → ℕ
 reg_of s k = slice_index s.regs k
 

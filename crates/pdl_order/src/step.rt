@@ -68,7 +68,7 @@ fn emit_more(
 }
 
 /// The words with the thread that comes in.
-#[tactic(auto, using(crate::proofs::Kept::words_kept))]
+#[tactic(auto, using(crate::proofs::OrderGrowth::words_kept))]
 fn emit_entered(b: &mut Builder, l: Layout, p: &OrderPorts) -> Result<WordNets, NoMemory>
     requires words { HasWords b.old l }
     requires ports { HasPorts b.old p.now }
@@ -104,7 +104,7 @@ fn emit_next(b: &mut Builder, l: Layout, p: &OrderPorts) -> Result<WordNets, NoM
 }
 
 /// Sets what the two registers take next.
-#[tactic(auto, using(crate::proofs::Kept::words_kept))]
+#[tactic(auto, using(crate::proofs::OrderGrowth::words_kept))]
 fn emit_words(b: &mut Builder, l: Layout, p: &OrderPorts) -> Result<(), NoMemory>
     requires words { HasWords b.old l }
     requires ports { HasPorts b.old p.now }

@@ -45,6 +45,7 @@ not_one x l e = at (eqb_tells x 1)
 common : (x a p i : ℕ) → bit_at (bit_and x (bit_or a p)) i ≡ min (bit_at x i) (max (bit_at a i) (bit_at p i))
 common x a p i = bit_at_and x (bit_or a p) i ∙ ap (min (bit_at x i)) (bit_at_or a p i)
 
+-- a word has all of a mask's bits and bit n just where it has all of the mask's and its bit n is 1
 pub with_bit_on : (x a n : ℕ) → (bit_and x (bit_or a (2 ^ n)) == bit_or a (2 ^ n)) ≡ ((bit_and x a == a) && (bit_at x n == 1))
 with_bit_on x a n = same_bools _ _ forth back
   where
@@ -67,6 +68,7 @@ with_bit_on x a n = same_bools _ _ forth back
         let parts = and_parts (bit_and x a == a) (bit_at x n == 1) h in
         eq-eqb _ _ (same_from_bits _ _ (λ i. common x a (2 ^ n) i ∙ bit (eqb-true _ _ parts.0) (eqb-true _ _ parts.1) i (eqb_tells i n) ∙ sym (bit_at_or a (2 ^ n) i)))
 
+-- a word has none of a mask's bits and bit n just where it has none of the mask's and its bit n is 0
 pub with_bit_off : (x a n : ℕ) → (bit_and x (bit_or a (2 ^ n)) == 0) ≡ ((bit_and x a == 0) && not (bit_at x n == 1))
 with_bit_off x a n = same_bools _ _ forth back
   where

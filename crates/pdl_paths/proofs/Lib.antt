@@ -2,7 +2,7 @@ mod Bits
 mod Chosen
 pub mod Choices
 mod Allowed
-pub mod Distinct
+pub mod DistinctGuards
 mod EachPath
 mod Walks
 mod Numbers

@@ -8,19 +8,19 @@ use Rattle.pdl_paths.specs.declared.numbered.Found.{Found}
 use Rattle.pdl_paths.specs.declared.numbered.Found.TheVariants.{Here, After}
 use Rattle.pdl_paths.specs.Masks.{are_distinct, path_of, allows_path, everywhere, mask_in}
 use Rattle.pdl_paths.specs.Numbered.{Tells}
-use Rattle.pdl_paths.proofs.Allowed.{mask_law}
-use Rattle.pdl_paths.proofs.Distinct.{guards_distinct}
+use Rattle.pdl_paths.proofs.MaskPaths.{mask_law}
+use Rattle.pdl_paths.proofs.DistinctGuards.{guards_distinct}
 
 -- SEARCHES
 
 -- what is found among the first of some masks is found among all
-pub here_first : (xs ys : List Mask) (n : ℕ) (m : Mask) → Tells xs n (Here m) → Tells (xs ++ ys) n (Here m)
+here_first : (xs ys : List Mask) (n : ℕ) (m : Mask) → Tells xs n (Here m) → Tells (xs ++ ys) n (Here m)
 here_first xs ys n m t =
     let longer = length-append xs ys in
     (omega (arith, longer, t.0), t.1 ∙ sym (get_or_append_left xs ys everywhere n t.0))
 
 -- what is found among the further ones likewise
-pub here_later : (xs ys : List Mask) (n left : ℕ) (r : Found) → n ≡ length xs + left → Tells ys left r → Tells (xs ++ ys) n r
+here_later : (xs ys : List Mask) (n left : ℕ) (r : Found) → n ≡ length xs + left → Tells ys left r → Tells (xs ++ ys) n r
 here_later xs ys n left (Here m) e t =
     let longer = length-append xs ys in
     (omega (arith, longer, e, t.0), t.1 ∙ sym (get_or-append-add xs ys left everywhere) ∙ ap (λ k. slice_index_or (xs ++ ys) k everywhere) (sym e))
@@ -34,6 +34,7 @@ in_first gs x xs ys n left m e t =
     here_later (mask_in gs x ∷ []) (map (mask_in gs) (xs ++ ys)) n left (Here m) e
     (subst (λ ms. Tells ms left (Here m)) (sym (map-append (mask_in gs) xs ys)) (here_first (map (mask_in gs) xs) (map (mask_in gs) ys) left m t))
 
+-- a search inside an `if` that has passed its first branch tells what its second branch tells
 pub in_second : (gs : List Guard) (x : Place) (xs ys : List Place) (n left further : ℕ) (r : Found) → n ≡ 1 + left → Tells (map (mask_in gs) xs) left (After further) → Tells (map (mask_in gs) ys) further r
     → Tells (map (mask_in gs) (x ∷ (xs ++ ys))) n r
 in_second gs x xs ys n left further r e f t =
@@ -44,13 +45,14 @@ in_second gs x xs ys n left further r e f t =
 pub in_one : (gs : List Guard) (xs ys : List Place) (n : ℕ) (m : Mask) → Tells (map (mask_in gs) xs) n (Here m) → Tells (map (mask_in gs) (xs ++ ys)) n (Here m)
 in_one gs xs ys n m t = subst (λ ms. Tells ms n (Here m)) (sym (map-append (mask_in gs) xs ys)) (here_first (map (mask_in gs) xs) (map (mask_in gs) ys) n m t)
 
+-- a search in a row that has passed some places tells what the places after them tell
 pub in_rest : (gs : List Guard) (xs ys : List Place) (n left : ℕ) (r : Found) → Tells (map (mask_in gs) xs) n (After left) → Tells (map (mask_in gs) ys) left r → Tells (map (mask_in gs) (xs ++ ys)) n r
 in_rest gs xs ys n left r f t = subst (λ ms. Tells ms n r) (sym (map-append (mask_in gs) xs ys)) (here_later (map (mask_in gs) xs) (map (mask_in gs) ys) n left r f t)
 
 -- THE PARTS OF A PIPE
 
 -- the mask of the place of this number among some
-abbrev pub nth_mask : List Guard → List Place → ℕ → Mask
+abbrev nth_mask : List Guard → List Place → ℕ → Mask
 nth_mask gs xs n = slice_index_or (map (mask_in gs) xs) n everywhere
 
 params_first : (gs : List Guard) (ps : List Param) (xs : List Place) (n : ℕ) → n < length ps → nth_mask gs (map Parameter ps ++ xs) n ≡ everywhere
@@ -78,6 +80,7 @@ last_two gs at start zero = refl
 last_two gs at start (suc zero) = refl
 last_two gs at start (suc (suc n)) = refl
 
+-- the mask that was found; where none was, the one that allows all paths
 abbrev pub found_mask : Found → Mask
 found_mask (Here m) = m
 found_mask (After left) = everywhere
@@ -103,9 +106,11 @@ parts p =
 pub at_params : (gs : List Guard) (p : Pipe) (n : ℕ) → n < length p.params → everywhere ≡ nth_mask gs (places p) n
 at_params gs p n l = sym (ap (λ xs. nth_mask gs xs n) (parts p) ∙ params_first gs p.params _ n l)
 
+-- the place of a memory, which comes after the parameters, has the mask that allows all paths
 pub at_mems : (gs : List Guard) (p : Pipe) (n left : ℕ) → n ≡ length p.params + left → left < length p.mems → everywhere ≡ nth_mask gs (places p) n
 at_mems gs p n left e l = sym (ap (λ xs. nth_mask gs xs n) (parts p) ∙ params_passed gs p.params _ n left e ∙ mems_first gs p.mems _ left l)
 
+-- after parameters and memories the mask of a number is the one that is found in the body
 pub at_body : (gs : List Guard) (p : Pipe) (n k left : ℕ) (r : Found) → n ≡ length p.params + k → k ≡ length p.mems + left → Tells (map (mask_in gs) (statements [] p.body)) left r → found_mask r ≡ nth_mask gs (places p) n
 at_body gs p n k left r e f t =
     body_last gs (statements [] p.body) p.end p.start left r t

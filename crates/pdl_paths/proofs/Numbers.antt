@@ -3,6 +3,7 @@ use Rattle.std.proofs.Common.{◌≡◌, refl, suc, ◌<◌, ◌≤◌, Bool, tr
 use Rattle.pdl_rules.specs.Places.{Guard, same_guard, is_among}
 use Rattle.pdl_paths.specs.Masks.{number_of}
 
+-- a guard whose number is below the number of guards is one of them
 pub there : (g : Guard) (gs : List Guard) → number_of g gs < length gs → is_among g gs ≡ true
 there g [] l = absurd (omega arith)
 there g (h ∷ gs) l = at (same_guard g h) l (there g gs)
@@ -11,6 +12,7 @@ there g (h ∷ gs) l = at (same_guard g h) l (there g gs)
     at true m go = refl
     at false m go = go (omega arith)
 
+-- a guard whose number is not below the number of guards is none of them
 pub missing : (g : Guard) (gs : List Guard) → length gs ≤ number_of g gs → is_among g gs ≡ false
 missing g [] l = refl
 missing g (h ∷ gs) l = at (same_guard g h) l (missing g gs)

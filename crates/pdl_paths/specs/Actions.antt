@@ -35,5 +35,6 @@ place_at s bs (actions.StartClause x) = StartClause (start_view x.now)
 abbrev pub location_at : Place → Option Location
 location_at x = at_statement None (λ s bs. location_of s) x
 
+-- the place of the rules that a place of the program stands for
 abbrev pub place_view : r_place.Place → Place
 place_view x = place_at (span_view x.span) (map branch_view x.branches) x.action

@@ -1,7 +1,7 @@
 pub mod Actions
 pub mod Guards
-pub mod Kept
+pub mod KeptGuards
 pub mod Masks
-pub mod Shown
+pub mod MaskedPlaces
 pub mod Paths
 pub mod Numbered

@@ -30,6 +30,7 @@ abbrev pub with_bit : ℕ → Bool → Mask → Mask
 with_bit n true m = record { on = bit_or m.on (2 ^ n); off = m.off }
 with_bit n false m = record { on = m.on; off = bit_or m.off (2 ^ n) }
 
+-- a mask with the guard of this number, true or false, if the number is below 16
 abbrev pub with_number : ℕ → Bool → Mask → Mask
 with_number n truth m = if nat_lt n 16 then with_bit n truth m else m
 
@@ -41,12 +42,15 @@ allows_path m bits = (bit_and bits m.on == m.on) && (bit_and bits m.off == 0)
 abbrev pub with_branch : List Guard → Mask → Branch → Mask
 with_branch gs m b = with_number (number_of b.guard gs) b.truth m
 
+-- the mask that asks for no guard, and so allows all paths
 abbrev pub everywhere : Mask
 everywhere = record { on = 0; off = 0 }
 
+-- the mask of what stands in these branches
 abbrev pub mask_of : List Guard → List Branch → Mask
 mask_of gs bs = fold (with_branch gs) everywhere bs
 
+-- the mask of a place, by the branches in which it stands
 abbrev pub mask_in : List Guard → Place → Mask
 mask_in gs x = mask_of gs (branches_of x)
 
@@ -54,5 +58,6 @@ mask_in gs x = mask_of gs (branches_of x)
 abbrev pub IsMasked : List Guard → r_place.Place → Type 0
 IsMasked gs x = x.mask ≡ mask_in gs (place_view x)
 
+-- the mask of each of these places is that of these guards
 abbrev pub AreMasked : List Guard → List r_place.Place → Type 0
 AreMasked gs xs = All (IsMasked gs) xs

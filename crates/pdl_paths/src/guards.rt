@@ -3,7 +3,7 @@ ghost use Rattle.std.specs.Prelude.{◌≡◌, ◌^◌, ◌≤◌, [], IfOk, OnO
 ghost use Rattle.pdl_rules.specs.Places as rules;
 ghost use Rattle.pdl_paths.specs.Actions.{place_view};
 ghost use Rattle.pdl_paths.specs.Guards.{guard_view};
-ghost use Rattle.pdl_paths.specs.Kept.{kept_view};
+ghost use Rattle.pdl_paths.specs.KeptGuards.{kept_view};
 ghost use Rattle.pdl_paths.specs.Masks.{number_of, with_new};
 
 use crate::action::Action;
@@ -29,7 +29,7 @@ pub struct Guards {
 impl Model for Guards {
     ghost use Rattle.std.specs.Prelude.{List, map};
     ghost use Rattle.pdl_rules.specs.Places as rules;
-    ghost use Rattle.pdl_paths.specs.Kept.{kept_view};
+    ghost use Rattle.pdl_paths.specs.KeptGuards.{kept_view};
 
     ghost Value = { List rules.Guard };
 

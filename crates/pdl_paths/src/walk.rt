@@ -5,7 +5,7 @@ ghost use Rattle.pdl_rules.specs.Places as rules;
 ghost use Rattle.pdl_paths.specs.Actions.{place_at, place_view};
 ghost use Rattle.pdl_paths.specs.Guards.{branch_view};
 ghost use Rattle.pdl_paths.specs.Masks.{AreMasked, everywhere, mask_of};
-ghost use Rattle.pdl_paths.specs.Shown.{masked_view, masked_place, parameter, memory};
+ghost use Rattle.pdl_paths.specs.MaskedPlaces.{masked_view, masked_place, parameter, memory};
 
 use crate::action::{Action, action_of, span_of};
 use crate::branch::{Branch, guard_of};

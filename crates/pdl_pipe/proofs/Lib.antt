@@ -1,9 +1,9 @@
-pub mod Deeding
-pub mod Stepping
-pub mod Showing
-pub mod Moving
-pub mod Laying
-pub mod Beginning
+pub mod DeedNets
+pub mod KeptSteps
+pub mod OutputNets
+pub mod LineMoves
+pub mod NetlistLayout
+pub mod NetlistStart
 pub mod LocksAllowed
 pub mod MadeMemories
 pub mod MadeOutputs

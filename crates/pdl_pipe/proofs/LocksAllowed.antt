@@ -15,13 +15,13 @@ use Rattle.pdl_rules.specs.Refusal.{KeepsRules}
 use Rattle.pdl_lockapi.proofs.LockKinds.{lock_is}
 use Rattle.pdl_lockapi.specs.Forget.{as_lock}
 use Rattle.pdl_lock_ring.specs.Slots.{IsSize}
-use Rattle.pdl_lock_any.specs.Asked.{IsSizedLock}
-use Rattle.pdl_lock_any.proofs.Asked.{sized_allowed}
+use Rattle.pdl_lock_any.specs.AskedLock.{IsSizedLock}
+use Rattle.pdl_lock_any.proofs.AskedKinds.{sized_allowed}
 use Rattle.pdl_form.specs.Form.{Form}
 use Rattle.pdl_pipe_walk.specs.Locked.{Members}
 use Rattle.pdl_pipe_locks.specs.Suited.{AreSuited}
 use Rattle.pdl_word.specs.Each.{Each}
-use Rattle.pdl_lock_kinds.specs.Asked.{IsInTime, AreInTime, AreSizedLocks}
+use Rattle.pdl_lock_kinds.specs.AskedLocks.{IsInTime, AreInTime, AreSizedLocks}
 
 -- ---- sizes
 
@@ -98,9 +98,11 @@ all_in_time : (ms : List Mem) → Each IsRight ms → AreInTime (mems_of ms)
 all_in_time [] h = tt
 all_in_time (m ∷ ms) h = (lock_in_time m m.lock _ refl h.0, all_in_time ms h.1)
 
+-- a pipe that keeps the rules asks for locks of sizes that locks can have
 pub sized_locks : (p : Pipe) → KeepsRules p → AreSizedLocks (mems_of p.mems)
 sized_locks p rules = all_fit p.mems (right_locks p rules)
 
+-- a pipe that keeps the rules asks for bypass and renaming locks only of memories that answer at once
 pub locks_in_time : (p : Pipe) → KeepsRules p → AreInTime (mems_of p.mems)
 locks_in_time p rules = all_in_time p.mems (right_locks p rules)
 

@@ -16,19 +16,19 @@ use Rattle.pdl_law_parts.specs.Places.{comb_place}
 use Rattle.pdl_law_parts.specs.Compiled.{port_in, IsLaid}
 use Rattle.pdl_law_parts.specs.Declared.{AreBitsWide}
 use Rattle.pdl_law_sides.specs.Sides.{Sides}
-use Rattle.pdl_law_sides.specs.Whole.{IsWhole}
+use Rattle.pdl_law_sides.specs.WholeNetlist.{IsWhole}
 use Rattle.pdl_pipe_walk.specs.declared.locks.MemLock.{MemLock}
 use Rattle.pdl_pipe_walk.specs.Locked.{Members, locks_in, AreLocked}
 use Rattle.pdl_pipe_nexts.specs.Lines.{line_form, line_pipe}
 use Rattle.pdl_pipe_locks.specs.Suited.{shapes_in}
 use Rattle.pdl_pipe_locks.specs.Lawful.{AreLawful}
 use Rattle.pdl_pipe_locks.specs.Stepped.{AreStepped}
-use Rattle.pdl_pipe_locks.proofs.LocksKept.{Stays}
+use Rattle.pdl_pipe_locks.proofs.LockGrowth.{Stays}
 use Rattle.pdl_pipe_outputs.specs.declared.outputs.StageNets.{StageNets as ShownNets}
 use Rattle.pdl_pipe_outputs.specs.declared.outputs.OutNet.{OutNet}
-use Rattle.pdl_pipe_outputs.specs.Told.{asks_in, output_of, OutsThere, ShowAll}
+use Rattle.pdl_pipe_outputs.specs.ToldOutputs.{asks_in, output_of, OutsThere, ShowAll}
 use Rattle.pdl_pipe_emitted.specs.Emitted.{Nets, Emission, name_in, locks_of, views_of, moves_of, gates_of, sides_of}
-use Rattle.pdl_pipe_emitted.proofs.Laid.{laid}
+use Rattle.pdl_pipe_emitted.proofs.LaidNetlist.{laid}
 use Rattle.pdl_pipe_emitted.proofs.LaidLocks.{locks_made, locked_made, lawful_made, stepped_made, starts_lock, fits_at}
 use Rattle.pdl_pipe_emitted.proofs.LaidWidths.{bits_wide}
 use Rattle.pdl_pipe_emitted.proofs.SidesHeld.{has_sides}

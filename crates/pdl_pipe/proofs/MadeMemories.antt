@@ -44,6 +44,7 @@ same_shapes (m ∷ ms) = at m.delayed (same_shapes ms)
 
 -- ---- names
 
+-- the m-th name in the list of the memories' names is that of memory m
 pub same_names : (ms : List Mem) (m : ℕ) → slice_index_or (names_of ms) m [] ≡ mem_names ms m
 same_names [] m = refl
 same_names (x ∷ xs) zero = refl
@@ -86,6 +87,7 @@ mems_as ms told copies mems e copied is = e ∙ copied ∙ ap (λ is. filter (is
 
 -- ---- commits
 
+-- the nets of a commit have 1 bit, the bits of the memory's addresses and those of its words
 abbrev pub Fits : flat.Mem → Commit → Type 0
 Fits m x = (x.enable.width ≡ 1) × (2 ^ x.addr.width ≡ m.depth) × (x.value.width ≡ m.width)
 
@@ -100,6 +102,7 @@ fits_from commits k (m ∷ ms) h = (
   fits_from commits (suc k) ms (λ i j e s. h (suc i) j (omega (arith, e)) s),
 )
 
+-- where commits fit the flat memories that have a lock, they fit those of the tree
 pub commits_fit : (commits : ℕ → Commit) (ms : List Mem)
     → ((m : ℕ) → has_lock (mem_in ms m).lock ≡ true → Fits (mem_in ms m) (commits m)) → CommitsFit commits 0 ms
 commits_fit commits ms h =

@@ -17,12 +17,12 @@ use Rattle.pdl_law_parts.specs.Declared.{mem_names}
 use Rattle.pdl_law_sides.specs.Sides.{Sides}
 use Rattle.pdl_pipe_walk.specs.declared.locks.MemLock.{MemLock}
 use Rattle.pdl_pipe_walk.specs.Locked.{Members, locks_in}
-use Rattle.pdl_pipe_locks.proofs.LocksKept.{Stays}
+use Rattle.pdl_pipe_locks.proofs.LockGrowth.{Stays}
 use Rattle.pdl_law_follows.specs.Follows.{Follows, IsMade}
 use Rattle.pdl_law_follows.specs.Memories.{net_infos}
 use Rattle.pdl_law_follows.proofs.FollowsMade.{follows}
-use Rattle.pdl_law_lockruns.proofs.UsedMade.{stages_made}
-use Rattle.pdl_law_lockruns.proofs.Locking.{used_locks}
+use Rattle.pdl_law_lockruns.proofs.LockRuns.{stages_made}
+use Rattle.pdl_law_lockruns.proofs.LockCycles.{used_locks}
 use Rattle.pdl_pipe_emitted.specs.Emitted.{name_in, views_of, moves_of, gates_of, sides_of}
 use Rattle.pdl_pipe.specs.Emitted.{IsEmitted}
 use Rattle.pdl_pipe.specs.Locks.{HasLocks}

@@ -19,19 +19,19 @@ use Rattle.pdl_lockapi.specs.declared.LockNets.{LockNets}
 use Rattle.pdl_law_parts.specs.Views.{View, Gates}
 use Rattle.pdl_law_parts.specs.Ports.{Shown, Commit}
 use Rattle.pdl_law_parts.specs.Compiled.{port_in}
-use Rattle.pdl_law_sides.specs.Whole.{Request, reply_ports, whole_shown}
+use Rattle.pdl_law_sides.specs.WholeNetlist.{Request, reply_ports, whole_shown}
 use Rattle.pdl_pipe_walk.specs.declared.locks.MemLock.{MemLock}
 use Rattle.pdl_pipe_walk.specs.Locked.{Members, some_at}
 use Rattle.pdl_pipe_beside.specs.declared.outside.RequestNets.{RequestNets}
 use Rattle.pdl_pipe_registers.specs.Stages.{view_in}
 use Rattle.pdl_pipe_registers.proofs.Lists.{view_at, some_stage}
 use Rattle.pdl_pipe_nexts.specs.Lines.{line_form, line_pipe}
-use Rattle.pdl_pipe_nexts.proofs.LinesKept as lines
+use Rattle.pdl_pipe_nexts.proofs.LineGrowth as lines
 use Rattle.pdl_pipe_locks.specs.Stepped.{commit_of, commits_in}
 use Rattle.pdl_pipe_locks.specs.Suited.{shapes_in}
 use Rattle.pdl_pipe_outputs.specs.declared.outputs.StageNets.{StageNets as ShownNets}
 use Rattle.pdl_pipe_outputs.specs.declared.outputs.OutNet.{OutNet}
-use Rattle.pdl_pipe_outputs.specs.Told.{ask_of, asks_in, output_of, shown_by, valid_in, moves_in, AreOf, OutsThere, ShowAll}
+use Rattle.pdl_pipe_outputs.specs.ToldOutputs.{ask_of, asks_in, output_of, shown_by, valid_in, moves_in, AreOf, OutsThere, ShowAll}
 use Rattle.pdl_pipe_emitted.specs.Emitted.{Nets, Emission, name_in, views_of, moves_of, gates_of}
 use Rattle.pdl_pipe_emitted.proofs.LaidGrowth.{keeps_bc, keeps_cd, keeps_ch, keeps_hi}
 use Rattle.pdl_pipe_emitted.proofs.SidesStages.{some_of, at_signal}

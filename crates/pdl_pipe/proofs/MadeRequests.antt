@@ -15,7 +15,7 @@ use Rattle.pdl_machine_inflight.specs.Readings.{reading}
 use Rattle.pdl_law_parts.specs.Walk.{zero_bit, is_locked}
 use Rattle.pdl_law_parts.specs.Views.{View, Gates}
 use Rattle.pdl_law_sides.specs.Sides.{Sides}
-use Rattle.pdl_law_sides.specs.Whole.{IsOutside, FitsOutside}
+use Rattle.pdl_law_sides.specs.WholeNetlist.{IsOutside, FitsOutside}
 use Rattle.pdl_pipe_walk.specs.Parts.{walk_in}
 use Rattle.pdl_pipe_walk.specs.Locked.{Members, some_at}
 use Rattle.pdl_pipe_beside.specs.declared.ends.StageEnd.{StageEnd}
@@ -23,13 +23,13 @@ use Rattle.pdl_pipe_beside.specs.declared.outside.RequestNets.{RequestNets}
 use Rattle.pdl_pipe_beside.specs.Ends.{ends_in, moves_in, kills_in}
 use Rattle.pdl_pipe_beside.specs.Requests.{IsRequest}
 use Rattle.pdl_pipe_beside.specs.Beside.{AreStagesOf}
-use Rattle.pdl_pipe_beside.proofs.EndsKept as ends_kept
+use Rattle.pdl_pipe_beside.proofs.EndGrowth as ends_kept
 use Rattle.pdl_pipe_beside.proofs.Beside.{is_outside}
 use Rattle.pdl_pipe_registers.proofs.Lists.{view_at}
 use Rattle.pdl_pipe_nexts.specs.Lines.{line_pipe}
 use Rattle.pdl_pipe_locks.specs.Stepped.{commits_in}
-use Rattle.pdl_pipe_locks.proofs.LocksKept.{Stays}
-use Rattle.pdl_pipe_outputs.specs.Told.{ask_of, asks_in}
+use Rattle.pdl_pipe_locks.proofs.LockGrowth.{Stays}
+use Rattle.pdl_pipe_outputs.specs.ToldOutputs.{ask_of, asks_in}
 use Rattle.pdl_pipe_tails.specs.Tails.{tails_in}
 use Rattle.pdl_pipe_emitted.specs.Emitted.{Nets, Emission, views_of, moves_of, sides_of, inputs_of, free_of, clear_of}
 use Rattle.pdl_pipe_emitted.proofs.LaidGrowth.{keeps_bd, keeps_cd}

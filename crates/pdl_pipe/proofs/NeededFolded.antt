@@ -9,11 +9,11 @@ use Rattle.pdl_net.specs.declared.Cell.{Cell}
 use Rattle.pdl_net.specs.declared.Cell.TheVariants.{Const, Not, Bin, Mux, Slice, Cat, Rep, Read}
 use Rattle.pdl_net.specs.declared.Netlist.{Netlist}
 use Rattle.pdl_net.specs.Circuit.{circuit_of}
-use Rattle.pdl_build.specs.Folded.{is_const, cell_in, is_constant, is_foldable, AreFolded}
+use Rattle.pdl_build.specs.FoldedCells.{is_const, cell_in, is_constant, is_foldable, AreFolded}
 use Rattle.pdl_net_needed.specs.Needed.{reads_of, cell_at, Choice, IsKept}
 use Rattle.pdl_net_needed.specs.Pruned.{kept_of, moved_net, moved_cell, pruned, IsPruned}
 use Rattle.pdl_net_needed.proofs.Counts.{kept_length, within_marks, kept_from}
-use Rattle.pdl_net_needed.proofs.Closed.{IsClosed, closed}
+use Rattle.pdl_net_needed.proofs.ClosedChoices.{IsClosed, closed}
 use Rattle.pdl_net_needed.proofs.Needs.{cell_moved}
 
 -- whether a cell is a constant doesn't hang on the numbers of nets
@@ -69,6 +69,7 @@ pub needed_folded : {E : Type 0} (n : Netlist) (r : Result Netlist E) → AreFol
 needed_folded n (Ok q) f i = folded_part n q i f
 needed_folded n (Err e) f i = tt
 
+-- where no two cells of a netlist are equal, no two of its needed part are, if there is memory for it
 pub needed_different : {E : Type 0} (n : Netlist) (r : Result Netlist E) → AllPairs (λ a b. a ≢ b) n.cells
     → IfOk r (λ q. AllPairs (λ a b. a ≢ b) n.cells → AllPairs (λ a b. a ≢ b) q.cells) → IfOk r (λ q. AllPairs (λ a b. a ≢ b) q.cells)
 needed_different n (Ok q) d i = i d

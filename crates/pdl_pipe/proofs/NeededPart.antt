@@ -16,7 +16,7 @@ unfolding shapes_of
 arrays_same n q f = f.arrays
 
 -- one shows in each cycle what the other shows
-abbrev pub ShowsSame : Netlist → Netlist → Type 0
+abbrev ShowsSame : Netlist → Netlist → Type 0
 ShowsSame n q = (image : List (List ℕ)) (schedule : List ℕ) → nports q image schedule ≡ nports n image schedule
 
 -- where there is memory for it
@@ -26,6 +26,7 @@ needed_follows p n (Ok q) h well shows frame =
     follows_like p n q well frame.name frame.ports frame.mems (arrays_same n q frame) shows h
 needed_follows p n (Err e) h well shows frame = tt
 
+-- the needed part of a netlist with the locks of a pipe is one of a netlist with these locks
 pub needed_locks : {T E : Type 0} (l : Members T) (p : tree.Pipe) (n : Netlist) (r : Result Netlist E) → HasLocks l p n
     → IfOk r (IsPruned n) → IfOk r (HasLocksOf l p)
 needed_locks l p n (Ok q) h part = record { whole = n; locks = h; part = part }

@@ -17,7 +17,7 @@ use Rattle.pdl_order.specs.Laws as order_laws
 use Rattle.pdl_pipe_exprs.specs.declared.bits.Bits.{Bits}
 use Rattle.pdl_pipe_exprs.specs.Conditions.{AreBits}
 use Rattle.pdl_law_parts.specs.Compiled.{port_in}
-use Rattle.pdl_law_sides.specs.Whole.{reply_ports}
+use Rattle.pdl_law_sides.specs.WholeNetlist.{reply_ports}
 use Rattle.pdl_pipe_walk.specs.declared.locks.MemLock.{MemLock}
 use Rattle.pdl_pipe_walk.specs.Locked.{Members, some_at, AreLocked}
 use Rattle.pdl_pipe_answers.specs.Ports.{HasAnswers}
@@ -44,7 +44,7 @@ use Rattle.pdl_pipe_locks.specs.Stepped.{own_of, AreStepped, ExtendsLocks}
 use Rattle.pdl_pipe_locks.specs.Suited.{shapes_in}
 use Rattle.pdl_pipe_outputs.specs.declared.outputs.OutNet.{OutNet}
 use Rattle.pdl_pipe_outputs.specs.declared.outputs.StageNets.{StageNets as ShownNets}
-use Rattle.pdl_pipe_outputs.specs.Told.{OutsThere, ShowAll, output_of}
+use Rattle.pdl_pipe_outputs.specs.ToldOutputs.{OutsThere, ShowAll, output_of}
 use Rattle.pdl_pipe_emitted.specs.Emitted.{AreDeedsOf, Emission, IsLayout, Nets, inputs_of, name_in}
 
 -- of each stage whether it holds a thread, and whether that moves
@@ -76,6 +76,7 @@ pub record HasMemories {T : Type 0} (l : Members T) (c : Circuit) (f : Form) (bi
 abbrev pub HasMemoriesIn : {T : Type 0} → Members T → Circuit → Form → Bits → List (Option (MemLock T)) → List (Option PortRegs) → Type 0
 HasMemoriesIn l c f bits locks ports = (low : ℕ) × (mid : ℕ) × HasMemories l c f bits locks ports low mid
 
+-- all that stands in a circuit before the moves are known, with some bounds between its registers
 abbrev pub IsLaidOut : {T : Type 0} → Members T → Circuit → Line → List (Option (MemLock T)) → List (Option OrderRegs) → Type 0
 IsLaidOut l c x locks orders = (low : ℕ) × (mid : ℕ) × (high : ℕ) × IsLayout l c x locks orders low mid high
 

@@ -16,7 +16,7 @@ use Rattle.pdl_law_parts.specs.Views.{View, Gates}
 use Rattle.pdl_law_parts.specs.Ports.{step_of}
 use Rattle.pdl_law_parts.specs.Compiled.{IsStage}
 use Rattle.pdl_law_parts.specs.States.{held_after}
-use Rattle.pdl_law_sides.specs.Whole.{replies_of}
+use Rattle.pdl_law_sides.specs.WholeNetlist.{replies_of}
 use Rattle.pdl_law_follows.specs.Refined.{machine_after}
 use Rattle.pdl_law_lockruns.specs.Used.{IsUsed, IsStageAs}
 use Rattle.pdl_pipe_walk.specs.declared.locks.MemLock.{MemLock}

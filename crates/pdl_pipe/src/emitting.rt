@@ -3,7 +3,7 @@ ghost use Rattle.std.specs.Prelude.{◌≡◌, [], IfOk, OnOk, length, map};
 ghost use Rattle.pdl_word.specs.Each.{Each};
 ghost use Rattle.pdl_form_types.specs.Stmts.{AreWidths};
 ghost use Rattle.pdl_pipe_registers.specs.Stages.{zero_signal};
-ghost use Rattle.pdl_form.specs.Whole.{form};
+ghost use Rattle.pdl_form.specs.FormView.{form};
 ghost use Rattle.pdl_build.specs.Change.{empty_circuit};
 ghost use Rattle.pdl_net.specs.Growth.{Extends};
 ghost use Rattle.pdl_pipe_exprs.specs.Nets.{signals_in, NetsThere};

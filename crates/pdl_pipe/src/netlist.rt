@@ -3,7 +3,7 @@ ghost use Rattle.std.specs.Prelude.{◌≡◌, ◌≢◌, ◌++◌, true, false,
 ghost use Rattle.pdl_syntax_tree.specs.View.{pipe_view};
 ghost use Rattle.pdl_form.specs.Form.{form_of};
 ghost use Rattle.pdl_net.specs.Circuit.{circuit_of};
-ghost use Rattle.pdl_build.specs.Folded.{AreFolded};
+ghost use Rattle.pdl_build.specs.FoldedCells.{AreFolded};
 ghost use Rattle.pdl_net_needed.specs.Needed.{AllNeeded};
 ghost use Rattle.pdl_pipe_walk.specs.Locked.{members};
 ghost use Rattle.pdl_pipe_locks.specs.Suited.{AreSuited};

@@ -1,3 +1,3 @@
-pub mod Found
-pub mod Answered
+pub mod ReadingSteps
+pub mod PortAnswers
 pub mod Bits

@@ -15,6 +15,7 @@ use Rattle.pdl_machine_inflight.specs.Readings.{Reading, reading, places}
 abbrev pub IsOnAs : Signal → Signal → Type 0
 IsOnAs f g = (s : State) → is_on f s ≡ is_on g s
 
+-- the port of memory m, where it has one
 abbrev pub port_at : List (Option PortRegs) → ℕ → Option PortRegs
 port_at ports m = slice_index_or ports m None
 
@@ -23,6 +24,7 @@ abbrev pub port_answers : Circuit → Option PortRegs → ℕ → AnswerSignals
 port_answers c None i = record { answered = no_signal; given = no_signal; value = no_signal }
 port_answers c (Some r) i = answer_signals c r i
 
+-- what the port of memory m answers at each place
 abbrev pub answers_in : Circuit → List (Option PortRegs) → ℕ → ℕ → AnswerSignals
 answers_in c ports m = port_answers c (port_at ports m)
 

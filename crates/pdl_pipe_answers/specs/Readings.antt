@@ -7,6 +7,7 @@ use Rattle.pdl_machine_facts.specs.Slots.{leads_to}
 use Rattle.pdl_machine_inflight.specs.Readings.{Reading, reading}
 use Rattle.pdl_pipe_answers.specs.declared.readings.Reading as r_reading
 
+-- the delayed read that a value of the program stands for
 abbrev pub reading_view : r_reading.Reading → Reading
 reading_view r = record { stage = r.stage; var = r.var }
 

@@ -1,6 +1,6 @@
 // Variables with the answers of a cycle, and whether a stage's thread has all that it awaits.
 ghost use Rattle.std.specs.Prelude.{◌≡◌, ℕ, ◌+◌, ◌-◌, ◌<◌, ◌≤◌, true, IfOk, Some, is_some, length};
-ghost use Rattle.pdl_form.specs.Whole.{form};
+ghost use Rattle.pdl_form.specs.FormView.{form};
 ghost use Rattle.pdl_form.specs.View.{next_view};
 ghost use Rattle.pdl_net.specs.Meaning.{IsThere, Means, signal};
 ghost use Rattle.pdl_net.specs.Growth.{Extends};

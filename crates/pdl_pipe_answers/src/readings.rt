@@ -1,7 +1,7 @@
 // The delayed reads of a pipe.
 ghost use Rattle.std.specs.Prelude.{◌≡◌, ◌+◌, ◌<◌, ◌≤◌, ◌-◌, length, option_map};
 ghost use Rattle.pdl_machine_facts.specs.Slots.{leads_to as may_lead};
-ghost use Rattle.pdl_form.specs.Whole.{form};
+ghost use Rattle.pdl_form.specs.FormView.{form};
 ghost use Rattle.pdl_form.specs.View.{act_view, next_view, stmts_view};
 ghost use Rattle.pdl_semantics.specs.Stages.{stage_at};
 ghost use Rattle.pdl_machine_inflight.specs.Readings.{reading as read_of, reading_in};

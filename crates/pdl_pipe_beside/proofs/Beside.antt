@@ -21,7 +21,7 @@ use Rattle.pdl_machine_inflight.specs.Readings.{Reading, reading, places, place_
 use Rattle.pdl_law_parts.specs.Walk.{Walk, one, zero_bit, both}
 use Rattle.pdl_law_parts.specs.Views.{View, Gates}
 use Rattle.pdl_law_sides.specs.Sides.{asks_memory, asked_address, goes_to_place, asked_into, into_first, into_second, into_merge, leaves_fork, order_step}
-use Rattle.pdl_law_sides.specs.Whole.{Request, request_of, IsOutside}
+use Rattle.pdl_law_sides.specs.WholeNetlist.{Request, request_of, IsOutside}
 use Rattle.pdl_law_sides.specs.HasSides.{HasOwn, HasPort, HasOrder}
 use Rattle.pdl_pipe_answers.specs.Ports.{port_answers}
 use Rattle.pdl_pipe_walk.specs.Locked.{some_at}
@@ -38,9 +38,11 @@ use Rattle.pdl_pipe_beside.specs.Beside.{Inputs, AreTaken, port_stands, order_st
 use Rattle.pdl_pipe_beside.proofs.OrderParts.{is_merged_by}
 use Rattle.pdl_pipe_beside.proofs.PortSteps as port_steps
 use Rattle.pdl_pipe_beside.proofs.OrderSteps as order_steps
+use Rattle.pdl_word.proofs.Lists.{some_of}
 
 -- ---- what is made stands
 
+-- the ports that were made of all memories stand in the circuit, where delayed reads lead on
 pub made_ports : (c : Circuit) (p : Pipe) (inputs : List (Option PortInput)) (low high : ℕ) (qs : List (Option PortRegs)) → ReadsLeadOn p → AreParts port_laws.own (has_port c p inputs) low high qs (length p.mems) → StandPorts c p qs
 made_ports c p inputs low high qs leads h = record {
   count = h.count;
@@ -49,6 +51,7 @@ made_ports c p inputs low high qs leads h = record {
   apart = h.apart;
 }
 
+-- the orders that were made of all stages stand in the circuit
 pub made_orders : (c : Circuit) (p : Pipe) (low high : ℕ) (rs : List (Option OrderRegs)) → AreParts order_laws.own (HasOrderOf c p) low high rs (length p.stages) → StandOrders c p rs
 made_orders c p low high rs h = record {
   count = h.count;
@@ -59,16 +62,13 @@ made_orders c p low high rs h = record {
 
 -- ---- steps stay in a circuit that keeps what their registers take next
 
+-- the step of a memory's port stays where its registers take next what they took
 pub port_stays_stepped : (a c d : Circuit) (p : Pipe) (es : List StageEnd) (qs : List (Option PortRegs)) (m : ℕ) → ((q : PortRegs) → some_at qs m ≡ Some q → OwnKept (port_laws.own q) c d) → IsPortStepped a c p es qs m → IsPortStepped a d p es qs m
 port_stays_stepped a c d p es qs m kept x r q is e = port_steps.law_kept (port_places.stands q) (length (places p r)) (port_laws.own q) c d _ (kept q e) (x r q is e)
 
+-- the step of a fork's order stays where its registers take next what they took
 pub order_stays_stepped : (a c d : Circuit) (p : Pipe) (es : List StageEnd) (squash : Net) (rs : List (Option OrderRegs)) (f : ℕ) → ((r : OrderRegs) → some_at rs f ≡ Some r → OwnKept (order_laws.own r) c d) → IsOrderStepped a c p es squash rs f → IsOrderStepped a d p es squash rs f
 order_stays_stepped a c d p es squash rs f kept x r e = order_steps.law_kept r (branch_stages p f) c d (order_signals a p es squash f) (kept r e) (x r e)
-
--- what is at a place that has something
-there_is : {T : Type 0} (o : Option T) → is_some o ≡ true → (x : T) × (o ≡ Some x)
-there_is None e = absurd (false≢true e)
-there_is (Some x) e = (x, refl)
 
 -- ---- ports
 
@@ -112,7 +112,7 @@ module _ (a c : Circuit) (p : Pipe) (es : List StageEnd) (squash : Net) (vs : �
 
     -- each memory that is read delayed has its port
     pub has_ports : (m : ℕ) (r : Reading) → reading p m ≡ Some r → HasPort p c vs gates moves (sides_in c qs ins frees rs clear tails) (own_at port_laws.own qs m) m r
-    has_ports m r is = let x = there_is (some_at qs m) (stand.some m r is) in port_here m r x.0 is x.1
+    has_ports m r is = let x = some_of (some_at qs m) (stand.some m r is) in port_here m r x.0 is x.1
 
   -- ---- what is asked outside
 
@@ -173,4 +173,4 @@ module _ (a c : Circuit) (p : Pipe) (es : List StageEnd) (squash : Net) (vs : �
 
     -- each fork that is merged has its order
     pub has_orders : (f q : ℕ) → f < length p.stages → (stage_at p q).merges ≡ Some f → HasOrder p c vs gates moves (sides_in c qs ins frees rs clear tails) (own_at order_laws.own rs f) f
-    has_orders f q low merges = let x = there_is (some_at rs f) (stand.some f low ∙ is_merged_by p f q merges) in order_here f x.0 low x.1
+    has_orders f q low merges = let x = some_of (some_at rs f) (stand.some f low ∙ is_merged_by p f q merges) in order_here f x.0 low x.1

@@ -1,9 +1,9 @@
 pub mod PartLists
 pub mod PortParts
 pub mod OrderParts
-pub mod EndsKept
+pub mod EndGrowth
 pub mod PortSteps
 pub mod OrderSteps
-pub mod Asked
+pub mod StageRequests
 pub mod Beside
-pub mod Onward
+pub mod ReadStages

@@ -13,23 +13,20 @@ use Rattle.pdl_net.specs.Growth.{Keeps}
 use Rattle.pdl_order.specs.declared.OrderRegs.{OrderRegs}
 use Rattle.pdl_order.specs.Laws.{HasOrderNets, IsFragment, StartLaw, FirstLaw, first_reg, end_reg, own}
 use Rattle.pdl_order.specs.Words.{ArePlaced, stands}
-use Rattle.pdl_order.proofs.Kept.{order_keeps}
+use Rattle.pdl_order.proofs.OrderGrowth.{order_keeps}
 use Rattle.pdl_machine_inflight.specs.Readings.{branch_stages}
 use Rattle.pdl_pipe_beside.specs.Parts.{IsNewPart}
 use Rattle.pdl_pipe_beside.specs.Orders.{ForksFit, merged_in, is_merged, IsOrder, HasOrderOf}
+use Rattle.pdl_semantics.proofs.Facts.{merges_some}
 
 -- ---- which forks are merged
-
-merges_is : (o : Option ℕ) (f : ℕ) → merges_fork o f ≡ true → o ≡ Some f
-merges_is None f e = absurd (false≢true e)
-merges_is (Some g) f e = ap Some (eqb-true g f e)
 
 merged_here : (ss : List Stage) (f : ℕ) → merged_in ss f ≡ true → (q : ℕ) × ((slice_index_or ss q last_stage).merges ≡ Some f)
 merged_here [] f e = absurd (false≢true e)
 merged_here (s ∷ ss) f e = at (merges_fork s.merges f) refl e (merged_here ss f)
   where
     at : (b : Bool) → merges_fork s.merges f ≡ b → (b || merged_in ss f) ≡ true → (merged_in ss f ≡ true → (q : ℕ) × ((slice_index_or ss q last_stage).merges ≡ Some f)) → (q : ℕ) × ((slice_index_or (s ∷ ss) q last_stage).merges ≡ Some f)
-    at true d h later = (0, merges_is s.merges f d)
+    at true d h later = (0, merges_some s.merges f d)
     at false d h later = let r = later h in (suc r.0, r.1)
 
 -- a fork that is merged is merged by a stage
@@ -45,6 +42,7 @@ at_merged (s ∷ ss) f (suc q) e = ap (λ b. merges_fork s.merges f || b) (at_me
     or_true true = refl
     or_true false = refl
 
+-- a fork that stage q merges is merged
 pub is_merged_by : (p : Pipe) (f q : ℕ) → (stage_at p q).merges ≡ Some f → is_merged p f ≡ true
 is_merged_by p f q e = at_merged p.stages f q e
 
@@ -62,6 +60,7 @@ fragment_end a b r f =
     let last = f.has_reg (first_reg r + (n - 1)) (omega arith) (omega (arith, some)) in
     omega (arith, last, some)
 
+-- the registers of a new order are new
 pub new_order : (a b : Circuit) (r : OrderRegs) → IsFragment a b r → IsNewPart own a b (Some r)
 new_order a b r f = record {
   from = λ x e.
@@ -74,6 +73,7 @@ new_order a b r f = record {
       subst P same (fragment_end a b r f);
 }
 
+-- a merged fork has the order that was made for it, which has room for the stages of its branches
 pub order_some : (a c : Circuit) (p : Pipe) (f : ℕ) (r : OrderRegs) → is_merged p f ≡ true → branch_stages p f ≤ r.stages → IsFragment a c r → HasOrderNets c r → ArePlaced c r → StartLaw (stands r) c (own r) → FirstLaw (stands r) (signal c r.first) (signal c r.empty)
     → HasOrderOf c p f (Some r)
 order_some a c p f r merged fits fragment nets placed starts first = record {

@@ -26,7 +26,7 @@ use Rattle.pdl_pipe_beside.specs.Parts.{own_of, own_at}
 use Rattle.pdl_pipe_beside.specs.Orders.{IsOrder, StandOrders}
 use Rattle.pdl_pipe_beside.specs.Ends.{no_view, view_in, move_in, kill_in, ends_in, moves_in, AreEnds}
 use Rattle.pdl_pipe_beside.specs.Steps.{leave_or, order_signals, IsOrderStepped}
-use Rattle.pdl_pipe_beside.proofs.EndsKept.{views_same, moves_same, kills_same}
+use Rattle.pdl_pipe_beside.proofs.EndGrowth.{views_same, moves_same, kills_same}
 use Rattle.pdl_pipe_beside.proofs.PartLists.{own_apart}
 use Rattle.pdl_pipe_beside.proofs.OrderParts.{order_stays}
 
@@ -50,6 +50,7 @@ module _ (a b : Circuit) (f : Form) (es : List StageEnd) (k : ℕ) (e : Keeps a 
   pub leaves_same : leaves_fork f.pipe (ends_in b es) (moves_in b es) k (length f.pipe.stages) 0 ≡ leaves_fork f.pipe (ends_in a es) (moves_in a es) k (length f.pipe.stages) 0
   leaves_same = ap₂ (λ vs ms. leaves_fork f.pipe (λ j. slice_index_or vs j no_view) (λ j. signal_at ms j) k (length f.pipe.stages) 0) (views_same a b e f es h) (moves_same a b e f es h)
 
+-- the nets of an order's step mean what the stages do to it, where each of the four nets does
 pub ports_same : (a c : Circuit) (p : Pipe) (es : List StageEnd) (squash : Net) (k : ℕ) (x : OrderPorts)
     → signal c x.entered_first ≡ (order_signals a p es squash k).entered_first → signal c x.entered_second ≡ (order_signals a p es squash k).entered_second → signal c x.left ≡ (order_signals a p es squash k).left → signal c x.emptied ≡ (order_signals a p es squash k).emptied
     → step_signals c x ≡ order_signals a p es squash k
@@ -80,6 +81,7 @@ law_fewer r k n c g le x = record {
 
 -- ---- one step
 
+-- an order that keeps the law of a step for all stages it has room for keeps it for those of its fork
 pub some_stepped : (a c : Circuit) (p : Pipe) (es : List StageEnd) (squash : Net) (rs : List (Option OrderRegs)) (f : ℕ) (r : OrderRegs) (g : StepSignals) → some_at rs f ≡ Some r → IsOrder a p f r → g ≡ order_signals a p es squash f → StepLaw (stands r) r.stages (own r) c g
     → IsOrderStepped a c p es squash rs f
 some_stepped a c p es squash rs f r g is order same law s e =
@@ -90,6 +92,7 @@ some_stepped a c p es squash rs f r g is order same law s e =
 
 -- ---- all steps
 
+-- the orders of forks stand in a circuit that keeps what stands in theirs
 pub orders_stand : (a b : Circuit) (p : Pipe) (rs : List (Option OrderRegs)) → Keeps a b → StandOrders a p rs → StandOrders b p rs
 orders_stand a b p rs k h = record { count = h.count; some = h.some; each = λ f r l e. order_stays a b k p f r (h.each f r l e); apart = h.apart }
 
@@ -126,6 +129,7 @@ module _ (a : Circuit) (f : Form) (es : List StageEnd) (squash : Net) (rs : List
   stepped_more b c k low e d x h =
       below_more (λ j. IsOrderStepped a c f.pipe es squash rs j) k (λ j l. stepped_kept b c j k l low e d (h j l)) (stepped_as b c k e x)
 
+-- no order has an array
 pub no_arrays : (rs : List (Option OrderRegs)) (f : ℕ) → (own_at own rs f).last ≡ 0
 no_arrays rs f = at (some_at rs f)
   where

@@ -8,12 +8,7 @@ use Rattle.pdl_net.specs.Growth.{Own, Outside, ExtendsBut}
 use Rattle.pdl_net.proofs.Keeps.{but_keeps, keeps_trans}
 use Rattle.pdl_pipe_walk.specs.Locked.{some_at}
 use Rattle.pdl_pipe_beside.specs.Parts.{AreParts, IsNewPart, own_of, own_at, ExtendsParts}
-
-pub some_before : {T : Type 0} (xs : List (Option T)) (o : Option T) (i : ℕ) → i < length xs → some_at (xs ++ o ∷ []) i ≡ some_at xs i
-some_before xs o i h = get_or_append_left xs (o ∷ []) None i h
-
-pub some_last : {T : Type 0} (xs : List (Option T)) (o : Option T) (n : ℕ) → length xs ≡ n → some_at (xs ++ o ∷ []) n ≡ o
-some_last xs o n h = get_or_push xs o None n h
+use Rattle.pdl_pipe_walk.proofs.Lists.{some_before, some_last}
 
 -- one part more, in a circuit that grew
 module _ {T : Type 0} (own : T → Own) (A B : ℕ → Option T → Type 0) (low : ℕ) (a b : Circuit) (xs : List (Option T)) (o : Option T) (n : ℕ)

@@ -11,7 +11,7 @@ use Rattle.pdl_net.specs.Growth.{Own, Keeps}
 use Rattle.pdl_port.specs.declared.PortRegs.{PortRegs}
 use Rattle.pdl_port.specs.Laws.{Replies, HasAnswerNets, IsFragment, StartLaw, AnswerLaw, first_reg, end_reg, own, answer_at, answer_signals, places as port_places}
 use Rattle.pdl_port.specs.Places.{ArePlaced, stands}
-use Rattle.pdl_port.proofs.Kept.{port_keeps}
+use Rattle.pdl_port.proofs.PortGrowth.{port_keeps}
 use Rattle.pdl_machine_inflight.specs.Readings.{Reading, reading, places, places_of}
 use Rattle.pdl_law_sides.specs.HasSides.{HasOwn}
 use Rattle.pdl_pipe_answers.specs.Ports.{HasAnswers, IsPortFor, port_at}
@@ -29,6 +29,7 @@ fragment_end a b q f =
     let last = f.has_reg (first_reg q + (n - 1)) (omega arith) (omega (arith, some)) in
     omega (arith, last, some)
 
+-- the registers of a new port are new
 pub new_part : (a b : Circuit) (q : PortRegs) → IsFragment a b q → IsNewPart own a b (Some q)
 new_part a b q f = record {
   from = λ x e.
@@ -41,6 +42,7 @@ new_part a b q f = record {
       subst P same (fragment_end a b q f);
 }
 
+-- the registers of a new port are there
 pub own_there : (a b : Circuit) (q : PortRegs) → IsFragment a b q → HasOwn b (own q)
 own_there a b q f = record { regs = f.has_reg; none = omega arith }
 
@@ -66,6 +68,7 @@ is_port c p m stage w n i q wide are there reply word count nets placed owned st
 
 -- ---- a memory's port
 
+-- a memory that is read delayed has this port, where that is made of its inputs
 pub port_some : (c : Circuit) (p : Pipe) (m : ℕ) (r : Reading) (i : PortInput) (input : Option PortInput) (q : PortRegs) → reading p m ≡ Some r → input ≡ Some i → IsPort c p m r q → q.reply ≡ i.reply → q.word ≡ i.word
     → HasPortOf c p m input (Some q)
 port_some c p m r i input q is at x reply word = record {
@@ -148,6 +151,7 @@ module _ (a b : Circuit) (k : Keeps a b) where
 
 -- ---- what they answer
 
+-- the ports that were made of all memories answer the delayed reads, where these lead on
 pub has_answers : (c : Circuit) (p : Pipe) (inputs : List (Option PortInput)) (low high : ℕ) (qs : List (Option PortRegs)) → ReadsLeadOn p → AreParts own (has_port c p inputs) low high qs (length p.mems) → HasAnswers c p qs
 has_answers c p inputs low high qs leads h = record { count = h.count; each = λ m r is. at m r is (port_at qs m) (h.each m (leads.known m r is)) }
   where

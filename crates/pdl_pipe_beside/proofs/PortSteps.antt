@@ -25,7 +25,7 @@ use Rattle.pdl_pipe_beside.specs.Parts.{own_of, own_at}
 use Rattle.pdl_pipe_beside.specs.Ports.{ReadsLeadOn, IsPort, StandPorts}
 use Rattle.pdl_pipe_beside.specs.Ends.{no_view, view_in, move_in, kill_in, ends_in, moves_in, kills_in, AreEnds}
 use Rattle.pdl_pipe_beside.specs.Steps.{AreNetsOf, port_signals, IsPortStepped}
-use Rattle.pdl_pipe_beside.proofs.EndsKept.{views_same, moves_same, kills_same}
+use Rattle.pdl_pipe_beside.proofs.EndGrowth.{views_same, moves_same, kills_same}
 use Rattle.pdl_pipe_beside.proofs.PartLists.{own_apart}
 use Rattle.pdl_pipe_beside.proofs.PortParts.{port_stays}
 
@@ -69,6 +69,7 @@ module _ (a b c : Circuit) (p : Pipe) (es : List StageEnd) (qs : List (Option Po
 
 -- ---- all steps
 
+-- the ports of delayed memories stand in a circuit that keeps what stands in theirs
 pub ports_stand : (a b : Circuit) (p : Pipe) (qs : List (Option PortRegs)) → Keeps a b → StandPorts a p qs → StandPorts b p qs
 ports_stand a b p qs k h = record { count = h.count; some = h.some; each = λ m r q e f. port_stays a b k p m r q (h.each m r q e f); apart = h.apart }
 
@@ -107,9 +108,11 @@ module _ (a : Circuit) (f : Form) (es : List StageEnd) (qs : List (Option PortRe
   stepped_more b c m low k d x h =
       below_more (λ j. IsPortStepped a c f.pipe es qs j) m (λ j l. stepped_kept b c j m l low k d (h j l)) (stepped_as b c m k x)
 
+-- where the ports of the memories of a pipe have made their step, so has one of any number
 pub all_stepped : (a c : Circuit) (p : Pipe) (es : List StageEnd) (qs : List (Option PortRegs)) (n : ℕ) → n ≡ length p.mems → ReadsLeadOn p → ((m : ℕ) → m < n → IsPortStepped a c p es qs m) → (m : ℕ) → IsPortStepped a c p es qs m
 all_stepped a c p es qs n count leads h m r q e g = h m (let l = leads.known m r e in omega (arith, l, count)) r q e g
 
+-- no port has an array
 pub no_arrays : (qs : List (Option PortRegs)) (m : ℕ) → (own_at own qs m).last ≡ 0
 no_arrays qs m = at (some_at qs m)
   where

@@ -39,10 +39,12 @@ abbrev pub order_stands : Option OrderRegs → State → List Bool → Type 0
 order_stands None s xs = Unit {0}
 order_stands (Some r) s xs = order_words.stands r s xs
 
+-- whether the oldest thread inside took the first branch, by the order of a fork that has one
 abbrev pub order_first : Circuit → Option OrderRegs → Signal
 order_first c None = no_signal
 order_first c (Some r) = signal c r.first
 
+-- whether no thread is inside, by the order of a fork that has one
 abbrev pub order_empty : Circuit → Option OrderRegs → Signal
 order_empty c None = no_signal
 order_empty c (Some r) = signal c r.empty

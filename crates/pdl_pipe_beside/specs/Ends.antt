@@ -20,6 +20,7 @@ view_of w = record { valid = zero_bit; kept = λ x. no_signal; tickets = λ m. n
 abbrev pub no_view : View
 no_view = view_of (walk_of (record { vars = []; held = []; ready = one; reserves = []; puts = []; lettings = []; births = []; asks = []; guess = []; fails = zero_bit; barrier = zero_bit }))
 
+-- a stage by its nets in a circuit, of which only what it does is known
 abbrev pub view_in : Circuit → StageEnd → View
 view_in c e = view_of (walk_in c e.ended.now)
 
@@ -27,9 +28,11 @@ view_in c e = view_of (walk_in c e.ended.now)
 abbrev pub ends_in : Circuit → List StageEnd → ℕ → View
 ends_in c es k = slice_index_or (map (view_in c) es) k no_view
 
+-- whether a stage's thread moves
 abbrev pub move_in : Circuit → StageEnd → Signal
 move_in c e = signal c e.moves
 
+-- whether a stage's thread is removed
 abbrev pub kill_in : Circuit → StageEnd → Signal
 kill_in c e = signal c e.killed
 
@@ -37,6 +40,7 @@ kill_in c e = signal c e.killed
 abbrev pub moves_in : Circuit → List StageEnd → ℕ → Signal
 moves_in c es k = signal_at (map (move_in c) es) k
 
+-- whether the thread of stage k is removed
 abbrev pub kills_in : Circuit → List StageEnd → ℕ → Signal
 kills_in c es k = signal_at (map (kill_in c) es) k
 

@@ -15,6 +15,7 @@ use Rattle.pdl_pipe_walk.specs.Locked.{some_at}
 abbrev pub merged_in : List Stage → ℕ → Bool
 merged_in ss f = list_any (λ (s : Stage). merges_fork s.merges f) ss
 
+-- whether some stage of a pipe merges a fork
 abbrev pub is_merged : Pipe → ℕ → Bool
 is_merged p f = merged_in p.stages f
 

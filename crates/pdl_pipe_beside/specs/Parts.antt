@@ -25,6 +25,7 @@ abbrev pub own_of : {T : Type 0} → (T → Own) → Option T → Own
 own_of own None = record { from = 0; to = 0; first = 0; last = 0 }
 own_of own (Some x) = own x
 
+-- the registers of the part of this number; none where there is no such part
 abbrev pub own_at : {T : Type 0} → (T → Own) → List (Option T) → ℕ → Own
 own_at own xs i = own_of own (some_at xs i)
 

@@ -28,6 +28,7 @@ pub record IsInput (c : Circuit) (width : ℕ) (i : PortInput) : Type 0 where
   pub word_there : IsThere c i.word
   pub word_wide : (signal c i.word).width ≡ width
 
+-- the inputs of memory m, where it has some
 abbrev pub input_at : List (Option PortInput) → ℕ → Option PortInput
 input_at xs m = some_at xs m
 

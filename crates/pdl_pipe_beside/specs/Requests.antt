@@ -7,7 +7,7 @@ use Rattle.pdl_net.specs.Signal.{Signal, mux_signal}
 use Rattle.pdl_net.specs.Meaning.{signal, IsThere}
 use Rattle.pdl_machine_inflight.specs.Readings.{reading}
 use Rattle.pdl_law_parts.specs.Walk.{Ask, both}
-use Rattle.pdl_law_sides.specs.Whole.{request_of}
+use Rattle.pdl_law_sides.specs.WholeNetlist.{request_of}
 use Rattle.pdl_pipe_walk.specs.declared.nets.AskNet.{AskNet}
 use Rattle.pdl_pipe_walk.specs.Locked.{some_at}
 use Rattle.pdl_pipe_beside.specs.declared.ends.StageEnd.{StageEnd}

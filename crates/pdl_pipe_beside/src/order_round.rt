@@ -2,7 +2,7 @@
 ghost use Rattle.std.specs.Prelude.{◌≡◌, ◌<◌, ◌≤◌, ℕ, IfOk, OnOk, length, slice_index, take, suc};
 ghost use Rattle.pdl_semantics.specs.Stages.{is_inside as inside, verify_stage};
 ghost use Rattle.pdl_semantics.specs.Cycle.{merges_by};
-ghost use Rattle.pdl_form.specs.Whole.{form};
+ghost use Rattle.pdl_form.specs.FormView.{form};
 ghost use Rattle.pdl_form.specs.View.{stages_view};
 ghost use Rattle.pdl_form_types.specs.Stmts.{AreForks};
 ghost use Rattle.pdl_net.specs.Signal.{mux_signal};

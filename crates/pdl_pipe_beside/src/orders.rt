@@ -1,7 +1,7 @@
 // The registers of the orders of forks.
 ghost use Rattle.std.specs.Prelude.{◌≡◌, ◌≤◌, ℕ, true, IfOk, length};
 ghost use Rattle.pdl_semantics.specs.Stages.{is_branch_of, merges_fork};
-ghost use Rattle.pdl_form.specs.Whole.{form};
+ghost use Rattle.pdl_form.specs.FormView.{form};
 ghost use Rattle.pdl_form.specs.View.{branch_view, stages_view};
 ghost use Rattle.pdl_net.specs.Growth.{Extends};
 ghost use Rattle.pdl_order.specs.Laws.{own as order_own};

@@ -1,6 +1,6 @@
 // What the netlist asks of delayed memories: its outputs for them.
 ghost use Rattle.std.specs.Prelude.{◌≡◌, ◌<◌, ◌≤◌, ◌^◌, IfOk, length, map};
-ghost use Rattle.pdl_form.specs.Whole.{form};
+ghost use Rattle.pdl_form.specs.FormView.{form};
 ghost use Rattle.pdl_form.specs.View.{mem_view};
 ghost use Rattle.pdl_form_types.specs.Stmts.{IsTypedMem, AreTypedMems};
 ghost use Rattle.pdl_net.specs.Signal.{const_signal};

@@ -1,6 +1,6 @@
 // What the registers of ports take next.
 ghost use Rattle.std.specs.Prelude.{◌≡◌, ◌<◌, ℕ, Some, true, IfOk, OnOk, is_some, length, slice_index};
-ghost use Rattle.pdl_form.specs.Whole.{form};
+ghost use Rattle.pdl_form.specs.FormView.{form};
 ghost use Rattle.pdl_form.specs.View.{next_view};
 ghost use Rattle.pdl_form_types.specs.Stmts.{AreForks};
 ghost use Rattle.pdl_net.specs.Meaning.{IsThere, Means, signal};

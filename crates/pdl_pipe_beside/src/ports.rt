@@ -1,7 +1,7 @@
 // The registers of the ports of delayed memories.
 ghost use Rattle.std.specs.Prelude.{◌≡◌, ℕ, ◌<◌, ◌≤◌, Some, true, IfOk, is_some, length};
 ghost use Rattle.pdl_semantics.specs.Stages.{mem_at, stage_at};
-ghost use Rattle.pdl_form.specs.Whole.{form};
+ghost use Rattle.pdl_form.specs.FormView.{form};
 ghost use Rattle.pdl_form.specs.View.{mem_view, next_view};
 ghost use Rattle.pdl_net.specs.Growth.{Extends};
 ghost use Rattle.pdl_port.specs.Laws.{own as port_own};

@@ -10,13 +10,13 @@ use Rattle.pdl_source_paths.specs.Source.{is_source, is_named}
 use Rattle.pdl_source_paths.proofs.Memories.{mems_length, stages_length}
 use Rattle.pdl_form.specs.Form.{Form, form_of}
 use Rattle.pdl_form_types.specs.Stmts.{AreTypedStmts, IsTypedForm}
-use Rattle.pdl_form_types.proofs.Whole.{typed_whole}
+use Rattle.pdl_form_types.proofs.FormTyping.{typed_whole}
 use Rattle.pdl_law_parts.specs.Reads.{IsAtOnce}
 use Rattle.pdl_law_parts.proofs.WellFormedStages.{few_stages}
-use Rattle.pdl_law.specs.Standing.{IsLawful}
+use Rattle.pdl_law.specs.StandingStates.{IsLawful}
 use Rattle.pdl_law.proofs.FromRules.{lawful_source}
 use Rattle.pdl_pipe_walk.specs.Sized.{AreWalked}
-use Rattle.pdl_pipe_beside.proofs.Onward.{reads_lead_on}
+use Rattle.pdl_pipe_beside.proofs.ReadStages.{reads_lead_on}
 use Rattle.pdl_pipe_beside.proofs.OrderParts.{forks_fit}
 use Rattle.pdl_pipe_line.proofs.Begins.{leads_up, begins_first}
 use Rattle.pdl_pipe_emitted.specs.Emitted.{CanEmit}
@@ -32,6 +32,7 @@ both_walked : (f : Form) (xs : List Stmt) → AreTypedStmts f xs → Each (λ (x
 both_walked f [] t h = tt
 both_walked f (x ∷ xs) t h = ((t.0, h.0), both_walked f xs t.1 h.1)
 
+-- nets can be emitted of a source that breaks no rule and has no variable with the empty name
 pub can_emit : (p : Pipe) → KeepsRules p → is_source p ≡ true → is_named p ≡ true → CanEmit (form_of p)
 can_emit p rules source named = record {
   typed = typed;

@@ -13,7 +13,7 @@ use Rattle.pdl_pipe_walk.specs.Parts.{walk_in, walk_of}
 use Rattle.pdl_pipe_walk.specs.Locked.{Members, tickets_in}
 use Rattle.pdl_pipe_registers.proofs.Lists.{view_at, some_stage}
 use Rattle.pdl_pipe_nexts.specs.Lines.{line_pipe}
-use Rattle.pdl_pipe_nexts.proofs.LinesKept.{ended_same, tickets_same, moves_same}
+use Rattle.pdl_pipe_nexts.proofs.LineGrowth.{ended_same, tickets_same, moves_same}
 use Rattle.pdl_pipe_locks.specs.declared.deeds.StageDeeds.{StageDeeds}
 use Rattle.pdl_pipe_locks.specs.Deeds as deeds
 use Rattle.pdl_pipe_locks.specs.Deeds.{no_parts, view_with, AreOf, AreGatesOf}

@@ -23,10 +23,7 @@ use Rattle.pdl_pipe_locks.specs.Stepped.{own_of}
 use Rattle.pdl_pipe_locks.proofs.Law.{plain_unwritten}
 use Rattle.pdl_pipe_locks.proofs.Places.{own_place}
 use Rattle.pdl_pipe_emitted.specs.Emitted.{Nets, Emission}
-
-has_below : (c : Circuit) (r : ℕ) → r < length c.regs → HasReg c r
-unfolding HasReg
-has_below c r h = h
+use Rattle.pdl_pipe_nexts.proofs.ConnectedRegisters.{has_low}
 
 module _ {T : Type 0} (l : Members T) (n : Nets T) (em : Emission l n) where
   abbrev p : Pipe
@@ -123,7 +120,7 @@ module _ {T : Type 0} (l : Members T) (n : Nets T) (em : Emission l n) where
   -- a stage's register takes next what it took once it was connected
   pub stage_nexts : (r : ℕ) → em.high ≤ r → r < length em.a.regs → next_signal em.d r ≡ next_signal em.e r
   stage_nexts r from to =
-      let has = has_below em.a r to in
+      let has = has_low em.a r to in
       em.nexts r (keeps_ai.has_reg r has)
       ∙ em.to_locks.nexts r (keeps_ah.has_reg r has) (after_lock r from)
       ∙ em.to_orders.nexts r (keeps_ag.has_reg r has) (after_order r from)

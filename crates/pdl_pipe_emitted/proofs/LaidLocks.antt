@@ -8,14 +8,14 @@ use Rattle.pdl_law_parts.specs.Walk.{Locks, is_locked}
 use Rattle.pdl_law_parts.specs.Views.{View, Gates}
 use Rattle.pdl_law_parts.specs.Ports.{Commit, step_of}
 use Rattle.pdl_law_parts.specs.Compiled.{GoesOn}
-use Rattle.pdl_law_parts.proofs.Next.{lock_there}
-use Rattle.pdl_law_sides.specs.Whole.{StartsLock, IsNet}
+use Rattle.pdl_law_parts.proofs.NextState.{lock_there}
+use Rattle.pdl_law_sides.specs.WholeNetlist.{StartsLock, IsNet}
 use Rattle.pdl_pipe_walk.specs.Locked.{Members, some_at, locks_in, AreLocked}
 use Rattle.pdl_pipe_walk.proofs.MadeLocks.{locks_same}
 use Rattle.pdl_pipe_nexts.specs.Lines.{line_pipe}
 use Rattle.pdl_pipe_locks.specs.Lawful.{AreLawful}
 use Rattle.pdl_pipe_locks.specs.Stepped.{own_of, AreStepped, commits_in}
-use Rattle.pdl_pipe_locks.proofs.LocksKept.{Stays, locked_kept, laws_kept}
+use Rattle.pdl_pipe_locks.proofs.LockGrowth.{Stays, locked_kept, laws_kept}
 use Rattle.pdl_pipe_locks.proofs.Law as law
 use Rattle.pdl_pipe_emitted.specs.Emitted.{Nets, Emission, locks_of, views_of, moves_of, gates_of}
 use Rattle.pdl_pipe_emitted.proofs.LaidGrowth.{keeps_ad, lock_kept}

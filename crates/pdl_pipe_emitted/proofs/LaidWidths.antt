@@ -5,7 +5,7 @@ use Rattle.pdl_law_parts.specs.Declared.{AreBitsWide}
 use Rattle.pdl_pipe_walk.specs.Locked.{Members}
 use Rattle.pdl_pipe_registers.proofs.Lists.{view_at, some_stage}
 use Rattle.pdl_pipe_nexts.specs.Lines.{line_pipe}
-use Rattle.pdl_pipe_nexts.proofs.LinesKept.{bit_one}
+use Rattle.pdl_pipe_nexts.proofs.LineGrowth.{bit_one}
 use Rattle.pdl_pipe_emitted.specs.Emitted.{Nets, Emission, views_of, moves_of, gates_of}
 
 module _ {T : Type 0} (l : Members T) (n : Nets T) (em : Emission l n) where

@@ -1,10 +1,10 @@
-pub mod Laid
+pub mod LaidNetlist
 pub mod LaidDeeds
 pub mod LaidGrowth
 pub mod LaidLocks
 pub mod LaidStages
 pub mod LaidWidths
-pub mod SidesGrown
+pub mod SidesGrowth
 pub mod SidesBegun
 pub mod SidesStages
 pub mod SidesPorts

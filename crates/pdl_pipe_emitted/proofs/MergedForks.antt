@@ -8,7 +8,7 @@ use Rattle.pdl_semantics.specs.Stages.{stage_at}
 use Rattle.pdl_rules.specs.Refusal.{KeepsRules}
 use Rattle.pdl_source_stages.proofs.Shapes.{Shape, Last, Cut, Fork}
 use Rattle.pdl_source_stages.proofs.Spots.{merge_at, Groups, group_merge, group_fork, group_inside, Forked, between_in}
-use Rattle.pdl_source_stages.proofs.Formed.{body_forked, body_shape, body_groups}
+use Rattle.pdl_source_stages.proofs.BodyShape.{body_forked, body_shape, body_groups}
 
 -- where it merges a fork, that is a stage of the pipe
 abbrev IsLow : Pipe → Option ℕ → Type 0
@@ -50,6 +50,7 @@ group_low p k merges (Fork x a b rest) i g h low high =
     at later (inl l) = after l later (cases_lt i (merge_at k a b))
     at later (inr l) = first_low p k i merges (Fork x a b rest) g h (omega (arith, l, low))
 
+-- the fork that a stage merges is a stage of the pipe, where the pipe breaks no rule
 pub merged_low : (p : tree.Pipe) → KeepsRules p → (q i : ℕ) → q < length (flat p).stages → (stage_at (flat p) q).merges ≡ Some i → i < length (flat p).stages
 merged_low p rules q i low e =
     group_low (flat p) 0 None (body_shape p) q (body_groups p (body_forked p rules)) (none_low (flat p) None refl) (omega arith) low i e

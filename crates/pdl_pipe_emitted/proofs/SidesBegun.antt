@@ -16,15 +16,15 @@ use Rattle.pdl_law_parts.specs.Compiled.{Same}
 use Rattle.pdl_law_sides.specs.Sides.{place_answer, memory_answer, some_answer, with_answer}
 use Rattle.pdl_pipe_walk.specs.Locked.{Members, locks_in}
 use Rattle.pdl_pipe_answers.specs.Ports.{answers_in}
-use Rattle.pdl_pipe_answers.proofs.Answered.{answer_same}
+use Rattle.pdl_pipe_answers.proofs.PortAnswers.{answer_same}
 use Rattle.pdl_pipe_registers.specs.declared.nets.StageNets.{StageNets}
 use Rattle.pdl_pipe_registers.specs.Stages.{IsThereBegun}
 use Rattle.pdl_pipe_registers.specs.Staged.{AreStaged, IsStaged, next_signals}
 use Rattle.pdl_pipe_registers.proofs.Lists.{view_at, some_stage}
 use Rattle.pdl_pipe_nexts.specs.Lines.{line_form, line_pipe}
-use Rattle.pdl_pipe_line.proofs.Later.{made_keep}
+use Rattle.pdl_pipe_line.proofs.LineGrowth.{made_keep}
 use Rattle.pdl_pipe_emitted.specs.Emitted.{Nets, Emission, views_of}
-use Rattle.pdl_pipe_emitted.proofs.SidesGrown.{keeps_ac, keeps_ad}
+use Rattle.pdl_pipe_emitted.proofs.SidesGrowth.{keeps_ac, keeps_ad}
 
 -- ---- a variable that the pipe hasn't
 

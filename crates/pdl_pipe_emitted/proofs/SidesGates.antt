@@ -21,7 +21,7 @@ use Rattle.pdl_law_parts.specs.Views.{View, way_on}
 use Rattle.pdl_law_sides.specs.Sides.{Sides, answers_of, all_answered, unsquashed, barrier_open, ports_open, merge_turn, turn}
 use Rattle.pdl_pipe_walk.specs.Locked.{Members, some_at, locks_in}
 use Rattle.pdl_pipe_answers.specs.Ports.{answers_in, HasAnswers}
-use Rattle.pdl_pipe_answers.proofs.Answered.{answers_keep}
+use Rattle.pdl_pipe_answers.proofs.PortAnswers.{answers_keep}
 use Rattle.pdl_pipe_answers.proofs.Bits.{memory_answered_same}
 use Rattle.pdl_pipe_beside.proofs.OrderParts.{is_merged_by}
 use Rattle.pdl_pipe_registers.proofs.Lists.{view_at}
@@ -29,9 +29,9 @@ use Rattle.pdl_pipe_nexts.specs.Lines.{line_pipe}
 use Rattle.pdl_pipe_moves.specs.Gates.{opens_by, merge_by, turn_in, HasTurns, IsOrderThere}
 use Rattle.pdl_pipe_moves.specs.Signs.{signs_in, gate_by}
 use Rattle.pdl_pipe_moves.specs.Passed.{frees_at}
-use Rattle.pdl_pipe_moves.proofs.Turning.{turn_same}
+use Rattle.pdl_pipe_moves.proofs.TurnGrowth.{turn_same}
 use Rattle.pdl_pipe_emitted.specs.Emitted.{Nets, Emission, views_of, gates_of, sides_of, free_of}
-use Rattle.pdl_pipe_emitted.proofs.SidesGrown.{keeps_ab, keeps_ad, keeps_bd, keeps_cd}
+use Rattle.pdl_pipe_emitted.proofs.SidesGrowth.{keeps_ab, keeps_ad, keeps_bd, keeps_cd}
 use Rattle.pdl_pipe_emitted.proofs.SidesBegun.{made_now}
 use Rattle.pdl_pipe_emitted.proofs.SidesStages.{some_of}
 use Rattle.pdl_pipe_emitted.proofs.SidesAsks.{AsksOf, asks_of, opens_as}

@@ -23,11 +23,11 @@ use Rattle.pdl_pipe_walk.proofs.Conditions.{below_two}
 use Rattle.pdl_pipe_answers.specs.Ports.{IsBit, IsOnAs}
 use Rattle.pdl_pipe_registers.proofs.Lists.{each_at}
 use Rattle.pdl_pipe_nexts.specs.Lines.{line_pipe, line_views, line_moves}
-use Rattle.pdl_pipe_nexts.proofs.LinesKept.{line_keep, moves_same}
+use Rattle.pdl_pipe_nexts.proofs.LineGrowth.{line_keep, moves_same}
 use Rattle.pdl_pipe_moves.specs.Signs.{signs_in, gate_by}
 use Rattle.pdl_pipe_moves.specs.Passed.{frees_at}
 use Rattle.pdl_pipe_emitted.specs.Emitted.{Nets, Emission, views_of, moves_of, gates_of}
-use Rattle.pdl_pipe_emitted.proofs.SidesGrown.{keeps_cd}
+use Rattle.pdl_pipe_emitted.proofs.SidesGrowth.{keeps_cd}
 use Rattle.pdl_pipe_emitted.proofs.SidesStages.{some_of, at_signal}
 use Rattle.pdl_pipe_emitted.proofs.SidesPorts.{moves_first}
 use Rattle.pdl_pipe_emitted.proofs.SidesRemoved.{views_first}

@@ -28,11 +28,11 @@ use Rattle.pdl_pipe_beside.proofs.PortSteps as port_steps
 use Rattle.pdl_pipe_beside.proofs.OrderSteps as order_steps
 use Rattle.pdl_pipe_beside.proofs.Beside.{port_stays_stepped, order_stays_stepped, has_ports, has_orders}
 use Rattle.pdl_pipe_nexts.specs.Lines.{line_pipe}
-use Rattle.pdl_pipe_nexts.proofs.LinesKept.{bits_there}
-use Rattle.pdl_pipe_moves.proofs.PassedKept.{free_as}
+use Rattle.pdl_pipe_nexts.proofs.LineGrowth.{bits_there}
+use Rattle.pdl_pipe_moves.proofs.PassageGrowth.{free_as}
 use Rattle.pdl_pipe_tails.specs.Tails.{tails_in}
 use Rattle.pdl_pipe_emitted.specs.Emitted.{Nets, Emission, inputs_of, views_of, moves_of, gates_of, sides_of, free_of, clear_of}
-use Rattle.pdl_pipe_emitted.proofs.SidesGrown.{keeps_ab, keeps_ad, keeps_af, keeps_ag, keeps_bc, keeps_bd, keeps_cf, keeps_cg, keeps_fd, keeps_gd, port_kept, order_kept}
+use Rattle.pdl_pipe_emitted.proofs.SidesGrowth.{keeps_ab, keeps_ad, keeps_af, keeps_ag, keeps_bc, keeps_bd, keeps_cf, keeps_cg, keeps_fd, keeps_gd, port_kept, order_kept}
 use Rattle.pdl_pipe_emitted.proofs.SidesStages.{are_stages}
 
 module _ {T : Type 0} (l : Members T) (n : Nets T) (em : Emission l n) where

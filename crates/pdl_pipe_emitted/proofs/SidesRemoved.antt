@@ -16,7 +16,7 @@ use Rattle.pdl_pipe_exprs.proofs.NetLists.{signals_keep}
 use Rattle.pdl_squash.specs.Laws.{SquashLaw}
 use Rattle.pdl_law_parts.specs.Walk.{Locks, is_locked, zero_bit}
 use Rattle.pdl_law_parts.specs.Views.{View, Gates}
-use Rattle.pdl_law_parts.proofs.Next.{lock_there}
+use Rattle.pdl_law_parts.proofs.NextState.{lock_there}
 use Rattle.pdl_law_sides.specs.Sides.{Sides}
 use Rattle.pdl_law_sides.specs.HasSides.{squash_of, HasRemovals, HasTails}
 use Rattle.pdl_pipe_walk.specs.declared.locks.MemLock.{MemLock}
@@ -25,12 +25,12 @@ use Rattle.pdl_pipe_answers.specs.Ports.{answers_in}
 use Rattle.pdl_pipe_registers.specs.Staged.{next_signals}
 use Rattle.pdl_pipe_registers.proofs.TicketsMade.{next_at}
 use Rattle.pdl_pipe_nexts.specs.Lines.{line_form, line_pipe, line_views, line_kills}
-use Rattle.pdl_pipe_nexts.proofs.LinesKept.{bits_there, line_keep, views_same, all_moves_same}
-use Rattle.pdl_pipe_line.proofs.Later.{made_views_same}
+use Rattle.pdl_pipe_nexts.proofs.LineGrowth.{bits_there, line_keep, views_same, all_moves_same}
+use Rattle.pdl_pipe_line.proofs.LineGrowth.{made_views_same}
 use Rattle.pdl_pipe_tails.specs.Tails.{HasCut, AreTails, IsNextOf}
-use Rattle.pdl_pipe_tails.proofs.Tailed.{has_tails}
+use Rattle.pdl_pipe_tails.proofs.LineTails.{has_tails}
 use Rattle.pdl_pipe_emitted.specs.Emitted.{Nets, Emission, locks_of, views_of, moves_of, gates_of, sides_of, clear_of}
-use Rattle.pdl_pipe_emitted.proofs.SidesGrown.{keeps_ab, keeps_ac, keeps_ae, keeps_bc, keeps_ce, keeps_fd, tails_alone}
+use Rattle.pdl_pipe_emitted.proofs.SidesGrowth.{keeps_ab, keeps_ac, keeps_ae, keeps_bc, keeps_ce, keeps_fd, tails_alone}
 use Rattle.pdl_pipe_emitted.proofs.SidesPorts.{moves_first}
 
 module _ {T : Type 0} (l : Members T) (n : Nets T) (em : Emission l n) where

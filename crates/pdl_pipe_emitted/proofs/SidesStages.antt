@@ -15,14 +15,14 @@ use Rattle.pdl_pipe_walk.specs.Parts.{walk_in}
 use Rattle.pdl_pipe_beside.specs.declared.ends.StageEnd.{StageEnd}
 use Rattle.pdl_pipe_beside.specs.Ends.{ends_in, moves_in, kills_in}
 use Rattle.pdl_pipe_beside.specs.Beside.{AreStagesOf}
-use Rattle.pdl_pipe_beside.proofs.EndsKept as ends_kept
+use Rattle.pdl_pipe_beside.proofs.EndGrowth as ends_kept
 use Rattle.pdl_pipe_registers.specs.declared.nets.StageNets.{StageNets}
 use Rattle.pdl_pipe_registers.specs.Stages.{IsAt}
 use Rattle.pdl_pipe_registers.proofs.Lists.{view_at}
 use Rattle.pdl_pipe_nexts.specs.Lines.{line_pipe}
-use Rattle.pdl_pipe_nexts.proofs.LinesKept.{ended_same, moves_same, kills_same}
+use Rattle.pdl_pipe_nexts.proofs.LineGrowth.{ended_same, moves_same, kills_same}
 use Rattle.pdl_pipe_emitted.specs.Emitted.{Nets, Emission, views_of, moves_of, gates_of}
-use Rattle.pdl_pipe_emitted.proofs.SidesGrown.{keeps_bc}
+use Rattle.pdl_pipe_emitted.proofs.SidesGrowth.{keeps_bc}
 
 -- an element stands at each number of a list
 pub some_of : {X : Type 0} (xs : List X) (k : ℕ) → k < length xs → (x : X) × (slice_index_or xs k x ≡ x)

@@ -20,7 +20,7 @@ use Rattle.pdl_machine_inflight.specs.Readings.{Reading, Reads, reading}
 use Rattle.pdl_law_parts.specs.Walk.{Locks, one, zero_bit}
 use Rattle.pdl_law_parts.specs.Views.{View, Gates}
 use Rattle.pdl_law_sides.specs.Sides.{Sides, gate_where}
-use Rattle.pdl_law_sides.specs.Whole.{reply_ports}
+use Rattle.pdl_law_sides.specs.WholeNetlist.{reply_ports}
 use Rattle.pdl_pipe_walk.specs.declared.locks.MemLock.{MemLock}
 use Rattle.pdl_pipe_walk.specs.Locked.{Members, some_at, locks_in, AreLocked}
 use Rattle.pdl_pipe_walk.specs.Sized.{AreWalked}
@@ -50,7 +50,7 @@ use Rattle.pdl_pipe_locks.specs.Deeds.{steps_in}
 use Rattle.pdl_pipe_locks.specs.Lawful.{AreLawful, AreUnwritten}
 use Rattle.pdl_pipe_locks.specs.Stepped.{own_of, AreStepped, ExtendsLocks}
 use Rattle.pdl_pipe_locks.specs.Suited.{shapes_in}
-use Rattle.pdl_pipe_line.specs.Made.{BeginsFirst}
+use Rattle.pdl_pipe_line.specs.MadeLine.{BeginsFirst}
 
 -- ---- what is asked of a form
 

@@ -1,4 +1,4 @@
 pub mod NetLists
-pub mod Guarded
+pub mod ListSteps
 pub mod Operands
 pub mod SignalValues

@@ -29,7 +29,7 @@ value_width fs (Choose c a b) t = value_width fs a t.1
 
 -- ---- operands one after another: what was typed and what is meant stays as the circuit grows
 
-pub typed_kept : (old new : Circuit) (vs : List Net) (e : Expr) → Extends old new → NetsThere old vs → IsTyped (widths_of (signals_in old vs)) e → IsTyped (widths_of (signals_in new vs)) e
+typed_kept : (old new : Circuit) (vs : List Net) (e : Expr) → Extends old new → NetsThere old vs → IsTyped (widths_of (signals_in old vs)) e → IsTyped (widths_of (signals_in new vs)) e
 typed_kept old new vs e x t h = subst (λ (fs : List Signal). IsTyped (widths_of fs) e) (sym (nets_kept old new vs x t)) h
 
 -- the operand that comes next

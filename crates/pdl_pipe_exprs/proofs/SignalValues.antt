@@ -72,11 +72,13 @@ signal_bounded s fs h (Choose c a b) t =
 
 -- VALUES
 
+-- the i-th of the values of signals is the value of the i-th signal
 pub value_at : (s : State) (fs : List Signal) (i : ℕ) → slice_index (values_in s fs) i ≡ (signal_at fs i).value s
 value_at s [] i = refl
 value_at s (f ∷ fs) zero = refl
 value_at s (f ∷ fs) (suc i) = value_at s fs i
 
+-- the signal of a typed expression has its value, where the variables' values are within their widths
 pub signal_value : (s : State) (fs : List Signal) → AreBounded s fs → (e : Expr) → IsTyped (widths_of fs) e → (value_signal fs e).value s ≡ value_of e (values_in s fs)
 unfolding const_value not_value mux_value slice_value cat_value bin_value
 signal_value s fs h (Constant width value) t = refl

@@ -26,5 +26,6 @@ abbrev pub taken_from : List Signal → Signal → List Guard → Signal
 taken_from fs f [] = f
 taken_from fs f (g ∷ gs) = taken_from fs (both f (literal g.first (signal_at fs g.var))) gs
 
+-- whether each of the branches is taken, where the variables have these signals
 abbrev pub taken_signal : List Signal → List Guard → Signal
 taken_signal fs gs = taken_from fs (const_signal 1 1) gs

@@ -21,5 +21,6 @@ signal_at fs x = slice_index_or fs x no_signal
 abbrev pub width_of_signal : Signal → ℕ
 width_of_signal f = f.width
 
+-- the widths of signals
 abbrev pub widths_of : List Signal → List ℕ
 widths_of fs = map width_of_signal fs

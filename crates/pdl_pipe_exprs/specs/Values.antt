@@ -21,6 +21,7 @@ value_signal fs (ZeroExtend wide a) = zext_signal wide (value_signal fs a)
 value_signal fs (SignExtend width wide a) = sext_signal wide (value_signal fs a)
 value_signal fs (Choose c a b) = mux_signal (value_signal fs c) (value_signal fs a) (value_signal fs b)
 
+-- the signals of expressions over the variables' signals
 abbrev pub value_signals : List Signal → List Expr → List Signal
 value_signals fs es = map (value_signal fs) es
 

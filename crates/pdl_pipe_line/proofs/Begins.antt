@@ -9,7 +9,7 @@ use Rattle.pdl_semantics.specs.Stages.{stage_at, last_stage, goes_to}
 use Rattle.pdl_machine_facts.specs.Slots.{LeadsOn, leads_to}
 use Rattle.pdl_machine_inflight.specs.Readings.{Reading, reading}
 use Rattle.pdl_pipe_answers.specs.Readings.{gets_one, gets_some, gets_answer}
-use Rattle.pdl_pipe_line.specs.Made.{BeginsFirst}
+use Rattle.pdl_pipe_line.specs.MadeLine.{BeginsFirst}
 
 -- a stage that may lead to another one does so by some values
 goes_there : (n : Next) (q : ℕ) → leads_to n q ≡ true → (env : List ℕ) × (goes_to n env ≡ Some q)
@@ -25,6 +25,7 @@ goes_there (flat.Forks x first second) q e = at (first == q) refl e
 pub leads_up : (p : Pipe) → LeadsOn p → (j q : ℕ) → j < length p.stages → leads_to (stage_at p j).next q ≡ true → (j < q) × (q < length p.stages)
 leads_up p on j q l e = let there = goes_there (stage_at p j).next q e in on.up j q there.0 l there.1
 
+-- threads begin in the first stage, to which none leads, where stages lead on to later ones
 pub begins_first : (p : Pipe) → LeadsOn p → 0 < length p.stages → length p.start ≤ p.vars → BeginsFirst p
 begins_first p on some params = record { some = some; params = params; first = λ j l. at j l (leads_to (stage_at p j).next 0) refl }
   where

@@ -1,5 +1,5 @@
 pub mod Begins
-pub mod Later
-pub mod Settled
+pub mod LineGrowth
+pub mod SettledItems
 pub mod StageMade
 pub mod StartMade

@@ -13,7 +13,7 @@ use Rattle.pdl_law_parts.specs.Walk.{Locks}
 use Rattle.pdl_law_parts.specs.Views.{View}
 use Rattle.pdl_law_parts.specs.Compiled.{StartsAs, IsStart}
 use Rattle.pdl_law_parts.proofs.Establish.{starts_const}
-use Rattle.pdl_law_parts.proofs.First.{padded_at}
+use Rattle.pdl_law_parts.proofs.FirstState.{padded_at}
 use Rattle.pdl_pipe_registers.specs.declared.nets.Item.{Item}
 use Rattle.pdl_pipe_registers.specs.declared.nets.Item.TheVariants.{Var, Held, Ticket, Guess}
 use Rattle.pdl_pipe_registers.specs.declared.nets.StageNets.{StageNets}
@@ -23,8 +23,8 @@ use Rattle.pdl_pipe_registers.specs.Staged.{IsStaged}
 use Rattle.pdl_pipe_registers.proofs.Lists.{view_at, some_stage}
 use Rattle.pdl_pipe_nexts.specs.declared.line.Line.{Line}
 use Rattle.pdl_pipe_nexts.specs.Lines.{line_form, line_pipe, line_views}
-use Rattle.pdl_pipe_line.specs.Made.{BeginsFirst, IsLineMade}
-use Rattle.pdl_pipe_line.proofs.Later.{made_keep}
+use Rattle.pdl_pipe_line.specs.MadeLine.{BeginsFirst, IsLineMade}
+use Rattle.pdl_pipe_line.proofs.LineGrowth.{made_keep}
 use Rattle.pdl_pipe_line.proofs.StageMade.{starts_at}
 
 starts_zero : (d : Circuit) (p : Pipe) (i : Item) (g : Signal) → IsZero p i g → StartsAs d g (first_value p 0 i)
@@ -59,6 +59,7 @@ module _ (c d : Circuit) (f : Form) (nexts : List Signal) (answers : ℕ → ℕ
           (subst (λ (y : Item). StartsAs d (reg_signal (item_width f nexts y) (reg_of s.regs j)) (first_value f.pipe 0 y)) same
           (starts_at c d keeps (item_width f nexts (item_at s.regs.items j)) (reg_of s.regs j) (first_value f.pipe 0 (item_at s.regs.items j)) (st.registers.kept j l)))
 
+-- a line that was made starts as the law of the netlist asks, where threads begin in the first stage
 pub is_start : (a c d : Circuit) (x : Line) (nexts : List Signal) (answers : ℕ → ℕ → AnswerSignals) (ls : Locks) → BeginsFirst (line_pipe x)
     → IsLineMade a c d x nexts answers ls → IsStart (line_pipe x) d (line_views c x)
 is_start a c d x nexts answers ls begins made =

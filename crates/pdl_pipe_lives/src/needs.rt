@@ -2,7 +2,7 @@
 ghost use Rattle.std.specs.Prelude.{◌≡◌, ◌<◌, ◌≤◌, ◌&&◌, drop, length, nat_le};
 ghost use Rattle.pdl_semantics.specs.Flat.{has_lock as locks};
 ghost use Rattle.pdl_semantics.specs.Stages.{is_verify, list_any, mem_at, reserve_stage, commit_stage};
-ghost use Rattle.pdl_form.specs.Whole.{form};
+ghost use Rattle.pdl_form.specs.FormView.{form};
 ghost use Rattle.pdl_form.specs.View.{act_view, lock_view, next_view, stages_view, stmt_view, stmts_view};
 ghost use Rattle.pdl_law_parts.specs.Lives.{lives_from as is_live, held_from as is_asked, asks_held as asks_location, forks_by as goes_by, verifies_from as is_verified};
 ghost use Rattle.pdl_law_parts.specs.Walk.{is_locked};

@@ -25,9 +25,10 @@ use Rattle.pdl_pipe_locks.specs.Lawful.{AreLawful}
 use Rattle.pdl_pipe_locks.specs.Deeds.{views_in, moves_in, steps_in, AreOf, AreGatesOf}
 use Rattle.pdl_pipe_locks.specs.Stepped.{own_of, IsSteppedMemory, AreStepped, ExtendsLocks, commit_of, commits_in}
 use Rattle.pdl_pipe_locks.proofs.PortStages.{same_reserves, same_puts, same_released}
-use Rattle.pdl_pipe_locks.proofs.LocksKept.{Stays, laws_kept, locked_kept, regs_end}
+use Rattle.pdl_pipe_locks.proofs.LockGrowth.{Stays, laws_kept, locked_kept, regs_end}
 use Rattle.pdl_pipe_locks.proofs.Places.{place_below, own_place, outside_place, image_place}
 use Rattle.pdl_pipe_locks.proofs.LockSteps.{stepped_kept}
+use Rattle.pdl_word.proofs.Lists.{some_of}
 
 -- the stages of a netlist do to a lock what their nets do
 pub step_is : (s : Circuit) (p : Pipe) (ds : List StageDeeds) (squash : Net) (tails : List Net) (vs : ℕ → View) (gates : Gates) (goes : ℕ → Signal) (m : ℕ) → length ds ≡ length p.stages → m < length p.mems → AreOf s ds vs goes → AreGatesOf s p squash tails gates
@@ -45,10 +46,6 @@ step_is s p ds squash tails vs gates goes m count low of beside =
     let g = step_of p vs gates goes m in
     let same : F f.reserves f.writes f.release f.squash f.tail ≡ F g.reserves g.writes g.release g.squash g.tail = cc (reserves, puts, release, sym beside.squash, sym (beside.tail m low)) in
     same
-
-some_of : {X : Type 0} (o : Option X) → is_some o ≡ true → (x : X) × (o ≡ Some x)
-some_of None e = absurd (cc e)
-some_of (Some x) e = (x, refl)
 
 -- the locks' signals as they are in the circuit a, their steps begun in s and made in b, and the whole netlist c
 module _ {T : Type 0} (l : Members T) (stays : Stays l) (p : Pipe) (xs : List (Option (MemLock T))) (ds : List StageDeeds) (squash : Net) (tails : List Net) (ns : List (Option LockNets)) (vs : ℕ → View) (gates : Gates) (goes : ℕ → Signal) (a s b c : Circuit)

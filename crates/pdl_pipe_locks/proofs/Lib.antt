@@ -3,10 +3,10 @@ pub mod PortStages
 pub mod Releases
 pub mod PortsFit
 pub mod DeedsFit
-pub mod LocksKept
+pub mod LockGrowth
 pub mod LockSteps
 pub mod Places
 pub mod NewLock
-pub mod AllMade
+pub mod MadeMemories
 pub mod Law
-pub mod Backwards
+pub mod StageSteps

@@ -20,9 +20,11 @@ use Rattle.pdl_pipe_walk.specs.Locked.{Members, some_at, IsLockIn, AreLocked}
 use Rattle.pdl_pipe_locks.specs.Lawful.{AreLawful}
 use Rattle.pdl_pipe_locks.proofs.Places.{place_below, own_place, outside_place}
 use Rattle.pdl_pipe_locks.specs.Stepped.{own_of, IsStepped, IsSteppedMemory, AreStepped, ExtendsLocks}
+use Rattle.pdl_pipe_walk.proofs.Lists.{some_before, some_last}
 
 -- ---- the step of one lock
 
+-- a lock has made its step, where that keeps its laws and the commit nets have the memory's widths
 pub is_stepped : {T : Type 0} (l : Members T) (a c : Circuit) (place : ℕ) (mem : Mem) (f : StepSignals) (x : MemLock T) (n : LockNets) → IsLockIn l a place mem x → HasCommitNets c x.regs.bits x.regs.width n.commit n.addr n.value
     → StepLaw (l.stands x.lock x.regs) (l.size x.lock) (l.tickets x.lock) (own x.regs) c f (signal c n.commit) (signal c n.addr) (signal c n.value) → HidesLaw (l.kind x.lock) c (own x.regs) f → IsStepped l c mem f x n
 is_stepped l a c place mem f x n i h law hides = record {
@@ -36,6 +38,7 @@ is_stepped l a c place mem f x n i h law hides = record {
   value_wide = h.value_width ∙ i.wide;
 }
 
+-- the step of a memory that has a lock is that of the lock
 pub stepped_some : {T : Type 0} (l : Members T) (c : Circuit) (mem : Mem) (f : StepSignals) (o : Option (MemLock T)) (x : MemLock T) (n : LockNets) → o ≡ Some x → IsStepped l c mem f x n → IsSteppedMemory l c mem f o (Some n)
 stepped_some {T} l c mem f o x n e h = record {
   has = sym (ap is_some e);
@@ -47,6 +50,7 @@ stepped_some {T} l c mem f o x n e h = record {
       subst P a (subst Q b h);
 }
 
+-- a memory without lock needs no step, and has no commit nets
 pub stepped_not : {T : Type 0} (l : Members T) (c : Circuit) (mem : Mem) (f : StepSignals) (o : Option (MemLock T)) → o ≡ None → IsSteppedMemory l c mem f o None
 stepped_not l c mem f o e = record { has = sym (ap is_some e); lock = λ y z g q. absurd (cc (e, g)) }
 
@@ -66,6 +70,7 @@ law_kept stands size tickets o a b f commit addr value commit' addr' value' k e 
     let R : Signal → Type 0 = λ q. StepLaw stands size tickets o b f commit' addr' q in
     subst R (sym h) (subst Q (sym g) (subst P (sym e) here))
 
+-- the step of a lock stays where its registers and its array take next what they took
 pub stepped_kept : {T : Type 0} (l : Members T) (a b : Circuit) (mem : Mem) (f : StepSignals) (y : MemLock T) (n : LockNets) → Keeps a b → OwnKept (own y.regs) a b → IsStepped l a mem f y n → IsStepped l b mem f y n
 stepped_kept l a b mem f y n k w x =
     let e = k.kept n.commit x.commit_there in
@@ -84,9 +89,11 @@ stepped_kept l a b mem f y n k w x =
 
 -- ---- all locks
 
+-- of no locks nothing has changed
 pub locks_none : {T : Type 0} (xs : List (Option (MemLock T))) (c : Circuit) → ExtendsLocks xs 0 c c
 locks_none xs c = record { keeps = keeps_refl c; nexts = λ k h o. refl; writes = λ n h o. refl; ports = refl; shapes = refl }
 
+-- of one lock more the registers and the array may have changed what they take next
 pub locks_more : {T : Type 0} (xs : List (Option (MemLock T))) (m : ℕ) (a b c : Circuit) → ExtendsLocks xs m a b → ExtendsBut (own_of (some_at xs m)) b c → ExtendsLocks xs (m + 1) a c
 locks_more xs m a b c x y = record {
   keeps = keeps_trans a b c x.keeps (but_keeps (own_of (some_at xs m)) b c y);
@@ -105,13 +112,6 @@ locks_wider xs m n a b h x = record {
   ports = x.ports;
   shapes = x.shapes;
 }
-
--- an element of a list with one more
-pub some_before : {X : Type 0} (xs : List (Option X)) (x : Option X) (m : ℕ) → m < length xs → some_at (xs ++ x ∷ []) m ≡ some_at xs m
-some_before xs x m h = get_or_append_left xs (x ∷ []) None m h
-
-pub some_last : {X : Type 0} (xs : List (Option X)) (x : Option X) (i : ℕ) → length xs ≡ i → some_at (xs ++ x ∷ []) i ≡ x
-some_last xs x i h = get_or_push xs x None i h
 
 module _ {T : Type 0} (l : Members T) (a : Circuit) (p : Pipe) (xs : List (Option (MemLock T))) (locked : AreLocked l a p xs) (lawful : AreLawful l a p xs) where
   -- the registers of an earlier lock are not those of a later one, nor is its array

@@ -15,7 +15,7 @@ use Rattle.pdl_lockapi.proofs.LockKinds.{words_are}
 use Rattle.pdl_pipe_walk.specs.declared.locks.MemLock.{MemLock}
 use Rattle.pdl_pipe_walk.specs.Locked.{Members, array_of}
 use Rattle.pdl_pipe_locks.specs.Suited.{info_of, shape_in, arrays_in}
-use Rattle.pdl_pipe_locks.specs.Made.{IsNewLock}
+use Rattle.pdl_pipe_locks.specs.NewMemories.{IsNewLock}
 use Rattle.pdl_pipe_locks.proofs.Places.{some_place}
 
 -- ---- arrays by their shapes
@@ -24,23 +24,25 @@ pub array_count : (c : Circuit) → length c.arrays ≡ length (shapes_of c)
 unfolding shapes_of
 array_count c = sym (length-map c.arrays shape_of)
 
+-- a circuit with arrays of these shapes added has as many arrays more
 pub array_more : (a b : Circuit) (xs : List Shape) → ExtendsArrays a b xs → length b.arrays ≡ length a.arrays + length xs
 array_more a b xs e = omega (arith, array_count a, array_count b, ap length e.shapes, length-append (shapes_of a) xs)
 
-pub there_by_shape : (c : Circuit) (m : ℕ) → m < length (shapes_of c) → HasArray c m
+there_by_shape : (c : Circuit) (m : ℕ) → m < length (shapes_of c) → HasArray c m
 unfolding HasArray
 there_by_shape c m h = omega (arith, array_count c)
 
-pub width_by_shape : (c : Circuit) (m : ℕ) (d : Shape) → m < length (shapes_of c) → array_width c m ≡ (get_or (shapes_of c) m d).width
+width_by_shape : (c : Circuit) (m : ℕ) (d : Shape) → m < length (shapes_of c) → array_width c m ≡ (get_or (shapes_of c) m d).width
 unfolding array_width shapes_of
 width_by_shape c m d h = sym (ap (λ (s : Shape). s.width) (get_or-map shape_of c.arrays m no_array d (omega (arith, length-map c.arrays shape_of))))
 
-pub depth_by_shape : (c : Circuit) (m : ℕ) (d : Shape) → m < length (shapes_of c) → array_depth c m ≡ (get_or (shapes_of c) m d).depth
+depth_by_shape : (c : Circuit) (m : ℕ) (d : Shape) → m < length (shapes_of c) → array_depth c m ≡ (get_or (shapes_of c) m d).depth
 unfolding array_depth shapes_of
 depth_by_shape c m d h = sym (ap (λ (s : Shape). s.depth) (get_or-map shape_of c.arrays m no_array d (omega (arith, length-map c.arrays shape_of))))
 
 -- ---- the words of an array
 
+-- the arrays that a memory's lock takes are those of the memory
 pub arrays_are : (k : LockKind) (n : ℕ) (name : List ℕ) (m : Mem) → m.lock ≡ as_lock k n → arrays_of k (info_of name m) ≡ arrays_in name m
 arrays_are k n name m h = ap (λ d. if m.delayed then [] else record { name = name; width = m.width; depth = d } ∷ []) (sym (words_are k n m.depth) ∙ ap (λ x. words_in x m.depth) (sym h))
 
@@ -48,7 +50,7 @@ arrays_are k n name m h = ap (λ d. if m.delayed then [] else record { name = na
 pub one_array : (name : List ℕ) (m : Mem) → m.delayed ≡ false → arrays_in name m ≡ shape_in name m ∷ []
 one_array name m e = ap (λ (b : Bool). if b then [] else shape_in name m ∷ []) e
 
-pub no_array_of : (name : List ℕ) (m : Mem) → m.delayed ≡ true → arrays_in name m ≡ []
+no_array_of : (name : List ℕ) (m : Mem) → m.delayed ≡ true → arrays_in name m ≡ []
 no_array_of name m e = ap (λ (b : Bool). if b then [] else shape_in name m ∷ []) e
 
 -- an array that is new, of this shape
@@ -87,6 +89,7 @@ new_array old new name mem r e grows f = at r.array refl mem.delayed refl
         let same : m ≡ length old.arrays = omega (arith, n, one, lo, hi) in
         h ∙ ap Some same ∙ sym (ap (λ (b : Bool). if b then None else Some (length old.arrays)) d)
 
+-- what a lock's module has made with the next array is a new lock of the memory
 pub new_lock : {T : Type 0} (l : Members T) (old new : Circuit) (name : List ℕ) (mem : Mem) (x : MemLock T) → mem.lock ≡ as_lock (l.kind x.lock) (l.size x.lock) → ExtendsArrays old new (arrays_in name mem)
     → x.regs.width ≡ mem.width → 2 ^ x.regs.bits ≡ mem.depth → is_some x.regs.array ≡ not mem.delayed → l.placed x.lock new x.regs → IsFragment old new x.regs → HasRegNets (l.tickets x.lock) new x.regs
     → StartLaw (l.stands x.lock x.regs) (l.kind x.lock) new x.regs → PlacesLaw (l.stands x.lock x.regs) (l.kind x.lock) x.regs → RoomLaw (l.stands x.lock x.regs) (l.size x.lock) (signal new x.regs.room) → TicketLaw (l.stands x.lock x.regs) (l.tickets x.lock) (signal new x.regs.ticket)

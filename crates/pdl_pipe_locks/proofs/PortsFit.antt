@@ -20,6 +20,7 @@ of_map : {X Y : Type 0} (f : X → Y) (P : Y → Type 0) (xs : List X) → Each 
 of_map f P [] h = tt
 of_map f P (x ∷ xs) h = (h.0, of_map f P xs h.1)
 
+-- the ports of a step are there, where they mean these signals
 pub ports_there : (c : Circuit) (p : LockPorts) (f : StepSignals) → ArePorts c p f → PortsThere c p
 ports_there c p f h = record {
   ask = λ k q l e. (each_at (IsThereReserve c) p.reserves k q l (sym e) h.reserves.there).enable;
@@ -33,6 +34,7 @@ ports_there c p f h = record {
   tail = h.tail.there;
 }
 
+-- the ports of a step mean just these signals
 pub ports_mean : (c : Circuit) (p : LockPorts) (f : StepSignals) → ArePorts c p f → step_signals c p ≡ f
 unfolding step_signals
 ports_mean c p f h =
@@ -41,12 +43,15 @@ ports_mean c p f h =
     cc (h.reserves.same, h.writes.same, h.release.same, h.release2.same, h.squash.same, h.tail.same) in
     same
 
+-- a reservation is told by 1 bit, and its address has so many bits
 abbrev pub ReserveFits : ℕ → ReserveSignal → Type 0
 ReserveFits bits r = (r.enable.width ≡ 1) × (r.addr.width ≡ bits)
 
+-- a write is told by 1 bit, and its ticket and its value have so many bits
 abbrev pub WriteFits : ℕ → ℕ → TicketSignal → Type 0
 WriteFits width tickets x = (x.enable.width ≡ 1) × (x.ticket.width ≡ tickets) × (x.value.width ≡ width)
 
+-- the ports of a step have the widths that the lock takes, where their signals do
 pub ports_fit : (c : Circuit) (bits width tickets : ℕ) (p : LockPorts) (f : StepSignals) → ArePorts c p f → SignalsFit bits width tickets f → PortsFit c bits width tickets p
 ports_fit c bits width tickets p f h w = record {
   ask_one = λ k q l e. ap (λ (u : Kind). (enabled_reserve u (signal c q.enable)).width) (sym (kind k q l e)) ∙ (reserve k q l e).0;

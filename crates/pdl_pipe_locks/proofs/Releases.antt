@@ -18,7 +18,7 @@ use Rattle.pdl_pipe_locks.specs.Ports.{IsGivenLetting, IsGiven}
 use Rattle.pdl_pipe_locks.proofs.PortLists.{lettings_same}
 use Rattle.pdl_pipe_locks.proofs.PortStages.{each_at, view_is, moves_is}
 use Rattle.pdl_word.specs.Each.{Each}
-use Rattle.pdl_pipe_locks.proofs.Backwards.{one_further}
+use Rattle.pdl_pipe_locks.proofs.StageSteps.{one_further}
 
 lets_split : (m : ℕ) (f : Signal) (x : Letting) (xs : List Letting) (rest : Signal) → release_moves m f (x ∷ xs) rest ≡ release_moves m f (x ∷ []) (release_moves m f xs rest)
 lets_split m f x xs rest = at (x.mem == m)
@@ -34,6 +34,7 @@ lets_one m f (x ∷ xs) rest w = at (x.mem == m) (lets_one m f xs rest w)
     at true h = refl
     at false h = h
 
+-- whether a memory is released is told by 1 bit
 pub released_one : (m : ℕ) (vs : ℕ → View) (moves : ℕ → Signal) (n k : ℕ) → (release_signal m vs moves n k).width ≡ 1
 released_one m vs moves zero k = refl
 released_one m vs moves (suc n) k = lets_one m (moves k) (vs k).ended.lettings (release_signal m vs moves n (suc k)) (released_one m vs moves n (suc k))
@@ -75,6 +76,7 @@ released_next : (m : ℕ) (vs : ℕ → View) (moves : ℕ → Signal) (n i k : 
     → release_signal m vs moves (i + 1) (n - (i + 1)) ≡ release_moves m (moves k) (vs k).ended.lettings (release_signal m vs moves i (n - i))
 released_next m vs moves n i k l e = let f = one_further (release_signal m vs moves) n i k l e in f.0 ∙ ap (release_moves m (moves k) (vs k).ended.lettings) f.1
 
+-- whether one of the last i + 1 stages releases a memory, where it is known of the last i
 pub released_more : (a b c : Circuit) (m : ℕ) (ds : List StageDeeds) (i : ℕ) (d : StageDeeds) (net y : Net) → Keeps a b → i < length ds → d ≡ get_or ds (length ds - 1 - i) d → Each (IsGiven a m) ds
     → Means b net (release_signal m (views_in a ds) (moves_in a ds) i (length ds - i)) → Means c y (release_moves m (signal b d.moves) (map (letting_in b) d.ended.now.lettings) (signal b net))
     → Means c y (release_signal m (views_in a ds) (moves_in a ds) (i + 1) (length ds - (i + 1)))

@@ -25,6 +25,7 @@ no_parts = record { vars = []; held = []; ready = one; reserves = []; puts = [];
 abbrev pub view_with : (ℕ → Signal) → Walk → View
 view_with tickets w = record { valid = zero_bit; kept = λ x. no_signal; tickets = tickets; begun = w; ended = w }
 
+-- a stage by its nets in a circuit, of which only its tickets and what it does are known
 abbrev pub view_in : Circuit → StageDeeds → View
 view_in c d = view_with (tickets_in c d.tickets.now) (walk_in c d.ended.now)
 

@@ -22,6 +22,7 @@ pub record IsLawful (stands : State → LockState → Type 0) (kind : LockKind) 
   pub room : RoomLaw stands size (signal c r.room)
   pub ticket : TicketLaw stands tickets (signal c r.ticket)
 
+-- the registers of this lock are there, and its laws hold
 abbrev pub IsLawfulLock : {T : Type 0} → Members T → Circuit → MemLock T → Type 0
 IsLawfulLock l c x = IsLawful (l.stands x.lock x.regs) (l.kind x.lock) (l.size x.lock) (l.tickets x.lock) c x.regs
 

@@ -1,6 +1,6 @@
 pub mod Suited
 pub mod Lawful
-pub mod Made
+pub mod NewMemories
 pub mod Deeds
 pub mod Ports
 pub mod Round

@@ -70,6 +70,7 @@ pub record AreWrites (c : Circuit) (ps : List TicketWrite) (fs : List TicketSign
 abbrev pub AddsReserves : Circuit → Circuit → List ReservePort → List ReservePort → List ReserveSignal → Type 0
 AddsReserves a b ps qs fs = AreReserves b qs (map (reserve_signal a) ps ++ fs)
 
+-- after what earlier ports of writes mean stands this
 abbrev pub AddsWrites : Circuit → Circuit → List TicketWrite → List TicketWrite → List TicketSignal → Type 0
 AddsWrites a b ps qs fs = AreWrites b qs (map (ticket_signal a) ps ++ fs)
 

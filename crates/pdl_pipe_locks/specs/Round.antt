@@ -1,6 +1,6 @@
 -- What the steps of the locks go round.
 use Rattle.std.specs.Prelude.{ℕ}
-use Rattle.pdl_form.specs.Whole.{form}
+use Rattle.pdl_form.specs.FormView.{form}
 use Rattle.pdl_net.specs.Circuit.{Circuit}
 use Rattle.pdl_lockapi.specs.Laws.{StepSignals}
 use Rattle.pdl_net.specs.Meaning.{signal}

@@ -50,9 +50,11 @@ pub record ExtendsLocks {T : Type 0} (xs : List (Option (MemLock T))) (i : ℕ) 
 
 -- ---- what the memories commit
 
+-- what a memory commits by its nets; nothing where it has no lock
 abbrev pub commit_of : Circuit → Option LockNets → Commit
 commit_of c None = record { enable = zero_bit; addr = zero_bit; value = zero_bit }
 commit_of c (Some n) = record { enable = signal c n.commit; addr = signal c n.addr; value = signal c n.value }
 
+-- what memory m commits
 abbrev pub commits_in : Circuit → List (Option LockNets) → ℕ → Commit
 commits_in c ns m = commit_of c (some_at ns m)

@@ -17,6 +17,7 @@ info_of name m = record { name = name; width = m.width; depth = m.depth; delayed
 abbrev pub info_at : Form → ℕ → MemInfo
 info_at f m = info_of (slice_index_or f.names m []) (mem_at f.pipe m)
 
+-- the shape of the array of a memory of this name, with as many words as its lock needs
 abbrev pub shape_in : List ℕ → Mem → Shape
 shape_in name m = record { name = name; width = m.width; depth = words_in m.lock m.depth }
 

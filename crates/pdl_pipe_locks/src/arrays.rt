@@ -1,6 +1,6 @@
 // The arrays of the memories, and the registers of their locks.
 ghost use Rattle.std.specs.Prelude.{◌≡◌, ℕ, ◌<◌, ◌∷◌, [], Some, None, false, IfOk, OnOk, map, length, slice_index_or};
-ghost use Rattle.pdl_form.specs.Whole.{form};
+ghost use Rattle.pdl_form.specs.FormView.{form};
 ghost use Rattle.pdl_form.specs.View.{mem_view};
 ghost use Rattle.pdl_form_types.specs.Stmts.{IsTypedMem, AreTypedMems};
 ghost use Rattle.pdl_net.specs.Circuit.{shapes_of};
@@ -10,7 +10,7 @@ ghost use Rattle.pdl_lockapi.specs.Forget.{as_lock};
 ghost use Rattle.pdl_pipe_walk.specs.Locked.{members, some_at, AreLocked};
 ghost use Rattle.pdl_pipe_locks.specs.Suited.{info_of, arrays_in, shapes_in, AreSuited};
 ghost use Rattle.pdl_pipe_locks.specs.Lawful.{AreLawful, AreAbove, AreUnwritten};
-ghost use Rattle.pdl_pipe_locks.specs.Made.{IsServed, AreServed, IsNewLock, IsNewMemory};
+ghost use Rattle.pdl_pipe_locks.specs.NewMemories.{IsServed, AreServed, IsNewLock, IsNewMemory};
 
 use pdl_build::Builder;
 use pdl_form::{FlatPipe, Mem};

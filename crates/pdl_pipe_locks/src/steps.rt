@@ -1,7 +1,7 @@
 // What the locks of the memories take next.
 ghost use Rattle.std.specs.Prelude.{◌≡◌, ℕ, ◌<◌, [], Some, false, IfOk, OnOk, length};
 ghost use Rattle.pdl_semantics.specs.Stages.{mem_at};
-ghost use Rattle.pdl_form.specs.Whole.{form};
+ghost use Rattle.pdl_form.specs.FormView.{form};
 ghost use Rattle.pdl_net.specs.Circuit.{HasArray};
 ghost use Rattle.pdl_net.specs.Meaning.{IsThere, signal, write_signals};
 ghost use Rattle.pdl_net.specs.Growth.{ExtendsBut};

@@ -1,7 +1,7 @@
-pub mod Leading
-pub mod Turning
-pub mod Gating
-pub mod Signing
-pub mod PassedKept
-pub mod Freeing
-pub mod MovedWhole
+pub mod StageWays
+pub mod TurnGrowth
+pub mod GateParts
+pub mod GateGrowth
+pub mod PassageGrowth
+pub mod FreePorts
+pub mod AllMoves

@@ -33,6 +33,7 @@ abbrev pub merge_by : Circuit → List (Option OrderRegs) → Option ℕ → Opt
 merge_by c rs None from = one
 merge_by c rs (Some f) from = turn_by (order_first c (some_at rs f)) (order_empty c (some_at rs f)) from
 
+-- whether it is the turn of the thread of stage k to go into stage q
 abbrev pub turn_in : Circuit → Pipe → List (Option OrderRegs) → ℕ → ℕ → Signal
 turn_in c p rs k q = merge_by c rs (stage_at p q).merges (stage_at p k).branch
 
@@ -41,5 +42,6 @@ abbrev pub IsOrderThere : Circuit → Option OrderRegs → Type 0
 IsOrderThere c None = ⊥
 IsOrderThere c (Some r) = HasOrderNets c r
 
+-- each fork that a stage of the pipe merges has its order
 abbrev pub HasTurns : Circuit → Pipe → List (Option OrderRegs) → Type 0
 HasTurns c p rs = (q f : ℕ) → q < length p.stages → (stage_at p q).merges ≡ Some f → (f < length rs) × IsOrderThere c (some_at rs f)

@@ -65,6 +65,7 @@ pub record IsPassed (c : Circuit) (x : Line) (g : Signs) (nets opens : List Net)
   pub moves : IsMovedBy c x g (signal_at (signals_in c opens)) (signal_at (signals_in c nets)) k (signal_at (signals_in c nets) k)
   pub free : (m : ℕ) → m < length (line_pipe x).mems → IsFreeBy c x (signal_at (signals_in c nets)) k m (signal_at (signals_in c opens) m)
 
+-- the nets that tell which ports are free for stage k
 abbrev pub frees_at : List (Seq Net) → ℕ → List Net
 frees_at xs k = slice_index_or xs k []
 

@@ -45,6 +45,7 @@ signs_in c x orders squash clear = record {
   clear = λ k. signal_at (signals_in c clear) k;
 }
 
+-- what the gates of a line go by, by the nets of these controls
 abbrev pub signs_by : Circuit → Line → Controls → Signs
 signs_by c x y = signs_in c x y.orders.now y.squash y.clear.now
 

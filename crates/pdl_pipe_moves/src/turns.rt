@@ -1,6 +1,6 @@
 // Whose turn it is where branches meet.
 ghost use Rattle.std.specs.Prelude.{◌≡◌, ◌<◌, true, IfOk, Some, is_some, length, if◌then◌else◌};
-ghost use Rattle.pdl_form.specs.Whole.{form};
+ghost use Rattle.pdl_form.specs.FormView.{form};
 ghost use Rattle.pdl_semantics.specs.Stages.{stage_at};
 ghost use Rattle.pdl_form.specs.View.{branch_view, stage_view};
 ghost use Rattle.pdl_net.specs.Signal.{mux_signal};

@@ -1,6 +1,6 @@
-pub mod LinesKept
-pub mod Arriving
+pub mod LineGrowth
+pub mod ArrivalNets
 pub mod BirthsMade
-pub mod Bringing
+pub mod BroughtItems
 pub mod NextsMade
-pub mod Setting
+pub mod ConnectedRegisters

@@ -21,7 +21,7 @@ use Rattle.pdl_pipe_registers.proofs.Lists.{up_to}
 use Rattle.pdl_pipe_registers.proofs.Begins.{nets_long, signal_old, signal_new}
 use Rattle.pdl_pipe_nexts.specs.declared.line.Line.{Line}
 use Rattle.pdl_pipe_nexts.specs.Lines.{IsStageNow, IsLineIn, ValueAs, line_form}
-use Rattle.pdl_pipe_nexts.proofs.LinesKept.{arriving_same, staying_same}
+use Rattle.pdl_pipe_nexts.proofs.LineGrowth.{arriving_same, staying_same}
 use Rattle.pdl_pipe_nexts.specs.Brings.{IsArgument, IsBrought}
 use Rattle.pdl_pipe_nexts.specs.Nexts.{arriving, kept_signal, staying, IsKeptNow, IsKeptItem, AreNexts}
 
@@ -75,6 +75,7 @@ module _ (c : Circuit) (f : Form) (nexts : List Signal) (k : ℕ) (s : StageNets
       at (Ticket m) e = e
       at (Guess j) e = e
 
+-- what an item of a stage holds where no thread comes is the same in a circuit that keeps its nets
 pub kept_signal_keep : (a b : Circuit) (f : Form) (nexts : List Signal) (k : ℕ) (s : StageNets) (i : ℕ) (j : Item) → Keeps a b → i < length s.regs.items → IsStageNow a f nexts k s → kept_signal b s i j ≡ kept_signal a s i j
 kept_signal_keep a b f nexts k s i (Var x) e l h = ap (λ fs. signal_at fs x) (signals_keep a b s.begun e h.nets.begun)
 kept_signal_keep a b f nexts k s i (Held m n) e l h = e.kept (RegNet (reg_of s.regs i)) (h.registers.kept i l).there

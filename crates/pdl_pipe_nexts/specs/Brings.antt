@@ -22,6 +22,7 @@ abbrev pub brought_signal : Option Item → Comer → Signal
 brought_signal None o = one
 brought_signal (Some i) o = comer_item i o
 
+-- what a thread out of a stage with this view brings
 abbrev pub brought_out : Option Item → View → Signal
 brought_out None v = one
 brought_out (Some i) v = ended_item v i
@@ -32,6 +33,7 @@ argument_signal (Held m a) args = no_signal
 argument_signal (Ticket m) args = no_signal
 argument_signal (Guess i) args = no_signal
 
+-- what a new thread brings, whose call has these arguments
 abbrev pub brought_new : Option Item → List Signal → Signal
 brought_new None args = one
 brought_new (Some i) args = argument_signal i args
@@ -52,6 +54,7 @@ IsArgumentItem p (Held m a) = ⊥
 IsArgumentItem p (Ticket m) = ⊥
 IsArgumentItem p (Guess i) = ⊥
 
+-- what a new thread can bring: that it is there, or one of its arguments
 abbrev pub IsArgument : Pipe → Option Item → Type 0
 IsArgument p None = ⊤
 IsArgument p (Some i) = IsArgumentItem p i

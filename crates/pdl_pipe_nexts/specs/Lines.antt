@@ -3,7 +3,7 @@ use Rattle.std.specs.Prelude.{◌≡◌, ℕ, ◌<◌, ◌≤◌, Bool, List, le
 use Rattle.pdl_word.specs.Each.{Each}
 use Rattle.pdl_semantics.specs.Flat.{Pipe}
 use Rattle.pdl_form.specs.Form.{Form}
-use Rattle.pdl_form.specs.Whole.{form}
+use Rattle.pdl_form.specs.FormView.{form}
 use Rattle.pdl_form_types.specs.Stmts.{AreForks}
 use Rattle.pdl_net.specs.declared.Net.{Net}
 use Rattle.pdl_net.specs.Circuit.{Circuit, State}
@@ -34,15 +34,19 @@ IsBit c x = IsThere c x × ((signal c x).width ≡ 1)
 abbrev pub line_form : Line → Form
 line_form x = form x.pipe.now
 
+-- the flat pipe of a line
 abbrev pub line_pipe : Line → Pipe
 line_pipe x = (line_form x).pipe
 
+-- the views of a line's stages
 abbrev pub line_views : Circuit → Line → ℕ → View
 line_views c x = views_in c x.stages.now
 
+-- whether the thread of stage k of a line moves
 abbrev pub line_moves : Circuit → Line → ℕ → Signal
 line_moves c x k = signal_at (signals_in c x.moves.now) k
 
+-- whether the thread of stage k of a line is removed
 abbrev pub line_kills : Circuit → Line → ℕ → Signal
 line_kills c x k = signal_at (signals_in c x.kills.now) k
 

@@ -59,6 +59,7 @@ IsKeptNow c s i (Held m a) = IsThere c (RegNet (reg_of s.regs i))
 IsKeptNow c s i (Ticket m) = IsThere c (RegNet (reg_of s.regs i))
 IsKeptNow c s i (Guess k) = IsThere c (RegNet (reg_of s.regs i))
 
+-- the same of the i-th of the items that have registers in a stage
 abbrev pub IsKeptItem : Circuit → StageNets → ℕ → Type 0
 IsKeptItem c s i = IsKeptNow c s i (item_at s.regs.items i)
 
@@ -71,5 +72,6 @@ pub record AllNexts (a c : Circuit) (x : Line) (nexts : List (Seq Net)) : Type 0
 abbrev pub FitsRegs : Circuit → StageNets → List Net → Type 0
 FitsRegs c s nets = (i : ℕ) → i < length nets → (s.regs.valid + i < length c.regs) × ((signal_at (signals_in c nets) i).width ≡ reg_width c (s.regs.valid + i))
 
+-- the registers of a stage take next what these nets mean
 abbrev pub AreSet : Circuit → Circuit → StageNets → List Net → Type 0
 AreSet a c s nets = (i : ℕ) → i < length nets → next_signal c (s.regs.valid + i) ≡ signal_at (signals_in a nets) i

@@ -4,7 +4,7 @@ ghost use Rattle.pdl_net.specs.Meaning.{IsThere, Means, signal};
 ghost use Rattle.pdl_net.specs.Growth.{Extends};
 ghost use Rattle.pdl_pipe_exprs.specs.Nets.{signals_in};
 ghost use Rattle.pdl_pipe_exprs.specs.Conditions.{AreBits};
-ghost use Rattle.pdl_form.specs.Whole.{form};
+ghost use Rattle.pdl_form.specs.FormView.{form};
 ghost use Rattle.pdl_law_parts.specs.Views.{new_by, first_coming};
 ghost use Rattle.pdl_pipe_walk.specs.Parts.{birth_in};
 ghost use Rattle.pdl_pipe_nexts.specs.Lines.{line_form, line_pipe, IsLineIn};

@@ -19,16 +19,17 @@ use Rattle.pdl_net.specs.Meaning.{Means}
 use Rattle.pdl_net.specs.Growth.{Keeps, ExtendsPorts}
 use Rattle.pdl_net.proofs.Keeps.{ports_keeps, means_keeps}
 use Rattle.pdl_build.specs.Change.{input_port}
-use Rattle.pdl_law_sides.specs.Whole.{reply_ports}
+use Rattle.pdl_law_sides.specs.WholeNetlist.{reply_ports}
 use Rattle.pdl_pipe_walk.specs.Locked.{some_at}
 use Rattle.pdl_pipe_beside.specs.declared.PortInput.{PortInput}
-use Rattle.pdl_pipe_locks.proofs.AllMade.{mem_count, name_count}
-use Rattle.pdl_pipe_beside.proofs.PartLists.{some_before, some_last}
-use Rattle.pdl_pipe_outputs.specs.Told.{AreNames}
+use Rattle.pdl_pipe_locks.proofs.MadeMemories.{mem_count, name_count}
+use Rattle.pdl_pipe_outputs.specs.ToldOutputs.{AreNames}
 use Rattle.pdl_pipe_outputs.specs.Inputs.{reply_pair, mem_ports, IsReplyOf, AreReplies}
+use Rattle.pdl_pipe_walk.proofs.Lists.{some_before, some_last}
 
 -- ---- ports added one after another
 
+-- ports that are added after others are added together with them
 pub ports_trans : (a b c : Circuit) (front back : List Port) → ExtendsPorts a b front → ExtendsPorts b c back → ExtendsPorts a c (front ++ back)
 ports_trans a b c front back x y = record {
   there = λ n h. y.there n (x.there n h);
@@ -60,13 +61,14 @@ module _ (a b d : Circuit) (m : r_mem.Mem) (x y : List ℕ) (first : x ≡ codes
   pub word_means : (i : Net) → Means d i (input_signal m.width (length (inputs_of b))) → Means d i (input_signal m.width (length (inputs_of a) + 1))
   word_means i h = subst (λ n. Means d i (input_signal m.width n)) (inputs_more a b (input_port x 1 ∷ []) one.ports) h
 
+-- the input ports of the first i + 1 memories are those of the first i and those of the next one
 pub mems_more : (ms : List r_mem.Mem) (i : ℕ) (d : r_mem.Mem) → i < length ms → flat_map mem_ports (take (i + 1) ms) ≡ flat_map mem_ports (take i ms) ++ mem_ports (get_or ms i d)
 mems_more ms i d h =
     ap (flat_map mem_ports) (take_more ms i d h) ∙ flat_map-append mem_ports (take i ms) (get_or ms i d ∷ [])
     ∙ ap (λ ps. flat_map mem_ports (take i ms) ++ ps) (append-nil (mem_ports (get_or ms i d)))
 
 -- those of the memories are the ports that the law of a netlist asks for
-pub ports_as : (k : ℕ) (ms : List r_mem.Mem) (names : ℕ → List ℕ) → ((i j : ℕ) → j ≡ k + i → i < length ms → names j ≡ get_or (mem_names ms) i []) → flat_map mem_ports ms ≡ reply_ports names k (mems_view ms)
+ports_as : (k : ℕ) (ms : List r_mem.Mem) (names : ℕ → List ℕ) → ((i j : ℕ) → j ≡ k + i → i < length ms → names j ≡ get_or (mem_names ms) i []) → flat_map mem_ports ms ≡ reply_ports names k (mems_view ms)
 ports_as k [] names h = refl
 ports_as k (m ∷ ms) names h =
     let e : m.name ≡ names k = sym (h 0 k (omega arith) (omega arith)) in
@@ -124,6 +126,7 @@ replies_kept a b p xs n k h = record {
   each = λ m l. reply_kept a b (mem_at p m) (2 * reply_place p m) (some_at xs m) k (h.each m l);
 }
 
+-- with what comes from one memory more, the first n + 1 have theirs
 pub replies_more : (a b : Circuit) (p : Pipe) (xs : List (Option PortInput)) (o : Option PortInput) (n : ℕ) → Keeps a b → IsReplyOf b (mem_at p n) (2 * reply_place p n) o → AreReplies a p xs n → AreReplies b p (xs ++ o ∷ []) (n + 1)
 replies_more a b p xs o n k new h = record {
   count = length-append xs (o ∷ []) ∙ ap (λ i. i + 1) h.count;

@@ -1,4 +1,4 @@
 pub mod OutLists
 pub mod OutShows
 pub mod InputLists
-pub mod Joined
+pub mod RequestPorts

@@ -12,21 +12,21 @@ use Rattle.pdl_lockapi.specs.declared.LockNets.{LockNets}
 use Rattle.pdl_law_parts.specs.Views.{View, Gates}
 use Rattle.pdl_law_parts.specs.Ports.{Shown, Commit, shown_signal, stages_shown, commit_shown, commits_shown}
 use Rattle.pdl_law_parts.specs.Compiled.{shown_in}
-use Rattle.pdl_law_sides.specs.Whole.{Request, request_shown, requests_shown, whole_shown}
+use Rattle.pdl_law_sides.specs.WholeNetlist.{Request, request_shown, requests_shown, whole_shown}
 use Rattle.pdl_pipe_beside.specs.declared.outside.RequestNets.{RequestNets}
 use Rattle.pdl_pipe_outputs.specs.declared.outputs.StageNets.{StageNets}
 use Rattle.pdl_pipe_outputs.specs.declared.outputs.OutNet.{OutNet}
 use Rattle.pdl_pipe_locks.specs.Stepped.{commit_of, commits_in}
-use Rattle.pdl_pipe_outputs.specs.Told.{AreThereStages, IsThereCommit, IsThereRequest, AreTold, ask_of, asks_in, valid_in, moves_in, AreOf, output_of, OutsThere, shown_by}
-use Rattle.pdl_pipe_outputs.specs.Listed.{out, stages_outs, commit_outs, commits_outs, request_outs, requests_outs, last_moves, all_outs}
+use Rattle.pdl_pipe_outputs.specs.ToldOutputs.{AreThereStages, IsThereCommit, IsThereRequest, AreTold, ask_of, asks_in, valid_in, moves_in, AreOf, output_of, OutsThere, shown_by}
+use Rattle.pdl_pipe_outputs.specs.OutputList.{out, stages_outs, commit_outs, commits_outs, request_outs, requests_outs, last_moves, all_outs}
 
 -- ---- one list after another
 
-pub outs_more : (c : Circuit) (os ps : List OutNet) → OutsThere c os → OutsThere c ps → OutsThere c (os ++ ps)
+outs_more : (c : Circuit) (os ps : List OutNet) → OutsThere c os → OutsThere c ps → OutsThere c (os ++ ps)
 outs_more c [] ps t h = h
 outs_more c (o ∷ os) ps t h = (t.0, outs_more c os ps t.1 h)
 
-pub shown_more : (c : Circuit) (os ps : List OutNet) → shown_by c (os ++ ps) ≡ shown_by c os ++ shown_by c ps
+shown_more : (c : Circuit) (os ps : List OutNet) → shown_by c (os ++ ps) ≡ shown_by c os ++ shown_by c ps
 shown_more c os ps = ap (map (shown_in c)) (map-append output_of os ps) ∙ map-append (shown_in c) (map output_of os) (map output_of ps)
 
 -- ---- the stages
@@ -117,7 +117,7 @@ last_is : (c : Circuit) (s : StageNets) (ss : List StageNets) → signal c (last
 last_is c s [] = refl
 last_is c s (t ∷ ss) = last_is c t ss
 
-pub last_means : (c : Circuit) (ss : List StageNets) (x : Net) → 1 ≤ length ss → signal c (last_moves ss x) ≡ moves_in c ss (length ss - 1)
+last_means : (c : Circuit) (ss : List StageNets) (x : Net) → 1 ≤ length ss → signal c (last_moves ss x) ≡ moves_in c ss (length ss - 1)
 last_means c [] x h = absurd (omega (arith, h))
 last_means c (s ∷ ss) x h = let e : length ss ≡ length (s ∷ ss) - 1 = omega arith in last_is c s ss ∙ ap (moves_in c (s ∷ ss)) e
 

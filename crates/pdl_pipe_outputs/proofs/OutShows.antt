@@ -5,7 +5,7 @@ use Rattle.pdl_net.specs.Circuit.{Circuit}
 use Rattle.pdl_net.specs.Growth.{ExtendsPorts}
 use Rattle.pdl_pipe_outputs.specs.declared.outputs.OutNet.{OutNet}
 use Rattle.pdl_law_parts.specs.Compiled.{port_in}
-use Rattle.pdl_pipe_outputs.specs.Told.{output_of, OutsThere}
+use Rattle.pdl_pipe_outputs.specs.ToldOutputs.{output_of, OutsThere}
 
 abbrev ports_of : Circuit → List OutNet → List Port
 ports_of c os = map (port_in c) (map output_of os)

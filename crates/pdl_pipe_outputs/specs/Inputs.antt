@@ -11,16 +11,17 @@ use Rattle.pdl_net.specs.Meaning.{Means}
 use Rattle.pdl_net.specs.Growth.{ExtendsPorts}
 use Rattle.pdl_build.specs.Change.{input_port}
 use Rattle.pdl_machine_inflight.specs.Readings.{Reading, reading}
-use Rattle.pdl_law_sides.specs.Whole.{reply_ports}
+use Rattle.pdl_law_sides.specs.WholeNetlist.{reply_ports}
 use Rattle.pdl_pipe_walk.specs.Locked.{some_at}
 use Rattle.pdl_pipe_beside.specs.declared.PortInput.{PortInput}
 use Rattle.pdl_pipe_beside.specs.Beside.{Inputs}
-use Rattle.pdl_pipe_outputs.specs.Told.{AreNames}
+use Rattle.pdl_pipe_outputs.specs.ToldOutputs.{AreNames}
 
 -- the two inputs of a delayed memory; another one has none
 abbrev pub reply_pair : r_mem.Mem → List Port
 reply_pair m = input_port (codes "p_" ++ m.name) 1 ∷ input_port (codes "pd_" ++ m.name) m.width ∷ []
 
+-- the inputs of a memory: both of them where it is delayed, else none
 abbrev pub mem_ports : r_mem.Mem → List Port
 mem_ports m = if m.delayed then reply_pair m else []
 
@@ -39,6 +40,7 @@ pub record AreReplies (c : Circuit) (p : Pipe) (xs : List (Option PortInput)) (n
 abbrev pub HasReplies : Circuit → Form → Type 0
 HasReplies c f = (names : ℕ → List ℕ) → AreNames f.names names → c.ports ≡ reply_ports names 0 f.pipe.mems
 
+-- the ports that were added are just the inputs of the delayed memories
 abbrev pub AddsReplies : Circuit → Circuit → Form → Type 0
 AddsReplies old new f = (names : ℕ → List ℕ) → AreNames f.names names → ExtendsPorts old new (reply_ports names 0 f.pipe.mems)
 

@@ -1,3 +1,3 @@
-pub mod Told
-pub mod Listed
+pub mod ToldOutputs
+pub mod OutputList
 pub mod Inputs

@@ -1,6 +1,6 @@
 // The inputs of a pipe's netlist.
 ghost use Rattle.std.specs.Prelude.{◌≡◌, ℕ, ◌+◌, ◌<◌, [], IfOk, OnOk, length, slice_index_or, None};
-ghost use Rattle.pdl_form.specs.Whole.{form};
+ghost use Rattle.pdl_form.specs.FormView.{form};
 ghost use Rattle.pdl_form.specs.View.{mem_view};
 ghost use Rattle.pdl_form_types.specs.Stmts.{IsTypedMem, AreTypedMems};
 ghost use Rattle.pdl_net.specs.Circuit.{Circuit, inputs_of, shapes_of};

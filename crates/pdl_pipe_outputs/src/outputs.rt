@@ -1,12 +1,12 @@
 // What the netlist shows.
 ghost use Rattle.std.specs.Prelude.{◌≡◌, ◌<◌, ◌≤◌, ◌∷◌, ◌++◌, [], Some, IfOk, OnOk, map, length, slice_index_or, codes, decimal};
-ghost use Rattle.pdl_form.specs.Whole.{form};
+ghost use Rattle.pdl_form.specs.FormView.{form};
 ghost use Rattle.pdl_form.specs.View.{mem_names};
 ghost use Rattle.pdl_net.specs.Circuit.{Circuit};
 ghost use Rattle.pdl_net.specs.Growth.{ExtendsPorts};
 ghost use Rattle.pdl_law_parts.specs.Compiled.{port_in};
-ghost use Rattle.pdl_pipe_outputs.specs.Told.{AreTold, output_of, OutsThere, ShowAll};
-ghost use Rattle.pdl_pipe_outputs.specs.Listed.{stages_outs, commit_outs, commits_outs, request_outs, requests_outs, last_moves, all_outs};
+ghost use Rattle.pdl_pipe_outputs.specs.ToldOutputs.{AreTold, output_of, OutsThere, ShowAll};
+ghost use Rattle.pdl_pipe_outputs.specs.OutputList.{stages_outs, commit_outs, commits_outs, request_outs, requests_outs, last_moves, all_outs};
 
 use itoa::Buffer;
 use pdl_build::Builder;

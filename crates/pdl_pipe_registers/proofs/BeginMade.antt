@@ -22,7 +22,7 @@ use Rattle.pdl_port.specs.Laws.{AnswerSignals}
 use Rattle.pdl_law_parts.specs.Lives.{lives_from, held_from, verifies_from}
 use Rattle.pdl_law_parts.specs.Walk.{Letting, is_locked, one, zero_bit}
 use Rattle.pdl_law_parts.specs.Views.{View}
-use Rattle.pdl_law_parts.proofs.Next.{lock_there}
+use Rattle.pdl_law_parts.proofs.NextState.{lock_there}
 use Rattle.pdl_pipe_lives.specs.Needs.{goes_with}
 use Rattle.pdl_pipe_walk.specs.declared.nets.HeldNet.{HeldNet}
 use Rattle.pdl_pipe_walk.specs.declared.nets.ReserveNet.{ReserveNet}
@@ -42,7 +42,7 @@ use Rattle.pdl_pipe_registers.specs.Items.{is_needed, ended_item}
 use Rattle.pdl_pipe_registers.specs.Stages.{begun_parts, IsFrame, IsBegun, IsBegunBy, IsSettled, IsSpared, IsThereBegun, HasKept, AreOwn}
 use Rattle.pdl_pipe_registers.specs.Begun.{earlier_views, earlier_count, is_listed, IsShared, IsEnded, IsEarlier, IsSettledAfter, IsSparedAfter, AreBegun, AreHeldBegun, HasAllHeld, AreNextTickets, AreAnswered, IsFresh}
 use Rattle.pdl_pipe_registers.proofs.Lists.{each_at, each_map, view_at, some_stage}
-use Rattle.pdl_pipe_registers.proofs.Keeping.{by_weaker}
+use Rattle.pdl_pipe_registers.proofs.RegisterGrowth.{by_weaker}
 use Rattle.pdl_pipe_registers.proofs.Begins.{next_keep, ends_same, each_way, settled_as, spared_as}
 use Rattle.pdl_pipe_registers.proofs.HeldsBegun.{held_none, helds_as}
 use Rattle.pdl_pipe_registers.proofs.ReadWords.{past_unanswered}

@@ -18,8 +18,8 @@ use Rattle.pdl_pipe_exprs.proofs.NetLists.{there_keeps, signals_keep, net_more, 
 use Rattle.pdl_law_parts.specs.Walk.{Walk}
 use Rattle.pdl_law_parts.specs.Views.{View}
 use Rattle.pdl_pipe_walk.specs.Parts.{walk_of}
-use Rattle.pdl_pipe_walk.proofs.Kept.{bits_keep, walk_keep, parts_keep}
-use Rattle.pdl_pipe_answers.proofs.Answered.{answers_keep}
+use Rattle.pdl_pipe_walk.proofs.NetGrowth.{bits_keep, walk_keep, parts_keep}
+use Rattle.pdl_pipe_answers.proofs.PortAnswers.{answers_keep}
 use Rattle.pdl_pipe_registers.specs.declared.nets.Item.{Item}
 use Rattle.pdl_pipe_registers.specs.declared.nets.Item.TheVariants.{Var, Held, Ticket, Guess}
 use Rattle.pdl_pipe_registers.specs.declared.nets.Kept.{Kept}
@@ -30,11 +30,12 @@ use Rattle.pdl_pipe_registers.specs.Items.{ended_item, item_width, first_value}
 use Rattle.pdl_pipe_registers.specs.Stages.{end_of, view_in, views_in, IsFrame, IsBegunBy, IsSettled, IsTwin, IsSpared, AreOwn}
 use Rattle.pdl_pipe_registers.specs.Begun.{IsShared, IsEnded, AreEnded, IsEarlier, MayAdd, MayBegin, AreBegun, IsLonger}
 use Rattle.pdl_pipe_registers.proofs.Lists.{each_at, each_map, view_at, some_stage, up_to}
-use Rattle.pdl_pipe_registers.proofs.Keeping.{frame_may, own_more, longer_may, by_longer, by_new, by_weaker, may_there, may_wide}
+use Rattle.pdl_pipe_registers.proofs.RegisterGrowth.{frame_may, own_more, longer_may, by_longer, by_new, by_weaker, may_there, may_wide}
 use Rattle.pdl_word.specs.Each.{Each}
 
 -- ---- what all stages share, and the ends of the earlier ones
 
+-- what all stages share stays in a circuit that keeps its nets
 pub shared_keep : (a b : Circuit) (f : Form) (x : Shared) → Keeps a b → IsShared a f x → IsShared b f x
 shared_keep a b f x e h = record {
   bits = bits_keep a b x.bits e h.bits;
@@ -45,20 +46,22 @@ shared_keep a b f x e h = record {
   ports = answers_keep a b e f.pipe x.ports.now h.ports;
 }
 
+-- the nets of the next tickets mean the same in a circuit that keeps them
 pub next_keep : (a b : Circuit) (f : Form) (x : Shared) → Keeps a b → IsShared a f x → signals_in b x.next ≡ signals_in a x.next
 next_keep a b f x e h = signals_keep a b x.next e h.next_there
 
-pub end_keep : (a b : Circuit) (f : Form) (nexts : List Signal) (s : StageNets) → Keeps a b → IsEnded a f nexts s → IsEnded b f nexts s
+end_keep : (a b : Circuit) (f : Form) (nexts : List Signal) (s : StageNets) → Keeps a b → IsEnded a f nexts s → IsEnded b f nexts s
 end_keep a b f nexts s e h = record {
   walk = walk_keep a b e f.pipe f.widths s.end h.walk;
   tickets = there_keeps a b s.tickets e h.tickets;
   tickets_wide = ap widths_of (signals_keep a b s.tickets e h.tickets) ∙ h.tickets_wide;
 }
 
+-- the ends of stages stay in a circuit that keeps their nets
 pub ends_keep : (a b : Circuit) (f : Form) (nexts : List Signal) (ss : List StageNets) → Keeps a b → AreEnded a f nexts ss → AreEnded b f nexts ss
 ends_keep a b f nexts ss e h = each_map (IsEnded a f nexts) (IsEnded b f nexts) ss (λ s q. end_keep a b f nexts s e q) h
 
-pub earlier_keep : (a b : Circuit) (f : Form) (nexts : List Signal) (x : Earlier) → Keeps a b → IsEarlier a f nexts x → IsEarlier b f nexts x
+earlier_keep : (a b : Circuit) (f : Form) (nexts : List Signal) (x : Earlier) → Keeps a b → IsEarlier a f nexts x → IsEarlier b f nexts x
 earlier_keep a b f nexts x e h = record { ended = ends_keep a b f nexts x.stages.now e h.ended; ways = h.ways; low = h.low; count = h.count }
 
 -- by the nets of the next tickets, as they stand in the later circuit
@@ -67,12 +70,13 @@ earlier_now a b f s x e h k = subst (λ fs. IsEarlier b f fs x) (sym (next_keep 
 
 -- ---- what stages end with
 
-pub ended_keep : (a b : Circuit) (f : Form) (nexts : List Signal) (s : StageNets) (i : Item) → Keeps a b → IsEnded a f nexts s → ended_item (view_in b s) i ≡ ended_item (view_in a s) i
+ended_keep : (a b : Circuit) (f : Form) (nexts : List Signal) (s : StageNets) (i : Item) → Keeps a b → IsEnded a f nexts s → ended_item (view_in b s) i ≡ ended_item (view_in a s) i
 ended_keep a b f nexts s (Var x) e h = ap (λ (w : Walk). w.vars x) (ap walk_of (parts_keep a b e s.end h.walk.there))
 ended_keep a b f nexts s (Held m n) e h = ap (λ (w : Walk). w.held m n) (ap walk_of (parts_keep a b e s.end h.walk.there))
 ended_keep a b f nexts s (Ticket m) e h = ap (λ fs. signal_at fs m) (signals_keep a b s.tickets e h.tickets)
 ended_keep a b f nexts s (Guess i) e h = ap (λ (w : Walk). signal_at w.guess i) (ap walk_of (parts_keep a b e s.end h.walk.there))
 
+-- each of some stages ends with the same for an item in a circuit that keeps its nets
 pub ends_same : (a b : Circuit) (f : Form) (nexts : List Signal) (ss : List StageNets) (i : Item) → Keeps a b → AreEnded a f nexts ss → (j : ℕ) → j < length ss → ended_item (views_in b ss j) i ≡ ended_item (views_in a ss j) i
 ends_same a b f nexts ss i e h j l =
     let some = some_stage ss j l in
@@ -108,10 +112,12 @@ settled_as p us vs (suc k) i g same h = record {
   unanswered = h.unanswered;
 }
 
+-- a register was added or none, with a weaker demand on the signal where none was
 pub may_as : (c : Circuit) (r t : Kept) (i : Item) (w v : ℕ) (net : Net) (S Settled : Signal → Type 0) → ((g : Signal) → S g → Settled g) → MayAdd c r t i w v net S → MayAdd c r t i w v net Settled
 may_as c r t i w v net S Settled k (inl m) = inl record { regs = m.regs; net_is = m.net_is; register = m.register }
 may_as c r t i w v net S Settled k (inr m) = inr record { regs = m.regs; there = m.there; wide = m.wide; settled = k (signal c net) m.settled }
 
+-- an item begins with a register or none, with a weaker demand on its signal where it has none
 pub begin_as : (c : Circuit) (f : Form) (nexts : List Signal) (k : ℕ) (needed : Bool) (r t : Kept) (i : Item) (net : Net) (S Settled : Signal → Type 0) → ((g : Signal) → S g → Settled g) → MayBegin c f nexts k needed r t i net S
     → MayBegin c f nexts k needed r t i net Settled
 begin_as c f nexts k needed r t i net S Settled weaker h = record {
@@ -129,6 +135,7 @@ twin_as p us vs k i x same h = record {
   unanswered = h.unanswered;
 }
 
+-- what needs no register needs none by views that end alike, where the variables' signals are the same
 pub spared_as : (p : Pipe) (us vs : ℕ → View) (k : ℕ) (fs gs : List Signal) (i : Item) (g : Signal) → ((i : Item) (j : ℕ) → j < k → ended_item (vs j) i ≡ ended_item (us j) i) → gs ≡ fs → IsSpared p us k fs i g → IsSpared p vs k gs i g
 spared_as p us vs k fs gs (Var x) g same e h = settled_as p us vs k (Var x) g (same (Var x)) h
 spared_as p us vs k fs gs (Held m a) g same e h = settled_as p us vs k (Held m a) g (same (Held m a)) h
@@ -137,7 +144,7 @@ spared_as p us vs k fs gs (Guess i) g same e (inl h) = inl (settled_as p us vs k
 spared_as p us vs k fs gs (Guess i) g same e (inr h) = inr record { x = h.x; twin = twin_as p us vs k i h.x same h.twin; is = h.is ∙ ap (λ l. signal_at l h.x) (sym e) }
 
 -- what is settled needs none
-pub settled_spared : (p : Pipe) (us : ℕ → View) (k : ℕ) (fs : List Signal) (i : Item) (g : Signal) → IsSettled p us k i g → IsSpared p us k fs i g
+settled_spared : (p : Pipe) (us : ℕ → View) (k : ℕ) (fs : List Signal) (i : Item) (g : Signal) → IsSettled p us k i g → IsSpared p us k fs i g
 settled_spared p us k fs (Var x) g h = h
 settled_spared p us k fs (Held m a) g h = h
 settled_spared p us k fs (Ticket m) g h = h
@@ -145,6 +152,7 @@ settled_spared p us k fs (Guess i) g h = inl h
 
 -- ---- lists of nets
 
+-- the signals of some nets and one more are their signals and its own
 pub signals_more : (c : Circuit) (xs : List Net) (x : Net) → signals_in c (xs ++ x ∷ []) ≡ signals_in c xs ++ signal c x ∷ []
 signals_more c [] x = refl
 signals_more c (y ∷ ys) x = ap (λ l. signal c y ∷ l) (signals_more c ys x)
@@ -153,11 +161,13 @@ widths_more : (fs : List Signal) (g : Signal) → widths_of (fs ++ g ∷ []) ≡
 widths_more [] g = refl
 widths_more (f ∷ fs) g = ap (λ l. f.width ∷ l) (widths_more fs g)
 
+-- a net before the one that was added means what it meant
 pub signal_old : (c : Circuit) (xs : List Net) (x : Net) (i : ℕ) → i < length xs → signal_at (signals_in c (xs ++ x ∷ [])) i ≡ signal_at (signals_in c xs) i
 signal_old c xs x i l =
     ap (λ fs. signal_at fs i) (signals_more c xs x)
     ∙ get_or_append_left (signals_in c xs) (signal c x ∷ []) no_signal i (let e = length_signals c xs in omega (arith, l, e))
 
+-- the net that was added means the last of the signals
 pub signal_new : (c : Circuit) (xs : List Net) (x : Net) (i : ℕ) → i ≡ length xs → signal_at (signals_in c (xs ++ x ∷ [])) i ≡ signal c x
 signal_new c xs x i e =
     ap₂ (λ fs n. signal_at fs n) (signals_more c xs x) (e ∙ sym (length_signals c xs))
@@ -168,6 +178,7 @@ pub record HasNets (c : Circuit) (ws : List ℕ) (xs : List Net) : Type 0 where
   pub there : NetsThere c xs
   pub wide : widths_of (signals_in c xs) ≡ ws
 
+-- there are as many nets as widths that they have
 pub nets_long : (c : Circuit) (ws : List ℕ) (xs : List Net) → widths_of (signals_in c xs) ≡ ws → length xs ≡ length ws
 nets_long c ws xs e = sym (length_signals c xs) ∙ sym (length_widths (signals_in c xs)) ∙ ap length e
 
@@ -243,7 +254,7 @@ module _ (a : Circuit) (f : Form) (nexts : List Signal) (k : ℕ) (r0 : Kept) (i
     extends = none;
     frame = frame;
     own = own;
-    longer = Rattle.pdl_pipe_registers.proofs.Keeping.longer_none r0;
+    longer = Rattle.pdl_pipe_registers.proofs.RegisterGrowth.longer_none r0;
     begun = begun_none f nexts k item needed S ws a r0;
   }
 
@@ -257,6 +268,6 @@ module _ (a : Circuit) (f : Form) (nexts : List Signal) (k : ℕ) (r0 : Kept) (i
         extends = Rattle.pdl_net.proofs.Keeps.extends_trans a b c h.extends bc;
         frame = frame_may f nexts k b c r t (item i) net N bc may.may last h.frame;
         own = own_more c f k (item i) r t W V net N may.may may.own h.own;
-        longer = Rattle.pdl_pipe_registers.proofs.Keeping.longer_trans r0 r t h.longer (longer_may c r t (item i) W V net N may.may);
+        longer = Rattle.pdl_pipe_registers.proofs.RegisterGrowth.longer_trans r0 r t h.longer (longer_may c r t (item i) W V net N may.may);
         begun = begun_more f nexts k item needed S ws b c r t i xs net low bc may wide h.begun;
       }

@@ -21,7 +21,7 @@ use Rattle.pdl_pipe_registers.specs.declared.nets.Kept.{Kept}
 use Rattle.pdl_pipe_registers.specs.Stages.{end_of, IsFrame, IsBegunBy, IsSettled, AreOwn}
 use Rattle.pdl_pipe_registers.specs.Items.{ended_item, IsOwn}
 use Rattle.pdl_pipe_registers.specs.Begun.{is_listed, MayAdd, AddsHeld, IsLonger, AreHeldBegun, AreStillListed, HasAllHeld}
-use Rattle.pdl_pipe_registers.proofs.Keeping.{frame_may, own_more, longer_none, longer_trans, longer_may, by_longer, by_new, by_weaker, may_there, may_wide}
+use Rattle.pdl_pipe_registers.proofs.RegisterGrowth.{frame_may, own_more, longer_none, longer_trans, longer_may, by_longer, by_new, by_weaker, may_there, may_wide}
 use Rattle.pdl_pipe_registers.proofs.Begins.{settled_as, may_as}
 use Rattle.pdl_word.specs.Each.{Each}
 use Rattle.pdl_word.proofs.Each.{each_weaker, each_push}
@@ -60,6 +60,7 @@ held_new c (x ∷ xs) h m v e i = at (is_it x m v) e (λ q. held_new c xs h m v 
     at true q f = absurd (false≢true (sym q))
     at false q f = f q
 
+-- a location that isn't listed isn't held
 pub held_none : (c : Circuit) (xs : List HeldNet) (m v : ℕ) → is_listed xs m v ≡ false → held_of (map (held_in c) xs) m v ≡ zero_bit
 held_none c [] m v e = refl
 held_none c (x ∷ xs) m v e = at (is_it x m v) e (λ q. held_none c xs m v q)
@@ -88,6 +89,7 @@ one_now : (b c : Circuit) → Keeps b c → (xs : List HeldNet) → Each (λ (x 
 one_now b c e [] t o = tt
 one_now b c e (x ∷ xs) t o = (ap (λ (g : Signal). g.width) (e.kept x.net t.0) ∙ o.0, one_now b c e xs t.1 o.1)
 
+-- the listed locations stay while the circuit grows and registers are added to the stage's
 pub helds_keep : (f : Form) (nexts : List Signal) (us : ℕ → View) (k : ℕ) (b c : Circuit) (r t : Kept) (hs : List HeldNet) → Keeps b c → IsLonger r t → AreHeldBegun b f nexts us k r hs → AreHeldBegun c f nexts us k t hs
 helds_keep f nexts us k b c r t hs e l h = record {
   there = there_now f nexts us k b c e hs h.there;
@@ -113,7 +115,7 @@ pub record HeldsSoFar (a c : Circuit) (f : Form) (nexts : List Signal) (us : ℕ
   pub begun : AreHeldBegun c f nexts us k r hs
   pub still : AreStillListed hs0 hs
 
-pub helds_first : (a : Circuit) (f : Form) (nexts : List Signal) (us : ℕ → View) (k : ℕ) (r : Kept) (hs : List HeldNet) → Extends a a → IsFrame a f nexts k r → AreOwn f k r → AreHeldBegun a f nexts us k r hs → HeldsSoFar a a f nexts us k r hs r hs
+helds_first : (a : Circuit) (f : Form) (nexts : List Signal) (us : ℕ → View) (k : ℕ) (r : Kept) (hs : List HeldNet) → Extends a a → IsFrame a f nexts k r → AreOwn f k r → AreHeldBegun a f nexts us k r hs → HeldsSoFar a a f nexts us k r hs r hs
 helds_first a f nexts us k r hs x frame own begun = record { extends = x; frame = frame; own = own; longer = longer_none r; begun = begun; still = λ m v q. q }
 
 own_held : (f : Form) (k m v : ℕ) → 0 < k → IsOwn f k (Held m v)
@@ -127,7 +129,7 @@ module _ (a b c : Circuit) (f : Form) (nexts : List Signal) (us : ℕ → View) 
       let e = extends_keeps b c bc in
       subst (λ (u : Kept). HeldsSoFar a c f nexts us k r0 hs0 u xs) (sym q.0) (subst (HeldsSoFar a c f nexts us k r0 hs0 r) (sym q.1) record {
         extends = extends_trans a b c so.extends bc;
-        frame = record { last = ap end_of (sym q.0) ∙ last; registers = Rattle.pdl_pipe_registers.proofs.Keeping.registers_keep b c f nexts k r e so.frame.registers };
+        frame = record { last = ap end_of (sym q.0) ∙ last; registers = Rattle.pdl_pipe_registers.proofs.RegisterGrowth.registers_keep b c f nexts k r e so.frame.registers };
         own = so.own;
         longer = so.longer;
         begun = helds_keep f nexts us k b c r r hs e (longer_none r) so.begun;
@@ -196,6 +198,7 @@ module _ (a b c : Circuit) (f : Form) (nexts : List Signal) (us : ℕ → View) 
 abbrev pub AreSeen : Form → ℕ → List HeldNet → List HeldNet → Type 0
 AreSeen f k items hs = (m v : ℕ) → held_from f.pipe k m v ≡ true → is_listed items m v ≡ true → is_listed hs m v ≡ true
 
+-- with a location more that is listed where it is asked for, all that are asked for are listed
 pub seen_more : (f : Form) (k : ℕ) (items hs xs : List HeldNet) (h : HeldNet) → AreStillListed hs xs → (held_from f.pipe k h.mem h.var ≡ true → is_listed xs h.mem h.var ≡ true) → AreSeen f k items hs → AreSeen f k (items ++ h ∷ []) xs
 seen_more f k items hs xs h still new seen m v need q = at (or_cases (is_listed items m v) (is_it h m v) (sym (listed_more items h m v) ∙ q))
   where
@@ -213,6 +216,7 @@ all_seen c f k items hs m v seen need un = at (is_listed items m v) refl
     at true q = absurd (false≢true (sym un ∙ seen m v need q))
     at false q = held_none c items m v q
 
+-- a list with more locations still has all that a thread out of a stage may hold
 pub all_held_more : (p : Rattle.pdl_semantics.specs.Flat.Pipe) (k : ℕ) (u : View) (hs xs : List HeldNet) → AreStillListed hs xs → HasAllHeld p k u hs → HasAllHeld p k u xs
 all_held_more p k u hs xs still h m v need un = h m v need (at (is_listed hs m v) refl)
   where
@@ -228,7 +232,7 @@ helds_as c f nexts us vs k r hs same h = record {
   begun = λ m v q. by_weaker f nexts r (Held m v) _ (IsSettled f.pipe us k (Held m v)) (IsSettled f.pipe vs k (Held m v)) (λ z. settled_as f.pipe us vs k (Held m v) (held_of (map (held_in c) hs) m v) (same m v) z) (h.begun m v q);
 }
 
-pub helds_none : (c : Circuit) (f : Form) (nexts : List Signal) (us : ℕ → View) (k : ℕ) (r : Kept) → AreHeldBegun c f nexts us k r []
+helds_none : (c : Circuit) (f : Form) (nexts : List Signal) (us : ℕ → View) (k : ℕ) (r : Kept) → AreHeldBegun c f nexts us k r []
 helds_none c f nexts us k r = record { there = tt; one = tt; begun = λ m v q. absurd (false≢true q) }
 
 -- what is listed on the way from one circuit to the next

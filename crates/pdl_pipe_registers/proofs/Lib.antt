@@ -1,12 +1,12 @@
 pub mod Lists
 pub mod Widths
-pub mod Keeping
+pub mod RegisterGrowth
 pub mod Begins
-pub mod Settling
+pub mod SettledItems
 pub mod HeldsBegun
 pub mod TicketsMade
 pub mod WaysMade
 pub mod ReadWords
 pub mod BeginMade
-pub mod StagedMade
+pub mod StageEnds
 pub mod StagesMade

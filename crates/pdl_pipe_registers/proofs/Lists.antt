@@ -7,15 +7,18 @@ use Rattle.pdl_pipe_registers.specs.declared.nets.StageNets.{StageNets}
 use Rattle.pdl_pipe_registers.specs.Stages.{view_in, views_in, no_view}
 use Rattle.pdl_word.specs.Each.{Each}
 
+-- what holds of each element of a list holds of its i-th one
 pub each_at : {X : Type 0} (P : X → Type 0) (xs : List X) (i : ℕ) (d : X) → i < length xs → get_or xs i d ≡ d → Each P xs → P d
 each_at P [] i d l e h = absurd (omega (arith, l))
 each_at P (x ∷ xs) zero d l e h = subst P e h.0
 each_at P (x ∷ xs) (suc i) d l e h = each_at P xs i d (omega (arith, l)) e h.1
 
+-- what follows from a property of each element holds of each element
 pub each_map : {X : Type 0} (P Q : X → Type 0) (xs : List X) → ((x : X) → P x → Q x) → Each P xs → Each Q xs
 each_map P Q [] f h = tt
 each_map P Q (x ∷ xs) f h = (f x h.0, each_map P Q xs f h.1)
 
+-- the k-th view is that of the k-th stage
 pub view_at : (c : Circuit) (ss : List StageNets) (k : ℕ) (s : StageNets) → k < length ss → get_or ss k s ≡ s → views_in c ss k ≡ view_in c s
 view_at c ss k s l e = get_or-map (view_in c) ss k s no_view l ∙ ap (view_in c) e
 

@@ -33,9 +33,10 @@ reads_in f m r (x ∷ xs) t is = by x.op t.0.1 is (reads_in f m r xs t.1)
     by (DelayedRead y n a) q h go = this y n q.0 q.2 go (n == m) refl h
     by _ q h go = go h
 
-pub reads_word : (f : Form) (m : ℕ) (r : Reading) → IsTypedForm f → reading f.pipe m ≡ Some r → ReadsWord f m r
+reads_word : (f : Form) (m : ℕ) (r : Reading) → IsTypedForm f → reading f.pipe m ≡ Some r → ReadsWord f m r
 reads_word f m r t is = reads_in f m r f.pipe.stmts t.stmts is
 
+-- in a typed form the variable of a delayed read is as wide as the words of the memory that is read
 pub binds_wide : (f : Form) (x m : ℕ) → IsTypedForm f → BindsWide f.pipe x (slice_index f.widths x) m
 binds_wide f x m t = λ r is e. (reads_word f m r t is).wide ∙ ap (slice_index f.widths) e
 
@@ -49,6 +50,7 @@ gets_none f k x m (Some r) l h = at (r.var == x) refl
     at false e = refl
     at true e = let same = eqb-true r.var x e in let low = h r refl in absurd (omega (arith, same, low, l))
 
+-- in a typed form no answer comes for a number past those of its variables
 pub past_unanswered : (f : Form) (k x : ℕ) → IsTypedForm f → length f.widths ≤ x → gets_answer f.pipe k x ≡ false
 past_unanswered f k x t l = all (length f.pipe.mems) 0
   where

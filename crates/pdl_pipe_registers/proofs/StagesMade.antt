@@ -16,7 +16,7 @@ use Rattle.pdl_pipe_registers.specs.Stages.{end_of, IsAt}
 use Rattle.pdl_pipe_registers.specs.Begun.{IsShared, IsEnded, AreEnded}
 use Rattle.pdl_pipe_registers.specs.Staged.{IsStaged, AreStaged, AreApart}
 use Rattle.pdl_pipe_registers.proofs.Begins.{shared_keep, ends_keep}
-use Rattle.pdl_pipe_registers.proofs.StagedMade.{all_staged, at_more}
+use Rattle.pdl_pipe_registers.proofs.StageEnds.{all_staged, at_more}
 use Rattle.pdl_word.proofs.Each.{each_push}
 
 apart_none : (low high : ℕ) → AreApart low high []
@@ -46,6 +46,7 @@ pub record StagesSoFar (a c : Circuit) (f : Form) (nexts : List Signal) (answers
   pub ended : AreEnded c f nexts ss
   pub apart : AreApart (length a.regs) (length c.regs) ss
 
+-- no stage is made as yet where what all stages share is there
 pub stages_none : (a c : Circuit) (f : Form) (nexts : List Signal) (answers : ℕ → ℕ → AnswerSignals) (ls : Locks) (x : Shared) → Extends a c → IsShared c f x → signals_in c x.next ≡ nexts → StagesSoFar a c f nexts answers ls x [] 0
 stages_none a c f nexts answers ls x e h next = record {
   extends = e;
@@ -57,6 +58,7 @@ stages_none a c f nexts answers ls x e h next = record {
   apart = apart_none (length a.regs) (length c.regs);
 }
 
+-- with one stage more, whose registers are new, the first i + 1 stages are made
 pub stages_more : (a c d : Circuit) (f : Form) (nexts : List Signal) (answers : ℕ → ℕ → AnswerSignals) (ls : Locks) (x : Shared) (ss : List StageNets) (i : ℕ) (t : StageNets) → Extends c d → IsStaged d f nexts answers ls ss (length ss) t
     → t.regs.valid ≡ length c.regs → end_of t.regs ≤ length d.regs
     → StagesSoFar a c f nexts answers ls x ss i → StagesSoFar a d f nexts answers ls x (ss ++ t ∷ []) (i + 1)

@@ -54,6 +54,7 @@ pub record IsEnded (c : Circuit) (f : Form) (nexts : List Signal) (s : StageNets
   pub tickets : NetsThere c s.tickets
   pub tickets_wide : widths_of (signals_in c s.tickets) ≡ widths_of nexts
 
+-- the ends of all these stages are there, with their tickets
 abbrev pub AreEnded : Circuit → Form → List Signal → List StageNets → Type 0
 AreEnded c f nexts ss = Each (IsEnded c f nexts) ss
 
@@ -64,6 +65,7 @@ pub record IsEarlier (c : Circuit) (f : Form) (nexts : List Signal) (x : Earlier
   pub low : Each (λ j. j < length x.stages.now) x.ways.now
   pub count : length nexts ≡ length f.pipe.mems
 
+-- the views of the stages before one
 abbrev pub earlier_views : Circuit → Earlier → ℕ → View
 earlier_views c x = views_in c x.stages.now
 
@@ -85,6 +87,7 @@ pub record IsCommonNet (c : Circuit) (us : ℕ → View) (js : List ℕ) (i : It
   pub some : 0 < length js
   pub same : (k : ℕ) → k < length js → ended_item (us (slice_index js k)) i ≡ signal c x
 
+-- the registers of a stage and one more, which is for this item
 abbrev pub with_item : Kept → Item → Kept
 with_item r i = record r { items = r.items ++ i ∷ [] }
 

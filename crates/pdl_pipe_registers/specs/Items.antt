@@ -12,6 +12,7 @@ use Rattle.pdl_pipe_answers.specs.Readings.{gets_answer}
 use Rattle.pdl_pipe_registers.specs.declared.nets.Item.{Item}
 use Rattle.pdl_pipe_registers.specs.declared.nets.Item.TheVariants.{Var, Held, Ticket, Guess}
 
+-- the item of the i-th register
 abbrev pub item_at : List Item → ℕ → Item
 item_at xs i = slice_index_or xs i (Var 0)
 
@@ -29,12 +30,14 @@ kept_item v (Held m a) = v.begun.held m a
 kept_item v (Ticket m) = v.tickets m
 kept_item v (Guess i) = signal_at v.begun.guess i
 
+-- an item as a stage has it after its rows
 abbrev pub ended_item : View → Item → Signal
 ended_item v (Var x) = v.ended.vars x
 ended_item v (Held m a) = v.ended.held m a
 ended_item v (Ticket m) = v.tickets m
 ended_item v (Guess i) = signal_at v.ended.guess i
 
+-- an item as a thread that comes brings it
 abbrev pub comer_item : Item → Comer → Signal
 comer_item (Var x) o = o.vars x
 comer_item (Held m a) o = o.held m a
@@ -53,6 +56,7 @@ abbrev pub start_value : Pipe → ℕ → ℕ → ℕ
 start_value p zero x = slice_index p.start x
 start_value p (suc k) x = 0
 
+-- what the register of an item of stage k holds at reset: 0, but for a variable of stage 0
 abbrev pub first_value : Pipe → ℕ → Item → ℕ
 first_value p k (Var x) = start_value p k x
 first_value p k (Held m a) = 0

@@ -26,6 +26,7 @@ use Rattle.pdl_word.specs.Each.{Each}
 
 -- ---- views
 
+-- the constant 0 of this width
 abbrev pub zero_signal : ℕ → Signal
 zero_signal w = const_signal w 0
 
@@ -46,6 +47,7 @@ begun_parts c s =
       barrier = zero_bit;
     }
 
+-- a stage by its nets in a circuit
 abbrev pub view_in : Circuit → StageNets → View
 view_in c s =
     record {
@@ -59,6 +61,7 @@ view_in c s =
 abbrev pub no_walk : Walk
 no_walk = walk_of (record { vars = []; held = []; ready = one; reserves = []; puts = []; lettings = []; births = []; asks = []; guess = []; fails = zero_bit; barrier = zero_bit })
 
+-- a stage that holds no thread and does nothing
 abbrev pub no_view : View
 no_view = record { valid = zero_bit; kept = λ x. no_signal; tickets = λ m. no_signal; begun = no_walk; ended = no_walk }
 

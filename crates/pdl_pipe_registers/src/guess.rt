@@ -1,6 +1,6 @@
 // The arguments of the guess with which a stage begins.
 ghost use Rattle.std.specs.Prelude.{◌≡◌, ◌<◌, IsTrue, IfOk, IfSome, OnOk, length, take};
-ghost use Rattle.pdl_form.specs.Whole.{form};
+ghost use Rattle.pdl_form.specs.FormView.{form};
 ghost use Rattle.pdl_net.specs.Growth.{Extends};
 ghost use Rattle.pdl_pipe_exprs.specs.Nets.{NetsThere, signals_in, widths_of};
 ghost use Rattle.pdl_form_types.specs.Stmts.{IsTypedForm};

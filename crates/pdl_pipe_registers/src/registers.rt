@@ -1,6 +1,6 @@
 // The registers of a stage, and what needs none.
 ghost use Rattle.std.specs.Prelude.{◌≡◌, ◌<◌, ◌≤◌, ◌^◌, [], IsTrue, IfOk, IfSome, OnOk, length, slice_index, slice_index_or};
-ghost use Rattle.pdl_form.specs.Whole.{form};
+ghost use Rattle.pdl_form.specs.FormView.{form};
 ghost use Rattle.pdl_word.specs.Each.{Each};
 ghost use Rattle.pdl_net.specs.declared.Net.TheVariants.{Reg as RegNet};
 ghost use Rattle.pdl_net.specs.Meaning.{IsThere, Means, signal};

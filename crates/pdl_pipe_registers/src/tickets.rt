@@ -1,6 +1,6 @@
 // The tickets of the locks.
 ghost use Rattle.std.specs.Prelude.{◌≡◌, ℕ, List, ◌<◌, ◌≤◌, IfOk, OnOk, false, length, map};
-ghost use Rattle.pdl_form.specs.Whole.{form};
+ghost use Rattle.pdl_form.specs.FormView.{form};
 ghost use Rattle.pdl_net.specs.Signal.{Signal};
 ghost use Rattle.pdl_net.specs.Meaning.{IsThere, signal};
 ghost use Rattle.pdl_net.specs.Growth.{Extends};

@@ -1,6 +1,6 @@
 // The stages that may lead to a stage.
 ghost use Rattle.std.specs.Prelude.{◌≡◌, ◌<◌, ◌≤◌, IfOk, length};
-ghost use Rattle.pdl_form.specs.Whole.{form};
+ghost use Rattle.pdl_form.specs.FormView.{form};
 ghost use Rattle.pdl_machine_facts.specs.Slots.{ways as all_ways};
 
 use pdl_form::FlatPipe;

@@ -1,6 +1,6 @@
 // All stages of a pipe, one after the other.
 ghost use Rattle.std.specs.Prelude.{◌≡◌, ◌<◌, ◌≤◌, ◌++◌, ◌∷◌, [], IfOk, OnOk, length, map};
-ghost use Rattle.pdl_form.specs.Whole.{form};
+ghost use Rattle.pdl_form.specs.FormView.{form};
 ghost use Rattle.pdl_net.specs.Growth.{Extends};
 ghost use Rattle.pdl_pipe_exprs.specs.Nets.{NetsThere, signals_in};
 ghost use Rattle.pdl_pipe_exprs.specs.Conditions.{AreBits};

@@ -41,6 +41,7 @@ have_rows a c x fresh rows n m count e line after low h k l =
 tail_same : (c d : Circuit) (rows others : List (Seq Net)) (last : List Net) (j m : ℕ) → Keeps c d → NetsThere c (get_or rows j []) → get_or others j last ≡ get_or rows j [] → tail_in d others last j m ≡ tail_in c rows [] j m
 tail_same c d rows others last j m e there same = ap (λ (row : List Net). signal_at (signals_in d row) m) same ∙ ap (λ fs. signal_at fs m) (signals_keep c d (get_or rows j []) e there)
 
+-- the tails of the first n stages are the same in a circuit that grew, by lists that begin alike
 pub tails_same : (a c d : Circuit) (x : Line) (rows others : List (Seq Net)) (last : List Net) (n : ℕ) → Keeps c d → FirstRows a c x rows n → ((j : ℕ) → j < n → get_or others j last ≡ get_or rows j [])
     → (j m : ℕ) → j < n → tail_in d others last j m ≡ tail_in c rows [] j m
 tails_same a c d x rows others last n e h same j m l = tail_same c d rows others last j m e (h j l).there (same j l)
@@ -52,9 +53,11 @@ row_later a c d x rows others last n e h same k l =
     (stage_as a d x (tail_in c rows []) (tail_in d others last) k (get_or rows k []) (λ j m low q. sym (tails_same a c d x rows others last n (extends_keeps c d e) h same j m (omega (arith, low, l))))
     (stage_keep a c d x (tail_in c rows []) k (get_or rows k []) e (h k l)))
 
+-- the nets of the first n stages are the same in a list with those of one stage more
 pub same_front : (rows : List (Seq Net)) (new : Seq Net) (n : ℕ) → length rows ≡ n → (j : ℕ) → j < n → get_or (rows ++ new ∷ []) j [] ≡ get_or rows j []
 same_front rows new n count j l = get_or_append_left rows (new ∷ []) [] j (omega (arith, l, count))
 
+-- the nets of the first n stages are the same, whatever stands for a stage without
 pub same_before : (rows : List (Seq Net)) (last : List Net) (n : ℕ) → length rows ≡ n → (j : ℕ) → j < n → get_or rows j last ≡ get_or rows j []
 same_before rows last n count j l = get_or_default rows j last [] (omega (arith, l, count))
 
@@ -85,6 +88,7 @@ widths_as [] (g ∷ gs) n h = absurd (omega (arith, n))
 widths_as (f ∷ fs) [] n h = absurd (omega (arith, n))
 widths_as (f ∷ fs) (g ∷ gs) n h = ap₂ (λ w ws. w ∷ ws) (h 0 (omega arith)) (widths_as fs gs (omega (arith, n)) (λ m l. h (suc m) (omega (arith, l))))
 
+-- the tails of a stage are a net for each memory, as wide as its lock's next ticket
 pub row_is : (a c : Circuit) (x : Line) (tails : ℕ → ℕ → Signal) (k : ℕ) (nets : List Net) → AreStageTails a c x tails k nets → IsRow a c x nets
 row_is a c x tails k nets h =
     let n = length_signals c nets in

@@ -1,5 +1,5 @@
-pub mod Reserving
-pub mod Carrying
+pub mod ReservedTickets
+pub mod TailRegisters
 pub mod Rows
 pub mod AllRows
-pub mod Tailed
+pub mod LineTails

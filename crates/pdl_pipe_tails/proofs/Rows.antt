@@ -24,14 +24,15 @@ use Rattle.pdl_pipe_nexts.specs.declared.arrivals.Arrival.{Arrival}
 use Rattle.pdl_pipe_nexts.specs.declared.line.Line.{Line}
 use Rattle.pdl_pipe_nexts.specs.Lines.{line_form, line_pipe, line_views, line_moves, IsLineIn}
 use Rattle.pdl_pipe_nexts.specs.Arrivals.{AreArrivals}
-use Rattle.pdl_pipe_nexts.proofs.LinesKept.{views_same, all_moves_same}
+use Rattle.pdl_pipe_nexts.proofs.LineGrowth.{views_same, all_moves_same}
 use Rattle.pdl_pipe_tails.specs.Reserved.{IsAfter, IsAfterAll, AreAfterAll}
 use Rattle.pdl_pipe_tails.specs.Carried.{tail_in, brought_tail, coming_tail, HaveTails, AreComing}
 use Rattle.pdl_pipe_tails.specs.Tails.{IsTail, IsStageTail, AreStageTails}
-use Rattle.pdl_pipe_tails.proofs.Carrying.{tail_keep, brought_keep, carried_keep, carried_as}
+use Rattle.pdl_pipe_tails.proofs.TailRegisters.{tail_keep, brought_keep, carried_keep, carried_as}
 
 -- ---- the next tickets, as the circuit was before
 
+-- a ticket after all reservations is so as well by the line's nets as they stood in an earlier circuit
 pub after_from : (a b : Circuit) (x : Line) (m : ℕ) (g : Signal) → Keeps a b → IsLineIn a x → IsAfterAll b x m g → IsAfterAll a x m g
 after_from a b x m g e line h =
     subst (λ vs. IsAfter (signal_at (signals_in a x.shared.now.next) m) g (all_reserves m vs (line_moves a x) (length x.stages.now) 0)) (views_same a b x e line)
@@ -39,12 +40,13 @@ after_from a b x m g e line h =
     (subst (λ fs. IsAfter (signal_at fs m) g (all_reserves m (line_views b x) (line_moves b x) (length x.stages.now) 0)) (next_keep a b (line_form x) x.shared.now e line.shared) h))
 
 -- and as it is later
-pub after_now : (a b : Circuit) (x : Line) (m : ℕ) (g : Signal) → Keeps a b → IsLineIn a x → IsAfterAll a x m g → IsAfterAll b x m g
+after_now : (a b : Circuit) (x : Line) (m : ℕ) (g : Signal) → Keeps a b → IsLineIn a x → IsAfterAll a x m g → IsAfterAll b x m g
 after_now a b x m g e line h =
     subst (λ fs. IsAfter (signal_at fs m) g (all_reserves m (line_views b x) (line_moves b x) (length x.stages.now) 0)) (sym (next_keep a b (line_form x) x.shared.now e line.shared))
     (subst (λ ms. IsAfter (signal_at (signals_in a x.shared.now.next) m) g (all_reserves m (line_views b x) ms (length x.stages.now) 0)) (sym (all_moves_same a b x e line))
     (subst (λ vs. IsAfter (signal_at (signals_in a x.shared.now.next) m) g (all_reserves m vs (line_moves a x) (length x.stages.now) 0)) (sym (views_same a b x e line)) h))
 
+-- the tickets of all memories after all reservations stay so by the line's nets in a later circuit
 pub all_now : (a b c : Circuit) (x : Line) (nets : List Net) → Keeps a c → Keeps b c → IsLineIn a x → AreAfterAll a b x nets → AreAfterAll c c x nets
 all_now a b c x nets ac bc line h = record {
   there = there_keeps b c nets bc h.there;
@@ -54,6 +56,7 @@ all_now a b c x nets ac bc line h = record {
 
 -- ---- who comes out of earlier stages
 
+-- threads that may come out of stages below n are threads that may come out of the first n
 pub arrivals_coming : (c : Circuit) (p : Pipe) (vs : ℕ → View) (moves : ℕ → Signal) (q n : ℕ) (js : List ℕ) (ys : List Arrival) → Each (λ j. j < n) js → AreArrivals c p vs moves q js ys → AreComing c n ys
 arrivals_coming c p vs moves q n [] [] low h = tt
 arrivals_coming c p vs moves q n [] (y ∷ ys) low h = absurd h
@@ -84,13 +87,14 @@ coming_same p vs moves q m tails others rest (j ∷ js) h = ap₂ (mux_signal (o
 
 -- ---- one memory's tail
 
-pub tail_stays : (a c d : Circuit) (p : Pipe) (fresh : List Net) (before : List (Seq Net)) (ys : List Arrival) (k m : ℕ) (g : Signal) → Extends c d → IsTail a c p fresh before ys k m g → IsTail a d p fresh before ys k m g
+tail_stays : (a c d : Circuit) (p : Pipe) (fresh : List Net) (before : List (Seq Net)) (ys : List Arrival) (k m : ℕ) (g : Signal) → Extends c d → IsTail a c p fresh before ys k m g → IsTail a d p fresh before ys k m g
 tail_stays a c d p fresh before ys k m g e h = record {
   wide = h.wide;
   first = h.first;
   carried = λ own. carried_keep c d (length a.regs) g (brought_tail a before m ys g) e (h.carried own);
 }
 
+-- a memory's tail in a stage is so as well by the nets as they stood in an earlier circuit
 pub tail_from : (a b c : Circuit) (p : Pipe) (fresh : List Net) (before : List (Seq Net)) (ys : List Arrival) (k m w : ℕ) (g : Signal) → Keeps a b → NetsThere a fresh → AreComing a (length before) ys → HaveTails a m w before
     → IsTail b c p fresh before ys k m g → IsTail a c p fresh before ys k m g
 tail_from a b c p fresh before ys k m w g e there low rows h =
@@ -101,6 +105,7 @@ tail_from a b c p fresh before ys k m w g e there low rows h =
       carried = λ own. carried_as c (length a.regs) (length b.regs) g (brought_tail b before m ys g) (brought_tail a before m ys g) (regs_grow a b e) (λ s. ap (λ (f : Signal). f.value s) (brought_keep a b m w before ys g e low rows)) (h.carried own);
     }
 
+-- with the tail of one memory more, the first m + 1 have theirs in a stage
 pub tails_more : (a b d : Circuit) (p : Pipe) (fresh : List Net) (before : List (Seq Net)) (ys : List Arrival) (k : ℕ) (xs : List Net) (m : ℕ) (new : Net) → Extends b d → NetsThere b xs → length xs ≡ m
     → ((i : ℕ) → i < m → IsTail a b p fresh before ys k i (signal_at (signals_in b xs) i)) → IsTail a d p fresh before ys k m (signal d new)
     → (i : ℕ) → i < m + 1 → IsTail a d p fresh before ys k i (signal_at (signals_in d (xs ++ new ∷ [])) i)
@@ -112,6 +117,7 @@ tails_more a b d p fresh before ys k xs m new e there n old here =
 
 -- ---- the tails of a stage, by signals
 
+-- a memory's tail by the nets of a stage is its tail by the signals of the threads that come
 pub stage_tail_is : (a b c : Circuit) (x : Line) (fresh : List Net) (before : List (Seq Net)) (ys : List Arrival) (k m w : ℕ) (tails : ℕ → ℕ → Signal) (g : Signal) → Keeps a b → AreAfterAll a a x fresh → m < length fresh → HaveTails a m w before
     → length before ≡ k → AreArrivals b (line_pipe x) (line_views a x) (line_moves a x) k (ways (line_pipe x) k) ys → ((j : ℕ) → j < k → tails j m ≡ tail_in a before [] j m)
     → IsTail b c (line_pipe x) fresh before ys k m g → IsStageTail a c x tails k m g
@@ -129,6 +135,7 @@ stage_tail_is a b c x fresh before ys k m w tails g e after low rows count come 
           (λ s. brought_is b p vs moves k tails before m g s (λ j l. same j (omega (arith, l, count)) ∙ sym (tail_keep a b m w before j e l rows)) (ways p k) ys come coming) (h.carried own);
     }
 
+-- the tails of a stage stay while the circuit grows
 pub stage_keep : (a c d : Circuit) (x : Line) (tails : ℕ → ℕ → Signal) (k : ℕ) (nets : List Net) → Extends c d → AreStageTails a c x tails k nets → AreStageTails a d x tails k nets
 stage_keep a c d x tails k nets e h =
     let keeps = extends_keeps c d e in
@@ -146,6 +153,7 @@ stage_keep a c d x tails k nets e h =
           subst (IsStageTail a d x tails k m) (sym (ap (λ fs. signal_at fs m) (signals_keep c d nets keeps h.there))) now;
     }
 
+-- the tails of a stage are so by other signals that are the same in the stages before it
 pub stage_as : (a c : Circuit) (x : Line) (tails others : ℕ → ℕ → Signal) (k : ℕ) (nets : List Net) → ((j m : ℕ) → j < k → m < length nets → tails j m ≡ others j m) → AreStageTails a c x tails k nets → AreStageTails a c x others k nets
 stage_as a c x tails others k nets same h = record {
   there = h.there;

@@ -30,6 +30,7 @@ pub record HasTail (c : Circuit) (m w : ℕ) (row : List Net) : Type 0 where
   pub low : m < length row
   pub wide : (signal_at (signals_in c row) m).width ≡ w
 
+-- nets of several stages, of which each has the tail of memory m, as wide as this
 abbrev pub HaveTails : Circuit → ℕ → ℕ → List (Seq Net) → Type 0
 HaveTails c m w rows = (k : ℕ) → k < length rows → HasTail c m w (slice_index_or rows k [])
 

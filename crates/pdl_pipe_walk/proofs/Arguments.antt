@@ -11,12 +11,14 @@ use Rattle.pdl_pipe_exprs.proofs.Operands.{value_width}
 use Rattle.pdl_word.proofs.Lists.{take_few}
 use Rattle.pdl_form_types.proofs.Arguments.{args_count}
 
+-- arguments that have the parameters' widths are typed
 pub arguments_typed : (ws ns : List ℕ) (es : List Expr) → AreArguments ws ns es → AreTyped ws es
 arguments_typed ws [] [] h = tt
 arguments_typed ws [] (e ∷ es) h = absurd h
 arguments_typed ws (n ∷ ns) [] h = tt
 arguments_typed ws (n ∷ ns) (e ∷ es) h = (h.0, arguments_typed ws ns es h.2)
 
+-- the signals of arguments that have the parameters' widths have these widths
 pub arguments_wide : (fs : List Signal) (ns : List ℕ) (es : List Expr) → AreArguments (widths_of fs) ns es → widths_of (value_signals fs es) ≡ ns
 arguments_wide fs [] [] h = refl
 arguments_wide fs [] (e ∷ es) h = absurd h

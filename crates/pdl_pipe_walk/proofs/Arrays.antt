@@ -7,6 +7,7 @@ use Rattle.pdl_form.specs.declared.form.Mem as r_mem
 use Rattle.pdl_form.specs.View.{mem_view, mems_view}
 use Rattle.pdl_pipe_walk.specs.Locked.{array_of}
 
+-- a memory has an array just where it isn't delayed
 pub some_array : (mem : Mem) (i : ℕ) → is_some (array_of mem i) ≡ not mem.delayed
 some_array mem i = by mem.delayed
   where

@@ -17,17 +17,20 @@ use Rattle.pdl_pipe_walk.specs.Guesses.{choices, or_differ, differ_from, differ_
 pub same_length : (fs gs : List Signal) → widths_of fs ≡ widths_of gs → length fs ≡ length gs
 same_length fs gs e = sym (length_widths fs) ∙ ap length e ∙ length_widths gs
 
+-- the i-th of two lists of signals with equal widths are equally wide
 pub same_width : (fs gs : List Signal) (i : ℕ) → widths_of fs ≡ widths_of gs → (signal_at fs i).width ≡ (signal_at gs i).width
 same_width fs gs i e = sym (width_at fs i) ∙ ap (λ ws. get_or ws i 0) e ∙ width_at gs i
 
 -- ---- choices
 
+-- there are as many choices as signals in each list, where both lists have the same length
 pub choices_length : (on : Signal) (fs gs : List Signal) → length fs ≡ length gs → length (choices on fs gs) ≡ length gs
 choices_length on [] [] e = refl
 choices_length on [] (g ∷ gs) e = absurd (omega (arith, e))
 choices_length on (f ∷ fs) [] e = absurd (omega (arith, e))
 choices_length on (f ∷ fs) (g ∷ gs) e = ap suc (choices_length on fs gs (omega (arith, e)))
 
+-- the choices are as wide as the first signals, where both lists have the same length
 pub choices_widths : (on : Signal) (fs gs : List Signal) → length fs ≡ length gs → widths_of (choices on fs gs) ≡ widths_of fs
 choices_widths on [] gs e = refl
 choices_widths on (f ∷ fs) [] e = absurd (omega (arith, e))

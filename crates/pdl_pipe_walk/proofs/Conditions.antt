@@ -38,6 +38,7 @@ turned zero l = refl
 turned (suc zero) l = refl
 turned (suc (suc v)) l = absurd (omega (arith, l))
 
+-- a signal of 1 bit has a value below 2, where that is within its width
 pub below_two : (s : State) (f : Signal) → f.width ≡ 1 → IsBounded s f → f.value s < 2
 below_two s f e b = subst (λ w. f.value s < 2 ^ w) e b.fits
 

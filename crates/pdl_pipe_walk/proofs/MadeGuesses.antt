@@ -19,7 +19,7 @@ use Rattle.pdl_pipe_walk.specs.Parts.{Parts, walk_of}
 use Rattle.pdl_pipe_walk.specs.Sized.{IsSized}
 use Rattle.pdl_pipe_walk.specs.Steps.{IsStep, with_ask, with_guess, with_verify, with_barrier}
 use Rattle.pdl_pipe_walk.proofs.Choices.{same_length, choices_length, choices_on, choices_off, wrong_value}
-use Rattle.pdl_pipe_walk.proofs.Made.{HasNets, is_on, bounded_in}
+use Rattle.pdl_pipe_walk.proofs.MadeSteps.{HasNets, is_on, bounded_in}
 use Rattle.pdl_pipe_walk.proofs.Values.{have_values}
 
 module _ (c : Circuit) (p : Pipe) (ws : List ℕ) (ls : Locks) (tickets : ℕ → Signal) (gs : List Guard) (w : Parts) (nets : HasNets c w.vars) (sized : IsSized p ws w) (vars : p.vars ≡ length ws) (guards : AreGuards ws gs) where

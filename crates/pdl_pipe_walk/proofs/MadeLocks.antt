@@ -112,10 +112,12 @@ looked_join ls m a b2 b3 d held addr ticket f g x v u e k th ta tt' tg read writ
     let same : signal d x ≡ mux_signal (signal a held) (signal b3 f) (signal b2 g) = means.same ∙ ap₂ (λ h j. mux_signal h (signal b3 f) j) held_same (k.kept g tg) in
     subst (λ h. IsLooked ls m (signal a held) (signal a addr) (signal a ticket) h) (sym same) (looked_either ls m (signal a addr) (signal a ticket) (signal a held) (signal b3 f) (signal b2 g) v u now read)
 
+-- whether a location is ready, by equal signals for its being held, its address and the ticket
 pub looked_as : (ls : Locks) (m : ℕ) (h h' addr addr' ticket ticket' f : Signal) → h ≡ h' → addr ≡ addr' → ticket ≡ ticket' → IsLooked ls m h addr ticket f → IsLooked ls m h' addr' ticket' f
 looked_as ls m h h' addr addr' ticket ticket' f e g k l =
     subst (λ t. IsLooked ls m h' addr' t f) k (subst (λ y. IsLooked ls m h' y ticket f) g (subst (λ x. IsLooked ls m x addr ticket f) e l))
 
+-- the signal of a memory's word, by an equal address and ticket
 pub word_as : (p : Pipe) (ls : Locks) (m : ℕ) (addr addr' ticket ticket' f : Signal) → addr ≡ addr' → ticket ≡ ticket' → IsWordSignal p ls m addr ticket f → IsWordSignal p ls m addr' ticket' f
 word_as p ls m addr addr' ticket ticket' f g k l = subst (λ t. IsWordSignal p ls m addr' t f) k (subst (λ y. IsWordSignal p ls m y ticket f) g l)
 

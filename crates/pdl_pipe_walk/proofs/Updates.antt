@@ -23,7 +23,7 @@ use Rattle.pdl_pipe_walk.specs.Frames.{SameRest}
 use Rattle.pdl_pipe_walk.specs.Sized.{IsSized, IsSizedReserve, IsSizedPut, IsSizedAsk}
 use Rattle.pdl_pipe_walk.specs.Steps.{with_var, with_put, with_held, with_call}
 use Rattle.pdl_pipe_walk.proofs.Lists.{widths_set}
-use Rattle.pdl_pipe_walk.proofs.Kept.{parts_keep, var_width}
+use Rattle.pdl_pipe_walk.proofs.NetGrowth.{parts_keep, var_width}
 use Rattle.pdl_word.specs.Each.{Each}
 use Rattle.pdl_word.proofs.Each.{each_push}
 

@@ -18,5 +18,6 @@ abbrev pub differ_from : Signal → List Signal → List Signal → Signal
 differ_from d (f ∷ fs) (g ∷ gs) = differ_from (or_differ d f g) fs gs
 differ_from d _ _ = d
 
+-- whether any of the first signals differs from the second one at its place
 abbrev pub differ_signal : List Signal → List Signal → Signal
 differ_signal fs gs = differ_from zero_bit fs gs

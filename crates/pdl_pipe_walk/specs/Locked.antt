@@ -89,5 +89,6 @@ pub record AreTickets {T : Type 0} (l : Members T) (c : Circuit) (xs : List (Opt
   pub count : length ts ≡ length xs
   pub wide : (m : ℕ) (x : MemLock T) → m < length xs → some_at xs m ≡ Some x → (signal_at (signals_in c ts) m).width ≡ l.tickets x.lock
 
+-- the ticket of memory m, by the nets of all memories' tickets
 abbrev pub tickets_in : Circuit → List Net → ℕ → Signal
 tickets_in c ts m = signal_at (signals_in c ts) m

@@ -44,6 +44,7 @@ abbrev pub held_of : List Held → ℕ → ℕ → Signal
 held_of [] m a = zero_bit
 held_of (h ∷ hs) m a = if (h.mem == m) && (h.var == a) then h.signal else held_of hs m a
 
+-- the walk of such parts, with variables and held locations by their numbers
 abbrev pub walk_of : Parts → Walk
 walk_of w =
     record {
@@ -62,24 +63,30 @@ walk_of w =
 
 -- ---- nets
 
+-- a held location by its net in a circuit
 abbrev pub held_in : Circuit → HeldNet → Held
 held_in c h = record { mem = h.mem; var = h.var; signal = signal c h.net }
 
+-- a reservation by its nets in a circuit
 abbrev pub reservation_in : Circuit → ReserveNet → Reservation
 reservation_in c r = record { mem = r.mem; on = signal c r.on; addr = signal c r.addr }
 
+-- a write by its nets in a circuit
 abbrev pub put_in : Circuit → PutNet → Put
 put_in c x = record { mem = x.mem; on = signal c x.on; value = signal c x.value }
 
 abbrev pub letting_in : Circuit → LettingNet → Letting
 letting_in c x = record { mem = x.mem; on = signal c x.on }
 
+-- a call by its nets in a circuit
 abbrev pub birth_in : Circuit → BirthNet → Birth
 birth_in c x = record { on = signal c x.on; args = signals_in c x.args }
 
+-- a request of a delayed memory by its nets in a circuit
 abbrev pub ask_in : Circuit → AskNet → Ask
 ask_in c x = record { mem = x.mem; var = x.var; on = signal c x.on; addr = signal c x.addr }
 
+-- all parts of a walk by their nets in a circuit
 abbrev pub parts_in : Circuit → WalkNets → Parts
 parts_in c w =
     record {
@@ -104,9 +111,11 @@ walk_in c w = walk_of (parts_in c w)
 abbrev pub taken_by : Circuit → WalkNets → List r_guard.Guard → Signal
 taken_by c w gs = taken_signal (signals_in c w.vars.items) (guards_view gs)
 
+-- the value of an expression, by a stage's variables
 abbrev pub value_by : Circuit → WalkNets → r_expr.Expr → Signal
 value_by c w e = value_signal (signals_in c w.vars.items) (expr_view e)
 
+-- the values of some expressions, by a stage's variables
 abbrev pub values_by : Circuit → WalkNets → List r_expr.Expr → List Signal
 values_by c w es = value_signals (signals_in c w.vars.items) (exprs_view es)
 

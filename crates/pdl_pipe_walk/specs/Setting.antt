@@ -1,7 +1,7 @@
 -- What the statements of a stage are made nets in.
 use Rattle.std.specs.Prelude.{ℕ, List}
 use Rattle.pdl_semantics.specs.Flat.{Stmt}
-use Rattle.pdl_form.specs.Whole.{form}
+use Rattle.pdl_form.specs.FormView.{form}
 use Rattle.pdl_net.specs.Circuit.{Circuit}
 use Rattle.pdl_net.specs.Signal.{Signal}
 use Rattle.pdl_law_parts.specs.Walk.{Locks}

@@ -16,6 +16,7 @@ use Rattle.pdl_word.specs.Each.{Each}
 abbrev pub IsSizedReserve : Pipe → Reservation → Type 0
 IsSizedReserve p r = (r.mem < length p.mems) × (r.on.width ≡ 1) × (2 ^ r.addr.width ≡ (mem_at p r.mem).depth)
 
+-- a write's condition has 1 bit, and its value the width of its memory's words
 abbrev pub IsSizedPut : Pipe → Put → Type 0
 IsSizedPut p x = (x.mem < length p.mems) × (x.on.width ≡ 1) × (x.value.width ≡ (mem_at p x.mem).width)
 
@@ -23,6 +24,7 @@ IsSizedPut p x = (x.mem < length p.mems) × (x.on.width ≡ 1) × (x.value.width
 abbrev pub IsSizedBirth : Pipe → List ℕ → Birth → Type 0
 IsSizedBirth p ws x = (x.on.width ≡ 1) × (widths_of x.args ≡ take (length p.start) ws)
 
+-- a request's condition has 1 bit, and its address reaches each word of its memory and no more
 abbrev pub IsSizedAsk : Pipe → Ask → Type 0
 IsSizedAsk p x = (x.mem < length p.mems) × (x.on.width ≡ 1) × (2 ^ x.addr.width ≡ (mem_at p x.mem).depth)
 
@@ -55,6 +57,7 @@ IsWalkOf f c w = IsWalk c f.pipe f.widths w
 abbrev pub IsWalked : Form → Stmt → Type 0
 IsWalked f x = IsTypedStmt f x × IsAtOnce f.pipe x.op
 
+-- nets can be made of each of these statements: it is typed, and reads at once only what answers at once
 abbrev pub AreWalked : Form → List Stmt → Type 0
 AreWalked f xs = Each (IsWalked f) xs
 

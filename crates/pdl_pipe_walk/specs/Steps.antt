@@ -17,9 +17,11 @@ use Rattle.pdl_pipe_walk.specs.Locked.{Members, locks_in, tickets_in}
 
 -- ---- what statements change, each under its condition
 
+-- a variable is set to a value
 abbrev pub with_var : ℕ → Signal → Signal → Parts → Parts
 with_var x on f w = record w { vars = slice_set w.vars x (mux_signal on f (signal_at w.vars x)) }
 
+-- a value is written to a memory
 abbrev pub with_put : ℕ → Signal → Signal → Parts → Parts
 with_put m on f w = record w { puts = w.puts ++ record { mem = m; on = on; value = f } ∷ [] }
 
@@ -27,6 +29,7 @@ with_put m on f w = record w { puts = w.puts ++ record { mem = m; on = on; value
 abbrev pub with_held : ℕ → ℕ → Signal → Signal → Parts → Parts
 with_held m a on bit w = record w { held = record { mem = m; var = a; signal = mux_signal on bit (held_of w.held m a) } ∷ w.held }
 
+-- a location is reserved: it becomes held, and the thread waits where there is no room
 abbrev pub with_reserve : ℕ → ℕ → Signal → Signal → Parts → Parts
 with_reserve m a on room w =
     record (with_held m a on one w) {
@@ -34,15 +37,19 @@ with_reserve m a on room w =
       reserves = w.reserves ++ record { mem = m; on = on; addr = signal_at w.vars a } ∷ [];
     }
 
+-- a location is released, where it is held
 abbrev pub with_release : ℕ → ℕ → Signal → Parts → Parts
 with_release m a on w = record (with_held m a on zero_bit w) { lettings = w.lettings ++ record { mem = m; on = both on (held_of w.held m a) } ∷ [] }
 
+-- a call with these arguments makes a new thread
 abbrev pub with_call : Signal → List Signal → Parts → Parts
 with_call on args w = record w { births = record { on = on; args = args } ∷ w.births }
 
+-- a memory is asked for the word at a location, which is to be bound to a variable
 abbrev pub with_ask : ℕ → ℕ → ℕ → Signal → Parts → Parts
 with_ask m x a on w = record w { asks = w.asks ++ record { mem = m; var = x; on = on; addr = signal_at w.vars a } ∷ [] }
 
+-- a call whose arguments are kept as the guess
 abbrev pub with_guess : Signal → List Signal → Parts → Parts
 with_guess on args w = record (with_call on args w) { guess = choices on args w.guess }
 
@@ -50,6 +57,7 @@ with_guess on args w = record (with_call on args w) { guess = choices on args w.
 abbrev pub with_verify : Signal → List Signal → Parts → Parts
 with_verify on args w = record (with_call (both on (differ_signal args w.guess)) args w) { fails = mux_signal (both on (differ_signal args w.guess)) one w.fails }
 
+-- the thread waits for the barrier
 abbrev pub with_barrier : Signal → Parts → Parts
 with_barrier on w = record w { barrier = mux_signal on one w.barrier }
 

@@ -1,6 +1,6 @@
 // Guesses: what a call guesses, and whether a verify finds that wrong.
 ghost use Rattle.std.specs.Prelude.{◌≡◌, ◌<◌, ◌∷◌, [], ℕ, IfOk, OnOk, length};
-ghost use Rattle.pdl_form.specs.Whole.{form};
+ghost use Rattle.pdl_form.specs.FormView.{form};
 ghost use Rattle.pdl_form.specs.View.{guards_view, exprs_view};
 ghost use Rattle.pdl_form_types.specs.Stmts.{AreGuards, AreArguments, param_widths};
 ghost use Rattle.pdl_net.specs.Signal.{mux_signal};

@@ -1,7 +1,7 @@
 // The statements of a stage, one after another.
 ghost use Rattle.std.specs.Prelude.{◌≡◌, ◌==◌, ◌<◌, ◌≤◌, ◌^◌, ◌++◌, ◌∷◌, [], true, false, IfOk, OnOk, length, map, slice_index};
 ghost use Rattle.pdl_semantics.specs.Stages.{mem_at, in_stage};
-ghost use Rattle.pdl_form.specs.Whole.{form};
+ghost use Rattle.pdl_form.specs.FormView.{form};
 ghost use Rattle.pdl_form.specs.Form.{stmt_at};
 ghost use Rattle.pdl_form.specs.View.{guards_view, stmt_view, stmts_view, expr_view, exprs_view};
 ghost use Rattle.pdl_net.specs.Meaning.{IsThere, signal};

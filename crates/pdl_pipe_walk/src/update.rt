@@ -1,6 +1,6 @@
 // What the statements of a stage change of its nets.
 ghost use Rattle.std.specs.Prelude.{◌≡◌, ◌==◌, ◌<◌, ◌^◌, ◌++◌, ◌∷◌, [], OnOk, length, slice_index, slice_set};
-ghost use Rattle.pdl_form.specs.Whole.{form};
+ghost use Rattle.pdl_form.specs.FormView.{form};
 ghost use Rattle.pdl_net.specs.Meaning.{IsThere, Means, signal};
 ghost use Rattle.pdl_net.specs.Growth.{Extends};
 ghost use Rattle.pdl_pipe_exprs.specs.Conditions.{AreBits};
@@ -8,7 +8,7 @@ ghost use Rattle.pdl_law_parts.specs.Walk.{one, both, if_on};
 ghost use Rattle.pdl_pipe_walk.specs.Parts.{held_of, parts_in, IsThereWalk};
 ghost use Rattle.pdl_pipe_walk.specs.Sized.{IsWalkOf};
 ghost use Rattle.pdl_pipe_walk.specs.Frames.{SameRest};
-ghost use Rattle.pdl_pipe_walk.specs.Finding.{held_net as held_in};
+ghost use Rattle.pdl_pipe_walk.specs.HeldLookups.{held_net as held_in};
 ghost use Rattle.pdl_pipe_walk.specs.Steps.{with_var, with_held};
 
 use crate::nets::{AskNet, BirthNet, HeldNet, LettingNet, PutNet, ReserveNet, WalkNets};

@@ -1,6 +1,6 @@
 // What the statements of a stage read of its variables.
 ghost use Rattle.std.specs.Prelude.{◌≡◌, ◌<◌, IfOk, length};
-ghost use Rattle.pdl_form.specs.Whole.{form};
+ghost use Rattle.pdl_form.specs.FormView.{form};
 ghost use Rattle.pdl_form.specs.View.{guards_view, expr_view, exprs_view};
 ghost use Rattle.pdl_form_types.specs.Exprs.{width_in, IsTyped};
 ghost use Rattle.pdl_form_types.specs.Stmts.{AreGuards, AreArguments, param_widths};

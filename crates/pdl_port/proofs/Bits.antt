@@ -4,9 +4,10 @@ use Rattle.std.specs.Prelude.{◌&&◌, ◌==◌, if◌then◌else◌, Option, S
 use Rattle.std.proofs.lemmas.Bool.{cases_lt, eqb-true, eq-eqb, ne_eqb}
 use Rattle.pdl_port.specs.Port.{PortState, Idle, Owned, Orphan, PortAct, owns, is_free, asker, asked_request, left_request}
 use Rattle.pdl_port.specs.Places.{is_orphan}
+use Rattle.pdl_word.proofs.Bools.{if_false}
 
 -- the first that asks is there and asks
-pub asker_some : (on : ℕ → Bool) (n j : ℕ) → asker on n ≡ Some j → (j < n) × (on j ≡ true)
+asker_some : (on : ℕ → Bool) (n j : ℕ) → asker on n ≡ Some j → (j < n) × (on j ≡ true)
 asker_some on zero j e = absurd (cc e)
 asker_some on (suc n) j e = more (asker on n) (on n) refl refl e (λ q. asker_some on n j q)
   where
@@ -26,7 +27,7 @@ asker_none on (suc n) e k h = more (asker on n) (on n) refl refl e (λ q l. aske
     more None false p q r rest = ⊎_elim (λ (l : k < n). rest p l) (λ (g : n ≤ k). let i : n ≡ k = omega arith in let P : ℕ → Type 0 = λ m. on m ≡ false in subst P i q) (cases_lt k n)
 
 -- the owner of a place
-pub owned_is : (q : PortState) (k : ℕ) → owns q k ≡ true → q ≡ Owned k
+owned_is : (q : PortState) (k : ℕ) → owns q k ≡ true → q ≡ Owned k
 owned_is Idle k e = absurd (cc e)
 owned_is (Owned j) k e = ap Owned (eqb-true j k e)
 owned_is Orphan k e = absurd (cc e)
@@ -83,6 +84,7 @@ freed (Owned j) false moves k e = absurd (cc e)
 freed Orphan true moves k e = refl
 freed Orphan false moves k e = absurd (cc e)
 
+-- after a cycle of proper use the owner is who asks, or the owner before if neither answered nor removed
 pub owns_after : (a : PortAct) (q : PortState) (n k : ℕ) → k < n → ((i j : ℕ) → i < n → j < n → a.asked i ≡ true → a.asked j ≡ true → i ≡ j) → ((j : ℕ) → j < n → a.asked j ≡ true → is_free q a.reply a.moves ≡ true)
     → (if a.asked k then true else still (a.removed k) a.reply (owns q k)) ≡ owns (asked_request (asker a.asked n) (left_request a q)) k
 owns_after a q n k h one free = by_asker (asker a.asked n) refl
@@ -109,10 +111,6 @@ no_more false t x e = refl
 answered_none : (t o : Bool) → t ≡ true → (if t then false else o) ≡ false
 answered_none t o e = ap (λ u. if u then false else o) e
 
-no_owner : (t o : Bool) → o ≡ false → (if t then false else o) ≡ false
-no_owner true o e = refl
-no_owner false o e = e
-
 lost_answered : (a : PortAct) (q : PortState) (n : ℕ) → a.reply ≡ true → lost a q n ≡ false
 lost_answered a q zero e = answered_none a.reply (is_orphan q) e
 lost_answered a q (suc n) e = no_more (a.removed n) (if a.reply then false else owns q n) (lost a q n) (answered_none a.reply (owns q n) e) ∙ lost_answered a q n e
@@ -120,7 +118,7 @@ lost_answered a q (suc n) e = no_more (a.removed n) (if a.reply then false else 
 -- no place below n owns the request
 lost_unowned : (a : PortAct) (q : PortState) (n : ℕ) → ((k : ℕ) → k < n → owns q k ≡ false) → lost a q n ≡ (if a.reply then false else is_orphan q)
 lost_unowned a q zero h = refl
-lost_unowned a q (suc n) h = no_more (a.removed n) (if a.reply then false else owns q n) (lost a q n) (no_owner a.reply (owns q n) (h n (omega arith))) ∙ lost_unowned a q n (λ k l. h k (omega arith))
+lost_unowned a q (suc n) h = no_more (a.removed n) (if a.reply then false else owns q n) (lost a q n) (if_false a.reply (owns q n) (h n (omega arith))) ∙ lost_unowned a q n (λ k l. h k (omega arith))
 
 last_lost : (s r o x : Bool) → o ≡ true → x ≡ (if r then false else false) → (if s then (if (if r then false else o) then true else x) else x) ≡ (if r then false else s)
 last_lost true true o x e i = i
@@ -131,14 +129,14 @@ last_lost false false o x e i = i
 lost_owned : (a : PortAct) (j n : ℕ) → j < n → lost a (Owned j) n ≡ (if a.reply then false else a.removed j)
 lost_owned a j zero h = absurd (omega arith)
 lost_owned a j (suc n) h = ⊎_elim
-    (λ (l : j < n). no_more (a.removed n) (if a.reply then false else (j == n)) (lost a (Owned j) n) (no_owner a.reply (j == n) (ne_eqb j n (λ (i : j ≡ n). absurd (omega arith)))) ∙ lost_owned a j n l)
+    (λ (l : j < n). no_more (a.removed n) (if a.reply then false else (j == n)) (lost a (Owned j) n) (if_false a.reply (j == n) (ne_eqb j n (λ (i : j ≡ n). absurd (omega arith)))) ∙ lost_owned a j n l)
     (λ (g : n ≤ j). let i : n ≡ j = omega arith in
     last_lost (a.removed n) a.reply (j == n) (lost a (Owned j) n) (eq-eqb j n (sym i)) (lost_unowned a (Owned j) n (λ k l. ne_eqb j k (λ (o : j ≡ k). absurd (omega arith)))) ∙ ap (λ m. if a.reply then false else a.removed m) i)
     (cases_lt j n)
 
 -- where the port is free no orphan stays
 lost_freed : (a : PortAct) (q : PortState) (n : ℕ) → is_free q a.reply a.moves ≡ true → lost a q n ≡ false
-lost_freed a Idle n e = lost_unowned a Idle n (λ k l. refl) ∙ no_owner a.reply false refl
+lost_freed a Idle n e = lost_unowned a Idle n (λ k l. refl) ∙ if_false a.reply false refl
 lost_freed a (Owned j) n e = lost_answered a (Owned j) n (replied a.reply e)
   where
     replied : (r : Bool) → (r && a.moves j) ≡ true → r ≡ true
@@ -164,6 +162,7 @@ lost_left a Idle n h = lost_unowned a Idle n (λ k l. refl) ∙ orphan_idle a.re
 lost_left a (Owned j) n h = lost_owned a j n (h j refl) ∙ orphan_owned a.reply (a.removed j) j
 lost_left a Orphan n h = lost_unowned a Orphan n (λ k l. refl) ∙ orphan_orphan a.reply
 
+-- after a cycle of proper use an orphan is outstanding just where the n places leave one
 pub orphan_after : (a : PortAct) (q : PortState) (n : ℕ) → ((k : ℕ) → q ≡ Owned k → k < n) → ((j : ℕ) → j < n → a.asked j ≡ true → is_free q a.reply a.moves ≡ true)
     → lost a q n ≡ is_orphan (asked_request (asker a.asked n) (left_request a q))
 orphan_after a q n below free = by_asker (asker a.asked n) refl
@@ -187,6 +186,7 @@ left_below a Orphan n k h e = by_left a.reply e
     by_left true p = absurd (cc p)
     by_left false p = absurd (cc p)
 
+-- the owner after a cycle stands in one of the n places, if the owner before it did
 pub below_after : (a : PortAct) (q : PortState) (n k : ℕ) → ((j : ℕ) → q ≡ Owned j → j < n) → asked_request (asker a.asked n) (left_request a q) ≡ Owned k → k < n
 below_after a q n k h e = by_asker (asker a.asked n) refl e
   where
@@ -214,6 +214,7 @@ frees_owned j r on (suc n) h = ⊎_elim
     (λ (g : n ≤ j). let i : n ≡ j = omega arith in ap (λ t. if t then r && on n else frees (Owned j) r on n) (eq-eqb j n (sym i)) ∙ ap (λ m. r && on m) i)
     (cases_lt j n)
 
+-- a port is free by the first n places just where it is free, if its owner stands in one of them
 pub frees_is : (q : PortState) (r : Bool) (on : ℕ → Bool) (n : ℕ) → ((k : ℕ) → q ≡ Owned k → k < n) → frees q r on n ≡ is_free q r on
 frees_is Idle r on n h = frees_idle r on n
 frees_is (Owned j) r on n h = frees_owned j r on n (h j refl)

@@ -12,16 +12,8 @@ use Rattle.pdl_port.specs.Laws.{AnswerSignals, StepSignals, AreBits, Drives, Sta
 use Rattle.pdl_port.specs.Places.{AreReset, Stands, is_orphan, owns_at}
 use Rattle.pdl_port.specs.Nets.{owns_signal, place_signals, free_signal, open_signal, next_owns, orphan_signal, NextPort, own_all}
 use Rattle.pdl_port.proofs.Bits.{still, owns_after, lost, orphan_after, below_after, frees, frees_is}
-
--- a choice by a bit
-mux_bit : (t : Bool) (a b : ℕ) → mux (bit t) a b ≡ (if t then a else b)
-unfolding mux
-mux_bit true a b = refl
-mux_bit false a b = refl
-
-mux_at : (c a b : Signal) (s : State) (t : Bool) → c.value s ≡ bit t → (mux_signal c a b).value s ≡ (if t then a.value s else b.value s)
-unfolding mux_value
-mux_at c a b s t e = ap (λ n. mux n (a.value s) (b.value s)) e ∙ mux_bit t (a.value s) (b.value s)
+use Rattle.pdl_word.proofs.Laws.{mux_bit}
+use Rattle.pdl_net.proofs.Signals.{mux_at}
 
 bit_if : (t x y : Bool) → (if t then bit x else bit y) ≡ bit (if t then x else y)
 bit_if true x y = refl
@@ -85,6 +77,7 @@ free_value l reply moves s x r on h e m (suc k) i =
     both true b = refl
     both false b = refl
 
+-- the net of whether a port is free keeps its law, where it means this signal
 pub free_law : (l : Layout) (reply : Signal) (moves : ℕ → Signal) (free : Signal) → free ≡ free_signal l reply moves l.places → FreeLaw (Stands l) l.places reply moves free
 free_law l reply moves free same = record {
   holds = λ s x r on h p m. ap (λ (g : Signal). g.value s) same ∙ free_value l reply moves s x r on h p m l.places (omega arith) ∙ ap bit (frees_is x r on l.places h.below);
@@ -113,6 +106,7 @@ orphan_value l f s x a h d (suc k) i =
 next_at : (c : Circuit) (l : Layout) (s t : State) (r : ℕ) (f : Signal) → IsNext c (own_all l) s t → l.from ≤ r → r < l.from + (l.places + 1) → next_signal c r ≡ f → slice_index t.regs r ≡ f.value s
 next_at c l s t r f n lo hi e = n.regs r lo hi ∙ ap (λ (g : Signal). g.value s) e
 
+-- a port keeps the law of its step, where its registers take what they should
 pub step_law : (c : Circuit) (l : Layout) (f : StepSignals) → NextPort c l f → StepLaw (Stands l) l.places (own_all l) c f
 step_law c l f p = record {
   next = λ s t x a h d u n. record {

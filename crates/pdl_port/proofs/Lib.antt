@@ -1,6 +1,6 @@
-pub mod Kept
-pub mod Made
+pub mod PortGrowth
+pub mod MadeRegisters
 pub mod Steps
 pub mod Bits
 pub mod Law
-pub mod Placed
+pub mod PlacedRegisters

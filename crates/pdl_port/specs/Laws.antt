@@ -21,6 +21,7 @@ places r = length r.answers
 abbrev pub first_reg : PortRegs → ℕ
 first_reg r = slice_index r.regs 0
 
+-- the number after that of a port's last register
 abbrev pub end_reg : PortRegs → ℕ
 end_reg r = first_reg r + length r.regs
 
@@ -35,12 +36,15 @@ pub record IsFragment (old new : Circuit) (r : PortRegs) : Type 0 where
   pub above : length old.regs ≤ first_reg r
   pub has_reg : (k : ℕ) → first_reg r ≤ k → k < end_reg r → HasReg new k
 
+-- what stands for the answer of a place that isn't there
 abbrev pub no_answer : Answer
 no_answer = record { answered = Input 0; given = Input 0; value = Input 0 }
 
+-- the nets of the k-th of some answers
 abbrev pub answer_in : List Answer → ℕ → Answer
 answer_in answers k = slice_index_or answers k no_answer
 
+-- the nets of a port's answer for place k
 abbrev pub answer_at : PortRegs → ℕ → Answer
 answer_at r k = answer_in r.answers k
 
@@ -68,6 +72,7 @@ pub record AnswerSignals : Type 0 where
   pub given : Signal
   pub value : Signal
 
+-- what a port tells of place k, by its nets in a circuit
 abbrev pub answer_signals : Circuit → PortRegs → ℕ → AnswerSignals
 answer_signals c r k = record { answered = signal c (answer_at r k).answered; given = signal c (answer_at r k).given; value = signal c (answer_at r k).value }
 
@@ -81,6 +86,7 @@ pub record AnswerLaw (stands : State → PortState → Type 0) (n : ℕ) (reply 
 abbrev pub net_at : List Net → ℕ → Net
 net_at nets k = slice_index_or nets k (Input 0)
 
+-- the signal of the k-th of some nets
 abbrev pub signal_at : Circuit → List Net → ℕ → Signal
 signal_at c nets k = signal c (net_at nets k)
 
@@ -105,6 +111,7 @@ pub record StepSignals : Type 0 where
   pub removed : ℕ → Signal
   pub asked : ℕ → Signal
 
+-- what the nets of a step mean in a circuit
 abbrev pub step_signals : Circuit → PortRegs → PortStep → StepSignals
 step_signals c r p = record {
   reply = signal c r.reply;

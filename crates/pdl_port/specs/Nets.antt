@@ -17,9 +17,11 @@ owns_signal l k = reg_signal 1 (owns_at l k)
 abbrev pub answered_signal : Layout → Signal → ℕ → Signal
 answered_signal l reply k = mux_signal (owns_signal l k) reply (const_signal 1 1)
 
+-- the thread of place k owns the outstanding request, and the reply to it comes now
 abbrev pub given_signal : Layout → Signal → ℕ → Signal
 given_signal l reply k = mux_signal (owns_signal l k) reply (const_signal 1 0)
 
+-- what a port tells of place k, by its registers, the reply and its word
 abbrev pub place_signals : Layout → Signal → Signal → ℕ → AnswerSignals
 place_signals l reply word k = record { answered = answered_signal l reply k; given = given_signal l reply k; value = word }
 
@@ -61,5 +63,6 @@ pub record NextPort (c : Circuit) (l : Layout) (f : StepSignals) : Type 0 where
 abbrev pub own_all : Layout → Own
 own_all l = record { from = l.from; to = l.from + (l.places + 1); first = 0; last = 0 }
 
+-- the registers of the places of a port
 abbrev pub own_places : Layout → Own
 own_places l = record { from = l.from + 1; to = l.from + l.places + 1; first = 0; last = 0 }

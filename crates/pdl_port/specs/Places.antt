@@ -63,6 +63,7 @@ is_orphan Idle = false
 is_orphan (Owned k) = false
 is_orphan Orphan = true
 
+-- the value of a register in a state
 abbrev pub reg_of : State → ℕ → ℕ
 reg_of s k = slice_index s.regs k
 

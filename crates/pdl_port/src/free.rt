@@ -21,7 +21,7 @@ pub fn net(nets: &Seq<Net>, k: usize) -> Net
 }
 
 /// Whether the port is free, over the places from the first on.
-#[tactic(auto, using(crate::proofs::Steps::frees, crate::proofs::Kept::places_kept, crate::proofs::Kept::bits_kept))]
+#[tactic(auto, using(crate::proofs::Steps::frees, crate::proofs::PortGrowth::places_kept, crate::proofs::PortGrowth::bits_kept))]
 fn emit_free(b: &mut Builder, l: Layout, reply: Net, moves: &Seq<Net>) -> Result<Net, NoMemory>
     requires small { l.from + l.places + 1 < 2 ^ 64 }
     requires places { HasPlaces b.old l l.places }

@@ -27,7 +27,7 @@ fn numbers(alloc: Global, from: usize, count: usize) -> Result<Seq<usize>, NoMem
 }
 
 /// The registers of a port.
-#[tactic(auto, using(crate::proofs::Made::places_none, crate::proofs::Made::places_more, crate::proofs::Made::reset_none, crate::proofs::Made::reset_more))]
+#[tactic(auto, using(crate::proofs::MadeRegisters::places_none, crate::proofs::MadeRegisters::places_more, crate::proofs::MadeRegisters::reset_none, crate::proofs::MadeRegisters::reset_more))]
 fn emit_registers(b: &mut Builder, l: Layout) -> Result<(), NoMemory>
     requires from { l.from ≡ length b.old.regs }
     ensures small { OnOk result (l.from + l.places + 1 < 2 ^ 64) }
@@ -78,7 +78,7 @@ fn emit_answer(
 }
 
 /// What a port tells of each place.
-#[tactic(auto, using(crate::proofs::Made::answers_none, crate::proofs::Made::answers_more, crate::proofs::Kept::places_kept))]
+#[tactic(auto, using(crate::proofs::MadeRegisters::answers_none, crate::proofs::MadeRegisters::answers_more, crate::proofs::PortGrowth::places_kept))]
 fn emit_answers(
     alloc: Global,
     b: &mut Builder,

@@ -37,7 +37,7 @@ fn emit_owner(
 }
 
 /// What the registers of all places take next.
-#[tactic(auto, using(crate::proofs::Kept::places_kept, crate::proofs::Kept::places_kept_but, crate::proofs::Kept::step_kept_but))]
+#[tactic(auto, using(crate::proofs::PortGrowth::places_kept, crate::proofs::PortGrowth::places_kept_but, crate::proofs::PortGrowth::step_kept_but))]
 fn emit_places(b: &mut Builder, l: Layout, r: &PortRegs, p: &PortStep) -> Result<(), NoMemory>
     requires small { l.from + l.places + 1 < 2 ^ 64 }
     requires places { HasPlaces b.old l l.places }
@@ -54,7 +54,7 @@ fn emit_places(b: &mut Builder, l: Layout, r: &PortRegs, p: &PortStep) -> Result
 }
 
 /// Whether an orphan is left.
-#[tactic(auto, using(crate::proofs::Steps::orphans, crate::proofs::Kept::places_kept, crate::proofs::Kept::step_kept))]
+#[tactic(auto, using(crate::proofs::Steps::orphans, crate::proofs::PortGrowth::places_kept, crate::proofs::PortGrowth::step_kept))]
 fn emit_orphan(b: &mut Builder, l: Layout, r: &PortRegs, p: &PortStep) -> Result<Net, NoMemory>
     requires small { l.from + l.places + 1 < 2 ^ 64 }
     requires places { HasPlaces b.old l l.places }
@@ -76,7 +76,7 @@ fn emit_orphan(b: &mut Builder, l: Layout, r: &PortRegs, p: &PortStep) -> Result
 }
 
 /// What all registers of a port take next.
-#[tactic(auto, using(crate::proofs::Kept::places_kept, crate::proofs::Kept::places_kept_but, crate::proofs::Kept::step_kept, crate::proofs::Kept::step_kept_but))]
+#[tactic(auto, using(crate::proofs::PortGrowth::places_kept, crate::proofs::PortGrowth::places_kept_but, crate::proofs::PortGrowth::step_kept, crate::proofs::PortGrowth::step_kept_but))]
 fn emit_all(b: &mut Builder, l: Layout, r: &PortRegs, p: &PortStep) -> Result<(), NoMemory>
     requires small { l.from + l.places + 1 < 2 ^ 64 }
     requires places { HasPlaces b.old l l.places }

@@ -15,8 +15,9 @@ use Rattle.pdl_lock_ring.specs.declared.layout.Layout.{Layout}
 use Rattle.pdl_lock_ring.specs.Slots.{IsSized, Stands, content_signal}
 use Rattle.pdl_lock_ring.specs.Looks.{ready_signal, GivesWord}
 use Rattle.pdl_lock_ring.proofs.Seeking.{seeks_covered, seeks_late}
-use Rattle.pdl_lock_ring.proofs.Looked.{free_looked, free_youngest, all_older, word_given}
+use Rattle.pdl_lock_ring.proofs.LookValues.{free_looked, free_youngest, all_older, word_given}
 
+-- a look of a queue keeps its law, where its value is the array's word at the address
 pub look_law : (c : Circuit) (l : Layout) (u : Kind) (a t : Signal) (v : Option Net) → IsSized l → t.width ≡ l.ticket → GivesWord c l a v
     → LookLaw (Stands l) Queue l.ticket u a t (ready_signal l a t) (option_map (signal c) v)
 look_law c l u a t v z w g = record {
@@ -25,6 +26,7 @@ look_law c l u a t v z w g = record {
       word_given c l a v f s x.words g i h.words ∙ sym (ap or_zero (free_youngest (older x n) (a.value s) (Some (slice_index x.words (a.value s))) ready));
 }
 
+-- a late look of a queue keeps its law, where its value is the array's word at the address
 pub late_law : (c : Circuit) (l : Layout) (u : Kind) (a t : Signal) (v : Option Net) → IsSized l → t.width ≡ l.ticket → GivesWord c l a v
     → LateLookLaw (Stands l) Queue l.size l.ticket u a t (ready_signal l a t) (option_map (signal c) v)
 late_law c l u a t v z w g = record {

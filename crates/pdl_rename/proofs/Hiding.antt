@@ -220,6 +220,7 @@ module _ (l : Layout) (f : StepSignals) (s t : State) (z : IsRenaming l) (h : Sa
       (λ k lt. same_next c s t (value_at l.slots k) _ (n.places.place k lt) (place_after_same k lt))
       (λ k lt. same_next c s t (map_at l k) _ (n.map.map k lt) (map_after_same k lt))
 
+-- no written value comes into a register of a renaming lock, where these take what they should
 pub hides_law : (c : Circuit) (l : Layout) (f : StepSignals) → IsRenaming l → NextRename c l f → HidesValues c (own_rename l) f
 hides_law c l f z n = record {
   same = λ s t u v h i j r lo hi. i.regs r lo hi ∙ all_same l f s t z h c n r lo hi ∙ sym (j.regs r lo hi);

@@ -15,18 +15,18 @@ use Rattle.pdl_lock_ring.specs.Looks.{head_signal, slot_of}
 use Rattle.pdl_lock_ring.specs.Steps as ring
 use Rattle.pdl_lock_ring.specs.Steps.{written_slot, next_head, oldest_addr, next_addr, filled_value, slot_addr}
 use Rattle.pdl_lock_ring.proofs.Nums.{apart}
-use Rattle.pdl_lock_ring.proofs.Ring.{if_one, if_other, if_true, if_false, test_bit, mux_one, mux_zero, eq_one, eq_none}
+use Rattle.pdl_lock_ring.proofs.RingValues.{if_one, if_other, if_true, if_false, test_bit, mux_one, mux_zero, eq_one, eq_none}
 use Rattle.pdl_lock_ring.proofs.Fills.{content_place}
-use Rattle.pdl_lock_ring.proofs.Filled.{TicketsFit, Cycle, all_filled, length_filled, written_value, unwritten_value}
-use Rattle.pdl_lock_ring.proofs.Filled as filled
-use Rattle.pdl_lock_ring.proofs.Ended as ended
-use Rattle.pdl_lock_ring.proofs.Ended.{after_fill, ticket_value, oldest_addr_is, next_addr_is, oldest_value_is, next_value_is, by_release, by_release2, left, left_long, ValuesStay, entries_next}
+use Rattle.pdl_lock_ring.proofs.FilledSlots.{TicketsFit, Cycle, all_filled, length_filled, written_value, unwritten_value}
+use Rattle.pdl_lock_ring.proofs.FilledSlots as filled
+use Rattle.pdl_lock_ring.proofs.StepLaw as ended
+use Rattle.pdl_lock_ring.proofs.StepLaw.{after_fill, ticket_value, oldest_addr_is, next_addr_is, oldest_value_is, next_value_is, by_release, by_release2, left, left_long, ValuesStay, entries_next}
 use Rattle.pdl_rename.specs.declared.layout.Layout.{Layout}
 use Rattle.pdl_rename.specs.Places.{IsRenaming, Stands, AreApart, AreBelow, map_at, store_of, word_place, slot_place, placed_signal}
 use Rattle.pdl_rename.specs.Nets.{mapped_place, place_of, place_writes, one_put, stored_signal, oldest_place, next_place_of, oldest_value, next_value, freed_slot, freed2_slot, freed_place, freed2_place, NextRename, own_rename}
-use Rattle.pdl_rename.proofs.Chosen.{mapped_is}
-use Rattle.pdl_rename.proofs.Stored.{bit_one, slot_apart, both_equal, writes-push, length-writes, written_here, written_there, AreExchanged, exchanged_apart, apart_same}
-use Rattle.pdl_rename.proofs.Below.{asked_below, AllBelow, filled_below, step_below}
+use Rattle.pdl_rename.proofs.ChoiceWidths.{mapped_is}
+use Rattle.pdl_rename.proofs.ArrayPlaces.{bit_one, slot_apart, both_equal, writes-push, length-writes, written_here, written_there, AreExchanged, exchanged_apart, apart_same}
+use Rattle.pdl_rename.proofs.AddressBounds.{asked_below, AllBelow, filled_below, step_below}
 
 -- the addresses of the reserve ports have the bits of an address
 pub record AddressesFit (bits : ℕ) (f : StepSignals) : Type 0 where

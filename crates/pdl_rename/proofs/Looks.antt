@@ -15,11 +15,11 @@ use Rattle.pdl_lock_ring.specs.Slots.{HasEntries, content_signal}
 use Rattle.pdl_lock_ring.specs.Looks.{is_found, key_at, last_older, youngest_look, youngest_ready, youngest_value}
 use Rattle.pdl_lock_ring.specs.Choices.{least_of}
 use Rattle.pdl_lock_ring.proofs.Seeking.{Seeks, seeks_covered, seeks_late}
-use Rattle.pdl_lock_ring.proofs.Looked.{youngest_looked, value_looked, all_older, same_signal}
+use Rattle.pdl_lock_ring.proofs.LookValues.{youngest_looked, value_looked, all_older, same_signal}
 use Rattle.pdl_rename.specs.declared.layout.Layout.{Layout}
 use Rattle.pdl_rename.specs.Places.{IsRenaming, Stands, store_of, placed_signal}
 use Rattle.pdl_rename.specs.Nets.{mapped_place, found_word}
-use Rattle.pdl_rename.proofs.Chosen.{mapped_is}
+use Rattle.pdl_rename.proofs.ChoiceWidths.{mapped_is}
 
 -- what the array has at a choice of two places
 read_mux : (ws : List ℕ) (c x y : ℕ) → slice_index ws (words.mux c x y) ≡ words.mux c (slice_index ws x) (slice_index ws y)

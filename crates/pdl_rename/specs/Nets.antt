@@ -21,6 +21,7 @@ use Rattle.pdl_rename.specs.Places.{map_at, map_signal}
 abbrev pub registers_of_map : Layout → Registers
 registers_of_map l = record { first = l.map; count = l.depth; width = l.slots.kept }
 
+-- the registers of the slots' places
 abbrev pub registers_of_places : Layout → Registers
 registers_of_places l = record { first = l.slots.from + 2 + 2 * l.slots.size; count = l.slots.size; width = l.slots.kept }
 
@@ -36,6 +37,7 @@ ticket_place l t = selected_signal (register_of (registers_of_places l)) t (l.sl
 abbrev pub found_place : Layout → Signal → Signal → Signal
 found_place l a t = youngest_value l.slots (content_signal l.slots) (mapped_place l a) a t
 
+-- the word that the array has at the place found for an address
 abbrev pub found_word : Layout → Signal → Signal → Signal
 found_word l a t = read_signal l.slots.width l.array (found_place l a t)
 
@@ -43,9 +45,11 @@ found_word l a t = read_signal l.slots.width l.array (found_place l a t)
 abbrev pub place_of : Layout → StepSignals → ℕ → Signal
 place_of l f j = ticket_place l (ticket_at f.writes j).ticket
 
+-- write port j as a port of the array, at the place of its ticket's slot
 abbrev pub one_put : Layout → StepSignals → ℕ → WriteSignal
 one_put l f j = record { enable = (ticket_at f.writes j).enable; addr = place_of l f j; value = (ticket_at f.writes j).value }
 
+-- the first j write ports as ports of the array
 unfoldable pub place_writes : Layout → StepSignals → ℕ → List WriteSignal
 place_writes l f zero = []
 place_writes l f (suc j) = place_writes l f j ++ one_put l f j ∷ []
@@ -54,6 +58,7 @@ place_writes l f (suc j) = place_writes l f j ++ one_put l f j ∷ []
 abbrev pub oldest_place : Layout → StepSignals → Signal
 oldest_place l f = ring.oldest_value l.slots f
 
+-- the place of the pending write after the oldest
 abbrev pub next_place_of : Layout → StepSignals → Signal
 next_place_of l f = ring.next_value l.slots f
 
@@ -70,6 +75,7 @@ stored_signal l f slot place (suc j) = put_signal l f slot j (stored_signal l f 
 abbrev pub oldest_value : Layout → StepSignals → Signal
 oldest_value l f = stored_signal l f (slot_of l.slots (head_signal l.slots)) (oldest_place l f) (length f.writes)
 
+-- the value of the pending write after the oldest, after this cycle's writes
 abbrev pub next_value : Layout → StepSignals → Signal
 next_value l f = stored_signal l f (slot_of l.slots (next_head l.slots)) (next_place_of l f) (length f.writes)
 
@@ -77,6 +83,7 @@ next_value l f = stored_signal l f (slot_of l.slots (next_head l.slots)) (next_p
 abbrev pub freed_slot : Layout → StepSignals → Signal
 freed_slot l f = mux_signal f.release (slot_of l.slots (head_signal l.slots)) (const_signal l.slots.ticket l.slots.size)
 
+-- the slot that the second release frees, a number that no slot has where there is none
 abbrev pub freed2_slot : Layout → StepSignals → Signal
 freed2_slot l f = mux_signal f.release2 (slot_of l.slots (next_head l.slots)) (const_signal l.slots.ticket l.slots.size)
 
@@ -84,6 +91,7 @@ freed2_slot l f = mux_signal f.release2 (slot_of l.slots (next_head l.slots)) (c
 abbrev pub freed_place : Layout → StepSignals → Signal
 freed_place l f = mapped_place l (oldest_addr l.slots f)
 
+-- the place that the second release sets free: the oldest's where both are of one address, else the map's
 abbrev pub freed2_place : Layout → StepSignals → Signal
 freed2_place l f = mux_signal (bin_signal Eq (next_addr l.slots f) (oldest_addr l.slots f)) (oldest_place l f) (mapped_place l (next_addr l.slots f))
 
@@ -95,6 +103,7 @@ next_place l f k = mux_signal (bin_signal Eq (freed2_slot l f) (const_signal l.s
 abbrev pub first_map : Layout → StepSignals → ℕ → Signal
 first_map l f a = mux_signal f.release (mux_signal (bin_signal Eq (oldest_addr l.slots f) (const_signal l.slots.bits a)) (oldest_place l f) (map_signal l a)) (map_signal l a)
 
+-- the place of an address's word after both releases
 abbrev pub next_map : Layout → StepSignals → ℕ → Signal
 next_map l f a = mux_signal f.release2 (mux_signal (bin_signal Eq (next_addr l.slots f) (const_signal l.slots.bits a)) (next_place_of l f) (first_map l f a)) (first_map l f a)
 
@@ -131,8 +140,10 @@ pub record AreRenamed (c : Circuit) (l : Layout) (f : StepSignals) (n : LockNets
 abbrev pub own_map : Layout → Own
 own_map l = own_row l.map l.depth
 
+-- the array alone, without registers
 abbrev pub own_store : Layout → Own
 own_store l = record { from = 0; to = 0; first = l.array; last = l.array + 1 }
 
+-- all registers of the lock, and its array
 abbrev pub own_rename : Layout → Own
 own_rename l = record { from = l.slots.from; to = l.slots.from + (2 + 3 * l.slots.size + l.depth); first = l.array; last = l.array + 1 }

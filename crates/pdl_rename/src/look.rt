@@ -40,7 +40,7 @@ pub fn place_registers(l: Layout) -> Registers
 }
 
 /// The place of an address's word.
-#[tactic(auto, using(crate::proofs::Made::map_there))]
+#[tactic(auto, using(crate::proofs::MadeRegisters::map_there))]
 pub fn emit_mapped(b: &mut Builder, l: Layout, addr: Net) -> Result<Net, NoMemory>
     requires renaming { IsRenaming l }
     requires map { HasMap b.old l l.depth }
@@ -54,7 +54,7 @@ pub fn emit_mapped(b: &mut Builder, l: Layout, addr: Net) -> Result<Net, NoMemor
 }
 
 /// The nets of a look: whether it is ready, and its value.
-#[tactic(auto, using(pdl_lock_ring::proofs::Kept::slots_kept, pdl_lock_ring::proofs::Reserves::picked_means, crate::proofs::Made::map_kept, crate::proofs::Made::store_kept, crate::proofs::Chosen::widths))]
+#[tactic(auto, using(pdl_lock_ring::proofs::RingGrowth::slots_kept, pdl_lock_ring::proofs::Reserves::picked_means, crate::proofs::MadeRegisters::map_kept, crate::proofs::MadeRegisters::store_kept, crate::proofs::ChoiceWidths::widths))]
 pub fn emit_look(
     b: &mut Builder,
     l: Layout,

@@ -17,7 +17,7 @@ use pdl_lockapi::LockPorts;
 use pdl_net::{BinOp, Net};
 
 /// The place of an address's word after the first release.
-#[tactic(auto, using(pdl_lock_ring::proofs::Ends::release_is, crate::proofs::Made::map_kept))]
+#[tactic(auto, using(pdl_lock_ring::proofs::Ends::release_is, crate::proofs::MadeRegisters::map_kept))]
 fn emit_first_word(
     b: &mut Builder,
     l: Layout,
@@ -41,7 +41,7 @@ fn emit_first_word(
 }
 
 /// What the map has next for an address.
-#[tactic(auto, using(pdl_lock_ring::proofs::Ends::release_is, pdl_lock_ring::proofs::Kept::oldest_kept, crate::proofs::Made::map_kept))]
+#[tactic(auto, using(pdl_lock_ring::proofs::Ends::release_is, pdl_lock_ring::proofs::RingGrowth::oldest_kept, crate::proofs::MadeRegisters::map_kept))]
 fn emit_word(b: &mut Builder, l: Layout, p: &LockPorts, o: Oldest, a: usize) -> Result<(), NoMemory>
     requires renaming { IsRenaming l }
     requires map { HasMap b.old l l.depth }

@@ -30,7 +30,7 @@ pub struct Freed {
 }
 
 /// The place that the second release sets free: that of the word which the first has left.
-#[tactic(auto, using(crate::proofs::Chosen::widths, pdl_lock_ring::proofs::Kept::oldest_kept))]
+#[tactic(auto, using(crate::proofs::ChoiceWidths::widths, pdl_lock_ring::proofs::RingGrowth::oldest_kept))]
 fn emit_freed2(b: &mut Builder, l: Layout, p: &LockPorts, o: Oldest) -> Result<Net, NoMemory>
     requires renaming { IsRenaming l }
     requires map { HasMap b.old l l.depth }
@@ -45,7 +45,7 @@ fn emit_freed2(b: &mut Builder, l: Layout, p: &LockPorts, o: Oldest) -> Result<N
 }
 
 /// What a cycle's releases set free.
-#[tactic(auto, using(pdl_lock_ring::proofs::Kept::ports_kept, pdl_lock_ring::proofs::Kept::oldest_kept, crate::proofs::Made::map_kept, crate::proofs::Chosen::widths))]
+#[tactic(auto, using(pdl_lock_ring::proofs::RingGrowth::ports_kept, pdl_lock_ring::proofs::RingGrowth::oldest_kept, crate::proofs::MadeRegisters::map_kept, crate::proofs::ChoiceWidths::widths))]
 pub fn emit_freed(b: &mut Builder, l: Layout, p: &LockPorts, o: Oldest) -> Result<Freed, NoMemory>
     requires renaming { IsRenaming l }
     requires map { HasMap b.old l l.depth }
@@ -68,7 +68,7 @@ pub fn emit_freed(b: &mut Builder, l: Layout, p: &LockPorts, o: Oldest) -> Resul
 }
 
 /// What slot k's place takes next.
-#[tactic(auto, using(pdl_lock_ring::proofs::Kept::ports_kept))]
+#[tactic(auto, using(pdl_lock_ring::proofs::RingGrowth::ports_kept))]
 fn emit_place(b: &mut Builder, l: Layout, p: &LockPorts, f: Freed, k: usize) -> Result<(), NoMemory>
     requires renaming { IsRenaming l }
     requires given { HasPorts b.old l.slots p.now }

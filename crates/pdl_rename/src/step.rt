@@ -28,7 +28,7 @@ use pdl_lockapi::{LockNets, LockPorts};
 use pdl_net::{BinOp, Net};
 
 /// The word of a slot after write port j, from what was before it.
-#[tactic(auto, using(pdl_lock_ring::proofs::Fills::ticket_is, pdl_lock_ring::proofs::Kept::ports_kept))]
+#[tactic(auto, using(pdl_lock_ring::proofs::Fills::ticket_is, pdl_lock_ring::proofs::RingGrowth::ports_kept))]
 fn emit_put_word(
     b: &mut Builder,
     l: Layout,
@@ -58,7 +58,7 @@ fn emit_put_word(
 }
 
 /// The word at a place, which is that of a slot, after this cycle's writes.
-#[tactic(auto, using(crate::proofs::Words::storing, pdl_lock_ring::proofs::Kept::ports_kept))]
+#[tactic(auto, using(crate::proofs::Words::storing, pdl_lock_ring::proofs::RingGrowth::ports_kept))]
 fn emit_stored(
     b: &mut Builder,
     l: Layout,
@@ -87,7 +87,7 @@ fn emit_stored(
 }
 
 /// The words that a cycle's releases commit.
-#[tactic(auto, using(pdl_lock_ring::proofs::Kept::ports_kept, pdl_lock_ring::proofs::Kept::oldest_kept, crate::proofs::Made::store_kept))]
+#[tactic(auto, using(pdl_lock_ring::proofs::RingGrowth::ports_kept, pdl_lock_ring::proofs::RingGrowth::oldest_kept, crate::proofs::MadeRegisters::store_kept))]
 fn emit_words(b: &mut Builder, l: Layout, p: &LockPorts, o: Oldest) -> Result<(Net, Net), NoMemory>
     requires renaming { IsRenaming l }
     requires given { HasPorts b.old l.slots p.now }
@@ -108,7 +108,7 @@ fn emit_words(b: &mut Builder, l: Layout, p: &LockPorts, o: Oldest) -> Result<(N
 }
 
 /// The commit ports.
-#[tactic(auto, using(pdl_lock_ring::proofs::Ends::release_is, pdl_lock_ring::proofs::Kept::ports_kept, pdl_lock_ring::proofs::Kept::oldest_kept))]
+#[tactic(auto, using(pdl_lock_ring::proofs::Ends::release_is, pdl_lock_ring::proofs::RingGrowth::ports_kept, pdl_lock_ring::proofs::RingGrowth::oldest_kept))]
 fn emit_commits(b: &mut Builder, l: Layout, p: &LockPorts, o: Oldest) -> Result<LockNets, NoMemory>
     requires renaming { IsRenaming l }
     requires given { HasPorts b.old l.slots p.now }
@@ -131,7 +131,7 @@ fn emit_commits(b: &mut Builder, l: Layout, p: &LockPorts, o: Oldest) -> Result<
 }
 
 /// Write port j as a port of the array, at the place of its ticket's slot.
-#[tactic(auto, using(pdl_lock_ring::proofs::Fills::ticket_is, crate::proofs::Chosen::widths, crate::proofs::Made::places_there, crate::proofs::Made::store_kept))]
+#[tactic(auto, using(pdl_lock_ring::proofs::Fills::ticket_is, crate::proofs::ChoiceWidths::widths, crate::proofs::MadeRegisters::places_there, crate::proofs::MadeRegisters::store_kept))]
 fn emit_put(b: &mut Builder, l: Layout, p: &LockPorts, j: usize) -> Result<(), NoMemory>
     requires renaming { IsRenaming l }
     requires given { HasPorts b.old l.slots p.now }

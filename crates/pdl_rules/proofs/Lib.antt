@@ -3,9 +3,9 @@ mod Rows
 mod ForkRows
 mod GuessRows
 pub mod Counts
-pub mod Once
-pub mod Typing
-pub mod Defined
+pub mod SingleWrites
+pub mod TypedExpressions
+pub mod KnownVariables
 pub mod Memories
 pub mod ToldMemories
 pub mod Unbroken

@@ -10,8 +10,8 @@ use Rattle.pdl_rules.specs.Parts.{is_some_and}
 use Rattle.pdl_rules.specs.Widths.{mem_depth, address_bits}
 use Rattle.pdl_rules.specs.Typed.{is_memory, AreDistinct, IsSized, AreSized}
 use Rattle.pdl_rules.proofs.EachPlace.{Each}
-use Rattle.pdl_rules.proofs.Once.{any_front, any_last}
-use Rattle.pdl_rules.proofs.Defined.{takes_name}
+use Rattle.pdl_rules.proofs.SingleWrites.{any_front, any_last}
+use Rattle.pdl_rules.proofs.KnownVariables.{takes_name}
 use Rattle.pdl_rules.specs.Names.{breaks_n2}
 
 -- DEPTHS
@@ -30,6 +30,7 @@ is_reached d = (2 ^ address_bits d == d) && (nat_le 1 (address_bits d) && nat_le
 reached : (d : ℕ) → is_depth d ≡ true → is_reached d ≡ true
 reached d e = of_each is_reached depths d refl e
 
+-- 2 to the power of the address bits of an allowed depth is that depth
 pub bits_reach : (d : ℕ) → is_depth d ≡ true → 2 ^ address_bits d ≡ d
 bits_reach d e = eqb-true (2 ^ address_bits d) d (and_parts _ (nat_le 1 (address_bits d) && nat_le (address_bits d) 16) (reached d e)).0
 
@@ -49,6 +50,7 @@ pub record Keeps (p : Pipe) (before : List Place) (x : Place) : Type 0 where
 abbrev pub has_depth : Mem → Bool
 has_depth m = is_depth m.depth.value
 
+-- a memory that keeps Z7 has a width from 1 to 64 and an allowed depth
 pub shape : (m : Mem) → breaks_z7 (Memory m) ≡ false → (is_width m.width.value ≡ true) × (has_depth m ≡ true)
 shape m e = and_parts (is_width m.width.value) (has_depth m) (not-false _ (or_parts _ (is_some_and (is_wrong_lock m) m.lock) e).0)
 
@@ -66,14 +68,17 @@ sized_one m e =
       power = sym (bits_reach m.depth.value both.1);
     }
 
+-- memories that keep Z7 and N2 have words of 1 to 64 bits, and a power of two of them, from 2 to 65,536
 pub sized : (p : Pipe) (ms : List Mem) (before : List Place) → Each (Keeps p) before (map Memory ms) → AreSized ms
 sized p [] before each = tt
 sized p (m ∷ ms) before each = (sized_one m each.0.z7, sized p ms (before ++ Memory m ∷ []) each.1)
 
+-- memories that keep Z7 and N2 all have an allowed depth
 pub all_deep : (p : Pipe) (ms : List Mem) (before : List Place) → Each (Keeps p) before (map Memory ms) → list_all has_depth ms ≡ true
 all_deep p [] before each = refl
 all_deep p (m ∷ ms) before each = and_from (has_depth m) (list_all has_depth ms) (shape m each.0.z7).1 (all_deep p ms (before ++ Memory m ∷ []) each.1)
 
+-- the depth of a memory, by its name, is allowed where all memories of the list have an allowed depth
 pub deep : (ms : List Mem) (m : List ℕ) → list_all has_depth ms ≡ true → IsTrue (is_memory ms m) → is_depth (mem_depth ms m) ≡ true
 deep [] m all e = absurd (false≢true e)
 deep (x ∷ ms) m all e =
@@ -95,6 +100,7 @@ not_again p n (m ∷ ms) before h each =
     (false_from_ne_true (bytes_eq m.name.name n) (λ e. both_ways (list_any (takes_name m.name.name) before) free (h m.name.name e)))
     (not_again p n ms (before ++ Memory m ∷ []) (λ x e. any_front (takes_name x) before (Memory m) (h x e)) each.1)
 
+-- no two memories have one name, where they keep Z7 and N2
 pub distinct : (p : Pipe) (ms : List Mem) (before : List Place) → Each (Keeps p) before (map Memory ms) → AreDistinct ms
 distinct p [] before each = tt
 distinct p (m ∷ ms) before each = (

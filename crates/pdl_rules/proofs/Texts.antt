@@ -4,74 +4,96 @@ use Rattle.std.specs.Prelude.{ℕ, ◌+◌, true, false, List, [], ◌∷◌, Op
 use Rattle.pdl_semantics.specs.Tree.{Span, Ident, Number, Literal, Add, Expr, Constant, Variable, Slice, Binary, Location, Kind, Stmt, Separator, CombRead, Bind, SpecCall, DelayedRead, Write, Reserve, Block, Release, If, Call, Verify, SpecCheck, SpecBarrier, stmts_of, Queue, LockDecl, Param, Mem, Pipe}
 
 -- the byte 0 of a line
-abbrev pub on_line : ℕ → Span
+abbrev on_line : ℕ → Span
 on_line k = record { start = 0; end = 0; line = k }
 
+-- a name that stands on line k
 abbrev pub ident : ℕ → String → Ident
 ident k x = record { name = codes x; span = on_line k }
 
+-- a number, on line 0
 abbrev pub number : ℕ → Number
 number n = record { value = n; span = on_line 0 }
 
+-- a literal of this width and value
 abbrev pub literal : ℕ → ℕ → Literal
 literal width value = record { width = width; value = Some value; span = on_line 0 }
 
+-- a literal as an expression
 abbrev pub constant : ℕ → ℕ → Expr
 constant width value = Constant (literal width value)
 
+-- a variable as an expression
 abbrev pub variable : String → Expr
 variable x = Variable (ident 0 x)
 
+-- the bits of a variable from `high` down to `low`
 abbrev pub slice : String → ℕ → ℕ → Expr
 slice x high low = Slice (ident 0 x) (number high) (number low)
 
+-- the sum of two expressions
 abbrev pub plus : Expr → Expr → Expr
 plus a b = Binary Add a b
 
+-- the location in a memory at an address
 abbrev pub location : String → String → Location
 location m a = record { mem = ident 0 m; address = ident 0 a }
 
 -- STATEMENTS, each on the line that it is told
 
+-- a statement, once it is told its line
 abbrev pub Line : Type 0
 Line = ℕ → Stmt
 
+-- the separator of two stages
 abbrev pub separator : Line
 separator k = Separator (on_line k)
 
+-- the binding of a variable to an expression
 abbrev pub bind : String → Expr → Line
 bind x e k = Bind (on_line k) (ident k x) e
 
+-- a comb read of a location, which binds a variable
 abbrev pub read : String → String → String → Line
 read x m a k = CombRead (on_line k) (ident k x) (location m a)
 
+-- the write of an expression's value to a location
 abbrev pub write : String → String → Expr → Line
 write m a e k = Write (on_line k) (location m a) e
 
+-- the reservation of a location, to be read or to be written
 abbrev pub reserve : String → String → Kind → Line
 reserve m a kind k = Reserve (on_line k) (location m a) kind
 
+-- the block of a location
 abbrev pub block : String → String → Line
 block m a k = Block (on_line k) (location m a)
 
+-- the release of a location
 abbrev pub release : String → String → Line
 release m a k = Release (on_line k) (location m a)
 
+-- the call of the next thread with its arguments
 abbrev pub call : List Expr → Line
 call args k = Call (on_line k) args
 
+-- a delayed read of a location, which binds a variable
 abbrev pub delayed_read : String → String → String → Line
 delayed_read x m a k = DelayedRead (on_line k) (ident k x) (location m a)
 
+-- the call of the next thread on a guess, which it names
 abbrev pub spec_call : String → List Expr → Line
 spec_call s args k = SpecCall (on_line k) (ident k s) args
 
+-- the `verify` of a guess, with the right arguments
 abbrev pub verify : String → List Expr → Line
 verify s args k = Verify (on_line k) (ident k s) args
 
+-- a `spec_check`
 abbrev pub spec_check : Line
 spec_check k = SpecCheck (on_line k)
 
+-- a `spec_barrier`
 abbrev pub spec_barrier : Line
 spec_barrier k = SpecBarrier (on_line k)
 
@@ -86,16 +108,20 @@ choice g when otherwise k = If (on_line k) (variable g) (stmts_of (from_line (k 
 
 -- PIPES
 
+-- a queue lock of this size
 abbrev pub queue : ℕ → Option LockDecl
 queue size = Some (record { kind = Queue; size = number size })
 
+-- a parameter of this width, on line 1
 abbrev pub param : String → ℕ → Param
 param x width = record { name = ident 1 x; width = number width }
 
+-- a comb memory on line k, with its width, depth and lock
 abbrev pub comb : ℕ → String → ℕ → ℕ → Option LockDecl → Mem
 comb k m width depth lock =
     record { name = ident k m; width = number width; depth = number depth; delayed = false; lock = lock }
 
+-- a delayed memory on line k, with its width, depth and lock
 abbrev pub slow : ℕ → String → ℕ → ℕ → Option LockDecl → Mem
 slow k m width depth lock =
     record { name = ident k m; width = number width; depth = number depth; delayed = true; lock = lock }

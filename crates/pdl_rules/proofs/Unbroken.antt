@@ -8,6 +8,7 @@ use Rattle.pdl_rules.specs.Refusal.{breaks_rule, limits, after_limits, broken_li
 use Rattle.pdl_rules.proofs.EachPlace.{Each, each_back}
 use Rattle.pdl_word.proofs.Bools.{none_given}
 
+-- where there is no refusal, this rule has no line at which it is broken, and the others have no refusal
 pub no_refusal : (r : Rule) (line : Option ℕ) (others : Option Refused) → refused_at r line others ≡ None → (line ≡ None) × (others ≡ None)
 no_refusal r (Some line) others e = cc
 no_refusal r None others e = (refl, e)
@@ -27,6 +28,7 @@ unbroken p (r ∷ rs) zero e before x later same =
     (each_back (λ front y. breaks_rule r p front y ≡ false) before (x ∷ later) [] (subst (Each (λ front y. breaks_rule r p front y ≡ false) []) same none)).0
 unbroken p (r ∷ rs) (suc k) e before x later same = unbroken p rs k (no_refusal r (broken_line r p [] (places p)) (first_broken rs p) e).1 before x later same
 
+-- a pipe of which no rule of the tree is broken first breaks no rule at any place
 pub keeps_unbroken : (p : Pipe) → first_broken (limits ++ after_limits) p ≡ None → KeepsRules p
 keeps_unbroken p e Z2 = unbroken p (limits ++ after_limits) 0 e
 keeps_unbroken p e Z3 = unbroken p (limits ++ after_limits) 1 e

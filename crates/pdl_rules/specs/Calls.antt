@@ -20,6 +20,7 @@ calls (Verify _ _ _) = false
 calls (SpecCheck _) = false
 calls (SpecBarrier _) = false
 
+-- whether a place calls the next thread, on a guess or not
 abbrev pub is_call : Place → Bool
 is_call x = at_statement false (λ s bs. calls s) x
 
@@ -40,6 +41,7 @@ calls_again earlier (Verify _ _ _) = false
 calls_again earlier (SpecCheck _) = false
 calls_again earlier (SpecBarrier _) = false
 
+-- whether a place calls again after the earlier ones, or is the end where none of them calls
 abbrev pub is_wrong_call : List Place → Place → Bool
 is_wrong_call earlier (Parameter _) = false
 is_wrong_call earlier (Memory _) = false
@@ -47,5 +49,6 @@ is_wrong_call earlier (Statement s _) = calls_again earlier s
 is_wrong_call earlier (End _) = not (list_any is_call earlier)
 is_wrong_call earlier (StartClause _) = false
 
+-- S1 at a place: on some path it is a second call, or the end without any call
 abbrev pub breaks_s1 : Pipe → List Place → Place → Bool
 breaks_s1 p before x = on_some_path (λ earlier. is_wrong_call earlier x) p before x

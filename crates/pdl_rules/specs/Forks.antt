@@ -30,6 +30,7 @@ is_trunk_only (Verify _ _ _) = true
 is_trunk_only (SpecCheck _) = true
 is_trunk_only (SpecBarrier _) = true
 
+-- F1 at a place: a reserve, a release, or a call or guess statement, in a branch that holds a separator
 abbrev pub breaks_f1 : Place → Bool
 breaks_f1 x = at_statement false (λ s bs. is_trunk_only s && list_any (λ (b : Branch). holds_separator b.inside) bs) x
 
@@ -42,10 +43,12 @@ abbrev pub places_in : List Stmts → ℕ
 places_in [] = 0
 places_in (ss ∷ rest) = length (statements [] ss) + places_in rest
 
+-- whether the first of these places is a separator
 abbrev pub starts_with_separator : List Place → Bool
 starts_with_separator [] = false
 starts_with_separator (x ∷ xs) = is_separator x
 
+-- whether what has these branches around it stands in any
 abbrev pub is_in_branch : List Branch → Bool
 is_in_branch [] = false
 is_in_branch (b ∷ bs) = true
@@ -55,6 +58,7 @@ abbrev pub is_wrong_fork : List Place → Stmt → List Branch → Bool
 is_wrong_fork later s bs =
     is_fork s && (is_in_branch bs || not (starts_with_separator (drop (places_in (parts_of s).branches) later)))
 
+-- F2 at a place: a fork in a branch, or one that no separator follows directly
 abbrev pub breaks_f2 : Pipe → List Place → Place → Bool
 breaks_f2 p before x = at_statement false (λ s bs. is_wrong_fork (places_after p before) s bs) x
 
@@ -65,6 +69,7 @@ breaks_fetch_order m x = at_statement false (λ s bs. fetches (λ at. bytes_eq a
 abbrev pub is_wrong_fetch : Pipe → List Place → ℕ → Location → Bool
 is_wrong_fetch p before k at = (k == stage_after (places p)) || list_any (breaks_fetch_order at.mem.name) before
 
+-- F3 at a place: a delayed read in the last stage, or of a memory that a delayed read before it reads
 abbrev pub breaks_f3 : Pipe → List Place → Place → Bool
 breaks_f3 p before x = at_statement false (λ s bs. fetches (is_wrong_fetch p before (stage_in before bs)) s) x
 
@@ -73,6 +78,7 @@ abbrev pub is_delayed_memory : List Mem → List ℕ → Bool
 is_delayed_memory [] m = false
 is_delayed_memory (x ∷ xs) m = if bytes_eq x.name.name m then x.delayed else is_delayed_memory xs m
 
+-- whether a statement is a comb read of a delayed memory, or a delayed read of a comb one
 abbrev pub is_wrong_read : List Mem → Stmt → Bool
 is_wrong_read ms (Separator _) = false
 is_wrong_read ms (CombRead _ _ at) = is_delayed_memory ms at.mem.name
@@ -89,5 +95,6 @@ is_wrong_read ms (Verify _ _ _) = false
 is_wrong_read ms (SpecCheck _) = false
 is_wrong_read ms (SpecBarrier _) = false
 
+-- F4 at a place: a read of the other kind than its memory's
 abbrev pub breaks_f4 : Pipe → Place → Bool
 breaks_f4 p x = at_statement false (λ s bs. is_wrong_read p.mems s) x

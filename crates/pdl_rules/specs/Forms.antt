@@ -121,6 +121,7 @@ guesses test (Verify _ _ _) = false
 guesses test (SpecCheck _) = false
 guesses test (SpecBarrier _) = false
 
+-- the `verify` of a guess that passes the test
 abbrev pub verifies : (Ident → Bool) → Stmt → Bool
 verifies test (Separator _) = false
 verifies test (CombRead _ _ _) = false

@@ -15,6 +15,7 @@ is_too_long source = nat_lt 1048576 (length source)
 abbrev pub is_statement : Place → Bool
 is_statement x = at_statement false (λ s bs. true) x
 
+-- Z2 at a place: a statement with 1,024 statements before it
 abbrev pub breaks_z2 : List Place → Place → Bool
 breaks_z2 before x = is_statement x && (count_by is_statement before == 1024)
 
@@ -22,6 +23,7 @@ breaks_z2 before x = is_statement x && (count_by is_statement before == 1024)
 abbrev pub is_separator : Place → Bool
 is_separator x = at_statement false (λ s bs. separates s) x
 
+-- Z3 at a place: a separator with 63 separators before it
 abbrev pub breaks_z3 : List Place → Place → Bool
 breaks_z3 before x = is_separator x && (count_by is_separator before == 63)
 
@@ -33,6 +35,7 @@ is_memory (Statement _ _) = false
 is_memory (End _) = false
 is_memory (StartClause _) = false
 
+-- Z4 at a place: a memory with 16 memories before it
 abbrev pub breaks_z4 : List Place → Place → Bool
 breaks_z4 before x = is_memory x && (count_by is_memory before == 16)
 
@@ -40,6 +43,7 @@ breaks_z4 before x = is_memory x && (count_by is_memory before == 16)
 abbrev pub binds_name : Stmt → Bool
 binds_name s = is_some (parts_of s).variable || is_some (parts_of s).guess
 
+-- whether a place defines a parameter, a variable or a guess
 abbrev pub is_binding : Place → Bool
 is_binding (Parameter _) = true
 is_binding (Memory _) = false
@@ -47,6 +51,7 @@ is_binding (Statement s _) = binds_name s
 is_binding (End _) = false
 is_binding (StartClause _) = false
 
+-- Z5 at a place: a parameter, variable or guess with 512 of these before it
 abbrev pub breaks_z5 : List Place → Place → Bool
 breaks_z5 before x = is_binding x && (count_by is_binding before == 512)
 
@@ -54,6 +59,7 @@ breaks_z5 before x = is_binding x && (count_by is_binding before == 512)
 abbrev pub adds_guard : List Place → Guard → Bool
 adds_guard before g = not (is_among g (guards before)) && (length (guards before) == 10)
 
+-- Z6 at a place: an `if` whose guard is not one of the ten before it
 abbrev pub breaks_z6 : List Place → Place → Bool
 breaks_z6 before x = at_statement false (λ s bs. of_if false (λ from c. adds_guard before (guard_of from c)) s) x
 
@@ -65,6 +71,7 @@ is_width w = nat_le 1 w && nat_le w 64
 abbrev pub depths : List ℕ
 depths = 2 ∷ 4 ∷ 8 ∷ 16 ∷ 32 ∷ 64 ∷ 128 ∷ 256 ∷ 512 ∷ 1024 ∷ 2048 ∷ 4096 ∷ 8192 ∷ 16384 ∷ 32768 ∷ 65536 ∷ []
 
+-- whether a number is an allowed depth
 abbrev pub is_depth : ℕ → Bool
 is_depth d = list_any (λ n. n == d) depths
 
@@ -78,15 +85,18 @@ allows_lock d delayed Queue s = true
 allows_lock d delayed Bypass s = not delayed
 allows_lock d delayed Rename s = not delayed && (nat_le d 64 && nat_le s d)
 
+-- whether a lock has no allowed size, or is none that this memory can have
 abbrev pub is_wrong_lock : Mem → LockDecl → Bool
 is_wrong_lock m l = not (is_size l.size.value && allows_lock m.depth.value m.delayed l.kind l.size.value)
 
 abbrev pub is_wrong_memory : Mem → Bool
 is_wrong_memory m = not (is_width m.width.value && is_depth m.depth.value) || is_some_and (is_wrong_lock m) m.lock
 
+-- whether a literal's width is not from 1 to 64
 abbrev pub is_wrong_literal : Literal → Bool
 is_wrong_literal l = not (is_width l.width)
 
+-- Z7 at a place: a width that is not from 1 to 64, or a depth, lock or size that is not allowed
 abbrev pub breaks_z7 : Place → Bool
 breaks_z7 (Parameter a) = not (is_width a.width.value)
 breaks_z7 (Memory m) = is_wrong_memory m

@@ -28,14 +28,17 @@ lacks_lock ms (Verify _ _ _) = false
 lacks_lock ms (SpecCheck _) = false
 lacks_lock ms (SpecBarrier _) = false
 
+-- F5 at a place: a reserve, block, write or release of a memory without lock
 abbrev pub breaks_f5 : Pipe → Place → Bool
 breaks_f5 p x = at_statement false (λ s bs. lacks_lock p.mems s) x
 
 -- THE STATE OF A LOCATION
 
+-- whether two locations are of one memory and one address by their names
 abbrev pub same_location : Location → Location → Bool
 same_location a b = bytes_eq a.mem.name b.mem.name && bytes_eq a.address.name b.address.name
 
+-- whether two reservations are of one kind, to be read or to be written
 abbrev pub same_kind : Kind → Kind → Bool
 same_kind R R = true
 same_kind R W = false
@@ -49,6 +52,7 @@ pub data Hold : Type 0 where
   Blocked : (kind : Kind) → Hold
   Released : Hold
 
+-- what is held after a block: what was reserved is blocked
 abbrev pub after_block : Hold → Hold
 after_block Nothing = Nothing
 after_block (Reserved k) = Blocked k
@@ -71,6 +75,7 @@ after_statement at h (Verify _ _ _) = h
 after_statement at h (SpecCheck _) = h
 after_statement at h (SpecBarrier _) = h
 
+-- what is held of a location after a place, by what was held before it
 abbrev pub after_place : Location → Hold → Place → Hold
 after_place at h x = at_statement h (λ s bs. after_statement at h s) x
 
@@ -78,24 +83,28 @@ after_place at h x = at_statement h (λ s bs. after_statement at h s) x
 abbrev pub hold_after : Location → List Place → Hold
 hold_after at earlier = fold (after_place at) Nothing earlier
 
+-- whether a location is reserved and not yet blocked
 abbrev pub is_reserved : Hold → Bool
 is_reserved Nothing = false
 is_reserved (Reserved _) = true
 is_reserved (Blocked _) = false
 is_reserved Released = false
 
+-- whether a location is blocked, for either kind
 abbrev pub is_blocked : Hold → Bool
 is_blocked Nothing = false
 is_blocked (Reserved _) = false
 is_blocked (Blocked _) = true
 is_blocked Released = false
 
+-- whether a location is blocked for this kind
 abbrev pub is_blocked_for : Kind → Hold → Bool
 is_blocked_for k Nothing = false
 is_blocked_for k (Reserved _) = false
 is_blocked_for k (Blocked j) = same_kind k j
 is_blocked_for k Released = false
 
+-- whether a location is reserved or blocked for this kind
 abbrev pub is_held_for : Kind → Hold → Bool
 is_held_for k Nothing = false
 is_held_for k (Reserved j) = same_kind k j
@@ -119,9 +128,11 @@ acts_unheld ms earlier (Verify _ _ _) = false
 acts_unheld ms earlier (SpecCheck _) = false
 acts_unheld ms earlier (SpecBarrier _) = false
 
+-- whether a place has a statement without the hold that it needs
 abbrev pub lacks_hold : Pipe → List Place → Place → Bool
 lacks_hold p earlier x = at_statement false (λ s bs. acts_unheld p.mems earlier s) x
 
+-- L1 at a place: on some path its statement lacks the hold that it needs
 abbrev pub breaks_l1 : Pipe → List Place → Place → Bool
 breaks_l1 p before x = on_some_path (λ earlier. lacks_hold p earlier x) p before x
 
@@ -131,6 +142,7 @@ breaks_l1 p before x = on_some_path (λ earlier. lacks_hold p earlier x) p befor
 abbrev pub is_reserve_of : Kind → List ℕ → Place → Bool
 is_reserve_of k m x = at_statement false (λ s bs. reserves (λ at j. same_kind k j && bytes_eq at.mem.name m) s) x
 
+-- whether a place writes the memory
 abbrev pub is_write_of : List ℕ → Place → Bool
 is_write_of m x = at_statement false (λ s bs. writes (λ at e. bytes_eq at.mem.name m) s) x
 
@@ -152,9 +164,11 @@ reads_late earlier (Verify _ _ _) = false
 reads_late earlier (SpecCheck _) = false
 reads_late earlier (SpecBarrier _) = false
 
+-- whether a place reads after a write of the memory, or reserves it to be read after a write reservation
 abbrev pub is_late_read : List Place → Place → Bool
 is_late_read earlier x = at_statement false (λ s bs. reads_late earlier s) x
 
+-- L3 at a place: on some path a read, or a reservation to be read, that comes too late
 abbrev pub breaks_l3 : Pipe → List Place → Place → Bool
 breaks_l3 p before x = on_some_path (λ earlier. is_late_read earlier x) p before x
 
@@ -163,10 +177,12 @@ abbrev pub most_reservations : Kind → ℕ
 most_reservations R = 4
 most_reservations W = 1
 
+-- whether a place makes one reservation of its memory more than there may be of this kind
 abbrev pub is_one_too_many : List Place → Place → Bool
 is_one_too_many earlier x =
     at_statement false (λ s bs. reserves (λ at k. nat_le (most_reservations k) (count_by (is_reserve_of k at.mem.name) earlier)) s) x
 
+-- L4 at a place: on some path one reservation too many of a memory
 abbrev pub breaks_l4 : Pipe → List Place → Place → Bool
 breaks_l4 p before x = on_some_path (λ earlier. is_one_too_many earlier x) p before x
 
@@ -174,9 +190,11 @@ breaks_l4 p before x = on_some_path (λ earlier. is_one_too_many earlier x) p be
 abbrev pub reserves_location : Location → Place → Bool
 reserves_location l x = at_statement false (λ s bs. reserves (λ at k. same_location at l) s) x
 
+-- whether a place reserves a location that an earlier one reserves
 abbrev pub is_reserved_again : List Place → Place → Bool
 is_reserved_again earlier x = at_statement false (λ s bs. reserves (λ at k. list_any (reserves_location at) earlier) s) x
 
+-- L5 at a place: on some path it reserves a location again
 abbrev pub breaks_l5 : Pipe → List Place → Place → Bool
 breaks_l5 p before x = on_some_path (λ earlier. is_reserved_again earlier x) p before x
 
@@ -187,9 +205,11 @@ writes_location l x = at_statement false (λ s bs. writes (λ at e. same_locatio
 abbrev pub is_not_written : List Place → Location → Bool
 is_not_written earlier at = is_held_for W (hold_after at earlier) && not (count_by (writes_location at) earlier == 1)
 
+-- whether a place releases a write reservation through which there was not exactly one write
 abbrev pub is_not_written_once : List Place → Place → Bool
 is_not_written_once earlier x = at_statement false (λ s bs. releases (is_not_written earlier) s) x
 
+-- L6 at a place: on some path it releases a write reservation without exactly one write
 abbrev pub breaks_l6 : Pipe → List Place → Place → Bool
 breaks_l6 p before x = on_some_path (λ earlier. is_not_written_once earlier x) p before x
 
@@ -200,9 +220,11 @@ is_unreleased (Reserved _) = true
 is_unreleased (Blocked _) = true
 is_unreleased Released = false
 
+-- whether a place reserves a location that is not released after these places
 abbrev pub leaves_open : List Place → Place → Bool
 leaves_open earlier x = at_statement false (λ s bs. reserves (λ at k. is_unreleased (hold_after at earlier)) s) x
 
+-- whether a place is the end, and an earlier one reserves a location that is not released
 abbrev pub ends_open : List Place → Place → Bool
 ends_open earlier (Parameter _) = false
 ends_open earlier (Memory _) = false
@@ -210,5 +232,6 @@ ends_open earlier (Statement _ _) = false
 ends_open earlier (End _) = list_any (leaves_open earlier) earlier
 ends_open earlier (StartClause _) = false
 
+-- L7 at a place: on some path it is the end, with a location reserved and not released
 abbrev pub breaks_l7 : Pipe → List Place → Place → Bool
 breaks_l7 p before x = on_some_path (λ earlier. ends_open earlier x) p before x

@@ -9,6 +9,7 @@ use Rattle.pdl_rules.specs.Limits.{is_separator}
 
 -- DEFINITIONS
 
+-- the bytes of a name, where there is one
 abbrev pub name_of : Option Ident → Option (List ℕ)
 name_of None = None
 name_of (Some x) = Some x.name
@@ -17,6 +18,7 @@ name_of (Some x) = Some x.name
 abbrev pub bound_by : Stmt → Option (List ℕ)
 bound_by s = name_of (parts_of s).variable
 
+-- the variable that a place defines, if it defines one
 abbrev pub variable_at : Place → Option (List ℕ)
 variable_at (Parameter a) = Some a.name.name
 variable_at (Memory _) = None
@@ -24,6 +26,7 @@ variable_at (Statement s _) = bound_by s
 variable_at (End _) = None
 variable_at (StartClause _) = None
 
+-- the memory that a place defines, if it defines one
 abbrev pub memory_at : Place → Option (List ℕ)
 memory_at (Parameter _) = None
 memory_at (Memory m) = Some m.name.name
@@ -31,6 +34,7 @@ memory_at (Statement _ _) = None
 memory_at (End _) = None
 memory_at (StartClause _) = None
 
+-- the guess that a place defines, if it defines one
 abbrev pub guess_at : Place → Option (List ℕ)
 guess_at x = at_statement None (λ s bs. name_of (parts_of s).guess) x
 
@@ -39,6 +43,7 @@ abbrev pub either_name : Option (List ℕ) → Option (List ℕ) → Option (Lis
 either_name None y = y
 either_name (Some x) y = Some x
 
+-- the name of the variable, memory or guess that a place defines
 abbrev pub name_at : Place → Option (List ℕ)
 name_at (Parameter a) = Some a.name.name
 name_at (Memory m) = Some m.name.name
@@ -73,9 +78,11 @@ reads_some test (ZeroExtend _ _) = false
 reads_some test (SignExtend _ _) = false
 reads_some test (Choose _ _ _) = false
 
+-- whether the use of a location's memory, or of its address, passes the test
 abbrev pub in_location : (Use → Bool) → Location → Bool
 in_location test at = test (OfMemory at.mem.name) || test (OfVariable at.address.name)
 
+-- whether the use of the guess that a statement verifies passes the test
 abbrev pub in_verify : (Use → Bool) → Stmt → Bool
 in_verify test s = is_some_and (λ (g : Ident). test (OfGuess g.name)) (parts_of s).verified
 
@@ -85,6 +92,7 @@ uses_some test s =
     is_some_and (in_location test) (location_of s)
     || (in_verify test s || some_expr_of (some_part (reads_some test)) s)
 
+-- whether some use at a place passes the test
 abbrev pub some_use : (Use → Bool) → Place → Bool
 some_use test x = at_statement false (λ s bs. uses_some test s) x
 
@@ -96,9 +104,11 @@ names_another_pipe p (Statement _ _) = false
 names_another_pipe p (End _) = false
 names_another_pipe p (StartClause s) = not (bytes_eq s.name.name p.name.name)
 
+-- whether none of these places defines what is used
 abbrev pub is_undefined : List Place → Use → Bool
 is_undefined ds u = not (list_any (defines_use u) ds)
 
+-- N1 at a place: a start clause for another pipe, or the use of what no place of the text defines
 abbrev pub breaks_n1 : Pipe → Place → Bool
 breaks_n1 p x = names_another_pipe p x || some_use (is_undefined (places p)) x
 
@@ -106,6 +116,7 @@ breaks_n1 p x = names_another_pipe p x || some_use (is_undefined (places p)) x
 abbrev pub is_taken_name : Pipe → List Place → List ℕ → Bool
 is_taken_name p before x = bytes_eq x p.name.name || list_any (λ d. is_some_and (bytes_eq x) (name_at d)) before
 
+-- N2 at a place: it defines the name of the pipe, or one that a place before defines
 abbrev pub breaks_n2 : Pipe → List Place → Place → Bool
 breaks_n2 p before x = is_some_and (is_taken_name p before) (name_at x)
 
@@ -118,6 +129,7 @@ needs_definition p (OfVariable x) = not (is_parameter p x)
 needs_definition p (OfMemory _) = false
 needs_definition p (OfGuess _) = true
 
+-- whether a place is a delayed read
 abbrev pub is_delayed : Place → Bool
 is_delayed x = at_statement false (λ s bs. fetches (λ at. true) s) x
 
@@ -126,9 +138,11 @@ abbrev pub is_given : List Place → Use → Bool
 is_given [] u = false
 is_given (d ∷ ds) u = (defines_use u d && (not (is_delayed d) || list_any is_separator ds)) || is_given ds u
 
+-- whether a use that needs a definition before it has none in the text, or none on some path
 abbrev pub is_too_early : Pipe → List Place → Place → Use → Bool
 is_too_early p before x u =
     needs_definition p u && (is_undefined before u || on_some_path (λ earlier. not (is_given earlier u)) p before x)
 
+-- N3 at a place: it has a use that is too early
 abbrev pub breaks_n3 : Pipe → List Place → Place → Bool
 breaks_n3 p before x = some_use (is_too_early p before x) x

@@ -33,9 +33,11 @@ pub record StmtParts : Type 0 where
   pub expressions : Expressions
   pub branches : List Stmts  -- what stands inside it
 
+-- the parts of a statement that has none
 abbrev pub no_parts : StmtParts
 no_parts = record { variable = None; guess = None; verified = None; location = None; expressions = NoExpressions; branches = [] }
 
+-- the parts of a statement
 abbrev pub parts_of : Stmt → StmtParts
 parts_of (Separator _) = no_parts
 parts_of (CombRead _ x at) = record no_parts { variable = Some x; location = Some at }
@@ -54,6 +56,7 @@ parts_of (SpecBarrier _) = no_parts
 
 -- TESTS OF PARTS
 
+-- whether there is a value that passes the test
 abbrev pub is_some_and : {T : Type 0} → (T → Bool) → Option T → Bool
 is_some_and test None = false
 is_some_and test (Some x) = test x
@@ -64,9 +67,11 @@ some_of test NoExpressions = false
 some_of test (One e) = test e
 some_of test (Arguments es) = list_any test es
 
+-- whether an expression that stands at the statement passes the test
 abbrev pub some_expr_of : (Expr → Bool) → Stmt → Bool
 some_expr_of test s = some_of test (parts_of s).expressions
 
+-- whether an expression that stands at the place passes the test
 abbrev pub some_expr : (Expr → Bool) → Place → Bool
 some_expr test x = at_statement false (λ s bs. some_expr_of test s) x
 

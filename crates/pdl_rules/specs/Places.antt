@@ -11,6 +11,7 @@ pub data Guard : Type 0 where
   Shared : (name : List ℕ) → Guard
   Own : (at : ℕ) → Guard
 
+-- the guard of an `if`, by where it stands and by its condition
 abbrev pub guard_of : Span → Expr → Guard
 guard_of s (Constant _) = Own s.start
 guard_of s (Variable x) = Shared x.name
@@ -23,12 +24,14 @@ guard_of s (ZeroExtend _ _) = Own s.start
 guard_of s (SignExtend _ _) = Own s.start
 guard_of s (Choose _ _ _) = Own s.start
 
+-- whether two guards are the same: one variable, or conditions whose `if`s begin at one byte
 abbrev pub same_guard : Guard → Guard → Bool
 same_guard (Shared x) (Shared y) = bytes_eq x y
 same_guard (Own m) (Own n) = m == n
 same_guard (Shared _) (Own _) = false
 same_guard (Own _) (Shared _) = false
 
+-- whether a guard is one of these
 abbrev pub is_among : Guard → List Guard → Bool
 is_among g gs = list_any (same_guard g) gs
 
@@ -125,6 +128,7 @@ abbrev pub with_guard : List Guard → Place → List Guard
 with_guard gs x =
     at_statement gs (λ s bs. of_if gs (λ from c. if is_among (guard_of from c) gs then gs else gs ++ guard_of from c ∷ []) s) x
 
+-- the guards of places in text order, each once
 abbrev pub guards : List Place → List Guard
 guards xs = fold with_guard [] xs
 
@@ -137,10 +141,12 @@ choices (g ∷ gs) = choices gs ++ map (λ c. g ∷ c) (choices gs)
 abbrev pub paths : Pipe → List (List Guard)
 paths p = choices (guards (places p))
 
+-- whether two truth values are the same
 abbrev pub same_truth : Bool → Bool → Bool
 same_truth true b = b
 same_truth false b = not b
 
+-- whether a path takes a branch
 abbrev pub is_taken : List Guard → Branch → Bool
 is_taken path b = same_truth b.truth (is_among b.guard path)
 

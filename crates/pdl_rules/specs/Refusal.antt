@@ -83,6 +83,7 @@ breaks_rule A8 p before x = false
 abbrev pub limits : List Rule
 limits = Z2 ∷ Z3 ∷ Z4 ∷ Z5 ∷ Z6 ∷ Z7 ∷ []
 
+-- the rules of the tree that come after the limits, in their order
 abbrev pub after_limits : List Rule
 after_limits = N1 ∷ N2 ∷ N3 ∷ W1 ∷ W2 ∷ W3 ∷ W4 ∷ W5 ∷ W6 ∷ F1 ∷ F2 ∷ F3 ∷ F4 ∷ F5 ∷ L1 ∷ L2 ∷ L3 ∷ L4 ∷ L5 ∷ L6 ∷ L7 ∷ L8 ∷ S1 ∷ S2 ∷ S3 ∷ S4 ∷ S5 ∷ []
 
@@ -96,6 +97,7 @@ abbrev pub broken_line : Rule → Pipe → List Place → List Place → Option 
 broken_line r p before [] = None
 broken_line r p before (x ∷ xs) = if breaks_rule r p before x then Some (line_of x) else broken_line r p (before ++ x ∷ []) xs
 
+-- the refusal by a rule that is broken at a line, and by the later rules where it is not broken
 abbrev pub refused_at : Rule → Option ℕ → Option Refused → Option Refused
 refused_at r (Some line) later = Some (record { rule = r; line = line })
 refused_at r None later = later
@@ -133,10 +135,12 @@ is_straight (Verify _ _ _) = false
 is_straight (SpecCheck _) = false
 is_straight (SpecBarrier _) = false
 
+-- whether all statements are those of a pipe of one stage without choices, guesses or delayed reads
 abbrev pub all_straight : Stmts → Bool
 all_straight Nil = true
 all_straight (Cons s ss) = is_straight s && all_straight ss
 
+-- whether a memory is not a delayed one
 abbrev pub is_comb : Mem → Bool
 is_comb m = not m.delayed
 

@@ -8,6 +8,7 @@ use Rattle.pdl_rules.specs.Parts.{is_some_and}
 use Rattle.pdl_rules.specs.Locks.{hold_after, is_held_for}
 use Rattle.pdl_rules.specs.Stages.{stage_in, stage_of, first_stage, stages_that, is_elsewhere}
 
+-- whether a place is a `verify`
 abbrev pub is_verify : Place → Bool
 is_verify x = at_statement false (λ s bs. verifies (λ g. true) s) x
 
@@ -15,6 +16,7 @@ is_verify x = at_statement false (λ s bs. verifies (λ g. true) s) x
 abbrev pub verify_stage : Pipe → Option ℕ
 verify_stage p = first_stage is_verify [] (places p)
 
+-- whether a stage is before V
 abbrev pub is_before_verify : Pipe → ℕ → Bool
 is_before_verify p s = is_some_and (λ v. nat_lt s v) (verify_stage p)
 
@@ -22,17 +24,21 @@ is_before_verify p s = is_some_and (λ v. nat_lt s v) (verify_stage p)
 abbrev pub is_verify_of : List ℕ → Place → Bool
 is_verify_of guess x = at_statement false (λ s bs. verifies (λ g. bytes_eq g.name guess) s) x
 
+-- the stages in which a path verifies a guess, by each `verify` of it
 abbrev pub verify_stages : Pipe → List Guard → List ℕ → List ℕ
 verify_stages p path guess = stages_that (λ y. on_path path y && is_verify_of guess y) [] (places p)
 
+-- whether this is one stage alone, and one after stage s
 abbrev pub is_once_after : ℕ → List ℕ → Bool
 is_once_after s (v ∷ []) = nat_lt s v
 is_once_after s _ = false
 
+-- whether a place makes a guess that the path doesn't verify exactly once, in a later stage
 abbrev pub is_unverified : Pipe → List Guard → List Place → Place → Bool
 is_unverified p path before x =
     at_statement false (λ s bs. guesses (λ g. not (is_once_after (stage_in before bs) (verify_stages p path g.name))) s) x
 
+-- S2 at a place: it makes a guess that some path doesn't verify exactly once, in a later stage
 abbrev pub breaks_s2 : Pipe → List Place → Place → Bool
 breaks_s2 p before x = list_any (λ path. on_path path x && is_unverified p path before x) (paths p)
 
@@ -44,10 +50,12 @@ breaks_s3 before x = is_verify x && is_elsewhere is_verify before (stage_of befo
 abbrev pub is_barrier : Place → Bool
 is_barrier x = at_statement false (λ s bs. bars s) x
 
+-- whether a place releases a write reservation with no `spec_barrier` among the earlier ones
 abbrev pub releases_unsure : List Place → Place → Bool
 releases_unsure earlier x =
     at_statement false (λ s bs. releases (λ at. is_held_for W (hold_after at earlier) && not (list_any is_barrier earlier)) s) x
 
+-- S4 at a place: in a stage before V, on some path, the release of a write reservation with no barrier before
 abbrev pub breaks_s4 : Pipe → List Place → Place → Bool
 breaks_s4 p before x = is_before_verify p (stage_of before x) && on_some_path (λ earlier. releases_unsure earlier x) p before x
 
@@ -68,9 +76,11 @@ acts_unsure (Verify _ _ _) = false
 acts_unsure (SpecCheck _) = false
 acts_unsure (SpecBarrier _) = false
 
+-- whether a place is a reserve or a `spec_call`
 abbrev pub needs_check : Place → Bool
 needs_check x = at_statement false (λ s bs. acts_unsure s) x
 
+-- whether a statement is a `spec_check` or a `spec_barrier`
 abbrev pub checks : Stmt → Bool
 checks (Separator _) = false
 checks (CombRead _ _ _) = false
@@ -87,6 +97,7 @@ checks (Verify _ _ _) = false
 checks (SpecCheck _) = true
 checks (SpecBarrier _) = true
 
+-- whether a place is a `spec_check` or a `spec_barrier`
 abbrev pub is_check : Place → Bool
 is_check x = at_statement false (λ s bs. checks s) x
 
@@ -94,6 +105,7 @@ is_check x = at_statement false (λ s bs. checks s) x
 abbrev pub is_checked : List Guard → List Place → ℕ → Bool
 is_checked path before s = list_any (λ k. k == s) (stages_that (λ y. on_path path y && is_check y) [] before)
 
+-- S5 at a place: in a stage before V, on some path, a reserve or `spec_call` with no check before it there
 abbrev pub breaks_s5 : Pipe → List Place → Place → Bool
 breaks_s5 p before x =
     needs_check x && is_before_verify p (stage_of before x)

@@ -16,6 +16,7 @@ stage_after before = count_by is_separator before
 abbrev pub branches_of : Place → List Branch
 branches_of x = at_statement [] (λ s bs. bs) x
 
+-- whether two branches are the same: of one guard, with one truth value
 abbrev pub same_branch : Branch → Branch → Bool
 same_branch a b = same_guard a.guard b.guard && same_truth a.truth b.truth
 
@@ -33,9 +34,11 @@ stage_from begun found bs (x ∷ xs) =
     then stage_from (suc begun) (if are_outer (branches_of x) bs then suc begun else found) bs xs
     else stage_from begun found bs xs
 
+-- the stage of what stands in these branches, with these places before it
 abbrev pub stage_in : List Place → List Branch → ℕ
 stage_in before bs = stage_from 0 0 bs before
 
+-- the stage of a place, with these places before it
 abbrev pub stage_of : List Place → Place → ℕ
 stage_of before x = stage_in before (branches_of x)
 
@@ -58,6 +61,7 @@ is_elsewhere test before s = is_some_and (λ k. not (k == s)) (first_stage test 
 abbrev pub reserves_memory : List ℕ → Place → Bool
 reserves_memory m x = at_statement false (λ s bs. reserves (λ at k. bytes_eq at.mem.name m) s) x
 
+-- whether a place releases the memory
 abbrev pub releases_memory : List ℕ → Place → Bool
 releases_memory m x = at_statement false (λ s bs. releases (λ at. bytes_eq at.mem.name m) s) x
 
@@ -78,6 +82,7 @@ moves_stage before k (Verify _ _ _) = false
 moves_stage before k (SpecCheck _) = false
 moves_stage before k (SpecBarrier _) = false
 
+-- L2 at a place: a reserve or release of a memory in another stage than the first one
 abbrev pub breaks_l2 : List Place → Place → Bool
 breaks_l2 before x = at_statement false (λ s bs. moves_stage before (stage_in before bs) s) x
 
@@ -108,9 +113,11 @@ binds_late p k l (Verify _ _ _) = false
 binds_late p k l (SpecCheck _) = false
 binds_late p k l (SpecBarrier _) = false
 
+-- whether a place is a read of a locked memory that this path binds after the stage of its releases
 abbrev pub bound_late : Pipe → List Guard → List Place → Place → Bool
 bound_late p path before x =
     at_statement false (λ s bs. binds_late p (stage_in before bs) (next_on path (stage_after before) (places_after p before)) s) x
 
+-- L8 at a place: a read of a locked memory that some path binds after the stage of its releases
 abbrev pub breaks_l8 : Pipe → List Place → Place → Bool
 breaks_l8 p before x = list_any (λ path. on_path path x && bound_late p path before x) (paths p)

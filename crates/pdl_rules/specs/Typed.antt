@@ -10,6 +10,7 @@ use Rattle.pdl_semantics.specs.Flatten.{Var, var_width, width_of}
 abbrev pub is_named : List Var → List ℕ → Bool
 is_named vs x = list_any (λ (v : Var). bytes_eq v.name x) vs
 
+-- whether a memory of the list has the name
 abbrev pub is_memory : List Mem → List ℕ → Bool
 is_memory ms m = list_any (λ (y : Mem). bytes_eq y.name.name m) ms
 
@@ -65,6 +66,7 @@ pub record IsSized (m : Mem) : Type 0 where
   pub few : bits ≤ 16
   pub power : m.depth.value ≡ 2 ^ bits
 
+-- each memory of the list has words of 1 to 64 bits, and an allowed number of them
 abbrev pub AreSized : List Mem → Type 0
 AreSized [] = ⊤
 AreSized (m ∷ ms) = IsSized m × AreSized ms

@@ -59,6 +59,7 @@ is_unequal vs (ZeroExtend _ _) = false
 is_unequal vs (SignExtend _ _) = false
 is_unequal vs (Choose _ a b) = not (width_of vs a == width_of vs b)
 
+-- W1 at a place: an expression with operands, or arms of a choice, of two widths
 abbrev pub breaks_w1 : Pipe → Place → Bool
 breaks_w1 p x = some_expr (some_part (is_unequal (variables p))) x
 
@@ -70,9 +71,11 @@ is_too_large l = too_large l.value
     too_large None = true
     too_large (Some v) = nat_le (2 ^ l.width) v
 
+-- whether an extension from one width to another is to less, or to more than 64 bits
 abbrev pub is_no_extension : ℕ → ℕ → Bool
 is_no_extension w n = nat_lt n w || nat_lt 64 n
 
+-- whether an expression is a slice that isn't there, a wrong extension, or more than 64 bits side by side
 abbrev pub is_out_of_range : List Var → Expr → Bool
 is_out_of_range vs (Constant _) = false
 is_out_of_range vs (Variable _) = false
@@ -85,6 +88,7 @@ is_out_of_range vs (ZeroExtend a n) = is_no_extension (width_of vs a) n.value
 is_out_of_range vs (SignExtend a n) = is_no_extension (width_of vs a) n.value
 is_out_of_range vs (Choose _ _ _) = false
 
+-- W2 at a place: a literal that is too large for its width, or an expression that is out of range
 abbrev pub breaks_w2 : Pipe → Place → Bool
 breaks_w2 p x = some_literal is_too_large x || some_expr (some_part (is_out_of_range (variables p))) x
 
@@ -101,9 +105,11 @@ is_wide_choice vs (ZeroExtend _ _) = false
 is_wide_choice vs (SignExtend _ _) = false
 is_wide_choice vs (Choose c _ _) = not (width_of vs c == 1)
 
+-- whether a place is an `if` on a condition that isn't one bit
 abbrev pub is_wide_if : List Var → Place → Bool
 is_wide_if vs x = at_statement false (λ s bs. of_if false (λ from c. not (width_of vs c == 1)) s) x
 
+-- W3 at a place: the condition of an `if`, or of a choice, isn't one bit
 abbrev pub breaks_w3 : Pipe → Place → Bool
 breaks_w3 p x = is_wide_if (variables p) x || some_expr (some_part (is_wide_choice (variables p))) x
 
@@ -122,6 +128,7 @@ address_bits d = count_by (λ n. nat_le n d) depths
 abbrev pub is_wrong_address : Pipe → Location → Bool
 is_wrong_address p at = not (var_width (variables p) at.address.name == address_bits (mem_depth p.mems at.mem.name))
 
+-- W4 at a place: a location whose address hasn't its memory's address bits
 abbrev pub breaks_w4 : Pipe → Place → Bool
 breaks_w4 p x = some_location (is_wrong_address p) x
 
@@ -134,6 +141,7 @@ has_wrong_arguments p NoExpressions = false
 has_wrong_arguments p (One e) = false
 has_wrong_arguments p (Arguments es) = are_no_arguments p (map (width_of (variables p)) es)
 
+-- W5 at a place: arguments, of a statement or of the start, that don't have the parameters' number and widths
 abbrev pub breaks_w5 : Pipe → Place → Bool
 breaks_w5 p (Parameter _) = false
 breaks_w5 p (Memory _) = false

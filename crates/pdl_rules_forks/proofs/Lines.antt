@@ -22,6 +22,7 @@ lines : (r : ForkRule) (p : Pipe) (before xs : List Place) → broken_line (orde
 lines r p before [] = refl
 lines r p before (x ∷ xs) = ap₂ (λ b o. if b then Some (line_of x) else o) (asked r p before x) (lines r p (before ++ x ∷ []) xs)
 
+-- the first broken rule on forks, as it is asked, is the first by the rules of the language
 pub rules_same : (rs : List ForkRule) (p : Pipe) → first_broken (map order.rule_of rs) p ≡ order.first_of rs p (places p)
 unfolding order.broken_line
 rules_same [] p = refl
@@ -39,6 +40,7 @@ long_front f zero xs h = refl
 long_front f (suc k) [] h = absurd (omega arith)
 long_front f (suc k) (x ∷ xs) h = ap suc (long_front f k xs (omega arith))
 
+-- the places after the k-th one of a pipe are those from number k + 1 on
 pub after_here : {A : Type 0} (f : A → Place) (p : Pipe) (k : ℕ) (xs : List A) → places p ≡ map f xs → k < length xs
     → places_after p (map f (take k xs)) ≡ map f (drop (k + 1) xs)
 after_here f p k xs e h =
@@ -57,11 +59,13 @@ long_drop zero xs h = omega arith
 long_drop (suc n) [] h = absurd (omega arith)
 long_drop (suc n) (x ∷ xs) h = let rest = long_drop n xs (omega arith) in omega arith
 
+-- of the elements after the first n, as many as the length less n are all
 pub all_after : {A : Type 0} (n : ℕ) (xs : List A) → n ≤ length xs → take (length xs - n) (drop n xs) ≡ drop n xs
 all_after n xs h = take_all (length xs - n) (drop n xs) (let rest = long_drop n xs h in omega arith)
 
 -- ONE PLACE MORE
 
+-- a place that breaks a rule on forks has the rule's line, where no place before it breaks it
 pub found : {A : Type 0} (f : A → Place) (r : ForkRule) (p : Pipe) (xs : List A) (k : ℕ) (x : A) → k < length xs → x ≡ get_or xs k x
     → order.breaks_fork_rule r p (map f (take k xs)) (f x) ≡ true
     → order.line_from r p (map f (take k xs)) (map f (drop k xs)) ≡ order.line_from r p [] (map f xs) → Some (line_of (f x)) ≡ order.broken_line r p (map f xs)
@@ -71,6 +75,7 @@ found f r p xs k x h e is inv =
     ∙ sym (ap (λ ys. order.line_from r p (map f (take k xs)) (map f ys)) (drop_next xs k x h e))
     ∙ inv
 
+-- a place that keeps a rule on forks leaves the rule's line to the places after it
 pub passed : {A : Type 0} (f : A → Place) (r : ForkRule) (p : Pipe) (xs : List A) (k : ℕ) (x : A) → k < length xs → x ≡ get_or xs k x
     → order.breaks_fork_rule r p (map f (take k xs)) (f x) ≡ false
     → order.line_from r p (map f (take k xs)) (map f (drop k xs)) ≡ order.line_from r p [] (map f xs)

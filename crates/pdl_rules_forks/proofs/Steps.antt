@@ -1,6 +1,7 @@
 -- The place at a number, and one place more.
 use Rattle.std.proofs.Common.{◌≡◌, sym, ap, ◌∙◌, ℕ, zero, suc, ◌+◌, ◌<◌, List, [], ◌∷◌, ◌++◌, take, length, get_or, arith}
 
+-- the first k + 1 elements are the first k ones, and then the one at number k
 pub take_next : {A : Type 0} (xs : List A) (k : ℕ) (x : A) → k < length xs → x ≡ get_or xs k x → take (k + 1) xs ≡ take k xs ++ x ∷ []
 take_next {A = A} xs k x h e = ap (λ n. take n xs) (let one : k + 1 ≡ suc k = omega arith in one) ∙ at xs k h e
   where

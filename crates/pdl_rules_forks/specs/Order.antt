@@ -19,9 +19,11 @@ abbrev pub is_wrong_fork : Stmts → Stmts → List Branch → List Place → Bo
 is_wrong_fork when otherwise bs later =
     (holds_separator when || holds_separator otherwise) && (is_in_branch bs || is_unfollowed when otherwise later)
 
+-- the rules F1 to F5, the lowest first
 abbrev pub order : List ForkRule
 order = F1 ∷ F2 ∷ F3 ∷ F4 ∷ F5 ∷ []
 
+-- a rule on forks, as one of all rules
 abbrev pub rule_of : ForkRule → Rule
 rule_of F1 = rules.F1
 rule_of F2 = rules.F2
@@ -42,6 +44,7 @@ abbrev pub line_from : ForkRule → Pipe → List Place → List Place → Optio
 line_from r p before [] = None
 line_from r p before (x ∷ xs) = if breaks_fork_rule r p before x then Some (line_of x) else line_from r p (before ++ x ∷ []) xs
 
+-- the line of the first of all places that breaks the rule
 unfoldable pub broken_line : ForkRule → Pipe → List Place → Option ℕ
 broken_line r p all = line_from r p [] all
 

@@ -8,10 +8,10 @@ ghost use Rattle.pdl_rules_names.specs.Order.{name_rules};
 ghost use Rattle.pdl_rules_widths.specs.Order.{width_rules};
 ghost use Rattle.pdl_locks.specs.Facts.{AreLines as AreLockLines};
 ghost use Rattle.pdl_locks.specs.Plan.{plan_of};
-ghost use Rattle.pdl_spec.specs.Named.{AreLines as AreSpecLines};
+ghost use Rattle.pdl_spec.specs.WalkLines.{AreLines as AreSpecLines};
 ghost use Rattle.pdl_spec.specs.Plan.{spec_rules};
 ghost use Rattle.pdl_rules_judge.specs.Known.{AreFindings, IsKnown};
-ghost use Rattle.pdl_rules_judge.specs.Told.{Answers, fork_rules, after_names, after_widths, after_forks};
+ghost use Rattle.pdl_rules_judge.specs.OrderedRules.{Answers, fork_rules, after_names, after_widths, after_forks};
 
 use pdl_kit::{NoMemory, Refusal, Rule};
 use pdl_locks::{LockFacts, LockLines, LockPlan, lock_path_rules, plan_locks};

@@ -1,3 +1,3 @@
-pub mod Counted
-pub mod Guarded
-pub mod Lowest
+pub mod CountSteps
+pub mod GuardSteps
+pub mod LowestRule

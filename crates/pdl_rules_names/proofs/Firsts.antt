@@ -6,7 +6,7 @@ use Rattle.std.proofs.lemmas.Slice.Eq.{bytes_eq-Decides}
 use Rattle.indexmap.specs.IndexMap.{insert_entry}
 use Rattle.pdl_rules.specs.Places.{Place}
 use Rattle.pdl_rules.specs.Parts.{is_some_and}
-use Rattle.pdl_rules_names.proofs.Less.{less_more, zero_less, none_less}
+use Rattle.pdl_rules_names.proofs.Comparisons.{less_more, zero_less, none_less}
 use Rattle.pdl_rules_names.specs.First.{Entries, first_where, number_in, with_name, AreFirst, comes_before}
 use Rattle.pdl_rules_on_paths.proofs.Nth.{take_next, taken_length}
 
@@ -72,6 +72,7 @@ added read xs es y h q = with_one (read y) ∙ ap (λ f. or_else f (if is_some_a
     with_one None = or_none _
     with_one (Some x) = known x (is_some (number_in es x)) refl
 
+-- the first places of names among k places, with the name of the next, are those among k + 1
 pub added_at : (read : Place → Option (List ℕ)) (xs : List Place) (k : ℕ) (y : Place) (es fs : Entries) (o : Option (List ℕ)) → slice_get xs k ≡ Some y → o ≡ read y
     → fs ≡ with_name es o k → AreFirst read (take k xs) es → AreFirst read (take (k + 1) xs) fs
 added_at read xs k y es fs o got e made h =
@@ -86,19 +87,23 @@ found_step true o a e = refl
 found_step false None a e = e
 found_step false (Some n) a e = e
 
+-- some place passes a test exactly if there is a first one that does
 pub any_found : (test : Place → Bool) (xs : List Place) → list_any test xs ≡ is_some (first_where test xs)
 any_found test [] = refl
 any_found test (x ∷ xs) = found_step (test x) (first_where test xs) (list_any test xs) (any_found test xs)
 
+-- whether a place below a number passes, with one more place at the front
 pub before_step : (b : Bool) (o : Option ℕ) (a : Bool) (k : ℕ) → a ≡ comes_before o k → (b || a) ≡ comes_before (if b then Some 0 else option_map suc o) (suc k)
 before_step true o a k e = zero_less k
 before_step false None a k e = e
 before_step false (Some n) a k e = e ∙ less_more n k
 
+-- no first place comes before number 0
 pub none_before : (o : Option ℕ) → false ≡ comes_before o 0
 none_before None = refl
 none_before (Some n) = none_less n
 
+-- one of the first k places passes a test exactly if the first that passes comes before k
 pub any_before : (test : Place → Bool) (xs : List Place) (k : ℕ) → list_any test (take k xs) ≡ comes_before (first_where test xs) k
 any_before test [] zero = refl
 any_before test [] (suc k) = refl
@@ -109,9 +114,11 @@ any_before test (x ∷ xs) (suc k) = before_step (test x) (first_where test xs) 
 abbrev nothing : Option ℕ
 nothing = None
 
+-- no number is the same as none
 pub none_some : (d : ℕ) → nothing ≡ Some d → ⊥
 none_some d e = cc
 
+-- where the first place that passes a test is number 0, the place at the front passes
 pub zero_first : (b : Bool) (o : Option ℕ) → (if b then Some 0 else option_map suc o) ≡ Some 0 → b ≡ true
 zero_first true o e = refl
 zero_first false None e = cc
@@ -123,6 +130,7 @@ zero_first false (Some n) e = absurd (apart n (same (suc n) 0 e))
     apart : (m : ℕ) → suc m ≡ 0 → ⊥
     apart m i = omega (arith, i)
 
+-- where the first place that passes is a later one, the front fails, and the number is 1 less after it
 pub later_first : (b : Bool) (o : Option ℕ) (d : ℕ) → (if b then Some 0 else option_map suc o) ≡ Some (suc d) → (b ≡ false) × (o ≡ Some d)
 later_first true o d e = absurd (apart d (same 0 (suc d) e))
   where
@@ -140,6 +148,7 @@ later_first false (Some n) d e = (refl, ap Some (less n d (same (suc n) (suc d) 
     less : (a b : ℕ) → suc a ≡ suc b → a ≡ b
     less a b i = omega (arith, i)
 
+-- the number of the first place that passes a test is below the number of places
 pub first_below : (test : Place → Bool) (xs : List Place) (d : ℕ) → first_where test xs ≡ Some d → d < length xs
 first_below test [] d e = absurd (none_some d e)
 first_below test (x ∷ xs) zero e = omega arith
@@ -156,6 +165,7 @@ first_taken test (x ∷ xs) (suc d) (suc k) e l =
     ap (λ b. if b then Some 0 else option_map suc (first_where test (take k xs))) parts.0
     ∙ ap (option_map suc) (first_taken test xs d k parts.1 (omega (arith, l)))
 
+-- the element at number d is also there among the first k, where d is below k
 pub get_taken : {Q : Type 0} (xs : List Q) (d k : ℕ) (x : Q) → slice_get xs d ≡ Some x → d < k → slice_get (take k xs) d ≡ Some x
 get_taken [] d zero x e l = absurd (omega (arith, l))
 get_taken [] d (suc k) x e l = e

@@ -33,5 +33,6 @@ taken [] (suc n) l = refl
 taken (b ∷ bs) zero l = absurd (omega (arith, l))
 taken (b ∷ bs) (suc n) l = ap (λ cs. b ∷ cs) (taken bs n (omega (arith, l)))
 
+-- a path that takes the first i of some branches takes all of them, where there are no more than i
 pub all_branches : (path : List Guard) (outer : List r_branch) (i : ℕ) → length outer ≤ i → list_all (is_taken path) (map branch_view (take i outer)) ≡ true → list_all (is_taken path) (map branch_view outer) ≡ true
 all_branches path outer i l h = subst (λ bs. list_all (is_taken path) (map branch_view bs) ≡ true) (taken outer i l) h

@@ -1,8 +1,8 @@
-pub mod Less
+pub mod Comparisons
 pub mod Firsts
-pub mod Twice
-pub mod Given
-pub mod Last
+pub mod SingleDefinitions
+pub mod GivenNames
+pub mod LastSeparator
 pub mod Ungiven
 pub mod Needs
 pub mod Inside

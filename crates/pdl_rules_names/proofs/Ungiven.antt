@@ -12,8 +12,8 @@ use Rattle.pdl_paths.proofs.Choices.{some_path, has_bits}
 use Rattle.pdl_rules_names.specs.First.{first_where, comes_before}
 use Rattle.pdl_rules_names.specs.Ready.{given_on, is_separator_on}
 use Rattle.pdl_rules_names.proofs.Firsts.{any_before, first_taken, get_taken}
-use Rattle.pdl_rules_names.proofs.Twice.{only_one}
-use Rattle.pdl_rules_names.proofs.Given.{given_by}
+use Rattle.pdl_rules_names.proofs.SingleDefinitions.{only_one}
+use Rattle.pdl_rules_names.proofs.GivenNames.{given_by}
 
 -- the use at the k-th place, which is x, of what the d-th, which is y, defines first
 pub record Known (p : Pipe) (xs : List Place) (k d : ℕ) (u : Use) (x y : Place) : Type 0 where
@@ -26,12 +26,13 @@ pub record Known (p : Pipe) (xs : List Place) (k d : ℕ) (u : Use) (x y : Place
 abbrev pub ungiven : Pipe → List Place → ℕ → Use → Place → Bool
 ungiven p xs k u x = is_undefined (take k xs) u || on_some_path (λ earlier. not (is_given earlier u)) p (take k xs) x
 
-pub undefined_late : (xs : List Place) (k d : ℕ) (u : Use) → first_where (defines_use u) xs ≡ Some d → k ≤ d → is_undefined (take k xs) u ≡ true
+undefined_late : (xs : List Place) (k d : ℕ) (u : Use) → first_where (defines_use u) xs ≡ Some d → k ≤ d → is_undefined (take k xs) u ≡ true
 undefined_late xs k d u f l = ap not (any_before (defines_use u) xs k ∙ ap (λ o. comes_before o k) f ∙ le-ltb d k l)
 
 defined_before : (xs : List Place) (k d : ℕ) (u : Use) → first_where (defines_use u) xs ≡ Some d → d < k → is_undefined (take k xs) u ≡ false
 defined_before xs k d u f l = ap not (any_before (defines_use u) xs k ∙ ap (λ o. comes_before o k) f ∙ lt-ltb d k l)
 
+-- what is first defined at the place of its use, or after it, is not given there
 pub late : (p : Pipe) (xs : List Place) (k d : ℕ) (u : Use) (x : Place) → first_where (defines_use u) xs ≡ Some d → k ≤ d → true ≡ ungiven p xs k u x
 late p xs k d u x f l = sym (or_left _ _ (undefined_late xs k d u f l))
 
@@ -43,6 +44,7 @@ given_here p xs k d u x y h l path =
     given_by u path (take k xs) d y first (get_taken xs d k y h.there l)
     (only_one p u xs k d (subst (λ ys. broken_line N2 p [] ys ≡ None) (sym h.all) h.once) first)
 
+-- what some path through the place of its use does not give is not given there
 pub missing_on : (p : Pipe) (xs : List Place) (k d : ℕ) (u : Use) (x y : Place) (b : ℕ) → Known p xs k d u x y → d < k
     → (on_path (path_of (guards (places p)) b) x && not (given_on (path_of (guards (places p)) b) (take k xs) d y)) ≡ true
     → true ≡ ungiven p xs k u x
@@ -53,6 +55,7 @@ missing_on p xs k d u x y b h l e =
     (some_path (λ c. on_path c x && not (is_given (filter (on_path c) (take k xs)) u)) (guards (places p)) b
     (ap (λ g. on_path path x && not g) (given_here p xs k d u x y h l path) ∙ e)))
 
+-- what is defined before its use, and given on each path through that place, is given there
 pub missing_nowhere : (p : Pipe) (xs : List Place) (k d : ℕ) (u : Use) (x y : Place) → Known p xs k d u x y → d < k
     → ((b : ℕ) → b < 2 ^ length (guards (places p)) → (on_path (path_of (guards (places p)) b) x && not (given_on (path_of (guards (places p)) b) (take k xs) d y)) ≡ false)
     → false ≡ ungiven p xs k u x
@@ -75,5 +78,6 @@ inside path before d x y e h = at (on_path path x) h
     at true k = ap₂ (λ a c. not (a && (not c || list_any (is_separator_on path) (drop (suc d) before)))) (k refl) e
     at false k = refl
 
+-- the k-th of some places is one place alone
 pub same_item : (xs : List Place) (k : ℕ) (y x : Place) → slice_get xs k ≡ Some y → slice_get xs k ≡ Some x → y ≡ x
 same_item xs k y x e f = cc

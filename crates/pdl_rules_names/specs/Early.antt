@@ -13,6 +13,7 @@ use Rattle.pdl_rules_names.specs.declared.early.Early.{Early}
 abbrev pub early_at : Pipe → List Place → ℕ → Use → Bool
 early_at p xs k u = is_some_and (λ x. is_too_early p (take k xs) x u) (slice_get xs k)
 
+-- whether a use at the place at hand is too early
 abbrev pub is_early : Early → Use → Bool
 is_early e u = early_at (pipe_view e.pipe.now) (map place_view e.places.now) e.k u
 

@@ -48,6 +48,7 @@ line_none test before (x ∷ xs) others =
     first_fails test before xs x (others 0 (omega arith))
     ∙ line_none test (before ++ x ∷ []) xs (λ j m. sym (moved test before xs x j) ∙ others (suc j) (omega arith))
 
+-- the line of the lowest place that passes a test is that of the first one that does in text order
 pub lowest_line : (test : List Place → Place → Bool) (xs : List Place) (k : ℕ) → IsLowest (breaks_at test xs) (length xs) k → nth_line xs k ≡ line_where test [] xs
 lowest_line test xs k h = at (eq-or-lt_of_le h.within)
   where

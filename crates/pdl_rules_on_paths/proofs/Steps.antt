@@ -2,6 +2,7 @@
 use Rattle.std.proofs.Common.{◌≡◌, ap, ◌∙◌, ℕ, ◌+◌, ◌<◌, ◌≤◌, Bool, false, arith, ◌⊎◌, inl, inr}
 use Rattle.std.proofs.Math.Nat.{eq-or-lt_of_le}
 
+-- a number below c + 1 is at most c
 pub up_to : (b c : ℕ) → b < c + 1 → b ≤ c
 up_to b c l = omega arith
 

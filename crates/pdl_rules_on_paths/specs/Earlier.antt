@@ -31,13 +31,16 @@ or_some : (b : Bool) → (b || true) ≡ true
 or_some true = refl
 or_some false = refl
 
+-- after a call on the path, one of the places on it calls
 pub called : (path : List Guard) (before : List Place) (x : Place) → on_path path x ≡ true → is_call x ≡ true → true ≡ list_any is_call (filter (on_path path) (before ++ x ∷ []))
 called path before x is_on e = sym (any_more path before x true is_on e ∙ or_some (list_any is_call (filter (on_path path) before)))
 
+-- a place on the path that does not call leaves it as it was whether one of those before calls
 pub uncalled : (path : List Guard) (before : List Place) (x : Place) (state : Bool) → on_path path x ≡ true → is_call x ≡ false
     → state ≡ list_any is_call (filter (on_path path) before) → state ≡ list_any is_call (filter (on_path path) (before ++ x ∷ []))
 uncalled path before x state is_on e stands = stands ∙ sym (any_more path before x false is_on e ∙ or-false (list_any is_call (filter (on_path path) before)))
 
+-- a place off the path leaves it as it was whether one of those on the path calls
 pub skipped : (path : List Guard) (before : List Place) (x : Place) (state : Bool) → on_path path x ≡ false
     → state ≡ list_any is_call (filter (on_path path) before) → state ≡ list_any is_call (filter (on_path path) (before ++ x ∷ []))
 skipped path before x state off stands = stands ∙ sym (ap (list_any is_call) (earlier_same path before x off))

@@ -13,6 +13,7 @@ line_where test before (x ∷ xs) = if test before x then Some (line_of x) else 
 abbrev pub on_this : (List Guard → List Place → Place → Bool) → List Guard → List Place → Place → Bool
 on_this breaks path before x = on_path path x && breaks path before x
 
+-- whether a place breaks a rule on some path of these guards
 abbrev pub on_some : (List Guard → List Place → Place → Bool) → List Guard → List Place → Place → Bool
 on_some breaks gs before x = list_any (λ path. on_path path x && breaks path before x) (choices gs)
 

@@ -1,3 +1,3 @@
 pub mod Nth
-pub mod Found
-pub mod More
+pub mod FirstMatch
+pub mod LineSteps

@@ -1,2 +1,2 @@
 pub mod Refused
-pub mod Noted
+pub mod NotedLine

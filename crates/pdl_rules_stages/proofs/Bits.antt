@@ -3,7 +3,7 @@ use Rattle.std.proofs.Common.{◌≡◌, refl, sym, ap, ap₂, ◌∙◌, subst,
 use Rattle.std.proofs.lemmas.Nat.{and_mask, mod-pow-add, mod_below, pow_pos}
 use Rattle.pdl_rules.specs.Places.{Guard}
 use Rattle.pdl_paths.specs.Masks.{path_of}
-use Rattle.pdl_rules_stages.specs.Along.{IsPath}
+use Rattle.pdl_rules_stages.specs.PathBits.{IsPath}
 
 same_low : (gs : List Guard) (bits : ℕ) → path_of gs (bits % 2 ^ length gs) ≡ path_of gs bits
 same_low [] bits = refl
@@ -18,6 +18,7 @@ same_low (g ∷ gs) bits =
 positive : (n : ℕ) → 0 < 2 ^ n
 positive n = pow_pos n
 
+-- bits, without those that no guard has, stand for the path of all these bits
 pub among_path : (gs : List Guard) (bits all : ℕ) → all ≡ 2 ^ length gs - 1 → IsPath gs (path_of gs bits) (bit_and bits all)
 among_path gs bits all e =
     let low : bit_and bits all ≡ bits % 2 ^ length gs = ap (bit_and bits) e ∙ and_mask bits (length gs) in

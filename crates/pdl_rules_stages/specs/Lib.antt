@@ -1,3 +1,3 @@
 pub mod Stages
 pub mod Astray
-pub mod Along
+pub mod PathBits

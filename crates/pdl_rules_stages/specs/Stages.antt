@@ -6,6 +6,7 @@ use Rattle.pdl_rules.specs.Speculation.{is_verify}
 use Rattle.pdl_rules_stages.specs.declared.first.Sought.{Sought}
 use Rattle.pdl_rules_stages.specs.declared.first.Sought.TheVariants.{Reserve, Release, Verify}
 
+-- each place, as a test that all pass
 abbrev pub each : Place → Bool
 each x = true
 

@@ -4,7 +4,7 @@ ghost use Rattle.pdl_rules.specs.Places.{Guard as SpecGuard};
 ghost use Rattle.pdl_rules.specs.Stages as spec;
 ghost use Rattle.pdl_paths.specs.Actions.{place_view};
 ghost use Rattle.pdl_paths.specs.Masks.{path_of};
-ghost use Rattle.pdl_rules_stages.specs.Along.{HavePaths, IsPath};
+ghost use Rattle.pdl_rules_stages.specs.PathBits.{HavePaths, IsPath};
 
 use pdl_paths::{Guards, Path, Place, is_separator};
 

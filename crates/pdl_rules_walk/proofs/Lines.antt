@@ -7,6 +7,7 @@ use Rattle.pdl_rules_on_paths.proofs.Lines.{lowest_line}
 use Rattle.pdl_rules_walk.specs.Course.{path_line, IsFound}
 use Rattle.pdl_rules_walk.proofs.Steps.{every_path}
 
+-- the line at which a rule is broken on some path is the same by guards and places equal to the pipe's own
 pub at_places : (breaks : List Guard → List Place → Place → Bool) (p : Pipe) (gs : List Guard) (xs : List Place) → gs ≡ guards xs → xs ≡ places p
     → path_line breaks gs xs ≡ path_line breaks (guards (places p)) (places p)
 at_places breaks p gs xs own of = ap (λ hs. path_line breaks hs xs) own ∙ ap (λ ys. path_line breaks (guards ys) ys) of

@@ -1,3 +1,3 @@
 pub mod Literals
 pub mod Entries
-pub mod Lowest
+pub mod LowestRule

@@ -6,6 +6,7 @@ use Rattle.pdl_semantics.specs.Flatten.{Var}
 abbrev pub var_of : List ℕ × ℕ → Var
 var_of e = record { name = e.0; width = e.1 }
 
+-- the variables of entries, each with its width
 abbrev pub vars_of : List (List ℕ × ℕ) → List Var
 vars_of es = map var_of es
 

@@ -2,7 +2,7 @@
 ghost use Rattle.std.specs.Prelude.{◌≡◌, option_map, None};
 ghost use Rattle.pdl_kit.specs.declared.rule.Rule.TheVariants as names;
 ghost use Rattle.pdl_rules.specs.Refusal.{refused_at};
-ghost use Rattle.pdl_rules_on_texts.specs.Noted.{noted_line as spec_noted};
+ghost use Rattle.pdl_rules_on_texts.specs.NotedLine.{noted_line as spec_noted};
 ghost use Rattle.pdl_rules_on_texts.specs.Refused.{refused_of};
 
 use crate::faults::Faults;

@@ -3,14 +3,19 @@ use Rattle.std.proofs.Common.{◌≡◌, refl, sym, ap, ◌∙◌, ℕ, suc, ◌
 use Rattle.std.proofs.Math.Bool.{and_assoc, and-true}
 use Rattle.std.specs.Option.{is_some}
 use Rattle.pdl_semantics.specs.Flat.{Stmt, all_hold, list_all, has_lock, Pipe, Arrays}
-use Rattle.pdl_semantics.specs.Machine.{Pending, Written, HeldLocation, held_after, held_before}
-use Rattle.pdl_semantics.specs.Cycle.{with_value_of, with_writes_of}
+use Rattle.pdl_semantics.specs.Machine.{Pending, Written, HeldLocation, held_after, held_before, State, Kept, with_kept}
+use Rattle.pdl_semantics.specs.Cycle.{with_value_of, with_writes_of, entries_left, cycle, state_after}
 use Rattle.pdl_semantics.specs.Tree as tree
 use Rattle.pdl_semantics.specs.Tree.{BinaryOp, Equal, Differ, Less, LockDecl, LockKind, Queue, Bypass, Rename}
 use Rattle.pdl_semantics.specs.Flatten.{op_width, flat_lock, Var, past_all, at_start}
 use Rattle.pdl_semantics.specs.PendingLists.{count_older}
 use Rattle.pdl_semantics.specs.Sequential.{thread, turn_at}
+use Rattle.std.specs.Prelude.{slice_set}
+use Rattle.std.proofs.lemmas.List.{length-set}
+use Rattle.pdl_semantics.specs.Stages.{merges_fork}
+use Rattle.std.proofs.lemmas.Bool.{eqb-true, false≢true}
 
+-- all elements of a list and one more at its end pass a test if those of the list do, and this one
 pub all_push : {X : Type 0} (test : X → Bool) (xs : List X) (x : X) → list_all test (xs ++ x ∷ []) ≡ (list_all test xs && test x)
 all_push test [] x = and-true (test x)
 all_push test (y ∷ xs) x = ap (λ b. test y && b) (all_push test xs x) ∙ sym (and_assoc (test y) (list_all test xs) (test x))
@@ -23,6 +28,7 @@ held_first path (x ∷ xs) ls = ap (λ b. held_before 0 path xs (if b && all_hol
     low : (n : ℕ) → nat_lt n 0 ≡ false
     low n = le-ltb n 0 (omega arith)
 
+-- a value put into a thread's entries in two lists, one after the other, is put into those of each
 pub put_append : (n v : ℕ) (xs ys : List Pending) → with_value_of n v (xs ++ ys) ≡ with_value_of n v xs ++ with_value_of n v ys
 put_append n v [] ys = refl
 put_append n v (x ∷ xs) ys = ap (λ l. (if x.thread == n then record x { value = Some v } else x) ∷ l) (put_append n v xs ys)
@@ -32,6 +38,7 @@ pub put_length : (n v : ℕ) (xs : List Pending) → length (with_value_of n v x
 put_length n v [] = refl
 put_length n v (x ∷ xs) = ap suc (put_length n v xs)
 
+-- the writes of a thread keep how many entries a lock's list has
 pub put_all_length : (m n : ℕ) (ws : List Written) (xs : List Pending) → length (with_writes_of m n ws xs) ≡ length xs
 put_all_length m n [] xs = refl
 put_all_length m n (w ∷ ws) xs = put_all_length m n ws (if w.mem == m then with_value_of n w.value xs else xs) ∙ at (w.mem == m)
@@ -78,3 +85,24 @@ turn_front p (suc k) arrays args =
 -- the variables of the whole text
 abbrev pub all_vars : tree.Pipe → List Var
 all_vars p = (past_all p.mems p.body (at_start p)).vars
+
+-- whom no squash removes
+pub none_leaves : (es : List Pending) → entries_left None es ≡ es
+none_leaves [] = refl
+none_leaves (e ∷ es) = ap (λ (xs : List Pending). e ∷ xs) (none_leaves es)
+
+pub after_more : (q : Pipe) (st : State) (before : List (List Bool)) (bits : List Bool) → state_after q st (before ++ bits ∷ []) ≡ cycle q (state_after q st before) bits
+after_more q st [] bits = refl
+after_more q st (b ∷ before) bits = after_more q (cycle q st b) before bits
+
+pub kept_append : (xs ys : List Kept) (env : List ℕ) → with_kept (xs ++ ys) env ≡ with_kept ys (with_kept xs env)
+kept_append [] ys env = refl
+kept_append (x ∷ xs) ys env = kept_append xs ys (slice_set env x.var x.word)
+
+pub kept_long : (xs : List Kept) (env : List ℕ) → length (with_kept xs env) ≡ length env
+kept_long [] env = refl
+kept_long (x ∷ xs) env = kept_long xs (slice_set env x.var x.word) ∙ length-set env x.var x.word
+
+pub merges_some : (o : Option ℕ) (f : ℕ) → merges_fork o f ≡ true → o ≡ Some f
+merges_some None f h = absurd (false≢true h)
+merges_some (Some g) f h = ap Some (eqb-true g f h)

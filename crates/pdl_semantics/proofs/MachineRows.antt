@@ -9,6 +9,7 @@ use Rattle.pdl_semantics.specs.Flatten.{flat}
 use Rattle.pdl_semantics.specs.Cycle.{Turn, turns}
 use Rattle.pdl_semantics.proofs.Pipes.{one_stage, two_stages, under_guard, shared_guard, count_late, count_up, guess, guess_reserved, copy, copy_guessed, two_branches, one_branch, count_slow, barrier}
 
+-- four words that are all 0
 abbrev pub zeros : List ℕ
 zeros = 0 ∷ 0 ∷ 0 ∷ 0 ∷ []
 

@@ -35,13 +35,14 @@ shared_guard =
     ∷ if_else (Not (variable "h")) (call (plus (variable "n") (constant 2 1)) ∷ []) (call (plus (variable "n") (constant 2 3)) ∷ []) ∷ [])
 
 -- four stages: each thread adds 1 to word 0; n writes may be pending
-abbrev pub count_after : List Stmt → LockKind → ℕ → Pipe
+abbrev count_after : List Stmt → LockKind → ℕ → Pipe
 count_after gap kind n =
     pipe 2 (comb "m" 4 (lock kind n) ∷ [])
     (bind "a" (constant 2 0) ∷ bind "b" (constant 2 0) ∷ reserve "m" "a" R ∷ reserve "m" "b" W
     ∷ call (plus (variable "n") (constant 2 1)) ∷ separator ∷ (gap ++ block "m" "a" ∷ comb_read "x" "m" "a" ∷ separator ∷ block "m" "b"
     ∷ write "m" "b" (plus (variable "x") (constant 8 1)) ∷ separator ∷ release "m" "a" ∷ release "m" "b" ∷ []))
 
+-- the same with nothing before the read, through a lock of this kind
 abbrev pub count_up : LockKind → ℕ → Pipe
 count_up kind n = count_after [] kind n
 
@@ -49,9 +50,11 @@ count_up kind n = count_after [] kind n
 abbrev pub count_queue : ℕ → Pipe
 count_queue n = count_up Queue n
 
+-- the same through a bypass lock of size n
 abbrev pub count_bypass : ℕ → Pipe
 count_bypass n = count_up Bypass n
 
+-- the same through a renaming lock of size n
 abbrev pub count_rename : ℕ → Pipe
 count_rename n = count_up Rename n
 

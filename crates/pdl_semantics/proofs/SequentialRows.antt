@@ -5,6 +5,7 @@ use Rattle.pdl_word.specs.Words.{add, slice, zext}
 use Rattle.pdl_semantics.specs.Lines.{sequential_lines, seq_lines}
 use Rattle.pdl_semantics.proofs.Pipes.{one_stage, guess, copy, two_branches}
 
+-- four words that are all 0
 abbrev pub zeros : List ℕ
 zeros = 0 ∷ 0 ∷ 0 ∷ 0 ∷ []
 

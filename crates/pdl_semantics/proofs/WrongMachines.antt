@@ -18,6 +18,7 @@ use Rattle.pdl_semantics.proofs.MachineRows.{zeros, idle, bits, copied}
 abbrev pub Decides : Type 0
 Decides = Pipe → State → List Bool → List Act
 
+-- how a machine goes on: the state after a cycle of these acts
 abbrev pub GoesOn : Type 0
 GoesOn = Pipe → State → List Bool → List Act → State
 
@@ -36,18 +37,20 @@ abbrev lines_by : Decides → GoesOn → Tree.Pipe → ℕ → List ℕ
 lines_by decide next p cycles = lines_from decide next p (zeros ∷ []) (idle cycles)
 
 -- acts where another function makes them
-abbrev pub acts_by : (Pipe → State → List Bool → List Act → ℕ → Thread → Act) → Pipe → State → List Bool → ℕ → List (Option Thread) → List Act
+abbrev acts_by : (Pipe → State → List Bool → List Act → ℕ → Thread → Act) → Pipe → State → List Bool → ℕ → List (Option Thread) → List Act
 acts_by make p st bits s [] = []
 acts_by make p st bits s (None ∷ stages) = acts_by make p st bits (suc s) stages
 acts_by make p st bits s (Some t ∷ stages) =
     let later = acts_by make p st bits (suc s) stages in
     make p st bits later s (with_answers p st bits t) ∷ later
 
+-- the acts of all threads where another function makes them
 abbrev pub decides_by : (Pipe → State → List Bool → List Act → ℕ → Thread → Act) → Decides
 decides_by make p st bits = acts_by make p st bits 0 st.stages
 
 -- A SQUASH THAT KEEPS the younger threads' pending writes
 
+-- the state after a cycle, with the pending writes of the threads that a squash removes
 abbrev pub keeps_entries : GoesOn
 keeps_entries p st bits these = record (after_acts p st bits these) { locks = for_mems (λ m. list_three st (movers these) m) 0 p.mems }
 
@@ -57,6 +60,7 @@ squash_keeps = refl
 
 -- A MERGE THAT TAKES any branch
 
+-- a thread's act where it may move into a merge from any branch
 abbrev pub any_branch : Pipe → State → List Bool → List Act → ℕ → Thread → Act
 any_branch p st bits later s t =
     let d = deeds p st s t in
@@ -75,11 +79,13 @@ merge_takes_any = refl
 
 -- A BYPASS READ THAT SEES a younger thread's write
 
+-- what the last pending write of an address by another thread says, be it older or younger
 abbrev pub youngest_other : List Pending → ℕ → ℕ → Latest → Latest
 youngest_other [] thread a found = found
 youngest_other (e ∷ es) thread a found =
     youngest_other es thread a (if not (e.thread == thread) && (e.address == a) then as_latest e.value else found)
 
+-- a thread's act where its reads see the pending writes of younger threads too
 abbrev pub sees_younger : Pipe → State → List Bool → List Act → ℕ → Thread → Act
 sees_younger p st bits later s t =
     act_of p st bits later s t
@@ -95,6 +101,7 @@ right_barrier : run_lines far_barrier (zeros ∷ []) (idle 5) ≡ codes "1 m 0 0
 unfolding digits add slice zext
 right_barrier = refl
 
+-- a thread's act where a barrier asks of the next stage alone that it holds no thread
 abbrev pub looks_one_stage : Pipe → State → List Bool → List Act → ℕ → Thread → Act
 looks_one_stage p st bits later s t =
     let d = deeds p st s t in
@@ -114,7 +121,7 @@ barrier_looks_one_stage = refl
 
 -- A VERIFY THAT SQUASHES always
 
-abbrev pub squashes_always : Pipe → State → List Bool → List Act → ℕ → Thread → Act
+abbrev squashes_always : Pipe → State → List Bool → List Act → ℕ → Thread → Act
 squashes_always p st bits later s t =
     let d = deeds p st s t in
     act_of p st bits later s t
@@ -126,10 +133,11 @@ right_guesses_squashed = refl
 
 -- A LATE REPLY GIVEN TO THE THREAD THAT STANDS THERE NOW: who asks while an orphan is outstanding takes over its request
 
-abbrev pub is_free_or_orphan : Request → Bool → List Act → Bool
+abbrev is_free_or_orphan : Request → Bool → List Act → Bool
 is_free_or_orphan (Orphan a) bit later = true
 is_free_or_orphan r bit later = is_free r bit later
 
+-- a thread's act where it may ask while an orphan is outstanding
 abbrev pub asks_at_once : Pipe → State → List Bool → List Act → ℕ → Thread → Act
 asks_at_once p st bits later s t =
     let d = deeds p st s t in
@@ -150,6 +158,7 @@ abbrev owned_late : List Act → Bool → ℕ → Request → Request → Reques
 owned_late ms false m (Orphan address) next = taken_over m address ms
 owned_late ms answered m r next = next
 
+-- the state after a cycle, where who asks while an orphan is unanswered takes over its request
 abbrev pub gives_late : GoesOn
 gives_late p st bits these =
     let right = after_acts p st bits these in

@@ -13,6 +13,7 @@ new_entries m thread (r ∷ rs) =
     (if r.mem == m then record { thread = thread; address = r.address; value = None } ∷ [] else [])
     ++ new_entries m thread rs
 
+-- a lock's list with the entries of all write reservations that are made
 abbrev pub with_reserves : ℕ → List Act → List Pending → List Pending
 with_reserves m [] list = list
 with_reserves m (a ∷ ms) list = with_reserves m ms list ++ new_entries m a.thread.number a.does.reserves
@@ -22,10 +23,12 @@ abbrev pub with_value_of : ℕ → ℕ → List Pending → List Pending
 with_value_of thread v [] = []
 with_value_of thread v (e ∷ es) = (if e.thread == thread then record e { value = Some v } else e) ∷ with_value_of thread v es
 
+-- a lock's list with the values that one thread writes
 abbrev pub with_writes_of : ℕ → ℕ → List Written → List Pending → List Pending
 with_writes_of m thread [] list = list
 with_writes_of m thread (w ∷ ws) list = with_writes_of m thread ws (if w.mem == m then with_value_of thread w.value list else list)
 
+-- a lock's list with the values that all threads write which move
 abbrev pub with_all_writes : ℕ → List Act → List Pending → List Pending
 with_all_writes m [] list = list
 with_all_writes m (a ∷ ms) list = with_writes_of m a.thread.number a.does.writes (with_all_writes m ms list)
@@ -34,10 +37,12 @@ with_all_writes m (a ∷ ms) list = with_writes_of m a.thread.number a.does.writ
 abbrev pub has_release : ℕ → List Act → Bool
 has_release m ms = list_any (λ a. list_any (λ n. n == m) a.does.releases) ms
 
+-- the oldest entry of a lock's list, where it has one
 abbrev pub oldest : List Pending → Option Pending
 oldest [] = None
 oldest (e ∷ es) = Some e
 
+-- a lock's list without its oldest entry
 abbrev pub but_oldest : List Pending → List Pending
 but_oldest [] = []
 but_oldest (e ∷ es) = es
@@ -46,9 +51,11 @@ but_oldest (e ∷ es) = es
 abbrev pub list_two : State → List Act → ℕ → List Pending
 list_two st ms m = with_all_writes m ms (with_reserves m ms (lock_of st m))
 
+-- a lock's list after step 3
 abbrev pub list_three : State → List Act → ℕ → List Pending
 list_three st ms m = if has_release m ms then but_oldest (list_two st ms m) else list_two st ms m
 
+-- the entry that step 3 takes out, where there is a release
 abbrev pub taken_out : State → List Act → ℕ → Option Pending
 taken_out st ms m = if has_release m ms then oldest (list_two st ms m) else None
 
@@ -57,6 +64,7 @@ abbrev pub with_commit : Arrays → ℕ → Option Pending → Arrays
 with_commit arrays m None = arrays
 with_commit arrays m (Some e) = with_word arrays m e.address (commit_value e.value)
 
+-- the arrays with what the releases put into them, of the memories from number m on
 abbrev pub with_commits : State → List Act → ℕ → List Mem → Arrays → Arrays
 with_commits st ms m [] arrays = arrays
 with_commits st ms m (x ∷ xs) arrays = with_commits st ms (suc m) xs (with_commit arrays m (taken_out st ms m))
@@ -70,21 +78,26 @@ goes_into p f (Some q) = into (stage_at p q).branch
     into None = []
     into (Some b) = if b.fork == f then b.first ∷ [] else []
 
+-- the branches of fork f that are entered by the threads which move from it
 abbrev pub entered_branches : Pipe → ℕ → List Act → List Bool
 entered_branches p f [] = []
 entered_branches p f (a ∷ ms) = entered_branches p f ms ++ (if a.stage == f then goes_into p f (next_stage p a.stage a.does) else [])
 
+-- whether the next stage is there and merges fork f
 abbrev pub goes_out : Pipe → ℕ → Option ℕ → Bool
 goes_out p f None = false
 goes_out p f (Some q) = merges_fork (stage_at p q).merges f
 
+-- whether a thread moves from a branch of fork f into the merge
 abbrev pub has_left : Pipe → ℕ → List Act → Bool
 has_left p f ms = list_any (λ a. is_branch_of (stage_at p a.stage).branch f && goes_out p f (next_stage p a.stage a.does)) ms
 
+-- a fork's list without its first branch
 abbrev pub but_first : List Bool → List Bool
 but_first [] = []
 but_first (b ∷ bs) = bs
 
+-- a fork's list after step 4
 abbrev pub fork_next : Pipe → State → List Act → ℕ → List Bool
 fork_next p st ms f = (if has_left p f ms then but_first (fork_of st f) else fork_of st f) ++ entered_branches p f ms
 
@@ -93,24 +106,29 @@ abbrev pub awaited_of : List Ask → List Awaited
 awaited_of [] = []
 awaited_of (q ∷ qs) = record { mem = q.mem; var = q.var } ∷ awaited_of qs
 
+-- a thread that has moved, as it stands in its next stage
 abbrev pub thread_after : Act → Thread
 thread_after a =
     record { number = a.thread.number; env = a.does.env; guess = a.does.guess; awaits = awaited_of a.does.asks; kept = [] }
 
+-- whether a next stage is there and is stage q
 abbrev pub is_stage : ℕ → Option ℕ → Bool
 is_stage q None = false
 is_stage q (Some r) = r == q
 
+-- the thread of an act, if it moves into stage q, or stands there and does not move
 abbrev pub coming_thread : Pipe → ℕ → Act → Option Thread
 coming_thread p q a =
     if a.moves
     then (if is_stage q (next_stage p a.stage a.does) then Some (thread_after a) else None)
     else (if a.stage == q then Some a.thread else None)
 
+-- the first of two threads, and the second where there is no first
 abbrev pub or_then : Option Thread → Option Thread → Option Thread
 or_then None k = k
 or_then (Some t) k = Some t
 
+-- the thread that stands in stage q after all moves, if one does
 abbrev pub next_thread : Pipe → ℕ → List Act → Option Thread
 next_thread p q [] = None
 next_thread p q (a ∷ these) = or_then (coming_thread p q a) (next_thread p q these)
@@ -120,10 +138,12 @@ abbrev pub asked_of : ℕ → ℕ → List Ask → Request → Request
 asked_of m thread [] old = old
 asked_of m thread (q ∷ qs) old = if q.mem == m then Owned thread q.address else asked_of m thread qs old
 
+-- the request of memory m after the new ones of the threads that move
 abbrev pub asked_by : ℕ → List Act → Request → Request
 asked_by m [] old = old
 asked_by m (a ∷ ms) old = asked_of m a.thread.number a.does.asks (asked_by m ms old)
 
+-- the request of memory m after a cycle's answers and new requests, before a squash
 abbrev pub request_next : Pipe → State → List Bool → List Act → ℕ → Request
 request_next p st bits ms m = asked_by m ms (if is_answered p bits m then NoRequest else request_of st m)
 
@@ -137,6 +157,7 @@ abbrev pub is_kept : Option ℕ → ℕ → Bool
 is_kept None thread = true
 is_kept (Some squasher) thread = nat_le thread squasher
 
+-- a thread, if there is one and the squash keeps it
 abbrev pub if_kept : Option ℕ → Option Thread → Option Thread
 if_kept sq None = None
 if_kept sq (Some t) = if is_kept sq t.number then Some t else None
@@ -151,6 +172,7 @@ abbrev pub merges_by : Pipe → ℕ → Option ℕ → Bool
 merges_by p f None = false
 merges_by p f (Some v) = list_any (λ x. merges_fork x.merges f) (take (suc v) p.stages)
 
+-- what a squash leaves of the list of fork f
 abbrev pub branches_left : Pipe → Option ℕ → ℕ → List Bool → List Bool
 branches_left p sq f list = if is_some sq && merges_by p f (verify_stage p.stmts) then [] else list
 
@@ -164,11 +186,13 @@ abbrev pub child_of : List Act → Option (List ℕ)
 child_of [] = None
 child_of (a ∷ ms) = if is_some a.does.child then a.does.child else child_of ms
 
+-- a new thread with these arguments, where there are some
 abbrev pub born_thread : Pipe → ℕ → Option (List ℕ) → Option Thread
 born_thread p number None = None
 born_thread p number (Some args) =
     Some (record { number = number; env = start_env p args; guess = []; awaits = []; kept = [] })
 
+-- the thread in stage q after a cycle: in stage 0 the new one, else one that the squash keeps
 abbrev pub stage_next : Pipe → State → List Act → Option ℕ → ℕ → Option Thread
 stage_next p st these sq q =
     or_then (if q == 0 then born_thread p st.next (child_of (movers these)) else None) (if_kept sq (next_thread p q these))
@@ -178,6 +202,7 @@ abbrev pub for_mems : {X : Type 0} → (ℕ → X) → ℕ → List Mem → List
 for_mems f m [] = []
 for_mems f m (x ∷ xs) = f m ∷ for_mems f (suc m) xs
 
+-- what a function gives for each stage, of which the first has the number s
 abbrev pub for_stages : {X : Type 0} → (ℕ → X) → ℕ → List Stage → List X
 for_stages f s [] = []
 for_stages f s (x ∷ xs) = f s ∷ for_stages f (suc s) xs
@@ -194,9 +219,11 @@ after_these p st bits these ms sq =
       next = if is_some (child_of ms) then suc st.next else st.next;
     }
 
+-- the state after a cycle in which all threads act so
 abbrev pub after_acts : Pipe → State → List Bool → List Act → State
 after_acts p st bits these = after_these p st bits these (movers these) (squasher (movers these))
 
+-- the state after a cycle with these reply bits
 abbrev pub cycle : Pipe → State → List Bool → State
 cycle p st bits = after_acts p st bits (all_acts p st bits)
 
@@ -219,6 +246,7 @@ pub record PortWrite : Type 0 where
   pub address : ℕ
   pub value : ℕ
 
+-- a write that is released, as a port shows it
 abbrev pub port_write : Option Pending → Option PortWrite
 port_write None = None
 port_write (Some e) = Some (record { address = e.address; value = commit_value e.value })
@@ -231,14 +259,17 @@ pub record Ports : Type 0 where
   pub ended : Bool  -- a thread moved out of the last stage
   pub squash : Bool  -- a failing verify moved
 
+-- the address of the first of these requests that is of memory m, else what the rest gives
 abbrev pub address_of : ℕ → List Ask → Option ℕ → Option ℕ
 address_of m [] rest = rest
 address_of m (q ∷ qs) rest = if q.mem == m then Some q.address else address_of m qs rest
 
+-- the address of memory m that a thread which moves asks for, if one does
 abbrev pub asked_in : List Act → ℕ → Option ℕ
 asked_in [] m = None
 asked_in (a ∷ ms) m = address_of m a.does.asks (asked_in ms m)
 
+-- the ports in a cycle in which all threads act so, and just these move
 abbrev pub ports_these : Pipe → State → List Act → List Act → Ports
 ports_these p st these ms =
     record {
@@ -250,6 +281,7 @@ ports_these p st these ms =
       squash = is_some (squasher ms);
     }
 
+-- the ports in a cycle in which all threads act so
 abbrev pub ports : Pipe → State → List Act → Ports
 ports p st these = ports_these p st these (movers these)
 
@@ -258,10 +290,12 @@ abbrev pub is_outstanding : Request → Bool
 is_outstanding NoRequest = false
 is_outstanding _ = true
 
+-- whether a request is outstanding and not answered, of those of the memories from number m on
 abbrev pub waits_from : Pipe → List Bool → ℕ → List Request → Bool
 waits_from p bits m [] = false
 waits_from p bits m (r ∷ rs) = (is_outstanding r && not (is_answered p bits m)) || waits_from p bits (suc m) rs
 
+-- whether a cycle with these reply bits is a wait
 abbrev pub is_wait : Pipe → State → List Bool → Bool
 is_wait p st bits = waits_from p bits 0 st.requests
 
@@ -271,15 +305,18 @@ pub record Turn : Type 0 where
   pub ports : Ports
   pub wait : Bool
 
+-- what each cycle with these replies shows, from this state on
 abbrev pub turns_from : Pipe → State → List (List Bool) → List Turn
 turns_from p st [] = []
 turns_from p st (bits ∷ schedule) =
     let these = all_acts p st bits in
     record { ports = ports p st these; wait = is_wait p st bits } ∷ turns_from p (after_acts p st bits these) schedule
 
+-- what each cycle of a run from this image shows
 abbrev pub turns : Pipe → Arrays → List (List Bool) → List Turn
 turns p image schedule = turns_from p (first p image) schedule
 
+-- the state after cycles with these replies
 abbrev pub state_after : Pipe → State → List (List Bool) → State
 state_after p st [] = st
 state_after p st (bits ∷ schedule) = state_after p (cycle p st bits) schedule
@@ -289,9 +326,11 @@ abbrev pub count : (Turn → Bool) → List Turn → ℕ
 count test [] = 0
 count test (t ∷ ts) = if test t then suc (count test ts) else count test ts
 
+-- how many threads ended in these cycles
 abbrev pub ended_in : List Turn → ℕ
 ended_in ts = count (λ t. t.ports.ended) ts
 
+-- how many of these cycles were waits
 abbrev pub waits_in : List Turn → ℕ
 waits_in ts = count (λ t. t.wait) ts
 
@@ -300,6 +339,7 @@ abbrev pub commit_shown : ℕ → Option PortWrite → List Commit
 commit_shown m None = []
 commit_shown m (Some w) = record { mem = m; address = w.address; value = w.value } ∷ []
 
+-- what these cycles commit to memory m, in their order
 abbrev pub commits : ℕ → List Turn → List Commit
 commits m [] = []
 commits m (t ∷ ts) = commit_shown m (slice_index_or t.ports.commits m None) ++ commits m ts
@@ -314,6 +354,7 @@ abbrev pub letters : List Bool → List Bool → List ℕ
 letters (v ∷ vs) (m ∷ ms) = letter v m ∷ letters vs ms
 letters _ _ = []
 
+-- the letters of each cycle, one for each stage
 abbrev pub view : List Turn → List (List ℕ)
 view [] = []
 view (t ∷ ts) = letters t.ports.valid t.ports.moves ∷ view ts

@@ -137,6 +137,7 @@ list_all test (x ∷ xs) = test x && list_all test xs
 abbrev pub takes_branch : Bool → ℕ → Bool
 takes_branch first v = if first then v == 1 else not (v == 1)
 
+-- whether all these branches are taken where the variables have these values
 abbrev pub all_hold : List Guard → List ℕ → Bool
 all_hold [] env = true
 all_hold (g ∷ gs) env = takes_branch g.first (slice_index env g.var) && all_hold gs env
@@ -149,6 +150,7 @@ start_env p args = args ++ replicate (p.vars - length args) 0
 abbrev pub Array : Type 0
 Array = ℕ → ℕ
 
+-- the words of each memory, by the memories' numbers
 abbrev pub Arrays : Type 0
 Arrays = ℕ → Array
 
@@ -156,6 +158,7 @@ Arrays = ℕ → Array
 abbrev pub arrays_of : List (List ℕ) → Arrays
 arrays_of image m a = slice_index (slice_index_or image m []) a
 
+-- the word of memory m at an address
 abbrev pub word_at : Arrays → ℕ → ℕ → ℕ
 word_at arrays m a = arrays m a
 
@@ -163,6 +166,7 @@ word_at arrays m a = arrays m a
 abbrev pub with_value : Array → ℕ → ℕ → Array
 with_value words a v b = if b == a then v else words b
 
+-- the words with one more value written into memory m
 abbrev pub with_word : Arrays → ℕ → ℕ → ℕ → Arrays
 with_word arrays m a v n = if n == m then with_value (arrays m) a v else arrays n
 

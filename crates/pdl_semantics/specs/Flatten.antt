@@ -18,6 +18,7 @@ abbrev pub var_of : List Var → List ℕ → ℕ
 var_of [] x = 0
 var_of (v ∷ vs) x = if bytes_eq v.name x then 0 else suc (var_of vs x)
 
+-- the width of the variable of this name, 0 where there is none
 abbrev pub var_width : List Var → List ℕ → ℕ
 var_width [] x = 0
 var_width (v ∷ vs) x = if bytes_eq v.name x then v.width else var_width vs x
@@ -27,6 +28,7 @@ abbrev pub mem_of : List Mem → List ℕ → ℕ
 mem_of [] m = 0
 mem_of (x ∷ xs) m = if bytes_eq x.name.name m then 0 else suc (mem_of xs m)
 
+-- the width of the words of the memory of this name, 0 where there is none
 abbrev pub mem_width : List Mem → List ℕ → ℕ
 mem_width [] m = 0
 mem_width (x ∷ xs) m = if bytes_eq x.name.name m then x.width.value else mem_width xs m
@@ -73,6 +75,7 @@ flat_expr vs (ZeroExtend a width) = Flat.ZeroExtend width.value (flat_expr vs a)
 flat_expr vs (SignExtend a width) = Flat.SignExtend (width_of vs a) width.value (flat_expr vs a)
 flat_expr vs (Choose c a b) = Flat.Choose (flat_expr vs c) (flat_expr vs a) (flat_expr vs b)
 
+-- expressions over the variables' numbers
 abbrev pub flat_exprs : List Var → List Expr → List Flat.Expr
 flat_exprs vs [] = []
 flat_exprs vs (e ∷ es) = flat_expr vs e ∷ flat_exprs vs es
@@ -113,6 +116,7 @@ on_variable f rest (Choose c a b) = rest
 abbrev pub guard_of : List Var → Expr → ℕ
 guard_of vs e = on_variable (var_of vs) (length vs) e
 
+-- the place after a condition: one that is no plain variable has a variable of 1 bit of its own
 abbrev pub with_guard : Expr → Position → Position
 with_guard e at' = on_variable (λ x. at') (with_var [] 1 at') e
 
@@ -145,6 +149,7 @@ at_otherwise ms c when at' = back_in at'.stage (past_all ms when (with_guard c a
 
 -- STATEMENTS
 
+-- one flat statement with the stage of this place, under these guards
 abbrev pub at_position : List Flat.Guard → Position → Flat.Op → List Flat.Stmt
 at_position gs at' op = record { stage = at'.stage; guards = gs; op = op } ∷ []
 
@@ -156,6 +161,7 @@ binds_guard gs at' e = on_variable (λ x. []) (at_position gs at' (Flat.Bind (le
 abbrev pub under : List Flat.Guard → List Var → Expr → Bool → List Flat.Guard
 under gs vs c first = gs ++ record { var = guard_of vs c; first = first } ∷ []
 
+-- a reservation in flat form, by its kind
 abbrev pub reserve_op : Kind → ℕ → ℕ → Flat.Op
 reserve_op R m a = Flat.ReserveRead m a
 reserve_op W m a = Flat.ReserveWrite m a
@@ -228,6 +234,7 @@ abbrev pub with_merge : ℕ → List Flat.Stage → List Flat.Stage
 with_merge f [] = []
 with_merge f (x ∷ xs) = record x { merges = Some f } ∷ xs
 
+-- a branch of fork f, the first one or the second
 abbrev pub side : ℕ → Bool → Option Flat.Branch
 side f first = Some (record { fork = f; first = first })
 
@@ -276,10 +283,12 @@ abbrev mutual
 
 -- THE WHOLE
 
+-- the parameters as variables
 abbrev pub params_of : List Param → List Var
 params_of [] = []
 params_of (x ∷ xs) = record { name = x.name.name; width = x.width.value } ∷ params_of xs
 
+-- a memory's lock in flat form, with its size
 abbrev pub flat_lock : Option LockDecl → Flat.Lock
 flat_lock None = Flat.Plain
 flat_lock (Some l) = of_kind l.kind l.size.value
@@ -289,6 +298,7 @@ flat_lock (Some l) = of_kind l.kind l.size.value
     of_kind Bypass n = Flat.Bypass n
     of_kind Rename n = Flat.Rename n
 
+-- memories in flat form
 abbrev pub mems_of : List Mem → List Flat.Mem
 mems_of [] = []
 mems_of (m ∷ ms) = record { width = m.width.value; depth = m.depth.value; delayed = m.delayed; lock = flat_lock m.lock } ∷ mems_of ms
@@ -302,6 +312,7 @@ start_of (l ∷ ls) = unwrap_or l.value 0 ∷ start_of ls
 abbrev pub at_start : Pipe → Position
 at_start p = record { vars = params_of p.params; stage = 0; begun = 0 }
 
+-- the stages of a pipe: stage 0, and those that its separators begin
 abbrev pub stages_of : Pipe → List Flat.Stage
 stages_of p =
     let g = graph p.mems None Flat.Ends p.body (at_start p) in
@@ -317,6 +328,7 @@ abbrev pub first_stages : (ℕ → Flat.Op → Bool) → List Flat.Stmt → ℕ 
 first_stages test xs m [] = []
 first_stages test xs m (x ∷ ms) = first_stage (test m) xs ∷ first_stages test xs (suc m) ms
 
+-- the flat form of a pipe
 abbrev pub flat : Pipe → Flat.Pipe
 flat p =
     let stmts = flat_stmts p.mems [] p.body (at_start p) in

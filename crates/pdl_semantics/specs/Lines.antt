@@ -38,6 +38,7 @@ put_line n m w =
 abbrev pub mem_lines : ℕ → Column → List Put → List ℕ
 mem_lines n m ws = flat_map (put_line n m) ws
 
+-- the lines of one cycle: those of each memory in order
 abbrev pub cycle_lines : ℕ → List Column → List (List Put) → List ℕ
 cycle_lines n (m ∷ ms) (ws ∷ rest) = mem_lines n m ws ++ cycle_lines n ms rest
 cycle_lines n _ _ = []
@@ -60,6 +61,7 @@ lines ms cs =
 
 -- SEQUENTIAL RUNS
 
+-- a memory of a pipe, as lines show it
 abbrev pub column : Mem → Column
 column m = record { name = m.name.name; width = m.width.value }
 
@@ -82,6 +84,7 @@ by_mem m (x ∷ xs) cs = puts_of (of_mem m cs) ∷ by_mem (suc m) xs cs
 abbrev pub thread_cycle : List Column → List Commit → Cycle
 thread_cycle ms writes = record { puts = by_mem 0 ms writes; ended = true; wait = false; squash = false }
 
+-- cycles in each of which a whole thread runs and ends
 abbrev pub thread_cycles : List Column → List (List Commit) → List Cycle
 thread_cycles ms [] = []
 thread_cycles ms (ws ∷ rest) = thread_cycle ms ws ∷ thread_cycles ms rest
@@ -100,6 +103,7 @@ column_at (x ∷ xs) (suc m) = column_at xs m
 abbrev pub thread_lines : ℕ → List Column → List Commit → List ℕ
 thread_lines n ms cs = flat_map (λ c. put_line n (column_at ms c.mem) (record { address = c.address; value = c.value })) cs
 
+-- the lines of threads, of which the first has this number
 abbrev pub threads_lines : ℕ → List Column → List (List Commit) → List ℕ
 threads_lines n ms [] = []
 threads_lines n ms (ws ∷ rest) = thread_lines n ms ws ++ threads_lines (suc n) ms rest
@@ -117,13 +121,16 @@ abbrev pub put_of : Option PortWrite → List Put
 put_of None = []
 put_of (Some w) = record { address = w.address; value = w.value } ∷ []
 
+-- the words that releases put into the array of each memory
 abbrev pub puts_in : List (Option PortWrite) → List (List Put)
 puts_in [] = []
 puts_in (e ∷ es) = put_of e ∷ puts_in es
 
+-- a cycle of the machine, as lines show it
 abbrev pub turn_cycle : Turn → Cycle
 turn_cycle t = record { puts = puts_in t.ports.commits; ended = t.ports.ended; wait = t.wait; squash = t.ports.squash }
 
+-- cycles of the machine, as lines show them
 abbrev pub turn_cycles : List Turn → List Cycle
 turn_cycles [] = []
 turn_cycles (t ∷ ts) = turn_cycle t ∷ turn_cycles ts
@@ -137,6 +144,7 @@ abbrev pub view_from : ℕ → List (List ℕ) → List ℕ
 view_from n [] = []
 view_from n (stages ∷ rest) = decimal n ++ codes " " ++ stages ++ codes "\n" ++ view_from (suc n) rest
 
+-- the text of `view` for a run from this image with these replies
 abbrev pub view_lines : Pipe → List (List ℕ) → List (List Bool) → List ℕ
 view_lines p image schedule = view_from 1 (view (turns (flat p) (arrays_of image) schedule))
 

@@ -8,14 +8,17 @@ pub data Latest : Type 0 where
   Coming : Latest
   Known : (value : ℕ) → Latest
 
+-- what a pending write says by its value: that it is known, or still to come
 abbrev pub as_latest : Option ℕ → Latest
 as_latest None = Coming
 as_latest (Some v) = Known v
 
+-- whether no write of the address is pending
 abbrev pub is_nothing : Latest → Bool
 is_nothing Nothing = true
 is_nothing _ = false
 
+-- whether the value of the youngest pending write is still to come
 abbrev pub is_coming : Latest → Bool
 is_coming Coming = true
 is_coming _ = false

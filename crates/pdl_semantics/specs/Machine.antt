@@ -44,12 +44,15 @@ pub record State : Type 0 where
   pub requests : List Request  -- for each memory
   pub next : ℕ  -- the next thread's number
 
+-- the pending writes of memory m, the oldest first
 abbrev pub lock_of : State → ℕ → List Pending
 lock_of st m = slice_index_or st.locks m []
 
+-- the branches that the threads inside fork f have taken, the oldest thread's first
 abbrev pub fork_of : State → ℕ → List Bool
 fork_of st f = slice_index_or st.forks f []
 
+-- the request of memory m
 abbrev pub request_of : State → ℕ → Request
 request_of st m = slice_index_or st.requests m NoRequest
 
@@ -61,6 +64,7 @@ pub record Ask : Type 0 where
   pub var : ℕ
   pub address : ℕ
 
+-- whether two lists of numbers are the same
 abbrev pub same_args : List ℕ → List ℕ → Bool
 same_args [] [] = true
 same_args (x ∷ xs) (y ∷ ys) = (x == y) && same_args xs ys
@@ -80,6 +84,7 @@ abbrev pub let_go : List HeldLocation → ℕ → ℕ → List HeldLocation
 let_go [] m a = []
 let_go (l ∷ ls) m a = if (l.mem == m) && (l.var == a) then ls else l ∷ let_go ls m a
 
+-- the locations that are held for writing after a statement
 abbrev pub held_after : Op → List HeldLocation → List HeldLocation
 held_after (ReserveWrite m a) ls = record { mem = m; var = a } ∷ ls
 held_after (Release m a) ls = let_go ls m a
@@ -130,6 +135,7 @@ pub record Deeds : Type 0 where
   pub child : Option (List ℕ)  -- the new thread's arguments
   pub fails : Bool  -- whether a verify fails
 
+-- what a `verify` does: other arguments than the guess's make a new thread and fail
 abbrev pub after_verify : List ℕ → Deeds → Deeds
 after_verify args d = if same_args args d.guess then d else record d { child = Some args; fails = true }
 
@@ -158,6 +164,7 @@ deeds_after read (Verify args) d = after_verify (values_of args d.env) d
 deeds_after read SpecCheck d = d
 deeds_after read SpecBarrier d = record d { barrier = true }
 
+-- what statements do in text order, those whose guards hold
 abbrev pub deeds_after_all : (ℕ → ℕ → ℕ) → List Stmt → Deeds → Deeds
 deeds_after_all read [] d = d
 deeds_after_all read (x ∷ xs) d = deeds_after_all read xs (if all_hold x.guards d.env then deeds_after read x.op d else d)
@@ -174,6 +181,7 @@ youngest [] thread a found = found
 youngest (e ∷ es) thread a found =
     youngest es thread a (if nat_lt e.thread thread && (e.address == a) then as_latest e.value else found)
 
+-- what the youngest pending write by an older thread says of an address of memory m
 abbrev pub older_write : State → ℕ → ℕ → ℕ → Latest
 older_write st thread m a = youngest (lock_of st m) thread a Nothing
 
@@ -186,9 +194,11 @@ abbrev pub answer_to : State → ℕ → ℕ → Request → Bool → Option ℕ
 answer_to st thread m (Owned owner a) bit = if bit && (owner == thread) then Some (word_at st.arrays m a) else None
 answer_to st thread m _ bit = None
 
+-- the answer that a thread has from memory m in this cycle
 abbrev pub answer_for : Pipe → State → List Bool → ℕ → ℕ → Option ℕ
 answer_for p st bits thread m = answer_to st thread m (request_of st m) (is_answered p bits m)
 
+-- an answer, where there is one, kept for the variable that it is for
 abbrev pub kept_answer : ℕ → Option ℕ → List Kept
 kept_answer x None = []
 kept_answer x (Some word) = record { var = x; word = word } ∷ []
@@ -199,6 +209,7 @@ unanswered_reads p st bits thread [] = []
 unanswered_reads p st bits thread (r ∷ rs) =
     (if is_some (answer_for p st bits thread r.mem) then [] else r ∷ []) ++ unanswered_reads p st bits thread rs
 
+-- the answers that this cycle gives to the reads which a thread awaits
 abbrev pub answered_reads : Pipe → State → List Bool → ℕ → List Awaited → List Kept
 answered_reads p st bits thread [] = []
 answered_reads p st bits thread (r ∷ rs) = kept_answer r.var (answer_for p st bits thread r.mem) ++ answered_reads p st bits thread rs

@@ -27,6 +27,7 @@ block_ready p st thread b =
     then write_ready (mem_at p b.mem).lock (older_write st thread b.mem b.address)
     else read_ready (mem_at p b.mem).lock (older_write st thread b.mem b.address)
 
+-- each block of the thread's stage is ready
 abbrev pub blocks_ready : Pipe → State → ℕ → Deeds → Bool
 blocks_ready p st thread d = list_all (λ b. block_ready p st thread b) d.blocks
 
@@ -45,6 +46,7 @@ is_free NoRequest bit later = true
 is_free (Orphan a) bit later = bit
 is_free (Owned owner a) bit later = bit && list_any (λ o. (o.thread.number == owner) && o.moves) later
 
+-- the port of each delayed read of the thread's stage is free
 abbrev pub ports_free : Pipe → State → List Bool → List Act → Deeds → Bool
 ports_free p st bits later d = list_all (λ q. is_free (request_of st q.mem) (is_answered p bits q.mem) later) d.asks
 
@@ -53,6 +55,7 @@ abbrev pub none_up_to : Option ℕ → List Act → Bool
 none_up_to None later = true
 none_up_to (Some v) later = list_all (λ o. nat_lt v o.stage) later
 
+-- there is no barrier, or no later stage up to V holds a thread
 abbrev pub barrier_clear : Pipe → List Act → Deeds → Bool
 barrier_clear p later d = not d.barrier || none_up_to (verify_stage p.stmts) later
 
@@ -66,15 +69,18 @@ abbrev pub is_first : Bool → List Bool → Bool
 is_first b [] = false
 is_first b (c ∷ cs) = if b then c else not c
 
+-- whether a fork's list is empty: no thread is inside
 abbrev pub is_nobody : List Bool → Bool
 is_nobody [] = true
 is_nobody (c ∷ cs) = false
 
+-- whether a thread from this branch, or from none, may enter a stage that merges this fork, or none
 abbrev pub may_merge : State → Option ℕ → Option Branch → Bool
 may_merge st None from = true
 may_merge st (Some f) None = is_nobody (fork_of st f)
 may_merge st (Some f) (Some b) = is_first b.first (fork_of st f)
 
+-- whether a thread in stage s may enter this next stage, as a merge
 abbrev pub merges_well : Pipe → State → ℕ → Option ℕ → Bool
 merges_well p st s None = true
 merges_well p st s (Some q) = may_merge st (stage_at p q).merges (stage_at p s).branch
@@ -91,9 +97,11 @@ may_move p st bits later s t d =
     && can_enter (next_stage p s d) later
     && merges_well p st s (next_stage p s d)
 
+-- a thread's act, where its stage's statements do this
 abbrev pub act_of : Pipe → State → List Bool → List Act → ℕ → Thread → Deeds → Act
 act_of p st bits later s t d = record { stage = s; thread = t; does = d; moves = may_move p st bits later s t d }
 
+-- a thread's act, by what its stage's statements do in this state
 abbrev pub act : Pipe → State → List Bool → List Act → ℕ → Thread → Act
 act p st bits later s t = act_of p st bits later s t (deeds p st s t)
 
@@ -105,6 +113,7 @@ acts p st bits s (Some t ∷ stages) =
     let later = acts p st bits (suc s) stages in
     act p st bits later s (with_answers p st bits t) ∷ later
 
+-- the acts of all threads in a cycle
 abbrev pub all_acts : Pipe → State → List Bool → List Act
 all_acts p st bits = acts p st bits 0 st.stages
 

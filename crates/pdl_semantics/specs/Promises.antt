@@ -10,10 +10,12 @@ use Rattle.pdl_semantics.specs.Cycle.{first, turns, state_after, ended_in, waits
 abbrev pub row : Arrays → ℕ → Array
 row arrays m = arrays m
 
+-- a memory's words after these writes to it, in order
 abbrev pub wrote : Array → List Commit → Array
 wrote words [] = words
 wrote words (c ∷ cs) = wrote (with_value words c.address c.value) cs
 
+-- some writes are the first ones of others
 abbrev pub IsPrefix : List Commit → List Commit → Type 0
 IsPrefix xs ys = (rest : List Commit) × (xs ++ rest ≡ ys)
 
@@ -33,10 +35,12 @@ abbrev pub older_of : Act → Option Act → Act
 older_of a None = a
 older_of a (Some b) = if nat_lt b.thread.number a.thread.number then b else a
 
+-- the act of the oldest thread, where there is one
 abbrev pub oldest_act : List Act → Option Act
 oldest_act [] = None
 oldest_act (a ∷ these) = Some (older_of a (oldest_act these))
 
+-- whether there is an act, and its thread moves
 abbrev pub it_moves : Option Act → Bool
 it_moves None = false
 it_moves (Some a) = a.moves

@@ -61,5 +61,6 @@ abbrev pub turn_at : Pipe → Arrays → List ℕ → ℕ → Run
 turn_at p arrays args zero = record { arrays = arrays; env = []; writes = []; next = args }
 turn_at p arrays args (suc k) = thread p (turn_at p arrays args k).arrays (turn_at p arrays args k).next
 
+-- the arrays and the next arguments after the first k threads
 abbrev pub after_turns : Pipe → Arrays → ℕ → Run
 after_turns p image k = turn_at p image p.start k

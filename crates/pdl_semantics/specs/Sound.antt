@@ -15,6 +15,7 @@ pub record Live : Type 0 where
   pub stage : ℕ
   pub thread : Thread
 
+-- the number of a live thread
 abbrev pub number_of : Live → ℕ
 number_of l = l.thread.number
 
@@ -29,6 +30,7 @@ live_from s [] = []
 live_from s (None ∷ xs) = live_from (suc s) xs
 live_from s (Some t ∷ xs) = put_in (record { stage = s; thread = t }) (live_from (suc s) xs)
 
+-- all live threads of a state, the oldest first
 abbrev pub live : State → List Live
 live st = live_from 0 st.stages
 
@@ -52,6 +54,7 @@ abbrev pub stages_before : ℕ → List Stmt → List Stmt
 stages_before s [] = []
 stages_before s (x ∷ xs) = if nat_lt x.stage s then x ∷ stages_before s xs else stages_before s xs
 
+-- the statements in the stages from s on
 abbrev pub stages_from : ℕ → List Stmt → List Stmt
 stages_from s [] = []
 stages_from s (x ∷ xs) = if nat_le s x.stage then x ∷ stages_from s xs else stages_from s xs
@@ -60,6 +63,7 @@ stages_from s (x ∷ xs) = if nat_le s x.stage then x ∷ stages_from s xs else 
 abbrev pub past_stmts : Pipe → Live → List Stmt
 past_stmts p l = onpath l.thread.env (stages_before l.stage p.stmts)
 
+-- a live thread has carried out a statement that passes the test
 abbrev pub has_done : (Op → Bool) → Pipe → Live → Bool
 has_done test p l = list_any (λ x. test x.op) (past_stmts p l)
 
@@ -72,6 +76,7 @@ holds_mem m p l = list_any (λ h. h.mem == m) (held_places p l)
 
 -- KINDS OF STATEMENT
 
+-- a call, on a guess or not
 abbrev pub is_call : Op → Bool
 is_call (Call args) = true
 is_call (SpecCall args) = true
@@ -87,6 +92,7 @@ is_call (Verify args) = false
 is_call SpecCheck = false
 is_call SpecBarrier = false
 
+-- a call on a guess
 abbrev pub is_spec_call : Op → Bool
 is_spec_call (SpecCall args) = true
 is_spec_call (Bind x e) = false
@@ -102,6 +108,7 @@ is_spec_call (Verify args) = false
 is_spec_call SpecCheck = false
 is_spec_call SpecBarrier = false
 
+-- a `spec_barrier`
 abbrev pub is_barrier : Op → Bool
 is_barrier SpecBarrier = true
 is_barrier (Bind x e) = false
@@ -117,6 +124,7 @@ is_barrier (SpecCall args) = false
 is_barrier (Verify args) = false
 is_barrier SpecCheck = false
 
+-- a write of memory m
 abbrev pub is_write : ℕ → Op → Bool
 is_write m (Write n a e) = n == m
 is_write m (Bind x e) = false
@@ -132,6 +140,7 @@ is_write m (Verify args) = false
 is_write m SpecCheck = false
 is_write m SpecBarrier = false
 
+-- a reservation of memory m for writing
 abbrev pub is_write_reserve : ℕ → Op → Bool
 is_write_reserve m (ReserveWrite n a) = n == m
 is_write_reserve m (Bind x e) = false
@@ -147,6 +156,7 @@ is_write_reserve m (Verify args) = false
 is_write_reserve m SpecCheck = false
 is_write_reserve m SpecBarrier = false
 
+-- the release of the location in memory m whose address is variable a
 abbrev pub is_release_at : ℕ → ℕ → Op → Bool
 is_release_at m a op = on_release (λ n b. (n == m) && (b == a)) false op
 
@@ -199,6 +209,7 @@ strays_of p arrays args (l ∷ ls) =
 abbrev pub followers : Pipe → Arrays → ℕ → State → List Follower
 followers p image n st = followers_of p (after_turns p image n).arrays (after_turns p image n).next (live st)
 
+-- the live threads after the followers, of a state in which n threads have ended
 abbrev pub strays : Pipe → Arrays → ℕ → State → List Live
 strays p image n st = strays_of p (after_turns p image n).arrays (after_turns p image n).next (live st)
 
@@ -206,9 +217,11 @@ strays p image n st = strays_of p (after_turns p image n).arrays (after_turns p 
 abbrev pub turn_of : Pipe → Follower → Run
 turn_of p f = thread p f.arrays f.args
 
+-- the writes to m of a follower's whole turn
 abbrev pub turn_writes : ℕ → Pipe → Follower → List Commit
 turn_writes m p f = of_mem m (turn_of p f).writes
 
+-- a follower's turn before the stage in which it stands
 abbrev pub turn_so_far : Pipe → Follower → Run
 turn_so_far p f =
     run_all (stages_before f.live.stage p.stmts)
@@ -216,6 +229,7 @@ turn_so_far p f =
 
 -- 1. ORDER. Of two live threads the older stands in the greater stage, or they stand in the two branches of one fork
 
+-- the branches that two stages stand in are the two of one fork
 abbrev pub other_branch : Option Branch → Option Branch → Bool
 other_branch (Some a) (Some b) = (a.fork == b.fork) && (if a.first then not b.first else b.first)
 other_branch _ _ = false
@@ -229,20 +243,24 @@ abbrev pub side_in : ℕ → Option Branch → List Bool
 side_in f None = []
 side_in f (Some b) = if b.fork == f then b.first ∷ [] else []
 
+-- the branches of fork f that these threads stand in
 abbrev pub sides_in : Pipe → ℕ → List Live → List Bool
 sides_in p f [] = []
 sides_in p f (l ∷ ls) = side_in f (stage_at p l.stage).branch ++ sides_in p f ls
 
+-- two lists of branches are the same
 abbrev pub same_sides : List Bool → List Bool → Bool
 same_sides [] [] = true
 same_sides (a ∷ xs) (b ∷ ys) = (if a then b else not b) && same_sides xs ys
 same_sides _ _ = false
 
+-- point 1: the live threads are in order, and each fork's list has their branches
 abbrev pub in_order : Pipe → State → Bool
 in_order p st = all_pairs (λ older younger. nat_lt older.thread.number younger.thread.number && is_behind p older younger) (live st) && all_from (λ f. same_sides (fork_of st f) (sides_in p f (live st))) 0 p.stages
 
 -- 2. CHAIN. At least one thread lives; each but the youngest has made its successor, the youngest hasn't
 
+-- point 2: of these threads, at least one, each but the last has made its successor, the last hasn't
 abbrev pub are_linked : Pipe → List Live → Bool
 are_linked p [] = false
 are_linked p (l ∷ []) = not (has_done is_call p l)
@@ -250,6 +268,7 @@ are_linked p (l ∷ k ∷ ls) = has_done is_call p l && are_linked p (k ∷ ls)
 
 -- 3. VALUES. A follower's values, once its awaited reads are answered, are those of its turn, and so are the addresses that it awaits
 
+-- the address of a request, 0 where there is none
 abbrev pub request_address : Request → ℕ
 request_address NoRequest = 0
 request_address (Owned owner a) = a
@@ -258,16 +277,20 @@ request_address (Orphan a) = a
 abbrev pub awaited_word : State → Awaited → Kept
 awaited_word st r = record { var = r.var; word = word_at st.arrays r.mem (request_address (request_of st r.mem)) }
 
+-- the answers that awaited reads will have
 abbrev pub awaited_words : State → List Awaited → List Kept
 awaited_words st [] = []
 awaited_words st (r ∷ rs) = awaited_word st r ∷ awaited_words st rs
 
+-- a thread's values once its awaited reads are answered
 abbrev pub once_answered : State → Thread → List ℕ
 once_answered st t = with_kept (awaited_words st t.awaits) (with_kept t.kept t.env)
 
+-- a delayed read of memory m that binds x, at this address by these values
 abbrev pub has_asked : List ℕ → ℕ → ℕ → ℕ → Op → Bool
 has_asked env x m address op = on_delayed_read (λ y n a. (y == x) && (n == m) && (slice_index env a == address)) false op
 
+-- point 3 of a follower: its values, and the addresses that it awaits, are those of its turn
 abbrev pub follows_values : Pipe → State → Follower → Bool
 follows_values p st f =
     same_args (once_answered st f.live.thread) (turn_so_far p f).env
@@ -275,14 +298,17 @@ follows_values p st f =
 
 -- 4. PENDING WRITES. A lock's list has one entry for each location that a live thread holds for writing, in thread order
 
+-- the thread's number, once for each of these locations that is in memory m
 abbrev pub held_of : ℕ → ℕ → List HeldLocation → List ℕ
 held_of m thread [] = []
 held_of m thread (h ∷ hs) = if h.mem == m then thread ∷ held_of m thread hs else held_of m thread hs
 
+-- for each location of memory m that these threads hold for writing, the number of its thread
 abbrev pub holders : Pipe → ℕ → List Live → List ℕ
 holders p m [] = []
 holders p m (l ∷ ls) = held_of m l.thread.number (held_places p l) ++ holders p m ls
 
+-- the numbers of the threads of pending writes
 abbrev pub owners : List Pending → List ℕ
 owners [] = []
 owners (e ∷ es) = e.thread ∷ owners es
@@ -292,21 +318,25 @@ abbrev pub has_value : Option ℕ → ℕ → Bool
 has_value None v = false
 has_value (Some w) v = w == v
 
+-- an entry has the address of the first of these writes and, once written, its value
 abbrev pub is_right_entry : Bool → List Commit → Pending → Bool
 is_right_entry written [] e = false
 is_right_entry written (c ∷ cs) e =
     (e.address == c.address) && (if written then has_value e.value c.value else is_none e.value)
 
+-- each entry of a follower in the list of memory m is right
 abbrev pub right_entries : Pipe → State → ℕ → Follower → Bool
 right_entries p st m f =
     list_all (λ e. not (e.thread == f.live.thread.number) || is_right_entry (has_done (is_write m) p f.live) (turn_writes m p f) e) (lock_of st m)
 
+-- point 4 of memory m: its list has an entry for each location held, and those of followers are right
 abbrev pub pending_right : Pipe → Arrays → ℕ → State → ℕ → Bool
 pending_right p image n st m =
     same_args (owners (lock_of st m)) (holders p m (live st)) && list_all (right_entries p st m) (followers p image n st)
 
 -- 5. ARRAYS. An array is the image with, in order, the writes of the ended turns and the released ones of followers; no later thread has released a write
 
+-- the writes to m that followers have released, in order
 abbrev pub released_by : ℕ → Pipe → List Follower → List Commit
 released_by m p [] = []
 released_by m p (f ∷ fs) = (if has_released m p f.live then turn_writes m p f else []) ++ released_by m p fs
@@ -316,18 +346,21 @@ array_right p image n st m depth =
     all_below (λ a. word_at st.arrays m a == wrote (row image m) (seqwrites p image m n ++ released_by m p (followers p image n st)) a) depth
     && list_all (λ l. not (has_released m p l)) (strays p image n st)
 
+-- point 5 of the memories from number m on
 abbrev pub arrays_right : Pipe → Arrays → ℕ → State → ℕ → List Mem → Bool
 arrays_right p image n st m [] = true
 arrays_right p image n st m (x ∷ xs) = array_right p image n st m x.depth && arrays_right p image n st (suc m) xs
 
 -- 6. CERTAINTY. A thread that has moved on from a barrier, or stands after V, has only older threads that stand after V
 
+-- point 6 of two threads: where the younger is past a barrier or V, the older stands after V
 abbrev pub certain_after : Pipe → Option ℕ → Live → Live → Bool
 certain_after p None older younger = true
 certain_after p (Some v) older younger = not (nat_lt v younger.stage || has_done is_barrier p younger) || nat_lt v older.stage
 
 -- 7. REQUESTS. What a thread asked for in its last stage is kept, or awaited with its request outstanding
 
+-- there is a number, and it passes the test
 abbrev pub one_of : (ℕ → Bool) → Option ℕ → Bool
 one_of test None = false
 one_of test (Some q) = test q
@@ -336,18 +369,22 @@ one_of test (Some q) = test q
 abbrev pub is_here : Pipe → Live → Stmt → Bool
 is_here p l x = one_of (λ q. q == l.stage) (goes_to (stage_at p x.stage).next l.thread.env)
 
+-- a request is this thread's
 abbrev pub is_owner : ℕ → Request → Bool
 is_owner thread NoRequest = false
 is_owner thread (Owned owner a) = owner == thread
 is_owner thread (Orphan a) = false
 
+-- a delayed read has its answer kept or awaited; any other statement passes
 abbrev pub is_kept_or_awaited : Thread → Op → Bool
 is_kept_or_awaited t op =
     on_delayed_read (λ x m a. list_any (λ k. k.var == x) t.kept || list_any (λ r. (r.var == x) && (r.mem == m)) t.awaits) true op
 
+-- a delayed read of any memory
 abbrev pub is_fetch : Op → Bool
 is_fetch op = on_delayed_read (λ x m a. true) false op
 
+-- point 7 of a live thread: just what it asked for in its last stage is kept or awaited
 abbrev pub asks_right : Pipe → State → Live → Bool
 asks_right p st l =
     list_all (λ x. not (is_here p l x) || is_kept_or_awaited l.thread x.op) (past_stmts p l)
@@ -362,9 +399,11 @@ has_owner st m (Orphan a) = true
 
 -- 8. READS BEFORE COMMITS. While a thread has a block or a read of m to do, or a read of m to bind, no younger one has released a write of m
 
+-- a delayed read of memory m
 abbrev pub is_delayed_read : ℕ → Op → Bool
 is_delayed_read m op = on_delayed_read (λ x n a. n == m) false op
 
+-- a follower has a block or a read of m to do, or a read of m to bind
 abbrev pub still_looks : ℕ → Pipe → Follower → Bool
 still_looks m p f =
     list_any (λ x. looks_at m x.op) (onpath (turn_of p f).env (stages_from f.live.stage p.stmts))
@@ -372,6 +411,7 @@ still_looks m p f =
 
 -- 9. BLOCKS. A block that a live thread has moved on from is still ready for it until it releases that location
 
+-- point 9 of a statement: a block is still ready until the thread releases its location
 abbrev pub stays_ready : Pipe → State → Live → Op → Bool
 stays_ready p st l op =
     on_block (λ m a. has_done (is_release_at m a) p l
@@ -380,10 +420,12 @@ stays_ready p st l op =
 
 -- WHAT THE INDUCTION NEEDS BESIDE. A thread stands on a stage of its path, and has done just what the statements of its earlier stages say
 
+-- the path leads from stage s to stage q, with fewer steps than the limit
 abbrev pub comes_to : Pipe → List ℕ → ℕ → ℕ → ℕ → Bool
 comes_to p path q zero s = false
 comes_to p path q (suc limit) s = (s == q) || one_of (comes_to p path q limit) (goes_to (stage_at p s).next path)
 
+-- what a binding or a call on a guess says is so in the thread's values; any other statement passes
 abbrev pub is_done : State → Live → Op → Bool
 is_done st l (Bind x e) = slice_index l.thread.env x == value_of e l.thread.env
 is_done st l (SpecCall args) = same_args l.thread.guess (values_of args l.thread.env)
@@ -399,9 +441,11 @@ is_done st l (Verify args) = true
 is_done st l SpecCheck = true
 is_done st l SpecBarrier = true
 
+-- the memory of a location that a thread holds has a pending write of the thread at its address
 abbrev pub right_place : State → Live → HeldLocation → Bool
 right_place st l h = list_any (λ e. (e.thread == l.thread.number) && (e.address == slice_index l.thread.env h.var)) (lock_of st h.mem)
 
+-- a thread stands on a stage of its path, and has done what the statements of its earlier stages say
 abbrev pub on_path : Pipe → State → Live → Bool
 on_path p st l =
     comes_to p l.thread.env l.stage (length p.stages) 0 && list_all (λ x. is_done st l x.op) (past_stmts p l)
@@ -422,5 +466,6 @@ is_sound p image n st =
     && list_all (λ l. list_all (λ x. stays_ready p st l x.op) (past_stmts p l)) (live st)
     && list_all (on_path p st) (live st)
 
+-- the state is sound, as one that this run comes to after n threads have ended
 abbrev pub Sound : Pipe → Arrays → ℕ → State → Type 0
 Sound p image n st = IsTrue (is_sound p image n st)

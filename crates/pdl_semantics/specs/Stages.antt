@@ -22,12 +22,15 @@ in_stage s (x ∷ xs) = if x.stage == s then x ∷ in_stage s xs else in_stage s
 abbrev pub plain_mem : Mem
 plain_mem = record { width = 0; depth = 0; delayed = false; lock = Plain }
 
+-- the memory of this number
 abbrev pub mem_at : Pipe → ℕ → Mem
 mem_at p m = slice_index_or p.mems m plain_mem
 
+-- a stage from which threads leave the pipe, in no branch
 abbrev pub last_stage : Stage
 last_stage = record { next = Ends; branch = None; merges = None }
 
+-- the stage of this number
 abbrev pub stage_at : Pipe → ℕ → Stage
 stage_at p s = slice_index_or p.stages s last_stage
 
@@ -42,6 +45,7 @@ abbrev pub is_branch_of : Option Branch → ℕ → Bool
 is_branch_of None f = false
 is_branch_of (Some b) f = b.fork == f
 
+-- whether stage s of the pipe stands in a branch of fork f
 abbrev pub is_inside : Pipe → ℕ → ℕ → Bool
 is_inside p f s = is_branch_of (stage_at p s).branch f
 
@@ -58,9 +62,11 @@ reply_place p m = count_by (λ x. x.delayed) (take m p.mems)
 abbrev pub reserve_stage : Pipe → ℕ → ℕ
 reserve_stage p m = unwrap_or (slice_index_or p.reserves_at m None) 0
 
+-- C(m), the stage of m's releases, the number of stages where it has none
 abbrev pub commit_stage : Pipe → ℕ → ℕ
 commit_stage p m = unwrap_or (slice_index_or p.releases_at m None) (length p.stages)
 
+-- a reservation of memory m, to be read or to be written
 abbrev pub is_reserve : ℕ → Op → Bool
 is_reserve m (ReserveRead n a) = n == m
 is_reserve m (ReserveWrite n a) = n == m
@@ -76,6 +82,7 @@ is_reserve m (Verify args) = false
 is_reserve m SpecCheck = false
 is_reserve m SpecBarrier = false
 
+-- the release of a location in memory m
 abbrev pub is_release : ℕ → Op → Bool
 is_release m op = on_release (λ n a. n == m) false op
 
@@ -95,6 +102,7 @@ is_verify (SpecCall args) = false
 is_verify SpecCheck = false
 is_verify SpecBarrier = false
 
+-- V as the stage of the first `verify`, where there is one
 abbrev pub verify_stage : List Stmt → Option ℕ
 verify_stage [] = None
 verify_stage (x ∷ xs) = if is_verify x.op then Some x.stage else verify_stage xs
@@ -117,6 +125,7 @@ guard_of_fork Ends = []
 guard_of_fork (Goes to) = []
 guard_of_fork (Forks x first second) = x ∷ []
 
+-- the guards of the forks in these stages
 abbrev pub fork_guards : List Stage → List ℕ
 fork_guards [] = []
 fork_guards (x ∷ xs) = guard_of_fork x.next ++ fork_guards xs

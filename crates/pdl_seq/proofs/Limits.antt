@@ -10,7 +10,7 @@ use Rattle.pdl_rules.specs.Limits.{is_memory}
 use Rattle.pdl_rules.specs.Refusal.{KeepsRules}
 use Rattle.pdl_rules.proofs.Counts.{count_push, count_cons}
 use Rattle.pdl_rules.proofs.EachPlace.{closing}
-use Rattle.pdl_form_types.proofs.After.{by_params}
+use Rattle.pdl_form_types.proofs.VariableFacts.{by_params}
 use Rattle.pdl_source_paths.proofs.Memories.{mems_length}
 
 no_params : (ps : List Param) → count_by is_memory (map Parameter ps) ≡ 0

@@ -6,10 +6,10 @@ use Rattle.pdl_semantics.specs.Stages.{mem_at}
 use Rattle.pdl_semantics.specs.Sequential.{Run}
 use Rattle.pdl_form.specs.Form.{Form}
 use Rattle.pdl_form_types.specs.Stmts.{param_widths, IsTypedMem, AreTypedMems, IsTypedOp, IsTypedForm}
-use Rattle.pdl_form_values.proofs.Fitting.{safe, all_safe}
+use Rattle.pdl_form_values.proofs.ValueWidths.{safe, all_safe}
 use Rattle.pdl_seq.specs.Turns.{IsSafeOp, list_at}
 use Rattle.pdl_seq.specs.Fits.{IsShaped, AreFitting}
-use Rattle.pdl_seq.proofs.Fitting.{few_args, there_in}
+use Rattle.pdl_seq.proofs.StatementWidths.{few_args, there_in}
 
 typed_mem : (p : Pipe) (ms : List Mem) (m : ℕ) → AreTypedMems ms → m < length ms → IsTypedMem (mem_at (record p { mems = ms }) m)
 typed_mem p [] m t h = absurd (omega arith)

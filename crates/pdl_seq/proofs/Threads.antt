@@ -21,6 +21,7 @@ more_from p n (suc k) arrays args =
     ∙ sym (append_assoc (map (numbered_write n) r.writes) (numbered_writes (suc n) (threads_from p k r.arrays r.next)) (next (n + suc k)))
     ∙ ap₂ (λ a g. (map (numbered_write n) r.writes ++ numbered_writes (suc n) (threads_from p k r.arrays r.next)) ++ map (numbered_write (n + suc k)) (thread p a g).writes) (sym h.0) (sym h.1)
 
+-- the numbered writes of one thread more are those before, and that thread's with its number
 pub one_more : (p : Pipe) (image : Arrays) (k : ℕ)
     → numbered_writes 1 (threads p image (suc k)) ≡ numbered_writes 1 (threads p image k) ++ map (numbered_write (suc k)) (thread p (after_turns p image k).arrays (after_turns p image k).next).writes
 one_more p image k =
@@ -37,7 +38,7 @@ last_from p (suc k) arrays args =
     last_from p k r.arrays r.next ∙ ap₂ (λ a g. (thread p a g).writes ∷ []) (sym h.0) (sym h.1)
 
 -- its writes
-pub last_writes : (p : Pipe) (image : Arrays) (k : ℕ)
+last_writes : (p : Pipe) (image : Arrays) (k : ℕ)
     → told_writes true p image (suc k) ≡ map (numbered_write (suc k)) (thread p (after_turns p image k).arrays (after_turns p image k).next).writes
 last_writes p image k =
     let less : suc k - 1 ≡ k = omega arith in

@@ -21,9 +21,11 @@ pub record IsImageFor (p : Pipe) (lists : List (List ℕ)) : Type 0 where
 abbrev pub IsWord : Pipe → ℕ → ℕ → ℕ → Type 0
 IsWord p m a v = (m < length p.mems) × (a < (mem_at p m).depth) × (v < 2 ^ (mem_at p m).width)
 
+-- each of these commits is to a word that is there, with a value of its width
 abbrev pub AreCommits : Pipe → List Commit → Type 0
 AreCommits p cs = All (λ (c : Commit). IsWord p c.mem c.address c.value) cs
 
+-- each of these numbered writes is to a word that is there, with a value of its width
 abbrev pub AreWrites : Pipe → List r_write.Write → Type 0
 AreWrites p ws = All (λ (w : r_write.Write). IsWord p w.mem w.addr w.value) ws
 

@@ -1,11 +1,12 @@
 -- The fields of a sequential run.
 use Rattle.std.specs.Prelude.{ℕ, ◌+◌, ◌*◌, ◌-◌, ◌≤◌, Bool, true, false, length, vec_len, vec_capacity}
-use Rattle.pdl_form.specs.Whole.{form}
+use Rattle.pdl_form.specs.FormView.{form}
 use Rattle.pdl_seq.specs.declared.run.SeqRun.TheInside.{Inside}
 use Rattle.pdl_seq.specs.Turns.{rooms}
 use Rattle.pdl_seq.specs.Fits.{IsFit, AreWrites}
 use Rattle.pdl_seq.specs.Runs.{IsRunnable, Running}
 
+-- a sequential run with the values of its fields
 abbrev pub running : Inside → Running
 running r =
     record {

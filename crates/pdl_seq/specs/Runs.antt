@@ -6,7 +6,7 @@ use Rattle.pdl_semantics.specs.Lines.{Column, column_at, put_line}
 use Rattle.pdl_theory_facts.specs.Facts.{Sound}
 use Rattle.pdl_form.specs.Form.{Form}
 use Rattle.pdl_form.specs.declared.flat.FlatPipe as r_pipe
-use Rattle.pdl_form.specs.Whole.{form}
+use Rattle.pdl_form.specs.FormView.{form}
 use Rattle.pdl_form_types.specs.Stmts.{IsTypedForm}
 use Rattle.pdl_seq.specs.declared.commit.Write as r_write
 

@@ -9,6 +9,7 @@ use Rattle.pdl_seq.specs.declared.turn.Turn as r_turn
 abbrev pub commit_view : r_commit.Commit → Commit
 commit_view c = record { mem = c.mem; address = c.addr; value = c.value }
 
+-- a turn's writes, as the sequential meaning sees them
 abbrev pub commits_view : List r_commit.Commit → List Commit
 commits_view cs = map commit_view cs
 
@@ -31,6 +32,7 @@ pub record Rooms : Type 0 where
   pub next : ℕ
   pub commits : ℕ
 
+-- the room that a turn has
 abbrev pub rooms : r_turn.Turn → Rooms
 rooms t = record { next = vec_capacity t.next; commits = vec_capacity t.commits }
 

@@ -3,7 +3,7 @@ ghost use Rattle.std.specs.Prelude.{◌≡◌, ◌<◌, ◌+◌, ◌-◌, ◌^�
 ghost use Rattle.pdl_syntax_tree.specs.View.{pipe_view};
 ghost use Rattle.pdl_rules.specs.Memories.{infos_of};
 ghost use Rattle.pdl_form.specs.Form.{form_of};
-ghost use Rattle.pdl_form.specs.Whole.{form};
+ghost use Rattle.pdl_form.specs.FormView.{form};
 ghost use Rattle.pdl_image.specs.Images.{IsImage};
 ghost use Rattle.pdl_seq.specs.Fits.{IsImageFor, AreWrites};
 ghost use Rattle.pdl_seq.specs.Runs.{IsRunnable, HasRun};

@@ -1,6 +1,6 @@
 // What a run begins with.
 ghost use Rattle.std.specs.Prelude.{◌≡◌, ◌≤◌, ◌*◌, [], length, replicate, IfOk, vec_capacity, if◌then◌else◌};
-ghost use Rattle.pdl_form.specs.Whole.{form};
+ghost use Rattle.pdl_form.specs.FormView.{form};
 ghost use Rattle.pdl_seq.specs.Turns.{rooms};
 
 use crate::turn::Turn;

@@ -3,7 +3,7 @@ ghost use Rattle.std.specs.Prelude.{◌≡◌, ◌≤◌, ◌∷◌, [], true, l
 ghost use Rattle.pdl_semantics.specs.Flat.{all_hold};
 ghost use Rattle.pdl_semantics.specs.Sequential.{run_all};
 ghost use Rattle.pdl_form.specs.View.{stmt_view};
-ghost use Rattle.pdl_form.specs.Whole.{form};
+ghost use Rattle.pdl_form.specs.FormView.{form};
 ghost use Rattle.pdl_seq.specs.Turns.{run_view, rooms, shape, IsSafeOp};
 ghost use Rattle.pdl_seq.specs.Fits.{IsFit};
 ghost use Rattle.pdl_seq.specs.Runs.{IsRunnable};

@@ -1,6 +1,6 @@
 pub mod Words
-pub mod After
+pub mod RemainingTokens
 pub mod Statements
 pub mod Texts
-pub mod Promised
+pub mod RunPromises
 mod Examples

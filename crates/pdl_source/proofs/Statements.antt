@@ -7,9 +7,9 @@ use Rattle.pdl_syntax_grammar.specs.Grammar.{across, prepend, Item, separating, 
 use Rattle.pdl_rules.specs.Places.{Place, Branch, guard_of, with_inner, statements}
 use Rattle.pdl_rules.specs.Names.{OfVariable, defines_use}
 use Rattle.pdl_source_paths.specs.Source.{own_start, start_of}
-use Rattle.pdl_source_paths.proofs.Ascending.{Next}
+use Rattle.pdl_source_paths.proofs.IfBytes.{Next}
 use Rattle.pdl_source.proofs.Words.{Stand, from, letters, rest, sooner, later}
-use Rattle.pdl_source.proofs.After.{after_full, after_args}
+use Rattle.pdl_source.proofs.RemainingTokens.{after_full, after_args}
 
 -- places from byte n on in the order of a text
 abbrev pub Ordered : ℕ → List Place → Type 0

@@ -10,7 +10,7 @@ use Rattle.pdl_rules.specs.Places.{Place, statements, places}
 use Rattle.pdl_rules.specs.Places as place
 use Rattle.pdl_rules.specs.Names.{OfVariable, defines_use}
 use Rattle.pdl_source_paths.specs.Source.{own_start, is_source, is_named}
-use Rattle.pdl_source_paths.proofs.Ascending.{Next, Ascends, apart_ascending}
+use Rattle.pdl_source_paths.proofs.IfBytes.{Next, Ascends, apart_ascending}
 use Rattle.pdl_source.proofs.Words.{Stand, letters, later, tokens_stand}
 use Rattle.pdl_source.proofs.Statements.{Ordered, Follows, items_ordered}
 use Rattle.pdl_rules.proofs.EachPlace.{closing}
@@ -66,8 +66,10 @@ lettered n (x ∷ xs) h = ap₂ (λ b c. b || c) h.0 (at (own_start x) h.1 (λ m
     at None i go = go n i
     at (Some k) i go = go (suc k) i.1
 
+-- in the tree of a text no two `if`s on expressions begin at one byte
 pub source_of : (bytes : List ℕ) (p : Pipe) → IsText bytes p → is_source p ≡ true
 source_of bytes p t = apart_ascending 0 (places p) (ascends 0 (places p) (places_ordered bytes p t))
 
+-- in the tree of a text no variable has the empty name
 pub named_of : (bytes : List ℕ) (p : Pipe) → IsText bytes p → is_named p ≡ true
 named_of bytes p t = ap not (lettered 0 (places p) (places_ordered bytes p t))

@@ -8,7 +8,7 @@ use Rattle.pdl_syntax_tokens.specs.Tokens.{Token, Row, Piece, Spelling, tokens_f
 use Rattle.pdl_syntax_tokens.proofs.OtherKinds.{same_kind, number_no_name, literal_no_name}
 
 -- a token has letters if it is a name
-abbrev pub HasLetters : Token → Type 0
+abbrev HasLetters : Token → Type 0
 HasLetters t = t.kind ≡ kind.Name → bytes_eq [] t.text ≡ false
 
 -- tokens from byte n on, each after the beginning of the one before it
@@ -19,10 +19,10 @@ AreAfter n (t ∷ ts) = (n ≤ t.span.start) × HasLetters t × AreAfter (suc t.
 pub record Stand (n : ℕ) (ts : Row) : Type 0 where
   pub tokens : AreAfter n ts
 
-pub none_stand : (n : ℕ) → Stand n []
+none_stand : (n : ℕ) → Stand n []
 none_stand n = record { tokens = tt }
 
-pub also_stand : (n : ℕ) (t : Token) (ts : Row) → n ≤ t.span.start → HasLetters t → Stand (suc t.span.start) ts → Stand n (t ∷ ts)
+also_stand : (n : ℕ) (t : Token) (ts : Row) → n ≤ t.span.start → HasLetters t → Stand (suc t.span.start) ts → Stand n (t ∷ ts)
 also_stand n t ts le l h = record { tokens = (le, l, h.tokens) }
 
 -- what the first token tells
@@ -32,9 +32,11 @@ from h = h.tokens.0
 pub letters : {n : ℕ} {t : Token} {ts : Row} → Stand n (t ∷ ts) → HasLetters t
 letters h = h.tokens.1
 
+-- the tokens after the first one stand after its first byte
 pub rest : {n : ℕ} {t : Token} {ts : Row} → Stand n (t ∷ ts) → Stand (suc t.span.start) ts
 rest h = record { tokens = h.tokens.2 }
 
+-- tokens that stand from byte n on stand from any byte before it on
 pub sooner : {n : ℕ} {ts : Row} (m : ℕ) → m ≤ n → Stand n ts → Stand m ts
 sooner {ts = []} m le h = none_stand m
 sooner {ts = t ∷ ts} m le h = also_stand m t ts (let i = from h in omega arith) (letters h) (rest h)
@@ -92,6 +94,7 @@ placed_stand None n start line c cs h rest t = sooner start (omega arith) t
 placed_stand (Some k) n start line c cs h rest t =
     also_stand start _ rest (omega arith) (λ e. lettered n c cs (h (ap (λ (j : TokenKind). Some j) e))) (sooner (suc start) (omega arith) t)
 
+-- the tokens of bytes that begin at `start` stand from there on
 pub tokens_stand : (inside start line : ℕ) (bytes : List ℕ) → Stand start (tokens_from inside start line bytes)
 tokens_stand inside start line [] = none_stand start
 tokens_stand (suc k) start line (c ∷ cs) = sooner start (omega arith) (tokens_stand k (start + 1) line cs)

@@ -10,30 +10,33 @@ use Rattle.pdl_rules.specs.Places.{Place, Statement, Branch}
 use Rattle.pdl_rules.specs.Names.{OfGuess, defines_use}
 use Rattle.pdl_rules.specs.Calls.{is_call}
 use Rattle.pdl_rules.specs.Speculation.{is_verify, is_verify_of}
-use Rattle.pdl_rules.proofs.Once.{any_weaker, any_front, any_last}
-use Rattle.pdl_rules.proofs.Defined.{any_split}
+use Rattle.pdl_rules.proofs.SingleWrites.{any_weaker, any_front, any_last}
+use Rattle.pdl_rules.proofs.KnownVariables.{any_split}
 use Rattle.pdl_theory_derived.specs.Alone.{answered_op}
-use Rattle.pdl_theory_facts.specs.Certain.{Making, Unmade, Guessed, Made, next_making, making_all, is_unmade, is_guessed, is_made, making_ok, makings_ok, stands_at, stands_before}
-use Rattle.pdl_source_paths.proofs.Along
-use Rattle.pdl_source_paths.proofs.Along.{ops_of, seen_ops}
+use Rattle.pdl_theory_facts.specs.GuessScans.{Making, Unmade, Guessed, Made, next_making, making_all, is_unmade, is_guessed, is_made, making_ok, makings_ok, stands_at, stands_before}
+use Rattle.pdl_source_paths.proofs.PathStatements
+use Rattle.pdl_source_paths.proofs.PathStatements.{ops_of, seen_ops}
 use Rattle.pdl_word.proofs.Bytes.{bytes_refl}
 
 -- LISTS OF STATEMENTS
 
+-- how far a thread is with making the next one, after these operations
 abbrev pub making_ops : Making → List Flat.Op → Making
 making_ops k [] = k
 making_ops k (op ∷ os) = making_ops (next_making k (answered_op op)) os
 
-abbrev pub making_oks : Option ℕ → Making → ℕ → List Flat.Op → Bool
+abbrev making_oks : Option ℕ → Making → ℕ → List Flat.Op → Bool
 making_oks v k s [] = true
 making_oks v k s (op ∷ os) = making_ok v k s (answered_op op) && making_oks v (next_making k (answered_op op)) s os
 
+-- where a statement's operations make the next thread by the rules, and the rest does then, all do
 pub makings_append : (v : Option ℕ) (k : Making) (s : ℕ) (os : List Flat.Op) (rest : List Flat.Stmt) → making_oks v k s os ≡ true → makings_ok v (making_ops k os) rest ≡ true → makings_ok v k (seen_ops s os ++ rest) ≡ true
 makings_append v k s [] rest h i = i
 makings_append v k s (op ∷ os) rest h i =
     let parts = and_parts (making_ok v k s (answered_op op)) (making_oks v (next_making k (answered_op op)) s os) h in
     and_from _ _ parts.0 (makings_append v (next_making k (answered_op op)) s os rest parts.1 i)
 
+-- how far a thread is after a statement's operations and the rest, by how far it is after the operations
 pub making_append : (k : Making) (s : ℕ) (os : List Flat.Op) (rest : List Flat.Stmt) → making_all k (seen_ops s os ++ rest) ≡ making_all (making_ops k os) rest
 making_append k s [] rest = refl
 making_append k s (op ∷ os) rest = making_append (next_making k (answered_op op)) s os rest
@@ -68,6 +71,7 @@ verifies_one : (g : List ℕ) (x : Place) → is_verify_of g x ≡ true → is_v
 verifies_one g (Statement (Verify _ _ _) bs) e = refl
 verifies_one g _ e = absurd (false≢true e)
 
+-- where none of some places passes a test, and the next one does not, none of all passes
 pub none_more : (test : Place → Bool) (before : List Place) (x : Place) → list_any test before ≡ false → test x ≡ false → list_any test (before ++ x ∷ []) ≡ false
 none_more test before x h e = list_any-append test before (x ∷ []) ∙ ap₂ (λ a b. a || (b || false)) h e
 

@@ -82,6 +82,7 @@ still_among g (x ∷ xs) gs e = still_among g xs (with_guard gs x) (here x)
     here (Statement (If s c _ _) _) = more (is_among (guard_of s c) gs) (guard_of s c)
     here _ = e
 
+-- the guard of an `if` is among the guards of each text that it stands in
 pub if_among : (s : Span) (c : Expr) (when otherwise : Stmts) (bs : List Branch) (before later : List Place) (gs : List Guard)
     → is_among (guard_of s c) (fold with_guard gs (before ++ Statement (If s c when otherwise) bs ∷ later)) ≡ true
 if_among s c when otherwise bs [] later gs = still_among (guard_of s c) later _ (at (is_among (guard_of s c) gs) refl)

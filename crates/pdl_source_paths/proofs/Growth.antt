@@ -6,7 +6,7 @@ use Rattle.pdl_semantics.specs.Flatten.{Var, mem_width, width_of, at_start, para
 use Rattle.pdl_semantics.specs.Flatten
 use Rattle.pdl_rules.specs.Places.{Place, Statement, Guard, Branch, with_inner, statements, on_path}
 use Rattle.pdl_source_stages.proofs.Sites.{Site, branch, sites_in, sites, sites_of, front_of, place_of}
-use Rattle.pdl_source_paths.proofs.Along.{on_sites}
+use Rattle.pdl_source_paths.proofs.PathStatements.{on_sites}
 use Rattle.pdl_semantics.proofs.Facts.{all_vars}
 
 -- the variables after a statement alone
@@ -14,6 +14,7 @@ abbrev pub if_past : List Var → Expr → List Var
 if_past vs (Variable x) = vs
 if_past vs _ = vs ++ record { name = []; width = 1 } ∷ []
 
+-- the variables after a statement by itself: those before it, and the one that it binds
 abbrev pub vars_past : List Mem → List Var → Stmt → List Var
 vars_past ms vs (CombRead _ x from) = vs ++ record { name = x.name; width = mem_width ms from.mem.name } ∷ []
 vars_past ms vs (Bind _ x e) = vs ++ record { name = x.name; width = width_of vs e } ∷ []
@@ -25,12 +26,15 @@ vars_past ms vs _ = vs
 abbrev pub Grown : List Var → List Var → Type 0
 Grown vs us = (more : List Var) × (us ≡ vs ++ more)
 
+-- variables are grown from themselves, with no more of them
 pub grown_same : (vs : List Var) → Grown vs vs
 grown_same vs = ([], sym (append-nil vs))
 
+-- variables that are grown from grown ones are grown from the first ones
 pub grown_more : (vs us ws : List Var) → Grown vs us → Grown us ws → Grown vs ws
 grown_more vs us ws h k = (h.0 ++ k.0, k.1 ∙ ap (λ l. l ++ k.0) h.1 ∙ append_assoc vs h.0 k.0)
 
+-- the variables after a statement are grown from those before it
 pub past_grown : (ms : List Mem) (vs : List Var) (s : Stmt) → Grown vs (vars_past ms vs s)
 past_grown ms vs (CombRead _ x from) = (_, refl)
 past_grown ms vs (Bind _ x e) = (_, refl)
@@ -44,7 +48,7 @@ abbrev pub Grows : List Mem → List Var → List Site → List Var → Type 0
 Grows ms vs [] us = Grown vs us
 Grows ms vs (t ∷ ts) us = Grown vs t.walk.vars × Grows ms (vars_past ms t.walk.vars t.stmt) ts us
 
-pub grows_from : (ms : List Mem) (vs ws us : List Var) (ts : List Site) → Grown vs ws → Grows ms ws ts us → Grows ms vs ts us
+grows_from : (ms : List Mem) (vs ws us : List Var) (ts : List Site) → Grown vs ws → Grows ms ws ts us → Grows ms vs ts us
 grows_from ms vs ws us [] h k = grown_more vs ws us h k
 grows_from ms vs ws us (t ∷ ts) h k = (grown_more vs ws t.walk.vars h k.0, k.1)
 
@@ -80,6 +84,7 @@ mutual
       grows_append ms w.vars (past ms s w).vars (past_all ms ss (past ms s w)).vars (sites_in ms front w gs bs s) (sites ms (front ++ with_inner bs s) (past ms s w) gs bs ss)
       (grows_in ms front w gs bs s) (grows ms (front ++ with_inner bs s) (past ms s w) gs bs ss)
 
+-- along a source each site has the variables that the parameters and the sites before it bind
 pub grows_all : (p : Pipe) → Grows p.mems (params_of p.params) (sites_of p) (all_vars p)
 grows_all p = grows p.mems (front_of p) (at_start p) [] [] p.body
 

@@ -13,15 +13,15 @@ use Rattle.pdl_rules.specs.Refusal.{KeepsRules}
 use Rattle.pdl_theory_facts.specs.Scans.{none_of, binds_var, free_of, is_dead, is_fixed}
 use Rattle.pdl_theory_facts.specs.Facts.{binds_guard, defined_by, late_for}
 use Rattle.pdl_source_stages.proofs.Sites.{Site, sites_of, own, owns, All, stmts_are}
-use Rattle.pdl_source_stages.proofs.Standing.{all_both, all_map}
-use Rattle.pdl_source_stages.proofs.Fine.{each_stmt, AtSite, op_of, rows_of, own_is, from_op, row_at}
+use Rattle.pdl_source_stages.proofs.SiteStages.{all_both, all_map}
+use Rattle.pdl_source_stages.proofs.SiteFacts.{each_stmt, AtSite, op_of, rows_of, own_is, from_op, row_at}
 use Rattle.pdl_source_stages.proofs.ForkVars
 use Rattle.pdl_source_paths.specs.Source.{are_apart}
 use Rattle.pdl_source_paths.proofs.Growth.{Grown, Grows, vars_past, past_grown, grown_same, grows_all}
-use Rattle.pdl_source_paths.proofs.Live.{AllGuards, some_path}
-use Rattle.pdl_source_paths.proofs.Known.{Known, Settled, all_known, all_settled}
-use Rattle.pdl_source_paths.proofs.Guarded.{Guarded, all_guarded}
-use Rattle.pdl_source_paths.proofs.Fixed.{Rests, each_all}
+use Rattle.pdl_source_paths.proofs.GuardPaths.{AllGuards, some_path}
+use Rattle.pdl_source_paths.proofs.SiteFacts.{Known, Settled, all_known, all_settled}
+use Rattle.pdl_source_paths.proofs.SiteGuards.{Guarded, all_guarded}
+use Rattle.pdl_source_paths.proofs.FixedGuards.{Rests, each_all}
 use Rattle.pdl_semantics.specs.Sound.{is_fetch}
 use Rattle.pdl_word.specs.Each.{Each}
 use Rattle.pdl_word.proofs.Each.{each_weaker}
@@ -40,6 +40,7 @@ no_cut ms vs (Separator sp) bs op e = absurd (none e)
     none z = cc z
 no_cut ms vs _ bs op e = refl
 
+-- a statement whose flat form is a delayed read is a delayed read
 pub fetch_delayed : (ms : List Mem) (vs : List Var) (s : Stmt) (bs : List Branch) (op : Flat.Op) → op_of ms vs s ≡ Some op → is_fetch op ≡ true → is_delayed (Statement s bs) ≡ true
 fetch_delayed ms vs s bs op e f = at s (ap (from_op is_fetch) e ∙ f)
   where
@@ -52,7 +53,7 @@ fetch_delayed ms vs s bs op e f = at s (ap (from_op is_fetch) e ∙ f)
     at _ g = absurd (false≢true g)
 
 -- the guard that a statement binds
-pub find_guard : (P : Flat.Guard → Type 0) (op : Flat.Op) (gs : List Flat.Guard) → AllGuards P gs → binds_guard op gs ≡ true → (g : Flat.Guard) × P g × (binds_var g.var op ≡ true)
+find_guard : (P : Flat.Guard → Type 0) (op : Flat.Op) (gs : List Flat.Guard) → AllGuards P gs → binds_guard op gs ≡ true → (g : Flat.Guard) × P g × (binds_var g.var op ≡ true)
 find_guard P op [] h e = absurd (false≢true e)
 find_guard P op (g ∷ gs) h e = at (binds_var g.var op) refl e (find_guard P op gs h.1)
   where
@@ -62,6 +63,7 @@ find_guard P op (g ∷ gs) h e = at (binds_var g.var op) refl e (find_guard P op
 
 -- IN THE TEXT
 
+-- variables that are grown are no fewer than those from which they are
 pub grown_long : (vs us : List Var) → Grown vs us → length vs ≤ length us
 grown_long vs us h = let a = ap length h.1 in let b = length-append vs h.0 in omega arith
 

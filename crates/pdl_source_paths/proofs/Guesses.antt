@@ -16,22 +16,22 @@ use Rattle.pdl_rules.specs.Stages.{stage_of, first_stage, stages_that}
 use Rattle.pdl_rules.specs.Speculation.{is_verify, is_verify_of, verify_stages, is_once_after, is_unverified, releases_unsure, is_before_verify}
 use Rattle.pdl_rules.specs.Speculation
 use Rattle.pdl_rules.specs.Refusal.{KeepsRules}
-use Rattle.pdl_rules.proofs.Once.{any_weaker, counted, count_push, count_cons, count_none, weight}
-use Rattle.pdl_rules.proofs.Defined.{any_split}
+use Rattle.pdl_rules.proofs.SingleWrites.{any_weaker, counted, count_push, count_cons, count_none, weight}
+use Rattle.pdl_rules.proofs.KnownVariables.{any_split}
 use Rattle.pdl_theory_facts.specs.Scans
-use Rattle.pdl_theory_facts.specs.Certain.{stands_at, stands_before}
+use Rattle.pdl_theory_facts.specs.GuessScans.{stands_at, stands_before}
 use Rattle.pdl_theory_facts.proofs.Texts.{no_verify}
 use Rattle.pdl_source_stages.proofs.Sites.{Site, sites_of, front_of, place_of, All, stmts_are}
-use Rattle.pdl_source_stages.proofs.Staged.{Staged}
+use Rattle.pdl_source_stages.proofs.StatementStages.{Staged}
 use Rattle.pdl_semantics.specs.Flatten.{flat}
 use Rattle.pdl_source_paths.proofs.Choices.{path_of, unbroken_on, by_choice}
-use Rattle.pdl_source_paths.proofs.Along
-use Rattle.pdl_source_paths.proofs.Along.{ops}
+use Rattle.pdl_source_paths.proofs.PathStatements
+use Rattle.pdl_source_paths.proofs.PathStatements.{ops}
 use Rattle.pdl_source_paths.proofs.Variables.{Here}
 use Rattle.pdl_source_paths.proofs.Walk.{all_in_text, OnPath, calls_right, text_places}
-use Rattle.pdl_source_paths.proofs.Sited.{first_skip, first_sited, each_sited, some_op, none_sited}
+use Rattle.pdl_source_paths.proofs.SiteStages.{first_skip, first_sited, each_sited, some_op, none_sited}
 use Rattle.pdl_source_paths.proofs.Calls.{Asked, guess_calls}
-use Rattle.pdl_source_paths.proofs.Scanning.{AllAsked, AllSure}
+use Rattle.pdl_source_paths.proofs.PathScans.{AllAsked, AllSure}
 use Rattle.pdl_word.proofs.Bytes.{bytes_same, bytes_refl}
 use Rattle.pdl_rules.proofs.EachPlace.{closing}
 
@@ -105,6 +105,7 @@ one_guess n g (x ∷ xs) few e f = by (or_cases (defines_use (OfGuess n) x) _ e)
     by (inr a) (inl b) r = absurd (more n (guess_calls g x b) a)
     by (inr a) (inr b) r = r a b
 
+-- a name that is given after some places is defined by one of them
 pub given_any : (u : Use) (xs : List Place) → is_given xs u ≡ true → list_any (defines_use u) xs ≡ true
 given_any u [] e = absurd (false≢true e)
 given_any u (x ∷ xs) e = ⊎_elim (λ a. or_left _ _ (and_parts (defines_use u x) _ a).0) (λ a. or_right (defines_use u x) _ (given_any u xs a)) (or_cases (defines_use u x && (not (is_delayed x) || list_any is_separator xs)) _ e)

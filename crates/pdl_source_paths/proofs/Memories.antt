@@ -16,8 +16,8 @@ use Rattle.pdl_rules.specs.Limits.{is_size, is_width, is_depth, allows_lock}
 use Rattle.pdl_rules.specs.Locks.{is_locked}
 use Rattle.pdl_rules.specs.Refusal.{KeepsRules}
 use Rattle.pdl_rules.specs.Typed.{is_memory, AreDistinct}
-use Rattle.pdl_rules.proofs.Once.{any_front, any_last}
-use Rattle.pdl_rules.proofs.Defined.{takes_name}
+use Rattle.pdl_rules.proofs.SingleWrites.{any_front, any_last}
+use Rattle.pdl_rules.proofs.KnownVariables.{takes_name}
 use Rattle.pdl_theory_facts.specs.Scans.{is_plain, none_of}
 use Rattle.pdl_word.proofs.Bytes.{bytes_same, bytes_refl}
 use Rattle.pdl_source_stages.proofs.Trunks.{first_index}
@@ -36,6 +36,7 @@ at_number (x ∷ ms) (suc i) d low =
       ap (λ b. if b then 0 else suc (mem_of ms h.0)) (false_from_ne_true _ (λ t. both_ways (is_memory ms x.name.name) d.0 (subst (λ n. is_memory ms n ≡ true) (sym (bytes_same x.name.name h.0 t)) h.1))) ∙ ap suc h.2,
     )
 
+-- the flat form has as many memories as the source
 pub mems_length : (ms : List Mem) → length (mems_of ms) ≡ length ms
 mems_length [] = refl
 mems_length (m ∷ ms) = ap suc (mems_length ms)
@@ -47,6 +48,7 @@ After p before ms = (later : List Place) × (places p ≡ before ++ (map Memory 
 after_next : (p : Pipe) (before : List Place) (m : Mem) (ms : List Mem) → After p before (m ∷ ms) → After p (before ++ Memory m ∷ []) ms
 after_next p before m ms h = (h.0, h.1 ∙ sym (append_assoc before (Memory m ∷ []) (map Memory ms ++ h.0)))
 
+-- the memories of a source stand in its text right after the parameters
 pub all_after : (p : Pipe) → After p (map Parameter p.params) p.mems
 all_after p = (
   statements [] p.body ++ closing p,
@@ -61,6 +63,7 @@ not_again p rules n (m ∷ ms) before h b =
     (false_from_ne_true (bytes_eq m.name.name n) (λ e. both_ways (list_any (takes_name m.name.name) before) free (h m.name.name e)))
     (not_again p rules n ms (before ++ Memory m ∷ []) (λ x e. any_front (takes_name x) before (Memory m) (h x e)) (after_next p before m ms b))
 
+-- no memory of a source that breaks no rule has the name of one before it
 pub distinct : (p : Pipe) → KeepsRules p → (ms : List Mem) (before : List Place) → After p before ms → AreDistinct ms
 distinct p rules [] before b = tt
 distinct p rules (m ∷ ms) before b = (
@@ -79,6 +82,7 @@ plain_lock (Some l) = at l.kind
     at Bypass = refl
     at Rename = refl
 
+-- in the flat form a memory has no lock exactly where the memory of its name has none
 pub lock_tells : (ms : List Mem) (m : List ℕ) → is_plain (slice_index_or (mems_of ms) (mem_of ms m) plain_mem).lock ≡ not (is_locked ms m)
 lock_tells [] m = refl
 lock_tells (x ∷ ms) m = at (bytes_eq x.name.name m) (lock_tells ms m)
@@ -101,6 +105,7 @@ room_lock (Some l) f = at l.kind (sized l.size.value (f l refl))
     at Bypass h = h
     at Rename h = h
 
+-- each lock of a source that breaks no rule has room for a write where none is pending
 pub rooms : (p : Pipe) → KeepsRules p → (ms : List Mem) (before : List Place) (i : ℕ) → After p before ms → has_room (slice_index_or (mems_of ms) i plain_mem).lock 0 ≡ true
 rooms p rules [] before i b = refl
 rooms p rules (m ∷ ms) before zero b = room_lock m.lock size_of
@@ -114,13 +119,16 @@ rooms p rules (m ∷ ms) before (suc i) b = rooms p rules ms (before ++ Memory m
 
 -- STAGES
 
+-- the list of the first stages of a kind of statement has one entry for each memory
 pub stages_length : (test : ℕ → Flat.Op → Bool) (xs : List Flat.Stmt) (j : ℕ) (ms : List Mem) → length (first_stages test xs j ms) ≡ length ms
 stages_length test xs j [] = refl
 stages_length test xs j (m ∷ ms) = ap suc (stages_length test xs (suc j) ms)
 
+-- the i-th of the first stages is that of the first statement of this kind on memory i
 pub stage_at : (test : ℕ → Flat.Op → Bool) (xs : List Flat.Stmt) (i : ℕ) (ms : List Mem) → i < length ms → slice_index_or (first_stages test xs 0 ms) i None ≡ first_stage (test i) xs
 stage_at test xs i ms low = first_index test xs 0 i ms low ∙ ap (λ n. first_stage (test n) xs) (let e : 0 + i ≡ i = omega arith in e)
 
+-- a kind of which there is no statement has no first stage
 pub first_none : (test : Flat.Op → Bool) (xs : List Flat.Stmt) → none_of test xs ≡ true → first_stage test xs ≡ None
 first_none test [] h = refl
 first_none test (x ∷ xs) h = at (test x.op) (and_parts (not (test x.op)) (none_of test xs) h).0 (first_none test xs (and_parts (not (test x.op)) (none_of test xs) h).1)

@@ -13,6 +13,7 @@ abbrev pub place_of : List (List ℕ) → List ℕ → ℕ
 place_of [] x = 0
 place_of (y ∷ ys) x = if bytes_eq y x then 0 else suc (place_of ys x)
 
+-- the name is among these names
 abbrev pub is_in : List (List ℕ) → List ℕ → Bool
 is_in ys x = list_any (λ y. bytes_eq y x) ys
 
@@ -47,10 +48,12 @@ in_stays (y ∷ ys) zs x h = at (bytes_eq y x) h (in_stays ys zs x)
 
 -- VARIABLES AND MEMORIES
 
+-- the names of the memories, in order
 abbrev pub mem_names : List Mem → List (List ℕ)
 mem_names [] = []
 mem_names (m ∷ ms) = m.name.name ∷ mem_names ms
 
+-- a variable's number, and whether it is there, go by the list of the variables' names
 pub var_place : (vs : List Var) (x : List ℕ) → (var_of vs x ≡ place_of (told vs) x) × (is_named vs x ≡ is_in (told vs) x) × (length (told vs) ≡ length vs)
 var_place [] x = (refl, refl, refl)
 var_place (v ∷ vs) x =
@@ -63,6 +66,7 @@ mem_place (m ∷ ms) x =
     let h = mem_place ms x in
     (ap (λ n. if bytes_eq m.name.name x then 0 else suc n) h.0, ap (λ b. bytes_eq m.name.name x || b) h.1, ap suc h.2)
 
+-- the number of a variable that is there is below the count of variables
 pub var_low : (vs : List Var) (x : List ℕ) → is_named vs x ≡ true → var_of vs x < length vs
 var_low vs x h =
     let k = var_place vs x in
@@ -71,13 +75,16 @@ var_low vs x h =
     let f = k.2 in
     omega arith
 
+-- two names of variables that are there are equal where their numbers are
 pub var_same : (vs : List Var) (a b : List ℕ) → is_named vs a ≡ true → is_named vs b ≡ true → var_of vs a ≡ var_of vs b → a ≡ b
 var_same vs a b h k e = in_same (told vs) a b (sym (var_place vs a).1 ∙ h) (sym (var_place vs b).1 ∙ k) (sym (var_place vs a).0 ∙ e ∙ (var_place vs b).0)
 
+-- the number of a variable that is there stays where variables are added after
 pub var_stays : (vs us : List Var) (x : List ℕ) → is_named vs x ≡ true → var_of (vs ++ us) x ≡ var_of vs x
 var_stays vs us x h =
     (var_place (vs ++ us) x).0 ∙ ap (λ l. place_of l x) (told_append vs us) ∙ in_stays (told vs) (told us) x (sym (var_place vs x).1 ∙ h) ∙ sym (var_place vs x).0
 
+-- the number of a memory that is there is below the count of memories
 pub mem_low : (ms : List Mem) (x : List ℕ) → is_memory ms x ≡ true → mem_of ms x < length ms
 mem_low ms x h =
     let k = mem_place ms x in
@@ -86,6 +93,7 @@ mem_low ms x h =
     let f = k.2 in
     omega arith
 
+-- two names of memories that are there are equal where their numbers are
 pub mem_same : (ms : List Mem) (a b : List ℕ) → is_memory ms a ≡ true → is_memory ms b ≡ true → mem_of ms a ≡ mem_of ms b → a ≡ b
 mem_same ms a b h k e = in_same (mem_names ms) a b (sym (mem_place ms a).1 ∙ h) (sym (mem_place ms b).1 ∙ k) (sym (mem_place ms a).0 ∙ e ∙ (mem_place ms b).0)
 

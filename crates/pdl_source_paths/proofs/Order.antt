@@ -13,17 +13,19 @@ use Rattle.pdl_source_stages.proofs.Sites
 use Rattle.pdl_source_stages.proofs.Sites.{Site, branch, sites_in, sites, sites_of, front_of, place_of, All}
 use Rattle.pdl_source_stages.proofs.Walks.{holds_all, guard_stage, guard_begun, past_begun, past_all_begun}
 use Rattle.pdl_source_stages.proofs.Shapes.{is_whole, is_plain, is_forked, fork_fits, begins_stage}
-use Rattle.pdl_source_paths.proofs.Along.{on_sites}
+use Rattle.pdl_source_paths.proofs.PathStatements.{on_sites}
 
 -- after stage k, which a separator leaves after
 abbrev pub Next : Bool → ℕ → ℕ → (ℕ → Type 0) → Type 0
 Next true k s R = R (suc k)
 Next false k s R = (k ≤ s) × R s
 
+-- these sites stand in stages from k to `end`, in their order, and in later ones after each separator
 abbrev pub Rises : ℕ → List Site → ℕ → Type 0
 Rises k [] end = k ≤ end
 Rises k (t ∷ ts) end = Next (is_separator (place_of t)) k t.walk.stage (λ n. Rises n ts end)
 
+-- sites that rise from a stage on rise from each stage before it on too
 pub rises_from : (k l end : ℕ) (ts : List Site) → k ≤ l → Rises l ts end → Rises k ts end
 rises_from k l end [] h i = omega arith
 rises_from k l end (t ∷ ts) h i = at (is_separator (place_of t)) i (λ j. rises_from (suc k) (suc l) end ts (omega arith) j)
@@ -32,7 +34,7 @@ rises_from k l end (t ∷ ts) h i = at (is_separator (place_of t)) i (λ j. rise
     at true j f = f j
     at false j f = (let m : l ≤ t.walk.stage = j.0 in omega arith, j.1)
 
-pub rises_append : (k l end : ℕ) (xs ys : List Site) → Rises k xs l → Rises l ys end → Rises k (xs ++ ys) end
+rises_append : (k l end : ℕ) (xs ys : List Site) → Rises k xs l → Rises l ys end → Rises k (xs ++ ys) end
 rises_append k l end [] ys h i = rises_from k l end ys h i
 rises_append k l end (x ∷ xs) ys h i = at (is_separator (place_of x)) h (λ n j. rises_append n l end xs ys j i)
   where
@@ -40,7 +42,7 @@ rises_append k l end (x ∷ xs) ys h i = at (is_separator (place_of x)) h (λ n 
     at true j f = f (suc k) j
     at false j f = (j.0, f x.walk.stage j.1)
 
-pub on_append : (c : List Guard) (xs ys : List Site) → on_sites c (xs ++ ys) ≡ on_sites c xs ++ on_sites c ys
+on_append : (c : List Guard) (xs ys : List Site) → on_sites c (xs ++ ys) ≡ on_sites c xs ++ on_sites c ys
 on_append c [] ys = refl
 on_append c (x ∷ xs) ys = at (on_path c (place_of x)) (on_append c xs ys)
   where

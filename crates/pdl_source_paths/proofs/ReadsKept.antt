@@ -14,14 +14,14 @@ use Rattle.pdl_rules.specs.Locks.{is_locked, same_location, same_kind, Hold, Not
 use Rattle.pdl_rules.specs.Parts.{location_of}
 use Rattle.pdl_rules.specs.Stages.{reserves_memory}
 use Rattle.pdl_rules.specs.Typed.{is_named, is_memory}
-use Rattle.pdl_rules.proofs.Once.{KeepsLocks, any_weaker, any_front, any_last, held_alike, reserves_to_write, reserves_some, reserves_alike}
-use Rattle.pdl_rules.proofs.Defined.{any_split}
+use Rattle.pdl_rules.proofs.SingleWrites.{KeepsLocks, any_weaker, any_front, any_last, held_alike, reserves_to_write, reserves_some, reserves_alike}
+use Rattle.pdl_rules.proofs.KnownVariables.{any_split}
 use Rattle.pdl_theory_derived.specs.Alone
 use Rattle.pdl_theory_derived.specs.Alone.{answered_op}
 use Rattle.pdl_theory_facts.specs.Scans.{is_plain, is_address, has_location, Scan, scan_after, op_ok, reads_ok}
 use Rattle.pdl_source_paths.proofs.Numbers.{var_low, var_same, var_stays, mem_same}
-use Rattle.pdl_source_paths.proofs.Along
-use Rattle.pdl_source_paths.proofs.Along.{ops_of, seen_ops}
+use Rattle.pdl_source_paths.proofs.PathStatements
+use Rattle.pdl_source_paths.proofs.PathStatements.{ops_of, seen_ops}
 use Rattle.pdl_source_paths.proofs.Variables.{IsNamed}
 use Rattle.pdl_source_paths.proofs.Growth
 use Rattle.pdl_source_paths.proofs.Growth.{vars_past, Grown}
@@ -43,7 +43,7 @@ same_numbers ms vs a b h k e =
     and_from _ _ (subst (λ n. bytes_eq a.mem.name n ≡ true) m (bytes_refl a.mem.name)) (subst (λ n. bytes_eq a.address.name n ≡ true) x (bytes_refl a.address.name))
 
 -- and the same locations have the same numbers
-pub numbers_same : (ms : List Mem) (vs : List Var) (a b : Location) → same_location a b ≡ true
+numbers_same : (ms : List Mem) (vs : List Var) (a b : Location) → same_location a b ≡ true
     → ((mem_of ms a.mem.name == mem_of ms b.mem.name) && (var_of vs a.address.name == var_of vs b.address.name)) ≡ true
 numbers_same ms vs a b e =
     let parts = and_parts (bytes_eq a.mem.name b.mem.name) _ e in
@@ -79,15 +79,18 @@ unreserved l (x ∷ xs) h e f = let parts = or_parts (reserves_location l x) (li
     here (Statement (Release s at) bs) i = still (same_location at l) Released refl e
     here _ i = e
 
+-- a location that is unreleased after some places was reserved by one of them
 pub open_reserved : (l : Location) (xs : List Place) → is_unreleased (hold_after l xs) ≡ true → list_any (reserves_location l) xs ≡ true
 open_reserved l xs e = ⊎_elim (λ t. t) (λ t. absurd (both_ways _ (unreserved l xs Nothing refl t) e)) (cases_Bool (list_any (reserves_location l) xs))
 
+-- a location that is blocked for reading is unreleased
 pub read_open : (h : Hold) → is_blocked_for R h ≡ true → is_unreleased h ≡ true
 read_open Nothing e = absurd (false≢true e)
 read_open (Reserved k) e = refl
 read_open (Blocked k) e = refl
 read_open Released e = absurd (false≢true e)
 
+-- a location that is reserved is unreleased
 pub reserved_open : (h : Hold) → is_reserved h ≡ true → is_unreleased h ≡ true
 reserved_open Nothing e = absurd (false≢true e)
 reserved_open (Reserved k) e = refl
@@ -100,7 +103,7 @@ of_memory l (Statement (Reserve s at k) bs) e = (and_parts (bytes_eq at.mem.name
 of_memory l _ e = absurd (false≢true e)
 
 -- a name that isn't there yet gets a number after the others
-pub var_high : (vs us : List Var) (x : List ℕ) → is_named vs x ≡ false → length vs ≤ var_of (vs ++ us) x
+var_high : (vs us : List Var) (x : List ℕ) → is_named vs x ≡ false → length vs ≤ var_of (vs ++ us) x
 var_high [] us x h = omega arith
 var_high (v ∷ vs) us x h =
     let parts = or_parts (bytes_eq v.name x) (is_named vs x) h in
@@ -118,6 +121,7 @@ pub record Scanned (p : Pipe) (vs : List Var) (before : List Place) (c : Scan) :
   pub kinds : (l : Location) → list_any (reserves_to_write l) before ≡ true → is_held_for R (hold_after l before) ≡ false
   pub named : (l : Location) → list_any (reserves_location l) before ≡ true → is_named vs l.address.name ≡ true
 
+-- the empty scan is that of places none of which reserves anything
 pub none_scanned : (p : Pipe) (vs : List Var) (before : List Place) → ((l : Location) → list_any (reserves_location l) before ≡ false) → ((l : Location) → list_any (reserves_to_write l) before ≡ false)
     → Scanned p vs before (record { held = []; blocked = [] })
 none_scanned p vs before none nor = record {
@@ -334,10 +338,11 @@ abbrev pub opens_ops : List Flat.Op → Scan → Scan
 opens_ops [] c = c
 opens_ops (op ∷ os) c = opens_ops os (scan_after (answered_op op) c)
 
-abbrev pub ops_ok : Flat.Pipe → ℕ → Scan → List Flat.Op → Bool
+abbrev ops_ok : Flat.Pipe → ℕ → Scan → List Flat.Op → Bool
 ops_ok q k c [] = true
 ops_ok q k c (op ∷ os) = op_ok q k c (answered_op op) && ops_ok q k (scan_after (answered_op op) c) os
 
+-- a scan of reads passes operations of one stage with the rest where it passes them and then the rest
 pub reads_append : (q : Flat.Pipe) (k : ℕ) (c : Scan) (os : List Flat.Op) (rest : List Flat.Stmt) → ops_ok q k c os ≡ true → reads_ok q (opens_ops os c) rest ≡ true → reads_ok q c (seen_ops k os ++ rest) ≡ true
 reads_append q k c [] rest h i = i
 reads_append q k c (op ∷ os) rest h i =

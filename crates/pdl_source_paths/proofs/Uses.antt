@@ -8,10 +8,10 @@ use Rattle.pdl_rules.specs.Places.{Statement, Branch}
 use Rattle.pdl_rules.specs.Parts.{some_part}
 use Rattle.pdl_rules.specs.Names.{Use, OfVariable, OfMemory, OfGuess, reads_some, some_use}
 use Rattle.pdl_theory_facts.specs.Facts.{uses_in, uses_any, mentions_var}
-use Rattle.pdl_source_stages.proofs.Fine.{op_of, from_op}
+use Rattle.pdl_source_stages.proofs.SiteFacts.{op_of, from_op}
 
 -- a name with this number, whose use by an expression a test finds
-abbrev pub InExpr : List Var → ℕ → Expr → Type 0
+abbrev InExpr : List Var → ℕ → Expr → Type 0
 InExpr vs x e = (n : List ℕ) × (var_of vs n ≡ x) × ((test : Use → Bool) → test (OfVariable n) ≡ true → some_part (reads_some test) e ≡ true)
 
 abbrev Wider : (vs : List Var) (x : ℕ) (a e : Expr) → Type 0
@@ -51,7 +51,7 @@ in_expr vs x (Choose d a b) h =
     (or_cases (uses_in x (flat_expr vs a)) (uses_in x (flat_expr vs b)) u))
     (or_cases (uses_in x (flat_expr vs d)) (uses_in x (flat_expr vs a) || uses_in x (flat_expr vs b)) h)
 
-pub in_exprs : (vs : List Var) (x : ℕ) (es : List Expr) → uses_any x (flat_exprs vs es) ≡ true → (n : List ℕ) × (var_of vs n ≡ x) × ((test : Use → Bool) → test (OfVariable n) ≡ true → list_any (some_part (reads_some test)) es ≡ true)
+in_exprs : (vs : List Var) (x : ℕ) (es : List Expr) → uses_any x (flat_exprs vs es) ≡ true → (n : List ℕ) × (var_of vs n ≡ x) × ((test : Use → Bool) → test (OfVariable n) ≡ true → list_any (some_part (reads_some test)) es ≡ true)
 in_exprs vs x [] h = absurd (false≢true h)
 in_exprs vs x (e ∷ es) h =
     ⊎_elim
@@ -69,6 +69,7 @@ at_address test l b e = or_left (test (OfMemory l.mem.name) || test (OfVariable 
 bound_or : (vs : List Var) (x : ℕ) (s : Stmt) (b : Bool) → ((length vs == x) || b) ≡ true → (b ≡ true → AtStmt vs x s) → AtStmt vs x s
 bound_or vs x s b h f = ⊎_elim (λ t. inl (eqb-true (length vs) x t)) f (or_cases (length vs == x) b h)
 
+-- a variable that a flat statement has to do with is the one that it binds, or its place uses its name
 pub mention : (ms : List Mem) (vs : List Var) (s : Stmt) (x : ℕ) → from_op (mentions_var x) (op_of ms vs s) ≡ true → AtStmt vs x s
 mention ms vs (Separator sp) x h = absurd (false≢true h)
 mention ms vs (CombRead sp y l) x h = bound_or vs x (CombRead sp y l) (var_of vs l.address.name == x) h (λ t. inr (l.address.name, eqb-true (var_of vs l.address.name) x t, λ test bs e. at_address test l false e))

@@ -12,15 +12,16 @@ use Rattle.pdl_rules.specs.Parts.{location_of, is_some_and, some_part, some_expr
 use Rattle.pdl_rules.specs.Names.{OfVariable, OfMemory, Use, defines_use, in_location, is_undefined, is_parameter, is_given, is_too_early, some_use, in_verify, reads_some, names_another_pipe}
 use Rattle.pdl_rules.specs.Refusal.{KeepsRules}
 use Rattle.pdl_rules.specs.Typed.{is_named, is_memory}
-use Rattle.pdl_rules.proofs.Once.{bytes_sym}
+use Rattle.pdl_rules.proofs.SingleWrites.{bytes_sym}
 use Rattle.pdl_source_stages.proofs.Sites.{Site, branch, sites_of, front_of, place_of, All, Stands, all_stand}
 use Rattle.pdl_source_stages.proofs.Walks.{told, names, names_at, names_append, Named, At, holds_all, all_at}
 use Rattle.pdl_source_paths.proofs.Numbers.{is_in, var_place}
-use Rattle.pdl_rules.proofs.Defined.{no_params}
+use Rattle.pdl_rules.proofs.KnownVariables.{no_params}
 use Rattle.pdl_rules.proofs.EachPlace.{closing}
 
 -- NAMES
 
+-- the list of the variables' names is the same as itself
 pub told_is : (vs : List Var) → told vs ≡ told vs
 told_is [] = refl
 told_is (v ∷ vs) = ap (λ l. v.name ∷ l) (told_is vs)
@@ -50,7 +51,7 @@ defined_here x (Memory m) e = absurd (false≢true e)
 defined_here x (End s) e = absurd (false≢true e)
 defined_here x (StartClause s) e = absurd (false≢true e)
 
-pub defined_in : (x : List ℕ) (ds : List Place) → list_any (defines_use (OfVariable x)) ds ≡ true → is_in (names ds) x ≡ true
+defined_in : (x : List ℕ) (ds : List Place) → list_any (defines_use (OfVariable x)) ds ≡ true → is_in (names ds) x ≡ true
 defined_in x [] e = absurd (false≢true e)
 defined_in x (d ∷ ds) e =
     list_any-append (λ y. bytes_eq y x) (names_at d) (names ds)
@@ -63,6 +64,7 @@ param_in x (a ∷ ps) e =
 
 -- BEHIND THE MEMORIES
 
+-- these places begin with the parameters and memories of the source
 abbrev pub After : Pipe → List Place → Type 0
 After p front = (more : List Place) × (front ≡ front_of p ++ more)
 
@@ -130,6 +132,7 @@ memory_there p m e = among_mems m p.mems (only (list_any test (map Memory p.mems
 
 -- LOCATIONS
 
+-- the memory of a location is there, and so is the variable of its address
 abbrev pub IsNamed : List Mem → List Var → Location → Type 0
 IsNamed ms vs l = (is_memory ms l.mem.name ≡ true) × (is_named vs l.address.name ≡ true)
 
@@ -140,6 +143,7 @@ pub record Here (p : Pipe) (t : Site) : Type 0 where
   pub at : At t.front t.walk t.gs t.branches
   pub after : After p t.front
 
+-- `Here` holds of each site of a source: where it stands in the text, and after which places
 pub all_here : (p : Pipe) → All (Here p) (sites_of p)
 all_here p = go (sites_of p) (all_stand p) (all_at p) (all_after p)
   where

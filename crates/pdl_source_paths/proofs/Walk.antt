@@ -10,10 +10,10 @@ use Rattle.pdl_rules.specs.Locks.{lacks_hold, is_late_read, is_one_too_many, is_
 use Rattle.pdl_rules.specs.Calls.{is_wrong_call}
 use Rattle.pdl_rules.specs.Refusal.{KeepsRules}
 use Rattle.pdl_rules.proofs.EachPlace.{Each, closing}
-use Rattle.pdl_rules.proofs.Once.{KeepsLocks}
+use Rattle.pdl_rules.proofs.SingleWrites.{KeepsLocks}
 use Rattle.pdl_source_stages.proofs.Sites.{Site, branch, sites_in, sites, sites_of, front_of, place_of, All, places_in, places_all}
 use Rattle.pdl_source_paths.proofs.Choices.{path_of, unbroken_on}
-use Rattle.pdl_source_paths.proofs.Along.{on_sites}
+use Rattle.pdl_source_paths.proofs.PathStatements.{on_sites}
 use Rattle.pdl_source_paths.proofs.Variables.{Here, all_here}
 
 -- IN TEXT ORDER
@@ -48,6 +48,7 @@ mutual
       (in_text_in ms front w gs bs s)
       (subst (λ l. InText (front ++ l) (sites ms (front ++ with_inner bs s) (past ms s w) gs bs ss)) (sym (places_in ms front w gs bs s)) (in_text ms (front ++ with_inner bs s) (past ms s w) gs bs ss))
 
+-- the front of each site of a source is what stands before it in the text
 pub all_in_text : (p : Pipe) → InText (front_of p) (sites_of p)
 all_in_text p = in_text p.mems (front_of p) (at_start p) [] [] p.body
 
@@ -58,6 +59,7 @@ abbrev pub OnPath : List Guard → List Place → List Site → Type 0
 OnPath c earlier [] = Unit {0}
 OnPath c earlier (t ∷ ts) = (filter (on_path c) t.front ≡ earlier) × (on_path c (place_of t) ≡ true) × OnPath c (earlier ++ place_of t ∷ []) ts
 
+-- the places of two lists that pass a test are those of the one and then those of the other
 pub filter_append : (f : Place → Bool) (xs ys : List Place) → filter f (xs ++ ys) ≡ filter f xs ++ filter f ys
 filter_append f [] ys = refl
 filter_append f (x ∷ xs) ys = at (f x) (filter_append f xs ys)
@@ -66,6 +68,7 @@ filter_append f (x ∷ xs) ys = at (f x) (filter_append f xs ys)
     at true e = ap (λ l. x ∷ l) e
     at false e = e
 
+-- the front of each site on a path, on that path, is what stands before the site on it
 pub on_the_path : (c : List Guard) (front : List Place) (ts : List Site) → InText front ts → OnPath c (filter (on_path c) front) (on_sites c ts)
 on_the_path c front [] h = tt
 on_the_path c front (t ∷ ts) h = at (on_path c (place_of t)) refl (on_the_path c (front ++ place_of t ∷ []) ts h.1)
@@ -80,7 +83,7 @@ on_the_path c front (t ∷ ts) h = at (on_path c (place_of t)) refl (on_the_path
         subst (λ l. OnPath c l (on_sites c ts)) (filter_append (on_path c) front (place_of t ∷ []) ∙ ap (λ b. filter (on_path c) front ++ cond b (place_of t ∷ []) []) e ∙ append-nil (filter (on_path c) front)) k
 
 -- the places of the sites on a path are the places on it
-pub path_places : (c : List Guard) (ts : List Site) → filter (on_path c) (map place_of ts) ≡ map place_of (on_sites c ts)
+path_places : (c : List Guard) (ts : List Site) → filter (on_path c) (map place_of ts) ≡ map place_of (on_sites c ts)
 path_places c [] = refl
 path_places c (t ∷ ts) = at (on_path c (place_of t)) (path_places c ts)
   where
@@ -88,6 +91,7 @@ path_places c (t ∷ ts) = at (on_path c (place_of t)) (path_places c ts)
     at true e = ap (λ l. place_of t ∷ l) e
     at false e = e
 
+-- what holds of each site holds of each one on a path
 pub all_on : (P : Site → Type 0) (c : List Guard) (ts : List Site) → All P ts → All P (on_sites c ts)
 all_on P c [] h = tt
 all_on P c (t ∷ ts) h = at (on_path c (place_of t)) (all_on P c ts h.1)

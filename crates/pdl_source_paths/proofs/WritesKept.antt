@@ -12,12 +12,12 @@ use Rattle.pdl_rules.specs.Parts.{location_of}
 use Rattle.pdl_rules.specs.Locks.{same_location, Hold, Nothing, Reserved, Blocked, Released, after_block, after_place, hold_after, is_held_for, is_unreleased, is_reserve_of, is_write_of, reserves_location, writes_location, leaves_open}
 use Rattle.pdl_rules.specs.Typed.{is_named, is_memory}
 use Rattle.pdl_rules.proofs.EachPlace.{Each, closing}
-use Rattle.pdl_rules.proofs.Once.{KeepsLocks, AreBacked, any_weaker, any_front, any_last, location_refl, held_alike, reserves_alike, reserves_to_write, reserves_some, reserves_mem, unique, held_if_blocked, reserved_if_blocked, counted, count_none, written_once}
+use Rattle.pdl_rules.proofs.SingleWrites.{KeepsLocks, AreBacked, any_weaker, any_front, any_last, location_refl, held_alike, reserves_alike, reserves_to_write, reserves_some, reserves_mem, unique, held_if_blocked, reserved_if_blocked, counted, count_none, written_once}
 use Rattle.pdl_theory_derived.specs.Alone.{answered_op}
 use Rattle.pdl_theory_facts.specs.Scans.{Phase, Fresh, Held, Written, Done, after_release, next_phase, holds_location, is_fresh, may_read, phase_ok, phases_ok, phase_all, is_over}
 use Rattle.pdl_source_paths.proofs.Numbers.{var_low, var_same, var_stays, mem_is}
-use Rattle.pdl_source_paths.proofs.Along
-use Rattle.pdl_source_paths.proofs.Along.{ops_of, seen_ops}
+use Rattle.pdl_source_paths.proofs.PathStatements
+use Rattle.pdl_source_paths.proofs.PathStatements.{ops_of, seen_ops}
 use Rattle.pdl_source_paths.proofs.Variables.{IsNamed}
 use Rattle.pdl_source_paths.proofs.Growth
 use Rattle.pdl_source_paths.proofs.Growth.{vars_past, Grown}
@@ -35,6 +35,7 @@ pub record Open (vs : List Var) (before : List Place) (m : List ℕ) (x : ℕ) :
   pub number : var_of vs at.address.name ≡ x
   pub reserved : list_any (reserves_to_write at) before ≡ true
 
+-- what these places have reserved and written of memory m is as this phase of its write says
 abbrev pub Stands : List Var → List Place → List ℕ → Phase → Type 0
 Stands vs before m Fresh = (list_any (is_reserve_of W m) before ≡ false) × (list_any (is_write_of m) before ≡ false)
 Stands vs before m (Held x) = (o : Open vs before m x) × (list_any (is_write_of m) before ≡ false) × (is_held_for W (hold_after o.at before) ≡ true)
@@ -246,16 +247,18 @@ abbrev pub phase_ops : ℕ → Phase → List Flat.Op → Phase
 phase_ops m ph [] = ph
 phase_ops m ph (op ∷ os) = phase_ops m (next_phase m ph (answered_op op)) os
 
-abbrev pub phase_oks : ℕ → Phase → List Flat.Op → Bool
+abbrev phase_oks : ℕ → Phase → List Flat.Op → Bool
 phase_oks m ph [] = true
 phase_oks m ph (op ∷ os) = phase_ok m ph (answered_op op) && phase_oks m (next_phase m ph (answered_op op)) os
 
+-- the write to m is in order in operations of one stage and the rest where it is in each
 pub phases_append : (m k : ℕ) (ph : Phase) (os : List Flat.Op) (rest : List Flat.Stmt) → phase_oks m ph os ≡ true → phases_ok m (phase_ops m ph os) rest ≡ true → phases_ok m ph (seen_ops k os ++ rest) ≡ true
 phases_append m k ph [] rest h i = i
 phases_append m k ph (op ∷ os) rest h i =
     let parts = and_parts (phase_ok m ph (answered_op op)) (phase_oks m (next_phase m ph (answered_op op)) os) h in
     and_from _ _ parts.0 (phases_append m k (next_phase m ph (answered_op op)) os rest parts.1 i)
 
+-- the phase of m's write after operations and the rest is that after the rest, begun where they ended
 pub phase_append : (m k : ℕ) (ph : Phase) (os : List Flat.Op) (rest : List Flat.Stmt) → phase_all m ph (seen_ops k os ++ rest) ≡ phase_all m (phase_ops m ph os) rest
 phase_append m k ph [] rest = refl
 phase_append m k ph (op ∷ os) rest = phase_append m k (next_phase m ph (answered_op op)) os rest

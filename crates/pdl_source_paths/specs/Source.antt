@@ -15,9 +15,11 @@ abbrev pub start_of : Guard → Option ℕ
 start_of (Shared x) = None
 start_of (Own n) = Some n
 
+-- the byte at which an `if` on an expression begins, where the place is one
 abbrev pub own_start : Place → Option ℕ
 own_start x = at_statement None (λ s bs. of_if None (λ from c. start_of (guard_of from c)) s) x
 
+-- none of these places is an `if` on an expression that begins at this byte, where there is one
 abbrev pub is_new : Option ℕ → List Place → Bool
 is_new None xs = true
 is_new (Some n) xs = not (list_any (begins_at n) xs)
@@ -27,6 +29,7 @@ abbrev pub are_apart : List Place → Bool
 are_apart [] = true
 are_apart (x ∷ xs) = is_new (own_start x) xs && are_apart xs
 
+-- no two `if`s on expressions of a source begin at one byte
 abbrev pub is_source : Pipe → Bool
 is_source p = are_apart (places p)
 

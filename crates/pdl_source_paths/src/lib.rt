@@ -9,7 +9,7 @@ ghost use Rattle.pdl_semantics.specs.Flatten.{flat};
 ghost use Rattle.pdl_semantics.specs.Stages.{onpath, verify_stage};
 ghost use Rattle.pdl_rules.specs.Refusal.{KeepsRules};
 ghost use Rattle.pdl_theory_facts.specs.Scans.{no_scan};
-ghost use Rattle.pdl_theory_facts.specs.Certain.{Unmade, makings_ok, making_all, is_made, all_sure};
+ghost use Rattle.pdl_theory_facts.specs.GuessScans.{Unmade, makings_ok, making_all, is_made, all_sure};
 ghost use Rattle.pdl_theory_facts.specs.Facts.{at_once, Sound};
 ghost use Rattle.pdl_theory_facts.specs.Accepted.{Accepted, along};
 ghost use Rattle.pdl_source_paths.specs.Source.{is_source, is_named};

@@ -10,9 +10,9 @@ use Rattle.pdl_rules.specs.Refusal.{first_broken, limits, after_limits}
 use Rattle.pdl_rules.proofs.Unbroken.{keeps_unbroken}
 use Rattle.pdl_theory_facts.specs.SoundChecks.{passes_tests}
 use Rattle.pdl_theory.proofs.SoundExamples.{passed_by}
-use Rattle.pdl_theory.proofs.Stated.{whole_refines}
+use Rattle.pdl_theory.proofs.StatedTheorems.{whole_refines}
 use Rattle.pdl_source_paths.specs.Source.{is_source, is_named}
-use Rattle.pdl_source_paths.proofs.Whole.{of_source}
+use Rattle.pdl_source_paths.proofs.PipeFacts.{of_source}
 
 -- whether it keeps the rules and is as sources are
 abbrev rules_of : Pipe → Type 0

@@ -14,9 +14,9 @@ use Rattle.pdl_rules.specs.Names.{OfMemory, OfVariable, defines_use, is_undefine
 use Rattle.pdl_rules.specs.Stages.{first_stage, is_elsewhere, stage_of, stage_in}
 use Rattle.pdl_rules.specs.Refusal.{KeepsRules}
 use Rattle.pdl_source_stages.proofs.Sites.{Site, branch, sites_in, sites, sites_of, front_of, place_of, places_in, places_all, All, owns, stmts_are}
-use Rattle.pdl_source_stages.proofs.Standing.{all_map}
-use Rattle.pdl_source_stages.proofs.Staged.{Staged}
-use Rattle.pdl_source_stages.proofs.Fine.{Fine, all_fine, op_of, rows_of, own_is, from_op}
+use Rattle.pdl_source_stages.proofs.SiteStages.{all_map}
+use Rattle.pdl_source_stages.proofs.StatementStages.{Staged}
+use Rattle.pdl_source_stages.proofs.SiteFacts.{Fine, all_fine, op_of, rows_of, own_is, from_op}
 use Rattle.pdl_word.proofs.Bytes.{bytes_same, bytes_swap}
 use Rattle.pdl_rules.proofs.EachPlace.{closing}
 
@@ -49,15 +49,17 @@ mutual
       fronts_append front (sites_in ms front w gs bs s) _ (fronts_in ms front w gs bs s)
       (subst (λ l. Fronts (front ++ l) (sites ms (front ++ with_inner bs s) (past ms s w) gs bs ss)) (sym (places_in ms front w gs bs s)) (fronts_all ms (front ++ with_inner bs s) (past ms s w) gs bs ss))
 
-pub all_fronts : (p : Pipe) → Fronts (front_of p) (sites_of p)
+all_fronts : (p : Pipe) → Fronts (front_of p) (sites_of p)
 all_fronts p = fronts_all p.mems (front_of p) (at_start p) [] [] p.body
 
 -- THE FIRST OF A KIND
 
+-- the stage of the first site whose place passes the test
 abbrev pub first_of : (Place → Bool) → List Site → Option ℕ
 first_of test [] = None
 first_of test (t ∷ ts) = if test (place_of t) then Some t.walk.stage else first_of test ts
 
+-- the first of two stages that may be there, else the second
 abbrev pub or_else : Option ℕ → Option ℕ → Option ℕ
 or_else None o = o
 or_else (Some s) o = Some s
@@ -122,14 +124,17 @@ nowhere test before (x ∷ xs) e =
 pub none_elsewhere : (test : Place → Bool) (before : List Place) (s : ℕ) → list_any test before ≡ false → is_elsewhere test before s ≡ false
 none_elsewhere test before s e = ap (is_some_and (λ k. not (k == s))) (nowhere test [] before e)
 
+-- a test that no parameter passes finds none among the parameters' places
 pub any_params : (test : Place → Bool) → ((a : Param) → test (Parameter a) ≡ false) → (xs : List Param) → list_any test (map Parameter xs) ≡ false
 any_params test f [] = refl
 any_params test f (a ∷ xs) = ap₂ (λ b c. b || c) (f a) (any_params test f xs)
 
+-- a test that no memory passes finds none among the memories' places
 pub any_mems : (test : Place → Bool) → ((m : Mem) → test (Memory m) ≡ false) → (xs : List Mem) → list_any test (map Memory xs) ≡ false
 any_mems test f [] = refl
 any_mems test f (m ∷ xs) = ap₂ (λ b c. b || c) (f m) (any_mems test f xs)
 
+-- a test that neither parameters nor memories pass finds nothing before the statements
 pub none_front : (p : Pipe) (test : Place → Bool) → ((a : Param) → test (Parameter a) ≡ false) → ((m : Mem) → test (Memory m) ≡ false) → list_any test (front_of p) ≡ false
 none_front p test f g = list_any-append test (map Parameter p.params) (map Memory p.mems) ∙ ap₂ (λ b c. b || c) (any_params test f p.params) (any_mems test g p.mems)
 
@@ -149,6 +154,7 @@ one_stage p rules op_test test f g alike here =
 abbrev pub is_known : List Mem → List ℕ → Bool
 is_known ms n = list_any (λ (m : Mem). bytes_eq n m.name.name) ms
 
+-- the number of a memory whose name is known is below the count of memories
 pub known_low : (ms : List Mem) (n : List ℕ) → is_known ms n ≡ true → mem_of ms n < length ms
 known_low [] n e = absurd (false≢true e)
 known_low (m ∷ ms) n e = at (bytes_eq m.name.name n) refl (ap (λ b. b || is_known ms n) (bytes_swap m.name.name n) ∙ e) (known_low ms n)

@@ -18,10 +18,10 @@ use Rattle.pdl_theory_facts.specs.Scans.{none_of, binds_var}
 use Rattle.pdl_theory_facts.specs.Facts.{is_fetch_of}
 use Rattle.pdl_source_stages.proofs.Sites.{Site, sites_of, front_of, place_of, All}
 use Rattle.pdl_source_stages.proofs.Walks.{cut, cut_append, names, names_at, names_by, names_append, told_past_all, at_front}
-use Rattle.pdl_source_stages.proofs.Formed.{body_forked, body_groups}
-use Rattle.pdl_source_stages.proofs.Standing.{all_both}
-use Rattle.pdl_source_stages.proofs.Fine.{Fine, all_fine, AtSite, each_stmt, each_in_stage, none_each, op_of, from_op}
-use Rattle.pdl_source_stages.proofs.Forking.{ForkSite, pick, fork_sites, fork_var, Order, Before, Same, After, order}
+use Rattle.pdl_source_stages.proofs.BodyShape.{body_forked, body_groups}
+use Rattle.pdl_source_stages.proofs.SiteStages.{all_both}
+use Rattle.pdl_source_stages.proofs.SiteFacts.{Fine, all_fine, AtSite, each_stmt, each_in_stage, none_each, op_of, from_op}
+use Rattle.pdl_source_stages.proofs.ForkSites.{ForkSite, pick, fork_sites, fork_var, Order, Before, Same, After, order}
 use Rattle.pdl_source_stages.proofs.ForkVars
 use Rattle.pdl_word.proofs.Bytes.{bytes_same, bytes_refl}
 use Rattle.pdl_semantics.specs.Sound.{stages_from}

@@ -16,7 +16,7 @@ use Rattle.pdl_rules.specs.Refusal.{KeepsRules}
 use Rattle.pdl_theory_facts.specs.Scans.{none_of, binds_var}
 use Rattle.pdl_source_stages.proofs.Sites.{branch, sites_of, front_of, All}
 use Rattle.pdl_source_stages.proofs.Walks.{holds_all, guard_begun, guard_stage, past_begun, past_all_begun, cut, cut_append, names, names_at, told}
-use Rattle.pdl_source_stages.proofs.Fine.{op_of, from_op}
+use Rattle.pdl_source_stages.proofs.SiteFacts.{op_of, from_op}
 use Rattle.pdl_word.proofs.Bytes.{bytes_same, bytes_swap}
 use Rattle.pdl_word.proofs.Lists.{some_filtered}
 use Rattle.pdl_semantics.specs.Sound.{stages_from}
@@ -112,6 +112,7 @@ bound_last ms vs (Reserve sp l R) x e = absurd (false≢true e)
 bound_last ms vs (Reserve sp l W) x e = absurd (false≢true e)
 bound_last ms vs _ x e = absurd (false≢true e)
 
+-- nothing from stage s on passes a test that only statements in stages before s pass
 pub none_from : (test : Flat.Op → Bool) (s : ℕ) (ys : List Flat.Stmt) → Each (λ y. test y.op ≡ true → y.stage < s) ys → none_of test (stages_from s ys) ≡ true
 none_from test s [] h = refl
 none_from test s (y ∷ ys) h = at (nat_le s y.stage) refl (none_from test s ys h.1)

@@ -3,16 +3,16 @@ pub mod Walks
 pub mod Shapes
 pub mod Spots
 pub mod Ways
-pub mod Formed
-pub mod Standing
-pub mod Staged
-pub mod Fine
+pub mod BodyShape
+pub mod SiteStages
+pub mod StatementStages
+pub mod SiteFacts
 pub mod Trunks
 pub mod Firsts
 pub mod Homes
-pub mod Forking
+pub mod ForkSites
 pub mod ForkVars
 pub mod ForkFacts
 pub mod Facts
-pub mod Visiting
+pub mod PathStages
 mod Rows

@@ -19,6 +19,7 @@ is_plain Nil = true
 is_plain (Cons (If sp c when otherwise) ss) = is_whole when otherwise && is_plain ss
 is_plain (Cons s ss) = is_plain ss
 
+-- the first of these statements is a separator
 abbrev pub begins_stage : Stmts → Bool
 begins_stage (Cons (Separator sp) ss) = true
 begins_stage _ = false
@@ -28,6 +29,7 @@ abbrev pub fork_fits : Bool → Stmts → Stmts → Stmts → Bool
 fork_fits true when otherwise ss = true
 fork_fits false when otherwise ss = begins_stage ss && (is_plain when && is_plain otherwise)
 
+-- each fork of these statements is in form
 abbrev pub is_forked : Stmts → Bool
 is_forked Nil = true
 is_forked (Cons (If sp c when otherwise) ss) = fork_fits (is_whole when otherwise) when otherwise ss && is_forked ss
@@ -41,6 +43,7 @@ pub data Shape : Type 0 where
   Cut : (rest : Shape) → Shape
   Fork : (x first second : ℕ) (rest : Shape) → Shape
 
+-- a stage that leads there, in this branch and as the merge of this fork, where it is either
 abbrev pub stage : Flat.Next → Option Flat.Branch → Option ℕ → Flat.Stage
 stage next branch merges = record { next = next; branch = branch; merges = merges }
 
@@ -49,6 +52,7 @@ abbrev pub leads : ℕ → Flat.Next → ℕ → Flat.Next
 leads s exit zero = exit
 leads s exit (suc n) = Flat.Goes (suc s)
 
+-- the n stages of a branch after stage s, of which the last leads to `exit`
 abbrev pub row : Option Flat.Branch → Flat.Next → ℕ → ℕ → List Flat.Stage
 row branch exit s zero = []
 row branch exit s (suc n) = stage (leads (suc s) exit n) branch None ∷ row branch exit (suc s) n
@@ -59,6 +63,7 @@ leads_on k Last = Flat.Ends
 leads_on k (Cut rest) = Flat.Goes (suc k)
 leads_on k (Fork x a b rest) = Flat.Forks x (entry (leads k (Flat.Goes (suc (k + a + b))) a)) (entry (leads (k + a) (Flat.Goes (suc (k + a + b))) b))
 
+-- all stages after stage k of a trunk of this shape
 abbrev pub after : ℕ → Shape → List Flat.Stage
 after k Last = []
 after k (Cut rest) = stage (leads_on (suc k) rest) None None ∷ after (suc k) rest
@@ -116,6 +121,7 @@ forked_is x a b f m i j k n r e1 e2 e3 e4 e5 =
     ap (λ u. forked x a b u m i j k r) e1 ∙ ap (λ u. forked x a b n u i j k r) e2 ∙ ap (λ u. forked x a b n (suc (n + a + b)) u j k r) e3
     ∙ ap (λ u. forked x a b n (suc (n + a + b)) n u k r) e4 ∙ ap (λ u. forked x a b n (suc (n + a + b)) n (n + a) u r) e5
 
+-- the stage graph of statements outside any branch is that of their shape, where each fork is in form
 pub graph_trunk : (ms : List Mem) (ss : Stmts) (w : Flatten.Position) → w.stage ≡ w.begun → is_forked ss ≡ true → graph ms None Flat.Ends ss w ≡ trunk w.begun (shape ms ss w)
 graph_trunk ms Nil w e h = refl
 graph_trunk ms (Cons (Separator sp) ss) w e h = ap (graph_with_stage None w) (graph_trunk ms ss (past ms (Separator sp) w) refl h)

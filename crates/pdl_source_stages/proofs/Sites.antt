@@ -15,6 +15,7 @@ pub record Site : Type 0 where
   pub branches : List Branch
   pub stmt : Stmt
 
+-- the branch of an `if` that is taken where its condition has this truth value
 abbrev pub branch : Span → Expr → Bool → Stmts → Branch
 branch sp c truth inside = record { guard = guard_of sp c; truth = truth; inside = inside }
 
@@ -38,11 +39,13 @@ abbrev mutual
 abbrev pub front_of : Pipe → List Place
 front_of p = map Parameter p.params ++ map Memory p.mems
 
+-- the sites of a source, in text order
 abbrev pub sites_of : Pipe → List Site
 sites_of p = sites p.mems (front_of p) (at_start p) [] [] p.body
 
 -- THE PLACES
 
+-- the place of a site in the text: its statement in its branches
 abbrev pub place_of : Site → Place
 place_of t = Statement t.stmt t.branches
 
@@ -74,14 +77,16 @@ abbrev pub own_of : List Mem → List Flat.Guard → Flatten.Position → Stmt �
 own_of ms gs w (If sp c when otherwise) = binds_guard gs w c
 own_of ms gs w s = flat_stmt ms gs s w
 
+-- the flat statements of a site alone
 abbrev pub own : List Mem → Site → List Flat.Stmt
 own ms t = own_of ms t.gs t.walk t.stmt
 
+-- the flat statements of each of these sites alone, one site's after the other's
 abbrev pub owns : List Mem → List Site → List Flat.Stmt
 owns ms [] = []
 owns ms (t ∷ ts) = own ms t ++ owns ms ts
 
-pub owns_append : (ms : List Mem) (xs ys : List Site) → owns ms (xs ++ ys) ≡ owns ms xs ++ owns ms ys
+owns_append : (ms : List Mem) (xs ys : List Site) → owns ms (xs ++ ys) ≡ owns ms xs ++ owns ms ys
 owns_append ms [] ys = refl
 owns_append ms (x ∷ xs) ys = ap (λ l. own ms x ++ l) (owns_append ms xs ys) ∙ sym (append_assoc (own ms x) (owns ms xs) (owns ms ys))
 
@@ -110,6 +115,7 @@ abbrev pub All : (Site → Type 0) → List Site → Type 0
 All P [] = Unit {0}
 All P (t ∷ ts) = P t × All P ts
 
+-- what holds of each site of two lists holds of each one of both together
 pub all_append : (P : Site → Type 0) (xs ys : List Site) → All P xs → All P ys → All P (xs ++ ys)
 all_append P [] ys h k = k
 all_append P (x ∷ xs) ys h k = (h.0, all_append P xs ys h.1 k)

@@ -23,6 +23,7 @@ merge_at f a b = suc (f + a + b)
 abbrev pub start : ℕ → ℕ → Bool → ℕ
 start f a first = cond first f (f + a)
 
+-- how many stages a fork's first branch has, or its second
 abbrev pub long : ℕ → ℕ → Bool → ℕ
 long a b first = cond first a b
 
@@ -65,6 +66,7 @@ chain p branch exit s (suc n) ys h =
 
 -- GROUPS
 
+-- the stages of a pipe from k on have this shape, and stage k merges this fork, if it merges one
 abbrev pub Groups : Flat.Pipe → ℕ → Option ℕ → Shape → Type 0
 Groups p k merges Last = (stage_at p k ≡ stage Flat.Ends None merges) × (suc k ≡ length p.stages)
 Groups p k merges (Cut rest) = (stage_at p k ≡ stage (Flat.Goes (suc k)) None merges) × Groups p (suc k) None rest
@@ -75,6 +77,7 @@ Groups p k merges (Fork x a b rest) =
     × Chain p (side k false) (Flat.Goes (merge_at k a b)) (k + a) b
     × Groups p (merge_at k a b) (Some k) rest
 
+-- stages that are listed by a shape from k on have that shape, where each of its forks has a branch stage
 pub groups : (p : Flat.Pipe) (k : ℕ) (merges : Option ℕ) (sh : Shape) → Proper sh → Rest p k (stage (leads_on k sh) None merges ∷ after k sh) → Groups p k merges sh
 groups p k merges Last proper h = (
   rest_head p k _ [] h,
@@ -87,16 +90,19 @@ groups p k merges (Fork x a b rest) proper h =
     let two = chain p (side k false) (Flat.Goes (merge_at k a b)) (k + a) b _ one.1 in
     (rest_head p k _ _ h, proper.0, one.0, two.0, groups p (merge_at k a b) (Some k) rest proper.1 two.1)
 
+-- the stage in which a shape begins stands in the trunk
 pub group_trunk : (p : Flat.Pipe) (k : ℕ) (merges : Option ℕ) (sh : Shape) → Groups p k merges sh → Trunk p k
 group_trunk p k merges Last g = ap (λ (x : Flat.Stage). x.branch) g.0
 group_trunk p k merges (Cut rest) g = ap (λ (x : Flat.Stage). x.branch) g.0
 group_trunk p k merges (Fork x a b rest) g = ap (λ (x : Flat.Stage). x.branch) g.0
 
+-- the stage in which a shape begins merges the fork that is said to be merged there, if one is
 pub group_merge : (p : Flat.Pipe) (k : ℕ) (merges : Option ℕ) (sh : Shape) → Groups p k merges sh → (stage_at p k).merges ≡ merges
 group_merge p k merges Last g = ap (λ (x : Flat.Stage). x.merges) g.0
 group_merge p k merges (Cut rest) g = ap (λ (x : Flat.Stage). x.merges) g.0
 group_merge p k merges (Fork x a b rest) g = ap (λ (x : Flat.Stage). x.merges) g.0
 
+-- the stage in which a shape begins is one of the pipe's
 pub group_inside : (p : Flat.Pipe) (k : ℕ) (merges : Option ℕ) (sh : Shape) → Groups p k merges sh → k < length p.stages
 group_inside p k merges Last g = let e = g.1 in omega arith
 group_inside p k merges (Cut rest) g = let e = group_inside p (suc k) None rest g.1 in omega arith
@@ -121,6 +127,7 @@ pub data Spot (p : Flat.Pipe) (s : ℕ) : Type 0 where
   AtFork : (x a b : ℕ) → Forked p s x a b → Spot p s
   Inner : (f x a b : ℕ) (first : Bool) (d j : ℕ) → Forked p f x a b → d + suc j ≡ long a b first → s ≡ suc (start f a first + d) → Spot p s
 
+-- a shape that begins with a fork begins in a stage with that fork, its branches and its merge
 pub group_fork : (p : Flat.Pipe) (k : ℕ) (merges : Option ℕ) (x a b : ℕ) (rest : Shape) → Groups p k merges (Fork x a b rest) → Forked p k x a b
 group_fork p k merges x a b rest g = record {
   next = ap (λ (x : Flat.Stage). x.next) g.0;
@@ -136,6 +143,7 @@ group_fork p k merges x a b rest g = record {
     chains true = g.2
     chains false = g.3
 
+-- each stage from k on is the last, one in line, a fork or one in a branch, where they have a shape
 pub spot : (p : Flat.Pipe) (k : ℕ) (merges : Option ℕ) (sh : Shape) → Groups p k merges sh → (s : ℕ) → k ≤ s → s < length p.stages → Spot p s
 spot p k merges Last g s low high =
     let e = g.1 in
@@ -187,9 +195,11 @@ between_in p f x a b r fork low high = at (cases_lt (f + a) r)
         let i : r ≡ suc (f + (r - suc f)) = omega arith in
         (true, r - suc f, f + a - r, e, i, here true (r - suc f) (f + a - r) e i)
 
+-- where there is nothing, there isn't something
 pub none_some : (A : Type 0) (x : A) (o : Option A) → o ≡ None → o ≡ Some x → ⊥
 none_some A x o e i = cc
 
+-- a stage in the trunk stands in no branch
 pub not_trunk : (p : Flat.Pipe) (c : Flat.Branch) (r : ℕ) → Trunk p r → In p c r → ⊥
 not_trunk p c r t i = none_some Flat.Branch c (stage_at p r).branch t i
 
@@ -197,10 +207,12 @@ not_trunk p c r t i = none_some Flat.Branch c (stage_at p r).branch t i
 pub past_trunk : (p : Flat.Pipe) (r : ℕ) → length p.stages ≤ r → stage_at p r ≡ last_stage
 past_trunk p r h = get_or_past p.stages r last_stage h
 
+-- the stage of a branch's fork, 0 where there is no branch
 abbrev pub fork_in : Option Flat.Branch → ℕ
 fork_in None = 0
 fork_in (Some c) = c.fork
 
+-- whether a branch is the first of its fork, true where there is no branch
 abbrev pub first_in : Option Flat.Branch → Bool
 first_in None = true
 first_in (Some c) = c.first
@@ -216,6 +228,7 @@ pub record Inside (p : Flat.Pipe) (c : Flat.Branch) (s : ℕ) : Type 0 where
   pub place : d + suc j ≡ long a b c.first
   pub number : s ≡ suc (start c.fork a c.first + d)
 
+-- a stage that stands in a branch is one of the branch's stages between its fork and its merge
 pub inside_of : (p : Flat.Pipe) → ((s : ℕ) → s < length p.stages → Spot p s) → (c : Flat.Branch) (s : ℕ) → In p c s → Inside p c s
 inside_of p spots c s h = at (cases_lt s (length p.stages))
   where

@@ -18,11 +18,12 @@ use Rattle.pdl_source_stages.proofs.Sites.{Site, place_of}
 use Rattle.pdl_source_stages.proofs.Shapes.{Shape, Last, Cut, Fork}
 use Rattle.pdl_source_stages.proofs.Spots.{merge_at, start, long, Groups, group_trunk, group_merge, group_fork, group_inside, Forked, Spot, between_in, not_trunk, none_some, past_trunk, inside_of, fork_same}
 use Rattle.pdl_source_stages.proofs.Ways.{Way, Ends, Steps, Enters, Skips, Stays, Leaves, way, start_low, start_high, graph_of, branches_of}
-use Rattle.pdl_source_stages.proofs.Formed.{body_forked, body_shape, body_groups, spots}
-use Rattle.pdl_source_stages.proofs.Standing.{Standing, OnTrunk, OnBranch, HasGuard, in_fork}
-use Rattle.pdl_source_stages.proofs.Fine.{Fine, each_fine, each_in_stage, none_each, op_of, op_trunk_only}
+use Rattle.pdl_source_stages.proofs.BodyShape.{body_forked, body_shape, body_groups, spots}
+use Rattle.pdl_source_stages.proofs.SiteStages.{Standing, OnTrunk, OnBranch, HasGuard, in_fork}
+use Rattle.pdl_source_stages.proofs.SiteFacts.{Fine, each_fine, each_in_stage, none_each, op_of, op_trunk_only}
 use Rattle.pdl_word.specs.Each.{Each}
 use Rattle.pdl_word.proofs.Each.{each_weaker}
+use Rattle.pdl_semantics.proofs.Facts.{merges_some}
 
 -- MERGES
 
@@ -87,10 +88,6 @@ taken_some test d (suc n) (x ∷ xs) h = at (test x) refl h (taken_some test d n
     at true e k more = (0, omega arith, e)
     at false e k more = let r = more k in (suc r.0, (let l = r.1 in omega arith), r.2)
 
-merges_some : (o : Option ℕ) (f : ℕ) → merges_fork o f ≡ true → o ≡ Some f
-merges_some None f h = absurd (false≢true h)
-merges_some (Some g) f h = ap Some (eqb-true g f h)
-
 branch_inside : (o : Option Flat.Branch) (f : ℕ) → is_branch_of o f ≡ true → (c : Flat.Branch) × (o ≡ Some c) × (c.fork ≡ f)
 branch_inside None f h = absurd (false≢true h)
 branch_inside (Some c) f h = (c, refl, eqb-true c.fork f h)
@@ -111,11 +108,13 @@ first_index test ys k m [] l = absurd (omega arith)
 first_index test ys k zero (x ∷ ms) l = ap (λ n. first_stage (test n) ys) (let e : k ≡ k + 0 = omega arith in e)
 first_index test ys k (suc m) (x ∷ ms) l = first_index test ys (suc k) m ms (omega arith) ∙ ap (λ n. first_stage (test n) ys) (let e : suc k + m ≡ k + suc m = omega arith in e)
 
+-- no stage is listed for a memory past the last one
 pub first_past : (test : ℕ → Flat.Op → Bool) (ys : List Flat.Stmt) (k m : ℕ) (ms : List Mem) → length ms ≤ m → slice_index_or (first_stages test ys k ms) m None ≡ None
 first_past test ys k m [] l = refl
 first_past test ys k zero (x ∷ ms) l = absurd (omega arith)
 first_past test ys k (suc m) (x ∷ ms) l = first_past test ys (suc k) m ms (omega arith)
 
+-- the verifies' stage is that of the first verify
 pub verify_first : (ys : List Flat.Stmt) → verify_stage ys ≡ first_stage is_verify ys
 verify_first [] = refl
 verify_first (y ∷ ys) = ap (λ o. if is_verify y.op then Some y.stage else o) (verify_first ys)

@@ -37,10 +37,12 @@ module _ (ms : List Mem) (I : List Place → Flatten.Position → List Flat.Guar
 
 -- STAGES BEGUN
 
+-- as many stages have begun after the guard of an `if` as before it
 pub guard_begun : (c : Expr) (w : Flatten.Position) → (with_guard c w).begun ≡ w.begun
 guard_begun (Variable x) w = refl
 guard_begun _ w = refl
 
+-- the guard of an `if` leaves the walk in its stage
 pub guard_stage : (c : Expr) (w : Flatten.Position) → (with_guard c w).stage ≡ w.stage
 guard_stage (Variable x) w = refl
 guard_stage _ w = refl
@@ -77,6 +79,7 @@ mutual
 abbrev pub cut : List Place → ℕ
 cut xs = count_by is_separator xs
 
+-- the separators of two lists of places are those of the one and those of the other
 pub cut_append : (xs ys : List Place) → cut (xs ++ ys) ≡ cut xs + cut ys
 cut_append xs ys = sum_by-append (λ x. cond (is_separator x) 1 0) xs ys
 
@@ -103,6 +106,7 @@ mutual
 abbrev pub Begun : List Place → Flatten.Position → Type 0
 Begun front w = w.begun ≡ cut front
 
+-- as many stages have begun after a statement as separators stand before, where it was so at the statement
 pub begun_passes : (ms : List Mem) (front : List Place) (w : Flatten.Position) (bs : List Branch) (s : Stmt) → Begun front w → Begun (front ++ with_inner bs s) (past ms s w)
 begun_passes ms front w bs s h =
     let f = past_begun ms s w in
@@ -110,6 +114,7 @@ begun_passes ms front w bs s h =
     let i = cut_in bs s in
     omega arith
 
+-- as many stages have begun in an `if`'s first branch as separators stand before, where it was so at the `if`
 pub begun_first : (front : List Place) (w : Flatten.Position) (bs : List Branch) (sp : Span) (c : Expr) (when otherwise : Stmts) → Begun front w → Begun (front ++ Statement (If sp c when otherwise) bs ∷ []) (with_guard c w)
 begun_first front w bs sp c when otherwise h =
     let f = guard_begun c w in
@@ -117,6 +122,7 @@ begun_first front w bs sp c when otherwise h =
     let i : cut (Statement (If sp c when otherwise) bs ∷ []) ≡ 0 = refl in
     omega arith
 
+-- as many stages have begun in an `if`'s second branch as separators stand before, where it was so at the `if`
 pub begun_second : (ms : List Mem) (front : List Place) (w : Flatten.Position) (bs : List Branch) (sp : Span) (c : Expr) (when otherwise : Stmts) → Begun front w
     → Begun (front ++ Statement (If sp c when otherwise) bs ∷ statements (bs ++ branch sp c true when ∷ []) when) (at_otherwise ms c when w)
 begun_second ms front w bs sp c when otherwise h =
@@ -138,28 +144,33 @@ names_by (If _ (Variable x) when otherwise) = []
 names_by (If _ c when otherwise) = [] ∷ []
 names_by _ = []
 
+-- the names of variables that a place alone adds
 abbrev pub names_at : Place → List (List ℕ)
 names_at (Parameter a) = a.name.name ∷ []
 names_at (Statement s bs) = names_by s
 names_at _ = []
 
+-- the names of variables that these places add, in order
 abbrev pub names : List Place → List (List ℕ)
 names [] = []
 names (x ∷ xs) = names_at x ++ names xs
 
+-- the names that two lists of places add are those of the one and then those of the other
 pub names_append : (xs ys : List Place) → names (xs ++ ys) ≡ names xs ++ names ys
 names_append [] ys = refl
 names_append (x ∷ xs) ys = ap (λ l. names_at x ++ l) (names_append xs ys) ∙ sym (append_assoc (names_at x) (names xs) (names ys))
 
+-- the names of these variables, in order
 abbrev pub told : List Var → List (List ℕ)
 told [] = []
 told (v ∷ vs) = v.name ∷ told vs
 
+-- the names of two lists of variables are those of the one and then those of the other
 pub told_append : (xs ys : List Var) → told (xs ++ ys) ≡ told xs ++ told ys
 told_append [] ys = refl
 told_append (x ∷ xs) ys = ap (λ l. x.name ∷ l) (told_append xs ys)
 
-pub told_guard : (sp : Span) (c : Expr) (when otherwise : Stmts) (w : Flatten.Position) → told (with_guard c w).vars ≡ told w.vars ++ names_by (If sp c when otherwise)
+told_guard : (sp : Span) (c : Expr) (when otherwise : Stmts) (w : Flatten.Position) → told (with_guard c w).vars ≡ told w.vars ++ names_by (If sp c when otherwise)
 told_guard sp (Variable x) when otherwise w = sym (append-nil (told w.vars))
 told_guard sp _ when otherwise w = told_append w.vars _
 
@@ -188,7 +199,7 @@ mutual
 abbrev pub Named : List Place → Flatten.Position → Type 0
 Named front w = told w.vars ≡ names front
 
-pub named_passes : (ms : List Mem) (front : List Place) (w : Flatten.Position) (bs : List Branch) (s : Stmt) → Named front w → Named (front ++ with_inner bs s) (past ms s w)
+named_passes : (ms : List Mem) (front : List Place) (w : Flatten.Position) (bs : List Branch) (s : Stmt) → Named front w → Named (front ++ with_inner bs s) (past ms s w)
 named_passes ms front w bs s h = told_past ms bs s w ∙ ap (λ l. l ++ names (with_inner bs s)) h ∙ sym (names_append front (with_inner bs s))
 
 pub named_first : (front : List Place) (w : Flatten.Position) (bs : List Branch) (sp : Span) (c : Expr) (when otherwise : Stmts) → Named front w → Named (front ++ Statement (If sp c when otherwise) bs ∷ []) (with_guard c w)
@@ -197,7 +208,7 @@ named_first front w bs sp c when otherwise h =
     ∙ ap₂ (λ a b. a ++ b) h (sym (append-nil (names_by (If sp c when otherwise))))
     ∙ sym (names_append front (Statement (If sp c when otherwise) bs ∷ []))
 
-pub named_second : (ms : List Mem) (front : List Place) (w : Flatten.Position) (bs : List Branch) (sp : Span) (c : Expr) (when otherwise : Stmts) → Named front w
+named_second : (ms : List Mem) (front : List Place) (w : Flatten.Position) (bs : List Branch) (sp : Span) (c : Expr) (when otherwise : Stmts) → Named front w
     → Named (front ++ Statement (If sp c when otherwise) bs ∷ statements (bs ++ branch sp c true when ∷ []) when) (at_otherwise ms c when w)
 named_second ms front w bs sp c when otherwise h =
     told_past_all ms (bs ++ branch sp c true when ∷ []) when (with_guard c w)
@@ -218,16 +229,18 @@ pub record Choice : Type 0 where
   pub otherwise : Stmts
   pub truth : Bool
 
+-- the place of a choice's `if`
 abbrev pub its_if : Choice → Place
 its_if h = Statement (If h.span h.condition h.when h.otherwise) h.branches
 
-abbrev pub its_inside : Choice → Stmts
+abbrev its_inside : Choice → Stmts
 its_inside h = if h.truth then h.when else h.otherwise
 
 -- the guard of the flat form, and the branch of the rules
 abbrev pub flat_guard : Choice → Flat.Guard
 flat_guard h = record { var = Flatten.guard_of h.walk.vars h.condition; first = h.truth }
 
+-- the branch of the rules in which what makes this choice stands
 abbrev pub rule_branch : Choice → Branch
 rule_branch h = branch h.span h.condition h.truth (its_inside h)
 
@@ -235,6 +248,7 @@ rule_branch h = branch h.span h.condition h.truth (its_inside h)
 abbrev pub Chosen : List Place → Choice → Type 0
 Chosen front h = (later : List Place) × (front ≡ h.front ++ its_if h ∷ later) × Named h.front h.walk
 
+-- `Chosen` holds of each of these choices
 abbrev pub AllChosen : List Place → List Choice → Type 0
 AllChosen front [] = Unit {0}
 AllChosen front (h ∷ hs) = Chosen front h × AllChosen front hs
@@ -345,6 +359,7 @@ front_cut p =
     of_mems [] = refl
     of_mems (x ∷ xs) = of_mems xs
 
+-- `At` holds before the first statement of a source
 pub at_front : (p : Pipe) → At (front_of p) (at_start p) [] []
 at_front p = record {
   begun = sym (front_cut p);

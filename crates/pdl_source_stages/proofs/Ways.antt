@@ -40,6 +40,7 @@ inner_way p s env f x a b first d zero k e i =
 inner_way p s env f x a b first d (suc j) k e i =
     Stays f x a b first d j k e i (ap (λ n. goes_to (stage_at p n).next env) i ∙ ap (λ (y : Flat.Stage). goes_to y.next env) (k.chain first d (suc j) e) ∙ ap (λ n. Some (suc n)) (sym i))
 
+-- where a thread goes from a stage, by where the stage stands
 pub way : (p : Flat.Pipe) (s : ℕ) (env : List ℕ) → Spot p s → Way p s env
 way p s env (Final n t e) = Ends t e (ap (λ n. goes_to n env) n)
 way p s env (Line n t u m l) = Steps t u m l (ap (λ n. goes_to n env) n)
@@ -51,6 +52,7 @@ pub start_low : (f a : ℕ) (first : Bool) → f ≤ start f a first
 start_low f a true = omega arith
 start_low f a false = omega arith
 
+-- each stage of a branch comes before the merge of its fork
 pub start_high : (f a b d j : ℕ) (first : Bool) → d + suc j ≡ long a b first → suc (start f a first + d) < merge_at f a b
 start_high f a b d j true e = omega arith
 start_high f a b d j false e = omega arith

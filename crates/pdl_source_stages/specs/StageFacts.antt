@@ -25,6 +25,7 @@ FoundIf p fetch s (Verify _) = Unit {0}
 FoundIf p fetch s SpecCheck = Unit {0}
 FoundIf p fetch s SpecBarrier = Unit {0}
 
+-- what is known of the delayed reads of stage s holds of each of these statements
 abbrev pub AllFound : Pipe → (ℕ → ℕ) → ℕ → List Stmt → Type 0
 AllFound p fetch s [] = Unit {0}
 AllFound p fetch s (y ∷ ys) = FoundIf p fetch s y.op × AllFound p fetch s ys

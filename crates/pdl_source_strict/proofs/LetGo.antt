@@ -12,10 +12,10 @@ use Rattle.pdl_rules.specs.Locks
 use Rattle.pdl_rules.specs.Locks.{same_location, Hold, Nothing, Reserved, Blocked, Released, after_block, after_place, hold_after, is_reserved, is_unreleased, reserves_location, leaves_open}
 use Rattle.pdl_rules.specs.Typed.{is_named}
 use Rattle.pdl_rules.proofs.EachPlace.{Each, closing}
-use Rattle.pdl_rules.proofs.Once.{KeepsLocks, any_weaker, held_alike}
+use Rattle.pdl_rules.proofs.SingleWrites.{KeepsLocks, any_weaker, held_alike}
 use Rattle.pdl_source_stages.proofs.Sites.{Site, place_of, All}
 use Rattle.pdl_source_paths.proofs.Numbers.{var_stays}
-use Rattle.pdl_source_paths.proofs.Along.{ops_of, seen_ops, seen}
+use Rattle.pdl_source_paths.proofs.PathStatements.{ops_of, seen_ops, seen}
 use Rattle.pdl_source_paths.proofs.Growth.{Grown, Grows, grown_more, past_grown, vars_past}
 use Rattle.pdl_source_paths.proofs.ReadsKept.{open_reserved, held_more}
 use Rattle.pdl_theory_states.specs.Strict.{all_let_go, lets_go}
@@ -103,6 +103,7 @@ module _ (p : Pipe) (at : Location) where
 
 -- A PATH
 
+-- after each block of these sites stands a release of its location, where they keep the rules on locks
 pub sites_let_go : (p : Pipe) (ms : List Mem) (vs us : List Var) (before : List Place) (ts : List Site) → Grows ms vs ts us → Each (KeepsLocks p) before (map place_of ts ++ closing p)
     → All (λ t. (at : Location) → location_of t.stmt ≡ Some at → is_named t.walk.vars at.address.name ≡ true) ts → all_let_go (seen ms ts) ≡ true
 sites_let_go p ms vs us before [] g each named = refl

@@ -16,16 +16,16 @@ use Rattle.pdl_theory_derived.specs.Alone.{answered_op}
 use Rattle.pdl_theory_facts.specs.Facts.{mentions_var, looked_all}
 use Rattle.pdl_theory_turns.proofs.Looks.{path_looked}
 use Rattle.pdl_source_stages.proofs.Sites.{Site, sites_of, place_of, All, stmts_are}
-use Rattle.pdl_source_stages.proofs.Standing.{all_map}
+use Rattle.pdl_source_stages.proofs.SiteStages.{all_map}
 use Rattle.pdl_source_paths.specs.Source.{is_source}
 use Rattle.pdl_source_paths.proofs.Choices.{path_of}
-use Rattle.pdl_source_paths.proofs.Along.{seen, on_sites, path_is}
+use Rattle.pdl_source_paths.proofs.PathStatements.{seen, on_sites, path_is}
 use Rattle.pdl_source_paths.proofs.Variables.{Here, all_here, located, known}
 use Rattle.pdl_source_paths.proofs.Walk.{all_on, keeps_all}
 use Rattle.pdl_source_paths.proofs.Growth.{grows_all, grows_on}
-use Rattle.pdl_source_paths.proofs.Same.{value, all_alike}
+use Rattle.pdl_source_paths.proofs.FlatPaths.{value, all_alike}
 use Rattle.pdl_theory_states.specs.Strict.{Strict, bound_by, uses_own, is_mentioned, is_new, all_new, lets_go, all_let_go}
-use Rattle.pdl_source_strict.proofs.Fresh.{Uses, sites_new}
+use Rattle.pdl_source_strict.proofs.FreshVariables.{Uses, sites_new}
 use Rattle.pdl_source_strict.proofs.LetGo.{sites_let_go}
 use Rattle.pdl_semantics.proofs.Facts.{all_vars}
 

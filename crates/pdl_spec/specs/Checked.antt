@@ -3,7 +3,7 @@ use Rattle.std.proofs.Common.{◌≡◌, ◌∙◌, sym, ap, ℕ, Bool, ◌&&◌
 use Rattle.pdl_rules.specs.Places.{Place, Guard, on_path}
 use Rattle.pdl_rules.specs.Stages.{stage_of, stages_that}
 use Rattle.pdl_rules.specs.Speculation.{needs_check, is_check, is_checked}
-use Rattle.pdl_rules_stages.proofs.Found.{that_more}
+use Rattle.pdl_rules_stages.proofs.PlaceStages.{that_more}
 use Rattle.pdl_spec.specs.Sure.{is_before}
 
 -- a check on the path

@@ -1,5 +1,5 @@
 pub mod Verified
 pub mod Sure
 pub mod Checked
-pub mod Named
+pub mod WalkLines
 pub mod Plan

@@ -13,7 +13,7 @@ use Rattle.pdl_locks.specs.declared.numbers.Keys.TheVariants.{Locations}
 use Rattle.pdl_locks.specs.declared.uses.LocationUse as location
 use Rattle.pdl_locks.specs.Numbers.{AreNumbered}
 use Rattle.pdl_locks.specs.Uses.{AreKept, IsUsed}
-use Rattle.pdl_locks.specs.Passed.{passed_by}
+use Rattle.pdl_locks.specs.PassedPlaces.{passed_by}
 
 -- whether a stage is before the one that verifies
 abbrev pub is_before : Option ℕ → ℕ → Bool

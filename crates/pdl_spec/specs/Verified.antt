@@ -5,7 +5,7 @@ use Rattle.pdl_rules.specs.Places.{Place, Guard, places}
 use Rattle.pdl_paths.specs.declared.place.Place as r_place
 use Rattle.pdl_paths.specs.Actions.{place_view}
 use Rattle.pdl_rules_stages.specs.Stages.{stages_in}
-use Rattle.pdl_rules_stages.specs.Along.{HavePaths}
+use Rattle.pdl_rules_stages.specs.PathBits.{HavePaths}
 
 -- the only one of some numbers
 abbrev pub only : List ℕ → Option ℕ

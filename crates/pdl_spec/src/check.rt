@@ -8,7 +8,7 @@ ghost use Rattle.pdl_paths.specs.Actions.{place_view};
 ghost use Rattle.pdl_paths.specs.Masks.{AreMasked};
 ghost use Rattle.pdl_locks.specs.Plan.{Tells};
 ghost use Rattle.pdl_locks.specs.Facts.{AreFacts};
-ghost use Rattle.pdl_spec.specs.Named.{AreLines};
+ghost use Rattle.pdl_spec.specs.WalkLines.{AreLines};
 ghost use Rattle.pdl_spec.specs.Plan.{spec_rules};
 
 use crate::lines::{SpecLines, spec_path_rules};

@@ -6,7 +6,7 @@ ghost use Rattle.pdl_rules.specs.Speculation.{verify_stage};
 ghost use Rattle.pdl_paths.specs.Actions.{place_view};
 ghost use Rattle.pdl_paths.specs.Masks.{AreMasked};
 ghost use Rattle.pdl_locks.specs.Facts.{AreFacts};
-ghost use Rattle.pdl_spec.specs.Named.{AreLines, Lines, named_lines};
+ghost use Rattle.pdl_spec.specs.WalkLines.{AreLines, Lines, named_lines};
 
 use crate::checked::CheckedFirst;
 use crate::sure::ReleasedSure;

@@ -7,7 +7,7 @@ ghost use Rattle.pdl_rules.specs.Stages.{stages_that};
 ghost use Rattle.pdl_rules.specs.Speculation as spec;
 ghost use Rattle.pdl_paths.specs.Actions.{place_view};
 ghost use Rattle.pdl_paths.specs.Masks.{IsMasked, are_distinct};
-ghost use Rattle.pdl_rules_stages.specs.Along.{HavePaths, IsPath};
+ghost use Rattle.pdl_rules_stages.specs.PathBits.{HavePaths, IsPath};
 ghost use Rattle.pdl_rules_stages.specs.Stages.{stages_in};
 ghost use Rattle.pdl_spec.specs.Verified.{AreOfPipe, only};
 

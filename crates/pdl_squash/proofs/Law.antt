@@ -6,16 +6,8 @@ use Rattle.pdl_net.specs.Circuit.{State}
 use Rattle.pdl_net.specs.Signal.{Signal, const_signal, mux_signal, mux_value, const_value}
 use Rattle.pdl_squash.specs.Laws.{SquashSignals, Drives, none_held, SquashLaw}
 use Rattle.pdl_squash.specs.Nets.{squash_signal, removed_signal, none_signal, clear_signal}
-
--- a choice by a bit
-mux_bit : (x : Bool) (a b : ℕ) → mux (bit x) a b ≡ (if x then a else b)
-unfolding mux
-mux_bit true a b = refl
-mux_bit false a b = refl
-
-mux_at : (c a b : Signal) (s : State) (x : Bool) → c.value s ≡ bit x → (mux_signal c a b).value s ≡ (if x then a.value s else b.value s)
-unfolding mux_value
-mux_at c a b s x e = ap (λ n. mux n (a.value s) (b.value s)) e ∙ mux_bit x (a.value s) (b.value s)
+use Rattle.pdl_word.proofs.Laws.{mux_bit}
+use Rattle.pdl_net.proofs.Signals.{mux_at}
 
 squashes : (f : SquashSignals) (s : State) (held : ℕ → Bool) (moves fails : Bool) → Drives f s held moves fails → (squash_signal f).value s ≡ bit (moves && fails)
 unfolding const_value

@@ -22,14 +22,14 @@ bits_kept a b nets n h e = record {
 }
 
 -- a list with one net more
-pub mean_none : (c : Circuit) (f : ℕ → Signal) → MeanFrom c [] 0 0 f
+mean_none : (c : Circuit) (f : ℕ → Signal) → MeanFrom c [] 0 0 f
 mean_none c f = record {
   count = refl;
   there = λ k lo hi. absurd (omega arith);
   same = λ k lo hi. absurd (omega arith);
 }
 
-pub mean_push : (a b : Circuit) (nets : List Net) (x : Net) (n : ℕ) (f : ℕ → Signal) → MeanFrom a nets 0 n f → Extends a b → Means b x (f n) → MeanFrom b (nets ++ x ∷ []) 0 (n + 1) f
+mean_push : (a b : Circuit) (nets : List Net) (x : Net) (n : ℕ) (f : ℕ → Signal) → MeanFrom a nets 0 n f → Extends a b → Means b x (f n) → MeanFrom b (nets ++ x ∷ []) 0 (n + 1) f
 mean_push a b nets x n f h e m =
     let here : net_at (nets ++ x ∷ []) n ≡ x = get_or_push nets x (Input 0) n h.count in
     let before : (k : ℕ) → k < n → net_at (nets ++ x ∷ []) k ≡ net_at nets k = λ k l. get_or_append_left nets (x ∷ []) (Input 0) k (omega (arith, h.count, l)) in
@@ -47,7 +47,7 @@ mean_push a b nets x n f h e m =
     }
 
 -- a list with one net more before those that were set
-pub mean_set : (a b : Circuit) (nets : List Net) (x : Net) (k n : ℕ) (f : ℕ → Signal) → MeanFrom a nets (k + 1) n f → Extends a b → k < n → Means b x (f k) → MeanFrom b (slice_set nets k x) k n f
+mean_set : (a b : Circuit) (nets : List Net) (x : Net) (k n : ℕ) (f : ℕ → Signal) → MeanFrom a nets (k + 1) n f → Extends a b → k < n → Means b x (f k) → MeanFrom b (slice_set nets k x) k n f
 mean_set a b nets x k n f h e l m =
     let here : net_at (slice_set nets k x) k ≡ x = get_or-set_same nets k x (Input 0) (omega (arith, h.count, l)) in
     let after : (j : ℕ) → k < j → net_at (slice_set nets k x) j ≡ net_at nets j = λ j g. get_or-set_other nets k j x (Input 0) (λ (i : j ≡ k). omega arith) in
@@ -69,6 +69,7 @@ pub none_none : (f : SquashSignals) (k : ℕ) → none_signal f 0 k ≡ const_si
 unfolding none_signal
 none_none f k = refl
 
+-- the signal that n + 1 stages hold no thread is 0 where the first holds one, else that of the n after it
 pub none_more : (f : SquashSignals) (n : ℕ) → n < f.stage → none_signal f (n + 1) (f.stage - n) ≡ mux_signal (f.valid (f.stage - n)) (const_signal 1 0) (none_signal f n (f.stage - n + 1))
 unfolding none_signal
 none_more f n h = ap (λ m. none_signal f m (f.stage - n)) (add-one n)
@@ -107,6 +108,7 @@ mean_bits c nets n f h w = record {
   one = λ k l. ap (λ (g : Signal). g.width) (h.same k (omega arith) l) ∙ w k l;
 }
 
+-- nets go on meaning their signals in a circuit to which more is added
 pub mean_kept : (a b : Circuit) (nets : List Net) (first n : ℕ) (f : ℕ → Signal) → MeanFrom a nets first n f → Extends a b → MeanFrom b nets first n f
 mean_kept a b nets first n f h e = record {
   count = h.count;
@@ -119,6 +121,7 @@ unfolding none_signal
 none_one f zero k = refl
 none_one f (suc n) k = refl
 
+-- the signal that a stage before the squashing one is clear has 1 bit
 pub clear_one : (f : SquashSignals) (k : ℕ) → k < f.stage → (clear_signal f k).width ≡ 1
 clear_one f k h = none_one f (f.stage - k) (k + 1)
 
@@ -138,6 +141,7 @@ signals_alike a b p h v m f e = record {
   fails = e.kept p.fails f;
 }
 
+-- squashes that go by the same signals have the same signal that a stage's thread is removed
 pub removed_alike : (f g : SquashSignals) (k : ℕ) → Alike f g → k < f.stage → removed_signal f k ≡ removed_signal g k
 removed_alike f g k h l = let v = h.valid k (omega arith) in let m = h.moves in let e = h.fails in cc
 
@@ -146,8 +150,10 @@ unfolding none_signal
 none_alike f g zero k h l = refl
 none_alike f g (suc n) k h l = let v = h.valid k (omega arith) in let m = none_alike f g n (k + 1) h (omega arith) in cc
 
+-- squashes that go by the same signals have the same signal that a stage is clear
 pub clear_alike : (f g : SquashSignals) (k : ℕ) → Alike f g → k < f.stage → clear_signal f k ≡ clear_signal g k
 clear_alike f g k h l = none_alike f g (f.stage - k) (k + 1) h (omega arith) ∙ ap (λ n. none_signal g (n - k) (k + 1)) h.stage
 
+-- the net that takes the failing guess where the thread moves, else 0, means that there is a squash
 pub squash_is : (a b : Circuit) (p : SquashPorts) (nought : Net) → IsThere a p.moves → IsThere a p.fails → Extends a b → Means b nought (const_signal 1 0) → mux_signal (signal b p.moves) (signal b p.fails) (signal b nought) ≡ squash_signal (squash_signals a p)
 squash_is a b p nought m f e z = let x = e.kept p.moves m in let y = e.kept p.fails f in let w = z.same in cc

@@ -12,6 +12,7 @@ use Rattle.pdl_squash.specs.declared.SquashPorts.{SquashPorts}
 abbrev pub net_at : List Net → ℕ → Net
 net_at nets k = slice_index_or nets k (Input 0)
 
+-- the signal of the k-th of some nets
 abbrev pub signal_at : Circuit → List Net → ℕ → Signal
 signal_at c nets k = signal c (net_at nets k)
 
@@ -28,6 +29,7 @@ pub record SquashSignals : Type 0 where
   pub moves : Signal
   pub fails : Signal
 
+-- what a squash goes by, as the nets of its ports say it
 abbrev pub squash_signals : Circuit → SquashPorts → SquashSignals
 squash_signals c p = record { valid = signal_at c p.valid; stage = p.stage; moves = signal c p.moves; fails = signal c p.fails }
 

@@ -11,7 +11,7 @@ use Rattle.pdl_stages.specs.Graph.{of_stages}
 same_again : (path : List ℕ) (x y v b : ℕ) → y ≡ x → set (set path x v) y b ≡ set path y b
 same_again path x y v b e = ap (λ k. set (set path x v) k b) e ∙ set-set path x v b ∙ ap (λ k. set path k b) (sym e)
 
-pub longest_again : (p : Pipe) (x v : ℕ) (xs : List ℕ) (path : List ℕ) → list_any (λ y. eqb y x) xs ≡ true → longest p (set path x v) xs ≡ longest p path xs
+longest_again : (p : Pipe) (x v : ℕ) (xs : List ℕ) (path : List ℕ) → list_any (λ y. eqb y x) xs ≡ true → longest p (set path x v) xs ≡ longest p path xs
 longest_again p x v [] path h = absurd (false≢true h)
 longest_again p x v (y ∷ ys) path h = by (eqb y x) refl h (λ q k. longest_again p x v ys q k)
   where
@@ -39,6 +39,7 @@ stages_same p path zero s = refl
 stages_same p path (suc n) s =
     ap suc (onward_same (stages_on (of_stages p.stages) path n) (stages_on p path n) (λ k. stages_same p path n k) (goes_to (stage_at p s).next path))
 
+-- the greatest number of stages on a path hangs on the stages of a pipe alone
 pub longest_same : (p : Pipe) (path : List ℕ) (xs : List ℕ) → longest (of_stages p.stages) path xs ≡ longest p path xs
 longest_same p path [] = stages_same p path (length p.stages) 0
 longest_same p path (x ∷ xs) = ap₂ max (longest_same p (set path x 0) xs) (longest_same p (set path x 1) xs)
@@ -53,9 +54,10 @@ stage_passed p path count limit stage next whole h got inv =
     ap (λ m. count + stages_on p path m stage) more ∙ ap (λ o. count + suc (onward (stages_on p path n) o)) got in
     omega arith
 
-pub max_same : (n : ℕ) → max n n ≡ n
+max_same : (n : ℕ) → max n n ≡ n
 max_same n = omega arith
 
+-- a guard that comes again among the later ones leaves the greatest number of stages on a path as it is
 pub over_again : (p : Pipe) (path : List ℕ) (x : ℕ) (xs : List ℕ) → list_any (λ y. eqb y x) xs ≡ true → longest p path xs ≡ longest p path (x ∷ xs)
 over_again p path x xs h =
     sym (ap₂ max (longest_again p x 0 xs path h) (longest_again p x 1 xs path h) ∙ max_same (longest p path xs))

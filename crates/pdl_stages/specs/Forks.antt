@@ -6,5 +6,6 @@ use Rattle.pdl_stages.specs.Graph.{Fork}
 abbrev pub fork_view : r_fork.Fork → Fork
 fork_view f = record { stage = f.stage; merge = f.merge }
 
+-- the forks that values of the program stand for
 abbrev pub forks_view : List r_fork.Fork → List Fork
 forks_view fs = map fork_view fs

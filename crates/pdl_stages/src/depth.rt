@@ -2,7 +2,7 @@
 ghost use Rattle.std.specs.Prelude.{◌≡◌, ◌<◌, ◌∷◌, length, slice_set, IfOk};
 ghost use Rattle.pdl_semantics.specs.Stages as stages;
 ghost use Rattle.pdl_form.specs.View.{stages_view, next_view};
-ghost use Rattle.pdl_form.specs.Whole.{form};
+ghost use Rattle.pdl_form.specs.FormView.{form};
 ghost use Rattle.pdl_stages.specs.Graph.{of_stages};
 
 use pdl_form::{FlatPipe, Next, Stage};

@@ -2,7 +2,7 @@
 ghost use Rattle.std.specs.Prelude.{◌≡◌, ◌<◌, map, length, slice_index, slice_index_or, is_none, IfOk};
 ghost use Rattle.pdl_semantics.specs.Stages.{last_stage};
 ghost use Rattle.pdl_paths.specs.Actions.{place_view};
-ghost use Rattle.pdl_form.specs.Whole.{form};
+ghost use Rattle.pdl_form.specs.FormView.{form};
 ghost use Rattle.pdl_form.specs.View.{stages_view, next_view};
 ghost use Rattle.pdl_stages.specs.Graph.{graph_of, forks_in, way};
 ghost use Rattle.pdl_stages.specs.Forks.{forks_view};

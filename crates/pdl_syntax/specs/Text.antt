@@ -48,6 +48,7 @@ IsRefusal bytes error.NoMemory = Unit {0}
 IsRefusal bytes (error.Grammar line) = IsOutOfPlace bytes line
 IsRefusal bytes (error.Limit rule line) = (p : Pipe) × IsText bytes p × (broken_limit bytes p ≡ Some (rule, line))
 
+-- where a result is an error, it tells why, unless memory ran out
 abbrev pub IsRefused : List ℕ → Result r.Pipe ParseError → Type 0
 IsRefused bytes (Ok p) = Unit {0}
 IsRefused bytes (Err e) = IsRefusal bytes e

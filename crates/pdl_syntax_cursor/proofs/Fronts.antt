@@ -6,9 +6,10 @@ use Rattle.pdl_syntax_tokens.specs.Tokens.{Token}
 use Rattle.pdl_syntax_cursor.specs.declared.limits.Counts.{Counts}
 use Rattle.pdl_syntax_tokens.specs.Tokens.{Row}
 use Rattle.pdl_syntax_cursor.specs.Limits.{is_within}
-use Rattle.pdl_syntax_cursor.specs.Marked.{passed_if, seen_if, mark_token, marked_row, headed_row}
+use Rattle.pdl_syntax_cursor.specs.MarkedTokens.{passed_if, seen_if, mark_token, marked_row, headed_row}
 use Rattle.pdl_syntax_cursor.specs.Looks.{is_place, begins_place}
 
+-- counts within the limits are at most 64 open brackets and at most 256 operators
 pub within_parts : (c : Counts) → is_within c ≡ true → (c.brackets ≤ 64) × (c.operators ≤ 256)
 within_parts c e = grind (arith, nat_tests)
 
@@ -20,18 +21,22 @@ kept c = go (is_within c)
     go true = refl
     go false = refl
 
+-- tokens are seen the same, whether the first of them is counted yet or not
 pub head_is : (c : Counts) (ts : Row) → headed_row (passed_if c (first_kind ts)) ts ≡ marked_row c ts
 head_is c [] = refl
 head_is c (t ∷ ts) = refl
 
+-- past the first token, with the next one counted, those after it are seen as before
 pub next_head : (c : Counts) (ts : Row) → headed_row (passed_if c (first_kind (next ts))) (next ts) ≡ next (headed_row c ts)
 next_head c [] = refl
 next_head c (t ∷ ts) = head_is c ts
 
+-- what the first token is, by the counts after it, is what is seen first
 pub kind_head : (c : Counts) (ts : Row) → seen_if c (first_kind ts) ≡ first_kind (headed_row c ts)
 kind_head c [] = refl
 kind_head c (t ∷ ts) = refl
 
+-- the first token is seen at its own place, whatever the counts
 pub span_head : (c : Counts) (ts : Row) → first_span ts ≡ first_span (headed_row c ts)
 span_head c [] = refl
 span_head c (t ∷ ts) = refl

@@ -1,3 +1,3 @@
 pub mod Limits
-pub mod Marked
+pub mod MarkedTokens
 pub mod Looks

@@ -19,5 +19,6 @@ abbrev pub is_place : Option TokenKind → Option TokenKind → Option TokenKind
 is_place (Some kind.Name) (Some (kind.Mark mark.OpenSquare)) (Some kind.Name) = true
 is_place _ _ _ = false
 
+-- the tokens begin with a name, a square bracket and a name
 abbrev pub begins_place : Row → Bool
 begins_place ts = is_place (first_kind ts) (first_kind (next ts)) (first_kind (next (next ts)))

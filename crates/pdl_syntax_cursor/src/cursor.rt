@@ -4,7 +4,7 @@ ghost use Rattle.pdl_syntax_tokens.specs.Cursor as spec;
 ghost use Rattle.pdl_syntax_tokens.specs.Tokens as lexed;
 ghost use Rattle.pdl_syntax_tree.specs.View.{span_view, ident_view};
 ghost use Rattle.pdl_syntax_cursor.specs.Limits.{at_start};
-ghost use Rattle.pdl_syntax_cursor.specs.Marked.{marked_row, first_line};
+ghost use Rattle.pdl_syntax_cursor.specs.MarkedTokens.{marked_row, first_line};
 ghost use Rattle.pdl_syntax_cursor.specs.Looks.{is_mark, is_place, begins_place};
 
 use crate::limits::Counts;
@@ -24,7 +24,7 @@ pub struct Cursor<'a> {
 impl<'a> Model for Cursor<'a> {
     ghost use Rattle.std.specs.Prelude.{List};
     ghost use Rattle.pdl_syntax_tokens.specs.Tokens.{Token};
-    ghost use Rattle.pdl_syntax_cursor.specs.Marked.{headed_row};
+    ghost use Rattle.pdl_syntax_cursor.specs.MarkedTokens.{headed_row};
 
     ghost Value = { List Token };
 

@@ -2,7 +2,7 @@
 ghost use Rattle.std.specs.Prelude.{◌≡◌, true};
 ghost use Rattle.pdl_syntax_tokens.specs.declared.token.TokenKind.TheVariants as kind;
 ghost use Rattle.pdl_syntax_cursor.specs.Limits as spec;
-ghost use Rattle.pdl_syntax_cursor.specs.Marked.{counts_passing, passed_if, kind_counted, seen_if};
+ghost use Rattle.pdl_syntax_cursor.specs.MarkedTokens.{counts_passing, passed_if, kind_counted, seen_if};
 
 use pdl_syntax_tokens::{Mark, TokenKind};
 

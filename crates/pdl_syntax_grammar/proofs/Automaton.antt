@@ -27,7 +27,7 @@ end_of in_args = at any mark.CloseRound
 abbrev some_literal : Token
 some_literal = on any (kind.Literal 0 None)
 
-abbrev pub shortest : Sym → Row
+abbrev shortest : Sym → Row
 shortest (a m) = at any m ∷ []
 shortest a_name = on any kind.Name ∷ []
 shortest a_number = on any (kind.Number 0) ∷ []
@@ -71,7 +71,7 @@ more_ends mems x below = refl
 more_ends args x below = refl
 more_ends literals x below = refl
 
-pub same_mark : (m : Mark) → is_mark m (Some (kind.Mark m)) ≡ true
+same_mark : (m : Mark) → is_mark m (Some (kind.Mark m)) ≡ true
 same_mark m = true_same the_type m m refl
 
 ends : (s : Sym) (x : Row) (below : Stack) → run (shortest s ++ x) (s ∷ below) ≡ run x below
@@ -94,7 +94,7 @@ ends assigned x below = refl
 ends assigned_name x below = refl
 ends in_square x below = refl
 
-pub all_end : (below : Stack) → run (ending below) below ≡ None
+all_end : (below : Stack) → run (ending below) below ≡ None
 all_end [] = refl
 all_end (s ∷ below) = ends s (ending below) below ∙ all_end below
 
@@ -127,6 +127,7 @@ at_once t ts s below is = record {
   stuck = λ u more same others. let k : act s u.kind ≡ None = ap (λ (x : Row). elim x [ [] ↦ None | v ∷ vs ↦ act s v.kind ]) (sym same) ∙ is in rw k refl;
 }
 
+-- where the automaton stops, what it took can be completed, and the next token stops it whatever follows
 pub where_it_stops : (ts : Row) (below : Stack) (left : Row) → run ts below ≡ Some left → Stops ts below left
 where_it_stops [] [] left e = cc
 where_it_stops [] (s ∷ below) left e = record { front = []; split = let k : [] ≡ left = cc in k; end = ending (s ∷ below); goes = all_end (s ∷ below); stuck = λ t more is others. cc }

@@ -11,7 +11,7 @@ use Rattle.pdl_syntax_cursor.specs.Looks.{is_mark}
 use Rattle.pdl_syntax_grammar.specs.Reading.{Parser, and_then, ◌>>=◌, pure, take, plain, branch, otherwise, condition, if_of, item, items}
 use Rattle.pdl_syntax_grammar.specs.Automaton.{a, operand, else_items, round, Stack, run}
 use Rattle.pdl_syntax_grammar.specs.Automaton as m
-use Rattle.pdl_syntax_grammar.proofs.Good.{Good, reads, under, weaker, then, step, word, word_of, take_good, on_test, begins}
+use Rattle.pdl_syntax_grammar.proofs.GoodTokens.{Good, reads, under, weaker, then, step, word, word_of, take_good, on_test, begins}
 use Rattle.pdl_syntax_grammar.proofs.GoodExpr.{expr_good}
 use Rattle.pdl_syntax_grammar.proofs.GoodItems.{Item_good, plain_good}
 
@@ -34,7 +34,7 @@ condition_good top ts le =
     reads (record { p = word p1.0 p; z = word p3.0 z; o = word p4.0 o; a = r1; is = p1.1; full = rw (p3.1, p4.1) at p2 }) (omega arith) (λ below. refl)))))
 
 -- the tokens are statements and a closing brace
-abbrev pub IsBranch : Row → Stmts × Span → Row → Type 0
+abbrev IsBranch : Row → Stmts × Span → Row → Type 0
 IsBranch ts v r = (x : List ℕ) × Items v.0 ts (at (word x v.1) mark.CloseBrace ∷ r)
 
 -- the tokens are the other branch, or none
@@ -92,6 +92,7 @@ module _ (top n : ℕ) (inside : Parser Stmts) (good : (ts : Row) → length ts 
 brace_next : (ts : Row) (below : Stack) → is_mark mark.CloseBrace (first_kind ts) ≡ true → run ts (m.items ∷ below) ≡ run ts (a mark.CloseBrace ∷ below)
 brace_next ts below e = let s = begins mark.CloseBrace ts e in rw s.is refl
 
+-- statements up to a closing brace are read as the automaton takes them, and what is read is so
 pub items_good : (top n : ℕ) (ts : Row) → length ts < n → length ts ≤ top → Good (λ ss r. Items ss ts r) (m.items ∷ []) (a mark.CloseBrace ∷ []) (items top n ts) ts
 unfolding items
 items_good top zero ts le le2 = absurd (omega arith)

@@ -13,7 +13,7 @@ use Rattle.pdl_syntax_cursor.specs.Looks.{is_mark}
 use Rattle.pdl_syntax_grammar.specs.Reading.{Parser, Inner, and_then, bounds, slice_of, after_name, operand_by, op_by, op_in, chain, joined_expr, level, arms, choose, full, inside, expr}
 use Rattle.pdl_syntax_grammar.specs.Reading as reading
 use Rattle.pdl_syntax_grammar.specs.Automaton.{a, a_number, operand, slicing, rest, Closer, semicolon, round, comma, colon, in_args, closing, act, act_rest, act_choice, act_close, run_after, Stack, run}
-use Rattle.pdl_syntax_grammar.proofs.Good.{Good, reads, stops, weaker, then, step, word, word_of, take_good, number_good, on_test, on_option, begins}
+use Rattle.pdl_syntax_grammar.proofs.GoodTokens.{Good, reads, stops, weaker, then, step, word, word_of, take_good, number_good, on_test, on_option, begins}
 
 -- where no slice begins, the automaton goes on after the operand
 no_slice : (q : Closer) (r : Row) (below : Stack) → is_mark mark.OpenSquare (first_kind r) ≡ false → run r (slicing q ∷ below) ≡ run r (rest q ∷ below)
@@ -242,10 +242,11 @@ module _ (inner : Inner) (top : ℕ) (fine : Fine inner top) where
   unfolding full
   full_good q ts le = then [] _ (level_good levels q ts le) (λ c r p le1. choose_good q c ts r (omega arith) p.0 p.1)
 
-pub fine_inside : (n : ℕ) → Fine (inside n) n
+fine_inside : (n : ℕ) → Fine (inside n) n
 unfolding inside
 fine_inside zero = record { one = λ q ts le. absurd (omega arith); all = λ q ts le. absurd (omega arith) }
 fine_inside (suc n) = record { one = λ q ts le. operand_good (inside n) n (fine_inside n) q ts (omega arith); all = λ q ts le. full_good (inside n) n (fine_inside n) q ts (omega arith) }
 
+-- an expression up to its closer is read as the automaton takes it, and what is read is so
 pub expr_good : (n : ℕ) (q : Closer) (ts : Row) → length ts ≤ n → Good (λ e r. Full e ts r) (operand q ∷ []) (closing q ∷ []) (expr n ts) ts
 expr_good n = full_good (inside n) n (fine_inside n)

@@ -13,7 +13,7 @@ use Rattle.pdl_syntax_cursor.specs.Looks.{is_mark, begins_place, is_place}
 use Rattle.pdl_syntax_grammar.specs.Reading.{Outcome, Parser, and_then, goes_on, list_of, listed_by, ended, place, address, purpose, closed, expr, args, read_of, guess_of, bind_of, computed_stmt, assigned_stmt, named_by, named_stmt, reserved_location, held_location, bare, locking, plain_by, plain}
 use Rattle.pdl_syntax_grammar.specs.Automaton.{Sym, a, a_name, an_access, operand, slicing, rest, after_name, assigned_name, in_square, Listing, closer, first_of, Closer, semicolon, round, comma, in_args, closing, act_on, Stack, run, run_after}
 use Rattle.pdl_syntax_grammar.specs.Automaton as m
-use Rattle.pdl_syntax_grammar.proofs.Good.{Good, reads, stops, beyond, instead, under, weaker, then, step, word, word_of, take_good, name_good, access_good, place_good, is_that, on_test, on_option, begins}
+use Rattle.pdl_syntax_grammar.proofs.GoodTokens.{Good, reads, stops, beyond, instead, under, weaker, then, step, word, word_of, take_good, name_good, access_good, place_good, is_that, on_test, on_option, begins}
 use Rattle.pdl_syntax_grammar.proofs.GoodExpr.{expr_good}
 
 -- ---- values with commas between them
@@ -308,6 +308,7 @@ alone_good : {P : List Stmt → Row → Type 0} {before after : Stack} {o : Outc
 alone_good (reads p le e) = reads p le e
 alone_good (stops e) = stops e
 
+-- the reader of an item does what the automaton does, finds what is so, and leaves fewer than n tokens
 abbrev pub Item_good : ℕ → Row → Outcome (List Stmt) → Row → Type 0
 Item_good n ts o us = Good (λ s r. Item s ts r × (length r < n)) (m.items ∷ []) (m.items ∷ []) o us
 
@@ -342,6 +343,7 @@ plain_at top (kind.Mark mark.CloseBrace) w ts le e f = cc
 plain_at top (kind.Mark mark.If) w ts le e f = cc
 plain_at top _ w ts le e f = stops (λ below. refl)
 
+-- an item with none inside is read so, where neither a closing brace nor an `if` comes
 pub plain_good : (top : ℕ) (ts : Row) → length ts ≤ top → is_mark mark.CloseBrace (first_kind ts) ≡ false → is_mark mark.If (first_kind ts) ≡ false → Item_good (length ts) ts (plain top ts) ts
 unfolding plain locking
 plain_good top [] le e f = stops (λ below. refl)

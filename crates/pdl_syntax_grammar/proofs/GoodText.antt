@@ -11,7 +11,7 @@ use Rattle.pdl_syntax_cursor.specs.Looks.{is_mark}
 use Rattle.pdl_syntax_grammar.specs.Reading.{Outcome, literal, width, param, lock_clause, lock, shape, mem, items, start, pipe_head, pipe_rest, pipe}
 use Rattle.pdl_syntax_grammar.specs.Automaton.{a, a_name, a_number, a_literal, a_pace, a_lock_kind, more, locked, params, mems, literals, first_of, start_clause, whole, Stack, run}
 use Rattle.pdl_syntax_grammar.specs.Automaton as m
-use Rattle.pdl_syntax_grammar.proofs.Good.{Good, reads, stops, then, step, word, word_of, Valued, take_good, name_good, number_good, literal_good, lock_kind_good, pace_good, on_test, begins}
+use Rattle.pdl_syntax_grammar.proofs.GoodTokens.{Good, reads, stops, then, step, word, word_of, Valued, take_good, name_good, number_good, literal_good, lock_kind_good, pace_good, on_test, begins}
 use Rattle.pdl_syntax_grammar.proofs.GoodItems.{listed_good}
 use Rattle.pdl_syntax_grammar.proofs.GoodBranches.{branch_good, items_good}
 
@@ -156,6 +156,7 @@ rest_good n ts le =
     then [] _ (start_good n r2 (omega arith)) (λ s r3 p3 le3.
     reads (record { q = word p1.0 q; x = p2.0; c = r1; d = r2; is = p1.1; body = p2.1; start = p3 }) (omega arith) (λ below. refl))))
 
+-- a text is read as the automaton takes it, and what is read is so
 pub pipe_good : (n : ℕ) (ts : Row) → length ts < n → Good (λ p r. Text p ts r) whole [] (pipe n ts) ts
 unfolding pipe
 pipe_good n ts le =

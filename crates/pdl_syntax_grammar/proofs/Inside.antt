@@ -5,30 +5,34 @@ use Rattle.pdl_syntax_tokens.specs.Cursor.{next, first_kind}
 use Rattle.pdl_syntax_tokens.specs.Tokens.{Row}
 use Rattle.pdl_syntax_grammar.specs.Reading.{Outcome, Parser, and_then, op_in, operand, inside, expr, level, chain}
 
+-- where there is no room for tokens inside, an expression inside is refused
 pub inside_none : (n : ℕ) (ts : Row) → n ≡ 0 → (inside n).full ts ≡ Err ts
 unfolding inside
 inside_none n ts e = rw e refl
 
+-- where there is no room for tokens inside, an operand inside is refused
 pub operand_none : (n : ℕ) (ts : Row) → n ≡ 0 → (inside n).operand ts ≡ Err ts
 unfolding inside
 operand_none n ts e = rw e refl
 
+-- an expression inside, of at most n tokens, is read as one of at most n - 1
 pub inside_more : (n : ℕ) (ts : Row) → n ≢ 0 → (inside n).full ts ≡ expr (n - 1) ts
 unfolding inside
 inside_more zero ts h = absurd (h refl)
 inside_more (suc n) ts h = ap (λ k. expr k ts) (omega arith)
 
+-- an operand inside, of at most n tokens, is read with at most n - 1 inside it
 pub operand_more : (n : ℕ) (ts : Row) → n ≢ 0 → (inside n).operand ts ≡ operand (inside (n - 1)) ts
 unfolding inside
 operand_more zero ts h = absurd (h refl)
 operand_more (suc n) ts h = ap (λ k. operand (inside k) ts) (omega arith)
 
-pub level_none : (p : Parser Expr) (room n : ℕ) (ts : Row) → n ≡ 0 → level p room n ts ≡ p ts
+level_none : (p : Parser Expr) (room n : ℕ) (ts : Row) → n ≡ 0 → level p room n ts ≡ p ts
 unfolding level
 level_none p room n ts e = rw e refl
 
 -- after the first operand of a level
-pub level_more : (p : Parser Expr) (room n : ℕ) (ts rest : Row) (e : Expr) → n ≢ 0 → level p room (n - 1) ts ≡ Ok (e, rest) → level p room n ts ≡ chain (level p room (n - 1)) (n - 1) room e rest
+level_more : (p : Parser Expr) (room n : ℕ) (ts rest : Row) (e : Expr) → n ≢ 0 → level p room (n - 1) ts ≡ Ok (e, rest) → level p room n ts ≡ chain (level p room (n - 1)) (n - 1) room e rest
 unfolding level
 level_more p room zero ts rest e h k = absurd (h refl)
 level_more p room (suc n) ts rest e h k =
@@ -36,7 +40,7 @@ level_more p room (suc n) ts rest e h k =
     let f : level p room n ts ≡ Ok (e, rest) = subst (λ m. level p room m ts ≡ Ok (e, rest)) (sym is) k in
     subst (λ m. level p room (suc n) ts ≡ chain (level p room m) m room e rest) is (rw f refl)
 
-pub level_fails : (p : Parser Expr) (room n : ℕ) (ts left : Row) → n ≢ 0 → level p room (n - 1) ts ≡ Err left → level p room n ts ≡ Err left
+level_fails : (p : Parser Expr) (room n : ℕ) (ts left : Row) → n ≢ 0 → level p room (n - 1) ts ≡ Err left → level p room n ts ≡ Err left
 unfolding level
 level_fails p room zero ts left h e = absurd (h refl)
 level_fails p room (suc n) ts left h e =
@@ -52,7 +56,7 @@ level_next p room k ts rest e f =
     subst (λ m. level p room (k + 1) ts ≡ chain (level p room m) m room e rest) (sym is) (level_more p room (k + 1) ts rest e (omega arith) g)
 
 -- what a level refuses each one above it refuses
-pub level_fails_above : (p : Parser Expr) (room k m : ℕ) (ts left : Row) → level p room k ts ≡ Err left → level p room (k + m) ts ≡ Err left
+level_fails_above : (p : Parser Expr) (room k m : ℕ) (ts left : Row) → level p room k ts ≡ Err left → level p room (k + m) ts ≡ Err left
 level_fails_above p room k zero ts left e = subst (λ n. level p room n ts ≡ Err left) (omega arith) e
 level_fails_above p room k (suc m) ts left e =
     let is : k + m ≡ (k + suc m) - 1 = omega arith in
@@ -73,7 +77,7 @@ level_fails_later p room k n ts rest left e few f g =
     subst (λ m. level p room m ts ≡ Err left) is (level_fails_above p room (k + 1) (n - (k + 1)) ts left (level_next p room k ts rest e f ∙ g))
 
 -- one more operator of a level
-pub chain_more : (p : Parser Expr) (n m k : ℕ) (op : BinaryOp) (x y : Expr) (ts rest : Row) → k ≡ m + 1 → op_in n (first_kind ts) ≡ Some op → p (next ts) ≡ Ok (y, rest) → chain p n k x ts ≡ chain p n m (Binary op x y) rest
+chain_more : (p : Parser Expr) (n m k : ℕ) (op : BinaryOp) (x y : Expr) (ts rest : Row) → k ≡ m + 1 → op_in n (first_kind ts) ≡ Some op → p (next ts) ≡ Ok (y, rest) → chain p n k x ts ≡ chain p n m (Binary op x y) rest
 unfolding chain
 chain_more p n m k op x y ts rest count e r =
     let is : suc m ≡ k = omega arith in

@@ -9,5 +9,5 @@ mod GoodBranches
 mod GoodText
 mod Only
 mod Refused
-pub mod Within
+pub mod ReaderLimits
 pub mod Places

@@ -21,6 +21,7 @@ prepend_all : (ss ts : List Stmt) (more : Stmts) → prepend (ss ++ ts) more ≡
 prepend_all [] ts more = refl
 prepend_all (x ∷ ss) ts more = ap (λ y. Cons x y) (prepend_all ss ts more)
 
+-- statements that are read after none are those that are read
 pub after_no_stmts : (o : Outcome Stmts) → after_stmts [] o ≡ o
 after_no_stmts (Ok p) = refl
 after_no_stmts (Err n) = refl
@@ -55,6 +56,7 @@ items_fails room (suc n) m ss ts left c h e =
     let f : item room (items room n) ts ≡ Err left = subst (λ k. item room (items room k) ts ≡ Err left) is e in
     rw (h, f) refl
 
+-- where there is no room for an item, the tokens are refused
 pub items_stuck : (room n : ℕ) (ss : List Stmt) (ts : Row) → n ≡ 0 → after_stmts ss (items room n ts) ≡ Err ts
 unfolding items
 items_stuck room n ss ts e = rw e refl
@@ -75,19 +77,20 @@ listed_more {A = A} p close n m xs x ts r c e k = listed_of p close n m xs x ts 
     go (Ok p) = ap (λ y. Ok (y, p.1)) (sym (append_assoc xs (x ∷ []) p.0))
     go (Err n) = refl
 
-pub listed_last : {A : Type 0} (p : Parser A) (close : Mark) (n m : ℕ) (xs : List A) (x : A) (ts r : Row) → n ≡ m + 1 → p ts ≡ Ok (x, r) → goes_on close (first_kind r) ≡ Some false →
+listed_last : {A : Type 0} (p : Parser A) (close : Mark) (n m : ℕ) (xs : List A) (x : A) (ts r : Row) → n ≡ m + 1 → p ts ≡ Ok (x, r) → goes_on close (first_kind r) ≡ Some false →
     after xs (list_of p close n ts) ≡ Ok (xs ++ x ∷ [], next r)
 listed_last p close n m xs x ts r c e k = listed_of p close n m xs x ts r c e ∙ rw k refl
 
-pub listed_stuck : {A : Type 0} (p : Parser A) (close : Mark) (n m : ℕ) (xs : List A) (x : A) (ts r : Row) → n ≡ m + 1 → p ts ≡ Ok (x, r) → goes_on close (first_kind r) ≡ None →
+listed_stuck : {A : Type 0} (p : Parser A) (close : Mark) (n m : ℕ) (xs : List A) (x : A) (ts r : Row) → n ≡ m + 1 → p ts ≡ Ok (x, r) → goes_on close (first_kind r) ≡ None →
     after xs (list_of p close n ts) ≡ Err r
 listed_stuck p close n m xs x ts r c e k = listed_of p close n m xs x ts r c e ∙ rw k refl
 
-pub listed_fails : {A : Type 0} (p : Parser A) (close : Mark) (n : ℕ) (xs : List A) (ts left : Row) → n ≢ 0 → p ts ≡ Err left → after xs (list_of p close n ts) ≡ Err left
+listed_fails : {A : Type 0} (p : Parser A) (close : Mark) (n : ℕ) (xs : List A) (ts left : Row) → n ≢ 0 → p ts ≡ Err left → after xs (list_of p close n ts) ≡ Err left
 unfolding list_of
 listed_fails p close zero xs ts left h e = absurd (h refl)
 listed_fails p close (suc n) xs ts left h e = rw e refl
 
+-- where there is no room for a value, the tokens are refused
 pub listed_none : {A : Type 0} (p : Parser A) (close : Mark) (n : ℕ) (xs : List A) (ts : Row) → n ≡ 0 → after xs (list_of p close n ts) ≡ Err ts
 unfolding list_of
 listed_none p close n xs ts e = rw e refl
@@ -112,6 +115,7 @@ module _ {A B : Type 0} (view : B → A) (p : Parser A) (close : Mark) where
   pub value_fails : (n : ℕ) (done : List B) (ts left : Row) → 1 ≤ n → p ts ≡ Err left → after (map view done) (list_of p close n ts) ≡ Err left
   value_fails n done ts left c e = listed_fails p close n (map view done) ts left (λ z. omega arith) e
 
+-- values that are read after none are those that are read
 pub after_nothing : {A : Type 0} (o : Outcome (List A)) → after [] o ≡ o
 after_nothing (Ok p) = refl
 after_nothing (Err n) = refl

@@ -45,6 +45,7 @@ pub data Sym : Type 0 where
   assigned_name : Sym  -- after `x = y`
   in_square : Sym  -- after `x = y [`
 
+-- the symbols that are still expected, the next one first
 abbrev pub Stack : Type 0
 Stack = List Sym
 
@@ -62,6 +63,7 @@ first_of mems = a_name ∷ a mark.Colon ∷ a mark.Uint ∷ a mark.Less ∷ a_nu
 first_of args = operand in_args ∷ []
 first_of literals = a_literal ∷ more literals ∷ []
 
+-- the symbol of what stands after an expression
 abbrev pub closing : Closer → Sym
 closing semicolon = a mark.Semicolon
 closing round = a mark.CloseRound
@@ -72,14 +74,17 @@ closing in_args = more args
 abbrev pub if_mark : Mark → TokenKind → Option Stack
 if_mark m k = cond (is_mark m (Some k)) (Some []) None
 
+-- after a value of a list: the next value where a comma came, nothing where the list ended
 abbrev pub act_on : Listing → Option Bool → Option Stack
 act_on l (Some true) = Some (first_of l)
 act_on l (Some false) = Some []
 act_on l None = None
 
+-- what a token brings after a value of a list: a comma or the mark after the list
 abbrev pub act_more : Listing → TokenKind → Option Stack
 act_more l k = act_on l (goes_on (closer l) (Some k))
 
+-- what a token brings where an expression has to be closed
 abbrev pub act_close : Closer → TokenKind → Option Stack
 act_close semicolon k = if_mark mark.Semicolon k
 act_close round k = if_mark mark.CloseRound k
@@ -87,14 +92,17 @@ act_close comma k = if_mark mark.Comma k
 act_close colon k = if_mark mark.Colon k
 act_close in_args k = act_more args k
 
+-- what a token brings after an operand where no operator came: a choice, or the closer
 abbrev pub act_choice : Closer → TokenKind → Option Stack
 act_choice q (kind.Mark mark.Question) = Some (operand colon ∷ operand q ∷ [])
 act_choice q k = act_close q k
 
+-- what a token brings after an operand: an operand after an operator, else what comes of a choice or the closer
 abbrev pub act_operator : Closer → TokenKind → Option BinaryOp → Option Stack
 act_operator q k (Some op) = Some (operand q ∷ [])
 act_operator q k None = act_choice q k
 
+-- what a token brings after an operand
 abbrev pub act_rest : Closer → TokenKind → Option Stack
 act_rest q (kind.Mark m) = act_operator q (kind.Mark m) (operator_of m)
 act_rest q k = act_close q k
@@ -213,12 +221,15 @@ act assigned k = act_assigned k
 act assigned_name k = act_assigned_name k
 act in_square k = act_in_square k
 
+-- what is expected of a start clause
 abbrev pub start_clause : Stack
 start_clause = a mark.Start ∷ a_name ∷ a mark.OpenRound ∷ a_literal ∷ more literals ∷ a mark.Semicolon ∷ []
 
+-- what is expected of a whole text
 abbrev pub whole : Stack
 whole = a mark.Pipe ∷ a_name ∷ a mark.OpenRound ∷ (first_of params ++ (a mark.OpenSquare ∷ (first_of mems ++ (a mark.OpenBrace ∷ items ∷ start_clause))))
 
+-- the run once a token was looked at: on with what it brings, or stopped where it isn't taken
 abbrev pub run_after : Option Stack → Stack → (Stack → Option Row) → Row → Option Row
 run_after None below go left = Some left
 run_after (Some above) below go left = go (above ++ below)

@@ -27,6 +27,7 @@ and_then (Err ts) f = Err ts
 
 -- the same of readers
 infixl 10 ◌>>=◌
+-- a reader, and after it one that its value tells, unless the first refused
 abbrev pub ◌>>=◌ : {A B : Type 0} → Parser A → (A → Parser B) → Parser B
 p >>= f = λ ts. and_then (p ts) f
 

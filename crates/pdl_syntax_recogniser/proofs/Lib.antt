@@ -1,3 +1,3 @@
 mod Stacks
 mod Operators
-pub mod Running
+pub mod AutomatonRuns

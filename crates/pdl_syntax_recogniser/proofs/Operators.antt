@@ -10,6 +10,7 @@ use Rattle.pdl_syntax_grammar.specs.Automaton.{Closer, Listing, closer, Stack, o
 use Rattle.pdl_syntax_grammar.specs.Grammar.{operator_of}
 use Rattle.pdl_syntax_recogniser.specs.View.{Expects}
 
+-- after an operand an operator makes the automaton expect an operand
 pub rest_operator : (q : Closer) (m : Mark) → is_some (operator_of m) ≡ true → act_rest q (kind.Mark m) ≡ Some (operand q ∷ [])
 rest_operator q m e = go (operator_of m) e
   where
@@ -17,6 +18,7 @@ rest_operator q m e = go (operator_of m) e
     go (Some op) e = refl
     go None e = cc
 
+-- after an operand a mark that is no operator can only begin a choice or be the closer
 pub rest_other : (q : Closer) (m : Mark) → is_some (operator_of m) ≡ false → act_rest q (kind.Mark m) ≡ act_choice q (kind.Mark m)
 rest_other q m e = go (operator_of m) e
   where

@@ -12,6 +12,7 @@ stack_of xs = reverse (map symbol_view xs)
 both : (old symbols : List r.Symbol) → stack_of (old ++ symbols) ≡ stack_of symbols ++ stack_of old
 both old symbols = ap reverse (map-append symbol_view old symbols) ∙ reverse-append (map symbol_view old) (map symbol_view symbols)
 
+-- symbols that are put at the end of the list stand on top of the stack
 pub pushed : (old symbols now : List r.Symbol) → now ≡ old ++ symbols → reverse (map symbol_view now) ≡ reverse (map symbol_view symbols) ++ reverse (map symbol_view old)
 pushed old symbols now e = ap stack_of e ∙ both old symbols
 
@@ -23,10 +24,12 @@ none_there : (old : List r.Symbol) → length old ≡ 0 → old ≡ []
 none_there [] e = refl
 none_there (x ∷ xs) e = absurd (omega arith)
 
+-- the symbol that is taken off the list is the top one of the stack, if there is one
 pub popped : (old now : List r.Symbol) (x : Option r.Symbol) → old ≡ now ++ option_to_list x → (IsSome x ↔ (0 < length old)) → maybe_symbol_view x ≡ top (reverse (map symbol_view old))
 popped old now (Some s) e h = sym (ap top (some_off old now s e))
 popped old now None e h = let k : length old ≡ 0 = grind (arith, h) in sym (ap (λ xs. top (stack_of xs)) (none_there old k))
 
+-- what stays in the list when a symbol is taken off is the stack below the top
 pub popped_below : (old now : List r.Symbol) (x : Option r.Symbol) → old ≡ now ++ option_to_list x → (IsSome x ↔ (0 < length old)) → reverse (map symbol_view now) ≡ below_top (reverse (map symbol_view old))
 popped_below old now (Some s) e h = sym (ap below_top (some_off old now s e))
 popped_below old now None e h =
@@ -39,6 +42,7 @@ popped_below old now None e h =
 pub empty_so : (xs : List r.Symbol) → xs ≡ [] → reverse (map symbol_view xs) ≡ []
 empty_so xs e = ap stack_of e
 
+-- the list is empty where the stack is
 pub so_empty : (xs : List r.Symbol) → reverse (map symbol_view xs) ≡ [] → xs ≡ []
 so_empty [] e = refl
 so_empty (x ∷ xs) e = let k : stack_of (x ∷ xs) ≡ stack_of xs ++ symbol_view x ∷ [] = both (x ∷ []) xs in none (stack_of xs) (sym k ∙ e)

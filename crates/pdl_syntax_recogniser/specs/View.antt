@@ -10,6 +10,7 @@ use Rattle.pdl_syntax_recogniser.specs.declared.symbol.Listing.TheVariants as r_
 use Rattle.pdl_syntax_recogniser.specs.declared.symbol.Symbol as r_symbol
 use Rattle.pdl_syntax_recogniser.specs.declared.symbol.Symbol.TheVariants as r
 
+-- the closer that a value of the program stands for
 abbrev pub closer_view : r_closer.Closer → Closer
 closer_view r_closers.Semicolon = spec.semicolon
 closer_view r_closers.Round = spec.round
@@ -17,12 +18,14 @@ closer_view r_closers.Comma = spec.comma
 closer_view r_closers.Colon = spec.colon
 closer_view r_closers.Arguments = spec.in_args
 
+-- the kind of list that a value of the program stands for
 abbrev pub listing_view : r_listing.Listing → Listing
 listing_view r_listings.Params = spec.params
 listing_view r_listings.Mems = spec.mems
 listing_view r_listings.Args = spec.args
 listing_view r_listings.Literals = spec.literals
 
+-- the symbol that a value of the program stands for
 abbrev pub symbol_view : r_symbol.Symbol → Sym
 symbol_view (r.Mark m) = spec.a m
 symbol_view r.Name = spec.a_name
@@ -48,10 +51,12 @@ abbrev pub maybe_symbol_view : Option r_symbol.Symbol → Option Sym
 maybe_symbol_view (Some s) = Some (symbol_view s)
 maybe_symbol_view None = None
 
+-- the symbol on top of a stack, if there is one
 abbrev pub top : Stack → Option Sym
 top [] = None
 top (s ∷ below) = Some s
 
+-- the stack below its top symbol
 abbrev pub below_top : Stack → Stack
 below_top [] = []
 below_top (s ∷ below) = below

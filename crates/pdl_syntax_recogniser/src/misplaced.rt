@@ -10,7 +10,7 @@ use pdl_syntax_cursor::Cursor;
 use pdl_syntax_tokens::last_line;
 use std::alloc::Global;
 
-#[tactic(auto, using(crate::proofs::Running::refused_so, crate::proofs::Running::ended_so, crate::proofs::Running::early_so, crate::proofs::Running::goes_on, crate::proofs::Running::shorter))]
+#[tactic(auto, using(crate::proofs::AutomatonRuns::refused_so, crate::proofs::AutomatonRuns::ended_so, crate::proofs::AutomatonRuns::early_so, crate::proofs::AutomatonRuns::goes_on, crate::proofs::AutomatonRuns::shorter))]
 fn first_misplaced(alloc: Global, source: &[u8]) -> Result<Option<u32>, NoMemory>
     requires { length source.now ≤ 268435456 }
     ensures { IsRecognised source.now result }
@@ -31,7 +31,7 @@ fn first_misplaced(alloc: Global, source: &[u8]) -> Result<Option<u32>, NoMemory
 }
 
 /// The line of the first token out of place of a source text of at most 268,435,456 bytes, the line on which a text ends that ends too early, or none for a text of the grammar. It takes memory for its stack alone.
-#[tactic(auto, using(crate::proofs::Running::told_text, crate::proofs::Running::told_place))]
+#[tactic(auto, using(crate::proofs::AutomatonRuns::told_text, crate::proofs::AutomatonRuns::told_place))]
 pub fn misplaced_line(alloc: Global, source: &[u8]) -> Result<Option<u32>, NoMemory>
     requires { length source.now ≤ 268435456 }
     // The text of a pipe has no token out of place.

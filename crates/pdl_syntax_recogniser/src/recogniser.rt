@@ -60,7 +60,7 @@ impl Recogniser {
     }
 
     /// Takes a token of this kind if it is in place, and says whether it is.
-    #[tactic(auto, using(crate::proofs::Running::step_so, crate::proofs::Running::step_none))]
+    #[tactic(auto, using(crate::proofs::AutomatonRuns::step_so, crate::proofs::AutomatonRuns::step_none))]
     pub fn take(&mut self, kind: TokenKind) -> Result<bool, NoMemory>
         ensures { StepsTo (stack_after self.old kind) result self.new }
     {

@@ -130,11 +130,13 @@ step_is (c ∷ cs) rest p start line start2 line2 h er es el =
     let P : Piece → Type 0 = λ q. tokens_from 0 start line (c ∷ cs) ≡ placed_token q start line (c ∷ cs) ++ tokens_from 0 (start + q.size) (line_after c line) (drop q.size (c ∷ cs)) in
     rw (er, es, el) (subst P (sym h) (one_piece c cs start line))
 
+-- where a piece at the front is blank, the tokens are those after it
 pub step_blank : (bytes rest : List ℕ) (p : r.Piece) (start line start2 line2 : ℕ) → IsFront bytes (Some p) → rest ≡ drop p.size bytes → start2 ≡ start + p.size →
     IsLineAfter bytes line line2 → p.kind ≡ None → tokens_from 0 start2 line2 rest ≡ tokens_from 0 start line bytes
 step_blank bytes rest p start line start2 line2 h er es el e =
     let k = step_is bytes rest p start line start2 line2 h er es el in sym (k ∙ rw e refl)
 
+-- where a piece at the front is a token, the tokens are that one and those after it
 pub step_token : (bytes rest : List ℕ) (p : r.Piece) (k : TokenKind) (start line start2 line2 : ℕ) → IsFront bytes (Some p) → rest ≡ drop p.size bytes → start2 ≡ start + p.size →
     IsLineAfter bytes line line2 → p.kind ≡ Some k →
     record { kind = k; text = take p.size bytes; span = record { start = start; end = start2; line = line } } ∷ tokens_from 0 start2 line2 rest ≡ tokens_from 0 start line bytes

@@ -5,7 +5,7 @@ use Rattle.std.proofs.lemmas.Bool.{cases_lt}
 use Rattle.std.proofs.lemmas.Bool.Decides.{nat_tests}
 use Rattle.std.proofs.lemmas.List.{take_more}
 use Rattle.pdl_syntax_tokens.specs.Tokens.{digit_value, value_from, value_of, fitting}
-use Rattle.pdl_syntax_tokens.specs.Fitting.{with_digit}
+use Rattle.pdl_syntax_tokens.specs.DigitValues.{with_digit}
 
 value_from-append : (base v : ℕ) (xs : List ℕ) (c : ℕ) → value_from base v (xs ++ c ∷ []) ≡ value_from base v xs * base + digit_value c
 value_from-append base v [] c = refl

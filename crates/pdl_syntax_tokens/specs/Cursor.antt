@@ -6,9 +6,11 @@ use Rattle.pdl_syntax_tokens.specs.declared.token.TokenKind.{TokenKind}
 use Rattle.pdl_syntax_tree.specs.View.{span_view}
 use Rattle.pdl_syntax_tokens.specs.Tokens.{Token}
 
+-- the token that a value of the program stands for
 abbrev pub token_view : r.Token → Token
 token_view t = record { kind = t.kind; text = t.text.now; span = span_view t.span }
 
+-- the token that a value of the program stands for, if there is one
 abbrev pub maybe_token_view : Option r.Token → Option Token
 maybe_token_view (Some t) = Some (token_view t)
 maybe_token_view None = None
@@ -23,6 +25,7 @@ abbrev pub onto : Option r.Token → List Token → List Token
 onto (Some t) more = token_view t ∷ more
 onto None more = []
 
+-- the first of some tokens, if there is one
 abbrev pub first : List Token → Option Token
 first [] = None
 first (t ∷ ts) = Some t
@@ -32,6 +35,7 @@ abbrev pub next : List Token → List Token
 next [] = []
 next (t ∷ ts) = ts
 
+-- what the first token is, if there is one
 abbrev pub first_kind : List Token → Option TokenKind
 first_kind [] = None
 first_kind (t ∷ ts) = Some t.kind

@@ -1,5 +1,5 @@
 pub mod Tokens
 pub mod Cursor
-pub mod Fitting
+pub mod DigitValues
 pub mod Pieces
 pub mod Spelt

@@ -3,6 +3,7 @@ use Rattle.std.specs.Prelude.{◌≡◌, ℕ, List, [], ◌∷◌, Option, Some,
 use Rattle.pdl_syntax_tokens.specs.declared.piece.Piece as r
 use Rattle.pdl_syntax_tokens.specs.Tokens.{Piece, piece_at, line_after}
 
+-- the piece that a value of the program stands for
 abbrev pub piece_view : r.Piece → Piece
 piece_view p = record { kind = p.kind; size = p.size }
 

@@ -9,9 +9,11 @@ use Rattle.pdl_syntax_tokens.specs.Tokens.{Spelling, Piece, spelling_at, mark_or
 abbrev pub spelling_view : r.Spelling → Spelling
 spelling_view s = record { text = s.text.now; mark = s.mark }
 
+-- the spellings that values of the program stand for, in their order
 abbrev pub spellings_view : List r.Spelling → List Spelling
 spellings_view = map spelling_view
 
+-- the spelling that a value of the program stands for, if there is one
 abbrev pub found_view : Option r.Spelling → Option Spelling
 found_view (Some s) = Some (spelling_view s)
 found_view None = None

@@ -20,9 +20,11 @@ Row = List Token
 
 -- ---- bytes
 
+-- a letter in lower case
 abbrev pub is_lower : ℕ → Bool
 is_lower c = nat_le 97 c && nat_le c 122
 
+-- a digit of base 10
 abbrev pub is_digit : ℕ → Bool
 is_digit c = nat_le 48 c && nat_le c 57
 
@@ -55,6 +57,7 @@ pub record Spelling : Type 0 where
 abbrev spelt : List ℕ → Mark → Spelling
 spelt t m = record { text = t; mark = m }
 
+-- how the keywords are written
 abbrev pub keywords : List Spelling
 keywords = spelt (codes "pipe") mark.Pipe ∷ spelt (codes "start") mark.Start ∷ spelt (codes "uint") mark.Uint
     ∷ spelt (codes "comb") mark.Comb ∷ spelt (codes "delayed") mark.Delayed ∷ spelt (codes "lock") mark.Lock
@@ -116,9 +119,11 @@ pub record Piece : Type 0 where
 abbrev token_of : TokenKind → ℕ → Piece
 token_of k n = record { kind = Some k; size = n }
 
+-- white space or a comment of n bytes
 abbrev pub blank_of : ℕ → Piece
 blank_of n = record { kind = None; size = n }
 
+-- the keyword that is so spelt, else a name
 abbrev pub keyword_or_name : Option Spelling → TokenKind
 keyword_or_name (Some s) = kind.Mark s.mark
 keyword_or_name None = kind.Name
@@ -127,6 +132,7 @@ keyword_or_name None = kind.Name
 abbrev pub word_kind : List ℕ → TokenKind
 word_kind text = cond (nat_le (length text) 32) (keyword_or_name (spelling_of keywords text)) kind.Bad
 
+-- the keyword or the name at the front, a bad token where that is too long
 abbrev pub word_at : List ℕ → Piece
 word_at bytes = token_of (word_kind (take_while is_word bytes)) (prefix_len is_word bytes)
 
@@ -149,10 +155,12 @@ number_or_literal number [] [] = token_of (number_kind number) (length number)
 number_or_literal number [] (h ∷ hs) = token_of (literal_kind number 16 (h ∷ hs)) (length number + 2 + length (h ∷ hs))
 number_or_literal number (d ∷ ds) hex = token_of (literal_kind number 10 (d ∷ ds)) (length number + 2 + length (d ∷ ds))
 
+-- the number or the literal at the front, a bad token where it has too many digits
 abbrev pub number_at : List ℕ → Piece
 number_at bytes = let after = drop (prefix_len is_digit bytes) bytes in
     number_or_literal (take_while is_digit bytes) (digits_after (codes "'d") is_digit after) (digits_after (codes "'h") is_hex after)
 
+-- the symbol that is so spelt, else a bad token of one byte
 abbrev pub mark_or_bad : Option Spelling → Piece
 mark_or_bad (Some s) = token_of (kind.Mark s.mark) (length s.text)
 mark_or_bad None = token_of kind.Bad 1

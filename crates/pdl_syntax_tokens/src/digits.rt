@@ -2,7 +2,7 @@
 ghost use Rattle.std.specs.Prelude.{◌≡◌, ◌≤◌, ◌<◌, ◌+◌, ◌^◌, All, length, take, take_while, drop, codes, IsTrue};
 ghost use Rattle.std.specs.List.{prefix_len};
 ghost use Rattle.pdl_syntax_tokens.specs.Tokens as spec;
-ghost use Rattle.pdl_syntax_tokens.specs.Fitting.{with_digit};
+ghost use Rattle.pdl_syntax_tokens.specs.DigitValues.{with_digit};
 
 use crate::bytes::{digit_length, hex_length, is_digit, is_hex};
 use crate::token::TokenKind;

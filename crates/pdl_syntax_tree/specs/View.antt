@@ -23,21 +23,27 @@ use Rattle.pdl_syntax_tree.specs.declared.tree.Pipe as r_pipe
 use Rattle.pdl_semantics.specs.Tree as tree
 use Rattle.pdl_semantics.specs.Tree.{Span, Ident, Number, Literal, BinaryOp, Expr, Location, Kind, Stmt, Stmts, stmts_of, Param, LockKind, LockDecl, Mem, Start, Pipe}
 
+-- the span that a value of the program stands for
 abbrev pub span_view : r_span.Span → Span
 span_view s = record { start = s.start; end = s.end; line = s.line }
 
+-- the name with its place that a value of the program stands for
 abbrev pub ident_view : r_ident.Ident → Ident
 ident_view x = record { name = x.name; span = span_view x.span }
 
+-- the number with its place that a value of the program stands for
 abbrev pub number_view : r_number.Number → Number
 number_view n = record { value = n.value; span = span_view n.span }
 
+-- the literal that a value of the program stands for
 abbrev pub literal_view : r_literal.Literal → Literal
 literal_view l = record { width = l.width; value = l.value; span = span_view l.span }
 
+-- the location that a value of the program stands for
 abbrev pub location_view : r_location.Location → Location
 location_view l = record { mem = ident_view l.mem; address = ident_view l.address }
 
+-- the operator that a value of the program stands for
 abbrev pub op_view : r_op.BinaryOp → BinaryOp
 op_view r_ops.Add = tree.Add
 op_view r_ops.Sub = tree.Sub
@@ -51,14 +57,17 @@ op_view r_ops.Less = tree.Less
 op_view r_ops.ShiftLeft = tree.ShiftLeft
 op_view r_ops.ShiftRight = tree.ShiftRight
 
+-- the operator that a value of the program stands for, if there is one
 abbrev pub maybe_op_view : Option r_op.BinaryOp → Option BinaryOp
 maybe_op_view (Some op) = Some (op_view op)
 maybe_op_view None = None
 
+-- the kind of access, `R` or `W`, that a value of the program stands for
 abbrev pub kind_view : r_kind.Kind → Kind
 kind_view r_kinds.R = tree.R
 kind_view r_kinds.W = tree.W
 
+-- the expression that one of the program stands for, by those that its parts stand for
 abbrev pub expr_step : Expr-F Expr → Expr
 expr_step (Expr-F.Constant l) = tree.Constant (literal_view l)
 expr_step (Expr-F.Variable x) = tree.Variable (ident_view x)
@@ -71,9 +80,11 @@ expr_step (Expr-F.ZeroExtend a n) = tree.ZeroExtend a (number_view n)
 expr_step (Expr-F.SignExtend a n) = tree.SignExtend a (number_view n)
 expr_step (Expr-F.Choose c a b) = tree.Choose c a b
 
+-- the expression that a value of the program stands for
 abbrev pub expr_view : r_expr.Expr → Expr
 expr_view = r_expr.fold-Expr Expr expr_step
 
+-- the expressions that values of the program stand for
 abbrev pub exprs_view : List r_expr.Expr → List Expr
 exprs_view = map expr_view
 
@@ -93,32 +104,41 @@ stmt_step (Stmt-F.Verify s g args) = tree.Verify (span_view s) (ident_view g) (e
 stmt_step (Stmt-F.SpecCheck s) = tree.SpecCheck (span_view s)
 stmt_step (Stmt-F.SpecBarrier s) = tree.SpecBarrier (span_view s)
 
+-- the statement that a value of the program stands for
 abbrev pub stmt_view : r_stmt.Stmt → Stmt
 stmt_view = r_stmt.fold-Stmt Stmt stmt_step
 
+-- the statements that values of the program stand for
 abbrev pub stmts_view : List r_stmt.Stmt → Stmts
 stmts_view ss = stmts_of (map stmt_view ss)
 
+-- the parameter that a value of the program stands for
 abbrev pub param_view : r_param.Param → Param
 param_view p = record { name = ident_view p.name; width = number_view p.width }
 
+-- the kind of lock that a value of the program stands for
 abbrev pub lock_kind_view : r_lock_kind.LockKind → LockKind
 lock_kind_view r_lock_kinds.Queue = tree.Queue
 lock_kind_view r_lock_kinds.Bypass = tree.Bypass
 lock_kind_view r_lock_kinds.Rename = tree.Rename
 
+-- the declared lock that a value of the program stands for
 abbrev pub lock_view : r_lock.LockDecl → LockDecl
 lock_view l = record { kind = lock_kind_view l.kind; size = number_view l.size }
 
+-- the declared lock that a value of the program stands for, if there is one
 abbrev pub maybe_lock_view : Option r_lock.LockDecl → Option LockDecl
 maybe_lock_view (Some l) = Some (lock_view l)
 maybe_lock_view None = None
 
+-- the memory that a value of the program stands for
 abbrev pub mem_view : r_mem.Mem → Mem
 mem_view m = record { name = ident_view m.name; width = number_view m.width; depth = number_view m.depth; delayed = m.delayed; lock = maybe_lock_view m.lock }
 
+-- the start clause that a value of the program stands for
 abbrev pub start_view : r_start.Start → Start
 start_view s = record { span = span_view s.span; name = ident_view s.name; args = map literal_view s.args }
 
+-- the pipe that a value of the program stands for
 abbrev pub pipe_view : r_pipe.Pipe → Pipe
 pipe_view p = record { name = ident_view p.name; params = map param_view p.params; mems = map mem_view p.mems; body = stmts_view p.body; end = span_view p.end; start = start_view p.start }

@@ -13,6 +13,7 @@ pub record IsMemory (m : MemInfo) : Type 0 where
   pub depth : m.depth ≡ 16
   pub comb : m.delayed ≡ false
 
+-- the memory of the tests suits a lock of size n
 pub suits : (n : ℕ) (m : MemInfo) → IsSize n → IsMemory m → Suits n m
 suits n m z h = record {
   size = z;
@@ -21,8 +22,10 @@ suits n m z h = record {
   depth = record { bits = 4; low = omega arith; high = omega arith; power = h.depth };
 }
 
+-- the memory of the tests suits a bypass lock
 pub suits_bypass : (q : BypassLock) (m : MemInfo) → IsSize q.size → IsMemory m → BypassSuits q m
 suits_bypass q m z h = record { sizes = suits q.size m z h; comb = h.comb }
 
+-- the memory of the tests suits a renaming lock of at most 16 pending writes
 pub suits_rename : (q : RenameFile) (m : MemInfo) → IsSize q.size → q.size ≤ 16 → IsMemory m → RenameSuits q m
 suits_rename q m z few h = record { sizes = suits q.size m z h; comb = h.comb; shallow = omega (arith, h.depth); deep = omega (arith, h.depth, few) }

@@ -11,7 +11,7 @@ use Rattle.pdl_port.specs.Laws.{HasBits, net_at}
 use Rattle.pdl_net.proofs.Keeps.{extends_keeps}
 use Rattle.pdl_port.specs.declared.PortRegs.{PortRegs}
 use Rattle.pdl_port.specs.Places.{ArePlaced}
-use Rattle.pdl_port.proofs.Kept.{bits_kept, port_keeps}
+use Rattle.pdl_port.proofs.PortGrowth.{bits_kept, port_keeps}
 use Rattle.pdl_squash.specs.Laws.{AreBits}
 
 -- no nets yet

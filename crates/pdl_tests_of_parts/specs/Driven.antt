@@ -47,5 +47,6 @@ pub record AreDrivers (c : Circuit) (bits width tickets : ℕ) (d : PortDrive) :
 abbrev pub reserve_of : ReserveDrive → ReservePort
 reserve_of d = record { enable = Reg d.enable; kind = W; addr = Reg d.addr }
 
+-- the write port that these registers drive
 abbrev pub write_of : WriteDrive → TicketWrite
 write_of d = record { enable = Reg d.enable; ticket = Reg d.ticket; value = Reg d.value }

@@ -1,6 +1,6 @@
 // A flat form that is made here, and the graph of its stages.
 ghost use Rattle.std.specs.Prelude.{◌≡◌, length, IfOk};
-ghost use Rattle.pdl_form.specs.Whole.{form};
+ghost use Rattle.pdl_form.specs.FormView.{form};
 
 use pdl_form::{Branch, Expr, FlatPipe, Lock, Mem, Next, Op, Stage, Stmt};
 use pdl_kit::{Name, NoMemory, Seq};

@@ -1,6 +1,6 @@
 // What a thread still needs.
 ghost use Rattle.std.specs.Prelude.{◌≡◌, length, IfOk};
-ghost use Rattle.pdl_form.specs.Whole.{form};
+ghost use Rattle.pdl_form.specs.FormView.{form};
 
 use crate::form_rows::{memory, statements};
 use pdl_form::{FlatPipe, Next, Stage};

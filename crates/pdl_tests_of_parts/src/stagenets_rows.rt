@@ -1,6 +1,6 @@
 // The statements of a stage as nets.
 ghost use Rattle.std.specs.Prelude.{◌≡◌, [], length, IfOk};
-ghost use Rattle.pdl_form.specs.Whole.{form};
+ghost use Rattle.pdl_form.specs.FormView.{form};
 ghost use Rattle.pdl_form.specs.View.{act_view, stmt_view, stmts_view};
 ghost use Rattle.pdl_pipe_exprs.specs.Conditions.{AreBits};
 ghost use Rattle.pdl_pipe_walk.specs.Sized.{IsWalkOf, AreWalked};
@@ -25,7 +25,7 @@ fn statement(alloc: Global, op: Op) -> Stmt
 }
 
 // One stage, from which a thread without arguments is begun.
-#[tactic(auto, using(pdl_pipe_walk::proofs::Bare::call_walked))]
+#[tactic(auto, using(pdl_pipe_walk::proofs::BarePipes::call_walked))]
 fn caller(alloc: Global) -> Result<FlatPipe, NoMemory>
     ensures walked { IfOk result (λ f. AreWalked (form f) (form f).pipe.stmts) }
     ensures widths { IfOk result (λ f. (form f).widths ≡ []) }
@@ -38,7 +38,7 @@ fn caller(alloc: Global) -> Result<FlatPipe, NoMemory>
 }
 
 // One stage, in which a guess without arguments is made and found right, and which has a barrier.
-#[tactic(auto, using(pdl_pipe_walk::proofs::Bare::guess_walked))]
+#[tactic(auto, using(pdl_pipe_walk::proofs::BarePipes::guess_walked))]
 fn guesser(alloc: Global) -> Result<FlatPipe, NoMemory>
     ensures walked { IfOk result (λ f. AreWalked (form f) (form f).pipe.stmts) }
     ensures widths { IfOk result (λ f. (form f).widths ≡ []) }
@@ -78,7 +78,7 @@ fn one_stage(alloc: Global, stmts: Vec<Stmt>) -> Result<FlatPipe, NoMemory>
 }
 
 // Its stage at the first statement.
-#[tactic(auto, using(pdl_pipe_walk::proofs::Bare::bare_walk))]
+#[tactic(auto, using(pdl_pipe_walk::proofs::BarePipes::bare_walk))]
 fn begun(alloc: Global, b: &Builder, bits: Bits, pipe: &FlatPipe) -> WalkNets
     requires bits { AreBits b.now bits }
     requires widths { (form pipe.now).widths ≡ [] }
@@ -101,7 +101,7 @@ fn begun(alloc: Global, b: &Builder, bits: Bits, pipe: &FlatPipe) -> WalkNets
 }
 
 // Whether nothing is held there, and its walk makes the call alone.
-#[tactic(auto, using(pdl_pipe_walk::proofs::Bare::no_locks, pdl_pipe_walk::proofs::Bare::no_tickets))]
+#[tactic(auto, using(pdl_pipe_walk::proofs::BarePipes::no_locks, pdl_pipe_walk::proofs::BarePipes::no_tickets))]
 fn is_called(alloc: Global, b: &mut Builder, flat: &FlatPipe) -> Result<bool, NoMemory>
     requires walked { AreWalked (form flat.now) (form flat.now).pipe.stmts }
     requires widths { (form flat.now).widths ≡ [] }
@@ -123,7 +123,7 @@ fn is_called(alloc: Global, b: &mut Builder, flat: &FlatPipe) -> Result<bool, No
 }
 
 // Whether its walk calls twice, fails nowhere, and waits at a barrier.
-#[tactic(auto, using(pdl_pipe_walk::proofs::Bare::no_locks, pdl_pipe_walk::proofs::Bare::no_tickets))]
+#[tactic(auto, using(pdl_pipe_walk::proofs::BarePipes::no_locks, pdl_pipe_walk::proofs::BarePipes::no_tickets))]
 fn is_guessed(alloc: Global, b: &mut Builder, flat: &FlatPipe) -> Result<bool, NoMemory>
     requires walked { AreWalked (form flat.now) (form flat.now).pipe.stmts }
     requires widths { (form flat.now).widths ≡ [] }

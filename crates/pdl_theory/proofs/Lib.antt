@@ -1,3 +1,3 @@
 pub mod SoundExamples
-pub mod Stated
+pub mod StatedTheorems
 pub mod OneStages

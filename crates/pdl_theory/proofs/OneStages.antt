@@ -20,7 +20,7 @@ use Rattle.pdl_theory_derived.specs.OneStage.{IsThread, AreThreads}
 use Rattle.pdl_theory_derived.proofs.Stages.{step}
 use Rattle.pdl_theory_derived.proofs.Writes.{and_left, and_right, of_mem_append}
 use Rattle.pdl_theory_facts.specs.Scans.{none_of}
-use Rattle.pdl_theory_facts.specs.Certain.{Making, Unmade, is_unmade, is_guessed, next_making, making_ok, makings_ok, stands_before}
+use Rattle.pdl_theory_facts.specs.GuessScans.{Making, Unmade, is_unmade, is_guessed, next_making, making_ok, makings_ok, stands_before}
 use Rattle.pdl_theory_facts.specs.Facts.{looked_all, Sound}
 use Rattle.pdl_theory_turns.proofs.CourseOf.{course}
 use Rattle.pdl_theory_turns.proofs.Guesses
@@ -31,7 +31,7 @@ use Rattle.pdl_theory_refinement.proofs.Spots.{Spot, Standing, is_nil}
 use Rattle.pdl_theory_refinement.proofs.Follows.{Runs, runs_cycle, runs_first, low_end}
 use Rattle.pdl_theory_progress.proofs.Rates.{left_some, cycle_left, leads, lead, left, turn_path}
 use Rattle.pdl_theory_simulation.proofs.PerMemory.{at_mem}
-use Rattle.pdl_theory.proofs.Stated.{whole_same}
+use Rattle.pdl_theory.proofs.StatedTheorems.{whole_same}
 use Rattle.pdl_theory_turns.proofs.OfStage.{none_stage}
 use Rattle.pdl_semantics.specs.Sound.{is_fetch}
 

@@ -11,8 +11,8 @@ use Rattle.pdl_theory_turns.proofs.Courses.{Course}
 use Rattle.pdl_theory_turns.proofs.CourseOf.{course}
 use Rattle.pdl_theory_refinement.proofs.Follows.{refines, advances}
 use Rattle.pdl_theory_progress.proofs.Rates.{keeps_pace}
-use Rattle.pdl_theory_progress.proofs.Sounded.{sounded}
-use Rattle.pdl_theory.proofs.Stated.{whole_refines, whole_advances, whole_paces}
+use Rattle.pdl_theory_progress.proofs.SoundTests.{sounded}
+use Rattle.pdl_theory.proofs.StatedTheorems.{whole_refines, whole_advances, whole_paces}
 use Rattle.pdl_semantics.specs.Promises
 
 one_stage_sounds : passes_tests (flat one_stage) ≡ true

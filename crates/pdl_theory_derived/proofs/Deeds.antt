@@ -12,10 +12,12 @@ abbrev pub places : List Entry → List HeldLocation
 places [] = []
 places (e ∷ es) = record { mem = e.mem; var = e.var } ∷ places es
 
+-- a location is held exactly where a write of it is pending
 pub places_has : (es : List Entry) (m a : ℕ) → is_held (places es) m a ≡ has_entry es m a
 places_has [] m a = refl
 places_has (e ∷ es) m a = ap (λ b. ((e.mem == m) && (e.var == a)) || b) (places_has es m a)
 
+-- without the pending write of a location that location is let go
 pub places_without : (es : List Entry) (m a : ℕ) → places (without es m a) ≡ let_go (places es) m a
 places_without [] m a = refl
 places_without (e ∷ es) m a = at ((e.mem == m) && (e.var == a)) (places_without es m a)
@@ -24,6 +26,7 @@ places_without (e ∷ es) m a = at ((e.mem == m) && (e.var == a)) (places_withou
     at true h = refl
     at false h = ap (λ l. record { mem = e.mem; var = e.var } ∷ l) h
 
+-- a value that is written leaves the locations of the pending writes as they are
 pub places_filled : (es : List Entry) (m a v : ℕ) → places (with_entry_value es m a v) ≡ places es
 places_filled [] m a v = refl
 places_filled (e ∷ es) m a v = at ((e.mem == m) && (e.var == a)) (places_filled es m a v)

@@ -1,7 +1,7 @@
 pub mod Writes
 pub mod Stages
 pub mod Entries
-pub mod Answering
+pub mod DelayedReads
 pub mod Oldest
 pub mod Deeds
 pub mod Slots

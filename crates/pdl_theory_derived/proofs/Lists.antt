@@ -8,6 +8,7 @@ use Rattle.pdl_semantics.specs.Moves
 use Rattle.pdl_theory_derived.specs.Derived.{Entry, latest_in, count_in}
 use Rattle.pdl_semantics.proofs.Facts.{put_append}
 
+-- a pending write of thread n, as it stands in the lock's list
 abbrev pub own : ℕ → Entry → Pending
 own n e = record { thread = n; address = e.address; value = e.value }
 
@@ -16,6 +17,7 @@ abbrev pub pend : ℕ → ℕ → List Entry → List Pending
 pend m n [] = []
 pend m n (e ∷ es) = pend m n es ++ (if e.mem == m then own n e ∷ [] else [])
 
+-- the youngest write that a thread finds in two lists is that of the second, else that of the first
 pub youngest_append : (xs ys : List Pending) (n a : ℕ) (f : Latest) → youngest (xs ++ ys) n a f ≡ youngest ys n a (youngest xs n a f)
 youngest_append [] ys n a f = refl
 youngest_append (x ∷ xs) ys n a f = youngest_append xs ys n a (if nat_lt x.thread n && (x.address == a) then as_latest x.value else f)
@@ -32,6 +34,7 @@ youngest_older m k n a (e ∷ es) f h =
     at true = ap (λ c. cond (c && (e.address == a)) (as_latest e.value) (youngest (pend m k es) n a f)) h
     at false = refl
 
+-- a thread finds no pending write of one that isn't older
 pub youngest_other : (m k n a : ℕ) (es : List Entry) (f : Latest) → nat_lt k n ≡ false → youngest (pend m k es) n a f ≡ f
 youngest_other m k n a [] f h = refl
 youngest_other m k n a (e ∷ es) f h = youngest_append (pend m k es) _ n a f ∙ at (e.mem == m) ∙ youngest_other m k n a es f h
@@ -95,6 +98,7 @@ appended_none : (m : ℕ) (ms : List Moves.Act) (list : List Pending) → Reserv
 appended_none m [] list h = refl
 appended_none m (a ∷ ms) list h = ap₂ (λ x y. x ++ y) (appended_none m ms list h.1) h.0 ∙ append-nil list
 
+-- entries at the end of a lock's list stay there as threads reserve, if there are none or no thread reserves m
 pub appended_back : (m : ℕ) (ms : List Moves.Act) (xs ys : List Pending) → (ys ≡ []) ⊎ Reserveless m ms → with_reserves m ms (xs ++ ys) ≡ with_reserves m ms xs ++ ys
 appended_back m ms xs ys (inl e) =
     ap (λ l. with_reserves m ms (xs ++ l)) e ∙ ap (with_reserves m ms) (append-nil xs) ∙ sym (append-nil (with_reserves m ms xs)) ∙ ap (λ l. with_reserves m ms xs ++ l) (sym e)
@@ -110,6 +114,7 @@ two_moved m a ms xs ys two e f g h =
     ∙ ap (with_writes_of m a.thread.number a.does.writes) (filled_back m ms (with_reserves m ms xs) (ys ++ new_entries m a.thread.number a.does.reserves) f ∙ ap (λ l. l ++ (ys ++ new_entries m a.thread.number a.does.reserves)) h)
     ∙ put_all_front m a.thread.number a.does.writes two (ys ++ new_entries m a.thread.number a.does.reserves) g
 
+-- entries of no mover at the end of a lock's list stay there as movers reserve and write, if none reserves m
 pub two_stays : (m : ℕ) (ms : List Moves.Act) (xs ys two : List Pending) → (ys ≡ []) ⊎ Reserveless m ms → AllForeign ms ys → with_all_writes m ms (with_reserves m ms xs) ≡ two
     → with_all_writes m ms (with_reserves m ms (xs ++ ys)) ≡ two ++ ys
 two_stays m ms xs ys two e f h = ap (with_all_writes m ms) (appended_back m ms xs ys e) ∙ filled_back m ms (with_reserves m ms xs) ys f ∙ ap (λ l. l ++ ys) h

@@ -8,6 +8,7 @@ use Rattle.pdl_theory_derived.specs.Derived.{Work, Around, work_after, do_all, w
 use Rattle.pdl_theory_derived.specs.Alone.{alone, before, start_work, so_far, thread_at}
 use Rattle.pdl_theory_derived.proofs.Writes.{and_left}
 
+-- the first of two lists of arguments that may be there, else the second
 abbrev pub or_else : Option (List ℕ) → Option (List ℕ) → Option (List ℕ)
 or_else None k = k
 or_else (Some x) k = Some x
@@ -31,6 +32,7 @@ abbrev pub reset : Work → Work
 reset w =
     record { env = w.env; entries = w.entries; guess = w.guess; asks = []; commits = []; child = None; fails = false; ready = true }
 
+-- a work stays the same with what the next stage begins with behind it
 pub rejoined : (w : Work) → w ≡ joined w (reset w)
 rejoined w = λ i. record {
   env = w.env;
@@ -63,14 +65,17 @@ does_joined o _ w v = refl
 abbrev pub step : Around → Stmt → Work → Work
 step o x w = if all_hold x.guards w.env then work_after o x.op w else w
 
+-- a statement, done or not, does the same behind the work of earlier stages
 pub step_joined : (b : Bool) (o : Around) (op : Op) (w v : Work) → cond b (work_after o op (joined w v)) (joined w v) ≡ joined w (cond b (work_after o op v) v)
 step_joined true o op w v = does_joined o op w v
 step_joined false o op w v = refl
 
+-- statements do the same behind the work of earlier stages
 pub do_all_joined : (o : Around) (xs : List Stmt) (w v : Work) → do_all o xs (joined w v) ≡ joined w (do_all o xs v)
 do_all_joined o [] w v = refl
 do_all_joined o (x ∷ xs) w v = ap (do_all o xs) (step_joined (all_hold x.guards v.env) o x.op w v) ∙ do_all_joined o xs w (step o x v)
 
+-- two lists of statements are done one after the other
 pub do_all_append : (o : Around) (xs ys : List Stmt) (w : Work) → do_all o (xs ++ ys) w ≡ do_all o ys (do_all o xs w)
 do_all_append o [] ys w = refl
 do_all_append o (x ∷ xs) ys w = do_all_append o xs ys (step o x w)

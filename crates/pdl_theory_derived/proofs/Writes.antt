@@ -4,7 +4,7 @@ use Rattle.std.proofs.lemmas.Bool.{eqb-true, eqb-false, ne_eqb}
 use Rattle.pdl_semantics.specs.Flat.{Arrays, Array, with_value, Commit, of_mem, after_commits, with_word}
 use Rattle.pdl_semantics.specs.Promises.{wrote, row}
 
-pub row_same : (arrays : Arrays) (m a v : ℕ) → row (with_word arrays m a v) m ≡ with_value (row arrays m) a v
+row_same : (arrays : Arrays) (m a v : ℕ) → row (with_word arrays m a v) m ≡ with_value (row arrays m) a v
 row_same arrays m a v = ap (λ c. cond c (with_value (arrays m) a v) (arrays m)) (eq-eqb m m refl)
 
 pub row_other : (arrays : Arrays) (m n a v : ℕ) → n ≢ m → row (with_word arrays m a v) n ≡ row arrays n
@@ -22,6 +22,7 @@ row_committed m (c ∷ cs) arrays = row_committed m cs (with_word arrays c.mem c
         here h = ap (λ n. row (with_word arrays n c.address c.value) m) h ∙ row_same arrays m c.address c.value
     at false e = ap (λ w. wrote w (of_mem m cs)) (row_other arrays c.mem m c.address c.value (λ h. eqb-false c.mem m e (sym h)))
 
+-- the words after two lists of writes are those after the one and then the other
 pub wrote_append : (xs ys : List Commit) (words : Array) → wrote words (xs ++ ys) ≡ wrote (wrote words xs) ys
 wrote_append [] ys words = refl
 wrote_append (x ∷ xs) ys words = wrote_append xs ys (with_value words x.address x.value)
@@ -30,18 +31,22 @@ cons_append : (b : Bool) (x : Commit) (us vs ws : List Commit) → us ≡ vs ++ 
 cons_append true x us vs ws e = ap (λ l. x ∷ l) e
 cons_append false x us vs ws e = e
 
+-- the writes to m in two lists are those of the one and then those of the other
 pub of_mem_append : (m : ℕ) (xs ys : List Commit) → of_mem m (xs ++ ys) ≡ of_mem m xs ++ of_mem m ys
 of_mem_append m [] ys = refl
 of_mem_append m (x ∷ xs) ys = cons_append (x.mem == m) x _ _ _ (of_mem_append m xs ys)
 
+-- where two things hold, the first holds
 pub and_left : (b c : Bool) → (b && c) ≡ true → b ≡ true
 and_left true c e = refl
 and_left false c e = e
 
+-- where two things hold, the second holds
 pub and_right : (b c : Bool) → (b && c) ≡ true → c ≡ true
 and_right true c e = e
 and_right false c e = cc
 
+-- the arrays after two lists of writes are those after the one and then the other
 pub committed_append : (xs ys : List Commit) (arrays : Arrays) → after_commits arrays (xs ++ ys) ≡ after_commits (after_commits arrays xs) ys
 committed_append [] ys arrays = refl
 committed_append (x ∷ xs) ys arrays = committed_append xs ys (with_word arrays x.mem x.address x.value)

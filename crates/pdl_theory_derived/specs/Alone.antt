@@ -28,6 +28,7 @@ abbrev pub before : ℕ → List Stmt → List Stmt
 before s [] = []
 before s (x ∷ xs) = if nat_lt x.stage s then record x { op = answered_op x.op } ∷ before s xs else before s xs
 
+-- the work with which a thread with these arguments begins
 abbrev pub start_work : Pipe → List ℕ → Work
 start_work p args =
     record {

@@ -16,6 +16,7 @@ pub record SameTurn (p : Pipe) (a : Cycle.Turn) (b : Derived.Turn) : Type 0 wher
   pub squash : a.ports.squash ≡ b.ports.squash
   pub wait : a.wait ≡ b.wait
 
+-- as many cycles of each machine have the same ports, one after another
 abbrev pub SameTurns : Pipe → List Cycle.Turn → List Derived.Turn → Type 0
 SameTurns p [] [] = Unit {0}
 SameTurns p (a ∷ these) (b ∷ bs) = SameTurn p a b × SameTurns p these bs

@@ -7,14 +7,14 @@ use Rattle.pdl_semantics.specs.Locks.{has_room}
 use Rattle.pdl_semantics.specs.Sound.{all_below, stages_from, is_fetch}
 use Rattle.pdl_theory_derived.specs.Alone.{before}
 use Rattle.pdl_theory_facts.specs.Scans.{is_plain, none_of, all_at, reads_ok, no_scan, phases_ok, phase_all, Fresh, is_over, is_fixed}
-use Rattle.pdl_theory_facts.specs.Certain.{Unmade, makings_ok, making_all, is_made, all_sure}
+use Rattle.pdl_theory_facts.specs.GuessScans.{Unmade, makings_ok, making_all, is_made, all_sure}
 use Rattle.pdl_theory_facts.specs.Checks.{in_text_order, knows_memory, on_paths, guard_vars, mem_passes, path_passes, lock_passes, is_below, locks_pass, text_passes, paths_pass}
 use Rattle.pdl_theory_facts.specs.Accepted.{Accepted, Pathwise, along}
 use Rattle.pdl_theory_derived.proofs.Writes.{and_left, and_right}
 use Rattle.pdl_theory_facts.proofs.Texts.{below_at, past_end, where_true, none_before, pieces, ordered, whole, reads_first, no_fetch, all_at_none, no_reserve, no_release, stays_fresh, on_each_path}
 
 -- what holds of each number below a bound, and after it
-pub by_bound : (n m : ℕ) (R : Type 0) → (m < n → R) → (n ≤ m → R) → R
+by_bound : (n m : ℕ) (R : Type 0) → (m < n → R) → (n ≤ m → R) → R
 by_bound n m R f g = at (nat_lt m n) refl
   where
     at : (b : Bool) → nat_lt m n ≡ b → R

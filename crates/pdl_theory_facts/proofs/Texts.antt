@@ -12,6 +12,7 @@ use Rattle.pdl_theory_derived.proofs.Writes.{and_left, and_right}
 
 -- NUMBERS AND LISTS
 
+-- a test that all numbers below n pass is passed by each of them
 pub below_at : (test : ℕ → Bool) (n m : ℕ) → all_below test n ≡ true → m < n → test m ≡ true
 below_at test zero m h low = absurd (omega arith)
 below_at test (suc n) m h low = at (m == n) refl (below_at test n m (and_left _ _ h))
@@ -23,15 +24,18 @@ below_at test (suc n) m h low = at (m == n) refl (below_at test n m (and_left _ 
     at true e f = subst (λ k. test k ≡ true) (sym (eqb-true m n e)) (and_right (all_below test n) _ h)
     at false e f = f (small (eqb-false m n e))
 
+-- past the end of a list there is what stands for nothing
 pub past_end : {X : Type 0} → (xs : List X) (m : ℕ) (none : X) → length xs ≤ m → slice_index_or xs m none ≡ none
 past_end [] m none h = refl
 past_end (x ∷ xs) zero none h = absurd (omega arith)
 past_end (x ∷ xs) (suc m) none h = past_end xs m none (omega arith)
 
+-- nothing is there where the test of that says so
 pub none_there : {X : Type 0} → (o : Option X) → is_none o ≡ true → o ≡ None
 none_there None h = refl
 none_there (Some x) h = absurd (cc h)
 
+-- what holds wherever a first thing does holds where that does
 pub where_true : (a b : Bool) → (not a || b) ≡ true → a ≡ true → b ≡ true
 where_true true b h e = h
 where_true false b h e = absurd (cc e)
@@ -45,6 +49,7 @@ looked_same : (op : Op) → not (is_fetch op) ≡ true → answered_op op ≡ op
 looked_same (DelayedRead x m a) h = absurd (cc h)
 looked_same _ h = refl
 
+-- no statement stands before stage s where they stand in order and the first in s or later
 pub none_before : (s l : ℕ) (xs : List Stmt) → in_text_order l xs ≡ true → s ≤ l → before s xs ≡ []
 none_before s l [] h k = refl
 none_before s l (x ∷ xs) h k =
@@ -52,6 +57,7 @@ none_before s l (x ∷ xs) h k =
     ap (λ b. cond b (record x { op = answered_op x.op } ∷ before s xs) (before s xs)) (le-ltb x.stage s (omega arith))
     ∙ none_before s x.stage xs (and_right _ _ h) (omega arith)
 
+-- statements in order before stage s + 1 are those before s and those of s, where no read is delayed
 pub pieces : (s l : ℕ) (xs : List Stmt) → in_text_order l xs ≡ true → none_of is_fetch xs ≡ true → before (suc s) xs ≡ before s xs ++ in_stage s xs
 pieces s l [] h f = refl
 pieces s l (x ∷ xs) h f = at (nat_lt x.stage (suc s)) (nat_lt x.stage s) (x.stage == s) refl refl refl (pieces s x.stage xs (and_right _ _ h) (and_right _ _ f))
@@ -72,6 +78,7 @@ pieces s l (x ∷ xs) h f = at (nat_lt x.stage (suc s)) (nat_lt x.stage s) (x.st
     at false false true e g i k = absurd (let u : suc s ≤ x.stage = ltb-false _ _ e in let j = eqb-true x.stage s i in omega arith)
     at false false false e g i k = k
 
+-- statements in order are those before stage s and then those from it on, where no read is delayed
 pub ordered : (s l : ℕ) (xs : List Stmt) → in_text_order l xs ≡ true → none_of is_fetch xs ≡ true → xs ≡ before s xs ++ stages_from s xs
 ordered s l [] h f = refl
 ordered s l (x ∷ xs) h f = at (nat_lt x.stage s) refl (ordered s x.stage xs (and_right _ _ h) (and_right _ _ f))
@@ -86,6 +93,7 @@ ordered s l (x ∷ xs) h f = at (nat_lt x.stage s) refl (ordered s x.stage xs (a
         ∙ ap (λ c. cond c (x ∷ stages_from s xs) (stages_from s xs)) (sym (le-leb s x.stage (ltb-false _ _ e)))
         ∙ ap (λ ys. ys ++ stages_from s (x ∷ xs)) (sym none)
 
+-- statements that all stand in stages before k are those before k, where no read is delayed
 pub whole : (k : ℕ) (xs : List Stmt) → list_all (λ x. nat_lt x.stage k) xs ≡ true → none_of is_fetch xs ≡ true → before k xs ≡ xs
 whole k [] h f = refl
 whole k (x ∷ xs) h f =
@@ -94,10 +102,12 @@ whole k (x ∷ xs) h f =
 
 -- READS AND CALLS
 
+-- the reads in a first part of statements are in order where those in all of them are
 pub reads_first : (p : Pipe) (c : Scan) (xs ys : List Stmt) → reads_ok p c (xs ++ ys) ≡ true → reads_ok p c xs ≡ true
 reads_first p c [] ys h = refl
 reads_first p c (x ∷ xs) ys h = and_from _ _ (and_left (no_guards x.guards && op_ok p x.stage c x.op) _ h) (reads_first p (scan_after x.op c) xs ys (and_right _ _ h))
 
+-- no read is delayed in statements whose reads are in order
 pub no_fetch : (p : Pipe) (c : Scan) (xs : List Stmt) → reads_ok p c xs ≡ true → none_of is_fetch xs ≡ true
 no_fetch p c [] h = refl
 no_fetch p c (x ∷ xs) h = and_from _ _ (here x.op (and_right _ _ (and_left _ _ h))) (no_fetch p (scan_after x.op c) xs (and_right _ _ h))
@@ -117,6 +127,7 @@ no_fetch p c (x ∷ xs) h = and_from _ _ (here x.op (and_right _ _ (and_left _ _
     here SpecCheck k = refl
     here SpecBarrier k = refl
 
+-- without a verify there is no stage of the verifies
 pub no_verify : (xs : List Stmt) → none_of is_verify xs ≡ true → verify_stage xs ≡ None
 no_verify [] h = refl
 no_verify (x ∷ xs) h = at (is_verify x.op) (and_left _ _ h) (no_verify xs (and_right _ _ h))
@@ -127,6 +138,7 @@ no_verify (x ∷ xs) h = at (is_verify x.op) (and_left _ _ h) (no_verify xs (and
 
 -- MEMORIES THAT ARE NOT THERE
 
+-- all statements of a kind of which there is none stand in any one stage
 pub all_at_none : (test : Op → Bool) (s : ℕ) (xs : List Stmt) → none_of test xs ≡ true → all_at test s xs ≡ true
 all_at_none test s [] h = refl
 all_at_none test s (x ∷ xs) h = and_from _ _ (or_left (not (test x.op)) _ (and_left _ _ h)) (all_at_none test s xs (and_right _ _ h))
@@ -140,13 +152,16 @@ no_release_op : (m n : ℕ) (op : Op) → knows_memory n op ≡ true → n ≤ m
 no_release_op m n (Release k a) h low = ap not (apart m n k h low)
 no_release_op m n _ h low = refl
 
+-- a kind that no statement on the first n memories is has none where the statements know only these
 pub none_known : (test : Op → Bool) (n : ℕ) (xs : List Stmt) → ((op : Op) → knows_memory n op ≡ true → not (test op) ≡ true) → list_all (λ x. knows_memory n x.op) xs ≡ true → none_of test xs ≡ true
 none_known test n [] f h = refl
 none_known test n (x ∷ xs) f h = and_from _ _ (f x.op (and_left (knows_memory n x.op) _ h)) (none_known test n xs f (and_right (knows_memory n x.op) _ h))
 
+-- nothing reserves a memory past the first n where the statements know only these
 pub no_reserve : (m n : ℕ) (xs : List Stmt) → list_all (λ x. knows_memory n x.op) xs ≡ true → n ≤ m → none_of (is_reserve m) xs ≡ true
 no_reserve m n xs h low = none_known (is_reserve m) n xs (λ op k. no_reserve_op m n op k low) h
 
+-- nothing releases a memory past the first n where the statements know only these
 pub no_release : (m n : ℕ) (xs : List Stmt) → list_all (λ x. knows_memory n x.op) xs ≡ true → n ≤ m → none_of (is_release m) xs ≡ true
 no_release m n xs h low = none_known (is_release m) n xs (λ op k. no_release_op m n op k low) h
 
@@ -158,6 +173,7 @@ fresh_op p s m n c (ReserveWrite j a) h k low = (or_right (not (j == m)) true re
 fresh_op p s m n c (Release j a) h k low = (or_right (not (j == m)) true refl, ap (λ b. cond b Fresh Fresh) (apart m n j h low))
 fresh_op p s m n c _ h k low = (refl, refl)
 
+-- a memory past the first n stays in its first phase where the statements know only these
 pub stays_fresh : (p : Pipe) (m n : ℕ) (c : Scan) (xs : List Stmt) → list_all (λ x. knows_memory n x.op) xs ≡ true → reads_ok p c xs ≡ true → n ≤ m
     → (phases_ok m Fresh xs ≡ true) × (phase_all m Fresh xs ≡ Fresh)
 stays_fresh p m n c [] h k low = (refl, refl)

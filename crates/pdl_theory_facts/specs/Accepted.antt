@@ -5,7 +5,7 @@ use Rattle.pdl_semantics.specs.Stages.{onpath, in_stage, mem_at, verify_stage, c
 use Rattle.pdl_semantics.specs.Locks.{has_room}
 use Rattle.pdl_theory_derived.specs.Alone.{before}
 use Rattle.pdl_theory_facts.specs.Scans.{is_plain, none_of, reads_ok, no_scan, phases_ok, phase_all, Fresh, is_over, all_at, is_fixed}
-use Rattle.pdl_theory_facts.specs.Certain.{Unmade, makings_ok, making_all, is_made, all_sure}
+use Rattle.pdl_theory_facts.specs.GuessScans.{Unmade, makings_ok, making_all, is_made, all_sure}
 use Rattle.pdl_semantics.specs.Sound.{stages_from}
 
 -- of a pipe without guards: what holds of the statements of one path

@@ -6,7 +6,7 @@ use Rattle.pdl_semantics.specs.Stages.{in_stage, mem_at, commit_stage, reserve_s
 use Rattle.pdl_semantics.specs.Locks.{has_room}
 use Rattle.pdl_semantics.specs.Sound.{all_below, stages_from, is_fetch, is_spec_call}
 use Rattle.pdl_theory_facts.specs.Scans.{is_plain, none_of, reads_ok, no_scan, phases_ok, phase_all, Fresh, is_over, all_at, is_fixed}
-use Rattle.pdl_theory_facts.specs.Certain.{Unmade, makings_ok, making_all, is_made, all_sure}
+use Rattle.pdl_theory_facts.specs.GuessScans.{Unmade, makings_ok, making_all, is_made, all_sure}
 
 -- statements stand in the order of their stages, the first in stage s or after it
 abbrev pub in_text_order : ℕ → List Stmt → Bool
@@ -39,14 +39,17 @@ is_guess op = is_spec_call op || is_verify op
 abbrev pub alike : Bool → Bool → Bool
 alike a b = if a then b else not b
 
+-- each of these guards on variable g is taken where g has this truth value
 abbrev pub agrees_with : ℕ → Bool → List Guard → Bool
 agrees_with g b [] = true
 agrees_with g b (h ∷ hs) = (not (h.var == g) || alike h.first b) && agrees_with g b hs
 
+-- these guards without those on variable g
 abbrev pub without : ℕ → List Guard → List Guard
 without g [] = []
 without g (h ∷ hs) = if h.var == g then without g hs else h ∷ without g hs
 
+-- the statements that are left where g has this truth value, without their guards on it
 abbrev pub choose : ℕ → Bool → List Stmt → List Stmt
 choose g b [] = []
 choose g b (x ∷ xs) = if agrees_with g b x.guards then record x { guards = without g x.guards } ∷ choose g b xs else choose g b xs
@@ -56,10 +59,12 @@ abbrev pub on_paths : List ℕ → (List Stmt → Bool) → List Stmt → Bool
 on_paths [] test xs = test xs
 on_paths (g ∷ gs) test xs = on_paths gs test (choose g true xs) && on_paths gs test (choose g false xs)
 
+-- the variables of these guards
 abbrev pub vars_of : List Guard → List ℕ
 vars_of [] = []
 vars_of (g ∷ gs) = g.var ∷ vars_of gs
 
+-- the variables of all guards of these statements
 abbrev pub guard_vars : List Stmt → List ℕ
 guard_vars [] = []
 guard_vars (x ∷ xs) = vars_of x.guards ++ guard_vars xs
@@ -72,6 +77,7 @@ mem_passes p xs m =
     && (all_at (is_reserve m) (reserve_stage p m) xs
     && (all_at (is_release m) (commit_stage p m) xs && (not (is_plain (mem_at p m).lock) || none_of (is_release m) xs))))
 
+-- the statements of a path pass all tests of a path
 abbrev pub path_passes : Pipe → List Stmt → Bool
 path_passes p xs =
     in_text_order 0 xs
@@ -81,6 +87,7 @@ path_passes p xs =
 
 -- THE TEXT
 
+-- the lock of m has room, and the reserves of m stand in one stage, and so do its releases
 abbrev pub lock_passes : Pipe → ℕ → Bool
 lock_passes p m =
     has_room (mem_at p m).lock 0
@@ -107,5 +114,6 @@ text_passes p =
     && (is_fixed p.stmts
     && (list_all (λ x. nat_lt x.stage (length p.stages)) p.stmts && all_below (λ s. is_fixed (before s p.stmts ++ (in_stage s p.stmts ++ stages_from (suc s) p.stmts))) (length p.stages)))))
 
+-- the locks, the text and the statements of each path pass their tests, and there is a stage
 abbrev pub paths_pass : Pipe → Bool
 paths_pass p = nat_lt 0 (length p.stages) && (locks_pass p && (text_passes p && on_paths (guard_vars p.stmts) (path_passes p) p.stmts))

@@ -46,6 +46,7 @@ mentions_var x (Release m a) = false
 mentions_var x SpecCheck = false
 mentions_var x SpecBarrier = false
 
+-- whether one of these guards is on variable x
 abbrev pub asks_for : ℕ → List Guard → Bool
 asks_for x [] = false
 asks_for x (g ∷ gs) = (g.var == x) || asks_for x gs
@@ -79,6 +80,7 @@ trunk_only (Block m a) = false
 abbrev pub unseen_op : Op → List Stmt → Bool
 unseen_op op ys = on_delayed_read (λ x m a. silent_on x ys) true op
 
+-- no statement after a delayed read among these has to do with its variable
 abbrev pub is_unseen : List Stmt → Bool
 is_unseen [] = true
 is_unseen (y ∷ ys) = unseen_op y.op ys && is_unseen ys
@@ -87,13 +89,16 @@ is_unseen (y ∷ ys) = unseen_op y.op ys && is_unseen ys
 abbrev pub fetches_no : ℕ → ℕ → Op → Bool
 fetches_no x m op = on_delayed_read (λ y n a. not (x == y) && not (m == n)) true op
 
+-- no delayed read among these statements is into x or of m
 abbrev pub none_like : ℕ → ℕ → List Stmt → Bool
 none_like x m [] = true
 none_like x m (y ∷ ys) = fetches_no x m y.op && none_like x m ys
 
+-- a delayed read has another variable and another memory than each one among these statements
 abbrev pub alone_op : Op → List Stmt → Bool
 alone_op op ys = on_delayed_read (λ x m a. none_like x m ys) true op
 
+-- each two delayed reads among these statements have different variables and memories
 abbrev pub fetch_apart : List Stmt → Bool
 fetch_apart [] = true
 fetch_apart (y ∷ ys) = alone_op y.op ys && fetch_apart ys
@@ -111,13 +116,16 @@ pub record FetchOk (p : Pipe) (fetch : ℕ → ℕ) (s x m : ℕ) : Type 0 where
   -- L8: it is bound no later than the releases
   pub early : (env : List ℕ) → next_of p s env ≤ commit_stage p m
 
+-- what is known of a delayed read in stage s under these guards, and nothing of any other statement
 abbrev pub FetchIf : Pipe → (ℕ → ℕ) → ℕ → List Guard → Op → Type 0
 FetchIf p fetch s gs op = on_delayed_read (λ x m a. Found p fetch s m × (is_dead gs ≡ false → FetchOk p fetch s x m)) (Unit {0}) op
 
+-- what is known of delayed reads in stage s holds of each one among these statements
 abbrev pub AllFetches : Pipe → (ℕ → ℕ) → ℕ → List Stmt → Type 0
 AllFetches p fetch s [] = Unit {0}
 AllFetches p fetch s (y ∷ ys) = FetchIf p fetch s y.guards y.op × AllFetches p fetch s ys
 
+-- whether a statement is a delayed read into x
 abbrev pub is_fetch_of : ℕ → Op → Bool
 is_fetch_of x op = on_delayed_read (λ y m a. y == x) false op
 
@@ -136,6 +144,7 @@ binds_guard op (g ∷ gs) = binds_var g.var op || binds_guard op gs
 abbrev pub defined_by : ℕ → Op → ℕ → Bool
 defined_by s op r = nat_le s r && (not (is_fetch op) || nat_lt s r)
 
+-- where one of these statements binds a guard's variable of z, it defines that early enough for z
 abbrev pub late_for : Stmt → List Stmt → Bool
 late_for z [] = true
 late_for z (y ∷ ys) = (not (binds_guard y.op z.guards) || defined_by y.stage y.op z.stage) && late_for z ys
@@ -147,6 +156,7 @@ abbrev pub looked_all : List Stmt → List Stmt
 looked_all [] = []
 looked_all (x ∷ xs) = record x { op = answered_op x.op } ∷ looked_all xs
 
+-- a pipe whose delayed reads have their answers at once
 abbrev pub at_once : Pipe → Pipe
 at_once p = record p { stmts = looked_all p.stmts }
 
@@ -155,6 +165,7 @@ abbrev pub comes_by : Pipe → List ℕ → Option Branch → Bool
 comes_by p path None = true
 comes_by p path (Some c) = goes_by p c path
 
+-- whether a path comes to stage s, by the branch that this stands in
 abbrev pub visits_stage : Pipe → List ℕ → ℕ → Bool
 visits_stage p path s = comes_by p path (stage_at p s).branch
 

@@ -1,5 +1,5 @@
 pub mod Scans
-pub mod Certain
+pub mod GuessScans
 pub mod Graphs
 pub mod Facts
 pub mod SoundChecks

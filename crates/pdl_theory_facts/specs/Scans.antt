@@ -7,6 +7,7 @@ pub use Rattle.pdl_semantics.specs.Locks.{is_plain}
 use Rattle.pdl_theory_derived.specs.Alone.{Location}
 use Rattle.pdl_semantics.specs.Sound.{is_call}
 
+-- there is no guard
 abbrev pub no_guards : List Guard → Bool
 no_guards [] = true
 no_guards (g ∷ gs) = false
@@ -16,6 +17,7 @@ abbrev pub is_address : List Location → ℕ → Bool
 is_address [] x = false
 is_address (l ∷ ls) x = (l.var == x) || is_address ls x
 
+-- whether the location of memory m and variable a is among these
 abbrev pub has_location : List Location → ℕ → ℕ → Bool
 has_location [] m a = false
 has_location (l ∷ ls) m a = ((l.mem == m) && (l.var == a)) || has_location ls m a
@@ -25,12 +27,15 @@ pub record Scan : Type 0 where
   pub held : List Location
   pub blocked : List Location
 
+-- nothing reserved and nothing blocked
 abbrev pub no_scan : Scan
 no_scan = record { held = []; blocked = [] }
 
+-- the location of memory m and variable a
 abbrev pub location : ℕ → ℕ → Location
 location m a = record { mem = m; var = a }
 
+-- a scan after one more statement
 abbrev pub scan_after : Op → Scan → Scan
 scan_after (Block m a) c = if has_location c.held m a then c else record { held = c.held; blocked = location m a ∷ c.blocked }
 scan_after (ReserveWrite m a) c = record { held = location m a ∷ c.held; blocked = c.blocked }
@@ -46,6 +51,7 @@ scan_after (Verify args) c = c
 scan_after SpecCheck c = c
 scan_after SpecBarrier c = c
 
+-- a scan after these statements
 abbrev pub scan_after_all : List Stmt → Scan → Scan
 scan_after_all [] c = c
 scan_after_all (x ∷ xs) c = scan_after_all xs (scan_after x.op c)
@@ -67,6 +73,7 @@ op_ok p s c (Verify args) = true
 op_ok p s c SpecCheck = true
 op_ok p s c SpecBarrier = true
 
+-- each of these statements is without guards, and its binding, read or block is in order
 abbrev pub reads_ok : Pipe → Scan → List Stmt → Bool
 reads_ok p c [] = true
 reads_ok p c (x ∷ xs) = (no_guards x.guards && op_ok p x.stage c x.op) && reads_ok p (scan_after x.op c) xs
@@ -76,6 +83,7 @@ abbrev pub all_at : (Op → Bool) → ℕ → List Stmt → Bool
 all_at test s [] = true
 all_at test s (x ∷ xs) = (not (test x.op) || (x.stage == s)) && all_at test s xs
 
+-- no statement passes the test
 abbrev pub none_of : (Op → Bool) → List Stmt → Bool
 none_of test [] = true
 none_of test (x ∷ xs) = not (test x.op) && none_of test xs
@@ -87,12 +95,14 @@ pub data Phase : Type 0 where
   Written : (x : ℕ) → Phase
   Done : Phase
 
+-- the phase after the release of the location of variable a
 abbrev pub after_release : Phase → ℕ → Phase
 after_release Fresh a = Fresh
 after_release (Held x) a = Held x
 after_release (Written x) a = if x == a then Done else Written x
 after_release Done a = Done
 
+-- the phase of m's write after one more statement
 abbrev pub next_phase : ℕ → Phase → Op → Phase
 next_phase m ph (ReserveWrite n a) = if n == m then Held a else ph
 next_phase m ph (Write n a e) = if n == m then Written a else ph
@@ -108,15 +118,18 @@ next_phase m ph (Verify args) = ph
 next_phase m ph SpecCheck = ph
 next_phase m ph SpecBarrier = ph
 
+-- whether the location of variable x is held and not written yet
 abbrev pub holds_location : Phase → ℕ → Bool
 holds_location (Held y) x = y == x
 holds_location _ x = false
 
+-- whether m may be read: it isn't written yet
 abbrev pub may_read : Phase → Bool
 may_read Fresh = true
 may_read (Held x) = true
 may_read _ = false
 
+-- whether m isn't reserved for writing yet
 abbrev pub is_fresh : Phase → Bool
 is_fresh Fresh = true
 is_fresh _ = false
@@ -137,23 +150,28 @@ phase_ok m ph (Verify args) = true
 phase_ok m ph SpecCheck = true
 phase_ok m ph SpecBarrier = true
 
+-- each of these statements, without guards, is in order in its phase of m's write
 abbrev pub phases_ok : ℕ → Phase → List Stmt → Bool
 phases_ok m ph [] = true
 phases_ok m ph (x ∷ xs) = (no_guards x.guards && phase_ok m ph x.op) && phases_ok m (next_phase m ph x.op) xs
 
+-- the phase of m's write after these statements
 abbrev pub phase_all : ℕ → Phase → List Stmt → Phase
 phase_all m ph [] = ph
 phase_all m ph (x ∷ xs) = phase_all m (next_phase m ph x.op) xs
 
+-- whether m's write isn't begun, or is done
 abbrev pub is_over : Phase → Bool
 is_over Fresh = true
 is_over Done = true
 is_over _ = false
 
+-- whether the next thread is called, before or by these statements
 abbrev pub called : Bool → List Stmt → Bool
 called c [] = c
 called c (x ∷ xs) = called (c || is_call x.op) xs
 
+-- whether a statement binds variable g
 abbrev pub binds_var : ℕ → Op → Bool
 binds_var g op = on_binding (λ x. x == g) false op
 
@@ -167,6 +185,7 @@ abbrev pub against : Guard → List Guard → Bool
 against g [] = false
 against g (h ∷ hs) = ((g.var == h.var) && (if g.first then not h.first else h.first)) || against g hs
 
+-- whether some two of these guards contradict one another
 abbrev pub is_dead : List Guard → Bool
 is_dead [] = false
 is_dead (g ∷ gs) = against g gs || is_dead gs
@@ -175,6 +194,7 @@ is_dead (g ∷ gs) = against g gs || is_dead gs
 abbrev pub keeps_guards : List Guard → List Stmt → Bool
 keeps_guards gs xs = is_dead gs || free_of gs xs
 
+-- the variables of each statement's guards are bound neither by it nor later in the text, if it isn't dead
 abbrev pub is_fixed : List Stmt → Bool
 is_fixed [] = true
 is_fixed (x ∷ xs) = keeps_guards x.guards (x ∷ xs) && is_fixed xs

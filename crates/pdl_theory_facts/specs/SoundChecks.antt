@@ -19,12 +19,15 @@ nexts_of k Ends = k ∷ []
 nexts_of k (Goes to) = to ∷ []
 nexts_of k (Forks x a b) = a ∷ b ∷ []
 
+-- the stages that may come after stage s of a pipe, the number of its stages after the last one
 abbrev pub nexts : Pipe → ℕ → List ℕ
 nexts p s = nexts_of (length p.stages) (stage_at p s).next
 
+-- whether stage s stands in no branch
 abbrev pub is_trunk : Pipe → ℕ → Bool
 is_trunk p s = is_none (stage_at p s).branch
 
+-- whether a stage's branch is this one
 abbrev pub same_branch : Option Branch → Branch → Bool
 same_branch None c = false
 same_branch (Some b) c = (b.fork == c.fork) && (if b.first then c.first else not c.first)
@@ -35,6 +38,7 @@ leads_in k Ends = true
 leads_in k (Goes to) = nat_lt to k
 leads_in k (Forks x a b) = nat_lt a k && nat_lt b k
 
+-- whether some number below n passes the test
 abbrev pub any_below : (ℕ → Bool) → ℕ → Bool
 any_below test n = not (all_below (λ m. not (test m)) n)
 
@@ -42,6 +46,7 @@ any_below test n = not (all_below (λ m. not (test m)) n)
 abbrev pub is_passed : Pipe → ℕ → ℕ → Bool
 is_passed p s b = any_below (λ r. is_trunk p r && nat_le b r) (suc s)
 
+-- whether stage b is inside the fork that is merged, if one is
 abbrev pub is_in_merge : Pipe → Option ℕ → ℕ → Bool
 is_in_merge p None b = false
 is_in_merge p (Some f) b = is_inside p f b
@@ -53,6 +58,7 @@ is_entered p s n (Some c) =
     ((s == c.fork) && all_below (λ r. not (same_branch (stage_at p r).branch c) || nat_le n r) (length p.stages))
     || (same_branch (stage_at p s).branch c && (n == suc s))
 
+-- n may come after stage s: no trunk stage lies between, and the branch or the merge in n is rightly entered
 abbrev pub next_passes : Pipe → ℕ → ℕ → Bool
 next_passes p s n =
     nat_lt s n
@@ -72,15 +78,18 @@ abbrev pub side_is : ℕ → Bool → Option Branch → Bool
 side_is s first None = true
 side_is s first (Some c) = not (c.fork == s) || (if c.first then first else not first)
 
+-- a stage stands in no branch of a fork in stage s
 abbrev pub no_side : ℕ → Option Branch → Bool
 no_side s None = true
 no_side s (Some c) = not (c.fork == s)
 
+-- from stage s only a fork leads into branches of a fork in s, each way into one of its side
 abbrev pub side_passes : Pipe → ℕ → Next → Bool
 side_passes p s Ends = true
 side_passes p s (Goes to) = no_side s (stage_at p to).branch
 side_passes p s (Forks x a b) = side_is s true (stage_at p a).branch && side_is s false (stage_at p b).branch
 
+-- the ways on from stage s, and the branch in which it stands, pass their tests
 abbrev pub stage_sound : Pipe → ℕ → Bool
 stage_sound p s =
     leads_in (length p.stages) (stage_at p s).next
@@ -88,6 +97,7 @@ stage_sound p s =
 
 -- FORKS AND BARRIERS
 
+-- the variable of a fork in stage s is there, bound in no later stage, and read delayed by none in s
 abbrev pub fork_sound : Pipe → ℕ → Next → Bool
 fork_sound p s Ends = true
 fork_sound p s (Goes to) = true
@@ -108,10 +118,12 @@ abbrev pub branch_whole : Pipe → ℕ → ℕ → Option Branch → Bool
 branch_whole p v b None = true
 branch_whole p v b (Some c) = if merges_by p c.fork (Some v) then nat_lt b v else nat_le v c.fork
 
+-- each branch is wholly before the verifies' stage, or its fork is not before it, where there is one
 abbrev pub forks_whole : Pipe → Option ℕ → Bool
 forks_whole p None = true
 forks_whole p (Some v) = all_below (λ b. branch_whole p v b (stage_at p b).branch) (length p.stages)
 
+-- each verify stands in this stage, if there is one
 abbrev pub verifies_at : Pipe → Option ℕ → Bool
 verifies_at p None = true
 verifies_at p (Some v) = all_at is_verify v p.stmts
@@ -128,9 +140,11 @@ abbrev pub none_between : ℕ → ℕ → List Stmt → Bool
 none_between a b [] = true
 none_between a b (x ∷ xs) = not (nat_le a x.stage && nat_lt x.stage b) && none_between a b xs
 
+-- a path has no statement between a stage that it comes to and the next one
 abbrev pub skip_passes : Pipe → List ℕ → Bool
 skip_passes p path = all_below (λ s. not (visits_stage p path s) || none_between (suc s) (next_of p s path) (onpath path p.stmts)) (length p.stages)
 
+-- the variables of all guards of statements and of forks
 abbrev pub all_guards : Pipe → List ℕ
 all_guards p = guard_vars p.stmts ++ fork_guards p.stages
 
@@ -141,6 +155,7 @@ abbrev pub fetch_stage : ℕ → List Stmt → ℕ
 fetch_stage m [] = 0
 fetch_stage m (y ∷ ys) = if is_delayed_read m y.op then y.stage else fetch_stage m ys
 
+-- a delayed read in stage s is where its memory's first one is, and bound no later than the releases
 abbrev pub fetch_sound : Pipe → ℕ → List Guard → Op → Bool
 fetch_sound p s gs op =
     on_delayed_read (λ x m a. (fetch_stage m p.stmts == s)
@@ -159,6 +174,7 @@ abbrev pub none_hangs : List ℕ → List Stmt → List Stmt → Bool
 none_hangs path ys [] = true
 none_hangs path ys (z ∷ zs) = (list_all (λ g. none_of (is_fetch_of g.var) ys) z.guards || not (all_hold (unfetched_guards ys z.guards) path)) && none_hangs path ys zs
 
+-- what a stage reads delayed decides no guard on this path before the path's next stage
 abbrev pub blind_passes : Pipe → List ℕ → Bool
 blind_passes p path = all_below (λ s. none_hangs path (in_stage s p.stmts) (before (next_of p s path) p.stmts)) (length p.stages)
 
@@ -185,5 +201,6 @@ tests p =
     ∷ all_paths (all_guards p) (blind_passes p) (start_env p [])
     ∷ []
 
+-- a pipe passes all tests
 abbrev pub passes_tests : Pipe → Bool
 passes_tests p = list_all (λ b. b) (tests p)

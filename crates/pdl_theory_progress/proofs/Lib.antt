@@ -1,3 +1,3 @@
 pub mod Rates
-pub mod Sounded
-pub mod Tried
+pub mod SoundTests
+pub mod TestedPaths

@@ -16,7 +16,7 @@ use Rattle.pdl_theory_refinement.proofs.Cycles.{work_same}
 use Rattle.pdl_theory_derived.proofs.Writes.{row_committed}
 use Rattle.pdl_theory_refinement.proofs.Follows.{Runs, runs_cycle, runs_first, oldest_of, behind_none, rows_at, low_end}
 use Rattle.pdl_theory_turns.proofs.CourseOf.{course, walk, Reached, on_reached}
-use Rattle.pdl_theory_turns.proofs.Sounds
+use Rattle.pdl_theory_turns.proofs.StageFacts
 
 -- THE LONGEST PATH
 
@@ -34,6 +34,7 @@ picked_most p path (x ∷ xs) e = at (slice_index path x == 1) (picked_most p pa
     at true f g = omega arith
     at false f g = omega arith
 
+-- whether a number is among these
 abbrev pub among : ℕ → List ℕ → Bool
 among x [] = false
 among x (y ∷ ys) = (y == x) || among x ys
@@ -51,6 +52,7 @@ unpicked path (y ∷ ys) e x h =
     and_second true k = absurd (cc k)
     and_second false k = k
 
+-- a guard among these has the truth value that the path gives it, in the values picked for the path
 pub picked : (path xs e : List ℕ) (x : ℕ) → x < length e → among x xs ≡ true → (slice_index (picks path xs e) x == 1) ≡ (slice_index path x == 1)
 picked path [] e x low h = absurd (cc h)
 picked path (y ∷ ys) e x low h = at (among x ys) refl (y == x) refl h (picked path ys (slice_set e y (if slice_index path y == 1 then 1 else 0)) x (subst (λ n. x < n) (sym (length-set e y (if slice_index path y == 1 then 1 else 0))) low))
@@ -72,6 +74,7 @@ picked path (y ∷ ys) e x low h = at (among x ys) refl (y == x) refl h (picked 
         ∙ bit (slice_index path x == 1)
     at false i false j k go = absurd (cc (sym i ∙ k))
 
+-- a number is among two lists where it is among the one or the other
 pub among_append : (x : ℕ) (xs ys : List ℕ) → among x (xs ++ ys) ≡ (among x xs || among x ys)
 among_append x [] ys = refl
 among_append x (z ∷ zs) ys = at (z == x) (among_append x zs ys)

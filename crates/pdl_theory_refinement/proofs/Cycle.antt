@@ -5,9 +5,10 @@ use Rattle.pdl_semantics.specs.Stages.{list_any, commit_stage, reserve_stage}
 use Rattle.pdl_theory_derived.specs.Derived.{Act, commits_of, exit_of}
 use Rattle.pdl_theory_derived.specs.Alone.{Location}
 use Rattle.pdl_theory_derived.proofs.Writes.{of_mem_append}
-use Rattle.pdl_theory_turns.proofs.Alike.{Right}
+use Rattle.pdl_theory_turns.proofs.Surroundings.{Right}
 use Rattle.pdl_theory_turns.proofs.Lives.{Writes, Marks, Clean}
 
+-- blocked locations that are right in a stage are right in later ones, where what is clean stays clean
 pub right_weaken : (p : Pipe) (s s' : ℕ) (v v' : Marks) (ls : List Location) (env : List ℕ) → s ≤ s'
     → ((m a : ℕ) → Clean p v m a → Clean p v' m a) → Right p s (Clean p v) ls env → Right p s' (Clean p v') ls env
 right_weaken p s s' v v' [] env h f r = tt
@@ -20,6 +21,7 @@ right_weaken p s s' v v' (l ∷ ls) env h f r =
     down : s' ≤ commit_stage p l.mem → s ≤ commit_stage p l.mem
     down k = omega arith
 
+-- nothing is committed to m where neither a thread nor those behind it commit anything to m
 pub moved_quiet : (m : ℕ) (b : Bool) (xs ys : List Commit) → of_mem m xs ≡ [] → of_mem m ys ≡ [] → of_mem m (cond b (xs ++ ys) ys) ≡ []
 moved_quiet m true xs ys h k = of_mem_append m xs ys ∙ ap₂ (λ a b. a ++ b) h k
 moved_quiet m false xs ys h k = k
@@ -28,6 +30,7 @@ moved_quiet m false xs ys h k = k
 abbrev pub ends_one : Pipe → List Act → Bool
 ends_one p these = list_any (λ a. a.moves && is_none (exit_of p a)) these
 
+-- a cycle that commits the first of the uncommitted writes leaves commits and a rest that make up all writes
 pub words_step : (w past past' u d u' x : List Commit) → w ≡ past ++ u → u ≡ d ++ u' → past' ≡ past ++ (d ++ x) → x ≡ [] → w ≡ past' ++ u'
 words_step w past past' u d u' x e f g h =
     e ∙ ap (λ l. past ++ l) f ∙ sym (append_assoc past d u') ∙ ap (λ l. l ++ u') (sym (g ∙ ap (λ l. past ++ (d ++ l)) h ∙ ap (λ l. past ++ l) (append-nil d)))
@@ -43,6 +46,7 @@ now_moved past past' d a rest h now m =
     ∙ ap (λ l. past m ++ (d m ++ l)) (of_mem_append m a.work.commits (commits_of rest))
     ∙ ap (λ l. past m ++ l) (sym (append_assoc (d m) (of_mem m a.work.commits) (of_mem m (commits_of rest))))
 
+-- where the first thread stands, the commits of a cycle are those of the threads behind it
 pub now_stays : (past past' d : Writes) (a : Act) (rest : List Act) → a.moves ≡ false → Now past past' d (a ∷ rest) → Now past past' (λ m. d m ++ []) rest
 now_stays past past' d a rest h now m =
     now m ∙ ap (λ k. past m ++ (d m ++ of_mem m (cond k (a.work.commits ++ commits_of rest) (commits_of rest)))) h

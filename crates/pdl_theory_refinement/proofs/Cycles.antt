@@ -14,19 +14,20 @@ use Rattle.pdl_theory_derived.specs.Derived.{Work, Thread, State, Act, work_of_s
 use Rattle.pdl_theory_derived.specs.Alone.{so_far, thread_at}
 use Rattle.pdl_theory_derived.proofs.Writes.{and_left, and_right, wrote_append}
 use Rattle.pdl_theory_turns.proofs.Marks.{seen, strips, Later, later_more, later_strips, later_ready, raised_refl, seen_append, strips_append}
-use Rattle.pdl_theory_turns.proofs.Pending.{marks}
-use Rattle.pdl_theory_turns.proofs.Alike.{Right}
+use Rattle.pdl_theory_turns.proofs.UndoneWrites.{marks}
+use Rattle.pdl_theory_turns.proofs.Surroundings.{Right}
 use Rattle.pdl_theory_turns.proofs.TurnFacts.{next_of, next_at, blocked_at, right_guess, stage_work}
 use Rattle.pdl_theory_turns.proofs.Lives.{Writes, Marks, Clean, RowsAt}
 use Rattle.pdl_theory_refinement.proofs.Cycle.{right_weaken, words_step, Now, moved_quiet}
 use Rattle.pdl_theory_turns.proofs.Courses.{Course, AskOk, onward}
-use Rattle.pdl_theory_turns.proofs.Under.{Under, AllUnder, Stepped, all_low, all_grow, all_step, not_next, fresh_under}
-use Rattle.pdl_theory_derived.proofs.Answering.{apart_still, AllAsks, all_more, all_both, all_still, Out, new_out, all_out, or_ask, find_append, found, held_port, answers_caught}
+use Rattle.pdl_theory_turns.proofs.ThreadOrder.{Under, AllUnder, Stepped, all_low, all_grow, all_step, not_next, fresh_under}
+use Rattle.pdl_theory_derived.proofs.DelayedReads.{apart_still, AllAsks, all_more, all_both, all_still, Out, new_out, all_out, or_ask, find_append, found, held_port, answers_caught}
 use Rattle.pdl_theory_refinement.proofs.Spots.{Spot, seat, now_spot, Sure, Waits, Here, Standing, Behind, plain_clean, surrounds, words_right, whole_now}
 
 clash : false ≡ true → ⊥
 clash k = cc
 
+-- whether the first of these spots is past the last stage
 abbrev pub past_last : Pipe → List Spot → Bool
 past_last p [] = false
 past_last p (sp ∷ sps) = not (nat_lt sp.stage (length p.stages))
@@ -36,10 +37,10 @@ abbrev pub NowAsks : List Ask → (ℕ → Option ℕ) → List Act → Type 0
 NowAsks all older these = (m : ℕ) → find_ask all m ≡ or_ask (older m) (find_ask (asks_of these) m)
 
 -- the end of a chain of the four tests of a thread that moves
-pub moves_ready : (p : Pipe) (st : State) (bits : List Bool) (older : List Act) (t : Thread) → (act p st bits older t).moves ≡ true → (work_of_stage p (around p st bits older t.stage) (answered_thread p st bits t)).ready ≡ true
+moves_ready : (p : Pipe) (st : State) (bits : List Bool) (older : List Act) (t : Thread) → (act p st bits older t).moves ≡ true → (work_of_stage p (around p st bits older t.stage) (answered_thread p st bits t)).ready ≡ true
 moves_ready p st bits older t e = and_right _ _ (and_left _ _ (and_left _ _ e))
 
-pub moves_answered : (p : Pipe) (st : State) (bits : List Bool) (older : List Act) (t : Thread) → (act p st bits older t).moves ≡ true → is_empty (answered_thread p st bits t).awaits ≡ true
+moves_answered : (p : Pipe) (st : State) (bits : List Bool) (older : List Act) (t : Thread) → (act p st bits older t).moves ≡ true → is_empty (answered_thread p st bits t).awaits ≡ true
 moves_answered p st bits older t e = and_right _ _ (and_left _ _ e)
 
 -- where a turn stands after it moved from stage s

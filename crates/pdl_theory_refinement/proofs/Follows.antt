@@ -16,17 +16,17 @@ use Rattle.pdl_theory_facts.specs.Scans.{is_plain}
 use Rattle.pdl_theory_derived.proofs.Oldest.{oldest, Asked}
 use Rattle.pdl_theory_derived.proofs.Writes.{of_mem_append, row_committed, committed_append}
 use Rattle.pdl_theory_turns.proofs.Marks.{strips, later_none}
-use Rattle.pdl_theory_turns.proofs.Pending.{marks}
+use Rattle.pdl_theory_turns.proofs.UndoneWrites.{marks}
 use Rattle.pdl_theory_turns.proofs.TurnFacts.{right_guess}
 use Rattle.pdl_theory_turns.proofs.Lives.{Writes, Marks, RowsAt}
 use Rattle.pdl_theory_refinement.proofs.Cycle.{ends_one}
 use Rattle.pdl_theory_refinement.proofs.Refine.{writes_more, writes_add, longer}
 use Rattle.pdl_theory_turns.proofs.Courses.{Course}
-use Rattle.pdl_theory_turns.proofs.Under.{Under, AllUnder}
-use Rattle.pdl_theory_derived.proofs.Answering.{AllAsks, Out, requests_length}
+use Rattle.pdl_theory_turns.proofs.ThreadOrder.{Under, AllUnder}
+use Rattle.pdl_theory_derived.proofs.DelayedReads.{AllAsks, Out, requests_length}
 use Rattle.pdl_theory_refinement.proofs.Spots.{Spot, seat, seats, shown, is_nil, Here, Standing, Behind, Last, Tail}
 use Rattle.pdl_theory_refinement.proofs.Cycles.{start_spot, past_last, rows_next, born_standing, born_seat, not_self}
-use Rattle.pdl_theory_refinement.proofs.Turning.{Turned, turned}
+use Rattle.pdl_theory_refinement.proofs.ThreadCycle.{Turned, turned}
 
 -- a state of a run from this image in which n threads have ended and past was committed
 pub record Runs (p : Pipe) (acc : Course p) (image : Arrays) (n : ℕ) (past : List Commit) (st : State) : Type 0 where

@@ -1,7 +1,7 @@
 pub mod Spots
 pub mod Wander
 pub mod Cycles
-pub mod Turning
+pub mod ThreadCycle
 pub mod Follows
 pub mod Cycle
 pub mod Refine

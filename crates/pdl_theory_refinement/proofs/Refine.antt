@@ -14,6 +14,7 @@ writes_more p (suc k) arrays args =
     ∙ sym (append_assoc (thread p arrays args).writes (writes_from p k (thread p arrays args).arrays (thread p arrays args).next) _)
     ∙ ap₂ (λ a g. ((thread p arrays args).writes ++ writes_from p k (thread p arrays args).arrays (thread p arrays args).next) ++ (thread p a g).writes) (sym h.0) (sym h.1)
 
+-- the writes of k + j turns are those of k turns and then those of the j turns after them
 pub writes_add : (p : Pipe) (k j : ℕ) (arrays : Arrays) (args : List ℕ) → writes_from p (k + j) arrays args ≡ writes_from p k arrays args ++ writes_from p j (turn_at p arrays args k).arrays (turn_at p arrays args k).next
 writes_add p k zero arrays args = ap (λ n. writes_from p n arrays args) (add-zero k) ∙ sym (append-nil (writes_from p k arrays args))
 writes_add p k (suc j) arrays args =
@@ -22,6 +23,7 @@ writes_add p k (suc j) arrays args =
     ∙ ap (λ l. l ++ writes_from p j (turn_at p arrays args (suc k)).arrays (turn_at p arrays args (suc k)).next) (writes_more p k arrays args)
     ∙ append_assoc (writes_from p k arrays args) _ _
 
+-- the writes to m of fewer turns are a prefix of those of more
 pub longer : (p : Pipe) (m n j k : ℕ) (image : Arrays) (args : List ℕ) → j ≤ k → (rest : List Commit) × (of_mem m (writes_from p (n + j) image args) ++ rest ≡ of_mem m (writes_from p (n + k) image args))
 longer p m n j k image args h = (
   of_mem m (writes_from p (k - j) (turn_at p image args (n + j)).arrays (turn_at p image args (n + j)).next),

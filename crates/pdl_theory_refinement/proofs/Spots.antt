@@ -14,14 +14,14 @@ use Rattle.pdl_theory_derived.specs.Alone.{so_far, thread_at}
 use Rattle.pdl_theory_derived.proofs.Writes.{wrote_append}
 use Rattle.pdl_theory_facts.specs.Scans.{is_plain}
 use Rattle.pdl_theory_turns.proofs.Marks.{seen, strips, Later, ready_value}
-use Rattle.pdl_theory_turns.proofs.Pending.{marks}
-use Rattle.pdl_theory_turns.proofs.Alike.{Surrounds, Right}
+use Rattle.pdl_theory_turns.proofs.UndoneWrites.{marks}
+use Rattle.pdl_theory_turns.proofs.Surroundings.{Surrounds, Right}
 use Rattle.pdl_theory_turns.proofs.TurnFacts.{Below, blocked_at, right_guess, next_of}
 use Rattle.pdl_theory_turns.proofs.Lives.{Writes, Marks, Clean, RowsAt, nobody}
 use Rattle.pdl_theory_turns.proofs.Courses.{Course}
 use Rattle.pdl_theory_facts.specs.Facts.{is_exact}
-use Rattle.pdl_theory_turns.proofs.Under.{Under, AllUnder, Moves, all_low}
-use Rattle.pdl_theory_derived.proofs.Answering.{caught, still_asks, still_awaited, none_awaited, Apart, AllAsks, all_more, all_both, Out, RightWord, answers_caught}
+use Rattle.pdl_theory_turns.proofs.ThreadOrder.{Under, AllUnder, Moves, all_low}
+use Rattle.pdl_theory_derived.proofs.DelayedReads.{caught, still_asks, still_awaited, none_awaited, Apart, AllAsks, all_more, all_both, Out, RightWord, answers_caught}
 
 -- where a thread stands, its values, and the requests whose answers it awaits
 pub record Spot : Type 0 where
@@ -52,6 +52,7 @@ shown p arrays args (sp ∷ sps) =
     (if nat_lt sp.stage (length p.stages) then seat p arrays args sp ∷ [] else [])
     ++ shown p (thread p arrays args).arrays (thread p arrays args).next sps
 
+-- there is no spot
 abbrev pub is_nil : List Spot → Bool
 is_nil [] = true
 is_nil (sp ∷ sps) = false
@@ -60,6 +61,7 @@ is_nil (sp ∷ sps) = false
 abbrev pub now_spot : Pipe → State → List Bool → Spot → Spot
 now_spot p st bits sp = record { stage = sp.stage; env = with_answers p st bits (awaited_of sp.asks) sp.env; asks = still_asks p bits sp.asks }
 
+-- the thread of a turn on a spot, with this cycle's answers, is its thread on the spot with them
 pub now_seat : (p : Pipe) (st : State) (bits : List Bool) (arrays : Arrays) (args : List ℕ) (sp : Spot) → answered_thread p st bits (seat p arrays args sp) ≡ seat p arrays args (now_spot p st bits sp)
 now_seat p st bits arrays args sp =
     ap (λ l. record {
@@ -95,6 +97,7 @@ pub record Here (p : Pipe) (acc : Course p) (asked : List (Option ℕ)) (past w 
   pub linked : right_guess (so_far p arrays args sp.stage).child (thread p arrays args).next ≡ not last
   pub waits : Waits p acc asked v arrays args sp
 
+-- each spot is as `Here` says, and the commits with all undone writes are the writes of the turns
 abbrev pub Standing : (p : Pipe) → Course p → List (Option ℕ) → Writes → Writes → Marks → Arrays → List ℕ → List ℕ → List Spot → Type 0
 Standing p acc asked past w v arrays args ahead [] = (m : ℕ) → w m ≡ past m ++ strips m (v m)
 Standing p acc asked past w v arrays args ahead (sp ∷ sps) =
@@ -110,6 +113,7 @@ pub record Behind (p : Pipe) (acc : Course p) (older : List Act) (v v' : Marks) 
   pub moves : Moves p older ahead ahead'
   pub asked : (m r : ℕ) → AllUnder p ahead r → is_some (asks m) ≡ true → Under p (acc.fetch m) r
 
+-- a read of a memory without lock is ready
 pub plain_clean : (p : Pipe) (v : Marks) (m a : ℕ) → is_plain (mem_at p m).lock ≡ true → Clean p v m a
 plain_clean p v m a h = plain_ready (mem_at p m).lock _ h
 
@@ -180,6 +184,7 @@ abbrev pub Last : (p : Pipe) → (Thread → Type 0) → (Thread → Bool) → �
 Last p stray made s None strays = strays ≡ []
 Last p stray made s (Some x) strays = Strays p stray made s strays
 
+-- the threads behind those of these turns are strays, none if the last one has made no successor
 abbrev pub Tail : (p : Pipe) → (Thread → Type 0) → (Thread → Bool) → Arrays → List ℕ → List Spot → List Thread → Type 0
 Tail p stray made arrays args [] strays = strays ≡ []
 Tail p stray made arrays args (sp ∷ []) strays = Last p stray made sp.stage (so_far p arrays args sp.stage).child strays

@@ -17,12 +17,13 @@ use Rattle.pdl_theory_derived.proofs.Writes.{and_left, and_right}
 use Rattle.pdl_theory_derived.proofs.Entries.{entries_of}
 use Rattle.pdl_theory_derived.proofs.Deeds.{Told, Fits, AllFit, told_all}
 use Rattle.pdl_theory_derived.proofs.Lists.{pend}
-use Rattle.pdl_theory_turns.proofs.Own.{Worked}
+use Rattle.pdl_theory_turns.proofs.OwnEntries.{Worked}
 use Rattle.pdl_theory_simulation.proofs.Stretches.{Keeps, Fetched, AllFetched, AsksFrom, asks_from, start_deeds, start_of, keeps_answered, stage_worked, ends_empty, late_empty}
 use Rattle.pdl_theory_simulation.proofs.Seats.{Live, seat, Falls, dacts, lacts, lact, did, now_of, work_of_live, deeds_of}
 use Rattle.pdl_theory_turns.proofs.OfStage.{none_stage}
 use Rattle.pdl_semantics.specs.Sound.{is_delayed_read}
 use Rattle.pdl_word.specs.Each.{Each}
+use Rattle.pdl_semantics.proofs.Facts.{kept_append}
 
 -- REQUESTS
 
@@ -46,11 +47,12 @@ owner_of (Orphan a) = 0
 abbrev pub OwnedBy : State → ℕ → ℕ → Type 0
 OwnedBy st n m = (a : ℕ) × (request_of st m ≡ Owned n a)
 
+-- each of these awaited reads has a request that thread n owns
 abbrev pub AllOwned : State → ℕ → List Awaited → Type 0
 AllOwned st n [] = Unit {0}
 AllOwned st n (r ∷ rs) = OwnedBy st n r.mem × AllOwned st n rs
 
-pub owned_of : (st : State) (n m : ℕ) (rs : List Awaited) → AllOwned st n rs → awaits_mem rs m ≡ true → OwnedBy st n m
+owned_of : (st : State) (n m : ℕ) (rs : List Awaited) → AllOwned st n rs → awaits_mem rs m ≡ true → OwnedBy st n m
 owned_of st n m [] o h = absurd (cc h)
 owned_of st n m (r ∷ rs) o h = at (r.mem == m) refl h (λ k. owned_of st n m rs o.1 k)
   where
@@ -58,6 +60,7 @@ owned_of st n m (r ∷ rs) o h = at (r.mem == m) refl h (λ k. owned_of st n m r
     at true e k f = subst (λ j. OwnedBy st n j) (eqb-true r.mem m e) o.0
     at false e k f = f k
 
+-- a memory that is awaited is read in the stage before, where each awaited one is
 pub fetched_of : (p : Pipe) (s m : ℕ) (rs : List Awaited) → AllFetched p s rs → awaits_mem rs m ≡ true → Fetched p s m
 fetched_of p s m [] o h = absurd (cc h)
 fetched_of p s m (r ∷ rs) o h = at (r.mem == m) refl h (λ k. fetched_of p s m rs o.1 k)
@@ -92,10 +95,6 @@ one_stage test (x ∷ xs) j k h f g = at (test x.op) refl h (λ i. one_stage tes
     at : (b : Bool) → test x.op ≡ b → (if b then none_of test xs else at_most_one test xs) ≡ true → (at_most_one test xs ≡ true → none_of test (in_stage j xs) ≡ false → none_of test (in_stage k xs) ≡ false → j ≡ k) → j ≡ k
     at true e n r = sym (mine j n f) ∙ mine k n g
     at false e n r = r n (skip j e f) (skip k e g)
-
-kept_append : (xs ys : List Kept) (env : List ℕ) → with_kept (xs ++ ys) env ≡ with_kept ys (with_kept xs env)
-kept_append [] ys env = refl
-kept_append (x ∷ xs) ys env = kept_append xs ys (slice_set env x.var x.word)
 
 -- a live thread keeps to its way, its kept answers are in the derived machine's values, and it owns its requests
 pub record Seated (p : Pipe) (st : State) (l : Live) : Type 0 where

@@ -53,6 +53,7 @@ uses_ok m ph (x ∷ xs) = use_ok m ph x.op && uses_ok m (next_phase m ph x.op) x
 abbrev pub call_ok : Bool → Op → Bool
 call_ok been op = not (been && is_call op) && (been || not (is_verify op))
 
+-- these statements call no second thread, and each verify among them follows the call
 abbrev pub calls_ok : Bool → List Stmt → Bool
 calls_ok been [] = true
 calls_ok been (x ∷ xs) = call_ok been x.op && calls_ok (been || is_call x.op) xs

@@ -30,10 +30,12 @@ abbrev pub find : ℕ → List Live → Option Machine.Thread
 find q [] = None
 find q (l ∷ ls) = if l.thread.stage == q then Some (seat l) else find q ls
 
+-- the live threads as those of the derived machine
 abbrev pub threads_of : List Live → List Derived.Thread
 threads_of [] = []
 threads_of (l ∷ ls) = l.thread ∷ threads_of ls
 
+-- what follows from a property holds of each of these live threads, where the property does
 pub each_map : {A B : Live → Type 0} → ((l : Live) → A l → B l) → (ls : List Live) → Each A ls → Each B ls
 each_map f [] h = tt
 each_map f (l ∷ ls) h = (f l h.0, each_map f ls h.1)
@@ -55,20 +57,24 @@ abbrev pub Falls : ℕ → List Live → Type 0
 Falls bound [] = Unit {0}
 Falls bound (l ∷ ls) = (l.number < bound) × Falls l.number ls
 
+-- numbers that fall from below k fall from below each greater number too
 pub falls_up : (k n : ℕ) (ls : List Live) → k ≤ n → Falls k ls → Falls n ls
 falls_up k n [] h f = tt
 falls_up k n (l ∷ ls) h f = (let i = f.0 in omega arith, f.1)
 
+-- numbers that fall from below n are all below n
 pub falls_each : (n : ℕ) (ls : List Live) → Falls n ls → Each (λ k. k.number < n) ls
 falls_each n [] f = tt
 falls_each n (l ∷ ls) f = (f.0, falls_each n ls (falls_up l.number n ls (let i = f.0 in omega arith) f.1))
 
 -- ACTS
 
+-- what each live thread does in the stated machine, the youngest first
 abbrev pub sacts : Pipe → State → List Bool → List Live → List Moves.Act
 sacts p st bits [] = []
 sacts p st bits (l ∷ ls) = Moves.act p st bits (sacts p st bits ls) l.thread.stage (with_answers p st bits (seat l)) ∷ sacts p st bits ls
 
+-- what each live thread does in the derived machine, the youngest first
 abbrev pub dacts : Pipe → Derived.State → List Bool → List Live → List Derived.Act
 dacts p d bits [] = []
 dacts p d bits (l ∷ ls) = Derived.act p d bits (dacts p d bits ls) l.thread ∷ dacts p d bits ls
@@ -77,12 +83,15 @@ dacts p d bits (l ∷ ls) = Derived.act p d bits (dacts p d bits ls) l.thread �
 abbrev pub did : Pipe → Derived.State → List Bool → List Live → Live → Derived.Act
 did p d bits ls l = Derived.act p d bits (dacts p d bits ls) l.thread
 
+-- the thread of the derived machine with this cycle's answers
 abbrev pub now_of : Pipe → Derived.State → List Bool → Live → Derived.Thread
 now_of p d bits l = Derived.answered_thread p d bits l.thread
 
+-- the work of a live thread's stage in the derived machine, behind these older ones
 abbrev pub work_of_live : Pipe → Derived.State → List Bool → List Live → Live → Work
 work_of_live p d bits ls l = work_of_stage p (around p d bits (dacts p d bits ls) l.thread.stage) (Derived.answered_thread p d bits l.thread)
 
+-- the deeds of a live thread's stage in the stated machine
 abbrev pub deeds_of : Pipe → State → List Bool → Live → Deeds
 deeds_of p st bits l = Machine.deeds p st l.thread.stage (with_answers p st bits (seat l))
 
@@ -96,20 +105,24 @@ lact p st d bits ls l =
       moves = (did p d bits ls l).moves;
     }
 
+-- the stated acts of these threads, as the derived machine decides them
 abbrev pub lacts : Pipe → State → Derived.State → List Bool → List Live → List Moves.Act
 lacts p st d bits [] = []
 lacts p st d bits (l ∷ ls) = lact p st d bits ls l ∷ lacts p st d bits ls
 
+-- what the threads do in the derived machine is done by them as they stood at the start
 pub befores_are : (p : Pipe) (d : Derived.State) (bits : List Bool) (ls : List Live) → befores (dacts p d bits ls) ≡ threads_of ls
 befores_are p d bits [] = refl
 befores_are p d bits (l ∷ ls) = ap (λ ts. l.thread ∷ ts) (befores_are p d bits ls)
 
+-- nobody stands in a stage before the one from which on the threads' stages rise
 pub find_none : (lo hi q : ℕ) (ls : List Live) → Rises lo hi ls → q < lo → find q ls ≡ None
 find_none lo hi q [] r h = refl
 find_none lo hi q (l ∷ ls) r h =
     ap (λ b. cond b (Some (seat l)) (find q ls)) (ne_eqb l.thread.stage q (λ e. absurd (omega arith)))
     ∙ find_none (suc l.thread.stage) hi q ls r.2 (let k = r.0 in omega arith)
 
+-- stages that rise from one on in which nobody stands rise from the next one on
 pub rises_from : (lo lo' hi : ℕ) (ls : List Live) → Rises lo hi ls → find lo ls ≡ None → lo' ≡ suc lo → Rises lo' hi ls
 rises_from lo lo' hi [] r h e = tt
 rises_from lo lo' hi (l ∷ ls) r h e = (below (l.thread.stage == lo) refl, r.1, r.2)
@@ -121,6 +134,7 @@ rises_from lo lo' hi (l ∷ ls) r h e = (below (l.thread.stage == lo) refl, r.1,
         not_some e = cc
     below false k = let n = eqb-false l.thread.stage lo k in let j = r.0 in omega arith
 
+-- stages that rise below a bound rise below an equal one
 pub rises_hi : (lo hi hi' : ℕ) (ls : List Live) → hi ≡ hi' → Rises lo hi ls → Rises lo hi' ls
 rises_hi lo hi hi' ls e r = subst (λ h. Rises lo h ls) e r
 
@@ -180,10 +194,12 @@ abbrev pub pends : ℕ → List Live → List Pending
 pends m [] = []
 pends m (l ∷ ls) = pends m ls ++ pend m l.number l.thread.entries
 
+-- a lock's list of two lists of threads is that of the second, the older ones, and then that of the first
 pub pends_append : (m : ℕ) (xs ys : List Live) → pends m (xs ++ ys) ≡ pends m ys ++ pends m xs
 pends_append m [] ys = sym (append-nil (pends m ys))
 pends_append m (x ∷ xs) ys = ap (λ l. l ++ pend m x.number x.thread.entries) (pends_append m xs ys) ∙ append_assoc (pends m ys) (pends m xs) _
 
+-- what a thread finds in a lock's list of older threads is the latest of their pending writes
 pub youngest_all : (m n a : ℕ) (ls : List Live) → Falls n ls → youngest (pends m ls) n a Nothing ≡ latest (threads_of ls) m a
 youngest_all m n a [] h = refl
 youngest_all m n a (l ∷ ls) h =
@@ -191,6 +207,7 @@ youngest_all m n a (l ∷ ls) h =
     ∙ youngest_older m l.number n a l.thread.entries _ (lt-ltb _ _ h.0)
     ∙ ap (latest_in l.thread.entries m a) (youngest_all m n a ls (falls_up l.number n ls (let i = h.0 in omega arith) h.1))
 
+-- a lock's list is as long as writes of its threads are pending
 pub length_pends : (m : ℕ) (ls : List Live) → length (pends m ls) ≡ pending (threads_of ls) m
 length_pends m [] = refl
 length_pends m (l ∷ ls) = length-append (pends m ls) _ ∙ ap₂ (λ a b. a + b) (length_pends m ls) (length_pend m l.number l.thread.entries) ∙ flip (pending (threads_of ls) m) (count_in l.thread.entries m)

@@ -16,7 +16,7 @@ use Rattle.pdl_theory_turns.proofs.Paths.{Fixed, all_stays, taken_stays}
 use Rattle.pdl_theory_derived.proofs.Deeds.{places, places_without, places_filled}
 use Rattle.pdl_theory_derived.proofs.Lists.{pend}
 use Rattle.pdl_theory_turns.proofs.Steps.{Staged}
-use Rattle.pdl_theory_turns.proofs.Own.{pend_own, pend_one}
+use Rattle.pdl_theory_turns.proofs.OwnEntries.{pend_own, pend_one}
 
 -- SHAPES
 
@@ -27,6 +27,7 @@ Shape m (Held x) es = (a : ℕ) × (es ≡ entry m x a None ∷ [])
 Shape m (Written x) es = (a : ℕ) × (v : ℕ) × (es ≡ entry m x a (Some v) ∷ [])
 Shape m Done es = es ≡ []
 
+-- a thread whose write to m isn't begun, or is done, has no pending write of m
 pub shape_over : (m : ℕ) (ph : Phase) (es : List Entry) → is_over ph ≡ true → Shape m ph es → es ≡ []
 shape_over m Fresh es h s = s
 shape_over m (Held x) es h s = absurd (cc h)
@@ -57,18 +58,22 @@ pub uses_back : (m : ℕ) (xs ys : List Stmt) (ph : Phase) → uses_ok m ph (xs 
 uses_back m [] ys ph h = h
 uses_back m (x ∷ xs) ys ph h = uses_back m xs ys (next_phase m ph x.op) (and_right _ _ h)
 
+-- whether two lists of statements call the next thread is told by the first and then the second
 pub called_append : (c : Bool) (xs ys : List Stmt) → called c (xs ++ ys) ≡ called (called c xs) ys
 called_append c [] ys = refl
 called_append c (x ∷ xs) ys = called_append (c || is_call x.op) xs ys
 
+-- calls are in order in a first part of statements where they are in all of them
 pub calls_front : (c : Bool) (xs ys : List Stmt) → calls_ok c (xs ++ ys) ≡ true → calls_ok c xs ≡ true
 calls_front c [] ys h = refl
 calls_front c (x ∷ xs) ys h = ap₂ (λ a b. a && b) (and_left _ _ h) (calls_front (c || is_call x.op) xs ys (and_right _ _ h))
 
+-- calls are in order in a second part of statements, after the first, where they are in all of them
 pub calls_back : (c : Bool) (xs ys : List Stmt) → calls_ok c (xs ++ ys) ≡ true → calls_ok (called c xs) ys ≡ true
 calls_back c [] ys h = h
 calls_back c (x ∷ xs) ys h = calls_back (c || is_call x.op) xs ys (and_right _ _ h)
 
+-- a kind of which there is no statement has none before a stage
 pub none_before : (test : Op → Bool) (s : ℕ) (xs : List Stmt) → none_of test xs ≡ true → none_of test (stages_before s xs) ≡ true
 none_before test s [] h = refl
 none_before test s (x ∷ xs) h = at (nat_lt x.stage s) (none_before test s xs (and_right _ _ h))
@@ -143,6 +148,7 @@ stuck m (Release k a) ph h r = at (k == m) r
     at false e = h
 stuck m _ ph h r = h
 
+-- a write that isn't under way after statements wasn't before them, where none of them releases m
 pub over_early : (m : ℕ) (xs : List Stmt) (ph : Phase) → none_of (is_release m) xs ≡ true → is_over (phase_all m ph xs) ≡ true → is_over ph ≡ true
 over_early m [] ph h k = k
 over_early m (x ∷ xs) ph h k = at (is_over ph) refl (over_early m xs (next_phase m ph x.op) (and_right _ _ h) k)
@@ -158,10 +164,12 @@ abbrev pub held_ops : List Stmt → List HeldLocation → List HeldLocation
 held_ops [] ls = ls
 held_ops (x ∷ xs) ls = held_ops xs (held_after x.op ls)
 
+-- the locations held after two lists of statements are those after the one and then the other
 pub held_append : (xs ys : List Stmt) (ls : List HeldLocation) → held_ops (xs ++ ys) ls ≡ held_ops ys (held_ops xs ls)
 held_append [] ys ls = refl
 held_append (x ∷ xs) ys ls = held_append xs ys (held_after x.op ls)
 
+-- the locations held on a path before stage s are those after its statements before s
 pub held_path : (s : ℕ) (path : List ℕ) (xs : List Stmt) (ls : List HeldLocation) → held_before s path xs ls ≡ held_ops (onpath path (stages_before s xs)) ls
 held_path s path [] ls = refl
 held_path s path (x ∷ xs) ls = at (nat_lt x.stage s) (all_hold x.guards path) refl (held_path s path xs ls) (held_path s path xs (held_after x.op ls))
@@ -182,6 +190,7 @@ held_op o (Verify args) w = at (same_args (values_of args w.env) w.guess)
     at false = refl
 held_op o _ w = refl
 
+-- the locations of the pending writes after statements are those held after the ones on the path
 pub held_work : (path : List ℕ) (o : Around) (xs : List Stmt) (w : Work) → Fixed path o xs w → places (do_all o xs w).entries ≡ held_ops (onpath path xs) (places w.entries)
 held_work path o [] w f = refl
 held_work path o (x ∷ xs) w f = held_work path o xs (step o x w) f.1 ∙ at (all_hold x.guards w.env) (all_hold x.guards path) f.0

@@ -19,9 +19,9 @@ use Rattle.pdl_theory_turns.proofs.Paths.{Fixed, none_onpath}
 use Rattle.pdl_theory_derived.proofs.Deeds.{places, places_has, work_of, AllFit, told_step}
 use Rattle.pdl_theory_derived.proofs.Lists.{pend}
 use Rattle.pdl_theory_turns.proofs.Steps.{Here, step_write, step_reserve, step_release}
-use Rattle.pdl_theory_turns.proofs.Own.{Worked, worked}
+use Rattle.pdl_theory_turns.proofs.OwnEntries.{Worked, worked}
 use Rattle.pdl_theory_simulation.proofs.Shapes.{Shape, shape_over, shape_start, shape_end, uses_front, uses_back, called_append, calls_front, calls_back, none_before, none_till, fixed_to, stays_fresh, over_early, held_ops, held_append, held_path, held_work}
-use Rattle.pdl_theory_turns.proofs.Pending.{phase_append}
+use Rattle.pdl_theory_turns.proofs.UndoneWrites.{phase_append}
 use Rattle.pdl_theory_turns.proofs.OfStage.{fixed_stage}
 use Rattle.pdl_theory_turns.proofs.Turn.{none_from}
 
@@ -156,6 +156,7 @@ op_from all o (Verify args) w f h = at (same_args (values_of args w.env) w.guess
     at false = h
 op_from all o _ w f h = h
 
+-- statements ask only for memories that statements of the stage read delayed
 pub asks_from : (all : List Stmt) (o : Around) (xs : List Stmt) (w : Work) → ((m : ℕ) → none_of (is_delayed_read m) xs ≡ false → none_of (is_delayed_read m) all ≡ false) → AsksFrom all w.asks → AsksFrom all (do_all o xs w).asks
 asks_from all o [] w f h = h
 asks_from all o (x ∷ xs) w f h = asks_from all o xs (step o x w) (λ m k. f m (more (not (is_delayed_read m x.op)) k)) (at (all_hold x.guards w.env))
@@ -241,7 +242,7 @@ abbrev pub on_way : Pipe → List ℕ → ℕ → List Stmt
 on_way p path s = onpath path (stages_before s p.stmts)
 
 -- values that differ at most in awaited variables
-abbrev pub Unlike : List Awaited → List ℕ → List ℕ → Type 0
+abbrev Unlike : List Awaited → List ℕ → List ℕ → Type 0
 Unlike rs env env' = (g : ℕ) → awaits_var rs g ≡ false → slice_index env g ≡ slice_index env' g
 
 -- stage s stands after stage b: each trunk stage that was reached from s on was left from b on, and in one branch s is the smaller
@@ -268,6 +269,7 @@ not_behind p g k s l h = at (stage_at p s).branch refl
 abbrev pub Fetched : Pipe → ℕ → ℕ → Type 0
 Fetched p s m = (k : ℕ) × Leads p k s × (none_of (is_delayed_read m) (in_stage k p.stmts) ≡ false)
 
+-- each of these awaited memories is read in the stage before
 abbrev pub AllFetched : Pipe → ℕ → List Awaited → Type 0
 AllFetched p s [] = Unit {0}
 AllFetched p s (r ∷ rs) = Fetched p s r.mem × AllFetched p s rs

@@ -10,22 +10,22 @@ use Rattle.pdl_theory_derived.specs.Derived.{latest}
 use Rattle.pdl_theory_derived.specs.Derived
 use Rattle.pdl_theory_facts.specs.Facts.{Sound}
 use Rattle.pdl_theory_turns.proofs.CourseOf
-use Rattle.pdl_theory_simulation.proofs.Joined.{sound_flows}
+use Rattle.pdl_theory_simulation.proofs.AcceptedFacts.{sound_flows}
 use Rattle.pdl_theory_derived.proofs.Lists.{pend}
 use Rattle.pdl_theory_simulation.proofs.Stretches.{Behind, on_way}
 use Rattle.pdl_theory_simulation.proofs.Seats.{Live, each_map, Ordered, Falls, falls_each, pends, befores_are}
 use Rattle.pdl_theory_simulation.proofs.Choices.{AllKnown, Seated, Matched}
-use Rattle.pdl_theory_simulation.proofs.Telling.{sides}
-use Rattle.pdl_theory_simulation.proofs.Together.{known}
+use Rattle.pdl_theory_simulation.proofs.ThreadFacts.{sides}
+use Rattle.pdl_theory_simulation.proofs.WholeSimulation.{known}
 use Rattle.pdl_theory_states.proofs.OldestFirst.{told, oldest_first, live_is, all_each, Pairwise, pairs_all}
 use Rattle.pdl_theory_states.proofs.Stage.{barred}
-use Rattle.pdl_theory_states.proofs.Lasting.{Lasting, Along}
-use Rattle.pdl_theory_states.proofs.Reached.{Whole, Youngest}
+use Rattle.pdl_theory_states.proofs.ThreadFacts.{Lasting, Along}
+use Rattle.pdl_theory_states.proofs.ReachedStates.{Whole, Youngest}
 use Rattle.pdl_theory_states.proofs.Order.{behind_is, sides_are, sides_same, from_all}
 use Rattle.pdl_theory_states.proofs.Points.{chain, asks_point, owner_any, blocks_point, path_point, any_onto, both_true}
-use Rattle.pdl_theory_states.proofs.Local.{any_append, any_front}
+use Rattle.pdl_theory_states.proofs.ThreadHistory.{any_append, any_front}
 use Rattle.pdl_word.specs.Each.{Each}
-use Rattle.pdl_theory_simulation.proofs.Simulated.{HaveMade, Sim}
+use Rattle.pdl_theory_simulation.proofs.SimulatedStates.{HaveMade, Sim}
 
 module _ (p : Pipe) (sound : Sound p) (st : State) (d : Derived.State) (ls : List Live) (sim : Sim p st d ls) (whole : Whole p st ls) where
   pub live_here : live st ≡ oldest_first ls

@@ -19,22 +19,22 @@ use Rattle.pdl_semantics.specs.Sequential.{after_turns, writes_from, seqwrites}
 use Rattle.pdl_semantics.specs.Sound.{Follower, followers, followers_of, strays, strays_of, follows_values, pending_right, right_entries, released_by, has_released, still_looks, all_below, arrays_right, is_sound}
 use Rattle.pdl_semantics.specs.Flat.{of_mem, Commit}
 use Rattle.pdl_theory_derived.proofs.Writes.{row_committed}
-use Rattle.pdl_theory_simulation.proofs.Joined.{sound_flows}
-use Rattle.pdl_theory_simulation.proofs.Carried.{ended_same}
-use Rattle.pdl_theory_simulation.proofs.Together.{same_turns}
+use Rattle.pdl_theory_simulation.proofs.AcceptedFacts.{sound_flows}
+use Rattle.pdl_theory_simulation.proofs.CarriedTheorems.{ended_same}
+use Rattle.pdl_theory_simulation.proofs.WholeSimulation.{same_turns}
 use Rattle.pdl_theory_turns.proofs.Lives.{RowsAt}
 use Rattle.pdl_theory_simulation.proofs.Choices.{Seated}
 use Rattle.pdl_semantics.specs.Promises.{row, wrote}
 use Rattle.pdl_theory_states.specs.Strict.{Strict}
-use Rattle.pdl_theory_states.proofs.Reached.{Whole, reached}
-use Rattle.pdl_theory_states.proofs.Mine.{Mine, each_mine}
+use Rattle.pdl_theory_states.proofs.ReachedStates.{Whole, reached}
+use Rattle.pdl_theory_states.proofs.OwnEntries.{Mine, each_mine}
 use Rattle.pdl_theory_states.proofs.Followers.{tells, oldest_tells, threads_back, each_back, Good, AllGood, walk, values_good, asks_good, right_good, good_all}
 use Rattle.pdl_theory_states.proofs.Order.{from_all}
 use Rattle.pdl_theory_states.proofs.TurnByTurn.{lined, behind, parted, past_is, pairs_good, strays_good}
 use Rattle.pdl_theory_states.proofs.Holders.{holders_same, holders_point}
 use Rattle.pdl_theory_states.proofs.AllThreads.{live_here, order_point, chain_point, certain_point, requests_point, owners_point, ready_point, paths_point}
 use Rattle.pdl_word.specs.Each.{Each}
-use Rattle.pdl_theory_simulation.proofs.Simulated.{Sim}
+use Rattle.pdl_theory_simulation.proofs.SimulatedStates.{Sim}
 
 true_is : (b : Bool) → b ≡ true → IsTrue b
 true_is b h = h

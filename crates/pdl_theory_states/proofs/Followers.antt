@@ -18,37 +18,38 @@ use Rattle.pdl_theory_derived.specs.Alone.{so_far}
 use Rattle.pdl_theory_facts.specs.Scans.{is_plain}
 use Rattle.pdl_theory_facts.specs.Facts.{Sound, at_once}
 use Rattle.pdl_theory_derived.proofs.Writes.{wrote_append}
-use Rattle.pdl_theory_turns.proofs.Whole
+use Rattle.pdl_theory_turns.proofs.TurnPath
 use Rattle.pdl_theory_refinement.proofs.Spots
 use Rattle.pdl_theory_derived.proofs.Slots.{rev}
 use Rattle.pdl_theory_turns.proofs.Guesses.{same_args_refl}
 use Rattle.pdl_theory_turns.proofs.Marks.{seen, strips, ready_value}
-use Rattle.pdl_theory_turns.proofs.Pending.{marks}
+use Rattle.pdl_theory_turns.proofs.UndoneWrites.{marks}
 use Rattle.pdl_theory_turns.proofs.TurnFacts.{right_guess}
-use Rattle.pdl_theory_derived.proofs.Answering.{AllAsks, caught}
-use Rattle.pdl_theory_turns.proofs.Sounds.{caught_other}
+use Rattle.pdl_theory_derived.proofs.DelayedReads.{AllAsks, caught}
+use Rattle.pdl_theory_turns.proofs.StageFacts.{caught_other}
 use Rattle.pdl_theory_turns.proofs.CourseOf.{course}
 use Rattle.pdl_theory_turns.proofs.Lives.{Writes, Marks, RowsAt}
 use Rattle.pdl_theory_refinement.proofs.Cycles.{rows_next}
 use Rattle.pdl_theory_refinement.proofs.Spots.{Spot, seats, Sure, Here, Standing, Tail, Last}
 use Rattle.pdl_semantics.proofs.Readiness.{exact_none}
-use Rattle.pdl_theory_simulation.proofs.Joined.{sound_flows}
+use Rattle.pdl_theory_simulation.proofs.AcceptedFacts.{sound_flows}
 use Rattle.pdl_theory_derived.proofs.Entries.{entries_of}
 use Rattle.pdl_theory_derived.proofs.Lists.{own, pend}
-use Rattle.pdl_theory_turns.proofs.Own.{pend_own}
+use Rattle.pdl_theory_turns.proofs.OwnEntries.{pend_own}
 use Rattle.pdl_theory_simulation.proofs.Stretches.{on_way, awaits_var, early}
 use Rattle.pdl_theory_simulation.proofs.Seats.{Live, seat, threads_of}
 use Rattle.pdl_theory_simulation.proofs.Choices.{Seated, Matched, OwnedBy, AllOwned}
 use Rattle.pdl_theory_states.proofs.OldestFirst.{told, oldest_first}
-use Rattle.pdl_theory_states.proofs.Past.{AllOps, AnyOp, ops_both, any_both, onto, touches, AskedBy}
-use Rattle.pdl_theory_states.proofs.Local.{AnyAsk, AllKept, AllAwaited, any_of, past_of, kept_other, kept_map}
-use Rattle.pdl_theory_states.proofs.Lasting.{awaited_map, any_ask_map}
+use Rattle.pdl_theory_states.proofs.PastStatements.{AllOps, AnyOp, ops_both, any_both, onto, touches, AskedBy}
+use Rattle.pdl_theory_states.proofs.ThreadHistory.{AnyAsk, AllKept, AllAwaited, any_of, past_of, kept_other, kept_map}
+use Rattle.pdl_theory_states.proofs.ThreadFacts.{awaited_map, any_ask_map}
 use Rattle.pdl_theory_states.proofs.Points.{onto_any}
-use Rattle.pdl_theory_states.proofs.Mine.{Mine, of_thread, all_append}
-use Rattle.pdl_theory_states.proofs.OnTurn.{AllEntries, turn_way, turn_env, turn_entries, turn_guess, turn_wrong}
+use Rattle.pdl_theory_states.proofs.OwnEntries.{Mine, of_thread, all_append}
+use Rattle.pdl_theory_states.proofs.TurnThreads.{AllEntries, turn_way, turn_env, turn_entries, turn_guess, turn_wrong}
 use Rattle.pdl_word.specs.Each.{Each}
 use Rattle.pdl_word.proofs.Each.{each_push}
 
+-- these live threads as the tests of Sound state see them
 abbrev pub tells : List Live → List Sound.Live
 tells [] = []
 tells (l ∷ ls) = told l ∷ tells ls
@@ -57,6 +58,7 @@ tells_append : (xs : List Live) (l : Live) → tells (xs ++ l ∷ []) ≡ tells 
 tells_append [] l = refl
 tells_append (x ∷ xs) l = ap (λ k. told x ∷ k) (tells_append xs l)
 
+-- the threads that the tests of Sound state see, oldest first, are the live ones in that order
 pub oldest_tells : (ls : List Live) → oldest_first ls ≡ tells (rev ls)
 oldest_tells [] = refl
 oldest_tells (l ∷ ls) = ap (λ k. k ++ told l ∷ []) (oldest_tells ls) ∙ sym (tells_append (rev ls) l)
@@ -65,10 +67,12 @@ threads_snoc : (xs : List Live) (l : Live) → threads_of (xs ++ l ∷ []) ≡ t
 threads_snoc [] l = refl
 threads_snoc (x ∷ xs) l = ap (λ k. x.thread ∷ k) (threads_snoc xs l)
 
+-- the threads of the derived machine, oldest first, are those of the live ones in that order
 pub threads_back : (ls : List Live) → rev (threads_of ls) ≡ threads_of (rev ls)
 threads_back [] = refl
 threads_back (l ∷ ls) = ap (λ k. k ++ l.thread ∷ []) (threads_back ls) ∙ sym (threads_snoc (rev ls) l)
 
+-- what holds of each live thread holds of each one, oldest first
 pub each_back : (P : Live → Type 0) (ls : List Live) → Each P ls → Each P (rev ls)
 each_back P [] h = tt
 each_back P (l ∷ ls) h = each_push P (rev ls) l (each_back P ls h.1) h.0
@@ -159,12 +163,15 @@ module _ (p : Pipe) (st : State) (l : Live) (mine : Mine p st l) where
               ∙ (λ i. (eq-eqb q.var r.var e.0 i) && (eq-eqb q.mem r.mem e.1 i) && (slice_index env k.0 == request_address (e.2 i)))
               ∙ eq-eqb (slice_index env k.0) q.address (ap (λ v. slice_index v k.0) (sym same) ∙ answered_other k.0 (subst (λ o. AllAsks (λ j. touches j.var o ≡ false) mine.local.asks) k.1 u) ∙ k.2)
 
+-- equal lists of threads have the same first thread
 pub cons_head : {x y : Derived.Thread} {xs ys : List Derived.Thread} → x ∷ xs ≡ y ∷ ys → x ≡ y
 cons_head h = cc
 
+-- equal lists of threads have the same threads after the first
 pub cons_tail : {x y : Derived.Thread} {xs ys : List Derived.Thread} → x ∷ xs ≡ y ∷ ys → xs ≡ ys
 cons_tail h = cc
 
+-- there is no live thread where the derived machine has none
 pub no_lives : (os : List Live) → threads_of os ≡ [] → os ≡ []
 no_lives [] h = refl
 no_lives (o ∷ os) h = absurd (cc h)

@@ -13,10 +13,10 @@ use Rattle.pdl_theory_derived.proofs.Lists.{own, pend}
 use Rattle.pdl_theory_simulation.proofs.Seats.{Live, each_map, pends}
 use Rattle.pdl_theory_states.proofs.OldestFirst.{told, oldest_first}
 use Rattle.pdl_theory_states.proofs.Order.{from_all}
-use Rattle.pdl_theory_states.proofs.Reached.{Whole}
+use Rattle.pdl_theory_states.proofs.ReachedStates.{Whole}
 use Rattle.pdl_theory_states.proofs.AllThreads.{live_here}
 use Rattle.pdl_word.specs.Each.{Each}
-use Rattle.pdl_theory_simulation.proofs.Simulated.{Sim}
+use Rattle.pdl_theory_simulation.proofs.SimulatedStates.{Sim}
 
 owners_append : (xs ys : List Pending) → owners (xs ++ ys) ≡ owners xs ++ owners ys
 owners_append [] ys = refl

@@ -1,17 +1,17 @@
 mod Examples
 pub mod OldestFirst
-pub mod Past
+pub mod PastStatements
 pub mod Trails
-pub mod Local
-pub mod Fading
+pub mod ThreadHistory
+pub mod OlderWrites
 pub mod Stage
-pub mod Lasting
-pub mod Reached
+pub mod ThreadFacts
+pub mod ReachedStates
 pub mod Order
 pub mod Points
 pub mod AllThreads
 pub mod EveryState
-pub mod OnTurn
+pub mod TurnThreads
 mod Mine
 pub mod Releases
 pub mod StillLooks

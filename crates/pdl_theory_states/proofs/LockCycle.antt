@@ -16,13 +16,13 @@ use Rattle.pdl_theory_simulation.proofs.FlowFacts.{Flows}
 use Rattle.pdl_theory_turns.proofs.Turn.{none_in_stage}
 use Rattle.pdl_theory_derived.proofs.Entries.{entries_of}
 use Rattle.pdl_theory_derived.proofs.Lists.{pend, Reserveless, appended_back}
-use Rattle.pdl_theory_turns.proofs.Own.{Worked, quiet_reserves, pend_own}
+use Rattle.pdl_theory_turns.proofs.OwnEntries.{Worked, quiet_reserves, pend_own}
 use Rattle.pdl_theory_simulation.proofs.Stretches.{Behind, keeps_next, on_way}
 use Rattle.pdl_theory_simulation.proofs.Seats.{Live, each_map, Falls, falls_each, Ordered, pends, lact, lacts, dacts, did, deeds_of, now_of, work_of_live}
-use Rattle.pdl_theory_simulation.proofs.Telling.{Pair, pairs, EachPair, pair_both, pairs_each, sorted}
+use Rattle.pdl_theory_simulation.proofs.ThreadFacts.{Pair, pairs, EachPair, pair_both, pairs_each, sorted}
 use Rattle.pdl_theory_simulation.proofs.Orders.{acts_of}
 use Rattle.pdl_theory_simulation.proofs.Choices.{Seated, Known, AllKnown, keeps_now, worked_here, ends_here, fit_all}
-use Rattle.pdl_theory_simulation.proofs.Swapped.{Swap, Swaps, same_movers}
+use Rattle.pdl_theory_simulation.proofs.ActOrder.{Swap, Swaps, same_movers}
 use Rattle.pdl_semantics.proofs.Facts.{put_all_length}
 use Rattle.pdl_theory_states.specs.Use.{reserved_in, reserved_count}
 use Rattle.pdl_theory_states.proofs.PendingLists.{Within, within_append, within_one, of_append, of_pend, of_new, none_older, count_append}
@@ -43,6 +43,7 @@ abbrev pub NoOlder : ℕ → ℕ → List Act → Type 0
 NoOlder t m [] = Unit {0}
 NoOlder t m (a ∷ these) = ((new_entries m a.thread.number a.does.reserves ≡ []) ⊎ (t ≤ a.thread.number)) × NoOlder t m these
 
+-- where no thread older than t reserves a write of memory m, none of those that move does
 pub movers_no_older : (t m : ℕ) (these : List Act) → NoOlder t m these → NoOlder t m (movers these)
 movers_no_older t m [] h = tt
 movers_no_older t m (a ∷ these) h = at a.moves (movers_no_older t m these h.1)
@@ -51,6 +52,7 @@ movers_no_older t m (a ∷ these) h = at a.moves (movers_no_older t m these h.1)
     at true k = (h.0, k)
     at false k = k
 
+-- reservations of threads that are not older leave the number of older threads' pending writes as it is
 pub count_appended : (t m : ℕ) (ms : List Act) (list : List Pending) → NoOlder t m ms → count_older t (with_reserves m ms list) ≡ count_older t list
 count_appended t m [] list h = refl
 count_appended t m (a ∷ ms) list h =

@@ -11,9 +11,9 @@ use Rattle.pdl_theory_simulation.proofs.FlowFacts.{Flows}
 use Rattle.pdl_theory_derived.proofs.Lists.{pend}
 use Rattle.pdl_theory_simulation.proofs.Stretches.{Behind}
 use Rattle.pdl_theory_simulation.proofs.Seats.{Live, Falls, Ordered, pends, lact, lacts, did, deeds_of}
-use Rattle.pdl_theory_simulation.proofs.Telling.{Pair, pairs, EachPair, pair_map, pairs_each}
+use Rattle.pdl_theory_simulation.proofs.ThreadFacts.{Pair, pairs, EachPair, pair_map, pairs_each}
 use Rattle.pdl_theory_simulation.proofs.Choices.{Seated, AllKnown}
-use Rattle.pdl_theory_simulation.proofs.Turned.{two, release_here, two_is, three_is}
+use Rattle.pdl_theory_simulation.proofs.LockLists.{two, release_here, two_is, three_is}
 use Rattle.pdl_theory_states.proofs.PendingLists.{Within, count_filled}
 use Rattle.pdl_theory_states.proofs.LockCycle.{within_new, appended_more}
 use Rattle.pdl_semantics.specs.PendingLists.{count_older}

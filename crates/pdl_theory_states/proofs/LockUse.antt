@@ -7,21 +7,21 @@ use Rattle.pdl_semantics.specs.Moves.{Act, all_acts, movers}
 use Rattle.pdl_semantics.specs.Cycle.{first, state_after, with_reserves, with_all_writes, list_two, but_oldest, has_release}
 use Rattle.pdl_theory_derived.specs.Derived
 use Rattle.pdl_theory_facts.specs.Facts.{Sound}
-use Rattle.pdl_theory_simulation.proofs.Joined.{sound_flows}
+use Rattle.pdl_theory_simulation.proofs.AcceptedFacts.{sound_flows}
 use Rattle.pdl_theory_simulation.proofs.Seats.{Live, pends, lact, lacts}
-use Rattle.pdl_theory_simulation.proofs.Telling.{Pair, pairs, EachPair, pair_map, sorted, sorted_each}
+use Rattle.pdl_theory_simulation.proofs.ThreadFacts.{Pair, pairs, EachPair, pair_map, sorted, sorted_each}
 use Rattle.pdl_theory_simulation.proofs.Orders.{acts_of}
-use Rattle.pdl_theory_simulation.proofs.Swapped.{Swaps, swaps_all, same_any}
-use Rattle.pdl_theory_simulation.proofs.Together.{known, acts_are}
+use Rattle.pdl_theory_simulation.proofs.ActOrder.{Swaps, swaps_all, same_any}
+use Rattle.pdl_theory_simulation.proofs.WholeSimulation.{known, acts_are}
 use Rattle.pdl_theory_states.specs.Strict.{Strict}
 use Rattle.pdl_theory_states.specs.Use.{AllActs, FindsOlder, moving, with_new, with_release, bit, reserved_count, Reserves, KeepsPlace, ShiftsPlace}
-use Rattle.pdl_theory_states.proofs.Reached.{reached}
+use Rattle.pdl_theory_states.proofs.ReachedStates.{reached}
 use Rattle.pdl_theory_states.proofs.PendingLists.{within_ordered, count_filled}
 use Rattle.pdl_theory_states.proofs.OwnWrites.{within_pends, all_older}
 use Rattle.pdl_theory_states.proofs.LockCycle.{within_new, one_reserved, places_kept, same_appended, same_reserved}
 use Rattle.pdl_theory_states.proofs.LockRelease.{count_released, some_pending, older_released}
 use Rattle.pdl_semantics.specs.PendingLists.{AreOrdered, count_older}
-use Rattle.pdl_theory_simulation.proofs.Simulated.{Sim}
+use Rattle.pdl_theory_simulation.proofs.SimulatedStates.{Sim}
 
 module _ (p : Pipe) (sound : Sound p) (st : State) (d : Derived.State) (bits : List Bool) (ls : List Live) (sim : Sim p st d ls) (m : ℕ) where
   pub list_ordered : AreOrdered 0 (lock_of st m)

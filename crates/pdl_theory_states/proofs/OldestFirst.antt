@@ -9,13 +9,14 @@ use Rattle.pdl_semantics.specs.Sound
 use Rattle.pdl_theory_derived.proofs.Writes.{and_left, and_right}
 use Rattle.pdl_theory_derived.proofs.Slots.{stages_same}
 use Rattle.pdl_theory_simulation.proofs.Seats.{Live, seat, find, Ordered, Rises, Falls, falls_each, rises_hi, rises_from, find_none}
-use Rattle.pdl_theory_simulation.proofs.Telling.{Pair, place, sorted, lives_of, EachPair, sorted_each, pairs_each, find_sorted, rises_sorted}
+use Rattle.pdl_theory_simulation.proofs.ThreadFacts.{Pair, place, sorted, lives_of, EachPair, sorted_each, pairs_each, find_sorted, rises_sorted}
 use Rattle.pdl_word.specs.Each.{Each}
 
 -- a live thread as the tests of Sound state see it, and all of them, oldest first
 abbrev pub told : Live → Sound.Live
 told l = record { stage = l.thread.stage; thread = seat l }
 
+-- all live threads as the tests of Sound state see them, oldest first
 abbrev pub oldest_first : List Live → List Sound.Live
 oldest_first [] = []
 oldest_first (l ∷ ls) = oldest_first ls ++ told l ∷ []
@@ -25,10 +26,11 @@ abbrev pub AllLive : (Sound.Live → Type 0) → List Sound.Live → Type 0
 AllLive P [] = Unit {0}
 AllLive P (l ∷ ls) = P l × AllLive P ls
 
-pub live_snoc : (P : Sound.Live → Type 0) (xs : List Sound.Live) (l : Sound.Live) → AllLive P xs → P l → AllLive P (xs ++ l ∷ [])
+live_snoc : (P : Sound.Live → Type 0) (xs : List Sound.Live) (l : Sound.Live) → AllLive P xs → P l → AllLive P (xs ++ l ∷ [])
 live_snoc P [] l h k = (k, tt)
 live_snoc P (x ∷ xs) l h k = (h.0, live_snoc P xs l h.1 k)
 
+-- what holds of each live thread holds of each of them in the list that begins with the oldest
 pub live_each : (P : Sound.Live → Type 0) (ls : List Live) → Each (λ l. P (told l)) ls → AllLive P (oldest_first ls)
 live_each P [] h = tt
 live_each P (l ∷ ls) h = live_snoc P (oldest_first ls) (told l) (live_each P ls h.1) h.0
@@ -132,6 +134,7 @@ live_is p st n ls e low o f =
 
 -- TESTS OF ALL OF THEM
 
+-- where all elements and one more pass a test, all of the list with that one at its end do
 pub all_snoc : {X : Type 0} → (test : X → Bool) (xs : List X) (x : X) → list_all test xs ≡ true → test x ≡ true → list_all test (xs ++ x ∷ []) ≡ true
 all_snoc test [] x h k = ap (λ b. b && true) k
 all_snoc test (y ∷ xs) x h k = ap₂ (λ a b. a && b) (and_left _ _ h) (all_snoc test xs x (and_right (test y) _ h) k)
@@ -151,6 +154,7 @@ pairs_snoc test [] x h k = refl
 pairs_snoc test (y ∷ xs) x h k =
     ap₂ (λ a b. a && b) (all_snoc (test y) xs x (and_left _ _ h) (and_left _ _ k)) (pairs_snoc test xs x (and_right (list_all (test y) xs) _ h) (and_right (test y x) _ k))
 
+-- a test of each older and younger live thread passes for each two of the list, oldest first
 pub pairs_all : (test : Sound.Live → Sound.Live → Bool) (ls : List Live) → Pairwise (λ k l. test (told k) (told l) ≡ true) ls → all_pairs test (oldest_first ls) ≡ true
 pairs_all test [] h = refl
 pairs_all test (l ∷ ls) h = pairs_snoc test (oldest_first ls) (told l) (pairs_all test ls h.1) (all_each (λ y. test y (told l)) ls h.0)

@@ -8,7 +8,7 @@ use Rattle.pdl_semantics.specs.Sound
 use Rattle.pdl_theory_simulation.proofs.FlowFacts.{Ways}
 use Rattle.pdl_theory_simulation.proofs.Stretches.{Behind}
 use Rattle.pdl_theory_simulation.proofs.Seats.{Live}
-use Rattle.pdl_theory_simulation.proofs.Telling.{sides}
+use Rattle.pdl_theory_simulation.proofs.ThreadFacts.{sides}
 use Rattle.pdl_theory_states.proofs.OldestFirst.{told, oldest_first}
 use Rattle.pdl_theory_states.proofs.Trails.{Trail}
 
@@ -95,15 +95,18 @@ sides_snoc : (p : Pipe) (f : ℕ) (xs : List Sound.Live) (l : Sound.Live) → si
 sides_snoc p f [] l = append-nil (side_in f (stage_at p l.stage).branch)
 sides_snoc p f (x ∷ xs) l = ap (λ k. side_in f (stage_at p x.stage).branch ++ k) (sides_snoc p f xs l) ∙ sym (append_assoc (side_in f (stage_at p x.stage).branch) (sides_in p f xs) (side_in f (stage_at p l.stage).branch))
 
+-- the branches inside a fork that Sound state sees are those of the simulation
 pub sides_are : (p : Pipe) (f : ℕ) (ls : List Live) → sides_in p f (oldest_first ls) ≡ sides p f ls
 sides_are p f [] = refl
 sides_are p f (l ∷ ls) = sides_snoc p f (oldest_first ls) (told l) ∙ ap (λ k. k ++ side_in f (stage_at p l.thread.stage).branch) (sides_are p f ls)
 
+-- a list of branches is the same as itself
 pub sides_same : (xs : List Bool) → same_sides xs xs ≡ true
 sides_same [] = refl
 sides_same (true ∷ xs) = sides_same xs
 sides_same (false ∷ xs) = sides_same xs
 
+-- a test that every number passes is passed by the numbers from k on, one for each element
 pub from_all : {X : Type 0} → (test : ℕ → Bool) (k : ℕ) (xs : List X) → ((m : ℕ) → test m ≡ true) → all_from test k xs ≡ true
 from_all test k [] f = refl
 from_all test k (x ∷ xs) f = ap₂ (λ a b. a && b) (f k) (from_all test (suc k) xs f)

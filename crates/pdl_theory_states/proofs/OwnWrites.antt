@@ -8,11 +8,11 @@ use Rattle.pdl_theory_facts.specs.Scans.{Phase, Fresh, Held, Written, Done, phas
 use Rattle.pdl_theory_simulation.proofs.FlowFacts.{Flows}
 use Rattle.pdl_theory_derived.proofs.Entries.{entries_of}
 use Rattle.pdl_theory_derived.proofs.Lists.{own, pend}
-use Rattle.pdl_theory_turns.proofs.Own.{pend_own}
+use Rattle.pdl_theory_turns.proofs.OwnEntries.{pend_own}
 use Rattle.pdl_theory_simulation.proofs.Shapes.{Shape}
 use Rattle.pdl_theory_simulation.proofs.Stretches.{Behind, on_way, early}
 use Rattle.pdl_theory_simulation.proofs.Seats.{Live, Falls, Ordered, pends}
-use Rattle.pdl_theory_simulation.proofs.Telling.{Pair, pairs, EachPair, pair_both, pairs_each}
+use Rattle.pdl_theory_simulation.proofs.ThreadFacts.{Pair, pairs, EachPair, pair_both, pairs_each}
 use Rattle.pdl_theory_simulation.proofs.Choices.{Seated}
 use Rattle.pdl_theory_states.proofs.PendingLists.{Within, within_append, within_one, within_count, of_pend}
 use Rattle.pdl_semantics.specs.PendingLists.{count_older}
@@ -25,6 +25,7 @@ own_short m (Held x) es h = subst (λ l. length l ≤ 1) (sym h.1) (omega arith)
 own_short m (Written x) es h = subst (λ l. length l ≤ 1) (sym h.2) (omega arith)
 own_short m Done es h = subst (λ l. length l ≤ 1) (sym h) (omega arith)
 
+-- a thread has no more pending writes of one memory than entries in all
 pub pend_short : (m n : ℕ) (es : List Entry) → length (pend m n es) ≤ length es
 pend_short m n [] = omega arith
 pend_short m n (e ∷ es) = let i = length-append (pend m n es) (cond (e.mem == m) (own n e ∷ []) []) in let j = at (e.mem == m) in let k = pend_short m n es in omega arith

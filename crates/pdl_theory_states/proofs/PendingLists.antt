@@ -25,6 +25,7 @@ count_put_all t m n (w ∷ ws) xs = count_put_all t m n ws (if w.mem == m then w
     at true = put_older t n w.value xs
     at false = refl
 
+-- values that are written leave the number of older threads' pending writes as it is
 pub count_filled : (t m : ℕ) (ms : List Act) (xs : List Pending) → count_older t (with_all_writes m ms xs) ≡ count_older t xs
 count_filled t m [] xs = refl
 count_filled t m (a ∷ ms) xs = count_put_all t m a.thread.number a.does.writes (with_all_writes m ms xs) ∙ count_filled t m ms xs
@@ -34,6 +35,7 @@ abbrev pub AllOf : ℕ → List Pending → Type 0
 AllOf k [] = Unit {0}
 AllOf k (x ∷ xs) = (x.thread ≡ k) × AllOf k xs
 
+-- where the pending writes of two lists are all of thread k, those of both joined are
 pub of_append : (k : ℕ) (xs ys : List Pending) → AllOf k xs → AllOf k ys → AllOf k (xs ++ ys)
 of_append k [] ys f g = g
 of_append k (x ∷ xs) ys f g = (f.0, of_append k xs ys f.1 g)
@@ -42,14 +44,17 @@ of_if : (k : ℕ) (b : Bool) (e : Pending) → e.thread ≡ k → AllOf k (cond 
 of_if k true e h = (h, tt)
 of_if k false e h = tt
 
+-- the pending writes of a thread's entries are all of that thread
 pub of_pend : (m n : ℕ) (es : List Entry) → AllOf n (pend m n es)
 of_pend m n [] = tt
 of_pend m n (e ∷ es) = of_append n (pend m n es) _ (of_pend m n es) (of_if n (e.mem == m) (own n e) refl)
 
+-- the pending writes of a thread's reservations are all of that thread
 pub of_new : (m n : ℕ) (rs : List Reserved) → AllOf n (new_entries m n rs)
 of_new m n [] = tt
 of_new m n (r ∷ rs) = of_append n _ (new_entries m n rs) (of_if n (r.mem == m) _ refl) (of_new m n rs)
 
+-- among pending writes of thread k there is none of a thread older than t, where t is at most k
 pub none_older : (t k : ℕ) (xs : List Pending) → AllOf k xs → t ≤ k → count_older t xs ≡ 0
 none_older t k [] f h = refl
 none_older t k (x ∷ xs) f h = ap (λ b. cond b (suc (count_older t xs)) (count_older t xs)) (le-ltb x.thread t (let e = f.0 in omega arith)) ∙ none_older t k xs f.1 h
@@ -63,15 +68,18 @@ within_low : (a b c : ℕ) (xs : List Pending) → a ≤ b → Within b c xs →
 within_low a b c [] h w = omega arith
 within_low a b c (x ∷ xs) h w = (let i = w.0 in omega arith, w.1)
 
+-- pending writes in order from a to b, and others from b to c, are together in order from a to c
 pub within_append : (a b c : ℕ) (xs ys : List Pending) → Within a b xs → Within b c ys → Within a c (xs ++ ys)
 within_append a b c [] ys v w = within_low a b c ys v w
 within_append a b c (x ∷ xs) ys v w = (v.0, within_append (x.thread + 1) b c xs ys v.1 w)
 
+-- at most one pending write, of a thread from a on and below b, is in order from a to b
 pub within_one : (a b n : ℕ) (xs : List Pending) → a ≤ n → n < b → AllOf n xs → length xs ≤ 1 → Within a b xs
 within_one a b n [] h i f k = omega arith
 within_one a b n (x ∷ []) h i f k = (let e = f.0 in omega arith, let e = f.0 in omega arith)
 within_one a b n (x ∷ y ∷ xs) h i f k = absurd (omega arith)
 
+-- pending writes in order from a to b are in order from a on
 pub within_ordered : (a b : ℕ) (xs : List Pending) → Within a b xs → AreOrdered a xs
 within_ordered a b [] w = tt
 within_ordered a b (x ∷ xs) w = (w.0, within_ordered (x.thread + 1) b xs w.1)
@@ -80,6 +88,7 @@ within_order : (a b : ℕ) (xs : List Pending) → Within a b xs → a ≤ b
 within_order a b [] w = w
 within_order a b (x ∷ xs) w = let h = within_order (x.thread + 1) b xs w.1 in let i = w.0 in omega arith
 
+-- pending writes of threads below b are all older than thread t, where t is at least b
 pub within_count : (a b t : ℕ) (xs : List Pending) → Within a b xs → b ≤ t → count_older t xs ≡ length xs
 within_count a b t [] w h = refl
 within_count a b t (x ∷ xs) w h =

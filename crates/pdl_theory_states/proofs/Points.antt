@@ -11,7 +11,7 @@ use Rattle.pdl_semantics.specs.Sound
 use Rattle.pdl_theory_derived.specs.Derived.{Entry, has_entry, latest, awaits_mem}
 use Rattle.pdl_theory_facts.specs.Scans.{called}
 use Rattle.pdl_theory_facts.specs.Facts.{Sound}
-use Rattle.pdl_theory_simulation.proofs.Joined.{sound_flows}
+use Rattle.pdl_theory_simulation.proofs.AcceptedFacts.{sound_flows}
 use Rattle.pdl_theory_turns.proofs.Guesses.{same_args_refl}
 use Rattle.pdl_theory_derived.proofs.Deeds.{places, places_has}
 use Rattle.pdl_theory_derived.proofs.Lists.{own, pend}
@@ -20,21 +20,23 @@ use Rattle.pdl_theory_simulation.proofs.Seats.{Live, threads_of, each_map}
 use Rattle.pdl_theory_simulation.proofs.Choices.{Seated}
 use Rattle.pdl_theory_simulation.proofs.Choices
 use Rattle.pdl_theory_states.proofs.OldestFirst.{told, oldest_first, AllLive, live_each}
-use Rattle.pdl_theory_states.proofs.Past.{AllOps, onto, BlockOk, Done, AllPlaced, is_released}
+use Rattle.pdl_theory_states.proofs.PastStatements.{AllOps, onto, BlockOk, Done, AllPlaced, is_released}
 use Rattle.pdl_theory_states.proofs.Trails.{AllStmts, stmts_map, stmts_ops, trail_comes}
-use Rattle.pdl_theory_states.proofs.Local.{Local, HeldOp, here, past_of, count_is, any_append, any_front}
+use Rattle.pdl_theory_states.proofs.ThreadHistory.{Local, HeldOp, here, past_of, count_is, any_append, any_front}
 use Rattle.pdl_theory_states.proofs.Stage.{look_at}
-use Rattle.pdl_theory_simulation.proofs.Simulated.{HaveMade}
+use Rattle.pdl_theory_simulation.proofs.SimulatedStates.{HaveMade}
 
+-- two truth values that are true are true together
 pub both_true : {a b : Bool} → a ≡ true → b ≡ true → (a && b) ≡ true
 both_true h k = ap₂ (λ a b. a && b) h k
 
 -- TESTS OF STATEMENTS
 
-pub stmts_all : (test : Stmt → Bool) (xs : List Stmt) → AllStmts (λ x. test x ≡ true) xs → list_all test xs ≡ true
+stmts_all : (test : Stmt → Bool) (xs : List Stmt) → AllStmts (λ x. test x ≡ true) xs → list_all test xs ≡ true
 stmts_all test [] h = refl
 stmts_all test (x ∷ xs) h = both_true h.0 (stmts_all test xs h.1)
 
+-- where one of these statements passes a test, one of those carried out with them does
 pub any_onto : (test : Op → Bool) (some : List Op → Bool) → ((op : Op) (ops : List Op) → some (op ∷ ops) ≡ (test op || some ops)) → (xs : List Stmt) (past : List Op) → list_any (λ (x : Stmt). test x.op) xs ≡ true → some (onto xs past) ≡ true
 any_onto test some f [] past h = absurd (cc h)
 any_onto test some f (x ∷ xs) past h = at (test x.op) refl h (λ k. any_onto test some f xs (x.op ∷ past) k)
@@ -47,6 +49,7 @@ any_onto test some f (x ∷ xs) past h = at (test x.op) refl h (λ k. any_onto t
     at true e k g = keep xs (x.op ∷ past) (f x.op past ∙ or_left (test x.op) _ e)
     at false e k g = g k
 
+-- a statement carried out that passes a test is one of these or one that was carried out before
 pub onto_any : (test : Op → Bool) (some : List Op → Bool) → ((op : Op) (ops : List Op) → some (op ∷ ops) ≡ (test op || some ops)) → (xs : List Stmt) (past : List Op) → some (onto xs past) ≡ true → (list_any (λ (x : Stmt). test x.op) xs ≡ true) ⊎ (some past ≡ true)
 onto_any test some f [] past h = inr h
 onto_any test some f (x ∷ xs) past h = at (onto_any test some f xs (x.op ∷ past) h)
@@ -66,7 +69,7 @@ released_done m a xs h = at (onto_any (is_release_at m a) (is_released m a) (λ 
     at (inl k) = k
     at (inr k) = absurd (cc k)
 
-pub same_call : (op : Op) → Sound.is_call op ≡ is_call op
+same_call : (op : Op) → Sound.is_call op ≡ is_call op
 same_call (Call args) = refl
 same_call (SpecCall args) = refl
 same_call _ = refl
@@ -88,6 +91,7 @@ linked_snoc p [] l h k = ap not k
 linked_snoc p (x ∷ []) l h k = both_true h.0 (ap not k)
 linked_snoc p (x ∷ y ∷ xs) l h k = both_true h.0 (linked_snoc p (y ∷ xs) l h.1 k)
 
+-- live threads are linked where each but the youngest has made its successor, and the youngest none
 pub chain : (p : Pipe) (l : Live) (ls : List Live) → HaveMade p (l ∷ ls) → has_made p l.env l.thread.stage ≡ false → are_linked p (oldest_first (l ∷ ls)) ≡ true
 chain p l ls h k = linked_snoc p (oldest_first ls) (told l) (live_each (λ x. has_done Sound.is_call p x ≡ true) ls (each_map (λ j e. made_is p j ∙ e) ls h)) (made_is p l ∙ k)
 
@@ -107,6 +111,7 @@ owners_all : (st : State) (n : ℕ) (rs : List Awaited) → Choices.AllOwned st 
 owners_all st n [] h = refl
 owners_all st n (r ∷ rs) h = both_true (ap (is_owner n) h.0.1 ∙ eq-eqb n n refl) (owners_all st n rs h.1)
 
+-- a seated live thread that keeps to what is its own has the requests that Sound state wants
 pub asks_point : (p : Pipe) (st : State) (l : Live) → Seated p st l → Local p l.env l.kept l.thread → asks_right p st (told l) ≡ true
 asks_point p st l seated loc =
     ap₂ (λ a b. a && b) (both_true
@@ -126,6 +131,7 @@ any_snoc test (y ∷ xs) x h = at (test y) h (λ k. any_snoc test xs x k)
     at true k f = refl
     at false k f = f k
 
+-- where the thread of this number awaits memory m, it is found in the list that begins with the oldest
 pub owner_any : (n m : ℕ) (ls : List Live) → Choices.has_owner n m ls ≡ true → list_any (λ (l : Sound.Live). (l.thread.number == n) && list_any (λ r. r.mem == m) l.thread.awaits) (oldest_first ls) ≡ true
 owner_any n m [] h = absurd (cc h)
 owner_any n m (l ∷ ls) h = any_snoc _ (oldest_first ls) (told l) (at ((l.number == n) && awaits_mem l.thread.awaits m) refl h (λ k. owner_any n m ls k))

@@ -10,30 +10,31 @@ use Rattle.pdl_theory_derived.specs.Derived.{Entry}
 use Rattle.pdl_semantics.specs.Sound
 use Rattle.pdl_theory_derived.specs.Alone.{before, answered_op}
 use Rattle.pdl_theory_facts.specs.Scans.{Phase, Fresh, Held, Written, Done, next_phase, phase_all, phase_ok, phases_ok, after_release, holds_location, is_fresh, none_of, Scan, no_scan, has_location, scan_after, no_guards}
-use Rattle.pdl_theory_facts.specs.Certain.{is_barrier, is_sure, all_sure}
+use Rattle.pdl_theory_facts.specs.GuessScans.{is_barrier, is_sure, all_sure}
 use Rattle.pdl_theory_facts.specs.Facts.{Sound, looked_all, at_once}
 use Rattle.pdl_theory_facts.specs.Accepted.{along}
 use Rattle.pdl_theory_derived.proofs.Writes.{and_left, and_right}
 use Rattle.pdl_theory_simulation.proofs.FlowFacts.{uses_ok, use_ok}
-use Rattle.pdl_theory_simulation.proofs.Joined.{sound_flows, phases_looked}
+use Rattle.pdl_theory_simulation.proofs.AcceptedFacts.{sound_flows, phases_looked}
 use Rattle.pdl_theory_derived.proofs.Entries.{entries_of}
 use Rattle.pdl_theory_turns.proofs.Phases.{Tied}
 use Rattle.pdl_theory_derived.proofs.Deeds.{places}
-use Rattle.pdl_theory_turns.proofs.Astray.{some_barrier, sure_first}
+use Rattle.pdl_theory_turns.proofs.CertaintyScans.{some_barrier, sure_first}
 use Rattle.pdl_theory_turns.proofs.Roams.{verify_looked}
 use Rattle.pdl_theory_simulation.proofs.Shapes.{Shape, uses_front, none_till}
 use Rattle.pdl_theory_simulation.proofs.Stretches.{on_way}
 use Rattle.pdl_theory_simulation.proofs.Seats.{Live}
 use Rattle.pdl_theory_simulation.proofs.Choices.{Seated}
-use Rattle.pdl_theory_turns.proofs.Whole
+use Rattle.pdl_theory_turns.proofs.TurnPath
 use Rattle.pdl_theory_states.proofs.OldestFirst.{told}
 use Rattle.pdl_theory_states.proofs.Trails.{AllStmts, stmts_map}
 use Rattle.pdl_theory_states.proofs.Stage.{way_looked}
-use Rattle.pdl_theory_states.proofs.OnTurn.{acc, whole}
+use Rattle.pdl_theory_states.proofs.TurnThreads.{acc, whole}
 use Rattle.pdl_theory_turns.proofs.Paths.{none_onpath}
 
 -- PHASES
 
+-- whether a thread's write to a memory is done, that is released
 abbrev pub is_done : Phase → Bool
 is_done Done = true
 is_done _ = false
@@ -216,7 +217,7 @@ module _ (p : Pipe) (sound : Sound p) (arrays : Arrays) (args : List ℕ) where
 -- A THREAD AFTER A WRONG GUESS
 
 -- a write under way has its location among those that were opened
-abbrev pub Opened : ℕ → Phase → Scan → Type 0
+abbrev Opened : ℕ → Phase → Scan → Type 0
 Opened m Fresh c = Unit {0}
 Opened m (Held x) c = has_location c.held m x ≡ true
 Opened m (Written x) c = has_location c.held m x ≡ true
@@ -280,6 +281,7 @@ barred_stays : (xs : List Stmt) → some_barrier true xs ≡ true
 barred_stays [] = refl
 barred_stays (x ∷ xs) = barred_stays xs
 
+-- before stage V, and without a barrier, certain releases leave a write that is not done as not done
 pub sure_done : (m v : ℕ) (c : Scan) (ph : Phase) (xs : List Stmt) → phases_ok m ph xs ≡ true → all_sure (Some v) false c xs ≡ true → some_barrier false xs ≡ false → AllStmts (λ x. nat_lt x.stage v ≡ true) xs → Opened m ph c → is_done ph ≡ false → is_done (phase_all m ph xs) ≡ false
 sure_done m v c ph [] k u b low o d = d
 sure_done m v c ph (x ∷ xs) k u b low o d =
@@ -290,6 +292,7 @@ sure_done m v c ph (x ∷ xs) k u b low o d =
     at true e j i f = absurd (cc (sym (barred_stays xs) ∙ j))
     at false e j i f = f (subst (λ t. all_sure (Some v) t (scan_after x.op c) xs ≡ true) e i) j
 
+-- the statements of a path before stage s stand in earlier stages
 pub low_stages : (path : List ℕ) (s : ℕ) (xs : List Stmt) → AllStmts (λ x. x.stage < s) (onpath path (stages_before s xs))
 low_stages path s [] = tt
 low_stages path s (x ∷ xs) = at (nat_lt x.stage s) refl (low_stages path s xs)
@@ -302,6 +305,7 @@ low_stages path s (x ∷ xs) = at (nat_lt x.stage s) refl (low_stages path s xs)
     at true e h = by (all_hold x.guards path) (ltb-true _ _ e) h
     at false e h = h
 
+-- what holds of the statements' stages holds of them where delayed reads are answered at once
 pub stages_looked : (P : ℕ → Type 0) (xs : List Stmt) → AllStmts (λ x. P x.stage) xs → AllStmts (λ x. P x.stage) (looked_all xs)
 stages_looked P [] h = tt
 stages_looked P (x ∷ xs) h = (h.0, stages_looked P xs h.1)
@@ -321,6 +325,7 @@ barrier_looked (SpecCall args) = refl
 barrier_looked (Verify args) = refl
 barrier_looked SpecCheck = refl
 
+-- statements without a barrier have none where their delayed reads are answered at once
 pub unbarred : (xs : List Stmt) → list_any (λ (x : Stmt). Sound.is_barrier x.op) xs ≡ false → some_barrier false (looked_all xs) ≡ false
 unbarred [] h = refl
 unbarred (x ∷ xs) h = ap (λ b. some_barrier b (looked_all xs)) (barrier_looked x.op) ∙ at (Sound.is_barrier x.op) h (unbarred xs)

@@ -17,20 +17,23 @@ use Rattle.pdl_theory_derived.proofs.Stages.{step, was_ready}
 use Rattle.pdl_theory_turns.proofs.Paths.{Fixed, before_path}
 use Rattle.pdl_theory_turns.proofs.Looks.{look, path_looked, before_looked}
 use Rattle.pdl_theory_simulation.proofs.Stretches.{on_way}
-use Rattle.pdl_theory_states.proofs.Past.{AllOps, ops_both, touches, onto, BlockOk, block_set}
+use Rattle.pdl_theory_states.proofs.PastStatements.{AllOps, ops_both, touches, onto, BlockOk, block_set}
 use Rattle.pdl_theory_states.proofs.Trails.{AllStmts}
-use Rattle.pdl_theory_states.proofs.Local.{AllKept}
+use Rattle.pdl_theory_states.proofs.ThreadHistory.{AllKept}
 
 -- BARRIERS
 
+-- whether a barrier is among what was carried out
 abbrev pub barred : List Op → Bool
 barred [] = false
 barred (op ∷ ops) = is_barrier op || barred ops
 
+-- whether a barrier is among the statements
 abbrev pub some_barrier : List Stmt → Bool
 some_barrier [] = false
 some_barrier (x ∷ xs) = is_barrier x.op || some_barrier xs
 
+-- a barrier among what was carried out is one of these statements or was passed before
 pub barred_onto : (xs : List Stmt) (past : List Op) → barred (onto xs past) ≡ true → (some_barrier xs ≡ true) ⊎ (barred past ≡ true)
 barred_onto [] past h = inr h
 barred_onto (x ∷ xs) past h = at (is_barrier x.op) refl (barred_onto xs (x.op ∷ past) h)
@@ -85,6 +88,7 @@ look_at p ts =
       clear = true;
     }
 
+-- a block stays ready, or released, in surroundings in which its location is as ready as before
 pub block_like : (o o' : Around) (env : List ℕ) (es : List Entry) (past : List Op) (op : Op)
     → ((m a : ℕ) → op ≡ Block m a → (o.can_read m (slice_index env a) ≡ true → o'.can_read m (slice_index env a) ≡ true) × (o.can_write m (slice_index env a) ≡ true → o'.can_write m (slice_index env a) ≡ true))
     → BlockOk o env es past op → BlockOk o' env es past op
@@ -123,6 +127,7 @@ low_all : (p q : Pipe) → ((m : ℕ) → reserve_stage q m ≡ reserve_stage p 
 low_all p q f c [] h = tt
 low_all p q f c (x ∷ xs) h = (low_op p q f x.stage c x.op (and_right (no_guards x.guards) _ (and_left _ _ h)), low_all p q f (scan_after (answered_op x.op) c) xs (and_right (no_guards x.guards && op_ok q x.stage c (answered_op x.op)) _ h))
 
+-- the statements before stage s are those of the earlier stages with delayed reads answered at once
 pub before_stages : (s : ℕ) (xs : List Stmt) → before s xs ≡ looked_all (stages_before s xs)
 before_stages s [] = refl
 before_stages s (x ∷ xs) = at (nat_lt x.stage s) (before_stages s xs)
@@ -137,6 +142,7 @@ way_looked p path s =
     ap (before s) (path_looked path p.stmts) ∙ before_looked s (onpath path p.stmts) ∙ before_path path s p.stmts
     ∙ ap (onpath path) (before_stages s p.stmts) ∙ path_looked path (stages_before s p.stmts)
 
+-- each block before stage s on a path stands no earlier than its memory's reserves
 pub low_blocks : (p : Pipe) → Sound p → (path : List ℕ) (s : ℕ) → AllStmts (λ z. LowBlock p z.stage z.op) (on_way p path s)
 low_blocks p sound path s = low_all p (along path (at_once p)) (λ m. refl) no_scan (on_way p path s) (subst (λ l. reads_ok (along path (at_once p)) no_scan l ≡ true) (way_looked p path s) ((sound.pathwise.paths path).reads s))
 

@@ -10,13 +10,13 @@ use Rattle.pdl_theory_facts.specs.Facts.{Sound, FetchOk, FetchIf, AllFetches, lo
 use Rattle.pdl_theory_facts.specs.Graphs.{stage_or}
 use Rattle.pdl_theory_facts.specs.Accepted.{along}
 use Rattle.pdl_theory_derived.proofs.Writes.{and_left, and_right}
-use Rattle.pdl_theory_simulation.proofs.Joined.{sound_flows}
+use Rattle.pdl_theory_simulation.proofs.AcceptedFacts.{sound_flows}
 use Rattle.pdl_theory_turns.proofs.Looks.{path_looked}
-use Rattle.pdl_theory_turns.proofs.Sounds.{alive}
+use Rattle.pdl_theory_turns.proofs.StageFacts.{alive}
 use Rattle.pdl_theory_simulation.proofs.Stretches.{on_way}
 use Rattle.pdl_theory_states.specs.Strict.{Strict, all_let_go, lets_go}
 use Rattle.pdl_theory_states.proofs.Trails.{AllStmts}
-use Rattle.pdl_theory_states.proofs.Local.{here}
+use Rattle.pdl_theory_states.proofs.ThreadHistory.{here}
 use Rattle.pdl_theory_turns.proofs.Paths.{none_onpath}
 use Rattle.pdl_theory_turns.proofs.Turn.{none_from}
 

@@ -5,30 +5,36 @@ use Rattle.pdl_semantics.specs.Flat.{Op, Stmt, Pipe, Next, Ends, Goes, Forks, al
 use Rattle.pdl_semantics.specs.Stages.{onpath, in_stage, stage_at, goes_to}
 use Rattle.pdl_semantics.specs.Sound.{one_of, comes_to}
 use Rattle.pdl_theory_simulation.proofs.FlowFacts.{Ways}
-use Rattle.pdl_theory_states.proofs.Past.{AllOps, onto}
+use Rattle.pdl_theory_states.proofs.PastStatements.{AllOps, onto}
 
 -- STATEMENTS
 
+-- each statement has the property
 abbrev pub AllStmts : (Stmt → Type 0) → List Stmt → Type 0
 AllStmts P [] = Unit {0}
 AllStmts P (x ∷ xs) = P x × AllStmts P xs
 
+-- where the statements of two lists have a property, those of both lists joined have it
 pub stmts_append : (P : Stmt → Type 0) (xs ys : List Stmt) → AllStmts P xs → AllStmts P ys → AllStmts P (xs ++ ys)
 stmts_append P [] ys h k = k
 stmts_append P (x ∷ xs) ys h k = (h.0, stmts_append P xs ys h.1 k)
 
+-- a property of each statement gives each property that follows from it
 pub stmts_map : {P Q : Stmt → Type 0} → ((x : Stmt) → P x → Q x) → (xs : List Stmt) → AllStmts P xs → AllStmts Q xs
 stmts_map f [] h = tt
 stmts_map f (x ∷ xs) h = (f x h.0, stmts_map f xs h.1)
 
+-- two properties of each statement give each property that follows from both
 pub stmts_both : {P Q R : Stmt → Type 0} → ((x : Stmt) → P x → Q x → R x) → (xs : List Stmt) → AllStmts P xs → AllStmts Q xs → AllStmts R xs
 stmts_both f [] h k = tt
 stmts_both f (x ∷ xs) h k = (f x h.0 k.0, stmts_both f xs h.1 k.1)
 
+-- what holds of all that was carried out holds of the last statements and of what was before them
 pub stmts_ops : (P : Op → Type 0) (xs : List Stmt) (past : List Op) → AllOps P (onto xs past) → AllStmts (λ x. P x.op) xs × AllOps P past
 stmts_ops P [] past h = (tt, h)
 stmts_ops P (x ∷ xs) past h = let k = stmts_ops P xs (x.op ∷ past) h in ((k.1.0, k.0), k.1.1)
 
+-- what holds of some statements and of what was carried out before them holds of all that was carried out
 pub ops_stmts : (P : Op → Type 0) (xs : List Stmt) (past : List Op) → AllStmts (λ x. P x.op) xs → AllOps P past → AllOps P (onto xs past)
 ops_stmts P [] past h k = k
 ops_stmts P (x ∷ xs) past h k = ops_stmts P xs (x.op ∷ past) h.1 (h.0, k)
@@ -53,6 +59,7 @@ abbrev pub Trail : Pipe → List ℕ → ℕ → List ℕ → Type 0
 Trail p env s [] = s ≡ 0
 Trail p env s (r ∷ rs) = (goes_to (stage_at p r).next env ≡ Some s) × (r < length p.stages) × Trail p env r rs
 
+-- a stage is one of the list
 abbrev pub Among : ℕ → List ℕ → Type 0
 Among q [] = ⊥
 Among q (r ∷ rs) = (q ≡ r) ⊎ Among q rs

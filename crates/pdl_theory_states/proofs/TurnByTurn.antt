@@ -13,7 +13,7 @@ use Rattle.pdl_theory_facts.specs.Scans.{phase_all, Fresh}
 use Rattle.pdl_theory_facts.specs.Facts.{Sound, at_once}
 use Rattle.pdl_theory_derived.proofs.Writes.{and_left, and_right}
 use Rattle.pdl_theory_turns.proofs.Marks.{strips}
-use Rattle.pdl_theory_turns.proofs.Pending.{marks}
+use Rattle.pdl_theory_turns.proofs.UndoneWrites.{marks}
 use Rattle.pdl_theory_turns.proofs.CourseOf.{course}
 use Rattle.pdl_theory_turns.proofs.Lives.{Writes, Marks}
 use Rattle.pdl_theory_turns.proofs.TurnFacts.{right_guess}
@@ -24,7 +24,7 @@ use Rattle.pdl_theory_simulation.proofs.Choices.{Seated}
 use Rattle.pdl_theory_states.specs.Strict.{Strict}
 use Rattle.pdl_theory_states.proofs.OldestFirst.{told}
 use Rattle.pdl_theory_states.proofs.Followers.{tells, way_of, wrong_of, cons_head, cons_tail, no_lives}
-use Rattle.pdl_theory_states.proofs.Local.{here}
+use Rattle.pdl_theory_states.proofs.ThreadHistory.{here}
 use Rattle.pdl_theory_states.proofs.Releases.{is_done, released_late, done_released, not_released, turn_kept, early_unreleased}
 use Rattle.pdl_theory_states.proofs.StillLooks.{looks_early, binds_early}
 use Rattle.pdl_word.specs.Each.{Each}
@@ -35,6 +35,7 @@ lined p arrays args os [] = []
 lined p arrays args [] (sp ∷ sps) = []
 lined p arrays args (o ∷ os) (sp ∷ sps) = record { live = told o; arrays = arrays; args = args } ∷ lined p (thread p arrays args).arrays (thread p arrays args).next os sps
 
+-- the live threads behind those that stand on these spots
 abbrev pub behind : List Live → List Spot → List Live
 behind os [] = os
 behind [] (sp ∷ sps) = []

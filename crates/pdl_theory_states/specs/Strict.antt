@@ -46,6 +46,7 @@ all_new vars past (y ∷ ys) = (is_new vars past (bound_by y.op) && not (uses_ow
 abbrev pub lets_go : Op → List Stmt → Bool
 lets_go op ys = on_block (λ m a. list_any (λ (z : Stmt). is_release_at m a z.op) ys) true op
 
+-- the location of each block is released after it
 abbrev pub all_let_go : List Stmt → Bool
 all_let_go [] = true
 all_let_go (y ∷ ys) = lets_go y.op ys && all_let_go ys

@@ -30,12 +30,15 @@ moving p st bits = movers (all_acts p st bits)
 abbrev pub with_new : Pipe → State → List Bool → ℕ → List Pending
 with_new p st bits m = with_reserves m (moving p st bits) (lock_of st m)
 
+-- a lock's list in a cycle after the reservations and the writes
 abbrev pub with_values : Pipe → State → List Bool → ℕ → List Pending
 with_values p st bits m = list_two st (moving p st bits) m
 
+-- a lock's list in a cycle after the reservations, the writes and the release
 abbrev pub with_release : Pipe → State → List Bool → ℕ → List Pending
 with_release p st bits m = list_three st (moving p st bits) m
 
+-- a truth value as 1 or 0
 abbrev pub bit : Bool → ℕ
 bit b = if b then 1 else 0
 
@@ -44,6 +47,7 @@ abbrev pub reserved_in : ℕ → List Reserved → ℕ
 reserved_in m [] = 0
 reserved_in m (r ∷ rs) = if r.mem == m then suc (reserved_in m rs) else reserved_in m rs
 
+-- how many writes of a memory these threads reserve together
 abbrev pub reserved_count : ℕ → List Act → ℕ
 reserved_count m [] = 0
 reserved_count m (a ∷ ms) = reserved_count m ms + reserved_in m a.does.reserves
@@ -65,6 +69,7 @@ pub record Released (list : List Pending) : Type 0 where
   pub is : list ≡ entry ∷ rest
   pub written : entry.value ≡ Some value
 
+-- where a write of memory m is released in a cycle, the oldest pending one has its value
 abbrev pub ReleasesWritten : Pipe → State → List Bool → ℕ → Type 0
 ReleasesWritten p st bits m = has_release m (moving p st bits) ≡ true → Released (with_values p st bits m)
 

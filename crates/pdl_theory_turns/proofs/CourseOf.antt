@@ -8,7 +8,7 @@ use Rattle.pdl_semantics.specs.Sequential.{Run, thread}
 use Rattle.pdl_theory_derived.specs.Derived.{Work, Around, Thread, work_of_stage, work_after, do_all, find_ask}
 use Rattle.pdl_theory_derived.specs.Alone.{alone, before, start_work, so_far, thread_at}
 use Rattle.pdl_theory_facts.specs.Scans.{none_of, all_at, no_scan, scan_after_all}
-use Rattle.pdl_theory_facts.specs.Certain.{stands_at, stands_before, is_barrier}
+use Rattle.pdl_theory_facts.specs.GuessScans.{stands_at, stands_before, is_barrier}
 use Rattle.pdl_theory_facts.specs.Graphs.{Trunk, next_of}
 use Rattle.pdl_theory_facts.specs.Facts.{fetches_no, none_like, alone_op, fetch_apart, FetchOk, looked_all, at_once, visits_stage, Sound}
 use Rattle.pdl_theory_facts.specs.Accepted.{along}
@@ -19,12 +19,12 @@ use Rattle.pdl_theory_turns.proofs.Paths.{before_path, none_onpath}
 use Rattle.pdl_theory_turns.proofs.Turn.{quiet, none_in_stage, release_looked}
 use Rattle.pdl_theory_turns.proofs.Guesses.{same_args_refl}
 use Rattle.pdl_theory_turns.proofs.TurnFacts.{next_at, right_guess, stage_work}
-use Rattle.pdl_theory_derived.proofs.Answering.{AllAsks, all_more, all_snoc, Apart, apart_snoc}
+use Rattle.pdl_theory_derived.proofs.DelayedReads.{AllAsks, all_more, all_snoc, Apart, apart_snoc}
 use Rattle.pdl_theory_turns.proofs.Courses.{Course, AskOk, Strayed}
-use Rattle.pdl_theory_turns.proofs.Sounds.{EachFetch, asks_each, fetch_each, alive}
+use Rattle.pdl_theory_turns.proofs.StageFacts.{EachFetch, asks_each, fetch_each, alive}
 use Rattle.pdl_theory_turns.proofs.Roams.{verify_looked, before_none, Barred}
-use Rattle.pdl_theory_turns.proofs.Roaming.{Roams, has_made, roams_answered, fresh_roams, roam_step}
-use Rattle.pdl_theory_turns.proofs.Sounds
+use Rattle.pdl_theory_turns.proofs.RoamingThreads.{Roams, has_made, roams_answered, fresh_roams, roam_step}
+use Rattle.pdl_theory_turns.proofs.StageFacts
 use Rattle.pdl_theory_turns.proofs.Turns
 use Rattle.pdl_theory_turns.proofs.Makes
 
@@ -61,6 +61,7 @@ apart_op o (Verify args) ys w h p l = at (same_args (values_of args w.env) w.gue
     at false = (p, all_more _ (λ q. Later q ys) w.asks (λ q k. k.1) l)
 apart_op o _ ys w h p l = (p, all_more _ (λ q. Later q ys) w.asks (λ q k. k.1) l)
 
+-- requests stay of different memories and variables, where later delayed reads avoid one another and them
 pub apart_asks : (o : Around) (ys : List Stmt) (w : Work) → fetch_apart ys ≡ true → Apart w.asks → AllAsks (λ q. Later q ys) w.asks → Apart (do_all o ys w).asks
 apart_asks o [] w h p l = p
 apart_asks o (y ∷ ys) w h p l =
@@ -79,6 +80,7 @@ found_one P (q ∷ qs) m h k = at (q.mem == m) refl k (found_one P qs m h.1)
     at true e i f = subst P (eqb-true q.mem m e) h.0
     at false e i f = f i
 
+-- a memory's releases stand in stage c just where they do with delayed reads answered at once
 pub all_at_looked : (m c : ℕ) (xs : List Stmt) → all_at (is_release m) c (looked_all xs) ≡ all_at (is_release m) c xs
 all_at_looked m c [] = refl
 all_at_looked m c (x ∷ xs) = ap₂ (λ b d. (not b || (x.stage == c)) && d) (release_looked m x.op) (all_at_looked m c xs)
@@ -121,6 +123,7 @@ abbrev pub walk : Pipe → List ℕ → ℕ → ℕ
 walk p path zero = 0
 walk p path (suc k) = next_of p (walk p path k) path
 
+-- stage s is one that the path comes to
 abbrev pub Reached : Pipe → List ℕ → ℕ → Type 0
 Reached p path s = (k : ℕ) × (s ≡ walk p path k)
 

@@ -11,13 +11,13 @@ use Rattle.pdl_theory_derived.specs.Derived.{Work, Around, Thread, State, work_o
 use Rattle.pdl_theory_derived.specs.Alone.{start_work, so_far, thread_at}
 use Rattle.pdl_theory_facts.specs.Scans.{is_plain}
 use Rattle.pdl_theory_facts.specs.Facts.{is_exact}
-use Rattle.pdl_theory_turns.proofs.Alike.{Surrounds, Right}
+use Rattle.pdl_theory_turns.proofs.Surroundings.{Surrounds, Right}
 use Rattle.pdl_theory_derived.proofs.Stages.{or_else}
 use Rattle.pdl_theory_turns.proofs.Marks.{seen, strips, Later}
-use Rattle.pdl_theory_turns.proofs.Pending.{marks}
+use Rattle.pdl_theory_turns.proofs.UndoneWrites.{marks}
 use Rattle.pdl_theory_turns.proofs.TurnFacts.{Graph, Trunk, next_of, next_at, blocked_at, right_guess, stage_work}
-use Rattle.pdl_theory_turns.proofs.Under.{Branches}
-use Rattle.pdl_theory_derived.proofs.Answering.{caught, Apart, AllAsks}
+use Rattle.pdl_theory_turns.proofs.ThreadOrder.{Branches}
+use Rattle.pdl_theory_derived.proofs.DelayedReads.{caught, Apart, AllAsks}
 
 -- a thread that moved to stage n, with what it awaits there
 abbrev pub onward : ℕ → Work → Thread

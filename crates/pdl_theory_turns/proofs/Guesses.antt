@@ -8,32 +8,37 @@ use Rattle.pdl_semantics.specs.Sequential.{Run, run_after, run_all}
 use Rattle.pdl_theory_derived.specs.Derived.{Work, Around, work_after, do_all}
 use Rattle.pdl_theory_derived.specs.Alone.{alone}
 use Rattle.pdl_theory_facts.specs.Scans.{Phase, no_guards, phases_ok, all_at, none_of}
-use Rattle.pdl_theory_facts.specs.Certain.{stands_at, stands_before, Making, Unmade, Guessed, Made, next_making, making_all, is_unmade, is_guessed, making_ok, makings_ok}
+use Rattle.pdl_theory_facts.specs.GuessScans.{stands_at, stands_before, Making, Unmade, Guessed, Made, next_making, making_all, is_unmade, is_guessed, making_ok, makings_ok}
 use Rattle.pdl_theory_derived.proofs.Writes.{and_left, and_right}
 use Rattle.pdl_theory_derived.proofs.Stages.{step, joined, step_joined}
-use Rattle.pdl_theory_turns.proofs.Related.{Related, related_step, next_phases}
-use Rattle.pdl_theory_turns.proofs.Alike.{AllIn, taken_none}
+use Rattle.pdl_theory_turns.proofs.SequentialThread.{Related, related_step, next_phases}
+use Rattle.pdl_theory_turns.proofs.Surroundings.{AllIn, taken_none}
 
+-- arguments that pass the test of sameness are equal
 pub same_args_eq : (x y : List ℕ) → same_args x y ≡ true → x ≡ y
 same_args_eq [] [] h = refl
 same_args_eq [] (y ∷ ys) h = absurd (cc h)
 same_args_eq (x ∷ xs) [] h = absurd (cc h)
 same_args_eq (x ∷ xs) (y ∷ ys) h = ap₂ (λ a l. a ∷ l) (eqb-true x y (and_left _ _ h)) (same_args_eq xs ys (and_right _ _ h))
 
+-- arguments are the same as themselves
 pub same_args_refl : (x : List ℕ) → same_args x x ≡ true
 same_args_refl [] = refl
 same_args_refl (x ∷ xs) = ap₂ (λ a b. a && b) (eq-eqb x x refl) (same_args_refl xs)
 
 -- THE SCAN OF TWO LISTS
 
+-- what is made after joined statements is what the second ones make after the first
 pub making_append : (k : Making) (xs ys : List Stmt) → making_all k (xs ++ ys) ≡ making_all (making_all k xs) ys
 making_append k [] ys = refl
 making_append k (x ∷ xs) ys = making_append (next_making k x.op) xs ys
 
+-- where joined statements call, guess and verify by the rules, the first ones do
 pub makings_first : (v : Option ℕ) (k : Making) (xs ys : List Stmt) → makings_ok v k (xs ++ ys) ≡ true → makings_ok v k xs ≡ true
 makings_first v k [] ys h = refl
 makings_first v k (x ∷ xs) ys h = ap₂ (λ a b. a && b) (and_left (making_ok v k x.stage x.op) _ h) (makings_first v (next_making k x.op) xs ys (and_right (making_ok v k x.stage x.op) _ h))
 
+-- where joined statements call, guess and verify by the rules, the second ones do, after the first
 pub makings_second : (v : Option ℕ) (k : Making) (xs ys : List Stmt) → makings_ok v k (xs ++ ys) ≡ true → makings_ok v (making_all k xs) ys ≡ true
 makings_second v k [] ys h = h
 makings_second v k (x ∷ xs) ys h = makings_second v (next_making k x.op) xs ys (and_right (making_ok v k x.stage x.op) _ h)
@@ -43,6 +48,7 @@ verify_op : (v : ℕ) (k : Making) (s : ℕ) (op : Op) → making_ok (Some v) k 
 verify_op v k s (Verify args) h = and_right (is_guessed k) _ h
 verify_op v k s _ h = refl
 
+-- where statements keep the rules on guesses, each verify stands in stage V
 pub verify_at : (v : ℕ) (k : Making) (xs : List Stmt) → makings_ok (Some v) k xs ≡ true → all_at is_verify v xs ≡ true
 verify_at v k [] h = refl
 verify_at v k (x ∷ xs) h = ap₂ (λ a b. a && b) (verify_op v k x.stage x.op (and_left _ _ h)) (verify_at v (next_making k x.op) xs (and_right (making_ok (Some v) k x.stage x.op) _ h))
@@ -54,12 +60,13 @@ unguessed_op k s (SpecCall args) h e = absurd (cc (and_right (is_unmade k) _ h))
 unguessed_op k s (Verify args) h e = refl
 unguessed_op k s _ h e = e
 
+-- where no stage has verifies, nothing is guessed
 pub no_guess : (k : Making) (xs : List Stmt) → makings_ok None k xs ≡ true → is_guessed k ≡ false → is_guessed (making_all k xs) ≡ false
 no_guess k [] h e = e
 no_guess k (x ∷ xs) h e = no_guess (next_making k x.op) xs (and_right (making_ok None k x.stage x.op) _ h) (unguessed_op k x.stage x.op (and_left _ _ h) e)
 
 -- after a call or a verify there is no verify, and none in a stage other than V
-abbrev pub Elsewhere : Option ℕ → Making → ℕ → Type 0
+abbrev Elsewhere : Option ℕ → Making → ℕ → Type 0
 Elsewhere v k s = is_guessed k ≡ true → stands_at v s ≡ false
 
 before_at : (v : Option ℕ) (s : ℕ) → stands_before v s ≡ true → stands_at v s ≡ false
@@ -83,6 +90,7 @@ unverified_op v k s (Verify args) h e = absurd (clash (sym (e (and_left _ _ h)) 
     clash i = cc
 unverified_op v k s _ h e = refl
 
+-- statements of a stage have no verify, where a guess that was made is verified in another stage
 pub unverified : (v : Option ℕ) (k : Making) (s : ℕ) (xs : List Stmt) → AllIn s xs → makings_ok v k xs ≡ true → Elsewhere v k s → none_of is_verify xs ≡ true
 unverified v k s [] a h e = refl
 unverified v k s (x ∷ xs) a h e =
@@ -95,6 +103,7 @@ made_next v s (SpecCall args) h = absurd (cc h)
 made_next v s (Verify args) h = absurd (cc h)
 made_next v s _ h = (refl, refl)
 
+-- after a next thread made for certain there is no verify
 pub unverified_made : (v : Option ℕ) (xs : List Stmt) → makings_ok v Made xs ≡ true → none_of is_verify xs ≡ true
 unverified_made v [] h = refl
 unverified_made v (x ∷ xs) h =
@@ -103,6 +112,7 @@ unverified_made v (x ∷ xs) h =
 
 -- WORK THAT MAKES NOTHING
 
+-- two works have the same next thread, the same failure and the same guess
 abbrev pub Kept : Work → Work → Type 0
 Kept v w = (v.child ≡ w.child) × (v.fails ≡ w.fails) × (v.guess ≡ w.guess)
 
@@ -122,6 +132,7 @@ kept_step : (b : Bool) (v w : Work) → Kept v w → Kept (cond b v w) w
 kept_step true v w h = h
 kept_step false v w h = (refl, refl, refl)
 
+-- after a call or a guess, statements without a verify leave the next thread and the guess as they are
 pub settled : (o : Around) (v : Option ℕ) (k : Making) (xs : List Stmt) (w : Work) → is_unmade k ≡ false → makings_ok v k xs ≡ true → none_of is_verify xs ≡ true → Kept (do_all o xs w) w × (making_all k xs ≡ k)
 settled o v k [] w u h n = ((refl, refl, refl), refl)
 settled o v k (x ∷ xs) w u h n =
@@ -139,6 +150,7 @@ run_op_settled v k s (Call args) r u h n = absurd (clash (sym u ∙ h))
 run_op_settled v k s (Verify args) r u h n = absurd (cc n)
 run_op_settled v k s _ r u h n = refl
 
+-- after a call or a guess, statements without a verify leave the sequential run's next arguments as they are
 pub run_settled : (v : Option ℕ) (k : Making) (xs : List Stmt) (r : Run) → is_unmade k ≡ false → makings_ok v k xs ≡ true → none_of is_verify xs ≡ true → (run_all xs r).next ≡ r.next
 run_settled v k [] r u h n = refl
 run_settled v k (x ∷ xs) r u h n =
@@ -155,6 +167,7 @@ pub fails_op : (o : Around) (op : Op) (w : Work) → not (is_verify op) ≡ true
 fails_op o (Verify args) w n = absurd (cc n)
 fails_op o _ w n = refl
 
+-- statements without a verify let no guess fail
 pub unfailed : (o : Around) (xs : List Stmt) (w : Work) → none_of is_verify xs ≡ true → (do_all o xs w).fails ≡ w.fails
 unfailed o [] w n = refl
 unfailed o (x ∷ xs) w n = unfailed o xs (step o x w) (and_right (not (is_verify x.op)) _ n) ∙ at (all_hold x.guards w.env)
@@ -175,9 +188,11 @@ abbrev pub unguarded : List Stmt → Bool
 unguarded [] = true
 unguarded (x ∷ xs) = no_guards x.guards && unguarded xs
 
+-- a statement without guards is carried out
 pub step_free : (o : Around) (x : Stmt) (w : Work) → no_guards x.guards ≡ true → step o x w ≡ work_after o x.op w
 step_free o x w h = ap (λ b. cond b (work_after o x.op w) w) (taken_none x.guards w.env h)
 
+-- unguarded statements without a verify count as having made nothing just where they make no next thread
 pub begins : (o : Around) (v : Option ℕ) (xs : List Stmt) (w : Work) → w.child ≡ None → makings_ok v Unmade xs ≡ true → none_of is_verify xs ≡ true → unguarded xs ≡ true → is_unmade (making_all Unmade xs) ≡ not (is_some (do_all o xs w).child)
 begins o v [] w e h n g = ap (λ c. not (is_some c)) (sym e)
 begins o v (x ∷ xs) w e h n g =
@@ -234,6 +249,7 @@ calls_op o v k s (Verify args) w r h e c = by k c (and_left _ _ h)
     by Made c i = absurd (cc i)
 calls_op o v k s _ w r h e c = c
 
+-- what a thread alone makes and guesses goes on agreeing with its sequential run's next arguments
 pub calls_all : (arrays : Arrays) (v : Option ℕ) (xs : List Stmt) (ph : ℕ → Phase) (k : Making) (w : Work) (r : Run) → ((m : ℕ) → phases_ok m (ph m) xs ≡ true) → makings_ok v k xs ≡ true → Related arrays ph w r → Calls k w.child w.guess r.next
     → Calls (making_all k xs) (do_all (alone arrays) xs w).child (do_all (alone arrays) xs w).guess (run_all xs r).next
 calls_all arrays v [] ph k w r ok h rel c = c
@@ -263,6 +279,7 @@ abbrev pub Along : Arrays → List Stmt → Work → Run → Type 0
 Along arrays [] w r = w.env ≡ r.env
 Along arrays (x ∷ xs) w r = (w.env ≡ r.env) × Along arrays xs (step (alone arrays) x w) (if all_hold x.guards r.env then run_after x.op r else r)
 
+-- a thread alone has the values of its sequential run all along statements that the phases allow
 pub along_all : (arrays : Arrays) (xs : List Stmt) (ph : ℕ → Phase) (w : Work) (r : Run) → ((m : ℕ) → phases_ok m (ph m) xs ≡ true) → Related arrays ph w r → Along arrays xs w r
 along_all arrays [] ph w r ok rel = rel.env
 along_all arrays (x ∷ xs) ph w r ok rel = (
@@ -275,6 +292,7 @@ along_all arrays (x ∷ xs) ph w r ok rel = (
     free : no_guards x.guards ≡ true
     free = and_left _ _ (and_left _ _ (ok 0))
 
+-- a work that has the run's values all along the statements has them without the work of earlier stages
 pub along_joined : (arrays : Arrays) (xs : List Stmt) (w v : Work) (r : Run) → Along arrays xs (joined w v) r → Along arrays xs v r
 along_joined arrays [] w v r h = h
 along_joined arrays (x ∷ xs) w v r h = (

@@ -7,6 +7,7 @@ use Rattle.pdl_semantics.specs.Promises.{wrote, row}
 use Rattle.pdl_theory_derived.specs.Derived.{Thread}
 use Rattle.pdl_theory_turns.proofs.Marks.{Mark, seen}
 
+-- writes of each memory
 abbrev pub Writes : Type 0
 Writes = ℕ → List Commit
 
@@ -22,6 +23,7 @@ Clean p v m a = read_ready (mem_at p m).lock (seen a (v m) Nothing) ≡ true
 abbrev pub RowsAt : Arrays → Writes → Arrays → Type 0
 RowsAt image w arrays = (m : ℕ) → row arrays m ≡ wrote (row image m) (w m)
 
+-- whether there is no thread
 abbrev pub nobody : List Thread → Bool
 nobody [] = true
 nobody (t ∷ ts) = false

@@ -15,7 +15,7 @@ use Rattle.pdl_theory_derived.proofs.Writes.{and_left, and_right}
 use Rattle.pdl_theory_derived.proofs.Stages.{step, joined, do_all_joined, or_else}
 use Rattle.pdl_theory_turns.proofs.Paths.{Fixed}
 pub use Rattle.pdl_theory_turns.proofs.Paths.{dead_none}
-use Rattle.pdl_theory_derived.proofs.Answering.{caught, caught_set, AllAsks, all_snoc}
+use Rattle.pdl_theory_derived.proofs.DelayedReads.{caught, caught_set, AllAsks, all_snoc}
 use Rattle.pdl_word.proofs.Bools.{by_or}
 use Rattle.pdl_semantics.specs.Sound.{is_fetch}
 
@@ -41,7 +41,7 @@ apart x y h e = absurd (clash (sym h ∙ ap not (ap (λ n. n == x) (sym e) ∙ s
 other : (env : List ℕ) (x v y : ℕ) → not (y == x) ≡ true → slice_index (slice_set env x v) y ≡ slice_index env y
 other env x v y h = get_or-set_other env x y v 0 (λ e. apart x y h (sym e))
 
-pub value_unused : (x v : ℕ) (e : Expr) (env : List ℕ) → not (uses_in x e) ≡ true → value_of e (slice_set env x v) ≡ value_of e env
+value_unused : (x v : ℕ) (e : Expr) (env : List ℕ) → not (uses_in x e) ≡ true → value_of e (slice_set env x v) ≡ value_of e env
 value_unused x v (Constant w n) env h = refl
 value_unused x v (Variable y) env h = other env x v y h
 value_unused x v (Slice y high low) env h = ap (Words.slice high low) (other env x v y h)
@@ -62,14 +62,14 @@ values_unused x v (e ∷ es) env h = let n = not_or (uses_in x e) (uses_any x es
 
 -- GUARDS
 
-pub taken_unused : (x v : ℕ) (gs : List Guard) (env : List ℕ) → not (asks_for x gs) ≡ true → all_hold gs (slice_set env x v) ≡ all_hold gs env
+taken_unused : (x v : ℕ) (gs : List Guard) (env : List ℕ) → not (asks_for x gs) ≡ true → all_hold gs (slice_set env x v) ≡ all_hold gs env
 taken_unused x v [] env h = refl
 taken_unused x v (g ∷ gs) env h = let n = not_or (g.var == x) (asks_for x gs) h in ap₂ (λ k b. takes_branch g.first k && b) (other env x v g.var n.0) (taken_unused x v gs env n.1)
 
 -- STATEMENTS THAT HAVE NOTHING TO DO WITH A VARIABLE
 
 -- the same work with another value of a variable
-abbrev pub with_set : Work → ℕ → ℕ → Work
+abbrev with_set : Work → ℕ → ℕ → Work
 with_set w x v = record w { env = slice_set w.env x v }
 
 does_set : (arrays : Arrays) (x v : ℕ) (op : Op) (w : Work) → not (mentions_var x op) ≡ true → work_after (alone arrays) (answered_op op) (with_set w x v) ≡ with_set (work_after (alone arrays) (answered_op op) w) x v
@@ -101,7 +101,7 @@ does_set arrays x v _ w h = refl
 abbrev pub look : Stmt → Stmt
 look y = record y { op = answered_op y.op }
 
-pub step_set : (arrays : Arrays) (x v : ℕ) (y : Stmt) (w : Work) → (is_dead y.guards || (not (asks_for x y.guards) && not (mentions_var x y.op))) ≡ true
+step_set : (arrays : Arrays) (x v : ℕ) (y : Stmt) (w : Work) → (is_dead y.guards || (not (asks_for x y.guards) && not (mentions_var x y.op))) ≡ true
     → step (alone arrays) (look y) (with_set w x v) ≡ with_set (step (alone arrays) (look y) w) x v
 step_set arrays x v y w h =
     by_or (is_dead y.guards) _ _ h
@@ -200,6 +200,7 @@ raw_step arrays (Verify args) ys w h true f go = absurd (cc f)
 raw_step arrays SpecCheck ys w h true f go = absurd (cc f)
 raw_step arrays SpecBarrier ys w h true f go = absurd (cc f)
 
+-- delayed reads whose variables no later statement mentions may be answered at once or after the statements
 pub raw_looked : (arrays : Arrays) (ys : List Stmt) (w : Work) → is_unseen ys ≡ true → do_all (alone arrays) (looked_all ys) (clear w) ≡ answered_now arrays (do_all (alone arrays) ys (clear w))
 raw_looked arrays [] w h = refl
 raw_looked arrays (y ∷ ys) w h = at (all_hold y.guards w.env) (λ v. raw_looked arrays ys v (and_right (unseen_op y.op ys) _ h))
@@ -235,7 +236,7 @@ env_step o y w v h = at (all_hold y.guards w.env) (all_hold y.guards v.env) (ap 
     at false true e = absurd (cc e)
     at false false e = h
 
-pub fixed_env : (path : List ℕ) (o : Around) (ys : List Stmt) (w v : Work) → w.env ≡ v.env → Fixed path o ys w → Fixed path o ys v
+fixed_env : (path : List ℕ) (o : Around) (ys : List Stmt) (w v : Work) → w.env ≡ v.env → Fixed path o ys w → Fixed path o ys v
 fixed_env path o [] w v h f = tt
 fixed_env path o (y ∷ ys) w v h f = (ap (all_hold y.guards) (sym h) ∙ f.0, fixed_env path o ys (step o y w) (step o y v) (env_step o y w v h) f.1)
 
@@ -269,6 +270,7 @@ fixed_op path arrays (Verify args) ys w h true f g = absurd (cc f)
 fixed_op path arrays SpecCheck ys w h true f g = absurd (cc f)
 fixed_op path arrays SpecBarrier ys w h true f g = absurd (cc f)
 
+-- where a path fixes which statements are carried out with delayed reads answered at once, it does if they ask
 pub fixed_raw : (path : List ℕ) (arrays : Arrays) (ys : List Stmt) (w : Work) → is_unseen ys ≡ true → Fixed path (alone arrays) (looked_all ys) w → Fixed path (alone arrays) ys w
 fixed_raw path arrays [] w h f = tt
 fixed_raw path arrays (y ∷ ys) w h f = (
@@ -282,14 +284,17 @@ fixed_raw path arrays (y ∷ ys) w h f = (
 
 -- THE TEXT WITH READS AT ONCE
 
+-- a delayed read that is answered at once is answered once
 pub looked_twice : (op : Op) → answered_op (answered_op op) ≡ answered_op op
 looked_twice (DelayedRead x m a) = refl
 looked_twice _ = refl
 
+-- the statements before stage s are the same with delayed reads answered at once
 pub before_looked : (s : ℕ) (xs : List Stmt) → before s (looked_all xs) ≡ before s xs
 before_looked s [] = refl
 before_looked s (x ∷ xs) = ap₂ (λ op l. cond (nat_lt x.stage s) (record x { op = op } ∷ l) l) (looked_twice x.op) (before_looked s xs)
 
+-- delayed reads of a stage's statements, answered at once, are the stage's of those answered at once
 pub stage_looked : (s : ℕ) (xs : List Stmt) → in_stage s (looked_all xs) ≡ looked_all (in_stage s xs)
 stage_looked s [] = refl
 stage_looked s (x ∷ xs) = at (x.stage == s) (stage_looked s xs)
@@ -298,6 +303,7 @@ stage_looked s (x ∷ xs) = at (x.stage == s) (stage_looked s xs)
     at true h = ap (λ l. look x ∷ l) h
     at false h = h
 
+-- delayed reads of a path's statements, answered at once, are the path's of those answered at once
 pub path_looked : (path : List ℕ) (xs : List Stmt) → onpath path (looked_all xs) ≡ looked_all (onpath path xs)
 path_looked path [] = refl
 path_looked path (x ∷ xs) = at (all_hold x.guards path) (path_looked path xs)
@@ -310,6 +316,7 @@ runs_looked : (op : Op) (r : Run) → run_after (answered_op op) r ≡ run_after
 runs_looked (DelayedRead x m a) r = refl
 runs_looked _ r = refl
 
+-- the sequential run is the same with delayed reads answered at once
 pub run_looked : (xs : List Stmt) (r : Run) → run_all (looked_all xs) r ≡ run_all xs r
 run_looked [] r = refl
 run_looked (x ∷ xs) r =

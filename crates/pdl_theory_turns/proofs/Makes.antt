@@ -7,13 +7,13 @@ use Rattle.pdl_semantics.specs.Sequential.{Run, run_all, thread}
 use Rattle.pdl_theory_derived.specs.Derived.{Around, work_of_stage}
 use Rattle.pdl_theory_derived.specs.Alone.{alone, before, start_work, so_far, thread_at}
 use Rattle.pdl_theory_facts.specs.Scans.{Phase, Fresh, no_guards, next_phase, phase_ok, phases_ok, phase_all, none_of}
-use Rattle.pdl_theory_facts.specs.Certain.{stands_at, Making, Unmade, Guessed, Made, making_all, is_unmade, is_guessed, is_made, makings_ok}
+use Rattle.pdl_theory_facts.specs.GuessScans.{stands_at, Making, Unmade, Guessed, Made, making_all, is_unmade, is_guessed, is_made, makings_ok}
 use Rattle.pdl_theory_facts.specs.Accepted.{Pathwise, along}
 use Rattle.pdl_theory_derived.proofs.Writes.{and_left, and_right}
 use Rattle.pdl_theory_derived.proofs.Stages.{reset, rejoined}
-use Rattle.pdl_theory_turns.proofs.Alike.{in_stage_all}
+use Rattle.pdl_theory_turns.proofs.Surroundings.{in_stage_all}
 use Rattle.pdl_theory_turns.proofs.Turn.{none_from}
-use Rattle.pdl_theory_turns.proofs.Whole.{start_run, run_at, run_append, related_at, ok_before, phases_second, start_related}
+use Rattle.pdl_theory_turns.proofs.TurnPath.{start_run, run_at, run_append, related_at, ok_before, phases_second, start_related}
 use Rattle.pdl_theory_turns.proofs.Guesses.{same_args_eq, same_args_refl, making_append, makings_first, makings_second, verify_at, no_guess, unverified, unverified_made, settled, run_settled, unfailed, Calls, calls_all, Verified, verified_all, Along, along_all, along_joined, unguarded}
 use Rattle.pdl_theory_turns.proofs.TurnFacts.{right_guess}
 use Rattle.pdl_word.proofs.Bools.{by_bool}

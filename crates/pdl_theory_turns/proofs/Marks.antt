@@ -14,7 +14,7 @@ pub record Mark : Type 0 where
   pub value : ℕ
   pub known : Bool
 
-abbrev pub mark_latest : Mark → Latest
+abbrev mark_latest : Mark → Latest
 mark_latest k = if k.known then Known k.value else Coming
 
 -- what marks, the oldest first, say of an address, behind what older ones say
@@ -22,16 +22,18 @@ abbrev pub seen : ℕ → List Mark → Latest → Latest
 seen a [] rest = rest
 seen a (k ∷ ks) rest = seen a ks (if k.address == a then mark_latest k else rest)
 
+-- the writes of memory m that marks stand for
 abbrev pub strips : ℕ → List Mark → List Commit
 strips m [] = []
 strips m (k ∷ ks) = write_of m k.address k.value ∷ strips m ks
 
+-- writes as marks, all with known values or none
 abbrev pub marked : Bool → List Commit → List Mark
 marked known [] = []
 marked known (c ∷ cs) = record { address = c.address; value = c.value; known = known } ∷ marked known cs
 
 -- the same marks, with more values known
-abbrev pub Raised : List Mark → List Mark → Type 0
+abbrev Raised : List Mark → List Mark → Type 0
 Raised [] [] = Unit {0}
 Raised (k ∷ ks) (j ∷ js) = (k.address ≡ j.address) × (k.value ≡ j.value) × (k.known ≡ true → j.known ≡ true) × Raised ks js
 Raised [] (j ∷ js) = ⊥
@@ -45,14 +47,17 @@ pub record Later (m : ℕ) (ks : List Mark) (gone : List Commit) (js : List Mark
   pub commits : strips m front ≡ gone
   pub raised : Raised rest js
 
+-- what joined marks say of an address is what the second ones say behind the first
 pub seen_append : (a : ℕ) (ks js : List Mark) (rest : Latest) → seen a (ks ++ js) rest ≡ seen a js (seen a ks rest)
 seen_append a [] js rest = refl
 seen_append a (k ∷ ks) js rest = seen_append a ks js (if k.address == a then mark_latest k else rest)
 
+-- the writes of joined marks are those of the first and then those of the second
 pub strips_append : (m : ℕ) (ks js : List Mark) → strips m (ks ++ js) ≡ strips m ks ++ strips m js
 strips_append m [] js = refl
 strips_append m (k ∷ ks) js = ap (λ l. write_of m k.address k.value ∷ l) (strips_append m ks js)
 
+-- marks are the same as themselves, with all the values known that were
 pub raised_refl : (ks : List Mark) → Raised ks ks
 raised_refl [] = tt
 raised_refl (k ∷ ks) = (refl, refl, (λ h. h), raised_refl ks)
@@ -69,13 +74,16 @@ strips_raised m [] (j ∷ js) r = absurd r
 strips_raised m (k ∷ ks) [] r = absurd r
 strips_raised m (k ∷ ks) (j ∷ js) r = λ i. write_of m (r.0 i) (r.1 i) ∷ strips_raised m ks js r.3 i
 
+-- the same writes, known where they were known before, are the same marks with more values known
 pub raised_marked : (b c : Bool) (cs : List Commit) → (b ≡ true → c ≡ true) → Raised (marked b cs) (marked c cs)
 raised_marked b c [] h = tt
 raised_marked b c (x ∷ cs) h = (refl, refl, h, raised_marked b c cs h)
 
+-- the writes of marks are those that were committed since, and then those of the later marks
 pub later_strips : (m : ℕ) (ks : List Mark) (gone : List Commit) (js : List Mark) → Later m ks gone js → strips m ks ≡ gone ++ strips m js
 later_strips m ks gone js l = ap (strips m) l.whole ∙ strips_append m l.front l.rest ∙ ap₂ (λ a b. a ++ b) l.commits (strips_raised m l.rest js l.raised)
 
+-- marks that stand for no writes are none
 pub no_strips : (m : ℕ) (ks : List Mark) → strips m ks ≡ [] → ks ≡ []
 no_strips m [] h = refl
 no_strips m (k ∷ ks) h = absurd (cc h)

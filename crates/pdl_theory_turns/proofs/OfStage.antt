@@ -18,13 +18,14 @@ pub free_stage : (s : ℕ) (gs : List Guard) (xs : List Stmt) → free_of gs xs 
 free_stage s [] xs h = refl
 free_stage s (g ∷ gs) xs h = ap₂ (λ a b. a && b) (none_stage (binds_var g.var) s xs (and_left _ _ h)) (free_stage s gs xs (and_right _ _ h))
 
-pub keeps_stage : (s : ℕ) (gs : List Guard) (xs : List Stmt) → keeps_guards gs xs ≡ true → keeps_guards gs (in_stage s xs) ≡ true
+keeps_stage : (s : ℕ) (gs : List Guard) (xs : List Stmt) → keeps_guards gs xs ≡ true → keeps_guards gs (in_stage s xs) ≡ true
 keeps_stage s gs xs h = at (is_dead gs) h
   where
     at : (b : Bool) → (b || free_of gs xs) ≡ true → (b || free_of gs (in_stage s xs)) ≡ true
     at true k = refl
     at false k = free_stage s gs xs k
 
+-- where statements leave the values of their guards alone, those of one stage do
 pub fixed_stage : (s : ℕ) (xs : List Stmt) → is_fixed xs ≡ true → is_fixed (in_stage s xs) ≡ true
 fixed_stage s [] h = refl
 fixed_stage s (x ∷ xs) h = at (x.stage == s) refl (fixed_stage s xs (and_right _ _ h))

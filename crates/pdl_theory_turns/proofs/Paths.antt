@@ -44,6 +44,7 @@ run_stays g (x ∷ xs) r h = run_stays g xs _ (and_right _ _ h) ∙ at (all_hold
     at true = run_op_stays g x.op r (and_left _ _ h)
     at false = refl
 
+-- statements that don't bind a variable leave its value as it is
 pub all_stays : (g : ℕ) (o : Around) (xs : List Stmt) (w : Work) → none_of (binds_var g) xs ≡ true → slice_index (do_all o xs w).env g ≡ slice_index w.env g
 all_stays g o [] w h = refl
 all_stays g o (x ∷ xs) w h = all_stays g o xs _ (and_right _ _ h) ∙ at (all_hold x.guards w.env)
@@ -52,6 +53,7 @@ all_stays g o (x ∷ xs) w h = all_stays g o xs _ (and_right _ _ h) ∙ at (all_
     at true = op_stays g o x.op w (and_left _ _ h)
     at false = refl
 
+-- where none of the statements passes a test, none of those on a path does
 pub none_onpath : (test : Op → Bool) (path : List ℕ) (xs : List Stmt) → none_of test xs ≡ true → none_of test (onpath path xs) ≡ true
 none_onpath test path [] h = refl
 none_onpath test path (x ∷ xs) h = at (all_hold x.guards path) (none_onpath test path xs (and_right _ _ h))
@@ -86,6 +88,7 @@ against_none g (k ∷ ks) env h t = at ((g.var == k.var) && (if g.first then not
         ap (λ b. b && all_hold ks env) (opposite g.first k.first (slice_index env k.var) (and_right (g.var == k.var) _ e) (subst (λ n. takes_branch g.first (slice_index env n) ≡ true) same t))
     at false e i f = none _ _ (f i t)
 
+-- guards that contradict one another never hold
 pub dead_none : (gs : List Guard) (env : List ℕ) → is_dead gs ≡ true → all_hold gs env ≡ false
 dead_none [] env h = absurd (cc h)
 dead_none (g ∷ gs) env h = at (against g gs) refl h (takes_branch g.first (slice_index env g.var)) refl (dead_none gs env)
@@ -101,6 +104,7 @@ free_stays [] xs env path h f = refl
 free_stays (g ∷ gs) xs env path h f =
     ap₂ (λ n b. takes_branch g.first n && b) (sym (f g.var (and_left _ _ h))) (free_stays gs xs env path (and_right _ _ h) f)
 
+-- guards that statements leave alone hold with values just where they hold on a path that agrees with these
 pub taken_stays : (gs : List Guard) (xs : List Stmt) (env path : List ℕ) → keeps_guards gs xs ≡ true → ((g : ℕ) → none_of (binds_var g) xs ≡ true → slice_index path g ≡ slice_index env g) → all_hold gs env ≡ all_hold gs path
 taken_stays gs xs env path h f = at (is_dead gs) refl h
   where
@@ -151,6 +155,7 @@ fixed_path_to path o (x ∷ xs) ys w h e =
     none_front test [] vs k = refl
     none_front test (u ∷ us) vs k = ap₂ (λ a b. a && b) (and_left (not (test u.op)) _ k) (none_front test us vs (and_right _ _ k))
 
+-- where a path fixes which statements are carried out, they do what those on the path do
 pub fixed_all : (path : List ℕ) (o : Around) (xs : List Stmt) (w : Work) → Fixed path o xs w → do_all o xs w ≡ do_all o (onpath path xs) w
 fixed_all path o [] w f = refl
 fixed_all path o (x ∷ xs) w f = fixed_all path o xs (step o x w) f.1 ∙ step_path path o x xs w f.0
@@ -169,6 +174,7 @@ before_path path s (x ∷ xs) = at (all_hold x.guards path) refl (nat_lt x.stage
     at false e true f h = h ∙ sym (ap (λ t. cond t (record { stage = x.stage; guards = []; op = answered_op x.op } ∷ onpath path (before s xs)) (onpath path (before s xs))) e)
     at false e false f h = h
 
+-- the statements of a stage, of those on a path, are those on the path, of the stage
 pub stage_path : (path : List ℕ) (s : ℕ) (xs : List Stmt) → in_stage s (onpath path xs) ≡ onpath path (in_stage s xs)
 stage_path path s [] = refl
 stage_path path s (x ∷ xs) = at (all_hold x.guards path) refl (x.stage == s) refl (stage_path path s xs)

@@ -15,11 +15,13 @@ Tied m (Held x) env es cs ws = (es ≡ entry m x (slice_index env x) None ∷ []
 Tied m (Written x) env es cs ws = (a : ℕ) × (v : ℕ) × (es ≡ entry m x a (Some v) ∷ []) × (cs ≡ []) × (ws ≡ write_of m a v ∷ [])
 Tied m Done env es cs ws = (es ≡ []) × (cs ≡ ws)
 
+-- entries, commits and writes that equal those of a phase are of that phase
 pub tied_moved : (m : ℕ) (ph : Phase) (env : List ℕ) (es es' : List Entry) (cs cs' ws ws' : List Commit)
     → es' ≡ es → cs' ≡ cs → ws' ≡ ws → Tied m ph env es cs ws → Tied m ph env es' cs' ws'
 tied_moved m ph env es es' cs cs' ws ws' p q r t =
     subst (λ l. Tied m ph env l cs' ws') (sym p) (subst (λ l. Tied m ph env es l ws') (sym q) (subst (λ l. Tied m ph env es cs l) (sym r) t))
 
+-- a variable that no held location has may be set, and entries, commits and writes stay of their phase
 pub tied_set : (m : ℕ) (ph : Phase) (env : List ℕ) (es : List Entry) (cs ws : List Commit) (x v : ℕ)
     → not (holds_location ph x) ≡ true → Tied m ph env es cs ws → Tied m ph (slice_set env x v) es cs ws
 tied_set m Fresh env es cs ws x v h t = t

@@ -7,21 +7,22 @@ use Rattle.pdl_semantics.specs.Cycle.{awaited_of}
 use Rattle.pdl_theory_derived.specs.Derived.{Work, Around, State, work_after, do_all, has_entry, with_answers, still, word_of, asked_at}
 use Rattle.pdl_theory_derived.specs.Alone.{before, answered_op}
 use Rattle.pdl_theory_facts.specs.Scans.{Scan, has_location, scan_after, scan_after_all, no_guards, none_of, binds_var, free_of, is_fixed}
-use Rattle.pdl_theory_facts.specs.Certain.{stands_before, Making, next_making, making_all, making_ok, makings_ok, is_barrier, is_sure, all_sure}
+use Rattle.pdl_theory_facts.specs.GuessScans.{stands_before, Making, next_making, making_all, making_ok, makings_ok, is_barrier, is_sure, all_sure}
 use Rattle.pdl_theory_facts.specs.Facts.{is_dead, looked_all, is_fetch_of, comes_by, visits_stage}
 use Rattle.pdl_theory_facts.specs.Graphs.{on_side, In}
 use Rattle.std.proofs.lemmas.List.{get_or-set_other}
 use Rattle.std.proofs.lemmas.Bool.{eqb-true, eqb-false}
 use Rattle.pdl_theory_derived.proofs.Writes.{and_left, and_right}
 use Rattle.pdl_theory_derived.proofs.Stages.{step, was_ready}
-use Rattle.pdl_theory_turns.proofs.Alike.{AllIn, Covers, covers_op}
+use Rattle.pdl_theory_turns.proofs.Surroundings.{AllIn, Covers, covers_op}
 use Rattle.pdl_theory_turns.proofs.Guesses.{unguarded, step_free}
-use Rattle.pdl_theory_turns.proofs.Astray.{some_barrier, unreleased}
-use Rattle.pdl_theory_derived.proofs.Answering.{AllAsks}
+use Rattle.pdl_theory_turns.proofs.CertaintyScans.{some_barrier, unreleased}
+use Rattle.pdl_theory_derived.proofs.DelayedReads.{AllAsks}
 use Rattle.pdl_theory_turns.proofs.Looks.{look, looked_twice}
-use Rattle.pdl_theory_turns.proofs.Sounds.{binds_looked}
+use Rattle.pdl_theory_turns.proofs.StageFacts.{binds_looked}
 use Rattle.pdl_semantics.specs.Sound.{stages_from}
 
+-- `false` is not `true`
 pub clash : false ≡ true → ⊥
 clash k = cc
 
@@ -31,6 +32,7 @@ making_looked_op : (k : Making) (op : Op) → next_making k (answered_op op) ≡
 making_looked_op k (DelayedRead x m a) = refl
 making_looked_op k _ = refl
 
+-- statements make the same with their delayed reads answered at once
 pub making_looked : (k : Making) (xs : List Stmt) → making_all k (looked_all xs) ≡ making_all k xs
 making_looked k [] = refl
 making_looked k (x ∷ xs) = ap (λ j. making_all j (looked_all xs)) (making_looked_op k x.op) ∙ making_looked (next_making k x.op) xs
@@ -39,6 +41,7 @@ ok_looked_op : (v : Option ℕ) (k : Making) (s : ℕ) (op : Op) → making_ok v
 ok_looked_op v k s (DelayedRead x m a) = refl
 ok_looked_op v k s _ = refl
 
+-- statements keep the rules on guesses just where they do with delayed reads answered at once
 pub ok_looked : (v : Option ℕ) (k : Making) (xs : List Stmt) → makings_ok v k (looked_all xs) ≡ makings_ok v k xs
 ok_looked v k [] = refl
 ok_looked v k (x ∷ xs) = ap₂ (λ b j. b && makings_ok v j (looked_all xs)) (ok_looked_op v k x.stage x.op) (making_looked_op k x.op) ∙ ap (λ b. making_ok v k x.stage x.op && b) (ok_looked v (next_making k x.op) xs)
@@ -47,6 +50,7 @@ opens_looked_op : (op : Op) (c : Scan) → scan_after (answered_op op) c ≡ sca
 opens_looked_op (DelayedRead x m a) c = refl
 opens_looked_op _ c = refl
 
+-- statements reserve and block the same locations with their delayed reads answered at once
 pub opens_looked : (xs : List Stmt) (c : Scan) → scan_after_all (looked_all xs) c ≡ scan_after_all xs c
 opens_looked [] c = refl
 opens_looked (x ∷ xs) c = ap (scan_after_all (looked_all xs)) (opens_looked_op x.op c) ∙ opens_looked xs (scan_after x.op c)
@@ -55,6 +59,7 @@ barrier_looked : (op : Op) → is_barrier (answered_op op) ≡ is_barrier op
 barrier_looked (DelayedRead x m a) = refl
 barrier_looked _ = refl
 
+-- statements pass a barrier just where they do with delayed reads answered at once
 pub barred_looked : (b : Bool) (xs : List Stmt) → some_barrier b (looked_all xs) ≡ some_barrier b xs
 barred_looked b [] = refl
 barred_looked b (x ∷ xs) = ap (λ c. some_barrier (b || c) (looked_all xs)) (barrier_looked x.op) ∙ barred_looked (b || is_barrier x.op) xs
@@ -63,6 +68,7 @@ sure_looked_op : (v : Option ℕ) (b : Bool) (c : Scan) (s : ℕ) (op : Op) → 
 sure_looked_op v b c s (DelayedRead x m a) = refl
 sure_looked_op v b c s _ = refl
 
+-- the releases of statements are certain just where they are with delayed reads answered at once
 pub sure_looked : (v : Option ℕ) (b : Bool) (c : Scan) (xs : List Stmt) → all_sure v b c (looked_all xs) ≡ all_sure v b c xs
 sure_looked v b c [] = refl
 sure_looked v b c (x ∷ xs) =
@@ -77,14 +83,17 @@ free_of_looked : (gs : List Guard) (xs : List Stmt) → free_of gs (looked_all x
 free_of_looked [] xs = refl
 free_of_looked (g ∷ gs) xs = ap₂ (λ b c. b && c) (none_binds g.var xs) (free_of_looked gs xs)
 
+-- statements leave the values of their guards alone just where they do with delayed reads answered at once
 pub fixed_looked : (xs : List Stmt) → is_fixed (looked_all xs) ≡ is_fixed xs
 fixed_looked [] = refl
 fixed_looked (x ∷ xs) = ap₂ (λ b c. (is_dead x.guards || b) && c) (free_of_looked x.guards (x ∷ xs)) (fixed_looked xs)
 
+-- delayed reads of joined statements are answered at once as those of each part
 pub looked_append : (xs ys : List Stmt) → looked_all (xs ++ ys) ≡ looked_all xs ++ looked_all ys
 looked_append [] ys = refl
 looked_append (x ∷ xs) ys = ap (λ l. look x ∷ l) (looked_append xs ys)
 
+-- delayed reads of the statements before stage s are answered already
 pub looked_before : (s : ℕ) (xs : List Stmt) → looked_all (before s xs) ≡ before s xs
 looked_before s [] = refl
 looked_before s (x ∷ xs) = at (nat_lt x.stage s) (looked_before s xs)
@@ -93,10 +102,12 @@ looked_before s (x ∷ xs) = at (nat_lt x.stage s) (looked_before s xs)
     at true h = ap₂ (λ op l. record x { op = op } ∷ l) (looked_twice x.op) h
     at false h = h
 
+-- a statement is a verify just where it is one with a delayed read answered at once
 pub verify_same : (op : Op) → is_verify (answered_op op) ≡ is_verify op
 verify_same (DelayedRead x m a) = refl
 verify_same _ = refl
 
+-- the stage of the verifies is the same with delayed reads answered at once
 pub verify_looked : (xs : List Stmt) → verify_stage (looked_all xs) ≡ verify_stage xs
 verify_looked [] = refl
 verify_looked (x ∷ xs) = ap₂ (λ b o. cond b (Some x.stage) o) (verify_same x.op) (verify_looked xs)
@@ -139,6 +150,7 @@ rest_barred : (o : Around) (x : Stmt) (xs : List Stmt) → Barred o (x ∷ xs) �
 rest_barred o x xs (inl h) = inl (and_right (not (is_barrier x.op)) _ h)
 rest_barred o x xs (inr h) = inr h
 
+-- before V, a thread that passes a stage where no barrier is clear commits nothing and passes no barrier
 pub roam_all : (v : Option ℕ) (o : Around) (c : Scan) (s : ℕ) (xs : List Stmt) (w : Work) → unguarded xs ≡ true → AllIn s xs → Barred o xs → stands_before v s ≡ true → all_sure v false c xs ≡ true → Covers c.held w.entries → (do_all o xs w).ready ≡ true
     → ((do_all o xs w).commits ≡ w.commits) × (some_barrier false xs ≡ false) × Covers (scan_after_all xs c).held (do_all o xs w).entries
 roam_all v o c s [] w g a clear low sure cover ready = (refl, refl, cover)
@@ -162,6 +174,7 @@ steers_by Ends x = false
 steers_by (Goes to) x = false
 steers_by (Forks z a b) x = z == x
 
+-- whether the side of a branch's fork hangs on a variable
 abbrev pub steers : Pipe → Branch → ℕ → Bool
 steers p c x = steers_by (stage_at p c.fork).next x
 
@@ -170,6 +183,7 @@ side_set Ends first x v env h = refl
 side_set (Goes to) first x v env h = refl
 side_set (Forks z a b) first x v env h = ap (λ k. if first then k == 1 else not (k == 1)) (get_or-set_other env x z v 0 (eqb-false z x h))
 
+-- values that agree on a fork's variable take the same side of it
 pub side_same : (n : Next) (first : Bool) (env env' : List ℕ) → ((z a b : ℕ) → n ≡ Forks z a b → slice_index env z ≡ slice_index env' z) → on_side n first env ≡ on_side n first env'
 side_same Ends first env env' h = refl
 side_same (Goes to) first env env' h = refl
@@ -179,6 +193,7 @@ side_same (Forks z a b) first env env' h = ap (λ k. if first then k == 1 else n
 abbrev pub Aside : Pipe → ℕ → ℕ → Type 0
 Aside p s x = (c : Branch) → In p c s → steers p c x ≡ false
 
+-- no side that leads to stage s hangs on the variable of an awaited read
 abbrev pub AllAside : Pipe → ℕ → List Awaited → Type 0
 AllAside p s [] = Unit {0}
 AllAside p s (r ∷ rs) = Aside p s r.var × AllAside p s rs
@@ -190,6 +205,7 @@ visits_set p s x v env h = at (stage_at p s).branch refl
     at None e = ap (comes_by p (slice_set env x v)) e ∙ sym (ap (comes_by p env) e)
     at (Some c) e = ap (comes_by p (slice_set env x v)) e ∙ side_set (stage_at p c.fork).next c.first x v env (h c e) ∙ sym (ap (comes_by p env) e)
 
+-- answers for variables on which no side hangs leave the stages that the values come to as they are
 pub visits_answers : (p : Pipe) (st : State) (bits : List Bool) (s : ℕ) (rs : List Awaited) (env : List ℕ) → AllAside p s rs → visits_stage p (with_answers p st bits rs env) s ≡ visits_stage p env s
 visits_answers p st bits s [] env h = refl
 visits_answers p st bits s (r ∷ rs) env h =
@@ -199,6 +215,7 @@ visits_answers p st bits s (r ∷ rs) env h =
     at true = visits_set p s r.var (word_of st.arrays r.mem (asked_at st r.mem)) env h.0
     at false = refl
 
+-- of awaited reads on which no side hangs those that are not answered yet are such too
 pub still_aside : (p : Pipe) (bits : List Bool) (s : ℕ) (rs : List Awaited) → AllAside p s rs → AllAside p s (still p bits rs)
 still_aside p bits s [] h = tt
 still_aside p bits s (r ∷ rs) h = at (is_answered p bits r.mem) (still_aside p bits s rs h.1)
@@ -207,10 +224,12 @@ still_aside p bits s (r ∷ rs) h = at (is_answered p bits r.mem) (still_aside p
     at true k = k
     at false k = (h.0, k)
 
+-- requests for variables on which no side hangs are awaited reads on which none hangs
 pub aside_asks : (p : Pipe) (s : ℕ) (qs : List Ask) → AllAsks (λ q. Aside p s q.var) qs → AllAside p s (awaited_of qs)
 aside_asks p s [] h = tt
 aside_asks p s (q ∷ qs) h = (h.0, aside_asks p s qs h.1)
 
+-- what no statement of stage k and later ones is, none of stage s is, where k is at most s
 pub none_stage_from : (test : Op → Bool) (k s : ℕ) (xs : List Stmt) → k ≤ s → none_of test (stages_from k xs) ≡ true → none_of test (in_stage s xs) ≡ true
 none_stage_from test k s [] low h = refl
 none_stage_from test k s (x ∷ xs) low h = at (x.stage == s) refl (nat_le k x.stage) refl h (none_stage_from test k s xs low)
@@ -225,6 +244,7 @@ none_stage_from test k s (x ∷ xs) low h = at (x.stage == s) refl (nat_le k x.s
     at false e true f i g = g (and_right (not (test x.op)) _ i)
     at false e false f i g = g i
 
+-- statements that don't bind a variable have no delayed read into it
 pub fetch_binds : (x : ℕ) (xs : List Stmt) → none_of (binds_var x) xs ≡ true → none_of (is_fetch_of x) xs ≡ true
 fetch_binds x [] h = refl
 fetch_binds x (y ∷ ys) h = ap₂ (λ a b. a && b) (at y.op (and_left (not (binds_var x y.op)) _ h)) (fetch_binds x ys (and_right (not (binds_var x y.op)) _ h))

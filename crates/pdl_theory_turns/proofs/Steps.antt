@@ -46,6 +46,7 @@ put_all_more : (m n : ℕ) (ws : List Machine.Written) (w : Machine.Written) (l 
 put_all_more m n [] w l = refl
 put_all_more m n (x ∷ ws) w l = put_all_more m n ws w (if x.mem == m then with_value_of n x.value l else l)
 
+-- one reservation more, where it is of memory m, gives one pending write more at the end
 pub new_more : (m n : ℕ) (rs : List Reserved) (r : Reserved) → new_entries m n (rs ++ r ∷ []) ≡ new_entries m n rs ++ cond (r.mem == m) (record { thread = n; address = r.address; value = None } ∷ []) []
 new_more m n [] r = append-nil _
 new_more m n (x ∷ rs) r =
@@ -128,6 +129,7 @@ step_none m n k a ph es cs new ws rs held f h i g =
     at true = or-false (k == m)
     at false = refl
 
+-- a release leaves a thread's entries, commits and pending writes of memory m of the phase after it
 pub step_release : (m n k a : ℕ) (ph : Phase) (es : List Entry) (cs : List Commit) (new : List Pending) (ws : List Machine.Written) (rs : List ℕ) (held : Bool) → held ≡ has_entry es k a → (b : Bool) → (k == m) ≡ b
     → (not b || not (holds_location ph a)) ≡ true → Staged m n ph (entries_of m es) (of_mem m cs) new ws (list_any (λ j. j == m) rs)
     → Staged m n (cond b (after_release ph a) ph) (entries_of m (without es k a)) (of_mem m (cs ++ released_commits es k a)) new ws (list_any (λ j. j == m) (rs ++ cond held (k ∷ []) []))

@@ -13,7 +13,7 @@ use Rattle.pdl_theory_derived.proofs.Writes.{and_left, and_right, of_mem_append}
 use Rattle.pdl_theory_derived.proofs.Entries.{entries_of, filled_other, without_own, without_other, released_own, released_other, entry, write_of, addresses, places, without_one, without_no, released_one, released_no, entries_of-filled}
 use Rattle.pdl_theory_turns.proofs.Phases.{Tied}
 use Rattle.pdl_theory_facts.specs.Scans.{Phase, Fresh, Held, Written, Done, holds_location, all_at, none_of}
-use Rattle.pdl_theory_turns.proofs.Related.{Related, Ok}
+use Rattle.pdl_theory_turns.proofs.SequentialThread.{Related, Ok}
 use Rattle.pdl_theory_derived.proofs.Stages.{step}
 use Rattle.pdl_semantics.specs.Sound.{stages_from}
 
@@ -34,6 +34,7 @@ quiet_step : (b : Bool) (m : ℕ) (o : Around) (op : Op) (w : Work) → not (is_
 quiet_step true m o op w h = quiet_op m o op w h
 quiet_step false m o op w h = refl
 
+-- statements that release nothing of memory m commit nothing to it
 pub quiet : (m : ℕ) (o : Around) (xs : List Stmt) (w : Work) → none_of (is_release m) xs ≡ true → of_mem m (do_all o xs w).commits ≡ of_mem m w.commits
 quiet m o [] w h = refl
 quiet m o (x ∷ xs) w h = quiet m o xs (step o x w) (and_right _ _ h) ∙ quiet_step (all_hold x.guards w.env) m o x.op w (and_left _ _ h)
@@ -49,6 +50,7 @@ none_in_stage test c s (x ∷ xs) h k = at (x.stage == s) refl (test x.op) refl 
     at true e false f r q = ap (λ t. not t && none_of test (in_stage s xs)) f ∙ r
     at false e t f r q = r
 
+-- what stands in stage c alone is not before stage s, where s is at most c
 pub none_before : (test : Op → Bool) (c s : ℕ) (xs : List Stmt) → ((op : Op) → test (answered_op op) ≡ test op) → all_at test c xs ≡ true → s ≤ c → none_of test (before s xs) ≡ true
 none_before test c s [] g h k = refl
 none_before test c s (x ∷ xs) g h k = at (nat_lt x.stage s) refl (test x.op) refl (none_before test c s xs g (and_right _ _ h) k) (and_left _ _ h)
@@ -62,10 +64,12 @@ none_before test c s (x ∷ xs) g h k = at (nat_lt x.stage s) refl (test x.op) r
     at true e false f r q = ap (λ t. not t && none_of test (before s xs)) (g x.op ∙ f) ∙ r
     at false e t f r q = r
 
+-- a statement is a release of memory m just where it is one with a delayed read answered at once
 pub release_looked : (m : ℕ) (op : Op) → is_release m (answered_op op) ≡ is_release m op
 release_looked m (DelayedRead x n a) = refl
 release_looked m _ = refl
 
+-- what stands in stage c alone is not in stage s or later, where s is beyond c
 pub none_from : (test : Op → Bool) (c s : ℕ) (xs : List Stmt) → all_at test c xs ≡ true → c < s → none_of test (stages_from s xs) ≡ true
 none_from test c s [] h k = refl
 none_from test c s (x ∷ xs) h k = at (nat_le s x.stage) refl (test x.op) refl (none_from test c s xs (and_right _ _ h) k) (and_left _ _ h)
@@ -114,6 +118,7 @@ spots_release m a (Written x) env es cs ws h t = at (x == a) refl
         ∙ ap (λ l. spots (entry m x t.0 (Some t.1) ∷ []) l) (append-nil cs) ∙ ap (λ l. spots l cs) (sym t.2)
 spots_release m a Done env es cs ws h t = ap (λ l. spots (without l m a) (cs ++ released_commits l m a)) t.0 ∙ ap places (append-nil cs) ∙ ap (λ l. spots l cs) (sym t.0)
 
+-- a statement that the phases allow and that is no reserve leaves the addresses written to memory m as they are
 pub spots_op : (arrays : Arrays) (m : ℕ) (ph : ℕ → Phase) (op : Op) (w : Work) (r : Run)
     → not (is_reserve m op) ≡ true → Ok ph op → Related arrays ph w r
     → spots (entries_of m (work_after (alone arrays) op w).entries) (of_mem m (work_after (alone arrays) op w).commits) ≡ spots (entries_of m w.entries) (of_mem m w.commits)

@@ -15,10 +15,10 @@ use Rattle.pdl_theory_turns.proofs.Paths.{Fixed, run_path, fixed_path_to, fixed_
 use Rattle.pdl_theory_derived.proofs.Writes.{and_left, and_right}
 use Rattle.std.proofs.lemmas.Bool.{eqb-true, eqb-false}
 use Rattle.pdl_theory_turns.proofs.Marks.{seen, strips, Later, marked}
-use Rattle.pdl_theory_turns.proofs.Pending.{marks, has_value}
-use Rattle.pdl_theory_turns.proofs.Pending
-use Rattle.pdl_theory_turns.proofs.Whole
-use Rattle.pdl_theory_turns.proofs.Own.{fixed_second}
+use Rattle.pdl_theory_turns.proofs.UndoneWrites.{marks, has_value}
+use Rattle.pdl_theory_turns.proofs.UndoneWrites
+use Rattle.pdl_theory_turns.proofs.TurnPath
+use Rattle.pdl_theory_turns.proofs.OwnEntries.{fixed_second}
 use Rattle.pdl_semantics.specs.Sound.{stages_from}
 
 -- what holds of a stage and of those after it holds of all stages_from it on
@@ -51,6 +51,7 @@ none_parts test s xs h = both xs (none_first test (in_stage s xs) (stages_from (
             apart u v w = u (omega arith)
         at false e false f false g i j go = go i j
 
+-- what no statement of stage s and later ones is, none on a path is
 pub none_from_path : (test : Op → Bool) (path : List ℕ) (s : ℕ) (xs : List Stmt) → none_of test (stages_from s xs) ≡ true → none_of test (stages_from s (onpath path xs)) ≡ true
 none_from_path test path s [] h = refl
 none_from_path test path s (x ∷ xs) h = at (nat_le s x.stage) refl (all_hold x.guards path) h (none_from_path test path s xs)

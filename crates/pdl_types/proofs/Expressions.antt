@@ -9,7 +9,7 @@ use Rattle.pdl_rules.specs.Limits.{is_wrong_literal}
 use Rattle.pdl_rules.specs.Names.{Use, OfVariable, reads_some}
 use Rattle.pdl_rules.specs.Widths.{is_out_of_range, is_no_extension}
 use Rattle.pdl_rules.specs.Typed.{is_named}
-use Rattle.pdl_rules.proofs.Typing.{width_is}
+use Rattle.pdl_rules.proofs.TypedExpressions.{width_is}
 use Rattle.pdl_semantics.proofs.Facts.{op_narrow}
 
 cat_narrow : (n : ℕ) → (if nat_lt widest n then 1 else n) ≤ 64

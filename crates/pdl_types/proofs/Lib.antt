@@ -1,3 +1,3 @@
 pub mod Unbroken
 pub mod Expressions
-pub mod Narrow
+pub mod VariableWidths

@@ -15,10 +15,10 @@ use Rattle.pdl_vread_text.specs.declared.file.Term.TheVariants as t
 use Rattle.pdl_vread_text.specs.Words.{is_name}
 use Rattle.pdl_vlog.specs.Layout.{net, array, range, operator, term, wire, cell, cells}
 use Rattle.pdl_verilog_printed.proofs.Names.{IsOperandText}
-use Rattle.pdl_verilog_printed.proofs.Reading.{CompletesFile}
-use Rattle.pdl_verilog_printed.proofs.Declared.{range_split}
+use Rattle.pdl_verilog_printed.proofs.RuleSteps.{CompletesFile}
+use Rattle.pdl_verilog_printed.proofs.Declarations.{range_split}
 use Rattle.pdl_verilog_printed.proofs.Terms.{add_cell, cell_decl, CompletesTerm, Continues, const_term, not_term, bin_term, mux_term}
-use Rattle.pdl_verilog_printed.proofs.Braced.{slice_term, cat_term, rep_term, read_term}
+use Rattle.pdl_verilog_printed.proofs.BracketTerms.{slice_term, cat_term, rep_term, read_term}
 use Rattle.pdl_verilog_printed.proofs.Cells.{cell_head}
 use Rattle.pdl_verilog_declared.proofs.Parts.{MayDrive, MayCompute, at_cells}
 
@@ -110,6 +110,7 @@ one_cell inputs arrays p line k w g rest before f m l wide h later =
 
 -- ---- all cells
 
+-- what the lines of cells declare, from a line and the k-th cell on
 abbrev pub cell_decls : List (List ℕ) → List Array → (ℕ → ℕ) → ℕ → ℕ → List Cell → List CellDecl
 cell_decls inputs arrays width line k [] = []
 cell_decls inputs arrays width line k (g ∷ gs) = cell_decl (line + 1) (width k - 1) (codes "n" ++ decimal k) (term_of inputs arrays g) ∷ cell_decls inputs arrays width ((line + 1) + 1) (suc k) gs
@@ -124,9 +125,11 @@ abbrev pub AreCellTexts : List (List ℕ) → List Array → (ℕ → ℕ) → �
 AreCellTexts inputs arrays width k [] = Unit {0}
 AreCellTexts inputs arrays width k (g ∷ gs) = IsWidth (width k) × IsCellText inputs arrays g × AreCellTexts inputs arrays width (suc k) gs
 
+-- a file with more cells
 abbrev pub add_cells : File → List CellDecl → File
 add_cells f gs = record f { cells = f.cells ++ gs }
 
+-- the lines of cells, at a part where a cell may stand, complete the file that what is left completes with them
 pub cell_lines : (inputs : List (List ℕ)) (arrays : List Array) (width : ℕ → ℕ) (gs : List Cell) (p : Part) (line k : ℕ) (rest : List ℕ) (before f : File) → MayCompute p → k + length gs < 2 ^ 64 → AreCellTexts inputs arrays width k gs
     → ((q : Part) → MayDrive q → CompletesFile q (cells_end line gs) rest (add_cells before (cell_decls inputs arrays width line k gs)) f) → CompletesFile p line (cells inputs arrays width k gs ++ rest) before f
 cell_lines inputs arrays width [] p line k rest before f m l h later =

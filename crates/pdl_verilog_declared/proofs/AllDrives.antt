@@ -12,8 +12,8 @@ use Rattle.pdl_vread_text.specs.declared.file.OutputDecl.{OutputDecl}
 use Rattle.pdl_vread_text.specs.declared.file.RegBlock.{RegBlock}
 use Rattle.pdl_vread_text.specs.Words.{is_port}
 use Rattle.pdl_vlog.specs.Layout.{net, constant, always, drive, output, block, blocks}
-use Rattle.pdl_verilog_printed.proofs.Lexed.{IsWordText}
-use Rattle.pdl_verilog_printed.proofs.Reading.{CompletesFile}
+use Rattle.pdl_verilog_printed.proofs.WordTokens.{IsWordText}
+use Rattle.pdl_verilog_printed.proofs.RuleSteps.{CompletesFile}
 use Rattle.pdl_verilog_printed.proofs.Drives.{output_decl, output_line, block_line}
 use Rattle.pdl_verilog_declared.proofs.AllCells.{IsNetText}
 use Rattle.pdl_verilog_declared.proofs.Parts.{MayBlock, MayDrive, at_outputs, at_blocks}
@@ -30,10 +30,12 @@ abbrev pub next_line : ℕ → Dir → ℕ
 next_line line In = line
 next_line line (Out x) = line + 1
 
+-- what the lines that drive the outputs of these ports declare, from a line on
 abbrev pub output_decls : List (List ℕ) → ℕ → List Port → List OutputDecl
 output_decls inputs line [] = []
 output_decls inputs line (p ∷ ps) = driven_by inputs line p.dir p.name ++ output_decls inputs (next_line line p.dir) ps
 
+-- the line after those that drive the outputs of these ports
 abbrev pub outputs_end : ℕ → List Port → ℕ
 outputs_end line [] = line
 outputs_end line (p ∷ ps) = outputs_end (next_line line p.dir) ps
@@ -43,10 +45,12 @@ abbrev pub IsDrivenText : List (List ℕ) → Dir → Type 0
 IsDrivenText inputs In = Unit {0}
 IsDrivenText inputs (Out x) = IsNetText inputs x
 
+-- ports that can be driven in a text, with their names
 abbrev pub AreDrivenTexts : List (List ℕ) → List Port → Type 0
 AreDrivenTexts inputs [] = Unit {0}
 AreDrivenTexts inputs (p ∷ ps) = IsWordText p.name × (is_port p.name ≡ true) × IsDrivenText inputs p.dir × AreDrivenTexts inputs ps
 
+-- a file with more `assign`s of outputs
 abbrev pub add_outputs : File → List OutputDecl → File
 add_outputs f gs = record f { outputs = f.outputs ++ gs }
 
@@ -61,6 +65,7 @@ one_output inputs In name p line rest before f m w n h later =
 one_output inputs (Out x) name p line rest before f m w n h later =
     subst (λ z. CompletesFile p line z before f) (sym (output_split name (net inputs x) rest)) (output_line line rest before f p name (net inputs x) m.output w n h (later part.Outputs at_outputs))
 
+-- the lines of outputs, where one may stand, complete the file that what is left completes with them
 pub output_lines : (inputs : List (List ℕ)) (ps : List Port) (p : Part) (line : ℕ) (rest : List ℕ) (before f : File) → MayDrive p → AreDrivenTexts inputs ps
     → ((q : Part) → MayBlock q → CompletesFile q (outputs_end line ps) rest (add_outputs before (output_decls inputs line ps)) f) → CompletesFile p line (flat_map (output inputs) ps ++ rest) before f
 output_lines inputs [] p line rest before f m h later =
@@ -80,10 +85,12 @@ output_lines inputs (o ∷ ps) p line rest before f m h later =
 abbrev pub block_decl : List (List ℕ) → ℕ → ℕ → Reg → RegBlock
 block_decl inputs line r x = record { line = line; reg = codes "r" ++ decimal r; width = x.width; reset = x.reset; source = net inputs x.next }
 
+-- what the blocks of registers declare, from a line and the r-th register on
 abbrev pub block_decls : List (List ℕ) → ℕ → ℕ → List Reg → List RegBlock
 block_decls inputs line r [] = []
 block_decls inputs line r (x ∷ xs) = block_decl inputs line r x ∷ block_decls inputs (line + 1) (suc r) xs
 
+-- the line after the blocks of these registers
 abbrev pub blocks_end : ℕ → List Reg → ℕ
 blocks_end line [] = line
 blocks_end line (x ∷ xs) = blocks_end (line + 1) xs
@@ -94,10 +101,12 @@ pub record IsRegText (inputs : List (List ℕ)) (x : Reg) : Type 0 where
   pub reset : x.reset < 2 ^ x.width
   pub next : IsNetText inputs x.next
 
+-- registers that can be driven in a text
 abbrev pub AreRegTexts : List (List ℕ) → List Reg → Type 0
 AreRegTexts inputs [] = Unit {0}
 AreRegTexts inputs (x ∷ xs) = IsRegText inputs x × AreRegTexts inputs xs
 
+-- a file with more blocks of registers
 abbrev pub add_blocks : File → List RegBlock → File
 add_blocks f gs = record f { reg_blocks = f.reg_blocks ++ gs }
 
@@ -105,6 +114,7 @@ block_split : (before d c a r : List ℕ) → (before ++ codes " r" ++ d ++ code
     ≡ before ++ (codes " " ++ ((codes "r" ++ d) ++ (codes " <= rst ? " ++ (c ++ (codes " : " ++ (a ++ (codes ";\n" ++ r)))))))
 block_split before d c a r = simp append_assoc
 
+-- the blocks of registers, where one may stand, complete the file that what is left completes with them
 pub block_lines : (inputs : List (List ℕ)) (xs : List Reg) (p : Part) (line r : ℕ) (rest : List ℕ) (before f : File) → MayBlock p → r + length xs < 2 ^ 64 → AreRegTexts inputs xs
     → ((q : Part) → MayBlock q → CompletesFile q (blocks_end line xs) rest (add_blocks before (block_decls inputs line r xs)) f) → CompletesFile p line (blocks inputs r xs ++ rest) before f
 block_lines inputs [] p line r rest before f m l h later =

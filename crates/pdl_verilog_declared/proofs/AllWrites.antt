@@ -11,7 +11,7 @@ use Rattle.pdl_vread_text.specs.declared.file.WriteDecl.{WriteDecl}
 use Rattle.pdl_vread_text.specs.Words.{is_name}
 use Rattle.pdl_vread_text.specs.Grammar.{chosen}
 use Rattle.pdl_vlog.specs.Layout.{net, always, write, array_block, block_of}
-use Rattle.pdl_verilog_printed.proofs.Reading.{CompletesFile}
+use Rattle.pdl_verilog_printed.proofs.RuleSteps.{CompletesFile}
 use Rattle.pdl_verilog_printed.proofs.Writes.{CompletesBlock, write_line, block_end, first_block, later_block, last_line}
 use Rattle.pdl_verilog_declared.proofs.AllCells.{IsNetText}
 use Rattle.pdl_verilog_declared.proofs.Parts.{MayBlock}
@@ -22,6 +22,7 @@ pub record IsWriteText (inputs : List (List ℕ)) (p : WritePort) : Type 0 where
   pub addr : IsNetText inputs p.addr
   pub value : IsNetText inputs p.value
 
+-- write ports that can be written
 abbrev pub AreWriteTexts : List (List ℕ) → List WritePort → Type 0
 AreWriteTexts inputs [] = Unit {0}
 AreWriteTexts inputs (p ∷ ps) = IsWriteText inputs p × AreWriteTexts inputs ps
@@ -29,10 +30,12 @@ AreWriteTexts inputs (p ∷ ps) = IsWriteText inputs p × AreWriteTexts inputs p
 abbrev pub write_decl : List (List ℕ) → List ℕ → ℕ → WritePort → WriteDecl
 write_decl inputs name line p = record { line = line; enable = net inputs p.enable; array = codes "a_" ++ name; addr = net inputs p.addr; value = net inputs p.value }
 
+-- what the writes of a block declare, from a line on
 abbrev pub write_decls : List (List ℕ) → List ℕ → ℕ → List WritePort → List WriteDecl
 write_decls inputs name line [] = []
 write_decls inputs name line (p ∷ ps) = write_decl inputs name line p ∷ write_decls inputs name (line + 1) ps
 
+-- the line after the writes of a block
 abbrev pub writes_end : ℕ → List WritePort → ℕ
 writes_end line [] = line
 writes_end line (p ∷ ps) = writes_end (line + 1) ps
@@ -73,6 +76,7 @@ later_writes inputs name (p ∷ ps) line at rest ws before f n h k =
 
 -- ---- one block
 
+-- a file with more blocks of arrays
 abbrev pub add_array_blocks : File → List ArrayBlock → File
 add_array_blocks f gs = record f { array_blocks = f.array_blocks ++ gs }
 
@@ -107,10 +111,12 @@ pub record IsBlockText (inputs : List (List ℕ)) (a : Array) : Type 0 where
   pub named : is_name a.name ≡ true
   pub writes : AreWriteTexts inputs a.writes
 
+-- arrays whose blocks can be written
 abbrev pub AreBlockTexts : List (List ℕ) → List Array → Type 0
 AreBlockTexts inputs [] = Unit {0}
 AreBlockTexts inputs (a ∷ xs) = IsBlockText inputs a × AreBlockTexts inputs xs
 
+-- what the blocks of all arrays declare, from a line on
 abbrev pub array_blocks_decls : List (List ℕ) → ℕ → List Array → List ArrayBlock
 array_blocks_decls inputs line [] = []
 array_blocks_decls inputs line (a ∷ xs) = array_block_decls inputs a.name line a.writes ++ array_blocks_decls inputs (array_block_end line a.writes) xs
@@ -130,7 +136,7 @@ ending_later : Ends part.ArrayBlocks
 unfolding chosen
 ending_later = refl
 
-pub all_blocks : (inputs : List (List ℕ)) (xs : List Array) (p : Part) (line : ℕ) (before f : File) → Ends p → Begins p → AreBlockTexts inputs xs → f ≡ add_array_blocks before (array_blocks_decls inputs line xs)
+all_blocks : (inputs : List (List ℕ)) (xs : List Array) (p : Part) (line : ℕ) (before f : File) → Ends p → Begins p → AreBlockTexts inputs xs → f ≡ add_array_blocks before (array_blocks_decls inputs line xs)
     → CompletesFile p line (flat_map (block_of inputs) xs ++ codes "endmodule\n") before f
 all_blocks inputs [] p line before f e b h same = subst (λ z. CompletesFile p line (codes "endmodule\n") before z) (sym (same ∙ no_blocks before)) (last_line p line before e)
 all_blocks inputs (a ∷ xs) p line before f e b h same =

@@ -2,6 +2,6 @@ pub mod Parts
 pub mod AllCells
 pub mod AllDrives
 pub mod AllWrites
-pub mod Whole
+pub mod FileText
 pub mod Ports
-pub mod Textual
+pub mod GrammarText

@@ -20,22 +20,27 @@ pub record MayCompute (p : Part) : Type 0 where
   pub cell : chosen p (codes "wire") ≡ Some rule.CellHead
   pub drives : MayDrive p
 
+-- the part of blocks is one where a block or the last line may stand
 pub at_blocks : MayBlock part.Blocks
 unfolding chosen
 at_blocks = record { block = refl; ending = refl }
 
+-- the part of outputs is one where an output's `assign` may stand, or what comes after it
 pub at_outputs : MayDrive part.Outputs
 unfolding chosen
 at_outputs = record { output = refl; blocks = record { block = refl; ending = refl } }
 
+-- the part of cells is one where a cell may stand, or what comes after it
 pub at_cells : MayCompute part.Cells
 unfolding chosen
 at_cells = record { cell = refl; drives = record { output = refl; blocks = record { block = refl; ending = refl } } }
 
+-- after arrays a cell may stand, or what comes after it
 pub at_arrays : MayCompute part.Arrays
 unfolding chosen
 at_arrays = record { cell = refl; drives = record { output = refl; blocks = record { block = refl; ending = refl } } }
 
+-- after registers a cell may stand, or what comes after it
 pub at_regs : MayCompute part.Regs
 unfolding chosen
 at_regs = record { cell = refl; drives = record { output = refl; blocks = record { block = refl; ending = refl } } }

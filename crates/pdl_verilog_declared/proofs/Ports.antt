@@ -6,7 +6,7 @@ use Rattle.std.proofs.lemmas.Fmt.{length-decimal-le}
 use Rattle.pdl_net.specs.Pipe.{Head, PortMem, input, output, reply_ports, stage_ports, commit_ports, request_ports, pipe_ports}
 use Rattle.pdl_vread_text.specs.Words.{is_name, is_named, is_counted, is_stage_port, is_input, is_memory_output, is_port, are_decimals}
 use Rattle.pdl_verilog_printed.proofs.Numbers.{decimals_are}
-use Rattle.pdl_verilog_printed.proofs.Lexed.{IsWordText}
+use Rattle.pdl_verilog_printed.proofs.WordTokens.{IsWordText}
 use Rattle.pdl_verilog_printed.proofs.Names.{IsOperandText, decimal_word, name_word, after_prefix, p_text, pd_text}
 use Rattle.pdl_word.proofs.Bools.{untrue}
 use Rattle.pdl_word.specs.Each.{Each}
@@ -14,6 +14,7 @@ use Rattle.pdl_word.proofs.Each.{each_append, each_weaker, each_flat}
 
 -- ---- each element
 
+-- what holds of each element of a list holds of the k-th, where there are more than k
 pub all_from_each : {A : Type 0} (P : A → Type 0) (xs : List A) → Each P xs → (k : ℕ) (d : A) → k < length xs → P (get_or xs k d)
 all_from_each P [] h k d l = absurd (omega arith)
 all_from_each P (x ∷ xs) h zero d l = h.0
@@ -68,6 +69,7 @@ pub record IsHeadText (h : Head) : Type 0 where
   pub named : is_port h.name ≡ true
   pub operand : h.input ≡ true → IsOperandText h.name
 
+-- a memory's name is a name of PDL
 abbrev pub IsMemName : PortMem → Type 0
 IsMemName m = is_name m.name ≡ true
 
@@ -140,6 +142,7 @@ last_texts =
     let two : IsHeadText (output (codes "squash") 1) = record { word = record { some = omega arith; all = refl }; named = squash_port; operand = λ e. untrue e } in
     (one, (two, tt))
 
+-- the ports of a pipe of at most 64 stages, with memories named in PDL, are ports that a text may have
 pub pipe_texts : (stages : ℕ) (delayed locked : List PortMem) → stages ≤ 64 → Each IsMemName delayed → Each IsMemName locked → Each IsHeadText (pipe_ports stages delayed locked)
 pipe_texts stages delayed locked l h k =
     let replies = each_flat IsHeadText reply_ports delayed (each_weaker IsMemName (λ m. Each IsHeadText (reply_ports m)) reply_texts delayed h) in

@@ -11,7 +11,7 @@ ghost use Rattle.pdl_vlog.specs.Layout.{verilog};
 ghost use Rattle.pdl_verilog_declared.specs.Names.{HasNames, IsCounted};
 
 /// The text of each well formed netlist whose names are names of PDL, and whose registers and cells are fewer than 2^64 each, is a text of the grammar, so it doesn't break V1.
-#[tactic(auto, using(crate::proofs::Textual::has_text))]
+#[tactic(auto, using(crate::proofs::GrammarText::has_text))]
 pub fn texts()
     ensures { (n : Netlist) → IsWellFormed n → HasNames n → IsCounted n →
         (f : File) × IsFile (verilog n) f }

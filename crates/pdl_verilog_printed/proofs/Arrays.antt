@@ -13,10 +13,10 @@ use Rattle.pdl_vread_text.specs.Words.{number_of, is_name}
 use Rattle.pdl_vread_text.specs.Grammar.{Row, AllFit, none, more, fields, chosen}
 use Rattle.pdl_vread_text.specs.Drafts.{with_range, with_array}
 use Rattle.pdl_vlog.specs.Layout.{range, array_line}
-use Rattle.pdl_verilog_printed.proofs.Lexed.{token, word_token, space_first}
+use Rattle.pdl_verilog_printed.proofs.WordTokens.{token, word_token, space_first}
 use Rattle.pdl_verilog_printed.proofs.Names.{decimal_word, name_word, after_prefix}
-use Rattle.pdl_verilog_printed.proofs.Reading.{CompletesFile, one_rule}
-use Rattle.pdl_verilog_printed.proofs.Declared.{range_row, range_split, range_tokens, reg_start, number_fits, high_back}
+use Rattle.pdl_verilog_printed.proofs.RuleSteps.{CompletesFile, one_rule}
+use Rattle.pdl_verilog_printed.proofs.Declarations.{range_row, range_split, range_tokens, reg_start, number_fits, high_back}
 
 -- an array that can be written
 pub record IsArrayText (a : Array) : Type 0 where
@@ -25,9 +25,11 @@ pub record IsArrayText (a : Array) : Type 0 where
   pub low : 1 ≤ a.depth
   pub high : a.depth ≤ 131072
 
+-- what the line of an array declares
 abbrev pub array_decl : ℕ → Array → ArrayDecl
 array_decl line a = record { line = line; name = codes "a_" ++ a.name; high = a.width - 1; last = a.depth - 1 }
 
+-- a file with an array more
 abbrev pub add_array : File → ArrayDecl → File
 add_array f g = record f { arrays = f.arrays ++ g ∷ [] }
 
@@ -127,17 +129,21 @@ module _ (line : ℕ) (a : Array) (rest : List ℕ) (before f : File) (h : IsArr
 
 -- ---- all arrays
 
+-- arrays that can be written
 abbrev pub AreArrayTexts : List Array → Type 0
 AreArrayTexts [] = Unit {0}
 AreArrayTexts (a ∷ rest) = IsArrayText a × AreArrayTexts rest
 
+-- what the lines of arrays declare, from a line on
 abbrev pub array_decls : ℕ → List Array → List ArrayDecl
 array_decls line [] = []
 array_decls line (a ∷ xs) = array_decl line a ∷ array_decls (line + 1) xs
 
+-- a file with more arrays
 abbrev pub add_arrays : File → List ArrayDecl → File
 add_arrays f gs = record f { arrays = f.arrays ++ gs }
 
+-- the lines of arrays after others complete the file that what is left completes with them
 pub later_arrays : (line : ℕ) (xs : List Array) (rest : List ℕ) (before f : File) → AreArrayTexts xs → CompletesFile part.Arrays (line + length xs) rest (add_arrays before (array_decls line xs)) f
     → CompletesFile part.Arrays line (flat_map array_line xs ++ rest) before f
 later_arrays line [] rest before f h k =

@@ -9,10 +9,10 @@ use Rattle.pdl_vread_text.specs.Grammar.{Row, AllFit, none, more, fields, chosen
 use Rattle.pdl_vread_text.specs.Drafts.{with_head}
 use Rattle.pdl_vlog.specs.Layout.{range}
 use Rattle.pdl_verilog_printed.proofs.Numbers.{decimals_are}
-use Rattle.pdl_verilog_printed.proofs.Lexed.{token, word_token, space_first}
+use Rattle.pdl_verilog_printed.proofs.WordTokens.{token, word_token, space_first}
 use Rattle.pdl_verilog_printed.proofs.Names.{cell_text}
-use Rattle.pdl_verilog_printed.proofs.Reading.{CompletesFile, one_rule}
-use Rattle.pdl_verilog_printed.proofs.Declared.{range_row, range_tokens, number_fits, high_back}
+use Rattle.pdl_verilog_printed.proofs.RuleSteps.{CompletesFile, one_rule}
+use Rattle.pdl_verilog_printed.proofs.Declarations.{range_row, range_tokens, number_fits, high_back}
 use Rattle.pdl_verilog_printed.proofs.Terms.{IsHeaded, CompletesTerm}
 
 wire_first : (x : List ℕ) (line : ℕ) → tokens_from 0 line (codes "wire " ++ x) ≡ token (codes "wire") line ∷ tokens_from 0 line x

@@ -14,12 +14,13 @@ use Rattle.pdl_vread_text.specs.Grammar.{Row, AllFit, none, more, fields, chosen
 use Rattle.pdl_vread_text.specs.Drafts.{with_block}
 use Rattle.pdl_vlog.specs.Layout.{constant, always}
 use Rattle.pdl_verilog_printed.proofs.Numbers.{constant_back, decimals_are}
-use Rattle.pdl_verilog_printed.proofs.Lexed.{IsWordText, token, word_token, space_first, line_end}
+use Rattle.pdl_verilog_printed.proofs.WordTokens.{IsWordText, token, word_token, space_first, line_end}
 use Rattle.pdl_verilog_printed.proofs.Names.{IsOperandText, constant_word, reg_text}
-use Rattle.pdl_verilog_printed.proofs.Reading.{CompletesFile, one_rule}
+use Rattle.pdl_verilog_printed.proofs.RuleSteps.{CompletesFile, one_rule}
 
 -- ---- outputs
 
+-- what a line that drives an output declares
 abbrev pub output_decl : ℕ → List ℕ → List ℕ → OutputDecl
 output_decl line name source = record { line = line; port = name; source = source }
 

@@ -17,9 +17,9 @@ use Rattle.pdl_vread_text.specs.Words.{number_of, is_port}
 use Rattle.pdl_vread_text.specs.Grammar.{Row, AllFit, none, more, fields, chosen}
 use Rattle.pdl_vread_text.specs.Drafts.{with_port}
 use Rattle.pdl_vlog.specs.Layout.{range, direction, port}
-use Rattle.pdl_verilog_printed.proofs.Lexed.{IsWordText, token, word_token, space_first}
-use Rattle.pdl_verilog_printed.proofs.Reading.{CompletesFile, one_rule}
-use Rattle.pdl_verilog_printed.proofs.Declared.{range_row, range_tokens, number_fits, high_back}
+use Rattle.pdl_verilog_printed.proofs.WordTokens.{IsWordText, token, word_token, space_first}
+use Rattle.pdl_verilog_printed.proofs.RuleSteps.{CompletesFile, one_rule}
+use Rattle.pdl_verilog_printed.proofs.Declarations.{range_row, range_tokens, number_fits, high_back}
 
 -- a port that can be written
 pub record IsPortText (p : Port) : Type 0 where
@@ -27,10 +27,12 @@ pub record IsPortText (p : Port) : Type 0 where
   pub word : IsWordText p.name
   pub named : is_port p.name ≡ true
 
+-- ports that can be written
 abbrev pub ArePortTexts : List Port → Type 0
 ArePortTexts [] = Unit {0}
 ArePortTexts (p ∷ ps) = IsPortText p × ArePortTexts ps
 
+-- what the first line declares of a port
 abbrev pub port_decl : ℕ → Port → PortDecl
 port_decl line p = record { line = line; name = p.name; high = p.width - 1; input = is_input p.dir }
 
@@ -49,6 +51,7 @@ port_start p x = by_dir p.dir
     by_dir In = refl
     by_dir (Out n) = refl
 
+-- ports, with what stands after them, begin with no byte of a word
 pub ports_start : (ps : List Port) (rest : List ℕ) → prefix_len is_word (flat_map port ps ++ closing rest) ≡ 0
 ports_start [] rest = refl
 ports_start (p ∷ ps) rest = ap (prefix_len is_word) (append_assoc (port p) (flat_map port ps) (closing rest)) ∙ port_start p (flat_map port ps ++ closing rest)
@@ -129,13 +132,16 @@ closing_chosen : chosen part.Ports (codes ")") ≡ Some rule.Closing
 unfolding chosen
 closing_chosen = refl
 
+-- what the first line declares of its ports
 abbrev pub port_decls : ℕ → List Port → List PortDecl
 port_decls line [] = []
 port_decls line (p ∷ ps) = port_decl line p ∷ port_decls line ps
 
+-- a file with more ports
 abbrev pub add_ports : File → List PortDecl → File
 add_ports f gs = record f { ports = f.ports ++ gs }
 
+-- the ports, up to the first line's end, complete the file that what is left completes with them
 pub port_texts : (line : ℕ) (ps : List Port) (rest : List ℕ) (before f : File) → ArePortTexts ps → CompletesFile part.Regs (line + 1) rest (add_ports before (port_decls line ps)) f
     → CompletesFile part.Ports line (flat_map port ps ++ closing rest) before f
 port_texts line [] rest before f h k = λ d e v.

@@ -1,10 +1,10 @@
 pub mod Numbers
-pub mod Lexed
+pub mod WordTokens
 pub mod Names
-pub mod Reading
-pub mod Declared
+pub mod RuleSteps
+pub mod Declarations
 pub mod Terms
-pub mod Braced
+pub mod BracketTerms
 pub mod Head
 pub mod Drives
 pub mod Writes

@@ -11,7 +11,7 @@ use Rattle.pdl_vread_text.specs.Words.{number_of, constant_of, is_name, has_name
 use Rattle.pdl_vread_text.specs.Grammar.{chosen}
 use Rattle.pdl_vlog.specs.Layout.{constant}
 use Rattle.pdl_verilog_printed.proofs.Numbers.{digit_is_word, lower_is_word, decimal_words, decimals_are, constant_words}
-use Rattle.pdl_verilog_printed.proofs.Lexed.{IsWordText}
+use Rattle.pdl_verilog_printed.proofs.WordTokens.{IsWordText}
 use Rattle.pdl_word.specs.Digits.{hex}
 use Rattle.pdl_word.proofs.Lists.{all_weaker}
 
@@ -30,19 +30,23 @@ form_word (c ∷ cs) h =
     let q = and_parts _ (list_all is_name_byte cs) p.1 in
     record { some = omega arith; all = and_from (is_word c) (list_all is_word cs) (lower_is_word c p.0) (all_weaker is_name_byte is_word name_byte_word cs q.1) }
 
+-- a name of PDL is a word
 pub name_word : (x : List ℕ) → is_name x ≡ true → IsWordText x
 unfolding is_name
 name_word x h = form_word x (and_parts (has_name_form x) _ (and_parts (has_name_form x && not (is_statement_keyword x)) _ h).0).0
 
+-- a number below 2^64 is written as a word
 pub decimal_word : (n : ℕ) → n < 2 ^ 64 → IsWordText (decimal n)
 decimal_word n h = record { some = decimal_nonempty n h; all = decimal_words n h }
 
+-- a word after bytes of words is a word
 pub after_prefix : (p x : List ℕ) → list_all is_word p ≡ true → IsWordText x → IsWordText (p ++ x)
 after_prefix p x e h = record {
   some = (let l = length-append p x in let m : 1 ≤ length x = h.some in omega arith);
   all = list_all-append is_word p x ∙ and_from (list_all is_word p) (list_all is_word x) e h.all;
 }
 
+-- a constant of fewer than 2^64 bits is written as a word
 pub constant_word : (w v : ℕ) → w < 2 ^ 64 → IsWordText (constant w v)
 constant_word w v h = record {
   some = (let l = length-append (decimal w ++ codes "'h") (hex ((w + 3) / 4) v) in let m = length-append (decimal w) (codes "'h") in let k = decimal_nonempty w h in omega arith);
@@ -91,21 +95,25 @@ braced_operand : (t : List ℕ) → is_operand t ≡ true → chosen part.Braced
 unfolding chosen
 braced_operand t h = cond-true _ _ _ h
 
+-- the name of a register of a number below 2^64 is an operand
 pub reg_text : (r : ℕ) → r < 2 ^ 64 → IsOperandText (codes "r" ++ decimal r)
 reg_text r h =
     let o = reg_is_operand (decimal r) (decimals_are r h) in
     record { word = after_prefix (codes "r") (decimal r) refl (decimal_word r h); operand = o; begins = term_r (decimal r) o; braced = braced_operand _ o }
 
+-- the name of a cell of a number below 2^64 is an operand
 pub cell_text : (k : ℕ) → k < 2 ^ 64 → IsOperandText (codes "n" ++ decimal k)
 cell_text k h =
     let o = cell_is_operand (decimal k) (decimals_are k h) in
     record { word = after_prefix (codes "n") (decimal k) refl (decimal_word k h); operand = o; begins = term_n (decimal k) o; braced = braced_operand _ o }
 
+-- `p_` before a name of PDL is an operand
 pub p_text : (x : List ℕ) → is_name x ≡ true → IsOperandText (codes "p_" ++ x)
 p_text x h =
     let o = p_is_operand x h in
     record { word = after_prefix (codes "p_") x refl (name_word x h); operand = o; begins = term_p (codes "_" ++ x) o; braced = braced_operand _ o }
 
+-- `pd_` before a name of PDL is an operand
 pub pd_text : (x : List ℕ) → is_name x ≡ true → IsOperandText (codes "pd_" ++ x)
 pd_text x h =
     let o = pd_is_operand x h in

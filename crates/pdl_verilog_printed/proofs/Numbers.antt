@@ -14,21 +14,21 @@ use Rattle.pdl_vread_text.specs.Words.{number_of, hex_part, with_parts, constant
 use Rattle.pdl_vlog.specs.Layout.{constant, operator}
 use Rattle.pdl_word.specs.Digits.{are_digits, hex_digit, hex}
 use Rattle.pdl_word.proofs.Lists.{all_weaker}
+use Rattle.std.proofs.Math.Seq.{take-append_seam}
 
 -- ---- bytes
 
+-- a decimal digit is a byte of a word
 pub digit_is_word : (c : ℕ) → is_digit c ≡ true → is_word c ≡ true
 digit_is_word c h =
     let a : (is_lower c || (leb 65 c && leb c 90) || is_digit c) ≡ true = or_right (is_lower c || (leb 65 c && leb c 90)) (is_digit c) h in
     or_left _ _ (or_left _ _ (or_left _ (eqb c 95) a))
 
+-- a lower-case letter is a byte of a word
 pub lower_is_word : (c : ℕ) → is_lower c ≡ true → is_word c ≡ true
 lower_is_word c h = or_left _ _ (or_left _ _ (or_left _ (eqb c 95) (or_left _ (is_digit c) (or_left (is_lower c) (leb 65 c && leb c 90) h))))
 
-pub take_front : {X : Type 0} (xs ys : List X) → take (length xs) (xs ++ ys) ≡ xs
-take_front [] ys = refl
-take_front (x ∷ xs) ys = ap (λ z. x ∷ z) (take_front xs ys)
-
+-- without as many first elements as the first list has, joined lists are the second
 pub drop_front : {X : Type 0} (xs ys : List X) → drop (length xs) (xs ++ ys) ≡ ys
 drop_front [] ys = refl
 drop_front (x ∷ xs) ys = drop_front xs ys
@@ -50,12 +50,15 @@ byte_digits (d ∷ ds) h =
     let r = digit_from_value d h.0 in
     and_from _ _ (and_from _ _ (le-leb 48 d (omega (arith, r))) (le-leb d 57 (omega (arith, r)))) (byte_digits ds h.1)
 
+-- a number below 2^64 is written in decimal digits
 pub decimal_bytes : (n : ℕ) → n < 2 ^ 64 → list_all is_digit (decimal n) ≡ true
 decimal_bytes n h = byte_digits (decimal n) (decimal_is_IsNumeral n h).0.1
 
+-- the bytes of a number below 2^64 that is written are bytes of words
 pub decimal_words : (n : ℕ) → n < 2 ^ 64 → list_all is_word (decimal n) ≡ true
 decimal_words n h = all_weaker is_digit is_word digit_is_word (decimal n) (decimal_bytes n h)
 
+-- a number below 2^64 is written in at least one digit
 pub decimals_are : (n : ℕ) → n < 2 ^ 64 → are_decimals (decimal n) ≡ true
 decimals_are n h = some_digits (decimal n) (decimal_is_IsNumeral n h).0.0 (decimal_bytes n h)
   where
@@ -63,6 +66,7 @@ decimals_are n h = some_digits (decimal n) (decimal_is_IsNumeral n h).0.0 (decim
     some_digits [] l e = absurd (omega arith)
     some_digits (d ∷ ds) l e = e
 
+-- a number below 1000000 that is written reads as itself
 pub number_back : (n : ℕ) → n < 1000000 → number_of (decimal n) ≡ Some n
 unfolding number_of
 number_back n h =
@@ -89,6 +93,7 @@ hex_back w v low high h =
     ap (λ b. cond b (Some (digits_value 16 (hex ((w + 3) / 4) v))) None) (are_hex_digits w v low high)
     ∙ ap Some (hex_value w v h)
 
+-- a constant that fits in its 1 to 64 bits reads as what it was written from
 pub constant_back : (w v : ℕ) → 1 ≤ w → w ≤ 64 → v < 2 ^ w → constant_of (constant w v) ≡ Some (record { width = w; value = v })
 unfolding constant_of
 constant_back w v low high h =
@@ -96,7 +101,7 @@ constant_back w v low high h =
     let x = codes "'h" ++ hex ((w + 3) / 4) v in
     let whole : constant w v ≡ d ++ x = append_assoc d (codes "'h") (hex ((w + 3) / 4) v) in
     let n : prefix_len is_digit (d ++ x) ≡ length d = run_before is_digit d x (decimal_bytes w (omega arith)) refl in
-    let front : take (prefix_len is_digit (d ++ x)) (d ++ x) ≡ d = ap (λ k. take k (d ++ x)) n ∙ take_front d x in
+    let front : take (prefix_len is_digit (d ++ x)) (d ++ x) ≡ d = ap (λ k. take k (d ++ x)) n ∙ take-append_seam d x in
     let back : drop (prefix_len is_digit (d ++ x)) (d ++ x) ≡ x = ap (λ k. drop k (d ++ x)) n ∙ drop_front d x in
     let one : number_of (take (prefix_len is_digit (d ++ x)) (d ++ x)) ≡ Some w = ap number_of front ∙ number_back w (omega arith) in
     let two : hex_part (drop (prefix_len is_digit (d ++ x)) (d ++ x)) ≡ Some v = ap hex_part back ∙ hex_back w v low high h in
@@ -104,6 +109,7 @@ constant_back w v low high h =
     ∙ (ap (λ (z : Option ℕ). with_parts z (hex_part (drop (prefix_len is_digit (d ++ x)) (d ++ x)))) one
     ∙ ap (λ (z : Option ℕ). with_parts (Some w) z) two)
 
+-- the bytes of a constant of fewer than 2^64 bits are bytes of words
 pub constant_words : (w v : ℕ) → w < 2 ^ 64 → list_all is_word (constant w v) ≡ true
 constant_words w v h =
     let d = decimal w ++ codes "'h" in
@@ -113,6 +119,7 @@ constant_words w v h =
 
 -- ---- operators
 
+-- an operator that is written reads as itself
 pub operator_back : (o : BinOp) → operator_of (operator o) ≡ Some o
 unfolding operator_of
 operator_back op.Add = refl

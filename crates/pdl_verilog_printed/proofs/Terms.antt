@@ -18,13 +18,15 @@ use Rattle.pdl_vread_text.specs.Grammar.{Row, AllFit, none, more, fields, chosen
 use Rattle.pdl_vread_text.specs.Drafts.{term, with_cell, with_operand}
 use Rattle.pdl_vlog.specs.Layout.{constant, operator}
 use Rattle.pdl_verilog_printed.proofs.Numbers.{constant_back, operator_back}
-use Rattle.pdl_verilog_printed.proofs.Lexed.{token, word_token, line_end}
+use Rattle.pdl_verilog_printed.proofs.WordTokens.{token, word_token, line_end}
 use Rattle.pdl_verilog_printed.proofs.Names.{IsOperandText, constant_word}
-use Rattle.pdl_verilog_printed.proofs.Reading.{Completes, CompletesFile, one_rule}
+use Rattle.pdl_verilog_printed.proofs.RuleSteps.{Completes, CompletesFile, one_rule}
 
+-- a file with a cell more
 abbrev pub add_cell : File → CellDecl → File
 add_cell f g = record f { cells = f.cells ++ g ∷ [] }
 
+-- what the line of a cell declares: its name, twice, its high end and its term
 abbrev pub cell_decl : ℕ → ℕ → List ℕ → Term → CellDecl
 cell_decl line high name tm = record { line = line; name = name; high = high; target = name; term = tm }
 
@@ -37,6 +39,7 @@ pub record IsHeaded (d : Draft) (before : File) (line high : ℕ) (name : List �
   pub high_is : d.high ≡ high
   pub target_is : d.target ≡ name
 
+-- a draft with a cell's head has, after its term, the file with that cell
 pub cell_added : (d : Draft) (before : File) (line high : ℕ) (name : List ℕ) (r : Rule) (ts : Row) (tm : Term) → IsHeaded d before line high name → term d.operand r ts ≡ tm → (with_cell d r ts).file ≡ add_cell before (cell_decl line high name tm)
 cell_added d before line high name r ts tm h e =
     let F : File → ℕ → List ℕ → ℕ → List ℕ → Term → File = λ f l n k a u. add_cell f (record { line = l; name = n; high = k; target = a; term = u }) in

@@ -12,16 +12,16 @@ use Rattle.pdl_vread_text.specs.Words.{is_name}
 use Rattle.pdl_vread_text.specs.Grammar.{Row, AllFit, none, more, finished, fields, chosen}
 use Rattle.pdl_vread_text.specs.Drafts.{all_taken, with_block, with_array_block}
 use Rattle.pdl_vlog.specs.Layout.{always}
-use Rattle.pdl_verilog_printed.proofs.Lexed.{token, word_token, line_end}
+use Rattle.pdl_verilog_printed.proofs.WordTokens.{token, word_token, line_end}
 use Rattle.pdl_verilog_printed.proofs.Names.{IsOperandText, name_word, after_prefix}
-use Rattle.pdl_verilog_printed.proofs.Reading.{Completes, CompletesFile, one_rule}
+use Rattle.pdl_verilog_printed.proofs.RuleSteps.{Completes, CompletesFile, one_rule}
 use Rattle.pdl_verilog_printed.proofs.Drives.{always_row, always_fits}
 
 -- the text, from a line on, completes each draft with this file, with these writes and with a block that begins at a line
 abbrev pub CompletesBlock : Part → ℕ → List ℕ → File → List WriteDecl → ℕ → File → Type 0
 CompletesBlock p line text before ws at f = (d : Draft) → d.file ≡ before → d.writes ≡ ws → d.line ≡ at → Completes p line text d f
 
-abbrev pub add_array_block : File → ArrayBlock → File
+abbrev add_array_block : File → ArrayBlock → File
 add_array_block f g = record f { array_blocks = f.array_blocks ++ g ∷ [] }
 
 module _ (line : ℕ) (rest : List ℕ) (before f : File) where
@@ -139,6 +139,7 @@ nothing_left : (d : Draft) (f : File) → d.file ≡ f → (all_taken d []).file
 unfolding all_taken
 nothing_left d f e = e
 
+-- the last line completes a file as it is, at a part where it may stand
 pub last_line : (p : Part) (line : ℕ) (f : File) → chosen p (codes "endmodule") ≡ Some rule.Ending → CompletesFile p line (codes "endmodule\n") f f
 last_line p line f c d file writes =
     let done : Completes part.Finished (line + 1) [] d f = record { rules = []; derives = finished; same = nothing_left d f file } in

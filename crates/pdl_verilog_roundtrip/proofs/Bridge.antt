@@ -19,14 +19,14 @@ use Rattle.pdl_vread_text.specs.declared.file.OutputDecl.{OutputDecl}
 use Rattle.pdl_vread_text.specs.declared.file.ArrayBlock.{ArrayBlock}
 use Rattle.pdl_vlog.specs.Layout.{net, input_names, cell_width}
 use Rattle.pdl_verilog_printed.proofs.Head as head
-use Rattle.pdl_verilog_printed.proofs.Declared as declaring
+use Rattle.pdl_verilog_printed.proofs.Declarations as declaring
 use Rattle.pdl_verilog_printed.proofs.Arrays as arrays
 use Rattle.pdl_verilog_printed.proofs.Terms.{cell_decl}
 use Rattle.pdl_verilog_printed.proofs.Drives.{output_decl}
 use Rattle.pdl_verilog_declared.proofs.AllCells as cells
 use Rattle.pdl_verilog_declared.proofs.AllDrives as drives
 use Rattle.pdl_verilog_declared.proofs.AllWrites as writing
-use Rattle.pdl_verilog_declared.proofs.Whole.{declared_file, regs_at, arrays_at, cells_at, outputs_at, blocks_at, writes_at}
+use Rattle.pdl_verilog_declared.proofs.FileText.{declared_file, regs_at, arrays_at, cells_at, outputs_at, blocks_at, writes_at}
 use Rattle.pdl_verilog_roundtrip.specs.Declared.{Lines, port_decl, reg_decls, array_decls, term, cell_name, cell_decls, onto_drive, output_decls, reg_blocks, array_name, write_decls, onto_block, array_blocks, declared}
 
 -- ---- lists of declarations, each a line or two after the one before
@@ -172,6 +172,7 @@ same_with : (n : Netlist) {ps qs : List PortDecl} {rs rs' : List RegDecl} {xs xs
     → ps ≡ qs → rs ≡ rs' → xs ≡ xs' → gs ≡ gs' → os ≡ os' → bs ≡ bs' → ws ≡ ws' → file_with n ps rs xs gs os bs ws ≡ file_with n qs rs' xs' gs' os' bs' ws'
 same_with n e1 e2 e3 e4 e5 e6 e7 = rw (e1, e2, e3, e4, e5, e6, e7) refl
 
+-- the file that a netlist's text declares, line by line, is the one that the netlist declares on these lines
 pub same_file : (n : Netlist) → declared_file n ≡ declared (lines_of n) n
 same_file n =
     let inputs = input_names n.ports in

@@ -18,6 +18,7 @@ use Rattle.pdl_verilog_roundtrip.specs.Declared.{onto_output, output_drives, reg
 
 -- ---- outputs
 
+-- a port in place of one that isn't there
 abbrev pub no_port : Port
 no_port = record { name = []; width = 0; dir = In }
 
@@ -35,6 +36,7 @@ ports_below i k (p ∷ ps) l = go p.dir (ports_below i (suc k) ps (omega arith))
         let rest = of_port i (output_drives (suc k) ps) in
         cond-false (eqb k i) (record { port = k; net = x } ∷ rest) rest (ne_eqb k i (λ e. omega arith)) ∙ h
 
+-- what drives the j-th of these ports is just its own net, or nothing for an input
 pub ports_at : (k j i : ℕ) (ps : List Port) (z : Port) → k + j ≡ i → j < length ps → of_port i (output_drives k ps) ≡ onto_output i (get_or ps j z).dir []
 ports_at k j i [] z e l = absurd (omega arith)
 ports_at k zero i (p ∷ ps) z e l = go p.dir (ports_below i (suc k) ps (omega arith))
@@ -73,6 +75,7 @@ driver_kept i x (o ∷ os) = go (eqb o.port i) refl (λ y. driver_kept i y os)
 abbrev pub of_reg : ℕ → List RegDrive → List RegDrive
 of_reg i drives = filter (λ b. eqb b.reg i) drives
 
+-- what drives the r-th register: its reset value and its next net
 abbrev pub reg_drive : ℕ → Reg → RegDrive
 reg_drive r x = record { reg = r; width = x.width; reset = x.reset; net = x.next }
 
@@ -82,6 +85,7 @@ regs_below i k (x ∷ xs) l =
     let rest = of_reg i (reg_drives (suc k) xs) in
     cond-false (eqb k i) (reg_drive k x ∷ rest) rest (ne_eqb k i (λ e. omega arith)) ∙ regs_below i (suc k) xs (omega arith)
 
+-- what drives the j-th of these registers is its own block alone
 pub regs_at : (k j i : ℕ) (xs : List Reg) (z : Reg) → k + j ≡ i → j < length xs → of_reg i (reg_drives k xs) ≡ reg_drive i (get_or xs j z) ∷ []
 regs_at k j i [] z e l = absurd (omega arith)
 regs_at k zero i (x ∷ xs) z e l =
@@ -116,6 +120,7 @@ writes_below i m (a ∷ xs) l = go a.writes (writes_below i (suc m) xs (omega ar
     go [] h = h
     go (p ∷ ps) h = cond-false (eqb m i) (map (λ (w : ArrayWrite). w.port) (map (written_to m) (p ∷ ps))) (writes i (block_writes (suc m) xs)) (ne_eqb m i (λ e. omega arith)) ∙ h
 
+-- the writes of the j-th of these arrays are those of its block
 pub writes_at : (m j i : ℕ) (xs : List Array) (z : Array) → m + j ≡ i → j < length xs → writes i (block_writes m xs) ≡ (get_or xs j z).writes
 writes_at m j i [] z e l = absurd (omega arith)
 writes_at m zero i (a ∷ xs) z e l = go a.writes (writes_below i (suc m) xs (omega arith))

@@ -5,10 +5,10 @@ use Rattle.pdl_net.specs.Pipe.{IsWellFormed}
 use Rattle.pdl_vread_nets.specs.Wired.{wiring}
 use Rattle.pdl_vread.specs.Reads.{IsNetlistOf}
 use Rattle.pdl_verilog_roundtrip.specs.Declared.{Lines, declared, wiring_of}
-use Rattle.pdl_verilog_roundtrip.proofs.Right.{right}
+use Rattle.pdl_verilog_roundtrip.proofs.RuleV3.{right}
 use Rattle.pdl_verilog_declared.specs.Names.{IsCounted}
-use Rattle.pdl_verilog_roundtrip.proofs.Once.{once}
-use Rattle.pdl_verilog_roundtrip.proofs.Again.{again}
+use Rattle.pdl_verilog_roundtrip.proofs.RuleV4.{once}
+use Rattle.pdl_verilog_roundtrip.proofs.RebuiltNetlist.{again}
 
 -- where its names stand for its wiring
 pub netlist_of : (lines : Lines) (n : Netlist) → IsWellFormed n → IsCounted n → wiring (declared lines n) ≡ Ok (wiring_of n) → IsNetlistOf (declared lines n) n

@@ -20,7 +20,7 @@ use Rattle.pdl_vread_text.specs.declared.file.CellDecl.{CellDecl}
 use Rattle.pdl_vlog.specs.Layout.{net, array, input_names, cell_width}
 use Rattle.pdl_vread_nets.specs.Wired.{place, port_nets, net_at, reg_place, array_place, cell_place, input_of, net_of}
 use Rattle.pdl_vread_nets.proofs.Steps.{net_cell, net_reg, net_input}
-use Rattle.pdl_vread.proofs.Named.{get_mapped}
+use Rattle.pdl_vread.proofs.ArrayNames.{get_mapped}
 use Rattle.pdl_verilog_declared.specs.Names.{IsCounted}
 use Rattle.pdl_verilog_roundtrip.specs.Declared.{Lines, reg_name, cell_name, port_decl, reg_decls, array_decls, cell_decls, declared}
 use Rattle.pdl_verilog_roundtrip.proofs.Places.{Begins, numbered, each_numbered, place_numbered, place_mapped, place_at, place_apart, regs_apart, cells_apart}
@@ -28,10 +28,12 @@ use Rattle.pdl_verilog_roundtrip.proofs.Inputs.{input_placed, input_begins}
 
 -- ---- names of declarations
 
+-- ports are declared with their names
 pub port_names : (line : ℕ) (ps : List Port) → map (λ (d : PortDecl). d.name) (map (port_decl line) ps) ≡ map (λ (p : Port). p.name) ps
 port_names line [] = refl
 port_names line (p ∷ ps) = ap (λ z. p.name ∷ z) (port_names line ps)
 
+-- registers are declared with the names of their numbers
 pub reg_names : (at : ℕ → ℕ) (r : ℕ) (xs : List Reg) → map (λ (d : RegDecl). d.name) (reg_decls at r xs) ≡ numbered reg_name r (length xs)
 reg_names at r [] = refl
 reg_names at r (x ∷ xs) = ap (λ z. reg_name r ∷ z) (reg_names at (suc r) xs)

@@ -11,9 +11,11 @@ use Rattle.pdl_word.specs.Each.{Each}
 
 -- ---- one name
 
+-- the first of names stands at 0
 pub place_first : (y : List ℕ) (ys : List (List ℕ)) (x : List ℕ) → x ≡ y → place (y ∷ ys) x ≡ Some 0
 place_first y ys x e = ap (λ b. cond b (Some 0) (shifted (place ys x))) (same_bytes x y e)
 
+-- a name that isn't the first stands one place later than among the others
 pub place_later : (y : List ℕ) (ys : List (List ℕ)) (x : List ℕ) → x ≢ y → place (y ∷ ys) x ≡ shifted (place ys x)
 place_later y ys x h = ap (λ b. cond b (Some 0) (shifted (place ys x))) (bytes_differ x y h)
 
@@ -54,6 +56,7 @@ abbrev pub numbered : (ℕ → List ℕ) → ℕ → ℕ → List (List ℕ)
 numbered f k zero = []
 numbered f k (suc n) = f k ∷ numbered f (suc k) n
 
+-- what holds of the name of each number holds of each numbered name
 pub each_numbered : (P : List ℕ → Type 0) (f : ℕ → List ℕ) → ((i : ℕ) → P (f i)) → (k n : ℕ) → Each P (numbered f k n)
 each_numbered P f h k zero = tt
 each_numbered P f h k (suc n) = (h k, each_numbered P f h (suc k) n)
@@ -62,6 +65,7 @@ each_numbered P f h k (suc n) = (h k, each_numbered P f h (suc k) n)
 abbrev pub AreApart : (ℕ → List ℕ) → ℕ → Type 0
 AreApart f m = (i j : ℕ) → i < m → j < m → f i ≡ f j → i ≡ j
 
+-- the name of a number stands at its own place among numbered ones that are apart
 pub place_numbered : (f : ℕ → List ℕ) (m : ℕ) → AreApart f m → (k n i j : ℕ) → k + n ≤ m → i < n → k + i ≡ j → place (numbered f k n) (f j) ≡ Some i
 place_numbered f m h k zero i j b l e = absurd (omega arith)
 place_numbered f m h k (suc n) zero j b l e =
@@ -73,8 +77,10 @@ place_numbered f m h k (suc n) (suc i) j b l e =
     place_later (f k) (numbered f (suc k) n) (f j) (λ q. let same = h j k c d q in absurd (omega arith))
     ∙ ap shifted (place_numbered f m h (suc k) n i j (omega arith) (omega arith) (omega arith))
 
+-- the names of registers with numbers below 2^64 are apart
 pub regs_apart : AreApart reg_name (2 ^ 64)
 regs_apart i j a b e = decimal_injective i j a b (tail_same e)
 
+-- the names of cells with numbers below 2^64 are apart
 pub cells_apart : AreApart cell_name (2 ^ 64)
 cells_apart i j a b e = decimal_injective i j a b (tail_same e)

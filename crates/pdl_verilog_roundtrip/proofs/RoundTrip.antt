@@ -6,13 +6,14 @@ use Rattle.pdl_vread_text.specs.Text.{IsFile}
 use Rattle.pdl_vlog.specs.Layout.{verilog}
 use Rattle.pdl_vread.specs.Reads.{Reads}
 use Rattle.pdl_verilog_declared.specs.Names.{HasNames, IsCounted}
-use Rattle.pdl_verilog_declared.proofs.Whole.{text_of_file}
-use Rattle.pdl_verilog_declared.proofs.Textual.{textual}
+use Rattle.pdl_verilog_declared.proofs.FileText.{text_of_file}
+use Rattle.pdl_verilog_declared.proofs.GrammarText.{textual}
 use Rattle.pdl_verilog_roundtrip.specs.Declared.{declared}
 use Rattle.pdl_verilog_roundtrip.proofs.Bridge.{lines_of, same_file}
-use Rattle.pdl_verilog_roundtrip.proofs.Wired.{wired}
+use Rattle.pdl_verilog_roundtrip.proofs.NetlistWiring.{wired}
 use Rattle.pdl_verilog_roundtrip.proofs.NetlistOf.{netlist_of}
 
+-- what is written of a well formed netlist, named in PDL and of fewer than 2^64 parts, reads as it
 pub round_trip : (n : Netlist) → IsWellFormed n → HasNames n → IsCounted n → Reads (verilog n) n
 round_trip n h names few = record {
   file = declared (lines_of n) n;

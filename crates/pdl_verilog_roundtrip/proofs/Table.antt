@@ -26,8 +26,9 @@ use Rattle.pdl_vlog.specs.Layout.{input_names, cell_width}
 use Rattle.pdl_vread_rules.specs.declared.table.Widths.{Widths}
 use Rattle.pdl_vread_rules.specs.Widths.{bits, input_width, widths_of, net_width}
 use Rattle.pdl_verilog_roundtrip.specs.Declared.{Lines, declared, port_decl, reg_decls, array_decls, cell_decls}
-use Rattle.pdl_verilog_roundtrip.proofs.Questions.{each_found, each_got, each_so}
+use Rattle.pdl_verilog_roundtrip.proofs.Questions.{each_got, each_so}
 use Rattle.pdl_word.specs.Each.{Each}
+use Rattle.pdl_word.proofs.Each.{each_from_get}
 
 -- a range tells its bits
 pub bits_back : (w : ℕ) → IsWidth w → bits (w - 1) ≡ w
@@ -92,34 +93,43 @@ pub record IsTable (c : Circuit) (t : Widths) : Type 0 where
   pub depths : t.depths ≡ map (λ a. a.depth) c.arrays
   pub cells : (k : ℕ) → k < length c.cells → get_or t.cells k 0 ≡ (signal c (CellNet k)).width
 
+-- a table of a circuit has the width of each net that is there
 pub net_is : (c : Circuit) (t : Widths) → IsTable c t → (x : Net) → IsThere c x → net_width t x ≡ (signal c x).width
 net_is c t h (Input i) l = ap (λ z. get_or z i 0) h.inputs ∙ sym (width_of_input c i)
 net_is c t h (RegNet r) l = ap (λ z. get_or z r 0) h.regs ∙ (get_or-map (λ (x : Reg). x.width) c.regs r no_reg 0 (there_reg c r l) ∙ sym (width_of_reg c r))
 net_is c t h (CellNet k) l = h.cells k (there_cell c k l)
 
+-- a table of a circuit has the width of each array's words
 pub word_is : (c : Circuit) (t : Widths) → IsTable c t → (m : ℕ) → m < length c.arrays → get_or t.words m 0 ≡ (array_at c m).width
 word_is c t h m l = ap (λ z. get_or z m 0) h.words ∙ get_or-map (λ (a : Array). a.width) c.arrays m no_array 0 l
 
+-- a table of a circuit has the depth of each array
 pub depth_is : (c : Circuit) (t : Widths) → IsTable c t → (m : ℕ) → m < length c.arrays → get_or t.depths m 0 ≡ (array_at c m).depth
 depth_is c t h m l = ap (λ z. get_or z m 0) h.depths ∙ get_or-map (λ (a : Array). a.depth) c.arrays m no_array 0 l
 
 -- ---- a circuit in which all fits
 
+-- all ports of a circuit in which all fits do
 pub well_ports : (c : Circuit) → IsWell c → Each (IsWellPort c) c.ports
-well_ports c w = each_found (IsWellPort c) c.ports w.ports
+well_ports c w = each_from_get (IsWellPort c) c.ports w.ports
 
+-- all registers of a circuit in which all fits do
 pub well_regs : (c : Circuit) → IsWell c → Each (IsWellReg c) c.regs
 well_regs c w = each_got (IsWellReg c) c.regs no_reg w.regs
 
+-- all arrays of a circuit in which all fits do
 pub well_arrays : (c : Circuit) → IsWell c → Each (IsWellArray c) c.arrays
 well_arrays c w = each_got (IsWellArray c) c.arrays no_array w.arrays
 
+-- ports that fit have 1 to 64 bits
 pub port_wide : (c : Circuit) (ps : List Port) → Each (IsWellPort c) ps → Each (λ p. IsWidth p.width) ps
 port_wide c ps h = each_so (IsWellPort c) (λ p. IsWidth p.width) ps (λ p k. record { low = k.low; high = k.high }) h
 
+-- registers that fit have 1 to 64 bits
 pub reg_wide : (c : Circuit) (xs : List Reg) → Each (IsWellReg c) xs → Each (λ x. IsWidth x.width) xs
 reg_wide c xs h = each_so (IsWellReg c) (λ x. IsWidth x.width) xs (λ x k. record { low = k.low; high = k.high }) h
 
+-- arrays that fit have words and depths as V3 wants
 pub all_sized : (c : Circuit) (xs : List Array) → Each (IsWellArray c) xs → Each IsSized xs
 all_sized c xs h = each_so (IsWellArray c) IsSized xs (λ a k. (record { low = k.low; high = k.high }, k.depth)) h
 

@@ -42,15 +42,19 @@ pub record Lines : Type 0 where
 
 -- ---- declarations
 
+-- the name of the r-th register
 abbrev pub reg_name : ℕ → List ℕ
 reg_name r = codes "r" ++ decimal r
 
+-- the name of the k-th cell
 abbrev pub cell_name : ℕ → List ℕ
 cell_name k = codes "n" ++ decimal k
 
+-- the name of an array: `a_` and that of its memory
 abbrev pub array_name : Array → List ℕ
 array_name a = codes "a_" ++ a.name
 
+-- what the text declares of a port
 abbrev pub port_decl : ℕ → Port → PortDecl
 port_decl line p = record { line = line; name = p.name; high = p.width - 1; input = is_input p.dir }
 
@@ -149,6 +153,7 @@ abbrev pub reg_drives : ℕ → List Reg → List RegDrive
 reg_drives r [] = []
 reg_drives r (x ∷ xs) = record { reg = r; width = x.width; reset = x.reset; net = x.next } ∷ reg_drives (suc r) xs
 
+-- a write port of array m, as the wiring has it
 abbrev pub written_to : ℕ → WritePort → ArrayWrite
 written_to m p = record { array = m; port = p }
 

@@ -63,6 +63,7 @@ both_named : (xs ys : List MemInfo) → AllByRecursion IsTold xs → AllByRecurs
 both_named [] ys h g = g
 both_named (x ∷ xs) ys h g = (h.0, both_named xs ys h.1 g)
 
+-- a netlist that follows a source's pipe has names of PDL
 pub names : (source : List ℕ) (p : Pipe) (n : Netlist) → IsText source p → Follows p n → HasNames n
 names source p n t f =
     let h = whole_named p (tokens source) [] t.text (tokens_named 0 0 1 source) in
@@ -71,5 +72,6 @@ names source p n t f =
       mems = All-from_recursion IsTold n.mems (subst (AllByRecursion IsTold) (sym f.mems) (both_named _ _ (some_named is_delayed p.mems h.1) (some_named is_comb p.mems h.1)));
     }
 
+-- what is written of a netlist that follows a source's pipe reads as it
 pub reads : (source : List ℕ) (p : Pipe) (n : Netlist) → IsText source p → Follows p n → IsCounted n → Reads (verilog n) n
 reads source p n t f few = round_trip n f.well_formed (names source p n t f) few

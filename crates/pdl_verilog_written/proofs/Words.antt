@@ -122,6 +122,7 @@ piece_named c cs =
 abbrev pub IsNamed : Token → Type 0
 IsNamed t = t.kind ≡ kind.Name → is_name t.text ≡ true
 
+-- tokens of which each that is a name has the bytes of one
 abbrev pub AreNamed : List Token → Type 0
 AreNamed [] = ⊤
 AreNamed (t ∷ ts) = IsNamed t × AreNamed ts
@@ -131,6 +132,7 @@ placed_named : (k : Option TokenKind) (n start line : ℕ) (bytes : List ℕ) �
 placed_named None n start line bytes h rest t = t
 placed_named (Some k) n start line bytes h rest t = (λ e. h (ap (λ (j : TokenKind). Some j) e), t)
 
+-- the tokens of a text that are names have the bytes of one
 pub tokens_named : (inside start line : ℕ) (bytes : List ℕ) → AreNamed (tokens_from inside start line bytes)
 tokens_named inside start line [] = tt
 tokens_named (suc k) start line (c ∷ cs) = tokens_named k (start + 1) line cs

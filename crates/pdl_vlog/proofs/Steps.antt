@@ -12,16 +12,18 @@ use Rattle.pdl_net.specs.Circuit.{Circuit, circuit_of, no_array}
 use Rattle.pdl_net.specs.Signal.{Signal}
 use Rattle.pdl_net.specs.Meaning.{signal, IsThereAt}
 use Rattle.pdl_net.specs.Well.{IsWell, FitsIn}
-use Rattle.pdl_net.proofs.Fix.{no_cell}
+use Rattle.pdl_net.proofs.CellSignals.{no_cell}
 use Rattle.pdl_net.proofs.Widths.{cells_well}
 use Rattle.pdl_vlog.specs.Layout as spec
 use Rattle.pdl_net.specs.Width.{HasWidths}
 use Rattle.pdl_net.proofs.WidthLists.{fits_read}
 
+-- an array without write ports adds no block to a text
 pub no_block : (inputs : List (List ℕ)) (name : List ℕ) (ports : List WritePort) (t : List ℕ) → length ports ≡ 0 → t ≡ t ++ spec.array_block inputs name ports
 no_block inputs name [] t e = sym (append-nil t)
 no_block inputs name (p ∷ ps) t e = cc
 
+-- the block of an array with write ports is a whole block
 pub some_block : (inputs : List (List ℕ)) (name : List ℕ) (ports : List WritePort) → length ports ≢ 0 → spec.array_block inputs name ports ≡ spec.whole_block inputs name ports
 some_block inputs name [] e = absurd (e refl)
 some_block inputs name (p ∷ ps) e = refl
@@ -47,6 +49,7 @@ get_is (y ∷ ys) (suc i) x d e = let k = get_is ys i x d e in (omega arith, k.1
 power_low : (b d : ℕ) → d ≡ 2 ^ b → 1 ≤ d
 power_low b d e = let k = pow_pos b in omega (arith, e, k)
 
+-- each array of a netlist in which all fits has words of at least 1 bit, and at least one of them
 pub array_widths : (n : Netlist) → IsWell (circuit_of n) → spec.HaveArrayWidths n.arrays
 array_widths n w = λ i a e.
     let k = get_is n.arrays i a no_array e in
@@ -64,9 +67,11 @@ short c There at (Cat a b) f = tt
 short c There at (Rep k a) f = tt
 short c There at (Read m a) f = tt
 
+-- each constant among the cells of a netlist in which all fits has at most 64 bits
 pub short_cell : (n : Netlist) (xs : List Cell) (k : ℕ) → IsWell (circuit_of n) → k < length n.cells → xs ≡ n.cells → spec.IsShort (get_or xs k no_cell)
 short_cell n xs k w h e = short (circuit_of n) (IsThereAt (circuit_of n) k) (signal (circuit_of n)) (get_or xs k no_cell) (fits_read (circuit_of n) xs k k w h e refl)
 
+-- each cell of a netlist in which all fits has at least 1 bit
 pub wide_cell : (n : Netlist) (ws : List ℕ) (k : ℕ) → IsWell (circuit_of n) → HasWidths (circuit_of n) ws → length ws ≡ length n.cells → k < length n.cells → 1 ≤ get_or ws k 0
 wide_cell n ws k w h e l =
     let i = (cells_well (circuit_of n) w).widths k l in

@@ -24,6 +24,7 @@ abbrev pub input_name : Dir → List ℕ → List (List ℕ)
 input_name In name = name ∷ []
 input_name (Out x) name = []
 
+-- the name of a port, if that is an input
 abbrev pub named_input : Port → List (List ℕ)
 named_input p = input_name p.dir p.name
 
@@ -51,6 +52,7 @@ range w = codes "[" ++ decimal (w - 1) ++ codes ":0]"
 abbrev pub constant : ℕ → ℕ → List ℕ
 constant w v = decimal w ++ codes "'h" ++ hex ((w + 3) / 4) v
 
+-- an operator as it is written
 abbrev pub operator : BinOp → List ℕ
 operator Add = codes "+"
 operator Sub = codes "-"
@@ -67,18 +69,23 @@ operator Shr = codes ">>"
 abbrev pub bin : List (List ℕ) → BinOp → Net → Net → List ℕ
 bin inputs op a b = net inputs a ++ codes " " ++ operator op ++ codes " " ++ net inputs b
 
+-- `c ? a : b`
 abbrev pub mux : List (List ℕ) → Net → Net → Net → List ℕ
 mux inputs c a b = net inputs c ++ codes " ? " ++ net inputs a ++ codes " : " ++ net inputs b
 
+-- `a[high:low]`
 abbrev pub slice : List (List ℕ) → Net → ℕ → ℕ → List ℕ
 slice inputs a high low = net inputs a ++ codes "[" ++ decimal high ++ codes ":" ++ decimal low ++ codes "]"
 
+-- `{a, b}`
 abbrev pub cat : List (List ℕ) → Net → Net → List ℕ
 cat inputs a b = codes "{" ++ net inputs a ++ codes ", " ++ net inputs b ++ codes "}"
 
+-- `{k{a}}`
 abbrev pub rep : List (List ℕ) → ℕ → Net → List ℕ
 rep inputs k a = codes "{" ++ decimal k ++ codes "{" ++ net inputs a ++ codes "}}"
 
+-- `a_id[a]`
 abbrev pub read : List (List ℕ) → List Array → ℕ → Net → List ℕ
 read inputs arrays m a = array arrays m ++ codes "[" ++ net inputs a ++ codes "]"
 
@@ -108,6 +115,7 @@ always = codes "always @(posedge clk)"
 unfoldable pub clock_and_reset : List ℕ
 clock_and_reset = codes "(input wire clk, input wire [0:0] rst"
 
+-- what stands before the range of a port
 abbrev pub direction : Dir → List ℕ
 direction In = codes ", input wire "
 direction (Out x) = codes ", output wire "
@@ -167,6 +175,7 @@ abbrev pub drive : List (List ℕ) → Dir → List ℕ → List ℕ
 drive inputs In name = []
 drive inputs (Out x) name = codes "assign " ++ name ++ codes " = " ++ net inputs x ++ codes ";\n"
 
+-- the `assign` of a port, if that is an output
 abbrev pub output : List (List ℕ) → Port → List ℕ
 output inputs p = drive inputs p.dir p.name
 
@@ -200,6 +209,7 @@ abbrev pub array_block : List (List ℕ) → List ℕ → List WritePort → Lis
 array_block inputs name [] = []
 array_block inputs name (p ∷ ps) = whole_block inputs name (p ∷ ps)
 
+-- the block of an array with its own name and write ports
 abbrev pub block_of : List (List ℕ) → Array → List ℕ
 block_of inputs a = array_block inputs a.name a.writes
 

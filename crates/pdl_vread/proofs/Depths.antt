@@ -8,12 +8,13 @@ use Rattle.pdl_vread_text.specs.declared.file.File.{File}
 use Rattle.pdl_vread_text.specs.declared.file.ArrayDecl.{ArrayDecl}
 use Rattle.pdl_vread_nets.specs.declared.wiring.ArrayWrite.{ArrayWrite}
 use Rattle.pdl_vread_nets.specs.declared.wiring.Wiring.{Wiring}
-use Rattle.pdl_vread_rules.specs.Asked.{Asked, first_wrong, both}
+use Rattle.pdl_vread_rules.specs.RuleQuestions.{Asked, first_wrong, both}
 use Rattle.pdl_vread_rules.specs.Widths.{asked_port, asked_reg, asked_array, asked_cell, asked_output, asked_block, asked_writes, declared_questions, driven_questions, widths_of, width_line, bits, is_width, is_depth}
-use Rattle.pdl_vread_pipe.specs.Told.{with_mems}
+use Rattle.pdl_vread_pipe.specs.ToldParts.{with_mems}
 use Rattle.pdl_vread_pipe.proofs.Pipes.{length_mems}
 use Rattle.pdl_vread.specs.Built.{built, arrays}
 
+-- where nothing is wrong from a place on, that place is right and nothing after it is wrong
 pub right_both : (b : Bool) (o : Option ℕ) (n : ℕ) → cond b o (Some n) ≡ None → (b ≡ true) × (o ≡ None)
 right_both true o n h = (refl, h)
 right_both false o n h = absurd (cc)
@@ -26,6 +27,7 @@ right_parts (a ∷ xs) ys h =
     let i = right_parts xs ys k.1 in
     (ap (λ b. cond b (first_wrong xs) (Some a.line)) k.0 ∙ i.0, i.1)
 
+-- the depth of a declared array is below 2^32
 abbrev pub IsReached : ArrayDecl → Type 0
 IsReached a = a.last + 1 < 2 ^ 32
 
@@ -56,6 +58,7 @@ pub record WidthParts (f : File) (w : Wiring) : Type 0 where
   pub blocks : first_wrong (both (asked_block (widths_of f)) f.reg_blocks w.regs) ≡ None
   pub writes : first_wrong (asked_writes (widths_of f) f.array_blocks w.blocks) ≡ None
 
+-- a file in which V3 finds nothing wrong keeps it in each of its parts
 pub width_parts : (f : File) (w : Wiring) → width_line f w ≡ None → WidthParts f w
 unfolding width_line
 width_parts f w h =
@@ -78,6 +81,7 @@ width_parts f w h =
 pub reached : (f : File) (w : Wiring) → width_line f w ≡ None → All IsReached f.arrays
 reached f w h = all_reached f.arrays (width_parts f w h).arrays
 
+-- as many arrays are built as are declared
 pub length_arrays : (blocks : List (List ArrayWrite)) (m : ℕ) (decls : List ArrayDecl) → length (arrays blocks m decls) ≡ length decls
 length_arrays blocks m [] = refl
 length_arrays blocks m (a ∷ rest) = ap suc (length_arrays blocks (suc m) rest)

@@ -17,7 +17,7 @@ use Rattle.pdl_vread_nets.specs.declared.wiring.Wiring.{Wiring}
 use Rattle.pdl_vread_nets.specs.Wired.{wiring, net_of}
 use Rattle.pdl_vread_rules.specs.Widths.{width_line}
 use Rattle.pdl_vread_rules.specs.Once.{once_line}
-use Rattle.pdl_vread_pipe.specs.Told.{with_mems}
+use Rattle.pdl_vread_pipe.specs.ToldParts.{with_mems}
 use Rattle.pdl_vread_pipe.specs.Tests.{judged}
 use Rattle.pdl_vread_pipe.proofs.Pipes.{is_pipe_of}
 use Rattle.pdl_vread.specs.Built.{built}

@@ -1,12 +1,12 @@
-pub mod Filled
+pub mod DrivenNets
 pub mod Depths
 pub mod Steps
 pub mod Verdicts
 pub mod Examples
-pub mod There
+pub mod NamedNets
 pub mod Powers
-pub mod Wide
+pub mod CellWidths
 pub mod Parts
-pub mod Named
+pub mod ArrayNames
 pub mod WellFormed
 pub mod Memories

@@ -14,10 +14,11 @@ use Rattle.pdl_net.specs.Circuit.{no_array}
 use Rattle.pdl_net.specs.Pipe.{Head, PortMem, input, output, head_of, reply_ports, stage_ports, commit_ports, request_ports, pipe_ports, delayed_info, comb_info, IsWellFormed}
 use Rattle.pdl_vread.specs.declared.read.VError.{VError}
 use Rattle.pdl_vread.specs.Reads.{Judges}
-use Rattle.pdl_vread.proofs.Named.{get_mapped}
+use Rattle.pdl_vread.proofs.ArrayNames.{get_mapped}
 use Rattle.pdl_vread.proofs.WellFormed.{reads_well, read_well}
 use Rattle.pdl_net.proofs.PipeMems.{told, told_names}
 
+-- 1 to 64 bits
 abbrev pub IsWide : ℕ → Type 0
 IsWide w = (1 ≤ w) × (w ≤ 64)
 
@@ -152,15 +153,16 @@ module _ (n : Netlist) (h : IsWellFormed n) where
 
 -- ---- of what is read
 
+-- the memories of a netlist that the reader answers have different names
 pub read_names : (bytes : List ℕ) (r : Result Netlist VError) → Judges bytes r → IfOk r (λ n. AllPairs (λ a b. a.name ≢ b.name) n.mems)
 read_names bytes (Ok n) h = mems_differ n (reads_well bytes n h)
 read_names bytes (Err e) h = tt
 
-pub read_low : (bytes : List ℕ) (r : Result Netlist VError) → Judges bytes r → IfOk r (λ n. All (λ m. 1 ≤ m.width) n.mems)
+read_low : (bytes : List ℕ) (r : Result Netlist VError) → Judges bytes r → IfOk r (λ n. All (λ m. 1 ≤ m.width) n.mems)
 read_low bytes (Ok n) h = λ k d l. (mems_wide n (reads_well bytes n h) k d l).0
 read_low bytes (Err e) h = tt
 
-pub read_high : (bytes : List ℕ) (r : Result Netlist VError) → Judges bytes r → IfOk r (λ n. All (λ m. m.width ≤ 64) n.mems)
+read_high : (bytes : List ℕ) (r : Result Netlist VError) → Judges bytes r → IfOk r (λ n. All (λ m. m.width ≤ 64) n.mems)
 read_high bytes (Ok n) h = λ k d l. (mems_wide n (reads_well bytes n h) k d l).1
 read_high bytes (Err e) h = tt
 

@@ -13,11 +13,11 @@ use Rattle.pdl_vread_nets.specs.declared.wiring.RegDrive.{RegDrive}
 use Rattle.pdl_vread_nets.specs.declared.wiring.ArrayWrite.{ArrayWrite}
 use Rattle.pdl_vread_nets.specs.declared.wiring.Wiring.{Wiring}
 use Rattle.pdl_vread_nets.specs.Wired.{place, shifted, each, onto_block, cells_from, all_outputs, all_regs, wired_write, writes_of, blocks_of, with_parts, wiring}
-use Rattle.pdl_vread_rules.specs.Asked.{Asked, first_wrong, both}
+use Rattle.pdl_vread_rules.specs.RuleQuestions.{Asked, first_wrong, both}
 use Rattle.pdl_vread_rules.specs.Widths.{asked_write, asked_writes, widths_of}
 use Rattle.pdl_vread_rules.specs.Once.{owner, in_turn, port_once, reg_once, array_once, cell_once, write_once, blocks_once, once_line}
 use Rattle.pdl_vread.proofs.Depths.{right_both, right_parts}
-use Rattle.pdl_vread.proofs.Wide.{onto_inv}
+use Rattle.pdl_vread.proofs.CellWidths.{onto_inv}
 use Rattle.pdl_word.specs.Each.{Each}
 
 -- ---- each element
@@ -69,6 +69,7 @@ new_apart ns h = λ i j d k l.
 
 -- ---- the parts of what the rules ask
 
+-- where nothing that is asked of a list is wrong, what is asked of its i-th element is right
 pub map_right : {A : Type 0} (ask : A → Asked) (xs : List A) → first_wrong (map ask xs) ≡ None → (i : ℕ) (d : A) → i < length xs → (ask (get_or xs i d)).right ≡ true
 map_right ask [] h i d l = absurd (omega arith)
 map_right ask (x ∷ xs) h zero d l = (right_both (ask x).right (first_wrong (map ask xs)) (ask x).line h).0
@@ -80,6 +81,7 @@ pub record WiringParts (f : File) (w : Wiring) : Type 0 where
   pub regs : all_regs f (length f.cells) f.reg_blocks ≡ Ok w.regs
   pub blocks : blocks_of f (length f.cells) f.array_blocks ≡ Ok w.blocks
 
+-- the wiring of a file is that of its cells, of its outputs, of its registers and of its blocks
 pub wiring_parts : (f : File) (w : Wiring) → wiring f ≡ Ok w → WiringParts f w
 unfolding wiring
 wiring_parts f w h = go (cells_from f 0 f.cells) (all_outputs f (length f.cells) f.outputs) (all_regs f (length f.cells) f.reg_blocks) (blocks_of f (length f.cells) f.array_blocks) refl refl refl refl h
@@ -106,6 +108,7 @@ pub record OnceParts (f : File) (w : Wiring) : Type 0 where
   pub arrays : first_wrong (in_turn array_once [] f.arrays) ≡ None
   pub blocks : first_wrong (blocks_once [] f.array_blocks w.blocks) ≡ None
 
+-- a file in which V4 finds nothing wrong keeps it in its ports, registers, arrays and blocks
 pub once_parts : (f : File) (w : Wiring) → once_line f w ≡ None → OnceParts f w
 unfolding once_line
 once_parts f w h =

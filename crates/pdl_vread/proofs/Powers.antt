@@ -65,6 +65,7 @@ bits_high b l = go (cases_lt 17 b)
     go (inl k) = let m : 2 ^ 18 ≤ 2 ^ b = pow_mono {i = 18} {j = b} (omega arith) in omega arith
     go (inr k) = k
 
+-- a depth that passes the test of V3 is one that an array may have
 pub depth_is : (d : ℕ) → is_depth d ≡ true → IsDepth d
 depth_is d h =
     let p = and_parts (leb 2 d) (leb d 131072 && is_power_of_two d) h in

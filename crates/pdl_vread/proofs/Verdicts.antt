@@ -13,7 +13,7 @@ use Rattle.pdl_vread_nets.specs.declared.wiring.Wiring.{Wiring}
 use Rattle.pdl_vread_nets.specs.Wired.{wiring}
 use Rattle.pdl_vread_rules.specs.Widths.{width_line}
 use Rattle.pdl_vread_rules.specs.Once.{once_line}
-use Rattle.pdl_vread_pipe.specs.Told.{with_mems}
+use Rattle.pdl_vread_pipe.specs.ToldParts.{with_mems}
 use Rattle.pdl_vread_pipe.specs.Tests.{judged}
 use Rattle.pdl_vread_pipe.proofs.Pipes.{is_pipe_of, judged_of}
 use Rattle.pdl_vread.specs.declared.read.VError.{VError}
@@ -94,6 +94,7 @@ breaks_has : (bytes : List ℕ) (rule : Rule) (line : ℕ) → Breaks bytes rule
 breaks_has bytes V1 line h = misplaced line h refl
 breaks_has bytes rule line h = filed h.0 h.1 (breaks_so h.0 rule line h.2)
 
+-- where a text reads as a netlist, the answer is that netlist, unless memory ran out
 pub gives_netlist : (bytes : List ℕ) (r : Result Netlist VError) (n : Netlist) → Judges bytes r → Reads bytes n → GivesNetlist n r
 gives_netlist bytes (Ok m) n h k =
     let e = one_verdict bytes (Ok m) (Ok n) (reads_has bytes m h) (reads_has bytes n k) in
@@ -103,6 +104,7 @@ gives_netlist bytes (Err (Refused rule line)) n h k =
     let e = one_verdict bytes (Err (fault rule line)) (Ok n) (breaks_has bytes rule line h) (reads_has bytes n k) in
     cc
 
+-- where a text breaks a rule at a line, the answer is that refusal, unless memory ran out
 pub gives_refusal : (bytes : List ℕ) (r : Result Netlist VError) (rule : Rule) (line : ℕ) → Judges bytes r → Breaks bytes rule line → GivesRefusal rule line r
 gives_refusal bytes (Ok m) rule line h k =
     let e = one_verdict bytes (Ok m) (Err (fault rule line)) (reads_has bytes m h) (breaks_has bytes rule line k) in

@@ -31,17 +31,17 @@ use Rattle.pdl_vread_nets.specs.declared.wiring.Wiring.{Wiring}
 use Rattle.pdl_vread_nets.specs.Wired.{place, net_of, output_of, reg_place, array_place, wired_cell, wired_output, wired_reg, wired_port, wired_array, wired_write, cells_from}
 use Rattle.pdl_vread_rules.specs.Widths.{bits, input_width, widths_of, net_width, is_width, is_depth, fits, asked_port, asked_reg, asked_array, asked_output, asked_block, asked_write}
 use Rattle.pdl_vread_rules.specs.Once.{owner, is_new, output_drives, reg_drives, port_once, reg_once, array_once}
-use Rattle.pdl_vread_pipe.specs.Told.{with_mems}
+use Rattle.pdl_vread_pipe.specs.ToldParts.{with_mems}
 use Rattle.pdl_vread.specs.declared.read.VError.{VError}
 use Rattle.pdl_vread.specs.Built.{driver, port, ports, undriven, given, driven, regs, writes, arrays, built}
 use Rattle.pdl_vread.specs.Reads.{IsWired, Reads, Judges}
 use Rattle.pdl_vread.proofs.Depths.{WidthParts, width_parts, length_arrays}
-use Rattle.pdl_vread.proofs.Filled.{length_regs, get_regs_from}
-use Rattle.pdl_vread.proofs.There.{Has, two_inv, three_inv, net_there}
-use Rattle.pdl_vread.proofs.Wide.{is_width_parts, onto_inv, CellsRight, cells_right}
+use Rattle.pdl_vread.proofs.DrivenNets.{length_regs, get_regs_from}
+use Rattle.pdl_vread.proofs.NamedNets.{Has, two_inv, three_inv, net_there}
+use Rattle.pdl_vread.proofs.CellWidths.{is_width_parts, onto_inv, CellsRight, cells_right}
 use Rattle.pdl_vread.proofs.Parts.{each_right, each_write, turn_at, new_apart, map_right, WiringParts, wiring_parts, OnceParts, once_parts}
 use Rattle.pdl_vread.proofs.Powers.{depth_is}
-use Rattle.pdl_vread.proofs.Named.{file_named, apart_rests, get_mapped}
+use Rattle.pdl_vread.proofs.ArrayNames.{file_named, apart_rests, get_mapped}
 use Rattle.pdl_word.specs.Each.{Each}
 use Rattle.pdl_word.proofs.Each.{each_got}
 
@@ -82,12 +82,15 @@ number_at f [] i d l = absurd (omega arith)
 number_at f (x ∷ xs) zero d l = refl
 number_at f (x ∷ xs) (suc i) d l = number_at f xs i d (omega arith)
 
+-- the declaration of a register in place of one that isn't there
 abbrev pub no_decl : RegDecl
 no_decl = record { line = 0; name = []; high = 0 }
 
+-- the declaration of an array in place of one that isn't there
 abbrev pub no_array_decl : ArrayDecl
 no_array_decl = record { line = 0; name = []; high = 0; last = 0 }
 
+-- the declaration of a port in place of one that isn't there
 abbrev pub no_port_decl : PortDecl
 no_port_decl = record { line = 0; name = []; high = 0; input = false }
 
@@ -373,6 +376,7 @@ names_apart name xs d h = new_apart (map name xs) (λ j z l.
     let e : get_or (map name xs) j z ≡ name (get_or xs j d) = get_mapped name xs j z d b in
     ap (λ y. is_some (place (take j (map name xs)) y)) e ∙ (ap (λ y. is_some (place y (name (get_or xs j d)))) (take-map name j xs) ∙ not-true _ (h j b)))
 
+-- a netlist that a text reads as is well formed
 pub reads_well : (bytes : List ℕ) (n : Netlist) → Reads bytes n → IsWellFormed n
 reads_well bytes n h =
     let f = h.file in
@@ -388,6 +392,7 @@ reads_well bytes n h =
       pipe = h.netlist.pipe;
     }
 
+-- a netlist that the reader answers is well formed
 pub read_well : (bytes : List ℕ) (r : Result Netlist VError) → Judges bytes r → IfOk r IsWellFormed
 read_well bytes (Ok n) h = reads_well bytes n h
 read_well bytes (Err e) h = tt

@@ -13,7 +13,7 @@ use Rattle.pdl_vread_nets.specs.declared.wiring.Wiring.{Wiring}
 use Rattle.pdl_vread_nets.specs.Wired.{wiring}
 use Rattle.pdl_vread_rules.specs.Widths.{width_line}
 use Rattle.pdl_vread_rules.specs.Once.{once_line}
-use Rattle.pdl_vread_pipe.specs.Told.{with_mems}
+use Rattle.pdl_vread_pipe.specs.ToldParts.{with_mems}
 use Rattle.pdl_vread.specs.declared.read.VError.{VError}
 use Rattle.pdl_vread.specs.declared.read.VError.TheVariants.{Refused, NoMemory}
 use Rattle.pdl_vread.specs.Built.{built}
@@ -80,6 +80,7 @@ GivesRefusal rule line (Ok m) = ⊥
 GivesRefusal rule line (Err NoMemory) = Unit {0}
 GivesRefusal rule line (Err (Refused r l)) = (r ≡ rule) × (l ≡ line)
 
+-- the error where memory ran out
 abbrev pub no_memory : VError
 no_memory = NoMemory
 

@@ -13,7 +13,7 @@ use pdl_vread_text::{ArrayDecl, File, PortDecl, RegDecl};
 use std::alloc::Global;
 
 // The net that each port takes, where it is an output.
-#[tactic(auto, using(crate::proofs::Filled::driving))]
+#[tactic(auto, using(crate::proofs::DrivenNets::driving))]
 fn drivers(alloc: Global, ports: usize, drives: &[OutputDrive]) -> Result<Vec<Net>, NoMemory>
     ensures { IfOk result (λ nets. nets.items ≡ spec.drivers ports drives.now) }
 {
@@ -69,7 +69,7 @@ fn undriven(alloc: Global, decls: &[RegDecl]) -> Result<Vec<Reg>, NoMemory>
 }
 
 // Each register with its reset value and its next value.
-#[tactic(auto, using(crate::proofs::Filled::defining))]
+#[tactic(auto, using(crate::proofs::DrivenNets::defining))]
 fn regs(alloc: Global, decls: &[RegDecl], drives: &[RegDrive]) -> Result<Seq<Reg>, NoMemory>
     ensures { IfOk result (λ regs. regs ≡ spec.regs drives.now 0 decls.now) }
 {

@@ -6,7 +6,7 @@ ghost use Rattle.pdl_kit.specs.declared.rule.Rule.TheVariants.{V5};
 ghost use Rattle.pdl_net.specs.declared.Netlist.{Netlist as Netlist'};
 ghost use Rattle.pdl_net.specs.Pipe.{IsPipe, IsWellFormed};
 ghost use Rattle.pdl_vread_nets.specs.Wired.{wiring as names_of};
-ghost use Rattle.pdl_vread_pipe.specs.Told.{with_mems};
+ghost use Rattle.pdl_vread_pipe.specs.ToldParts.{with_mems};
 ghost use Rattle.pdl_vread_text.specs.Text.{IsFile};
 ghost use Rattle.pdl_vread.specs.Reads.{Breaks, FileBreaks, GivesNetlist, GivesRefusal, IsWired, IsNetlistOf, Judges, Reads, Refuses};
 ghost use Rattle.pdl_vread.specs.Reads as spec;

@@ -68,23 +68,27 @@ more_new names x y h = place_more names x y ∙ (go (bytes_eq y x) refl ∙ ap (
         absent (place names y) (Some (length names)) k
     go false e = later_none (place names y)
 
+-- whether two names have the same bytes
 abbrev pub same : List ℕ → List ℕ → Bool
 same = pointwise nat_eq
 
 count_more : (names : List (List ℕ)) (x : List ℕ) (n m : ℕ) → n ≡ length names → m ≡ n + 1 → m ≡ length (names ++ x ∷ [])
 count_more names x n m e f = let k = length-append names (x ∷ []) in omega (arith, e, f, k)
 
+-- a name that stands among the names already leaves the map of first places as it is
 pub added_there : (old new : r.Places) (names : List (List ℕ)) (x : List ℕ) → AreFirsts names old → is_some (get same old.firsts x) ≡ true → new.firsts ≡ old.firsts → new.count ≡ old.count + 1 → AreFirsts (names ++ x ∷ []) new
 added_there old new names x h s e f = record {
   count = count_more names x old.count new.count h.count f;
   firsts = λ y. ap (λ m. get same m y) e ∙ (h.firsts y ∙ sym (more_there names x y (subst (λ o. is_some o ≡ true) (h.firsts x) s)));
 }
 
+-- a new name is added to the map of first places, with the next place
 pub added_new : (old new : r.Places) (names : List (List ℕ)) (x : List ℕ) → AreFirsts names old → is_some (get same old.firsts x) ≡ false → Updates same old.firsts new.firsts x (Some old.count) → new.count ≡ old.count + 1 → AreFirsts (names ++ x ∷ []) new
 added_new old new names x h s u f = record {
   count = count_more names x old.count new.count h.count f;
   firsts = λ y. u.0 y ∙ (ap (λ n. cond (same x y) (Some n) (get same old.firsts y)) h.count ∙ (ap (λ o. cond (same x y) (Some (length names)) o) (h.firsts y) ∙ sym (more_new names x y (subst (λ o. is_some o ≡ false) (h.firsts x) s))));
 }
 
+-- a looked-up value is there just where what it stands for is
 pub is_there : {T U : Type 0} (f : T → U) (o : Option T) (q : Option U) (b : Bool) → option_map f o ≡ q → b ≡ is_some o → is_some q ≡ b
 is_there f o q b e h = ap is_some (sym e) ∙ (is_some-mapped f o ∙ sym h)

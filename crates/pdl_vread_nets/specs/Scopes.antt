@@ -5,9 +5,11 @@ use Rattle.pdl_vread_nets.specs.declared.scope.Scope as r
 use Rattle.pdl_vread_nets.specs.Wired.{port_nets}
 use Rattle.pdl_vread_nets.specs.Places.{AreFirsts}
 
+-- the names of a file's ports
 abbrev pub port_names : File → List (List ℕ)
 port_names f = map (λ p. p.name) f.ports
 
+-- the names of a file's registers
 abbrev pub reg_names : File → List (List ℕ)
 reg_names f = map (λ r. r.name) f.regs
 

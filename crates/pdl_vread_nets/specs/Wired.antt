@@ -23,6 +23,7 @@ use Rattle.pdl_vread_nets.specs.declared.wiring.Wiring.{Wiring}
 
 -- ---- names
 
+-- a place that is counted from one element earlier
 abbrev pub shifted : Option ℕ → Option ℕ
 shifted (Some i) = Some (suc i)
 shifted None = None
@@ -36,9 +37,11 @@ place (y ∷ ys) x = cond (bytes_eq x y) (Some 0) (shifted (place ys x))
 abbrev pub port_place : File → List ℕ → Option ℕ
 port_place f x = place (map (λ p. p.name) f.ports) x
 
+-- the first register of a name
 abbrev pub reg_place : File → List ℕ → Option ℕ
 reg_place f x = place (map (λ r. r.name) f.regs) x
 
+-- the first array of a name
 abbrev pub array_place : File → List ℕ → Option ℕ
 array_place f x = place (map (λ a. a.name) f.arrays) x
 
@@ -51,6 +54,7 @@ abbrev pub port_nets : ℕ → List PortDecl → List (Option Net)
 port_nets i [] = []
 port_nets i (p ∷ ps) = cond p.input (Some (Input i) ∷ port_nets (suc i) ps) (None ∷ port_nets i ps)
 
+-- the net at a place, if there is one
 abbrev pub net_at : List (Option Net) → Option ℕ → Option Net
 net_at nets None = None
 net_at nets (Some i) = slice_index_or nets i None
@@ -59,10 +63,12 @@ net_at nets (Some i) = slice_index_or nets i None
 abbrev pub input_of : File → List ℕ → Option Net
 input_of f x = net_at (port_nets 0 f.ports) (port_place f x)
 
+-- the number of a declared port, if that is an output
 abbrev pub output_port : Option PortDecl → ℕ → Option ℕ
 output_port None i = None
 output_port (Some p) i = cond p.input None (Some i)
 
+-- the place among ports, if an output stands there
 abbrev pub output_at : List PortDecl → Option ℕ → Option ℕ
 output_at ports None = None
 output_at ports (Some i) = output_port (slice_get ports i) i
@@ -71,10 +77,12 @@ output_at ports (Some i) = output_port (slice_get ports i) i
 abbrev pub output_of : File → List ℕ → Option ℕ
 output_of f x = output_at f.ports (port_place f x)
 
+-- a cell, else another net
 abbrev pub cell_or : Option ℕ → Option Net → Option Net
 cell_or (Some k) other = Some (CellNet k)
 cell_or None other = other
 
+-- a register, else another net
 abbrev pub reg_or : Option ℕ → Option Net → Option Net
 reg_or (Some r) other = Some (RegNet r)
 reg_or None other = other
@@ -89,14 +97,17 @@ net_of f k x = cell_or (cell_place f k x) (reg_or (reg_place f x) (input_of f x)
 abbrev pub small : ℕ → ℕ
 small n = cond (nat_lt n 255) n 255
 
+-- what is made of a value, if that is there
 abbrev pub with_one : {A B : Type 0} → (A → B) → Option A → Option B
 with_one make (Some a) = Some (make a)
 with_one make None = None
 
+-- what is made of two values, if both are there
 abbrev pub with_two : {A B C : Type 0} → (A → B → C) → Option A → Option B → Option C
 with_two make (Some a) b = with_one (make a) b
 with_two make None b = None
 
+-- what is made of three values, if all are there
 abbrev pub with_three : {A B C D : Type 0} → (A → B → C → D) → Option A → Option B → Option C → Option D
 with_three make (Some a) b d = with_two (make a) b d
 with_three make None b d = None
@@ -116,19 +127,24 @@ cell_of f k (t.Read m a) = with_two c.Read (array_place f m) (net_of f k a)
 abbrev pub wired_cell : File → ℕ → CellDecl → Option Cell
 wired_cell f k d = cond (bytes_eq d.target d.name) (cell_of f k d.term) None
 
+-- what an `assign` drives with which net, if its names stand for an output and a net
 abbrev pub wired_output : File → ℕ → OutputDecl → Option OutputDrive
 wired_output f k d = with_two (λ i n. record { port = i; net = n }) (output_of f d.port) (net_of f k d.source)
 
+-- what a block gives a register, if its names stand for a register and a net
 abbrev pub wired_reg : File → ℕ → RegBlock → Option RegDrive
 wired_reg f k b = with_two (λ r n. record { reg = r; width = small b.width; reset = b.reset; net = n }) (reg_place f b.reg) (net_of f k b.source)
 
+-- a write to array m, if the names of its operands stand for nets
 abbrev pub wired_port : File → ℕ → ℕ → WriteDecl → Option ArrayWrite
 wired_port f k m d = with_three (λ e a v. record { array = m; port = record { enable = e; addr = a; value = v } }) (net_of f k d.enable) (net_of f k d.addr) (net_of f k d.value)
 
+-- a write to an array, if that is there and the names of the operands stand for nets
 abbrev pub wired_array : File → ℕ → WriteDecl → Option ℕ → Option ArrayWrite
 wired_array f k d None = None
 wired_array f k d (Some m) = wired_port f k m d
 
+-- a write, if its names stand for an array and for nets
 abbrev pub wired_write : File → ℕ → WriteDecl → Option ArrayWrite
 wired_write f k d = wired_array f k d (array_place f d.array)
 
@@ -150,12 +166,15 @@ abbrev pub cells_from : File → ℕ → List CellDecl → Result (List Cell) �
 cells_from f k [] = Ok []
 cells_from f k (d ∷ ds) = onto_line (wired_cell f k d) d.line (cells_from f (suc k) ds)
 
+-- what all `assign`s drive, or the line of the first with a name that stands for nothing
 abbrev pub all_outputs : File → ℕ → List OutputDecl → Result (List OutputDrive) ℕ
 all_outputs f k ds = each (wired_output f k) (λ d. d.line) ds
 
+-- what all blocks of registers give, or the line of the first with a name that stands for nothing
 abbrev pub all_regs : File → ℕ → List RegBlock → Result (List RegDrive) ℕ
 all_regs f k bs = each (wired_reg f k) (λ b. b.line) bs
 
+-- the writes of a block, or the line of the first with a name that stands for nothing
 abbrev pub writes_of : File → ℕ → List WriteDecl → Result (List ArrayWrite) ℕ
 writes_of f k ds = each (wired_write f k) (λ d. d.line) ds
 
@@ -165,10 +184,12 @@ onto_block (Err line) rest = Err line
 onto_block (Ok ws) (Ok blocks) = Ok (ws ∷ blocks)
 onto_block (Ok ws) (Err line) = Err line
 
+-- the writes of all blocks of arrays, or the line of the first with a name that stands for nothing
 abbrev pub blocks_of : File → ℕ → List ArrayBlock → Result (List (List ArrayWrite)) ℕ
 blocks_of f k [] = Ok []
 blocks_of f k (b ∷ bs) = onto_block (writes_of f k b.writes) (blocks_of f k bs)
 
+-- the wiring of cells, outputs, registers and blocks, or the first line of the first part that has none
 abbrev pub with_parts : Result (List Cell) ℕ → Result (List OutputDrive) ℕ → Result (List RegDrive) ℕ → Result (List (List ArrayWrite)) ℕ → Result Wiring ℕ
 with_parts (Err line) os rs bs = Err line
 with_parts (Ok cs) (Err line) rs bs = Err line
@@ -197,6 +218,7 @@ after done (Err line) = Err line
 abbrev pub IsNamed : File → ℕ → List ℕ → Type 0
 IsNamed f k name = map (λ d. d.name) (take (k + 1) f.cells) ≡ map (λ d. d.name) (take k f.cells) ++ name ∷ []
 
+-- the stop where memory ran out
 abbrev pub no_memory : Stop
 no_memory = NoMemory
 

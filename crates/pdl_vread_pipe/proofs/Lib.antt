@@ -1,6 +1,6 @@
 pub mod Strips
 pub mod Depths
-pub mod Telling
-pub mod Judged
-pub mod Shorts
+pub mod PipePorts
+pub mod TestAnswers
+pub mod MemorySearch
 pub mod Pipes

@@ -12,11 +12,11 @@ use Rattle.pdl_net.specs.declared.Netlist.{Netlist}
 use Rattle.pdl_net.specs.Circuit.{no_array}
 use Rattle.pdl_net.specs.Pipe.{Head, PortMem, pipe_ports, IsAddress, IsPipeArray, IsKept, IsPipe, mems_of, delayed_info, comb_info}
 use Rattle.pdl_vread_pipe.specs.declared.shape.Shape.{Shape}
-use Rattle.pdl_vread_pipe.specs.Told.{told, with_mems}
-use Rattle.pdl_vread_pipe.specs.Matched.{heads, same, after}
+use Rattle.pdl_vread_pipe.specs.ToldParts.{told, with_mems}
+use Rattle.pdl_vread_pipe.specs.ExpectedPorts.{heads, same, after}
 use Rattle.pdl_vread_pipe.specs.Tests as spec
 use Rattle.pdl_vread_pipe.specs.Tests.{judged}
-use Rattle.pdl_vread_pipe.proofs.Telling.{told_of}
+use Rattle.pdl_vread_pipe.proofs.PipePorts.{told_of}
 use Rattle.pdl_word.proofs.Bytes.{same_bytes, bytes_same}
 
 -- ---- names
@@ -211,6 +211,7 @@ is_kept delayed arrays m (inr c) = or_right _ _ (array_found arrays m.name c)
 
 -- ---- all of it
 
+-- a pipe has as many memories as it has delayed ones and arrays
 pub length_mems : (d l : List PortMem) (arrays : List Array) → length (mems_of d l arrays) ≡ length d + length arrays
 length_mems d l arrays =
     let info : Array → MemInfo = λ a. comb_info a (spec.find_named a.name l) in
@@ -254,6 +255,7 @@ passes n ms p =
     (and_from _ _ (is_agree p.delayed p.locked p.agree)
     (and_from _ _ (all_from (spec.is_array p.delayed p.locked) (IsPipeArray p.delayed p.locked) (is_array p.delayed p.locked) n.arrays p.arrays) (all_from (spec.is_kept p.delayed n.arrays) (IsKept p.delayed n.arrays) (is_kept p.delayed n.arrays) p.locked p.kept))))))
 
+-- a netlist is a pipe's with the memories that it is judged to have
 pub is_pipe_of : (n : Netlist) (ms : List MemInfo) → judged n ≡ Some ms → IsPipe (with_mems n ms)
 unfolding judged
 is_pipe_of n ms h = go (spec.is_pipe n (told (heads n.ports))) refl h
@@ -264,6 +266,7 @@ is_pipe_of n ms h = go (spec.is_pipe n (told (heads n.ports))) refl h
         subst (λ x. IsPipe (with_mems n x)) i (passed n (told (heads n.ports)) k)
     go false k e = let i : true ≡ false = cc in absurd (true≢false i)
 
+-- a netlist that is a pipe's is judged to have its memories
 pub judged_of : (n : Netlist) (ms : List MemInfo) → IsPipe (with_mems n ms) → judged n ≡ Some ms
 unfolding judged
 judged_of n ms p =

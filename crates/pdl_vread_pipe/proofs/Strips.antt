@@ -11,14 +11,14 @@ use Rattle.std.specs.Option.{option_map}
 use Rattle.std.proofs.lemmas.List.Elements.{filter_map-append}
 use Rattle.pdl_net.specs.declared.Port.{Port}
 use Rattle.pdl_net.specs.Pipe.{Head, head_of, stage_ports}
-use Rattle.pdl_vread_pipe.specs.Told.{strip, names, widths}
-use Rattle.pdl_vread_pipe.specs.Matched.{after, same, heads}
+use Rattle.pdl_vread_pipe.specs.ToldParts.{strip, names, widths}
+use Rattle.pdl_vread_pipe.specs.ExpectedPorts.{after, same, heads}
 
-pub strip_of : (p x : List ℕ) → strip p (p ++ x) ≡ Some x
+strip_of : (p x : List ℕ) → strip p (p ++ x) ≡ Some x
 strip_of [] x = refl
 strip_of (c ∷ cs) x = ap (λ b. cond b (strip cs (cs ++ x)) None) ((Decides-eqb c c).1 refl) ∙ strip_of cs x
 
-pub strip_some : (p s x : List ℕ) → strip p s ≡ Some x → s ≡ p ++ x
+strip_some : (p s x : List ℕ) → strip p s ≡ Some x → s ≡ p ++ x
 strip_some [] s x e = cc
 strip_some (c ∷ cs) [] x e = cc
 strip_some (c ∷ cs) (d ∷ ds) x e = go (eqb c d) refl (strip_some cs ds x) e
@@ -53,7 +53,7 @@ same_front p x y =
     let b = bytes_eq-Decides (p ++ x) (p ++ y) in
     same_from_decides _ _ a (λ e. front-cancel p x y (b.0 e), λ e. b.1 (ap (λ z. p ++ z) e))
 
-pub named_some : (s p y x : List ℕ) → Some x ≡ strip p s → bytes_eq x y ≡ bytes_eq s (p ++ y)
+named_some : (s p y x : List ℕ) → Some x ≡ strip p s → bytes_eq x y ≡ bytes_eq s (p ++ y)
 named_some s p y x e = same_front p x y ∙ ap (λ z. bytes_eq z (p ++ y)) (sym (strip_some p s x (sym e)))
 
 pub named_none : (s p y : List ℕ) → None ≡ strip p s → false ≡ bytes_eq s (p ++ y)
@@ -67,7 +67,7 @@ pub ruleset named = (named_some, named_none)
 
 -- ---- ports
 
-pub after_cons : (e : Head) (es hs ls : List Head) → Some ls ≡ after (e ∷ []) hs → after es ls ≡ after (e ∷ es) hs
+after_cons : (e : Head) (es hs ls : List Head) → Some ls ≡ after (e ∷ []) hs → after es ls ≡ after (e ∷ es) hs
 after_cons e es [] ls h = cc
 after_cons e es (x ∷ xs) ls h = go (same e x) h
   where
@@ -75,7 +75,7 @@ after_cons e es (x ∷ xs) ls h = go (same e x) h
     go true h = let i : ls ≡ xs = cc in ap (after es) i
     go false h = cc
 
-pub stop_cons : (e : Head) (es hs : List Head) → None ≡ after (e ∷ []) hs → None ≡ after (e ∷ es) hs
+stop_cons : (e : Head) (es hs : List Head) → None ≡ after (e ∷ []) hs → None ≡ after (e ∷ es) hs
 stop_cons e es [] h = refl
 stop_cons e es (x ∷ xs) h = go (same e x) h
   where
@@ -85,6 +85,7 @@ stop_cons e es (x ∷ xs) h = go (same e x) h
 
 pub ruleset one_by_one = (after_cons, stop_cons)
 
+-- what is left of ports after two lists of expected ones is left after both joined
 pub after_both : (es fs hs ls : List Head) → Some ls ≡ after es hs → after fs ls ≡ after (es ++ fs) hs
 after_both [] fs hs ls h = let i : ls ≡ hs = cc in ap (after fs) i
 after_both (e ∷ es) fs [] ls h = cc
@@ -94,6 +95,7 @@ after_both (e ∷ es) fs (x ∷ xs) ls h = go (same e x) (after_both es fs xs ls
     go true i h = i h
     go false i h = cc
 
+-- ports that don't begin with expected ones don't begin with these and more
 pub after_stop : (es fs hs : List Head) → None ≡ after es hs → None ≡ after (es ++ fs) hs
 after_stop [] fs hs h = cc
 after_stop (e ∷ es) fs [] h = refl
@@ -124,9 +126,11 @@ range_more k n h = let e : n - k ≡ suc (n - (k + 1)) = omega arith in ap (rang
 stage_one : (k n : ℕ) → k < n → flat_map stage_ports (range_with_len k (n - k)) ≡ stage_ports k ++ flat_map stage_ports (range_with_len (k + 1) (n - (k + 1)))
 stage_one k n h = ap (flat_map stage_ports) (range_more k n h)
 
+-- after the ports of stage k, those of the later stages are expected
 pub stage_more : (k n : ℕ) (hs ls : List Head) (whole : Option (List Head)) → k < n → Some ls ≡ after (stage_ports k) hs → after (flat_map stage_ports (range_with_len k (n - k))) hs ≡ whole → after (flat_map stage_ports (range_with_len (k + 1) (n - (k + 1)))) ls ≡ whole
 stage_more k n hs ls whole l e h = after_both (stage_ports k) (flat_map stage_ports (range_with_len (k + 1) (n - (k + 1)))) hs ls e ∙ (ap (λ z. after z hs) (sym (stage_one k n l)) ∙ h)
 
+-- where the ports don't begin with those of stage k, they don't with those of the stages from it on
 pub stage_stop : (k n : ℕ) (hs : List Head) (whole : Option (List Head)) → k < n → None ≡ after (stage_ports k) hs → after (flat_map stage_ports (range_with_len k (n - k))) hs ≡ whole → None ≡ whole
 stage_stop k n hs whole l e h = after_stop (stage_ports k) (flat_map stage_ports (range_with_len (k + 1) (n - (k + 1)))) hs e ∙ (ap (λ z. after z hs) (sym (stage_one k n l)) ∙ h)
 
@@ -134,11 +138,13 @@ pub ruleset all_of_them = (flat_more, flat_stop, flat_end)
 
 -- ---- what ports tell
 
+-- with the i-th port the names after a prefix are those of the ports before it, and its own
 pub names_more : (prefix : List ℕ) (ports : List Port) (i : ℕ) (d : Port) → i < length ports → names prefix (heads (take (i + 1) ports)) ≡ names prefix (heads (take i ports)) ++ names prefix (head_of (get_or ports i d) ∷ [])
 names_more prefix ports i d h =
     let f : Head → Option (List ℕ) = λ x. strip prefix x.name in
     ap (filter_map f) (map_more head_of ports i d h) ∙ filter_map-append f (heads (take i ports)) (head_of (get_or ports i d) ∷ [])
 
+-- with the i-th port the widths for a prefix are those of the ports before it, and its own
 pub widths_more : (prefix : List ℕ) (ports : List Port) (i : ℕ) (d : Port) → i < length ports → widths prefix (heads (take (i + 1) ports)) ≡ widths prefix (heads (take i ports)) ++ widths prefix (head_of (get_or ports i d) ∷ [])
 widths_more prefix ports i d h =
     let f : Head → Option ℕ = λ x. option_map (λ _. x.width) (strip prefix x.name) in

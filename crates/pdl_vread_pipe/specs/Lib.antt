@@ -1,3 +1,3 @@
-pub mod Told
+pub mod ToldParts
 pub mod Tests
-pub mod Matched
+pub mod ExpectedPorts

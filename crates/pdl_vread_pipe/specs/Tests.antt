@@ -7,9 +7,10 @@ use Rattle.pdl_net.specs.declared.WritePort.{WritePort}
 use Rattle.pdl_net.specs.declared.Netlist.{Netlist}
 use Rattle.pdl_net.specs.Pipe.{Head, PortMem, output, pipe_ports, mems_of}
 use Rattle.pdl_vread_pipe.specs.declared.shape.Shape.{Shape}
-use Rattle.pdl_vread_pipe.specs.Told.{told}
-use Rattle.pdl_vread_pipe.specs.Matched.{heads, after}
+use Rattle.pdl_vread_pipe.specs.ToldParts.{told}
+use Rattle.pdl_vread_pipe.specs.ExpectedPorts.{heads, after}
 
+-- a memory has this name
 abbrev pub is_named : List ℕ → PortMem → Bool
 is_named x m = bytes_eq m.name x
 
@@ -52,6 +53,7 @@ abbrev pub is_array : List PortMem → List PortMem → Array → Bool
 is_array delayed locked a =
     not (list_any (is_named a.name) delayed) && (list_all (fits_lock a) locked && (list_any (is_named a.name) locked || (nat_le a.depth 65536 && is_unwritten a.writes)))
 
+-- two memories have the same name and the same sizes
 abbrev pub same_mem : PortMem → PortMem → Bool
 same_mem m d = bytes_eq d.name m.name && same_sizes d m
 

@@ -2,9 +2,9 @@
 ghost use Rattle.std.specs.Prelude.{◌≡◌, IfOk, Some, List, Ok};
 ghost use Rattle.pdl_kit.specs.declared.mem_info.MemInfo.{MemInfo as MemInfo'};
 ghost use Rattle.pdl_net.specs.Pipe.{IsPipe};
-ghost use Rattle.pdl_vread_pipe.specs.Matched.{heads};
+ghost use Rattle.pdl_vread_pipe.specs.ExpectedPorts.{heads};
 ghost use Rattle.pdl_vread_pipe.specs.Tests as spec;
-ghost use Rattle.pdl_vread_pipe.specs.Told.{told, with_mems};
+ghost use Rattle.pdl_vread_pipe.specs.ToldParts.{told, with_mems};
 
 use crate::memories::{has_counts, has_mems, mems};
 use crate::ports::has_ports;
@@ -24,7 +24,7 @@ fn is_pipe(netlist: &Netlist, shape: &Shape) -> bool
 }
 
 // The memories, by what the ports tell.
-#[tactic(auto, using(crate::proofs::Judged::judging))]
+#[tactic(auto, using(crate::proofs::TestAnswers::judging))]
 fn judge(alloc: Global, netlist: &Netlist) -> Result<Option<Seq<MemInfo>>, NoMemory>
     ensures { IfOk result (λ ms. ms ≡ spec.judged netlist.now) }
 {

@@ -3,7 +3,7 @@ ghost use Rattle.std.specs.Prelude.{◌≡◌, ◌++◌, ◌∷◌, [], bytes_eq
 ghost use Rattle.std.specs.List.{range_with_len};
 ghost use Rattle.std.specs.Option.{option_copied, option_map};
 ghost use Rattle.pdl_net.specs.Pipe.{head_of, is_input, pipe_ports, reply_ports, stage_ports, commit_ports, request_ports};
-ghost use Rattle.pdl_vread_pipe.specs.Matched.{after, heads, same, Leaves};
+ghost use Rattle.pdl_vread_pipe.specs.ExpectedPorts.{after, heads, same, Leaves};
 ghost use Rattle.pdl_vread_pipe.specs.Tests as spec;
 
 use crate::port_mem::PortMem;

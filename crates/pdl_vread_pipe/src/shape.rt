@@ -2,8 +2,8 @@
 ghost use Rattle.std.specs.Prelude.{◌≡◌, ◌++◌, ◌∷◌, [], IfOk, OnOk, slice_index};
 ghost use Rattle.pdl_net.specs.Pipe.{head_of};
 ghost use Rattle.std.specs.Option.{option_copied};
-ghost use Rattle.pdl_vread_pipe.specs.Matched.{heads};
-ghost use Rattle.pdl_vread_pipe.specs.Told as spec;
+ghost use Rattle.pdl_vread_pipe.specs.ExpectedPorts.{heads};
+ghost use Rattle.pdl_vread_pipe.specs.ToldParts as spec;
 
 use crate::port_mem::PortMem;
 use pdl_kit::{Name, NoMemory, Seq};

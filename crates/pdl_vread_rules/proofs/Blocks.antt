@@ -6,7 +6,7 @@ use Rattle.pdl_vread_text.specs.declared.file.ArrayBlock.{ArrayBlock}
 use Rattle.pdl_vread_nets.specs.declared.wiring.ArrayWrite.{ArrayWrite}
 use Rattle.pdl_vread_nets.specs.declared.passes.Stop.{Stop}
 use Rattle.pdl_vread_rules.specs.declared.table.Widths.{Widths}
-use Rattle.pdl_vread_rules.specs.Asked.{Asked, first_wrong, both, Tells}
+use Rattle.pdl_vread_rules.specs.RuleQuestions.{Asked, first_wrong, both, Tells}
 use Rattle.pdl_vread_rules.specs.Widths.{asked_write, asked_writes}
 use Rattle.pdl_vread_rules.proofs.Passes.{front_tells}
 

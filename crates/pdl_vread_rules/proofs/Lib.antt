@@ -1,7 +1,7 @@
 pub mod Passes
 pub mod Blocks
 pub mod Reach
-pub mod Small
-pub mod InTurn
+pub mod ConstantWidths
+pub mod QuestionSteps
 pub mod Owners
 pub mod OnceRows

@@ -7,7 +7,7 @@ use Rattle.pdl_vread_text.specs.declared.file.WriteDecl.{WriteDecl}
 use Rattle.pdl_vread_text.specs.declared.file.ArrayBlock.{ArrayBlock}
 use Rattle.pdl_vread_nets.specs.declared.wiring.ArrayWrite.{ArrayWrite}
 use Rattle.pdl_vread_nets.specs.declared.passes.Stop.{Stop}
-use Rattle.pdl_vread_rules.specs.Asked.{Asked, first_wrong, both, Tells}
+use Rattle.pdl_vread_rules.specs.RuleQuestions.{Asked, first_wrong, both, Tells}
 use Rattle.pdl_vread_rules.specs.Once.{owner, write_once, blocks_once}
 use Rattle.pdl_vread_rules.proofs.Passes.{front_tells}
 use Rattle.pdl_vread_rules.proofs.Blocks.{rest_first}
@@ -29,6 +29,7 @@ is_other before ws m b e t h = go (has_owner before ws) (sym t ∙ (h ∙ ap (λ
     go true k = cc
     go false k = refl
 
+-- a block of array m that isn't the first of m has its array among those before
 pub is_second : (before : List ℕ) (ws : List ArrayWrite) (m : ℕ) (b : Bool) → m ≡ owner ws → b ≡ false → b ≡ not (list_any (λ k. m == k) before) → has_owner before ws ≡ true
 is_second before ws m b e t h = go (has_owner before ws) (sym t ∙ (h ∙ ap (λ z. not (list_any (λ k. z == k) before)) e))
   where
@@ -41,6 +42,7 @@ pub added : (before after : List ℕ) (ws : List ArrayWrite) (m : ℕ) → m ≡
 added before after ws m e r h =
     h ∙ (ap (λ z. cond (list_any (λ k. z == k) before) before (before ++ z ∷ [])) e ∙ ap (λ b. cond b before (before ++ owner ws ∷ [])) r)
 
+-- what is wrong among a block's writes to m is what is wrong inside the block, where m is its array
 pub same_inside : (b : ArrayBlock) (ws : List ArrayWrite) (m : ℕ) (xs : List WriteDecl) (ys : List ArrayWrite) → m ≡ owner ws → xs ≡ b.writes → ys ≡ ws → first_wrong (both (write_once m) xs ys) ≡ first_wrong (inside b ws)
 same_inside b ws m xs ys e f g =
     ap (λ z. first_wrong (both (write_once z) xs ys)) e ∙ (ap (λ z. first_wrong (both (write_once (owner ws)) z ys)) f ∙ ap (λ z. first_wrong (both (write_once (owner ws)) b.writes z)) g)
@@ -72,6 +74,7 @@ no_more : (before : List ℕ) (bs : List ArrayBlock) → blocks_once before bs [
 no_more before [] = refl
 no_more before (b ∷ bs) = refl
 
+-- past the last block of arrays nothing is wrong
 pub blocks_end : (bs : List ArrayBlock) (more : List (List ArrayWrite)) (i : ℕ) (before : List ℕ) (whole : Option ℕ) → i ≡ min (length bs) (length more) → first_wrong (blocks_once before (drop i bs) (drop i more)) ≡ whole → whole ≡ None
 blocks_end bs more i before whole e w = sym w ∙ ap first_wrong (go (cases_lt (length more) (length bs)))
   where

@@ -3,6 +3,7 @@ use Rattle.std.proofs.Common.{◌≡◌, ℕ, ◌^◌, ◌<◌, ◌≤◌, Bool,
 use Rattle.std.proofs.Math.Pow.{pow_mono}
 use Rattle.std.proofs.lemmas.Bool.Decides.{Decides-eqb}
 
+-- 64 or more address bits reach no depth below 2^64 exactly
 pub beyond : (w d : ℕ) → 64 ≤ w → d < 2 ^ 64 → false ≡ eqb (2 ^ w) d
 beyond w d h l = go (eqb (2 ^ w) d) refl
   where

@@ -1,3 +1,3 @@
-pub mod Asked
+pub mod RuleQuestions
 pub mod Widths
 pub mod Once

@@ -13,7 +13,7 @@ use Rattle.pdl_vread_nets.specs.declared.wiring.RegDrive.{RegDrive}
 use Rattle.pdl_vread_nets.specs.declared.wiring.ArrayWrite.{ArrayWrite}
 use Rattle.pdl_vread_nets.specs.declared.wiring.Wiring.{Wiring}
 use Rattle.pdl_vread_nets.specs.Wired.{place}
-use Rattle.pdl_vread_rules.specs.Asked.{Asked, asked, both, first_wrong}
+use Rattle.pdl_vread_rules.specs.RuleQuestions.{Asked, asked, both, first_wrong}
 
 -- ---- what is right
 
@@ -52,9 +52,11 @@ abbrev pub reg_once : List RegDrive → List RegDecl → RegDecl → Asked
 reg_once drives before d = asked d.line
     (is_new (map (λ q. q.name) before) d.name && reg_drives drives (length before) == 1)
 
+-- an array's name is that of no array before it
 abbrev pub array_once : List ArrayDecl → ArrayDecl → Asked
 array_once before a = asked a.line (is_new (map (λ q. q.name) before) a.name)
 
+-- a cell's name is that of no cell before it
 abbrev pub cell_once : List CellDecl → CellDecl → Asked
 cell_once before d = asked d.line (is_new (map (λ q. q.name) before) d.name)
 

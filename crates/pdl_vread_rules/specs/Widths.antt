@@ -21,7 +21,7 @@ use Rattle.pdl_vread_nets.specs.declared.wiring.RegDrive.{RegDrive}
 use Rattle.pdl_vread_nets.specs.declared.wiring.ArrayWrite.{ArrayWrite}
 use Rattle.pdl_vread_nets.specs.declared.wiring.Wiring.{Wiring}
 use Rattle.pdl_vread_rules.specs.declared.table.Widths.{Widths}
-use Rattle.pdl_vread_rules.specs.Asked.{Asked, asked, both, first_wrong}
+use Rattle.pdl_vread_rules.specs.RuleQuestions.{Asked, asked, both, first_wrong}
 
 -- ---- declared widths
 
@@ -29,6 +29,7 @@ use Rattle.pdl_vread_rules.specs.Asked.{Asked, asked, both, first_wrong}
 abbrev pub bits : ℕ → ℕ
 bits high = cond (nat_lt high 254) (high + 1) 255
 
+-- the width of a port, if that is an input
 abbrev pub input_width : PortDecl → Option ℕ
 input_width p = cond p.input (Some (bits p.high)) None
 
@@ -43,6 +44,7 @@ widths_of f = record {
   cells = map (λ d. bits d.high) f.cells;
 }
 
+-- the width of a net
 abbrev pub net_width : Widths → Net → ℕ
 net_width t (Input i) = slice_index t.inputs i
 net_width t (RegNet r) = slice_index t.regs r
@@ -95,24 +97,31 @@ fits_write t w = net_width t w.port.enable == 1 && (reaches (net_width t w.port.
 
 -- ---- in the order of the text
 
+-- a port has 1 to 64 bits
 abbrev pub asked_port : PortDecl → Asked
 asked_port p = asked p.line (is_width (bits p.high))
 
+-- a register has 1 to 64 bits
 abbrev pub asked_reg : RegDecl → Asked
 asked_reg r = asked r.line (is_width (bits r.high))
 
+-- an array's words have 1 to 64 bits, and its depth is a power of two from 2 to 131,072
 abbrev pub asked_array : ArrayDecl → Asked
 asked_array a = asked a.line (is_width (bits a.high) && is_depth (a.last + 1))
 
+-- a cell has 1 to 64 bits, and its operands and its result have the right widths
 abbrev pub asked_cell : Widths → CellDecl → Cell → Asked
 asked_cell t d g = asked d.line (is_width (bits d.high) && fits_cell t g (bits d.high))
 
+-- what is asked of an `assign`: the output has the width of its net
 abbrev pub asked_output : Widths → OutputDecl → OutputDrive → Asked
 asked_output t d o = asked d.line (fits_output t o)
 
+-- what is asked of a register's block: the register has the width of its constant and of its net
 abbrev pub asked_block : Widths → RegBlock → RegDrive → Asked
 asked_block t b r = asked b.line (fits_reg t r)
 
+-- what is asked of a write: its nets have the widths of an enable, of an address and of a word
 abbrev pub asked_write : Widths → WriteDecl → ArrayWrite → Asked
 asked_write t d w = asked d.line (fits_write t w)
 

@@ -1,7 +1,7 @@
 //! V4: each name is declared once, and each output, register and array is driven as it has to be.
 ghost use Rattle.std.specs.Prelude.{◌≡◌, ℕ, ◌+◌, ◌<◌, ◌^◌, ◌==◌, ◌&&◌, ◌||◌, List, [], IfOk, cond, length, slice_index};
 ghost use Rattle.pdl_vread_nets.specs.Places.{AreFirsts};
-ghost use Rattle.pdl_vread_rules.specs.Asked.{Tells, both, first_wrong};
+ghost use Rattle.pdl_vread_rules.specs.RuleQuestions.{Tells, both, first_wrong};
 ghost use Rattle.pdl_vread_rules.specs.Once as spec;
 
 use indexmap::IndexSet;

@@ -60,7 +60,7 @@ fn push_input(widths: &mut Seq<u8>, decl: &PortDecl) -> Result<(), NoMemory>
     }
 }
 
-#[tactic(auto, using(crate::proofs::Small::inputs_more))]
+#[tactic(auto, using(crate::proofs::ConstantWidths::inputs_more))]
 fn input_widths(alloc: Global, decls: &[PortDecl]) -> Result<Seq<u8>, NoMemory>
     ensures { IfOk result (λ ws. ws ≡ filter_map spec.input_width decls.now) }
 {

@@ -1,7 +1,7 @@
 //! V3: widths, depths and constants.
 ghost use Rattle.std.specs.Prelude.{◌≡◌, ◌+◌, map};
 ghost use Rattle.pdl_net.specs.declared.Cell.TheVariants.{Mux, Slice, Cat, Rep, Read};
-ghost use Rattle.pdl_vread_rules.specs.Asked.{Tells, both, first_wrong};
+ghost use Rattle.pdl_vread_rules.specs.RuleQuestions.{Tells, both, first_wrong};
 ghost use Rattle.pdl_vread_rules.specs.Widths as spec;
 
 use crate::table::{Widths, bits};

@@ -112,10 +112,11 @@ ends_after p.Block = by p.Block r.RegDriven _ _ refl refl (last p.Blocks refl)
 ends_after p.Writes = by p.Writes r.ArrayEnd _ _ refl refl (last p.ArrayBlocks refl)
 ends_after p.FirstWrite = by p.FirstWrite r.Written _ _ refl refl (by p.Writes r.ArrayEnd _ _ refl refl (last p.ArrayBlocks refl))
 
+-- from each part on a file can be ended
 pub ends : (part : Part) → Ends part
 ends part = ends_after part
 
-pub both_fit : (gs hs : List Field) (ts us : Row) → AllFit gs ts → AllFit hs us → AllFit (gs ++ hs) (ts ++ us)
+both_fit : (gs hs : List Field) (ts us : Row) → AllFit gs ts → AllFit hs us → AllFit (gs ++ hs) (ts ++ us)
 both_fit _ hs _ us none b = b
 both_fit _ hs _ us (more {gs = gs} {ts = ts} e a) b = more e (both_fit gs hs ts us a b)
 
@@ -125,6 +126,7 @@ pub record Rest (part : Part) (front : Row) : Type 0 where
   pub rules : List Taken
   pub derives : Derives part (front ++ row) rules
 
+-- a rule that was begun, and the file after it, can be ended
 pub rest : (part : Part) (rule : Rule) (t : Token) (ts : Row) (done later : List Field) → chosen part t.text ≡ Some rule → fields rule ≡ done ++ later → AllFit done (t ∷ ts) → Rest part (t ∷ ts)
 rest part rule t ts done later e parts a =
     let k = ends (next rule) in

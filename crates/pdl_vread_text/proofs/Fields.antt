@@ -14,10 +14,12 @@ unfolding asked
 by_word f.Module t = refl
 by_word _ t = refl
 
+-- where one word alone is asked of a token, it fits just where it is that word
 pub of_word : (g : Field) (t w : List ℕ) → word g ≡ Some w → fits g t ≡ bytes_eq t w
 unfolding asked
 of_word g t w e = by_word g t ∙ ap (λ o. asked o g t) e
 
+-- where more than one word may be asked of a token, it fits just where it is of that kind
 pub of_kind : (g : Field) (t : List ℕ) → word g ≡ None → fits g t ≡ is_of_kind g t
 unfolding asked
 of_kind g t e = by_word g t ∙ ap (λ o. asked o g t) e

@@ -27,7 +27,7 @@ pub record Onward (done : List Taken) (part : Part) (left : Row) (rs : List Take
   pub rules : rs ≡ done ++ more
 
 -- the rules that lead to a part, and those from it on, are a file's
-pub lead_on : (done : List Taken) (part : Part) (left : Row) (rs : List Taken) → Leads done part → Derives part left rs → Derives p.Start (all_found done ++ left) (done ++ rs)
+lead_on : (done : List Taken) (part : Part) (left : Row) (rs : List Taken) → Leads done part → Derives part left rs → Derives p.Start (all_found done ++ left) (done ++ rs)
 lead_on [] p.Start left rs here d = d
 lead_on _ _ left rs (further {done = done} {part = part} t l c) d =
     let k : Derives part (t.found ++ left) (t ∷ rs) =
@@ -65,7 +65,7 @@ come_off part t left _ _ c e (goes {rule = rule} {t = u} {ts = us} {rest = later
     }
 
 -- a file that begins with the tokens that lead to a part goes on from it
-pub cancel : (done : List Taken) (part : Part) (left : Row) (rs : List Taken) → Leads done part → Derives p.Start (all_found done ++ left) rs → Onward done part left rs
+cancel : (done : List Taken) (part : Part) (left : Row) (rs : List Taken) → Leads done part → Derives p.Start (all_found done ++ left) rs → Onward done part left rs
 cancel [] p.Start left rs here d = record { more = rs; derives = d; rules = refl }
 cancel _ _ left rs (further {done = done} {part = part} t l c) d =
     let a : all_found (done ++ t ∷ []) ++ left ≡ all_found done ++ (t.found ++ left) = ap (λ x. x ++ left) (all_found_more done t) ∙ append_assoc (all_found done) t.found left in
@@ -141,7 +141,7 @@ chosen_like part [] (v ∷ vs) l e = absurd l
 chosen_like part (t ∷ ts) [] l e = absurd l
 
 -- no file goes on from a part at which the reader is stuck
-pub stuck_no : (part : Part) (front left others : Row) (rs : List Taken) → IsStuck part front left → IsLike left others → Derives part (front ++ others) rs → ⊥
+stuck_no : (part : Part) (front left others : Row) (rs : List Taken) → IsStuck part front left → IsLike left others → Derives part (front ++ others) rs → ⊥
 stuck_no part [] left others rs (nothing n e) l d = go part others rs n (chosen_like part left others l e) d
   where
     go : (q : Part) (x : Row) (rs : List Taken) → q ≢ p.Finished → chosen_at q x ≡ None → Derives q x rs → ⊥
@@ -170,6 +170,7 @@ stuck_rest part front left (inside {rule = rule} {old = old} e s) =
 
 -- ---- what is told
 
+-- where rules stop at a token of a text, the first token out of place stands on its line
 pub misplaced : (bytes : List ℕ) (new : Row) (line : ℕ) → AreStopped (tokens bytes) new → line ≡ line_of new (last_line bytes) → IsOutOfPlace bytes line
 misplaced bytes new line h e =
     let k = stuck_rest h.part h.front new h.stuck in
@@ -223,6 +224,7 @@ after_all bytes t ts line d h e = record {
       none_finished t ts o.more o.derives;
 }
 
+-- a text of which rules take all tokens is one of the file that they declare
 pub whole : (bytes : List ℕ) (d : Draft) → AreTaken (tokens bytes) [] d → IsFile bytes d.file
 whole bytes d h = record {
   rules = h.rules ++ [];
@@ -237,10 +239,12 @@ next_after bytes old (u ∷ us) t d o h e =
     let k : token_view t ≡ u = cc in
     after_all bytes u us t.line d (subst (λ x. AreTaken x (u ∷ us) d) o h) (ap (λ x. x.line) k)
 
+-- a text is one of the file that rules declare, where they leave no token
 pub none_after : (bytes : List ℕ) (old new : Row) (d : Draft) → old ≡ tokens bytes → AreTaken old new d → None ≡ first new → IsFile bytes d.file
 none_after bytes old [] d o h e = whole bytes d (subst (λ x. AreTaken x [] d) o h)
 none_after bytes old (u ∷ us) d o h e = cc
 
+-- where the reader stops at a token, the first token out of place stands on its line
 pub stopped_there : (bytes : List ℕ) (old new : Row) (line : ℕ) → old ≡ tokens bytes → AreStopped old new → line ≡ line_of new (last_line bytes) → IsOutOfPlace bytes line
 stopped_there bytes old new line o h e = misplaced bytes new line (subst (λ x. AreStopped x new) o h) e
 
@@ -257,6 +261,7 @@ one_list part _ _ b (goes {rule = rule} {t = t} {ts = ts} {rest = rest} {more = 
     let o = come_off part (record { rule = rule; found = t ∷ ts }) rest b (t ∷ ts ++ rest) c refl k in
     ap (λ x. record { rule = rule; found = t ∷ ts } ∷ x) (one_list (next rule) rest more1 o.more d o.derives) ∙ sym o.rules
 
+-- a text is one of at most one file
 pub one_file : (bytes : List ℕ) (f g : File) → IsFile bytes f → IsFile bytes g → f ≡ g
 one_file bytes f g h k = h.same ∙ (ap file_of (one_list p.Start (tokens bytes) h.rules k.rules h.derives k.derives) ∙ sym k.same)
 
@@ -275,16 +280,19 @@ one_place bytes n m h i =
 
 -- ---- what the reader answers
 
+-- where a text is one of a file, the answer is that file, unless memory ran out
 pub judged_only : (bytes : List ℕ) (x : Result File TextError) (f : File) → Judges bytes x → IsFile bytes f → GivesFile f x
 judged_only bytes (Ok g) f h k = one_file bytes g f h k
 judged_only bytes (Err (Misplaced line)) f h k = h.no_text f k
 judged_only bytes (Err NoMemory) f h k = tt
 
+-- where a text is out of place at a line, the answer is that line, unless memory ran out
 pub judged_exact : (bytes : List ℕ) (x : Result File TextError) (line : ℕ) → Judges bytes x → IsOutOfPlace bytes line → GivesLine line x
 judged_exact bytes (Ok g) line h k = k.no_text g h
 judged_exact bytes (Err (Misplaced n)) line h k = one_place bytes n line h k
 judged_exact bytes (Err NoMemory) line h k = tt
 
+-- a refusal is at the line of the first token out of place
 pub judged_refused : (bytes : List ℕ) (x : Result File TextError) → Judges bytes x → IsRefused bytes x
 judged_refused bytes (Ok g) h = tt
 judged_refused bytes (Err (Misplaced n)) h = h

@@ -17,6 +17,7 @@ use Rattle.pdl_vread_text.specs.Read.{IsFitting, Sentence, TakesRules, IsUnfit, 
 
 -- ---- the tokens of one rule
 
+-- tokens that are what is asked are so with one more that is what is asked next
 pub one_fits : (gs : List Field) (ts : Row) (g : Field) (t : Token) → AllFit gs ts → fits g t.text ≡ true → AllFit (gs ++ g ∷ []) (ts ++ t ∷ [])
 one_fits _ _ g t none e = more e none
 one_fits _ _ g t (more {gs = hs} {ts = us} d a) e = more d (one_fits hs us g t a e)
@@ -30,6 +31,7 @@ found_begins (s ∷ rs) t r e = go (begins_with s t) refl e (found_begins rs t r
     go true is e f = let k : s ≡ r = cc in subst (λ x. begins_with x t ≡ true) k is
     go false is e f = f e
 
+-- the rule that comes at a part is one that may begin with the next token
 pub chosen_begins : (part : Part) (t : List ℕ) (r : Rule) → chosen part t ≡ Some r → begins_with r t ≡ true
 unfolding chosen
 chosen_begins part t r e = found_begins (rules part) t r e
@@ -42,6 +44,7 @@ pub record AreSoFar (old new : Row) (part : Part) (d : Draft) : Type 0 where
   pub split : old ≡ all_found rules ++ new
   pub draft : d ≡ all_taken no_draft rules
 
+-- before the first rule no token is taken, and the draft is empty
 pub none_yet : (ts : Row) → AreSoFar ts ts p.Start no_draft
 unfolding all_taken
 none_yet ts = record { rules = []; leads = here; split = refl; draft = refl }
@@ -51,6 +54,7 @@ unfolding all_taken
 all_taken_more d [] t = refl
 all_taken_more d (u ∷ us) t = all_taken_more (taken d u.rule u.found) us t
 
+-- the tokens of rules, with one rule more, are theirs and then those of that rule
 pub all_found_more : (ts : List Taken) (t : Taken) → all_found (ts ++ t ∷ []) ≡ all_found ts ++ t.found
 all_found_more [] t = append-nil t.found
 all_found_more (u ∷ us) t = ap (λ x. u.found ++ x) (all_found_more us t) ∙ sym (append_assoc u.found (all_found us) t.found)
@@ -67,7 +71,7 @@ comes part rule (t ∷ ts) (u ∷ us) new e f =
     let k : t ≡ u = cc in
     record { token = u; more = us; found = refl; chosen = subst (λ x. chosen part x.text ≡ Some rule) k e; fit = f.fit }
 
-pub one_more_rule : (old mid found new : Row) (part : Part) (rule : Rule) (d : Draft) → AreSoFar old mid part d → chosen_at part mid ≡ Some rule → Found (fields rule) mid found new
+one_more_rule : (old mid found new : Row) (part : Part) (rule : Rule) (d : Draft) → AreSoFar old mid part d → chosen_at part mid ≡ Some rule → Found (fields rule) mid found new
     → AreSoFar old new (next rule) (taken d rule found)
 one_more_rule old mid found new part rule d h e f =
     let t : Taken = record { rule = rule; found = found } in
@@ -93,9 +97,11 @@ not_finished part h = λ e. let k : true ≡ false = subst (λ x. is_finished x 
 abbrev views : List r.Token → Row
 views ts = map token_view ts
 
+-- before the first token of a rule none is found, and all are left
 pub nothing_found : (ts : Row) (items : List r.Token) → items ≡ [] → (AllFit [] (views items)) × (ts ≡ views items ++ ts)
 nothing_found ts items e = (subst (λ x. AllFit [] (views x)) (sym e) none, ap (λ x. views x ++ ts) (sym e))
 
+-- a token that is what is asked next is found, and those after it are left
 pub one_more_token : (gs : List Field) (i : ℕ) (d : Field) (old mid new : Row) (items others : List r.Token) (t : r.Token) → i < length gs → AllFit (take i gs) (views items) → old ≡ views items ++ mid
     → IsFitting mid (get_or gs i d) (Some t) → new ≡ skipped mid → others ≡ items ++ t ∷ [] → (AllFit (take (i + 1) gs) (views others)) × (old ≡ views others ++ new)
 one_more_token gs i d old [] new items others t l a s f n m = absurd f
@@ -108,6 +114,7 @@ one_more_token gs i d old (u ∷ us) new items others t l a s f n m =
       s ∙ (sym (append_assoc (views items) (u ∷ []) us) ∙ (ap (λ x. x ++ us) (sym v) ∙ ap (λ x. views others ++ x) (sym n))),
     )
 
+-- a rule stops at a token that isn't what is asked next
 pub no_more_token : (gs : List Field) (i : ℕ) (d : Field) (old mid : Row) (items : List r.Token) → i < length gs → AllFit (take i gs) (views items) → old ≡ views items ++ mid
     → IsFitting mid (get_or gs i d) None → Stopped gs old (views items) mid
 no_more_token gs i d old mid items l a s f = record {
@@ -124,9 +131,11 @@ no_more_token gs i d old mid items l a s f = record {
     unfit_of [] h x = x
     unfit_of (u ∷ us) h x = x
 
+-- an empty draft is one before the first rule
 pub begun : (ts : Row) (d : Draft) → d ≡ no_draft → AreSoFar ts ts p.Start d
 begun ts d e = subst (AreSoFar ts ts p.Start) (sym e) (none_yet ts)
 
+-- where the tokens of the rule that comes at a part stop, so does taking the rule
 pub one_stopped : (old found new : Row) (part : Part) (rule : Rule) (gs : List Field) (d e : Draft) (stop : Stop) → Some rule ≡ chosen_at part old → gs ≡ fields rule
     → Sentence gs old found new (Err stop) → TakesRule part old new d e (Err stop)
 one_stopped old found new part rule gs d e stop.NoMemory c g s = tt
@@ -134,17 +143,21 @@ one_stopped old found new part rule gs d e stop.Misplaced c g s =
     let k : Stopped (fields rule) old found new = subst (λ y. Stopped y old found new) g s in
     record { front = found; split = k.split; stuck = λ n. inside (sym c) k }
 
+-- at a part where no rule comes no token is taken, and the tokens are stuck
 pub none_chosen : (part : Part) (old : Row) → None ≡ chosen_at part old → IsOff part old old
 none_chosen part old e = record { front = []; split = refl; stuck = λ n. nothing n (sym e) }
 
+-- the rules taken so far go on with the rule that was taken next
 pub gone_on : (old mid new : Row) (part after : Part) (d e : Draft) → AreSoFar old mid part d → IsTaken part mid new d e after → AreSoFar old new after e
 gone_on old mid new part after d e h t =
     let o = one_more_rule old mid t.row new part t.rule d h t.comes t.front in
     subst (λ x. AreSoFar old new x e) (sym t.goes_on) (subst (AreSoFar old new (next t.rule)) (sym t.draft) o)
 
+-- a rule that is taken leaves fewer tokens than there were
 pub fewer : (part after : Part) (old new : Row) (d e : Draft) → IsTaken part old new d e after → length new < length old
 fewer part after old new d e t = fewer_left part t.rule old t.row new t.comes t.front
 
+-- where taking the next rule stops before the end of a file, taking all rules does
 pub stopped_so : (old mid new : Row) (part : Part) (d e : Draft) (stop : Stop) → AreSoFar old mid part d → is_finished part ≡ false → TakesRule part mid new d e (Err stop) → TakesRules old new e (Err stop)
 stopped_so old mid new part d e stop.NoMemory h n s = tt
 stopped_so old mid new part d e stop.Misplaced h n s =

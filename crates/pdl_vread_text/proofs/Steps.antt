@@ -74,11 +74,13 @@ step_is (c ∷ cs) rest p line line2 h er el =
     let P : Piece → Type 0 = λ q. tokens_from 0 line (c ∷ cs) ≡ placed q line (c ∷ cs) ++ tokens_from 0 (line_after c line) (drop q.size (c ∷ cs)) in
     rw (er, el) (subst P (sym h) (one_piece c cs line))
 
+-- white space or a comment at the front gives no token
 pub step_blank : (bytes rest : List ℕ) (p : r.Piece) (line line2 : ℕ) → IsFront bytes (Some p) → rest ≡ drop p.size bytes →
     IsLineAfter bytes line line2 → p.is_token ≡ false → tokens_from 0 line2 rest ≡ tokens_from 0 line bytes
 step_blank bytes rest p line line2 h er el e =
     let k = step_is bytes rest p line line2 h er el in sym (k ∙ rw e refl)
 
+-- a token at the front is the first of the tokens, on the line where it stands
 pub step_token : (bytes rest : List ℕ) (p : r.Piece) (line line2 : ℕ) → IsFront bytes (Some p) → rest ≡ drop p.size bytes →
     IsLineAfter bytes line line2 → p.is_token ≡ true →
     record { text = take p.size bytes; line = line } ∷ tokens_from 0 line2 rest ≡ tokens_from 0 line bytes

@@ -3,9 +3,11 @@ use Rattle.std.specs.Prelude.{ℕ, List, [], ◌∷◌, Option, Some, None}
 use Rattle.pdl_vread_text.specs.declared.token.Token as r
 use Rattle.pdl_vread_text.specs.Tokens.{Token}
 
+-- the token that a token of the program stands for
 abbrev pub token_view : r.Token → Token
 token_view t = record { text = t.text.now; line = t.line }
 
+-- the token that a token of the program stands for, if there is one
 abbrev pub maybe_token_view : Option r.Token → Option Token
 maybe_token_view (Some t) = Some (token_view t)
 maybe_token_view None = None
@@ -15,6 +17,7 @@ abbrev pub onto : Option r.Token → List Token → List Token
 onto (Some t) more = token_view t ∷ more
 onto None more = []
 
+-- the first of tokens, if there is one
 abbrev pub first : List Token → Option Token
 first [] = None
 first (t ∷ ts) = Some t

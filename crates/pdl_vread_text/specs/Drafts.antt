@@ -18,12 +18,15 @@ use Rattle.pdl_vread_text.specs.Grammar.{Row, Taken}
 abbrev pub token_at : Row → ℕ → Token
 token_at ts i = slice_index_or ts i (record { text = []; line = 0 })
 
+-- the bytes of the i-th token
 abbrev pub text_at : Row → ℕ → List ℕ
 text_at ts i = (token_at ts i).text
 
+-- the line of the i-th token
 abbrev pub line_at : Row → ℕ → ℕ
 line_at ts i = (token_at ts i).line
 
+-- the number that the i-th token is
 abbrev pub number_at : Row → ℕ → ℕ
 number_at ts i = unwrap_or (number_of (text_at ts i)) 0
 
@@ -35,9 +38,11 @@ operator_at ts i = unwrap_or (operator_of (text_at ts i)) Add
 
 -- ---- what is declared
 
+-- a file that declares nothing
 abbrev pub no_file : File
 no_file = record { line = 0; name = []; reset_line = 0; reset_high = 0; ports = []; regs = []; arrays = []; cells = []; outputs = []; reg_blocks = []; array_blocks = [] }
 
+-- a draft from which nothing was read
 abbrev pub no_draft : Draft
 no_draft = record { file = no_file; line = 0; high = 0; name = []; target = []; operand = []; writes = [] }
 
@@ -80,6 +85,7 @@ term first r.MuxTerm ts = Mux first (text_at ts 1) (text_at ts 3)
 term first r.SliceTerm ts = Slice first (number_at ts 1) (number_at ts 3)
 term first _ ts = Const (constant_at ts 0).width (constant_at ts 0).value
 
+-- a draft whose file has one cell more: that of its head, with the term of a rule
 abbrev pub with_cell : Draft → Rule → Row → Draft
 with_cell d rule ts = record d { file = record d.file { cells = d.file.cells ++ record { line = d.line; name = d.name; high = d.high; target = d.target; term = term d.operand rule ts } ∷ [] } }
 

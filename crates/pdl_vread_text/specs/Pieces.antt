@@ -3,6 +3,7 @@ use Rattle.std.specs.Prelude.{◌≡◌, ℕ, List, [], ◌∷◌, Option, Some,
 use Rattle.pdl_vread_text.specs.declared.piece.Piece as r
 use Rattle.pdl_vread_text.specs.Tokens.{Piece, piece_at, line_after}
 
+-- the piece that a piece of the program stands for
 abbrev pub piece_view : r.Piece → Piece
 piece_view p = record { is_token = p.is_token; size = p.size }
 

@@ -18,9 +18,11 @@ use Rattle.pdl_vread_text.specs.declared.file.File.{File}
 use Rattle.pdl_vread_text.specs.declared.read.TextError.{TextError}
 use Rattle.pdl_vread_text.specs.declared.read.TextError.TheVariants as OutOfPlace
 
+-- the stop where memory ran out
 abbrev pub no_memory : Stop
 no_memory = NoMemory
 
+-- the line of the first of the tokens, or the last line where none is left
 abbrev pub line_of : Row → ℕ → ℕ
 line_of ts last = text.line_of ts last
 

@@ -9,9 +9,11 @@ pub record Token : Type 0 where
 
 -- ---- bytes
 
+-- a lower-case letter
 abbrev pub is_lower : ℕ → Bool
 is_lower c = nat_le 97 c && nat_le c 122
 
+-- a decimal digit
 abbrev pub is_digit : ℕ → Bool
 is_digit c = nat_le 48 c && nat_le c 57
 

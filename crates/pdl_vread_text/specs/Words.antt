@@ -19,6 +19,7 @@ abbrev pub hex_part : List ℕ → Option ℕ
 hex_part text = cond (starts_with nat_eq text (codes "'h"))
     (cond (are_digits 16 16 (drop 2 text)) (Some (digits_value 16 (drop 2 text))) None) None
 
+-- a constant of a width and a value, if both are there
 abbrev pub with_parts : Option ℕ → Option ℕ → Option Constant
 with_parts (Some w) (Some v) = Some (record { width = w; value = v })
 with_parts _ _ = None
@@ -53,6 +54,7 @@ operator_of text =
 abbrev pub is_name_byte : ℕ → Bool
 is_name_byte c = is_lower c || is_digit c || c == 95
 
+-- a keyword of PDL's statements and expressions
 abbrev pub is_statement_keyword : List ℕ → Bool
 is_statement_keyword t =
     bytes_eq t (codes "if") || bytes_eq t (codes "else") || bytes_eq t (codes "call") || bytes_eq t (codes "spec_call") || bytes_eq t (codes "verify")
@@ -65,6 +67,7 @@ is_flow_keyword t =
     bytes_eq t (codes "if") || bytes_eq t (codes "else") || bytes_eq t (codes "call") || bytes_eq t (codes "spec_call") || bytes_eq t (codes "verify")
     || bytes_eq t (codes "spec_check") || bytes_eq t (codes "spec_barrier")
 
+-- a keyword of PDL's pipes, memories and locks
 abbrev pub is_declaration_keyword : List ℕ → Bool
 is_declaration_keyword t =
     bytes_eq t (codes "pipe") || bytes_eq t (codes "start") || bytes_eq t (codes "uint") || bytes_eq t (codes "comb") || bytes_eq t (codes "delayed")
@@ -96,12 +99,15 @@ is_counted prefix t = starts_with nat_eq t prefix && are_decimals (drop (length 
 abbrev pub is_stage_port : List ℕ → List ℕ → Bool
 is_stage_port prefix t = is_counted prefix t && nat_le (length t) (length prefix + 10)
 
+-- the name of a module: `pdl_` with a name of PDL
 abbrev pub is_module : List ℕ → Bool
 is_module t = is_named (codes "pdl_") t
 
+-- the name of an input: `p_` or `pd_` with a name of PDL
 abbrev pub is_input : List ℕ → Bool
 is_input t = is_named (codes "p_") t || is_named (codes "pd_") t
 
+-- the name of a memory's output: `c_`, `ca_`, `cd_`, `q_` or `qa_` with a name of PDL
 abbrev pub is_memory_output : List ℕ → Bool
 is_memory_output t = is_named (codes "c_") t || is_named (codes "ca_") t || is_named (codes "cd_") t || is_named (codes "q_") t || is_named (codes "qa_") t
 

@@ -30,7 +30,7 @@ parts_same : (j k : ℕ) → 94 ≤ j → 94 ≤ k → j / 94 - 1 ≡ k / 94 - 1
 parts_same j k h l q r = omega (arith, div-add-mod j 94, div-add-mod k 94, mod-lt j {m = 94} (omega arith), mod-lt k {m = 94} (omega arith))
 
 -- ports with one code are one
-pub code_same : (j k : ℕ) → code j ≡ code k → j ≡ k
+code_same : (j k : ℕ) → code j ≡ code k → j ≡ k
 code_same j k e = elim (cases_lt j 94) [
   | inl a ↦ elim (cases_lt k 94) [
     | inl b ↦ let f = first_same (sym (code_short j a) ∙ e ∙ code_short k b) in omega (arith, f)
@@ -62,6 +62,7 @@ found_from j (p ∷ ps) (suc i) l =
     ∙ found_from (suc j) ps i (omega (arith, l))
     ∙ ap (λ k. Some (k, width_of ps i)) e
 
+-- the i-th port is found by its code, with its number and its width
 pub found : (ports : List WavePort) (i : ℕ) → i < length ports → port_with 0 ports (code i) ≡ Some (i, width_of ports i)
 found ports i l =
     let e : 0 + i ≡ i = omega arith in

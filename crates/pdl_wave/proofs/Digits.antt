@@ -38,12 +38,15 @@ binary_all p one (suc n) v =
     list_all-append p (binary n (v / 2)) ((48 + v % 2) ∷ [])
     ∙ and_from _ _ (binary_all p one n (v / 2)) (and_from _ _ (one (v % 2) (mod-lt v {m = 2} (omega arith))) refl)
 
+-- binary digits that are written are digits of base 2
 pub binary_digits : (n v : ℕ) → list_all (is_digit_of 2) (binary n v) ≡ true
 binary_digits n v = binary_all (is_digit_of 2) bit_digit n v
 
+-- binary digits that are written are a word of a dump
 pub binary_word : (n v : ℕ) → is_word (binary n v) ≡ true
 binary_word n v = binary_all (nat_lt 32) bit_word n v
 
+-- as many binary digits are written as are asked for
 pub binary_length : (n v : ℕ) → length (binary n v) ≡ n
 binary_length zero v = refl
 binary_length (suc n) v = length-append (binary n (v / 2)) ((48 + v % 2) ∷ []) ∙ omega (arith, binary_length n (v / 2))

@@ -10,7 +10,7 @@ use Rattle.pdl_wave.specs.declared.port.WavePort.{WavePort}
 use Rattle.pdl_wave.specs.Moments.{Change, Moment, differs, changes, with_moment, moments, run_moments, taken, value_in}
 use Rattle.pdl_wave.specs.Dump.{IsRow, width_of}
 use Rattle.pdl_wave.specs.Wave.{is_none, are_ordered, go_on, begin, are_new, last_time}
-use Rattle.pdl_wave.proofs.Told.{Fits, CanTell}
+use Rattle.pdl_wave.proofs.DumpLines.{Fits, CanTell}
 use Rattle.pdl_wave.proofs.Values.{or_none, got, now_by_changes, none_before, values_from, with_last}
 
 -- ---- the changes of a cycle
@@ -48,12 +48,14 @@ each_change Q j before (v ∷ vs) h =
     (λ d. (subst (λ (k : ℕ). Q k v) e (h 0 (omega arith)), rest))
     (λ d. rest)
 
+-- a row has as many values as there are ports
 pub row_length : (ports : List WavePort) (row : List ℕ) → IsRow ports row → length row ≡ length ports
 row_length [] [] h = refl
 row_length [] (v ∷ vs) h = absurd h
 row_length (p ∷ ps) [] h = absurd h
 row_length (p ∷ ps) (v ∷ vs) h = ap suc (row_length ps vs h.1)
 
+-- the i-th value of a row fits the width of the i-th port
 pub value_fits : (ports : List WavePort) (row : List ℕ) (i : ℕ) → IsRow ports row → i < length ports → get_or row i 0 < 2 ^ width_of ports i
 value_fits [] row i h l = absurd (omega (arith, l))
 value_fits (p ∷ ps) [] i h l = absurd h
@@ -107,15 +109,18 @@ begin_more : (count : ℕ) (m : Moment) (later : List Moment) → m.time ≡ 1 �
 begin_more count m [] one n h = absurd (cc h)
 begin_more count m (next ∷ later) one n h = and_from _ _ (eq-eqb m.time 1 one) (and_from _ _ (eq-eqb (length m.changes) count n) h)
 
+-- the moments of a run with these rows, and the one after its last cycle
 abbrev pub all_moments : List (List ℕ) → List Moment
 all_moments rows = run_moments rows ++ end_at (length rows + 1)
 
+-- the moments of a run whose rows have n values begin as those of a dump of n ports do
 pub begins : (rows : List (List ℕ)) (n : ℕ) → Each (λ row. length row ≡ n) rows → begin n (all_moments rows) ≡ true
 begins [] n h = refl
 begins (now ∷ rest) n h =
     begin_more n (record { time = 1; changes = changes 0 [] now }) (moments 2 now rest ++ end_at (suc (length rest) + 1)) refl
     (first_length 0 now ∙ h.0) (goes rest 2 2 now (suc (length rest) + 1) (omega arith) (omega arith))
 
+-- the last time of moments with an end is that of the end
 pub last_of : (ms : List Moment) (time last : ℕ) → last_time time (ms ++ end_at last) ≡ last
 last_of [] time last = refl
 last_of (m ∷ ms) time last = last_of ms m.time last
@@ -123,7 +128,7 @@ last_of (m ∷ ms) time last = last_of ms m.time last
 -- ---- the values
 
 -- the values of a run, by its moments
-pub run_values : (rows : List (List ℕ)) (n c i : ℕ) → Each (λ row. length row ≡ n) rows → c < length rows → i < n →
+run_values : (rows : List (List ℕ)) (n c i : ℕ) → Each (λ row. length row ≡ n) rows → c < length rows → i < n →
     value_in (run_moments rows) (c + 1) i ≡ Some (get_or (get_or rows c []) i 0)
 run_values [] n c i h l m = absurd (omega (arith, l))
 run_values (now ∷ rest) n zero i h l m =
@@ -166,6 +171,7 @@ pub all_values : (rows : List (List ℕ)) (n c i : ℕ) → Each (λ row. length
     value_in (all_moments rows) (c + 1) i ≡ Some (get_or (get_or rows c []) i 0)
 all_values rows n c i h l m = with_last (run_moments rows) (length rows + 1) (c + 1) i ∙ run_values rows n c i h l m
 
+-- the changes in the moments of a run whose rows have n values are in order, and new
 pub all_new : (rows : List (List ℕ)) (n : ℕ) → Each (λ row. length row ≡ n) rows → list_all (are_new (all_moments rows)) (all_moments rows) ≡ true
 all_new [] n h = refl
 all_new (now ∷ rest) n h =
@@ -188,6 +194,7 @@ tell_from ports (now ∷ rest) k before h l =
     (record { counted = omega (arith, l); each = changes_fit ports before now h.0 })
     (tell_from ports rest (suc k) now h.1 (omega (arith, l)))
 
+-- the moments of a run have times that can be counted, and changes that fit their ports
 pub can_tell : (ports : List WavePort) (rows : List (List ℕ)) → Each (IsRow ports) rows → length rows + 1 < 2 ^ 64 → Each (CanTell ports) (run_moments rows)
 can_tell ports [] h l = tt
 can_tell ports (now ∷ rest) h l =

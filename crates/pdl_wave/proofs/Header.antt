@@ -4,6 +4,7 @@ use Rattle.std.proofs.lemmas.List.{get_or_append_left, get_or-append_right}
 use Rattle.pdl_wave.specs.declared.port.WavePort.{WavePort}
 use Rattle.pdl_wave.specs.Dump.{declaration, declarations, header, upscope, enddefinitions}
 
+-- a header has as many declarations as there are ports
 pub declarations_length : (i : ℕ) (ports : List WavePort) → length (declarations i ports) ≡ length ports
 declarations_length i [] = refl
 declarations_length i (p ∷ ps) = ap suc (declarations_length (suc i) ps)
@@ -29,12 +30,14 @@ declared_line name ports k d low l =
     ∙ get_or_append_left (declarations 0 ports) (upscope ∷ enddefinitions ∷ []) [] (k - 2) (omega (arith, l, n))
     ∙ declaration_at 0 ports (k - 2) d l ∙ ap (λ j. declaration j (get_or ports (k - 2) d)) e
 
+-- the line after the declarations ends the scope
 pub upscope_line : (name : List ℕ) (ports : List WavePort) (k : ℕ) → 2 ≤ k → k - 2 ≡ length ports → get_or (header name ports) k [] ≡ upscope
 upscope_line name ports k low e =
     let n = declarations_length 0 ports in
     let at : k - 2 - length ports ≡ 0 = omega (arith, e) in
     ap (λ x. get_or (header name ports) x []) (after_two k low) ∙ (get_or-append_right (declarations 0 ports) (upscope ∷ enddefinitions ∷ []) (length ports) (k - 2) [] n (omega (arith, e)) ∙ ap (λ j. get_or (upscope ∷ enddefinitions ∷ []) j []) at)
 
+-- the last line of a header ends the declarations
 pub last_line : (name : List ℕ) (ports : List WavePort) (k : ℕ) → k ≡ length ports + 3 → get_or (header name ports) k [] ≡ enddefinitions
 last_line name ports k e =
     let n = declarations_length 0 ports in

@@ -1,9 +1,9 @@
 pub mod Digits
 pub mod Header
-pub mod Printed
+pub mod LineBytes
 pub mod Read
 pub mod Codes
-pub mod Told
+pub mod DumpLines
 pub mod Values
 pub mod Form
 pub mod WaveForm

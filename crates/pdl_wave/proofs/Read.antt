@@ -14,7 +14,7 @@ use Rattle.pdl_wave.specs.declared.port.WavePort.{WavePort}
 use Rattle.pdl_wave.specs.Dump.{code, binary, scope, declaration, time_text, change_text, ended, is_word}
 use Rattle.pdl_wave.specs.Wave.{Scope, Var, Time, NewValue, number, told, of_words, of_line}
 use Rattle.pdl_wave.proofs.Digits.{binary_word, binary_digits}
-use Rattle.pdl_wave.proofs.Printed.{is_line, no_blank, no_feed, decimal_word, code_word}
+use Rattle.pdl_wave.proofs.LineBytes.{is_line, no_blank, no_feed, decimal_word, code_word}
 
 -- ---- cuts
 
@@ -34,18 +34,20 @@ cut_last word h = slice_split_none (λ c. c == 32) word (no_blank word h)
 
 -- ---- numbers
 
-pub number_decimal : (n : ℕ) → n < 2 ^ 64 → number (decimal n) ≡ Some n
+number_decimal : (n : ℕ) → n < 2 ^ 64 → number (decimal n) ≡ Some n
 number_decimal n h =
     let d = decimal_is_IsNumeral n h in
     ap (λ m. if bytes_eq (decimal m) (decimal n) then Some m else None) d.1 ∙ cond-true _ _ _ (bytes_refl (decimal n))
 
 -- ---- lines
 
+-- the line of a time below 2^64 reads as that time
 pub read_time : (time : ℕ) → time < 2 ^ 64 → of_line (time_text time) ≡ Time time
 read_time time h =
     ap (λ ws. of_words (onto_first 35 ws)) (cut_last (decimal time) (decimal_word time h))
     ∙ ap (λ o. told (option_map Time o)) (number_decimal time h)
 
+-- the line of a change reads as the value's binary digits and the port's code
 pub read_change : (value width i : ℕ) → of_line (change_text value width i) ≡ NewValue (binary width value) (code i)
 read_change value width i =
     let bits = binary width value in
@@ -53,6 +55,7 @@ read_change value width i =
     ∙ ap (λ ws. of_words (onto_first 98 ws)) (cut_word bits (code i) (binary_word width value) ∙ ap (λ ws. bits ∷ ws) (cut_last (code i) (code_word i)))
     ∙ cond-true (list_all (is_digit_of 2) bits) (NewValue bits (code i)) _ (binary_digits width value)
 
+-- the line that names the pipe reads as a scope with that name, where the name is a word
 pub read_scope : (name : List ℕ) → is_word name ≡ true → of_line (scope name) ≡ Scope name
 read_scope name h =
     let cut : slice_split (λ c. c == 32) (name ++ codes " $end") ≡ name ∷ codes "$end" ∷ [] = cut_word name (codes "$end") h in
@@ -61,6 +64,7 @@ read_scope name h =
 regroup : (a d s c n e : List ℕ) → a ++ d ++ s ++ c ++ s ++ n ++ e ≡ a ++ (d ++ (s ++ (c ++ (s ++ (n ++ e)))))
 regroup a d s c n e = simp append_assoc
 
+-- the line of a port of at most 128 bits reads as its width, its code and its name, where that is a word
 pub read_declaration : (i : ℕ) (p : WavePort) → p.width ≤ 128 → is_word p.name ≡ true → of_line (declaration i p) ≡ Var p.width (code i) p.name
 read_declaration i p l h =
     let width : p.width < 2 ^ 64 = omega arith in

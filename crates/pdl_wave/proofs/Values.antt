@@ -8,6 +8,7 @@ use Rattle.pdl_wave.specs.Moments.{Change, Moment, differs, changes, with_moment
 
 -- ---- options
 
+-- a value, or else none, is that value
 pub or_none : (o : Option ℕ) → option_or o None ≡ o
 or_none None = refl
 or_none (Some v) = refl
@@ -58,11 +59,13 @@ value_now j (suc i) before (v ∷ vs) l =
     (λ h. ap (λ o. option_or o (slice_get before (j + suc i))) (cond-false _ _ _ other) ∙ later)
     (λ h. later)
 
+-- the value at a place that a list has is found there
 pub got : (vs : List ℕ) (i : ℕ) → i < length vs → slice_get vs i ≡ Some (get_or vs i 0)
 got [] i l = absurd (omega (arith, l))
 got (v ∷ vs) zero l = refl
 got (v ∷ vs) (suc i) l = got vs i (omega (arith, l))
 
+-- a port's value in a cycle is the one it changes to, else the one before
 pub now_by_changes : (i : ℕ) (before vs : List ℕ) → i < length vs → option_or (taken i (changes 0 before vs)) (slice_get before i) ≡ Some (get_or vs i 0)
 now_by_changes i before vs l =
     let e : 0 + i ≡ i = omega arith in

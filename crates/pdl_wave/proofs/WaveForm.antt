@@ -11,9 +11,9 @@ use Rattle.pdl_wave.specs.declared.port.WavePort.{WavePort}
 use Rattle.pdl_wave.specs.Moments.{run_moments}
 use Rattle.pdl_wave.specs.Dump.{IsRun, IsPort, IsRow, header, declarations, upscope, enddefinitions, time_text, moment_lines, dump_lines, dump, is_word}
 use Rattle.pdl_wave.specs.Wave.{DumpLine, Timescale, Scope, Upscope, EndDefinitions, Time, Nothing, of_line, lines_of, Declared, Header, header_of, is_form, begin, are_new, last_time, Wave, wave_with, wave_of, wave, Shows, IsWaveOf}
-use Rattle.pdl_wave.proofs.Printed.{is_line}
+use Rattle.pdl_wave.proofs.LineBytes.{is_line}
 use Rattle.pdl_wave.proofs.Read.{cut_lines, read_time, read_scope}
-use Rattle.pdl_wave.proofs.Told.{CanTell, read_ports, read_moment, ports_read, moments_read, header_lines, time_is_line, moments_lines, declared_back, told_moments}
+use Rattle.pdl_wave.proofs.DumpLines.{CanTell, read_ports, read_moment, ports_read, moments_read, header_lines, time_is_line, moments_lines, declared_back, told_moments}
 use Rattle.pdl_wave.proofs.Form.{row_length, all_moments, begins, last_of, all_values, all_new, can_tell}
 
 -- ---- the lines

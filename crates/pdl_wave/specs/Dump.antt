@@ -34,9 +34,11 @@ abbrev pub declarations : ℕ → List WavePort → List (List ℕ)
 declarations i [] = []
 declarations i (p ∷ ps) = declaration i p ∷ declarations (suc i) ps
 
+-- the line that ends the scope
 abbrev pub upscope : List ℕ
 upscope = codes "$upscope $end"
 
+-- the last line of the header
 abbrev pub enddefinitions : List ℕ
 enddefinitions = codes "$enddefinitions $end"
 
@@ -44,6 +46,7 @@ enddefinitions = codes "$enddefinitions $end"
 abbrev pub header : List ℕ → List WavePort → List (List ℕ)
 header name ports = timescale ∷ scope name ∷ (declarations 0 ports ++ upscope ∷ enddefinitions ∷ [])
 
+-- the line of a time
 abbrev pub time_text : ℕ → List ℕ
 time_text time = codes "#" ++ decimal time
 
@@ -57,9 +60,11 @@ change_text value width i = codes "b" ++ binary width value ++ codes " " ++ code
 abbrev pub ended : List ℕ → List ℕ
 ended line = line ++ codes "\n"
 
+-- a port in place of one that isn't there
 abbrev pub no_port : WavePort
 no_port = record { name = []; width = 0 }
 
+-- the width of the i-th port
 abbrev pub width_of : List WavePort → ℕ → ℕ
 width_of ports i = (slice_index_or ports i no_port).width
 

@@ -95,6 +95,7 @@ pub record Declared : Type 0 where
   pub ports : List WavePort
   pub rest : List DumpLine
 
+-- what is declared, with one port more at the front
 abbrev pub with_port : WavePort → Declared → Declared
 with_port p d = record { ports = p ∷ d.ports; rest = d.rest }
 
@@ -136,6 +137,7 @@ pub record Told : Type 0 where
   pub changes : List Change
   pub moments : List Moment
 
+-- what later lines tell, with one change more at the front, if both are there
 abbrev pub with_change : Option Change → Option Told → Option Told
 with_change None later = None
 with_change (Some x) later = option_map (λ (t : Told). record { changes = x ∷ t.changes; moments = t.moments }) later
@@ -153,6 +155,7 @@ told_by ports _ = None
 
 -- ---- the form
 
+-- there are no changes
 abbrev pub is_none : List Change → Bool
 is_none [] = true
 is_none (x ∷ xs) = false
@@ -205,6 +208,7 @@ abbrev pub wave_with : Header → Option Told → Option Wave
 wave_with h None = None
 wave_with h (Some t) = if is_form (length h.ports) t then Some (record { name = h.name; ports = h.ports; cycles = last_time 0 t.moments - 1; moments = t.moments }) else None
 
+-- what a dump says by its header, and none where that is missing
 abbrev pub wave_of : Option Header → Option Wave
 wave_of None = None
 wave_of (Some h) = wave_with h (told_by h.ports h.rest)

@@ -1,3 +1,3 @@
 pub mod Names
 pub mod Ports
-pub mod Dumped
+pub mod SourceDumps

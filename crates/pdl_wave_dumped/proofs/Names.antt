@@ -37,6 +37,7 @@ form_word (c ∷ cs) h =
       short = omega (arith, n);
     }
 
+-- a name of PDL is a word of a dump, of at most 32 bytes
 pub name_word : (t : List ℕ) → is_name t ≡ true → IsShortWord 32 t
 unfolding is_name
 name_word t h = form_word t (and_parts (has_name_form t) (not (is_statement_keyword t)) (and_parts (has_name_form t && not (is_statement_keyword t)) (not (is_declaration_keyword t)) h).0).0
@@ -52,5 +53,6 @@ prefixed m k a b h i =
       short = omega (arith, n, s, t);
     }
 
+-- a word of at most m bytes is one of at most k, where m is at most k
 pub longer : (m k : ℕ) (t : List ℕ) → m ≤ k → IsShortWord m t → IsShortWord k t
 longer m k t l h = let s = h.short in record { word = h.word; short = omega (arith, s, l) }

@@ -21,14 +21,14 @@ use Rattle.pdl_law_follows.specs.Memories.{delayed_of, comb_of, net_infos}
 use Rattle.pdl_law_follows.proofs.Memories.{as_many}
 use Rattle.pdl_wave.specs.declared.port.WavePort.{WavePort}
 use Rattle.pdl_wave.specs.Dump.{is_word}
-use Rattle.pdl_wave.proofs.Printed.{decimal_word}
+use Rattle.pdl_wave.proofs.LineBytes.{decimal_word}
 use Rattle.pdl_netrun_wave.specs.Dumped.{wave_with, wave_port}
 use Rattle.pdl_wave_dumped.proofs.Names.{IsShortWord, name_word, prefixed, longer}
 
 -- ---- ports by their heads
 
 -- a port whose name can stand in a dump
-abbrev pub HasWord : Head → Type 0
+abbrev HasWord : Head → Type 0
 HasWord h = IsShortWord 64 h.name
 
 words_by : (ps : List Port) → Each HasWord (map head_of ps) → Each (λ (p : WavePort). IsShortWord 64 p.name) (filter_map wave_port ps)
@@ -195,5 +195,6 @@ pipe_count stages ms few mems =
 pub wave_words : (ps : List Port) (heads : List Head) → map head_of ps ≡ heads → Each HasWord heads → Each (λ (p : WavePort). IsShortWord 64 p.name) (filter_map wave_port ps)
 wave_words ps heads e h = words_by ps (subst (Each HasWord) (sym e) h)
 
+-- no more ports are dumped than a netlist has
 pub wave_count : (ps : List Port) (heads : List Head) → map head_of ps ≡ heads → length (filter_map wave_port ps) ≤ length heads
 wave_count ps heads e = let n = length-map ps head_of in let m = few_by ps in omega (arith, n, m, ap length e)

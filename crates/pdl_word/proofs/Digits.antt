@@ -65,7 +65,7 @@ four_bits (suc k) =
     ap (λ n. 2 ^ n) e ∙ pow-add 2 (4 * k) 4 ∙ ap (λ n. n * 16) (four_bits k) ∙ sym (pow-suc 16 k)
 
 -- a digit for each four bits holds a word
-pub digits_hold : (w : ℕ) → 2 ^ w ≤ 16 ^ ((w + 3) / 4)
+digits_hold : (w : ℕ) → 2 ^ w ≤ 16 ^ ((w + 3) / 4)
 digits_hold w =
     let wide : w ≤ 4 * ((w + 3) / 4) = omega (arith, div-add-mod (w + 3) 4, mod-lt (w + 3) {m = 4} (omega arith)) in
     let four : 2 ^ (4 * ((w + 3) / 4)) ≡ 16 ^ ((w + 3) / 4) = four_bits ((w + 3) / 4) in
@@ -100,11 +100,13 @@ are_hex_digits w v low high =
     and_from _ _ (hex_all (is_digit_of 16) sixteen_value ((w + 3) / 4) v)
     (and_from _ _ (le-leb 1 (length (hex ((w + 3) / 4) v)) (omega (arith, n, parts, left, low))) (le-leb (length (hex ((w + 3) / 4) v)) 16 (omega (arith, n, parts, left, high))))
 
+-- a word of w bits is the value of its hexadecimal digits, one for each four bits
 pub hex_value : (w v : ℕ) → v < 2 ^ w → digits_value 16 (hex ((w + 3) / 4) v) ≡ v
 hex_value w v l = value_back ((w + 3) / 4) v (let k = digits_hold w in omega arith)
 
 -- ---- one digit more of a text
 
+-- a digit after the first i digits of a number gives the first i + 1, with its value after theirs
 pub digits_next : (base : ℕ) (xs : List ℕ) (i v d : ℕ) → i < length xs → list_all (is_digit_of base) (take i xs) ≡ true → v ≡ digits_value base (take i xs)
     → is_digit_of base (get_or xs i 0) ≡ true → d ≡ digit_value (get_or xs i 0)
     → (list_all (is_digit_of base) (take (i + 1) xs) ≡ true) × (v * base + d ≡ digits_value base (take (i + 1) xs))
@@ -118,6 +120,7 @@ four_more v k =
     let e : 4 * (k + 1) ≡ 4 * k + 4 = omega arith in
     div-div-eq-div-mul v (2 ^ (4 * k)) 16 ∙ ap (λ n. v / n) (sym (pow-add 2 (4 * k) 4) ∙ ap (λ n. 2 ^ n) (sym e))
 
+-- of the hexadecimal digits of a number, the first done + 1 are the first done and then the next one
 pub hex_next : (count done v : ℕ) → done < count →
     hex (done + 1) (v / 2 ^ (4 * (count - (done + 1)))) ≡ hex done (v / 2 ^ (4 * (count - done))) ++ hex_digit (v / 2 ^ (4 * (count - 1 - done)) % 16) ∷ []
 hex_next count done v h =

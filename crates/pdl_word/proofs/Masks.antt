@@ -10,12 +10,15 @@ mod_of_64 n w h =
     let P : ℕ → Type 0 = λ k. n % 2 ^ k % 2 ^ w ≡ n % 2 ^ w in
     subst P e (mod-mod-pow n (64 - w) w)
 
+-- a number masked by the largest word of w bits is its remainder by 2 ^ w
 pub and_with_mask : (n w m : ℕ) → m ≡ mask w → bit_and n m ≡ n % 2 ^ w
 unfolding mask
 and_with_mask n w m e = ap (bit_and n) e ∙ and_mask n w
 
+-- a number's lowest 64 bits, masked by the largest word of w of them, are its remainder by 2 ^ w
 pub masked : (n w m : ℕ) → w ≤ 64 → m ≡ mask w → bit_and (n % 2 ^ 64) m ≡ n % 2 ^ w
 masked n w m h e = and_with_mask (n % 2 ^ 64) w m e ∙ mod_of_64 n w h
 
+-- 1 shifted up by fewer than 64 places in 64 bits is that power of two
 pub one_shifted : (w : ℕ) → w < 64 → 1 * 2 ^ w % 2 ^ 64 ≡ 2 ^ w
 one_shifted w h = one_shl w 64 h

@@ -4,18 +4,22 @@ use Rattle.std.proofs.Math.Nat.{mod-eq_of_lt}
 use Rattle.std.proofs.lemmas.Nat.{pow-add, pow_pos}
 use Rattle.pdl_word.specs.Words.{shl, shr}
 
+-- a word shifted up by fewer than w places is multiplied by that power of two, modulo 2 ^ w
 pub shl_within : (w a b : ℕ) → b < w → shl w a b ≡ a * 2 ^ b % 2 ^ w
 unfolding shl
 shl_within w a b h = rw (lt-ltb b w h) refl
 
+-- nothing is left of a word shifted up by w places or more
 pub shl_past : (w a b : ℕ) → w ≤ b → shl w a b ≡ 0
 unfolding shl
 shl_past w a b h = rw (le-ltb b w h) refl
 
+-- a word shifted down by fewer than w places is divided by that power of two
 pub shr_within : (w a b : ℕ) → b < w → shr w a b ≡ a / 2 ^ b
 unfolding shr
 shr_within w a b h = rw (lt-ltb b w h) refl
 
+-- nothing is left of a word shifted down by w places or more
 pub shr_past : (w a b : ℕ) → w ≤ b → shr w a b ≡ 0
 unfolding shr
 shr_past w a b h = rw (le-ltb b w h) refl

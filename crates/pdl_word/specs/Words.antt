@@ -9,12 +9,15 @@ bit b = if b then 1 else 0
 unfoldable pub mask : ℕ → ℕ
 mask w = 2 ^ w - 1
 
+-- the sum, modulo 2 ^ w
 unfoldable pub add : ℕ → ℕ → ℕ → ℕ
 add w a b = (a + b) % 2 ^ w
 
+-- the difference, modulo 2 ^ w
 unfoldable pub sub : ℕ → ℕ → ℕ → ℕ
 sub w a b = (a + 2 ^ w - b) % 2 ^ w
 
+-- the product, modulo 2 ^ w
 unfoldable pub mul : ℕ → ℕ → ℕ → ℕ
 mul w a b = a * b % 2 ^ w
 
@@ -26,18 +29,23 @@ complement w a = 2 ^ w - 1 - a
 unfoldable pub and : ℕ → ℕ → ℕ
 and a b = bit_and a b
 
+-- bit by bit, 1 where either is
 unfoldable pub or : ℕ → ℕ → ℕ
 or a b = bit_or a b
 
+-- bit by bit, 1 where just one is
 unfoldable pub xor : ℕ → ℕ → ℕ
 xor a b = bit_xor a b
 
+-- 1 where both are equal, else 0
 unfoldable pub equal : ℕ → ℕ → ℕ
 equal a b = bit (a == b)
 
+-- 1 where both differ, else 0
 unfoldable pub differ : ℕ → ℕ → ℕ
 differ a b = bit (not (a == b))
 
+-- 1 where the first is less than the second, else 0
 unfoldable pub less : ℕ → ℕ → ℕ
 less a b = bit (nat_lt a b)
 
@@ -53,6 +61,7 @@ lts w a b = bit (nat_lt (sign_shifted w a) (sign_shifted w b))
 unfoldable pub shl : ℕ → ℕ → ℕ → ℕ
 shl w a b = if nat_lt b w then a * 2 ^ b % 2 ^ w else 0
 
+-- shifted down by b places; nothing is left where b is w or more
 unfoldable pub shr : ℕ → ℕ → ℕ → ℕ
 shr w a b = if nat_lt b w then a / 2 ^ b else 0
 

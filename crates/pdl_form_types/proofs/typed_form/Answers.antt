@@ -1,4 +1,4 @@
-use Rattle.pdl_form_types.proofs.Whole.{typed_whole}
+use Rattle.pdl_form_types.proofs.FormTyping.{typed_whole}
 use Rattle.pdl_form_types.proofs.typed_form.Goals as goal
 
 pub returns : goal.returns

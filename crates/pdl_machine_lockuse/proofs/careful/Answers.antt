@@ -1,5 +1,5 @@
 use Rattle.pdl_machine_lockuse.proofs.FromRules.{careful_source}
-use Rattle.pdl_machine_lockuse.proofs.Tried.{tested}
+use Rattle.pdl_machine_lockuse.proofs.CarefulTest.{tested}
 use Rattle.pdl_machine_lockuse.proofs.careful.Goals as goal
 
 pub returns-clause-source : goal.returns-clause-source

@@ -1,6 +1,6 @@
 use Rattle.pdl_semantics.specs.Moves.{all_acts}
 use Rattle.pdl_semantics.specs.Cycle.{first, state_after}
-use Rattle.pdl_machine_lockuse.proofs.Timely.{uses_older}
+use Rattle.pdl_machine_lockuse.proofs.ReleaseOrder.{uses_older}
 use Rattle.pdl_machine_lockuse.proofs.InRuns.{owns_here, written_here, awaits_here, older_here}
 use Rattle.pdl_machine_lockuse.proofs.releases.Goals as goal
 

@@ -1,7 +1,7 @@
 use Rattle.std.proofs.Common.{sym, subst}
 use Rattle.pdl_net.specs.Circuit.{circuit_of}
 use Rattle.pdl_net_needed.specs.Needed.{KeepsNeeded}
-use Rattle.pdl_net_needed.proofs.Whole.{all_pruned, all_well, all_show, all_framed, all_need, all_distinct}
+use Rattle.pdl_net_needed.proofs.PrunedFacts.{all_pruned, all_well, all_show, all_framed, all_need, all_distinct}
 use Rattle.pdl_net_needed.proofs.needed_part.Goals as goal
 
 pub returns-clause-pruned : goal.returns-clause-pruned

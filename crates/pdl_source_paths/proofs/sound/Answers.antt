@@ -1,4 +1,4 @@
-use Rattle.pdl_source_paths.proofs.Whole.{of_source}
+use Rattle.pdl_source_paths.proofs.PipeFacts.{of_source}
 use Rattle.pdl_source_paths.proofs.sound.Goals as goal
 
 pub returns : goal.returns

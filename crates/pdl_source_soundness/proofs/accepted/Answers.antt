@@ -1,6 +1,6 @@
 use Rattle.pdl_semantics.specs.Flatten.{flat}
-use Rattle.pdl_theory.proofs.Stated.{whole_refines, whole_advances, whole_paces, whole_same}
-use Rattle.pdl_source_paths.proofs.Whole.{of_source}
+use Rattle.pdl_theory.proofs.StatedTheorems.{whole_refines, whole_advances, whole_paces, whole_same}
+use Rattle.pdl_source_paths.proofs.PipeFacts.{of_source}
 use Rattle.pdl_source_soundness.proofs.accepted.Goals as goal
 
 pub returns : goal.returns

@@ -1,6 +1,6 @@
-use Rattle.pdl_source_stages.proofs.Formed.{body_forked}
-use Rattle.pdl_source_stages.proofs.Fine.{stage_count}
-use Rattle.pdl_source_stages.proofs.Visiting.{visits_all}
+use Rattle.pdl_source_stages.proofs.BodyShape.{body_forked}
+use Rattle.pdl_source_stages.proofs.SiteFacts.{stage_count}
+use Rattle.pdl_source_stages.proofs.PathStages.{visits_all}
 use Rattle.pdl_source_stages.proofs.stages.Goals as goal
 
 pub returns : goal.returns

@@ -52,7 +52,7 @@ fn emit_reply(b: &mut Builder, width: u8) -> Result<Reply, NoMemory>
     })
 }
 
-#[tactic(auto, using(pdl_port::proofs::Kept::bits_kept))]
+#[tactic(auto, using(pdl_port::proofs::PortGrowth::bits_kept))]
 fn emit_drivers(alloc: Global, b: &mut Builder, places: u8) -> Result<PortStep, NoMemory>
     ensures step { IfOk result (λ p. IsStep b.new p places) }
     ensures extends { Extends b.old b.new }

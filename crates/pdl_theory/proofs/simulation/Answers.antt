@@ -1,5 +1,5 @@
 -- proofs/simulation/Answers.antt
-use Rattle.pdl_theory.proofs.Stated.{whole_same}
+use Rattle.pdl_theory.proofs.StatedTheorems.{whole_same}
 use Rattle.pdl_theory.proofs.simulation.Goals as goal
 
 pub returns : goal.returns

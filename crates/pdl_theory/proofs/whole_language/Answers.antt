@@ -1,5 +1,5 @@
 -- proofs/whole_language/Answers.antt
-use Rattle.pdl_theory.proofs.Stated.{whole_refines, whole_advances, whole_paces}
+use Rattle.pdl_theory.proofs.StatedTheorems.{whole_refines, whole_advances, whole_paces}
 use Rattle.pdl_theory.proofs.whole_language.Goals as goal
 
 pub returns : goal.returns

@@ -1,4 +1,4 @@
-use Rattle.pdl_wave_dumped.proofs.Dumped.{dumpable, says}
+use Rattle.pdl_wave_dumped.proofs.SourceDumps.{dumpable, says}
 use Rattle.pdl_wave_dumped.proofs.sources_dumped.Goals as goal
 
 pub returns-clause-dumpable : goal.returns-clause-dumpable

@@ -1,6 +1,6 @@
 use Rattle.std.proofs.Common.{refl}
 use Rattle.pdl_asm.proofs.ReadBack.{reads_back}
-use Rattle.pdl_asm.proofs.Taking.{image_is}
+use Rattle.pdl_asm.proofs.LineSteps.{image_is}
 use Rattle.pdl_asm.proofs.assembler.assemble.Goals as goal
 
 pub returns-clause-meets : goal.returns-clause-meets

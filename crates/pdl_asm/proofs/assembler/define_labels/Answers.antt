@@ -5,7 +5,7 @@ use Rattle.pdl_asm.specs.Places.{IsNear}
 use Rattle.pdl_image.specs.Lines.{lines}
 use Rattle.pdl_asm.specs.Assembly.{with_line}
 use Rattle.pdl_asm.proofs.Steps.{labels_more, near_later, placed_first}
-use Rattle.pdl_asm.proofs.Taking.{none_left_of}
+use Rattle.pdl_asm.proofs.LineSteps.{none_left_of}
 use Rattle.pdl_asm.proofs.assembler.define_labels.Goals as goal
 
 pub loop-rest-preserved : goal.loop-rest-preserved

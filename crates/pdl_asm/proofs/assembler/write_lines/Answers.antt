@@ -7,7 +7,7 @@ use Rattle.pdl_image.specs.Lines.{lines}
 use Rattle.pdl_asm.specs.Assembly.{Placed, lines_from}
 use Rattle.pdl_asm.proofs.FirstLabels.{defined_few, defined_next}
 use Rattle.pdl_asm.proofs.Steps.{near_later, placed_first}
-use Rattle.pdl_asm.proofs.Taking.{Taken, all_taken, none_left_of, refused_first, taken_more, taken_none}
+use Rattle.pdl_asm.proofs.LineSteps.{Taken, all_taken, none_left_of, refused_first, taken_more, taken_none}
 use Rattle.pdl_asm.proofs.assembler.write_lines.Goals as goal
 
 pub loop-rest-init : goal.loop-rest-init

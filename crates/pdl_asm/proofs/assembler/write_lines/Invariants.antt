@@ -2,7 +2,7 @@ use Rattle.std.proofs.Common.{◌+◌, ◌-◌, ◌≤◌, length, pos, take}
 use Rattle.pdl_image.specs.Lines.{lines}
 use Rattle.pdl_asm.specs.Assembly.{lines_from}
 use Rattle.pdl_asm.specs.Places.{IsNear}
-use Rattle.pdl_asm.proofs.Taking.{Taken}
+use Rattle.pdl_asm.proofs.LineSteps.{Taken}
 use Rattle.pdl_asm.proofs.assembler.write_lines.Given as goal
 
 -- the lines so far were taken

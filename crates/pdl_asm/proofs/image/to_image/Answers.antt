@@ -2,7 +2,7 @@ use Rattle.std.proofs.Common.{◌+◌, ◌-◌, ◌++◌, ℕ, List, None, get_o
 use Rattle.std.specs.Prelude.{flat_map}
 use Rattle.std.specs.List.{range_with_len}
 use Rattle.pdl_asm.specs.Assembly.{word_line}
-use Rattle.pdl_asm.proofs.Taking.{flat_end, flat_step, text_end}
+use Rattle.pdl_asm.proofs.LineSteps.{flat_end, flat_step, text_end}
 use Rattle.pdl_asm.proofs.image.to_image.Goals as goal
 
 pub loop-address-preserved : goal.loop-address-preserved

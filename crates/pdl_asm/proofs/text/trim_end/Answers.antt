@@ -1,5 +1,5 @@
 use Rattle.std.proofs.Common.{sym, ◌∙◌}
-use Rattle.pdl_asm.proofs.Trimming.{trim_more, trim_whole}
+use Rattle.pdl_asm.proofs.Blanks.{trim_more, trim_whole}
 use Rattle.pdl_asm.proofs.text.trim_end.Goals as goal
 
 pub loop-rest-preserved : goal.loop-rest-preserved

@@ -1,5 +1,5 @@
 use Rattle.std.proofs.Common.{sym, ◌∙◌}
-use Rattle.pdl_asm.proofs.Trimming.{before_rest}
+use Rattle.pdl_asm.proofs.Blanks.{before_rest}
 use Rattle.pdl_asm.proofs.text.without_comment.Goals as goal
 
 pub loop-rest-preserved : goal.loop-rest-preserved

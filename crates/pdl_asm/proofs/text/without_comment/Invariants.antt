@@ -1,5 +1,5 @@
 use Rattle.std.proofs.Common.{length}
-use Rattle.pdl_asm.proofs.Trimming.{Before}
+use Rattle.pdl_asm.proofs.Blanks.{Before}
 use Rattle.pdl_asm.proofs.text.without_comment.Given as goal
 
 -- what was passed has no comment

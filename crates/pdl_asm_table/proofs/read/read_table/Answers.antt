@@ -1,5 +1,5 @@
 use Rattle.std.proofs.lemmas.Result.{err_from_is_err_and}
-use Rattle.pdl_asm_table.proofs.Meeting.{document_meets, no_document}
+use Rattle.pdl_asm_table.proofs.PassedAnswers.{document_meets, no_document}
 use Rattle.pdl_asm_table.proofs.read.read_table.Goals as goal
 
 pub returns-in_err-document : goal.returns-in_err-document

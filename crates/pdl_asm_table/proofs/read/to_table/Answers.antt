@@ -2,7 +2,7 @@ use Rattle.std.proofs.Common.{◌≡◌, None, ap, sym, ◌∙◌, subst}
 use Rattle.std.proofs.lemmas.Result.{err_from_is_err_and}
 use Rattle.pdl_asm_table.specs.Tables.{AreWide, breaks_b3, breaks_b4, first_broken}
 use Rattle.pdl_asm_table.proofs.Entries.{wide_if_none}
-use Rattle.pdl_asm_table.proofs.Meeting.{passed_on, refused_ok, whole_err}
+use Rattle.pdl_asm_table.proofs.PassedAnswers.{passed_on, refused_ok, whole_err}
 use Rattle.pdl_asm_table.proofs.read.to_table.Goals as goal
 
 pub returns-in_err-insns : goal.returns-in_err-insns

@@ -2,11 +2,11 @@ use Rattle.std.proofs.Common.{◌≡◌, false, IsTrue, sym, subst, ap, ◌∙�
 use Rattle.pdl_net.specs.Circuit.{Circuit}
 use Rattle.pdl_net.specs.Meaning.{cell_signal, signal}
 use Rattle.pdl_net.specs.Well.{Fits}
-use Rattle.pdl_build.specs.Folded.{is_foldable}
+use Rattle.pdl_build.specs.FoldedCells.{is_foldable}
 use Rattle.pdl_build.specs.Rules.{IsBelow}
 use Rattle.pdl_build.proofs.Folds.{folded_pushed}
 use Rattle.pdl_build.specs.Parts.{circuit_of_parts}
-use Rattle.pdl_build.proofs.Grown.{well_cell, extents_cell, means_cell, extends_cell}
+use Rattle.pdl_build.proofs.CellGrowth.{well_cell, extents_cell, means_cell, extends_cell}
 use Rattle.pdl_build.proofs.Builder.add.Goals as goal
 
 pub invariant_of-self-in-Ok : goal.invariant_of-self-in-Ok

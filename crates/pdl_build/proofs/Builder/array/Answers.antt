@@ -1,5 +1,5 @@
 use Rattle.pdl_build.specs.Parts.{circuit_of_parts}
-use Rattle.pdl_build.proofs.Stored.{well_array, extents_array, is_new_array, extends_array}
+use Rattle.pdl_build.proofs.RegisterGrowth.{well_array, extents_array, is_new_array, extends_array}
 use Rattle.pdl_build.proofs.Builder.array.Goals as goal
 
 pub invariant_of-self-2 : goal.invariant_of-self-2

@@ -1,5 +1,5 @@
 use Rattle.pdl_net.specs.Meaning.{signal}
-use Rattle.pdl_build.proofs.Below.{cut, both, masked, masked_by, shifted}
+use Rattle.pdl_build.proofs.ValueBounds.{cut, both, masked, masked_by, shifted}
 use Rattle.pdl_build.proofs.Builder.bin_below.Goals as goal
 
 pub returns-then-is_below : goal.returns-then-is_below

@@ -2,7 +2,7 @@ use Rattle.std.proofs.Common.{subst}
 use Rattle.pdl_net.specs.declared.Cell.{Cell}
 use Rattle.pdl_net.specs.Meaning.{signal}
 use Rattle.pdl_net.specs.Well.{Fits}
-use Rattle.pdl_build.proofs.Below.{constant, complement, part, chosen, joined, repeated}
+use Rattle.pdl_build.proofs.ValueBounds.{constant, complement, part, chosen, joined, repeated}
 use Rattle.pdl_build.proofs.Builder.cell_below.Goals as goal
 
 pub returns-in-Const : goal.returns-in-Const

@@ -4,10 +4,10 @@ use Rattle.pdl_net.specs.Circuit.{Circuit}
 use Rattle.pdl_net.specs.declared.Cell.TheVariants.{Const}
 use Rattle.pdl_net.specs.Meaning.{cell_signal, signal}
 use Rattle.pdl_net.specs.Well.{Fits}
-use Rattle.pdl_build.specs.Folded.{is_const, is_constant}
+use Rattle.pdl_build.specs.FoldedCells.{is_const, is_constant}
 use Rattle.pdl_build.specs.Parts.{circuit_of_parts}
 use Rattle.pdl_build.proofs.Equal.{means_equal}
-use Rattle.pdl_build.proofs.Known.{cell_there, known_fits}
+use Rattle.pdl_build.proofs.NetCells.{cell_there, known_fits}
 use Rattle.pdl_build.proofs.Builder.cell_of.Goals as goal
 
 pub at-requires : goal.at-requires

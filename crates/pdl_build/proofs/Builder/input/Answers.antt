@@ -1,6 +1,6 @@
 use Rattle.pdl_build.specs.Change.{input_port}
 use Rattle.pdl_build.specs.Parts.{circuit_of_parts}
-use Rattle.pdl_build.proofs.Grown.{well_input, extents_input, means_input, extends_port}
+use Rattle.pdl_build.proofs.CellGrowth.{well_input, extents_input, means_input, extends_port}
 use Rattle.pdl_build.proofs.Builder.input.Goals as goal
 
 pub invariant_of-self-in-Ok : goal.invariant_of-self-in-Ok

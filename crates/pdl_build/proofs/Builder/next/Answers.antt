@@ -5,7 +5,7 @@ use Rattle.pdl_net.specs.Well.{IsWell}
 use Rattle.pdl_net.specs.Growth.{ExtendsBut}
 use Rattle.pdl_build.specs.Change.{one_reg}
 use Rattle.pdl_build.specs.Parts.{circuit_of_parts, HaveExtents}
-use Rattle.pdl_build.proofs.Stored.{well_next, extents_next, next_set, extends_next, next_same, has_reg_below}
+use Rattle.pdl_build.proofs.RegisterGrowth.{well_next, extents_next, next_set, extends_next, next_same, has_reg_below}
 use Rattle.pdl_build.proofs.Builder.next.Goals as goal
 
 pub index_mut-requires : goal.index_mut-requires

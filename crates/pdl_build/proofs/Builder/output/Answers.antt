@@ -2,7 +2,7 @@ use Rattle.std.proofs.Common.{◌≡◌, length, sym, subst, ap, ◌∙◌, arit
 use Rattle.pdl_net.specs.Circuit.{Circuit, outputs_of}
 use Rattle.pdl_net.specs.Meaning.{IsThere, signal}
 use Rattle.pdl_build.specs.Parts.{circuit_of_parts}
-use Rattle.pdl_build.proofs.Grown.{well_output, extents_output, extends_port, count_ports}
+use Rattle.pdl_build.proofs.CellGrowth.{well_output, extents_output, extends_port, count_ports}
 use Rattle.pdl_build.proofs.Widths.{wide}
 use Rattle.pdl_build.specs.Change.{output_port}
 use Rattle.pdl_build.proofs.Builder.output.Goals as goal

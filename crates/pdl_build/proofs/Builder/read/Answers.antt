@@ -1,4 +1,4 @@
-use Rattle.pdl_build.proofs.Stored.{fits_read, read_is}
+use Rattle.pdl_build.proofs.RegisterGrowth.{fits_read, read_is}
 use Rattle.pdl_build.proofs.Builder.read.Goals as goal
 
 pub cell-requires : goal.cell-requires

@@ -1,5 +1,5 @@
 use Rattle.pdl_build.specs.Parts.{circuit_of_parts}
-use Rattle.pdl_build.proofs.Stored.{well_reg, extents_reg, is_new_reg, extends_reg}
+use Rattle.pdl_build.proofs.RegisterGrowth.{well_reg, extents_reg, is_new_reg, extends_reg}
 use Rattle.pdl_build.proofs.Builder.reg.Goals as goal
 
 pub invariant_of-self-2 : goal.invariant_of-self-2

@@ -1,5 +1,5 @@
 use Rattle.pdl_net.specs.Meaning.{signal}
-use Rattle.pdl_build.proofs.Simpler.{on_constant_at, after_constant_at}
+use Rattle.pdl_build.proofs.RuleMeanings.{on_constant_at, after_constant_at}
 use Rattle.pdl_build.proofs.Builder.rule.Goals as goal
 
 pub returns-in-Some : goal.returns-in-Some

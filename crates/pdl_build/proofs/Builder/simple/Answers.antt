@@ -3,7 +3,7 @@ use Rattle.pdl_net.specs.declared.Cell.{Cell}
 use Rattle.pdl_net.specs.Signal.{rep_signal}
 use Rattle.pdl_net.specs.Meaning.{signal, cell_signal}
 use Rattle.pdl_net.specs.Well.{Fits}
-use Rattle.pdl_build.proofs.Simpler.{copy_same}
+use Rattle.pdl_build.proofs.RuleMeanings.{copy_same}
 use Rattle.pdl_build.proofs.Builder.simple.Goals as goal
 
 pub returns-in-Rep : goal.returns-in-Rep

@@ -4,7 +4,7 @@ use Rattle.pdl_net.specs.Meaning.{signal}
 use Rattle.pdl_net.specs.Signal.{Signal, bin_width}
 use Rattle.pdl_build.specs.declared.rules.Rule.{Rule}
 use Rattle.pdl_build.specs.Rules.{Gives, StandsFor}
-use Rattle.pdl_build.proofs.Simpler.{first_same, second_same, complement_same, number_same, number_fits, at_rest}
+use Rattle.pdl_build.proofs.RuleMeanings.{first_same, second_same, complement_same, number_same, number_fits, at_rest}
 use Rattle.pdl_build.proofs.Builder.simple_bin.Goals as goal
 
 pub returns-in-First : goal.returns-in-First

@@ -2,7 +2,7 @@ use Rattle.std.proofs.Common.{subst, ap, ◌∙◌, arith}
 use Rattle.pdl_net.specs.Signal.{Signal, const_value}
 use Rattle.pdl_net.specs.Meaning.{signal}
 use Rattle.pdl_build.specs.Rules.{StandsFor}
-use Rattle.pdl_build.proofs.Simpler.{choice_same, choice_other}
+use Rattle.pdl_build.proofs.RuleMeanings.{choice_same, choice_other}
 use Rattle.pdl_build.proofs.Builder.simple_choice.Goals as goal
 
 pub returns-in-Some-Some : goal.returns-in-Some-Some

@@ -2,7 +2,7 @@ use Rattle.std.proofs.Common.{ap, ◌∙◌, subst}
 use Rattle.pdl_net.specs.Signal.{Signal}
 use Rattle.pdl_net.specs.Meaning.{signal, cell_signal}
 use Rattle.pdl_build.specs.Rules.{StandsFor}
-use Rattle.pdl_build.proofs.Simpler.{choice_turned}
+use Rattle.pdl_build.proofs.RuleMeanings.{choice_turned}
 use Rattle.pdl_build.proofs.Builder.simple_mux.Goals as goal
 
 pub returns-in-Some-Not : goal.returns-in-Some-Not

@@ -2,7 +2,7 @@ use Rattle.std.proofs.Common.{ap, ◌∙◌, subst}
 use Rattle.pdl_net.specs.declared.Cell.{Cell}
 use Rattle.pdl_net.specs.Meaning.{signal, cell_signal}
 use Rattle.pdl_net.specs.Well.{Fits}
-use Rattle.pdl_build.proofs.Simpler.{not_twice}
+use Rattle.pdl_build.proofs.RuleMeanings.{not_twice}
 use Rattle.pdl_build.proofs.Builder.simple_not.Goals as goal
 
 pub returns-in-Some-Not : goal.returns-in-Some-Not

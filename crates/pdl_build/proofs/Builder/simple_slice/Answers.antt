@@ -3,7 +3,7 @@ use Rattle.pdl_net.specs.declared.Cell.{Cell}
 use Rattle.pdl_net.specs.Signal.{Signal}
 use Rattle.pdl_net.specs.Meaning.{signal, cell_signal}
 use Rattle.pdl_net.specs.Well.{Fits}
-use Rattle.pdl_build.proofs.Simpler.{whole_same, part_same}
+use Rattle.pdl_build.proofs.RuleMeanings.{whole_same, part_same}
 use Rattle.pdl_build.proofs.Builder.simple_slice.Goals as goal
 
 pub returns-then-is_below : goal.returns-then-is_below

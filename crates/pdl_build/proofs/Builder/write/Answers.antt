@@ -7,7 +7,7 @@ use Rattle.pdl_net.specs.Well.{IsWell, IsWellWrite}
 use Rattle.pdl_net.specs.Growth.{ExtendsBut}
 use Rattle.pdl_build.specs.Change.{one_array, write_port}
 use Rattle.pdl_build.specs.Parts.{circuit_of_parts, HaveExtents}
-use Rattle.pdl_build.proofs.Stored.{well_write, extents_write, writes_more, extends_write, write_same, well_port_write, has_array_below}
+use Rattle.pdl_build.proofs.RegisterGrowth.{well_write, extents_write, writes_more, extends_write, write_same, well_port_write, has_array_below}
 use Rattle.pdl_build.proofs.Builder.write.Goals as goal
 
 pub index_mut-written-requires : goal.index_mut-written-requires

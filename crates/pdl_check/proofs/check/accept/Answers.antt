@@ -11,11 +11,11 @@ use Rattle.pdl_source_paths.specs.Source.{is_source, is_named}
 use Rattle.pdl_rules.proofs.Unbroken.{keeps_unbroken}
 use Rattle.pdl_rules_names.specs.Order.{name_rules}
 use Rattle.pdl_rules_widths.specs.Order.{width_rules}
-use Rattle.pdl_rules_judge.specs.Told.{after_names, after_widths}
+use Rattle.pdl_rules_judge.specs.OrderedRules.{after_names, after_widths}
 use Rattle.pdl_form.specs.Form.{form_of}
-use Rattle.pdl_form.specs.Whole.{form}
+use Rattle.pdl_form.specs.FormView.{form}
 use Rattle.pdl_form_types.specs.Same.{same_form}
-use Rattle.pdl_form_types.proofs.Same.{forms_pass}
+use Rattle.pdl_form_types.proofs.SameForms.{forms_pass}
 use Rattle.pdl_stages.specs.Graph.{graph_of}
 use Rattle.pdl_rules.specs.Places.{places, guards}
 use Rattle.pdl_check.proofs.Parts.{kept_parts}

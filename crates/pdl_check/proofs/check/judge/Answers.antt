@@ -1,5 +1,5 @@
 use Rattle.pdl_syntax_tree.specs.View.{pipe_view}
-use Rattle.pdl_check.proofs.Judged.{judged_error}
+use Rattle.pdl_check.proofs.CheckAnswers.{judged_error}
 use Rattle.pdl_check.proofs.check.judge.Goals as goal
 
 pub returns-in-Err : goal.returns-in-Err

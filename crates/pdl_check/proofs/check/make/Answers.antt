@@ -4,7 +4,7 @@ use Rattle.pdl_rules.specs.Memories.{infos_of}
 use Rattle.pdl_rules.specs.Places.{places}
 use Rattle.pdl_rules.proofs.Unbroken.{keeps_unbroken}
 use Rattle.pdl_form_lower.specs.Sized.{AreSizedMems}
-use Rattle.pdl_form_lower.proofs.Accepted.{keeps_lowered}
+use Rattle.pdl_form_lower.proofs.PipeSizes.{keeps_lowered}
 use Rattle.pdl_form.specs.Form.{Form}
 use Rattle.pdl_stages.specs.Graph.{graph_of}
 use Rattle.pdl_check.proofs.check.make.Goals as goal

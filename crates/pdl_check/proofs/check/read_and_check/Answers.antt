@@ -1,6 +1,6 @@
 use Rattle.pdl_syntax_tree.specs.View.{pipe_view}
 use Rattle.pdl_source.proofs.Texts.{source_of, named_of}
-use Rattle.pdl_check.proofs.Judged.{judged_checked}
+use Rattle.pdl_check.proofs.CheckAnswers.{judged_checked}
 use Rattle.pdl_check.proofs.check.read_and_check.Goals as goal
 
 pub judge-requires : goal.judge-requires

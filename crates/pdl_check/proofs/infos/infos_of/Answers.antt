@@ -1,4 +1,4 @@
-use Rattle.pdl_check.proofs.Sized.{sized_here}
+use Rattle.pdl_check.proofs.MemorySizes.{sized_here}
 use Rattle.pdl_check.proofs.infos.infos_of.Goals as goal
 
 pub info_of-requires : goal.info_of-requires

@@ -1,6 +1,6 @@
 use Rattle.std.proofs.Common.{subst}
 use Rattle.pdl_syntax.specs.Text.{IsRefusal}
-use Rattle.pdl_check.proofs.Judged.{read_long}
+use Rattle.pdl_check.proofs.CheckAnswers.{read_long}
 use Rattle.pdl_check.proofs.read.read.Goals as goal
 
 pub returns-in-Err-Limit : goal.returns-in-Err-Limit

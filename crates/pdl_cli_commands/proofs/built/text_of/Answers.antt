@@ -1,5 +1,5 @@
 use Rattle.pdl_syntax_tree.specs.View.{pipe_view}
-use Rattle.pdl_cli_commands.proofs.Accepting.{is_built, both_ok}
+use Rattle.pdl_cli_commands.proofs.AcceptedNetlists.{is_built, both_ok}
 use Rattle.pdl_cli_commands.proofs.built.text_of.Goals as goal
 
 pub verilog_text-text-requires : goal.verilog_text-text-requires

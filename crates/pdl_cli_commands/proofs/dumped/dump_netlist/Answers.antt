@@ -5,8 +5,8 @@ use Rattle.pdl_netrun_lines.specs.Printed.{schedule}
 use Rattle.pdl_netrun_wave.specs.Dumped.{run_dump}
 use Rattle.pdl_cli_commands.specs.Commands.{IsDumped}
 use Rattle.pdl_cli_commands.specs.Outcomes.{seen_of}
-use Rattle.pdl_cli_commands.proofs.Accepting.{is_dumped}
-use Rattle.pdl_cli_commands.proofs.Explaining.{silent, source_start_fails, streamed_explains}
+use Rattle.pdl_cli_commands.proofs.AcceptedNetlists.{is_dumped}
+use Rattle.pdl_cli_commands.proofs.Explanations.{silent, source_start_fails, streamed_explains}
 use Rattle.pdl_cli_commands.proofs.dumped.dump_netlist.Goals as goal
 
 pub returns-in-Ok-clause-explained : goal.returns-in-Ok-clause-explained

@@ -1,7 +1,7 @@
 use Rattle.std.proofs.Common.{◌≡◌, refl}
 use Rattle.pdl_netrun_lines.specs.Printed.{schedule}
 use Rattle.pdl_netrun_wave.specs.Dumped.{run_dump}
-use Rattle.pdl_cli_commands.proofs.Explaining.{streamed}
+use Rattle.pdl_cli_commands.proofs.Explanations.{streamed}
 use Rattle.pdl_cli_commands.proofs.dumped.print_dump.Goals as goal
 
 pub returns-clause-text : goal.returns-clause-text

@@ -3,7 +3,7 @@ use Rattle.pdl_cli_args.specs.Line.{wave}
 use Rattle.pdl_cli_args.specs.View.{text_of}
 use Rattle.pdl_kit.specs.Files.{Gives}
 use Rattle.pdl_cli_commands.specs.Outcomes.{seen_of}
-use Rattle.pdl_cli_commands.proofs.Explaining.{silent, source_fails, explained_before}
+use Rattle.pdl_cli_commands.proofs.Explanations.{silent, source_fails, explained_before}
 use Rattle.pdl_cli_commands.proofs.dumped.wave.Goals as goal
 
 pub dump_accepted-requires-clause-accepted : goal.dump_accepted-requires-clause-accepted

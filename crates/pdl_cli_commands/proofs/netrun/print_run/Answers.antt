@@ -1,8 +1,8 @@
 use Rattle.std.proofs.Common.{◌≡◌, refl}
 use Rattle.pdl_vread.proofs.Memories.{mems_wide}
 use Rattle.pdl_netrun_lines.specs.Printed.{run_text, schedule}
-use Rattle.pdl_cli_commands.proofs.Simulating.{two_outputs}
-use Rattle.pdl_cli_commands.proofs.Explaining.{streamed}
+use Rattle.pdl_cli_commands.proofs.OutputCount.{two_outputs}
+use Rattle.pdl_cli_commands.proofs.Explanations.{streamed}
 use Rattle.pdl_cli_commands.proofs.netrun.print_run.Goals as goal
 
 pub run-requires-clause-widths : goal.run-requires-clause-widths

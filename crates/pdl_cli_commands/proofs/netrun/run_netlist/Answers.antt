@@ -4,8 +4,8 @@ use Rattle.pdl_cli_args.specs.View.{text_of}
 use Rattle.pdl_netrun_lines.specs.Printed.{run_text, schedule}
 use Rattle.pdl_cli_commands.specs.Commands.{IsOutput}
 use Rattle.pdl_cli_commands.specs.Outcomes.{seen_of}
-use Rattle.pdl_cli_commands.proofs.Accepting.{is_output}
-use Rattle.pdl_cli_commands.proofs.Explaining.{silent, start_fails, source_start_fails, streamed_explains}
+use Rattle.pdl_cli_commands.proofs.AcceptedNetlists.{is_output}
+use Rattle.pdl_cli_commands.proofs.Explanations.{silent, start_fails, source_start_fails, streamed_explains}
 use Rattle.pdl_cli_commands.proofs.netrun.run_netlist.Goals as goal
 
 pub returns-in-Ok-clause-source : goal.returns-in-Ok-clause-source

@@ -1,5 +1,5 @@
 use Rattle.pdl_syntax_tree.specs.View.{pipe_view}
-use Rattle.pdl_cli_commands.proofs.Told.{net_names_short}
+use Rattle.pdl_cli_commands.proofs.ToldMemories.{net_names_short}
 use Rattle.pdl_cli_commands.proofs.run.run_accepted.Goals as goal
 
 pub run_netlist-requires-clause-well : goal.run_netlist-requires-clause-well

@@ -3,8 +3,8 @@ use Rattle.pdl_syntax_tree.specs.View.{pipe_view}
 use Rattle.pdl_semantics.specs.Lines.{seq_lines}
 use Rattle.pdl_cli_args.specs.Line.{seq}
 use Rattle.pdl_cli_commands.specs.Outcomes.{seen_of}
-use Rattle.pdl_cli_commands.proofs.Preparing.{is_loaded, image_fails}
-use Rattle.pdl_cli_commands.proofs.Explaining.{silent, streamed_explains}
+use Rattle.pdl_cli_commands.proofs.StartFailures.{is_loaded, image_fails}
+use Rattle.pdl_cli_commands.proofs.Explanations.{silent, streamed_explains}
 use Rattle.pdl_cli_commands.proofs.run.run_accepted_in_turn.Goals as goal
 
 pub returns-in-Ok-clause-explained : goal.returns-in-Ok-clause-explained

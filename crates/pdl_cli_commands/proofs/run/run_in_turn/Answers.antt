@@ -2,7 +2,7 @@ use Rattle.std.proofs.Common.{inl, refl, subst, sym}
 use Rattle.pdl_cli_args.specs.Line.{seq}
 use Rattle.pdl_kit.specs.Files.{Gives}
 use Rattle.pdl_cli_commands.specs.Outcomes.{seen_of}
-use Rattle.pdl_cli_commands.proofs.Explaining.{silent, source_fails, explained_before}
+use Rattle.pdl_cli_commands.proofs.Explanations.{silent, source_fails, explained_before}
 use Rattle.pdl_cli_commands.proofs.run.run_in_turn.Goals as goal
 
 pub run_accepted_in_turn-requires-clause-accepted : goal.run_accepted_in_turn-requires-clause-accepted

@@ -3,7 +3,7 @@ use Rattle.pdl_cli_args.specs.Line.{run}
 use Rattle.pdl_cli_args.specs.View.{text_of}
 use Rattle.pdl_kit.specs.Files.{Gives}
 use Rattle.pdl_cli_commands.specs.Outcomes.{seen_of}
-use Rattle.pdl_cli_commands.proofs.Explaining.{silent, source_fails, explained_before}
+use Rattle.pdl_cli_commands.proofs.Explanations.{silent, source_fails, explained_before}
 use Rattle.pdl_cli_commands.proofs.run.run_source.Goals as goal
 
 pub run_accepted-requires-clause-accepted : goal.run_accepted-requires-clause-accepted

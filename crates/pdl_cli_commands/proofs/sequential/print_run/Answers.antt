@@ -2,11 +2,11 @@ use Rattle.std.proofs.Common.{◌++◌, codes, map, subst}
 use Rattle.std.specs.Prelude.{decimal}
 use Rattle.pdl_kit.specs.Sinks.{TakesPrefix}
 use Rattle.pdl_semantics.specs.Flat.{arrays_of}
-use Rattle.pdl_form.specs.Whole.{form}
+use Rattle.pdl_form.specs.FormView.{form}
 use Rattle.pdl_law_parts.specs.Runs.{column_of}
 use Rattle.pdl_trace.specs.Passed.{HasPassed}
-use Rattle.pdl_trace.proofs.Passing.{whole_on, text_faulted}
-use Rattle.pdl_cli_commands.proofs.InTurn.{texts}
+use Rattle.pdl_trace.proofs.BytePieces.{whole_on, text_faulted}
+use Rattle.pdl_cli_commands.proofs.SequentialLines.{texts}
 use Rattle.pdl_cli_commands.proofs.sequential.print_run.Goals as goal
 
 pub returns-in_err-push_run-clause-bytes : goal.returns-in_err-push_run-clause-bytes

@@ -1,11 +1,11 @@
 use Rattle.std.proofs.Common.{◌≡◌, ◌∙◌, ◌++◌, ap, codes, map, subst}
 use Rattle.std.specs.Prelude.{decimal}
 use Rattle.pdl_semantics.specs.Flat.{arrays_of}
-use Rattle.pdl_form.specs.Whole.{form}
+use Rattle.pdl_form.specs.FormView.{form}
 use Rattle.pdl_law_parts.specs.Runs.{column_of}
 use Rattle.pdl_trace.specs.Passed.{Passes}
-use Rattle.pdl_trace.proofs.Passing.{prefix_front, both_on, faulted}
-use Rattle.pdl_cli_commands.proofs.InTurn.{texts, last_line}
+use Rattle.pdl_trace.proofs.BytePieces.{prefix_front, both_on, faulted}
+use Rattle.pdl_cli_commands.proofs.SequentialLines.{texts, last_line}
 use Rattle.pdl_cli_commands.proofs.sequential.push_run.Goals as goal
 
 pub returns-in_err-push_threads-clause-bytes : goal.returns-in_err-push_threads-clause-bytes

@@ -1,11 +1,11 @@
 use Rattle.std.proofs.Common.{◌≡◌, ◌∙◌, ◌+◌, ◌-◌, ◌++◌, ap, arith, length, map}
 use Rattle.std.specs.List.{flat_map}
 use Rattle.pdl_semantics.specs.Flat.{arrays_of}
-use Rattle.pdl_form.specs.Whole.{form}
+use Rattle.pdl_form.specs.FormView.{form}
 use Rattle.pdl_law_parts.specs.Runs.{column_of}
 use Rattle.pdl_seq.specs.Runs.{write_line}
-use Rattle.pdl_trace.proofs.Passing.{faulted}
-use Rattle.pdl_cli_commands.proofs.InTurn.{all_there, texts, told_piece, prefix_grows, thread_on, thread_off}
+use Rattle.pdl_trace.proofs.BytePieces.{faulted}
+use Rattle.pdl_cli_commands.proofs.SequentialLines.{all_there, texts, told_piece, prefix_grows, thread_on, thread_off}
 use Rattle.pdl_cli_commands.proofs.sequential.push_threads.Goals as goal
 
 pub push_writes-requires-clause-there : goal.push_writes-requires-clause-there

@@ -1,10 +1,10 @@
 use Rattle.std.proofs.Common.{◌≡◌, ◌≤◌, ◌-◌, ◌^◌, ◌++◌, ℕ, List, map, true}
 use Rattle.pdl_semantics.specs.Flat.{arrays_of}
-use Rattle.pdl_form.specs.Whole.{form}
+use Rattle.pdl_form.specs.FormView.{form}
 use Rattle.pdl_law_parts.specs.Runs.{column_of}
 use Rattle.pdl_seq.specs.Runs.{HasRun}
 use Rattle.pdl_trace.specs.Passed.{HasPassed}
-use Rattle.pdl_cli_commands.proofs.InTurn.{texts}
+use Rattle.pdl_cli_commands.proofs.SequentialLines.{texts}
 use Rattle.pdl_cli_commands.proofs.sequential.push_threads.Given as goal
 
 -- so many threads were run, and their lines are passed on

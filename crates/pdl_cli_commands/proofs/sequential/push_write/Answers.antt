@@ -3,7 +3,7 @@ use Rattle.pdl_semantics.specs.Lines.{put_line}
 use Rattle.pdl_law_parts.specs.Runs.{column_of}
 use Rattle.pdl_seq.specs.Runs.{write_line}
 use Rattle.pdl_trace.specs.Passed.{Passes}
-use Rattle.pdl_cli_commands.proofs.InTurn.{column_is}
+use Rattle.pdl_cli_commands.proofs.SequentialLines.{column_is}
 use Rattle.pdl_cli_commands.proofs.sequential.push_write.Goals as goal
 
 pub returns-clause-bytes : goal.returns-clause-bytes

@@ -3,7 +3,7 @@ use Rattle.std.specs.List.{flat_map}
 use Rattle.std.proofs.lemmas.List.{drop_all, drop_more}
 use Rattle.pdl_law_parts.specs.Runs.{column_of}
 use Rattle.pdl_seq.specs.Runs.{write_line}
-use Rattle.pdl_trace.proofs.Passing.{step_on, step_off, at_last, faulted}
+use Rattle.pdl_trace.proofs.BytePieces.{step_on, step_off, at_last, faulted}
 use Rattle.pdl_cli_commands.proofs.sequential.push_writes.Goals as goal
 
 pub returns-in_err-push_write-clause-bytes : goal.returns-in_err-push_write-clause-bytes

@@ -2,7 +2,7 @@ use Rattle.std.proofs.Common.{◌≤◌, ◌++◌, drop, map}
 use Rattle.std.specs.List.{flat_map}
 use Rattle.pdl_law_parts.specs.Runs.{column_of}
 use Rattle.pdl_seq.specs.Runs.{write_line}
-use Rattle.pdl_trace.proofs.Passing.{IsUnderWay}
+use Rattle.pdl_trace.proofs.BytePieces.{IsUnderWay}
 use Rattle.pdl_cli_commands.proofs.sequential.push_writes.Given as goal
 
 -- some lines are passed on, and the others are to come

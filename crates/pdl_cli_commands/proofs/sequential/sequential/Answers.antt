@@ -4,12 +4,12 @@ use Rattle.pdl_syntax_tree.specs.View.{pipe_view}
 use Rattle.pdl_semantics.specs.Flat.{arrays_of}
 use Rattle.pdl_semantics.specs.Lines.{seq_lines}
 use Rattle.pdl_form.specs.Form.{Form}
-use Rattle.pdl_form.specs.Whole.{form}
+use Rattle.pdl_form.specs.FormView.{form}
 use Rattle.pdl_rules.proofs.ToldMemories.{infos_count}
-use Rattle.pdl_cli_commands.proofs.Told.{names_short, widths_high}
+use Rattle.pdl_cli_commands.proofs.ToldMemories.{names_short, widths_high}
 use Rattle.pdl_law_parts.specs.Runs.{column_of}
-use Rattle.pdl_cli_commands.proofs.Explaining.{written_streamed}
-use Rattle.pdl_cli_commands.proofs.InTurn.{texts, printed}
+use Rattle.pdl_cli_commands.proofs.Explanations.{written_streamed}
+use Rattle.pdl_cli_commands.proofs.SequentialLines.{texts, printed}
 use Rattle.pdl_cli_commands.proofs.sequential.sequential.Goals as goal
 
 pub print_run-requires-clause-names : goal.print_run-requires-clause-names

@@ -5,7 +5,7 @@ use Rattle.pdl_vread.proofs.WellFormed.{reads_well}
 use Rattle.pdl_cli_commands.specs.Simulated.{HoldsNetlist}
 use Rattle.pdl_cli_commands.specs.Outcomes.{seen_of}
 use Rattle.pdl_cli_commands.proofs.ReadNames.{mems_short}
-use Rattle.pdl_cli_commands.proofs.Explaining.{silent, netlist_fails, explained_before}
+use Rattle.pdl_cli_commands.proofs.Explanations.{silent, netlist_fails, explained_before}
 use Rattle.pdl_cli_commands.proofs.simulated.simulate.Goals as goal
 
 pub run_netlist-requires-clause-well : goal.run_netlist-requires-clause-well

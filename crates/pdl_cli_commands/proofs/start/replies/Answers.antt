@@ -3,7 +3,7 @@ use Rattle.std.specs.Borrow.{Bor}
 use Rattle.pdl_cli_args.specs.View.{text_of}
 use Rattle.pdl_netrun_lines.specs.Printed.{schedule}
 use Rattle.pdl_cli_commands.specs.Replies.{IsSchedule}
-use Rattle.pdl_cli_commands.proofs.Accepting.{none_given}
+use Rattle.pdl_cli_commands.proofs.AcceptedNetlists.{none_given}
 use Rattle.pdl_cli_commands.proofs.start.replies.Goals as goal
 
 pub returns-in-None-clause-ok : goal.returns-in-None-clause-ok

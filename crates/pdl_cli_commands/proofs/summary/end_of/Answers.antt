@@ -7,8 +7,8 @@ use Rattle.pdl_netrun_lines.specs.Printed.{schedule}
 use Rattle.pdl_netrun_lines.specs.Tally.{counts_of}
 use Rattle.pdl_vread.proofs.Memories.{mems_wide}
 use Rattle.pdl_cli_commands.specs.Summaries.{image_of}
-use Rattle.pdl_cli_commands.proofs.Simulating.{two_outputs}
-use Rattle.pdl_cli_commands.proofs.Summing.{is_image, is_summary}
+use Rattle.pdl_cli_commands.proofs.OutputCount.{two_outputs}
+use Rattle.pdl_cli_commands.proofs.RunSummaries.{is_image, is_summary}
 use Rattle.pdl_cli_commands.proofs.summary.end_of.Goals as goal
 
 pub image_of-requires-clause-low : goal.image_of-requires-clause-low

@@ -1,5 +1,5 @@
 use Rattle.std.proofs.Common.{ap, ◌∙◌, ◌%◌, ◌^◌}
-use Rattle.pdl_cli_commands.proofs.Summing.{one_word_more}
+use Rattle.pdl_cli_commands.proofs.RunSummaries.{one_word_more}
 use Rattle.pdl_cli_commands.proofs.summary.words_in.Goals as goal
 
 pub loop-address-preserved : goal.loop-address-preserved

@@ -2,7 +2,7 @@ use Rattle.std.proofs.Common.{arith, ap, ◌∙◌}
 use Rattle.std.specs.Prelude.{count_by}
 use Rattle.pdl_kit.specs.declared.mem_info.MemInfo.{MemInfo}
 use Rattle.pdl_syntax_tree.specs.View.{pipe_view}
-use Rattle.pdl_cli_commands.proofs.Told.{told_count, few_told}
+use Rattle.pdl_cli_commands.proofs.ToldMemories.{told_count, few_told}
 use Rattle.pdl_cli_commands.proofs.viewed.few_delayed.Goals as goal
 
 pub overflow_cast-result : goal.overflow_cast-result

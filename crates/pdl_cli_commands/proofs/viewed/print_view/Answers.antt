@@ -2,7 +2,7 @@ use Rattle.std.proofs.Common.{◌≡◌, refl}
 use Rattle.pdl_syntax_tree.specs.View.{pipe_view}
 use Rattle.pdl_netrun_lines.specs.Printed.{schedule}
 use Rattle.pdl_machine_view.specs.Viewed.{view_text}
-use Rattle.pdl_cli_commands.proofs.Explaining.{streamed}
+use Rattle.pdl_cli_commands.proofs.Explanations.{streamed}
 use Rattle.pdl_cli_commands.proofs.viewed.print_view.Goals as goal
 
 pub returns-clause-text : goal.returns-clause-text

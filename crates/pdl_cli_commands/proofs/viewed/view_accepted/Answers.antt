@@ -7,7 +7,7 @@ use Rattle.pdl_cli_args.specs.Line.{view}
 use Rattle.pdl_cli_args.specs.View.{text_of}
 use Rattle.pdl_netrun_lines.specs.Printed.{schedule}
 use Rattle.pdl_cli_commands.specs.Outcomes.{seen_of}
-use Rattle.pdl_cli_commands.proofs.Explaining.{silent, pipe_start_fails, streamed_explains}
+use Rattle.pdl_cli_commands.proofs.Explanations.{silent, pipe_start_fails, streamed_explains}
 use Rattle.pdl_cli_commands.proofs.viewed.view_accepted.Goals as goal
 
 pub returns-in-Ok-clause-explained : goal.returns-in-Ok-clause-explained

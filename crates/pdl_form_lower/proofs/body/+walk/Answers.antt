@@ -10,7 +10,7 @@ use Rattle.pdl_form.specs.View.{stages_view, next_view, branch_view}
 use Rattle.pdl_form_lower.specs.Walking.{place_of, next_at, closed_stages}
 use Rattle.pdl_form_lower.proofs.Branches.{if_closed, entry_seen, guard_begun}
 use Rattle.pdl_form_lower.proofs.body.+walk.Goals as goal
-use Rattle.pdl_form.proofs.Staging.{length_stages}
+use Rattle.pdl_form.proofs.StageRows.{length_stages}
 
 pub branch-returns-clause-entry : goal.branch-returns-clause-entry
 branch-returns-clause-entry t c =

@@ -1,4 +1,4 @@
-use Rattle.pdl_form_lower.proofs.Leading.{next_seen}
+use Rattle.pdl_form_lower.proofs.StageWays.{next_seen}
 use Rattle.pdl_form_lower.proofs.body.way_on.Goals as goal
 
 pub returns : goal.returns

@@ -2,7 +2,7 @@ use Rattle.std.proofs.Common.{◌≡◌, map, ap, subst, ◌∙◌, IfOk}
 use Rattle.pdl_semantics.specs.Flatten.{Var}
 use Rattle.pdl_syntax_tree.specs.View as tree
 use Rattle.pdl_form.specs.View.{mems_view, mem_names, stmts_view, stages_view}
-use Rattle.pdl_form.specs.Whole.{form}
+use Rattle.pdl_form.specs.FormView.{form}
 use Rattle.pdl_form_lower.proofs.Forms.{form_made}
 use Rattle.pdl_form_lower.proofs.pipe.lower.Goals as goal
 

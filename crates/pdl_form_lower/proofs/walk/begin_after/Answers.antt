@@ -2,9 +2,9 @@ use Rattle.std.proofs.Common.{◌≡◌, ◌<◌, ◌++◌, suc, length, ap, ◌
 use Rattle.pdl_semantics.specs.Flat.{Goes}
 use Rattle.pdl_form.specs.View.{stages_view, branch_view}
 use Rattle.pdl_form_lower.specs.Walking.{leading}
-use Rattle.pdl_form_lower.proofs.Leading.{begun_after, stages_push}
+use Rattle.pdl_form_lower.proofs.StageWays.{begun_after, stages_push}
 use Rattle.pdl_form_lower.proofs.walk.begin_after.Goals as goal
-use Rattle.pdl_form.proofs.Staging.{length_stages}
+use Rattle.pdl_form.proofs.StageRows.{length_stages}
 
 pub returns-clause-graph : goal.returns-clause-graph
 returns-clause-graph c = λ rest.

@@ -1,4 +1,4 @@
-use Rattle.pdl_form_lower.proofs.Leading.{led}
+use Rattle.pdl_form_lower.proofs.StageWays.{led}
 use Rattle.pdl_form_lower.proofs.walk.lead.Goals as goal
 
 pub returns-clause-stages : goal.returns-clause-stages

@@ -1,4 +1,4 @@
-use Rattle.pdl_form_lower.proofs.Leading.{marked_one}
+use Rattle.pdl_form_lower.proofs.StageWays.{marked_one}
 use Rattle.pdl_form_lower.proofs.walk.mark.Goals as goal
 
 pub returns-clause-stages : goal.returns-clause-stages

@@ -1,7 +1,7 @@
 use Rattle.std.proofs.Common.{◌≡◌, sym, ap, ◌∙◌, map, unwrap_or, Ok, arith}
 use Rattle.std.proofs.lemmas.Grind.{common_steps}
 use Rattle.std.proofs.lemmas.Result.{err_from_is_err_and}
-use Rattle.pdl_image.proofs.Whole.{no_header, wrong_line, refusal_of, image_read, whole}
+use Rattle.pdl_image.proofs.WholeImage.{no_header, wrong_line, refusal_of, image_read, whole}
 use Rattle.pdl_image.proofs.read.read_image.Goals as goal
 
 pub returns-in_default-clause-refused : goal.returns-in_default-clause-refused

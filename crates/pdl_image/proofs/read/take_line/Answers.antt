@@ -1,6 +1,6 @@
 use Rattle.std.proofs.Common.{ℕ, sym, ap, get_or, List, Option}
 use Rattle.pdl_image.specs.Images.{Word}
-use Rattle.pdl_image.proofs.Filling.{IsNamed, nothing_taken, no_form, no_memory, word_follows}
+use Rattle.pdl_image.proofs.LineSteps.{IsNamed, nothing_taken, no_form, no_memory, word_follows}
 use Rattle.pdl_image.proofs.read.take_line.Goals as goal
 
 pub returns-then-says_nothing : goal.returns-then-says_nothing

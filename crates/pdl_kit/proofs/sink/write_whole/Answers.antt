@@ -1,7 +1,7 @@
 use Rattle.std.proofs.Common.{ap, ◌∙◌, ◌-◌, arith, length, length-drop, take, drop}
 use Rattle.std.proofs.lemmas.List.{length-take}
 use Rattle.pdl_kit.specs.Sinks.{with_bytes}
-use Rattle.pdl_kit.proofs.Told.{told_on}
+use Rattle.pdl_kit.proofs.ResumedWrites.{told_on}
 use Rattle.pdl_kit.proofs.sink.write_whole.Goals as goal
 
 pub loop-done-preserved : goal.loop-done-preserved

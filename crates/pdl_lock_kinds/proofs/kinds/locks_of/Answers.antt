@@ -2,14 +2,14 @@ use Rattle.std.proofs.Common.{◌≡◌, ◌++◌, ◌∙◌, List, sym, ap, sub
 use Rattle.std.specs.Prelude.{Option}
 use Rattle.std.proofs.lemmas.List.{drop_all}
 use Rattle.pdl_form.specs.declared.form.Mem as r_mem
-use Rattle.pdl_form.specs.Whole.{form}
+use Rattle.pdl_form.specs.FormView.{form}
 use Rattle.pdl_form.specs.View.{mems_view}
 use Rattle.pdl_lock_any.specs.declared.AnyLock.{AnyLock}
 use Rattle.pdl_lock_any.specs.Any.{any_kind, any_size, any_tickets, any_suits, any_placed, any_stands}
 use Rattle.pdl_pipe_walk.specs.Locked.{Members}
 use Rattle.pdl_pipe_locks.specs.Suited.{AreSuited}
-use Rattle.pdl_lock_kinds.specs.Asked.{locks_asked}
-use Rattle.pdl_lock_kinds.proofs.Suiting.{are_suited}
+use Rattle.pdl_lock_kinds.specs.AskedLocks.{locks_asked}
+use Rattle.pdl_lock_kinds.proofs.SuitedLocks.{are_suited}
 use Rattle.std.proofs.Common.{refl}
 use Rattle.pdl_lock_kinds.proofs.kinds.locks_of.Goals as goal
 

@@ -5,7 +5,7 @@ use Rattle.pdl_net.specs.Meaning.{signal}
 use Rattle.pdl_net.proofs.Keeps.{extends_trans}
 use Rattle.pdl_lock_ring.specs.Registers.{register_of}
 use Rattle.pdl_lock_ring.specs.Choices.{selected_signal}
-use Rattle.pdl_lock_ring.proofs.Kept.{row_kept, means_as, same_mux}
+use Rattle.pdl_lock_ring.proofs.RingGrowth.{row_kept, means_as, same_mux}
 use Rattle.pdl_lock_ring.proofs.Trees.{halved, selected_more, selected_width}
 use Rattle.pdl_lock_ring.proofs.choice.+emit_register.Goals as goal
 

@@ -2,8 +2,8 @@ use Rattle.std.proofs.Common.{◌≡◌, subst, arith}
 use Rattle.pdl_net.specs.Meaning.{Means}
 use Rattle.pdl_lockapi.specs.Laws.{step_signals}
 use Rattle.pdl_net.proofs.Keeps.{extends_keeps, extends_trans, means_keeps}
-use Rattle.pdl_lockapi.proofs.Kept.{same_signals}
-use Rattle.pdl_lock_ring.proofs.Kept.{ports_kept, ready_kept}
+use Rattle.pdl_lockapi.proofs.LockGrowth.{same_signals}
+use Rattle.pdl_lock_ring.proofs.RingGrowth.{ports_kept, ready_kept}
 use Rattle.pdl_lock_ring.specs.Steps.{filled_bit}
 use Rattle.pdl_lock_ring.proofs.Fills.{filling}
 use Rattle.pdl_lock_ring.proofs.fill.emit_bit.Goals as goal

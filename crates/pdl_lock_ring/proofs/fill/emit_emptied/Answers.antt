@@ -4,7 +4,7 @@ use Rattle.pdl_net.specs.Growth.{Extends}
 use Rattle.pdl_net.proofs.Keeps.{extends_trans}
 use Rattle.pdl_lockapi.specs.Laws.{step_signals}
 use Rattle.pdl_lock_ring.specs.Slots.{has_at}
-use Rattle.pdl_lock_ring.proofs.Kept.{means_as, same_mux, later_is}
+use Rattle.pdl_lock_ring.proofs.RingGrowth.{means_as, same_mux, later_is}
 use Rattle.pdl_lock_ring.proofs.Fills.{bit_none}
 use Rattle.pdl_lock_ring.proofs.fill.emit_emptied.Goals as goal
 

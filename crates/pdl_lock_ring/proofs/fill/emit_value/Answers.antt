@@ -1,8 +1,8 @@
 use Rattle.std.proofs.Common.{◌≡◌, arith}
 use Rattle.pdl_lockapi.specs.Laws.{step_signals}
 use Rattle.pdl_net.proofs.Keeps.{extends_keeps}
-use Rattle.pdl_lockapi.proofs.Kept.{same_signals}
-use Rattle.pdl_lock_ring.proofs.Kept.{ports_kept}
+use Rattle.pdl_lockapi.proofs.LockGrowth.{same_signals}
+use Rattle.pdl_lock_ring.proofs.RingGrowth.{ports_kept}
 use Rattle.pdl_lock_ring.proofs.Fills.{filling}
 use Rattle.pdl_lock_ring.proofs.fill.emit_value.Goals as goal
 

@@ -1,6 +1,6 @@
 use Rattle.std.proofs.Common.{◌^◌, ap, sym, ◌∙◌, arith}
-use Rattle.pdl_lock_ring.proofs.Sizes.{same_power}
 use Rattle.pdl_lock_ring.proofs.layout.address_bits.Goals as goal
+use Rattle.pdl_word.proofs.Numbers.{same_power}
 
 pub returns-clause-power : goal.returns-clause-power
 returns-clause-power c =

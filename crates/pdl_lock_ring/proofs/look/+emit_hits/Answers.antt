@@ -5,7 +5,7 @@ use Rattle.pdl_net.specs.Meaning.{signal}
 use Rattle.pdl_net.proofs.Keeps.{extends_trans}
 use Rattle.pdl_lock_ring.specs.Choices.{some_signal}
 use Rattle.pdl_lock_ring.specs.Looks.{hit_at}
-use Rattle.pdl_lock_ring.proofs.Kept.{slots_kept, means_as, same_mux}
+use Rattle.pdl_lock_ring.proofs.RingGrowth.{slots_kept, means_as, same_mux}
 use Rattle.pdl_lock_ring.proofs.Trees.{halved, some_more}
 use Rattle.pdl_lock_ring.proofs.look.+emit_hits.Goals as goal
 

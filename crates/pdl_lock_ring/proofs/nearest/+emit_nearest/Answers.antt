@@ -5,8 +5,8 @@ use Rattle.pdl_net.specs.Meaning.{signal}
 use Rattle.pdl_net.proofs.Keeps.{extends_keeps}
 use Rattle.pdl_lock_ring.specs.Looks.{key_at}
 use Rattle.pdl_lock_ring.specs.Seeks.{IsNearest}
-use Rattle.pdl_lock_ring.proofs.Kept.{slots_kept}
-use Rattle.pdl_lock_ring.proofs.Nearing.{nearest_keep, nearest_more}
+use Rattle.pdl_lock_ring.proofs.RingGrowth.{slots_kept}
+use Rattle.pdl_lock_ring.proofs.NearestSlots.{nearest_keep, nearest_more}
 use Rattle.pdl_lock_ring.proofs.Trees.{halved}
 use Rattle.pdl_lock_ring.proofs.nearest.+emit_nearest.Goals as goal
 

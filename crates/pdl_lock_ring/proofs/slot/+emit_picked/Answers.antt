@@ -4,10 +4,10 @@ use Rattle.pdl_net.specs.Growth.{Extends}
 use Rattle.pdl_net.specs.Meaning.{signal}
 use Rattle.pdl_net.proofs.Keeps.{extends_trans, extends_keeps}
 use Rattle.pdl_lockapi.specs.Laws.{StepSignals, step_signals}
-use Rattle.pdl_lockapi.proofs.Kept.{same_signals}
+use Rattle.pdl_lockapi.proofs.LockGrowth.{same_signals}
 use Rattle.pdl_lock_ring.specs.Choices.{selected_signal}
 use Rattle.pdl_lock_ring.specs.Steps.{slot_addr, slot_value}
-use Rattle.pdl_lock_ring.proofs.Kept.{ready_kept, means_as, same_mux}
+use Rattle.pdl_lock_ring.proofs.RingGrowth.{ready_kept, means_as, same_mux}
 use Rattle.pdl_lock_ring.proofs.Trees.{halved, selected_more}
 use Rattle.pdl_lock_ring.proofs.slot.+emit_picked.Goals as goal
 

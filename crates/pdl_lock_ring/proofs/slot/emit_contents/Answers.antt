@@ -1,11 +1,11 @@
 use Rattle.std.proofs.Common.{◌≡◌, ◌∙◌, ◌+◌, ◌*◌, ◌<◌, ap, arith}
 use Rattle.pdl_net.proofs.Keeps.{but_keeps, but_trans, but_extends, extends_refl}
 use Rattle.pdl_lockapi.specs.Laws.{StepSignals, step_signals}
-use Rattle.pdl_lockapi.proofs.Kept.{same_signals}
+use Rattle.pdl_lockapi.proofs.LockGrowth.{same_signals}
 use Rattle.pdl_lock_ring.specs.Slots.{value_at}
 use Rattle.pdl_lock_ring.specs.Steps.{own_contents, slot_value}
-use Rattle.pdl_lock_ring.proofs.Kept.{slots_kept_but, ports_kept_but}
-use Rattle.pdl_lock_ring.proofs.Whole.{reg_in_row, contents_none, contents_more}
+use Rattle.pdl_lock_ring.proofs.RingGrowth.{slots_kept_but, ports_kept_but}
+use Rattle.pdl_lock_ring.proofs.StepCalls.{reg_in_row, contents_none, contents_more}
 use Rattle.pdl_lock_ring.proofs.slot.emit_contents.Goals as goal
 
 pub loop-k-init : goal.loop-k-init

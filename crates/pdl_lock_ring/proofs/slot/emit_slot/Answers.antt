@@ -2,7 +2,7 @@ use Rattle.std.proofs.Common.{◌≡◌, subst}
 use Rattle.pdl_net.specs.Meaning.{Means}
 use Rattle.pdl_net.proofs.Keeps.{extends_keeps}
 use Rattle.pdl_lockapi.specs.Laws.{step_signals}
-use Rattle.pdl_lockapi.proofs.Kept.{same_signals}
+use Rattle.pdl_lockapi.proofs.LockGrowth.{same_signals}
 use Rattle.pdl_lock_ring.specs.Steps.{slot_value}
 use Rattle.pdl_lock_ring.proofs.slot.emit_slot.Goals as goal
 

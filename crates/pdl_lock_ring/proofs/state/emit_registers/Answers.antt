@@ -5,7 +5,7 @@ use Rattle.pdl_net.specs.Circuit.{Circuit}
 use Rattle.pdl_build.specs.Change.{IsNewReg}
 use Rattle.pdl_lock_ring.specs.declared.choice.Registers.{Registers}
 use Rattle.pdl_lock_ring.specs.Registers.{HasRow, row_of}
-use Rattle.pdl_lock_ring.proofs.Kept.{row_kept}
+use Rattle.pdl_lock_ring.proofs.RingGrowth.{row_kept}
 use Rattle.pdl_lock_ring.proofs.Rows.{new_kept, own_array_kept, slots_made}
 use Rattle.pdl_lock_ring.proofs.state.emit_registers.Goals as goal
 

@@ -5,7 +5,7 @@ use Rattle.pdl_net.specs.Growth.{Extends}
 use Rattle.pdl_net.proofs.Keeps.{extends_trans}
 use Rattle.pdl_lockapi.specs.Laws.{step_signals}
 use Rattle.pdl_lock_ring.specs.Steps.{oldest_addr, oldest_value, next_addr, next_value}
-use Rattle.pdl_lock_ring.proofs.Kept.{means_as, same_mux, later_is}
+use Rattle.pdl_lock_ring.proofs.RingGrowth.{means_as, same_mux, later_is}
 use Rattle.pdl_lock_ring.proofs.Ends.{release_is, release2_is}
 use Rattle.pdl_lock_ring.proofs.step.emit_commits.Goals as goal
 

@@ -3,9 +3,9 @@ use Rattle.pdl_net.specs.Meaning.{signal}
 use Rattle.pdl_net.specs.Growth.{Extends, ExtendsBut}
 use Rattle.pdl_net.proofs.Keeps.{extends_trans, extends_keeps}
 use Rattle.pdl_lockapi.specs.Laws.{StepSignals, step_signals}
-use Rattle.pdl_lockapi.proofs.Kept.{same_signals}
+use Rattle.pdl_lockapi.proofs.LockGrowth.{same_signals}
 use Rattle.pdl_lock_ring.specs.Steps.{head_after, tail_after}
-use Rattle.pdl_lock_ring.proofs.Kept.{later_is, slots_kept}
+use Rattle.pdl_lock_ring.proofs.RingGrowth.{later_is, slots_kept}
 use Rattle.pdl_lock_ring.proofs.step.emit_ends.Goals as goal
 
 pub returns-clause-next : goal.returns-clause-next

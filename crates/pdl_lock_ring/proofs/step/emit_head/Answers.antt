@@ -4,7 +4,7 @@ use Rattle.pdl_net.specs.Meaning.{signal}
 use Rattle.pdl_net.specs.Growth.{Extends}
 use Rattle.pdl_net.proofs.Keeps.{extends_trans}
 use Rattle.pdl_lockapi.specs.Laws.{step_signals}
-use Rattle.pdl_lock_ring.proofs.Kept.{means_as, same_mux, same_bin, later_is}
+use Rattle.pdl_lock_ring.proofs.RingGrowth.{means_as, same_mux, same_bin, later_is}
 use Rattle.pdl_lock_ring.proofs.Ends.{release_is, release2_is, head_is}
 use Rattle.pdl_lock_ring.proofs.step.emit_head.Goals as goal
 

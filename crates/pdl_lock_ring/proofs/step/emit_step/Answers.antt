@@ -10,9 +10,9 @@ use Rattle.pdl_lock_ring.specs.Slots.{layout_of, ticket_bits, Stands}
 use Rattle.pdl_lock_ring.specs.Ready.{HasPorts}
 use Rattle.pdl_lock_ring.specs.Oldest.{AreCommits}
 use Rattle.pdl_lock_ring.specs.Steps.{NextValues, oldest_addr, oldest_value, next_addr, next_value, own_all}
-use Rattle.pdl_lock_ring.proofs.Ended.{step_law, commit2_law}
+use Rattle.pdl_lock_ring.proofs.StepLaw.{step_law, commit2_law}
 use Rattle.pdl_lock_ring.proofs.Still.{still_law}
-use Rattle.pdl_lock_ring.proofs.Fitting.{tickets_fit}
+use Rattle.pdl_lock_ring.proofs.TicketWidths.{tickets_fit}
 use Rattle.pdl_lock_ring.proofs.Module.{own_is, commit_nets, commit2_nets}
 use Rattle.pdl_lock_ring.proofs.step.emit_step.Goals as goal
 

@@ -5,7 +5,7 @@ use Rattle.pdl_net.specs.Meaning.{signal}
 use Rattle.pdl_net.specs.Growth.{Extends}
 use Rattle.pdl_net.proofs.Keeps.{extends_trans}
 use Rattle.pdl_lockapi.specs.Laws.{step_signals}
-use Rattle.pdl_lock_ring.proofs.Kept.{means_as, same_mux, same_bin, later_is}
+use Rattle.pdl_lock_ring.proofs.RingGrowth.{means_as, same_mux, same_bin, later_is}
 use Rattle.pdl_lock_ring.proofs.Reserves.{push_width, push2_width}
 use Rattle.pdl_lock_ring.proofs.Ends.{squash_is, tail_is, tail_after_is}
 use Rattle.pdl_lock_ring.proofs.step.emit_tail.Goals as goal

@@ -2,7 +2,7 @@ use Rattle.std.proofs.Common.{◌≡◌, List, [], ◌∷◌, ◌++◌, ap, ◌�
 use Rattle.pdl_net.specs.Signal.{Signal}
 use Rattle.pdl_net.specs.Meaning.{signal, WriteSignal, write_signals}
 use Rattle.pdl_lockapi.specs.Laws.{step_signals}
-use Rattle.pdl_lock_ring.proofs.Whole.{writes_one, writes_two, same_write}
+use Rattle.pdl_lock_ring.proofs.StepCalls.{writes_one, writes_two, same_write}
 use Rattle.pdl_lock_ring.proofs.step.emit_write.Goals as goal
 
 pub returns-then-off-clause-write : goal.returns-then-off-clause-write

@@ -5,7 +5,7 @@ use Rattle.pdl_net.specs.Meaning.{Means, signal}
 use Rattle.pdl_net.specs.Growth.{Extends}
 use Rattle.pdl_net.proofs.Keeps.{extends_trans}
 use Rattle.pdl_lockapi.specs.Laws.{ReserveSignal, enabled_reserve, step_signals, reserve_at, reserve_signal}
-use Rattle.pdl_lock_ring.proofs.Kept.{means_as, same_mux, later_is}
+use Rattle.pdl_lock_ring.proofs.RingGrowth.{means_as, same_mux, later_is}
 use Rattle.pdl_lock_ring.proofs.Reserves.{taken_means, reserve_is, push_width, push2_width}
 use Rattle.pdl_lock_ring.proofs.taken.emit_ask.Goals as goal
 

@@ -1,9 +1,9 @@
 use Rattle.std.proofs.Common.{◌≡◌, sym, subst}
 use Rattle.pdl_net.proofs.Keeps.{extends_keeps, extends_trans, means_kept}
 use Rattle.pdl_lockapi.specs.Laws.{step_signals}
-use Rattle.pdl_lockapi.proofs.Kept.{same_signals}
+use Rattle.pdl_lockapi.proofs.LockGrowth.{same_signals}
 use Rattle.pdl_lock_ring.specs.Asks.{IsAsked, IsAskedNext}
-use Rattle.pdl_lock_ring.proofs.Kept.{ports_kept}
+use Rattle.pdl_lock_ring.proofs.RingGrowth.{ports_kept}
 use Rattle.pdl_lock_ring.proofs.Reserves.{asked_none, asked_more}
 use Rattle.pdl_lock_ring.proofs.taken.emit_asked.Goals as goal
 

@@ -6,10 +6,10 @@ use Rattle.pdl_net.specs.Meaning.{Means, signal}
 use Rattle.pdl_net.specs.Growth.{Extends}
 use Rattle.pdl_net.proofs.Keeps.{extends_trans, extends_keeps}
 use Rattle.pdl_lockapi.specs.Laws.{StepSignals, step_signals}
-use Rattle.pdl_lockapi.proofs.Kept.{same_signals}
+use Rattle.pdl_lockapi.proofs.LockGrowth.{same_signals}
 use Rattle.pdl_lock_ring.specs.Looks.{slot_of, tail_signal, second_ticket}
 use Rattle.pdl_lock_ring.specs.Steps.{push_signal, push2_signal, last_addr, before_addr, pushes, pushes2, first_addr, second_addr, first_slot, second_slot}
-use Rattle.pdl_lock_ring.proofs.Kept.{means_as, same_mux, later_is, ports_kept}
+use Rattle.pdl_lock_ring.proofs.RingGrowth.{means_as, same_mux, later_is, ports_kept}
 use Rattle.pdl_lock_ring.proofs.Reserves.{push_width, push2_width, reserves_count, first_addr_is, second_addr_is, first_slot_is, second_slot_is}
 use Rattle.pdl_lock_ring.proofs.taken.emit_taken.Goals as goal
 

@@ -10,7 +10,7 @@ use Rattle.pdl_net.proofs.Keeps.{keeps_trans, extends_trans, extends_keeps, but_
 use Rattle.pdl_build.specs.Change.{input_port, output_port}
 use Rattle.pdl_lockapi.specs.declared.Kind.TheVariants.{R}
 use Rattle.pdl_lockapi.specs.Laws.{StepSignals, step_signals, StepLaw, LookLaw, OwnKept, IsFragment, own}
-use Rattle.pdl_lockapi.proofs.Kept.{fragment_kept, own_here, own_kept_ports}
+use Rattle.pdl_lockapi.proofs.LockGrowth.{fragment_kept, own_here, own_kept_ports}
 use Rattle.pdl_lockapi.proofs.Sequential.{driven, driven_is, follows, IsDriver, driver_there, driver_fits, no_ports_kept, inputs_as}
 use Rattle.pdl_lockapi.proofs.writer.emit_driven.Goals as goal
 

@@ -7,7 +7,7 @@ use Rattle.pdl_paths.specs.declared.action.Action.TheVariants.{Reserve}
 use Rattle.pdl_paths.specs.Actions.{place_at}
 use Rattle.pdl_paths.specs.Guards.{branch_view}
 use Rattle.pdl_locks.specs.Uses.{IsOwn, IsUsedMemory}
-use Rattle.pdl_locks.proofs.Counted.{up_to_four, any_counted}
+use Rattle.pdl_locks.proofs.BoundedCounts.{up_to_four, any_counted}
 use Rattle.pdl_locks.proofs.at_memories.is_one_too_many.Goals as goal
 
 pub returns-in-R : goal.returns-in-R

@@ -2,7 +2,7 @@ use Rattle.std.proofs.Common.{ap₂, ◌∙◌, [], ◌∷◌, ◌++◌}
 use Rattle.pdl_syntax_tree.specs.View.{pipe_view}
 use Rattle.pdl_paths.specs.Actions.{place_view}
 use Rattle.pdl_locks.specs.Bound.{last_at}
-use Rattle.pdl_locks.proofs.Ahead.{one_more}
+use Rattle.pdl_locks.proofs.FirstMatch.{one_more}
 use Rattle.pdl_locks.proofs.bound.last_stages.Goals as goal
 
 pub loop-place-preserved : goal.loop-place-preserved

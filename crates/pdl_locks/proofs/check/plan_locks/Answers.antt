@@ -7,7 +7,7 @@ use Rattle.pdl_rules_on_paths.specs.Lowest.{line_where}
 use Rattle.pdl_rules_on_paths.proofs.Lines.{rule_lines}
 use Rattle.pdl_rules_stages.specs.declared.astray.Kinds.TheVariants.{Locks}
 use Rattle.pdl_rules_stages.specs.Astray.{is_astray}
-use Rattle.pdl_locks.proofs.Told.{told, later, none_more, after_l1, after_l2, after_l3, after_l4, after_l5, after_l6, after_l7}
+use Rattle.pdl_locks.proofs.LowestRule.{told, later, none_more, after_l1, after_l2, after_l3, after_l4, after_l5, after_l6, after_l7}
 use Rattle.pdl_locks.proofs.check.plan_locks.Goals as goal
 
 pub returns-in_err-refuse-2 : goal.returns-in_err-refuse-2

@@ -2,7 +2,7 @@ use Rattle.std.proofs.Common.{◌≡◌, sym, ◌∙◌, ◌+◌, map, drop, ari
 use Rattle.pdl_syntax_tree.specs.View.{location_view}
 use Rattle.pdl_paths.specs.Actions.{place_view}
 use Rattle.pdl_locks.specs.Numbers.{is_at, first_place}
-use Rattle.pdl_locks.proofs.Ahead.{is_first, is_later}
+use Rattle.pdl_locks.proofs.FirstMatch.{is_first, is_later}
 use Rattle.pdl_locks.proofs.numbers.first_place.Goals as goal
 
 pub returns-then-is_at : goal.returns-then-is_at

@@ -1,7 +1,7 @@
 use Rattle.std.proofs.Common.{ap₂, ◌∙◌, [], ◌∷◌, ◌++◌, map}
 use Rattle.pdl_paths.specs.Actions.{place_view}
 use Rattle.pdl_locks.specs.Numbers.{number_at}
-use Rattle.pdl_locks.proofs.Ahead.{one_more}
+use Rattle.pdl_locks.proofs.FirstMatch.{one_more}
 use Rattle.pdl_locks.proofs.numbers.first_places.Goals as goal
 
 pub loop-place-preserved : goal.loop-place-preserved

@@ -1,7 +1,7 @@
 use Rattle.std.proofs.Common.{◌∙◌, refl, ap, sym, subst, map}
 use Rattle.pdl_paths.specs.Actions.{place_view}
 use Rattle.pdl_paths.specs.Masks.{are_distinct}
-use Rattle.pdl_paths.proofs.Distinct.{guards_distinct}
+use Rattle.pdl_paths.proofs.DistinctGuards.{guards_distinct}
 use Rattle.pdl_locks.specs.declared.numbers.Keys.TheVariants.{Locations, Memories}
 use Rattle.pdl_locks.specs.Numbers.{AreNumbered}
 use Rattle.pdl_locks.proofs.walk.lock_path_rules.Goals as goal

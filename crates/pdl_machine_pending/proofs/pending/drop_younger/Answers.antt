@@ -1,7 +1,7 @@
 use Rattle.std.proofs.Common.{rules, map, ap, ◌∙◌}
 use Rattle.std.proofs.lemmas.Fn.{filter_same}
 use Rattle.pdl_machine_pending.specs.View.{pending_view}
-use Rattle.pdl_machine_pending.proofs.Dropping.{left_filtered}
+use Rattle.pdl_machine_pending.proofs.DroppedWrites.{left_filtered}
 use Rattle.pdl_machine_pending.proofs.pending.drop_younger.Goals as goal
 
 pub returns-clause-entries : goal.returns-clause-entries

@@ -1,9 +1,9 @@
 use Rattle.std.proofs.Common.{rules, map, ap, ◌∙◌}
 use Rattle.std.proofs.lemmas.Fn.{filter_same}
-use Rattle.pdl_form.specs.Whole.{form}
+use Rattle.pdl_form.specs.FormView.{form}
 use Rattle.pdl_machine_run.specs.View.{awaited_view}
 use Rattle.pdl_machine_run.specs.Outside.{outside}
-use Rattle.pdl_machine_run.proofs.Answering.{unanswered_filtered}
+use Rattle.pdl_machine_run.proofs.AnswerLists.{unanswered_filtered}
 use Rattle.pdl_machine_run.proofs.answers.drop_answered.Goals as goal
 
 pub returns-clause-awaits : goal.returns-clause-awaits

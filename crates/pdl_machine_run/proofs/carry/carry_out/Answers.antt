@@ -1,14 +1,15 @@
 use Rattle.std.proofs.Common.{◌≡◌, ◌∙◌, sym, ap, subst, ℕ, Option, Some, length}
 use Rattle.std.specs.Prelude.{IfSome}
 use Rattle.pdl_semantics.specs.Machine.{Thread, with_answers}
-use Rattle.pdl_form.specs.Whole.{form}
+use Rattle.pdl_form.specs.FormView.{form}
 use Rattle.pdl_machine_facts.specs.Use.{before_stage}
 use Rattle.pdl_machine_run.specs.View.{thread_of, thread_if, thread_in, deeds_view}
 use Rattle.pdl_machine_run.specs.Outside.{outside}
 use Rattle.pdl_machine_run.specs.Acts.{IsCarried}
 use Rattle.pdl_machine_run.specs.Typed.{IsFine, AreFit}
-use Rattle.pdl_machine_run.proofs.Carrying.{carried_deeds, stage_few, room_less, begun_fit, answers_fine}
+use Rattle.pdl_machine_run.proofs.CarriedDeeds.{carried_deeds, room_less, begun_fit, answers_fine}
 use Rattle.pdl_machine_run.proofs.carry.carry_out.Goals as goal
+use Rattle.pdl_machine_run.proofs.DeedWidths.{stage_few}
 
 pub run_stage-requires-clause-fit : goal.run_stage-requires-clause-fit
 run_stage-requires-clause-fit c =

@@ -2,11 +2,11 @@ use Rattle.std.proofs.Common.{◌≡◌, ◌++◌, ◌∷◌, ◌∙◌, [], sym
 use Rattle.pdl_word.specs.Words.{bit}
 use Rattle.pdl_semantics.specs.Cycle as stated
 use Rattle.pdl_machine_facts.specs.Ports.{stage_values}
-use Rattle.pdl_form.specs.Whole.{form}
+use Rattle.pdl_form.specs.FormView.{form}
 use Rattle.pdl_machine_run.specs.View.{thread_in}
 use Rattle.pdl_machine_run.specs.Acts.{acts_of, are_held, are_moving, one_ends, commits_shown}
 use Rattle.pdl_machine_run.specs.Requests.{requests_shown}
-use Rattle.pdl_machine_run.proofs.Counted.{stages_shown, commits_most, requests_most}
+use Rattle.pdl_machine_run.proofs.PortCounts.{stages_shown, commits_most, requests_most}
 use Rattle.pdl_machine_run.proofs.Turns.{Turn, turn_of, turn_steps, turn_orders, turn_child, turn_awaits, turn_ports, turn_ready, turn_state, turn_beside, shown_all}
 use Rattle.pdl_machine_run.proofs.cycle.cycle.Goals as goal
 

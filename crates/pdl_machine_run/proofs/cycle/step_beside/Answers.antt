@@ -8,7 +8,7 @@ use Rattle.pdl_machine_pending.specs.Memory.{Memory}
 use Rattle.pdl_machine_run.specs.declared.beside.Order as r_order
 use Rattle.pdl_machine_run.specs.Acts.{acts_of, commits_shown}
 use Rattle.pdl_machine_run.specs.Ready.{AreOrders}
-use Rattle.pdl_machine_run.proofs.Counted.{commits_most}
+use Rattle.pdl_machine_run.proofs.PortCounts.{commits_most}
 use Rattle.pdl_machine_run.proofs.cycle.step_beside.Goals as goal
 
 pub show_requests-requires : goal.show_requests-requires

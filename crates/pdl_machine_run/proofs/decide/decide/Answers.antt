@@ -1,9 +1,9 @@
 use Rattle.std.proofs.Common.{◌≡◌, ◌<◌, ◌+◌, ◌-◌, ◌∙◌, refl, length, get_or, arith}
 use Rattle.std.proofs.lemmas.List.{length-set}
-use Rattle.pdl_form.specs.Whole.{form}
+use Rattle.pdl_form.specs.FormView.{form}
 use Rattle.pdl_machine_run.specs.declared.stage.Stage as r_stage
-use Rattle.pdl_machine_run.proofs.Moving.{map_set}
-use Rattle.pdl_machine_run.proofs.Deciding.{decided_more}
+use Rattle.pdl_machine_run.proofs.StageMoves.{map_set}
+use Rattle.pdl_machine_run.proofs.Movers.{decided_more}
 use Rattle.pdl_machine_run.proofs.decide.decide.Goals as goal
 
 pub loop-k-preserved : goal.loop-k-preserved

@@ -1,4 +1,4 @@
-use Rattle.pdl_form.specs.Whole.{form}
+use Rattle.pdl_form.specs.FormView.{form}
 use Rattle.pdl_machine_run.proofs.decide.locks_ready.Goals as goal
 
 pub returns : goal.returns

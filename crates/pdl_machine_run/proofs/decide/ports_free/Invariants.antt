@@ -1,5 +1,5 @@
 use Rattle.std.proofs.Common.{◌≡◌, map, drop}
-use Rattle.pdl_form.specs.Whole.{form}
+use Rattle.pdl_form.specs.FormView.{form}
 use Rattle.pdl_machine_run.specs.View.{ask_view}
 use Rattle.pdl_machine_run.specs.Outside.{outside}
 use Rattle.pdl_machine_run.specs.Acts.{all_of}

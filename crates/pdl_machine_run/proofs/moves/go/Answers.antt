@@ -1,6 +1,6 @@
 use Rattle.std.proofs.Common.{◌<◌, sym, subst, length, arith}
 use Rattle.pdl_machine_run.specs.Ready.{AreStages}
-use Rattle.pdl_machine_run.proofs.Moving.{stages_set, stages_swap}
+use Rattle.pdl_machine_run.proofs.StageMoves.{stages_set, stages_swap}
 use Rattle.pdl_machine_run.proofs.moves.go.Goals as goal
 
 pub returns-clause-wide : goal.returns-clause-wide

@@ -1,10 +1,10 @@
 use Rattle.std.proofs.Common.{◌≡◌, ◌≤◌, ◌<◌, ◌+◌, ◌-◌, ◌∙◌, ap, ℕ, length, drop, get_or, arith}
 use Rattle.pdl_semantics.specs.Cycle.{next_thread}
-use Rattle.pdl_form.specs.Whole.{form}
+use Rattle.pdl_form.specs.FormView.{form}
 use Rattle.pdl_machine_run.specs.declared.stage.Stage as r_stage
 use Rattle.pdl_machine_run.specs.View.{thread_in}
 use Rattle.pdl_machine_run.specs.Acts.{all_of}
-use Rattle.pdl_machine_run.proofs.Moving.{moved}
+use Rattle.pdl_machine_run.proofs.StageMoves.{moved}
 use Rattle.pdl_machine_run.proofs.moves.move_on.Goals as goal
 
 pub loop-k-preserved : goal.loop-k-preserved

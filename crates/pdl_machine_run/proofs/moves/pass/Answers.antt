@@ -2,11 +2,11 @@ use Rattle.std.proofs.Common.{rules, ◌≡◌, ◌≢◌, ◌∙◌, sym, ap, a
 use Rattle.std.proofs.lemmas.List.{get_or-set_same, get_or-set_other, get_or_default}
 use Rattle.pdl_semantics.specs.Moves.{next_stage}
 use Rattle.pdl_semantics.specs.Cycle.{is_stage, thread_after}
-use Rattle.pdl_form.specs.Whole.{form}
+use Rattle.pdl_form.specs.FormView.{form}
 use Rattle.pdl_machine_run.specs.declared.stage.Stage as r_stage
 use Rattle.pdl_machine_run.specs.View.{deeds_view, thread_of, thread_in}
 use Rattle.pdl_machine_run.specs.Acts.{mover_of}
-use Rattle.pdl_machine_run.proofs.Moving.{passed, stages_set}
+use Rattle.pdl_machine_run.proofs.StageMoves.{passed, stages_set}
 use Rattle.pdl_machine_run.proofs.moves.pass.Goals as goal
 
 pub returns-clause-there : goal.returns-clause-there

@@ -3,7 +3,7 @@ use Rattle.pdl_semantics.specs.Cycle as stated
 use Rattle.pdl_word.proofs.Lists.{drop_next}
 use Rattle.pdl_machine_run.specs.declared.stage.Stage as r_stage
 use Rattle.pdl_machine_run.specs.Acts.{mover_of, acts_of}
-use Rattle.pdl_machine_run.proofs.Acting.{squasher_on}
+use Rattle.pdl_machine_run.proofs.ActLists.{squasher_on}
 use Rattle.pdl_machine_run.proofs.moves.squasher.Goals as goal
 
 pub loop-stage-preserved : goal.loop-stage-preserved

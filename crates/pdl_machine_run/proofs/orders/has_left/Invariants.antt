@@ -1,5 +1,5 @@
 use Rattle.std.proofs.Common.{◌≡◌, drop}
-use Rattle.pdl_form.specs.Whole.{form}
+use Rattle.pdl_form.specs.FormView.{form}
 use Rattle.pdl_machine_run.specs.Acts.{acts_of}
 use Rattle.pdl_semantics.specs.Cycle as stated
 use Rattle.pdl_machine_run.proofs.orders.has_left.Given as goal

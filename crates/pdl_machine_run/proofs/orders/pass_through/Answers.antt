@@ -1,9 +1,9 @@
 use Rattle.std.proofs.Common.{◌≡◌, ◌++◌, ◌∙◌, sym, ap, ap₂, List, Bool, if◌then◌else◌, length, length-append, arith}
 use Rattle.pdl_semantics.specs.Cycle as stated
-use Rattle.pdl_form.specs.Whole.{form}
+use Rattle.pdl_form.specs.FormView.{form}
 use Rattle.pdl_machine_run.specs.Acts.{acts_of}
 use Rattle.pdl_machine_run.specs.Orders.{listed}
-use Rattle.pdl_machine_run.proofs.Acting.{entered_here}
+use Rattle.pdl_machine_run.proofs.ActLists.{entered_here}
 use Rattle.pdl_machine_run.proofs.orders.pass_through.Goals as goal
 
 pub enter-requires : goal.enter-requires

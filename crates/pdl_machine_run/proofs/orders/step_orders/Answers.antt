@@ -2,7 +2,7 @@ use Rattle.std.proofs.Common.{◌≡◌, ◌≤◌, ◌∙◌, ◌<◌, sym, sub
 use Rattle.std.specs.Prelude.{vec_capacity}
 use Rattle.std.proofs.lemmas.List.{drop_more}
 use Rattle.pdl_word.proofs.Lists.{head_same}
-use Rattle.pdl_form.specs.Whole.{form}
+use Rattle.pdl_form.specs.FormView.{form}
 use Rattle.pdl_machine_run.specs.declared.beside.Order as r_order
 use Rattle.pdl_machine_run.specs.Acts.{acts_of}
 use Rattle.pdl_machine_run.specs.Orders.{order_after}

@@ -1,5 +1,5 @@
 use Rattle.std.proofs.Common.{◌≡◌, ◌++◌, ℕ, take, drop}
-use Rattle.pdl_form.specs.Whole.{form}
+use Rattle.pdl_form.specs.FormView.{form}
 use Rattle.pdl_machine_run.specs.View.{order_views}
 use Rattle.pdl_machine_run.specs.Acts.{acts_of}
 use Rattle.pdl_machine_run.specs.Orders.{orders_after}

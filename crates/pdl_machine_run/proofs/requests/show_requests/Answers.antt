@@ -3,7 +3,7 @@ use Rattle.pdl_machine_run.specs.Acts.{acts_of}
 use Rattle.pdl_machine_facts.specs.Ports.{request_values}
 use Rattle.pdl_machine_run.specs.Requests.{requests_shown}
 use Rattle.pdl_form.specs.View.{mems_view}
-use Rattle.pdl_machine_run.proofs.Showing.{requests_more}
+use Rattle.pdl_machine_run.proofs.PortValues.{requests_more}
 use Rattle.pdl_machine_run.proofs.requests.show_requests.Goals as goal
 
 pub loop-m-preserved : goal.loop-m-preserved

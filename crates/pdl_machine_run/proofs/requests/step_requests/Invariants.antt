@@ -1,5 +1,5 @@
 use Rattle.std.proofs.Common.{◌≡◌, ◌++◌, map, take, drop}
-use Rattle.pdl_form.specs.Whole.{form}
+use Rattle.pdl_form.specs.FormView.{form}
 use Rattle.pdl_machine_run.specs.View.{request_view}
 use Rattle.pdl_machine_run.specs.Acts.{acts_of}
 use Rattle.pdl_machine_run.specs.Requests.{requests_after}

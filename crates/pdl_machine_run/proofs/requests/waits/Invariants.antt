@@ -1,5 +1,5 @@
 use Rattle.std.proofs.Common.{◌≡◌, map, drop}
-use Rattle.pdl_form.specs.Whole.{form}
+use Rattle.pdl_form.specs.FormView.{form}
 use Rattle.pdl_machine_run.specs.View.{request_view}
 use Rattle.pdl_semantics.specs.Cycle as stated
 use Rattle.pdl_machine_run.proofs.requests.waits.Given as goal

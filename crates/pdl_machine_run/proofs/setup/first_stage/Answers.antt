@@ -1,6 +1,6 @@
 use Rattle.std.proofs.Common.{◌∙◌, sym, ap, ℕ, List, Some}
 use Rattle.pdl_semantics.specs.Cycle.{born_thread}
-use Rattle.pdl_form.specs.Whole.{form}
+use Rattle.pdl_form.specs.FormView.{form}
 use Rattle.pdl_machine_run.proofs.setup.first_stage.Goals as goal
 
 pub returns-clause-stands : goal.returns-clause-stands

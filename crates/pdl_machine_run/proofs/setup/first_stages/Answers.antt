@@ -1,11 +1,11 @@
 use Rattle.std.proofs.Common.{◌≡◌, ◌+◌, ◌++◌, ◌∷◌, [], ◌∙◌, sym, ap, subst, List, arith}
 use Rattle.std.specs.Prelude.{vec_len}
-use Rattle.pdl_form.specs.Whole.{form}
+use Rattle.pdl_form.specs.FormView.{form}
 use Rattle.pdl_machine_run.specs.declared.stage.Stage as r_stage
 use Rattle.pdl_machine_run.specs.View.{seats}
 use Rattle.pdl_machine_run.specs.Ready.{AreStages}
 use Rattle.pdl_machine_run.specs.Firsts.{seats_first}
-use Rattle.pdl_machine_run.proofs.First.{seats_push, stages_push}
+use Rattle.pdl_machine_run.proofs.FirstState.{seats_push, stages_push}
 use Rattle.pdl_machine_run.proofs.setup.first_stages.Goals as goal
 
 pub loop-alloc-preserved : goal.loop-alloc-preserved

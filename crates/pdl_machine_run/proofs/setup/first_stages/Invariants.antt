@@ -1,6 +1,6 @@
 use Rattle.std.proofs.Common.{◌≡◌, ◌≤◌, ◌-◌}
 use Rattle.std.specs.Prelude.{vec_len}
-use Rattle.pdl_form.specs.Whole.{form}
+use Rattle.pdl_form.specs.FormView.{form}
 use Rattle.pdl_machine_run.specs.View.{seats}
 use Rattle.pdl_machine_run.specs.Ready.{AreStages}
 use Rattle.pdl_machine_run.specs.Firsts.{seats_first}

@@ -1,7 +1,7 @@
 use Rattle.std.proofs.Common.{◌≡◌, ◌<◌, [], ℕ, length}
 use Rattle.std.specs.Prelude.{slice_index_or}
-use Rattle.pdl_form.specs.Whole.{form}
-use Rattle.pdl_machine_run.specs.Doing.{memory_at}
+use Rattle.pdl_form.specs.FormView.{form}
+use Rattle.pdl_machine_run.specs.StageDeeds.{memory_at}
 use Rattle.pdl_machine_run.specs.Running.{IsFirst}
 use Rattle.pdl_semantics.specs.Stages.{mem_at}
 use Rattle.pdl_machine_run.proofs.setup.memories.Given as goal

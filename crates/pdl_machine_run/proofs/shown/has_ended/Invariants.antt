@@ -1,5 +1,5 @@
 use Rattle.std.proofs.Common.{◌≡◌, drop}
-use Rattle.pdl_form.specs.Whole.{form}
+use Rattle.pdl_form.specs.FormView.{form}
 use Rattle.pdl_machine_run.specs.Acts.{acts_of, one_ends}
 use Rattle.pdl_machine_run.proofs.shown.has_ended.Given as goal
 

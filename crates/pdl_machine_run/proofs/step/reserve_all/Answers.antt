@@ -2,7 +2,7 @@ use Rattle.std.proofs.Common.{◌≡◌, ◌≤◌, ◌<◌, ◌+◌, ◌-◌, s
 use Rattle.pdl_semantics.specs.Cycle as stated
 use Rattle.pdl_machine_pending.specs.Memory.{Memory}
 use Rattle.pdl_machine_run.specs.Acts.{mover_of, act_of, acts_of}
-use Rattle.pdl_machine_run.proofs.Stepping.{room_here}
+use Rattle.pdl_machine_run.proofs.MoverDeeds.{room_here}
 use Rattle.pdl_machine_run.proofs.step.reserve_all.Goals as goal
 
 pub reserve_stage-requires : goal.reserve_stage-requires

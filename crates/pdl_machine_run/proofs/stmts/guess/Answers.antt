@@ -2,7 +2,7 @@ use Rattle.std.proofs.Common.{◌≡◌, ◌∙◌, ap, ℕ, List, length, arith
 use Rattle.std.specs.Prelude.{vec_capacity}
 use Rattle.std.proofs.lemmas.List.{length-map}
 use Rattle.pdl_form.specs.View.{expr_view, exprs_view}
-use Rattle.pdl_form_values.proofs.Fitting.{values_count}
+use Rattle.pdl_form_values.proofs.ValueWidths.{values_count}
 use Rattle.pdl_machine_run.specs.Room.{Capacities}
 use Rattle.pdl_machine_run.proofs.stmts.guess.Goals as goal
 

@@ -3,12 +3,12 @@ use Rattle.std.proofs.lemmas.List.{length-drop}
 use Rattle.pdl_semantics.specs.Flat.{Stmt}
 use Rattle.pdl_semantics.specs.Machine.{Deeds, deeds_after_all}
 use Rattle.pdl_form.specs.Form.{stmt_at}
-use Rattle.pdl_form.specs.Whole.{form}
+use Rattle.pdl_form.specs.FormView.{form}
 use Rattle.pdl_form.specs.View.{stmt_view}
 use Rattle.pdl_machine_run.specs.View.{deeds_view}
 use Rattle.pdl_machine_run.specs.Room.{HasRoomFor, IsLarge}
-use Rattle.pdl_machine_run.specs.Doing.{word_of}
-use Rattle.pdl_machine_run.proofs.Fitting.{safe_op, fit_more}
+use Rattle.pdl_machine_run.specs.StageDeeds.{word_of}
+use Rattle.pdl_machine_run.proofs.DeedWidths.{safe_op, fit_more}
 use Rattle.pdl_machine_run.proofs.Rows.{row_typed, row_split}
 use Rattle.pdl_machine_run.proofs.stmts.run_stage.Goals as goal
 

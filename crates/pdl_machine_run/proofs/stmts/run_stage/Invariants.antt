@@ -1,9 +1,9 @@
 use Rattle.std.proofs.Common.{◌≡◌, map, drop, length}
-use Rattle.pdl_form.specs.Whole.{form}
+use Rattle.pdl_form.specs.FormView.{form}
 use Rattle.pdl_machine_run.specs.View.{deeds_view}
 use Rattle.pdl_machine_run.specs.Typed.{AreFit}
 use Rattle.pdl_machine_run.specs.Room.{HasRoomFor, capacities}
-use Rattle.pdl_machine_run.specs.Doing.{word_of}
+use Rattle.pdl_machine_run.specs.StageDeeds.{word_of}
 use Rattle.pdl_form.specs.Form.{stmt_at}
 use Rattle.pdl_semantics.specs.Machine as machine
 use Rattle.pdl_machine_run.proofs.stmts.run_stage.Given as goal

@@ -1,7 +1,7 @@
 use Rattle.std.proofs.Common.{◌≡◌, ◌∙◌, ap, ℕ, List, length, arith}
 use Rattle.std.proofs.lemmas.List.{length-map}
 use Rattle.pdl_form.specs.View.{expr_view, exprs_view}
-use Rattle.pdl_form_values.proofs.Fitting.{values_count}
+use Rattle.pdl_form_values.proofs.ValueWidths.{values_count}
 use Rattle.pdl_semantics.specs.Flat.{values_of}
 use Rattle.pdl_machine_run.proofs.stmts.verify.Goals as goal
 

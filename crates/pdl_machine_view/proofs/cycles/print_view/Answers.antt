@@ -1,7 +1,7 @@
 use Rattle.std.proofs.Common.{◌++◌, arith, subst}
 use Rattle.pdl_netrun_lines.specs.Printed.{schedule}
 use Rattle.pdl_trace.specs.Passed.{HasPassed}
-use Rattle.pdl_trace.proofs.Passing.{prefix_off}
+use Rattle.pdl_trace.proofs.BytePieces.{prefix_off}
 use Rattle.pdl_machine.specs.Running.{flat_of, state_of}
 use Rattle.pdl_machine_view.specs.Lines.{lines_from}
 use Rattle.pdl_machine_view.proofs.cycles.print_view.Goals as goal

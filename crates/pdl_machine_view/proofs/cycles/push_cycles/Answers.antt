@@ -1,9 +1,9 @@
 use Rattle.std.proofs.Common.{◌∙◌, ◌+◌, ◌++◌, arith, sym}
 use Rattle.pdl_netrun_lines.specs.Printed.{schedule}
-use Rattle.pdl_trace.proofs.Passing.{at_last, faulted, step_off, step_on}
+use Rattle.pdl_trace.proofs.BytePieces.{at_last, faulted, step_off, step_on}
 use Rattle.pdl_machine.specs.Running.{flat_of, state_of}
 use Rattle.pdl_machine_view.specs.Lines.{cycle_line, lines_from}
-use Rattle.pdl_machine_view.proofs.Running.{left, left_none, same_stages, stages_there, cycle_step}
+use Rattle.pdl_machine_view.proofs.ViewedRuns.{left, left_none, same_stages, stages_there, cycle_step}
 use Rattle.pdl_machine_view.proofs.cycles.push_cycles.Goals as goal
 
 pub push_line-requires-clause-shown : goal.push_line-requires-clause-shown

@@ -1,9 +1,9 @@
 use Rattle.std.proofs.Common.{◌≡◌, ◌≤◌, ◌+◌, ◌++◌}
 use Rattle.pdl_netrun_lines.specs.Printed.{schedule}
-use Rattle.pdl_trace.proofs.Passing.{IsUnderWay}
+use Rattle.pdl_trace.proofs.BytePieces.{IsUnderWay}
 use Rattle.pdl_machine.specs.Running.{flat_of, state_of}
 use Rattle.pdl_machine_view.specs.Lines.{lines_from}
-use Rattle.pdl_machine_view.proofs.Running.{left}
+use Rattle.pdl_machine_view.proofs.ViewedRuns.{left}
 use Rattle.pdl_machine_view.proofs.cycles.push_cycles.Given as goal
 
 -- what was done, with what is left, is the whole

@@ -5,7 +5,7 @@ use Rattle.pdl_stages.specs.Graph.{Graph}
 use Rattle.pdl_law_parts.proofs.WellFormedStages.{few_stages}
 use Rattle.pdl_netrun_lines.specs.Printed.{schedule}
 use Rattle.pdl_trace.specs.Passed.{Streams}
-use Rattle.pdl_machine_view.proofs.Running.{begun}
+use Rattle.pdl_machine_view.proofs.ViewedRuns.{begun}
 use Rattle.pdl_machine_view.proofs.cycles.view.Goals as goal
 
 pub print_view-requires-clause-stages : goal.print_view-requires-clause-stages

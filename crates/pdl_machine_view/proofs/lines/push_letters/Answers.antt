@@ -1,5 +1,5 @@
 use Rattle.std.proofs.Common.{◌≡◌, ◌∙◌, ◌+◌, ◌-◌, ◌++◌, [], ◌∷◌, ap, arith, sym}
-use Rattle.pdl_trace.proofs.Passing.{faulted, step_off, step_on}
+use Rattle.pdl_trace.proofs.BytePieces.{faulted, step_off, step_on}
 use Rattle.pdl_machine_view.specs.Lines.{letters_from}
 use Rattle.pdl_machine_view.proofs.Letters.{letters_step}
 use Rattle.pdl_machine_view.proofs.lines.push_letters.Goals as goal

@@ -1,5 +1,5 @@
 use Rattle.std.proofs.Common.{◌≤◌, ◌-◌, ◌++◌}
-use Rattle.pdl_trace.proofs.Passing.{IsUnderWay}
+use Rattle.pdl_trace.proofs.BytePieces.{IsUnderWay}
 use Rattle.pdl_machine_view.specs.Lines.{letters_from}
 use Rattle.pdl_machine_view.proofs.lines.push_letters.Given as goal
 

@@ -1,6 +1,6 @@
 use Rattle.std.proofs.Common.{◌++◌, codes}
 use Rattle.std.specs.Prelude.{decimal}
-use Rattle.pdl_trace.proofs.Passing.{both_on}
+use Rattle.pdl_trace.proofs.BytePieces.{both_on}
 use Rattle.pdl_machine_view.specs.Lines.{letters_from}
 use Rattle.pdl_machine_view.proofs.lines.push_line.Goals as goal
 

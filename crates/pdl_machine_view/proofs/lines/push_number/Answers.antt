@@ -1,6 +1,6 @@
 use Rattle.std.proofs.Common.{◌≡◌, ◌∙◌, ◌++◌, codes, decimal, subst}
 use Rattle.pdl_trace.specs.Passed.{HasPassed}
-use Rattle.pdl_trace.proofs.Passing.{both_on}
+use Rattle.pdl_trace.proofs.BytePieces.{both_on}
 use Rattle.pdl_machine_view.proofs.lines.push_number.Goals as goal
 
 pub returns-clause-bytes : goal.returns-clause-bytes

@@ -1,6 +1,6 @@
 use Rattle.std.proofs.Common.{rules, ap, get_or}
 use Rattle.pdl_net.specs.Circuit.{circuit_of}
-use Rattle.pdl_net.proofs.Fix.{no_cell}
+use Rattle.pdl_net.proofs.CellSignals.{no_cell}
 use Rattle.pdl_net.proofs.Widths.{nets, fits_now, width_now}
 use Rattle.pdl_net.proofs.Netlist.check_net.Goals as goal
 

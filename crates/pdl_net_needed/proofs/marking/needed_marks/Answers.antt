@@ -2,7 +2,7 @@ use Rattle.std.proofs.Common.{flat_map}
 use Rattle.pdl_net.specs.declared.Port.{Port}
 use Rattle.pdl_net.specs.Circuit.{circuit_of}
 use Rattle.pdl_net_needed.specs.Needed.{shown_by}
-use Rattle.pdl_net_needed.proofs.Marked.{ports_within, arrays_within, marking_ready}
+use Rattle.pdl_net_needed.proofs.MarkedNets.{ports_within, arrays_within, marking_ready}
 use Rattle.pdl_net_needed.proofs.marking.needed_marks.Goals as goal
 
 pub need_ports-requires : goal.need_ports-requires

@@ -4,7 +4,7 @@ use Rattle.pdl_net.specs.declared.Netlist.{Netlist}
 use Rattle.pdl_net.specs.Circuit.{circuit_of}
 use Rattle.pdl_net_needed.specs.Pruned.{kept_of, moved_port, moved_reg, moved_array, moved_cell, pruned}
 use Rattle.pdl_net_needed.proofs.Copies.{same_mem, same_netlist}
-use Rattle.pdl_net_needed.proofs.Marked.{ports_marked, regs_marked, cells_marked, arrays_marked}
+use Rattle.pdl_net_needed.proofs.MarkedNets.{ports_marked, regs_marked, cells_marked, arrays_marked}
 use Rattle.pdl_net_needed.proofs.parts.pruned_netlist.Goals as goal
 
 pub ports-requires : goal.ports-requires

@@ -1,7 +1,7 @@
 use Rattle.std.proofs.Common.{◌+◌, ◌++◌, ◌<◌, ◌∙◌, ℕ, List, Option, Vec, Global, ap, ap₂, bytes_eq, codes, drop, length, subst, sym}
 use Rattle.std.specs.Prelude.{position}
 use Rattle.pdl_kit.specs.declared.mem_info.MemInfo.{MemInfo}
-use Rattle.pdl_netrun_lines.proofs.Ordering.{AreSoFar, one_more, none_more, input_more}
+use Rattle.pdl_netrun_lines.proofs.CommitPorts.{AreSoFar, one_more, none_more, input_more}
 use Rattle.pdl_netrun_lines.proofs.commits.commit_order.Goals.{in-Out+in-Some+in_ok-push, in-Out+in_default-committing, in_default}
 use Rattle.pdl_netrun_lines.proofs.commits.commit_order.Goals as goal
 

@@ -1,5 +1,5 @@
 use Rattle.std.proofs.Common.{drop}
-use Rattle.pdl_netrun_lines.proofs.Ordering.{AreSoFar}
+use Rattle.pdl_netrun_lines.proofs.CommitPorts.{AreSoFar}
 use Rattle.pdl_netrun_lines.proofs.commits.commit_order.Given as goal
 
 -- the numbers so far, and the ports to come

@@ -7,8 +7,8 @@ use Rattle.pdl_net.specs.Circuit.{circuit_of}
 use Rattle.pdl_net.specs.Run.{commit_of, mem_at, no_mem}
 use Rattle.pdl_law_parts.specs.Runs.{column_of, commit_mems, puts_of}
 use Rattle.pdl_trace.specs.Passed.{HasPassed}
-use Rattle.pdl_trace.proofs.Passing.{step_on, step_off, at_last, faulted}
-use Rattle.pdl_netrun_lines.proofs.Printing.{lines_of, lines_next}
+use Rattle.pdl_trace.proofs.BytePieces.{step_on, step_off, at_last, faulted}
+use Rattle.pdl_netrun_lines.proofs.CycleLines.{lines_of, lines_next}
 use Rattle.pdl_netrun_lines.proofs.commits.push_commits.Goals as goal
 
 pub returns-in_err-push_commit-clause-bytes : goal.returns-in_err-push_commit-clause-bytes

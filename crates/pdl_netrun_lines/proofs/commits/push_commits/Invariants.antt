@@ -1,8 +1,8 @@
 use Rattle.std.proofs.Common.{◌≤◌, ◌++◌, drop, map}
 use Rattle.pdl_net.specs.Circuit.{circuit_of}
 use Rattle.pdl_net.specs.Run.{commit_of, mem_at}
-use Rattle.pdl_trace.proofs.Passing.{IsUnderWay}
-use Rattle.pdl_netrun_lines.proofs.Printing.{lines_of}
+use Rattle.pdl_trace.proofs.BytePieces.{IsUnderWay}
+use Rattle.pdl_netrun_lines.proofs.CycleLines.{lines_of}
 use Rattle.pdl_netrun_lines.proofs.commits.push_commits.Given as goal
 
 -- some lines are passed on, and the others are to come

@@ -1,6 +1,6 @@
 use Rattle.std.proofs.Common.{◌+◌, ap, ◌∙◌}
 use Rattle.pdl_law_parts.specs.Runs.{cycle_of}
-use Rattle.pdl_netrun_lines.proofs.Running.{whole, left, sim_step, counted_more}
+use Rattle.pdl_netrun_lines.proofs.RunSteps.{whole, left, sim_step, counted_more}
 use Rattle.pdl_netrun_lines.proofs.print.count_cycles.Goals as goal
 
 pub loop-done-preserved : goal.loop-done-preserved

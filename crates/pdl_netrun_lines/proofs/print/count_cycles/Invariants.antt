@@ -1,5 +1,5 @@
 use Rattle.std.proofs.Common.{◌≡◌}
-use Rattle.pdl_netrun_lines.proofs.Running.{Counted, whole, left}
+use Rattle.pdl_netrun_lines.proofs.RunSteps.{Counted, whole, left}
 use Rattle.pdl_netrun_lines.proofs.print.count_cycles.Given as goal
 
 -- those so far are counted

@@ -2,7 +2,7 @@ use Rattle.std.proofs.Common.{◌++◌, arith, map, subst}
 use Rattle.pdl_semantics.specs.Lines.{lines}
 use Rattle.pdl_law_parts.specs.Runs.{column_of, commit_mems}
 use Rattle.pdl_trace.specs.Passed.{HasPassed}
-use Rattle.pdl_trace.proofs.Passing.{prefix_off}
+use Rattle.pdl_trace.proofs.BytePieces.{prefix_off}
 use Rattle.pdl_netrun_lines.specs.Printed.{cycles_from, schedule}
 use Rattle.pdl_netrun_lines.proofs.print.print_run.Goals as goal
 

@@ -2,11 +2,11 @@ use Rattle.std.proofs.Common.{◌≡◌, ◌∙◌, ◌++◌, ap, length, map, s
 use Rattle.pdl_semantics.specs.Lines.{end_line, lines_from}
 use Rattle.pdl_law_parts.specs.Runs.{column_of, commit_mems}
 use Rattle.pdl_trace.specs.Passed.{Passes}
-use Rattle.pdl_trace.proofs.Passing.{prefix_front, both_on, faulted}
+use Rattle.pdl_trace.proofs.BytePieces.{prefix_front, both_on, faulted}
 use Rattle.pdl_netrun_lines.specs.Printed.{cycles_from, schedule}
 use Rattle.pdl_netrun_lines.specs.Tally.{counts_of}
 use Rattle.pdl_netrun_lines.specs.declared.print.Counts.{Counts}
-use Rattle.pdl_netrun_lines.proofs.Running.{run_length}
+use Rattle.pdl_netrun_lines.proofs.RunSteps.{run_length}
 use Rattle.pdl_netrun_lines.proofs.print.push_run.Goals as goal
 
 pub returns-in_err-counts-clause-bytes : goal.returns-in_err-counts-clause-bytes

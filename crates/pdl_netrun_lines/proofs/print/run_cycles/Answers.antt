@@ -2,8 +2,8 @@ use Rattle.std.proofs.Common.{◌≡◌, ◌∙◌, ◌+◌, ◌++◌, ap, arith
 use Rattle.pdl_semantics.specs.Lines.{cycle_lines, lines_from}
 use Rattle.pdl_net.specs.declared.Netlist.{Netlist}
 use Rattle.pdl_law_parts.specs.Runs.{column_of, commit_mems, cycle_of}
-use Rattle.pdl_trace.proofs.Passing.{step_on, step_off, faulted}
-use Rattle.pdl_netrun_lines.proofs.Running.{whole, left, sim_step, lines_step, counted_more}
+use Rattle.pdl_trace.proofs.BytePieces.{step_on, step_off, faulted}
+use Rattle.pdl_netrun_lines.proofs.RunSteps.{whole, left, sim_step, lines_step, counted_more}
 use Rattle.pdl_netrun_lines.proofs.print.run_cycles.Goals as goal
 
 pub returns-in_err-push_commits-clause-bytes : goal.returns-in_err-push_commits-clause-bytes

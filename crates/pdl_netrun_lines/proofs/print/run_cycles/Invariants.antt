@@ -1,8 +1,8 @@
 use Rattle.std.proofs.Common.{◌≡◌, ◌≤◌, ◌+◌, ◌++◌, map}
 use Rattle.pdl_semantics.specs.Lines.{lines_from}
 use Rattle.pdl_law_parts.specs.Runs.{column_of, commit_mems}
-use Rattle.pdl_trace.proofs.Passing.{IsUnderWay}
-use Rattle.pdl_netrun_lines.proofs.Running.{Counted, whole, left}
+use Rattle.pdl_trace.proofs.BytePieces.{IsUnderWay}
+use Rattle.pdl_netrun_lines.proofs.RunSteps.{Counted, whole, left}
 use Rattle.pdl_netrun_lines.proofs.print.run_cycles.Given as goal
 
 -- what was done, with what is left, is the whole

@@ -1,11 +1,11 @@
 use Rattle.std.proofs.Common.{◌≡◌, ◌∙◌, ◌++◌, ◌==◌, ap, append_assoc, arith, subst, sym}
-use Rattle.pdl_trace.proofs.Passing.{at_first, faulted, passes_on, step_off}
+use Rattle.pdl_trace.proofs.BytePieces.{at_first, faulted, passes_on, step_off}
 use Rattle.pdl_trace.specs.Passed.{Passes}
 use Rattle.pdl_wave.specs.Moments.{changes}
 use Rattle.pdl_wave.specs.Dump.{ended, time_text}
 use Rattle.pdl_wave.proofs.Form.{row_length}
 use Rattle.pdl_netrun_wave.specs.Cycles.{known, changes_text, cycle_text}
-use Rattle.pdl_netrun_wave.proofs.Fitting.{outputs_count}
+use Rattle.pdl_netrun_wave.proofs.PortWidths.{outputs_count}
 use Rattle.pdl_netrun_wave.proofs.Texts.{loud_text, quiet_same}
 use Rattle.pdl_netrun_wave.proofs.cycles.push_cycle.Goals as goal
 

@@ -1,11 +1,11 @@
 use Rattle.std.proofs.Common.{◌∙◌, ◌+◌, ◌++◌, ◌<◌, ◌^◌, ℕ, ap, ap₂, arith, drop, get_or, set, subst, sym}
 use Rattle.std.proofs.lemmas.List.{append-nil, drop_all, take_all}
-use Rattle.pdl_trace.proofs.Passing.{at_last, faulted, step_off, step_on}
+use Rattle.pdl_trace.proofs.BytePieces.{at_last, faulted, step_off, step_on}
 use Rattle.pdl_wave.specs.Moments.{changes}
 use Rattle.pdl_wave.specs.Dump.{width_of}
 use Rattle.pdl_wave.proofs.Form.{row_length, value_fits}
 use Rattle.pdl_netrun_wave.specs.Cycles.{known, changes_text, port_text}
-use Rattle.pdl_netrun_wave.proofs.Fitting.{outputs_count}
+use Rattle.pdl_netrun_wave.proofs.PortWidths.{outputs_count}
 use Rattle.pdl_netrun_wave.proofs.Texts.{port_step, value_taken}
 use Rattle.pdl_netrun_wave.proofs.cycles.push_ports.Goals as goal
 

@@ -1,5 +1,5 @@
 use Rattle.std.proofs.Common.{◌≡◌, ◌≤◌, ◌++◌, take, drop}
-use Rattle.pdl_trace.proofs.Passing.{IsUnderWay}
+use Rattle.pdl_trace.proofs.BytePieces.{IsUnderWay}
 use Rattle.pdl_wave.specs.Moments.{changes}
 use Rattle.pdl_netrun_wave.specs.Cycles.{known, changes_text}
 use Rattle.pdl_netrun_wave.proofs.cycles.push_ports.Given as goal

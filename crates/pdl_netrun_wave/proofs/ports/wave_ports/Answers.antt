@@ -3,7 +3,7 @@ use Rattle.std.specs.Prelude.{filter_map}
 use Rattle.std.proofs.lemmas.List.{drop_all}
 use Rattle.pdl_wave.specs.declared.port.WavePort.{WavePort}
 use Rattle.pdl_netrun_wave.specs.Dumped.{wave_port}
-use Rattle.pdl_netrun_wave.proofs.Fitting.{output_more, input_more}
+use Rattle.pdl_netrun_wave.proofs.PortWidths.{output_more, input_more}
 use Rattle.pdl_netrun_wave.proofs.ports.wave_ports.Goals.{in-Out+in_ok-name+in_ok-push, in_default}
 use Rattle.pdl_netrun_wave.proofs.ports.wave_ports.Goals as goal
 

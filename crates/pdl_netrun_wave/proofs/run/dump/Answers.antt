@@ -9,7 +9,7 @@ use Rattle.pdl_wave.specs.declared.port.WavePort.{WavePort}
 use Rattle.pdl_wave.specs.Dump.{dump}
 use Rattle.pdl_netrun_wave.specs.Cycles.{AreDumpable, IsFit}
 use Rattle.pdl_netrun_wave.specs.Dumped.{wave_ports, rows_of}
-use Rattle.pdl_netrun_wave.proofs.Fitting.{dumpable, fit_start}
+use Rattle.pdl_netrun_wave.proofs.PortWidths.{dumpable, fit_start}
 use Rattle.pdl_netrun_wave.proofs.run.dump.Goals as goal
 
 pub print_dump-requires-clause-dumpable : goal.print_dump-requires-clause-dumpable

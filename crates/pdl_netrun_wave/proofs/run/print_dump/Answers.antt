@@ -1,8 +1,8 @@
 use Rattle.std.proofs.Common.{◌++◌, arith, subst}
 use Rattle.pdl_trace.specs.Passed.{HasPassed}
-use Rattle.pdl_trace.proofs.Passing.{prefix_off}
+use Rattle.pdl_trace.proofs.BytePieces.{prefix_off}
 use Rattle.pdl_wave.specs.Dump.{dump}
-use Rattle.pdl_netrun_wave.proofs.Running.{whole}
+use Rattle.pdl_netrun_wave.proofs.DumpedRuns.{whole}
 use Rattle.pdl_netrun_wave.proofs.run.print_dump.Goals as goal
 
 pub returns-in-Err-clause-text : goal.returns-in-Err-clause-text

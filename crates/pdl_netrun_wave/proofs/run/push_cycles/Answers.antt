@@ -1,10 +1,10 @@
 use Rattle.std.proofs.Common.{◌≡◌, ◌∙◌, ◌+◌, ◌++◌, ap, arith, length, sym}
 use Rattle.pdl_netrun.specs.Sim.{Run}
-use Rattle.pdl_trace.proofs.Passing.{faulted, step_off, step_on}
+use Rattle.pdl_trace.proofs.BytePieces.{faulted, step_off, step_on}
 use Rattle.pdl_wave.proofs.Form.{row_length}
 use Rattle.pdl_netrun_wave.specs.Cycles.{cycle_text, cycles_text}
 use Rattle.pdl_netrun_wave.specs.Dumped.{wave_ports}
-use Rattle.pdl_netrun_wave.proofs.Running.{whole, left, shown, fit_after, cycle_step}
+use Rattle.pdl_netrun_wave.proofs.DumpedRuns.{whole, left, shown, fit_after, cycle_step}
 use Rattle.pdl_netrun_wave.proofs.run.push_cycles.Goals as goal
 
 pub push_cycle-requires-clause-shown : goal.push_cycle-requires-clause-shown

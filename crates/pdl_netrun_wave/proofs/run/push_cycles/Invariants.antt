@@ -1,7 +1,7 @@
 use Rattle.std.proofs.Common.{◌≡◌, ◌≤◌, ◌+◌, ◌-◌, ◌++◌, length}
 use Rattle.pdl_net.specs.Run.{nports_from}
 use Rattle.pdl_netrun_lines.specs.Printed.{replies_from, schedule}
-use Rattle.pdl_trace.proofs.Passing.{IsUnderWay}
+use Rattle.pdl_trace.proofs.BytePieces.{IsUnderWay}
 use Rattle.pdl_netrun_wave.specs.Cycles.{cycles_text, IsFit}
 use Rattle.pdl_netrun_wave.specs.Dumped.{rows_of}
 use Rattle.pdl_netrun_wave.proofs.run.push_cycles.Given as goal

@@ -1,9 +1,9 @@
 use Rattle.std.proofs.Common.{◌≡◌, ◌∙◌, ◌+◌, ◌++◌, ap, flat_map, length, sym, refl}
-use Rattle.pdl_trace.proofs.Passing.{at_first, faulted, step_off, step_on}
+use Rattle.pdl_trace.proofs.BytePieces.{at_first, faulted, step_off, step_on}
 use Rattle.pdl_wave.specs.Dump.{dump, ended, header, time_text}
 use Rattle.pdl_netrun_wave.specs.Cycles.{cycles_text}
 use Rattle.pdl_netrun_wave.proofs.Texts.{dump_text}
-use Rattle.pdl_netrun_wave.proofs.Running.{whole, left_length, finish_on}
+use Rattle.pdl_netrun_wave.proofs.DumpedRuns.{whole, left_length, finish_on}
 use Rattle.pdl_netrun_wave.proofs.run.push_dump.Goals as goal
 
 pub returns-in_err-push_header-clause-bytes : goal.returns-in_err-push_header-clause-bytes

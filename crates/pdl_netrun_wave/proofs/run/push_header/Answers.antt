@@ -1,6 +1,6 @@
 use Rattle.std.proofs.Common.{◌≡◌, ◌∙◌, ◌+◌, ◌++◌, ap, arith, drop, flat_map, get_or, sym, []}
 use Rattle.std.proofs.lemmas.List.{drop_all}
-use Rattle.pdl_trace.proofs.Passing.{at_first, at_last, faulted, step_off, step_on}
+use Rattle.pdl_trace.proofs.BytePieces.{at_first, at_last, faulted, step_off, step_on}
 use Rattle.pdl_wave.specs.Dump.{ended, header}
 use Rattle.pdl_netrun_wave.proofs.Texts.{header_length, next_line}
 use Rattle.pdl_netrun_wave.proofs.run.push_header.Goals as goal

@@ -1,5 +1,5 @@
 use Rattle.std.proofs.Common.{◌≤◌, ◌++◌, drop, flat_map}
-use Rattle.pdl_trace.proofs.Passing.{IsUnderWay}
+use Rattle.pdl_trace.proofs.BytePieces.{IsUnderWay}
 use Rattle.pdl_wave.specs.Dump.{ended, header}
 use Rattle.pdl_netrun_wave.proofs.run.push_header.Given as goal
 

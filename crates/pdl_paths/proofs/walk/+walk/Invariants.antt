@@ -2,7 +2,7 @@ use Rattle.std.proofs.Common.{◌≡◌, map, drop, ◌++◌}
 use Rattle.pdl_rules.specs.Places.{statements}
 use Rattle.pdl_syntax_tree.specs.View.{stmts_view}
 use Rattle.pdl_paths.specs.Guards.{branch_view}
-use Rattle.pdl_paths.specs.Shown.{masked_view, masked_place}
+use Rattle.pdl_paths.specs.MaskedPlaces.{masked_view, masked_place}
 use Rattle.pdl_paths.proofs.walk.+walk.Given as goal
 
 -- what is there and what is to come are the whole

@@ -1,5 +1,5 @@
 use Rattle.std.proofs.Common.{◌≡◌, map, take, ◌++◌}
-use Rattle.pdl_paths.specs.Shown.{masked_view, memory}
+use Rattle.pdl_paths.specs.MaskedPlaces.{masked_view, memory}
 use Rattle.pdl_paths.proofs.walk.add_mems.Given as goal
 
 -- those so far are added

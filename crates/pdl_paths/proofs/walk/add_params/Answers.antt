@@ -1,5 +1,5 @@
 use Rattle.std.proofs.Common.{ap, ◌∙◌, map}
-use Rattle.pdl_paths.specs.Shown.{masked_view, parameter}
+use Rattle.pdl_paths.specs.MaskedPlaces.{masked_view, parameter}
 use Rattle.pdl_paths.proofs.Walks.{pushed}
 use Rattle.pdl_paths.proofs.walk.add_params.Goals as goal
 

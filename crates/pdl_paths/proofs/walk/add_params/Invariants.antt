@@ -1,5 +1,5 @@
 use Rattle.std.proofs.Common.{◌≡◌, map, take, ◌++◌}
-use Rattle.pdl_paths.specs.Shown.{masked_view, parameter}
+use Rattle.pdl_paths.specs.MaskedPlaces.{masked_view, parameter}
 use Rattle.pdl_paths.proofs.walk.add_params.Given as goal
 
 -- those so far are added

@@ -2,8 +2,8 @@ use Rattle.std.proofs.Common.{◌≡◌, ap, ◌∙◌, map, [], ◌++◌}
 use Rattle.pdl_rules.specs.Places.{places, statements, End, StartClause}
 use Rattle.pdl_syntax_tree.specs.View.{pipe_view, span_view, start_view, stmts_view}
 use Rattle.pdl_paths.specs.Guards.{branch_view}
-use Rattle.pdl_paths.specs.Shown.{masked_view, masked_place, parameter, memory}
-use Rattle.pdl_paths.proofs.Seen.{seen_places, seen_masks, whole, one_more}
+use Rattle.pdl_paths.specs.MaskedPlaces.{masked_view, masked_place, parameter, memory}
+use Rattle.pdl_paths.proofs.PlacesAndMasks.{seen_places, seen_masks, whole, one_more}
 use Rattle.pdl_paths.proofs.walk.places.Goals as goal
 
 pub returns : goal.returns

@@ -1,13 +1,13 @@
 use Rattle.std.proofs.Common.{◌≡◌, sym, ap, ◌∙◌, subst, length, []}
 use Rattle.pdl_net.proofs.Keeps.{extends_refl}
-use Rattle.pdl_form.specs.Whole.{form}
+use Rattle.pdl_form.specs.FormView.{form}
 use Rattle.pdl_pipe_walk.specs.Locked.{members}
 use Rattle.pdl_pipe_outputs.specs.Inputs.{AreReplies, AreWhereRead}
 use Rattle.pdl_pipe_beside.specs.Ports.{AreInputs, has_port}
 use Rattle.pdl_pipe_beside.specs.Parts.{AreParts}
 use Rattle.pdl_port.specs.Laws.{own as port_own}
 use Rattle.pdl_pipe.specs.Emitted.{HasMemoriesIn}
-use Rattle.pdl_pipe.proofs.Beginning.{empty_shapes, no_arrays, inputs_now, memories_now}
+use Rattle.pdl_pipe.proofs.NetlistStart.{empty_shapes, no_arrays, inputs_now, memories_now}
 use Rattle.pdl_pipe.proofs.emitting.emit_all.Goals as goal
 
 pub memories-requires-clause-none : goal.memories-requires-clause-none

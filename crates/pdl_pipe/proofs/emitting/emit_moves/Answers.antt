@@ -4,8 +4,8 @@ use Rattle.pdl_net.proofs.Keeps.{extends_keeps}
 use Rattle.pdl_pipe_answers.specs.Ports.{IsBit}
 use Rattle.pdl_pipe_walk.specs.Locked.{members}
 use Rattle.pdl_pipe_nexts.specs.Lines.{line_pipe}
-use Rattle.pdl_pipe_nexts.proofs.LinesKept.{line_keep}
-use Rattle.pdl_pipe.proofs.Moving.{has_turns, line_with, layout_with, moved_with}
+use Rattle.pdl_pipe_nexts.proofs.LineGrowth.{line_keep}
+use Rattle.pdl_pipe.proofs.LineMoves.{has_turns, line_with, layout_with, moved_with}
 use Rattle.pdl_pipe.proofs.emitting.emit_moves.Goals as goal
 
 pub all_moves-requires-clause-turns : goal.all_moves-requires-clause-turns

@@ -5,26 +5,26 @@ use Rattle.pdl_net.specs.Circuit.{Circuit}
 use Rattle.pdl_net.specs.Growth.{Keeps, ExtendsPorts}
 use Rattle.pdl_net.proofs.Keeps.{extends_keeps, keeps_trans, ports_keeps, regs_grow}
 use Rattle.pdl_pipe_walk.specs.Locked.{members}
-use Rattle.pdl_pipe_locks.proofs.LocksKept.{locked_kept, laws_kept}
+use Rattle.pdl_pipe_locks.proofs.LockGrowth.{locked_kept, laws_kept}
 use Rattle.pdl_pipe_locks.specs.Stepped.{ExtendsLocks}
 use Rattle.pdl_law_parts.specs.Compiled.{port_in}
 use Rattle.pdl_pipe_beside.specs.Ends.{AreEnds}
-use Rattle.pdl_pipe_beside.proofs.EndsKept.{ends_keep}
+use Rattle.pdl_pipe_beside.proofs.EndGrowth.{ends_keep}
 use Rattle.pdl_pipe_beside.proofs.PortSteps.{ports_stand}
 use Rattle.pdl_pipe_beside.proofs.OrderSteps.{orders_stand}
 use Rattle.pdl_pipe_registers.specs.Staged.{AreApart}
 use Rattle.pdl_pipe_nexts.specs.Lines.{line_form, line_pipe}
-use Rattle.pdl_pipe_nexts.proofs.LinesKept.{line_keep}
-use Rattle.pdl_pipe_moves.proofs.Gating.{bit_keep}
-use Rattle.pdl_pipe_outputs.specs.Told.{AreTold, AreCommits, AreAsked, OutsThere, ShowAll, output_of}
-use Rattle.pdl_pipe_outputs.proofs.Joined.{are_asked}
+use Rattle.pdl_pipe_nexts.proofs.LineGrowth.{line_keep}
+use Rattle.pdl_pipe_moves.proofs.GateParts.{bit_keep}
+use Rattle.pdl_pipe_outputs.specs.ToldOutputs.{AreTold, AreCommits, AreAsked, OutsThere, ShowAll, output_of}
+use Rattle.pdl_pipe_outputs.proofs.RequestPorts.{are_asked}
 use Rattle.pdl_pipe_emitted.specs.Emitted.{AreEndsOf, Emission, Nets}
 use Rattle.pdl_pipe.specs.Emitted.{AreShownOf}
-use Rattle.pdl_pipe.proofs.Deeding.{ends_there}
-use Rattle.pdl_pipe.proofs.Stepping.{next_kept, unwritten_kept, apart_from, steps_keep}
+use Rattle.pdl_pipe.proofs.DeedNets.{ends_there}
+use Rattle.pdl_pipe.proofs.KeptSteps.{next_kept, unwritten_kept, apart_from, steps_keep}
 use Rattle.pdl_pipe_beside.specs.Requests.{AreRequests}
 use Rattle.pdl_pipe_beside.specs.Steps.{IsPortStepped, IsOrderStepped}
-use Rattle.pdl_pipe.proofs.Showing.{shown_there, commits_there, asked_kept}
+use Rattle.pdl_pipe.proofs.OutputNets.{shown_there, commits_there, asked_kept}
 use Rattle.pdl_pipe.proofs.emitting.emit_steps.Goals as goal
 
 pub requests-requires-clause-ends : goal.requests-requires-clause-ends

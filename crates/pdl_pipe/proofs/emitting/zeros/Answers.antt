@@ -1,7 +1,7 @@
 use Rattle.std.proofs.Common.{◌<◌, ◌≤◌, ◌∷◌, ◌++◌, [], map, take, length, sym, ap, ap₂, ◌∙◌, subst, arith}
 use Rattle.std.proofs.lemmas.List.{take_more, take_all, map-append}
 use Rattle.std.specs.Prelude.{slice_index}
-use Rattle.pdl_form.specs.Whole.{form}
+use Rattle.pdl_form.specs.FormView.{form}
 use Rattle.pdl_net.specs.Growth.{Keeps}
 use Rattle.pdl_net.proofs.Keeps.{extends_keeps, extends_trans}
 use Rattle.pdl_pipe_exprs.specs.Nets.{NetsThere, signals_in}

@@ -1,9 +1,9 @@
 use Rattle.std.proofs.Common.{sym, subst}
 use Rattle.pdl_syntax_tree.specs.View.{pipe_view}
 use Rattle.pdl_form.specs.Form.{Form}
-use Rattle.pdl_form_types.proofs.Whole.{typed_whole}
+use Rattle.pdl_form_types.proofs.FormTyping.{typed_whole}
 use Rattle.pdl_form_types.specs.Stmts.{AreTypedMems}
-use Rattle.pdl_lock_kinds.specs.Asked.{AreInTime, AreSizedLocks}
+use Rattle.pdl_lock_kinds.specs.AskedLocks.{AreInTime, AreSizedLocks}
 use Rattle.pdl_pipe.proofs.LocksAllowed.{sized_locks, locks_in_time, suited_as}
 use Rattle.pdl_pipe.proofs.netlist.compile.Goals as goal
 

@@ -1,7 +1,7 @@
 use Rattle.std.proofs.Common.{sym, subst}
 use Rattle.pdl_pipe_walk.specs.Locked.{members}
 use Rattle.pdl_pipe_emitted.specs.Emitted.{AreDeedsOf}
-use Rattle.pdl_pipe.proofs.Deeding.{deeds_there}
+use Rattle.pdl_pipe.proofs.DeedNets.{deeds_there}
 use Rattle.pdl_pipe.proofs.steps.lock_steps.Goals as goal
 
 pub step-requires-clause-deeds : goal.step-requires-clause-deeds

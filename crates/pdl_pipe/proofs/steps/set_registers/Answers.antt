@@ -3,14 +3,14 @@ use Rattle.pdl_net.proofs.Keeps.{but_keeps, extends_keeps, keeps_trans}
 use Rattle.pdl_pipe_exprs.specs.Nets.{signals_in}
 use Rattle.pdl_pipe_exprs.proofs.NetLists.{there_keeps, signals_keep}
 use Rattle.pdl_pipe_walk.specs.Locked.{members, AreTickets}
-use Rattle.pdl_pipe_locks.proofs.LocksKept.{locked_kept, laws_kept}
-use Rattle.pdl_pipe_beside.proofs.EndsKept.{ends_keep}
+use Rattle.pdl_pipe_locks.proofs.LockGrowth.{locked_kept, laws_kept}
+use Rattle.pdl_pipe_beside.proofs.EndGrowth.{ends_keep}
 use Rattle.pdl_pipe_beside.proofs.PortSteps.{ports_stand}
 use Rattle.pdl_pipe_beside.proofs.OrderSteps.{orders_stand}
 use Rattle.pdl_pipe_nexts.specs.Lines.{line_form, line_pipe}
 use Rattle.pdl_pipe_nexts.specs.Nexts.{regs_of}
-use Rattle.pdl_pipe_nexts.proofs.LinesKept.{line_keep}
-use Rattle.pdl_pipe.proofs.Stepping.{next_kept, cut_fits, unwritten_kept}
+use Rattle.pdl_pipe_nexts.proofs.LineGrowth.{line_keep}
+use Rattle.pdl_pipe.proofs.KeptSteps.{next_kept, cut_fits, unwritten_kept}
 use Rattle.pdl_pipe.proofs.steps.set_registers.Goals as goal
 
 pub tails-requires-clause-line : goal.tails-requires-clause-line

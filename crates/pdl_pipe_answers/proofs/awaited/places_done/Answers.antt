@@ -8,7 +8,7 @@ use Rattle.pdl_port.specs.Laws.{AnswerSignals, answer_signals}
 use Rattle.pdl_machine_inflight.specs.Readings.{places_of}
 use Rattle.pdl_law_sides.specs.Sides.{place_answered}
 use Rattle.pdl_pipe_answers.specs.Ports.{answered_where}
-use Rattle.pdl_pipe_answers.proofs.Answered.{at_place}
+use Rattle.pdl_pipe_answers.proofs.PortAnswers.{at_place}
 use Rattle.pdl_pipe_answers.proofs.Bits.{where_as}
 use Rattle.pdl_pipe_answers.proofs.awaited.places_done.Goals as goal
 

@@ -1,9 +1,9 @@
 use Rattle.std.proofs.Common.{◌≡◌, ◌<◌, ◌-◌, ◌+◌, ◌||◌, sym, ap, ◌∙◌, length, arith}
 use Rattle.std.proofs.lemmas.List.{length-map}
-use Rattle.pdl_form.specs.Whole.{form}
+use Rattle.pdl_form.specs.FormView.{form}
 use Rattle.pdl_form.specs.View.{mem_view}
 use Rattle.pdl_pipe_answers.specs.Readings.{gets_some}
-use Rattle.pdl_pipe_answers.proofs.Answered.{gets_more}
+use Rattle.pdl_pipe_answers.proofs.PortAnswers.{gets_more}
 use Rattle.pdl_pipe_answers.proofs.readings.gets_answer.Goals as goal
 
 pub loop-m-preserved : goal.loop-m-preserved

@@ -1,5 +1,5 @@
 use Rattle.std.proofs.Common.{◌≡◌, ◌-◌, length}
-use Rattle.pdl_form.specs.Whole.{form}
+use Rattle.pdl_form.specs.FormView.{form}
 use Rattle.pdl_pipe_answers.specs.Readings.{gets_some, gets_answer}
 use Rattle.pdl_pipe_answers.proofs.readings.gets_answer.Given as goal
 

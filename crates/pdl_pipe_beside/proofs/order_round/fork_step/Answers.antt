@@ -1,8 +1,8 @@
 use Rattle.std.proofs.Common.{◌∙◌, sym}
-use Rattle.pdl_form.specs.Whole.{form}
+use Rattle.pdl_form.specs.FormView.{form}
 use Rattle.pdl_net.proofs.Keeps.{extends_keeps}
 use Rattle.pdl_order.specs.Laws.{step_signals}
-use Rattle.pdl_order.proofs.Kept.{order_keeps}
+use Rattle.pdl_order.proofs.OrderGrowth.{order_keeps}
 use Rattle.pdl_pipe_beside.proofs.OrderSteps.{some_stepped}
 use Rattle.pdl_pipe_beside.proofs.order_round.fork_step.Goals as goal
 

@@ -1,8 +1,8 @@
 use Rattle.std.proofs.Common.{◌∙◌, ap, sym}
-use Rattle.pdl_form.specs.Whole.{form}
+use Rattle.pdl_form.specs.FormView.{form}
 use Rattle.pdl_form.specs.View.{next_view}
 use Rattle.pdl_semantics.specs.Stages.{stage_at}
-use Rattle.pdl_pipe_beside.proofs.EndsKept.{fork_at, fork_var}
+use Rattle.pdl_pipe_beside.proofs.EndGrowth.{fork_at, fork_var}
 use Rattle.pdl_pipe_beside.proofs.order_round.into_merge.Goals as goal
 
 pub by_variable-requires-clause-var : goal.by_variable-requires-clause-var

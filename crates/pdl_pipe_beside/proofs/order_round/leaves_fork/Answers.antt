@@ -1,12 +1,12 @@
 use Rattle.std.proofs.Common.{◌<◌, ◌-◌, ◌∙◌, length, ap, ap₂, arith}
 use Rattle.std.specs.Prelude.{slice_index_or}
-use Rattle.pdl_form.specs.Whole.{form}
+use Rattle.pdl_form.specs.FormView.{form}
 use Rattle.pdl_net.specs.Meaning.{signal}
 use Rattle.pdl_net.proofs.Keeps.{extends_keeps, extends_trans}
 use Rattle.pdl_pipe_exprs.specs.Nets.{signal_at}
 use Rattle.pdl_pipe_beside.specs.Ends.{no_view, ends_in, moves_in}
 use Rattle.pdl_pipe_beside.specs.Steps.{leave_or}
-use Rattle.pdl_pipe_beside.proofs.EndsKept.{ends_kept, views_same, moves_same}
+use Rattle.pdl_pipe_beside.proofs.EndGrowth.{ends_kept, views_same, moves_same}
 use Rattle.pdl_pipe_beside.proofs.OrderSteps.{leave_more}
 use Rattle.pdl_pipe_beside.proofs.order_round.leaves_fork.Goals as goal
 

@@ -1,13 +1,13 @@
 use Rattle.std.proofs.Common.{◌∙◌, ap, ap₂, sym}
 use Rattle.std.specs.Prelude.{if◌then◌else◌}
-use Rattle.pdl_form.specs.Whole.{form}
+use Rattle.pdl_form.specs.FormView.{form}
 use Rattle.pdl_semantics.specs.Stages.{stage_at}
 use Rattle.pdl_net.specs.Meaning.{signal}
 use Rattle.pdl_net.proofs.Keeps.{extends_keeps, extends_trans}
 use Rattle.pdl_law_parts.specs.Walk.{zero_bit, both}
 use Rattle.pdl_law_parts.specs.Views.{View}
 use Rattle.pdl_law_sides.specs.Sides.{into_second}
-use Rattle.pdl_pipe_beside.proofs.EndsKept.{ends_kept}
+use Rattle.pdl_pipe_beside.proofs.EndGrowth.{ends_kept}
 use Rattle.pdl_pipe_beside.proofs.OrderSteps.{move_same, view_same, leaves_same, ports_same}
 use Rattle.pdl_pipe_beside.proofs.order_round.order_ports.Goals as goal
 

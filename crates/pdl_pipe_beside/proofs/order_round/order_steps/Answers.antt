@@ -1,11 +1,11 @@
 use Rattle.std.proofs.Common.{◌≡◌, ◌+◌, ◌<◌, ◌∙◌, length, sym, ap, arith}
 use Rattle.std.proofs.lemmas.List.{length-map}
-use Rattle.pdl_form.specs.Whole.{form}
+use Rattle.pdl_form.specs.FormView.{form}
 use Rattle.pdl_form.specs.View.{stage_view}
 use Rattle.pdl_order.specs.Laws.{own as order_own}
 use Rattle.pdl_pipe_beside.specs.Parts.{own_at}
 use Rattle.pdl_pipe_beside.proofs.PartLists.{extends_more, parts_wider}
-use Rattle.pdl_pipe_beside.proofs.EndsKept.{ends_keep}
+use Rattle.pdl_pipe_beside.proofs.EndGrowth.{ends_keep}
 use Rattle.pdl_pipe_beside.proofs.OrderSteps.{orders_stand, stepped_more, no_arrays}
 use Rattle.pdl_pipe_beside.proofs.order_round.order_steps.Goals as goal
 

@@ -1,5 +1,5 @@
 use Rattle.std.proofs.Common.{◌≡◌, ◌≤◌, ◌∙◌, true, ap, sym, arith}
-use Rattle.pdl_form.specs.Whole.{form}
+use Rattle.pdl_form.specs.FormView.{form}
 use Rattle.pdl_machine_inflight.specs.Readings.{branch_stages}
 use Rattle.pdl_pipe_beside.specs.Orders.{merged_in, is_merged, branches_in}
 use Rattle.pdl_pipe_beside.proofs.OrderParts.{merged_by, new_order, order_some}

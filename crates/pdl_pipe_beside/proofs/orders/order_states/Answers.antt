@@ -1,6 +1,6 @@
 use Rattle.std.proofs.Common.{◌+◌, List, length, sym, subst}
 use Rattle.std.specs.Prelude.{Option}
-use Rattle.pdl_form.specs.Whole.{form}
+use Rattle.pdl_form.specs.FormView.{form}
 use Rattle.pdl_net.proofs.Keeps.{extends_keeps, extends_trans, regs_grow}
 use Rattle.pdl_order.specs.declared.OrderRegs.{OrderRegs}
 use Rattle.pdl_order.specs.Laws.{own as order_own}

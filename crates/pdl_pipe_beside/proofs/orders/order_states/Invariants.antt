@@ -1,5 +1,5 @@
 use Rattle.std.proofs.Common.{length}
-use Rattle.pdl_form.specs.Whole.{form}
+use Rattle.pdl_form.specs.FormView.{form}
 use Rattle.pdl_net.specs.Growth.{Extends}
 use Rattle.pdl_order.specs.Laws.{own as order_own}
 use Rattle.pdl_pipe_beside.specs.Parts.{AreParts}

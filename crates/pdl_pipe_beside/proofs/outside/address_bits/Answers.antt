@@ -1,6 +1,6 @@
 use Rattle.std.proofs.Common.{◌^◌, ap, sym, ◌∙◌, arith}
-use Rattle.pdl_pipe_beside.proofs.Asked.{same_power}
 use Rattle.pdl_pipe_beside.proofs.outside.address_bits.Goals as goal
+use Rattle.pdl_word.proofs.Numbers.{same_power}
 
 pub returns-clause-power : goal.returns-clause-power
 returns-clause-power c =

@@ -1,6 +1,6 @@
 use Rattle.std.proofs.Common.{◌≡◌, ◌<◌, ◌∙◌, List, length, ap, sym, subst, arith}
 use Rattle.std.specs.Prelude.{Some, option_map}
-use Rattle.pdl_form.specs.Whole.{form}
+use Rattle.pdl_form.specs.FormView.{form}
 use Rattle.pdl_semantics.specs.Flat.{Mem}
 use Rattle.pdl_form_types.specs.Stmts.{IsTypedMem}
 use Rattle.pdl_net.specs.Signal.{const_signal}
@@ -13,8 +13,8 @@ use Rattle.pdl_pipe_walk.specs.Parts.{ask_in}
 use Rattle.pdl_word.specs.Each.{Each}
 use Rattle.std.specs.Prelude.{map}
 use Rattle.pdl_pipe_beside.specs.Requests.{address_from, IsAddressNet}
-use Rattle.pdl_pipe_beside.proofs.EndsKept.{end_is}
-use Rattle.pdl_pipe_beside.proofs.Asked.{typed_at, end_addresses, request_some}
+use Rattle.pdl_pipe_beside.proofs.EndGrowth.{end_is}
+use Rattle.pdl_pipe_beside.proofs.StageRequests.{typed_at, end_addresses, request_some}
 use Rattle.pdl_pipe_beside.proofs.outside.request.Goals as goal
 
 pub address_bits-width-requires : goal.address_bits-width-requires

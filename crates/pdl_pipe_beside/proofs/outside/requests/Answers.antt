@@ -1,11 +1,11 @@
 use Rattle.std.proofs.Common.{◌+◌, List, sym, subst}
 use Rattle.std.specs.Prelude.{Option}
-use Rattle.pdl_form.specs.Whole.{form}
+use Rattle.pdl_form.specs.FormView.{form}
 use Rattle.pdl_net.proofs.Keeps.{extends_keeps, extends_trans}
 use Rattle.pdl_pipe_beside.specs.declared.outside.RequestNets.{RequestNets}
 use Rattle.pdl_pipe_beside.specs.Requests.{AreRequests}
-use Rattle.pdl_pipe_beside.proofs.EndsKept.{ends_kept}
-use Rattle.pdl_pipe_beside.proofs.Asked.{requests_more}
+use Rattle.pdl_pipe_beside.proofs.EndGrowth.{ends_kept}
+use Rattle.pdl_pipe_beside.proofs.StageRequests.{requests_more}
 use Rattle.pdl_pipe_beside.proofs.outside.requests.Goals as goal
 
 pub memory_request-requires-clause-ends : goal.memory_request-requires-clause-ends

@@ -1,4 +1,4 @@
-use Rattle.pdl_form.specs.Whole.{form}
+use Rattle.pdl_form.specs.FormView.{form}
 use Rattle.pdl_net.specs.Growth.{Extends}
 use Rattle.pdl_pipe_beside.specs.Requests.{AreRequests}
 use Rattle.pdl_pipe_beside.proofs.outside.requests.Given as goal

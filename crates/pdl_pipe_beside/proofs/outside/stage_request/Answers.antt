@@ -3,7 +3,7 @@ use Rattle.pdl_net.specs.Signal.{Signal, const_signal}
 use Rattle.pdl_net.proofs.Keeps.{extends_keeps}
 use Rattle.pdl_law_parts.specs.Walk.{Ask}
 use Rattle.pdl_pipe_beside.specs.Requests.{address_from}
-use Rattle.pdl_pipe_beside.proofs.Asked.{asks_same}
+use Rattle.pdl_pipe_beside.proofs.StageRequests.{asks_same}
 use Rattle.pdl_pipe_beside.proofs.outside.stage_request.Goals as goal
 
 pub returns-clause-addr : goal.returns-clause-addr

@@ -1,8 +1,8 @@
 use Rattle.std.proofs.Common.{ℕ, List, sym, subst}
-use Rattle.pdl_form.specs.Whole.{form}
+use Rattle.pdl_form.specs.FormView.{form}
 use Rattle.pdl_semantics.specs.Stages.{stage_at}
 use Rattle.pdl_form_types.specs.Stmts.{IsFork}
-use Rattle.pdl_pipe_beside.proofs.EndsKept.{end_is, fork_at}
+use Rattle.pdl_pipe_beside.proofs.EndGrowth.{end_is, fork_at}
 use Rattle.pdl_pipe_beside.proofs.port_round.asks_into.Goals as goal
 
 pub goes_to_place-requires-clause-fork : goal.goes_to_place-requires-clause-fork

@@ -1,9 +1,9 @@
 use Rattle.std.proofs.Common.{◌≡◌, ◌∙◌, ap, sym, subst}
 use Rattle.std.specs.Prelude.{Some, option_map}
-use Rattle.pdl_form.specs.Whole.{form}
+use Rattle.pdl_form.specs.FormView.{form}
 use Rattle.pdl_net.proofs.Keeps.{extends_keeps}
 use Rattle.pdl_port.specs.Laws.{HasBits}
-use Rattle.pdl_port.proofs.Kept.{port_keeps}
+use Rattle.pdl_port.proofs.PortGrowth.{port_keeps}
 use Rattle.pdl_machine_inflight.specs.Readings.{reading}
 use Rattle.pdl_pipe_answers.specs.Readings.{reading_view}
 use Rattle.pdl_pipe_beside.proofs.PortSteps.{some_stepped}

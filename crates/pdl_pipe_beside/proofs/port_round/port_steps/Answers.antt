@@ -1,12 +1,12 @@
 use Rattle.std.proofs.Common.{◌≡◌, ◌+◌, ◌<◌, ◌∙◌, length, sym, ap, arith, subst}
 use Rattle.std.proofs.lemmas.List.{length-map}
-use Rattle.pdl_form.specs.Whole.{form}
+use Rattle.pdl_form.specs.FormView.{form}
 use Rattle.pdl_form.specs.View.{mem_view}
 use Rattle.pdl_port.specs.Laws.{own as port_own}
-use Rattle.pdl_pipe_walk.proofs.Kept.{bits_keep}
+use Rattle.pdl_pipe_walk.proofs.NetGrowth.{bits_keep}
 use Rattle.pdl_pipe_beside.specs.Parts.{own_at, ExtendsParts}
 use Rattle.pdl_pipe_beside.proofs.PartLists.{extends_more, parts_wider}
-use Rattle.pdl_pipe_beside.proofs.EndsKept.{ends_keep}
+use Rattle.pdl_pipe_beside.proofs.EndGrowth.{ends_keep}
 use Rattle.pdl_pipe_beside.proofs.PortSteps.{ports_stand, stepped_more, all_stepped, no_arrays}
 use Rattle.pdl_pipe_beside.proofs.port_round.port_steps.Goals as goal
 

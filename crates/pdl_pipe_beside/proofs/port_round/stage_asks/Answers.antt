@@ -1,10 +1,10 @@
 use Rattle.std.proofs.Common.{sym, subst}
-use Rattle.pdl_form.specs.Whole.{form}
+use Rattle.pdl_form.specs.FormView.{form}
 use Rattle.pdl_pipe_walk.specs.declared.nets.AskNet.{AskNet}
 use Rattle.pdl_word.specs.Each.{Each}
 use Rattle.std.specs.Prelude.{List}
 use Rattle.pdl_pipe_beside.specs.Steps.{IsAskNet}
-use Rattle.pdl_pipe_beside.proofs.EndsKept.{end_is, end_asks}
+use Rattle.pdl_pipe_beside.proofs.EndGrowth.{end_is, end_asks}
 use Rattle.pdl_pipe_beside.proofs.port_round.stage_asks.Goals as goal
 
 pub asks_memory-requires-clause-asks : goal.asks_memory-requires-clause-asks

@@ -1,6 +1,6 @@
 use Rattle.std.proofs.Common.{◌≡◌, ◌+◌, ◌<◌, ◌∙◌, List, length, sym, ap, ap₂, subst, arith}
 use Rattle.std.specs.Prelude.{slice_index, slice_index_or}
-use Rattle.pdl_form.specs.Whole.{form}
+use Rattle.pdl_form.specs.FormView.{form}
 use Rattle.pdl_form.specs.View.{next_view}
 use Rattle.pdl_semantics.specs.Flat.{Next}
 use Rattle.pdl_semantics.specs.Stages.{stage_at}
@@ -15,7 +15,7 @@ use Rattle.pdl_law_parts.specs.Views.{View}
 use Rattle.pdl_law_sides.specs.Sides.{asked_into, goes_to_place}
 use Rattle.pdl_pipe_beside.specs.Ends.{no_view, ends_in, moves_in, kills_in}
 use Rattle.pdl_pipe_beside.specs.Steps.{AreNetsOf}
-use Rattle.pdl_pipe_beside.proofs.EndsKept.{end_is, move_at, kill_at, ends_keep, views_same, nets_more}
+use Rattle.pdl_pipe_beside.proofs.EndGrowth.{end_is, move_at, kill_at, ends_keep, views_same, nets_more}
 use Rattle.pdl_pipe_beside.proofs.port_round.step_nets.Goals as goal
 
 pub asks_into-requires-clause-ends : goal.asks_into-requires-clause-ends

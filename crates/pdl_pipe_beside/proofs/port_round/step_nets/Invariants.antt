@@ -1,4 +1,4 @@
-use Rattle.pdl_form.specs.Whole.{form}
+use Rattle.pdl_form.specs.FormView.{form}
 use Rattle.pdl_net.specs.Growth.{Extends}
 use Rattle.pdl_law_sides.specs.Sides.{asked_into}
 use Rattle.pdl_machine_inflight.specs.Readings.{place_at}

@@ -1,6 +1,6 @@
 use Rattle.std.proofs.Common.{◌∙◌, ap, sym, refl}
 use Rattle.std.specs.Prelude.{option_map}
-use Rattle.pdl_form.specs.Whole.{form}
+use Rattle.pdl_form.specs.FormView.{form}
 use Rattle.pdl_pipe_answers.specs.Readings.{reading_view}
 use Rattle.pdl_pipe_beside.specs.Ports.{input_at}
 use Rattle.pdl_pipe_beside.proofs.PortParts.{port_some}

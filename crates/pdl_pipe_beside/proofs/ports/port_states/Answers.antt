@@ -1,7 +1,7 @@
 use Rattle.std.proofs.Common.{◌≡◌, ◌+◌, ◌∙◌, List, length, sym, ap, arith, subst}
 use Rattle.std.proofs.lemmas.List.{length-map}
 use Rattle.std.specs.Prelude.{Option}
-use Rattle.pdl_form.specs.Whole.{form}
+use Rattle.pdl_form.specs.FormView.{form}
 use Rattle.pdl_form.specs.View.{mem_view}
 use Rattle.pdl_net.proofs.Keeps.{extends_keeps, extends_trans, regs_grow}
 use Rattle.pdl_port.specs.declared.PortRegs.{PortRegs}

@@ -1,5 +1,5 @@
 use Rattle.std.proofs.Common.{length}
-use Rattle.pdl_form.specs.Whole.{form}
+use Rattle.pdl_form.specs.FormView.{form}
 use Rattle.pdl_net.specs.Growth.{Extends}
 use Rattle.pdl_port.specs.Laws.{own as port_own}
 use Rattle.pdl_pipe_beside.specs.Parts.{AreParts}

@@ -1,5 +1,5 @@
 use Rattle.std.proofs.Common.{◌∙◌, ap}
-use Rattle.pdl_form.specs.Whole.{form}
+use Rattle.pdl_form.specs.FormView.{form}
 use Rattle.pdl_semantics.specs.Flat.{Mem, Next}
 use Rattle.std.specs.Prelude.{length}
 use Rattle.pdl_machine_inflight.specs.Readings.{places_of}

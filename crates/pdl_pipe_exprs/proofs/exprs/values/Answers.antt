@@ -7,7 +7,7 @@ use Rattle.pdl_pipe_exprs.specs.Nets.{NetsThere, signals_in, widths_of}
 use Rattle.pdl_form.specs.View.{expr_view, exprs_view}
 use Rattle.pdl_pipe_exprs.specs.Values.{value_signal, value_signals}
 use Rattle.pdl_pipe_exprs.proofs.NetLists.{nets_there, nets_kept, net_more}
-use Rattle.pdl_pipe_exprs.proofs.Guarded.{typed_left, values_next}
+use Rattle.pdl_pipe_exprs.proofs.ListSteps.{typed_left, values_next}
 use Rattle.pdl_pipe_exprs.proofs.exprs.values.Goals as goal
 
 pub loop-e-preserved : goal.loop-e-preserved

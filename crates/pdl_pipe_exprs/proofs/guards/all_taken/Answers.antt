@@ -7,7 +7,7 @@ use Rattle.pdl_net.proofs.Keeps.{extends_trans}
 use Rattle.pdl_pipe_exprs.specs.Nets.{signals_in, signal_at, widths_of}
 use Rattle.pdl_pipe_exprs.specs.Conditions.{both, literal, taken_signal}
 use Rattle.pdl_pipe_exprs.proofs.NetLists.{nets_there, nets_kept, bits_kept}
-use Rattle.pdl_pipe_exprs.proofs.Guarded.{guards_left, taken_next}
+use Rattle.pdl_pipe_exprs.proofs.ListSteps.{guards_left, taken_next}
 use Rattle.pdl_pipe_exprs.proofs.guards.all_taken.Goals as goal
 
 pub loop-g-preserved : goal.loop-g-preserved

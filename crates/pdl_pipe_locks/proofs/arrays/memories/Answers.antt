@@ -1,12 +1,12 @@
 use Rattle.std.proofs.Common.{◌+◌, ◌<◌, List, length, sym, arith, subst}
 use Rattle.std.specs.Prelude.{Option}
-use Rattle.pdl_form.specs.Whole.{form}
+use Rattle.pdl_form.specs.FormView.{form}
 use Rattle.pdl_form.specs.View.{mem_view}
 use Rattle.pdl_form_types.specs.Stmts.{IsTypedMem}
 use Rattle.pdl_net.proofs.Keeps.{arrays_keeps, keeps_trans}
 use Rattle.pdl_pipe_walk.specs.declared.locks.MemLock.{MemLock}
 use Rattle.pdl_pipe_walk.specs.Locked.{Members}
-use Rattle.pdl_pipe_locks.proofs.AllMade.{AreMadeTo, mem_is, mem_count, name_is, name_count, typed_at, served_at, made_none, made_more, all_extends, all_locked, all_lawful, all_unwritten, all_above}
+use Rattle.pdl_pipe_locks.proofs.MadeMemories.{AreMadeTo, mem_is, mem_count, name_is, name_count, typed_at, served_at, made_none, made_more, all_extends, all_locked, all_lawful, all_unwritten, all_above}
 use Rattle.pdl_pipe_locks.proofs.arrays.memories.Goals as goal
 
 pub loop-m-init : goal.loop-m-init

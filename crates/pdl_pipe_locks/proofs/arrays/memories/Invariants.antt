@@ -1,6 +1,6 @@
-use Rattle.pdl_form.specs.Whole.{form}
+use Rattle.pdl_form.specs.FormView.{form}
 use Rattle.pdl_pipe_walk.specs.Locked.{members}
-use Rattle.pdl_pipe_locks.proofs.AllMade.{AreMadeTo}
+use Rattle.pdl_pipe_locks.proofs.MadeMemories.{AreMadeTo}
 use Rattle.pdl_pipe_locks.proofs.arrays.memories.Given as goal
 
 -- the first memories are made

@@ -1,5 +1,5 @@
 use Rattle.std.proofs.Common.{sym, ◌∙◌, arith, subst}
-use Rattle.pdl_form.specs.Whole.{form}
+use Rattle.pdl_form.specs.FormView.{form}
 use Rattle.pdl_semantics.specs.Stages.{mem_at}
 use Rattle.pdl_net.specs.Circuit.{HasArray}
 use Rattle.pdl_net.specs.Meaning.{signal}
@@ -9,7 +9,7 @@ use Rattle.pdl_pipe_walk.specs.Locked.{Members, some_at}
 use Rattle.pdl_pipe_locks.specs.Deeds.{steps_in}
 use Rattle.pdl_pipe_locks.proofs.Places.{at_place, unwritten_place}
 use Rattle.pdl_pipe_locks.proofs.DeedsFit.{all_given, signals_fit}
-use Rattle.pdl_pipe_locks.proofs.LocksKept.{signals_are}
+use Rattle.pdl_pipe_locks.proofs.LockGrowth.{signals_are}
 use Rattle.pdl_pipe_locks.proofs.LockSteps.{is_stepped, stepped_some, stepped_not}
 use Rattle.pdl_pipe_locks.proofs.steps.memory_step.Goals as goal
 

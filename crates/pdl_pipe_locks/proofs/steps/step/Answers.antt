@@ -1,13 +1,13 @@
 use Rattle.std.proofs.Common.{◌≡◌, ◌+◌, ◌<◌, List, length, sym, arith, subst}
 use Rattle.std.specs.Prelude.{Option}
-use Rattle.pdl_form.specs.Whole.{form}
+use Rattle.pdl_form.specs.FormView.{form}
 use Rattle.pdl_lockapi.specs.declared.LockNets.{LockNets}
 use Rattle.pdl_pipe_walk.specs.Locked.{Members}
-use Rattle.pdl_pipe_walk.proofs.Kept.{bits_keep}
+use Rattle.pdl_pipe_walk.proofs.NetGrowth.{bits_keep}
 use Rattle.pdl_pipe_locks.specs.Deeds.{steps_in}
 use Rattle.pdl_pipe_locks.specs.Stepped.{AreStepped, ExtendsLocks}
-use Rattle.pdl_pipe_locks.proofs.AllMade.{mem_count}
-use Rattle.pdl_pipe_locks.proofs.LocksKept.{locked_kept, deeds_kept, squash_kept, step_same}
+use Rattle.pdl_pipe_locks.proofs.MadeMemories.{mem_count}
+use Rattle.pdl_pipe_locks.proofs.LockGrowth.{locked_kept, deeds_kept, squash_kept, step_same}
 use Rattle.pdl_pipe_locks.proofs.LockSteps.{locks_none, locks_more, locks_wider, stepped_none, stepped_more, still_unwritten}
 use Rattle.pdl_pipe_locks.proofs.steps.step.Goals as goal
 

@@ -1,4 +1,4 @@
-use Rattle.pdl_form.specs.Whole.{form}
+use Rattle.pdl_form.specs.FormView.{form}
 use Rattle.pdl_pipe_walk.specs.Locked.{members}
 use Rattle.pdl_pipe_locks.specs.Deeds.{steps_in}
 use Rattle.pdl_pipe_locks.specs.Stepped.{AreStepped, ExtendsLocks}

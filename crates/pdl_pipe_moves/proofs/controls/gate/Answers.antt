@@ -9,7 +9,7 @@ use Rattle.pdl_law_sides.specs.Sides.{all_answered, unsquashed}
 use Rattle.pdl_pipe_nexts.specs.Lines.{line_pipe, line_views}
 use Rattle.pdl_pipe_answers.specs.Ports.{IsBitFor, answers_in}
 use Rattle.pdl_pipe_moves.specs.Signs.{path_by, signs_by}
-use Rattle.pdl_pipe_moves.proofs.Gating.{answered_same, both_after}
+use Rattle.pdl_pipe_moves.proofs.GateParts.{answered_same, both_after}
 use Rattle.pdl_pipe_moves.proofs.controls.gate.Goals as goal
 
 pub returns-clause-on : goal.returns-clause-on

@@ -10,12 +10,12 @@ use Rattle.pdl_law_sides.specs.Sides.{barrier_open}
 use Rattle.pdl_pipe_walk.specs.Parts.{ask_in}
 use Rattle.pdl_pipe_registers.proofs.Lists.{view_at}
 use Rattle.pdl_pipe_nexts.specs.Lines.{line_form, line_pipe, line_views}
-use Rattle.pdl_pipe_nexts.proofs.LinesKept.{bits_there, bit_one}
+use Rattle.pdl_pipe_nexts.proofs.LineGrowth.{bits_there, bit_one}
 use Rattle.pdl_word.specs.Each.{Each}
 use Rattle.pdl_pipe_answers.specs.Ports.{IsBitFor}
-use Rattle.pdl_pipe_walk.proofs.Kept.{walk_keep}
+use Rattle.pdl_pipe_walk.proofs.NetGrowth.{walk_keep}
 use Rattle.pdl_pipe_moves.specs.Gates.{opens_by, turn_in, IsAsked}
-use Rattle.pdl_pipe_moves.proofs.Gating.{bits_keep, both_after, asks_same, are_asked}
+use Rattle.pdl_pipe_moves.proofs.GateParts.{bits_keep, both_after, asks_same, are_asked}
 use Rattle.pdl_pipe_moves.proofs.controls.path_open.Goals as goal
 
 pub variable-clear-requires-clause-there : goal.variable-clear-requires-clause-there

@@ -1,6 +1,6 @@
 use Rattle.std.proofs.Common.{sym, ap, ◌∙◌, arith}
 use Rattle.pdl_net.specs.Signal.{Signal}
-use Rattle.pdl_pipe_nexts.proofs.LinesKept.{bits_there, bit_one}
+use Rattle.pdl_pipe_nexts.proofs.LineGrowth.{bits_there, bit_one}
 use Rattle.pdl_pipe_moves.proofs.moving.free.Goals as goal
 
 pub variable-moves-requires-clause-there : goal.variable-moves-requires-clause-there

@@ -7,12 +7,12 @@ use Rattle.pdl_pipe_exprs.specs.Nets.{signals_in, signal_at}
 use Rattle.pdl_pipe_exprs.proofs.NetLists.{length_signals}
 use Rattle.pdl_law_parts.specs.Views.{View, free, way_on}
 use Rattle.pdl_pipe_walk.specs.Parts.{parts_in}
-use Rattle.pdl_pipe_walk.proofs.Kept.{var_count, var_width}
+use Rattle.pdl_pipe_walk.proofs.NetGrowth.{var_count, var_width}
 use Rattle.pdl_pipe_registers.proofs.Lists.{view_at}
 use Rattle.pdl_pipe_nexts.specs.Lines.{line_form, line_pipe, line_views, line_moves}
-use Rattle.pdl_pipe_nexts.proofs.Arriving.{fork_at}
-use Rattle.pdl_pipe_nexts.proofs.LinesKept.{line_keep, views_same, all_moves_same}
-use Rattle.pdl_pipe_moves.proofs.Leading.{straight_low, first_low, second_low}
+use Rattle.pdl_pipe_nexts.proofs.ArrivalNets.{fork_at}
+use Rattle.pdl_pipe_nexts.proofs.LineGrowth.{line_keep, views_same, all_moves_same}
+use Rattle.pdl_pipe_moves.proofs.StageWays.{straight_low, first_low, second_low}
 use Rattle.pdl_pipe_moves.proofs.moving.way_on.Goals as goal
 
 pub free-requires-clause-low : goal.free-requires-clause-low

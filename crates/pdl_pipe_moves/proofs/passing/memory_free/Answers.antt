@@ -3,7 +3,7 @@ use Rattle.pdl_semantics.specs.Stages.{stage_at}
 use Rattle.pdl_machine_inflight.specs.Readings.{places_of}
 use Rattle.pdl_pipe_nexts.specs.Lines.{line_pipe}
 use Rattle.pdl_net.proofs.Keeps.{extends_keeps}
-use Rattle.pdl_pipe_moves.proofs.Freeing.{place_low, made_free}
+use Rattle.pdl_pipe_moves.proofs.FreePorts.{place_low, made_free}
 use Rattle.pdl_pipe_moves.proofs.passing.memory_free.Goals as goal
 
 pub port_free-requires-clause-placed : goal.port_free-requires-clause-placed

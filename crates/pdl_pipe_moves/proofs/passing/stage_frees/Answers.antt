@@ -1,10 +1,10 @@
 use Rattle.std.proofs.Common.{sym, subst, ◌+◌}
 use Rattle.pdl_net.proofs.Keeps.{extends_keeps, extends_trans}
-use Rattle.pdl_pipe_nexts.proofs.LinesKept.{line_keep}
+use Rattle.pdl_pipe_nexts.proofs.LineGrowth.{line_keep}
 use Rattle.pdl_pipe_beside.proofs.PortSteps.{ports_stand}
 use Rattle.pdl_pipe_nexts.specs.Lines.{line_pipe}
 use Rattle.pdl_pipe_moves.specs.Passed.{HaveFree}
-use Rattle.pdl_pipe_moves.proofs.Freeing.{have_keep, free_more}
+use Rattle.pdl_pipe_moves.proofs.FreePorts.{have_keep, free_more}
 use Rattle.pdl_pipe_moves.proofs.passing.stage_frees.Goals as goal
 
 pub memory_free-requires-clause-line : goal.memory_free-requires-clause-line

@@ -5,9 +5,9 @@ use Rattle.pdl_pipe_answers.specs.Ports.{IsBitFor}
 use Rattle.pdl_pipe_moves.specs.Signs.{gate_by, signs_by}
 use Rattle.pdl_pipe_beside.proofs.PortSteps.{ports_stand}
 use Rattle.pdl_pipe_nexts.specs.Lines.{line_pipe, line_views}
-use Rattle.pdl_pipe_nexts.proofs.LinesKept.{line_keep}
-use Rattle.pdl_pipe_moves.proofs.Freeing.{have_keep}
-use Rattle.pdl_pipe_moves.proofs.MovedWhole.{controls_keep, moved_so}
+use Rattle.pdl_pipe_nexts.proofs.LineGrowth.{line_keep}
+use Rattle.pdl_pipe_moves.proofs.FreePorts.{have_keep}
+use Rattle.pdl_pipe_moves.proofs.AllMoves.{controls_keep, moved_so}
 use Rattle.pdl_pipe_moves.proofs.passing.stage_passage.Goals as goal
 
 pub gate-requires-clause-line : goal.gate-requires-clause-line

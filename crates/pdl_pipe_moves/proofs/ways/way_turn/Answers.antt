@@ -8,13 +8,13 @@ use Rattle.pdl_pipe_exprs.proofs.NetLists.{length_signals}
 use Rattle.pdl_law_parts.specs.Walk.{is_on}
 use Rattle.pdl_law_parts.specs.Views.{View, way_on}
 use Rattle.pdl_pipe_walk.specs.Parts.{parts_in}
-use Rattle.pdl_pipe_walk.proofs.Kept.{var_count, var_width}
+use Rattle.pdl_pipe_walk.proofs.NetGrowth.{var_count, var_width}
 use Rattle.pdl_pipe_registers.proofs.Lists.{view_at}
 use Rattle.pdl_pipe_nexts.specs.Lines.{line_form, line_pipe, line_views}
-use Rattle.pdl_pipe_nexts.proofs.Arriving.{fork_at}
+use Rattle.pdl_pipe_nexts.proofs.ArrivalNets.{fork_at}
 use Rattle.pdl_pipe_moves.specs.Gates.{turn_in}
-use Rattle.pdl_pipe_moves.proofs.Leading.{straight_low, first_low, second_low}
-use Rattle.pdl_pipe_moves.proofs.Turning.{turns_keep, turn_same, mux_as}
+use Rattle.pdl_pipe_moves.proofs.StageWays.{straight_low, first_low, second_low}
+use Rattle.pdl_pipe_moves.proofs.TurnGrowth.{turns_keep, turn_same, mux_as}
 use Rattle.pdl_pipe_moves.proofs.ways.way_turn.Goals as goal
 
 pub turn-requires-clause-q : goal.turn-requires-clause-q

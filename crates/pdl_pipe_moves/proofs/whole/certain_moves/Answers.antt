@@ -1,8 +1,8 @@
 use Rattle.std.proofs.Common.{◌≡◌, sym, ◌∙◌, arith}
 use Rattle.std.specs.Prelude.{Some, None}
 use Rattle.pdl_net.proofs.Keeps.{extends_keeps}
-use Rattle.pdl_pipe_walk.proofs.Kept.{bits_keep}
-use Rattle.pdl_pipe_moves.proofs.MovedWhole.{filled_at, filled_bits, zero_bits, passed_certain}
+use Rattle.pdl_pipe_walk.proofs.NetGrowth.{bits_keep}
+use Rattle.pdl_pipe_moves.proofs.AllMoves.{filled_at, filled_bits, zero_bits, passed_certain}
 use Rattle.pdl_pipe_moves.proofs.whole.certain_moves.Goals as goal
 
 pub returns-clause-moved : goal.returns-clause-moved

@@ -10,15 +10,15 @@ use Rattle.pdl_squash.specs.Laws.{SquashLaw, net_at, signal_at as squash_net}
 use Rattle.pdl_pipe_beside.proofs.PortSteps.{ports_stand}
 use Rattle.pdl_law_parts.specs.Views.{View}
 use Rattle.pdl_law_sides.specs.HasSides.{squash_of}
-use Rattle.pdl_pipe_walk.proofs.Kept.{bits_keep}
+use Rattle.pdl_pipe_walk.proofs.NetGrowth.{bits_keep}
 use Rattle.pdl_pipe_nexts.specs.Lines.{line_pipe, line_views}
-use Rattle.pdl_pipe_nexts.proofs.LinesKept.{line_keep, views_same}
+use Rattle.pdl_pipe_nexts.proofs.LineGrowth.{line_keep, views_same}
 use Rattle.pdl_pipe_moves.specs.Signs.{signs_in, IsControlled}
 use Rattle.pdl_pipe_moves.specs.Passed.{ArePassed}
-use Rattle.pdl_pipe_moves.proofs.Gating.{bit_keep}
-use Rattle.pdl_pipe_moves.proofs.Turning.{turns_keep}
-use Rattle.pdl_pipe_moves.proofs.Freeing.{net_signal}
-use Rattle.pdl_pipe_moves.proofs.MovedWhole.{controls_keep, all_passed_keep, passed_late, padded_bits, padded_front, padded_rest, zero_bits, filled_bits, squash_as, squash_bits_keep, net_bit}
+use Rattle.pdl_pipe_moves.proofs.GateParts.{bit_keep}
+use Rattle.pdl_pipe_moves.proofs.TurnGrowth.{turns_keep}
+use Rattle.pdl_pipe_moves.proofs.FreePorts.{net_signal}
+use Rattle.pdl_pipe_moves.proofs.AllMoves.{controls_keep, all_passed_keep, passed_late, padded_bits, padded_front, padded_rest, zero_bits, filled_bits, squash_as, squash_bits_keep, net_bit}
 use Rattle.pdl_pipe_moves.proofs.whole.guessing_moves.Goals as goal
 
 pub squash_by-requires-clause-line : goal.squash_by-requires-clause-line

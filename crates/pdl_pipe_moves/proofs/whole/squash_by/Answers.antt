@@ -4,7 +4,7 @@ use Rattle.pdl_squash.specs.Laws.{signal_at as squash_net}
 use Rattle.pdl_law_parts.specs.Views.{View}
 use Rattle.pdl_pipe_registers.proofs.Lists.{view_at}
 use Rattle.pdl_pipe_nexts.specs.Lines.{line_views}
-use Rattle.pdl_pipe_moves.proofs.MovedWhole.{squash_as, valid_bits, valid_is}
+use Rattle.pdl_pipe_moves.proofs.AllMoves.{squash_as, valid_bits, valid_is}
 use Rattle.pdl_pipe_moves.proofs.whole.squash_by.Goals as goal
 
 pub emit_squash-requires-clause-valid : goal.emit_squash-requires-clause-valid

@@ -4,10 +4,10 @@ use Rattle.pdl_law_parts.specs.Walk.{is_on}
 use Rattle.pdl_pipe_exprs.specs.Nets.{signals_in, signal_at}
 use Rattle.pdl_pipe_exprs.proofs.NetLists.{length_signals}
 use Rattle.pdl_pipe_walk.specs.Parts.{parts_in}
-use Rattle.pdl_pipe_walk.proofs.Kept.{var_count, var_width}
+use Rattle.pdl_pipe_walk.proofs.NetGrowth.{var_count, var_width}
 use Rattle.pdl_pipe_nexts.specs.Lines.{line_form, line_pipe, line_views, line_moves}
-use Rattle.pdl_pipe_nexts.proofs.LinesKept.{bits_there, bit_one}
-use Rattle.pdl_pipe_nexts.proofs.Arriving.{fork_at, straight, elsewhere, nowhere}
+use Rattle.pdl_pipe_nexts.proofs.LineGrowth.{bits_there, bit_one}
+use Rattle.pdl_pipe_nexts.proofs.ArrivalNets.{fork_at, straight, elsewhere, nowhere}
 use Rattle.pdl_pipe_nexts.proofs.arrivals.comes.Goals as goal
 
 pub variable-own-requires-clause-there : goal.variable-own-requires-clause-there

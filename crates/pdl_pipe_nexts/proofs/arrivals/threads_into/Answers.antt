@@ -7,8 +7,8 @@ use Rattle.pdl_pipe_registers.proofs.Begins.{each_way}
 use Rattle.pdl_pipe_nexts.specs.declared.arrivals.Arrival.{Arrival}
 use Rattle.pdl_pipe_nexts.specs.Lines.{line_pipe, line_views, line_moves}
 use Rattle.pdl_pipe_nexts.specs.Arrivals.{AreArrivals}
-use Rattle.pdl_pipe_nexts.proofs.LinesKept.{line_keep, ended_same, moves_same}
-use Rattle.pdl_pipe_nexts.proofs.Arriving.{arrivals_keep, arrivals_push, comes_as}
+use Rattle.pdl_pipe_nexts.proofs.LineGrowth.{line_keep, ended_same, moves_same}
+use Rattle.pdl_pipe_nexts.proofs.ArrivalNets.{arrivals_keep, arrivals_push, comes_as}
 use Rattle.pdl_pipe_nexts.proofs.arrivals.threads_into.Goals as goal
 use Rattle.pdl_word.specs.Each.{Each}
 

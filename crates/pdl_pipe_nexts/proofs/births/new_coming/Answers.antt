@@ -6,11 +6,11 @@ use Rattle.pdl_law_parts.specs.Walk.{Birth}
 use Rattle.pdl_law_parts.specs.Views.{View, new_by, first_coming}
 use Rattle.pdl_pipe_walk.specs.declared.nets.BirthNet.{BirthNet}
 use Rattle.pdl_pipe_walk.specs.Parts.{birth_in}
-use Rattle.pdl_pipe_walk.proofs.Kept.{bits_keep}
+use Rattle.pdl_pipe_walk.proofs.NetGrowth.{bits_keep}
 use Rattle.pdl_pipe_registers.proofs.Lists.{view_at}
 use Rattle.pdl_pipe_nexts.specs.Lines.{line_form, line_views, line_moves}
 use Rattle.pdl_pipe_nexts.specs.Brings.{brought_signal, IsBirth}
-use Rattle.pdl_pipe_nexts.proofs.LinesKept.{bits_there, bit_one, line_keep, ended_same, moves_same}
+use Rattle.pdl_pipe_nexts.proofs.LineGrowth.{bits_there, bit_one, line_keep, ended_same, moves_same}
 use Rattle.pdl_pipe_nexts.proofs.BirthsMade.{births_of, stage_more}
 use Rattle.pdl_pipe_nexts.proofs.births.new_coming.Goals as goal
 use Rattle.pdl_word.specs.Each.{Each}

@@ -1,10 +1,10 @@
 use Rattle.std.proofs.Common.{sym, ap, ◌∙◌, subst}
 use Rattle.pdl_net.specs.Signal.{Signal}
 use Rattle.pdl_pipe_exprs.specs.Nets.{signals_in}
-use Rattle.pdl_pipe_registers.proofs.Settling.{ended_width}
+use Rattle.pdl_pipe_registers.proofs.SettledItems.{ended_width}
 use Rattle.pdl_pipe_nexts.specs.Lines.{line_form}
 use Rattle.pdl_pipe_nexts.specs.Brings.{brought_width, IsBrought}
-use Rattle.pdl_pipe_nexts.proofs.LinesKept.{stage_now}
+use Rattle.pdl_pipe_nexts.proofs.LineGrowth.{stage_now}
 use Rattle.pdl_pipe_nexts.proofs.coming.brings.Goals as goal
 
 pub returns-in-Some-clause-wide : goal.returns-in-Some-clause-wide

@@ -10,8 +10,8 @@ use Rattle.pdl_pipe_registers.proofs.Begins.{each_way, next_keep}
 use Rattle.pdl_pipe_walk.proofs.Lists.{each_at as each_in}
 use Rattle.pdl_pipe_nexts.specs.Lines.{line_form, line_pipe, line_views, line_moves}
 use Rattle.pdl_pipe_nexts.specs.Brings.{brought_width, brought_signal}
-use Rattle.pdl_pipe_nexts.proofs.LinesKept.{line_keep, ended_same, tickets_same}
-use Rattle.pdl_pipe_nexts.proofs.Bringing.{arrivals_count, arrival_nth, out_as, way_more}
+use Rattle.pdl_pipe_nexts.proofs.LineGrowth.{line_keep, ended_same, tickets_same}
+use Rattle.pdl_pipe_nexts.proofs.BroughtItems.{arrivals_count, arrival_nth, out_as, way_more}
 use Rattle.pdl_pipe_nexts.proofs.coming.coming.Goals as goal
 
 pub loop-i-init : goal.loop-i-init
@@ -112,7 +112,7 @@ loop-i-preserved c =
       there = c.in_ok-net.ensures.means.there;
       value = way_more p vs moves q js what k (signal b y.comes) (signal b c.brings-value.result) (signal b c.loop-i.net) (signal d c.in_ok-net.net) rest (omega (arith, t, n)) c.in_ok-net.ensures.means.same
           (λ s. ap (λ (f : Signal). Rattle.pdl_law_parts.specs.Walk.is_on f s) (e.kept y.comes is.comes.there) ∙ is.comes.on s) value
-          (subst (λ i. Rattle.pdl_pipe_nexts.specs.Lines.ValueAs (signal b c.loop-i.net) (Rattle.pdl_pipe_nexts.proofs.Bringing.from_way p vs moves q js what i rest)) later c.loop-i.invariant.value);
+          (subst (λ i. Rattle.pdl_pipe_nexts.specs.Lines.ValueAs (signal b c.loop-i.net) (Rattle.pdl_pipe_nexts.proofs.BroughtItems.from_way p vs moves q js what i rest)) later c.loop-i.invariant.value);
       wide = ap (λ (f : Signal). f.width) c.in_ok-net.ensures.means.same ∙ c.brings-value.ensures.wide ∙ ap (λ fs. brought_width (line_form x) fs what) (next_keep a b (line_form x) x.shared.now e c.requires.line.shared) ∙ sym c.requires.wide;
       extends = extends_trans a b d c.loop-i.invariant.extends c.mux.ensures.extends;
       regs = c.mux.ensures.regs ∙ c.loop-i.invariant.regs;

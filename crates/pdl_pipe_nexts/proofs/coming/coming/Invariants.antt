@@ -3,7 +3,7 @@ use Rattle.pdl_machine_facts.specs.Slots.{ways}
 use Rattle.pdl_net.specs.Meaning.{signal, IsThere}
 use Rattle.pdl_net.specs.Growth.{Extends}
 use Rattle.pdl_pipe_nexts.specs.Lines.{line_pipe, line_views, line_moves, ValueAs}
-use Rattle.pdl_pipe_nexts.proofs.Bringing.{from_way}
+use Rattle.pdl_pipe_nexts.proofs.BroughtItems.{from_way}
 use Rattle.pdl_pipe_nexts.proofs.coming.coming.Given as goal
 
 -- the threads out of the last stages are there

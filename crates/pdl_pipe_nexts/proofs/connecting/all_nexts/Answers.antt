@@ -1,8 +1,8 @@
 use Rattle.std.proofs.Common.{◌+◌, ◌∷◌, [], length, sym, ap, ◌∙◌, subst, arith}
 use Rattle.std.proofs.lemmas.List.{length-append}
 use Rattle.pdl_net.proofs.Keeps.{extends_keeps, extends_trans}
-use Rattle.pdl_pipe_nexts.proofs.LinesKept.{line_keep}
-use Rattle.pdl_pipe_nexts.proofs.Setting.{FirstNexts, first_more, nexts_as}
+use Rattle.pdl_pipe_nexts.proofs.LineGrowth.{line_keep}
+use Rattle.pdl_pipe_nexts.proofs.ConnectedRegisters.{FirstNexts, first_more, nexts_as}
 use Rattle.pdl_pipe_nexts.proofs.connecting.all_nexts.Goals as goal
 
 pub stage_nexts-requires-clause-line : goal.stage_nexts-requires-clause-line

@@ -1,6 +1,6 @@
 use Rattle.std.proofs.Common.{◌≡◌, length}
 use Rattle.pdl_net.specs.Growth.{Extends}
-use Rattle.pdl_pipe_nexts.proofs.Setting.{FirstNexts}
+use Rattle.pdl_pipe_nexts.proofs.ConnectedRegisters.{FirstNexts}
 use Rattle.pdl_pipe_nexts.proofs.connecting.all_nexts.Given as goal
 
 -- the nets of the first stages are there

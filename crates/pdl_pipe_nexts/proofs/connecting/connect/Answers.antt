@@ -5,8 +5,8 @@ use Rattle.pdl_pipe_registers.specs.Stages.{end_of}
 use Rattle.pdl_pipe_registers.proofs.Begins.{next_keep}
 use Rattle.pdl_pipe_nexts.specs.Lines.{line_form}
 use Rattle.pdl_pipe_nexts.specs.Nexts.{regs_of, FitsRegs, AreSet}
-use Rattle.pdl_pipe_nexts.proofs.LinesKept.{line_keep}
-use Rattle.pdl_pipe_nexts.proofs.Setting.{all_keep, fits_regs, takes_now, connected_more}
+use Rattle.pdl_pipe_nexts.proofs.LineGrowth.{line_keep}
+use Rattle.pdl_pipe_nexts.proofs.ConnectedRegisters.{all_keep, fits_regs, takes_now, connected_more}
 use Rattle.pdl_pipe_nexts.proofs.connecting.connect.Goals as goal
 
 pub set_stage-requires-clause-count : goal.set_stage-requires-clause-count

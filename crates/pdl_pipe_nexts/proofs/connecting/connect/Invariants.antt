@@ -1,5 +1,5 @@
 use Rattle.pdl_pipe_nexts.specs.Nexts.{AllNexts}
-use Rattle.pdl_pipe_nexts.proofs.Setting.{ConnectedSoFar}
+use Rattle.pdl_pipe_nexts.proofs.ConnectedRegisters.{ConnectedSoFar}
 use Rattle.pdl_pipe_nexts.proofs.connecting.connect.Given as goal
 
 -- the first stages are told

@@ -5,7 +5,7 @@ use Rattle.pdl_pipe_exprs.specs.Nets.{signal_at}
 use Rattle.pdl_pipe_exprs.proofs.NetLists.{there_keeps, signals_keep}
 use Rattle.pdl_pipe_registers.specs.Stages.{end_of}
 use Rattle.pdl_pipe_nexts.specs.Nexts.{regs_of}
-use Rattle.pdl_pipe_nexts.proofs.Setting.{has_low, set_more, net_there, net_is}
+use Rattle.pdl_pipe_nexts.proofs.ConnectedRegisters.{has_low, set_more, net_there, net_is}
 use Rattle.pdl_pipe_nexts.proofs.connecting.set_stage.Goals as goal
 
 pub next-requires-clause-has : goal.next-requires-clause-has

@@ -1,4 +1,4 @@
-use Rattle.pdl_pipe_nexts.proofs.Setting.{SetSoFar}
+use Rattle.pdl_pipe_nexts.proofs.ConnectedRegisters.{SetSoFar}
 use Rattle.pdl_pipe_nexts.proofs.connecting.set_stage.Given as goal
 
 -- the first registers are told

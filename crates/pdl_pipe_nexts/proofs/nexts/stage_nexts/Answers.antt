@@ -10,8 +10,8 @@ use Rattle.pdl_pipe_nexts.specs.Lines.{ValueAs, line_form, line_pipe, line_views
 use Rattle.pdl_pipe_nexts.specs.Arrivals.{AreArrivals}
 use Rattle.pdl_pipe_nexts.specs.Brings.{IsBrought, IsArgument, brought_width}
 use Rattle.pdl_pipe_nexts.specs.Nexts.{AreNexts, staying, arriving}
-use Rattle.pdl_pipe_nexts.proofs.LinesKept.{line_keep, views_same, all_moves_same, staying_same, at_same}
-use Rattle.pdl_pipe_nexts.proofs.Arriving.{arrivals_keep}
+use Rattle.pdl_pipe_nexts.proofs.LineGrowth.{line_keep, views_same, all_moves_same, staying_same, at_same}
+use Rattle.pdl_pipe_nexts.proofs.ArrivalNets.{arrivals_keep}
 use Rattle.pdl_pipe_nexts.proofs.NextsMade.{NextsSoFar, item_is, argument_is, reg_low, item_kept, kept_wide, nexts_first, nexts_more, nexts_all}
 use Rattle.pdl_pipe_nexts.proofs.nexts.stage_nexts.Goals as goal
 

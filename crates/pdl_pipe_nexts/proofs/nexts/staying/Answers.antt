@@ -1,6 +1,6 @@
 use Rattle.std.proofs.Common.{ap, ◌∙◌, arith}
 use Rattle.pdl_net.specs.Signal.{Signal}
-use Rattle.pdl_pipe_nexts.proofs.LinesKept.{bits_there, bit_one}
+use Rattle.pdl_pipe_nexts.proofs.LineGrowth.{bits_there, bit_one}
 use Rattle.pdl_pipe_nexts.proofs.nexts.staying.Goals as goal
 
 pub variable-removed-requires-clause-there : goal.variable-removed-requires-clause-there

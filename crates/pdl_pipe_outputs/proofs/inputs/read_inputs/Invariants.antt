@@ -1,4 +1,4 @@
-use Rattle.pdl_form.specs.Whole.{form}
+use Rattle.pdl_form.specs.FormView.{form}
 use Rattle.pdl_pipe_outputs.specs.Inputs.{AreWhereRead}
 use Rattle.pdl_pipe_outputs.proofs.inputs.read_inputs.Given as goal
 

@@ -2,14 +2,14 @@ use Rattle.std.proofs.Common.{◌≡◌, ◌∙◌, ℕ, ◌+◌, ◌*◌, ◌++
 use Rattle.std.specs.Prelude.{Option}
 use Rattle.pdl_semantics.specs.Flat.{Mem}
 use Rattle.pdl_semantics.specs.Stages.{mem_at, reply_place}
-use Rattle.pdl_form.specs.Whole.{form}
+use Rattle.pdl_form.specs.FormView.{form}
 use Rattle.pdl_form.specs.declared.form.Mem as r_mem
 use Rattle.pdl_form.specs.View.{mem_view}
 use Rattle.pdl_form_types.specs.Stmts.{IsTypedMem}
 use Rattle.pdl_net.specs.declared.Port.{Port}
 use Rattle.pdl_net.specs.Growth.{ExtendsPorts}
 use Rattle.pdl_net.proofs.Keeps.{ports_keeps}
-use Rattle.pdl_pipe_locks.proofs.AllMade.{mem_count, mem_is, typed_at}
+use Rattle.pdl_pipe_locks.proofs.MadeMemories.{mem_count, mem_is, typed_at}
 use Rattle.pdl_pipe_beside.specs.declared.PortInput.{PortInput}
 use Rattle.pdl_pipe_outputs.specs.Inputs.{mem_ports, IsReplyOf, AreReplies}
 use Rattle.pdl_pipe_outputs.proofs.InputLists.{ports_trans, mems_more, ports_all, inputs_place, replies_more}

@@ -1,6 +1,6 @@
 use Rattle.std.proofs.Common.{◌≡◌, ◌*◌, take, length, flat_map}
 use Rattle.pdl_semantics.specs.Stages.{reply_place}
-use Rattle.pdl_form.specs.Whole.{form}
+use Rattle.pdl_form.specs.FormView.{form}
 use Rattle.pdl_net.specs.Circuit.{inputs_of}
 use Rattle.pdl_net.specs.Growth.{ExtendsPorts}
 use Rattle.pdl_pipe_outputs.specs.Inputs.{mem_ports, AreReplies}

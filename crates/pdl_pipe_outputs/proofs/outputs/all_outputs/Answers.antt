@@ -1,17 +1,17 @@
 use Rattle.std.proofs.Common.{◌≡◌, ◌∙◌, ℕ, List, sym, subst, ap}
 use Rattle.std.proofs.lemmas.Result.{IfOk-weaker}
-use Rattle.pdl_form.specs.Whole.{form}
+use Rattle.pdl_form.specs.FormView.{form}
 use Rattle.pdl_form.specs.View.{mem_names}
 use Rattle.pdl_net.specs.Signal.{Signal}
 use Rattle.pdl_law_parts.specs.Views.{View, Gates}
-use Rattle.pdl_law_sides.specs.Whole.{whole_shown}
+use Rattle.pdl_law_sides.specs.WholeNetlist.{whole_shown}
 use Rattle.pdl_pipe_outputs.specs.declared.outputs.OutNet.{OutNet}
 use Rattle.pdl_pipe_locks.specs.Stepped.{commits_in}
-use Rattle.pdl_pipe_outputs.specs.Told.{AreOf, OutsThere, asks_in, shown_by}
-use Rattle.pdl_pipe_outputs.specs.Listed.{all_outs}
+use Rattle.pdl_pipe_outputs.specs.ToldOutputs.{AreOf, OutsThere, asks_in, shown_by}
+use Rattle.pdl_pipe_outputs.specs.OutputList.{all_outs}
 use Rattle.pdl_pipe_outputs.proofs.OutLists.{all_there, all_show}
 use Rattle.pdl_pipe_outputs.proofs.outputs.all_outputs.Goals as goal
-use Rattle.pdl_pipe_locks.proofs.AllMade.{mem_count, name_count}
+use Rattle.pdl_pipe_locks.proofs.MadeMemories.{mem_count, name_count}
 
 pub all-requires : goal.all-requires
 all-requires c =

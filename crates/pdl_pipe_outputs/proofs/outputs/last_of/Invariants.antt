@@ -1,5 +1,5 @@
 use Rattle.std.proofs.Common.{◌≡◌, drop}
-use Rattle.pdl_pipe_outputs.specs.Listed.{last_moves}
+use Rattle.pdl_pipe_outputs.specs.OutputList.{last_moves}
 use Rattle.pdl_pipe_outputs.proofs.outputs.last_of.Given as goal
 
 abbrev pub invariant-loop-stage : goal.invariant-loop-stage

@@ -1,6 +1,6 @@
 use Rattle.std.proofs.Common.{◌≡◌, ◌++◌, drop}
 use Rattle.pdl_form.specs.View.{mem_names}
-use Rattle.pdl_pipe_outputs.specs.Listed.{requests_outs}
+use Rattle.pdl_pipe_outputs.specs.OutputList.{requests_outs}
 use Rattle.pdl_pipe_outputs.proofs.outputs.push_requests.Given as goal
 
 abbrev pub invariant-loop-i : goal.invariant-loop-i

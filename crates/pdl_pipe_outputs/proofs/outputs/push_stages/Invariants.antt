@@ -1,5 +1,5 @@
 use Rattle.std.proofs.Common.{◌≡◌, ◌++◌, drop}
-use Rattle.pdl_pipe_outputs.specs.Listed.{stages_outs}
+use Rattle.pdl_pipe_outputs.specs.OutputList.{stages_outs}
 use Rattle.pdl_pipe_outputs.proofs.outputs.push_stages.Given as goal
 
 abbrev pub invariant-loop-k : goal.invariant-loop-k

@@ -1,5 +1,5 @@
 use Rattle.std.proofs.Common.{ℕ, length, sym, ap, ◌∙◌, subst}
-use Rattle.pdl_form.specs.Whole.{form}
+use Rattle.pdl_form.specs.FormView.{form}
 use Rattle.pdl_net.proofs.Keeps.{extends_keeps, keeps_trans}
 use Rattle.pdl_net.specs.Signal.{Signal}
 use Rattle.pdl_pipe_exprs.specs.Nets.{NetsThere, signals_in, signal_at, widths_of}
@@ -8,13 +8,13 @@ use Rattle.pdl_form_types.specs.Stmts.{param_widths}
 use Rattle.pdl_pipe_lives.specs.Needs.{goes_with}
 use Rattle.pdl_law_parts.specs.Lives.{lives_from, verifies_from}
 use Rattle.pdl_pipe_answers.specs.Ports.{answers_in}
-use Rattle.pdl_pipe_answers.proofs.Answered.{answer_same}
-use Rattle.pdl_pipe_walk.proofs.Kept.{bits_keep}
+use Rattle.pdl_pipe_answers.proofs.PortAnswers.{answer_same}
+use Rattle.pdl_pipe_walk.proofs.NetGrowth.{bits_keep}
 use Rattle.pdl_pipe_registers.specs.declared.nets.Item.TheVariants.{Var, Ticket, Guess}
 use Rattle.pdl_pipe_registers.specs.declared.nets.StageNets.{StageNets}
 use Rattle.pdl_pipe_registers.specs.Stages.{IsSettled, IsSpared}
 use Rattle.pdl_pipe_registers.specs.Begun.{earlier_views, earlier_count, IsSparedAfter, AreBegun, AreAnswered, AreNextTickets, IsFresh}
-use Rattle.pdl_pipe_registers.proofs.Keeping.{registers_keep, longer_none, longer_trans}
+use Rattle.pdl_pipe_registers.proofs.RegisterGrowth.{registers_keep, longer_none, longer_trans}
 use Rattle.pdl_pipe_registers.proofs.Begins.{shared_keep, next_keep, earlier_now, begun_keep}
 use Rattle.pdl_pipe_registers.proofs.HeldsBegun.{helds_keep}
 use Rattle.pdl_pipe_registers.proofs.BeginMade.{frame_from, frame_to, vars_from, guess_from, helds_from, all_held_from, past_ended, HasParts, begun_is}

@@ -1,7 +1,7 @@
 use Rattle.std.proofs.Common.{◌≡◌, ℕ, ◌+◌, ◌<◌, ◌≤◌, ◌++◌, ◌∷◌, [], length, take, sym, ap, ◌∙◌, subst, arith}
 use Rattle.std.proofs.lemmas.List.{take_all}
 use Rattle.std.specs.Prelude.{slice_index}
-use Rattle.pdl_form.specs.Whole.{form}
+use Rattle.pdl_form.specs.FormView.{form}
 use Rattle.pdl_net.specs.Signal.{Signal}
 use Rattle.pdl_net.specs.Meaning.{signal}
 use Rattle.pdl_net.proofs.Keeps.{extends_keeps, extends_trans}
@@ -9,7 +9,7 @@ use Rattle.pdl_pipe_exprs.specs.Nets.{signals_in, signal_at}
 use Rattle.pdl_pipe_exprs.proofs.NetLists.{there_keeps, signals_keep, width_at}
 use Rattle.pdl_law_sides.specs.Sides.{with_answer}
 use Rattle.pdl_pipe_answers.specs.Ports.{answers_in, BindsWide}
-use Rattle.pdl_pipe_answers.proofs.Answered.{answers_keep, answer_same}
+use Rattle.pdl_pipe_answers.proofs.PortAnswers.{answers_keep, answer_same}
 use Rattle.pdl_pipe_registers.proofs.Lists.{up_to}
 use Rattle.pdl_pipe_registers.proofs.ReadWords.{binds_wide}
 use Rattle.pdl_pipe_registers.proofs.Begins.{HasNets, push_nets, push_old, push_new, nets_long}

@@ -1,9 +1,9 @@
 use Rattle.std.proofs.Common.{sym, ◌∙◌, inr}
-use Rattle.pdl_form.specs.Whole.{form}
+use Rattle.pdl_form.specs.FormView.{form}
 use Rattle.pdl_pipe_exprs.specs.Nets.{signals_in}
 use Rattle.std.proofs.Common.{refl}
 use Rattle.pdl_pipe_registers.specs.Begun.{earlier_views, earlier_count}
-use Rattle.pdl_pipe_registers.proofs.Settling.{common_width, common_settled}
+use Rattle.pdl_pipe_registers.proofs.SettledItems.{common_width, common_settled}
 use Rattle.pdl_pipe_registers.proofs.entry.begin_item.Goals as goal
 
 pub returns-in-Some-clause-may : goal.returns-in-Some-clause-may

@@ -1,5 +1,5 @@
 use Rattle.std.proofs.Common.{◌≤◌, sym, subst}
-use Rattle.pdl_form.specs.Whole.{form}
+use Rattle.pdl_form.specs.FormView.{form}
 use Rattle.pdl_pipe_registers.proofs.Widths.{wide_low, wide_high}
 use Rattle.pdl_pipe_registers.proofs.entry.begin_var.Goals as goal
 

@@ -1,5 +1,5 @@
 use Rattle.std.proofs.Common.{ℕ, ◌+◌, ◌<◌, Bool, length, take, refl, sym, subst, arith}
-use Rattle.pdl_form.specs.Whole.{form}
+use Rattle.pdl_form.specs.FormView.{form}
 use Rattle.pdl_net.proofs.Keeps.{extends_keeps}
 use Rattle.pdl_net.specs.Signal.{Signal}
 use Rattle.pdl_pipe_exprs.specs.Nets.{signals_in}

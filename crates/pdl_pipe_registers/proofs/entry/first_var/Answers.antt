@@ -1,6 +1,6 @@
 use Rattle.std.proofs.Common.{◌≤◌, ◌<◌, ◌^◌, sym, subst, length}
 use Rattle.std.specs.Prelude.{slice_index}
-use Rattle.pdl_form.specs.Whole.{form}
+use Rattle.pdl_form.specs.FormView.{form}
 use Rattle.pdl_pipe_registers.proofs.Widths.{wide_low, wide_high, start_fits}
 use Rattle.pdl_pipe_registers.proofs.entry.first_var.Goals as goal
 

@@ -1,12 +1,12 @@
 use Rattle.std.proofs.Common.{◌<◌, ◌≤◌, inl, inr, length, refl, sym, ap, ◌∙◌, subst, arith}
 use Rattle.std.proofs.lemmas.List.{length-take}
 use Rattle.std.specs.Prelude.{slice_index}
-use Rattle.pdl_form.specs.Whole.{form}
+use Rattle.pdl_form.specs.FormView.{form}
 use Rattle.pdl_form_types.specs.Stmts.{param_widths}
 use Rattle.pdl_net.specs.Signal.{Signal}
 use Rattle.pdl_pipe_exprs.specs.Nets.{signals_in}
 use Rattle.pdl_pipe_exprs.proofs.NetLists.{width_at}
-use Rattle.pdl_pipe_registers.proofs.Settling.{twin_width}
+use Rattle.pdl_pipe_registers.proofs.SettledItems.{twin_width}
 use Rattle.pdl_pipe_registers.proofs.Widths.{wide_low, wide_high}
 use Rattle.pdl_pipe_registers.proofs.guess.begin_argument.Goals as goal
 

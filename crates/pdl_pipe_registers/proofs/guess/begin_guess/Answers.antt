@@ -1,6 +1,6 @@
 use Rattle.std.proofs.Common.{ℕ, ◌+◌, ◌<◌, Bool, length, take, sym, ap, ◌∙◌, subst, arith}
 use Rattle.std.proofs.lemmas.List.{length-take}
-use Rattle.pdl_form.specs.Whole.{form}
+use Rattle.pdl_form.specs.FormView.{form}
 use Rattle.pdl_net.proofs.Keeps.{extends_keeps}
 use Rattle.pdl_net.specs.Signal.{Signal}
 use Rattle.pdl_pipe_exprs.specs.Nets.{signals_in, widths_of}
@@ -9,7 +9,7 @@ use Rattle.pdl_law_parts.specs.Lives.{verifies_from}
 use Rattle.pdl_pipe_registers.specs.declared.nets.Item.TheVariants.{Guess}
 use Rattle.pdl_pipe_registers.specs.Begun.{earlier_views, earlier_count, IsSparedAfter, MayBegin}
 use Rattle.pdl_pipe_registers.proofs.Begins.{SoFar, shared_keep, next_keep, earlier_now, ends_same, spared_as, begin_as, sofar_more}
-use Rattle.pdl_pipe_registers.proofs.Settling.{take_index}
+use Rattle.pdl_pipe_registers.proofs.SettledItems.{take_index}
 use Rattle.pdl_pipe_registers.proofs.guess.begin_guess.Goals as goal
 
 pub begin_argument-requires-clause-shared : goal.begin_argument-requires-clause-shared

@@ -1,5 +1,5 @@
 use Rattle.std.proofs.Common.{take, length}
-use Rattle.pdl_form.specs.Whole.{form}
+use Rattle.pdl_form.specs.FormView.{form}
 use Rattle.pdl_pipe_exprs.specs.Nets.{signals_in}
 use Rattle.pdl_law_parts.specs.Lives.{verifies_from}
 use Rattle.pdl_pipe_registers.specs.declared.nets.Item.TheVariants.{Guess}

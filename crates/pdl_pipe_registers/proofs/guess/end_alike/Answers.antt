@@ -1,7 +1,7 @@
 use Rattle.std.proofs.Common.{◌≡◌, arith}
 use Rattle.pdl_pipe_registers.specs.Items.{ended_item}
 use Rattle.pdl_pipe_registers.specs.Begun.{earlier_views}
-use Rattle.pdl_pipe_registers.proofs.Settling.{each_from}
+use Rattle.pdl_pipe_registers.proofs.SettledItems.{each_from}
 use Rattle.pdl_pipe_registers.proofs.guess.end_alike.Goals as goal
 
 pub returns-clause-same : goal.returns-clause-same

@@ -1,6 +1,6 @@
 use Rattle.std.proofs.Common.{[], take}
 use Rattle.pdl_word.specs.Each.{Each}
-use Rattle.pdl_form.specs.Whole.{form}
+use Rattle.pdl_form.specs.FormView.{form}
 use Rattle.pdl_pipe_exprs.specs.Nets.{signals_in}
 use Rattle.pdl_pipe_registers.specs.Begun.{earlier_views, earlier_count, HasAllHeld}
 use Rattle.pdl_pipe_registers.proofs.HeldsBegun.{HeldsSoFar}

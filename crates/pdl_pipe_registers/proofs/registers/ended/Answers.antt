@@ -1,5 +1,5 @@
 use Rattle.std.proofs.Common.{◌<◌, length, take, ap, subst, arith}
-use Rattle.pdl_form.specs.Whole.{form}
+use Rattle.pdl_form.specs.FormView.{form}
 use Rattle.pdl_pipe_registers.specs.Begun.{IsItem}
 use Rattle.pdl_pipe_registers.proofs.Begins.{nets_long}
 use Rattle.pdl_pipe_registers.proofs.registers.ended.Goals as goal

@@ -1,5 +1,5 @@
 use Rattle.pdl_net.specs.Meaning.{signal}
-use Rattle.pdl_pipe_registers.proofs.Settling.{constant_is}
+use Rattle.pdl_pipe_registers.proofs.SettledItems.{constant_is}
 use Rattle.pdl_pipe_registers.proofs.registers.is_fixed.Goals as goal
 
 pub returns-in-Some : goal.returns-in-Some

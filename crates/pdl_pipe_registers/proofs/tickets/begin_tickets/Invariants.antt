@@ -1,5 +1,5 @@
 use Rattle.std.proofs.Common.{◌≡◌, ℕ, ◌<◌, false, take}
-use Rattle.pdl_form.specs.Whole.{form}
+use Rattle.pdl_form.specs.FormView.{form}
 use Rattle.pdl_pipe_exprs.specs.Nets.{signals_in, signal_at, widths_of}
 use Rattle.pdl_pipe_lives.specs.Needs.{goes_with}
 use Rattle.pdl_law_parts.specs.Views.{View}

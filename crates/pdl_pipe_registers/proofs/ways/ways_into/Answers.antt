@@ -1,6 +1,6 @@
 use Rattle.std.proofs.Common.{◌<◌, ◌+◌, ◌++◌, sym, ap, ap₂, ℕ, ◌∙◌, arith}
 use Rattle.std.specs.Global.{Vec}
-use Rattle.pdl_form.specs.Whole.{form}
+use Rattle.pdl_form.specs.FormView.{form}
 use Rattle.pdl_machine_facts.specs.Slots.{leads_to}
 use Rattle.pdl_pipe_registers.proofs.WaysMade.{ways_left, one_leads, none_leads}
 use Rattle.pdl_pipe_registers.proofs.ways.ways_into.Goals as goal

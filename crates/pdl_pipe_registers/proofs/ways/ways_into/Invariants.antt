@@ -1,5 +1,5 @@
 use Rattle.std.proofs.Common.{◌≡◌, ◌++◌}
-use Rattle.pdl_form.specs.Whole.{form}
+use Rattle.pdl_form.specs.FormView.{form}
 use Rattle.pdl_machine_facts.specs.Slots.{ways}
 use Rattle.pdl_pipe_registers.proofs.WaysMade.{ways_left}
 use Rattle.pdl_pipe_registers.proofs.ways.ways_into.Given as goal

@@ -1,6 +1,6 @@
 use Rattle.std.proofs.Common.{◌<◌, length, refl, sym, ap, ◌∙◌, subst, arith}
 use Rattle.pdl_semantics.specs.Stages.{in_stage}
-use Rattle.pdl_form.specs.Whole.{form}
+use Rattle.pdl_form.specs.FormView.{form}
 use Rattle.pdl_net.specs.Growth.{Keeps}
 use Rattle.pdl_net.proofs.Keeps.{extends_keeps, extends_trans, keeps_trans, regs_grow}
 use Rattle.pdl_pipe_exprs.specs.Nets.{signals_in, widths_of}
@@ -9,13 +9,13 @@ use Rattle.pdl_pipe_walk.specs.Parts.{walk_in}
 use Rattle.pdl_pipe_walk.specs.Locked.{members, locks_in, AreTickets, tickets_in}
 use Rattle.pdl_pipe_answers.specs.Ports.{answers_in}
 use Rattle.pdl_pipe_walk.specs.Steps.{AreSteps}
-use Rattle.pdl_pipe_walk.proofs.Kept.{bits_keep}
+use Rattle.pdl_pipe_walk.proofs.NetGrowth.{bits_keep}
 use Rattle.pdl_pipe_walk.proofs.MadeLocks.{locked_keep, locks_same}
 use Rattle.pdl_pipe_exprs.proofs.NetLists.{length_signals}
 use Rattle.pdl_pipe_registers.proofs.Begins.{each_way}
 use Rattle.pdl_word.specs.Each.{Each}
 use Rattle.pdl_pipe_registers.proofs.TicketsMade.{tickets_fit}
-use Rattle.pdl_pipe_registers.proofs.StagedMade.{staged_made}
+use Rattle.pdl_pipe_registers.proofs.StageEnds.{staged_made}
 use Rattle.pdl_pipe_registers.proofs.whole.stage.Goals as goal
 
 pub begin-requires-clause-earlier : goal.begin-requires-clause-earlier

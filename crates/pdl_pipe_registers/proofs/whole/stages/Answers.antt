@@ -1,6 +1,6 @@
 use Rattle.std.proofs.Common.{◌≡◌, ◌+◌, [], map, length, sym, ap, ◌∙◌, subst, arith, rules}
 use Rattle.std.proofs.lemmas.List.{length-map}
-use Rattle.pdl_form.specs.Whole.{form}
+use Rattle.pdl_form.specs.FormView.{form}
 use Rattle.pdl_form.specs.View.{stage_view}
 use Rattle.pdl_net.specs.Growth.{Keeps}
 use Rattle.pdl_net.proofs.Keeps.{extends_keeps, extends_trans}
@@ -8,13 +8,13 @@ use Rattle.pdl_pipe_exprs.specs.Nets.{NetsThere, signals_in}
 use Rattle.pdl_law_parts.specs.Walk.{Locks}
 use Rattle.pdl_pipe_walk.specs.Locked.{members, locks_in, AreLocked}
 use Rattle.pdl_pipe_answers.specs.Ports.{answers_in}
-use Rattle.pdl_pipe_answers.proofs.Answered.{answers_keep}
-use Rattle.pdl_pipe_walk.proofs.Kept.{bits_keep}
+use Rattle.pdl_pipe_answers.proofs.PortAnswers.{answers_keep}
+use Rattle.pdl_pipe_walk.proofs.NetGrowth.{bits_keep}
 use Rattle.pdl_pipe_walk.proofs.MadeLocks.{locked_keep, locks_same}
 use Rattle.pdl_pipe_registers.specs.Begun.{AreEnded, ticket_net}
 use Rattle.pdl_pipe_registers.specs.Staged.{IsStaged, next_signals}
 use Rattle.pdl_pipe_registers.proofs.TicketsMade.{next_there, next_are, next_same}
-use Rattle.pdl_pipe_registers.proofs.StagedMade.{staged_answers}
+use Rattle.pdl_pipe_registers.proofs.StageEnds.{staged_answers}
 use Rattle.pdl_pipe_registers.proofs.StagesMade.{StagesSoFar, stages_none, stages_more}
 use Rattle.pdl_pipe_registers.proofs.whole.stages.Goals as goal
 

@@ -1,4 +1,4 @@
-use Rattle.pdl_form.specs.Whole.{form}
+use Rattle.pdl_form.specs.FormView.{form}
 use Rattle.pdl_pipe_answers.specs.Ports.{answers_in}
 use Rattle.pdl_pipe_walk.specs.Locked.{members, locks_in}
 use Rattle.pdl_pipe_registers.specs.Staged.{next_signals}

@@ -1,5 +1,5 @@
 use Rattle.std.proofs.Common.{◌≡◌, map, take}
-use Rattle.pdl_form.specs.Whole.{form}
+use Rattle.pdl_form.specs.FormView.{form}
 use Rattle.pdl_net.specs.Growth.{Extends}
 use Rattle.pdl_pipe_exprs.specs.Nets.{NetsThere, signals_in}
 use Rattle.pdl_pipe_registers.specs.Stages.{zero_signal}

@@ -4,7 +4,7 @@ use Rattle.pdl_net.specs.Signal.{Signal, reg_signal}
 use Rattle.pdl_net.specs.Meaning.{signal}
 use Rattle.pdl_net.proofs.Keeps.{extends_keeps, extends_trans}
 use Rattle.pdl_pipe_tails.specs.Carried.{brought_tail, HaveTails}
-use Rattle.pdl_pipe_tails.proofs.Carrying.{coming_keep, tails_keep, brought_keep, extends_new}
+use Rattle.pdl_pipe_tails.proofs.TailRegisters.{coming_keep, tails_keep, brought_keep, extends_new}
 use Rattle.pdl_pipe_tails.proofs.carried.carried.Goals as goal
 
 pub coming-requires-clause-arrivals : goal.coming-requires-clause-arrivals

@@ -5,7 +5,7 @@ use Rattle.pdl_net.specs.Meaning.{signal}
 use Rattle.pdl_net.proofs.Keeps.{extends_keeps, extends_refl, extends_trans}
 use Rattle.pdl_pipe_exprs.specs.Nets.{NetsThere, signals_in, signal_at}
 use Rattle.pdl_pipe_tails.specs.Carried.{brought_tail, tail_in}
-use Rattle.pdl_pipe_tails.proofs.Carrying.{coming_nth, tail_keep, tails_keep, brought_more}
+use Rattle.pdl_pipe_tails.proofs.TailRegisters.{coming_nth, tail_keep, tails_keep, brought_more}
 use Rattle.pdl_pipe_tails.proofs.carried.coming.Goals as goal
 
 pub loop-i-init : goal.loop-i-init

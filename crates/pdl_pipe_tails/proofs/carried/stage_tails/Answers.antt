@@ -10,7 +10,7 @@ use Rattle.pdl_pipe_nexts.specs.Lines.{line_pipe, line_views, line_moves}
 use Rattle.pdl_pipe_nexts.specs.Arrivals.{AreArrivals}
 use Rattle.pdl_pipe_tails.specs.Carried.{HaveTails, AreComing}
 use Rattle.pdl_pipe_tails.specs.Tails.{IsTail}
-use Rattle.pdl_pipe_tails.proofs.Carrying.{coming_keep, tails_keep}
+use Rattle.pdl_pipe_tails.proofs.TailRegisters.{coming_keep, tails_keep}
 use Rattle.pdl_pipe_tails.proofs.Rows.{arrivals_coming, tail_from, tails_more, stage_tail_is}
 use Rattle.pdl_pipe_tails.proofs.carried.stage_tails.Goals as goal
 

@@ -11,9 +11,9 @@ use Rattle.pdl_pipe_walk.specs.declared.nets.ReserveNet.{ReserveNet}
 use Rattle.pdl_pipe_walk.specs.Parts.{reservation_in}
 use Rattle.pdl_pipe_registers.proofs.Lists.{view_at}
 use Rattle.pdl_pipe_nexts.specs.Lines.{line_pipe, line_views, line_moves}
-use Rattle.pdl_pipe_nexts.proofs.LinesKept.{bits_there, bit_one, line_keep, ended_same, moves_same}
+use Rattle.pdl_pipe_nexts.proofs.LineGrowth.{bits_there, bit_one, line_keep, ended_same, moves_same}
 use Rattle.pdl_pipe_tails.specs.Reserved.{IsReserve, IsAfter}
-use Rattle.pdl_pipe_tails.proofs.Reserving.{reserves_of, stages_more}
+use Rattle.pdl_pipe_tails.proofs.ReservedTickets.{reserves_of, stages_more}
 use Rattle.pdl_pipe_tails.proofs.reserved.after_all.Goals as goal
 
 pub variable-moves-requires-clause-there : goal.variable-moves-requires-clause-there

@@ -4,7 +4,7 @@ use Rattle.pdl_law_parts.specs.Ports.{reserves_to}
 use Rattle.std.proofs.Common.{◌∷◌, []}
 use Rattle.pdl_pipe_walk.specs.Parts.{reservation_in}
 use Rattle.pdl_pipe_tails.specs.Reserved.{one_more, IsAfter}
-use Rattle.pdl_pipe_tails.proofs.Reserving.{after_own, after_other}
+use Rattle.pdl_pipe_tails.proofs.ReservedTickets.{after_own, after_other}
 use Rattle.pdl_pipe_tails.proofs.reserved.after_reserve.Goals as goal
 
 pub returns-then-reserve-mem-clause-after : goal.returns-then-reserve-mem-clause-after

@@ -10,7 +10,7 @@ use Rattle.pdl_law_parts.specs.Ports.{reserves_to}
 use Rattle.pdl_pipe_walk.specs.declared.nets.ReserveNet.{ReserveNet}
 use Rattle.pdl_pipe_walk.specs.Parts.{reservation_in}
 use Rattle.pdl_pipe_tails.specs.Reserved.{IsReserve, IsAfter}
-use Rattle.pdl_pipe_tails.proofs.Reserving.{after_none, reserves_keep, stage_more}
+use Rattle.pdl_pipe_tails.proofs.ReservedTickets.{after_none, reserves_keep, stage_more}
 use Rattle.pdl_pipe_tails.proofs.reserved.after_stage.Goals as goal
 
 abbrev no_reserve : ReserveNet

@@ -2,7 +2,7 @@ use Rattle.std.proofs.Common.{◌≡◌, ◌+◌, ◌∙◌, ◌++◌, ◌∷◌
 use Rattle.std.proofs.lemmas.List.{length-append}
 use Rattle.pdl_net.proofs.Keeps.{extends_keeps, extends_trans, keeps_trans}
 use Rattle.pdl_pipe_exprs.specs.Nets.{signals_in, signal_at}
-use Rattle.pdl_pipe_nexts.proofs.LinesKept.{line_keep}
+use Rattle.pdl_pipe_nexts.proofs.LineGrowth.{line_keep}
 use Rattle.pdl_pipe_tails.specs.declared.whole.TailNets.{TailNets}
 use Rattle.pdl_pipe_tails.specs.Reserved.{AreAfterAll}
 use Rattle.pdl_pipe_tails.specs.Carried.{tail_in, HaveTails}

@@ -2,7 +2,7 @@ use Rattle.std.proofs.Common.{◌∙◌, ℕ, sym, ap, subst}
 use Rattle.std.proofs.lemmas.Result.{IfOk-weaker}
 use Rattle.std.specs.Prelude.{is_some}
 use Rattle.pdl_lockapi.specs.Laws.{HasValueNet}
-use Rattle.pdl_form.specs.Whole.{form}
+use Rattle.pdl_form.specs.FormView.{form}
 use Rattle.pdl_semantics.specs.Stages.{mem_at}
 use Rattle.pdl_law_parts.specs.Places.{comb_place}
 use Rattle.pdl_pipe_walk.proofs.Arrays.{some_array}

@@ -1,7 +1,7 @@
 use Rattle.std.proofs.lemmas.Result.{IfOk-weaker}
 use Rattle.pdl_net.specs.Meaning.{signal}
 use Rattle.pdl_net.proofs.Keeps.{extends_trans, extends_keeps}
-use Rattle.pdl_form.specs.Whole.{form}
+use Rattle.pdl_form.specs.FormView.{form}
 use Rattle.pdl_pipe_walk.specs.Locked.{members, locks_in}
 use Rattle.pdl_pipe_walk.proofs.MadeLocks.{locked_keep, looked_off, looked_on, looked_join}
 use Rattle.pdl_pipe_walk.proofs.locks.look_held.Goals as goal

@@ -3,7 +3,7 @@ use Rattle.std.proofs.lemmas.Result.{IfOk-weaker}
 use Rattle.pdl_net.specs.Circuit.{array_width}
 use Rattle.pdl_net.specs.Signal.{read_signal}
 use Rattle.pdl_net.specs.Meaning.{signal, Means}
-use Rattle.pdl_form.specs.Whole.{form}
+use Rattle.pdl_form.specs.FormView.{form}
 use Rattle.pdl_pipe_walk.specs.Locked.{members, locks_in}
 use Rattle.pdl_law_parts.specs.Places.{comb_place}
 use Rattle.pdl_pipe_walk.proofs.MadeLocks.{plain_word}

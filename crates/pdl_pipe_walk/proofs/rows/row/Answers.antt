@@ -1,4 +1,4 @@
-use Rattle.pdl_pipe_walk.proofs.OneByOne.{row_view}
+use Rattle.pdl_pipe_walk.proofs.RowSteps.{row_view}
 use Rattle.pdl_pipe_walk.proofs.rows.row.Goals as goal
 
 pub returns : goal.returns

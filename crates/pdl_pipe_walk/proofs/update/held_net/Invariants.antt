@@ -1,5 +1,5 @@
 use Rattle.std.proofs.Common.{◌≡◌, drop}
-use Rattle.pdl_pipe_walk.specs.Finding.{held_net as held_in}
+use Rattle.pdl_pipe_walk.specs.HeldLookups.{held_net as held_in}
 use Rattle.pdl_pipe_walk.proofs.update.held_net.Given as goal
 
 -- none so far is of the location

@@ -7,9 +7,9 @@ use Rattle.pdl_port.specs.declared.PortRegs.{PortRegs}
 use Rattle.pdl_port.specs.declared.layout.Layout.{Layout}
 use Rattle.pdl_port.specs.Laws.{AnswerLaw, answer_signals}
 use Rattle.pdl_port.specs.Places.{Stands}
-use Rattle.pdl_port.proofs.Kept.{places_kept}
+use Rattle.pdl_port.proofs.PortGrowth.{places_kept}
 use Rattle.pdl_port.proofs.Law.{answer_law}
-use Rattle.pdl_port.proofs.Placed.{AreListed, layout_is, are_placed, is_fragment, answers_are}
+use Rattle.pdl_port.proofs.PlacedRegisters.{AreListed, layout_is, are_placed, is_fragment, answers_are}
 use Rattle.pdl_port.proofs.state.emit_port_state.Goals as goal
 
 pub returns-clause-placed : goal.returns-clause-placed

@@ -1,5 +1,5 @@
 use Rattle.std.proofs.Common.{ℕ, List, get_or, ◌+◌, ◌∙◌, ap, arith, [], ◌∷◌, length, length-append}
-use Rattle.pdl_port.proofs.Made.{numbers_more}
+use Rattle.pdl_port.proofs.MadeRegisters.{numbers_more}
 use Rattle.pdl_port.proofs.state.numbers.Goals as goal
 
 pub loop-k-preserved : goal.loop-k-preserved

@@ -2,7 +2,7 @@ use Rattle.std.proofs.Common.{◌∙◌, arith, inl, inr, ⊎_elim}
 use Rattle.pdl_net.proofs.Keeps.{extends_keeps, but_keeps, but_extends, but_trans, keeps_trans}
 use Rattle.pdl_build.specs.Change.{one_reg}
 use Rattle.pdl_port.specs.Nets.{own_all, own_places}
-use Rattle.pdl_port.proofs.Kept.{but_wider}
+use Rattle.pdl_port.proofs.PortGrowth.{but_wider}
 use Rattle.pdl_port.proofs.Steps.{same_step, places_same}
 use Rattle.pdl_port.proofs.step.emit_all.Goals as goal
 

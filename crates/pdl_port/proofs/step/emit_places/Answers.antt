@@ -3,7 +3,7 @@ use Rattle.pdl_net.proofs.Keeps.{but_keeps, but_extends, but_trans}
 use Rattle.pdl_build.specs.Change.{one_reg}
 use Rattle.pdl_port.specs.Places.{owns_at}
 use Rattle.pdl_port.specs.Nets.{own_places}
-use Rattle.pdl_port.proofs.Kept.{places_kept_but, but_wider}
+use Rattle.pdl_port.proofs.PortGrowth.{places_kept_but, but_wider}
 use Rattle.pdl_port.proofs.Steps.{same_step, owns_same, places_next}
 use Rattle.pdl_port.proofs.step.emit_places.Goals as goal
 

@@ -5,7 +5,7 @@ use Rattle.pdl_port.specs.Laws.{places, step_signals, StepLaw}
 use Rattle.pdl_port.specs.Places.{layout_of, stands}
 use Rattle.pdl_port.specs.Nets.{NextPort, own_all}
 use Rattle.pdl_port.proofs.Law.{step_law}
-use Rattle.pdl_port.proofs.Placed.{own_is}
+use Rattle.pdl_port.proofs.PlacedRegisters.{own_is}
 use Rattle.pdl_port.proofs.step.emit_port_step.Goals as goal
 
 pub returns-clause-law : goal.returns-clause-law

@@ -5,7 +5,7 @@ use Rattle.pdl_net.specs.Meaning.{Means, signal}
 use Rattle.pdl_net.specs.Growth.{Extends}
 use Rattle.pdl_net.proofs.Keeps.{extends_trans, means_kept}
 use Rattle.pdl_lock_ring.specs.Looks.{youngest_look, youngest_ready}
-use Rattle.pdl_lock_ring.proofs.Kept.{means_as}
+use Rattle.pdl_lock_ring.proofs.RingGrowth.{means_as}
 use Rattle.pdl_lock_ring.proofs.Reserves.{picked_means}
 use Rattle.pdl_rename.proofs.look.emit_look.Goals as goal
 

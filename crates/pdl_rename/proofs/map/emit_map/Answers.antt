@@ -1,12 +1,12 @@
 use Rattle.std.proofs.Common.{◌≡◌, ◌∙◌, ◌<◌, sym, ap, arith}
 use Rattle.pdl_net.proofs.Keeps.{but_keeps, but_trans, but_extends, extends_refl}
 use Rattle.pdl_lockapi.specs.Laws.{StepSignals, step_signals}
-use Rattle.pdl_lockapi.proofs.Kept.{same_signals}
-use Rattle.pdl_lock_ring.proofs.Kept.{ports_kept_but, oldest_later}
-use Rattle.pdl_lock_ring.proofs.Whole.{reg_in_row}
+use Rattle.pdl_lockapi.proofs.LockGrowth.{same_signals}
+use Rattle.pdl_lock_ring.proofs.RingGrowth.{ports_kept_but, oldest_later}
+use Rattle.pdl_lock_ring.proofs.StepCalls.{reg_in_row}
 use Rattle.pdl_rename.specs.Places.{map_at}
 use Rattle.pdl_rename.specs.Nets.{own_map, next_map}
-use Rattle.pdl_rename.proofs.Made.{map_kept_but}
+use Rattle.pdl_rename.proofs.MadeRegisters.{map_kept_but}
 use Rattle.pdl_rename.proofs.Turns.{map_none, map_more}
 use Rattle.pdl_rename.proofs.map.emit_map.Goals as goal
 

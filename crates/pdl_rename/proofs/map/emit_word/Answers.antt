@@ -2,7 +2,7 @@ use Rattle.std.proofs.Common.{◌≡◌, sym, ◌∙◌}
 use Rattle.pdl_net.specs.Meaning.{signal}
 use Rattle.pdl_net.specs.Growth.{Extends}
 use Rattle.pdl_net.proofs.Keeps.{extends_trans}
-use Rattle.pdl_lock_ring.proofs.Kept.{same_mux, same_bin, later_is}
+use Rattle.pdl_lock_ring.proofs.RingGrowth.{same_mux, same_bin, later_is}
 use Rattle.pdl_lock_ring.proofs.Ends.{release2_is}
 use Rattle.pdl_rename.proofs.map.emit_word.Goals as goal
 

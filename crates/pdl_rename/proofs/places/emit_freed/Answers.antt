@@ -5,13 +5,13 @@ use Rattle.pdl_net.specs.Meaning.{Means, signal}
 use Rattle.pdl_net.specs.Growth.{Extends}
 use Rattle.pdl_net.proofs.Keeps.{extends_keeps, extends_trans}
 use Rattle.pdl_lockapi.specs.Laws.{StepSignals, step_signals}
-use Rattle.pdl_lockapi.proofs.Kept.{same_signals}
+use Rattle.pdl_lockapi.proofs.LockGrowth.{same_signals}
 use Rattle.pdl_lock_ring.specs.Looks.{head_signal, slot_of}
 use Rattle.pdl_lock_ring.specs.Steps.{next_head}
-use Rattle.pdl_lock_ring.proofs.Kept.{same_mux, later_is, oldest_later}
+use Rattle.pdl_lock_ring.proofs.RingGrowth.{same_mux, later_is, oldest_later}
 use Rattle.pdl_lock_ring.proofs.Ends.{release_is, release2_is}
 use Rattle.pdl_rename.specs.Nets.{mapped_place, freed_slot, freed2_slot, freed_place, freed2_place}
-use Rattle.pdl_rename.proofs.Chosen.{mapped_width}
+use Rattle.pdl_rename.proofs.ChoiceWidths.{mapped_width}
 use Rattle.pdl_rename.proofs.places.emit_freed.Goals as goal
 
 pub emit_freed2-requires-clause-oldest : goal.emit_freed2-requires-clause-oldest

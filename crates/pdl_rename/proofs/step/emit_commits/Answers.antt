@@ -6,7 +6,7 @@ use Rattle.pdl_net.proofs.Keeps.{extends_trans}
 use Rattle.pdl_lockapi.specs.Laws.{step_signals}
 use Rattle.pdl_lock_ring.specs.Steps.{oldest_addr, next_addr}
 use Rattle.pdl_lock_ring.proofs.Ends.{release_is, release2_is}
-use Rattle.pdl_lock_ring.proofs.Kept.{means_as, same_mux, later_is}
+use Rattle.pdl_lock_ring.proofs.RingGrowth.{means_as, same_mux, later_is}
 use Rattle.pdl_rename.specs.Nets.{oldest_value, next_value}
 use Rattle.pdl_rename.proofs.step.emit_commits.Goals as goal
 

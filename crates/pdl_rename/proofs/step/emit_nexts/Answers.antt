@@ -2,16 +2,16 @@ use Rattle.std.proofs.Common.{◌≡◌, length, refl, sym, subst, ap, ◌∙◌
 use Rattle.pdl_net.specs.Growth.{Keeps}
 use Rattle.pdl_net.proofs.Keeps.{keeps_trans, but_keeps, but_trans}
 use Rattle.pdl_lockapi.specs.Laws.{StepSignals, step_signals}
-use Rattle.pdl_lockapi.proofs.Kept.{same_signals}
-use Rattle.pdl_lock_ring.specs.Kept.{slots_keep}
+use Rattle.pdl_lockapi.proofs.LockGrowth.{same_signals}
+use Rattle.pdl_lock_ring.specs.SlotGrowth.{slots_keep}
 use Rattle.pdl_lock_ring.specs.Steps.{NextEnds, own_slots, own_ends, own_contents}
 use Rattle.pdl_lock_ring.proofs.Fills.{writes_count}
-use Rattle.pdl_lock_ring.proofs.Kept.{ports_keep, ready_keep, oldest_later}
-use Rattle.pdl_lock_ring.proofs.Whole.{addrs_kept, bits_kept, ends_kept}
-use Rattle.pdl_rename.specs.Kept.{map_keep, store_keep}
+use Rattle.pdl_lock_ring.proofs.RingGrowth.{ports_keep, ready_keep, oldest_later}
+use Rattle.pdl_lock_ring.proofs.StepCalls.{addrs_kept, bits_kept, ends_kept}
+use Rattle.pdl_rename.specs.RenameGrowth.{map_keep, store_keep}
 use Rattle.pdl_rename.specs.Nets.{NextMap, NextPlaces, place_writes, own_map, own_store, own_rename}
 use Rattle.pdl_rename.proofs.Turns.{freed_later}
-use Rattle.pdl_rename.proofs.Whole.{slots_in_rename, ends_in_rename, places_in_rename, map_in_rename, store_in_rename, stays_empty, places_stay, map_stays}
+use Rattle.pdl_rename.proofs.StepCalls.{slots_in_rename, ends_in_rename, places_in_rename, map_in_rename, store_in_rename, stays_empty, places_stay, map_stays}
 use Rattle.pdl_rename.proofs.step.emit_nexts.Goals as goal
 
 pub emit_ends-requires : goal.emit_ends-requires

@@ -2,7 +2,7 @@ use Rattle.std.proofs.Common.{◌≡◌, ap, sym, ◌∙◌}
 use Rattle.pdl_net.specs.Growth.{Extends}
 use Rattle.pdl_net.proofs.Keeps.{extends_trans}
 use Rattle.pdl_lockapi.specs.Laws.{TicketSignal, step_signals, ticket_at, ticket_signal}
-use Rattle.pdl_lock_ring.proofs.Kept.{means_as, same_mux, same_bin}
+use Rattle.pdl_lock_ring.proofs.RingGrowth.{means_as, same_mux, same_bin}
 use Rattle.pdl_lock_ring.proofs.Fills.{ticket_is}
 use Rattle.pdl_rename.proofs.step.emit_put_word.Goals as goal
 

@@ -2,13 +2,13 @@ use Rattle.std.proofs.Common.{◌≡◌, sym, subst, ◌∙◌}
 use Rattle.pdl_net.specs.Growth.{Extends, Keeps}
 use Rattle.pdl_net.proofs.Keeps.{keeps_trans, extends_keeps, extends_trans, but_keeps, but_extends, but_trans}
 use Rattle.pdl_lockapi.specs.Laws.{step_signals}
-use Rattle.pdl_lockapi.proofs.Kept.{same_signals}
+use Rattle.pdl_lockapi.proofs.LockGrowth.{same_signals}
 use Rattle.pdl_lock_ring.specs.Oldest.{AreOldest}
-use Rattle.pdl_lock_ring.proofs.Kept.{ports_keep, ready_keep, oldest_later}
-use Rattle.pdl_rename.specs.Kept.{map_keep, store_keep}
+use Rattle.pdl_lock_ring.proofs.RingGrowth.{ports_keep, ready_keep, oldest_later}
+use Rattle.pdl_rename.specs.RenameGrowth.{map_keep, store_keep}
 use Rattle.pdl_rename.specs.Freed.{AreFreed}
 use Rattle.pdl_rename.specs.Nets.{NextRename, AreRenamed, own_rename}
-use Rattle.pdl_rename.proofs.Whole.{renamed_keep}
+use Rattle.pdl_rename.proofs.StepCalls.{renamed_keep}
 use Rattle.pdl_rename.proofs.step.emit_step.Goals as goal
 
 pub emit_commits-requires : goal.emit_commits-requires

@@ -3,8 +3,8 @@ use Rattle.pdl_net.specs.Signal.{Signal}
 use Rattle.pdl_net.specs.Meaning.{signal}
 use Rattle.pdl_net.proofs.Keeps.{extends_keeps, extends_trans}
 use Rattle.pdl_lockapi.specs.Laws.{StepSignals, step_signals}
-use Rattle.pdl_lockapi.proofs.Kept.{same_signals}
-use Rattle.pdl_lock_ring.proofs.Kept.{ports_kept, means_as}
+use Rattle.pdl_lockapi.proofs.LockGrowth.{same_signals}
+use Rattle.pdl_lock_ring.proofs.RingGrowth.{ports_kept, means_as}
 use Rattle.pdl_rename.specs.Nets.{put_signal}
 use Rattle.pdl_rename.proofs.Words.{stored_more}
 use Rattle.pdl_rename.proofs.step.emit_stored.Goals as goal

@@ -3,10 +3,10 @@ use Rattle.pdl_net.specs.Meaning.{Means, signal}
 use Rattle.pdl_net.specs.Growth.{Extends}
 use Rattle.pdl_net.proofs.Keeps.{extends_keeps, extends_trans}
 use Rattle.pdl_lockapi.specs.Laws.{step_signals}
-use Rattle.pdl_lockapi.proofs.Kept.{same_signals}
+use Rattle.pdl_lockapi.proofs.LockGrowth.{same_signals}
 use Rattle.pdl_lock_ring.specs.Looks.{slot_of, head_signal}
 use Rattle.pdl_lock_ring.specs.Steps.{next_head}
-use Rattle.pdl_lock_ring.proofs.Kept.{means_as, later_is}
+use Rattle.pdl_lock_ring.proofs.RingGrowth.{means_as, later_is}
 use Rattle.pdl_lock_ring.proofs.Fills.{writes_count}
 use Rattle.pdl_rename.specs.Nets.{oldest_value}
 use Rattle.pdl_rename.proofs.Words.{same_stored}

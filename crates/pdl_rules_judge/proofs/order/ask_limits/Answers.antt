@@ -3,7 +3,7 @@ use Rattle.pdl_syntax_tree.specs.View.{pipe_view}
 use Rattle.pdl_rules.specs.Refusal.{first_broken, limits}
 use Rattle.pdl_paths.specs.Actions.{place_view}
 use Rattle.pdl_rules_on_texts.specs.Refused.{refused_of}
-use Rattle.pdl_rules_judge.proofs.Told.{told_some}
+use Rattle.pdl_rules_judge.proofs.FirstBrokenRule.{told_some}
 use Rattle.pdl_rules_judge.proofs.order.ask_limits.Goals as goal
 
 pub returns-in-Some : goal.returns-in-Some

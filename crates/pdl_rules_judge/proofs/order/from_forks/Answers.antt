@@ -1,6 +1,6 @@
 use Rattle.pdl_syntax_tree.specs.View.{pipe_view}
-use Rattle.pdl_rules_judge.specs.Told.{fork_rules, after_forks}
-use Rattle.pdl_rules_judge.proofs.Told.{first_tells, then_answers}
+use Rattle.pdl_rules_judge.specs.OrderedRules.{fork_rules, after_forks}
+use Rattle.pdl_rules_judge.proofs.FirstBrokenRule.{first_tells, then_answers}
 use Rattle.pdl_rules_judge.proofs.order.from_forks.Goals as goal
 
 pub returns-in-Ok-clause-answers : goal.returns-in-Ok-clause-answers

@@ -1,7 +1,7 @@
 use Rattle.pdl_syntax_tree.specs.View.{pipe_view}
 use Rattle.pdl_locks.specs.Plan.{lock_rules}
 use Rattle.pdl_spec.specs.Plan.{spec_rules}
-use Rattle.pdl_rules_judge.proofs.Told.{first_tells, then_answers}
+use Rattle.pdl_rules_judge.proofs.FirstBrokenRule.{first_tells, then_answers}
 use Rattle.pdl_rules_judge.proofs.order.from_lines.Goals as goal
 
 pub plan_locks-requires : goal.plan_locks-requires

@@ -1,7 +1,7 @@
 use Rattle.pdl_syntax_tree.specs.View.{pipe_view}
 use Rattle.pdl_rules_names.specs.Order.{name_rules}
-use Rattle.pdl_rules_judge.specs.Told.{after_names}
-use Rattle.pdl_rules_judge.proofs.Told.{first_tells, then_answers}
+use Rattle.pdl_rules_judge.specs.OrderedRules.{after_names}
+use Rattle.pdl_rules_judge.proofs.FirstBrokenRule.{first_tells, then_answers}
 use Rattle.pdl_rules_judge.proofs.order.from_names.Goals as goal
 
 pub returns-in-Ok-clause-answers : goal.returns-in-Ok-clause-answers

@@ -1,6 +1,6 @@
 use Rattle.pdl_syntax_tree.specs.View.{pipe_view}
 use Rattle.pdl_rules.specs.Refusal.{limits, after_limits}
-use Rattle.pdl_rules_judge.proofs.Told.{first_tells, then_answers}
+use Rattle.pdl_rules_judge.proofs.FirstBrokenRule.{first_tells, then_answers}
 use Rattle.pdl_rules_judge.proofs.order.judge.Goals as goal
 
 pub returns-in-Ok-clause-answers : goal.returns-in-Ok-clause-answers

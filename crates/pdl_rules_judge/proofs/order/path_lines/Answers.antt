@@ -1,6 +1,6 @@
 use Rattle.std.proofs.Common.{sym, subst}
 use Rattle.pdl_syntax_tree.specs.View.{pipe_view}
-use Rattle.pdl_spec.specs.Named.{AreLines}
+use Rattle.pdl_spec.specs.WalkLines.{AreLines}
 use Rattle.pdl_rules_judge.proofs.order.path_lines.Goals as goal
 
 pub lock_path_rules-requires : goal.lock_path_rules-requires

@@ -6,7 +6,7 @@ use Rattle.pdl_rules.specs.Stages.{first_stage}
 use Rattle.pdl_rules.specs.Widths.{after_place}
 use Rattle.pdl_paths.specs.Actions.{place_view}
 use Rattle.pdl_paths.specs.Masks.{AreMasked}
-use Rattle.pdl_rules_judge.proofs.Few.{few_guards}
+use Rattle.pdl_rules_judge.proofs.GuardCount.{few_guards}
 use Rattle.pdl_rules_judge.proofs.order.within.Goals as goal
 
 pub from_names-requires : goal.from_names-requires

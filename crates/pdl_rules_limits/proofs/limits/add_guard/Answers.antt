@@ -1,7 +1,7 @@
 use Rattle.std.proofs.Common.{◌∙◌, ap, map, is_some}
 use Rattle.std.proofs.lemmas.Bool.{true≢false}
 use Rattle.pdl_paths.specs.Actions.{place_view}
-use Rattle.pdl_rules_limits.proofs.Guarded.{guards_next}
+use Rattle.pdl_rules_limits.proofs.GuardSteps.{guards_next}
 use Rattle.pdl_rules_limits.proofs.limits.add_guard.Goals as goal
 use Rattle.pdl_rules_on_paths.proofs.Nth.{nth}
 

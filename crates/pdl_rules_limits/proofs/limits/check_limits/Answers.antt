@@ -1,6 +1,6 @@
 use Rattle.std.proofs.Common.{◌∙◌, subst}
 use Rattle.pdl_rules_limits.specs.Lines.{AreLines}
-use Rattle.pdl_rules_limits.proofs.Lowest.{lowest_line}
+use Rattle.pdl_rules_limits.proofs.LowestRule.{lowest_line}
 use Rattle.pdl_rules_limits.proofs.limits.check_limits.Goals as goal
 
 pub returns : goal.returns

@@ -3,9 +3,9 @@ use Rattle.pdl_kit.specs.declared.rule.Rule.TheVariants.{Z2, Z3, Z4, Z5, Z6, Z7}
 use Rattle.pdl_rules.specs.Refusal.{breaks_rule}
 use Rattle.pdl_rules.specs.Limits.{is_statement, is_separator, is_memory, is_binding, breaks_z6}
 use Rattle.pdl_paths.specs.Actions.{place_view}
-use Rattle.pdl_rules_on_texts.proofs.More.{line_next}
+use Rattle.pdl_rules_on_texts.proofs.LineSteps.{line_next}
 use Rattle.pdl_rules_limits.specs.Over.{adds_guard}
-use Rattle.pdl_rules_limits.proofs.Guarded.{z6_parts, noted_if, none_noted}
+use Rattle.pdl_rules_limits.proofs.GuardSteps.{z6_parts, noted_if, none_noted}
 use Rattle.pdl_rules_limits.proofs.limits.with_place.Goals as goal
 use Rattle.pdl_rules_on_paths.proofs.Nth.{nth}
 

@@ -1,6 +1,6 @@
 use Rattle.std.proofs.Common.{ap₂, ◌∙◌, nat_le}
 use Rattle.pdl_paths.specs.Guards.{guard_view}
-use Rattle.pdl_rules_limits.proofs.Guarded.{is_new_number}
+use Rattle.pdl_rules_limits.proofs.GuardSteps.{is_new_number}
 use Rattle.pdl_rules_limits.proofs.over.is_new.Goals as goal
 
 pub returns : goal.returns

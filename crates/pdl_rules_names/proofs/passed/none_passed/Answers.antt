@@ -1,5 +1,5 @@
 use Rattle.std.proofs.Common.{ap, ◌∙◌, length, get_or, ◌+◌, arith}
-use Rattle.pdl_rules_names.proofs.Last.{none_last, zeros_more, length_more}
+use Rattle.pdl_rules_names.proofs.LastSeparator.{none_last, zeros_more, length_more}
 use Rattle.pdl_rules_names.proofs.passed.none_passed.Goals as goal
 
 pub loop-path-init : goal.loop-path-init

@@ -2,7 +2,7 @@ use Rattle.std.proofs.Common.{◌≡◌, ◌<◌, ◌+◌, ℕ, ap, sym, ◌∙�
 use Rattle.pdl_rules.specs.Places.{on_path}
 use Rattle.pdl_paths.specs.Actions.{place_view}
 use Rattle.pdl_paths.specs.Masks.{path_of}
-use Rattle.pdl_rules_names.proofs.Last.{length_more, marks_more}
+use Rattle.pdl_rules_names.proofs.LastSeparator.{length_more, marks_more}
 use Rattle.pdl_rules_names.proofs.passed.separator_passed.Goals as goal
 
 pub loop-b-init : goal.loop-b-init

@@ -1,7 +1,7 @@
 use Rattle.std.proofs.Common.{sym, ◌∙◌, map, arith}
 use Rattle.pdl_paths.specs.Actions.{place_view}
 use Rattle.pdl_rules_on_paths.specs.Lowest.{breaks_at}
-use Rattle.pdl_rules_on_texts.proofs.Found.{found_at, found_nowhere}
+use Rattle.pdl_rules_on_texts.proofs.FirstMatch.{found_at, found_nowhere}
 use Rattle.pdl_rules_on_texts.proofs.lowest.lowest_place.Goals as goal
 use Rattle.pdl_rules_on_paths.proofs.Steps.{one_place}
 

@@ -2,7 +2,7 @@ use Rattle.std.proofs.Common.{◌≡◌, ◌∙◌, sym, ap, ◌+◌, ◌∷◌,
 use Rattle.pdl_rules.specs.Stages.{stage_after}
 use Rattle.pdl_paths.specs.Actions.{place_view}
 use Rattle.pdl_rules_stages.proofs.Nth.{ahead}
-use Rattle.pdl_rules_stages.proofs.Found.{count_step}
+use Rattle.pdl_rules_stages.proofs.PlaceStages.{count_step}
 use Rattle.pdl_rules_stages.proofs.along.begun_before.Goals as goal
 use Rattle.pdl_rules_stages.proofs.along.begun_before.Goals.{then-is_separator, else-is_separator}
 

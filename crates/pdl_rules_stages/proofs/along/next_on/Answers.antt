@@ -5,7 +5,7 @@ use Rattle.pdl_rules.specs.Stages.{next_on, stage_after}
 use Rattle.pdl_paths.specs.Actions.{place_view}
 use Rattle.pdl_paths.specs.Masks.{IsMasked}
 use Rattle.pdl_rules_stages.proofs.Nth.{dropped, dropped_all, short_take, viewed}
-use Rattle.pdl_rules_stages.proofs.Found.{next_here, next_past, next_other}
+use Rattle.pdl_rules_stages.proofs.PlaceStages.{next_here, next_past, next_other}
 use Rattle.pdl_rules_stages.proofs.along.next_on.Goals as goal
 use Rattle.pdl_rules_stages.proofs.along.next_on.Goals.{then-is_separator+else-is_on, else-is_separator}
 use Rattle.pdl_rules_on_paths.proofs.Nth.{nth}

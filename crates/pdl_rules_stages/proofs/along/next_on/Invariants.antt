@@ -2,7 +2,7 @@ use Rattle.std.proofs.Common.{◌≡◌, suc, ◌≤◌, List, map, take, drop}
 use Rattle.pdl_rules.specs.Places.{Guard}
 use Rattle.pdl_rules.specs.Stages as spec
 use Rattle.pdl_paths.specs.Actions.{place_view}
-use Rattle.pdl_rules_stages.specs.Along.{HavePaths, IsPath}
+use Rattle.pdl_rules_stages.specs.PathBits.{HavePaths, IsPath}
 use Rattle.pdl_rules_stages.proofs.along.next_on.Given as goal
 
 -- of the separators so far none is on the path

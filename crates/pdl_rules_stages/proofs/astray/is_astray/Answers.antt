@@ -3,7 +3,7 @@ use Rattle.pdl_rules.specs.Parts.{is_some_and}
 use Rattle.pdl_paths.specs.Actions.{place_view}
 use Rattle.pdl_rules_stages.specs.Stages.{is_sought}
 use Rattle.pdl_rules_stages.specs.Astray.{is_astray}
-use Rattle.pdl_rules_stages.proofs.Found.{stage_got, elsewhere_before}
+use Rattle.pdl_rules_stages.proofs.PlaceStages.{stage_got, elsewhere_before}
 use Rattle.pdl_rules_stages.proofs.astray.is_astray.Goals as goal
 use Rattle.pdl_rules_on_paths.proofs.Nth.{nth}
 

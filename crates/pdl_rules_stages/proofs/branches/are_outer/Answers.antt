@@ -2,7 +2,7 @@ use Rattle.std.proofs.Common.{◌∙◌, sym, ap, ◌+◌, ◌<◌, ◌&&◌, ma
 use Rattle.std.proofs.lemmas.List.{length-map}
 use Rattle.pdl_rules.specs.Stages.{are_outer}
 use Rattle.pdl_paths.specs.Guards.{branch_view}
-use Rattle.pdl_rules_stages.proofs.Found.{longer, outer_here}
+use Rattle.pdl_rules_stages.proofs.PlaceStages.{longer, outer_here}
 use Rattle.pdl_rules_stages.proofs.branches.are_outer.Goals as goal
 use Rattle.pdl_rules_on_paths.proofs.Nth.{nth}
 

@@ -1,7 +1,7 @@
 use Rattle.std.proofs.Common.{◌∙◌, sym, ap, map, get_or, Some, arith}
 use Rattle.pdl_paths.specs.Actions.{place_view}
 use Rattle.pdl_rules_stages.specs.Stages.{is_sought}
-use Rattle.pdl_rules_stages.proofs.Found.{stage_got, first_here, first_later}
+use Rattle.pdl_rules_stages.proofs.PlaceStages.{stage_got, first_here, first_later}
 use Rattle.pdl_rules_stages.proofs.first.first_stage.Goals as goal
 use Rattle.pdl_rules_on_paths.proofs.Nth.{nth}
 

@@ -3,7 +3,7 @@ use Rattle.pdl_rules.specs.Stages.{stage_from, are_outer}
 use Rattle.pdl_paths.specs.Actions.{place_view}
 use Rattle.pdl_paths.specs.Guards.{branch_view}
 use Rattle.pdl_rules_stages.proofs.Nth.{ahead}
-use Rattle.pdl_rules_stages.proofs.Found.{stage_step}
+use Rattle.pdl_rules_stages.proofs.PlaceStages.{stage_step}
 use Rattle.pdl_rules_stages.proofs.stages.stage_in.Goals as goal
 use Rattle.pdl_rules_stages.proofs.stages.stage_in.Goals.{then-is_separator+then-are_outer, then-is_separator+else-are_outer, else-is_separator}
 

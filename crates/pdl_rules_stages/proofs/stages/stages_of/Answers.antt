@@ -3,7 +3,7 @@ use Rattle.pdl_rules.specs.Stages.{stage_in, stage_of}
 use Rattle.pdl_paths.specs.Actions.{place_view}
 use Rattle.pdl_paths.specs.Guards.{branch_view}
 use Rattle.pdl_rules_stages.proofs.Nth.{viewed}
-use Rattle.pdl_rules_stages.proofs.Found.{stages_more}
+use Rattle.pdl_rules_stages.proofs.PlaceStages.{stages_more}
 use Rattle.pdl_rules_stages.proofs.stages.stages_of.Goals as goal
 use Rattle.pdl_rules_on_paths.proofs.Nth.{nth}
 

@@ -2,7 +2,7 @@ use Rattle.std.proofs.Common.{◌≡◌, ◌^◌, ap, ◌∙◌, sym, subst, map
 use Rattle.std.proofs.lemmas.List.{length-map}
 use Rattle.pdl_paths.specs.Actions.{place_view}
 use Rattle.pdl_paths.specs.Masks.{are_distinct}
-use Rattle.pdl_paths.proofs.Distinct.{guards_distinct}
+use Rattle.pdl_paths.proofs.DistinctGuards.{guards_distinct}
 use Rattle.pdl_rules_walk.proofs.walk.broken_lines.Goals as goal
 
 pub walk-requires-clause-own : goal.walk-requires-clause-own

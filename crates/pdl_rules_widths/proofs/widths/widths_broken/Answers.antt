@@ -1,7 +1,7 @@
 use Rattle.std.proofs.Common.{◌∙◌, subst}
 use Rattle.pdl_syntax_tree.specs.View.{pipe_view}
 use Rattle.pdl_rules_widths.specs.Lines.{AreLines}
-use Rattle.pdl_rules_widths.proofs.Lowest.{lowest_line}
+use Rattle.pdl_rules_widths.proofs.LowestRule.{lowest_line}
 use Rattle.pdl_rules_widths.proofs.widths.widths_broken.Goals as goal
 
 pub returns : goal.returns

@@ -3,7 +3,7 @@ use Rattle.pdl_kit.specs.declared.rule.Rule.TheVariants.{W1, W2, W3, W4, W5, W6}
 use Rattle.pdl_syntax_tree.specs.View.{pipe_view, mem_view, param_view}
 use Rattle.pdl_rules.specs.Refusal.{breaks_rule}
 use Rattle.pdl_paths.specs.Actions.{place_view}
-use Rattle.pdl_rules_on_texts.proofs.More.{line_next}
+use Rattle.pdl_rules_on_texts.proofs.LineSteps.{line_next}
 use Rattle.pdl_rules_widths.specs.Rules.{AreFaults}
 use Rattle.pdl_rules_widths.proofs.widths.with_place.Goals as goal
 use Rattle.pdl_rules_on_paths.proofs.Nth.{nth}

@@ -1,4 +1,4 @@
-use Rattle.pdl_seq.proofs.Telling.{told_lines}
+use Rattle.pdl_seq.proofs.NumberedWrites.{told_lines}
 use Rattle.pdl_seq.proofs.accepted.lines.Goals as goal
 
 pub returns : goal.returns

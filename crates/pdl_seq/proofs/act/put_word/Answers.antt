@@ -1,6 +1,6 @@
 use Rattle.std.proofs.Common.{ap, ◌∙◌, List, ℕ, [], slice_set}
 use Rattle.std.proofs.lemmas.List.{get_or_default}
-use Rattle.pdl_seq.proofs.Putting.{shape_set}
+use Rattle.pdl_seq.proofs.WrittenWord.{shape_set}
 use Rattle.pdl_seq.proofs.act.put_word.Goals as goal
 
 pub returns-clause-shape : goal.returns-clause-shape

@@ -2,13 +2,13 @@ use Rattle.std.proofs.Common.{◌≡◌, ◌≤◌, ◌+◌, ◌∙◌, sym, ap,
 use Rattle.std.specs.Prelude.{vec_capacity}
 use Rattle.pdl_semantics.specs.Flat.{Stmt, all_hold}
 use Rattle.pdl_semantics.specs.Sequential.{Run, run_all}
-use Rattle.pdl_form.specs.Whole.{form}
+use Rattle.pdl_form.specs.FormView.{form}
 use Rattle.pdl_form.specs.View.{stmt_view, stmts_view, guards_view, act_view}
 use Rattle.pdl_seq.specs.Turns.{Rooms, run_view}
 use Rattle.pdl_seq.specs.Fits.{AreFitting}
-use Rattle.pdl_seq.proofs.Fitting.{fits_if, shaped_same}
+use Rattle.pdl_seq.proofs.StatementWidths.{fits_if, shaped_same}
 use Rattle.pdl_seq.proofs.Safety.{safe_op}
-use Rattle.pdl_seq.proofs.Turning.{writes_grow, next_stmt, typed_next}
+use Rattle.pdl_seq.proofs.TurnSteps.{writes_grow, next_stmt, typed_next}
 use Rattle.pdl_seq.proofs.turn.run_turn.Goals as goal
 
 pub run_stmt-requires-clause-safe : goal.run_stmt-requires-clause-safe

@@ -1,7 +1,7 @@
 use Rattle.std.proofs.Common.{◌≡◌, drop}
 use Rattle.pdl_semantics.specs.Sequential.{run_all}
 use Rattle.pdl_form.specs.View.{stmts_view}
-use Rattle.pdl_form.specs.Whole.{form}
+use Rattle.pdl_form.specs.FormView.{form}
 use Rattle.pdl_seq.specs.Turns.{run_view, rooms}
 use Rattle.pdl_seq.specs.Fits.{IsFit}
 use Rattle.pdl_seq.proofs.turn.run_turn.Given as goal

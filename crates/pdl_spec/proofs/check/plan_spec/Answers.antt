@@ -7,7 +7,7 @@ use Rattle.pdl_rules_on_paths.specs.Lowest.{line_where}
 use Rattle.pdl_rules_on_paths.proofs.Lines.{rule_lines}
 use Rattle.pdl_rules_stages.specs.declared.astray.Kinds.TheVariants.{Verifies}
 use Rattle.pdl_rules_stages.specs.Astray.{is_astray}
-use Rattle.pdl_locks.proofs.Told.{told, later, none_more}
+use Rattle.pdl_locks.proofs.LowestRule.{told, later, none_more}
 use Rattle.pdl_spec.proofs.check.plan_spec.Goals as goal
 
 pub returns-in_err-refuse : goal.returns-in_err-refuse

@@ -6,14 +6,14 @@ use Rattle.pdl_rules.specs.Calls.{is_wrong_call}
 use Rattle.pdl_rules.specs.Speculation.{is_unverified}
 use Rattle.pdl_paths.specs.Actions.{place_view}
 use Rattle.pdl_paths.specs.Masks.{are_distinct}
-use Rattle.pdl_paths.proofs.Distinct.{guards_distinct}
+use Rattle.pdl_paths.proofs.DistinctGuards.{guards_distinct}
 use Rattle.pdl_rules_on_paths.proofs.Lines.{rule_lines}
 use Rattle.pdl_rules_walk.proofs.Lines.{at_places}
 use Rattle.pdl_locks.specs.declared.numbers.Keys.TheVariants.{Locations}
 use Rattle.pdl_locks.specs.Numbers.{AreNumbered}
 use Rattle.pdl_spec.specs.Sure.{breaks_sure}
 use Rattle.pdl_spec.specs.Checked.{breaks_checked}
-use Rattle.pdl_spec.proofs.Pulled.{sure_lines, checked_lines}
+use Rattle.pdl_spec.proofs.PathlessParts.{sure_lines, checked_lines}
 use Rattle.pdl_spec.proofs.lines.spec_path_rules.Goals as goal
 
 pub returns-clause-suits : goal.returns-clause-suits

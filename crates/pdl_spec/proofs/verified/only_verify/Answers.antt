@@ -5,9 +5,9 @@ use Rattle.pdl_rules.specs.Stages.{stages_that}
 use Rattle.pdl_rules.specs.Speculation.{is_verify_of}
 use Rattle.pdl_paths.specs.Actions.{place_view}
 use Rattle.pdl_paths.specs.Masks.{IsMasked}
-use Rattle.pdl_rules_stages.proofs.Found.{stage_got}
+use Rattle.pdl_rules_stages.proofs.PlaceStages.{stage_got}
 use Rattle.pdl_spec.specs.Verified.{only}
-use Rattle.pdl_spec.proofs.Only.{as_list, only_one, second, first, no_one, all_taken}
+use Rattle.pdl_spec.proofs.SingleNumber.{as_list, only_one, second, first, no_one, all_taken}
 use Rattle.pdl_spec.proofs.verified.only_verify.Goals as goal
 use Rattle.pdl_spec.proofs.verified.only_verify.Goals.{then-is_verify_on+in-None, else-is_verify_on}
 use Rattle.pdl_rules_on_paths.proofs.Nth.{nth}

@@ -4,8 +4,8 @@ use Rattle.pdl_rules.specs.Stages.{stages_that}
 use Rattle.pdl_rules.specs.Speculation.{is_verify_of}
 use Rattle.pdl_paths.specs.Actions.{place_view}
 use Rattle.pdl_rules_stages.specs.Stages.{stages_in}
-use Rattle.pdl_rules_stages.specs.Along.{HavePaths, IsPath}
-use Rattle.pdl_spec.proofs.Only.{as_list}
+use Rattle.pdl_rules_stages.specs.PathBits.{HavePaths, IsPath}
+use Rattle.pdl_spec.proofs.SingleNumber.{as_list}
 use Rattle.pdl_spec.proofs.verified.only_verify.Given as goal
 
 -- what was found is all of those so far

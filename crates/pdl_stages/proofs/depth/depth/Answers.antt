@@ -2,7 +2,7 @@ use Rattle.std.proofs.Common.{◌≡◌, ◌∙◌, sym, ap, ap₂, [], ◌-◌,
 use Rattle.pdl_semantics.specs.Flat.{start_env}
 use Rattle.pdl_semantics.specs.Stages.{longest, fork_guards}
 use Rattle.pdl_form.specs.View.{stages_view}
-use Rattle.pdl_form.specs.Whole.{form}
+use Rattle.pdl_form.specs.FormView.{form}
 use Rattle.pdl_stages.specs.Graph.{of_stages}
 use Rattle.pdl_stages.proofs.Depths.{longest_same}
 use Rattle.pdl_stages.proofs.depth.depth.Goals as goal

@@ -1,6 +1,6 @@
 use Rattle.std.proofs.Common.{rules, ◌≡◌, ◌+◌, length, Ok, refl}
 use Rattle.pdl_syntax_cursor.specs.Limits.{at_start}
-use Rattle.pdl_syntax_cursor.specs.Marked.{marked_row}
+use Rattle.pdl_syntax_cursor.specs.MarkedTokens.{marked_row}
 use Rattle.pdl_syntax_grammar.specs.Reading.{parse}
 use Rattle.pdl_syntax_tokens.specs.Tokens as lexed
 use Rattle.pdl_syntax_tree.specs.View.{pipe_view}

@@ -1,6 +1,6 @@
 use Rattle.std.proofs.Common.{◌≡◌, length}
 use Rattle.pdl_syntax_cursor.specs.Limits.{at_start}
-use Rattle.pdl_syntax_cursor.specs.Marked.{marked_row}
+use Rattle.pdl_syntax_cursor.specs.MarkedTokens.{marked_row}
 use Rattle.pdl_syntax_grammar.specs.Automaton.{run, whole}
 use Rattle.pdl_syntax_tokens.specs.Tokens.{tokens}
 use Rattle.pdl_syntax_recogniser.proofs.misplaced.first_misplaced.Given as goal

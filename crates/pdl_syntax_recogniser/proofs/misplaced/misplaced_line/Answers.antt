@@ -1,4 +1,4 @@
-use Rattle.pdl_syntax_recogniser.proofs.Running.{told_place}
+use Rattle.pdl_syntax_recogniser.proofs.AutomatonRuns.{told_place}
 use Rattle.pdl_syntax_recogniser.proofs.misplaced.misplaced_line.Goals as goal
 
 pub returns-clause-place : goal.returns-clause-place

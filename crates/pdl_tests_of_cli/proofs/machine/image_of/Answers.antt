@@ -1,5 +1,5 @@
 use Rattle.pdl_syntax_tree.specs.View.{pipe_view}
-use Rattle.pdl_cli_commands.proofs.Told.{names_differ, widths_low, widths_high}
+use Rattle.pdl_cli_commands.proofs.ToldMemories.{names_differ, widths_low, widths_high}
 use Rattle.pdl_tests_of_cli.proofs.machine.image_of.Goals as goal
 
 pub read_image-requires-clause-names : goal.read_image-requires-clause-names

@@ -4,7 +4,7 @@ use Rattle.std.specs.Slice.Iter.{iter_rest}
 use Rattle.std.proofs.lemmas.List.{length_push}
 use Rattle.std.proofs.lemmas.Slice.Zip.{zip_turn, zip_end}
 use Rattle.pdl_vread.specs.Built as spec
-use Rattle.pdl_vread.proofs.Filled.{port_push, ports_end}
+use Rattle.pdl_vread.proofs.DrivenNets.{port_push, ports_end}
 use Rattle.pdl_vread.proofs.build.add_ports.Goals as goal
 
 pub loop-decl-preserved : goal.loop-decl-preserved

@@ -1,5 +1,5 @@
 use Rattle.std.proofs.Common.{◌≤◌, subst, sym}
-use Rattle.pdl_vread_pipe.proofs.Shorts.{find_short}
+use Rattle.pdl_vread_pipe.proofs.MemorySearch.{find_short}
 use Rattle.pdl_vread_pipe.proofs.memories.array_info.Goals as goal
 
 pub depth_of-requires : goal.depth_of-requires

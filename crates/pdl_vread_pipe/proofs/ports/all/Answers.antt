@@ -1,7 +1,7 @@
 use Rattle.std.proofs.Common.{◌≡◌, ◌++◌, ◌∙◌, flat_map, Some, ap}
 use Rattle.std.specs.List.{range_with_len}
 use Rattle.pdl_net.specs.Pipe.{reply_ports, stage_ports, commit_ports, request_ports}
-use Rattle.pdl_vread_pipe.specs.Matched.{after, heads}
+use Rattle.pdl_vread_pipe.specs.ExpectedPorts.{after, heads}
 use Rattle.pdl_vread_pipe.specs.Tests.{last_ports}
 use Rattle.pdl_vread_pipe.proofs.Strips.{after_both}
 use Rattle.pdl_vread_pipe.proofs.ports.all.Goals as goal

@@ -1,6 +1,6 @@
 use Rattle.std.proofs.Common.{◌≡◌, drop, flat_map}
 use Rattle.pdl_net.specs.Pipe.{request_ports}
-use Rattle.pdl_vread_pipe.specs.Matched.{after, heads}
+use Rattle.pdl_vread_pipe.specs.ExpectedPorts.{after, heads}
 use Rattle.pdl_vread_pipe.proofs.ports.requests.Given as goal
 
 abbrev pub invariant-loop-mem : goal.invariant-loop-mem

@@ -1,5 +1,5 @@
 use Rattle.std.proofs.Common.{arith}
-use Rattle.pdl_vread_pipe.specs.Matched.{heads}
+use Rattle.pdl_vread_pipe.specs.ExpectedPorts.{heads}
 use Rattle.pdl_vread_pipe.proofs.Strips.{stage_more, stage_stop}
 use Rattle.pdl_vread_pipe.proofs.ports.stages.Goals as goal
 

@@ -1,7 +1,7 @@
 use Rattle.std.proofs.Common.{◌≡◌, ◌-◌, flat_map}
 use Rattle.std.specs.List.{range_with_len}
 use Rattle.pdl_net.specs.Pipe.{stage_ports}
-use Rattle.pdl_vread_pipe.specs.Matched.{after, heads}
+use Rattle.pdl_vread_pipe.specs.ExpectedPorts.{after, heads}
 use Rattle.pdl_vread_pipe.proofs.ports.stages.Given as goal
 
 abbrev pub invariant-loop-k : goal.invariant-loop-k

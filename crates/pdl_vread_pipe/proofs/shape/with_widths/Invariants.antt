@@ -1,5 +1,5 @@
 use Rattle.std.proofs.Common.{◌≡◌, ◌++◌, drop}
-use Rattle.pdl_vread_pipe.specs.Told as spec
+use Rattle.pdl_vread_pipe.specs.ToldParts as spec
 use Rattle.pdl_vread_pipe.proofs.shape.with_widths.Given as goal
 
 abbrev pub invariant-loop-k : goal.invariant-loop-k

@@ -1,6 +1,6 @@
 use Rattle.std.proofs.Common.{◌≡◌, [], map, take, drop}
 use Rattle.pdl_vread_nets.specs.Places.{AreFirsts}
-use Rattle.pdl_vread_rules.specs.Asked.{first_wrong}
+use Rattle.pdl_vread_rules.specs.RuleQuestions.{first_wrong}
 use Rattle.pdl_vread_rules.specs.Once.{in_turn, array_once}
 use Rattle.pdl_vread_rules.proofs.once.add_arrays.Given as goal
 

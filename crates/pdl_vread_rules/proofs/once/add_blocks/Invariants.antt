@@ -1,5 +1,5 @@
 use Rattle.std.proofs.Common.{◌≡◌, [], length, drop}
-use Rattle.pdl_vread_rules.specs.Asked.{first_wrong}
+use Rattle.pdl_vread_rules.specs.RuleQuestions.{first_wrong}
 use Rattle.pdl_vread_rules.specs.Once.{blocks_once}
 use Rattle.pdl_vread_rules.proofs.once.add_blocks.Given as goal
 

@@ -6,7 +6,7 @@ use Rattle.std.proofs.lemmas.Slice.Zip.{zip_turn}
 use Rattle.pdl_vread_text.specs.declared.file.PortDecl.{PortDecl}
 use Rattle.pdl_vread_nets.specs.Places.{AreFirsts}
 use Rattle.pdl_vread_rules.specs.Once.{port_once, output_drives}
-use Rattle.pdl_vread_rules.proofs.InTurn.{turn_more, turn_stop, names_more, port_right}
+use Rattle.pdl_vread_rules.proofs.QuestionSteps.{turn_more, turn_stop, names_more, port_right}
 use Rattle.pdl_vread_rules.proofs.once.add_ports.Goals as goal
 
 pub returns-then-not-port_is_right : goal.returns-then-not-port_is_right

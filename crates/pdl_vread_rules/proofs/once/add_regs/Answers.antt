@@ -6,7 +6,7 @@ use Rattle.std.proofs.lemmas.Slice.Zip.{zip_turn}
 use Rattle.pdl_vread_text.specs.declared.file.RegDecl.{RegDecl}
 use Rattle.pdl_vread_nets.specs.Places.{AreFirsts}
 use Rattle.pdl_vread_rules.specs.Once.{reg_once, reg_drives}
-use Rattle.pdl_vread_rules.proofs.InTurn.{turn_more, turn_stop, names_more, reg_right}
+use Rattle.pdl_vread_rules.proofs.QuestionSteps.{turn_more, turn_stop, names_more, reg_right}
 use Rattle.pdl_vread_rules.proofs.once.add_regs.Goals as goal
 
 pub returns-then-not-reg_is_right : goal.returns-then-not-reg_is_right

@@ -5,7 +5,7 @@ use Rattle.std.proofs.lemmas.Grind.{common_steps}
 use Rattle.std.proofs.lemmas.List.{length_push}
 use Rattle.std.proofs.lemmas.Slice.Zip.{zip_turn, zip_end}
 use Rattle.pdl_vread_text.specs.declared.file.ArrayBlock.{ArrayBlock}
-use Rattle.pdl_vread_rules.specs.Asked.{first_wrong, both}
+use Rattle.pdl_vread_rules.specs.RuleQuestions.{first_wrong, both}
 use Rattle.pdl_vread_rules.specs.Widths as spec
 use Rattle.pdl_vread_rules.proofs.Blocks.{block_more, block_stop_at, block_end}
 use Rattle.pdl_vread_rules.proofs.widths.blocks.Goals as goal

@@ -1,5 +1,5 @@
 use Rattle.std.proofs.Common.{◌≡◌, length, drop}
-use Rattle.pdl_vread_rules.specs.Asked.{first_wrong, both}
+use Rattle.pdl_vread_rules.specs.RuleQuestions.{first_wrong, both}
 use Rattle.pdl_vread_rules.specs.Widths as spec
 use Rattle.pdl_vread_rules.proofs.widths.cells.Given as goal
 

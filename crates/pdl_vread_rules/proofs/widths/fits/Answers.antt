@@ -1,5 +1,5 @@
 use Rattle.std.proofs.Common.{◌∙◌, sym}
-use Rattle.pdl_vread_rules.proofs.Small.{fits_word}
+use Rattle.pdl_vread_rules.proofs.ConstantWidths.{fits_word}
 use Rattle.pdl_vread_rules.proofs.widths.fits.Goals as goal
 
 pub returns-then-is_width : goal.returns-then-is_width

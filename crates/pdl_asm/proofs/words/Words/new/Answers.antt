@@ -1,5 +1,5 @@
 use Rattle.std.proofs.Common.{◌≡◌, ℕ, None, replicate, subst, sym}
-use Rattle.pdl_asm.proofs.Taking.{addresses_are}
+use Rattle.pdl_asm.proofs.LineSteps.{addresses_are}
 use Rattle.pdl_asm.proofs.words.Words.new.Goals as goal
 
 pub returns : goal.returns

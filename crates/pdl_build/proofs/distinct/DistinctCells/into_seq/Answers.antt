@@ -1,7 +1,7 @@
 use Rattle.std.proofs.Common.{subst, List}
 use Rattle.std.specs.Prelude.{◌≢◌, AllPairs}
 use Rattle.pdl_net.specs.declared.Cell.{Cell}
-use Rattle.pdl_build.proofs.Found.{differ_in_pairs}
+use Rattle.pdl_build.proofs.CellMap.{differ_in_pairs}
 use Rattle.pdl_build.proofs.distinct.DistinctCells.into_seq.Goals as goal
 
 pub returns-clause-distinct : goal.returns-clause-distinct

@@ -2,7 +2,7 @@ use Rattle.std.proofs.Common.{refl, ◌∙◌, ap, cond, List, Some, sym, subst,
 use Rattle.std.specs.Prelude.{◌≢◌, slice_get}
 use Rattle.std.specs.HashMap.{get}
 use Rattle.pdl_net.specs.declared.Cell.{Cell}
-use Rattle.pdl_build.proofs.Found.{same, found_still, found_pushed, popped}
+use Rattle.pdl_build.proofs.CellMap.{same, found_still, found_pushed, popped}
 use Rattle.pdl_build.proofs.distinct.DistinctCells.push.Goals as goal
 
 pub invariant_of-self : goal.invariant_of-self

@@ -1,4 +1,4 @@
-use Rattle.pdl_form_types.proofs.Same.{same_forms}
+use Rattle.pdl_form_types.proofs.SameForms.{same_forms}
 use Rattle.pdl_check.proofs.accepted.Accepted.flat.Goals as goal
 
 pub returns : goal.returns

@@ -1,7 +1,7 @@
 use Rattle.std.proofs.Common.{◌≡◌, ◌<◌, ℕ, List, length, map, get_or, ap, ◌∙◌, sym, subst, arith}
 use Rattle.pdl_form.specs.View.{stmts_view}
 use Rattle.pdl_form.specs.Form.{stmt_at}
-use Rattle.pdl_form.proofs.Staging.{length_stages, rows_below-long, rows_below-at, rows_stmts, rows_within}
+use Rattle.pdl_form.proofs.StageRows.{length_stages, rows_below-long, rows_below-at, rows_stmts, rows_within}
 use Rattle.pdl_form.proofs.flat.FlatPipe.rows.Goals as goal
 
 pub index-rows-requires : goal.index-rows-requires

@@ -6,9 +6,9 @@ use Rattle.pdl_rules.specs.Locks as spec
 use Rattle.pdl_paths.specs.Actions.{place_view}
 use Rattle.pdl_locks.specs.declared.numbers.Keys.TheVariants.{Locations}
 use Rattle.pdl_locks.specs.Uses.{IsUsed, is_open}
-use Rattle.pdl_locks.specs.Asked.{breaks_at_location}
-use Rattle.pdl_locks.proofs.Kept.{own}
-use Rattle.pdl_locks.proofs.Open.{some_open}
+use Rattle.pdl_locks.specs.RuleQuestions.{breaks_at_location}
+use Rattle.pdl_locks.proofs.UseSteps.{own}
+use Rattle.pdl_locks.proofs.OpenLocations.{some_open}
 use Rattle.pdl_locks.proofs.at_locations.AtLocationsPathRule.breaks.Goals as goal
 
 pub returns-in-Held : goal.returns-in-Held

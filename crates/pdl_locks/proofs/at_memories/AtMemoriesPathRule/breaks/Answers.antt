@@ -3,8 +3,8 @@ use Rattle.pdl_rules.specs.Places.{on_path}
 use Rattle.pdl_paths.specs.Actions.{place_view}
 use Rattle.pdl_locks.specs.declared.numbers.Keys.TheVariants.{Memories}
 use Rattle.pdl_locks.specs.Uses.{IsUsedMemory}
-use Rattle.pdl_locks.specs.Asked.{breaks_at_memory}
-use Rattle.pdl_locks.proofs.Kept.{own}
+use Rattle.pdl_locks.specs.RuleQuestions.{breaks_at_memory}
+use Rattle.pdl_locks.proofs.UseSteps.{own}
 use Rattle.pdl_locks.proofs.at_memories.AtMemoriesPathRule.breaks.Goals as goal
 
 pub returns-in-ReadFirst : goal.returns-in-ReadFirst

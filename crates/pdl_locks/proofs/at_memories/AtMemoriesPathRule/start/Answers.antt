@@ -3,7 +3,7 @@ use Rattle.std.proofs.lemmas.List.{length-map}
 use Rattle.pdl_paths.specs.Actions.{place_view}
 use Rattle.pdl_locks.specs.declared.numbers.Keys.TheVariants.{Memories}
 use Rattle.pdl_locks.specs.Uses.{IsUsedMemory, AreKept}
-use Rattle.pdl_locks.proofs.Kept.{begun}
+use Rattle.pdl_locks.proofs.UseSteps.{begun}
 use Rattle.pdl_locks.proofs.at_memories.AtMemoriesPathRule.start.Goals as goal
 
 pub returns : goal.returns

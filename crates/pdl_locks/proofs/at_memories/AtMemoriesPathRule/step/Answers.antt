@@ -2,8 +2,8 @@ use Rattle.std.proofs.Common.{◌<◌, ◌≤◌, length, arith}
 use Rattle.pdl_paths.specs.Actions.{place_view}
 use Rattle.pdl_locks.specs.declared.numbers.Keys.TheVariants.{Memories}
 use Rattle.pdl_locks.specs.Uses.{IsUsedMemory}
-use Rattle.pdl_locks.proofs.Kept.{stepped, unstepped}
-use Rattle.pdl_locks.proofs.Done.{memory_laws}
+use Rattle.pdl_locks.proofs.UseSteps.{stepped, unstepped}
+use Rattle.pdl_locks.proofs.UseLaws.{memory_laws}
 use Rattle.pdl_locks.proofs.at_memories.AtMemoriesPathRule.step.Goals as goal
 
 pub returns-then-number-len : goal.returns-then-number-len

@@ -6,11 +6,11 @@ use Rattle.pdl_rules.specs.Stages.{bound_late, stage_of, stage_in, next_on, stag
 use Rattle.pdl_paths.specs.declared.action.Action.{Action}
 use Rattle.pdl_paths.specs.Actions.{place_at, place_view}
 use Rattle.pdl_paths.specs.Guards.{branch_view}
-use Rattle.pdl_rules_stages.specs.Along.{HavePaths}
-use Rattle.pdl_rules_stages.proofs.Found.{nth_stage}
+use Rattle.pdl_rules_stages.specs.PathBits.{HavePaths}
+use Rattle.pdl_rules_stages.proofs.PlaceStages.{nth_stage}
 use Rattle.pdl_locks.specs.Bound.{last_at}
-use Rattle.pdl_locks.proofs.Keyed.{nth_told}
-use Rattle.pdl_locks.proofs.Late.{late_as, is_within, next_as}
+use Rattle.pdl_locks.proofs.KeyNumbers.{nth_told}
+use Rattle.pdl_locks.proofs.LateReads.{late_as, is_within, next_as}
 use Rattle.pdl_locks.proofs.bound.BoundInTimePathRule.breaks.Goals as goal
 
 pub returns-in-CombRead : goal.returns-in-CombRead

@@ -1,7 +1,7 @@
 use Rattle.std.proofs.Common.{ap₂, ◌∙◌, [], ◌∷◌, ◌++◌}
 use Rattle.pdl_syntax_tree.specs.View.{mem_view, pipe_view}
 use Rattle.pdl_locks.specs.Plan.{stages_of}
-use Rattle.pdl_locks.proofs.Ahead.{one_more}
+use Rattle.pdl_locks.proofs.FirstMatch.{one_more}
 use Rattle.pdl_locks.proofs.plan.LockPlan.of.Goals as goal
 
 pub loop-mem-preserved : goal.loop-mem-preserved

@@ -14,8 +14,8 @@ use Rattle.pdl_form.specs.Form.{Form}
 use Rattle.pdl_machine_facts.specs.Ports.{delayed_count, replies_of, whole_values}
 use Rattle.pdl_machine_run.specs.Runs.{state_in}
 use Rattle.pdl_machine.specs.Running.{Running, flat_of, state_of, replies_to}
-use Rattle.pdl_machine.proofs.Seen.{form_is}
-use Rattle.pdl_machine.proofs.Promised.{run_on, refines, advances, paces, stays_sound}
+use Rattle.pdl_machine.proofs.FlatForm.{form_is}
+use Rattle.pdl_machine.proofs.RunPromises.{run_on, refines, advances, paces, stays_sound}
 use Rattle.pdl_machine.proofs.machine.Machine.cycle.Goals as goal
 
 pub returns-clause-state : goal.returns-clause-state

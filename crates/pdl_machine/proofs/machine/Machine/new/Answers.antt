@@ -8,8 +8,8 @@ use Rattle.pdl_form.specs.Form.{Form}
 use Rattle.pdl_machine_run.specs.Running.{IsRunnable, AreImages}
 use Rattle.pdl_machine_run.specs.Outputs.{output_count}
 use Rattle.pdl_machine_run.specs.Runs.{state_in}
-use Rattle.pdl_machine.proofs.Seen.{form_is}
-use Rattle.pdl_machine.proofs.Accepting.{runnable, images}
+use Rattle.pdl_machine.proofs.FlatForm.{form_is}
+use Rattle.pdl_machine.proofs.AcceptedPipes.{runnable, images}
 use Rattle.pdl_machine.proofs.machine.Machine.new.Goals as goal
 
 pub new-requires-clause-run : goal.new-requires-clause-run

@@ -2,7 +2,7 @@ use Rattle.std.proofs.Common.{◌≡◌, ◌∙◌, ap, subst, ℕ, List, length
 use Rattle.pdl_form.specs.Form.{Form}
 use Rattle.pdl_machine_run.specs.Outputs.{output_count}
 use Rattle.pdl_machine.specs.Running.{Running, flat_of}
-use Rattle.pdl_machine.proofs.Seen.{form_is}
+use Rattle.pdl_machine.proofs.FlatForm.{form_is}
 use Rattle.pdl_machine.proofs.machine.Machine.port_count.Goals as goal
 
 pub returns-clause-count : goal.returns-clause-count

@@ -4,7 +4,7 @@ use Rattle.std.specs.Vec.{with_items}
 use Rattle.pdl_semantics.specs.Machine.{State}
 use Rattle.pdl_semantics.specs.Moves.{all_acts}
 use Rattle.pdl_semantics.specs.Cycle as stated
-use Rattle.pdl_form.specs.Whole.{form}
+use Rattle.pdl_form.specs.FormView.{form}
 use Rattle.pdl_word.proofs.Lists.{items_written}
 use Rattle.pdl_machine_run.specs.declared.stage.Stage as r_stage
 use Rattle.pdl_machine_run.specs.View.{seats}
@@ -13,7 +13,7 @@ use Rattle.pdl_machine_facts.specs.Ports.{whole_values}
 use Rattle.pdl_machine_run.specs.Running.{IsReached, AreReady}
 use Rattle.pdl_machine_run.specs.Runs.{state_in}
 use Rattle.pdl_machine_run.proofs.Roomy.{reached_next}
-use Rattle.pdl_machine_run.proofs.Counted.{ports_counted}
+use Rattle.pdl_machine_run.proofs.PortCounts.{ports_counted}
 use Rattle.pdl_machine_run.proofs.running.Run.cycle.Goals as goal
 
 pub returns-clause-ports : goal.returns-clause-ports

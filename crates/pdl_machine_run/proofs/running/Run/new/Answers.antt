@@ -1,9 +1,9 @@
 use Rattle.std.proofs.Common.{[], ap, ◌∙◌, ℕ, List, length, arith}
 use Rattle.std.proofs.lemmas.List.{length-replicate, length-map}
 use Rattle.pdl_semantics.specs.Flat.{arrays_of}
-use Rattle.pdl_form.specs.Whole.{form}
+use Rattle.pdl_form.specs.FormView.{form}
 use Rattle.pdl_form.specs.View.{stage_view, mem_view}
-use Rattle.pdl_machine_run.proofs.First.{first_is, first_ready, first_beside}
+use Rattle.pdl_machine_run.proofs.FirstState.{first_is, first_ready, first_beside}
 use Rattle.pdl_machine_run.proofs.running.Run.new.Goals as goal
 
 pub returns-clause-first : goal.returns-clause-first

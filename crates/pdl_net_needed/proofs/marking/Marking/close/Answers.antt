@@ -2,7 +2,7 @@ use Rattle.std.proofs.Common.{sym, subst}
 use Rattle.pdl_net.specs.Circuit.{circuit_of}
 use Rattle.pdl_net_needed.specs.Needed.{KeepsNeeded}
 use Rattle.pdl_net_needed.specs.Marking.{Work}
-use Rattle.pdl_net_needed.proofs.Marked.{marking_more, marking_done}
+use Rattle.pdl_net_needed.proofs.MarkedNets.{marking_more, marking_done}
 use Rattle.pdl_net_needed.proofs.marking.Marking.close.Goals as goal
 
 pub loop-net-preserved : goal.loop-net-preserved

@@ -1,7 +1,7 @@
 use Rattle.std.proofs.Common.{◌∷◌, [], sym, subst, ◌∙◌}
 use Rattle.pdl_net_needed.specs.Marks.{IsWithin}
 use Rattle.pdl_net_needed.specs.Marking.{Work, Adds}
-use Rattle.pdl_net_needed.proofs.Added.{adds_new}
+use Rattle.pdl_net_needed.proofs.AddedMarks.{adds_new}
 use Rattle.pdl_net_needed.proofs.marking.Marking.need.Goals as goal
 
 pub returns : goal.returns

@@ -1,7 +1,7 @@
 use Rattle.std.proofs.Common.{◌∷◌, [], sym, subst}
 use Rattle.pdl_net_needed.specs.Needed.{reads_of}
 use Rattle.pdl_net_needed.specs.Marking.{Adds}
-use Rattle.pdl_net_needed.proofs.Added.{adds_first}
+use Rattle.pdl_net_needed.proofs.AddedMarks.{adds_first}
 use Rattle.pdl_net_needed.proofs.marking.Marking.need_reads.Goals as goal
 
 pub returns-in_ok-need_two-in-Mux : goal.returns-in_ok-need_two-in-Mux

@@ -1,5 +1,5 @@
 use Rattle.std.proofs.Common.{◌∷◌, []}
-use Rattle.pdl_net_needed.proofs.Added.{adds_first}
+use Rattle.pdl_net_needed.proofs.AddedMarks.{adds_first}
 use Rattle.pdl_net_needed.proofs.marking.Marking.need_two.Goals as goal
 
 pub returns : goal.returns

@@ -2,7 +2,7 @@ use Rattle.std.proofs.Common.{flat_map, take}
 use Rattle.pdl_net.specs.declared.Net.TheVariants.{Input}
 use Rattle.pdl_net.specs.declared.WritePort.{WritePort}
 use Rattle.pdl_net_needed.specs.Needed.{read_by}
-use Rattle.pdl_net_needed.proofs.Added.{adds_read, within_read}
+use Rattle.pdl_net_needed.proofs.AddedMarks.{adds_read, within_read}
 use Rattle.pdl_net_needed.proofs.marking.Marking.need_writes.Goals as goal
 
 no_write : WritePort

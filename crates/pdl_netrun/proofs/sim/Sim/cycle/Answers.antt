@@ -7,7 +7,7 @@ use Rattle.pdl_netrun.specs.Sim.{run_after}
 use Rattle.pdl_netrun.specs.declared.outside.Outside.{Outside}
 use Rattle.pdl_netrun.specs.Outside.{stores_of, stores_after}
 use Rattle.pdl_netrun.specs.Steps.{array_words}
-use Rattle.pdl_netrun.proofs.Stepped.{stepped_from}
+use Rattle.pdl_netrun.proofs.SimCycle.{stepped_from}
 use Rattle.pdl_netrun.proofs.Cycles.{fit_now, now_walked, nexts_now, outs_now, outs_below_now, regs_now, writes_now, arrays_now, stores_now, outside_now, holds_now, answers_room, inputs_kept}
 use Rattle.pdl_netrun.proofs.sim.Sim.cycle.Goals as goal
 

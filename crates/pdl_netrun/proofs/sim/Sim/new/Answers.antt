@@ -5,13 +5,13 @@ use Rattle.pdl_net.specs.Circuit.{circuit_of}
 use Rattle.pdl_net.specs.Holds.{ImageFits}
 use Rattle.pdl_net.specs.Pipe.{IsWellFormed}
 use Rattle.pdl_net.specs.Run.{delayed_mems}
-use Rattle.pdl_net.proofs.Loaded.{image_part_fits}
+use Rattle.pdl_net.proofs.StartState.{image_part_fits, holds_start}
 use Rattle.pdl_net.proofs.PipeMems.{delayed_in_front}
 use Rattle.pdl_image.specs.Images.{IsImage}
 use Rattle.pdl_netrun.specs.Steps.{array_words}
 use Rattle.pdl_netrun.specs.Sim.{Run}
 use Rattle.pdl_netrun.specs.Outside.{first_stores, stores_of}
-use Rattle.pdl_netrun.proofs.Begun.{begun_is, holds_first}
+use Rattle.pdl_netrun.proofs.Reset.{begun_is}
 use Rattle.pdl_netrun.proofs.Environment.{stand_outside, few_delayed}
 use Rattle.pdl_netrun.proofs.sim.Sim.new.Goals as goal
 
@@ -42,7 +42,7 @@ plan_of-requires-clause-outside c =
 pub plan_of-requires-clause-holds : goal.plan_of-requires-clause-holds
 plan_of-requires-clause-holds c =
     let k = c.count_delayed-delayed.result in
-    holds_first c.args.net.now (drop k c.args.image.now) c.in_ok-resets.resets.items (array_words c.in_ok-arrays.arrays.items) c.requires.well.well
+    holds_start c.args.net.now (drop k c.args.image.now) c.in_ok-resets.resets.items (array_words c.in_ok-arrays.arrays.items) c.requires.well.well
     (fits c.args.net.now c.args.image.now k c.requires.well c.requires.image c.count_delayed-delayed.ensures) c.in_ok-resets.ensures c.in_ok-arrays.ensures
 
 pub returns : goal.returns

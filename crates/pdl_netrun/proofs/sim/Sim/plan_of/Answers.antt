@@ -4,7 +4,7 @@ use Rattle.pdl_net.specs.declared.Netlist.{Netlist}
 use Rattle.pdl_net.specs.Circuit.{circuit_of, outputs_of}
 use Rattle.pdl_netrun.specs.Order.{first_place, place, cell_at, AllEarly}
 use Rattle.pdl_netrun.specs.Plan.{step_of_cell}
-use Rattle.pdl_netrun.proofs.Begun.{ordered, first_is, values_count, constants_first}
+use Rattle.pdl_netrun.proofs.Reset.{ordered, first_is, values_count, constants_first}
 use Rattle.pdl_netrun.proofs.sim.Sim.plan_of.Goals as goal
 
 pub invariant_of-result : goal.invariant_of-result

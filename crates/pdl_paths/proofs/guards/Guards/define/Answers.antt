@@ -1,7 +1,7 @@
 use Rattle.std.proofs.Common.{ap, ap₂, sym, ◌∙◌, map, [], ◌∷◌, ◌++◌, if◌then◌else◌, arith}
 use Rattle.std.proofs.lemmas.List.{map-append}
 use Rattle.pdl_paths.specs.Guards.{guard_view}
-use Rattle.pdl_paths.specs.Kept.{kept_view}
+use Rattle.pdl_paths.specs.KeptGuards.{kept_view}
 use Rattle.pdl_paths.proofs.Numbers.{there, missing}
 use Rattle.pdl_paths.proofs.guards.Guards.define.Goals as goal
 

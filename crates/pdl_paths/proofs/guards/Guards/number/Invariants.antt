@@ -1,6 +1,6 @@
 use Rattle.std.proofs.Common.{◌≡◌, ◌+◌, ◌≤◌, map, drop}
 use Rattle.pdl_paths.specs.Guards.{guard_view}
-use Rattle.pdl_paths.specs.Kept.{kept_view}
+use Rattle.pdl_paths.specs.KeptGuards.{kept_view}
 use Rattle.pdl_paths.specs.Masks.{number_of}
 use Rattle.pdl_paths.proofs.guards.Guards.number.Given as goal
 

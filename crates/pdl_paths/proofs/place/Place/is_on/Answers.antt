@@ -1,7 +1,7 @@
 use Rattle.std.proofs.Common.{ap, ◌∙◌}
 use Rattle.pdl_paths.specs.Actions.{place_view}
 use Rattle.pdl_paths.specs.Masks.{allows_path}
-use Rattle.pdl_paths.proofs.Allowed.{mask_law}
+use Rattle.pdl_paths.proofs.MaskPaths.{mask_law}
 use Rattle.pdl_paths.proofs.place.Place.is_on.Goals as goal
 
 pub returns : goal.returns

@@ -6,7 +6,7 @@ use Rattle.pdl_squash.specs.Laws.{net_at}
 use Rattle.pdl_net.proofs.Keeps.{extends_keeps}
 use Rattle.pdl_pipe_moves.specs.Signs.{signs_by}
 use Rattle.pdl_pipe_moves.specs.Passed.{ArePassed}
-use Rattle.pdl_pipe_moves.proofs.MovedWhole.{passed_more}
+use Rattle.pdl_pipe_moves.proofs.AllMoves.{passed_more}
 use Rattle.pdl_pipe_moves.proofs.passing.Passages.pass.Goals as goal
 
 pub returns-clause-passed : goal.returns-clause-passed

@@ -2,10 +2,10 @@ use Rattle.std.proofs.Common.{◌≡◌, ◌+◌, ◌-◌, subst, ◌∙◌, ari
 use Rattle.pdl_net.proofs.Keeps.{extends_keeps, extends_trans}
 use Rattle.pdl_pipe_beside.proofs.PortSteps.{ports_stand}
 use Rattle.pdl_pipe_nexts.specs.Lines.{line_pipe}
-use Rattle.pdl_pipe_nexts.proofs.LinesKept.{line_keep}
+use Rattle.pdl_pipe_nexts.proofs.LineGrowth.{line_keep}
 use Rattle.pdl_pipe_moves.specs.Signs.{signs_by}
 use Rattle.pdl_pipe_moves.specs.Passed.{ArePassed}
-use Rattle.pdl_pipe_moves.proofs.MovedWhole.{controls_keep}
+use Rattle.pdl_pipe_moves.proofs.AllMoves.{controls_keep}
 use Rattle.pdl_pipe_moves.proofs.passing.Passages.pass_down.Goals as goal
 
 pub pass-requires-clause-line : goal.pass-requires-clause-line

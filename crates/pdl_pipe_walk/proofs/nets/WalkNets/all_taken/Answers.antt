@@ -1,11 +1,11 @@
 use Rattle.std.proofs.Common.{List, subst}
 use Rattle.std.specs.Prelude.{IfOk}
-use Rattle.pdl_form.specs.Whole.{form}
+use Rattle.pdl_form.specs.FormView.{form}
 use Rattle.pdl_form.specs.View.{guards_view}
 use Rattle.pdl_net.specs.Signal.{Signal}
 use Rattle.pdl_net.specs.Meaning.{Means}
 use Rattle.pdl_pipe_exprs.specs.Conditions.{taken_signal}
-use Rattle.pdl_pipe_walk.proofs.Growing.{slice_there, slice_same, slice_guards}
+use Rattle.pdl_pipe_walk.proofs.WalkGrowth.{slice_there, slice_same, slice_guards}
 use Rattle.pdl_pipe_walk.proofs.nets.WalkNets.all_taken.Goals as goal
 
 pub all_taken-requires-clause-there : goal.all_taken-requires-clause-there

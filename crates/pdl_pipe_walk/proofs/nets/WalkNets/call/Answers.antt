@@ -2,15 +2,15 @@ use Rattle.std.proofs.Common.{◌∙◌, List, ap}
 use Rattle.pdl_net.specs.Signal.{Signal}
 use Rattle.pdl_net.specs.Meaning.{signal}
 use Rattle.pdl_net.proofs.Keeps.{extends_trans}
-use Rattle.pdl_form.specs.Whole.{form}
+use Rattle.pdl_form.specs.FormView.{form}
 use Rattle.pdl_form.specs.View.{guards_view, exprs_view}
 use Rattle.pdl_pipe_exprs.specs.Nets.{signals_in}
 use Rattle.pdl_pipe_exprs.specs.Conditions.{taken_signal}
 use Rattle.pdl_pipe_exprs.specs.Values.{value_signals}
 use Rattle.pdl_pipe_walk.specs.Parts.{parts_in}
 use Rattle.pdl_pipe_walk.proofs.Lists.{on_ok}
-use Rattle.pdl_pipe_walk.proofs.Growing.{walk_more, parts_more, vars_same}
-use Rattle.pdl_pipe_walk.proofs.Answered.{birth_made, call_same}
+use Rattle.pdl_pipe_walk.proofs.WalkGrowth.{walk_more, parts_more, vars_same}
+use Rattle.pdl_pipe_walk.proofs.ChangedNets.{birth_made, call_same}
 use Rattle.pdl_pipe_walk.proofs.nets.WalkNets.call.Goals as goal
 
 pub values-requires-clause-walk : goal.values-requires-clause-walk

@@ -1,16 +1,16 @@
 use Rattle.std.proofs.Common.{◌∙◌, List, sym, ap, subst}
 use Rattle.pdl_net.specs.Signal.{Signal}
 use Rattle.pdl_net.specs.Meaning.{signal}
-use Rattle.pdl_form.specs.Whole.{form}
+use Rattle.pdl_form.specs.FormView.{form}
 use Rattle.pdl_form.specs.View.{guards_view}
 use Rattle.pdl_pipe_exprs.specs.Nets.{signals_in, signal_at}
 use Rattle.pdl_pipe_exprs.specs.Conditions.{taken_signal}
 use Rattle.pdl_pipe_walk.specs.Parts.{parts_in}
 use Rattle.pdl_pipe_walk.specs.Sized.{IsWalk}
 use Rattle.pdl_pipe_walk.proofs.Lists.{on_ok}
-use Rattle.pdl_pipe_walk.proofs.Growing.{walk_more, parts_more, vars_same, reach_at}
+use Rattle.pdl_pipe_walk.proofs.WalkGrowth.{walk_more, parts_more, vars_same, reach_at}
 use Rattle.pdl_pipe_walk.proofs.Updates.{ask_parts}
-use Rattle.pdl_pipe_walk.proofs.Answered.{ask_walk, ask_made}
+use Rattle.pdl_pipe_walk.proofs.ChangedNets.{ask_walk, ask_made}
 use Rattle.pdl_pipe_walk.proofs.nets.WalkNets.delayed_read.Goals as goal
 
 pub variable-addr-requires-clause-walk : goal.variable-addr-requires-clause-walk

@@ -2,10 +2,10 @@ use Rattle.std.proofs.Common.{◌≡◌, ◌∙◌, refl, ap, ap₂}
 use Rattle.pdl_net.specs.Signal.{mux_signal}
 use Rattle.pdl_net.specs.Meaning.{signal}
 use Rattle.pdl_net.proofs.Keeps.{extends_trans, extends_keeps}
-use Rattle.pdl_form.specs.Whole.{form}
+use Rattle.pdl_form.specs.FormView.{form}
 use Rattle.pdl_law_parts.specs.Walk.{one, both}
 use Rattle.pdl_pipe_walk.proofs.Updates.{fails_parts}
-use Rattle.pdl_pipe_walk.proofs.Answered.{fails_walk}
+use Rattle.pdl_pipe_walk.proofs.ChangedNets.{fails_walk}
 use Rattle.pdl_pipe_walk.proofs.nets.WalkNets.fail.Goals as goal
 
 pub returns-clause-walk : goal.returns-clause-walk

@@ -1,11 +1,11 @@
 use Rattle.std.proofs.Common.{◌∙◌, ap, sym}
 use Rattle.pdl_net.specs.Signal.{Signal}
 use Rattle.pdl_net.specs.Meaning.{signal}
-use Rattle.pdl_form.specs.Whole.{form}
+use Rattle.pdl_form.specs.FormView.{form}
 use Rattle.pdl_pipe_walk.specs.Parts.{parts_in}
-use Rattle.pdl_pipe_walk.proofs.Kept.{held_width}
+use Rattle.pdl_pipe_walk.proofs.NetGrowth.{held_width}
 use Rattle.pdl_pipe_walk.proofs.Lists.{on_ok}
-use Rattle.pdl_pipe_walk.proofs.Answered.{set_means, hold_parts, hold_walk}
+use Rattle.pdl_pipe_walk.proofs.ChangedNets.{set_means, hold_parts, hold_walk}
 use Rattle.pdl_pipe_walk.proofs.nets.WalkNets.hold.Goals as goal
 
 pub mux-requires-clause-widths : goal.mux-requires-clause-widths

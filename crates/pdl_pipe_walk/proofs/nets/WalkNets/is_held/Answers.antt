@@ -2,9 +2,9 @@ use Rattle.std.proofs.Common.{◌∙◌, List, ap, sym, subst}
 use Rattle.pdl_net.specs.declared.Net.{Net}
 use Rattle.pdl_net.specs.Meaning.{Means}
 use Rattle.pdl_pipe_walk.specs.declared.nets.HeldNet.{HeldNet}
-use Rattle.pdl_pipe_walk.specs.Finding.{held_net}
+use Rattle.pdl_pipe_walk.specs.HeldLookups.{held_net}
 use Rattle.pdl_pipe_walk.specs.Parts.{parts_in, held_of}
-use Rattle.pdl_pipe_walk.proofs.Kept.{held_means}
+use Rattle.pdl_pipe_walk.proofs.NetGrowth.{held_means}
 use Rattle.pdl_pipe_walk.proofs.nets.WalkNets.is_held.Goals as goal
 
 pub returns : goal.returns

@@ -2,11 +2,11 @@ use Rattle.std.proofs.Common.{◌∙◌, ap}
 use Rattle.std.proofs.lemmas.Result.{IfOk-weaker}
 use Rattle.pdl_net.specs.Signal.{Signal}
 use Rattle.pdl_net.specs.Meaning.{signal}
-use Rattle.pdl_form.specs.Whole.{form}
+use Rattle.pdl_form.specs.FormView.{form}
 use Rattle.pdl_pipe_exprs.specs.Nets.{signals_in, signal_at}
 use Rattle.pdl_pipe_walk.specs.Parts.{parts_in, held_of}
 use Rattle.pdl_pipe_walk.specs.Locked.{members, locks_in}
-use Rattle.pdl_pipe_walk.proofs.Kept.{held_width}
+use Rattle.pdl_pipe_walk.proofs.NetGrowth.{held_width}
 use Rattle.pdl_pipe_walk.proofs.MadeLocks.{looked_as, ticket_bits}
 use Rattle.pdl_pipe_walk.proofs.nets.WalkNets.look_ready.Goals as goal
 

@@ -2,7 +2,7 @@ use Rattle.std.proofs.Common.{◌∙◌, List, ap, refl}
 use Rattle.pdl_net.specs.Signal.{Signal}
 use Rattle.pdl_net.specs.Meaning.{signal}
 use Rattle.pdl_net.proofs.Keeps.{extends_trans, extends_keeps}
-use Rattle.pdl_form.specs.Whole.{form}
+use Rattle.pdl_form.specs.FormView.{form}
 use Rattle.pdl_form.specs.View.{guards_view}
 use Rattle.pdl_pipe_exprs.specs.Nets.{signals_in, signal_at}
 use Rattle.pdl_pipe_exprs.specs.Conditions.{taken_signal}
@@ -10,8 +10,8 @@ use Rattle.pdl_pipe_exprs.proofs.NetLists.{nets_there, nets_kept}
 use Rattle.pdl_pipe_walk.specs.Parts.{parts_in}
 use Rattle.pdl_pipe_walk.specs.Locked.{members, locks_in}
 use Rattle.pdl_pipe_walk.proofs.Lists.{on_ok}
-use Rattle.pdl_pipe_walk.proofs.Growing.{walk_more, parts_more, vars_same, reach_at}
-use Rattle.pdl_pipe_walk.proofs.Answered.{var_same}
+use Rattle.pdl_pipe_walk.proofs.WalkGrowth.{walk_more, parts_more, vars_same, reach_at}
+use Rattle.pdl_pipe_walk.proofs.ChangedNets.{var_same}
 use Rattle.pdl_pipe_walk.proofs.MadeLocks.{locked_keep, tickets_keep, ticket_bits, word_as}
 use Rattle.pdl_pipe_walk.proofs.nets.WalkNets.read.Goals as goal
 

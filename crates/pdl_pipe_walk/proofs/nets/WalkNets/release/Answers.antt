@@ -2,7 +2,7 @@ use Rattle.std.proofs.Common.{◌≡◌, ◌∙◌, ◌++◌, [], ◌∷◌, sym
 use Rattle.pdl_net.specs.Signal.{Signal}
 use Rattle.pdl_net.specs.Meaning.{signal}
 use Rattle.pdl_net.proofs.Keeps.{extends_trans}
-use Rattle.pdl_form.specs.Whole.{form}
+use Rattle.pdl_form.specs.FormView.{form}
 use Rattle.pdl_form.specs.View.{guards_view}
 use Rattle.pdl_pipe_exprs.specs.Nets.{signals_in}
 use Rattle.pdl_pipe_exprs.specs.Conditions.{taken_signal}
@@ -10,10 +10,10 @@ use Rattle.pdl_pipe_walk.specs.Parts.{Parts, parts_in, held_of}
 use Rattle.pdl_pipe_walk.specs.Sized.{IsWalk}
 use Rattle.pdl_pipe_walk.specs.Steps.{with_held}
 use Rattle.pdl_law_parts.specs.Walk.{zero_bit, both}
-use Rattle.pdl_pipe_walk.proofs.Kept.{held_width}
+use Rattle.pdl_pipe_walk.proofs.NetGrowth.{held_width}
 use Rattle.pdl_pipe_walk.proofs.Lists.{on_ok}
-use Rattle.pdl_pipe_walk.proofs.Growing.{walk_more, there_more, parts_more}
-use Rattle.pdl_pipe_walk.proofs.Answered.{letting_walk, release_same}
+use Rattle.pdl_pipe_walk.proofs.WalkGrowth.{walk_more, there_more, parts_more}
+use Rattle.pdl_pipe_walk.proofs.ChangedNets.{letting_walk, release_same}
 use Rattle.pdl_pipe_walk.proofs.Updates.{letting_parts}
 use Rattle.pdl_pipe_walk.proofs.nets.WalkNets.release.Goals as goal
 

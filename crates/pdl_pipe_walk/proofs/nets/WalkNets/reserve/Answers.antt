@@ -2,7 +2,7 @@ use Rattle.std.proofs.Common.{◌∙◌, List, sym, ap, subst}
 use Rattle.pdl_net.specs.Signal.{Signal}
 use Rattle.pdl_net.specs.Meaning.{signal, IsThere}
 use Rattle.pdl_net.proofs.Keeps.{extends_trans}
-use Rattle.pdl_form.specs.Whole.{form}
+use Rattle.pdl_form.specs.FormView.{form}
 use Rattle.pdl_form.specs.View.{guards_view}
 use Rattle.pdl_pipe_exprs.specs.Nets.{signals_in, signal_at}
 use Rattle.pdl_pipe_exprs.specs.Conditions.{taken_signal}
@@ -11,8 +11,8 @@ use Rattle.pdl_pipe_walk.specs.Sized.{IsWalk}
 use Rattle.pdl_pipe_walk.specs.Locked.{members, locks_in}
 use Rattle.std.specs.Prelude.{◌^◌}
 use Rattle.pdl_pipe_walk.proofs.Lists.{on_ok}
-use Rattle.pdl_pipe_walk.proofs.Growing.{walk_more, parts_more, vars_same, reach_at}
-use Rattle.pdl_pipe_walk.proofs.Answered.{reserve_walk, reserve_made}
+use Rattle.pdl_pipe_walk.proofs.WalkGrowth.{walk_more, parts_more, vars_same, reach_at}
+use Rattle.pdl_pipe_walk.proofs.ChangedNets.{reserve_walk, reserve_made}
 use Rattle.pdl_pipe_walk.proofs.Updates.{reserve_parts}
 use Rattle.pdl_pipe_walk.proofs.MadeLocks.{room_signal, room_there}
 use Rattle.pdl_pipe_walk.proofs.nets.WalkNets.reserve.Goals as goal

@@ -1,7 +1,7 @@
 use Rattle.pdl_net.specs.Meaning.{signal}
-use Rattle.pdl_form.specs.Whole.{form}
-use Rattle.pdl_pipe_walk.proofs.Growing.{var_low}
-use Rattle.pdl_pipe_walk.proofs.Answered.{set_means, set_parts, set_walk}
+use Rattle.pdl_form.specs.FormView.{form}
+use Rattle.pdl_pipe_walk.proofs.WalkGrowth.{var_low}
+use Rattle.pdl_pipe_walk.proofs.ChangedNets.{set_means, set_parts, set_walk}
 use Rattle.pdl_pipe_walk.proofs.nets.WalkNets.set.Goals as goal
 
 pub put_var-requires : goal.put_var-requires

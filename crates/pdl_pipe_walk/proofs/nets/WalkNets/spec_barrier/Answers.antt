@@ -2,13 +2,13 @@ use Rattle.std.proofs.Common.{◌≡◌, ◌∙◌, refl, ap, ap₂}
 use Rattle.pdl_net.specs.Signal.{mux_signal}
 use Rattle.pdl_net.specs.Meaning.{signal}
 use Rattle.pdl_net.proofs.Keeps.{extends_trans, extends_keeps}
-use Rattle.pdl_form.specs.Whole.{form}
+use Rattle.pdl_form.specs.FormView.{form}
 use Rattle.pdl_form.specs.View.{guards_view}
 use Rattle.pdl_pipe_exprs.specs.Nets.{signals_in}
 use Rattle.pdl_pipe_exprs.specs.Conditions.{taken_signal}
 use Rattle.pdl_law_parts.specs.Walk.{one}
 use Rattle.pdl_pipe_walk.proofs.Updates.{barrier_parts}
-use Rattle.pdl_pipe_walk.proofs.Answered.{barrier_walk}
+use Rattle.pdl_pipe_walk.proofs.ChangedNets.{barrier_walk}
 use Rattle.pdl_pipe_walk.proofs.nets.WalkNets.spec_barrier.Goals as goal
 
 pub returns-clause-walk : goal.returns-clause-walk

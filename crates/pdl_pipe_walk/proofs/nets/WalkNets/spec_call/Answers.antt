@@ -4,7 +4,7 @@ use Rattle.pdl_net.specs.declared.Net.{Net}
 use Rattle.pdl_net.specs.Signal.{Signal}
 use Rattle.pdl_net.specs.Meaning.{signal}
 use Rattle.pdl_net.proofs.Keeps.{extends_trans, extends_keeps}
-use Rattle.pdl_form.specs.Whole.{form}
+use Rattle.pdl_form.specs.FormView.{form}
 use Rattle.pdl_form.specs.View.{guards_view, exprs_view}
 use Rattle.pdl_pipe_exprs.specs.Nets.{NetsThere, signals_in, widths_of}
 use Rattle.pdl_pipe_exprs.specs.Conditions.{taken_signal}
@@ -14,10 +14,10 @@ use Rattle.pdl_pipe_walk.specs.Parts.{parts_in}
 use Rattle.pdl_pipe_walk.specs.Sized.{IsWalk}
 use Rattle.pdl_pipe_walk.specs.Guesses.{choices}
 use Rattle.pdl_pipe_walk.proofs.Lists.{on_ok}
-use Rattle.pdl_pipe_walk.proofs.Growing.{walk_more, vars_same}
+use Rattle.pdl_pipe_walk.proofs.WalkGrowth.{walk_more, vars_same}
 use Rattle.pdl_pipe_walk.proofs.Choices.{same_length, choices_widths}
 use Rattle.pdl_pipe_walk.proofs.Updates.{guess_parts}
-use Rattle.pdl_pipe_walk.proofs.Answered.{guess_walk, birth_made, call_same}
+use Rattle.pdl_pipe_walk.proofs.ChangedNets.{guess_walk, birth_made, call_same}
 use Rattle.pdl_pipe_walk.proofs.nets.WalkNets.spec_call.Goals as goal
 
 pub values-requires-clause-walk : goal.values-requires-clause-walk

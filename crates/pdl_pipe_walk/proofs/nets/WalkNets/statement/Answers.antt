@@ -1,7 +1,7 @@
 use Rattle.std.proofs.Common.{◌≡◌, ◌∙◌, List, sym, ap, refl, subst, length}
 use Rattle.pdl_semantics.specs.Flat as flat
 use Rattle.pdl_net.proofs.Keeps.{extends_keeps}
-use Rattle.pdl_form.specs.Whole.{form}
+use Rattle.pdl_form.specs.FormView.{form}
 use Rattle.pdl_form.specs.View.{guards_view, act_view, expr_view, exprs_view}
 use Rattle.pdl_form.specs.declared.form.Op as r_op
 use Rattle.pdl_form_types.specs.Stmts.{AreGuards, IsTypedOp}
@@ -11,10 +11,10 @@ use Rattle.pdl_form.specs.declared.form.Expr as r_expr
 use Rattle.pdl_form_types.specs.Stmts.{param_widths, AreArguments}
 use Rattle.pdl_pipe_walk.proofs.Arguments.{arguments_typed, arguments_few, arguments_wide}
 use Rattle.pdl_pipe_walk.proofs.Lists.{on_ok}
-use Rattle.pdl_pipe_walk.proofs.Made.{nets_of, has_keep, bind_step, read_step, write_step, idle_step, reserve_step, block_step, release_step, call_step}
+use Rattle.pdl_pipe_walk.proofs.MadeSteps.{nets_of, has_keep, bind_step, read_step, write_step, idle_step, reserve_step, block_step, release_step, call_step}
 use Rattle.pdl_law_parts.specs.Reads.{IsAtOnce}
 use Rattle.pdl_pipe_walk.proofs.MadeGuesses.{ask_step, check_step, barrier_step, guess_step, verify_step}
-use Rattle.pdl_pipe_walk.proofs.OneByOne.{typed_as, guards_as, step_as}
+use Rattle.pdl_pipe_walk.proofs.RowSteps.{typed_as, guards_as, step_as}
 use Rattle.pdl_pipe_walk.proofs.nets.WalkNets.statement.Goals as goal
 
 pub bind-requires-clause-low : goal.bind-requires-clause-low

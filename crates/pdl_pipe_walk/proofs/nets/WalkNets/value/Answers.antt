@@ -1,12 +1,12 @@
 use Rattle.std.proofs.Common.{List, subst}
 use Rattle.std.proofs.lemmas.Result.{IfOk-weaker}
 use Rattle.std.specs.Prelude.{IfOk}
-use Rattle.pdl_form.specs.Whole.{form}
+use Rattle.pdl_form.specs.FormView.{form}
 use Rattle.pdl_form.specs.View.{expr_view}
 use Rattle.pdl_net.specs.Signal.{Signal}
 use Rattle.pdl_net.specs.Meaning.{Means}
 use Rattle.pdl_pipe_exprs.specs.Values.{value_signal}
-use Rattle.pdl_pipe_walk.proofs.Growing.{slice_there, slice_same, slice_typed, slice_wide}
+use Rattle.pdl_pipe_walk.proofs.WalkGrowth.{slice_there, slice_same, slice_typed, slice_wide}
 use Rattle.pdl_pipe_walk.proofs.nets.WalkNets.value.Goals as goal
 
 pub value-requires-clause-there : goal.value-requires-clause-there

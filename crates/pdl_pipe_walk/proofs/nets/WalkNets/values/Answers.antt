@@ -1,13 +1,13 @@
 use Rattle.std.proofs.Common.{◌≡◌, List, subst}
 use Rattle.std.proofs.lemmas.Result.{IfOk-weaker}
 use Rattle.std.specs.Prelude.{IfOk}
-use Rattle.pdl_form.specs.Whole.{form}
+use Rattle.pdl_form.specs.FormView.{form}
 use Rattle.pdl_form.specs.View.{exprs_view}
 use Rattle.pdl_form_types.specs.Stmts.{param_widths}
 use Rattle.pdl_net.specs.Signal.{Signal}
 use Rattle.pdl_pipe_exprs.specs.Nets.{signals_in}
 use Rattle.pdl_pipe_exprs.specs.Values.{value_signals}
-use Rattle.pdl_pipe_walk.proofs.Growing.{slice_there, slice_same, slice_all_typed, slice_all_wide}
+use Rattle.pdl_pipe_walk.proofs.WalkGrowth.{slice_there, slice_same, slice_all_typed, slice_all_wide}
 use Rattle.pdl_pipe_walk.proofs.nets.WalkNets.values.Goals as goal
 
 pub values-requires-clause-there : goal.values-requires-clause-there

@@ -1,9 +1,9 @@
 use Rattle.std.proofs.Common.{List, subst}
-use Rattle.pdl_form.specs.Whole.{form}
+use Rattle.pdl_form.specs.FormView.{form}
 use Rattle.pdl_net.specs.Signal.{Signal}
 use Rattle.pdl_net.specs.Meaning.{Means}
 use Rattle.pdl_pipe_exprs.specs.Nets.{signal_at}
-use Rattle.pdl_pipe_walk.proofs.Growing.{slice_there, slice_same, slice_low}
+use Rattle.pdl_pipe_walk.proofs.WalkGrowth.{slice_there, slice_same, slice_low}
 use Rattle.pdl_pipe_walk.proofs.nets.WalkNets.variable.Goals as goal
 
 pub variable-requires-clause-there : goal.variable-requires-clause-there

@@ -4,7 +4,7 @@ use Rattle.pdl_net.specs.declared.Net.{Net}
 use Rattle.pdl_net.specs.Signal.{Signal, mux_signal}
 use Rattle.pdl_net.specs.Meaning.{signal}
 use Rattle.pdl_net.proofs.Keeps.{extends_trans}
-use Rattle.pdl_form.specs.Whole.{form}
+use Rattle.pdl_form.specs.FormView.{form}
 use Rattle.pdl_form.specs.View.{guards_view, exprs_view}
 use Rattle.pdl_pipe_exprs.specs.Nets.{NetsThere, signals_in, widths_of}
 use Rattle.pdl_pipe_exprs.specs.Conditions.{taken_signal}
@@ -14,8 +14,8 @@ use Rattle.pdl_law_parts.specs.Walk.{one, both}
 use Rattle.pdl_pipe_walk.specs.Parts.{Parts, parts_in}
 use Rattle.pdl_pipe_walk.specs.Guesses.{differ_signal}
 use Rattle.pdl_pipe_walk.proofs.Lists.{on_ok}
-use Rattle.pdl_pipe_walk.proofs.Growing.{walk_more, parts_more, vars_same}
-use Rattle.pdl_pipe_walk.proofs.Answered.{birth_made, call_same}
+use Rattle.pdl_pipe_walk.proofs.WalkGrowth.{walk_more, parts_more, vars_same}
+use Rattle.pdl_pipe_walk.proofs.ChangedNets.{birth_made, call_same}
 use Rattle.pdl_pipe_walk.proofs.nets.WalkNets.verify.Goals as goal
 
 pub values-requires-clause-walk : goal.values-requires-clause-walk

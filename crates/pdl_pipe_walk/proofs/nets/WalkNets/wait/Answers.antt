@@ -1,7 +1,7 @@
 use Rattle.pdl_net.specs.Meaning.{signal}
 use Rattle.pdl_net.proofs.Keeps.{extends_trans}
-use Rattle.pdl_form.specs.Whole.{form}
-use Rattle.pdl_pipe_walk.proofs.Answered.{wait_signal, wait_parts, wait_walk}
+use Rattle.pdl_form.specs.FormView.{form}
+use Rattle.pdl_pipe_walk.proofs.ChangedNets.{wait_signal, wait_parts, wait_walk}
 use Rattle.pdl_pipe_walk.proofs.nets.WalkNets.wait.Goals as goal
 
 pub returns-clause-parts : goal.returns-clause-parts

@@ -1,13 +1,13 @@
 use Rattle.std.proofs.Common.{List, ◌∙◌, sym, ap, subst}
 use Rattle.std.specs.Prelude.{map, OnOk}
 use Rattle.pdl_semantics.specs.Flat.{Stmt}
-use Rattle.pdl_form.specs.Whole.{form}
+use Rattle.pdl_form.specs.FormView.{form}
 use Rattle.pdl_form.specs.Form.{stmt_at}
 use Rattle.pdl_pipe_walk.specs.Parts.{walk_in}
 use Rattle.pdl_pipe_walk.specs.Locked.{members, locks_in, tickets_in}
 use Rattle.pdl_pipe_walk.specs.Sized.{AreWalkedRows}
 use Rattle.pdl_pipe_walk.specs.Steps.{AreSteps}
-use Rattle.pdl_pipe_walk.proofs.OneByOne.{rows_walked}
+use Rattle.pdl_pipe_walk.proofs.RowSteps.{rows_walked}
 use Rattle.pdl_pipe_walk.proofs.nets.WalkNets.walk.Goals as goal
 
 pub walk_rows-requires-clause-typed : goal.walk_rows-requires-clause-typed

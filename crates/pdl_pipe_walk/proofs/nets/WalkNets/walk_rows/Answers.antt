@@ -1,6 +1,6 @@
 use Rattle.std.proofs.Common.{ℕ, List, get_or, sym, ap, subst}
 use Rattle.pdl_semantics.specs.Flat.{Stmt}
-use Rattle.pdl_form.specs.Whole.{form}
+use Rattle.pdl_form.specs.FormView.{form}
 use Rattle.pdl_form.specs.Form.{stmt_at}
 use Rattle.pdl_form.specs.View.{stmt_view, stmts_view}
 use Rattle.pdl_net.specs.Signal.{Signal}
@@ -12,7 +12,7 @@ use Rattle.pdl_pipe_walk.specs.Sized.{IsWalked}
 use Rattle.pdl_pipe_walk.specs.Steps.{AreSteps}
 use Rattle.pdl_pipe_exprs.specs.Nets.{signal_at}
 use Rattle.pdl_pipe_walk.proofs.MadeLocks.{locked_keep, tickets_keep, locks_same}
-use Rattle.pdl_pipe_walk.proofs.OneByOne.{rows_split, rows_more, row_low, steps_push, step_here}
+use Rattle.pdl_pipe_walk.proofs.RowSteps.{rows_split, rows_more, row_low, steps_push, step_here}
 use Rattle.pdl_pipe_walk.proofs.nets.WalkNets.walk_rows.Goals as goal
 
 pub row-s-requires : goal.row-s-requires

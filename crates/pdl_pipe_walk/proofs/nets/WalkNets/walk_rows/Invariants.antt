@@ -1,5 +1,5 @@
 use Rattle.std.proofs.Common.{map, drop, take}
-use Rattle.pdl_form.specs.Whole.{form}
+use Rattle.pdl_form.specs.FormView.{form}
 use Rattle.pdl_form.specs.Form.{stmt_at}
 use Rattle.pdl_form.specs.View.{stmts_view}
 use Rattle.pdl_net.specs.Growth.{Extends}

@@ -2,7 +2,7 @@ use Rattle.std.proofs.Common.{◌∙◌, List, sym, ap, subst}
 use Rattle.pdl_net.specs.Signal.{Signal}
 use Rattle.pdl_net.specs.Meaning.{signal}
 use Rattle.pdl_net.proofs.Keeps.{extends_trans}
-use Rattle.pdl_form.specs.Whole.{form}
+use Rattle.pdl_form.specs.FormView.{form}
 use Rattle.pdl_form.specs.View.{guards_view, expr_view}
 use Rattle.pdl_pipe_exprs.specs.Nets.{signals_in}
 use Rattle.pdl_pipe_exprs.specs.Conditions.{taken_signal}
@@ -10,8 +10,8 @@ use Rattle.pdl_pipe_exprs.specs.Values.{value_signal}
 use Rattle.pdl_pipe_walk.specs.Parts.{parts_in}
 use Rattle.pdl_pipe_walk.specs.Sized.{IsWalk}
 use Rattle.pdl_pipe_walk.proofs.Lists.{on_ok}
-use Rattle.pdl_pipe_walk.proofs.Growing.{walk_more, parts_more, vars_same}
-use Rattle.pdl_pipe_walk.proofs.Answered.{put_walk, put_same}
+use Rattle.pdl_pipe_walk.proofs.WalkGrowth.{walk_more, parts_more, vars_same}
+use Rattle.pdl_pipe_walk.proofs.ChangedNets.{put_walk, put_same}
 use Rattle.pdl_pipe_walk.proofs.Updates.{put_parts}
 use Rattle.pdl_pipe_walk.proofs.nets.WalkNets.write.Goals as goal
 

@@ -1,7 +1,7 @@
 use Rattle.std.proofs.Common.{map}
 use Rattle.pdl_rules.specs.Limits.{is_statement, is_separator, is_memory, is_binding}
 use Rattle.pdl_paths.specs.Actions.{place_view}
-use Rattle.pdl_rules_limits.proofs.Counted.{count_next, count_below}
+use Rattle.pdl_rules_limits.proofs.CountSteps.{count_next, count_below}
 use Rattle.pdl_rules_limits.proofs.counts.Counts.with.Goals as goal
 use Rattle.pdl_rules_on_paths.proofs.Nth.{nth}
 

@@ -3,8 +3,8 @@ use Rattle.pdl_syntax_tree.specs.View.{pipe_view}
 use Rattle.pdl_rules.specs.Places.{places, guards, on_path}
 use Rattle.pdl_paths.specs.Actions.{place_view}
 use Rattle.pdl_paths.specs.Masks.{path_of}
-use Rattle.pdl_paths.proofs.Distinct.{guards_distinct}
-use Rattle.pdl_rules_names.proofs.Given.{given_off, given_at_once, given_later}
+use Rattle.pdl_paths.proofs.DistinctGuards.{guards_distinct}
+use Rattle.pdl_rules_names.proofs.GivenNames.{given_off, given_at_once, given_later}
 use Rattle.pdl_rules_names.proofs.early.Early.is_given_on.Goals as goal
 
 pub returns-then-not-is_on : goal.returns-then-not-is_on

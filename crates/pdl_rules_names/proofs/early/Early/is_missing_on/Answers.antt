@@ -2,8 +2,8 @@ use Rattle.std.proofs.Common.{◌≤◌, ◌^◌, sym, ◌∙◌, length, arith}
 use Rattle.std.proofs.Math.Pow.{pow_mono}
 use Rattle.pdl_syntax_tree.specs.View.{pipe_view}
 use Rattle.pdl_rules.specs.Places.{places, guards}
-use Rattle.pdl_paths.proofs.Distinct.{guards_distinct}
-use Rattle.pdl_rules_names.proofs.Given.{missing_off, missing_if}
+use Rattle.pdl_paths.proofs.DistinctGuards.{guards_distinct}
+use Rattle.pdl_rules_names.proofs.GivenNames.{missing_off, missing_if}
 use Rattle.pdl_rules_names.proofs.early.Early.is_missing_on.Goals as goal
 
 pub overflow_cast-path : goal.overflow_cast-path

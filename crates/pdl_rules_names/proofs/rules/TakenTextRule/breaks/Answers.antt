@@ -5,7 +5,7 @@ use Rattle.pdl_rules.specs.Parts.{is_some_and}
 use Rattle.pdl_rules.specs.Names.{name_at, is_taken_name}
 use Rattle.pdl_rules.specs.Refusal.{breaks_rule}
 use Rattle.pdl_paths.specs.Actions.{place_view}
-use Rattle.pdl_rules_on_texts.proofs.More.{breaks_kth}
+use Rattle.pdl_rules_on_texts.proofs.LineSteps.{breaks_kth}
 use Rattle.pdl_rules_names.specs.First.{comes_before}
 use Rattle.pdl_rules_names.proofs.Firsts.{any_before}
 use Rattle.pdl_rules_names.proofs.rules.TakenTextRule.breaks.Goals as goal

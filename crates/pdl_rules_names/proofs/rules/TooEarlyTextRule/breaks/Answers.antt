@@ -5,7 +5,7 @@ use Rattle.pdl_rules.specs.Parts.{is_some_and}
 use Rattle.pdl_rules.specs.Names.{some_use, is_too_early}
 use Rattle.pdl_rules.specs.Refusal.{breaks_rule}
 use Rattle.pdl_paths.specs.Actions.{place_view}
-use Rattle.pdl_rules_on_texts.proofs.More.{breaks_kth}
+use Rattle.pdl_rules_on_texts.proofs.LineSteps.{breaks_kth}
 use Rattle.pdl_rules_names.proofs.rules.TooEarlyTextRule.breaks.Goals as goal
 use Rattle.pdl_rules_on_paths.proofs.Nth.{nth}
 

@@ -4,9 +4,9 @@ use Rattle.pdl_syntax_tree.specs.View.{pipe_view}
 use Rattle.pdl_rules.specs.Places.{places, guards}
 use Rattle.pdl_paths.specs.Actions.{place_view}
 use Rattle.pdl_paths.specs.Masks.{IsMasked}
-use Rattle.pdl_paths.proofs.Distinct.{guards_distinct}
+use Rattle.pdl_paths.proofs.DistinctGuards.{guards_distinct}
 use Rattle.pdl_rules_names.specs.Ready.{AreLast, AreMarked}
-use Rattle.pdl_rules_names.proofs.Last.{all_kept, all_marked}
+use Rattle.pdl_rules_names.proofs.LastSeparator.{all_kept, all_marked}
 use Rattle.pdl_rules_names.proofs.rules.TooEarlyTextRule.step.Goals as goal
 use Rattle.pdl_rules_on_paths.proofs.Nth.{nth, take_next, taken_length}
 

@@ -3,7 +3,7 @@ use Rattle.pdl_syntax_tree.specs.View.{pipe_view}
 use Rattle.pdl_form.specs.Form.{Form}
 use Rattle.pdl_seq.specs.Fits.{IsImageFor}
 use Rattle.pdl_seq.specs.Runs.{IsRunnable}
-use Rattle.pdl_seq.proofs.Imaging.{images}
+use Rattle.pdl_seq.proofs.FlatImages.{images}
 use Rattle.pdl_seq.proofs.run.SeqRun.new.Goals as goal
 
 pub of_flat-requires-clause-run : goal.of_flat-requires-clause-run

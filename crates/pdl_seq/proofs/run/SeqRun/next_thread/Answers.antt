@@ -2,13 +2,13 @@ use Rattle.std.proofs.Common.{◌≡◌, ◌≤◌, ◌+◌, ◌-◌, ◌++◌, 
 use Rattle.std.specs.Prelude.{vec_len, vec_capacity}
 use Rattle.pdl_semantics.specs.Flat.{arrays_of}
 use Rattle.pdl_semantics.specs.Sequential.{Run, run_all, thread}
-use Rattle.pdl_form.specs.Whole.{form}
+use Rattle.pdl_form.specs.FormView.{form}
 use Rattle.pdl_seq.specs.Turns.{Rooms, rooms, commits_view, run_view}
 use Rattle.pdl_seq.specs.Runs.{Running, HasRun, numbered_write}
 use Rattle.pdl_seq.specs.declared.commit.Commit as r_commit
-use Rattle.pdl_seq.proofs.Few.{few, few_lent}
+use Rattle.pdl_seq.proofs.WriteLimit.{few, few_lent}
 use Rattle.pdl_seq.specs.declared.commit.Write.{Write}
-use Rattle.pdl_seq.proofs.Telling.{told_more, told_less}
+use Rattle.pdl_seq.proofs.NumberedWrites.{told_more, told_less}
 use Rattle.pdl_seq.proofs.Rooms.{room_next, room_left, room_same}
 use Rattle.pdl_seq.proofs.Threads.{arrays_next, args_next, told_next}
 use Rattle.pdl_seq.proofs.run.SeqRun.next_thread.Goals as goal

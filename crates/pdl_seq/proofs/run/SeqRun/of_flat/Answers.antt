@@ -1,9 +1,9 @@
 use Rattle.std.proofs.Common.{arith}
 use Rattle.std.specs.Prelude.{vec_len, vec_capacity}
 use Rattle.pdl_seq.proofs.Rooms.{room_first}
-use Rattle.pdl_seq.proofs.Telling.{none_told}
-use Rattle.pdl_form.specs.Whole.{form}
-use Rattle.pdl_seq.proofs.First.{first_fits}
+use Rattle.pdl_seq.proofs.NumberedWrites.{none_told}
+use Rattle.pdl_form.specs.FormView.{form}
+use Rattle.pdl_seq.proofs.FirstState.{first_fits}
 use Rattle.pdl_seq.proofs.run.SeqRun.of_flat.Goals as goal
 
 pub invariant_of-result : goal.invariant_of-result

@@ -3,7 +3,7 @@ use Rattle.std.specs.List.{list_any}
 use Rattle.pdl_rules.specs.Stages.{stage_of}
 use Rattle.pdl_rules.specs.Speculation.{needs_check}
 use Rattle.pdl_paths.specs.Actions.{place_view}
-use Rattle.pdl_rules_stages.proofs.Found.{nth_stage}
+use Rattle.pdl_rules_stages.proofs.PlaceStages.{nth_stage}
 use Rattle.pdl_spec.specs.Sure.{is_before}
 use Rattle.pdl_spec.proofs.checked.CheckedFirstPathRule.breaks.Goals as goal
 

@@ -1,7 +1,7 @@
 use Rattle.std.proofs.Common.{◌≡◌, ◌∙◌, sym, ap, ap₂, ◌∷◌, ◌++◌, ◌&&◌, get_or, [], Bool, true, false, if◌then◌else◌, append-nil}
 use Rattle.pdl_rules.specs.Stages.{stage_of, stages_that}
 use Rattle.pdl_paths.specs.Actions.{place_view}
-use Rattle.pdl_rules_stages.proofs.Found.{nth_stage, that_more}
+use Rattle.pdl_rules_stages.proofs.PlaceStages.{nth_stage, that_more}
 use Rattle.pdl_spec.specs.Checked.{is_check_on}
 use Rattle.pdl_spec.proofs.checked.CheckedFirstPathRule.step.Goals as goal
 

@@ -3,10 +3,10 @@ use Rattle.pdl_rules.specs.Places.{on_path}
 use Rattle.pdl_rules.specs.Stages.{stage_of}
 use Rattle.pdl_rules.specs.Speculation.{releases_unsure}
 use Rattle.pdl_paths.specs.Actions.{place_view}
-use Rattle.pdl_rules_stages.proofs.Found.{nth_stage}
+use Rattle.pdl_rules_stages.proofs.PlaceStages.{nth_stage}
 use Rattle.pdl_locks.specs.declared.numbers.Keys.TheVariants.{Locations}
 use Rattle.pdl_locks.specs.Uses.{IsUsed}
-use Rattle.pdl_locks.proofs.Kept.{own}
+use Rattle.pdl_locks.proofs.UseSteps.{own}
 use Rattle.pdl_spec.specs.Sure.{is_before}
 use Rattle.pdl_spec.proofs.sure.ReleasedSurePathRule.breaks.Goals as goal
 

@@ -7,11 +7,11 @@ use Rattle.pdl_rules.specs.Speculation.{is_unverified, is_once_after, verify_sta
 use Rattle.pdl_paths.specs.declared.action.Action.{Action}
 use Rattle.pdl_paths.specs.Actions.{place_at, place_view}
 use Rattle.pdl_paths.specs.Guards.{branch_view}
-use Rattle.pdl_rules_stages.specs.Along.{HavePaths}
+use Rattle.pdl_rules_stages.specs.PathBits.{HavePaths}
 use Rattle.pdl_rules_stages.specs.Stages.{stages_in}
-use Rattle.pdl_rules_stages.proofs.Found.{nth_stage}
+use Rattle.pdl_rules_stages.proofs.PlaceStages.{nth_stage}
 use Rattle.pdl_spec.specs.Verified.{only}
-use Rattle.pdl_spec.proofs.Only.{once_after}
+use Rattle.pdl_spec.proofs.SingleNumber.{once_after}
 use Rattle.pdl_spec.proofs.verified.VerifiedOncePathRule.breaks.Goals as goal
 
 pub returns-in-SpecCall : goal.returns-in-SpecCall

@@ -1,5 +1,5 @@
 use Rattle.pdl_net.proofs.Keeps.{extends_trans}
-use Rattle.pdl_port.proofs.Kept.{bits_kept}
+use Rattle.pdl_port.proofs.PortGrowth.{bits_kept}
 use Rattle.pdl_tests_of_parts.proofs.OneBit.{bits_as, port_kept}
 use Rattle.pdl_tests_of_parts.proofs.sides.ports.emit_driven.Goals as goal
 

@@ -1,5 +1,5 @@
 use Rattle.std.proofs.Common.{◌++◌}
-use Rattle.pdl_trace.proofs.Passing.{prefix_to, faulted}
+use Rattle.pdl_trace.proofs.BytePieces.{prefix_to, faulted}
 use Rattle.pdl_trace.proofs.line_out.LineOut.push.Goals as goal
 
 pub returns-in_err-hand_on-clause-bytes : goal.returns-in_err-hand_on-clause-bytes

@@ -1,5 +1,5 @@
 use Rattle.std.proofs.Common.{◌≤◌, sym, arith}
-use Rattle.pdl_types.proofs.Narrow.{narrow_among}
+use Rattle.pdl_types.proofs.VariableWidths.{narrow_among}
 use Rattle.pdl_types.proofs.typed_pipe.TypedPipe.width.Goals as goal
 
 pub overflow_cast-result : goal.overflow_cast-result

@@ -1,0 +1,167 @@
+-- Values, reservations and writes have their widths, so the statements of a typed pipe can be carried out.
+use Rattle.std.proofs.Common.{◌≡◌, ◌≢◌, refl, sym, ◌∙◌, subst, ℕ, zero, suc, ◌^◌, ◌<◌, ◌≤◌, Bool, true, false, if◌then◌else◌, ◌==◌, List, [], ◌∷◌, ◌++◌, Some, length, take, slice_index, slice_set, arith}
+use Rattle.std.proofs.lemmas.List.{length-set, get_or-set_same, get_or-set_other}
+use Rattle.std.proofs.lemmas.Bool.{eqb-true}
+use Rattle.pdl_semantics.specs.Flat.{Expr, Op, Bind, CombRead, DelayedRead, Write, ReserveRead, ReserveWrite, Block, Release, Call, SpecCall, Verify, SpecCheck, SpecBarrier, Stmt, Pipe, all_hold, value_of, values_of}
+use Rattle.pdl_semantics.specs.Stages.{in_stage, mem_at}
+use Rattle.pdl_semantics.specs.Machine.{Ask, Deeds, Reserved, Written, same_args, deeds_after, deeds_after_all}
+use Rattle.pdl_form.specs.Form.{Form, stmt_at}
+use Rattle.pdl_form_types.specs.Stmts.{param_widths, AreWidths, AreArguments, IsTypedOp, AreTypedStmts}
+use Rattle.pdl_form_values.specs.Widths.{Fit}
+use Rattle.pdl_form_values.proofs.ValueWidths.{fits_in, safe, all_safe, values_count}
+use Rattle.pdl_machine_pending.specs.Memory.{Memory}
+use Rattle.pdl_machine_pending.proofs.WordBounds.{read_fits}
+use Rattle.pdl_machine_run.specs.StageDeeds.{memory_at, word_of, IsSafeOp}
+use Rattle.pdl_machine_run.specs.Room.{Capacities, IsLarge}
+use Rattle.pdl_machine_run.specs.Typed.{AreReserved, AreWritten, IsReadInto, AreAsked, AreFit, AreMemories}
+use Rattle.pdl_form_types.proofs.Arguments.{args_count}
+
+-- VALUES
+
+set_below : (ws env : List ℕ) (x v : ℕ) → Fit ws env → v < 2 ^ slice_index ws x → x < length env → (y : ℕ) (b : Bool) → (y == x) ≡ b → slice_index (slice_set env x v) y < 2 ^ slice_index ws y
+set_below ws env x v f h there y true e =
+    let same : y ≡ x = eqb-true y x e in
+    subst (λ i. slice_index (slice_set env x v) i < 2 ^ slice_index ws i) (sym same) (subst (λ u. u < 2 ^ slice_index ws x) (sym (get_or-set_same env x v 0 there)) h)
+set_below ws env x v f h there y false e =
+    let other : y ≢ x = λ same. grind (arith) in
+    subst (λ u. u < 2 ^ slice_index ws y) (sym (get_or-set_other env x y v 0 other)) (f.below y)
+
+-- values have their widths after one of them is set to a value of its width
+pub fit_set : (ws env : List ℕ) (x v : ℕ) → Fit ws env → v < 2 ^ slice_index ws x → x < length env → Fit ws (slice_set env x v)
+fit_set ws env x v f h there =
+    record {
+      count = length-set env x v ∙ f.count;
+      below = λ y. set_below ws env x v f h there y (y == x) refl;
+    }
+
+module _ (ws env : List ℕ) (wide : AreWidths ws) (f : Fit ws env) where
+  values_below : (ns : List ℕ) (es : List Expr) → AreArguments ws ns es → (x : ℕ) → slice_index (values_of es env) x < 2 ^ slice_index ns x
+  values_below [] [] t x = omega arith
+  values_below (n ∷ ns) [] t x = absurd t
+  values_below [] (e ∷ es) t x = absurd t
+  values_below (n ∷ ns) (e ∷ es) t zero = fits_in ws env wide f e n t.0 t.1
+  values_below (n ∷ ns) (e ∷ es) t (suc x) = values_below ns es t.2 x
+
+  args_fit : (ns : List ℕ) (es : List Expr) → AreArguments ws ns es → Fit ns (values_of es env)
+  args_fit ns es t = record { count = values_count env es ∙ args_count ws ns es t; below = values_below ns es t }
+
+-- DEEDS
+
+reserved_more : (p : Pipe) (rs : List Reserved) (r : Reserved) → AreReserved p rs → r.address < (mem_at p r.mem).depth → AreReserved p (rs ++ r ∷ [])
+reserved_more p [] r h k = (k, tt)
+reserved_more p (x ∷ rs) r h k = (h.0, reserved_more p rs r h.1 k)
+
+written_more : (p : Pipe) (ws : List Written) (w : Written) → AreWritten p ws → w.value < 2 ^ (mem_at p w.mem).width → AreWritten p (ws ++ w ∷ [])
+written_more p [] w h k = (k, tt)
+written_more p (x ∷ ws) w h k = (h.0, written_more p ws w h.1 k)
+
+asked_more : (f : Form) (qs : List Ask) (q : Ask) → AreAsked f qs → IsReadInto f q.var q.mem → AreAsked f (qs ++ q ∷ [])
+asked_more f [] q h k = (k, tt)
+asked_more f (x ∷ qs) q h k = (h.0, asked_more f qs q h.1 k)
+
+take_most : {X : Type 0} → (n : ℕ) (xs : List X) → length (take n xs) ≤ n
+take_most zero xs = omega arith
+take_most (suc n) [] = omega arith
+take_most (suc n) (x ∷ xs) = let rest = take_most n xs in omega arith
+
+module _ (f : Form) (wide : AreWidths f.widths) (xs : List Memory) (ms : AreMemories f.pipe xs) where
+  few_args : (args : List Expr) → AreArguments f.widths (param_widths f) args → length args ≤ length f.pipe.start
+  few_args args t =
+      let same : length args ≡ length (param_widths f) = args_count f.widths (param_widths f) args t in
+      let cut : length (param_widths f) ≤ length f.pipe.start = take_most (length f.pipe.start) f.widths in
+      omega arith
+
+  few_values : (args : List Expr) (env : List ℕ) → AreArguments f.widths (param_widths f) args → length (values_of args env) ≤ length f.pipe.start
+  few_values args env t =
+      let count = values_count env args in
+      let few = few_args args t in
+      omega arith
+
+  fit_verify : (b : Bool) (args : List ℕ) (d : Deeds) → Fit (param_widths f) args → AreFit f d → AreFit f (if b then d else record d { child = Some args; fails = true })
+  fit_verify true args d h k = k
+  fit_verify false args d h k = record { env = k.env; guess = k.guess; reserves = k.reserves; writes = k.writes; asks = k.asks; child = h }
+
+  pub fit_does : (thread : ℕ) (op : Op) (d : Deeds) → IsTypedOp f op → AreFit f d → AreFit f (deeds_after (word_of xs thread) op d)
+  fit_does thread (Bind x e) d t k =
+      let there : x < length d.env = subst (λ n. x < n) (sym k.env.count) t.0 in
+      record { env = fit_set f.widths d.env x (value_of e d.env) k.env (fits_in f.widths d.env wide k.env e _ t.1 t.2) there; guess = k.guess; reserves = k.reserves; writes = k.writes; asks = k.asks; child = k.child }
+  fit_does thread (CombRead x m a) d t k =
+      let there : x < length d.env = subst (λ n. x < n) (sym k.env.count) t.0 in
+      let found : word_of xs thread m (slice_index d.env a) < 2 ^ (mem_at f.pipe m).width = read_fits _ _ thread (slice_index d.env a) (memory_at xs m) (ms.kept m t.1.memory) in
+      record {
+        env = fit_set f.widths d.env x (word_of xs thread m (slice_index d.env a)) k.env (subst (λ w. word_of xs thread m (slice_index d.env a) < 2 ^ w) (sym t.2) found) there;
+        guess = k.guess;
+        reserves = k.reserves;
+        writes = k.writes;
+        asks = k.asks;
+        child = k.child;
+      }
+  fit_does thread (DelayedRead x m a) d t k =
+      record { env = k.env; guess = k.guess; reserves = k.reserves; writes = k.writes; asks = asked_more f d.asks _ k.asks (record { there = t.0; width = t.2 }); child = k.child }
+  fit_does thread (Write m a e) d t k =
+      record { env = k.env; guess = k.guess; reserves = k.reserves; writes = written_more f.pipe d.writes _ k.writes (fits_in f.widths d.env wide k.env e _ t.1 t.2); asks = k.asks; child = k.child }
+  fit_does thread (ReserveRead m a) d t k = k
+  fit_does thread (ReserveWrite m a) d t k =
+      let small : slice_index d.env a < 2 ^ slice_index f.widths a = k.env.below a in
+      let reach : 2 ^ slice_index f.widths a ≡ (mem_at f.pipe m).depth = t.0.reach in
+      let within : slice_index d.env a < (mem_at f.pipe m).depth = omega arith in
+      record { env = k.env; guess = k.guess; reserves = reserved_more f.pipe d.reserves _ k.reserves within; writes = k.writes; asks = k.asks; child = k.child }
+  fit_does thread (Block m a) d t k = record { env = k.env; guess = k.guess; reserves = k.reserves; writes = k.writes; asks = k.asks; child = k.child }
+  fit_does thread (Release m a) d t k = record { env = k.env; guess = k.guess; reserves = k.reserves; writes = k.writes; asks = k.asks; child = k.child }
+  fit_does thread (Call args) d t k =
+      record { env = k.env; guess = k.guess; reserves = k.reserves; writes = k.writes; asks = k.asks; child = args_fit f.widths d.env wide k.env (param_widths f) args t }
+  fit_does thread (SpecCall args) d t k =
+      record { env = k.env; guess = few_values args d.env t; reserves = k.reserves; writes = k.writes; asks = k.asks; child = args_fit f.widths d.env wide k.env (param_widths f) args t }
+  fit_does thread (Verify args) d t k = fit_verify (same_args (values_of args d.env) d.guess) (values_of args d.env) d (args_fit f.widths d.env wide k.env (param_widths f) args t) k
+  fit_does thread SpecCheck d t k = k
+  fit_does thread SpecBarrier d t k = record { env = k.env; guess = k.guess; reserves = k.reserves; writes = k.writes; asks = k.asks; child = k.child }
+
+  fit_if : (thread : ℕ) (b : Bool) (op : Op) (d : Deeds) → IsTypedOp f op → AreFit f d → AreFit f (if b then deeds_after (word_of xs thread) op d else d)
+  fit_if thread true op d t k = fit_does thread op d t k
+  fit_if thread false op d t k = k
+
+  -- one statement more
+  pub fit_more : (thread : ℕ) (x : Stmt) (old new : Deeds) → new ≡ deeds_after_all (word_of xs thread) (x ∷ []) old → IsTypedOp f x.op → AreFit f old → AreFit f new
+  fit_more thread x old new e t k = subst (AreFit f) (sym e) (fit_if thread (all_hold x.guards old.env) x.op old t k)
+
+  pub safe_op : (op : Op) (d : Deeds) (c : Capacities) (n : ℕ) → IsTypedOp f op → AreFit f d → IsLarge n (length f.pipe.start) c → IsSafeOp c op d.env
+  safe_op (Bind x e) d c n t k h = safe f.widths d.env wide k.env e t.1
+  safe_op (CombRead x m a) d c n t k h = tt
+  safe_op (DelayedRead x m a) d c n t k h = tt
+  safe_op (Write m a e) d c n t k h = safe f.widths d.env wide k.env e t.1
+  safe_op (ReserveRead m a) d c n t k h = tt
+  safe_op (ReserveWrite m a) d c n t k h = tt
+  safe_op (Block m a) d c n t k h = tt
+  safe_op (Release m a) d c n t k h = tt
+  safe_op (Call args) d c n t k h =
+      let few = few_args args t in
+      let room = h.args in
+      (all_safe f.widths d.env wide k.env (param_widths f) args t, omega arith)
+  safe_op (SpecCall args) d c n t k h =
+      let few = few_args args t in
+      let room = h.args in
+      let kept = h.guess in
+      (all_safe f.widths d.env wide k.env (param_widths f) args t, omega arith, omega arith)
+  safe_op (Verify args) d c n t k h =
+      let few = few_args args t in
+      let room = h.args in
+      let kept = h.verified in
+      (all_safe f.widths d.env wide k.env (param_widths f) args t, omega arith, omega arith)
+  safe_op SpecCheck d c n t k h = tt
+  safe_op SpecBarrier d c n t k h = tt
+
+-- a statement of a typed pipe
+pub typed_at : (f : Form) (ss : List Stmt) (i : ℕ) → AreTypedStmts f ss → i < length ss → IsTypedOp f (stmt_at ss i).op
+typed_at f [] i t h = absurd (omega arith)
+typed_at f (x ∷ ss) zero t h = t.0.1
+typed_at f (x ∷ ss) (suc i) t h = typed_at f ss i t.1 (omega arith)
+
+-- no more statements stand in a stage than in all
+pub stage_if : (b : Bool) (x : Stmt) (rest : List Stmt) (n : ℕ) → length rest ≤ n → length (if b then x ∷ rest else rest) ≤ suc n
+stage_if true x rest n h = omega arith
+stage_if false x rest n h = omega arith
+
+-- a stage has no more statements than all stages together
+pub stage_few : (k : ℕ) (ss : List Stmt) → length (in_stage k ss) ≤ length ss
+stage_few k [] = omega arith
+stage_few k (x ∷ ss) = stage_if (x.stage == k) x (in_stage k ss) (length ss) (stage_few k ss)

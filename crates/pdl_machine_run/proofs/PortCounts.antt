@@ -1,0 +1,89 @@
+-- How many values the ports have.
+use Rattle.std.proofs.Common.{◌≡◌, refl, ℕ, suc, ◌+◌, ◌*◌, ◌≤◌, Bool, true, false, if◌then◌else◌, List, [], ◌∷◌, ◌++◌, Option, Some, None, length, length-append, arith}
+use Rattle.pdl_semantics.specs.Flat.{Lock, Mem, Stage, Pipe, has_lock}
+use Rattle.pdl_semantics.specs.Machine.{State}
+use Rattle.pdl_semantics.specs.Moves.{Act}
+use Rattle.pdl_semantics.specs.Cycle.{PortWrite, port_write, for_stages, for_mems, asked_in}
+use Rattle.pdl_semantics.specs.Cycle as stated
+use Rattle.pdl_word.specs.Words.{bit}
+use Rattle.pdl_machine_facts.specs.Ports.{stage_values, shown_values, commit_values, all_commit_values, request_values, all_request_values, whole_values}
+use Rattle.pdl_machine_pending.specs.Memory.{Memory}
+use Rattle.pdl_machine_run.specs.declared.stage.Stage as r_stage
+use Rattle.pdl_machine_run.specs.Acts.{out_of, commits_shown, are_held, are_moving}
+use Rattle.pdl_machine_run.specs.Requests.{requests_shown}
+use Rattle.pdl_machine_run.specs.Outputs.{all_memory_count, output_count}
+
+stages_counted : (f g : ℕ → Bool) (k : ℕ) (ys : List Stage) → length (stage_values (for_stages f k ys) (for_stages g k ys)) ≡ 2 * length ys
+stages_counted f g k [] = refl
+stages_counted f g k (y ∷ ys) = let rest = stages_counted f g (suc k) ys in omega (arith, rest)
+
+one_counted : (l : Lock) (e : Option PortWrite) → length (commit_values l e) ≡ (if has_lock l then 3 else 0)
+one_counted l e = at (has_lock l) e
+  where
+    at : (b : Bool) (e : Option PortWrite) → length (if b then shown_values e else []) ≡ (if b then 3 else 0)
+    at false e = refl
+    at true None = refl
+    at true (Some e) = refl
+
+request_counted : (b : Bool) (o : Option ℕ) → length (if b then request_values o else []) ≡ (if b then 2 else 0)
+request_counted false o = refl
+request_counted true None = refl
+request_counted true (Some a) = refl
+
+memories_counted : (f : ℕ → Option PortWrite) (g : ℕ → Option ℕ) (k : ℕ) (ms : List Mem) → length (all_commit_values ms (for_mems f k ms)) + length (all_request_values ms (for_mems g k ms)) ≡ all_memory_count ms
+memories_counted f g k [] = refl
+memories_counted f g k (m ∷ ms) =
+    let rest = memories_counted f g (suc k) ms in
+    let one = one_counted m.lock (f k) in
+    let two = request_counted m.delayed (g k) in
+    let a = length-append (commit_values m.lock (f k)) (all_commit_values ms (for_mems f (suc k) ms)) in
+    let b = length-append (if m.delayed then request_values (g k) else []) (all_request_values ms (for_mems g (suc k) ms)) in
+    omega (arith, rest, one, two, a, b)
+
+-- the ports of a pipe show as many values as it has outputs
+pub ports_counted : (p : Pipe) (st : State) (acts : List Act) → length (whole_values p (stated.ports p st acts)) ≡ output_count p
+ports_counted p st acts =
+    let o : stated.Ports = stated.ports p st acts in
+    let last : List ℕ = bit o.ended ∷ bit o.squash ∷ [] in
+    let stages : length (stage_values o.valid o.moves) ≡ 2 * length p.stages = stages_counted _ _ 0 p.stages in
+    let memories : length (all_commit_values p.mems o.commits) + length (all_request_values p.mems o.requests) ≡ all_memory_count p.mems = memories_counted _ _ 0 p.mems in
+    let a = length-append (all_request_values p.mems o.requests) last in
+    let b = length-append (all_commit_values p.mems o.commits) (all_request_values p.mems o.requests ++ last) in
+    let c = length-append (stage_values o.valid o.moves) (all_commit_values p.mems o.commits ++ (all_request_values p.mems o.requests ++ last)) in
+    omega (arith, stages, memories, a, b, c)
+
+-- HOW MANY ARE SHOWN
+
+-- two values are shown for each stage
+pub stages_shown : (zs : List r_stage.Stage) → length (stage_values (are_held zs) (are_moving zs)) ≡ 2 * length zs
+stages_shown [] = refl
+stages_shown (z ∷ zs) = let rest = stages_shown zs in omega arith
+
+few : (b : Bool) (n : ℕ) → (if b then n else 0) ≤ n
+few true n = omega arith
+few false n = omega arith
+
+-- at most three values are shown for the commits of each memory
+pub commits_most : (k : ℕ) (ms : List Act) (xs : List Memory) → length (commits_shown k ms xs) ≤ 3 * length xs
+commits_most k ms [] = omega arith
+commits_most k ms (x ∷ xs) =
+    let here = one_counted x.lock (port_write (out_of k ms x.pending)) in
+    let most = few (has_lock x.lock) 3 in
+    let rest = commits_most (suc k) ms xs in
+    let sum = length-append (commit_values x.lock (port_write (out_of k ms x.pending))) (commits_shown (suc k) ms xs) in
+    omega arith
+
+-- at most two values are shown for the requests of each memory
+pub requests_most : (k : ℕ) (ms : List Act) (xs : List Mem) → length (requests_shown k ms xs) ≤ 2 * length xs
+requests_most k ms [] = omega arith
+requests_most k ms (x ∷ xs) =
+    let here = request_counted x.delayed (asked_in ms k) in
+    let most = few x.delayed 2 in
+    let rest = requests_most (suc k) ms xs in
+    let sum = length-append (if x.delayed then request_values (asked_in ms k) else []) (requests_shown (suc k) ms xs) in
+    omega arith
+
+-- a count up to k that grows by at most one is at most k + 1
+pub one_more : (b : Bool) (n r k : ℕ) → r ≡ (if b then suc n else n) → n ≤ k → r ≤ suc k
+one_more true n r k e h = omega arith
+one_more false n r k e h = omega arith

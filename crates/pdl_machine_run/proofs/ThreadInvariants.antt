@@ -1,0 +1,142 @@
+-- What holds of the threads before a cycle holds after it.
+use Rattle.std.proofs.Common.{◌≡◌, refl, sym, ap, subst, ℕ, zero, suc, ◌+◌, ◌-◌, ◌^◌, ◌<◌, ◌≤◌, Bool, true, false, ◌==◌, if◌then◌else◌, List, [], ◌∷◌, ◌++◌, Option, Some, None, is_some, length, length-append, take, replicate, slice_index, get_or, arith}
+use Rattle.std.specs.Prelude.{IfSome, vec_len, vec_capacity}
+use Rattle.std.proofs.lemmas.List.{length-replicate, length-map}
+use Rattle.std.proofs.lemmas.Nat.{pow_pos}
+use Rattle.pdl_semantics.specs.Flat.{start_env}
+use Rattle.pdl_semantics.specs.Machine.{Thread, Ask}
+use Rattle.pdl_semantics.specs.Moves.{Act, next_stage}
+use Rattle.pdl_semantics.specs.Cycle.{is_stage, child_of, born_thread, awaited_of, thread_after, coming_thread, next_thread, or_then, if_kept, is_kept}
+use Rattle.pdl_form.specs.Form.{Form}
+use Rattle.pdl_form_values.specs.Widths.{Fit}
+use Rattle.pdl_form_types.specs.Stmts.{param_widths}
+use Rattle.pdl_word.proofs.Lists.{take_few}
+use Rattle.pdl_machine_run.specs.declared.stage.Stage as r_stage
+use Rattle.pdl_machine_run.specs.View.{deeds_view, ask_view, thread_of}
+use Rattle.pdl_machine_run.specs.Typed.{AreAsked, AreAwaited, IsFine, AreFit}
+use Rattle.pdl_machine_run.specs.Acts.{act_here, all_of, act_of, acts_of}
+use Rattle.pdl_machine_run.specs.Ready.{IsStage, HasAwaits}
+use Rattle.pdl_machine_run.proofs.ActedThreads.{HasActed, AllActed, acted_at}
+
+-- NEW THREADS
+
+args_first : (ws args : List ℕ) (n k : ℕ) → ((x : ℕ) → slice_index args x < 2 ^ slice_index (take n ws) x) → length args ≡ length (take n ws) → (x : ℕ) → slice_index (args ++ replicate k 0) x < 2 ^ slice_index ws x
+args_first ws [] n k h e x = subst (λ v. v < 2 ^ slice_index ws x) (sym (zeros k x)) (pow_pos (slice_index ws x))
+  where
+    zeros : (k x : ℕ) → slice_index (replicate k 0) x ≡ 0
+    zeros zero x = refl
+    zeros (suc k) zero = refl
+    zeros (suc k) (suc x) = zeros k x
+args_first [] (a ∷ args) zero k h e x = absurd (omega arith)
+args_first [] (a ∷ args) (suc n) k h e x = absurd (omega arith)
+args_first (w ∷ ws) (a ∷ args) zero k h e x = absurd (omega arith)
+args_first (w ∷ ws) (a ∷ args) (suc n) k h e zero = h 0
+args_first (w ∷ ws) (a ∷ args) (suc n) k h e (suc x) = args_first ws args n k (λ i. h (suc i)) (omega arith) x
+
+module _ (f : Form) (vars : f.pipe.vars ≡ length f.widths) where
+  pub args_few : (args : List ℕ) → Fit (param_widths f) args → length args ≤ length f.widths
+  args_few args h = let same = h.count in let few = take_few (length f.pipe.start) f.widths in omega arith
+
+  pub start_fits : (args : List ℕ) → Fit (param_widths f) args → Fit f.widths (start_env f.pipe args)
+  start_fits args h =
+      let few = args_few args h in
+      let none : List ℕ = replicate (f.pipe.vars - length args) 0 in
+      let long : length (args ++ none) ≡ length args + length none = length-append args none in
+      let zeros : length none ≡ f.pipe.vars - length args = length-replicate (f.pipe.vars - length args) 0 in
+      record {
+        count = omega arith;
+        below = args_first f.widths args (length f.pipe.start) (f.pipe.vars - length args) h.below h.count;
+      }
+
+  pub born_fine : (n : ℕ) (c : Option (List ℕ)) → IfSome c (λ args. Fit (param_widths f) args) → IfSome (born_thread f.pipe n c) (IsFine f)
+  born_fine n None h = tt
+  born_fine n (Some args) h = record { env = start_fits args h; guess = omega arith; awaits = tt; kept = tt; few = omega arith }
+
+  pub args_room : (c : Option (List ℕ)) (n : ℕ) → length f.widths ≡ n → IfSome c (λ args. Fit (param_widths f) args) → IfSome c (λ args. length args ≤ n)
+  args_room None n e h = tt
+  args_room (Some args) n e h = let few = args_few args h in omega (arith, few, e)
+
+module _ (f : Form) where
+  child_here : (c later : Option (List ℕ)) → IfSome c (λ args. Fit (param_widths f) args) → IfSome later (λ args. Fit (param_widths f) args) → IfSome (if is_some c then c else later) (λ args. Fit (param_widths f) args)
+  child_here None later h g = g
+  child_here (Some args) later h g = h
+
+  child_one : (k : ℕ) (z : r_stage.Stage) (o : Option ℕ) (b : Bool) (more : List Act) → HasActed f o z
+      → IfSome (child_of more) (λ args. Fit (param_widths f) args) → IfSome (child_of (act_of k (if b then o else None) z ++ more)) (λ args. Fit (param_widths f) args)
+  child_one k z o false more done h = h
+  child_one k z None true more done h = h
+  child_one k z (Some n) true more done h = child_here (deeds_view z.deeds).child (child_of more) done.1.child h
+
+  pub child_fits : (k : ℕ) (zs : List r_stage.Stage) → AllActed f zs → IfSome (child_of (acts_of k zs)) (λ args. Fit (param_widths f) args)
+  child_fits k [] done = tt
+  child_fits k (z ∷ zs) done = child_one k z z.slot.number z.moves (acts_of (suc k) zs) done.0 (child_fits (suc k) zs done.1)
+
+  -- WHO STANDS THERE AFTERWARDS
+
+  abbrev Fine : Option Thread → Type 0
+  Fine o = IfSome o (IsFine f)
+
+  awaited_fit : (qs : List Ask) → AreAsked f qs → AreAwaited f (awaited_of qs)
+  awaited_fit [] h = tt
+  awaited_fit (q ∷ qs) h = (h.0, awaited_fit qs h.1)
+
+  awaited_count : (qs : List Ask) → length (awaited_of qs) ≡ length qs
+  awaited_count [] = refl
+  awaited_count (q ∷ qs) = ap suc (awaited_count qs)
+
+  after_fine : (a : Act) → AreFit f a.does → length a.does.asks ≤ length f.pipe.stmts → IsFine f (thread_after a)
+  after_fine a h few =
+      let count = awaited_count a.does.asks in
+      record { env = h.env; guess = h.guess; awaits = awaited_fit a.does.asks h.asks; kept = tt; few = omega (arith, count, few) }
+
+  or_fine : (a b : Option Thread) → Fine a → Fine b → Fine (or_then a b)
+  or_fine None b h g = g
+  or_fine (Some t) b h g = h
+
+  if_fine : (b : Bool) (t : Thread) → IsFine f t → Fine (if b then Some t else None)
+  if_fine true t h = h
+  if_fine false t h = tt
+
+  coming_fine : (q : ℕ) (a : Act) → IsFine f a.thread → AreFit f a.does → length a.does.asks ≤ length f.pipe.stmts → Fine (coming_thread f.pipe q a)
+  coming_fine q a h g few = at a.moves
+    where
+      at : (b : Bool) → Fine (if b then (if is_stage q (next_stage f.pipe a.stage a.does) then Some (thread_after a) else None) else (if a.stage == q then Some a.thread else None))
+      at true = if_fine (is_stage q (next_stage f.pipe a.stage a.does)) (thread_after a) (after_fine a g few)
+      at false = if_fine (a.stage == q) a.thread h
+
+  pub next_fine : (q k : ℕ) (zs : List r_stage.Stage) → AllActed f zs → Fine (next_thread f.pipe q (all_of k zs))
+  next_fine q k [] h = tt
+  next_fine q k (z ∷ zs) h = at z.slot.number h.0 (next_fine q (suc k) zs h.1)
+    where
+      at : (o : Option ℕ) → HasActed f o z → Fine (next_thread f.pipe q (all_of (suc k) zs)) → Fine (next_thread f.pipe q (act_here k o z ++ all_of (suc k) zs))
+      at None d g = g
+      at (Some n) d g =
+          let a : Act = record { stage = k; thread = thread_of n z.slot; does = deeds_view z.deeds; moves = z.moves } in
+          or_fine (coming_thread f.pipe q a) (next_thread f.pipe q (all_of (suc k) zs)) (coming_fine q a d.0 d.1 d.2) g
+
+  kept_fine : (sq : Option ℕ) (o : Option Thread) → Fine o → Fine (if_kept sq o)
+  kept_fine sq None h = tt
+  kept_fine sq (Some t) h = if_fine (is_kept sq t.number) t h
+
+  -- a stage's next thread fits
+  pub stage_fine : (q : ℕ) (sq : Option ℕ) (born : Option Thread) (zs : List r_stage.Stage) → AllActed f zs → Fine born → Fine (or_then (if q == 0 then born else None) (if_kept sq (next_thread f.pipe q (all_of 0 zs))))
+  stage_fine q sq born zs h g = or_fine (if q == 0 then born else None) (if_kept sq (next_thread f.pipe q (all_of 0 zs))) (at (q == 0)) (kept_fine sq (next_thread f.pipe q (all_of 0 zs)) (next_fine q 0 zs h))
+    where
+      at : (b : Bool) → Fine (if b then born else None)
+      at true = g
+      at false = tt
+
+  -- ROOM
+
+  awaits_if : (z : r_stage.Stage) (b : Bool) (o : Option ℕ) → HasActed f o z → IsStage f z → IfSome (if b then o else None) (λ n. vec_len z.deeds.asks ≤ vec_capacity z.slot.awaits)
+  awaits_if z false o h w = tt
+  awaits_if z true None h w = tt
+  awaits_if z true (Some n) h w =
+      let few = h.2 in
+      let room = w.slot.awaits in
+      let long = z.deeds.asks.ok.0 in
+      let mapped = length-map z.deeds.asks.items ask_view in
+      omega (arith, few, room, long, mapped)
+
+  pub awaits_room : (zs : List r_stage.Stage) (k : ℕ) (d : r_stage.Stage) → AllActed f zs → k < length zs → IsStage f (get_or zs k d) → HasAwaits (get_or zs k d)
+  awaits_room zs k d h less w = awaits_if (get_or zs k d) (get_or zs k d).moves (get_or zs k d).slot.number (acted_at f zs k d h less) w

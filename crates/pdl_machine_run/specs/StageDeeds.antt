@@ -1,0 +1,57 @@
+-- What a stage's statements find in the memories, and what they do.
+use Rattle.std.specs.Prelude.{ℕ, ◌≤◌, false, List, [], None, slice_index, slice_index_or, length, ⊤}
+use Rattle.pdl_semantics.specs.Flat.{Op, Bind, CombRead, DelayedRead, Write, ReserveRead, ReserveWrite, Block, Release, Call, SpecCall, Verify, SpecCheck, SpecBarrier, Plain}
+use Rattle.pdl_semantics.specs.Locks.{Latest, Nothing, value_or}
+use Rattle.pdl_semantics.specs.Machine.{Deeds, youngest}
+use Rattle.pdl_form_values.specs.Safe.{IsSafe, AreSafe}
+use Rattle.pdl_machine_pending.specs.Memory.{Memory}
+use Rattle.pdl_machine_run.specs.Room.{Capacities}
+
+-- the memory of a number
+abbrev pub no_memory : Memory
+no_memory = record { words = []; lock = Plain; pending = []; capacity = 0 }
+
+-- the memory of this number, or none
+abbrev pub memory_at : List Memory → ℕ → Memory
+memory_at xs m = slice_index_or xs m no_memory
+
+-- what the pending writes of older threads say of an address, and the word that a read finds there
+abbrev pub latest_in : List Memory → ℕ → ℕ → ℕ → Latest
+latest_in xs thread m a = youngest (memory_at xs m).pending thread a Nothing
+
+-- the word that a thread's read finds at an address of a memory
+abbrev pub word_of : List Memory → ℕ → ℕ → ℕ → ℕ
+word_of xs thread m a = value_or (latest_in xs thread m a) (slice_index (memory_at xs m).words a)
+
+-- deeds with these values and this guess, where nothing is done yet and nothing is held
+abbrev pub nothing_done : List ℕ → List ℕ → Deeds
+nothing_done env guess =
+    record {
+      env = env;
+      guess = guess;
+      held = [];
+      blocks = [];
+      reserves = [];
+      writes = [];
+      releases = [];
+      asks = [];
+      barrier = false;
+      child = None;
+      fails = false;
+    }
+
+-- an operation that can be carried out on these values, with room for its arguments
+abbrev pub IsSafeOp : Capacities → Op → List ℕ → Type 0
+IsSafeOp c (Bind x e) env = IsSafe e env
+IsSafeOp c (CombRead x m a) env = ⊤
+IsSafeOp c (DelayedRead x m a) env = ⊤
+IsSafeOp c (Write m a e) env = IsSafe e env
+IsSafeOp c (ReserveRead m a) env = ⊤
+IsSafeOp c (ReserveWrite m a) env = ⊤
+IsSafeOp c (Block m a) env = ⊤
+IsSafeOp c (Release m a) env = ⊤
+IsSafeOp c (Call args) env = AreSafe args env × (length args ≤ c.args)
+IsSafeOp c (SpecCall args) env = AreSafe args env × (length args ≤ c.args) × (length args ≤ c.guess)
+IsSafeOp c (Verify args) env = AreSafe args env × (length args ≤ c.args) × (length args ≤ c.verified)
+IsSafeOp c SpecCheck env = ⊤
+IsSafeOp c SpecBarrier env = ⊤

@@ -1,8 +1,0 @@
--- The guard that a kept one stands for.
-use Rattle.pdl_rules.specs.Places as rules
-use Rattle.pdl_paths.specs.declared.guards.Kept.{Kept}
-use Rattle.pdl_paths.specs.declared.guards.Kept.TheVariants.{Shared, Own}
-
-abbrev pub kept_view : Kept → rules.Guard
-kept_view (Shared x) = rules.Shared x
-kept_view (Own at) = rules.Own at

@@ -1,0 +1,46 @@
+-- All outputs of a pipe, with their nets.
+use Rattle.std.specs.Prelude.{ℕ, suc, List, [], ◌∷◌, ◌++◌, Option, Some, None, codes, decimal}
+use Rattle.pdl_net.specs.declared.Net.{Net}
+use Rattle.pdl_lockapi.specs.declared.LockNets.{LockNets}
+use Rattle.pdl_pipe_beside.specs.declared.outside.RequestNets.{RequestNets}
+use Rattle.pdl_pipe_outputs.specs.declared.outputs.StageNets.{StageNets}
+use Rattle.pdl_pipe_outputs.specs.declared.outputs.OutNet.{OutNet}
+
+-- an output of this name, with its net
+abbrev pub out : List ℕ → Net → OutNet
+out n x = record { name = n; net = x }
+
+-- of each stage whether it holds a thread and whether that moves; the first has the number k
+abbrev pub stages_outs : ℕ → List StageNets → List OutNet
+stages_outs k [] = []
+stages_outs k (s ∷ ss) = out (codes "v_" ++ decimal k) s.valid ∷ out (codes "g_" ++ decimal k) s.moves ∷ stages_outs (suc k) ss
+
+-- what a memory with a lock commits
+abbrev pub commit_outs : List ℕ → Option LockNets → List OutNet
+commit_outs name None = []
+commit_outs name (Some n) = out (codes "c_" ++ name) n.commit ∷ out (codes "ca_" ++ name) n.addr ∷ out (codes "cd_" ++ name) n.value ∷ []
+
+-- what all memories with a lock commit
+abbrev pub commits_outs : List (List ℕ) → List (Option LockNets) → List OutNet
+commits_outs (name ∷ names) (n ∷ ns) = commit_outs name n ++ commits_outs names ns
+commits_outs _ _ = []
+
+-- what is asked of a delayed memory
+abbrev pub request_outs : List ℕ → Option RequestNets → List OutNet
+request_outs name None = []
+request_outs name (Some r) = out (codes "q_" ++ name) r.enable ∷ out (codes "qa_" ++ name) r.addr ∷ []
+
+-- what is asked of all delayed memories
+abbrev pub requests_outs : List (List ℕ) → List (Option RequestNets) → List OutNet
+requests_outs (name ∷ names) (r ∷ rs) = request_outs name r ++ requests_outs names rs
+requests_outs _ _ = []
+
+-- whether a thread ends: that of the last stage moves
+abbrev pub last_moves : List StageNets → Net → Net
+last_moves [] x = x
+last_moves (s ∷ ss) x = last_moves ss s.moves
+
+-- all outputs: of stages, of commits, of requests, whether a thread ends, and whether a squash happens
+abbrev pub all_outs : List (List ℕ) → List StageNets → List (Option LockNets) → List (Option RequestNets) → Net → List OutNet
+all_outs names ss ns rs squash =
+    ((stages_outs 0 ss ++ commits_outs names ns) ++ requests_outs names rs) ++ out (codes "ended") (last_moves ss squash) ∷ out (codes "squash") squash ∷ []

@@ -1,0 +1,181 @@
+-- What holds at each site of a source that breaks no rule, and how facts of sites become facts of the flat statements.
+use Rattle.std.proofs.Common.{◌≡◌, refl, sym, ap, ◌∙◌, subst, ℕ, suc, ◌+◌, ◌<◌, Bool, true, false, ◌||◌, not, List, [], ◌∷◌, ◌++◌, length, Option, Some, None, arith, if◌then◌else◌, ◌==◌, eq-eqb, eqb-true}
+use Rattle.std.proofs.lemmas.Bool.{false≢true, and_parts, and_from}
+use Rattle.pdl_semantics.specs.Tree.{Variable, Stmt, Separator, CombRead, Bind, SpecCall, DelayedRead, Write, Reserve, Block, Release, If, Call, Verify, SpecCheck, SpecBarrier, Stmts, Nil, Cons, Mem, Pipe}
+use Rattle.pdl_semantics.specs.Flat
+use Rattle.pdl_semantics.specs.Flatten.{Var, var_of, mem_of, flat_expr, flat_exprs, reserve_op, at_position, past, separators, at_start, flat}
+use Rattle.pdl_semantics.specs.Flatten
+use Rattle.pdl_rules.specs.Places.{Place, places}
+use Rattle.pdl_rules.specs.Forks.{is_trunk_only}
+use Rattle.pdl_rules.specs.Refusal.{KeepsRules}
+use Rattle.pdl_theory_facts.specs.Scans.{none_of, all_at}
+use Rattle.pdl_theory_facts.specs.Facts.{trunk_only}
+use Rattle.pdl_semantics.specs.Stages.{in_stage}
+use Rattle.pdl_source_stages.proofs.Sites.{Site, sites_of, front_of, place_of, own_of, own, owns, All, Stands, all_stand, stmts_are}
+use Rattle.pdl_source_stages.proofs.Walks.{At, past_begun}
+use Rattle.pdl_source_stages.proofs.Walks
+use Rattle.pdl_source_stages.proofs.Shapes.{is_whole, is_forked, fork_fits, shape}
+use Rattle.pdl_source_stages.proofs.Spots.{Groups, merge_at}
+use Rattle.pdl_source_stages.proofs.BodyShape.{body_forked, body_groups}
+use Rattle.pdl_source_stages.proofs.SiteStages.{Standing, all_standing, all_both, all_map, stages_all, none_of_whole, fitting, rest_shape, either_shape}
+use Rattle.pdl_source_stages.proofs.StatementStages.{Staged, all_staged}
+use Rattle.pdl_word.specs.Each.{Each}
+use Rattle.pdl_word.proofs.Each.{each_append}
+
+-- HOW MANY STAGES
+
+stages_from : (p : Flat.Pipe) (ms : List Mem) (k : ℕ) (merges : Option ℕ) (w : Flatten.Position) (ss : Stmts) → w.begun ≡ k → is_forked ss ≡ true → Groups p k merges (shape ms ss w) → suc (k + separators ss) ≡ length p.stages
+stages_from p ms k merges w Nil i h g = let e = g.1 in omega arith
+stages_from p ms k merges w (Cons (Separator sp) ss) i h g = let f = stages_from p ms (suc k) None (past ms (Separator sp) w) ss (ap suc i) h g.1 in omega arith
+stages_from p ms k merges w (Cons (If sp c when otherwise) (Cons (Separator sq) ss)) i h g =
+    at (is_whole when otherwise) refl g (λ j merge e. stages_from p ms j merge (past ms (Separator sq) (past ms (If sp c when otherwise) w)) ss e (and_parts (fork_fits (is_whole when otherwise) when otherwise (Cons (Separator sq) ss)) (is_forked ss) h).1)
+  where
+    begun : (past ms (If sp c when otherwise) w).begun ≡ w.begun + (separators when + separators otherwise)
+    begun = past_begun ms (If sp c when otherwise) w
+
+    at : (b : Bool) → is_whole when otherwise ≡ b → Groups p k merges (either_shape ms sp c when otherwise sq ss w b)
+        → ((j : ℕ) (merge : Option ℕ) → suc (past ms (If sp c when otherwise) w).begun ≡ j → Groups p j merge (rest_shape ms sp c when otherwise sq ss w) → suc (j + separators ss) ≡ length p.stages)
+        → suc (k + separators (Cons (If sp c when otherwise) (Cons (Separator sq) ss))) ≡ length p.stages
+    at true whole g more =
+        let none = none_of_whole when otherwise whole in
+        let f = begun in
+        let r = more (suc k) None (omega arith) g.1 in
+        omega arith
+    at false some g more =
+        let f = begun in
+        let r = more (merge_at k (separators when) (separators otherwise)) (Some k) (omega arith) g.4 in
+        omega arith
+stages_from p ms k merges w (Cons (If sp c when otherwise) ss) i h g =
+    let parts = and_parts (fork_fits (is_whole when otherwise) when otherwise ss) (is_forked ss) h in
+    let none = none_of_whole when otherwise (fitting when otherwise ss refl (is_whole when otherwise) parts.0) in
+    let f = past_begun ms (If sp c when otherwise) w in
+    let r = stages_from p ms k merges (past ms (If sp c when otherwise) w) ss (omega arith) parts.1 g in
+    omega arith
+stages_from p ms k merges w (Cons s ss) i h g = let r = stages_from p ms k merges (past ms s w) ss i h g in omega arith
+
+-- there is one stage more than there are separators
+pub stage_count : (p : Pipe) → is_forked p.body ≡ true → length (flat p).stages ≡ suc (separators p.body)
+stage_count p h = let e = stages_from (flat p) p.mems 0 None (at_start p) p.body refl h (body_groups p h) in omega arith
+
+-- AT EACH SITE
+
+pub record Fine (p : Pipe) (t : Site) : Type 0 where
+  pub later : List Place
+  pub whole : places p ≡ t.front ++ place_of t ∷ later
+  pub here : At t.front t.walk t.gs t.branches
+  pub standing : Standing (flat p) t
+  pub staged : Staged t
+  pub inside : t.walk.stage < length (flat p).stages
+
+inside_all : (p : Pipe) → is_forked p.body ≡ true → All (λ t. t.walk.stage < length (flat p).stages) (sites_of p)
+inside_all p h =
+    let e = stage_count p h in
+    stages_all (λ n. n < length (flat p).stages) p.mems (front_of p) (at_start p) [] [] p.body (omega arith) (λ n low high. omega arith)
+
+-- `Fine` holds of each site of a source that breaks no rule
+pub all_fine : (p : Pipe) → KeepsRules p → All (Fine p) (sites_of p)
+all_fine p rules =
+    let forked = body_forked p rules in
+    all_both (λ t. (Stands (places p) t × At t.front t.walk t.gs t.branches) × (Standing (flat p) t × Staged t)) (λ t. t.walk.stage < length (flat p).stages) (Fine p)
+    (λ t a i. record { later = a.0.0.0; whole = a.0.0.1; here = a.0.1; standing = a.1.0; staged = a.1.1; inside = i }) (sites_of p)
+    (all_both (λ t. Stands (places p) t × At t.front t.walk t.gs t.branches) (λ t. Standing (flat p) t × Staged t) (λ t. (Stands (places p) t × At t.front t.walk t.gs t.branches) × (Standing (flat p) t × Staged t)) (λ t a b. (a, b)) (sites_of p)
+    (all_both (Stands (places p)) (λ t. At t.front t.walk t.gs t.branches) (λ t. Stands (places p) t × At t.front t.walk t.gs t.branches) (λ t a b. (a, b)) (sites_of p) (all_stand p) (Walks.all_at p))
+    (all_both (Standing (flat p)) Staged (λ t. Standing (flat p) t × Staged t) (λ t a b. (a, b)) (sites_of p) (all_standing p forked) (all_staged p forked)))
+    (inside_all p forked)
+
+-- FLAT STATEMENTS
+
+-- what a statement's flat form does, where it has one
+abbrev pub op_of : List Mem → List Var → Stmt → Option Flat.Op
+op_of ms vs (Separator _) = None
+op_of ms vs (CombRead _ x from) = Some (Flat.CombRead (length vs) (mem_of ms from.mem.name) (var_of vs from.address.name))
+op_of ms vs (Bind _ x e) = Some (Flat.Bind (length vs) (flat_expr vs e))
+op_of ms vs (SpecCall _ guess args) = Some (Flat.SpecCall (flat_exprs vs args))
+op_of ms vs (DelayedRead _ x from) = Some (Flat.DelayedRead (length vs) (mem_of ms from.mem.name) (var_of vs from.address.name))
+op_of ms vs (Write _ to e) = Some (Flat.Write (mem_of ms to.mem.name) (var_of vs to.address.name) (flat_expr vs e))
+op_of ms vs (Reserve _ at kind) = Some (reserve_op kind (mem_of ms at.mem.name) (var_of vs at.address.name))
+op_of ms vs (Block _ at) = Some (Flat.Block (mem_of ms at.mem.name) (var_of vs at.address.name))
+op_of ms vs (Release _ at) = Some (Flat.Release (mem_of ms at.mem.name) (var_of vs at.address.name))
+op_of ms vs (If _ (Variable x) when otherwise) = None
+op_of ms vs (If _ c when otherwise) = Some (Flat.Bind (length vs) (flat_expr vs c))
+op_of ms vs (Call _ args) = Some (Flat.Call (flat_exprs vs args))
+op_of ms vs (Verify _ guess args) = Some (Flat.Verify (flat_exprs vs args))
+op_of ms vs (SpecCheck _) = Some Flat.SpecCheck
+op_of ms vs (SpecBarrier _) = Some Flat.SpecBarrier
+
+-- the flat statement of a site that does this, none where it does nothing
+abbrev pub rows_of : List Flat.Guard → Flatten.Position → Option Flat.Op → List Flat.Stmt
+rows_of gs w None = []
+rows_of gs w (Some op) = at_position gs w op
+
+-- the flat statements of a site alone are the one that does what its statement does, if it does something
+pub own_is : (ms : List Mem) (gs : List Flat.Guard) (w : Flatten.Position) (s : Stmt) → own_of ms gs w s ≡ rows_of gs w (op_of ms w.vars s)
+own_is ms gs w (If _ (Variable x) when otherwise) = refl
+own_is ms gs w (If _ c when otherwise) = refl
+own_is ms gs w _ = refl
+
+-- a test of what there is
+abbrev pub from_op : (Flat.Op → Bool) → Option Flat.Op → Bool
+from_op test None = false
+from_op test (Some op) = test op
+
+-- the flat statement of a site that does this
+abbrev pub row_at : Site → Flat.Op → Flat.Stmt
+row_at t op = record { stage = t.walk.stage; guards = t.gs; op = op }
+
+-- it holds of each where it holds of each site's
+abbrev pub AtSite : (Flat.Stmt → Type 0) → List Mem → Site → Type 0
+AtSite P ms t = (op : Flat.Op) → op_of ms t.walk.vars t.stmt ≡ Some op → P (row_at t op)
+
+each_row : (P : Flat.Stmt → Type 0) (t : Site) (o : Option Flat.Op) → ((op : Flat.Op) → o ≡ Some op → P (row_at t op)) → Each P (rows_of t.gs t.walk o)
+each_row P t None h = tt
+each_row P t (Some op) h = (h op refl, tt)
+
+each_owns : (P : Flat.Stmt → Type 0) (ms : List Mem) (ts : List Site) → All (AtSite P ms) ts → Each P (owns ms ts)
+each_owns P ms [] h = tt
+each_owns P ms (t ∷ ts) h = each_append P (own ms t) (owns ms ts) (subst (Each P) (sym (own_is ms t.gs t.walk t.stmt)) (each_row P t (op_of ms t.walk.vars t.stmt) h.0)) (each_owns P ms ts h.1)
+
+-- what holds of the flat statement of each site holds of each flat statement of the source
+pub each_stmt : (p : Pipe) (P : Flat.Stmt → Type 0) → All (AtSite P p.mems) (sites_of p) → Each P (flat p).stmts
+each_stmt p P h = subst (Each P) (sym (stmts_are p)) (each_owns P p.mems (sites_of p) h)
+
+-- and of each site that breaks no rule
+pub each_fine : (p : Pipe) → KeepsRules p → (P : Flat.Stmt → Type 0) → ((t : Site) → Fine p t → AtSite P p.mems t) → Each P (flat p).stmts
+each_fine p rules P f = each_stmt p P (all_map (Fine p) (AtSite P p.mems) f (sites_of p) (all_fine p rules))
+
+-- SCANS
+
+-- each statement that passes the test stands in stage s
+pub all_at_each : (test : Flat.Op → Bool) (s : ℕ) (ys : List Flat.Stmt) → Each (λ y. test y.op ≡ true → y.stage ≡ s) ys → all_at test s ys ≡ true
+all_at_each test s [] h = refl
+all_at_each test s (y ∷ ys) h = and_from (not (test y.op) || (y.stage == s)) (all_at test s ys) (at (test y.op) refl) (all_at_each test s ys h.1)
+  where
+    at : (b : Bool) → test y.op ≡ b → (not b || (y.stage == s)) ≡ true
+    at true e = eq-eqb y.stage s (h.0 e)
+    at false e = refl
+
+-- no statement passes the test
+pub none_each : (test : Flat.Op → Bool) (ys : List Flat.Stmt) → Each (λ y. test y.op ≡ false) ys → none_of test ys ≡ true
+none_each test [] h = refl
+none_each test (y ∷ ys) h = and_from (not (test y.op)) (none_of test ys) (ap not h.0) (none_each test ys h.1)
+
+-- the statements of a stage
+pub each_in_stage : (P : Flat.Stmt → Type 0) (s : ℕ) (ys : List Flat.Stmt) → Each (λ y. y.stage ≡ s → P y) ys → Each P (in_stage s ys)
+each_in_stage P s [] h = tt
+each_in_stage P s (y ∷ ys) h = at (y.stage == s) refl (each_in_stage P s ys h.1)
+  where
+    at : (b : Bool) → (y.stage == s) ≡ b → Each P (in_stage s ys) → Each P (if b then y ∷ in_stage s ys else in_stage s ys)
+    at true e k = (h.0 (eqb-true y.stage s e), k)
+    at false e k = k
+
+-- what only a trunk stage may hold is what no branch that holds a separator may hold
+pub op_trunk_only : (ms : List Mem) (vs : List Var) (s : Stmt) (op : Flat.Op) → op_of ms vs s ≡ Some op → trunk_only op ≡ true → is_trunk_only s ≡ true
+op_trunk_only ms vs (Separator _) op e h = cc
+op_trunk_only ms vs (CombRead _ x from) op e h = absurd (false≢true (ap (from_op trunk_only) e ∙ h))
+op_trunk_only ms vs (Bind _ x f) op e h = absurd (false≢true (ap (from_op trunk_only) e ∙ h))
+op_trunk_only ms vs (DelayedRead _ x from) op e h = absurd (false≢true (ap (from_op trunk_only) e ∙ h))
+op_trunk_only ms vs (Write _ to f) op e h = absurd (false≢true (ap (from_op trunk_only) e ∙ h))
+op_trunk_only ms vs (Block _ at) op e h = absurd (false≢true (ap (from_op trunk_only) e ∙ h))
+op_trunk_only ms vs (If _ (Variable x) when otherwise) op e h = cc
+op_trunk_only ms vs (If _ c when otherwise) op e h = absurd (false≢true (ap (from_op trunk_only) e ∙ h))
+op_trunk_only ms vs _ op e h = refl

@@ -1,0 +1,30 @@
+-- Both theorems of the stated machine, in the whole language: what is proved of the derived machine, carried to it by the simulation.
+use Rattle.std.proofs.Common.{ap, Bool, List}
+use Rattle.pdl_semantics.specs.Flat.{Arrays, Pipe}
+use Rattle.pdl_semantics.specs.Cycle
+use Rattle.pdl_semantics.specs.Promises.{Refines, Advances, KeepsPace}
+use Rattle.pdl_theory_derived.specs.Derived
+use Rattle.pdl_theory_facts.specs.Facts.{Sound}
+use Rattle.pdl_theory_facts.specs.Scans.{is_plain}
+use Rattle.pdl_theory_derived.specs.Simulation.{SameTurns}
+use Rattle.pdl_theory_simulation.proofs.CarriedTheorems.{carries_refines, carries_advances, carries_pace}
+use Rattle.pdl_theory_turns.proofs.CourseOf.{course}
+use Rattle.pdl_theory_refinement.proofs.Follows
+use Rattle.pdl_theory_simulation.proofs.AcceptedFacts.{sound_flows}
+use Rattle.pdl_theory_progress.proofs.Rates
+use Rattle.pdl_theory_simulation.proofs.WholeSimulation.{same_turns}
+
+module _ (p : Pipe) (sound : Sound p) where
+  pub whole_same : (image : Arrays) (schedule : List (List Bool)) → SameTurns p (Cycle.turns p image schedule) (Derived.turns p image schedule)
+  whole_same = same_turns p (sound_flows p sound)
+
+  pub whole_refines : (image : Arrays) (schedule : List (List Bool)) → Refines p image schedule
+  whole_refines image schedule =
+      carries_refines p (sound_flows p sound) image schedule (Follows.refines p (course p sound) image schedule)
+      (λ m n e. Follows.plain_writes p (course p sound) m n image p.start (ap is_plain e))
+
+  pub whole_advances : (image : Arrays) (schedule : List (List Bool)) (bits : List Bool) → Advances p image schedule bits
+  whole_advances image schedule bits = carries_advances p (sound_flows p sound) image schedule bits (Follows.advances p (course p sound) image schedule bits)
+
+  pub whole_paces : (image : Arrays) (schedule : List (List Bool)) → KeepsPace p image schedule
+  whole_paces image schedule = carries_pace p (sound_flows p sound) image schedule (Rates.keeps_pace p sound image schedule)
