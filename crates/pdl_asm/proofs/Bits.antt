@@ -27,8 +27,9 @@ small_mod high n h l =
     mod-eq_of_lt (omega (arith, a, b))
 
 -- the word of at most 64 bits is its first bit at its position, plus the word of the bits after it
-pub word_first : (value : ℕ → ℕ) (xs : List ℕ) (high low d : ℕ) → 1 ≤ length xs → length xs ≤ 64 → high ≤ 1 → high ≡ bit_of value (get_or xs 0 d) (rest_of xs) → low ≡ word_of_bits value (rest_of xs)
-    → high * 2 ^ length (rest_of xs) % 2 ^ 64 + low ≡ word_of_bits value xs
+pub word_first : (value : ℕ → ℕ) (xs : List ℕ) (high low d : ℕ)
+    → 1 ≤ length xs → length xs ≤ 64 → high ≤ 1 → high ≡ bit_of value (get_or xs 0 d) (rest_of xs)
+    → low ≡ word_of_bits value (rest_of xs) → high * 2 ^ length (rest_of xs) % 2 ^ 64 + low ≡ word_of_bits value xs
 word_first value [] high low d h k one e f = absurd (omega (arith, h))
 word_first value (c ∷ cs) high low d h k one e f =
     let r : rest_of (c ∷ cs) ≡ cs = take_rest (c ∷ cs) 1 in
@@ -36,8 +37,10 @@ word_first value (c ∷ cs) high low d h k one e f =
     ap (λ n. n + low) m ∙ ap (λ n. n * 2 ^ length cs + low) (e ∙ ap (bit_of value c) r) ∙ ap (λ n. bit_of value c cs * 2 ^ length cs + n) (f ∙ ap (word_of_bits value) r)
 
 -- the first argument with the first operand, and those after them
-pub letter_first : (t : TableValue) (labels : Labels) (place : ℤ) (bits : List ℕ) (args : List Arg) (os : List Operand) (c : ℕ) (a d : Arg) (o : Operand) → 1 ≤ length args → 1 ≤ length os
-    → a ≡ get_or args 0 d → o ≡ get_or os 0 o → a.letter ≡ c → or_zero (argument_value t labels place bits a o) ≡ letter_value t labels place bits args os c
+pub letter_first : (t : TableValue) (labels : Labels) (place : ℤ) (bits : List ℕ) (args : List Arg) (os : List Operand)
+    (c : ℕ) (a d : Arg) (o : Operand)
+    → 1 ≤ length args → 1 ≤ length os → a ≡ get_or args 0 d → o ≡ get_or os 0 o → a.letter ≡ c
+    → or_zero (argument_value t labels place bits a o) ≡ letter_value t labels place bits args os c
 letter_first t labels place bits [] os c a d o h k e f g = absurd (omega (arith, h))
 letter_first t labels place bits (b ∷ bs) [] c a d o h k e f g = absurd (omega (arith, k))
 letter_first t labels place bits (b ∷ bs) (p ∷ ps) c a d o h k e f g =
@@ -51,8 +54,12 @@ unwrap_is (Ok v) = refl
 unwrap_is (Err rule) = refl
 
 -- the lowest rule that operands break is the lower of the first one's and of that of those after it
-pub rule_first : (t : TableValue) (labels : Labels) (place : ℤ) (bits : List ℕ) (args : List Arg) (os : List Operand) (a d : Arg) (o : Operand) (x y : Option Rule) → 1 ≤ length args → 1 ≤ length os
-    → a ≡ get_or args 0 d → o ≡ get_or os 0 o → x ≡ rule_of (argument_value t labels place bits a o) → y ≡ operands_rule t labels place bits (rest_of args) (rest_of os) → lower x y ≡ operands_rule t labels place bits args os
+pub rule_first : (t : TableValue) (labels : Labels) (place : ℤ) (bits : List ℕ) (args : List Arg) (os : List Operand)
+    (a d : Arg) (o : Operand) (x y : Option Rule)
+    → 1 ≤ length args → 1 ≤ length os → a ≡ get_or args 0 d → o ≡ get_or os 0 o
+    → x ≡ rule_of (argument_value t labels place bits a o)
+    → y ≡ operands_rule t labels place bits (rest_of args) (rest_of os)
+    → lower x y ≡ operands_rule t labels place bits args os
 rule_first t labels place bits [] os a d o x y h k e f g i = absurd (omega (arith, h))
 rule_first t labels place bits (b ∷ bs) [] a d o x y h k e f g i = absurd (omega (arith, k))
 rule_first t labels place bits (b ∷ bs) (p ∷ ps) a d o x y h k e f g i =
@@ -60,6 +67,8 @@ rule_first t labels place bits (b ∷ bs) (p ∷ ps) a d o x y h k e f g i =
     ∙ ap (lower (rule_of (argument_value t labels place bits b p))) (i ∙ ap (λ xs. operands_rule t labels place bits xs (rest_of (p ∷ ps))) (take_rest (b ∷ bs) 1) ∙ ap (operands_rule t labels place bits bs) (take_rest (p ∷ ps) 1))
 
 -- the rule of an instruction is that of the operation
-pub rule_of_insn : (t : TableValue) (labels : Labels) (taken : Bool) (place : ℤ) (name : List ℕ) (os : Operands) (op : Operation) (r : Option Rule)
-    → r ≡ insn_rule t labels taken place (value_of t.insns name) os → op ≡ Insn name os → r ≡ operation_rule t labels taken place op
+pub rule_of_insn : (t : TableValue) (labels : Labels) (taken : Bool) (place : ℤ) (name : List ℕ) (os : Operands)
+    (op : Operation) (r : Option Rule)
+    → r ≡ insn_rule t labels taken place (value_of t.insns name) os → op ≡ Insn name os
+    → r ≡ operation_rule t labels taken place op
 rule_of_insn t labels taken place name os op r e f = e ∙ sym (ap (operation_rule t labels taken place) f)

@@ -39,7 +39,8 @@ last_split xs d h =
     sym (ap (λ n. take n xs) e ∙ take_all (length xs) xs (omega arith)) ∙ take_more xs (length xs - 1) d (omega arith)
 
 -- a text that ends in a blank has, without its blanks at the end, the same left as without that blank
-pub trim_more : (xs : List ℕ) (d : ℕ) → 1 ≤ length xs → is_blank (get_or xs (length xs - 1) d) ≡ true → trim_end (take (length xs - 1) xs) ≡ trim_end xs
+pub trim_more : (xs : List ℕ) (d : ℕ)
+    → 1 ≤ length xs → is_blank (get_or xs (length xs - 1) d) ≡ true → trim_end (take (length xs - 1) xs) ≡ trim_end xs
 trim_more xs d h b = sym (end_blank (take (length xs - 1) xs) _ b) ∙ ap trim_end (sym (last_split xs d h))
 
 -- a text whose last byte is no blank has no blanks at its end
@@ -47,7 +48,8 @@ pub trim_whole : (xs : List ℕ) (d : ℕ) → 1 ≤ length xs → is_blank (get
 trim_whole xs d h b = last_split xs d h ∙ sym (end_kept (take (length xs - 1) xs) _ b) ∙ ap trim_end (sym (last_split xs d h))
 
 -- a byte at which no comment begins comes to what stands before the rest
-pub before_rest : (text xs : List ℕ) → 1 ≤ length xs → is_comment xs ≡ false → Before text xs → Before text (take (length xs - 1) (drop 1 xs))
+pub before_rest : (text xs : List ℕ)
+    → 1 ≤ length xs → is_comment xs ≡ false → Before text xs → Before text (take (length xs - 1) (drop 1 xs))
 before_rest text [] h b f = absurd (omega (arith, h))
 before_rest text (c ∷ cs) h b f =
     let e : take (length (c ∷ cs) - 1) (drop 1 (c ∷ cs)) ≡ cs = take_rest (c ∷ cs) 1 in

@@ -36,7 +36,8 @@ word text address = written_word small (labels_of (lines_at text)) (lines_at tex
 
 -- ---- right texts
 
-two_words : (wrong (codes "top: add r1, -2\nb top\n") ≡ None) × (word (codes "top: add r1, -2\nb top\n") 0 ≡ Some 126) × (word (codes "top: add r1, -2\nb top\n") 1 ≡ Some 159) × (word (codes "top: add r1, -2\nb top\n") 2 ≡ None)
+two_words : (wrong (codes "top: add r1, -2\nb top\n") ≡ None) × (word (codes "top: add r1, -2\nb top\n") 0 ≡ Some 126)
+    × (word (codes "top: add r1, -2\nb top\n") 1 ≡ Some 159) × (word (codes "top: add r1, -2\nb top\n") 2 ≡ None)
 unfolding lines line_of
 two_words = (refl, refl, refl, refl)
 
@@ -46,7 +47,8 @@ unfolding lines line_of
 spread = refl
 
 -- blanks and comments
-blanks : (wrong (codes "\t x :add r0,1//y:\n\n  \n .word\t-0x1 // z") ≡ None) × (word (codes "\t x :add r0,1//y:\n\n  \n .word\t-0x1 // z") 1 ≡ Some 255)
+blanks : (wrong (codes "\t x :add r0,1//y:\n\n  \n .word\t-0x1 // z") ≡ None)
+    × (word (codes "\t x :add r0,1//y:\n\n  \n .word\t-0x1 // z") 1 ≡ Some 255)
 unfolding lines line_of
 blanks = (refl, refl)
 
@@ -196,12 +198,15 @@ operand_count (Few os) = length os
 operand_count TooMany = 0
 
 -- 64 operands are kept, of 65 only that they are too many
-most_operands : option_map operand_count (operands_given (codes "1,1,1,1,1,1,1,1,1,1,1,1,1,1,1,1,1,1,1,1,1,1,1,1,1,1,1,1,1,1,1,1,1,1,1,1,1,1,1,1,1,1,1,1,1,1,1,1,1,1,1,1,1,1,1,1,1,1,1,1,1,1,1,1")) ≡ Some 64
+most_operands : option_map operand_count (operands_given (codes "1,1,1,1,1,1,1,1,1,1,1,1,1,1,1,1,1,1,1,1,1,1,1,1,1,1,1,1,1,1,1,1,1,1,1,1,1,1,1,1,1,1,1,1,1,1,1,1,1,1,1,1,1,1,1,1,1,1,1,1,1,1,1,1"))
+    ≡ Some 64
 most_operands = refl
 
-too_many_operands : operands_given (codes "1,1,1,1,1,1,1,1,1,1,1,1,1,1,1,1,1,1,1,1,1,1,1,1,1,1,1,1,1,1,1,1,1,1,1,1,1,1,1,1,1,1,1,1,1,1,1,1,1,1,1,1,1,1,1,1,1,1,1,1,1,1,1,1,1") ≡ Some TooMany
+too_many_operands : operands_given (codes "1,1,1,1,1,1,1,1,1,1,1,1,1,1,1,1,1,1,1,1,1,1,1,1,1,1,1,1,1,1,1,1,1,1,1,1,1,1,1,1,1,1,1,1,1,1,1,1,1,1,1,1,1,1,1,1,1,1,1,1,1,1,1,1,1")
+    ≡ Some TooMany
 too_many_operands = refl
 
-operands : line_of (codes "a:add r1 ,0x1f") ≡ Some (record { label = Some (codes "a"); operation = Insn (codes "add") (Few (Label (codes "r1") ∷ Number (pos 31) ∷ [])) })
+operands : line_of (codes "a:add r1 ,0x1f")
+    ≡ Some (record { label = Some (codes "a"); operation = Insn (codes "add") (Few (Label (codes "r1") ∷ Number (pos 31) ∷ [])) })
 unfolding line_of
 operands = refl

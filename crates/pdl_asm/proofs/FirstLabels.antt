@@ -33,7 +33,8 @@ folds xs [] qs = refl
 folds xs (p ∷ ps) qs = folds (with_line xs p) ps qs
 
 -- all labels begin with those up to a line
-begins : (t : TableValue) (labels before : Labels) (all rest : List Placed) (number : ℕ) (p : Placed) (slots : List (Option ℕ)) → labels ≡ labels_of all → Taken t labels all number (p ∷ rest) before slots
+begins : (t : TableValue) (labels before : Labels) (all rest : List Placed) (number : ℕ) (p : Placed) (slots : List (Option ℕ))
+    → labels ≡ labels_of all → Taken t labels all number (p ∷ rest) before slots
     → BeginsWith labels (with_line before p)
 begins t labels before all rest number p slots e f =
     let h = extends (with_line (labels_of f.done) p) rest in
@@ -41,7 +42,8 @@ begins t labels before all rest number p slots e f =
     let P : Labels → Type 0 = λ ls. BeginsWith labels (with_line ls p) in
     subst P (sym f.defined) (h.0, g ∙ h.1)
 
-take_next : {X : Type 0} (xs : List X) (n : ℕ) (x : X) (more : List X) → xs ≡ (take n xs ++ x ∷ []) ++ more → take (suc n) xs ≡ take n xs ++ x ∷ []
+take_next : {X : Type 0} (xs : List X) (n : ℕ) (x : X) (more : List X)
+    → xs ≡ (take n xs ++ x ∷ []) ++ more → take (suc n) xs ≡ take n xs ++ x ∷ []
 take_next xs zero x more e = ap (take 1) e
 take_next [] (suc n) x more e = cc
 take_next (y ∷ ys) (suc n) x more e =
@@ -55,20 +57,25 @@ not_defined o true e =
     cc
 not_defined o false e = refl
 
-next_label : (labels : Labels) (n : ℕ) (place : ℤ) (o : Option Rule) (name : List ℕ) (b : Bool) → b ≡ is_some (value_of (take n labels) name) → lower o (if b then Some A6 else None) ≡ None
-    → BeginsWith labels (if b then take n labels else take n labels ++ (name, place) ∷ []) → take (n + 1) labels ≡ (if b then take n labels else take n labels ++ (name, place) ∷ [])
+next_label : (labels : Labels) (n : ℕ) (place : ℤ) (o : Option Rule) (name : List ℕ) (b : Bool)
+    → b ≡ is_some (value_of (take n labels) name) → lower o (if b then Some A6 else None) ≡ None
+    → BeginsWith labels (if b then take n labels else take n labels ++ (name, place) ∷ [])
+    → take (n + 1) labels ≡ (if b then take n labels else take n labels ++ (name, place) ∷ [])
 next_label labels n place o name true d e h = absurd (let f : true ≡ false = not_defined o true e in cc f)
 next_label labels n place o name false d e h =
     let s : n + 1 ≡ suc n = omega arith in
     ap (λ k. take k labels) s ∙ take_next labels n (name, place) h.0 h.1
 
-next_of : (labels : Labels) (n : ℕ) (place : ℤ) (o : Option Rule) (label : Option (List ℕ)) → lower o (label_rule (take n labels) label) ≡ None → BeginsWith labels (with_label (take n labels) place label)
+next_of : (labels : Labels) (n : ℕ) (place : ℤ) (o : Option Rule) (label : Option (List ℕ))
+    → lower o (label_rule (take n labels) label) ≡ None → BeginsWith labels (with_label (take n labels) place label)
     → take (if is_some label then n + 1 else n) labels ≡ with_label (take n labels) place label
 next_of labels n place o None e h = refl
 next_of labels n place o (Some name) e h = next_label labels n place o name (is_some (value_of (take n labels) name)) refl e h
 
-next_line : (t : TableValue) (labels : Labels) (n : ℕ) (taken : Bool) (place : ℤ) (line : Option Line) → line_rule t labels (take n labels) taken place line ≡ None
-    → BeginsWith labels (with_label (take n labels) place (label_of line)) → take (defined_by n line) labels ≡ with_label (take n labels) place (label_of line)
+next_line : (t : TableValue) (labels : Labels) (n : ℕ) (taken : Bool) (place : ℤ) (line : Option Line)
+    → line_rule t labels (take n labels) taken place line ≡ None
+    → BeginsWith labels (with_label (take n labels) place (label_of line))
+    → take (defined_by n line) labels ≡ with_label (take n labels) place (label_of line)
 next_line t labels n taken place None e h = refl
 next_line t labels n taken place (Some l) e h = next_of labels n place (operation_rule t labels taken place l.operation) l.label e h
 
@@ -81,8 +88,11 @@ pub defined_few : (n : ℕ) (line : Option Line) → defined_by n line ≤ n + 1
 defined_few n line = if_few (is_some (label_of line)) n
 
 -- the labels that are defined after a line that breaks no rule
-pub defined_next : (t : TableValue) (labels : Labels) (n m : ℕ) (all rest : List Placed) (number : ℕ) (place : ℤ) (line : Option Line) (taken : Bool) (slots : List (Option ℕ)) → labels ≡ labels_of all
-    → Taken t labels all number (record { place = place; line = line } ∷ rest) (take n labels) slots → line_rule t labels (take n labels) taken place line ≡ None → m ≡ defined_by n line
+pub defined_next : (t : TableValue) (labels : Labels) (n m : ℕ) (all rest : List Placed) (number : ℕ) (place : ℤ)
+    (line : Option Line) (taken : Bool) (slots : List (Option ℕ))
+    → labels ≡ labels_of all
+    → Taken t labels all number (record { place = place; line = line } ∷ rest) (take n labels) slots
+    → line_rule t labels (take n labels) taken place line ≡ None → m ≡ defined_by n line
     → take m labels ≡ with_label (take n labels) place (label_of line)
 defined_next t labels n m all rest number place line taken slots e f g h =
     ap (λ k. take k labels) h ∙ next_line t labels n taken place line g (begins t labels (take n labels) all rest number (record { place = place; line = line }) slots e f)

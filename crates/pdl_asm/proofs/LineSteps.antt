@@ -31,12 +31,14 @@ addresses_are = refl
 
 -- ---- what lines write, one line more
 
-written_push : (t : TableValue) (labels : Labels) (done : List Placed) (p : Placed) (a : ℕ) → written_word t labels (done ++ p ∷ []) a ≡ or_else (written_word t labels done a) (word_at t labels a p)
+written_push : (t : TableValue) (labels : Labels) (done : List Placed) (p : Placed) (a : ℕ)
+    → written_word t labels (done ++ p ∷ []) a ≡ or_else (written_word t labels done a) (word_at t labels a p)
 written_push t labels [] p a = or_else_none (word_at t labels a p)
 written_push t labels (q ∷ done) p a =
     ap (or_else (word_at t labels a q)) (written_push t labels done p a) ∙ or_else_assoc (word_at t labels a q) (written_word t labels done a) (word_at t labels a p)
 
-written_kept : (t : TableValue) (labels : Labels) (done : List Placed) (p : Placed) (a : ℕ) → word_at t labels a p ≡ None → written_word t labels done a ≡ written_word t labels (done ++ p ∷ []) a
+written_kept : (t : TableValue) (labels : Labels) (done : List Placed) (p : Placed) (a : ℕ)
+    → word_at t labels a p ≡ None → written_word t labels done a ≡ written_word t labels (done ++ p ∷ []) a
 written_kept t labels done p a e =
     sym (written_push t labels done p a ∙ ap (or_else (written_word t labels done a)) e ∙ or_else_none (written_word t labels done a))
 
@@ -51,7 +53,9 @@ below_all : (k : ℕ) → k < length (range_with_len 0 addresses) → k < addres
 below_all k h = let P : ℕ → Type 0 = λ n. k < n in subst P (length-range_with_len 0 addresses) h
 
 -- a line that writes at no address leaves the slots
-slots_kept : (t : TableValue) (labels : Labels) (done : List Placed) (p : Placed) → ((a : ℕ) → a < addresses → word_at t labels a p ≡ None) → slots_of t labels done ≡ slots_of t labels (done ++ p ∷ [])
+slots_kept : (t : TableValue) (labels : Labels) (done : List Placed) (p : Placed)
+    → ((a : ℕ) → a < addresses → word_at t labels a p ≡ None)
+    → slots_of t labels done ≡ slots_of t labels (done ++ p ∷ [])
 unfolding slots_of
 slots_kept t labels done p none = map_same _ _ (range_with_len 0 addresses) (λ k d h.
     let a : ℕ = get_or (range_with_len 0 addresses) k d in
@@ -59,8 +63,10 @@ slots_kept t labels done p none = map_same _ _ (range_with_len 0 addresses) (λ 
     let P : ℕ → Type 0 = λ n. n < addresses in
     written_kept t labels done p a (none a (subst P (sym (address_of k d l)) l)))
 
-slots_written : (t : TableValue) (labels : Labels) (done : List Placed) (p : Placed) (n w : ℕ) → n < addresses → written_word t labels done n ≡ None
-    → word_at t labels n p ≡ Some w → ((a : ℕ) → a ≢ n → word_at t labels a p ≡ None) → set (slots_of t labels done) n (Some w) ≡ slots_of t labels (done ++ p ∷ [])
+slots_written : (t : TableValue) (labels : Labels) (done : List Placed) (p : Placed) (n w : ℕ)
+    → n < addresses → written_word t labels done n ≡ None → word_at t labels n p ≡ Some w
+    → ((a : ℕ) → a ≢ n → word_at t labels a p ≡ None)
+    → set (slots_of t labels done) n (Some w) ≡ slots_of t labels (done ++ p ∷ [])
 unfolding slots_of
 slots_written t labels done p n w l free here others =
     let at : Some w ≡ written_word t labels (done ++ p ∷ []) n = sym (written_push t labels done p n ∙ ap (λ o. or_else o (word_at t labels n p)) free ∙ here) in
@@ -129,11 +135,13 @@ free_line t labels before taken place (Some l) w e f = free_operation t labels t
 
 -- ---- what is taken, by slots
 
-row_at : (t : TableValue) (labels : Labels) (done : List Placed) (n : ℕ) → n < addresses → get_or (slots_of t labels done) n None ≡ written_word t labels done n
+row_at : (t : TableValue) (labels : Labels) (done : List Placed) (n : ℕ)
+    → n < addresses → get_or (slots_of t labels done) n None ≡ written_word t labels done n
 unfolding slots_of
 row_at t labels done n h = get_or-map-range_with_len (written_word t labels done) 0 addresses n n None h (zero-add n)
 
-pub taken_is : (t : TableValue) (labels : Labels) (done : List Placed) (place : ℤ) → is_taken_in (slots_of t labels done) place ≡ is_taken t labels done place
+pub taken_is : (t : TableValue) (labels : Labels) (done : List Placed) (place : ℤ)
+    → is_taken_in (slots_of t labels done) place ≡ is_taken t labels done place
 taken_is t labels done (negsuc n) = refl
 taken_is t labels done (pos n) = elim (cases_lt n 65536) [
   | inl h ↦
@@ -147,7 +155,8 @@ no_word None e = refl
 no_word (Some v) e = cc
 
 -- the slots with a line's word
-slots_more : (table : TableValue) (labels : Labels) (done : List Placed) (place : ℤ) (line : Option Line) (o : Option ℕ) → line_word table labels place line ≡ o
+slots_more : (table : TableValue) (labels : Labels) (done : List Placed) (place : ℤ) (line : Option Line) (o : Option ℕ)
+    → line_word table labels place line ≡ o
     → ((w : ℕ) → o ≡ Some w → place_rule (is_taken table labels done place) place ≡ None)
     → with_word (slots_of table labels done) place o ≡ slots_of table labels (done ++ record { place = place; line = line } ∷ [])
 slots_more table labels done place line None e free = slots_kept table labels done (record { place = place; line = line }) (λ a h. if_none (is_at place a) _ e)
@@ -185,12 +194,14 @@ empty_from t labels a zero = refl
 empty_from t labels a (suc n) = ap (λ os. None ∷ os) (empty_from t labels (a + 1) n)
 
 -- before the first line all lines are to come, no label is defined and no address has a word
-pub taken_none : (t : TableValue) (labels : Labels) (all : List Placed) (slots : List (Option ℕ)) → slots ≡ replicate addresses None → Taken t labels all 1 all [] slots
+pub taken_none : (t : TableValue) (labels : Labels) (all : List Placed) (slots : List (Option ℕ))
+    → slots ≡ replicate addresses None → Taken t labels all 1 all [] slots
 unfolding slots_of
 taken_none t labels all slots e = record { done = []; whole = refl; wrong = refl; defined = refl; slot = e ∙ empty_from t labels 0 addresses }
 
 -- the rule that a line breaks is the one that the code finds
-rule_is : (t : TableValue) (labels : Labels) (all rest : List Placed) (number : ℕ) (p : Placed) (before : Labels) (slots : List (Option ℕ)) (f : Taken t labels all number (p ∷ rest) before slots)
+rule_is : (t : TableValue) (labels : Labels) (all rest : List Placed) (number : ℕ) (p : Placed) (before : Labels)
+    (slots : List (Option ℕ)) (f : Taken t labels all number (p ∷ rest) before slots)
     → broken_rule t labels f.done p ≡ line_rule t labels before (is_taken_in slots p.place) p.place p.line
 rule_is t labels all rest number p before slots f =
     sym (ap (λ b. line_rule t labels b (is_taken_in slots p.place) p.place p.line) f.defined
@@ -198,24 +209,29 @@ rule_is t labels all rest number p before slots f =
     ∙ ap (λ b. line_rule t labels (labels_of f.done) b p.place p.line) (taken_is t labels f.done p.place))
 
 -- where the next line breaks a rule, it is the first wrong line of all, refused by this rule
-pub wrong_found : (t : TableValue) (labels : Labels) (all rest : List Placed) (number : ℕ) (place : ℤ) (line : Option Line) (before : Labels) (slots : List (Option ℕ)) (rule : Rule)
+pub wrong_found : (t : TableValue) (labels : Labels) (all rest : List Placed) (number : ℕ) (place : ℤ)
+    (line : Option Line) (before : Labels) (slots : List (Option ℕ)) (rule : Rule)
     → Taken t labels all number (record { place = place; line = line } ∷ rest) before slots
-    → line_rule t labels before (is_taken_in slots place) place line ≡ Some rule → first_wrong t labels [] 1 all ≡ Some (Refused rule number)
+    → line_rule t labels before (is_taken_in slots place) place line ≡ Some rule
+    → first_wrong t labels [] 1 all ≡ Some (Refused rule number)
 wrong_found t labels all rest number place line before slots rule f e =
     let p : Placed = record { place = place; line = line } in
     let b = rule_is t labels all rest number p before slots f ∙ e in
     sym f.wrong ∙ ap (λ o. at_line number o (first_wrong t labels (f.done ++ p ∷ []) (number + 1) rest)) b
 
 -- the refusal of a line is the first of all lines
-pub refused_first : (t : TableValue) (labels : Labels) (all rest : List Placed) (number : ℕ) (place : ℤ) (line : Option Line) (before : Labels) (slots : List (Option ℕ)) (e : AsmError)
+pub refused_first : (t : TableValue) (labels : Labels) (all rest : List Placed) (number : ℕ) (place : ℤ)
+    (line : Option Line) (before : Labels) (slots : List (Option ℕ)) (e : AsmError)
     → Taken t labels all number (record { place = place; line = line } ∷ rest) before slots
-    → IsRefusal (line_rule t labels before (is_taken_in slots place) place line) number e → AreWritten t labels all (Err e)
+    → IsRefusal (line_rule t labels before (is_taken_in slots place) place line) number e
+    → AreWritten t labels all (Err e)
 refused_first t labels all rest number place line before slots NoMemory f h = tt
 refused_first t labels all rest number place line before slots (Refused rule n) f h =
     wrong_found t labels all rest number place line before slots rule f h.0 ∙ ap (λ m. Some (Refused rule m)) (sym h.1)
 
 -- a line that breaks no rule is taken after those before it, with its label and its word
-pub taken_more : (t : TableValue) (labels : Labels) (all rest : List Placed) (number : ℕ) (place : ℤ) (line : Option Line) (before later : Labels) (slots later_slots : List (Option ℕ))
+pub taken_more : (t : TableValue) (labels : Labels) (all rest : List Placed) (number : ℕ) (place : ℤ)
+    (line : Option Line) (before later : Labels) (slots later_slots : List (Option ℕ))
     → Taken t labels all number (record { place = place; line = line } ∷ rest) before slots
     → line_rule t labels before (is_taken_in slots place) place line ≡ None
     → later ≡ with_line before (record { place = place; line = line })
@@ -234,13 +250,15 @@ taken_more t labels all rest number place line before later slots later_slots f 
     }
 
 -- once all lines are taken, none is wrong and the addresses have the words that all lines write
-pub all_taken : (t : TableValue) (labels : Labels) (all : List Placed) (number : ℕ) (before : Labels) (slots : List (Option ℕ)) → Taken t labels all number [] before slots
+pub all_taken : (t : TableValue) (labels : Labels) (all : List Placed) (number : ℕ) (before : Labels) (slots : List (Option ℕ))
+    → Taken t labels all number [] before slots
     → (first_wrong t labels [] 1 all ≡ None) × (slots ≡ slots_of t labels all)
 all_taken t labels all number before slots f = (sym f.wrong, f.slot ∙ ap (slots_of t labels) (sym (append-nil f.done) ∙ f.whole))
 
 -- ---- the image
 
-flat_same : (f g : ℕ → List ℕ) (a n : ℕ) → ((k : ℕ) → k < n → f (a + k) ≡ g (a + k)) → flat_map f (range_with_len a n) ≡ flat_map g (range_with_len a n)
+flat_same : (f g : ℕ → List ℕ) (a n : ℕ)
+    → ((k : ℕ) → k < n → f (a + k) ≡ g (a + k)) → flat_map f (range_with_len a n) ≡ flat_map g (range_with_len a n)
 flat_same f g a zero h = refl
 flat_same f g a (suc n) h =
     let P : ℕ → Type 0 = λ m. f m ≡ g m in
@@ -250,7 +268,9 @@ flat_same f g a (suc n) h =
     ap (λ xs. xs ++ flat_map f (range_with_len (a + 1) n)) here ∙ ap (λ xs. g a ++ xs) later
 
 -- the texts of the numbers from `a` on, after some bytes, begin with the text of `a`
-pub flat_step : (f : ℕ → List ℕ) (xs : List ℕ) (a n : ℕ) → a < n → xs ++ flat_map f (range_with_len a (n - a)) ≡ (xs ++ f a) ++ flat_map f (range_with_len (a + 1) (n - (a + 1)))
+pub flat_step : (f : ℕ → List ℕ) (xs : List ℕ) (a n : ℕ)
+    → a < n
+    → xs ++ flat_map f (range_with_len a (n - a)) ≡ (xs ++ f a) ++ flat_map f (range_with_len (a + 1) (n - (a + 1)))
 flat_step f xs a n h =
     let e : n - a ≡ suc (n - (a + 1)) = omega arith in
     rw e (sym (append_assoc xs (f a) (flat_map f (range_with_len (a + 1) (n - (a + 1))))))
@@ -261,16 +281,19 @@ flat_end f xs a n h =
     let e : n - a ≡ 0 = omega arith in
     rw e (append-nil xs)
 
-text_same : (t : TableValue) (labels : Labels) (ps : List Placed) (slots : List (Option ℕ)) → slots ≡ slots_of t labels ps → image_text t (λ a. get_or slots a None) ≡ image_text t (written_word t labels ps)
+text_same : (t : TableValue) (labels : Labels) (ps : List Placed) (slots : List (Option ℕ))
+    → slots ≡ slots_of t labels ps → image_text t (λ a. get_or slots a None) ≡ image_text t (written_word t labels ps)
 text_same t labels ps slots e =
     ap (λ xs. codes "image 1\n" ++ xs) (flat_same (λ a. word_line t.mem t.word a (get_or slots a None)) (λ a. word_line t.mem t.word a (written_word t labels ps a)) 0 addresses (λ k h.
     let P : ℕ → Type 0 = λ m. word_line t.mem t.word m (get_or slots m None) ≡ word_line t.mem t.word m (written_word t labels ps m) in
     subst P (sym (zero-add k)) (ap (word_line t.mem t.word k) (ap (λ s. get_or s k None) e ∙ row_at t labels ps k h))))
 
 -- what a text is, where no line is wrong, and where one is
-pub image_is : (t : TableValue) (text : List ℕ) (labels : Labels) (slots : List (Option ℕ)) (bytes : List ℕ) → labels ≡ labels_of (lines_from t (pos 0) (lines text))
-    → first_wrong t labels [] 1 (lines_from t (pos 0) (lines text)) ≡ None → slots ≡ slots_of t labels (lines_from t (pos 0) (lines text))
-    → bytes ≡ image_text t (λ a. get_or slots a None) → image t text ≡ Ok bytes
+pub image_is : (t : TableValue) (text : List ℕ) (labels : Labels) (slots : List (Option ℕ)) (bytes : List ℕ)
+    → labels ≡ labels_of (lines_from t (pos 0) (lines text))
+    → first_wrong t labels [] 1 (lines_from t (pos 0) (lines text)) ≡ None
+    → slots ≡ slots_of t labels (lines_from t (pos 0) (lines text)) → bytes ≡ image_text t (λ a. get_or slots a None)
+    → image t text ≡ Ok bytes
 unfolding image
 image_is t text labels slots bytes e f g h =
     let ps : List Placed = lines_from t (pos 0) (lines text) in
@@ -285,8 +308,11 @@ none_left_of t place [] h = refl
 none_left_of t place (c ∷ cs) h = absurd (omega (arith, h))
 
 -- the image's first line and the lines of all 65,536 addresses are the image of these words
-pub text_end : (t : TableValue) (slots words : List (Option ℕ)) → slots ≡ words → length slots ≡ 65536
-    → codes "image 1\n" ++ flat_map (λ a. word_line t.mem t.word a (get_or slots a None)) (range_with_len 0 (length slots)) ≡ image_text t (λ a. get_or words a None)
+pub text_end : (t : TableValue) (slots words : List (Option ℕ))
+    → slots ≡ words → length slots ≡ 65536
+    → codes "image 1\n"
+    ++ flat_map (λ a. word_line t.mem t.word a (get_or slots a None))
+    (range_with_len 0 (length slots)) ≡ image_text t (λ a. get_or words a None)
 text_end t slots words e l =
     ap (λ m. codes "image 1\n" ++ flat_map (λ a. word_line t.mem t.word a (get_or slots a None)) (range_with_len 0 m)) (l ∙ sym addresses_are)
     ∙ ap (λ s. codes "image 1\n" ++ flat_map (λ a. word_line t.mem t.word a (get_or s a None)) (range_with_len 0 addresses)) e

@@ -18,7 +18,8 @@ joined-cons xs x (Some ys) = ap (λ zs. Some zs) (append_assoc xs (x ∷ []) ys)
 joined-cons xs x None = refl
 
 -- one operand more
-pub next : (ops more : List Operand) (x : Operand) (part : List ℕ) (ps rest : List (List ℕ)) (whole : Option (List Operand)) → more ≡ ops ++ x ∷ [] → operand_of (without_blanks part) ≡ Some x → rest ≡ part ∷ ps
+pub next : (ops more : List Operand) (x : Operand) (part : List ℕ) (ps rest : List (List ℕ)) (whole : Option (List Operand))
+    → more ≡ ops ++ x ∷ [] → operand_of (without_blanks part) ≡ Some x → rest ≡ part ∷ ps
     → joined ops (operands_in rest) ≡ whole → joined more (operands_in ps) ≡ whole
 next ops more x part ps rest whole e f g h =
     ap (λ o. joined o (operands_in ps)) e ∙ joined-cons ops x (operands_in ps) ∙ ap (λ o. joined ops (with_operand o (operands_in ps))) (sym f) ∙ ap (λ r. joined ops (operands_in r)) (sym g) ∙ h
@@ -59,7 +60,8 @@ started [] e = cc
 started (c ∷ cs) e = none_read (operands_in (slice_split (λ d. d == 44) (c ∷ cs)))
 
 -- one operand more
-pub read_more : (ops more : List Operand) (x : Operand) (part : List ℕ) (ps rest : List (List ℕ)) (whole : Option (List Operand)) → more ≡ take 65 (ops ++ x ∷ []) → operand_of (without_blanks part) ≡ Some x → rest ≡ part ∷ ps
+pub read_more : (ops more : List Operand) (x : Operand) (part : List ℕ) (ps rest : List (List ℕ)) (whole : Option (List Operand))
+    → more ≡ take 65 (ops ++ x ∷ []) → operand_of (without_blanks part) ≡ Some x → rest ≡ part ∷ ps
     → Read ops (operands_in rest) whole → Read more (operands_in ps) whole
 read_more ops more x part ps rest whole e f g h = record {
   read = h.read ++ x ∷ [];

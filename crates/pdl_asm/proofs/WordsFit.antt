@@ -52,8 +52,8 @@ bits_fit value (c ∷ right) =
     let small : bit_of value c right * 2 ^ length right + word_of_bits value right < 2 ^ length (c ∷ right) = omega (arith, high, bits_fit value right, twice) in
     small
 
-insn_fits : (t : TableValue) (labels : Labels) (place : ℤ) (name : List ℕ) (o : Option TableInsn) (operands : Operands) (v : ℕ) → IsTable t → value_of t.insns name ≡ o
-    → insn_word t labels place o operands ≡ Some v → v < 2 ^ t.word
+insn_fits : (t : TableValue) (labels : Labels) (place : ℤ) (name : List ℕ) (o : Option TableInsn) (operands : Operands) (v : ℕ)
+    → IsTable t → value_of t.insns name ≡ o → insn_word t labels place o operands ≡ Some v → v < 2 ^ t.word
 insn_fits t labels place name None operands v h f e = cc
 insn_fits t labels place name (Some i) operands v h f e =
     let same : word_of_bits (given_value t labels place i.bits i.args operands) i.bits ≡ v = cc e in
@@ -63,26 +63,31 @@ insn_fits t labels place name (Some i) operands v h f e =
 
 -- ---- lines
 
-operation_fits : (t : TableValue) (labels : Labels) (place : ℤ) (o : Operation) (v : ℕ) → IsTable t → operation_word t labels place o ≡ Some v → v < 2 ^ t.word
+operation_fits : (t : TableValue) (labels : Labels) (place : ℤ) (o : Operation) (v : ℕ) → IsTable t
+    → operation_word t labels place o ≡ Some v → v < 2 ^ t.word
 operation_fits t labels place Nothing v h e = cc
 operation_fits t labels place (At n) v h e = cc
 operation_fits t labels place (Word n) v h e = number_fits t.word n v e
 operation_fits t labels place (Insn name operands) v h e = insn_fits t labels place name (value_of t.insns name) operands v h refl e
 
-line_fits : (t : TableValue) (labels : Labels) (place : ℤ) (l : Option Line) (v : ℕ) → IsTable t → line_word t labels place l ≡ Some v → v < 2 ^ t.word
+line_fits : (t : TableValue) (labels : Labels) (place : ℤ) (l : Option Line) (v : ℕ) → IsTable t
+    → line_word t labels place l ≡ Some v → v < 2 ^ t.word
 line_fits t labels place None v h e = cc
 line_fits t labels place (Some l) v h e = operation_fits t labels place l.operation v h e
 
-word_fits : (t : TableValue) (labels : Labels) (b : Bool) (place : ℤ) (l : Option Line) (v : ℕ) → IsTable t → (if b then line_word t labels place l else None) ≡ Some v → v < 2 ^ t.word
+word_fits : (t : TableValue) (labels : Labels) (b : Bool) (place : ℤ) (l : Option Line) (v : ℕ) → IsTable t
+    → (if b then line_word t labels place l else None) ≡ Some v → v < 2 ^ t.word
 word_fits t labels true place l v h e = line_fits t labels place l v h e
 word_fits t labels false place l v h e = cc
 
-first_fits : (n : ℕ) (a b : Option ℕ) (v : ℕ) → ((w : ℕ) → a ≡ Some w → w < n) → ((w : ℕ) → b ≡ Some w → w < n) → or_else a b ≡ Some v → v < n
+first_fits : (n : ℕ) (a b : Option ℕ) (v : ℕ)
+    → ((w : ℕ) → a ≡ Some w → w < n) → ((w : ℕ) → b ≡ Some w → w < n) → or_else a b ≡ Some v → v < n
 first_fits n None b v h k e = k v e
 first_fits n (Some w) b v h k e = h v e
 
 -- a word that lines write at an address fits the width of the table's words
-pub written_fits : (t : TableValue) (labels : Labels) (ps : List Placed) (a v : ℕ) → IsTable t → written_word t labels ps a ≡ Some v → v < 2 ^ t.word
+pub written_fits : (t : TableValue) (labels : Labels) (ps : List Placed) (a v : ℕ) → IsTable t
+    → written_word t labels ps a ≡ Some v → v < 2 ^ t.word
 written_fits t labels [] a v h e = cc
 written_fits t labels (p ∷ ps) a v h e =
     first_fits (2 ^ t.word) (word_at t labels a p) (written_word t labels ps a) v

@@ -25,7 +25,8 @@ two_instructions : tab (codes "word = 8\nmem = \"im\"\n[regs]\nr0 = 0\nr1 = 1\n[
 unfolding toml_on_literals
 two_instructions = refl
 
-short_bits : tab (codes "word = 8\nmem = \"im\"\n[[insn]]\nname = \"add\"\nargs = [\"i:sint\"]\nbits = \"010iiiii\"\n[[insn]]\nname = \"b\"\nargs = [\"t:rel\"]\nbits = \"100 tttt\"\n") ≡ Err (Refused B3 2)
+short_bits : tab (codes "word = 8\nmem = \"im\"\n[[insn]]\nname = \"add\"\nargs = [\"i:sint\"]\nbits = \"010iiiii\"\n[[insn]]\nname = \"b\"\nargs = [\"t:rel\"]\nbits = \"100 tttt\"\n")
+    ≡ Err (Refused B3 2)
 unfolding toml_on_literals
 short_bits = refl
 
@@ -41,7 +42,8 @@ keyword_mem : tab (codes "word = 1\nmem = \"lock\"\n[[insn]]\nname = \"a\"\nargs
 unfolding toml_on_literals
 keyword_mem = refl
 
-keyword_name : tab (codes "word = 1\nmem = \"m\"\n[[insn]]\nname = \"lock\"\nargs = []\nbits = \"0\"\n") ≡ Ok (record { word = 1; mem = codes "m"; regs = []; insns = (codes "lock", record { args = []; bits = codes "0" }) ∷ [] })
+keyword_name : tab (codes "word = 1\nmem = \"m\"\n[[insn]]\nname = \"lock\"\nargs = []\nbits = \"0\"\n")
+    ≡ Ok (record { word = 1; mem = codes "m"; regs = []; insns = (codes "lock", record { args = []; bits = codes "0" }) ∷ [] })
 unfolding toml_on_literals
 keyword_name = refl
 
@@ -53,15 +55,18 @@ no_instruction : tab (codes "word = 1\nmem = \"m\"\ninsn = []\n") ≡ Err (Refus
 unfolding toml_on_literals
 no_instruction = refl
 
-argument_twice : tab (codes "word = 1\nmem = \"m\"\n[[insn]]\nname = \"a\"\nargs = [\"x:reg\", \"x:reg\"]\nbits = \"x\"\n") ≡ Err (Refused B4 1)
+argument_twice : tab (codes "word = 1\nmem = \"m\"\n[[insn]]\nname = \"a\"\nargs = [\"x:reg\", \"x:reg\"]\nbits = \"x\"\n")
+    ≡ Err (Refused B4 1)
 unfolding toml_on_literals
 argument_twice = refl
 
-name_twice : tab (codes "word = 1\nmem = \"m\"\n[[insn]]\nname = \"a\"\nargs = []\nbits = \"0\"\n[[insn]]\nname = \"a\"\nargs = []\nbits = \"1\"\n") ≡ Err (Refused B5 2)
+name_twice : tab (codes "word = 1\nmem = \"m\"\n[[insn]]\nname = \"a\"\nargs = []\nbits = \"0\"\n[[insn]]\nname = \"a\"\nargs = []\nbits = \"1\"\n")
+    ≡ Err (Refused B5 2)
 unfolding toml_on_literals
 name_twice = refl
 
 -- the lowest rule first, though it stands at a later instruction
-rule_before_instruction : tab (codes "word = 1\nmem = \"m\"\n[[insn]]\nname = \"a\"\nargs = []\nbits = \"x\"\n[[insn]]\nname = \"b\"\nargs = []\nbits = \"?\"\n") ≡ Err (Refused B3 2)
+rule_before_instruction : tab (codes "word = 1\nmem = \"m\"\n[[insn]]\nname = \"a\"\nargs = []\nbits = \"x\"\n[[insn]]\nname = \"b\"\nargs = []\nbits = \"?\"\n")
+    ≡ Err (Refused B3 2)
 unfolding toml_on_literals
 rule_before_instruction = refl

@@ -27,7 +27,8 @@ all_fit_still old new g w e =
     subst P (sym e) (all_fit_grown old new g old.cells [] w.cells)
 
 -- where no input and no cell is added, what is known stays true
-pub extents_still : (old new : Circuit) (ins : List ℕ) (ns : List Extent) → KeepsNets old new → inputs_of new ≡ inputs_of old → new.cells ≡ old.cells → HaveExtents old ins ns → HaveExtents new ins ns
+pub extents_still : (old new : Circuit) (ins : List ℕ) (ns : List Extent) → KeepsNets old new
+    → inputs_of new ≡ inputs_of old → new.cells ≡ old.cells → HaveExtents old ins ns → HaveExtents new ins ns
 unfolding IsThere
 extents_still old new ins ns k i e h =
     let n : length new.cells ≡ length old.cells = ap length e in
@@ -80,7 +81,8 @@ well_cell c g w f =
     }
 
 -- the net of an added cell that fits means the cell's signal
-pub means_cell : (c : Circuit) (g : Cell) → IsWell c → Fits c g → Means (with_cell c g) (CellNet (length c.cells)) (cell_signal c (signal c) g)
+pub means_cell : (c : Circuit) (g : Cell) → IsWell c → Fits c g
+    → Means (with_cell c g) (CellNet (length c.cells)) (cell_signal c (signal c) g)
 unfolding IsThere
 means_cell c g w f = record {
   there = omega (arith, length-append c.cells (g ∷ []));
@@ -88,7 +90,8 @@ means_cell c g w f = record {
 }
 
 -- with a cell more that fits, what is known of cells is that and what is known of this one
-pub extents_cell : (c : Circuit) (g : Cell) (ins : List ℕ) (ns : List Extent) (v : Extent) → IsWell c → Fits c g → HaveExtents c ins ns → IsExtent (cell_signal c (signal c) g) v → HaveExtents (with_cell c g) ins (ns ++ v ∷ [])
+pub extents_cell : (c : Circuit) (g : Cell) (ins : List ℕ) (ns : List Extent) (v : Extent) → IsWell c → Fits c g
+    → HaveExtents c ins ns → IsExtent (cell_signal c (signal c) g) v → HaveExtents (with_cell c g) ins (ns ++ v ∷ [])
 unfolding IsThere
 extents_cell c g ins ns v w f h e =
     let d = with_cell c g in
@@ -156,7 +159,8 @@ pub well_input : (c : Circuit) (n : List ℕ) (w : ℕ) → IsWell c → 1 ≤ w
 well_input c n w h low high = well_port c (input_port n w) h (record { low = low; high = high; driven = tt })
 
 -- the net of an added input means the input's signal
-pub means_input : (c : Circuit) (n : List ℕ) (w : ℕ) → Means (with_port c (input_port n w)) (Input (length (inputs_of c))) (input_signal w (length (inputs_of c)))
+pub means_input : (c : Circuit) (n : List ℕ) (w : ℕ)
+    → Means (with_port c (input_port n w)) (Input (length (inputs_of c))) (input_signal w (length (inputs_of c)))
 unfolding IsThere signal
 means_input c n w =
     let e = inputs_pushed c (input_port n w) in
@@ -167,7 +171,8 @@ means_input c n w =
     }
 
 -- with an input more, the widths of inputs are those with its own, and what is known of cells stays true
-pub extents_input : (c : Circuit) (n : List ℕ) (w : ℕ) (ins : List ℕ) (ns : List Extent) → IsWell c → HaveExtents c ins ns → HaveExtents (with_port c (input_port n w)) (ins ++ w ∷ []) ns
+pub extents_input : (c : Circuit) (n : List ℕ) (w : ℕ) (ins : List ℕ) (ns : List Extent) → IsWell c
+    → HaveExtents c ins ns → HaveExtents (with_port c (input_port n w)) (ins ++ w ∷ []) ns
 unfolding IsThere
 extents_input c n w ins ns h x = record {
   inputs = ap (λ l. l ++ w ∷ []) x.inputs ∙ sym (inputs_pushed c (input_port n w));
@@ -176,11 +181,13 @@ extents_input c n w ins ns h x = record {
 }
 
 -- an output more of a net that is there, of 1 to 64 bits, leaves a circuit well formed
-pub well_output : (c : Circuit) (n : List ℕ) (x : Net) → IsWell c → IsThere c x → 1 ≤ (signal c x).width → (signal c x).width ≤ 64 → IsWell (with_port c (output_port c n x))
+pub well_output : (c : Circuit) (n : List ℕ) (x : Net) → IsWell c → IsThere c x
+    → 1 ≤ (signal c x).width → (signal c x).width ≤ 64 → IsWell (with_port c (output_port c n x))
 well_output c n x w t low high = well_port c (output_port c n x) w (record { low = low; high = high; driven = (t, refl) })
 
 -- with an output more, what is known of inputs and cells stays true
-pub extents_output : (c : Circuit) (n : List ℕ) (x : Net) (ins : List ℕ) (ns : List Extent) → IsWell c → HaveExtents c ins ns → HaveExtents (with_port c (output_port c n x)) ins ns
+pub extents_output : (c : Circuit) (n : List ℕ) (x : Net) (ins : List ℕ) (ns : List Extent) → IsWell c
+    → HaveExtents c ins ns → HaveExtents (with_port c (output_port c n x)) ins ns
 extents_output c n x ins ns w h = extents_still c (with_port c (output_port c n x)) ins ns (port_keeps c (output_port c n x) w) (inputs_pushed c (output_port c n x) ∙ append-nil (inputs_of c)) refl h
 
 -- each port is an input or an output

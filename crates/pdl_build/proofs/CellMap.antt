@@ -16,7 +16,8 @@ abbrev pub same : Cell → Cell → Bool
 same = cell.ghosts.eq
 
 -- an element of a list with one more
-at_pushed : {X : Type 0} (xs : List X) (x y : X) (k : ℕ) → slice_get (xs ++ x ∷ []) k ≡ Some y → (slice_get xs k ≡ Some y) ⊎ ((x ≡ y) × (length xs ≡ k))
+at_pushed : {X : Type 0} (xs : List X) (x y : X) (k : ℕ)
+    → slice_get (xs ++ x ∷ []) k ≡ Some y → (slice_get xs k ≡ Some y) ⊎ ((x ≡ y) × (length xs ≡ k))
 at_pushed [] x y zero e = inr (cc, refl)
 at_pushed [] x y (suc k) e = absurd (cc)
 at_pushed (z ∷ xs) x y zero e = inl e

@@ -20,7 +20,9 @@ mux_first : (a b : Signal) (v : ℕ) → (v == 1) ≡ true → record { width = 
 unfolding mux_value const_value words.mux
 mux_first a b v e = ap (λ (t : Bool). record { width = a.width; value = λ s. if t then a.value s else b.value s }) e
 
-mux_second : (a b : Signal) (v : ℕ) → (v == 1) ≡ false → a.width ≡ b.width → record { width = a.width; value = mux_value (const_value v) a.value b.value } ≡ b
+mux_second : (a b : Signal) (v : ℕ)
+    → (v == 1) ≡ false → a.width ≡ b.width
+    → record { width = a.width; value = mux_value (const_value v) a.value b.value } ≡ b
 unfolding mux_value const_value words.mux
 mux_second a b v e w =
     ap (λ (t : Bool). record { width = a.width; value = λ s. if t then a.value s else b.value s }) e

@@ -47,7 +47,8 @@ signal_at c (x ∷ gs) done (suc k) g d fit l e =
     ap (λ i. get_or (signals_from c (x ∷ gs) done) i no_signal) n ∙ signal_at c gs (done ++ f ∷ []) k g d fit.1 (omega (arith, l)) e
 
 -- the net of a cell that is there means the signal of an equal cell
-pub means_equal : (c : Circuit) (k : ℕ) (g d : Cell) → IsWell c → k < length c.cells → get_or c.cells k d ≡ g → Means c (CellNet k) (cell_signal c (signal c) g)
+pub means_equal : (c : Circuit) (k : ℕ) (g d : Cell) → IsWell c
+    → k < length c.cells → get_or c.cells k d ≡ g → Means c (CellNet k) (cell_signal c (signal c) g)
 unfolding IsThere signal signals
 means_equal c k g d w l e =
     let n : k ≡ 0 + k = omega arith in

@@ -92,7 +92,8 @@ copied_high w n a l h k f =
     rw (top_of_high w a l k f, sext_high w n a l h k f) (omega (arith, q))
 
 -- copies of the top bit above a signal that fits its width give its word extended by its sign
-pub sext_value : (n : ℕ) (a : Signal) (s : State) → 1 ≤ a.width → a.width ≤ n → a.value s < 2 ^ a.width → (sext_signal n a).value s ≡ sext a.width n (a.value s)
+pub sext_value : (n : ℕ) (a : Signal) (s : State)
+    → 1 ≤ a.width → a.width ≤ n → a.value s < 2 ^ a.width → (sext_signal n a).value s ≡ sext a.width n (a.value s)
 unfolding sext_signal cat_value rep_value slice_value
 sext_value n a s l h f = elim (eqb_tells n a.width) [
   | inl e ↦ rw (e.0, e.1) (sym (sext_same a.width (a.value s) l f))

@@ -19,7 +19,8 @@ use Rattle.pdl_build.proofs.Widths.{nothing, nothing_suits}
 
 -- ONE CELL MORE
 
-constant_at : (cells : List Cell) (g : Cell) (k : ℕ) → is_const (get_or cells k (Const 0 0)) ≡ false → is_const (get_or (cells ++ g ∷ []) k (Const 0 0)) ≡ false
+constant_at : (cells : List Cell) (g : Cell) (k : ℕ)
+    → is_const (get_or cells k (Const 0 0)) ≡ false → is_const (get_or (cells ++ g ∷ []) k (Const 0 0)) ≡ false
 constant_at [] g k e = absurd (cc)
 constant_at (x ∷ xs) g zero e = e
 constant_at (x ∷ xs) g (suc k) e = constant_at xs g k e
@@ -72,12 +73,14 @@ unfolding not_value const_value
 not_of w x f e = ap (not_value w) e
 
 -- an operator on two constants gives the constant that it makes of their words
-pub bin_of : (op : BinOp) (w x y : ℕ) (f g : Value) → f ≡ const_value x → g ≡ const_value y → bin_value op w f g ≡ const_value (bin_word op w x y)
+pub bin_of : (op : BinOp) (w x y : ℕ) (f g : Value)
+    → f ≡ const_value x → g ≡ const_value y → bin_value op w f g ≡ const_value (bin_word op w x y)
 unfolding bin_value const_value
 bin_of op w x y f g e h = ap (λ u. bin_value op w u g) e ∙ ap (bin_value op w (const_value x)) h
 
 -- a choice between constants by a constant is the constant that it chooses
-pub mux_of : (c x y : ℕ) (t f g : Value) → t ≡ const_value c → f ≡ const_value x → g ≡ const_value y → mux_value t f g ≡ const_value (mux c x y)
+pub mux_of : (c x y : ℕ) (t f g : Value)
+    → t ≡ const_value c → f ≡ const_value x → g ≡ const_value y → mux_value t f g ≡ const_value (mux c x y)
 unfolding mux_value const_value
 mux_of c x y t f g d e h = ap (λ u. mux_value u f g) d ∙ ap (λ u. mux_value (const_value c) u g) e ∙ ap (mux_value (const_value c) (const_value x)) h
 
@@ -97,7 +100,8 @@ unfolding rep_value const_value
 rep_of u k x f e = ap (rep_value u k) e
 
 -- the constant of a cell that is always this value
-pub constant_fits : (c : Circuit) (g : Cell) (w v : ℕ) → IsWell c → Fits c g → w ≡ (cell_signal c (signal c) g).width → (cell_signal c (signal c) g).value ≡ const_value v → Fits c (Const w v)
+pub constant_fits : (c : Circuit) (g : Cell) (w v : ℕ) → IsWell c → Fits c g
+    → w ≡ (cell_signal c (signal c) g).width → (cell_signal c (signal c) g).value ≡ const_value v → Fits c (Const w v)
 unfolding const_value
 constant_fits c g w v h f e s =
     let b = cell_bounded c (nothing c) (IsThere c) (signal c) h (nothing_suits c) (bounded c (nothing c) h (nothing_suits c)) g f in

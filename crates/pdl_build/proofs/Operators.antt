@@ -31,7 +31,8 @@ op_widths ShiftRight w = refl
 -- BOUNDS
 
 -- an operator's signal has 1 to 64 bits and fits them where both operands do, which are equally wide
-pub op_bounded : (s : State) (op : BinaryOp) (a b : Signal) → a.width ≡ b.width → IsBounded s a → IsBounded s b → IsBounded s (bin_signal (op_of op) a b)
+pub op_bounded : (s : State) (op : BinaryOp) (a b : Signal)
+    → a.width ≡ b.width → IsBounded s a → IsBounded s b → IsBounded s (bin_signal (op_of op) a b)
 unfolding bin_value
 op_bounded s Add a b e p q = record { low = p.low; high = p.high; fits = add_below a.width (a.value s) (b.value s) }
 op_bounded s Sub a b e p q = record { low = p.low; high = p.high; fits = sub_below a.width (a.value s) (b.value s) }
@@ -66,6 +67,8 @@ op_value ShiftLeft w a b = refl
 op_value ShiftRight w a b = refl
 
 -- a comparison of words raised by half of the range
-pub lts_value : (s : State) (a b : Signal) (w x y : ℕ) → a.width ≡ w → b.width ≡ w → a.value s ≡ x → b.value s ≡ y → (bin_signal net_op.Lt (raised_signal a) (raised_signal b)).value s ≡ words.lts w x y
+pub lts_value : (s : State) (a b : Signal) (w x y : ℕ)
+    → a.width ≡ w → b.width ≡ w → a.value s ≡ x → b.value s ≡ y
+    → (bin_signal net_op.Lt (raised_signal a) (raised_signal b)).value s ≡ words.lts w x y
 unfolding raised_signal bin_value const_value words.lts words.less words.add
 lts_value s a b w x y p q e f = rw (p, q, e, f) refl

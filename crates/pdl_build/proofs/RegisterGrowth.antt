@@ -49,7 +49,8 @@ unfolding shapes_of
 extends_reg c w v h = extends_kept c (with_reg c w v) (reg_keeps c w v h) h (reg_parts c w v) refl refl
 
 -- with a register more, what is known of inputs and cells stays true
-pub extents_reg : (c : Circuit) (w v : ℕ) (ins : List ℕ) (ns : List Extent) → IsWell c → HaveExtents c ins ns → HaveExtents (with_reg c w v) ins ns
+pub extents_reg : (c : Circuit) (w v : ℕ) (ins : List ℕ) (ns : List Extent) → IsWell c → HaveExtents c ins ns
+    → HaveExtents (with_reg c w v) ins ns
 extents_reg c w v ins ns h x = extents_still c (with_reg c w v) ins ns (reg_keeps c w v h) refl refl x
 
 reg_here : (c : Circuit) (w v : ℕ) → reg_at (with_reg c w v) (length c.regs) ≡ new_reg c w v
@@ -102,7 +103,9 @@ next_here : (c : Circuit) (r : ℕ) (x : Net) → r < length c.regs → reg_at (
 next_here c r x h = get_or-set_same c.regs r (next_reg c r x) no_reg h
 
 -- all but the next value stays
-next_width : (c : Circuit) (r q : ℕ) (x : Net) → r < length c.regs → ((reg_at (with_next c r x) q).width ≡ (reg_at c q).width) × ((reg_at (with_next c r x) q).reset ≡ (reg_at c q).reset)
+next_width : (c : Circuit) (r q : ℕ) (x : Net)
+    → r < length c.regs
+    → ((reg_at (with_next c r x) q).width ≡ (reg_at c q).width) × ((reg_at (with_next c r x) q).reset ≡ (reg_at c q).reset)
 next_width c r q x h = ⊎_elim
     (λ (e : q ≡ r). rw e (ap (λ (g : Reg). g.width) (next_here c r x h), ap (λ (g : Reg). g.reset) (next_here c r x h)))
     (λ (n : q ≢ r). (ap (λ (g : Reg). g.width) (next_there c r q x n), ap (λ (g : Reg). g.reset) (next_there c r q x n)))
@@ -144,7 +147,8 @@ extends_next c r x h w =
     }
 
 -- where a register is told what it takes next, what is known of inputs and cells stays true
-pub extents_next : (c : Circuit) (r : ℕ) (x : Net) (ins : List ℕ) (ns : List Extent) → HasReg c r → IsWell c → HaveExtents c ins ns → HaveExtents (with_next c r x) ins ns
+pub extents_next : (c : Circuit) (r : ℕ) (x : Net) (ins : List ℕ) (ns : List Extent) → HasReg c r → IsWell c
+    → HaveExtents c ins ns → HaveExtents (with_next c r x) ins ns
 unfolding HasReg
 extents_next c r x ins ns h w i = extents_still c (with_next c r x) ins ns (next_keeps c r x h w) refl refl i
 
@@ -154,7 +158,8 @@ unfolding HasReg next_signal
 next_set c r x h t w = ap (λ (g : Reg). signal (with_next c r x) g.next) (next_here c r x h) ∙ ((next_keeps c r x h w).nets x t).same
 
 -- a net that is there, told to a register as wide as what it takes next, leaves a circuit well formed
-pub well_next : (c : Circuit) (r : ℕ) (x : Net) → HasReg c r → IsThere c x → (signal c x).width ≡ reg_width c r → IsWell c → IsWell (with_next c r x)
+pub well_next : (c : Circuit) (r : ℕ) (x : Net) → HasReg c r → IsThere c x
+    → (signal c x).width ≡ reg_width c r → IsWell c → IsWell (with_next c r x)
 unfolding HasReg reg_width
 well_next c r x h t e w =
     let d = with_next c r x in
@@ -175,7 +180,8 @@ well_next c r x h t e w =
     }
 
 -- what the program writes is `with_next`
-pub next_same : (c : Circuit) (r : ℕ) (x : Net) (g : Reg) → HasReg c r → g ≡ get_or c.regs r g → record c { regs = set c.regs r (record g { next = x }) } ≡ with_next c r x
+pub next_same : (c : Circuit) (r : ℕ) (x : Net) (g : Reg) → HasReg c r
+    → g ≡ get_or c.regs r g → record c { regs = set c.regs r (record g { next = x }) } ≡ with_next c r x
 unfolding HasReg
 next_same c r x g h e = ap (λ (q : Reg). record c { regs = set c.regs r (record q { next = x }) }) (e ∙ get_or_default c.regs r g no_reg h)
 
@@ -206,7 +212,8 @@ unfolding shapes_of
 extends_array c n w d h = extends_arrays_kept c (with_array c n w d) (new_shape n w d ∷ []) (array_keeps c n w d h) h (array_parts c n w d) refl (map-append shape_of c.arrays (new_array n w d ∷ []))
 
 -- with an array more, what is known of inputs and cells stays true
-pub extents_array : (c : Circuit) (n : List ℕ) (w d : ℕ) (ins : List ℕ) (ns : List Extent) → IsWell c → HaveExtents c ins ns → HaveExtents (with_array c n w d) ins ns
+pub extents_array : (c : Circuit) (n : List ℕ) (w d : ℕ) (ins : List ℕ) (ns : List Extent) → IsWell c
+    → HaveExtents c ins ns → HaveExtents (with_array c n w d) ins ns
 extents_array c n w d ins ns h x = extents_still c (with_array c n w d) ins ns (array_keeps c n w d h) refl refl x
 
 array_here : (c : Circuit) (n : List ℕ) (w d : ℕ) → array_at (with_array c n w d) (length c.arrays) ≡ new_array n w d
@@ -248,7 +255,8 @@ write_there c m q p n = get_or-set_other c.arrays m q (written_array c m p) no_a
 write_here : (c : Circuit) (m : ℕ) (p : WritePort) → m < length c.arrays → array_at (with_write c m p) m ≡ written_array c m p
 write_here c m p h = get_or-set_same c.arrays m (written_array c m p) no_array h
 
-write_width : (c : Circuit) (m q : ℕ) (p : WritePort) → m < length c.arrays → shape_of (array_at (with_write c m p) q) ≡ shape_of (array_at c q)
+write_width : (c : Circuit) (m q : ℕ) (p : WritePort)
+    → m < length c.arrays → shape_of (array_at (with_write c m p) q) ≡ shape_of (array_at c q)
 write_width c m q p h = ⊎_elim
     (λ (e : q ≡ m). rw e (ap shape_of (write_here c m p h)))
     (λ (n : q ≢ m). ap shape_of (write_there c m q p n))
@@ -293,16 +301,19 @@ extends_write c m p h w =
     }
 
 -- with a write port more, what is known of inputs and cells stays true
-pub extents_write : (c : Circuit) (m : ℕ) (p : WritePort) (ins : List ℕ) (ns : List Extent) → HasArray c m → IsWell c → HaveExtents c ins ns → HaveExtents (with_write c m p) ins ns
+pub extents_write : (c : Circuit) (m : ℕ) (p : WritePort) (ins : List ℕ) (ns : List Extent) → HasArray c m → IsWell c
+    → HaveExtents c ins ns → HaveExtents (with_write c m p) ins ns
 unfolding HasArray
 extents_write c m p ins ns h w x = extents_still c (with_write c m p) ins ns (write_keeps c m p h w) refl refl x
 
-only_write : (c : Circuit) (a : Array) (p : WritePort) → IsWellWrite c a p → (i : ℕ) (q : WritePort) → slice_get (p ∷ []) i ≡ Some q → IsWellWrite c a q
+only_write : (c : Circuit) (a : Array) (p : WritePort) → IsWellWrite c a p → (i : ℕ) (q : WritePort)
+    → slice_get (p ∷ []) i ≡ Some q → IsWellWrite c a q
 only_write c a p f zero q e = let s : p ≡ q = cc in subst (λ x. IsWellWrite c a x) s f
 only_write c a p f (suc i) q e = absurd (cc)
 
 -- the writes of an array with a write port more are those before and the port's
-pub writes_more : (c : Circuit) (m : ℕ) (p : WritePort) → HasArray c m → IsWellWrite c (array_at c m) p → IsWell c → write_signals (with_write c m p) m ≡ write_signals c m ++ write_signal c p ∷ []
+pub writes_more : (c : Circuit) (m : ℕ) (p : WritePort) → HasArray c m → IsWellWrite c (array_at c m) p → IsWell c
+    → write_signals (with_write c m p) m ≡ write_signals c m ++ write_signal c p ∷ []
 unfolding HasArray write_signals
 writes_more c m p h f w =
     let d = with_write c m p in
@@ -317,7 +328,8 @@ write_moved : (d c : Circuit) (m : ℕ) (p q : WritePort) → IsWellWrite d (arr
 write_moved d c m p q f = record { enable = f.enable; addr = f.addr; value = f.value; one = f.one; reach = f.reach; width = f.width }
 
 -- a write port more that fits its array leaves a circuit well formed
-pub well_write : (c : Circuit) (m : ℕ) (p : WritePort) → HasArray c m → IsWellWrite c (array_at c m) p → IsWell c → IsWell (with_write c m p)
+pub well_write : (c : Circuit) (m : ℕ) (p : WritePort) → HasArray c m → IsWellWrite c (array_at c m) p → IsWell c
+    → IsWell (with_write c m p)
 unfolding HasArray
 well_write c m p h f w =
     let d = with_write c m p in
@@ -346,7 +358,9 @@ well_write c m p h f w =
     }
 
 -- what the program pushes is `with_write`
-pub write_same : (c : Circuit) (m : ℕ) (p : WritePort) (a : Array) → HasArray c m → a ≡ get_or c.arrays m a → record c { arrays = set c.arrays m (record a { writes = a.writes ++ p ∷ [] }) } ≡ with_write c m p
+pub write_same : (c : Circuit) (m : ℕ) (p : WritePort) (a : Array) → HasArray c m
+    → a ≡ get_or c.arrays m a
+    → record c { arrays = set c.arrays m (record a { writes = a.writes ++ p ∷ [] }) } ≡ with_write c m p
 unfolding HasArray
 write_same c m p a h e = ap (λ (q : Array). record c { arrays = set c.arrays m (record q { writes = q.writes ++ p ∷ [] }) }) (e ∙ get_or_default c.arrays m a no_array h)
 
@@ -361,7 +375,9 @@ unfolding HasArray
 has_array_below c m h = h
 
 -- a write port fits its array where its nets are there, with their right widths
-pub well_port_write : (c : Circuit) (m : ℕ) (p : WritePort) → IsThere c p.enable → IsThere c p.addr → IsThere c p.value → (signal c p.enable).width ≡ 1 → 2 ^ (signal c p.addr).width ≡ array_depth c m → (signal c p.value).width ≡ array_width c m → IsWellWrite c (array_at c m) p
+pub well_port_write : (c : Circuit) (m : ℕ) (p : WritePort) → IsThere c p.enable → IsThere c p.addr → IsThere c p.value
+    → (signal c p.enable).width ≡ 1 → 2 ^ (signal c p.addr).width ≡ array_depth c m
+    → (signal c p.value).width ≡ array_width c m → IsWellWrite c (array_at c m) p
 unfolding array_depth array_width
 well_port_write c m p e a v o r w = record { enable = e; addr = a; value = v; one = o; reach = r; width = w }
 

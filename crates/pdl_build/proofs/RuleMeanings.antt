@@ -19,8 +19,9 @@ use Rattle.pdl_build.specs.Rules.{Gives, IsBelow}
 -- OPERATORS
 
 -- the rule for a constant, at a signal that is the constant
-pub on_constant_at : (r : Rule) (op : BinOp) (w v : ℕ) (t : Bool) (a b : Signal) → w ≡ a.width → b.value ≡ const_value v
-    → ((x : ℕ) → (IsTrue t → x < 2 ^ w) → Gives r op w x v) → (IsTrue t → IsBelow a) → (s : State) → Gives r op a.width (a.value s) (b.value s)
+pub on_constant_at : (r : Rule) (op : BinOp) (w v : ℕ) (t : Bool) (a b : Signal)
+    → w ≡ a.width → b.value ≡ const_value v → ((x : ℕ) → (IsTrue t → x < 2 ^ w) → Gives r op w x v)
+    → (IsTrue t → IsBelow a) → (s : State) → Gives r op a.width (a.value s) (b.value s)
 unfolding const_value
 on_constant_at r op w v t a b e f g h s =
     let P : ℕ → Type 0 = λ n. Gives r op n (a.value s) (b.value s) in
@@ -29,8 +30,9 @@ on_constant_at r op w v t a b e f g h s =
     subst P e (subst Q (sym y) (g (a.value s) (λ i. as_wide (a.value s) a.width w (sym e) (h i s))))
 
 -- likewise, where the first operand is the constant
-pub after_constant_at : (r : Rule) (op : BinOp) (w v : ℕ) (t : Bool) (a b : Signal) → w ≡ a.width → a.width ≡ b.width → a.value ≡ const_value v
-    → ((y : ℕ) → (IsTrue t → y < 2 ^ w) → Gives r op w v y) → (IsTrue t → IsBelow b) → (s : State) → Gives r op a.width (a.value s) (b.value s)
+pub after_constant_at : (r : Rule) (op : BinOp) (w v : ℕ) (t : Bool) (a b : Signal)
+    → w ≡ a.width → a.width ≡ b.width → a.value ≡ const_value v → ((y : ℕ) → (IsTrue t → y < 2 ^ w) → Gives r op w v y)
+    → (IsTrue t → IsBelow b) → (s : State) → Gives r op a.width (a.value s) (b.value s)
 unfolding const_value
 after_constant_at r op w v t a b e wide f g h s =
     let P : ℕ → Type 0 = λ n. Gives r op n (a.value s) (b.value s) in
@@ -101,7 +103,8 @@ not_twice a x e b =
 -- CHOICES
 
 -- a choice between 1 and 0 by a bit is the bit, where it is below
-pub choice_same : (c a b : Signal) → c.width ≡ 1 → a.width ≡ 1 → IsBelow c → a.value ≡ const_value 1 → b.value ≡ const_value 0 → c ≡ mux_signal c a b
+pub choice_same : (c a b : Signal)
+    → c.width ≡ 1 → a.width ≡ 1 → IsBelow c → a.value ≡ const_value 1 → b.value ≡ const_value 0 → c ≡ mux_signal c a b
 unfolding mux_value const_value
 choice_same c a b n m below e f =
     let P : ℕ → Type 0 = λ k. (s : State) → c.value s < 2 ^ k in
@@ -111,7 +114,9 @@ choice_same c a b n m below e f =
     ∙ ap (λ (k : ℕ). record { width = k; value = mux_value c.value a.value b.value }) (n ∙ sym m)
 
 -- a choice between 0 and 1 by a bit is the bit's complement, where it is below
-pub choice_other : (c a b : Signal) → c.width ≡ 1 → a.width ≡ 1 → IsBelow c → a.value ≡ const_value 0 → b.value ≡ const_value 1 → not_signal c ≡ mux_signal c a b
+pub choice_other : (c a b : Signal)
+    → c.width ≡ 1 → a.width ≡ 1 → IsBelow c → a.value ≡ const_value 0 → b.value ≡ const_value 1
+    → not_signal c ≡ mux_signal c a b
 unfolding mux_value const_value not_value
 choice_other c a b n m below e f =
     let P : ℕ → Type 0 = λ k. (s : State) → c.value s < 2 ^ k in
@@ -121,7 +126,8 @@ choice_other c a b n m below e f =
     ∙ ap (λ (k : ℕ). record { width = k; value = mux_value c.value a.value b.value }) (n ∙ sym m)
 
 -- the choice of a complement, with its arms exchanged
-pub choice_turned : (c x a b : Signal) → c ≡ not_signal x → c.width ≡ 1 → IsBelow x → a.width ≡ b.width → mux_signal x b a ≡ mux_signal c a b
+pub choice_turned : (c x a b : Signal)
+    → c ≡ not_signal x → c.width ≡ 1 → IsBelow x → a.width ≡ b.width → mux_signal x b a ≡ mux_signal c a b
 unfolding mux_value not_value
 choice_turned c x a b e n below w =
     let one : x.width ≡ 1 = sym (ap (λ (f : Signal). f.width) e) ∙ n in
@@ -143,7 +149,8 @@ whole_same a high low z h l b =
     ∙ ap (λ (k : ℕ). record { width = k; value = slice_value high low a.value }) n
 
 -- a slice of a slice is one slice of what that was taken from
-pub part_same : (a x : Signal) (high low h l : ℕ) → a ≡ slice_signal high low x → l ≤ h → h < a.width → slice_signal (low + h) (low + l) x ≡ slice_signal h l a
+pub part_same : (a x : Signal) (high low h l : ℕ)
+    → a ≡ slice_signal high low x → l ≤ h → h < a.width → slice_signal (low + h) (low + l) x ≡ slice_signal h l a
 unfolding slice_value
 part_same a x high low h l e order top =
     let w : a.width ≡ high + 1 - low = ap (λ (f : Signal). f.width) e in

@@ -42,12 +42,14 @@ cell_placed : (c : Circuit) (ins : List ℕ) (ns : List Extent) (k : ℕ) → Ha
 unfolding IsThere
 cell_placed c ins ns k h t = omega (arith, h.count)
 
-cell_width : (c : Circuit) (ins : List ℕ) (ns : List Extent) (k : ℕ) → HaveExtents c ins ns → IsThere c (CellNet k) → (extent_in ns k).width ≡ (signal c (CellNet k)).width
+cell_width : (c : Circuit) (ins : List ℕ) (ns : List Extent) (k : ℕ) → HaveExtents c ins ns → IsThere c (CellNet k)
+    → (extent_in ns k).width ≡ (signal c (CellNet k)).width
 unfolding IsThere
 cell_width c ins ns k h t = (h.cells k t).width
 
 -- the number of an input that is there is below the count of the widths that are kept
-pub input_in : (c v : Circuit) (ins : List ℕ) (ns : List Extent) (x : Net) (i : ℕ) → HaveExtents c ins ns → c ≡ v → x ≡ Input i → IsThere v x → i < length ins
+pub input_in : (c v : Circuit) (ins : List ℕ) (ns : List Extent) (x : Net) (i : ℕ) → HaveExtents c ins ns
+    → c ≡ v → x ≡ Input i → IsThere v x → i < length ins
 input_in c v ins ns x i h e f t = input_below c ins ns i h (there_as c v x (Input i) e f t)
 
 -- the number of a register whose net is there is below the count of registers
@@ -55,11 +57,13 @@ pub reg_in : (c v : Circuit) (x : Net) (r : ℕ) → c ≡ v → x ≡ RegNet r 
 reg_in c v x r e f t = there_reg c r (there_as c v x (RegNet r) e f t)
 
 -- the number of a cell that is there is below the count of cells of which something is kept
-pub cell_in : (c v : Circuit) (ins : List ℕ) (ns : List Extent) (x : Net) (k : ℕ) → HaveExtents c ins ns → c ≡ v → x ≡ CellNet k → IsThere v x → k < length ns
+pub cell_in : (c v : Circuit) (ins : List ℕ) (ns : List Extent) (x : Net) (k : ℕ) → HaveExtents c ins ns
+    → c ≡ v → x ≡ CellNet k → IsThere v x → k < length ns
 cell_in c v ins ns x k h e f t = cell_placed c ins ns k h (there_as c v x (CellNet k) e f t)
 
 -- the width that is kept of an input is that of its net
-pub input_is : (c v : Circuit) (ins : List ℕ) (ns : List Extent) (x : Net) (i : ℕ) → HaveExtents c ins ns → c ≡ v → x ≡ Input i → get_or ins i 0 ≡ (signal v x).width
+pub input_is : (c v : Circuit) (ins : List ℕ) (ns : List Extent) (x : Net) (i : ℕ) → HaveExtents c ins ns
+    → c ≡ v → x ≡ Input i → get_or ins i 0 ≡ (signal v x).width
 input_is c v ins ns x i h e f = input_width c ins ns i h ∙ width_as c v x (Input i) e f
 
 -- the width of a register is that of its net
@@ -67,11 +71,13 @@ pub reg_is : (c v : Circuit) (x : Net) (r : ℕ) → c ≡ v → x ≡ RegNet r 
 reg_is c v x r e f = reg_width c r ∙ width_as c v x (RegNet r) e f
 
 -- the width that is kept of a cell is that of its net
-pub cell_is : (c v : Circuit) (ins : List ℕ) (ns : List Extent) (x : Net) (k : ℕ) → HaveExtents c ins ns → c ≡ v → x ≡ CellNet k → IsThere v x → (extent_in ns k).width ≡ (signal v x).width
+pub cell_is : (c v : Circuit) (ins : List ℕ) (ns : List Extent) (x : Net) (k : ℕ) → HaveExtents c ins ns
+    → c ≡ v → x ≡ CellNet k → IsThere v x → (extent_in ns k).width ≡ (signal v x).width
 cell_is c v ins ns x k h e f t = cell_width c ins ns k h (there_as c v x (CellNet k) e f t) ∙ width_as c v x (CellNet k) e f
 
 -- a cell of which it is kept that it is below is below
-pub cell_below : (c v : Circuit) (ins : List ℕ) (ns : List Extent) (x : Net) (k : ℕ) → HaveExtents c ins ns → c ≡ v → x ≡ CellNet k → IsThere v x → (extent_in ns k).is_below ≡ true → IsBelow (signal v x)
+pub cell_below : (c v : Circuit) (ins : List ℕ) (ns : List Extent) (x : Net) (k : ℕ) → HaveExtents c ins ns
+    → c ≡ v → x ≡ CellNet k → IsThere v x → (extent_in ns k).is_below ≡ true → IsBelow (signal v x)
 unfolding IsThere
 cell_below c v ins ns x k h e f t b =
     let s : signal c (CellNet k) ≡ signal v x = cc (e, f) in
@@ -103,7 +109,8 @@ pub wide : (c : Circuit) → IsWell c → (x : Net) → IsThere c x → IsWidth 
 wide c w x t = let b = bounded c (nothing c) w (nothing_suits c) x t in record { low = b.low; high = b.high }
 
 -- a slice that fits a well formed circuit has fewer than 256 bits
-pub slice_fits : (c v : Circuit) (g : Cell) (a : Net) (high low : ℕ) → IsWell c → c ≡ v → g ≡ Slice a high low → Fits v g → high - low + 1 < 256
+pub slice_fits : (c v : Circuit) (g : Cell) (a : Net) (high low : ℕ) → IsWell c
+    → c ≡ v → g ≡ Slice a high low → Fits v g → high - low + 1 < 256
 slice_fits c v g a high low w e f t =
     let r : Fits c (Slice a high low) = subst (λ y. Fits c y) f (subst (λ d. Fits d g) (sym e) t) in
     let b = wide c w a r.0 in

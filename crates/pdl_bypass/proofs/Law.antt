@@ -32,11 +32,13 @@ slots_law stands n r h = record {
 }
 
 -- the word of the memory
-word_held : (array : Option ℕ) (s : State) (ws : List ℕ) → is_some array ≡ true → HasWords array s ws → slice_index_or s.arrays (first_array array) [] ≡ ws
+word_held : (array : Option ℕ) (s : State) (ws : List ℕ)
+    → is_some array ≡ true → HasWords array s ws → slice_index_or s.arrays (first_array array) [] ≡ ws
 word_held None s ws i h = absurd (cc i)
 word_held (Some m) s ws i h = h
 
-word_is : (l : Layout) (a : Signal) (s : State) (ws : List ℕ) → is_some l.array ≡ true → HasWords l.array s ws → (word_signal l a).value s ≡ slice_index ws (a.value s)
+word_is : (l : Layout) (a : Signal) (s : State) (ws : List ℕ)
+    → is_some l.array ≡ true → HasWords l.array s ws → (word_signal l a).value s ≡ slice_index ws (a.value s)
 unfolding read_value
 word_is l a s ws i h = ap (λ us. slice_index us (a.value s)) (word_held l.array s ws i h)
 
@@ -45,7 +47,9 @@ abbrev ready_of : Kind → List Entry → ℕ → ℕ
 ready_of R es a = bit (is_some (youngest es a (Some 0)))
 ready_of W es a = bit true
 
-picks : (l : Layout) (u : Kind) (a t : Signal) (s : State) (x : LockState) (d : ℕ) → IsSized l → HasEntries l (content_signal l) s x → Seeks l s x t d → (youngest_look u (youngest_ready l a t)).value s ≡ ready_of u (take d x.entries) (a.value s)
+picks : (l : Layout) (u : Kind) (a t : Signal) (s : State) (x : LockState) (d : ℕ) → IsSized l
+    → HasEntries l (content_signal l) s x → Seeks l s x t d
+    → (youngest_look u (youngest_ready l a t)).value s ≡ ready_of u (take d x.entries) (a.value s)
 unfolding const_value
 picks l R a t s x d z h k = youngest_looked l (content_signal l) s x a t d z h k
 picks l W a t s x d z h k = refl
@@ -55,7 +59,8 @@ ready_is R x t a = refl
 ready_is W x t a = refl
 
 -- a look at the youngest older write to the address keeps the law of a bypass lock's look
-pub look_law : (l : Layout) (u : Kind) (a t : Signal) → IsSized l → is_some l.array ≡ true → t.width ≡ l.ticket
+pub look_law : (l : Layout) (u : Kind) (a t : Signal) → IsSized l
+    → is_some l.array ≡ true → t.width ≡ l.ticket
     → LookLaw (Stands l) Bypass l.ticket u a t (youngest_look u (youngest_ready l a t)) (Some (youngest_value l (content_signal l) (word_signal l a) a t))
 look_law l u a t z i w = record {
   answers = λ s x n h k e. picks l u a t s x (n - x.base) z h.entries (seeks_covered l (content_signal l) s x t n z h.entries w k e) ∙ ready_is u x n (a.value s);
@@ -65,7 +70,8 @@ look_law l u a t z i w = record {
 }
 
 -- such a look keeps the law of a look with the ticket of a cycle's second reservation
-pub late_law : (l : Layout) (u : Kind) (a t : Signal) → IsSized l → is_some l.array ≡ true → t.width ≡ l.ticket
+pub late_law : (l : Layout) (u : Kind) (a t : Signal) → IsSized l
+    → is_some l.array ≡ true → t.width ≡ l.ticket
     → LateLookLaw (Stands l) Bypass l.size l.ticket u a t (youngest_look u (youngest_ready l a t)) (Some (youngest_value l (content_signal l) (word_signal l a) a t))
 late_law l u a t z i w = record {
   answers = λ two s x h e. picks l u a t s x (length x.entries) z h.entries (seeks_late l (content_signal l) s x t z h.entries w two e) ∙ ap (λ zs. ready_of u zs (a.value s)) (all_older x) ∙ ready_is u x (next_ticket x + 1) (a.value s);

@@ -6,7 +6,8 @@ use Rattle.pdl_rules.specs.Places.{places}
 use Rattle.pdl_rules.specs.Refusal.{broken_line, refused_at, first_broken}
 
 -- where none of two lists of rules is broken, none of the first is, and none of the second
-pub kept_parts : (rs others : List Rule) (p : Pipe) → first_broken (rs ++ others) p ≡ None → (first_broken rs p ≡ None) × (first_broken others p ≡ None)
+pub kept_parts : (rs others : List Rule) (p : Pipe)
+    → first_broken (rs ++ others) p ≡ None → (first_broken rs p ≡ None) × (first_broken others p ≡ None)
 kept_parts [] others p e = (refl, e)
 kept_parts (r ∷ rs) others p e = go (broken_line r p [] (places p)) (λ h. kept_parts rs others p h) e
   where

@@ -78,7 +78,8 @@ of_view (Some s) (Some i) (Some t) d c e = few_mapped (λ k. view s i k d) (numb
 of_none : (c : Command) → None ≡ Some c → IsFew c
 of_none c e = absurd (cc e)
 
-of_if : (b : Bool) (o rest : Option Command) (c : Command) → (o ≡ Some c → IsFew c) → (rest ≡ Some c → IsFew c) → (if b then o else rest) ≡ Some c → IsFew c
+of_if : (b : Bool) (o rest : Option Command) (c : Command)
+    → (o ≡ Some c → IsFew c) → (rest ≡ Some c → IsFew c) → (if b then o else rest) ≡ Some c → IsFew c
 of_if true o rest c h k e = h e
 of_if false o rest c h k e = k e
 

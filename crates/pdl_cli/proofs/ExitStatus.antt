@@ -79,13 +79,15 @@ one_table held table v w a b =
     let l : documents.table b.table_text ≡ Ok w = b.taken in cc
 
 -- a table that is taken is no wrong file
-pub table_right : (held : Held) (table : List ℕ) (rule : Rule) (insn : ℕ) (v : TableValue) → IsTabled (Some held) table v → IsWrongTable (Some held) table rule insn → ⊥
+pub table_right : (held : Held) (table : List ℕ) (rule : Rule) (insn : ℕ) (v : TableValue)
+    → IsTabled (Some held) table v → IsWrongTable (Some held) table rule insn → ⊥
 table_right held table rule insn v a w =
     let t : w.table_text ≡ a.table_text = one_text held table w.table_text a.table_text w.table_given a.table_given in
     let k : documents.table a.table_text ≡ Err (table_error.Refused rule insn) = subst (λ (x : List ℕ). documents.table x ≡ Err (table_error.Refused rule insn)) t w.refused in
     let l : documents.table a.table_text ≡ Ok v = a.taken in absurd cc
 
-program_right : (held : Held) (table program text : List ℕ) (rule : Rule) (line : ℕ) → IsAssembled (Some held) table program text → IsWrongText (Some held) table program rule line → ⊥
+program_right : (held : Held) (table program text : List ℕ) (rule : Rule) (line : ℕ)
+    → IsAssembled (Some held) table program text → IsWrongText (Some held) table program rule line → ⊥
 program_right held table program text rule line a w =
     let v : w.value ≡ a.value = one_table held table w.value a.value w.tabled a.tabled in
     let t : w.program_text ≡ a.program_text = one_text held program w.program_text a.program_text w.program_given a.program_given in
@@ -95,15 +97,19 @@ program_right held table program text rule line a w =
     let l : assembly.image a.value a.program_text ≡ Ok text = a.made in absurd cc
 
 -- the delay file that replies are taken from isn't refused
-replies_right : (held : Held) (delays : Option (List ℕ)) (count cycles : ℕ) (schedule : List ℕ) (rule : Rule) (line : ℕ) → IsSchedule (Some held) delays count cycles schedule → DelaysRefused (Some held) delays count rule line → ⊥
+replies_right : (held : Held) (delays : Option (List ℕ)) (count cycles : ℕ) (schedule : List ℕ) (rule : Rule) (line : ℕ)
+    → IsSchedule (Some held) delays count cycles schedule → DelaysRefused (Some held) delays count rule line → ⊥
 replies_right held None count cycles schedule rule line a w = w
 replies_right held (Some name) count cycles schedule rule line a w =
     let t : w.0 ≡ a.0 = one_text held name w.0 a.0 w.1 a.2 in
     let k : delay_rows count a.0 ≡ Err (file.Refused rule line) = subst (λ (x : List ℕ). delay_rows count x ≡ Err (file.Refused rule line)) t w.2 in
     let l : delay_rows count a.0 ≡ Ok a.1 = a.3 in absurd cc
 
-run_right : (held : Held) (source image' : List ℕ) (delays : Option (List ℕ)) (cycles : ℕ) (schedule : List ℕ) (rule : Rule) (line : ℕ) (p : Pipe) (words : List (List ℕ))
-    → IsLoaded (Some held) source image' p words → IsSchedule (Some held) delays (delayed_count (flat p)) cycles schedule → IsWrongRun (Some held) source image' delays rule line → ⊥
+run_right : (held : Held) (source image' : List ℕ) (delays : Option (List ℕ)) (cycles : ℕ) (schedule : List ℕ)
+    (rule : Rule) (line : ℕ) (p : Pipe) (words : List (List ℕ))
+    → IsLoaded (Some held) source image' p words
+    → IsSchedule (Some held) delays (delayed_count (flat p)) cycles schedule
+    → IsWrongRun (Some held) source image' delays rule line → ⊥
 run_right held source image' delays cycles schedule rule line p words l a (inl w) = none_wrong held source image' rule line p words l w
 run_right held source image' delays cycles schedule rule line p words l a (inr w) =
     let b : w.loaded.source_text ≡ l.source_text = one_text held source w.loaded.source_text l.source_text w.loaded.source_given l.source_given in
@@ -118,13 +124,15 @@ one_held held v n m a b =
     one_netlist a.netlist_text n m a.read (subst (λ (x : List ℕ). Reads x m) (sym t) b.read)
 
 -- a netlist that is read is no wrong file
-pub netlist_right : (held : Held) (v : List ℕ) (rule : Rule) (line : ℕ) (n : Netlist) → HoldsNetlist (Some held) v n → IsWrongNetlist (Some held) v rule line → ⊥
+pub netlist_right : (held : Held) (v : List ℕ) (rule : Rule) (line : ℕ) (n : Netlist) → HoldsNetlist (Some held) v n
+    → IsWrongNetlist (Some held) v rule line → ⊥
 netlist_right held v rule line n a w =
     let t : w.netlist_text ≡ a.netlist_text = one_text held v w.netlist_text a.netlist_text w.netlist_given a.netlist_given in
     read_right a.netlist_text n rule line a.read (subst (λ (x : List ℕ). Breaks x rule line) t w.refused)
 
 -- an image that is taken for a netlist is no wrong file
-pub start_right : (held : Held) (v image' : List ℕ) (n : Netlist) (words : List (List ℕ)) (rule : Rule) (line : ℕ) → IsStarted (Some held) v image' n words → IsWrongStart (Some held) v image' rule line → ⊥
+pub start_right : (held : Held) (v image' : List ℕ) (n : Netlist) (words : List (List ℕ)) (rule : Rule) (line : ℕ)
+    → IsStarted (Some held) v image' n words → IsWrongStart (Some held) v image' rule line → ⊥
 start_right held v image' m words rule line s w =
     let n : w.netlist ≡ m = one_held held v w.netlist m w.held s.held in
     let i : w.image_text ≡ s.image_text = one_text held image' w.image_text s.image_text w.image_given s.image_given in
@@ -133,7 +141,8 @@ start_right held v image' m words rule line s w =
     (subst (λ (k : Netlist). image k.mems w.image_text ≡ Err (file.Refused rule line)) n w.refused) in
     let k : image m.mems s.image_text ≡ Ok words = s.taken in absurd cc
 
-sim_right : (held : Held) (v image' : List ℕ) (cycles : ℕ) (delays : Option (List ℕ)) (text : List ℕ) (rule : Rule) (line : ℕ) → IsSimulated (Some held) v image' cycles delays text → IsWrongSim (Some held) v image' delays rule line → ⊥
+sim_right : (held : Held) (v image' : List ℕ) (cycles : ℕ) (delays : Option (List ℕ)) (text : List ℕ) (rule : Rule) (line : ℕ)
+    → IsSimulated (Some held) v image' cycles delays text → IsWrongSim (Some held) v image' delays rule line → ⊥
 sim_right held v image' cycles delays text rule line s (inl w) = netlist_right held v rule line s.netlist s.started.held w
 sim_right held v image' cycles delays text rule line s (inr (inl w)) = start_right held v image' s.netlist s.words rule line s.started w
 sim_right held v image' cycles delays text rule line s (inr (inr w)) =
@@ -141,7 +150,8 @@ sim_right held v image' cycles delays text rule line s (inr (inr w)) =
     replies_right held delays (length (delayed_mems s.netlist)) cycles s.schedule rule line s.replies (subst (λ (k : Netlist). DelaysRefused (Some held) delays (length (delayed_mems k)) rule line) n w.refused)
 
 -- a command that writes its text has no wrong file
-exclusive_told : (held : Held) (command : Command) (text : List ℕ) (rule : Rule) (position : Position) → Writes (Some held) command text → IsWrongFor (Some held) command rule position → ⊥
+exclusive_told : (held : Held) (command : Command) (text : List ℕ) (rule : Rule) (position : Position)
+    → Writes (Some held) command text → IsWrongFor (Some held) command rule position → ⊥
 exclusive_told held (check source) text rule (Line n) o w = source_right held source rule n o.source_text o.pipe o.source_given o.accepted w
 exclusive_told held (check source) text rule (Insn n) o w = w
 exclusive_told held (run source image' cycles delays) text rule (Line n) o w = run_right held source image' delays cycles o.schedule rule n o.pipe o.words o.loaded o.replies w
@@ -163,10 +173,12 @@ exclusive_told held (asm table program) text rule (Line n) o (inr w) = program_r
 exclusive_told held (asm table program) text rule (Insn n) o (inl w) = table_right held table rule n o.value o.tabled w
 exclusive_told held (asm table program) text rule (Insn n) o (inr w) = w
 
-exclusive : (holds : Option Held) (held : Held) (command : Command) (text : List ℕ) (rule : Rule) (position : Position) → holds ≡ Some held → Writes holds command text → IsWrongFor (Some held) command rule position → ⊥
+exclusive : (holds : Option Held) (held : Held) (command : Command) (text : List ℕ) (rule : Rule) (position : Position)
+    → holds ≡ Some held → Writes holds command text → IsWrongFor (Some held) command rule position → ⊥
 exclusive holds held command text rule position h o w = exclusive_told held command text rule position (subst (λ (k : Option Held). Writes k command text) h o) w
 
-of_command : (command : Command) (s : Seen) (o : Result (Unit {0}) Failure) → Explains (Some command) s o → IsDecided command s (status_of o)
+of_command : (command : Command) (s : Seen) (o : Result (Unit {0}) Failure) → Explains (Some command) s o
+    → IsDecided command s (status_of o)
 of_command command s (Ok x) e = record {
   usage = λ u. absurd (cc u);
   wrong = λ held rule position h w no. absurd (exclusive s.holds held command e.0 rule position h e.1 w);

@@ -35,7 +35,8 @@ use Rattle.pdl_rules.specs.Memories.{infos_of}
 same_some : (a b : Refused) → Some a ≡ Some b → a ≡ b
 same_some a b e = cc e
 
-one_refused : (o : Option Refused) (r s : Rule) (n m : ℕ) → o ≡ Some (record { rule = r; line = n }) → o ≡ Some (record { rule = s; line = m }) → (r ≡ s) × (n ≡ m)
+one_refused : (o : Option Refused) (r s : Rule) (n m : ℕ)
+    → o ≡ Some (record { rule = r; line = n }) → o ≡ Some (record { rule = s; line = m }) → (r ≡ s) × (n ≡ m)
 one_refused o r s n m d e =
     let h = same_some (record { rule = r; line = n }) (record { rule = s; line = m }) (sym d ∙ e) in
     (ap (λ (x : Refused). x.rule) h, ap (λ (x : Refused). x.line) h)
@@ -49,12 +50,14 @@ source_one b r s n m (inr x) (inr y) =
     let k : refusal b y.0 ≡ Some (record { rule = r; line = n }) = subst (λ (p : Pipe). refusal b p ≡ Some (record { rule = r; line = n })) q x.2 in
     one_refused (refusal b y.0) r s n m k y.2
 
-wrong_source : (held : Held) (source : List ℕ) (r s : Rule) (n m : ℕ) → IsWrongSource (Some held) source r n → IsWrongSource (Some held) source s m → (r ≡ s) × (n ≡ m)
+wrong_source : (held : Held) (source : List ℕ) (r s : Rule) (n m : ℕ) → IsWrongSource (Some held) source r n
+    → IsWrongSource (Some held) source s m → (r ≡ s) × (n ≡ m)
 wrong_source held source r s n m v w =
     let t : v.source_text ≡ w.source_text = one_text held source v.source_text w.source_text v.source_given w.source_given in
     source_one w.source_text r s n m (subst (λ (b : List ℕ). SourceRefused b r n) t v.refused) w.refused
 
-wrong_image : (held : Held) (source image' : List ℕ) (r s : Rule) (n m : ℕ) → IsWrongImage (Some held) source image' r n → IsWrongImage (Some held) source image' s m → (r ≡ s) × (n ≡ m)
+wrong_image : (held : Held) (source image' : List ℕ) (r s : Rule) (n m : ℕ) → IsWrongImage (Some held) source image' r n
+    → IsWrongImage (Some held) source image' s m → (r ≡ s) × (n ≡ m)
 wrong_image held source image' r s n m v w =
     let b : v.source_text ≡ w.source_text = one_text held source v.source_text w.source_text v.source_given w.source_given in
     let q : v.pipe ≡ w.pipe = one_tree w.source_text v.pipe w.pipe (subst (λ (x : List ℕ). IsText x v.pipe) b v.accepted.text) w.accepted.text in
@@ -65,13 +68,15 @@ wrong_image held source image' r s n m v w =
     let l : image (infos_of w.pipe.mems) w.image_text ≡ Err (file.Refused s m) = w.refused in
     (cc, cc)
 
-wrong_run : (held : Held) (source image' : List ℕ) (r s : Rule) (n m : ℕ) → IsWrong (Some held) source image' r n → IsWrong (Some held) source image' s m → (r ≡ s) × (n ≡ m)
+wrong_run : (held : Held) (source image' : List ℕ) (r s : Rule) (n m : ℕ) → IsWrong (Some held) source image' r n
+    → IsWrong (Some held) source image' s m → (r ≡ s) × (n ≡ m)
 wrong_run held source image' r s n m (inl v) (inl w) = wrong_source held source r s n m v w
 wrong_run held source image' r s n m (inl v) (inr w) = absurd (source_right held source r n w.source_text w.pipe w.source_given w.accepted v)
 wrong_run held source image' r s n m (inr v) (inl w) = absurd (source_right held source s m v.source_text v.pipe v.source_given v.accepted w)
 wrong_run held source image' r s n m (inr v) (inr w) = wrong_image held source image' r s n m v w
 
-one_delays : (held : Held) (delays : Option (List ℕ)) (count : ℕ) (r s : Rule) (n m : ℕ) → DelaysRefused (Some held) delays count r n → DelaysRefused (Some held) delays count s m → (r ≡ s) × (n ≡ m)
+one_delays : (held : Held) (delays : Option (List ℕ)) (count : ℕ) (r s : Rule) (n m : ℕ)
+    → DelaysRefused (Some held) delays count r n → DelaysRefused (Some held) delays count s m → (r ≡ s) × (n ≡ m)
 one_delays held None count r s n m v w = absurd v
 one_delays held (Some name) count r s n m v w =
     let t : v.0 ≡ w.0 = one_text held name v.0 w.0 v.1 w.1 in
@@ -79,26 +84,32 @@ one_delays held (Some name) count r s n m v w =
     let l : delay_rows count w.0 ≡ Err (file.Refused s m) = w.2 in
     (cc, cc)
 
-wrong_delays : (held : Held) (source image' : List ℕ) (delays : Option (List ℕ)) (r s : Rule) (n m : ℕ) → IsWrongDelays (Some held) source image' delays r n → IsWrongDelays (Some held) source image' delays s m → (r ≡ s) × (n ≡ m)
+wrong_delays : (held : Held) (source image' : List ℕ) (delays : Option (List ℕ)) (r s : Rule) (n m : ℕ)
+    → IsWrongDelays (Some held) source image' delays r n → IsWrongDelays (Some held) source image' delays s m
+    → (r ≡ s) × (n ≡ m)
 wrong_delays held source image' delays r s n m v w =
     let b : v.loaded.source_text ≡ w.loaded.source_text = one_text held source v.loaded.source_text w.loaded.source_text v.loaded.source_given w.loaded.source_given in
     let q : v.pipe ≡ w.pipe = one_tree w.loaded.source_text v.pipe w.pipe (subst (λ (x : List ℕ). IsText x v.pipe) b v.loaded.accepted.text) w.loaded.accepted.text in
     one_delays held delays (delayed_count (flat w.pipe)) r s n m (subst (λ (p : Pipe). DelaysRefused (Some held) delays (delayed_count (flat p)) r n) q v.refused) w.refused
 
-wrong_replies : (held : Held) (source image' : List ℕ) (delays : Option (List ℕ)) (r s : Rule) (n m : ℕ) → IsWrongRun (Some held) source image' delays r n → IsWrongRun (Some held) source image' delays s m → (r ≡ s) × (n ≡ m)
+wrong_replies : (held : Held) (source image' : List ℕ) (delays : Option (List ℕ)) (r s : Rule) (n m : ℕ)
+    → IsWrongRun (Some held) source image' delays r n → IsWrongRun (Some held) source image' delays s m
+    → (r ≡ s) × (n ≡ m)
 wrong_replies held source image' delays r s n m (inl v) (inl w) = wrong_run held source image' r s n m v w
 wrong_replies held source image' delays r s n m (inl v) (inr w) = absurd (none_wrong held source image' r n w.pipe w.words w.loaded v)
 wrong_replies held source image' delays r s n m (inr v) (inl w) = absurd (none_wrong held source image' s m v.pipe v.words v.loaded w)
 wrong_replies held source image' delays r s n m (inr v) (inr w) = wrong_delays held source image' delays r s n m v w
 
-wrong_table : (held : Held) (table : List ℕ) (r s : Rule) (n m : ℕ) → IsWrongTable (Some held) table r n → IsWrongTable (Some held) table s m → (r ≡ s) × (n ≡ m)
+wrong_table : (held : Held) (table : List ℕ) (r s : Rule) (n m : ℕ) → IsWrongTable (Some held) table r n
+    → IsWrongTable (Some held) table s m → (r ≡ s) × (n ≡ m)
 wrong_table held table r s n m v w =
     let t : v.table_text ≡ w.table_text = one_text held table v.table_text w.table_text v.table_given w.table_given in
     let k : documents.table w.table_text ≡ Err (table_error.Refused r n) = subst (λ (x : List ℕ). documents.table x ≡ Err (table_error.Refused r n)) t v.refused in
     let l : documents.table w.table_text ≡ Err (table_error.Refused s m) = w.refused in
     (cc, cc)
 
-wrong_text : (held : Held) (table program : List ℕ) (r s : Rule) (n m : ℕ) → IsWrongText (Some held) table program r n → IsWrongText (Some held) table program s m → (r ≡ s) × (n ≡ m)
+wrong_text : (held : Held) (table program : List ℕ) (r s : Rule) (n m : ℕ) → IsWrongText (Some held) table program r n
+    → IsWrongText (Some held) table program s m → (r ≡ s) × (n ≡ m)
 wrong_text held table program r s n m v w =
     let x : v.value ≡ w.value = one_table held table v.value w.value v.tabled w.tabled in
     let t : v.program_text ≡ w.program_text = one_text held program v.program_text w.program_text v.program_given w.program_given in
@@ -108,12 +119,14 @@ wrong_text held table program r s n m v w =
     let l : assembly.image w.value w.program_text ≡ Err (asm_error.Refused s m) = w.refused in
     (cc, cc)
 
-wrong_netlist : (held : Held) (v : List ℕ) (r s : Rule) (n m : ℕ) → IsWrongNetlist (Some held) v r n → IsWrongNetlist (Some held) v s m → (r ≡ s) × (n ≡ m)
+wrong_netlist : (held : Held) (v : List ℕ) (r s : Rule) (n m : ℕ) → IsWrongNetlist (Some held) v r n
+    → IsWrongNetlist (Some held) v s m → (r ≡ s) × (n ≡ m)
 wrong_netlist held v r s n m a b =
     let t : a.netlist_text ≡ b.netlist_text = one_text held v a.netlist_text b.netlist_text a.netlist_given b.netlist_given in
     one_netlist_refusal b.netlist_text r s n m (subst (λ (x : List ℕ). Breaks x r n) t a.refused) b.refused
 
-wrong_start : (held : Held) (v image' : List ℕ) (r s : Rule) (n m : ℕ) → IsWrongStart (Some held) v image' r n → IsWrongStart (Some held) v image' s m → (r ≡ s) × (n ≡ m)
+wrong_start : (held : Held) (v image' : List ℕ) (r s : Rule) (n m : ℕ) → IsWrongStart (Some held) v image' r n
+    → IsWrongStart (Some held) v image' s m → (r ≡ s) × (n ≡ m)
 wrong_start held v image' r s n m a b =
     let q : a.netlist ≡ b.netlist = one_held held v a.netlist b.netlist a.held b.held in
     let i : a.image_text ≡ b.image_text = one_text held image' a.image_text b.image_text a.image_given b.image_given in
@@ -123,12 +136,15 @@ wrong_start held v image' r s n m a b =
     let l : image b.netlist.mems b.image_text ≡ Err (file.Refused s m) = b.refused in
     (cc, cc)
 
-wrong_sim_replies : (held : Held) (v image' : List ℕ) (delays : Option (List ℕ)) (r s : Rule) (n m : ℕ) → IsWrongReplies (Some held) v image' delays r n → IsWrongReplies (Some held) v image' delays s m → (r ≡ s) × (n ≡ m)
+wrong_sim_replies : (held : Held) (v image' : List ℕ) (delays : Option (List ℕ)) (r s : Rule) (n m : ℕ)
+    → IsWrongReplies (Some held) v image' delays r n → IsWrongReplies (Some held) v image' delays s m
+    → (r ≡ s) × (n ≡ m)
 wrong_sim_replies held v image' delays r s n m a b =
     let q : a.netlist ≡ b.netlist = one_held held v a.netlist b.netlist a.started.held b.started.held in
     one_delays held delays (length (delayed_mems b.netlist)) r s n m (subst (λ (x : Netlist). DelaysRefused (Some held) delays (length (delayed_mems x)) r n) q a.refused) b.refused
 
-wrong_sim : (held : Held) (v image' : List ℕ) (delays : Option (List ℕ)) (r s : Rule) (n m : ℕ) → IsWrongSim (Some held) v image' delays r n → IsWrongSim (Some held) v image' delays s m → (r ≡ s) × (n ≡ m)
+wrong_sim : (held : Held) (v image' : List ℕ) (delays : Option (List ℕ)) (r s : Rule) (n m : ℕ)
+    → IsWrongSim (Some held) v image' delays r n → IsWrongSim (Some held) v image' delays s m → (r ≡ s) × (n ≡ m)
 wrong_sim held v image' delays r s n m (inl a) (inl b) = wrong_netlist held v r s n m a b
 wrong_sim held v image' delays r s n m (inl a) (inr (inl b)) = absurd (netlist_right held v r n b.netlist b.held a)
 wrong_sim held v image' delays r s n m (inl a) (inr (inr b)) = absurd (netlist_right held v r n b.netlist b.started.held a)
@@ -141,7 +157,9 @@ wrong_sim held v image' delays r s n m (inr (inr a)) (inr (inr b)) = wrong_sim_r
 
 -- THE COMMANDS
 
-wrong_asm : (held : Held) (table program : List ℕ) (r s : Rule) (p q : Position) → IsWrongFor (Some held) (asm table program) r p → IsWrongFor (Some held) (asm table program) s q → (r ≡ s) × (p ≡ q)
+wrong_asm : (held : Held) (table program : List ℕ) (r s : Rule) (p q : Position)
+    → IsWrongFor (Some held) (asm table program) r p → IsWrongFor (Some held) (asm table program) s q
+    → (r ≡ s) × (p ≡ q)
 wrong_asm held table program r s (Line n) q (inl v) w = absurd v
 wrong_asm held table program r s (Insn n) q (inr v) w = absurd v
 wrong_asm held table program r s (Line n) (Line m) (inr v) (inl w) = absurd w
@@ -154,7 +172,8 @@ wrong_asm held table program r s (Insn n) (Insn m) (inl v) (inl w) = let h = wro
 wrong_asm held table program r s (Insn n) (Insn m) (inl v) (inr w) = absurd w
 
 -- a command over told files is refused by one rule at most, at one position
-pub one_refusal : (held : Held) (command : Command) (r s : Rule) (p q : Position) → IsWrongFor (Some held) command r p → IsWrongFor (Some held) command s q → (r ≡ s) × (p ≡ q)
+pub one_refusal : (held : Held) (command : Command) (r s : Rule) (p q : Position) → IsWrongFor (Some held) command r p
+    → IsWrongFor (Some held) command s q → (r ≡ s) × (p ≡ q)
 one_refusal held (check source) r s (Insn n) q v w = absurd v
 one_refusal held (check source) r s (Line n) (Insn m) v w = absurd w
 one_refusal held (check source) r s (Line n) (Line m) v w = let h = wrong_source held source r s n m v w in (h.0, ap Line h.1)

@@ -37,7 +37,8 @@ use Rattle.pdl_rules.specs.Memories.{infos_of}
 
 -- ---- images that are taken
 
-taken_after : (mems : List MemInfo) (text : List ℕ) (words rest : List (List ℕ)) (o : Option FileError) → AllPairs (λ a b. a.name ≢ b.name) mems → image mems text ≡ Ok words
+taken_after : (mems : List MemInfo) (text : List ℕ) (words rest : List (List ℕ)) (o : Option FileError)
+    → AllPairs (λ a b. a.name ≢ b.name) mems → image mems text ≡ Ok words
     → after_header (image_lines.lines text) ≡ Some rest → first_wrong mems [] 2 rest ≡ o → IsImage mems words
 taken_after mems text words rest None distinct e f g =
     let k = image_read mems text rest (all_slots mems rest) f g refl in
@@ -45,15 +46,17 @@ taken_after mems text words rest None distinct e f g =
 taken_after mems text words rest (Some refusal) distinct e f g =
     let k = wrong_line mems text rest refusal f g in absurd (cc (e, k))
 
-taken_image : (mems : List MemInfo) (text : List ℕ) (words : List (List ℕ)) (o : Option (List (List ℕ))) → AllPairs (λ a b. a.name ≢ b.name) mems → image mems text ≡ Ok words
-    → after_header (image_lines.lines text) ≡ o → IsImage mems words
+taken_image : (mems : List MemInfo) (text : List ℕ) (words : List (List ℕ)) (o : Option (List (List ℕ)))
+    → AllPairs (λ a b. a.name ≢ b.name) mems → image mems text ≡ Ok words → after_header (image_lines.lines text) ≡ o
+    → IsImage mems words
 taken_image mems text words None distinct e f = let k = no_header mems text f in absurd (cc (e, k))
 taken_image mems text words (Some rest) distinct e f = taken_after mems text words rest (first_wrong mems [] 2 rest) distinct e f refl
 
 -- ---- images in another order of memories
 
 -- what is taken in the pipe's order is taken in the netlist's
-taken_from : (p : flat_form.Pipe) (r : Result (List (List ℕ)) FileError) (words : List (List ℕ)) → taken_in_order p r ≡ Ok words → (start : List (List ℕ)) × (r ≡ Ok start) × (in_order p start ≡ words)
+taken_from : (p : flat_form.Pipe) (r : Result (List (List ℕ)) FileError) (words : List (List ℕ))
+    → taken_in_order p r ≡ Ok words → (start : List (List ℕ)) × (r ≡ Ok start) × (in_order p start ≡ words)
 taken_from p (Ok start) words e = let k : in_order p start ≡ words = cc e in (start, refl, k)
 taken_from p (Err f) words e = absurd (cc e)
 
@@ -189,13 +192,15 @@ module _ (held : Held) (source v image' text : List ℕ) (cycles : ℕ) (delays 
         refused = subst (λ c. DelaysRefused (Some held) delays c rule line) (ap (λ (p : Pipe). delayed_count (flat p)) q ∙ sym count) w.refused;
       }))
 
-same_refusals : (held : Held) (source netlist image' text : List ℕ) (cycles : ℕ) (delays : Option (List ℕ)) → IsBuilt (Some held) source text → Gives (Some held) netlist text → (rule : Rule) (position : Position)
+same_refusals : (held : Held) (source netlist image' text : List ℕ) (cycles : ℕ) (delays : Option (List ℕ))
+    → IsBuilt (Some held) source text → Gives (Some held) netlist text → (rule : Rule) (position : Position)
     → IsWrongFor (Some held) (sim netlist image' cycles delays) rule position ↔ IsWrongFor (Some held) (run source image' cycles delays) rule position
 same_refusals held source netlist image' text cycles delays b given rule (Line n) = (run_wrong held source netlist image' text cycles delays b given rule n, sim_wrong held source netlist image' text cycles delays b given rule n)
 same_refusals held source netlist image' text cycles delays b given rule (Insn n) = (λ w. w, λ w. w)
 
 -- `sim` of what is built does what `run` of the source does
-pub same_run : (held : Held) (source netlist image' text : List ℕ) (cycles : ℕ) (delays : Option (List ℕ)) → IsBuilt (Some held) source text → Gives (Some held) netlist text
+pub same_run : (held : Held) (source netlist image' text : List ℕ) (cycles : ℕ) (delays : Option (List ℕ))
+    → IsBuilt (Some held) source text → Gives (Some held) netlist text
     → DoTheSame (Some held) (sim netlist image' cycles delays) (run source image' cycles delays)
 same_run held source netlist image' text cycles delays b given = record {
   writes = λ t. (run_writes held source netlist image' text cycles delays b given t, sim_writes held source netlist image' text cycles delays b given t);

@@ -139,19 +139,23 @@ option_without_value : line (codes "run" ∷ codes "a" ∷ codes "b" ∷ codes "
 unfolding clap_on_literals line
 option_without_value = refl
 
-option_before : line (codes "run" ∷ codes "--delays=f" ∷ codes "a" ∷ codes "b" ∷ codes "5" ∷ []) ≡ Some (run (codes "a") (codes "b") 5 (Some (codes "f")))
+option_before : line (codes "run" ∷ codes "--delays=f" ∷ codes "a" ∷ codes "b" ∷ codes "5" ∷ [])
+    ≡ Some (run (codes "a") (codes "b") 5 (Some (codes "f")))
 unfolding clap_on_literals line
 option_before = refl
 
-option_between : line (codes "sim" ∷ codes "a" ∷ codes "--delays" ∷ codes "f" ∷ codes "b" ∷ codes "5" ∷ []) ≡ Some (sim (codes "a") (codes "b") 5 (Some (codes "f")))
+option_between : line (codes "sim" ∷ codes "a" ∷ codes "--delays" ∷ codes "f" ∷ codes "b" ∷ codes "5" ∷ [])
+    ≡ Some (sim (codes "a") (codes "b") 5 (Some (codes "f")))
 unfolding clap_on_literals line
 option_between = refl
 
-option_after : line (codes "wave" ∷ codes "a" ∷ codes "b" ∷ codes "5" ∷ codes "--delays" ∷ codes "f" ∷ []) ≡ Some (wave (codes "a") (codes "b") 5 (Some (codes "f")))
+option_after : line (codes "wave" ∷ codes "a" ∷ codes "b" ∷ codes "5" ∷ codes "--delays" ∷ codes "f" ∷ [])
+    ≡ Some (wave (codes "a") (codes "b") 5 (Some (codes "f")))
 unfolding clap_on_literals line
 option_after = refl
 
-option_twice : line (codes "run" ∷ codes "a" ∷ codes "b" ∷ codes "5" ∷ codes "--delays" ∷ codes "f" ∷ codes "--delays" ∷ codes "g" ∷ []) ≡ None
+option_twice : line (codes "run" ∷ codes "a" ∷ codes "b" ∷ codes "5" ∷ codes "--delays" ∷ codes "f" ∷ codes "--delays" ∷ codes "g" ∷ [])
+    ≡ None
 unfolding clap_on_literals line
 option_twice = refl
 
@@ -279,7 +283,8 @@ viewed : line (codes "view" ∷ codes "a.pdl" ∷ codes "e.img" ∷ codes "17" �
 unfolding clap_on_literals line
 viewed = refl
 
-viewed_late : line (codes "view" ∷ codes "a" ∷ codes "b" ∷ codes "5" ∷ codes "--delays" ∷ codes "f" ∷ []) ≡ Some (view (codes "a") (codes "b") 5 (Some (codes "f")))
+viewed_late : line (codes "view" ∷ codes "a" ∷ codes "b" ∷ codes "5" ∷ codes "--delays" ∷ codes "f" ∷ [])
+    ≡ Some (view (codes "a") (codes "b") 5 (Some (codes "f")))
 unfolding clap_on_literals line
 viewed_late = refl
 

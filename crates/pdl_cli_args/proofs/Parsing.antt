@@ -18,20 +18,24 @@ unfolding clap_on_literals
 simple = refl
 
 -- where memory did not run out, there is a kind
-refused : (kinds : Kinds) (e : Error) (o : Option (Text × List Row)) → HasKind kinds e → kind_of e ≢ OutOfMemory → where_taken kinds o ≡ None
+refused : (kinds : Kinds) (e : Error) (o : Option (Text × List Row)) → HasKind kinds e → kind_of e ≢ OutOfMemory
+    → where_taken kinds o ≡ None
 refused [] e o (inl m) n = absurd (n m)
 refused [] e o (inr m) n = absurd m
 refused (k ∷ ks) e o h n = refl
 
 -- an error that is not for memory
-pub err_line : (a : App) (ws : List Text) (e : Error) → a ≡ pdl_app → (is_simple_and_free a ≡ true → HasKind (fault_of a ws) e) → kind_of e ≢ OutOfMemory → line ws ≡ None
+pub err_line : (a : App) (ws : List Text) (e : Error)
+    → a ≡ pdl_app → (is_simple_and_free a ≡ true → HasKind (fault_of a ws) e) → kind_of e ≢ OutOfMemory → line ws ≡ None
 unfolding line
 err_line a ws e is h n =
     ap (λ (x : App). where_taken (fault_of x ws) (subcommand_of pdl_app ws)) (sym is)
     ∙ refused (fault_of a ws) e (subcommand_of pdl_app ws) (h (ap is_simple_and_free is ∙ is_free)) n
 
 -- matches
-pub ok_line : (a : App) (ws : List Text) (m : ArgMatches) → a ≡ pdl_app → (is_simple_and_free a ≡ true → fault_of a ws ≡ []) → HasMatchesOf a ws m → line ws ≡ option_and_then command_of (subcommand_rows_of m)
+pub ok_line : (a : App) (ws : List Text) (m : ArgMatches)
+    → a ≡ pdl_app → (is_simple_and_free a ≡ true → fault_of a ws ≡ []) → HasMatchesOf a ws m
+    → line ws ≡ option_and_then command_of (subcommand_rows_of m)
 unfolding line
 ok_line a ws m is clean has =
     ap₂ where_taken (ap (λ (x : App). fault_of x ws) (sym is) ∙ clean (ap is_simple_and_free is ∙ is_free))

@@ -59,7 +59,9 @@ pub both_ok : {X Y : Type 0} (r : Result X Y) (P Q R : X → Type 0) → ((x : X
 both_ok (Ok x) P Q R f p q = f x p q
 both_ok (Err e) P Q R f p q = tt
 
-kept_by : (t : Bool) (p : Pipe) → (if t then Some (record { rule = Z1; line = 1 }) else first_broken (limits ++ after_limits) p) ≡ None → KeepsRules p
+kept_by : (t : Bool) (p : Pipe)
+    → (if t then Some (record { rule = Z1; line = 1 }) else first_broken (limits ++ after_limits) p) ≡ None
+    → KeepsRules p
 kept_by true p e = absurd (cc e)
 kept_by false p e = keeps_unbroken p e
 

@@ -33,8 +33,9 @@ use Rattle.pdl_cli_commands.proofs.AcceptedNetlists.{images, loaded}
 -- ---- texts that are written while they are made
 
 -- a text that is streamed is one of its kind
-pub streamed : (IsText : List ℕ → Type 0) (text : List ℕ) (old new : Option (List ℕ)) (before now : ℕ) (r : Result (Unit {0}) TextError) (o : Result (Unit {0}) Failure) → o ≡ of_text r → IsText text → Streams old new before now text r
-    → Streamed IsText old new before now o
+pub streamed : (IsText : List ℕ → Type 0) (text : List ℕ) (old new : Option (List ℕ)) (before now : ℕ)
+    (r : Result (Unit {0}) TextError) (o : Result (Unit {0}) Failure)
+    → o ≡ of_text r → IsText text → Streams old new before now text r → Streamed IsText old new before now o
 streamed IsText text old new before now r o e is w = subst (Streamed IsText old new before now) (sym e) (go r w)
   where
     go : (r : Result (Unit {0}) TextError) → Streams old new before now text r → Streamed IsText old new before now (of_text r)
@@ -43,14 +44,17 @@ streamed IsText text old new before now r o e is w = subst (Streamed IsText old 
     go (Err error.WriteFailed) w = (w.0, text, is, w.1)
 
 -- and one that is written once its memory is there
-pub written_streamed : (IsText : List ℕ → Type 0) (text : List ℕ) (old new : Option (List ℕ)) (before now : ℕ) (r : Result (Unit {0}) WriteFailed) (o : Result (Unit {0}) Failure) → MatchResult r (λ x. o ≡ Ok x) (λ e. o ≡ Err WriteFault) → IsText text
-    → WritesText old new r text → HasCause before now r → Streamed IsText old new before now o
+pub written_streamed : (IsText : List ℕ → Type 0) (text : List ℕ) (old new : Option (List ℕ)) (before now : ℕ)
+    (r : Result (Unit {0}) WriteFailed) (o : Result (Unit {0}) Failure)
+    → MatchResult r (λ x. o ≡ Ok x) (λ e. o ≡ Err WriteFault) → IsText text → WritesText old new r text
+    → HasCause before now r → Streamed IsText old new before now o
 written_streamed IsText text old new before now (Ok x) o e is w cause = subst (Streamed IsText old new before now) (sym e) (text, is, w)
 written_streamed IsText text old new before now (Err f) o e is w cause = subst (Streamed IsText old new before now) (sym e) (cause.failed, text, is, w)
 
 -- a command that streams what it writes where all is well
-pub streamed_explains : {T : Type 0} (command : Command) (s : Seen) (r : Result T Failure) (IsText : List ℕ → Type 0) → ((text : List ℕ) → IsText text → Writes s.holds command text) → Streamed IsText s.written s.written_now s.writes s.writes_now r
-    → Explains (Some command) s r
+pub streamed_explains : {T : Type 0} (command : Command) (s : Seen) (r : Result T Failure) (IsText : List ℕ → Type 0)
+    → ((text : List ℕ) → IsText text → Writes s.holds command text)
+    → Streamed IsText s.written s.written_now s.writes s.writes_now r → Explains (Some command) s r
 streamed_explains command s (Ok x) IsText is w = (w.0, is w.0 w.1, w.2)
 streamed_explains command s (Err Usage) IsText is w = absurd w
 streamed_explains command s (Err (Refused rule position)) IsText is w = absurd w
@@ -61,7 +65,8 @@ streamed_explains command s (Err NoMemory) IsText is w = w
 -- ---- failures before anything is written
 
 -- out has what it had
-pub silent : (command : Command) (s : Seen) (f : Failure) → Fails s.holds s.reads s.reads_now command f → s.written_now ≡ s.written → FailsAs (Some command) s f
+pub silent : (command : Command) (s : Seen) (f : Failure) → Fails s.holds s.reads s.reads_now command f
+    → s.written_now ≡ s.written → FailsAs (Some command) s f
 silent command s Usage w e = w
 silent command s (Refused rule position) w e = (w, e)
 silent command s ReadFault w e = (w, e)
@@ -69,7 +74,8 @@ silent command s WriteFault w e = absurd w
 silent command s NoMemory w e = e
 
 -- the source fails
-pub source_fails : (holds : Option Held) (before now : ℕ) (source : List ℕ) (command : Command) → ((rule : Rule) (line : ℕ) → IsWrongSource holds source rule line → IsWrongFor holds command rule (Line line))
+pub source_fails : (holds : Option Held) (before now : ℕ) (source : List ℕ) (command : Command)
+    → ((rule : Rule) (line : ℕ) → IsWrongSource holds source rule line → IsWrongFor holds command rule (Line line))
     → (f : Failure) → SourceFails holds before now source f → Fails holds before now command f
 source_fails holds before now source command wrong Usage w = w
 source_fails holds before now source command wrong (Refused rule (Line n)) w = wrong rule n w
@@ -79,7 +85,8 @@ source_fails holds before now source command wrong WriteFault w = w
 source_fails holds before now source command wrong NoMemory w = w
 
 -- the netlist fails
-pub netlist_fails : (holds : Option Held) (before now : ℕ) (v image' : List ℕ) (cycles : ℕ) (delays : Option (List ℕ)) (f : Failure) → NetlistFails holds before now v f → Fails holds before now (sim v image' cycles delays) f
+pub netlist_fails : (holds : Option Held) (before now : ℕ) (v image' : List ℕ) (cycles : ℕ) (delays : Option (List ℕ)) (f : Failure)
+    → NetlistFails holds before now v f → Fails holds before now (sim v image' cycles delays) f
 netlist_fails holds before now v image' cycles delays Usage w = w
 netlist_fails holds before now v image' cycles delays (Refused rule (Line n)) w = inl w
 netlist_fails holds before now v image' cycles delays (Refused rule (Insn n)) w = absurd w
@@ -88,7 +95,10 @@ netlist_fails holds before now v image' cycles delays WriteFault w = w
 netlist_fails holds before now v image' cycles delays NoMemory w = w
 
 -- its image fails, or its delay file does
-pub start_fails : (holds : Option Held) (before now : ℕ) (v image' : List ℕ) (cycles : ℕ) (delays : Option (List ℕ)) (n : Netlist) → HoldsNetlist holds v n → (f : Failure) → StartFails holds before now image' delays n.mems (length (delayed_mems n)) f → Fails holds before now (sim v image' cycles delays) f
+pub start_fails : (holds : Option Held) (before now : ℕ) (v image' : List ℕ) (cycles : ℕ) (delays : Option (List ℕ)) (n : Netlist)
+    → HoldsNetlist holds v n → (f : Failure)
+    → StartFails holds before now image' delays n.mems (length (delayed_mems n)) f
+    → Fails holds before now (sim v image' cycles delays) f
 start_fails holds before now v image' cycles delays n held Usage (inl w) = w
 start_fails holds before now v image' cycles delays n held Usage (inr w) = w.4
 start_fails holds before now v image' cycles delays n held (Refused rule (Line k)) (inl w) = inr (inl (record { netlist = n; held = held; image_text = w.0; image_given = w.1; refused = w.2 }))
@@ -159,8 +169,10 @@ module _ (holds : Option Held) (before now : ℕ) (source b image' : List ℕ) (
 -- ---- what is seen from a later moment on
 
 -- what is seen from after a file was read, and so from before it was
-pub explained_before : {T : Type 0} (holds after : Option Held) (before mid now : ℕ) (old new : Option (List ℕ)) (writes writes_now : ℕ) (command : Command) (r : Result T Failure) → after ≡ holds → before ≤ mid
-    → Explains (Some command) (seen_of after mid now old new writes writes_now) r → Explains (Some command) (seen_of holds before now old new writes writes_now) r
+pub explained_before : {T : Type 0} (holds after : Option Held) (before mid now : ℕ) (old new : Option (List ℕ))
+    (writes writes_now : ℕ) (command : Command) (r : Result T Failure)
+    → after ≡ holds → before ≤ mid → Explains (Some command) (seen_of after mid now old new writes writes_now) r
+    → Explains (Some command) (seen_of holds before now old new writes writes_now) r
 explained_before holds after before mid now old new writes writes_now command r e h w =
     earlier r (subst (λ (k : Option Held). Explains (Some command) (seen_of k mid now old new writes writes_now) r) e w)
   where

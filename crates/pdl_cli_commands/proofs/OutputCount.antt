@@ -15,7 +15,9 @@ head_output h = cond h.input None (Some h.name)
 abbrev heads_out : List Head → List (List ℕ)
 heads_out hs = filter_map head_output hs
 
-output_in : (d : Dir) (name : List ℕ) (xs : List Output) (ys : List (List ℕ)) → length xs ≡ length ys → length (cons_option (output_with d name) xs) ≡ length (cons_option (cond (is_input d) None (Some name)) ys)
+output_in : (d : Dir) (name : List ℕ) (xs : List Output) (ys : List (List ℕ))
+    → length xs ≡ length ys
+    → length (cons_option (output_with d name) xs) ≡ length (cons_option (cond (is_input d) None (Some name)) ys)
 output_in In name xs ys e = e
 output_in (Out x) name xs ys e = ap suc e
 

@@ -94,7 +94,8 @@ taken_short d rule.InputPort ts a h = port_more d true ts (text_fits (fields rul
 taken_short d rule.OutputPort ts a h = port_more d false ts (text_fits (fields rule.OutputPort) ts 7 field.PortName a refl) h
 taken_short d _ ts a h = record { arrays = h.arrays; ports = h.ports }
 
-all_short : (part : Part) (row : Row) (rs : List Taken) → Derives part row rs → (d : Draft) → AreShort d.file → AreShort (all_taken d rs).file
+all_short : (part : Part) (row : Row) (rs : List Taken) → Derives part row rs → (d : Draft) → AreShort d.file
+    → AreShort (all_taken d rs).file
 unfolding all_taken
 all_short _ _ _ finished d h = h
 all_short part _ _ (goes {rule = r} {t = t} {ts = ts} {rest = rest} {more = rs} c a i) d h =
@@ -105,25 +106,34 @@ file_short bytes f h = subst AreShort (sym h.same) (all_short _ _ h.rules h.deri
 
 -- ---- of its netlist
 
-array_names : (blocks : List (List ArrayWrite)) (m : ℕ) (ds : List ArrayDecl) → AllByRecursion (λ (d : ArrayDecl). IsShort d.name) ds → AllByRecursion (λ (a : Array). length a.name ≤ 32) (arrays blocks m ds)
+array_names : (blocks : List (List ArrayWrite)) (m : ℕ) (ds : List ArrayDecl)
+    → AllByRecursion (λ (d : ArrayDecl). IsShort d.name) ds
+    → AllByRecursion (λ (a : Array). length a.name ≤ 32) (arrays blocks m ds)
 array_names blocks m [] h = tt
 array_names blocks m (d ∷ ds) h = (h.0, array_names blocks (suc m) ds h.1)
 
-port_names : (drives : List OutputDrive) (i : ℕ) (ds : List PortDecl) → AllByRecursion (λ (d : PortDecl). IsInputShort d.name) ds → AllByRecursion (λ (p : Port). IsInputShort p.name) (ports drives i ds)
+port_names : (drives : List OutputDrive) (i : ℕ) (ds : List PortDecl)
+    → AllByRecursion (λ (d : PortDecl). IsInputShort d.name) ds
+    → AllByRecursion (λ (p : Port). IsInputShort p.name) (ports drives i ds)
 port_names drives i [] h = tt
 port_names drives i (d ∷ ds) h = (h.0, port_names drives (suc i) ds h.1)
 
-heads_short : (ps : List Port) → AllByRecursion (λ (p : Port). IsInputShort p.name) ps → AllByRecursion (λ (h : Head). IsInputShort h.name) (map head_of ps)
+heads_short : (ps : List Port) → AllByRecursion (λ (p : Port). IsInputShort p.name) ps
+    → AllByRecursion (λ (h : Head). IsInputShort h.name) (map head_of ps)
 heads_short [] h = tt
 heads_short (p ∷ ps) h = (h.0, heads_short ps h.1)
 
 -- the delayed memories, whose inputs stand first
-delayed_short : (ds : List PortMem) (rest : List Head) → AllByRecursion (λ (h : Head). IsInputShort h.name) (flat_map reply_ports ds ++ rest) → AllByRecursion (λ (m : MemInfo). length m.name ≤ 32) (map delayed_info ds)
+delayed_short : (ds : List PortMem) (rest : List Head)
+    → AllByRecursion (λ (h : Head). IsInputShort h.name) (flat_map reply_ports ds ++ rest)
+    → AllByRecursion (λ (m : MemInfo). length m.name ≤ 32) (map delayed_info ds)
 unfolding IsInputShort
 delayed_short [] rest h = tt
 delayed_short (d ∷ ds) rest h = (h.0 d.name refl, delayed_short ds rest h.1.1)
 
-told_short : (locked : List PortMem) (xs : List Array) → AllByRecursion (λ (a : Array). length a.name ≤ 32) xs → AllByRecursion (λ (m : MemInfo). length m.name ≤ 32) (map (told locked) xs)
+told_short : (locked : List PortMem) (xs : List Array)
+    → AllByRecursion (λ (a : Array). length a.name ≤ 32) xs
+    → AllByRecursion (λ (m : MemInfo). length m.name ≤ 32) (map (told locked) xs)
 told_short locked [] h = tt
 told_short locked (a ∷ xs) h = (subst (λ x. length x ≤ 32) (sym (told_name a (find (λ m. bytes_eq m.name a.name) locked))) h.0, told_short locked xs h.1)
 

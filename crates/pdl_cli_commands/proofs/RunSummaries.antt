@@ -36,8 +36,10 @@ use Rattle.pdl_cli_commands.proofs.AcceptedNetlists.{none_given, keeps_rules}
 -- ---- its image
 
 -- one word more of a memory
-pub one_word_more : (ws : List ℕ) (width k word : ℕ) (old new : List ℕ) → word ≡ slice_index ws k % 2 ^ width → new ≡ old ++ word ∷ []
-    → old ≡ map (λ address. slice_index ws address % 2 ^ width) (range_with_len 0 k) → new ≡ map (λ address. slice_index ws address % 2 ^ width) (range_with_len 0 (k + 1))
+pub one_word_more : (ws : List ℕ) (width k word : ℕ) (old new : List ℕ)
+    → word ≡ slice_index ws k % 2 ^ width → new ≡ old ++ word ∷ []
+    → old ≡ map (λ address. slice_index ws address % 2 ^ width) (range_with_len 0 k)
+    → new ≡ map (λ address. slice_index ws address % 2 ^ width) (range_with_len 0 (k + 1))
 one_word_more ws width k word old new e more so_far =
     more ∙ ap (λ l. l ++ word ∷ []) so_far ∙ ap (λ w. map (λ address. slice_index ws address % 2 ^ width) (range_with_len 0 k) ++ w ∷ []) e
     ∙ sym (map-range_with_len_more (λ address. slice_index ws address % 2 ^ width) 0 k k (omega arith))
@@ -50,12 +52,14 @@ each_below w f (x ∷ xs) (suc a) = each_below w f xs a
 as_many : (ws : List ℕ) (m : MemInfo) → length (words_in ws m) ≡ m.depth
 as_many ws m = length-map (range_with_len 0 m.depth) (λ a. slice_index ws a % 2 ^ m.width) ∙ length-range_with_len 0 m.depth
 
-depths : (ws : List ℕ) (ms : List MemInfo) (m : ℕ) (d : MemInfo) → m < length ms → length (slice_index_or (image_of ws ms) m []) ≡ (slice_index_or ms m d).depth
+depths : (ws : List ℕ) (ms : List MemInfo) (m : ℕ) (d : MemInfo)
+    → m < length ms → length (slice_index_or (image_of ws ms) m []) ≡ (slice_index_or ms m d).depth
 depths ws [] m d h = absurd (omega arith)
 depths ws (x ∷ xs) zero d h = as_many ws x
 depths ws (x ∷ xs) (suc m) d h = depths ws xs m d (omega arith)
 
-widths : (ws : List ℕ) (ms : List MemInfo) (m : ℕ) (d : MemInfo) → m < length ms → (a : ℕ) → slice_index (slice_index_or (image_of ws ms) m []) a < 2 ^ (slice_index_or ms m d).width
+widths : (ws : List ℕ) (ms : List MemInfo) (m : ℕ) (d : MemInfo)
+    → m < length ms → (a : ℕ) → slice_index (slice_index_or (image_of ws ms) m []) a < 2 ^ (slice_index_or ms m d).width
 widths ws [] m d h a = absurd (omega arith)
 widths ws (x ∷ xs) zero d h a = each_below x.width (slice_index ws) (range_with_len 0 x.depth) a
 widths ws (x ∷ xs) (suc m) d h a = widths ws xs m d (omega arith) a

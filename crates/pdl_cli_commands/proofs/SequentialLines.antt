@@ -36,13 +36,15 @@ abbrev pub texts : List Column → Pipe → Arrays → ℕ → List ℕ
 texts cs p arrays k = flat_map (write_line cs) (numbered_writes 1 (threads p arrays k))
 
 -- those of a thread more
-texts_next : (cs : List Column) (p : Pipe) (arrays : Arrays) (k : ℕ) → texts cs p arrays (suc k) ≡ texts cs p arrays k ++ flat_map (write_line cs) (told_writes true p arrays (suc k))
+texts_next : (cs : List Column) (p : Pipe) (arrays : Arrays) (k : ℕ)
+    → texts cs p arrays (suc k) ≡ texts cs p arrays k ++ flat_map (write_line cs) (told_writes true p arrays (suc k))
 texts_next cs p arrays k =
     ap (flat_map (write_line cs)) (last_after p arrays k)
     ∙ flat_map-append (write_line cs) (numbered_writes 1 (threads p arrays k)) (told_writes true p arrays (suc k))
 
 -- what a run that streams tells after one thread more
-pub told_piece : (cs : List Column) (r : Running) (image : List (List ℕ)) (p : Pipe) (k : ℕ) (ws : List Write) → HasRun r image → r.streams ≡ true → (form r.pipe).pipe ≡ p → r.run ≡ k + 1 → ws ≡ r.writes
+pub told_piece : (cs : List Column) (r : Running) (image : List (List ℕ)) (p : Pipe) (k : ℕ) (ws : List Write)
+    → HasRun r image → r.streams ≡ true → (form r.pipe).pipe ≡ p → r.run ≡ k + 1 → ws ≡ r.writes
     → texts cs p (arrays_of image) k ++ flat_map (write_line cs) ws ≡ texts cs p (arrays_of image) (k + 1)
 told_piece cs r image p k ws has streams same count lent =
     let a : Arrays = arrays_of image in
@@ -52,7 +54,8 @@ told_piece cs r image p k ws has streams same count lent =
     ap (λ l. texts cs p a k ++ flat_map (write_line cs) l) told ∙ sym (texts_next cs p a k) ∙ ap (texts cs p a) (sym next)
 
 -- a prefix of the lines of some threads is one of those of more threads
-pub prefix_grows : (old new : Option (List ℕ)) (held : List ℕ) (cs : List Column) (p : Pipe) (arrays : Arrays) (k d n : ℕ) → n ≡ d + k → TakesPrefix old new (held ++ texts cs p arrays k) → TakesPrefix old new (held ++ texts cs p arrays n)
+pub prefix_grows : (old new : Option (List ℕ)) (held : List ℕ) (cs : List Column) (p : Pipe) (arrays : Arrays) (k d n : ℕ)
+    → n ≡ d + k → TakesPrefix old new (held ++ texts cs p arrays k) → TakesPrefix old new (held ++ texts cs p arrays n)
 prefix_grows old new held cs p arrays k zero n e t =
     let same : k ≡ n = omega arith in
     subst (λ i. TakesPrefix old new (held ++ texts cs p arrays i)) same t
@@ -76,12 +79,16 @@ module _ (o a b : Option (List ℕ)) (held middle piece front next : List ℕ) (
   thread_off t = subst (TakesPrefix o b) joined (prefix_on o a b (held ++ front) middle piece so_far t)
 
 -- the last line after others
-pub last_line : (front : List ℕ) (k : ℕ) → front ++ (codes "end threads " ++ decimal k ++ codes "\n") ≡ front ++ codes "end threads " ++ decimal k ++ codes "\n"
+pub last_line : (front : List ℕ) (k : ℕ)
+    → front ++ (codes "end threads " ++ decimal k ++ codes "\n") ≡ front ++ codes "end threads " ++ decimal k ++ codes "\n"
 last_line front k =
     sym (append_assoc front (codes "end threads " ++ decimal k) (codes "\n")) ∙ ap (λ l. l ++ codes "\n") (sym (append_assoc front (codes "end threads ") (decimal k)))
 
 -- the lines of the writes, and the last line
-pub printed : (p : tree.Pipe) (image : List (List ℕ)) (k : ℕ) (ms : List MemInfo) (q : Pipe) → ms ≡ infos_of p.mems → q ≡ flat p
-    → texts (map column_of ms) q (arrays_of image) k ++ codes "end threads " ++ decimal k ++ codes "\n" ≡ texts (columns p.mems) (flat p) (arrays_of image) k ++ codes "end threads " ++ decimal k ++ codes "\n"
+pub printed : (p : tree.Pipe) (image : List (List ℕ)) (k : ℕ) (ms : List MemInfo) (q : Pipe)
+    → ms ≡ infos_of p.mems → q ≡ flat p
+    → texts (map column_of ms) q (arrays_of image) k ++ codes "end threads " ++ decimal k
+    ++ codes "\n" ≡ texts (columns p.mems) (flat p) (arrays_of image) k ++ codes "end threads " ++ decimal k
+    ++ codes "\n"
 printed p image k ms q told flattened =
     ap₂ (λ cs (x : Pipe). texts cs x (arrays_of image) k ++ codes "end threads " ++ decimal k ++ codes "\n") (ap (map column_of) told ∙ told_columns p.mems) flattened

@@ -68,7 +68,8 @@ AreShort (t ∷ ts) = IsShort t × AreShort ts
 taken : (n : ℕ) (xs : List ℕ) → n ≤ 32 → length (take n xs) ≤ 32
 taken n xs h = let e = length-take n xs in omega (arith, e, h)
 
-placed_short : (k : Option TokenKind) (n start line : ℕ) (bytes : List ℕ) → IsShortPiece (record { kind = k; size = n }) → (rest : List Token) → AreShort rest
+placed_short : (k : Option TokenKind) (n start line : ℕ) (bytes : List ℕ) → IsShortPiece (record { kind = k; size = n })
+    → (rest : List Token) → AreShort rest
     → AreShort (placed_token (record { kind = k; size = n }) start line bytes ++ rest)
 placed_short None n start line bytes h rest t = t
 placed_short (Some k) n start line bytes h rest t = (λ e. taken n bytes (h (ap (λ (j : TokenKind). Some j) e)), t)

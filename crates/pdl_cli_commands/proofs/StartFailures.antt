@@ -18,7 +18,8 @@ pub rose_before : (before mid now : ℕ) → before ≤ mid → Rose mid now →
 rose_before before mid now h r = omega (arith, r)
 
 -- the image of a command with a source and an image
-pub image_fails : (holds after : Option Held) (before mid now : ℕ) (source image' text : List ℕ) (command : Command) (p : Pipe) → after ≡ holds → before ≤ mid → Gives holds source text → IsAccepted text p
+pub image_fails : (holds after : Option Held) (before mid now : ℕ) (source image' text : List ℕ) (command : Command) (p : Pipe)
+    → after ≡ holds → before ≤ mid → Gives holds source text → IsAccepted text p
     → ((rule : Rule) (position : Position) → AtLine (IsWrong holds source image' rule) position → IsWrongFor holds command rule position)
     → (f : Failure) → ImageFails after mid now image' (infos_of p.mems) f → Fails holds before now command f
 image_fails holds after before mid now source image' text command p e h given a wrong Usage w = w
@@ -30,7 +31,8 @@ image_fails holds after before mid now source image' text command p e h given a 
 image_fails holds after before mid now source image' text command p e h given a wrong NoMemory w = tt
 
 -- a generated source that fails is that of a command without files
-text_fails : (holds : Option Held) (before now number : ℕ) (f : Failure) → TextFails (source number) f → Fails holds before now (gen number) f
+text_fails : (holds : Option Held) (before now number : ℕ) (f : Failure) → TextFails (source number) f
+    → Fails holds before now (gen number) f
 text_fails holds before now number Usage w = w
 text_fails holds before now number (Refused rule position) w = w
 text_fails holds before now number ReadFault w = absurd w
@@ -38,10 +40,14 @@ text_fails holds before now number WriteFault w = w
 text_fails holds before now number NoMemory w = tt
 
 -- the image is that of the files as they were before the source was read
-pub is_loaded : (holds after : Option Held) (source image' text image_text : List ℕ) (p : Pipe) (words : List (List ℕ)) → after ≡ holds → Gives holds source text → IsAccepted text p → Gives after image' image_text → IsTaken p image_text words → IsLoaded holds source image' p words
+pub is_loaded : (holds after : Option Held) (source image' text image_text : List ℕ) (p : Pipe) (words : List (List ℕ))
+    → after ≡ holds → Gives holds source text → IsAccepted text p → Gives after image' image_text
+    → IsTaken p image_text words → IsLoaded holds source image' p words
 is_loaded holds after source image' text image_text p words e given a held taken =
     record { source_text = text; source_given = given; accepted = a; image_text = image_text; image_given = subst (λ (o : Option Held). Gives o image' image_text) e held; taken = taken }
 
 -- what holds of the files after the source was read, by its text, holds of them as they were before
-as_before : (P : Option Held → Type 0) (holds after : Option Held) (source text : List ℕ) (p : Pipe) → after ≡ holds → Gives holds source text → IsAccepted text p → ((b : List ℕ) → Gives after source b → IsAccepted b p → P after) → P holds
+as_before : (P : Option Held → Type 0) (holds after : Option Held) (source text : List ℕ) (p : Pipe)
+    → after ≡ holds → Gives holds source text → IsAccepted text p
+    → ((b : List ℕ) → Gives after source b → IsAccepted b p → P after) → P holds
 as_before P holds after source text p e given a f = subst P e (f text (subst (λ (o : Option Held). Gives o source text) (sym e) given) a)

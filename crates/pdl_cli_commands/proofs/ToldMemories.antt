@@ -28,7 +28,8 @@ use Rattle.pdl_cli_commands.proofs.ShortNames.{HaveShortNames, short_names}
 
 -- ---- names that differ
 
-infos_none : (n : List ℕ) (ms : List Mem) → is_memory ms n ≡ false → (j : ℕ) (d : MemInfo) → j < length (infos_of ms) → n ≢ (get_or (infos_of ms) j d).name
+infos_none : (n : List ℕ) (ms : List Mem)
+    → is_memory ms n ≡ false → (j : ℕ) (d : MemInfo) → j < length (infos_of ms) → n ≢ (get_or (infos_of ms) j d).name
 infos_none n [] e j d l s = absurd (omega arith)
 infos_none n (m ∷ ms) e zero d l s = name_apart m.name.name n (or_parts (bytes_eq m.name.name n) (is_memory ms n) e).0 (sym s)
 infos_none n (m ∷ ms) e (suc j) d l s = infos_none n ms (or_parts (bytes_eq m.name.name n) (is_memory ms n) e).1 j d (omega arith) s

@@ -38,7 +38,8 @@ rows_below-at (suc n) xs k d h = elim (split k n (omega arith)) [
     split : (a b : ℕ) → a < suc b → (a < b) ⊎ (a ≡ b)
     split a b h = grind arith
 
-row_step : (b : Bool) (k i : ℕ) (all : List Stmt) (x : Stmt) (rest : List ℕ) (xs : List Stmt) → stmt_at all i ≡ x → map (stmt_at all) rest ≡ xs
+row_step : (b : Bool) (k i : ℕ) (all : List Stmt) (x : Stmt) (rest : List ℕ) (xs : List Stmt)
+    → stmt_at all i ≡ x → map (stmt_at all) rest ≡ xs
     → map (stmt_at all) (if b then i ∷ rest else rest) ≡ (if b then x ∷ xs else xs)
 row_step true k i all x rest xs h e = ap₂ (λ y ys. y ∷ ys) h e
 row_step false k i all x rest xs h e = e

@@ -165,9 +165,10 @@ module _ (ms : List Mem) (b : Option Branch) (sp : Span) (c : Expr) (when otherw
       test
 
 -- the stage that a branch enters first, as its `if`'s stage shows it
-pub entry_seen : (ms : List Mem) (b : Option Branch) (n : Next) (first : Bool) (k i merge : ℕ) (ss : Stmts) (p : Position) (s0 s1 : List Stage)
-    → s1 ≡ closed_stages i false s0 (graph ms b n ss p)
-    → b ≡ side k first → n ≡ Goes merge → i ≡ k → i < length s0 → entry (next_at k s1) ≡ entry (graph ms (side k first) (Goes merge) ss p).next
+pub entry_seen : (ms : List Mem) (b : Option Branch) (n : Next) (first : Bool) (k i merge : ℕ) (ss : Stmts)
+    (p : Position) (s0 s1 : List Stage)
+    → s1 ≡ closed_stages i false s0 (graph ms b n ss p) → b ≡ side k first → n ≡ Goes merge → i ≡ k → i < length s0
+    → entry (next_at k s1) ≡ entry (graph ms (side k first) (Goes merge) ss p).next
 entry_seen ms b n first k i merge ss p s0 s1 h eb en ei low =
     ap (λ ys. entry (next_at k ys)) h
     ∙ ap (λ j. entry (next_at j (closed_stages i false s0 (graph ms b n ss p)))) (sym ei)

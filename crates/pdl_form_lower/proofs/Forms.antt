@@ -10,7 +10,8 @@ long_widths : (vs : List Var) → length (map (λ (v : Var). v.width) vs) ≡ le
 long_widths [] = refl
 long_widths (v ∷ vs) = ap suc (long_widths vs)
 
-each_same : (test : ℕ → Op → Bool) (xs : List Stmt) (m : ℕ) (ms : List tree.Mem) → stage_of_each test xs m (mems_of ms) ≡ first_stages test xs m ms
+each_same : (test : ℕ → Op → Bool) (xs : List Stmt) (m : ℕ) (ms : List tree.Mem)
+    → stage_of_each test xs m (mems_of ms) ≡ first_stages test xs m ms
 each_same test xs m [] = refl
 each_same test xs m (x ∷ ms) = ap (λ rs. first_stage (test m) xs ∷ rs) (each_same test xs (suc m) ms)
 
@@ -42,10 +43,11 @@ of_tree p =
     (each_same is_release stmts 0 p.mems)
 
 -- widths, memories, names, statements, stages and start that are a tree's make the tree's flat form
-pub form_made : (p : tree.Pipe) (widths : List ℕ) (mems : List Mem) (names : List (List ℕ)) (stmts : List Stmt) (stages : List Stage) (start : List ℕ)
-    → widths ≡ map (λ (v : Var). v.width) (past_all p.mems p.body (at_start p)).vars → mems ≡ mems_of p.mems → names ≡ names_of p.mems
-    → stmts ≡ flat_stmts p.mems [] p.body (at_start p) → stages ≡ stages_of p → start ≡ start_of p.start.args
-    → form_with widths mems names stmts stages start ≡ form_of p
+pub form_made : (p : tree.Pipe) (widths : List ℕ) (mems : List Mem) (names : List (List ℕ)) (stmts : List Stmt)
+    (stages : List Stage) (start : List ℕ)
+    → widths ≡ map (λ (v : Var). v.width) (past_all p.mems p.body (at_start p)).vars → mems ≡ mems_of p.mems
+    → names ≡ names_of p.mems → stmts ≡ flat_stmts p.mems [] p.body (at_start p) → stages ≡ stages_of p
+    → start ≡ start_of p.start.args → form_with widths mems names stmts stages start ≡ form_of p
 form_made p widths mems names stmts stages start hw hm hn hs hg ha =
     let ws = map (λ (v : Var). v.width) (past_all p.mems p.body (at_start p)).vars in
     ap₂ (λ xs ms. form_with xs ms names stmts stages start) hw hm

@@ -11,7 +11,8 @@ use Rattle.pdl_word.proofs.Bytes.{bytes_same, bytes_swap}
 
 -- ONE LOOK-UP
 
-number_step : (b : Bool) (o : Option ℕ) (n k : ℕ) → unwrap_or o n ≡ k → unwrap_or (if b then Some 0 else option_map suc o) (suc n) ≡ (if b then 0 else suc k)
+number_step : (b : Bool) (o : Option ℕ) (n k : ℕ)
+    → unwrap_or o n ≡ k → unwrap_or (if b then Some 0 else option_map suc o) (suc n) ≡ (if b then 0 else suc k)
 number_step true o n k h = refl
 number_step false None n k h = ap suc h
 number_step false (Some m) n k h = ap suc h
@@ -20,7 +21,8 @@ number_found : (vs : List Var) (x : List ℕ) → unwrap_or (number_in vs x) (le
 number_found [] x = refl
 number_found (v ∷ vs) x = number_step (bytes_eq v.name x) (number_in vs x) (length vs) (var_of vs x) (number_found vs x)
 
-below_step : (b : Bool) (o : Option ℕ) (n l : ℕ) → ((m : ℕ) → o ≡ Some m → m < l) → (if b then Some 0 else option_map suc o) ≡ Some n → n < suc l
+below_step : (b : Bool) (o : Option ℕ) (n l : ℕ)
+    → ((m : ℕ) → o ≡ Some m → m < l) → (if b then Some 0 else option_map suc o) ≡ Some n → n < suc l
 below_step true o n l ih h = let e : 0 ≡ n = cc in omega arith
 below_step false None n l ih h = cc
 below_step false (Some m) n l ih h = let e : suc m ≡ n = cc in omega (arith, ih m refl)
@@ -38,17 +40,19 @@ width_step false None n w v vs d ih h = cc
 width_step false (Some m) n w v vs d ih h = let e : suc m ≡ n = cc in subst (λ k. (get_or (v ∷ vs) k d).width ≡ w) e (ih m refl)
 
 -- the variable of a name's number has the width that the name has
-pub width_found : (vs : List Variable) (x : List ℕ) (n : ℕ) (d : Variable) → number_in (vars_of vs) x ≡ Some n → (get_or vs n d).width ≡ var_width (vars_of vs) x
+pub width_found : (vs : List Variable) (x : List ℕ) (n : ℕ) (d : Variable)
+    → number_in (vars_of vs) x ≡ Some n → (get_or vs n d).width ≡ var_width (vars_of vs) x
 width_found [] x n d h = cc
 width_found (v ∷ vs) x n d h =
     width_step (bytes_eq v.name x) (number_in (vars_of vs) x) n (var_width (vars_of vs) x) v vs d (λ m e. width_found vs x m d e) h
 
 -- a number that a look-up gives
-pub number_seen : (es : List (List ℕ × ℕ)) (vs us : List Var) (x : List ℕ) (o : Option ℕ) → AreNumbered es vs → o ≡ lookup (pointwise nat_eq x) es → vs ≡ us
-    → unwrap_or o (length vs) ≡ var_of us x
+pub number_seen : (es : List (List ℕ × ℕ)) (vs us : List Var) (x : List ℕ) (o : Option ℕ) → AreNumbered es vs
+    → o ≡ lookup (pointwise nat_eq x) es → vs ≡ us → unwrap_or o (length vs) ≡ var_of us x
 number_seen es vs us x o a h e = ap (λ p. unwrap_or p (length vs)) (h ∙ a.numbers x) ∙ number_found vs x ∙ ap (λ ws. var_of ws x) e
 
-none_step : (b : Bool) (o : Option ℕ) (v w : ℕ) → (o ≡ None → w ≡ 0) → (if b then Some 0 else option_map suc o) ≡ None → (if b then v else w) ≡ 0
+none_step : (b : Bool) (o : Option ℕ) (v w : ℕ)
+    → (o ≡ None → w ≡ 0) → (if b then Some 0 else option_map suc o) ≡ None → (if b then v else w) ≡ 0
 none_step true o v w ih h = cc
 none_step false None v w ih h = ih refl
 none_step false (Some m) v w ih h = cc
@@ -92,7 +96,8 @@ last_step : (b : Bool) (n : ℕ) → option_map suc (if b then Some n else None)
 last_step true n = refl
 last_step false n = refl
 
-number_push : (vs : List Var) (v : Var) (x : List ℕ) → number_in (vs ++ v ∷ []) x ≡ first_of (number_in vs x) (if bytes_eq v.name x then Some (length vs) else None)
+number_push : (vs : List Var) (v : Var) (x : List ℕ)
+    → number_in (vs ++ v ∷ []) x ≡ first_of (number_in vs x) (if bytes_eq v.name x then Some (length vs) else None)
 number_push [] v x = refl
 number_push (u ∷ vs) v x =
     push_step (bytes_eq u.name x) (number_in vs x) (if bytes_eq v.name x then Some (length vs) else None) (number_in (vs ++ v ∷ []) x) (number_push vs v x)
@@ -155,13 +160,14 @@ found_none : (o p : Option ℕ) → o ≡ p → is_some o ≡ false → p ≡ No
 found_none None p e h = sym e
 found_none (Some n) p e h = cc
 
-insert_step : (b : Bool) (e : List ℕ × ℕ) (es fs : List (List ℕ × ℕ)) (k : List ℕ) (n : ℕ) (o : Option ℕ) → (if b then Some e.1 else o) ≡ None
-    → (o ≡ None → fs ≡ es ++ (k, n) ∷ [])
+insert_step : (b : Bool) (e : List ℕ × ℕ) (es fs : List (List ℕ × ℕ)) (k : List ℕ) (n : ℕ) (o : Option ℕ)
+    → (if b then Some e.1 else o) ≡ None → (o ≡ None → fs ≡ es ++ (k, n) ∷ [])
     → (if b then (e.0, n) ∷ es else e ∷ fs) ≡ e ∷ (es ++ (k, n) ∷ [])
 insert_step true e es fs k n o h ih = cc
 insert_step false e es fs k n o h ih = ap (λ gs. e ∷ gs) (ih h)
 
-insert_new : (es : List (List ℕ × ℕ)) (k : List ℕ) (n : ℕ) → lookup (pointwise nat_eq k) es ≡ None → insert_entry (pointwise nat_eq) es k n ≡ es ++ (k, n) ∷ []
+insert_new : (es : List (List ℕ × ℕ)) (k : List ℕ) (n : ℕ)
+    → lookup (pointwise nat_eq k) es ≡ None → insert_entry (pointwise nat_eq) es k n ≡ es ++ (k, n) ∷ []
 insert_new [] k n h = refl
 insert_new (e ∷ es) k n h = insert_step (bytes_eq k e.0) e es (insert_entry (pointwise nat_eq) es k n) k n (lookup (pointwise nat_eq k) es) h
     (λ g. insert_new es k n g)
@@ -169,8 +175,9 @@ insert_new (e ∷ es) k n h = insert_step (bytes_eq k e.0) e es (insert_entry (p
 -- ONE VARIABLE MORE
 
 -- with a variable more whose name is there already, the same entries tell all numbers
-pub pushed_there : (es : List (List ℕ × ℕ)) (vs ws : List Variable) (own k : List ℕ) (w : ℕ) (o : Option ℕ) → AreNumbered es (vars_of vs) → w ≤ 64 → own ≡ k
-    → o ≡ lookup (pointwise nat_eq k) es → is_some o ≡ true → ws ≡ vs ++ record { name = own; width = w } ∷ [] → AreNumbered es (vars_of ws)
+pub pushed_there : (es : List (List ℕ × ℕ)) (vs ws : List Variable) (own k : List ℕ) (w : ℕ) (o : Option ℕ)
+    → AreNumbered es (vars_of vs) → w ≤ 64 → own ≡ k → o ≡ lookup (pointwise nat_eq k) es → is_some o ≡ true
+    → ws ≡ vs ++ record { name = own; width = w } ∷ [] → AreNumbered es (vars_of ws)
 pushed_there es vs ws own k w o a small e h s g =
     subst (AreNumbered es) (sym (ap vars_of g ∙ vars_push vs (record { name = own; width = w }) ∙ ap (λ n. vars_of vs ++ record { name = n; width = w } ∷ []) e))
     (numbered_there es (vars_of vs) k w a small (found_some o _ h s))
@@ -181,9 +188,9 @@ length_vars [] = refl
 length_vars (v ∷ vs) = ap suc (length_vars vs)
 
 -- with a variable more whose name is new, the entries with its number tell all numbers
-pub pushed_new : (es fs : List (List ℕ × ℕ)) (vs ws : List Variable) (own key k : List ℕ) (w n : ℕ) (o : Option ℕ) → AreNumbered es (vars_of vs) → w ≤ 64
-    → own ≡ k → key ≡ k
-    → n ≡ length vs → o ≡ lookup (pointwise nat_eq k) es → is_some o ≡ false → fs ≡ insert_entry (pointwise nat_eq) es key n
+pub pushed_new : (es fs : List (List ℕ × ℕ)) (vs ws : List Variable) (own key k : List ℕ) (w n : ℕ) (o : Option ℕ)
+    → AreNumbered es (vars_of vs) → w ≤ 64 → own ≡ k → key ≡ k → n ≡ length vs → o ≡ lookup (pointwise nat_eq k) es
+    → is_some o ≡ false → fs ≡ insert_entry (pointwise nat_eq) es key n
     → ws ≡ vs ++ record { name = own; width = w } ∷ [] → AreNumbered fs (vars_of ws)
 pushed_new es fs vs ws own key k w n o a small e f long h s i g =
     subst (AreNumbered fs) (sym (ap vars_of g ∙ vars_push vs (record { name = own; width = w }) ∙ ap (λ m. vars_of vs ++ record { name = m; width = w } ∷ []) e))

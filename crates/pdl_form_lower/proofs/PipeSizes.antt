@@ -43,7 +43,8 @@ sized_mem m e =
 -- EXPRESSIONS AT A PLACE
 
 -- what the rules ask of the expressions at a statement
-fits_here : (p : Pipe) → KeepsRules p → (before : List Place) (s : Stmt) (bs : List Branch) (later : List Place) → places p ≡ before ++ Statement s bs ∷ later
+fits_here : (p : Pipe) → KeepsRules p → (before : List Place) (s : Stmt) (bs : List Branch) (later : List Place)
+    → places p ≡ before ++ Statement s bs ∷ later
     → Fits (is_too_early p before (Statement s bs)) (variables p) (λ test. some_expr_of test s)
 fits_here p rules before s bs later e = record {
   uses = (or_parts _ _ (or_parts _ _ (rules N3 before (Statement s bs) later e)).1).1;
@@ -54,7 +55,8 @@ fits_here p rules before s bs later e = record {
   choices = (or_parts _ _ (rules W3 before (Statement s bs) later e)).1;
 }
 
-fits_first : (early : Use → Bool) (all : List Var) (e : Expr) (es : List Expr) → Fits early all (λ test. list_any test (e ∷ es)) → Fits early all (of_one e)
+fits_first : (early : Use → Bool) (all : List Var) (e : Expr) (es : List Expr)
+    → Fits early all (λ test. list_any test (e ∷ es)) → Fits early all (of_one e)
 fits_first early all e es f = record {
   uses = (or_parts (some_part (reads_some early) e) _ f.uses).0;
   widths = (or_parts (some_part (is_unequal all) e) _ f.widths).0;
@@ -81,10 +83,12 @@ record Ready (all vs : List Var) (early : Use → Bool) : Type 0 where
   knows : (x : List ℕ) → early (OfVariable x) ≡ false → IsTrue (is_named vs x)
   stays : Stays vs all
 
-sized_one : (all vs : List Var) (early : Use → Bool) → Ready all vs early → (e : Expr) → Fits early all (of_one e) → IsSized e × (width_of vs e ≤ 64)
+sized_one : (all vs : List Var) (early : Use → Bool) → Ready all vs early → (e : Expr) → Fits early all (of_one e)
+    → IsSized e × (width_of vs e ≤ 64)
 sized_one all vs early r e f = sized_typed vs r.small e (typed vs all early r.knows (λ x t. (r.stays x t).1) e f).0
 
-sized_all : (all vs : List Var) (early : Use → Bool) → Ready all vs early → (es : List Expr) → Fits early all (λ test. list_any test es) → AreSized es
+sized_all : (all vs : List Var) (early : Use → Bool) → Ready all vs early → (es : List Expr)
+    → Fits early all (λ test. list_any test es) → AreSized es
 sized_all all vs early r [] f = tt
 sized_all all vs early r (e ∷ es) f = ((sized_one all vs early r e (fits_first early all e es f)).0, sized_all all vs early r es (fits_rest early all e es f))
 
@@ -98,8 +102,8 @@ abbrev AllSized : List Place → Type 0
 AllSized [] = Unit {0}
 AllSized (x ∷ xs) = SizedHere x × AllSized xs
 
-sized_here : (all vs : List Var) (early : Use → Bool) → Ready all vs early → (s : Stmt) (bs : List Branch) → Fits early all (λ test. some_expr_of test s)
-    → SizedHere (Statement s bs)
+sized_here : (all vs : List Var) (early : Use → Bool) → Ready all vs early → (s : Stmt) (bs : List Branch)
+    → Fits early all (λ test. some_expr_of test s) → SizedHere (Statement s bs)
 sized_here all vs early r (Separator _) bs f = tt
 sized_here all vs early r (CombRead _ x at) bs f = tt
 sized_here all vs early r (Bind _ x e) bs f = (sized_one all vs early r e f).0
@@ -123,8 +127,8 @@ record After (p : Pipe) (vs : List Var) (before : List Place) : Type 0 where
   small : Small vs
   params : (x : List ℕ) → is_parameter p x ≡ true → IsTrue (is_named vs x)
 
-ready : (p : Pipe) (vs : List Var) (before : List Place) (x : Place) (later : List Place) → places p ≡ before ++ x ∷ later → After p vs before
-    → Ready (variables p) vs (is_too_early p before x)
+ready : (p : Pipe) (vs : List Var) (before : List Place) (x : Place) (later : List Place)
+    → places p ≡ before ++ x ∷ later → After p vs before → Ready (variables p) vs (is_too_early p before x)
 ready p vs before x later e b = record { small = b.small; knows = knows; stays = known_stay p vs before (x ∷ later) e b.known }
   where
     knows : (n : List ℕ) → is_too_early p before x (OfVariable n) ≡ false → IsTrue (is_named vs n)
@@ -140,7 +144,8 @@ more : (p : Pipe) (vs : List Var) (before : List Place) (d : Place) (v : Var) �
 more p vs before d v known h b = record { known = known; small = small_more vs v b.small h; params = λ x e. (stays_more vs (v ∷ []) x (b.params x e)).0 }
 
 -- and none
-same : (p : Pipe) (vs : List Var) (before : List Place) (d : Place) → AreKnown p vs (before ++ d ∷ []) → After p vs before → After p vs (before ++ d ∷ [])
+same : (p : Pipe) (vs : List Var) (before : List Place) (d : Place) → AreKnown p vs (before ++ d ∷ [])
+    → After p vs before → After p vs (before ++ d ∷ [])
 same p vs before d known b = record { known = known; small = b.small; params = b.params }
 
 module _ (p : Pipe) (rules : KeepsRules p) where
@@ -318,7 +323,8 @@ few_more : (c : Bool) (n : ℕ) → (c && (n == 63)) ≡ false → n ≤ 63 → 
 few_more true n e h = let other : n ≢ 63 = eqb-false n 63 e in omega arith
 few_more false n e h = omega arith
 
-few : (p : Pipe) → KeepsRules p → (before xs : List Place) → places p ≡ before ++ xs → count_by is_separator before ≤ 63 → count_by is_separator (places p) ≤ 63
+few : (p : Pipe) → KeepsRules p → (before xs : List Place)
+    → places p ≡ before ++ xs → count_by is_separator before ≤ 63 → count_by is_separator (places p) ≤ 63
 few p rules before [] e h = subst (λ l. count_by is_separator l ≤ 63) (sym (append-nil before) ∙ sym e) h
 few p rules before (x ∷ xs) e h =
     few p rules (before ++ x ∷ []) xs (e ∙ sym (append_assoc before (x ∷ []) xs))

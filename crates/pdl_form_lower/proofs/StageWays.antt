@@ -24,7 +24,8 @@ marked_one (y ∷ ys) zero x f h e = ap (λ (z : r_stage.Stage). record { next =
 marked_one (y ∷ ys) (suc k) x f h e = ap (λ zs. stage_view y ∷ zs) (marked_one ys k x f (omega arith) e)
 
 -- where a stage of the program leads is where the stage leads that it stands for
-pub next_seen : (xs : List r_stage.Stage) (k : ℕ) (d : r_stage.Stage) → k < length xs → next_view (get_or xs k d).next ≡ next_at k (stages_view xs)
+pub next_seen : (xs : List r_stage.Stage) (k : ℕ) (d : r_stage.Stage)
+    → k < length xs → next_view (get_or xs k d).next ≡ next_at k (stages_view xs)
 next_seen [] k d h = absurd (omega arith)
 next_seen (y ∷ ys) zero d h = refl
 next_seen (y ∷ ys) (suc k) d h = next_seen ys k d (omega arith)

@@ -32,7 +32,9 @@ use Rattle.pdl_semantics.proofs.Facts.{lock_declared}
 abbrev has_bits : ℕ → Bool
 has_bits d = nat_le 1 (address_bits d) && nat_le (address_bits d) 16
 
-typed_mem : (m : Mem) → breaks_z7 (Memory m) ≡ false → IsTypedMem (record { width = m.width.value; depth = m.depth.value; delayed = m.delayed; lock = flat_lock m.lock })
+typed_mem : (m : Mem)
+    → breaks_z7 (Memory m) ≡ false
+    → IsTypedMem (record { width = m.width.value; depth = m.depth.value; delayed = m.delayed; lock = flat_lock m.lock })
 typed_mem m e =
     let both = shape m e in
     let width = and_parts (nat_le 1 m.width.value) (nat_le m.width.value 64) both.0 in
@@ -72,7 +74,8 @@ mem_low (x ∷ ms) m h = number_step (bytes_eq x.name.name m) (mem_of ms m) (len
 abbrev pub mem_found : List Mem → List ℕ → flat.Mem
 mem_found ms m = slice_index_or (mems_of ms) (mem_of ms m) plain_mem
 
-found_step : {A : Type 0} (f : flat.Mem → A) (b : Bool) (x : flat.Mem) (xs : List flat.Mem) (k : ℕ) (u : A) → f (slice_index_or xs k plain_mem) ≡ u
+found_step : {A : Type 0} (f : flat.Mem → A) (b : Bool) (x : flat.Mem) (xs : List flat.Mem) (k : ℕ) (u : A)
+    → f (slice_index_or xs k plain_mem) ≡ u
     → f (slice_index_or (x ∷ xs) (if b then 0 else suc k) plain_mem) ≡ (if b then f x else u)
 found_step f true x xs k u h = refl
 found_step f false x xs k u h = h

@@ -24,7 +24,8 @@ use Rattle.pdl_semantics.proofs.Facts.{all_vars}
 
 -- LISTS
 
-pub guards_push : (ws : List ℕ) (gs : List flat.Guard) (g : flat.Guard) → AreGuards ws gs → (g.var < length ws) × (slice_index ws g.var ≡ 1) → AreGuards ws (gs ++ g ∷ [])
+pub guards_push : (ws : List ℕ) (gs : List flat.Guard) (g : flat.Guard) → AreGuards ws gs
+    → (g.var < length ws) × (slice_index ws g.var ≡ 1) → AreGuards ws (gs ++ g ∷ [])
 guards_push ws [] g h k = (k.0, k.1, tt)
 guards_push ws (x ∷ xs) g h k = (h.0, h.1, guards_push ws xs g h.2 k)
 
@@ -42,7 +43,7 @@ merging_forks ws f [] h = h
 merging_forks ws f (x ∷ xs) h = h
 
 -- the forks of a graph
-abbrev IsForked : List ℕ → Graph → Type 0
+abbrev pub IsForked : List ℕ → Graph → Type 0
 IsForked ws g = IsFork ws g.next × AreForks ws g.later
 
 either_forked : (ws : List ℕ) (b : Bool) (g h : Graph) → IsForked ws g → IsForked ws h → IsForked ws (if b then g else h)

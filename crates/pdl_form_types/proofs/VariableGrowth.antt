@@ -9,7 +9,8 @@ pub begins_same : (vs : List Var) → Begins vs vs
 begins_same vs = ([], sym (append-nil vs))
 
 -- the last one of some, among all
-pub new_last : (vs all : List Var) (v : Var) → Begins (vs ++ v ∷ []) all → (length vs < length (widths_of all)) × (slice_index (widths_of all) (length vs) ≡ v.width)
+pub new_last : (vs all : List Var) (v : Var) → Begins (vs ++ v ∷ []) all
+    → (length vs < length (widths_of all)) × (slice_index (widths_of all) (length vs) ≡ v.width)
 new_last vs all v h = (
   subst (λ l. length vs < length (widths_of l)) (sym h.1) (last_low vs h.0 v),
   ap (λ l. slice_index (widths_of l) (length vs)) h.1 ∙ last_width vs h.0 v,

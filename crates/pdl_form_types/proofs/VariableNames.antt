@@ -33,7 +33,8 @@ number_low : (vs : List Var) (x : List ℕ) → IsTrue (is_named vs x) → var_o
 number_low [] x h = absurd (false≢true h)
 number_low (v ∷ vs) x h = number_step (bytes_eq v.name x) (var_of vs x) (length vs) (λ e. number_low vs x (rest_named _ _ h e))
 
-width_step : (b : Bool) (w u k : ℕ) (ws : List ℕ) → (b ≡ false → slice_index ws k ≡ u) → slice_index (w ∷ ws) (if b then 0 else suc k) ≡ (if b then w else u)
+width_step : (b : Bool) (w u k : ℕ) (ws : List ℕ)
+    → (b ≡ false → slice_index ws k ≡ u) → slice_index (w ∷ ws) (if b then 0 else suc k) ≡ (if b then w else u)
 width_step true w u k ws h = refl
 width_step false w u k ws h = h refl
 
@@ -120,7 +121,8 @@ new_width (u ∷ vs) v x new e =
     new_step (bytes_eq u.name x) (is_named vs x) u.width (var_width (vs ++ v ∷ []) x) v.width new (λ f. new_width vs v x f e)
 
 -- the same one after both, of a name that neither has
-pub stays_both : (us vs : List Var) (v : Var) → is_named us v.name ≡ false → is_named vs v.name ≡ false → Stays us vs → Stays (us ++ v ∷ []) (vs ++ v ∷ [])
+pub stays_both : (us vs : List Var) (v : Var)
+    → is_named us v.name ≡ false → is_named vs v.name ≡ false → Stays us vs → Stays (us ++ v ∷ []) (vs ++ v ∷ [])
 stays_both us vs v fresh new h x e = at (is_named us x) refl
   where
     at : (b : Bool) → is_named us x ≡ b → IsTrue (is_named (vs ++ v ∷ []) x) × (var_width (vs ++ v ∷ []) x ≡ var_width (us ++ v ∷ []) x)

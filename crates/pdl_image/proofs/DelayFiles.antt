@@ -27,11 +27,14 @@ unfolding delays lines feed first_wrong_row broken_row row_word
 no_memory = (refl, refl)
 
 -- the lowest wrong row, there the lowest rule
-wrong_rows : (delays 1 (codes "0" ++ feed ++ codes "00") ≡ Err (Refused Y2 2)) × (delays 1 (codes "x") ≡ Err (Refused Y1 1)) × (delays 1 (codes "0" ++ feed ++ codes "2222") ≡ Err (Refused Y1 2)) × (delays 0 (codes "1") ≡ Err (Refused Y2 1))
+wrong_rows : (delays 1 (codes "0" ++ feed ++ codes "00") ≡ Err (Refused Y2 2))
+    × (delays 1 (codes "x") ≡ Err (Refused Y1 1)) × (delays 1 (codes "0" ++ feed ++ codes "2222") ≡ Err (Refused Y1 2))
+    × (delays 0 (codes "1") ≡ Err (Refused Y2 1))
 unfolding delays lines feed first_wrong_row broken_row row_word
 wrong_rows = (refl, refl, refl, refl)
 
 -- the 1,000,001st row is one too many
-too_many : (broken_row 1 1000000 (codes "1") ≡ None) × (broken_row 1 1000001 (codes "1") ≡ Some Y3) × (broken_row 1 1000001 (codes "11") ≡ Some Y2)
+too_many : (broken_row 1 1000000 (codes "1") ≡ None) × (broken_row 1 1000001 (codes "1") ≡ Some Y3)
+    × (broken_row 1 1000001 (codes "11") ≡ Some Y2)
 unfolding broken_row
 too_many = (refl, refl, refl)

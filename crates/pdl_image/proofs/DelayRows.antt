@@ -32,7 +32,9 @@ unfolding row_word
 row_word_end row = ap row_word (sym (drop-length row))
 
 -- what is left of a row, one character before
-pub row_word_before : (row : List ℕ) (left : ℕ) → left < length row → row_word (drop left row) ≡ (if get_or row left 0 == 49 then 1 else 0) + 2 * row_word (drop (left + 1) row)
+pub row_word_before : (row : List ℕ) (left : ℕ)
+    → left < length row
+    → row_word (drop left row) ≡ (if get_or row left 0 == 49 then 1 else 0) + 2 * row_word (drop (left + 1) row)
 unfolding row_word
 row_word_before row left h = ap row_word (drop_more row left 0 h)
 
@@ -43,7 +45,8 @@ pub record TakenRows (count : ℕ) (all left : List (List ℕ)) (number : ℕ) (
   pub same : first_wrong_row count 1 all ≡ first_wrong_row count number left
   pub given : map row_word all ≡ words ++ map row_word left
 
-next_row : (count number : ℕ) (row : List ℕ) (later : List (List ℕ)) → first_wrong_row count number (row ∷ later) ≡ at_line number (broken_row count number row) (first_wrong_row count (number + 1) later)
+next_row : (count number : ℕ) (row : List ℕ) (later : List (List ℕ))
+    → first_wrong_row count number (row ∷ later) ≡ at_line number (broken_row count number row) (first_wrong_row count (number + 1) later)
 unfolding first_wrong_row
 next_row count number row later = refl
 
@@ -53,15 +56,18 @@ no_rows_taken count all words e = record { same = refl; given = ap (λ ws. ws ++
 
 -- a row that breaks no rule is taken after those before it, with its word
 pub row_taken : (count : ℕ) (all left : List (List ℕ)) (number : ℕ) (words new : List ℕ) (row : List ℕ) (later : List (List ℕ)) (word : ℕ)
-    → TakenRows count all left number words → left ≡ row ∷ later → broken_row count number row ≡ None → word ≡ row_word row → new ≡ words ++ word ∷ [] → TakenRows count all later (number + 1) new
+    → TakenRows count all left number words → left ≡ row ∷ later → broken_row count number row ≡ None
+    → word ≡ row_word row → new ≡ words ++ word ∷ [] → TakenRows count all later (number + 1) new
 row_taken count all left number words new row later word t e b f g = record {
   same = t.same ∙ ap (first_wrong_row count number) e ∙ next_row count number row later ∙ ap (λ o. at_line number o (first_wrong_row count (number + 1) later)) b;
   given = t.given ∙ ap (λ rs. words ++ map row_word rs) e ∙ ap (λ w. words ++ w ∷ map row_word later) (sym f) ∙ sym (append_assoc words (word ∷ []) (map row_word later)) ∙ ap (λ ws. ws ++ map row_word later) (sym g);
 }
 
 -- where the next row breaks a rule, it is the first wrong row of all, refused by this rule
-pub wrong_row_found : (count : ℕ) (all left : List (List ℕ)) (number : ℕ) (words : List ℕ) (row : List ℕ) (later : List (List ℕ)) (rule : Rule)
-    → TakenRows count all left number words → left ≡ row ∷ later → broken_row count number row ≡ Some rule → first_wrong_row count 1 all ≡ Some (Refused rule number)
+pub wrong_row_found : (count : ℕ) (all left : List (List ℕ)) (number : ℕ) (words : List ℕ) (row : List ℕ)
+    (later : List (List ℕ)) (rule : Rule)
+    → TakenRows count all left number words → left ≡ row ∷ later → broken_row count number row ≡ Some rule
+    → first_wrong_row count 1 all ≡ Some (Refused rule number)
 wrong_row_found count all left number words row later rule t e b =
     t.same ∙ ap (first_wrong_row count number) e ∙ next_row count number row later ∙ ap (λ o. at_line number o (first_wrong_row count (number + 1) later)) b
 
@@ -70,7 +76,9 @@ unfolding first_wrong_row
 no_row_wrong count number = refl
 
 -- once all rows are taken, none is wrong and the words are those of all rows
-pub all_rows_taken : (count : ℕ) (all : List (List ℕ)) (number : ℕ) (text words : List ℕ) → TakenRows count all (lines text) number words → length text ≡ 0 → (first_wrong_row count 1 all ≡ None) × (words ≡ map row_word all)
+pub all_rows_taken : (count : ℕ) (all : List (List ℕ)) (number : ℕ) (text words : List ℕ)
+    → TakenRows count all (lines text) number words → length text ≡ 0
+    → (first_wrong_row count 1 all ≡ None) × (words ≡ map row_word all)
 all_rows_taken count all number text words t h =
     let e : lines text ≡ [] = lines_of_none text h in
     (t.same ∙ ap (first_wrong_row count number) e ∙ no_row_wrong count number, sym (t.given ∙ ap (λ rs. words ++ map row_word rs) e ∙ append-nil words))

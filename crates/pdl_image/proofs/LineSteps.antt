@@ -26,8 +26,8 @@ as_many (m ∷ mems) [] h = absurd h
 as_many (m ∷ mems) (row ∷ slots) h = ap suc (as_many mems slots h.1)
 
 -- a memory has as many slots as words
-pub as_deep : (mems : List MemInfo) (slots : List (List (Option ℕ))) (place : ℕ) (m : MemInfo) (row : List (Option ℕ)) → IsFor mems slots → place < length mems
-    → length (get_or slots place row) ≡ (get_or mems place m).depth
+pub as_deep : (mems : List MemInfo) (slots : List (List (Option ℕ))) (place : ℕ) (m : MemInfo) (row : List (Option ℕ))
+    → IsFor mems slots → place < length mems → length (get_or slots place row) ≡ (get_or mems place m).depth
 unfolding IsFor
 as_deep [] slots place m row h l = absurd (omega arith)
 as_deep (n ∷ mems) [] place m row h l = absurd h
@@ -72,7 +72,8 @@ or_else_assoc None p q = refl
 or_else_assoc (Some v) p q = refl
 
 -- the value that an address is given is that of the lines before, else that of the line after them
-pub given_push : (before : List (List ℕ)) (line name : List ℕ) (address : ℕ) → given_value (before ++ line ∷ []) name address ≡ or_else (given_value before name address) (value_at (word_of line) name address)
+pub given_push : (before : List (List ℕ)) (line name : List ℕ) (address : ℕ)
+    → given_value (before ++ line ∷ []) name address ≡ or_else (given_value before name address) (value_at (word_of line) name address)
 unfolding given_value
 given_push [] line name address = or_else_none (value_at (word_of line) name address)
 given_push (l ∷ ls) line name address =
@@ -80,28 +81,33 @@ given_push (l ∷ ls) line name address =
     ∙ or_else_assoc (value_at (word_of l) name address) (given_value ls name address) (value_at (word_of line) name address)
 
 -- where a line gives nothing, what was given stays
-kept : (before : List (List ℕ)) (line name : List ℕ) (address : ℕ) → value_at (word_of line) name address ≡ None → given_value before name address ≡ given_value (before ++ line ∷ []) name address
+kept : (before : List (List ℕ)) (line name : List ℕ) (address : ℕ)
+    → value_at (word_of line) name address ≡ None
+    → given_value before name address ≡ given_value (before ++ line ∷ []) name address
 kept before line name address e =
     sym (given_push before line name address ∙ ap (or_else (given_value before name address)) e ∙ or_else_none (given_value before name address))
 
 range_at : (n i d : ℕ) → i < n → get_or (range_with_len 0 n) i d ≡ i
 range_at n i d h = get_or-range_with_len 0 n i d h ∙ zero-add i
 
-none_row : (before : List (List ℕ)) (line : List ℕ) (m : MemInfo) → word_of line ≡ None → slots_of before m ≡ slots_of (before ++ line ∷ []) m
+none_row : (before : List (List ℕ)) (line : List ℕ) (m : MemInfo)
+    → word_of line ≡ None → slots_of before m ≡ slots_of (before ++ line ∷ []) m
 unfolding slots_of
 none_row before line m e = map_same _ _ (range_with_len 0 m.depth) (λ k d l.
     let a : ℕ = get_or (range_with_len 0 m.depth) k d in
     kept before line m.name a (ap (λ w. value_at w m.name a) e))
 
 -- a line that says nothing breaks no rule and leaves the slots as they are
-pub nothing_taken : (mems : List MemInfo) (before : List (List ℕ)) (line : List ℕ) (slots : List (List (Option ℕ))) → says_nothing line ≡ true → slots ≡ all_slots mems before
+pub nothing_taken : (mems : List MemInfo) (before : List (List ℕ)) (line : List ℕ) (slots : List (List (Option ℕ)))
+    → says_nothing line ≡ true → slots ≡ all_slots mems before
     → (broken_rule mems before line ≡ None) × (slots ≡ all_slots mems (before ++ line ∷ []))
 unfolding broken_rule all_slots
 nothing_taken mems before line slots h e =
     (rw h refl, e ∙ map_same _ _ mems (λ k d l. none_row before line (get_or mems k d) (nothing_given line h)))
 
 -- a line that says something but gives no word breaks I2
-pub no_form : (mems : List MemInfo) (before : List (List ℕ)) (line : List ℕ) → says_nothing line ≡ false → word_of line ≡ None → broken_rule mems before line ≡ Some I2
+pub no_form : (mems : List MemInfo) (before : List (List ℕ)) (line : List ℕ)
+    → says_nothing line ≡ false → word_of line ≡ None → broken_rule mems before line ≡ Some I2
 unfolding broken_rule
 no_form mems before line h e = rw (h, e) refl
 
@@ -110,13 +116,15 @@ find_none : (p : MemInfo → Bool) (mems : List MemInfo) → position p mems ≡
 find_none p mems e = find_at p mems ∙ slice_get_past mems _ (none_passes p mems e)
 
 -- a line that gives a word of a memory which is not there breaks I3
-pub no_memory : (mems : List MemInfo) (before : List (List ℕ)) (line : List ℕ) (w : Word) → says_nothing line ≡ false → word_of line ≡ Some w
-    → position (λ m. bytes_eq m.name w.name) mems ≡ None → broken_rule mems before line ≡ Some I3
+pub no_memory : (mems : List MemInfo) (before : List (List ℕ)) (line : List ℕ) (w : Word)
+    → says_nothing line ≡ false → word_of line ≡ Some w → position (λ m. bytes_eq m.name w.name) mems ≡ None
+    → broken_rule mems before line ≡ Some I3
 unfolding broken_rule
 no_memory mems before line w h e f = rw (h, e, find_none _ mems f) refl
 
 -- what a memory was given, and what the slots have
-find_some : (p : MemInfo → Bool) (mems : List MemInfo) (place : ℕ) (m : MemInfo) → position p mems ≡ Some place → m ≡ get_or mems place m → (find p mems ≡ Some m) × (p m ≡ true)
+find_some : (p : MemInfo → Bool) (mems : List MemInfo) (place : ℕ) (m : MemInfo)
+    → position p mems ≡ Some place → m ≡ get_or mems place m → (find p mems ≡ Some m) × (p m ≡ true)
 find_some p mems place m e f =
     let h = place_is p mems place e in
     let l : position_or_len p mems < length mems = subst (λ n. n < length mems) (sym h.0) h.1 in
@@ -124,11 +132,13 @@ find_some p mems place m e f =
     let P : MemInfo → Type 0 = λ n. p n ≡ true in
     (find_at p mems ∙ slice_get-get_or mems _ m l ∙ ap Some at, subst P at (passes_at_first p mems m l))
 
-row_at : (before : List (List ℕ)) (m : MemInfo) (address : ℕ) → address < m.depth → get_or (slots_of before m) address None ≡ given_value before m.name address
+row_at : (before : List (List ℕ)) (m : MemInfo) (address : ℕ)
+    → address < m.depth → get_or (slots_of before m) address None ≡ given_value before m.name address
 unfolding slots_of
 row_at before m address h = get_or-map-range_with_len _ 0 m.depth address address None h (omega arith)
 
-broken_word : (before : List (List ℕ)) (m : MemInfo) (w : Word) → m.name ≡ w.name → broken_in before w (Some m) ≡ broken_at m (slots_of before m) w.address w.value
+broken_word : (before : List (List ℕ)) (m : MemInfo) (w : Word)
+    → m.name ≡ w.name → broken_in before w (Some m) ≡ broken_at m (slots_of before m) w.address w.value
 unfolding broken_at
 broken_word before m w e = elim (cases_lt w.address m.depth) [
   | inl h ↦
@@ -147,7 +157,8 @@ value_same w name e =
     rw (t, u) refl
 
 -- a word has no value for another memory or another address
-pub value_other : (w : Word) (name : List ℕ) (address : ℕ) → (name ≡ w.name → address ≡ w.address → ⊥) → value_at (Some w) name address ≡ None
+pub value_other : (w : Word) (name : List ℕ) (address : ℕ)
+    → (name ≡ w.name → address ≡ w.address → ⊥) → value_at (Some w) name address ≡ None
 value_other w name address no_way = elim (cases_Bool (bytes_eq w.name name && eqb w.address address)) [
   | inl t ↦
       let f = and_parts (bytes_eq w.name name) (eqb w.address address) t in
@@ -156,7 +167,8 @@ value_other w name address no_way = elim (cases_Bool (bytes_eq w.name name && eq
 ]
 
 -- what is known where no rule is broken
-all_pass : (a b : Bool) (o : Option ℕ) → cond a (Some I4) (cond b (Some I5) (cond (is_some o) (Some I6) None)) ≡ None → (a ≡ false) × (o ≡ None)
+all_pass : (a b : Bool) (o : Option ℕ)
+    → cond a (Some I4) (cond b (Some I5) (cond (is_some o) (Some I6) None)) ≡ None → (a ≡ false) × (o ≡ None)
 all_pass true b o e = cc
 all_pass false true o e = cc
 all_pass false false (Some v) e = cc
@@ -168,14 +180,16 @@ middle_passes true b c e = cc
 middle_passes false true c e = cc
 middle_passes false false c e = refl
 
-taken_facts : (m : MemInfo) (slots : List (Option ℕ)) (address value : ℕ) → broken_at m slots address value ≡ None → (address < m.depth) × (get_or slots address None ≡ None)
+taken_facts : (m : MemInfo) (slots : List (Option ℕ)) (address value : ℕ)
+    → broken_at m slots address value ≡ None → (address < m.depth) × (get_or slots address None ≡ None)
 unfolding broken_at
 taken_facts m slots address value e =
     let f = all_pass (leb m.depth address) (leb (2 ^ m.width) value) (get_or slots address None) e in
     (leb-false m.depth address f.0, f.1)
 
 -- the memory's slots with the word's one set
-row_set : (before : List (List ℕ)) (line : List ℕ) (w : Word) (m : MemInfo) → word_of line ≡ Some w → m.name ≡ w.name → w.address < m.depth → given_value before m.name w.address ≡ None
+row_set : (before : List (List ℕ)) (line : List ℕ) (w : Word) (m : MemInfo)
+    → word_of line ≡ Some w → m.name ≡ w.name → w.address < m.depth → given_value before m.name w.address ≡ None
     → set (slots_of before m) w.address (Some w.value) ≡ slots_of (before ++ line ∷ []) m
 unfolding slots_of
 row_set before line w m e n l free =
@@ -191,7 +205,8 @@ row_set before line w m e n l free =
     kept before line m.name a (ap (λ o. value_at o m.name a) e ∙ value_other w m.name a (λ p q. ne (sym f ∙ q))))
 
 -- another memory's slots
-row_other : (before : List (List ℕ)) (line : List ℕ) (w : Word) (m : MemInfo) → word_of line ≡ Some w → (m.name ≡ w.name → ⊥) → slots_of before m ≡ slots_of (before ++ line ∷ []) m
+row_other : (before : List (List ℕ)) (line : List ℕ) (w : Word) (m : MemInfo)
+    → word_of line ≡ Some w → (m.name ≡ w.name → ⊥) → slots_of before m ≡ slots_of (before ++ line ∷ []) m
 unfolding slots_of
 row_other before line w m e ne =
     map_same _ _ (range_with_len 0 m.depth) (λ k d l.
@@ -199,7 +214,8 @@ row_other before line w m e ne =
     kept before line m.name a (ap (λ o. value_at o m.name a) e ∙ value_other w m.name a (λ p q. ne p)))
 
 -- the names of two places differ
-names_differ : (mems : List MemInfo) (i j : ℕ) (d : MemInfo) → AllPairs (λ a b. a.name ≢ b.name) mems → i < length mems → j < length mems → i ≢ j → (get_or mems i d).name ≢ (get_or mems j d).name
+names_differ : (mems : List MemInfo) (i j : ℕ) (d : MemInfo) → AllPairs (λ a b. a.name ≢ b.name) mems
+    → i < length mems → j < length mems → i ≢ j → (get_or mems i d).name ≢ (get_or mems j d).name
 names_differ mems i j d h li lj ne = elim (cases_order i j) [
   | inl e ↦ absurd (ne e)
   | inr o ↦ elim o [ inl l ↦ h i j d l lj | inr l ↦ (λ e. h j i d l li (sym e)) ]
@@ -214,8 +230,10 @@ pub record IsNamed (mems : List MemInfo) (before : List (List ℕ)) (line : List
   pub was : slots ≡ all_slots mems before
   pub here : row ≡ get_or slots place row
 
-mem_facts : (mems : List MemInfo) (before : List (List ℕ)) (line : List ℕ) (w : Word) (place : ℕ) (m : MemInfo) (row : List (Option ℕ)) (slots : List (List (Option ℕ)))
-    → IsNamed mems before line w place m row slots → (place < length mems) × (m.name ≡ w.name) × (row ≡ slots_of before m)
+mem_facts : (mems : List MemInfo) (before : List (List ℕ)) (line : List ℕ) (w : Word) (place : ℕ) (m : MemInfo)
+    (row : List (Option ℕ)) (slots : List (List (Option ℕ)))
+    → IsNamed mems before line w place m row slots
+    → (place < length mems) × (m.name ≡ w.name) × (row ≡ slots_of before m)
 unfolding all_slots
 mem_facts mems before line w place m row slots f =
     let p : MemInfo → Bool = λ k. bytes_eq k.name w.name in
@@ -224,7 +242,8 @@ mem_facts mems before line w place m row slots f =
     let r : get_or (map (slots_of before) mems) place row ≡ slots_of before (get_or mems place m) = get_or-map (slots_of before) mems place m row l in
     (l, n, f.here ∙ ap (λ s. get_or s place row) f.was ∙ r ∙ ap (slots_of before) (sym f.mem))
 
-rule_at : (mems : List MemInfo) (before : List (List ℕ)) (line : List ℕ) (w : Word) (place : ℕ) (m : MemInfo) (row : List (Option ℕ)) (slots : List (List (Option ℕ)))
+rule_at : (mems : List MemInfo) (before : List (List ℕ)) (line : List ℕ) (w : Word) (place : ℕ) (m : MemInfo)
+    (row : List (Option ℕ)) (slots : List (List (Option ℕ)))
     → IsNamed mems before line w place m row slots → broken_rule mems before line ≡ broken_at m row w.address w.value
 unfolding broken_rule
 rule_at mems before line w place m row slots f =
@@ -232,8 +251,10 @@ rule_at mems before line w place m row slots f =
     let h : mem_of mems w.name ≡ Some m = (find_some (λ k. bytes_eq k.name w.name) mems place m f.found f.mem).0 in
     rw (f.said, f.word) (ap (broken_in before w) h ∙ broken_word before m w g.1 ∙ ap (λ r. broken_at m r w.address w.value) (sym g.2))
 
-slots_at : (mems : List MemInfo) (before : List (List ℕ)) (line : List ℕ) (w : Word) (place : ℕ) (m : MemInfo) (row : List (Option ℕ)) (slots : List (List (Option ℕ)))
-    → AllPairs (λ a b. a.name ≢ b.name) mems → IsNamed mems before line w place m row slots → broken_at m row w.address w.value ≡ None
+slots_at : (mems : List MemInfo) (before : List (List ℕ)) (line : List ℕ) (w : Word) (place : ℕ) (m : MemInfo)
+    (row : List (Option ℕ)) (slots : List (List (Option ℕ)))
+    → AllPairs (λ a b. a.name ≢ b.name) mems → IsNamed mems before line w place m row slots
+    → broken_at m row w.address w.value ≡ None
     → set slots place (set row w.address (Some w.value)) ≡ all_slots mems (before ++ line ∷ [])
 unfolding all_slots
 slots_at mems before line w place m row slots distinct f e =
@@ -248,10 +269,11 @@ slots_at mems before line w place m row slots distinct f e =
     (λ i d l ne. row_other before line w (get_or mems i d) f.word (λ n. names_differ mems i place d distinct l g.0 ne (n ∙ sym g.1 ∙ ap (λ k. k.name) (at d))))
 
 -- a line that gives a word of a memory which is there breaks the rule that is found, or sets the word's slot
-pub word_follows : (mems : List MemInfo) (before : List (List ℕ)) (line : List ℕ) (w : Word) (place : ℕ) (m : MemInfo) (row : List (Option ℕ)) (slots : List (List (Option ℕ))) (new : List (Option ℕ)) (result : Result (Unit {0}) Rule)
+pub word_follows : (mems : List MemInfo) (before : List (List ℕ)) (line : List ℕ) (w : Word) (place : ℕ) (m : MemInfo)
+    (row : List (Option ℕ)) (slots : List (List (Option ℕ))) (new : List (Option ℕ)) (result : Result (Unit {0}) Rule)
     → AllPairs (λ a b. a.name ≢ b.name) mems → IsNamed mems before line w place m row slots
-    → MatchResult result (λ _. broken_at m row w.address w.value ≡ None) (λ rule. broken_at m row w.address w.value ≡ Some rule) → OnOk result (new ≡ set row w.address (Some w.value))
-    → Follows mems before line result (set slots place new)
+    → MatchResult result (λ _. broken_at m row w.address w.value ≡ None) (λ rule. broken_at m row w.address w.value ≡ Some rule)
+    → OnOk result (new ≡ set row w.address (Some w.value)) → Follows mems before line result (set slots place new)
 word_follows mems before line w place m row slots new (Ok u) distinct f h e =
     (rule_at mems before line w place m row slots f ∙ h, ap (set slots place) e ∙ slots_at mems before line w place m row slots distinct f h)
 word_follows mems before line w place m row slots new (Err rule) distinct f h e = rule_at mems before line w place m row slots f ∙ h

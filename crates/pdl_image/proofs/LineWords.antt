@@ -26,7 +26,8 @@ third_fails w true false z e = refl
 third_fails w false y z e = refl
 
 -- a text that is no number gives no word, whether or not a space stands in it
-not_value : (n a v : List ℕ) (ps : List (List ℕ)) → join_with_byte 32 ps ≡ v → are_digits 16 16 v ≡ false → word_of_parts (n ∷ a ∷ ps) ≡ None
+not_value : (n a v : List ℕ) (ps : List (List ℕ))
+    → join_with_byte 32 ps ≡ v → are_digits 16 16 v ≡ false → word_of_parts (n ∷ a ∷ ps) ≡ None
 not_value n a v [] j f = refl
 not_value n a v (p ∷ []) j f =
     let P : List ℕ → Type 0 = λ q. are_digits 16 16 q ≡ false in
@@ -69,14 +70,19 @@ pub no_name : (line n r a v : List ℕ) → fields line ≡ n ∷ fields r → f
 no_name line n r a v e f h = word_from line n r a v e f ∙ rw h refl
 
 -- a line whose second part has not 1 to 10 decimal digits gives no word
-pub no_address : (line n r a v : List ℕ) → fields line ≡ n ∷ fields r → fields r ≡ a ∷ fields v → is_name n ≡ true → are_digits 10 10 a ≡ false → word_of line ≡ None
+pub no_address : (line n r a v : List ℕ)
+    → fields line ≡ n ∷ fields r → fields r ≡ a ∷ fields v → is_name n ≡ true → are_digits 10 10 a ≡ false
+    → word_of line ≡ None
 no_address line n r a v e f h k = word_from line n r a v e f ∙ rw (h, k) refl
 
 -- a line that has not 1 to 16 hexadecimal digits after its second part gives no word
-pub no_value : (line n r a v : List ℕ) → fields line ≡ n ∷ fields r → fields r ≡ a ∷ fields v → are_digits 16 16 v ≡ false → word_of line ≡ None
+pub no_value : (line n r a v : List ℕ)
+    → fields line ≡ n ∷ fields r → fields r ≡ a ∷ fields v → are_digits 16 16 v ≡ false → word_of line ≡ None
 no_value line n r a v e f k = word_from line n r a v e f ∙ third_fails _ (is_name n) (are_digits 10 10 a) (are_digits 16 16 v) k
 
 -- a line of a name, an address and a value gives their word
-pub word_found : (line n r a v : List ℕ) (address value : ℕ) → fields line ≡ n ∷ fields r → fields r ≡ a ∷ fields v → is_name n ≡ true → are_digits 10 10 a ≡ true → are_digits 16 16 v ≡ true
-    → address ≡ digits_value 10 a → value ≡ digits_value 16 v → word_of line ≡ Some (record { name = n; address = address; value = value })
+pub word_found : (line n r a v : List ℕ) (address value : ℕ)
+    → fields line ≡ n ∷ fields r → fields r ≡ a ∷ fields v → is_name n ≡ true → are_digits 10 10 a ≡ true
+    → are_digits 16 16 v ≡ true → address ≡ digits_value 10 a → value ≡ digits_value 16 v
+    → word_of line ≡ Some (record { name = n; address = address; value = value })
 word_found line n r a v address value e f h k l p q = word_from line n r a v e f ∙ rw (h, k, l, p, q) refl

@@ -29,7 +29,8 @@ pub none_passes : {X : Type 0} (p : X → Bool) (xs : List X) → position p xs 
 none_passes p xs e = ltb-false _ _ (none_of _ _ e)
 
 -- a text's first part ends before its first byte of a kind, and the other parts are those after that byte
-pub parts_at : (p : ℕ → Bool) (xs : List ℕ) (i : ℕ) → position p xs ≡ Some i → slice_split p xs ≡ take i xs ∷ slice_split p (drop (i + 1) xs)
+pub parts_at : (p : ℕ → Bool) (xs : List ℕ) (i : ℕ)
+    → position p xs ≡ Some i → slice_split p xs ≡ take i xs ∷ slice_split p (drop (i + 1) xs)
 parts_at p xs i e =
     let f = place_is p xs i e in
     let h : position_or_len p xs < length xs = subst (λ n. n < length xs) (sym f.0) f.1 in
@@ -37,7 +38,9 @@ parts_at p xs i e =
     subst P f.0 (slice_split_first p xs 0 h)
 
 -- the bytes up to a line feed are a line
-lines_step : (b : Bool) (x : ℕ) (xs : List ℕ) (n i : ℕ) → (n < length xs → lines xs ≡ take n xs ∷ lines (drop (n + 1) xs)) → cond (not b) (1 + n) 0 ≡ i → i < suc (length xs)
+lines_step : (b : Bool) (x : ℕ) (xs : List ℕ) (n i : ℕ)
+    → (n < length xs → lines xs ≡ take n xs ∷ lines (drop (n + 1) xs)) → cond (not b) (1 + n) 0 ≡ i
+    → i < suc (length xs)
     → cond b ([] ∷ lines xs) (onto_first x (lines xs)) ≡ take i (x ∷ xs) ∷ lines (drop (i + 1) (x ∷ xs))
 lines_step true x xs n i later e h =
     let P : ℕ → Type 0 = λ k. [] ∷ lines xs ≡ take k (x ∷ xs) ∷ lines (drop (k + 1) (x ∷ xs)) in
@@ -48,7 +51,9 @@ lines_step false x xs n i later e h =
     let P : ℕ → Type 0 = λ k. onto_first x (lines xs) ≡ take k (x ∷ xs) ∷ lines (drop (k + 1) (x ∷ xs)) in
     subst P f (rw (g, add-one, add-one) refl)
 
-lines_at_place : (xs : List ℕ) → position_or_len (λ c. eqb c 10) xs < length xs → lines xs ≡ take (position_or_len (λ c. eqb c 10) xs) xs ∷ lines (drop (position_or_len (λ c. eqb c 10) xs + 1) xs)
+lines_at_place : (xs : List ℕ)
+    → position_or_len (λ c. eqb c 10) xs < length xs
+    → lines xs ≡ take (position_or_len (λ c. eqb c 10) xs) xs ∷ lines (drop (position_or_len (λ c. eqb c 10) xs + 1) xs)
 unfolding lines
 lines_at_place [] h = absurd (omega arith)
 lines_at_place (x ∷ xs) h = lines_step (eqb x 10) x xs (position_or_len (λ c. eqb c 10) xs) _ (lines_at_place xs) refl h
@@ -66,7 +71,8 @@ parts_whole p xs e =
     let h : length xs ≤ position_or_len p xs = none_passes p xs e in
     slice_split_none p xs (λ k d l. fails_before_first p xs k d (omega arith))
 
-whole_step : (b : Bool) (x : ℕ) (xs : List ℕ) (n : ℕ) → (length xs ≤ n → onto_first x (lines xs) ≡ (x ∷ xs) ∷ []) → suc (length xs) ≤ cond (not b) (1 + n) 0
+whole_step : (b : Bool) (x : ℕ) (xs : List ℕ) (n : ℕ)
+    → (length xs ≤ n → onto_first x (lines xs) ≡ (x ∷ xs) ∷ []) → suc (length xs) ≤ cond (not b) (1 + n) 0
     → cond b ([] ∷ lines xs) (onto_first x (lines xs)) ≡ (x ∷ xs) ∷ []
 whole_step true x xs n later h = absurd (omega arith)
 whole_step false x xs n later h = later (omega arith)
@@ -86,15 +92,20 @@ unfolding lines
 lines_none_left = refl
 
 -- the same, of slices as code makes them
-pub split_at : (xs : List ℕ) (i : ℕ) → position (λ c. eqb c 10) xs ≡ Some i → lines xs ≡ take i xs ∷ lines (take (length xs - (i + 1)) (drop (i + 1) xs))
+pub split_at : (xs : List ℕ) (i : ℕ)
+    → position (λ c. eqb c 10) xs ≡ Some i → lines xs ≡ take i xs ∷ lines (take (length xs - (i + 1)) (drop (i + 1) xs))
 split_at xs i e = rw take_rest (lines_at xs i e)
 
 -- a text that is not empty and has no line feed is one line, and then those of the empty text
-pub split_whole : (xs : List ℕ) → 0 < length xs → position (λ c. eqb c 10) xs ≡ None → lines xs ≡ xs ∷ lines (take (length xs - length xs) (drop (length xs) xs))
+pub split_whole : (xs : List ℕ)
+    → 0 < length xs → position (λ c. eqb c 10) xs ≡ None
+    → lines xs ≡ xs ∷ lines (take (length xs - length xs) (drop (length xs) xs))
 split_whole xs l e = rw (take_rest, drop-length, lines_none_left) (lines_whole xs l e)
 
 -- a line's first part ends before its first space, and the other parts are those after that space
-pub fields_at : (xs : List ℕ) (i : ℕ) → position (λ c. eqb c 32) xs ≡ Some i → fields xs ≡ take i xs ∷ fields (take (length xs - (i + 1)) (drop (i + 1) xs))
+pub fields_at : (xs : List ℕ) (i : ℕ)
+    → position (λ c. eqb c 32) xs ≡ Some i
+    → fields xs ≡ take i xs ∷ fields (take (length xs - (i + 1)) (drop (i + 1) xs))
 unfolding fields
 fields_at xs i e = rw take_rest (parts_at (λ c. eqb c 32) xs i e)
 

@@ -18,7 +18,7 @@ use Rattle.pdl_word.specs.Digits.{is_digit_of, are_digits}
 -- ---- a line
 
 -- no byte of a text is this one
-abbrev Lacks : ℕ → List ℕ → Type 0
+abbrev pub Lacks : ℕ → List ℕ → Type 0
 Lacks c [] = Unit {0}
 Lacks c (x ∷ xs) = (eqb x c ≡ false) × Lacks c xs
 

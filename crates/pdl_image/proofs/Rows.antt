@@ -24,16 +24,20 @@ zeros : Result (List (List ℕ)) FileError
 zeros = Ok ((0 ∷ 0 ∷ 0 ∷ 0 ∷ []) ∷ (0 ∷ 0 ∷ []) ∷ [])
 
 -- lines end with a line feed, which the last one may lack
-parted : (lines [] ≡ []) × (lines feed ≡ [] ∷ []) × (lines (codes "a" ++ feed) ≡ codes "a" ∷ []) × (lines (codes "a" ++ feed ++ feed ++ codes "b") ≡ codes "a" ∷ [] ∷ codes "b" ∷ [])
+parted : (lines [] ≡ []) × (lines feed ≡ [] ∷ []) × (lines (codes "a" ++ feed) ≡ codes "a" ∷ [])
+    × (lines (codes "a" ++ feed ++ feed ++ codes "b") ≡ codes "a" ∷ [] ∷ codes "b" ∷ [])
 unfolding lines feed
 parted = (refl, refl, refl, refl)
 
-no_header : (image mems [] ≡ Err (Refused I1 1)) × (image mems (codes "image ") ≡ Err (Refused I1 1)) × (image mems (feed ++ header) ≡ Err (Refused I1 1)) × (image mems (codes "image 2") ≡ Err (Refused I1 1)) × (image mems (codes "image 1 ") ≡ Err (Refused I1 1))
+no_header : (image mems [] ≡ Err (Refused I1 1)) × (image mems (codes "image ") ≡ Err (Refused I1 1))
+    × (image mems (feed ++ header) ≡ Err (Refused I1 1)) × (image mems (codes "image 2") ≡ Err (Refused I1 1))
+    × (image mems (codes "image 1 ") ≡ Err (Refused I1 1))
 unfolding image lines feed header mems
 no_header = (refl, refl, refl, refl, refl)
 
 -- nothing given
-empty : (image mems (codes "image 1") ≡ zeros) × (image mems header ≡ zeros) × (image mems (header ++ feed ++ codes "//1 2 3" ++ feed ++ feed) ≡ zeros)
+empty : (image mems (codes "image 1") ≡ zeros) × (image mems header ≡ zeros)
+    × (image mems (header ++ feed ++ codes "//1 2 3" ++ feed ++ feed) ≡ zeros)
 unfolding image lines feed header mems zeros first_wrong broken_rule word_of fields given_value
 empty = (refl, refl, refl)
 
@@ -47,17 +51,25 @@ refused : Rule → ℕ → List ℕ → Type 0
 refused rule line text = image mems (header ++ text) ≡ Err (Refused rule line)
 
 -- a line's form
-formless : refused I2 2 (codes "m 0") × refused I2 2 (codes "m  0 0") × refused I2 2 (codes "m 0 0 ") × refused I2 2 (codes " m 0 0") × refused I2 2 (codes "M 0 0") × refused I2 2 (codes "R 0 0") × refused I2 2 (codes "2k 0 0") × refused I2 2 (codes "m x 0") × refused I2 2 (codes "m 0 A") × refused I2 2 (codes "m 00000000000 0") × refused I2 2 (codes "m 0 00000000000000000") × refused I2 2 (codes "/ m") × refused I2 3 (feed ++ codes " ")
+formless : refused I2 2 (codes "m 0") × refused I2 2 (codes "m  0 0") × refused I2 2 (codes "m 0 0 ")
+    × refused I2 2 (codes " m 0 0") × refused I2 2 (codes "M 0 0") × refused I2 2 (codes "R 0 0")
+    × refused I2 2 (codes "2k 0 0") × refused I2 2 (codes "m x 0") × refused I2 2 (codes "m 0 A")
+    × refused I2 2 (codes "m 00000000000 0") × refused I2 2 (codes "m 0 00000000000000000") × refused I2 2 (codes "/ m")
+    × refused I2 3 (feed ++ codes " ")
 unfolding refused image lines feed header mems first_wrong broken_rule word_of fields given_value
 formless = (refl, refl, refl, refl, refl, refl, refl, refl, refl, refl, refl, refl, refl)
 
 -- a name of 33 characters has no form, and one of 32, or a keyword, isn't there
-names : refused I2 2 (codes "aaaaaaaaaaaaaaaaaaaaaaaaaaaaaaaaa 0 0") × refused I3 2 (codes "aaaaaaaaaaaaaaaaaaaaaaaaaaaaaaaa 0 0") × refused I3 2 (codes "pipe 0 0") × refused I3 2 (codes "x_1 9 999")
+names : refused I2 2 (codes "aaaaaaaaaaaaaaaaaaaaaaaaaaaaaaaaa 0 0")
+    × refused I3 2 (codes "aaaaaaaaaaaaaaaaaaaaaaaaaaaaaaaa 0 0") × refused I3 2 (codes "pipe 0 0")
+    × refused I3 2 (codes "x_1 9 999")
 unfolding refused image lines feed header mems first_wrong broken_rule word_of fields given_value
 names = (refl, refl, refl, refl)
 
 -- the address is asked before the value, and both before a word that was given
-ranges : refused I4 2 (codes "m 4 00") × refused I4 2 (codes "m 4 100") × refused I5 2 (codes "m 0 100") × refused I5 3 (codes "m 0 1" ++ feed ++ codes "m 0 100") × refused I6 3 (codes "m 0 1" ++ feed ++ codes "m 0 1") × refused I6 4 (codes "m 0 1" ++ feed ++ feed ++ codes "m 00 2")
+ranges : refused I4 2 (codes "m 4 00") × refused I4 2 (codes "m 4 100") × refused I5 2 (codes "m 0 100")
+    × refused I5 3 (codes "m 0 1" ++ feed ++ codes "m 0 100") × refused I6 3 (codes "m 0 1" ++ feed ++ codes "m 0 1")
+    × refused I6 4 (codes "m 0 1" ++ feed ++ feed ++ codes "m 00 2")
 unfolding refused image lines feed header mems first_wrong broken_rule word_of fields given_value
 ranges = (refl, refl, refl, refl, refl, refl)
 

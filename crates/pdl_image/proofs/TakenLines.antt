@@ -19,7 +19,8 @@ pub record Taken (mems : List MemInfo) (all : List (List ℕ)) (n : ℕ) (left :
   pub same : first_wrong mems [] 2 all ≡ first_wrong mems (take n all) (n + 2) left
 
 -- before the first line all lines are left, and the slots are those of no lines
-pub taken_none : (mems : List MemInfo) (all : List (List ℕ)) (slots : List (List (Option ℕ))) → slots ≡ all_slots mems [] → Taken mems all 0 all slots
+pub taken_none : (mems : List MemInfo) (all : List (List ℕ)) (slots : List (List (Option ℕ)))
+    → slots ≡ all_slots mems [] → Taken mems all 0 all slots
 taken_none mems all slots e = record { rest = refl; many = refl; given = e; same = refl }
 
 -- where one more is taken
@@ -27,20 +28,24 @@ front_of : (p : List (List ℕ)) (line : List ℕ) (later : List (List ℕ)) →
 front_of [] line later = refl
 front_of (q ∷ p) line later = ap (λ xs. q ∷ xs) (front_of p line later)
 
-front : (all : List (List ℕ)) (n : ℕ) (line : List ℕ) (later : List (List ℕ)) → all ≡ take n all ++ line ∷ later → length (take n all) ≡ n → take (n + 1) all ≡ take n all ++ line ∷ []
+front : (all : List (List ℕ)) (n : ℕ) (line : List ℕ) (later : List (List ℕ))
+    → all ≡ take n all ++ line ∷ later → length (take n all) ≡ n → take (n + 1) all ≡ take n all ++ line ∷ []
 front all n line later e h =
     let k : n + 1 ≡ suc (length (take n all)) = omega (arith, h) in
     ap (take (n + 1)) e ∙ ap (λ i. take i (take n all ++ line ∷ later)) k ∙ front_of (take n all) line later
 
 -- what the next line decides
 next_line : (mems : List MemInfo) (before : List (List ℕ)) (number : ℕ) (line : List ℕ) (later : List (List ℕ))
-    → first_wrong mems before number (line ∷ later) ≡ at_line number (broken_rule mems before line) (first_wrong mems (before ++ line ∷ []) (number + 1) later)
+    → first_wrong mems before number (line ∷ later)
+    ≡ at_line number (broken_rule mems before line) (first_wrong mems (before ++ line ∷ []) (number + 1) later)
 unfolding first_wrong
 next_line mems before number line later = refl
 
 -- a line that breaks no rule is taken after those before it, with the slots that it leaves
-pub taken_more : (mems : List MemInfo) (all : List (List ℕ)) (n : ℕ) (left : List (List ℕ)) (line : List ℕ) (later : List (List ℕ)) (slots new : List (List (Option ℕ)))
-    → Taken mems all n left slots → left ≡ line ∷ later → broken_rule mems (take n all) line ≡ None → new ≡ all_slots mems (take n all ++ line ∷ []) → Taken mems all (n + 1) later new
+pub taken_more : (mems : List MemInfo) (all : List (List ℕ)) (n : ℕ) (left : List (List ℕ)) (line : List ℕ)
+    (later : List (List ℕ)) (slots new : List (List (Option ℕ)))
+    → Taken mems all n left slots → left ≡ line ∷ later → broken_rule mems (take n all) line ≡ None
+    → new ≡ all_slots mems (take n all ++ line ∷ []) → Taken mems all (n + 1) later new
 taken_more mems all n left line later slots new t e b f =
     let whole : all ≡ take n all ++ line ∷ later = t.rest ∙ ap (λ ls. take n all ++ ls) e in
     let g : take (n + 1) all ≡ take n all ++ line ∷ [] = front all n line later whole t.many in
@@ -55,8 +60,10 @@ taken_more mems all n left line later slots new t e b f =
     }
 
 -- where the next line breaks a rule, it is the first wrong line of all, refused by this rule
-pub wrong_found : (mems : List MemInfo) (all : List (List ℕ)) (n : ℕ) (left : List (List ℕ)) (line : List ℕ) (later : List (List ℕ)) (slots : List (List (Option ℕ))) (rule : Rule)
-    → Taken mems all n left slots → left ≡ line ∷ later → broken_rule mems (take n all) line ≡ Some rule → first_wrong mems [] 2 all ≡ Some (Refused rule (n + 2))
+pub wrong_found : (mems : List MemInfo) (all : List (List ℕ)) (n : ℕ) (left : List (List ℕ)) (line : List ℕ)
+    (later : List (List ℕ)) (slots : List (List (Option ℕ))) (rule : Rule)
+    → Taken mems all n left slots → left ≡ line ∷ later → broken_rule mems (take n all) line ≡ Some rule
+    → first_wrong mems [] 2 all ≡ Some (Refused rule (n + 2))
 wrong_found mems all n left line later slots rule t e b =
     t.same ∙ ap (first_wrong mems (take n all) (n + 2)) e ∙ next_line mems (take n all) (n + 2) line later
     ∙ ap (λ o. at_line (n + 2) o (first_wrong mems (take n all ++ line ∷ []) (n + 2 + 1) later)) b
@@ -72,7 +79,8 @@ lines_of_none [] h = refl
 lines_of_none (c ∷ cs) h = absurd (omega arith)
 
 -- once all lines are taken, none is wrong and the slots are those of all lines
-pub all_taken : (mems : List MemInfo) (all : List (List ℕ)) (n : ℕ) (text : List ℕ) (slots : List (List (Option ℕ))) → Taken mems all n (lines text) slots → length text ≡ 0
+pub all_taken : (mems : List MemInfo) (all : List (List ℕ)) (n : ℕ) (text : List ℕ) (slots : List (List (Option ℕ)))
+    → Taken mems all n (lines text) slots → length text ≡ 0
     → (first_wrong mems [] 2 all ≡ None) × (slots ≡ all_slots mems all)
 all_taken mems all n text slots t h =
     let e : lines text ≡ [] = lines_of_none text h in
@@ -91,7 +99,8 @@ unfolding all_slots
 no_slots = refl
 
 -- with one memory more, its slots, in which there is no word, come after those of the others
-pub one_more_row : (mems : List MemInfo) (i : ℕ) (m : MemInfo) (row : List (Option ℕ)) → i < length mems → m ≡ get_or mems i m → row ≡ replicate m.depth None
+pub one_more_row : (mems : List MemInfo) (i : ℕ) (m : MemInfo) (row : List (Option ℕ))
+    → i < length mems → m ≡ get_or mems i m → row ≡ replicate m.depth None
     → all_slots (take (i + 1) mems) [] ≡ all_slots (take i mems) [] ++ row ∷ []
 unfolding all_slots
 one_more_row mems i m row l e f =

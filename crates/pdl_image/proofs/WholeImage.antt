@@ -28,8 +28,8 @@ unfolding image
 no_header mems text e = ap (image_after mems) e
 
 -- a text that begins with `image 1` is refused as the first wrong line after that is
-pub wrong_line : (mems : List MemInfo) (text : List ℕ) (rest : List (List ℕ)) (refusal : FileError) → after_header (lines text) ≡ Some rest → first_wrong mems [] 2 rest ≡ Some refusal
-    → image mems text ≡ Err refusal
+pub wrong_line : (mems : List MemInfo) (text : List ℕ) (rest : List (List ℕ)) (refusal : FileError)
+    → after_header (lines text) ≡ Some rest → first_wrong mems [] 2 rest ≡ Some refusal → image mems text ≡ Err refusal
 unfolding image
 wrong_line mems text rest refusal e f = ap (image_after mems) e ∙ ap (contents mems rest) f
 
@@ -43,14 +43,16 @@ words_row : (rest : List (List ℕ)) (m : MemInfo) → map (λ o. unwrap_or o 0)
 unfolding slots_of
 words_row rest m = map-map (λ o. unwrap_or o 0) (given_value rest m.name) (range_with_len 0 m.depth)
 
-words_all : (mems : List MemInfo) (rest : List (List ℕ)) → map (λ row. map (λ o. unwrap_or o 0) row) (all_slots mems rest) ≡ map (words_of rest) mems
+words_all : (mems : List MemInfo) (rest : List (List ℕ))
+    → map (λ row. map (λ o. unwrap_or o 0) row) (all_slots mems rest) ≡ map (words_of rest) mems
 unfolding all_slots
 words_all mems rest =
     map-map (λ row. map (λ o. unwrap_or o 0) row) (slots_of rest) mems ∙ map_same _ _ mems (λ k d l. words_row rest (get_or mems k d))
 
 -- a text without a wrong line gives the words of its slots, and 0 where a slot has none
-pub image_read : (mems : List MemInfo) (text : List ℕ) (rest : List (List ℕ)) (slots : List (List (Option ℕ))) → after_header (lines text) ≡ Some rest
-    → first_wrong mems [] 2 rest ≡ None → slots ≡ all_slots mems rest → image mems text ≡ Ok (map (λ row. map (λ o. unwrap_or o 0) row) slots)
+pub image_read : (mems : List MemInfo) (text : List ℕ) (rest : List (List ℕ)) (slots : List (List (Option ℕ)))
+    → after_header (lines text) ≡ Some rest → first_wrong mems [] 2 rest ≡ None → slots ≡ all_slots mems rest
+    → image mems text ≡ Ok (map (λ row. map (λ o. unwrap_or o 0) row) slots)
 unfolding image
 image_read mems text rest slots e f g =
     ap (image_after mems) e ∙ ap (contents mems rest) f ∙ ap Ok (sym (ap (map (λ row. map (λ o. unwrap_or o 0) row)) g ∙ words_all mems rest))
@@ -70,7 +72,8 @@ value_if true w v e = (refl, cc)
 value_if false w v e = cc
 
 -- each memory is the first of its name
-find_self : (mems : List MemInfo) (k : ℕ) (d : MemInfo) → AllPairs (λ a b. a.name ≢ b.name) mems → k < length mems → mem_of mems (get_or mems k d).name ≡ Some (get_or mems k d)
+find_self : (mems : List MemInfo) (k : ℕ) (d : MemInfo) → AllPairs (λ a b. a.name ≢ b.name) mems
+    → k < length mems → mem_of mems (get_or mems k d).name ≡ Some (get_or mems k d)
 find_self mems k d distinct l =
     let m : MemInfo = get_or mems k d in
     let p : MemInfo → Bool = λ n. bytes_eq n.name m.name in
@@ -103,7 +106,8 @@ said_small mems before line m address v b f h = elim (cases_Bool (says_nothing l
       line_small mems before line m (word_of line) address v k f h
 ]
 
-values_small : (mems : List MemInfo) (rest before : List (List ℕ)) (number : ℕ) (m : MemInfo) (address : ℕ) → first_wrong mems before number rest ≡ None → mem_of mems m.name ≡ Some m
+values_small : (mems : List MemInfo) (rest before : List (List ℕ)) (number : ℕ) (m : MemInfo) (address : ℕ)
+    → first_wrong mems before number rest ≡ None → mem_of mems m.name ≡ Some m
     → unwrap_or (given_value rest m.name address) 0 < 2 ^ m.width
 unfolding first_wrong given_value
 values_small mems [] before number m address e f = pow_pos m.width
@@ -111,7 +115,8 @@ values_small mems (line ∷ more) before number m address e f =
     let g = at_none number (broken_rule mems before line) _ e in
     or_small (value_at (word_of line) m.name address) _ _ (λ v h. said_small mems before line m address v g.0 f h) (values_small mems more (before ++ line ∷ []) (number + 1) m address g.1 f)
 
-word_small : (mems : List MemInfo) (rest : List (List ℕ)) (m : MemInfo) (a : ℕ) → first_wrong mems [] 2 rest ≡ None → mem_of mems m.name ≡ Some m → get_or (words_of rest m) a 0 < 2 ^ m.width
+word_small : (mems : List MemInfo) (rest : List (List ℕ)) (m : MemInfo) (a : ℕ)
+    → first_wrong mems [] 2 rest ≡ None → mem_of mems m.name ≡ Some m → get_or (words_of rest m) a 0 < 2 ^ m.width
 word_small mems rest m a e f = elim (cases_lt a m.depth) [
   | inl h ↦
       let P : ℕ → Type 0 = λ n. n < 2 ^ m.width in
@@ -122,7 +127,8 @@ word_small mems rest m a e f = elim (cases_lt a m.depth) [
       subst P (sym (get_or_past (words_of rest m) a 0 k)) (pow_pos m.width)
 ]
 
-image_shape : (mems : List MemInfo) (rest : List (List ℕ)) → AllPairs (λ a b. a.name ≢ b.name) mems → first_wrong mems [] 2 rest ≡ None → IsImage mems (map (words_of rest) mems)
+image_shape : (mems : List MemInfo) (rest : List (List ℕ)) → AllPairs (λ a b. a.name ≢ b.name) mems
+    → first_wrong mems [] 2 rest ≡ None → IsImage mems (map (words_of rest) mems)
 image_shape mems rest distinct e =
     let row = λ (m : ℕ) (d : MemInfo) (l : m < length mems). get_or-map (words_of rest) mems m d [] l in
     record {
@@ -134,8 +140,9 @@ image_shape mems rest distinct e =
     }
 
 -- where no line is wrong and names differ, the words of the slots are an image for the memories
-pub whole : (mems : List MemInfo) (rest : List (List ℕ)) (slots : List (List (Option ℕ))) (words : List (List ℕ)) → AllPairs (λ a b. a.name ≢ b.name) mems
-    → first_wrong mems [] 2 rest ≡ None → slots ≡ all_slots mems rest → words ≡ map (λ row. map (λ o. unwrap_or o 0) row) slots → IsImage mems words
+pub whole : (mems : List MemInfo) (rest : List (List ℕ)) (slots : List (List (Option ℕ))) (words : List (List ℕ))
+    → AllPairs (λ a b. a.name ≢ b.name) mems → first_wrong mems [] 2 rest ≡ None → slots ≡ all_slots mems rest
+    → words ≡ map (λ row. map (λ o. unwrap_or o 0) row) slots → IsImage mems words
 whole mems rest slots words distinct e f g =
     let P : List (List ℕ) → Type 0 = λ w. IsImage mems w in
     subst P (sym (g ∙ ap (map (λ row. map (λ o. unwrap_or o 0) row)) f ∙ words_all mems rest)) (image_shape mems rest distinct e)

@@ -14,7 +14,9 @@ rest_is : (p : List ℕ) (i : ℕ) → take (length p - i) (drop i p) ≡ drop i
 rest_is p i = take_all (length p - i) (drop i p) (omega (arith, length-drop i p))
 
 -- a text's next bytes, written after its first ones, are with these its first bytes
-pub told_on : (o : Option (List ℕ)) (p : List ℕ) (i n : ℕ) → i ≤ length p → with_bytes (take n (take (length p - i) (drop i p))) (with_bytes (take i p) o) ≡ with_bytes (take (i + n) p) o
+pub told_on : (o : Option (List ℕ)) (p : List ℕ) (i n : ℕ)
+    → i ≤ length p
+    → with_bytes (take n (take (length p - i) (drop i p))) (with_bytes (take i p) o) ≡ with_bytes (take (i + n) p) o
 told_on None p i n h = refl
 told_on (Some w) p i n h = rw (rest_is p i) (ap (λ t. Some t) (append_assoc w (take i p) (take n (drop i p)) ∙ ap (λ t. w ++ t) (take_add p i n h)))
 

@@ -17,7 +17,9 @@ use Rattle.pdl_law.specs.StandingStates.{IsKnown}
 use Rattle.pdl_semantics.proofs.Facts.{after_more}
 
 -- all that is known of a cycle is known in each state that a run of a sound and strict pipe comes to
-pub known_here : (p : Pipe) → Sound p → Strict p → Careful p → Reads p → (image : Arrays) (before : List (List Bool)) (bits : List Bool) → IsKnown p (state_after p (first p image) before) bits
+pub known_here : (p : Pipe) → Sound p → Strict p → Careful p → Reads p
+    → (image : Arrays) (before : List (List Bool)) (bits : List Bool)
+    → IsKnown p (state_after p (first p image) before) bits
 known_here p sound strict careful reads image before bits = record {
   by = stages_here p sound strict image before bits;
   used = in_use_here p sound strict image before bits careful;

@@ -29,7 +29,9 @@ some_is : {X : Type 0} → (a b : X) → Some a ≡ Some b → a ≡ b
 some_is a b e = cc e
 
 -- whatever holds of each delayed read holds of a memory's first one
-pub reading_has : (P : ℕ → Reading → Type 0) (xs : List Stmt) → Each (λ (x : Stmt). on_delayed_read (λ y m a. P m (record { stage = x.stage; var = y })) ⊤ x.op) xs → (m : ℕ) (r : Reading) → reading_in m xs ≡ Some r → P m r
+pub reading_has : (P : ℕ → Reading → Type 0) (xs : List Stmt)
+    → Each (λ (x : Stmt). on_delayed_read (λ y m a. P m (record { stage = x.stage; var = y })) ⊤ x.op) xs
+    → (m : ℕ) (r : Reading) → reading_in m xs ≡ Some r → P m r
 reading_has P [] h m r e = absurd (cc e)
 reading_has P (x ∷ xs) h m r e = at x.op h.0 e (reading_has P xs h.1 m r)
   where
@@ -42,7 +44,8 @@ reading_has P (x ∷ xs) h m r e = at x.op h.0 e (reading_has P xs h.1 m r)
     at _ i f go = go f
 
 -- each variable is in the range
-pub risen : (lo hi : ℕ) (xs : List Stmt) → RisesIn lo hi xs → Each (λ (x : Stmt). on_delayed_read (λ y m a. (lo ≤ y) × (y < hi)) ⊤ x.op) xs × (lo ≤ hi)
+pub risen : (lo hi : ℕ) (xs : List Stmt) → RisesIn lo hi xs
+    → Each (λ (x : Stmt). on_delayed_read (λ y m a. (lo ≤ y) × (y < hi)) ⊤ x.op) xs × (lo ≤ hi)
 risen lo hi [] h = (tt, h)
 risen lo hi (x ∷ xs) h = at x.op h (λ low i. risen low hi xs i)
   where
@@ -65,7 +68,8 @@ risen lo hi (x ∷ xs) h = at x.op h (λ low i. risen low hi xs i)
     at _ i go = let r = go lo i in ((tt, r.0), r.1)
 
 -- two that bind one variable are of one memory
-pub reads_apart : (lo hi : ℕ) (xs : List Stmt) → RisesIn lo hi xs → (m n : ℕ) (r q : Reading) → reading_in m xs ≡ Some r → reading_in n xs ≡ Some q → r.var ≡ q.var → m ≡ n
+pub reads_apart : (lo hi : ℕ) (xs : List Stmt) → RisesIn lo hi xs → (m n : ℕ) (r q : Reading)
+    → reading_in m xs ≡ Some r → reading_in n xs ≡ Some q → r.var ≡ q.var → m ≡ n
 reads_apart lo hi [] h m n r q e f g = absurd (cc e)
 reads_apart lo hi (x ∷ xs) h m n r q e f g = at x.op h e f (λ low i. reads_apart low hi xs i m n r q)
   where

@@ -31,7 +31,9 @@ use Rattle.pdl_word.proofs.Each.{each_weaker}
 -- ---- MEMORIES
 
 -- a memory that the rules take for delayed is there, and delayed; one that they don't is not
-delayed_there : (ms : List Mem) (n : List ℕ) → is_delayed_memory ms n ≡ true → (mem_of ms n < length (mems_of ms)) × ((slice_index_or (mems_of ms) (mem_of ms n) plain_mem).delayed ≡ true)
+delayed_there : (ms : List Mem) (n : List ℕ)
+    → is_delayed_memory ms n ≡ true
+    → (mem_of ms n < length (mems_of ms)) × ((slice_index_or (mems_of ms) (mem_of ms n) plain_mem).delayed ≡ true)
 delayed_there [] n e = absurd (false≢true e)
 delayed_there (x ∷ xs) n e = at (bytes_eq x.name.name n) e (delayed_there xs n)
   where
@@ -40,7 +42,8 @@ delayed_there (x ∷ xs) n e = at (bytes_eq x.name.name n) e (delayed_there xs n
     at true f rest = (omega arith, f)
     at false f rest = let r = rest f in (let l = r.0 in omega (arith, l), r.1)
 
-comb_there : (ms : List Mem) (n : List ℕ) → is_delayed_memory ms n ≡ false → (slice_index_or (mems_of ms) (mem_of ms n) plain_mem).delayed ≡ false
+comb_there : (ms : List Mem) (n : List ℕ)
+    → is_delayed_memory ms n ≡ false → (slice_index_or (mems_of ms) (mem_of ms n) plain_mem).delayed ≡ false
 comb_there [] n e = refl
 comb_there (x ∷ xs) n e = at (bytes_eq x.name.name n) e (comb_there xs n)
   where
@@ -75,7 +78,9 @@ kinds p rules = each_fine p rules (λ (x : Stmt). IsOfKind (flat p) x.op) (λ t 
 -- ---- VARIABLES
 
 -- of one site, and then the rest
-rises_row : (ms : List Mem) (gs : List Flat.Guard) (w : Flatten.Position) (s : tree.Stmt) (lo hi : ℕ) (rest : List Stmt) → lo ≤ length w.vars → RisesIn (length (vars_past ms w.vars s)) hi rest → RisesIn lo hi (rows_of gs w (op_of ms w.vars s) ++ rest)
+rises_row : (ms : List Mem) (gs : List Flat.Guard) (w : Flatten.Position) (s : tree.Stmt) (lo hi : ℕ) (rest : List Stmt)
+    → lo ≤ length w.vars → RisesIn (length (vars_past ms w.vars s)) hi rest
+    → RisesIn lo hi (rows_of gs w (op_of ms w.vars s) ++ rest)
 rises_row ms gs w s lo hi rest l h = at s h past
   where
     past : lo ≤ length (vars_past ms w.vars s)
@@ -101,7 +106,9 @@ rises p = subst (RisesIn (length (params_of p.params)) (flat p).vars) (sym (stmt
 
 -- ---- STAGES
 
-each_low : (n : ℕ) (xs : List Stmt) → list_all (λ (y : Stmt). nat_lt y.stage n) xs ≡ true → Each (λ (x : Stmt). on_delayed_read (λ y m a. x.stage < n) ⊤ x.op) xs
+each_low : (n : ℕ) (xs : List Stmt)
+    → list_all (λ (y : Stmt). nat_lt y.stage n) xs ≡ true
+    → Each (λ (x : Stmt). on_delayed_read (λ y m a. x.stage < n) ⊤ x.op) xs
 each_low n [] h = tt
 each_low n (x ∷ xs) h = (at x.op, each_low n xs parts.1)
   where

@@ -41,7 +41,8 @@ abbrev pub Replied : Pipe → List Bool → ℕ → List Mem → ℕ → Type 0
 Replied p bits m xs b = (i : ℕ) → i < length xs → (slice_index_or xs i plain_mem).delayed ≡ true → is_answered p bits (m + i) ≡ slice_index_or (replies_of (delayed_in xs) b) (delayed_in (take i xs)) false
 
 -- those of the rest
-replied_after : (p : Pipe) (bits : List Bool) (m : ℕ) (x : Mem) (xs : List Mem) (b : ℕ) (t : Bool) → x.delayed ≡ t → Replied p bits m (x ∷ xs) b → Replied p bits (suc m) xs (if t then b / 2 else b)
+replied_after : (p : Pipe) (bits : List Bool) (m : ℕ) (x : Mem) (xs : List Mem) (b : ℕ) (t : Bool)
+    → x.delayed ≡ t → Replied p bits m (x ∷ xs) b → Replied p bits (suc m) xs (if t then b / 2 else b)
 replied_after p bits m x xs b false e h i l d =
     ap (is_answered p bits) (let z : suc m + i ≡ m + suc i = omega arith in z) ∙ h (suc i) (omega (arith, l)) d
     ∙ ap (λ t. slice_index_or (replies_of (if t then suc (delayed_in xs) else delayed_in xs) b) (if t then suc (delayed_in (take i xs)) else delayed_in (take i xs)) false) e
@@ -49,13 +50,16 @@ replied_after p bits m x xs b true e h i l d =
     ap (is_answered p bits) (let z : suc m + i ≡ m + suc i = omega arith in z) ∙ h (suc i) (omega (arith, l)) d
     ∙ ap (λ t. slice_index_or (replies_of (if t then suc (delayed_in xs) else delayed_in xs) b) (if t then suc (delayed_in (take i xs)) else delayed_in (take i xs)) false) e
 
-replied_here : (p : Pipe) (bits : List Bool) (m : ℕ) (x : Mem) (xs : List Mem) (b : ℕ) → x.delayed ≡ true → Replied p bits m (x ∷ xs) b → is_answered p bits m ≡ reply b
+replied_here : (p : Pipe) (bits : List Bool) (m : ℕ) (x : Mem) (xs : List Mem) (b : ℕ)
+    → x.delayed ≡ true → Replied p bits m (x ∷ xs) b → is_answered p bits m ≡ reply b
 replied_here p bits m x xs b e h =
     ap (is_answered p bits) (let z : m ≡ m + 0 = omega arith in z) ∙ h 0 (omega arith) e
     ∙ ap (λ t. slice_index_or (replies_of (if t then suc (delayed_in xs) else delayed_in xs) b) 0 false) e
 
 -- a request is left unanswered outside where one of the machine's requests is, and only there
-pub waits_are : (p : Pipe) (st : machine.State) (bits : List Bool) (m : ℕ) (xs : List Mem) (ys : List Store) (b : ℕ) → AreStores st m xs ys → Replied p bits m xs b → ((i : ℕ) → i < length xs → (slice_index_or xs i plain_mem).delayed ≡ false → request_of st (m + i) ≡ NoRequest)
+pub waits_are : (p : Pipe) (st : machine.State) (bits : List Bool) (m : ℕ) (xs : List Mem) (ys : List Store) (b : ℕ)
+    → AreStores st m xs ys → Replied p bits m xs b
+    → ((i : ℕ) → i < length xs → (slice_index_or xs i plain_mem).delayed ≡ false → request_of st (m + i) ≡ NoRequest)
     → some_waits ys b ≡ waits_from p bits m (for_mems (request_of st) m xs)
 waits_are p st bits m [] [] b h r n = refl
 waits_are p st bits m [] (y ∷ ys) b h r n = absurd h

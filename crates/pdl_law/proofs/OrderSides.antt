@@ -39,11 +39,15 @@ abbrev pub Agrees : State → Walk → Next → List ℕ → Type 0
 Agrees s w n env = (x : ℕ) → forks_by n x ≡ true → slice_index env x ≡ (w.vars x).value s
 
 -- a choice by a fork's variable
-pub fork_at : (s : State) (w : Walk) (x a b : ℕ) (env : List ℕ) → Agrees s w (Forks x a b) env → (f g : Signal) → (mux_signal (w.vars x) f g).value s ≡ (if slice_index env x == 1 then f.value s else g.value s)
+pub fork_at : (s : State) (w : Walk) (x a b : ℕ) (env : List ℕ) → Agrees s w (Forks x a b) env → (f g : Signal)
+    → (mux_signal (w.vars x) f g).value s ≡ (if slice_index env x == 1 then f.value s else g.value s)
 fork_at s w x a b env h f g = mux_by s (w.vars x) f g ∙ ap (λ n. if n == 1 then f.value s else g.value s) (sym (h x (eq-eqb x x refl)))
 
 -- what stands at the way on is that of the next stage
-pub way_at : (s : State) (w : Walk) (n : Next) (env : List ℕ) → Agrees s w n env → (f : ℕ → Signal) (g : Option ℕ → Bool) → g None ≡ true → ((q : ℕ) → goes_to n env ≡ Some q → (f q).value s ≡ bit (g (Some q))) → (way_on n f w).value s ≡ bit (g (goes_to n env))
+pub way_at : (s : State) (w : Walk) (n : Next) (env : List ℕ) → Agrees s w n env
+    → (f : ℕ → Signal) (g : Option ℕ → Bool) → g None ≡ true
+    → ((q : ℕ) → goes_to n env ≡ Some q → (f q).value s ≡ bit (g (Some q)))
+    → (way_on n f w).value s ≡ bit (g (goes_to n env))
 way_at s w Ends env h f g none some = one_is s ∙ ap bit (sym none)
 way_at s w (Goes to) env h f g none some = some to refl
 way_at s w (Forks x a b) env h f g none some = fork_at s w x a b env h (f a) (f b) ∙ choose (slice_index env x == 1) (λ q e. some q e)
@@ -186,8 +190,10 @@ module _ (p : Pipe) (c : Circuit) (vs : ℕ → View) (gates : Gates) (moves : �
 -- ---- MERGES
 
 -- whether a thread may go into a merge, where the fork's order stands for its list
-pub turn_is : (p : Pipe) (c : Circuit) (vs : ℕ → View) (gates : Gates) (moves : ℕ → Signal) (sides : Sides) (own : Own) (f : ℕ) → HasOrder p c vs gates moves sides own f
-    → (s : State) (st : machine.State) (from : Option Branch) → (sides.order f).stands s (fork_of st f) → (branch_turn (sides.order f) from).value s ≡ bit (may_merge st (Some f) from)
+pub turn_is : (p : Pipe) (c : Circuit) (vs : ℕ → View) (gates : Gates) (moves : ℕ → Signal) (sides : Sides) (own : Own) (f : ℕ)
+    → HasOrder p c vs gates moves sides own f → (s : State) (st : machine.State) (from : Option Branch)
+    → (sides.order f).stands s (fork_of st f)
+    → (branch_turn (sides.order f) from).value s ≡ bit (may_merge st (Some f) from)
 turn_is p c vs gates moves sides own f order s st from stands = at from (fork_of st f) stands
   where
     o : OrderNets

@@ -23,8 +23,10 @@ Apart names n = (i j : ℕ) → i < n → j < n → (i ≡ j → ⊥) → bytes_
 -- STAGES
 
 -- a look-up by a name that no port of a stage has passes the stages' ports
-pub past_stages : (s : State) (vs : ℕ → View) (moves : ℕ → Signal) (x : List ℕ) → ((j : ℕ) → bytes_eq (codes "v_" ++ decimal j) x ≡ false) → ((j : ℕ) → bytes_eq (codes "g_" ++ decimal j) x ≡ false)
-    → (n k : ℕ) (rest : List Shown) → look s (stages_shown vs moves n k ++ rest) x ≡ look s rest x
+pub past_stages : (s : State) (vs : ℕ → View) (moves : ℕ → Signal) (x : List ℕ)
+    → ((j : ℕ) → bytes_eq (codes "v_" ++ decimal j) x ≡ false)
+    → ((j : ℕ) → bytes_eq (codes "g_" ++ decimal j) x ≡ false) → (n k : ℕ) (rest : List Shown)
+    → look s (stages_shown vs moves n k ++ rest) x ≡ look s rest x
 past_stages s vs moves x v g zero k rest = refl
 past_stages s vs moves x v g (suc n) k rest =
     ap₂ (λ a b. if a then (vs k).valid.value s else (if b then (moves k).value s else look s (stages_shown vs moves n (suc k) ++ rest) x)) (v k) (g k) ∙ past_stages s vs moves x v g n (suc k) rest
@@ -37,7 +39,9 @@ pick test value names m [] y rest = rest
 pick test value names m (x ∷ xs) y rest = if test x then (if bytes_eq (names m) y then value m else pick test value names (suc m) xs y rest) else pick test value names (suc m) xs y rest
 
 -- where names differ, a memory that passes the test is found by its name
-pub pick_at : (test : Mem → Bool) (value : ℕ → ℕ) (names : ℕ → List ℕ) (n m : ℕ) (xs : List Mem) (i rest : ℕ) → m + length xs ≤ n → Apart names n → i < length xs → test (slice_index_or xs i plain_mem) ≡ true → pick test value names m xs (names (m + i)) rest ≡ value (m + i)
+pub pick_at : (test : Mem → Bool) (value : ℕ → ℕ) (names : ℕ → List ℕ) (n m : ℕ) (xs : List Mem) (i rest : ℕ)
+    → m + length xs ≤ n → Apart names n → i < length xs → test (slice_index_or xs i plain_mem) ≡ true
+    → pick test value names m xs (names (m + i)) rest ≡ value (m + i)
 pick_at test value names n m [] i rest e a l t = absurd (omega (arith, l))
 pick_at test value names n m (x ∷ xs) zero rest e a l t =
     let same : m ≡ m + 0 = omega arith in
@@ -51,7 +55,9 @@ pick_at test value names n m (x ∷ xs) (suc i) rest e a l t =
     at true = ap (λ c. if c then value m else pick test value names (suc m) xs (names (m + suc i)) rest) (a m (m + suc i) (omega (arith, e)) (omega (arith, e, l)) (λ z. omega (arith, z)))
 
 -- where names differ, a memory that doesn't pass the test is not found by its name
-pub pick_not : (test : Mem → Bool) (value : ℕ → ℕ) (names : ℕ → List ℕ) (n m : ℕ) (xs : List Mem) (i rest : ℕ) → m + length xs ≤ n → Apart names n → i < n → ((j : ℕ) → m + j ≡ i → test (slice_index_or xs j plain_mem) ≡ false) → pick test value names m xs (names i) rest ≡ rest
+pub pick_not : (test : Mem → Bool) (value : ℕ → ℕ) (names : ℕ → List ℕ) (n m : ℕ) (xs : List Mem) (i rest : ℕ)
+    → m + length xs ≤ n → Apart names n → i < n → ((j : ℕ) → m + j ≡ i → test (slice_index_or xs j plain_mem) ≡ false)
+    → pick test value names m xs (names i) rest ≡ rest
 pick_not test value names n m [] i rest e a l h = refl
 pick_not test value names n m (x ∷ xs) i rest e a l h = at (test x) refl ∙ pick_not test value names n (suc m) xs i rest (omega (arith, e)) a l (λ j f. h (suc j) (omega (arith, f)))
   where
@@ -60,7 +66,9 @@ pick_not test value names n m (x ∷ xs) i rest e a l h = at (test x) refl ∙ p
     at true f = ap (λ c. if c then value m else pick test value names (suc m) xs (names i) rest) (a m i (omega (arith, e)) l (λ z. false≢true (sym (h 0 (omega (arith, z))) ∙ f)))
 
 -- whether a memory commits, where, and what
-pub commit_flag : (s : State) (names : ℕ → List ℕ) (commits : ℕ → Commit) (m : ℕ) (xs : List Mem) (y : List ℕ) (rest : List Shown) → look s (commits_shown names commits m xs ++ rest) (codes "c_" ++ y) ≡ pick (λ (x : Mem). has_lock x.lock) (λ i. (commits i).enable.value s) names m xs y (look s rest (codes "c_" ++ y))
+pub commit_flag : (s : State) (names : ℕ → List ℕ) (commits : ℕ → Commit) (m : ℕ) (xs : List Mem) (y : List ℕ) (rest : List Shown)
+    → look s (commits_shown names commits m xs ++ rest) (codes "c_" ++ y)
+    ≡ pick (λ (x : Mem). has_lock x.lock) (λ i. (commits i).enable.value s) names m xs y (look s rest (codes "c_" ++ y))
 commit_flag s names commits m [] y rest = refl
 commit_flag s names commits m (x ∷ xs) y rest = at (has_lock x.lock) (commit_flag s names commits (suc m) xs y rest)
   where
@@ -71,7 +79,9 @@ commit_flag s names commits m (x ∷ xs) y rest = at (has_lock x.lock) (commit_f
     at true go = ap (λ n. if bytes_eq (names m) y then (commits m).enable.value s else n) go
 
 -- the port `ca_` of a name shows the commit address of the first memory with a lock and this name
-pub commit_addr : (s : State) (names : ℕ → List ℕ) (commits : ℕ → Commit) (m : ℕ) (xs : List Mem) (y : List ℕ) (rest : List Shown) → look s (commits_shown names commits m xs ++ rest) (codes "ca_" ++ y) ≡ pick (λ (x : Mem). has_lock x.lock) (λ i. (commits i).addr.value s) names m xs y (look s rest (codes "ca_" ++ y))
+pub commit_addr : (s : State) (names : ℕ → List ℕ) (commits : ℕ → Commit) (m : ℕ) (xs : List Mem) (y : List ℕ) (rest : List Shown)
+    → look s (commits_shown names commits m xs ++ rest) (codes "ca_" ++ y)
+    ≡ pick (λ (x : Mem). has_lock x.lock) (λ i. (commits i).addr.value s) names m xs y (look s rest (codes "ca_" ++ y))
 commit_addr s names commits m [] y rest = refl
 commit_addr s names commits m (x ∷ xs) y rest = at (has_lock x.lock) (commit_addr s names commits (suc m) xs y rest)
   where
@@ -82,7 +92,9 @@ commit_addr s names commits m (x ∷ xs) y rest = at (has_lock x.lock) (commit_a
     at true go = ap (λ n. if bytes_eq (names m) y then (commits m).addr.value s else n) go
 
 -- the port `cd_` of a name shows the committed word of the first memory with a lock and this name
-pub commit_word : (s : State) (names : ℕ → List ℕ) (commits : ℕ → Commit) (m : ℕ) (xs : List Mem) (y : List ℕ) (rest : List Shown) → look s (commits_shown names commits m xs ++ rest) (codes "cd_" ++ y) ≡ pick (λ (x : Mem). has_lock x.lock) (λ i. (commits i).value.value s) names m xs y (look s rest (codes "cd_" ++ y))
+pub commit_word : (s : State) (names : ℕ → List ℕ) (commits : ℕ → Commit) (m : ℕ) (xs : List Mem) (y : List ℕ) (rest : List Shown)
+    → look s (commits_shown names commits m xs ++ rest) (codes "cd_" ++ y)
+    ≡ pick (λ (x : Mem). has_lock x.lock) (λ i. (commits i).value.value s) names m xs y (look s rest (codes "cd_" ++ y))
 commit_word s names commits m [] y rest = refl
 commit_word s names commits m (x ∷ xs) y rest = at (has_lock x.lock) (commit_word s names commits (suc m) xs y rest)
   where
@@ -93,7 +105,9 @@ commit_word s names commits m (x ∷ xs) y rest = at (has_lock x.lock) (commit_w
     at true go = ap (λ n. if bytes_eq (names m) y then (commits m).value.value s else n) go
 
 -- whether a memory is asked, and where
-pub request_flag : (s : State) (names : ℕ → List ℕ) (asks : ℕ → Request) (m : ℕ) (xs : List Mem) (y : List ℕ) (rest : List Shown) → look s (requests_shown names asks m xs ++ rest) (codes "q_" ++ y) ≡ pick (λ (x : Mem). x.delayed) (λ i. (asks i).enable.value s) names m xs y (look s rest (codes "q_" ++ y))
+pub request_flag : (s : State) (names : ℕ → List ℕ) (asks : ℕ → Request) (m : ℕ) (xs : List Mem) (y : List ℕ) (rest : List Shown)
+    → look s (requests_shown names asks m xs ++ rest) (codes "q_" ++ y)
+    ≡ pick (λ (x : Mem). x.delayed) (λ i. (asks i).enable.value s) names m xs y (look s rest (codes "q_" ++ y))
 request_flag s names asks m [] y rest = refl
 request_flag s names asks m (x ∷ xs) y rest = at x.delayed (request_flag s names asks (suc m) xs y rest)
   where
@@ -104,7 +118,9 @@ request_flag s names asks m (x ∷ xs) y rest = at x.delayed (request_flag s nam
     at true go = ap (λ n. if bytes_eq (names m) y then (asks m).enable.value s else n) go
 
 -- the port `qa_` of a name shows the asked address of the first delayed memory of this name
-pub request_addr : (s : State) (names : ℕ → List ℕ) (asks : ℕ → Request) (m : ℕ) (xs : List Mem) (y : List ℕ) (rest : List Shown) → look s (requests_shown names asks m xs ++ rest) (codes "qa_" ++ y) ≡ pick (λ (x : Mem). x.delayed) (λ i. (asks i).addr.value s) names m xs y (look s rest (codes "qa_" ++ y))
+pub request_addr : (s : State) (names : ℕ → List ℕ) (asks : ℕ → Request) (m : ℕ) (xs : List Mem) (y : List ℕ) (rest : List Shown)
+    → look s (requests_shown names asks m xs ++ rest) (codes "qa_" ++ y)
+    ≡ pick (λ (x : Mem). x.delayed) (λ i. (asks i).addr.value s) names m xs y (look s rest (codes "qa_" ++ y))
 request_addr s names asks m [] y rest = refl
 request_addr s names asks m (x ∷ xs) y rest = at x.delayed (request_addr s names asks (suc m) xs y rest)
   where
@@ -115,7 +131,8 @@ request_addr s names asks m (x ∷ xs) y rest = at x.delayed (request_addr s nam
     at true go = ap (λ n. if bytes_eq (names m) y then (asks m).addr.value s else n) go
 
 -- a look-up of another kind of port passes them
-pub past_commits_q : (s : State) (names : ℕ → List ℕ) (commits : ℕ → Commit) (m : ℕ) (xs : List Mem) (y : List ℕ) (rest : List Shown) → look s (commits_shown names commits m xs ++ rest) (codes "q_" ++ y) ≡ look s rest (codes "q_" ++ y)
+pub past_commits_q : (s : State) (names : ℕ → List ℕ) (commits : ℕ → Commit) (m : ℕ) (xs : List Mem) (y : List ℕ) (rest : List Shown)
+    → look s (commits_shown names commits m xs ++ rest) (codes "q_" ++ y) ≡ look s rest (codes "q_" ++ y)
 past_commits_q s names commits m [] y rest = refl
 past_commits_q s names commits m (x ∷ xs) y rest = at (has_lock x.lock) (past_commits_q s names commits (suc m) xs y rest)
   where
@@ -125,7 +142,8 @@ past_commits_q s names commits m (x ∷ xs) y rest = at (has_lock x.lock) (past_
     at true go = go
 
 -- a look-up of a port `qa_` passes the commit ports
-pub past_commits_qa : (s : State) (names : ℕ → List ℕ) (commits : ℕ → Commit) (m : ℕ) (xs : List Mem) (y : List ℕ) (rest : List Shown) → look s (commits_shown names commits m xs ++ rest) (codes "qa_" ++ y) ≡ look s rest (codes "qa_" ++ y)
+pub past_commits_qa : (s : State) (names : ℕ → List ℕ) (commits : ℕ → Commit) (m : ℕ) (xs : List Mem) (y : List ℕ) (rest : List Shown)
+    → look s (commits_shown names commits m xs ++ rest) (codes "qa_" ++ y) ≡ look s rest (codes "qa_" ++ y)
 past_commits_qa s names commits m [] y rest = refl
 past_commits_qa s names commits m (x ∷ xs) y rest = at (has_lock x.lock) (past_commits_qa s names commits (suc m) xs y rest)
   where
@@ -135,7 +153,8 @@ past_commits_qa s names commits m (x ∷ xs) y rest = at (has_lock x.lock) (past
     at true go = go
 
 -- a look-up of a port `c_` passes the request ports
-pub past_requests_c : (s : State) (names : ℕ → List ℕ) (asks : ℕ → Request) (m : ℕ) (xs : List Mem) (y : List ℕ) (rest : List Shown) → look s (requests_shown names asks m xs ++ rest) (codes "c_" ++ y) ≡ look s rest (codes "c_" ++ y)
+pub past_requests_c : (s : State) (names : ℕ → List ℕ) (asks : ℕ → Request) (m : ℕ) (xs : List Mem) (y : List ℕ) (rest : List Shown)
+    → look s (requests_shown names asks m xs ++ rest) (codes "c_" ++ y) ≡ look s rest (codes "c_" ++ y)
 past_requests_c s names asks m [] y rest = refl
 past_requests_c s names asks m (x ∷ xs) y rest = at x.delayed (past_requests_c s names asks (suc m) xs y rest)
   where
@@ -145,7 +164,8 @@ past_requests_c s names asks m (x ∷ xs) y rest = at x.delayed (past_requests_c
     at true go = go
 
 -- a look-up of a port `ca_` passes the request ports
-pub past_requests_ca : (s : State) (names : ℕ → List ℕ) (asks : ℕ → Request) (m : ℕ) (xs : List Mem) (y : List ℕ) (rest : List Shown) → look s (requests_shown names asks m xs ++ rest) (codes "ca_" ++ y) ≡ look s rest (codes "ca_" ++ y)
+pub past_requests_ca : (s : State) (names : ℕ → List ℕ) (asks : ℕ → Request) (m : ℕ) (xs : List Mem) (y : List ℕ) (rest : List Shown)
+    → look s (requests_shown names asks m xs ++ rest) (codes "ca_" ++ y) ≡ look s rest (codes "ca_" ++ y)
 past_requests_ca s names asks m [] y rest = refl
 past_requests_ca s names asks m (x ∷ xs) y rest = at x.delayed (past_requests_ca s names asks (suc m) xs y rest)
   where
@@ -155,7 +175,8 @@ past_requests_ca s names asks m (x ∷ xs) y rest = at x.delayed (past_requests_
     at true go = go
 
 -- a look-up of a port `cd_` passes the request ports
-pub past_requests_cd : (s : State) (names : ℕ → List ℕ) (asks : ℕ → Request) (m : ℕ) (xs : List Mem) (y : List ℕ) (rest : List Shown) → look s (requests_shown names asks m xs ++ rest) (codes "cd_" ++ y) ≡ look s rest (codes "cd_" ++ y)
+pub past_requests_cd : (s : State) (names : ℕ → List ℕ) (asks : ℕ → Request) (m : ℕ) (xs : List Mem) (y : List ℕ) (rest : List Shown)
+    → look s (requests_shown names asks m xs ++ rest) (codes "cd_" ++ y) ≡ look s rest (codes "cd_" ++ y)
 past_requests_cd s names asks m [] y rest = refl
 past_requests_cd s names asks m (x ∷ xs) y rest = at x.delayed (past_requests_cd s names asks (suc m) xs y rest)
   where

@@ -24,7 +24,8 @@ pub count_no : (test : Mem → Bool) (x : Mem) (xs : List Mem) → test x ≡ fa
 count_no test x xs e = sum_by-cons (λ y. cond (test y) 1 0) x xs ∙ ap (λ b. cond b 1 0 + count_by test xs) e ∙ (let z : 0 + count_by test xs ≡ count_by test xs = omega arith in z)
 
 -- before one that passes the test fewer do than in all
-pub fewer_before : (test : Mem → Bool) (xs : List Mem) (i : ℕ) → i < length xs → test (slice_index_or xs i plain_mem) ≡ true → count_by test (take i xs) < count_by test xs
+pub fewer_before : (test : Mem → Bool) (xs : List Mem) (i : ℕ)
+    → i < length xs → test (slice_index_or xs i plain_mem) ≡ true → count_by test (take i xs) < count_by test xs
 fewer_before test [] i l e = absurd (omega (arith, l))
 fewer_before test (x ∷ xs) zero l e = let c = count_yes test x xs e in omega (arith, c)
 fewer_before test (x ∷ xs) (suc i) l e = at (test x) refl (fewer_before test xs i (omega (arith, l)) e)
@@ -76,7 +77,8 @@ pub reply_low : (p : Pipe) (m : ℕ) → m < length p.mems → (mem_at p m).dela
 reply_low p m l e = fewer_before is_delayed p.mems m l e
 
 -- the words of a memory in an image of the netlist's memories
-pub part_is : (p : Pipe) (image : List (List ℕ)) (m : ℕ) → m < length p.mems → slice_index_or (in_order p image) m [] ≡ slice_index_or image (net_place p m) []
+pub part_is : (p : Pipe) (image : List (List ℕ)) (m : ℕ)
+    → m < length p.mems → slice_index_or (in_order p image) m [] ≡ slice_index_or image (net_place p m) []
 part_is p image m l = at_mem (λ i. slice_index_or image (net_place p i) []) 0 p.mems m [] l ∙ ap (λ i. slice_index_or image (net_place p i) []) (let z : 0 + m ≡ m = omega arith in z)
 
 -- ---- THE NETLIST'S
@@ -90,5 +92,6 @@ named_count names m (x ∷ xs) = at x.delayed refl (named_count names (suc m) xs
     at false f h = h ∙ sym (count_no is_delayed x xs f)
 
 -- it has as many delayed memories as the pipe
-pub delayed_as_many : (p : Pipe) (names : ℕ → List ℕ) (ls : Locks) (n : Netlist) → HasWholeMems p names ls n → length (delayed_mems n) ≡ delayed_count p
+pub delayed_as_many : (p : Pipe) (names : ℕ → List ℕ) (ls : Locks) (n : Netlist) → HasWholeMems p names ls n
+    → length (delayed_mems n) ≡ delayed_count p
 delayed_as_many p names ls n mems = sym (length-map (delayed_mems n) (λ (i : MemInfo). i.name)) ∙ ap length mems.named ∙ named_count names 0 p.mems

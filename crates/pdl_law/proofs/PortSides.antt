@@ -40,7 +40,8 @@ abbrev pub IsGiven : Pipe → Sides → State → MachineState → List Bool →
 IsGiven p sides s st bits = (m : ℕ) (r : Reading) → reading p m ≡ Some r → Replies (sides.port m).reply (sides.port m).word s (reply_bit p st bits m) (word_asked st m)
 
 -- a read that binds a variable in this cycle, or none
-bound_or_not : (p : Pipe) (bits : List Bool) (x : ℕ) (rs : List Awaited) → Some-of (λ (q : Awaited). (q.var ≡ x) × (is_answered p bits q.mem ≡ true)) rs ⊎ Each (λ (q : Awaited). q.var ≡ x → is_answered p bits q.mem ≡ false) rs
+bound_or_not : (p : Pipe) (bits : List Bool) (x : ℕ) (rs : List Awaited)
+    → Some-of (λ (q : Awaited). (q.var ≡ x) × (is_answered p bits q.mem ≡ true)) rs ⊎ Each (λ (q : Awaited). q.var ≡ x → is_answered p bits q.mem ≡ false) rs
 bound_or_not p bits x [] = inr tt
 bound_or_not p bits x (q ∷ rs) = at (q.var == x) refl (is_answered p bits q.mem) refl (bound_or_not p bits x rs)
   where

@@ -36,7 +36,9 @@ use Rattle.pdl_law.proofs.PortSides.{PortStands, IsGiven}
 -- SIGNALS
 
 -- whether a thread moves that asks a memory
-pub asks_value : (s : State) (m : ℕ) (moves : Signal) (g : Bool) → moves.value s ≡ bit g → (qs : List walk.Ask) → (asks_memory m moves qs).value s ≡ bit (g && asks_of m (asked_in s qs))
+pub asks_value : (s : State) (m : ℕ) (moves : Signal) (g : Bool)
+    → moves.value s ≡ bit g → (qs : List walk.Ask)
+    → (asks_memory m moves qs).value s ≡ bit (g && asks_of m (asked_in s qs))
 asks_value s m moves g e [] = zero_is s ∙ at g
   where
     at : (b : Bool) → 0 ≡ bit (b && false)
@@ -71,7 +73,9 @@ address_or None = 0
 address_or (Some a) = a
 
 -- the address that a stage asks of a memory is its thread's, 0 where that asks nothing or doesn't move
-pub address_value : (s : State) (m : ℕ) (moves : Signal) (g : Bool) → moves.value s ≡ bit g → (qs : List walk.Ask) → (asked_address m moves qs).value s ≡ (if g then address_or (address_of m (asked_in s qs) None) else 0)
+pub address_value : (s : State) (m : ℕ) (moves : Signal) (g : Bool)
+    → moves.value s ≡ bit g → (qs : List walk.Ask)
+    → (asked_address m moves qs).value s ≡ (if g then address_or (address_of m (asked_in s qs) None) else 0)
 address_value s m moves g e [] = zero_is s ∙ at 0 g
   where
     at : (n : ℕ) (b : Bool) → n ≡ (if b then n else n)
@@ -98,7 +102,9 @@ address_value s m moves g e (q ∷ qs) = at (q.mem == m) refl (address_value s m
         by false d = refl
 
 -- the place to which a thread goes
-pub place_value : (s : State) (n : Next) (i : ℕ) (w : Walk) (env : List ℕ) → i < length (places_of n) → ((x : ℕ) → forks_by n x ≡ true → slice_index env x ≡ (w.vars x).value s) → (goes_to_place n i w).value s ≡ bit (place_to n env == i)
+pub place_value : (s : State) (n : Next) (i : ℕ) (w : Walk) (env : List ℕ)
+    → i < length (places_of n) → ((x : ℕ) → forks_by n x ≡ true → slice_index env x ≡ (w.vars x).value s)
+    → (goes_to_place n i w).value s ≡ bit (place_to n env == i)
 place_value s Ends i w env l h = absurd (omega (arith, l))
 place_value s (Goes to) zero w env l h = one_is s
 place_value s (Goes to) (suc i) w env l h = absurd (omega (arith, l))
@@ -119,13 +125,17 @@ place_value s (Forks x a b) (suc zero) w env l h =
 place_value s (Forks x a b) (suc (suc i)) w env l h = absurd (omega (arith, l))
 
 -- a next state of a fragment without array
-pub own_next : (c : Circuit) (own : Rattle.pdl_net.specs.Growth.Own) (s t : State) → HasOwn c own → t.regs ≡ next_regs c s → t.arrays ≡ next_arrays c s → IsNext c own s t
+pub own_next : (c : Circuit) (own : Rattle.pdl_net.specs.Growth.Own) (s t : State) → HasOwn c own
+    → t.regs ≡ next_regs c s → t.arrays ≡ next_arrays c s → IsNext c own s t
 own_next c own s t h regs arrays = is_next own c c s t (record { has_reg = h.regs; nexts = λ k lo hi. refl; has_array = λ i lo hi. absurd (let z = h.none in omega (arith, lo, hi, z)); writes = λ i lo hi. refl }) regs arrays
 
 -- AT THE START
 
 -- at the start the port of a delayed memory stands for the machine's first state
-pub ports_first : (p : Pipe) (c : Circuit) (vs : ℕ → View) (gates : Gates) (moves : ℕ → Signal) (sides : Sides) (own : Rattle.pdl_net.specs.Growth.Own) (m : ℕ) (r : Reading) → HasPort p c vs gates moves sides own m r → (image : Arrays) (s : State) → s.regs ≡ map (λ (x : Reg). x.reset) c.regs → PortStands p sides s (first p image) m r
+pub ports_first : (p : Pipe) (c : Circuit) (vs : ℕ → View) (gates : Gates) (moves : ℕ → Signal) (sides : Sides)
+    (own : Rattle.pdl_net.specs.Growth.Own) (m : ℕ) (r : Reading)
+    → HasPort p c vs gates moves sides own m r → (image : Arrays) (s : State)
+    → s.regs ≡ map (λ (x : Reg). x.reset) c.regs → PortStands p sides s (first p image) m r
 ports_first p c vs gates moves sides own m r h image s regs = record {
   state = Idle;
   stands = h.starts.starts s (is_reset c own.from own.to s h.owned.regs regs);

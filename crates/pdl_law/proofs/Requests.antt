@@ -52,7 +52,8 @@ abbrev pub or_old : Option ℕ → Option ℕ → Option ℕ
 or_old None old = old
 or_old (Some a) old = Some a
 
-asked_address : (m n : ℕ) (qs : List Ask) (old : machine.Request) → address_asked (asked_of m n qs old) ≡ address_of m qs (address_asked old)
+asked_address : (m n : ℕ) (qs : List Ask) (old : machine.Request)
+    → address_asked (asked_of m n qs old) ≡ address_of m qs (address_asked old)
 asked_address m n [] old = refl
 asked_address m n (q ∷ qs) old = at (q.mem == m) (asked_address m n qs old)
   where
@@ -91,7 +92,8 @@ left_address sq (Owned n a) = at (is_kept sq n)
     at false = refl
 
 -- after a cycle of these movers
-pub address_next : (m : ℕ) (sq : Option ℕ) (ms : List Act) (old : machine.Request) → address_asked (request_left sq (asked_by m ms old)) ≡ or_old (asked_in ms m) (address_asked old)
+pub address_next : (m : ℕ) (sq : Option ℕ) (ms : List Act) (old : machine.Request)
+    → address_asked (request_left sq (asked_by m ms old)) ≡ or_old (asked_in ms m) (address_asked old)
 address_next m sq ms old = left_address sq (asked_by m ms old) ∙ asked_all m ms old
 
 -- WHO ASKS

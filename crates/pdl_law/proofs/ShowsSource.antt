@@ -66,7 +66,9 @@ same_count (m ∷ ms) = ap suc (same_count ms)
 -- THE WHOLE
 
 -- what is known of each cycle of the runs of an accepted source
-pub known_source : (p : tree.Pipe) → KeepsRules p → is_source p ≡ true → is_named p ≡ true → (image : Arrays) (before : List (List Bool)) (bits : List Bool) → IsKnown (flat p) (state_after (flat p) (first (flat p) image) before) bits
+pub known_source : (p : tree.Pipe) → KeepsRules p
+    → is_source p ≡ true → is_named p ≡ true → (image : Arrays) (before : List (List Bool)) (bits : List Bool)
+    → IsKnown (flat p) (state_after (flat p) (first (flat p) image) before) bits
 known_source p rules source named =
     let lawful = lawful_source p rules source named in
     known_here (flat p) lawful.sound (paths_strict p rules source) (careful_source p rules source) lawful.reads

@@ -36,7 +36,8 @@ abbrev pub TailsStand : Pipe → Locks → (ℕ → View) → Sides → State �
 TailsStand p ls vs sides s st = (v : ℕ) → verify_stage p.stmts ≡ Some v → StandTails p ls vs sides v s st
 
 -- at the start the second tickets of the threads up to V stand
-pub tails_start : (p : Pipe) (ls : Locks) (vs : ℕ → View) (sides : Sides) (image : Arrays) (s : State) → TailsStand p ls vs sides s (first p image)
+pub tails_start : (p : Pipe) (ls : Locks) (vs : ℕ → View) (sides : Sides) (image : Arrays) (s : State)
+    → TailsStand p ls vs sides s (first p image)
 tails_start p ls vs sides image s v is = tails_first p ls vs sides v image s
 
 module _ (p : Pipe) (sound : Sound p) (leads : LeadsOn p) (ls : Locks) (c : Circuit) (vs : ℕ → View) (gates : Gates) (moves : ℕ → Signal) (made : IsLaid p ls vs gates moves c) (sides : Sides) (has : HasSides p ls c vs gates moves sides)

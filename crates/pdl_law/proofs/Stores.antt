@@ -37,8 +37,10 @@ pub record ReadsStore (st : State) (m : ℕ) (bits : List Bool) (inputs : List �
   pub word : (is_outstanding (request_of st m) && slice_index_or bits j false) ≡ true → slice_index inputs (2 * j + 1) ≡ word_asked st m
 
 -- of one store
-pair_read : (st : State) (m : ℕ) (x : Mem) (y : Store) → IsStore st m x y → (b : Bool) (rest : List ℕ) → (q : Request) → request_of st m ≡ q
-    → (slice_index (answer y.words y.request b ++ rest) 0 ≡ bit (is_outstanding q && b)) × ((is_outstanding q && b) ≡ true → slice_index (answer y.words y.request b ++ rest) 1 ≡ word_at st.arrays m (request_address q))
+pair_read : (st : State) (m : ℕ) (x : Mem) (y : Store) → IsStore st m x y → (b : Bool) (rest : List ℕ) → (q : Request)
+    → request_of st m ≡ q
+    → (slice_index (answer y.words y.request b ++ rest) 0 ≡ bit (is_outstanding q && b))
+    × ((is_outstanding q && b) ≡ true → slice_index (answer y.words y.request b ++ rest) 1 ≡ word_at st.arrays m (request_address q))
 pair_read st m x y h b rest NoRequest e = (ap (λ o. slice_index (answer y.words o b ++ rest) 0) (h.request ∙ ap address_asked e), λ i. absurd (cc i))
 pair_read st m x y h b rest (Owned n a) e = at b
   where
@@ -58,13 +60,15 @@ pair_read st m x y h b rest (Orphan a) e = at b
     at false = (ap (λ o. slice_index (answer y.words o false ++ rest) 0) asked, λ i. absurd (cc i))
 
 -- each store gives two inputs
-pair_after : (words : List ℕ) (o : Option ℕ) (b : Bool) (rest : List ℕ) (i : ℕ) → slice_index (answer words o b ++ rest) (suc (suc i)) ≡ slice_index rest i
+pair_after : (words : List ℕ) (o : Option ℕ) (b : Bool) (rest : List ℕ) (i : ℕ)
+    → slice_index (answer words o b ++ rest) (suc (suc i)) ≡ slice_index rest i
 pair_after words (Some a) true rest i = refl
 pair_after words (Some a) false rest i = refl
 pair_after words None b rest i = refl
 
 -- the netlist reads of each delayed memory whether it replies, and the word that was asked for
-pub inputs_read : (st : State) (m : ℕ) (xs : List Mem) (ys : List Store) (b : ℕ) → AreStores st m xs ys → (i : ℕ) → i < length xs → (slice_index_or xs i plain_mem).delayed ≡ true
+pub inputs_read : (st : State) (m : ℕ) (xs : List Mem) (ys : List Store) (b : ℕ) → AreStores st m xs ys → (i : ℕ)
+    → i < length xs → (slice_index_or xs i plain_mem).delayed ≡ true
     → ReadsStore st (m + i) (replies_of (delayed_in xs) b) (answers ys b) (delayed_in (take i xs))
 inputs_read st m [] ys b h i l d = absurd (omega (arith, l))
 inputs_read st m (x ∷ xs) ys b h i l d = at x.delayed refl ys h i l d (λ zs k c j n e. inputs_read st (suc m) xs zs c k j n e)
@@ -96,8 +100,10 @@ abbrev pub input_widths : List Mem → List ℕ
 input_widths [] = []
 input_widths (x ∷ xs) = (if x.delayed then 1 ∷ x.width ∷ [] else []) ++ input_widths xs
 
-pair_bound : (x : Mem) (st : State) (m : ℕ) (y : Store) → IsStore st m x y → (b : Bool) (rest : List ℕ) (ws : List ℕ) → ((i : ℕ) → i < length ws → slice_index rest i < 2 ^ slice_index ws i) → length rest ≡ length ws
-    → (length (answer y.words y.request b ++ rest) ≡ suc (suc (length ws))) × ((i : ℕ) → i < suc (suc (length ws)) → slice_index (answer y.words y.request b ++ rest) i < 2 ^ slice_index (1 ∷ x.width ∷ ws) i)
+pair_bound : (x : Mem) (st : State) (m : ℕ) (y : Store) → IsStore st m x y → (b : Bool) (rest : List ℕ) (ws : List ℕ)
+    → ((i : ℕ) → i < length ws → slice_index rest i < 2 ^ slice_index ws i) → length rest ≡ length ws
+    → (length (answer y.words y.request b ++ rest) ≡ suc (suc (length ws)))
+    × ((i : ℕ) → i < suc (suc (length ws)) → slice_index (answer y.words y.request b ++ rest) i < 2 ^ slice_index (1 ∷ x.width ∷ ws) i)
 pair_bound x st m y h b rest ws f l = at y.request b
   where
     some : (a : ℕ) → 0 < 2 ^ a
@@ -124,7 +130,9 @@ pair_bound x st m y h b rest ws f l = at y.request b
         each (suc (suc i)) k = f i (omega (arith, k))
 
 -- and they fit
-pub inputs_fit : (st : State) (m : ℕ) (xs : List Mem) (ys : List Store) (b : ℕ) → AreStores st m xs ys → (length (answers ys b) ≡ length (input_widths xs)) × ((i : ℕ) → i < length (input_widths xs) → slice_index (answers ys b) i < 2 ^ slice_index (input_widths xs) i)
+pub inputs_fit : (st : State) (m : ℕ) (xs : List Mem) (ys : List Store) (b : ℕ) → AreStores st m xs ys
+    → (length (answers ys b) ≡ length (input_widths xs))
+    × ((i : ℕ) → i < length (input_widths xs) → slice_index (answers ys b) i < 2 ^ slice_index (input_widths xs) i)
 inputs_fit st m [] [] b h = (refl, λ i l. absurd (omega (arith, l)))
 inputs_fit st m [] (y ∷ ys) b h = absurd h
 inputs_fit st m (x ∷ xs) ys b h = at x.delayed ys h (λ zs k c. inputs_fit st (suc m) xs zs c k)

@@ -52,7 +52,8 @@ StandTails p ls vs sides v s st =
     → (stand : StandsLock p ls vs s st m) → holds_ticket (ls.bits m) (sides.tails k m) s (stand.base + count_older (suc t.number) (machine.lock_of st m))
 
 -- at the start no thread is past stage 0
-pub tails_first : (p : Pipe) (ls : Locks) (vs : ℕ → View) (sides : Sides) (v : ℕ) (image : Arrays) (s : State) → StandTails p ls vs sides v s (first p image)
+pub tails_first : (p : Pipe) (ls : Locks) (vs : ℕ → View) (sides : Sides) (v : ℕ) (image : Arrays) (s : State)
+    → StandTails p ls vs sides v s (first p image)
 tails_first p ls vs sides v image s k m t e locked low high stand = absurd (⊎_elim
     (λ (l : k < length p.stages). none_some (sym (at_stage (λ q. if q == 0 then born_thread p 1 (Some p.start) else None) 0 p.stages k None l ∙ ap (λ b. if b then born_thread p 1 (Some p.start) else None) (ne_eqb (0 + k) 0 (λ i. absurd (omega (arith, i, low))))) ∙ e))
     (λ (l : length p.stages ≤ k). none_some (sym (past_stage (λ q. if q == 0 then born_thread p 1 (Some p.start) else None) 0 p.stages k None l) ∙ e))
@@ -77,7 +78,8 @@ same_offset w a b n c e =
 -- ---- A CYCLE
 
 -- whether a thread that moves goes to a stage
-branch_is : (s : State) (w : Walk) (n : Next) (q : ℕ) (env : List ℕ) → Agrees s w n env → is_on (branch n q w) s ≡ is_stage q (goes_to n env)
+branch_is : (s : State) (w : Walk) (n : Next) (q : ℕ) (env : List ℕ) → Agrees s w n env
+    → is_on (branch n q w) s ≡ is_stage q (goes_to n env)
 branch_is s w Ends q env h = on_is s zero_bit false (zero_is s)
 branch_is s w (Goes to) q env h = at (to == q)
   where

@@ -68,7 +68,8 @@ asked_none m n (q ∷ qs) old e = at (q.mem == m) e (asked_none m n qs old)
     at false f rest = rest f
 
 -- a request among these has its port free
-free_of_ask : (m : ℕ) (test : Ask → Bool) (qs : List Ask) → list_all test qs ≡ true → asks_of m qs ≡ true → (q : Ask) × (q.mem ≡ m) × (test q ≡ true)
+free_of_ask : (m : ℕ) (test : Ask → Bool) (qs : List Ask)
+    → list_all test qs ≡ true → asks_of m qs ≡ true → (q : Ask) × (q.mem ≡ m) × (test q ≡ true)
 free_of_ask m test [] h e = absurd (cc e)
 free_of_ask m test (q ∷ qs) h e = at (q.mem == m) refl e (free_of_ask m test qs (and_parts (test q) (list_all test qs) h).1)
   where
@@ -77,7 +78,8 @@ free_of_ask m test (q ∷ qs) h e = at (q.mem == m) refl e (free_of_ask m test q
     at false f g rest = rest g
 
 -- a stage that holds a thread is one of the pipe's
-here_low : (p : Pipe) (st : State) (bits : List Bool) → length st.stages ≡ length p.stages → (k : ℕ) (t : Thread) → here p st bits k ≡ Some t → k < length p.stages
+here_low : (p : Pipe) (st : State) (bits : List Bool)
+    → length st.stages ≡ length p.stages → (k : ℕ) (t : Thread) → here p st bits k ≡ Some t → k < length p.stages
 here_low p st bits count k t e = ⊎_elim
     (λ (l : k < length p.stages). l)
     (λ (l : length p.stages ≤ k). absurd (none_some (sym (ap (with_now p st bits) (get_or_past st.stages k None (omega (arith, l, count)))) ∙ e)))

@@ -43,7 +43,8 @@ no_outputs names m (x ∷ xs) = at x.delayed (no_outputs names (suc m) xs)
     at true e = e
 
 -- values by names
-named_look : (c : Circuit) (s : State) (outs : List Output) (x : List ℕ) → named_value (map name_of_output outs) (map (shown_value s) (map (shown_in c) outs)) x ≡ look s (map (shown_in c) outs) x
+named_look : (c : Circuit) (s : State) (outs : List Output) (x : List ℕ)
+    → named_value (map name_of_output outs) (map (shown_value s) (map (shown_in c) outs)) x ≡ look s (map (shown_in c) outs) x
 named_look c s [] x = refl
 named_look c s (o ∷ outs) x = ap (λ n. if Rattle.std.proofs.Common.bytes_eq o.name x then (shown_in c o).signal.value s else n) (named_look c s outs x)
 

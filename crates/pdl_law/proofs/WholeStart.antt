@@ -42,7 +42,8 @@ abbrev empty : Store
 empty = record { words = []; request = None }
 
 -- stores in the order of the delayed memories
-stores_from : (st : machine.State) (m : ℕ) (xs : List Mem) (ys : List Store) → length ys ≡ count_by is_delayed xs
+stores_from : (st : machine.State) (m : ℕ) (xs : List Mem) (ys : List Store)
+    → length ys ≡ count_by is_delayed xs
     → ((i : ℕ) → i < length xs → (slice_index_or xs i plain_mem).delayed ≡ true → IsStore st (m + i) (slice_index_or xs i plain_mem) (slice_index_or ys (count_by is_delayed (take i xs)) empty))
     → AreStores st m xs ys
 stores_from st m [] [] e h = tt
@@ -180,7 +181,8 @@ all_delayed : (ds : List PortMem) → filter (λ (i : MemInfo). i.delayed) (map 
 all_delayed [] = refl
 all_delayed (d ∷ ds) = ap (λ l. delayed_info d ∷ l) (all_delayed ds)
 
-none_comb : (ls : List PortMem) (xs : List Array) → filter (λ (i : MemInfo). i.delayed) (map (λ a. comb_info a (find (λ m. bytes_eq m.name a.name) ls)) xs) ≡ []
+none_comb : (ls : List PortMem) (xs : List Array)
+    → filter (λ (i : MemInfo). i.delayed) (map (λ a. comb_info a (find (λ m. bytes_eq m.name a.name) ls)) xs) ≡ []
 none_comb ls [] = refl
 none_comb ls (a ∷ xs) = at (find (λ m. bytes_eq m.name a.name) ls) ∙ none_comb ls xs
   where

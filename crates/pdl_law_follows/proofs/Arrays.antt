@@ -24,7 +24,8 @@ use Rattle.pdl_law_follows.proofs.Memories.{among_some, some_among}
 -- ---- delayed memories
 
 -- what holds of each of some memories
-some_rec : (P : PortMem → Type 0) (test : Mem → Bool) (ms : List Mem) → ((m : Mem) → Among m ms → test m ≡ true → P (port_mem m)) → AllByRecursion P (map port_mem (filter test ms))
+some_rec : (P : PortMem → Type 0) (test : Mem → Bool) (ms : List Mem)
+    → ((m : Mem) → Among m ms → test m ≡ true → P (port_mem m)) → AllByRecursion P (map port_mem (filter test ms))
 some_rec P test [] h = tt
 some_rec P test (m ∷ ms) h = at (test m) refl (some_rec P test ms (λ k a t. h k (inr a) t))
   where
@@ -33,7 +34,8 @@ some_rec P test (m ∷ ms) h = at (test m) refl (some_rec P test ms (λ k a t. h
     at false e x = x
 
 -- what holds of each delayed memory, as ports tell it, holds of all of them
-pub delayed_all : (P : PortMem → Type 0) (ms : List Mem) → ((m : Mem) → Among m ms → m.delayed ≡ true → P (port_mem m)) → All P (map port_mem (delayed_of ms))
+pub delayed_all : (P : PortMem → Type 0) (ms : List Mem)
+    → ((m : Mem) → Among m ms → m.delayed ≡ true → P (port_mem m)) → All P (map port_mem (delayed_of ms))
 delayed_all P ms h = All-from_recursion P (map port_mem (delayed_of ms)) (some_rec P is_delayed ms h)
 
 -- one of these holds what all do
@@ -53,8 +55,9 @@ delayed_contained ms m a d = contained (delayed_of ms) m (some_among is_delayed 
 -- ---- the array of a memory
 
 -- an array of a memory that answers at once is one of a pipe
-pub pipe_array : (ms : List Mem) (a : Array) (m : Mem) → AreDistinct ms → ((y : Mem) → Among y ms → Reaches y) → IsAddressed m → Among m ms → m.delayed ≡ false → (is_some m.lock ≡ false → a.writes ≡ []) → shape_of a ≡ shape_of_mem m
-    → IsPipeArray (map port_mem (delayed_of ms)) (locked_of ms) a
+pub pipe_array : (ms : List Mem) (a : Array) (m : Mem) → AreDistinct ms → ((y : Mem) → Among y ms → Reaches y)
+    → IsAddressed m → Among m ms → m.delayed ≡ false → (is_some m.lock ≡ false → a.writes ≡ [])
+    → shape_of a ≡ shape_of_mem m → IsPipeArray (map port_mem (delayed_of ms)) (locked_of ms) a
 pipe_array ms a m distinct reach size among at_once free shape = record {
   inside = delayed_all (λ l. l.name ≢ a.name) ms (λ y h d e. false≢true (sym at_once ∙ ap (λ (x : Mem). x.delayed) (sym (same y h e)) ∙ d));
   width = locked_all (λ l. l.name ≡ a.name → a.width ≡ l.width) ms (λ y h e. width ∙ ap (λ (x : Mem). x.width.value) (sym (same y h e)));
@@ -86,7 +89,8 @@ pipe_array ms a m distinct reach size among at_once free shape = record {
     lockless false e none = e
 
 -- two memories of one name are one
-pub agree_all : (ms : List Mem) → AreDistinct ms → (d l : PortMem) → Contains (map port_mem (delayed_of ms)) d → Contains (locked_of ms) l → d.name ≡ l.name → d ≡ l
+pub agree_all : (ms : List Mem) → AreDistinct ms → (d l : PortMem) → Contains (map port_mem (delayed_of ms)) d
+    → Contains (locked_of ms) l → d.name ≡ l.name → d ≡ l
 agree_all ms distinct d l h i e =
     all_contained (λ (x : PortMem). (y : PortMem) → Contains (locked_of ms) y → x.name ≡ y.name → x ≡ y) (map port_mem (delayed_of ms)) d
     (delayed_all (λ (x : PortMem). (y : PortMem) → Contains (locked_of ms) y → x.name ≡ y.name → x ≡ y) ms (λ m a t. with_locked m a)) h l i e
@@ -96,11 +100,14 @@ agree_all ms distinct d l h i e =
 
 -- ---- as they are told
 
-delayed_told : (ms : List Mem) → ((m : Mem) → Among m ms → Reaches m) → ((m : Mem) → Among m ms → m.delayed ≡ true) → map info_of ms ≡ map delayed_info (map port_mem ms)
+delayed_told : (ms : List Mem) → ((m : Mem) → Among m ms → Reaches m)
+    → ((m : Mem) → Among m ms → m.delayed ≡ true) → map info_of ms ≡ map delayed_info (map port_mem ms)
 delayed_told [] r d = refl
 delayed_told (m ∷ ms) r d = ap₂ (λ (x : MemInfo) xs. x ∷ xs) (info_same m.name.name m.name.name m.width.value m.width.value m.depth.value _ m.delayed true refl refl (sym (r m (inl refl))) (d m (inl refl))) (delayed_told ms (λ k a. r k (inr a)) (λ k a. d k (inr a)))
 
-infos_from : (all : List Mem) (ars : List Array) (ms : List Mem) → AreDistinct all → ((m : Mem) → Among m all → Reaches m) → ((m : Mem) → Among m ms → m.delayed ≡ false) → ((m : Mem) → Among m ms → Among m all) → map shape_of ars ≡ map shape_of_mem ms
+infos_from : (all : List Mem) (ars : List Array) (ms : List Mem) → AreDistinct all
+    → ((m : Mem) → Among m all → Reaches m) → ((m : Mem) → Among m ms → m.delayed ≡ false)
+    → ((m : Mem) → Among m ms → Among m all) → map shape_of ars ≡ map shape_of_mem ms
     → map info_of ms ≡ map (λ (a : Array). comb_info a (locked_named all a.name)) ars
 infos_from all [] [] h r d i e = refl
 infos_from all [] (m ∷ ms) h r d i e = absurd (cc e)
@@ -114,8 +121,10 @@ infos_from all (a ∷ ars) (m ∷ ms) h r d i e =
     ap₂ (λ (x : MemInfo) xs. x ∷ xs) one (infos_from all ars ms h r (λ y g. d y (inr g)) (λ y g. i y (inr g)) rest)
 
 -- the memories are what the ports and arrays tell
-pub infos_same : (ars : List Array) (ms : List Mem) → AreDistinct ms → ((m : Mem) → Among m ms → Reaches m) → map shape_of ars ≡ map shape_of_mem (comb_of ms)
-    → map info_of (delayed_of ms) ++ map info_of (comb_of ms) ≡ map delayed_info (map port_mem (delayed_of ms)) ++ map (λ (a : Array). comb_info a (locked_named ms a.name)) ars
+pub infos_same : (ars : List Array) (ms : List Mem) → AreDistinct ms → ((m : Mem) → Among m ms → Reaches m)
+    → map shape_of ars ≡ map shape_of_mem (comb_of ms)
+    → map info_of (delayed_of ms) ++ map info_of (comb_of ms) ≡ map delayed_info (map port_mem (delayed_of ms))
+    ++ map (λ (a : Array). comb_info a (locked_named ms a.name)) ars
 infos_same ars ms h r e =
     ap₂ (λ (xs ys : List MemInfo). xs ++ ys)
     (delayed_told (delayed_of ms) (λ m a. r m (among_some is_delayed ms m a).0) (λ m a. (among_some is_delayed ms m a).1))

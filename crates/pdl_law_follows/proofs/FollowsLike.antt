@@ -17,7 +17,11 @@ use Rattle.pdl_law_follows.proofs.PortNames.{commit_names, request_names, last_n
 use Rattle.pdl_law_follows.proofs.Ports.{outputs_are}
 
 -- a well-formed netlist with the same name, ports, memories and arrays that shows the same in each cycle
-pub follows_like : (p : tree.Pipe) (n q : Netlist) → IsWellFormed q → q.name ≡ n.name → map head_of q.ports ≡ map head_of n.ports → q.mems ≡ n.mems → map shape_of q.arrays ≡ map shape_of n.arrays → ((image : List (List ℕ)) (schedule : List ℕ) → nports q image schedule ≡ nports n image schedule) → Follows p n → Follows p q
+pub follows_like : (p : tree.Pipe) (n q : Netlist) → IsWellFormed q
+    → q.name ≡ n.name → map head_of q.ports ≡ map head_of n.ports → q.mems ≡ n.mems
+    → map shape_of q.arrays ≡ map shape_of n.arrays
+    → ((image : List (List ℕ)) (schedule : List ℕ) → nports q image schedule ≡ nports n image schedule) → Follows p n
+    → Follows p q
 follows_like p n q well name ports mems arrays shows f = record {
   name = name ∙ f.name;
   well_formed = well;

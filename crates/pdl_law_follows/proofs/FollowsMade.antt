@@ -29,7 +29,8 @@ use Rattle.pdl_law_follows.proofs.HasMems.{has_mems}
 -- ---- memories
 
 -- the place of a memory keeps each rule
-mems_keep : (p : tree.Pipe) → KeepsRules p → (ms : List tree.Mem) (before later : List Place) → places p ≡ before ++ map Memory ms ++ later → Each (Keeps p) before (map Memory ms)
+mems_keep : (p : tree.Pipe) → KeepsRules p → (ms : List tree.Mem) (before later : List Place)
+    → places p ≡ before ++ map Memory ms ++ later → Each (Keeps p) before (map Memory ms)
 mems_keep p rules [] before later e = tt
 mems_keep p rules (m ∷ ms) before later e = (
   record { z7 = rules Z7 before (Memory m) (map Memory ms ++ later) here; n2 = rules N2 before (Memory m) (map Memory ms ++ later) here },

@@ -61,7 +61,10 @@ module _ (ms : List Mem) (p : Pipe) (same : p.mems ≡ mems_of ms) where
           by false = refl
 
 -- a netlist with a pipe's memories has each at its place, where the arrays are in the memories' order
-pub has_mems : (p : Pipe) (ms : List Mem) → p.mems ≡ mems_of ms → (ls : Locks) (n : Netlist) → ((m : ℕ) → m < length p.mems → (mem_at p m).delayed ≡ false → ls.array m ≡ comb_place p m) → n.mems ≡ net_infos ms → HasWholeMems p (mem_names ms) ls n
+pub has_mems : (p : Pipe) (ms : List Mem)
+    → p.mems ≡ mems_of ms → (ls : Locks) (n : Netlist)
+    → ((m : ℕ) → m < length p.mems → (mem_at p m).delayed ≡ false → ls.array m ≡ comb_place p m) → n.mems ≡ net_infos ms
+    → HasWholeMems p (mem_names ms) ls n
 has_mems p ms same ls n in_order mems = record {
   named =
       ap (λ l. map (λ (i : MemInfo). i.name) (filter told_delayed l)) mems

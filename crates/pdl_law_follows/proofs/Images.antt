@@ -58,22 +58,26 @@ same_found ms h x = by_port (net_infos ms) x ∙ at (is_memory ms x) refl ∙ sy
 
 -- ---- lines
 
-same_broken : (ms : List Mem) → AreDistinct ms → (before : List (List ℕ)) (w : Option images.Word) → broken_by (net_infos ms) before w ≡ broken_by (infos_of ms) before w
+same_broken : (ms : List Mem) → AreDistinct ms → (before : List (List ℕ)) (w : Option images.Word)
+    → broken_by (net_infos ms) before w ≡ broken_by (infos_of ms) before w
 same_broken ms h before None = refl
 same_broken ms h before (Some w) = ap (images.broken_in before w) (same_found ms h w.name)
 
-same_rule : (ms : List Mem) → AreDistinct ms → (before : List (List ℕ)) (line : List ℕ) → broken_rule (net_infos ms) before line ≡ broken_rule (infos_of ms) before line
+same_rule : (ms : List Mem) → AreDistinct ms → (before : List (List ℕ)) (line : List ℕ)
+    → broken_rule (net_infos ms) before line ≡ broken_rule (infos_of ms) before line
 unfolding broken_rule
 same_rule ms h before line = ap (λ o. if says_nothing line then None else o) (same_broken ms h before (word_of line))
 
-same_wrong : (ms : List Mem) → AreDistinct ms → (before : List (List ℕ)) (number : ℕ) (rest : List (List ℕ)) → first_wrong (net_infos ms) before number rest ≡ first_wrong (infos_of ms) before number rest
+same_wrong : (ms : List Mem) → AreDistinct ms → (before : List (List ℕ)) (number : ℕ) (rest : List (List ℕ))
+    → first_wrong (net_infos ms) before number rest ≡ first_wrong (infos_of ms) before number rest
 unfolding first_wrong
 same_wrong ms h before number [] = refl
 same_wrong ms h before number (line ∷ more) = ap₂ (at_line number) (same_rule ms h before line) (same_wrong ms h (before ++ line ∷ []) (number + 1) more)
 
 -- ---- words
 
-for_mems_are : {X : Type 0} (g : ℕ → X) (k : ℕ) (xs : List flat_form.Mem) (ys : List X) (d : X) → length xs ≡ length ys → ((i : ℕ) → i < length xs → g (k + i) ≡ slice_index_or ys i d) → for_mems g k xs ≡ ys
+for_mems_are : {X : Type 0} (g : ℕ → X) (k : ℕ) (xs : List flat_form.Mem) (ys : List X) (d : X)
+    → length xs ≡ length ys → ((i : ℕ) → i < length xs → g (k + i) ≡ slice_index_or ys i d) → for_mems g k xs ≡ ys
 for_mems_are g k [] [] d l h = refl
 for_mems_are g k [] (y ∷ ys) d l h = absurd (cc l)
 for_mems_are g k (x ∷ xs) [] d l h = absurd (cc l)
@@ -81,7 +85,8 @@ for_mems_are g k (x ∷ xs) (y ∷ ys) d l h =
     ap₂ (λ a b. a ∷ b) (ap g (let z : k ≡ k + 0 = omega arith in z) ∙ h 0 (omega arith))
     (for_mems_are g (suc k) xs ys d (omega (arith, l)) (λ i low. ap g (let z : suc k + i ≡ k + suc i = omega arith in z) ∙ h (suc i) (omega (arith, low))))
 
-map_at : {X Y : Type 0} (f : X → Y) (xs : List X) (i : ℕ) (d : X) (e : Y) → i < length xs → slice_index_or (map f xs) i e ≡ f (slice_index_or xs i d)
+map_at : {X Y : Type 0} (f : X → Y) (xs : List X) (i : ℕ) (d : X) (e : Y)
+    → i < length xs → slice_index_or (map f xs) i e ≡ f (slice_index_or xs i d)
 map_at f [] i d e l = absurd (omega (arith, l))
 map_at f (x ∷ xs) zero d e l = refl
 map_at f (x ∷ xs) (suc i) d e l = map_at f xs i d e (omega (arith, l))
@@ -90,7 +95,8 @@ abbrev no_info : MemInfo
 no_info = record { name = []; width = 0; depth = 0; delayed = false }
 
 -- what is told of each memory of a netlist, in the pipe's order
-pub told_in_order : (p : Pipe) (ms : List Mem) → p.mems ≡ mems_of ms → (f : MemInfo → List ℕ) → in_order p (map f (net_infos ms)) ≡ map f (infos_of ms)
+pub told_in_order : (p : Pipe) (ms : List Mem)
+    → p.mems ≡ mems_of ms → (f : MemInfo → List ℕ) → in_order p (map f (net_infos ms)) ≡ map f (infos_of ms)
 told_in_order p ms same f =
     for_mems_are (λ m. slice_index_or (map f (net_infos ms)) (net_place p m) []) 0 p.mems (map f (infos_of ms)) []
     (let e = ap length same ∙ mems_length ms in let a = length-map (infos_of ms) f in let b = length-map ms info_of in omega (arith, e, a, b))
@@ -108,15 +114,18 @@ told_in_order p ms same f =
 
 -- ---- the whole
 
-same_contents : (p : tree.Pipe) (rest : List (List ℕ)) (o : Option FileError) → contents (infos_of p.mems) rest o ≡ taken_in_order (flat p) (contents (net_infos p.mems) rest o)
+same_contents : (p : tree.Pipe) (rest : List (List ℕ)) (o : Option FileError)
+    → contents (infos_of p.mems) rest o ≡ taken_in_order (flat p) (contents (net_infos p.mems) rest o)
 same_contents p rest None = ap (λ words. Ok words) (sym (told_in_order (flat p) p.mems refl (words_of rest)))
 same_contents p rest (Some refusal) = refl
 
-same_after : (p : tree.Pipe) → AreDistinct p.mems → (o : Option (List (List ℕ))) → image_after (infos_of p.mems) o ≡ taken_in_order (flat p) (image_after (net_infos p.mems) o)
+same_after : (p : tree.Pipe) → AreDistinct p.mems → (o : Option (List (List ℕ)))
+    → image_after (infos_of p.mems) o ≡ taken_in_order (flat p) (image_after (net_infos p.mems) o)
 same_after p h None = refl
 same_after p h (Some rest) = ap (contents (infos_of p.mems) rest) (sym (same_wrong p.mems h [] 2 rest)) ∙ same_contents p rest (first_wrong (net_infos p.mems) [] 2 rest)
 
 -- a file gives the memories of a pipe, in declared order, what it gives those of its netlist, or is refused by the same rule at the same line
-pub same_image : (p : tree.Pipe) → AreDistinct p.mems → (text : List ℕ) → image (infos_of p.mems) text ≡ taken_in_order (flat p) (image (net_infos p.mems) text)
+pub same_image : (p : tree.Pipe) → AreDistinct p.mems → (text : List ℕ)
+    → image (infos_of p.mems) text ≡ taken_in_order (flat p) (image (net_infos p.mems) text)
 unfolding image
 same_image p h text = same_after p h (after_header (image_lines.lines text))

@@ -62,7 +62,10 @@ mems_long f k (x ∷ xs) = ap suc (mems_long f (suc k) xs)
 has_ports : (p : Pipe) (st : State) (bits : List Bool) → IsByStages p st bits → IsInUse p st bits → HasPorts p (ports_of p st bits)
 has_ports p st bits by used = record { shape = shaped p st bits by used; requests = mems_long _ 0 p.mems }
 
-turns_have : (p : Pipe) (image : Arrays) → ((before : List (List Bool)) (bits : List Bool) → IsKnown p (state_after p (first p image) before) bits) → (before : List (List Bool)) (st : State) (schedule : List (List Bool)) → st ≡ state_after p (first p image) before → AllHave p (turns_from p st schedule)
+turns_have : (p : Pipe) (image : Arrays)
+    → ((before : List (List Bool)) (bits : List Bool) → IsKnown p (state_after p (first p image) before) bits)
+    → (before : List (List Bool)) (st : State) (schedule : List (List Bool)) → st ≡ state_after p (first p image) before
+    → AllHave p (turns_from p st schedule)
 turns_have p image known before st [] e = tt
 turns_have p image known before st (bits ∷ schedule) e = (
   subst (λ x. HasPorts p (ports_of p x bits)) (sym e) (let k = known before bits in has_ports p (state_after p (first p image) before) bits k.by k.used),

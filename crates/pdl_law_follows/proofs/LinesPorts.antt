@@ -31,18 +31,24 @@ use Rattle.pdl_law_follows.proofs.PortNames.{commit_names, request_names, last_n
 abbrev names_if : Bool → Mem → List Mem → List (List ℕ) → List (List ℕ)
 names_if b m ms names = commit_names ((if b then port_mem m ∷ [] else []) ++ locked_of ms) names
 
-flag_step : (m : Mem) (ms : List Mem) (names : List (List ℕ)) (b : Bool) (e rest : Option PortWrite) (vals : List ℕ) (x : List ℕ) → named_value (commit_names (locked_of ms) names) vals (codes "c_" ++ x) ≡ flag_of rest
-    → named_value (names_if b m ms names) (commit_if b e ++ vals) (codes "c_" ++ x) ≡ flag_of (if bytes_eq m.name.name x && b then e else rest)
+flag_step : (m : Mem) (ms : List Mem) (names : List (List ℕ)) (b : Bool) (e rest : Option PortWrite) (vals : List ℕ) (x : List ℕ)
+    → named_value (commit_names (locked_of ms) names) vals (codes "c_" ++ x) ≡ flag_of rest
+    → named_value (names_if b m ms names) (commit_if b e ++ vals) (codes "c_" ++ x)
+    ≡ flag_of (if bytes_eq m.name.name x && b then e else rest)
 flag_step m ms names true e rest vals x h = ap (λ n. if bytes_eq m.name.name x then flag_of e else n) h ∙ if_both flag_of (bytes_eq m.name.name x) e rest
 flag_step m ms names false e rest vals x h = h ∙ if_none flag_of (bytes_eq m.name.name x) e rest
 
-addr_step : (m : Mem) (ms : List Mem) (names : List (List ℕ)) (b : Bool) (e rest : Option PortWrite) (vals : List ℕ) (x : List ℕ) → named_value (commit_names (locked_of ms) names) vals (codes "ca_" ++ x) ≡ addr_of rest
-    → named_value (names_if b m ms names) (commit_if b e ++ vals) (codes "ca_" ++ x) ≡ addr_of (if bytes_eq m.name.name x && b then e else rest)
+addr_step : (m : Mem) (ms : List Mem) (names : List (List ℕ)) (b : Bool) (e rest : Option PortWrite) (vals : List ℕ) (x : List ℕ)
+    → named_value (commit_names (locked_of ms) names) vals (codes "ca_" ++ x) ≡ addr_of rest
+    → named_value (names_if b m ms names) (commit_if b e ++ vals) (codes "ca_" ++ x)
+    ≡ addr_of (if bytes_eq m.name.name x && b then e else rest)
 addr_step m ms names true e rest vals x h = ap (λ n. if bytes_eq m.name.name x then addr_of e else n) h ∙ if_both addr_of (bytes_eq m.name.name x) e rest
 addr_step m ms names false e rest vals x h = h ∙ if_none addr_of (bytes_eq m.name.name x) e rest
 
-word_step : (m : Mem) (ms : List Mem) (names : List (List ℕ)) (b : Bool) (e rest : Option PortWrite) (vals : List ℕ) (x : List ℕ) → named_value (commit_names (locked_of ms) names) vals (codes "cd_" ++ x) ≡ word_of rest
-    → named_value (names_if b m ms names) (commit_if b e ++ vals) (codes "cd_" ++ x) ≡ word_of (if bytes_eq m.name.name x && b then e else rest)
+word_step : (m : Mem) (ms : List Mem) (names : List (List ℕ)) (b : Bool) (e rest : Option PortWrite) (vals : List ℕ) (x : List ℕ)
+    → named_value (commit_names (locked_of ms) names) vals (codes "cd_" ++ x) ≡ word_of rest
+    → named_value (names_if b m ms names) (commit_if b e ++ vals) (codes "cd_" ++ x)
+    ≡ word_of (if bytes_eq m.name.name x && b then e else rest)
 word_step m ms names true e rest vals x h = ap (λ n. if bytes_eq m.name.name x then word_of e else n) h ∙ if_both word_of (bytes_eq m.name.name x) e rest
 word_step m ms names false e rest vals x h = h ∙ if_none word_of (bytes_eq m.name.name x) e rest
 
@@ -51,11 +57,14 @@ abbrev pub commits_then : List Mem → List (Option PortWrite) → List ℕ → 
 commits_then ms es vals = all_commit_values (mems_of ms) es ++ vals
 
 -- those of the first memory come first
-commits_first : (m : Mem) (ms : List Mem) (e : Option PortWrite) (es : List (Option PortWrite)) (vals : List ℕ) → commits_then (m ∷ ms) (e ∷ es) vals ≡ commit_if (is_some m.lock) e ++ commits_then ms es vals
+commits_first : (m : Mem) (ms : List Mem) (e : Option PortWrite) (es : List (Option PortWrite)) (vals : List ℕ)
+    → commits_then (m ∷ ms) (e ∷ es) vals ≡ commit_if (is_some m.lock) e ++ commits_then ms es vals
 commits_first m ms e es vals = append_assoc (commit_values (flat_lock m.lock) e) (all_commit_values (mems_of ms) es) vals ∙ ap (λ l. l ++ commits_then ms es vals) (commit_is m.lock e)
 
 -- the port `c_` of a name tells whether that memory commits, where the ports after have 0 for the name
-pub flag_is : (ms : List Mem) (es : List (Option PortWrite)) (names : List (List ℕ)) (vals x : List ℕ) → AreCommits (mems_of ms) es → named_value names vals (codes "c_" ++ x) ≡ 0 → named_value (commit_names (locked_of ms) names) (commits_then ms es vals) (codes "c_" ++ x) ≡ flag_of (found ms es x)
+pub flag_is : (ms : List Mem) (es : List (Option PortWrite)) (names : List (List ℕ)) (vals x : List ℕ)
+    → AreCommits (mems_of ms) es → named_value names vals (codes "c_" ++ x) ≡ 0
+    → named_value (commit_names (locked_of ms) names) (commits_then ms es vals) (codes "c_" ++ x) ≡ flag_of (found ms es x)
 flag_is [] [] names vals x h z = z
 flag_is [] (e ∷ es) names vals x h z = absurd h
 flag_is (m ∷ ms) [] names vals x h z = absurd h
@@ -64,7 +73,9 @@ flag_is (m ∷ ms) (e ∷ es) names vals x h z =
     ∙ flag_step m ms names (is_some m.lock) e (found ms es x) (commits_then ms es vals) x (flag_is ms es names vals x h.1 z)
 
 -- the port `ca_` of a name tells that memory's commit address, where the ports after have 0 for the name
-pub addr_is : (ms : List Mem) (es : List (Option PortWrite)) (names : List (List ℕ)) (vals x : List ℕ) → AreCommits (mems_of ms) es → named_value names vals (codes "ca_" ++ x) ≡ 0 → named_value (commit_names (locked_of ms) names) (commits_then ms es vals) (codes "ca_" ++ x) ≡ addr_of (found ms es x)
+pub addr_is : (ms : List Mem) (es : List (Option PortWrite)) (names : List (List ℕ)) (vals x : List ℕ)
+    → AreCommits (mems_of ms) es → named_value names vals (codes "ca_" ++ x) ≡ 0
+    → named_value (commit_names (locked_of ms) names) (commits_then ms es vals) (codes "ca_" ++ x) ≡ addr_of (found ms es x)
 addr_is [] [] names vals x h z = z
 addr_is [] (e ∷ es) names vals x h z = absurd h
 addr_is (m ∷ ms) [] names vals x h z = absurd h
@@ -73,7 +84,9 @@ addr_is (m ∷ ms) (e ∷ es) names vals x h z =
     ∙ addr_step m ms names (is_some m.lock) e (found ms es x) (commits_then ms es vals) x (addr_is ms es names vals x h.1 z)
 
 -- the port `cd_` of a name tells that memory's committed word, where the ports after have 0 for the name
-pub word_is : (ms : List Mem) (es : List (Option PortWrite)) (names : List (List ℕ)) (vals x : List ℕ) → AreCommits (mems_of ms) es → named_value names vals (codes "cd_" ++ x) ≡ 0 → named_value (commit_names (locked_of ms) names) (commits_then ms es vals) (codes "cd_" ++ x) ≡ word_of (found ms es x)
+pub word_is : (ms : List Mem) (es : List (Option PortWrite)) (names : List (List ℕ)) (vals x : List ℕ)
+    → AreCommits (mems_of ms) es → named_value names vals (codes "cd_" ++ x) ≡ 0
+    → named_value (commit_names (locked_of ms) names) (commits_then ms es vals) (codes "cd_" ++ x) ≡ word_of (found ms es x)
 word_is [] [] names vals x h z = z
 word_is [] (e ∷ es) names vals x h z = absurd h
 word_is (m ∷ ms) [] names vals x h z = absurd h
@@ -82,12 +95,16 @@ word_is (m ∷ ms) (e ∷ es) names vals x h z =
     ∙ word_step m ms names (is_some m.lock) e (found ms es x) (commits_then ms es vals) x (word_is ms es names vals x h.1 z)
 
 -- as many values as names
-same_step : (b : Bool) (m : Mem) (ms : List Mem) (names : List (List ℕ)) (e : Option PortWrite) (vals : List ℕ) → length vals ≡ length (commit_names (locked_of ms) names) → length (commit_if b e ++ vals) ≡ length (names_if b m ms names)
+same_step : (b : Bool) (m : Mem) (ms : List Mem) (names : List (List ℕ)) (e : Option PortWrite) (vals : List ℕ)
+    → length vals ≡ length (commit_names (locked_of ms) names)
+    → length (commit_if b e ++ vals) ≡ length (names_if b m ms names)
 same_step true m ms names e vals h = ap (λ i. suc (suc (suc i))) h
 same_step false m ms names e vals h = h
 
 -- with the commit ports before others, there are as many values as names
-pub commits_same : (ms : List Mem) (es : List (Option PortWrite)) (names : List (List ℕ)) (vals : List ℕ) → AreCommits (mems_of ms) es → length vals ≡ length names → length (commits_then ms es vals) ≡ length (commit_names (locked_of ms) names)
+pub commits_same : (ms : List Mem) (es : List (Option PortWrite)) (names : List (List ℕ)) (vals : List ℕ)
+    → AreCommits (mems_of ms) es → length vals ≡ length names
+    → length (commits_then ms es vals) ≡ length (commit_names (locked_of ms) names)
 commits_same [] [] names vals h l = l
 commits_same [] (e ∷ es) names vals h l = absurd h
 commits_same (m ∷ ms) [] names vals h l = absurd h
@@ -100,8 +117,10 @@ abbrev pub requests_then : List Mem → List (Option ℕ) → List ℕ → List 
 requests_then ms qs vals = all_request_values (mems_of ms) qs ++ vals
 
 -- a look-up of another kind of port passes them
-pub past_requests : (x : List ℕ) → ((y : List ℕ) → bytes_eq (codes "q_" ++ y) x ≡ false) → ((y : List ℕ) → bytes_eq (codes "qa_" ++ y) x ≡ false)
-    → (ms : List Mem) (qs : List (Option ℕ)) (names : List (List ℕ)) (vals : List ℕ) → length qs ≡ length ms → named_value (request_names (map port_mem (delayed_of ms)) names) (requests_then ms qs vals) x ≡ named_value names vals x
+pub past_requests : (x : List ℕ)
+    → ((y : List ℕ) → bytes_eq (codes "q_" ++ y) x ≡ false) → ((y : List ℕ) → bytes_eq (codes "qa_" ++ y) x ≡ false)
+    → (ms : List Mem) (qs : List (Option ℕ)) (names : List (List ℕ)) (vals : List ℕ) → length qs ≡ length ms
+    → named_value (request_names (map port_mem (delayed_of ms)) names) (requests_then ms qs vals) x ≡ named_value names vals x
 past_requests x f g [] [] names vals l = refl
 past_requests x f g [] (q ∷ qs) names vals l = absurd (cc l)
 past_requests x f g (m ∷ ms) [] names vals l = absurd (cc l)
@@ -120,7 +139,9 @@ past_requests x f g (m ∷ ms) (q ∷ qs) names vals l = at m.delayed q (past_re
     at true (Some a) h = pair 1 a h
 
 -- with the request ports before others, there are as many values as names
-pub requests_same : (ms : List Mem) (qs : List (Option ℕ)) (names : List (List ℕ)) (vals : List ℕ) → length qs ≡ length ms → length vals ≡ length names → length (requests_then ms qs vals) ≡ length (request_names (map port_mem (delayed_of ms)) names)
+pub requests_same : (ms : List Mem) (qs : List (Option ℕ)) (names : List (List ℕ)) (vals : List ℕ)
+    → length qs ≡ length ms → length vals ≡ length names
+    → length (requests_then ms qs vals) ≡ length (request_names (map port_mem (delayed_of ms)) names)
 requests_same [] [] names vals l e = e
 requests_same [] (q ∷ qs) names vals l e = absurd (cc l)
 requests_same (m ∷ ms) [] names vals l e = absurd (cc l)
@@ -134,7 +155,8 @@ requests_same (m ∷ ms) (q ∷ qs) names vals l e = at m.delayed q (requests_sa
 
 -- ---- which memories have a commit port
 
-requests_none : (infos : List MemInfo) (ls : List PortMem) (names : List (List ℕ)) → with_port infos (request_names ls names) ≡ with_port infos names
+requests_none : (infos : List MemInfo) (ls : List PortMem) (names : List (List ℕ))
+    → with_port infos (request_names ls names) ≡ with_port infos names
 requests_none infos [] names = refl
 requests_none infos (l ∷ ls) names =
     skipped infos (codes "q_" ++ l.name) ((codes "qa_" ++ l.name) ∷ request_names ls names) (λ x. refl)
@@ -144,7 +166,8 @@ requests_none infos (l ∷ ls) names =
 last_none : (infos : List MemInfo) → with_port infos last_names ≡ []
 last_none infos = skipped infos (codes "ended") (codes "squash" ∷ []) (λ x. refl) ∙ skipped infos (codes "squash") [] (λ x. refl)
 
-all_of_locked : (infos : List MemInfo) (ms : List Mem) (names : List (List ℕ)) → AreFound ms infos → with_port infos names ≡ [] → with_port infos (commit_names (locked_of ms) names) ≡ locked_infos ms
+all_of_locked : (infos : List MemInfo) (ms : List Mem) (names : List (List ℕ)) → AreFound ms infos
+    → with_port infos names ≡ [] → with_port infos (commit_names (locked_of ms) names) ≡ locked_infos ms
 all_of_locked infos [] names h z = z
 all_of_locked infos (m ∷ ms) names h z = go (is_some m.lock) (all_of_locked infos ms names (λ k a. h k (inr a)) z)
   where
@@ -154,7 +177,9 @@ all_of_locked infos (m ∷ ms) names h z = go (is_some m.lock) (all_of_locked in
     go false rest = rest
 
 -- where the outputs have the names of the ports of a pipe, the memories with a commit port are those with a lock, in declared order
-pub locked_shown : (n : Netlist) (ms : List Mem) (stages : ℕ) → map name_of_output (outputs_of (circuit_of n)) ≡ output_names stages (map port_mem (delayed_of ms)) (locked_of ms) → AreFound ms n.mems → commit_mems n ≡ locked_infos ms
+pub locked_shown : (n : Netlist) (ms : List Mem) (stages : ℕ)
+    → map name_of_output (outputs_of (circuit_of n)) ≡ output_names stages (map port_mem (delayed_of ms)) (locked_of ms)
+    → AreFound ms n.mems → commit_mems n ≡ locked_infos ms
 locked_shown n ms stages named h =
     by_names n.mems (outputs_of (circuit_of n))
     ∙ ap (with_port n.mems) named
@@ -188,7 +213,8 @@ none_found (m ∷ ms) x e =
     ap (λ b. if b then Some (info_of m) else commit_mem (map info_of ms) (codes "c_" ++ x)) (name_turned m.name.name x parts.0) ∙ none_found ms x parts.1
 
 -- a memory that doesn't pass a test has a name that none has that does
-not_among : (test : Mem → Bool) (ms : List Mem) → AreDistinct ms → (m : Mem) → Among m ms → test m ≡ false → is_memory (filter test ms) m.name.name ≡ false
+not_among : (test : Mem → Bool) (ms : List Mem) → AreDistinct ms → (m : Mem) → Among m ms
+    → test m ≡ false → is_memory (filter test ms) m.name.name ≡ false
 not_among test [] h m a t = absurd a
 not_among test (x ∷ xs) h m (inl s) t = at (test x) (ap test s ∙ t)
   where

@@ -160,7 +160,9 @@ none_told (m ∷ ms) = at m.delayed refl (none_told ms)
     at false e h = ap (λ b. if b then info_of m ∷ filter told_delayed (map info_of (comb_of ms)) else filter told_delayed (map info_of (comb_of ms))) e ∙ h
 
 -- the names of the delayed ones
-pub names_told : (names : ℕ → List ℕ) (k : ℕ) (ms : List Mem) → ((i : ℕ) → i < length ms → names (k + i) ≡ mem_names ms i) → map (λ (i : MemInfo). i.name) (map info_of (delayed_of ms)) ≡ names_delayed names k (mems_of ms)
+pub names_told : (names : ℕ → List ℕ) (k : ℕ) (ms : List Mem)
+    → ((i : ℕ) → i < length ms → names (k + i) ≡ mem_names ms i)
+    → map (λ (i : MemInfo). i.name) (map info_of (delayed_of ms)) ≡ names_delayed names k (mems_of ms)
 names_told names k [] h = refl
 names_told names k (m ∷ ms) h = at m.delayed (names_told names (suc k) ms (λ i l. ap names (let z : suc k + i ≡ k + suc i = omega arith in z) ∙ h (suc i) (omega (arith, l))))
   where

@@ -43,29 +43,35 @@ port_names stages delayed locked = reply_names delayed (output_names stages dela
 last_none : (a : ℕ) (x : List ℕ) → a ≢ 101 → a ≢ 115 → IsNone (a ∷ x) last_names
 last_none a x e s = (heads_apart a 101 x _ e, (heads_apart a 115 x _ s, tt))
 
-request_none : (a : ℕ) (x : List ℕ) (ls : List PortMem) (rest : List (List ℕ)) → a ≢ 113 → IsNone (a ∷ x) rest → IsNone (a ∷ x) (request_names ls rest)
+request_none : (a : ℕ) (x : List ℕ) (ls : List PortMem) (rest : List (List ℕ)) → a ≢ 113 → IsNone (a ∷ x) rest
+    → IsNone (a ∷ x) (request_names ls rest)
 request_none a x [] rest d h = h
 request_none a x (l ∷ ls) rest d h = (heads_apart a 113 x _ d, (heads_apart a 113 x _ d, request_none a x ls rest d h))
 
-commit_none : (a : ℕ) (x : List ℕ) (ls : List PortMem) (rest : List (List ℕ)) → a ≢ 99 → IsNone (a ∷ x) rest → IsNone (a ∷ x) (commit_names ls rest)
+commit_none : (a : ℕ) (x : List ℕ) (ls : List PortMem) (rest : List (List ℕ)) → a ≢ 99 → IsNone (a ∷ x) rest
+    → IsNone (a ∷ x) (commit_names ls rest)
 commit_none a x [] rest d h = h
 commit_none a x (l ∷ ls) rest d h = (heads_apart a 99 x _ d, (heads_apart a 99 x _ d, (heads_apart a 99 x _ d, commit_none a x ls rest d h)))
 
-stage_none : (a : ℕ) (x : List ℕ) (k n : ℕ) (rest : List (List ℕ)) → a ≢ 118 → a ≢ 103 → IsNone (a ∷ x) rest → IsNone (a ∷ x) (stage_names k n rest)
+stage_none : (a : ℕ) (x : List ℕ) (k n : ℕ) (rest : List (List ℕ)) → a ≢ 118 → a ≢ 103 → IsNone (a ∷ x) rest
+    → IsNone (a ∷ x) (stage_names k n rest)
 stage_none a x k zero rest v g h = h
 stage_none a x k (suc n) rest v g h = (heads_apart a 118 x _ v, (heads_apart a 103 x _ g, stage_none a x (suc k) n rest v g h))
 
 -- ---- replies
 
-reply_flag : (n : List ℕ) (ls : List PortMem) (rest : List (List ℕ)) → IsFree n ls → IsNone (codes "p_" ++ n) rest → IsNone (codes "p_" ++ n) (reply_names ls rest)
+reply_flag : (n : List ℕ) (ls : List PortMem) (rest : List (List ℕ)) → IsFree n ls → IsNone (codes "p_" ++ n) rest
+    → IsNone (codes "p_" ++ n) (reply_names ls rest)
 reply_flag n [] rest f h = h
 reply_flag n (l ∷ ls) rest f h = (tails_apart 112 _ _ (tails_apart 95 _ _ f.0), (tails_apart 112 _ _ (heads_apart 95 100 _ _ (λ e. omega arith)), reply_flag n ls rest f.1 h))
 
-reply_word : (n : List ℕ) (ls : List PortMem) (rest : List (List ℕ)) → IsFree n ls → IsNone (codes "pd_" ++ n) rest → IsNone (codes "pd_" ++ n) (reply_names ls rest)
+reply_word : (n : List ℕ) (ls : List PortMem) (rest : List (List ℕ)) → IsFree n ls → IsNone (codes "pd_" ++ n) rest
+    → IsNone (codes "pd_" ++ n) (reply_names ls rest)
 reply_word n [] rest f h = h
 reply_word n (l ∷ ls) rest f h = (tails_apart 112 _ _ (heads_apart 100 95 _ _ (λ e. omega arith)), (tails_apart 112 _ _ (tails_apart 100 _ _ (tails_apart 95 _ _ f.0)), reply_word n ls rest f.1 h))
 
-replies_differ : (ls : List PortMem) (rest : List (List ℕ)) → AreFree ls → ((x : List ℕ) → IsNone (112 ∷ x) rest) → AllDiffer rest → AllDiffer (reply_names ls rest)
+replies_differ : (ls : List PortMem) (rest : List (List ℕ)) → AreFree ls → ((x : List ℕ) → IsNone (112 ∷ x) rest)
+    → AllDiffer rest → AllDiffer (reply_names ls rest)
 replies_differ [] rest f h d = d
 replies_differ (l ∷ ls) rest f h d = (
   (tails_apart 112 _ _ (heads_apart 95 100 _ _ (λ e. omega arith)), reply_flag l.name ls rest f.0 (h _)),
@@ -74,28 +80,32 @@ replies_differ (l ∷ ls) rest f h d = (
 
 -- ---- commits
 
-commit_flag : (n : List ℕ) (ls : List PortMem) (rest : List (List ℕ)) → IsFree n ls → IsNone (codes "c_" ++ n) rest → IsNone (codes "c_" ++ n) (commit_names ls rest)
+commit_flag : (n : List ℕ) (ls : List PortMem) (rest : List (List ℕ)) → IsFree n ls → IsNone (codes "c_" ++ n) rest
+    → IsNone (codes "c_" ++ n) (commit_names ls rest)
 commit_flag n [] rest f h = h
 commit_flag n (l ∷ ls) rest f h = (
   tails_apart 99 _ _ (tails_apart 95 _ _ f.0),
   (tails_apart 99 _ _ (heads_apart 95 97 _ _ (λ e. omega arith)), (tails_apart 99 _ _ (heads_apart 95 100 _ _ (λ e. omega arith)), commit_flag n ls rest f.1 h)),
 )
 
-commit_address : (n : List ℕ) (ls : List PortMem) (rest : List (List ℕ)) → IsFree n ls → IsNone (codes "ca_" ++ n) rest → IsNone (codes "ca_" ++ n) (commit_names ls rest)
+commit_address : (n : List ℕ) (ls : List PortMem) (rest : List (List ℕ)) → IsFree n ls → IsNone (codes "ca_" ++ n) rest
+    → IsNone (codes "ca_" ++ n) (commit_names ls rest)
 commit_address n [] rest f h = h
 commit_address n (l ∷ ls) rest f h = (
   tails_apart 99 _ _ (heads_apart 97 95 _ _ (λ e. omega arith)),
   (tails_apart 99 _ _ (tails_apart 97 _ _ (tails_apart 95 _ _ f.0)), (tails_apart 99 _ _ (heads_apart 97 100 _ _ (λ e. omega arith)), commit_address n ls rest f.1 h)),
 )
 
-commit_word : (n : List ℕ) (ls : List PortMem) (rest : List (List ℕ)) → IsFree n ls → IsNone (codes "cd_" ++ n) rest → IsNone (codes "cd_" ++ n) (commit_names ls rest)
+commit_word : (n : List ℕ) (ls : List PortMem) (rest : List (List ℕ)) → IsFree n ls → IsNone (codes "cd_" ++ n) rest
+    → IsNone (codes "cd_" ++ n) (commit_names ls rest)
 commit_word n [] rest f h = h
 commit_word n (l ∷ ls) rest f h = (
   tails_apart 99 _ _ (heads_apart 100 95 _ _ (λ e. omega arith)),
   (tails_apart 99 _ _ (heads_apart 100 97 _ _ (λ e. omega arith)), (tails_apart 99 _ _ (tails_apart 100 _ _ (tails_apart 95 _ _ f.0)), commit_word n ls rest f.1 h)),
 )
 
-commits_differ : (ls : List PortMem) (rest : List (List ℕ)) → AreFree ls → ((x : List ℕ) → IsNone (99 ∷ x) rest) → AllDiffer rest → AllDiffer (commit_names ls rest)
+commits_differ : (ls : List PortMem) (rest : List (List ℕ)) → AreFree ls → ((x : List ℕ) → IsNone (99 ∷ x) rest)
+    → AllDiffer rest → AllDiffer (commit_names ls rest)
 commits_differ [] rest f h d = d
 commits_differ (l ∷ ls) rest f h d = (
   (tails_apart 99 _ _ (heads_apart 95 97 _ _ (λ e. omega arith)), (tails_apart 99 _ _ (heads_apart 95 100 _ _ (λ e. omega arith)), commit_flag l.name ls rest f.0 (h _))),
@@ -104,15 +114,18 @@ commits_differ (l ∷ ls) rest f h d = (
 
 -- ---- requests
 
-request_flag : (n : List ℕ) (ls : List PortMem) (rest : List (List ℕ)) → IsFree n ls → IsNone (codes "q_" ++ n) rest → IsNone (codes "q_" ++ n) (request_names ls rest)
+request_flag : (n : List ℕ) (ls : List PortMem) (rest : List (List ℕ)) → IsFree n ls → IsNone (codes "q_" ++ n) rest
+    → IsNone (codes "q_" ++ n) (request_names ls rest)
 request_flag n [] rest f h = h
 request_flag n (l ∷ ls) rest f h = (tails_apart 113 _ _ (tails_apart 95 _ _ f.0), (tails_apart 113 _ _ (heads_apart 95 97 _ _ (λ e. omega arith)), request_flag n ls rest f.1 h))
 
-request_address : (n : List ℕ) (ls : List PortMem) (rest : List (List ℕ)) → IsFree n ls → IsNone (codes "qa_" ++ n) rest → IsNone (codes "qa_" ++ n) (request_names ls rest)
+request_address : (n : List ℕ) (ls : List PortMem) (rest : List (List ℕ)) → IsFree n ls → IsNone (codes "qa_" ++ n) rest
+    → IsNone (codes "qa_" ++ n) (request_names ls rest)
 request_address n [] rest f h = h
 request_address n (l ∷ ls) rest f h = (tails_apart 113 _ _ (heads_apart 97 95 _ _ (λ e. omega arith)), (tails_apart 113 _ _ (tails_apart 97 _ _ (tails_apart 95 _ _ f.0)), request_address n ls rest f.1 h))
 
-requests_differ : (ls : List PortMem) (rest : List (List ℕ)) → AreFree ls → ((x : List ℕ) → IsNone (113 ∷ x) rest) → AllDiffer rest → AllDiffer (request_names ls rest)
+requests_differ : (ls : List PortMem) (rest : List (List ℕ)) → AreFree ls → ((x : List ℕ) → IsNone (113 ∷ x) rest)
+    → AllDiffer rest → AllDiffer (request_names ls rest)
 requests_differ [] rest f h d = d
 requests_differ (l ∷ ls) rest f h d = (
   (tails_apart 113 _ _ (heads_apart 95 97 _ _ (λ e. omega arith)), request_flag l.name ls rest f.0 (h _)),
@@ -139,7 +152,8 @@ are_free test (m ∷ ms) h = at (test m) (are_free test ms h.1)
     at false f = f
 
 -- no two ports have one name
-pub port_names_differ : (n : ℕ) (ms : List Mem) → n ≤ 64 → AreDistinct ms → AllDiffer (port_names n (map port_mem (delayed_of ms)) (locked_of ms))
+pub port_names_differ : (n : ℕ) (ms : List Mem)
+    → n ≤ 64 → AreDistinct ms → AllDiffer (port_names n (map port_mem (delayed_of ms)) (locked_of ms))
 port_names_differ n ms l h =
     replies_differ delayed (stage_names 0 n commits) free (λ x. stage_none 112 x 0 n commits (λ e. omega arith) (λ e. omega arith) (commits_none 112 x (λ e. omega arith) (λ e. omega arith) (λ e. omega arith) (λ e. omega arith)))
     (stages_differ 0 n commits (omega arith)

@@ -37,7 +37,8 @@ first_named names k m ms h = ap names (let z : k ≡ k + 0 = omega arith in z) �
 rest_named : (names : ℕ → List ℕ) (k : ℕ) (m : Mem) (ms : List Mem) → AreNamed names k (m ∷ ms) → AreNamed names (suc k) ms
 rest_named names k m ms h i l = ap names (let z : suc k + i ≡ k + suc i = omega arith in z) ∙ h (suc i) (omega (arith, l))
 
-reply_heads : (names : ℕ → List ℕ) (k : ℕ) (ms : List Mem) → AreNamed names k ms → map head_of (whole.reply_ports names k (mems_of ms)) ≡ flat_map reply_ports (map port_mem (delayed_of ms))
+reply_heads : (names : ℕ → List ℕ) (k : ℕ) (ms : List Mem) → AreNamed names k ms
+    → map head_of (whole.reply_ports names k (mems_of ms)) ≡ flat_map reply_ports (map port_mem (delayed_of ms))
 reply_heads names k [] h = refl
 reply_heads names k (m ∷ ms) h = at m.delayed (reply_heads names (suc k) ms (rest_named names k m ms h))
   where
@@ -51,7 +52,9 @@ reply_heads names k (m ∷ ms) h = at m.delayed (reply_heads names (suc k) ms (r
 abbrev pub AreAsked : (ℕ → Request) → ℕ → List Mem → Type 0
 AreAsked asks k ms = (i : ℕ) → i < length ms → (slice_index_or (mems_of ms) i plain_mem).delayed ≡ true → ((asks (k + i)).enable.width ≡ 1) × (2 ^ (asks (k + i)).addr.width ≡ (slice_index_or (mems_of ms) i plain_mem).depth)
 
-request_heads : (names : ℕ → List ℕ) (asks : ℕ → Request) (k : ℕ) (ms : List Mem) → AreNamed names k ms → ((m : Mem) → Among m ms → Reaches m) → AreAsked asks k ms → map head_shown (requests_shown names asks k (mems_of ms)) ≡ flat_map request_ports (map port_mem (delayed_of ms))
+request_heads : (names : ℕ → List ℕ) (asks : ℕ → Request) (k : ℕ) (ms : List Mem) → AreNamed names k ms
+    → ((m : Mem) → Among m ms → Reaches m) → AreAsked asks k ms
+    → map head_shown (requests_shown names asks k (mems_of ms)) ≡ flat_map request_ports (map port_mem (delayed_of ms))
 request_heads names asks k [] h r f = refl
 request_heads names asks k (m ∷ ms) h r f =
     at m.delayed refl
@@ -72,7 +75,8 @@ request_heads names asks k (m ∷ ms) h r f =
 
 -- the ports of a pipe, kind by kind
 pub by_kinds : (k : ℕ) (delayed locked : List PortMem)
-    → pipe_ports k delayed locked ≡ flat_map reply_ports delayed ++ (flat_map stage_ports (range_with_len 0 k) ++ (flat_map commit_ports locked ++ (flat_map request_ports delayed ++ last_heads)))
+    → pipe_ports k delayed locked ≡ flat_map reply_ports delayed
+    ++ (flat_map stage_ports (range_with_len 0 k) ++ (flat_map commit_ports locked ++ (flat_map request_ports delayed ++ last_heads)))
 by_kinds k delayed locked =
     let replies = flat_map reply_ports delayed in
     let stages = flat_map stage_ports (range_with_len 0 k) in
@@ -81,9 +85,13 @@ by_kinds k delayed locked =
     append_assoc ((replies ++ stages) ++ commits) requests last_heads ∙ append_assoc (replies ++ stages) commits (requests ++ last_heads) ∙ append_assoc replies stages (commits ++ (requests ++ last_heads))
 
 -- what a whole netlist shows has the names, directions and widths of a pipe's outputs, kind by kind
-pub shown_heads : (p : Pipe) (ms : List Mem) → p.mems ≡ mems_of ms → 1 ≤ length p.stages → (commits : ℕ → Commit) (asks : ℕ → Request) (vs : ℕ → View) (gates : Gates) (moves : ℕ → Signal) → AreBitsWide vs gates moves (length p.stages) → ((m : Mem) → Among m ms → Reaches m)
-    → CommitsFit commits 0 ms → AreAsked asks 0 ms
-    → map head_shown (whole_shown p (mem_names ms) commits asks vs gates moves) ≡ flat_map stage_ports (range_with_len 0 (length p.stages)) ++ (flat_map commit_ports (locked_of ms) ++ (flat_map request_ports (map port_mem (delayed_of ms)) ++ last_heads))
+pub shown_heads : (p : Pipe) (ms : List Mem)
+    → p.mems ≡ mems_of ms → 1 ≤ length p.stages
+    → (commits : ℕ → Commit) (asks : ℕ → Request) (vs : ℕ → View) (gates : Gates) (moves : ℕ → Signal)
+    → AreBitsWide vs gates moves (length p.stages) → ((m : Mem) → Among m ms → Reaches m) → CommitsFit commits 0 ms
+    → AreAsked asks 0 ms
+    → map head_shown (whole_shown p (mem_names ms) commits asks vs gates moves) ≡ flat_map stage_ports (range_with_len 0 (length p.stages))
+    ++ (flat_map commit_ports (locked_of ms) ++ (flat_map request_ports (map port_mem (delayed_of ms)) ++ last_heads))
 shown_heads p ms same some commits asks vs gates moves wide r h f =
     let n = length p.stages in
     let named : AreNamed (mem_names ms) 0 ms = λ i l. ap (mem_names ms) (let z : 0 + i ≡ i = omega arith in z) in
@@ -96,7 +104,9 @@ shown_heads p ms same some commits asks vs gates moves wide r h f =
     (ap₂ (λ a b. output (codes "ended") a ∷ output (codes "squash") b ∷ []) (wide.stages (n - 1) (omega (arith, some))).1 wide.squash)))
 
 -- the reply ports of a netlist have the names, directions and widths of those of a pipe
-pub replies_heads : (p : Pipe) (ms : List Mem) → p.mems ≡ mems_of ms → map head_of (whole.reply_ports (mem_names ms) 0 p.mems) ≡ flat_map reply_ports (map port_mem (delayed_of ms))
+pub replies_heads : (p : Pipe) (ms : List Mem)
+    → p.mems ≡ mems_of ms
+    → map head_of (whole.reply_ports (mem_names ms) 0 p.mems) ≡ flat_map reply_ports (map port_mem (delayed_of ms))
 replies_heads p ms same = ap (λ l. map head_of (whole.reply_ports (mem_names ms) 0 l)) same ∙ reply_heads (mem_names ms) 0 ms (λ i l. ap (mem_names ms) (let z : 0 + i ≡ i = omega arith in z))
 
 -- ---- names
@@ -135,20 +145,27 @@ none_in : (ls : List PortMem) (hs : List Head) → outs_in (flat_map reply_ports
 none_in [] hs = refl
 none_in (l ∷ ls) hs = none_in ls hs
 
-stages_all : (k n : ℕ) (hs : List Head) → outs_in hs ≡ map name_of_head hs → outs_in (flat_map stage_ports (range_with_len k n) ++ hs) ≡ map name_of_head (flat_map stage_ports (range_with_len k n) ++ hs)
+stages_all : (k n : ℕ) (hs : List Head)
+    → outs_in hs ≡ map name_of_head hs
+    → outs_in (flat_map stage_ports (range_with_len k n) ++ hs) ≡ map name_of_head (flat_map stage_ports (range_with_len k n) ++ hs)
 stages_all k zero hs e = e
 stages_all k (suc n) hs e = ap (λ l. (codes "v_" ++ decimal k) ∷ (codes "g_" ++ decimal k) ∷ l) (stages_all (k + 1) n hs e)
 
-commits_all : (ls : List PortMem) (hs : List Head) → outs_in hs ≡ map name_of_head hs → outs_in (flat_map commit_ports ls ++ hs) ≡ map name_of_head (flat_map commit_ports ls ++ hs)
+commits_all : (ls : List PortMem) (hs : List Head)
+    → outs_in hs ≡ map name_of_head hs
+    → outs_in (flat_map commit_ports ls ++ hs) ≡ map name_of_head (flat_map commit_ports ls ++ hs)
 commits_all [] hs e = e
 commits_all (l ∷ ls) hs e = ap (λ n. (codes "c_" ++ l.name) ∷ (codes "ca_" ++ l.name) ∷ (codes "cd_" ++ l.name) ∷ n) (commits_all ls hs e)
 
-requests_all : (ls : List PortMem) (hs : List Head) → outs_in hs ≡ map name_of_head hs → outs_in (flat_map request_ports ls ++ hs) ≡ map name_of_head (flat_map request_ports ls ++ hs)
+requests_all : (ls : List PortMem) (hs : List Head)
+    → outs_in hs ≡ map name_of_head hs
+    → outs_in (flat_map request_ports ls ++ hs) ≡ map name_of_head (flat_map request_ports ls ++ hs)
 requests_all [] hs e = e
 requests_all (l ∷ ls) hs e = ap (λ n. (codes "q_" ++ l.name) ∷ (codes "qa_" ++ l.name) ∷ n) (requests_all ls hs e)
 
 -- the names of ports that are those of a pipe
-pub names_are : (ps : List Port) (k : ℕ) (delayed locked : List PortMem) → map head_of ps ≡ pipe_ports k delayed locked → map (λ (p : Port). p.name) ps ≡ port_names k delayed locked
+pub names_are : (ps : List Port) (k : ℕ) (delayed locked : List PortMem)
+    → map head_of ps ≡ pipe_ports k delayed locked → map (λ (p : Port). p.name) ps ≡ port_names k delayed locked
 names_are ps k delayed locked e =
     names_of_heads ps ∙ ap (map name_of_head) (e ∙ by_kinds k delayed locked)
     ∙ reply_named delayed (outs_of k delayed locked)
@@ -164,5 +181,7 @@ outputs_in (p ∷ ps) = at p.dir refl (outputs_in ps)
     at (Out x) e h = rw e (ap (λ l. p.name ∷ l) h)
 
 -- the outputs of a circuit whose ports are those of a pipe have the names of the pipe's outputs
-pub outputs_are : (c : Circuit) (k : ℕ) (delayed locked : List PortMem) → map head_of c.ports ≡ pipe_ports k delayed locked → map name_of_output (outputs_of c) ≡ output_names k delayed locked
+pub outputs_are : (c : Circuit) (k : ℕ) (delayed locked : List PortMem)
+    → map head_of c.ports ≡ pipe_ports k delayed locked
+    → map name_of_output (outputs_of c) ≡ output_names k delayed locked
 outputs_are c k delayed locked e = outputs_in c.ports ∙ ap outs_in (e ∙ by_kinds k delayed locked) ∙ none_in delayed (outs_of k delayed locked) ∙ outs_named k delayed locked

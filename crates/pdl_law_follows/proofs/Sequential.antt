@@ -36,7 +36,8 @@ one_write : (m : ℕ) (o : Option PortWrite) → writes_to m (put_of o) ≡ comm
 one_write m None = refl
 one_write m (Some w) = refl
 
-puts_at : (m : ℕ) (es : List (Option PortWrite)) (k : ℕ) → writes_to m (slice_index_or (puts_in es) k []) ≡ commit_shown m (slice_index_or es k None)
+puts_at : (m : ℕ) (es : List (Option PortWrite)) (k : ℕ)
+    → writes_to m (slice_index_or (puts_in es) k []) ≡ commit_shown m (slice_index_or es k None)
 puts_at m [] k = refl
 puts_at m (e ∷ es) zero = one_write m e
 puts_at m (e ∷ es) (suc k) = puts_at m es k
@@ -47,7 +48,9 @@ commits_same m (t ∷ ts) = ap₂ (λ xs ys. xs ++ ys) (puts_at m t.ports.commit
 
 -- ---- how many cycles
 
-count_same : (of_cycle : Cycle → Bool) (of_turn : Turn → Bool) → ((t : Turn) → of_cycle (turn_cycle t) ≡ of_turn t) → (ts : List Turn) → count_by of_cycle (turn_cycles ts) ≡ stated.count of_turn ts
+count_same : (of_cycle : Cycle → Bool) (of_turn : Turn → Bool)
+    → ((t : Turn) → of_cycle (turn_cycle t) ≡ of_turn t) → (ts : List Turn)
+    → count_by of_cycle (turn_cycles ts) ≡ stated.count of_turn ts
 count_same of_cycle of_turn same [] = refl
 count_same of_cycle of_turn same (t ∷ ts) =
     sum_by-cons (λ (c : Cycle). if of_cycle c then 1 else 0) (turn_cycle t) (turn_cycles ts)
@@ -63,7 +66,8 @@ ended_same ts = count_same (λ c. c.ended) (λ t. t.ports.ended) (λ t. refl) ts
 waits_same : (ts : List Turn) → waits_in (turn_cycles ts) ≡ stated.waits_in ts
 waits_same ts = count_same (λ c. c.wait) (λ t. t.wait) (λ t. refl) ts
 
-machine_sequential : (p : Pipe) (image : Arrays) (schedule : List (List Bool)) → Refines p image schedule → AreSequential p image schedule (turn_cycles (turns p image schedule))
+machine_sequential : (p : Pipe) (image : Arrays) (schedule : List (List Bool)) → Refines p image schedule
+    → AreSequential p image schedule (turn_cycles (turns p image schedule))
 machine_sequential p image schedule r =
     let ts = turns p image schedule in
     record {
@@ -76,8 +80,10 @@ machine_sequential p image schedule r =
 -- ---- waits
 
 -- the last cycle of a run is a wait of both
-last_wait : (p : Pipe) (n : Netlist) (bits : ℕ) (schedule : List ℕ) (h : Held) (st : State) → map seen_of (nports_from n h (schedule ++ bits ∷ [])) ≡ map (whole_had p) (turns_from p st (replies_in p (schedule ++ bits ∷ [])))
-    → some_waits (held_after n h schedule).stores bits ≡ is_wait p (state_after p st (replies_in p schedule)) (replies_of (delayed_count p) bits)
+last_wait : (p : Pipe) (n : Netlist) (bits : ℕ) (schedule : List ℕ) (h : Held) (st : State)
+    → map seen_of (nports_from n h (schedule ++ bits ∷ [])) ≡ map (whole_had p) (turns_from p st (replies_in p (schedule ++ bits ∷ [])))
+    → some_waits (held_after n h schedule).stores bits
+    ≡ is_wait p (state_after p st (replies_in p schedule)) (replies_of (delayed_count p) bits)
 last_wait p n bits [] h st e = ap (λ (xs : List Seen). first_wait xs) e
   where
     first_wait : List Seen → Bool

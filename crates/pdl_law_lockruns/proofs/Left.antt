@@ -10,7 +10,8 @@ use Rattle.pdl_lockapi.specs.Lock.{Entry}
 use Rattle.pdl_lockapi.specs.Forget.{forget, forgotten_entries}
 use Rattle.pdl_semantics.proofs.Facts.{none_leaves}
 
-released : (release : Bool) (es : List Pending) → (if release then drop 1 (forgotten_entries es) else forgotten_entries es) ≡ forgotten_entries (if release then but_oldest es else es)
+released : (release : Bool) (es : List Pending)
+    → (if release then drop 1 (forgotten_entries es) else forgotten_entries es) ≡ forgotten_entries (if release then but_oldest es else es)
 released true [] = refl
 released true (e ∷ es) = refl
 released false es = refl
@@ -21,8 +22,10 @@ next true base count = omega arith
 next false base count = omega arith
 
 -- a squash of a thread leaves those before the next thread's place
-squashed : (squash : Option ℕ) (tail base : ℕ) (es : List Pending) → ((n : ℕ) → squash ≡ Some n → (tail - base ≡ count_older (suc n) es) × (entries_left (Some n) es ≡ take (count_older (suc n) es) es))
-    → (if is_some squash then take (tail - base) (forgotten_entries es) else forgotten_entries es) ≡ forgotten_entries (entries_left squash es)
+squashed : (squash : Option ℕ) (tail base : ℕ) (es : List Pending)
+    → ((n : ℕ) → squash ≡ Some n → (tail - base ≡ count_older (suc n) es) × (entries_left (Some n) es ≡ take (count_older (suc n) es) es))
+    → (if is_some squash then take (tail - base) (forgotten_entries es) else forgotten_entries es)
+    ≡ forgotten_entries (entries_left squash es)
 squashed None tail base es h = ap forgotten_entries (sym (none_leaves es))
 squashed (Some n) tail base es h =
     let e = h n refl in

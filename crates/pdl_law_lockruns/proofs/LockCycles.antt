@@ -27,8 +27,10 @@ use Rattle.pdl_pipe_walk.specs.Locked.{Members, some_at, of_lock, locks_in}
 use Rattle.pdl_law_lockruns.specs.Used.{IsUsedAs, IsUsedLock, IsUsed}
 use Rattle.pdl_law_lockruns.proofs.LockRuns.{used_made}
 
-pub used_lock : {T : Type 0} (l : Members T) (p : Pipe) (c : Circuit) (xs : List (Option (MemLock T))) (vs : ℕ → View) (gates : Gates) (moves : ℕ → Signal) (m : ℕ) (y : MemLock T) (s : State) (st : machine.State) (replies : List Bool) → some_at xs m ≡ Some y
-    → IsUsedLock p (locks_in l p c xs) vs gates moves s st replies m → IsUsed l p m y (step_of p vs gates moves m) s st replies
+pub used_lock : {T : Type 0} (l : Members T) (p : Pipe) (c : Circuit) (xs : List (Option (MemLock T))) (vs : ℕ → View)
+    (gates : Gates) (moves : ℕ → Signal) (m : ℕ) (y : MemLock T) (s : State) (st : machine.State) (replies : List Bool)
+    → some_at xs m ≡ Some y → IsUsedLock p (locks_in l p c xs) vs gates moves s st replies m
+    → IsUsed l p m y (step_of p vs gates moves m) s st replies
 used_lock {T} l p c xs vs gates moves m y s st replies e used =
     let ls : Locks = locks_in l p c xs in
     let stands : ls.stands m ≡ l.stands y.lock y.regs = ap (of_lock (λ (z : MemLock T). l.stands z.lock z.regs) (λ s z. Unit {0})) e in
@@ -40,10 +42,13 @@ used_lock {T} l p c xs vs gates moves m y s st replies e used =
     (subst (λ w. IsUsedAs (ls.stands m) (ls.size m) w p m f s st replies) bits used))
 
 -- so it is of each lock of a netlist that is made of an accepted source, where each memory that asks for a lock has one
-pub used_locks : {T : Type 0} (l : Members T) (p : tree.Pipe) → KeepsRules p → is_source p ≡ true → is_named p ≡ true → (n : Netlist) (c : Circuit) (locks : List (Option (MemLock T)))
+pub used_locks : {T : Type 0} (l : Members T) (p : tree.Pipe) → KeepsRules p
+    → is_source p ≡ true → is_named p ≡ true → (n : Netlist) (c : Circuit) (locks : List (Option (MemLock T)))
     → ((m : ℕ) → m < length (flat p).mems → is_some (some_at locks m) ≡ is_locked (flat p) m)
-    → (views : ℕ → View) (gates : Gates) (moves : ℕ → Signal) (sides : Sides) → IsMade p (locks_in l (flat p) c locks) views gates moves sides n
-    → (image : List (List ℕ)) (schedule : List ℕ) (bits m : ℕ) (x : MemLock T) → IsImage n.mems image → m < length (flat p).mems → some_at locks m ≡ Some x
+    → (views : ℕ → View) (gates : Gates) (moves : ℕ → Signal) (sides : Sides)
+    → IsMade p (locks_in l (flat p) c locks) views gates moves sides n
+    → (image : List (List ℕ)) (schedule : List ℕ) (bits m : ℕ) (x : MemLock T) → IsImage n.mems image
+    → m < length (flat p).mems → some_at locks m ≡ Some x
     → IsUsed l (flat p) m x (step_of (flat p) views gates moves m) (state_in (held_after n (start n image) schedule) bits) (machine_after (flat p) image schedule) (replies_of (delayed_count (flat p)) bits)
 used_locks l p rules source named n c locks locked views gates moves sides made image schedule bits m x is_image low e =
     used_lock l (flat p) c locks views gates moves m x (state_in (held_after n (start n image) schedule) bits) (machine_after (flat p) image schedule) (replies_of (delayed_count (flat p)) bits) e

@@ -80,7 +80,9 @@ module _ (p : Pipe) (ls : Locks) (vs : ℕ → View) (gates : Gates) (moves : �
   }
 
 -- where a stage is seen to be as the machine's
-stage_here : (p : Pipe) (vs : ℕ → View) (moves : ℕ → Signal) (s : State) (st : machine.State) (bits : List Bool) → IsByStages p st bits → (k : ℕ) → k < length p.stages → IsSeen p vs moves s st bits k → IsStageAs (vs k) (moves k) s p st bits k
+stage_here : (p : Pipe) (vs : ℕ → View) (moves : ℕ → Signal) (s : State) (st : machine.State) (bits : List Bool)
+    → IsByStages p st bits → (k : ℕ) → k < length p.stages → IsSeen p vs moves s st bits k
+    → IsStageAs (vs k) (moves k) s p st bits k
 stage_here p vs moves s st bits by k low seen = record {
   holds = seen.valid;
   moves = seen.leaves ∙ ap bit (sym same);

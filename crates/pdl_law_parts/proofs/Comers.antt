@@ -53,7 +53,8 @@ lower j q i b h e = at (nat_le q i) refl e
     at true f g = ap₂ (λ x y. x && y) (le-leb j i (let k = leb-true q i f in omega (arith, k, h))) g
     at false f g = absurd (false≢true g)
 
-any_dropped : (test : Stage → Bool) (xs : List Stage) (j q : ℕ) → j ≤ q → list_any test (drop q xs) ≡ true → list_any test (drop j xs) ≡ true
+any_dropped : (test : Stage → Bool) (xs : List Stage) (j q : ℕ)
+    → j ≤ q → list_any test (drop q xs) ≡ true → list_any test (drop j xs) ≡ true
 any_dropped test [] zero zero h e = e
 any_dropped test [] zero (suc q) h e = e
 any_dropped test [] (suc j) zero h e = absurd (omega (arith, h))
@@ -85,13 +86,16 @@ verifies_down : (p : Pipe) (j q : ℕ) → j ≤ q → verifies_from p q ≡ tru
 verifies_down p j q h e = any_more (λ (r : Stmt). nat_le q r.stage && is_verify r.op) (λ (r : Stmt). nat_le j r.stage && is_verify r.op) p.stmts (λ r i. lower j q r.stage (is_verify r.op) h i) e
 
 -- one of the values of signals
-pub signal_at : (s : State) (fs : List Signal) (i : ℕ) → i < length fs → slice_index (values_at s fs) i ≡ (slice_index_or fs i no_signal).value s
+pub signal_at : (s : State) (fs : List Signal) (i : ℕ)
+    → i < length fs → slice_index (values_at s fs) i ≡ (slice_index_or fs i no_signal).value s
 signal_at s [] i l = absurd (omega (arith, l))
 signal_at s (f ∷ fs) zero l = refl
 signal_at s (f ∷ fs) (suc i) l = signal_at s fs i (omega (arith, l))
 
 -- and all
-pub signals_are : (s : State) (fs : List Signal) (vals : List ℕ) → length vals ≡ length fs → ((i : ℕ) → i < length fs → slice_index vals i ≡ (slice_index_or fs i no_signal).value s) → vals ≡ values_at s fs
+pub signals_are : (s : State) (fs : List Signal) (vals : List ℕ)
+    → length vals ≡ length fs → ((i : ℕ) → i < length fs → slice_index vals i ≡ (slice_index_or fs i no_signal).value s)
+    → vals ≡ values_at s fs
 signals_are s [] [] e h = refl
 signals_are s [] (v ∷ vals) e h = absurd (omega (arith, e))
 signals_are s (f ∷ fs) [] e h = absurd (omega (arith, e))
@@ -110,7 +114,8 @@ brought s of f None = f.value s
 brought s of f (Some c) = (of c).value s
 
 -- the signal of what the first comer brings has that comer's value
-pub picked_is : (s : State) (of : Comer → Signal) (cs : List Comer) (f : Signal) → (first_coming of cs f).value s ≡ brought s of f (first_come s cs)
+pub picked_is : (s : State) (of : Comer → Signal) (cs : List Comer) (f : Signal)
+    → (first_coming of cs f).value s ≡ brought s of f (first_come s cs)
 picked_is s of [] f = refl
 picked_is s of (c ∷ cs) f = mux_by s c.comes (of c) (first_coming of cs f) ∙ at (is_on c.comes s) (picked_is s of cs f)
   where
@@ -118,7 +123,8 @@ picked_is s of (c ∷ cs) f = mux_by s c.comes (of c) (first_coming of cs f) ∙
     at true e = refl
     at false e = e
 
-args_at : (s : State) (fs : List Signal) (n x : ℕ) → slice_index (map (λ (f : Signal). f.value s) fs ++ replicate n 0) x ≡ (slice_index_or fs x no_signal).value s
+args_at : (s : State) (fs : List Signal) (n x : ℕ)
+    → slice_index (map (λ (f : Signal). f.value s) fs ++ replicate n 0) x ≡ (slice_index_or fs x no_signal).value s
 args_at s [] n x = zeros_at n x
 args_at s (f ∷ fs) n zero = refl
 args_at s (f ∷ fs) n (suc x) = args_at s fs n x

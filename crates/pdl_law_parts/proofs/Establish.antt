@@ -38,7 +38,8 @@ abbrev pub AllBring : (Comer → Signal) → ℕ → List Comer → Type 0
 AllBring of v [] = Unit {0}
 AllBring of v (o ∷ os) = ((s : State) → (of o).value s ≡ v) × AllBring of v os
 
-picked_same : (of : Comer → Signal) (v : ℕ) (os : List Comer) (f : Signal) (s : State) → AllBring of v os → f.value s ≡ v → (first_coming of os f).value s ≡ v
+picked_same : (of : Comer → Signal) (v : ℕ) (os : List Comer) (f : Signal) (s : State) → AllBring of v os
+    → f.value s ≡ v → (first_coming of os f).value s ≡ v
 picked_same of v [] f s h e = e
 picked_same of v (o ∷ os) f s h e = mux_by s o.comes (of o) (first_coming of os f) ∙ at (is_on o.comes s) (picked_same of v os f s h.1 e)
   where
@@ -47,7 +48,8 @@ picked_same of v (o ∷ os) f s h e = mux_by s o.comes (of o) (first_coming of o
     at false g = g
 
 -- a constant becomes what the first comer brings, where all that may come bring its value
-pub becomes_const : (c : Circuit) (w v : ℕ) (of : Comer → Signal) (os : List Comer) → AllBring of v os → Becomes c (const_signal w v) (first_coming of os (const_signal w v))
+pub becomes_const : (c : Circuit) (w v : ℕ) (of : Comer → Signal) (os : List Comer) → AllBring of v os
+    → Becomes c (const_signal w v) (first_coming of os (const_signal w v))
 unfolding const_value
 becomes_const c w v of os h s t suits regs = sym (picked_same of v os (const_signal w v) s h refl)
 
@@ -61,7 +63,8 @@ starts_const c w v s regs = refl
 -- VALUES
 
 -- a value depends on the variables that its expression uses
-pub value_agrees : (e : Expr) (env other : List ℕ) → ((x : ℕ) → uses_var e x ≡ true → slice_index env x ≡ slice_index other x) → value_of e env ≡ value_of e other
+pub value_agrees : (e : Expr) (env other : List ℕ)
+    → ((x : ℕ) → uses_var e x ≡ true → slice_index env x ≡ slice_index other x) → value_of e env ≡ value_of e other
 value_agrees (Constant w v) env other h = refl
 value_agrees (Variable x) env other h = h x (Rattle.std.proofs.Common.eq-eqb x x refl)
 value_agrees (Slice x high low) env other h = ap (words.slice high low) (h x (Rattle.std.proofs.Common.eq-eqb x x refl))
@@ -77,12 +80,15 @@ value_agrees (Choose c a b) env other h =
 -- LOOKS
 
 -- a block whose kind is the same wherever it is on the path takes one look
-pub block_one : (ls : Locks) (m : ℕ) (addr ticket f held : Signal) (value : Option Signal) (u : Bool) (s : State) → LookLaw (ls.stands m) (ls.kind m) (ls.bits m) (look_of u) addr ticket f value → is_on held s ≡ u
+pub block_one : (ls : Locks) (m : ℕ) (addr ticket f held : Signal) (value : Option Signal) (u : Bool) (s : State)
+    → LookLaw (ls.stands m) (ls.kind m) (ls.bits m) (look_of u) addr ticket f value → is_on held s ≡ u
     → ThroughLock ls m ticket s (λ x t. f.value s ≡ bit (look_ready (ls.kind m) (look_of (is_on held s)) x t (addr.value s)))
 block_one ls m addr ticket f held value u s law e x t stands covered holds = law.answers s x t stands covered holds ∙ ap (λ b. bit (look_ready (ls.kind m) (look_of b) x t (addr.value s))) (sym e)
 
 -- and one whose kind depends on the path two
-pub block_two : (ls : Locks) (m : ℕ) (addr ticket f g held : Signal) (v u : Option Signal) (s : State) → LookLaw (ls.stands m) (ls.kind m) (ls.bits m) look_kind.W addr ticket f v → LookLaw (ls.stands m) (ls.kind m) (ls.bits m) look_kind.R addr ticket g u
+pub block_two : (ls : Locks) (m : ℕ) (addr ticket f g held : Signal) (v u : Option Signal) (s : State)
+    → LookLaw (ls.stands m) (ls.kind m) (ls.bits m) look_kind.W addr ticket f v
+    → LookLaw (ls.stands m) (ls.kind m) (ls.bits m) look_kind.R addr ticket g u
     → ThroughLock ls m ticket s (λ x t. (mux_signal held f g).value s ≡ bit (look_ready (ls.kind m) (look_of (is_on held s)) x t (addr.value s)))
 block_two ls m addr ticket f g held v u s write read x t stands covered holds = mux_by s held f g ∙ at (is_on held s)
   where
@@ -91,8 +97,9 @@ block_two ls m addr ticket f g held v u s write read x t stands covered holds = 
     at false = read.answers s x t stands covered holds
 
 -- a read through a look gives the word of an address that fits
-pub word_locked : (p : Pipe) (ls : Locks) (m : ℕ) (addr ticket ready f : Signal) (s : State) → is_locked p m ≡ true → LookLaw (ls.stands m) (ls.kind m) (ls.bits m) look_kind.R addr ticket ready (Some f) → 2 ^ addr.width ≡ (mem_at p m).depth → FitsIn addr s
-    → IsWord p ls m addr ticket f s
+pub word_locked : (p : Pipe) (ls : Locks) (m : ℕ) (addr ticket ready f : Signal) (s : State)
+    → is_locked p m ≡ true → LookLaw (ls.stands m) (ls.kind m) (ls.bits m) look_kind.R addr ticket ready (Some f)
+    → 2 ^ addr.width ≡ (mem_at p m).depth → FitsIn addr s → IsWord p ls m addr ticket f s
 word_locked p ls m addr ticket ready f s e law deep fits = record {
   reach = subst (λ n. addr.value s < n) deep fits;
   plain = λ g. absurd (false≢true (sym g ∙ e));
@@ -100,8 +107,9 @@ word_locked p ls m addr ticket ready f s e law deep fits = record {
 }
 
 -- and of a memory without lock its array gives it
-pub word_plain : (p : Pipe) (ls : Locks) (m : ℕ) (addr ticket f : Signal) (s : State) → is_locked p m ≡ false → f.value s ≡ slice_index (slice_index_or s.arrays (ls.array m) []) (addr.value s) → 2 ^ addr.width ≡ (mem_at p m).depth → FitsIn addr s
-    → IsWord p ls m addr ticket f s
+pub word_plain : (p : Pipe) (ls : Locks) (m : ℕ) (addr ticket f : Signal) (s : State)
+    → is_locked p m ≡ false → f.value s ≡ slice_index (slice_index_or s.arrays (ls.array m) []) (addr.value s)
+    → 2 ^ addr.width ≡ (mem_at p m).depth → FitsIn addr s → IsWord p ls m addr ticket f s
 word_plain p ls m addr ticket f s e word deep fits = record {
   reach = subst (λ n. addr.value s < n) deep fits;
   plain = λ g. word;

@@ -46,7 +46,8 @@ none_first (x ∷ xs) k (suc m) = none_first xs (suc k) m
 lock_first : (q : Pipe) (image : model.Arrays) (m : ℕ) → machine.lock_of (first q image) m ≡ []
 lock_first q image m = none_first q.mems 0 m
 
-slot_first : (q : Pipe) (image : model.Arrays) (k : ℕ) → k < length q.stages → slot (first q image) k ≡ (if k == 0 then born_thread q 1 (Some q.start) else None)
+slot_first : (q : Pipe) (image : model.Arrays) (k : ℕ)
+    → k < length q.stages → slot (first q image) k ≡ (if k == 0 then born_thread q 1 (Some q.start) else None)
 slot_first q image k l = let z : 0 + k ≡ k = omega arith in at_stage (λ i. if i == 0 then born_thread q 1 (Some q.start) else None) 0 q.stages k None l ∙ ap (λ i. if i == 0 then born_thread q 1 (Some q.start) else None) z
 
 holds_first : (q : Pipe) (b : Bool) → (if b then 1 else 0) ≡ bit (is_some (if b then born_thread q 1 (Some q.start) else None))
@@ -54,7 +55,9 @@ holds_first q true = refl
 holds_first q false = refl
 
 -- a thread in it is the first one
-is_first : (q : Pipe) (image : model.Arrays) (k : ℕ) (u : Thread) → slot (first q image) k ≡ Some u → (k ≡ 0) × (u.env ≡ start_env q q.start) × (0 < length q.stages) × (u.guess ≡ []) × (u.kept ≡ [])
+is_first : (q : Pipe) (image : model.Arrays) (k : ℕ) (u : Thread)
+    → slot (first q image) k ≡ Some u
+    → (k ≡ 0) × (u.env ≡ start_env q q.start) × (0 < length q.stages) × (u.guess ≡ []) × (u.kept ≡ [])
 is_first q image k u e = ⊎_elim
     (λ (l : k < length q.stages). at k l e)
     (λ (l : length q.stages ≤ k). absurd (none_some (sym (past_stage (λ i. if i == 0 then born_thread q 1 (Some q.start) else None) 0 q.stages k None l) ∙ e)))

@@ -44,7 +44,8 @@ declared_found (x ∷ xs) d m (inr a) =
 -- ---- which memories have a commit port
 
 -- a name that is none of a commit port
-other_port : (infos : List MemInfo) (port : List ℕ) → ((x : List ℕ) → bytes_eq port (codes "c_" ++ x) ≡ false) → commit_mem infos port ≡ None
+other_port : (infos : List MemInfo) (port : List ℕ)
+    → ((x : List ℕ) → bytes_eq port (codes "c_" ++ x) ≡ false) → commit_mem infos port ≡ None
 other_port [] port h = refl
 other_port (m ∷ ms) port h = ap (λ b. if b then Some m else commit_mem ms port) (h m.name) ∙ other_port ms port h
 
@@ -53,11 +54,13 @@ abbrev pub with_port : List MemInfo → List (List ℕ) → List MemInfo
 with_port infos names = filter_map (commit_mem infos) names
 
 -- a name that is of no commit port is skipped
-pub skipped : (infos : List MemInfo) (port : List ℕ) (names : List (List ℕ)) → ((x : List ℕ) → bytes_eq port (codes "c_" ++ x) ≡ false) → with_port infos (port ∷ names) ≡ with_port infos names
+pub skipped : (infos : List MemInfo) (port : List ℕ) (names : List (List ℕ))
+    → ((x : List ℕ) → bytes_eq port (codes "c_" ++ x) ≡ false) → with_port infos (port ∷ names) ≡ with_port infos names
 skipped infos port names h = ap (λ o. cons_option o (with_port infos names)) (other_port infos port h)
 
 -- the names of the stages' ports are of no memory's commit port
-pub none_of_stages : (infos : List MemInfo) (k n : ℕ) (names : List (List ℕ)) → with_port infos (stage_names k n names) ≡ with_port infos names
+pub none_of_stages : (infos : List MemInfo) (k n : ℕ) (names : List (List ℕ))
+    → with_port infos (stage_names k n names) ≡ with_port infos names
 none_of_stages infos k zero names = refl
 none_of_stages infos k (suc n) names =
     skipped infos (codes "v_" ++ decimal k) ((codes "g_" ++ decimal k) ∷ stage_names (suc k) n names) (λ x. refl)
@@ -72,15 +75,18 @@ one_of_locked infos x i names e =
     ∙ ap (λ l. i ∷ l) (skipped infos (codes "ca_" ++ x) ((codes "cd_" ++ x) ∷ names) (λ y. refl) ∙ skipped infos (codes "cd_" ++ x) names (λ y. refl))
 
 -- the memories whose commit ports are among the outputs are those by the outputs' names
-pub by_names : (infos : List MemInfo) (outs : List Output) → filter_map (λ (o : Output). commit_mem infos o.name) outs ≡ with_port infos (map name_of_output outs)
+pub by_names : (infos : List MemInfo) (outs : List Output)
+    → filter_map (λ (o : Output). commit_mem infos o.name) outs ≡ with_port infos (map name_of_output outs)
 by_names infos [] = refl
 by_names infos (o ∷ outs) = ap (cons_option (commit_mem infos o.name)) (by_names infos outs)
 
 -- ---- the lines of a cycle
 
 -- the lines of what the locked memories commit are those of what all commit
-pub locked_lines : (f : List ℕ → Option PortWrite) (number : ℕ) (ms : List Mem) (es : List (Option PortWrite)) → AreDistinct ms → AreCommits (mems_of ms) es → ((m : Mem) → Among m ms → f m.name.name ≡ found ms es m.name.name)
-    → cycle_lines number (map column_of (locked_infos ms)) (map (λ (i : MemInfo). put_of (f i.name)) (locked_infos ms)) ≡ cycle_lines number (columns ms) (puts_in es)
+pub locked_lines : (f : List ℕ → Option PortWrite) (number : ℕ) (ms : List Mem) (es : List (Option PortWrite))
+    → AreDistinct ms → AreCommits (mems_of ms) es → ((m : Mem) → Among m ms → f m.name.name ≡ found ms es m.name.name)
+    → cycle_lines number (map column_of (locked_infos ms)) (map (λ (i : MemInfo). put_of (f i.name)) (locked_infos ms))
+    ≡ cycle_lines number (columns ms) (puts_in es)
 locked_lines f number [] [] d h g = refl
 locked_lines f number [] (e ∷ es) d h g = absurd h
 locked_lines f number (m ∷ ms) [] d h g = absurd h

@@ -21,7 +21,9 @@ bit_one true = refl
 bit_one false = refl
 
 -- of a list that ends in two numbers the last but one, and the last
-pub last_two : (xs : List ℕ) (a b n : ℕ) → length (xs ++ a ∷ b ∷ []) ≡ n → (slice_index (xs ++ a ∷ b ∷ []) (n - 2) ≡ a) × (slice_index (xs ++ a ∷ b ∷ []) (n - 1) ≡ b)
+pub last_two : (xs : List ℕ) (a b n : ℕ)
+    → length (xs ++ a ∷ b ∷ []) ≡ n
+    → (slice_index (xs ++ a ∷ b ∷ []) (n - 2) ≡ a) × (slice_index (xs ++ a ∷ b ∷ []) (n - 1) ≡ b)
 last_two xs a b n e =
     let long : length (xs ++ a ∷ b ∷ []) ≡ length xs + 2 = length-append xs (a ∷ b ∷ []) in
     let more : length (xs ++ a ∷ []) ≡ length xs + 1 = length-append xs (a ∷ []) in (
@@ -34,7 +36,9 @@ abbrev pub cycle : List (List Put) → Bool → Bool → Bool → Cycle
 cycle puts ended wait squash = record { puts = puts; ended = ended; wait = wait; squash = squash }
 
 -- which memories are shown changes no count that doesn't ask them
-pub same_count : (n : Netlist) (ms ns : List MemInfo) (test : Cycle → Bool) → ((x : Shown) → test (cycle_by n ms x) ≡ test (cycle_by n ns x)) → (xs : List Shown) → count_by test (map (cycle_by n ms) xs) ≡ count_by test (map (cycle_by n ns) xs)
+pub same_count : (n : Netlist) (ms ns : List MemInfo) (test : Cycle → Bool)
+    → ((x : Shown) → test (cycle_by n ms x) ≡ test (cycle_by n ns x)) → (xs : List Shown)
+    → count_by test (map (cycle_by n ms) xs) ≡ count_by test (map (cycle_by n ns) xs)
 same_count n ms ns test h [] = refl
 same_count n ms ns test h (x ∷ xs) =
     sum_by-cons (λ c. if test c then 1 else 0) (cycle_by n ms x) (map (cycle_by n ms) xs)

@@ -27,7 +27,9 @@ stages_long : {X : Type 0} (f : ℕ → X) (k : ℕ) (xs : List Flat.Stage) → 
 stages_long f k [] = refl
 stages_long f k (x ∷ xs) = ap suc (stages_long f (suc k) xs)
 
-commits_from : (f : ℕ → Option PortWrite) (k : ℕ) (ms : List Flat.Mem) → ((i : ℕ) → has_lock (slice_index_or ms i plain_mem).lock ≡ false → f (k + i) ≡ None) → AreCommits ms (for_mems f k ms)
+commits_from : (f : ℕ → Option PortWrite) (k : ℕ) (ms : List Flat.Mem)
+    → ((i : ℕ) → has_lock (slice_index_or ms i plain_mem).lock ≡ false → f (k + i) ≡ None)
+    → AreCommits ms (for_mems f k ms)
 commits_from f k [] h = tt
 commits_from f k (m ∷ ms) h = (
   λ e. let here : k ≡ k + 0 = omega arith in ap f here ∙ h 0 e,

@@ -31,11 +31,13 @@ abbrev pub named_value : List (List ℕ) → List ℕ → List ℕ → ℕ
 named_value (y ∷ ys) (v ∷ vs) x = if bytes_eq y x then v else named_value ys vs x
 named_value _ _ x = 0
 
-value_if : (b : Bool) (all : List ℕ) (k v w : ℕ) (rest : Option ℕ) → slice_index all k ≡ v → value_at all rest ≡ w → value_at all (cond b (Some k) rest) ≡ (if b then v else w)
+value_if : (b : Bool) (all : List ℕ) (k v w : ℕ) (rest : Option ℕ)
+    → slice_index all k ≡ v → value_at all rest ≡ w → value_at all (cond b (Some k) rest) ≡ (if b then v else w)
 value_if true all k v w rest e f = e
 value_if false all k v w rest e f = f
 
-port_from : (x : List ℕ) (outs : List Output) (k : ℕ) (all vs : List ℕ) → length vs ≡ length outs → ((i : ℕ) → slice_index all (k + i) ≡ slice_index vs i)
+port_from : (x : List ℕ) (outs : List Output) (k : ℕ) (all vs : List ℕ)
+    → length vs ≡ length outs → ((i : ℕ) → slice_index all (k + i) ≡ slice_index vs i)
     → value_at all (position_from (λ (o : Output). bytes_eq o.name x) k outs) ≡ named_value (map name_of_output outs) vs x
 port_from x [] k all vs l h = refl
 port_from x (o ∷ outs) k all [] l h = absurd (cc l)
@@ -46,14 +48,18 @@ port_from x (o ∷ outs) k all (v ∷ vs) l h =
     (port_from x outs (k + 1) all vs (omega (arith, l)) (λ i. let e : k + 1 + i ≡ k + suc i = omega arith in ap (slice_index all) e ∙ h (suc i)))
 
 -- a port's value is the one at the place of its name
-pub port_is : (c : Circuit) (all x : List ℕ) → length all ≡ length (outputs_of c) → port_value c all x ≡ named_value (map name_of_output (outputs_of c)) all x
+pub port_is : (c : Circuit) (all x : List ℕ)
+    → length all ≡ length (outputs_of c) → port_value c all x ≡ named_value (map name_of_output (outputs_of c)) all x
 port_is c all x l = port_from x (outputs_of c) 0 all all l (λ i. let z : 0 + i ≡ i = omega arith in ap (slice_index all) z)
 
 -- ---- stages
 
 -- a look-up of another name passes the ports of the stages
-pub past_stages : (x : List ℕ) → ((j : ℕ) → bytes_eq (codes "v_" ++ decimal j) x ≡ false) → ((j : ℕ) → bytes_eq (codes "g_" ++ decimal j) x ≡ false)
-    → (k n : ℕ) (names : List (List ℕ)) (valid moves : List Bool) (vals : List ℕ) → length valid ≡ n → length moves ≡ n → named_value (stage_names k n names) (stage_values valid moves ++ vals) x ≡ named_value names vals x
+pub past_stages : (x : List ℕ)
+    → ((j : ℕ) → bytes_eq (codes "v_" ++ decimal j) x ≡ false)
+    → ((j : ℕ) → bytes_eq (codes "g_" ++ decimal j) x ≡ false)
+    → (k n : ℕ) (names : List (List ℕ)) (valid moves : List Bool) (vals : List ℕ) → length valid ≡ n → length moves ≡ n
+    → named_value (stage_names k n names) (stage_values valid moves ++ vals) x ≡ named_value names vals x
 past_stages x v g k zero names [] [] vals e f = refl
 past_stages x v g k zero names [] (b ∷ moves) vals e f = absurd (cc f)
 past_stages x v g k zero names (a ∷ valid) moves vals e f = absurd (cc e)
@@ -66,7 +72,9 @@ past_stages x v g k (suc n) names (a ∷ valid) (b ∷ moves) vals e f =
     ∙ past_stages x v g (suc k) n names valid moves vals (omega (arith, e)) (omega (arith, f))
 
 -- with the stages' ports before others, there are as many values as names
-pub stages_same : (k n : ℕ) (names : List (List ℕ)) (valid moves : List Bool) (vals : List ℕ) → length valid ≡ n → length moves ≡ n → length vals ≡ length names → length (stage_values valid moves ++ vals) ≡ length (stage_names k n names)
+pub stages_same : (k n : ℕ) (names : List (List ℕ)) (valid moves : List Bool) (vals : List ℕ)
+    → length valid ≡ n → length moves ≡ n → length vals ≡ length names
+    → length (stage_values valid moves ++ vals) ≡ length (stage_names k n names)
 stages_same k zero names [] [] vals e f l = l
 stages_same k zero names [] (b ∷ moves) vals e f l = absurd (cc f)
 stages_same k zero names (a ∷ valid) moves vals e f l = absurd (cc e)
@@ -110,7 +118,8 @@ found (m ∷ ms) (e ∷ es) x = if bytes_eq m.name.name x && is_some m.lock then
 found _ _ x = None
 
 -- a function's values of two commits are chosen as the commits are, where the second condition holds
-pub if_both : (g : Option PortWrite → ℕ) (t : Bool) (e rest : Option PortWrite) → (if t then g e else g rest) ≡ g (if t && true then e else rest)
+pub if_both : (g : Option PortWrite → ℕ) (t : Bool) (e rest : Option PortWrite)
+    → (if t then g e else g rest) ≡ g (if t && true then e else rest)
 if_both g true e rest = refl
 if_both g false e rest = refl
 
@@ -127,7 +136,8 @@ put_in None = None
 put_in (Some e) = Some (e.address, e.value)
 
 -- the values of a memory's three commit ports tell its commit's address and word, where it has one
-pub put_cases : (o : Option PortWrite) (f a w : ℕ) → f ≡ flag_of o → a ≡ addr_of o → w ≡ word_of o → (if f == 1 then Some (a, w) else None) ≡ put_in o
+pub put_cases : (o : Option PortWrite) (f a w : ℕ)
+    → f ≡ flag_of o → a ≡ addr_of o → w ≡ word_of o → (if f == 1 then Some (a, w) else None) ≡ put_in o
 put_cases None f a w e i j = rw e refl
 put_cases (Some x) f a w e i j = rw (e, i, j) refl
 
@@ -145,18 +155,22 @@ found_none (m ∷ ms) (k ∷ es) x e =
     ap (λ t. if t && is_some m.lock then k else found ms es x) parts.0 ∙ found_none ms es x parts.1
 
 -- the first memory commits what is found by its name
-found_if : (l : Option LockDecl) (e rest : Option PortWrite) → (has_lock (flat_lock l) ≡ false → e ≡ None) → rest ≡ None → (if is_some l then e else rest) ≡ e
+found_if : (l : Option LockDecl) (e rest : Option PortWrite)
+    → (has_lock (flat_lock l) ≡ false → e ≡ None) → rest ≡ None → (if is_some l then e else rest) ≡ e
 found_if None e rest h r = r ∙ sym (h refl)
 found_if (Some l) e rest h r = refl
 
 -- the first memory commits what is found by its name, where no other memory has that name
-pub found_first : (m : Mem) (ms : List Mem) (e : Option PortWrite) (es : List (Option PortWrite)) → is_memory ms m.name.name ≡ false → (has_lock (flat_lock m.lock) ≡ false → e ≡ None) → found (m ∷ ms) (e ∷ es) m.name.name ≡ e
+pub found_first : (m : Mem) (ms : List Mem) (e : Option PortWrite) (es : List (Option PortWrite))
+    → is_memory ms m.name.name ≡ false → (has_lock (flat_lock m.lock) ≡ false → e ≡ None)
+    → found (m ∷ ms) (e ∷ es) m.name.name ≡ e
 found_first m ms e es d h =
     ap (λ t. if t && is_some m.lock then e else found ms es m.name.name) (bytes_refl m.name.name)
     ∙ found_if m.lock e (found ms es m.name.name) h (found_none ms es m.name.name d)
 
 -- and memory by memory
-pub each_found : (f : List ℕ → Option PortWrite) (ms : List Mem) (es : List (Option PortWrite)) → AreDistinct ms → AreCommits (mems_of ms) es → ((m : Mem) → Among m ms → f m.name.name ≡ found ms es m.name.name)
+pub each_found : (f : List ℕ → Option PortWrite) (ms : List Mem) (es : List (Option PortWrite)) → AreDistinct ms
+    → AreCommits (mems_of ms) es → ((m : Mem) → Among m ms → f m.name.name ≡ found ms es m.name.name)
     → map (λ (i : MemInfo). put_of (f i.name)) (map info_of ms) ≡ puts_in es
 each_found f [] [] d h g = refl
 each_found f [] (e ∷ es) d h g = absurd h

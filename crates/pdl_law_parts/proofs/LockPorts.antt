@@ -38,7 +38,9 @@ both_is s a b true e = ap (λ n. n == 1) (mux_at s a b zero_bit true e)
 both_is s a b false e = ap (λ n. n == 1) (mux_at s a b zero_bit false e ∙ zero_is s)
 
 -- the addresses of reservations that a stage asks
-pub asked_stage : (s : State) (m : ℕ) (moves : Signal) (g : Bool) → moves.value s ≡ bit g → (rs : List Reservation) → (if g then addresses_of m (reserved_in s rs) else []) ≡ asked_addresses s (reserves_to m moves rs)
+pub asked_stage : (s : State) (m : ℕ) (moves : Signal) (g : Bool)
+    → moves.value s ≡ bit g → (rs : List Reservation)
+    → (if g then addresses_of m (reserved_in s rs) else []) ≡ asked_addresses s (reserves_to m moves rs)
 asked_stage s m moves true e [] = refl
 asked_stage s m moves false e [] = refl
 asked_stage s m moves false e (r ∷ rs) = at (r.mem == m) (asked_stage s m moves false e rs)
@@ -75,13 +77,16 @@ fitting_append s [] gs h i = i
 fitting_append s (f ∷ fs) gs h i = (h.0, fitting_append s fs gs h.1 i)
 
 -- where the addresses of reservations that are made fit, that of each one does
-pub fitting_at : (s : State) (fs : List ReserveSignal) → AreFitting s fs → (k : ℕ) → k < length fs → (reserve_at fs k).enable.value s ≡ 1 → FitsIn (reserve_at fs k).addr s
+pub fitting_at : (s : State) (fs : List ReserveSignal) → AreFitting s fs → (k : ℕ)
+    → k < length fs → (reserve_at fs k).enable.value s ≡ 1 → FitsIn (reserve_at fs k).addr s
 fitting_at s [] h k l = absurd (omega arith)
 fitting_at s (f ∷ fs) h zero l = h.0
 fitting_at s (f ∷ fs) h (suc k) l = fitting_at s fs h.1 k (omega arith)
 
 -- the addresses that a stage reserves fit, where those of its thread do as that moves
-pub fitting_stage : (s : State) (m : ℕ) (moves : Signal) (g : Bool) → moves.value s ≡ bit g → (rs : List Reservation) → (g ≡ true → AddressesFit s rs) → AreFitting s (reserves_to m moves rs)
+pub fitting_stage : (s : State) (m : ℕ) (moves : Signal) (g : Bool)
+    → moves.value s ≡ bit g → (rs : List Reservation) → (g ≡ true → AddressesFit s rs)
+    → AreFitting s (reserves_to m moves rs)
 fitting_stage s m moves g e [] h = tt
 fitting_stage s m moves g e (r ∷ rs) h = at (fitting_stage s m moves g e rs (λ z. (h z).1)) (r.mem == m)
   where
@@ -96,7 +101,9 @@ fitting_stage s m moves g e (r ∷ rs) h = at (fitting_stage s m moves g e rs (�
     at i false = i
 
 -- whether a stage lets go
-pub lets_stage : (s : State) (m : ℕ) (moves : Signal) (g : Bool) → moves.value s ≡ bit g → (ls : List Letting) (rest : Signal) (b : Bool) → rest.value s ≡ bit b → (release_moves m moves ls rest).value s ≡ bit ((g && list_any (λ n. n == m) (let_in s ls)) || b)
+pub lets_stage : (s : State) (m : ℕ) (moves : Signal) (g : Bool)
+    → moves.value s ≡ bit g → (ls : List Letting) (rest : Signal) (b : Bool) → rest.value s ≡ bit b
+    → (release_moves m moves ls rest).value s ≡ bit ((g && list_any (λ n. n == m) (let_in s ls)) || b)
 lets_stage s m moves true e [] rest b h = h
 lets_stage s m moves false e [] rest b h = h
 lets_stage s m moves false e (l ∷ ls) rest b h = at (l.mem == m) (lets_stage s m moves false e ls rest b h)
@@ -137,7 +144,8 @@ AreDriven w s (a ∷ as') (f ∷ fs) = IsDriven w s a f × AreDriven w s as' fs
 AreDriven w s _ _ = ⊥
 
 -- where the write ports of two lists do what they are to do, those of both together do
-pub driven_append : (w : ℕ) (s : State) (as' bs : List WriteAct) (fs gs : List TicketSignal) → AreDriven w s as' fs → AreDriven w s bs gs → AreDriven w s (as' ++ bs) (fs ++ gs)
+pub driven_append : (w : ℕ) (s : State) (as' bs : List WriteAct) (fs gs : List TicketSignal) → AreDriven w s as' fs
+    → AreDriven w s bs gs → AreDriven w s (as' ++ bs) (fs ++ gs)
 driven_append w s [] bs [] gs h i = i
 driven_append w s [] bs (f ∷ fs) gs h i = absurd h
 driven_append w s (a ∷ as') bs [] gs h i = absurd h
@@ -151,15 +159,18 @@ driven_count w s (a ∷ as') [] h = absurd h
 driven_count w s (a ∷ as') (f ∷ fs) h = ap suc (driven_count w s as' fs h.1)
 
 -- where write ports do what they are to do, each of them does
-pub driven_at : (w : ℕ) (s : State) (as' : List WriteAct) (fs : List TicketSignal) → AreDriven w s as' fs → (k : ℕ) → k < length as' → IsDriven w s (lock.act_at as' k) (ticket_at fs k)
+pub driven_at : (w : ℕ) (s : State) (as' : List WriteAct) (fs : List TicketSignal) → AreDriven w s as' fs → (k : ℕ)
+    → k < length as' → IsDriven w s (lock.act_at as' k) (ticket_at fs k)
 driven_at w s [] fs h k l = absurd (omega arith)
 driven_at w s (a ∷ as') [] h k l = absurd h
 driven_at w s (a ∷ as') (f ∷ fs) h zero l = h.0
 driven_at w s (a ∷ as') (f ∷ fs) h (suc k) l = driven_at w s as' fs h.1 k (omega arith)
 
 -- the write ports of a stage, with the ticket of its thread
-pub driven_stage : (w : ℕ) (s : State) (m number : ℕ) (moves ticket : Signal) (g : Bool) (xs : List Put) → moves.value s ≡ bit g → (g ≡ true → AreBits s xs)
-    → (g ≡ true → writes_to m (written_in s xs) ≡ true → holds_ticket w ticket s number) → AreDriven w s (write_acts s m g number xs) (puts_to m moves ticket xs)
+pub driven_stage : (w : ℕ) (s : State) (m number : ℕ) (moves ticket : Signal) (g : Bool) (xs : List Put)
+    → moves.value s ≡ bit g → (g ≡ true → AreBits s xs)
+    → (g ≡ true → writes_to m (written_in s xs) ≡ true → holds_ticket w ticket s number)
+    → AreDriven w s (write_acts s m g number xs) (puts_to m moves ticket xs)
 driven_stage w s m number moves ticket g [] e b h = tt
 driven_stage w s m number moves ticket g (x ∷ xs) e b h = at (is_on x.on s) refl (x.mem == m) refl (h) (λ f. driven_stage w s m number moves ticket g xs e (λ z. (b z).1) f)
   where
@@ -186,7 +197,9 @@ driven_stage w s m number moves ticket g (x ∷ xs) e b h = at (is_on x.on s) re
 -- ROOM
 
 -- who reserves a memory finds room
-pub room_of : (q : Pipe) (st : machine.State) (m : ℕ) (rs : List Reserved) → list_all (λ (r : Reserved). locks.has_room (mem_at q r.mem).lock (length (machine.lock_of st r.mem))) rs ≡ true → 1 ≤ length (addresses_of m rs) → locks.has_room (mem_at q m).lock (length (machine.lock_of st m)) ≡ true
+pub room_of : (q : Pipe) (st : machine.State) (m : ℕ) (rs : List Reserved)
+    → list_all (λ (r : Reserved). locks.has_room (mem_at q r.mem).lock (length (machine.lock_of st r.mem))) rs ≡ true
+    → 1 ≤ length (addresses_of m rs) → locks.has_room (mem_at q m).lock (length (machine.lock_of st m)) ≡ true
 room_of q st m [] h l = absurd (omega (arith, l))
 room_of q st m (r ∷ rs) h l =
     let test : Reserved → Bool = λ r. locks.has_room (mem_at q r.mem).lock (length (machine.lock_of st r.mem)) in
@@ -199,7 +212,8 @@ room_of q st m (r ∷ rs) h l =
     at rest here false e i = rest i
 
 -- nobody moves out of a stage, or its thread does
-pub moves_or_not : (p : Pipe) (st : machine.State) (bits : List Bool) (k : ℕ) → (stage_moves p st bits k ≡ false) ⊎ ((t : Thread) × (here p st bits k ≡ Some t) × (stage_moves p st bits k ≡ true))
+pub moves_or_not : (p : Pipe) (st : machine.State) (bits : List Bool) (k : ℕ)
+    → (stage_moves p st bits k ≡ false) ⊎ ((t : Thread) × (here p st bits k ≡ Some t) × (stage_moves p st bits k ≡ true))
 moves_or_not p st bits k = at (stage_moves p st bits k) (here p st bits k) refl refl
   where
     at : (b : Bool) (o : Option Thread) → stage_moves p st bits k ≡ b → here p st bits k ≡ o → (stage_moves p st bits k ≡ false) ⊎ ((t : Thread) × (here p st bits k ≡ Some t) × (stage_moves p st bits k ≡ true))
@@ -208,9 +222,12 @@ moves_or_not p st bits k = at (stage_moves p st bits k) (here p st bits k) refl 
     at true None e h = absurd (false≢true (sym (ap (slot_moves p st bits k) h) ∙ e))
 
 -- no thread moves out of a stage whose thread does not move
-pub no_mover : (p : Pipe) (st : machine.State) (bits : List Bool) (k : ℕ) → stage_moves p st bits k ≡ false → mover p st k (stage_moves p st bits k) (here p st bits k) ≡ []
+pub no_mover : (p : Pipe) (st : machine.State) (bits : List Bool) (k : ℕ)
+    → stage_moves p st bits k ≡ false → mover p st k (stage_moves p st bits k) (here p st bits k) ≡ []
 no_mover p st bits k e = ap (λ b. mover p st k b (here p st bits k)) e
 
 -- where the thread of a stage moves, it alone moves out of the stage, with what it does
-pub one_mover : (p : Pipe) (st : machine.State) (bits : List Bool) (k : ℕ) (t : Thread) → here p st bits k ≡ Some t → stage_moves p st bits k ≡ true → mover p st k (stage_moves p st bits k) (here p st bits k) ≡ act_at p st k t ∷ []
+pub one_mover : (p : Pipe) (st : machine.State) (bits : List Bool) (k : ℕ) (t : Thread)
+    → here p st bits k ≡ Some t → stage_moves p st bits k ≡ true
+    → mover p st k (stage_moves p st bits k) (here p st bits k) ≡ act_at p st k t ∷ []
 one_mover p st bits k t h e = ap₂ (mover p st k) e h

@@ -42,8 +42,10 @@ but_oldest_is : (es : List Pending) → drop 1 (forgotten_entries es) ≡ forgot
 but_oldest_is [] = refl
 but_oldest_is (e ∷ es) = refl
 
-step_by : (b : Bool) (base : ℕ) (xs : List Entry) (es : List Pending) (words : List ℕ) → xs ≡ forgotten_entries es
-    → record { base = if b then base + 1 else base; entries = if b then drop 1 xs else xs; words = words_after b xs words } ≡ lock_state_of (base + bit b) (if b then but_oldest es else es) (words_after b (forgotten_entries es) words)
+step_by : (b : Bool) (base : ℕ) (xs : List Entry) (es : List Pending) (words : List ℕ)
+    → xs ≡ forgotten_entries es
+    → record { base = if b then base + 1 else base; entries = if b then drop 1 xs else xs; words = words_after b xs words }
+    ≡ lock_state_of (base + bit b) (if b then but_oldest es else es) (words_after b (forgotten_entries es) words)
 step_by true base xs es words e =
     ap (λ ys. record { base = base + 1; entries = drop 1 ys; words = words_after true ys words }) e
     ∙ ap (λ ys. record { base = base + 1; entries = ys; words = words_after true (forgotten_entries es) words }) (but_oldest_is es)
@@ -52,7 +54,7 @@ step_by false base xs es words e =
     ap (λ ys. record { base = base; entries = ys; words = words }) e ∙ ap (λ n. lock_state_of n es words) z
 
 -- what a memory with a lock commits, as its ports show it
-commit_shows : Option Pending → List ℕ
+pub commit_shows : Option Pending → List ℕ
 commit_shows None = 0 ∷ 0 ∷ 0 ∷ []
 commit_shows (Some e) = 1 ∷ e.address ∷ commit_value e.value ∷ []
 
@@ -60,8 +62,10 @@ or_zero_is : (o : Option ℕ) → or_zero o ≡ commit_value o
 or_zero_is None = refl
 or_zero_is (Some v) = refl
 
-commit_by : (b : Bool) (xs : List Entry) (es : List Pending) → (b ≡ true → (e : Pending) × (rest : List Pending) × (es ≡ e ∷ rest)) → xs ≡ forgotten_entries es
-    → bit b ∷ (if b then (entry_at xs 0).addr else 0) ∷ (if b then or_zero (entry_at xs 0).value else 0) ∷ [] ≡ commit_shows (if b then oldest es else None)
+commit_by : (b : Bool) (xs : List Entry) (es : List Pending)
+    → (b ≡ true → (e : Pending) × (rest : List Pending) × (es ≡ e ∷ rest)) → xs ≡ forgotten_entries es
+    → bit b ∷ (if b then (entry_at xs 0).addr else 0) ∷ (if b then or_zero (entry_at xs 0).value else 0) ∷ []
+    ≡ commit_shows (if b then oldest es else None)
 unfolding commit_shows
 commit_by false xs es some e = refl
 commit_by true xs es some e =
@@ -72,7 +76,8 @@ commit_by true xs es some e =
     ∙ ap (λ l. commit_shows (oldest l)) (sym f.2)
 
 -- the commit ports of a memory with a lock have the values of what it commits
-pub commit_as : (k : LockKind) (n : ℕ) (l : model.Lock) (o : Option Pending) → l ≡ as_lock k n → commit_values l (port_write o) ≡ commit_shows o
+pub commit_as : (k : LockKind) (n : ℕ) (l : model.Lock) (o : Option Pending)
+    → l ≡ as_lock k n → commit_values l (port_write o) ≡ commit_shows o
 unfolding commit_shows
 commit_as k n l o e = ap (λ x. commit_values x (port_write o)) e ∙ ap (λ (b : Bool). if b then shown_values (port_write o) else []) (locked_is k n) ∙ at o
   where
@@ -81,8 +86,10 @@ commit_as k n l o e = ap (λ x. commit_values x (port_write o)) e ∙ ap (λ (b 
     at (Some e) = refl
 
 -- the words of the memory's array afterwards
-array_by : (b : Bool) (m depth : ℕ) (arrays : Arrays) (es : List Pending) (words : List ℕ) → (b ≡ true → (e : Pending) × (rest : List Pending) × (es ≡ e ∷ rest)) → depth ≤ length words → ((a : ℕ) → a < depth → arrays m a ≡ slice_index words a)
-    → (a : ℕ) → a < depth → with_commit arrays m (if b then oldest es else None) m a ≡ slice_index (words_after b (forgotten_entries es) words) a
+array_by : (b : Bool) (m depth : ℕ) (arrays : Arrays) (es : List Pending) (words : List ℕ)
+    → (b ≡ true → (e : Pending) × (rest : List Pending) × (es ≡ e ∷ rest)) → depth ≤ length words
+    → ((a : ℕ) → a < depth → arrays m a ≡ slice_index words a) → (a : ℕ) → a < depth
+    → with_commit arrays m (if b then oldest es else None) m a ≡ slice_index (words_after b (forgotten_entries es) words) a
 array_by false m depth arrays es words some long h a l = h a l
 array_by true m depth arrays es words some long h a l =
     let f = some refl in

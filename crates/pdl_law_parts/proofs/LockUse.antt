@@ -24,7 +24,8 @@ ordered_front u [] fs o = tt
 ordered_front u (e ∷ es) fs o = (o.0, ordered_front (e.thread + 1) es fs o.1)
 
 -- a thread that has a pending write finds no more of them older where one is added
-pub same_count : (t u : ℕ) (es fs : List Pending) → AreOrdered u (es ++ fs) → length fs ≤ 1 → has_thread t (es ++ fs) ≡ true → count_older t (es ++ fs) ≡ count_older t es
+pub same_count : (t u : ℕ) (es fs : List Pending) → AreOrdered u (es ++ fs)
+    → length fs ≤ 1 → has_thread t (es ++ fs) ≡ true → count_older t (es ++ fs) ≡ count_older t es
 same_count t u [] [] o l h = refl
 same_count t u [] (f ∷ []) o l h = elim (eqb_tells f.thread t) [
   | inl x ↦ rw (le-ltb f.thread t (omega (arith, x.1))) refl
@@ -121,12 +122,14 @@ write_acts s m goes ticket [] = []
 write_acts s m goes ticket (x ∷ xs) = if x.mem == m then record { on = goes && is_on x.on s; ticket = ticket; value = x.value.value s } ∷ write_acts s m goes ticket xs else write_acts s m goes ticket xs
 
 -- writes of two lists are made one list after the other
-pub written_append : (base : ℕ) (xs ys : List WriteAct) (es : List lock.Entry) → with_writes base (xs ++ ys) es ≡ with_writes base ys (with_writes base xs es)
+pub written_append : (base : ℕ) (xs ys : List WriteAct) (es : List lock.Entry)
+    → with_writes base (xs ++ ys) es ≡ with_writes base ys (with_writes base xs es)
 written_append base [] ys es = refl
 written_append base (x ∷ xs) ys es = written_append base xs ys (lock.with_write base x es)
 
 -- where the thread stays nothing is written
-pub none_written : (s : State) (m base ticket : ℕ) (xs : List Put) (es : List lock.Entry) → with_writes base (write_acts s m false ticket xs) es ≡ es
+pub none_written : (s : State) (m base ticket : ℕ) (xs : List Put) (es : List lock.Entry)
+    → with_writes base (write_acts s m false ticket xs) es ≡ es
 none_written s m base ticket [] es = refl
 none_written s m base ticket (x ∷ xs) es = at (none_written s m base ticket xs es) (x.mem == m)
   where
@@ -135,8 +138,11 @@ none_written s m base ticket (x ∷ xs) es = at (none_written s m base ticket xs
     at i false = i
 
 -- where it moves the lock's pending writes become those of the machine
-pub stage_written : (s : State) (m base t ticket : ℕ) (fs : List Pending) (xs : List Put) (es : List Pending) → IsAlike es fs → (writes_to m (written_in s xs) ≡ true → (has_thread t fs ≡ true) × (ticket ≡ base + count_older t fs))
-    → (forgotten_entries (with_writes_of m t (written_in s xs) es) ≡ with_writes base (write_acts s m true ticket xs) (forgotten_entries es)) × IsAlike (with_writes_of m t (written_in s xs) es) fs
+pub stage_written : (s : State) (m base t ticket : ℕ) (fs : List Pending) (xs : List Put) (es : List Pending)
+    → IsAlike es fs
+    → (writes_to m (written_in s xs) ≡ true → (has_thread t fs ≡ true) × (ticket ≡ base + count_older t fs))
+    → (forgotten_entries (with_writes_of m t (written_in s xs) es) ≡ with_writes base (write_acts s m true ticket xs) (forgotten_entries es))
+    × IsAlike (with_writes_of m t (written_in s xs) es) fs
 stage_written s m base t ticket fs [] es a h = (refl, a)
 stage_written s m base t ticket fs (x ∷ xs) es a h = at (λ gs b g. stage_written s m base t ticket fs xs gs b g) (is_on x.on s) (x.mem == m) h
   where

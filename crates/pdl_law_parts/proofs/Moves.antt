@@ -26,7 +26,8 @@ use Rattle.pdl_law_parts.proofs.Signals.{mux_at, mux_by, both_at, one_is}
 use Rattle.pdl_law_parts.proofs.StageLaw.{stage_follows}
 
 -- a fork's variable lives in its stage
-any_dropped : (test : Stage → Bool) (xs : List Stage) (k : ℕ) → k < length xs → test (slice_index_or xs k last_stage) ≡ true → list_any test (drop k xs) ≡ true
+any_dropped : (test : Stage → Bool) (xs : List Stage) (k : ℕ)
+    → k < length xs → test (slice_index_or xs k last_stage) ≡ true → list_any test (drop k xs) ≡ true
 any_dropped test [] k l e = absurd (omega (arith, l))
 any_dropped test (x ∷ xs) zero l e = ap (λ b. b || list_any test xs) e
 any_dropped test (x ∷ xs) (suc k) l e = any_dropped test xs k (omega (arith, l)) e
@@ -42,7 +43,9 @@ regroup false true a e = refl
 regroup false false a e = refl
 
 -- who moves is ready
-pub ready_of : (p : Pipe) (st : machine.State) (bits : List Bool) (k : ℕ) (t : Thread) → IsByStages p st bits → k < length p.stages → here p st bits k ≡ Some t → stage_moves p st bits k ≡ true → locks_ready p st t.number (deeds p st k t) ≡ true
+pub ready_of : (p : Pipe) (st : machine.State) (bits : List Bool) (k : ℕ) (t : Thread) → IsByStages p st bits
+    → k < length p.stages → here p st bits k ≡ Some t → stage_moves p st bits k ≡ true
+    → locks_ready p st t.number (deeds p st k t) ≡ true
 ready_of p st bits k t by l h g = second (is_empty t.awaits) (locks_ready p st t.number (deeds p st k t)) _ (sym (by.goes_where k t l h) ∙ g)
   where
     second : (a b c : Bool) → ((a && b) && c) ≡ true → b ≡ true

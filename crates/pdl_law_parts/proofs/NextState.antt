@@ -50,7 +50,8 @@ lock_there p m e = ⊎_elim
     (cases_lt m (length p.mems))
 
 -- who comes isn't removed
-if_stays_then : (sq : Option ℕ) (a b : Option Thread) → ((u : Thread) → a ≡ Some u → removed sq u.number ≡ true) → if_kept sq (or_then a b) ≡ or_then a (if_kept sq b)
+if_stays_then : (sq : Option ℕ) (a b : Option Thread)
+    → ((u : Thread) → a ≡ Some u → removed sq u.number ≡ true) → if_kept sq (or_then a b) ≡ or_then a (if_kept sq b)
 if_stays_then sq None b h = refl
 if_stays_then sq (Some u) b h = ap (λ c. if c then Some u else None) (h u refl)
 

@@ -34,7 +34,8 @@ abbrev pub shown_value : State → Shown → ℕ
 shown_value s f = f.signal.value s
 
 -- the values of outputs by their nets are those of what is shown
-pub values_shown : (c : Circuit) (s : State) (outs : List Output) → map (λ (o : Output). net_value c s o.net) outs ≡ map (shown_value s) (map (shown_in c) outs)
+pub values_shown : (c : Circuit) (s : State) (outs : List Output)
+    → map (λ (o : Output). net_value c s o.net) outs ≡ map (shown_value s) (map (shown_in c) outs)
 values_shown c s [] = refl
 values_shown c s (o ∷ outs) = ap (λ l. net_value c s o.net ∷ l) (values_shown c s outs)
 
@@ -77,8 +78,13 @@ module _ (names : ℕ → List ℕ) (s : State) (st : machine.State) where
       later i e = let z : m + suc i ≡ suc m + i = omega arith in subst (λ j. commit_words (commits j) ≡ commit_values (slice_index_or xs i plain_mem).lock (port_write (taken_out st ms j))) z e
 
 -- what a lock commits
-pub commit_laid : (p : Pipe) (names : ℕ → List ℕ) (ls : Locks) (vs : ℕ → View) (gates : Gates) (moves : ℕ → Signal) (c : Circuit) (laid : IsLaid p ls vs gates moves c) (s : State) (st : machine.State) (bits : List Bool) → StandsFor p ls vs s st → IsInUse p st bits → IsByStages p st bits → ((j : ℕ) → j < length p.stages → IsSeen p vs moves s st bits j)
-    → ((k : ℕ) (t : Thread) → here p st bits k ≡ Some t → Stood st k t) → IsSquashed p ls vs gates s st bits → (m : ℕ) → is_locked p m ≡ true → commit_words names s st (laid.commits m) ≡ commit_values (mem_at p m).lock (port_write (taken_out st (moving p st bits) m))
+pub commit_laid : (p : Pipe) (names : ℕ → List ℕ) (ls : Locks) (vs : ℕ → View) (gates : Gates) (moves : ℕ → Signal)
+    (c : Circuit) (laid : IsLaid p ls vs gates moves c) (s : State) (st : machine.State) (bits : List Bool)
+    → StandsFor p ls vs s st → IsInUse p st bits → IsByStages p st bits
+    → ((j : ℕ) → j < length p.stages → IsSeen p vs moves s st bits j)
+    → ((k : ℕ) (t : Thread) → here p st bits k ≡ Some t → Stood st k t) → IsSquashed p ls vs gates s st bits → (m : ℕ)
+    → is_locked p m ≡ true
+    → commit_words names s st (laid.commits m) ≡ commit_values (mem_at p m).lock (port_write (taken_out st (moving p st bits) m))
 commit_laid p names ls vs gates moves c laid s st bits stands used by seen stood squashed m e =
     let x = laid.locks m e in
     commit_is p ls vs moves s st bits by used seen stood m e (stands.locks m e) gates squashed x.kind (laid.owns m) c (laid.commits m) x.step

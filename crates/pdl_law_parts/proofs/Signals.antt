@@ -25,7 +25,8 @@ unfolding mux_value mux
 mux_by s a b c = refl
 
 -- both of two bits, where the second matters only beside the first
-pub both_at : (s : State) (a b : Signal) (x y : Bool) → a.value s ≡ bit x → (x ≡ true → b.value s ≡ bit y) → (both a b).value s ≡ bit (x && y)
+pub both_at : (s : State) (a b : Signal) (x y : Bool)
+    → a.value s ≡ bit x → (x ≡ true → b.value s ≡ bit y) → (both a b).value s ≡ bit (x && y)
 unfolding const_value
 both_at s a b true y e f = mux_at s a b zero_bit true e ∙ f refl
 both_at s a b false y e f = mux_at s a b zero_bit false e
@@ -41,7 +42,8 @@ unfolding const_value
 zero_is s = refl
 
 -- a condition that counts only on the path
-pub if_on_at : (s : State) (on f : Signal) (x y : Bool) → on.value s ≡ bit x → (x ≡ true → f.value s ≡ bit y) → (if_on on f).value s ≡ bit (if x then y else true)
+pub if_on_at : (s : State) (on f : Signal) (x y : Bool)
+    → on.value s ≡ bit x → (x ≡ true → f.value s ≡ bit y) → (if_on on f).value s ≡ bit (if x then y else true)
 unfolding const_value
 if_on_at s on f true y e g = mux_at s on f one true e ∙ g refl
 if_on_at s on f false y e g = mux_at s on f one false e
@@ -55,7 +57,9 @@ on_is s f b e = ap (λ n. n == 1) e ∙ at b
     at false = refl
 
 -- one more after
-pub reserved_more : (s : State) (rs : List Reservation) (r : Reservation) → reserved_in s (rs ++ r ∷ []) ≡ reserved_in s rs ++ (if is_on r.on s then record { mem = r.mem; address = r.addr.value s } ∷ [] else [])
+pub reserved_more : (s : State) (rs : List Reservation) (r : Reservation)
+    → reserved_in s (rs ++ r ∷ []) ≡ reserved_in s rs
+    ++ (if is_on r.on s then record { mem = r.mem; address = r.addr.value s } ∷ [] else [])
 reserved_more s [] r = refl
 reserved_more s (x ∷ rs) r = at (is_on x.on s) (reserved_more s rs r)
   where
@@ -67,12 +71,14 @@ reserved_more s (x ∷ rs) r = at (is_on x.on s) (reserved_more s rs r)
     at false e = e
 
 -- with a reservation more whose address fits where it is made, the addresses of all fit
-pub fits_more : (s : State) (rs : List Reservation) (r : Reservation) → AddressesFit s rs → (is_on r.on s ≡ true → FitsIn r.addr s) → AddressesFit s (rs ++ r ∷ [])
+pub fits_more : (s : State) (rs : List Reservation) (r : Reservation) → AddressesFit s rs
+    → (is_on r.on s ≡ true → FitsIn r.addr s) → AddressesFit s (rs ++ r ∷ [])
 fits_more s [] r h f = (f, tt)
 fits_more s (x ∷ rs) r h f = (h.0, fits_more s rs r h.1 f)
 
 -- with a write more, what is written is that of the others, and its own where its condition is 1
-pub written_more : (s : State) (xs : List Put) (y : Put) → written_in s (xs ++ y ∷ []) ≡ written_in s xs ++ (if is_on y.on s then record { mem = y.mem; value = y.value.value s } ∷ [] else [])
+pub written_more : (s : State) (xs : List Put) (y : Put)
+    → written_in s (xs ++ y ∷ []) ≡ written_in s xs ++ (if is_on y.on s then record { mem = y.mem; value = y.value.value s } ∷ [] else [])
 written_more s [] y = refl
 written_more s (x ∷ xs) y = at (is_on x.on s) (written_more s xs y)
   where
@@ -83,7 +89,8 @@ written_more s (x ∷ xs) y = at (is_on x.on s) (written_more s xs y)
     at true e = ap (λ l. record { mem = x.mem; value = x.value.value s } ∷ l) e
     at false e = e
 
-pub let_more : (s : State) (ls : List Letting) (l : Letting) → let_in s (ls ++ l ∷ []) ≡ let_in s ls ++ (if is_on l.on s then l.mem ∷ [] else [])
+pub let_more : (s : State) (ls : List Letting) (l : Letting)
+    → let_in s (ls ++ l ∷ []) ≡ let_in s ls ++ (if is_on l.on s then l.mem ∷ [] else [])
 let_more s [] l = refl
 let_more s (x ∷ ls) l = at (is_on x.on s) (let_more s ls l)
   where
@@ -100,7 +107,9 @@ bits_more s [] y h e = (e, tt)
 bits_more s (x ∷ xs) y h e = (h.0, bits_more s xs y h.1 e)
 
 -- with a request more, what is asked is that of the others, and its own where its condition is 1
-pub asked_more : (s : State) (qs : List Ask) (q : Ask) → asked_in s (qs ++ q ∷ []) ≡ asked_in s qs ++ (if is_on q.on s then record { mem = q.mem; var = q.var; address = q.addr.value s } ∷ [] else [])
+pub asked_more : (s : State) (qs : List Ask) (q : Ask)
+    → asked_in s (qs ++ q ∷ []) ≡ asked_in s qs
+    ++ (if is_on q.on s then record { mem = q.mem; var = q.var; address = q.addr.value s } ∷ [] else [])
 asked_more s [] q = refl
 asked_more s (x ∷ qs) q = at (is_on x.on s) (asked_more s qs q)
   where

@@ -36,7 +36,11 @@ abbrev pub AllLive : Pipe → ℕ → List Stmt → Type 0
 AllLive p k [] = Unit {0}
 AllLive p k (x ∷ xs) = (IsLive p k x × (x.stage ≡ k)) × AllLive p k xs
 
-live_from : (p : Pipe) (k : ℕ) (xs : List Stmt) → Each (λ (x : Stmt). IsAtOnce p x.op) xs → (list_any (λ (r : Stmt). nat_le k r.stage && is_verify r.op) xs ≡ true → verifies_from p k ≡ true) → ((y : ℕ) → list_any (λ (r : Stmt). nat_le k r.stage && row_uses r y) xs ≡ true → lives_from p k y ≡ true) → ((m a : ℕ) → list_any (λ (r : Stmt). nat_le k r.stage && asks_held r.op m a) xs ≡ true → held_from p k m a ≡ true) → AllLive p k (in_stage k xs)
+live_from : (p : Pipe) (k : ℕ) (xs : List Stmt) → Each (λ (x : Stmt). IsAtOnce p x.op) xs
+    → (list_any (λ (r : Stmt). nat_le k r.stage && is_verify r.op) xs ≡ true → verifies_from p k ≡ true)
+    → ((y : ℕ) → list_any (λ (r : Stmt). nat_le k r.stage && row_uses r y) xs ≡ true → lives_from p k y ≡ true)
+    → ((m a : ℕ) → list_any (λ (r : Stmt). nat_le k r.stage && asks_held r.op m a) xs ≡ true → held_from p k m a ≡ true)
+    → AllLive p k (in_stage k xs)
 live_from p k [] once v f g = tt
 live_from p k (x ∷ xs) once v f g = at (x.stage == k) refl (live_from p k xs once.1 (λ e. v (or_right (nat_le k x.stage && is_verify x.op) _ e)) (λ y e. f y (or_right (nat_le k x.stage && row_uses x y) _ e)) (λ m a e. g m a (or_right (nat_le k x.stage && asks_held x.op m a) _ e)))
   where

@@ -67,7 +67,9 @@ module _ (p : Pipe) (ls : Locks) (vs : ℕ → View) (s : State) (st : machine.S
         ∙ ap (value_or (older_write st thread m a)) (sym (stands.same a h.reach))
 
 -- a read of a memory without lock finds the word of the array
-pub word_is : (p : Pipe) (ls : Locks) (s : State) (st : machine.State) (thread m : ℕ) (addr ticket f : Signal) → IsWord p ls m addr ticket f s → is_locked p m ≡ false → machine.lock_of st m ≡ []
-    → st.arrays m (addr.value s) ≡ slice_index (slice_index_or s.arrays (ls.array m) []) (addr.value s) → f.value s ≡ word_for st thread m (addr.value s)
+pub word_is : (p : Pipe) (ls : Locks) (s : State) (st : machine.State) (thread m : ℕ) (addr ticket f : Signal)
+    → IsWord p ls m addr ticket f s → is_locked p m ≡ false → machine.lock_of st m ≡ []
+    → st.arrays m (addr.value s) ≡ slice_index (slice_index_or s.arrays (ls.array m) []) (addr.value s)
+    → f.value s ≡ word_for st thread m (addr.value s)
 word_is p ls s st thread m addr ticket f h e l w =
     h.plain e ∙ sym w ∙ ap (λ es. value_or (machine.youngest es thread (addr.value s) Nothing) (st.arrays m (addr.value s))) (sym l)

@@ -58,7 +58,8 @@ pub record IsAround (c : Circuit) (p : Pipe) (ls : Locks) (vs : ℕ → View) (s
   pub tickets : (m : ℕ) (e : is_locked p m ≡ true) → k ≤ commit_stage p m → holds_ticket (ls.bits m) ((vs k).tickets m) s ((locks m e).base + count_older thread (machine.lock_of st m))
 
 -- guards are taken as the signals say
-taken_same : (gs : List Guard) (w : Walk) (s : State) (env : List ℕ) → ((x : ℕ) → guards_use gs x ≡ true → slice_index env x ≡ (w.vars x).value s) → all_hold gs env ≡ taken_in gs w s
+taken_same : (gs : List Guard) (w : Walk) (s : State) (env : List ℕ)
+    → ((x : ℕ) → guards_use gs x ≡ true → slice_index env x ≡ (w.vars x).value s) → all_hold gs env ≡ taken_in gs w s
 taken_same [] w s env h = refl
 taken_same (g ∷ gs) w s env h =
     ap₂ (λ n b. takes_branch g.first n && b) (h g.var (or_left (g.var == g.var) (guards_use gs g.var) (eqb_self g.var))) (taken_same gs w s env (λ x u. h x (or_right (g.var == x) (guards_use gs x) u)))

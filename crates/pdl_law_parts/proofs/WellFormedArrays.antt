@@ -24,7 +24,8 @@ abbrev pub name_of_array : Array → List ℕ
 name_of_array a = a.name
 
 -- arrays with the shapes of memories have the memories' names
-pub array_names_are : (ars : List Array) (ms : List Mem) → map shape_of ars ≡ map shape_of_mem ms → map name_of_array ars ≡ map name_of_mem ms
+pub array_names_are : (ars : List Array) (ms : List Mem)
+    → map shape_of ars ≡ map shape_of_mem ms → map name_of_array ars ≡ map name_of_mem ms
 array_names_are [] [] e = refl
 array_names_are [] (m ∷ ms) e = absurd (cc e)
 array_names_are (a ∷ ars) [] e = absurd (cc e)
@@ -42,7 +43,9 @@ pub record IsArrayOf (ms : List Mem) (k : ℕ) (a : Array) (m : Mem) : Type 0 wh
   pub lock : has_lock ms k ≡ is_some m.lock
 
 -- each array is that of a memory
-pub array_mem : (ars : List Array) (ms : List Mem) → map shape_of ars ≡ map shape_of_mem ms → (k : ℕ) (d : Array) → k < length ars → (m : Mem) × IsArrayOf ms k (get_or ars k d) m
+pub array_mem : (ars : List Array) (ms : List Mem)
+    → map shape_of ars ≡ map shape_of_mem ms → (k : ℕ) (d : Array) → k < length ars
+    → (m : Mem) × IsArrayOf ms k (get_or ars k d) m
 array_mem [] ms e k d l = absurd (omega arith)
 array_mem (a ∷ ars) [] e k d l = absurd (cc e)
 array_mem (a ∷ ars) (m ∷ ms) e zero d l = (m, record { shape = cc e; among = inl refl; lock = refl })
@@ -52,7 +55,9 @@ array_mem (a ∷ ars) (m ∷ ms) e (suc k) d l =
     (w.0, record { shape = w.1.shape; among = inr w.1.among; lock = w.1.lock })
 
 -- each memory has an array
-pub mem_array : (ars : List Array) (ms : List Mem) → map shape_of ars ≡ map shape_of_mem ms → (m : Mem) → Among m ms → (d : Array) → (k : ℕ) × (k < length ars) × IsArrayOf ms k (get_or ars k d) m
+pub mem_array : (ars : List Array) (ms : List Mem)
+    → map shape_of ars ≡ map shape_of_mem ms → (m : Mem) → Among m ms → (d : Array)
+    → (k : ℕ) × (k < length ars) × IsArrayOf ms k (get_or ars k d) m
 mem_array [] [] e m h d = absurd h
 mem_array (a ∷ ars) [] e m h d = absurd h
 mem_array [] (x ∷ xs) e m h d = absurd (cc e)
@@ -84,7 +89,8 @@ pub locked_all : (P : PortMem → Type 0) (ms : List Mem) → ((m : Mem) → Amo
 locked_all P ms h = All-from_recursion P (locked_of ms) (locked_rec P ms h)
 
 -- what holds of all memories that have a lock holds of each that has one
-pub locked_at : (P : PortMem → Type 0) (ms : List Mem) (m : Mem) → Among m ms → is_some m.lock ≡ true → AllByRecursion P (locked_of ms) → P (port_mem m)
+pub locked_at : (P : PortMem → Type 0) (ms : List Mem) (m : Mem) → Among m ms
+    → is_some m.lock ≡ true → AllByRecursion P (locked_of ms) → P (port_mem m)
 locked_at P [] m a e h = absurd a
 locked_at P (x ∷ xs) m (inl s) e h = subst (λ (y : Mem). P (port_mem y)) s (go (is_some x.lock) (ap (λ (y : Mem). is_some y.lock) s ∙ e) h)
   where
@@ -105,7 +111,7 @@ shallow (Some l) d e = absurd (false≢true (sym e))
 -- ---- memories as later steps are told them
 
 -- a memory as it is told, by its fields
-abbrev info_with : List ℕ → ℕ → ℕ → Bool → MemInfo
+abbrev pub info_with : List ℕ → ℕ → ℕ → Bool → MemInfo
 info_with x w d s = record { name = x; width = w; depth = d; delayed = s }
 
 -- memories are told the same where their names, widths, depths and ways of answering are
@@ -113,6 +119,8 @@ pub info_same : (x y : List ℕ) (a b c d : ℕ) (s t : Bool) → x ≡ y → a 
 info_same x y a b c d s t e f g h = cc
 
 -- a memory that answers at once is told as its array tells it, and its ports where it has a lock
-pub info_if : (b : Bool) (a : Array) (m : Mem) → is_some m.lock ≡ b → shape_of a ≡ shape_of_mem m → Reaches m → m.delayed ≡ false → info_of m ≡ comb_info a (if b then Some (port_mem m) else None)
+pub info_if : (b : Bool) (a : Array) (m : Mem)
+    → is_some m.lock ≡ b → shape_of a ≡ shape_of_mem m → Reaches m → m.delayed ≡ false
+    → info_of m ≡ comb_info a (if b then Some (port_mem m) else None)
 info_if true a m l e r d = info_same m.name.name a.name m.width.value m.width.value m.depth.value _ m.delayed false (sym (ap (λ (s : Shape). s.name) e)) refl (sym r) d
 info_if false a m l e r d = info_same m.name.name a.name m.width.value a.width m.depth.value a.depth m.delayed false (sym (ap (λ (s : Shape). s.name) e)) (sym (ap (λ (s : Shape). s.width) e)) (sym (ap (λ (s : Shape). s.depth) e ∙ shallow m.lock m.depth.value l)) d

@@ -26,7 +26,8 @@ no_mem_params (a ∷ ps) = let e = count_cons limits.is_memory (Parameter a) (ma
 abbrev IsFew : List Place → Place → Type 0
 IsFew before x = breaks_z4 before x ≡ false
 
-few_from : (ms : List Mem) (before : List Place) (k : ℕ) → count_by limits.is_memory before ≡ k → k ≤ 16 → Each IsFew before (map Memory ms) → k + length ms ≤ 16
+few_from : (ms : List Mem) (before : List Place) (k : ℕ)
+    → count_by limits.is_memory before ≡ k → k ≤ 16 → Each IsFew before (map Memory ms) → k + length ms ≤ 16
 few_from [] before k e l each = omega arith
 few_from (m ∷ ms) before k e l each =
     let not_yet : (k ≡ 16) → ⊥ = λ s. eqb-false (count_by limits.is_memory before) 16 each.0 (e ∙ s) in

@@ -24,14 +24,16 @@ use Rattle.pdl_semantics.proofs.Facts.{lock_declared}
 -- ---- the locked memories
 
 -- the locked memory of a name, if that memory has a lock
-abbrev if_some : Mem → Option PortMem
+abbrev pub if_some : Mem → Option PortMem
 if_some m = if is_some m.lock then Some (port_mem m) else None
 
 -- the locked memory of a name, if there is one
 abbrev pub locked_named : List Mem → List ℕ → Option PortMem
 locked_named ms n = find (λ (l : PortMem). bytes_eq l.name n) (locked_of ms)
 
-found_first : (b : Bool) (l : PortMem) (ls : List PortMem) (n : List ℕ) → bytes_eq l.name n ≡ false → find (λ (k : PortMem). bytes_eq k.name n) ((if b then l ∷ [] else []) ++ ls) ≡ find (λ (k : PortMem). bytes_eq k.name n) ls
+found_first : (b : Bool) (l : PortMem) (ls : List PortMem) (n : List ℕ)
+    → bytes_eq l.name n ≡ false
+    → find (λ (k : PortMem). bytes_eq k.name n) ((if b then l ∷ [] else []) ++ ls) ≡ find (λ (k : PortMem). bytes_eq k.name n) ls
 found_first true l ls n e = ap (λ c. if c then Some l else find (λ (k : PortMem). bytes_eq k.name n) ls) e
 found_first false l ls n e = refl
 
@@ -66,7 +68,9 @@ heads_of c (o ∷ outs) = ap (λ l. head_shown (shown_in c o) ∷ l) (heads_of c
 -- ---- stages
 
 -- the outputs of the stages are their ports
-pub stages_heads : (vs : ℕ → View) (gates : Gates) (moves : ℕ → Signal) (total n k : ℕ) → k + n ≡ total → AreBitsWide vs gates moves total → map head_shown (stages_shown vs moves n k) ≡ flat_map stage_ports (range_with_len k n)
+pub stages_heads : (vs : ℕ → View) (gates : Gates) (moves : ℕ → Signal) (total n k : ℕ)
+    → k + n ≡ total → AreBitsWide vs gates moves total
+    → map head_shown (stages_shown vs moves n k) ≡ flat_map stage_ports (range_with_len k n)
 stages_heads vs gates moves total zero k e h = refl
 stages_heads vs gates moves total (suc n) k e h =
     let next : suc k ≡ k + 1 = omega arith in
@@ -81,13 +85,17 @@ commit_head m x r w =
     ap (λ e. output (codes "c_" ++ m.name.name) e ∷ output (codes "ca_" ++ m.name.name) x.addr.width ∷ output (codes "cd_" ++ m.name.name) x.value.width ∷ []) w.enable
     ∙ ap₂ (λ a v. output (codes "c_" ++ m.name.name) 1 ∷ output (codes "ca_" ++ m.name.name) a ∷ output (codes "cd_" ++ m.name.name) v ∷ []) (power_one _ _ (w.reach ∙ sym r)) w.value
 
-commit_heads_if : (b : Bool) (xs : List Shown) (l : PortMem) (rest : List Shown) (ls : List PortMem) → (b ≡ true → map head_shown xs ≡ commit_ports l) → map head_shown rest ≡ flat_map commit_ports ls
+commit_heads_if : (b : Bool) (xs : List Shown) (l : PortMem) (rest : List Shown) (ls : List PortMem)
+    → (b ≡ true → map head_shown xs ≡ commit_ports l) → map head_shown rest ≡ flat_map commit_ports ls
     → map head_shown ((if b then xs else []) ++ rest) ≡ flat_map commit_ports ((if b then l ∷ [] else []) ++ ls)
 commit_heads_if true xs l rest ls e f = map-append head_shown xs rest ∙ ap₂ (λ a b. a ++ b) (e refl) f
 commit_heads_if false xs l rest ls e f = f
 
 -- the commit outputs have the names, directions and widths of those of the memories with a lock
-pub commit_heads : (names : ℕ → List ℕ) (commits : ℕ → Commit) (k : ℕ) (ms : List Mem) → ((i : ℕ) → i < length ms → names (k + i) ≡ mem_names ms i) → ((m : Mem) → Among m ms → Reaches m) → CommitsFit commits k ms → map head_shown (commits_shown names commits k (mems_of ms)) ≡ flat_map commit_ports (locked_of ms)
+pub commit_heads : (names : ℕ → List ℕ) (commits : ℕ → Commit) (k : ℕ) (ms : List Mem)
+    → ((i : ℕ) → i < length ms → names (k + i) ≡ mem_names ms i) → ((m : Mem) → Among m ms → Reaches m)
+    → CommitsFit commits k ms
+    → map head_shown (commits_shown names commits k (mems_of ms)) ≡ flat_map commit_ports (locked_of ms)
 commit_heads names commits k [] f r h = refl
 commit_heads names commits k (x ∷ xs) f r h =
     let here : names k ≡ x.name.name = ap names (let z : k ≡ k + 0 = omega arith in z) ∙ f 0 (omega arith) in
@@ -158,14 +166,18 @@ all_free (m ∷ ms) h = go (is_some m.lock) (locked_free m.name.name ms (mem_non
 stages_apart : (j k : ℕ) → j < k → k ≤ 64 → decimal j ≢ decimal k
 stages_apart j k l h e = let same : j ≡ k = decimal_injective j k (omega arith) (omega arith) e in absurd (omega arith)
 
-valid_none : (j k n : ℕ) (rest : List (List ℕ)) → j < k → k + n ≤ 64 → IsNone (codes "v_" ++ decimal j) rest → IsNone (codes "v_" ++ decimal j) (stage_names k n rest)
+valid_none : (j k n : ℕ) (rest : List (List ℕ))
+    → j < k → k + n ≤ 64 → IsNone (codes "v_" ++ decimal j) rest
+    → IsNone (codes "v_" ++ decimal j) (stage_names k n rest)
 valid_none j k zero rest l h r = r
 valid_none j k (suc n) rest l h r = (
   tails_apart 118 _ _ (tails_apart 95 _ _ (stages_apart j k l (omega arith))),
   (heads_apart 118 103 _ _ (λ e. omega arith), valid_none j (suc k) n rest (omega arith) (omega arith) r),
 )
 
-moves_none : (j k n : ℕ) (rest : List (List ℕ)) → j < k → k + n ≤ 64 → IsNone (codes "g_" ++ decimal j) rest → IsNone (codes "g_" ++ decimal j) (stage_names k n rest)
+moves_none : (j k n : ℕ) (rest : List (List ℕ))
+    → j < k → k + n ≤ 64 → IsNone (codes "g_" ++ decimal j) rest
+    → IsNone (codes "g_" ++ decimal j) (stage_names k n rest)
 moves_none j k zero rest l h r = r
 moves_none j k (suc n) rest l h r = (
   heads_apart 103 118 _ _ (λ e. omega arith),
@@ -173,7 +185,9 @@ moves_none j k (suc n) rest l h r = (
 )
 
 -- with the names of at most 64 stages' ports before others that differ from them, all names differ
-pub stages_differ : (k n : ℕ) (rest : List (List ℕ)) → k + n ≤ 64 → ((j : ℕ) → IsNone (codes "v_" ++ decimal j) rest) → ((j : ℕ) → IsNone (codes "g_" ++ decimal j) rest) → AllDiffer rest → AllDiffer (stage_names k n rest)
+pub stages_differ : (k n : ℕ) (rest : List (List ℕ))
+    → k + n ≤ 64 → ((j : ℕ) → IsNone (codes "v_" ++ decimal j) rest) → ((j : ℕ) → IsNone (codes "g_" ++ decimal j) rest)
+    → AllDiffer rest → AllDiffer (stage_names k n rest)
 stages_differ k zero rest h v g r = r
 stages_differ k (suc n) rest h v g r = (
   (heads_apart 118 103 _ _ (λ e. omega arith), valid_none k (suc k) n rest (omega arith) (omega arith) (v k)),

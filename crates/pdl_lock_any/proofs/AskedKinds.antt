@@ -30,7 +30,8 @@ kind_asked (flat.Bypass n) l e = let same : Bypass (record { size = n }) ≡ l =
 kind_asked (flat.Rename n) l e = let same : Rename (record { size = n }) ≡ l = cc e in ap (λ (y : AnyLock). as_lock (any_kind y) (any_size y)) same
 
 -- a memory that slots of each size suit, and that answers at once
-pub suit_asked : (x : Lock) (l : AnyLock) (m : MemInfo) → ((n : ℕ) → IsSize n → Suits n m) → m.delayed ≡ false → IsSizedLock x m.depth → lock_asked x ≡ Some l → any_suits l m
+pub suit_asked : (x : Lock) (l : AnyLock) (m : MemInfo) → ((n : ℕ) → IsSize n → Suits n m)
+    → m.delayed ≡ false → IsSizedLock x m.depth → lock_asked x ≡ Some l → any_suits l m
 suit_asked flat.Plain l m t c s e = absurd (cc e)
 suit_asked (flat.Queue n) l m t c s e = let same : Queue (record { size = n }) ≡ l = cc e in subst (λ (y : AnyLock). any_suits y m) same (t n s)
 suit_asked (flat.Bypass n) l m t c s e =
@@ -41,7 +42,8 @@ suit_asked (flat.Rename n) l m t c s e =
     subst (λ (y : AnyLock). any_suits y m) same (record { sizes = t n s.0; comb = c; shallow = s.1; deep = s.2 })
 
 -- a lock that the rules allow has a size that it can have
-pub sized_allowed : (k : LockKind) (size depth : ℕ) (delayed : Bool) → IsSize size → allows_lock depth delayed k size ≡ true → IsSizedLock (as_lock k size) depth
+pub sized_allowed : (k : LockKind) (size depth : ℕ) (delayed : Bool) → IsSize size
+    → allows_lock depth delayed k size ≡ true → IsSizedLock (as_lock k size) depth
 sized_allowed tree.Queue size depth delayed s e = s
 sized_allowed tree.Bypass size depth delayed s e = s
 sized_allowed tree.Rename size depth delayed s e =

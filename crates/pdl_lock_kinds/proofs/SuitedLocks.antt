@@ -21,7 +21,8 @@ use Rattle.pdl_lock_kinds.specs.AskedLocks.{locks_asked, IsInTime, AreInTime, Ar
 asked_at : (ms : List Mem) (m : ℕ) → m < length ms → some_at (locks_asked ms) m ≡ lock_asked (get_or ms m plain_mem).lock
 asked_at ms m h = get_or-map (λ (x : Mem). lock_asked x.lock) ms m plain_mem None h
 
-sized_at : (ms : List Mem) (i : ℕ) → i < length ms → AreSizedLocks ms → IsSizedLock (get_or ms i plain_mem).lock (get_or ms i plain_mem).depth
+sized_at : (ms : List Mem) (i : ℕ)
+    → i < length ms → AreSizedLocks ms → IsSizedLock (get_or ms i plain_mem).lock (get_or ms i plain_mem).depth
 sized_at [] i h s = absurd (omega (arith, h))
 sized_at (m ∷ ms) zero h s = s.0
 sized_at (m ∷ ms) (suc i) h s = sized_at ms i (omega (arith, h)) s.1
@@ -35,14 +36,17 @@ in_time_at (m ∷ ms) zero h s = s.0
 in_time_at (m ∷ ms) (suc i) h s = in_time_at ms i (omega (arith, h)) s.1
 
 -- a queue suits a memory of either kind
-suit_in_time : (k : Lock) (x : AnyLock) (name : List ℕ) (m : Mem) → ((n : ℕ) → IsSize n → Suits n (info_of name m)) → IsInTime k m → IsSizedLock k m.depth → lock_asked k ≡ Some x → any_suits x (info_of name m)
+suit_in_time : (k : Lock) (x : AnyLock) (name : List ℕ) (m : Mem) → ((n : ℕ) → IsSize n → Suits n (info_of name m))
+    → IsInTime k m → IsSizedLock k m.depth → lock_asked k ≡ Some x → any_suits x (info_of name m)
 suit_in_time Plain x name m t c s e = absurd (cc e)
 suit_in_time (Queue n) x name m t c s e = let same : any_lock.Queue (record { size = n }) ≡ x = cc e in subst (λ (y : AnyLock). any_suits y (info_of name m)) same (t n s)
 suit_in_time (Bypass n) x name m t c s e = suit_asked (Bypass n) x (info_of name m) t c s e
 suit_in_time (Rename n) x name m t c s e = suit_asked (Rename n) x (info_of name m) t c s e
 
 -- the locks that typed memories ask for suit them, where sizes are allowed and locks with values are in time
-pub are_suited : (l : Members AnyLock) (f : Form) → l.kind ≡ any_kind → l.size ≡ any_size → AreTypedMems f.pipe.mems → AreInTime f.pipe.mems → AreSizedLocks f.pipe.mems → AreSuited any_suits l f (locks_asked f.pipe.mems)
+pub are_suited : (l : Members AnyLock) (f : Form)
+    → l.kind ≡ any_kind → l.size ≡ any_size → AreTypedMems f.pipe.mems → AreInTime f.pipe.mems
+    → AreSizedLocks f.pipe.mems → AreSuited any_suits l f (locks_asked f.pipe.mems)
 are_suited l f k z t c s = record {
   count = length-map f.pipe.mems (λ (m : Mem). lock_asked m.lock);
   locked = λ m h. ap is_some (asked_at f.pipe.mems m h) ∙ some_asked (mem_at f.pipe m).lock;

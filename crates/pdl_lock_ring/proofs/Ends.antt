@@ -31,12 +31,16 @@ unfolding step_signals
 release2_is c p = refl
 
 -- the head goes one ticket on with a release, two with a second one, and else stays
-pub head_is : (l : Layout) (f : StepSignals) → head_after l f ≡ mux_signal f.release2 (bin_signal Add (next_head l) (const_signal l.ticket 1)) (mux_signal f.release (next_head l) (head_signal l))
+pub head_is : (l : Layout) (f : StepSignals)
+    → head_after l f
+    ≡ mux_signal f.release2 (bin_signal Add (next_head l) (const_signal l.ticket 1)) (mux_signal f.release (next_head l) (head_signal l))
 unfolding head_after
 head_is l f = refl
 
 -- the tail takes what a squash gives, else goes on by one ticket for each of up to two reservations
-pub tail_after_is : (l : Layout) (f : StepSignals) → tail_after l f ≡ mux_signal f.squash f.tail (mux_signal (pushes2 f) (bin_signal Add (second_ticket l) (const_signal l.ticket 1)) (mux_signal (pushes f) (second_ticket l) (tail_signal l)))
+pub tail_after_is : (l : Layout) (f : StepSignals)
+    → tail_after l f
+    ≡ mux_signal f.squash f.tail (mux_signal (pushes2 f) (bin_signal Add (second_ticket l) (const_signal l.ticket 1)) (mux_signal (pushes f) (second_ticket l) (tail_signal l)))
 unfolding tail_after
 tail_after_is l f = refl
 

@@ -52,7 +52,9 @@ before-push [] y d = refl
 before-push (x ∷ []) y d = refl
 before-push (x ∷ z ∷ xs) y d = before-push (z ∷ xs) y x
 
-asked-push : (s : State) (fs : List ReserveSignal) (g : ReserveSignal) → asked_addresses s (fs ++ g ∷ []) ≡ (if g.enable.value s == 1 then asked_addresses s fs ++ g.addr.value s ∷ [] else asked_addresses s fs)
+asked-push : (s : State) (fs : List ReserveSignal) (g : ReserveSignal)
+    → asked_addresses s (fs ++ g ∷ [])
+    ≡ (if g.enable.value s == 1 then asked_addresses s fs ++ g.addr.value s ∷ [] else asked_addresses s fs)
 asked-push s [] g = refl
 asked-push s (f ∷ fs) g =
     let ih = asked-push s fs g in
@@ -68,10 +70,14 @@ asked-push s (f ∷ fs) g =
     ap (λ l. if f.enable.value s == 1 then y ∷ l else l) ih ∙ swap (f.enable.value s == 1) u xs
 
 -- the addresses that the first k + 1 ports ask, by those of the first k
-asked_more : (f : StepSignals) (s : State) (k : ℕ) → k < length f.reserves → asked_addresses s (take (suc k) f.reserves) ≡ (if (reserve_at f.reserves k).enable.value s == 1 then asked_addresses s (take k f.reserves) ++ (reserve_at f.reserves k).addr.value s ∷ [] else asked_addresses s (take k f.reserves))
+asked_more : (f : StepSignals) (s : State) (k : ℕ)
+    → k < length f.reserves
+    → asked_addresses s (take (suc k) f.reserves)
+    ≡ (if (reserve_at f.reserves k).enable.value s == 1 then asked_addresses s (take k f.reserves) ++ (reserve_at f.reserves k).addr.value s ∷ [] else asked_addresses s (take k f.reserves))
 asked_more f s k h = ap (λ n. asked_addresses s (take n f.reserves)) (sym (add-one k)) ∙ ap (asked_addresses s) (take_more f.reserves k no_reserve h) ∙ asked-push s (take k f.reserves) (reserve_at f.reserves k)
 
-push_value : (f : StepSignals) (s : State) (k : ℕ) → k ≤ length f.reserves → (push_signal f k).value s ≡ some (asked_addresses s (take k f.reserves))
+push_value : (f : StepSignals) (s : State) (k : ℕ)
+    → k ≤ length f.reserves → (push_signal f k).value s ≡ some (asked_addresses s (take k f.reserves))
 unfolding push_signal mux_value const_value words.mux
 push_value f s zero h = refl
 push_value f s (suc k) h =
@@ -83,7 +89,8 @@ push_value f s (suc k) h =
     (λ (o : g.enable.value s ≢ 1). if_other (g.enable.value s) 1 _ o ∙ push_value f s k (omega arith) ∙ ap some (sym (e ∙ if_other (g.enable.value s) _ _ o)))
     (cases_eq (g.enable.value s) 1)
 
-push2_value : (f : StepSignals) (s : State) (k : ℕ) → k ≤ length f.reserves → (push2_signal f k).value s ≡ two (asked_addresses s (take k f.reserves))
+push2_value : (f : StepSignals) (s : State) (k : ℕ)
+    → k ≤ length f.reserves → (push2_signal f k).value s ≡ two (asked_addresses s (take k f.reserves))
 unfolding push2_signal mux_value const_value words.mux
 push2_value f s zero h = refl
 push2_value f s (suc k) h =
@@ -95,7 +102,8 @@ push2_value f s (suc k) h =
     (λ (o : g.enable.value s ≢ 1). if_other (g.enable.value s) _ _ o ∙ push2_value f s k (omega arith) ∙ ap two (sym (e ∙ if_other (g.enable.value s) _ _ o)))
     (cases_eq (g.enable.value s) 1)
 
-last_value : (bits : ℕ) (f : StepSignals) (s : State) (k : ℕ) → k ≤ length f.reserves → (last_addr bits f k).value s ≡ last_or (asked_addresses s (take k f.reserves)) 0
+last_value : (bits : ℕ) (f : StepSignals) (s : State) (k : ℕ)
+    → k ≤ length f.reserves → (last_addr bits f k).value s ≡ last_or (asked_addresses s (take k f.reserves)) 0
 unfolding last_addr mux_value const_value words.mux
 last_value bits f s zero h = refl
 last_value bits f s (suc k) h =
@@ -107,7 +115,8 @@ last_value bits f s (suc k) h =
     (λ (o : g.enable.value s ≢ 1). if_other (g.enable.value s) _ _ o ∙ last_value bits f s k (omega arith) ∙ ap (λ l. last_or l 0) (sym (e ∙ if_other (g.enable.value s) _ _ o)))
     (cases_eq (g.enable.value s) 1)
 
-before_value : (bits : ℕ) (f : StepSignals) (s : State) (k : ℕ) → k ≤ length f.reserves → (before_addr bits f k).value s ≡ before_or (asked_addresses s (take k f.reserves)) 0
+before_value : (bits : ℕ) (f : StepSignals) (s : State) (k : ℕ)
+    → k ≤ length f.reserves → (before_addr bits f k).value s ≡ before_or (asked_addresses s (take k f.reserves)) 0
 unfolding before_addr mux_value const_value words.mux
 before_value bits f s zero h = refl
 before_value bits f s (suc k) h =
@@ -133,7 +142,8 @@ pub record Cycle (l : Layout) (g : ℕ → Signal) (s : State) (x : LockState) (
   pub proper : Proper l.size x a
 
 -- a slot's number
-pub slot_value : (l : Layout) → IsSized l → (t : Signal) (s : State) (n : ℕ) → t.value s ≡ n % 2 ^ l.ticket → (slot_of l t).value s ≡ n % l.size
+pub slot_value : (l : Layout) → IsSized l → (t : Signal) (s : State) (n : ℕ)
+    → t.value s ≡ n % 2 ^ l.ticket → (slot_of l t).value s ≡ n % l.size
 unfolding bin_value const_value
 slot_value l z t s n e =
     slot_held l.ticket l.size (t.value s) z.power

@@ -224,7 +224,9 @@ some_number None h = absurd (cc h)
 some_number (Some m) h = (m, refl)
 
 -- the value of a look that gives the array's word is the word at its address
-pub word_given : (c : Circuit) (l : Layout) (a : Signal) (v : Option Net) (f : Signal) (s : State) (ws : List ℕ) → GivesWord c l a v → option_map (signal c) v ≡ Some f → HasWords l.array s ws → f.value s ≡ slice_index ws (a.value s)
+pub word_given : (c : Circuit) (l : Layout) (a : Signal) (v : Option Net) (f : Signal) (s : State) (ws : List ℕ)
+    → GivesWord c l a v → option_map (signal c) v ≡ Some f → HasWords l.array s ws
+    → f.value s ≡ slice_index ws (a.value s)
 unfolding read_value
 word_given c l a None f s ws g e h = absurd (cc e)
 word_given c l a (Some x) f s ws g e h =

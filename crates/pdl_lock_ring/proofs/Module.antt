@@ -31,7 +31,9 @@ use Rattle.pdl_lock_ring.proofs.Still.{regs_are, each_reg}
 abbrev fields : ℕ → ℕ → ℕ → ℕ → ℕ → ℕ → Option ℕ → Content → Layout
 fields size ticket width kept bits from array content = record { size = size; ticket = ticket; width = width; kept = kept; bits = bits; from = from; array = array; content = content }
 
-same_fields : (a b c d e f a' b' c' d' e' f' : ℕ) (x y : Option ℕ) (m n : Content) → a ≡ a' → b ≡ b' → c ≡ c' → d ≡ d' → e ≡ e' → f ≡ f' → x ≡ y → m ≡ n → fields a b c d e f x m ≡ fields a' b' c' d' e' f' y n
+same_fields : (a b c d e f a' b' c' d' e' f' : ℕ) (x y : Option ℕ) (m n : Content)
+    → a ≡ a' → b ≡ b' → c ≡ c' → d ≡ d' → e ≡ e' → f ≡ f' → x ≡ y → m ≡ n
+    → fields a b c d e f x m ≡ fields a' b' c' d' e' f' y n
 same_fields a b c d e f a' b' c' d' e' f' x y m n p q r s t u v w = cc
 
 -- the first of a lock's registers has the number from which they are listed
@@ -43,11 +45,15 @@ pub count_is : (from count : ℕ) (regs : List ℕ) → regs ≡ numbers_from fr
 count_is from count regs e = ap length e ∙ numbers_length from count
 
 -- the registers that are answered are those of the layout
-pub layout_is : (q : ℕ) (m : MemInfo) (n : ℕ) (l : Layout) (r : LockRegs) → IsLayout q m n l → r.regs ≡ numbers_from l.from (2 + 3 * l.size) → r.width ≡ l.width → r.bits ≡ l.bits → r.array ≡ l.array → layout_of q r ≡ l
+pub layout_is : (q : ℕ) (m : MemInfo) (n : ℕ) (l : Layout) (r : LockRegs) → IsLayout q m n l
+    → r.regs ≡ numbers_from l.from (2 + 3 * l.size) → r.width ≡ l.width → r.bits ≡ l.bits → r.array ≡ l.array
+    → layout_of q r ≡ l
 layout_is q m n l r i e w b a = same_fields q (ticket_bits q) r.width r.width r.bits (first_reg r) l.size l.ticket l.width l.kept l.bits l.from r.array l.array Value l.content (sym i.size) (sym i.ticket) w (w ∙ i.width ∙ sym i.kept) b (first_is l.from (2 + 3 * l.size) r.regs (omega arith) e) a (sym i.content)
 
 -- slots whose registers were answered are in a circuit where the slots of their layout are
-pub are_placed : (q : ℕ) (m : MemInfo) (n : ℕ) (c : Circuit) (l : Layout) (r : LockRegs) → IsLayout q m n l → layout_of q r ≡ l → r.regs ≡ numbers_from l.from (2 + 3 * l.size) → r.slots ≡ slots_of l l.size → IsSized l → HasSlots c l → ArePlaced q c r
+pub are_placed : (q : ℕ) (m : MemInfo) (n : ℕ) (c : Circuit) (l : Layout) (r : LockRegs) → IsLayout q m n l
+    → layout_of q r ≡ l → r.regs ≡ numbers_from l.from (2 + 3 * l.size) → r.slots ≡ slots_of l l.size → IsSized l
+    → HasSlots c l → ArePlaced q c r
 are_placed q m n c l r i same e listed z h =
     let S : Layout → Type 0 = λ y. HasSlots c y in
     let L : Layout → Type 0 = λ y. r.slots ≡ slots_of y y.size in
@@ -59,7 +65,9 @@ are_placed q m n c l r i same e listed z h =
     }
 
 -- registers that are listed after the old ones, and a memory's new array, are a fragment of the new circuit
-pub is_fragment : (a b c : Circuit) (from count : ℕ) (m : MemInfo) (r : LockRegs) → 1 ≤ count → r.regs ≡ numbers_from from count → from ≡ length a.regs → length b.regs ≡ from + count → IsMemArray a b m r.array → Extends b c → IsFragment a c r
+pub is_fragment : (a b c : Circuit) (from count : ℕ) (m : MemInfo) (r : LockRegs)
+    → 1 ≤ count → r.regs ≡ numbers_from from count → from ≡ length a.regs → length b.regs ≡ from + count
+    → IsMemArray a b m r.array → Extends b c → IsFragment a c r
 unfolding HasReg
 is_fragment a b c from count m r some e place n x k =
     let f = first_is from count r.regs some e in
@@ -96,7 +104,8 @@ none_hold n A H X = record {
 }
 
 -- registers at reset and an array with a whole image stand for a lock that keeps values, at its start
-pub start_law : (q : ℕ) (c : Circuit) (r : LockRegs) → ArePlaced q c r → AreReset c (layout_of q r) 0 → StartLaw (Stands (layout_of q r)) Queue c r
+pub start_law : (q : ℕ) (c : Circuit) (r : LockRegs) → ArePlaced q c r → AreReset c (layout_of q r) 0
+    → StartLaw (Stands (layout_of q r)) Queue c r
 start_law q c r i a =
     let l = layout_of q r in
     record {
@@ -148,7 +157,8 @@ pub wide_of : (c : Circuit) (x : Net) (f : Signal) → Means c x f → f.width �
 wide_of c x f m e = ap (λ (g : Signal). g.width) m.same ∙ e
 
 -- the nets of the first commit are there with their widths, where the step's ports fit
-pub commit_nets : (a b : Circuit) (l : Layout) (w : ℕ) (p : LockPorts) (n : LockNets) → PortsFit a l.bits l.width w p → AreCommits b l (step_signals a p) n → HasCommitNets b l.bits l.width n.commit n.addr n.value
+pub commit_nets : (a b : Circuit) (l : Layout) (w : ℕ) (p : LockPorts) (n : LockNets) → PortsFit a l.bits l.width w p
+    → AreCommits b l (step_signals a p) n → HasCommitNets b l.bits l.width n.commit n.addr n.value
 commit_nets a b l w p n fit c = record {
   commit_there = c.commit.there;
   commit_one = wide_of b n.commit (step_signals a p).release c.commit (ap (λ (f : Signal). f.width) (release_is a p) ∙ fit.release_one);
@@ -159,7 +169,8 @@ commit_nets a b l w p n fit c = record {
 }
 
 -- the nets of the second commit are there with their widths, where the step's ports fit
-pub commit2_nets : (a b : Circuit) (l : Layout) (w : ℕ) (p : LockPorts) (n : LockNets) → PortsFit a l.bits l.width w p → AreCommits b l (step_signals a p) n → HasCommitNets b l.bits l.width n.commit2 n.addr2 n.value2
+pub commit2_nets : (a b : Circuit) (l : Layout) (w : ℕ) (p : LockPorts) (n : LockNets) → PortsFit a l.bits l.width w p
+    → AreCommits b l (step_signals a p) n → HasCommitNets b l.bits l.width n.commit2 n.addr2 n.value2
 commit2_nets a b l w p n fit c = record {
   commit_there = c.commit2.there;
   commit_one = wide_of b n.commit2 (step_signals a p).release2 c.commit2 (ap (λ (f : Signal). f.width) (release2_is a p) ∙ fit.release2_one);

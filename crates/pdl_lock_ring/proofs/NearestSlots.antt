@@ -15,7 +15,8 @@ use Rattle.pdl_lock_ring.proofs.RingGrowth.{means_as, wide_later}
 use Rattle.pdl_lock_ring.proofs.Trees.{least_more, least_of_more, least_none, least_of_none, least_width, key_width}
 
 -- the nets of the slot with the least key stay in a circuit that keeps what it had
-pub nearest_keep : (a b : Circuit) (l : Layout) (key : ℕ → Signal) (n from : ℕ) (x : Nearest) → IsNearest a l key n from x → Keeps a b → IsNearest b l key n from x
+pub nearest_keep : (a b : Circuit) (l : Layout) (key : ℕ → Signal) (n from : ℕ) (x : Nearest)
+    → IsNearest a l key n from x → Keeps a b → IsNearest b l key n from x
 nearest_keep a b l key n from x i y = record {
   key = means_keeps a b x.key _ y i.key;
   has = means_keeps a b x.has _ y i.has;
@@ -25,11 +26,14 @@ nearest_keep a b l key n from x i y = record {
   content_wide = wide_later a b x.content _ l.kept y i.content i.content_wide;
 }
 
-same_nearer : (p q x y p' q' x' y' : Signal) → p ≡ p' → q ≡ q' → x ≡ x' → y ≡ y' → mux_signal (bin_signal Lt p q) x y ≡ mux_signal (bin_signal Lt p' q') x' y'
+same_nearer : (p q x y p' q' x' y' : Signal)
+    → p ≡ p' → q ≡ q' → x ≡ x' → y ≡ y' → mux_signal (bin_signal Lt p q) x y ≡ mux_signal (bin_signal Lt p' q') x' y'
 same_nearer p q x y p' q' x' y' a b c d = cc
 
 -- of two halves
-pub nearest_more : (a c : Circuit) (l : Layout) (key : ℕ → Signal) (b from : ℕ) (low high z : Nearest) → b ≢ 0 → IsNearest a l key (b - 1) from low → IsNearest a l key (b - 1) (from + 2 ^ (b - 1)) high → IsNearer a c low high z → IsNearest c l key b from z
+pub nearest_more : (a c : Circuit) (l : Layout) (key : ℕ → Signal) (b from : ℕ) (low high z : Nearest) → b ≢ 0
+    → IsNearest a l key (b - 1) from low → IsNearest a l key (b - 1) (from + 2 ^ (b - 1)) high → IsNearer a c low high z
+    → IsNearest c l key b from z
 nearest_more a c l key b from low high z some x y n =
     let has = λ (k : ℕ). reg_signal 1 (has_at l k) in
     let k1 = least_key key (b - 1) (from + 2 ^ (b - 1)) in

@@ -26,17 +26,21 @@ picked_width R f h = h
 picked_width W f h = refl
 
 -- a write waits for nothing
-pub picked_means : (c : Circuit) (u : Kind) (ready one : Net) → IsThere c ready → Means c one (const_signal 1 1) → Means c (net_by_kind u ready one) (youngest_look u (signal c ready))
+pub picked_means : (c : Circuit) (u : Kind) (ready one : Net) → IsThere c ready → Means c one (const_signal 1 1)
+    → Means c (net_by_kind u ready one) (youngest_look u (signal c ready))
 picked_means c R ready one h i = record { there = h; same = refl }
 picked_means c W ready one h i = i
 
 -- a reservation for reading takes no entry
-pub taken_means : (c : Circuit) (u : Kind) (none enable : Net) → Means c none (const_signal 1 0) → IsThere c enable → Means c (net_by_kind u none enable) (enabled_reserve u (signal c enable))
+pub taken_means : (c : Circuit) (u : Kind) (none enable : Net) → Means c none (const_signal 1 0) → IsThere c enable
+    → Means c (net_by_kind u none enable) (enabled_reserve u (signal c enable))
 taken_means c R none enable h i = h
 taken_means c W none enable h i = record { there = i; same = refl }
 
 -- the signals of a reserve port
-pub reserve_is : (c : Circuit) (p : LockPorts) (k : ℕ) (q : ReservePort) → k < length p.reserves → slice_index_or p.reserves k q ≡ q → reserve_at (step_signals c p).reserves k ≡ reserve_signal c q
+pub reserve_is : (c : Circuit) (p : LockPorts) (k : ℕ) (q : ReservePort)
+    → k < length p.reserves → slice_index_or p.reserves k q ≡ q
+    → reserve_at (step_signals c p).reserves k ≡ reserve_signal c q
 unfolding step_signals
 reserve_is c p k q h e = get_or-map (reserve_signal c) p.reserves k q no_reserve h ∙ ap (reserve_signal c) e
 
@@ -45,7 +49,9 @@ enabled_one R f h = refl
 enabled_one W f h = h
 
 -- its nets have the widths that they are to have
-pub reserve_width : (c : Circuit) (bits width w : ℕ) (p : LockPorts) (k : ℕ) (q : ReservePort) → PortsFit c bits width w p → k < length p.reserves → slice_index_or p.reserves k q ≡ q → (enabled_reserve q.kind (signal c q.enable)).width ≡ 1
+pub reserve_width : (c : Circuit) (bits width w : ℕ) (p : LockPorts) (k : ℕ) (q : ReservePort)
+    → PortsFit c bits width w p → k < length p.reserves → slice_index_or p.reserves k q ≡ q
+    → (enabled_reserve q.kind (signal c q.enable)).width ≡ 1
 reserve_width c bits width w p k q f h e = enabled_one q.kind (signal c q.enable) (f.ask_one k q h e)
 
 -- a step has as many signals of reserve ports as it has reserve ports
@@ -53,19 +59,23 @@ pub reserves_count : (c : Circuit) (p : LockPorts) → length (step_signals c p)
 unfolding step_signals
 reserves_count c p = length-map p.reserves (reserve_signal c)
 
-push_more : (f : StepSignals) (k : ℕ) → push_signal f (k + 1) ≡ mux_signal (reserve_at f.reserves k).enable (const_signal 1 1) (push_signal f k)
+push_more : (f : StepSignals) (k : ℕ)
+    → push_signal f (k + 1) ≡ mux_signal (reserve_at f.reserves k).enable (const_signal 1 1) (push_signal f k)
 unfolding push_signal
 push_more f k = ap (λ n. push_signal f n) (add-one k)
 
-push2_more : (f : StepSignals) (k : ℕ) → push2_signal f (k + 1) ≡ mux_signal (reserve_at f.reserves k).enable (push_signal f k) (push2_signal f k)
+push2_more : (f : StepSignals) (k : ℕ)
+    → push2_signal f (k + 1) ≡ mux_signal (reserve_at f.reserves k).enable (push_signal f k) (push2_signal f k)
 unfolding push2_signal
 push2_more f k = ap (λ n. push2_signal f n) (add-one k)
 
-last_more : (bits : ℕ) (f : StepSignals) (k : ℕ) → last_addr bits f (k + 1) ≡ mux_signal (reserve_at f.reserves k).enable (reserve_at f.reserves k).addr (last_addr bits f k)
+last_more : (bits : ℕ) (f : StepSignals) (k : ℕ)
+    → last_addr bits f (k + 1) ≡ mux_signal (reserve_at f.reserves k).enable (reserve_at f.reserves k).addr (last_addr bits f k)
 unfolding last_addr
 last_more bits f k = ap (λ n. last_addr bits f n) (add-one k)
 
-before_more : (bits : ℕ) (f : StepSignals) (k : ℕ) → before_addr bits f (k + 1) ≡ mux_signal (reserve_at f.reserves k).enable (last_addr bits f k) (before_addr bits f k)
+before_more : (bits : ℕ) (f : StepSignals) (k : ℕ)
+    → before_addr bits f (k + 1) ≡ mux_signal (reserve_at f.reserves k).enable (last_addr bits f k) (before_addr bits f k)
 unfolding before_addr
 before_more bits f k = ap (λ n. before_addr bits f n) (add-one k)
 
@@ -82,7 +92,9 @@ push2_width f zero = refl
 push2_width f (suc k) = push_width f k
 
 -- before the first port nothing is asked
-pub asked_none : (c : Circuit) (l : Layout) (f : StepSignals) (nought none : Net) → Means c nought (const_signal 1 0) → Means c none (const_signal l.bits 0) → IsAsked c l f 0 (record { one = nought; two = nought; last = none; before = none })
+pub asked_none : (c : Circuit) (l : Layout) (f : StepSignals) (nought none : Net) → Means c nought (const_signal 1 0)
+    → Means c none (const_signal l.bits 0)
+    → IsAsked c l f 0 (record { one = nought; two = nought; last = none; before = none })
 unfolding push_signal push2_signal last_addr before_addr
 asked_none c l f nought none m n = record {
   one = m;
@@ -97,7 +109,8 @@ same_choice : (c x y x' y' : Signal) → x ≡ x' → y ≡ y' → mux_signal c 
 same_choice c x y x' y' e f = cc
 
 -- one port more
-pub asked_more : (a c : Circuit) (l : Layout) (f : StepSignals) (k : ℕ) (y x : Asked) → IsAsked a l f k y → IsAskedNext a c l f k y x → IsAsked c l f (k + 1) x
+pub asked_more : (a c : Circuit) (l : Layout) (f : StepSignals) (k : ℕ) (y x : Asked) → IsAsked a l f k y
+    → IsAskedNext a c l f k y x → IsAsked c l f (k + 1) x
 asked_more a c l f k y x i n =
     let e = (reserve_at f.reserves k).enable in
     record {
@@ -122,7 +135,8 @@ asked_keep a b l f k x i y = record {
 -- ---- what the reservations are given
 
 -- the address of the first reservation: of the last but one port that asks where two do, else of the last
-pub first_addr_is : (l : Layout) (f : StepSignals) → first_addr l f ≡ mux_signal (pushes2 f) (before_addr l.bits f (length f.reserves)) (last_addr l.bits f (length f.reserves))
+pub first_addr_is : (l : Layout) (f : StepSignals)
+    → first_addr l f ≡ mux_signal (pushes2 f) (before_addr l.bits f (length f.reserves)) (last_addr l.bits f (length f.reserves))
 unfolding first_addr
 first_addr_is l f = refl
 
@@ -132,11 +146,13 @@ unfolding second_addr
 second_addr_is l f = refl
 
 -- the slot of the first reservation: that of the tail where a port asks, else the number of slots
-pub first_slot_is : (l : Layout) (f : StepSignals) → first_slot l f ≡ mux_signal (pushes f) (slot_of l (tail_signal l)) (const_signal l.ticket l.size)
+pub first_slot_is : (l : Layout) (f : StepSignals)
+    → first_slot l f ≡ mux_signal (pushes f) (slot_of l (tail_signal l)) (const_signal l.ticket l.size)
 unfolding first_slot
 first_slot_is l f = refl
 
 -- the slot of the second reservation: that after the tail's where two ports ask, else the number of slots
-pub second_slot_is : (l : Layout) (f : StepSignals) → second_slot l f ≡ mux_signal (pushes2 f) (slot_of l (second_ticket l)) (const_signal l.ticket l.size)
+pub second_slot_is : (l : Layout) (f : StepSignals)
+    → second_slot l f ≡ mux_signal (pushes2 f) (slot_of l (second_ticket l)) (const_signal l.ticket l.size)
 unfolding second_slot
 second_slot_is l f = refl

@@ -41,7 +41,8 @@ row_kept a b r n x y = record {
   wide = λ k h. y.width (r.first + k) (x.has k h) ∙ x.wide k h;
 }
 
-row_reset_kept : (a b : Circuit) (r : Registers) (start step n : ℕ) → HasRow a r n → IsRowReset a r start step n → Extends a b → IsRowReset b r start step n
+row_reset_kept : (a b : Circuit) (r : Registers) (start step n : ℕ) → HasRow a r n → IsRowReset a r start step n
+    → Extends a b → IsRowReset b r start step n
 row_reset_kept a b r start step n h x y = record { reset = λ k l. y.reset (r.first + k) (h.has k l) ∙ x.reset k l }
 
 -- the array that was made for a memory stays so, without writes, in a circuit that is extended
@@ -81,7 +82,8 @@ reset_kept a b l p h x y = record {
 }
 
 -- what stays but for a range of registers and arrays stays but for a wider range
-pub but_wider : (o w : Own) (a b : Circuit) → ((r : ℕ) → Outside w.from w.to r → Outside o.from o.to r) → ((m : ℕ) → Outside w.first w.last m → Outside o.first o.last m) → ExtendsBut o a b → ExtendsBut w a b
+pub but_wider : (o w : Own) (a b : Circuit) → ((r : ℕ) → Outside w.from w.to r → Outside o.from o.to r)
+    → ((m : ℕ) → Outside w.first w.last m → Outside o.first o.last m) → ExtendsBut o a b → ExtendsBut w a b
 but_wider o w a b regs arrays x = record {
   there = x.there;
   kept = x.kept;
@@ -125,7 +127,9 @@ ports_keep a b l p x y = record {
 }
 
 -- a net that means the signal of a step's ports does so later
-means_later : (a b : Circuit) (p : LockPorts) (x : Net) (g : StepSignals → Signal) → step_signals b p ≡ step_signals a p → Keeps a b → Means a x (g (step_signals a p)) → Means b x (g (step_signals b p))
+means_later : (a b : Circuit) (p : LockPorts) (x : Net) (g : StepSignals → Signal)
+    → step_signals b p ≡ step_signals a p → Keeps a b → Means a x (g (step_signals a p))
+    → Means b x (g (step_signals b p))
 means_later a b p x g e y m = subst (λ f. Means b x (g f)) (sym e) (means_keeps a b x (g (step_signals a p)) y m)
 
 -- a net that is there keeps its width in a circuit that keeps what it had
@@ -163,7 +167,8 @@ pub ready_kept : (a b : Circuit) (l : Layout) (p : LockPorts) (t : Taken) → Is
 ready_kept a b l p t x y = ready_keep a b l p t x (extends_keeps a b y)
 
 -- the nets of a cycle's reservations and ports stay in a circuit extended but for what a fragment takes next
-pub ready_kept_but : (o : Own) (a b : Circuit) (l : Layout) (p : LockPorts) (t : Taken) → IsReady a l p t → ExtendsBut o a b → IsReady b l p t
+pub ready_kept_but : (o : Own) (a b : Circuit) (l : Layout) (p : LockPorts) (t : Taken) → IsReady a l p t
+    → ExtendsBut o a b → IsReady b l p t
 ready_kept_but o a b l p t x y = ready_keep a b l p t x (but_keeps o a b y)
 
 -- the nets of the two oldest pending writes stay in a circuit that keeps what it had

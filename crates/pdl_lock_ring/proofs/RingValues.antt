@@ -56,7 +56,8 @@ unfolding words.equal
 eq_none i k n = ap (λ (t : Bool). if t then 1 else 0) (ne_eqb _ _ n)
 
 -- the same slots by other functions
-pub holds_same : (n base : ℕ) (A H X A' H' X' : ℕ → ℕ) (xs : List Entry) → 1 ≤ n → ((k : ℕ) → k < n → A' k ≡ A k) → ((k : ℕ) → k < n → H' k ≡ H k) → ((k : ℕ) → k < n → X' k ≡ X k)
+pub holds_same : (n base : ℕ) (A H X A' H' X' : ℕ → ℕ) (xs : List Entry)
+    → 1 ≤ n → ((k : ℕ) → k < n → A' k ≡ A k) → ((k : ℕ) → k < n → H' k ≡ H k) → ((k : ℕ) → k < n → X' k ≡ X k)
     → Holds n base A H X xs → Holds n base A' H' X' xs
 holds_same n base A H X A' H' X' xs some a f x h = record {
   room = h.room;
@@ -77,7 +78,8 @@ pub record IsChanged (n base j : ℕ) (A H X A' H' X' : ℕ → ℕ) (xs ys : Li
   pub full : H' ((base + j) % n) ≡ bit (is_some (entry_at ys j).value)
   pub value : (v : ℕ) → (entry_at ys j).value ≡ Some v → X' ((base + j) % n) ≡ v
 
-changed_holds : (n base j : ℕ) (A H X A' H' X' : ℕ → ℕ) (xs ys : List Entry) → IsChanged n base j A H X A' H' X' xs ys → Holds n base A H X xs → Holds n base A' H' X' ys
+changed_holds : (n base j : ℕ) (A H X A' H' X' : ℕ → ℕ) (xs ys : List Entry) → IsChanged n base j A H X A' H' X' xs ys
+    → Holds n base A H X xs → Holds n base A' H' X' ys
 changed_holds n base j A H X A' H' X' xs ys c h =
     let there = λ (i : ℕ) (l : i < length ys) (q : i ≢ j) (e : (base + i) % n ≡ (base + j) % n). q (apart n base i j (omega (arith, l, c.room)) (omega (arith, c.within, c.room)) e) in
     record {
@@ -132,7 +134,9 @@ AreGiven n next (y ∷ []) t1 t2 a1 a2 = (t1 ≡ next % n) × (t2 ≡ n) × (a1 
 AreGiven n next (y ∷ z ∷ ys) t1 t2 a1 a2 = (t1 ≡ next % n) × (t2 ≡ (next + 1) % n) × (a1 ≡ y) × (a2 ≡ z)
 
 -- slots that were given to at most two reservations hold the pending writes with these appended
-pub append_holds : (n base : ℕ) (A H X : ℕ → ℕ) (xs : List Entry) (ys : List ℕ) (t1 t2 a1 a2 : ℕ) → 1 ≤ n → length ys ≤ 2 → length xs + length ys ≤ n → AreGiven n (base + length xs) ys t1 t2 a1 a2 → Holds n base A H X xs
+pub append_holds : (n base : ℕ) (A H X : ℕ → ℕ) (xs : List Entry) (ys : List ℕ) (t1 t2 a1 a2 : ℕ)
+    → 1 ≤ n → length ys ≤ 2 → length xs + length ys ≤ n → AreGiven n (base + length xs) ys t1 t2 a1 a2
+    → Holds n base A H X xs
     → Holds n base (λ k. words.mux (words.equal t2 k) a2 (words.mux (words.equal t1 k) a1 (A k))) (λ k. words.mux (words.equal t2 k) 0 (words.mux (words.equal t1 k) 0 (H k))) X (with_reserves ys xs)
 append_holds n base A H X xs [] t1 t2 a1 a2 some two room g h =
     let P : List Entry → Type 0 = λ l. Holds n base (λ k. words.mux (words.equal t2 k) a2 (words.mux (words.equal t1 k) a1 (A k))) (λ k. words.mux (words.equal t2 k) 0 (words.mux (words.equal t1 k) 0 (H k))) X l in
@@ -150,7 +154,8 @@ append_holds n base A H X xs (y ∷ z ∷ []) t1 t2 a1 a2 some two room g h =
 append_holds n base A H X xs (y ∷ z ∷ z' ∷ ys) t1 t2 a1 a2 some two room g h = absurd (omega (arith, two))
 
 -- a write of entry j
-set_holds : (n base j w : ℕ) (A H X E : ℕ → ℕ) (xs : List Entry) → j < length xs → ((k : ℕ) → E k ≡ words.equal ((base + j) % n) k) → Holds n base A H X xs
+set_holds : (n base j w : ℕ) (A H X E : ℕ → ℕ) (xs : List Entry)
+    → j < length xs → ((k : ℕ) → E k ≡ words.equal ((base + j) % n) k) → Holds n base A H X xs
     → Holds n base A (λ k. words.mux (E k) 1 (H k)) (λ k. words.mux (E k) w (X k)) (set xs j (with_entry_value (entry_at xs j) w))
 set_holds n base j w A H X E xs l e h =
     let g = with_entry_value (entry_at xs j) w in
@@ -172,13 +177,18 @@ set_holds n base j w A H X E xs l e h =
       value = λ v f. let z : Some w ≡ Some v = ap (λ (x : Entry). x.value) (sym here) ∙ f in mux_one (E s) w (X s) on ∙ (cc z);
     }) h
 
-none_holds : (n base w : ℕ) (A H X E : ℕ → ℕ) (xs : List Entry) → 1 ≤ n → ((k : ℕ) → k < n → E k ≡ 0) → Holds n base A H X xs → Holds n base A (λ k. words.mux (E k) 1 (H k)) (λ k. words.mux (E k) w (X k)) xs
+none_holds : (n base w : ℕ) (A H X E : ℕ → ℕ) (xs : List Entry)
+    → 1 ≤ n → ((k : ℕ) → k < n → E k ≡ 0) → Holds n base A H X xs
+    → Holds n base A (λ k. words.mux (E k) 1 (H k)) (λ k. words.mux (E k) w (X k)) xs
 none_holds n base w A H X E xs some e h =
     holds_same n base A H X A (λ k. words.mux (E k) 1 (H k)) (λ k. words.mux (E k) w (X k)) xs some (λ k l. refl) (λ k l. mux_zero (E k) 1 (H k) (e k l)) (λ k l. mux_zero (E k) w (X k) (e k l)) h
 
 -- slots hold the pending writes after a write port, where the slot of its ticket is filled if it is on
-pub put_holds : (n base : ℕ) (w : WriteAct) (A H X E : ℕ → ℕ) (xs : List Entry) → 1 ≤ n → (w.on ≡ true → base ≤ w.ticket) → (w.on ≡ true → w.ticket - base < length xs) → ((k : ℕ) → w.on ≡ true → E k ≡ words.equal (w.ticket % n) k) → ((k : ℕ) → k < n → w.on ≡ false → E k ≡ 0)
-    → Holds n base A H X xs → Holds n base A (λ k. words.mux (E k) 1 (H k)) (λ k. words.mux (E k) w.value (X k)) (with_write base w xs)
+pub put_holds : (n base : ℕ) (w : WriteAct) (A H X E : ℕ → ℕ) (xs : List Entry)
+    → 1 ≤ n → (w.on ≡ true → base ≤ w.ticket) → (w.on ≡ true → w.ticket - base < length xs)
+    → ((k : ℕ) → w.on ≡ true → E k ≡ words.equal (w.ticket % n) k) → ((k : ℕ) → k < n → w.on ≡ false → E k ≡ 0)
+    → Holds n base A H X xs
+    → Holds n base A (λ k. words.mux (E k) 1 (H k)) (λ k. words.mux (E k) w.value (X k)) (with_write base w xs)
 put_holds n base w A H X E xs some low i y z h =
     let P : List Entry → Type 0 = λ l. Holds n base A (λ k. words.mux (E k) 1 (H k)) (λ k. words.mux (E k) w.value (X k)) l in
     ⊎_elim
@@ -189,7 +199,8 @@ put_holds n base w A H X E xs some low i y z h =
     (cases_Bool w.on)
 
 -- one write port more does its write after those before it
-pub written-push : (base : ℕ) (ws : List WriteAct) (w : WriteAct) (xs : List Entry) → with_writes base (ws ++ w ∷ []) xs ≡ with_write base w (with_writes base ws xs)
+pub written-push : (base : ℕ) (ws : List WriteAct) (w : WriteAct) (xs : List Entry)
+    → with_writes base (ws ++ w ∷ []) xs ≡ with_write base w (with_writes base ws xs)
 written-push base [] w xs = refl
 written-push base (v ∷ ws) w xs = written-push base ws w (with_write base v xs)
 
@@ -230,7 +241,9 @@ take_holds n base d A H X xs h =
     }
 
 -- values that are the same in the slots of pending writes
-pub values_same : (n base : ℕ) (A H X X' : ℕ → ℕ) (xs : List Entry) → ((i : ℕ) → i < length xs → X' ((base + i) % n) ≡ X ((base + i) % n)) → Holds n base A H X xs → Holds n base A H X' xs
+pub values_same : (n base : ℕ) (A H X X' : ℕ → ℕ) (xs : List Entry)
+    → ((i : ℕ) → i < length xs → X' ((base + i) % n) ≡ X ((base + i) % n)) → Holds n base A H X xs
+    → Holds n base A H X' xs
 values_same n base A H X X' xs x h = record {
   room = h.room;
   has_addr = h.has_addr;

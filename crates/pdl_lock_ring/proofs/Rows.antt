@@ -25,7 +25,8 @@ row_none c r = record {
 }
 
 -- one register more of a row is in a circuit, where a new one was made after those before it
-pub row_more : (c d : Circuit) (r : Registers) (k v : ℕ) → HasRow c r k → Extends c d → IsNewReg d (r.first + k) r.width v → HasRow d r (k + 1)
+pub row_more : (c d : Circuit) (r : Registers) (k v : ℕ) → HasRow c r k → Extends c d
+    → IsNewReg d (r.first + k) r.width v → HasRow d r (k + 1)
 row_more c d r k v h e x =
     let g = row_kept c d r k h e in
     record {
@@ -40,7 +41,8 @@ pub reset_none : (c : Circuit) (r : Registers) (start step : ℕ) → IsRowReset
 reset_none c r start step = record { reset = λ k h. absurd (omega arith) }
 
 -- one register more of a row holds first what it is to hold, where it was made with that reset value
-pub reset_more : (c d : Circuit) (r : Registers) (start step k : ℕ) → HasRow c r k → IsRowReset c r start step k → Extends c d → IsNewReg d (r.first + k) r.width (start + step * k) → IsRowReset d r start step (k + 1)
+pub reset_more : (c d : Circuit) (r : Registers) (start step k : ℕ) → HasRow c r k → IsRowReset c r start step k
+    → Extends c d → IsNewReg d (r.first + k) r.width (start + step * k) → IsRowReset d r start step (k + 1)
 reset_more c d r start step k h i e x = record { reset = upto (λ j. reg_reset d (r.first + j) ≡ start + step * j) k x.reset (λ j l. e.reset (r.first + j) (h.has j l) ∙ i.reset j l) }
 
 -- what the k-th holds first fits its register
@@ -77,7 +79,9 @@ own_array_kept a b l x y = record {
 }
 
 -- the ring of its rows
-pub slots_made : (c : Circuit) (l : Layout) → IsNewReg c l.from l.ticket 0 → IsNewReg c (l.from + 1) l.ticket 0 → HasRow c (row_of l (l.from + 2) l.bits) l.size → HasRow c (row_of l (l.from + 2 + l.size) 1) l.size → HasRow c (row_of l (l.from + 2 + 2 * l.size) l.kept) l.size → HasOwnArray c l → HasSlots c l
+pub slots_made : (c : Circuit) (l : Layout) → IsNewReg c l.from l.ticket 0 → IsNewReg c (l.from + 1) l.ticket 0
+    → HasRow c (row_of l (l.from + 2) l.bits) l.size → HasRow c (row_of l (l.from + 2 + l.size) 1) l.size
+    → HasRow c (row_of l (l.from + 2 + 2 * l.size) l.kept) l.size → HasOwnArray c l → HasSlots c l
 slots_made c l head tail addrs bits contents array = record {
   head_there = head.there;
   head = head.same;
@@ -105,14 +109,17 @@ slots_made c l head tail addrs bits contents array = record {
 }
 
 -- head and tail that were made with 0, and slots with what they hold first, are at reset
-pub reset_made : (c : Circuit) (l : Layout) (place : ℕ) → IsNewReg c l.from l.ticket 0 → IsNewReg c (l.from + 1) l.ticket 0 → AreFirst c l place → AreReset c l place
+pub reset_made : (c : Circuit) (l : Layout) (place : ℕ) → IsNewReg c l.from l.ticket 0
+    → IsNewReg c (l.from + 1) l.ticket 0 → AreFirst c l place → AreReset c l place
 reset_made c l place head tail first = record { head = head.reset; tail = tail.reset; contents = first }
 
 -- what the slots hold first, by what they keep
-pub first_values : (c : Circuit) (l : Layout) (place : ℕ) → l.content ≡ Value → IsRowReset c (row_of l (l.from + 2 + 2 * l.size) l.kept) 0 0 l.size → AreFirst c l place
+pub first_values : (c : Circuit) (l : Layout) (place : ℕ)
+    → l.content ≡ Value → IsRowReset c (row_of l (l.from + 2 + 2 * l.size) l.kept) 0 0 l.size → AreFirst c l place
 first_values c l place e r = record { content = λ k h. r.reset k h ∙ (let z : 0 + 0 * k ≡ 0 = omega arith in z) ∙ sym (ap (λ x. first_content_of x place k) e) }
 
-pub first_places : (c : Circuit) (l : Layout) (place : ℕ) → l.content ≡ Place → IsRowReset c (row_of l (l.from + 2 + 2 * l.size) l.kept) place 1 l.size → AreFirst c l place
+pub first_places : (c : Circuit) (l : Layout) (place : ℕ)
+    → l.content ≡ Place → IsRowReset c (row_of l (l.from + 2 + 2 * l.size) l.kept) place 1 l.size → AreFirst c l place
 first_places c l place e r = record { content = λ k h. r.reset k h ∙ (let z : place + 1 * k ≡ place + k = omega arith in z) ∙ sym (ap (λ x. first_content_of x place k) e) }
 
 pub ruleset contents_made = (first_values, first_places)

@@ -24,7 +24,8 @@ use Rattle.pdl_lock_ring.proofs.Trees.{some_one, some_zero, less_one, less_none,
 use Rattle.pdl_word.proofs.Bools.{if_false}
 
 -- how many writes are pending
-count_value : (l : Layout) (g : ℕ → Signal) (s : State) (x : LockState) → IsSized l → HasEntries l g s x → (count_signal l).value s ≡ length x.entries
+count_value : (l : Layout) (g : ℕ → Signal) (s : State) (x : LockState) → IsSized l → HasEntries l g s x
+    → (count_signal l).value s ≡ length x.entries
 unfolding bin_value reg_value
 count_value l g s x z h =
     ap (λ n. words.sub l.ticket n (reg_of s l.from)) h.tail
@@ -66,7 +67,9 @@ pub record Seeks (l : Layout) (s : State) (x : LockState) (t : Signal) (d : ℕ)
   pub older : (older_count l t).value s ≡ d
   pub last : 1 ≤ d → (last_older l t).value s ≡ (x.base + d - 1) % 2 ^ l.ticket
 
-ahead_value : (l : Layout) (g : ℕ → Signal) (s : State) (x : LockState) (f : Signal) (t : ℕ) → HasEntries l g s x → f.width ≡ l.ticket → x.base ≤ t → t - x.base < 2 ^ l.ticket → f.value s ≡ t % 2 ^ l.ticket → (ahead l f).value s ≡ t - x.base
+ahead_value : (l : Layout) (g : ℕ → Signal) (s : State) (x : LockState) (f : Signal) (t : ℕ) → HasEntries l g s x
+    → f.width ≡ l.ticket → x.base ≤ t → t - x.base < 2 ^ l.ticket → f.value s ≡ t % 2 ^ l.ticket
+    → (ahead l f).value s ≡ t - x.base
 unfolding bin_value reg_value
 ahead_value l g s x f t h w from to e =
     ap (λ n. words.sub n (f.value s) (reg_of s l.from)) w
@@ -75,7 +78,8 @@ ahead_value l g s x f t h w from to e =
     ∙ sub_held l.ticket x.base t from to
 
 -- a ticket up to the next one
-pub seeks_covered : (l : Layout) (g : ℕ → Signal) (s : State) (x : LockState) (f : Signal) (t : ℕ) → IsSized l → HasEntries l g s x → f.width ≡ l.ticket → Covered x t → f.value s ≡ t % 2 ^ l.ticket → Seeks l s x f (t - x.base)
+pub seeks_covered : (l : Layout) (g : ℕ → Signal) (s : State) (x : LockState) (f : Signal) (t : ℕ) → IsSized l
+    → HasEntries l g s x → f.width ≡ l.ticket → Covered x t → f.value s ≡ t % 2 ^ l.ticket → Seeks l s x f (t - x.base)
 unfolding mux_value bin_value const_value
 seeks_covered l g s x f t z h w c e =
     let n = length x.entries in
@@ -92,7 +96,9 @@ seeks_covered l g s x f t z h w c e =
     }
 
 -- the ticket after the next one
-pub seeks_late : (l : Layout) (g : ℕ → Signal) (s : State) (x : LockState) (f : Signal) → IsSized l → HasEntries l g s x → f.width ≡ l.ticket → 2 ≤ l.size → f.value s ≡ (next_ticket x + 1) % 2 ^ l.ticket → Seeks l s x f (length x.entries)
+pub seeks_late : (l : Layout) (g : ℕ → Signal) (s : State) (x : LockState) (f : Signal) → IsSized l → HasEntries l g s x
+    → f.width ≡ l.ticket → 2 ≤ l.size → f.value s ≡ (next_ticket x + 1) % 2 ^ l.ticket
+    → Seeks l s x f (length x.entries)
 unfolding mux_value bin_value reg_value const_value
 seeks_late l g s x f z h w two e =
     let n = length x.entries in
@@ -119,7 +125,9 @@ pub slot_has : (l : Layout) (x : LockState) (k : ℕ) → k < l.size → (i : �
 slot_has l x k h = let e = index_of l.size x.base k h in (e.0, record { below = e.1; same = e.2 })
 
 -- the slot of a pending write has an address where the pending write has it
-pub same_value : (l : Layout) (g : ℕ → Signal) (s : State) (x : LockState) (a : Signal) (k i : ℕ) → HasEntries l g s x → IsSlotOf l x k i → i < length x.entries → (same_at l a k).value s ≡ words.equal (entry_at x.entries i).addr (a.value s)
+pub same_value : (l : Layout) (g : ℕ → Signal) (s : State) (x : LockState) (a : Signal) (k i : ℕ) → HasEntries l g s x
+    → IsSlotOf l x k i → i < length x.entries
+    → (same_at l a k).value s ≡ words.equal (entry_at x.entries i).addr (a.value s)
 unfolding bin_value reg_value
 same_value l g s x a k i h o lt = ap (λ m. words.equal m (a.value s)) (ap (λ m. reg_of s (addr_at l m)) (sym o.same) ∙ h.slots.has_addr i lt)
 
@@ -135,7 +143,8 @@ cc_diff t q u m k e f le =
     ap (λ v. v % u) g ∙ ap (λ v. (q + (m - k)) % v) f
 
 -- how far the slot of the i-th pending write is after the head's slot: i
-pub order_value : (l : Layout) (g : ℕ → Signal) (s : State) (x : LockState) (k i : ℕ) → IsSized l → HasEntries l g s x → IsSlotOf l x k i → (order_at l k).value s ≡ i
+pub order_value : (l : Layout) (g : ℕ → Signal) (s : State) (x : LockState) (k i : ℕ) → IsSized l → HasEntries l g s x
+    → IsSlotOf l x k i → (order_at l k).value s ≡ i
 unfolding bin_value reg_value const_value words.sub
 order_value l g s x k i z h o =
     let n = l.size in
@@ -150,7 +159,9 @@ order_value l g s x k i z h o =
     ∙ order_mod n b i o.below
 
 -- how far slot k is before the slot of the last of the d oldest, by that one's ticket
-pub back_value : (l : Layout) (s : State) (x : LockState) (f : Signal) (d k : ℕ) → IsSized l → f.width ≡ l.ticket → k < l.size → f.value s ≡ (x.base + d - 1) % 2 ^ l.ticket → (back_at l f k).value s ≡ ((x.base + d - 1) % (2 * l.size) + (2 * l.size - k)) % l.size
+pub back_value : (l : Layout) (s : State) (x : LockState) (f : Signal) (d k : ℕ) → IsSized l
+    → f.width ≡ l.ticket → k < l.size → f.value s ≡ (x.base + d - 1) % 2 ^ l.ticket
+    → (back_at l f k).value s ≡ ((x.base + d - 1) % (2 * l.size) + (2 * l.size - k)) % l.size
 unfolding bin_value const_value words.sub
 back_value l s x f d k z w h e =
     let n = l.size in
@@ -182,7 +193,8 @@ last_first : (e : Entry) (es : List Entry) (a : ℕ) → HasNone es a → (j : �
 last_first e es a h zero lo lt = absurd (omega arith)
 last_first e es a h (suc j) lo lt = h j (omega arith)
 
-last_later : (e : Entry) (es : List Entry) (a i : ℕ) → IsYoungest es a i → (j : ℕ) → suc i < j → j < length (e ∷ es) → (entry_at (e ∷ es) j).addr ≢ a
+last_later : (e : Entry) (es : List Entry) (a i : ℕ) → IsYoungest es a i → (j : ℕ)
+    → suc i < j → j < length (e ∷ es) → (entry_at (e ∷ es) j).addr ≢ a
 last_later e es a i y zero lo lt = absurd (omega arith)
 last_later e es a i y (suc j) lo lt = y.last j (omega arith) (omega arith)
 
@@ -190,7 +202,8 @@ later : (e : Entry) (es : List Entry) (a i : ℕ) → IsYoungest es a i → IsYo
 later e es a i y = record { within = omega (arith, y.within); same = y.same; last = last_later e es a i y }
 
 -- what the youngest of them says
-pub youngest_of : (xs : List Entry) (a : ℕ) → ((i : ℕ) × IsYoungest xs a i × ((f : Option ℕ) → youngest xs a f ≡ (entry_at xs i).value) × (is_free xs a ≡ false)) ⊎ (HasNone xs a × ((f : Option ℕ) → youngest xs a f ≡ f) × (is_free xs a ≡ true))
+pub youngest_of : (xs : List Entry) (a : ℕ)
+    → ((i : ℕ) × IsYoungest xs a i × ((f : Option ℕ) → youngest xs a f ≡ (entry_at xs i).value) × (is_free xs a ≡ false)) ⊎ (HasNone xs a × ((f : Option ℕ) → youngest xs a f ≡ f) × (is_free xs a ≡ true))
 youngest_of [] a = inr ((λ j h. absurd (omega arith)), (λ f. refl), refl)
 youngest_of (e ∷ es) a = elim (youngest_of es a) [
   | inl y ↦ inl (suc y.0, later e es a y.0 y.1, (λ f. y.2 (if e.addr == a then e.value else f)), if_false (e.addr == a) (is_free es a) y.3)

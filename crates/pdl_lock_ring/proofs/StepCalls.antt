@@ -22,12 +22,15 @@ use Rattle.pdl_lock_ring.proofs.RingValues.{if_zero}
 use Rattle.pdl_word.proofs.Numbers.{upto}
 
 -- no port writes the array after a change of registers alone
-pub no_ports_kept : (o : Own) (a b : Circuit) (array : Option ℕ) → o.last ≡ 0 → ((m : ℕ) → array ≡ Some m → HasArray a m) → HasNoPorts array a → ExtendsBut o a b → HasNoPorts array b
+pub no_ports_kept : (o : Own) (a b : Circuit) (array : Option ℕ)
+    → o.last ≡ 0 → ((m : ℕ) → array ≡ Some m → HasArray a m) → HasNoPorts array a → ExtendsBut o a b
+    → HasNoPorts array b
 no_ports_kept o a b None e h n x = tt
 no_ports_kept o a b (Some m) e h n x = x.writes m (h m refl) (inr (omega (arith, e))) ∙ n
 
 -- no port writes the array in an extended circuit, where none wrote it before
-pub no_ports_extended : (a b : Circuit) (array : Option ℕ) → ((m : ℕ) → array ≡ Some m → HasArray a m) → HasNoPorts array a → Extends a b → HasNoPorts array b
+pub no_ports_extended : (a b : Circuit) (array : Option ℕ)
+    → ((m : ℕ) → array ≡ Some m → HasArray a m) → HasNoPorts array a → Extends a b → HasNoPorts array b
 no_ports_extended a b None h n x = tt
 no_ports_extended a b (Some m) h n x = x.writes m (h m refl) ∙ n
 
@@ -38,13 +41,16 @@ reg_in_row from n r a b lo hi x = but_wider (own_reg r) (own_row from n) a b
     (λ m o. inr (omega arith)) x
 
 -- what changes only a part of a row of registers changes only the row
-pub row_in_row : (from n first m : ℕ) (a b : Circuit) → from ≤ first → first + m ≤ from + n → ExtendsBut (own_row first m) a b → ExtendsBut (own_row from n) a b
+pub row_in_row : (from n first m : ℕ) (a b : Circuit)
+    → from ≤ first → first + m ≤ from + n → ExtendsBut (own_row first m) a b → ExtendsBut (own_row from n) a b
 row_in_row from n first m a b lo hi x = but_wider (own_row first m) (own_row from n) a b
     (λ k o. ⊎_elim (λ (h : k < from). inl (omega (arith, h, lo))) (λ (h : from + n ≤ k). inr (omega (arith, h, hi))) o)
     (λ k o. inr (omega arith)) x
 
 -- what changes only a row of a ring's registers changes only the ring
-pub row_in_all : (l : Layout) (from n : ℕ) (a b : Circuit) → l.from ≤ from → from + n ≤ l.from + (2 + 3 * l.size) → ExtendsBut (own_row from n) a b → ExtendsBut (own_all l) a b
+pub row_in_all : (l : Layout) (from n : ℕ) (a b : Circuit)
+    → l.from ≤ from → from + n ≤ l.from + (2 + 3 * l.size) → ExtendsBut (own_row from n) a b
+    → ExtendsBut (own_all l) a b
 row_in_all l from n a b lo hi x = but_wider (own_row from n) (own_all l) a b
     (λ k o. ⊎_elim (λ (h : k < l.from). inl (omega (arith, h, lo))) (λ (h : l.from + (2 + 3 * l.size) ≤ k). inr (omega (arith, h, hi))) o)
     (λ m o. inr (omega arith)) x
@@ -54,7 +60,8 @@ pub array_in_all : (l : Layout) (a b : Circuit) → ExtendsBut (own_array l) a b
 array_in_all l a b x = but_wider (own_array l) (own_all l) a b (λ r o. inr (omega arith)) (λ m o. o) x
 
 -- the calls of a step, one after the other
-pub slots_in_all : (l : Layout) (a b c d : Circuit) → Extends a b → ExtendsBut (own_slots l) b c → ExtendsBut (own_contents l) c d → ExtendsBut (own_all l) a d
+pub slots_in_all : (l : Layout) (a b c d : Circuit) → Extends a b → ExtendsBut (own_slots l) b c
+    → ExtendsBut (own_contents l) c d → ExtendsBut (own_all l) a d
 slots_in_all l a b c d x y z =
     but_trans (own_all l) a b d (but_extends (own_all l) a b x)
     (but_trans (own_all l) b c d (row_in_all l (l.from + 2) (2 * l.size) b c (omega arith) (omega arith) y)
@@ -65,38 +72,51 @@ pub ends_in_all : (l : Layout) (a b c : Circuit) → ExtendsBut (own_all l) a b 
 ends_in_all l a b c x y = but_trans (own_all l) a b c x (row_in_all l l.from 2 b c (omega arith) (omega arith) y)
 
 -- what registers take next stays where others change
-pub addrs_kept : (o : Own) (a b : Circuit) (l : Layout) (f : StepSignals) (n : ℕ) → n ≤ l.size → ((k : ℕ) → k < n → Outside o.from o.to (addr_at l k)) → HasSlots a l → NextAddrs a l f n → ExtendsBut o a b → NextAddrs b l f n
+pub addrs_kept : (o : Own) (a b : Circuit) (l : Layout) (f : StepSignals) (n : ℕ)
+    → n ≤ l.size → ((k : ℕ) → k < n → Outside o.from o.to (addr_at l k)) → HasSlots a l → NextAddrs a l f n
+    → ExtendsBut o a b → NextAddrs b l f n
 addrs_kept o a b l f n few out h x y = record { addr = λ k lt. y.nexts (addr_at l k) (h.has_addr k (omega (arith, lt, few))) (out k lt) ∙ x.addr k lt }
 
 -- value bits take next what they took where other registers change
-pub bits_kept : (o : Own) (a b : Circuit) (l : Layout) (f : StepSignals) (n : ℕ) → n ≤ l.size → ((k : ℕ) → k < n → Outside o.from o.to (has_at l k)) → HasSlots a l → NextBits a l f n → ExtendsBut o a b → NextBits b l f n
+pub bits_kept : (o : Own) (a b : Circuit) (l : Layout) (f : StepSignals) (n : ℕ)
+    → n ≤ l.size → ((k : ℕ) → k < n → Outside o.from o.to (has_at l k)) → HasSlots a l → NextBits a l f n
+    → ExtendsBut o a b → NextBits b l f n
 bits_kept o a b l f n few out h x y = record { bit = λ k lt. y.nexts (has_at l k) (h.has_has k (omega (arith, lt, few))) (out k lt) ∙ x.bit k lt }
 
 -- contents of slots take next what they took where other registers change
-pub contents_kept : (o : Own) (a b : Circuit) (l : Layout) (f : StepSignals) (n : ℕ) → n ≤ l.size → ((k : ℕ) → k < n → Outside o.from o.to (value_at l k)) → HasSlots a l → NextContents a l f n → ExtendsBut o a b → NextContents b l f n
+pub contents_kept : (o : Own) (a b : Circuit) (l : Layout) (f : StepSignals) (n : ℕ)
+    → n ≤ l.size → ((k : ℕ) → k < n → Outside o.from o.to (value_at l k)) → HasSlots a l → NextContents a l f n
+    → ExtendsBut o a b → NextContents b l f n
 contents_kept o a b l f n few out h x y = record { value = λ k lt. y.nexts (value_at l k) (h.has_value k (omega (arith, lt, few))) (out k lt) ∙ x.value k lt }
 
 -- head and tail take next what they took where other registers change
-pub ends_kept : (o : Own) (a b : Circuit) (l : Layout) (f : StepSignals) → Outside o.from o.to l.from → Outside o.from o.to (l.from + 1) → HasSlots a l → NextEnds a l f → ExtendsBut o a b → NextEnds b l f
+pub ends_kept : (o : Own) (a b : Circuit) (l : Layout) (f : StepSignals) → Outside o.from o.to l.from
+    → Outside o.from o.to (l.from + 1) → HasSlots a l → NextEnds a l f → ExtendsBut o a b → NextEnds b l f
 ends_kept o a b l f p q h x y = record {
   head = y.nexts l.from h.has_head p ∙ x.head;
   tail = y.nexts (l.from + 1) h.has_tail q ∙ x.tail;
 }
 
 -- one slot more takes its next address, where only that register changed
-pub addrs_more : (a b : Circuit) (l : Layout) (f : StepSignals) (k : ℕ) → k < l.size → HasSlots a l → NextAddrs a l f k → ExtendsBut (own_reg (addr_at l k)) a b → next_signal b (addr_at l k) ≡ slot_addr l f k → NextAddrs b l f (k + 1)
+pub addrs_more : (a b : Circuit) (l : Layout) (f : StepSignals) (k : ℕ)
+    → k < l.size → HasSlots a l → NextAddrs a l f k → ExtendsBut (own_reg (addr_at l k)) a b
+    → next_signal b (addr_at l k) ≡ slot_addr l f k → NextAddrs b l f (k + 1)
 addrs_more a b l f k h s x y e =
     let old = addrs_kept (own_reg (addr_at l k)) a b l f k (omega (arith, h)) (λ j lt. inl (omega (arith, lt))) s x y in
     record { addr = upto (λ j. next_signal b (addr_at l j) ≡ slot_addr l f j) k e old.addr }
 
 -- one slot more takes its next value bit, where only that register changed
-pub bits_more : (a b : Circuit) (l : Layout) (f : StepSignals) (k : ℕ) → k < l.size → HasSlots a l → NextBits a l f k → ExtendsBut (own_reg (has_at l k)) a b → next_signal b (has_at l k) ≡ slot_bit l f k → NextBits b l f (k + 1)
+pub bits_more : (a b : Circuit) (l : Layout) (f : StepSignals) (k : ℕ)
+    → k < l.size → HasSlots a l → NextBits a l f k → ExtendsBut (own_reg (has_at l k)) a b
+    → next_signal b (has_at l k) ≡ slot_bit l f k → NextBits b l f (k + 1)
 bits_more a b l f k h s x y e =
     let old = bits_kept (own_reg (has_at l k)) a b l f k (omega (arith, h)) (λ j lt. inl (omega (arith, lt))) s x y in
     record { bit = upto (λ j. next_signal b (has_at l j) ≡ slot_bit l f j) k e old.bit }
 
 -- one slot more takes its next content, where only that register changed
-pub contents_more : (a b : Circuit) (l : Layout) (f : StepSignals) (k : ℕ) → k < l.size → HasSlots a l → NextContents a l f k → ExtendsBut (own_reg (value_at l k)) a b → next_signal b (value_at l k) ≡ slot_value l f k → NextContents b l f (k + 1)
+pub contents_more : (a b : Circuit) (l : Layout) (f : StepSignals) (k : ℕ)
+    → k < l.size → HasSlots a l → NextContents a l f k → ExtendsBut (own_reg (value_at l k)) a b
+    → next_signal b (value_at l k) ≡ slot_value l f k → NextContents b l f (k + 1)
 contents_more a b l f k h s x y e =
     let old = contents_kept (own_reg (value_at l k)) a b l f k (omega (arith, h)) (λ j lt. inl (omega (arith, lt))) s x y in
     record { value = upto (λ j. next_signal b (value_at l j) ≡ slot_value l f j) k e old.value }
@@ -138,7 +158,9 @@ one_off : (s : State) (w v : WriteSignal) (ws : List ℕ) → v.enable.value s �
 one_off s w v ws e = sym (if_zero (v.enable.value s) _ _ e)
 
 -- an array that is given its only write port is written as with a second one that is always off
-pub writes_one : (a b : Circuit) (l : Layout) (m : ℕ) (w v : WriteSignal) → l.array ≡ Some m → HasNoPorts l.array a → write_signals b m ≡ write_signals a m ++ w ∷ [] → ((s : State) → v.enable.value s ≡ 0) → WritesArray b l (w ∷ v ∷ [])
+pub writes_one : (a b : Circuit) (l : Layout) (m : ℕ) (w v : WriteSignal)
+    → l.array ≡ Some m → HasNoPorts l.array a → write_signals b m ≡ write_signals a m ++ w ∷ []
+    → ((s : State) → v.enable.value s ≡ 0) → WritesArray b l (w ∷ v ∷ [])
 writes_one a b l m w v is none more off = record {
   words = λ k i s ws.
       let q : m ≡ k = cc (is, i) in
@@ -147,7 +169,9 @@ writes_one a b l m w v is none more off = record {
 }
 
 -- an array without write ports that is given two is written by these
-pub writes_two : (a b c : Circuit) (l : Layout) (m : ℕ) (w v : WriteSignal) → l.array ≡ Some m → HasNoPorts l.array a → write_signals b m ≡ write_signals a m ++ w ∷ [] → write_signals c m ≡ write_signals b m ++ v ∷ [] → WritesArray c l (w ∷ v ∷ [])
+pub writes_two : (a b c : Circuit) (l : Layout) (m : ℕ) (w v : WriteSignal)
+    → l.array ≡ Some m → HasNoPorts l.array a → write_signals b m ≡ write_signals a m ++ w ∷ []
+    → write_signals c m ≡ write_signals b m ++ v ∷ [] → WritesArray c l (w ∷ v ∷ [])
 writes_two a b c l m w v is none one more = record {
   words = λ k i s ws.
       let q : m ≡ k = cc (is, i) in
@@ -159,7 +183,8 @@ writes_none : (c : Circuit) (l : Layout) (ws : List WriteSignal) → l.array ≡
 writes_none c l ws e = record { words = λ m i s us. absurd (cc (e, i)) }
 
 -- a later circuit that keeps the array's ports
-pub same_two : (e a v e' a' v' x y z x' y' z' : Signal) → e ≡ x → a ≡ y → v ≡ z → e' ≡ x' → a' ≡ y' → v' ≡ z' → two_writes e a v e' a' v' ≡ two_writes x y z x' y' z'
+pub same_two : (e a v e' a' v' x y z x' y' z' : Signal)
+    → e ≡ x → a ≡ y → v ≡ z → e' ≡ x' → a' ≡ y' → v' ≡ z' → two_writes e a v e' a' v' ≡ two_writes x y z x' y' z'
 same_two e a v e' a' v' x y z x' y' z' p q r p' q' r' = cc
 
 abbrev write_of : Signal → Signal → Signal → WriteSignal

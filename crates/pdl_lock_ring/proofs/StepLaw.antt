@@ -43,23 +43,30 @@ same_choice true x y z h = h refl
 same_choice false x y z h = refl
 
 -- the signal of a ticket's slot
-pub ticket_value : (l : Layout) → IsSized l → (g : ℕ → Signal) (t : Signal) (s : State) (n : ℕ) → t.value s ≡ n % 2 ^ l.ticket → (at_ticket l g t).value s ≡ (g (n % l.size)).value s
+pub ticket_value : (l : Layout) → IsSized l → (g : ℕ → Signal) (t : Signal) (s : State) (n : ℕ)
+    → t.value s ≡ n % 2 ^ l.ticket → (at_ticket l g t).value s ≡ (g (n % l.size)).value s
 ticket_value l z g t s n e =
     let q : t.value s % 2 ^ (l.ticket - 1) ≡ n % l.size = ap (λ m. t.value s % m) (sym z.power) ∙ ap (λ m. m % l.size) (e ∙ ap (λ m. n % m) z.whole) ∙ half_mod l.size n in
     selected_value g t s (l.ticket - 1) 0 ∙ ap (λ k. (g k).value s) (let r : 0 + t.value s % 2 ^ (l.ticket - 1) ≡ n % l.size = omega (arith, q) in r)
 
-head_number : (t u : Bool) (w b : ℕ) → (if u then words.add w (words.add w (b % 2 ^ w) 1) 1 else if t then words.add w (b % 2 ^ w) 1 else b % 2 ^ w) ≡ (if u then b + 2 else if t then b + 1 else b) % 2 ^ w
+head_number : (t u : Bool) (w b : ℕ)
+    → (if u then words.add w (words.add w (b % 2 ^ w) 1) 1 else if t then words.add w (b % 2 ^ w) 1 else b % 2 ^ w)
+    ≡ (if u then b + 2 else if t then b + 1 else b) % 2 ^ w
 head_number t true w b = ap (λ m. words.add w m 1) (sum_held w b 1) ∙ sum_held w (b + 1) 1 ∙ ap (λ m. m % 2 ^ w) (omega arith)
 head_number true false w b = sum_held w b 1
 head_number false false w b = refl
 
-pushed_number : (w n : ℕ) (ys : List ℕ) → length ys ≤ 2 → words.mux (two ys) (words.add w (words.add w (n % 2 ^ w) 1) 1) (words.mux (some ys) (words.add w (n % 2 ^ w) 1) (n % 2 ^ w)) ≡ (n + length ys) % 2 ^ w
+pushed_number : (w n : ℕ) (ys : List ℕ)
+    → length ys ≤ 2
+    → words.mux (two ys) (words.add w (words.add w (n % 2 ^ w) 1) 1) (words.mux (some ys) (words.add w (n % 2 ^ w) 1) (n % 2 ^ w))
+    ≡ (n + length ys) % 2 ^ w
 pushed_number w n [] h = mux_zero 0 _ _ refl ∙ mux_zero 0 _ _ refl ∙ ap (λ m. m % 2 ^ w) (omega arith)
 pushed_number w n (y ∷ []) h = mux_zero 0 _ _ refl ∙ mux_one 1 _ _ refl ∙ sum_held w n 1
 pushed_number w n (y ∷ z ∷ []) h = mux_one 1 _ _ refl ∙ ap (λ m. words.add w m 1) (sum_held w n 1) ∙ sum_held w (n + 1) 1 ∙ ap (λ m. m % 2 ^ w) (omega arith)
 pushed_number w n (y ∷ z ∷ z' ∷ ys) h = absurd (omega (arith, h))
 
-squashed_number : (t : Bool) (w tail n v : ℕ) → (t ≡ true → v ≡ tail % 2 ^ w) → (if t then v else n % 2 ^ w) ≡ (if t then tail else n) % 2 ^ w
+squashed_number : (t : Bool) (w tail n v : ℕ)
+    → (t ≡ true → v ≡ tail % 2 ^ w) → (if t then v else n % 2 ^ w) ≡ (if t then tail else n) % 2 ^ w
 squashed_number true w tail n v h = h refl
 squashed_number false w tail n v h = refl
 
@@ -69,8 +76,11 @@ base_low true false b = omega arith
 base_low false false b = omega arith
 
 -- how many are left, counted from the new base
-left_count : (t u q : Bool) (b tail n : ℕ) (xs : List Entry) → length xs ≡ n → (t ≡ true → 0 < n) → (u ≡ true → 1 < n) → (q ≡ true → (if u then b + 2 else if t then b + 1 else b) ≤ tail) → (q ≡ true → tail ≤ b + n)
-    → (if u then b + 2 else if t then b + 1 else b) + length (if q then take (tail - (if u then b + 2 else if t then b + 1 else b)) (if u then drop 2 xs else if t then drop 1 xs else xs) else (if u then drop 2 xs else if t then drop 1 xs else xs)) ≡ (if q then tail else b + n)
+left_count : (t u q : Bool) (b tail n : ℕ) (xs : List Entry)
+    → length xs ≡ n → (t ≡ true → 0 < n) → (u ≡ true → 1 < n)
+    → (q ≡ true → (if u then b + 2 else if t then b + 1 else b) ≤ tail) → (q ≡ true → tail ≤ b + n)
+    → (if u then b + 2 else if t then b + 1 else b) + length (if q then take (tail - (if u then b + 2 else if t then b + 1 else b)) (if u then drop 2 xs else if t then drop 1 xs else xs) else (if u then drop 2 xs else if t then drop 1 xs else xs))
+    ≡ (if q then tail else b + n)
 left_count t true true b tail n xs e one more lo hi = let d = length-drop 2 xs in let k = length-take (tail - (b + 2)) (drop 2 xs) in omega (arith, d, k, e, lo refl, hi refl, more refl)
 left_count t true false b tail n xs e one more lo hi = let d = length-drop 2 xs in omega (arith, d, e, more refl)
 left_count true false true b tail n xs e one more lo hi = let d = length-drop 1 xs in let k = length-take (tail - (b + 1)) (drop 1 xs) in omega (arith, d, k, e, lo refl, hi refl, one refl)
@@ -210,7 +220,8 @@ module _ (l : Layout) (v : ℕ → Signal) (s : State) (x : LockState) (f : Step
 -- ---- slots that keep values
 
 -- the words of the array, where there is one, after two writes
-words_next : (array : Option ℕ) (s t : State) (c : Circuit) (l : Layout) (e a v e' a' v' : Signal) (ws next : List ℕ) → l.array ≡ array → HasWords array s ws
+words_next : (array : Option ℕ) (s t : State) (c : Circuit) (l : Layout) (e a v e' a' v' : Signal) (ws next : List ℕ)
+    → l.array ≡ array → HasWords array s ws
     → ((m : ℕ) → array ≡ Some m → slice_index_or t.arrays m [] ≡ after_writes s (two_writes e a v e' a' v') (slice_index_or s.arrays m []))
     → after_writes s (two_writes e a v e' a' v') ws ≡ next → HasWords array t next
 words_next None s t c l e a v e' a' v' ws next q h n same = tt
@@ -227,8 +238,12 @@ cc_set : (ws : List ℕ) (a b v w : ℕ) → a ≡ b → v ≡ w → slice_set w
 cc_set ws a b v w e f = cc (e, f)
 
 -- two writes are those of the commits
-two_committed : (t u : Bool) (e e' a v a' v' : ℕ) (xs : List Entry) (ws : List ℕ) → e ≡ bit t → e' ≡ bit u → (u ≡ true → t ≡ true) → (t ≡ true → a ≡ (entry_at xs 0).addr) → (t ≡ true → v ≡ or_zero (entry_at xs 0).value) → (u ≡ true → a' ≡ (entry_at xs 1).addr) → (u ≡ true → v' ≡ or_zero (entry_at xs 1).value)
-    → (if e' == 1 then slice_set (if e == 1 then slice_set ws a v else ws) a' v' else (if e == 1 then slice_set ws a v else ws)) ≡ (if u then committed xs 1 (committed xs 0 ws) else if t then committed xs 0 ws else ws)
+two_committed : (t u : Bool) (e e' a v a' v' : ℕ) (xs : List Entry) (ws : List ℕ)
+    → e ≡ bit t → e' ≡ bit u → (u ≡ true → t ≡ true) → (t ≡ true → a ≡ (entry_at xs 0).addr)
+    → (t ≡ true → v ≡ or_zero (entry_at xs 0).value) → (u ≡ true → a' ≡ (entry_at xs 1).addr)
+    → (u ≡ true → v' ≡ or_zero (entry_at xs 1).value)
+    → (if e' == 1 then slice_set (if e == 1 then slice_set ws a v else ws) a' v' else (if e == 1 then slice_set ws a v else ws))
+    ≡ (if u then committed xs 1 (committed xs 0 ws) else if t then committed xs 0 ws else ws)
 two_committed t true e e' a v a' v' xs ws p q both i j k m =
     let o = both refl in
     let d : e ≡ 1 = p ∙ ap bit o in

@@ -20,7 +20,9 @@ use Rattle.pdl_lock_ring.proofs.FilledSlots.{TicketsFit, Cycle, are_given, fills
 use Rattle.pdl_lock_ring.proofs.Sizes.{slots_at}
 
 -- no reservation is given slot k
-not_given : (n next k : ℕ) (ys : List ℕ) (t1 t2 a1 a2 : ℕ) → k < n → length ys ≤ 2 → ((i : ℕ) → i < length ys → (next + i) % n ≢ k) → AreGiven n next ys t1 t2 a1 a2 → (t1 ≢ k) × (t2 ≢ k)
+not_given : (n next k : ℕ) (ys : List ℕ) (t1 t2 a1 a2 : ℕ)
+    → k < n → length ys ≤ 2 → ((i : ℕ) → i < length ys → (next + i) % n ≢ k) → AreGiven n next ys t1 t2 a1 a2
+    → (t1 ≢ k) × (t2 ≢ k)
 not_given n next k [] t1 t2 a1 a2 h two u g = ((λ e. omega (arith, e, g.0, h)), (λ e. omega (arith, e, g.1, h)))
 not_given n next k (y ∷ []) t1 t2 a1 a2 h two u g = ((λ e. u 0 (omega arith) (ap (λ m. m % n) (let q : next + 0 ≡ next = omega arith in q) ∙ sym g.0 ∙ e)), (λ e. omega (arith, e, g.1, h)))
 not_given n next k (y ∷ z ∷ []) t1 t2 a1 a2 h two u g = ((λ e. u 0 (omega arith) (ap (λ m. m % n) (let q : next + 0 ≡ next = omega arith in q) ∙ sym g.0 ∙ e)), (λ e. u 1 (omega arith) (sym g.1 ∙ e)))
@@ -67,11 +69,15 @@ each_reg P a b c p q r (suc (suc zero)) h = r
 each_reg P a b c p q r (suc (suc (suc j))) h = absurd (omega arith)
 
 -- the registers of slot k of a ring that keeps values: its address, its value and its value bit
-pub regs_are : (l : Layout) (r : LockRegs) (k : ℕ) → l.content ≡ Value → r.slots ≡ slots_of l l.size → k < l.size → slot_regs r k ≡ addr_at l k ∷ value_at l k ∷ has_at l k ∷ []
+pub regs_are : (l : Layout) (r : LockRegs) (k : ℕ)
+    → l.content ≡ Value → r.slots ≡ slots_of l l.size → k < l.size
+    → slot_regs r k ≡ addr_at l k ∷ value_at l k ∷ has_at l k ∷ []
 regs_are l r k e listed h = ap (λ ss. slice_index_or ss k []) listed ∙ slots_at l l.size k h ∙ ap (λ x. slot_numbers x l k) e
 
 -- a slot of a ring that keeps values stays as it is where no reservation and no write is of it
-pub still_law : (b : Circuit) (l : Layout) (f : StepSignals) (r : LockRegs) → l.content ≡ Value → r.slots ≡ slots_of l l.size → IsSized l → TicketsFit l.ticket f → NextValues b l f → StillLaw (Stands l) l.size l.ticket (own_all l) b f r
+pub still_law : (b : Circuit) (l : Layout) (f : StepSignals) (r : LockRegs)
+    → l.content ≡ Value → r.slots ≡ slots_of l l.size → IsSized l → TicketsFit l.ticket f → NextValues b l f
+    → StillLaw (Stands l) l.size l.ticket (own_all l) b f r
 unfolding reg_value
 still_law b l f r e listed z t n = record {
   still = λ s u x a k j h d p o below within spared.

@@ -17,24 +17,28 @@ halved (suc b) h = let e : suc b - 1 ≡ b = omega arith in two-pow-succ b ∙ a
 
 -- ---- a choice by the bits of a number
 
-selected_none : (f : ℕ → Signal) (d : Signal) (b from : ℕ) → b ≡ 0 → selected_signal f d b from ≡ f from
+pub selected_none : (f : ℕ → Signal) (d : Signal) (b from : ℕ) → b ≡ 0 → selected_signal f d b from ≡ f from
 unfolding selected_signal
 selected_none f d b from e = ap (λ n. selected_signal f d n from) e
 
 -- a choice by b bits is one by the highest of them between the choices of both halves, where b is not 0
-pub selected_more : (f : ℕ → Signal) (d : Signal) (b from : ℕ) → b ≢ 0 → selected_signal f d b from ≡ mux_signal (slice_signal (b - 1) (b - 1) d) (selected_signal f d (b - 1) (from + 2 ^ (b - 1))) (selected_signal f d (b - 1) from)
+pub selected_more : (f : ℕ → Signal) (d : Signal) (b from : ℕ) → b ≢ 0
+    → selected_signal f d b from
+    ≡ mux_signal (slice_signal (b - 1) (b - 1) d) (selected_signal f d (b - 1) (from + 2 ^ (b - 1))) (selected_signal f d (b - 1) from)
 unfolding selected_signal
 selected_more f d zero from h = absurd (h refl)
 selected_more f d (suc b) from h = let e : b ≡ suc b - 1 = omega arith in ap (λ n. mux_signal (slice_signal n n d) (selected_signal f d n (from + 2 ^ n)) (selected_signal f d n from)) e
 
 -- a choice by bits has the width that all its signals have
-pub selected_width : (f : ℕ → Signal) (d : Signal) (w : ℕ) → ((k : ℕ) → (f k).width ≡ w) → (b from : ℕ) → (selected_signal f d b from).width ≡ w
+pub selected_width : (f : ℕ → Signal) (d : Signal) (w : ℕ)
+    → ((k : ℕ) → (f k).width ≡ w) → (b from : ℕ) → (selected_signal f d b from).width ≡ w
 unfolding selected_signal
 selected_width f d w e zero from = e from
 selected_width f d w e (suc b) from = selected_width f d w e b (from + 2 ^ b)
 
 -- it gives the signal of the number in the lowest bits
-pub selected_value : (f : ℕ → Signal) (d : Signal) (s : State) (b from : ℕ) → (selected_signal f d b from).value s ≡ (f (from + d.value s % 2 ^ b)).value s
+pub selected_value : (f : ℕ → Signal) (d : Signal) (s : State) (b from : ℕ)
+    → (selected_signal f d b from).value s ≡ (f (from + d.value s % 2 ^ b)).value s
 unfolding selected_signal mux_value slice_value words.slice
 selected_value f d s zero from = ap (λ n. (f n).value s) (let e : d.value s % 1 ≡ 0 = mod-one (d.value s) in omega (arith, e))
 selected_value f d s (suc b) from =
@@ -64,7 +68,8 @@ unfolding some_signal
 some_none f b from e = ap (λ n. some_signal f n from) e
 
 -- whether one of 2 ^ b signals is 1, from whether one of each half is, where b is not 0
-pub some_more : (f : ℕ → Signal) (b from : ℕ) → b ≢ 0 → some_signal f b from ≡ mux_signal (some_signal f (b - 1) (from + 2 ^ (b - 1))) (const_signal 1 1) (some_signal f (b - 1) from)
+pub some_more : (f : ℕ → Signal) (b from : ℕ) → b ≢ 0
+    → some_signal f b from ≡ mux_signal (some_signal f (b - 1) (from + 2 ^ (b - 1))) (const_signal 1 1) (some_signal f (b - 1) from)
 unfolding some_signal
 some_more f zero from h = absurd (h refl)
 some_more f (suc b) from h = let e : b ≡ suc b - 1 = omega arith in ap (λ n. mux_signal (some_signal f n (from + 2 ^ n)) (const_signal 1 1) (some_signal f n from)) e
@@ -81,7 +86,8 @@ unfolding words.mux
 mux_ones c x e = ⊎_elim (λ (o : c ≡ 1). mux_one c 1 x o) (λ (o : c ≢ 1). if_other c 1 x o ∙ e) (cases_eq c 1)
 
 -- 1 comes of the signals where one of them is 1
-pub some_one : (f : ℕ → Signal) (s : State) (b from k : ℕ) → from ≤ k → k < from + 2 ^ b → (f k).value s ≡ 1 → (some_signal f b from).value s ≡ 1
+pub some_one : (f : ℕ → Signal) (s : State) (b from k : ℕ)
+    → from ≤ k → k < from + 2 ^ b → (f k).value s ≡ 1 → (some_signal f b from).value s ≡ 1
 unfolding some_signal mux_value const_value
 some_one f s zero from k lo hi e = ap (λ n. (f n).value s) (omega arith) ∙ e
 some_one f s (suc b) from k lo hi e =
@@ -94,7 +100,8 @@ some_one f s (suc b) from k lo hi e =
     (cases_lt k (from + 2 ^ b))
 
 -- 0 comes of the signals where all of them are 0
-pub some_zero : (f : ℕ → Signal) (s : State) (b from : ℕ) → ((k : ℕ) → from ≤ k → k < from + 2 ^ b → (f k).value s ≡ 0) → (some_signal f b from).value s ≡ 0
+pub some_zero : (f : ℕ → Signal) (s : State) (b from : ℕ)
+    → ((k : ℕ) → from ≤ k → k < from + 2 ^ b → (f k).value s ≡ 0) → (some_signal f b from).value s ≡ 0
 unfolding some_signal mux_value const_value
 some_zero f s zero from h = h from (omega arith) (omega arith)
 some_zero f s (suc b) from h =
@@ -113,7 +120,9 @@ least_none key b from e = ap (λ n. least_key key n from) e
 
 -- the least of 2 ^ b keys is the lesser one of the least keys of both halves, where b is not 0
 pub least_more : (key : ℕ → Signal) (b from : ℕ) → b ≢ 0
-    → least_key key b from ≡ mux_signal (bin_signal Lt (least_key key (b - 1) (from + 2 ^ (b - 1))) (least_key key (b - 1) from)) (least_key key (b - 1) (from + 2 ^ (b - 1))) (least_key key (b - 1) from)
+    → least_key key b from
+    ≡ mux_signal (bin_signal Lt (least_key key (b - 1) (from + 2 ^ (b - 1))) (least_key key (b - 1) from))
+    (least_key key (b - 1) (from + 2 ^ (b - 1))) (least_key key (b - 1) from)
 unfolding least_key
 least_more key zero from h = absurd (h refl)
 least_more key (suc b) from h = let e : b ≡ suc b - 1 = omega arith in ap (λ n. mux_signal (bin_signal Lt (least_key key n (from + 2 ^ n)) (least_key key n from)) (least_key key n (from + 2 ^ n)) (least_key key n from)) e
@@ -125,7 +134,9 @@ least_of_none key f b from e = ap (λ n. least_of key f n from) e
 
 -- the signal of the least of 2 ^ b keys is that of the half with the lesser least key, where b is not 0
 pub least_of_more : (key f : ℕ → Signal) (b from : ℕ) → b ≢ 0
-    → least_of key f b from ≡ mux_signal (bin_signal Lt (least_key key (b - 1) (from + 2 ^ (b - 1))) (least_key key (b - 1) from)) (least_of key f (b - 1) (from + 2 ^ (b - 1))) (least_of key f (b - 1) from)
+    → least_of key f b from
+    ≡ mux_signal (bin_signal Lt (least_key key (b - 1) (from + 2 ^ (b - 1))) (least_key key (b - 1) from))
+    (least_of key f (b - 1) (from + 2 ^ (b - 1))) (least_of key f (b - 1) from)
 unfolding least_of
 least_of_more key f zero from h = absurd (h refl)
 least_of_more key f (suc b) from h = let e : b ≡ suc b - 1 = omega arith in ap (λ n. mux_signal (bin_signal Lt (least_key key n (from + 2 ^ n)) (least_key key n from)) (least_of key f n (from + 2 ^ n)) (least_of key f n from)) e
@@ -153,7 +164,8 @@ unfolding words.less
 less_none a b h = rw (le-ltb a b h) refl
 
 -- no key is below this one
-pub least_from : (key : ℕ → Signal) (s : State) (m b from : ℕ) → ((k : ℕ) → from ≤ k → k < from + 2 ^ b → m ≤ (key k).value s) → m ≤ (least_key key b from).value s
+pub least_from : (key : ℕ → Signal) (s : State) (m b from : ℕ)
+    → ((k : ℕ) → from ≤ k → k < from + 2 ^ b → m ≤ (key k).value s) → m ≤ (least_key key b from).value s
 unfolding least_key mux_value bin_value
 least_from key s m zero from h = h from (omega arith) (omega arith)
 least_from key s m (suc b) from h =
@@ -180,7 +192,8 @@ upper : (key : ℕ → Signal) (s : State) (b from j : ℕ) → IsLeast key s (s
 upper key s b from j i h = let two = two-pow-succ b in record { low = h; high = omega (arith, i.high, two); least = λ k lo hi q. i.least k (omega (arith, lo)) (omega (arith, hi, two)) q }
 
 -- a key that is below all others is the least, and the signal of the least key is its signal
-pub least_is : (key f : ℕ → Signal) (s : State) (b from j : ℕ) → IsLeast key s b from j → ((least_key key b from).value s ≡ (key j).value s) × ((least_of key f b from).value s ≡ (f j).value s)
+pub least_is : (key f : ℕ → Signal) (s : State) (b from j : ℕ) → IsLeast key s b from j
+    → ((least_key key b from).value s ≡ (key j).value s) × ((least_of key f b from).value s ≡ (f j).value s)
 unfolding least_key least_of mux_value bin_value
 least_is key f s zero from j i = let e : from ≡ j = omega (arith, i.low, i.high) in (ap (λ n. (key n).value s) e, ap (λ n. (f n).value s) e)
 least_is key f s (suc b) from j i =

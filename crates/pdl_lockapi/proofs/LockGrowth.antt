@@ -64,7 +64,8 @@ ports_there a b p x y = record {
 }
 
 -- the nets of a step's ports, which are there, have their widths in a circuit that keeps what it had
-pub ports_fit : (a b : Circuit) (bits width w : ℕ) (p : LockPorts) → PortsThere a p → PortsFit a bits width w p → Keeps a b → PortsFit b bits width w p
+pub ports_fit : (a b : Circuit) (bits width w : ℕ) (p : LockPorts) → PortsThere a p → PortsFit a bits width w p
+    → Keeps a b → PortsFit b bits width w p
 ports_fit a b bits width w p x z y = record {
   ask_one = λ k q h e. ap (λ (g : Signal). g.width) (y.kept q.enable (x.ask k q h e)) ∙ z.ask_one k q h e;
   addr_width = λ k q h e. ap (λ (g : Signal). g.width) (y.kept q.addr (x.addr k q h e)) ∙ z.addr_width k q h e;
@@ -78,14 +79,19 @@ ports_fit a b bits width w p x z y = record {
 }
 
 -- a list of signals stays the same where each does
-same_map : {X Y : Type 0} (f g : X → Y) → (xs : List X) → ((k : ℕ) (q : X) → k < length xs → get_or xs k q ≡ q → f q ≡ g q) → map f xs ≡ map g xs
+same_map : {X Y : Type 0} (f g : X → Y) → (xs : List X)
+    → ((k : ℕ) (q : X) → k < length xs → get_or xs k q ≡ q → f q ≡ g q) → map f xs ≡ map g xs
 same_map f g [] h = refl
 same_map f g (x ∷ xs) h = cc (h 0 x (omega arith) refl, same_map f g xs (λ k q l e. h (suc k) q (omega arith) e))
 
-same_reserve : (a b : Circuit) (q : ReservePort) → signal b q.enable ≡ signal a q.enable → signal b q.addr ≡ signal a q.addr → reserve_signal b q ≡ reserve_signal a q
+same_reserve : (a b : Circuit) (q : ReservePort)
+    → signal b q.enable ≡ signal a q.enable → signal b q.addr ≡ signal a q.addr
+    → reserve_signal b q ≡ reserve_signal a q
 same_reserve a b q e f = cc
 
-same_ticket : (a b : Circuit) (q : TicketWrite) → signal b q.enable ≡ signal a q.enable → signal b q.ticket ≡ signal a q.ticket → signal b q.value ≡ signal a q.value → ticket_signal b q ≡ ticket_signal a q
+same_ticket : (a b : Circuit) (q : TicketWrite)
+    → signal b q.enable ≡ signal a q.enable → signal b q.ticket ≡ signal a q.ticket
+    → signal b q.value ≡ signal a q.value → ticket_signal b q ≡ ticket_signal a q
 same_ticket a b q e f g = cc
 
 -- the nets of a step's ports, which are there, mean the same in a circuit that keeps what it had

@@ -28,7 +28,8 @@ single_is_proper n x a e p = record {
 }
 
 -- proper use without a second release and with at most one reservation is proper use of such a cycle
-pub proper_is_single : (n : ℕ) (x : LockState) (a : LockAct) → a.release2 ≡ false → length a.reserves ≤ 1 → Proper n x a → ProperSingle n x a
+pub proper_is_single : (n : ℕ) (x : LockState) (a : LockAct)
+    → a.release2 ≡ false → length a.reserves ≤ 1 → Proper n x a → ProperSingle n x a
 proper_is_single n x a e one p = record {
   one = one;
   room = p.room;

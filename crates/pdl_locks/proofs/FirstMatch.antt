@@ -9,12 +9,13 @@ ahead test view (q ∷ ps) zero p l e = ap (λ y. cond (not (test (view y))) (1 
 ahead test view (q ∷ ps) (suc k) p l e = ahead test view ps k p (omega arith) e
 
 -- the k-th is the first that passes among those from it on, where it passes
-pub is_first : {P Q : Type 0} (test : Q → Bool) (view : P → Q) (ps : List P) (k : ℕ) (p : P) → k < length ps → p ≡ get_or ps k p → test (view p) ≡ true
-    → position_or_len test (map view (drop k ps)) ≡ 0
+pub is_first : {P Q : Type 0} (test : Q → Bool) (view : P → Q) (ps : List P) (k : ℕ) (p : P)
+    → k < length ps → p ≡ get_or ps k p → test (view p) ≡ true → position_or_len test (map view (drop k ps)) ≡ 0
 is_first test view ps k p l e t = ahead test view ps k p l e ∙ ap (λ b. cond (not b) (1 + position_or_len test (map view (drop (suc k) ps))) 0) t
 
 -- the first that passes from the k-th on is the first from the one after it on, where the k-th fails
-pub is_later : {P Q : Type 0} (test : Q → Bool) (view : P → Q) (ps : List P) (k : ℕ) (p : P) → k < length ps → p ≡ get_or ps k p → test (view p) ≡ false
+pub is_later : {P Q : Type 0} (test : Q → Bool) (view : P → Q) (ps : List P) (k : ℕ) (p : P)
+    → k < length ps → p ≡ get_or ps k p → test (view p) ≡ false
     → position_or_len test (map view (drop k ps)) ≡ 1 + position_or_len test (map view (drop (k + 1) ps))
 is_later test view ps k p l e t =
     let one : suc k ≡ k + 1 = omega arith in

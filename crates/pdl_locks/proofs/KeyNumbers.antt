@@ -51,7 +51,8 @@ both_at keys l m x e f = at (location_at x) refl
         sym (one_right keys m n l left) ∙ one_sym keys n m right
 
 -- locations that stand first at the same place, where they stand at one, have one number
-pub first_same : (keys : Keys) (l m : Location) (xs : List Place) (x : Place) → first_place keys l xs ≡ first_place keys m xs → first_place keys l xs < length xs → are_one keys m l ≡ true
+pub first_same : (keys : Keys) (l m : Location) (xs : List Place) (x : Place)
+    → first_place keys l xs ≡ first_place keys m xs → first_place keys l xs < length xs → are_one keys m l ≡ true
 first_same keys l m xs x e within =
     let below : first_place keys m xs < length xs = subst (λ n. n < length xs) e within in
     both_at keys l m (get_or xs (first_place keys m xs) x)
@@ -60,7 +61,8 @@ first_same keys l m xs x e within =
 
 -- PLACES WITH NUMBERS
 
-one_before : (keys : Keys) (l : Location) (y : Place) (xs : List Place) → first_place keys l xs < length xs → first_place keys l (y ∷ xs) < length (y ∷ xs)
+one_before : (keys : Keys) (l : Location) (y : Place) (xs : List Place)
+    → first_place keys l xs < length xs → first_place keys l (y ∷ xs) < length (y ∷ xs)
 one_before keys l y xs h = at (is_at keys l y) refl
   where
     at : (b : Bool) → is_at keys l y ≡ b → first_place keys l (y ∷ xs) < length (y ∷ xs)
@@ -72,14 +74,16 @@ one_before keys l y xs h = at (is_at keys l y) refl
         omega (arith, later, h)
 
 -- a location that stands at one of the places stands first at one of them
-pub found : (keys : Keys) (l : Location) (before later : List Place) (x : Place) → is_at keys l x ≡ true → first_place keys l (before ++ x ∷ later) < length (before ++ x ∷ later)
+pub found : (keys : Keys) (l : Location) (before later : List Place) (x : Place)
+    → is_at keys l x ≡ true → first_place keys l (before ++ x ∷ later) < length (before ++ x ∷ later)
 found keys l [] later x e =
     let here : first_place keys l (x ∷ later) ≡ 0 = ap (λ b. cond (not b) (1 + first_place keys l later) 0) e in
     omega (arith, here)
 found keys l (y ∷ before) later x e = one_before keys l y (before ++ x ∷ later) (found keys l before later x e)
 
 -- the k-th of what is told of places
-pub nth_told : {T : Type 0} (f : Place → T) (before later : List Place) (x : Place) (k : ℕ) (none : T) → k ≡ length before → get_or (map f (before ++ x ∷ later)) k none ≡ f x
+pub nth_told : {T : Type 0} (f : Place → T) (before later : List Place) (x : Place) (k : ℕ) (none : T)
+    → k ≡ length before → get_or (map f (before ++ x ∷ later)) k none ≡ f x
 nth_told f [] later x k none e = ap (λ n. get_or (f x ∷ map f later) n none) e
 nth_told f (y ∷ before) later x k none e =
     ap (λ n. get_or (f y ∷ map f (before ++ x ∷ later)) n none) e ∙ nth_told f before later x (length before) none refl

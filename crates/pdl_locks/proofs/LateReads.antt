@@ -28,16 +28,18 @@ longer [] later x = omega arith
 longer (y ∷ before) later x = let rest = longer before later x in omega arith
 
 -- the place after the first k is one of the rows of places
-pub is_within : (rows : List r_place.Place) (before later : List Place) (x : Place) (k : ℕ) → before ++ x ∷ later ≡ map place_view rows → k ≡ length before → k < length rows
+pub is_within : (rows : List r_place.Place) (before later : List Place) (x : Place) (k : ℕ)
+    → before ++ x ∷ later ≡ map place_view rows → k ≡ length before → k < length rows
 is_within rows before later x k seen e =
     let more = longer before later x in
     let same : length (before ++ x ∷ later) ≡ length rows = ap length seen ∙ length-map rows place_view in
     omega arith
 
 -- the stage that comes next on a path after a place, by the rows and by the places of the pipe
-pub next_as : (p : Pipe) (path : List Guard) (rows : List r_place.Place) (before later : List Place) (x : Place) (k : ℕ) → before ++ x ∷ later ≡ places p → before ++ x ∷ later ≡ map place_view rows
-    → k ≡ length before
-    → next_on path (stage_after (take k (map place_view rows))) (drop (suc k) (map place_view rows)) ≡ next_on path (stage_after before) (places_after p before)
+pub next_as : (p : Pipe) (path : List Guard) (rows : List r_place.Place) (before later : List Place) (x : Place) (k : ℕ)
+    → before ++ x ∷ later ≡ places p → before ++ x ∷ later ≡ map place_view rows → k ≡ length before
+    → next_on path (stage_after (take k (map place_view rows))) (drop (suc k) (map place_view rows))
+    ≡ next_on path (stage_after before) (places_after p before)
 next_as p path rows before later x k text seen e =
     ap₂ (λ n ys. next_on path (stage_after (take n ys)) (drop (suc n) ys)) e (sym seen)
     ∙ ap₂ (λ b ys. next_on path (stage_after b) (drop (suc (length before)) ys)) (taken_front before later x) text

@@ -39,5 +39,6 @@ pub memory_line : (rule : MemoryRule) (p : Pipe) (gs : List Guard) (xs : List Pl
 memory_line rule p gs xs own of = at_places (of_memory rule) p gs xs own of ∙ of_memories rule p
 
 -- the line at which a read is bound too late on some path is that at which the pipe breaks L8
-pub bound_line : (p : Pipe) (gs : List Guard) (xs : List Place) → gs ≡ guards xs → xs ≡ places p → path_line (bound_late p) gs xs ≡ broken_line L8 p [] (places p)
+pub bound_line : (p : Pipe) (gs : List Guard) (xs : List Place)
+    → gs ≡ guards xs → xs ≡ places p → path_line (bound_late p) gs xs ≡ broken_line L8 p [] (places p)
 bound_line p gs xs own of = at_places (bound_late p) p gs xs own of ∙ rule_lines L8 p [] (places p)

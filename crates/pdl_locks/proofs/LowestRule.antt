@@ -10,21 +10,26 @@ use Rattle.pdl_rules.specs.Refusal.{broken_line, refused_at, first_broken}
 use Rattle.pdl_locks.specs.Plan.{Tells, IsRefused}
 
 -- it is the first of them
-pub told : (rule : Rule) (rest : List Rule) (p : Pipe) (e : Refusal) (line : Option ℕ) → IsRefused rule line e → line ≡ broken_line rule p [] (places p) → Tells (rule ∷ rest) p e
+pub told : (rule : Rule) (rest : List Rule) (p : Pipe) (e : Refusal) (line : Option ℕ) → IsRefused rule line e
+    → line ≡ broken_line rule p [] (places p) → Tells (rule ∷ rest) p e
 told rule rest p e None h i = absurd h
 told rule rest p e (Some line) h i = subst (Tells (rule ∷ rest) p) (sym h) (ap (λ o. refused_at rule o (first_broken rest p)) (sym i))
 
 -- the first is kept
-kept : (rule : Rule) (rest : List Rule) (p : Pipe) (line : Option ℕ) → line ≡ None → line ≡ broken_line rule p [] (places p) → first_broken (rule ∷ rest) p ≡ first_broken rest p
+kept : (rule : Rule) (rest : List Rule) (p : Pipe) (line : Option ℕ)
+    → line ≡ None → line ≡ broken_line rule p [] (places p) → first_broken (rule ∷ rest) p ≡ first_broken rest p
 kept rule rest p line h i = ap (λ o. refused_at rule o (first_broken rest p)) (sym i ∙ h)
 
 -- a refusal that tells the lowest broken one of the later rules tells that of all, where the first is kept
-pub later : (rule : Rule) (rest : List Rule) (p : Pipe) (e : Refusal) (line : Option ℕ) → line ≡ None → line ≡ broken_line rule p [] (places p) → Tells rest p e → Tells (rule ∷ rest) p e
+pub later : (rule : Rule) (rest : List Rule) (p : Pipe) (e : Refusal) (line : Option ℕ)
+    → line ≡ None → line ≡ broken_line rule p [] (places p) → Tells rest p e → Tells (rule ∷ rest) p e
 later rule rest p (Refused r n) line h i t = kept rule rest p line h i ∙ t
 later rule rest p NoMemory line h i t = t
 
 -- no rule is broken where the first is kept and none of the later ones is broken
-pub none_more : (rule : Rule) (rest : List Rule) (p : Pipe) (line : Option ℕ) → line ≡ None → line ≡ broken_line rule p [] (places p) → first_broken rest p ≡ None → first_broken (rule ∷ rest) p ≡ None
+pub none_more : (rule : Rule) (rest : List Rule) (p : Pipe) (line : Option ℕ)
+    → line ≡ None → line ≡ broken_line rule p [] (places p) → first_broken rest p ≡ None
+    → first_broken (rule ∷ rest) p ≡ None
 none_more rule rest p line h i t = kept rule rest p line h i ∙ t
 
 -- the rules after each

@@ -46,7 +46,8 @@ opens l h (Statement (Release s m) bs) e = or_left (is_unreleased h) false (at (
     at false i = i
 opens l h x e = or_left (is_unreleased h) false e
 
-opened : (l : Location) (h : Hold) (xs : List Place) → is_unreleased (fold (after_place l) h xs) ≡ true → (is_unreleased h || list_any (reserves_location l) xs) ≡ true
+opened : (l : Location) (h : Hold) (xs : List Place)
+    → is_unreleased (fold (after_place l) h xs) ≡ true → (is_unreleased h || list_any (reserves_location l) xs) ≡ true
 opened l h [] e = or_left (is_unreleased h) false e
 opened l h (x ∷ xs) e = at (or_cases (is_unreleased (after_place l h x)) _ (opened l (after_place l h x) xs e))
   where
@@ -58,7 +59,9 @@ opened l h (x ∷ xs) e = at (or_cases (is_unreleased (after_place l h x)) _ (op
         here (inl j) = or_left (is_unreleased h) _ j
         here (inr j) = or_right (is_unreleased h) _ (or_left (reserves_location l x) _ j)
 
-leaves : (earlier : List Place) (l : Location) → is_unreleased (hold_after l earlier) ≡ true → (x : Place) → reserves_location l x ≡ true → leaves_open earlier x ≡ true
+leaves : (earlier : List Place) (l : Location)
+    → is_unreleased (hold_after l earlier) ≡ true → (x : Place) → reserves_location l x ≡ true
+    → leaves_open earlier x ≡ true
 leaves earlier l e (Statement (Reserve s at k) bs) same = ap is_unreleased (held_alike at l same earlier) ∙ e
 leaves earlier l e _ same = absurd (false≢true same)
 
@@ -86,7 +89,8 @@ left_at earlier _ e = absurd (false≢true e)
 
 -- THEIR NUMBERS
 
-open_number : (all earlier : List Place) (uses : List location.LocationUse) → AreKept Locations IsUsed all earlier uses → (before later : List Place) (x : Place) → all ≡ before ++ x ∷ later
+open_number : (all earlier : List Place) (uses : List location.LocationUse) → AreKept Locations IsUsed all earlier uses
+    → (before later : List Place) (x : Place) → all ≡ before ++ x ∷ later
     → is_open uses (number_at Locations all x) ≡ open_at earlier x
 open_number all earlier uses h before later x e = at (location_at x) refl
   where
@@ -101,7 +105,8 @@ open_number all earlier uses h before later x e = at (location_at x) refl
         (slice_get-get_or uses (first_place Locations l all) none (subst (λ n. first_place Locations l all < n) (sym h.one_each) within))
         ∙ ap is_unreleased (h.each l none within).hold
 
-by_number : (f : ℕ → Bool) (g : Place → Bool) (num : Place → ℕ) (all front xs : List Place) → ((before later : List Place) (x : Place) → all ≡ before ++ x ∷ later → f (num x) ≡ g x) → all ≡ front ++ xs
+by_number : (f : ℕ → Bool) (g : Place → Bool) (num : Place → ℕ) (all front xs : List Place)
+    → ((before later : List Place) (x : Place) → all ≡ before ++ x ∷ later → f (num x) ≡ g x) → all ≡ front ++ xs
     → list_any f (map num xs) ≡ list_any g xs
 by_number f g num all front [] each e = refl
 by_number f g num all front (x ∷ xs) each e =
@@ -109,8 +114,10 @@ by_number f g num all front (x ∷ xs) each e =
     ∙ ap (λ b. g x || b) (by_number f g num all (front ++ x ∷ []) xs each (e ∙ sym (append_assoc front (x ∷ []) xs)))
 
 -- one of the numbers is that of an open location where the places before on the path leave one open
-pub some_open : (places : List r_place.Place) (first : List ℕ) (path : List Guard) (before later : List Place) (x : Place) (uses : List location.LocationUse)
-    → AreNumbered Locations places first (before ++ x ∷ later) → AreKept Locations IsUsed (map place_view places) (filter (on_path path) before) uses
+pub some_open : (places : List r_place.Place) (first : List ℕ) (path : List Guard) (before later : List Place)
+    (x : Place) (uses : List location.LocationUse)
+    → AreNumbered Locations places first (before ++ x ∷ later)
+    → AreKept Locations IsUsed (map place_view places) (filter (on_path path) before) uses
     → list_any (is_open uses) first ≡ list_any (leaves_open (filter (on_path path) before)) (filter (on_path path) before)
 some_open places first path before later x uses s h =
     ap (list_any (is_open uses)) s.numbers

@@ -37,9 +37,11 @@ pub own : {T : Type 0} (keys : Keys) (Is : T → Location → List Place → Typ
 own keys Is places first before later x k uses none used earlier s e h is l at =
     subst (λ u. Is u l earlier) (sym is) (read keys Is places first before later x k uses none earlier s e h l at)
 
-changed : {T : Type 0} (keys : Keys) (Is : T → Location → List Place → Type 0) (laws : HasLaws keys Is) (all earlier : List Place) (x : Place) (n : ℕ) (uses : List T) (new old : T)
+changed : {T : Type 0} (keys : Keys) (Is : T → Location → List Place → Type 0) (laws : HasLaws keys Is)
+    (all earlier : List Place) (x : Place) (n : ℕ) (uses : List T) (new old : T)
     → n ≡ number_at keys all x → AreKept keys Is all earlier uses → n < length uses → old ≡ get_or uses n old
-    → ((l : Location) → location_at x ≡ Some l → Is old l earlier → Is new l (earlier ++ x ∷ [])) → AreKept keys Is all (earlier ++ x ∷ []) (set uses n new)
+    → ((l : Location) → location_at x ≡ Some l → Is old l earlier → Is new l (earlier ++ x ∷ []))
+    → AreKept keys Is all (earlier ++ x ∷ []) (set uses n new)
 changed keys Is laws all earlier x n uses new old number h below is step =
     record { one_each = length-set uses n new ∙ h.one_each; each = λ l other within. at l other within (location_at x) refl }
   where
@@ -71,7 +73,8 @@ changed keys Is laws all earlier x n uses new old number h below is step =
             (sym (get_or-set_other uses n (first_place keys l all) new other (λ e. false≢true (sym j ∙ first_same keys l m all x (e ∙ here) within))))
             (laws.aside _ l earlier x (ap (is_some_and (λ q. are_one keys q l)) i ∙ j) (h.each l other within))
 
-unchanged : {T : Type 0} (keys : Keys) (Is : T → Location → List Place → Type 0) (laws : HasLaws keys Is) (before later earlier : List Place) (x : Place) (n : ℕ) (uses : List T)
+unchanged : {T : Type 0} (keys : Keys) (Is : T → Location → List Place → Type 0) (laws : HasLaws keys Is)
+    (before later earlier : List Place) (x : Place) (n : ℕ) (uses : List T)
     → n ≡ number_at keys (before ++ x ∷ later) x → AreKept keys Is (before ++ x ∷ later) earlier uses → length uses ≤ n
     → AreKept keys Is (before ++ x ∷ later) (earlier ++ x ∷ []) uses
 unchanged keys Is laws before later earlier x n uses number h past =
@@ -121,8 +124,8 @@ repeated : {T : Type 0} (n k : ℕ) (used other : T) → k < n → get_or (repli
 repeated n k used other l = get_or-replicate n k used other l
 
 -- before the first place each location has the use in which nothing was done
-pub begun : {T : Type 0} (keys : Keys) (Is : T → Location → List Place → Type 0) (all : List Place) (none : T) (n : ℕ) → n ≡ length all → ((l : Location) → Is none l [])
-    → AreKept keys Is all [] (replicate n none)
+pub begun : {T : Type 0} (keys : Keys) (Is : T → Location → List Place → Type 0) (all : List Place) (none : T) (n : ℕ)
+    → n ≡ length all → ((l : Location) → Is none l []) → AreKept keys Is all [] (replicate n none)
 begun keys Is all none n e h = record {
   one_each = length-replicate n none ∙ e;
   each = λ l other within. subst (λ u. Is u l []) (sym (repeated n (first_place keys l all) none other (subst (λ m. first_place keys l all < m) (sym e) within))) (h l);

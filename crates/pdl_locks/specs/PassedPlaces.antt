@@ -7,6 +7,8 @@ use Rattle.pdl_locks.specs.declared.numbers.Keys.{Keys}
 use Rattle.pdl_locks.specs.Uses.{AreKept}
 
 -- nothing changes there
-pub passed_by : {T : Type 0} (keys : Keys) (Is : T → Location → List Place → Type 0) (all : List Place) (path : List Guard) (before : List Place) (x : Place) (uses : List T)
-    → on_path path x ≡ false → AreKept keys Is all (filter (on_path path) before) uses → AreKept keys Is all (filter (on_path path) (before ++ x ∷ [])) uses
+pub passed_by : {T : Type 0} (keys : Keys) (Is : T → Location → List Place → Type 0) (all : List Place)
+    (path : List Guard) (before : List Place) (x : Place) (uses : List T)
+    → on_path path x ≡ false → AreKept keys Is all (filter (on_path path) before) uses
+    → AreKept keys Is all (filter (on_path path) (before ++ x ∷ [])) uses
 passed_by keys Is all path before x uses off h = subst (λ e. AreKept keys Is all e uses) (sym (earlier_same path before x off)) h

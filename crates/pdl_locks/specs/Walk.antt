@@ -41,21 +41,26 @@ abbrev pub StandsBound : Pipe → List Guard → List Guard → List Place → �
 StandsBound p guards gs xs bits k among lowest = IsOnPath (bound_late p) (λ path before. IsPath guards path among) gs xs bits k lowest
 
 -- a place that isn't on the path changes nothing
-pub aside_at : (p : Pipe) (rows : List r_place.Place) (rule : LocationRule) (gs : List Guard) (xs : List Place) (bits k : ℕ) (x : Place) (uses : List location.LocationUse) (lowest : ℕ)
-    → slice_get xs k ≡ Some x → on_path (path_of gs bits) x ≡ false → StandsAt p rows rule gs xs bits k uses lowest → StandsAt p rows rule gs xs bits (k + 1) uses lowest
+pub aside_at : (p : Pipe) (rows : List r_place.Place) (rule : LocationRule) (gs : List Guard) (xs : List Place)
+    (bits k : ℕ) (x : Place) (uses : List location.LocationUse) (lowest : ℕ)
+    → slice_get xs k ≡ Some x → on_path (path_of gs bits) x ≡ false → StandsAt p rows rule gs xs bits k uses lowest
+    → StandsAt p rows rule gs xs bits (k + 1) uses lowest
 aside_at p rows rule gs xs bits k x uses lowest got off h =
     aside (at_location p rule) (λ path before. AreKept Locations IsUsed (map place_view rows) (filter (on_path path) before) uses) gs xs bits k lowest x
     (λ path before elsewhere kept. passed_by Locations IsUsed (map place_view rows) path before x uses elsewhere kept) got off h
 
 -- a place that isn't on the path changes nothing for a rule on memories
-pub aside_of : (rows : List r_place.Place) (rule : MemoryRule) (gs : List Guard) (xs : List Place) (bits k : ℕ) (x : Place) (uses : List memory.MemoryUse) (lowest : ℕ)
-    → slice_get xs k ≡ Some x → on_path (path_of gs bits) x ≡ false → StandsOf rows rule gs xs bits k uses lowest → StandsOf rows rule gs xs bits (k + 1) uses lowest
+pub aside_of : (rows : List r_place.Place) (rule : MemoryRule) (gs : List Guard) (xs : List Place) (bits k : ℕ)
+    (x : Place) (uses : List memory.MemoryUse) (lowest : ℕ)
+    → slice_get xs k ≡ Some x → on_path (path_of gs bits) x ≡ false → StandsOf rows rule gs xs bits k uses lowest
+    → StandsOf rows rule gs xs bits (k + 1) uses lowest
 aside_of rows rule gs xs bits k x uses lowest got off h =
     aside (of_memory rule) (λ path before. AreKept Memories IsUsedMemory (map place_view rows) (filter (on_path path) before) uses) gs xs bits k lowest x
     (λ path before elsewhere kept. passed_by Memories IsUsedMemory (map place_view rows) path before x uses elsewhere kept) got off h
 
 -- a place that isn't on the path changes nothing for the rule on late reads
 pub aside_bound : (p : Pipe) (guards gs : List Guard) (xs : List Place) (bits k : ℕ) (x : Place) (among lowest : ℕ)
-    → slice_get xs k ≡ Some x → on_path (path_of gs bits) x ≡ false → StandsBound p guards gs xs bits k among lowest → StandsBound p guards gs xs bits (k + 1) among lowest
+    → slice_get xs k ≡ Some x → on_path (path_of gs bits) x ≡ false → StandsBound p guards gs xs bits k among lowest
+    → StandsBound p guards gs xs bits (k + 1) among lowest
 aside_bound p guards gs xs bits k x among lowest got off h =
     aside (bound_late p) (λ path before. IsPath guards path among) gs xs bits k lowest x (λ path before elsewhere is. is) got off h

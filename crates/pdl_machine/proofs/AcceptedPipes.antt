@@ -33,7 +33,8 @@ use Rattle.pdl_rules.proofs.ToldMemories.{infos_count}
 -- THE PIPE
 
 -- a fork's list is no longer than there are stages
-few_inside : (p : Flats.Pipe) → Sound p → Strict p → (image : Arrays) (before : List (List Bool)) (f : ℕ) → length (fork_of (state_after p (first p image) before) f) ≤ length p.stages
+few_inside : (p : Flats.Pipe) → Sound p → Strict p → (image : Arrays) (before : List (List Bool)) (f : ℕ)
+    → length (fork_of (state_after p (first p image) before) f) ≤ length p.stages
 few_inside p sound strict image before f =
     let r = reached p sound strict image before in
     let few = list_few p (state_after p (first p image) before) (Derived.state_after p (Derived.first p image) before) r.0 r.1 f in
@@ -59,12 +60,16 @@ runnable p kept source letters typed =
 no_info : MemInfo
 no_info = record { name = []; width = 0; depth = 0; delayed = false }
 
-info_depth : (ms : List Mem) (m : ℕ) → m < length (infos_of ms) → (slice_index_or (infos_of ms) m no_info).depth ≡ (slice_index_or (mems_of ms) m plain_mem).depth
+info_depth : (ms : List Mem) (m : ℕ)
+    → m < length (infos_of ms)
+    → (slice_index_or (infos_of ms) m no_info).depth ≡ (slice_index_or (mems_of ms) m plain_mem).depth
 info_depth [] m h = absurd (omega arith)
 info_depth (x ∷ ms) zero h = refl
 info_depth (x ∷ ms) (suc m) h = info_depth ms m (omega arith)
 
-info_width : (ms : List Mem) (m : ℕ) → m < length (infos_of ms) → (slice_index_or (infos_of ms) m no_info).width ≡ (slice_index_or (mems_of ms) m plain_mem).width
+info_width : (ms : List Mem) (m : ℕ)
+    → m < length (infos_of ms)
+    → (slice_index_or (infos_of ms) m no_info).width ≡ (slice_index_or (mems_of ms) m plain_mem).width
 info_width [] m h = absurd (omega arith)
 info_width (x ∷ ms) zero h = refl
 info_width (x ∷ ms) (suc m) h = info_width ms m (omega arith)

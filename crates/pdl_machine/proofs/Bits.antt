@@ -4,7 +4,8 @@ use Rattle.std.proofs.lemmas.List.{length-drop, take_more_set, drop-set-lt}
 use Rattle.pdl_machine_facts.specs.Ports.{replies_of}
 
 -- replies that are read bit after bit are the same list after the next bit, which is the lowest that is left
-pub bits_more : (now : List Bool) (i left : ℕ) (all : List Bool) → i < length now → take i now ++ replies_of (length (drop i now)) left ≡ all
+pub bits_more : (now : List Bool) (i left : ℕ) (all : List Bool)
+    → i < length now → take i now ++ replies_of (length (drop i now)) left ≡ all
     → take (i + 1) (set now i (left % 2 == 1)) ++ replies_of (length (drop (i + 1) (set now i (left % 2 == 1)))) (left / 2) ≡ all
 bits_more now i left all less h =
     let bit : Bool = left % 2 == 1 in

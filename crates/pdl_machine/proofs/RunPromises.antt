@@ -18,7 +18,8 @@ use Rattle.pdl_source_strict.proofs.Paths.{paths_strict}
 use Rattle.pdl_theory_states.proofs.EveryState
 
 -- one cycle more
-pub run_on : (p : Flat.Pipe) (st : State) (schedule : List (List Bool)) (bits : List Bool) → stated.state_after p st (schedule ++ bits ∷ []) ≡ stated.cycle p (stated.state_after p st schedule) bits
+pub run_on : (p : Flat.Pipe) (st : State) (schedule : List (List Bool)) (bits : List Bool)
+    → stated.state_after p st (schedule ++ bits ∷ []) ≡ stated.cycle p (stated.state_after p st schedule) bits
 run_on p st [] bits = refl
 run_on p st (b ∷ schedule) bits = run_on p (stated.cycle p st b) schedule bits
 

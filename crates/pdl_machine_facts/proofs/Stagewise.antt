@@ -21,7 +21,9 @@ same_commit : (m : ℕ) (o : Option Pending) (a b : Arrays) → a m ≡ b m → 
 same_commit m None a b h = h
 same_commit m (Some e) a b h = ap (λ w. cond (m == m) (with_value w e.address (commit_value e.value)) w) h
 
-commits_at : (st : State) (ms : List Act) (k n : ℕ) (xs : List Mem) (arrays : Arrays) → n < length xs → with_commits st ms k xs arrays (k + n) ≡ with_commit arrays (k + n) (taken_out st ms (k + n)) (k + n)
+commits_at : (st : State) (ms : List Act) (k n : ℕ) (xs : List Mem) (arrays : Arrays)
+    → n < length xs
+    → with_commits st ms k xs arrays (k + n) ≡ with_commit arrays (k + n) (taken_out st ms (k + n)) (k + n)
 commits_at st ms k n [] arrays h = absurd (omega arith)
 commits_at st ms k zero (x ∷ xs) arrays h =
     let e : k + 0 ≡ k = omega arith in

@@ -8,7 +8,8 @@ use Rattle.pdl_semantics.specs.Moves.{Act, act_of, acts, all_acts, movers, no_fa
 use Rattle.pdl_machine_facts.specs.Slots.{LeadsOn, slot, with_now, here, later_acts, locks_ready, may_pass, slot_moves, stage_moves, may_enter, mover, movers_from}
 
 -- the first of what is left, and the rest
-dropped : (xs : List (Option Thread)) (k : ℕ) (o : Option Thread) (ts : List (Option Thread)) → drop k xs ≡ o ∷ ts → (slice_index_or xs k None ≡ o) × (drop (suc k) xs ≡ ts)
+dropped : (xs : List (Option Thread)) (k : ℕ) (o : Option Thread) (ts : List (Option Thread))
+    → drop k xs ≡ o ∷ ts → (slice_index_or xs k None ≡ o) × (drop (suc k) xs ≡ ts)
 dropped [] zero o ts e = absurd (cc e)
 dropped [] (suc k) o ts e = absurd (cc e)
 dropped (x ∷ xs) zero o ts e = (cc e, cc e)

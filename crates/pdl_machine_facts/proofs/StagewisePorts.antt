@@ -12,7 +12,8 @@ use Rattle.pdl_machine_facts.proofs.StagewiseActs.{seen, line_acts, some_here, s
 use Rattle.pdl_word.proofs.Numbers.{eqb_self}
 
 -- an entry for each stage
-pub stages_below : {X : Type 0} → (f g : ℕ → X) (s : ℕ) (xs : List Stage) → ((q : ℕ) → s ≤ q → q < s + length xs → f q ≡ g q) → for_stages f s xs ≡ for_stages g s xs
+pub stages_below : {X : Type 0} → (f g : ℕ → X) (s : ℕ) (xs : List Stage)
+    → ((q : ℕ) → s ≤ q → q < s + length xs → f q ≡ g q) → for_stages f s xs ≡ for_stages g s xs
 stages_below f g s [] h = refl
 stages_below f g s (x ∷ xs) h = ap₂ (λ a l. a ∷ l) (h s (omega arith) (omega arith)) (stages_below f g (suc s) xs (λ q i j. h q (omega (arith, i)) (omega (arith, j))))
 
@@ -22,13 +23,15 @@ stages_count f s [] = refl
 stages_count f s (x ∷ xs) = ap suc (stages_count f (suc s) xs)
 
 -- the k-th of what is listed for the stages from s on is that of stage s + k
-pub at_stage : {X : Type 0} → (f : ℕ → X) (s : ℕ) (xs : List Stage) (k : ℕ) (none : X) → k < length xs → slice_index_or (for_stages f s xs) k none ≡ f (s + k)
+pub at_stage : {X : Type 0} → (f : ℕ → X) (s : ℕ) (xs : List Stage) (k : ℕ) (none : X)
+    → k < length xs → slice_index_or (for_stages f s xs) k none ≡ f (s + k)
 at_stage f s [] k none h = absurd (omega arith)
 at_stage f s (x ∷ xs) zero none h = ap f (sym (add-zero s))
 at_stage f s (x ∷ xs) (suc k) none h = at_stage f (suc s) xs k none (omega arith) ∙ ap f (suc-add s k ∙ sym (add-suc s k))
 
 -- past the last stage nothing is listed
-pub past_stage : {X : Type 0} → (f : ℕ → X) (s : ℕ) (xs : List Stage) (k : ℕ) (none : X) → length xs ≤ k → slice_index_or (for_stages f s xs) k none ≡ none
+pub past_stage : {X : Type 0} → (f : ℕ → X) (s : ℕ) (xs : List Stage) (k : ℕ) (none : X)
+    → length xs ≤ k → slice_index_or (for_stages f s xs) k none ≡ none
 past_stage f s [] k none h = refl
 past_stage f s (x ∷ xs) zero none h = absurd (omega arith)
 past_stage f s (x ∷ xs) (suc k) none h = past_stage f (suc s) xs k none (omega arith)

@@ -21,7 +21,8 @@ stage_each P k (x ∷ xs) h = at (x.stage == k) refl (stage_each P k xs h.1)
     at true e r = ((h.0, eqb-true x.stage k e), r)
     at false e r = r
 
-asks_op : (p : Pipe) (k s : ℕ) (read : ℕ → ℕ → ℕ) (x : Stmt) → IsTheReading p x → x.stage ≡ k → (d : Deeds) → Each (AsksIn p k) d.asks → Each (AsksIn p k) (deeds_after read x.op d).asks
+asks_op : (p : Pipe) (k s : ℕ) (read : ℕ → ℕ → ℕ) (x : Stmt) → IsTheReading p x
+    → x.stage ≡ k → (d : Deeds) → Each (AsksIn p k) d.asks → Each (AsksIn p k) (deeds_after read x.op d).asks
 asks_op p k s read x h e d r = by x.op h
   where
     verified : (args : List Rattle.pdl_semantics.specs.Flat.Expr) (b : Bool) → Each (AsksIn p k) (cond b d (record d { child = Some (values_of args d.env); fails = true })).asks
@@ -43,7 +44,9 @@ asks_op p k s read x h e d r = by x.op h
     by SpecCheck g = r
     by SpecBarrier g = r
 
-asks_all : (p : Pipe) (k : ℕ) (read : ℕ → ℕ → ℕ) (xs : List Stmt) → Each (λ (x : Stmt). IsTheReading p x × (x.stage ≡ k)) xs → (d : Deeds) → Each (AsksIn p k) d.asks → Each (AsksIn p k) (deeds_after_all read xs d).asks
+asks_all : (p : Pipe) (k : ℕ) (read : ℕ → ℕ → ℕ) (xs : List Stmt)
+    → Each (λ (x : Stmt). IsTheReading p x × (x.stage ≡ k)) xs → (d : Deeds) → Each (AsksIn p k) d.asks
+    → Each (AsksIn p k) (deeds_after_all read xs d).asks
 asks_all p k read [] h d r = r
 asks_all p k read (x ∷ xs) h d r = asks_all p k read xs h.1 (if all_hold x.guards d.env then deeds_after read x.op d else d) (at (all_hold x.guards d.env))
   where
@@ -72,7 +75,8 @@ fails_op read (SpecCall args) d h = refl
 fails_op read SpecCheck d h = refl
 fails_op read SpecBarrier d h = refl
 
-fails_all : (read : ℕ → ℕ → ℕ) (xs : List Stmt) → Each (λ (x : Stmt). is_verify x.op ≡ false) xs → (d : Deeds) → (deeds_after_all read xs d).fails ≡ d.fails
+fails_all : (read : ℕ → ℕ → ℕ) (xs : List Stmt)
+    → Each (λ (x : Stmt). is_verify x.op ≡ false) xs → (d : Deeds) → (deeds_after_all read xs d).fails ≡ d.fails
 fails_all read [] h d = refl
 fails_all read (x ∷ xs) h d = fails_all read xs h.1 (if all_hold x.guards d.env then deeds_after read x.op d else d) ∙ at (all_hold x.guards d.env)
   where
@@ -81,7 +85,8 @@ fails_all read (x ∷ xs) h d = fails_all read xs h.1 (if all_hold x.guards d.en
     at false = refl
 
 -- statements of another stage than that of the verifies verify nothing
-unverified : (v k : ℕ) (xs : List Stmt) → all_at is_verify v xs ≡ true → (k ≡ v → ⊥) → Each (λ (x : Stmt). is_verify x.op ≡ false) (in_stage k xs)
+unverified : (v k : ℕ) (xs : List Stmt)
+    → all_at is_verify v xs ≡ true → (k ≡ v → ⊥) → Each (λ (x : Stmt). is_verify x.op ≡ false) (in_stage k xs)
 unverified v k [] h n = tt
 unverified v k (x ∷ xs) h n = at (x.stage == k) refl (unverified v k xs parts.1 n)
   where
@@ -97,7 +102,9 @@ unverified v k (x ∷ xs) h n = at (x.stage == k) refl (unverified v k xs parts.
     at false e r = r
 
 -- in a stage other than that of the verifies no verify fails
-pub fails_not : (p : Pipe) (v : ℕ) → all_at is_verify v p.stmts ≡ true → (st : State) (k : ℕ) (t : Thread) → (k ≡ v → ⊥) → (deeds p st k t).fails ≡ false
+pub fails_not : (p : Pipe) (v : ℕ)
+    → all_at is_verify v p.stmts ≡ true → (st : State) (k : ℕ) (t : Thread) → (k ≡ v → ⊥)
+    → (deeds p st k t).fails ≡ false
 fails_not p v h st k t n = fails_all (word_for st t.number) (in_stage k p.stmts) (unverified v k p.stmts h n) _
 
 -- and where the pipe verifies nothing nothing fails

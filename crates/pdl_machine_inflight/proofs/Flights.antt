@@ -47,7 +47,9 @@ path_each p path (x ∷ xs) h = at (all_hold x.guards path) (path_each p path xs
     at false k = k
 
 -- a delayed read among these is the pipe's
-read_among : (p : Pipe) (v m : ℕ) (R : ℕ → Type 0) (Goal : Type 0) → ((k : ℕ) → reading p m ≡ Some (record { stage = k; var = v }) → Goal) → (xs : List Stmt) (past : List Op) → Each (IsTheReading p) xs → (AnyOp (λ op. (a : ℕ) × (op ≡ DelayedRead v m a) × R a) past → Goal)
+read_among : (p : Pipe) (v m : ℕ) (R : ℕ → Type 0) (Goal : Type 0)
+    → ((k : ℕ) → reading p m ≡ Some (record { stage = k; var = v }) → Goal) → (xs : List Stmt) (past : List Op)
+    → Each (IsTheReading p) xs → (AnyOp (λ op. (a : ℕ) × (op ≡ DelayedRead v m a) × R a) past → Goal)
     → AnyOp (λ op. (a : ℕ) × (op ≡ DelayedRead v m a) × R a) (onto xs past) → Goal
 read_among p v m R Goal found [] past h rest i = rest i
 read_among p v m R Goal found (x ∷ xs) past h rest i = read_among p v m R Goal found xs (x.op ∷ past) h.1 at i
@@ -142,7 +144,8 @@ module _ (p : Pipe) (reads : Reads p) (st : State) (d : Derived.State) (ls : Lis
   }
 
 -- in each state of a run
-pub flights : (p : Pipe) → Sound p → Strict p → Reads p → (image : Arrays) (before : List (List Bool)) → InFlight p (state_after p (first p image) before)
+pub flights : (p : Pipe) → Sound p → Strict p → Reads p → (image : Arrays) (before : List (List Bool))
+    → InFlight p (state_after p (first p image) before)
 flights p sound strict reads image before =
     let r = reached p sound strict image before in
     in_flight p reads (state_after p (first p image) before) (Derived.state_after p (Derived.first p image) before) r.0 r.1 r.2

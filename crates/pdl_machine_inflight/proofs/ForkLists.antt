@@ -61,7 +61,8 @@ side_long f (Some b) = at (b.fork == f)
     at true = refl
     at false = refl
 
-stages_counted : (f : ℕ) (xs : List Stage) → total (λ k. side_count f (slice_index_or xs k last_stage).branch) (length xs) ≡ count_by (λ (x : Stage). is_branch_of x.branch f) xs
+stages_counted : (f : ℕ) (xs : List Stage)
+    → total (λ k. side_count f (slice_index_or xs k last_stage).branch) (length xs) ≡ count_by (λ (x : Stage). is_branch_of x.branch f) xs
 stages_counted f xs = is_count_by (λ ys. total (λ k. side_count f (slice_index_or ys k last_stage).branch) (length ys)) (λ (x : Stage). is_branch_of x.branch f) refl one xs
   where
     at : (b : Bool) (n : ℕ) → (if b then 1 else 0) + n ≡ cond b (1 + n) n
@@ -115,7 +116,8 @@ module _ (p : Pipe) (f : ℕ) where
       at false n = omega arith
 
 -- a fork's list is no longer than its branches have stages, where the state stands for live threads
-pub list_few : (p : Pipe) (st : State) (d : Derived.State) (ls : List Live) → Sim p st d ls → (f : ℕ) → length (fork_of st f) ≤ branch_stages p f
+pub list_few : (p : Pipe) (st : State) (d : Derived.State) (ls : List Live) → Sim p st d ls → (f : ℕ)
+    → length (fork_of st f) ≤ branch_stages p f
 list_few p st d ls sim f =
     subst (λ (xs : List Bool). length xs ≤ branch_stages p f) (sym (sim.forks f))
     (sides_few p f ls sim.ordered (Rattle.pdl_theory_simulation.proofs.Seats.each_map (λ l s. s.keeps_on.inside) ls sim.seated))

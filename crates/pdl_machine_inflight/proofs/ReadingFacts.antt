@@ -11,7 +11,9 @@ use Rattle.pdl_machine_inflight.specs.InFlight.{Some-of}
 use Rattle.pdl_word.specs.Each.{Each}
 
 -- a memory that a stage's statements read delayed is read there
-pub read_in : (p : Pipe) (k m : ℕ) (xs : List Stmt) → Each (IsTheReading p) xs → none_of (is_delayed_read m) (in_stage k xs) ≡ false → (x : ℕ) × (reading p m ≡ Some (record { stage = k; var = x }))
+pub read_in : (p : Pipe) (k m : ℕ) (xs : List Stmt) → Each (IsTheReading p) xs
+    → none_of (is_delayed_read m) (in_stage k xs) ≡ false
+    → (x : ℕ) × (reading p m ≡ Some (record { stage = k; var = x }))
 read_in p k m [] h e = absurd (false≢true (sym e))
 read_in p k m (y ∷ ys) h e = at (y.stage == k) refl e (read_in p k m ys h.1)
   where
@@ -52,7 +54,9 @@ is_place (Forks x a b) q env e = at (slice_index env x == 1) e
     at false f = inr (inl (cc f))
 
 -- a thread goes to the place of its number
-pub goes_to_place : (n : Next) (q : ℕ) (env : List ℕ) → goes_to n env ≡ Some q → (place_to n env < length (places_of n)) × (slice_index (places_of n) (place_to n env) ≡ q)
+pub goes_to_place : (n : Next) (q : ℕ) (env : List ℕ)
+    → goes_to n env ≡ Some q
+    → (place_to n env < length (places_of n)) × (slice_index (places_of n) (place_to n env) ≡ q)
 goes_to_place Ends q env e = absurd (cc e)
 goes_to_place (Goes to) q env e = (omega arith, cc e)
 goes_to_place (Forks x a b) q env e = at (slice_index env x == 1) e

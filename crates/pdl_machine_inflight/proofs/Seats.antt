@@ -58,7 +58,8 @@ one_number n a b (k ∷ ks) f (inr i) (inl j) e =
 one_number n a b (k ∷ ks) f (inr i) (inr j) e = one_number k.number a b ks f.1 i j e
 
 -- a younger one stands behind an older one
-stands_behind : (p : Pipe) (n : ℕ) (a b : Live) (ls : List Live) → Falls n ls → Ordered p ls → Among a ls → Among b ls → b.number < a.number → Behind p a.thread.stage b.thread.stage
+stands_behind : (p : Pipe) (n : ℕ) (a b : Live) (ls : List Live) → Falls n ls → Ordered p ls → Among a ls → Among b ls
+    → b.number < a.number → Behind p a.thread.stage b.thread.stage
 stands_behind p n a b [] f o i j e = absurd i
 stands_behind p n a b (k ∷ ks) f o (inl i) (inl j) e = absurd (let z = ap (λ (l : Live). l.number) (sym i ∙ j) in omega (arith, e, z))
 stands_behind p n a b (k ∷ ks) f o (inl i) (inr j) e = subst (λ (l : Live). Behind p l.thread.stage b.thread.stage) i (each_among _ b ks o.0 j)

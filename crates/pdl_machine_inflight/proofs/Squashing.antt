@@ -15,7 +15,8 @@ use Rattle.pdl_machine_inflight.proofs.DeedsIn.{fails_not, fails_never}
 use Rattle.pdl_machine_inflight.proofs.LaterActs.{all_later, not_all_later}
 
 -- who stands in a stage with this cycle's answers stood there
-pub stood_in : (p : Pipe) (st : State) (bits : List Bool) (k : ℕ) (t : Thread) → here p st bits k ≡ Some t → (u : Thread) × (slot st k ≡ Some u) × (with_answers p st bits u ≡ t)
+pub stood_in : (p : Pipe) (st : State) (bits : List Bool) (k : ℕ) (t : Thread)
+    → here p st bits k ≡ Some t → (u : Thread) × (slot st k ≡ Some u) × (with_answers p st bits u ≡ t)
 stood_in p st bits k t h = at (slot st k) refl h
   where
     at : (o : Option Thread) → slot st k ≡ o → with_now p st bits o ≡ Some t → (u : Thread) × (slot st k ≡ Some u) × (with_answers p st bits u ≡ t)
@@ -33,12 +34,14 @@ abbrev pub failing : Pipe → State → ℕ → Option Thread → Bool
 failing p st v None = false
 failing p st v (Some t) = (deeds p st v t).fails
 
-squasher_past : (p : Pipe) (st : State) (k : ℕ) (b : Bool) (o : Option Thread) (rest : List Act) → failing p st k o ≡ false → squasher (mover p st k b o ++ rest) ≡ squasher rest
+squasher_past : (p : Pipe) (st : State) (k : ℕ) (b : Bool) (o : Option Thread) (rest : List Act)
+    → failing p st k o ≡ false → squasher (mover p st k b o ++ rest) ≡ squasher rest
 squasher_past p st k false o rest h = refl
 squasher_past p st k true None rest h = refl
 squasher_past p st k true (Some t) rest h = ap (λ c. if c then Some t.number else squasher rest) h
 
-squasher_here : (p : Pipe) (st : State) (k : ℕ) (b : Bool) (o : Option Thread) (rest : List Act) → squasher rest ≡ None → squasher (mover p st k b o ++ rest) ≡ squasher_at p st k b o
+squasher_here : (p : Pipe) (st : State) (k : ℕ) (b : Bool) (o : Option Thread) (rest : List Act)
+    → squasher rest ≡ None → squasher (mover p st k b o ++ rest) ≡ squasher_at p st k b o
 squasher_here p st k false o rest h = h
 squasher_here p st k true None rest h = h
 squasher_here p st k true (Some t) rest h = ap (λ r. if (deeds p st k t).fails then Some t.number else r) h

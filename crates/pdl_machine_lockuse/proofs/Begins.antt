@@ -56,12 +56,14 @@ unheld_let_go (l ∷ hs) n b m a h =
     at true i j r = j
     at false i j r = ap₂ (λ x y. x || y) i r
 
-unheld_op : (m a : ℕ) (op : Op) (hs : List HeldLocation) → reserves_at m a op ≡ false → is_held hs m a ≡ false → is_held (held_after op hs) m a ≡ false
+unheld_op : (m a : ℕ) (op : Op) (hs : List HeldLocation)
+    → reserves_at m a op ≡ false → is_held hs m a ≡ false → is_held (held_after op hs) m a ≡ false
 unheld_op m a (ReserveWrite n b) hs r h = ap₂ (λ x y. x || y) r h
 unheld_op m a (Release n b) hs r h = unheld_let_go hs n b m a h
 unheld_op m a _ hs r h = h
 
-unheld_all : (m a : ℕ) (xs : List Stmt) (hs : List HeldLocation) → none_of (reserves_at m a) xs ≡ true → is_held hs m a ≡ false → is_held (held_ops xs hs) m a ≡ false
+unheld_all : (m a : ℕ) (xs : List Stmt) (hs : List HeldLocation)
+    → none_of (reserves_at m a) xs ≡ true → is_held hs m a ≡ false → is_held (held_ops xs hs) m a ≡ false
 unheld_all m a [] hs r h = h
 unheld_all m a (x ∷ xs) hs r h =
     unheld_all m a xs (held_after x.op hs) (and_right (not (reserves_at m a x.op)) _ r) (unheld_op m a x.op hs (not-true _ (and_left _ _ r)) h)
@@ -122,7 +124,8 @@ module _ (p : Pipe) (s : ℕ) (clean : ℕ → ℕ → Type 0) (env : List ℕ) 
       right_all (scan_after (answered_op x.op) c) (held_after x.op hs) xs (covers_op c x.op hs f) low.1 b.1 (and_right (keeps_kind x.op xs) _ r) e
       (right_op c hs x.op xs f low.0 b.0 (and_left _ _ r) e k)
 
-covers_all : (c : Scan) (hs : List HeldLocation) (xs : List Stmt) → Covers c.held hs → Covers (scan_after_all (looked_all xs) c).held (held_ops xs hs)
+covers_all : (c : Scan) (hs : List HeldLocation) (xs : List Stmt) → Covers c.held hs
+    → Covers (scan_after_all (looked_all xs) c).held (held_ops xs hs)
 covers_all c hs [] f = f
 covers_all c hs (x ∷ xs) f = covers_all (scan_after (answered_op x.op) c) (held_after x.op hs) xs (covers_op c x.op hs f)
 
@@ -157,8 +160,8 @@ guess_op size env guess g (DelayedRead x m a) h y f i = f i
 guess_op size env guess g _ h y f i = f i
 
 guess_all : (size : ℕ) (env guess : List ℕ) (g : Making) (xs : List Stmt) → AllStmts (λ z. DoneOp env guess z.op) xs
-    → list_all (λ (x : Stmt). passes_on size x.op) xs ≡ true → (is_guessed g ≡ true → length guess ≡ size) → is_guessed (making_all g (looked_all xs)) ≡ true
-    → length guess ≡ size
+    → list_all (λ (x : Stmt). passes_on size x.op) xs ≡ true → (is_guessed g ≡ true → length guess ≡ size)
+    → is_guessed (making_all g (looked_all xs)) ≡ true → length guess ≡ size
 guess_all size env guess g [] h y f i = f i
 guess_all size env guess g (x ∷ xs) h y f i =
     guess_all size env guess (next_making g (answered_op x.op)) xs h.1 (and_right (passes_on size x.op) _ y)

@@ -40,7 +40,8 @@ order_behind t (e ∷ es) o = order_low t (e.thread + 1) es (let i = o.0 in omeg
 -- WHAT IS LEFT
 
 -- a squash that leaves a thread leaves its pending writes and those of older ones
-pub tail_left : (sq : Option ℕ) (n : ℕ) (es : List Pending) → is_kept sq n ≡ true → count_older (suc n) (entries_left sq es) ≡ count_older (suc n) es
+pub tail_left : (sq : Option ℕ) (n : ℕ) (es : List Pending)
+    → is_kept sq n ≡ true → count_older (suc n) (entries_left sq es) ≡ count_older (suc n) es
 tail_left sq n [] h = refl
 tail_left sq n (e ∷ es) h = at (is_kept sq e.thread) refl (tail_left sq n es h)
   where
@@ -54,7 +55,8 @@ tail_left sq n (e ∷ es) h = at (is_kept sq e.thread) refl (tail_left sq n es h
     at false i r = r ∙ ap (λ b. cond b (suc (count_older (suc n) es)) (count_older (suc n) es)) (sym (beyond sq h i))
 
 -- behind a younger thread nothing is left
-none_left : (t : ℕ) (from : ℕ) (es : List Pending) → t < from → AreOrdered from es → (entries_left (Some t) es ≡ []) × (count_older (suc t) es ≡ 0)
+none_left : (t : ℕ) (from : ℕ) (es : List Pending)
+    → t < from → AreOrdered from es → (entries_left (Some t) es ≡ []) × (count_older (suc t) es ≡ 0)
 none_left t from [] h o = (refl, refl)
 none_left t from (e ∷ es) h o =
     let r = none_left t (e.thread + 1) es (let i = o.0 in omega (arith, h, i)) o.1 in (

@@ -128,7 +128,8 @@ module _ (p : Pipe) (at : Location) (vs : List Var) (there : IsNamed p.mems vs a
 -- A PATH
 
 sites_kinds : (p : Pipe) (vs us : List Var) (before : List Place) (ts : List Site) → Grows p.mems vs ts us
-    → Each (KeepsLocks p) before (map place_of ts ++ closing p) → All (λ t. (l : Location) → location_of t.stmt ≡ Some l → IsNamed p.mems t.walk.vars l) ts
+    → Each (KeepsLocks p) before (map place_of ts ++ closing p)
+    → All (λ t. (l : Location) → location_of t.stmt ≡ Some l → IsNamed p.mems t.walk.vars l) ts
     → all_keep_kind (seen p.mems ts) ≡ true
 sites_kinds p vs us before [] g each named = refl
 sites_kinds p vs us before (t ∷ ts) g each named =

@@ -14,8 +14,8 @@ use Rattle.pdl_word.proofs.Bools.{or_map}
 -- BLOCKED FOR READING
 
 -- a location among them is clean
-pub right_at : (p : Pipe) (s : ℕ) (clean : ℕ → ℕ → Type 0) (ls : List Location) (env : List ℕ) (m a : ℕ) → has_location ls m a ≡ true → s ≤ commit_stage p m
-    → Right p s clean ls env → clean m (slice_index env a)
+pub right_at : (p : Pipe) (s : ℕ) (clean : ℕ → ℕ → Type 0) (ls : List Location) (env : List ℕ) (m a : ℕ)
+    → has_location ls m a ≡ true → s ≤ commit_stage p m → Right p s clean ls env → clean m (slice_index env a)
 right_at p s clean [] env m a h c r = absurd (cc h)
 right_at p s clean (l ∷ ls) env m a h c r = at (l.mem == m) refl (l.var == a) refl h (λ t. right_at p s clean ls env m a t c r.2)
   where
@@ -49,7 +49,8 @@ covers_block true c l hs f = f
 covers_block false c l hs f = f
 
 -- after one statement more what is held for writing was reserved
-pub covers_op : (c : Scan) (op : Op) (hs : List HeldLocation) → Covers c.held hs → Covers (scan_after (answered_op op) c).held (held_after op hs)
+pub covers_op : (c : Scan) (op : Op) (hs : List HeldLocation) → Covers c.held hs
+    → Covers (scan_after (answered_op op) c).held (held_after op hs)
 covers_op c (ReserveWrite n b) hs f = λ m a h. or_map ((n == m) && (b == a)) (is_held hs m a) (has_location c.held m a) (f m a) h
 covers_op c (Release n b) hs f = λ m a h. f m a (held_let_go hs n b m a h)
 covers_op c (Block n b) hs f = covers_block (has_location c.held n b) c (location n b) hs f
@@ -115,7 +116,8 @@ fewer m j a (l ∷ ls) = at ((l.mem == j) && (l.var == a)) (l.mem == m) refl (fe
     at false false e h = subst (λ b. cond b (suc (count_mem m (let_go ls j a))) (count_mem m (let_go ls j a)) ≤ count_mem m ls) (sym e) h
 
 -- at most one location of a memory is held after one statement more that uses it in order
-pub once_op : (m : ℕ) (ph : Phase) (op : Op) (hs : List HeldLocation) → use_ok m ph op ≡ true → IsOnce m ph hs → IsOnce m (next_phase m ph op) (held_after op hs)
+pub once_op : (m : ℕ) (ph : Phase) (op : Op) (hs : List HeldLocation)
+    → use_ok m ph op ≡ true → IsOnce m ph hs → IsOnce m (next_phase m ph op) (held_after op hs)
 once_op m ph (ReserveWrite j a) hs k o = at (j == m) refl k
   where
     at : (b : Bool) → (j == m) ≡ b → (not b || is_fresh ph) ≡ true → IsOnce m (cond b (Held a) ph) (record { mem = j; var = a } ∷ hs)

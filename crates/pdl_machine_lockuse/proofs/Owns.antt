@@ -38,7 +38,8 @@ contains_write m ws w e c = at ws c.0 c.1 c.2
     at (v ∷ vs) zero h f = ap (λ b. b || writes_to m vs) (eq-eqb v.mem m (ap (λ (u : Written). u.mem) f ∙ e))
     at (v ∷ vs) (suc i) h f = or_right (v.mem == m) (writes_to m vs) (at vs i (omega arith) f)
 
-any_appended : (test : Pending → Bool) (m : ℕ) (ms : List Act) (xs : List Pending) → list_any test xs ≡ true → list_any test (with_reserves m ms xs) ≡ true
+any_appended : (test : Pending → Bool) (m : ℕ) (ms : List Act) (xs : List Pending)
+    → list_any test xs ≡ true → list_any test (with_reserves m ms xs) ≡ true
 any_appended test m [] xs h = h
 any_appended test m (a ∷ ms) xs h = any_front test (with_reserves m ms xs) (new_entries m a.thread.number a.does.reserves) (any_appended test m ms xs h)
 

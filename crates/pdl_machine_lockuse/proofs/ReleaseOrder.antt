@@ -110,7 +110,8 @@ rising_looked (x ∷ xs) h = (each x.stage xs h.0, rising_looked xs h.1)
     each s (y ∷ ys) k = (k.0, each s ys k.1)
 
 -- no release behind a later stage
-none_late : (m c s : ℕ) (xs : List Stmt) → all_at (is_release m) c xs ≡ true → c < s → AllStmts (λ z. s ≤ z.stage) xs → none_of (is_release m) xs ≡ true
+none_late : (m c s : ℕ) (xs : List Stmt)
+    → all_at (is_release m) c xs ≡ true → c < s → AllStmts (λ z. s ≤ z.stage) xs → none_of (is_release m) xs ≡ true
 none_late m c s [] h low k = refl
 none_late m c s (x ∷ xs) h low k =
     at (is_release m x.op) refl (and_left _ _ h) (none_late m c s xs (and_right (not (is_release m x.op) || (x.stage == c)) _ h) low k.1)
@@ -197,7 +198,8 @@ to_come p m s (x ∷ xs) t h = at (nat_le s x.stage) refl (uses_mem m x.op) refl
     at true e false f i go = go (sym (ap₂ (λ a b. (a && b) || list_any (λ (x : Stmt). nat_le s x.stage && uses_mem m x.op) xs) e f) ∙ i)
     at false e c f i go = go (sym (ap (λ a. (a && uses_mem m x.op) || list_any (λ (x : Stmt). nat_le s x.stage && uses_mem m x.op) xs) e) ∙ i)
 
-pub uses_older : (p : Pipe) → Sound p → Strict p → (st : State) (bits : List Bool) (m : ℕ) (these : List Act) → AllActs (ReleasesOlder p st bits m) these → AllActs (UsesOlder p st bits m) these
+pub uses_older : (p : Pipe) → Sound p → Strict p → (st : State) (bits : List Bool) (m : ℕ) (these : List Act)
+    → AllActs (ReleasesOlder p st bits m) these → AllActs (UsesOlder p st bits m) these
 uses_older p sound strict st bits m [] h = tt
 uses_older p sound strict st bits m (a ∷ these) h = (
   (λ path u. h.0 (to_come p m a.stage (onpath path p.stmts) (timely p sound path strict) u)),

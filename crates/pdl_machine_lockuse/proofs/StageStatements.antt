@@ -21,7 +21,8 @@ use Rattle.pdl_machine_lockuse.specs.Careful.{passes_on}
 use Rattle.pdl_machine_lockuse.proofs.HeldLocations.{right_at, Covers, covers_op, held_does, IsOnce, released_here, once_op}
 
 -- where all of a list and one more pass, all of the list pass, and that one
-pub all_last : {X : Type 0} → (test : X → Bool) (xs : List X) (x : X) → list_all test (xs ++ x ∷ []) ≡ true → (list_all test xs ≡ true) × (test x ≡ true)
+pub all_last : {X : Type 0} → (test : X → Bool) (xs : List X) (x : X)
+    → list_all test (xs ++ x ∷ []) ≡ true → (list_all test xs ≡ true) × (test x ≡ true)
 all_last test [] x h = (refl, and_left (test x) true h)
 all_last test (y ∷ xs) x h =
     let r = all_last test xs x (and_right (test y) _ h) in

@@ -7,7 +7,8 @@ use Rattle.pdl_machine_pending.specs.declared.pending.Pending as r_pending
 use Rattle.pdl_machine_pending.specs.View.{pending_view}
 
 -- the pending writes without those of younger threads are what a squash by this thread leaves
-pub left_filtered : (thread : ℕ) (es : List r_pending.Pending) → map pending_view (filter (λ (e : r_pending.Pending). nat_le e.thread thread) es) ≡ entries_left (Some thread) (map pending_view es)
+pub left_filtered : (thread : ℕ) (es : List r_pending.Pending)
+    → map pending_view (filter (λ (e : r_pending.Pending). nat_le e.thread thread) es) ≡ entries_left (Some thread) (map pending_view es)
 left_filtered thread [] = refl
 left_filtered thread (e ∷ es) = at (nat_le e.thread thread) (left_filtered thread es)
   where

@@ -15,11 +15,13 @@ found_as : (n : ℕ) (v : Option ℕ) → IsBelow n v → IsFound n (as_latest v
 found_as n None h = tt
 found_as n (Some v) h = h
 
-found_next : (n : ℕ) (b : Bool) (v : Option ℕ) (found : Latest) → IsBelow n v → IsFound n found → IsFound n (if b then as_latest v else found)
+found_next : (n : ℕ) (b : Bool) (v : Option ℕ) (found : Latest) → IsBelow n v → IsFound n found
+    → IsFound n (if b then as_latest v else found)
 found_next n true v found h f = found_as n v h
 found_next n false v found h f = f
 
-youngest_found : (n depth thread a : ℕ) (es : List Pending) (found : Latest) → AreKept n depth es → IsFound n found → IsFound n (youngest es thread a found)
+youngest_found : (n depth thread a : ℕ) (es : List Pending) (found : Latest) → AreKept n depth es → IsFound n found
+    → IsFound n (youngest es thread a found)
 youngest_found n depth thread a [] found h f = f
 youngest_found n depth thread a (e ∷ es) found h f =
     youngest_found n depth thread a es (if nat_lt e.thread thread && (e.address == a) then as_latest e.value else found) h.2 (found_next n (nat_lt e.thread thread && (e.address == a)) e.value found h.1 f)
@@ -30,5 +32,6 @@ value_found n Coming w f h = h
 value_found n (Known v) w f h = f
 
 -- the word that a read finds is below the bound of a memory's words and pending values
-pub read_fits : (n depth thread a : ℕ) (x : Memory) → IsKept n depth x → value_or (youngest x.pending thread a Nothing) (slice_index x.words a) < n
+pub read_fits : (n depth thread a : ℕ) (x : Memory) → IsKept n depth x
+    → value_or (youngest x.pending thread a Nothing) (slice_index x.words a) < n
 read_fits n depth thread a x k = value_found n (youngest x.pending thread a Nothing) _ (youngest_found n depth thread a x.pending Nothing k.pending tt) (k.words a)

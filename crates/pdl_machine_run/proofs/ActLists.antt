@@ -16,7 +16,8 @@ nothing_awaited [] n e = ap (λ i. i == 0) e
 nothing_awaited (x ∷ xs) n e = ne_eqb n 0 (λ z. absurd (omega (arith, e, z)))
 
 -- where the thread of a stage squashes nothing, one of the others does or none
-pub squasher_on : (k : ℕ) (o : Option ℕ) (x : r_stage.Stage) (more : List Act) → squasher (act_of k o x) ≡ None → squasher (act_of k o x ++ more) ≡ squasher more
+pub squasher_on : (k : ℕ) (o : Option ℕ) (x : r_stage.Stage) (more : List Act)
+    → squasher (act_of k o x) ≡ None → squasher (act_of k o x ++ more) ≡ squasher more
 squasher_on k None x more e = refl
 squasher_on k (Some n) x more e = at x.deeds.fails e
   where
@@ -63,5 +64,7 @@ module _ (p : Pipe) (f : ℕ) where
       ∙ append-nil _
 
 -- only who moves out of a fork's stage goes into its branches
-pub entered_here : (p : Pipe) (f : ℕ) (zs : List r_stage.Stage) (x : r_stage.Stage) → f < length zs → x ≡ get_or zs f x → entered_branches p f (acts_of 0 zs) ≡ entered_branches p f (act_of f (mover_of x) x)
+pub entered_here : (p : Pipe) (f : ℕ) (zs : List r_stage.Stage) (x : r_stage.Stage)
+    → f < length zs → x ≡ get_or zs f x
+    → entered_branches p f (acts_of 0 zs) ≡ entered_branches p f (act_of f (mover_of x) x)
 entered_here p f zs x h e = entered_at p f f 0 zs x (omega arith) h ∙ ap (λ (y : r_stage.Stage). entered_branches p f (act_of f (mover_of y) y)) (sym e)

@@ -8,7 +8,8 @@ use Rattle.pdl_machine_run.specs.View.{awaited_view}
 
 -- a thread's awaited reads without those that have an answer are its unanswered ones
 pub unanswered_filtered : (p : Pipe) (st : State) (bits : List Bool) (thread : ℕ) (xs : List r_awaited.Awaited)
-    → map awaited_view (filter (λ (r : r_awaited.Awaited). is_none (answer_for p st bits thread r.mem)) xs) ≡ unanswered_reads p st bits thread (map awaited_view xs)
+    → map awaited_view (filter (λ (r : r_awaited.Awaited). is_none (answer_for p st bits thread r.mem)) xs)
+    ≡ unanswered_reads p st bits thread (map awaited_view xs)
 unanswered_filtered p st bits thread [] = refl
 unanswered_filtered p st bits thread (x ∷ xs) = at (answer_for p st bits thread x.mem) (unanswered_filtered p st bits thread xs)
   where

@@ -38,7 +38,8 @@ words_are b thread =
     fun_ext (λ m. fun_ext (λ a. ap₂ (λ (es : List Pending) w. value_or (youngest es thread a Nothing) w) (lock_listed b.memories.items m) (word_listed b.memories.items m a)))
 
 -- what the statements of a stage do
-pub carried_deeds : (p : Pipe) (b : r_beside.Beside) (xs : List Memory) (thread k : ℕ) (t : Thread) (d : Deeds) → xs ≡ b.memories.items → t.number ≡ thread → d ≡ before_stage p k t
+pub carried_deeds : (p : Pipe) (b : r_beside.Beside) (xs : List Memory) (thread k : ℕ) (t : Thread) (d : Deeds)
+    → xs ≡ b.memories.items → t.number ≡ thread → d ≡ before_stage p k t
     → deeds_after_all (word_of xs thread) (in_stage k p.stmts) d ≡ deeds p (outside b) k t
 carried_deeds p b xs thread k t d e n h =
     ap₂ (λ (read : ℕ → ℕ → ℕ) (o : Deeds). deeds_after_all read (in_stage k p.stmts) o)

@@ -18,7 +18,9 @@ use Rattle.pdl_form_types.proofs.Arguments.{args_count}
 
 -- VALUES
 
-set_below : (ws env : List ℕ) (x v : ℕ) → Fit ws env → v < 2 ^ slice_index ws x → x < length env → (y : ℕ) (b : Bool) → (y == x) ≡ b → slice_index (slice_set env x v) y < 2 ^ slice_index ws y
+set_below : (ws env : List ℕ) (x v : ℕ) → Fit ws env
+    → v < 2 ^ slice_index ws x → x < length env → (y : ℕ) (b : Bool) → (y == x) ≡ b
+    → slice_index (slice_set env x v) y < 2 ^ slice_index ws y
 set_below ws env x v f h there y true e =
     let same : y ≡ x = eqb-true y x e in
     subst (λ i. slice_index (slice_set env x v) i < 2 ^ slice_index ws i) (sym same) (subst (λ u. u < 2 ^ slice_index ws x) (sym (get_or-set_same env x v 0 there)) h)
@@ -47,11 +49,13 @@ module _ (ws env : List ℕ) (wide : AreWidths ws) (f : Fit ws env) where
 
 -- DEEDS
 
-reserved_more : (p : Pipe) (rs : List Reserved) (r : Reserved) → AreReserved p rs → r.address < (mem_at p r.mem).depth → AreReserved p (rs ++ r ∷ [])
+reserved_more : (p : Pipe) (rs : List Reserved) (r : Reserved) → AreReserved p rs
+    → r.address < (mem_at p r.mem).depth → AreReserved p (rs ++ r ∷ [])
 reserved_more p [] r h k = (k, tt)
 reserved_more p (x ∷ rs) r h k = (h.0, reserved_more p rs r h.1 k)
 
-written_more : (p : Pipe) (ws : List Written) (w : Written) → AreWritten p ws → w.value < 2 ^ (mem_at p w.mem).width → AreWritten p (ws ++ w ∷ [])
+written_more : (p : Pipe) (ws : List Written) (w : Written) → AreWritten p ws
+    → w.value < 2 ^ (mem_at p w.mem).width → AreWritten p (ws ++ w ∷ [])
 written_more p [] w h k = (k, tt)
 written_more p (x ∷ ws) w h k = (h.0, written_more p ws w h.1 k)
 

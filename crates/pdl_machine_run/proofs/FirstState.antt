@@ -30,7 +30,8 @@ none_stands : (x : r_stage.Stage) (o : Option ℕ) → o ≡ None → thread_if 
 none_stands x o e = ap (λ (n : Option ℕ). thread_if n x.slot) e
 
 -- the stages as a machine begins, with one more in which no thread stands
-pub seats_push : (p : Pipe) (xs : List r_stage.Stage) (x : r_stage.Stage) (n : ℕ) → seats xs ≡ seats_first p n → 1 ≤ n → x.slot.number ≡ None → seats (xs ++ x ∷ []) ≡ seats_first p (n + 1)
+pub seats_push : (p : Pipe) (xs : List r_stage.Stage) (x : r_stage.Stage) (n : ℕ)
+    → seats xs ≡ seats_first p n → 1 ≤ n → x.slot.number ≡ None → seats (xs ++ x ∷ []) ≡ seats_first p (n + 1)
 seats_push p xs x n e some f =
     seats_both xs x ∙ ap₂ (λ (os : List (Option Thread)) (o : Option Thread). os ++ o ∷ []) e (none_stands x x.slot.number f) ∙ one_more n some
   where
@@ -71,8 +72,10 @@ last [] x (suc k) h = absurd (omega arith)
 last (y ∷ xs) x zero h = absurd (omega arith)
 last (y ∷ xs) x (suc k) h = last xs x k (omega arith)
 
-pub first_push : (p : Pipe) (image : List (List ℕ)) (xs : List Memory) (x : Memory) (m : ℕ) → length xs ≡ m → ((k : ℕ) → k < m → IsFirst (mem_at p k).lock (slice_index_or image k []) (memory_at xs k))
-    → IsFirst (mem_at p m).lock (slice_index_or image m []) x → (k : ℕ) → k < m + 1 → IsFirst (mem_at p k).lock (slice_index_or image k []) (memory_at (xs ++ x ∷ []) k)
+pub first_push : (p : Pipe) (image : List (List ℕ)) (xs : List Memory) (x : Memory) (m : ℕ)
+    → length xs ≡ m → ((k : ℕ) → k < m → IsFirst (mem_at p k).lock (slice_index_or image k []) (memory_at xs k))
+    → IsFirst (mem_at p m).lock (slice_index_or image m []) x → (k : ℕ) → k < m + 1
+    → IsFirst (mem_at p k).lock (slice_index_or image k []) (memory_at (xs ++ x ∷ []) k)
 first_push p image xs x m n each new k less = by_order (split k m less)
   where
     split : (k m : ℕ) → k < m + 1 → (k < m) ⊎ (k ≡ m)
@@ -90,12 +93,14 @@ first_push p image xs x m n each new k less = by_order (split k m less)
         subst (IsFirst (mem_at p k).lock (slice_index_or image k [])) (sym (last xs x k (omega arith)))
         (subst (λ i. IsFirst (mem_at p i).lock (slice_index_or image i []) x) (sym e) new)
 
-pub lock_at : (p : Pipe) (mems : List r_mem.Mem) (m : ℕ) (x : r_mem.Mem) → mems_view mems ≡ p.mems → m < length mems → x ≡ get_or mems m x → lock_view x.lock ≡ (mem_at p m).lock
+pub lock_at : (p : Pipe) (mems : List r_mem.Mem) (m : ℕ) (x : r_mem.Mem)
+    → mems_view mems ≡ p.mems → m < length mems → x ≡ get_or mems m x → lock_view x.lock ≡ (mem_at p m).lock
 lock_at p mems m x seen h is = ap (λ (d : Mem). d.lock) (seen_at mem_view mems m x plain_mem h is ∙ ap (λ (ds : List Mem). get_or ds m plain_mem) seen)
 
 -- THE FIRST STATE
 
-first_stages_are : (p : Pipe) (ss : List Stage) → seats_first p (length ss) ≡ for_stages (λ q. if q == 0 then born_thread p 1 (Some p.start) else None) 0 ss
+first_stages_are : (p : Pipe) (ss : List Stage)
+    → seats_first p (length ss) ≡ for_stages (λ q. if q == 0 then born_thread p 1 (Some p.start) else None) 0 ss
 first_stages_are p [] = refl
 first_stages_are p (s ∷ ss) = ap (λ (ts : List (Option Thread)). born_thread p 1 (Some p.start) ∷ ts) (others 1 ss (omega arith))
   where
@@ -113,13 +118,17 @@ same_mems : {X : Type 0} → (x : X) (k : ℕ) (ds : List Mem) → replicate (le
 same_mems {X} x k [] = refl
 same_mems {X} x k (d ∷ ds) = ap (λ (xs : List X). x ∷ xs) (same_mems x (suc k) ds)
 
-first_words : (k : ℕ) (image : List (List ℕ)) (xs : List Memory) → length image ≡ length xs → ((i : ℕ) → i < length xs → (memory_at xs i).words ≡ slice_index_or image i []) → map (λ (x : Memory). x.words) xs ≡ image
+first_words : (k : ℕ) (image : List (List ℕ)) (xs : List Memory)
+    → length image ≡ length xs → ((i : ℕ) → i < length xs → (memory_at xs i).words ≡ slice_index_or image i [])
+    → map (λ (x : Memory). x.words) xs ≡ image
 first_words k [] [] n h = refl
 first_words k [] (x ∷ xs) n h = absurd (omega arith)
 first_words k (ws ∷ image) [] n h = absurd (omega arith)
 first_words k (ws ∷ image) (x ∷ xs) n h = ap₂ (λ (w : List ℕ) (all : List (List ℕ)). w ∷ all) (h 0 (omega arith)) (first_words (suc k) image xs (omega arith) (λ i less. h (suc i) (omega arith)))
 
-first_locks : (k : ℕ) (ds : List Mem) (xs : List Memory) → length xs ≡ length ds → ((i : ℕ) → i < length xs → (memory_at xs i).pending ≡ []) → map (λ (x : Memory). x.pending) xs ≡ for_mems (λ m. []) k ds
+first_locks : (k : ℕ) (ds : List Mem) (xs : List Memory)
+    → length xs ≡ length ds → ((i : ℕ) → i < length xs → (memory_at xs i).pending ≡ [])
+    → map (λ (x : Memory). x.pending) xs ≡ for_mems (λ m. []) k ds
 first_locks k [] [] n h = refl
 first_locks k [] (x ∷ xs) n h = absurd (omega arith)
 first_locks k (d ∷ ds) [] n h = absurd (omega arith)

@@ -25,7 +25,9 @@ use Rattle.pdl_machine_run.proofs.Movers.{acts_are, movers_are}
 use Rattle.pdl_machine_run.proofs.Memories.{locks_after, words_after, commits_after, arrays_listed, Within}
 
 -- states with equal parts are equal
-same_state : (a b : State) → a.stages ≡ b.stages → a.arrays ≡ b.arrays → a.locks ≡ b.locks → a.forks ≡ b.forks → a.requests ≡ b.requests → a.next ≡ b.next → a ≡ b
+same_state : (a b : State)
+    → a.stages ≡ b.stages → a.arrays ≡ b.arrays → a.locks ≡ b.locks → a.forks ≡ b.forks → a.requests ≡ b.requests
+    → a.next ≡ b.next → a ≡ b
 same_state a b s r l f q n =
     ap (λ x. record { stages = x; arrays = a.arrays; locks = a.locks; forks = a.forks; requests = a.requests; next = a.next }) s
     ∙ ap (λ x. record { stages = b.stages; arrays = x; locks = a.locks; forks = a.forks; requests = a.requests; next = a.next }) r
@@ -36,7 +38,9 @@ same_state a b s r l f q n =
 
 -- LISTS BY STAGES AND MEMORIES
 
-seats_listed : (g : ℕ → Option Thread) (k : ℕ) (zs : List r_stage.Stage) (ss : List Stage) → length zs ≡ length ss → ((i : ℕ) (d : r_stage.Stage) → i < length zs → thread_in (get_or zs i d).slot ≡ g (k + i)) → seats zs ≡ for_stages g k ss
+seats_listed : (g : ℕ → Option Thread) (k : ℕ) (zs : List r_stage.Stage) (ss : List Stage)
+    → length zs ≡ length ss → ((i : ℕ) (d : r_stage.Stage) → i < length zs → thread_in (get_or zs i d).slot ≡ g (k + i))
+    → seats zs ≡ for_stages g k ss
 seats_listed g k [] [] n h = refl
 seats_listed g k [] (s ∷ ss) n h = absurd (omega arith)
 seats_listed g k (z ∷ zs) [] n h = absurd (omega arith)
@@ -45,7 +49,8 @@ seats_listed g k (z ∷ zs) (s ∷ ss) n h =
     ap₂ (λ (o : Option Thread) (os : List (Option Thread)). o ∷ os) (h 0 z (omega arith) ∙ ap g here)
     (seats_listed g (suc k) zs ss (omega arith) (λ i d less. let same : k + suc i ≡ suc k + i = omega arith in h (suc i) d (omega (arith, less)) ∙ ap g same))
 
-flags_listed : (g : ℕ → Bool) (k : ℕ) (bs : List Bool) (ss : List Stage) → length bs ≡ length ss → ((i : ℕ) → i < length bs → g (k + i) ≡ slice_index_or bs i false) → bs ≡ for_stages g k ss
+flags_listed : (g : ℕ → Bool) (k : ℕ) (bs : List Bool) (ss : List Stage)
+    → length bs ≡ length ss → ((i : ℕ) → i < length bs → g (k + i) ≡ slice_index_or bs i false) → bs ≡ for_stages g k ss
 flags_listed g k [] [] n h = refl
 flags_listed g k [] (s ∷ ss) n h = absurd (omega arith)
 flags_listed g k (b ∷ bs) [] n h = absurd (omega arith)
@@ -138,7 +143,8 @@ held_by s (a ∷ acts) = ap₂ (λ (b c : Bool). b || c) (at (a.stage == s)) (he
     at true = refl
     at false = refl
 
-moving_by : (s : ℕ) (acts : List Act) → list_any (λ (a : Act). a.stage == s) (movers acts) ≡ list_any (λ (a : Act). (a.stage == s) && a.moves) acts
+moving_by : (s : ℕ) (acts : List Act)
+    → list_any (λ (a : Act). a.stage == s) (movers acts) ≡ list_any (λ (a : Act). (a.stage == s) && a.moves) acts
 moving_by s [] = refl
 moving_by s (a ∷ acts) = at a.moves (a.stage == s) (moving_by s acts)
   where
@@ -155,13 +161,15 @@ moving_by s (a ∷ acts) = at a.moves (a.stage == s) (moving_by s acts)
         go true = h
         go false = h
 
-flag_mapped : (view : r_stage.Stage → Bool) (zs : List r_stage.Stage) (i : ℕ) (d : r_stage.Stage) → i < length zs → slice_index_or (map view zs) i false ≡ view (get_or zs i d)
+flag_mapped : (view : r_stage.Stage → Bool) (zs : List r_stage.Stage) (i : ℕ) (d : r_stage.Stage)
+    → i < length zs → slice_index_or (map view zs) i false ≡ view (get_or zs i d)
 flag_mapped view [] i d less = absurd (omega arith)
 flag_mapped view (z ∷ zs) zero d less = refl
 flag_mapped view (z ∷ zs) (suc i) d less = flag_mapped view zs i d (omega arith)
 
 -- who is decided to move stands there
-decided_at : (p : Pipe) (b : r_beside.Beside) (bits : List Bool) (k i : ℕ) (zs : List r_stage.Stage) (d : r_stage.Stage) → AreDecided p b bits k zs → i < length zs
+decided_at : (p : Pipe) (b : r_beside.Beside) (bits : List Bool) (k i : ℕ) (zs : List r_stage.Stage) (d : r_stage.Stage)
+    → AreDecided p b bits k zs → i < length zs
     → flag (λ a. a.moves) (k + i) (get_or zs i d).slot.number (get_or zs i d) ≡ (get_or zs i d).moves
 decided_at p b bits k i [] d h less = absurd (omega arith)
 decided_at p b bits k zero (z ∷ zs) d h less = at z.slot.number h.0

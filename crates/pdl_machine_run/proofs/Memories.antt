@@ -122,5 +122,6 @@ module _ (st : State) (ms : List Act) where
       k.1 i a
 
 -- arrays whose words are those of these memories are their arrays
-pub arrays_listed : (arrays : Arrays) (xs : List Memory) → ((m a : ℕ) → arrays m a ≡ slice_index (memory_at xs m).words a) → arrays ≡ arrays_in xs
+pub arrays_listed : (arrays : Arrays) (xs : List Memory)
+    → ((m a : ℕ) → arrays m a ≡ slice_index (memory_at xs m).words a) → arrays ≡ arrays_in xs
 arrays_listed arrays xs h = fun_ext (λ m. fun_ext (λ a. h m a ∙ sym (word_listed xs m a)))

@@ -7,7 +7,8 @@ use Rattle.pdl_semantics.specs.Cycle.{new_entries, with_reserves}
 use Rattle.pdl_machine_run.specs.declared.stage.Stage as r_stage
 use Rattle.pdl_machine_run.specs.Acts.{mover_of, act_of, acts_of}
 
-appended_both : (m : ℕ) (as' bs : List Act) (list : List Pending) → with_reserves m (as' ++ bs) list ≡ with_reserves m as' (with_reserves m bs list)
+appended_both : (m : ℕ) (as' bs : List Act) (list : List Pending)
+    → with_reserves m (as' ++ bs) list ≡ with_reserves m as' (with_reserves m bs list)
 appended_both m [] bs list = refl
 appended_both m (a ∷ as') bs list = ap (λ (es : List Pending). es ++ new_entries m a.thread.number a.does.reserves) (appended_both m as' bs list)
 
@@ -19,12 +20,14 @@ appended_longer m (a ∷ as') list =
     omega arith
 
 -- the number of its stage makes no difference
-appended_anywhere : (m j k : ℕ) (o : Option ℕ) (x : r_stage.Stage) (list : List Pending) → with_reserves m (act_of j o x) list ≡ with_reserves m (act_of k o x) list
+appended_anywhere : (m j k : ℕ) (o : Option ℕ) (x : r_stage.Stage) (list : List Pending)
+    → with_reserves m (act_of j o x) list ≡ with_reserves m (act_of k o x) list
 appended_anywhere m j k None x list = refl
 appended_anywhere m j k (Some n) x list = refl
 
 -- the stages from j on make no more entries than all
-appended_part : (m k j : ℕ) (xs : List r_stage.Stage) (list : List Pending) → length (with_reserves m (acts_of (k + j) (drop j xs)) list) ≤ length (with_reserves m (acts_of k xs) list)
+appended_part : (m k j : ℕ) (xs : List r_stage.Stage) (list : List Pending)
+    → length (with_reserves m (acts_of (k + j) (drop j xs)) list) ≤ length (with_reserves m (acts_of k xs) list)
 appended_part m k zero xs list =
     let same : k + 0 ≡ k = omega arith in
     let equal = ap (λ i. length (with_reserves m (acts_of i xs) list)) same in
@@ -39,7 +42,8 @@ appended_part m k (suc j) (x ∷ xs) list =
     omega arith
 
 -- the stage before them has room too
-pub room_here : (m i j : ℕ) (xs : List r_stage.Stage) (x d : r_stage.Stage) (list : List Pending) (most : ℕ) → j < length xs → x ≡ get_or xs j d → length (with_reserves m (acts_of 0 xs) list) ≤ most
+pub room_here : (m i j : ℕ) (xs : List r_stage.Stage) (x d : r_stage.Stage) (list : List Pending) (most : ℕ)
+    → j < length xs → x ≡ get_or xs j d → length (with_reserves m (acts_of 0 xs) list) ≤ most
     → length (with_reserves m (act_of i (mover_of x) x) (with_reserves m (acts_of (j + 1) (drop (j + 1) xs)) list)) ≤ most
 room_here m i j xs x d list most there is room =
     let part = appended_part m 0 j xs list in

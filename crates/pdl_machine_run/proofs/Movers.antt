@@ -14,7 +14,9 @@ use Rattle.pdl_machine_run.specs.Acts.{act_here, all_of, mover_of, act_of, acts_
 -- A STAGE MORE
 
 -- whether a thread moves doesn't hang on what was decided before
-goes_same : (p : Pipe) (b : r_beside.Beside) (bits : List Bool) (k : ℕ) (n : Option ℕ) (x : r_stage.Stage) (m : Bool) (later : List r_stage.Stage) → goes p b bits k n x later ≡ goes p b bits k n (record x { moves = m }) later
+goes_same : (p : Pipe) (b : r_beside.Beside) (bits : List Bool) (k : ℕ) (n : Option ℕ) (x : r_stage.Stage) (m : Bool)
+    (later : List r_stage.Stage)
+    → goes p b bits k n x later ≡ goes p b bits k n (record x { moves = m }) later
 goes_same p b bits k None x m later = refl
 goes_same p b bits k (Some n) x m later = refl
 
@@ -49,7 +51,8 @@ reorder true true true false e f g h = refl
 reorder true true false d e f g h = refl
 reorder true false c d e f g h = refl
 
-may_move_is : (p : Pipe) (st : State) (bits : List Bool) (later : List Act) (k : ℕ) (t : Thread) (d : Deeds) → (passes_beside p st k t d && passes_later p st bits later k d) ≡ may_move p st bits later k t d
+may_move_is : (p : Pipe) (st : State) (bits : List Bool) (later : List Act) (k : ℕ) (t : Thread) (d : Deeds)
+    → (passes_beside p st k t d && passes_later p st bits later k d) ≡ may_move p st bits later k t d
 may_move_is p st bits later k t d =
     reorder (no_failure later) (blocks_ready p st t.number d) (have_room p st d) (is_empty t.awaits) (ports_free p st bits later d) (barrier_clear p later d) (can_enter (next_stage p k d) later) (merges_well p st k (next_stage p k d))
 

@@ -7,7 +7,9 @@ use Rattle.pdl_machine_run.specs.declared.place.Place as r_place
 use Rattle.pdl_machine_run.specs.View.{place_view}
 use Rattle.pdl_machine_run.specs.Places.{place_index}
 
-place_there : (ls : List HeldLocation) (m a : ℕ) → place_index ls m a < length ls → (true ≡ machine.is_held ls m a) × (take (place_index ls m a) ls ++ drop (place_index ls m a + 1) ls ≡ machine.let_go ls m a)
+place_there : (ls : List HeldLocation) (m a : ℕ)
+    → place_index ls m a < length ls
+    → (true ≡ machine.is_held ls m a) × (take (place_index ls m a) ls ++ drop (place_index ls m a + 1) ls ≡ machine.let_go ls m a)
 place_there [] m a h = absurd (omega arith)
 place_there (l ∷ ls) m a h = here ((l.mem == m) && (l.var == a)) h (λ less. place_there ls m a less)
   where
@@ -20,7 +22,8 @@ place_there (l ∷ ls) m a h = here ((l.mem == m) && (l.var == a)) h (λ less. p
         let up : suc (place_index ls m a) + 1 ≡ suc (place_index ls m a + 1) = omega arith in
         (one.0, ap (λ k. l ∷ (take (place_index ls m a) ls ++ drop k (l ∷ ls))) up ∙ ap (λ (xs : List HeldLocation). l ∷ xs) one.1)
 
-place_nowhere : (ls : List HeldLocation) (m a : ℕ) → length ls ≤ place_index ls m a → (false ≡ machine.is_held ls m a) × (ls ≡ machine.let_go ls m a)
+place_nowhere : (ls : List HeldLocation) (m a : ℕ)
+    → length ls ≤ place_index ls m a → (false ≡ machine.is_held ls m a) × (ls ≡ machine.let_go ls m a)
 place_nowhere [] m a h = (refl, refl)
 place_nowhere (l ∷ ls) m a h = here ((l.mem == m) && (l.var == a)) h (λ less. place_nowhere ls m a less)
   where

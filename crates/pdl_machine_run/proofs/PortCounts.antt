@@ -30,7 +30,8 @@ request_counted false o = refl
 request_counted true None = refl
 request_counted true (Some a) = refl
 
-memories_counted : (f : ℕ → Option PortWrite) (g : ℕ → Option ℕ) (k : ℕ) (ms : List Mem) → length (all_commit_values ms (for_mems f k ms)) + length (all_request_values ms (for_mems g k ms)) ≡ all_memory_count ms
+memories_counted : (f : ℕ → Option PortWrite) (g : ℕ → Option ℕ) (k : ℕ) (ms : List Mem)
+    → length (all_commit_values ms (for_mems f k ms)) + length (all_request_values ms (for_mems g k ms)) ≡ all_memory_count ms
 memories_counted f g k [] = refl
 memories_counted f g k (m ∷ ms) =
     let rest = memories_counted f g (suc k) ms in

@@ -9,8 +9,10 @@ use Rattle.pdl_machine_run.specs.Requests.{address_by, requests_shown}
 use Rattle.pdl_machine_run.proofs.ActLists.{address_is}
 
 -- the values that are shown for requests, with those of one memory more
-pub requests_more : (mems : List r_mem.Mem) (m : ℕ) (x : r_mem.Mem) (ms : List Act) (now was all : List ℕ) → m < length mems → x ≡ get_or mems m x
-    → now ≡ was ++ (if x.delayed then request_values (address_by m ms None) else []) → was ++ requests_shown m ms (mems_view (drop m mems)) ≡ all
+pub requests_more : (mems : List r_mem.Mem) (m : ℕ) (x : r_mem.Mem) (ms : List Act) (now was all : List ℕ)
+    → m < length mems → x ≡ get_or mems m x
+    → now ≡ was ++ (if x.delayed then request_values (address_by m ms None) else [])
+    → was ++ requests_shown m ms (mems_view (drop m mems)) ≡ all
     → now ++ requests_shown (m + 1) ms (mems_view (drop (m + 1) mems)) ≡ all
 requests_more mems m x ms now was all less is e h =
     let up : m + 1 ≡ suc m = omega arith in

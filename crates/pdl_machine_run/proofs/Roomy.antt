@@ -51,7 +51,8 @@ module _ (f : Form) (run : IsRunnable f) (st : State) (bits : List Bool) (r : Is
 
 -- MEMORIES AFTER A CYCLE
 
-after_at : (ms : List Act) (sq : Option ℕ) (k m : ℕ) (xs : List Memory) → m < length xs → memory_at (memories_after k ms sq xs) m ≡ memory_after (k + m) ms sq (memory_at xs m)
+after_at : (ms : List Act) (sq : Option ℕ) (k m : ℕ) (xs : List Memory)
+    → m < length xs → memory_at (memories_after k ms sq xs) m ≡ memory_after (k + m) ms sq (memory_at xs m)
 after_at ms sq k m [] less = absurd (omega arith)
 after_at ms sq k zero (x ∷ xs) less = let same : k ≡ k + 0 = omega arith in ap (λ i. memory_after i ms sq x) same
 after_at ms sq k (suc m) (x ∷ xs) less =

@@ -10,7 +10,8 @@ use Rattle.pdl_form_types.specs.Stmts.{IsTypedOp, AreTypedStmts}
 use Rattle.pdl_machine_run.proofs.DeedWidths.{typed_at}
 
 -- an element, as it is seen
-pub seen_at : {X Y : Type 0} (view : X → Y) (xs : List X) (i : ℕ) (x : X) (d : Y) → i < length xs → x ≡ get_or xs i x → view x ≡ get_or (map view xs) i d
+pub seen_at : {X Y : Type 0} (view : X → Y) (xs : List X) (i : ℕ) (x : X) (d : Y)
+    → i < length xs → x ≡ get_or xs i x → view x ≡ get_or (map view xs) i d
 seen_at view xs i x d h e =
     let mapped : length (map view xs) ≡ length xs = length-map _ _ in
     let within : i < length (map view xs) = omega arith in

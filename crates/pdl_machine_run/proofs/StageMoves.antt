@@ -56,7 +56,8 @@ module _ (xs : List r_stage.Stage) (k q : ℕ) (hk : k < length xs) (hq : q < le
       at (inr n) (inr m) = let long = length-swap xs k q in subst (IsStage f) (sym (swapped_other i d n m)) (h i d (omega (arith, long, less)))
 
 -- lists of which one element changes, but not as it is seen
-pub map_set : {X Y : Type 0} (view : X → Y) (xs : List X) (k : ℕ) (y d : X) → k < length xs → view y ≡ view (get_or xs k d) → map view (set xs k y) ≡ map view xs
+pub map_set : {X Y : Type 0} (view : X → Y) (xs : List X) (k : ℕ) (y d : X)
+    → k < length xs → view y ≡ view (get_or xs k d) → map view (set xs k y) ≡ map view xs
 map_set view [] k y d h e = refl
 map_set view (x ∷ xs) zero y d h e = ap (λ z. z ∷ map view xs) e
 map_set view (x ∷ xs) (suc k) y d h e = ap (λ zs. view x ∷ zs) (map_set view xs k y d (omega arith) e)

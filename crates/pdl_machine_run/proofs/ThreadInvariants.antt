@@ -20,7 +20,9 @@ use Rattle.pdl_machine_run.proofs.ActedThreads.{HasActed, AllActed, acted_at}
 
 -- NEW THREADS
 
-args_first : (ws args : List ℕ) (n k : ℕ) → ((x : ℕ) → slice_index args x < 2 ^ slice_index (take n ws) x) → length args ≡ length (take n ws) → (x : ℕ) → slice_index (args ++ replicate k 0) x < 2 ^ slice_index ws x
+args_first : (ws args : List ℕ) (n k : ℕ)
+    → ((x : ℕ) → slice_index args x < 2 ^ slice_index (take n ws) x) → length args ≡ length (take n ws) → (x : ℕ)
+    → slice_index (args ++ replicate k 0) x < 2 ^ slice_index ws x
 args_first ws [] n k h e x = subst (λ v. v < 2 ^ slice_index ws x) (sym (zeros k x)) (pow_pos (slice_index ws x))
   where
     zeros : (k x : ℕ) → slice_index (replicate k 0) x ≡ 0

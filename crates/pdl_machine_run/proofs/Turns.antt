@@ -39,7 +39,8 @@ pub record Turn (f : Form) (b : r_beside.Beside) (bits : List Bool) (next : ℕ)
   pub reached : IsReached f.pipe (state_of (seats ys) b next)
   pub wide : AreStages f zs
 
-same_carried : (f : Form) (b : r_beside.Beside) (bits : List Bool) (k : ℕ) (o : Option Thread) (x z : r_stage.Stage) → z.slot ≡ x.slot → z.deeds ≡ x.deeds → IsCarried f b bits k o x → IsCarried f b bits k o z
+same_carried : (f : Form) (b : r_beside.Beside) (bits : List Bool) (k : ℕ) (o : Option Thread) (x z : r_stage.Stage)
+    → z.slot ≡ x.slot → z.deeds ≡ x.deeds → IsCarried f b bits k o x → IsCarried f b bits k o z
 same_carried f b bits k None x z e g h = ap (λ (s : r_slot.Slot). s.number) e ∙ h
 same_carried f b bits k (Some t) x z e g h =
     let does : deeds_view z.deeds ≡ deeds_view x.deeds = ap (λ (r : r_deeds.Deeds). deeds_view r) g in
@@ -50,13 +51,18 @@ same_stage f x z e g h =
     subst (λ (s : r_slot.Slot). IsStage f (record { slot = s; deeds = z.deeds; moves = z.moves })) (sym e)
     (subst (λ (r : r_deeds.Deeds). IsStage f (record { slot = x.slot; deeds = r; moves = z.moves })) (sym g) (record { slot = h.slot; count = h.count; deeds = h.deeds }))
 
-same_at : {Y : Type 0} (view : r_stage.Stage → Y) (xs zs : List r_stage.Stage) → map view zs ≡ map view xs → (i : ℕ) (d : r_stage.Stage) → view (get_or zs i d) ≡ view (get_or xs i d)
+same_at : {Y : Type 0} (view : r_stage.Stage → Y) (xs zs : List r_stage.Stage)
+    → map view zs ≡ map view xs → (i : ℕ) (d : r_stage.Stage) → view (get_or zs i d) ≡ view (get_or xs i d)
 same_at {Y} view xs zs e i d = sym (get_or-map view zs i d) ∙ ap (λ (l : List Y). get_or l i (view d)) e ∙ get_or-map view xs i d
 
 -- a turn of ready stages: their threads are carried on, and it is decided who moves
-pub turn_of : (f : Form) → IsRunnable f → (b : r_beside.Beside) (bits : List Bool) (next : ℕ) (ys xs zs : List r_stage.Stage) → AreReady f ys → IsBeside f.pipe b → IsReached f.pipe (state_of (seats ys) b next)
-    → length xs ≡ length ys → length zs ≡ length xs → ((i : ℕ) (d : r_stage.Stage) → i < length ys → IsCarried f b bits i (thread_in (get_or ys i d).slot) (get_or xs i d)) → AreStages f xs
-    → map (λ (x : r_stage.Stage). x.slot) zs ≡ map (λ (x : r_stage.Stage). x.slot) xs → map (λ (x : r_stage.Stage). x.deeds) zs ≡ map (λ (x : r_stage.Stage). x.deeds) xs → AreDecided f.pipe b bits 0 zs → Turn f b bits next ys zs
+pub turn_of : (f : Form) → IsRunnable f
+    → (b : r_beside.Beside) (bits : List Bool) (next : ℕ) (ys xs zs : List r_stage.Stage) → AreReady f ys
+    → IsBeside f.pipe b → IsReached f.pipe (state_of (seats ys) b next) → length xs ≡ length ys → length zs ≡ length xs
+    → ((i : ℕ) (d : r_stage.Stage) → i < length ys → IsCarried f b bits i (thread_in (get_or ys i d).slot) (get_or xs i d))
+    → AreStages f xs → map (λ (x : r_stage.Stage). x.slot) zs ≡ map (λ (x : r_stage.Stage). x.slot) xs
+    → map (λ (x : r_stage.Stage). x.deeds) zs ≡ map (λ (x : r_stage.Stage). x.deeds) xs → AreDecided f.pipe b bits 0 zs
+    → Turn f b bits next ys zs
 turn_of f run b bits next ys xs zs ready beside reached n m carried wide slots deeds decided =
     record {
       run = run;
@@ -70,7 +76,8 @@ turn_of f run b bits next ys xs zs ready beside reached n m carried wide slots d
       wide = λ k d less. same_stage f (get_or xs k d) (get_or zs k d) (same_at (λ (x : r_stage.Stage). x.slot) xs zs slots k d) (same_at (λ (x : r_stage.Stage). x.deeds) xs zs deeds k d) (wide k d (omega (arith, less, m)));
     }
 
-requests_count : (p : Pipe) (bits : List Bool) (ms : List Act) (sq : Option ℕ) (m : ℕ) (rs : List Request) → length (requests_after p bits ms sq m rs) ≡ length rs
+requests_count : (p : Pipe) (bits : List Bool) (ms : List Act) (sq : Option ℕ) (m : ℕ) (rs : List Request)
+    → length (requests_after p bits ms sq m rs) ≡ length rs
 requests_count p bits ms sq m [] = refl
 requests_count p bits ms sq m (r ∷ rs) = ap suc (requests_count p bits ms sq (suc m) rs)
 

@@ -24,13 +24,15 @@ by_values f g k (x ∷ xs) rest shown s h =
     ap₂ (λ c cs. c ∷ cs) (ap₂ (λ v m. letter (v == 1) (m == 1)) holds moves ∙ ap₂ letter (bit_one (f k)) (bit_one (g k))) later
 
 -- those of all stages are the letters of the machine's cycle
-pub letters_shown : (p : Pipe) (st : State) (these : List Act) → letters_from (whole_values p (ports p st these)) 0 (length p.stages) ≡ letters (ports p st these).valid (ports p st these).moves
+pub letters_shown : (p : Pipe) (st : State) (these : List Act)
+    → letters_from (whole_values p (ports p st these)) 0 (length p.stages) ≡ letters (ports p st these).valid (ports p st these).moves
 letters_shown p st these =
     by_values (λ s. list_any (λ (a : Act). a.stage == s) these) (λ s. list_any (λ (a : Act). a.stage == s) (movers these)) 0 p.stages _ (whole_values p (ports p st these)) 0
     (λ i. let e : 2 * 0 + i ≡ i = omega arith in ap (slice_index (whole_values p (ports p st these))) e)
 
 -- each stage has two values
-two_each : (f g : ℕ → Bool) (k : ℕ) (xs : List Stage) (rest : List ℕ) → 2 * length xs ≤ length (stage_values (for_stages f k xs) (for_stages g k xs) ++ rest)
+two_each : (f g : ℕ → Bool) (k : ℕ) (xs : List Stage) (rest : List ℕ)
+    → 2 * length xs ≤ length (stage_values (for_stages f k xs) (for_stages g k xs) ++ rest)
 two_each f g k [] rest = omega arith
 two_each f g k (x ∷ xs) rest = let h = two_each f g (suc k) xs rest in omega (arith, h)
 
@@ -40,5 +42,7 @@ has_stages p st these =
     two_each (λ s. list_any (λ (a : Act). a.stage == s) these) (λ s. list_any (λ (a : Act). a.stage == s) (movers these)) 0 p.stages _
 
 -- one stage more
-pub letters_step : (shown : List ℕ) (stage stages : ℕ) → stage < stages → letters_from shown stage (stages - stage) ≡ letter_at shown stage ∷ letters_from shown (stage + 1) (stages - (stage + 1))
+pub letters_step : (shown : List ℕ) (stage stages : ℕ)
+    → stage < stages
+    → letters_from shown stage (stages - stage) ≡ letter_at shown stage ∷ letters_from shown (stage + 1) (stages - (stage + 1))
 letters_step shown stage stages l = let more : stages - stage ≡ suc (stages - (stage + 1)) = omega arith in rw more refl

@@ -19,7 +19,8 @@ use Rattle.pdl_machine_view.specs.Lines.{letters_from, cycle_line, lines_from}
 use Rattle.pdl_machine_view.proofs.Letters.{letters_shown, has_stages}
 
 -- a line, as all lines have it
-line_is : (number : ℕ) (ls rest : List ℕ) → decimal number ++ codes " " ++ ls ++ codes "\n" ++ rest ≡ ((decimal number ++ codes " ") ++ (ls ++ codes "\n")) ++ rest
+line_is : (number : ℕ) (ls rest : List ℕ)
+    → decimal number ++ codes " " ++ ls ++ codes "\n" ++ rest ≡ ((decimal number ++ codes " ") ++ (ls ++ codes "\n")) ++ rest
 line_is number ls rest = ap (λ l. l ++ rest) (append_assoc (decimal number ++ codes " ") ls (codes "\n"))
 
 -- the line of the next turn, and those after it
@@ -29,8 +30,10 @@ view_next : (p : Pipe) (st : State) (number : ℕ) (bits : List Bool) (schedule 
 view_next p st number bits schedule = refl
 
 -- the replies of the next cycle, and those after it
-replies_next : (f : ℕ → List Bool) (delays : List ℕ) (done cycles : ℕ) → done < cycles
-    → map f (replies_from delays (done + 1) (cycles - done)) ≡ f (bits_in delays (done + 1)) ∷ map f (replies_from delays (done + 1 + 1) (cycles - (done + 1)))
+replies_next : (f : ℕ → List Bool) (delays : List ℕ) (done cycles : ℕ)
+    → done < cycles
+    → map f (replies_from delays (done + 1) (cycles - done))
+    ≡ f (bits_in delays (done + 1)) ∷ map f (replies_from delays (done + 1 + 1) (cycles - (done + 1)))
 replies_next f delays done cycles l = let more : cycles - done ≡ suc (cycles - (done + 1)) = omega arith in rw more refl
 
 -- the lines that are left of a view of so many cycles, where some are done
@@ -81,7 +84,8 @@ pub same_stages : (new old : Running) → new.pipe ≡ old.pipe → length (flat
 same_stages new old pipe = ap (λ q. length (flat (pipe_view q)).stages) pipe
 
 -- the lines of a machine that begins are the view of its pipe
-pub begun : (m : Running) (q : r_pipe.Pipe) (image : List (List ℕ)) (schedule : List ℕ) → m.pipe ≡ q → state_of m ≡ stated.first (flat (pipe_view q)) (arrays_of image)
+pub begun : (m : Running) (q : r_pipe.Pipe) (image : List (List ℕ)) (schedule : List ℕ)
+    → m.pipe ≡ q → state_of m ≡ stated.first (flat (pipe_view q)) (arrays_of image)
     → lines_from 1 (flat_of m) (state_of m) schedule ≡ view_text (pipe_view q) image schedule
 begun m q image schedule pipe state =
     ap (λ (s : State). lines_from 1 (flat_of m) s schedule) state

@@ -43,7 +43,8 @@ bin_bounded s Shl a b p q e = record { low = p.low; high = p.high; fits = shl_be
 bin_bounded s Shr a b p q e = record { low = p.low; high = p.high; fits = shr_below a.width (a.value s) (b.value s) p.fits }
 
 -- a cell over bounded nets is bounded
-pub cell_bounded : (c : Circuit) (s : State) (There : Net → Type 0) (at : Net → Signal) → IsWell c → Suits c s → ((x : Net) → There x → IsBounded s (at x)) → (g : Cell) → FitsIn c There at g → IsBounded s (cell_signal c at g)
+pub cell_bounded : (c : Circuit) (s : State) (There : Net → Type 0) (at : Net → Signal) → IsWell c → Suits c s
+    → ((x : Net) → There x → IsBounded s (at x)) → (g : Cell) → FitsIn c There at g → IsBounded s (cell_signal c at g)
 unfolding const_value not_value mux_value slice_value cat_value rep_value read_value
 cell_bounded c s There at w t h (Const n v) f = record { low = f.0; high = f.1; fits = f.2 }
 cell_bounded c s There at w t h (Not a) f = let p = h a f in record { low = p.low; high = p.high; fits = complement_below (at a).width ((at a).value s) }
@@ -65,12 +66,16 @@ cell_bounded c s There at w t h (Read m a) f =
     record { low = k.low; high = k.high; fits = t.words m f.0 ((at a).value s) }
 
 -- each input has a width
-input_step : (d : Dir) (w : ℕ) (ws : List ℕ) → IsWidth w → ((i : ℕ) → i < length ws → IsWidth (get_or ws i 0)) → (i : ℕ) → i < length (cons_option (input_with d w) ws) → IsWidth (get_or (cons_option (input_with d w) ws) i 0)
+input_step : (d : Dir) (w : ℕ) (ws : List ℕ) → IsWidth w
+    → ((i : ℕ) → i < length ws → IsWidth (get_or ws i 0)) → (i : ℕ) → i < length (cons_option (input_with d w) ws)
+    → IsWidth (get_or (cons_option (input_with d w) ws) i 0)
 input_step In w ws h f zero l = h
 input_step In w ws h f (suc i) l = f i (omega arith)
 input_step (Out x) w ws h f i l = f i l
 
-inputs_well : (c : Circuit) (ps : List Port) → ((k : ℕ) (p : Port) → slice_get ps k ≡ Some p → IsWellPort c p) → (i : ℕ) → i < length (filter_map port_input ps) → IsWidth (get_or (filter_map port_input ps) i 0)
+inputs_well : (c : Circuit) (ps : List Port)
+    → ((k : ℕ) (p : Port) → slice_get ps k ≡ Some p → IsWellPort c p) → (i : ℕ) → i < length (filter_map port_input ps)
+    → IsWidth (get_or (filter_map port_input ps) i 0)
 inputs_well c [] w i h = absurd (omega arith)
 inputs_well c (p ∷ ps) w i h =
     let g = w zero p refl in
@@ -81,7 +86,8 @@ pub input_well : (c : Circuit) → IsWell c → (i : ℕ) → i < length (inputs
 input_well c w i h = inputs_well c c.ports w.ports i h
 
 -- each net among the first n cells is bounded
-pub bounded_at : (c : Circuit) (s : State) → IsWell c → Suits c s → (n : ℕ) → n ≤ length c.cells → (x : Net) → IsThereAt c n x → IsBounded s (signal c x)
+pub bounded_at : (c : Circuit) (s : State) → IsWell c → Suits c s → (n : ℕ)
+    → n ≤ length c.cells → (x : Net) → IsThereAt c n x → IsBounded s (signal c x)
 unfolding signal input_value reg_value
 bounded_at c s w t n l (Input i) h = let b = input_well c w i h in record { low = b.low; high = b.high; fits = t.inputs i h }
 bounded_at c s w t n l (RegNet r) h = let b = w.regs r h in record { low = b.low; high = b.high; fits = t.regs r h }

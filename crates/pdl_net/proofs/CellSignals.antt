@@ -30,7 +30,8 @@ record IsFixed (c : Circuit) (all : List Signal) (n : ℕ) (g : Cell) : Type 0 w
   value : get_or all n no_signal ≡ cell_signal c (look c all) g
   fits : FitsIn c (IsThereAt c n) (look c all) g
 
-fixed : (c : Circuit) (gs : List Cell) (done : List Signal) → AllFit c gs done → (k : ℕ) → k < length gs → IsFixed c (signals_from c gs done) (length done + k) (get_or gs k no_cell)
+fixed : (c : Circuit) (gs : List Cell) (done : List Signal) → AllFit c gs done → (k : ℕ)
+    → k < length gs → IsFixed c (signals_from c gs done) (length done + k) (get_or gs k no_cell)
 fixed c [] done f k h = absurd (omega arith)
 fixed c (g ∷ gs) done f zero h =
     let s = cell_signal c (look c done) g in

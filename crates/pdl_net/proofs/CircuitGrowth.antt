@@ -18,7 +18,9 @@ use Rattle.pdl_net.specs.Growth.{Extends, ExtendsPorts, ExtendsArrays, Grows, Ke
 use Rattle.pdl_net.proofs.Signals.{cell_signal_same, look_grows, there_grows, signals_from_grows, length_signals}
 
 -- a cell fits where its nets are there and mean the same
-pub fits_same : (old new : Circuit) (There There' : Net → Type 0) (at at' : Net → Signal) → Grows old new → ((x : Net) → There x → There' x) → ((x : Net) → There x → at' x ≡ at x) → (g : Cell) → FitsIn old There at g → FitsIn new There' at' g
+pub fits_same : (old new : Circuit) (There There' : Net → Type 0) (at at' : Net → Signal) → Grows old new
+    → ((x : Net) → There x → There' x) → ((x : Net) → There x → at' x ≡ at x) → (g : Cell) → FitsIn old There at g
+    → FitsIn new There' at' g
 fits_same old new There There' at at' w i h (Const v n) f = f
 fits_same old new There There' at at' w i h (Not a) f = i a f
 fits_same old new There There' at at' w i h (Bin op a b) f = (i a f.0, i b f.1, ap (λ s. s.width) (h a f.0) ∙ f.2 ∙ sym (ap (λ s. s.width) (h b f.1)))
@@ -38,12 +40,14 @@ all_fit_grown old new w (g ∷ gs) done f =
       subst P (sym e) (all_fit_grown old new w gs (done ++ cell_signal old (look old done) g ∷ []) f.1),
     )
 
-all_fit_append : (c : Circuit) (xs ys : List Cell) (done : List Signal) → AllFit c xs done → AllFit c ys (signals_from c xs done) → AllFit c (xs ++ ys) done
+all_fit_append : (c : Circuit) (xs ys : List Cell) (done : List Signal) → AllFit c xs done
+    → AllFit c ys (signals_from c xs done) → AllFit c (xs ++ ys) done
 all_fit_append c [] ys done f g = g
 all_fit_append c (x ∷ xs) ys done f g = (f.0, all_fit_append c xs ys (done ++ cell_signal c (look c done) x ∷ []) f.1 g)
 
 -- one more cell fits
-pub all_fit_added : (old new : Circuit) (g : Cell) → Grows old new → AllFit old old.cells [] → Fits old g → new.cells ≡ old.cells ++ g ∷ [] → AllFit new new.cells []
+pub all_fit_added : (old new : Circuit) (g : Cell) → Grows old new → AllFit old old.cells [] → Fits old g
+    → new.cells ≡ old.cells ++ g ∷ [] → AllFit new new.cells []
 unfolding signal signals IsThere
 all_fit_added old new g w f fit e =
     let d = signals_from old old.cells [] in
@@ -95,7 +99,9 @@ array_stays old new k a w = record {
 }
 
 -- the well formed write ports of an array mean the same where the nets are kept
-pub writes_stay : (old new : Circuit) → KeepsNets old new → (a : Array) (ps : List WritePort) → ((k : ℕ) (p : WritePort) → slice_get ps k ≡ Some p → IsWellWrite old a p) → map (write_signal new) ps ≡ map (write_signal old) ps
+pub writes_stay : (old new : Circuit) → KeepsNets old new → (a : Array) (ps : List WritePort)
+    → ((k : ℕ) (p : WritePort) → slice_get ps k ≡ Some p → IsWellWrite old a p)
+    → map (write_signal new) ps ≡ map (write_signal old) ps
 writes_stay old new k a [] w = refl
 writes_stay old new k a (p ∷ ps) w =
     let f = w zero p refl in
@@ -107,18 +113,21 @@ pub record KeepsParts (old new : Circuit) : Type 0 where
   pub arrays : (m : ℕ) → m < length old.arrays → (m < length new.arrays) × (array_at new m ≡ array_at old m)
 
 -- then also what they take next
-nexts_kept : (old new : Circuit) → KeepsNets old new → IsWell old → KeepsParts old new → (r : ℕ) → HasReg old r → next_signal new r ≡ next_signal old r
+nexts_kept : (old new : Circuit) → KeepsNets old new → IsWell old → KeepsParts old new → (r : ℕ) → HasReg old r
+    → next_signal new r ≡ next_signal old r
 unfolding HasReg next_signal
 nexts_kept old new k w p r h = ap (λ g. signal new g.next) (p.regs r h).1 ∙ (k.nets (reg_at old r).next ((w.regs r h).next)).same
 
-writes_kept : (old new : Circuit) → KeepsNets old new → IsWell old → KeepsParts old new → (m : ℕ) → HasArray old m → write_signals new m ≡ write_signals old m
+writes_kept : (old new : Circuit) → KeepsNets old new → IsWell old → KeepsParts old new → (m : ℕ) → HasArray old m
+    → write_signals new m ≡ write_signals old m
 unfolding HasArray write_signals
 writes_kept old new k w p m h =
     ap (λ g. map (write_signal new) g.writes) (p.arrays m h).1
     ∙ writes_stay old new k (array_at old m) (array_at old m).writes ((w.arrays m h).writes)
 
 -- a circuit that keeps nets, parts, ports and shapes of a well formed one extends it
-pub extends_kept : (old new : Circuit) → KeepsNets old new → IsWell old → KeepsParts old new → new.ports ≡ old.ports → shapes_of new ≡ shapes_of old → Extends old new
+pub extends_kept : (old new : Circuit) → KeepsNets old new → IsWell old → KeepsParts old new
+    → new.ports ≡ old.ports → shapes_of new ≡ shapes_of old → Extends old new
 unfolding HasReg HasArray reg_width reg_reset array_width array_depth
 extends_kept old new k w p ports shapes = record {
   there = λ x h. (k.nets x h).there;
@@ -136,7 +145,8 @@ extends_kept old new k w p ports shapes = record {
 }
 
 -- a circuit that keeps nets and parts of a well formed one, with these ports added, extends it with them
-pub extends_ports_kept : (old new : Circuit) (added : List Port) → KeepsNets old new → IsWell old → KeepsParts old new → new.ports ≡ old.ports ++ added → shapes_of new ≡ shapes_of old → ExtendsPorts old new added
+pub extends_ports_kept : (old new : Circuit) (added : List Port) → KeepsNets old new → IsWell old → KeepsParts old new
+    → new.ports ≡ old.ports ++ added → shapes_of new ≡ shapes_of old → ExtendsPorts old new added
 unfolding HasReg HasArray reg_width reg_reset array_width array_depth
 extends_ports_kept old new added k w p ports shapes = record {
   there = λ x h. (k.nets x h).there;
@@ -154,7 +164,8 @@ extends_ports_kept old new added k w p ports shapes = record {
 }
 
 -- a circuit that keeps nets and parts of a well formed one, with these arrays added, extends it with them
-pub extends_arrays_kept : (old new : Circuit) (added : List Shape) → KeepsNets old new → IsWell old → KeepsParts old new → new.ports ≡ old.ports → shapes_of new ≡ shapes_of old ++ added → ExtendsArrays old new added
+pub extends_arrays_kept : (old new : Circuit) (added : List Shape) → KeepsNets old new → IsWell old → KeepsParts old new
+    → new.ports ≡ old.ports → shapes_of new ≡ shapes_of old ++ added → ExtendsArrays old new added
 unfolding HasReg HasArray reg_width reg_reset array_width array_depth
 extends_arrays_kept old new added k w p ports shapes = record {
   there = λ x h. (k.nets x h).there;

@@ -34,7 +34,9 @@ stages_fit : (x : List ℕ) (w : ℕ) (ks : List ℕ) → Each (λ k. Each (Show
 stages_fit x w [] = tt
 stages_fit x w (k ∷ ks) = ((λ i e. let l = ap (λ xs. get_or xs 0 0) e in absurd (omega (arith, l)), (λ i e. let l = ap (λ xs. get_or xs 0 0) e in absurd (omega (arith, l)), tt)), stages_fit x w ks)
 
-commits_fit : (d : PortMem) (ls : List PortMem) → ((l : PortMem) → Contains ls l → d.name ≡ l.name → d ≡ l) → Each (λ l. Each (Shows (codes "cd_" ++ d.name) d.width) (commit_ports l)) ls
+commits_fit : (d : PortMem) (ls : List PortMem)
+    → ((l : PortMem) → Contains ls l → d.name ≡ l.name → d ≡ l)
+    → Each (λ l. Each (Shows (codes "cd_" ++ d.name) d.width) (commit_ports l)) ls
 commits_fit d [] f = tt
 commits_fit d (l ∷ ls) f = (
   (λ i e. let l = ap (λ xs. get_or xs 1 0) e in absurd (omega (arith, l)), (λ i e. let l = ap (λ xs. get_or xs 1 0) e in absurd (omega (arith, l)), (λ i e. ap (λ (m : PortMem). m.width) (sym (f l (0, omega arith, refl) (sym (prefix_of l.name d.name e)))), tt))),
@@ -45,7 +47,8 @@ requests_fit : (x : List ℕ) (w : ℕ) (ds : List PortMem) → Each (λ d. Each
 requests_fit x w [] = tt
 requests_fit x w (d ∷ ds) = ((λ i e. let l = ap (λ xs. get_or xs 0 0) e in absurd (omega (arith, l)), (λ i e. let l = ap (λ xs. get_or xs 0 0) e in absurd (omega (arith, l)), tt)), requests_fit x w ds)
 
-heads_fit : (n : Netlist) (p : IsPipe n) (d : PortMem) → Contains p.delayed d → Each (λ q. Shows (codes "cd_" ++ d.name) d.width (head_of q)) n.ports
+heads_fit : (n : Netlist) (p : IsPipe n) (d : PortMem) → Contains p.delayed d
+    → Each (λ q. Shows (codes "cd_" ++ d.name) d.width (head_of q)) n.ports
 heads_fit n p d c =
     let P = Shows (codes "cd_" ++ d.name) d.width in
     let replies = flat_map reply_ports p.delayed in
@@ -96,7 +99,9 @@ module _ (c : Circuit) (s : State) (w : IsWell c) (t : Suits c s) (name : List �
       (elim (bytes_eq o.name name) as P [ true ↦ (λ g. subst (λ x. x < 2 ^ bits) (sym here) (f.0 (g refl))) | false ↦ (λ g. after) ]) ((bytes_eq-Decides o.name name).0)
 
 -- the value that a delayed memory commits, in each state that suits
-pub committed_fits : (n : Netlist) (w : IsWellFormed n) (d : PortMem) → Contains w.pipe.delayed d → (s : State) → Suits (circuit_of n) s → port_value (circuit_of n) (output_values (circuit_of n) s) (codes "cd_" ++ d.name) < 2 ^ d.width
+pub committed_fits : (n : Netlist) (w : IsWellFormed n) (d : PortMem) → Contains w.pipe.delayed d → (s : State)
+    → Suits (circuit_of n) s
+    → port_value (circuit_of n) (output_values (circuit_of n) s) (codes "cd_" ++ d.name) < 2 ^ d.width
 unfolding output_values
 committed_fits n w d c s t =
     let k = circuit_of n in

@@ -24,7 +24,8 @@ pub write_equal : (x y : WritePort) → Decides (write.ghosts.eq x y) (x ≡ y)
 write_equal x y = search (rules, net_equal)
 
 -- three tests that decide what a fact says decide the fact
-three_equal : {P Q R S : Type 0} (x y z : Bool) → (P × (Q × R) → S) → (S → P × (Q × R)) → Decides x P → Decides y Q → Decides z R → Decides (x && (y && z)) S
+three_equal : {P Q R S : Type 0} (x y z : Bool) → (P × (Q × R) → S) → (S → P × (Q × R)) → Decides x P → Decides y Q
+    → Decides z R → Decides (x && (y && z)) S
 three_equal x y z to from p q r =
     Decides-like (x && (y && z)) to from (Decides-and x (y && z) p (Decides-and y z q r))
 

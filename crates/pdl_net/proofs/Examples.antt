@@ -99,5 +99,7 @@ unfolding output_values next_regs next_arrays signal signals input_value reg_val
 answers_come = refl
 
 -- the ports of a pipe of two stages, with a locked memory and a delayed one
-ports_stand : map (λ h. h.name) (pipe_ports 2 (record { name = codes "d"; width = 8; bits = 3 } ∷ []) (record { name = codes "m"; width = 4; bits = 2 } ∷ [])) ≡ codes "p_d" ∷ codes "pd_d" ∷ (codes "v_" ++ decimal 0) ∷ (codes "g_" ++ decimal 0) ∷ (codes "v_" ++ decimal 1) ∷ (codes "g_" ++ decimal 1) ∷ codes "c_m" ∷ codes "ca_m" ∷ codes "cd_m" ∷ codes "q_d" ∷ codes "qa_d" ∷ codes "ended" ∷ codes "squash" ∷ []
+ports_stand : map (λ h. h.name)
+    (pipe_ports 2 (record { name = codes "d"; width = 8; bits = 3 } ∷ []) (record { name = codes "m"; width = 4; bits = 2 } ∷ []))
+    ≡ codes "p_d" ∷ codes "pd_d" ∷ (codes "v_" ++ decimal 0) ∷ (codes "g_" ++ decimal 0) ∷ (codes "v_" ++ decimal 1) ∷ (codes "g_" ++ decimal 1) ∷ codes "c_m" ∷ codes "ca_m" ∷ codes "cd_m" ∷ codes "q_d" ∷ codes "qa_d" ∷ codes "ended" ∷ codes "squash" ∷ []
 ports_stand = refl

@@ -13,7 +13,9 @@ use Rattle.pdl_net.proofs.Bounds.{bounded}
 use Rattle.pdl_net.specs.Holds.{Holds}
 
 -- all arrays after their writes
-pub arrays_at : (c : Circuit) (s : State) (ms : List Array) (k j : ℕ) → j < length ms → get_or (arrays_from c s ms k) j [] ≡ after_writes c s (get_or ms j no_array).writes (get_or s.arrays (k + j) [])
+pub arrays_at : (c : Circuit) (s : State) (ms : List Array) (k j : ℕ)
+    → j < length ms
+    → get_or (arrays_from c s ms k) j [] ≡ after_writes c s (get_or ms j no_array).writes (get_or s.arrays (k + j) [])
 arrays_at c s [] k j h = absurd (omega arith)
 arrays_at c s (m ∷ ms) k zero h =
     let e : k ≡ k + 0 = omega arith in
@@ -27,7 +29,8 @@ arrays_length c s [] k = refl
 arrays_length c s (m ∷ ms) k = let e = arrays_length c s ms (suc k) in omega (arith, e)
 
 -- where there are no inputs
-suits_of : (c : Circuit) (regs : List ℕ) (arrays : List (List ℕ)) → Holds c regs arrays → inputs_of c ≡ [] → Suits c (record { inputs = []; regs = regs; arrays = arrays })
+suits_of : (c : Circuit) (regs : List ℕ) (arrays : List (List ℕ)) → Holds c regs arrays
+    → inputs_of c ≡ [] → Suits c (record { inputs = []; regs = regs; arrays = arrays })
 suits_of c regs arrays h e = record {
   input_count = sym (ap length e);
   inputs = λ i l. let n = ap length e in absurd (omega (arith, n));
@@ -53,7 +56,8 @@ written_length : (t : Bool) (xs : List ℕ) (i v : ℕ) → length (if t then se
 written_length true xs i v = length-set xs i v
 written_length false xs i v = refl
 
-written_below : (t : Bool) (xs : List ℕ) (i v n : ℕ) → v < n → ((a : ℕ) → get_or xs a 0 < n) → (a : ℕ) → get_or (if t then set xs i v else xs) a 0 < n
+written_below : (t : Bool) (xs : List ℕ) (i v n : ℕ)
+    → v < n → ((a : ℕ) → get_or xs a 0 < n) → (a : ℕ) → get_or (if t then set xs i v else xs) a 0 < n
 written_below true xs i v n h f a = set_below xs i v n h f a
 written_below false xs i v n h f a = f a
 
@@ -61,7 +65,9 @@ length-after_writes : (c : Circuit) (s : State) (ps : List WritePort) (xs : List
 length-after_writes c s [] xs = refl
 length-after_writes c s (p ∷ ps) xs = length-after_writes c s ps _ ∙ written_length (net_value c s p.enable == 1) xs (net_value c s p.addr) (net_value c s p.value)
 
-after_writes_below : (c : Circuit) (s : State) (m : Array) → IsWell c → Suits c s → (ps : List WritePort) → ((k : ℕ) (p : WritePort) → slice_get ps k ≡ Some p → IsWellWrite c m p) → (xs : List ℕ) → ((a : ℕ) → get_or xs a 0 < 2 ^ m.width) → (a : ℕ) → get_or (after_writes c s ps xs) a 0 < 2 ^ m.width
+after_writes_below : (c : Circuit) (s : State) (m : Array) → IsWell c → Suits c s → (ps : List WritePort)
+    → ((k : ℕ) (p : WritePort) → slice_get ps k ≡ Some p → IsWellWrite c m p) → (xs : List ℕ)
+    → ((a : ℕ) → get_or xs a 0 < 2 ^ m.width) → (a : ℕ) → get_or (after_writes c s ps xs) a 0 < 2 ^ m.width
 after_writes_below c s m w t [] f xs h a = h a
 after_writes_below c s m w t (p ∷ ps) f xs h a =
     let g = f zero p refl in
@@ -69,7 +75,9 @@ after_writes_below c s m w t (p ∷ ps) f xs h a =
     let P : ℕ → Type 0 = λ n. net_value c s p.value < 2 ^ n in
     after_writes_below c s m w t ps (λ k q i. f (suc k) q i) _ (written_below (net_value c s p.enable == 1) xs (net_value c s p.addr) (net_value c s p.value) (2 ^ m.width) (subst P g.width b.fits) h) a
 
-array_after : (c : Circuit) (s : State) (m : ℕ) → m < length c.arrays → get_or (next_arrays c s) m [] ≡ after_writes c s (array_at c m).writes (get_or s.arrays m [])
+array_after : (c : Circuit) (s : State) (m : ℕ)
+    → m < length c.arrays
+    → get_or (next_arrays c s) m [] ≡ after_writes c s (array_at c m).writes (get_or s.arrays m [])
 unfolding next_arrays
 array_after c s m h =
     let e : 0 + m ≡ m = omega arith in

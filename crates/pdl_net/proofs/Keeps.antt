@@ -121,7 +121,8 @@ but_extends o a b x = record {
 }
 
 -- two extensions in turn, each with arrays, are one with the arrays of both
-pub arrays_trans : (a b c : Circuit) (front back : List Shape) → ExtendsArrays a b front → ExtendsArrays b c back → ExtendsArrays a c (front ++ back)
+pub arrays_trans : (a b c : Circuit) (front back : List Shape) → ExtendsArrays a b front → ExtendsArrays b c back
+    → ExtendsArrays a c (front ++ back)
 arrays_trans a b c front back x y = record {
   there = λ n h. y.there n (x.there n h);
   kept = λ n h. y.kept n (x.there n h) ∙ x.kept n h;

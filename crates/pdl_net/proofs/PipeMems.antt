@@ -8,12 +8,14 @@ use Rattle.pdl_net.specs.Run.{delayed_mems}
 use Rattle.pdl_net.specs.Pipe.{PortMem, IsPipe, comb_info, delayed_info, mems_of}
 
 -- without delayed memories there is none among the ports
-pub none_delayed : (delayed locked : List PortMem) (arrays : List Array) → filter (λ m. m.delayed) (mems_of delayed locked arrays) ≡ [] → delayed ≡ []
+pub none_delayed : (delayed locked : List PortMem) (arrays : List Array)
+    → filter (λ m. m.delayed) (mems_of delayed locked arrays) ≡ [] → delayed ≡ []
 none_delayed [] locked arrays e = refl
 none_delayed (d ∷ ds) locked arrays e = let n = ap length e in absurd (omega (arith, n))
 
 -- no memory of an array is delayed
-none_of_arrays : (locked : List PortMem) (arrays : List Array) → filter (λ m. m.delayed) (map (λ a. comb_info a (find (λ m. bytes_eq m.name a.name) locked)) arrays) ≡ []
+none_of_arrays : (locked : List PortMem) (arrays : List Array)
+    → filter (λ m. m.delayed) (map (λ a. comb_info a (find (λ m. bytes_eq m.name a.name) locked)) arrays) ≡ []
 none_of_arrays locked [] = refl
 none_of_arrays locked (a ∷ arrays) =
     let rest = map (λ b. comb_info b (find (λ m. bytes_eq m.name b.name) locked)) arrays in
@@ -21,7 +23,8 @@ none_of_arrays locked (a ∷ arrays) =
     let later = none_of_arrays locked arrays in
     elim (find (λ m. bytes_eq m.name a.name) locked) as P [ None ↦ later | Some m ↦ later ]
 
-delayed_first : (delayed locked : List PortMem) (arrays : List Array) → filter (λ m. m.delayed) (mems_of delayed locked arrays) ≡ map delayed_info delayed
+delayed_first : (delayed locked : List PortMem) (arrays : List Array)
+    → filter (λ m. m.delayed) (mems_of delayed locked arrays) ≡ map delayed_info delayed
 delayed_first [] locked arrays = none_of_arrays locked arrays
 delayed_first (d ∷ ds) locked arrays = ap (λ l. delayed_info d ∷ l) (delayed_first ds locked arrays)
 
@@ -47,7 +50,8 @@ told_name a None = refl
 told_name a (Some m) = refl
 
 -- the names of these memories are those of the arrays
-pub told_names : (locked : List PortMem) (xs : List Array) → map (λ (m : MemInfo). m.name) (map (told locked) xs) ≡ map (λ (a : Array). a.name) xs
+pub told_names : (locked : List PortMem) (xs : List Array)
+    → map (λ (m : MemInfo). m.name) (map (told locked) xs) ≡ map (λ (a : Array). a.name) xs
 told_names locked [] = refl
 told_names locked (a ∷ xs) =
     ap (λ z. z ∷ map (λ (m : MemInfo). m.name) (map (told locked) xs)) (told_name a (find (λ m. bytes_eq m.name a.name) locked))

@@ -15,12 +15,14 @@ use Rattle.pdl_word.specs.Words.{bit, mux}
 use Rattle.pdl_word.proofs.Laws.{mux_bit}
 
 -- the signals of cells after others
-signals_from_append : (c : Circuit) (xs ys : List Cell) (done : List Signal) → signals_from c (xs ++ ys) done ≡ signals_from c ys (signals_from c xs done)
+signals_from_append : (c : Circuit) (xs ys : List Cell) (done : List Signal)
+    → signals_from c (xs ++ ys) done ≡ signals_from c ys (signals_from c xs done)
 signals_from_append c [] ys done = refl
 signals_from_append c (x ∷ xs) ys done = signals_from_append c xs ys (done ++ cell_signal c (look c done) x ∷ [])
 
 -- what is done stays in front
-pub signals_from_front : (c : Circuit) (xs : List Cell) (done : List Signal) → (more : List Signal) × (signals_from c xs done ≡ done ++ more) × (length more ≡ length xs)
+pub signals_from_front : (c : Circuit) (xs : List Cell) (done : List Signal)
+    → (more : List Signal) × (signals_from c xs done ≡ done ++ more) × (length more ≡ length xs)
 signals_from_front c [] done = ([], sym (append-nil done), refl)
 signals_from_front c (x ∷ xs) done =
     let f = cell_signal c (look c done) x in
@@ -41,7 +43,8 @@ look_front c done more (RegNet r) h = refl
 look_front c done more (CellNet k) h = get_or_append_left done more no_signal k h
 
 -- in a circuit that has more
-pub look_grows : (old new : Circuit) → Grows old new → (done : List Signal) (x : Net) → IsThereAt old (length done) x → look new done x ≡ look old done x
+pub look_grows : (old new : Circuit) → Grows old new → (done : List Signal) (x : Net) → IsThereAt old (length done) x
+    → look new done x ≡ look old done x
 look_grows old new g done (Input i) h = ap (λ w. input_signal w i) (g.inputs i h).1
 look_grows old new g done (RegNet r) h = ap (λ w. reg_signal w r) (g.regs r h).1
 look_grows old new g done (CellNet k) h = refl
@@ -53,7 +56,9 @@ there_grows old new g m n le (RegNet r) h = (g.regs r h).0
 there_grows old new g m n le (CellNet k) h = omega arith
 
 -- a cell means the same where its nets do
-pub cell_signal_same : (old new : Circuit) (There : Net → Type 0) (at at' : Net → Signal) → Grows old new → ((x : Net) → There x → at' x ≡ at x) → (g : Cell) → FitsIn old There at g → cell_signal new at' g ≡ cell_signal old at g
+pub cell_signal_same : (old new : Circuit) (There : Net → Type 0) (at at' : Net → Signal) → Grows old new
+    → ((x : Net) → There x → at' x ≡ at x) → (g : Cell) → FitsIn old There at g
+    → cell_signal new at' g ≡ cell_signal old at g
 cell_signal_same old new There at at' w h (Const v n) f = refl
 cell_signal_same old new There at at' w h (Not a) f = ap not_signal (h a f)
 cell_signal_same old new There at at' w h (Bin op a b) f = cc (h a f.0, h b f.1)
@@ -64,14 +69,16 @@ cell_signal_same old new There at at' w h (Rep k a) f = ap (rep_signal k) (h a f
 cell_signal_same old new There at at' w h (Read m a) f = cc (h a f.1, (w.arrays m f.0).1)
 
 -- cells that fit have the same signals in a circuit that has grown
-pub signals_from_grows : (old new : Circuit) → Grows old new → (gs : List Cell) (done : List Signal) → AllFit old gs done → signals_from new gs done ≡ signals_from old gs done
+pub signals_from_grows : (old new : Circuit) → Grows old new → (gs : List Cell) (done : List Signal)
+    → AllFit old gs done → signals_from new gs done ≡ signals_from old gs done
 signals_from_grows old new w [] done f = refl
 signals_from_grows old new w (g ∷ gs) done f =
     let e = cell_signal_same old new (IsThereAt old (length done)) (look old done) (look new done) w (look_grows old new w done) g f.0 in
     ap (λ s. signals_from new gs (done ++ s ∷ [])) e ∙ signals_from_grows old new w gs (done ++ cell_signal old (look old done) g ∷ []) f.1
 
 -- the cells of the new circuit begin with those of the old
-signals_grow : (old new : Circuit) → Grows old new → AllFit old old.cells [] → (more : List Signal) × (signals new ≡ signals old ++ more) × (length more ≡ length new.cells - length old.cells)
+signals_grow : (old new : Circuit) → Grows old new → AllFit old old.cells []
+    → (more : List Signal) × (signals new ≡ signals old ++ more) × (length more ≡ length new.cells - length old.cells)
 unfolding signals
 signals_grow old new w f =
     let r = signals_from_front new w.more (signals_from new old.cells []) in
@@ -79,7 +86,8 @@ signals_grow old new w f =
     let l : length new.cells ≡ length old.cells + length w.more = ap length w.cells ∙ length-append old.cells w.more in
     (r.0, e ∙ r.1 ∙ ap (λ s. s ++ r.0) (signals_from_grows old new w old.cells [] f), omega (arith, r.2, l))
 
-kept_in : (old new : Circuit) (s s' : List Signal) → Grows old new → (more : List Signal) → s' ≡ s ++ more → (x : Net) → IsThereAt old (length s) x → look new s' x ≡ look old s x
+kept_in : (old new : Circuit) (s s' : List Signal) → Grows old new → (more : List Signal)
+    → s' ≡ s ++ more → (x : Net) → IsThereAt old (length s) x → look new s' x ≡ look old s x
 kept_in old new s s' w more e x h =
     ap (λ l. look new l x) e ∙ look_front new s more x (there_grows old new w (length s) (length s) (omega arith) x h) ∙ look_grows old new w s x h
 
@@ -100,7 +108,8 @@ keeps_nets_grown old new w f =
     }
 
 -- the law of one more cell
-pub signal_added : (old new : Circuit) (g : Cell) → Grows old new → AllFit old old.cells [] → Fits old g → new.cells ≡ old.cells ++ g ∷ [] → signal new (CellNet (length old.cells)) ≡ cell_signal old (signal old) g
+pub signal_added : (old new : Circuit) (g : Cell) → Grows old new → AllFit old old.cells [] → Fits old g
+    → new.cells ≡ old.cells ++ g ∷ [] → signal new (CellNet (length old.cells)) ≡ cell_signal old (signal old) g
 unfolding signal signals IsThere
 signal_added old new g w f fit e =
     let d = signals_from old old.cells [] in

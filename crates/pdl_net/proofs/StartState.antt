@@ -21,17 +21,21 @@ use Rattle.pdl_net.proofs.PipeMems.{none_delayed, delayed_told}
 use Rattle.pdl_net.specs.Holds.{Holds, ImageFits}
 
 -- the memory that an array and the locked memories tell has the array's width and at most its depth
-record IsHeld (a : Array) (m : MemInfo) : Type 0 where
+pub record IsHeld (a : Array) (m : MemInfo) : Type 0 where
   width : a.width ≡ m.width
   depth : m.depth ≤ a.depth
 
-held_in : (a : Array) (m : PortMem) → a.width ≡ m.width → (a.depth ≡ 2 ^ m.bits) ⊎ (a.depth ≡ 2 * 2 ^ m.bits) → IsHeld a (comb_info a (Some m))
+held_in : (a : Array) (m : PortMem)
+    → a.width ≡ m.width → (a.depth ≡ 2 ^ m.bits) ⊎ (a.depth ≡ 2 * 2 ^ m.bits) → IsHeld a (comb_info a (Some m))
 held_in a m w d = record {
   width = w;
   depth = ⊎_elim (λ (e : a.depth ≡ 2 ^ m.bits). omega (arith, e)) (λ (e : a.depth ≡ 2 * 2 ^ m.bits). omega (arith, e)) d;
 }
 
-pub held_found : (a : Array) (ls : List PortMem) → All (λ m. m.name ≡ a.name → a.width ≡ m.width) ls → All (λ m. m.name ≡ a.name → (a.depth ≡ 2 ^ m.bits) ⊎ (a.depth ≡ 2 * 2 ^ m.bits)) ls → IsHeld a (comb_info a (find (λ m. bytes_eq m.name a.name) ls))
+pub held_found : (a : Array) (ls : List PortMem)
+    → All (λ m. m.name ≡ a.name → a.width ≡ m.width) ls
+    → All (λ m. m.name ≡ a.name → (a.depth ≡ 2 ^ m.bits) ⊎ (a.depth ≡ 2 * 2 ^ m.bits)) ls
+    → IsHeld a (comb_info a (find (λ m. bytes_eq m.name a.name) ls))
 held_found a [] w d = record { width = refl; depth = omega arith }
 held_found a (l ∷ ls) w d =
     let rest = held_found a ls (λ k x h. w (suc k) x (omega arith)) (λ k x h. d (suc k) x (omega arith)) in
@@ -40,7 +44,9 @@ held_found a (l ∷ ls) w d =
     (elim (bytes_eq l.name a.name) as P [ true ↦ (λ f. held_in a l (w zero l (omega arith) (f refl)) (d zero l (omega arith) (f refl))) | false ↦ (λ f. rest) ]) same
 
 -- the memories of arrays stand after the delayed ones, and an array holds its own
-mem_held : (n : Netlist) (p : IsPipe n) → (length n.mems ≡ length p.delayed + length n.arrays) × ((m : ℕ) → m < length n.arrays → IsHeld (array_at (circuit_of n) m) (get_or n.mems (length p.delayed + m) no_mem))
+mem_held : (n : Netlist) (p : IsPipe n)
+    → (length n.mems ≡ length p.delayed + length n.arrays)
+    × ((m : ℕ) → m < length n.arrays → IsHeld (array_at (circuit_of n) m) (get_or n.mems (length p.delayed + m) no_mem))
 mem_held n p =
     let info = λ (a : Array). comb_info a (find (λ l. bytes_eq l.name a.name) p.locked) in
     let front = map delayed_info p.delayed in
@@ -137,7 +143,9 @@ no_inputs n w e =
     inputs_told n p ∙ ap (flat_map reply_widths) none
 
 -- each array with its part of the image
-pub loaded_at : (rest : List Array) (image : List (List ℕ)) (m : ℕ) → m < length rest → get_or (loaded_arrays rest image) m [] ≡ filled_words (get_or rest m no_array).depth (get_or image m [])
+pub loaded_at : (rest : List Array) (image : List (List ℕ)) (m : ℕ)
+    → m < length rest
+    → get_or (loaded_arrays rest image) m [] ≡ filled_words (get_or rest m no_array).depth (get_or image m [])
 loaded_at [] image m h = absurd (omega arith)
 loaded_at (a ∷ rest) image zero h = refl
 loaded_at (a ∷ rest) image (suc m) h =
@@ -161,7 +169,9 @@ filled_below d w ws f a =
     (cases_lt a (length ws))
 
 -- registers at reset, and arrays with an image that fits, have values that fit a well formed circuit
-pub holds_start : (n : Netlist) (image : List (List ℕ)) (regs : List ℕ) (arrays : List (List ℕ)) → IsWell (circuit_of n) → ImageFits (circuit_of n) image → regs ≡ map (λ r. r.reset) n.regs → arrays ≡ loaded_arrays n.arrays image → Holds (circuit_of n) regs arrays
+pub holds_start : (n : Netlist) (image : List (List ℕ)) (regs : List ℕ) (arrays : List (List ℕ)) → IsWell (circuit_of n)
+    → ImageFits (circuit_of n) image → regs ≡ map (λ r. r.reset) n.regs → arrays ≡ loaded_arrays n.arrays image
+    → Holds (circuit_of n) regs arrays
 holds_start n image regs arrays w i e f =
     let c = circuit_of n in
     record {

@@ -24,21 +24,24 @@ there_within c n (CellNet k) l h = omega arith
 pub ruleset reads = (width_of_input, width_of_reg, there_within, cells_well)
 
 -- a cell that was read fits the cells before it, and makes its net's signal
-pub fits_read : (c : Circuit) (xs : List Cell) (k n : ℕ) → IsWell c → k < length c.cells → xs ≡ c.cells → n ≡ k → FitsIn c (IsThereAt c n) (signal c) (get_or xs k no_cell)
+pub fits_read : (c : Circuit) (xs : List Cell) (k n : ℕ) → IsWell c
+    → k < length c.cells → xs ≡ c.cells → n ≡ k → FitsIn c (IsThereAt c n) (signal c) (get_or xs k no_cell)
 fits_read c xs k n w h e m =
     let P : List Cell → Type 0 = λ l. FitsIn c (IsThereAt c k) (signal c) (get_or l k no_cell) in
     let Q : ℕ → Type 0 = λ j. FitsIn c (IsThereAt c j) (signal c) (get_or xs k no_cell) in
     subst Q (sym m) (subst P (sym e) (fits_cell c w.cells k h))
 
-signal_read : (c : Circuit) (xs : List Cell) (k : ℕ) → IsWell c → k < length c.cells → xs ≡ c.cells → signal c (CellNet k) ≡ cell_signal c (signal c) (get_or xs k no_cell)
+pub signal_read : (c : Circuit) (xs : List Cell) (k : ℕ) → IsWell c
+    → k < length c.cells → xs ≡ c.cells → signal c (CellNet k) ≡ cell_signal c (signal c) (get_or xs k no_cell)
 signal_read c xs k w h e = signal_cell c w.cells k h ∙ ap (λ l. cell_signal c (signal c) (get_or l k no_cell)) (sym e)
 
 -- one width more
-widths_none : (c : Circuit) (ws : List ℕ) → ws ≡ [] → HasWidths c ws
+pub widths_none : (c : Circuit) (ws : List ℕ) → ws ≡ [] → HasWidths c ws
 widths_none c ws e = let n = ap length e in record { each = λ j h. absurd (omega (arith, n)) }
 
 -- the widths of the first cells with that of the next one
-pub widths_more : (c : Circuit) (ws us : List ℕ) (w : ℕ) → HasWidths c ws → w ≡ (signal c (CellNet (length ws))).width → us ≡ ws ++ w ∷ [] → HasWidths c us
+pub widths_more : (c : Circuit) (ws us : List ℕ) (w : ℕ) → HasWidths c ws
+    → w ≡ (signal c (CellNet (length ws))).width → us ≡ ws ++ w ∷ [] → HasWidths c us
 widths_more c ws us w h e f = record {
   each = λ j l. ap (λ xs. get_or xs j 0) f ∙ ⊎_elim
       (λ (lt : j < length ws). get_or_append_left ws (w ∷ []) 0 j lt ∙ h.each j lt)
@@ -50,7 +53,8 @@ widths_more c ws us w h e f = record {
 
 pub ruleset widths = (fits_read, signal_read, widths_none, widths_more)
 
-width_of_array : (n : Netlist) (m : ℕ) (a : Array) → m < length n.arrays → a ≡ get_or n.arrays m a → (array_at (circuit_of n) m).width ≡ a.width
+pub width_of_array : (n : Netlist) (m : ℕ) (a : Array)
+    → m < length n.arrays → a ≡ get_or n.arrays m a → (array_at (circuit_of n) m).width ≡ a.width
 width_of_array n m a h e = ap (λ (x : Array). x.width) (sym (e ∙ get_or_default n.arrays m a no_array h))
 
 pub ruleset array_widths = (width_of_array)

@@ -23,15 +23,18 @@ before c k (RegNet r) l h = record { there = h; before = omega arith }
 before c k (CellNet j) l h = record { there = omega arith; before = omega arith }
 
 -- the k-th cell
-pub width_is : (c : Circuit) → CellsWell c → (k : ℕ) → k < length c.cells → (signal c (CellNet k)).width ≡ (cell_signal c (signal c) (cell_at c k)).width
+pub width_is : (c : Circuit) → CellsWell c → (k : ℕ)
+    → k < length c.cells → (signal c (CellNet k)).width ≡ (cell_signal c (signal c) (cell_at c k)).width
 width_is c w k h = ap (λ f. f.width) (signal_cell c w.fit k h)
 
 -- the k-th cell fits over the cells before it, where all cells are well formed
-pub fits_now : (c : Circuit) → CellsWell c → (k : ℕ) (g : Cell) → k < length c.cells → g ≡ cell_at c k → FitsIn c (IsThereAt c k) (signal c) g
+pub fits_now : (c : Circuit) → CellsWell c → (k : ℕ) (g : Cell)
+    → k < length c.cells → g ≡ cell_at c k → FitsIn c (IsThereAt c k) (signal c) g
 fits_now c w k g h e = let P : Cell → Type 0 = λ x. FitsIn c (IsThereAt c k) (signal c) x in subst P (sym e) (fits_cell c w.fit k h)
 
 -- what the k-th cell makes has at most 64 bits, where all cells are well formed
-pub width_now : (c : Circuit) → CellsWell c → (k : ℕ) (g : Cell) → k < length c.cells → g ≡ cell_at c k → (cell_signal c (signal c) g).width ≤ 64
+pub width_now : (c : Circuit) → CellsWell c → (k : ℕ) (g : Cell)
+    → k < length c.cells → g ≡ cell_at c k → (cell_signal c (signal c) g).width ≤ 64
 width_now c w k g h e =
     let P : Cell → Type 0 = λ x. (cell_signal c (signal c) x).width ≤ 64 in
     let b = (w.widths k h).high in
@@ -78,7 +81,9 @@ bin_wide Shl w h = h
 bin_wide Shr w h = h
 
 -- a cell over nets of 1 to 64 bits has 1 to 64 bits
-cell_wide : (c : Circuit) (There : Net → Type 0) (at : Net → Signal) → IsWell c → ((x : Net) → There x → IsWidth (at x).width) → (g : Cell) → FitsIn c There at g → IsWidth (cell_signal c at g).width
+cell_wide : (c : Circuit) (There : Net → Type 0) (at : Net → Signal) → IsWell c
+    → ((x : Net) → There x → IsWidth (at x).width) → (g : Cell) → FitsIn c There at g
+    → IsWidth (cell_signal c at g).width
 cell_wide c There at w h (Const n v) f = record { low = f.0; high = f.1 }
 cell_wide c There at w h (Not a) f = h a f
 cell_wide c There at w h (Bin op a b) f = bin_wide op (at a).width (h a f.0)

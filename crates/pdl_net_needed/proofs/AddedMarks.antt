@@ -77,7 +77,9 @@ with_cells k (Input i) = refl
 with_cells k (RegNet r) = refl
 with_cells k (CellNet j) = length-set k.cells j true
 
-fewer_left : (w : Work) (x : Net) → IsWithin w.kept x → is_kept w.kept x ≡ false → left_of (record { kept = with_kept w.kept x; waiting = w.waiting ++ x ∷ [] }) ≡ left_of w
+fewer_left : (w : Work) (x : Net) → IsWithin w.kept x
+    → is_kept w.kept x ≡ false
+    → left_of (record { kept = with_kept w.kept x; waiting = w.waiting ++ x ∷ [] }) ≡ left_of w
 fewer_left w (Input i) h e = untrue (sym e)
 fewer_left w (RegNet r) h e = let u = unset_less w.kept.regs r h e in let l = length-append w.waiting (RegNet r ∷ []) in omega arith
 fewer_left w (CellNet j) h e = let u = unset_less w.kept.cells j h e in let l = length-append w.waiting (CellNet j ∷ []) in omega arith
@@ -113,7 +115,8 @@ adds_marked w x e = record {
   left = refl;
 }
 
-adds_one : (w : Work) (x : Net) → IsWithin w.kept x → is_kept w.kept x ≡ false → Adds w (record { kept = with_kept w.kept x; waiting = w.waiting ++ x ∷ [] }) (x ∷ [])
+adds_one : (w : Work) (x : Net) → IsWithin w.kept x
+    → is_kept w.kept x ≡ false → Adds w (record { kept = with_kept w.kept x; waiting = w.waiting ++ x ∷ [] }) (x ∷ [])
 adds_one w x h e = record {
   regs = with_regs w.kept x;
   cells = with_cells w.kept x;
@@ -132,7 +135,8 @@ adds_one w x h e = record {
 }
 
 -- a net that was not marked is added by its mark, and is still to be looked at
-pub adds_new : (w v : Work) (x : Net) → IsWithin w.kept x → is_kept w.kept x ≡ false → v.kept ≡ with_kept w.kept x → v.waiting ≡ w.waiting ++ x ∷ [] → Adds w v (x ∷ [])
+pub adds_new : (w v : Work) (x : Net) → IsWithin w.kept x
+    → is_kept w.kept x ≡ false → v.kept ≡ with_kept w.kept x → v.waiting ≡ w.waiting ++ x ∷ [] → Adds w v (x ∷ [])
 adds_new w v x h e k m =
     subst (λ j. Adds w (record { kept = j; waiting = v.waiting }) (x ∷ [])) (sym k)
     (subst (λ ys. Adds w (record { kept = with_kept w.kept x; waiting = ys }) (x ∷ [])) (sym m) (adds_one w x h e))
@@ -171,7 +175,7 @@ within_added a b r c (Input i) h = tt
 within_added a b r c (RegNet q) h = omega (arith, r, h)
 within_added a b r c (CellNet j) h = omega (arith, c, h)
 
-within_stays : (a b : Work) (xs : List Net) (x : Net) → Adds a b xs → IsWithin a.kept x → IsWithin b.kept x
+pub within_stays : (a b : Work) (xs : List Net) (x : Net) → Adds a b xs → IsWithin a.kept x → IsWithin b.kept x
 within_stays a b xs x h w = within_added a.kept b.kept h.regs h.cells x w
 
 each_within_stays : (a b : Work) (xs ys : List Net) → Adds a b xs → Each (IsWithin a.kept) ys → Each (IsWithin b.kept) ys
@@ -179,25 +183,33 @@ each_within_stays a b xs ys h w = each_weaker (IsWithin a.kept) (IsWithin b.kept
 
 -- ---- over lists
 
-adds_more : {X : Type 0} (f : X → List Net) (ps : List X) (i : ℕ) (p : X) (a b c : Work) → i < length ps → p ≡ get_or ps i p → Adds a b (flat_map f (take i ps)) → Adds b c (f p) → Adds a c (flat_map f (take (i + 1) ps))
+pub adds_more : {X : Type 0} (f : X → List Net) (ps : List X) (i : ℕ) (p : X) (a b c : Work)
+    → i < length ps → p ≡ get_or ps i p → Adds a b (flat_map f (take i ps)) → Adds b c (f p)
+    → Adds a c (flat_map f (take (i + 1) ps))
 adds_more f ps i p a b c l e h g =
     let t : flat_map f (take i ps) ++ f p ≡ flat_map f (take (i + 1) ps) =
     sym (ap (flat_map f) (take_more ps i p l ∙ ap (λ y. take i ps ++ y ∷ []) (sym e)) ∙ flat_map-append f (take i ps) (p ∷ []) ∙ ap (λ ys. flat_map f (take i ps) ++ ys) (append-nil (f p))) in
     subst (Adds a c) t (adds_then a b c (flat_map f (take i ps)) (f p) h g)
 
-adds_all : {X : Type 0} (f : X → List Net) (ps : List X) (i : ℕ) (a b : Work) → length ps ≤ i → Adds a b (flat_map f (take i ps)) → Adds a b (flat_map f ps)
+pub adds_all : {X : Type 0} (f : X → List Net) (ps : List X) (i : ℕ) (a b : Work)
+    → length ps ≤ i → Adds a b (flat_map f (take i ps)) → Adds a b (flat_map f ps)
 adds_all f ps i a b l h = subst (λ qs. Adds a b (flat_map f qs)) (take_all i ps l) h
 
-pub within_at : {X : Type 0} (f : X → List Net) (ps : List X) (i : ℕ) (p : X) (a b : Work) (xs : List Net) → i < length ps → p ≡ get_or ps i p → Adds a b xs → Each (IsWithin a.kept) (flat_map f ps) → Each (IsWithin b.kept) (f p)
+pub within_at : {X : Type 0} (f : X → List Net) (ps : List X) (i : ℕ) (p : X) (a b : Work) (xs : List Net)
+    → i < length ps → p ≡ get_or ps i p → Adds a b xs → Each (IsWithin a.kept) (flat_map f ps)
+    → Each (IsWithin b.kept) (f p)
 within_at f ps i p a b xs l e h w =
     each_within_stays a b xs (f p) h (subst (λ q. Each (IsWithin a.kept) (f q)) (sym e) (each_get (λ q. Each (IsWithin a.kept) (f q)) ps i p l (each_unflat (IsWithin a.kept) f ps w)))
 
 -- of a copied element
-pub adds_read : {X : Type 0} (f : X → List Net) (ps : List X) (i : ℕ) (d : X) (a b c : Work) → i < length ps → Adds a b (flat_map f (take i ps)) → Adds b c (f (get_or ps i d)) → Adds a c (flat_map f (take (i + 1) ps))
+pub adds_read : {X : Type 0} (f : X → List Net) (ps : List X) (i : ℕ) (d : X) (a b c : Work)
+    → i < length ps → Adds a b (flat_map f (take i ps)) → Adds b c (f (get_or ps i d))
+    → Adds a c (flat_map f (take (i + 1) ps))
 adds_read f ps i d a b c l h g = adds_more f ps i (get_or ps i d) a b c l (get_or_default ps i d (get_or ps i d) l) h g
 
 -- the nets of the i-th element of a list have marks after others were added
-pub within_read : {X : Type 0} (f : X → List Net) (ps : List X) (i : ℕ) (d : X) (a b : Work) (xs : List Net) → i < length ps → Adds a b xs → Each (IsWithin a.kept) (flat_map f ps) → Each (IsWithin b.kept) (f (get_or ps i d))
+pub within_read : {X : Type 0} (f : X → List Net) (ps : List X) (i : ℕ) (d : X) (a b : Work) (xs : List Net)
+    → i < length ps → Adds a b xs → Each (IsWithin a.kept) (flat_map f ps) → Each (IsWithin b.kept) (f (get_or ps i d))
 within_read f ps i d a b xs l h w = within_at f ps i (get_or ps i d) a b xs l (get_or_default ps i d (get_or ps i d) l) h w
 
 pub ruleset firsts = (adds_none, adds_first, within_stays)

@@ -41,13 +41,16 @@ each_unflat P f [] h = tt
 each_unflat P f (x ∷ xs) h = (each_front P (f x) (flat_map f xs) h, each_unflat P f xs (each_back P (f x) (flat_map f xs) h))
 
 -- the nets that a port shows are kept
-pub port_kept : (c : Circuit) (k : Choice) → IsClosed c k → (i : ℕ) (p : Port) → slice_get c.ports i ≡ Some p → Each (IsKept k) (shown_by p.dir)
+pub port_kept : (c : Circuit) (k : Choice) → IsClosed c k → (i : ℕ) (p : Port)
+    → slice_get c.ports i ≡ Some p → Each (IsKept k) (shown_by p.dir)
 port_kept c k h i p e =
     let f = λ (q : Port). shown_by q.dir in
     each_got (λ q. Each (IsKept k) (f q)) c.ports i p (each_unflat (IsKept k) f c.ports (each_front (IsKept k) (flat_map f c.ports) (flat_map written_from c.arrays) h.ends)) e
 
 -- the nets that a write port of an array reads are kept
-pub write_kept : (c : Circuit) (k : Choice) → IsClosed c k → (m : ℕ) → m < length c.arrays → (i : ℕ) (p : WritePort) → slice_get (array_at c m).writes i ≡ Some p → Each (IsKept k) (read_by p)
+pub write_kept : (c : Circuit) (k : Choice) → IsClosed c k → (m : ℕ)
+    → m < length c.arrays → (i : ℕ) (p : WritePort) → slice_get (array_at c m).writes i ≡ Some p
+    → Each (IsKept k) (read_by p)
 write_kept c k h m l i p e =
     let f = λ (q : Port). shown_by q.dir in
     let all = each_unflat (IsKept k) written_from c.arrays (each_back (IsKept k) (flat_map f c.ports) (flat_map written_from c.arrays) h.ends) in

@@ -10,7 +10,8 @@ kept_none [] = refl
 kept_none (b ∷ bs) = refl
 
 -- a kept element stands after the kept ones before it
-pub kept_get : {A : Type 0} (bs : List Bool) (xs : List A) (n : ℕ) (d : A) → get_or bs n false ≡ true → get_or (kept_of bs xs) (kept_before bs n) d ≡ get_or xs n d
+pub kept_get : {A : Type 0} (bs : List Bool) (xs : List A) (n : ℕ) (d : A)
+    → get_or bs n false ≡ true → get_or (kept_of bs xs) (kept_before bs n) d ≡ get_or xs n d
 kept_get [] xs n d e = untrue e
 kept_get (b ∷ bs) [] n d e = refl
 kept_get (true ∷ bs) (x ∷ xs) zero d e = refl
@@ -52,7 +53,9 @@ pub kept_within : (bs : List Bool) (n : ℕ) → get_or bs n false ≡ true → 
 kept_within bs n e = kept_less bs n (length bs) (within_marks bs n e) e
 
 -- one place on, after a part of the marks
-pub kept_next : (front : List Bool) (b : Bool) (bs : List Bool) → kept_before (front ++ b ∷ bs) (suc (length front)) ≡ cond b (suc (kept_before (front ++ b ∷ bs) (length front))) (kept_before (front ++ b ∷ bs) (length front))
+pub kept_next : (front : List Bool) (b : Bool) (bs : List Bool)
+    → kept_before (front ++ b ∷ bs) (suc (length front))
+    ≡ cond b (suc (kept_before (front ++ b ∷ bs) (length front))) (kept_before (front ++ b ∷ bs) (length front))
 kept_next [] b [] = refl
 kept_next [] b (c ∷ bs) = refl
 kept_next (true ∷ front) true bs = ap suc (kept_next front true bs)
@@ -73,7 +76,9 @@ kept_from (true ∷ bs) zero h = record { old = zero; kept = refl; here = refl }
 kept_from (true ∷ bs) (suc i) h = let p = kept_from bs i (omega arith) in record { old = suc p.old; kept = p.kept; here = ap suc p.here }
 kept_from (false ∷ bs) i h = let p = kept_from bs i h in record { old = suc p.old; kept = p.kept; here = p.here }
 
-kept_taken : {A B : Type 0} (f : A → B) (d : A) (bs : List Bool) (xs : List A) (i : ℕ) → i < length xs → get_or bs i false ≡ true → map f (kept_of (take (suc i) bs) (take (suc i) xs)) ≡ map f (kept_of (take i bs) (take i xs)) ++ f (get_or xs i d) ∷ []
+kept_taken : {A B : Type 0} (f : A → B) (d : A) (bs : List Bool) (xs : List A) (i : ℕ)
+    → i < length xs → get_or bs i false ≡ true
+    → map f (kept_of (take (suc i) bs) (take (suc i) xs)) ≡ map f (kept_of (take i bs) (take i xs)) ++ f (get_or xs i d) ∷ []
 kept_taken f d [] xs i l e = untrue e
 kept_taken f d (b ∷ bs) [] i l e = absurd (omega arith)
 kept_taken f d (true ∷ bs) (x ∷ xs) zero l e = refl
@@ -81,7 +86,9 @@ kept_taken f d (false ∷ bs) (x ∷ xs) zero l e = untrue e
 kept_taken f d (true ∷ bs) (x ∷ xs) (suc i) l e = ap (λ ys. f x ∷ ys) (kept_taken f d bs xs i (omega arith) e)
 kept_taken f d (false ∷ bs) (x ∷ xs) (suc i) l e = kept_taken f d bs xs i (omega arith) e
 
-kept_left : {A B : Type 0} (f : A → B) (bs : List Bool) (xs : List A) (i : ℕ) → get_or bs i false ≡ false → map f (kept_of (take (suc i) bs) (take (suc i) xs)) ≡ map f (kept_of (take i bs) (take i xs))
+kept_left : {A B : Type 0} (f : A → B) (bs : List Bool) (xs : List A) (i : ℕ)
+    → get_or bs i false ≡ false
+    → map f (kept_of (take (suc i) bs) (take (suc i) xs)) ≡ map f (kept_of (take i bs) (take i xs))
 kept_left f [] xs zero e = refl
 kept_left f [] xs (suc i) e = refl
 kept_left f (b ∷ bs) [] zero e = refl
@@ -92,14 +99,19 @@ kept_left f (true ∷ bs) (x ∷ xs) (suc i) e = ap (λ ys. f x ∷ ys) (kept_le
 kept_left f (false ∷ bs) (x ∷ xs) (suc i) e = kept_left f bs xs i e
 
 -- the kept ones among one element more
-pub kept_more : {A B : Type 0} (f : A → B) (bs : List Bool) (xs : List A) (i : ℕ) (d : A) → i < length xs → get_or bs i false ≡ true → map f (kept_of (take (i + 1) bs) (take (i + 1) xs)) ≡ map f (kept_of (take i bs) (take i xs)) ++ f (get_or xs i d) ∷ []
+pub kept_more : {A B : Type 0} (f : A → B) (bs : List Bool) (xs : List A) (i : ℕ) (d : A)
+    → i < length xs → get_or bs i false ≡ true
+    → map f (kept_of (take (i + 1) bs) (take (i + 1) xs)) ≡ map f (kept_of (take i bs) (take i xs)) ++ f (get_or xs i d) ∷ []
 kept_more f bs xs i d l e = rw add-one (kept_taken f d bs xs i l e)
 
 -- the kept ones of the first i + 1 elements are those of the first i, where the last of these isn't kept
-pub kept_fewer : {A B : Type 0} (f : A → B) (bs : List Bool) (xs : List A) (i : ℕ) → get_or bs i false ≡ false → map f (kept_of (take (i + 1) bs) (take (i + 1) xs)) ≡ map f (kept_of (take i bs) (take i xs))
+pub kept_fewer : {A B : Type 0} (f : A → B) (bs : List Bool) (xs : List A) (i : ℕ)
+    → get_or bs i false ≡ false
+    → map f (kept_of (take (i + 1) bs) (take (i + 1) xs)) ≡ map f (kept_of (take i bs) (take i xs))
 kept_fewer f bs xs i e = rw add-one (kept_left f bs xs i e)
 
-kept_all : {A B : Type 0} (f : A → B) (bs : List Bool) (xs : List A) (i : ℕ) → length bs ≡ length xs → length xs ≤ i → map f (kept_of (take i bs) (take i xs)) ≡ map f (kept_of bs xs)
+pub kept_all : {A B : Type 0} (f : A → B) (bs : List Bool) (xs : List A) (i : ℕ)
+    → length bs ≡ length xs → length xs ≤ i → map f (kept_of (take i bs) (take i xs)) ≡ map f (kept_of bs xs)
 kept_all f bs xs i e l = ap (λ cs. map f (kept_of cs (take i xs))) (take_all i bs (omega arith)) ∙ ap (λ ys. map f (kept_of bs ys)) (take_all i xs l)
 
 -- no kept element stands before the first place

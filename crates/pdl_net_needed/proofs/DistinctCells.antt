@@ -56,7 +56,8 @@ cell_back k (Rep n a) e = cc (net_back k a e.0)
 cell_back k (Read m a) e = cc (net_back k a e.0)
 
 -- cells that are equal over new numbers are equal
-moved_apart : (k : Choice) (g h : Cell) → Each (IsKept k) (reads_of g) → Each (IsKept k) (reads_of h) → moved_cell k g ≡ moved_cell k h → g ≡ h
+moved_apart : (k : Choice) (g h : Cell) → Each (IsKept k) (reads_of g) → Each (IsKept k) (reads_of h)
+    → moved_cell k g ≡ moved_cell k h → g ≡ h
 moved_apart k g h e f s = sym (cell_back k g e) ∙ ap (over_nets (old_net k)) s ∙ cell_back k h f
 
 -- the order of places is that of numbers
@@ -70,7 +71,8 @@ in_order bs m n e l = ⊎_elim
     (cases_lt m n)
 
 -- no two cells of a netlist pruned by a closed choice are equal where no two of the whole are
-pub distinct_cells : (k : Choice) (n : Netlist) → IsClosed (circuit_of n) k → AllPairs (λ a b. a ≢ b) n.cells → AllPairs (λ a b. a ≢ b) (pruned k n).cells
+pub distinct_cells : (k : Choice) (n : Netlist) → IsClosed (circuit_of n) k → AllPairs (λ a b. a ≢ b) n.cells
+    → AllPairs (λ a b. a ≢ b) (pruned k n).cells
 distinct_cells k n h apart i j d l m same =
     let a = length-map (kept_of k.cells n.cells) (moved_cell k) in
     let b = kept_length k.cells n.cells h.cell_count in

@@ -77,7 +77,8 @@ marking_begun c w h = record {
     done (CellNet j) e = done_part (CellNet j) tt e
 
 -- one net's sources are marked too
-pub marking_more : (c : Circuit) (u v w : Work) (x : Net) → IsMarking c u → u.waiting ≡ v.waiting ++ x ∷ [] → v.kept ≡ u.kept → Adds v w (sources c x) → IsMarking c w
+pub marking_more : (c : Circuit) (u v w : Work) (x : Net) → IsMarking c u
+    → u.waiting ≡ v.waiting ++ x ∷ [] → v.kept ≡ u.kept → Adds v w (sources c x) → IsMarking c w
 marking_more c u v w x h e k g =
     let here : Contains u.waiting x = subst (λ ys. Contains ys x) (sym e) (Contains-push v.waiting x) in
     let p = h.waiting x here in
@@ -111,7 +112,8 @@ marking_more c u v w x h e k g =
     }
 
 -- there is less to be looked at
-pub fewer : (u v w : Work) (x : Net) (xs : List Net) → u.waiting ≡ v.waiting ++ x ∷ [] → v.kept ≡ u.kept → Adds v w xs → left_of w < left_of u
+pub fewer : (u v w : Work) (x : Net) (xs : List Net)
+    → u.waiting ≡ v.waiting ++ x ∷ [] → v.kept ≡ u.kept → Adds v w xs → left_of w < left_of u
 fewer u v w x xs e k g =
     let n : length u.waiting ≡ length v.waiting + 1 = ap length e ∙ length-append v.waiting (x ∷ []) in
     let m : left_of v ≡ left_of (record { kept = u.kept; waiting = v.waiting }) = ap (λ (j : Choice). left_of (record { kept = j; waiting = v.waiting })) k in
@@ -140,13 +142,16 @@ marking_done c w h e = record {
 -- ---- nets that are there have marks
 
 -- a net that is there has a mark where each register and each cell has one
-pub within : (c : Circuit) (k : Choice) → length k.regs ≡ length c.regs → length k.cells ≡ length c.cells → (x : Net) → IsThere c x → IsWithin k x
+pub within : (c : Circuit) (k : Choice)
+    → length k.regs ≡ length c.regs → length k.cells ≡ length c.cells → (x : Net) → IsThere c x → IsWithin k x
 unfolding IsThere
 within c k r g (Input i) h = tt
 within c k r g (RegNet q) h = omega (arith, r, h)
 within c k r g (CellNet j) h = omega (arith, g, h)
 
-each_within : (c : Circuit) (k : Choice) → length k.regs ≡ length c.regs → length k.cells ≡ length c.cells → (xs : List Net) → Each (IsThere c) xs → Each (IsWithin k) xs
+each_within : (c : Circuit) (k : Choice)
+    → length k.regs ≡ length c.regs → length k.cells ≡ length c.cells → (xs : List Net) → Each (IsThere c) xs
+    → Each (IsWithin k) xs
 each_within c k r g xs h = each_weaker (IsThere c) (IsWithin k) (within c k r g) xs h
 
 reads_there : (c : Circuit) (There : Net → Type 0) (at : Net → Signal) (g : Cell) → FitsIn c There at g → Each There (reads_of g)
@@ -183,7 +188,8 @@ arrays_there : (c : Circuit) → IsWell c → Each (λ a. Each (λ p. Each (IsTh
 arrays_there c w = each_from_at (λ (a : Array). Each (λ p. Each (IsThere c) (read_by p)) a.writes) no_array c.arrays (writes_there c w)
 
 -- what is used outside has marks from the beginning
-pub ports_within : (c : Circuit) (w : Work) (ps : List Port) → IsWell c → w ≡ begun c → ps ≡ c.ports → Each (IsWithin w.kept) (flat_map (λ p. shown_by p.dir) ps)
+pub ports_within : (c : Circuit) (w : Work) (ps : List Port) → IsWell c
+    → w ≡ begun c → ps ≡ c.ports → Each (IsWithin w.kept) (flat_map (λ p. shown_by p.dir) ps)
 ports_within c w ps f e p =
     let shown = λ (q : Port). shown_by q.dir in
     let r = ap (λ (v : Work). length v.kept.regs) e ∙ length-replicate (length c.regs) false in
@@ -191,7 +197,8 @@ ports_within c w ps f e p =
     each_within c w.kept r g (flat_map shown ps) (subst (λ qs. Each (IsThere c) (flat_map shown qs)) (sym p) (each_flat (IsThere c) shown c.ports (ports_there c f)))
 
 -- the nets that write ports read have marks, after nets were added to none
-pub arrays_within : (c : Circuit) (u v : Work) (ms : List Array) (xs : List Net) → IsWell c → u ≡ begun c → Adds u v xs → ms ≡ c.arrays → Each (IsWithin v.kept) (flat_map written_from ms)
+pub arrays_within : (c : Circuit) (u v : Work) (ms : List Array) (xs : List Net) → IsWell c
+    → u ≡ begun c → Adds u v xs → ms ≡ c.arrays → Each (IsWithin v.kept) (flat_map written_from ms)
 arrays_within c u v ms xs f e h m =
     let r = h.regs ∙ ap (λ (w : Work). length w.kept.regs) e ∙ length-replicate (length c.regs) false in
     let g = h.cells ∙ ap (λ (w : Work). length w.kept.cells) e ∙ length-replicate (length c.cells) false in
@@ -199,7 +206,9 @@ arrays_within c u v ms xs f e h m =
     each_within c v.kept r g (flat_map written_from ms) (subst (λ as'. Each (IsThere c) (flat_map written_from as')) (sym m) (each_flat (IsThere c) written_from c.arrays there))
 
 -- marking stands once what outputs show and write ports read is marked, and nothing was before
-pub marking_ready : (c : Circuit) (u v w : Work) (ps : List Port) (ms : List Array) → u ≡ begun c → ps ≡ c.ports → ms ≡ c.arrays → Adds u v (flat_map (λ p. shown_by p.dir) ps) → Adds v w (flat_map written_from ms) → IsMarking c w
+pub marking_ready : (c : Circuit) (u v w : Work) (ps : List Port) (ms : List Array)
+    → u ≡ begun c → ps ≡ c.ports → ms ≡ c.arrays → Adds u v (flat_map (λ p. shown_by p.dir) ps)
+    → Adds v w (flat_map written_from ms) → IsMarking c w
 marking_ready c u v w ps ms e p m h g =
     let shown = λ (q : Port). shown_by q.dir in
     let h' : Adds (begun c) v (flat_map shown c.ports) = subst (λ (x : Work). Adds x v (flat_map shown c.ports)) e (subst (λ qs. Adds u v (flat_map shown qs)) p h) in
@@ -207,7 +216,7 @@ marking_ready c u v w ps ms e p m h g =
     marking_begun c w (adds_then (begun c) v w (flat_map shown c.ports) (flat_map written_from c.arrays) h' g')
 
 -- a net that was still to be looked at is there
-taken_there : (c : Circuit) (u v : Work) (x : Net) → IsMarking c u → u.waiting ≡ v.waiting ++ x ∷ [] → IsThere c x
+pub taken_there : (c : Circuit) (u v : Work) (x : Net) → IsMarking c u → u.waiting ≡ v.waiting ++ x ∷ [] → IsThere c x
 unfolding IsThere
 taken_there c u v x h e = there x (p.0) (p.1)
   where
@@ -226,7 +235,8 @@ sources_there c f (RegNet r) h = ((f.regs r h).next, tt)
 sources_there c f (CellNet j) h = cell_there c f j h
 
 -- its sources have marks
-taken_within : (c : Circuit) (u v : Work) (x : Net) → IsWell c → IsMarking c u → u.waiting ≡ v.waiting ++ x ∷ [] → v.kept ≡ u.kept → Each (IsWithin v.kept) (sources c x)
+pub taken_within : (c : Circuit) (u v : Work) (x : Net) → IsWell c → IsMarking c u
+    → u.waiting ≡ v.waiting ++ x ∷ [] → v.kept ≡ u.kept → Each (IsWithin v.kept) (sources c x)
 taken_within c u v x f h e k =
     each_within c v.kept (ap (λ (j : Choice). length j.regs) k ∙ h.regs) (ap (λ (j : Choice). length j.cells) k ∙ h.cells) (sources c x)
     (sources_there c f x (taken_there c u v x h e))
@@ -242,7 +252,8 @@ kept_within : (c : Circuit) (k : Choice) → KeepsNeeded c k → (xs : List Net)
 kept_within c k h xs t = each_within c k h.reg_count h.cell_count xs t
 
 -- what the ports of a well formed circuit show has marks in a choice that keeps what is needed
-pub ports_marked : (c : Circuit) (k : Choice) (ps : List Port) → IsWell c → KeepsNeeded c k → ps ≡ c.ports → All (λ p. Each (IsWithin k) (shown_by p.dir)) ps
+pub ports_marked : (c : Circuit) (k : Choice) (ps : List Port) → IsWell c → KeepsNeeded c k
+    → ps ≡ c.ports → All (λ p. Each (IsWithin k) (shown_by p.dir)) ps
 ports_marked c k ps w h e = subst (All (λ (p : Port). Each (IsWithin k) (shown_by p.dir))) (sym e) (all_from_each (λ (p : Port). Each (IsWithin k) (shown_by p.dir)) c.ports (each_weaker (λ (p : Port). Each (IsThere c) (shown_by p.dir)) (λ p. Each (IsWithin k) (shown_by p.dir)) (λ p t. kept_within c k h (shown_by p.dir) t) c.ports (ports_there c w)))
 
 -- what the registers of a well formed circuit take next has marks in a choice that keeps what is needed
@@ -250,11 +261,13 @@ pub regs_marked : (c : Circuit) (k : Choice) (rs : List Reg) → IsWell c → Ke
 regs_marked c k rs w h e = subst (All (λ (r : Reg). IsWithin k r.next)) (sym e) (All-from_get_or (λ (r : Reg). IsWithin k r.next) c.regs no_reg (λ i l. within c k h.reg_count h.cell_count (reg_at c i).next (w.regs i l).next))
 
 -- what the cells of a well formed circuit read has marks in a choice that keeps what is needed
-pub cells_marked : (c : Circuit) (k : Choice) (gs : List Cell) → IsWell c → KeepsNeeded c k → gs ≡ c.cells → All (λ g. Each (IsWithin k) (reads_of g)) gs
+pub cells_marked : (c : Circuit) (k : Choice) (gs : List Cell) → IsWell c → KeepsNeeded c k
+    → gs ≡ c.cells → All (λ g. Each (IsWithin k) (reads_of g)) gs
 cells_marked c k gs w h e = subst (All (λ g. Each (IsWithin k) (reads_of g))) (sym e) (All-from_get_or (λ g. Each (IsWithin k) (reads_of g)) c.cells no_cell (λ i l. kept_within c k h (reads_of (cell_at c i)) (cell_there c w i l)))
 
 -- what the write ports of a well formed circuit read has marks in a choice that keeps what is needed
-pub arrays_marked : (c : Circuit) (k : Choice) (ms : List Array) → IsWell c → KeepsNeeded c k → ms ≡ c.arrays → All (λ a. All (λ p. Each (IsWithin k) (read_by p)) a.writes) ms
+pub arrays_marked : (c : Circuit) (k : Choice) (ms : List Array) → IsWell c → KeepsNeeded c k
+    → ms ≡ c.arrays → All (λ a. All (λ p. Each (IsWithin k) (read_by p)) a.writes) ms
 arrays_marked c k ms w h e =
     let At : Array → Type 0 = λ a. All (λ (p : WritePort). Each (IsWithin k) (read_by p)) a.writes in
     let one : (a : Array) → Each (λ p. Each (IsThere c) (read_by p)) a.writes → At a = λ a t. all_from_each (λ p. Each (IsWithin k) (read_by p)) a.writes (each_weaker (λ p. Each (IsThere c) (read_by p)) (λ p. Each (IsWithin k) (read_by p)) (λ p u. kept_within c k h (read_by p) u) a.writes t) in

@@ -33,7 +33,8 @@ reads_moved k (Cat a b) = refl
 reads_moved k (Rep n a) = refl
 reads_moved k (Read m a) = refl
 
-shown_moved : (k : Choice) (ps : List Port) → flat_map (λ p. shown_by p.dir) (map (moved_port k) ps) ≡ map (moved_net k) (flat_map (λ p. shown_by p.dir) ps)
+shown_moved : (k : Choice) (ps : List Port)
+    → flat_map (λ p. shown_by p.dir) (map (moved_port k) ps) ≡ map (moved_net k) (flat_map (λ p. shown_by p.dir) ps)
 shown_moved k [] = refl
 shown_moved k (p ∷ ps) = elim p.dir as (λ (d : Dir). flat_map (λ (q : Port). shown_by q.dir) (map (moved_port k) (record { name = p.name; width = p.width; dir = d } ∷ ps)) ≡ map (moved_net k) (flat_map (λ (q : Port). shown_by q.dir) (record { name = p.name; width = p.width; dir = d } ∷ ps))) [
   | In ↦ shown_moved k ps
@@ -44,7 +45,8 @@ written_moved : (k : Choice) (ps : List WritePort) → flat_map read_by (map (mo
 written_moved k [] = refl
 written_moved k (p ∷ ps) = ap (λ xs. moved_net k p.enable ∷ moved_net k p.addr ∷ moved_net k p.value ∷ xs) (written_moved k ps)
 
-arrays_moved : (k : Choice) (ms : List Array) → flat_map written_from (map (moved_array k) ms) ≡ map (moved_net k) (flat_map written_from ms)
+arrays_moved : (k : Choice) (ms : List Array)
+    → flat_map written_from (map (moved_array k) ms) ≡ map (moved_net k) (flat_map written_from ms)
 arrays_moved k [] = refl
 arrays_moved k (a ∷ ms) =
     ap (λ xs. xs ++ flat_map written_from (map (moved_array k) ms)) (written_moved k a.writes)
@@ -59,13 +61,15 @@ used_moved k n =
     ∙ sym (map-append (moved_net k) shown (flat_map written_from n.arrays))
 
 -- a cell that a closed choice keeps stands at its new number, with the new numbers of what it reads
-pub cell_moved : (k : Choice) (n : Netlist) → IsClosed (circuit_of n) k → (j : ℕ) → IsKept k (CellNet j) → cell_at (after k n) (kept_before k.cells j) ≡ moved_cell k (cell_at (circuit_of n) j)
+pub cell_moved : (k : Choice) (n : Netlist) → IsClosed (circuit_of n) k → (j : ℕ) → IsKept k (CellNet j)
+    → cell_at (after k n) (kept_before k.cells j) ≡ moved_cell k (cell_at (circuit_of n) j)
 cell_moved k n h j kept =
     let e = kept_length k.cells n.cells h.cell_count in
     let b = kept_within k.cells j kept in
     get_or-map (moved_cell k) (kept_of k.cells n.cells) (kept_before k.cells j) no_cell no_cell (omega arith) ∙ ap (moved_cell k) (kept_get k.cells n.cells j no_cell kept)
 
-sources_moved : (k : Choice) (n : Netlist) → IsClosed (circuit_of n) k → (x : Net) → IsKept k x → sources (after k n) (moved_net k x) ≡ map (moved_net k) (sources (circuit_of n) x)
+sources_moved : (k : Choice) (n : Netlist) → IsClosed (circuit_of n) k → (x : Net) → IsKept k x
+    → sources (after k n) (moved_net k x) ≡ map (moved_net k) (sources (circuit_of n) x)
 sources_moved k n h (Input i) kept = refl
 sources_moved k n h (RegNet r) kept = ap (λ (g : Reg). g.next ∷ []) (reg_moved k n h r kept)
 sources_moved k n h (CellNet j) kept = ap reads_of (cell_moved k n h j kept) ∙ reads_moved k (cell_at (circuit_of n) j)
@@ -78,7 +82,8 @@ contains_moved k xs ys x e m =
     let d : length ys ≡ length (map (moved_net k) xs) = ap length e in
     (m.0, omega (arith, l, d, m.1), ap (λ zs. get_or zs m.0 (moved_net k x)) e ∙ get_or-map (moved_net k) xs m.0 x (moved_net k x) m.1 ∙ ap (moved_net k) m.2)
 
-needed_moved : (k : Choice) (n : Netlist) → KeepsNeeded (circuit_of n) k → {x : Net} → IsNeeded (circuit_of n) x → IsNeeded (after k n) (moved_net k x)
+needed_moved : (k : Choice) (n : Netlist) → KeepsNeeded (circuit_of n) k → {x : Net} → IsNeeded (circuit_of n) x
+    → IsNeeded (after k n) (moved_net k x)
 needed_moved k n h (outside {x = x} m) = outside (contains_moved k (used_outside (circuit_of n)) (used_outside (after k n)) x (used_moved k n) m)
 needed_moved k n h (inside {x = x} {y = y} b m) = inside (needed_moved k n h b) (contains_moved k (sources (circuit_of n) x) (sources (after k n) (moved_net k x)) y (sources_moved k n (closed (circuit_of n) k h) x (h.needed x b)) m)
 

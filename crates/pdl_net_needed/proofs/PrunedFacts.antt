@@ -18,13 +18,15 @@ lifted P Q (Ok p) f h = f p h
 lifted P Q (Err e) f h = tt
 
 -- an answer that is pruned by a choice of what is needed has the needed registers and cells alone
-pub all_pruned : {E : Type 0} (n : Netlist) (k : Choice) (r : Result Netlist E) → KeepsNeeded (circuit_of n) k → IfOk r (λ p. p ≡ pruned k n) → IfOk r (IsPruned n)
+pub all_pruned : {E : Type 0} (n : Netlist) (k : Choice) (r : Result Netlist E) → KeepsNeeded (circuit_of n) k
+    → IfOk r (λ p. p ≡ pruned k n) → IfOk r (IsPruned n)
 all_pruned n k r h o = lifted (λ p. p ≡ pruned k n) (IsPruned n) r (λ p e. record { kept = k; needed = h; same = e }) o
 
 well_formed : (n p : Netlist) → IsWellFormed n → IsPruned n p → IsWellFormed p
 well_formed n p w h = subst IsWellFormed (sym h.same) (well_formed_by h.kept n (closed (circuit_of n) h.kept h.needed) w)
 
-shows : (n p : Netlist) → IsWellFormed n → IsPruned n p → (image : List (List ℕ)) (schedule : List ℕ) → nports p image schedule ≡ nports n image schedule
+shows : (n p : Netlist) → IsWellFormed n → IsPruned n p → (image : List (List ℕ)) (schedule : List ℕ)
+    → nports p image schedule ≡ nports n image schedule
 shows n p w h = subst (λ (q : Netlist). (image : List (List ℕ)) (schedule : List ℕ) → nports q image schedule ≡ nports n image schedule) (sym h.same) (shows_same h.kept n (closed (circuit_of n) h.kept h.needed) w.well)
 
 same_frame : (n p : Netlist) → IsPruned n p → HasSameFrame n p
@@ -41,7 +43,8 @@ pub all_well : {E : Type 0} (n : Netlist) (r : Result Netlist E) → IsWellForme
 all_well n r w o = lifted (IsPruned n) IsWellFormed r (λ p h. well_formed n p w h) o
 
 -- a netlist with its needed registers and cells alone shows what the whole one shows, which is well formed
-pub all_show : {E : Type 0} (n : Netlist) (r : Result Netlist E) → IsWellFormed n → IfOk r (IsPruned n) → IfOk r (λ p. (image : List (List ℕ)) (schedule : List ℕ) → nports p image schedule ≡ nports n image schedule)
+pub all_show : {E : Type 0} (n : Netlist) (r : Result Netlist E) → IsWellFormed n → IfOk r (IsPruned n)
+    → IfOk r (λ p. (image : List (List ℕ)) (schedule : List ℕ) → nports p image schedule ≡ nports n image schedule)
 all_show n r w o = lifted (IsPruned n) (λ p. (image : List (List ℕ)) (schedule : List ℕ) → nports p image schedule ≡ nports n image schedule) r (λ p h. shows n p w h) o
 
 -- a netlist with its needed registers and cells alone has the name, ports, array shapes and memories of all
@@ -53,5 +56,6 @@ pub all_need : {E : Type 0} (n : Netlist) (r : Result Netlist E) → IfOk r (IsP
 all_need n r o = lifted (IsPruned n) (λ p. AllNeeded (circuit_of p)) r (needed n) o
 
 -- no two cells of a netlist with its needed registers and cells alone are equal where no two of all are
-pub all_distinct : {E : Type 0} (n : Netlist) (r : Result Netlist E) → IfOk r (IsPruned n) → IfOk r (λ p. AllPairs (λ a b. a ≢ b) n.cells → AllPairs (λ a b. a ≢ b) p.cells)
+pub all_distinct : {E : Type 0} (n : Netlist) (r : Result Netlist E) → IfOk r (IsPruned n)
+    → IfOk r (λ p. AllPairs (λ a b. a ≢ b) n.cells → AllPairs (λ a b. a ≢ b) p.cells)
 all_distinct n r o = lifted (IsPruned n) (λ p. AllPairs (λ a b. a ≢ b) n.cells → AllPairs (λ a b. a ≢ b) p.cells) r (distinct n) o

@@ -27,7 +27,9 @@ use Rattle.pdl_word.proofs.Each.{each_from_get}
 
 -- ---- the names of outputs
 
-place_from : (k : Choice) (name : List ℕ) (ps : List Port) (i : ℕ) → position_from (λ o. bytes_eq o.name name) i (filter_map port_output (map (moved_port k) ps)) ≡ position_from (λ o. bytes_eq o.name name) i (filter_map port_output ps)
+place_from : (k : Choice) (name : List ℕ) (ps : List Port) (i : ℕ)
+    → position_from (λ o. bytes_eq o.name name) i (filter_map port_output (map (moved_port k) ps))
+    ≡ position_from (λ o. bytes_eq o.name name) i (filter_map port_output ps)
 place_from k name [] i = refl
 place_from k name (p ∷ ps) i = elim p.dir as (λ (d : Dir). position_from (λ o. bytes_eq o.name name) i (filter_map port_output (map (moved_port k) (record { name = p.name; width = p.width; dir = d } ∷ ps))) ≡ position_from (λ o. bytes_eq o.name name) i (filter_map port_output (record { name = p.name; width = p.width; dir = d } ∷ ps))) [
   | In ↦ place_from k name ps i
@@ -43,7 +45,8 @@ commit_same k n ports mem = cc (place_same k n (codes "c_" ++ mem), place_same k
 request_same : (k : Choice) (n : Netlist) (ports mem : List ℕ) → request_of (after k n) ports mem ≡ request_of (circuit_of n) ports mem
 request_same k n ports mem = cc (place_same k n (codes "q_" ++ mem), place_same k n (codes "qa_" ++ mem))
 
-stores_same : (k : Choice) (n : Netlist) (ports : List ℕ) (mems : List MemInfo) (stores : List Store) (bits : ℕ) → next_stores (after k n) ports mems stores bits ≡ next_stores (circuit_of n) ports mems stores bits
+stores_same : (k : Choice) (n : Netlist) (ports : List ℕ) (mems : List MemInfo) (stores : List Store) (bits : ℕ)
+    → next_stores (after k n) ports mems stores bits ≡ next_stores (circuit_of n) ports mems stores bits
 stores_same k n ports [] stores bits = refl
 stores_same k n ports (i ∷ mems) [] bits = refl
 stores_same k n ports (i ∷ mems) (m ∷ stores) bits = cc (commit_same k n ports i.name, request_same k n ports i.name, stores_same k n ports mems stores (bits / 2))
@@ -53,7 +56,8 @@ stores_same k n ports (i ∷ mems) (m ∷ stores) bits = cc (commit_same k n por
 abbrev IsSame : Choice → Netlist → State → State → Net → Type 0
 IsSame k n s s' x = net_value (after k n) s' (moved_net k x) ≡ net_value (circuit_of n) s x
 
-value_same : (k : Choice) (n : Netlist) → IsClosed (circuit_of n) k → IsWell (circuit_of n) → (s s' : State) → IsSameState k s s' → (x : Net) → IsThere (circuit_of n) x → IsKept k x → IsSame k n s s' x
+value_same : (k : Choice) (n : Netlist) → IsClosed (circuit_of n) k → IsWell (circuit_of n) → (s s' : State)
+    → IsSameState k s s' → (x : Net) → IsThere (circuit_of n) x → IsKept k x → IsSame k n s s' x
 value_same k n h w s s' t x there kept = (net_same k n h w.cells s s' t x there kept).same.value
 
 -- what holds at each place below a list's length holds of each of its elements
@@ -61,35 +65,46 @@ pub each_from_at : {A : Type 0} (P : A → Type 0) (d : A) (xs : List A) → ((i
 each_from_at P d [] h = tt
 each_from_at P d (x ∷ xs) h = (h zero (omega arith), each_from_at P d xs (λ i l. h (suc i) (omega (arith, l))))
 
-ports_same : (k : Choice) (n : Netlist) → IsClosed (circuit_of n) k → IsWell (circuit_of n) → (s s' : State) → IsSameState k s s' → Each (λ p. Each (IsSame k n s s') (shown_by p.dir)) n.ports
+ports_same : (k : Choice) (n : Netlist) → IsClosed (circuit_of n) k → IsWell (circuit_of n) → (s s' : State)
+    → IsSameState k s s' → Each (λ p. Each (IsSame k n s s') (shown_by p.dir)) n.ports
 ports_same k n h w s s' t = each_from_get (λ (p : Port). Each (IsSame k n s s') (shown_by p.dir)) n.ports (λ i p e. at p.width p.dir (w.ports i p e).driven (port_kept (circuit_of n) k h i p e))
   where
     at : (v : ℕ) (d : Dir) → IsDriven (circuit_of n) v d → Each (IsKept k) (shown_by d) → Each (IsSame k n s s') (shown_by d)
     at v In d kept = tt
     at v (Out x) d kept = (value_same k n h w s s' t x d.0 kept.0, tt)
 
-outputs_from : (k : Choice) (n : Netlist) (s s' : State) (ps : List Port) → Each (λ p. Each (IsSame k n s s') (shown_by p.dir)) ps → map (λ o. net_value (after k n) s' o.net) (filter_map port_output (map (moved_port k) ps)) ≡ map (λ o. net_value (circuit_of n) s o.net) (filter_map port_output ps)
+outputs_from : (k : Choice) (n : Netlist) (s s' : State) (ps : List Port)
+    → Each (λ p. Each (IsSame k n s s') (shown_by p.dir)) ps
+    → map (λ o. net_value (after k n) s' o.net) (filter_map port_output (map (moved_port k) ps))
+    ≡ map (λ o. net_value (circuit_of n) s o.net) (filter_map port_output ps)
 outputs_from k n s s' [] h = refl
 outputs_from k n s s' (p ∷ ps) h = (elim p.dir as (λ (d : Dir). Each (IsSame k n s s') (shown_by d) → map (λ o. net_value (after k n) s' o.net) (filter_map port_output (map (moved_port k) (record { name = p.name; width = p.width; dir = d } ∷ ps))) ≡ map (λ o. net_value (circuit_of n) s o.net) (filter_map port_output (record { name = p.name; width = p.width; dir = d } ∷ ps))) [
   | In ↦ (λ g. outputs_from k n s s' ps h.1)
   | Out x ↦ (λ g. cc (g.0, outputs_from k n s s' ps h.1))
 ]) h.0
 
-outputs_same : (k : Choice) (n : Netlist) → IsClosed (circuit_of n) k → IsWell (circuit_of n) → (s s' : State) → IsSameState k s s' → output_values (after k n) s' ≡ output_values (circuit_of n) s
+outputs_same : (k : Choice) (n : Netlist) → IsClosed (circuit_of n) k → IsWell (circuit_of n) → (s s' : State)
+    → IsSameState k s s' → output_values (after k n) s' ≡ output_values (circuit_of n) s
 unfolding output_values
 outputs_same k n h w s s' t = outputs_from k n s s' n.ports (ports_same k n h w s s' t)
 
-nexts_from : (k : Choice) (n : Netlist) (s s' : State) (bs : List Bool) (rs : List Reg) → ((r : ℕ) → r < length rs → get_or bs r false ≡ true → IsSame k n s s' (get_or rs r no_reg).next) → map (λ r. net_value (after k n) s' r.next) (map (moved_reg k) (kept_of bs rs)) ≡ kept_of bs (map (λ r. net_value (circuit_of n) s r.next) rs)
+nexts_from : (k : Choice) (n : Netlist) (s s' : State) (bs : List Bool) (rs : List Reg)
+    → ((r : ℕ) → r < length rs → get_or bs r false ≡ true → IsSame k n s s' (get_or rs r no_reg).next)
+    → map (λ r. net_value (after k n) s' r.next) (map (moved_reg k) (kept_of bs rs))
+    ≡ kept_of bs (map (λ r. net_value (circuit_of n) s r.next) rs)
 nexts_from k n s s' [] rs h = refl
 nexts_from k n s s' (b ∷ bs) [] h = refl
 nexts_from k n s s' (true ∷ bs) (r ∷ rs) h = cc (h zero (omega arith) refl, nexts_from k n s s' bs rs (λ i l e. h (suc i) (omega (arith, l)) e))
 nexts_from k n s s' (false ∷ bs) (r ∷ rs) h = nexts_from k n s s' bs rs (λ i l e. h (suc i) (omega (arith, l)) e)
 
-nexts_same : (k : Choice) (n : Netlist) → IsClosed (circuit_of n) k → IsWell (circuit_of n) → (s s' : State) → IsSameState k s s' → next_regs (after k n) s' ≡ kept_of k.regs (next_regs (circuit_of n) s)
+nexts_same : (k : Choice) (n : Netlist) → IsClosed (circuit_of n) k → IsWell (circuit_of n) → (s s' : State)
+    → IsSameState k s s' → next_regs (after k n) s' ≡ kept_of k.regs (next_regs (circuit_of n) s)
 unfolding next_regs
 nexts_same k n h w s s' t = nexts_from k n s s' k.regs n.regs (λ r l e. value_same k n h w s s' t (reg_at (circuit_of n) r).next (w.regs r l).next (h.reads (RegNet r) e).0)
 
-writes_from : (k : Choice) (n : Netlist) (s s' : State) (ps : List WritePort) (xs : List ℕ) → Each (λ p. Each (IsSame k n s s') (read_by p)) ps → after_writes (after k n) s' (map (moved_write k) ps) xs ≡ after_writes (circuit_of n) s ps xs
+writes_from : (k : Choice) (n : Netlist) (s s' : State) (ps : List WritePort) (xs : List ℕ)
+    → Each (λ p. Each (IsSame k n s s') (read_by p)) ps
+    → after_writes (after k n) s' (map (moved_write k) ps) xs ≡ after_writes (circuit_of n) s ps xs
 writes_from k n s s' [] xs h = refl
 writes_from k n s s' (p ∷ ps) xs h =
     let e = h.0.0 in
@@ -98,13 +113,17 @@ writes_from k n s s' (p ∷ ps) xs h =
     let one : (if net_value (after k n) s' (moved_net k p.enable) == 1 then slice_set xs (net_value (after k n) s' (moved_net k p.addr)) (net_value (after k n) s' (moved_net k p.value)) else xs) ≡ (if net_value (circuit_of n) s p.enable == 1 then slice_set xs (net_value (circuit_of n) s p.addr) (net_value (circuit_of n) s p.value) else xs) = cc (e, a, v) in
     ap (after_writes (after k n) s' (map (moved_write k) ps)) one ∙ writes_from k n s s' ps _ h.1
 
-arrays_from_same : (k : Choice) (n : Netlist) (s s' : State) → s'.arrays ≡ s.arrays → (ms : List Array) (j : ℕ) → Each (λ a. Each (λ p. Each (IsSame k n s s') (read_by p)) a.writes) ms → arrays_from (after k n) s' (map (moved_array k) ms) j ≡ arrays_from (circuit_of n) s ms j
+arrays_from_same : (k : Choice) (n : Netlist) (s s' : State)
+    → s'.arrays ≡ s.arrays → (ms : List Array) (j : ℕ)
+    → Each (λ a. Each (λ p. Each (IsSame k n s s') (read_by p)) a.writes) ms
+    → arrays_from (after k n) s' (map (moved_array k) ms) j ≡ arrays_from (circuit_of n) s ms j
 arrays_from_same k n s s' t [] j h = refl
 arrays_from_same k n s s' t (a ∷ ms) j h =
     let first = ap (λ xs. after_writes (after k n) s' (map (moved_write k) a.writes) (slice_index_or xs j [])) t ∙ writes_from k n s s' a.writes (slice_index_or s.arrays j []) h.0 in
     cc (first, arrays_from_same k n s s' t ms (suc j) h.1)
 
-writes_same : (k : Choice) (n : Netlist) → IsClosed (circuit_of n) k → IsWell (circuit_of n) → (s s' : State) → IsSameState k s s' → Each (λ a. Each (λ p. Each (IsSame k n s s') (read_by p)) a.writes) n.arrays
+writes_same : (k : Choice) (n : Netlist) → IsClosed (circuit_of n) k → IsWell (circuit_of n) → (s s' : State)
+    → IsSameState k s s' → Each (λ a. Each (λ p. Each (IsSame k n s s') (read_by p)) a.writes) n.arrays
 writes_same k n h w s s' t = each_from_at (λ (a : Array). Each (λ p. Each (IsSame k n s s') (read_by p)) a.writes) no_array n.arrays (λ m l.
     each_from_get (λ (p : WritePort). Each (IsSame k n s s') (read_by p)) (array_at (circuit_of n) m).writes (λ i p e.
     let f = (w.arrays m l).writes i p e in
@@ -113,7 +132,8 @@ writes_same k n h w s s' t = each_from_at (λ (a : Array). Each (λ p. Each (IsS
       (value_same k n h w s s' t p.addr f.addr kept.1.0, (value_same k n h w s s' t p.value f.value kept.1.1.0, tt)),
     )))
 
-arrays_same : (k : Choice) (n : Netlist) → IsClosed (circuit_of n) k → IsWell (circuit_of n) → (s s' : State) → IsSameState k s s' → next_arrays (after k n) s' ≡ next_arrays (circuit_of n) s
+arrays_same : (k : Choice) (n : Netlist) → IsClosed (circuit_of n) k → IsWell (circuit_of n) → (s s' : State)
+    → IsSameState k s s' → next_arrays (after k n) s' ≡ next_arrays (circuit_of n) s
 unfolding next_arrays
 arrays_same k n h w s s' t = arrays_from_same k n s s' t.arrays n.arrays 0 (writes_same k n h w s s' t)
 
@@ -128,7 +148,8 @@ record IsSameHeld (k : Choice) (a b : Held) : Type 0 where
 state_same : (k : Choice) (a b : Held) (bits : ℕ) → IsSameHeld k a b → IsSameState k (state_in a bits) (state_in b bits)
 state_same k a b bits t = record { inputs = cc (t.stores); regs = t.regs; arrays = t.arrays }
 
-next_same : (k : Choice) (n : Netlist) → IsClosed (circuit_of n) k → IsWell (circuit_of n) → (a b : Held) (bits : ℕ) → IsSameHeld k a b → IsSameHeld k (next n a bits) (next (pruned k n) b bits)
+next_same : (k : Choice) (n : Netlist) → IsClosed (circuit_of n) k → IsWell (circuit_of n) → (a b : Held) (bits : ℕ)
+    → IsSameHeld k a b → IsSameHeld k (next n a bits) (next (pruned k n) b bits)
 next_same k n h w a b bits t =
     let s = state_same k a b bits t in record {
       regs = nexts_same k n h w (state_in a bits) (state_in b bits) s;
@@ -139,7 +160,9 @@ next_same k n h w a b bits t =
           ∙ stores_same k n (output_values (circuit_of n) (state_in a bits)) (delayed_mems n) a.stores bits;
     }
 
-run_same : (k : Choice) (n : Netlist) → IsClosed (circuit_of n) k → IsWell (circuit_of n) → (a b : Held) (schedule : List ℕ) → IsSameHeld k a b → nports_from (pruned k n) b schedule ≡ nports_from n a schedule
+run_same : (k : Choice) (n : Netlist) → IsClosed (circuit_of n) k → IsWell (circuit_of n)
+    → (a b : Held) (schedule : List ℕ) → IsSameHeld k a b
+    → nports_from (pruned k n) b schedule ≡ nports_from n a schedule
 run_same k n h w a b [] t = refl
 run_same k n h w a b (bits ∷ schedule) t =
     let o = outputs_same k n h w (state_in a bits) (state_in b bits) (state_same k a b bits t) in
@@ -153,14 +176,16 @@ loaded_same : (k : Choice) (ms : List Array) (image : List (List ℕ)) → loade
 loaded_same k [] image = refl
 loaded_same k (a ∷ ms) image = cc (loaded_same k ms (drop 1 image))
 
-resets_same : (k : Choice) (bs : List Bool) (rs : List Reg) → map (λ r. r.reset) (map (moved_reg k) (kept_of bs rs)) ≡ kept_of bs (map (λ r. r.reset) rs)
+resets_same : (k : Choice) (bs : List Bool) (rs : List Reg)
+    → map (λ r. r.reset) (map (moved_reg k) (kept_of bs rs)) ≡ kept_of bs (map (λ r. r.reset) rs)
 resets_same k [] rs = refl
 resets_same k (b ∷ bs) [] = refl
 resets_same k (true ∷ bs) (r ∷ rs) = ap (λ xs. r.reset ∷ xs) (resets_same k bs rs)
 resets_same k (false ∷ bs) (r ∷ rs) = resets_same k bs rs
 
 -- a well formed netlist pruned by a closed choice shows the same in each cycle, from each image
-pub shows_same : (k : Choice) (n : Netlist) → IsClosed (circuit_of n) k → IsWell (circuit_of n) → (image : List (List ℕ)) (schedule : List ℕ) → nports (pruned k n) image schedule ≡ nports n image schedule
+pub shows_same : (k : Choice) (n : Netlist) → IsClosed (circuit_of n) k → IsWell (circuit_of n)
+    → (image : List (List ℕ)) (schedule : List ℕ) → nports (pruned k n) image schedule ≡ nports n image schedule
 shows_same k n h w image schedule = run_same k n h w (start n image) (start (pruned k n) image) schedule (record {
   regs = resets_same k k.regs n.regs;
   arrays = loaded_same k n.arrays (drop (length (delayed_mems n)) image);

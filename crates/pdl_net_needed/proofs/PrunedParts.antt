@@ -30,7 +30,8 @@ inputs_moved k (p ∷ ps) = elim p.dir as (λ (d : Dir). filter_map port_input (
 inputs_same : (k : Choice) (n : Netlist) → inputs_of (after k n) ≡ inputs_of (circuit_of n)
 inputs_same k n = inputs_moved k n.ports
 
-reg_there : (k : Choice) (n : Netlist) → IsClosed (circuit_of n) k → (r : ℕ) → IsKept k (RegNet r) → kept_before k.regs r < length (after k n).regs
+reg_there : (k : Choice) (n : Netlist) → IsClosed (circuit_of n) k → (r : ℕ) → IsKept k (RegNet r)
+    → kept_before k.regs r < length (after k n).regs
 reg_there k n h r kept =
     let l = length-map (kept_of k.regs n.regs) (moved_reg k) in
     let e = kept_length k.regs n.regs h.reg_count in
@@ -38,14 +39,16 @@ reg_there k n h r kept =
     omega arith
 
 -- a register that a closed choice keeps stands at its new number, with the new number of what it takes next
-pub reg_moved : (k : Choice) (n : Netlist) → IsClosed (circuit_of n) k → (r : ℕ) → IsKept k (RegNet r) → reg_at (after k n) (kept_before k.regs r) ≡ moved_reg k (reg_at (circuit_of n) r)
+pub reg_moved : (k : Choice) (n : Netlist) → IsClosed (circuit_of n) k → (r : ℕ) → IsKept k (RegNet r)
+    → reg_at (after k n) (kept_before k.regs r) ≡ moved_reg k (reg_at (circuit_of n) r)
 reg_moved k n h r kept =
     let e = kept_length k.regs n.regs h.reg_count in
     let b = kept_within k.regs r kept in
     get_or-map (moved_reg k) (kept_of k.regs n.regs) (kept_before k.regs r) no_reg no_reg (omega arith) ∙ ap (moved_reg k) (kept_get k.regs n.regs r no_reg kept)
 
 -- each array stays at its number, with the new numbers of what its write ports read
-pub array_moved : (k : Choice) (n : Netlist) (m : ℕ) → m < length n.arrays → array_at (after k n) m ≡ moved_array k (array_at (circuit_of n) m)
+pub array_moved : (k : Choice) (n : Netlist) (m : ℕ)
+    → m < length n.arrays → array_at (after k n) m ≡ moved_array k (array_at (circuit_of n) m)
 array_moved k n m l = get_or-map (moved_array k) n.arrays m no_array no_array l
 
 has_moved : (k : Choice) (n : Netlist) → IsClosed (circuit_of n) k → HasMoved (circuit_of n) (after k n) k
@@ -58,13 +61,17 @@ has_moved k n h = record {
 }
 
 -- the kept cells, and all signals
-all_same : (k : Choice) (n : Netlist) → IsClosed (circuit_of n) k → CellsFit (circuit_of n) → (s s' : State) → IsSameState k s s' → IsSameRest (circuit_of n) (after k n) k s s' n.cells [] (map (moved_cell k) (kept_of k.cells n.cells)) []
+all_same : (k : Choice) (n : Netlist) → IsClosed (circuit_of n) k → CellsFit (circuit_of n) → (s s' : State)
+    → IsSameState k s s'
+    → IsSameRest (circuit_of n) (after k n) k s s' n.cells [] (map (moved_cell k) (kept_of k.cells n.cells)) []
 all_same k n h f s s' t =
     rest_same (circuit_of n) (after k n) k s s' (has_moved k n h) t n.cells [] k.cells [] [] refl refl h.cell_count
     (λ j l kept. h.reads (CellNet j) kept) f (record { count = sym (none_before k.cells); cells = λ j l kept. absurd (omega arith) })
 
 -- a kept net is there by its new number, and has the same value in each state
-pub net_same : (k : Choice) (n : Netlist) → IsClosed (circuit_of n) k → CellsFit (circuit_of n) → (s s' : State) → IsSameState k s s' → KeepsNets k s s' (IsThere (circuit_of n)) (IsThere (after k n)) (signal (circuit_of n)) (signal (after k n))
+pub net_same : (k : Choice) (n : Netlist) → IsClosed (circuit_of n) k → CellsFit (circuit_of n) → (s s' : State)
+    → IsSameState k s s'
+    → KeepsNets k s s' (IsThere (circuit_of n)) (IsThere (after k n)) (signal (circuit_of n)) (signal (after k n))
 unfolding signal signals IsThere
 net_same k n h f s s' t x there kept =
     let c = circuit_of n in
@@ -87,9 +94,12 @@ pub cells_fit : (k : Choice) (n : Netlist) → IsClosed (circuit_of n) k → Cel
 cells_fit k n h f = (all_same k n h f empty empty (empty_same k)).fit
 
 -- a net that a closed choice keeps has the same width by its new number
-pub width_same : (k : Choice) (n : Netlist) → IsClosed (circuit_of n) k → CellsFit (circuit_of n) → (x : Net) → IsThere (circuit_of n) x → IsKept k x → (signal (after k n) (moved_net k x)).width ≡ (signal (circuit_of n) x).width
+pub width_same : (k : Choice) (n : Netlist) → IsClosed (circuit_of n) k → CellsFit (circuit_of n) → (x : Net)
+    → IsThere (circuit_of n) x → IsKept k x
+    → (signal (after k n) (moved_net k x)).width ≡ (signal (circuit_of n) x).width
 width_same k n h f x there kept = (net_same k n h f empty empty (empty_same k) x there kept).same.width
 
 -- a net that is there, and that a closed choice keeps, is there by its new number
-pub there_same : (k : Choice) (n : Netlist) → IsClosed (circuit_of n) k → CellsFit (circuit_of n) → (x : Net) → IsThere (circuit_of n) x → IsKept k x → IsThere (after k n) (moved_net k x)
+pub there_same : (k : Choice) (n : Netlist) → IsClosed (circuit_of n) k → CellsFit (circuit_of n) → (x : Net)
+    → IsThere (circuit_of n) x → IsKept k x → IsThere (after k n) (moved_net k x)
 there_same k n h f x there kept = (net_same k n h f empty empty (empty_same k) x there kept).there

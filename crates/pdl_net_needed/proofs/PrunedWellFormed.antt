@@ -31,17 +31,20 @@ mapped_at f [] i y e = absurd (cc e)
 mapped_at f (x ∷ xs) zero y e = record { old = x; here = refl; same = cc }
 mapped_at f (x ∷ xs) (suc i) y e = let r = mapped_at f xs i y e in record { old = r.old; here = r.here; same = r.same }
 
-driven_moved : (k : Choice) (n : Netlist) → IsClosed (circuit_of n) k → IsWell (circuit_of n) → (w : ℕ) (d : Dir) → Each (IsKept k) (shown_by d) → IsDriven (circuit_of n) w d → IsDriven (after k n) w (moved_dir k d)
+driven_moved : (k : Choice) (n : Netlist) → IsClosed (circuit_of n) k → IsWell (circuit_of n) → (w : ℕ) (d : Dir)
+    → Each (IsKept k) (shown_by d) → IsDriven (circuit_of n) w d → IsDriven (after k n) w (moved_dir k d)
 driven_moved k n h f w In kept d = tt
 driven_moved k n h f w (Out x) kept d = (there_same k n h f.cells x d.0 kept.0, width_same k n h f.cells x d.0 kept.0 ∙ d.1)
 
-port_well : (k : Choice) (n : Netlist) → IsClosed (circuit_of n) k → IsWell (circuit_of n) → (i : ℕ) (q : Port) → slice_get (after k n).ports i ≡ Some q → IsWellPort (after k n) q
+port_well : (k : Choice) (n : Netlist) → IsClosed (circuit_of n) k → IsWell (circuit_of n) → (i : ℕ) (q : Port)
+    → slice_get (after k n).ports i ≡ Some q → IsWellPort (after k n) q
 port_well k n h f i q e =
     let r = mapped_at (moved_port k) n.ports i q e in
     let w = f.ports i r.old r.here in
     subst (IsWellPort (after k n)) r.same (record { low = w.low; high = w.high; driven = driven_moved k n h f r.old.width r.old.dir (port_kept (circuit_of n) k h i r.old r.here) w.driven })
 
-reg_well : (k : Choice) (n : Netlist) → IsClosed (circuit_of n) k → IsWell (circuit_of n) → (r : ℕ) → r < length (after k n).regs → IsWellReg (after k n) (reg_at (after k n) r)
+reg_well : (k : Choice) (n : Netlist) → IsClosed (circuit_of n) k → IsWell (circuit_of n) → (r : ℕ)
+    → r < length (after k n).regs → IsWellReg (after k n) (reg_at (after k n) r)
 reg_well k n h f r l =
     let a = length-map (kept_of k.regs n.regs) (moved_reg k) in
     let b = kept_length k.regs n.regs h.reg_count in
@@ -59,7 +62,9 @@ reg_well k n h f r l =
       width = width_same k n h f.cells old.next w.next next ∙ w.width;
     }))
 
-write_well : (k : Choice) (n : Netlist) → IsClosed (circuit_of n) k → IsWell (circuit_of n) → (a : Array) (p : WritePort) → Each (IsKept k) (read_by p) → IsWellWrite (circuit_of n) a p → IsWellWrite (after k n) (moved_array k a) (moved_write k p)
+write_well : (k : Choice) (n : Netlist) → IsClosed (circuit_of n) k → IsWell (circuit_of n)
+    → (a : Array) (p : WritePort) → Each (IsKept k) (read_by p) → IsWellWrite (circuit_of n) a p
+    → IsWellWrite (after k n) (moved_array k a) (moved_write k p)
 write_well k n h f a p kept w = record {
   enable = there_same k n h f.cells p.enable w.enable kept.0;
   addr = there_same k n h f.cells p.addr w.addr kept.1.0;
@@ -69,7 +74,8 @@ write_well k n h f a p kept w = record {
   width = width_same k n h f.cells p.value w.value kept.1.1.0 ∙ w.width;
 }
 
-array_well : (k : Choice) (n : Netlist) → IsClosed (circuit_of n) k → IsWell (circuit_of n) → (m : ℕ) → m < length (after k n).arrays → IsWellArray (after k n) (array_at (after k n) m)
+array_well : (k : Choice) (n : Netlist) → IsClosed (circuit_of n) k → IsWell (circuit_of n) → (m : ℕ)
+    → m < length (after k n).arrays → IsWellArray (after k n) (array_at (after k n) m)
 array_well k n h f m l =
     let o : m < length n.arrays = omega (arith, length-map n.arrays (moved_array k), l) in
     let a = array_at (circuit_of n) m in
@@ -117,7 +123,9 @@ array_names_same : (k : Choice) (ms : List Array) → map (λ a. a.name) (map (m
 array_names_same k [] = refl
 array_names_same k (a ∷ ms) = ap (λ ns. a.name ∷ ns) (array_names_same k ms)
 
-mems_same : (k : Choice) (locked : List PortMem) (ms : List Array) → map (λ a. comb_info a (find (λ m. bytes_eq m.name a.name) locked)) (map (moved_array k) ms) ≡ map (λ a. comb_info a (find (λ m. bytes_eq m.name a.name) locked)) ms
+mems_same : (k : Choice) (locked : List PortMem) (ms : List Array)
+    → map (λ a. comb_info a (find (λ m. bytes_eq m.name a.name) locked)) (map (moved_array k) ms)
+    ≡ map (λ a. comb_info a (find (λ m. bytes_eq m.name a.name) locked)) ms
 mems_same k locked [] = refl
 mems_same k locked (a ∷ ms) = ap (λ xs. comb_info a (find (λ m. bytes_eq m.name a.name) locked) ∷ xs) (mems_same k locked ms)
 

@@ -45,7 +45,9 @@ abbrev pub KeepsNets : Choice → State → State → (Net → Type 0) → (Net 
 KeepsNets k s s' There There' at at' = (x : Net) → There x → IsKept k x → IsSameNet s s' There' (at x) at' (moved_net k x)
 
 -- a cell over kept nets fits
-moved_fits : (c c' : Circuit) (k : Choice) (s s' : State) (There There' : Net → Type 0) (at at' : Net → Signal) → HasMoved c c' k → KeepsNets k s s' There There' at at' → (g : Cell) → Each (IsKept k) (reads_of g) → FitsIn c There at g → FitsIn c' There' at' (moved_cell k g)
+moved_fits : (c c' : Circuit) (k : Choice) (s s' : State) (There There' : Net → Type 0) (at at' : Net → Signal)
+    → HasMoved c c' k → KeepsNets k s s' There There' at at' → (g : Cell) → Each (IsKept k) (reads_of g)
+    → FitsIn c There at g → FitsIn c' There' at' (moved_cell k g)
 moved_fits c c' k s s' There There' at at' m h (Const v n) e f = f
 moved_fits c c' k s s' There There' at at' m h (Not a) e f = (h a f e.0).there
 moved_fits c c' k s s' There There' at at' m h (Bin op a b) e f =
@@ -66,7 +68,10 @@ moved_fits c c' k s s' There There' at at' m h (Read i a) e f =
     (omega (arith, m.arrays, f.0), p.there, ap (λ w. 2 ^ w) p.same.width ∙ f.2 ∙ sym (m.depths i f.0))
 
 -- and has the same value
-moved_value : (c c' : Circuit) (k : Choice) (s s' : State) (There There' : Net → Type 0) (at at' : Net → Signal) → HasMoved c c' k → IsSameState k s s' → KeepsNets k s s' There There' at at' → (g : Cell) → Each (IsKept k) (reads_of g) → FitsIn c There at g → SameAt s s' (cell_signal c at g) (cell_signal c' at' (moved_cell k g))
+moved_value : (c c' : Circuit) (k : Choice) (s s' : State) (There There' : Net → Type 0) (at at' : Net → Signal)
+    → HasMoved c c' k → IsSameState k s s' → KeepsNets k s s' There There' at at' → (g : Cell)
+    → Each (IsKept k) (reads_of g) → FitsIn c There at g
+    → SameAt s s' (cell_signal c at g) (cell_signal c' at' (moved_cell k g))
 unfolding const_value not_value bin_value mux_value slice_value cat_value rep_value read_value
 moved_value c c' k s s' There There' at at' m t h (Const v n) e f = record { width = refl; value = refl }
 moved_value c c' k s s' There There' at at' m t h (Not a) e f = let p = (h a f e.0).same in record { width = p.width; value = cc (p.width, p.value) }
@@ -89,7 +94,9 @@ pub record Agrees (k : Choice) (s s' : State) (done done' : List Signal) : Type 
   pub cells : (j : ℕ) → j < length done → IsKept k (CellNet j) → SameAt s s' (get_or done j no_signal) (get_or done' (kept_before k.cells j) no_signal)
 
 -- kept nets have the same values in the pruned circuit where those of the first cells have
-pub looked : (c c' : Circuit) (k : Choice) (s s' : State) → HasMoved c c' k → IsSameState k s s' → (done done' : List Signal) → Agrees k s s' done done' → KeepsNets k s s' (IsThereAt c (length done)) (IsThereAt c' (length done')) (look c done) (look c' done')
+pub looked : (c c' : Circuit) (k : Choice) (s s' : State) → HasMoved c c' k → IsSameState k s s'
+    → (done done' : List Signal) → Agrees k s s' done done'
+    → KeepsNets k s s' (IsThereAt c (length done)) (IsThereAt c' (length done')) (look c done) (look c' done')
 unfolding input_value reg_value
 looked c c' k s s' m t done done' g (Input i) l e = record {
   there = omega (arith, ap length m.inputs, l);
@@ -105,7 +112,9 @@ looked c c' k s s' m t done done' g (CellNet j) l e = record {
 }
 
 -- one cell more, kept or not
-agrees_kept : (k : Choice) (s s' : State) (front bs : List Bool) (done done' : List Signal) (f f' : Signal) → k.cells ≡ front ++ true ∷ bs → length front ≡ length done → Agrees k s s' done done' → SameAt s s' f f' → Agrees k s s' (done ++ f ∷ []) (done' ++ f' ∷ [])
+agrees_kept : (k : Choice) (s s' : State) (front bs : List Bool) (done done' : List Signal) (f f' : Signal)
+    → k.cells ≡ front ++ true ∷ bs → length front ≡ length done → Agrees k s s' done done' → SameAt s s' f f'
+    → Agrees k s s' (done ++ f ∷ []) (done' ++ f' ∷ [])
 agrees_kept k s s' front bs done done' f f' e n g h =
     let last : kept_before k.cells (suc (length front)) ≡ suc (kept_before k.cells (length front)) =
     (let P : List Bool → Type 0 = λ xs. kept_before xs (suc (length front)) ≡ suc (kept_before xs (length front)) in subst P (sym e) (kept_next front true bs)) in
@@ -133,7 +142,9 @@ agrees_kept k s s' front bs done done' f f' e n g h =
           (cases_lt j (length done));
     }
 
-agrees_left : (k : Choice) (s s' : State) (front bs : List Bool) (done done' : List Signal) (f : Signal) → k.cells ≡ front ++ false ∷ bs → length front ≡ length done → Agrees k s s' done done' → Agrees k s s' (done ++ f ∷ []) done'
+agrees_left : (k : Choice) (s s' : State) (front bs : List Bool) (done done' : List Signal) (f : Signal)
+    → k.cells ≡ front ++ false ∷ bs → length front ≡ length done → Agrees k s s' done done'
+    → Agrees k s s' (done ++ f ∷ []) done'
 agrees_left k s s' front bs done done' f e n g =
     let last : kept_before k.cells (suc (length front)) ≡ kept_before k.cells (length front) =
     (let P : List Bool → Type 0 = λ xs. kept_before xs (suc (length front)) ≡ kept_before xs (length front) in subst P (sym e) (kept_next front false bs)) in

@@ -21,7 +21,8 @@ use Rattle.pdl_netrun.proofs.Orders.{all_placed}
 
 -- WRITES ONE AFTER ANOTHER
 
-after_all_append : (ps qs : List ArrayWrite) (vs : List ℕ) (ws : List (List ℕ)) → after_all (ps ++ qs) vs ws ≡ after_all qs vs (after_all ps vs ws)
+after_all_append : (ps qs : List ArrayWrite) (vs : List ℕ) (ws : List (List ℕ))
+    → after_all (ps ++ qs) vs ws ≡ after_all qs vs (after_all ps vs ws)
 after_all_append [] qs vs ws = refl
 after_all_append (p ∷ ps) qs vs ws = after_all_append ps qs vs (after_write p vs ws)
 
@@ -29,7 +30,8 @@ after_all_append (p ∷ ps) qs vs ws = after_all_append ps qs vs (after_write p 
 abbrev written : Bool → List ℕ → ℕ → ℕ → List ℕ
 written b xs a v = if b then set xs a v else xs
 
-one_set : (b : Bool) (ws : List (List ℕ)) (m a v : ℕ) → (if b then set ws m (set (get_or ws m []) a v) else ws) ≡ set ws m (written b (get_or ws m []) a v)
+one_set : (b : Bool) (ws : List (List ℕ)) (m a v : ℕ)
+    → (if b then set ws m (set (get_or ws m []) a v) else ws) ≡ set ws m (written b (get_or ws m []) a v)
 one_set true ws m a v = refl
 one_set false ws m a v = sym (set-get_or ws m [])
 

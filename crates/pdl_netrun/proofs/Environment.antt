@@ -31,15 +31,18 @@ pub answered_none : (ms : List Outside) (replies : ℕ) → answers (stores_of m
 answered_none ms replies = refl
 
 -- one memory more has its inputs
-pub answered_more : (ms : List Outside) (k : ℕ) (m : Outside) (bits replies : ℕ) (xs : List ℕ) → k < length ms → m ≡ get_or ms k m
-    → answers (stores_of ms) replies ≡ xs ++ answers (stores_of (drop k ms)) bits
-    → answers (stores_of ms) replies ≡ (xs ++ answer m.words.items m.request (reply bits)) ++ answers (stores_of (drop (k + 1) ms)) (bits / 2)
+pub answered_more : (ms : List Outside) (k : ℕ) (m : Outside) (bits replies : ℕ) (xs : List ℕ)
+    → k < length ms → m ≡ get_or ms k m → answers (stores_of ms) replies ≡ xs ++ answers (stores_of (drop k ms)) bits
+    → answers (stores_of ms) replies ≡ (xs ++ answer m.words.items m.request (reply bits))
+    ++ answers (stores_of (drop (k + 1) ms)) (bits / 2)
 answered_more ms k m bits replies xs h g e =
     e ∙ ap (λ l. xs ++ answers (stores_of l) bits) (drop_next ms k m h g)
     ∙ sym (append_assoc xs (answer m.words.items m.request (reply bits)) (answers (stores_of (drop (k + 1) ms)) (bits / 2)))
 
 -- after the last memory the inputs are those of all
-pub answered_all : (ms : List Outside) (k bits replies : ℕ) (xs : List ℕ) → length ms ≤ k → answers (stores_of ms) replies ≡ xs ++ answers (stores_of (drop k ms)) bits → xs ≡ answers (stores_of ms) replies
+pub answered_all : (ms : List Outside) (k bits replies : ℕ) (xs : List ℕ)
+    → length ms ≤ k → answers (stores_of ms) replies ≡ xs ++ answers (stores_of (drop k ms)) bits
+    → xs ≡ answers (stores_of ms) replies
 answered_all ms k bits replies xs h e = sym (e ∙ ap (λ l. xs ++ answers (stores_of l) bits) (drop_all k ms h) ∙ append-nil xs)
 
 -- WHO WAITS
@@ -61,7 +64,9 @@ waiting_more ms k m bits replies w h g e =
     ∙ or_assoc w (is_waiting m.request (reply bits)) (some_waits (stores_of (drop (k + 1) ms)) (bits / 2))
 
 -- after the last memory it is known whether one waits
-pub waiting_all : (ms : List Outside) (k bits replies : ℕ) (w : Bool) → length ms ≤ k → some_waits (stores_of ms) replies ≡ (w || some_waits (stores_of (drop k ms)) bits) → w ≡ some_waits (stores_of ms) replies
+pub waiting_all : (ms : List Outside) (k bits replies : ℕ) (w : Bool)
+    → length ms ≤ k → some_waits (stores_of ms) replies ≡ (w || some_waits (stores_of (drop k ms)) bits)
+    → w ≡ some_waits (stores_of ms) replies
 waiting_all ms k bits replies w h e = sym (e ∙ ap (λ l. w || some_waits (stores_of l) bits) (drop_all k ms h) ∙ or_false w)
 
 -- WHAT A CYCLE DOES
@@ -101,7 +106,8 @@ stepped_more ports first now k bits replies m new h g f c q s =
     }
 
 -- after the last memory all have had their cycle
-pub stepped_all : (ports : List ℕ) (first now : List Outside) (k bits replies : ℕ) → length now ≤ k → AreStepped ports first now k bits replies → stores_of now ≡ stores_after ports first replies
+pub stepped_all : (ports : List ℕ) (first now : List Outside) (k bits replies : ℕ)
+    → length now ≤ k → AreStepped ports first now k bits replies → stores_of now ≡ stores_after ports first replies
 stepped_all ports first now k bits replies h s =
     let n = s.many in
     sym (s.stores
@@ -126,14 +132,17 @@ pub first_none : (c : Circuit) (mems : List MemInfo) (image : List (List ℕ)) (
 first_none c mems image ms e = record { stores = ap stores_of e; commits = ap (map (λ (m : Outside). m.commits)) e; requests = ap (map (λ (m : Outside). m.requests)) e }
 
 -- f of the first k + 1 elements, from f of the first k
-mapped_next : {A B C : Type 0} (f : A → C) (g : B → C) (xs : List A) (ys : List B) (k : ℕ) (x : A) (d : B) → map f xs ≡ map g (take k ys) → k < length ys → f x ≡ g (get_or ys k d) → map f (xs ++ x ∷ []) ≡ map g (take (k + 1) ys)
+mapped_next : {A B C : Type 0} (f : A → C) (g : B → C) (xs : List A) (ys : List B) (k : ℕ) (x : A) (d : B)
+    → map f xs ≡ map g (take k ys) → k < length ys → f x ≡ g (get_or ys k d)
+    → map f (xs ++ x ∷ []) ≡ map g (take (k + 1) ys)
 mapped_next f g xs ys k x d e h q =
     map-append f xs (x ∷ []) ∙ ap (λ l. l ++ f x ∷ []) e ∙ ap (λ z. map g (take k ys) ++ z ∷ []) q
     ∙ sym (map-append g (take k ys) (get_or ys k d ∷ [])) ∙ ap (map g) (sym (take_more ys k d h))
 
 -- with one memory more, which has its part of the image, they are the first k + 1
-pub first_more : (c : Circuit) (mems : List MemInfo) (image : List (List ℕ)) (k : ℕ) (ms new : List Outside) (i : MemInfo) (m : Outside) → k < length mems → k < length image
-    → i ≡ get_or mems k i → IsOutsideOf c i.name (get_or image k []) m → new ≡ ms ++ m ∷ [] → AreFirst c mems image k ms → AreFirst c mems image (k + 1) new
+pub first_more : (c : Circuit) (mems : List MemInfo) (image : List (List ℕ)) (k : ℕ) (ms new : List Outside) (i : MemInfo) (m : Outside)
+    → k < length mems → k < length image → i ≡ get_or mems k i → IsOutsideOf c i.name (get_or image k []) m
+    → new ≡ ms ++ m ∷ [] → AreFirst c mems image k ms → AreFirst c mems image (k + 1) new
 first_more c mems image k ms new i m h l e o f s =
     subst (AreFirst c mems image (k + 1)) (sym f) (record {
       stores = mapped_next store_of (λ (words : List ℕ). record { words = words; request = None }) ms image k m [] s.stores l o.store;
@@ -157,7 +166,9 @@ pair_fits r w x y ws inputs f g h = record { count = ap (λ n. suc (suc n)) h.co
     at (suc zero) l = g
     at (suc (suc i)) l = h.each i (omega (arith, l))
 
-answer_fits : (w : ℕ) (words : List ℕ) (o : Option ℕ) (b : Bool) (ws inputs : List ℕ) → ((a : ℕ) → slice_index words a < 2 ^ w) → InputsFit ws inputs → InputsFit (1 ∷ w ∷ ws) (answer words o b ++ inputs)
+answer_fits : (w : ℕ) (words : List ℕ) (o : Option ℕ) (b : Bool) (ws inputs : List ℕ)
+    → ((a : ℕ) → slice_index words a < 2 ^ w) → InputsFit ws inputs
+    → InputsFit (1 ∷ w ∷ ws) (answer words o b ++ inputs)
 answer_fits w words None b ws inputs f h = pair_fits 1 w 0 0 ws inputs (omega arith) (pow_pos w) h
 answer_fits w words (Some a) true ws inputs f h = pair_fits 1 w 1 (slice_index words a) ws inputs (omega arith) (f a) h
 answer_fits w words (Some a) false ws inputs f h = pair_fits 1 w 0 0 ws inputs (omega arith) (pow_pos w) h
@@ -172,7 +183,9 @@ inputs_fit (r ∷ w ∷ ws) (m ∷ ms) bits f =
     subst (λ x. InputsFit (x ∷ w ∷ ws) (answers (m ∷ ms) bits)) (sym f.0) (answer_fits w m.words m.request (reply bits) ws (answers ms (bits / 2)) f.1 (inputs_fit ws ms (bits / 2) f.2))
 
 -- ports by their places show what they show by their names
-pub stores_named : (c : Circuit) (ports : List ℕ) (infos : List MemInfo) (ms : List Outside) (bits : ℕ) → map (λ (m : Outside). m.commits) ms ≡ map (λ (i : MemInfo). places_of c i.name) infos → map (λ (m : Outside). m.requests) ms ≡ map (λ (i : MemInfo). requests_of c i.name) infos
+pub stores_named : (c : Circuit) (ports : List ℕ) (infos : List MemInfo) (ms : List Outside) (bits : ℕ)
+    → map (λ (m : Outside). m.commits) ms ≡ map (λ (i : MemInfo). places_of c i.name) infos
+    → map (λ (m : Outside). m.requests) ms ≡ map (λ (i : MemInfo). requests_of c i.name) infos
     → next_stores c ports infos (stores_of ms) bits ≡ stores_after ports ms bits
 stores_named c ports [] [] bits e f = refl
 stores_named c ports [] (m ∷ ms) bits e f = absurd (let n = ap length e in omega (arith, n))
@@ -186,7 +199,9 @@ stores_named c ports (i ∷ infos) (m ∷ ms) bits e f =
     ∙ ap (λ l. store_after ports (reply bits) m ∷ l) (stores_named c ports infos ms (bits / 2) commits_after requests_after)
 
 -- words after a commit that fits
-committed_below : (ws : List ℕ) (o : Option (ℕ × ℕ)) (n : ℕ) → ((a v : ℕ) → o ≡ Some (a, v) → v < n) → ((a : ℕ) → slice_index ws a < n) → (a : ℕ) → slice_index (committed_words ws o) a < n
+committed_below : (ws : List ℕ) (o : Option (ℕ × ℕ)) (n : ℕ)
+    → ((a v : ℕ) → o ≡ Some (a, v) → v < n) → ((a : ℕ) → slice_index ws a < n) → (a : ℕ)
+    → slice_index (committed_words ws o) a < n
 committed_below ws None n f g a = g a
 committed_below ws (Some (i, v)) n f g a = ⊎_elim
     (λ (e : a ≡ i). ⊎_elim
@@ -207,7 +222,8 @@ commit_below true x v n h a w e = let k : v ≡ w = ap value_in e in omega (arit
 commit_below false x v n h a w e = absurd cc
 
 -- the words go on fitting
-pub words_kept : (c : Circuit) (s : State) (ws : List ℕ) (infos : List MemInfo) (ms : List Store) (bits : ℕ) → Suits c s → CommitsFit c ws infos → WordsFit ws ms → WordsFit ws (next_stores c (output_values c s) infos ms bits)
+pub words_kept : (c : Circuit) (s : State) (ws : List ℕ) (infos : List MemInfo) (ms : List Store) (bits : ℕ) → Suits c s
+    → CommitsFit c ws infos → WordsFit ws ms → WordsFit ws (next_stores c (output_values c s) infos ms bits)
 words_kept c s [] [] [] bits t k f = tt
 words_kept c s [] [] (m ∷ ms) bits t k f = absurd f
 words_kept c s [] (i ∷ is) ms bits t k f = absurd k
@@ -223,13 +239,18 @@ words_kept c s (r ∷ w ∷ ws) (i ∷ is) (m ∷ ms) bits t k f = (
 -- OF A NETLIST
 
 -- the parts of an image for delayed memories fit their inputs
-words_first : (ds : List PortMem) (image : List (List ℕ)) → length image ≡ length ds → ((k : ℕ) (d : PortMem) → k < length ds → (a : ℕ) → slice_index (get_or image k []) a < 2 ^ (get_or ds k d).width) → WordsFit (flat_map reply_widths ds) (first_stores image)
+words_first : (ds : List PortMem) (image : List (List ℕ))
+    → length image ≡ length ds
+    → ((k : ℕ) (d : PortMem) → k < length ds → (a : ℕ) → slice_index (get_or image k []) a < 2 ^ (get_or ds k d).width)
+    → WordsFit (flat_map reply_widths ds) (first_stores image)
 words_first [] [] e f = tt
 words_first [] (i ∷ is) e f = absurd (omega (arith, e))
 words_first (d ∷ ds) [] e f = absurd (omega (arith, e))
 words_first (d ∷ ds) (i ∷ is) e f = (refl, f zero d (omega arith), words_first ds is (omega (arith, e)) (λ k x l. f (suc k) x (omega (arith, l))))
 
-commits_first : (c : Circuit) (ds : List PortMem) → ((k : ℕ) (d : PortMem) → k < length ds → (s : State) → Suits c s → port_value c (output_values c s) (codes "cd_" ++ (get_or ds k d).name) < 2 ^ (get_or ds k d).width) → CommitsFit c (flat_map reply_widths ds) (map delayed_info ds)
+commits_first : (c : Circuit) (ds : List PortMem)
+    → ((k : ℕ) (d : PortMem) → k < length ds → (s : State) → Suits c s → port_value c (output_values c s) (codes "cd_" ++ (get_or ds k d).name) < 2 ^ (get_or ds k d).width)
+    → CommitsFit c (flat_map reply_widths ds) (map delayed_info ds)
 commits_first c [] f = tt
 commits_first c (d ∷ ds) f = (f zero d (omega arith), commits_first c ds (λ k x l. f (suc k) x (omega (arith, l))))
 

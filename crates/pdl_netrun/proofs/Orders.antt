@@ -57,7 +57,9 @@ pub reads_there : (c : Circuit) → IsWell c → (k : ℕ) → k < length c.cell
 reads_there c w k h =
     reads_each (IsThereAt c k) (IsThereAt c (length c.cells)) (λ x t. there_later c k (length c.cells) x (omega arith) t) (cell_at c k) (reads_fit c (IsThereAt c k) (cell_at c k) (fits_cell c w.cells k h))
 
-both_each : (c : Circuit) (ps : List ℕ) (n k : ℕ) → k < length c.cells → (g : Cell) → FitsIn c (IsThereAt c k) (signal c) g → Reads (IsEarly c ps n) g → Reads (IsPlaced c ps n) g
+both_each : (c : Circuit) (ps : List ℕ) (n k : ℕ)
+    → k < length c.cells → (g : Cell) → FitsIn c (IsThereAt c k) (signal c) g → Reads (IsEarly c ps n) g
+    → Reads (IsPlaced c ps n) g
 both_each c ps n k l (cell.Const w v) h r = tt
 both_each c ps n k l (cell.Not a) h r = record { there = there_later c k _ a (omega arith) h; early = r }
 both_each c ps n k l (cell.Bin o a b) h r = (record { there = there_later c k _ a (omega arith) h.0; early = r.0 }, record { there = there_later c k _ b (omega arith) h.1; early = r.1 })
@@ -75,7 +77,8 @@ fits_turn c ps k at w t =
 
 -- ONE CELL MORE
 
-early_kept : (c : Circuit) (ps : List ℕ) (k v n : ℕ) → slice_index ps k ≡ unplaced → n ≤ unplaced → (x : Net) → IsEarly c ps n x → IsEarly c (set ps k v) n x
+early_kept : (c : Circuit) (ps : List ℕ) (k v n : ℕ)
+    → slice_index ps k ≡ unplaced → n ≤ unplaced → (x : Net) → IsEarly c ps n x → IsEarly c (set ps k v) n x
 early_kept c ps k v n e l (Input i) h = h
 early_kept c ps k v n e l (RegNet r) h = h
 early_kept c ps k v n e l (CellNet m) h = ⊎_elim
@@ -148,7 +151,8 @@ all_unplaced (suc n) zero h = refl
 all_unplaced (suc n) (suc k) h = all_unplaced n k (omega arith)
 
 -- an order without cells, in which no cell has a place
-pub order_first : (c : Circuit) (order ps : List ℕ) → order ≡ [] → ps ≡ replicate (length c.cells) unplaced → first_place c < unplaced → IsOrder c order ps
+pub order_first : (c : Circuit) (order ps : List ℕ)
+    → order ≡ [] → ps ≡ replicate (length c.cells) unplaced → first_place c < unplaced → IsOrder c order ps
 order_first c order ps e f h =
     let n = ap length e in
     record {
@@ -159,35 +163,44 @@ order_first c order ps e f h =
     }
 
 -- a cell whose earlier cells all have a place reads what has one
-early_before : (c : Circuit) (ps : List ℕ) (k n : ℕ) → first_place c ≤ n → ((j : ℕ) → j < k → slice_index ps j < n) → (x : Net) → IsThereAt c k x → IsEarly c ps n x
+early_before : (c : Circuit) (ps : List ℕ) (k n : ℕ)
+    → first_place c ≤ n → ((j : ℕ) → j < k → slice_index ps j < n) → (x : Net) → IsThereAt c k x → IsEarly c ps n x
 early_before c ps k n l f (Input i) h = omega arith
 early_before c ps k n l f (RegNet r) h = omega arith
 early_before c ps k n l f (CellNet j) h = f j h
 
 -- a cell reads nets of earlier places, where all cells before it have one before this place
-pub reads_before : (c : Circuit) (ps : List ℕ) (k n : ℕ) → IsWell c → k < length c.cells → first_place c ≤ n → ((j : ℕ) → j < k → slice_index ps j < n) → Reads (IsEarly c ps n) (cell_at c k)
+pub reads_before : (c : Circuit) (ps : List ℕ) (k n : ℕ) → IsWell c
+    → k < length c.cells → first_place c ≤ n → ((j : ℕ) → j < k → slice_index ps j < n)
+    → Reads (IsEarly c ps n) (cell_at c k)
 reads_before c ps k n w h l f = reads_each (IsThereAt c k) (IsEarly c ps n) (early_before c ps k n l f) (cell_at c k) (reads_fit c (IsThereAt c k) (cell_at c k) (fits_cell c w.cells k h))
 
 -- a cell with a place has one before the next
-placed_early : (c : Circuit) (order ps : List ℕ) (k : ℕ) → IsOrder c order ps → k < length c.cells → slice_index ps k ≢ unplaced → slice_index ps k < first_place c + length order
+placed_early : (c : Circuit) (order ps : List ℕ) (k : ℕ) → IsOrder c order ps
+    → k < length c.cells → slice_index ps k ≢ unplaced → slice_index ps k < first_place c + length order
 placed_early c order ps k o h ne = ⊎_elim
     (λ (u : slice_index ps k ≡ unplaced). absurd (ne u))
     (λ (t : HasTurn c order ps k). let v = t.within in let e = t.own in omega (arith, v, e))
     (o.known k h)
 
 -- all cells up to one more
-early_more : (ps : List ℕ) (k n : ℕ) → k < length ps → ((j : ℕ) → j < k → slice_index ps j < n) → (j : ℕ) → j < k + 1 → slice_index (set ps k n) j < n + 1
+early_more : (ps : List ℕ) (k n : ℕ)
+    → k < length ps → ((j : ℕ) → j < k → slice_index ps j < n) → (j : ℕ) → j < k + 1
+    → slice_index (set ps k n) j < n + 1
 early_more ps k n h f j l = ⊎_elim
     (λ (s : j ≡ k). let e = ap (slice_index (set ps k n)) s ∙ get_or-set_same ps k n 0 h in omega (arith, e))
     (λ (ne : j ≢ k). let e = get_or-set_other ps k j n 0 ne in let i : j < k = omega (arith, l, ne) in let q = f j i in omega (arith, e, q))
     (cases_eq j k)
 
 -- a cell that was read reads what is there
-pub reads_read : (c : Circuit) (xs : List Cell) (k : ℕ) → IsWell c → k < length c.cells → xs ≡ c.cells → Reads (IsThereAt c (length c.cells)) (get_or xs k (cell.Const 0 0))
+pub reads_read : (c : Circuit) (xs : List Cell) (k : ℕ) → IsWell c
+    → k < length c.cells → xs ≡ c.cells → Reads (IsThereAt c (length c.cells)) (get_or xs k (cell.Const 0 0))
 reads_read c xs k w h e = subst (λ (l : List Cell). Reads (IsThereAt c (length c.cells)) (get_or l k (cell.Const 0 0))) (sym e) (reads_there c w k h)
 
 -- the order after a cell got the next place
-pub order_next : (c : Circuit) (order ps cells : List ℕ) (k n : ℕ) → IsOrder c order ps → k < length c.cells → slice_index ps k ≡ unplaced → n ≡ first_place c + length order → Reads (IsEarly c ps n) (cell_at c k) → n ≢ 4294967294 → cells ≡ order ++ k ∷ [] → IsOrder c cells (set ps k n)
+pub order_next : (c : Circuit) (order ps cells : List ℕ) (k n : ℕ) → IsOrder c order ps
+    → k < length c.cells → slice_index ps k ≡ unplaced → n ≡ first_place c + length order
+    → Reads (IsEarly c ps n) (cell_at c k) → n ≢ 4294967294 → cells ≡ order ++ k ∷ [] → IsOrder c cells (set ps k n)
 order_next c order ps cells k n o h u e r ne f =
     let q = subst (λ i. Reads (IsEarly c ps i) (cell_at c k)) e r in
     let m = order_more c order ps k o h u q (let l = o.room in omega (arith, l, e, ne)) in
@@ -202,7 +215,8 @@ pub fits_whole : (c : Circuit) → IsWell c → (k : ℕ) → k < length c.cells
 fits_whole c w k h = fits_later c k (length c.cells) (omega arith) (cell_at c k) (fits_cell c w.cells k h)
 
 -- where all cells have a place, each net that is there has one
-pub all_placed : (c : Circuit) (ps : List ℕ) (n : ℕ) → AllEarly c ps n → first_place c ≤ n → (x : Net) → IsThereAt c (length c.cells) x → IsPlaced c ps n x
+pub all_placed : (c : Circuit) (ps : List ℕ) (n : ℕ) → AllEarly c ps n
+    → first_place c ≤ n → (x : Net) → IsThereAt c (length c.cells) x → IsPlaced c ps n x
 all_placed c ps n a l (Input i) h = record { there = h; early = omega (arith, l, h) }
 all_placed c ps n a l (RegNet r) h = record { there = h; early = omega (arith, l, h) }
 all_placed c ps n a l (CellNet k) h = record { there = h; early = a k h }

@@ -37,20 +37,25 @@ pub steps_push : (rs : List CellRun) (r : CellRun) → steps_of (rs ++ r ∷ [])
 steps_push rs r = steps_append rs (r ∷ []) ∙ ap (λ l. steps_of rs ++ l) (append-nil (steps_with r.kind r.operands.items))
 
 -- one cell more in a run
-with_push : (kind : Kind) (os : List Operands) (o : Operands) → steps_with kind (os ++ o ∷ []) ≡ steps_with kind os ++ step_of kind o ∷ []
+pub with_push : (kind : Kind) (os : List Operands) (o : Operands)
+    → steps_with kind (os ++ o ∷ []) ≡ steps_with kind os ++ step_of kind o ∷ []
 with_push kind [] o = refl
 with_push kind (p ∷ os) o = ap (λ l. step_of kind p ∷ l) (with_push kind os o)
 
 pub ruleset pushes = (steps_push, with_push, append_assoc)
 
 -- a cell of the order fits the netlist's nets
-pub ordered_fits : (c : Circuit) (order ps : List ℕ) (xs : List Cell) (j k : ℕ) → IsWell c → IsOrder c order ps → j < length order → k ≡ slice_index order j → xs ≡ c.cells → FitsIn c (IsThereAt c (length c.cells)) (signal c) (get_or xs k (cell.Const 0 0))
+pub ordered_fits : (c : Circuit) (order ps : List ℕ) (xs : List Cell) (j k : ℕ) → IsWell c → IsOrder c order ps
+    → j < length order → k ≡ slice_index order j → xs ≡ c.cells
+    → FitsIn c (IsThereAt c (length c.cells)) (signal c) (get_or xs k (cell.Const 0 0))
 ordered_fits c order ps xs j k w o h e f =
     let P : List Cell → Type 0 = λ l. FitsIn c (IsThereAt c (length c.cells)) (signal c) (get_or l k (cell.Const 0 0)) in
     subst P (sym f) (fits_whole c w k (subst (λ i. i < length c.cells) (sym e) ((o.turns j h).there)))
 
 -- the runs at the end
-pub runs_end : (rs all : List CellRun) (r : CellRun) (order : List ℕ) (f : ℕ → Step) (j : ℕ) → all ≡ rs ++ r ∷ [] → steps_of rs ++ steps_with r.kind r.operands.items ≡ map f (take j order) → length order ≤ j → steps_of all ≡ map f order
+pub runs_end : (rs all : List CellRun) (r : CellRun) (order : List ℕ) (f : ℕ → Step) (j : ℕ)
+    → all ≡ rs ++ r ∷ [] → steps_of rs ++ steps_with r.kind r.operands.items ≡ map f (take j order) → length order ≤ j
+    → steps_of all ≡ map f order
 runs_end rs all r order f j e i l = ap steps_of e ∙ steps_push rs r ∙ i ∙ ap (map f) (take_all j order l)
 
 pub ruleset runs = (map_more)
@@ -64,7 +69,8 @@ pub there_in : (o : Order) (n : Netlist) → o.net.now ≡ n → (x : Net) → I
 there_in o n e x h = subst (λ (y : Netlist). IsThereAt (circuit_of y) (length y.cells) x) (sym e) h
 
 -- the net that a register of a well formed circuit takes next is there
-pub next_there : (c : Circuit) (xs : List Reg) (r : ℕ) → IsWell c → r < length c.regs → xs ≡ c.regs → IsThereAt c (length c.cells) (get_or xs r no_reg).next
+pub next_there : (c : Circuit) (xs : List Reg) (r : ℕ) → IsWell c
+    → r < length c.regs → xs ≡ c.regs → IsThereAt c (length c.cells) (get_or xs r no_reg).next
 unfolding IsThere
 next_there c xs r w h e =
     let P : List Reg → Type 0 = λ l. IsThereAt c (length c.cells) (get_or l r no_reg).next in
@@ -73,7 +79,8 @@ next_there c xs r w h e =
 pub ruleset nexts = (map_more)
 
 -- the net that an output of a well formed circuit shows is there
-pub driver_there : (c : Circuit) (xs : List Port) (i : ℕ) (p : Port) (x : Net) → IsWell c → i < length c.ports → xs ≡ c.ports → p ≡ get_or xs i p → p.dir ≡ Out x → IsThereAt c (length c.cells) x
+pub driver_there : (c : Circuit) (xs : List Port) (i : ℕ) (p : Port) (x : Net) → IsWell c
+    → i < length c.ports → xs ≡ c.ports → p ≡ get_or xs i p → p.dir ≡ Out x → IsThereAt c (length c.cells) x
 unfolding IsThere
 driver_there c xs i p x w h e f g =
     let q : slice_get c.ports i ≡ Some p = slice_get-get_or c.ports i p h ∙ ap Some (sym (f ∙ ap (λ l. get_or l i p) e)) in
@@ -85,7 +92,9 @@ driver_there c xs i p x w h e f g =
 pub ruleset drivers = (drop_more)
 
 -- the nets of the write ports of an array
-pub writes_there : (o : Order) (n : Netlist) (xs : List Array) (m : ℕ) (a : Array) (ps : List WritePort) → IsWell (circuit_of n) → o.net.now ≡ n → m < length n.arrays → xs ≡ n.arrays → a ≡ get_or xs m a → ps ≡ a.writes → All (IsWriteThere o) ps
+pub writes_there : (o : Order) (n : Netlist) (xs : List Array) (m : ℕ) (a : Array) (ps : List WritePort)
+    → IsWell (circuit_of n) → o.net.now ≡ n → m < length n.arrays → xs ≡ n.arrays → a ≡ get_or xs m a → ps ≡ a.writes
+    → All (IsWriteThere o) ps
 unfolding IsThere
 writes_there o n xs m a ps w q h e f g =
     let c = circuit_of n in

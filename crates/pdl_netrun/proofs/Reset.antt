@@ -44,7 +44,8 @@ values_count c order vs e =
     omega (arith, a, b, d, f)
 
 -- the first list of values has those of the constants that have a place
-pub constants_first : (c : Circuit) (order ps vs : List ℕ) (n : ℕ) → IsOrder c order ps → n < unplaced → vs ≡ first_values c order → HasConstants c ps n vs
+pub constants_first : (c : Circuit) (order ps vs : List ℕ) (n : ℕ) → IsOrder c order ps
+    → n < unplaced → vs ≡ first_values c order → HasConstants c ps n vs
 constants_first c order ps vs n o l e = record { each = λ k h b. held k h b (o.known k h) }
   where
     held : (k : ℕ) → k < length c.cells → slice_index ps k < n → (slice_index ps k ≡ unplaced) ⊎ HasTurn c order ps k → IsHeld (cell_at c k) (slice_index vs (slice_index ps k))
@@ -63,7 +64,9 @@ constants_first c order ps vs n o l e = record { each = λ k h b. held k h b (o.
         subst (λ x. IsHeld (cell_at c k) x) (sym v) (held_first (cell_at c k))
 
 -- the simulator begins at the start of the first cycle
-pub begun_is : (n : Netlist) (image : List (List ℕ)) (k : ℕ) (regs : List ℕ) (arrays : List (List ℕ)) (stores : List Store) → k ≡ length (delayed_mems n) → regs ≡ map (λ r. r.reset) n.regs → arrays ≡ loaded_arrays n.arrays (drop k image) → stores ≡ first_stores (take k image) → run_at n regs arrays stores ≡ run_at_start n image
+pub begun_is : (n : Netlist) (image : List (List ℕ)) (k : ℕ) (regs : List ℕ) (arrays : List (List ℕ)) (stores : List Store)
+    → k ≡ length (delayed_mems n) → regs ≡ map (λ r. r.reset) n.regs → arrays ≡ loaded_arrays n.arrays (drop k image)
+    → stores ≡ first_stores (take k image) → run_at n regs arrays stores ≡ run_at_start n image
 begun_is n image k regs arrays stores d e f g =
     ap (λ x. run_at n x arrays stores) e
     ∙ ap (λ x. run_at n (map (λ r. r.reset) n.regs) x stores) (f ∙ ap (λ (j : ℕ). loaded_arrays n.arrays (drop j image)) d)
@@ -82,7 +85,9 @@ pub ordered : (o : Order) (n : Netlist) → o.net.now ≡ n → IsOrderOf o → 
 ordered o n e f a = subst (IsOrdered o) e (record { regs = f.regs; order = f.order; all = subst (λ i. AllEarly (circuit_of o.net.now) o.places.items i) f.next a })
 
 -- zeros for inputs and registers, and then what each cell holds at the start, are the first list of values
-pub first_is : (o : Order) (n : Netlist) (front vs : List ℕ) (k : ℕ) → o.net.now ≡ n → vs ≡ front ++ map (λ i. held_at_start (cell_of o i)) o.cells.items → front ≡ replicate k 0 → k ≡ first_place (circuit_of n) → vs ≡ first_values (circuit_of n) o.cells.items
+pub first_is : (o : Order) (n : Netlist) (front vs : List ℕ) (k : ℕ)
+    → o.net.now ≡ n → vs ≡ front ++ map (λ i. held_at_start (cell_of o i)) o.cells.items → front ≡ replicate k 0
+    → k ≡ first_place (circuit_of n) → vs ≡ first_values (circuit_of n) o.cells.items
 first_is o n front vs k e f g h =
     f ∙ ap (λ l. l ++ map (λ i. held_at_start (cell_of o i)) o.cells.items) (g ∙ ap (λ (i : ℕ). replicate {A = ℕ} i 0) h)
     ∙ ap (λ (m : Netlist). replicate {A = ℕ} (first_place (circuit_of n)) 0 ++ map (λ i. held_at_start (cell_at (circuit_of m) i)) o.cells.items) e

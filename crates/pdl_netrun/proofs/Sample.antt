@@ -36,7 +36,8 @@ differ_all (x ∷ xs) = list_all (λ y. not (bytes_eq x y)) xs && differ_all xs
 apart : (x y : List ℕ) → not (bytes_eq x y) ≡ true → x ≢ y
 apart x y h e = let t = (bytes_eq-Decides x y).1 e in absurd (cc (h, t))
 
-apart_all : (x : List ℕ) (xs : List (List ℕ)) → list_all (λ y. not (bytes_eq x y)) xs ≡ true → (j : ℕ) (d : List ℕ) → j < length xs → x ≢ get_or xs j d
+apart_all : (x : List ℕ) (xs : List (List ℕ))
+    → list_all (λ y. not (bytes_eq x y)) xs ≡ true → (j : ℕ) (d : List ℕ) → j < length xs → x ≢ get_or xs j d
 apart_all x [] h j d l = absurd (omega arith)
 apart_all x (y ∷ ys) h zero d l = apart x y (and_parts (not (bytes_eq x y)) (list_all (λ z. not (bytes_eq x z)) ys) h).0
 apart_all x (y ∷ ys) h (suc j) d l = apart_all x ys (and_parts (not (bytes_eq x y)) (list_all (λ z. not (bytes_eq x z)) ys) h).1 j d (omega arith)
@@ -122,7 +123,7 @@ sample_well = record {
 pub well_of : (n : Netlist) → n ≡ sample → IsWellFormed n
 well_of n e = subst IsWellFormed (sym e) sample_well
 
-here_of : (n : Netlist) → n ≡ sample → delayed_mems n ≡ []
+pub here_of : (n : Netlist) → n ≡ sample → delayed_mems n ≡ []
 here_of n e = ap delayed_mems e
 
 -- the netlist of the tests has outputs 0 to 6

@@ -39,11 +39,12 @@ suits_now a bits r =
     record { input_count = i.count; inputs = i.each; reg_count = h.reg_count; regs = h.each; array_count = h.array_count; depth = h.depth; words = h.words }
 
 -- the list of values with those of the registers put in
-abbrev values_put : ℕ → List ℕ → List ℕ → List ℕ
+abbrev pub values_put : ℕ → List ℕ → List ℕ → List ℕ
 values_put n vs next = take n vs ++ next ++ drop (n + length next) vs
 
 -- the registers are those that were put there, and nothing after them has changed
-put_within : (vs next : List ℕ) (n r : ℕ) → n ≤ length vs → r < length next → slice_index (values_put n vs next) (n + r) ≡ slice_index next r
+put_within : (vs next : List ℕ) (n r : ℕ)
+    → n ≤ length vs → r < length next → slice_index (values_put n vs next) (n + r) ≡ slice_index next r
 put_within vs next n r h l =
     let m : length (take n vs) ≡ n = length-take-le n vs h in
     let e : n + r - n ≡ r = omega arith in
@@ -52,7 +53,8 @@ put_within vs next n r h l =
     ∙ ap (slice_index (next ++ drop (n + length next) vs)) e
     ∙ get_or_append_left next (drop (n + length next) vs) 0 r l
 
-put_after : (vs next : List ℕ) (n j : ℕ) → n + length next ≤ j → n + length next ≤ length vs → slice_index (values_put n vs next) j ≡ slice_index vs j
+put_after : (vs next : List ℕ) (n j : ℕ)
+    → n + length next ≤ j → n + length next ≤ length vs → slice_index (values_put n vs next) j ≡ slice_index vs j
 put_after vs next n j h l =
     let m : length (take n vs) ≡ n = length-take-le n vs (omega arith) in
     let e : n + length next + (j - n - length next) ≡ j = omega arith in
@@ -80,7 +82,10 @@ put_before vs next n j h l =
     ∙ get_or-take n vs j 0 h
 
 -- at the start of a cycle the list has the values of the inputs and registers
-values_first : (c : Circuit) (s : State) (ps vs : List ℕ) (order : List ℕ) → length s.inputs ≡ length (inputs_of c) → IsOrder c order ps → length s.regs ≡ length c.regs → length vs ≡ first_place c + length order → HasValues c ps s (values_put (length (inputs_of c)) (values_put 0 vs s.inputs) s.regs) (first_place c)
+values_first : (c : Circuit) (s : State) (ps vs : List ℕ) (order : List ℕ)
+    → length s.inputs ≡ length (inputs_of c) → IsOrder c order ps → length s.regs ≡ length c.regs
+    → length vs ≡ first_place c + length order
+    → HasValues c ps s (values_put (length (inputs_of c)) (values_put 0 vs s.inputs) s.regs) (first_place c)
 unfolding signal reg_value input_value
 values_first c s ps vs order n o g l = record { each = at }
   where
@@ -102,7 +107,9 @@ values_first c s ps vs order n o g l = record { each = at }
         late k (inr t) h = let e = t.own in omega (arith, e, h)
 
 -- what is put before the cells leaves the constants
-constants_put : (c : Circuit) (order ps vs next : List ℕ) (n : ℕ) → IsOrder c order ps → n + length next ≤ first_place c → length vs ≡ first_place c + length order → HasConstants c ps (length vs) vs → HasConstants c ps (length vs) (values_put n vs next)
+constants_put : (c : Circuit) (order ps vs next : List ℕ) (n : ℕ) → IsOrder c order ps
+    → n + length next ≤ first_place c → length vs ≡ first_place c + length order → HasConstants c ps (length vs) vs
+    → HasConstants c ps (length vs) (values_put n vs next)
 constants_put c order ps vs next n o e l f = record { each = λ k h b. held k h b (o.known k h) }
   where
     held : (k : ℕ) → k < length c.cells → slice_index ps k < length vs → (slice_index ps k ≡ unplaced) ⊎ HasTurn c order ps k → IsHeld (cell_at c k) (slice_index (values_put n vs next) (slice_index ps k))
@@ -123,7 +130,8 @@ next_count : (a : Inside) → IsReady a → length a.next.items ≡ length a.net
 next_count a r = (r.holds).reg_count
 
 -- there is an answer for each input of the netlist
-pub answers_count : (a : Inside) (bits : ℕ) → IsReady a → length (answers (stores_of a.outside.items) bits) ≡ length (inputs_of (circuit_of a.net.now))
+pub answers_count : (a : Inside) (bits : ℕ) → IsReady a
+    → length (answers (stores_of a.outside.items) bits) ≡ length (inputs_of (circuit_of a.net.now))
 answers_count a bits r = (inputs_fit (inputs_of (circuit_of a.net.now)) (stores_of a.outside.items) bits (r.outside).fit).count
 
 answered_count : (a : Inside) (bits : ℕ) → IsReady a → length (answered_values a bits) ≡ length a.values.items
@@ -134,7 +142,8 @@ pub begun_count : (a : Inside) (bits : ℕ) → IsReady a → length (begun_valu
 begun_count a bits r = let e = r.first_reg in let l = r.room in let n = next_count a r in let k = answered_count a bits r in put_length (answered_values a bits) a.next.items a.first_reg (omega (arith, e, l, n, k)) ∙ k
 
 -- what the steps of a cycle do
-pub walked_now : (a : Inside) (bits : ℕ) (r : IsReady a) → IsWalked (circuit_of a.net.now) r.places (state_now a bits) (begun_values a bits) (steps_of a.runs.items) a.first_cell
+pub walked_now : (a : Inside) (bits : ℕ) (r : IsReady a)
+    → IsWalked (circuit_of a.net.now) r.places (state_now a bits) (begun_values a bits) (steps_of a.runs.items) a.first_cell
 walked_now a bits r =
     let c = circuit_of a.net.now in
     let s = state_now a bits in
@@ -155,12 +164,15 @@ walked_now a bits r =
 -- OUTPUTS AND REGISTERS
 
 -- the nets that drive outputs are there
-driver_step : (c : Circuit) (d : Dir) (w : ℕ) (name : List ℕ) (os : List Output) → IsDriven c w d → All (λ o. IsThere c o.net) os → All (λ o. IsThere c o.net) (cons_option (output_with d name) os)
+driver_step : (c : Circuit) (d : Dir) (w : ℕ) (name : List ℕ) (os : List Output) → IsDriven c w d
+    → All (λ o. IsThere c o.net) os → All (λ o. IsThere c o.net) (cons_option (output_with d name) os)
 driver_step c In w name os h f k x l = f k x l
 driver_step c (Out y) w name os h f zero x l = h.0
 driver_step c (Out y) w name os h f (suc k) x l = f k x (omega arith)
 
-drivers_in : (c : Circuit) (ps : List Port) → ((k : ℕ) (p : Port) → slice_get ps k ≡ Some p → IsWellPort c p) → All (λ o. IsThere c o.net) (filter_map port_output ps)
+drivers_in : (c : Circuit) (ps : List Port)
+    → ((k : ℕ) (p : Port) → slice_get ps k ≡ Some p → IsWellPort c p)
+    → All (λ o. IsThere c o.net) (filter_map port_output ps)
 drivers_in c [] w k x l = absurd (omega arith)
 drivers_in c (p ∷ ps) w k x l = driver_step c p.dir p.width p.name (filter_map port_output ps) ((w zero p refl).driven) (drivers_in c ps (λ j q e. w (suc j) q e)) k x l
 
@@ -209,13 +221,16 @@ module _ (c : Circuit) (s : State) (w : IsWell c) (ps vs : List ℕ) (v : HasVal
 -- THE CYCLE
 
 -- a run from its parts
-abbrev run_with : Netlist → List ℕ → List (List ℕ) → List Store → List ℕ → Bool → Run
+abbrev pub run_with : Netlist → List ℕ → List (List ℕ) → List Store → List ℕ → Bool → Run
 run_with n regs arrays stores ports waited = record { netlist = n; held = record { regs = regs; arrays = arrays; stores = stores }; last = record { ports = ports; waited = waited } }
 
 -- a run whose parts are those after a cycle is the run after that cycle
-pub stepped_from : (a : Inside) (bits : ℕ) (regs : List ℕ) (arrays : List (List ℕ)) (stores : List Store) (outs : List ℕ) (waited : Bool) → IsReady a
-    → regs ≡ next_regs (circuit_of a.net.now) (state_now a bits) → arrays ≡ next_arrays (circuit_of a.net.now) (state_now a bits) → outs ≡ output_values (circuit_of a.net.now) (state_now a bits)
-    → stores ≡ stores_after outs a.outside.items bits → waited ≡ some_waits (stores_of a.outside.items) bits → run_with a.net.now regs arrays stores outs waited ≡ run_after (run_of a) bits
+pub stepped_from : (a : Inside) (bits : ℕ) (regs : List ℕ) (arrays : List (List ℕ)) (stores : List Store) (outs : List ℕ) (waited : Bool)
+    → IsReady a → regs ≡ next_regs (circuit_of a.net.now) (state_now a bits)
+    → arrays ≡ next_arrays (circuit_of a.net.now) (state_now a bits)
+    → outs ≡ output_values (circuit_of a.net.now) (state_now a bits) → stores ≡ stores_after outs a.outside.items bits
+    → waited ≡ some_waits (stores_of a.outside.items) bits
+    → run_with a.net.now regs arrays stores outs waited ≡ run_after (run_of a) bits
 stepped_from a bits regs arrays stores outs waited r e f g h w =
     let n = a.net.now in
     let c = circuit_of n in

@@ -12,7 +12,10 @@ use Rattle.pdl_netrun.specs.Steps.{Step, KindFits, StepsFit, steps_with, steps_o
 -- CELLS OF ONE KIND
 
 -- a cell that stands at k is the first of those from k on
-cells_more : (kind : Kind) (os : List Operands) (first k : ℕ) (o : Operands) (vs : List ℕ) (ws : List (List ℕ)) → k < length os → o ≡ get_or os k o → after_steps (steps_with kind (drop (k + 1) os)) (first + (k + 1)) (after_kind kind o (first + k) vs ws) ws ≡ after_steps (steps_with kind (drop k os)) (first + k) vs ws
+pub cells_more : (kind : Kind) (os : List Operands) (first k : ℕ) (o : Operands) (vs : List ℕ) (ws : List (List ℕ))
+    → k < length os → o ≡ get_or os k o
+    → after_steps (steps_with kind (drop (k + 1) os)) (first + (k + 1)) (after_kind kind o (first + k) vs ws) ws
+    ≡ after_steps (steps_with kind (drop k os)) (first + k) vs ws
 cells_more kind os first k o vs ws h e =
     let n : first + (k + 1) ≡ suc (first + k) = omega arith in
     ap (λ j. after_steps (steps_with kind (drop (k + 1) os)) j (after_kind kind o (first + k) vs ws) ws) n
@@ -20,7 +23,9 @@ cells_more kind os first k o vs ws h e =
     ∙ sym (ap (λ l. after_steps (steps_with kind l) (first + k) vs ws) (drop_more os k o h))
 
 -- it fits, and so do those after it
-pub cells_fit : (kind : Kind) (os : List Operands) (first k : ℕ) (o : Operands) (vs : List ℕ) (ws : List (List ℕ)) → k < length os → o ≡ get_or os k o → StepsFit (steps_with kind (drop k os)) (first + k) vs ws → KindFits kind o vs ws × StepsFit (steps_with kind (drop (k + 1) os)) (first + (k + 1)) (after_kind kind o (first + k) vs ws) ws
+pub cells_fit : (kind : Kind) (os : List Operands) (first k : ℕ) (o : Operands) (vs : List ℕ) (ws : List (List ℕ))
+    → k < length os → o ≡ get_or os k o → StepsFit (steps_with kind (drop k os)) (first + k) vs ws
+    → KindFits kind o vs ws × StepsFit (steps_with kind (drop (k + 1) os)) (first + (k + 1)) (after_kind kind o (first + k) vs ws) ws
 cells_fit kind os first k o vs ws h e f =
     let P : List Operands → Type 0 = λ l. StepsFit (steps_with kind l) (first + k) vs ws in
     let g : StepsFit (steps_with kind (get_or os k o ∷ drop (k + 1) os)) (first + k) vs ws = subst P (drop_more os k o h) f in
@@ -29,19 +34,22 @@ cells_fit kind os first k o vs ws h e f =
     let q : Q o = subst Q (sym e) g in
     (q.0, let R : ℕ → Type 0 = λ j. StepsFit (steps_with kind (drop (k + 1) os)) j (after_kind kind o (first + k) vs ws) ws in subst R n q.1)
 
-cells_all : (kind : Kind) (os : List Operands) (first k : ℕ) (vs : List ℕ) (ws : List (List ℕ)) → length os ≤ k → after_steps (steps_with kind (drop k os)) (first + k) vs ws ≡ vs
+pub cells_all : (kind : Kind) (os : List Operands) (first k : ℕ) (vs : List ℕ) (ws : List (List ℕ))
+    → length os ≤ k → after_steps (steps_with kind (drop k os)) (first + k) vs ws ≡ vs
 cells_all kind os first k vs ws h = ap (λ l. after_steps (steps_with kind l) (first + k) vs ws) (drop_all k os h)
 
 -- RUNS
 
 -- steps after others
-after_append : (xs ys : List Step) (at : ℕ) (vs : List ℕ) (ws : List (List ℕ)) → after_steps (xs ++ ys) at vs ws ≡ after_steps ys (at + length xs) (after_steps xs at vs ws) ws
+after_append : (xs ys : List Step) (at : ℕ) (vs : List ℕ) (ws : List (List ℕ))
+    → after_steps (xs ++ ys) at vs ws ≡ after_steps ys (at + length xs) (after_steps xs at vs ws) ws
 after_append [] ys at vs ws = let e : at + 0 ≡ at = omega arith in ap (λ n. after_steps ys n vs ws) (sym e)
 after_append (x ∷ xs) ys at vs ws =
     let e : suc at + length xs ≡ at + suc (length xs) = omega arith in
     after_append xs ys (suc at) (after_step x at vs ws) ws ∙ ap (λ n. after_steps ys n (after_steps xs (suc at) (after_step x at vs ws) ws) ws) e
 
-fit_append : (xs ys : List Step) (at : ℕ) (vs : List ℕ) (ws : List (List ℕ)) → StepsFit (xs ++ ys) at vs ws → StepsFit xs at vs ws × StepsFit ys (at + length xs) (after_steps xs at vs ws) ws
+fit_append : (xs ys : List Step) (at : ℕ) (vs : List ℕ) (ws : List (List ℕ)) → StepsFit (xs ++ ys) at vs ws
+    → StepsFit xs at vs ws × StepsFit ys (at + length xs) (after_steps xs at vs ws) ws
 fit_append [] ys at vs ws f = let e : at ≡ at + 0 = omega arith in (tt, subst (λ n. StepsFit ys n vs ws) e f)
 fit_append (x ∷ xs) ys at vs ws f =
     let e : suc at + length xs ≡ at + suc (length xs) = omega arith in
@@ -49,43 +57,55 @@ fit_append (x ∷ xs) ys at vs ws f =
     ((f.0, r.0), subst (λ n. StepsFit ys n (after_steps xs (suc at) (after_step x at vs ws) ws) ws) e r.1)
 
 -- constants change nothing
-constants_stand : (os : List Operands) (at : ℕ) (vs : List ℕ) (ws : List (List ℕ)) → after_steps (steps_with kinds.Constant os) at vs ws ≡ vs
+pub constants_stand : (os : List Operands) (at : ℕ) (vs : List ℕ) (ws : List (List ℕ))
+    → after_steps (steps_with kinds.Constant os) at vs ws ≡ vs
 constants_stand [] at vs ws = refl
 constants_stand (o ∷ os) at vs ws = constants_stand os (suc at) vs ws
 
-with_length : (kind : Kind) (os : List Operands) → length (steps_with kind os) ≡ length os
+pub with_length : (kind : Kind) (os : List Operands) → length (steps_with kind os) ≡ length os
 with_length kind os = simp length-map
 
 -- the steps from the k-th run on
 abbrev run_steps : CellRun → List Step
 run_steps r = steps_with r.kind r.operands.items
 
-runs_more : (rs : List CellRun) (k : ℕ) (r : CellRun) → k < length rs → r ≡ get_or rs k r → steps_of (drop k rs) ≡ steps_with r.kind r.operands.items ++ steps_of (drop (k + 1) rs)
+runs_more : (rs : List CellRun) (k : ℕ) (r : CellRun)
+    → k < length rs → r ≡ get_or rs k r
+    → steps_of (drop k rs) ≡ steps_with r.kind r.operands.items ++ steps_of (drop (k + 1) rs)
 runs_more rs k r h e = ap steps_of (drop_more rs k r h) ∙ ap (λ (q : CellRun). run_steps q ++ steps_of (drop (k + 1) rs)) (sym e)
 
 -- a run that stands at k fits, and so do those after it
-pub run_fits : (rs : List CellRun) (k n at : ℕ) (r : CellRun) (vs : List ℕ) (ws : List (List ℕ)) → k < length rs → r ≡ get_or rs k r → n ≡ length r.operands.items → StepsFit (steps_of (drop k rs)) at vs ws → StepsFit (steps_with r.kind r.operands.items) at vs ws × StepsFit (steps_of (drop (k + 1) rs)) (at + n) (after_steps (steps_with r.kind r.operands.items) at vs ws) ws
+pub run_fits : (rs : List CellRun) (k n at : ℕ) (r : CellRun) (vs : List ℕ) (ws : List (List ℕ))
+    → k < length rs → r ≡ get_or rs k r → n ≡ length r.operands.items → StepsFit (steps_of (drop k rs)) at vs ws
+    → StepsFit (steps_with r.kind r.operands.items) at vs ws
+    × StepsFit (steps_of (drop (k + 1) rs)) (at + n) (after_steps (steps_with r.kind r.operands.items) at vs ws) ws
 run_fits rs k n at r vs ws h e m f =
     let P : List Step → Type 0 = λ l. StepsFit l at vs ws in
     let g = fit_append (steps_with r.kind r.operands.items) (steps_of (drop (k + 1) rs)) at vs ws (subst P (runs_more rs k r h e) f) in
     (g.0, subst (λ i. StepsFit (steps_of (drop (k + 1) rs)) (at + i) (after_steps (steps_with r.kind r.operands.items) at vs ws) ws) (with_length r.kind r.operands.items ∙ sym m) g.1)
 
 -- and after it those are left
-pub run_rest : (rs : List CellRun) (k n at : ℕ) (r : CellRun) (vs : List ℕ) (ws : List (List ℕ)) → k < length rs → r ≡ get_or rs k r → n ≡ length r.operands.items → after_steps (steps_of (drop (k + 1) rs)) (at + n) (after_steps (steps_with r.kind r.operands.items) at vs ws) ws ≡ after_steps (steps_of (drop k rs)) at vs ws
+pub run_rest : (rs : List CellRun) (k n at : ℕ) (r : CellRun) (vs : List ℕ) (ws : List (List ℕ))
+    → k < length rs → r ≡ get_or rs k r → n ≡ length r.operands.items
+    → after_steps (steps_of (drop (k + 1) rs)) (at + n) (after_steps (steps_with r.kind r.operands.items) at vs ws) ws
+    ≡ after_steps (steps_of (drop k rs)) at vs ws
 run_rest rs k n at r vs ws h e m =
     ap (λ i. after_steps (steps_of (drop (k + 1) rs)) (at + i) (after_steps (steps_with r.kind r.operands.items) at vs ws) ws) (m ∙ sym (with_length r.kind r.operands.items))
     ∙ sym (after_append (steps_with r.kind r.operands.items) (steps_of (drop (k + 1) rs)) at vs ws)
     ∙ sym (ap (λ l. after_steps l at vs ws) (runs_more rs k r h e))
 
 -- the steps from the k-th run on are as many as its cells and the steps of the runs after it
-pub run_length : (rs : List CellRun) (k : ℕ) (r : CellRun) → k < length rs → r ≡ get_or rs k r → length (steps_of (drop k rs)) ≡ length r.operands.items + length (steps_of (drop (k + 1) rs))
+pub run_length : (rs : List CellRun) (k : ℕ) (r : CellRun)
+    → k < length rs → r ≡ get_or rs k r
+    → length (steps_of (drop k rs)) ≡ length r.operands.items + length (steps_of (drop (k + 1) rs))
 run_length rs k r h e =
     ap length (runs_more rs k r h e)
     ∙ length-append (steps_with r.kind r.operands.items) (steps_of (drop (k + 1) rs))
     ∙ ap (λ i. i + length (steps_of (drop (k + 1) rs))) (with_length r.kind r.operands.items)
 
 -- steps leave the number of values
-pub after_kind_length : (kind : Kind) (o : Operands) (at : ℕ) (vs : List ℕ) (ws : List (List ℕ)) → length (after_kind kind o at vs ws) ≡ length vs
+pub after_kind_length : (kind : Kind) (o : Operands) (at : ℕ) (vs : List ℕ) (ws : List (List ℕ))
+    → length (after_kind kind o at vs ws) ≡ length vs
 after_kind_length kinds.Constant o at vs ws = refl
 after_kind_length _ o at vs ws = length-set vs at _
 
@@ -94,7 +114,8 @@ pub after_length : (xs : List Step) (at : ℕ) (vs : List ℕ) (ws : List (List 
 after_length [] at vs ws = refl
 after_length (x ∷ xs) at vs ws = after_length xs (suc at) (after_step x at vs ws) ws ∙ after_kind_length x.kind x.operands at vs ws
 
-runs_all : (rs : List CellRun) (k at : ℕ) (vs : List ℕ) (ws : List (List ℕ)) → length rs ≤ k → after_steps (steps_of (drop k rs)) at vs ws ≡ vs
+pub runs_all : (rs : List CellRun) (k at : ℕ) (vs : List ℕ) (ws : List (List ℕ))
+    → length rs ≤ k → after_steps (steps_of (drop k rs)) at vs ws ≡ vs
 runs_all rs k at vs ws h = ap (λ l. after_steps (steps_of l) at vs ws) (drop_all k rs h)
 
 pub ruleset walks = (cells_more, cells_fit, cells_all)
@@ -104,17 +125,22 @@ pub ruleset runs = (constants_stand, with_length, run_length, after_length, runs
 -- PLACES AND WRITES
 
 -- one more of a mapped list
-mapped_more : {X : Type 0} → (f : X → ℕ) (xs : List X) (ys : List ℕ) (k v : ℕ) (d : X) → take k ys ≡ map f (take k xs) → k < length xs → k < length ys → v ≡ f (get_or xs k d) → take (k + 1) (set ys k v) ≡ map f (take (k + 1) xs)
+pub mapped_more : {X : Type 0} → (f : X → ℕ) (xs : List X) (ys : List ℕ) (k v : ℕ) (d : X)
+    → take k ys ≡ map f (take k xs) → k < length xs → k < length ys → v ≡ f (get_or xs k d)
+    → take (k + 1) (set ys k v) ≡ map f (take (k + 1) xs)
 mapped_more f xs ys k v d e l m w =
     take-set_at ys k (k + 1) v refl m ∙ ap (λ (z : List ℕ). z ++ v ∷ []) e ∙ ap (λ n. map f (take k xs) ++ n ∷ []) w ∙ sym (map_more f xs k d l)
 
-mapped_all : {X : Type 0} → (f : X → ℕ) (xs : List X) (ys : List ℕ) (k : ℕ) → take k ys ≡ map f (take k xs) → length xs ≤ k → length ys ≤ k → ys ≡ map f xs
+pub mapped_all : {X : Type 0} → (f : X → ℕ) (xs : List X) (ys : List ℕ) (k : ℕ)
+    → take k ys ≡ map f (take k xs) → length xs ≤ k → length ys ≤ k → ys ≡ map f xs
 mapped_all f xs ys k e l m = sym (take_all k ys m) ∙ e ∙ ap (map f) (take_all k xs l)
 
 pub ruleset reads = (mapped_more, mapped_all)
 
 -- one write more
-pub writes_more : (ps : List ArrayWrite) (k : ℕ) (p : ArrayWrite) (vs : List ℕ) (ws : List (List ℕ)) → k < length ps → p ≡ get_or ps k p → after_all (drop (k + 1) ps) vs (after_write p vs ws) ≡ after_all (drop k ps) vs ws
+pub writes_more : (ps : List ArrayWrite) (k : ℕ) (p : ArrayWrite) (vs : List ℕ) (ws : List (List ℕ))
+    → k < length ps → p ≡ get_or ps k p
+    → after_all (drop (k + 1) ps) vs (after_write p vs ws) ≡ after_all (drop k ps) vs ws
 writes_more ps k p vs ws h e =
     ap (λ q. after_all (drop (k + 1) ps) vs (after_write q vs ws)) e
     ∙ sym (ap (λ l. after_all l vs ws) (drop_more ps k p h))

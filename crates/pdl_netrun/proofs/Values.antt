@@ -31,12 +31,15 @@ use Rattle.pdl_word.proofs.Lists.{either}
 -- ONE STEP
 
 -- a step changes no other place, and no number of places
-after_other : (k : Kind) (o : Operands) (at j : ℕ) (vs : List ℕ) (ws : List (List ℕ)) → j ≢ at → slice_index (after_kind k o at vs ws) j ≡ slice_index vs j
+after_other : (k : Kind) (o : Operands) (at j : ℕ) (vs : List ℕ) (ws : List (List ℕ)) → j ≢ at
+    → slice_index (after_kind k o at vs ws) j ≡ slice_index vs j
 after_other kinds.Constant o at j vs ws ne = refl
 after_other _ o at j vs ws ne = get_or-set_other vs at j _ 0 ne
 
 -- an operator's cell
-operated : (f : BinOp) (o : Operands) (at : ℕ) (vs : List ℕ) (ws : List (List ℕ)) → after_kind (operator_kind f) o at vs ws ≡ set vs at (bin_word f o.width (slice_index vs (slice_index o.places 0)) (slice_index vs (slice_index o.places 1)))
+operated : (f : BinOp) (o : Operands) (at : ℕ) (vs : List ℕ) (ws : List (List ℕ))
+    → after_kind (operator_kind f) o at vs ws
+    ≡ set vs at (bin_word f o.width (slice_index vs (slice_index o.places 0)) (slice_index vs (slice_index o.places 1)))
 operated op.Add o at vs ws = refl
 operated op.Sub o at vs ws = refl
 operated op.Mul o at vs ws = refl
@@ -69,7 +72,8 @@ room x high low h l =
     omega (arith, h, pow-le-pow_right {n = 2} (omega arith) e)
 
 -- a choice between two places
-chosen : (vs : List ℕ) (x a b n : ℕ) → x ≡ n → n < 2 → slice_index vs (slice_index (b ∷ a ∷ []) x) ≡ words.mux n (slice_index vs a) (slice_index vs b)
+chosen : (vs : List ℕ) (x a b n : ℕ)
+    → x ≡ n → n < 2 → slice_index vs (slice_index (b ∷ a ∷ []) x) ≡ words.mux n (slice_index vs a) (slice_index vs b)
 unfolding words.mux
 chosen vs x a b zero e l = ap (λ i. slice_index vs (slice_index (b ∷ a ∷ []) i)) e
 chosen vs x a b (suc zero) e l = ap (λ i. slice_index vs (slice_index (b ∷ a ∷ []) i)) e
@@ -150,7 +154,8 @@ module _ (c : Circuit) (s : State) (w : IsWell c) (t : Suits c s) (ps vs : List 
   after_planned (cell.Read m a) at h l k = get_or-set_same vs at _ 0 l ∙ ap (λ x. slice_index (get_or s.arrays m []) x) (v.each a h.1)
 
 -- a constant stays
-held_after : (c : Circuit) (ps : List ℕ) (g : Cell) (at : ℕ) (vs : List ℕ) (ws : List (List ℕ)) → IsHeld g (slice_index vs at) → IsHeld g (slice_index (after_step (step_of_cell c ps g) at vs ws) at)
+held_after : (c : Circuit) (ps : List ℕ) (g : Cell) (at : ℕ) (vs : List ℕ) (ws : List (List ℕ))
+    → IsHeld g (slice_index vs at) → IsHeld g (slice_index (after_step (step_of_cell c ps g) at vs ws) at)
 held_after c ps (cell.Const b x) at vs ws h = h
 held_after c ps (cell.Not a) at vs ws h = tt
 held_after c ps (cell.Bin o a b) at vs ws h = tt
@@ -163,7 +168,8 @@ held_after c ps (cell.Read m a) at vs ws h = tt
 -- ALL STEPS
 
 -- the cell that has the place of a turn is that of the turn
-pub turn_of : (c : Circuit) (order ps : List ℕ) (j k : ℕ) → IsOrder c order ps → j < length order → k < length c.cells → slice_index ps k ≡ first_place c + j → slice_index order j ≡ k
+pub turn_of : (c : Circuit) (order ps : List ℕ) (j k : ℕ) → IsOrder c order ps
+    → j < length order → k < length c.cells → slice_index ps k ≡ first_place c + j → slice_index order j ≡ k
 turn_of c order ps j k o l h e = ⊎_elim
     (λ (u : slice_index ps k ≡ unplaced). let r = o.room in absurd (omega (arith, u, e, r, l)))
     (λ (t : HasTurn c order ps k). let q = t.own in let i : t.turn ≡ j = omega (arith, q, e) in ap (slice_index order) (sym i) ∙ t.same)
@@ -243,7 +249,10 @@ pub record IsWalked (c : Circuit) (ps : List ℕ) (s : State) (vs : List ℕ) (s
 abbrev pub order_steps : Circuit → List ℕ → List ℕ → List Step
 order_steps c ps order = map (λ k. step_of_cell c ps (cell_at c k)) order
 
-walked_from : (c : Circuit) (s : State) → IsWell c → Suits c s → (order ps : List ℕ) → IsOrder c order ps → (n j : ℕ) → n + j ≡ length order → (vs : List ℕ) → length vs ≡ first_place c + length order → HasValues c ps s vs (first_place c + j) → HasConstants c ps (length vs) vs → IsWalked c ps s vs (order_steps c ps (drop j order)) (first_place c + j)
+walked_from : (c : Circuit) (s : State) → IsWell c → Suits c s → (order ps : List ℕ) → IsOrder c order ps → (n j : ℕ)
+    → n + j ≡ length order → (vs : List ℕ) → length vs ≡ first_place c + length order
+    → HasValues c ps s vs (first_place c + j) → HasConstants c ps (length vs) vs
+    → IsWalked c ps s vs (order_steps c ps (drop j order)) (first_place c + j)
 walked_from c s w t order ps o zero j e vs m v f =
     let P : List ℕ → Type 0 = λ l. IsWalked c ps s vs (order_steps c ps l) (first_place c + j) in
     subst P (sym (drop_all j order (omega (arith, e)))) (record { fit = tt; values = (let z : first_place c + j ≡ length vs = omega (arith, e, m) in subst (λ (i : ℕ). HasValues c ps s vs i) z v); constants = f; count = refl })
@@ -265,7 +274,9 @@ walked_from c s w t order ps o (suc n) j e vs m v f =
     })
 
 -- all steps
-pub walked : (c : Circuit) (s : State) → IsWell c → Suits c s → (order ps : List ℕ) → IsOrder c order ps → (vs : List ℕ) → length vs ≡ first_place c + length order → HasValues c ps s vs (first_place c) → HasConstants c ps (length vs) vs → IsWalked c ps s vs (order_steps c ps order) (first_place c)
+pub walked : (c : Circuit) (s : State) → IsWell c → Suits c s → (order ps : List ℕ) → IsOrder c order ps → (vs : List ℕ)
+    → length vs ≡ first_place c + length order → HasValues c ps s vs (first_place c) → HasConstants c ps (length vs) vs
+    → IsWalked c ps s vs (order_steps c ps order) (first_place c)
 walked c s w t order ps o vs m v f =
     let e : first_place c + 0 ≡ first_place c = omega arith in
     subst (λ (a : ℕ). IsWalked c ps s vs (order_steps c ps order) a) e (walked_from c s w t order ps o (length order) 0 (omega arith) vs m (subst (λ (a : ℕ). HasValues c ps s vs a) (sym e) v) f)

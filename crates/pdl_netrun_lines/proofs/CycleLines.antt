@@ -10,7 +10,8 @@ abbrev pub lines_of : ℕ → (MemInfo → Option (ℕ × ℕ)) → List MemInfo
 lines_of n f ms = cycle_lines n (map column_of ms) (map (λ (m : MemInfo). puts_of (f m)) ms)
 
 -- the lines of the next memory, and of those after it
-pub lines_next : (n : ℕ) (f : MemInfo → Option (ℕ × ℕ)) (at : ℕ → MemInfo) (order : List ℕ) (i : ℕ) (m : MemInfo) (r : Option (ℕ × ℕ)) → i < length order → m ≡ at (get_or order i 0) → r ≡ f (at (get_or order i 0))
+pub lines_next : (n : ℕ) (f : MemInfo → Option (ℕ × ℕ)) (at : ℕ → MemInfo) (order : List ℕ) (i : ℕ) (m : MemInfo) (r : Option (ℕ × ℕ))
+    → i < length order → m ≡ at (get_or order i 0) → r ≡ f (at (get_or order i 0))
     → lines_of n f (map at (drop i order)) ≡ mem_lines n (column_of m) (puts_of r) ++ lines_of n f (map at (drop (i + 1) order))
 lines_next n f at order i m r low is shows =
     ap (λ l. lines_of n f (map at l)) (drop_more order i 0 low)

@@ -23,19 +23,23 @@ whole n h rows cycles = cycles_from n h (schedule rows cycles)
 abbrev pub left : Netlist → Held → List ℕ → ℕ → ℕ → List Cycle
 left n h rows done cycles = cycles_from n h (replies_from rows (done + 1) (cycles - done))
 
-pub left_step : (n : Netlist) (h : Held) (rows : List ℕ) (done cycles : ℕ) → done < cycles
-    → left n h rows done cycles ≡ cycle_of n (shown_ports n h (bits_in rows (done + 1))) ∷ left n (next n h (bits_in rows (done + 1))) rows (done + 1) cycles
+pub left_step : (n : Netlist) (h : Held) (rows : List ℕ) (done cycles : ℕ)
+    → done < cycles
+    → left n h rows done cycles
+    ≡ cycle_of n (shown_ports n h (bits_in rows (done + 1))) ∷ left n (next n h (bits_in rows (done + 1))) rows (done + 1) cycles
 left_step n h rows done cycles lt =
     let e : cycles - done ≡ suc (cycles - (done + 1)) = omega arith in
     rw e refl
 
 -- the lines of the next cycle, and of those after it
-pub lines_step : (number : ℕ) (ms : List Column) (c : Cycle) (cs rest : List Cycle) → cs ≡ c ∷ rest → lines_from number ms cs ≡ cycle_lines number ms c.puts ++ lines_from (number + 1) ms rest
+pub lines_step : (number : ℕ) (ms : List Column) (c : Cycle) (cs rest : List Cycle)
+    → cs ≡ c ∷ rest → lines_from number ms cs ≡ cycle_lines number ms c.puts ++ lines_from (number + 1) ms rest
 lines_step number ms c cs rest e =
     let s : suc number ≡ number + 1 = omega arith in
     ap (lines_from number ms) e ∙ ap (λ k. cycle_lines number ms c.puts ++ lines_from k ms rest) s
 
-count_step : (test : Cycle → Bool) (c : Cycle) (cs rest : List Cycle) (old new all : ℕ) → cs ≡ c ∷ rest → new ≡ old + one_if (test c) → old + count_by test cs ≡ all → new + count_by test rest ≡ all
+count_step : (test : Cycle → Bool) (c : Cycle) (cs rest : List Cycle) (old new all : ℕ)
+    → cs ≡ c ∷ rest → new ≡ old + one_if (test c) → old + count_by test cs ≡ all → new + count_by test rest ≡ all
 count_step test c cs rest old new all e n a =
     omega (arith, n, a, ap (count_by test) e, sum_by-cons (λ x. if test x then 1 else 0) c rest)
 

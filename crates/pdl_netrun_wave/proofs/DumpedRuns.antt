@@ -28,7 +28,8 @@ rows_length n h [] = refl
 rows_length n h (b ∷ bits) = ap suc (rows_length n (next n h b) bits)
 
 -- as many as cycles
-pub left_length : (n : Netlist) (h : Held) (delays : List ℕ) (cycles : ℕ) → length (rows_of (nports_from n h (schedule delays cycles))) ≡ cycles
+pub left_length : (n : Netlist) (h : Held) (delays : List ℕ) (cycles : ℕ)
+    → length (rows_of (nports_from n h (schedule delays cycles))) ≡ cycles
 left_length n h delays cycles = rows_length n h (schedule delays cycles) ∙ schedule_length delays 1 cycles
 
 module _ (old new : Run) (bits : ℕ) (e : new ≡ run_after old bits) where
@@ -57,6 +58,8 @@ module _ (old new : Run) (bits : ℕ) (e : new ≡ run_after old bits) where
       ∙ ap (λ k. cycle_text ports (done + 1) before new.last.ports ++ cycles_text ports k new.last.ports (left new delays (done + 1) cycles)) number
 
 -- the last piece
-pub finish_on : (o a b : Option (List ℕ)) (all rest held piece : List ℕ) → rest ≡ piece → IsUnderWay o a all rest held → {X Y : Type 0} (r : Result X Y) (held' : List ℕ) → Passes a b r (held ++ piece) held' → Passes o b r all held'
+pub finish_on : (o a b : Option (List ℕ)) (all rest held piece : List ℕ)
+    → rest ≡ piece → IsUnderWay o a all rest held → {X Y : Type 0} (r : Result X Y) (held' : List ℕ)
+    → Passes a b r (held ++ piece) held' → Passes o b r all held'
 finish_on o a b all rest held piece e w (Ok x) held' p = at_last o b all [] held' refl (step_on o a b all rest held piece [] (e ∙ sym (append-nil piece)) w held' p)
 finish_on o a b all rest held piece e w (Err x) held' t = step_off o a b all rest held piece [] (e ∙ sym (append-nil piece)) w t

@@ -82,7 +82,9 @@ fit_start n image w i =
 
 -- ---- ports
 
-widths_by : (c : Circuit) (ps : List Port) → ((i : ℕ) (p : Port) → slice_get ps i ≡ Some p → IsWellPort c p) → All (λ (p : WavePort). (1 ≤ p.width) × (p.width ≤ 64)) (filter_map wave_port ps)
+widths_by : (c : Circuit) (ps : List Port)
+    → ((i : ℕ) (p : Port) → slice_get ps i ≡ Some p → IsWellPort c p)
+    → All (λ (p : WavePort). (1 ≤ p.width) × (p.width ≤ 64)) (filter_map wave_port ps)
 widths_by c [] h = All-nil (λ (p : WavePort). (1 ≤ p.width) × (p.width ≤ 64))
 widths_by c (p ∷ ps) h = one p.dir p.width (h 0 p refl).low (h 0 p refl).high (widths_by c ps (λ i q e. h (suc i) q e))
   where
@@ -109,7 +111,9 @@ outputs_count n ports e = ap length e ∙ count_by n.ports
 
 -- ---- the ports, one by one
 
-next_port : (ports : List Port) (k : ℕ) (p : Port) → k < length ports → p ≡ get_or ports k p → filter_map wave_port (drop k ports) ≡ cons_option (wave_port p) (filter_map wave_port (drop (k + 1) ports))
+next_port : (ports : List Port) (k : ℕ) (p : Port)
+    → k < length ports → p ≡ get_or ports k p
+    → filter_map wave_port (drop k ports) ≡ cons_option (wave_port p) (filter_map wave_port (drop (k + 1) ports))
 next_port ports k p l e = ap (filter_map wave_port) (drop_more ports k p l ∙ ap (λ q. q ∷ drop (k + 1) ports) (sym e))
 
 -- an output more

@@ -12,7 +12,8 @@ use Rattle.pdl_wave.specs.Wave.{is_none}
 use Rattle.pdl_wave.proofs.Values.{got, now_by_changes}
 use Rattle.pdl_netrun_wave.specs.Cycles.{known, cycle_moments, changes_text, moments_text, cycle_text, cycles_text, port_text}
 
-moments_append : (ports : List WavePort) (xs ys : List Moment) → moments_text ports (xs ++ ys) ≡ moments_text ports xs ++ moments_text ports ys
+moments_append : (ports : List WavePort) (xs ys : List Moment)
+    → moments_text ports (xs ++ ys) ≡ moments_text ports xs ++ moments_text ports ys
 moments_append ports xs ys =
     ap (flat_map ended) (flat_map-append (moment_lines ports) xs ys) ∙ flat_map-append ended (flat_map (moment_lines ports) xs) (flat_map (moment_lines ports) ys)
 
@@ -22,10 +23,12 @@ with_later : (k : ℕ) (xs : List Change) (later : List Moment) → with_moment 
 with_later k [] later = refl
 with_later k (x ∷ xs) later = refl
 
-later_cycle : (ports : List WavePort) (k : ℕ) (before now : List ℕ) → 2 ≤ k → cycle_text ports k before now ≡ moments_text ports (with_moment k (changes 0 before now) [])
+later_cycle : (ports : List WavePort) (k : ℕ) (before now : List ℕ)
+    → 2 ≤ k → cycle_text ports k before now ≡ moments_text ports (with_moment k (changes 0 before now) [])
 later_cycle ports k before now l = ap (λ b. moments_text ports (cycle_moments b k before now)) (ne_eqb k 1 (λ e. omega (arith, e, l)))
 
-later_text : (ports : List WavePort) (k : ℕ) (before : List ℕ) (rest : List (List ℕ)) → 2 ≤ k → cycles_text ports k before rest ≡ moments_text ports (moments k before rest)
+later_text : (ports : List WavePort) (k : ℕ) (before : List ℕ) (rest : List (List ℕ))
+    → 2 ≤ k → cycles_text ports k before rest ≡ moments_text ports (moments k before rest)
 later_text ports k before [] l = refl
 later_text ports k before (now ∷ rest) l =
     ap (λ t. cycle_text ports k before now ++ t) (later_text ports (suc k) now rest (omega (arith, l)))
@@ -34,7 +37,8 @@ later_text ports k before (now ∷ rest) l =
     ∙ ap (moments_text ports) (sym (with_later k (changes 0 before now) (moments (suc k) now rest)))
 
 -- the cycles from the first on are the moments of the run
-pub run_text : (ports : List WavePort) (before : List ℕ) (rows : List (List ℕ)) → cycles_text ports 1 before rows ≡ moments_text ports (run_moments rows)
+pub run_text : (ports : List WavePort) (before : List ℕ) (rows : List (List ℕ))
+    → cycles_text ports 1 before rows ≡ moments_text ports (run_moments rows)
 run_text ports before [] = refl
 run_text ports before (now ∷ rest) =
     ap (λ t. cycle_text ports 1 before now ++ t) (later_text ports 2 now rest (omega arith))
@@ -55,12 +59,15 @@ dump_text name ports rows before =
 -- ---- lines
 
 -- one line further
-pub next_line : (lines : List (List ℕ)) (k : ℕ) → k < length lines → flat_map ended (drop k lines) ≡ ended (get_or lines k []) ++ flat_map ended (drop (k + 1) lines)
+pub next_line : (lines : List (List ℕ)) (k : ℕ)
+    → k < length lines
+    → flat_map ended (drop k lines) ≡ ended (get_or lines k []) ++ flat_map ended (drop (k + 1) lines)
 next_line lines k l = ap (flat_map ended) (drop_more lines k [] l)
 
 -- ---- ports
 
-changed_as : (first : Bool) (before : List ℕ) (i v : ℕ) → i < length before → differs (slice_get (known first before) i) v ≡ (first || not (get_or before i 0 == v))
+changed_as : (first : Bool) (before : List ℕ) (i v : ℕ)
+    → i < length before → differs (slice_get (known first before) i) v ≡ (first || not (get_or before i 0 == v))
 changed_as true before i v l = refl
 changed_as false before i v l = ap (λ o. differs o v) (got before i l)
 
@@ -113,7 +120,8 @@ empty [] e = refl
 empty (x ∷ xs) e = absurd (cc e)
 
 -- and then the values are those before
-pub quiet_same : (first : Bool) (before row : List ℕ) → length before ≡ length row → (not first && is_none (changes 0 before row)) ≡ true → before ≡ row
+pub quiet_same : (first : Bool) (before row : List ℕ)
+    → length before ≡ length row → (not first && is_none (changes 0 before row)) ≡ true → before ≡ row
 quiet_same first before row n both =
     let quiet : is_none (changes 0 before row) ≡ true = (and_parts (not first) (is_none (changes 0 before row)) both).1 in
     ext_get_or 0 before row n (λ i l.
@@ -134,7 +142,9 @@ next_change before row i l m =
     ∙ ap (λ b. is_none (if b then record { port = i; value = get_or row i 0 } ∷ changes (suc i) before (drop (i + 1) row) else changes (suc i) before (drop (i + 1) row))) (changed_as false before i (get_or row i 0) m)
 
 -- one more
-pub still_quiet : (before row : List ℕ) (i : ℕ) → i < length row → i < length before → get_or before i 0 ≡ get_or row i 0 → is_none (changes i before (drop i row)) ≡ is_none (changes (i + 1) before (drop (i + 1) row))
+pub still_quiet : (before row : List ℕ) (i : ℕ)
+    → i < length row → i < length before → get_or before i 0 ≡ get_or row i 0
+    → is_none (changes i before (drop i row)) ≡ is_none (changes (i + 1) before (drop (i + 1) row))
 still_quiet before row i l m e =
     let next : suc i ≡ i + 1 = omega arith in
     next_change before row i l m
@@ -142,7 +152,9 @@ still_quiet before row i l m e =
     ∙ ap (λ j. is_none (changes j before (drop (i + 1) row))) next
 
 -- one that does
-pub not_quiet : (before row : List ℕ) (i : ℕ) → i < length row → i < length before → (get_or before i 0 ≡ get_or row i 0 → ⊥) → is_none (changes i before (drop i row)) ≡ false
+pub not_quiet : (before row : List ℕ) (i : ℕ)
+    → i < length row → i < length before → (get_or before i 0 ≡ get_or row i 0 → ⊥)
+    → is_none (changes i before (drop i row)) ≡ false
 not_quiet before row i l m d =
     next_change before row i l m
     ∙ ap (λ b. is_none (if not b then record { port = i; value = get_or row i 0 } ∷ changes (suc i) before (drop (i + 1) row) else changes (suc i) before (drop (i + 1) row))) (ne_eqb (get_or before i 0) (get_or row i 0) d)
@@ -156,7 +168,9 @@ value_kept before row i l =
     get_or-append_right (take i row) (drop i before) i i 0 n (omega arith) ∙ get_or-drop i before (i - i) 0 ∙ ap (λ k. get_or before k 0) e
 
 -- with the i-th port's value of a cycle, the first i + 1 values are those of the cycle
-pub value_taken : (before row : List ℕ) (i : ℕ) → i < length row → length before ≡ length row → set (take i row ++ drop i before) i (get_or row i 0) ≡ take (i + 1) row ++ drop (i + 1) before
+pub value_taken : (before row : List ℕ) (i : ℕ)
+    → i < length row → length before ≡ length row
+    → set (take i row ++ drop i before) i (get_or row i 0) ≡ take (i + 1) row ++ drop (i + 1) before
 value_taken before row i l m =
     let n : length (take i row) ≡ i = length-take-le i row (omega (arith, l)) in
     let v = get_or row i 0 in

@@ -62,7 +62,8 @@ unfolding bin_value const_value
 half_value l f s = refl
 
 -- after the oldest has left
-halved : (l : Layout) (s : State) (xs : List Bool) → 1 ≤ l.stages → 1 ≤ length xs → Stands l s xs
+halved : (l : Layout) (s : State) (xs : List Bool)
+    → 1 ≤ l.stages → 1 ≤ length xs → Stands l s xs
     → AreWords l.stages (bin_signal Shr (used_signal l) (const_signal l.stages 1)) (bin_signal Shr (sides_signal l) (const_signal l.stages 1)) s (drop 1 xs)
 halved l s [] one some h = absurd (omega arith)
 halved l s (x ∷ xs) one some h =
@@ -76,7 +77,9 @@ halved l s (x ∷ xs) one some h =
       sides = half_value l (sides_signal l) s ∙ ap (λ n. words.shr l.stages n 1) d ∙ half l.stages (word_of (x ∷ xs)) one (omega (arith, below, wide)) ∙ sides_half x xs;
     }
 
-left_words : (l : Layout) (f : StepSignals) (s : State) (xs : List Bool) (a : OrderAct) → 1 ≤ l.stages → Stands l s xs → Drives f s a → (a.left ≡ true → 1 ≤ length xs) → AreWords l.stages (used_left l f) (sides_left l f) s (after_left a xs)
+left_words : (l : Layout) (f : StepSignals) (s : State) (xs : List Bool) (a : OrderAct)
+    → 1 ≤ l.stages → Stands l s xs → Drives f s a → (a.left ≡ true → 1 ≤ length xs)
+    → AreWords l.stages (used_left l f) (sides_left l f) s (after_left a xs)
 left_words l f s xs a one h d some = by_left a.left refl
   where
     u : Signal
@@ -110,11 +113,14 @@ place_value : (l : Layout) (f : StepSignals) (s : State) → (place_signal l f).
 unfolding bin_value const_value
 place_value l f s = refl
 
-more_value : (l : Layout) (f : StepSignals) (g : Signal) (s : State) → (more_signal l f g).value s ≡ words.add g.width (g.value s) ((place_signal l f).value s)
+more_value : (l : Layout) (f : StepSignals) (g : Signal) (s : State)
+    → (more_signal l f g).value s ≡ words.add g.width (g.value s) ((place_signal l f).value s)
 unfolding bin_value
 more_value l f g s = refl
 
-place_is : (l : Layout) (f : StepSignals) (s : State) (ys : List Bool) → AreWords l.stages (used_left l f) (sides_left l f) s ys → length ys + 1 ≤ l.stages → (place_signal l f).value s ≡ 2 ^ length ys
+place_is : (l : Layout) (f : StepSignals) (s : State) (ys : List Bool)
+    → AreWords l.stages (used_left l f) (sides_left l f) s ys → length ys + 1 ≤ l.stages
+    → (place_signal l f).value s ≡ 2 ^ length ys
 place_is l f s ys w h =
     let wide : 2 ^ (length ys + 1) ≤ 2 ^ l.stages = pow_mono h in
     let double = twice_power (length ys) in
@@ -122,7 +128,9 @@ place_is l f s ys w h =
     let u = w.used in
     place_value l f s ∙ sum_is l.stages ((used_left l f).value s) 1 (omega (arith, wide, double, some, u)) ∙ u
 
-used_grown : (l : Layout) (f : StepSignals) (s : State) (ys : List Bool) → AreWords l.stages (used_left l f) (sides_left l f) s ys → length ys + 1 ≤ l.stages → (more_signal l f (used_left l f)).value s + 1 ≡ 2 ^ (length ys + 1)
+used_grown : (l : Layout) (f : StepSignals) (s : State) (ys : List Bool)
+    → AreWords l.stages (used_left l f) (sides_left l f) s ys → length ys + 1 ≤ l.stages
+    → (more_signal l f (used_left l f)).value s + 1 ≡ 2 ^ (length ys + 1)
 used_grown l f s ys w h =
     let n = (used_left l f).value s in
     let wide : 2 ^ (length ys + 1) ≤ 2 ^ l.stages = pow_mono h in
@@ -131,7 +139,9 @@ used_grown l f s ys w h =
     let sum : words.add l.stages n (2 ^ length ys) ≡ n + 2 ^ length ys = sum_is l.stages n (2 ^ length ys) (omega (arith, wide, double, u)) in
     ap (λ m. m + 1) (more_value l f (used_left l f) s ∙ ap (words.add l.stages n) (place_is l f s ys w h) ∙ sum) ∙ omega (arith, double, u)
 
-sides_grown : (l : Layout) (f : StepSignals) (s : State) (ys : List Bool) → AreWords l.stages (used_left l f) (sides_left l f) s ys → length ys + 1 ≤ l.stages → (more_signal l f (sides_left l f)).value s ≡ word_of (ys ++ true ∷ [])
+sides_grown : (l : Layout) (f : StepSignals) (s : State) (ys : List Bool)
+    → AreWords l.stages (used_left l f) (sides_left l f) s ys → length ys + 1 ≤ l.stages
+    → (more_signal l f (sides_left l f)).value s ≡ word_of (ys ++ true ∷ [])
 sides_grown l f s ys w h =
     let n = (sides_left l f).value s in
     let wide : 2 ^ (length ys + 1) ≤ 2 ^ l.stages = pow_mono h in
@@ -145,7 +155,9 @@ sides_grown l f s ys w h =
 pushed : (ys : List Bool) (x : Bool) → length (ys ++ x ∷ []) ≡ length ys + 1
 pushed ys x = length-append ys (x ∷ [])
 
-entered_words : (l : Layout) (f : StepSignals) (s : State) (ys : List Bool) (a : OrderAct) → AreWords l.stages (used_left l f) (sides_left l f) s ys → Drives f s a → length (after_entered a ys) ≤ l.stages → AreWords l.stages (used_entered l f) (sides_entered l f) s (after_entered a ys)
+entered_words : (l : Layout) (f : StepSignals) (s : State) (ys : List Bool) (a : OrderAct)
+    → AreWords l.stages (used_left l f) (sides_left l f) s ys → Drives f s a → length (after_entered a ys) ≤ l.stages
+    → AreWords l.stages (used_entered l f) (sides_entered l f) s (after_entered a ys)
 entered_words l f s ys a w d room = by_first a.entered_first a.entered_second refl refl room
   where
     u : Signal
@@ -192,7 +204,9 @@ unfolding const_value
 none_value n s = refl
 
 -- after the cycle
-step_words : (l : Layout) (f : StepSignals) (s : State) (xs : List Bool) (a : OrderAct) → 1 ≤ l.stages → Stands l s xs → Drives f s a → Proper l.stages xs a → AreWords l.stages (next_used l f) (next_sides l f) s (step xs a)
+step_words : (l : Layout) (f : StepSignals) (s : State) (xs : List Bool) (a : OrderAct)
+    → 1 ≤ l.stages → Stands l s xs → Drives f s a → Proper l.stages xs a
+    → AreWords l.stages (next_used l f) (next_sides l f) s (step xs a)
 step_words l f s xs a one h d p = by_emptied a.emptied refl p.room
   where
     ys : List Bool

@@ -31,7 +31,8 @@ among test (suc n) e =
     ⊎_elim (λ a. record { bits = n; passes = a }) (λ b. among test n b) (or_cases (test n) (list_any (λ path. test path.bits) (paths_below n)) e)
 
 -- some path by bits passes a test just where some choice of the guards does
-pub each_path : (test : List Guard → Bool) (gs : List Guard) (n : ℕ) → n ≡ 2 ^ length gs → list_any (λ path. test (path_of gs path.bits)) (paths_below n) ≡ list_any test (choices gs)
+pub each_path : (test : List Guard → Bool) (gs : List Guard) (n : ℕ)
+    → n ≡ 2 ^ length gs → list_any (λ path. test (path_of gs path.bits)) (paths_below n) ≡ list_any test (choices gs)
 each_path test gs n e =
     same_bools _ _
     (λ h. let s = among (λ b. test (path_of gs b)) n h in some_path test gs s.bits s.passes)

@@ -12,7 +12,8 @@ use Rattle.pdl_paths.proofs.Bits.{with_bit_on, with_bit_off}
 use Rattle.pdl_paths.proofs.PathBits.{among_path}
 use Rattle.pdl_word.proofs.Bools.{and_true, and_swap}
 
-bit_law : (n bits : ℕ) (truth : Bool) (m : Mask) → allows_path (with_bit n truth m) bits ≡ (allows_path m bits && same_truth truth (bit_at bits n == 1))
+bit_law : (n bits : ℕ) (truth : Bool) (m : Mask)
+    → allows_path (with_bit n truth m) bits ≡ (allows_path m bits && same_truth truth (bit_at bits n == 1))
 bit_law n bits true m =
     ap (λ x. x && (bit_and bits m.off == 0)) (with_bit_on bits m.on n) ∙ and_swap (bit_and bits m.on == m.on) (bit_at bits n == 1) (bit_and bits m.off == 0)
 bit_law n bits false m =
@@ -51,7 +52,9 @@ everywhere_law : (bits : ℕ) → allows_path everywhere bits ≡ true
 everywhere_law bits = ap (λ k. (k == 0) && (k == 0)) (and_zero_r bits)
 
 -- of at most ten guards, each once, a place's mask allows just the paths that lead through it
-pub mask_law : (gs : List Guard) (x : Place) (bits : ℕ) → are_distinct gs ≡ true → length gs ≤ 10 → bits < 2 ^ length gs → allows_path (mask_in gs x) bits ≡ on_path (path_of gs bits) x
+pub mask_law : (gs : List Guard) (x : Place) (bits : ℕ)
+    → are_distinct gs ≡ true → length gs ≤ 10 → bits < 2 ^ length gs
+    → allows_path (mask_in gs x) bits ≡ on_path (path_of gs bits) x
 mask_law gs (Parameter a) bits d few l = everywhere_law bits
 mask_law gs (Memory m) bits d few l = everywhere_law bits
 mask_law gs (Statement s bs) bits d few l = branches_law gs bits d few l bs everywhere ∙ ap (λ a. a && list_all (is_taken (path_of gs bits)) bs) (everywhere_law bits)

@@ -30,7 +30,8 @@ among_none g (h ∷ gs) bits e =
     pick false path f i = i
 
 -- a guard is true on the path of some bits just where its bit is 1, if no guard stands twice
-pub among_path : (g : Guard) (gs : List Guard) (bits : ℕ) → are_distinct gs ≡ true → bits < 2 ^ length gs → is_among g (path_of gs bits) ≡ (bit_at bits (number_of g gs) == 1)
+pub among_path : (g : Guard) (gs : List Guard) (bits : ℕ)
+    → are_distinct gs ≡ true → bits < 2 ^ length gs → is_among g (path_of gs bits) ≡ (bit_at bits (number_of g gs) == 1)
 among_path g [] bits d l =
     let none : bits ≡ 0 = omega arith in
     sym (ap (λ k. bit_at k 0 == 1) none ∙ ap (λ k. k == 1) (bit_at-zero 0))

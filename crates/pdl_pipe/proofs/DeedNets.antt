@@ -34,7 +34,8 @@ at_bit c (y ∷ ys) zero x l is h = subst (IsBit c) is h.0
 at_bit c (y ∷ ys) (suc k) x l is h = at_bit c ys k x (omega (arith, l)) is h.1
 
 -- what the locks are told of the stages of a line is there, with its widths
-pub deeds_there : {T : Type 0} (l : Members T) (c : Circuit) (x : Line) (xs : List (Option (MemLock T))) (ds : List StageDeeds) → IsLineIn c x → AreLocked l c (line_pipe x) xs → signals_in c x.shared.now.next ≡ next_signals c xs
+pub deeds_there : {T : Type 0} (l : Members T) (c : Circuit) (x : Line) (xs : List (Option (MemLock T))) (ds : List StageDeeds)
+    → IsLineIn c x → AreLocked l c (line_pipe x) xs → signals_in c x.shared.now.next ≡ next_signals c xs
     → AreDeedsOf x ds → AreDeeds l c (line_pipe x) (line_form x).widths xs ds
 deeds_there l c x xs ds line locked next told = record { count = told.count ∙ line.count; each = each_from (IsDeed l c (line_pipe x) (line_form x).widths xs) ds each }
   where

@@ -21,7 +21,9 @@ use Rattle.pdl_pipe_moves.specs.Passed.{AreMoved}
 use Rattle.pdl_pipe_emitted.specs.Emitted.{IsLayout}
 
 -- each merge has the order of its fork
-pub has_turns : (c : Circuit) (p : Pipe) (rs : List (Option OrderRegs)) → ((q i : ℕ) → q < length p.stages → (stage_at p q).merges ≡ Some i → i < length p.stages) → StandOrders c p rs → HasTurns c p rs
+pub has_turns : (c : Circuit) (p : Pipe) (rs : List (Option OrderRegs))
+    → ((q i : ℕ) → q < length p.stages → (stage_at p q).merges ≡ Some i → i < length p.stages) → StandOrders c p rs
+    → HasTurns c p rs
 has_turns c p rs forks h q i low is = (subst (λ n. i < n) (sym h.count) (forks q i low is), there (some_at rs i) refl)
   where
     there : (o : Option OrderRegs) → some_at rs i ≡ o → IsOrderThere c o
@@ -29,7 +31,9 @@ has_turns c p rs forks h q i low is = (subst (λ n. i < n) (sym h.count) (forks 
     there (Some r) e = (h.each i r (forks q i low is) e).nets
 
 -- one line in place of another, of the same stages
-pub line_with : (c : Circuit) (x y : Line) → IsLineIn c x → length y.moves.now ≡ length x.stages.now → Each (IsBit c) y.moves.now → length y.kills.now ≡ length x.stages.now → Each (IsBit c) y.kills.now → IsLineIn c (record y { pipe = x.pipe; shared = x.shared; stages = x.stages })
+pub line_with : (c : Circuit) (x y : Line) → IsLineIn c x
+    → length y.moves.now ≡ length x.stages.now → Each (IsBit c) y.moves.now → length y.kills.now ≡ length x.stages.now
+    → Each (IsBit c) y.kills.now → IsLineIn c (record y { pipe = x.pipe; shared = x.shared; stages = x.stages })
 line_with c x y h m ms k ks = record {
   shared = h.shared;
   count = h.count;
@@ -43,7 +47,10 @@ line_with c x y h m ms k ks = record {
 }
 
 -- a line is laid out as before with the moves and removals of another line in it
-pub layout_with : {T : Type 0} (l : Members T) (a : Circuit) (x y : Line) (xs : List (Option (MemLock T))) (rs : List (Option OrderRegs)) (low mid high : ℕ) → IsLayout l a x xs rs low mid high → IsLayout l a (record y { pipe = x.pipe; shared = x.shared; stages = x.stages }) xs rs low mid high
+pub layout_with : {T : Type 0} (l : Members T) (a : Circuit) (x y : Line) (xs : List (Option (MemLock T)))
+    (rs : List (Option OrderRegs)) (low mid high : ℕ)
+    → IsLayout l a x xs rs low mid high
+    → IsLayout l a (record y { pipe = x.pipe; shared = x.shared; stages = x.stages }) xs rs low mid high
 layout_with l a x y xs rs low mid high h = record {
   shared = h.shared;
   next = h.next;
@@ -68,7 +75,8 @@ layout_with l a x y xs rs low mid high h = record {
 }
 
 -- the moves of a line are its moves as well with the moves and removals of another line in it
-pub moved_with : (c : Circuit) (x y : Line) (rs : List (Option OrderRegs)) (z : MoveNets) → AreMoved c x rs z → AreMoved c (record y { pipe = x.pipe; shared = x.shared; stages = x.stages }) rs z
+pub moved_with : (c : Circuit) (x y : Line) (rs : List (Option OrderRegs)) (z : MoveNets) → AreMoved c x rs z
+    → AreMoved c (record y { pipe = x.pipe; shared = x.shared; stages = x.stages }) rs z
 moved_with c x y rs z h = record {
   passed = record {
     moves_count = h.passed.moves_count;

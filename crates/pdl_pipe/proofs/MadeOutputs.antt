@@ -44,7 +44,8 @@ shown_kept a c [] k h = refl
 shown_kept a c (o ∷ os) k h =
     ap₂ (λ (f : Signal) (rest : List Shown). record { name = o.name; signal = f } ∷ rest) (k.kept o.net h.0) (shown_kept a c os k h.1)
 
-ports_kept : (a c : Circuit) (os : List OutNet) → Keeps a c → OutsThere a os → map (port_in c) (map output_of os) ≡ map (port_in a) (map output_of os)
+ports_kept : (a c : Circuit) (os : List OutNet) → Keeps a c → OutsThere a os
+    → map (port_in c) (map output_of os) ≡ map (port_in a) (map output_of os)
 ports_kept a c [] k h = refl
 ports_kept a c (o ∷ os) k h =
     ap₂ (λ (f : Signal) (rest : List Port). record { name = o.name; width = f.width; dir = Out o.net } ∷ rest) (k.kept o.net h.0) (ports_kept a c os k h.1)

@@ -39,7 +39,8 @@ use Rattle.pdl_pipe_emitted.proofs.SidesPorts.{moves_first}
 use Rattle.pdl_pipe_emitted.proofs.SidesRemoved.{views_first}
 
 -- nets that have the values of a request have them in all later circuits
-request_kept : (a b c : Circuit) (p : Pipe) (es : List StageEnd) (m : ℕ) (x : RequestNets) → Keeps b c → IsRequest a b p es m x → IsRequest a c p es m x
+request_kept : (a b c : Circuit) (p : Pipe) (es : List StageEnd) (m : ℕ) (x : RequestNets) → Keeps b c
+    → IsRequest a b p es m x → IsRequest a c p es m x
 request_kept a b c p es m x k h =
     let e = k.kept x.enable h.enable_there in
     let g = k.kept x.addr h.addr_there in

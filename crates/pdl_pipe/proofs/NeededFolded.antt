@@ -65,7 +65,8 @@ folded_part : (n p : Netlist) → IsPruned n p → AreFolded n.cells → AreFold
 folded_part n p i f = subst (λ (q : Netlist). AreFolded q.cells) (sym i.same) (folded_pruned i.kept n (closed (circuit_of n) i.kept i.needed) f)
 
 -- of the needed part, where there is memory for it
-pub needed_folded : {E : Type 0} (n : Netlist) (r : Result Netlist E) → AreFolded n.cells → IfOk r (IsPruned n) → IfOk r (λ q. AreFolded q.cells)
+pub needed_folded : {E : Type 0} (n : Netlist) (r : Result Netlist E) → AreFolded n.cells → IfOk r (IsPruned n)
+    → IfOk r (λ q. AreFolded q.cells)
 needed_folded n (Ok q) f i = folded_part n q i f
 needed_folded n (Err e) f i = tt
 

@@ -16,7 +16,7 @@ unfolding shapes_of
 arrays_same n q f = f.arrays
 
 -- one shows in each cycle what the other shows
-abbrev ShowsSame : Netlist → Netlist → Type 0
+abbrev pub ShowsSame : Netlist → Netlist → Type 0
 ShowsSame n q = (image : List (List ℕ)) (schedule : List ℕ) → nports q image schedule ≡ nports n image schedule
 
 -- where there is memory for it

@@ -44,8 +44,10 @@ use Rattle.pdl_pipe.specs.Emitted.{HasMemories, IsLaidOut}
 use Rattle.pdl_pipe.proofs.KeptSteps.{apart_from, unwritten_kept}
 
 -- stages with the answers, tickets and locks of a later circuit
-answered_later : {T : Type 0} (l : Members T) (a c : Circuit) (x : Line) (e : Keeps a c) (nexts : List Signal) (ls : Locks) → HasAnswers a (line_pipe x) x.shared.now.ports.now
-    → AreStaged c (line_form x) nexts (answers_in a x.shared.now.ports.now) ls x.stages.now → AreStaged c (line_form x) nexts (answers_in c x.shared.now.ports.now) ls x.stages.now
+answered_later : {T : Type 0} (l : Members T) (a c : Circuit) (x : Line) (e : Keeps a c) (nexts : List Signal) (ls : Locks)
+    → HasAnswers a (line_pipe x) x.shared.now.ports.now
+    → AreStaged c (line_form x) nexts (answers_in a x.shared.now.ports.now) ls x.stages.now
+    → AreStaged c (line_form x) nexts (answers_in c x.shared.now.ports.now) ls x.stages.now
 answered_later l a c x e nexts ls answers all k s low is =
     let h = all k s low is in
     record {

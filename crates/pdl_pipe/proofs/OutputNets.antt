@@ -23,7 +23,9 @@ use Rattle.pdl_pipe_emitted.proofs.SidesStages.{some_of}
 use Rattle.pdl_pipe.specs.Emitted.{AreShownOf}
 use Rattle.pdl_pipe.proofs.DeedNets.{at_bit}
 
-stages_from : (c : Circuit) (ss : List ShownNets) → ((k : ℕ) (y : ShownNets) → k < length ss → slice_index_or ss k y ≡ y → IsThere c y.valid × IsThere c y.moves) → AreThereStages c ss
+stages_from : (c : Circuit) (ss : List ShownNets)
+    → ((k : ℕ) (y : ShownNets) → k < length ss → slice_index_or ss k y ≡ y → IsThere c y.valid × IsThere c y.moves)
+    → AreThereStages c ss
 stages_from c [] h = tt
 stages_from c (s ∷ ss) h = let x = h 0 s (omega arith) refl in (x.0, x.1, stages_from c ss (λ k y l is. h (suc k) y (omega (arith, l)) is))
 
@@ -43,7 +45,9 @@ shown_there c x ss line told = stages_from c ss each
         )
 
 -- what memories with a lock commit
-pub commits_there : {T : Type 0} (l : Members T) (a c : Circuit) (p : Pipe) (f : ℕ → StepSignals) (xs : List (Option (MemLock T))) (ns : List (Option LockNets)) → AreLocked l a p xs → AreStepped l c p f xs ns (length p.mems) → AreCommits c p ns
+pub commits_there : {T : Type 0} (l : Members T) (a c : Circuit) (p : Pipe) (f : ℕ → StepSignals)
+    (xs : List (Option (MemLock T))) (ns : List (Option LockNets))
+    → AreLocked l a p xs → AreStepped l c p f xs ns (length p.mems) → AreCommits c p ns
 commits_there {T} l a c p f xs ns locked stepped = record {
   count = stepped.count;
   locked = λ m low. (stepped.each m low).has ∙ locked.locked m low;

@@ -66,7 +66,9 @@ module _ (a b : Circuit) (e : Keeps a b) where
 -- ---- one memory more
 
 -- a thread awaits none of the last i + 1 memories where it awaits none of the first of them and of the rest
-pub answered_more : (p : Pipe) (f : ℕ → ℕ → AnswerSignals) (k n i m : ℕ) → i < n → m ≡ n - 1 - i → both (memory_answered p f k m (reading p m)) (all_answered p f k i (n - i)) ≡ all_answered p f k (i + 1) (n - (i + 1))
+pub answered_more : (p : Pipe) (f : ℕ → ℕ → AnswerSignals) (k n i m : ℕ)
+    → i < n → m ≡ n - 1 - i
+    → both (memory_answered p f k m (reading p m)) (all_answered p f k i (n - i)) ≡ all_answered p f k (i + 1) (n - (i + 1))
 answered_more p f k n i m l is =
     let count : i + 1 ≡ suc i = omega arith in
     let from : n - (i + 1) ≡ m = omega (arith, l, is) in

@@ -19,14 +19,17 @@ use Rattle.pdl_pipe_answers.specs.Ports.{port_at, answers_in, IsPortFor, HasAnsw
 -- ---- one memory more
 
 -- a variable may get an answer of memories m and later ones where it may get one of m or of those after it
-pub gets_more : (p : Pipe) (k x n m : ℕ) → m < n → gets_some p k x (n - m) m ≡ (gets_one p k x (reading p m) || gets_some p k x (n - (m + 1)) (m + 1))
+pub gets_more : (p : Pipe) (k x n m : ℕ)
+    → m < n → gets_some p k x (n - m) m ≡ (gets_one p k x (reading p m) || gets_some p k x (n - (m + 1)) (m + 1))
 gets_more p k x n m l =
     let e : n - m ≡ suc (n - (m + 1)) = omega (arith, l) in
     let next : suc m ≡ m + 1 = omega arith in
     ap (λ i. gets_some p k x i m) e ∙ ap (λ i. gets_one p k x (reading p m) || gets_some p k x (n - (m + 1)) i) next
 
 -- the last i + 1 of n memories
-pub answer_more : (p : Pipe) (f : ℕ → ℕ → AnswerSignals) (k x n i m : ℕ) (rest : Signal) → i < n → m ≡ n - 1 - i → memory_answer p f k x m (reading p m) (some_answer p f k x i (n - i) rest) ≡ some_answer p f k x (i + 1) (n - (i + 1)) rest
+pub answer_more : (p : Pipe) (f : ℕ → ℕ → AnswerSignals) (k x n i m : ℕ) (rest : Signal)
+    → i < n → m ≡ n - 1 - i
+    → memory_answer p f k x m (reading p m) (some_answer p f k x i (n - i) rest) ≡ some_answer p f k x (i + 1) (n - (i + 1)) rest
 answer_more p f k x n i m rest l is =
     let count : i + 1 ≡ suc i = omega arith in
     let from : n - (i + 1) ≡ m = omega (arith, l, is) in
@@ -36,7 +39,8 @@ answer_more p f k x n i m rest l is =
 
 -- ---- a variable for which no answer comes
 
-place_none : (f : ℕ → AnswerSignals) (k : ℕ) (next : Next) (rest : Signal) → leads_to next k ≡ false → place_answer f k (places_of next) 0 rest ≡ rest
+place_none : (f : ℕ → AnswerSignals) (k : ℕ) (next : Next) (rest : Signal)
+    → leads_to next k ≡ false → place_answer f k (places_of next) 0 rest ≡ rest
 place_none f k flat.Ends rest e = refl
 place_none f k (flat.Goes to) rest e = ap (λ b. if b then mux_signal (f 0).given (f 0).value rest else rest) e
 place_none f k (flat.Forks x first second) rest e = at (first == k) (second == k) e
@@ -46,7 +50,8 @@ place_none f k (flat.Forks x first second) rest e = at (first == k) (second == k
     at false true h = absurd (false≢true (sym h))
     at false false h = refl
 
-memory_none : (p : Pipe) (f : ℕ → ℕ → AnswerSignals) (k x m : ℕ) (o : Option Reading) (rest : Signal) → gets_one p k x o ≡ false → memory_answer p f k x m o rest ≡ rest
+memory_none : (p : Pipe) (f : ℕ → ℕ → AnswerSignals) (k x m : ℕ) (o : Option Reading) (rest : Signal)
+    → gets_one p k x o ≡ false → memory_answer p f k x m o rest ≡ rest
 memory_none p f k x m None rest e = refl
 memory_none p f k x m (Some r) rest e = at (r.var == x) e
   where
@@ -54,7 +59,8 @@ memory_none p f k x m (Some r) rest e = at (r.var == x) e
     at true h = place_none (f m) k (stage_at p r.stage).next rest h
     at false h = refl
 
-some_none : (p : Pipe) (f : ℕ → ℕ → AnswerSignals) (k x n m : ℕ) (rest : Signal) → gets_some p k x n m ≡ false → some_answer p f k x n m rest ≡ rest
+some_none : (p : Pipe) (f : ℕ → ℕ → AnswerSignals) (k x n m : ℕ) (rest : Signal)
+    → gets_some p k x n m ≡ false → some_answer p f k x n m rest ≡ rest
 some_none p f k x zero m rest e = refl
 some_none p f k x (suc n) m rest e = at (gets_one p k x (reading p m)) (gets_some p k x n (suc m)) refl refl e (some_none p f k x n (suc m) rest)
   where
@@ -65,7 +71,8 @@ some_none p f k x (suc n) m rest e = at (gets_one p k x (reading p m)) (gets_som
     at false false g h z later = memory_none p f k x m (reading p m) (some_answer p f k x n (suc m) rest) g ∙ later h
 
 -- is what it was kept as
-pub answer_none : (p : Pipe) (f : ℕ → ℕ → AnswerSignals) (k x : ℕ) (kept : Signal) → gets_answer p k x ≡ false → with_answer p f k x kept ≡ kept
+pub answer_none : (p : Pipe) (f : ℕ → ℕ → AnswerSignals) (k x : ℕ) (kept : Signal)
+    → gets_answer p k x ≡ false → with_answer p f k x kept ≡ kept
 answer_none p f k x kept e = some_none p f k x (length p.mems) 0 kept e
 
 -- ---- ports stay

@@ -43,7 +43,8 @@ use Rattle.pdl_word.proofs.Lists.{some_of}
 -- ---- what is made stands
 
 -- the ports that were made of all memories stand in the circuit, where delayed reads lead on
-pub made_ports : (c : Circuit) (p : Pipe) (inputs : List (Option PortInput)) (low high : ℕ) (qs : List (Option PortRegs)) → ReadsLeadOn p → AreParts port_laws.own (has_port c p inputs) low high qs (length p.mems) → StandPorts c p qs
+pub made_ports : (c : Circuit) (p : Pipe) (inputs : List (Option PortInput)) (low high : ℕ) (qs : List (Option PortRegs))
+    → ReadsLeadOn p → AreParts port_laws.own (has_port c p inputs) low high qs (length p.mems) → StandPorts c p qs
 made_ports c p inputs low high qs leads h = record {
   count = h.count;
   some = λ m r is. (h.each m (leads.known m r is)).some ∙ ap is_some is;
@@ -52,7 +53,8 @@ made_ports c p inputs low high qs leads h = record {
 }
 
 -- the orders that were made of all stages stand in the circuit
-pub made_orders : (c : Circuit) (p : Pipe) (low high : ℕ) (rs : List (Option OrderRegs)) → AreParts order_laws.own (HasOrderOf c p) low high rs (length p.stages) → StandOrders c p rs
+pub made_orders : (c : Circuit) (p : Pipe) (low high : ℕ) (rs : List (Option OrderRegs))
+    → AreParts order_laws.own (HasOrderOf c p) low high rs (length p.stages) → StandOrders c p rs
 made_orders c p low high rs h = record {
   count = h.count;
   some = λ f l. (h.each f l).some;
@@ -63,11 +65,15 @@ made_orders c p low high rs h = record {
 -- ---- steps stay in a circuit that keeps what their registers take next
 
 -- the step of a memory's port stays where its registers take next what they took
-pub port_stays_stepped : (a c d : Circuit) (p : Pipe) (es : List StageEnd) (qs : List (Option PortRegs)) (m : ℕ) → ((q : PortRegs) → some_at qs m ≡ Some q → OwnKept (port_laws.own q) c d) → IsPortStepped a c p es qs m → IsPortStepped a d p es qs m
+pub port_stays_stepped : (a c d : Circuit) (p : Pipe) (es : List StageEnd) (qs : List (Option PortRegs)) (m : ℕ)
+    → ((q : PortRegs) → some_at qs m ≡ Some q → OwnKept (port_laws.own q) c d) → IsPortStepped a c p es qs m
+    → IsPortStepped a d p es qs m
 port_stays_stepped a c d p es qs m kept x r q is e = port_steps.law_kept (port_places.stands q) (length (places p r)) (port_laws.own q) c d _ (kept q e) (x r q is e)
 
 -- the step of a fork's order stays where its registers take next what they took
-pub order_stays_stepped : (a c d : Circuit) (p : Pipe) (es : List StageEnd) (squash : Net) (rs : List (Option OrderRegs)) (f : ℕ) → ((r : OrderRegs) → some_at rs f ≡ Some r → OwnKept (order_laws.own r) c d) → IsOrderStepped a c p es squash rs f → IsOrderStepped a d p es squash rs f
+pub order_stays_stepped : (a c d : Circuit) (p : Pipe) (es : List StageEnd) (squash : Net) (rs : List (Option OrderRegs)) (f : ℕ)
+    → ((r : OrderRegs) → some_at rs f ≡ Some r → OwnKept (order_laws.own r) c d) → IsOrderStepped a c p es squash rs f
+    → IsOrderStepped a d p es squash rs f
 order_stays_stepped a c d p es squash rs f kept x r e = order_steps.law_kept r (branch_stages p f) c d (order_signals a p es squash f) (kept r e) (x r e)
 
 -- ---- ports

@@ -31,7 +31,8 @@ use Rattle.pdl_pipe_beside.specs.Steps.{IsAskNet, AreNetsOf}
 -- ---- the stage of a number
 
 -- the nets of stage k after its statements are there, where those of all stages are
-pub end_is : (c : Circuit) (f : Form) (es : List StageEnd) (k : ℕ) (e : StageEnd) → AreEnds c f es → k < length f.pipe.stages → e ≡ slice_index_or es k e → IsEnd c f e
+pub end_is : (c : Circuit) (f : Form) (es : List StageEnd) (k : ℕ) (e : StageEnd) → AreEnds c f es
+    → k < length f.pipe.stages → e ≡ slice_index_or es k e → IsEnd c f e
 end_is c f es k e h low at = subst (IsEnd c f) (sym at) (each_get (IsEnd c f) es k e (omega (arith, low, h.count)) h.each)
 
 module _ (c : Circuit) (es : List StageEnd) (k : ℕ) (e : StageEnd) (low : k < length es) (at : e ≡ slice_index_or es k e) where
@@ -44,7 +45,8 @@ module _ (c : Circuit) (es : List StageEnd) (k : ℕ) (e : StageEnd) (low : k < 
   pub kill_at : signal c e.killed ≡ kills_in c es k
   kill_at = ap (kill_in c) at ∙ sym (get_or-map (kill_in c) es k e no_signal low)
 
-asks_are : (c : Circuit) (p : Pipe) (qs : List AskNet) → Each (λ (q : AskNet). IsThere c q.on × IsThere c q.addr) qs → Each (IsSizedAsk p) (map (ask_in c) qs) → Each (IsAskNet c) qs
+asks_are : (c : Circuit) (p : Pipe) (qs : List AskNet) → Each (λ (q : AskNet). IsThere c q.on × IsThere c q.addr) qs
+    → Each (IsSizedAsk p) (map (ask_in c) qs) → Each (IsAskNet c) qs
 asks_are c p [] t s = tt
 asks_are c p (q ∷ qs) t s = ((t.0.0, s.0.1), asks_are c p qs t.1 s.1)
 
@@ -87,13 +89,15 @@ pub ends_kept : (f : Form) (es : List StageEnd) (a b : Circuit) → AreEnds a f 
 ends_kept f es a b h e = ends_keep a b (extends_keeps a b e) f es h
 
 -- where a stage forks, by a variable of 1 bit
-pub fork_var : (ws : List ℕ) (n : Next) (x first second : ℕ) → n ≡ flat.Forks x first second → IsFork ws n → (x < length ws) × (slice_index ws x ≡ 1)
+pub fork_var : (ws : List ℕ) (n : Next) (x first second : ℕ)
+    → n ≡ flat.Forks x first second → IsFork ws n → (x < length ws) × (slice_index ws x ≡ 1)
 fork_var ws n x first second e h = subst (IsFork ws) e h
 
 -- ---- nets of bits, one more
 
 -- after the nets of n bits stands a net for the next one
-pub nets_more : (a b : Circuit) (nets : List Net) (n : ℕ) (f : ℕ → Signal) (x : Net) → AreNetsOf a nets n f → Extends a b → IsThere b x → (signal b x).width ≡ 1 → signal b x ≡ f n → AreNetsOf b (nets ++ x ∷ []) (n + 1) f
+pub nets_more : (a b : Circuit) (nets : List Net) (n : ℕ) (f : ℕ → Signal) (x : Net) → AreNetsOf a nets n f
+    → Extends a b → IsThere b x → (signal b x).width ≡ 1 → signal b x ≡ f n → AreNetsOf b (nets ++ x ∷ []) (n + 1) f
 nets_more a b nets n f x h e there one same =
     let g = bits_kept a b nets n h.bits e in
     let old : (k : ℕ) → k < n → net_at (nets ++ x ∷ []) k ≡ net_at nets k = λ k l. get_or_append_left nets (x ∷ []) (Input 0) k (omega (arith, l, g.count)) in

@@ -74,7 +74,9 @@ new_order a b r f = record {
 }
 
 -- a merged fork has the order that was made for it, which has room for the stages of its branches
-pub order_some : (a c : Circuit) (p : Pipe) (f : ℕ) (r : OrderRegs) → is_merged p f ≡ true → branch_stages p f ≤ r.stages → IsFragment a c r → HasOrderNets c r → ArePlaced c r → StartLaw (stands r) c (own r) → FirstLaw (stands r) (signal c r.first) (signal c r.empty)
+pub order_some : (a c : Circuit) (p : Pipe) (f : ℕ) (r : OrderRegs)
+    → is_merged p f ≡ true → branch_stages p f ≤ r.stages → IsFragment a c r → HasOrderNets c r → ArePlaced c r
+    → StartLaw (stands r) c (own r) → FirstLaw (stands r) (signal c r.first) (signal c r.empty)
     → HasOrderOf c p f (Some r)
 order_some a c p f r merged fits fragment nets placed starts first = record {
   some = sym merged;

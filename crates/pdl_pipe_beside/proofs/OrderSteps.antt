@@ -31,7 +31,9 @@ use Rattle.pdl_pipe_beside.proofs.PartLists.{own_apart}
 use Rattle.pdl_pipe_beside.proofs.OrderParts.{order_stays}
 
 -- the last i + 1 of n stages
-pub leave_more : (p : Pipe) (vs : ℕ → View) (moves : ℕ → Signal) (f n i : ℕ) → i < n → leave_or p vs moves f (n - 1 - i) (leaves_fork p vs moves f i (n - i)) ≡ leaves_fork p vs moves f (i + 1) (n - (i + 1))
+pub leave_more : (p : Pipe) (vs : ℕ → View) (moves : ℕ → Signal) (f n i : ℕ)
+    → i < n
+    → leave_or p vs moves f (n - 1 - i) (leaves_fork p vs moves f i (n - i)) ≡ leaves_fork p vs moves f (i + 1) (n - (i + 1))
 leave_more p vs moves f n i l =
     let count : suc i ≡ i + 1 = omega arith in
     let from : n - 1 - i ≡ n - (i + 1) = omega (arith, l) in
@@ -52,8 +54,10 @@ module _ (a b : Circuit) (f : Form) (es : List StageEnd) (k : ℕ) (e : Keeps a 
 
 -- the nets of an order's step mean what the stages do to it, where each of the four nets does
 pub ports_same : (a c : Circuit) (p : Pipe) (es : List StageEnd) (squash : Net) (k : ℕ) (x : OrderPorts)
-    → signal c x.entered_first ≡ (order_signals a p es squash k).entered_first → signal c x.entered_second ≡ (order_signals a p es squash k).entered_second → signal c x.left ≡ (order_signals a p es squash k).left → signal c x.emptied ≡ (order_signals a p es squash k).emptied
-    → step_signals c x ≡ order_signals a p es squash k
+    → signal c x.entered_first ≡ (order_signals a p es squash k).entered_first
+    → signal c x.entered_second ≡ (order_signals a p es squash k).entered_second
+    → signal c x.left ≡ (order_signals a p es squash k).left
+    → signal c x.emptied ≡ (order_signals a p es squash k).emptied → step_signals c x ≡ order_signals a p es squash k
 ports_same a c p es squash k x first second left emptied =
     ap₂ (λ (g h : Signal × Signal). (let z : StepSignals = record { entered_first = g.0; entered_second = g.1; left = h.0; emptied = h.1 } in z))
     (ap₂ (λ (g h : Signal). (g, h)) first second) (ap₂ (λ (g h : Signal). (g, h)) left emptied)
@@ -61,7 +65,9 @@ ports_same a c p es squash k x first second left emptied =
 -- ---- the law of a step
 
 -- by other signals that are the same
-pub law_as : (r : OrderRegs) (n : ℕ) (c : Circuit) (f g : StepSignals) → f.entered_first ≡ g.entered_first → f.entered_second ≡ g.entered_second → f.left ≡ g.left → f.emptied ≡ g.emptied → StepLaw (stands r) n (own r) c f → StepLaw (stands r) n (own r) c g
+pub law_as : (r : OrderRegs) (n : ℕ) (c : Circuit) (f g : StepSignals)
+    → f.entered_first ≡ g.entered_first → f.entered_second ≡ g.entered_second → f.left ≡ g.left → f.emptied ≡ g.emptied
+    → StepLaw (stands r) n (own r) c f → StepLaw (stands r) n (own r) c g
 law_as r n c f g first second left emptied x = record {
   next = λ s t xs d st dr pr nx. x.next s t xs d st
       (record {
@@ -74,7 +80,8 @@ law_as r n c f g first second left emptied x = record {
 }
 
 -- for fewer threads
-law_fewer : (r : OrderRegs) (k n : ℕ) (c : Circuit) (g : StepSignals) → k ≤ n → StepLaw (stands r) n (own r) c g → StepLaw (stands r) k (own r) c g
+law_fewer : (r : OrderRegs) (k n : ℕ) (c : Circuit) (g : StepSignals)
+    → k ≤ n → StepLaw (stands r) n (own r) c g → StepLaw (stands r) k (own r) c g
 law_fewer r k n c g le x = record {
   next = λ s t xs d st dr pr nx. x.next s t xs d st dr (record { one = pr.one; some = pr.some; room = let z = pr.room in omega (arith, z, le) }) nx;
 }
@@ -82,8 +89,10 @@ law_fewer r k n c g le x = record {
 -- ---- one step
 
 -- an order that keeps the law of a step for all stages it has room for keeps it for those of its fork
-pub some_stepped : (a c : Circuit) (p : Pipe) (es : List StageEnd) (squash : Net) (rs : List (Option OrderRegs)) (f : ℕ) (r : OrderRegs) (g : StepSignals) → some_at rs f ≡ Some r → IsOrder a p f r → g ≡ order_signals a p es squash f → StepLaw (stands r) r.stages (own r) c g
-    → IsOrderStepped a c p es squash rs f
+pub some_stepped : (a c : Circuit) (p : Pipe) (es : List StageEnd) (squash : Net) (rs : List (Option OrderRegs)) (f : ℕ)
+    (r : OrderRegs) (g : StepSignals)
+    → some_at rs f ≡ Some r → IsOrder a p f r → g ≡ order_signals a p es squash f
+    → StepLaw (stands r) r.stages (own r) c g → IsOrderStepped a c p es squash rs f
 some_stepped a c p es squash rs f r g is order same law s e =
     let two : r ≡ s = cc (is, e) in
     let G : StepSignals → Type 0 = λ h. StepLaw (stands r) (branch_stages p f) (own r) c h in
@@ -100,12 +109,14 @@ orders_stand a b p rs k h = record { count = h.count; some = h.some; each = λ f
 abbrev step_by : Pipe → ℕ → List View → List Signal → List Signal → Signal → StepSignals
 step_by p f vs ms ks squash = order_step p (λ k. slice_index_or vs k no_view) (record { gate = λ k. one; kill = λ k. signal_at ks k; squash = squash; tail = λ m. no_signal }) (λ k. signal_at ms k) f
 
-signals_same : (a b : Circuit) (f : Form) (es : List StageEnd) (squash : Net) (k : ℕ) → Keeps a b → AreEnds a f es → IsThere a squash → order_signals b f.pipe es squash k ≡ order_signals a f.pipe es squash k
+signals_same : (a b : Circuit) (f : Form) (es : List StageEnd) (squash : Net) (k : ℕ) → Keeps a b → AreEnds a f es
+    → IsThere a squash → order_signals b f.pipe es squash k ≡ order_signals a f.pipe es squash k
 signals_same a b f es squash k e h t =
     ap₂ (λ vs ms. step_by f.pipe k vs ms (map (kill_in b) es) (signal b squash)) (views_same a b e f es h) (moves_same a b e f es h)
     ∙ ap₂ (step_by f.pipe k (map (view_in a) es) (map (move_in a) es)) (kills_same a b e f es h) (e.kept squash t)
 
-pub law_kept : (r : OrderRegs) (n : ℕ) (a b : Circuit) (f : StepSignals) → OwnKept (own r) a b → StepLaw (stands r) n (own r) a f → StepLaw (stands r) n (own r) b f
+pub law_kept : (r : OrderRegs) (n : ℕ) (a b : Circuit) (f : StepSignals) → OwnKept (own r) a b
+    → StepLaw (stands r) n (own r) a f → StepLaw (stands r) n (own r) b f
 law_kept r n a b f k x = record { next = λ s t xs d st dr pr nx. x.next s t xs d st dr pr (next_kept (own r) a b s t k nx) }
 
 module _ (a : Circuit) (f : Form) (es : List StageEnd) (squash : Net) (rs : List (Option OrderRegs)) (there : IsThere a squash) (stand : StandOrders a f.pipe rs) (ends : AreEnds a f es) where

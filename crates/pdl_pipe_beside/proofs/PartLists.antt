@@ -39,7 +39,8 @@ module _ {T : Type 0} (own : T → Own) (A B : ℕ → Option T → Type 0) (low
 -- ---- what changes
 
 -- one part more has changed, that has no array
-pub extends_more : (owns : ℕ → Own) (n : ℕ) (a b c : Circuit) → (owns n).last ≡ 0 → ExtendsParts owns n a b → ExtendsBut (owns n) b c → ExtendsParts owns (n + 1) a c
+pub extends_more : (owns : ℕ → Own) (n : ℕ) (a b c : Circuit)
+    → (owns n).last ≡ 0 → ExtendsParts owns n a b → ExtendsBut (owns n) b c → ExtendsParts owns (n + 1) a c
 extends_more owns n a b c none x y = record {
   keeps = keeps_trans a b c x.keeps (but_keeps (owns n) b c y);
   nexts = λ k h u. y.nexts k (x.keeps.has_reg k h) (u n (omega arith)) ∙ x.nexts k h (λ i l. u i (omega (arith, l)));
@@ -59,7 +60,9 @@ parts_wider owns i n a b h x = record {
 }
 
 -- a part's registers are not those of a later one
-pub own_apart : {T : Type 0} (own : T → Own) (xs : List (Option T)) (i j : ℕ) (x : T) → ((y : T) → some_at xs j ≡ Some y → (own x).to ≤ (own y).from) → (k : ℕ) → k < (own x).to → Outside (own_at own xs j).from (own_at own xs j).to k
+pub own_apart : {T : Type 0} (own : T → Own) (xs : List (Option T)) (i j : ℕ) (x : T)
+    → ((y : T) → some_at xs j ≡ Some y → (own x).to ≤ (own y).from) → (k : ℕ) → k < (own x).to
+    → Outside (own_at own xs j).from (own_at own xs j).to k
 own_apart {T} own xs i j x apart k l = at (some_at xs j) refl
   where
     at : (o : Option T) → some_at xs j ≡ o → Outside (own_of own o).from (own_of own o).to k

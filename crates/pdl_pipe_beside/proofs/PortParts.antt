@@ -47,8 +47,10 @@ pub own_there : (a b : Circuit) (q : PortRegs) → IsFragment a b q → HasOwn b
 own_there a b q f = record { regs = f.has_reg; none = omega arith }
 
 -- its laws as those of a stage's read
-pub is_port : (c : Circuit) (p : Pipe) (m stage w n : ℕ) (i : PortInput) (q : PortRegs) → w ≡ (mem_at p m).width → n ≡ length (places_of (stage_at p stage).next) → IsThere c i.word → q.reply ≡ i.reply → q.word ≡ i.word
-    → port_places q ≡ n → HasAnswerNets c w q → ArePlaced c q → HasOwn c (own q) → StartLaw (stands q) c (own q) → AnswerLaw (stands q) n (signal c i.reply) (signal c i.word) (answer_signals c q)
+pub is_port : (c : Circuit) (p : Pipe) (m stage w n : ℕ) (i : PortInput) (q : PortRegs)
+    → w ≡ (mem_at p m).width → n ≡ length (places_of (stage_at p stage).next) → IsThere c i.word → q.reply ≡ i.reply
+    → q.word ≡ i.word → port_places q ≡ n → HasAnswerNets c w q → ArePlaced c q → HasOwn c (own q)
+    → StartLaw (stands q) c (own q) → AnswerLaw (stands q) n (signal c i.reply) (signal c i.word) (answer_signals c q)
     → (r : Reading) → r.stage ≡ stage → IsPort c p m r q
 is_port c p m stage w n i q wide are there reply word count nets placed owned starts answers r at =
     let n_is : n ≡ length (places p r) = are ∙ ap (λ k. length (places_of (stage_at p k).next)) (sym at) in
@@ -69,7 +71,8 @@ is_port c p m stage w n i q wide are there reply word count nets placed owned st
 -- ---- a memory's port
 
 -- a memory that is read delayed has this port, where that is made of its inputs
-pub port_some : (c : Circuit) (p : Pipe) (m : ℕ) (r : Reading) (i : PortInput) (input : Option PortInput) (q : PortRegs) → reading p m ≡ Some r → input ≡ Some i → IsPort c p m r q → q.reply ≡ i.reply → q.word ≡ i.word
+pub port_some : (c : Circuit) (p : Pipe) (m : ℕ) (r : Reading) (i : PortInput) (input : Option PortInput) (q : PortRegs)
+    → reading p m ≡ Some r → input ≡ Some i → IsPort c p m r q → q.reply ≡ i.reply → q.word ≡ i.word
     → HasPortOf c p m input (Some q)
 port_some c p m r i input q is at x reply word = record {
   some = sym (ap is_some is);
@@ -152,7 +155,8 @@ module _ (a b : Circuit) (k : Keeps a b) where
 -- ---- what they answer
 
 -- the ports that were made of all memories answer the delayed reads, where these lead on
-pub has_answers : (c : Circuit) (p : Pipe) (inputs : List (Option PortInput)) (low high : ℕ) (qs : List (Option PortRegs)) → ReadsLeadOn p → AreParts own (has_port c p inputs) low high qs (length p.mems) → HasAnswers c p qs
+pub has_answers : (c : Circuit) (p : Pipe) (inputs : List (Option PortInput)) (low high : ℕ) (qs : List (Option PortRegs))
+    → ReadsLeadOn p → AreParts own (has_port c p inputs) low high qs (length p.mems) → HasAnswers c p qs
 has_answers c p inputs low high qs leads h = record { count = h.count; each = λ m r is. at m r is (port_at qs m) (h.each m (leads.known m r is)) }
   where
     at : (m : ℕ) (r : Reading) → reading p m ≡ Some r → (o : Option PortRegs) → has_port c p inputs m o → IsPortFor c p m r o

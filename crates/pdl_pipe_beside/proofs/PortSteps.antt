@@ -32,8 +32,9 @@ use Rattle.pdl_pipe_beside.proofs.PortParts.{port_stays}
 -- ---- the law of a step
 
 -- by other signals that are the same for each place
-pub law_as : (stands : State → PortState → Type 0) (n : ℕ) (o : Own) (c : Circuit) (f g : StepSignals) → f.reply ≡ g.reply → ((k : ℕ) → k < n → f.moves k ≡ g.moves k) → ((k : ℕ) → k < n → f.removed k ≡ g.removed k) → ((k : ℕ) → k < n → f.asked k ≡ g.asked k)
-    → StepLaw stands n o c f → StepLaw stands n o c g
+pub law_as : (stands : State → PortState → Type 0) (n : ℕ) (o : Own) (c : Circuit) (f g : StepSignals)
+    → f.reply ≡ g.reply → ((k : ℕ) → k < n → f.moves k ≡ g.moves k) → ((k : ℕ) → k < n → f.removed k ≡ g.removed k)
+    → ((k : ℕ) → k < n → f.asked k ≡ g.asked k) → StepLaw stands n o c f → StepLaw stands n o c g
 law_as stands n o c f g reply moves removed asked x = record {
   next = λ s t y d st dr pr nx. x.next s t y d st
       (record {
@@ -46,7 +47,8 @@ law_as stands n o c f g reply moves removed asked x = record {
 }
 
 -- in a circuit that keeps what its registers take next
-pub law_kept : (stands : State → PortState → Type 0) (n : ℕ) (o : Own) (a b : Circuit) (f : StepSignals) → OwnKept o a b → StepLaw stands n o a f → StepLaw stands n o b f
+pub law_kept : (stands : State → PortState → Type 0) (n : ℕ) (o : Own) (a b : Circuit) (f : StepSignals) → OwnKept o a b
+    → StepLaw stands n o a f → StepLaw stands n o b f
 law_kept stands n o a b f k x = record { next = λ s t y d st dr pr nx. x.next s t y d st dr pr (next_kept o a b s t k nx) }
 
 -- ---- one step
@@ -82,7 +84,8 @@ step_by p m r vs ms ks reply = record {
   asked = asked_into p (λ k. slice_index_or vs k no_view) (λ k. signal_at ms k) m r;
 }
 
-signals_same : (a b : Circuit) (f : Form) (es : List StageEnd) (m : ℕ) (r : Reading) (q : PortRegs) → Keeps a b → AreEnds a f es → IsPort a f.pipe m r q → port_signals b f.pipe es m r q ≡ port_signals a f.pipe es m r q
+signals_same : (a b : Circuit) (f : Form) (es : List StageEnd) (m : ℕ) (r : Reading) (q : PortRegs) → Keeps a b
+    → AreEnds a f es → IsPort a f.pipe m r q → port_signals b f.pipe es m r q ≡ port_signals a f.pipe es m r q
 signals_same a b f es m r q k h x =
     ap₂ (λ vs ms. step_by f.pipe m r vs ms (map (kill_in b) es) (signal b q.reply)) (views_same a b k f es h) (moves_same a b k f es h)
     ∙ ap₂ (step_by f.pipe m r (map (view_in a) es) (map (move_in a) es)) (kills_same a b k f es h) (k.kept q.reply x.placed.reply_there)
@@ -109,7 +112,9 @@ module _ (a : Circuit) (f : Form) (es : List StageEnd) (qs : List (Option PortRe
       below_more (λ j. IsPortStepped a c f.pipe es qs j) m (λ j l. stepped_kept b c j m l low k d (h j l)) (stepped_as b c m k x)
 
 -- where the ports of the memories of a pipe have made their step, so has one of any number
-pub all_stepped : (a c : Circuit) (p : Pipe) (es : List StageEnd) (qs : List (Option PortRegs)) (n : ℕ) → n ≡ length p.mems → ReadsLeadOn p → ((m : ℕ) → m < n → IsPortStepped a c p es qs m) → (m : ℕ) → IsPortStepped a c p es qs m
+pub all_stepped : (a c : Circuit) (p : Pipe) (es : List StageEnd) (qs : List (Option PortRegs)) (n : ℕ)
+    → n ≡ length p.mems → ReadsLeadOn p → ((m : ℕ) → m < n → IsPortStepped a c p es qs m) → (m : ℕ)
+    → IsPortStepped a c p es qs m
 all_stepped a c p es qs n count leads h m r q e g = h m (let l = leads.known m r e in omega (arith, l, count)) r q e g
 
 -- no port has an array

@@ -59,7 +59,9 @@ read_stands m (s ∷ ss) r e h = at (bound_by m s.op) refl (sym (reading_next m 
         false≢true (sym (none_here s ss (bound_fetches m s.op x b)) ∙ ap (λ k. none_of is_fetch (in_stage k (s ∷ ss))) here ∙ h)
 
 -- what the rules give: delayed reads are of memories of the pipe, in its stages, and none of them in the last one
-pub reads_lead_on : (p : Pipe) → LeadsOn p → Reads p → ((m : ℕ) (r : Reading) → reading p m ≡ Some r → r.stage < length p.stages) → ((s : ℕ) → suc s ≡ length p.stages → none_of is_fetch (in_stage s p.stmts) ≡ true) → ReadsLeadOn p
+pub reads_lead_on : (p : Pipe) → LeadsOn p → Reads p
+    → ((m : ℕ) (r : Reading) → reading p m ≡ Some r → r.stage < length p.stages)
+    → ((s : ℕ) → suc s ≡ length p.stages → none_of is_fetch (in_stage s p.stmts) ≡ true) → ReadsLeadOn p
 reads_lead_on p leads reads inside unread = record {
   known = λ m r is. (reads.known m r is).0;
   stage = inside;

@@ -44,7 +44,8 @@ typed_at (x ∷ xs) zero l h = h.0
 typed_at (x ∷ xs) (suc m) l h = typed_at xs m (omega (arith, l)) h.1
 
 -- the last address may be a zero of any width
-pub address_value : (m w : ℕ) (moves : Signal) (qs : List Ask) (s : State) → (address_from m moves (const_signal w 0) qs).value s ≡ (asked_address m moves qs).value s
+pub address_value : (m w : ℕ) (moves : Signal) (qs : List Ask) (s : State)
+    → (address_from m moves (const_signal w 0) qs).value s ≡ (asked_address m moves qs).value s
 unfolding mux_value const_value
 address_value m w moves [] s = refl
 address_value m w moves (q ∷ qs) s = at (q.mem == m) (address_value m w moves qs s)
@@ -54,7 +55,9 @@ address_value m w moves (q ∷ qs) s = at (q.mem == m) (address_value m w moves 
     at true e = ap (λ v. words.mux ((both moves q.on).value s) (q.addr.value s) v) e
     at false e = e
 
-addresses_are : (c : Circuit) (p : Pipe) (m w : ℕ) → 2 ^ w ≡ (mem_at p m).depth → (qs : List AskNet) → Each (λ (q : AskNet). IsThere c q.on × IsThere c q.addr) qs → Each (IsSizedAsk p) (map (ask_in c) qs) → Each (IsAddressNet c m w) qs
+addresses_are : (c : Circuit) (p : Pipe) (m w : ℕ)
+    → 2 ^ w ≡ (mem_at p m).depth → (qs : List AskNet) → Each (λ (q : AskNet). IsThere c q.on × IsThere c q.addr) qs
+    → Each (IsSizedAsk p) (map (ask_in c) qs) → Each (IsAddressNet c m w) qs
 addresses_are c p m w e [] t s = tt
 addresses_are c p m w e (q ∷ qs) t s =
     let here : IsAddressNet c m w q = record {
@@ -66,11 +69,13 @@ addresses_are c p m w e (q ∷ qs) t s =
     (here, addresses_are c p m w e qs t.1 s.1)
 
 -- a memory of 2 to the w words is asked by the stages with addresses of w bits
-pub end_addresses : (c : Circuit) (f : Form) (e : StageEnd) (m w : ℕ) → 2 ^ w ≡ (mem_at f.pipe m).depth → IsEnd c f e → Each (IsAddressNet c m w) e.ended.now.asks
+pub end_addresses : (c : Circuit) (f : Form) (e : StageEnd) (m w : ℕ)
+    → 2 ^ w ≡ (mem_at f.pipe m).depth → IsEnd c f e → Each (IsAddressNet c m w) e.ended.now.asks
 end_addresses c f e m w depth h = addresses_are c f.pipe m w depth e.ended.now.asks h.walk.there.asks h.walk.sized.asks
 
 -- requests stay
-pub asks_same : (a b : Circuit) (m w : ℕ) (qs : List AskNet) → Keeps a b → Each (IsAddressNet a m w) qs → map (ask_in b) qs ≡ map (ask_in a) qs
+pub asks_same : (a b : Circuit) (m w : ℕ) (qs : List AskNet) → Keeps a b → Each (IsAddressNet a m w) qs
+    → map (ask_in b) qs ≡ map (ask_in a) qs
 asks_same a b m w qs k h = map_each (ask_in b) (ask_in a) (IsAddressNet a m w) (λ q x. ap₂ (λ f g. record { mem = q.mem; var = q.var; on = f; addr = g }) (k.kept q.on x.on_there) (k.kept q.addr x.addr_there)) qs h
 
 -- ---- one request
@@ -102,7 +107,8 @@ module _ (a c : Circuit) (p : Pipe) (es : List StageEnd) (m w : ℕ) (r : Readin
 
 -- ---- all requests
 
-request_kept : (a b c : Circuit) (p : Pipe) (es : List StageEnd) (m : ℕ) (x : RequestNets) → Keeps b c → IsRequest a b p es m x → IsRequest a c p es m x
+request_kept : (a b c : Circuit) (p : Pipe) (es : List StageEnd) (m : ℕ) (x : RequestNets) → Keeps b c
+    → IsRequest a b p es m x → IsRequest a c p es m x
 request_kept a b c p es m x k h =
     let e = k.kept x.enable h.enable_there in
     let g = k.kept x.addr h.addr_there in
@@ -116,7 +122,8 @@ request_kept a b c p es m x k h =
     }
 
 -- by what the stages were at first
-request_as : (a b c : Circuit) (f : Form) (es : List StageEnd) (m : ℕ) (x : RequestNets) → Keeps a b → AreEnds a f es → IsRequest b c f.pipe es m x → IsRequest a c f.pipe es m x
+request_as : (a b c : Circuit) (f : Form) (es : List StageEnd) (m : ℕ) (x : RequestNets) → Keeps a b → AreEnds a f es
+    → IsRequest b c f.pipe es m x → IsRequest a c f.pipe es m x
 request_as a b c f es m x k ends h =
     let p = f.pipe in
     let same = ap₂ (λ vs ms. request_of (λ j. slice_index_or vs j no_view) (λ j. signal_at ms j) m (reading p m)) (views_same a b k f es ends) (moves_same a b k f es ends) in
@@ -130,7 +137,9 @@ request_as a b c f es m x k ends h =
     }
 
 -- with the request of one memory more the first n + 1 memories have theirs
-pub requests_more : (a b c : Circuit) (f : Form) (es : List StageEnd) (xs : List (Option RequestNets)) (o : Option RequestNets) (n : ℕ) → Keeps a b → Keeps b c → AreEnds a f es → HasRequest b c f.pipe es n o → AreRequests a b f.pipe es xs n → AreRequests a c f.pipe es (xs ++ o ∷ []) (n + 1)
+pub requests_more : (a b c : Circuit) (f : Form) (es : List StageEnd) (xs : List (Option RequestNets)) (o : Option RequestNets) (n : ℕ)
+    → Keeps a b → Keeps b c → AreEnds a f es → HasRequest b c f.pipe es n o → AreRequests a b f.pipe es xs n
+    → AreRequests a c f.pipe es (xs ++ o ∷ []) (n + 1)
 requests_more a b c f es xs o n k l ends new h =
     let P = λ (m : ℕ) (q : Option RequestNets). HasRequest a c f.pipe es m q in
     let here : P n o = record { some = new.some; asks = λ x e. request_as a b c f es n x k ends (new.asks x e) } in

@@ -50,7 +50,8 @@ order_empty c None = no_signal
 order_empty c (Some r) = signal c r.empty
 
 -- what stands beside the stages, where this comes from the delayed memories, these ports are free as this says, and squashes go by the rest
-abbrev pub sides_in : Circuit → List (Option PortRegs) → (ℕ → Inputs) → (ℕ → Signal) → List (Option OrderRegs) → (ℕ → Signal) → (ℕ → ℕ → Signal) → Sides
+abbrev pub sides_in : Circuit → List (Option PortRegs) → (ℕ → Inputs) → (ℕ → Signal) → List (Option OrderRegs)
+    → (ℕ → Signal) → (ℕ → ℕ → Signal) → Sides
 sides_in c qs ins frees rs clear tails = record {
   port = λ m. record { stands = port_stands (some_at qs m); reply = (ins m).reply; word = (ins m).word; answers = port_answers c (some_at qs m); free = frees m };
   order = λ f. record { stands = order_stands (some_at rs f); first = order_first c (some_at rs f); empty = order_empty c (some_at rs f) };

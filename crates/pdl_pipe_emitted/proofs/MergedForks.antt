@@ -21,7 +21,8 @@ some_low : (p : Pipe) (k : ℕ) → k < length p.stages → IsLow p (Some k)
 some_low p k l f e = let same : k ≡ f = cc e in omega (arith, l, same)
 
 -- the first stage of a group merges what the group does
-first_low : (p : Pipe) (k i : ℕ) (merges : Option ℕ) (sh : Shape) → Groups p k merges sh → IsLow p merges → k ≡ i → IsLow p (stage_at p i).merges
+first_low : (p : Pipe) (k i : ℕ) (merges : Option ℕ) (sh : Shape) → Groups p k merges sh → IsLow p merges
+    → k ≡ i → IsLow p (stage_at p i).merges
 first_low p k i merges sh g h same f e = h f (sym (group_merge p k merges sh g) ∙ ap (λ n. (stage_at p n).merges) same ∙ e)
 
 -- and a stage of a branch merges nothing
@@ -30,8 +31,8 @@ inner_low p k x a b i fork l m =
     let r = between_in p k x a b i fork l m in
     none_low p (stage_at p i).merges (ap (λ n. (stage_at p n).merges) r.4 ∙ ap (λ (y : Stage). y.merges) (fork.chain r.0 r.1 r.2 r.3))
 
-group_low : (p : Pipe) (k : ℕ) (merges : Option ℕ) (sh : Shape) (i : ℕ) → Groups p k merges sh → IsLow p merges → k ≤ i → i < length p.stages
-    → IsLow p (stage_at p i).merges
+group_low : (p : Pipe) (k : ℕ) (merges : Option ℕ) (sh : Shape) (i : ℕ) → Groups p k merges sh → IsLow p merges
+    → k ≤ i → i < length p.stages → IsLow p (stage_at p i).merges
 group_low p k merges Last i g h low high = first_low p k i merges Last g h (let e = g.1 in omega (arith, e, low, high))
 group_low p k merges (Cut rest) i g h low high = at (group_low p (suc k) None rest i g.1 (none_low p None refl)) (cases_lt k i)
   where
@@ -51,6 +52,7 @@ group_low p k merges (Fork x a b rest) i g h low high =
     at later (inr l) = first_low p k i merges (Fork x a b rest) g h (omega (arith, l, low))
 
 -- the fork that a stage merges is a stage of the pipe, where the pipe breaks no rule
-pub merged_low : (p : tree.Pipe) → KeepsRules p → (q i : ℕ) → q < length (flat p).stages → (stage_at (flat p) q).merges ≡ Some i → i < length (flat p).stages
+pub merged_low : (p : tree.Pipe) → KeepsRules p → (q i : ℕ)
+    → q < length (flat p).stages → (stage_at (flat p) q).merges ≡ Some i → i < length (flat p).stages
 merged_low p rules q i low e =
     group_low (flat p) 0 None (body_shape p) q (body_groups p (body_forked p rules)) (none_low (flat p) None refl) (omega arith) low i e

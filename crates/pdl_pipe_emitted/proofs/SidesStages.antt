@@ -31,7 +31,8 @@ some_of (x ∷ xs) zero l = (x, refl)
 some_of (x ∷ xs) (suc k) l = some_of xs k (omega (arith, l))
 
 -- the signal of the net that stands at a number
-pub at_signal : (c : Circuit) (xs : List Net) (k : ℕ) (x : Net) → k < length xs → slice_index_or xs k x ≡ x → signal c x ≡ signal_at (signals_in c xs) k
+pub at_signal : (c : Circuit) (xs : List Net) (k : ℕ) (x : Net)
+    → k < length xs → slice_index_or xs k x ≡ x → signal c x ≡ signal_at (signals_in c xs) k
 at_signal c xs k x l is = ap (signal c) (sym is) ∙ signal_of c xs k x l
 
 module _ {T : Type 0} (l : Members T) (n : Nets T) (em : Emission l n) where

@@ -42,7 +42,8 @@ there_at c (x ∷ xs) zero d l t = t.0
 there_at c (x ∷ xs) (suc i) d l t = there_at c xs i d (omega (arith, l)) t.1
 
 -- the i-th of some nets means the i-th of their signals
-pub signal_of : (c : Circuit) (xs : List Net) (i : ℕ) (d : Net) → i < length xs → signal c (slice_index_or xs i d) ≡ signal_at (signals_in c xs) i
+pub signal_of : (c : Circuit) (xs : List Net) (i : ℕ) (d : Net)
+    → i < length xs → signal c (slice_index_or xs i d) ≡ signal_at (signals_in c xs) i
 signal_of c [] i d l = absurd (omega (arith, l))
 signal_of c (x ∷ xs) zero d l = refl
 signal_of c (x ∷ xs) (suc i) d l = signal_of c xs i d (omega (arith, l))
@@ -64,7 +65,8 @@ length_signals c [] = refl
 length_signals c (x ∷ xs) = ap suc (length_signals c xs)
 
 -- the i-th of nets that are there is there, and means the i-th of their signals
-pub means_at : (c : Circuit) (xs : List Net) (i : ℕ) (d : Net) → i < length xs → NetsThere c xs → Means c (slice_index_or xs i d) (signal_at (signals_in c xs) i)
+pub means_at : (c : Circuit) (xs : List Net) (i : ℕ) (d : Net)
+    → i < length xs → NetsThere c xs → Means c (slice_index_or xs i d) (signal_at (signals_in c xs) i)
 means_at c xs i d l t = record { there = there_at c xs i d l t; same = signal_of c xs i d l }
 
 -- the nets that are always 1 and always 0 stay so when the circuit has grown

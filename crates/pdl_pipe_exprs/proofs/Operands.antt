@@ -29,27 +29,36 @@ value_width fs (Choose c a b) t = value_width fs a t.1
 
 -- ---- operands one after another: what was typed and what is meant stays as the circuit grows
 
-typed_kept : (old new : Circuit) (vs : List Net) (e : Expr) → Extends old new → NetsThere old vs → IsTyped (widths_of (signals_in old vs)) e → IsTyped (widths_of (signals_in new vs)) e
+typed_kept : (old new : Circuit) (vs : List Net) (e : Expr) → Extends old new → NetsThere old vs
+    → IsTyped (widths_of (signals_in old vs)) e → IsTyped (widths_of (signals_in new vs)) e
 typed_kept old new vs e x t h = subst (λ (fs : List Signal). IsTyped (widths_of fs) e) (sym (nets_kept old new vs x t)) h
 
 -- the operand that comes next
-pub next_typed : (old new : Circuit) (vs : List Net) (e : Expr) → Extends old new → NetsThere old vs → IsTyped (widths_of (signals_in old vs)) e → NetsThere new vs × IsTyped (widths_of (signals_in new vs)) e
+pub next_typed : (old new : Circuit) (vs : List Net) (e : Expr) → Extends old new → NetsThere old vs
+    → IsTyped (widths_of (signals_in old vs)) e → NetsThere new vs × IsTyped (widths_of (signals_in new vs)) e
 next_typed old new vs e x t h = (nets_there old new vs x t, typed_kept old new vs e x t h)
 
 -- the net of the first one: the circuit was `old` as it began, `now` as it was made, and is `new`
-pub first : (old now new : Circuit) (vs : List Net) (e f : Expr) (a : Net) → f ≡ e → Extends now new → Means now a (value_signal (signals_in old vs) f) → signal new a ≡ value_signal (signals_in old vs) e
+pub first : (old now new : Circuit) (vs : List Net) (e f : Expr) (a : Net)
+    → f ≡ e → Extends now new → Means now a (value_signal (signals_in old vs) f)
+    → signal new a ≡ value_signal (signals_in old vs) e
 first old now new vs e f a q y m = y.kept a m.there ∙ m.same ∙ ap (value_signal (signals_in old vs)) q
 
 -- that of the last one: the circuit was `mid` as it began
-pub last : (old mid new : Circuit) (vs : List Net) (e f : Expr) (a : Net) → f ≡ e → Extends old mid → NetsThere old vs → Means new a (value_signal (signals_in mid vs) f) → signal new a ≡ value_signal (signals_in old vs) e
+pub last : (old mid new : Circuit) (vs : List Net) (e f : Expr) (a : Net)
+    → f ≡ e → Extends old mid → NetsThere old vs → Means new a (value_signal (signals_in mid vs) f)
+    → signal new a ≡ value_signal (signals_in old vs) e
 last old mid new vs e f a q x t m = m.same ∙ ap₂ value_signal (nets_kept old mid vs x t) q
 
 -- that of one between
-pub between : (old mid now new : Circuit) (vs : List Net) (e f : Expr) (a : Net) → f ≡ e → Extends old mid → Extends now new → NetsThere old vs → Means now a (value_signal (signals_in mid vs) f) → signal new a ≡ value_signal (signals_in old vs) e
+pub between : (old mid now new : Circuit) (vs : List Net) (e f : Expr) (a : Net)
+    → f ≡ e → Extends old mid → Extends now new → NetsThere old vs → Means now a (value_signal (signals_in mid vs) f)
+    → signal new a ≡ value_signal (signals_in old vs) e
 between old mid now new vs e f a q x y t m = y.kept a m.there ∙ last old mid now vs e f a q x t m
 
 -- the width of a net that has the signal of an expression
-pub made_width : (c : Circuit) (a : Net) (fs : List Signal) (e : Expr) → signal c a ≡ value_signal fs e → IsTyped (widths_of fs) e → (signal c a).width ≡ width_in (widths_of fs) e
+pub made_width : (c : Circuit) (a : Net) (fs : List Signal) (e : Expr)
+    → signal c a ≡ value_signal fs e → IsTyped (widths_of fs) e → (signal c a).width ≡ width_in (widths_of fs) e
 made_width c a fs e m h = ap (λ (f : Signal). f.width) m ∙ value_width fs e h
 
 -- a net with a signal that is another one's

@@ -79,7 +79,8 @@ value_at s (f ∷ fs) zero = refl
 value_at s (f ∷ fs) (suc i) = value_at s fs i
 
 -- the signal of a typed expression has its value, where the variables' values are within their widths
-pub signal_value : (s : State) (fs : List Signal) → AreBounded s fs → (e : Expr) → IsTyped (widths_of fs) e → (value_signal fs e).value s ≡ value_of e (values_in s fs)
+pub signal_value : (s : State) (fs : List Signal) → AreBounded s fs → (e : Expr) → IsTyped (widths_of fs) e
+    → (value_signal fs e).value s ≡ value_of e (values_in s fs)
 unfolding const_value not_value mux_value slice_value cat_value bin_value
 signal_value s fs h (Constant width value) t = refl
 signal_value s fs h (Variable x) t = sym (value_at s fs x)
@@ -101,5 +102,6 @@ signal_value s fs h (SignExtend width wide a) t =
 signal_value s fs h (Choose c a b) t = rw (signal_value s fs h c t.0, signal_value s fs h a t.1, signal_value s fs h b t.2) refl
 
 -- so has a net that means it
-pub net_value : (c : Circuit) (x : Net) (fs : List Signal) (e : Expr) → IsTyped (widths_of fs) e → Means c x (value_signal fs e) → IsValue fs e (signal c x)
+pub net_value : (c : Circuit) (x : Net) (fs : List Signal) (e : Expr) → IsTyped (widths_of fs) e
+    → Means c x (value_signal fs e) → IsValue fs e (signal c x)
 net_value c x fs e t m s h = ap (λ (f : Signal). f.value s) m.same ∙ signal_value s fs h e t

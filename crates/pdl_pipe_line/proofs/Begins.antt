@@ -22,7 +22,8 @@ goes_there (flat.Forks x first second) q e = at (first == q) refl e
     at false h k = (replicate (suc x) 0, ap (λ n. Some (if n == 1 then first else second)) (get_or-replicate (suc x) x 0 0 (omega arith)) ∙ ap Some (eqb-true second q k))
 
 -- where threads go to later stages, stages lead to later ones
-pub leads_up : (p : Pipe) → LeadsOn p → (j q : ℕ) → j < length p.stages → leads_to (stage_at p j).next q ≡ true → (j < q) × (q < length p.stages)
+pub leads_up : (p : Pipe) → LeadsOn p → (j q : ℕ)
+    → j < length p.stages → leads_to (stage_at p j).next q ≡ true → (j < q) × (q < length p.stages)
 leads_up p on j q l e = let there = goes_there (stage_at p j).next q e in on.up j q there.0 l there.1
 
 -- threads begin in the first stage, to which none leads, where stages lead on to later ones

@@ -102,8 +102,10 @@ takes_later c e d x k s low high apart l is same h =
 
 -- a line that was connected in circuit e, and whose registers were left alone then
 pub line_made : (a c e d : Circuit) (x : Line) (nexts : List Signal) (answers : ℕ → ℕ → AnswerSignals) (ls : Locks) (low high : ℕ)
-    → AreStaged a (line_form x) nexts answers ls x.stages.now → AreApart low high x.stages.now → Keeps a c → IsLineIn c x
-    → Keeps c e → ((k : ℕ) (s : StageNets) → k < length x.stages.now → IsAt x.stages.now k s → TakesNext c e x k s) → Keeps e d → IsWell d → ((r : ℕ) → low ≤ r → r < high → next_signal d r ≡ next_signal e r)
+    → AreStaged a (line_form x) nexts answers ls x.stages.now → AreApart low high x.stages.now → Keeps a c
+    → IsLineIn c x → Keeps c e
+    → ((k : ℕ) (s : StageNets) → k < length x.stages.now → IsAt x.stages.now k s → TakesNext c e x k s) → Keeps e d
+    → IsWell d → ((r : ℕ) → low ≤ r → r < high → next_signal d r ≡ next_signal e r)
     → IsLineMade a c d x nexts answers ls
 line_made a c e d x nexts answers ls low high staged apart ac line ce takes ed well same = record {
   staged = staged;

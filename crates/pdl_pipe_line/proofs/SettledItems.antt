@@ -151,7 +151,8 @@ held_item v (Ticket m) = v.tickets m
 held_item v (Guess i) = signal_at v.begun.guess i
 
 -- what needs no register gets no answer
-pub settled_unanswered : (p : Pipe) → BeginsFirst p → (us : ℕ → View) (k : ℕ) (i : Item) (f : Signal) → IsSettled p us k i f → is_answered p k i ≡ false
+pub settled_unanswered : (p : Pipe) → BeginsFirst p → (us : ℕ → View) (k : ℕ) (i : Item) (f : Signal)
+    → IsSettled p us k i f → is_answered p k i ≡ false
 settled_unanswered p begins us zero (Var x) f h = first_unanswered p begins x
 settled_unanswered p begins us zero (Held m a) f h = refl
 settled_unanswered p begins us zero (Ticket m) f h = refl

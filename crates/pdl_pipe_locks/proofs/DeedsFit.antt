@@ -30,21 +30,26 @@ use Rattle.pdl_word.proofs.Each.{each_append}
 
 -- ---- the nets are there
 
-reserves_given : (c : Circuit) (p : Pipe) (rs : List ReserveNet) → Each (λ (r : ReserveNet). IsThere c r.on × IsThere c r.addr) rs → Each (IsSizedReserve p) (map (reservation_in c) rs) → Each (IsGivenReserve c) rs
+reserves_given : (c : Circuit) (p : Pipe) (rs : List ReserveNet)
+    → Each (λ (r : ReserveNet). IsThere c r.on × IsThere c r.addr) rs
+    → Each (IsSizedReserve p) (map (reservation_in c) rs) → Each (IsGivenReserve c) rs
 reserves_given c p [] t s = tt
 reserves_given c p (r ∷ rs) t s = (record { on = t.0.0; one = s.0.1; addr = t.0.1 }, reserves_given c p rs t.1 s.1)
 
-puts_given : (c : Circuit) (p : Pipe) (xs : List PutNet) → Each (λ (x : PutNet). IsThere c x.on × IsThere c x.value) xs → Each (IsSizedPut p) (map (put_in c) xs) → Each (IsGivenPut c) xs
+puts_given : (c : Circuit) (p : Pipe) (xs : List PutNet) → Each (λ (x : PutNet). IsThere c x.on × IsThere c x.value) xs
+    → Each (IsSizedPut p) (map (put_in c) xs) → Each (IsGivenPut c) xs
 puts_given c p [] t s = tt
 puts_given c p (x ∷ xs) t s = (record { on = t.0.0; one = s.0.1; value = t.0.1 }, puts_given c p xs t.1 s.1)
 
-lettings_given : (c : Circuit) (xs : List LettingNet) → Each (λ (x : LettingNet). IsThere c x.on) xs → Each (λ (x : Letting). x.on.width ≡ 1) (map (letting_in c) xs) → Each (IsGivenLetting c) xs
+lettings_given : (c : Circuit) (xs : List LettingNet) → Each (λ (x : LettingNet). IsThere c x.on) xs
+    → Each (λ (x : Letting). x.on.width ≡ 1) (map (letting_in c) xs) → Each (IsGivenLetting c) xs
 lettings_given c [] t s = tt
 lettings_given c (x ∷ xs) t s = (record { on = t.0; one = s.0 }, lettings_given c xs t.1 s.1)
 
 -- ---- their widths
 
-reserves_fit : (p : Pipe) (m bits : ℕ) (f : Signal) (rs : List Reservation) → 2 ^ bits ≡ (mem_at p m).depth → Each (IsSizedReserve p) rs → Each (ReserveFits bits) (reserves_to m f rs)
+reserves_fit : (p : Pipe) (m bits : ℕ) (f : Signal) (rs : List Reservation)
+    → 2 ^ bits ≡ (mem_at p m).depth → Each (IsSizedReserve p) rs → Each (ReserveFits bits) (reserves_to m f rs)
 reserves_fit p m bits f [] d s = tt
 reserves_fit p m bits f (r ∷ rs) d s =
     let rest = reserves_fit p m bits f rs d s.1 in
@@ -53,7 +58,8 @@ reserves_fit p m bits f (r ∷ rs) d s =
       | inr e ↦ rw (e.0) rest
     ]
 
-puts_fit : (p : Pipe) (m tickets : ℕ) (f t : Signal) (xs : List Put) → t.width ≡ tickets → Each (IsSizedPut p) xs → Each (WriteFits (mem_at p m).width tickets) (puts_to m f t xs)
+puts_fit : (p : Pipe) (m tickets : ℕ) (f t : Signal) (xs : List Put)
+    → t.width ≡ tickets → Each (IsSizedPut p) xs → Each (WriteFits (mem_at p m).width tickets) (puts_to m f t xs)
 puts_fit p m tickets f t [] w s = tt
 puts_fit p m tickets f t (x ∷ xs) w s =
     let rest = puts_fit p m tickets f t xs w s.1 in
@@ -62,16 +68,21 @@ puts_fit p m tickets f t (x ∷ xs) w s =
       | inr e ↦ rw (e.0) rest
     ]
 
-all_reserves_fit : (m bits : ℕ) (vs : ℕ → View) (moves : ℕ → Signal) (n k : ℕ) → ((j : ℕ) → Each (ReserveFits bits) (reserves_to m (moves j) (vs j).ended.reserves)) → Each (ReserveFits bits) (all_reserves m vs moves n k)
+all_reserves_fit : (m bits : ℕ) (vs : ℕ → View) (moves : ℕ → Signal) (n k : ℕ)
+    → ((j : ℕ) → Each (ReserveFits bits) (reserves_to m (moves j) (vs j).ended.reserves))
+    → Each (ReserveFits bits) (all_reserves m vs moves n k)
 all_reserves_fit m bits vs moves zero k h = tt
 all_reserves_fit m bits vs moves (suc n) k h = each_append (ReserveFits bits) (all_reserves m vs moves n (suc k)) (reserves_to m (moves k) (vs k).ended.reserves) (all_reserves_fit m bits vs moves n (suc k) h) (h k)
 
-all_puts_fit : (m width tickets : ℕ) (vs : ℕ → View) (moves : ℕ → Signal) (n k : ℕ) → ((j : ℕ) → Each (WriteFits width tickets) (puts_to m (moves j) ((vs j).tickets m) (vs j).ended.puts)) → Each (WriteFits width tickets) (all_puts m vs moves n k)
+all_puts_fit : (m width tickets : ℕ) (vs : ℕ → View) (moves : ℕ → Signal) (n k : ℕ)
+    → ((j : ℕ) → Each (WriteFits width tickets) (puts_to m (moves j) ((vs j).tickets m) (vs j).ended.puts))
+    → Each (WriteFits width tickets) (all_puts m vs moves n k)
 all_puts_fit m width tickets vs moves zero k h = tt
 all_puts_fit m width tickets vs moves (suc n) k h = each_append (WriteFits width tickets) (all_puts m vs moves n (suc k)) (puts_to m (moves k) ((vs k).tickets m) (vs k).ended.puts) (all_puts_fit m width tickets vs moves n (suc k) h) (h k)
 
 -- what holds of each stage, and of one that does nothing, holds at each number
-views_have : (c : Circuit) (P : View → Type 0) (ds : List StageDeeds) (k : ℕ) → P (view_with (λ m. no_signal) (walk_of no_parts)) → Each (λ d. P (view_in c d)) ds → P (views_in c ds k)
+views_have : (c : Circuit) (P : View → Type 0) (ds : List StageDeeds) (k : ℕ)
+    → P (view_with (λ m. no_signal) (walk_of no_parts)) → Each (λ d. P (view_in c d)) ds → P (views_in c ds k)
 views_have c P [] k n h = n
 views_have c P (d ∷ ds) zero n h = h.0
 views_have c P (d ∷ ds) (suc k) n h = views_have c P ds k n h.1

@@ -31,7 +31,9 @@ use Rattle.pdl_pipe_locks.proofs.LockSteps.{stepped_kept}
 use Rattle.pdl_word.proofs.Lists.{some_of}
 
 -- the stages of a netlist do to a lock what their nets do
-pub step_is : (s : Circuit) (p : Pipe) (ds : List StageDeeds) (squash : Net) (tails : List Net) (vs : ℕ → View) (gates : Gates) (goes : ℕ → Signal) (m : ℕ) → length ds ≡ length p.stages → m < length p.mems → AreOf s ds vs goes → AreGatesOf s p squash tails gates
+pub step_is : (s : Circuit) (p : Pipe) (ds : List StageDeeds) (squash : Net) (tails : List Net) (vs : ℕ → View)
+    (gates : Gates) (goes : ℕ → Signal) (m : ℕ)
+    → length ds ≡ length p.stages → m < length p.mems → AreOf s ds vs goes → AreGatesOf s p squash tails gates
     → steps_in s p ds squash tails m ≡ step_of p vs gates goes m
 step_is s p ds squash tails vs gates goes m count low of beside =
     let n = length p.stages in

@@ -35,7 +35,8 @@ Stays {T} l = (x : T) (a b : Circuit) (r : LockRegs) → Keeps a b → l.placed 
 -- ---- one lock
 
 -- the lock of a memory stays in a circuit that keeps what stands in its own
-pub lock_kept : {T : Type 0} (l : Members T) (a b : Circuit) (place : ℕ) (mem : Mem) (x : MemLock T) → Keeps a b → Stays l → IsLockIn l a place mem x → IsLockIn l b place mem x
+pub lock_kept : {T : Type 0} (l : Members T) (a b : Circuit) (place : ℕ) (mem : Mem) (x : MemLock T) → Keeps a b
+    → Stays l → IsLockIn l a place mem x → IsLockIn l b place mem x
 lock_kept l a b place mem x k stays i = record {
   is_placed = stays x.lock a b x.regs k i.is_placed;
   room_there = k.there x.regs.room i.room_there;
@@ -48,7 +49,8 @@ lock_kept l a b place mem x k stays i = record {
 }
 
 -- the laws of a lock stay, where its nets of room and of the next ticket are there
-pub lawful_kept : (stands : State → LockState → Type 0) (kind : LockKind) (size tickets : ℕ) (a b : Circuit) (r : LockRegs) → Keeps a b → IsThere a r.room → IsThere a r.ticket → IsLawful stands kind size tickets a r
+pub lawful_kept : (stands : State → LockState → Type 0) (kind : LockKind) (size tickets : ℕ) (a b : Circuit) (r : LockRegs)
+    → Keeps a b → IsThere a r.room → IsThere a r.ticket → IsLawful stands kind size tickets a r
     → IsLawful stands kind size tickets b r
 lawful_kept stands kind size tickets a b r k room ticket x = record {
   some = x.some;
@@ -60,7 +62,8 @@ lawful_kept stands kind size tickets a b r k room ticket x = record {
 }
 
 -- its registers end where those of its circuit end, at the latest
-pub regs_end : (stands : State → LockState → Type 0) (kind : LockKind) (size tickets : ℕ) (c : Circuit) (r : LockRegs) → IsLawful stands kind size tickets c r → end_reg r ≤ length c.regs
+pub regs_end : (stands : State → LockState → Type 0) (kind : LockKind) (size tickets : ℕ) (c : Circuit) (r : LockRegs)
+    → IsLawful stands kind size tickets c r → end_reg r ≤ length c.regs
 unfolding HasReg
 regs_end stands kind size tickets c r x =
     let n = length r.regs in
@@ -71,7 +74,8 @@ regs_end stands kind size tickets c r x =
 -- ---- all locks
 
 -- the arrays and locks of all memories stay in a circuit that keeps what stands in theirs
-pub locked_kept : {T : Type 0} (l : Members T) (a b : Circuit) (p : Pipe) (xs : List (Option (MemLock T))) → Keeps a b → Stays l → AreLocked l a p xs → AreLocked l b p xs
+pub locked_kept : {T : Type 0} (l : Members T) (a b : Circuit) (p : Pipe) (xs : List (Option (MemLock T))) → Keeps a b
+    → Stays l → AreLocked l a p xs → AreLocked l b p xs
 locked_kept l a b p xs k stays h = record {
   count = h.count;
   locked = h.locked;
@@ -82,7 +86,8 @@ locked_kept l a b p xs k stays h = record {
 }
 
 -- the laws of all locks stay in a circuit that keeps what stands in theirs
-pub laws_kept : {T : Type 0} (l : Members T) (a b : Circuit) (p : Pipe) (xs : List (Option (MemLock T))) → Keeps a b → AreLocked l a p xs → AreLawful l a p xs → AreLawful l b p xs
+pub laws_kept : {T : Type 0} (l : Members T) (a b : Circuit) (p : Pipe) (xs : List (Option (MemLock T))) → Keeps a b
+    → AreLocked l a p xs → AreLawful l a p xs → AreLawful l b p xs
 laws_kept l a b p xs k h x = record {
   laws = λ m y low e. lawful_kept (l.stands y.lock y.regs) (l.kind y.lock) (l.size y.lock) (l.tickets y.lock) a b y.regs k (h.locks m y low e).room_there (h.locks m y low e).ticket_there (x.laws m y low e);
   kinds = x.kinds;
@@ -92,14 +97,16 @@ laws_kept l a b p xs k h x = record {
 
 -- ---- the stages
 
-tickets_kept : {T : Type 0} (l : Members T) (a b : Circuit) (xs : List (Option (MemLock T))) (ts : List Net) → Keeps a b → AreTickets l a xs ts → AreTickets l b xs ts
+tickets_kept : {T : Type 0} (l : Members T) (a b : Circuit) (xs : List (Option (MemLock T))) (ts : List Net) → Keeps a b
+    → AreTickets l a xs ts → AreTickets l b xs ts
 tickets_kept l a b xs ts k h = record {
   there = there_keeps a b ts k h.there;
   count = h.count;
   wide = λ m x low e. ap (λ (fs : List Signal). (signal_at fs m).width) (signals_keep a b ts k h.there) ∙ h.wide m x low e;
 }
 
-deed_kept : {T : Type 0} (l : Members T) (a b : Circuit) (p : Pipe) (ws : List ℕ) (xs : List (Option (MemLock T))) (d : StageDeeds) → Keeps a b → IsDeed l a p ws xs d → IsDeed l b p ws xs d
+deed_kept : {T : Type 0} (l : Members T) (a b : Circuit) (p : Pipe) (ws : List ℕ) (xs : List (Option (MemLock T))) (d : StageDeeds)
+    → Keeps a b → IsDeed l a p ws xs d → IsDeed l b p ws xs d
 deed_kept l a b p ws xs d k h = record {
   moves = k.there d.moves h.moves;
   one = ap (λ (f : Signal). f.width) (k.kept d.moves h.moves) ∙ h.one;
@@ -107,31 +114,39 @@ deed_kept l a b p ws xs d k h = record {
   tickets = tickets_kept l a b xs d.tickets.now k h.tickets;
 }
 
-each_deed_kept : {T : Type 0} (l : Members T) (a b : Circuit) (p : Pipe) (ws : List ℕ) (xs : List (Option (MemLock T))) (ds : List StageDeeds) → Keeps a b → Each (IsDeed l a p ws xs) ds → Each (IsDeed l b p ws xs) ds
+each_deed_kept : {T : Type 0} (l : Members T) (a b : Circuit) (p : Pipe) (ws : List ℕ) (xs : List (Option (MemLock T)))
+    (ds : List StageDeeds)
+    → Keeps a b → Each (IsDeed l a p ws xs) ds → Each (IsDeed l b p ws xs) ds
 each_deed_kept l a b p ws xs [] k h = tt
 each_deed_kept l a b p ws xs (d ∷ ds) k h = (deed_kept l a b p ws xs d k h.0, each_deed_kept l a b p ws xs ds k h.1)
 
 -- the nets of what the stages do to the locks stay there, with their widths
-pub deeds_kept : {T : Type 0} (l : Members T) (a b : Circuit) (p : Pipe) (ws : List ℕ) (xs : List (Option (MemLock T))) (ds : List StageDeeds) → Keeps a b → AreDeeds l a p ws xs ds → AreDeeds l b p ws xs ds
+pub deeds_kept : {T : Type 0} (l : Members T) (a b : Circuit) (p : Pipe) (ws : List ℕ) (xs : List (Option (MemLock T)))
+    (ds : List StageDeeds)
+    → Keeps a b → AreDeeds l a p ws xs ds → AreDeeds l b p ws xs ds
 deeds_kept l a b p ws xs ds k h = record { count = h.count; each = each_deed_kept l a b p ws xs ds k h.each }
 
-view_kept : {T : Type 0} (l : Members T) (a b : Circuit) (p : Pipe) (ws : List ℕ) (xs : List (Option (MemLock T))) (d : StageDeeds) → Keeps a b → IsDeed l a p ws xs d → view_in b d ≡ view_in a d
+view_kept : {T : Type 0} (l : Members T) (a b : Circuit) (p : Pipe) (ws : List ℕ) (xs : List (Option (MemLock T))) (d : StageDeeds)
+    → Keeps a b → IsDeed l a p ws xs d → view_in b d ≡ view_in a d
 view_kept l a b p ws xs d k h =
     ap₂ (λ (fs : List Signal) (w : Parts). view_with (λ m. signal_at fs m) (walk_of w)) (signals_keep a b d.tickets.now k h.tickets.there) (parts_keep a b k d.ended.now h.walk.there)
 
-views_kept : {T : Type 0} (l : Members T) (a b : Circuit) (p : Pipe) (ws : List ℕ) (xs : List (Option (MemLock T))) (ds : List StageDeeds) → Keeps a b → Each (IsDeed l a p ws xs) ds → map (view_in b) ds ≡ map (view_in a) ds
+views_kept : {T : Type 0} (l : Members T) (a b : Circuit) (p : Pipe) (ws : List ℕ) (xs : List (Option (MemLock T))) (ds : List StageDeeds)
+    → Keeps a b → Each (IsDeed l a p ws xs) ds → map (view_in b) ds ≡ map (view_in a) ds
 views_kept l a b p ws xs [] k h = refl
 views_kept l a b p ws xs (d ∷ ds) k h = ap₂ (λ (v : View) (vs : List View). v ∷ vs) (view_kept l a b p ws xs d k h.0) (views_kept l a b p ws xs ds k h.1)
 
 abbrev move_in : Circuit → StageDeeds → Signal
 move_in c d = signal c d.moves
 
-moves_kept : {T : Type 0} (l : Members T) (a b : Circuit) (p : Pipe) (ws : List ℕ) (xs : List (Option (MemLock T))) (ds : List StageDeeds) → Keeps a b → Each (IsDeed l a p ws xs) ds → map (move_in b) ds ≡ map (move_in a) ds
+moves_kept : {T : Type 0} (l : Members T) (a b : Circuit) (p : Pipe) (ws : List ℕ) (xs : List (Option (MemLock T))) (ds : List StageDeeds)
+    → Keeps a b → Each (IsDeed l a p ws xs) ds → map (move_in b) ds ≡ map (move_in a) ds
 moves_kept l a b p ws xs [] k h = refl
 moves_kept l a b p ws xs (d ∷ ds) k h = ap₂ (λ (f : Signal) (fs : List Signal). f ∷ fs) (k.kept d.moves h.0.moves) (moves_kept l a b p ws xs ds k h.1)
 
 -- the nets of a squash
-pub squash_kept : {T : Type 0} (l : Members T) (a b : Circuit) (xs : List (Option (MemLock T))) (x : Net) (ts : List Net) → Keeps a b → AreSquashNets l a xs x ts → AreSquashNets l b xs x ts
+pub squash_kept : {T : Type 0} (l : Members T) (a b : Circuit) (xs : List (Option (MemLock T))) (x : Net) (ts : List Net)
+    → Keeps a b → AreSquashNets l a xs x ts → AreSquashNets l b xs x ts
 squash_kept l a b xs x ts k h = record {
   there = k.there x h.there;
   one = ap (λ (f : Signal). f.width) (k.kept x h.there) ∙ h.one;
@@ -151,8 +166,9 @@ step_by n m vs fs squash tails =
     }
 
 -- they are the same in a circuit that grew
-pub step_same : {T : Type 0} (l : Members T) (a b : Circuit) (p : Pipe) (ws : List ℕ) (xs : List (Option (MemLock T))) (ds : List StageDeeds) (x : Net) (ts : List Net) (m : ℕ) → Keeps a b → AreDeeds l a p ws xs ds → AreSquashNets l a xs x ts
-    → steps_in b p ds x ts m ≡ steps_in a p ds x ts m
+pub step_same : {T : Type 0} (l : Members T) (a b : Circuit) (p : Pipe) (ws : List ℕ) (xs : List (Option (MemLock T)))
+    (ds : List StageDeeds) (x : Net) (ts : List Net) (m : ℕ)
+    → Keeps a b → AreDeeds l a p ws xs ds → AreSquashNets l a xs x ts → steps_in b p ds x ts m ≡ steps_in a p ds x ts m
 step_same l a b p ws xs ds x ts m k d s =
     let n = length p.stages in
     let vs = views_kept l a b p ws xs ds k d.each in
@@ -160,6 +176,7 @@ step_same l a b p ws xs ds x ts m k d s =
     ap₂ (λ us gs. step_by n m us gs (signal b x) (signals_in b ts)) vs fs ∙ ap₂ (step_by n m (map (view_in a) ds) (map (move_in a) ds)) (k.kept x s.there) (signals_keep a b ts k s.tails.there)
 
 -- and those of a lock's ports
-pub signals_are : {T : Type 0} (l : Members T) (c : Circuit) (p : Pipe) (ws : List ℕ) (xs : List (Option (MemLock T))) (ds : List StageDeeds) (x : Net) (ts : List Net) (m : ℕ) → AreDeeds l c p ws xs ds
-    → signals_of c ds m (signal c x) (tickets_in c ts m) ≡ steps_in c p ds x ts m
+pub signals_are : {T : Type 0} (l : Members T) (c : Circuit) (p : Pipe) (ws : List ℕ) (xs : List (Option (MemLock T)))
+    (ds : List StageDeeds) (x : Net) (ts : List Net) (m : ℕ)
+    → AreDeeds l c p ws xs ds → signals_of c ds m (signal c x) (tickets_in c ts m) ≡ steps_in c p ds x ts m
 signals_are l c p ws xs ds x ts m d = ap (λ n. step_by n m (map (view_in c) ds) (map (move_in c) ds) (signal c x) (signals_in c ts)) d.count

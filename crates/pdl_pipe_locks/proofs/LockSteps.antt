@@ -25,8 +25,10 @@ use Rattle.pdl_pipe_walk.proofs.Lists.{some_before, some_last}
 -- ---- the step of one lock
 
 -- a lock has made its step, where that keeps its laws and the commit nets have the memory's widths
-pub is_stepped : {T : Type 0} (l : Members T) (a c : Circuit) (place : ℕ) (mem : Mem) (f : StepSignals) (x : MemLock T) (n : LockNets) → IsLockIn l a place mem x → HasCommitNets c x.regs.bits x.regs.width n.commit n.addr n.value
-    → StepLaw (l.stands x.lock x.regs) (l.size x.lock) (l.tickets x.lock) (own x.regs) c f (signal c n.commit) (signal c n.addr) (signal c n.value) → HidesLaw (l.kind x.lock) c (own x.regs) f → IsStepped l c mem f x n
+pub is_stepped : {T : Type 0} (l : Members T) (a c : Circuit) (place : ℕ) (mem : Mem) (f : StepSignals) (x : MemLock T) (n : LockNets)
+    → IsLockIn l a place mem x → HasCommitNets c x.regs.bits x.regs.width n.commit n.addr n.value
+    → StepLaw (l.stands x.lock x.regs) (l.size x.lock) (l.tickets x.lock) (own x.regs) c f (signal c n.commit) (signal c n.addr) (signal c n.value)
+    → HidesLaw (l.kind x.lock) c (own x.regs) f → IsStepped l c mem f x n
 is_stepped l a c place mem f x n i h law hides = record {
   law = law;
   hides = hides;
@@ -39,7 +41,9 @@ is_stepped l a c place mem f x n i h law hides = record {
 }
 
 -- the step of a memory that has a lock is that of the lock
-pub stepped_some : {T : Type 0} (l : Members T) (c : Circuit) (mem : Mem) (f : StepSignals) (o : Option (MemLock T)) (x : MemLock T) (n : LockNets) → o ≡ Some x → IsStepped l c mem f x n → IsSteppedMemory l c mem f o (Some n)
+pub stepped_some : {T : Type 0} (l : Members T) (c : Circuit) (mem : Mem) (f : StepSignals) (o : Option (MemLock T))
+    (x : MemLock T) (n : LockNets)
+    → o ≡ Some x → IsStepped l c mem f x n → IsSteppedMemory l c mem f o (Some n)
 stepped_some {T} l c mem f o x n e h = record {
   has = sym (ap is_some e);
   lock = λ y z g q.
@@ -51,12 +55,15 @@ stepped_some {T} l c mem f o x n e h = record {
 }
 
 -- a memory without lock needs no step, and has no commit nets
-pub stepped_not : {T : Type 0} (l : Members T) (c : Circuit) (mem : Mem) (f : StepSignals) (o : Option (MemLock T)) → o ≡ None → IsSteppedMemory l c mem f o None
+pub stepped_not : {T : Type 0} (l : Members T) (c : Circuit) (mem : Mem) (f : StepSignals) (o : Option (MemLock T))
+    → o ≡ None → IsSteppedMemory l c mem f o None
 stepped_not l c mem f o e = record { has = sym (ap is_some e); lock = λ y z g q. absurd (cc (e, g)) }
 
 -- ---- what is kept of a step
 
-pub law_kept : (stands : State → LockState → Type 0) (size tickets : ℕ) (o : Own) (a b : Circuit) (f : StepSignals) (commit addr value commit' addr' value' : Signal) → OwnKept o a b → commit' ≡ commit → addr' ≡ addr → value' ≡ value
+pub law_kept : (stands : State → LockState → Type 0) (size tickets : ℕ) (o : Own) (a b : Circuit) (f : StepSignals)
+    (commit addr value commit' addr' value' : Signal)
+    → OwnKept o a b → commit' ≡ commit → addr' ≡ addr → value' ≡ value
     → StepLaw stands size tickets o a f commit addr value → StepLaw stands size tickets o b f commit' addr' value'
 law_kept stands size tickets o a b f commit addr value commit' addr' value' k e g h x =
     let here : StepLaw stands size tickets o b f commit addr value = record {
@@ -71,7 +78,8 @@ law_kept stands size tickets o a b f commit addr value commit' addr' value' k e 
     subst R (sym h) (subst Q (sym g) (subst P (sym e) here))
 
 -- the step of a lock stays where its registers and its array take next what they took
-pub stepped_kept : {T : Type 0} (l : Members T) (a b : Circuit) (mem : Mem) (f : StepSignals) (y : MemLock T) (n : LockNets) → Keeps a b → OwnKept (own y.regs) a b → IsStepped l a mem f y n → IsStepped l b mem f y n
+pub stepped_kept : {T : Type 0} (l : Members T) (a b : Circuit) (mem : Mem) (f : StepSignals) (y : MemLock T) (n : LockNets)
+    → Keeps a b → OwnKept (own y.regs) a b → IsStepped l a mem f y n → IsStepped l b mem f y n
 stepped_kept l a b mem f y n k w x =
     let e = k.kept n.commit x.commit_there in
     let g = k.kept n.addr x.addr_there in
@@ -94,7 +102,8 @@ pub locks_none : {T : Type 0} (xs : List (Option (MemLock T))) (c : Circuit) →
 locks_none xs c = record { keeps = keeps_refl c; nexts = λ k h o. refl; writes = λ n h o. refl; ports = refl; shapes = refl }
 
 -- of one lock more the registers and the array may have changed what they take next
-pub locks_more : {T : Type 0} (xs : List (Option (MemLock T))) (m : ℕ) (a b c : Circuit) → ExtendsLocks xs m a b → ExtendsBut (own_of (some_at xs m)) b c → ExtendsLocks xs (m + 1) a c
+pub locks_more : {T : Type 0} (xs : List (Option (MemLock T))) (m : ℕ) (a b c : Circuit) → ExtendsLocks xs m a b
+    → ExtendsBut (own_of (some_at xs m)) b c → ExtendsLocks xs (m + 1) a c
 locks_more xs m a b c x y = record {
   keeps = keeps_trans a b c x.keeps (but_keeps (own_of (some_at xs m)) b c y);
   nexts = λ k h o. y.nexts k (x.keeps.has_reg k h) (o m (omega arith)) ∙ x.nexts k h (λ j l. o j (omega (arith, l)));
@@ -104,7 +113,8 @@ locks_more xs m a b c x y = record {
 }
 
 -- those of more locks may have changed
-pub locks_wider : {T : Type 0} (xs : List (Option (MemLock T))) (m n : ℕ) (a b : Circuit) → m ≤ n → ExtendsLocks xs m a b → ExtendsLocks xs n a b
+pub locks_wider : {T : Type 0} (xs : List (Option (MemLock T))) (m n : ℕ) (a b : Circuit)
+    → m ≤ n → ExtendsLocks xs m a b → ExtendsLocks xs n a b
 locks_wider xs m n a b h x = record {
   keeps = x.keeps;
   nexts = λ k r o. x.nexts k r (λ j l. o j (omega (arith, h, l)));

@@ -32,7 +32,8 @@ use Rattle.pdl_pipe_walk.proofs.Lists.{some_before, some_last}
 -- ---- the memory of a number
 
 -- the i-th memory of the program is memory i of the pipe
-pub mem_is : (p : Pipe) (ms : List r_mem.Mem) (i : ℕ) (d : r_mem.Mem) → mems_view ms ≡ p.mems → i < length ms → d ≡ get_or ms i d → mem_view d ≡ mem_at p i
+pub mem_is : (p : Pipe) (ms : List r_mem.Mem) (i : ℕ) (d : r_mem.Mem)
+    → mems_view ms ≡ p.mems → i < length ms → d ≡ get_or ms i d → mem_view d ≡ mem_at p i
 mem_is p ms i d e h q = ap mem_view q ∙ sym (get_or-map mem_view ms i d plain_mem h) ∙ ap (λ xs. get_or xs i plain_mem) e
 
 -- there are as many memories of the program as in the pipe
@@ -40,11 +41,13 @@ pub mem_count : (p : Pipe) (ms : List r_mem.Mem) → mems_view ms ≡ p.mems →
 mem_count p ms e = sym (length-map ms mem_view) ∙ ap length e
 
 -- there are as many names as memories in the pipe
-pub name_count : (names : List (List ℕ)) (p : Pipe) (ms : List r_mem.Mem) → mem_names ms ≡ names → mems_view ms ≡ p.mems → length names ≡ length p.mems
+pub name_count : (names : List (List ℕ)) (p : Pipe) (ms : List r_mem.Mem)
+    → mem_names ms ≡ names → mems_view ms ≡ p.mems → length names ≡ length p.mems
 name_count names p ms e h = sym (ap length e) ∙ length-map ms (λ (m : r_mem.Mem). m.name) ∙ mem_count p ms h
 
 -- the i-th memory has the i-th name
-pub name_is : (names : List (List ℕ)) (ms : List r_mem.Mem) (i : ℕ) (d : r_mem.Mem) → mem_names ms ≡ names → i < length ms → d ≡ get_or ms i d → d.name ≡ get_or names i []
+pub name_is : (names : List (List ℕ)) (ms : List r_mem.Mem) (i : ℕ) (d : r_mem.Mem)
+    → mem_names ms ≡ names → i < length ms → d ≡ get_or ms i d → d.name ≡ get_or names i []
 name_is names ms i d e h q = ap (λ (m : r_mem.Mem). m.name) q ∙ sym (get_or-map (λ (m : r_mem.Mem). m.name) ms i d [] h) ∙ ap (λ xs. get_or xs i []) e
 
 -- the i-th of some typed memories is typed
@@ -60,9 +63,10 @@ comb_at (m ∷ ms) zero h s = s.0
 comb_at (m ∷ ms) (suc i) h s = comb_at ms i (omega (arith, h)) s.1
 
 -- the i-th of locks that suit a form serves memory i
-pub served_at : {T : Type 0} (suits : T → MemInfo → Type 0) (l : Members T) (f : Form) (ls : List (Option T)) (i : ℕ) (name : List ℕ) (mem : Mem) (o : Option T) → AreSuited suits l f ls → i < length f.pipe.mems
-    → name ≡ get_or f.names i [] → mem ≡ mem_at f.pipe i → o ≡ some_at ls i
-    → AreServed suits l name mem o
+pub served_at : {T : Type 0} (suits : T → MemInfo → Type 0) (l : Members T) (f : Form) (ls : List (Option T)) (i : ℕ)
+    (name : List ℕ) (mem : Mem) (o : Option T)
+    → AreSuited suits l f ls → i < length f.pipe.mems → name ≡ get_or f.names i [] → mem ≡ mem_at f.pipe i
+    → o ≡ some_at ls i → AreServed suits l name mem o
 served_at {T} suits l f ls i name mem o s low a b e =
     let here : AreServed suits l (get_or f.names i []) (mem_at f.pipe i) (some_at ls i) = record { locked = s.locked i low; lock = λ y q. record { suited = s.suited i y low q; kind = s.kinds i y low q } } in
     let P : List ℕ → Type 0 = λ x. AreServed suits l x (mem_at f.pipe i) (some_at ls i) in
@@ -126,7 +130,8 @@ made_none l a names p e = record {
   apart = λ m h. absurd (omega (arith, h));
 }
 
-made_lock_kept : {T : Type 0} (l : Members T) (stays : Stays l) (a b c : Circuit) (i : ℕ) (mem : Mem) (x : MemLock T) → Keeps b c → IsMadeLock l a b i mem x → IsMadeLock l a c i mem x
+made_lock_kept : {T : Type 0} (l : Members T) (stays : Stays l) (a b c : Circuit) (i : ℕ) (mem : Mem) (x : MemLock T)
+    → Keeps b c → IsMadeLock l a b i mem x → IsMadeLock l a c i mem x
 made_lock_kept l stays a b c i mem x k h = record {
   is_in = lock_kept l b c i mem x k stays h.is_in;
   laws = lawful_kept (l.stands x.lock x.regs) (l.kind x.lock) (l.size x.lock) (l.tickets x.lock) b c x.regs k h.is_in.room_there h.is_in.ticket_there h.laws;

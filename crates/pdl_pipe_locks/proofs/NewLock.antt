@@ -73,7 +73,9 @@ module _ (b c : Circuit) (x : Shape) (e : ExtendsArrays b c (x ∷ [])) where
 -- ---- a new lock
 
 -- the one array that is new, where there is one
-new_array : (old new : Circuit) (name : List ℕ) (mem : Mem) (r : LockRegs) → is_some r.array ≡ not mem.delayed → ExtendsArrays old new (arrays_in name mem) → IsFragment old new r → r.array ≡ array_of mem (length old.arrays)
+new_array : (old new : Circuit) (name : List ℕ) (mem : Mem) (r : LockRegs)
+    → is_some r.array ≡ not mem.delayed → ExtendsArrays old new (arrays_in name mem) → IsFragment old new r
+    → r.array ≡ array_of mem (length old.arrays)
 unfolding HasArray
 new_array old new name mem r e grows f = at r.array refl mem.delayed refl
   where
@@ -90,10 +92,14 @@ new_array old new name mem r e grows f = at r.array refl mem.delayed refl
         h ∙ ap Some same ∙ sym (ap (λ (b : Bool). if b then None else Some (length old.arrays)) d)
 
 -- what a lock's module has made with the next array is a new lock of the memory
-pub new_lock : {T : Type 0} (l : Members T) (old new : Circuit) (name : List ℕ) (mem : Mem) (x : MemLock T) → mem.lock ≡ as_lock (l.kind x.lock) (l.size x.lock) → ExtendsArrays old new (arrays_in name mem)
-    → x.regs.width ≡ mem.width → 2 ^ x.regs.bits ≡ mem.depth → is_some x.regs.array ≡ not mem.delayed → l.placed x.lock new x.regs → IsFragment old new x.regs → HasRegNets (l.tickets x.lock) new x.regs
-    → StartLaw (l.stands x.lock x.regs) (l.kind x.lock) new x.regs → PlacesLaw (l.stands x.lock x.regs) (l.kind x.lock) x.regs → RoomLaw (l.stands x.lock x.regs) (l.size x.lock) (signal new x.regs.room) → TicketLaw (l.stands x.lock x.regs) (l.tickets x.lock) (signal new x.regs.ticket)
-    → IsNewLock l old new mem x
+pub new_lock : {T : Type 0} (l : Members T) (old new : Circuit) (name : List ℕ) (mem : Mem) (x : MemLock T)
+    → mem.lock ≡ as_lock (l.kind x.lock) (l.size x.lock) → ExtendsArrays old new (arrays_in name mem)
+    → x.regs.width ≡ mem.width → 2 ^ x.regs.bits ≡ mem.depth → is_some x.regs.array ≡ not mem.delayed
+    → l.placed x.lock new x.regs → IsFragment old new x.regs → HasRegNets (l.tickets x.lock) new x.regs
+    → StartLaw (l.stands x.lock x.regs) (l.kind x.lock) new x.regs
+    → PlacesLaw (l.stands x.lock x.regs) (l.kind x.lock) x.regs
+    → RoomLaw (l.stands x.lock x.regs) (l.size x.lock) (signal new x.regs.room)
+    → TicketLaw (l.stands x.lock x.regs) (l.tickets x.lock) (signal new x.regs.ticket) → IsNewLock l old new mem x
 new_lock l old new name mem x kind grows w d a placed f nets start places room ticket = record {
   is_in = record {
     is_placed = placed;
@@ -111,6 +117,7 @@ new_lock l old new name mem x kind grows w d a placed f nets start places room t
 }
 
 -- nothing writes its array
-pub new_unwritten : (old new : Circuit) (name : List ℕ) (mem : Mem) (r : LockRegs) → mem.delayed ≡ false → ExtendsArrays old new (arrays_in name mem) → is_some r.array ≡ not mem.delayed → IsFragment old new r
-    → HasNoPorts r.array new → write_signals new (length old.arrays) ≡ []
+pub new_unwritten : (old new : Circuit) (name : List ℕ) (mem : Mem) (r : LockRegs)
+    → mem.delayed ≡ false → ExtendsArrays old new (arrays_in name mem) → is_some r.array ≡ not mem.delayed
+    → IsFragment old new r → HasNoPorts r.array new → write_signals new (length old.arrays) ≡ []
 new_unwritten old new name mem r comb grows a f h = subst (λ a. HasNoPorts a new) (some_place mem (length old.arrays) r.array (new_array old new name mem r a grows f) comb) h

@@ -20,7 +20,8 @@ place_delayed : (p : Pipe) (i : ℕ) → i < length p.mems → (mem_at p i).dela
 place_delayed p i l e = count_by_more_no (λ (x : Mem). if x.delayed then false else true) p.mems i plain_mem l (ap (λ (b : Bool). if b then false else true) e)
 
 -- one memory more has the array that it has
-pub place_more : (p : Pipe) (i : ℕ) (name : List ℕ) → i < length p.mems → comb_place p (i + 1) ≡ comb_place p i + length (arrays_in name (mem_at p i))
+pub place_more : (p : Pipe) (i : ℕ) (name : List ℕ)
+    → i < length p.mems → comb_place p (i + 1) ≡ comb_place p i + length (arrays_in name (mem_at p i))
 place_more p i name l = by (mem_at p i).delayed refl
   where
     long : (b : Bool) → (mem_at p i).delayed ≡ b → length (arrays_in name (mem_at p i)) ≡ length (if b then [] else shape_in name (mem_at p i) ∷ [])

@@ -87,7 +87,8 @@ module _ (a b : Circuit) (k : Keeps a b) where
 -- ---- reservations
 
 -- a reservation port for writing is added after ports that are there
-pub adds_one : (a b : Circuit) (ps : List ReservePort) (x y : Net) (f g : Signal) → Extends a b → Each (IsThereReserve a) ps → Means b x f → IsThere a y → signal a y ≡ g
+pub adds_one : (a b : Circuit) (ps : List ReservePort) (x y : Net) (f g : Signal) → Extends a b
+    → Each (IsThereReserve a) ps → Means b x f → IsThere a y → signal a y ≡ g
     → AddsReserves a b ps (ps ++ record { enable = x; kind = W; addr = y } ∷ []) (record { enable = f; addr = g } ∷ [])
 adds_one a b ps x y f g e t m h q =
     let k = extends_keeps a b e in
@@ -98,7 +99,8 @@ adds_one a b ps x y f g e t m h q =
     }
 
 -- one after another
-reserves_split : (m : ℕ) (f : Signal) (r : Reservation) (rs : List Reservation) → reserves_to m f (r ∷ rs) ≡ reserves_to m f (r ∷ []) ++ reserves_to m f rs
+reserves_split : (m : ℕ) (f : Signal) (r : Reservation) (rs : List Reservation)
+    → reserves_to m f (r ∷ rs) ≡ reserves_to m f (r ∷ []) ++ reserves_to m f rs
 reserves_split m f r rs = at (r.mem == m)
   where
     at : (b : Bool) → (if b then record { enable = both f r.on; addr = r.addr } ∷ reserves_to m f rs else reserves_to m f rs) ≡ (if b then record { enable = both f r.on; addr = r.addr } ∷ [] else []) ++ reserves_to m f rs
@@ -108,7 +110,8 @@ reserves_split m f r rs = at (r.mem == m)
 -- ---- writes
 
 -- a port that writes by ticket is added after ports that are there
-pub adds_write : (a b : Circuit) (ps : List TicketWrite) (x y z : Net) (f g h : Signal) → Extends a b → Each (IsThereWrite a) ps → Means b x f → IsThere a y → signal a y ≡ g → IsThere a z → signal a z ≡ h
+pub adds_write : (a b : Circuit) (ps : List TicketWrite) (x y z : Net) (f g h : Signal) → Extends a b
+    → Each (IsThereWrite a) ps → Means b x f → IsThere a y → signal a y ≡ g → IsThere a z → signal a z ≡ h
     → AddsWrites a b ps (ps ++ record { enable = x; ticket = y; value = z } ∷ []) (record { enable = f; ticket = g; value = h } ∷ [])
 adds_write a b ps x y z f g h e t m u p v q =
     let k = extends_keeps a b e in
@@ -136,8 +139,11 @@ pub record WritesUpTo (a b : Circuit) (ps qs : List TicketWrite) (m : ℕ) (move
   pub same : map (ticket_signal b) qs ++ puts_to m (signal a moves) (signal a ticket) (map (put_in a) (drop i xs)) ≡ map (ticket_signal a) ps ++ puts_to m (signal a moves) (signal a ticket) (map (put_in a) xs)
 
 -- with the ports of one reservation more, those of the first i + 1 of a stage are added
-pub reserves_step : (a b c : Circuit) (ps qs us : List ReservePort) (m : ℕ) (moves : Net) (rs : List ReserveNet) (i : ℕ) (d r : ReserveNet) → Keeps a b → IsThere a moves → i < length rs → r ≡ get_or rs i d → IsGivenReserve a r
-    → ReservesUpTo a b ps qs m moves rs i → AddsReserves b c qs us (reserves_to m (signal b moves) (reservation_in b r ∷ [])) → ReservesUpTo a c ps us m moves rs (i + 1)
+pub reserves_step : (a b c : Circuit) (ps qs us : List ReservePort) (m : ℕ) (moves : Net) (rs : List ReserveNet) (i : ℕ) (d r : ReserveNet)
+    → Keeps a b → IsThere a moves → i < length rs → r ≡ get_or rs i d → IsGivenReserve a r
+    → ReservesUpTo a b ps qs m moves rs i
+    → AddsReserves b c qs us (reserves_to m (signal b moves) (reservation_in b r ∷ []))
+    → ReservesUpTo a c ps us m moves rs (i + 1)
 reserves_step a b c ps qs us m moves rs i d r k t l e g h x =
     let f = signal a moves in
     let back = map (reservation_in a) (drop (i + 1) rs) in
@@ -154,8 +160,11 @@ reserves_step a b c ps qs us m moves rs i d r k t l e g h x =
     }
 
 -- with the ports of one write more, those of the first i + 1 of a stage are added
-pub writes_step : (a b c : Circuit) (ps qs us : List TicketWrite) (m : ℕ) (moves ticket : Net) (xs : List PutNet) (i : ℕ) (d y : PutNet) → Keeps a b → IsThere a moves → IsThere a ticket → i < length xs → y ≡ get_or xs i d → IsGivenPut a y
-    → WritesUpTo a b ps qs m moves ticket xs i → AddsWrites b c qs us (puts_to m (signal b moves) (signal b ticket) (put_in b y ∷ [])) → WritesUpTo a c ps us m moves ticket xs (i + 1)
+pub writes_step : (a b c : Circuit) (ps qs us : List TicketWrite) (m : ℕ) (moves ticket : Net) (xs : List PutNet) (i : ℕ) (d y : PutNet)
+    → Keeps a b → IsThere a moves → IsThere a ticket → i < length xs → y ≡ get_or xs i d → IsGivenPut a y
+    → WritesUpTo a b ps qs m moves ticket xs i
+    → AddsWrites b c qs us (puts_to m (signal b moves) (signal b ticket) (put_in b y ∷ []))
+    → WritesUpTo a c ps us m moves ticket xs (i + 1)
 writes_step a b c ps qs us m moves ticket xs i d y k t q l e g h x =
     let f = signal a moves in
     let u = signal a ticket in
@@ -174,7 +183,8 @@ writes_step a b c ps qs us m moves ticket xs i d y k t q l e g h x =
     }
 
 -- past its last one the ports of all reservations of a stage are added
-pub reserves_end : (a b : Circuit) (ps qs : List ReservePort) (m : ℕ) (moves : Net) (rs : List ReserveNet) (i : ℕ) → length rs ≤ i → ReservesUpTo a b ps qs m moves rs i
+pub reserves_end : (a b : Circuit) (ps qs : List ReservePort) (m : ℕ) (moves : Net) (rs : List ReserveNet) (i : ℕ)
+    → length rs ≤ i → ReservesUpTo a b ps qs m moves rs i
     → AddsReserves a b ps qs (reserves_to m (signal a moves) (map (reservation_in a) rs))
 reserves_end a b ps qs m moves rs i l h = record {
   there = h.there;
@@ -182,7 +192,8 @@ reserves_end a b ps qs m moves rs i l h = record {
 }
 
 -- past its last one the ports of all writes of a stage are added
-pub writes_end : (a b : Circuit) (ps qs : List TicketWrite) (m : ℕ) (moves ticket : Net) (xs : List PutNet) (i : ℕ) → length xs ≤ i → WritesUpTo a b ps qs m moves ticket xs i
+pub writes_end : (a b : Circuit) (ps qs : List TicketWrite) (m : ℕ) (moves ticket : Net) (xs : List PutNet) (i : ℕ)
+    → length xs ≤ i → WritesUpTo a b ps qs m moves ticket xs i
     → AddsWrites a b ps qs (puts_to m (signal a moves) (signal a ticket) (map (put_in a) xs))
 writes_end a b ps qs m moves ticket xs i l h = record {
   there = h.there;

@@ -31,11 +31,13 @@ each_at P (x ∷ xs) zero d l e h = subst P (sym e) h.0
 each_at P (x ∷ xs) (suc k) d l e h = each_at P xs k d (omega (arith, l)) e h.1
 
 -- the view of number k is that of the k-th stage
-pub view_is : (c : Circuit) (ds : List StageDeeds) (k : ℕ) (d : StageDeeds) → k < length ds → d ≡ get_or ds k d → views_in c ds k ≡ view_in c d
+pub view_is : (c : Circuit) (ds : List StageDeeds) (k : ℕ) (d : StageDeeds)
+    → k < length ds → d ≡ get_or ds k d → views_in c ds k ≡ view_in c d
 view_is c ds k d l e = get_or-map (view_in c) ds k d (view_with (λ m. no_signal) (walk_of no_parts)) l ∙ ap (view_in c) (sym e)
 
 -- whether the thread of stage k moves is told by the net of that stage
-pub moves_is : (c : Circuit) (ds : List StageDeeds) (k : ℕ) (d : StageDeeds) → k < length ds → d ≡ get_or ds k d → moves_in c ds k ≡ signal c d.moves
+pub moves_is : (c : Circuit) (ds : List StageDeeds) (k : ℕ) (d : StageDeeds)
+    → k < length ds → d ≡ get_or ds k d → moves_in c ds k ≡ signal c d.moves
 moves_is c ds k d l e = get_or-map (λ (x : StageDeeds). signal c x.moves) ds k d no_signal l ∙ ap (λ (x : StageDeeds). signal c x.moves) (sym e)
 
 -- what a stage brings for a memory's lock stays there
@@ -62,8 +64,10 @@ reserves_next : (m : ℕ) (vs : ℕ → View) (moves : ℕ → Signal) (n i k : 
 reserves_next m vs moves n i k l e = let f = one_further (all_reserves m vs moves) n i k l e in f.0 ∙ ap (λ xs. xs ++ reserves_to m (moves k) (vs k).ended.reserves) f.1
 
 -- the reservation ports of the last i + 1 stages, where those of the last i are made
-pub reserves_more : (a b c : Circuit) (m : ℕ) (ds : List StageDeeds) (i : ℕ) (d : StageDeeds) (ps qs : List ReservePort) → Keeps a b → i < length ds → d ≡ get_or ds (length ds - 1 - i) d → Each (IsGiven a m) ds
-    → AreReserves b ps (all_reserves m (views_in a ds) (moves_in a ds) i (length ds - i)) → AddsReserves b c ps qs (reserves_to m (signal b d.moves) (map (reservation_in b) d.ended.now.reserves))
+pub reserves_more : (a b c : Circuit) (m : ℕ) (ds : List StageDeeds) (i : ℕ) (d : StageDeeds) (ps qs : List ReservePort)
+    → Keeps a b → i < length ds → d ≡ get_or ds (length ds - 1 - i) d → Each (IsGiven a m) ds
+    → AreReserves b ps (all_reserves m (views_in a ds) (moves_in a ds) i (length ds - i))
+    → AddsReserves b c ps qs (reserves_to m (signal b d.moves) (map (reservation_in b) d.ended.now.reserves))
     → AreReserves c qs (all_reserves m (views_in a ds) (moves_in a ds) (i + 1) (length ds - (i + 1)))
 reserves_more a b c m ds i d ps qs k l e g h x =
     let n = length ds in
@@ -92,8 +96,10 @@ pub ticket_there : (c : Circuit) (m : ℕ) (d : StageDeeds) (t : Net) → t ≡ 
 ticket_there c m d t e g = subst (IsThere c) (sym e) (there_at c d.tickets.now m t g.low g.tickets)
 
 -- the write ports of the last i + 1 stages, where those of the last i are made
-pub writes_more : (a b c : Circuit) (m : ℕ) (ds : List StageDeeds) (i : ℕ) (d : StageDeeds) (t : Net) (ps qs : List TicketWrite) → Keeps a b → i < length ds → d ≡ get_or ds (length ds - 1 - i) d → t ≡ get_or d.tickets.now m t → Each (IsGiven a m) ds
-    → AreWrites b ps (all_puts m (views_in a ds) (moves_in a ds) i (length ds - i)) → AddsWrites b c ps qs (puts_to m (signal b d.moves) (signal b t) (map (put_in b) d.ended.now.puts))
+pub writes_more : (a b c : Circuit) (m : ℕ) (ds : List StageDeeds) (i : ℕ) (d : StageDeeds) (t : Net) (ps qs : List TicketWrite)
+    → Keeps a b → i < length ds → d ≡ get_or ds (length ds - 1 - i) d → t ≡ get_or d.tickets.now m t
+    → Each (IsGiven a m) ds → AreWrites b ps (all_puts m (views_in a ds) (moves_in a ds) i (length ds - i))
+    → AddsWrites b c ps qs (puts_to m (signal b d.moves) (signal b t) (map (put_in b) d.ended.now.puts))
     → AreWrites c qs (all_puts m (views_in a ds) (moves_in a ds) (i + 1) (length ds - (i + 1)))
 writes_more a b c m ds i d t ps qs k l e u g h x =
     let n = length ds in
@@ -118,13 +124,16 @@ writes_more a b c m ds i d t ps qs k l e u g h x =
 -- ---- where the stages do the same, so do all ports
 
 -- stages that make the same reservations and move alike reserve alike at a memory's lock
-pub same_reserves : (m : ℕ) (vs us : ℕ → View) (f g : ℕ → Signal) (n k : ℕ) → ((j : ℕ) → j < k + n → f j ≡ g j) → ((j : ℕ) → j < k + n → (vs j).ended.reserves ≡ (us j).ended.reserves) → all_reserves m vs f n k ≡ all_reserves m us g n k
+pub same_reserves : (m : ℕ) (vs us : ℕ → View) (f g : ℕ → Signal) (n k : ℕ)
+    → ((j : ℕ) → j < k + n → f j ≡ g j) → ((j : ℕ) → j < k + n → (vs j).ended.reserves ≡ (us j).ended.reserves)
+    → all_reserves m vs f n k ≡ all_reserves m us g n k
 same_reserves m vs us f g zero k h r = refl
 same_reserves m vs us f g (suc n) k h r =
     ap₂ (λ (xs ys : List ReserveSignal). xs ++ ys) (same_reserves m vs us f g n (suc k) (λ j l. h j (omega (arith, l))) (λ j l. r j (omega (arith, l)))) (ap₂ (reserves_to m) (h k (omega arith)) (r k (omega arith)))
 
 -- stages that have the same tickets and writes and move alike write alike at a memory's lock
-pub same_puts : (m : ℕ) (vs us : ℕ → View) (f g : ℕ → Signal) (n k : ℕ) → ((j : ℕ) → j < k + n → f j ≡ g j) → ((j : ℕ) → j < k + n → (vs j).tickets m ≡ (us j).tickets m)
+pub same_puts : (m : ℕ) (vs us : ℕ → View) (f g : ℕ → Signal) (n k : ℕ)
+    → ((j : ℕ) → j < k + n → f j ≡ g j) → ((j : ℕ) → j < k + n → (vs j).tickets m ≡ (us j).tickets m)
     → ((j : ℕ) → j < k + n → (vs j).ended.puts ≡ (us j).ended.puts) → all_puts m vs f n k ≡ all_puts m us g n k
 same_puts m vs us f g zero k h t r = refl
 same_puts m vs us f g (suc n) k h t r =
@@ -133,7 +142,9 @@ same_puts m vs us f g (suc n) k h t r =
     ap₂ (λ (xs ys : List TicketSignal). xs ++ ys) (same_puts m vs us f g n (suc k) (λ j l. h j (omega (arith, l))) (λ j l. t j (omega (arith, l))) (λ j l. r j (omega (arith, l)))) here
 
 -- stages that have the same releases and move alike release a memory alike
-pub same_released : (m : ℕ) (vs us : ℕ → View) (f g : ℕ → Signal) (n k : ℕ) → ((j : ℕ) → j < k + n → f j ≡ g j) → ((j : ℕ) → j < k + n → (vs j).ended.lettings ≡ (us j).ended.lettings) → release_signal m vs f n k ≡ release_signal m us g n k
+pub same_released : (m : ℕ) (vs us : ℕ → View) (f g : ℕ → Signal) (n k : ℕ)
+    → ((j : ℕ) → j < k + n → f j ≡ g j) → ((j : ℕ) → j < k + n → (vs j).ended.lettings ≡ (us j).ended.lettings)
+    → release_signal m vs f n k ≡ release_signal m us g n k
 same_released m vs us f g zero k h r = refl
 same_released m vs us f g (suc n) k h r =
     let F = λ (x : Signal) (ys : List Letting) (z : Signal). release_moves m x ys z in

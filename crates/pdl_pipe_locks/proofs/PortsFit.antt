@@ -52,7 +52,8 @@ abbrev pub WriteFits : ℕ → ℕ → TicketSignal → Type 0
 WriteFits width tickets x = (x.enable.width ≡ 1) × (x.ticket.width ≡ tickets) × (x.value.width ≡ width)
 
 -- the ports of a step have the widths that the lock takes, where their signals do
-pub ports_fit : (c : Circuit) (bits width tickets : ℕ) (p : LockPorts) (f : StepSignals) → ArePorts c p f → SignalsFit bits width tickets f → PortsFit c bits width tickets p
+pub ports_fit : (c : Circuit) (bits width tickets : ℕ) (p : LockPorts) (f : StepSignals) → ArePorts c p f
+    → SignalsFit bits width tickets f → PortsFit c bits width tickets p
 ports_fit c bits width tickets p f h w = record {
   ask_one = λ k q l e. ap (λ (u : Kind). (enabled_reserve u (signal c q.enable)).width) (sym (kind k q l e)) ∙ (reserve k q l e).0;
   addr_width = λ k q l e. (reserve k q l e).1;

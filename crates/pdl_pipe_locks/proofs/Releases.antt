@@ -20,7 +20,8 @@ use Rattle.pdl_pipe_locks.proofs.PortStages.{each_at, view_is, moves_is}
 use Rattle.pdl_word.specs.Each.{Each}
 use Rattle.pdl_pipe_locks.proofs.StageSteps.{one_further}
 
-lets_split : (m : ℕ) (f : Signal) (x : Letting) (xs : List Letting) (rest : Signal) → release_moves m f (x ∷ xs) rest ≡ release_moves m f (x ∷ []) (release_moves m f xs rest)
+lets_split : (m : ℕ) (f : Signal) (x : Letting) (xs : List Letting) (rest : Signal)
+    → release_moves m f (x ∷ xs) rest ≡ release_moves m f (x ∷ []) (release_moves m f xs rest)
 lets_split m f x xs rest = at (x.mem == m)
   where
     at : (b : Bool) → (if b then mux_signal (both f x.on) one (release_moves m f xs rest) else release_moves m f xs rest) ≡ (if b then mux_signal (both f x.on) one (release_moves m f xs rest) else release_moves m f xs rest)
@@ -41,15 +42,19 @@ released_one m vs moves (suc n) k = lets_one m (moves k) (vs k).ended.lettings (
 
 -- ---- the lettings of a stage
 
-pub lets_begin : (a : Circuit) (m : ℕ) (f : Signal) (xs : List LettingNet) (rest : Net) → IsThere a rest → Means a rest (release_moves m f (map (letting_in a) (drop (length xs - 0) xs)) (signal a rest))
+pub lets_begin : (a : Circuit) (m : ℕ) (f : Signal) (xs : List LettingNet) (rest : Net) → IsThere a rest
+    → Means a rest (release_moves m f (map (letting_in a) (drop (length xs - 0) xs)) (signal a rest))
 lets_begin a m f xs rest t = record { there = t; same = sym (ap (λ (ys : List LettingNet). release_moves m f (map (letting_in a) ys) (signal a rest)) (drop_all (length xs - 0) xs (omega arith))) }
 
-pub lets_end : (a b : Circuit) (m : ℕ) (f : Signal) (xs : List LettingNet) (i : ℕ) (net : Net) (rest : Signal) → length xs ≤ i → Means b net (release_moves m f (map (letting_in a) (drop (length xs - i) xs)) rest)
+pub lets_end : (a b : Circuit) (m : ℕ) (f : Signal) (xs : List LettingNet) (i : ℕ) (net : Net) (rest : Signal)
+    → length xs ≤ i → Means b net (release_moves m f (map (letting_in a) (drop (length xs - i) xs)) rest)
     → Means b net (release_moves m f (map (letting_in a) xs) rest)
 lets_end a b m f xs i net rest l h = let z : length xs - i ≡ 0 = omega (arith, l) in subst (λ k. Means b net (release_moves m f (map (letting_in a) (drop k xs)) rest)) z h
 
-pub lets_more : (a b c : Circuit) (m : ℕ) (f g : Signal) (xs : List LettingNet) (i : ℕ) (x : LettingNet) (net y : Net) (rest : Signal) → Keeps a b → i < length xs → x ≡ get_or xs (length xs - 1 - i) x → Each (IsGivenLetting a) xs → g ≡ f
-    → Means b net (release_moves m f (map (letting_in a) (drop (length xs - i) xs)) rest) → Means c y (release_moves m g (letting_in b x ∷ []) (signal b net))
+pub lets_more : (a b c : Circuit) (m : ℕ) (f g : Signal) (xs : List LettingNet) (i : ℕ) (x : LettingNet) (net y : Net) (rest : Signal)
+    → Keeps a b → i < length xs → x ≡ get_or xs (length xs - 1 - i) x → Each (IsGivenLetting a) xs → g ≡ f
+    → Means b net (release_moves m f (map (letting_in a) (drop (length xs - i) xs)) rest)
+    → Means c y (release_moves m g (letting_in b x ∷ []) (signal b net))
     → Means c y (release_moves m f (map (letting_in a) (drop (length xs - (i + 1)) xs)) rest)
 lets_more a b c m f g xs i x net y rest k l e given q h z =
     let n = length xs in
@@ -72,13 +77,17 @@ lets_more a b c m f g xs i x net y rest k l e given q h z =
 
 -- ---- all stages
 
-released_next : (m : ℕ) (vs : ℕ → View) (moves : ℕ → Signal) (n i k : ℕ) → i < n → k ≡ n - 1 - i
-    → release_signal m vs moves (i + 1) (n - (i + 1)) ≡ release_moves m (moves k) (vs k).ended.lettings (release_signal m vs moves i (n - i))
+released_next : (m : ℕ) (vs : ℕ → View) (moves : ℕ → Signal) (n i k : ℕ)
+    → i < n → k ≡ n - 1 - i
+    → release_signal m vs moves (i + 1) (n - (i + 1))
+    ≡ release_moves m (moves k) (vs k).ended.lettings (release_signal m vs moves i (n - i))
 released_next m vs moves n i k l e = let f = one_further (release_signal m vs moves) n i k l e in f.0 ∙ ap (release_moves m (moves k) (vs k).ended.lettings) f.1
 
 -- whether one of the last i + 1 stages releases a memory, where it is known of the last i
-pub released_more : (a b c : Circuit) (m : ℕ) (ds : List StageDeeds) (i : ℕ) (d : StageDeeds) (net y : Net) → Keeps a b → i < length ds → d ≡ get_or ds (length ds - 1 - i) d → Each (IsGiven a m) ds
-    → Means b net (release_signal m (views_in a ds) (moves_in a ds) i (length ds - i)) → Means c y (release_moves m (signal b d.moves) (map (letting_in b) d.ended.now.lettings) (signal b net))
+pub released_more : (a b c : Circuit) (m : ℕ) (ds : List StageDeeds) (i : ℕ) (d : StageDeeds) (net y : Net) → Keeps a b
+    → i < length ds → d ≡ get_or ds (length ds - 1 - i) d → Each (IsGiven a m) ds
+    → Means b net (release_signal m (views_in a ds) (moves_in a ds) i (length ds - i))
+    → Means c y (release_moves m (signal b d.moves) (map (letting_in b) d.ended.now.lettings) (signal b net))
     → Means c y (release_signal m (views_in a ds) (moves_in a ds) (i + 1) (length ds - (i + 1)))
 released_more a b c m ds i d net y k l e g h z =
     let n = length ds in

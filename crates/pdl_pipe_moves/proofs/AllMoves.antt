@@ -57,7 +57,8 @@ at_last [] y (suc k) e = absurd (omega (arith, e))
 at_last (x ∷ xs) y zero e = absurd (omega (arith, e))
 at_last (x ∷ xs) y (suc k) e = at_last xs y k (omega (arith, e))
 
-padded_more : (nets : List Net) (fill : Net) (n : ℕ) (xs : List Net) (y : Net) → ArePadded nets fill n xs → (n < length nets → y ≡ net_at nets n) → (length nets ≤ n → y ≡ fill) → ArePadded nets fill (n + 1) (xs ++ y ∷ [])
+padded_more : (nets : List Net) (fill : Net) (n : ℕ) (xs : List Net) (y : Net) → ArePadded nets fill n xs
+    → (n < length nets → y ≡ net_at nets n) → (length nets ≤ n → y ≡ fill) → ArePadded nets fill (n + 1) (xs ++ y ∷ [])
 padded_more nets fill n xs y h front rest = record {
   count_is = length-append xs (y ∷ []) ∙ ap (λ i. i + 1) h.count_is;
   front = λ k l m. at k m (cases_lt k n) (λ q. h.front k l q) (λ e. front (omega (arith, l, e)) ∙ ap (net_at nets) (sym e));
@@ -100,7 +101,8 @@ module _ (a b : Circuit) (e : Keeps a b) (x : Line) (y : Controls) (line : IsLin
 frees_other : (xs : List (Seq Net)) (k j : ℕ) (y : Seq Net) → j ≢ k → frees_at (slice_set xs k y) j ≡ frees_at xs j
 frees_other xs k j y h = get_or-set_other xs k j y [] h
 
-all_keep : (a b : Circuit) → Keeps a b → (xs : List (Seq Net)) → Each (λ (fs : Seq Net). Each (IsBit a) fs) xs → Each (λ (fs : Seq Net). Each (IsBit b) fs) xs
+all_keep : (a b : Circuit) → Keeps a b → (xs : List (Seq Net)) → Each (λ (fs : Seq Net). Each (IsBit a) fs) xs
+    → Each (λ (fs : Seq Net). Each (IsBit b) fs) xs
 all_keep a b e [] h = tt
 all_keep a b e (fs ∷ xs) h = (bits_keep a b fs e h.0, all_keep a b e xs h.1)
 
@@ -153,7 +155,8 @@ module _ (a b : Circuit) (e : Keeps a b) (x : Line) (y : Controls) (line : IsLin
 -- ---- lists of one net, and lists that are filled up
 
 -- in a list of one net again and again each number has this net's signal
-pub filled_at : (c : Circuit) (z : Net) (xs : List Net) (k : ℕ) → k < length xs → Each (λ (x : Net). x ≡ z) xs → signal_at (signals_in c xs) k ≡ signal c z
+pub filled_at : (c : Circuit) (z : Net) (xs : List Net) (k : ℕ)
+    → k < length xs → Each (λ (x : Net). x ≡ z) xs → signal_at (signals_in c xs) k ≡ signal c z
 filled_at c z [] k l h = absurd (omega (arith, l))
 filled_at c z (x ∷ xs) zero l h = ap (signal c) h.0
 filled_at c z (x ∷ xs) (suc k) l h = filled_at c z xs k (omega (arith, l)) h.1
@@ -168,7 +171,8 @@ pub zero_bits : (c : Circuit) (y : Bits) → AreBits c y → IsBit c y.zero
 zero_bits c y h = (h.zero.there, ap (λ (f : Signal). f.width) h.zero.same)
 
 -- nets of 1 bit that were filled up by a net of 1 bit are nets of 1 bit
-pub padded_bits : (c : Circuit) (nets : List Net) (fill : Net) (n m : ℕ) (xs : List Net) → AreSquashBits c nets m → IsBit c fill → ArePadded nets fill n xs → Each (IsBit c) xs
+pub padded_bits : (c : Circuit) (nets : List Net) (fill : Net) (n m : ℕ) (xs : List Net) → AreSquashBits c nets m
+    → IsBit c fill → ArePadded nets fill n xs → Each (IsBit c) xs
 padded_bits c nets fill n m xs bits none h = each_by (IsBit c) xs (Input 0) (λ i l. at i (let e = h.count_is in omega (arith, l, e)) (cases_lt i (length nets)))
   where
     at : (i : ℕ) → i < n → (i < length nets) ⊎ (length nets ≤ i) → IsBit c (net_at xs i)
@@ -176,18 +180,22 @@ padded_bits c nets fill n m xs bits none h = each_by (IsBit c) xs (Input 0) (λ 
     at i l (inr q) = subst (IsBit c) (sym (h.rest i q l)) none
 
 -- what was kept, and what fills up
-pub padded_front : (c : Circuit) (nets : List Net) (fill : Net) (n : ℕ) (xs : List Net) (k : ℕ) → k < length nets → k < n → ArePadded nets fill n xs → squash_net c nets k ≡ signal_at (signals_in c xs) k
+pub padded_front : (c : Circuit) (nets : List Net) (fill : Net) (n : ℕ) (xs : List Net) (k : ℕ)
+    → k < length nets → k < n → ArePadded nets fill n xs → squash_net c nets k ≡ signal_at (signals_in c xs) k
 padded_front c nets fill n xs k l m h = ap (signal c) (sym (h.front k l m)) ∙ net_signal c xs k (let e = h.count_is in omega (arith, m, e))
 
 -- past the nets that were filled up each number has the signal of the net that fills up
-pub padded_rest : (c : Circuit) (nets : List Net) (fill : Net) (n : ℕ) (xs : List Net) (k : ℕ) → length nets ≤ k → k < n → ArePadded nets fill n xs → signal_at (signals_in c xs) k ≡ signal c fill
+pub padded_rest : (c : Circuit) (nets : List Net) (fill : Net) (n : ℕ) (xs : List Net) (k : ℕ)
+    → length nets ≤ k → k < n → ArePadded nets fill n xs → signal_at (signals_in c xs) k ≡ signal c fill
 padded_rest c nets fill n xs k l m h = sym (net_signal c xs k (let e = h.count_is in omega (arith, m, e))) ∙ ap (signal c) (h.rest k l m)
 
 -- ---- a squash
 
 -- a squash by the same signals keeps its law
-pub squash_as : (v : ℕ) (va vb : ℕ → Signal) (ma mb fa fb qa qb : Signal) (ra rb ca cb : ℕ → Signal) → ((k : ℕ) → k ≤ v → va k ≡ vb k) → ma ≡ mb → fa ≡ fb → qa ≡ qb → ((k : ℕ) → k < v → ra k ≡ rb k) → ((k : ℕ) → k < v → ca k ≡ cb k)
-    → SquashLaw (record { valid = va; stage = v; moves = ma; fails = fa }) qa ra ca → SquashLaw (record { valid = vb; stage = v; moves = mb; fails = fb }) qb rb cb
+pub squash_as : (v : ℕ) (va vb : ℕ → Signal) (ma mb fa fb qa qb : Signal) (ra rb ca cb : ℕ → Signal)
+    → ((k : ℕ) → k ≤ v → va k ≡ vb k) → ma ≡ mb → fa ≡ fb → qa ≡ qb → ((k : ℕ) → k < v → ra k ≡ rb k)
+    → ((k : ℕ) → k < v → ca k ≡ cb k) → SquashLaw (record { valid = va; stage = v; moves = ma; fails = fa }) qa ra ca
+    → SquashLaw (record { valid = vb; stage = v; moves = mb; fails = fb }) qb rb cb
 squash_as v va vb ma mb fa fb qa qb ra rb ca cb valid moves fails squash removed clear law = record {
   squashes = λ s held m f d. ap (λ (g : Signal). g.value s) (sym squash) ∙ law.squashes s held m f (drives s held m f d);
   removes = λ s held m f d k l. ap (λ (g : Signal). g.value s) (sym (removed k l)) ∙ law.removes s held m f (drives s held m f d) k l;
@@ -202,7 +210,8 @@ squash_as v va vb ma mb fa fb qa qb ra rb ca cb valid moves fails squash removed
     }
 
 -- the nets of whether stages hold threads
-valid_net : (c : Circuit) (x : Line) (xs : List Net) → IsLineIn c x → HasValids x xs → (k : ℕ) → k < length xs → IsThere c (net_at xs k) × (squash_net c xs k ≡ (line_views c x k).valid)
+valid_net : (c : Circuit) (x : Line) (xs : List Net) → IsLineIn c x → HasValids x xs → (k : ℕ)
+    → k < length xs → IsThere c (net_at xs k) × (squash_net c xs k ≡ (line_views c x k).valid)
 valid_net c x xs line h k l =
     let n = h.count in
     let low : k < length x.stages.now = omega (arith, l, n) in
@@ -225,7 +234,8 @@ valid_bits c x xs line h = record {
 }
 
 -- the k-th of the nets that tell whether stages hold threads tells it of stage k
-pub valid_is : (c : Circuit) (x : Line) (xs : List Net) → IsLineIn c x → HasValids x xs → (k : ℕ) → k < length xs → squash_net c xs k ≡ (line_views c x k).valid
+pub valid_is : (c : Circuit) (x : Line) (xs : List Net) → IsLineIn c x → HasValids x xs → (k : ℕ)
+    → k < length xs → squash_net c xs k ≡ (line_views c x k).valid
 valid_is c x xs line h k l = (valid_net c x xs line h k l).1
 
 -- ---- from the stage that verifies on a gate asks for no squash
@@ -239,15 +249,20 @@ unsquashed_late o v k e l f g = ap (λ p. unsquashed p k f) e ∙ ap (λ b. if b
 barrier_late : (o : Option ℕ) (v k : ℕ) → o ≡ Some v → v ≤ k → (h f g : Signal) → barrier_open o k h f ≡ barrier_open o k h g
 barrier_late o v k e l h f g = ap (λ p. barrier_open p k h f) e ∙ ap (λ b. if b then if_on h f else one) (late_free v k l) ∙ ap (λ b. if b then if_on h g else one) (sym (late_free v k l)) ∙ ap (λ p. barrier_open p k h g) (sym e)
 
-gate_late : (p : Pipe) (vs : ℕ → View) (answers : ℕ → ℕ → AnswerSignals) (turns : ℕ → ℕ → Signal) (f g : Signal) (c d : ℕ → Signal) (frees : ℕ → Signal) (v k : ℕ) → verify_stage p.stmts ≡ Some v → v ≤ k
-    → gate_by p vs (record { answers = answers; turns = turns; squash = f; clear = c }) frees k ≡ gate_by p vs (record { answers = answers; turns = turns; squash = g; clear = d }) frees k
+gate_late : (p : Pipe) (vs : ℕ → View) (answers : ℕ → ℕ → AnswerSignals) (turns : ℕ → ℕ → Signal) (f g : Signal)
+    (c d : ℕ → Signal) (frees : ℕ → Signal) (v k : ℕ)
+    → verify_stage p.stmts ≡ Some v → v ≤ k
+    → gate_by p vs (record { answers = answers; turns = turns; squash = f; clear = c }) frees k
+    ≡ gate_by p vs (record { answers = answers; turns = turns; squash = g; clear = d }) frees k
 gate_late p vs answers turns f g c d frees v k e l =
     ap₂ (λ h i. both (all_answered p answers k (length p.mems) 0) (both h (both (opens_by frees (vs k).ended.asks) (both i (way_on (stage_at p k).next (turns k) (vs k).ended)))))
     (unsquashed_late (verify_stage p.stmts) v k e l f g) (barrier_late (verify_stage p.stmts) v k e l (vs k).ended.barrier (c k) (d k))
 
 -- from the stage that verifies on, threads move alike by any squash and any clear stages
-pub passed_late : (b : Circuit) (x : Line) (orders : List (Option OrderRegs)) (f g : Net) (c d : List Net) (nets : List Net) (opens : List (Seq Net)) (v : ℕ) → verify_stage (line_pipe x).stmts ≡ Some v
-    → ArePassed b x (signs_in b x orders f c) nets opens v → ArePassed b x (signs_in b x orders g d) nets opens v
+pub passed_late : (b : Circuit) (x : Line) (orders : List (Option OrderRegs)) (f g : Net) (c d : List Net)
+    (nets : List Net) (opens : List (Seq Net)) (v : ℕ)
+    → verify_stage (line_pipe x).stmts ≡ Some v → ArePassed b x (signs_in b x orders f c) nets opens v
+    → ArePassed b x (signs_in b x orders g d) nets opens v
 passed_late b x orders f g c d nets opens v e it = record {
   moves_count = it.moves_count;
   moves = it.moves;
@@ -271,15 +286,20 @@ unsquashed_none o k e f g = ap (λ p. unsquashed p k f) e ∙ sym (ap (λ p. uns
 barrier_none : (o : Option ℕ) (k : ℕ) → o ≡ None → (h f g : Signal) → barrier_open o k h f ≡ barrier_open o k h g
 barrier_none o k e h f g = ap (λ p. barrier_open p k h f) e ∙ sym (ap (λ p. barrier_open p k h g) e)
 
-gate_none : (p : Pipe) (vs : ℕ → View) (answers : ℕ → ℕ → AnswerSignals) (turns : ℕ → ℕ → Signal) (f g : Signal) (c d : ℕ → Signal) (frees : ℕ → Signal) (k : ℕ) → verify_stage p.stmts ≡ None
-    → gate_by p vs (record { answers = answers; turns = turns; squash = f; clear = c }) frees k ≡ gate_by p vs (record { answers = answers; turns = turns; squash = g; clear = d }) frees k
+gate_none : (p : Pipe) (vs : ℕ → View) (answers : ℕ → ℕ → AnswerSignals) (turns : ℕ → ℕ → Signal) (f g : Signal)
+    (c d : ℕ → Signal) (frees : ℕ → Signal) (k : ℕ)
+    → verify_stage p.stmts ≡ None
+    → gate_by p vs (record { answers = answers; turns = turns; squash = f; clear = c }) frees k
+    ≡ gate_by p vs (record { answers = answers; turns = turns; squash = g; clear = d }) frees k
 gate_none p vs answers turns f g c d frees k e =
     ap₂ (λ h i. both (all_answered p answers k (length p.mems) 0) (both h (both (opens_by frees (vs k).ended.asks) (both i (way_on (stage_at p k).next (turns k) (vs k).ended)))))
     (unsquashed_none (verify_stage p.stmts) k e f g) (barrier_none (verify_stage p.stmts) k e (vs k).ended.barrier (c k) (d k))
 
 -- in a pipe without a stage that verifies, threads move alike by any clear stages
-pub passed_certain : (b : Circuit) (x : Line) (orders : List (Option OrderRegs)) (f : Net) (c d : List Net) (nets : List Net) (opens : List (Seq Net)) (low : ℕ) → verify_stage (line_pipe x).stmts ≡ None
-    → ArePassed b x (signs_in b x orders f c) nets opens low → ArePassed b x (signs_in b x orders f d) nets opens low
+pub passed_certain : (b : Circuit) (x : Line) (orders : List (Option OrderRegs)) (f : Net) (c d : List Net)
+    (nets : List Net) (opens : List (Seq Net)) (low : ℕ)
+    → verify_stage (line_pipe x).stmts ≡ None → ArePassed b x (signs_in b x orders f c) nets opens low
+    → ArePassed b x (signs_in b x orders f d) nets opens low
 passed_certain b x orders f c d nets opens low e it = record {
   moves_count = it.moves_count;
   moves = it.moves;

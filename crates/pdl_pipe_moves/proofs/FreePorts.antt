@@ -40,7 +40,8 @@ net_signal c (x ∷ xs) (suc k) l = net_signal c xs k (omega (arith, l))
 -- ---- the port of a memory
 
 -- the places of a stage are stages of the line
-pub place_low : (a : Circuit) (x : Line) → IsLineIn a x → LeadsInside (line_pipe x) → (k : ℕ) → k < length (line_pipe x).stages → (i : ℕ) → i < length (places_of (stage_at (line_pipe x) k).next)
+pub place_low : (a : Circuit) (x : Line) → IsLineIn a x → LeadsInside (line_pipe x) → (k : ℕ)
+    → k < length (line_pipe x).stages → (i : ℕ) → i < length (places_of (stage_at (line_pipe x) k).next)
     → slice_index (places_of (stage_at (line_pipe x) k).next) i < length x.moves.now
 place_low a x line inside k low i l =
     let q = (inside k (slice_index (places_of (stage_at (line_pipe x) k).next) i) low (place_leads (stage_at (line_pipe x) k).next i l)).1 in
@@ -83,7 +84,8 @@ module _ (a b : Circuit) (e : Keeps a b) (x : Line) (line : IsLineIn a x) (insid
       keeps (y ∷ ys) t = ap₂ (λ f fs. f ∷ fs) (e.kept y t.0.0) (keeps ys t.1)
 
 -- one memory more
-pub free_more : (c : Circuit) (x : Line) (k : ℕ) (nets : List Net) (n : ℕ) (net : Net) → HaveFree c x k nets n → HasFree c x k n net → HaveFree c x k (nets ++ net ∷ []) (n + 1)
+pub free_more : (c : Circuit) (x : Line) (k : ℕ) (nets : List Net) (n : ℕ) (net : Net) → HaveFree c x k nets n
+    → HasFree c x k n net → HaveFree c x k (nets ++ net ∷ []) (n + 1)
 free_more c x k nets n net h new = record {
   count = length-append nets (net ∷ []) ∙ ap (λ i. i + 1) h.count;
   bits = each_push (IsBit c) nets net h.bits new.bit;

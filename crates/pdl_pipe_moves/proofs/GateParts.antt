@@ -40,7 +40,8 @@ pub bits_keep : (a b : Circuit) (xs : List Net) → Keeps a b → Each (IsBit a)
 bits_keep a b [] e h = tt
 bits_keep a b (x ∷ xs) e h = (bit_keep a b x e h.0, bits_keep a b xs e h.1)
 
-both_for : (a b c : Circuit) (x y z : Net) (f g : Signal) → Keeps a b → IsBitFor a x f → IsBitFor b y g → IsBitFor c z (both (signal b x) (signal b y)) → IsBitFor c z (both f g)
+both_for : (a b c : Circuit) (x y z : Net) (f g : Signal) → Keeps a b → IsBitFor a x f → IsBitFor b y g
+    → IsBitFor c z (both (signal b x) (signal b y)) → IsBitFor c z (both f g)
 both_for a b c x y z f g e h k r = record {
   there = r.there;
   one = r.one;
@@ -48,7 +49,8 @@ both_for a b c x y z f g e h k r = record {
 }
 
 -- and of which the first is
-pub both_after : (a b c : Circuit) (x y z : Net) (f g : Signal) → Keeps a b → IsBitFor b x f → IsBitFor a y g → IsBitFor c z (both (signal b x) (signal b y)) → IsBitFor c z (both f g)
+pub both_after : (a b c : Circuit) (x y z : Net) (f g : Signal) → Keeps a b → IsBitFor b x f → IsBitFor a y g
+    → IsBitFor c z (both (signal b x) (signal b y)) → IsBitFor c z (both f g)
 both_after a b c x y z f g e h k r = record {
   there = r.there;
   one = r.one;
@@ -81,6 +83,8 @@ module _ (a b : Circuit) (e : Keeps a b) where
 -- ---- requests
 
 -- each sized request has its condition of 1 bit, and a net for whether its memory's port is free
-pub are_asked : (c : Circuit) (p : Pipe) (frees : List Net) (qs : List AskNet) → length frees ≡ length p.mems → Each (λ (x : AskNet). IsThere c x.on × IsThere c x.addr) qs → Each (IsSizedAsk p) (map (ask_in c) qs) → Each (IsAsked c frees) qs
+pub are_asked : (c : Circuit) (p : Pipe) (frees : List Net) (qs : List AskNet)
+    → length frees ≡ length p.mems → Each (λ (x : AskNet). IsThere c x.on × IsThere c x.addr) qs
+    → Each (IsSizedAsk p) (map (ask_in c) qs) → Each (IsAsked c frees) qs
 are_asked c p frees [] e h s = tt
 are_asked c p frees (q ∷ qs) e h s = (record { on = (h.0.0, s.0.1); mem = (let l = s.0.0 in omega (arith, l, e)) }, are_asked c p frees qs e h.1 s.1)

@@ -46,12 +46,15 @@ way_as (flat.Forks x first second) f g w h = ap₂ (λ a b. mux_signal (w.vars x
     right false e = e
 
 -- a stage's thread moves by the moves of the stages to which it leads
-pub moves_as : (p : Pipe) (vs : ℕ → View) (gate moves others : ℕ → Signal) (k : ℕ) → ((q : ℕ) → leads_to (stage_at p k).next q ≡ true → moves q ≡ others q) → moves_where p vs gate moves k ≡ moves_where p vs gate others k
+pub moves_as : (p : Pipe) (vs : ℕ → View) (gate moves others : ℕ → Signal) (k : ℕ)
+    → ((q : ℕ) → leads_to (stage_at p k).next q ≡ true → moves q ≡ others q)
+    → moves_where p vs gate moves k ≡ moves_where p vs gate others k
 moves_as p vs gate moves others k h =
     ap (λ f. both (vs k).valid (both (vs k).ended.ready (both (gate k) f))) (way_as (stage_at p k).next (free vs moves) (free vs others) (vs k).ended (λ q l. ap (λ f. mux_signal (vs q).valid f one) (h q l)))
 
 -- and a port is free by those of its places
-pub free_as : (stands : State → PortState → Type 0) (n : ℕ) (reply : Signal) (moves others : ℕ → Signal) (free : Signal) → ((i : ℕ) → i < n → moves i ≡ others i) → FreeLaw stands n reply moves free → FreeLaw stands n reply others free
+pub free_as : (stands : State → PortState → Type 0) (n : ℕ) (reply : Signal) (moves others : ℕ → Signal) (free : Signal)
+    → ((i : ℕ) → i < n → moves i ≡ others i) → FreeLaw stands n reply moves free → FreeLaw stands n reply others free
 free_as stands n reply moves others free h law = record { holds = λ s x r on is q each. law.holds s x r on is q (λ k l. ap (λ (f : Signal). f.value s) (h k l) ∙ each k l) }
 
 -- a stage leads to each of its places
@@ -67,7 +70,9 @@ place_leads (flat.Forks x first second) (suc zero) l = right (first == second) (
     right false e = e
 place_leads (flat.Forks x first second) (suc (suc i)) l = absurd (omega (arith, l))
 
-free_by : (c : Circuit) (x : Line) (moves others : ℕ → Signal) (k m : ℕ) (f : Signal) → ((q : ℕ) → leads_to (stage_at (line_pipe x) k).next q ≡ true → moves q ≡ others q) → IsFreeBy c x moves k m f → IsFreeBy c x others k m f
+free_by : (c : Circuit) (x : Line) (moves others : ℕ → Signal) (k m : ℕ) (f : Signal)
+    → ((q : ℕ) → leads_to (stage_at (line_pipe x) k).next q ≡ true → moves q ≡ others q) → IsFreeBy c x moves k m f
+    → IsFreeBy c x others k m f
 free_by c x moves others k m f h law r q is at some =
     free_as (stands q) (length (places (line_pipe x) r)) (signal c q.reply) (λ i. moves (place_at (line_pipe x) r i)) (λ i. others (place_at (line_pipe x) r i)) f
     (λ i l. h (place_at (line_pipe x) r i) (subst (λ j. leads_to (stage_at (line_pipe x) j).next (place_at (line_pipe x) r i) ≡ true) at (place_leads (stage_at (line_pipe x) r.stage).next i l))) (law r q is at some)
@@ -84,7 +89,8 @@ set_here c xs k x l =
     let n = length_signals c xs in
     ap (λ fs. signal_at fs k) (set_signals c xs k x) ∙ signal_set (signals_in c xs) k (signal c x) k (omega (arith, l, n)) ∙ ap (λ b. if b then signal c x else signal_at (signals_in c xs) k) (eq-eqb k k refl)
 
-pub set_later : (c : Circuit) (xs : List Net) (k : ℕ) (x : Net) (q : ℕ) → k < length xs → k < q → signal_at (signals_in c (slice_set xs k x)) q ≡ signal_at (signals_in c xs) q
+pub set_later : (c : Circuit) (xs : List Net) (k : ℕ) (x : Net) (q : ℕ)
+    → k < length xs → k < q → signal_at (signals_in c (slice_set xs k x)) q ≡ signal_at (signals_in c xs) q
 set_later c xs k x q l m =
     let n = length_signals c xs in
     ap (λ fs. signal_at fs q) (set_signals c xs k x) ∙ signal_set (signals_in c xs) k (signal c x) q (omega (arith, l, n)) ∙ other (q == k) refl
@@ -102,7 +108,8 @@ each_set P (y ∷ ys) (suc k) x h p = (h.0, each_set P ys k x h.1 p)
 -- ---- gates that are on together
 
 -- a thread moves alike by gates that are 1 together
-pub gate_as : (p : Pipe) (vs : ℕ → View) (g h moves : ℕ → Signal) (k : ℕ) → IsOnAs (g k) (h k) → IsOnAs (moves_where p vs g moves k) (moves_where p vs h moves k)
+pub gate_as : (p : Pipe) (vs : ℕ → View) (g h moves : ℕ → Signal) (k : ℕ) → IsOnAs (g k) (h k)
+    → IsOnAs (moves_where p vs g moves k) (moves_where p vs h moves k)
 gate_as p vs g h moves k e =
     let way = way_on (stage_at p k).next (free vs moves) (vs k).ended in
     both_as (vs k).valid (both (vs k).ended.ready (both (g k) way)) (vs k).valid (both (vs k).ended.ready (both (h k) way)) (λ s. refl)

@@ -19,7 +19,9 @@ use Rattle.pdl_pipe_answers.proofs.Bits.{bit_on}
 -- ---- forks
 
 -- a fork goes by a variable of 1 bit
-pub fork_at : (ws : List ℕ) (ss : List Stage) (k x first second : ℕ) → k < length ss → AreForks ws ss → (slice_index_or ss k last_stage).next ≡ flat.Forks x first second → (x < length ws) × (slice_index ws x ≡ 1)
+pub fork_at : (ws : List ℕ) (ss : List Stage) (k x first second : ℕ)
+    → k < length ss → AreForks ws ss → (slice_index_or ss k last_stage).next ≡ flat.Forks x first second
+    → (x < length ws) × (slice_index ws x ≡ 1)
 fork_at ws [] k x first second l h e = absurd (omega (arith, l))
 fork_at ws (s ∷ ss) zero x first second l h e = subst (IsFork ws) e h.0
 fork_at ws (s ∷ ss) (suc k) x first second l h e = fork_at ws ss k x first second (omega (arith, l)) h.1 e
@@ -53,7 +55,8 @@ module _ (p : Pipe) (vs : ℕ → View) (moves : ℕ → Signal) (q j : ℕ) whe
 
 -- ---- lists of arrivals
 
-comes_keep : (a c : Circuit) (p : Pipe) (vs : ℕ → View) (moves : ℕ → Signal) (q j : ℕ) (x : Net) → Keeps a c → Comes a p vs moves q j x → Comes c p vs moves q j x
+comes_keep : (a c : Circuit) (p : Pipe) (vs : ℕ → View) (moves : ℕ → Signal) (q j : ℕ) (x : Net) → Keeps a c
+    → Comes a p vs moves q j x → Comes c p vs moves q j x
 comes_keep a c p vs moves q j x e h = record {
   there = e.there x h.there;
   one = ap (λ (f : Signal). f.width) (e.kept x h.there) ∙ h.one;
@@ -61,14 +64,17 @@ comes_keep a c p vs moves q j x e h = record {
 }
 
 -- threads that may come into a stage stay so in a circuit that keeps their nets
-pub arrivals_keep : (a c : Circuit) (p : Pipe) (vs : ℕ → View) (moves : ℕ → Signal) (q : ℕ) (js : List ℕ) (xs : List Arrival) → Keeps a c → AreArrivals a p vs moves q js xs → AreArrivals c p vs moves q js xs
+pub arrivals_keep : (a c : Circuit) (p : Pipe) (vs : ℕ → View) (moves : ℕ → Signal) (q : ℕ) (js : List ℕ) (xs : List Arrival)
+    → Keeps a c → AreArrivals a p vs moves q js xs → AreArrivals c p vs moves q js xs
 arrivals_keep a c p vs moves q [] [] e h = tt
 arrivals_keep a c p vs moves q [] (x ∷ xs) e h = absurd h
 arrivals_keep a c p vs moves q (j ∷ js) [] e h = absurd h
 arrivals_keep a c p vs moves q (j ∷ js) (x ∷ xs) e h = let here = h.0 in (record { from = here.from; comes = comes_keep a c p vs moves q j x.comes e here.comes }, arrivals_keep a c p vs moves q js xs e h.1)
 
 -- with a thread that may come out of one stage more there is one for each of these stages
-pub arrivals_push : (c : Circuit) (p : Pipe) (vs : ℕ → View) (moves : ℕ → Signal) (q : ℕ) (js : List ℕ) (xs : List Arrival) (j : ℕ) (x : Arrival) → AreArrivals c p vs moves q js xs → IsArrival c p vs moves q j x
+pub arrivals_push : (c : Circuit) (p : Pipe) (vs : ℕ → View) (moves : ℕ → Signal) (q : ℕ) (js : List ℕ)
+    (xs : List Arrival) (j : ℕ) (x : Arrival)
+    → AreArrivals c p vs moves q js xs → IsArrival c p vs moves q j x
     → AreArrivals c p vs moves q (js ++ j ∷ []) (xs ++ x ∷ [])
 arrivals_push c p vs moves q [] [] j x h new = (new, tt)
 arrivals_push c p vs moves q [] (y ∷ ys) j x h new = absurd h
@@ -76,7 +82,8 @@ arrivals_push c p vs moves q (i ∷ is) [] j x h new = absurd h
 arrivals_push c p vs moves q (i ∷ is) (y ∷ ys) j x h new = (h.0, arrivals_push c p vs moves q is ys j x h.1 new)
 
 -- so who comes is the same by other views that end alike
-pub comes_as : (c : Circuit) (p : Pipe) (vs us : ℕ → View) (f g : ℕ → Signal) (q j : ℕ) (x : Net) → (vs j).ended ≡ (us j).ended → f j ≡ g j → Comes c p vs f q j x → Comes c p us g q j x
+pub comes_as : (c : Circuit) (p : Pipe) (vs us : ℕ → View) (f g : ℕ → Signal) (q j : ℕ) (x : Net)
+    → (vs j).ended ≡ (us j).ended → f j ≡ g j → Comes c p vs f q j x → Comes c p us g q j x
 comes_as c p vs us f g q j x v m h = record {
   there = h.there;
   one = h.one;

@@ -23,7 +23,8 @@ use Rattle.pdl_pipe_registers.specs.declared.nets.Item.TheVariants.{Var, Held, T
 use Rattle.pdl_pipe_nexts.specs.Brings.{brought_signal, brought_new, IsArgument, IsBirth}
 
 -- a call brings what its arguments are
-brings_is : (p : Pipe) (what : Option Item) (moves : Signal) (b : Birth) → IsArgument p what → brought_signal what (new_by moves b) ≡ brought_new what b.args
+brings_is : (p : Pipe) (what : Option Item) (moves : Signal) (b : Birth) → IsArgument p what
+    → brought_signal what (new_by moves b) ≡ brought_new what b.args
 brings_is p None moves b h = refl
 brings_is p (Some (Var x)) moves b h = refl
 brings_is p (Some (Held m a)) moves b h = absurd h
@@ -43,16 +44,20 @@ birth_keep a b f x e h = record {
 abbrev pub from_call : Circuit → Signal → Option Item → List BirthNet → ℕ → Signal → Signal
 from_call a m what xs k rest = first_coming (brought_signal what) (map (new_by m) (map (birth_in a) (drop k xs))) rest
 
-from_more : (p : Pipe) (a : Circuit) (m : Signal) (what : Option Item) (xs : List BirthNet) (k : ℕ) (x : BirthNet) (rest : Signal) → IsArgument p what → k < length xs → x ≡ get_or xs k x
-    → from_call a m what xs k rest ≡ mux_signal (both m (signal a x.on)) (brought_new what (signals_in a x.args)) (from_call a m what xs (k + 1) rest)
+from_more : (p : Pipe) (a : Circuit) (m : Signal) (what : Option Item) (xs : List BirthNet) (k : ℕ) (x : BirthNet) (rest : Signal)
+    → IsArgument p what → k < length xs → x ≡ get_or xs k x
+    → from_call a m what xs k rest
+    ≡ mux_signal (both m (signal a x.on)) (brought_new what (signals_in a x.args)) (from_call a m what xs (k + 1) rest)
 from_more p a m what xs k x rest arg l e =
     ap (λ ys. first_coming (brought_signal what) (map (new_by m) (map (birth_in a) ys)) rest) (drop_more xs k x l)
     ∙ ap (λ (y : BirthNet). first_coming (brought_signal what) (map (new_by m) (map (birth_in a) (y ∷ drop (k + 1) xs))) rest) (sym e)
     ∙ ap (λ f. mux_signal (both m (signal a x.on)) f (from_call a m what xs (k + 1) rest)) (brings_is p what m (birth_in a x) arg)
 
 -- one more net
-pub call_made : (p : Pipe) (a b c d : Circuit) (m : Signal) (moves comes value net y : Net) (what : Option Item) (xs : List BirthNet) (k j : ℕ) (x : BirthNet) (rest : Signal)
-    → IsArgument p what → k < length xs → j ≡ k + 1 → x ≡ get_or xs k x → Keeps a b → Extends b c → Extends c d → IsThere a moves → m ≡ signal a moves → IsThere a x.on → NetsThere a x.args → IsThere b net
+pub call_made : (p : Pipe) (a b c d : Circuit) (m : Signal) (moves comes value net y : Net) (what : Option Item)
+    (xs : List BirthNet) (k j : ℕ) (x : BirthNet) (rest : Signal)
+    → IsArgument p what → k < length xs → j ≡ k + 1 → x ≡ get_or xs k x → Keeps a b → Extends b c → Extends c d
+    → IsThere a moves → m ≡ signal a moves → IsThere a x.on → NetsThere a x.args → IsThere b net
     → Means c comes (both (signal b moves) (signal b x.on)) → Means c value (brought_new what (signals_in c x.args))
     → Means d y (mux_signal (signal c comes) (signal c value) (signal c net))
     → signal b net ≡ from_call a m what xs j rest → Means d y (from_call a m what xs k rest)
@@ -71,7 +76,8 @@ call_made p a b c d m moves comes value net y what xs k j x rest arg l next e ab
 
 -- ---- the calls of stages
 
-picked_append : (of : Comer → Signal) (xs ys : List Comer) (rest : Signal) → first_coming of (xs ++ ys) rest ≡ first_coming of xs (first_coming of ys rest)
+picked_append : (of : Comer → Signal) (xs ys : List Comer) (rest : Signal)
+    → first_coming of (xs ++ ys) rest ≡ first_coming of xs (first_coming of ys rest)
 picked_append of [] ys rest = refl
 picked_append of (x ∷ xs) ys rest = ap (mux_signal x.comes (of x)) (picked_append of xs ys rest)
 
@@ -80,8 +86,10 @@ abbrev pub from_stage : (ℕ → View) → (ℕ → Signal) → Option Item → 
 from_stage vs moves what i k rest = first_coming (brought_signal what) (new_from vs moves i k) rest
 
 -- what the calls of the last i + 1 stages bring: those of the first of these, else those of the rest
-pub stage_more : (vs : ℕ → View) (moves : ℕ → Signal) (what : Option Item) (i j k q : ℕ) (rest : Signal) → j ≡ i + 1 → q ≡ k + 1
-    → from_stage vs moves what j k rest ≡ first_coming (brought_signal what) (map (new_by (moves k)) (vs k).ended.births) (from_stage vs moves what i q rest)
+pub stage_more : (vs : ℕ → View) (moves : ℕ → Signal) (what : Option Item) (i j k q : ℕ) (rest : Signal)
+    → j ≡ i + 1 → q ≡ k + 1
+    → from_stage vs moves what j k rest
+    ≡ first_coming (brought_signal what) (map (new_by (moves k)) (vs k).ended.births) (from_stage vs moves what i q rest)
 stage_more vs moves what i j k q rest e f =
     let one_more : j ≡ suc i = omega (arith, e) in
     let next : suc k ≡ q = omega (arith, f) in
@@ -92,6 +100,8 @@ stage_more vs moves what i j k q rest e f =
 -- ---- the calls of a stage are there
 
 -- the nets of a stage's calls are there, with an argument of its width for each parameter
-pub births_of : (c : Circuit) (f : Form) (xs : List BirthNet) → Each (λ (x : BirthNet). IsThere c x.on × NetsThere c x.args) xs → Each (IsSizedBirth f.pipe f.widths) (map (birth_in c) xs) → Each (IsBirth c f) xs
+pub births_of : (c : Circuit) (f : Form) (xs : List BirthNet)
+    → Each (λ (x : BirthNet). IsThere c x.on × NetsThere c x.args) xs
+    → Each (IsSizedBirth f.pipe f.widths) (map (birth_in c) xs) → Each (IsBirth c f) xs
 births_of c f [] h k = tt
 births_of c f (x ∷ xs) h k = (record { on = h.0.0; on_one = k.0.0; args = h.0.1; wide = k.0.1 }, births_of c f xs h.1 k.1)

@@ -20,14 +20,18 @@ use Rattle.pdl_pipe_nexts.specs.Brings.{brought_signal, brought_out}
 -- ---- arrivals by their places
 
 -- there are as many threads that may come as stages out of which they may
-pub arrivals_count : (c : Circuit) (p : Pipe) (vs : ℕ → View) (moves : ℕ → Signal) (q : ℕ) (js : List ℕ) (xs : List Arrival) → AreArrivals c p vs moves q js xs → length xs ≡ length js
+pub arrivals_count : (c : Circuit) (p : Pipe) (vs : ℕ → View) (moves : ℕ → Signal) (q : ℕ) (js : List ℕ) (xs : List Arrival)
+    → AreArrivals c p vs moves q js xs → length xs ≡ length js
 arrivals_count c p vs moves q [] [] h = refl
 arrivals_count c p vs moves q [] (x ∷ xs) h = absurd h
 arrivals_count c p vs moves q (j ∷ js) [] h = absurd h
 arrivals_count c p vs moves q (j ∷ js) (x ∷ xs) h = ap suc (arrivals_count c p vs moves q js xs h.1)
 
 -- the k-th thread that may come does so out of the k-th of these stages
-pub arrival_nth : (c : Circuit) (p : Pipe) (vs : ℕ → View) (moves : ℕ → Signal) (q : ℕ) (js : List ℕ) (xs : List Arrival) (k : ℕ) (x : Arrival) → k < length xs → x ≡ get_or xs k x → AreArrivals c p vs moves q js xs → IsArrival c p vs moves q (slice_index js k) x
+pub arrival_nth : (c : Circuit) (p : Pipe) (vs : ℕ → View) (moves : ℕ → Signal) (q : ℕ) (js : List ℕ)
+    (xs : List Arrival) (k : ℕ) (x : Arrival)
+    → k < length xs → x ≡ get_or xs k x → AreArrivals c p vs moves q js xs
+    → IsArrival c p vs moves q (slice_index js k) x
 arrival_nth c p vs moves q [] [] k x l e h = absurd (omega (arith, l))
 arrival_nth c p vs moves q [] (y ∷ ys) k x l e h = absurd h
 arrival_nth c p vs moves q (j ∷ js) [] k x l e h = absurd h
@@ -47,13 +51,15 @@ pub out_as : (v u : View) (what : Option Item) → v.ended ≡ u.ended → v.tic
 out_as v u None e t = refl
 out_as v u (Some i) e t = item_as v u i e t
 
-comer_out : (p : Pipe) (vs : ℕ → View) (moves : ℕ → Signal) (q k : ℕ) (i : Item) → comer_item i (out_of p vs moves q k) ≡ ended_item (vs k) i
+comer_out : (p : Pipe) (vs : ℕ → View) (moves : ℕ → Signal) (q k : ℕ) (i : Item)
+    → comer_item i (out_of p vs moves q k) ≡ ended_item (vs k) i
 comer_out p vs moves q k (Var x) = refl
 comer_out p vs moves q k (Held m a) = refl
 comer_out p vs moves q k (Ticket m) = refl
 comer_out p vs moves q k (Guess i) = refl
 
-brought_is : (p : Pipe) (vs : ℕ → View) (moves : ℕ → Signal) (q k : ℕ) (what : Option Item) → brought_signal what (out_of p vs moves q k) ≡ brought_out what (vs k)
+brought_is : (p : Pipe) (vs : ℕ → View) (moves : ℕ → Signal) (q k : ℕ) (what : Option Item)
+    → brought_signal what (out_of p vs moves q k) ≡ brought_out what (vs k)
 brought_is p vs moves q k None = refl
 brought_is p vs moves q k (Some i) = comer_out p vs moves q k i
 
@@ -64,8 +70,12 @@ abbrev pub from_way : Pipe → (ℕ → View) → (ℕ → Signal) → ℕ → L
 from_way p vs moves q js what k rest = first_coming (brought_signal what) (map (out_of p vs moves q) (drop k js)) rest
 
 -- what threads out of the k-th of these stages and later ones bring, by a choice before that of the later ones
-pub way_more : (p : Pipe) (vs : ℕ → View) (moves : ℕ → Signal) (q : ℕ) (js : List ℕ) (what : Option Item) (k : ℕ) (comes value net y rest : Signal) → k < length js → y ≡ mux_signal comes value net
-    → ((s : State) → is_on comes s ≡ is_on (out_of p vs moves q (slice_index js k)).comes s) → value ≡ brought_out what (vs (slice_index js k)) → ValueAs net (from_way p vs moves q js what (k + 1) rest) → ValueAs y (from_way p vs moves q js what k rest)
+pub way_more : (p : Pipe) (vs : ℕ → View) (moves : ℕ → Signal) (q : ℕ) (js : List ℕ) (what : Option Item) (k : ℕ)
+    (comes value net y rest : Signal)
+    → k < length js → y ≡ mux_signal comes value net
+    → ((s : State) → is_on comes s ≡ is_on (out_of p vs moves q (slice_index js k)).comes s)
+    → value ≡ brought_out what (vs (slice_index js k)) → ValueAs net (from_way p vs moves q js what (k + 1) rest)
+    → ValueAs y (from_way p vs moves q js what k rest)
 way_more p vs moves q js what k comes value net y rest l is on brings h = λ s.
     let j = slice_index js k in
     let o = out_of p vs moves q j in
@@ -85,5 +95,6 @@ pub none_left : (p : Pipe) (vs : ℕ → View) (moves : ℕ → Signal) (n : ℕ
 none_left p vs moves n e = ap (λ m. new_from vs moves m 0) e ∙ sym (append-nil (new_from vs moves (length p.stages) 0))
 
 -- into another stage than stage 0 come just the threads out of the stages that lead to it
-pub after_first : (p : Pipe) (vs : ℕ → View) (moves : ℕ → Signal) (q : ℕ) → (q == 0) ≡ false → map (out_of p vs moves q) (ways p q) ≡ comers p vs moves q
+pub after_first : (p : Pipe) (vs : ℕ → View) (moves : ℕ → Signal) (q : ℕ)
+    → (q == 0) ≡ false → map (out_of p vs moves q) (ways p q) ≡ comers p vs moves q
 after_first p vs moves q e = sym (ap (λ b. (if b then new_from vs moves (length p.stages) 0 else []) ++ map (out_of p vs moves q) (ways p q)) e)

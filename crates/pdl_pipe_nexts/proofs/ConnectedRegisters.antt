@@ -27,7 +27,8 @@ use Rattle.pdl_pipe_nexts.proofs.NextsMade.{kept_signal_keep}
 
 -- ---- ranges of registers
 
-but_wider : (o p : Own) (a b : Circuit) → ((r : ℕ) → Outside p.from p.to r → Outside o.from o.to r) → ((m : ℕ) → Outside p.first p.last m → Outside o.first o.last m) → ExtendsBut o a b → ExtendsBut p a b
+but_wider : (o p : Own) (a b : Circuit) → ((r : ℕ) → Outside p.from p.to r → Outside o.from o.to r)
+    → ((m : ℕ) → Outside p.first p.last m → Outside o.first o.last m) → ExtendsBut o a b → ExtendsBut p a b
 but_wider o p a b f g x = record {
   there = x.there;
   kept = x.kept;
@@ -48,7 +49,8 @@ outside_wider a b c d l h r (inl k) = inl (omega (arith, k, l))
 outside_wider a b c d l h r (inr k) = inr (omega (arith, k, h))
 
 -- registers from a lower one on up to a higher one
-but_more : (a b : Circuit) (low high from to : ℕ) → low ≤ from → to ≤ high → ExtendsBut (regs_of from to) a b → ExtendsBut (regs_of low high) a b
+but_more : (a b : Circuit) (low high from to : ℕ)
+    → low ≤ from → to ≤ high → ExtendsBut (regs_of from to) a b → ExtendsBut (regs_of low high) a b
 but_more a b low high from to l h x = but_wider (regs_of from to) (regs_of low high) a b (outside_wider low high from to l h) (λ m k. k) x
 
 but_one : (a b : Circuit) (low high r : ℕ) → low ≤ r → r < high → ExtendsBut (one_reg r) a b → ExtendsBut (regs_of low high) a b
@@ -67,8 +69,10 @@ pub record SetSoFar (a b : Circuit) (s : StageNets) (nets : List Net) (i : ℕ) 
   pub set : (j : ℕ) → j < i → next_signal b (s.regs.valid + j) ≡ signal_at (signals_in a nets) j
 
 -- with one register told what it takes next, the first i + 1 registers of a stage take their nets
-pub set_more : (a b c : Circuit) (s : StageNets) (nets : List Net) (i : ℕ) (net : Net) → i < length nets → length nets ≡ suc (length s.regs.items) → NetsThere a nets → FitsRegs a s nets → signal b net ≡ signal_at (signals_in b nets) i
-    → next_signal c (s.regs.valid + i) ≡ signal b net → ExtendsBut (one_reg (s.regs.valid + i)) b c → SetSoFar a b s nets i → SetSoFar a c s nets (i + 1)
+pub set_more : (a b c : Circuit) (s : StageNets) (nets : List Net) (i : ℕ) (net : Net)
+    → i < length nets → length nets ≡ suc (length s.regs.items) → NetsThere a nets → FitsRegs a s nets
+    → signal b net ≡ signal_at (signals_in b nets) i → next_signal c (s.regs.valid + i) ≡ signal b net
+    → ExtendsBut (one_reg (s.regs.valid + i)) b c → SetSoFar a b s nets i → SetSoFar a c s nets (i + 1)
 set_more a b c s nets i net low count there fits is new x h =
     let own = regs_of s.regs.valid (end_of s.regs) in
     let e = but_keeps own a b h.extends in
@@ -81,7 +85,8 @@ set_more a b c s nets i net low count there fits is new x h =
 
 -- ---- one stage more
 
-nexts_keep : (a b c : Circuit) (x : Line) (k : ℕ) (s : StageNets) (nets : List Net) → Keeps b c → AreNexts a b x k s nets → AreNexts a c x k s nets
+nexts_keep : (a b c : Circuit) (x : Line) (k : ℕ) (s : StageNets) (nets : List Net) → Keeps b c
+    → AreNexts a b x k s nets → AreNexts a c x k s nets
 nexts_keep a b c x k s nets e h =
     let same = signals_keep b c nets e h.there in
     record {
@@ -102,7 +107,9 @@ abbrev pub FirstNexts : Circuit → Circuit → Line → List (Seq Net) → ℕ 
 FirstNexts a c x xs n = (k : ℕ) (s : StageNets) (nets : Seq Net) → k < n → IsAt x.stages.now k s → get_or xs k nets ≡ nets → AreNexts a c x k s nets
 
 -- with nets for the registers of one stage more, the first n + 1 stages have theirs
-pub first_more : (a b c : Circuit) (x : Line) (xs : List (Seq Net)) (new : Seq Net) (n : ℕ) → n ≡ length xs → Keeps b c → FirstNexts a b x xs n → ((s : StageNets) → IsAt x.stages.now n s → AreNexts a c x n s new) → FirstNexts a c x (xs ++ new ∷ []) (n + 1)
+pub first_more : (a b c : Circuit) (x : Line) (xs : List (Seq Net)) (new : Seq Net) (n : ℕ)
+    → n ≡ length xs → Keeps b c → FirstNexts a b x xs n
+    → ((s : StageNets) → IsAt x.stages.now n s → AreNexts a c x n s new) → FirstNexts a c x (xs ++ new ∷ []) (n + 1)
 first_more a b c x xs new n e keeps old here k s nets l is at =
     up_to (λ j. (t : StageNets) (ys : Seq Net) → IsAt x.stages.now j t → get_or (xs ++ new ∷ []) j ys ≡ ys → AreNexts a c x j t ys) n
     (λ j q t ys it z. nexts_keep a b c x j t ys keeps (old j t ys q it (sym (get_or_append_left xs (new ∷ []) ys j (omega (arith, q, e))) ∙ z)))
@@ -111,7 +118,9 @@ first_more a b c x xs new n e keeps old here k s nets l is at =
 -- ---- registers fit their nets
 
 -- the nets for the registers of a stage have the widths of these registers
-pub fits_regs : (a b : Circuit) (x : Line) (k : ℕ) (s : StageNets) (nets : List Net) (nexts : List Signal) → nexts ≡ signals_in a x.shared.now.next → IsStageNow b (line_form x) nexts k s → AreNexts a b x k s nets → FitsRegs b s nets
+pub fits_regs : (a b : Circuit) (x : Line) (k : ℕ) (s : StageNets) (nets : List Net) (nexts : List Signal)
+    → nexts ≡ signals_in a x.shared.now.next → IsStageNow b (line_form x) nexts k s → AreNexts a b x k s nets
+    → FitsRegs b s nets
 unfolding HasReg
 fits_regs a b x k s nets nexts e now h zero l = let q = now.registers.valid in
     subst (λ r. (r < length b.regs) × ((signal_at (signals_in b nets) 0).width ≡ reg_width b r)) (let z : s.regs.valid ≡ s.regs.valid + 0 = omega arith in z) (q.has, h.valid_wide ∙ sym q.width)
@@ -123,7 +132,8 @@ fits_regs a b x k s nets nexts e now h (suc i) l =
     (q.has, h.kept_wide i low ∙ ap (λ fs. Rattle.pdl_pipe_registers.specs.Items.item_width (line_form x) fs (item_at s.regs.items i)) (sym e) ∙ sym q.width)
 
 -- so they take what they should
-pub takes_now : (a b d : Circuit) (x : Line) (k : ℕ) (s : StageNets) (nets : List Net) → AreNexts a b x k s nets → AreSet b d s nets → TakesNext a d x k s
+pub takes_now : (a b d : Circuit) (x : Line) (k : ℕ) (s : StageNets) (nets : List Net) → AreNexts a b x k s nets
+    → AreSet b d s nets → TakesNext a d x k s
 takes_now a b d x k s nets h set =
     let n = h.count in
     record {
@@ -132,7 +142,9 @@ takes_now a b d x k s nets h set =
     }
 
 -- and still do where others are told
-takes_keep : (a b d : Circuit) (x : Line) (k : ℕ) (s : StageNets) (nexts : List Signal) (low high : ℕ) → IsStageNow b (line_form x) nexts k s → end_of s.regs ≤ low → ExtendsBut (regs_of low high) b d → TakesNext a b x k s → TakesNext a d x k s
+takes_keep : (a b d : Circuit) (x : Line) (k : ℕ) (s : StageNets) (nexts : List Signal) (low high : ℕ)
+    → IsStageNow b (line_form x) nexts k s → end_of s.regs ≤ low → ExtendsBut (regs_of low high) b d
+    → TakesNext a b x k s → TakesNext a d x k s
 takes_keep a b d x k s nexts low high now l e h = record {
   valid = λ z. ap (λ (f : Signal). f.value z) (e.nexts s.regs.valid now.registers.valid.has (inl (omega (arith, l)))) ∙ h.valid z;
   kept = λ i q z. ap (λ (f : Signal). f.value z) (e.nexts (reg_of s.regs i) (now.registers.kept i q).has (inl (omega (arith, l, q)))) ∙ h.kept i q z;
@@ -145,8 +157,11 @@ pub record ConnectedSoFar (a b : Circuit) (x : Line) (n : ℕ) : Type 0 where
   pub takes : (k : ℕ) (s : StageNets) → k < n → IsAt x.stages.now k s → TakesNext a b x k s
 
 -- with the registers of one stage more connected, those of the first n + 1 take what they should
-pub connected_more : (a b d : Circuit) (x : Line) (n : ℕ) (t : StageNets) (nexts : List Signal) → n < length x.stages.now → IsAt x.stages.now n t → AreApart 0 (length a.regs) x.stages.now → ((k : ℕ) (s : StageNets) → k < length x.stages.now → IsAt x.stages.now k s → IsStageNow b (line_form x) nexts k s)
-    → ExtendsBut (regs_of t.regs.valid (end_of t.regs)) b d → TakesNext a d x n t → ConnectedSoFar a b x n → ConnectedSoFar a d x (n + 1)
+pub connected_more : (a b d : Circuit) (x : Line) (n : ℕ) (t : StageNets) (nexts : List Signal)
+    → n < length x.stages.now → IsAt x.stages.now n t → AreApart 0 (length a.regs) x.stages.now
+    → ((k : ℕ) (s : StageNets) → k < length x.stages.now → IsAt x.stages.now k s → IsStageNow b (line_form x) nexts k s)
+    → ExtendsBut (regs_of t.regs.valid (end_of t.regs)) b d → TakesNext a d x n t → ConnectedSoFar a b x n
+    → ConnectedSoFar a d x (n + 1)
 connected_more a b d x n t nexts l is apart now e new h = record {
   extends = λ low at.
       but_trans (regs_of low (length a.regs)) a b d (h.extends low at)
@@ -160,13 +175,15 @@ connected_more a b d x n t nexts l is apart now e new h = record {
 -- ---- a net by its place
 
 -- the i-th of some nets that are there is there
-pub net_there : (c : Circuit) (xs : List Net) (i : ℕ) (x : Net) → i < length xs → x ≡ get_or xs i x → NetsThere c xs → Rattle.pdl_net.specs.Meaning.IsThere c x
+pub net_there : (c : Circuit) (xs : List Net) (i : ℕ) (x : Net)
+    → i < length xs → x ≡ get_or xs i x → NetsThere c xs → Rattle.pdl_net.specs.Meaning.IsThere c x
 net_there c [] i x l e h = absurd (omega (arith, l))
 net_there c (y ∷ ys) zero x l e h = subst (Rattle.pdl_net.specs.Meaning.IsThere c) (sym e) h.0
 net_there c (y ∷ ys) (suc i) x l e h = net_there c ys i x (omega (arith, l)) e h.1
 
 -- the i-th of some nets means the i-th of their signals
-pub net_is : (c : Circuit) (xs : List Net) (i : ℕ) (x : Net) → i < length xs → x ≡ get_or xs i x → signal c x ≡ signal_at (signals_in c xs) i
+pub net_is : (c : Circuit) (xs : List Net) (i : ℕ) (x : Net)
+    → i < length xs → x ≡ get_or xs i x → signal c x ≡ signal_at (signals_in c xs) i
 net_is c [] i x l e = absurd (omega (arith, l))
 net_is c (y ∷ ys) zero x l e = ap (signal c) e
 net_is c (y ∷ ys) (suc i) x l e = net_is c ys i x (omega (arith, l)) e
@@ -174,7 +191,9 @@ net_is c (y ∷ ys) (suc i) x l e = net_is c ys i x (omega (arith, l)) e
 -- ---- by the nets as they stood before
 
 -- nets for the registers of a stage are such too by the line's nets as they stood in an earlier circuit
-pub nexts_as : (a b c : Circuit) (x : Line) (k : ℕ) (s : StageNets) (nets : List Net) → Keeps a b → IsLineIn a x → IsStageNow a (line_form x) (signals_in a x.shared.now.next) k s → AreNexts b c x k s nets → AreNexts a c x k s nets
+pub nexts_as : (a b c : Circuit) (x : Line) (k : ℕ) (s : StageNets) (nets : List Net) → Keeps a b → IsLineIn a x
+    → IsStageNow a (line_form x) (signals_in a x.shared.now.next) k s → AreNexts b c x k s nets
+    → AreNexts a c x k s nets
 nexts_as a b c x k s nets e line now h =
     let f = line_form x in
     let nexts = signals_in a x.shared.now.next in

@@ -50,7 +50,8 @@ bits_keep a b e (x ∷ xs) h = ((e.there x h.0.0, ap (λ (f : Signal). f.width) 
 pub stage_now : (c : Circuit) (f : Form) (nexts : List Signal) (k : ℕ) (s : StageNets) → IsStageNow c f nexts k s → IsEnded c f nexts s
 stage_now c f nexts k s h = record { walk = h.walk; tickets = h.nets.tickets; tickets_wide = h.nets.tickets_wide }
 
-stage_keep : (a b : Circuit) (f : Form) (nexts : List Signal) (k : ℕ) (s : StageNets) → Keeps a b → IsStageNow a f nexts k s → IsStageNow b f nexts k s
+stage_keep : (a b : Circuit) (f : Form) (nexts : List Signal) (k : ℕ) (s : StageNets) → Keeps a b
+    → IsStageNow a f nexts k s → IsStageNow b f nexts k s
 stage_keep a b f nexts k s e h = record {
   registers = registers_keep a b f nexts k s.regs e h.registers;
   own = h.own;
@@ -98,7 +99,8 @@ module _ (a b : Circuit) (x : Line) (e : Keeps a b) (h : IsLineIn a x) where
 
 -- ---- all stages look as they did
 
-map_same : {X : Type 0} (f g : StageNets → X) (ss : List StageNets) → ((k : ℕ) (s : StageNets) → k < length ss → IsAt ss k s → f s ≡ g s) → map f ss ≡ map g ss
+map_same : {X : Type 0} (f g : StageNets → X) (ss : List StageNets)
+    → ((k : ℕ) (s : StageNets) → k < length ss → IsAt ss k s → f s ≡ g s) → map f ss ≡ map g ss
 map_same f g [] h = refl
 map_same f g (s ∷ ss) h = ap₂ (λ y ys. y ∷ ys) (h 0 s (omega arith) refl) (map_same f g ss (λ k t l is. h (suc k) t (omega (arith, l)) is))
 
@@ -106,7 +108,8 @@ abbrev view_from : ℕ → List Signal → List Signal → Parts → Parts → V
 view_from r vars tickets begun ended = record { valid = reg_signal 1 r; kept = λ x. signal_at vars x; tickets = λ m. signal_at tickets m; begun = walk_of begun; ended = walk_of ended }
 
 -- a stage of a line has the same view in a circuit that keeps its nets
-pub view_same : (a b : Circuit) (f : Form) (nexts : List Signal) (k : ℕ) (s : StageNets) → Keeps a b → IsStageNow a f nexts k s → view_in b s ≡ view_in a s
+pub view_same : (a b : Circuit) (f : Form) (nexts : List Signal) (k : ℕ) (s : StageNets) → Keeps a b
+    → IsStageNow a f nexts k s → view_in b s ≡ view_in a s
 view_same a b f nexts k s e h =
     ap₂ (λ (vars tickets : List Signal). view_from s.regs.valid vars tickets (begun_parts b s) (parts_in b s.end)) (signals_keep a b s.vars e h.nets.vars) (signals_keep a b s.tickets e h.nets.tickets)
     ∙ ap₂ (λ (begun ended : Parts). view_from s.regs.valid (signals_in a s.vars) (signals_in a s.tickets) begun ended) (begun_parts_keep a b e f nexts s h.nets) (parts_keep a b e s.end h.walk.there)

@@ -76,7 +76,8 @@ module _ (c : Circuit) (f : Form) (nexts : List Signal) (k : ℕ) (s : StageNets
       at (Guess j) e = e
 
 -- what an item of a stage holds where no thread comes is the same in a circuit that keeps its nets
-pub kept_signal_keep : (a b : Circuit) (f : Form) (nexts : List Signal) (k : ℕ) (s : StageNets) (i : ℕ) (j : Item) → Keeps a b → i < length s.regs.items → IsStageNow a f nexts k s → kept_signal b s i j ≡ kept_signal a s i j
+pub kept_signal_keep : (a b : Circuit) (f : Form) (nexts : List Signal) (k : ℕ) (s : StageNets) (i : ℕ) (j : Item)
+    → Keeps a b → i < length s.regs.items → IsStageNow a f nexts k s → kept_signal b s i j ≡ kept_signal a s i j
 kept_signal_keep a b f nexts k s i (Var x) e l h = ap (λ fs. signal_at fs x) (signals_keep a b s.begun e h.nets.begun)
 kept_signal_keep a b f nexts k s i (Held m n) e l h = e.kept (RegNet (reg_of s.regs i)) (h.registers.kept i l).there
 kept_signal_keep a b f nexts k s i (Ticket m) e l h = e.kept (RegNet (reg_of s.regs i)) (h.registers.kept i l).there
@@ -93,8 +94,9 @@ pub record NextsSoFar (a c : Circuit) (x : Line) (k : ℕ) (s : StageNets) (nets
   pub kept : (j : ℕ) → j < i → ValueAs (signal_at (signals_in c nets) (suc j)) (arriving a x k (Some (item_at s.regs.items j)) (kept_signal a s j (item_at s.regs.items j)))
 
 -- whether it holds a thread
-pub nexts_first : (a b c : Circuit) (x : Line) (k : ℕ) (s : StageNets) (stays valid : Net) → Keeps a b → IsLineIn a x → IsThere c valid → (signal c valid).width ≡ 1 → signal b stays ≡ staying b x k s → ValueAs (signal c valid) (arriving b x k None (signal b stays))
-    → NextsSoFar a c x k s (valid ∷ []) 0
+pub nexts_first : (a b c : Circuit) (x : Line) (k : ℕ) (s : StageNets) (stays valid : Net) → Keeps a b → IsLineIn a x
+    → IsThere c valid → (signal c valid).width ≡ 1 → signal b stays ≡ staying b x k s
+    → ValueAs (signal c valid) (arriving b x k None (signal b stays)) → NextsSoFar a c x k s (valid ∷ []) 0
 nexts_first a b c x k s stays valid e line there wide rest h = record {
   there = (there, tt);
   count = refl;
@@ -105,8 +107,11 @@ nexts_first a b c x k s stays valid e line there wide rest h = record {
 }
 
 -- one item more
-pub nexts_more : (a b c : Circuit) (x : Line) (k : ℕ) (s : StageNets) (nets : List Net) (i : ℕ) (rest net : Net) → Keeps a b → Keeps b c → IsLineIn a x → IsStageNow a (line_form x) (signals_in a x.shared.now.next) k s → i < length s.regs.items
-    → signal b rest ≡ kept_signal b s i (item_at s.regs.items i) → IsThere c net → (signal c net).width ≡ (signal b rest).width → ValueAs (signal c net) (arriving b x k (Some (item_at s.regs.items i)) (signal b rest))
+pub nexts_more : (a b c : Circuit) (x : Line) (k : ℕ) (s : StageNets) (nets : List Net) (i : ℕ) (rest net : Net)
+    → Keeps a b → Keeps b c → IsLineIn a x → IsStageNow a (line_form x) (signals_in a x.shared.now.next) k s
+    → i < length s.regs.items → signal b rest ≡ kept_signal b s i (item_at s.regs.items i) → IsThere c net
+    → (signal c net).width ≡ (signal b rest).width
+    → ValueAs (signal c net) (arriving b x k (Some (item_at s.regs.items i)) (signal b rest))
     → NextsSoFar a b x k s nets i → NextsSoFar a c x k s (nets ++ net ∷ []) (i + 1)
 nexts_more a b c x k s nets i rest net ab bc line now low is there wide h so =
     let item = item_at s.regs.items i in
@@ -131,7 +136,8 @@ nexts_more a b c x k s nets i rest net ab bc line now low is there wide h so =
     }
 
 -- all of them
-pub nexts_all : (a c : Circuit) (x : Line) (k : ℕ) (s : StageNets) (nets : List Net) (i : ℕ) → i ≡ length s.regs.items → NextsSoFar a c x k s nets i → AreNexts a c x k s nets
+pub nexts_all : (a c : Circuit) (x : Line) (k : ℕ) (s : StageNets) (nets : List Net) (i : ℕ)
+    → i ≡ length s.regs.items → NextsSoFar a c x k s nets i → AreNexts a c x k s nets
 nexts_all a c x k s nets i e h = record {
   there = h.there;
   count = h.count ∙ ap suc e;

@@ -30,7 +30,8 @@ use Rattle.pdl_pipe_walk.proofs.Lists.{some_before, some_last}
 -- ---- ports added one after another
 
 -- ports that are added after others are added together with them
-pub ports_trans : (a b c : Circuit) (front back : List Port) → ExtendsPorts a b front → ExtendsPorts b c back → ExtendsPorts a c (front ++ back)
+pub ports_trans : (a b c : Circuit) (front back : List Port) → ExtendsPorts a b front → ExtendsPorts b c back
+    → ExtendsPorts a c (front ++ back)
 ports_trans a b c front back x y = record {
   there = λ n h. y.there n (x.there n h);
   kept = λ n h. y.kept n (x.there n h) ∙ x.kept n h;
@@ -47,7 +48,8 @@ ports_trans a b c front back x y = record {
 }
 
 -- the number of inputs with those of more ports
-pub inputs_more : (a b : Circuit) (added : List Port) → b.ports ≡ a.ports ++ added → length (inputs_of b) ≡ length (inputs_of a) + length (filter_map port_input added)
+pub inputs_more : (a b : Circuit) (added : List Port)
+    → b.ports ≡ a.ports ++ added → length (inputs_of b) ≡ length (inputs_of a) + length (filter_map port_input added)
 inputs_more a b added e = ap (λ ps. length (filter_map port_input ps)) e ∙ ap length (filter_map-append port_input a.ports added) ∙ length-append (inputs_of a) (filter_map port_input added)
 
 -- the two inputs of a delayed memory
@@ -62,13 +64,16 @@ module _ (a b d : Circuit) (m : r_mem.Mem) (x y : List ℕ) (first : x ≡ codes
   word_means i h = subst (λ n. Means d i (input_signal m.width n)) (inputs_more a b (input_port x 1 ∷ []) one.ports) h
 
 -- the input ports of the first i + 1 memories are those of the first i and those of the next one
-pub mems_more : (ms : List r_mem.Mem) (i : ℕ) (d : r_mem.Mem) → i < length ms → flat_map mem_ports (take (i + 1) ms) ≡ flat_map mem_ports (take i ms) ++ mem_ports (get_or ms i d)
+pub mems_more : (ms : List r_mem.Mem) (i : ℕ) (d : r_mem.Mem)
+    → i < length ms → flat_map mem_ports (take (i + 1) ms) ≡ flat_map mem_ports (take i ms) ++ mem_ports (get_or ms i d)
 mems_more ms i d h =
     ap (flat_map mem_ports) (take_more ms i d h) ∙ flat_map-append mem_ports (take i ms) (get_or ms i d ∷ [])
     ∙ ap (λ ps. flat_map mem_ports (take i ms) ++ ps) (append-nil (mem_ports (get_or ms i d)))
 
 -- those of the memories are the ports that the law of a netlist asks for
-ports_as : (k : ℕ) (ms : List r_mem.Mem) (names : ℕ → List ℕ) → ((i j : ℕ) → j ≡ k + i → i < length ms → names j ≡ get_or (mem_names ms) i []) → flat_map mem_ports ms ≡ reply_ports names k (mems_view ms)
+ports_as : (k : ℕ) (ms : List r_mem.Mem) (names : ℕ → List ℕ)
+    → ((i j : ℕ) → j ≡ k + i → i < length ms → names j ≡ get_or (mem_names ms) i [])
+    → flat_map mem_ports ms ≡ reply_ports names k (mems_view ms)
 ports_as k [] names h = refl
 ports_as k (m ∷ ms) names h =
     let e : m.name ≡ names k = sym (h 0 k (omega arith) (omega arith)) in
@@ -76,7 +81,9 @@ ports_as k (m ∷ ms) names h =
     (ports_as (suc k) ms names (λ i j u l. h (suc i) j (omega (arith, u)) (omega (arith, l))))
 
 -- all of them, with the names of the memories
-pub ports_all : (f : Form) (ms : List r_mem.Mem) (i : ℕ) (names : ℕ → List ℕ) → mems_view ms ≡ f.pipe.mems → mem_names ms ≡ f.names → length ms ≤ i → AreNames f.names names → flat_map mem_ports (take i ms) ≡ reply_ports names 0 f.pipe.mems
+pub ports_all : (f : Form) (ms : List r_mem.Mem) (i : ℕ) (names : ℕ → List ℕ)
+    → mems_view ms ≡ f.pipe.mems → mem_names ms ≡ f.names → length ms ≤ i → AreNames f.names names
+    → flat_map mem_ports (take i ms) ≡ reply_ports names 0 f.pipe.mems
 ports_all f ms i names same named past told =
     let count = name_count f.names f.pipe ms named same in
     let many = mem_count f.pipe ms same in
@@ -100,7 +107,9 @@ place_more p i l = by (mem_at p i).delayed refl
     by false e = count_by_more_no (λ (x : Mem). x.delayed) p.mems i plain_mem l e ∙ (omega arith)
 
 -- two inputs more for a delayed memory
-pub inputs_place : (p : Pipe) (a b : Circuit) (m : r_mem.Mem) (i : ℕ) → i < length p.mems → mem_view m ≡ mem_at p i → b.ports ≡ a.ports ++ mem_ports m → length (inputs_of a) ≡ 2 * reply_place p i → length (inputs_of b) ≡ 2 * reply_place p (i + 1)
+pub inputs_place : (p : Pipe) (a b : Circuit) (m : r_mem.Mem) (i : ℕ)
+    → i < length p.mems → mem_view m ≡ mem_at p i → b.ports ≡ a.ports ++ mem_ports m
+    → length (inputs_of a) ≡ 2 * reply_place p i → length (inputs_of b) ≡ 2 * reply_place p (i + 1)
 inputs_place p a b m i l is e h =
     let more = place_more p i l in
     let long = inputs_more a b (mem_ports m) e in
@@ -127,7 +136,8 @@ replies_kept a b p xs n k h = record {
 }
 
 -- with what comes from one memory more, the first n + 1 have theirs
-pub replies_more : (a b : Circuit) (p : Pipe) (xs : List (Option PortInput)) (o : Option PortInput) (n : ℕ) → Keeps a b → IsReplyOf b (mem_at p n) (2 * reply_place p n) o → AreReplies a p xs n → AreReplies b p (xs ++ o ∷ []) (n + 1)
+pub replies_more : (a b : Circuit) (p : Pipe) (xs : List (Option PortInput)) (o : Option PortInput) (n : ℕ) → Keeps a b
+    → IsReplyOf b (mem_at p n) (2 * reply_place p n) o → AreReplies a p xs n → AreReplies b p (xs ++ o ∷ []) (n + 1)
 replies_more a b p xs o n k new h = record {
   count = length-append xs (o ∷ []) ∙ ap (λ i. i + 1) h.count;
   each = below_more (λ m. IsReplyOf b (mem_at p m) (2 * reply_place p m) (some_at (xs ++ o ∷ []) m)) n

@@ -35,7 +35,9 @@ stages_there : (c : Circuit) (k : ℕ) (ss : List StageNets) → AreThereStages 
 stages_there c k [] t = tt
 stages_there c k (s ∷ ss) t = (t.0, (t.1, stages_there c (suc k) ss t.2))
 
-stages_show : (c : Circuit) (k : ℕ) (ss : List StageNets) (vs : ℕ → View) (moves : ℕ → Signal) → ((i j : ℕ) → j ≡ k + i → i < length ss → (vs j).valid ≡ valid_in c ss i) → ((i j : ℕ) → j ≡ k + i → i < length ss → moves j ≡ moves_in c ss i)
+stages_show : (c : Circuit) (k : ℕ) (ss : List StageNets) (vs : ℕ → View) (moves : ℕ → Signal)
+    → ((i j : ℕ) → j ≡ k + i → i < length ss → (vs j).valid ≡ valid_in c ss i)
+    → ((i j : ℕ) → j ≡ k + i → i < length ss → moves j ≡ moves_in c ss i)
     → shown_by c (stages_outs k ss) ≡ stages_shown vs moves (length ss) k
 stages_show c k [] vs moves v m = refl
 stages_show c k (s ∷ ss) vs moves v m =
@@ -49,19 +51,25 @@ one_there : (c : Circuit) (name : List ℕ) (n : Option LockNets) → IsThereCom
 one_there c name None t = tt
 one_there c name (Some n) t = (t.0, (t.1, (t.2, tt)))
 
-one_shows : (c : Circuit) (name : List ℕ) (n : Option LockNets) (b : Bool) → is_some n ≡ b → shown_by c (commit_outs name n) ≡ (if b then commit_shown name (commit_of c n) else [])
+one_shows : (c : Circuit) (name : List ℕ) (n : Option LockNets) (b : Bool)
+    → is_some n ≡ b → shown_by c (commit_outs name n) ≡ (if b then commit_shown name (commit_of c n) else [])
 one_shows c name None true e = absurd (cc e)
 one_shows c name None false e = refl
 one_shows c name (Some n) true e = refl
 one_shows c name (Some n) false e = absurd (cc e)
 
-commits_there : (c : Circuit) (names : List (List ℕ)) (ns : List (Option LockNets)) → ((i : ℕ) → i < length ns → IsThereCommit c (get_or ns i None)) → OutsThere c (commits_outs names ns)
+commits_there : (c : Circuit) (names : List (List ℕ)) (ns : List (Option LockNets))
+    → ((i : ℕ) → i < length ns → IsThereCommit c (get_or ns i None)) → OutsThere c (commits_outs names ns)
 commits_there c [] ns t = tt
 commits_there c (a ∷ names) [] t = tt
 commits_there c (a ∷ names) (n ∷ ns) t = outs_more c (commit_outs a n) (commits_outs names ns) (one_there c a n (t 0 (omega arith))) (commits_there c names ns (λ i l. t (suc i) (omega (arith, l))))
 
-commits_show : (c : Circuit) (k : ℕ) (names : List (List ℕ)) (ms : List Mem) (ns : List (Option LockNets)) (name : ℕ → List ℕ) (commits : ℕ → Commit) → length names ≡ length ms → length ns ≡ length ms
-    → ((i j : ℕ) → j ≡ k + i → i < length ms → name j ≡ get_or names i []) → ((i j : ℕ) → j ≡ k + i → commits j ≡ commit_of c (get_or ns i None)) → ((i : ℕ) → i < length ms → is_some (get_or ns i None) ≡ has_lock (get_or ms i plain_mem).lock)
+commits_show : (c : Circuit) (k : ℕ) (names : List (List ℕ)) (ms : List Mem) (ns : List (Option LockNets))
+    (name : ℕ → List ℕ) (commits : ℕ → Commit)
+    → length names ≡ length ms → length ns ≡ length ms
+    → ((i j : ℕ) → j ≡ k + i → i < length ms → name j ≡ get_or names i [])
+    → ((i j : ℕ) → j ≡ k + i → commits j ≡ commit_of c (get_or ns i None))
+    → ((i : ℕ) → i < length ms → is_some (get_or ns i None) ≡ has_lock (get_or ms i plain_mem).lock)
     → shown_by c (commits_outs names ns) ≡ commits_shown name commits k ms
 commits_show c k [] [] ns name commits a b e f g = refl
 commits_show c k (x ∷ names) [] ns name commits a b e f g = absurd (omega (arith, a))
@@ -81,19 +89,25 @@ request_there : (c : Circuit) (name : List ℕ) (r : Option RequestNets) → IsT
 request_there c name None t = tt
 request_there c name (Some r) t = (t.0, (t.1, tt))
 
-request_shows : (c : Circuit) (name : List ℕ) (r : Option RequestNets) (b : Bool) → is_some r ≡ b → shown_by c (request_outs name r) ≡ (if b then request_shown name (ask_of c r) else [])
+request_shows : (c : Circuit) (name : List ℕ) (r : Option RequestNets) (b : Bool)
+    → is_some r ≡ b → shown_by c (request_outs name r) ≡ (if b then request_shown name (ask_of c r) else [])
 request_shows c name None true e = absurd (cc e)
 request_shows c name None false e = refl
 request_shows c name (Some r) true e = refl
 request_shows c name (Some r) false e = absurd (cc e)
 
-requests_there : (c : Circuit) (names : List (List ℕ)) (rs : List (Option RequestNets)) → ((i : ℕ) → i < length rs → IsThereRequest c (get_or rs i None)) → OutsThere c (requests_outs names rs)
+requests_there : (c : Circuit) (names : List (List ℕ)) (rs : List (Option RequestNets))
+    → ((i : ℕ) → i < length rs → IsThereRequest c (get_or rs i None)) → OutsThere c (requests_outs names rs)
 requests_there c [] rs t = tt
 requests_there c (a ∷ names) [] t = tt
 requests_there c (a ∷ names) (r ∷ rs) t = outs_more c (request_outs a r) (requests_outs names rs) (request_there c a r (t 0 (omega arith))) (requests_there c names rs (λ i l. t (suc i) (omega (arith, l))))
 
-requests_show : (c : Circuit) (k : ℕ) (names : List (List ℕ)) (ms : List Mem) (rs : List (Option RequestNets)) (name : ℕ → List ℕ) (asks : ℕ → Request) → length names ≡ length ms → length rs ≡ length ms
-    → ((i j : ℕ) → j ≡ k + i → i < length ms → name j ≡ get_or names i []) → ((i j : ℕ) → j ≡ k + i → asks j ≡ ask_of c (get_or rs i None)) → ((i : ℕ) → i < length ms → is_some (get_or rs i None) ≡ (get_or ms i plain_mem).delayed)
+requests_show : (c : Circuit) (k : ℕ) (names : List (List ℕ)) (ms : List Mem) (rs : List (Option RequestNets))
+    (name : ℕ → List ℕ) (asks : ℕ → Request)
+    → length names ≡ length ms → length rs ≡ length ms
+    → ((i j : ℕ) → j ≡ k + i → i < length ms → name j ≡ get_or names i [])
+    → ((i j : ℕ) → j ≡ k + i → asks j ≡ ask_of c (get_or rs i None))
+    → ((i : ℕ) → i < length ms → is_some (get_or rs i None) ≡ (get_or ms i plain_mem).delayed)
     → shown_by c (requests_outs names rs) ≡ requests_shown name asks k ms
 requests_show c k [] [] rs name asks a b e f g = refl
 requests_show c k (x ∷ names) [] rs name asks a b e f g = absurd (omega (arith, a))

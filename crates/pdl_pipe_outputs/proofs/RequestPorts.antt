@@ -21,7 +21,8 @@ use Rattle.pdl_pipe_outputs.specs.ToldOutputs.{IsThereRequest, AreAsked}
 use Rattle.pdl_pipe_outputs.specs.Inputs.{AreReplies, told_inputs, input_where, AreWhereRead, AreReadDelayed}
 
 -- what the stages ask is there to be shown
-pub are_asked : (a c : Circuit) (p : Pipe) (es : List StageEnd) (rs : List (Option RequestNets)) → AreRequests a c p es rs (length p.mems) → AreAsked c p rs
+pub are_asked : (a c : Circuit) (p : Pipe) (es : List StageEnd) (rs : List (Option RequestNets))
+    → AreRequests a c p es rs (length p.mems) → AreAsked c p rs
 are_asked a c p es rs h = record {
   count = h.count;
   delayed = λ m l. (h.each m l).some;

@@ -59,14 +59,18 @@ past_all : (fs : List Signal) (ws : List ℕ) (x : ℕ) → widths_of fs ≡ ws 
 past_all fs ws x e l = get_or_past fs x no_signal (let n = length_widths fs in let m = ap length e in omega (arith, l, n, m))
 
 -- a stage ends with none there
-pub past_ended : (c : Circuit) (f : Form) (nexts : List Signal) (e : Earlier) (x j : ℕ) → length f.widths ≤ x → IsEarlier c f nexts e → j < earlier_count e → ended_item (earlier_views c e j) (Var x) ≡ no_signal
+pub past_ended : (c : Circuit) (f : Form) (nexts : List Signal) (e : Earlier) (x j : ℕ)
+    → length f.widths ≤ x → IsEarlier c f nexts e → j < earlier_count e
+    → ended_item (earlier_views c e j) (Var x) ≡ no_signal
 past_ended c f nexts e x j l h low =
     let some = some_stage e.stages.now j low in
     let s = some.0 in
     let end = each_at (IsEnded c f nexts) e.stages.now j s low some.1 h.ended in
     ap (λ v. ended_item v (Var x)) (view_at c e.stages.now j s low some.1) ∙ past_all (signals_in c s.end.vars.items) f.widths x end.walk.sized.vars l
 
-past_settled : (f : Form) (us : ℕ → View) (k x : ℕ) → IsTypedForm f → length f.widths ≤ x → ((j : ℕ) → j < k → ended_item (us j) (Var x) ≡ no_signal) → IsSettled f.pipe us k (Var x) no_signal
+past_settled : (f : Form) (us : ℕ → View) (k x : ℕ) → IsTypedForm f
+    → length f.widths ≤ x → ((j : ℕ) → j < k → ended_item (us j) (Var x) ≡ no_signal)
+    → IsSettled f.pipe us k (Var x) no_signal
 past_settled f us zero x t l past = (let p = t.params in omega (arith, p, l), (0, none_const))
 past_settled f us (suc k) x t l past = record {
   constant = (0, 0, none_const);
@@ -75,7 +79,9 @@ past_settled f us (suc k) x t l past = record {
 }
 
 -- a location that isn't listed isn't held
-unlisted : (p : Pipe) (us : ℕ → View) (k m a : ℕ) (hs : List HeldNet) → held_from p k m a ≡ true → is_listed hs m a ≡ false → Each (λ j. HasAllHeld p k (us j) hs) (ways p k) → IsSettled p us k (Held m a) zero_bit
+unlisted : (p : Pipe) (us : ℕ → View) (k m a : ℕ) (hs : List HeldNet)
+    → held_from p k m a ≡ true → is_listed hs m a ≡ false → Each (λ j. HasAllHeld p k (us j) hs) (ways p k)
+    → IsSettled p us k (Held m a) zero_bit
 unlisted p us zero m a hs need un all = refl
 unlisted p us (suc k) m a hs need un all = record {
   constant = (1, 0, refl);

@@ -58,26 +58,30 @@ end_keep a b f nexts s e h = record {
 }
 
 -- the ends of stages stay in a circuit that keeps their nets
-pub ends_keep : (a b : Circuit) (f : Form) (nexts : List Signal) (ss : List StageNets) → Keeps a b → AreEnded a f nexts ss → AreEnded b f nexts ss
+pub ends_keep : (a b : Circuit) (f : Form) (nexts : List Signal) (ss : List StageNets) → Keeps a b
+    → AreEnded a f nexts ss → AreEnded b f nexts ss
 ends_keep a b f nexts ss e h = each_map (IsEnded a f nexts) (IsEnded b f nexts) ss (λ s q. end_keep a b f nexts s e q) h
 
 earlier_keep : (a b : Circuit) (f : Form) (nexts : List Signal) (x : Earlier) → Keeps a b → IsEarlier a f nexts x → IsEarlier b f nexts x
 earlier_keep a b f nexts x e h = record { ended = ends_keep a b f nexts x.stages.now e h.ended; ways = h.ways; low = h.low; count = h.count }
 
 -- by the nets of the next tickets, as they stand in the later circuit
-pub earlier_now : (a b : Circuit) (f : Form) (s : Shared) (x : Earlier) → Keeps a b → IsShared a f s → IsEarlier a f (signals_in a s.next) x → IsEarlier b f (signals_in b s.next) x
+pub earlier_now : (a b : Circuit) (f : Form) (s : Shared) (x : Earlier) → Keeps a b → IsShared a f s
+    → IsEarlier a f (signals_in a s.next) x → IsEarlier b f (signals_in b s.next) x
 earlier_now a b f s x e h k = subst (λ fs. IsEarlier b f fs x) (sym (next_keep a b f s e h)) (earlier_keep a b f (signals_in a s.next) x e k)
 
 -- ---- what stages end with
 
-ended_keep : (a b : Circuit) (f : Form) (nexts : List Signal) (s : StageNets) (i : Item) → Keeps a b → IsEnded a f nexts s → ended_item (view_in b s) i ≡ ended_item (view_in a s) i
+ended_keep : (a b : Circuit) (f : Form) (nexts : List Signal) (s : StageNets) (i : Item) → Keeps a b
+    → IsEnded a f nexts s → ended_item (view_in b s) i ≡ ended_item (view_in a s) i
 ended_keep a b f nexts s (Var x) e h = ap (λ (w : Walk). w.vars x) (ap walk_of (parts_keep a b e s.end h.walk.there))
 ended_keep a b f nexts s (Held m n) e h = ap (λ (w : Walk). w.held m n) (ap walk_of (parts_keep a b e s.end h.walk.there))
 ended_keep a b f nexts s (Ticket m) e h = ap (λ fs. signal_at fs m) (signals_keep a b s.tickets e h.tickets)
 ended_keep a b f nexts s (Guess i) e h = ap (λ (w : Walk). signal_at w.guess i) (ap walk_of (parts_keep a b e s.end h.walk.there))
 
 -- each of some stages ends with the same for an item in a circuit that keeps its nets
-pub ends_same : (a b : Circuit) (f : Form) (nexts : List Signal) (ss : List StageNets) (i : Item) → Keeps a b → AreEnded a f nexts ss → (j : ℕ) → j < length ss → ended_item (views_in b ss j) i ≡ ended_item (views_in a ss j) i
+pub ends_same : (a b : Circuit) (f : Form) (nexts : List Signal) (ss : List StageNets) (i : Item) → Keeps a b
+    → AreEnded a f nexts ss → (j : ℕ) → j < length ss → ended_item (views_in b ss j) i ≡ ended_item (views_in a ss j) i
 ends_same a b f nexts ss i e h j l =
     let some = some_stage ss j l in
     let s = some.0 in
@@ -104,7 +108,8 @@ each_both P Q R [] f h k = tt
 each_both P Q R (j ∷ js) f h k = (f j h.0 k.0, each_both P Q R js f h.1 k.1)
 
 -- what an item is settled by, by other views that end alike
-pub settled_as : (p : Pipe) (us vs : ℕ → View) (k : ℕ) (i : Item) (g : Signal) → ((j : ℕ) → j < k → ended_item (vs j) i ≡ ended_item (us j) i) → IsSettled p us k i g → IsSettled p vs k i g
+pub settled_as : (p : Pipe) (us vs : ℕ → View) (k : ℕ) (i : Item) (g : Signal)
+    → ((j : ℕ) → j < k → ended_item (vs j) i ≡ ended_item (us j) i) → IsSettled p us k i g → IsSettled p vs k i g
 settled_as p us vs zero i g same h = h
 settled_as p us vs (suc k) i g same h = record {
   constant = h.constant;
@@ -113,12 +118,15 @@ settled_as p us vs (suc k) i g same h = record {
 }
 
 -- a register was added or none, with a weaker demand on the signal where none was
-pub may_as : (c : Circuit) (r t : Kept) (i : Item) (w v : ℕ) (net : Net) (S Settled : Signal → Type 0) → ((g : Signal) → S g → Settled g) → MayAdd c r t i w v net S → MayAdd c r t i w v net Settled
+pub may_as : (c : Circuit) (r t : Kept) (i : Item) (w v : ℕ) (net : Net) (S Settled : Signal → Type 0)
+    → ((g : Signal) → S g → Settled g) → MayAdd c r t i w v net S → MayAdd c r t i w v net Settled
 may_as c r t i w v net S Settled k (inl m) = inl record { regs = m.regs; net_is = m.net_is; register = m.register }
 may_as c r t i w v net S Settled k (inr m) = inr record { regs = m.regs; there = m.there; wide = m.wide; settled = k (signal c net) m.settled }
 
 -- an item begins with a register or none, with a weaker demand on its signal where it has none
-pub begin_as : (c : Circuit) (f : Form) (nexts : List Signal) (k : ℕ) (needed : Bool) (r t : Kept) (i : Item) (net : Net) (S Settled : Signal → Type 0) → ((g : Signal) → S g → Settled g) → MayBegin c f nexts k needed r t i net S
+pub begin_as : (c : Circuit) (f : Form) (nexts : List Signal) (k : ℕ) (needed : Bool) (r t : Kept) (i : Item)
+    (net : Net) (S Settled : Signal → Type 0)
+    → ((g : Signal) → S g → Settled g) → MayBegin c f nexts k needed r t i net S
     → MayBegin c f nexts k needed r t i net Settled
 begin_as c f nexts k needed r t i net S Settled weaker h = record {
   may = may_as c r t i (item_width f nexts i) (first_value f.pipe k i) net (λ g. needed ≡ true → S g) (λ g. needed ≡ true → Settled g) (λ g q e. weaker g (q e)) h.may;
@@ -126,7 +134,8 @@ begin_as c f nexts k needed r t i net S Settled weaker h = record {
 }
 
 -- and what needs no register, where the variables have the same signals
-twin_as : (p : Pipe) (us vs : ℕ → View) (k i x : ℕ) → ((i : Item) (j : ℕ) → j < k → ended_item (vs j) i ≡ ended_item (us j) i) → IsTwin p us k i x → IsTwin p vs k i x
+twin_as : (p : Pipe) (us vs : ℕ → View) (k i x : ℕ)
+    → ((i : Item) (j : ℕ) → j < k → ended_item (vs j) i ≡ ended_item (us j) i) → IsTwin p us k i x → IsTwin p vs k i x
 twin_as p us vs k i x same h = record {
   later = h.later;
   some = h.some;
@@ -136,7 +145,9 @@ twin_as p us vs k i x same h = record {
 }
 
 -- what needs no register needs none by views that end alike, where the variables' signals are the same
-pub spared_as : (p : Pipe) (us vs : ℕ → View) (k : ℕ) (fs gs : List Signal) (i : Item) (g : Signal) → ((i : Item) (j : ℕ) → j < k → ended_item (vs j) i ≡ ended_item (us j) i) → gs ≡ fs → IsSpared p us k fs i g → IsSpared p vs k gs i g
+pub spared_as : (p : Pipe) (us vs : ℕ → View) (k : ℕ) (fs gs : List Signal) (i : Item) (g : Signal)
+    → ((i : Item) (j : ℕ) → j < k → ended_item (vs j) i ≡ ended_item (us j) i) → gs ≡ fs → IsSpared p us k fs i g
+    → IsSpared p vs k gs i g
 spared_as p us vs k fs gs (Var x) g same e h = settled_as p us vs k (Var x) g (same (Var x)) h
 spared_as p us vs k fs gs (Held m a) g same e h = settled_as p us vs k (Held m a) g (same (Held m a)) h
 spared_as p us vs k fs gs (Ticket m) g same e h = settled_as p us vs k (Ticket m) g (same (Ticket m)) h
@@ -144,7 +155,8 @@ spared_as p us vs k fs gs (Guess i) g same e (inl h) = inl (settled_as p us vs k
 spared_as p us vs k fs gs (Guess i) g same e (inr h) = inr record { x = h.x; twin = twin_as p us vs k i h.x same h.twin; is = h.is ∙ ap (λ l. signal_at l h.x) (sym e) }
 
 -- what is settled needs none
-settled_spared : (p : Pipe) (us : ℕ → View) (k : ℕ) (fs : List Signal) (i : Item) (g : Signal) → IsSettled p us k i g → IsSpared p us k fs i g
+settled_spared : (p : Pipe) (us : ℕ → View) (k : ℕ) (fs : List Signal) (i : Item) (g : Signal) → IsSettled p us k i g
+    → IsSpared p us k fs i g
 settled_spared p us k fs (Var x) g h = h
 settled_spared p us k fs (Held m a) g h = h
 settled_spared p us k fs (Ticket m) g h = h
@@ -162,7 +174,8 @@ widths_more [] g = refl
 widths_more (f ∷ fs) g = ap (λ l. f.width ∷ l) (widths_more fs g)
 
 -- a net before the one that was added means what it meant
-pub signal_old : (c : Circuit) (xs : List Net) (x : Net) (i : ℕ) → i < length xs → signal_at (signals_in c (xs ++ x ∷ [])) i ≡ signal_at (signals_in c xs) i
+pub signal_old : (c : Circuit) (xs : List Net) (x : Net) (i : ℕ)
+    → i < length xs → signal_at (signals_in c (xs ++ x ∷ [])) i ≡ signal_at (signals_in c xs) i
 signal_old c xs x i l =
     ap (λ fs. signal_at fs i) (signals_more c xs x)
     ∙ get_or_append_left (signals_in c xs) (signal c x ∷ []) no_signal i (let e = length_signals c xs in omega (arith, l, e))

@@ -43,7 +43,8 @@ listed_more (x ∷ xs) h m v = ap (λ b. is_it x m v || b) (listed_more xs h m v
     at true b c = refl
     at false b c = refl
 
-held_old : (c : Circuit) (xs : List HeldNet) (h : HeldNet) (m v : ℕ) → is_listed xs m v ≡ true → held_of (map (held_in c) (xs ++ h ∷ [])) m v ≡ held_of (map (held_in c) xs) m v
+held_old : (c : Circuit) (xs : List HeldNet) (h : HeldNet) (m v : ℕ)
+    → is_listed xs m v ≡ true → held_of (map (held_in c) (xs ++ h ∷ [])) m v ≡ held_of (map (held_in c) xs) m v
 held_old c [] h m v e = absurd (false≢true e)
 held_old c (x ∷ xs) h m v e = at (is_it x m v) e (λ q. held_old c xs h m v q)
   where
@@ -52,7 +53,8 @@ held_old c (x ∷ xs) h m v e = at (is_it x m v) e (λ q. held_old c xs h m v q)
     at true q f = refl
     at false q f = f q
 
-held_new : (c : Circuit) (xs : List HeldNet) (h : HeldNet) (m v : ℕ) → is_listed xs m v ≡ false → is_it h m v ≡ true → held_of (map (held_in c) (xs ++ h ∷ [])) m v ≡ signal c h.net
+held_new : (c : Circuit) (xs : List HeldNet) (h : HeldNet) (m v : ℕ)
+    → is_listed xs m v ≡ false → is_it h m v ≡ true → held_of (map (held_in c) (xs ++ h ∷ [])) m v ≡ signal c h.net
 held_new c [] h m v e i = ap (λ b. if b then signal c h.net else zero_bit) i
 held_new c (x ∷ xs) h m v e i = at (is_it x m v) e (λ q. held_new c xs h m v q i)
   where
@@ -85,12 +87,14 @@ module _ (f : Form) (nexts : List Signal) (us : ℕ → View) (k : ℕ) (b c : C
   there_now : Each (λ (h : HeldNet). IsThere b h.net) hs → Each (λ (h : HeldNet). IsThere c h.net) hs
   there_now t = each_weaker (λ (x : HeldNet). IsThere b x.net) (λ x. IsThere c x.net) (λ x q. e.there x.net q) hs t
 
-one_now : (b c : Circuit) → Keeps b c → (xs : List HeldNet) → Each (λ (x : HeldNet). IsThere b x.net) xs → Each (λ (x : HeldNet). (signal b x.net).width ≡ 1) xs → Each (λ (x : HeldNet). (signal c x.net).width ≡ 1) xs
+one_now : (b c : Circuit) → Keeps b c → (xs : List HeldNet) → Each (λ (x : HeldNet). IsThere b x.net) xs
+    → Each (λ (x : HeldNet). (signal b x.net).width ≡ 1) xs → Each (λ (x : HeldNet). (signal c x.net).width ≡ 1) xs
 one_now b c e [] t o = tt
 one_now b c e (x ∷ xs) t o = (ap (λ (g : Signal). g.width) (e.kept x.net t.0) ∙ o.0, one_now b c e xs t.1 o.1)
 
 -- the listed locations stay while the circuit grows and registers are added to the stage's
-pub helds_keep : (f : Form) (nexts : List Signal) (us : ℕ → View) (k : ℕ) (b c : Circuit) (r t : Kept) (hs : List HeldNet) → Keeps b c → IsLonger r t → AreHeldBegun b f nexts us k r hs → AreHeldBegun c f nexts us k t hs
+pub helds_keep : (f : Form) (nexts : List Signal) (us : ℕ → View) (k : ℕ) (b c : Circuit) (r t : Kept) (hs : List HeldNet)
+    → Keeps b c → IsLonger r t → AreHeldBegun b f nexts us k r hs → AreHeldBegun c f nexts us k t hs
 helds_keep f nexts us k b c r t hs e l h = record {
   there = there_now f nexts us k b c e hs h.there;
   one = one_now b c e hs h.there h.one;
@@ -99,7 +103,9 @@ helds_keep f nexts us k b c r t hs e l h = record {
 }
 
 -- by other views that end alike
-pub adds_as : (c : Circuit) (f : Form) (nexts : List Signal) (us vs : ℕ → View) (k m v : ℕ) (r t : Kept) (hs xs : List HeldNet) → ((j : ℕ) → j < k → ended_item (vs j) (Held m v) ≡ ended_item (us j) (Held m v)) → AddsHeld c f nexts us k m v r hs t xs → AddsHeld c f nexts vs k m v r hs t xs
+pub adds_as : (c : Circuit) (f : Form) (nexts : List Signal) (us vs : ℕ → View) (k m v : ℕ) (r t : Kept) (hs xs : List HeldNet)
+    → ((j : ℕ) → j < k → ended_item (vs j) (Held m v) ≡ ended_item (us j) (Held m v))
+    → AddsHeld c f nexts us k m v r hs t xs → AddsHeld c f nexts vs k m v r hs t xs
 adds_as c f nexts us vs k m v r t hs xs same (inl q) = inl q
 adds_as c f nexts us vs k m v r t hs xs same (inr q) =
     inr (q.0, may_as c r t (Held m v) 1 0 q.0 (IsSettled f.pipe us k (Held m v)) (IsSettled f.pipe vs k (Held m v)) (λ g z. settled_as f.pipe us vs k (Held m v) g same z) q.1, q.2, q.3)
@@ -115,7 +121,9 @@ pub record HeldsSoFar (a c : Circuit) (f : Form) (nexts : List Signal) (us : ℕ
   pub begun : AreHeldBegun c f nexts us k r hs
   pub still : AreStillListed hs0 hs
 
-helds_first : (a : Circuit) (f : Form) (nexts : List Signal) (us : ℕ → View) (k : ℕ) (r : Kept) (hs : List HeldNet) → Extends a a → IsFrame a f nexts k r → AreOwn f k r → AreHeldBegun a f nexts us k r hs → HeldsSoFar a a f nexts us k r hs r hs
+helds_first : (a : Circuit) (f : Form) (nexts : List Signal) (us : ℕ → View) (k : ℕ) (r : Kept) (hs : List HeldNet)
+    → Extends a a → IsFrame a f nexts k r → AreOwn f k r → AreHeldBegun a f nexts us k r hs
+    → HeldsSoFar a a f nexts us k r hs r hs
 helds_first a f nexts us k r hs x frame own begun = record { extends = x; frame = frame; own = own; longer = longer_none r; begun = begun; still = λ m v q. q }
 
 own_held : (f : Form) (k m v : ℕ) → 0 < k → IsOwn f k (Held m v)
@@ -199,7 +207,9 @@ abbrev pub AreSeen : Form → ℕ → List HeldNet → List HeldNet → Type 0
 AreSeen f k items hs = (m v : ℕ) → held_from f.pipe k m v ≡ true → is_listed items m v ≡ true → is_listed hs m v ≡ true
 
 -- with a location more that is listed where it is asked for, all that are asked for are listed
-pub seen_more : (f : Form) (k : ℕ) (items hs xs : List HeldNet) (h : HeldNet) → AreStillListed hs xs → (held_from f.pipe k h.mem h.var ≡ true → is_listed xs h.mem h.var ≡ true) → AreSeen f k items hs → AreSeen f k (items ++ h ∷ []) xs
+pub seen_more : (f : Form) (k : ℕ) (items hs xs : List HeldNet) (h : HeldNet) → AreStillListed hs xs
+    → (held_from f.pipe k h.mem h.var ≡ true → is_listed xs h.mem h.var ≡ true) → AreSeen f k items hs
+    → AreSeen f k (items ++ h ∷ []) xs
 seen_more f k items hs xs h still new seen m v need q = at (or_cases (is_listed items m v) (is_it h m v) (sym (listed_more items h m v) ∙ q))
   where
     at : (is_listed items m v ≡ true) ⊎ ((is_listed items m v ≡ false) × (is_it h m v ≡ true)) → is_listed xs m v ≡ true
@@ -209,7 +219,8 @@ seen_more f k items hs xs h still new seen m v need q = at (or_cases (is_listed 
         subst (λ n. is_listed xs m n ≡ true) i.1 (subst (λ n. is_listed xs n h.var ≡ true) i.0 (new (subst (λ n. held_from f.pipe k n h.var ≡ true) (sym i.0) (subst (λ n. held_from f.pipe k m n ≡ true) (sym i.1) need))))
 
 -- so what isn't listed isn't held there
-pub all_seen : (c : Circuit) (f : Form) (k : ℕ) (items hs : List HeldNet) (m v : ℕ) → AreSeen f k items hs → held_from f.pipe k m v ≡ true → is_listed hs m v ≡ false → held_of (map (held_in c) items) m v ≡ zero_bit
+pub all_seen : (c : Circuit) (f : Form) (k : ℕ) (items hs : List HeldNet) (m v : ℕ) → AreSeen f k items hs
+    → held_from f.pipe k m v ≡ true → is_listed hs m v ≡ false → held_of (map (held_in c) items) m v ≡ zero_bit
 all_seen c f k items hs m v seen need un = at (is_listed items m v) refl
   where
     at : (b : Bool) → is_listed items m v ≡ b → held_of (map (held_in c) items) m v ≡ zero_bit
@@ -217,7 +228,8 @@ all_seen c f k items hs m v seen need un = at (is_listed items m v) refl
     at false q = held_none c items m v q
 
 -- a list with more locations still has all that a thread out of a stage may hold
-pub all_held_more : (p : Rattle.pdl_semantics.specs.Flat.Pipe) (k : ℕ) (u : View) (hs xs : List HeldNet) → AreStillListed hs xs → HasAllHeld p k u hs → HasAllHeld p k u xs
+pub all_held_more : (p : Rattle.pdl_semantics.specs.Flat.Pipe) (k : ℕ) (u : View) (hs xs : List HeldNet)
+    → AreStillListed hs xs → HasAllHeld p k u hs → HasAllHeld p k u xs
 all_held_more p k u hs xs still h m v need un = h m v need (at (is_listed hs m v) refl)
   where
     at : (b : Bool) → is_listed hs m v ≡ b → is_listed hs m v ≡ false
@@ -225,7 +237,9 @@ all_held_more p k u hs xs still h m v need un = h m v need (at (is_listed hs m v
     at false q = q
 
 -- by other views that end alike
-pub helds_as : (c : Circuit) (f : Form) (nexts : List Signal) (us vs : ℕ → View) (k : ℕ) (r : Kept) (hs : List HeldNet) → ((m v j : ℕ) → j < k → ended_item (vs j) (Held m v) ≡ ended_item (us j) (Held m v)) → AreHeldBegun c f nexts us k r hs → AreHeldBegun c f nexts vs k r hs
+pub helds_as : (c : Circuit) (f : Form) (nexts : List Signal) (us vs : ℕ → View) (k : ℕ) (r : Kept) (hs : List HeldNet)
+    → ((m v j : ℕ) → j < k → ended_item (vs j) (Held m v) ≡ ended_item (us j) (Held m v))
+    → AreHeldBegun c f nexts us k r hs → AreHeldBegun c f nexts vs k r hs
 helds_as c f nexts us vs k r hs same h = record {
   there = h.there;
   one = h.one;
@@ -236,8 +250,10 @@ helds_none : (c : Circuit) (f : Form) (nexts : List Signal) (us : ℕ → View) 
 helds_none c f nexts us k r = record { there = tt; one = tt; begun = λ m v q. absurd (false≢true q) }
 
 -- what is listed on the way from one circuit to the next
-pub helds_then : (a b c : Circuit) (f : Form) (nexts : List Signal) (us : ℕ → View) (k : ℕ) (r0 : Kept) (hs0 : List HeldNet) (r t : Kept) (hs xs : List HeldNet) → HeldsSoFar a b f nexts us k r0 hs0 r hs → Extends b c → IsFrame c f nexts k t → AreOwn f k t → IsLonger r t → AreHeldBegun c f nexts us k t xs → AreStillListed hs xs
-    → HeldsSoFar a c f nexts us k r0 hs0 t xs
+pub helds_then : (a b c : Circuit) (f : Form) (nexts : List Signal) (us : ℕ → View) (k : ℕ) (r0 : Kept)
+    (hs0 : List HeldNet) (r t : Kept) (hs xs : List HeldNet)
+    → HeldsSoFar a b f nexts us k r0 hs0 r hs → Extends b c → IsFrame c f nexts k t → AreOwn f k t → IsLonger r t
+    → AreHeldBegun c f nexts us k t xs → AreStillListed hs xs → HeldsSoFar a c f nexts us k r0 hs0 t xs
 helds_then a b c f nexts us k r0 hs0 r t hs xs so bc frame own longer begun still = record {
   extends = extends_trans a b c so.extends bc;
   frame = frame;

@@ -19,7 +19,8 @@ each_map P Q [] f h = tt
 each_map P Q (x ∷ xs) f h = (f x h.0, each_map P Q xs f h.1)
 
 -- the k-th view is that of the k-th stage
-pub view_at : (c : Circuit) (ss : List StageNets) (k : ℕ) (s : StageNets) → k < length ss → get_or ss k s ≡ s → views_in c ss k ≡ view_in c s
+pub view_at : (c : Circuit) (ss : List StageNets) (k : ℕ) (s : StageNets)
+    → k < length ss → get_or ss k s ≡ s → views_in c ss k ≡ view_in c s
 view_at c ss k s l e = get_or-map (view_in c) ss k s no_view l ∙ ap (view_in c) e
 
 -- below or at it

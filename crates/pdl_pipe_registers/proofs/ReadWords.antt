@@ -42,7 +42,8 @@ binds_wide f x m t = λ r is e. (reads_word f m r t is).wide ∙ ap (slice_index
 
 -- ---- no answer comes for a variable that isn't there
 
-gets_none : (f : Form) (k x m : ℕ) (o : Option Reading) → length f.widths ≤ x → ((r : Reading) → o ≡ Some r → r.var < length f.widths) → gets_one f.pipe k x o ≡ false
+gets_none : (f : Form) (k x m : ℕ) (o : Option Reading)
+    → length f.widths ≤ x → ((r : Reading) → o ≡ Some r → r.var < length f.widths) → gets_one f.pipe k x o ≡ false
 gets_none f k x m None l h = refl
 gets_none f k x m (Some r) l h = at (r.var == x) refl
   where

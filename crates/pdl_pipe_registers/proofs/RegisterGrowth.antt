@@ -28,7 +28,8 @@ register_keep a b r w v e h = record {
 }
 
 -- the registers of a stage stay in a circuit that keeps what stands in theirs
-pub registers_keep : (a b : Circuit) (f : Form) (nexts : List Signal) (k : ℕ) (r : Kept) → Keeps a b → HasRegisters a f nexts k r → HasRegisters b f nexts k r
+pub registers_keep : (a b : Circuit) (f : Form) (nexts : List Signal) (k : ℕ) (r : Kept) → Keeps a b
+    → HasRegisters a f nexts k r → HasRegisters b f nexts k r
 registers_keep a b f nexts k r e h = record {
   valid = register_keep a b r.valid 1 _ e h.valid;
   kept = λ i l. register_keep a b (reg_of r i) _ _ e (h.kept i l);
@@ -80,7 +81,8 @@ module _ (f : Form) (nexts : List Signal) (k : ℕ) where
 -- ---- what they may keep
 
 -- with an item that it may keep a stage's registers still keep what they may
-pub own_more : (c : Circuit) (f : Form) (k : ℕ) (i : Item) (r t : Kept) (w v : ℕ) (net : Net) (S : Signal → Type 0) → MayAdd c r t i w v net S → ((t ≡ r) ⊎ IsOwn f k i) → AreOwn f k r → AreOwn f k t
+pub own_more : (c : Circuit) (f : Form) (k : ℕ) (i : Item) (r t : Kept) (w v : ℕ) (net : Net) (S : Signal → Type 0)
+    → MayAdd c r t i w v net S → ((t ≡ r) ⊎ IsOwn f k i) → AreOwn f k r → AreOwn f k t
 own_more c f k i r t w v net S may (inl e) h = subst (AreOwn f k) (sym e) h
 own_more c f k i r t w v net S (inr m) (inr o) h = subst (AreOwn f k) (sym m.regs) h
 own_more c f k i r t w v net S (inl m) (inr o) h =
@@ -137,6 +139,7 @@ may_there c r t i w v net S (inl m) = subst (IsThere c) (sym m.net_is) m.registe
 may_there c r t i w v net S (inr m) = m.there
 
 -- the net of an item has its width, whether a register was added for it or not
-pub may_wide : (c : Circuit) (r t : Kept) (i : Item) (w v : ℕ) (net : Net) (S : Signal → Type 0) → MayAdd c r t i w v net S → (signal c net).width ≡ w
+pub may_wide : (c : Circuit) (r t : Kept) (i : Item) (w v : ℕ) (net : Net) (S : Signal → Type 0)
+    → MayAdd c r t i w v net S → (signal c net).width ≡ w
 may_wide c r t i w v net S (inl m) = ap (λ (x : Net). (signal c x).width) m.net_is ∙ ap (λ (g : Signal). g.width) m.register.same
 may_wide c r t i w v net S (inr m) = m.wide

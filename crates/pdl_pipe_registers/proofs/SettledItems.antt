@@ -39,26 +39,32 @@ take_index (suc n) zero (w ∷ ws) l = refl
 take_index (suc n) (suc x) (w ∷ ws) l = take_index n x ws (omega (arith, l))
 
 -- what a stage ends with has its width
-pub ended_width : (c : Circuit) (f : Form) (nexts : List Signal) (s : StageNets) (i : Item) → IsEnded c f nexts s → IsItem f i → (ended_item (view_in c s) i).width ≡ item_width f nexts i
+pub ended_width : (c : Circuit) (f : Form) (nexts : List Signal) (s : StageNets) (i : Item) → IsEnded c f nexts s
+    → IsItem f i → (ended_item (view_in c s) i).width ≡ item_width f nexts i
 ended_width c f nexts s (Var x) h l = var_width f.pipe f.widths (parts_in c s.end) x h.walk.sized
 ended_width c f nexts s (Held m a) h l = held_width (parts_in c s.end).held m a h.walk.sized.held
 ended_width c f nexts s (Ticket m) h l = sym (width_at (signals_in c s.tickets) m) ∙ ap (λ ws. slice_index ws m) h.tickets_wide ∙ width_at nexts m
 ended_width c f nexts s (Guess i) h l = sym (width_at (signals_in c s.end.guess) i) ∙ ap (λ ws. slice_index ws i) h.walk.sized.guess ∙ take_index (length f.pipe.start) i f.widths l
 
-coming_width : (c : Circuit) (f : Form) (nexts : List Signal) (x : Earlier) (j : ℕ) (i : Item) → IsEarlier c f nexts x → j < earlier_count x → IsItem f i → (ended_item (earlier_views c x j) i).width ≡ item_width f nexts i
+coming_width : (c : Circuit) (f : Form) (nexts : List Signal) (x : Earlier) (j : ℕ) (i : Item) → IsEarlier c f nexts x
+    → j < earlier_count x → IsItem f i → (ended_item (earlier_views c x j) i).width ≡ item_width f nexts i
 coming_width c f nexts x j i h l item =
     let some = some_stage x.stages.now j l in
     let s = some.0 in
     ap (λ (v : View). (ended_item v i).width) (view_at c x.stages.now j s l some.1) ∙ ended_width c f nexts s i (each_at (IsEnded c f nexts) x.stages.now j s l some.1 h.ended) item
 
 -- a net with which all stages that lead here end for an item has the item's width
-pub common_width : (c : Circuit) (f : Form) (nexts : List Signal) (x : Earlier) (i : Item) (net : Net) → IsEarlier c f nexts x → IsItem f i → IsCommonNet c (earlier_views c x) x.ways.now i net → (signal c net).width ≡ item_width f nexts i
+pub common_width : (c : Circuit) (f : Form) (nexts : List Signal) (x : Earlier) (i : Item) (net : Net)
+    → IsEarlier c f nexts x → IsItem f i → IsCommonNet c (earlier_views c x) x.ways.now i net
+    → (signal c net).width ≡ item_width f nexts i
 common_width c f nexts x i net h item common =
     ap (λ (g : Signal). g.width) (sym (common.same 0 common.some))
     ∙ coming_width c f nexts x (slice_index x.ways.now 0) i h (each_in (λ j. j < length x.stages.now) x.ways.now 0 0 common.some h.low) item
 
 -- a variable that is a twin is as wide
-pub twin_width : (c : Circuit) (f : Form) (nexts : List Signal) (e : Earlier) (i x : ℕ) → IsEarlier c f nexts e → IsItem f (Guess i) → IsItem f (Var x) → IsTwin f.pipe (earlier_views c e) (earlier_count e) i x → slice_index f.widths x ≡ slice_index f.widths i
+pub twin_width : (c : Circuit) (f : Form) (nexts : List Signal) (e : Earlier) (i x : ℕ) → IsEarlier c f nexts e
+    → IsItem f (Guess i) → IsItem f (Var x) → IsTwin f.pipe (earlier_views c e) (earlier_count e) i x
+    → slice_index f.widths x ≡ slice_index f.widths i
 twin_width c f nexts e i x h guess var twin =
     let js = ways f.pipe (earlier_count e) in
     let j = slice_index js 0 in
@@ -72,7 +78,8 @@ each_from P [] h = tt
 each_from P (j ∷ js) h = (h 0 (omega arith), each_from P js (λ k l. h (suc k) (omega (arith, l))))
 
 -- an item with which all stages that lead here end alike is settled, where no answer comes for it
-pub common_settled : (c : Circuit) (p : Pipe) (us : ℕ → View) (k : ℕ) (js : List ℕ) (i : Item) (net : Net) → 0 < k → js ≡ ways p k → is_answered p k i ≡ false → IsCommonNet c us js i net → IsSettled p us k i (signal c net)
+pub common_settled : (c : Circuit) (p : Pipe) (us : ℕ → View) (k : ℕ) (js : List ℕ) (i : Item) (net : Net)
+    → 0 < k → js ≡ ways p k → is_answered p k i ≡ false → IsCommonNet c us js i net → IsSettled p us k i (signal c net)
 common_settled c p us zero js i net l is un h = absurd (omega (arith, l))
 common_settled c p us (suc k) js i net l is un h = record {
   constant = h.constant;

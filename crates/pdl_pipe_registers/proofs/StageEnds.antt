@@ -150,7 +150,9 @@ view_front : (c : Circuit) (ss : List StageNets) (t : StageNets) (j : ℕ) → j
 view_front c ss t j l =
     ap (λ vs. get_or vs j no_view) (map-append (view_in c) ss (t ∷ [])) ∙ get_or_append_left (map (view_in c) ss) (view_in c t ∷ []) no_view j (let n = length-map ss (view_in c) in omega (arith, l, n))
 
-staged_front : (c : Circuit) (f : Form) (nexts : List Signal) (answers : ℕ → ℕ → AnswerSignals) (ls : Locks) (ss : List StageNets) (t : StageNets) (k : ℕ) (s : StageNets) → k ≤ length ss → IsStaged c f nexts answers ls ss k s → IsStaged c f nexts answers ls (ss ++ t ∷ []) k s
+staged_front : (c : Circuit) (f : Form) (nexts : List Signal) (answers : ℕ → ℕ → AnswerSignals) (ls : Locks)
+    (ss : List StageNets) (t : StageNets) (k : ℕ) (s : StageNets)
+    → k ≤ length ss → IsStaged c f nexts answers ls ss k s → IsStaged c f nexts answers ls (ss ++ t ∷ []) k s
 staged_front c f nexts answers ls ss t k s l h = record {
   registers = h.registers;
   own = h.own;
@@ -165,15 +167,18 @@ staged_front c f nexts answers ls ss t k s l h = record {
 }
 
 -- what holds of each stage of a list holds of each of a longer one
-pub at_more : (P : ℕ → StageNets → Type 0) (ss : List StageNets) (t : StageNets) → ((k : ℕ) (s : StageNets) → k < length ss → IsAt ss k s → P k s) → P (length ss) t → (k : ℕ) (s : StageNets) → k < length (ss ++ t ∷ [])
-    → IsAt (ss ++ t ∷ []) k s → P k s
+pub at_more : (P : ℕ → StageNets → Type 0) (ss : List StageNets) (t : StageNets)
+    → ((k : ℕ) (s : StageNets) → k < length ss → IsAt ss k s → P k s) → P (length ss) t → (k : ℕ) (s : StageNets)
+    → k < length (ss ++ t ∷ []) → IsAt (ss ++ t ∷ []) k s → P k s
 at_more P ss t old new k s l is =
     up_to (λ j. (u : StageNets) → IsAt (ss ++ t ∷ []) j u → P j u) (length ss)
     (λ j q u at. old j u q (sym (get_or_append_left ss (t ∷ []) u j q) ∙ at))
     (λ u at. subst (P (length ss)) (sym (get_or-append_seam ss t [] u) ∙ at) new) k (let n = length-append ss (t ∷ []) in omega (arith, l, n)) s is
 
 -- where all stages stand with their rows and one more does after them, all with that one do
-pub all_staged : (c d : Circuit) (f : Form) (nexts : List Signal) (answers : ℕ → ℕ → AnswerSignals) (ls : Locks) (ss : List StageNets) (t : StageNets) → Keeps c d → AreEnded c f nexts ss → AreStaged c f nexts answers ls ss
+pub all_staged : (c d : Circuit) (f : Form) (nexts : List Signal) (answers : ℕ → ℕ → AnswerSignals) (ls : Locks)
+    (ss : List StageNets) (t : StageNets)
+    → Keeps c d → AreEnded c f nexts ss → AreStaged c f nexts answers ls ss
     → IsStaged d f nexts answers ls ss (length ss) t → AreStaged d f nexts answers ls (ss ++ t ∷ [])
 all_staged c d f nexts answers ls ss t e ends h new =
     at_more (IsStaged d f nexts answers ls (ss ++ t ∷ [])) ss t
@@ -183,7 +188,9 @@ all_staged c d f nexts answers ls ss t e ends h new =
 -- ---- by the answers as they stood before
 
 -- a stage stands with its rows by the answers of its ports as they stood in an earlier circuit
-pub staged_answers : (a b c : Circuit) (f : Form) (nexts : List Signal) (ports : List (Option PortRegs)) (ls : Locks) (ss : List StageNets) (k : ℕ) (t : StageNets) → Keeps a b → HasAnswers a f.pipe ports → IsStaged c f nexts (answers_in b ports) ls ss k t
+pub staged_answers : (a b c : Circuit) (f : Form) (nexts : List Signal) (ports : List (Option PortRegs)) (ls : Locks)
+    (ss : List StageNets) (k : ℕ) (t : StageNets)
+    → Keeps a b → HasAnswers a f.pipe ports → IsStaged c f nexts (answers_in b ports) ls ss k t
     → IsStaged c f nexts (answers_in a ports) ls ss k t
 staged_answers a b c f nexts ports ls ss k t e has h = record {
   registers = h.registers;

@@ -26,7 +26,8 @@ apart_none low high = record {
   apart = λ j k s t q l. absurd (omega (arith, l));
 }
 
-apart_more : (low mid high : ℕ) (ss : List StageNets) (t : StageNets) → low ≤ mid → t.regs.valid ≡ mid → end_of t.regs ≤ high → AreApart low mid ss → AreApart low high (ss ++ t ∷ [])
+apart_more : (low mid high : ℕ) (ss : List StageNets) (t : StageNets)
+    → low ≤ mid → t.regs.valid ≡ mid → end_of t.regs ≤ high → AreApart low mid ss → AreApart low high (ss ++ t ∷ [])
 apart_more low mid high ss t l place last h = record {
   from = at_more (λ k s. low ≤ s.regs.valid) ss t h.from (omega (arith, l, place));
   to = at_more (λ k s. end_of s.regs ≤ high) ss t (λ k s q is. let m = h.to k s q is in omega (arith, m, place, last)) last;
@@ -47,7 +48,8 @@ pub record StagesSoFar (a c : Circuit) (f : Form) (nexts : List Signal) (answers
   pub apart : AreApart (length a.regs) (length c.regs) ss
 
 -- no stage is made as yet where what all stages share is there
-pub stages_none : (a c : Circuit) (f : Form) (nexts : List Signal) (answers : ℕ → ℕ → AnswerSignals) (ls : Locks) (x : Shared) → Extends a c → IsShared c f x → signals_in c x.next ≡ nexts → StagesSoFar a c f nexts answers ls x [] 0
+pub stages_none : (a c : Circuit) (f : Form) (nexts : List Signal) (answers : ℕ → ℕ → AnswerSignals) (ls : Locks) (x : Shared)
+    → Extends a c → IsShared c f x → signals_in c x.next ≡ nexts → StagesSoFar a c f nexts answers ls x [] 0
 stages_none a c f nexts answers ls x e h next = record {
   extends = e;
   shared = h;
@@ -59,9 +61,11 @@ stages_none a c f nexts answers ls x e h next = record {
 }
 
 -- with one stage more, whose registers are new, the first i + 1 stages are made
-pub stages_more : (a c d : Circuit) (f : Form) (nexts : List Signal) (answers : ℕ → ℕ → AnswerSignals) (ls : Locks) (x : Shared) (ss : List StageNets) (i : ℕ) (t : StageNets) → Extends c d → IsStaged d f nexts answers ls ss (length ss) t
-    → t.regs.valid ≡ length c.regs → end_of t.regs ≤ length d.regs
-    → StagesSoFar a c f nexts answers ls x ss i → StagesSoFar a d f nexts answers ls x (ss ++ t ∷ []) (i + 1)
+pub stages_more : (a c d : Circuit) (f : Form) (nexts : List Signal) (answers : ℕ → ℕ → AnswerSignals) (ls : Locks)
+    (x : Shared) (ss : List StageNets) (i : ℕ) (t : StageNets)
+    → Extends c d → IsStaged d f nexts answers ls ss (length ss) t → t.regs.valid ≡ length c.regs
+    → end_of t.regs ≤ length d.regs → StagesSoFar a c f nexts answers ls x ss i
+    → StagesSoFar a d f nexts answers ls x (ss ++ t ∷ []) (i + 1)
 stages_more a c d f nexts answers ls x ss i t cd new place last h =
     let e : Keeps c d = extends_keeps c d cd in
     record {

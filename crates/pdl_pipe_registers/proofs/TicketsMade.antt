@@ -34,7 +34,9 @@ module _ {T : Type 0} (l : Members T) (b : Circuit) (p : Pipe) (none : Net) (zer
   next_are xs = signals_from xs
 
 -- tickets of a stage have the widths of the locks' tickets
-pub tickets_fit : {T : Type 0} (l : Members T) (a b : Circuit) (p : Pipe) (xs : List (Option (MemLock T))) (ts : List Net) → AreLocked l a p xs → NetsThere b ts → widths_of (signals_in b ts) ≡ widths_of (next_signals a xs) → AreTickets l b xs ts
+pub tickets_fit : {T : Type 0} (l : Members T) (a b : Circuit) (p : Pipe) (xs : List (Option (MemLock T))) (ts : List Net)
+    → AreLocked l a p xs → NetsThere b ts → widths_of (signals_in b ts) ≡ widths_of (next_signals a xs)
+    → AreTickets l b xs ts
 tickets_fit l a b p xs ts h there wide = record {
   there = there;
   count = sym (length_signals b ts) ∙ sym (length_widths (signals_in b ts)) ∙ ap length wide ∙ length_widths (next_signals a xs) ∙ length-map xs (of_lock (λ x. signal a x.regs.ticket) zero_bit);
@@ -57,5 +59,6 @@ module _ {T : Type 0} (l : Members T) (a b : Circuit) (e : Keeps a b) where
   next_same p xs h = same_from xs (λ m x q s. (h.locks m x (let n = h.count in omega (arith, q, n)) s).ticket_there)
 
 -- the next ticket of a lock is that of the locks
-pub next_at : {T : Type 0} (l : Members T) (a : Circuit) (p : Pipe) (xs : List (Option (MemLock T))) → AreLocked l a p xs → (m : ℕ) → m < length p.mems → signal_at (next_signals a xs) m ≡ (locks_in l p a xs).ticket m
+pub next_at : {T : Type 0} (l : Members T) (a : Circuit) (p : Pipe) (xs : List (Option (MemLock T)))
+    → AreLocked l a p xs → (m : ℕ) → m < length p.mems → signal_at (next_signals a xs) m ≡ (locks_in l p a xs).ticket m
 next_at l a p xs h m low = get_or-map (of_lock (λ y. signal a y.regs.ticket) zero_bit) xs m None no_signal (let n = h.count in omega (arith, low, n))

@@ -43,7 +43,9 @@ not_first k l = ne_eqb k 0 (λ e. absurd (omega (arith, e, l)))
 
 -- ---- registers
 
-register_becomes : (c d : Circuit) (r w : ℕ) (g taken : Signal) → Keeps c d → g ≡ reg_signal w r → HasReg c r → next_signal d r ≡ next_signal c r → ((s : State) → (next_signal c r).value s ≡ taken.value s) → Becomes d g taken
+register_becomes : (c d : Circuit) (r w : ℕ) (g taken : Signal) → Keeps c d
+    → g ≡ reg_signal w r → HasReg c r → next_signal d r ≡ next_signal c r
+    → ((s : State) → (next_signal c r).value s ≡ taken.value s) → Becomes d g taken
 unfolding reg_value
 register_becomes c d r w g taken e is has same takes = λ s t suits next.
     ap (λ (f : Signal). f.value t) is
@@ -57,7 +59,8 @@ carried_becomes a c d g taken e on h = register_becomes c d h.reg g.width g take
 
 -- ---- a ticket after reservations
 
-holds_after : (a : Circuit) (x : Line) (ls : Locks) (m n : ℕ) (g : Signal) (s : State) (y : LockState) → IsNextOf a x ls m → length x.stages.now ≡ n → IsAfterAll a x m g → ls.stands m s y
+holds_after : (a : Circuit) (x : Line) (ls : Locks) (m n : ℕ) (g : Signal) (s : State) (y : LockState)
+    → IsNextOf a x ls m → length x.stages.now ≡ n → IsAfterAll a x m g → ls.stands m s y
     → holds_ticket (ls.bits m) g s (next_ticket y + length (asked_addresses s (all_reserves m (line_views a x) (line_moves a x) n 0)))
 holds_after a x ls m n g s y next count after stand =
     let f = signal_at (signals_in a x.shared.now.next) m in

@@ -27,10 +27,12 @@ use Rattle.pdl_pipe_tails.specs.Reserved.{one_more, IsReserve, IsAfter}
 
 -- ---- how many are asked
 
-asked_count : (s : State) (xs ys : List ReserveSignal) → length (asked_addresses s (xs ++ ys)) ≡ length (asked_addresses s xs) + length (asked_addresses s ys)
+asked_count : (s : State) (xs ys : List ReserveSignal)
+    → length (asked_addresses s (xs ++ ys)) ≡ length (asked_addresses s xs) + length (asked_addresses s ys)
 asked_count s xs ys = ap length (asked_append s xs ys) ∙ length-append (asked_addresses s xs) (asked_addresses s ys)
 
-reserves_append : (m : ℕ) (moves : Signal) (xs ys : List Reservation) → reserves_to m moves (xs ++ ys) ≡ reserves_to m moves xs ++ reserves_to m moves ys
+reserves_append : (m : ℕ) (moves : Signal) (xs ys : List Reservation)
+    → reserves_to m moves (xs ++ ys) ≡ reserves_to m moves xs ++ reserves_to m moves ys
 reserves_append m moves [] ys = refl
 reserves_append m moves (x ∷ xs) ys = at (x.mem == m) (reserves_append m moves xs ys)
   where
@@ -41,7 +43,8 @@ reserves_append m moves (x ∷ xs) ys = at (x.mem == m) (reserves_append m moves
 
 -- by one stage more
 all_count : (s : State) (m : ℕ) (vs : ℕ → View) (moves : ℕ → Signal) (n k : ℕ)
-    → length (asked_addresses s (all_reserves m vs moves (suc n) k)) ≡ length (asked_addresses s (all_reserves m vs moves n k)) + length (asked_addresses s (reserves_to m (moves (k + n)) (vs (k + n)).ended.reserves))
+    → length (asked_addresses s (all_reserves m vs moves (suc n) k))
+    ≡ length (asked_addresses s (all_reserves m vs moves n k)) + length (asked_addresses s (reserves_to m (moves (k + n)) (vs (k + n)).ended.reserves))
 all_count s m vs moves zero k =
     let here = ap (λ j. length (asked_addresses s (reserves_to m (moves j) (vs j).ended.reserves))) (let e : k ≡ k + 0 = omega arith in e) in
     omega (arith, here)
@@ -59,7 +62,8 @@ pub after_none : (f : Signal) → IsAfter f f []
 after_none f = record { wide = refl; holds = λ s t e. e ∙ ap (λ n. n % 2 ^ f.width) (let z : t ≡ t + 0 = omega arith in z) }
 
 -- by as many of others
-after_as : (f g : Signal) (xs ys : List ReserveSignal) → ((s : State) → length (asked_addresses s xs) ≡ length (asked_addresses s ys)) → IsAfter f g xs → IsAfter f g ys
+after_as : (f g : Signal) (xs ys : List ReserveSignal)
+    → ((s : State) → length (asked_addresses s xs) ≡ length (asked_addresses s ys)) → IsAfter f g xs → IsAfter f g ys
 after_as f g xs ys same h = record { wide = h.wide; holds = λ s t e. h.holds s t e ∙ ap (λ n. (t + n) % 2 ^ f.width) (same s) }
 
 after_then : (f g h : Signal) (xs ys : List ReserveSignal) → IsAfter f g xs → IsAfter g h ys → IsAfter f h (xs ++ ys)
@@ -77,7 +81,8 @@ more_value : (w v t : ℕ) → v ≡ t % 2 ^ w → words.add w v 1 ≡ (t + 1) %
 unfolding words.add
 more_value w v t e = ap (λ n. (n + 1) % 2 ^ w) e ∙ mod-add-mod t (2 ^ w) 1
 
-at_one : (w v t addr : ℕ) (b : Bool) → v ≡ t % 2 ^ w → (if b then words.add w v 1 else v) ≡ (t + length (if b then addr ∷ [] else [])) % 2 ^ w
+at_one : (w v t addr : ℕ) (b : Bool)
+    → v ≡ t % 2 ^ w → (if b then words.add w v 1 else v) ≡ (t + length (if b then addr ∷ [] else [])) % 2 ^ w
 at_one w v t addr true e = more_value w v t e
 at_one w v t addr false e = e ∙ ap (λ n. n % 2 ^ w) (let z : t ≡ t + 0 = omega arith in z)
 
@@ -90,7 +95,8 @@ after_one on f addr = record {
 }
 
 -- after a reservation of this memory, by a thread that moves, the ticket is the one after it
-pub after_own : (m : ℕ) (moves f : Signal) (r : Reservation) → r.mem ≡ m → IsAfter f (one_more (both moves r.on) f) (reserves_to m moves (r ∷ []))
+pub after_own : (m : ℕ) (moves f : Signal) (r : Reservation)
+    → r.mem ≡ m → IsAfter f (one_more (both moves r.on) f) (reserves_to m moves (r ∷ []))
 after_own m moves f r e = subst (λ b. IsAfter f (one_more (both moves r.on) f) (if b then record { enable = both moves r.on; addr = r.addr } ∷ [] else [])) (sym (eq-eqb r.mem m e)) (after_one (both moves r.on) f r.addr)
 
 -- after a reservation of another memory the ticket is what it was
@@ -107,7 +113,9 @@ reserves_keep a b (r ∷ rs) e h =
     (((e.there r.on on.0, ap (λ (f : Signal). f.width) (e.kept r.on on.0) ∙ on.1), e.there r.addr h.0.1), reserves_keep a b rs e h.1)
 
 -- the nets of sized reservations are there, their conditions with 1 bit
-pub reserves_of : (c : Circuit) (p : Pipe) (rs : List ReserveNet) → Each (λ (r : ReserveNet). IsThere c r.on × IsThere c r.addr) rs → Each (IsSizedReserve p) (map (reservation_in c) rs) → Each (IsReserve c) rs
+pub reserves_of : (c : Circuit) (p : Pipe) (rs : List ReserveNet)
+    → Each (λ (r : ReserveNet). IsThere c r.on × IsThere c r.addr) rs
+    → Each (IsSizedReserve p) (map (reservation_in c) rs) → Each (IsReserve c) rs
 reserves_of c p [] h k = tt
 reserves_of c p (r ∷ rs) h k = (((h.0.0, k.0.1), h.0.1), reserves_of c p rs h.1 k.1)
 
@@ -115,8 +123,10 @@ reservation_keep : (a b : Circuit) (r : ReserveNet) → Keeps a b → IsReserve 
 reservation_keep a b r e h = ap₂ (λ f g. record { mem = r.mem; on = f; addr = g }) (e.kept r.on h.0.0) (e.kept r.addr h.1)
 
 -- one more of them
-pub stage_more : (a b d : Circuit) (m : ℕ) (moves : Net) (f g h : Signal) (rs : List ReserveNet) (i : ℕ) (r : ReserveNet) → Keeps a b → IsThere a moves → Each (IsReserve a) rs → i < length rs
-    → IsAfter f g (reserves_to m (signal a moves) (map (reservation_in a) (take i rs))) → IsAfter g h (reserves_to m (signal b moves) (reservation_in b (get_or rs i r) ∷ []))
+pub stage_more : (a b d : Circuit) (m : ℕ) (moves : Net) (f g h : Signal) (rs : List ReserveNet) (i : ℕ) (r : ReserveNet)
+    → Keeps a b → IsThere a moves → Each (IsReserve a) rs → i < length rs
+    → IsAfter f g (reserves_to m (signal a moves) (map (reservation_in a) (take i rs)))
+    → IsAfter g h (reserves_to m (signal b moves) (reservation_in b (get_or rs i r) ∷ []))
     → IsAfter f h (reserves_to m (signal a moves) (map (reservation_in a) (take (i + 1) rs)))
 stage_more a b d m moves f g h rs i r e t each low old new =
     let it = get_or rs i r in
@@ -129,7 +139,9 @@ stage_more a b d m moves f g h rs i r e t each low old new =
 -- ---- those of all stages
 
 -- the ticket after the reservations of one stage more than the first k
-pub stages_more : (m : ℕ) (vs : ℕ → View) (moves : ℕ → Signal) (f g h : Signal) (k : ℕ) → IsAfter f g (all_reserves m vs moves k 0) → IsAfter g h (reserves_to m (moves k) (vs k).ended.reserves) → IsAfter f h (all_reserves m vs moves (k + 1) 0)
+pub stages_more : (m : ℕ) (vs : ℕ → View) (moves : ℕ → Signal) (f g h : Signal) (k : ℕ)
+    → IsAfter f g (all_reserves m vs moves k 0) → IsAfter g h (reserves_to m (moves k) (vs k).ended.reserves)
+    → IsAfter f h (all_reserves m vs moves (k + 1) 0)
 stages_more m vs moves f g h k old new =
     after_as f h (all_reserves m vs moves k 0 ++ reserves_to m (moves k) (vs k).ended.reserves) (all_reserves m vs moves (k + 1) 0)
     (λ s.

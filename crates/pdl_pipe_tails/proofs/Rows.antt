@@ -47,7 +47,8 @@ after_now a b x m g e line h =
     (subst (λ vs. IsAfter (signal_at (signals_in a x.shared.now.next) m) g (all_reserves m vs (line_moves a x) (length x.stages.now) 0)) (sym (views_same a b x e line)) h))
 
 -- the tickets of all memories after all reservations stay so by the line's nets in a later circuit
-pub all_now : (a b c : Circuit) (x : Line) (nets : List Net) → Keeps a c → Keeps b c → IsLineIn a x → AreAfterAll a b x nets → AreAfterAll c c x nets
+pub all_now : (a b c : Circuit) (x : Line) (nets : List Net) → Keeps a c → Keeps b c → IsLineIn a x
+    → AreAfterAll a b x nets → AreAfterAll c c x nets
 all_now a b c x nets ac bc line h = record {
   there = there_keeps b c nets bc h.there;
   count = h.count;
@@ -57,16 +58,20 @@ all_now a b c x nets ac bc line h = record {
 -- ---- who comes out of earlier stages
 
 -- threads that may come out of stages below n are threads that may come out of the first n
-pub arrivals_coming : (c : Circuit) (p : Pipe) (vs : ℕ → View) (moves : ℕ → Signal) (q n : ℕ) (js : List ℕ) (ys : List Arrival) → Each (λ j. j < n) js → AreArrivals c p vs moves q js ys → AreComing c n ys
+pub arrivals_coming : (c : Circuit) (p : Pipe) (vs : ℕ → View) (moves : ℕ → Signal) (q n : ℕ) (js : List ℕ) (ys : List Arrival)
+    → Each (λ j. j < n) js → AreArrivals c p vs moves q js ys → AreComing c n ys
 arrivals_coming c p vs moves q n [] [] low h = tt
 arrivals_coming c p vs moves q n [] (y ∷ ys) low h = absurd h
 arrivals_coming c p vs moves q n (j ∷ js) [] low h = absurd h
 arrivals_coming c p vs moves q n (j ∷ js) (y ∷ ys) low h = (((h.0.comes.there, h.0.comes.one), subst (λ i. i < n) (sym h.0.from) low.0), arrivals_coming c p vs moves q n js ys low.1 h.1)
 
 -- what they bring is what the threads bring that come
-brought_is : (c : Circuit) (p : Pipe) (vs : ℕ → View) (moves : ℕ → Signal) (q : ℕ) (tails : ℕ → ℕ → Signal) (rows : List (Seq Net)) (m : ℕ) (rest : Signal) (s : State) → ((j : ℕ) → j < length rows → tails j m ≡ tail_in c rows [] j m)
-    → (js : List ℕ) (ys : List Arrival) → AreArrivals c p vs moves q js ys → AreComing c (length rows) ys
-    → (brought_tail c rows m ys rest).value s ≡ (first_coming (λ (o : Comer). o.tickets m) (map (out_of p (with_tickets vs tails) moves q) js) rest).value s
+brought_is : (c : Circuit) (p : Pipe) (vs : ℕ → View) (moves : ℕ → Signal) (q : ℕ) (tails : ℕ → ℕ → Signal)
+    (rows : List (Seq Net)) (m : ℕ) (rest : Signal) (s : State)
+    → ((j : ℕ) → j < length rows → tails j m ≡ tail_in c rows [] j m) → (js : List ℕ) (ys : List Arrival)
+    → AreArrivals c p vs moves q js ys → AreComing c (length rows) ys
+    → (brought_tail c rows m ys rest).value s
+    ≡ (first_coming (λ (o : Comer). o.tickets m) (map (out_of p (with_tickets vs tails) moves q) js) rest).value s
 brought_is c p vs moves q tails rows m rest s same [] [] h low = refl
 brought_is c p vs moves q tails rows m rest s same [] (y ∷ ys) h low = absurd h
 brought_is c p vs moves q tails rows m rest s same (j ∷ js) [] h low = absurd h
@@ -80,14 +85,17 @@ brought_is c p vs moves q tails rows m rest s same (j ∷ js) (y ∷ ys) h low =
     ∙ sym (mux_by s o.comes (tails j m) later)
 
 -- by other tails that are the same of the stages that lead here
-coming_same : (p : Pipe) (vs : ℕ → View) (moves : ℕ → Signal) (q m : ℕ) (tails others : ℕ → ℕ → Signal) (rest : Signal) (js : List ℕ) → Each (λ j. tails j m ≡ others j m) js
-    → first_coming (λ (o : Comer). o.tickets m) (map (out_of p (with_tickets vs tails) moves q) js) rest ≡ first_coming (λ (o : Comer). o.tickets m) (map (out_of p (with_tickets vs others) moves q) js) rest
+coming_same : (p : Pipe) (vs : ℕ → View) (moves : ℕ → Signal) (q m : ℕ) (tails others : ℕ → ℕ → Signal) (rest : Signal) (js : List ℕ)
+    → Each (λ j. tails j m ≡ others j m) js
+    → first_coming (λ (o : Comer). o.tickets m) (map (out_of p (with_tickets vs tails) moves q) js) rest
+    ≡ first_coming (λ (o : Comer). o.tickets m) (map (out_of p (with_tickets vs others) moves q) js) rest
 coming_same p vs moves q m tails others rest [] h = refl
 coming_same p vs moves q m tails others rest (j ∷ js) h = ap₂ (mux_signal (out_of p vs moves q j).comes) h.0 (coming_same p vs moves q m tails others rest js h.1)
 
 -- ---- one memory's tail
 
-tail_stays : (a c d : Circuit) (p : Pipe) (fresh : List Net) (before : List (Seq Net)) (ys : List Arrival) (k m : ℕ) (g : Signal) → Extends c d → IsTail a c p fresh before ys k m g → IsTail a d p fresh before ys k m g
+tail_stays : (a c d : Circuit) (p : Pipe) (fresh : List Net) (before : List (Seq Net)) (ys : List Arrival) (k m : ℕ) (g : Signal)
+    → Extends c d → IsTail a c p fresh before ys k m g → IsTail a d p fresh before ys k m g
 tail_stays a c d p fresh before ys k m g e h = record {
   wide = h.wide;
   first = h.first;
@@ -95,7 +103,8 @@ tail_stays a c d p fresh before ys k m g e h = record {
 }
 
 -- a memory's tail in a stage is so as well by the nets as they stood in an earlier circuit
-pub tail_from : (a b c : Circuit) (p : Pipe) (fresh : List Net) (before : List (Seq Net)) (ys : List Arrival) (k m w : ℕ) (g : Signal) → Keeps a b → NetsThere a fresh → AreComing a (length before) ys → HaveTails a m w before
+pub tail_from : (a b c : Circuit) (p : Pipe) (fresh : List Net) (before : List (Seq Net)) (ys : List Arrival) (k m w : ℕ) (g : Signal)
+    → Keeps a b → NetsThere a fresh → AreComing a (length before) ys → HaveTails a m w before
     → IsTail b c p fresh before ys k m g → IsTail a c p fresh before ys k m g
 tail_from a b c p fresh before ys k m w g e there low rows h =
     let same = ap (λ fs. signal_at fs m) (signals_keep a b fresh e there) in
@@ -106,9 +115,12 @@ tail_from a b c p fresh before ys k m w g e there low rows h =
     }
 
 -- with the tail of one memory more, the first m + 1 have theirs in a stage
-pub tails_more : (a b d : Circuit) (p : Pipe) (fresh : List Net) (before : List (Seq Net)) (ys : List Arrival) (k : ℕ) (xs : List Net) (m : ℕ) (new : Net) → Extends b d → NetsThere b xs → length xs ≡ m
-    → ((i : ℕ) → i < m → IsTail a b p fresh before ys k i (signal_at (signals_in b xs) i)) → IsTail a d p fresh before ys k m (signal d new)
-    → (i : ℕ) → i < m + 1 → IsTail a d p fresh before ys k i (signal_at (signals_in d (xs ++ new ∷ [])) i)
+pub tails_more : (a b d : Circuit) (p : Pipe) (fresh : List Net) (before : List (Seq Net)) (ys : List Arrival) (k : ℕ)
+    (xs : List Net) (m : ℕ) (new : Net)
+    → Extends b d → NetsThere b xs → length xs ≡ m
+    → ((i : ℕ) → i < m → IsTail a b p fresh before ys k i (signal_at (signals_in b xs) i))
+    → IsTail a d p fresh before ys k m (signal d new) → (i : ℕ) → i < m + 1
+    → IsTail a d p fresh before ys k i (signal_at (signals_in d (xs ++ new ∷ [])) i)
 tails_more a b d p fresh before ys k xs m new e there n old here =
     let same = signals_keep b d xs (extends_keeps b d e) there in
     up_to (λ i. IsTail a d p fresh before ys k i (signal_at (signals_in d (xs ++ new ∷ [])) i)) m
@@ -118,9 +130,12 @@ tails_more a b d p fresh before ys k xs m new e there n old here =
 -- ---- the tails of a stage, by signals
 
 -- a memory's tail by the nets of a stage is its tail by the signals of the threads that come
-pub stage_tail_is : (a b c : Circuit) (x : Line) (fresh : List Net) (before : List (Seq Net)) (ys : List Arrival) (k m w : ℕ) (tails : ℕ → ℕ → Signal) (g : Signal) → Keeps a b → AreAfterAll a a x fresh → m < length fresh → HaveTails a m w before
-    → length before ≡ k → AreArrivals b (line_pipe x) (line_views a x) (line_moves a x) k (ways (line_pipe x) k) ys → ((j : ℕ) → j < k → tails j m ≡ tail_in a before [] j m)
-    → IsTail b c (line_pipe x) fresh before ys k m g → IsStageTail a c x tails k m g
+pub stage_tail_is : (a b c : Circuit) (x : Line) (fresh : List Net) (before : List (Seq Net)) (ys : List Arrival)
+    (k m w : ℕ) (tails : ℕ → ℕ → Signal) (g : Signal)
+    → Keeps a b → AreAfterAll a a x fresh → m < length fresh → HaveTails a m w before → length before ≡ k
+    → AreArrivals b (line_pipe x) (line_views a x) (line_moves a x) k (ways (line_pipe x) k) ys
+    → ((j : ℕ) → j < k → tails j m ≡ tail_in a before [] j m) → IsTail b c (line_pipe x) fresh before ys k m g
+    → IsStageTail a c x tails k m g
 stage_tail_is a b c x fresh before ys k m w tails g e after low rows count come same h =
     let p = line_pipe x in
     let vs = line_views a x in
@@ -136,7 +151,8 @@ stage_tail_is a b c x fresh before ys k m w tails g e after low rows count come 
     }
 
 -- the tails of a stage stay while the circuit grows
-pub stage_keep : (a c d : Circuit) (x : Line) (tails : ℕ → ℕ → Signal) (k : ℕ) (nets : List Net) → Extends c d → AreStageTails a c x tails k nets → AreStageTails a d x tails k nets
+pub stage_keep : (a c d : Circuit) (x : Line) (tails : ℕ → ℕ → Signal) (k : ℕ) (nets : List Net) → Extends c d
+    → AreStageTails a c x tails k nets → AreStageTails a d x tails k nets
 stage_keep a c d x tails k nets e h =
     let keeps = extends_keeps c d e in
     record {
@@ -154,7 +170,9 @@ stage_keep a c d x tails k nets e h =
     }
 
 -- the tails of a stage are so by other signals that are the same in the stages before it
-pub stage_as : (a c : Circuit) (x : Line) (tails others : ℕ → ℕ → Signal) (k : ℕ) (nets : List Net) → ((j m : ℕ) → j < k → m < length nets → tails j m ≡ others j m) → AreStageTails a c x tails k nets → AreStageTails a c x others k nets
+pub stage_as : (a c : Circuit) (x : Line) (tails others : ℕ → ℕ → Signal) (k : ℕ) (nets : List Net)
+    → ((j m : ℕ) → j < k → m < length nets → tails j m ≡ others j m) → AreStageTails a c x tails k nets
+    → AreStageTails a c x others k nets
 stage_as a c x tails others k nets same h = record {
   there = h.there;
   count = h.count;
@@ -172,7 +190,8 @@ stage_as a c x tails others k nets same h = record {
 }
 
 -- as the circuit was before
-pub stage_from : (a b c : Circuit) (x : Line) (tails : ℕ → ℕ → Signal) (k : ℕ) (nets : List Net) → Keeps a b → IsLineIn a x → AreStageTails b c x tails k nets → AreStageTails a c x tails k nets
+pub stage_from : (a b c : Circuit) (x : Line) (tails : ℕ → ℕ → Signal) (k : ℕ) (nets : List Net) → Keeps a b
+    → IsLineIn a x → AreStageTails b c x tails k nets → AreStageTails a c x tails k nets
 stage_from a b c x tails k nets e line h = record {
   there = h.there;
   count = h.count;

@@ -25,11 +25,13 @@ coming_keep a b n (y ∷ ys) e h =
     (((e.there y.comes on.0, ap (λ (f : Signal). f.width) (e.kept y.comes on.0) ∙ on.1), h.0.1), coming_keep a b n ys e h.1)
 
 -- the i-th thread that may come has a net of 1 bit, and comes out of one of the first n stages
-pub coming_nth : (c : Circuit) (n : ℕ) (ys : List Arrival) (i : ℕ) (y : Arrival) → i < length ys → y ≡ get_or ys i y → AreComing c n ys → IsBit c y.comes × (y.from < n)
+pub coming_nth : (c : Circuit) (n : ℕ) (ys : List Arrival) (i : ℕ) (y : Arrival)
+    → i < length ys → y ≡ get_or ys i y → AreComing c n ys → IsBit c y.comes × (y.from < n)
 coming_nth c n ys i y l e h = subst (λ (z : Arrival). IsBit c z.comes × (z.from < n)) (sym e) (each_get (λ (z : Arrival). IsBit c z.comes × (z.from < n)) ys i y l h)
 
 -- the tail of a memory in stage k is the same in a circuit that keeps its net
-pub tail_keep : (a b : Circuit) (m w : ℕ) (rows : List (Seq Net)) (k : ℕ) → Keeps a b → k < length rows → HaveTails a m w rows → tail_in b rows [] k m ≡ tail_in a rows [] k m
+pub tail_keep : (a b : Circuit) (m w : ℕ) (rows : List (Seq Net)) (k : ℕ) → Keeps a b
+    → k < length rows → HaveTails a m w rows → tail_in b rows [] k m ≡ tail_in a rows [] k m
 tail_keep a b m w rows k e l h = ap (λ fs. signal_at fs m) (signals_keep a b (get_or rows k []) e (h k l).there)
 
 -- the tails of a memory in all stages stay in a circuit that keeps their nets
@@ -41,13 +43,17 @@ tails_keep a b m w rows e h = λ k l.
 -- ---- what they bring
 
 -- the threads from the i-th on
-pub brought_more : (c : Circuit) (rows : List (Seq Net)) (m : ℕ) (ys : List Arrival) (i : ℕ) (y : Arrival) (rest : Signal) → i < length ys → y ≡ get_or ys i y
-    → brought_tail c rows m (drop i ys) rest ≡ mux_signal (signal c y.comes) (tail_in c rows [] y.from m) (brought_tail c rows m (drop (i + 1) ys) rest)
+pub brought_more : (c : Circuit) (rows : List (Seq Net)) (m : ℕ) (ys : List Arrival) (i : ℕ) (y : Arrival) (rest : Signal)
+    → i < length ys → y ≡ get_or ys i y
+    → brought_tail c rows m (drop i ys) rest
+    ≡ mux_signal (signal c y.comes) (tail_in c rows [] y.from m) (brought_tail c rows m (drop (i + 1) ys) rest)
 brought_more c rows m ys i y rest l e =
     ap (λ zs. brought_tail c rows m zs rest) (drop_more ys i y l) ∙ ap (λ (z : Arrival). brought_tail c rows m (z ∷ drop (i + 1) ys) rest) (sym e)
 
 -- the tail that the first thread that comes brings is the same in a circuit that keeps the nets
-pub brought_keep : (a b : Circuit) (m w : ℕ) (rows : List (Seq Net)) (ys : List Arrival) (rest : Signal) → Keeps a b → AreComing a (length rows) ys → HaveTails a m w rows → brought_tail b rows m ys rest ≡ brought_tail a rows m ys rest
+pub brought_keep : (a b : Circuit) (m w : ℕ) (rows : List (Seq Net)) (ys : List Arrival) (rest : Signal) → Keeps a b
+    → AreComing a (length rows) ys → HaveTails a m w rows
+    → brought_tail b rows m ys rest ≡ brought_tail a rows m ys rest
 brought_keep a b m w rows [] rest e h t = refl
 brought_keep a b m w rows (y ∷ ys) rest e h t =
     ap₂ (λ f g. mux_signal f g (brought_tail b rows m ys rest)) (e.kept y.comes h.0.0.0) (tail_keep a b m w rows y.from e h.0.1 t)
@@ -84,7 +90,9 @@ carried_keep b c low g taken e h = record {
 }
 
 -- by a lower number, and by what has the same values
-pub carried_as : (c : Circuit) (low from : ℕ) (g taken brought : Signal) → low ≤ from → ((s : State) → taken.value s ≡ brought.value s) → IsCarried c from g taken → IsCarried c low g brought
+pub carried_as : (c : Circuit) (low from : ℕ) (g taken brought : Signal)
+    → low ≤ from → ((s : State) → taken.value s ≡ brought.value s) → IsCarried c from g taken
+    → IsCarried c low g brought
 carried_as c low from g taken brought l e h = record {
   reg = h.reg;
   above = (let n = h.above in omega (arith, n, l));

@@ -19,7 +19,8 @@ arguments_typed ws (n ∷ ns) [] h = tt
 arguments_typed ws (n ∷ ns) (e ∷ es) h = (h.0, arguments_typed ws ns es h.2)
 
 -- the signals of arguments that have the parameters' widths have these widths
-pub arguments_wide : (fs : List Signal) (ns : List ℕ) (es : List Expr) → AreArguments (widths_of fs) ns es → widths_of (value_signals fs es) ≡ ns
+pub arguments_wide : (fs : List Signal) (ns : List ℕ) (es : List Expr) → AreArguments (widths_of fs) ns es
+    → widths_of (value_signals fs es) ≡ ns
 arguments_wide fs [] [] h = refl
 arguments_wide fs [] (e ∷ es) h = absurd h
 arguments_wide fs (n ∷ ns) [] h = absurd h

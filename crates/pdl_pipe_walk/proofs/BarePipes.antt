@@ -23,19 +23,24 @@ use Rattle.pdl_pipe_walk.specs.Sized.{IsSizedReserve, IsSizedPut, IsSizedBirth, 
 use Rattle.pdl_word.specs.Each.{Each}
 
 -- a call without arguments
-pub call_walked : (f : Form) (k : ℕ) (xs : List Stmt) → xs ≡ record { stage = k; guards = []; op = Call [] } ∷ [] → f.pipe.start ≡ [] → AreWalked f xs
+pub call_walked : (f : Form) (k : ℕ) (xs : List Stmt)
+    → xs ≡ record { stage = k; guards = []; op = Call [] } ∷ [] → f.pipe.start ≡ [] → AreWalked f xs
 call_walked f k xs e s =
     let none : AreArguments f.widths (take (length f.pipe.start) f.widths) [] = subst (λ (l : List ℕ). AreArguments f.widths (take (length l) f.widths) []) (sym s) tt in
     subst (AreWalked f) (sym e) (((tt, none), tt), tt)
 
 -- a guess without arguments, which is verified, and a barrier
-pub guess_walked : (f : Form) (xs : List Stmt) → xs ≡ record { stage = 0; guards = []; op = SpecCall [] } ∷ record { stage = 0; guards = []; op = Verify [] } ∷ record { stage = 0; guards = []; op = SpecBarrier } ∷ [] → f.pipe.start ≡ [] → AreWalked f xs
+pub guess_walked : (f : Form) (xs : List Stmt)
+    → xs
+    ≡ record { stage = 0; guards = []; op = SpecCall [] } ∷ record { stage = 0; guards = []; op = Verify [] } ∷ record { stage = 0; guards = []; op = SpecBarrier } ∷ []
+    → f.pipe.start ≡ [] → AreWalked f xs
 guess_walked f xs e s =
     let none : AreArguments f.widths (take (length f.pipe.start) f.widths) [] = subst (λ (l : List ℕ). AreArguments f.widths (take (length l) f.widths) []) (sym s) tt in
     subst (AreWalked f) (sym e) (((tt, none), tt), (((tt, none), tt), (((tt, tt), tt), tt)))
 
 -- no memories
-pub no_locks : {T : Type 0} (l : Members T) (c : Circuit) (p : Pipe) (xs : List (Option (MemLock T))) → xs ≡ [] → p.mems ≡ [] → AreLocked l c p xs
+pub no_locks : {T : Type 0} (l : Members T) (c : Circuit) (p : Pipe) (xs : List (Option (MemLock T)))
+    → xs ≡ [] → p.mems ≡ [] → AreLocked l c p xs
 no_locks l c p xs e n = record {
   count = ap length e ∙ sym (ap length n);
   locked = λ m low. absurd (omega (arith, low, ap length n));
@@ -46,7 +51,8 @@ no_locks l c p xs e n = record {
 }
 
 -- without memories there are no tickets
-pub no_tickets : {T : Type 0} (l : Members T) (c : Circuit) (xs : List (Option (MemLock T))) (ts : List Net) → xs ≡ [] → ts ≡ [] → AreTickets l c xs ts
+pub no_tickets : {T : Type 0} (l : Members T) (c : Circuit) (xs : List (Option (MemLock T))) (ts : List Net)
+    → xs ≡ [] → ts ≡ [] → AreTickets l c xs ts
 no_tickets l c xs ts e n = record {
   there = subst (NetsThere c) (sym n) tt;
   count = ap length n ∙ sym (ap length e);
@@ -58,8 +64,11 @@ take_none zero = refl
 take_none (suc n) = refl
 
 -- no variables, and nothing done yet
-pub bare_walk : (c : Circuit) (p : Pipe) (ws : List ℕ) (w : WalkNets) → ws ≡ [] → w.vars.items ≡ [] → w.held.items ≡ [] → IsThere c w.ready → (signal c w.ready).width ≡ 1 → w.reserves ≡ [] → w.puts ≡ [] → w.lettings ≡ [] → w.births.items ≡ [] → w.asks ≡ [] → w.guess ≡ []
-    → IsThere c w.fails → (signal c w.fails).width ≡ 1 → IsThere c w.barrier → (signal c w.barrier).width ≡ 1 → IsWalk c p ws w
+pub bare_walk : (c : Circuit) (p : Pipe) (ws : List ℕ) (w : WalkNets)
+    → ws ≡ [] → w.vars.items ≡ [] → w.held.items ≡ [] → IsThere c w.ready → (signal c w.ready).width ≡ 1
+    → w.reserves ≡ [] → w.puts ≡ [] → w.lettings ≡ [] → w.births.items ≡ [] → w.asks ≡ [] → w.guess ≡ []
+    → IsThere c w.fails → (signal c w.fails).width ≡ 1 → IsThere c w.barrier → (signal c w.barrier).width ≡ 1
+    → IsWalk c p ws w
 bare_walk c p ws w e e1 e2 t o e4 e5 e6 e7 e8 e9 t1 o1 t2 o2 = record {
   there = record {
     vars = subst (NetsThere c) (sym e1) tt;

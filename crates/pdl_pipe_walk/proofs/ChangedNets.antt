@@ -131,16 +131,22 @@ pub put_same : (m : ℕ) (o o' f f' : Signal) (q q' : Parts) → o ≡ o' → f 
 put_same m o o' f f' q q' e g h = ap₂ (λ i k. with_put m i k q) e g ∙ ap (with_put m o' f') h
 
 -- a choice between a new net and the old one
-pub set_means : (a b : Circuit) (n : Net) (on f old known : Signal) → old ≡ known → Means b n (mux_signal on f old) → Means b n (mux_signal on f known)
+pub set_means : (a b : Circuit) (n : Net) (on f old known : Signal)
+    → old ≡ known → Means b n (mux_signal on f old) → Means b n (mux_signal on f known)
 set_means a b n on f old known e m = record { there = m.there; same = m.same ∙ ap (mux_signal on f) e }
 
 -- the ready net after a wait
-pub wait_signal : (a b1 b2 : Circuit) (ready asked r bit : Net) (on f : Signal) → Extends a b1 → IsThere a ready → signal a bit ≡ one → Means b1 asked (mux_signal on f (signal a bit)) → Means b2 r (both (signal b1 ready) (signal b1 asked)) → signal b2 r ≡ both (signal a ready) (if_on on f)
+pub wait_signal : (a b1 b2 : Circuit) (ready asked r bit : Net) (on f : Signal) → Extends a b1 → IsThere a ready
+    → signal a bit ≡ one → Means b1 asked (mux_signal on f (signal a bit))
+    → Means b2 r (both (signal b1 ready) (signal b1 asked)) → signal b2 r ≡ both (signal a ready) (if_on on f)
 wait_signal a b1 b2 ready asked r bit on f e t o m n = n.same ∙ ap₂ both (e.kept ready t) (m.same ∙ ap (mux_signal on f) o)
 
 -- a result that goes well where both did
-pub birth_made : (b : Circuit) (r : Result (Unit {0}) NoMemory) (p : Pipe) (ws : List ℕ) (w new : WalkNets) (on : Net) (args : List Net) → IsWalk b p ws w → IsThere b on → (signal b on).width ≡ 1 → NetsThere b args → widths_of (signals_in b args) ≡ take (length p.start) ws
-    → OnOk r (new.births.items ≡ record { on = on; args = args } ∷ w.births.items) → new.vars ≡ w.vars → new.held ≡ w.held → SameRest w new
+pub birth_made : (b : Circuit) (r : Result (Unit {0}) NoMemory) (p : Pipe) (ws : List ℕ) (w new : WalkNets) (on : Net) (args : List Net)
+    → IsWalk b p ws w → IsThere b on → (signal b on).width ≡ 1 → NetsThere b args
+    → widths_of (signals_in b args) ≡ take (length p.start) ws
+    → OnOk r (new.births.items ≡ record { on = on; args = args } ∷ w.births.items) → new.vars ≡ w.vars
+    → new.held ≡ w.held → SameRest w new
     → OnOk r (IsWalk b p ws new × (parts_in b new ≡ with_call (signal b on) (signals_in b args) (parts_in b w)))
 birth_made b (Err x) p ws w new on args h t o u k e1 e2 e3 rest = e1
 birth_made b (Ok x) p ws w new on args h t o u k e1 e2 e3 rest =
@@ -159,20 +165,28 @@ pub call_same : (o o' : Signal) (f f' : List Signal) (q q' : Parts) → o ≡ o'
 call_same o o' f f' q q' e g h = ap₂ (λ i k. with_call i k q) e g ∙ ap (with_call o' f') h
 
 -- equal parts with one wait more, under equal conditions, are equal again
-pub ready_same : (o o' f : Signal) (q q' : Parts) → o ≡ o' → q ≡ q' → record q { ready = both q.ready (if_on o f) } ≡ record q' { ready = both q'.ready (if_on o' f) }
+pub ready_same : (o o' f : Signal) (q q' : Parts)
+    → o ≡ o' → q ≡ q' → record q { ready = both q.ready (if_on o f) } ≡ record q' { ready = both q'.ready (if_on o' f) }
 ready_same o o' f q q' e h = ap₂ (λ i (k : Parts). record k { ready = both k.ready (if_on i f) }) e h
 
 -- equal parts with one release more, of equal signals, are equal again
-pub release_same : (m a : ℕ) (o o' z : Signal) (lets lets' : Signal) (q q' : Parts) → o ≡ o' → lets ≡ lets' → q ≡ q' → record (with_held m a o z q) { lettings = q.lettings ++ record { mem = m; on = lets } ∷ [] } ≡ record (with_held m a o' z q') { lettings = q'.lettings ++ record { mem = m; on = lets' } ∷ [] }
+pub release_same : (m a : ℕ) (o o' z : Signal) (lets lets' : Signal) (q q' : Parts)
+    → o ≡ o' → lets ≡ lets' → q ≡ q'
+    → record (with_held m a o z q) { lettings = q.lettings ++ record { mem = m; on = lets } ∷ [] }
+    ≡ record (with_held m a o' z q') { lettings = q'.lettings ++ record { mem = m; on = lets' } ∷ [] }
 release_same m a o o' z lets lets' q q' e l h =
     ap (λ i. record (with_held m a i z q) { lettings = q.lettings ++ record { mem = m; on = lets } ∷ [] }) e ∙ ap₂ (λ i (k : Parts). record (with_held m a o' z k) { lettings = k.lettings ++ record { mem = m; on = i } ∷ [] }) l h
 
 -- a held location, a wait for room and one more reservation make a reserve
-pub reserve_made : (m a : ℕ) (q3 q2 q1 q0 : Parts) (o1 o2 o3 on r room bit addr : Signal) → q3 ≡ record q2 { ready = both q2.ready (if_on o2 r) } → q2 ≡ with_held m a o1 bit q1 → q1 ≡ q0 → o1 ≡ on → o2 ≡ on → o3 ≡ on → r ≡ room → bit ≡ one → addr ≡ signal_at q0.vars a
+pub reserve_made : (m a : ℕ) (q3 q2 q1 q0 : Parts) (o1 o2 o3 on r room bit addr : Signal)
+    → q3 ≡ record q2 { ready = both q2.ready (if_on o2 r) } → q2 ≡ with_held m a o1 bit q1 → q1 ≡ q0 → o1 ≡ on → o2 ≡ on
+    → o3 ≡ on → r ≡ room → bit ≡ one → addr ≡ signal_at q0.vars a
     → record q3 { reserves = q3.reserves ++ record { mem = m; on = o3; addr = addr } ∷ [] } ≡ with_reserve m a on room q0
 reserve_made m a q3 q2 q1 q0 o1 o2 o3 on r room bit addr h3 h2 h1 e1 e2 e3 er eb ea = rw (h3, h2, h1, e1, e2, e3, er, eb, ea) refl
 
 -- one more request with the address of a location makes a delayed read
-pub ask_made : (m x a : ℕ) (q q' : Parts) (o o' f : Signal) → q ≡ q' → o ≡ o' → f ≡ signal_at q'.vars a → record q { asks = q.asks ++ record { mem = m; var = x; on = o; addr = f } ∷ [] } ≡ with_ask m x a o' q'
+pub ask_made : (m x a : ℕ) (q q' : Parts) (o o' f : Signal)
+    → q ≡ q' → o ≡ o' → f ≡ signal_at q'.vars a
+    → record q { asks = q.asks ++ record { mem = m; var = x; on = o; addr = f } ∷ [] } ≡ with_ask m x a o' q'
 ask_made m x a q q' o o' f e g k =
     ap (λ (r : Parts). record r { asks = r.asks ++ record { mem = m; var = x; on = o; addr = f } ∷ [] }) e ∙ ap₂ (λ i j. record q' { asks = q'.asks ++ record { mem = m; var = x; on = i; addr = j } ∷ [] }) g k

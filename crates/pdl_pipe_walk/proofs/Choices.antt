@@ -36,14 +36,18 @@ choices_widths on [] gs e = refl
 choices_widths on (f ∷ fs) [] e = absurd (omega (arith, e))
 choices_widths on (f ∷ fs) (g ∷ gs) e = ap (λ ws. f.width ∷ ws) (choices_widths on fs gs (omega (arith, e)))
 
-choice_at : (on : Signal) (fs gs : List Signal) (i : ℕ) → i < length fs → length fs ≡ length gs → get_or (choices on fs gs) i no_signal ≡ mux_signal on (signal_at fs i) (signal_at gs i)
+choice_at : (on : Signal) (fs gs : List Signal) (i : ℕ)
+    → i < length fs → length fs ≡ length gs
+    → get_or (choices on fs gs) i no_signal ≡ mux_signal on (signal_at fs i) (signal_at gs i)
 choice_at on [] gs i l e = absurd (omega (arith, l))
 choice_at on (f ∷ fs) [] i l e = absurd (omega (arith, e))
 choice_at on (f ∷ fs) (g ∷ gs) zero l e = refl
 choice_at on (f ∷ fs) (g ∷ gs) (suc i) l e = choice_at on fs gs i (omega (arith, l)) (omega (arith, e))
 
 -- one more of them
-pub choices_more : (on : Signal) (fs gs : List Signal) (i : ℕ) (done : List Signal) (f : Signal) → i < length fs → length fs ≡ length gs → done ≡ take i (choices on fs gs) → f ≡ mux_signal on (signal_at fs i) (signal_at gs i) → done ++ f ∷ [] ≡ take (i + 1) (choices on fs gs)
+pub choices_more : (on : Signal) (fs gs : List Signal) (i : ℕ) (done : List Signal) (f : Signal)
+    → i < length fs → length fs ≡ length gs → done ≡ take i (choices on fs gs)
+    → f ≡ mux_signal on (signal_at fs i) (signal_at gs i) → done ++ f ∷ [] ≡ take (i + 1) (choices on fs gs)
 choices_more on fs gs i done f l e h k =
     ap₂ (λ ds g. ds ++ g ∷ []) h (k ∙ sym (choice_at on fs gs i l e)) ∙ sym (take_more (choices on fs gs) i no_signal (let n = choices_length on fs gs e in omega (arith, l, e, n)))
 
@@ -63,13 +67,16 @@ module _ (s : State) (on : Signal) where
 -- ---- differences
 
 -- one more of them
-pub differ_more : (fs gs : List Signal) (i : ℕ) (d d' whole : Signal) → i < length fs → length fs ≡ length gs → d' ≡ or_differ d (signal_at fs i) (signal_at gs i) → differ_from d (drop i fs) (drop i gs) ≡ whole → differ_from d' (drop (i + 1) fs) (drop (i + 1) gs) ≡ whole
+pub differ_more : (fs gs : List Signal) (i : ℕ) (d d' whole : Signal)
+    → i < length fs → length fs ≡ length gs → d' ≡ or_differ d (signal_at fs i) (signal_at gs i)
+    → differ_from d (drop i fs) (drop i gs) ≡ whole → differ_from d' (drop (i + 1) fs) (drop (i + 1) gs) ≡ whole
 differ_more fs gs i d d' whole l e h k =
     ap (λ x. differ_from x (drop (i + 1) fs) (drop (i + 1) gs)) h
     ∙ sym (ap₂ (differ_from d) (drop_more fs i no_signal l) (drop_more gs i no_signal (omega (arith, l, e)))) ∙ k
 
 -- after all of them
-pub differ_all : (fs gs : List Signal) (i : ℕ) (d whole : Signal) → length fs ≤ i → differ_from d (drop i fs) (drop i gs) ≡ whole → d ≡ whole
+pub differ_all : (fs gs : List Signal) (i : ℕ) (d whole : Signal)
+    → length fs ≤ i → differ_from d (drop i fs) (drop i gs) ≡ whole → d ≡ whole
 differ_all [] gs zero d whole l h = h
 differ_all [] gs (suc i) d whole l h = h
 differ_all (f ∷ fs) gs zero d whole l h = absurd (omega (arith, l))
@@ -80,7 +87,8 @@ differ_all (f ∷ fs) [] (suc i) d whole l h = sym (none (drop i fs)) ∙ h
     none (x ∷ xs) = refl
 differ_all (f ∷ fs) (g ∷ gs) (suc i) d whole l h = differ_all fs gs i d whole (omega (arith, l)) h
 
-or_differ_value : (s : State) (d f g : Signal) (b : Bool) → d.value s ≡ bit b → (or_differ d f g).value s ≡ bit (b || not (f.value s == g.value s))
+or_differ_value : (s : State) (d f g : Signal) (b : Bool)
+    → d.value s ≡ bit b → (or_differ d f g).value s ≡ bit (b || not (f.value s == g.value s))
 unfolding bin_value differ
 or_differ_value s d f g b h = mux_at s (bin_signal Ne f g) one d (not (f.value s == g.value s)) refl ∙ by (not (f.value s == g.value s)) b h
   where
@@ -90,7 +98,9 @@ or_differ_value s d f g b h = mux_at s (bin_signal Ne f g) one d (not (f.value s
     by false true h = h
     by false false h = h
 
-differ_value : (s : State) (fs gs : List Signal) (d : Signal) (b : Bool) → length fs ≡ length gs → d.value s ≡ bit b → (differ_from d fs gs).value s ≡ bit (b || not (same_args (values_at s fs) (values_at s gs)))
+differ_value : (s : State) (fs gs : List Signal) (d : Signal) (b : Bool)
+    → length fs ≡ length gs → d.value s ≡ bit b
+    → (differ_from d fs gs).value s ≡ bit (b || not (same_args (values_at s fs) (values_at s gs)))
 differ_value s [] [] d true e h = h
 differ_value s [] [] d false e h = h
 differ_value s [] (g ∷ gs) d b e h = absurd (omega (arith, e))
@@ -105,5 +115,6 @@ differ_value s (f ∷ fs) (g ∷ gs) d b e h =
     by false false y = refl
 
 -- whether the arguments aren't the same
-pub wrong_value : (s : State) (fs gs : List Signal) → length fs ≡ length gs → (differ_signal fs gs).value s ≡ bit (not (same_args (values_at s fs) (values_at s gs)))
+pub wrong_value : (s : State) (fs gs : List Signal)
+    → length fs ≡ length gs → (differ_signal fs gs).value s ≡ bit (not (same_args (values_at s fs) (values_at s gs)))
 wrong_value s fs gs e = differ_value s fs gs zero_bit false e (zero_is s)

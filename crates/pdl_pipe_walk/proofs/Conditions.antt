@@ -42,13 +42,15 @@ turned (suc (suc v)) l = absurd (omega (arith, l))
 pub below_two : (s : State) (f : Signal) → f.width ≡ 1 → IsBounded s f → f.value s < 2
 below_two s f e b = subst (λ w. f.value s < 2 ^ w) e b.fits
 
-literal_value : (s : State) (first : Bool) (f : Signal) → f.width ≡ 1 → IsBounded s f → (literal first f).value s ≡ bit (takes_branch first (f.value s))
+literal_value : (s : State) (first : Bool) (f : Signal)
+    → f.width ≡ 1 → IsBounded s f → (literal first f).value s ≡ bit (takes_branch first (f.value s))
 unfolding not_value
 literal_value s true f e b = bit_of (f.value s) (below_two s f e b)
 literal_value s false f e b = ap (λ w. words.complement w (f.value s)) e ∙ turned (f.value s) (below_two s f e b)
 
-taken_more : (s : State) (fs : List Signal) (w : Walk) → ((x : ℕ) → w.vars x ≡ signal_at fs x) → AreBounded s fs → (gs : List Guard) → AreGuards (widths_of fs) gs → (f : Signal) (x : Bool) → f.value s ≡ bit x
-    → (taken_from fs f gs).value s ≡ bit (x && taken_in gs w s)
+taken_more : (s : State) (fs : List Signal) (w : Walk)
+    → ((x : ℕ) → w.vars x ≡ signal_at fs x) → AreBounded s fs → (gs : List Guard) → AreGuards (widths_of fs) gs
+    → (f : Signal) (x : Bool) → f.value s ≡ bit x → (taken_from fs f gs).value s ≡ bit (x && taken_in gs w s)
 taken_more s fs w same bounds [] h f true e = e
 taken_more s fs w same bounds [] h f false e = e
 taken_more s fs w same bounds (g ∷ gs) h f x e =
@@ -60,5 +62,7 @@ taken_more s fs w same bounds (g ∷ gs) h f x e =
     ∙ ap bit (and_assoc x (takes_branch g.first (g_signal.value s)) (taken_in gs w s) ∙ ap (λ (h : Signal). x && (takes_branch g.first (h.value s) && taken_in gs w s)) (sym (same g.var)))
 
 -- the condition of guards says whether they are taken
-pub taken_value : (s : State) (fs : List Signal) (w : Walk) → ((x : ℕ) → w.vars x ≡ signal_at fs x) → AreBounded s fs → (gs : List Guard) → AreGuards (widths_of fs) gs → (taken_signal fs gs).value s ≡ bit (taken_in gs w s)
+pub taken_value : (s : State) (fs : List Signal) (w : Walk)
+    → ((x : ℕ) → w.vars x ≡ signal_at fs x) → AreBounded s fs → (gs : List Guard) → AreGuards (widths_of fs) gs
+    → (taken_signal fs gs).value s ≡ bit (taken_in gs w s)
 taken_value s fs w same bounds gs h = taken_more s fs w same bounds gs h _ true (one_is s)

@@ -42,7 +42,8 @@ widths_set (g ∷ gs) zero f e = ap (λ w. w ∷ widths_of gs) e
 widths_set (g ∷ gs) (suc i) f e = ap (λ ws. g.width ∷ ws) (widths_set gs i f e)
 
 -- the signals after one was set: that one at its place, and the others as they were
-pub signal_set : (fs : List Signal) (i : ℕ) (f : Signal) (j : ℕ) → i < length fs → signal_at (slice_set fs i f) j ≡ (if j == i then f else signal_at fs j)
+pub signal_set : (fs : List Signal) (i : ℕ) (f : Signal) (j : ℕ)
+    → i < length fs → signal_at (slice_set fs i f) j ≡ (if j == i then f else signal_at fs j)
 signal_set fs i f j l = at (j == i) refl
   where
     at : (b : Bool) → (j == i) ≡ b → signal_at (slice_set fs i f) j ≡ (if b then f else signal_at fs j)

@@ -93,7 +93,9 @@ module _ (ls : Locks) (m : ℕ) (addr ticket : Signal) where
   looked_either held f g v u write read s = block_two ls m addr ticket f g held v u s write read
 
 -- the word of a memory without lock
-pub plain_word : (p : Pipe) (ls : Locks) (c : Circuit) (x : Net) (m : ℕ) (addr ticket : Signal) (w : ℕ) → is_locked p m ≡ false → w ≡ (mem_at p m).width → Means c x (read_signal w (comb_place p m) addr) → IsWordSignal p ls m addr ticket (signal c x)
+pub plain_word : (p : Pipe) (ls : Locks) (c : Circuit) (x : Net) (m : ℕ) (addr ticket : Signal) (w : ℕ)
+    → is_locked p m ≡ false → w ≡ (mem_at p m).width → Means c x (read_signal w (comb_place p m) addr)
+    → IsWordSignal p ls m addr ticket (signal c x)
 plain_word p ls c x m addr ticket w e wide h = record {
   plain = λ u. h.same ∙ ap (λ n. read_signal n (comb_place p m) addr) wide;
   ready = zero_bit;
@@ -101,10 +103,12 @@ plain_word p ls c x m addr ticket w e wide h = record {
 }
 
 -- a look by a net that says which: the look for reading was made first
-pub looked_join : (ls : Locks) (m : ℕ) (a b2 b3 d : Circuit) (held addr ticket f g x : Net) (v u : Option Signal) → Extends a b2 → Extends b2 b3 → IsThere a held → IsThere a addr → IsThere a ticket → IsThere b2 g
+pub looked_join : (ls : Locks) (m : ℕ) (a b2 b3 d : Circuit) (held addr ticket f g x : Net) (v u : Option Signal)
+    → Extends a b2 → Extends b2 b3 → IsThere a held → IsThere a addr → IsThere a ticket → IsThere b2 g
     → LookLaw (ls.stands m) (ls.kind m) (ls.bits m) look_kind.R (signal a addr) (signal a ticket) (signal b2 g) u
     → LookLaw (ls.stands m) (ls.kind m) (ls.bits m) look_kind.W (signal b2 addr) (signal b2 ticket) (signal b3 f) v
-    → Means d x (mux_signal (signal b3 held) (signal b3 f) (signal b3 g)) → IsLooked ls m (signal a held) (signal a addr) (signal a ticket) (signal d x)
+    → Means d x (mux_signal (signal b3 held) (signal b3 f) (signal b3 g))
+    → IsLooked ls m (signal a held) (signal a addr) (signal a ticket) (signal d x)
 looked_join ls m a b2 b3 d held addr ticket f g x v u e k th ta tt' tg read write means =
     let P : Signal → Signal → Type 0 = λ y t. LookLaw (ls.stands m) (ls.kind m) (ls.bits m) look_kind.W y t (signal b3 f) v in
     let now = subst (λ t. P (signal a addr) t) (e.kept ticket tt') (subst (λ y. P y (signal b2 ticket)) (e.kept addr ta) write) in
@@ -113,12 +117,14 @@ looked_join ls m a b2 b3 d held addr ticket f g x v u e k th ta tt' tg read writ
     subst (λ h. IsLooked ls m (signal a held) (signal a addr) (signal a ticket) h) (sym same) (looked_either ls m (signal a addr) (signal a ticket) (signal a held) (signal b3 f) (signal b2 g) v u now read)
 
 -- whether a location is ready, by equal signals for its being held, its address and the ticket
-pub looked_as : (ls : Locks) (m : ℕ) (h h' addr addr' ticket ticket' f : Signal) → h ≡ h' → addr ≡ addr' → ticket ≡ ticket' → IsLooked ls m h addr ticket f → IsLooked ls m h' addr' ticket' f
+pub looked_as : (ls : Locks) (m : ℕ) (h h' addr addr' ticket ticket' f : Signal)
+    → h ≡ h' → addr ≡ addr' → ticket ≡ ticket' → IsLooked ls m h addr ticket f → IsLooked ls m h' addr' ticket' f
 looked_as ls m h h' addr addr' ticket ticket' f e g k l =
     subst (λ t. IsLooked ls m h' addr' t f) k (subst (λ y. IsLooked ls m h' y ticket f) g (subst (λ x. IsLooked ls m x addr ticket f) e l))
 
 -- the signal of a memory's word, by an equal address and ticket
-pub word_as : (p : Pipe) (ls : Locks) (m : ℕ) (addr addr' ticket ticket' f : Signal) → addr ≡ addr' → ticket ≡ ticket' → IsWordSignal p ls m addr ticket f → IsWordSignal p ls m addr' ticket' f
+pub word_as : (p : Pipe) (ls : Locks) (m : ℕ) (addr addr' ticket ticket' f : Signal)
+    → addr ≡ addr' → ticket ≡ ticket' → IsWordSignal p ls m addr ticket f → IsWordSignal p ls m addr' ticket' f
 word_as p ls m addr addr' ticket ticket' f g k l = subst (λ t. IsWordSignal p ls m addr' t f) k (subst (λ y. IsWordSignal p ls m y ticket f) g l)
 
 module _ {T : Type 0} (l : Members T) (c : Circuit) (p : Pipe) (xs : List (Option (MemLock T))) (h : AreLocked l c p xs) (m : ℕ) (low : m < length p.mems) (locked : is_locked p m ≡ true) where

@@ -75,12 +75,14 @@ module _ (a b : Circuit) (e : Keeps a b) where
 
 -- ---- held locations
 
-held_step : (c : Circuit) (b : Bool) (x y : Net) (f g : Signal) → Means c x f → Means c y g → Means c (if b then x else y) (if b then f else g)
+held_step : (c : Circuit) (b : Bool) (x y : Net) (f g : Signal) → Means c x f → Means c y g
+    → Means c (if b then x else y) (if b then f else g)
 held_step c true x y f g m n = m
 held_step c false x y f g m n = n
 
 -- the net of a location's first entry means whether the location is held
-pub held_means : (c : Circuit) (x : Bits) → AreBits c x → (hs : List HeldNet) (m a : ℕ) → Each (λ (h : HeldNet). IsThere c h.net) hs → Means c (held_net hs x.zero m a) (held_of (map (held_in c) hs) m a)
+pub held_means : (c : Circuit) (x : Bits) → AreBits c x → (hs : List HeldNet) (m a : ℕ)
+    → Each (λ (h : HeldNet). IsThere c h.net) hs → Means c (held_net hs x.zero m a) (held_of (map (held_in c) hs) m a)
 held_means c x bits [] m a t = bits.zero
 held_means c x bits (h ∷ hs) m a t =
     held_step c ((h.mem == m) && (h.var == a)) h.net (held_net hs x.zero m a) (signal c h.net) (held_of (map (held_in c) hs) m a) (record { there = t.0; same = refl }) (held_means c x bits hs m a t.1)

@@ -30,13 +30,17 @@ use Rattle.pdl_word.proofs.Each.{each_push}
 -- ---- parts by their lists
 
 -- all but the three of a walk that has the rest of another one
-same_rest : (b : Circuit) (w new : WalkNets) (vars : List Signal) (held : List Held) (births : List Birth) → signals_in b new.vars.items ≡ vars → map (held_in b) new.held.items ≡ held → map (birth_in b) new.births.items ≡ births → SameRest w new
+same_rest : (b : Circuit) (w new : WalkNets) (vars : List Signal) (held : List Held) (births : List Birth)
+    → signals_in b new.vars.items ≡ vars → map (held_in b) new.held.items ≡ held
+    → map (birth_in b) new.births.items ≡ births → SameRest w new
     → parts_in b new ≡ record (parts_in b w) { vars = vars; held = held; births = births }
 same_rest b w new vars held births e1 e2 e3 r =
     cc (e1, e2, e3, ap (signal b) r.ready, ap (map (reservation_in b)) r.reserves, ap (map (put_in b)) r.puts, ap (map (letting_in b)) r.lettings, ap (map (ask_in b)) r.asks, ap (signals_in b) r.guess, ap (signal b) r.fails, ap (signal b) r.barrier)
 
 -- its nets are there
-pub there_rest : (b : Circuit) (w new : WalkNets) → IsThereWalk b w → SameRest w new → NetsThere b new.vars.items → Each (λ (y : HeldNet). IsThere b y.net) new.held.items → Each (λ (y : BirthNet). IsThere b y.on × NetsThere b y.args) new.births.items → IsThereWalk b new
+pub there_rest : (b : Circuit) (w new : WalkNets) → IsThereWalk b w → SameRest w new → NetsThere b new.vars.items
+    → Each (λ (y : HeldNet). IsThere b y.net) new.held.items
+    → Each (λ (y : BirthNet). IsThere b y.on × NetsThere b y.args) new.births.items → IsThereWalk b new
 there_rest b w new t r vars held births = record {
   vars = vars;
   held = held;

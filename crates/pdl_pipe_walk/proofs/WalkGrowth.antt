@@ -70,7 +70,8 @@ module _ (c : Circuit) (p : Pipe) (ws : List ℕ) (w : WalkNets) (h : IsWalk c p
   slice_all_wide ns es fs t q = ap widths_of q ∙ arguments_wide (signals_in c vs) ns es (subst (λ l. AreArguments l ns es) (sym slice_widths) t)
 
 -- a location's address reaches each word and no more
-pub reach_at : (c : Circuit) (p : Pipe) (ws : List ℕ) (w : WalkNets) (h : IsWalk c p ws w) (m a : ℕ) (n : Net) (f : Signal) → IsLocation p ws m a → f ≡ signal_at (signals_in c w.vars.items) a → 2 ^ f.width ≡ (mem_at p m).depth
+pub reach_at : (c : Circuit) (p : Pipe) (ws : List ℕ) (w : WalkNets) (h : IsWalk c p ws w) (m a : ℕ) (n : Net) (f : Signal)
+    → IsLocation p ws m a → f ≡ signal_at (signals_in c w.vars.items) a → 2 ^ f.width ≡ (mem_at p m).depth
 reach_at c p ws w h m a n f at q = ap (λ (g : Signal). 2 ^ g.width) q ∙ ap (λ n. 2 ^ n) (var_width p ws (parts_in c w) a h.sized) ∙ at.reach
 
 -- the nets of a walk have one for each variable

@@ -79,5 +79,6 @@ abbrev pub AreSteps : Circuit → Pipe → Locks → (ℕ → Signal) → List S
 AreSteps c p ls tickets xs w w' = Later c (λ d. AreRows d p ls tickets xs w w')
 
 -- the rows lead from a stage's nets in one circuit to its nets in a later one, with these locks and tickets
-abbrev pub AreNetSteps : {T : Type 0} → Members T → Pipe → List (Option (MemLock T)) → List Net → List Stmt → Circuit → WalkNets → Circuit → WalkNets → Type 0
+abbrev pub AreNetSteps : {T : Type 0} → Members T → Pipe → List (Option (MemLock T)) → List Net → List Stmt → Circuit
+    → WalkNets → Circuit → WalkNets → Type 0
 AreNetSteps l p locks tickets xs a w b w' = AreSteps b p (locks_in l p a locks) (tickets_in a tickets) xs (walk_in a w) (walk_in b w')

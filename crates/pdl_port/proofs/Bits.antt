@@ -55,7 +55,8 @@ owned_left j k true false = refl
 owned_left j k false true = refl
 owned_left j k false false = refl
 
-other_left : (j k : ℕ) (gone lost reply : Bool) → (j == k) ≡ false → still gone reply (j == k) ≡ owns (if reply then Idle else (if lost then Orphan else Owned j)) k
+other_left : (j k : ℕ) (gone lost reply : Bool)
+    → (j == k) ≡ false → still gone reply (j == k) ≡ owns (if reply then Idle else (if lost then Orphan else Owned j)) k
 other_left j k true lost true e = refl
 other_left j k true true false e = refl
 other_left j k true false false e = sym e
@@ -76,7 +77,8 @@ left_owns a (Owned j) k = by_place (j == k) refl
     by_place false e = other_left j k (a.removed k) (a.removed j) a.reply e
 
 -- where the port is free no owner stays
-freed : (q : PortState) (reply : Bool) (moves : ℕ → Bool) (k : ℕ) → is_free q reply moves ≡ true → (if reply then false else owns q k) ≡ false
+freed : (q : PortState) (reply : Bool) (moves : ℕ → Bool) (k : ℕ)
+    → is_free q reply moves ≡ true → (if reply then false else owns q k) ≡ false
 freed Idle true moves k e = refl
 freed Idle false moves k e = refl
 freed (Owned j) true moves k e = refl
@@ -85,7 +87,9 @@ freed Orphan true moves k e = refl
 freed Orphan false moves k e = absurd (cc e)
 
 -- after a cycle of proper use the owner is who asks, or the owner before if neither answered nor removed
-pub owns_after : (a : PortAct) (q : PortState) (n k : ℕ) → k < n → ((i j : ℕ) → i < n → j < n → a.asked i ≡ true → a.asked j ≡ true → i ≡ j) → ((j : ℕ) → j < n → a.asked j ≡ true → is_free q a.reply a.moves ≡ true)
+pub owns_after : (a : PortAct) (q : PortState) (n k : ℕ)
+    → k < n → ((i j : ℕ) → i < n → j < n → a.asked i ≡ true → a.asked j ≡ true → i ≡ j)
+    → ((j : ℕ) → j < n → a.asked j ≡ true → is_free q a.reply a.moves ≡ true)
     → (if a.asked k then true else still (a.removed k) a.reply (owns q k)) ≡ owns (asked_request (asker a.asked n) (left_request a q)) k
 owns_after a q n k h one free = by_asker (asker a.asked n) refl
   where
@@ -116,11 +120,14 @@ lost_answered a q zero e = answered_none a.reply (is_orphan q) e
 lost_answered a q (suc n) e = no_more (a.removed n) (if a.reply then false else owns q n) (lost a q n) (answered_none a.reply (owns q n) e) ∙ lost_answered a q n e
 
 -- no place below n owns the request
-lost_unowned : (a : PortAct) (q : PortState) (n : ℕ) → ((k : ℕ) → k < n → owns q k ≡ false) → lost a q n ≡ (if a.reply then false else is_orphan q)
+lost_unowned : (a : PortAct) (q : PortState) (n : ℕ)
+    → ((k : ℕ) → k < n → owns q k ≡ false) → lost a q n ≡ (if a.reply then false else is_orphan q)
 lost_unowned a q zero h = refl
 lost_unowned a q (suc n) h = no_more (a.removed n) (if a.reply then false else owns q n) (lost a q n) (if_false a.reply (owns q n) (h n (omega arith))) ∙ lost_unowned a q n (λ k l. h k (omega arith))
 
-last_lost : (s r o x : Bool) → o ≡ true → x ≡ (if r then false else false) → (if s then (if (if r then false else o) then true else x) else x) ≡ (if r then false else s)
+last_lost : (s r o x : Bool)
+    → o ≡ true → x ≡ (if r then false else false)
+    → (if s then (if (if r then false else o) then true else x) else x) ≡ (if r then false else s)
 last_lost true true o x e i = i
 last_lost true false o x e i = ap (λ u. if u then true else x) e
 last_lost false true o x e i = i
@@ -163,7 +170,8 @@ lost_left a (Owned j) n h = lost_owned a j n (h j refl) ∙ orphan_owned a.reply
 lost_left a Orphan n h = lost_unowned a Orphan n (λ k l. refl) ∙ orphan_orphan a.reply
 
 -- after a cycle of proper use an orphan is outstanding just where the n places leave one
-pub orphan_after : (a : PortAct) (q : PortState) (n : ℕ) → ((k : ℕ) → q ≡ Owned k → k < n) → ((j : ℕ) → j < n → a.asked j ≡ true → is_free q a.reply a.moves ≡ true)
+pub orphan_after : (a : PortAct) (q : PortState) (n : ℕ)
+    → ((k : ℕ) → q ≡ Owned k → k < n) → ((j : ℕ) → j < n → a.asked j ≡ true → is_free q a.reply a.moves ≡ true)
     → lost a q n ≡ is_orphan (asked_request (asker a.asked n) (left_request a q))
 orphan_after a q n below free = by_asker (asker a.asked n) refl
   where
@@ -187,7 +195,8 @@ left_below a Orphan n k h e = by_left a.reply e
     by_left false p = absurd (cc p)
 
 -- the owner after a cycle stands in one of the n places, if the owner before it did
-pub below_after : (a : PortAct) (q : PortState) (n k : ℕ) → ((j : ℕ) → q ≡ Owned j → j < n) → asked_request (asker a.asked n) (left_request a q) ≡ Owned k → k < n
+pub below_after : (a : PortAct) (q : PortState) (n k : ℕ)
+    → ((j : ℕ) → q ≡ Owned j → j < n) → asked_request (asker a.asked n) (left_request a q) ≡ Owned k → k < n
 below_after a q n k h e = by_asker (asker a.asked n) refl e
   where
     by_asker : (o : Option ℕ) → asker a.asked n ≡ o → asked_request o (left_request a q) ≡ Owned k → k < n

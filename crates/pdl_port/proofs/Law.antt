@@ -20,7 +20,8 @@ bit_if true x y = refl
 bit_if false x y = refl
 
 -- a choice between bits, and between a constant and a bit
-choose : (c a b : Signal) (s : State) (t x y : Bool) → c.value s ≡ bit t → a.value s ≡ bit x → b.value s ≡ bit y → (mux_signal c a b).value s ≡ bit (if t then x else y)
+choose : (c a b : Signal) (s : State) (t x y : Bool)
+    → c.value s ≡ bit t → a.value s ≡ bit x → b.value s ≡ bit y → (mux_signal c a b).value s ≡ bit (if t then x else y)
 choose c a b s t x y e f g =
     mux_at c a b s t e ∙ ap (λ n. if t then n else b.value s) f ∙ ap (λ n. if t then bit x else n) g ∙ bit_if t x y
 
@@ -52,7 +53,8 @@ start_law c l r = record {
 }
 
 -- the nets of the answers
-pub answer_law : (l : Layout) (reply word : Signal) (f : ℕ → AnswerSignals) → ((k : ℕ) → k < l.places → f k ≡ place_signals l reply word k) → AnswerLaw (Stands l) l.places reply word f
+pub answer_law : (l : Layout) (reply word : Signal) (f : ℕ → AnswerSignals)
+    → ((k : ℕ) → k < l.places → f k ≡ place_signals l reply word k) → AnswerLaw (Stands l) l.places reply word f
 answer_law l reply word f same = record {
   answered = λ s x r w h p k i. ap (λ (g : AnswerSignals). g.answered.value s) (same k i) ∙ choose (owns_signal l k) reply (const_signal 1 1) s (owns x k) r true (owner_at l s x k h i) p.reply (one_at s);
   given = λ s x r w h p k i. ap (λ (g : AnswerSignals). g.given.value s) (same k i) ∙ choose (owns_signal l k) reply (const_signal 1 0) s (owns x k) r false (owner_at l s x k h i) p.reply (zero_at s);
@@ -64,7 +66,9 @@ answer_law l reply word f same = record {
     comes false r e = absurd (cc e)
 
 -- whether the port is free
-free_value : (l : Layout) (reply : Signal) (moves : ℕ → Signal) (s : State) (x : PortState) (r : Bool) (on : ℕ → Bool) → Stands l s x → reply.value s ≡ bit r → AreBits l.places s moves on → (n : ℕ) → n ≤ l.places → (free_signal l reply moves n).value s ≡ bit (frees x r on n)
+free_value : (l : Layout) (reply : Signal) (moves : ℕ → Signal) (s : State) (x : PortState) (r : Bool) (on : ℕ → Bool)
+    → Stands l s x → reply.value s ≡ bit r → AreBits l.places s moves on → (n : ℕ) → n ≤ l.places
+    → (free_signal l reply moves n).value s ≡ bit (frees x r on n)
 unfolding free_signal
 free_value l reply moves s x r on h e m zero i = choose (reg_signal 1 l.from) reply (const_signal 1 1) s (is_orphan x) r true (orphan_at l s x h) e (one_at s)
 free_value l reply moves s x r on h e m (suc k) i =
@@ -78,21 +82,26 @@ free_value l reply moves s x r on h e m (suc k) i =
     both false b = refl
 
 -- the net of whether a port is free keeps its law, where it means this signal
-pub free_law : (l : Layout) (reply : Signal) (moves : ℕ → Signal) (free : Signal) → free ≡ free_signal l reply moves l.places → FreeLaw (Stands l) l.places reply moves free
+pub free_law : (l : Layout) (reply : Signal) (moves : ℕ → Signal) (free : Signal)
+    → free ≡ free_signal l reply moves l.places → FreeLaw (Stands l) l.places reply moves free
 free_law l reply moves free same = record {
   holds = λ s x r on h p m. ap (λ (g : Signal). g.value s) same ∙ free_value l reply moves s x r on h p m l.places (omega arith) ∙ ap bit (frees_is x r on l.places h.below);
 }
 
 -- what the registers take next
-open_value : (l : Layout) (f : StepSignals) (s : State) (x : PortState) (a : PortAct) (k : ℕ) → Stands l s x → Drives l.places f s a → k < l.places → (open_signal l f k).value s ≡ bit (if a.reply then false else owns x k)
+open_value : (l : Layout) (f : StepSignals) (s : State) (x : PortState) (a : PortAct) (k : ℕ) → Stands l s x
+    → Drives l.places f s a → k < l.places → (open_signal l f k).value s ≡ bit (if a.reply then false else owns x k)
 open_value l f s x a k h d i = choose f.reply (const_signal 1 0) (owns_signal l k) s a.reply false (owns x k) d.reply (zero_at s) (owner_at l s x k h i)
 
-owns_value : (l : Layout) (f : StepSignals) (s : State) (x : PortState) (a : PortAct) (k : ℕ) → Stands l s x → Drives l.places f s a → k < l.places → (next_owns l f k).value s ≡ bit (if a.asked k then true else still (a.removed k) a.reply (owns x k))
+owns_value : (l : Layout) (f : StepSignals) (s : State) (x : PortState) (a : PortAct) (k : ℕ) → Stands l s x
+    → Drives l.places f s a → k < l.places
+    → (next_owns l f k).value s ≡ bit (if a.asked k then true else still (a.removed k) a.reply (owns x k))
 owns_value l f s x a k h d i =
     choose (f.asked k) (const_signal 1 1) (mux_signal (f.removed k) (const_signal 1 0) (open_signal l f k)) s (a.asked k) true (still (a.removed k) a.reply (owns x k)) (d.asked k i) (one_at s)
     (choose (f.removed k) (const_signal 1 0) (open_signal l f k) s (a.removed k) false (if a.reply then false else owns x k) (d.removed k i) (zero_at s) (open_value l f s x a k h d i))
 
-orphan_value : (l : Layout) (f : StepSignals) (s : State) (x : PortState) (a : PortAct) → Stands l s x → Drives l.places f s a → (n : ℕ) → n ≤ l.places → (orphan_signal l f n).value s ≡ bit (lost a x n)
+orphan_value : (l : Layout) (f : StepSignals) (s : State) (x : PortState) (a : PortAct) → Stands l s x
+    → Drives l.places f s a → (n : ℕ) → n ≤ l.places → (orphan_signal l f n).value s ≡ bit (lost a x n)
 unfolding orphan_signal
 orphan_value l f s x a h d zero i = choose f.reply (const_signal 1 0) (reg_signal 1 l.from) s a.reply false (is_orphan x) d.reply (zero_at s) (orphan_at l s x h)
 orphan_value l f s x a h d (suc k) i =
@@ -103,7 +112,8 @@ orphan_value l f s x a h d (suc k) i =
     before
 
 -- the register of a fragment after a cycle
-next_at : (c : Circuit) (l : Layout) (s t : State) (r : ℕ) (f : Signal) → IsNext c (own_all l) s t → l.from ≤ r → r < l.from + (l.places + 1) → next_signal c r ≡ f → slice_index t.regs r ≡ f.value s
+next_at : (c : Circuit) (l : Layout) (s t : State) (r : ℕ) (f : Signal) → IsNext c (own_all l) s t
+    → l.from ≤ r → r < l.from + (l.places + 1) → next_signal c r ≡ f → slice_index t.regs r ≡ f.value s
 next_at c l s t r f n lo hi e = n.regs r lo hi ∙ ap (λ (g : Signal). g.value s) e
 
 -- a port keeps the law of its step, where its registers take what they should

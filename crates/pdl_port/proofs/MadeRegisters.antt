@@ -18,7 +18,9 @@ use Rattle.pdl_port.proofs.PortGrowth.{places_kept, reset_kept}
 use Rattle.pdl_word.proofs.Numbers.{upto}
 
 -- one number more
-pub numbers_more : (xs : List ℕ) (from n : ℕ) → length xs ≡ n → ((k : ℕ) → k < n → get_or xs k 0 ≡ from + k) → (k : ℕ) → k < n + 1 → get_or (xs ++ (from + n) ∷ []) k 0 ≡ from + k
+pub numbers_more : (xs : List ℕ) (from n : ℕ)
+    → length xs ≡ n → ((k : ℕ) → k < n → get_or xs k 0 ≡ from + k) → (k : ℕ) → k < n + 1
+    → get_or (xs ++ (from + n) ∷ []) k 0 ≡ from + k
 numbers_more xs from n e h = upto (λ k. get_or (xs ++ (from + n) ∷ []) k 0 ≡ from + k) n (get_or_push xs (from + n) 0 n e) (λ k lt. get_or_append_left xs ((from + n) ∷ []) 0 k (omega (arith, e, lt)) ∙ h k lt)
 
 -- a new register of an orphan is there for a port that has no place as yet
@@ -35,7 +37,8 @@ places_none c l b = record {
 }
 
 -- with a new register for one place more the first k + 1 places have theirs
-pub places_more : (c d : Circuit) (l : Layout) (k : ℕ) → HasPlaces c l k → Extends c d → IsNewReg d (owns_at l k) 1 0 → HasPlaces d l (k + 1)
+pub places_more : (c d : Circuit) (l : Layout) (k : ℕ) → HasPlaces c l k → Extends c d → IsNewReg d (owns_at l k) 1 0
+    → HasPlaces d l (k + 1)
 places_more c d l k h e o =
     let g = places_kept c d l k h e in
     record {
@@ -54,7 +57,8 @@ pub reset_none : (c : Circuit) (l : Layout) → IsNewReg c l.from 1 0 → AreRes
 reset_none c l b = record { orphan = b.reset; owns = λ k h. absurd (omega arith) }
 
 -- with a new register for one place more all of the first k + 1 are 0 at reset
-pub reset_more : (c d : Circuit) (l : Layout) (k : ℕ) → HasPlaces c l k → AreReset c l k → Extends c d → IsNewReg d (owns_at l k) 1 0 → AreReset d l (k + 1)
+pub reset_more : (c d : Circuit) (l : Layout) (k : ℕ) → HasPlaces c l k → AreReset c l k → Extends c d
+    → IsNewReg d (owns_at l k) 1 0 → AreReset d l (k + 1)
 reset_more c d l k h a e o =
     let g = reset_kept c d l k h a e in
     record {
@@ -72,7 +76,9 @@ answers_none c l reply word = record {
 }
 
 -- with the answers of one place more the nets of the first n + 1 places say what they should
-pub answers_more : (a b : Circuit) (l : Layout) (reply word : Signal) (xs : List Answer) (x : Answer) (n : ℕ) → AreAnswers a l reply word xs n → Extends a b → Means b x.answered (answered_signal l reply n) → Means b x.given (given_signal l reply n) → Means b x.value word → AreAnswers b l reply word (xs ++ x ∷ []) (n + 1)
+pub answers_more : (a b : Circuit) (l : Layout) (reply word : Signal) (xs : List Answer) (x : Answer) (n : ℕ)
+    → AreAnswers a l reply word xs n → Extends a b → Means b x.answered (answered_signal l reply n)
+    → Means b x.given (given_signal l reply n) → Means b x.value word → AreAnswers b l reply word (xs ++ x ∷ []) (n + 1)
 answers_more a b l reply word xs x n h e p q r =
     let here : answer_in (xs ++ x ∷ []) n ≡ x = get_or_push xs x no_answer n h.count in
     let before : (k : ℕ) → k < n → answer_in (xs ++ x ∷ []) k ≡ answer_in xs k = λ k lt. get_or_append_left xs (x ∷ []) no_answer k (omega (arith, h.count, lt)) in

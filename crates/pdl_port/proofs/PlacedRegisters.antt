@@ -31,7 +31,9 @@ pub own_is : (r : PortRegs) → length r.regs ≡ places r + 1 → own_all (layo
 own_is r e = ap (λ (n : ℕ). record { from = first_reg r; to = first_reg r + n; first = 0; last = 0 }) (sym e)
 
 -- the registers of a port are in a circuit as they are listed, with the net of its reply
-pub are_placed : (c : Circuit) (l : Layout) (r : PortRegs) → AreListed l r → l.from + l.places + 1 < 2 ^ 64 → HasPlaces c l l.places → IsThere c r.reply → (signal c r.reply).width ≡ 1 → ArePlaced c r
+pub are_placed : (c : Circuit) (l : Layout) (r : PortRegs) → AreListed l r
+    → l.from + l.places + 1 < 2 ^ 64 → HasPlaces c l l.places → IsThere c r.reply → (signal c r.reply).width ≡ 1
+    → ArePlaced c r
 are_placed c l r a small h p q =
     let P : Layout → Type 0 = λ y. HasPlaces c y y.places in
     let e = first_is l r a in
@@ -45,7 +47,8 @@ are_placed c l r a small h p q =
     }
 
 -- the registers of a port, as they are listed, are new and follow one another
-pub is_fragment : (a b c : Circuit) (l : Layout) (r : PortRegs) → AreListed l r → l.from ≡ length a.regs → length b.regs ≡ l.from + l.places + 1 → Extends b c → IsFragment a c r
+pub is_fragment : (a b c : Circuit) (l : Layout) (r : PortRegs) → AreListed l r
+    → l.from ≡ length a.regs → length b.regs ≡ l.from + l.places + 1 → Extends b c → IsFragment a c r
 unfolding HasReg
 is_fragment a b c l r x f n e =
     let g = first_is l r x in
@@ -57,7 +60,10 @@ is_fragment a b c l r x f n e =
     }
 
 -- the answers' nets are what they mean
-pub answers_are : (a c : Circuit) (l : Layout) (r : PortRegs) → AreAnswers c l (signal a r.reply) (signal a r.word) r.answers l.places → signal c r.reply ≡ signal a r.reply → signal c r.word ≡ signal a r.word → (k : ℕ) → k < l.places → answer_signals c r k ≡ place_signals l (signal c r.reply) (signal c r.word) k
+pub answers_are : (a c : Circuit) (l : Layout) (r : PortRegs)
+    → AreAnswers c l (signal a r.reply) (signal a r.word) r.answers l.places → signal c r.reply ≡ signal a r.reply
+    → signal c r.word ≡ signal a r.word → (k : ℕ) → k < l.places
+    → answer_signals c r k ≡ place_signals l (signal c r.reply) (signal c r.word) k
 answers_are a c l r h p q k i =
     let x = (h.answered k i).same in
     let y = (h.given k i).same in

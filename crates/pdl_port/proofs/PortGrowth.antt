@@ -95,7 +95,8 @@ pub step_kept_but : (o : Own) (a b : Circuit) (n : ℕ) (r : PortRegs) (p : Port
 step_kept_but o a b n r p x e = step_keeps a b n r p x (but_keeps o a b e)
 
 -- what stays but for a range of registers stays but for a wider range
-pub but_wider : (o w : Own) (a b : Circuit) → ((r : ℕ) → Outside w.from w.to r → Outside o.from o.to r) → ((m : ℕ) → Outside w.first w.last m → Outside o.first o.last m) → ExtendsBut o a b → ExtendsBut w a b
+pub but_wider : (o w : Own) (a b : Circuit) → ((r : ℕ) → Outside w.from w.to r → Outside o.from o.to r)
+    → ((m : ℕ) → Outside w.first w.last m → Outside o.first o.last m) → ExtendsBut o a b → ExtendsBut w a b
 but_wider o w a b regs arrays x = record {
   there = x.there;
   kept = x.kept;

@@ -16,22 +16,27 @@ use Rattle.pdl_port.specs.Places.{HasPlaces, HasStep, owns_at}
 use Rattle.pdl_port.specs.Nets.{owns_signal, free_signal, open_signal, orphan_signal, next_owns, NextPlaces}
 use Rattle.pdl_word.proofs.Numbers.{upto}
 
-free_none : (l : Layout) (reply : Signal) (moves : ℕ → Signal) → free_signal l reply moves 0 ≡ mux_signal (reg_signal 1 l.from) reply (const_signal 1 1)
+pub free_none : (l : Layout) (reply : Signal) (moves : ℕ → Signal)
+    → free_signal l reply moves 0 ≡ mux_signal (reg_signal 1 l.from) reply (const_signal 1 1)
 unfolding free_signal
 free_none l reply moves = refl
 
 -- whether a port is free by the first k + 1 places, by whether it is by the first k
-pub free_more : (l : Layout) (reply : Signal) (moves : ℕ → Signal) (k : ℕ) → free_signal l reply moves (k + 1) ≡ mux_signal (owns_signal l k) (mux_signal reply (moves k) (const_signal 1 0)) (free_signal l reply moves k)
+pub free_more : (l : Layout) (reply : Signal) (moves : ℕ → Signal) (k : ℕ)
+    → free_signal l reply moves (k + 1)
+    ≡ mux_signal (owns_signal l k) (mux_signal reply (moves k) (const_signal 1 0)) (free_signal l reply moves k)
 unfolding free_signal
 free_more l reply moves k = ap (free_signal l reply moves) (add-one k)
 
 pub ruleset frees = (free_none, free_more)
 
-orphan_none : (l : Layout) (f : StepSignals) → orphan_signal l f 0 ≡ mux_signal f.reply (const_signal 1 0) (reg_signal 1 l.from)
+pub orphan_none : (l : Layout) (f : StepSignals) → orphan_signal l f 0 ≡ mux_signal f.reply (const_signal 1 0) (reg_signal 1 l.from)
 unfolding orphan_signal
 orphan_none l f = refl
 
-orphan_more : (l : Layout) (f : StepSignals) (k : ℕ) → orphan_signal l f (k + 1) ≡ mux_signal (f.removed k) (mux_signal (open_signal l f k) (const_signal 1 1) (orphan_signal l f k)) (orphan_signal l f k)
+pub orphan_more : (l : Layout) (f : StepSignals) (k : ℕ)
+    → orphan_signal l f (k + 1)
+    ≡ mux_signal (f.removed k) (mux_signal (open_signal l f k) (const_signal 1 1) (orphan_signal l f k)) (orphan_signal l f k)
 unfolding orphan_signal
 orphan_more l f k = ap (orphan_signal l f) (add-one k)
 
@@ -45,7 +50,8 @@ pub record SameStep (n : ℕ) (f g : StepSignals) : Type 0 where
   pub asked : (k : ℕ) → k < n → f.asked k ≡ g.asked k
 
 -- the nets of a step mean the same in a circuit that keeps them
-pub same_step : (a b : Circuit) (n : ℕ) (r : PortRegs) (p : PortStep) → HasStep a n r p → Keeps a b → SameStep n (step_signals b r p) (step_signals a r p)
+pub same_step : (a b : Circuit) (n : ℕ) (r : PortRegs) (p : PortStep) → HasStep a n r p → Keeps a b
+    → SameStep n (step_signals b r p) (step_signals a r p)
 same_step a b n r p x k = record {
   reply = k.kept r.reply x.reply_there;
   moves = λ j h. k.kept (net_at p.moves j) (x.moves_there j h);
@@ -62,7 +68,9 @@ pub places_same : (c : Circuit) (l : Layout) (n : ℕ) (f g : StepSignals) → S
 places_same c l n f g s x = record { owns = λ k h. x.owns k h ∙ owns_same l n f g k s h }
 
 -- the register of one more place takes what it is to take
-pub places_next : (a b c : Circuit) (l : Layout) (n : ℕ) (f : StepSignals) (k : ℕ) → k < n → HasPlaces a l n → NextPlaces a l f k → Extends a b → ExtendsBut (one_reg (owns_at l k)) b c → next_signal c (owns_at l k) ≡ next_owns l f k → NextPlaces c l f (k + 1)
+pub places_next : (a b c : Circuit) (l : Layout) (n : ℕ) (f : StepSignals) (k : ℕ)
+    → k < n → HasPlaces a l n → NextPlaces a l f k → Extends a b → ExtendsBut (one_reg (owns_at l k)) b c
+    → next_signal c (owns_at l k) ≡ next_owns l f k → NextPlaces c l f (k + 1)
 places_next a b c l n f k h x y e o p = record {
   owns = upto (λ j. next_signal c (owns_at l j) ≡ next_owns l f j) k p (λ j lt. let g = x.has_owns j (omega arith) in o.nexts (owns_at l j) (e.has_reg _ g) (inl (omega arith)) ∙ e.nexts (owns_at l j) g ∙ y.owns j lt);
 }
@@ -72,10 +80,15 @@ places_nothing : (c : Circuit) (l : Layout) (f : StepSignals) → NextPlaces c l
 places_nothing c l f = record { owns = λ k h. absurd (omega arith) }
 
 -- whether an orphan is left by one place more
-pub orphan_net : (a b m n d : Circuit) (l : Layout) (r : PortRegs) (p : PortStep) (k : ℕ) (one nought orphan open_net left removed next : Net) → HasPlaces a l l.places → HasStep a l.places r p → k < l.places → Extends a b → Extends b m → Extends m n
-    → Means b one (const_signal 1 1) → Means b nought (const_signal 1 0) → Means b orphan (orphan_signal l (step_signals a r p) k) → removed ≡ net_at p.removed k
-    → Means m open_net (mux_signal (signal b r.reply) (signal b nought) (signal b (Reg (owns_at l k)))) → Means n left (mux_signal (signal m open_net) (signal m one) (signal m orphan))
-    → Means d next (mux_signal (signal n removed) (signal n left) (signal n orphan)) → Means d next (orphan_signal l (step_signals a r p) (k + 1))
+pub orphan_net : (a b m n d : Circuit) (l : Layout) (r : PortRegs) (p : PortStep) (k : ℕ)
+    (one nought orphan open_net left removed next : Net)
+    → HasPlaces a l l.places → HasStep a l.places r p → k < l.places → Extends a b → Extends b m → Extends m n
+    → Means b one (const_signal 1 1) → Means b nought (const_signal 1 0)
+    → Means b orphan (orphan_signal l (step_signals a r p) k) → removed ≡ net_at p.removed k
+    → Means m open_net (mux_signal (signal b r.reply) (signal b nought) (signal b (Reg (owns_at l k))))
+    → Means n left (mux_signal (signal m open_net) (signal m one) (signal m orphan))
+    → Means d next (mux_signal (signal n removed) (signal n left) (signal n orphan))
+    → Means d next (orphan_signal l (step_signals a r p) (k + 1))
 orphan_net a b m n d l r p k one nought orphan open_net left removed next h g i x y z u v w e o q t =
     let reply = x.kept r.reply g.reply_there in
     let none = v.same in

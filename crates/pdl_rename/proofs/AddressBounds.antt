@@ -15,7 +15,9 @@ AllBelow d [] = Unit {0}
 AllBelow d (y ∷ ys) = (y < d) × AllBelow d ys
 
 -- those of enabled reservations
-pub asked_below : (s : State) (d : ℕ) (fs : List ReserveSignal) → ((k : ℕ) → k < length fs → (reserve_at fs k).enable.value s ≡ 1 → (reserve_at fs k).addr.value s < d) → AllBelow d (asked_addresses s fs)
+pub asked_below : (s : State) (d : ℕ) (fs : List ReserveSignal)
+    → ((k : ℕ) → k < length fs → (reserve_at fs k).enable.value s ≡ 1 → (reserve_at fs k).addr.value s < d)
+    → AllBelow d (asked_addresses s fs)
 asked_below s d [] h = tt
 asked_below s d (f ∷ fs) h =
     let rest = asked_below s d fs (λ k l e. h (suc k) (omega arith) e) in
@@ -66,7 +68,8 @@ written_below d base [] xs b = b
 written_below d base (w ∷ ws) xs b = written_below d base ws (with_write base w xs) (put_below d base w xs b)
 
 -- reservations below the depth, at most two, and writes leave the pending writes below it
-pub filled_below : (d : ℕ) (x : LockState) (a : LockAct) → length a.reserves ≤ 2 → AllBelow d a.reserves → AreBelow d x.entries → AreBelow d (filled_entries x a)
+pub filled_below : (d : ℕ) (x : LockState) (a : LockAct)
+    → length a.reserves ≤ 2 → AllBelow d a.reserves → AreBelow d x.entries → AreBelow d (filled_entries x a)
 filled_below d x a one h b = written_below d x.base a.writes (with_reserves a.reserves x.entries) (appended_below d a.reserves x.entries one h b)
 
 drop_below : (d n : ℕ) (xs : List Entry) → AreBelow d xs → AreBelow d (drop n xs)

@@ -12,7 +12,9 @@ use Rattle.pdl_lock_ring.proofs.RingValues.{if_one, if_other, eq_one, eq_none}
 use Rattle.pdl_rename.specs.Places.{AreApart}
 
 -- one write more
-pub writes-push : (s : State) (ps : List WriteSignal) (p : WriteSignal) (xs : List ℕ) → after_writes s (ps ++ p ∷ []) xs ≡ (if p.enable.value s == 1 then set (after_writes s ps xs) (p.addr.value s) (p.value.value s) else after_writes s ps xs)
+pub writes-push : (s : State) (ps : List WriteSignal) (p : WriteSignal) (xs : List ℕ)
+    → after_writes s (ps ++ p ∷ []) xs
+    ≡ (if p.enable.value s == 1 then set (after_writes s ps xs) (p.addr.value s) (p.value.value s) else after_writes s ps xs)
 writes-push s [] p xs = refl
 writes-push s (q ∷ ps) p xs = writes-push s ps p (if q.enable.value s == 1 then set xs (q.addr.value s) (q.value.value s) else xs)
 
@@ -40,7 +42,8 @@ pub record AreExchanged (d n at k : ℕ) (word slot word' slot' : ℕ → ℕ) :
   pub other : (j : ℕ) → j < n → j ≢ k → slot' j ≡ slot j
 
 -- the places stay within the array and different
-pub exchanged_apart : (d n at k : ℕ) (word slot word' slot' : ℕ → ℕ) → k < n → at < d → AreExchanged d n at k word slot word' slot' → AreApart d n word slot → AreApart d n word' slot'
+pub exchanged_apart : (d n at k : ℕ) (word slot word' slot' : ℕ → ℕ)
+    → k < n → at < d → AreExchanged d n at k word slot word' slot' → AreApart d n word slot → AreApart d n word' slot'
 exchanged_apart d n at k word slot word' slot' some lt w p =
     let first = λ (a : ℕ) (e : a ≡ at). let q : word' a ≡ slot k = ap word' e ∙ w.here in q in
     let last = λ (j : ℕ) (e : j ≡ k). let q : slot' j ≡ word at = ap slot' e ∙ w.freed in q in
@@ -86,7 +89,9 @@ exchanged_apart d n at k word slot word' slot' some lt w p =
     }
 
 -- the same places by other functions
-pub apart_same : (d n : ℕ) (word slot word' slot' : ℕ → ℕ) → ((a : ℕ) → a < d → word' a ≡ word a) → ((k : ℕ) → k < n → slot' k ≡ slot k) → AreApart d n word slot → AreApart d n word' slot'
+pub apart_same : (d n : ℕ) (word slot word' slot' : ℕ → ℕ)
+    → ((a : ℕ) → a < d → word' a ≡ word a) → ((k : ℕ) → k < n → slot' k ≡ slot k) → AreApart d n word slot
+    → AreApart d n word' slot'
 apart_same d n word slot word' slot' w v p = record {
   words_in = λ k h. omega (arith, w k h, p.words_in k h);
   slots_in = λ k h. omega (arith, v k h, p.slots_in k h);

@@ -15,7 +15,7 @@ use Rattle.pdl_rename.specs.Nets.{registers_of_map, registers_of_places, mapped_
 pub mapped_width : (l : Layout) (d : Signal) → (mapped_place l d).width ≡ l.slots.kept
 mapped_width l d = selected_width (register_of (registers_of_map l)) d l.slots.kept (λ k. refl) l.slots.bits 0
 
-placed_width : (l : Layout) (d : Signal) → (ticket_place l d).width ≡ l.slots.kept
+pub placed_width : (l : Layout) (d : Signal) → (ticket_place l d).width ≡ l.slots.kept
 placed_width l d = selected_width (register_of (registers_of_places l)) d l.slots.kept (λ k. refl) (l.slots.ticket - 1) 0
 
 -- the place that a look finds has the bits of a place
@@ -25,6 +25,7 @@ found_width l o a t = least_width (key_at l.slots a (last_older l.slots t)) (con
 pub ruleset widths = (mapped_width, placed_width, found_width)
 
 -- the place that the map has for an address
-pub mapped_is : (l : Layout) → IsRenaming l → (a : Signal) (s : State) → a.value s < l.depth → (mapped_place l a).value s ≡ word_place l s (a.value s)
+pub mapped_is : (l : Layout) → IsRenaming l → (a : Signal) (s : State)
+    → a.value s < l.depth → (mapped_place l a).value s ≡ word_place l s (a.value s)
 unfolding reg_value
 mapped_is l z a s h = selected_value (register_of (registers_of_map l)) a s l.slots.bits 0 ∙ ap (λ n. reg_of s (map_at l n)) (let e : a.value s % 2 ^ l.slots.bits ≡ a.value s = mod-eq_of_lt (omega (arith, z.depth, h)) in omega (arith, e))

@@ -24,8 +24,11 @@ same_next : (c : Circuit) (s t : State) (r : ℕ) (g : Signal) → next_signal c
 same_next c s t r g e q = ap (λ (h : Signal). h.value s) e ∙ q ∙ sym (ap (λ (h : Signal). h.value t) e)
 
 -- what is so of each register of a renaming lock
-of_each : (l : Layout) (P : ℕ → Type 0) → l.map ≡ l.slots.from + (2 + 3 * l.slots.size) → P l.slots.from → P (l.slots.from + 1) → ((k : ℕ) → k < l.slots.size → P (addr_at l.slots k)) → ((k : ℕ) → k < l.slots.size → P (has_at l.slots k)) → ((k : ℕ) → k < l.slots.size → P (value_at l.slots k)) → ((k : ℕ) → k < l.depth → P (map_at l k))
-    → (r : ℕ) → l.slots.from ≤ r → r < l.slots.from + (2 + 3 * l.slots.size + l.depth) → P r
+of_each : (l : Layout) (P : ℕ → Type 0)
+    → l.map ≡ l.slots.from + (2 + 3 * l.slots.size) → P l.slots.from → P (l.slots.from + 1)
+    → ((k : ℕ) → k < l.slots.size → P (addr_at l.slots k)) → ((k : ℕ) → k < l.slots.size → P (has_at l.slots k))
+    → ((k : ℕ) → k < l.slots.size → P (value_at l.slots k)) → ((k : ℕ) → k < l.depth → P (map_at l k)) → (r : ℕ)
+    → l.slots.from ≤ r → r < l.slots.from + (2 + 3 * l.slots.size + l.depth) → P r
 of_each l P z head tail addr has value map r lo hi =
     let n = l.slots.size in
     let b = l.slots.from in

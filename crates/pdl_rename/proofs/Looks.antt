@@ -26,19 +26,24 @@ read_mux : (ws : List ℕ) (c x y : ℕ) → slice_index ws (words.mux c x y) �
 unfolding words.mux
 read_mux ws c x y = elim (c == 1) as (λ (t : Bool). slice_index ws (if t then x else y) ≡ (if t then slice_index ws x else slice_index ws y)) [ true ↦ refl | false ↦ refl ]
 
-read_least : (l : Layout) (key : ℕ → Signal) (s : State) (b from : ℕ) → slice_index (store_of l s) ((least_of key (content_signal l.slots) b from).value s) ≡ (least_of key (placed_signal l) b from).value s
+read_least : (l : Layout) (key : ℕ → Signal) (s : State) (b from : ℕ)
+    → slice_index (store_of l s) ((least_of key (content_signal l.slots) b from).value s) ≡ (least_of key (placed_signal l) b from).value s
 unfolding least_of mux_value read_value
 read_least l key s zero from = refl
 read_least l key s (suc b) from = read_mux (store_of l s) _ _ _ ∙ cc (read_least l key s b (from + 2 ^ b), read_least l key s b from)
 
 -- the word at the place that is found is the word found among those at the places
-read_found : (l : Layout) (o a t : Signal) (s : State) → (read_signal l.slots.width l.array (youngest_value l.slots (content_signal l.slots) o a t)).value s ≡ (youngest_value l.slots (placed_signal l) (read_signal l.slots.width l.array o) a t).value s
+read_found : (l : Layout) (o a t : Signal) (s : State)
+    → (read_signal l.slots.width l.array (youngest_value l.slots (content_signal l.slots) o a t)).value s
+    ≡ (youngest_value l.slots (placed_signal l) (read_signal l.slots.width l.array o) a t).value s
 unfolding mux_value read_value
 read_found l o a t s =
     read_mux (store_of l s) ((is_found l.slots a t).value s) _ _
     ∙ ap (λ m. words.mux ((is_found l.slots a t).value s) m (slice_index (store_of l s) (o.value s))) (read_least l (key_at l.slots a (last_older l.slots t)) s (l.slots.ticket - 1) 0)
 
-word_is : (l : Layout) → IsRenaming l → (a : Signal) (s : State) (x : LockState) → Stands l s x → a.value s < l.depth → (read_signal l.slots.width l.array (mapped_place l a)).value s ≡ slice_index x.words (a.value s)
+word_is : (l : Layout) → IsRenaming l → (a : Signal) (s : State) (x : LockState) → Stands l s x
+    → a.value s < l.depth
+    → (read_signal l.slots.width l.array (mapped_place l a)).value s ≡ slice_index x.words (a.value s)
 unfolding read_value
 word_is l z a s x h lt = ap (slice_index (store_of l s)) (mapped_is l z a s lt) ∙ h.words (a.value s) lt
 
@@ -47,7 +52,9 @@ abbrev ready_of : Kind → List Entry → ℕ → ℕ
 ready_of R es a = bit (is_some (youngest es a (Some 0)))
 ready_of W es a = bit true
 
-picks : (l : Layout) (u : Kind) (a t : Signal) (s : State) (x : LockState) (d : ℕ) → IsRenaming l → HasEntries l.slots (placed_signal l) s x → Seeks l.slots s x t d → (youngest_look u (youngest_ready l.slots a t)).value s ≡ ready_of u (take d x.entries) (a.value s)
+picks : (l : Layout) (u : Kind) (a t : Signal) (s : State) (x : LockState) (d : ℕ) → IsRenaming l
+    → HasEntries l.slots (placed_signal l) s x → Seeks l.slots s x t d
+    → (youngest_look u (youngest_ready l.slots a t)).value s ≡ ready_of u (take d x.entries) (a.value s)
 unfolding const_value
 picks l R a t s x d z h k = youngest_looked l.slots (placed_signal l) s x a t d z.sized h k
 picks l W a t s x d z h k = refl
@@ -69,7 +76,8 @@ look_law l u a t z v w = record {
       ∙ value_looked l.slots (placed_signal l) s x a t (n - x.base) z.sized h.entries (seeks_covered l.slots (placed_signal l) s x t n z.sized h.entries w k e) (read_signal l.slots.width l.array (mapped_place l a)) (word_is l z a s x h (fits_in l z a s v fit)) ready;
 }
 
-pub late_law : (l : Layout) (u : Kind) (a t : Signal) → IsRenaming l → a.width ≡ l.slots.bits → t.width ≡ l.slots.ticket
+pub late_law : (l : Layout) (u : Kind) (a t : Signal) → IsRenaming l
+    → a.width ≡ l.slots.bits → t.width ≡ l.slots.ticket
     → LateLookLaw (Stands l) Rename l.slots.size l.slots.ticket u a t (youngest_look u (youngest_ready l.slots a t)) (Some (found_word l a t))
 late_law l u a t z v w = record {
   answers = λ two s x h e. picks l u a t s x (length x.entries) z h.entries (seeks_late l.slots (placed_signal l) s x t z.sized h.entries w two e) ∙ ap (λ zs. ready_of u zs (a.value s)) (all_older x) ∙ ready_is u x (next_ticket x + 1) (a.value s);

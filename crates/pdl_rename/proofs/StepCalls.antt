@@ -14,7 +14,9 @@ use Rattle.pdl_rename.specs.Places.{IsRenaming, HasMap, HasStore, map_at}
 use Rattle.pdl_rename.specs.Nets.{NextMap, NextPlaces, AreRenamed, own_map, own_store, own_rename}
 
 -- what a part of the lock's registers, or the array, takes next
-row_in_rename : (l : Layout) (from n : ℕ) (a b : Circuit) → l.slots.from ≤ from → from + n ≤ l.slots.from + (2 + 3 * l.slots.size + l.depth) → ExtendsBut (own_row from n) a b → ExtendsBut (own_rename l) a b
+row_in_rename : (l : Layout) (from n : ℕ) (a b : Circuit)
+    → l.slots.from ≤ from → from + n ≤ l.slots.from + (2 + 3 * l.slots.size + l.depth) → ExtendsBut (own_row from n) a b
+    → ExtendsBut (own_rename l) a b
 row_in_rename l from n a b lo hi x = but_wider (own_row from n) (own_rename l) a b
     (λ k o. ⊎_elim (λ (h : k < l.slots.from). inl (omega (arith, h, lo))) (λ (h : l.slots.from + (2 + 3 * l.slots.size + l.depth) ≤ k). inr (omega (arith, h, hi))) o)
     (λ m o. inr (omega arith)) x
@@ -40,15 +42,20 @@ pub map_in_rename : (l : Layout) (a b : Circuit) → IsRenaming l → ExtendsBut
 map_in_rename l a b z x = row_in_rename l l.map l.depth a b (omega (arith, z.map)) (omega (arith, z.map)) x
 
 -- nothing writes the array after a change of registers alone
-pub stays_empty : (o : Own) (a b : Circuit) (l : Layout) → o.last ≡ 0 → HasStore a l → ExtendsBut o a b → write_signals a l.array ≡ [] → write_signals b l.array ≡ []
+pub stays_empty : (o : Own) (a b : Circuit) (l : Layout)
+    → o.last ≡ 0 → HasStore a l → ExtendsBut o a b → write_signals a l.array ≡ [] → write_signals b l.array ≡ []
 stays_empty o a b l z h x e = x.writes l.array h.has_store (inr (omega (arith, z))) ∙ e
 
 -- what the slots' places take next stays as it is in a change that leaves their registers out
-pub places_stay : (o : Own) (a b : Circuit) (l : Layout) (f : StepSignals) → ((k : ℕ) → k < l.slots.size → Outside o.from o.to (value_at l.slots k)) → HasSlots a l.slots → NextPlaces a l f l.slots.size → ExtendsBut o a b → NextPlaces b l f l.slots.size
+pub places_stay : (o : Own) (a b : Circuit) (l : Layout) (f : StepSignals)
+    → ((k : ℕ) → k < l.slots.size → Outside o.from o.to (value_at l.slots k)) → HasSlots a l.slots
+    → NextPlaces a l f l.slots.size → ExtendsBut o a b → NextPlaces b l f l.slots.size
 places_stay o a b l f out h x y = record { place = λ k lt. y.nexts (value_at l.slots k) (h.has_value k lt) (out k lt) ∙ x.place k lt }
 
 -- what the map's registers take next stays as it is in a change that leaves them out
-pub map_stays : (o : Own) (a b : Circuit) (l : Layout) (f : StepSignals) → ((k : ℕ) → k < l.depth → Outside o.from o.to (map_at l k)) → HasMap a l l.depth → NextMap a l f l.depth → ExtendsBut o a b → NextMap b l f l.depth
+pub map_stays : (o : Own) (a b : Circuit) (l : Layout) (f : StepSignals)
+    → ((k : ℕ) → k < l.depth → Outside o.from o.to (map_at l k)) → HasMap a l l.depth → NextMap a l f l.depth
+    → ExtendsBut o a b → NextMap b l f l.depth
 map_stays o a b l f out h x y = record { map = λ k lt. y.nexts (map_at l k) (h.has_map k lt) (out k lt) ∙ x.map k lt }
 
 -- the nets of the commit ports keep their meaning and widths when more is added to a circuit

@@ -16,7 +16,9 @@ use Rattle.pdl_rename.proofs.Module.{regs_are}
 use Rattle.pdl_word.proofs.Lists.{either}
 
 -- a slot that no reservation and no write of a cycle is of stays as it is, but for its place
-pub still_law : (b : Circuit) (l : Layout) (f : StepSignals) (r : LockRegs) → IsRenaming l → r.slots ≡ slots_of l.slots l.slots.size → TicketsFit l.slots.ticket f → NextRename b l f → StillLaw (Stands l) l.slots.size l.slots.ticket (own_rename l) b f r
+pub still_law : (b : Circuit) (l : Layout) (f : StepSignals) (r : LockRegs) → IsRenaming l
+    → r.slots ≡ slots_of l.slots l.slots.size → TicketsFit l.slots.ticket f → NextRename b l f
+    → StillLaw (Stands l) l.slots.size l.slots.ticket (own_rename l) b f r
 unfolding reg_value
 still_law b l f r z listed t n = record {
   still = λ s u x a k j h d p o below within spared.

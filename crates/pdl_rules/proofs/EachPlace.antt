@@ -10,7 +10,9 @@ Each P before [] = ⊤
 Each P before (x ∷ xs) = P before x × Each P (before ++ x ∷ []) xs
 
 -- what holds of a place wherever a list is split at it holds of each place of the list
-pub each_from : (P : List Place → Place → Type 0) (xs before : List Place) → ((front : List Place) (x : Place) (later : List Place) → xs ≡ front ++ x ∷ later → P (before ++ front) x) → Each P before xs
+pub each_from : (P : List Place → Place → Type 0) (xs before : List Place)
+    → ((front : List Place) (x : Place) (later : List Place) → xs ≡ front ++ x ∷ later → P (before ++ front) x)
+    → Each P before xs
 each_from P [] before h = tt
 each_from P (x ∷ xs) before h = (
   rw append-nil at (h [] x xs refl),

@@ -89,7 +89,8 @@ used_in_next_stage : of_body (a ∷ delayed_read "x" "d" "a" ∷ next ∷ separa
 used_in_next_stage = refl
 
 -- on the path
-used_in_branch : of_body (a ∷ g ∷ next ∷ delayed_read "x" "d" "a" ∷ choice "g" (separator ∷ bind "y" (variable "x") ∷ []) [] ∷ separator ∷ []) ≡ None
+used_in_branch : of_body (a ∷ g ∷ next ∷ delayed_read "x" "d" "a" ∷ choice "g" (separator ∷ bind "y" (variable "x") ∷ []) [] ∷ separator ∷ [])
+    ≡ None
 used_in_branch = refl
 
 used_in_other_branch :
@@ -114,7 +115,8 @@ reserved_after_fork = refl
 bound_in_time : of_body (a ∷ reserve "q" "a" R ∷ block "q" "a" ∷ delayed_read "x" "q" "a" ∷ next ∷ separator ∷ release "q" "a" ∷ []) ≡ None
 bound_in_time = refl
 
-bound_late : of_body (a ∷ reserve "q" "a" R ∷ block "q" "a" ∷ delayed_read "x" "q" "a" ∷ release "q" "a" ∷ next ∷ separator ∷ []) ≡ at_line L8 6
+bound_late : of_body (a ∷ reserve "q" "a" R ∷ block "q" "a" ∷ delayed_read "x" "q" "a" ∷ release "q" "a" ∷ next ∷ separator ∷ [])
+    ≡ at_line L8 6
 bound_late = refl
 
 -- by path: bound in the branch's stage, or in the merge, where the release stands

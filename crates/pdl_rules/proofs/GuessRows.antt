@@ -67,7 +67,8 @@ verified_on_one_path = refl
 verified_on_each_path : of_body (g ∷ spec_check ∷ guess ∷ separator ∷ choice "g" (verified ∷ []) (verified ∷ []) ∷ []) ≡ None
 verified_on_each_path = refl
 
-verified_in_two_stages : of_body (g ∷ spec_check ∷ guess ∷ separator ∷ choice "g" (verified ∷ []) [] ∷ separator ∷ choice "g" [] (verified ∷ []) ∷ []) ≡ at_line S3 29
+verified_in_two_stages : of_body (g ∷ spec_check ∷ guess ∷ separator ∷ choice "g" (verified ∷ []) [] ∷ separator ∷ choice "g" [] (verified ∷ []) ∷ [])
+    ≡ at_line S3 29
 verified_in_two_stages = refl
 
 -- BARRIERS AND CHECKS
@@ -82,7 +83,8 @@ released_unsure = refl
 released_after_barrier : of_body (a ∷ v ∷ spec_barrier ∷ written ++ guess ∷ separator ∷ verified ∷ []) ≡ None
 released_after_barrier = refl
 
-barrier_on_one_path : of_body (a ∷ v ∷ g ∷ spec_check ∷ choice "g" (spec_barrier ∷ []) [] ∷ written ++ guess ∷ separator ∷ verified ∷ []) ≡ at_line S4 11
+barrier_on_one_path : of_body (a ∷ v ∷ g ∷ spec_check ∷ choice "g" (spec_barrier ∷ []) [] ∷ written ++ guess ∷ separator ∷ verified ∷ [])
+    ≡ at_line S4 11
 barrier_on_one_path = refl
 
 -- the release of a read reservation changes nothing

@@ -59,7 +59,7 @@ stays_places ms (d ∷ xs) vs x e =
 -- VARIABLES SO FAR
 
 -- whether a place defines a variable, or any name
-abbrev defines_variable : List ℕ → Place → Bool
+abbrev pub defines_variable : List ℕ → Place → Bool
 defines_variable x d = is_some_and (bytes_eq x) (variable_at d)
 
 -- whether a place defines this name, of whatever kind
@@ -85,7 +85,8 @@ any_split f xs x e = ⊎_elim (λ a. inl a) (λ a. inr (last (f x) a)) (or_cases
     last false a = a
 
 -- a place that defines no variable
-pub known_same : (p : Pipe) (vs : List Var) (before : List Place) (d : Place) → variable_at d ≡ None → after_place p.mems vs d ≡ vs → AreKnown p vs before → AreKnown p vs (before ++ d ∷ [])
+pub known_same : (p : Pipe) (vs : List Var) (before : List Place) (d : Place)
+    → variable_at d ≡ None → after_place p.mems vs d ≡ vs → AreKnown p vs before → AreKnown p vs (before ++ d ∷ [])
 known_same p vs before d none same k = record {
   vars = fold_push (after_place p.mems) [] before d ∙ ap (λ us. after_place p.mems us d) k.vars ∙ same;
   named = λ x e. ⊎_elim (k.named x) (λ a. absurd (false≢true (sym (ap (is_some_and (bytes_eq x)) none) ∙ a))) (any_split (defines_variable x) before d e);
@@ -93,8 +94,10 @@ known_same p vs before d none same k = record {
 }
 
 -- a place that defines this variable, with this width
-pub known_more : (p : Pipe) (vs : List Var) (before : List Place) (d : Place) (x : List ℕ) (w : ℕ) → variable_at d ≡ Some x → name_at d ≡ Some x → after_place p.mems vs d ≡ with_variable vs x w
-    → breaks_n2 p before d ≡ false → AreKnown p vs before → AreKnown p (vs ++ record { name = x; width = w } ∷ []) (before ++ d ∷ [])
+pub known_more : (p : Pipe) (vs : List Var) (before : List Place) (d : Place) (x : List ℕ) (w : ℕ)
+    → variable_at d ≡ Some x → name_at d ≡ Some x → after_place p.mems vs d ≡ with_variable vs x w
+    → breaks_n2 p before d ≡ false → AreKnown p vs before
+    → AreKnown p (vs ++ record { name = x; width = w } ∷ []) (before ++ d ∷ [])
 known_more p vs before d x w variable name after unbroken k = record {
   vars = fold_push (after_place p.mems) [] before d ∙ ap (λ us. after_place p.mems us d) k.vars ∙ after ∙ ap (λ b. if b then vs else vs ++ record { name = x; width = w } ∷ []) fresh;
   named = λ y e. ⊎_elim
@@ -114,7 +117,8 @@ known_more p vs before d x w variable name after unbroken k = record {
     fresh = false_from_ne_true (list_any (λ (v : Var). bytes_eq x v.name) vs) (λ t. both_ways (list_any (takes_name x) before) (or_parts (bytes_eq x p.name.name) (list_any (takes_name x) before) free).1 (k.taken x t))
 
 -- all variables of the pipe keep the widths of those so far
-pub known_stay : (p : Pipe) (vs : List Var) (before later : List Place) → places p ≡ before ++ later → AreKnown p vs before → Stays vs (variables p)
+pub known_stay : (p : Pipe) (vs : List Var) (before later : List Place)
+    → places p ≡ before ++ later → AreKnown p vs before → Stays vs (variables p)
 known_stay p vs before later e k = subst (Stays vs) (sym all) (stays_places p.mems later vs)
   where
     all : variables p ≡ fold (after_place p.mems) vs later
@@ -123,13 +127,15 @@ known_stay p vs before later e k = subst (Stays vs) (sym all) (stays_places p.me
 -- PARAMETERS AND MEMORIES
 
 -- memories after the places so far define no further variable
-pub known_mems : (p : Pipe) (ms : List Mem) (vs : List Var) (before : List Place) → AreKnown p vs before → AreKnown p vs (before ++ map Memory ms)
+pub known_mems : (p : Pipe) (ms : List Mem) (vs : List Var) (before : List Place) → AreKnown p vs before
+    → AreKnown p vs (before ++ map Memory ms)
 known_mems p [] vs before k = subst (AreKnown p vs) (sym (append-nil before)) k
 known_mems p (m ∷ ms) vs before k =
     subst (AreKnown p vs) (append_assoc before (Memory m ∷ []) (map Memory ms)) (known_mems p ms vs (before ++ Memory m ∷ []) (known_same p vs before (Memory m) refl refl k))
 
 -- the name of a parameter is one of the names that the parameters' variables have
-pub params_named : (ps : List Param) (x : List ℕ) → list_any (λ (a : Param). bytes_eq x a.name.name) ps ≡ true → IsTrue (is_named (params_of ps) x)
+pub params_named : (ps : List Param) (x : List ℕ)
+    → list_any (λ (a : Param). bytes_eq x a.name.name) ps ≡ true → IsTrue (is_named (params_of ps) x)
 params_named [] x e = absurd (false≢true e)
 params_named (a ∷ ps) x e =
     ⊎_elim

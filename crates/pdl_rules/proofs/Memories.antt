@@ -92,7 +92,9 @@ deep (x ∷ ms) m all e =
 -- NAMES
 
 -- no memory has a name that a place before takes
-not_again : (p : Pipe) (n : List ℕ) (ms : List Mem) (before : List Place) → ((x : List ℕ) → bytes_eq x n ≡ true → list_any (takes_name x) before ≡ true) → Each (Keeps p) before (map Memory ms) → IsFalse (is_memory ms n)
+not_again : (p : Pipe) (n : List ℕ) (ms : List Mem) (before : List Place)
+    → ((x : List ℕ) → bytes_eq x n ≡ true → list_any (takes_name x) before ≡ true)
+    → Each (Keeps p) before (map Memory ms) → IsFalse (is_memory ms n)
 not_again p n [] before h each = refl
 not_again p n (m ∷ ms) before h each =
     let free = (or_parts (bytes_eq m.name.name p.name.name) (list_any (takes_name m.name.name) before) each.0.n2).1 in

@@ -42,13 +42,15 @@ reads_and_writes = refl
 
 -- LIMITS
 
-seventeen_memories : of_pipe (whole (param "n" 4 ∷ []) (replicate 16 (comb 2 "m" 8 4 None) ++ comb 9 "m" 8 4 None ∷ []) (next ∷ []) (literal 4 0 ∷ [])) ≡ at_line Z4 9
+seventeen_memories : of_pipe (whole (param "n" 4 ∷ []) (replicate 16 (comb 2 "m" 8 4 None) ++ comb 9 "m" 8 4 None ∷ []) (next ∷ []) (literal 4 0 ∷ []))
+    ≡ at_line Z4 9
 seventeen_memories = refl
 
 wide_parameter : of_pipe (whole (param "n" 65 ∷ []) [] (next ∷ []) (literal 4 0 ∷ [])) ≡ at_line Z7 1
 wide_parameter = refl
 
-no_power_of_two : of_pipe (whole (param "n" 4 ∷ []) (comb 2 "m" 8 4 None ∷ comb 5 "t" 8 6 None ∷ []) (next ∷ []) (literal 4 0 ∷ [])) ≡ at_line Z7 5
+no_power_of_two : of_pipe (whole (param "n" 4 ∷ []) (comb 2 "m" 8 4 None ∷ comb 5 "t" 8 6 None ∷ []) (next ∷ []) (literal 4 0 ∷ []))
+    ≡ at_line Z7 5
 no_power_of_two = refl
 
 no_size : of_pipe (whole (param "n" 4 ∷ []) (comb 2 "m" 8 4 (queue 3) ∷ []) (next ∷ []) (literal 4 0 ∷ [])) ≡ at_line Z7 2
@@ -122,7 +124,8 @@ extended_to_less = refl
 extended_too_far : of_pipe (pipe (bind "b" (SignExtend (variable "n") (number 65)) ∷ next ∷ [])) ≡ at_line W2 3
 extended_too_far = refl
 
-too_many_together : of_pipe (pipe (bind "b" (ZeroExtend (variable "n") (number 64)) ∷ bind "c" (Cat (variable "b") (variable "n")) ∷ next ∷ [])) ≡ at_line W2 4
+too_many_together : of_pipe (pipe (bind "b" (ZeroExtend (variable "n") (number 64)) ∷ bind "c" (Cat (variable "b") (variable "n")) ∷ next ∷ []))
+    ≡ at_line W2 4
 too_many_together = refl
 
 wide_condition : of_pipe (pipe (bind "b" (Choose (variable "n") (variable "n") (variable "n")) ∷ next ∷ [])) ≡ at_line W3 3
@@ -148,7 +151,8 @@ no_lock = refl
 write_without_lock : of_pipe (pipe (address ∷ value ∷ write "t" "a" (variable "v") ∷ next ∷ [])) ≡ at_line F5 5
 write_without_lock = refl
 
-read_without_block : of_pipe (pipe (address ∷ reserve "m" "a" R ∷ read "x" "m" "a" ∷ block "m" "a" ∷ release "m" "a" ∷ next ∷ [])) ≡ at_line L1 5
+read_without_block : of_pipe (pipe (address ∷ reserve "m" "a" R ∷ read "x" "m" "a" ∷ block "m" "a" ∷ release "m" "a" ∷ next ∷ []))
+    ≡ at_line L1 5
 read_without_block = refl
 
 read_of_a_write : of_pipe (pipe (address ∷ reserve "m" "a" W ∷ block "m" "a" ∷ read "x" "m" "a" ∷ next ∷ [])) ≡ at_line L1 6
@@ -157,7 +161,8 @@ read_of_a_write = refl
 released_twice : of_pipe (pipe (address ∷ value ∷ written ++ release "m" "a" ∷ next ∷ [])) ≡ at_line L1 9
 released_twice = refl
 
-late_reservation : of_pipe (pipe (address ∷ value ∷ bind "b" (slice "n" 3 2) ∷ written ++ reserve "m" "b" R ∷ block "m" "b" ∷ release "m" "b" ∷ next ∷ [])) ≡ at_line L3 10
+late_reservation : of_pipe (pipe (address ∷ value ∷ bind "b" (slice "n" 3 2) ∷ written ++ reserve "m" "b" R ∷ block "m" "b" ∷ release "m" "b" ∷ next ∷ []))
+    ≡ at_line L3 10
 late_reservation = refl
 
 read_after_write :
@@ -170,7 +175,8 @@ two_writes :
     ≡ at_line L4 10
 two_writes = refl
 
-reserved_again : of_pipe (pipe (address ∷ reserve "m" "a" R ∷ reserve "m" "a" R ∷ block "m" "a" ∷ release "m" "a" ∷ next ∷ [])) ≡ at_line L5 5
+reserved_again : of_pipe (pipe (address ∷ reserve "m" "a" R ∷ reserve "m" "a" R ∷ block "m" "a" ∷ release "m" "a" ∷ next ∷ []))
+    ≡ at_line L5 5
 reserved_again = refl
 
 never_written : of_pipe (pipe (address ∷ reserve "m" "a" W ∷ block "m" "a" ∷ release "m" "a" ∷ next ∷ [])) ≡ at_line L6 6

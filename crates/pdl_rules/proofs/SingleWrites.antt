@@ -27,7 +27,8 @@ pub record KeepsLocks (p : Pipe) (before : List Place) (x : Place) : Type 0 wher
 -- LISTS
 
 -- where some element passes a test, some element passes a weaker one
-pub any_weaker : {X : Type 0} (f g : X → Bool) → ((x : X) → f x ≡ true → g x ≡ true) → (xs : List X) → list_any f xs ≡ true → list_any g xs ≡ true
+pub any_weaker : {X : Type 0} (f g : X → Bool)
+    → ((x : X) → f x ≡ true → g x ≡ true) → (xs : List X) → list_any f xs ≡ true → list_any g xs ≡ true
 any_weaker f g h [] e = e
 any_weaker f g h (x ∷ xs) e =
     ⊎_elim (λ a. or_left (g x) (list_any g xs) (h x a)) (λ a. or_right (g x) (list_any g xs) (any_weaker f g h xs a)) (or_cases (f x) (list_any f xs) e)
@@ -107,7 +108,8 @@ one_place l a (Statement (Reserve s at k) bs) e f =
 one_place l a _ e f = absurd (false≢true e)
 
 -- what is held to be written was reserved for it
-pub unheld : (l : Location) (h : Hold) (x : Place) → reserves_to_write l x ≡ false → is_held_for W h ≡ false → is_held_for W (after_place l h x) ≡ false
+pub unheld : (l : Location) (h : Hold) (x : Place)
+    → reserves_to_write l x ≡ false → is_held_for W h ≡ false → is_held_for W (after_place l h x) ≡ false
 unheld l h (Statement (Reserve s at k) bs) e f = go (same_location at l) e
   where
     go : (b : Bool) → (same_kind W k && b) ≡ false → is_held_for W (if b then Reserved k else h) ≡ false
@@ -131,7 +133,9 @@ unheld l h (Statement (Release s at) bs) e f = go (same_location at l)
     go false = f
 unheld l h _ e f = f
 
-reserved_if_held : (l : Location) (xs : List Place) (h : Hold) → is_held_for W h ≡ false → is_held_for W (fold (after_place l) h xs) ≡ true → list_any (reserves_to_write l) xs ≡ true
+reserved_if_held : (l : Location) (xs : List Place) (h : Hold)
+    → is_held_for W h ≡ false → is_held_for W (fold (after_place l) h xs) ≡ true
+    → list_any (reserves_to_write l) xs ≡ true
 reserved_if_held l [] h f e = absurd (both_ways _ f e)
 reserved_if_held l (x ∷ xs) h f e =
     ⊎_elim
@@ -140,7 +144,9 @@ reserved_if_held l (x ∷ xs) h f e =
     (cases_Bool (reserves_to_write l x))
 
 -- of one write reservation a memory there is one location
-pub unique : (l a : Location) → l.mem.name ≡ a.mem.name → (xs : List Place) → count_by (is_reserve_of W a.mem.name) xs ≤ 1 → list_any (reserves_to_write l) xs ≡ true → list_any (reserves_to_write a) xs ≡ true → same_location l a ≡ true
+pub unique : (l a : Location)
+    → l.mem.name ≡ a.mem.name → (xs : List Place) → count_by (is_reserve_of W a.mem.name) xs ≤ 1
+    → list_any (reserves_to_write l) xs ≡ true → list_any (reserves_to_write a) xs ≡ true → same_location l a ≡ true
 unique l a same [] n e f = absurd (false≢true e)
 unique l a same (x ∷ xs) n e f = by_place (or_cases _ _ e) (or_cases _ _ f) (unique l a same xs fewer)
   where
@@ -180,7 +186,9 @@ pub record AreBacked (before : List Place) : Type 0 where
 pub none_backed : AreBacked []
 none_backed = record { single = λ m. omega arith; backed = refl }
 
-first_reserve : (before : List Place) (x : Place) → is_one_too_many before x ≡ false → (m : List ℕ) → is_reserve_of W m x ≡ true → count_by (is_reserve_of W m) before ≡ 0
+first_reserve : (before : List Place) (x : Place)
+    → is_one_too_many before x ≡ false → (m : List ℕ) → is_reserve_of W m x ≡ true
+    → count_by (is_reserve_of W m) before ≡ 0
 first_reserve before (Statement (Reserve s l W) bs) few m e =
     let none : count_by (is_reserve_of W l.mem.name) before < 1 = leb-false 1 _ few in
     let zero_count : count_by (is_reserve_of W l.mem.name) before ≡ 0 = omega arith in
@@ -201,7 +209,8 @@ held_if_blocked (Reserved k) e = absurd (false≢true e)
 held_if_blocked Released e = absurd (false≢true e)
 
 -- where a location is blocked to be written, a place before has reserved it to be written
-pub reserved_if_blocked : (l : Location) (before : List Place) → hold_after l before ≡ Blocked W → list_any (reserves_to_write l) before ≡ true
+pub reserved_if_blocked : (l : Location) (before : List Place)
+    → hold_after l before ≡ Blocked W → list_any (reserves_to_write l) before ≡ true
 reserved_if_blocked l before e = reserved_if_held l before Nothing refl (ap (is_held_for W) e)
 
 backed_here : (p : Pipe) (before : List Place) (x : Place) → lacks_hold p before x ≡ false → is_backed before x ≡ true
@@ -228,11 +237,15 @@ backed_next p before x k b = record {
         omega (arith, count_push (is_reserve_of W m) before x)
 
 -- a write of the memory after which another stands to one location, goes to that location too
-written_there : (before : List Place) (a : Location) → AreBacked before → list_any (reserves_to_write a) before ≡ true → (x : Place) → is_backed before x ≡ true → is_write_of a.mem.name x ≡ true → writes_location a x ≡ true
+written_there : (before : List Place) (a : Location) → AreBacked before
+    → list_any (reserves_to_write a) before ≡ true → (x : Place) → is_backed before x ≡ true
+    → is_write_of a.mem.name x ≡ true → writes_location a x ≡ true
 written_there before a b r (Statement (Write s l v) bs) e w = unique l a (bytes_same _ _ w) before (b.single a.mem.name) e r
 written_there before a b r _ e w = absurd (false≢true w)
 
-all_there : (before : List Place) (a : Location) → AreBacked before → list_any (reserves_to_write a) before ≡ true → (xs : List Place) → list_all (is_backed before) xs ≡ true → list_any (is_write_of a.mem.name) xs ≡ true → list_any (writes_location a) xs ≡ true
+all_there : (before : List Place) (a : Location) → AreBacked before
+    → list_any (reserves_to_write a) before ≡ true → (xs : List Place) → list_all (is_backed before) xs ≡ true
+    → list_any (is_write_of a.mem.name) xs ≡ true → list_any (writes_location a) xs ≡ true
 all_there before a b r [] e w = absurd (false≢true w)
 all_there before a b r (x ∷ xs) e w =
     let parts = and_parts (is_backed before x) (list_all (is_backed before) xs) e in
@@ -249,7 +262,8 @@ record IsStuck (l : Location) (before : List Place) : Type 0 where
   reserved : list_any (reserves_location l) before ≡ true
   many : 2 ≤ count_by (writes_location l) before
 
-stays_held : (p : Pipe) (l : Location) (before : List Place) (x : Place) → KeepsLocks p before x → IsStuck l before → after_place l (Blocked W) x ≡ Blocked W
+stays_held : (p : Pipe) (l : Location) (before : List Place) (x : Place) → KeepsLocks p before x → IsStuck l before
+    → after_place l (Blocked W) x ≡ Blocked W
 stays_held p l before (Statement (Reserve s at k) bs) keeps stuck = go (same_location at l) refl
   where
     go : (b : Bool) → same_location at l ≡ b → (if b then Reserved k else Blocked W) ≡ Blocked W
@@ -273,7 +287,8 @@ stays_held p l before (Statement (Release s at) bs) keeps stuck = go (same_locat
     go false e = refl
 stays_held p l before _ keeps stuck = refl
 
-stuck_next : (p : Pipe) (l : Location) (before : List Place) (x : Place) → KeepsLocks p before x → IsStuck l before → IsStuck l (before ++ x ∷ [])
+stuck_next : (p : Pipe) (l : Location) (before : List Place) (x : Place) → KeepsLocks p before x → IsStuck l before
+    → IsStuck l (before ++ x ∷ [])
 stuck_next p l before x keeps stuck = record {
   holds = fold_push (after_place l) Nothing before x ∙ ap (λ h. after_place l h x) stuck.holds ∙ stays_held p l before x keeps stuck;
   reserved = any_front (reserves_location l) before x stuck.reserved;
@@ -282,17 +297,20 @@ stuck_next p l before x keeps stuck = record {
       omega (arith, count_push (writes_location l) before x);
 }
 
-pub left_open : (before : List Place) (l : Location) → hold_after l before ≡ Blocked W → (x : Place) → reserves_location l x ≡ true → leaves_open before x ≡ true
+pub left_open : (before : List Place) (l : Location)
+    → hold_after l before ≡ Blocked W → (x : Place) → reserves_location l x ≡ true → leaves_open before x ≡ true
 left_open before l e (Statement (Reserve s at k) bs) same = rw (held_alike at l same before, e) refl
 left_open before l e _ same = absurd (false≢true same)
 
-stuck_at_end : (p : Pipe) (l : Location) (xs later before : List Place) (s : Span) → IsStuck l before → Each (KeepsLocks p) before (xs ++ End s ∷ later) → ⊥
+stuck_at_end : (p : Pipe) (l : Location) (xs later before : List Place) (s : Span) → IsStuck l before
+    → Each (KeepsLocks p) before (xs ++ End s ∷ later) → ⊥
 stuck_at_end p l [] later before s stuck each = both_ways _ each.0.l7 (any_weaker _ _ (left_open before l stuck.holds) before stuck.reserved)
 stuck_at_end p l (x ∷ xs) later before s stuck each = stuck_at_end p l xs later (before ++ x ∷ []) s (stuck_next p l before x each.0 stuck) each.1
 
 -- no write of a memory stands after a write of it
-pub written_once : (p : Pipe) (s : Span) (l : Location) (v : Expr) (bs : List Branch) (before xs later : List Place) (end : Span) → AreBacked before
-    → Each (KeepsLocks p) before (Statement (Write s l v) bs ∷ (xs ++ End end ∷ later)) → list_any (is_write_of l.mem.name) before ≡ false
+pub written_once : (p : Pipe) (s : Span) (l : Location) (v : Expr) (bs : List Branch) (before xs later : List Place) (end : Span)
+    → AreBacked before → Each (KeepsLocks p) before (Statement (Write s l v) bs ∷ (xs ++ End end ∷ later))
+    → list_any (is_write_of l.mem.name) before ≡ false
 written_once p s l v bs before xs later end b each = go (list_any (is_write_of l.mem.name) before) refl
   where
     here : hold_after l before ≡ Blocked W

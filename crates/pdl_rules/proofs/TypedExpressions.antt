@@ -28,7 +28,9 @@ abbrev pub of_one : Expr → (Expr → Bool) → Bool
 of_one e test = test e
 
 -- what fits as a whole fits in a part
-fits_part : (early : Use → Bool) (all : List Var) (whole part : (Expr → Bool) → Bool) → ((test : Expr → Bool) → whole (some_part test) ≡ false → part (some_part test) ≡ false) → Fits early all whole → Fits early all part
+fits_part : (early : Use → Bool) (all : List Var) (whole part : (Expr → Bool) → Bool)
+    → ((test : Expr → Bool) → whole (some_part test) ≡ false → part (some_part test) ≡ false) → Fits early all whole
+    → Fits early all part
 fits_part early all whole part less f = record {
   uses = less (reads_some early) f.uses;
   widths = less (is_unequal all) f.widths;

@@ -14,14 +14,17 @@ no_refusal r (Some line) others e = cc
 no_refusal r None others e = (refl, e)
 
 -- a rule that has no lowest place is broken nowhere
-each_unbroken : (r : Rule) (p : Pipe) (xs before : List Place) → broken_line r p before xs ≡ None → Each (λ front x. breaks_rule r p front x ≡ false) before xs
+each_unbroken : (r : Rule) (p : Pipe) (xs before : List Place)
+    → broken_line r p before xs ≡ None → Each (λ front x. breaks_rule r p front x ≡ false) before xs
 each_unbroken r p [] before e = tt
 each_unbroken r p (x ∷ xs) before e =
     let parts = none_given (breaks_rule r p before x) (line_of x) (broken_line r p (before ++ x ∷ []) xs) e in
     (parts.0, each_unbroken r p xs (before ++ x ∷ []) parts.1)
 
 -- nor is the k-th of some rules, if none of them is broken first; a number past their end stands for a rule that no tree breaks
-unbroken : (p : Pipe) (rs : List Rule) (k : ℕ) → first_broken rs p ≡ None → (before : List Place) (x : Place) (later : List Place) → places p ≡ before ++ x ∷ later → breaks_rule (get_or rs k G1) p before x ≡ false
+unbroken : (p : Pipe) (rs : List Rule) (k : ℕ)
+    → first_broken rs p ≡ None → (before : List Place) (x : Place) (later : List Place) → places p ≡ before ++ x ∷ later
+    → breaks_rule (get_or rs k G1) p before x ≡ false
 unbroken p [] k e before x later same = refl
 unbroken p (r ∷ rs) zero e before x later same =
     let none = each_unbroken r p (places p) [] (no_refusal r (broken_line r p [] (places p)) (first_broken rs p) e).0 in

@@ -46,7 +46,8 @@ first_after f (y ∷ ys) zero x h e = ap (λ z. is_separator (f z)) (sym e)
 first_after f (y ∷ ys) (suc n) x h e = first_after f ys n x (omega arith) e
 
 -- the places that are left, where there are any, start with a separator exactly if the first of them is one
-pub next_is : {A : Type 0} (f : A → Place) (xs : List A) (n left : ℕ) (x : A) → left ≡ length xs - n → (left ≡ 0 → ⊥) → x ≡ get_or xs (length xs - left) x
+pub next_is : {A : Type 0} (f : A → Place) (xs : List A) (n left : ℕ) (x : A)
+    → left ≡ length xs - n → (left ≡ 0 → ⊥) → x ≡ get_or xs (length xs - left) x
     → starts_with_separator (drop n (map f xs)) ≡ is_separator (f x)
 next_is f xs n left x is other e = first_after f xs n x low (e ∙ ap (λ k. get_or xs k x) same)
   where
@@ -59,13 +60,14 @@ next_is f xs n left x is other e = first_after f xs n x low (e ∙ ap (λ k. get
 -- ONE OF SOME
 
 -- where the k-th element passes a test, some element from the k-th on does
-pub any_found : {A B : Type 0} (f : B → Bool) (g : A → B) (xs : List A) (k : ℕ) (x : A) (whole : Bool) → k < length xs → x ≡ get_or xs k x → f (g x) ≡ true
-    → list_any f (map g (drop k xs)) ≡ whole → true ≡ whole
+pub any_found : {A B : Type 0} (f : B → Bool) (g : A → B) (xs : List A) (k : ℕ) (x : A) (whole : Bool)
+    → k < length xs → x ≡ get_or xs k x → f (g x) ≡ true → list_any f (map g (drop k xs)) ≡ whole → true ≡ whole
 any_found f g xs k x whole h e is inv = sym (ap (λ b. b || list_any f (map g (drop (k + 1) xs))) is)
     ∙ sym (ap (λ ys. list_any f (map g ys)) (drop_next xs k x h e)) ∙ inv
 
 -- where the k-th element fails a test, some element from it on passes exactly if one after it does
-pub any_passed : {A B : Type 0} (f : B → Bool) (g : A → B) (xs : List A) (k : ℕ) (x : A) (whole : Bool) → k < length xs → x ≡ get_or xs k x → f (g x) ≡ false
-    → list_any f (map g (drop k xs)) ≡ whole → list_any f (map g (drop (k + 1) xs)) ≡ whole
+pub any_passed : {A B : Type 0} (f : B → Bool) (g : A → B) (xs : List A) (k : ℕ) (x : A) (whole : Bool)
+    → k < length xs → x ≡ get_or xs k x → f (g x) ≡ false → list_any f (map g (drop k xs)) ≡ whole
+    → list_any f (map g (drop (k + 1) xs)) ≡ whole
 any_passed f g xs k x whole h e is inv = sym (ap (λ b. b || list_any f (map g (drop (k + 1) xs))) is)
     ∙ sym (ap (λ ys. list_any f (map g ys)) (drop_next xs k x h e)) ∙ inv

@@ -10,7 +10,8 @@ use Rattle.pdl_rules_forks.proofs.Steps.{take_next}
 use Rattle.pdl_rules_forks.specs.Order as order
 use Rattle.pdl_word.proofs.Lists.{drop_next}
 
-asked : (r : ForkRule) (p : Pipe) (before : List Place) (x : Place) → breaks_rule (order.rule_of r) p before x ≡ order.breaks_fork_rule r p before x
+asked : (r : ForkRule) (p : Pipe) (before : List Place) (x : Place)
+    → breaks_rule (order.rule_of r) p before x ≡ order.breaks_fork_rule r p before x
 unfolding order.breaks_fork_rule
 asked F1 p before x = refl
 asked F2 p before x = refl
@@ -66,9 +67,10 @@ all_after n xs h = take_all (length xs - n) (drop n xs) (let rest = long_drop n 
 -- ONE PLACE MORE
 
 -- a place that breaks a rule on forks has the rule's line, where no place before it breaks it
-pub found : {A : Type 0} (f : A → Place) (r : ForkRule) (p : Pipe) (xs : List A) (k : ℕ) (x : A) → k < length xs → x ≡ get_or xs k x
-    → order.breaks_fork_rule r p (map f (take k xs)) (f x) ≡ true
-    → order.line_from r p (map f (take k xs)) (map f (drop k xs)) ≡ order.line_from r p [] (map f xs) → Some (line_of (f x)) ≡ order.broken_line r p (map f xs)
+pub found : {A : Type 0} (f : A → Place) (r : ForkRule) (p : Pipe) (xs : List A) (k : ℕ) (x : A)
+    → k < length xs → x ≡ get_or xs k x → order.breaks_fork_rule r p (map f (take k xs)) (f x) ≡ true
+    → order.line_from r p (map f (take k xs)) (map f (drop k xs)) ≡ order.line_from r p [] (map f xs)
+    → Some (line_of (f x)) ≡ order.broken_line r p (map f xs)
 unfolding order.broken_line
 found f r p xs k x h e is inv =
     sym (ap (λ b. if b then Some (line_of (f x)) else order.line_from r p (map f (take k xs) ++ f x ∷ []) (map f (drop (k + 1) xs))) is)

@@ -19,7 +19,9 @@ within_z6 p e =
     (no_refusal Z6 _ _ d.1).0
 
 -- one guard more where there are not ten
-added : (g : Guard) (gs : List Guard) → length gs ≤ 10 → (not (is_among g gs) && (length gs == 10)) ≡ false → length (if is_among g gs then gs else gs ++ g ∷ []) ≤ 10
+added : (g : Guard) (gs : List Guard)
+    → length gs ≤ 10 → (not (is_among g gs) && (length gs == 10)) ≡ false
+    → length (if is_among g gs then gs else gs ++ g ∷ []) ≤ 10
 added g gs few e = go (is_among g gs) e
   where
     go : (b : Bool) → (not b && (length gs == 10)) ≡ false → length (if b then gs else gs ++ g ∷ []) ≤ 10
@@ -29,7 +31,8 @@ added g gs few e = go (is_among g gs) e
         let long : length (gs ++ g ∷ []) ≡ length gs + 1 = length-append gs (g ∷ []) in
         omega (arith, other, long)
 
-next_few : (gs : List Guard) (before : List Place) (x : Place) → gs ≡ guards before → length gs ≤ 10 → breaks_z6 before x ≡ false → length (with_guard gs x) ≤ 10
+next_few : (gs : List Guard) (before : List Place) (x : Place)
+    → gs ≡ guards before → length gs ≤ 10 → breaks_z6 before x ≡ false → length (with_guard gs x) ≤ 10
 next_few gs before (Statement (If s c a b) bs) same few e =
     added (guard_of s c) gs few (subst (λ (xs : List Guard). (not (is_among (guard_of s c) xs) && (length xs == 10)) ≡ false) (sym same) e)
 next_few gs before (Statement _ bs) same few e = few
@@ -40,7 +43,8 @@ guards_push : (xs : List Place) (x : Place) (gs : List Guard) → fold with_guar
 guards_push [] x gs = refl
 guards_push (y ∷ xs) x gs = guards_push xs x (with_guard gs y)
 
-few_from : (p : Pipe) (xs before : List Place) → length (guards before) ≤ 10 → broken_line Z6 p before xs ≡ None → length (fold with_guard (guards before) xs) ≤ 10
+few_from : (p : Pipe) (xs before : List Place)
+    → length (guards before) ≤ 10 → broken_line Z6 p before xs ≡ None → length (fold with_guard (guards before) xs) ≤ 10
 few_from p [] before few e = few
 few_from p (x ∷ xs) before few e =
     let both = none_given (breaks_rule Z6 p before x) (line_of x) (broken_line Z6 p (before ++ x ∷ []) xs) e in

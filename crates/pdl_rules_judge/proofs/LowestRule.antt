@@ -16,7 +16,8 @@ after_kept (r ∷ rs) others p e = go (broken_line r p [] (places p)) (λ h. aft
     go None later h = later h
 
 -- a broken one is the lowest, whatever the others
-pub first_stays : (rs others : List Rule) (p : Pipe) (refused : Refused) → first_broken rs p ≡ Some refused → first_broken (rs ++ others) p ≡ Some refused
+pub first_stays : (rs others : List Rule) (p : Pipe) (refused : Refused)
+    → first_broken rs p ≡ Some refused → first_broken (rs ++ others) p ≡ Some refused
 first_stays [] others p refused e = cc
 first_stays (r ∷ rs) others p refused e = go (broken_line r p [] (places p)) (λ h. first_stays rs others p refused h) e
   where

@@ -16,7 +16,8 @@ z6_parts before (Statement (If s c a b) bs) = refl
 z6_parts before _ = refl
 
 -- the guards of the first k places, with the next place's, are those of the first k + 1
-pub guards_next : (xs : List Place) (k : ℕ) (y : Place) (gs hs : List Guard) → slice_get xs k ≡ Some y → hs ≡ with_guard gs y → gs ≡ guards (take k xs) → hs ≡ guards (take (k + 1) xs)
+pub guards_next : (xs : List Place) (k : ℕ) (y : Place) (gs hs : List Guard)
+    → slice_get xs k ≡ Some y → hs ≡ with_guard gs y → gs ≡ guards (take k xs) → hs ≡ guards (take (k + 1) xs)
 guards_next xs k y gs hs got made h = made ∙ ap (λ g. with_guard g y) h ∙ sym (fold_push with_guard [] (take k xs) y) ∙ ap guards (take_next xs k y got)
 
 -- once a line is known, later places don't matter

@@ -22,13 +22,15 @@ or_some : (a o : Option ℕ) → is_some a ≡ true → a ≡ or_else a o
 or_some None o h = cc
 or_some (Some n) o h = refl
 
-shifted : (a : Option ℕ) (b : Bool) (n : ℕ) → option_map suc (or_else a (if b then Some n else None)) ≡ or_else (option_map suc a) (if b then Some (suc n) else None)
+shifted : (a : Option ℕ) (b : Bool) (n : ℕ)
+    → option_map suc (or_else a (if b then Some n else None)) ≡ or_else (option_map suc a) (if b then Some (suc n) else None)
 shifted None true n = refl
 shifted None false n = refl
 shifted (Some k) b n = refl
 
 -- one place more
-first_more : (test : Place → Bool) (xs : List Place) (y : Place) → first_where test (xs ++ y ∷ []) ≡ or_else (first_where test xs) (if test y then Some (length xs) else None)
+first_more : (test : Place → Bool) (xs : List Place) (y : Place)
+    → first_where test (xs ++ y ∷ []) ≡ or_else (first_where test xs) (if test y then Some (length xs) else None)
 first_more test [] y = refl
 first_more test (x ∷ xs) y = at (test x) (first_more test xs y)
   where
@@ -56,7 +58,8 @@ number_new (e ∷ es) x k q h = at (bytes_eq x e.0) h (λ m. number_new es x k q
     at false m go = ap (λ o. cond (bytes_eq q e.0) (Some e.1) o) (go m) ∙ over (bytes_eq q e.0) e.1 (number_in es q) _
 
 -- what a place defines is added
-added : (read : Place → Option (List ℕ)) (xs : List Place) (es : Entries) (y : Place) → AreFirst read xs es → AreFirst read (xs ++ y ∷ []) (with_name es (read y) (length xs))
+added : (read : Place → Option (List ℕ)) (xs : List Place) (es : Entries) (y : Place) → AreFirst read xs es
+    → AreFirst read (xs ++ y ∷ []) (with_name es (read y) (length xs))
 added read xs es y h q = with_one (read y) ∙ ap (λ f. or_else f (if is_some_and (bytes_eq q) (read y) then Some (length xs) else None)) (h q) ∙ sym (first_more (λ d. is_some_and (bytes_eq q) (read d)) xs y)
   where
     same : (x : List ℕ) (b : Bool) → bytes_eq q x ≡ b → is_some (number_in es x) ≡ true → number_in es q ≡ or_else (number_in es q) (if b then Some (length xs) else None)
@@ -73,8 +76,9 @@ added read xs es y h q = with_one (read y) ∙ ap (λ f. or_else f (if is_some_a
     with_one (Some x) = known x (is_some (number_in es x)) refl
 
 -- the first places of names among k places, with the name of the next, are those among k + 1
-pub added_at : (read : Place → Option (List ℕ)) (xs : List Place) (k : ℕ) (y : Place) (es fs : Entries) (o : Option (List ℕ)) → slice_get xs k ≡ Some y → o ≡ read y
-    → fs ≡ with_name es o k → AreFirst read (take k xs) es → AreFirst read (take (k + 1) xs) fs
+pub added_at : (read : Place → Option (List ℕ)) (xs : List Place) (k : ℕ) (y : Place) (es fs : Entries) (o : Option (List ℕ))
+    → slice_get xs k ≡ Some y → o ≡ read y → fs ≡ with_name es o k → AreFirst read (take k xs) es
+    → AreFirst read (take (k + 1) xs) fs
 added_at read xs k y es fs o got e made h =
     subst (λ ys. AreFirst read ys fs) (take_next xs k y got)
     (subst (λ gs. AreFirst read (take k xs ++ y ∷ []) gs)
@@ -93,7 +97,8 @@ any_found test [] = refl
 any_found test (x ∷ xs) = found_step (test x) (first_where test xs) (list_any test xs) (any_found test xs)
 
 -- whether a place below a number passes, with one more place at the front
-pub before_step : (b : Bool) (o : Option ℕ) (a : Bool) (k : ℕ) → a ≡ comes_before o k → (b || a) ≡ comes_before (if b then Some 0 else option_map suc o) (suc k)
+pub before_step : (b : Bool) (o : Option ℕ) (a : Bool) (k : ℕ)
+    → a ≡ comes_before o k → (b || a) ≡ comes_before (if b then Some 0 else option_map suc o) (suc k)
 before_step true o a k e = zero_less k
 before_step false None a k e = e
 before_step false (Some n) a k e = e ∙ less_more n k
@@ -155,7 +160,8 @@ first_below test (x ∷ xs) zero e = omega arith
 first_below test (x ∷ xs) (suc d) e = let h = first_below test xs d (later_first (test x) (first_where test xs) d e).1 in omega (arith, h)
 
 -- among the places up to one after it
-pub first_taken : (test : Place → Bool) (xs : List Place) (d k : ℕ) → first_where test xs ≡ Some d → d < k → first_where test (take k xs) ≡ Some d
+pub first_taken : (test : Place → Bool) (xs : List Place) (d k : ℕ)
+    → first_where test xs ≡ Some d → d < k → first_where test (take k xs) ≡ Some d
 first_taken test [] d zero e l = absurd (omega (arith, l))
 first_taken test [] d (suc k) e l = e
 first_taken test (x ∷ xs) d zero e l = absurd (omega (arith, l))
@@ -174,7 +180,8 @@ get_taken (y ∷ ys) zero (suc k) x e l = e
 get_taken (y ∷ ys) (suc d) (suc k) x e l = get_taken ys d k x e (omega (arith, l))
 
 -- what isn't found
-pub missing : (test : Place → Bool) (xs : List Place) (o : Option ℕ) (b : Bool) → is_some o ≡ not b → o ≡ first_where test xs → b ≡ not (list_any test xs)
+pub missing : (test : Place → Bool) (xs : List Place) (o : Option ℕ) (b : Bool)
+    → is_some o ≡ not b → o ≡ first_where test xs → b ≡ not (list_any test xs)
 missing test xs o b e f = flip (is_some o) b e ∙ ap not (ap is_some f ∙ sym (any_found test xs))
   where
     flip : (a c : Bool) → a ≡ not c → c ≡ not a

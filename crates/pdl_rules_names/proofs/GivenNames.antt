@@ -30,7 +30,8 @@ any_filtered path (y ∷ ys) = at (on_path path y) (any_filtered path ys)
     at false e = e ∙ neither (is_separator y) (list_any (is_separator_on path) ys)
 
 -- what is defined nowhere isn't given
-no_given : (u : Use) (path : List Guard) (ys : List Place) → list_any (defines_use u) ys ≡ false → is_given (filter (on_path path) ys) u ≡ false
+no_given : (u : Use) (path : List Guard) (ys : List Place)
+    → list_any (defines_use u) ys ≡ false → is_given (filter (on_path path) ys) u ≡ false
 no_given u path [] h = refl
 no_given u path (y ∷ ys) h = let parts = or_parts (defines_use u y) (list_any (defines_use u) ys) h in at (on_path path y) parts.0 (no_given u path ys parts.1)
   where
@@ -39,8 +40,9 @@ no_given u path (y ∷ ys) h = let parts = or_parts (defines_use u y) (list_any 
     at false d e = e
 
 -- the one place that defines it decides
-pub given_by : (u : Use) (path : List Guard) (ds : List Place) (d : ℕ) (x : Place) → first_where (defines_use u) ds ≡ Some d → slice_get ds d ≡ Some x → list_any (defines_use u) (drop (suc d) ds) ≡ false
-    → is_given (filter (on_path path) ds) u ≡ given_on path ds d x
+pub given_by : (u : Use) (path : List Guard) (ds : List Place) (d : ℕ) (x : Place)
+    → first_where (defines_use u) ds ≡ Some d → slice_get ds d ≡ Some x
+    → list_any (defines_use u) (drop (suc d) ds) ≡ false → is_given (filter (on_path path) ds) u ≡ given_on path ds d x
 given_by u path [] d x f g n = absurd (none_some d f)
 given_by u path (y ∷ ys) zero x f g n =
     at (on_path path y) (zero_first (defines_use u y) (first_where (defines_use u) ys) f) (no_given u path ys n) ∙ ap (given_on path (y ∷ ys) 0) (same_Some y x g)
@@ -65,11 +67,13 @@ pub given_off : (path : List Guard) (before : List Place) (d : ℕ) (y : Place) 
 given_off path before d y e = sym (ap (λ b. b && (not (is_delayed y) || list_any (is_separator_on path) (drop (suc d) before))) e)
 
 -- a place on the path that is no delayed read gives at once what it defines
-pub given_at_once : (path : List Guard) (before : List Place) (d : ℕ) (y : Place) → on_path path y ≡ true → is_delayed y ≡ false → true ≡ given_on path before d y
+pub given_at_once : (path : List Guard) (before : List Place) (d : ℕ) (y : Place)
+    → on_path path y ≡ true → is_delayed y ≡ false → true ≡ given_on path before d y
 given_at_once path before d y e f = sym (ap₂ (λ b c. b && (not c || list_any (is_separator_on path) (drop (suc d) before))) e f)
 
 -- a delayed read on the path gives what it defines exactly if a separator on the path stands after it
-pub given_later : (path : List Guard) (before : List Place) (d : ℕ) (y : Place) (a : Bool) → on_path path y ≡ true → is_delayed y ≡ true → a ≡ list_any (is_separator_on path) (drop (suc d) before)
+pub given_later : (path : List Guard) (before : List Place) (d : ℕ) (y : Place) (a : Bool)
+    → on_path path y ≡ true → is_delayed y ≡ true → a ≡ list_any (is_separator_on path) (drop (suc d) before)
     → a ≡ given_on path before d y
 given_later path before d y a e f g = g ∙ sym (ap₂ (λ b c. b && (not c || list_any (is_separator_on path) (drop (suc d) before))) e f)
 

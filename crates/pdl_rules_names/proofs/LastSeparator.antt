@@ -28,7 +28,8 @@ none_after t (x ∷ xs) zero h = absurd (false≢true (sym (zero_less (length xs
 none_after t (x ∷ xs) (suc d) h = none_after t xs d (less_more d (length xs) ∙ h)
 
 -- what a place adds
-last_passed : (path : List Guard) (before : List Place) (y : Place) (m : ℕ) → IsLast path before m → IsLast path (before ++ y ∷ []) (if is_separator_on path y then length before else m)
+last_passed : (path : List Guard) (before : List Place) (y : Place) (m : ℕ) → IsLast path before m
+    → IsLast path (before ++ y ∷ []) (if is_separator_on path y then length before else m)
 last_passed path before y m h d = at (is_separator_on path y) ∙ sym (any_dropped (is_separator_on path) before y d)
   where
     after : Bool
@@ -52,17 +53,20 @@ last_passed path before y m h d = at (is_separator_on path y) ∙ sym (any_dropp
     at false = h d ∙ nothing after (nat_lt d (length before))
 
 -- no separator
-last_kept : (path : List Guard) (before : List Place) (y : Place) (m : ℕ) → is_separator y ≡ false → IsLast path before m → IsLast path (before ++ y ∷ []) m
+last_kept : (path : List Guard) (before : List Place) (y : Place) (m : ℕ)
+    → is_separator y ≡ false → IsLast path before m → IsLast path (before ++ y ∷ []) m
 last_kept path before y m e h = subst (λ b. IsLast path (before ++ y ∷ []) (if b && on_path path y then length before else m)) e (last_passed path before y m h)
 
-last_marked : (path : List Guard) (before : List Place) (y : Place) (m k n : ℕ) → is_separator y ≡ true → k ≡ length before → n ≡ (if on_path path y then k else m) → IsLast path before m
+last_marked : (path : List Guard) (before : List Place) (y : Place) (m k n : ℕ)
+    → is_separator y ≡ true → k ≡ length before → n ≡ (if on_path path y then k else m) → IsLast path before m
     → IsLast path (before ++ y ∷ []) n
 last_marked path before y m k n e i j h =
     subst (IsLast path (before ++ y ∷ [])) (sym (j ∙ ap (λ l. if on_path path y then l else m) i))
     (subst (λ b. IsLast path (before ++ y ∷ []) (if b && on_path path y then length before else m)) e (last_passed path before y m h))
 
 -- on all paths
-pub all_kept : (gs : List Guard) (before : List Place) (y : Place) (last : List ℕ) → is_separator y ≡ false → AreLast gs before last → AreLast gs (before ++ y ∷ []) last
+pub all_kept : (gs : List Guard) (before : List Place) (y : Place) (last : List ℕ)
+    → is_separator y ≡ false → AreLast gs before last → AreLast gs (before ++ y ∷ []) last
 all_kept gs before y last e h = record { count = h.count; each = λ b l. last_kept (path_of gs b) before y (get_or last b 0) e (h.each b l) }
 
 -- with a separator marked on each path through it, the marks are those of the last separators on all paths
@@ -95,7 +99,9 @@ zeros_more (x ∷ xs) h zero = h 0
 zeros_more (x ∷ xs) h (suc b) = zeros_more xs (λ j. h (suc j)) b
 
 -- a number more of a path
-pub marks_more : (P : ℕ → ℕ → Type 0) (xs : List ℕ) (v n : ℕ) → length xs ≡ n → ((j : ℕ) → j < n → P j (get_or xs j 0)) → P n v → (j : ℕ) → j < n + 1 → P j (get_or (xs ++ v ∷ []) j 0)
+pub marks_more : (P : ℕ → ℕ → Type 0) (xs : List ℕ) (v n : ℕ)
+    → length xs ≡ n → ((j : ℕ) → j < n → P j (get_or xs j 0)) → P n v → (j : ℕ) → j < n + 1
+    → P j (get_or (xs ++ v ∷ []) j 0)
 marks_more P xs v n e h p j l = at (eq-or-lt_of_le (below j n l))
   where
     below : (a c : ℕ) → a < c + 1 → a ≤ c

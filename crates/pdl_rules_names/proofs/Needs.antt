@@ -13,14 +13,16 @@ use Rattle.pdl_rules_names.proofs.Firsts.{any_before, before_step, none_before}
 use Rattle.pdl_rules_names.proofs.Ungiven.{ungiven}
 
 among_params : (v : List ℕ) (ps : List Param) (rest : List Place)
-    → list_any (λ (a : Param). bytes_eq v a.name.name) ps ≡ comes_before (first_where (defines_use (OfVariable v)) (map Parameter ps ++ rest)) (length ps)
+    → list_any (λ (a : Param). bytes_eq v a.name.name) ps
+    ≡ comes_before (first_where (defines_use (OfVariable v)) (map Parameter ps ++ rest)) (length ps)
 among_params v [] rest = none_before (first_where (defines_use (OfVariable v)) rest)
 among_params v (a ∷ ps) rest =
     before_step (bytes_eq v a.name.name) (first_where (defines_use (OfVariable v)) (map Parameter ps ++ rest)) (list_any (λ (b : Param). bytes_eq v b.name.name) ps) (length ps)
     (among_params v ps rest)
 
 -- a parameter is defined first among the parameters
-parameter_first : (p : Pipe) (v : List ℕ) → is_parameter p v ≡ comes_before (first_where (defines_use (OfVariable v)) (places p)) (length p.params)
+parameter_first : (p : Pipe) (v : List ℕ)
+    → is_parameter p v ≡ comes_before (first_where (defines_use (OfVariable v)) (places p)) (length p.params)
 parameter_first p v =
     let ps = map Parameter p.params in
     let ms = map Memory p.mems in
@@ -29,7 +31,8 @@ parameter_first p v =
     among_params v p.params (ms ++ (ss ++ ends))
     ∙ ap (λ xs. comes_before (first_where (defines_use (OfVariable v)) xs) (length p.params)) (sym (append_assoc (ps ++ ms) ss ends ∙ append_assoc ps ms (ss ++ ends)))
 
-at_place : (p : Pipe) (xs : List Place) (k : ℕ) (u : Use) (x : Place) → slice_get xs k ≡ Some x → is_too_early p (take k xs) x u ≡ early_at p xs k u
+at_place : (p : Pipe) (xs : List Place) (k : ℕ) (u : Use) (x : Place)
+    → slice_get xs k ≡ Some x → is_too_early p (take k xs) x u ≡ early_at p xs k u
 at_place p xs k u x e = sym (ap (is_some_and (λ y. is_too_early p (take k xs) y u)) e)
 
 -- of a variable that nothing defines
@@ -37,7 +40,8 @@ nothing_before : (xs : List Place) (k : ℕ) (u : Use) → first_where (defines_
 nothing_before xs k u e = ap not (any_before (defines_use u) xs k ∙ ap (λ o. comes_before o k) e)
 
 -- the use of a variable that no place defines is too early
-pub variable_nowhere : (p : Pipe) (xs : List Place) (k : ℕ) (x : Place) (v : List ℕ) → xs ≡ places p → slice_get xs k ≡ Some x → first_where (defines_use (OfVariable v)) xs ≡ None
+pub variable_nowhere : (p : Pipe) (xs : List Place) (k : ℕ) (x : Place) (v : List ℕ)
+    → xs ≡ places p → slice_get xs k ≡ Some x → first_where (defines_use (OfVariable v)) xs ≡ None
     → true ≡ early_at p xs k (OfVariable v)
 variable_nowhere p xs k x v all got e =
     sym
@@ -46,7 +50,8 @@ variable_nowhere p xs k x v all got e =
     (or_left _ _ (nothing_before xs k (OfVariable v) e)))
     ∙ at_place p xs k (OfVariable v) x got
 
-variable_somewhere : (p : Pipe) (xs : List Place) (k : ℕ) (x : Place) (v : List ℕ) (d : ℕ) → xs ≡ places p → slice_get xs k ≡ Some x → first_where (defines_use (OfVariable v)) xs ≡ Some d
+variable_somewhere : (p : Pipe) (xs : List Place) (k : ℕ) (x : Place) (v : List ℕ) (d : ℕ)
+    → xs ≡ places p → slice_get xs k ≡ Some x → first_where (defines_use (OfVariable v)) xs ≡ Some d
     → (nat_le (length p.params) d && ungiven p xs k (OfVariable v) x) ≡ early_at p xs k (OfVariable v)
 variable_somewhere p xs k x v d all got e =
     ap (λ a. a && ungiven p xs k (OfVariable v) x)
@@ -55,27 +60,31 @@ variable_somewhere p xs k x v d all got e =
     ∙ at_place p xs k (OfVariable v) x got
 
 -- the use of a guess that no place defines is too early
-pub guess_nowhere : (p : Pipe) (xs : List Place) (k : ℕ) (x : Place) (v : List ℕ) → slice_get xs k ≡ Some x → first_where (defines_use (OfGuess v)) xs ≡ None
-    → true ≡ early_at p xs k (OfGuess v)
+pub guess_nowhere : (p : Pipe) (xs : List Place) (k : ℕ) (x : Place) (v : List ℕ)
+    → slice_get xs k ≡ Some x → first_where (defines_use (OfGuess v)) xs ≡ None → true ≡ early_at p xs k (OfGuess v)
 guess_nowhere p xs k x v got e = sym (or_left _ _ (nothing_before xs k (OfGuess v) e)) ∙ at_place p xs k (OfGuess v) x got
 
 -- the use of a guess is too early exactly if the guess is not given there
-pub guess_somewhere : (p : Pipe) (xs : List Place) (k : ℕ) (x : Place) (v : List ℕ) → slice_get xs k ≡ Some x → ungiven p xs k (OfGuess v) x ≡ early_at p xs k (OfGuess v)
+pub guess_somewhere : (p : Pipe) (xs : List Place) (k : ℕ) (x : Place) (v : List ℕ)
+    → slice_get xs k ≡ Some x → ungiven p xs k (OfGuess v) x ≡ early_at p xs k (OfGuess v)
 guess_somewhere p xs k x v got = at_place p xs k (OfGuess v) x got
 
 -- the use of a memory is never too early
-pub memory_never : (p : Pipe) (xs : List Place) (k : ℕ) (x : Place) (v : List ℕ) → slice_get xs k ≡ Some x → false ≡ early_at p xs k (OfMemory v)
+pub memory_never : (p : Pipe) (xs : List Place) (k : ℕ) (x : Place) (v : List ℕ)
+    → slice_get xs k ≡ Some x → false ≡ early_at p xs k (OfMemory v)
 memory_never p xs k x v got = at_place p xs k (OfMemory v) x got
 
 -- a parameter, and any other variable
-pub variable_param : (p : Pipe) (xs : List Place) (k : ℕ) (x : Place) (v : List ℕ) (d n : ℕ) → xs ≡ places p → slice_get xs k ≡ Some x → first_where (defines_use (OfVariable v)) xs ≡ Some d
+pub variable_param : (p : Pipe) (xs : List Place) (k : ℕ) (x : Place) (v : List ℕ) (d n : ℕ)
+    → xs ≡ places p → slice_get xs k ≡ Some x → first_where (defines_use (OfVariable v)) xs ≡ Some d
     → n ≡ length p.params → d < n → false ≡ early_at p xs k (OfVariable v)
 variable_param p xs k x v d n all got e i l =
     ap (λ a. a && ungiven p xs k (OfVariable v) x) (sym (not_less d (length p.params) ∙ ap not (lt-ltb d (length p.params) (subst (λ m. d < m) i l))))
     ∙ variable_somewhere p xs k x v d all got e
 
 -- the use of a variable that is no parameter is too early exactly if it is not given there
-pub variable_other : (p : Pipe) (xs : List Place) (k : ℕ) (x : Place) (v : List ℕ) (d n : ℕ) (b : Bool) → xs ≡ places p → slice_get xs k ≡ Some x → first_where (defines_use (OfVariable v)) xs ≡ Some d
+pub variable_other : (p : Pipe) (xs : List Place) (k : ℕ) (x : Place) (v : List ℕ) (d n : ℕ) (b : Bool)
+    → xs ≡ places p → slice_get xs k ≡ Some x → first_where (defines_use (OfVariable v)) xs ≡ Some d
     → n ≡ length p.params → n ≤ d → b ≡ ungiven p xs k (OfVariable v) x → b ≡ early_at p xs k (OfVariable v)
 variable_other p xs k x v d n b all got e i l made =
     made

@@ -25,7 +25,9 @@ first_name : (x : List ℕ) (a b : Option (List ℕ)) → is_some_and (bytes_eq 
 first_name x None b h = cc
 first_name x (Some y) b h = h
 
-guess_name : (x : List ℕ) (s : Stmt) → is_some_and (bytes_eq x) (name_of (parts_of s).guess) ≡ true → is_some_and (bytes_eq x) (either_name (name_of (parts_of s).variable) (name_of (parts_of s).guess)) ≡ true
+guess_name : (x : List ℕ) (s : Stmt)
+    → is_some_and (bytes_eq x) (name_of (parts_of s).guess) ≡ true
+    → is_some_and (bytes_eq x) (either_name (name_of (parts_of s).variable) (name_of (parts_of s).guess)) ≡ true
 guess_name x (SpecCall s g args) h = h
 guess_name x (Separator _) h = cc
 guess_name x (CombRead _ _ _) h = cc
@@ -59,11 +61,14 @@ names_it (OfGuess x) (Statement s bs) h = guess_name x s h
 names_it (OfGuess x) (End s) h = cc
 names_it (OfGuess x) (StartClause s) h = cc
 
-some_named : (u : Use) (before : List Place) → list_any (defines_use u) before ≡ true → list_any (λ d. is_some_and (bytes_eq (name_used u)) (name_at d)) before ≡ true
+some_named : (u : Use) (before : List Place)
+    → list_any (defines_use u) before ≡ true
+    → list_any (λ d. is_some_and (bytes_eq (name_used u)) (name_at d)) before ≡ true
 some_named u [] h = h
 some_named u (d ∷ ds) h = ⊎_elim (λ a. or_left _ _ (names_it u d a)) (λ b. or_right _ _ (some_named u ds b)) (or_cases (defines_use u d) (list_any (defines_use u) ds) h)
 
-taken_twice : (p : Pipe) (u : Use) (before : List Place) (y : Place) → list_any (defines_use u) before ≡ true → defines_use u y ≡ true → breaks_n2 p before y ≡ true
+taken_twice : (p : Pipe) (u : Use) (before : List Place) (y : Place)
+    → list_any (defines_use u) before ≡ true → defines_use u y ≡ true → breaks_n2 p before y ≡ true
 taken_twice p u before y h e = at (name_at y) (names_it u y e)
   where
     at : (o : Option (List ℕ)) → is_some_and (bytes_eq (name_used u)) o ≡ true → is_some_and (is_taken_name p before) o ≡ true
@@ -72,7 +77,8 @@ taken_twice p u before y h e = at (name_at y) (names_it u y e)
         or_right _ _
         (subst (λ n. list_any (λ d. is_some_and (bytes_eq n) (name_at d)) before ≡ true) ((bytes_eq-Decides (name_used u) x).0 k) (some_named u before h))
 
-once : (p : Pipe) (u : Use) (before ys : List Place) → broken_line N2 p before ys ≡ None → list_any (defines_use u) before ≡ true → list_any (defines_use u) ys ≡ false
+once : (p : Pipe) (u : Use) (before ys : List Place)
+    → broken_line N2 p before ys ≡ None → list_any (defines_use u) before ≡ true → list_any (defines_use u) ys ≡ false
 once p u before [] e h = refl
 once p u before (y ∷ ys) e h =
     let parts = none_given (breaks_rule N2 p before y) (line_of y) (broken_line N2 p (before ++ y ∷ []) ys) e in
@@ -80,7 +86,9 @@ once p u before (y ∷ ys) e h =
     ap₂ (λ a b. a || b) (false_from_ne_true _ (λ d. both_ways (breaks_n2 p before y) parts.0 (taken_twice p u before y h d))) (once p u (before ++ y ∷ []) ys parts.1 others)
 
 -- none after the first
-later_none : (p : Pipe) (u : Use) (before ds : List Place) (d : ℕ) → broken_line N2 p before ds ≡ None → first_where (defines_use u) ds ≡ Some d → list_any (defines_use u) (drop (suc d) ds) ≡ false
+later_none : (p : Pipe) (u : Use) (before ds : List Place) (d : ℕ)
+    → broken_line N2 p before ds ≡ None → first_where (defines_use u) ds ≡ Some d
+    → list_any (defines_use u) (drop (suc d) ds) ≡ false
 later_none p u before [] d e f = refl
 later_none p u before (y ∷ ys) zero e f =
     let parts = none_given (breaks_rule N2 p before y) (line_of y) (broken_line N2 p (before ++ y ∷ []) ys) e in
@@ -91,7 +99,8 @@ later_none p u before (y ∷ ys) (suc d) e f =
     later_none p u (before ++ y ∷ []) ys d parts.1 (later_first (defines_use u y) (first_where (defines_use u) ys) d f).1
 
 -- of the first places alone
-none_taken : (r : Rule) (p : Pipe) (before xs : List Place) (k : ℕ) → broken_line r p before xs ≡ None → broken_line r p before (take k xs) ≡ None
+none_taken : (r : Rule) (p : Pipe) (before xs : List Place) (k : ℕ)
+    → broken_line r p before xs ≡ None → broken_line r p before (take k xs) ≡ None
 none_taken r p before [] zero e = refl
 none_taken r p before [] (suc k) e = refl
 none_taken r p before (x ∷ xs) zero e = refl
@@ -100,6 +109,7 @@ none_taken r p before (x ∷ xs) (suc k) e =
     ap₂ (λ b o. if b then Some (line_of x) else o) parts.0 (none_taken r p (before ++ x ∷ []) xs k parts.1)
 
 -- where no place breaks N2, no place after the first definition of what is used defines it again
-pub only_one : (p : Pipe) (u : Use) (xs : List Place) (k d : ℕ) → broken_line N2 p [] xs ≡ None → first_where (defines_use u) (take k xs) ≡ Some d
+pub only_one : (p : Pipe) (u : Use) (xs : List Place) (k d : ℕ)
+    → broken_line N2 p [] xs ≡ None → first_where (defines_use u) (take k xs) ≡ Some d
     → list_any (defines_use u) (drop (suc d) (take k xs)) ≡ false
 only_one p u xs k d e f = later_none p u [] (take k xs) d (none_taken N2 p [] xs k e) f

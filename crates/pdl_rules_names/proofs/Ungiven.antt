@@ -29,11 +29,13 @@ ungiven p xs k u x = is_undefined (take k xs) u || on_some_path (λ earlier. not
 undefined_late : (xs : List Place) (k d : ℕ) (u : Use) → first_where (defines_use u) xs ≡ Some d → k ≤ d → is_undefined (take k xs) u ≡ true
 undefined_late xs k d u f l = ap not (any_before (defines_use u) xs k ∙ ap (λ o. comes_before o k) f ∙ le-ltb d k l)
 
-defined_before : (xs : List Place) (k d : ℕ) (u : Use) → first_where (defines_use u) xs ≡ Some d → d < k → is_undefined (take k xs) u ≡ false
+defined_before : (xs : List Place) (k d : ℕ) (u : Use)
+    → first_where (defines_use u) xs ≡ Some d → d < k → is_undefined (take k xs) u ≡ false
 defined_before xs k d u f l = ap not (any_before (defines_use u) xs k ∙ ap (λ o. comes_before o k) f ∙ lt-ltb d k l)
 
 -- what is first defined at the place of its use, or after it, is not given there
-pub late : (p : Pipe) (xs : List Place) (k d : ℕ) (u : Use) (x : Place) → first_where (defines_use u) xs ≡ Some d → k ≤ d → true ≡ ungiven p xs k u x
+pub late : (p : Pipe) (xs : List Place) (k d : ℕ) (u : Use) (x : Place)
+    → first_where (defines_use u) xs ≡ Some d → k ≤ d → true ≡ ungiven p xs k u x
 late p xs k d u x f l = sym (or_left _ _ (undefined_late xs k d u f l))
 
 -- what is given on a path
@@ -56,7 +58,8 @@ missing_on p xs k d u x y b h l e =
     (ap (λ g. on_path path x && not g) (given_here p xs k d u x y h l path) ∙ e)))
 
 -- what is defined before its use, and given on each path through that place, is given there
-pub missing_nowhere : (p : Pipe) (xs : List Place) (k d : ℕ) (u : Use) (x y : Place) → Known p xs k d u x y → d < k
+pub missing_nowhere : (p : Pipe) (xs : List Place) (k d : ℕ) (u : Use) (x y : Place) → Known p xs k d u x y
+    → d < k
     → ((b : ℕ) → b < 2 ^ length (guards (places p)) → (on_path (path_of (guards (places p)) b) x && not (given_on (path_of (guards (places p)) b) (take k xs) d y)) ≡ false)
     → false ≡ ungiven p xs k u x
 missing_nowhere p xs k d u x y h l none =
@@ -70,7 +73,8 @@ missing_nowhere p xs k d u x y h l none =
     both_ways _ (none s.bits s.below) (sym (ap (λ g. on_path path x && not g) (given_here p xs k d u x y h l path)) ∙ s.passes))))
 
 -- a place in the branches of the definition, which gives at once
-pub inside : (path : List Guard) (before : List Place) (d : ℕ) (x y : Place) → is_delayed y ≡ false → (on_path path x ≡ true → on_path path y ≡ true)
+pub inside : (path : List Guard) (before : List Place) (d : ℕ) (x y : Place)
+    → is_delayed y ≡ false → (on_path path x ≡ true → on_path path y ≡ true)
     → (on_path path x && not (given_on path before d y)) ≡ false
 inside path before d x y e h = at (on_path path x) h
   where

@@ -15,7 +15,9 @@ rule_lines r p before [] = refl
 rule_lines r p before (x ∷ xs) = ap (λ later. if breaks_rule r p before x then Some (line_of x) else later) (rule_lines r p (before ++ x ∷ []) xs)
 
 -- and of a test that agrees with another
-pub same_lines : (f g : List Place → Place → Bool) → ((before : List Place) (x : Place) → f before x ≡ g before x) → (before xs : List Place) → line_where f before xs ≡ line_where g before xs
+pub same_lines : (f g : List Place → Place → Bool)
+    → ((before : List Place) (x : Place) → f before x ≡ g before x) → (before xs : List Place)
+    → line_where f before xs ≡ line_where g before xs
 same_lines f g same before [] = refl
 same_lines f g same before (x ∷ xs) =
     ap (λ b. if b then Some (line_of x) else line_where f (before ++ x ∷ []) xs) (same before x)
@@ -25,7 +27,8 @@ same_lines f g same before (x ∷ xs) =
 abbrev at_from : (List Place → Place → Bool) → List Place → List Place → ℕ → Bool
 at_from test before xs j = is_some_and (test (before ++ take j xs)) (slice_get xs j)
 
-moved : (test : List Place → Place → Bool) (before xs : List Place) (x : Place) (j : ℕ) → at_from test before (x ∷ xs) (suc j) ≡ at_from test (before ++ x ∷ []) xs j
+moved : (test : List Place → Place → Bool) (before xs : List Place) (x : Place) (j : ℕ)
+    → at_from test before (x ∷ xs) (suc j) ≡ at_from test (before ++ x ∷ []) xs j
 moved test before xs x j = ap (λ b. is_some_and (test b) (slice_get xs j)) (sym (append_assoc before (x ∷ []) (take j xs)))
 
 first_fails : (test : List Place → Place → Bool) (before xs : List Place) (x : Place) → at_from test before (x ∷ xs) 0 ≡ false
@@ -33,7 +36,8 @@ first_fails : (test : List Place → Place → Bool) (before xs : List Place) (x
 first_fails test before xs x e =
     ap (λ b. if b then Some (line_of x) else line_where test (before ++ x ∷ []) xs) (sym (ap (λ b. test b x) (append-nil before)) ∙ e)
 
-line_some : (test : List Place → Place → Bool) (before xs : List Place) (k : ℕ) → k < length xs → at_from test before xs k ≡ true → ((j : ℕ) → j < k → at_from test before xs j ≡ false)
+line_some : (test : List Place → Place → Bool) (before xs : List Place) (k : ℕ)
+    → k < length xs → at_from test before xs k ≡ true → ((j : ℕ) → j < k → at_from test before xs j ≡ false)
     → line_where test before xs ≡ nth_line xs k
 line_some test before [] k l e others = absurd (omega arith)
 line_some test before (x ∷ xs) zero l e others =
@@ -42,14 +46,16 @@ line_some test before (x ∷ xs) (suc k) l e others =
     first_fails test before xs x (others 0 (omega arith))
     ∙ line_some test (before ++ x ∷ []) xs k (omega arith) (sym (moved test before xs x k) ∙ e) (λ j m. sym (moved test before xs x j) ∙ others (suc j) (omega arith))
 
-line_none : (test : List Place → Place → Bool) (before xs : List Place) → ((j : ℕ) → j < length xs → at_from test before xs j ≡ false) → line_where test before xs ≡ None
+line_none : (test : List Place → Place → Bool) (before xs : List Place)
+    → ((j : ℕ) → j < length xs → at_from test before xs j ≡ false) → line_where test before xs ≡ None
 line_none test before [] others = refl
 line_none test before (x ∷ xs) others =
     first_fails test before xs x (others 0 (omega arith))
     ∙ line_none test (before ++ x ∷ []) xs (λ j m. sym (moved test before xs x j) ∙ others (suc j) (omega arith))
 
 -- the line of the lowest place that passes a test is that of the first one that does in text order
-pub lowest_line : (test : List Place → Place → Bool) (xs : List Place) (k : ℕ) → IsLowest (breaks_at test xs) (length xs) k → nth_line xs k ≡ line_where test [] xs
+pub lowest_line : (test : List Place → Place → Bool) (xs : List Place) (k : ℕ)
+    → IsLowest (breaks_at test xs) (length xs) k → nth_line xs k ≡ line_where test [] xs
 lowest_line test xs k h = at (eq-or-lt_of_le h.within)
   where
     at : (k ≡ length xs) ⊎ (k < length xs) → nth_line xs k ≡ line_where test [] xs

@@ -3,7 +3,8 @@ use Rattle.std.proofs.Common.{◌≡◌, refl, sym, ap, ◌∙◌, ℕ, zero, su
 use Rattle.std.proofs.lemmas.Option.{same_Some}
 
 -- the k-th of some values, each as others see it, is the k-th value so seen
-pub nth : {P Q : Type 0} (view : P → Q) (ps : List P) (k : ℕ) (p : P) → k < length ps → p ≡ get_or ps k p → slice_get (map view ps) k ≡ Some (view p)
+pub nth : {P Q : Type 0} (view : P → Q) (ps : List P) (k : ℕ) (p : P)
+    → k < length ps → p ≡ get_or ps k p → slice_get (map view ps) k ≡ Some (view p)
 nth view [] k p l e = absurd (omega arith)
 nth view (q ∷ ps) zero p l e = ap (λ y. Some (view y)) (sym e)
 nth view (q ∷ ps) (suc k) p l e = nth view ps k p (omega arith) e

@@ -8,14 +8,16 @@ use Rattle.pdl_rules.specs.Places.{Place, Guard, on_path}
 use Rattle.pdl_rules.specs.Calls.{is_call}
 
 -- a place that isn't on the path is none of them
-pub earlier_same : (path : List Guard) (before : List Place) (x : Place) → on_path path x ≡ false → filter (on_path path) (before ++ x ∷ []) ≡ filter (on_path path) before
+pub earlier_same : (path : List Guard) (before : List Place) (x : Place)
+    → on_path path x ≡ false → filter (on_path path) (before ++ x ∷ []) ≡ filter (on_path path) before
 earlier_same path before x off =
     filter-append (on_path path) before (x ∷ [])
     ∙ ap (λ b. filter (on_path path) before ++ cond b (x ∷ []) []) off
     ∙ append-nil (filter (on_path path) before)
 
 -- one that is, is the last of them
-pub earlier_more : (path : List Guard) (before : List Place) (x : Place) → on_path path x ≡ true → filter (on_path path) (before ++ x ∷ []) ≡ filter (on_path path) before ++ x ∷ []
+pub earlier_more : (path : List Guard) (before : List Place) (x : Place)
+    → on_path path x ≡ true → filter (on_path path) (before ++ x ∷ []) ≡ filter (on_path path) before ++ x ∷ []
 earlier_more path before x is_on =
     filter-append (on_path path) before (x ∷ []) ∙ ap (λ b. filter (on_path path) before ++ cond b (x ∷ []) []) is_on
 
@@ -32,7 +34,8 @@ or_some true = refl
 or_some false = refl
 
 -- after a call on the path, one of the places on it calls
-pub called : (path : List Guard) (before : List Place) (x : Place) → on_path path x ≡ true → is_call x ≡ true → true ≡ list_any is_call (filter (on_path path) (before ++ x ∷ []))
+pub called : (path : List Guard) (before : List Place) (x : Place)
+    → on_path path x ≡ true → is_call x ≡ true → true ≡ list_any is_call (filter (on_path path) (before ++ x ∷ []))
 called path before x is_on e = sym (any_more path before x true is_on e ∙ or_some (list_any is_call (filter (on_path path) before)))
 
 -- a place on the path that does not call leaves it as it was whether one of those before calls

@@ -20,8 +20,9 @@ line_more test before (x ∷ xs) y = at (test before x) (line_more test (before 
         ∙ ap (λ b. noted_line (line_where test (before ++ x ∷ []) xs) (test b y) (line_of y)) (append_assoc before (x ∷ []) xs)
 
 -- one of a list of places
-pub line_next : (test : List Place → Place → Bool) (xs : List Place) (k : ℕ) (y : Place) (first new : Option ℕ) (b : Bool) (line : ℕ) → slice_get xs k ≡ Some y
-    → b ≡ test (take k xs) y → line ≡ line_of y → new ≡ noted_line first b line → first ≡ line_where test [] (take k xs) → new ≡ line_where test [] (take (k + 1) xs)
+pub line_next : (test : List Place → Place → Bool) (xs : List Place) (k : ℕ) (y : Place) (first new : Option ℕ) (b : Bool) (line : ℕ)
+    → slice_get xs k ≡ Some y → b ≡ test (take k xs) y → line ≡ line_of y → new ≡ noted_line first b line
+    → first ≡ line_where test [] (take k xs) → new ≡ line_where test [] (take (k + 1) xs)
 line_next test xs k y first new b line got e l made h =
     made
     ∙ ap (λ f. noted_line f b line) h
@@ -30,5 +31,6 @@ line_next test xs k y first new b line got e l made h =
     ∙ ap (line_where test []) (take_next xs k y got)
 
 -- what the k-th place breaks
-pub breaks_kth : (test : List Place → Place → Bool) (xs : List Place) (k : ℕ) (y : Place) (b : Bool) → slice_get xs k ≡ Some y → b ≡ test (take k xs) y → b ≡ breaks_at test xs k
+pub breaks_kth : (test : List Place → Place → Bool) (xs : List Place) (k : ℕ) (y : Place) (b : Bool)
+    → slice_get xs k ≡ Some y → b ≡ test (take k xs) y → b ≡ breaks_at test xs k
 breaks_kth test xs k y b got e = e ∙ sym (ap (is_some_and (test (take k xs))) got)

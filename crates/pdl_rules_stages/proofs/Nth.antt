@@ -57,13 +57,15 @@ viewed view ps zero = refl
 viewed view [] (suc k) = refl
 viewed view (p ∷ ps) (suc k) = ap (λ xs. view p ∷ xs) (viewed view ps k)
 
-ahead_suc : {P Q : Type 0} (view : P → Q) (ps : List P) (k : ℕ) (p : P) → k < length ps → p ≡ get_or ps k p → map view (drop k ps) ≡ view p ∷ map view (drop (suc k) ps)
+ahead_suc : {P Q : Type 0} (view : P → Q) (ps : List P) (k : ℕ) (p : P)
+    → k < length ps → p ≡ get_or ps k p → map view (drop k ps) ≡ view p ∷ map view (drop (suc k) ps)
 ahead_suc view [] k p l e = absurd (omega arith)
 ahead_suc view (q ∷ ps) zero p l e = ap (λ y. view y ∷ map view ps) (sym e)
 ahead_suc view (q ∷ ps) (suc k) p l e = ahead_suc view ps k p (omega arith) e
 
 -- the values from the k-th on, as others see them, are the k-th one so seen and those after it
-pub ahead : {P Q : Type 0} (view : P → Q) (ps : List P) (k : ℕ) (p : P) → k < length ps → p ≡ get_or ps k p → map view (drop k ps) ≡ view p ∷ map view (drop (k + 1) ps)
+pub ahead : {P Q : Type 0} (view : P → Q) (ps : List P) (k : ℕ) (p : P)
+    → k < length ps → p ≡ get_or ps k p → map view (drop k ps) ≡ view p ∷ map view (drop (k + 1) ps)
 ahead view ps k p l e =
     let one : suc k ≡ k + 1 = omega arith in
     ahead_suc view ps k p l e ∙ ap (λ n. view p ∷ map view (drop n ps)) one

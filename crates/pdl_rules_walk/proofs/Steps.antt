@@ -15,16 +15,19 @@ pub none_yet : (test : ℕ → ℕ → Bool) (end k : ℕ) → k ≡ end → IsL
 none_yet test end k e = record { within = omega (arith, e); bits = 0; found = λ l. absurd (omega (arith, l, e)); others = λ b j l m. absurd (omega (arith, l)) }
 
 -- before the first place of a path
-pub begun : (test : ℕ → ℕ → Bool) (S : Type 0) (path end lowest : ℕ) → IsLowestSoFar test path end lowest → S → IsUnderWay test S path 0 end lowest
+pub begun : (test : ℕ → ℕ → Bool) (S : Type 0) (path end lowest : ℕ) → IsLowestSoFar test path end lowest → S
+    → IsUnderWay test S path 0 end lowest
 begun test S path end lowest h s = record { earlier = h; passed = λ j l m. absurd (omega (arith, l)); state = λ l. s }
 
 -- a place past the lowest
-pub past : (test : ℕ → ℕ → Bool) (S T : Type 0) (path k end lowest : ℕ) → lowest ≤ k → IsUnderWay test S path k end lowest → IsUnderWay test T path (k + 1) end lowest
+pub past : (test : ℕ → ℕ → Bool) (S T : Type 0) (path k end lowest : ℕ)
+    → lowest ≤ k → IsUnderWay test S path k end lowest → IsUnderWay test T path (k + 1) end lowest
 past test S T path k end lowest low h =
     record { earlier = h.earlier; passed = λ j l m. h.passed j (omega (arith, m, low)) m; state = λ l. absurd (omega (arith, l, low)) }
 
 -- a place below it that breaks the rule
-pub broken : (test : ℕ → ℕ → Bool) (S T : Type 0) (path k end lowest : ℕ) → k < lowest → test path k ≡ true → IsUnderWay test S path k end lowest → IsUnderWay test T path (k + 1) end k
+pub broken : (test : ℕ → ℕ → Bool) (S T : Type 0) (path k end lowest : ℕ)
+    → k < lowest → test path k ≡ true → IsUnderWay test S path k end lowest → IsUnderWay test T path (k + 1) end k
 broken test S T path k end lowest low e h =
     let wide : lowest ≤ end = h.earlier.within in
     record {
@@ -39,7 +42,8 @@ broken test S T path k end lowest low e h =
     }
 
 -- after the last place
-pub walked : (test : ℕ → ℕ → Bool) (S : Type 0) (path end lowest : ℕ) → IsUnderWay test S path end end lowest → IsLowestSoFar test (path + 1) end lowest
+pub walked : (test : ℕ → ℕ → Bool) (S : Type 0) (path end lowest : ℕ) → IsUnderWay test S path end end lowest
+    → IsLowestSoFar test (path + 1) end lowest
 walked test S path end lowest h =
     record { within = h.earlier.within; bits = h.earlier.bits; found = h.earlier.found; others = λ b j l m. at b j m (eq-or-lt_of_le (up_to b path l)) }
   where
@@ -51,7 +55,8 @@ walked test S path end lowest h =
     at b j m (inl e) = ap (λ c. test c j) e ∙ h.passed j (omega (arith, m, wide)) m
 
 all_paths : (breaks : List Guard → List Place → Place → Bool) (gs : List Guard) (before : List Place) (o : Option Place)
-    → ((b : ℕ) → b < 2 ^ length gs → is_some_and (on_this breaks (path_of gs b) before) o ≡ false) → is_some_and (on_some breaks gs before) o ≡ false
+    → ((b : ℕ) → b < 2 ^ length gs → is_some_and (on_this breaks (path_of gs b) before) o ≡ false)
+    → is_some_and (on_some breaks gs before) o ≡ false
 all_paths breaks gs before None h = refl
 all_paths breaks gs before (Some x) h =
     false_from_ne_true _ (λ e. let s = has_bits (λ path. on_path path x && breaks path before x) gs e in both_ways _ (h s.bits s.below) s.passes)
@@ -72,6 +77,7 @@ every_path breaks gs xs c end k e h =
     }
 
 -- a place on the path
-pub on : (breaks : List Guard → List Place → Place → Bool) (path : List Guard) (xs : List Place) (k : ℕ) (x : Place) (b : Bool) → slice_get xs k ≡ Some x → on_path path x ≡ true
-    → b ≡ breaks path (take k xs) x → breaks_at (on_this breaks path) xs k ≡ b
+pub on : (breaks : List Guard → List Place → Place → Bool) (path : List Guard) (xs : List Place) (k : ℕ) (x : Place) (b : Bool)
+    → slice_get xs k ≡ Some x → on_path path x ≡ true → b ≡ breaks path (take k xs) x
+    → breaks_at (on_this breaks path) xs k ≡ b
 on breaks path xs k x b got is_on e = ap (is_some_and (on_this breaks path (take k xs))) got ∙ ap (λ o. o && breaks path (take k xs) x) is_on ∙ sym e

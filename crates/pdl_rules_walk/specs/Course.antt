@@ -30,6 +30,7 @@ pub record IsUnderWay (test : ℕ → ℕ → Bool) (Stands : Type 0) (path k en
   pub state : k ≤ lowest → Stands
 
 -- of a rule, with what is to stand after some places of a path
-abbrev pub IsOnPath : (List Guard → List Place → Place → Bool) → (List Guard → List Place → Type 0) → List Guard → List Place → ℕ → ℕ → ℕ → Type 0
+abbrev pub IsOnPath : (List Guard → List Place → Place → Bool) → (List Guard → List Place → Type 0) → List Guard
+    → List Place → ℕ → ℕ → ℕ → Type 0
 IsOnPath breaks Stands gs xs bits k lowest =
     IsUnderWay (by_bits breaks gs xs) (Stands (path_of gs bits) (take k xs)) bits k (length xs) lowest

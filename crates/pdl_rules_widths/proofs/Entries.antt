@@ -24,19 +24,21 @@ width-lookup [] x = refl
 width-lookup (e ∷ es) x = width_step (bytes_eq x e.0) (bytes_eq e.0 x) e.1 _ _ (bytes_swap x e.0) (width-lookup es x)
 
 -- what a look-up gives, as the width of the variable
-pub width_found : (es : List (List ℕ × ℕ)) (vs : List Var) (x : List ℕ) (o : Option ℕ) → o ≡ lookup (pointwise nat_eq x) es → vars_of es ≡ vs
-    → unwrap_or o 0 ≡ var_width vs x
+pub width_found : (es : List (List ℕ × ℕ)) (vs : List Var) (x : List ℕ) (o : Option ℕ)
+    → o ≡ lookup (pointwise nat_eq x) es → vars_of es ≡ vs → unwrap_or o 0 ≡ var_width vs x
 width_found es vs x o h k = ap (λ r. unwrap_or r 0) h ∙ width-lookup es x ∙ ap (λ us. var_width us x) k
 
 any_step : (a : Bool) (w : ℕ) (o : Option ℕ) (b : Bool) → b ≡ is_some o → (a || b) ≡ is_some (cond a (Some w) o)
 any_step true w o b h = refl
 any_step false w o b h = h
 
-any-lookup : (es : List (List ℕ × ℕ)) (x : List ℕ) → list_any (λ (v : Var). bytes_eq x v.name) (vars_of es) ≡ is_some (lookup (pointwise nat_eq x) es)
+any-lookup : (es : List (List ℕ × ℕ)) (x : List ℕ)
+    → list_any (λ (v : Var). bytes_eq x v.name) (vars_of es) ≡ is_some (lookup (pointwise nat_eq x) es)
 any-lookup [] x = refl
 any-lookup (e ∷ es) x = any_step (bytes_eq x e.0) e.1 _ _ (any-lookup es x)
 
-insert_step : (a : Bool) (x : List ℕ) (w : ℕ) (e : List ℕ × ℕ) (es fs : List (List ℕ × ℕ)) (o : Option ℕ) → is_some (cond a (Some e.1) o) ≡ false
+insert_step : (a : Bool) (x : List ℕ) (w : ℕ) (e : List ℕ × ℕ) (es fs : List (List ℕ × ℕ)) (o : Option ℕ)
+    → is_some (cond a (Some e.1) o) ≡ false
     → (is_some o ≡ false → vars_of fs ≡ vars_of es ++ record { name = x; width = w } ∷ [])
     → vars_of (if a then (e.0, w) ∷ es else e ∷ fs) ≡ var_of e ∷ (vars_of es ++ record { name = x; width = w } ∷ [])
 insert_step true x w e es fs o h k = cc
@@ -48,15 +50,16 @@ vars_of-insert [] x w h = refl
 vars_of-insert (e ∷ es) x w h = insert_step (bytes_eq x e.0) x w e es _ _ h (λ k. vars_of-insert es x w k)
 
 -- a variable that is there already
-pub with_variable-there : (es : List (List ℕ × ℕ)) (vs : List Var) (x : List ℕ) (w : ℕ) (o : Option ℕ) → o ≡ lookup (pointwise nat_eq x) es → vars_of es ≡ vs
-    → is_some o ≡ true → vs ≡ with_variable vs x w
+pub with_variable-there : (es : List (List ℕ × ℕ)) (vs : List Var) (x : List ℕ) (w : ℕ) (o : Option ℕ)
+    → o ≡ lookup (pointwise nat_eq x) es → vars_of es ≡ vs → is_some o ≡ true → vs ≡ with_variable vs x w
 with_variable-there es vs x w o h k s =
     let known = ap (λ us. list_any (λ (v : Var). bytes_eq x v.name) us) (sym k) ∙ any-lookup es x ∙ ap is_some (sym h) ∙ s in
     sym (ap (λ b. if b then vs else vs ++ record { name = x; width = w } ∷ []) known)
 
 -- a new one
-pub with_variable-new : (es fs : List (List ℕ × ℕ)) (vs : List Var) (x : List ℕ) (w : ℕ) (o : Option ℕ) → o ≡ lookup (pointwise nat_eq x) es → vars_of es ≡ vs
-    → is_some o ≡ false → fs ≡ insert_entry (pointwise nat_eq) es x w → vars_of fs ≡ with_variable vs x w
+pub with_variable-new : (es fs : List (List ℕ × ℕ)) (vs : List Var) (x : List ℕ) (w : ℕ) (o : Option ℕ)
+    → o ≡ lookup (pointwise nat_eq x) es → vars_of es ≡ vs → is_some o ≡ false
+    → fs ≡ insert_entry (pointwise nat_eq) es x w → vars_of fs ≡ with_variable vs x w
 with_variable-new es fs vs x w o h k s i =
     let missing = ap is_some (sym h) ∙ s in
     let unknown = ap (λ us. list_any (λ (v : Var). bytes_eq x v.name) us) (sym k) ∙ any-lookup es x ∙ missing in
@@ -64,7 +67,8 @@ with_variable-new es fs vs x w o h k s i =
     ∙ sym (ap (λ b. if b then vs else vs ++ record { name = x; width = w } ∷ []) unknown)
 
 -- the variables with those of one place more
-pub variables_next : (ms : List Mem) (xs : List Place) (k : ℕ) (y : Place) (vs ws : List Var) → slice_get xs k ≡ Some y → ws ≡ after_place ms vs y → vs ≡ fold (after_place ms) [] (take k xs)
+pub variables_next : (ms : List Mem) (xs : List Place) (k : ℕ) (y : Place) (vs ws : List Var)
+    → slice_get xs k ≡ Some y → ws ≡ after_place ms vs y → vs ≡ fold (after_place ms) [] (take k xs)
     → ws ≡ fold (after_place ms) [] (take (k + 1) xs)
 variables_next ms xs k y vs ws got made h =
     made ∙ ap (λ us. after_place ms us y) h ∙ sym (fold_push (after_place ms) [] (take k xs) y) ∙ ap (fold (after_place ms) []) (take_next xs k y got)
@@ -80,5 +84,6 @@ among-lookup [] x = refl
 among-lookup (e ∷ es) x = among_step (bytes_eq x e.0) (bytes_eq e.0 x) e.1 _ _ (bytes_swap x e.0) (among-lookup es x)
 
 -- what a look-up gives
-pub found_among : (es : List (List ℕ × ℕ)) (vs : List Var) (x : List ℕ) (o : Option ℕ) → o ≡ lookup (pointwise nat_eq x) es → vars_of es ≡ vs → o ≡ width_among vs x
+pub found_among : (es : List (List ℕ × ℕ)) (vs : List Var) (x : List ℕ) (o : Option ℕ)
+    → o ≡ lookup (pointwise nat_eq x) es → vars_of es ≡ vs → o ≡ width_among vs x
 found_among es vs x o h k = h ∙ among-lookup es x ∙ ap (λ us. width_among us x) k

@@ -91,7 +91,8 @@ pub none_leaves : (es : List Pending) → entries_left None es ≡ es
 none_leaves [] = refl
 none_leaves (e ∷ es) = ap (λ (xs : List Pending). e ∷ xs) (none_leaves es)
 
-pub after_more : (q : Pipe) (st : State) (before : List (List Bool)) (bits : List Bool) → state_after q st (before ++ bits ∷ []) ≡ cycle q (state_after q st before) bits
+pub after_more : (q : Pipe) (st : State) (before : List (List Bool)) (bits : List Bool)
+    → state_after q st (before ++ bits ∷ []) ≡ cycle q (state_after q st before) bits
 after_more q st [] bits = refl
 after_more q st (b ∷ before) bits = after_more q (cycle q st b) before bits
 

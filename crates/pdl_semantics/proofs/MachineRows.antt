@@ -42,24 +42,29 @@ arguments_wrap : run_lines one_stage (zeros ∷ []) (idle 17) ≡
 unfolding digits add slice zext
 arguments_wrap = refl
 
-queue_waits : run_lines (count_up Queue 4) (zeros ∷ []) (idle 10) ≡ codes "4 m 0 01\n7 m 0 02\n10 m 0 03\nend cycles 10 ended 3 waits 0 squashes 0\n"
+queue_waits : run_lines (count_up Queue 4) (zeros ∷ [])
+    (idle 10) ≡ codes "4 m 0 01\n7 m 0 02\n10 m 0 03\nend cycles 10 ended 3 waits 0 squashes 0\n"
 unfolding digits add slice zext
 queue_waits = refl
 
-bypass_forwards : run_lines (count_up Bypass 4) (zeros ∷ []) (idle 8) ≡ codes "4 m 0 01\n6 m 0 02\n8 m 0 03\nend cycles 8 ended 3 waits 0 squashes 0\n"
+bypass_forwards : run_lines (count_up Bypass 4) (zeros ∷ [])
+    (idle 8) ≡ codes "4 m 0 01\n6 m 0 02\n8 m 0 03\nend cycles 8 ended 3 waits 0 squashes 0\n"
 unfolding digits add slice zext
 bypass_forwards = refl
 
-rename_forwards : run_lines (count_up Rename 4) (zeros ∷ []) (idle 8) ≡ codes "4 m 0 01\n6 m 0 02\n8 m 0 03\nend cycles 8 ended 3 waits 0 squashes 0\n"
+rename_forwards : run_lines (count_up Rename 4) (zeros ∷ [])
+    (idle 8) ≡ codes "4 m 0 01\n6 m 0 02\n8 m 0 03\nend cycles 8 ended 3 waits 0 squashes 0\n"
 unfolding digits add slice zext
 rename_forwards = refl
 
 -- with room for one write alone
-full_queue_waits : run_lines (count_up Queue 1) (zeros ∷ []) (idle 8) ≡ codes "4 m 0 01\n8 m 0 02\nend cycles 8 ended 2 waits 0 squashes 0\n"
+full_queue_waits : run_lines (count_up Queue 1) (zeros ∷ [])
+    (idle 8) ≡ codes "4 m 0 01\n8 m 0 02\nend cycles 8 ended 2 waits 0 squashes 0\n"
 unfolding digits add slice zext
 full_queue_waits = refl
 
-forwards_late : run_lines count_late (zeros ∷ []) (idle 10) ≡ codes "5 m 0 01\n7 m 0 02\n9 m 0 03\nend cycles 10 ended 3 waits 0 squashes 0\n"
+forwards_late : run_lines count_late (zeros ∷ [])
+    (idle 10) ≡ codes "5 m 0 01\n7 m 0 02\n9 m 0 03\nend cycles 10 ended 3 waits 0 squashes 0\n"
 unfolding digits add slice zext
 forwards_late = refl
 
@@ -84,34 +89,41 @@ wrong_guesses : run_lines (guess 2) (zeros ∷ []) (idle 9) ≡ codes "3 m 0 00\
 unfolding digits add slice zext
 wrong_guesses = refl
 
-wrong_guesses_reserved : run_lines (guess_reserved 2) (zeros ∷ []) (idle 9) ≡ codes "3 m 0 00\n6 m 2 02\n9 m 0 04\nend cycles 9 ended 3 waits 0 squashes 3\n"
+wrong_guesses_reserved : run_lines (guess_reserved 2) (zeros ∷ [])
+    (idle 9) ≡ codes "3 m 0 00\n6 m 2 02\n9 m 0 04\nend cycles 9 ended 3 waits 0 squashes 3\n"
 unfolding digits add slice zext
 wrong_guesses_reserved = refl
 
 -- cycle 1 is no wait, since nothing is outstanding at its start
-late_replies : run_lines copy copied (bits (0 ∷ 0 ∷ 0 ∷ 1 ∷ 1 ∷ 1 ∷ [])) ≡ codes "4 m 0 0a\n5 m 1 0b\n6 m 2 0c\nend cycles 6 ended 3 waits 2 squashes 0\n"
+late_replies : run_lines copy copied (bits (0 ∷ 0 ∷ 0 ∷ 1 ∷ 1 ∷ 1 ∷ []))
+    ≡ codes "4 m 0 0a\n5 m 1 0b\n6 m 2 0c\nend cycles 6 ended 3 waits 2 squashes 0\n"
 unfolding digits add slice zext
 late_replies = refl
 
-prompt_replies : run_lines copy copied (bits (1 ∷ 1 ∷ 1 ∷ 1 ∷ [])) ≡ codes "2 m 0 0a\n3 m 1 0b\n4 m 2 0c\nend cycles 4 ended 3 waits 0 squashes 0\n"
+prompt_replies : run_lines copy copied (bits (1 ∷ 1 ∷ 1 ∷ 1 ∷ []))
+    ≡ codes "2 m 0 0a\n3 m 1 0b\n4 m 2 0c\nend cycles 4 ended 3 waits 0 squashes 0\n"
 unfolding digits add slice zext
 prompt_replies = refl
 
 -- the answer of an orphan is dropped, and the next address is asked for in that cycle
-orphan_dropped : run_lines copy_guessed copied (bits (1 ∷ 1 ∷ 0 ∷ 0 ∷ 1 ∷ 1 ∷ 1 ∷ [])) ≡ codes "3 m 0 0a\n7 m 2 0c\nend cycles 7 ended 2 waits 2 squashes 2\n"
+orphan_dropped : run_lines copy_guessed copied (bits (1 ∷ 1 ∷ 0 ∷ 0 ∷ 1 ∷ 1 ∷ 1 ∷ []))
+    ≡ codes "3 m 0 0a\n7 m 2 0c\nend cycles 7 ended 2 waits 2 squashes 2\n"
 unfolding digits add slice zext
 orphan_dropped = refl
 
 -- the orphan is answered in the very cycle in which the oldest thread asks
-orphan_answered : run_lines copy_guessed copied (bits (1 ∷ 1 ∷ 0 ∷ 1 ∷ 1 ∷ 1 ∷ [])) ≡ codes "3 m 0 0a\n6 m 2 0c\nend cycles 6 ended 2 waits 1 squashes 2\n"
+orphan_answered : run_lines copy_guessed copied (bits (1 ∷ 1 ∷ 0 ∷ 1 ∷ 1 ∷ 1 ∷ []))
+    ≡ codes "3 m 0 0a\n6 m 2 0c\nend cycles 6 ended 2 waits 1 squashes 2\n"
 unfolding digits add slice zext
 orphan_answered = refl
 
-branches_meet : run_lines two_branches (zeros ∷ []) (idle 8) ≡ codes "5 m 0 00\n6 m 1 01\n7 m 2 02\n8 m 3 03\nend cycles 8 ended 4 waits 0 squashes 0\n"
+branches_meet : run_lines two_branches (zeros ∷ [])
+    (idle 8) ≡ codes "5 m 0 00\n6 m 1 01\n7 m 2 02\n8 m 3 03\nend cycles 8 ended 4 waits 0 squashes 0\n"
 unfolding digits add slice zext
 branches_meet = refl
 
-straight_way_waits : run_lines one_branch (zeros ∷ []) (idle 11) ≡ codes "5 m 0 00\n6 m 1 01\n10 m 2 02\n11 m 3 03\nend cycles 11 ended 4 waits 0 squashes 0\n"
+straight_way_waits : run_lines one_branch (zeros ∷ [])
+    (idle 11) ≡ codes "5 m 0 00\n6 m 1 01\n10 m 2 02\n11 m 3 03\nend cycles 11 ended 4 waits 0 squashes 0\n"
 unfolding digits add slice zext
 straight_way_waits = refl
 
@@ -120,11 +132,13 @@ unfolding digits add slice zext
 viewed = refl
 
 -- each thread but the first waits one cycle for the value of the one before it
-forwarding_viewed : view_lines (count_up Bypass 4) (zeros ∷ []) (idle 8) ≡ codes "1 M...\n2 MM..\n3 SSM.\n4 MM.M\n5 SSM.\n6 MM.M\n7 SSM.\n8 MM.M\n"
+forwarding_viewed : view_lines (count_up Bypass 4) (zeros ∷ [])
+    (idle 8) ≡ codes "1 M...\n2 MM..\n3 SSM.\n4 MM.M\n5 SSM.\n6 MM.M\n7 SSM.\n8 MM.M\n"
 unfolding digits add slice zext
 forwarding_viewed = refl
 
-delayed_and_locked : run_lines count_slow ((0 ∷ 0 ∷ []) ∷ []) (bits (1 ∷ 1 ∷ 1 ∷ 1 ∷ 1 ∷ 1 ∷ [])) ≡ codes "3 m 0 01\n5 m 0 02\nend cycles 6 ended 2 waits 0 squashes 0\n"
+delayed_and_locked : run_lines count_slow ((0 ∷ 0 ∷ []) ∷ [])
+    (bits (1 ∷ 1 ∷ 1 ∷ 1 ∷ 1 ∷ 1 ∷ [])) ≡ codes "3 m 0 01\n5 m 0 02\nend cycles 6 ended 2 waits 0 squashes 0\n"
 unfolding digits add slice zext
 delayed_and_locked = refl
 

@@ -54,7 +54,8 @@ decides_by make p st bits = acts_by make p st bits 0 st.stages
 abbrev pub keeps_entries : GoesOn
 keeps_entries p st bits these = record (after_acts p st bits these) { locks = for_mems (λ m. list_three st (movers these) m) 0 p.mems }
 
-squash_keeps : lines_by all_acts keeps_entries (guess_reserved 2) 9 ≡ codes "3 m 0 00\n6 m 1 00\n9 m 2 02\nend cycles 9 ended 3 waits 0 squashes 3\n"
+squash_keeps : lines_by all_acts keeps_entries (guess_reserved 2) 9
+    ≡ codes "3 m 0 00\n6 m 1 00\n9 m 2 02\nend cycles 9 ended 3 waits 0 squashes 3\n"
 unfolding digits add slice zext
 squash_keeps = refl
 
@@ -91,7 +92,8 @@ sees_younger p st bits later s t =
     act_of p st bits later s t
     (deeds_with (λ m a. value_or (youngest_other (lock_of st m) t.number a Nothing) (word_at st.arrays m a)) p s t)
 
-bypass_sees_younger : lines_by (decides_by sees_younger) after_acts count_late 10 ≡ codes "5 m 0 01\n7 m 0 01\n9 m 0 02\nend cycles 10 ended 3 waits 0 squashes 0\n"
+bypass_sees_younger : lines_by (decides_by sees_younger) after_acts count_late 10
+    ≡ codes "5 m 0 01\n7 m 0 01\n9 m 0 02\nend cycles 10 ended 3 waits 0 squashes 0\n"
 unfolding digits add slice zext
 bypass_sees_younger = refl
 
@@ -127,7 +129,8 @@ squashes_always p st bits later s t =
     act_of p st bits later s t
     (if list_any (λ (x : Stmt). (x.stage == s) && is_verify x.op) p.stmts then record d { child = Some t.guess; fails = true } else d)
 
-right_guesses_squashed : lines_by (decides_by squashes_always) after_acts (guess 1) 7 ≡ codes "3 m 0 00\n6 m 1 01\nend cycles 7 ended 2 waits 0 squashes 2\n"
+right_guesses_squashed : lines_by (decides_by squashes_always) after_acts (guess 1) 7
+    ≡ codes "3 m 0 00\n6 m 1 01\nend cycles 7 ended 2 waits 0 squashes 2\n"
 unfolding digits add slice zext
 right_guesses_squashed = refl
 
@@ -164,13 +167,15 @@ gives_late p st bits these =
     let right = after_acts p st bits these in
     record right { requests = for_mems (λ m. owned_late (movers these) (is_answered p bits m) m (request_of st m) (request_of right m)) 0 p.mems }
 
-late_reply_given : lines_from (decides_by asks_at_once) gives_late copy_guessed copied (bits (1 ∷ 1 ∷ 0 ∷ 0 ∷ 1 ∷ 1 ∷ 1 ∷ [])) ≡ codes "3 m 0 0a\n6 m 2 0b\nend cycles 7 ended 2 waits 2 squashes 2\n"
+late_reply_given : lines_from (decides_by asks_at_once) gives_late copy_guessed copied (bits (1 ∷ 1 ∷ 0 ∷ 0 ∷ 1 ∷ 1 ∷ 1 ∷ []))
+    ≡ codes "3 m 0 0a\n6 m 2 0b\nend cycles 7 ended 2 waits 2 squashes 2\n"
 unfolding digits add slice zext
 late_reply_given = refl
 
 -- A PIPE THAT BREAKS A RULE: a write released before the verify, with no barrier. The write of a thread that is squashed stays
 
-without_barrier_commits : run_lines without_barrier (zeros ∷ []) (idle 4) ≡ codes "1 m 0 07\n2 m 1 07\n3 m 2 07\nend cycles 4 ended 1 waits 0 squashes 1\n"
+without_barrier_commits : run_lines without_barrier (zeros ∷ [])
+    (idle 4) ≡ codes "1 m 0 07\n2 m 1 07\n3 m 2 07\nend cycles 4 ended 1 waits 0 squashes 1\n"
 unfolding digits add slice zext
 without_barrier_commits = refl
 

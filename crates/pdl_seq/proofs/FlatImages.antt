@@ -14,12 +14,16 @@ use Rattle.pdl_rules.proofs.ToldMemories.{infos_count}
 no_info : MemInfo
 no_info = record { name = []; width = 0; depth = 0; delayed = false }
 
-info_depth : (ms : List Mem) (m : ℕ) → m < length (mems_of ms) → (slice_index_or (infos_of ms) m no_info).depth ≡ (slice_index_or (mems_of ms) m plain_mem).depth
+info_depth : (ms : List Mem) (m : ℕ)
+    → m < length (mems_of ms)
+    → (slice_index_or (infos_of ms) m no_info).depth ≡ (slice_index_or (mems_of ms) m plain_mem).depth
 info_depth [] m h = absurd (omega arith)
 info_depth (x ∷ ms) zero h = refl
 info_depth (x ∷ ms) (suc m) h = info_depth ms m (omega arith)
 
-info_width : (ms : List Mem) (m : ℕ) → m < length (mems_of ms) → (slice_index_or (infos_of ms) m no_info).width ≡ (slice_index_or (mems_of ms) m plain_mem).width
+info_width : (ms : List Mem) (m : ℕ)
+    → m < length (mems_of ms)
+    → (slice_index_or (infos_of ms) m no_info).width ≡ (slice_index_or (mems_of ms) m plain_mem).width
 info_width [] m h = absurd (omega arith)
 info_width (x ∷ ms) zero h = refl
 info_width (x ∷ ms) (suc m) h = info_width ms m (omega arith)

@@ -17,13 +17,16 @@ use Rattle.pdl_seq.specs.Fits.{IsWord, AreCommits, AreWrites}
 use Rattle.pdl_seq.specs.Runs.{numbered_write, numbered_writes, write_line}
 
 -- with the writes of one thread more, too, all told writes are to words that are there
-pub told_more : (p : Pipe) (n : ℕ) (old new : List r_write.Write) (lent cs : List r_commit.Commit) → new ≡ old ++ map (numbered_write n) (commits_view lent) → lent ≡ cs → AreWrites p old → AreCommits p (commits_view cs) → AreWrites p new
+pub told_more : (p : Pipe) (n : ℕ) (old new : List r_write.Write) (lent cs : List r_commit.Commit)
+    → new ≡ old ++ map (numbered_write n) (commits_view lent) → lent ≡ cs → AreWrites p old
+    → AreCommits p (commits_view cs) → AreWrites p new
 told_more p n old new lent cs e is before now =
     let P = λ (w : r_write.Write). IsWord p w.mem w.addr w.value in
     All-same P new (old ++ map (numbered_write n) (commits_view cs)) (e ∙ ap (λ (l : List r_commit.Commit). old ++ map (numbered_write n) (commits_view l)) is)
     (All-append P old (map (numbered_write n) (commits_view cs)) before (All-map P (numbered_write n) (commits_view cs) now))
 
-lines_of_threads : (ms : List Column) (n : ℕ) (css : List (List Commit)) → flat_map (write_line ms) (numbered_writes n css) ≡ threads_lines n ms css
+lines_of_threads : (ms : List Column) (n : ℕ) (css : List (List Commit))
+    → flat_map (write_line ms) (numbered_writes n css) ≡ threads_lines n ms css
 lines_of_threads ms n [] = refl
 lines_of_threads ms n (cs ∷ css) =
     flat_map-append (write_line ms) (map (numbered_write n) cs) (numbered_writes (suc n) css)
@@ -31,7 +34,8 @@ lines_of_threads ms n (cs ∷ css) =
 
 -- the lines of the first k threads' numbered writes, and an end line, are the text of a sequential run
 pub told_lines : (p : tree.Pipe) (image : List (List ℕ)) (k : ℕ)
-    → flat_map (write_line (columns p.mems)) (numbered_writes 1 (threads (flat p) (arrays_of image) k)) ++ codes "end threads " ++ decimal k ++ codes "\n" ≡ seq_lines p image k
+    → flat_map (write_line (columns p.mems)) (numbered_writes 1 (threads (flat p) (arrays_of image) k))
+    ++ codes "end threads " ++ decimal k ++ codes "\n" ≡ seq_lines p image k
 told_lines p image k =
     ap (λ l. l ++ codes "end threads " ++ decimal k ++ codes "\n") (lines_of_threads (columns p.mems) 1 (threads (flat p) (arrays_of image) k))
 
@@ -42,6 +46,7 @@ none_told p ws e =
     All-same P ws [] e (All-nil P)
 
 -- and those of a run that forgets what it told, where it streams
-pub told_less : (p : Pipe) (streams : Bool) (ws left : List r_write.Write) → left ≡ (if streams then [] else ws) → AreWrites p ws → AreWrites p left
+pub told_less : (p : Pipe) (streams : Bool) (ws left : List r_write.Write)
+    → left ≡ (if streams then [] else ws) → AreWrites p ws → AreWrites p left
 told_less p true ws left e told = none_told p left e
 told_less p false ws left e told = All-same (λ (w : r_write.Write). IsWord p w.mem w.addr w.value) left ws e told

@@ -3,7 +3,8 @@ use Rattle.std.proofs.Common.{◌≡◌, ℕ, suc, ◌+◌, ◌-◌, ◌*◌, �
 use Rattle.pdl_seq.specs.Inside.{HasRoom}
 
 -- at first
-pub room_first : (streams : Bool) (threads told asked room : ℕ) → asked ≡ (if streams then 16 else 16 * threads) → told ≡ 0 → asked ≤ room → HasRoom streams told (threads - 0) room
+pub room_first : (streams : Bool) (threads told asked room : ℕ)
+    → asked ≡ (if streams then 16 else 16 * threads) → told ≡ 0 → asked ≤ room → HasRoom streams told (threads - 0) room
 room_first true threads told asked room e none h = omega arith
 room_first false threads told asked room e none h = omega arith
 
@@ -25,6 +26,7 @@ module _ (streams : Bool) (told begun left rest room n : ℕ) where
       at false h e same few = omega arith
 
 -- where as many are told, and there is as much room
-pub room_same : (streams : Bool) (told told' left room room' : ℕ) → HasRoom streams told' left room' → told ≡ told' → room ≡ room' → HasRoom streams told left room
+pub room_same : (streams : Bool) (told told' left room room' : ℕ) → HasRoom streams told' left room'
+    → told ≡ told' → room ≡ room' → HasRoom streams told left room
 room_same true told told' left room room' h e f = omega arith
 room_same false told told' left room room' h e f = omega arith

@@ -18,7 +18,8 @@ abbrev pub count : ℕ → Run → ℕ
 count m r = length (of_mem m r.writes)
 
 -- the writes with one more
-one_more : (m : ℕ) (ws : List Commit) (c : Commit) (b : Bool) → (c.mem == m) ≡ b → length (of_mem m (ws ++ c ∷ [])) ≡ length (of_mem m ws) + (if b then 1 else 0)
+one_more : (m : ℕ) (ws : List Commit) (c : Commit) (b : Bool)
+    → (c.mem == m) ≡ b → length (of_mem m (ws ++ c ∷ [])) ≡ length (of_mem m ws) + (if b then 1 else 0)
 one_more m ws c b e =
     ap length (of_mem_append m ws (c ∷ []))
     ∙ length-append (of_mem m ws) (of_mem m (c ∷ []))
@@ -30,7 +31,9 @@ one_more m ws c b e =
     at false = refl
 
 -- a write in the phase where the location is held leaves no room for another
-write_step : (m n a k k' : ℕ) (ph : Phase) (b : Bool) → (not b || holds_location ph a) ≡ true → k' ≡ k + (if b then 1 else 0) → k' + left (if b then Written a else ph) ≤ k + left ph
+write_step : (m n a k k' : ℕ) (ph : Phase) (b : Bool)
+    → (not b || holds_location ph a) ≡ true → k' ≡ k + (if b then 1 else 0)
+    → k' + left (if b then Written a else ph) ≤ k + left ph
 write_step m n a k k' (Held x) true h e = omega arith
 write_step m n a k k' Fresh true h e = absurd (cc h)
 write_step m n a k k' (Written x) true h e = absurd (cc h)
@@ -56,7 +59,8 @@ release_step a k Done true = omega arith
 release_step a k ph false = omega arith
 
 -- one statement
-step : (m : ℕ) (ph : Phase) (op : Op) (r : Run) → phase_ok m ph op ≡ true → count m (run_after op r) + left (next_phase m ph op) ≤ count m r + left ph
+step : (m : ℕ) (ph : Phase) (op : Op) (r : Run)
+    → phase_ok m ph op ≡ true → count m (run_after op r) + left (next_phase m ph op) ≤ count m r + left ph
 step m ph (Bind x e) r h = omega arith
 step m ph (CombRead x n a) r h = omega arith
 step m ph (DelayedRead x n a) r h = omega arith

@@ -8,7 +8,8 @@ use Rattle.pdl_semantics.proofs.Facts.{turn_front}
 
 -- the writes of one thread more
 more_from : (p : Pipe) (n k : ℕ) (arrays : Arrays) (args : List ℕ)
-    → numbered_writes n (threads_from p (suc k) arrays args) ≡ numbered_writes n (threads_from p k arrays args) ++ map (numbered_write (n + k)) (thread p (turn_at p arrays args k).arrays (turn_at p arrays args k).next).writes
+    → numbered_writes n (threads_from p (suc k) arrays args) ≡ numbered_writes n (threads_from p k arrays args)
+    ++ map (numbered_write (n + k)) (thread p (turn_at p arrays args k).arrays (turn_at p arrays args k).next).writes
 more_from p n zero arrays args =
     let same : n ≡ n + 0 = omega arith in
     append-nil _ ∙ ap (λ i. map (numbered_write i) (thread p arrays args).writes) same
@@ -23,7 +24,8 @@ more_from p n (suc k) arrays args =
 
 -- the numbered writes of one thread more are those before, and that thread's with its number
 pub one_more : (p : Pipe) (image : Arrays) (k : ℕ)
-    → numbered_writes 1 (threads p image (suc k)) ≡ numbered_writes 1 (threads p image k) ++ map (numbered_write (suc k)) (thread p (after_turns p image k).arrays (after_turns p image k).next).writes
+    → numbered_writes 1 (threads p image (suc k)) ≡ numbered_writes 1 (threads p image k)
+    ++ map (numbered_write (suc k)) (thread p (after_turns p image k).arrays (after_turns p image k).next).writes
 one_more p image k =
     let same : 1 + k ≡ suc k = omega arith in
     more_from p 1 k image p.start ∙ ap (λ i. numbered_writes 1 (threads p image k) ++ map (numbered_write i) (thread p (after_turns p image k).arrays (after_turns p image k).next).writes) same
@@ -39,7 +41,8 @@ last_from p (suc k) arrays args =
 
 -- its writes
 last_writes : (p : Pipe) (image : Arrays) (k : ℕ)
-    → told_writes true p image (suc k) ≡ map (numbered_write (suc k)) (thread p (after_turns p image k).arrays (after_turns p image k).next).writes
+    → told_writes true p image (suc k)
+    ≡ map (numbered_write (suc k)) (thread p (after_turns p image k).arrays (after_turns p image k).next).writes
 last_writes p image k =
     let less : suc k - 1 ≡ k = omega arith in
     ap (λ i. numbered_writes (suc i) (drop i (threads p image (suc k)))) less

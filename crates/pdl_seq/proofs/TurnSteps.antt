@@ -40,15 +40,20 @@ writes_grow (x ∷ xs) r =
 -- THE STATEMENT THAT COMES NEXT
 
 -- the statements from here on begin with this one
-pub next_stmt : (items : List r_stmt.Stmt) (i : ℕ) (x : r_stmt.Stmt) → i < length items → x ≡ get_or items i x → stmts_view (drop i items) ≡ stmt_view x ∷ stmts_view (drop (i + 1) items)
+pub next_stmt : (items : List r_stmt.Stmt) (i : ℕ) (x : r_stmt.Stmt)
+    → i < length items → x ≡ get_or items i x
+    → stmts_view (drop i items) ≡ stmt_view x ∷ stmts_view (drop (i + 1) items)
 next_stmt items i x h e = ap stmts_view (drop_more items i x h) ∙ ap (λ (y : r_stmt.Stmt). stmt_view y ∷ stmts_view (drop (i + 1) items)) (sym e)
 
-typed_at : (f : Form) (items : List r_stmt.Stmt) (i : ℕ) (x : r_stmt.Stmt) → AreTypedStmts f (stmts_view items) → i < length items → IsTypedStmt f (stmt_view (get_or items i x))
+typed_at : (f : Form) (items : List r_stmt.Stmt) (i : ℕ) (x : r_stmt.Stmt) → AreTypedStmts f (stmts_view items)
+    → i < length items → IsTypedStmt f (stmt_view (get_or items i x))
 typed_at f [] i x t h = absurd (omega arith)
 typed_at f (y ∷ items) zero x t h = t.0
 typed_at f (y ∷ items) (suc i) x t h = typed_at f items i x t.1 (omega arith)
 
 -- and it is typed
-pub typed_next : (f : Form) (items : List r_stmt.Stmt) (i : ℕ) (x : r_stmt.Stmt) → stmts_view items ≡ f.pipe.stmts → AreTypedStmts f f.pipe.stmts → i < length items → x ≡ get_or items i x → IsTypedStmt f (stmt_view x)
+pub typed_next : (f : Form) (items : List r_stmt.Stmt) (i : ℕ) (x : r_stmt.Stmt)
+    → stmts_view items ≡ f.pipe.stmts → AreTypedStmts f f.pipe.stmts → i < length items → x ≡ get_or items i x
+    → IsTypedStmt f (stmt_view x)
 typed_next f items i x seen t h e =
     subst (λ (y : r_stmt.Stmt). IsTypedStmt f (stmt_view y)) (sym e) (typed_at f items i x (subst (AreTypedStmts f) (sym seen) t) h)

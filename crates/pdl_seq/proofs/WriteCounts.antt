@@ -14,7 +14,8 @@ abbrev counted : ℕ → List Commit → ℕ
 counted zero cs = 0
 counted (suc n) cs = length (of_mem n cs) + counted n cs
 
-here : (c : Commit) (cs : List Commit) (n : ℕ) (b : Bool) → (c.mem == n) ≡ b → length (of_mem n (c ∷ cs)) ≡ (if b then suc (length (of_mem n cs)) else length (of_mem n cs))
+here : (c : Commit) (cs : List Commit) (n : ℕ) (b : Bool)
+    → (c.mem == n) ≡ b → length (of_mem n (c ∷ cs)) ≡ (if b then suc (length (of_mem n cs)) else length (of_mem n cs))
 here c cs n b e = ap (λ t. length (cond t (c ∷ of_mem n cs) (of_mem n cs))) e ∙ at b
   where
     at : (t : Bool) → length (cond t (c ∷ of_mem n cs) (of_mem n cs)) ≡ (if t then suc (length (of_mem n cs)) else length (of_mem n cs))

@@ -21,7 +21,8 @@ abbrev pub Follows : Row → List Place → Type 0
 Follows r xs = (n : ℕ) → Stand n r → Ordered n xs
 
 -- an `if` on an expression begins where its first token does
-branch : (n : ℕ) (s : Span) (v : Expr) (xs : List Place) → n ≤ s.start → ((m : ℕ) → m ≤ suc s.start → Ordered m xs) → Next n (start_of (guard_of s v)) (λ m. Ordered m xs)
+branch : (n : ℕ) (s : Span) (v : Expr) (xs : List Place)
+    → n ≤ s.start → ((m : ℕ) → m ≤ suc s.start → Ordered m xs) → Next n (start_of (guard_of s v)) (λ m. Ordered m xs)
 branch n s (Constant l) xs le h = (le, h (suc s.start) (omega arith))
 branch n s (Variable x) xs le h = h n (omega arith)
 branch n s (Slice x high low) xs le h = (le, h (suc s.start) (omega arith))
@@ -38,7 +39,8 @@ abbrev placed : List Branch → List Stmt → List Place → List Place
 placed bs [] xs = xs
 placed bs (s ∷ ss) xs = with_inner bs s ++ placed bs ss xs
 
-placed_first : (bs : List Branch) (ss : List Stmt) (others : Stmts) (xs : List Place) → placed bs ss (statements bs others ++ xs) ≡ statements bs (prepend ss others) ++ xs
+placed_first : (bs : List Branch) (ss : List Stmt) (others : Stmts) (xs : List Place)
+    → placed bs ss (statements bs others ++ xs) ≡ statements bs (prepend ss others) ++ xs
 placed_first bs [] others xs = refl
 placed_first bs (s ∷ ss) others xs = ap (λ l. with_inner bs s ++ l) (placed_first bs ss others xs) ∙ sym (append_assoc (with_inner bs s) (statements bs (prepend ss others)) xs)
 

@@ -17,7 +17,8 @@ use Rattle.pdl_rules.proofs.EachPlace.{closing}
 
 -- ---- before the body
 
-parameters_ordered : (close : Mark) (ps : List Param) (a r : Row) → Listed Parameter close ps a r → (xs : List Place) → Follows r xs → Follows a (map place.Parameter ps ++ xs)
+parameters_ordered : (close : Mark) (ps : List Param) (a r : Row) → Listed Parameter close ps a r → (xs : List Place)
+    → Follows r xs → Follows a (map place.Parameter ps ++ xs)
 parameters_ordered close ps a r (last parameter) xs f n h = (letters h refl, f n (later 7 h))
 parameters_ordered close ps a r (further parameter l) xs f n h = (letters h refl, parameters_ordered _ _ _ _ l xs f n (later 7 h))
 
@@ -25,7 +26,8 @@ after_lock : (lock : Option LockDecl) (a r : Row) → Lock lock a r → (n : ℕ
 after_lock lock a r unlocked n h = h
 after_lock lock a r locked n h = later 5 h
 
-memories_ordered : (close : Mark) (ms : List Mem) (a r : Row) → Listed Memory close ms a r → (xs : List Place) → Follows r xs → Follows a (map place.Memory ms ++ xs)
+memories_ordered : (close : Mark) (ms : List Mem) (a r : Row) → Listed Memory close ms a r → (xs : List Place)
+    → Follows r xs → Follows a (map place.Memory ms ++ xs)
 memories_ordered close ms a r (last (memory l)) xs f n h = (refl, f n (later 1 (after_lock _ _ _ l n (later 10 h))))
 memories_ordered close ms a r (further (memory l) ls) xs f n h = (refl, memories_ordered _ _ _ _ ls xs f n (later 1 (after_lock _ _ _ l n (later 10 h))))
 
@@ -34,7 +36,8 @@ memories_ordered close ms a r (further (memory l) ls) xs f n h = (refl, memories
 closing_ordered : (p : Pipe) (r : Row) → Follows r (closing p)
 closing_ordered p r n h = (refl, (refl, tt))
 
-text_ordered : (p : Pipe) (a r : Row) → Text p a r → (n : ℕ) → Stand n a → Ordered n (map place.Parameter p.params ++ (map place.Memory p.mems ++ (statements [] p.body ++ closing p)))
+text_ordered : (p : Pipe) (a r : Row) → Text p a r → (n : ℕ) → Stand n a
+    → Ordered n (map place.Parameter p.params ++ (map place.Memory p.mems ++ (statements [] p.body ++ closing p)))
 text_ordered p a r (text params mems body start) n h =
     let body_ordered = items_ordered _ _ _ body [] _ (closing_ordered p _) in
     let mems_ordered = memories_ordered _ _ _ _ mems _ (λ k g. body_ordered k (later 1 g)) in

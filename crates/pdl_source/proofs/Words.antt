@@ -8,7 +8,7 @@ use Rattle.pdl_syntax_tokens.specs.Tokens.{Token, Row, Piece, Spelling, tokens_f
 use Rattle.pdl_syntax_tokens.proofs.OtherKinds.{same_kind, number_no_name, literal_no_name}
 
 -- a token has letters if it is a name
-abbrev HasLetters : Token → Type 0
+abbrev pub HasLetters : Token → Type 0
 HasLetters t = t.kind ≡ kind.Name → bytes_eq [] t.text ≡ false
 
 -- tokens from byte n on, each after the beginning of the one before it
@@ -88,7 +88,8 @@ lettered : (n c : ℕ) (cs : List ℕ) → 1 ≤ n → bytes_eq [] (take n (c �
 lettered zero c cs h = absurd (omega (arith, h))
 lettered (suc n) c cs h = refl
 
-placed_stand : (k : Option TokenKind) (n start line c : ℕ) (cs : List ℕ) → IsLong (record { kind = k; size = n }) → (rest : Row) → Stand (start + 1) rest
+placed_stand : (k : Option TokenKind) (n start line c : ℕ) (cs : List ℕ) → IsLong (record { kind = k; size = n })
+    → (rest : Row) → Stand (start + 1) rest
     → Stand start (placed_token (record { kind = k; size = n }) start line (c ∷ cs) ++ rest)
 placed_stand None n start line c cs h rest t = sooner start (omega arith) t
 placed_stand (Some k) n start line c cs h rest t =

@@ -25,19 +25,22 @@ abbrev pub making_ops : Making → List Flat.Op → Making
 making_ops k [] = k
 making_ops k (op ∷ os) = making_ops (next_making k (answered_op op)) os
 
-abbrev making_oks : Option ℕ → Making → ℕ → List Flat.Op → Bool
+abbrev pub making_oks : Option ℕ → Making → ℕ → List Flat.Op → Bool
 making_oks v k s [] = true
 making_oks v k s (op ∷ os) = making_ok v k s (answered_op op) && making_oks v (next_making k (answered_op op)) s os
 
 -- where a statement's operations make the next thread by the rules, and the rest does then, all do
-pub makings_append : (v : Option ℕ) (k : Making) (s : ℕ) (os : List Flat.Op) (rest : List Flat.Stmt) → making_oks v k s os ≡ true → makings_ok v (making_ops k os) rest ≡ true → makings_ok v k (seen_ops s os ++ rest) ≡ true
+pub makings_append : (v : Option ℕ) (k : Making) (s : ℕ) (os : List Flat.Op) (rest : List Flat.Stmt)
+    → making_oks v k s os ≡ true → makings_ok v (making_ops k os) rest ≡ true
+    → makings_ok v k (seen_ops s os ++ rest) ≡ true
 makings_append v k s [] rest h i = i
 makings_append v k s (op ∷ os) rest h i =
     let parts = and_parts (making_ok v k s (answered_op op)) (making_oks v (next_making k (answered_op op)) s os) h in
     and_from _ _ parts.0 (makings_append v (next_making k (answered_op op)) s os rest parts.1 i)
 
 -- how far a thread is after a statement's operations and the rest, by how far it is after the operations
-pub making_append : (k : Making) (s : ℕ) (os : List Flat.Op) (rest : List Flat.Stmt) → making_all k (seen_ops s os ++ rest) ≡ making_all (making_ops k os) rest
+pub making_append : (k : Making) (s : ℕ) (os : List Flat.Op) (rest : List Flat.Stmt)
+    → making_all k (seen_ops s os ++ rest) ≡ making_all (making_ops k os) rest
 making_append k s [] rest = refl
 making_append k s (op ∷ os) rest = making_append (next_making k (answered_op op)) s os rest
 
@@ -72,11 +75,13 @@ verifies_one g (Statement (Verify _ _ _) bs) e = refl
 verifies_one g _ e = absurd (false≢true e)
 
 -- where none of some places passes a test, and the next one does not, none of all passes
-pub none_more : (test : Place → Bool) (before : List Place) (x : Place) → list_any test before ≡ false → test x ≡ false → list_any test (before ++ x ∷ []) ≡ false
+pub none_more : (test : Place → Bool) (before : List Place) (x : Place)
+    → list_any test before ≡ false → test x ≡ false → list_any test (before ++ x ∷ []) ≡ false
 none_more test before x h e = list_any-append test before (x ∷ []) ∙ ap₂ (λ a b. a || (b || false)) h e
 
 -- a place that makes nothing and verifies nothing
-stood_next : (k : Making) (before : List Place) (x : Place) → is_call x ≡ false → is_verify x ≡ false → Stood k before → Stood k (before ++ x ∷ [])
+stood_next : (k : Making) (before : List Place) (x : Place)
+    → is_call x ≡ false → is_verify x ≡ false → Stood k before → Stood k (before ++ x ∷ [])
 stood_next Unmade before x c v s = (none_more is_call before x s.0 c, none_more is_verify before x s.1 v)
 stood_next Guessed before x c v s = (any_front is_call before x s.0, none_more is_verify before x s.1 v, s.2, any_front (defines_use (OfGuess s.2)) before x s.3)
 stood_next Made before x c v s = (
@@ -173,7 +178,10 @@ module _ (ms : List Mem) (v : Option ℕ) (before : List Place) (bs : List Branc
   stood_by k (SpecBarrier sp) a i = still k (SpecBarrier sp) refl refl i
 
 -- at the end the next thread is made, where each guess on the path is verified there
-pub made_end : (k : Making) (before : List Place) → Stood k before → list_any is_call before ≡ true → ((g : List ℕ) → list_any (defines_use (OfGuess g)) before ≡ true → list_any (is_verify_of g) before ≡ true) → is_made k ≡ true
+pub made_end : (k : Making) (before : List Place) → Stood k before
+    → list_any is_call before ≡ true
+    → ((g : List ℕ) → list_any (defines_use (OfGuess g)) before ≡ true → list_any (is_verify_of g) before ≡ true)
+    → is_made k ≡ true
 made_end Unmade before i e f = absurd (both_ways _ i.0 e)
 made_end Guessed before i e f = absurd (both_ways _ i.1 (any_weaker _ _ (verifies_one i.2) before (f i.2 i.3)))
 made_end Made before i e f = refl

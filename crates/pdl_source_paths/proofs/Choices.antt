@@ -44,7 +44,8 @@ among_chosen v g (h ∷ gs) e = at (same_guard g h) refl (cases_Bool (is_among g
     at false f c i k = rest (v h) f (k (⊎_elim (λ t. t) (λ t. absurd (both_ways (same_guard g h || is_among g gs) (ap₂ (λ a b. a || b) f t) i)) c))
 
 -- each choice is one of the paths
-pub by_choice : (test : List Guard → Bool) (v : Guard → Bool) (gs : List Guard) → list_any test (choices gs) ≡ false → test (chosen v gs) ≡ false
+pub by_choice : (test : List Guard → Bool) (v : Guard → Bool) (gs : List Guard)
+    → list_any test (choices gs) ≡ false → test (chosen v gs) ≡ false
 by_choice test v [] e = (or_parts (test []) false e).0
 by_choice test v (g ∷ gs) e =
     let parts = or_parts (list_any test (choices gs)) _ (sym (list_any-append test (choices gs) (map (λ c. g ∷ c) (choices gs))) ∙ e) in
@@ -63,7 +64,8 @@ abbrev pub path_of : Pipe → (Guard → Bool) → List Guard
 path_of p v = chosen v (guards (places p))
 
 -- what is broken on no path isn't broken on this one
-pub unbroken_on : (test : List Place → Bool) (p : Pipe) (v : Guard → Bool) (before : List Place) (x : Place) → on_some_path test p before x ≡ false → on_path (path_of p v) x ≡ true
+pub unbroken_on : (test : List Place → Bool) (p : Pipe) (v : Guard → Bool) (before : List Place) (x : Place)
+    → on_some_path test p before x ≡ false → on_path (path_of p v) x ≡ true
     → test (filter (on_path (path_of p v)) before) ≡ false
 unbroken_on test p v before x e on =
     ap (λ b. b && test (filter (on_path (path_of p v)) before)) (sym on)

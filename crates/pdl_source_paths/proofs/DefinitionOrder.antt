@@ -72,7 +72,8 @@ module _ (c : List Guard) (def : Place → Bool) (given : List Place → Bool) (
       )
 
 -- of the sites of a text those on the path
-pub off_path : (P : Site → Type 0) (c : List Guard) (ts : List Site) → All P (on_sites c ts) → All (λ t. on_path c (place_of t) ≡ true → P t) ts
+pub off_path : (P : Site → Type 0) (c : List Guard) (ts : List Site) → All P (on_sites c ts)
+    → All (λ t. on_path c (place_of t) ≡ true → P t) ts
 off_path P c [] h = tt
 off_path P c (t ∷ ts) h = at (on_path c (place_of t)) refl h (off_path P c ts)
   where

@@ -29,7 +29,8 @@ use Rattle.pdl_word.specs.Each.{Each}
 
 -- A SITE ON A PATH
 
-taken_in : (g : Flat.Guard) (outer inner : List Flat.Guard) (env : List ℕ) → all_hold (outer ++ g ∷ inner) env ≡ true → takes_branch g.first (slice_index env g.var) ≡ true
+taken_in : (g : Flat.Guard) (outer inner : List Flat.Guard) (env : List ℕ)
+    → all_hold (outer ++ g ∷ inner) env ≡ true → takes_branch g.first (slice_index env g.var) ≡ true
 taken_in g [] inner env h = (and_parts (takes_branch g.first (slice_index env g.var)) (all_hold inner env) h).0
 taken_in g (k ∷ outer) inner env h = taken_in g outer inner env (and_parts (takes_branch k.first (slice_index env k.var)) (all_hold (outer ++ g ∷ inner) env) h).1
 
@@ -57,7 +58,9 @@ each_low k (x ∷ xs) = at (nat_lt x.stage k) refl (each_low k xs)
     at true e r = (ltb-true x.stage k e, r)
     at false e r = r
 
-on_before : (env : List ℕ) (n k : ℕ) (xs : List Flat.Stmt) → Each (λ y. y.stage < k) (before n (onpath env xs)) → Each (λ z. all_hold z.guards env ≡ true → z.stage < n → z.stage < k) xs
+on_before : (env : List ℕ) (n k : ℕ) (xs : List Flat.Stmt)
+    → Each (λ y. y.stage < k) (before n (onpath env xs))
+    → Each (λ z. all_hold z.guards env ≡ true → z.stage < n → z.stage < k) xs
 on_before env n k [] h = tt
 on_before env n k (x ∷ xs) h = at (all_hold x.guards env) refl h (on_before env n k xs)
   where
@@ -84,11 +87,15 @@ fetch_both : (x : ℕ) (op : Flat.Op) → is_fetch_of x op ≡ true → (binds_v
 fetch_both x (Flat.DelayedRead y m a) e = (e, refl)
 fetch_both x _ e = absurd (false≢true e)
 
-taken_alike : (ys : List Flat.Stmt) (gs : List Flat.Guard) (env env' : List ℕ) → AllGuards (λ g. none_of (is_fetch_of g.var) ys ≡ true) gs → DifferIn ys env env' → all_hold gs env' ≡ all_hold gs env
+taken_alike : (ys : List Flat.Stmt) (gs : List Flat.Guard) (env env' : List ℕ)
+    → AllGuards (λ g. none_of (is_fetch_of g.var) ys ≡ true) gs → DifferIn ys env env'
+    → all_hold gs env' ≡ all_hold gs env
 taken_alike ys [] env env' h d = refl
 taken_alike ys (g ∷ gs) env env' h d = ap₂ (λ v b. takes_branch g.first v && b) (d g.var h.0) (taken_alike ys gs env env' h.1 d)
 
-path_before : (n : ℕ) (env env' : List ℕ) (xs : List Flat.Stmt) → Each (λ z. z.stage < n → all_hold z.guards env' ≡ all_hold z.guards env) xs → onpath env' (before n xs) ≡ onpath env (before n xs)
+path_before : (n : ℕ) (env env' : List ℕ) (xs : List Flat.Stmt)
+    → Each (λ z. z.stage < n → all_hold z.guards env' ≡ all_hold z.guards env) xs
+    → onpath env' (before n xs) ≡ onpath env (before n xs)
 path_before n env env' [] h = refl
 path_before n env env' (x ∷ xs) h = at (nat_lt x.stage n) refl (path_before n env env' xs h.1)
   where

@@ -83,7 +83,8 @@ Unseen z y = (x m a : ℕ) → z.op ≡ Flat.DelayedRead x m a → (is_dead y.gu
 abbrev Alone : Flat.Stmt → Flat.Stmt → Type 0
 Alone z y = (x m a : ℕ) → z.op ≡ Flat.DelayedRead x m a → fetches_no x m y.op ≡ true
 
-find_asked : (P : Flat.Guard → Type 0) (x : ℕ) (gs : List Flat.Guard) → AllGuards P gs → asks_for x gs ≡ true → (g : Flat.Guard) × P g × (g.var ≡ x)
+find_asked : (P : Flat.Guard → Type 0) (x : ℕ) (gs : List Flat.Guard) → AllGuards P gs
+    → asks_for x gs ≡ true → (g : Flat.Guard) × P g × (g.var ≡ x)
 find_asked P x [] h e = absurd (false≢true e)
 find_asked P x (g ∷ gs) h e = at (g.var == x) refl e (find_asked P x gs h.1)
   where
@@ -92,7 +93,9 @@ find_asked P x (g ∷ gs) h e = at (g.var == x) refl e (find_asked P x gs h.1)
     at false f i go = go i
 
 -- a delayed read binds the next variable
-fetch_grows : (ms : List Mem) (t : Site) (x m a : ℕ) → op_of ms t.walk.vars t.stmt ≡ Some (Flat.DelayedRead x m a) → (length t.walk.vars ≡ x) × (length (vars_past ms t.walk.vars t.stmt) ≡ suc (length t.walk.vars))
+fetch_grows : (ms : List Mem) (t : Site) (x m a : ℕ)
+    → op_of ms t.walk.vars t.stmt ≡ Some (Flat.DelayedRead x m a)
+    → (length t.walk.vars ≡ x) × (length (vars_past ms t.walk.vars t.stmt) ≡ suc (length t.walk.vars))
 fetch_grows ms t x m a e = (ForkVars.bound_last ms t.walk.vars t.stmt x (ap (from_op (binds_var x)) e ∙ eq-eqb x x refl), at t.stmt (ap (from_op is_fetch) e))
   where
     at : (s : Stmt) → from_op is_fetch (op_of ms t.walk.vars s) ≡ true → length (vars_past ms t.walk.vars s) ≡ suc (length t.walk.vars)

@@ -61,7 +61,8 @@ full_cut front sp =
     from_append 0 0 [] front (Statement (Separator sp) [] ∷ [])
     ∙ (let a = cut_append front (Statement (Separator sp) [] ∷ []) in let c : cut (Statement (Separator sp) [] ∷ []) ≡ 1 = refl in let b : suc (0 + cut front) ≡ cut (front ++ Statement (Separator sp) [] ∷ []) = omega arith in b)
 
-full_body : (front : List Place) (ss : Stmts) → is_forked ss ≡ true → Full front ⊎ (begins_stage ss ≡ true) → Full (front ++ statements [] ss)
+full_body : (front : List Place) (ss : Stmts)
+    → is_forked ss ≡ true → Full front ⊎ (begins_stage ss ≡ true) → Full (front ++ statements [] ss)
 full_body front Nil h (inl f) = subst Full (sym (append-nil front)) f
 full_body front Nil h (inr e) = absurd (false≢true e)
 full_body front (Cons (Separator sp) ss) h r = subst Full (append_assoc front (Statement (Separator sp) [] ∷ []) (statements [] ss)) (full_body (front ++ Statement (Separator sp) [] ∷ []) ss h (inl (full_cut front sp)))

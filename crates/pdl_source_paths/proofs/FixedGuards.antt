@@ -138,7 +138,9 @@ unbound y z f low = at (binds_guard y.op z.guards) refl
     at false e = refl
 
 -- where no guard's variable is bound in a later stage, none is bound late in the order of stages either
-pub fixed_stages : (xs : List Stmt) → is_fixed xs ≡ true → Each (Rests xs) xs → (s : ℕ) → is_fixed (before s xs ++ (in_stage s xs ++ stages_from (suc s) xs)) ≡ true
+pub fixed_stages : (xs : List Stmt)
+    → is_fixed xs ≡ true → Each (Rests xs) xs → (s : ℕ)
+    → is_fixed (before s xs ++ (in_stage s xs ++ stages_from (suc s) xs)) ≡ true
 fixed_stages xs h r s =
     fixed_append (before s xs) (in_stage s xs ++ stages_from (suc s) xs) (fixed_before s xs h)
     (fixed_append (in_stage s xs) (stages_from (suc s) xs) (fixed_stage s xs h) (fixed_from (suc s) xs h)

@@ -36,7 +36,9 @@ abbrev rest_of : List Place → List Place
 rest_of [] = []
 rest_of (x ∷ xs) = xs
 
-split_front : (xs ys hf later : List Place) (s : Stmt) (bs : List Branch) → list_all no_statement xs ≡ true → xs ++ ys ≡ hf ++ Statement s bs ∷ later → (more : List Place) × (hf ≡ xs ++ more)
+split_front : (xs ys hf later : List Place) (s : Stmt) (bs : List Branch)
+    → list_all no_statement xs ≡ true → xs ++ ys ≡ hf ++ Statement s bs ∷ later
+    → (more : List Place) × (hf ≡ xs ++ more)
 split_front [] ys hf later s bs h e = (hf, refl)
 split_front (x ∷ xs) ys [] later s bs h e = absurd (false≢true (sym (ap (λ l. no_statement (first_of x l)) e) ∙ (and_parts (no_statement x) (list_all no_statement xs) h).0))
 split_front (x ∷ xs) ys (y ∷ hf) later s bs h e =
@@ -65,7 +67,9 @@ abbrev pub value : Pipe → List ℕ → Guard → Bool
 value p path (Shared x) = slice_index path (place_of (names (places p)) x) == 1
 value p path (Own n) = slice_index path (own_at n (places p)) == 1
 
-own_found : (n : ℕ) (before later : List Place) (x : Place) → list_any (begins_at n) before ≡ false → begins_at n x ≡ true → own_at n (before ++ x ∷ later) ≡ length (names before)
+own_found : (n : ℕ) (before later : List Place) (x : Place)
+    → list_any (begins_at n) before ≡ false → begins_at n x ≡ true
+    → own_at n (before ++ x ∷ later) ≡ length (names before)
 own_found n [] later x h e = ap (λ b. if b then 0 else length (names_at x) + own_at n later) e
 own_found n (y ∷ before) later x h e =
     let parts = or_parts (begins_at n y) (list_any (begins_at n) before) h in
@@ -83,7 +87,8 @@ starts_there n (Statement (If s c when otherwise) bs) e = at (guard_of s c) e
 starts_there n _ e = absurd (false≢true e)
 
 -- where `if`s on expressions begin apart, none before the one at byte n begins there too
-pub apart_before : (n : ℕ) (before later : List Place) (x : Place) → are_apart (before ++ x ∷ later) ≡ true → begins_at n x ≡ true → list_any (begins_at n) before ≡ false
+pub apart_before : (n : ℕ) (before later : List Place) (x : Place)
+    → are_apart (before ++ x ∷ later) ≡ true → begins_at n x ≡ true → list_any (begins_at n) before ≡ false
 apart_before n [] later x h e = refl
 apart_before n (y ∷ before) later x h e =
     let parts = and_parts (is_new (own_start y) (before ++ x ∷ later)) (are_apart (before ++ x ∷ later)) h in

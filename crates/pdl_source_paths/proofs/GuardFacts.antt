@@ -33,7 +33,8 @@ pub record Told (p : Pipe) (t : Site) : Type 0 where
   pub guards : AllGuards (Guarded p t) t.gs
 
 -- a site with a flat statement is no separator, and a delayed read where that is one
-pub no_cut : (ms : List Mem) (vs : List Var) (s : Stmt) (bs : List Branch) (op : Flat.Op) → op_of ms vs s ≡ Some op → is_separator (Statement s bs) ≡ false
+pub no_cut : (ms : List Mem) (vs : List Var) (s : Stmt) (bs : List Branch) (op : Flat.Op)
+    → op_of ms vs s ≡ Some op → is_separator (Statement s bs) ≡ false
 no_cut ms vs (Separator sp) bs op e = absurd (none e)
   where
     none : None ≡ Some op → ⊥
@@ -41,7 +42,8 @@ no_cut ms vs (Separator sp) bs op e = absurd (none e)
 no_cut ms vs _ bs op e = refl
 
 -- a statement whose flat form is a delayed read is a delayed read
-pub fetch_delayed : (ms : List Mem) (vs : List Var) (s : Stmt) (bs : List Branch) (op : Flat.Op) → op_of ms vs s ≡ Some op → is_fetch op ≡ true → is_delayed (Statement s bs) ≡ true
+pub fetch_delayed : (ms : List Mem) (vs : List Var) (s : Stmt) (bs : List Branch) (op : Flat.Op)
+    → op_of ms vs s ≡ Some op → is_fetch op ≡ true → is_delayed (Statement s bs) ≡ true
 fetch_delayed ms vs s bs op e f = at s (ap (from_op is_fetch) e ∙ f)
   where
     at : (z : Stmt) → from_op is_fetch (op_of ms vs z) ≡ true → is_delayed (Statement z bs) ≡ true
@@ -53,7 +55,8 @@ fetch_delayed ms vs s bs op e f = at s (ap (from_op is_fetch) e ∙ f)
     at _ g = absurd (false≢true g)
 
 -- the guard that a statement binds
-find_guard : (P : Flat.Guard → Type 0) (op : Flat.Op) (gs : List Flat.Guard) → AllGuards P gs → binds_guard op gs ≡ true → (g : Flat.Guard) × P g × (binds_var g.var op ≡ true)
+find_guard : (P : Flat.Guard → Type 0) (op : Flat.Op) (gs : List Flat.Guard) → AllGuards P gs
+    → binds_guard op gs ≡ true → (g : Flat.Guard) × P g × (binds_var g.var op ≡ true)
 find_guard P op [] h e = absurd (false≢true e)
 find_guard P op (g ∷ gs) h e = at (binds_var g.var op) refl e (find_guard P op gs h.1)
   where
@@ -68,7 +71,8 @@ pub grown_long : (vs us : List Var) → Grown vs us → length vs ≤ length us
 grown_long vs us h = let a = ap length h.1 in let b = length-append vs h.0 in omega arith
 
 -- no later site binds a number below
-pub none_later : (ms : List Mem) (i : ℕ) (vs us : List Var) (ts : List Site) → Grows ms vs ts us → i < length vs → none_of (binds_var i) (owns ms ts) ≡ true
+pub none_later : (ms : List Mem) (i : ℕ) (vs us : List Var) (ts : List Site) → Grows ms vs ts us
+    → i < length vs → none_of (binds_var i) (owns ms ts) ≡ true
 none_later ms i vs us [] h low = refl
 none_later ms i vs us (t ∷ ts) h low =
     let l = grown_long vs t.walk.vars h.0 in

@@ -41,7 +41,9 @@ takes_truth true v e = ap (takes_branch true) e
 takes_truth false v e = ap (takes_branch false) e
 
 -- another guard keeps guards that it is not against
-still_taken : (g : Guard) (gs : List Guard) (env : List ℕ) → g.var < length env → against g gs ≡ false → all_hold gs env ≡ true → all_hold gs (slice_set env g.var (truth_of g.first)) ≡ true
+still_taken : (g : Guard) (gs : List Guard) (env : List ℕ)
+    → g.var < length env → against g gs ≡ false → all_hold gs env ≡ true
+    → all_hold gs (slice_set env g.var (truth_of g.first)) ≡ true
 still_taken g [] env low h t = refl
 still_taken g (k ∷ gs) env low h t =
     let parts = or_parts ((g.var == k.var) && (if g.first then not k.first else k.first)) (against g gs) h in

@@ -50,7 +50,8 @@ count_stages test before (x ∷ xs) = at (test x) refl (count_stages test (befor
 count_append : (test : Place → Bool) (xs ys : List Place) → count_by test (xs ++ ys) ≡ count_by test xs + count_by test ys
 count_append test xs ys = sum_by-append (λ x. weight (test x)) xs ys
 
-stages_past : (test : Place → Bool) (before xs ys : List Place) → list_any test xs ≡ false → stages_that test before (xs ++ ys) ≡ stages_that test (before ++ xs) ys
+stages_past : (test : Place → Bool) (before xs ys : List Place)
+    → list_any test xs ≡ false → stages_that test before (xs ++ ys) ≡ stages_that test (before ++ xs) ys
 stages_past test before [] ys h = ap (λ l. stages_that test l ys) (sym (append-nil before))
 stages_past test before (x ∷ xs) ys h =
     let parts = or_parts (test x) (list_any test xs) h in
@@ -85,7 +86,9 @@ one_name n g (Statement (SpecCheck _) bs) e f = absurd (false≢true e)
 one_name n g (Statement (SpecBarrier _) bs) e f = absurd (false≢true e)
 one_name n g _ e f = absurd (false≢true e)
 
-one_guess : (n g : List ℕ) (xs : List Place) → count_by is_call xs ≤ 1 → list_any (defines_use (OfGuess n)) xs ≡ true → list_any (defines_use (OfGuess g)) xs ≡ true → n ≡ g
+one_guess : (n g : List ℕ) (xs : List Place)
+    → count_by is_call xs ≤ 1 → list_any (defines_use (OfGuess n)) xs ≡ true
+    → list_any (defines_use (OfGuess g)) xs ≡ true → n ≡ g
 one_guess n g [] few e f = absurd (false≢true e)
 one_guess n g (x ∷ xs) few e f = by (or_cases (defines_use (OfGuess n) x) _ e) (or_cases (defines_use (OfGuess g) x) _ f) (one_guess n g xs fewer)
   where

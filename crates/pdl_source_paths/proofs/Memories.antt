@@ -55,7 +55,9 @@ all_after p = (
   append_assoc (map Parameter p.params ++ map Memory p.mems) (statements [] p.body) (closing p) ∙ append_assoc (map Parameter p.params) (map Memory p.mems) (statements [] p.body ++ closing p),
 )
 
-not_again : (p : Pipe) → KeepsRules p → (n : List ℕ) (ms : List Mem) (before : List Place) → ((x : List ℕ) → bytes_eq x n ≡ true → list_any (takes_name x) before ≡ true) → After p before ms → is_memory ms n ≡ false
+not_again : (p : Pipe) → KeepsRules p → (n : List ℕ) (ms : List Mem) (before : List Place)
+    → ((x : List ℕ) → bytes_eq x n ≡ true → list_any (takes_name x) before ≡ true) → After p before ms
+    → is_memory ms n ≡ false
 not_again p rules n [] before h b = refl
 not_again p rules n (m ∷ ms) before h b =
     let free = (or_parts (bytes_eq m.name.name p.name.name) (list_any (takes_name m.name.name) before) (rules N2 before (Memory m) (map Memory ms ++ b.0) b.1)).1 in
@@ -106,7 +108,8 @@ room_lock (Some l) f = at l.kind (sized l.size.value (f l refl))
     at Rename h = h
 
 -- each lock of a source that breaks no rule has room for a write where none is pending
-pub rooms : (p : Pipe) → KeepsRules p → (ms : List Mem) (before : List Place) (i : ℕ) → After p before ms → has_room (slice_index_or (mems_of ms) i plain_mem).lock 0 ≡ true
+pub rooms : (p : Pipe) → KeepsRules p → (ms : List Mem) (before : List Place) (i : ℕ) → After p before ms
+    → has_room (slice_index_or (mems_of ms) i plain_mem).lock 0 ≡ true
 rooms p rules [] before i b = refl
 rooms p rules (m ∷ ms) before zero b = room_lock m.lock size_of
   where
@@ -120,12 +123,14 @@ rooms p rules (m ∷ ms) before (suc i) b = rooms p rules ms (before ++ Memory m
 -- STAGES
 
 -- the list of the first stages of a kind of statement has one entry for each memory
-pub stages_length : (test : ℕ → Flat.Op → Bool) (xs : List Flat.Stmt) (j : ℕ) (ms : List Mem) → length (first_stages test xs j ms) ≡ length ms
+pub stages_length : (test : ℕ → Flat.Op → Bool) (xs : List Flat.Stmt) (j : ℕ) (ms : List Mem)
+    → length (first_stages test xs j ms) ≡ length ms
 stages_length test xs j [] = refl
 stages_length test xs j (m ∷ ms) = ap suc (stages_length test xs (suc j) ms)
 
 -- the i-th of the first stages is that of the first statement of this kind on memory i
-pub stage_at : (test : ℕ → Flat.Op → Bool) (xs : List Flat.Stmt) (i : ℕ) (ms : List Mem) → i < length ms → slice_index_or (first_stages test xs 0 ms) i None ≡ first_stage (test i) xs
+pub stage_at : (test : ℕ → Flat.Op → Bool) (xs : List Flat.Stmt) (i : ℕ) (ms : List Mem)
+    → i < length ms → slice_index_or (first_stages test xs 0 ms) i None ≡ first_stage (test i) xs
 stage_at test xs i ms low = first_index test xs 0 i ms low ∙ ap (λ n. first_stage (test n) xs) (let e : 0 + i ≡ i = omega arith in e)
 
 -- a kind of which there is no statement has no first stage

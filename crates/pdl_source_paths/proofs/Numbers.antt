@@ -54,13 +54,15 @@ mem_names [] = []
 mem_names (m ∷ ms) = m.name.name ∷ mem_names ms
 
 -- a variable's number, and whether it is there, go by the list of the variables' names
-pub var_place : (vs : List Var) (x : List ℕ) → (var_of vs x ≡ place_of (told vs) x) × (is_named vs x ≡ is_in (told vs) x) × (length (told vs) ≡ length vs)
+pub var_place : (vs : List Var) (x : List ℕ)
+    → (var_of vs x ≡ place_of (told vs) x) × (is_named vs x ≡ is_in (told vs) x) × (length (told vs) ≡ length vs)
 var_place [] x = (refl, refl, refl)
 var_place (v ∷ vs) x =
     let h = var_place vs x in
     (ap (λ n. if bytes_eq v.name x then 0 else suc n) h.0, ap (λ b. bytes_eq v.name x || b) h.1, ap suc h.2)
 
-mem_place : (ms : List Mem) (x : List ℕ) → (mem_of ms x ≡ place_of (mem_names ms) x) × (is_memory ms x ≡ is_in (mem_names ms) x) × (length (mem_names ms) ≡ length ms)
+mem_place : (ms : List Mem) (x : List ℕ)
+    → (mem_of ms x ≡ place_of (mem_names ms) x) × (is_memory ms x ≡ is_in (mem_names ms) x) × (length (mem_names ms) ≡ length ms)
 mem_place [] x = (refl, refl, refl)
 mem_place (m ∷ ms) x =
     let h = mem_place ms x in

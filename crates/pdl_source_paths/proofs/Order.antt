@@ -51,7 +51,8 @@ on_append c (x ∷ xs) ys = at (on_path c (place_of x)) (on_append c xs ys)
     at false e = e
 
 -- one site, on the path or not
-one_on : (c : List Guard) (k s : ℕ) (t : Site) → k ≤ s → t.walk.stage ≡ s → is_separator (place_of t) ≡ false → Rises k (on_sites c (t ∷ [])) s
+one_on : (c : List Guard) (k s : ℕ) (t : Site)
+    → k ≤ s → t.walk.stage ≡ s → is_separator (place_of t) ≡ false → Rises k (on_sites c (t ∷ [])) s
 one_on c k s t h e f = at (on_path c (place_of t))
   where
     here : (b : Bool) → is_separator (place_of t) ≡ b → b ≡ false → Next b k t.walk.stage (λ n. Rises n [] s)
@@ -103,7 +104,8 @@ module _ (ms : List Mem) (c : List Guard) where
 -- BRANCHES
 
 -- nothing of a branch that isn't taken stands on the path
-off : (ms : List Mem) (c : List Guard) (front : List Place) (w : Flatten.Position) (gs : List Flat.Guard) (bs : List Branch) (ss : Stmts) → list_all (is_taken c) bs ≡ false → on_sites c (sites ms front w gs bs ss) ≡ []
+off : (ms : List Mem) (c : List Guard) (front : List Place) (w : Flatten.Position) (gs : List Flat.Guard) (bs : List Branch) (ss : Stmts)
+    → list_all (is_taken c) bs ≡ false → on_sites c (sites ms front w gs bs ss) ≡ []
 off ms c front w gs bs ss h =
     none (sites ms front w gs bs ss)
     (holds_all ms (λ front w gs bs. list_all (is_taken c) bs ≡ false) (λ front w gs bs s i. i)
@@ -116,7 +118,8 @@ off ms c front w gs bs ss h =
     none (t ∷ ts) h = ap (λ b. if b then t ∷ on_sites c ts else on_sites c ts) h.0 ∙ none ts h.1
 
 -- one of the two branches isn't taken
-one_off : (c : List Guard) (sp : Span) (e : Expr) (when otherwise : Stmts) (bs : List Branch) → (list_all (is_taken c) (bs ++ branch sp e true when ∷ []) ≡ false) ⊎ (list_all (is_taken c) (bs ++ branch sp e false otherwise ∷ []) ≡ false)
+one_off : (c : List Guard) (sp : Span) (e : Expr) (when otherwise : Stmts) (bs : List Branch)
+    → (list_all (is_taken c) (bs ++ branch sp e true when ∷ []) ≡ false) ⊎ (list_all (is_taken c) (bs ++ branch sp e false otherwise ∷ []) ≡ false)
 one_off c sp e when otherwise bs = at (is_among (guard_of sp e) c) refl
   where
     no_more : (a : Bool) → (a && false) ≡ false
@@ -248,5 +251,6 @@ module _ (ms : List Mem) (c : List Guard) where
       (body_rises w.stage (front ++ with_inner [] s) (past ms s w) ss h (inl (let i : w.stage ≤ w.stage = omega arith in i)) up)
 
 -- each path of a source whose forks are in form
-pub all_rise : (p : Pipe) (c : List Guard) → is_forked p.body ≡ true → Rises 0 (on_sites c (sites_of p)) (past_all p.mems p.body (at_start p)).begun
+pub all_rise : (p : Pipe) (c : List Guard)
+    → is_forked p.body ≡ true → Rises 0 (on_sites c (sites_of p)) (past_all p.mems p.body (at_start p)).begun
 all_rise p c h = body_rises p.mems c 0 (front_of p) (at_start p) p.body h (inl (let i : 0 ≤ 0 = omega arith in i)) (let i : 0 ≤ 0 = omega arith in i)

@@ -40,13 +40,15 @@ pub record Known (p : Pipe) (q : Flat.Pipe) (t : Site) : Type 0 where
   pub inside : t.walk.stage < length q.stages
 
 -- a separator does nothing
-cut_or : (ms : List Mem) (vs : List Var) (bs : List Branch) (s : Stmt) → ((is_separator (Statement s bs) ≡ true) × (ops_of ms vs s ≡ [])) ⊎ (is_separator (Statement s bs) ≡ false)
+cut_or : (ms : List Mem) (vs : List Var) (bs : List Branch) (s : Stmt)
+    → ((is_separator (Statement s bs) ≡ true) × (ops_of ms vs s ≡ [])) ⊎ (is_separator (Statement s bs) ≡ false)
 cut_or ms vs bs (Separator sp) = inl (refl, refl)
 cut_or ms vs bs s = inr refl
 
 -- IN ORDER
 
-order_ops : (l k : ℕ) (os : List Flat.Op) (rest : List Flat.Stmt) → l ≤ k → in_text_order k rest ≡ true → in_text_order l (seen_ops k os ++ rest) ≡ true
+order_ops : (l k : ℕ) (os : List Flat.Op) (rest : List Flat.Stmt)
+    → l ≤ k → in_text_order k rest ≡ true → in_text_order l (seen_ops k os ++ rest) ≡ true
 order_ops l k [] rest h i = lower l k rest h i
   where
     lower : (l k : ℕ) (xs : List Flat.Stmt) → l ≤ k → in_text_order k xs ≡ true → in_text_order l xs ≡ true
@@ -85,7 +87,8 @@ ops_all test [] = true
 ops_all test (op ∷ os) = test op && ops_all test os
 
 -- a list passes a test of all its statements where two parts of it do
-pub list_append : (test : Flat.Stmt → Bool) (xs ys : List Flat.Stmt) → Flat.list_all test xs ≡ true → Flat.list_all test ys ≡ true → Flat.list_all test (xs ++ ys) ≡ true
+pub list_append : (test : Flat.Stmt → Bool) (xs ys : List Flat.Stmt)
+    → Flat.list_all test xs ≡ true → Flat.list_all test ys ≡ true → Flat.list_all test (xs ++ ys) ≡ true
 list_append test [] ys h i = i
 list_append test (x ∷ xs) ys h i = let parts = and_parts (test x) (Flat.list_all test xs) h in and_from _ _ parts.0 (list_append test xs ys parts.1 i)
 
@@ -94,7 +97,8 @@ inside_ops n k [] h = refl
 inside_ops n k (op ∷ os) h = and_from _ _ (lt-ltb k n h) (inside_ops n k os h)
 
 -- the flat statements of sites on a path stand in stages of the pipe, as the sites do
-pub inside_along : (p : Pipe) (q : Flat.Pipe) (ts : List Site) → All (Known p q) ts → Flat.list_all (λ (x : Flat.Stmt). nat_lt x.stage (length q.stages)) (seen p.mems ts) ≡ true
+pub inside_along : (p : Pipe) (q : Flat.Pipe) (ts : List Site) → All (Known p q) ts
+    → Flat.list_all (λ (x : Flat.Stmt). nat_lt x.stage (length q.stages)) (seen p.mems ts) ≡ true
 inside_along p q [] h = refl
 inside_along p q (t ∷ ts) h = list_append _ (seen_ops t.walk.stage (ops p.mems t)) (seen p.mems ts) (inside_ops (length q.stages) t.walk.stage (ops p.mems t) h.0.inside) (inside_along p q ts h.1)
 

@@ -45,7 +45,8 @@ stmts_at k gs [] = []
 stmts_at k gs (op ∷ os) = record { stage = k; guards = gs; op = op } ∷ stmts_at k gs os
 
 -- the flat statements of a statement alone are what it does, in the walk's stage and under the guards
-pub own_is : (ms : List Mem) (gs : List Flat.Guard) (w : Flatten.Position) (s : Stmt) → own_of ms gs w s ≡ stmts_at w.stage gs (ops_of ms w.vars s)
+pub own_is : (ms : List Mem) (gs : List Flat.Guard) (w : Flatten.Position) (s : Stmt)
+    → own_of ms gs w s ≡ stmts_at w.stage gs (ops_of ms w.vars s)
 own_is ms gs w (If _ (Variable x) _ _) = refl
 own_is ms gs w (If _ _ _ _) = refl
 own_is ms gs w _ = refl
@@ -85,7 +86,9 @@ pub looked_append : (xs ys : List Flat.Stmt) → looked_all (xs ++ ys) ≡ looke
 looked_append [] ys = refl
 looked_append (x ∷ xs) ys = ap (λ l. record x { op = answered_op x.op } ∷ l) (looked_append xs ys)
 
-one_path : (path : List ℕ) (k : ℕ) (gs : List Flat.Guard) (b : Bool) → all_hold gs path ≡ b → (os : List Flat.Op) → onpath path (looked_all (stmts_at k gs os)) ≡ (if b then seen_ops k os else [])
+one_path : (path : List ℕ) (k : ℕ) (gs : List Flat.Guard) (b : Bool)
+    → all_hold gs path ≡ b → (os : List Flat.Op)
+    → onpath path (looked_all (stmts_at k gs os)) ≡ (if b then seen_ops k os else [])
 one_path path k gs true e [] = refl
 one_path path k gs false e [] = refl
 one_path path k gs true e (op ∷ os) =
@@ -96,7 +99,8 @@ one_path path k gs false e (op ∷ os) =
     ∙ one_path path k gs false e os
 
 -- what stands on a path
-pub path_is : (ms : List Mem) (path : List ℕ) (c : List Guard) (ts : List Site) → All (Alike path c) ts → onpath path (looked_all (owns ms ts)) ≡ seen ms (on_sites c ts)
+pub path_is : (ms : List Mem) (path : List ℕ) (c : List Guard) (ts : List Site) → All (Alike path c) ts
+    → onpath path (looked_all (owns ms ts)) ≡ seen ms (on_sites c ts)
 path_is ms path c [] h = refl
 path_is ms path c (t ∷ ts) h =
     ap (onpath path) (looked_append (own ms t) (owns ms ts))

@@ -56,7 +56,8 @@ use Rattle.pdl_word.proofs.Bytes.{bytes_same}
 
 -- BEFORE THE STATEMENTS
 
-front_on : (c : List Guard) (ps : List Param) (ms : List Mem) → filter (on_path c) (map Parameter ps ++ map Memory ms) ≡ map Parameter ps ++ map Memory ms
+front_on : (c : List Guard) (ps : List Param) (ms : List Mem)
+    → filter (on_path c) (map Parameter ps ++ map Memory ms) ≡ map Parameter ps ++ map Memory ms
 front_on c [] [] = refl
 front_on c [] (m ∷ ms) = ap (λ l. Memory m ∷ l) (front_on c [] ms)
 front_on c (a ∷ ps) ms = ap (λ l. Parameter a ∷ l) (front_on c ps ms)

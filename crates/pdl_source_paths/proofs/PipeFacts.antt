@@ -28,7 +28,8 @@ use Rattle.pdl_source_paths.proofs.EarlyReads.{IsEarly, all_early}
 use Rattle.pdl_word.specs.Each.{Each}
 use Rattle.pdl_word.proofs.Each.{each_weaker}
 
-looked_each : (P : Flat.Stmt → Type 0) (xs : List Flat.Stmt) → Each (λ y. P (record y { op = answered_op y.op })) xs → Each P (looked_all xs)
+looked_each : (P : Flat.Stmt → Type 0) (xs : List Flat.Stmt) → Each (λ y. P (record y { op = answered_op y.op })) xs
+    → Each P (looked_all xs)
 looked_each P [] h = tt
 looked_each P (x ∷ xs) h = (h.0, looked_each P xs h.1)
 
@@ -45,14 +46,16 @@ abbrev Before : Flat.Pipe → ℕ → Flat.Stmt → Type 0
 Before p s y = (x m a : ℕ) → y.op ≡ Flat.DelayedRead x m a → is_dead y.guards ≡ false → (s < length p.stages) × (s < commit_stage p m)
 
 -- so it is bound no later
-bound_early : (p : Flat.Pipe) → Graph p → (s m : ℕ) (env : List ℕ) → s < length p.stages → s < commit_stage p m → next_of p s env ≤ commit_stage p m
+bound_early : (p : Flat.Pipe) → Graph p → (s m : ℕ) (env : List ℕ)
+    → s < length p.stages → s < commit_stage p m → next_of p s env ≤ commit_stage p m
 bound_early p g s m env low early = at (cases_lt (commit_stage p m) (next_of p s env))
   where
     at : (commit_stage p m < next_of p s env) ⊎ (next_of p s env ≤ commit_stage p m) → next_of p s env ≤ commit_stage p m
     at (inr l) = l
     at (inl l) = let e = g.jump s env (commit_stage p m) low (g.trunk_commit m) early (omega arith) in omega arith
 
-fetches_all : (p : Flat.Pipe) → Graph p → (fetch : ℕ → ℕ) (s : ℕ) (ys : List Flat.Stmt) → AllFound p fetch s ys → Each (Before p s) ys → AllFetches p fetch s ys
+fetches_all : (p : Flat.Pipe) → Graph p → (fetch : ℕ → ℕ) (s : ℕ) (ys : List Flat.Stmt) → AllFound p fetch s ys
+    → Each (Before p s) ys → AllFetches p fetch s ys
 fetches_all p g fetch s [] h k = tt
 fetches_all p g fetch s (y ∷ ys) h k = (one y.op y.guards h.0 k.0, fetches_all p g fetch s ys h.1 k.1)
   where

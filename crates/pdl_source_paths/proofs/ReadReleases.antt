@@ -62,7 +62,8 @@ module _ (p : Pipe) (l : Location) where
       at (inr f) b g rise go = let i = h.0 f.0 in let j = low b g rise f.1 in omega arith
 
 -- no read on a path stands after the releases
-pub late_along : (p : Pipe) (commit : List ℕ → ℕ) (k end : ℕ) (before : List Place) (ts : List Site) → Rises k ts end → Each (KeepsLocks p) before (map place_of ts ++ closing p)
+pub late_along : (p : Pipe) (commit : List ℕ → ℕ) (k end : ℕ) (before : List Place) (ts : List Site) → Rises k ts end
+    → Each (KeepsLocks p) before (map place_of ts ++ closing p)
     → ((m : List ℕ) → All (λ t. releases_memory m (place_of t) ≡ true → t.walk.stage ≡ commit m) ts)
     → All (λ t. (at : Location) → reads_at t.stmt ≡ Some at → is_locked p.mems at.mem.name ≡ true → t.walk.stage ≤ commit at.mem.name) ts
 late_along p commit k end before [] r each h = tt

@@ -35,7 +35,8 @@ numbered ms vs l = record { mem = mem_of ms l.mem.name; var = var_of vs l.addres
 
 -- locations of the same numbers are the same
 pub same_numbers : (ms : List Mem) (vs : List Var) (a b : Location) → IsNamed ms vs a → IsNamed ms vs b
-    → ((mem_of ms a.mem.name == mem_of ms b.mem.name) && (var_of vs a.address.name == var_of vs b.address.name)) ≡ true → same_location a b ≡ true
+    → ((mem_of ms a.mem.name == mem_of ms b.mem.name) && (var_of vs a.address.name == var_of vs b.address.name)) ≡ true
+    → same_location a b ≡ true
 same_numbers ms vs a b h k e =
     let parts = and_parts (mem_of ms a.mem.name == mem_of ms b.mem.name) _ e in
     let m = mem_same ms a.mem.name b.mem.name h.0 k.0 (eqb-true _ _ parts.0) in
@@ -59,7 +60,9 @@ opened_uses (l ∷ ls) m x h =
     (or_cases ((l.mem == m) && (l.var == x)) (has_location ls m x) h)
 
 -- what is open of a location was reserved
-unreserved : (l : Location) (xs : List Place) (h : Hold) → is_unreleased h ≡ false → list_any (reserves_location l) xs ≡ false → is_unreleased (fold (after_place l) h xs) ≡ false
+unreserved : (l : Location) (xs : List Place) (h : Hold)
+    → is_unreleased h ≡ false → list_any (reserves_location l) xs ≡ false
+    → is_unreleased (fold (after_place l) h xs) ≡ false
 unreserved l [] h e f = e
 unreserved l (x ∷ xs) h e f = let parts = or_parts (reserves_location l x) (list_any (reserves_location l) xs) f in unreserved l xs (after_place l h x) (here x parts.0) parts.1
   where
@@ -122,7 +125,9 @@ pub record Scanned (p : Pipe) (vs : List Var) (before : List Place) (c : Scan) :
   pub named : (l : Location) → list_any (reserves_location l) before ≡ true → is_named vs l.address.name ≡ true
 
 -- the empty scan is that of places none of which reserves anything
-pub none_scanned : (p : Pipe) (vs : List Var) (before : List Place) → ((l : Location) → list_any (reserves_location l) before ≡ false) → ((l : Location) → list_any (reserves_to_write l) before ≡ false)
+pub none_scanned : (p : Pipe) (vs : List Var) (before : List Place)
+    → ((l : Location) → list_any (reserves_location l) before ≡ false)
+    → ((l : Location) → list_any (reserves_to_write l) before ≡ false)
     → Scanned p vs before (record { held = []; blocked = [] })
 none_scanned p vs before none nor = record {
   held_low = λ x h. refl;
@@ -134,8 +139,10 @@ none_scanned p vs before none nor = record {
 }
 
 -- a statement that reserves, blocks and releases nothing, with variables added
-plain_next : (p : Pipe) (vs us : List Var) (before : List Place) (x : Place) (c : Scan) → ((l : Location) (h : Hold) → after_place l h x ≡ h) → ((l : Location) → reserves_location l x ≡ false) → ((l : Location) → reserves_to_write l x ≡ false)
-    → Scanned p vs before c → Scanned p (vs ++ us) (before ++ x ∷ []) c
+plain_next : (p : Pipe) (vs us : List Var) (before : List Place) (x : Place) (c : Scan)
+    → ((l : Location) (h : Hold) → after_place l h x ≡ h) → ((l : Location) → reserves_location l x ≡ false)
+    → ((l : Location) → reserves_to_write l x ≡ false) → Scanned p vs before c
+    → Scanned p (vs ++ us) (before ++ x ∷ []) c
 plain_next p vs us before x c same none nor k = record {
   held_low = λ y h. k.held_low y (longer y h);
   blocked_low = λ y h. k.blocked_low y (longer y h);
@@ -159,8 +166,9 @@ plain_next p vs us before x c same none nor k = record {
     more : (y : List ℕ) → is_named vs y ≡ true → is_named (vs ++ us) y ≡ true
     more y e = list_any-append _ vs us ∙ or_left (is_named vs y) _ e
 
-same_next : (p : Pipe) (vs : List Var) (before : List Place) (x : Place) (c : Scan) → ((l : Location) (h : Hold) → after_place l h x ≡ h) → ((l : Location) → reserves_location l x ≡ false) → ((l : Location) → reserves_to_write l x ≡ false)
-    → Scanned p vs before c → Scanned p vs (before ++ x ∷ []) c
+same_next : (p : Pipe) (vs : List Var) (before : List Place) (x : Place) (c : Scan)
+    → ((l : Location) (h : Hold) → after_place l h x ≡ h) → ((l : Location) → reserves_location l x ≡ false)
+    → ((l : Location) → reserves_to_write l x ≡ false) → Scanned p vs before c → Scanned p vs (before ++ x ∷ []) c
 same_next p vs before x c same none nor k = subst (λ us. Scanned p us (before ++ x ∷ []) c) (append-nil vs) (plain_next p vs [] before x c same none nor k)
 
 -- what a statement holds of a location, where it is of this one or not
@@ -317,7 +325,8 @@ module _ (p : Pipe) (vs : List Var) (before : List Place) (c : Scan) (s : Span) 
 -- ALL STATEMENTS
 
 -- more variables change nothing
-pub scanned_grown : (p : Pipe) (vs us : List Var) (before : List Place) (c : Scan) → Grown vs us → Scanned p vs before c → Scanned p us before c
+pub scanned_grown : (p : Pipe) (vs us : List Var) (before : List Place) (c : Scan) → Grown vs us → Scanned p vs before c
+    → Scanned p us before c
 scanned_grown p vs us before c g k = subst (λ ws. Scanned p ws before c) (sym g.1) (record {
   held_low = λ y h. k.held_low y (longer y h);
   blocked_low = λ y h. k.blocked_low y (longer y h);
@@ -338,12 +347,13 @@ abbrev pub opens_ops : List Flat.Op → Scan → Scan
 opens_ops [] c = c
 opens_ops (op ∷ os) c = opens_ops os (scan_after (answered_op op) c)
 
-abbrev ops_ok : Flat.Pipe → ℕ → Scan → List Flat.Op → Bool
+abbrev pub ops_ok : Flat.Pipe → ℕ → Scan → List Flat.Op → Bool
 ops_ok q k c [] = true
 ops_ok q k c (op ∷ os) = op_ok q k c (answered_op op) && ops_ok q k (scan_after (answered_op op) c) os
 
 -- a scan of reads passes operations of one stage with the rest where it passes them and then the rest
-pub reads_append : (q : Flat.Pipe) (k : ℕ) (c : Scan) (os : List Flat.Op) (rest : List Flat.Stmt) → ops_ok q k c os ≡ true → reads_ok q (opens_ops os c) rest ≡ true → reads_ok q c (seen_ops k os ++ rest) ≡ true
+pub reads_append : (q : Flat.Pipe) (k : ℕ) (c : Scan) (os : List Flat.Op) (rest : List Flat.Stmt)
+    → ops_ok q k c os ≡ true → reads_ok q (opens_ops os c) rest ≡ true → reads_ok q c (seen_ops k os ++ rest) ≡ true
 reads_append q k c [] rest h i = i
 reads_append q k c (op ∷ os) rest h i =
     let parts = and_parts (op_ok q k c (answered_op op)) (ops_ok q k (scan_after (answered_op op) c) os) h in

@@ -25,12 +25,14 @@ abbrev pub barred_ops : Bool → List Flat.Op → Bool
 barred_ops b [] = b
 barred_ops b (op ∷ os) = barred_ops (b || is_barrier (answered_op op)) os
 
-abbrev sure_oks : Option ℕ → Bool → Scan → ℕ → List Flat.Op → Bool
+abbrev pub sure_oks : Option ℕ → Bool → Scan → ℕ → List Flat.Op → Bool
 sure_oks v b c s [] = true
 sure_oks v b c s (op ∷ os) = is_sure v b c s (answered_op op) && sure_oks v (b || is_barrier (answered_op op)) (scan_after (answered_op op) c) s os
 
 -- releases are certain among operations of one stage and the rest where they are among each
-pub sures_append : (v : Option ℕ) (b : Bool) (c : Scan) (s : ℕ) (os : List Flat.Op) (rest : List Flat.Stmt) → sure_oks v b c s os ≡ true → all_sure v (barred_ops b os) (opens_ops os c) rest ≡ true → all_sure v b c (seen_ops s os ++ rest) ≡ true
+pub sures_append : (v : Option ℕ) (b : Bool) (c : Scan) (s : ℕ) (os : List Flat.Op) (rest : List Flat.Stmt)
+    → sure_oks v b c s os ≡ true → all_sure v (barred_ops b os) (opens_ops os c) rest ≡ true
+    → all_sure v b c (seen_ops s os ++ rest) ≡ true
 sures_append v b c s [] rest h i = i
 sures_append v b c s (op ∷ os) rest h i =
     let parts = and_parts (is_sure v b c s (answered_op op)) (sure_oks v (b || is_barrier (answered_op op)) (scan_after (answered_op op) c) s os) h in

@@ -117,8 +117,10 @@ cuts_own n _ e = refl
 -- WHAT A SITE BINDS
 
 -- a statement whose flat form binds a variable adds one name, which it defines unless that is empty
-pub bound_name : (ms : List Mem) (vs : List Var) (s : Stmt) (i : ℕ) → from_op (binds_var i) (op_of ms vs s) ≡ true
-    → (n : List ℕ) × (names_by s ≡ n ∷ []) × ((m : List ℕ) → bytes_eq n m ≡ true → bytes_eq [] m ≡ false → defines_use (OfVariable m) (Statement s []) ≡ true)
+pub bound_name : (ms : List Mem) (vs : List Var) (s : Stmt) (i : ℕ)
+    → from_op (binds_var i) (op_of ms vs s) ≡ true
+    → (n : List ℕ) × (names_by s ≡ n ∷ [])
+    × ((m : List ℕ) → bytes_eq n m ≡ true → bytes_eq [] m ≡ false → defines_use (OfVariable m) (Statement s []) ≡ true)
 bound_name ms vs (CombRead sp y l) i e = (y.name, refl, λ m f g. bytes_sym y.name m f)
 bound_name ms vs (Bind sp y v) i e = (y.name, refl, λ m f g. bytes_sym y.name m f)
 bound_name ms vs (DelayedRead sp y l) i e = (y.name, refl, λ m f g. bytes_sym y.name m f)

@@ -11,7 +11,7 @@ use Rattle.pdl_theory_facts.specs.Facts.{uses_in, uses_any, mentions_var}
 use Rattle.pdl_source_stages.proofs.SiteFacts.{op_of, from_op}
 
 -- a name with this number, whose use by an expression a test finds
-abbrev InExpr : List Var → ℕ → Expr → Type 0
+abbrev pub InExpr : List Var → ℕ → Expr → Type 0
 InExpr vs x e = (n : List ℕ) × (var_of vs n ≡ x) × ((test : Use → Bool) → test (OfVariable n) ≡ true → some_part (reads_some test) e ≡ true)
 
 abbrev Wider : (vs : List Var) (x : ℕ) (a e : Expr) → Type 0
@@ -51,7 +51,10 @@ in_expr vs x (Choose d a b) h =
     (or_cases (uses_in x (flat_expr vs a)) (uses_in x (flat_expr vs b)) u))
     (or_cases (uses_in x (flat_expr vs d)) (uses_in x (flat_expr vs a) || uses_in x (flat_expr vs b)) h)
 
-in_exprs : (vs : List Var) (x : ℕ) (es : List Expr) → uses_any x (flat_exprs vs es) ≡ true → (n : List ℕ) × (var_of vs n ≡ x) × ((test : Use → Bool) → test (OfVariable n) ≡ true → list_any (some_part (reads_some test)) es ≡ true)
+in_exprs : (vs : List Var) (x : ℕ) (es : List Expr)
+    → uses_any x (flat_exprs vs es) ≡ true
+    → (n : List ℕ) × (var_of vs n ≡ x)
+    × ((test : Use → Bool) → test (OfVariable n) ≡ true → list_any (some_part (reads_some test)) es ≡ true)
 in_exprs vs x [] h = absurd (false≢true h)
 in_exprs vs x (e ∷ es) h =
     ⊎_elim
@@ -63,7 +66,9 @@ in_exprs vs x (e ∷ es) h =
 abbrev pub AtStmt : List Var → ℕ → Stmt → Type 0
 AtStmt vs x s = (length vs ≡ x) ⊎ ((n : List ℕ) × (var_of vs n ≡ x) × ((test : Use → Bool) (bs : List Branch) → test (OfVariable n) ≡ true → some_use test (Statement s bs) ≡ true))
 
-at_address : (test : Use → Bool) (l : Location) (b : Bool) → test (OfVariable l.address.name) ≡ true → ((test (OfMemory l.mem.name) || test (OfVariable l.address.name)) || b) ≡ true
+at_address : (test : Use → Bool) (l : Location) (b : Bool)
+    → test (OfVariable l.address.name) ≡ true
+    → ((test (OfMemory l.mem.name) || test (OfVariable l.address.name)) || b) ≡ true
 at_address test l b e = or_left (test (OfMemory l.mem.name) || test (OfVariable l.address.name)) b (or_right (test (OfMemory l.mem.name)) (test (OfVariable l.address.name)) e)
 
 bound_or : (vs : List Var) (x : ℕ) (s : Stmt) (b : Bool) → ((length vs == x) || b) ≡ true → (b ≡ true → AtStmt vs x s) → AtStmt vs x s

@@ -57,7 +57,8 @@ defined_in x (d ∷ ds) e =
     list_any-append (λ y. bytes_eq y x) (names_at d) (names ds)
     ∙ ⊎_elim (λ t. or_left _ _ (defined_here x d t)) (λ t. or_right (is_in (names_at d) x) _ (defined_in x ds t)) (or_cases (defines_use (OfVariable x) d) _ e)
 
-param_in : (x : List ℕ) (ps : List Param) → list_any (λ (a : Param). bytes_eq x a.name.name) ps ≡ true → is_in (names (map Parameter ps)) x ≡ true
+param_in : (x : List ℕ) (ps : List Param)
+    → list_any (λ (a : Param). bytes_eq x a.name.name) ps ≡ true → is_in (names (map Parameter ps)) x ≡ true
 param_in x [] e = absurd (false≢true e)
 param_in x (a ∷ ps) e =
     ⊎_elim (λ t. or_left _ _ (bytes_sym x a.name.name t)) (λ t. or_right (bytes_eq a.name.name x) _ (param_in x ps t)) (or_cases (bytes_eq x a.name.name) _ e)
@@ -81,7 +82,8 @@ all_after p =
     (front_of p) (at_start p) [] [] p.body ([], sym (append-nil (front_of p)))
 
 -- a variable whose use breaks no rule is among those before
-pub known : (p : Pipe) (front : List Place) (w : Flatten.Position) (x : Place) (n : List ℕ) → After p front → Named front w → is_too_early p front x (OfVariable n) ≡ false → is_named w.vars n ≡ true
+pub known : (p : Pipe) (front : List Place) (w : Flatten.Position) (x : Place) (n : List ℕ) → After p front
+    → Named front w → is_too_early p front x (OfVariable n) ≡ false → is_named w.vars n ≡ true
 known p front w x n after named e =
     named_is front w n named
     ∙ ⊎_elim
@@ -152,7 +154,8 @@ all_here p = go (sites_of p) (all_stand p) (all_at p) (all_after p)
     go (t ∷ ts) a b c = (record { later = a.0.0; whole = a.0.1; at = b.0; after = c.0 }, go ts a.1 b.1 c.1)
 
 -- its location is there
-pub located : (p : Pipe) → KeepsRules p → (t : Site) → Here p t → (at : Location) → location_of t.stmt ≡ Some at → IsNamed p.mems t.walk.vars at
+pub located : (p : Pipe) → KeepsRules p → (t : Site) → Here p t → (at : Location)
+    → location_of t.stmt ≡ Some at → IsNamed p.mems t.walk.vars at
 located p rules t h at e = (
   memory_there p at.mem.name (or_parts (undefined (OfMemory at.mem.name)) (undefined (OfVariable at.address.name)) (at_location undefined (or_parts (names_another_pipe p (place_of t)) (some_use undefined (place_of t)) (rules N1 t.front (place_of t) h.later h.whole)).1)).0,
   known p t.front t.walk (place_of t) at.address.name h.after h.at.named

@@ -69,7 +69,8 @@ filter_append f (x ∷ xs) ys = at (f x) (filter_append f xs ys)
     at false e = e
 
 -- the front of each site on a path, on that path, is what stands before the site on it
-pub on_the_path : (c : List Guard) (front : List Place) (ts : List Site) → InText front ts → OnPath c (filter (on_path c) front) (on_sites c ts)
+pub on_the_path : (c : List Guard) (front : List Place) (ts : List Site) → InText front ts
+    → OnPath c (filter (on_path c) front) (on_sites c ts)
 on_the_path c front [] h = tt
 on_the_path c front (t ∷ ts) h = at (on_path c (place_of t)) refl (on_the_path c (front ++ place_of t ∷ []) ts h.1)
   where

@@ -43,7 +43,8 @@ Stands vs before m (Written x) = (o : Open vs before m x) × (list_any (is_write
 Stands vs before m Done = (list_any (is_reserve_of W m) before ≡ true) × (list_any (is_write_of m) before ≡ true)
 
 -- a statement that doesn't reserve m for writing and doesn't write it leaves it where it stands, if it lets the location be
-abbrev open_more : (vs us : List Var) (before : List Place) (m : List ℕ) (n : ℕ) (x : Place) → Open vs before m n → Open (vs ++ us) (before ++ x ∷ []) m n
+abbrev open_more : (vs us : List Var) (before : List Place) (m : List ℕ) (n : ℕ) (x : Place) → Open vs before m n
+    → Open (vs ++ us) (before ++ x ∷ []) m n
 open_more vs us before m n x o = record {
   at = o.at;
   mem = o.mem;
@@ -52,10 +53,12 @@ open_more vs us before m n x o = record {
   reserved = any_front (reserves_to_write o.at) before x o.reserved;
 }
 
-abbrev open_front : (vs : List Var) (before : List Place) (m : List ℕ) (n : ℕ) (x : Place) → Open vs before m n → Open vs (before ++ x ∷ []) m n
+abbrev open_front : (vs : List Var) (before : List Place) (m : List ℕ) (n : ℕ) (x : Place) → Open vs before m n
+    → Open vs (before ++ x ∷ []) m n
 open_front vs before m n x o = record { at = o.at; mem = o.mem; named = o.named; number = o.number; reserved = any_front (reserves_to_write o.at) before x o.reserved }
 
-moved : (vs us : List Var) (before : List Place) (m : List ℕ) (ph : Phase) (x : Place) → is_reserve_of W m x ≡ false → is_write_of m x ≡ false
+moved : (vs us : List Var) (before : List Place) (m : List ℕ) (ph : Phase) (x : Place)
+    → is_reserve_of W m x ≡ false → is_write_of m x ≡ false
     → ((l : Location) → l.mem.name ≡ m → list_any (reserves_to_write l) before ≡ true → (h : Hold) → is_held_for W h ≡ true → is_held_for W (after_place l h x) ≡ true)
     → ((l : Location) → l.mem.name ≡ m → list_any (reserves_to_write l) before ≡ true → after_place l (Blocked W) x ≡ Blocked W)
     → Stands vs before m ph → Stands (vs ++ us) (before ++ x ∷ []) m ph
@@ -73,23 +76,27 @@ moved vs us before m (Written n) x nor now keep still s = (
 moved vs us before m Done x nor now keep still s = (any_front (is_reserve_of W m) before x s.0, any_front (is_write_of m) before x s.1)
 
 -- at each place of a phase
-wrote_none : (vs : List Var) (before : List Place) (m : List ℕ) (ph : Phase) → Stands vs before m ph → list_any (is_write_of m) before ≡ false → may_read ph ≡ true
+wrote_none : (vs : List Var) (before : List Place) (m : List ℕ) (ph : Phase) → Stands vs before m ph
+    → list_any (is_write_of m) before ≡ false → may_read ph ≡ true
 wrote_none vs before m Fresh s h = refl
 wrote_none vs before m (Held x) s h = refl
 wrote_none vs before m (Written x) s h = absurd (both_ways _ h s.1)
 wrote_none vs before m Done s h = absurd (both_ways _ h s.1)
 
-held_low : (vs : List Var) (before : List Place) (m : List ℕ) (ph : Phase) → Stands vs before m ph → not (holds_location ph (length vs)) ≡ true
+held_low : (vs : List Var) (before : List Place) (m : List ℕ) (ph : Phase) → Stands vs before m ph
+    → not (holds_location ph (length vs)) ≡ true
 held_low vs before m Fresh s = refl
 held_low vs before m (Held x) s =
     ap not (ne_eqb x (length vs) (λ e. let i : var_of vs s.0.at.address.name < length vs = var_low vs s.0.at.address.name s.0.named in let j = s.0.number in absurd (omega arith)))
 held_low vs before m (Written x) s = refl
 held_low vs before m Done s = refl
 
-reserved_mem : (before : List Place) (m : List ℕ) (l : Location) → l.mem.name ≡ m → list_any (reserves_to_write l) before ≡ true → list_any (is_reserve_of W m) before ≡ true
+reserved_mem : (before : List Place) (m : List ℕ) (l : Location)
+    → l.mem.name ≡ m → list_any (reserves_to_write l) before ≡ true → list_any (is_reserve_of W m) before ≡ true
 reserved_mem before m l e h = subst (λ n. list_any (is_reserve_of W n) before ≡ true) e (any_weaker _ _ (reserves_mem l) before h)
 
-reserved_none : (vs : List Var) (before : List Place) (m : List ℕ) (ph : Phase) → Stands vs before m ph → list_any (is_reserve_of W m) before ≡ false → is_fresh ph ≡ true
+reserved_none : (vs : List Var) (before : List Place) (m : List ℕ) (ph : Phase) → Stands vs before m ph
+    → list_any (is_reserve_of W m) before ≡ false → is_fresh ph ≡ true
 reserved_none vs before m Fresh s h = refl
 reserved_none vs before m (Held x) s h = absurd (both_ways _ h (reserved_mem before m s.0.at s.0.mem s.0.reserved))
 reserved_none vs before m (Written x) s h = absurd (both_ways _ h (reserved_mem before m s.0.at s.0.mem s.0.reserved))
@@ -230,7 +237,8 @@ module _ (p : Pipe) (vs : List Var) (before : List Place) (m : List ℕ) (there 
 -- ALL STATEMENTS
 
 -- more variables change nothing
-pub stands_grown : (vs us : List Var) (before : List Place) (m : List ℕ) (ph : Phase) → Grown vs us → Stands vs before m ph → Stands us before m ph
+pub stands_grown : (vs us : List Var) (before : List Place) (m : List ℕ) (ph : Phase) → Grown vs us
+    → Stands vs before m ph → Stands us before m ph
 stands_grown vs us before m ph g s = subst (λ ws. Stands ws before m ph) (sym g.1) (by ph s)
   where
     more : (x : ℕ) → Open vs before m x → Open (vs ++ g.0) before m x
@@ -247,19 +255,22 @@ abbrev pub phase_ops : ℕ → Phase → List Flat.Op → Phase
 phase_ops m ph [] = ph
 phase_ops m ph (op ∷ os) = phase_ops m (next_phase m ph (answered_op op)) os
 
-abbrev phase_oks : ℕ → Phase → List Flat.Op → Bool
+abbrev pub phase_oks : ℕ → Phase → List Flat.Op → Bool
 phase_oks m ph [] = true
 phase_oks m ph (op ∷ os) = phase_ok m ph (answered_op op) && phase_oks m (next_phase m ph (answered_op op)) os
 
 -- the write to m is in order in operations of one stage and the rest where it is in each
-pub phases_append : (m k : ℕ) (ph : Phase) (os : List Flat.Op) (rest : List Flat.Stmt) → phase_oks m ph os ≡ true → phases_ok m (phase_ops m ph os) rest ≡ true → phases_ok m ph (seen_ops k os ++ rest) ≡ true
+pub phases_append : (m k : ℕ) (ph : Phase) (os : List Flat.Op) (rest : List Flat.Stmt)
+    → phase_oks m ph os ≡ true → phases_ok m (phase_ops m ph os) rest ≡ true
+    → phases_ok m ph (seen_ops k os ++ rest) ≡ true
 phases_append m k ph [] rest h i = i
 phases_append m k ph (op ∷ os) rest h i =
     let parts = and_parts (phase_ok m ph (answered_op op)) (phase_oks m (next_phase m ph (answered_op op)) os) h in
     and_from _ _ parts.0 (phases_append m k (next_phase m ph (answered_op op)) os rest parts.1 i)
 
 -- the phase of m's write after operations and the rest is that after the rest, begun where they ended
-pub phase_append : (m k : ℕ) (ph : Phase) (os : List Flat.Op) (rest : List Flat.Stmt) → phase_all m ph (seen_ops k os ++ rest) ≡ phase_all m (phase_ops m ph os) rest
+pub phase_append : (m k : ℕ) (ph : Phase) (os : List Flat.Op) (rest : List Flat.Stmt)
+    → phase_all m ph (seen_ops k os ++ rest) ≡ phase_all m (phase_ops m ph os) rest
 phase_append m k ph [] rest = refl
 phase_append m k ph (op ∷ os) rest = phase_append m k (next_phase m ph (answered_op op)) os rest
 

@@ -32,7 +32,8 @@ mutual
       length-append (with_inner bs s) (statements bs ss) ∙ ap₂ (λ a b. a + b) (long_in bs cs s) (long_all bs cs ss) ∙ sym (length-append (with_inner cs s) (statements cs ss))
 
 -- what lies after a place
-pub after_is : (p : Pipe) (before : List Place) (x : Place) (later : List Place) → places p ≡ before ++ x ∷ later → places_after p before ≡ later
+pub after_is : (p : Pipe) (before : List Place) (x : Place) (later : List Place)
+    → places p ≡ before ++ x ∷ later → places_after p before ≡ later
 after_is p before x later e =
     ap (λ l. drop (suc (length before)) l) (e ∙ sym (append_assoc before (x ∷ []) later))
     ∙ ap (λ n. drop n ((before ++ x ∷ []) ++ later)) (let f = length-append before (x ∷ []) in let g : length (x ∷ []) ≡ 1 = refl in let h : suc (length before) ≡ length (before ++ x ∷ []) = omega arith in h)
@@ -66,7 +67,9 @@ other_false : (a b : Bool) → (a && b) ≡ false → a ≡ true → b ≡ false
 other_false true b e f = e
 other_false false b e f = absurd (false≢true f)
 
-starts : (ss : Stmts) (rest : List Place) → starts_with_separator rest ≡ false → starts_with_separator (statements [] ss ++ rest) ≡ true → begins_stage ss ≡ true
+starts : (ss : Stmts) (rest : List Place)
+    → starts_with_separator rest ≡ false → starts_with_separator (statements [] ss ++ rest) ≡ true
+    → begins_stage ss ≡ true
 starts Nil rest e h = absurd (false≢true (sym e ∙ h))
 starts (Cons (Separator sp) ss) rest e h = refl
 starts (Cons (If sp c when otherwise) ss) rest e h = absurd (false≢true h)
@@ -144,7 +147,8 @@ abbrev pub body_shape : Pipe → Shape
 body_shape p = shape p.mems p.body (at_start p)
 
 -- the stages of a source are those of its body's shape, where each fork is in form
-pub stages_are : (p : Pipe) → is_forked p.body ≡ true → (flat p).stages ≡ stage (leads_on 0 (body_shape p)) None None ∷ after 0 (body_shape p)
+pub stages_are : (p : Pipe)
+    → is_forked p.body ≡ true → (flat p).stages ≡ stage (leads_on 0 (body_shape p)) None None ∷ after 0 (body_shape p)
 stages_are p h = ap (λ (g : Flatten.Graph). stage g.next None None ∷ g.later) (graph_trunk p.mems p.body (at_start p) refl h)
 
 -- the stages of a source lie as its body's shape says, where each fork is in form

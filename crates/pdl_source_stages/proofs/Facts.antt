@@ -26,7 +26,8 @@ all_found : (p : Flat.Pipe) (fetch : ℕ → ℕ) (s : ℕ) (ys : List Flat.Stmt
 all_found p fetch s [] h = tt
 all_found p fetch s (y ∷ ys) h = (h.0, all_found p fetch s ys h.1)
 
-found_if : (p : Flat.Pipe) (fetch : ℕ → ℕ) (s : ℕ) (op : Flat.Op) → ((x m a : ℕ) → op ≡ Flat.DelayedRead x m a → Found p fetch s m) → FoundIf p fetch s op
+found_if : (p : Flat.Pipe) (fetch : ℕ → ℕ) (s : ℕ) (op : Flat.Op)
+    → ((x m a : ℕ) → op ≡ Flat.DelayedRead x m a → Found p fetch s m) → FoundIf p fetch s op
 found_if p fetch s (Flat.DelayedRead x m a) h = h x m a refl
 found_if p fetch s _ h = tt
 

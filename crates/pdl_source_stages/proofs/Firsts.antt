@@ -67,7 +67,8 @@ or_else (Some s) o = Some s
 abbrev stage_if : Bool → ℕ → Option ℕ
 stage_if b s = if b then Some s else None
 
-first_push : (test : Place → Bool) (before xs : List Place) (y : Place) → first_stage test before (xs ++ y ∷ []) ≡ or_else (first_stage test before xs) (stage_if (test y) (stage_of (before ++ xs) y))
+first_push : (test : Place → Bool) (before xs : List Place) (y : Place)
+    → first_stage test before (xs ++ y ∷ []) ≡ or_else (first_stage test before xs) (stage_if (test y) (stage_of (before ++ xs) y))
 first_push test before [] y = ap (λ l. stage_if (test y) (stage_of l y)) (sym (append-nil before))
 first_push test before (x ∷ xs) y = at (test x) (first_push test (before ++ x ∷ []) xs y)
   where
@@ -77,8 +78,10 @@ first_push test before (x ∷ xs) y = at (test x) (first_push test (before ++ x 
     at false h = h ∙ ap (λ l. or_else (first_stage test (before ++ x ∷ []) xs) (stage_if (test y) (stage_of l y))) (append_assoc before (x ∷ []) xs)
 
 -- each of a kind stands in the stage of the first, where none stands elsewhere
-agree : (test : Place → Bool) (base : List Place) (ts : List Site) (found : Option ℕ) → Fronts base ts → All Staged ts → first_stage test [] base ≡ found
-    → All (λ t. test (place_of t) ≡ true → is_elsewhere test t.front t.walk.stage ≡ false) ts → All (λ t. test (place_of t) ≡ true → Some t.walk.stage ≡ or_else found (first_of test ts)) ts
+agree : (test : Place → Bool) (base : List Place) (ts : List Site) (found : Option ℕ) → Fronts base ts → All Staged ts
+    → first_stage test [] base ≡ found
+    → All (λ t. test (place_of t) ≡ true → is_elsewhere test t.front t.walk.stage ≡ false) ts
+    → All (λ t. test (place_of t) ≡ true → Some t.walk.stage ≡ or_else found (first_of test ts)) ts
 agree test base [] found f s e h = tt
 agree test base (t ∷ ts) found f s e h = (
   λ k. here found (e ∙ refl) (ap (λ l. is_some_and (λ i. not (i == t.walk.stage)) (first_stage test [] l)) (sym f.0) ∙ h.0 k) k,
@@ -101,7 +104,8 @@ agree test base (t ∷ ts) found f s e h = (
 abbrev pub Alike : List Mem → (Flat.Op → Bool) → (Place → Bool) → Site → Type 0
 Alike ms op_test test t = from_op op_test (op_of ms t.walk.vars t.stmt) ≡ test (place_of t)
 
-first_owns : (ms : List Mem) (op_test : Flat.Op → Bool) (test : Place → Bool) (ts : List Site) → All (Alike ms op_test test) ts → Flatten.first_stage op_test (owns ms ts) ≡ first_of test ts
+first_owns : (ms : List Mem) (op_test : Flat.Op → Bool) (test : Place → Bool) (ts : List Site)
+    → All (Alike ms op_test test) ts → Flatten.first_stage op_test (owns ms ts) ≡ first_of test ts
 first_owns ms op_test test [] h = refl
 first_owns ms op_test test (t ∷ ts) h =
     ap (λ l. Flatten.first_stage op_test (l ++ owns ms ts)) (own_is ms t.gs t.walk t.stmt)
@@ -125,7 +129,8 @@ pub none_elsewhere : (test : Place → Bool) (before : List Place) (s : ℕ) →
 none_elsewhere test before s e = ap (is_some_and (λ k. not (k == s))) (nowhere test [] before e)
 
 -- a test that no parameter passes finds none among the parameters' places
-pub any_params : (test : Place → Bool) → ((a : Param) → test (Parameter a) ≡ false) → (xs : List Param) → list_any test (map Parameter xs) ≡ false
+pub any_params : (test : Place → Bool)
+    → ((a : Param) → test (Parameter a) ≡ false) → (xs : List Param) → list_any test (map Parameter xs) ≡ false
 any_params test f [] = refl
 any_params test f (a ∷ xs) = ap₂ (λ b c. b || c) (f a) (any_params test f xs)
 
@@ -135,12 +140,16 @@ any_mems test f [] = refl
 any_mems test f (m ∷ xs) = ap₂ (λ b c. b || c) (f m) (any_mems test f xs)
 
 -- a test that neither parameters nor memories pass finds nothing before the statements
-pub none_front : (p : Pipe) (test : Place → Bool) → ((a : Param) → test (Parameter a) ≡ false) → ((m : Mem) → test (Memory m) ≡ false) → list_any test (front_of p) ≡ false
+pub none_front : (p : Pipe) (test : Place → Bool)
+    → ((a : Param) → test (Parameter a) ≡ false) → ((m : Mem) → test (Memory m) ≡ false)
+    → list_any test (front_of p) ≡ false
 none_front p test f g = list_any-append test (map Parameter p.params) (map Memory p.mems) ∙ ap₂ (λ b c. b || c) (any_params test f p.params) (any_mems test g p.mems)
 
 -- a kind of statement that the rules want in one stage stands in that of its first flat statement
-pub one_stage : (p : Pipe) → KeepsRules p → (op_test : Flat.Op → Bool) (test : Place → Bool) → ((a : Param) → test (Parameter a) ≡ false) → ((m : Mem) → test (Memory m) ≡ false)
-    → ((t : Site) → Fine p t → Alike p.mems op_test test t) → ((t : Site) → Fine p t → test (place_of t) ≡ true → is_elsewhere test t.front t.walk.stage ≡ false)
+pub one_stage : (p : Pipe) → KeepsRules p → (op_test : Flat.Op → Bool) (test : Place → Bool)
+    → ((a : Param) → test (Parameter a) ≡ false) → ((m : Mem) → test (Memory m) ≡ false)
+    → ((t : Site) → Fine p t → Alike p.mems op_test test t)
+    → ((t : Site) → Fine p t → test (place_of t) ≡ true → is_elsewhere test t.front t.walk.stage ≡ false)
     → All (λ t. test (place_of t) ≡ true → Some t.walk.stage ≡ Flatten.first_stage op_test (flat p).stmts) (sites_of p)
 one_stage p rules op_test test f g alike here =
     subst (λ o. All (λ t. test (place_of t) ≡ true → Some t.walk.stage ≡ o) (sites_of p))
@@ -206,7 +215,8 @@ known_places p n =
     right false = refl
 
 -- N1: the memory of a location is there
-pub located : (p : Pipe) → KeepsRules p → (t : Site) → Fine p t → (at : Location) → location_of t.stmt ≡ Some at → is_known p.mems at.mem.name ≡ true
+pub located : (p : Pipe) → KeepsRules p → (t : Site) → Fine p t → (at : Location)
+    → location_of t.stmt ≡ Some at → is_known p.mems at.mem.name ≡ true
 located p rules t h at e =
     let rule = rules N1 t.front (place_of t) h.later h.whole in
     let uses = (or_parts (is_some_and (in_location (is_undefined (places p))) (location_of t.stmt)) (in_verify (is_undefined (places p)) t.stmt || some_expr_of (some_part (reads_some (is_undefined (places p)))) t.stmt) rule).0 in

@@ -32,7 +32,9 @@ use Rattle.pdl_word.specs.Each.{Each}
 abbrev Deep : Pipe → Site → Type 0
 Deep p t = Fine p t × (t.walk.stage ≤ t.walk.begun) × ((m : List Place) × (t.front ≡ front_of p ++ m))
 
-pub any_param : (x : List ℕ) (ps : List Param) → list_any (λ (a : Param). bytes_eq x a.name.name) ps ≡ true → list_any (defines_use (OfVariable x)) (map Parameter ps) ≡ true
+pub any_param : (x : List ℕ) (ps : List Param)
+    → list_any (λ (a : Param). bytes_eq x a.name.name) ps ≡ true
+    → list_any (defines_use (OfVariable x)) (map Parameter ps) ≡ true
 any_param x [] e = e
 any_param x (a ∷ ps) e = at (bytes_eq x a.name.name) e (any_param x ps)
   where

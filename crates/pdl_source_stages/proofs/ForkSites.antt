@@ -29,7 +29,7 @@ pub record ForkSite (s x : ℕ) (t : Site) : Type 0 where
   pub top : t.branches ≡ []
 
 -- something that holds of some site
-abbrev Some_site : (Site → Type 0) → List Site → Type 0
+abbrev pub Some_site : (Site → Type 0) → List Site → Type 0
 Some_site P [] = ⊥
 Some_site P (t ∷ ts) = P t ⊎ Some_site P ts
 
@@ -62,7 +62,8 @@ leads_none s m (suc n) = refl
 
 -- Fork sites from stage k on
 pub fork_sites : (p : Flat.Pipe) (ms : List Mem) (k : ℕ) (merges : Option ℕ) (front : List Place) (w : Flatten.Position) (ss : Stmts)
-    → w.stage ≡ w.begun → w.begun ≡ k → is_forked ss ≡ true → Groups p k merges (shape ms ss w) → (s x : ℕ) → k ≤ s → fork_var (stage_at p s).next ≡ Some x → Some_site (ForkSite s x) (sites ms front w [] [] ss)
+    → w.stage ≡ w.begun → w.begun ≡ k → is_forked ss ≡ true → Groups p k merges (shape ms ss w) → (s x : ℕ) → k ≤ s
+    → fork_var (stage_at p s).next ≡ Some x → Some_site (ForkSite s x) (sites ms front w [] [] ss)
 fork_sites p ms k merges front w Nil e i h g s x low f = at (cases_lt k s)
   where
     at : (k < s) ⊎ (s ≤ k) → ⊥
@@ -143,7 +144,8 @@ tail_is x y xs ys e = ap tail e
     tail (z ∷ zs) = zs
 
 -- of two places the one that stands before the other
-pub before_is : (xs ys later more : List Place) (x y : Place) → xs ++ x ∷ later ≡ ys ++ y ∷ more → length xs < length ys → (m : List Place) × (ys ≡ xs ++ x ∷ m)
+pub before_is : (xs ys later more : List Place) (x y : Place)
+    → xs ++ x ∷ later ≡ ys ++ y ∷ more → length xs < length ys → (m : List Place) × (ys ≡ xs ++ x ∷ m)
 before_is xs [] later more x y e l = absurd (omega arith)
 before_is [] (z ∷ ys) later more x y e l = (ys, ap (λ u. u ∷ ys) (sym (head_is x z later (ys ++ y ∷ more) e)))
 before_is (u ∷ xs) (z ∷ ys) later more x y e l =

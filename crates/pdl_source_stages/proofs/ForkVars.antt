@@ -60,7 +60,8 @@ named_low (v ∷ vs) x e = at (bytes_eq v.name x) refl (ap (λ b. b || list_any 
     at false f g k = let l = k (ap (λ b. b || list_any (bytes_eq x) (told vs)) (sym f) ∙ g) in omega arith
 
 -- the name at a variable's number
-pub named_at : (vs : List Var) (x n : List ℕ) (xs ys : List (List ℕ)) → told vs ≡ xs ++ n ∷ ys → var_of vs x ≡ length xs → bytes_eq n x ≡ true
+pub named_at : (vs : List Var) (x n : List ℕ) (xs ys : List (List ℕ))
+    → told vs ≡ xs ++ n ∷ ys → var_of vs x ≡ length xs → bytes_eq n x ≡ true
 named_at [] x n [] ys e f = absurd (let z = ap length e in let y : 0 ≡ suc (length ys) = z in omega arith)
 named_at [] x n (z ∷ xs) ys e f = absurd (let z = ap length e in let y : 0 ≡ suc (length (xs ++ n ∷ ys)) = z in omega arith)
 named_at (v ∷ vs) x n [] ys e f = at (bytes_eq v.name x) refl f
@@ -83,7 +84,8 @@ named_at (v ∷ vs) x n (z ∷ xs) ys e f = at (bytes_eq v.name x) refl f (named
     at false g h k = k (let z : suc (var_of vs x) ≡ suc (length xs) = h in let y : var_of vs x ≡ length xs = omega arith in y)
 
 -- what places define has a name among theirs
-pub defined_named : (x : List ℕ) (ds : List Place) → list_any (defines_use (OfVariable x)) ds ≡ true → list_any (bytes_eq x) (names ds) ≡ true
+pub defined_named : (x : List ℕ) (ds : List Place)
+    → list_any (defines_use (OfVariable x)) ds ≡ true → list_any (bytes_eq x) (names ds) ≡ true
 defined_named x [] e = e
 defined_named x (d ∷ ds) e = list_any-append (bytes_eq x) (names_at d) (names ds) ∙ at (defines_use (OfVariable x) d) refl e (defined_named x ds)
   where
@@ -113,7 +115,8 @@ bound_last ms vs (Reserve sp l W) x e = absurd (false≢true e)
 bound_last ms vs _ x e = absurd (false≢true e)
 
 -- nothing from stage s on passes a test that only statements in stages before s pass
-pub none_from : (test : Flat.Op → Bool) (s : ℕ) (ys : List Flat.Stmt) → Each (λ y. test y.op ≡ true → y.stage < s) ys → none_of test (stages_from s ys) ≡ true
+pub none_from : (test : Flat.Op → Bool) (s : ℕ) (ys : List Flat.Stmt)
+    → Each (λ y. test y.op ≡ true → y.stage < s) ys → none_of test (stages_from s ys) ≡ true
 none_from test s [] h = refl
 none_from test s (y ∷ ys) h = at (nat_le s y.stage) refl (none_from test s ys h.1)
   where
@@ -145,7 +148,8 @@ none_given u test (x ∷ xs) e = at (test x) (none_given u test xs parts.1)
     at false k = k
 
 -- so a delayed read that alone gives it has a separator after it
-pub given_after : (u : Use) (test : Place → Bool) (xs : List Place) (d : Place) (m : List Place) → is_delayed d ≡ true → list_any (defines_use u) xs ≡ false → list_any (defines_use u) m ≡ false
+pub given_after : (u : Use) (test : Place → Bool) (xs : List Place) (d : Place) (m : List Place)
+    → is_delayed d ≡ true → list_any (defines_use u) xs ≡ false → list_any (defines_use u) m ≡ false
     → is_given (filter test (xs ++ d ∷ m)) u ≡ true → list_any is_separator m ≡ true
 given_after u test [] d m e f g h = at (test d) h
   where

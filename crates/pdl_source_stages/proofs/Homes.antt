@@ -48,7 +48,9 @@ same_memory ms n o h k = at (mem_of ms o == mem_of ms n) (bytes_eq o n) refl ref
 
 -- RESERVES
 
-reserve_alike : (p : Pipe) (n : List ℕ) → is_known p.mems n ≡ true → KeepsRules p → (t : Site) → Fine p t → Alike p.mems (is_reserve (mem_of p.mems n)) (reserves_memory n) t
+reserve_alike : (p : Pipe) (n : List ℕ)
+    → is_known p.mems n ≡ true → KeepsRules p → (t : Site) → Fine p t
+    → Alike p.mems (is_reserve (mem_of p.mems n)) (reserves_memory n) t
 reserve_alike p n k rules t h = at t.stmt refl
   where
     at : (s : Stmt) → t.stmt ≡ s → from_op (is_reserve (mem_of p.mems n)) (op_of p.mems t.walk.vars s) ≡ reserves_memory n (Statement s t.branches)
@@ -58,7 +60,8 @@ reserve_alike p n k rules t h = at t.stmt refl
     at (If sp c when otherwise) e = refl
     at s e = refl
 
-reserve_elsewhere : (p : Pipe) (n : List ℕ) → KeepsRules p → (t : Site) → Fine p t → reserves_memory n (place_of t) ≡ true → is_elsewhere (reserves_memory n) t.front t.walk.stage ≡ false
+reserve_elsewhere : (p : Pipe) (n : List ℕ) → KeepsRules p → (t : Site) → Fine p t
+    → reserves_memory n (place_of t) ≡ true → is_elsewhere (reserves_memory n) t.front t.walk.stage ≡ false
 reserve_elsewhere p n rules t h f = at t.stmt refl f
   where
     at : (s : Stmt) → t.stmt ≡ s → reserves_memory n (Statement s t.branches) ≡ true → is_elsewhere (reserves_memory n) t.front t.walk.stage ≡ false
@@ -67,7 +70,9 @@ reserve_elsewhere p n rules t h f = at t.stmt refl f
         ∙ rules L2 t.front (Statement (Reserve sp l k) t.branches) h.later (h.whole ∙ ap (λ s. t.front ++ Statement s t.branches ∷ h.later) e)
     at s e g = absurd (false≢true g)
 
-release_alike : (p : Pipe) (n : List ℕ) → is_known p.mems n ≡ true → KeepsRules p → (t : Site) → Fine p t → Alike p.mems (is_release (mem_of p.mems n)) (releases_memory n) t
+release_alike : (p : Pipe) (n : List ℕ)
+    → is_known p.mems n ≡ true → KeepsRules p → (t : Site) → Fine p t
+    → Alike p.mems (is_release (mem_of p.mems n)) (releases_memory n) t
 release_alike p n k rules t h = at t.stmt refl
   where
     at : (s : Stmt) → t.stmt ≡ s → from_op (is_release (mem_of p.mems n)) (op_of p.mems t.walk.vars s) ≡ releases_memory n (Statement s t.branches)
@@ -78,7 +83,8 @@ release_alike p n k rules t h = at t.stmt refl
     at (If sp c when otherwise) e = refl
     at s e = refl
 
-release_elsewhere : (p : Pipe) (n : List ℕ) → KeepsRules p → (t : Site) → Fine p t → releases_memory n (place_of t) ≡ true → is_elsewhere (releases_memory n) t.front t.walk.stage ≡ false
+release_elsewhere : (p : Pipe) (n : List ℕ) → KeepsRules p → (t : Site) → Fine p t
+    → releases_memory n (place_of t) ≡ true → is_elsewhere (releases_memory n) t.front t.walk.stage ≡ false
 release_elsewhere p n rules t h f = at t.stmt refl f
   where
     at : (s : Stmt) → t.stmt ≡ s → releases_memory n (Statement s t.branches) ≡ true → is_elsewhere (releases_memory n) t.front t.walk.stage ≡ false
@@ -91,7 +97,8 @@ release_elsewhere p n rules t h f = at t.stmt refl f
 each_memory : (p : Pipe) (op_test : ℕ → Flat.Op → Bool) (test : List ℕ → Place → Bool)
     → ((t : Site) → Fine p t → (m : ℕ) (op : Flat.Op) → op_of p.mems t.walk.vars t.stmt ≡ Some op → op_test m op ≡ true → (n : List ℕ) × (is_known p.mems n ≡ true) × (mem_of p.mems n ≡ m) × (test n (place_of t) ≡ true))
     → ((n : List ℕ) → is_known p.mems n ≡ true → All (λ t. test n (place_of t) ≡ true → Some t.walk.stage ≡ Flatten.first_stage (op_test (mem_of p.mems n)) (flat p).stmts) (sites_of p))
-    → KeepsRules p → Each (λ y. (m : ℕ) → op_test m y.op ≡ true → (m < length p.mems) × (Some y.stage ≡ Flatten.first_stage (op_test m) (flat p).stmts)) (flat p).stmts
+    → KeepsRules p
+    → Each (λ y. (m : ℕ) → op_test m y.op ≡ true → (m < length p.mems) × (Some y.stage ≡ Flatten.first_stage (op_test m) (flat p).stmts)) (flat p).stmts
 each_memory p op_test test named same rules =
     each_stmt p (λ y. (m : ℕ) → op_test m y.op ≡ true → (m < length p.mems) × (Some y.stage ≡ Flatten.first_stage (op_test m) (flat p).stmts))
     (all_both (Fine p) (λ t. (n : List ℕ) → is_known p.mems n ≡ true → test n (place_of t) ≡ true → Some t.walk.stage ≡ Flatten.first_stage (op_test (mem_of p.mems n)) (flat p).stmts)

@@ -39,7 +39,8 @@ mutual
   none_begun env ms (Cons s ss) w e = ap₂ (λ a b. a ++ b) (none_begun_in env ms s w (omega arith)) (none_begun env ms ss (past ms s w) (omega arith))
 
 -- those of a branch are the next ones
-plain_begun : (env : List ℕ) (ms : List Mem) (ss : Stmts) (w : Flatten.Position) → is_plain ss ≡ true → begun_by env ms ss w ≡ up w.begun (separators ss)
+plain_begun : (env : List ℕ) (ms : List Mem) (ss : Stmts) (w : Flatten.Position)
+    → is_plain ss ≡ true → begun_by env ms ss w ≡ up w.begun (separators ss)
 plain_begun env ms Nil w h = refl
 plain_begun env ms (Cons (Separator sp) ss) w h =
     ap (λ l. suc w.begun ∷ l) (plain_begun env ms ss (past ms (Separator sp) w) h)
@@ -53,7 +54,8 @@ plain_begun env ms (Cons (If sp c when otherwise) ss) w h =
 plain_begun env ms (Cons s ss) w h = plain_begun env ms ss (past ms s w) h ∙ ap (up w.begun) (let e : separators ss ≡ 0 + separators ss = omega arith in e)
 
 -- a thread goes through a branch to its merge
-through : (p : Flat.Pipe) (env : List ℕ) (branch : Option Flat.Branch) (m s n : ℕ) → Chain p branch (Flat.Goes m) s n → (d j : ℕ) → d + j ≡ n → (fuel rest : ℕ) → fuel ≡ j + rest
+through : (p : Flat.Pipe) (env : List ℕ) (branch : Option Flat.Branch) (m s n : ℕ) → Chain p branch (Flat.Goes m) s n
+    → (d j : ℕ) → d + j ≡ n → (fuel rest : ℕ) → fuel ≡ j + rest
     → onward (visited_stages p env fuel) (goes_to (leads (s + d) (Flat.Goes m) j) env) ≡ up (s + d) j ++ visited_stages p env rest m
 through p env branch m s n c d zero e fuel rest f = ap (λ n. visited_stages p env n m) (let z : fuel ≡ rest = omega arith in z)
 through p env branch m s n c d (suc j) e zero rest f = absurd (omega arith)
@@ -70,8 +72,10 @@ entry_goes s m zero env = refl
 entry_goes s m (suc n) env = refl
 
 -- from a fork through the branch that is taken
-from_fork : (p : Flat.Pipe) (env : List ℕ) (k x a b : ℕ) → Forked p k x a b → (first : Bool) → (slice_index env x == 1) ≡ first → (fuel rest : ℕ) → fuel ≡ long a b first + rest
-    → onward (visited_stages p env fuel) (goes_to (stage_at p k).next env) ≡ up (start k a first) (long a b first) ++ visited_stages p env rest (merge_at k a b)
+from_fork : (p : Flat.Pipe) (env : List ℕ) (k x a b : ℕ) → Forked p k x a b → (first : Bool)
+    → (slice_index env x == 1) ≡ first → (fuel rest : ℕ) → fuel ≡ long a b first + rest
+    → onward (visited_stages p env fuel) (goes_to (stage_at p k).next env) ≡ up (start k a first) (long a b first)
+    ++ visited_stages p env rest (merge_at k a b)
 from_fork p env k x a b fork first v fuel rest e =
     ap (onward (visited_stages p env fuel)) (ap (λ n. goes_to n env) fork.next ∙ at (slice_index env x == 1) first v)
     ∙ ap (λ n. onward (visited_stages p env fuel) (goes_to (leads n (Flat.Goes (merge_at k a b)) (long a b first)) env)) (let z : start k a first ≡ start k a first + 0 = omega arith in z)
@@ -86,8 +90,9 @@ from_fork p env k x a b fork first v fuel rest e =
 
 -- THE TRUNK
 
-visits_from : (p : Flat.Pipe) (env : List ℕ) (ms : List Mem) (k : ℕ) (merges : Option ℕ) (w : Flatten.Position) (ss : Stmts) → w.begun ≡ k → is_forked ss ≡ true → Groups p k merges (shape ms ss w)
-    → (fuel : ℕ) → separators ss ≤ fuel → visited_stages p env (suc fuel) k ≡ k ∷ begun_by env ms ss w
+visits_from : (p : Flat.Pipe) (env : List ℕ) (ms : List Mem) (k : ℕ) (merges : Option ℕ) (w : Flatten.Position) (ss : Stmts)
+    → w.begun ≡ k → is_forked ss ≡ true → Groups p k merges (shape ms ss w) → (fuel : ℕ) → separators ss ≤ fuel
+    → visited_stages p env (suc fuel) k ≡ k ∷ begun_by env ms ss w
 visits_from p env ms k merges w Nil i h g fuel l = ap (λ (y : Flat.Stage). k ∷ onward (visited_stages p env fuel) (goes_to y.next env)) g.0
 visits_from p env ms k merges w (Cons (Separator sp) ss) i h g zero l = absurd (omega arith)
 visits_from p env ms k merges w (Cons (Separator sp) ss) i h g (suc fuel) l =
@@ -166,7 +171,8 @@ visits_from p env ms k merges w (Cons (If sp c when otherwise) ss) i h g fuel l 
 visits_from p env ms k merges w (Cons s ss) i h g fuel l = visits_from p env ms k merges (past ms s w) ss i h g fuel (omega arith)
 
 -- of a whole source
-pub visits_all : (p : Pipe) → KeepsRules p → (env : List ℕ) → visited_stages (flat p) env (length (flat p).stages) 0 ≡ 0 ∷ begun_by env p.mems p.body (at_start p)
+pub visits_all : (p : Pipe) → KeepsRules p → (env : List ℕ)
+    → visited_stages (flat p) env (length (flat p).stages) 0 ≡ 0 ∷ begun_by env p.mems p.body (at_start p)
 visits_all p rules env =
     ap (λ n. visited_stages (flat p) env n 0) (stage_count p (body_forked p rules))
     ∙ visits_from (flat p) env p.mems 0 None (at_start p) p.body refl (body_forked p rules) (body_groups p (body_forked p rules)) (separators p.body) (let z : separators p.body ≤ separators p.body = omega arith in z)

@@ -86,7 +86,8 @@ shape ms (Cons s ss) w = shape ms ss (past ms s w)
 abbrev bunch : Option Flat.Branch → Flat.Next → ℕ → ℕ → Flatten.Graph
 bunch branch exit s n = record { next = leads s exit n; later = row branch exit s n }
 
-graph_plain : (ms : List Mem) (branch : Option Flat.Branch) (exit : Flat.Next) (ss : Stmts) (w : Flatten.Position) → is_plain ss ≡ true → graph ms branch exit ss w ≡ bunch branch exit w.begun (separators ss)
+graph_plain : (ms : List Mem) (branch : Option Flat.Branch) (exit : Flat.Next) (ss : Stmts) (w : Flatten.Position)
+    → is_plain ss ≡ true → graph ms branch exit ss w ≡ bunch branch exit w.begun (separators ss)
 graph_plain ms branch exit Nil w h = refl
 graph_plain ms branch exit (Cons (Separator sp) ss) w h =
     ap (graph_with_stage branch w) (graph_plain ms branch exit ss (past ms (Separator sp) w) h)
@@ -116,13 +117,16 @@ abbrev forked : ℕ → ℕ → ℕ → ℕ → ℕ → ℕ → ℕ → ℕ → 
 forked x a b f m i j k r =
     graph_with_fork f x (bunch (side f true) (Flat.Goes m) i a) (bunch (side f false) (Flat.Goes m) j b) (record { next = Flat.Goes (suc k); later = stage (leads_on (suc k) r) None None ∷ after (suc k) r })
 
-forked_is : (x a b f m i j k n : ℕ) (r : Shape) → f ≡ n → m ≡ suc (n + a + b) → i ≡ n → j ≡ n + a → k ≡ n + a + b → forked x a b f m i j k r ≡ trunk n (Fork x a b r)
+forked_is : (x a b f m i j k n : ℕ) (r : Shape)
+    → f ≡ n → m ≡ suc (n + a + b) → i ≡ n → j ≡ n + a → k ≡ n + a + b
+    → forked x a b f m i j k r ≡ trunk n (Fork x a b r)
 forked_is x a b f m i j k n r e1 e2 e3 e4 e5 =
     ap (λ u. forked x a b u m i j k r) e1 ∙ ap (λ u. forked x a b n u i j k r) e2 ∙ ap (λ u. forked x a b n (suc (n + a + b)) u j k r) e3
     ∙ ap (λ u. forked x a b n (suc (n + a + b)) n u k r) e4 ∙ ap (λ u. forked x a b n (suc (n + a + b)) n (n + a) u r) e5
 
 -- the stage graph of statements outside any branch is that of their shape, where each fork is in form
-pub graph_trunk : (ms : List Mem) (ss : Stmts) (w : Flatten.Position) → w.stage ≡ w.begun → is_forked ss ≡ true → graph ms None Flat.Ends ss w ≡ trunk w.begun (shape ms ss w)
+pub graph_trunk : (ms : List Mem) (ss : Stmts) (w : Flatten.Position)
+    → w.stage ≡ w.begun → is_forked ss ≡ true → graph ms None Flat.Ends ss w ≡ trunk w.begun (shape ms ss w)
 graph_trunk ms Nil w e h = refl
 graph_trunk ms (Cons (Separator sp) ss) w e h = ap (graph_with_stage None w) (graph_trunk ms ss (past ms (Separator sp) w) refl h)
 graph_trunk ms (Cons (If sp c when otherwise) (Cons (Separator sq) ss)) w e h =

@@ -24,7 +24,8 @@ use Rattle.pdl_word.proofs.Each.{each_append}
 
 -- HOW MANY STAGES
 
-stages_from : (p : Flat.Pipe) (ms : List Mem) (k : ℕ) (merges : Option ℕ) (w : Flatten.Position) (ss : Stmts) → w.begun ≡ k → is_forked ss ≡ true → Groups p k merges (shape ms ss w) → suc (k + separators ss) ≡ length p.stages
+stages_from : (p : Flat.Pipe) (ms : List Mem) (k : ℕ) (merges : Option ℕ) (w : Flatten.Position) (ss : Stmts)
+    → w.begun ≡ k → is_forked ss ≡ true → Groups p k merges (shape ms ss w) → suc (k + separators ss) ≡ length p.stages
 stages_from p ms k merges w Nil i h g = let e = g.1 in omega arith
 stages_from p ms k merges w (Cons (Separator sp) ss) i h g = let f = stages_from p ms (suc k) None (past ms (Separator sp) w) ss (ap suc i) h g.1 in omega arith
 stages_from p ms k merges w (Cons (If sp c when otherwise) (Cons (Separator sq) ss)) i h g =
@@ -127,7 +128,8 @@ row_at t op = record { stage = t.walk.stage; guards = t.gs; op = op }
 abbrev pub AtSite : (Flat.Stmt → Type 0) → List Mem → Site → Type 0
 AtSite P ms t = (op : Flat.Op) → op_of ms t.walk.vars t.stmt ≡ Some op → P (row_at t op)
 
-each_row : (P : Flat.Stmt → Type 0) (t : Site) (o : Option Flat.Op) → ((op : Flat.Op) → o ≡ Some op → P (row_at t op)) → Each P (rows_of t.gs t.walk o)
+each_row : (P : Flat.Stmt → Type 0) (t : Site) (o : Option Flat.Op)
+    → ((op : Flat.Op) → o ≡ Some op → P (row_at t op)) → Each P (rows_of t.gs t.walk o)
 each_row P t None h = tt
 each_row P t (Some op) h = (h op refl, tt)
 
@@ -146,7 +148,8 @@ each_fine p rules P f = each_stmt p P (all_map (Fine p) (AtSite P p.mems) f (sit
 -- SCANS
 
 -- each statement that passes the test stands in stage s
-pub all_at_each : (test : Flat.Op → Bool) (s : ℕ) (ys : List Flat.Stmt) → Each (λ y. test y.op ≡ true → y.stage ≡ s) ys → all_at test s ys ≡ true
+pub all_at_each : (test : Flat.Op → Bool) (s : ℕ) (ys : List Flat.Stmt)
+    → Each (λ y. test y.op ≡ true → y.stage ≡ s) ys → all_at test s ys ≡ true
 all_at_each test s [] h = refl
 all_at_each test s (y ∷ ys) h = and_from (not (test y.op) || (y.stage == s)) (all_at test s ys) (at (test y.op) refl) (all_at_each test s ys h.1)
   where
@@ -169,7 +172,8 @@ each_in_stage P s (y ∷ ys) h = at (y.stage == s) refl (each_in_stage P s ys h.
     at false e k = k
 
 -- what only a trunk stage may hold is what no branch that holds a separator may hold
-pub op_trunk_only : (ms : List Mem) (vs : List Var) (s : Stmt) (op : Flat.Op) → op_of ms vs s ≡ Some op → trunk_only op ≡ true → is_trunk_only s ≡ true
+pub op_trunk_only : (ms : List Mem) (vs : List Var) (s : Stmt) (op : Flat.Op)
+    → op_of ms vs s ≡ Some op → trunk_only op ≡ true → is_trunk_only s ≡ true
 op_trunk_only ms vs (Separator _) op e h = cc
 op_trunk_only ms vs (CombRead _ x from) op e h = absurd (false≢true (ap (from_op trunk_only) e ∙ h))
 op_trunk_only ms vs (Bind _ x f) op e h = absurd (false≢true (ap (from_op trunk_only) e ∙ h))

@@ -62,8 +62,10 @@ fork_more : (bs more : List Branch) → in_fork bs ≡ true → in_fork (bs ++ m
 fork_more bs more h = list_any-append (λ (b : Branch). holds_separator b.inside) bs more ∙ or_left (in_fork bs) (in_fork more) h
 
 -- what a site stands under, all inside it stand under
-guards_all : (ms : List Mem) (g : Flat.Guard) (front : List Place) (w : Flatten.Position) (gs : List Flat.Guard) (bs : List Branch) (ss : Stmts)
-    → HasGuard g gs → in_fork bs ≡ true → All (λ t. HasGuard g t.gs × (in_fork t.branches ≡ true)) (sites ms front w gs bs ss)
+guards_all : (ms : List Mem) (g : Flat.Guard) (front : List Place) (w : Flatten.Position) (gs : List Flat.Guard)
+    (bs : List Branch) (ss : Stmts)
+    → HasGuard g gs → in_fork bs ≡ true
+    → All (λ t. HasGuard g t.gs × (in_fork t.branches ≡ true)) (sites ms front w gs bs ss)
 guards_all ms g front w gs bs ss h k =
     holds_all ms (λ front w gs bs. HasGuard g gs × (in_fork bs ≡ true)) (λ front w gs bs s i. i)
     (λ front w gs bs sp c when otherwise i. (has_more g gs _ i.0, fork_more bs _ i.1))
@@ -90,10 +92,13 @@ pub data Standing (p : Flat.Pipe) (t : Site) : Type 0 where
 abbrev OnSide : Flat.Pipe → ℕ → ℕ → ℕ → Bool → ℕ → Type 0
 OnSide p f a b first n = (n ≡ f) ⊎ ((d : ℕ) × (j : ℕ) × (d + suc j ≡ long a b first) × (n ≡ suc (start f a first + d)))
 
-on_side : (p : Flat.Pipe) (f a b : ℕ) (first : Bool) (n : ℕ) → start f a first < n → n ≤ start f a first + long a b first → OnSide p f a b first n
+on_side : (p : Flat.Pipe) (f a b : ℕ) (first : Bool) (n : ℕ)
+    → start f a first < n → n ≤ start f a first + long a b first → OnSide p f a b first n
 on_side p f a b first n low high = inr (n - suc (start f a first), start f a first + long a b first - n, omega arith, omega arith)
 
-side_stands : (p : Flat.Pipe) (f x a b : ℕ) (first : Bool) → Forked p f x a b → (t : Site) → OnSide p f a b first t.walk.stage → HasGuard (record { var = x; first = first }) t.gs × (in_fork t.branches ≡ true) → Standing p t
+side_stands : (p : Flat.Pipe) (f x a b : ℕ) (first : Bool) → Forked p f x a b → (t : Site)
+    → OnSide p f a b first t.walk.stage
+    → HasGuard (record { var = x; first = first }) t.gs × (in_fork t.branches ≡ true) → Standing p t
 side_stands p f x a b first k t (inl e) g = OnTrunk (subst (Trunk p) (sym e) k.trunk)
 side_stands p f x a b first k t (inr h) g =
     OnBranch (record { fork = f; first = first }) x a b k
@@ -101,8 +106,11 @@ side_stands p f x a b first k t (inr h) g =
     g.0 g.1
 
 -- the sites of a branch of a fork
-branch_stands : (p : Flat.Pipe) (f x a b : ℕ) (first : Bool) → Forked p f x a b → (ms : List Mem) (front : List Place) (w : Flatten.Position) (gs : List Flat.Guard) (bs : List Branch) (ss : Stmts)
-    → w.stage ≡ f → w.begun ≡ start f a first → separators ss ≡ long a b first → HasGuard (record { var = x; first = first }) gs → (0 < separators ss → in_fork bs ≡ true) → All (Standing p) (sites ms front w gs bs ss)
+branch_stands : (p : Flat.Pipe) (f x a b : ℕ) (first : Bool) → Forked p f x a b
+    → (ms : List Mem) (front : List Place) (w : Flatten.Position) (gs : List Flat.Guard) (bs : List Branch) (ss : Stmts)
+    → w.stage ≡ f → w.begun ≡ start f a first → separators ss ≡ long a b first
+    → HasGuard (record { var = x; first = first }) gs → (0 < separators ss → in_fork bs ≡ true)
+    → All (Standing p) (sites ms front w gs bs ss)
 branch_stands p f x a b first k ms front w gs bs ss here begun many g h = at (cases_lt 0 (separators ss))
   where
     at : (0 < separators ss) ⊎ (separators ss ≤ 0) → All (Standing p) (sites ms front w gs bs ss)
@@ -115,7 +123,9 @@ branch_stands p f x a b first k ms front w gs bs ss here begun many g h = at (ca
         (stages_all (Trunk p) ms front w gs bs ss (subst (Trunk p) (sym here) k.trunk) (λ n low high. absurd (omega arith)))
 
 -- the sites of an `if` that begins no stage
-whole_stands : (p : Flat.Pipe) (ms : List Mem) (front : List Place) (w : Flatten.Position) (gs : List Flat.Guard) (bs : List Branch) (s : Stmt) → Trunk p w.stage → separators_in s ≡ 0 → All (Standing p) (sites_in ms front w gs bs s)
+whole_stands : (p : Flat.Pipe) (ms : List Mem) (front : List Place) (w : Flatten.Position) (gs : List Flat.Guard)
+    (bs : List Branch) (s : Stmt)
+    → Trunk p w.stage → separators_in s ≡ 0 → All (Standing p) (sites_in ms front w gs bs s)
 whole_stands p ms front w gs bs s here none =
     all_map (λ t. Trunk p t.walk.stage) (Standing p) (λ t h. OnTrunk h) (sites_in ms front w gs bs s) (stages_in (Trunk p) ms front w gs bs s here (λ n low high. absurd (omega arith)))
 
@@ -128,8 +138,10 @@ holds_some sp c truth ss l = or_left (holds_separator ss) false (at (separators 
     at false e = refl
 
 -- the sites of a fork
-fork_stands : (p : Flat.Pipe) (k : ℕ) (ms : List Mem) (front : List Place) (w : Flatten.Position) (sp : Span) (c : Expr) (when otherwise : Stmts) → w.stage ≡ k → w.begun ≡ k
-    → Forked p k (guard_of w.vars c) (separators when) (separators otherwise) → All (Standing p) (sites_in ms front w [] [] (If sp c when otherwise))
+fork_stands : (p : Flat.Pipe) (k : ℕ) (ms : List Mem) (front : List Place) (w : Flatten.Position) (sp : Span) (c : Expr)
+    (when otherwise : Stmts)
+    → w.stage ≡ k → w.begun ≡ k → Forked p k (guard_of w.vars c) (separators when) (separators otherwise)
+    → All (Standing p) (sites_in ms front w [] [] (If sp c when otherwise))
 fork_stands p k ms front w sp c when otherwise here begun fork =
     let b = guard_begun c w in
     let g = past_all_begun ms when (with_guard c w) in
@@ -159,7 +171,8 @@ either_shape ms sp c when otherwise sq ss w b = cond b (Cut (rest_shape ms sp c 
 
 -- each site of a body stands in a trunk stage, or in a branch stage under its guard, if its forks are in form
 pub stands : (p : Flat.Pipe) (ms : List Mem) (k : ℕ) (merges : Option ℕ) (front : List Place) (w : Flatten.Position) (ss : Stmts)
-    → w.stage ≡ w.begun → w.begun ≡ k → is_forked ss ≡ true → Groups p k merges (shape ms ss w) → All (Standing p) (sites ms front w [] [] ss)
+    → w.stage ≡ w.begun → w.begun ≡ k → is_forked ss ≡ true → Groups p k merges (shape ms ss w)
+    → All (Standing p) (sites ms front w [] [] ss)
 stands p ms k merges front w Nil e i h g = tt
 stands p ms k merges front w (Cons (Separator sp) ss) e i h g = (
   OnTrunk (subst (Trunk p) (sym (e ∙ i)) (group_trunk p k merges (Cut (shape ms ss (past ms (Separator sp) w))) g)),

@@ -48,7 +48,8 @@ rest_tail p k x xs h = (
 abbrev pub Chain : Flat.Pipe → Option Flat.Branch → Flat.Next → ℕ → ℕ → Type 0
 Chain p branch exit s n = (d j : ℕ) → d + suc j ≡ n → stage_at p (suc (s + d)) ≡ stage (leads (suc (s + d)) exit j) branch None
 
-chain : (p : Flat.Pipe) (branch : Option Flat.Branch) (exit : Flat.Next) (s n : ℕ) (ys : List Flat.Stage) → Rest p (suc s) (row branch exit s n ++ ys) → Chain p branch exit s n × Rest p (suc (s + n)) ys
+chain : (p : Flat.Pipe) (branch : Option Flat.Branch) (exit : Flat.Next) (s n : ℕ) (ys : List Flat.Stage)
+    → Rest p (suc s) (row branch exit s n ++ ys) → Chain p branch exit s n × Rest p (suc (s + n)) ys
 chain p branch exit s zero ys h = ((λ d j e. absurd (omega arith)), subst (λ k. Rest p k ys) (let e : suc s ≡ suc (s + 0) = omega arith in e) h)
 chain p branch exit s (suc n) ys h =
     let more = chain p branch exit (suc s) n ys (rest_tail p (suc s) _ (row branch exit (suc s) n ++ ys) h) in (
@@ -78,7 +79,8 @@ Groups p k merges (Fork x a b rest) =
     × Groups p (merge_at k a b) (Some k) rest
 
 -- stages that are listed by a shape from k on have that shape, where each of its forks has a branch stage
-pub groups : (p : Flat.Pipe) (k : ℕ) (merges : Option ℕ) (sh : Shape) → Proper sh → Rest p k (stage (leads_on k sh) None merges ∷ after k sh) → Groups p k merges sh
+pub groups : (p : Flat.Pipe) (k : ℕ) (merges : Option ℕ) (sh : Shape) → Proper sh
+    → Rest p k (stage (leads_on k sh) None merges ∷ after k sh) → Groups p k merges sh
 groups p k merges Last proper h = (
   rest_head p k _ [] h,
   let e = h.2 in let f = ap length h.1 in let g = length-append h.0 (stage Flat.Ends None merges ∷ []) in let i : length (stage Flat.Ends None merges ∷ []) ≡ 1 = refl in omega arith,
@@ -128,7 +130,8 @@ pub data Spot (p : Flat.Pipe) (s : ℕ) : Type 0 where
   Inner : (f x a b : ℕ) (first : Bool) (d j : ℕ) → Forked p f x a b → d + suc j ≡ long a b first → s ≡ suc (start f a first + d) → Spot p s
 
 -- a shape that begins with a fork begins in a stage with that fork, its branches and its merge
-pub group_fork : (p : Flat.Pipe) (k : ℕ) (merges : Option ℕ) (x a b : ℕ) (rest : Shape) → Groups p k merges (Fork x a b rest) → Forked p k x a b
+pub group_fork : (p : Flat.Pipe) (k : ℕ) (merges : Option ℕ) (x a b : ℕ) (rest : Shape)
+    → Groups p k merges (Fork x a b rest) → Forked p k x a b
 group_fork p k merges x a b rest g = record {
   next = ap (λ (x : Flat.Stage). x.next) g.0;
   trunk = ap (λ (x : Flat.Stage). x.branch) g.0;
@@ -144,7 +147,8 @@ group_fork p k merges x a b rest g = record {
     chains false = g.3
 
 -- each stage from k on is the last, one in line, a fork or one in a branch, where they have a shape
-pub spot : (p : Flat.Pipe) (k : ℕ) (merges : Option ℕ) (sh : Shape) → Groups p k merges sh → (s : ℕ) → k ≤ s → s < length p.stages → Spot p s
+pub spot : (p : Flat.Pipe) (k : ℕ) (merges : Option ℕ) (sh : Shape) → Groups p k merges sh → (s : ℕ)
+    → k ≤ s → s < length p.stages → Spot p s
 spot p k merges Last g s low high =
     let e = g.1 in
     subst (Spot p) (let f : k ≡ s = omega arith in f) (Final (ap (λ (x : Flat.Stage). x.next) g.0) (ap (λ (x : Flat.Stage). x.branch) g.0) g.1)
@@ -179,7 +183,10 @@ spot p k merges (Fork x a b rest) g s low high = at (λ l. spot p (merge_at k a 
 -- BRANCHES
 
 -- every stage between a fork and its merge stands in a branch of it
-pub between_in : (p : Flat.Pipe) (f x a b r : ℕ) → Forked p f x a b → f < r → r < merge_at f a b → (first : Bool) × (d : ℕ) × (j : ℕ) × (d + suc j ≡ long a b first) × (r ≡ suc (start f a first + d)) × In p (record { fork = f; first = first }) r
+pub between_in : (p : Flat.Pipe) (f x a b r : ℕ) → Forked p f x a b
+    → f < r → r < merge_at f a b
+    → (first : Bool) × (d : ℕ) × (j : ℕ) × (d + suc j ≡ long a b first) × (r ≡ suc (start f a first + d))
+    × In p (record { fork = f; first = first }) r
 between_in p f x a b r fork low high = at (cases_lt (f + a) r)
   where
     here : (first : Bool) (d j : ℕ) → d + suc j ≡ long a b first → r ≡ suc (start f a first + d) → In p (record { fork = f; first = first }) r

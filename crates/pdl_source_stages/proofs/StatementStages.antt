@@ -26,7 +26,8 @@ outer_more [] more = refl
 outer_more (b ∷ bs) more = and_from (same_branch b b) (are_outer bs (bs ++ more)) (and_from (same_guard b.guard b.guard) (same_truth b.truth b.truth) (guard_refl b.guard) (truth_same b.truth)) (outer_more bs more)
 
 -- and not in the other branch of an `if`
-sides_differ : (sp : Span) (c : Expr) (when otherwise : Stmts) (xs more : List Branch) → are_outer (branch sp c true when ∷ xs) (branch sp c false otherwise ∷ more) ≡ false
+sides_differ : (sp : Span) (c : Expr) (when otherwise : Stmts) (xs more : List Branch)
+    → are_outer (branch sp c true when ∷ xs) (branch sp c false otherwise ∷ more) ≡ false
 sides_differ sp c when otherwise xs more = at (same_guard (branch sp c true when).guard (branch sp c false otherwise).guard)
   where
     at : (b : Bool) → ((b && false) && are_outer xs more) ≡ false
@@ -36,7 +37,8 @@ sides_differ sp c when otherwise xs more = at (same_guard (branch sp c true when
 -- STAGES BY THE TEXT
 
 -- the stage that two lists of places lead to is the one that the second leads to from that of the first
-pub from_append : (begun found : ℕ) (bs : List Branch) (xs ys : List Place) → stage_from begun found bs (xs ++ ys) ≡ stage_from (begun + cut xs) (stage_from begun found bs xs) bs ys
+pub from_append : (begun found : ℕ) (bs : List Branch) (xs ys : List Place)
+    → stage_from begun found bs (xs ++ ys) ≡ stage_from (begun + cut xs) (stage_from begun found bs xs) bs ys
 from_append begun found bs [] ys = ap (λ n. stage_from n found bs ys) (let e : begun ≡ begun + 0 = omega arith in e)
 from_append begun found bs (x ∷ xs) ys =
     at (is_separator x) refl (from_append (suc begun) (if are_outer (branches_of x) bs then suc begun else found) bs xs ys) (from_append begun found bs xs ys)
@@ -99,7 +101,8 @@ reads_inner : (front : List Place) (bs : List Branch) (b : Branch) (n : ℕ) →
 reads_inner front bs b n h cs = ap (stage_in front) (append_assoc bs (b ∷ []) cs) ∙ h (b ∷ cs)
 
 -- after a separator
-reads_cut : (front : List Place) (w : Flatten.Position) (bs : List Branch) (sp : Span) → Begun front w → Reads (front ++ Statement (Separator sp) bs ∷ []) bs (suc w.begun)
+reads_cut : (front : List Place) (w : Flatten.Position) (bs : List Branch) (sp : Span) → Begun front w
+    → Reads (front ++ Statement (Separator sp) bs ∷ []) bs (suc w.begun)
 reads_cut front w bs sp b cs =
     from_append 0 0 (bs ++ cs) front (Statement (Separator sp) bs ∷ [])
     ∙ ap (λ c. if c then suc (0 + cut front) else stage_from 0 0 (bs ++ cs) front) (outer_more bs cs)
@@ -135,7 +138,8 @@ mutual
   none_past ms w s e = refl
 
 -- the statements of a branch
-plain_staged : (ms : List Mem) (front : List Place) (w : Flatten.Position) (gs : List Flat.Guard) (bs : List Branch) (ss : Stmts) → is_plain ss ≡ true → Begun front w → Reads front bs w.stage → All Staged (sites ms front w gs bs ss)
+plain_staged : (ms : List Mem) (front : List Place) (w : Flatten.Position) (gs : List Flat.Guard) (bs : List Branch) (ss : Stmts)
+    → is_plain ss ≡ true → Begun front w → Reads front bs w.stage → All Staged (sites ms front w gs bs ss)
 plain_staged ms front w gs bs Nil h b r = tt
 plain_staged ms front w gs bs (Cons (Separator sp) ss) h b r = (
   reads_here front bs w.stage r,
@@ -155,7 +159,9 @@ plain_staged ms front w gs bs (Cons s ss) h b r = (
 )
 
 -- the sites of a fork
-fork_staged : (ms : List Mem) (front : List Place) (w : Flatten.Position) (sp : Span) (c : Expr) (when otherwise : Stmts) → is_plain when ≡ true → is_plain otherwise ≡ true → Begun front w → Reads front [] w.stage → All Staged (sites_in ms front w [] [] (If sp c when otherwise))
+fork_staged : (ms : List Mem) (front : List Place) (w : Flatten.Position) (sp : Span) (c : Expr) (when otherwise : Stmts)
+    → is_plain when ≡ true → is_plain otherwise ≡ true → Begun front w → Reads front [] w.stage
+    → All Staged (sites_in ms front w [] [] (If sp c when otherwise))
 fork_staged ms front w sp c when otherwise h k b r = (
   reads_here front [] w.stage r,
   all_append Staged (sites ms (front ++ Statement (If sp c when otherwise) [] ∷ []) (with_guard c w) (under [] w.vars c true) (branch sp c true when ∷ []) when) _
@@ -174,7 +180,8 @@ fork_staged ms front w sp c when otherwise h k b r = (
         ∙ r (branch sp c false otherwise ∷ cs)
 
 -- the statements of a body
-body_staged : (ms : List Mem) (front : List Place) (w : Flatten.Position) (ss : Stmts) → is_forked ss ≡ true → Begun front w → Reads front [] w.stage → All Staged (sites ms front w [] [] ss)
+body_staged : (ms : List Mem) (front : List Place) (w : Flatten.Position) (ss : Stmts)
+    → is_forked ss ≡ true → Begun front w → Reads front [] w.stage → All Staged (sites ms front w [] [] ss)
 body_staged ms front w Nil h b r = tt
 body_staged ms front w (Cons (Separator sp) ss) h b r = (
   reads_here front [] w.stage r,

@@ -29,7 +29,8 @@ use Rattle.pdl_semantics.proofs.Facts.{merges_some}
 
 -- a stage that merges a fork is that fork's merge
 merge_group : (p : Flat.Pipe) (k : ℕ) (merges : Option ℕ) (sh : Shape) (i f : ℕ) → Groups p k merges sh
-    → (merges ≡ Some f → (x : ℕ) × (a : ℕ) × (b : ℕ) × Forked p f x a b × (k ≡ merge_at f a b)) → k ≤ i → (stage_at p i).merges ≡ Some f → (x : ℕ) × (a : ℕ) × (b : ℕ) × Forked p f x a b × (i ≡ merge_at f a b)
+    → (merges ≡ Some f → (x : ℕ) × (a : ℕ) × (b : ℕ) × Forked p f x a b × (k ≡ merge_at f a b)) → k ≤ i
+    → (stage_at p i).merges ≡ Some f → (x : ℕ) × (a : ℕ) × (b : ℕ) × Forked p f x a b × (i ≡ merge_at f a b)
 merge_group p k merges Last i f g h low e = at (cases_lt k i)
   where
     at : (k < i) ⊎ (i ≤ k) → (x : ℕ) × (a : ℕ) × (b : ℕ) × Forked p f x a b × (i ≡ merge_at f a b)
@@ -72,13 +73,15 @@ merge_group p k merges (Fork x a b rest) i f g h low e =
         (r.0, r.1, r.2, r.3, sym same ∙ r.4)
 
 -- a test of the first stages
-some_taken : (test : Flat.Stage → Bool) (d : Flat.Stage) (n i : ℕ) (xs : List Flat.Stage) → i < n → i < length xs → test (slice_index_or xs i d) ≡ true → list_any test (take n xs) ≡ true
+some_taken : (test : Flat.Stage → Bool) (d : Flat.Stage) (n i : ℕ) (xs : List Flat.Stage)
+    → i < n → i < length xs → test (slice_index_or xs i d) ≡ true → list_any test (take n xs) ≡ true
 some_taken test d n i [] l m h = absurd (omega arith)
 some_taken test d zero i (x ∷ xs) l m h = absurd (omega arith)
 some_taken test d (suc n) zero (x ∷ xs) l m h = or_left (test x) _ h
 some_taken test d (suc n) (suc i) (x ∷ xs) l m h = or_right (test x) _ (some_taken test d n i xs (omega arith) (omega arith) h)
 
-taken_some : (test : Flat.Stage → Bool) (d : Flat.Stage) (n : ℕ) (xs : List Flat.Stage) → list_any test (take n xs) ≡ true → (i : ℕ) × (i < n) × (test (slice_index_or xs i d) ≡ true)
+taken_some : (test : Flat.Stage → Bool) (d : Flat.Stage) (n : ℕ) (xs : List Flat.Stage)
+    → list_any test (take n xs) ≡ true → (i : ℕ) × (i < n) × (test (slice_index_or xs i d) ≡ true)
 taken_some test d zero [] h = absurd (false≢true h)
 taken_some test d (suc n) [] h = absurd (false≢true h)
 taken_some test d zero (x ∷ xs) h = absurd (false≢true h)
@@ -94,7 +97,8 @@ branch_inside (Some c) f h = (c, refl, eqb-true c.fork f h)
 
 -- THE FIRST STATEMENT OF A KIND
 
-first_good : (Good : ℕ → Type 0) (test : Flat.Op → Bool) (ys : List Flat.Stmt) (s : ℕ) → Each (λ y. test y.op ≡ true → Good y.stage) ys → first_stage test ys ≡ Some s → Good s
+first_good : (Good : ℕ → Type 0) (test : Flat.Op → Bool) (ys : List Flat.Stmt) (s : ℕ)
+    → Each (λ y. test y.op ≡ true → Good y.stage) ys → first_stage test ys ≡ Some s → Good s
 first_good Good test [] s h e = absurd (none_some ℕ s None refl e)
 first_good Good test (y ∷ ys) s h e = at (test y.op) refl e (first_good Good test ys s h.1)
   where
@@ -103,13 +107,15 @@ first_good Good test (y ∷ ys) s h e = at (test y.op) refl e (first_good Good t
     at false f g more = more g
 
 -- that of a memory by its number
-pub first_index : (test : ℕ → Flat.Op → Bool) (ys : List Flat.Stmt) (k m : ℕ) (ms : List Mem) → m < length ms → slice_index_or (first_stages test ys k ms) m None ≡ first_stage (test (k + m)) ys
+pub first_index : (test : ℕ → Flat.Op → Bool) (ys : List Flat.Stmt) (k m : ℕ) (ms : List Mem)
+    → m < length ms → slice_index_or (first_stages test ys k ms) m None ≡ first_stage (test (k + m)) ys
 first_index test ys k m [] l = absurd (omega arith)
 first_index test ys k zero (x ∷ ms) l = ap (λ n. first_stage (test n) ys) (let e : k ≡ k + 0 = omega arith in e)
 first_index test ys k (suc m) (x ∷ ms) l = first_index test ys (suc k) m ms (omega arith) ∙ ap (λ n. first_stage (test n) ys) (let e : suc k + m ≡ k + suc m = omega arith in e)
 
 -- no stage is listed for a memory past the last one
-pub first_past : (test : ℕ → Flat.Op → Bool) (ys : List Flat.Stmt) (k m : ℕ) (ms : List Mem) → length ms ≤ m → slice_index_or (first_stages test ys k ms) m None ≡ None
+pub first_past : (test : ℕ → Flat.Op → Bool) (ys : List Flat.Stmt) (k m : ℕ) (ms : List Mem)
+    → length ms ≤ m → slice_index_or (first_stages test ys k ms) m None ≡ None
 first_past test ys k m [] l = refl
 first_past test ys k zero (x ∷ ms) l = absurd (omega arith)
 first_past test ys k (suc m) (x ∷ ms) l = first_past test ys (suc k) m ms (omega arith)
@@ -135,7 +141,8 @@ verify_trunk _ h = absurd (false≢true h)
 
 -- GUARDS
 
-has_taken : (g : Flat.Guard) (gs : List Flat.Guard) (path : List ℕ) → HasGuard g gs → all_hold gs path ≡ true → takes_branch g.first (slice_index path g.var) ≡ true
+has_taken : (g : Flat.Guard) (gs : List Flat.Guard) (path : List ℕ) → HasGuard g gs
+    → all_hold gs path ≡ true → takes_branch g.first (slice_index path g.var) ≡ true
 has_taken g gs path h t = at h.0 (ap (λ l. all_hold l path) (sym h.2) ∙ t)
   where
     at : (outer : List Flat.Guard) → all_hold (outer ++ g ∷ h.1) path ≡ true → takes_branch g.first (slice_index path g.var) ≡ true
@@ -143,7 +150,9 @@ has_taken g gs path h t = at h.0 (ap (λ l. all_hold l path) (sym h.2) ∙ t)
     at (o ∷ os) k = at os (and_parts (takes_branch o.first (slice_index path o.var)) (all_hold (os ++ g ∷ h.1) path) k).1
 
 -- of a path's statements before a stage, where none stands in between
-before_same : (path : List ℕ) (a b : ℕ) (ys : List Flat.Stmt) → a ≤ b → Each (λ y. all_hold y.guards path ≡ true → a ≤ y.stage → y.stage < b → ⊥) ys → before b (onpath path ys) ≡ before a (onpath path ys)
+before_same : (path : List ℕ) (a b : ℕ) (ys : List Flat.Stmt)
+    → a ≤ b → Each (λ y. all_hold y.guards path ≡ true → a ≤ y.stage → y.stage < b → ⊥) ys
+    → before b (onpath path ys) ≡ before a (onpath path ys)
 before_same path a b [] l h = refl
 before_same path a b (y ∷ ys) l h = at (all_hold y.guards path) refl (before_same path a b ys l h.1)
   where

@@ -107,7 +107,8 @@ abbrev pub Begun : List Place → Flatten.Position → Type 0
 Begun front w = w.begun ≡ cut front
 
 -- as many stages have begun after a statement as separators stand before, where it was so at the statement
-pub begun_passes : (ms : List Mem) (front : List Place) (w : Flatten.Position) (bs : List Branch) (s : Stmt) → Begun front w → Begun (front ++ with_inner bs s) (past ms s w)
+pub begun_passes : (ms : List Mem) (front : List Place) (w : Flatten.Position) (bs : List Branch) (s : Stmt)
+    → Begun front w → Begun (front ++ with_inner bs s) (past ms s w)
 begun_passes ms front w bs s h =
     let f = past_begun ms s w in
     let g = cut_append front (with_inner bs s) in
@@ -115,7 +116,8 @@ begun_passes ms front w bs s h =
     omega arith
 
 -- as many stages have begun in an `if`'s first branch as separators stand before, where it was so at the `if`
-pub begun_first : (front : List Place) (w : Flatten.Position) (bs : List Branch) (sp : Span) (c : Expr) (when otherwise : Stmts) → Begun front w → Begun (front ++ Statement (If sp c when otherwise) bs ∷ []) (with_guard c w)
+pub begun_first : (front : List Place) (w : Flatten.Position) (bs : List Branch) (sp : Span) (c : Expr) (when otherwise : Stmts)
+    → Begun front w → Begun (front ++ Statement (If sp c when otherwise) bs ∷ []) (with_guard c w)
 begun_first front w bs sp c when otherwise h =
     let f = guard_begun c w in
     let g = cut_append front (Statement (If sp c when otherwise) bs ∷ []) in
@@ -123,7 +125,9 @@ begun_first front w bs sp c when otherwise h =
     omega arith
 
 -- as many stages have begun in an `if`'s second branch as separators stand before, where it was so at the `if`
-pub begun_second : (ms : List Mem) (front : List Place) (w : Flatten.Position) (bs : List Branch) (sp : Span) (c : Expr) (when otherwise : Stmts) → Begun front w
+pub begun_second : (ms : List Mem) (front : List Place) (w : Flatten.Position) (bs : List Branch) (sp : Span) (c : Expr)
+    (when otherwise : Stmts)
+    → Begun front w
     → Begun (front ++ Statement (If sp c when otherwise) bs ∷ statements (bs ++ branch sp c true when ∷ []) when) (at_otherwise ms c when w)
 begun_second ms front w bs sp c when otherwise h =
     let f = guard_begun c w in
@@ -170,7 +174,8 @@ pub told_append : (xs ys : List Var) → told (xs ++ ys) ≡ told xs ++ told ys
 told_append [] ys = refl
 told_append (x ∷ xs) ys = ap (λ l. x.name ∷ l) (told_append xs ys)
 
-told_guard : (sp : Span) (c : Expr) (when otherwise : Stmts) (w : Flatten.Position) → told (with_guard c w).vars ≡ told w.vars ++ names_by (If sp c when otherwise)
+told_guard : (sp : Span) (c : Expr) (when otherwise : Stmts) (w : Flatten.Position)
+    → told (with_guard c w).vars ≡ told w.vars ++ names_by (If sp c when otherwise)
 told_guard sp (Variable x) when otherwise w = sym (append-nil (told w.vars))
 told_guard sp _ when otherwise w = told_append w.vars _
 
@@ -199,16 +204,20 @@ mutual
 abbrev pub Named : List Place → Flatten.Position → Type 0
 Named front w = told w.vars ≡ names front
 
-named_passes : (ms : List Mem) (front : List Place) (w : Flatten.Position) (bs : List Branch) (s : Stmt) → Named front w → Named (front ++ with_inner bs s) (past ms s w)
+named_passes : (ms : List Mem) (front : List Place) (w : Flatten.Position) (bs : List Branch) (s : Stmt) → Named front w
+    → Named (front ++ with_inner bs s) (past ms s w)
 named_passes ms front w bs s h = told_past ms bs s w ∙ ap (λ l. l ++ names (with_inner bs s)) h ∙ sym (names_append front (with_inner bs s))
 
-pub named_first : (front : List Place) (w : Flatten.Position) (bs : List Branch) (sp : Span) (c : Expr) (when otherwise : Stmts) → Named front w → Named (front ++ Statement (If sp c when otherwise) bs ∷ []) (with_guard c w)
+pub named_first : (front : List Place) (w : Flatten.Position) (bs : List Branch) (sp : Span) (c : Expr) (when otherwise : Stmts)
+    → Named front w → Named (front ++ Statement (If sp c when otherwise) bs ∷ []) (with_guard c w)
 named_first front w bs sp c when otherwise h =
     told_guard sp c when otherwise w
     ∙ ap₂ (λ a b. a ++ b) h (sym (append-nil (names_by (If sp c when otherwise))))
     ∙ sym (names_append front (Statement (If sp c when otherwise) bs ∷ []))
 
-named_second : (ms : List Mem) (front : List Place) (w : Flatten.Position) (bs : List Branch) (sp : Span) (c : Expr) (when otherwise : Stmts) → Named front w
+named_second : (ms : List Mem) (front : List Place) (w : Flatten.Position) (bs : List Branch) (sp : Span) (c : Expr)
+    (when otherwise : Stmts)
+    → Named front w
     → Named (front ++ Statement (If sp c when otherwise) bs ∷ statements (bs ++ branch sp c true when ∷ []) when) (at_otherwise ms c when w)
 named_second ms front w bs sp c when otherwise h =
     told_past_all ms (bs ++ branch sp c true when ∷ []) when (with_guard c w)
@@ -280,11 +289,13 @@ chosen_push front (y ∷ ys) x h k = (h.0, chosen_push front ys x h.1 k)
 under_more : (front more : List Place) (gs : List Flat.Guard) (bs : List Branch) → Under front gs bs → Under (front ++ more) gs bs
 under_more front more gs bs u = record { choices = u.choices; guards_are = u.guards_are; branches_are = u.branches_are; chosen = chosen_more front more u.choices u.chosen; nested = u.nested }
 
-nested_push : (bs : List Branch) (hs : List Choice) (x : Choice) → Nested bs hs → x.branches ≡ bs ++ map rule_branch hs → Nested bs (hs ++ x ∷ [])
+nested_push : (bs : List Branch) (hs : List Choice) (x : Choice) → Nested bs hs
+    → x.branches ≡ bs ++ map rule_branch hs → Nested bs (hs ++ x ∷ [])
 nested_push bs [] x h e = (e ∙ append-nil bs, tt)
 nested_push bs (y ∷ ys) x h e = (h.0, nested_push (bs ++ rule_branch y ∷ []) ys x h.1 (e ∙ sym (append_assoc bs (rule_branch y ∷ []) (map rule_branch ys))))
 
-under_push : (front : List Place) (gs : List Flat.Guard) (bs : List Branch) (x : Choice) → Under front gs bs → Chosen front x → x.branches ≡ bs → Under front (gs ++ flat_guard x ∷ []) (bs ++ rule_branch x ∷ [])
+under_push : (front : List Place) (gs : List Flat.Guard) (bs : List Branch) (x : Choice) → Under front gs bs
+    → Chosen front x → x.branches ≡ bs → Under front (gs ++ flat_guard x ∷ []) (bs ++ rule_branch x ∷ [])
 under_push front gs bs x u k e = record {
   choices = u.choices ++ x ∷ [];
   guards_are = ap (λ l. l ++ flat_guard x ∷ []) u.guards_are ∙ sym (map_push flat_guard u.choices x);
@@ -301,14 +312,17 @@ pub record At (front : List Place) (w : Flatten.Position) (gs : List Flat.Guard)
   pub named : Named front w
   pub under : Under front gs bs
 
-at_passes : (ms : List Mem) (front : List Place) (w : Flatten.Position) (gs : List Flat.Guard) (bs : List Branch) (s : Stmt) → At front w gs bs → At (front ++ with_inner bs s) (past ms s w) gs bs
+at_passes : (ms : List Mem) (front : List Place) (w : Flatten.Position) (gs : List Flat.Guard) (bs : List Branch) (s : Stmt)
+    → At front w gs bs → At (front ++ with_inner bs s) (past ms s w) gs bs
 at_passes ms front w gs bs s h = record {
   begun = begun_passes ms front w bs s h.begun;
   named = named_passes ms front w bs s h.named;
   under = under_more front (with_inner bs s) gs bs h.under;
 }
 
-at_first : (front : List Place) (w : Flatten.Position) (gs : List Flat.Guard) (bs : List Branch) (sp : Span) (c : Expr) (when otherwise : Stmts) → At front w gs bs
+at_first : (front : List Place) (w : Flatten.Position) (gs : List Flat.Guard) (bs : List Branch) (sp : Span) (c : Expr)
+    (when otherwise : Stmts)
+    → At front w gs bs
     → At (front ++ Statement (If sp c when otherwise) bs ∷ []) (with_guard c w) (under gs w.vars c true) (bs ++ branch sp c true when ∷ [])
 at_first front w gs bs sp c when otherwise h = record {
   begun = begun_first front w bs sp c when otherwise h.begun;
@@ -320,7 +334,9 @@ at_first front w gs bs sp c when otherwise h = record {
       ([], refl, h.named) refl;
 }
 
-at_second : (ms : List Mem) (front : List Place) (w : Flatten.Position) (gs : List Flat.Guard) (bs : List Branch) (sp : Span) (c : Expr) (when otherwise : Stmts) → At front w gs bs
+at_second : (ms : List Mem) (front : List Place) (w : Flatten.Position) (gs : List Flat.Guard) (bs : List Branch)
+    (sp : Span) (c : Expr) (when otherwise : Stmts)
+    → At front w gs bs
     → At (front ++ Statement (If sp c when otherwise) bs ∷ statements (bs ++ branch sp c true when ∷ []) when) (at_otherwise ms c when w) (under gs w.vars c false) (bs ++ branch sp c false otherwise ∷ [])
 at_second ms front w gs bs sp c when otherwise h = record {
   begun = begun_second ms front w bs sp c when otherwise h.begun;

@@ -34,7 +34,8 @@ fork_way p s env x a b k = at (slice_index env x == 1) refl
         (ap (λ n. goes_to n env) k.next ∙ ap (λ v. Some (if v then entry (leads s (Flat.Goes (merge_at s a b)) a) else entry (leads (s + a) (Flat.Goes (merge_at s a b)) b))) e)
 
 -- in a branch
-inner_way : (p : Flat.Pipe) (s : ℕ) (env : List ℕ) (f x a b : ℕ) (first : Bool) (d j : ℕ) → Forked p f x a b → d + suc j ≡ long a b first → s ≡ suc (start f a first + d) → Way p s env
+inner_way : (p : Flat.Pipe) (s : ℕ) (env : List ℕ) (f x a b : ℕ) (first : Bool) (d j : ℕ) → Forked p f x a b
+    → d + suc j ≡ long a b first → s ≡ suc (start f a first + d) → Way p s env
 inner_way p s env f x a b first d zero k e i =
     Leaves f x a b first d k (let z = e in omega arith) i (ap (λ n. goes_to (stage_at p n).next env) i ∙ ap (λ (y : Flat.Stage). goes_to y.next env) (k.chain first d 0 e))
 inner_way p s env f x a b first d (suc j) k e i =

@@ -49,7 +49,7 @@ module _ (vs : List Var) (test : Use → Bool) (named : (x : List ℕ) → test 
 -- STATEMENTS
 
 -- with which the earlier ones have to do
-abbrev PastLow : ℕ → List Flat.Op → Type 0
+abbrev pub PastLow : ℕ → List Flat.Op → Type 0
 PastLow n past = (x : ℕ) → is_mentioned x past ≡ true → x < n
 
 past_more : (n n' : ℕ) (past : List Flat.Op) → n ≤ n' → PastLow n past → PastLow n' past
@@ -59,7 +59,8 @@ past_more n n' past h f x m = let i = f x m in omega arith
 abbrev Follows : ℕ → ℕ → List Flat.Stmt → Type 0
 Follows vars n rest = (past : List Flat.Op) → PastLow n past → all_new vars past rest ≡ true
 
-past_with : (n : ℕ) (op : Flat.Op) (past : List Flat.Op) → ((x : ℕ) → mentions_var x op ≡ true → x < n) → PastLow n past → PastLow n (op ∷ past)
+past_with : (n : ℕ) (op : Flat.Op) (past : List Flat.Op)
+    → ((x : ℕ) → mentions_var x op ≡ true → x < n) → PastLow n past → PastLow n (op ∷ past)
 past_with n op past f h x m = at (or_cases (mentions_var x op) (is_mentioned x past) m)
   where
     at : (mentions_var x op ≡ true) ⊎ (is_mentioned x past ≡ true) → x < n
@@ -67,12 +68,16 @@ past_with n op past f h x m = at (or_cases (mentions_var x op) (is_mentioned x p
     at (inr i) = h x i
 
 -- a statement that binds nothing
-uses_old : (vars n k : ℕ) (op : Flat.Op) (rest : List Flat.Stmt) → bound_by op ≡ None → uses_own op ≡ false → ((x : ℕ) → mentions_var x op ≡ true → x < n) → Follows vars n rest → Follows vars n (record { stage = k; guards = []; op = op } ∷ rest)
+uses_old : (vars n k : ℕ) (op : Flat.Op) (rest : List Flat.Stmt)
+    → bound_by op ≡ None → uses_own op ≡ false → ((x : ℕ) → mentions_var x op ≡ true → x < n) → Follows vars n rest
+    → Follows vars n (record { stage = k; guards = []; op = op } ∷ rest)
 uses_old vars n k op rest none own f go past low =
     and_from _ _ (and_from _ _ (ap (is_new vars past) none) (ap not own)) (go (op ∷ past) (past_with n op past f low))
 
 -- a statement that binds the next variable
-binds_next : (vars n k : ℕ) (op : Flat.Op) (rest : List Flat.Stmt) → n < vars → bound_by op ≡ Some n → uses_own op ≡ false → ((x : ℕ) → mentions_var x op ≡ true → x < n + 1) → Follows vars (n + 1) rest → Follows vars n (record { stage = k; guards = []; op = op } ∷ rest)
+binds_next : (vars n k : ℕ) (op : Flat.Op) (rest : List Flat.Stmt)
+    → n < vars → bound_by op ≡ Some n → uses_own op ≡ false → ((x : ℕ) → mentions_var x op ≡ true → x < n + 1)
+    → Follows vars (n + 1) rest → Follows vars n (record { stage = k; guards = []; op = op } ∷ rest)
 binds_next vars n k op rest room bound own f go past low =
     and_from _ _ (and_from _ _ (ap (is_new vars past) bound ∙ and_from _ _ (lt-ltb _ _ room) (ap not (unmentioned (is_mentioned n past) refl))) (ap not own))
     (go (op ∷ past) (past_with (n + 1) op past f (past_more n (n + 1) past (omega arith) low)))
@@ -157,7 +162,9 @@ grows_length ms vs us (t ∷ ts) h =
     omega arith
 
 -- each flat statement of these sites binds a variable, if any, with which no earlier one has to do
-pub sites_new : (vars : ℕ) (ms : List Mem) (vs us : List Var) (ts : List Site) → Grows ms vs ts us → length us ≤ vars → All (λ t. Uses t.walk.vars t.stmt) ts → (past : List Flat.Op) → PastLow (length vs) past → all_new vars past (seen ms ts) ≡ true
+pub sites_new : (vars : ℕ) (ms : List Mem) (vs us : List Var) (ts : List Site) → Grows ms vs ts us
+    → length us ≤ vars → All (λ t. Uses t.walk.vars t.stmt) ts → (past : List Flat.Op) → PastLow (length vs) past
+    → all_new vars past (seen ms ts) ≡ true
 sites_new vars ms vs us [] g room u past low = refl
 sites_new vars ms vs us (t ∷ ts) g room u past low =
     site_new vars t.walk.stage ms t.walk.vars (seen ms ts) t.stmt u.0 (let i = grows_length ms (vars_past ms t.walk.vars t.stmt) us ts g.1 in omega arith)

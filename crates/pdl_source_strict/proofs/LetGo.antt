@@ -104,8 +104,10 @@ module _ (p : Pipe) (at : Location) where
 -- A PATH
 
 -- after each block of these sites stands a release of its location, where they keep the rules on locks
-pub sites_let_go : (p : Pipe) (ms : List Mem) (vs us : List Var) (before : List Place) (ts : List Site) → Grows ms vs ts us → Each (KeepsLocks p) before (map place_of ts ++ closing p)
-    → All (λ t. (at : Location) → location_of t.stmt ≡ Some at → is_named t.walk.vars at.address.name ≡ true) ts → all_let_go (seen ms ts) ≡ true
+pub sites_let_go : (p : Pipe) (ms : List Mem) (vs us : List Var) (before : List Place) (ts : List Site)
+    → Grows ms vs ts us → Each (KeepsLocks p) before (map place_of ts ++ closing p)
+    → All (λ t. (at : Location) → location_of t.stmt ≡ Some at → is_named t.walk.vars at.address.name ≡ true) ts
+    → all_let_go (seen ms ts) ≡ true
 sites_let_go p ms vs us before [] g each named = refl
 sites_let_go p ms vs us before (t ∷ ts) g each named = here t.stmt refl (sites_let_go p ms (vars_past ms t.walk.vars t.stmt) us (before ++ place_of t ∷ []) ts g.1 each.1 named.1)
   where

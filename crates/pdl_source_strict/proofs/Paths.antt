@@ -66,7 +66,8 @@ new_looked vars past (x ∷ xs) =
     (ap₂ (λ o b. is_new vars (looked_ops past) o && not b) (bound_looked x.op) (own_looked x.op) ∙ ap (λ b. b && not (uses_own x.op)) (is_new_looked vars past (bound_by x.op)))
     (new_looked vars (x.op ∷ past) xs)
 
-any_looked : (m a : ℕ) (xs : List Flat.Stmt) → list_any (λ (z : Flat.Stmt). is_release_at m a z.op) (looked_all xs) ≡ list_any (λ (z : Flat.Stmt). is_release_at m a z.op) xs
+any_looked : (m a : ℕ) (xs : List Flat.Stmt)
+    → list_any (λ (z : Flat.Stmt). is_release_at m a z.op) (looked_all xs) ≡ list_any (λ (z : Flat.Stmt). is_release_at m a z.op) xs
 any_looked m a [] = refl
 any_looked m a (x ∷ xs) = ap₂ (λ a b. a || b) (release_looked m a x.op) (any_looked m a xs)
 

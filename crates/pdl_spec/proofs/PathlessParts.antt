@@ -17,12 +17,15 @@ none : (f : List Guard → Bool) (ps : List (List Guard)) → list_any (λ p. f 
 none f [] = refl
 none f (p ∷ ps) = ap (λ b. b || list_any (λ q. f q && false) ps) (and-false (f p)) ∙ none f ps
 
-pulled : (a : Bool) (f g : List Guard → Bool) (ps : List (List Guard)) → list_any (λ p. f p && (a && g p)) ps ≡ (a && list_any (λ p. f p && g p) ps)
+pulled : (a : Bool) (f g : List Guard → Bool) (ps : List (List Guard))
+    → list_any (λ p. f p && (a && g p)) ps ≡ (a && list_any (λ p. f p && g p) ps)
 pulled true f g ps = refl
 pulled false f g ps = none f ps
 
 -- the first line that breaks S4 is the same where a rule with the verifies' stage is asked path by path
-pub sure_lines : (p : Pipe) (verified : Option ℕ) → verified ≡ verify_stage p → line_where (on_some (breaks_sure verified) (guards (places p))) [] (places p) ≡ broken_line S4 p [] (places p)
+pub sure_lines : (p : Pipe) (verified : Option ℕ)
+    → verified ≡ verify_stage p
+    → line_where (on_some (breaks_sure verified) (guards (places p))) [] (places p) ≡ broken_line S4 p [] (places p)
 sure_lines p verified e =
     ap (λ v. line_where (on_some (breaks_sure v) (guards (places p))) [] (places p)) e
     ∙ same_lines (on_some (breaks_sure (verify_stage p)) (guards (places p))) (breaks_s4 p)
@@ -30,7 +33,9 @@ sure_lines p verified e =
     ∙ rule_lines S4 p [] (places p)
 
 -- the first line that breaks S5 is the same where a rule with the verifies' stage is asked path by path
-pub checked_lines : (p : Pipe) (verified : Option ℕ) → verified ≡ verify_stage p → line_where (on_some (breaks_checked verified) (guards (places p))) [] (places p) ≡ broken_line S5 p [] (places p)
+pub checked_lines : (p : Pipe) (verified : Option ℕ)
+    → verified ≡ verify_stage p
+    → line_where (on_some (breaks_checked verified) (guards (places p))) [] (places p) ≡ broken_line S5 p [] (places p)
 checked_lines p verified e =
     ap (λ v. line_where (on_some (breaks_checked v) (guards (places p))) [] (places p)) e
     ∙ same_lines (on_some (breaks_checked (verify_stage p)) (guards (places p))) (breaks_s5 p)

@@ -25,7 +25,8 @@ once_after s (n ∷ []) = refl
 once_after s (n ∷ m ∷ ms) = refl
 
 -- the k-th is a second one, the first one, or none
-pub second : (test : Place → Bool) (xs : List Place) (k : ℕ) (x : Place) (n : ℕ) → slice_get xs k ≡ Some x → test x ≡ true → stages_that test [] (take k xs) ≡ as_list (Some n)
+pub second : (test : Place → Bool) (xs : List Place) (k : ℕ) (x : Place) (n : ℕ)
+    → slice_get xs k ≡ Some x → test x ≡ true → stages_that test [] (take k xs) ≡ as_list (Some n)
     → None ≡ only (stages_that test [] xs)
 second test xs k x n got e h =
     sym (ap (λ ys. only (stages_that test [] ys)) (split xs k x got)
@@ -33,7 +34,8 @@ second test xs k x n got e h =
     ∙ ap₂ (λ ns b. only (ns ++ (if b then stage_of (take k xs) x ∷ stages_that test (take k xs ++ x ∷ []) (drop (k + 1) xs) else stages_that test (take k xs ++ x ∷ []) (drop (k + 1) xs)))) h e)
 
 -- the stage of the first place that passes a test is the only one up to that place
-pub first : (test : Place → Bool) (xs : List Place) (k : ℕ) (x : Place) → slice_get xs k ≡ Some x → test x ≡ true → stages_that test [] (take k xs) ≡ as_list None
+pub first : (test : Place → Bool) (xs : List Place) (k : ℕ) (x : Place)
+    → slice_get xs k ≡ Some x → test x ≡ true → stages_that test [] (take k xs) ≡ as_list None
     → stages_that test [] (take (k + 1) xs) ≡ as_list (Some (stage_of (take k xs) x))
 first test xs k x got e h =
     ap (stages_that test []) (taken xs k x got)
@@ -41,7 +43,8 @@ first test xs k x got e h =
     ∙ ap₂ (λ ns b. ns ++ (if b then stage_of (take k xs) x ∷ [] else [])) h e
 
 -- a place that doesn't pass a test adds no stage to those of the places that do
-pub no_one : (test : Place → Bool) (xs : List Place) (k : ℕ) (x : Place) → slice_get xs k ≡ Some x → test x ≡ false → stages_that test [] (take (k + 1) xs) ≡ stages_that test [] (take k xs)
+pub no_one : (test : Place → Bool) (xs : List Place) (k : ℕ) (x : Place)
+    → slice_get xs k ≡ Some x → test x ≡ false → stages_that test [] (take (k + 1) xs) ≡ stages_that test [] (take k xs)
 no_one test xs k x got e =
     ap (stages_that test []) (taken xs k x got)
     ∙ that_more test [] (take k xs) x

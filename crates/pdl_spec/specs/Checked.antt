@@ -15,7 +15,8 @@ abbrev pub breaks_checked : Option ℕ → List Guard → List Place → Place �
 breaks_checked verified path before x = (needs_check x && is_before verified (stage_of before x)) && not (is_checked path before (stage_of before x))
 
 -- a place that isn't on the path is no check there
-pub unchecked : (path : List Guard) (before : List Place) (x : Place) (stages : List ℕ) → on_path path x ≡ false → stages ≡ stages_that (is_check_on path) [] before
+pub unchecked : (path : List Guard) (before : List Place) (x : Place) (stages : List ℕ)
+    → on_path path x ≡ false → stages ≡ stages_that (is_check_on path) [] before
     → stages ≡ stages_that (is_check_on path) [] (before ++ x ∷ [])
 unchecked path before x stages off h =
     h ∙ sym (that_more (is_check_on path) [] before x

@@ -33,8 +33,10 @@ pub record IsSure (rows : List r_place.Place) (earlier : List Place) (uses : Lis
   pub passed : barrier ≡ list_any is_barrier earlier
 
 -- a place that isn't on the path changes nothing
-pub passed_over : (rows : List r_place.Place) (path : List Guard) (before : List Place) (x : Place) (uses : List location.LocationUse) (barrier : Bool) → on_path path x ≡ false
-    → IsSure rows (filter (on_path path) before) uses barrier → IsSure rows (filter (on_path path) (before ++ x ∷ [])) uses barrier
+pub passed_over : (rows : List r_place.Place) (path : List Guard) (before : List Place) (x : Place)
+    (uses : List location.LocationUse) (barrier : Bool)
+    → on_path path x ≡ false → IsSure rows (filter (on_path path) before) uses barrier
+    → IsSure rows (filter (on_path path) (before ++ x ∷ [])) uses barrier
 passed_over rows path before x uses barrier off h = record {
   kept = passed_by Locations IsUsed (map place_view rows) path before x uses off h.kept;
   passed = h.passed ∙ sym (ap (list_any is_barrier) (earlier_same path before x off));

@@ -29,7 +29,8 @@ mean_none c f = record {
   same = λ k lo hi. absurd (omega arith);
 }
 
-mean_push : (a b : Circuit) (nets : List Net) (x : Net) (n : ℕ) (f : ℕ → Signal) → MeanFrom a nets 0 n f → Extends a b → Means b x (f n) → MeanFrom b (nets ++ x ∷ []) 0 (n + 1) f
+mean_push : (a b : Circuit) (nets : List Net) (x : Net) (n : ℕ) (f : ℕ → Signal) → MeanFrom a nets 0 n f → Extends a b
+    → Means b x (f n) → MeanFrom b (nets ++ x ∷ []) 0 (n + 1) f
 mean_push a b nets x n f h e m =
     let here : net_at (nets ++ x ∷ []) n ≡ x = get_or_push nets x (Input 0) n h.count in
     let before : (k : ℕ) → k < n → net_at (nets ++ x ∷ []) k ≡ net_at nets k = λ k l. get_or_append_left nets (x ∷ []) (Input 0) k (omega (arith, h.count, l)) in
@@ -47,7 +48,8 @@ mean_push a b nets x n f h e m =
     }
 
 -- a list with one net more before those that were set
-mean_set : (a b : Circuit) (nets : List Net) (x : Net) (k n : ℕ) (f : ℕ → Signal) → MeanFrom a nets (k + 1) n f → Extends a b → k < n → Means b x (f k) → MeanFrom b (slice_set nets k x) k n f
+mean_set : (a b : Circuit) (nets : List Net) (x : Net) (k n : ℕ) (f : ℕ → Signal) → MeanFrom a nets (k + 1) n f
+    → Extends a b → k < n → Means b x (f k) → MeanFrom b (slice_set nets k x) k n f
 mean_set a b nets x k n f h e l m =
     let here : net_at (slice_set nets k x) k ≡ x = get_or-set_same nets k x (Input 0) (omega (arith, h.count, l)) in
     let after : (j : ℕ) → k < j → net_at (slice_set nets k x) j ≡ net_at nets j = λ j g. get_or-set_other nets k j x (Input 0) (λ (i : j ≡ k). omega arith) in
@@ -70,7 +72,9 @@ unfolding none_signal
 none_none f k = refl
 
 -- the signal that n + 1 stages hold no thread is 0 where the first holds one, else that of the n after it
-pub none_more : (f : SquashSignals) (n : ℕ) → n < f.stage → none_signal f (n + 1) (f.stage - n) ≡ mux_signal (f.valid (f.stage - n)) (const_signal 1 0) (none_signal f n (f.stage - n + 1))
+pub none_more : (f : SquashSignals) (n : ℕ)
+    → n < f.stage
+    → none_signal f (n + 1) (f.stage - n) ≡ mux_signal (f.valid (f.stage - n)) (const_signal 1 0) (none_signal f n (f.stage - n + 1))
 unfolding none_signal
 none_more f n h = ap (λ m. none_signal f m (f.stage - n)) (add-one n)
 
@@ -82,7 +86,11 @@ clear_is f n h =
     cc
 
 -- one more step of the chain
-pub none_net : (b d : Circuit) (f : SquashSignals) (n : ℕ) (valid nought none x : Net) → n < f.stage → signal b valid ≡ f.valid (f.stage - n) → Means b nought (const_signal 1 0) → Means b none (none_signal f n (f.stage - n + 1)) → Means d x (mux_signal (signal b valid) (signal b nought) (signal b none)) → Means d x (none_signal f (n + 1) (f.stage - n))
+pub none_net : (b d : Circuit) (f : SquashSignals) (n : ℕ) (valid nought none x : Net)
+    → n < f.stage → signal b valid ≡ f.valid (f.stage - n) → Means b nought (const_signal 1 0)
+    → Means b none (none_signal f n (f.stage - n + 1))
+    → Means d x (mux_signal (signal b valid) (signal b nought) (signal b none))
+    → Means d x (none_signal f (n + 1) (f.stage - n))
 none_net b d f n valid nought none x h v z m g =
     let e = z.same in
     let o = m.same in
@@ -91,7 +99,10 @@ none_net b d f n valid nought none x h v z m g =
     record { there = g.there; same = cc }
 
 -- where n stages from the last down have their nets, n + 1 have
-pub clear_set : (b d : Circuit) (f : SquashSignals) (n : ℕ) (nets : List Net) (x : Net) → n < f.stage → MeanFrom b nets (f.stage - n) f.stage (clear_signal f) → Extends b d → Means d x (none_signal f (n + 1) (f.stage - n)) → MeanFrom d (slice_set nets (f.stage - n - 1) x) (f.stage - (n + 1)) f.stage (clear_signal f)
+pub clear_set : (b d : Circuit) (f : SquashSignals) (n : ℕ) (nets : List Net) (x : Net)
+    → n < f.stage → MeanFrom b nets (f.stage - n) f.stage (clear_signal f) → Extends b d
+    → Means d x (none_signal f (n + 1) (f.stage - n))
+    → MeanFrom d (slice_set nets (f.stage - n - 1) x) (f.stage - (n + 1)) f.stage (clear_signal f)
 clear_set b d f n nets x h c e m =
     let k = f.stage - n - 1 in
     let i : f.stage - n ≡ k + 1 = omega arith in
@@ -101,7 +112,8 @@ clear_set b d f n nets x h c e m =
     subst Q j (mean_set b d nets x k f.stage (clear_signal f) (subst P i c) e (omega arith) (record { there = m.there; same = m.same ∙ sym (clear_is f n h) }))
 
 -- nets that mean signals of 1 bit
-pub mean_bits : (c : Circuit) (nets : List Net) (n : ℕ) (f : ℕ → Signal) → MeanFrom c nets 0 n f → ((k : ℕ) → k < n → (f k).width ≡ 1) → AreBits c nets n
+pub mean_bits : (c : Circuit) (nets : List Net) (n : ℕ) (f : ℕ → Signal) → MeanFrom c nets 0 n f
+    → ((k : ℕ) → k < n → (f k).width ≡ 1) → AreBits c nets n
 mean_bits c nets n f h w = record {
   count = h.count;
   there = λ k l. h.there k (omega arith) l;
@@ -109,7 +121,8 @@ mean_bits c nets n f h w = record {
 }
 
 -- nets go on meaning their signals in a circuit to which more is added
-pub mean_kept : (a b : Circuit) (nets : List Net) (first n : ℕ) (f : ℕ → Signal) → MeanFrom a nets first n f → Extends a b → MeanFrom b nets first n f
+pub mean_kept : (a b : Circuit) (nets : List Net) (first n : ℕ) (f : ℕ → Signal) → MeanFrom a nets first n f
+    → Extends a b → MeanFrom b nets first n f
 mean_kept a b nets first n f h e = record {
   count = h.count;
   there = λ k lo hi. e.there (net_at nets k) (h.there k lo hi);
@@ -133,7 +146,9 @@ pub record Alike (f g : SquashSignals) : Type 0 where
   pub fails : f.fails ≡ g.fails
 
 -- it is where more is added
-pub signals_alike : (a b : Circuit) (p : SquashPorts) → p.stage < length p.valid → AreBits a p.valid (length p.valid) → IsThere a p.moves → IsThere a p.fails → Extends a b → Alike (squash_signals b p) (squash_signals a p)
+pub signals_alike : (a b : Circuit) (p : SquashPorts)
+    → p.stage < length p.valid → AreBits a p.valid (length p.valid) → IsThere a p.moves → IsThere a p.fails
+    → Extends a b → Alike (squash_signals b p) (squash_signals a p)
 signals_alike a b p h v m f e = record {
   stage = refl;
   valid = λ k l. e.kept (net_at p.valid k) (v.there k (omega (arith, h, l)));
@@ -155,5 +170,7 @@ pub clear_alike : (f g : SquashSignals) (k : ℕ) → Alike f g → k < f.stage 
 clear_alike f g k h l = none_alike f g (f.stage - k) (k + 1) h (omega arith) ∙ ap (λ n. none_signal g (n - k) (k + 1)) h.stage
 
 -- the net that takes the failing guess where the thread moves, else 0, means that there is a squash
-pub squash_is : (a b : Circuit) (p : SquashPorts) (nought : Net) → IsThere a p.moves → IsThere a p.fails → Extends a b → Means b nought (const_signal 1 0) → mux_signal (signal b p.moves) (signal b p.fails) (signal b nought) ≡ squash_signal (squash_signals a p)
+pub squash_is : (a b : Circuit) (p : SquashPorts) (nought : Net) → IsThere a p.moves → IsThere a p.fails → Extends a b
+    → Means b nought (const_signal 1 0)
+    → mux_signal (signal b p.moves) (signal b p.fails) (signal b nought) ≡ squash_signal (squash_signals a p)
 squash_is a b p nought m f e z = let x = e.kept p.moves m in let y = e.kept p.fails f in let w = z.same in cc

@@ -11,7 +11,8 @@ use Rattle.pdl_stages.specs.Graph.{of_stages}
 same_again : (path : List ℕ) (x y v b : ℕ) → y ≡ x → set (set path x v) y b ≡ set path y b
 same_again path x y v b e = ap (λ k. set (set path x v) k b) e ∙ set-set path x v b ∙ ap (λ k. set path k b) (sym e)
 
-longest_again : (p : Pipe) (x v : ℕ) (xs : List ℕ) (path : List ℕ) → list_any (λ y. eqb y x) xs ≡ true → longest p (set path x v) xs ≡ longest p path xs
+longest_again : (p : Pipe) (x v : ℕ) (xs : List ℕ) (path : List ℕ)
+    → list_any (λ y. eqb y x) xs ≡ true → longest p (set path x v) xs ≡ longest p path xs
 longest_again p x v [] path h = absurd (false≢true h)
 longest_again p x v (y ∷ ys) path h = by (eqb y x) refl h (λ q k. longest_again p x v ys q k)
   where
@@ -45,8 +46,10 @@ longest_same p path [] = stages_same p path (length p.stages) 0
 longest_same p path (x ∷ xs) = ap₂ max (longest_same p (set path x 0) xs) (longest_same p (set path x 1) xs)
 
 -- one stage more
-pub stage_passed : (p : Pipe) (path : List ℕ) (count limit stage next whole : ℕ) → count < limit → goes_to (stage_at p stage).next path ≡ Some next
-    → count + stages_on p path (limit - count) stage ≡ whole → count + 1 + stages_on p path (limit - (count + 1)) next ≡ whole
+pub stage_passed : (p : Pipe) (path : List ℕ) (count limit stage next whole : ℕ)
+    → count < limit → goes_to (stage_at p stage).next path ≡ Some next
+    → count + stages_on p path (limit - count) stage ≡ whole
+    → count + 1 + stages_on p path (limit - (count + 1)) next ≡ whole
 stage_passed p path count limit stage next whole h got inv =
     let n = limit - (count + 1) in
     let more : limit - count ≡ suc n = omega arith in
@@ -58,6 +61,7 @@ max_same : (n : ℕ) → max n n ≡ n
 max_same n = omega arith
 
 -- a guard that comes again among the later ones leaves the greatest number of stages on a path as it is
-pub over_again : (p : Pipe) (path : List ℕ) (x : ℕ) (xs : List ℕ) → list_any (λ y. eqb y x) xs ≡ true → longest p path xs ≡ longest p path (x ∷ xs)
+pub over_again : (p : Pipe) (path : List ℕ) (x : ℕ) (xs : List ℕ)
+    → list_any (λ y. eqb y x) xs ≡ true → longest p path xs ≡ longest p path (x ∷ xs)
 over_again p path x xs h =
     sym (ap₂ max (longest_again p x 0 xs path h) (longest_again p x 1 xs path h) ∙ max_same (longest p path xs))

@@ -34,18 +34,21 @@ pub parsed_found : (bytes : List ℕ) (x : Result r_pipe.Pipe ParseError) → Is
 parsed_found bytes (Ok p) h = h.0
 parsed_found bytes (Err e) h = tt
 
-pub parsed_within : (bytes : List ℕ) (x : Result r_pipe.Pipe ParseError) → IsParsed bytes x → IfOk x (λ p. broken_limit bytes (pipe_view p) ≡ None)
+pub parsed_within : (bytes : List ℕ) (x : Result r_pipe.Pipe ParseError) → IsParsed bytes x
+    → IfOk x (λ p. broken_limit bytes (pipe_view p) ≡ None)
 parsed_within bytes (Ok p) h = h.1
 parsed_within bytes (Err e) h = tt
 
-pub parsed_only : (bytes : List ℕ) (x : Result r_pipe.Pipe ParseError) (p : Pipe) → IsParsed bytes x → IsText bytes p → Gives (parse_answer bytes p) x
+pub parsed_only : (bytes : List ℕ) (x : Result r_pipe.Pipe ParseError) (p : Pipe) → IsParsed bytes x → IsText bytes p
+    → Gives (parse_answer bytes p) x
 parsed_only bytes (Ok q) p h k = let i : broken_limit bytes p ≡ None = subst (λ x. broken_limit bytes x ≡ None) (one_tree bytes (pipe_view q) p h.0 k) h.1 in
     rw i (one_tree bytes (pipe_view q) p h.0 k)
 parsed_only bytes (Err (error.Grammar line)) p h k = absurd (apart bytes p line k h)
 parsed_only bytes (Err (error.Limit rule line)) p h k = let i : broken_limit bytes p ≡ Some (rule, line) = subst (λ x. broken_limit bytes x ≡ Some (rule, line)) (one_tree bytes h.0 p h.1 k) h.2 in rw i refl
 parsed_only bytes (Err error.NoMemory) p h k = no_memory (parse_answer bytes p)
 
-pub parsed_exact : (bytes : List ℕ) (x : Result r_pipe.Pipe ParseError) (line : ℕ) → IsParsed bytes x → IsOutOfPlace bytes line → Gives (Misplaced line) x
+pub parsed_exact : (bytes : List ℕ) (x : Result r_pipe.Pipe ParseError) (line : ℕ) → IsParsed bytes x
+    → IsOutOfPlace bytes line → Gives (Misplaced line) x
 parsed_exact bytes (Ok q) line h k = absurd (apart bytes (pipe_view q) line h.0 k)
 parsed_exact bytes (Err (error.Grammar n)) line h k = one_place bytes n line h k
 parsed_exact bytes (Err (error.Limit rule n)) line h k = absurd (apart bytes h.0 line h.1 k)

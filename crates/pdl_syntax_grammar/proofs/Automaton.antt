@@ -108,7 +108,8 @@ pub record Stops (ts : Row) (below : Stack) (left : Row) : Type 0 where
   pub goes : run (front ++ end) below ≡ None
   pub stuck : (t : Token) (more : Row) → left ≡ t ∷ more → (others : Row) → run (front ++ t ∷ others) below ≡ Some (t ∷ others)
 
-one_more : (t : Token) (ts : Row) (s : Sym) (above below : Stack) (left : Row) → act s t.kind ≡ Some above → Stops ts (above ++ below) left → Stops (t ∷ ts) (s ∷ below) left
+one_more : (t : Token) (ts : Row) (s : Sym) (above below : Stack) (left : Row)
+    → act s t.kind ≡ Some above → Stops ts (above ++ below) left → Stops (t ∷ ts) (s ∷ below) left
 one_more t ts s above below left e h = record {
   front = t ∷ h.front;
   split = ap (λ x. t ∷ x) h.split;

@@ -24,7 +24,9 @@ record IsCondition (ts : Row) (v : Expr) (r : Row) : Type 0 where
   is : ts ≡ at p mark.OpenRound ∷ a
   full : Full v a (at z mark.CloseRound ∷ at o mark.OpenBrace ∷ r)
 
-condition_good : (top : ℕ) (ts : Row) → length ts ≤ top → Good (IsCondition ts) (a mark.OpenRound ∷ operand round ∷ a mark.OpenBrace ∷ []) [] (condition top ts) ts
+condition_good : (top : ℕ) (ts : Row)
+    → length ts ≤ top
+    → Good (IsCondition ts) (a mark.OpenRound ∷ operand round ∷ a mark.OpenBrace ∷ []) [] (condition top ts) ts
 unfolding condition
 condition_good top ts le =
     then _ _ (take_good mark.OpenRound ts) (λ p r1 p1 le1.
@@ -89,11 +91,14 @@ module _ (top n : ℕ) (inside : Parser Stmts) (good : (ts : Row) → length ts 
       (λ e. plain_good top ts le2 f e)
 
 -- at a closing brace
-brace_next : (ts : Row) (below : Stack) → is_mark mark.CloseBrace (first_kind ts) ≡ true → run ts (m.items ∷ below) ≡ run ts (a mark.CloseBrace ∷ below)
+brace_next : (ts : Row) (below : Stack)
+    → is_mark mark.CloseBrace (first_kind ts) ≡ true → run ts (m.items ∷ below) ≡ run ts (a mark.CloseBrace ∷ below)
 brace_next ts below e = let s = begins mark.CloseBrace ts e in rw s.is refl
 
 -- statements up to a closing brace are read as the automaton takes them, and what is read is so
-pub items_good : (top n : ℕ) (ts : Row) → length ts < n → length ts ≤ top → Good (λ ss r. Items ss ts r) (m.items ∷ []) (a mark.CloseBrace ∷ []) (items top n ts) ts
+pub items_good : (top n : ℕ) (ts : Row)
+    → length ts < n → length ts ≤ top
+    → Good (λ ss r. Items ss ts r) (m.items ∷ []) (a mark.CloseBrace ∷ []) (items top n ts) ts
 unfolding items
 items_good top zero ts le le2 = absurd (omega arith)
 items_good top (suc n) ts le le2 = go (items_good top n)

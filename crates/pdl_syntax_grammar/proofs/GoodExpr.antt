@@ -16,7 +16,8 @@ use Rattle.pdl_syntax_grammar.specs.Automaton.{a, a_number, operand, slicing, re
 use Rattle.pdl_syntax_grammar.proofs.GoodTokens.{Good, reads, stops, weaker, then, step, word, word_of, take_good, number_good, on_test, on_option, begins}
 
 -- where no slice begins, the automaton goes on after the operand
-no_slice : (q : Closer) (r : Row) (below : Stack) → is_mark mark.OpenSquare (first_kind r) ≡ false → run r (slicing q ∷ below) ≡ run r (rest q ∷ below)
+no_slice : (q : Closer) (r : Row) (below : Stack)
+    → is_mark mark.OpenSquare (first_kind r) ≡ false → run r (slicing q ∷ below) ≡ run r (rest q ∷ below)
 no_slice q [] below e = refl
 no_slice q (t ∷ r) below e = go t.kind (word_of t) e
   where
@@ -41,10 +42,12 @@ bounds_good ts =
     then _ _ (take_good mark.CloseSquare r3) (λ d r4 p4 _.
     reads (record { c = word p2.0 c; d = word p4.0 d; x = p1.0; y = p3.0; is = rw (p1.1, p2.1, p3.1, p4.1) refl }) (omega arith) (λ below. refl)))))
 
-slice_good : (q : Closer) (x o : Word) (ts : Row) → Good (λ e r. Level 0 e (on x kind.Name ∷ at o mark.OpenSquare ∷ ts) r) (a_number ∷ a mark.Colon ∷ a_number ∷ a mark.CloseSquare ∷ rest q ∷ []) (rest q ∷ []) (slice_of (ident x) ts) ts
+slice_good : (q : Closer) (x o : Word) (ts : Row)
+    → Good (λ e r. Level 0 e (on x kind.Name ∷ at o mark.OpenSquare ∷ ts) r) (a_number ∷ a mark.Colon ∷ a_number ∷ a mark.CloseSquare ∷ rest q ∷ []) (rest q ∷ []) (slice_of (ident x) ts) ts
 slice_good q x o ts = then _ _ (bounds_good ts) (λ b r p _. reads (rw p.is sliced) (omega arith) (λ below. refl))
 
-name_operand : (q : Closer) (x : Word) (ts : Row) → Good (λ e r. Level 0 e (on x kind.Name ∷ ts) r) (slicing q ∷ []) (rest q ∷ []) (after_name (ident x) ts) ts
+name_operand : (q : Closer) (x : Word) (ts : Row)
+    → Good (λ e r. Level 0 e (on x kind.Name ∷ ts) r) (slicing q ∷ []) (rest q ∷ []) (after_name (ident x) ts) ts
 name_operand q x ts = on_test (λ b. Good (λ e r. Level 0 e (on x kind.Name ∷ ts) r) (slicing q ∷ []) (rest q ∷ []) (cond b (slice_of (ident x) (next ts)) (Ok (Variable (ident x), ts))) ts) (is_mark mark.OpenSquare (first_kind ts))
     (λ e. let s = begins mark.OpenSquare ts e in
     subst (λ us. Good (λ e r. Level 0 e (on x kind.Name ∷ us) r) (slicing q ∷ []) (rest q ∷ []) (slice_of (ident x) (next us)) us) (sym s.is)
@@ -201,11 +204,13 @@ loose_enough mark.Bar r w h = let k : Some Or ≡ None = h.none 7 (omega arith) 
 loose_enough _ r w h = refl
 
 -- where no choice begins
-no_choice : (q : Closer) (m : Mark) → is_mark mark.Question (Some (kind.Mark m)) ≡ false → act_choice q (kind.Mark m) ≡ act_close q (kind.Mark m)
+no_choice : (q : Closer) (m : Mark)
+    → is_mark mark.Question (Some (kind.Mark m)) ≡ false → act_choice q (kind.Mark m) ≡ act_close q (kind.Mark m)
 no_choice q mark.Question e = cc
 no_choice q _ e = refl
 
-closes : (q : Closer) (r : Row) (below : Stack) → Ends levels r → is_mark mark.Question (first_kind r) ≡ false → run r (rest q ∷ below) ≡ run r (closing q ∷ below)
+closes : (q : Closer) (r : Row) (below : Stack) → Ends levels r
+    → is_mark mark.Question (first_kind r) ≡ false → run r (rest q ∷ below) ≡ run r (closing q ∷ below)
 closes q [] below h e = refl
 closes q (t ∷ r) below h e = ap (λ o. run_after o below (run r) (t ∷ r)) (go t.kind (word_of t) h e)
   where

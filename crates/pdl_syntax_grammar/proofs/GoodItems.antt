@@ -35,7 +35,9 @@ closer_comes c k e = go (is_mark mark.Comma (Some k)) (is_mark c (Some k)) refl 
     go false false i f = cc
 
 -- a comma or the closer, as the automaton takes it
-more_step : (l : Listing) (t : Token) (us : Row) (b : Option Bool) (below : Stack) → goes_on (closer l) (Some t.kind) ≡ b → run (t ∷ us) (m.more l ∷ below) ≡ run_after (act_on l b) below (run us) (t ∷ us)
+more_step : (l : Listing) (t : Token) (us : Row) (b : Option Bool) (below : Stack)
+    → goes_on (closer l) (Some t.kind) ≡ b
+    → run (t ∷ us) (m.more l ∷ below) ≡ run_after (act_on l b) below (run us) (t ∷ us)
 more_step l t us b below e = ap (λ o. run_after (act_on l o) below (run us) (t ∷ us)) e
 
 module _ {A : Type 0} (P : A → Row → Row → Type 0) (p : Parser A) (l : Listing) (top : ℕ) (good : (ts : Row) → length ts ≤ top → Good (λ x r. P x ts r) (first_of l) (m.more l ∷ []) (p ts) ts) where
@@ -97,7 +99,9 @@ front_place (t ∷ u ∷ v ∷ ts) e = go t.kind u.kind v.kind (word_of t) (word
     go _ _ _ x o y e = cc
 
 -- elsewhere the automaton expects an expression, where no guess comes
-no_place : (ts : Row) (below : Stack) → begins_place ts ≡ false → is_mark mark.SpecCall (first_kind ts) ≡ false → run ts (m.assigned ∷ below) ≡ run ts (operand semicolon ∷ below)
+no_place : (ts : Row) (below : Stack)
+    → begins_place ts ≡ false → is_mark mark.SpecCall (first_kind ts) ≡ false
+    → run ts (m.assigned ∷ below) ≡ run ts (operand semicolon ∷ below)
 no_place [] below e f = refl
 no_place (t ∷ ts) below e f = first t.kind (word_of t) e f
   where
@@ -126,10 +130,13 @@ no_place (t ∷ ts) below e f = first t.kind (word_of t) e f
     first _ x e f = refl
 
 -- there the automaton expects a place and a semicolon
-a_place : (ts : Row) (below : Stack) → begins_place ts ≡ true → run ts (m.assigned ∷ below) ≡ run ts (a_name ∷ a mark.OpenSquare ∷ a_name ∷ a mark.CloseSquare ∷ a mark.Semicolon ∷ below)
+a_place : (ts : Row) (below : Stack)
+    → begins_place ts ≡ true
+    → run ts (m.assigned ∷ below) ≡ run ts (a_name ∷ a mark.OpenSquare ∷ a_name ∷ a mark.CloseSquare ∷ a mark.Semicolon ∷ below)
 a_place ts below e = let p = front_place ts e in rw p.is refl
 
-args_good : (top : ℕ) (ts : Row) → length ts < top → Good (λ es r. Listed Full mark.CloseRound es ts r) (operand in_args ∷ []) [] (args top ts) ts
+args_good : (top : ℕ) (ts : Row)
+    → length ts < top → Good (λ es r. Listed Full mark.CloseRound es ts r) (operand in_args ∷ []) [] (args top ts) ts
 args_good top ts le = listed_good Full (expr top) m.args top (λ us h. expr_good top in_args us h) top ts le (omega arith)
 
 -- ---- what stands up to a semicolon
@@ -141,7 +148,8 @@ record IsPlaceEnd (ts : Row) (v : Location × Span) (r : Row) : Type 0 where
   x : List ℕ
   is : ts ≡ location_row (word v.0.mem.name v.0.mem.span) o (word v.0.address.name v.0.address.span) c (at (word x v.1) mark.Semicolon ∷ r)
 
-place_end_good : (ts : Row) → Good (IsPlaceEnd ts) (a_name ∷ a mark.OpenSquare ∷ a_name ∷ a mark.CloseSquare ∷ a mark.Semicolon ∷ []) [] (ended place ts) ts
+place_end_good : (ts : Row)
+    → Good (IsPlaceEnd ts) (a_name ∷ a mark.OpenSquare ∷ a_name ∷ a mark.CloseSquare ∷ a mark.Semicolon ∷ []) [] (ended place ts) ts
 unfolding ended
 place_end_good ts =
     then _ _ (place_good ts) (λ v r1 p1 _.
@@ -163,14 +171,17 @@ expr_end_good top ts le =
 abbrev IsArgsEnd : Row → List Expr × Span → Row → Type 0
 IsArgsEnd ts v r = (x : List ℕ) × Listed Full mark.CloseRound v.0 ts (at (word x v.1) mark.Semicolon ∷ r)
 
-args_end_good : (top : ℕ) (ts : Row) → length ts < top → Good (IsArgsEnd ts) (operand in_args ∷ a mark.Semicolon ∷ []) [] (ended (args top) ts) ts
+args_end_good : (top : ℕ) (ts : Row)
+    → length ts < top → Good (IsArgsEnd ts) (operand in_args ∷ a mark.Semicolon ∷ []) [] (ended (args top) ts) ts
 unfolding ended
 args_end_good top ts le =
     then _ _ (args_good top ts le) (λ es r1 p1 _.
     then _ _ (take_good mark.Semicolon r1) (λ e r2 p2 _.
     reads (p2.0, rw p2.1 at p1) (omega arith) (λ below. refl)))
 
-computed_good : (top : ℕ) (x q : Word) (ts : Row) → length ts ≤ top → begins_place ts ≡ false → Good (λ s r. Item (s ∷ []) (on x kind.Name ∷ at q mark.Assign ∷ ts) r) (m.assigned ∷ []) [] (computed_stmt top (ident x) ts) ts
+computed_good : (top : ℕ) (x q : Word) (ts : Row)
+    → length ts ≤ top → begins_place ts ≡ false
+    → Good (λ s r. Item (s ∷ []) (on x kind.Name ∷ at q mark.Assign ∷ ts) r) (m.assigned ∷ []) [] (computed_stmt top (ident x) ts) ts
 computed_good top x q ts le e = on_test (λ b. Good (λ s r. Item (s ∷ []) (on x kind.Name ∷ at q mark.Assign ∷ ts) r) (m.assigned ∷ []) [] (cond b (guess_of top (ident x) (next ts)) (bind_of (expr top) (ident x) ts)) ts) (is_mark mark.SpecCall (first_kind ts))
     (λ f. let s = begins mark.SpecCall ts f in let k : length ts ≡ length (at s.w mark.SpecCall ∷ s.more) = ap length s.is in
     subst (λ us. Good (λ s r. Item (s ∷ []) (on x kind.Name ∷ at q mark.Assign ∷ us) r) (m.assigned ∷ []) [] (guess_of top (ident x) (next us)) us) (sym s.is)
@@ -182,7 +193,9 @@ computed_good top x q ts le e = on_test (λ b. Good (λ s r. Item (s ∷ []) (on
     (then _ _ (expr_end_good top ts le) (λ v r1 p1 _.
     reads (binding p1.1) (omega arith) (λ below. refl))))
 
-assigned_good : (top : ℕ) (x q : Word) (ts : Row) → length ts ≤ top → Good (λ s r. Item (s ∷ []) (on x kind.Name ∷ at q mark.Assign ∷ ts) r) (m.assigned ∷ []) [] (assigned_stmt top (ident x) ts) ts
+assigned_good : (top : ℕ) (x q : Word) (ts : Row)
+    → length ts ≤ top
+    → Good (λ s r. Item (s ∷ []) (on x kind.Name ∷ at q mark.Assign ∷ ts) r) (m.assigned ∷ []) [] (assigned_stmt top (ident x) ts) ts
 assigned_good top x q ts le = on_test (λ b. Good (λ s r. Item (s ∷ []) (on x kind.Name ∷ at q mark.Assign ∷ ts) r) (m.assigned ∷ []) [] (cond b (read_of (ident x) ts) (computed_stmt top (ident x) ts)) ts) (begins_place ts)
     (λ e. instead (a_name ∷ a mark.OpenSquare ∷ a_name ∷ a mark.CloseSquare ∷ a mark.Semicolon ∷ []) (λ below. a_place ts below e)
     (then _ _ (place_end_good ts) (λ v r1 p1 _.
@@ -203,7 +216,9 @@ address_good ts =
     then _ _ (take_good mark.Arrow r2) (λ d r3 p3 _.
     reads (record { c = word p2.0 c; d = word p3.0 d; is = rw (p1, p2.1, p3.1) refl }) (omega arith) (λ below. refl))))
 
-named_good : (top : ℕ) (x : Word) (ts : Row) → length ts ≤ top → Good (λ s r. Item (s ∷ []) (on x kind.Name ∷ ts) r) (after_name ∷ []) [] (named_stmt top (ident x) ts) ts
+named_good : (top : ℕ) (x : Word) (ts : Row)
+    → length ts ≤ top
+    → Good (λ s r. Item (s ∷ []) (on x kind.Name ∷ ts) r) (after_name ∷ []) [] (named_stmt top (ident x) ts) ts
 unfolding named_stmt
 named_good top x [] le = stops (λ below. refl)
 named_good top x (t ∷ ts) le = go t.kind (word_of t) le
@@ -304,7 +319,8 @@ bare_good ts =
 
 -- ---- items without others inside
 
-alone_good : {P : List Stmt → Row → Type 0} {before after : Stack} {o : Outcome Stmt} {ts : Row} → Good (λ s r. P (s ∷ []) r) before after o ts → Good P before after (and_then o (λ s us. Ok (s ∷ [], us))) ts
+alone_good : {P : List Stmt → Row → Type 0} {before after : Stack} {o : Outcome Stmt} {ts : Row}
+    → Good (λ s r. P (s ∷ []) r) before after o ts → Good P before after (and_then o (λ s us. Ok (s ∷ [], us))) ts
 alone_good (reads p le e) = reads p le e
 alone_good (stops e) = stops e
 
@@ -344,7 +360,9 @@ plain_at top (kind.Mark mark.If) w ts le e f = cc
 plain_at top _ w ts le e f = stops (λ below. refl)
 
 -- an item with none inside is read so, where neither a closing brace nor an `if` comes
-pub plain_good : (top : ℕ) (ts : Row) → length ts ≤ top → is_mark mark.CloseBrace (first_kind ts) ≡ false → is_mark mark.If (first_kind ts) ≡ false → Item_good (length ts) ts (plain top ts) ts
+pub plain_good : (top : ℕ) (ts : Row)
+    → length ts ≤ top → is_mark mark.CloseBrace (first_kind ts) ≡ false → is_mark mark.If (first_kind ts) ≡ false
+    → Item_good (length ts) ts (plain top ts) ts
 unfolding plain locking
 plain_good top [] le e f = stops (λ below. refl)
 plain_good top (t ∷ ts) le e f = plain_at top t.kind (word_of t) ts le e f

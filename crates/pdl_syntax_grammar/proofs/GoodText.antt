@@ -49,7 +49,8 @@ no_lock (t ∷ ts) below e = go t.kind (word_of t) e
     go (kind.Mark mark.Lock) w e = cc
     go _ w e = refl
 
-lock_of_good : (l : Word) (ts : Row) → Good (λ x r. Lock x (at l mark.Lock ∷ ts) r) (a_lock_kind ∷ a mark.OpenRound ∷ a_number ∷ a mark.CloseRound ∷ more mems ∷ []) (more mems ∷ []) (lock_clause ts) ts
+lock_of_good : (l : Word) (ts : Row)
+    → Good (λ x r. Lock x (at l mark.Lock ∷ ts) r) (a_lock_kind ∷ a mark.OpenRound ∷ a_number ∷ a mark.CloseRound ∷ more mems ∷ []) (more mems ∷ []) (lock_clause ts) ts
 lock_of_good l ts =
     then _ _ (lock_kind_good ts) (λ _ r1 p1 _.
     then _ _ (take_good mark.OpenRound r1) (λ _ r2 p2 _.
@@ -80,7 +81,8 @@ record IsShape (ts : Row) (v : Number × Number × Bool × Option LockDecl) (r :
       ∷ at p mark.OpenSquare ∷ on (word y v.1.span) (kind.Number v.1.value) ∷ at z mark.CloseSquare ∷ at k (pace_mark v.2) ∷ a
   lock : Lock v.3 a r
 
-shape_good : (ts : Row) → Good (IsShape ts) (a mark.Colon ∷ a mark.Uint ∷ a mark.Less ∷ a_number ∷ a mark.Greater ∷ a mark.OpenSquare ∷ a_number ∷ a mark.CloseSquare ∷ a_pace ∷ locked ∷ []) (more mems ∷ []) (shape ts) ts
+shape_good : (ts : Row)
+    → Good (IsShape ts) (a mark.Colon ∷ a mark.Uint ∷ a mark.Less ∷ a_number ∷ a mark.Greater ∷ a mark.OpenSquare ∷ a_number ∷ a mark.CloseSquare ∷ a_pace ∷ locked ∷ []) (more mems ∷ []) (shape ts) ts
 unfolding shape
 shape_good ts =
     then _ _ (take_good mark.Colon ts) (λ c r2 p2 _.
@@ -127,7 +129,9 @@ record IsHead (ts : Row) (v : Ident × List Param × List Mem) (r : Row) : Type 
   params : Listed Parameter mark.CloseRound v.1 a (at p mark.OpenSquare ∷ b)
   mems : Listed Memory mark.CloseSquare v.2 b r
 
-head_good : (n : ℕ) (ts : Row) → length ts < n → Good (IsHead ts) (a mark.Pipe ∷ a_name ∷ a mark.OpenRound ∷ (first_of params ++ (a mark.OpenSquare ∷ first_of mems))) [] (pipe_head n ts) ts
+head_good : (n : ℕ) (ts : Row)
+    → length ts < n
+    → Good (IsHead ts) (a mark.Pipe ∷ a_name ∷ a mark.OpenRound ∷ (first_of params ++ (a mark.OpenSquare ∷ first_of mems))) [] (pipe_head n ts) ts
 unfolding pipe_head
 head_good n ts le =
     then _ _ (take_good mark.Pipe ts) (λ k r1 p1 le1.

@@ -34,12 +34,14 @@ then {before = b} {middle = m} more f (reads {v = v} {r = r} {ts = ts} p le e) h
 then {before = b} more f (stops e) h = stops (λ below. rw append_assoc (e (more ++ below)))
 
 -- with more expected after it
-pub under : {A : Type 0} {P : A → Row → Type 0} {before after : Stack} {o : Outcome A} {ts : Row} (more : Stack) → Good P before after o ts → Good P (before ++ more) (after ++ more) o ts
+pub under : {A : Type 0} {P : A → Row → Type 0} {before after : Stack} {o : Outcome A} {ts : Row} (more : Stack)
+    → Good P before after o ts → Good P (before ++ more) (after ++ more) o ts
 under {before = b} {after = m} more (reads {r = r} p le e) = reads p le (λ below. rw append_assoc (e (more ++ below) ∙ ap (run r) (sym (append_assoc m more below))))
 under {before = b} more (stops e) = stops (λ below. rw append_assoc (e (more ++ below)))
 
 -- a reader that is good for what it finds is good for whatever follows from that
-pub weaker : {A : Type 0} {P Q : A → Row → Type 0} {before after : Stack} {o : Outcome A} {ts : Row} → ((v : A) (r : Row) → P v r → length r ≤ length ts → Q v r) → Good P before after o ts → Good Q before after o ts
+pub weaker : {A : Type 0} {P Q : A → Row → Type 0} {before after : Stack} {o : Outcome A} {ts : Row}
+    → ((v : A) (r : Row) → P v r → length r ≤ length ts → Q v r) → Good P before after o ts → Good Q before after o ts
 weaker f (reads p le e) = reads (f _ _ p le) le e
 weaker f (stops e) = stops e
 
@@ -145,7 +147,7 @@ literal_good (t ∷ ts) = go t.kind (word_of t)
     go (kind.Literal n v) w = reads (w.text, refl) (omega arith) (λ below. refl)
     go _ w = stops (λ below. refl)
 
-abbrev Accessed : Row → Kind → Row → Type 0
+abbrev pub Accessed : Row → Kind → Row → Type 0
 Accessed ts k r = (w : Word) × (ts ≡ at w (mark_of k) ∷ r)
 
 -- an `R` or a `W` is read as the automaton takes it, and what is read is so
@@ -159,7 +161,7 @@ access_good (t ∷ ts) = go t.kind (word_of t)
     go (kind.Mark mark.W) w = reads (w, refl) (omega arith) (λ below. refl)
     go _ w = stops (λ below. refl)
 
-abbrev LockedBy : Row → LockKind → Row → Type 0
+abbrev pub LockedBy : Row → LockKind → Row → Type 0
 LockedBy ts k r = (w : Word) × (ts ≡ at w (lock_mark k) ∷ r)
 
 -- a kind of lock is read as the automaton takes it, and what is read is so
@@ -174,7 +176,7 @@ lock_kind_good (t ∷ ts) = go t.kind (word_of t)
     go (kind.Mark mark.Rename) w = reads (w, refl) (omega arith) (λ below. refl)
     go _ w = stops (λ below. refl)
 
-abbrev Paced : Row → Bool → Row → Type 0
+abbrev pub Paced : Row → Bool → Row → Type 0
 Paced ts delayed r = (w : Word) × (ts ≡ at w (pace_mark delayed) ∷ r)
 
 -- `comb` or `delayed` is read as the automaton takes it, and what is read is so

@@ -32,7 +32,8 @@ unfolding level
 level_none p room n ts e = rw e refl
 
 -- after the first operand of a level
-level_more : (p : Parser Expr) (room n : ℕ) (ts rest : Row) (e : Expr) → n ≢ 0 → level p room (n - 1) ts ≡ Ok (e, rest) → level p room n ts ≡ chain (level p room (n - 1)) (n - 1) room e rest
+level_more : (p : Parser Expr) (room n : ℕ) (ts rest : Row) (e : Expr) → n ≢ 0
+    → level p room (n - 1) ts ≡ Ok (e, rest) → level p room n ts ≡ chain (level p room (n - 1)) (n - 1) room e rest
 unfolding level
 level_more p room zero ts rest e h k = absurd (h refl)
 level_more p room (suc n) ts rest e h k =
@@ -49,7 +50,8 @@ level_fails p room (suc n) ts left h e =
     rw f refl
 
 -- a level after the one below it
-pub level_next : (p : Parser Expr) (room k : ℕ) (ts rest : Row) (e : Expr) → level p room k ts ≡ Ok (e, rest) → level p room (k + 1) ts ≡ chain (level p room k) k room e rest
+pub level_next : (p : Parser Expr) (room k : ℕ) (ts rest : Row) (e : Expr)
+    → level p room k ts ≡ Ok (e, rest) → level p room (k + 1) ts ≡ chain (level p room k) k room e rest
 level_next p room k ts rest e f =
     let is : k ≡ (k + 1) - 1 = omega arith in
     let g : level p room ((k + 1) - 1) ts ≡ Ok (e, rest) = subst (λ m. level p room m ts ≡ Ok (e, rest)) is f in
@@ -71,13 +73,17 @@ pub level_fails_first : (p : Parser Expr) (room n : ℕ) (ts left : Row) → p t
 level_fails_first p room n ts left e = subst (λ m. level p room m ts ≡ Err left) (omega arith) (level_fails_above p room 0 n ts left (level_none p room 0 ts refl ∙ e))
 
 -- the operators of a level below are refused
-pub level_fails_later : (p : Parser Expr) (room k n : ℕ) (ts rest left : Row) (e : Expr) → k + 1 ≤ n → level p room k ts ≡ Ok (e, rest) → chain (level p room k) k room e rest ≡ Err left → level p room n ts ≡ Err left
+pub level_fails_later : (p : Parser Expr) (room k n : ℕ) (ts rest left : Row) (e : Expr)
+    → k + 1 ≤ n → level p room k ts ≡ Ok (e, rest) → chain (level p room k) k room e rest ≡ Err left
+    → level p room n ts ≡ Err left
 level_fails_later p room k n ts rest left e few f g =
     let is : (k + 1) + (n - (k + 1)) ≡ n = omega arith in
     subst (λ m. level p room m ts ≡ Err left) is (level_fails_above p room (k + 1) (n - (k + 1)) ts left (level_next p room k ts rest e f ∙ g))
 
 -- one more operator of a level
-chain_more : (p : Parser Expr) (n m k : ℕ) (op : BinaryOp) (x y : Expr) (ts rest : Row) → k ≡ m + 1 → op_in n (first_kind ts) ≡ Some op → p (next ts) ≡ Ok (y, rest) → chain p n k x ts ≡ chain p n m (Binary op x y) rest
+chain_more : (p : Parser Expr) (n m k : ℕ) (op : BinaryOp) (x y : Expr) (ts rest : Row)
+    → k ≡ m + 1 → op_in n (first_kind ts) ≡ Some op → p (next ts) ≡ Ok (y, rest)
+    → chain p n k x ts ≡ chain p n m (Binary op x y) rest
 unfolding chain
 chain_more p n m k op x y ts rest count e r =
     let is : suc m ≡ k = omega arith in

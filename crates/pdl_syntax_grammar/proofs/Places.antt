@@ -41,14 +41,16 @@ enough bytes room e = let h = from_fewer 0 0 1 bytes in omega (arith, h, e)
 -- ---- what the reader tells
 
 -- bytes that are read to the end are a text of the pipe that is read
-pub read_whole : (bytes : List ℕ) (room : ℕ) (p : Pipe) → room ≡ length bytes + 1 → parse room (marked_row at_start (tokens bytes)) ≡ Ok p → IsText bytes p
+pub read_whole : (bytes : List ℕ) (room : ℕ) (p : Pipe)
+    → room ≡ length bytes + 1 → parse room (marked_row at_start (tokens bytes)) ≡ Ok p → IsText bytes p
 read_whole bytes room p le e = text_found room (tokens bytes) p (enough bytes room le) e
 
 line_is : (left : Row) (last : ℕ) → line_at (first_line left) last ≡ line_of left last
 line_is [] last = refl
 line_is (t ∷ ts) last = refl
 
-place_of : (bytes : List ℕ) (left : Row) (line : ℕ) → IsOut (tokens bytes) left → line ≡ line_of left (last_line bytes) → IsOutOfPlace bytes line
+place_of : (bytes : List ℕ) (left : Row) (line : ℕ) → IsOut (tokens bytes) left
+    → line ≡ line_of left (last_line bytes) → IsOutOfPlace bytes line
 place_of bytes left line h place = record { front = h.front; after = h.after; split = h.split; place = place ∙ h.line (last_line bytes); begins = h.begins; bad = h.bad; no_text = h.no_text }
 
 -- the line where the reader stops is that of the first token out of place
@@ -63,7 +65,9 @@ pub recognised : (bytes : List ℕ) → run (marked_row at_start (tokens bytes))
 recognised bytes e = let t = is_text (marked_row at_start (tokens bytes)) e in (t.0, spelt (tokens bytes) t.0 t.1)
 
 -- the line where the automaton stops is that of the first token out of place
-pub stopped_at : (bytes : List ℕ) (left : Row) (line : ℕ) → run (marked_row at_start (tokens bytes)) whole ≡ Some left → line ≡ line_of left (last_line bytes) → IsOutOfPlace bytes line
+pub stopped_at : (bytes : List ℕ) (left : Row) (line : ℕ)
+    → run (marked_row at_start (tokens bytes)) whole ≡ Some left → line ≡ line_of left (last_line bytes)
+    → IsOutOfPlace bytes line
 stopped_at bytes left line e place = place_of bytes left line (out (tokens bytes) left (stopped (marked_row at_start (tokens bytes)) left e)) place
 
 -- the tokens of a pipe's text are seen as they are
@@ -108,7 +112,8 @@ answer_only bytes (Err (error.Misplaced line)) p h k = absurd (apart bytes p lin
 answer_only bytes (Err error.NoMemory) p h k = tt
 
 -- to bytes with a token out of place its line is answered, unless memory runs out
-pub answer_exact : (bytes : List ℕ) (x : Result r_pipe.Pipe ReadError) (line : ℕ) → IsRead bytes x → IsOutOfPlace bytes line → Gives (Misplaced line) x
+pub answer_exact : (bytes : List ℕ) (x : Result r_pipe.Pipe ReadError) (line : ℕ) → IsRead bytes x
+    → IsOutOfPlace bytes line → Gives (Misplaced line) x
 answer_exact bytes (Ok q) line h k = absurd (apart bytes (pipe_view q) line h k)
 answer_exact bytes (Err (error.Misplaced n)) line h k = one_place bytes n line h k
 answer_exact bytes (Err error.NoMemory) line h k = tt

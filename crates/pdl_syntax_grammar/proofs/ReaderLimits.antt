@@ -60,7 +60,9 @@ record IsSplit (c : Counts) (ts front left : Row) : Type 0 where
   fine : is_within d ≡ true
   next : (t : Token) → AreWithin c (front ++ t ∷ []) → is_within (counts_after d t.kind) ≡ true
 
-one_further : (c : Counts) (t u : Token) (ts front left : Row) → is_within (counts_after c t.kind) ≡ true → t ≡ u → IsSplit (counts_after c t.kind) ts front left → IsSplit c (t ∷ ts) (u ∷ front) left
+one_further : (c : Counts) (t u : Token) (ts front left : Row)
+    → is_within (counts_after c t.kind) ≡ true → t ≡ u → IsSplit (counts_after c t.kind) ts front left
+    → IsSplit c (t ∷ ts) (u ∷ front) left
 one_further c t u ts front left e is h = subst (λ x. IsSplit c (t ∷ ts) (x ∷ front) left) is (record {
   after = h.after;
   d = h.d;
@@ -71,7 +73,9 @@ one_further c t u ts front left e is h = subst (λ x. IsSplit c (t ∷ ts) (x �
   next = λ v w. h.next v w.1;
 })
 
-split_marked : (front : Row) (c : Counts) (ts left others : Row) (below : Stack) → is_within c ≡ true → marked_row c ts ≡ front ++ left → run (front ++ others) below ≡ None → IsSplit c ts front left
+split_marked : (front : Row) (c : Counts) (ts left others : Row) (below : Stack)
+    → is_within c ≡ true → marked_row c ts ≡ front ++ left → run (front ++ others) below ≡ None
+    → IsSplit c ts front left
 split_marked [] c ts left others below w e r = record { after = ts; d = c; split = refl; rest = sym e; within = tt; fine = w; next = λ t h. h.0 }
 split_marked (u ∷ front) c [] left others below w e r = cc
 split_marked (u ∷ front) c (t ∷ ts) left others [] w e r = cc

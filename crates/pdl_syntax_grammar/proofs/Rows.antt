@@ -27,7 +27,8 @@ after_no_stmts (Ok p) = refl
 after_no_stmts (Err n) = refl
 
 -- at the closing brace
-pub items_end : (room n : ℕ) (ss : List Stmt) (ts : Row) → n ≢ 0 → is_mark mark.CloseBrace (first_kind ts) ≡ true → after_stmts ss (items room n ts) ≡ Ok (stmts_of ss, ts)
+pub items_end : (room n : ℕ) (ss : List Stmt) (ts : Row) → n ≢ 0
+    → is_mark mark.CloseBrace (first_kind ts) ≡ true → after_stmts ss (items room n ts) ≡ Ok (stmts_of ss, ts)
 unfolding items
 items_end room zero ss ts h e = absurd (h refl)
 items_end room (suc n) ss ts h e = rw e (ap (λ x. Ok (x, ts)) (prepend_nil ss))
@@ -85,13 +86,15 @@ listed_stuck : {A : Type 0} (p : Parser A) (close : Mark) (n m : ℕ) (xs : List
     after xs (list_of p close n ts) ≡ Err r
 listed_stuck p close n m xs x ts r c e k = listed_of p close n m xs x ts r c e ∙ rw k refl
 
-listed_fails : {A : Type 0} (p : Parser A) (close : Mark) (n : ℕ) (xs : List A) (ts left : Row) → n ≢ 0 → p ts ≡ Err left → after xs (list_of p close n ts) ≡ Err left
+listed_fails : {A : Type 0} (p : Parser A) (close : Mark) (n : ℕ) (xs : List A) (ts left : Row) → n ≢ 0
+    → p ts ≡ Err left → after xs (list_of p close n ts) ≡ Err left
 unfolding list_of
 listed_fails p close zero xs ts left h e = absurd (h refl)
 listed_fails p close (suc n) xs ts left h e = rw e refl
 
 -- where there is no room for a value, the tokens are refused
-pub listed_none : {A : Type 0} (p : Parser A) (close : Mark) (n : ℕ) (xs : List A) (ts : Row) → n ≡ 0 → after xs (list_of p close n ts) ≡ Err ts
+pub listed_none : {A : Type 0} (p : Parser A) (close : Mark) (n : ℕ) (xs : List A) (ts : Row)
+    → n ≡ 0 → after xs (list_of p close n ts) ≡ Err ts
 unfolding list_of
 listed_none p close n xs ts e = rw e refl
 

@@ -16,7 +16,8 @@ parse_is ts n p r e l = rw e (go r l)
     go (t ∷ r) l = cc
 
 -- a text is refused at a token after the pipe
-pub parse_more : (ts : Row) (n : ℕ) (p : Pipe) (r : Row) (k : TokenKind) → pipe n ts ≡ Ok (p, r) → first_kind r ≡ Some k → parse n ts ≡ Err r
+pub parse_more : (ts : Row) (n : ℕ) (p : Pipe) (r : Row) (k : TokenKind)
+    → pipe n ts ≡ Ok (p, r) → first_kind r ≡ Some k → parse n ts ≡ Err r
 unfolding parse
 parse_more ts n p r k e l = rw e (go r l)
   where

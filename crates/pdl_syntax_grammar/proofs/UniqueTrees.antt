@@ -94,10 +94,13 @@ fewer : (n k : ℕ) (r : Row) → k ≤ n → After n r → After k r
 fewer n k r le h = record { ends = λ j b. h.ends j (omega arith); square = h.square }
 
 -- a mark that is neither
-after_mark : (n : ℕ) (w : Word) (m : Mark) (r : Row) → operator_of m ≡ None → is_mark mark.OpenSquare (Some (kind.Mark m)) ≡ false → After n (at w m ∷ r)
+after_mark : (n : ℕ) (w : Word) (m : Mark) (r : Row)
+    → operator_of m ≡ None → is_mark mark.OpenSquare (Some (kind.Mark m)) ≡ false → After n (at w m ∷ r)
 after_mark n w m r e f = record { ends = λ j b. rw e refl; square = f }
 
-closed_mark : (w : Word) (m : Mark) (r : Row) → operator_of m ≡ None → is_mark mark.OpenSquare (Some (kind.Mark m)) ≡ false → is_mark mark.Question (Some (kind.Mark m)) ≡ false → Closed (at w m ∷ r)
+closed_mark : (w : Word) (m : Mark) (r : Row)
+    → operator_of m ≡ None → is_mark mark.OpenSquare (Some (kind.Mark m)) ≡ false
+    → is_mark mark.Question (Some (kind.Mark m)) ≡ false → Closed (at w m ∷ r)
 closed_mark w m r e f g = record { after = after_mark levels w m r e f; question = g }
 
 same_looseness : (op : BinaryOp) → nat_eq (loose op) (loose op) ≡ true
@@ -136,7 +139,8 @@ unfolding Reached level
 done p room zero e ts r h a = h
 done p room (suc j) e ts r h a = h.2 ∙ chain_ends (level p room j) j h.0 e r (a.ends j (omega arith))
 
-begun : (p : Parser Expr) (room j : ℕ) (e : Expr) (ts r : Row) → length r ≤ room → level p room j ts ≡ Ok (e, r) → Reached p room (suc j) e ts r
+begun : (p : Parser Expr) (room j : ℕ) (e : Expr) (ts r : Row)
+    → length r ≤ room → level p room j ts ≡ Ok (e, r) → Reached p room (suc j) e ts r
 unfolding Reached level
 begun p room j e ts r le h = (room, le, rw h refl)
 
@@ -255,7 +259,8 @@ brace_no_else : (k : Option TokenKind) → is_mark mark.CloseBrace k ≡ true �
 brace_no_else (Some (kind.Mark mark.Else)) e = cc
 brace_no_else _ e = refl
 
-no_else : {ss : Stmts} {ts r : Row} → Items ss ts r → is_mark mark.CloseBrace (first_kind r) ≡ true → is_mark mark.Else (first_kind ts) ≡ false
+no_else : {ss : Stmts} {ts r : Row} → Items ss ts r
+    → is_mark mark.CloseBrace (first_kind r) ≡ true → is_mark mark.Else (first_kind ts) ≡ false
 no_else (none {r = r}) f = brace_no_else (first_kind r) f
 no_else (more h i) f = not_else h
 

@@ -15,7 +15,8 @@ use Rattle.pdl_syntax_recogniser.specs.View.{Expects, top, below_top}
 
 -- ---- one step
 
-onto : (o : Option Stack) (r : Result Bool NoMemory) (s : Sym) (below now : Stack) (k : TokenKind) → act s k ≡ o → Expects o r below now → StepsTo (stack_after (s ∷ below) k) r now
+onto : (o : Option Stack) (r : Result Bool NoMemory) (s : Sym) (below now : Stack) (k : TokenKind)
+    → act s k ≡ o → Expects o r below now → StepsTo (stack_after (s ∷ below) k) r now
 onto o (Err e) s below now k i h = any (stack_after (s ∷ below) k)
   where
     any : (o : Option Stack) → StepsTo o (Err e) now
@@ -27,7 +28,8 @@ onto None (Ok true) s below now k i h = absurd h
 onto None (Ok false) s below now k i h = rw i tt
 
 -- what a token makes of the top symbol, with what stands below it, is what it makes of the stack
-pub step_so : (old now : Stack) (s : Sym) (k : TokenKind) (r : Result Bool NoMemory) → Some s ≡ top old → Expects (act s k) r (below_top old) now → StepsTo (stack_after old k) r now
+pub step_so : (old now : Stack) (s : Sym) (k : TokenKind) (r : Result Bool NoMemory)
+    → Some s ≡ top old → Expects (act s k) r (below_top old) now → StepsTo (stack_after old k) r now
 step_so [] now s k r e h = cc
 step_so (u ∷ below) now s k r e h = let i : s ≡ u = cc in onto (act u k) r u below now k refl (rw i at h)
 
@@ -38,7 +40,8 @@ step_none (u ∷ below) now k e = cc
 
 -- ---- the run by steps
 
-run_taken : (ts : Row) (stack now : Stack) (k : TokenKind) → first_kind ts ≡ Some k → stack_after stack k ≡ Some now → run ts stack ≡ run (next ts) now
+run_taken : (ts : Row) (stack now : Stack) (k : TokenKind)
+    → first_kind ts ≡ Some k → stack_after stack k ≡ Some now → run ts stack ≡ run (next ts) now
 run_taken [] stack now k e f = cc
 run_taken (t ∷ ts) [] now k e f = cc
 run_taken (t ∷ ts) (s ∷ below) now k e f = go (act s k) refl f
@@ -79,12 +82,16 @@ refused_so bytes [] stack now k line e h i f = cc
 refused_so bytes (t ∷ ts) stack now k line e h i f = rw f (stopped_at bytes (t ∷ ts) t.span.line (sym i ∙ run_not (t ∷ ts) stack k e (stuck (stack_after stack k) now h)) refl)
 
 -- where the tokens end and nothing is expected, they are a text of a pipe
-pub ended_so : (bytes : List ℕ) (ts : Row) (stack : Stack) → first_kind ts ≡ None → stack ≡ [] → run ts stack ≡ run (marked_row at_start (tokens bytes)) whole → IsRecognised bytes (Ok None)
+pub ended_so : (bytes : List ℕ) (ts : Row) (stack : Stack)
+    → first_kind ts ≡ None → stack ≡ [] → run ts stack ≡ run (marked_row at_start (tokens bytes)) whole
+    → IsRecognised bytes (Ok None)
 ended_so bytes [] stack e f i = recognised bytes (sym i ∙ ap (run []) f)
 ended_so bytes (t ∷ ts) stack e f i = cc
 
 -- where the tokens end and something is expected, the text ends too early, on its last line
-pub early_so : (bytes : List ℕ) (ts : Row) (stack : Stack) (line : ℕ) → first_kind ts ≡ None → (stack ≡ [] → ⊥) → run ts stack ≡ run (marked_row at_start (tokens bytes)) whole → line ≡ last_line bytes → IsRecognised bytes (Ok (Some line))
+pub early_so : (bytes : List ℕ) (ts : Row) (stack : Stack) (line : ℕ)
+    → first_kind ts ≡ None → (stack ≡ [] → ⊥) → run ts stack ≡ run (marked_row at_start (tokens bytes)) whole
+    → line ≡ last_line bytes → IsRecognised bytes (Ok (Some line))
 early_so bytes [] [] line e f i l = absurd (f refl)
 early_so bytes [] (s ∷ below) line e f i l = stopped_at bytes [] line (sym i) l
 early_so bytes (t ∷ ts) stack line e f i l = cc
@@ -97,13 +104,15 @@ shorter (t ∷ ts) k e = omega arith
 -- ---- what is told
 
 -- of a text of a pipe no line is told
-pub told_text : (bytes : List ℕ) (x : Result (Option ℕ) NoMemory) (p : Pipe) → IsRecognised bytes x → IsText bytes p → IfOk x (λ line. line ≡ None)
+pub told_text : (bytes : List ℕ) (x : Result (Option ℕ) NoMemory) (p : Pipe) → IsRecognised bytes x → IsText bytes p
+    → IfOk x (λ line. line ≡ None)
 told_text bytes (Ok None) p h k = refl
 told_text bytes (Ok (Some line)) p h k = absurd (apart bytes p line k h)
 told_text bytes (Err e) p h k = tt
 
 -- of bytes with a token out of place its line is told
-pub told_place : (bytes : List ℕ) (x : Result (Option ℕ) NoMemory) (line : ℕ) → IsRecognised bytes x → IsOutOfPlace bytes line → IfOk x (λ l. l ≡ Some line)
+pub told_place : (bytes : List ℕ) (x : Result (Option ℕ) NoMemory) (line : ℕ) → IsRecognised bytes x
+    → IsOutOfPlace bytes line → IfOk x (λ l. l ≡ Some line)
 told_place bytes (Ok None) line h k = absurd (apart bytes h.0 line h.1 k)
 told_place bytes (Ok (Some n)) line h k = ap Some (one_place bytes n line h k)
 told_place bytes (Err e) line h k = tt

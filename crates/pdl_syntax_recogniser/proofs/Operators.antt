@@ -35,7 +35,8 @@ word_taken o b s e = rw e (go b)
     go false = refl
 
 -- after a value of a list, where no comma comes
-pub closed_by : (l : Listing) (k : TokenKind) (b : Bool) (s : Stack) → is_mark mark.Comma (Some k) ≡ false → b ≡ is_mark (closer l) (Some k) → Expects (act_more l k) (Ok b) s s
+pub closed_by : (l : Listing) (k : TokenKind) (b : Bool) (s : Stack)
+    → is_mark mark.Comma (Some k) ≡ false → b ≡ is_mark (closer l) (Some k) → Expects (act_more l k) (Ok b) s s
 closed_by l k b s e f = rw (e, sym f) (go b)
   where
     go : (b : Bool) → Expects (act_on l (cond b (Some false) None)) (Ok b) s s

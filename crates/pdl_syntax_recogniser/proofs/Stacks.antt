@@ -13,7 +13,9 @@ both : (old symbols : List r.Symbol) → stack_of (old ++ symbols) ≡ stack_of 
 both old symbols = ap reverse (map-append symbol_view old symbols) ∙ reverse-append (map symbol_view old) (map symbol_view symbols)
 
 -- symbols that are put at the end of the list stand on top of the stack
-pub pushed : (old symbols now : List r.Symbol) → now ≡ old ++ symbols → reverse (map symbol_view now) ≡ reverse (map symbol_view symbols) ++ reverse (map symbol_view old)
+pub pushed : (old symbols now : List r.Symbol)
+    → now ≡ old ++ symbols
+    → reverse (map symbol_view now) ≡ reverse (map symbol_view symbols) ++ reverse (map symbol_view old)
 pushed old symbols now e = ap stack_of e ∙ both old symbols
 
 -- a symbol is taken off, or there was none
@@ -25,12 +27,16 @@ none_there [] e = refl
 none_there (x ∷ xs) e = absurd (omega arith)
 
 -- the symbol that is taken off the list is the top one of the stack, if there is one
-pub popped : (old now : List r.Symbol) (x : Option r.Symbol) → old ≡ now ++ option_to_list x → (IsSome x ↔ (0 < length old)) → maybe_symbol_view x ≡ top (reverse (map symbol_view old))
+pub popped : (old now : List r.Symbol) (x : Option r.Symbol)
+    → old ≡ now ++ option_to_list x → (IsSome x ↔ (0 < length old))
+    → maybe_symbol_view x ≡ top (reverse (map symbol_view old))
 popped old now (Some s) e h = sym (ap top (some_off old now s e))
 popped old now None e h = let k : length old ≡ 0 = grind (arith, h) in sym (ap (λ xs. top (stack_of xs)) (none_there old k))
 
 -- what stays in the list when a symbol is taken off is the stack below the top
-pub popped_below : (old now : List r.Symbol) (x : Option r.Symbol) → old ≡ now ++ option_to_list x → (IsSome x ↔ (0 < length old)) → reverse (map symbol_view now) ≡ below_top (reverse (map symbol_view old))
+pub popped_below : (old now : List r.Symbol) (x : Option r.Symbol)
+    → old ≡ now ++ option_to_list x → (IsSome x ↔ (0 < length old))
+    → reverse (map symbol_view now) ≡ below_top (reverse (map symbol_view old))
 popped_below old now (Some s) e h = sym (ap below_top (some_off old now s e))
 popped_below old now None e h =
     let k : length old ≡ 0 = grind (arith, h) in

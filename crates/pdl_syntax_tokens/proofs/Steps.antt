@@ -44,7 +44,8 @@ after_within base is bytes two = cond_within (starts_with nat_eq bytes base) (ta
     let j = prefix_len-le-length is after in
     omega (arith, k, i, j, two, length-drop (length base) bytes))
 
-number_or_literal_sized : (number d h : List ℕ) (n m : ℕ) → 1 ≤ length number → length number + m ≤ n → AreWithin d m → AreWithin h m → Sized (number_or_literal number d h) n
+number_or_literal_sized : (number d h : List ℕ) (n m : ℕ)
+    → 1 ≤ length number → length number + m ≤ n → AreWithin d m → AreWithin h m → Sized (number_or_literal number d h) n
 unfolding AreWithin
 number_or_literal_sized number [] [] n m least most wd wh = record { least = least; most = omega arith }
 number_or_literal_sized number [] (h ∷ hs) n m least most wd wh = record { least = omega arith; most = omega arith }
@@ -67,7 +68,8 @@ are_written : List Spelling → Bool
 are_written [] = true
 are_written (s ∷ rest) = nat_le 1 (length s.text) && are_written rest
 
-spelling_sized : (all : List Spelling) (bytes : List ℕ) → are_written all ≡ true → 1 ≤ length bytes → Sized (mark_or_bad (spelling_at all bytes)) (length bytes)
+spelling_sized : (all : List Spelling) (bytes : List ℕ)
+    → are_written all ≡ true → 1 ≤ length bytes → Sized (mark_or_bad (spelling_at all bytes)) (length bytes)
 unfolding are_written
 spelling_sized [] bytes e h = record { least = omega arith; most = h }
 spelling_sized (s ∷ rest) bytes e h = go (starts_with nat_eq bytes s.text) refl (spelling_sized rest bytes (and_parts (nat_le 1 (length s.text)) (are_written rest) e).1 h)
@@ -111,7 +113,8 @@ inside k start line [] = rw (drop-nil k) refl
 inside zero start line (c ∷ cs) = rw (add-zero start) refl
 inside (suc k) start line (c ∷ cs) = inside k (start + 1) line cs ∙ ap (λ s. tokens_from 0 s line (drop k cs)) (omega arith)
 
-after_piece : (n c start line : ℕ) (cs : List ℕ) → 1 ≤ n → tokens_from (n - 1) (start + 1) line cs ≡ tokens_from 0 (start + n) line (drop n (c ∷ cs))
+after_piece : (n c start line : ℕ) (cs : List ℕ)
+    → 1 ≤ n → tokens_from (n - 1) (start + 1) line cs ≡ tokens_from 0 (start + n) line (drop n (c ∷ cs))
 after_piece zero c start line cs h = absurd (omega arith)
 after_piece (suc k) c start line cs h = let e : suc k - 1 ≡ k = omega arith in
     rw e (inside k (start + 1) line cs ∙ ap (λ s. tokens_from 0 s line (drop k cs)) (omega arith))

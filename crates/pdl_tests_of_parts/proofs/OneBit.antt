@@ -19,7 +19,9 @@ pub bits_none : (c : Circuit) → HasBits c [] 0
 bits_none c = record { count = refl; there = λ k h. absurd (omega arith); one = λ k h. absurd (omega arith) }
 
 -- what holds of each net of a list and of one more
-upto : (P : Net → Type 0) (nets : List Net) (x : Net) (n : ℕ) → length nets ≡ n → P x → ((k : ℕ) → k < n → P (net_at nets k)) → (k : ℕ) → k < n + 1 → P (net_at (nets ++ x ∷ []) k)
+upto : (P : Net → Type 0) (nets : List Net) (x : Net) (n : ℕ)
+    → length nets ≡ n → P x → ((k : ℕ) → k < n → P (net_at nets k)) → (k : ℕ) → k < n + 1
+    → P (net_at (nets ++ x ∷ []) k)
 upto P nets x n e last rest k l =
     ⊎_elim
     (λ (i : k < n). subst P (sym (get_or_append_left nets (x ∷ []) (Input 0) k (omega (arith, e, i)))) (rest k i))
@@ -27,7 +29,8 @@ upto P nets x n e last rest k l =
     (cases_lt k n)
 
 -- one net more
-pub bits_more : (a b : Circuit) (nets : List Net) (x : Net) (n : ℕ) → HasBits a nets n → Extends a b → IsThere b x → (signal b x).width ≡ 1 → HasBits b (nets ++ x ∷ []) (n + 1)
+pub bits_more : (a b : Circuit) (nets : List Net) (x : Net) (n : ℕ) → HasBits a nets n → Extends a b → IsThere b x
+    → (signal b x).width ≡ 1 → HasBits b (nets ++ x ∷ []) (n + 1)
 bits_more a b nets x n h e t w =
     let g = bits_kept a b nets n h e in
     let There : Net → Type 0 = λ y. IsThere b y in

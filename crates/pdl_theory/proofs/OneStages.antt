@@ -38,7 +38,8 @@ use Rattle.pdl_semantics.specs.Sound.{is_fetch}
 -- VERIFIES
 
 -- statements of which no path verifies let nothing fail
-unfailed : (o : Around) (xs : List Stmt) (w : Work) → ((path : List ℕ) → none_of is_verify (onpath path xs) ≡ true) → (do_all o xs w).fails ≡ w.fails
+unfailed : (o : Around) (xs : List Stmt) (w : Work)
+    → ((path : List ℕ) → none_of is_verify (onpath path xs) ≡ true) → (do_all o xs w).fails ≡ w.fails
 unfailed o [] w h = refl
 unfailed o (x ∷ xs) w h = unfailed o xs (step o x w) (λ path. later path (all_hold x.guards path) (h path)) ∙ at (all_hold x.guards w.env) (h w.env)
   where
@@ -54,13 +55,17 @@ clash : false ≡ true → ⊥
 clash e = cc
 
 -- in stages before the verifies' nothing is guessed, and without a guess nothing is verified
-one_certain : (v : Option ℕ) (s : ℕ) (k : Making) (op : Op) → stands_before v s ≡ false → is_guessed k ≡ false → making_ok v k s (answered_op op) ≡ true → (not (is_verify op) ≡ true) × (is_guessed (next_making k (answered_op op)) ≡ false)
+one_certain : (v : Option ℕ) (s : ℕ) (k : Making) (op : Op)
+    → stands_before v s ≡ false → is_guessed k ≡ false → making_ok v k s (answered_op op) ≡ true
+    → (not (is_verify op) ≡ true) × (is_guessed (next_making k (answered_op op)) ≡ false)
 one_certain v s k (Call args) b g h = (refl, refl)
 one_certain v s k (SpecCall args) b g h = absurd (clash (sym b ∙ and_right (is_unmade k) _ h))
 one_certain v s k (Verify args) b g h = absurd (clash (sym g ∙ and_left (is_guessed k) _ h))
 one_certain v s k _ b g h = (refl, g)
 
-unverified : (v : Option ℕ) (path : List ℕ) (xs : List Stmt) (k : Making) → ((s : ℕ) → stands_before v s ≡ false) → is_guessed k ≡ false → makings_ok v k (onpath path (looked_all xs)) ≡ true → none_of is_verify (onpath path xs) ≡ true
+unverified : (v : Option ℕ) (path : List ℕ) (xs : List Stmt) (k : Making)
+    → ((s : ℕ) → stands_before v s ≡ false) → is_guessed k ≡ false → makings_ok v k (onpath path (looked_all xs)) ≡ true
+    → none_of is_verify (onpath path xs) ≡ true
 unverified v path [] k b g h = refl
 unverified v path (x ∷ xs) k b g h = at (all_hold x.guards path) h (λ j. unverified v path xs j b)
   where
@@ -102,7 +107,8 @@ unasked o (x ∷ xs) w h = unasked o xs (step o x w) (and_right (not (is_fetch x
     at false = refl
 
 -- of statements that all stand in the first stage those of that stage are all
-all_first : (test : Op → Bool) (xs : List Stmt) → list_all (λ y. nat_lt y.stage 1) xs ≡ true → none_of test (in_stage 0 xs) ≡ true → none_of test xs ≡ true
+all_first : (test : Op → Bool) (xs : List Stmt)
+    → list_all (λ y. nat_lt y.stage 1) xs ≡ true → none_of test (in_stage 0 xs) ≡ true → none_of test xs ≡ true
 all_first test [] i h = refl
 all_first test (x ∷ xs) i h = at (x.stage == 0) refl h (all_first test xs (and_right (nat_lt x.stage 1) _ i))
   where
@@ -263,7 +269,8 @@ puts_alike m None = refl
 puts_alike m (Some e) = refl
 
 -- what each memory of a cycle shows
-puts_same : (f : ℕ → Option PortWrite) (ws : List Commit) (k : ℕ) (ms : List Tree.Mem) → ((j : ℕ) → j < length (mems_of ms) → commit_shown (k + j) (f (k + j)) ≡ of_mem (k + j) ws)
+puts_same : (f : ℕ → Option PortWrite) (ws : List Commit) (k : ℕ) (ms : List Tree.Mem)
+    → ((j : ℕ) → j < length (mems_of ms) → commit_shown (k + j) (f (k + j)) ≡ of_mem (k + j) ws)
     → puts_in (for_mems f k (mems_of ms)) ≡ by_mem k (columns ms) ws
 puts_same f ws k [] h = refl
 puts_same f ws k (m ∷ ms) h =
@@ -274,7 +281,8 @@ puts_same f ws k (m ∷ ms) h =
 -- a cycle that is a thread
 cycle_same : (p : Tree.Pipe) (st : Machine.State) (bits : List Bool) (ws : List Commit)
     → IsThread (record { ports = Cycle.ports (flat p) st (Moves.all_acts (flat p) st bits); wait = Cycle.is_wait (flat p) st bits }) ws
-    → turn_cycle (record { ports = Cycle.ports (flat p) st (Moves.all_acts (flat p) st bits); wait = Cycle.is_wait (flat p) st bits }) ≡ thread_cycle (columns p.mems) ws
+    → turn_cycle (record { ports = Cycle.ports (flat p) st (Moves.all_acts (flat p) st bits); wait = Cycle.is_wait (flat p) st bits })
+    ≡ thread_cycle (columns p.mems) ws
 cycle_same p st bits ws h = λ i. record {
   puts = puts_same (λ m. Cycle.port_write (Cycle.taken_out st (Moves.movers (Moves.all_acts (flat p) st bits)) m)) ws 0 p.mems each i;
   ended = h.ended i;
@@ -287,7 +295,8 @@ cycle_same p st bits ws h = λ i. record {
         ap (commit_shown (0 + j)) (sym (at_mem (λ m. Cycle.port_write (Cycle.taken_out st (Moves.movers (Moves.all_acts (flat p) st bits)) m)) 0 (mems_of p.mems) j None low))
         ∙ subst (λ k. commit_shown k (slice_index_or (for_mems (λ m. Cycle.port_write (Cycle.taken_out st (Moves.movers (Moves.all_acts (flat p) st bits)) m)) 0 (mems_of p.mems)) j None) ≡ of_mem k ws) (let e : j ≡ 0 + j = omega arith in e) (h.commits j)
 
-cycles_same : (p : Tree.Pipe) (st : Machine.State) (schedule : List (List Bool)) (tss : List (List Commit)) → AreThreads (Cycle.turns_from (flat p) st schedule) tss
+cycles_same : (p : Tree.Pipe) (st : Machine.State) (schedule : List (List Bool)) (tss : List (List Commit))
+    → AreThreads (Cycle.turns_from (flat p) st schedule) tss
     → turn_cycles (Cycle.turns_from (flat p) st schedule) ≡ thread_cycles (columns p.mems) tss
 cycles_same p st [] [] h = refl
 cycles_same p st [] (ws ∷ tss) h = absurd h
@@ -295,6 +304,8 @@ cycles_same p st (bits ∷ schedule) [] h = absurd h
 cycles_same p st (bits ∷ schedule) (ws ∷ tss) h = ap₂ (λ c cs. c ∷ cs) (cycle_same p st bits ws h.0) (cycles_same p (Cycle.cycle (flat p) st bits) schedule tss h.1)
 
 -- the machine prints the lines of the sequential run
-pub same_lines : (p : Tree.Pipe) → Sound (flat p) → length (flat p).stages ≡ 1 → (image : List (List ℕ)) (schedule : List (List Bool)) → run_lines p image schedule ≡ sequential_lines p image (length schedule)
+pub same_lines : (p : Tree.Pipe) → Sound (flat p)
+    → length (flat p).stages ≡ 1 → (image : List (List ℕ)) (schedule : List (List Bool))
+    → run_lines p image schedule ≡ sequential_lines p image (length schedule)
 same_lines p sound single image schedule =
     ap (lines (columns p.mems)) (cycles_same p (Cycle.first (flat p) (arrays_of image)) schedule _ (whole_threads (flat p) sound single (arrays_of image) schedule))

@@ -66,7 +66,8 @@ passed_by_sounds : passes_tests (flat passed_by) ≡ true
 passed_by_sounds = refl
 
 -- an `if` on a delayed read in its stage breaks a rule
-early_guard_fails : passes_tests (flat (pipe 2 (record (slow "d" 4 None) { width = number 1 } ∷ []) (delayed_read "x" "d" "n" ∷ call (plus (variable "n") (constant 2 1)) ∷ if_else (variable "x") (bind "y" (constant 1 1) ∷ []) [] ∷ separator ∷ []))) ≡ false
+early_guard_fails : passes_tests (flat (pipe 2 (record (slow "d" 4 None) { width = number 1 } ∷ []) (delayed_read "x" "d" "n" ∷ call (plus (variable "n") (constant 2 1)) ∷ if_else (variable "x") (bind "y" (constant 1 1) ∷ []) [] ∷ separator ∷ [])))
+    ≡ false
 early_guard_fails = refl
 
 -- a barrier in a branch breaks a rule
@@ -96,7 +97,8 @@ stated_guesses_refine = whole_refines (flat copy_guessed) (sounded (flat copy_gu
 stated_branches_refine : (image : Arrays) (schedule : List (List Bool)) → Promises.Refines (flat two_branches) image schedule
 stated_branches_refine = whole_refines (flat two_branches) (sounded (flat two_branches) two_branches_sound)
 
-stated_slow_advances : (image : Arrays) (schedule : List (List Bool)) (bits : List Bool) → Promises.Advances (flat count_slow) image schedule bits
+stated_slow_advances : (image : Arrays) (schedule : List (List Bool)) (bits : List Bool)
+    → Promises.Advances (flat count_slow) image schedule bits
 stated_slow_advances = whole_advances (flat count_slow) (sounded (flat count_slow) count_slow_sounds)
 
 stated_branches_keep_pace : (image : Arrays) (schedule : List (List Bool)) → Promises.KeepsPace (flat one_branch) image schedule

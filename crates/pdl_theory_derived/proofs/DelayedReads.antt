@@ -103,14 +103,16 @@ apart_snoc (r ∷ rs) q h k = (avoids_snoc r rs q h.0 k.0, apart_snoc rs q h.1 k
 -- ANSWERS
 
 -- the value of a variable that none of these requests is for
-pub caught_set : (arrays : Arrays) (x v : ℕ) (qs : List Ask) (env : List ℕ) → AllAsks (λ q. q.var ≢ x) qs → caught arrays qs (slice_set env x v) ≡ slice_set (caught arrays qs env) x v
+pub caught_set : (arrays : Arrays) (x v : ℕ) (qs : List Ask) (env : List ℕ) → AllAsks (λ q. q.var ≢ x) qs
+    → caught arrays qs (slice_set env x v) ≡ slice_set (caught arrays qs env) x v
 caught_set arrays x v [] env h = refl
 caught_set arrays x v (q ∷ qs) env h =
     ap (caught arrays qs) (set_comm env x q.var v (word_at arrays q.mem q.address) (λ e. h.0 (sym e)))
     ∙ caught_set arrays x v qs (slice_set env q.var (word_at arrays q.mem q.address)) h.1
 
 -- a variable that no answer is for
-answers_set : (p : Pipe) (st : State) (bits : List Bool) (q : Ask) (w : ℕ) (rs : List Ask) (env : List ℕ) → Avoids q rs → with_answers p st bits (awaited_of rs) (slice_set env q.var w) ≡ slice_set (with_answers p st bits (awaited_of rs) env) q.var w
+answers_set : (p : Pipe) (st : State) (bits : List Bool) (q : Ask) (w : ℕ) (rs : List Ask) (env : List ℕ) → Avoids q rs
+    → with_answers p st bits (awaited_of rs) (slice_set env q.var w) ≡ slice_set (with_answers p st bits (awaited_of rs) env) q.var w
 answers_set p st bits q w [] env h = refl
 answers_set p st bits q w (r ∷ rs) env h =
     ap (with_answers p st bits (awaited_of rs)) (at (is_answered p bits r.mem))
@@ -125,7 +127,8 @@ abbrev pub RightWord : State → Arrays → Ask → Type 0
 RightWord st arrays q = (asked_at st q.mem ≡ Some q.address) × (word_at st.arrays q.mem q.address ≡ word_at arrays q.mem q.address)
 
 -- with right answers what a thread will have stays the same
-pub answers_caught : (p : Pipe) (st : State) (bits : List Bool) (arrays : Arrays) (qs : List Ask) (env : List ℕ) → Apart qs → AllAsks (RightWord st arrays) qs
+pub answers_caught : (p : Pipe) (st : State) (bits : List Bool) (arrays : Arrays) (qs : List Ask) (env : List ℕ)
+    → Apart qs → AllAsks (RightWord st arrays) qs
     → caught arrays (still_asks p bits qs) (with_answers p st bits (awaited_of qs) env) ≡ caught arrays qs env
 answers_caught p st bits arrays [] env a h = refl
 answers_caught p st bits arrays (q ∷ qs) env a h =
@@ -146,7 +149,10 @@ answers_caught p st bits arrays (q ∷ qs) env a h =
 -- REQUESTS AFTER A CYCLE
 
 -- after a cycle a memory has its new request, or its old one if that isn't answered
-pub request_at : (p : Pipe) (bits : List Bool) (qs : List Ask) (k : ℕ) (olds : List (Option ℕ)) (j : ℕ) → j < length olds → slice_index_or (next_asks p bits qs k olds) j None ≡ next_ask (find_ask qs (k + j)) (is_answered p bits (k + j)) (slice_index_or olds j None)
+pub request_at : (p : Pipe) (bits : List Bool) (qs : List Ask) (k : ℕ) (olds : List (Option ℕ)) (j : ℕ)
+    → j < length olds
+    → slice_index_or (next_asks p bits qs k olds) j None
+    ≡ next_ask (find_ask qs (k + j)) (is_answered p bits (k + j)) (slice_index_or olds j None)
 request_at p bits qs k [] j h = absurd (omega arith)
 request_at p bits qs k (o ∷ olds) zero h = ap (λ n. next_ask (find_ask qs n) (is_answered p bits n) o) (let e : k ≡ k + 0 = omega arith in e)
 request_at p bits qs k (o ∷ olds) (suc j) h =
@@ -154,7 +160,8 @@ request_at p bits qs k (o ∷ olds) (suc j) h =
     ∙ ap (λ n. next_ask (find_ask qs n) (is_answered p bits n) (slice_index_or olds j None)) (suc-add k j ∙ sym (add-suc k j))
 
 -- a cycle leaves as many entries for requests as there were
-pub requests_length : (p : Pipe) (bits : List Bool) (qs : List Ask) (k : ℕ) (olds : List (Option ℕ)) → length (next_asks p bits qs k olds) ≡ length olds
+pub requests_length : (p : Pipe) (bits : List Bool) (qs : List Ask) (k : ℕ) (olds : List (Option ℕ))
+    → length (next_asks p bits qs k olds) ≡ length olds
 requests_length p bits qs k [] = refl
 requests_length p bits qs k (o ∷ olds) = ap suc (requests_length p bits qs (suc k) olds)
 
@@ -171,19 +178,22 @@ abbrev pub Out : List (Option ℕ) → Ask → Type 0
 Out asked q = slice_index_or asked q.mem None ≡ Some q.address
 
 -- one that isn't answered stays where nobody asks anew
-stays_out : (p : Pipe) (bits : List Bool) (all : List Ask) (olds : List (Option ℕ)) (q : Ask) → Out olds q → is_answered p bits q.mem ≡ false → find_ask all q.mem ≡ None → Out (next_asks p bits all 0 olds) q
+stays_out : (p : Pipe) (bits : List Bool) (all : List Ask) (olds : List (Option ℕ)) (q : Ask) → Out olds q
+    → is_answered p bits q.mem ≡ false → find_ask all q.mem ≡ None → Out (next_asks p bits all 0 olds) q
 stays_out p bits all olds q h e f =
     request_at p bits all 0 olds q.mem (there olds q.mem q.address h)
     ∙ ap₂ (λ a b. next_ask a b (slice_index_or olds q.mem None)) (ap (find_ask all) (zero-add q.mem) ∙ f) (ap (is_answered p bits) (zero-add q.mem) ∙ e) ∙ h
 
 -- and a new one is outstanding
-pub new_out : (p : Pipe) (bits : List Bool) (all : List Ask) (olds : List (Option ℕ)) (q : Ask) → q.mem < length olds → find_ask all q.mem ≡ Some q.address → Out (next_asks p bits all 0 olds) q
+pub new_out : (p : Pipe) (bits : List Bool) (all : List Ask) (olds : List (Option ℕ)) (q : Ask)
+    → q.mem < length olds → find_ask all q.mem ≡ Some q.address → Out (next_asks p bits all 0 olds) q
 new_out p bits all olds q low f =
     request_at p bits all 0 olds q.mem low
     ∙ ap (λ a. next_ask a (is_answered p bits (0 + q.mem)) (slice_index_or olds q.mem None)) (ap (find_ask all) (zero-add q.mem) ∙ f)
 
 -- those that a cycle doesn't answer
-pub all_out : (p : Pipe) (bits : List Bool) (all : List Ask) (olds : List (Option ℕ)) (qs : List Ask) → AllAsks (Out olds) qs → AllAsks (λ q. is_answered p bits q.mem ≡ false → find_ask all q.mem ≡ None) qs
+pub all_out : (p : Pipe) (bits : List Bool) (all : List Ask) (olds : List (Option ℕ)) (qs : List Ask)
+    → AllAsks (Out olds) qs → AllAsks (λ q. is_answered p bits q.mem ≡ false → find_ask all q.mem ≡ None) qs
     → AllAsks (Out (next_asks p bits all 0 olds)) (still_asks p bits qs)
 all_out p bits all olds [] h f = tt
 all_out p bits all olds (q ∷ qs) h f = at (is_answered p bits q.mem) refl (all_out p bits all olds qs h.1 f.1)
@@ -221,7 +231,8 @@ found (q ∷ qs) a = (
     later (r ∷ rs) all h f = (ap (λ b. cond b (Some q.address) (find_ask all r.mem)) (ne_eqb q.mem r.mem h.1) ∙ f.0, later rs all h.2 f.1)
 
 -- who is ready asks only where the port is free
-unasked_op : (o : Around) (op : Op) (w : Work) (m : ℕ) → o.free m ≡ false → (work_after o op w).ready ≡ true → find_ask (work_after o op w).asks m ≡ find_ask w.asks m
+unasked_op : (o : Around) (op : Op) (w : Work) (m : ℕ)
+    → o.free m ≡ false → (work_after o op w).ready ≡ true → find_ask (work_after o op w).asks m ≡ find_ask w.asks m
 unasked_op o (DelayedRead x n a) w m h r = at (n == m) refl
   where
     no_more : (f : Option ℕ) → or_ask f None ≡ f
@@ -244,7 +255,8 @@ unasked_op o (Verify args) w m h r = at (same_args (values_of args w.env) w.gues
     at false = refl
 unasked_op o _ w m h r = refl
 
-pub unasked : (o : Around) (xs : List Stmt) (w : Work) (m : ℕ) → o.free m ≡ false → (do_all o xs w).ready ≡ true → find_ask (do_all o xs w).asks m ≡ find_ask w.asks m
+pub unasked : (o : Around) (xs : List Stmt) (w : Work) (m : ℕ)
+    → o.free m ≡ false → (do_all o xs w).ready ≡ true → find_ask (do_all o xs w).asks m ≡ find_ask w.asks m
 unasked o [] w m h r = refl
 unasked o (x ∷ xs) w m h r = unasked o xs (step o x w) m h r ∙ at (all_hold x.guards w.env) (was_ready o xs (step o x w) r)
   where
@@ -253,7 +265,8 @@ unasked o (x ∷ xs) w m h r = unasked o xs (step o x w) m h r ∙ at (all_hold 
     at false k = refl
 
 -- a port that older threads hold is held for all younger ones
-held_more : (p : Pipe) (st : State) (bits : List Bool) (a : Act) (older : List Act) (m : ℕ) → port_free p st bits older m ≡ false → port_free p st bits (a ∷ older) m ≡ false
+held_more : (p : Pipe) (st : State) (bits : List Bool) (a : Act) (older : List Act) (m : ℕ)
+    → port_free p st bits older m ≡ false → port_free p st bits (a ∷ older) m ≡ false
 held_more p st bits a older m h = at (is_none (asked_at st m)) (is_answered p bits m) (not (awaits_mem a.before.awaits m) || a.moves) (list_all (λ o. not (awaits_mem o.before.awaits m) || o.moves) older) h
   where
     at : (n b x y : Bool) → (n || (b && y)) ≡ false → (n || (b && (x && y))) ≡ false
@@ -263,7 +276,8 @@ held_more p st bits a older m h = at (is_none (asked_at st m)) (is_answered p bi
     at false true true y k = k
 
 -- where the port of m isn't free for a thread, neither it nor a younger one asks for m
-pub held_port : (p : Pipe) (st : State) (bits : List Bool) (older : List Act) (ts : List Thread) (m : ℕ) → port_free p st bits older m ≡ false → find_ask (asks_of (acts p st bits older ts)) m ≡ None
+pub held_port : (p : Pipe) (st : State) (bits : List Bool) (older : List Act) (ts : List Thread) (m : ℕ)
+    → port_free p st bits older m ≡ false → find_ask (asks_of (acts p st bits older ts)) m ≡ None
 held_port p st bits older [] m h = refl
 held_port p st bits older (t ∷ ts) m h = at (act p st bits older t).moves refl (held_port p st bits (act p st bits older t ∷ older) ts m (held_more p st bits (act p st bits older t) older m h))
   where

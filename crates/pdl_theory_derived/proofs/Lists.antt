@@ -62,7 +62,8 @@ put_foreign n v [] h = refl
 put_foreign n v (x ∷ xs) h = ap₂ (λ b l. (cond b (record x { value = Some v }) x) ∷ l) h.0 (put_foreign n v xs h.1)
 
 -- writes leave others' entries in front, and behind, alone
-put_all_front : (m n : ℕ) (ws : List Machine.Written) (xs ys : List Pending) → Foreign n xs → with_writes_of m n ws (xs ++ ys) ≡ xs ++ with_writes_of m n ws ys
+put_all_front : (m n : ℕ) (ws : List Machine.Written) (xs ys : List Pending) → Foreign n xs
+    → with_writes_of m n ws (xs ++ ys) ≡ xs ++ with_writes_of m n ws ys
 put_all_front m n [] xs ys h = refl
 put_all_front m n (w ∷ ws) xs ys h = at (w.mem == m) (put_all_front m n ws xs (with_value_of n w.value ys) h) (put_all_front m n ws xs ys h)
   where
@@ -71,7 +72,8 @@ put_all_front m n (w ∷ ws) xs ys h = at (w.mem == m) (put_all_front m n ws xs 
     at true f g = ap (with_writes_of m n ws) (put_append n w.value xs ys ∙ ap (λ l. l ++ with_value_of n w.value ys) (put_foreign n w.value xs h)) ∙ f
     at false f g = g
 
-put_all_back : (m n : ℕ) (ws : List Machine.Written) (xs ys : List Pending) → Foreign n ys → with_writes_of m n ws (xs ++ ys) ≡ with_writes_of m n ws xs ++ ys
+put_all_back : (m n : ℕ) (ws : List Machine.Written) (xs ys : List Pending) → Foreign n ys
+    → with_writes_of m n ws (xs ++ ys) ≡ with_writes_of m n ws xs ++ ys
 put_all_back m n [] xs ys h = refl
 put_all_back m n (w ∷ ws) xs ys h = at (w.mem == m) (put_all_back m n ws (with_value_of n w.value xs) ys h) (put_all_back m n ws xs ys h)
   where
@@ -85,7 +87,8 @@ abbrev pub AllForeign : List Moves.Act → List Pending → Type 0
 AllForeign [] ys = Unit {0}
 AllForeign (a ∷ ms) ys = Foreign a.thread.number ys × AllForeign ms ys
 
-filled_back : (m : ℕ) (ms : List Moves.Act) (xs ys : List Pending) → AllForeign ms ys → with_all_writes m ms (xs ++ ys) ≡ with_all_writes m ms xs ++ ys
+filled_back : (m : ℕ) (ms : List Moves.Act) (xs ys : List Pending) → AllForeign ms ys
+    → with_all_writes m ms (xs ++ ys) ≡ with_all_writes m ms xs ++ ys
 filled_back m [] xs ys h = refl
 filled_back m (a ∷ ms) xs ys h = ap (with_writes_of m a.thread.number a.does.writes) (filled_back m ms xs ys h.1) ∙ put_all_back m a.thread.number a.does.writes (with_all_writes m ms xs) ys h.0
 
@@ -99,15 +102,18 @@ appended_none m [] list h = refl
 appended_none m (a ∷ ms) list h = ap₂ (λ x y. x ++ y) (appended_none m ms list h.1) h.0 ∙ append-nil list
 
 -- entries at the end of a lock's list stay there as threads reserve, if there are none or no thread reserves m
-pub appended_back : (m : ℕ) (ms : List Moves.Act) (xs ys : List Pending) → (ys ≡ []) ⊎ Reserveless m ms → with_reserves m ms (xs ++ ys) ≡ with_reserves m ms xs ++ ys
+pub appended_back : (m : ℕ) (ms : List Moves.Act) (xs ys : List Pending)
+    → (ys ≡ []) ⊎ Reserveless m ms → with_reserves m ms (xs ++ ys) ≡ with_reserves m ms xs ++ ys
 appended_back m ms xs ys (inl e) =
     ap (λ l. with_reserves m ms (xs ++ l)) e ∙ ap (with_reserves m ms) (append-nil xs) ∙ sym (append-nil (with_reserves m ms xs)) ∙ ap (λ l. with_reserves m ms xs ++ l) (sym e)
 appended_back m ms xs ys (inr h) = appended_none m ms (xs ++ ys) h ∙ ap (λ l. l ++ ys) (sym (appended_none m ms xs h))
 
 -- steps 1 and 2 of one more thread, the youngest
-pub two_moved : (m : ℕ) (a : Moves.Act) (ms : List Moves.Act) (xs ys two : List Pending) → (ys ≡ []) ⊎ Reserveless m ms
-    → AllForeign ms (ys ++ new_entries m a.thread.number a.does.reserves) → Foreign a.thread.number two → with_all_writes m ms (with_reserves m ms xs) ≡ two
-    → with_all_writes m (a ∷ ms) (with_reserves m (a ∷ ms) (xs ++ ys)) ≡ two ++ with_writes_of m a.thread.number a.does.writes (ys ++ new_entries m a.thread.number a.does.reserves)
+pub two_moved : (m : ℕ) (a : Moves.Act) (ms : List Moves.Act) (xs ys two : List Pending)
+    → (ys ≡ []) ⊎ Reserveless m ms → AllForeign ms (ys ++ new_entries m a.thread.number a.does.reserves)
+    → Foreign a.thread.number two → with_all_writes m ms (with_reserves m ms xs) ≡ two
+    → with_all_writes m (a ∷ ms) (with_reserves m (a ∷ ms) (xs ++ ys)) ≡ two
+    ++ with_writes_of m a.thread.number a.does.writes (ys ++ new_entries m a.thread.number a.does.reserves)
 two_moved m a ms xs ys two e f g h =
     ap (λ l. with_writes_of m a.thread.number a.does.writes (with_all_writes m ms l))
     (ap (λ l. l ++ new_entries m a.thread.number a.does.reserves) (appended_back m ms xs ys e) ∙ append_assoc (with_reserves m ms xs) ys _)
@@ -115,6 +121,7 @@ two_moved m a ms xs ys two e f g h =
     ∙ put_all_front m a.thread.number a.does.writes two (ys ++ new_entries m a.thread.number a.does.reserves) g
 
 -- entries of no mover at the end of a lock's list stay there as movers reserve and write, if none reserves m
-pub two_stays : (m : ℕ) (ms : List Moves.Act) (xs ys two : List Pending) → (ys ≡ []) ⊎ Reserveless m ms → AllForeign ms ys → with_all_writes m ms (with_reserves m ms xs) ≡ two
+pub two_stays : (m : ℕ) (ms : List Moves.Act) (xs ys two : List Pending)
+    → (ys ≡ []) ⊎ Reserveless m ms → AllForeign ms ys → with_all_writes m ms (with_reserves m ms xs) ≡ two
     → with_all_writes m ms (with_reserves m ms (xs ++ ys)) ≡ two ++ ys
 two_stays m ms xs ys two e f h = ap (with_all_writes m ms) (appended_back m ms xs ys e) ∙ filled_back m ms (with_reserves m ms xs) ys f ∙ ap (λ l. l ++ ys) h

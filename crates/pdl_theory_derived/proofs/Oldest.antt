@@ -47,7 +47,9 @@ abbrev pub HasRoom : Pipe → Type 0
 HasRoom p = (m : ℕ) → has_room (mem_at p m).lock 0 ≡ true
 
 -- a cycle that is no wait answers each outstanding request
-answered_at : (p : Pipe) (bits : List Bool) (k : ℕ) (asked : List (Option ℕ)) (j : ℕ) → waits_from p bits k asked ≡ false → is_some (slice_index_or asked j None) ≡ true → is_answered p bits (k + j) ≡ true
+answered_at : (p : Pipe) (bits : List Bool) (k : ℕ) (asked : List (Option ℕ)) (j : ℕ)
+    → waits_from p bits k asked ≡ false → is_some (slice_index_or asked j None) ≡ true
+    → is_answered p bits (k + j) ≡ true
 answered_at p bits k [] j h i = absurd (cc i)
 answered_at p bits k (None ∷ asked) zero h i = absurd (cc i)
 answered_at p bits k (None ∷ asked) (suc j) h i = subst (λ n. is_answered p bits n ≡ true) (suc-add k j ∙ sym (add-suc k j)) (answered_at p bits (suc k) asked j h i)
@@ -62,7 +64,8 @@ answered_at p bits k (Some a ∷ asked) (suc j) h i = subst (λ n. is_answered p
     rest true g = g
     rest false g = absurd (cc g)
 
-answered_now : (p : Pipe) (st : State) (bits : List Bool) (m : ℕ) → is_wait p st bits ≡ false → is_some (asked_at st m) ≡ true → is_answered p bits m ≡ true
+answered_now : (p : Pipe) (st : State) (bits : List Bool) (m : ℕ)
+    → is_wait p st bits ≡ false → is_some (asked_at st m) ≡ true → is_answered p bits m ≡ true
 answered_now p st bits m h i = subst (λ n. is_answered p bits n ≡ true) (zero-add m) (answered_at p bits 0 st.asked m h i)
 
 -- each awaited read has its request outstanding
@@ -70,7 +73,8 @@ abbrev pub Asked : List (Option ℕ) → List Awaited → Type 0
 Asked asked [] = Unit {0}
 Asked asked (r ∷ rs) = (is_some (slice_index_or asked r.mem None) ≡ true) × Asked asked rs
 
-none_still : (p : Pipe) (st : State) (bits : List Bool) (rs : List Awaited) → is_wait p st bits ≡ false → Asked st.asked rs → is_empty (still p bits rs) ≡ true
+none_still : (p : Pipe) (st : State) (bits : List Bool) (rs : List Awaited)
+    → is_wait p st bits ≡ false → Asked st.asked rs → is_empty (still p bits rs) ≡ true
 none_still p st bits [] h a = refl
 none_still p st bits (r ∷ rs) h a =
     ap (λ b. is_empty (cond b (still p bits rs) (r ∷ still p bits rs))) (answered_now p st bits r.mem h a.0) ∙ none_still p st bits rs h a.1
@@ -95,7 +99,8 @@ enter_alone p None = refl
 enter_alone p (Some q) = fork_alone p (stage_at p q).merges
 
 -- the oldest thread moves
-pub oldest : (p : Pipe) (st : State) (bits : List Bool) (t : Thread) → HasRoom p → Asked st.asked t.awaits → is_wait p st bits ≡ false → (act p st bits [] t).moves ≡ true
+pub oldest : (p : Pipe) (st : State) (bits : List Bool) (t : Thread) → HasRoom p → Asked st.asked t.awaits
+    → is_wait p st bits ≡ false → (act p st bits [] t).moves ≡ true
 oldest p st bits t room a h =
     and_from _ _
     (and_from _ _ (ready_all (around p st bits [] t.stage) (in_stage t.stage p.stmts) _

@@ -72,7 +72,8 @@ guess_ports : all_true (both_agree (guess 1) (zeros ∷ []) (idle 12) ∷ both_a
 unfolding add slice zext
 guess_ports = refl
 
-delayed_ports : all_true (both_agree copy copied mixed ∷ both_agree copy_guessed copied mixed ∷ both_agree count_slow ((0 ∷ 0 ∷ []) ∷ []) mixed ∷ []) ≡ true
+delayed_ports : all_true (both_agree copy copied mixed ∷ both_agree copy_guessed copied mixed ∷ both_agree count_slow ((0 ∷ 0 ∷ []) ∷ []) mixed ∷ [])
+    ≡ true
 unfolding add slice zext
 delayed_ports = refl
 
@@ -95,15 +96,18 @@ derived_lines p image schedule = lines (columns p.mems) (derived_cycles (columns
 abbrev prints_alike : Tree.Pipe → List (List ℕ) → List (List Bool) → Bool
 prints_alike p image schedule = bytes_eq (derived_lines p image schedule) (run_lines p image schedule)
 
-trunk_lines : all_true (prints_alike one_stage (zeros ∷ []) (idle 17) ∷ prints_alike (count_queue 4) (zeros ∷ []) (idle 10) ∷ prints_alike (count_bypass 4) (zeros ∷ []) (idle 8) ∷ prints_alike (count_rename 4) (zeros ∷ []) (idle 8) ∷ prints_alike two_stages (zeros ∷ []) (idle 3) ∷ prints_alike (count_queue 1) (zeros ∷ []) (idle 8) ∷ prints_alike under_guard (zeros ∷ []) (idle 4) ∷ []) ≡ true
+trunk_lines : all_true (prints_alike one_stage (zeros ∷ []) (idle 17) ∷ prints_alike (count_queue 4) (zeros ∷ []) (idle 10) ∷ prints_alike (count_bypass 4) (zeros ∷ []) (idle 8) ∷ prints_alike (count_rename 4) (zeros ∷ []) (idle 8) ∷ prints_alike two_stages (zeros ∷ []) (idle 3) ∷ prints_alike (count_queue 1) (zeros ∷ []) (idle 8) ∷ prints_alike under_guard (zeros ∷ []) (idle 4) ∷ [])
+    ≡ true
 unfolding digits add slice zext
 trunk_lines = refl
 
-guess_lines : all_true (prints_alike (guess 1) (zeros ∷ []) (idle 5) ∷ prints_alike (guess 2) (zeros ∷ []) (idle 9) ∷ prints_alike (guess_reserved 2) (zeros ∷ []) (idle 9) ∷ prints_alike barrier (zeros ∷ []) (idle 3) ∷ []) ≡ true
+guess_lines : all_true (prints_alike (guess 1) (zeros ∷ []) (idle 5) ∷ prints_alike (guess 2) (zeros ∷ []) (idle 9) ∷ prints_alike (guess_reserved 2) (zeros ∷ []) (idle 9) ∷ prints_alike barrier (zeros ∷ []) (idle 3) ∷ [])
+    ≡ true
 unfolding digits add slice zext
 guess_lines = refl
 
-delayed_lines : all_true (prints_alike copy copied (bits (0 ∷ 0 ∷ 0 ∷ 1 ∷ 1 ∷ 1 ∷ [])) ∷ prints_alike copy_guessed copied (bits (1 ∷ 1 ∷ 0 ∷ 0 ∷ 1 ∷ 1 ∷ 1 ∷ [])) ∷ prints_alike copy_guessed copied (bits (1 ∷ 1 ∷ 0 ∷ 1 ∷ 1 ∷ 1 ∷ [])) ∷ prints_alike count_slow ((0 ∷ 0 ∷ []) ∷ []) (bits (1 ∷ 1 ∷ 1 ∷ 1 ∷ 1 ∷ 1 ∷ [])) ∷ []) ≡ true
+delayed_lines : all_true (prints_alike copy copied (bits (0 ∷ 0 ∷ 0 ∷ 1 ∷ 1 ∷ 1 ∷ [])) ∷ prints_alike copy_guessed copied (bits (1 ∷ 1 ∷ 0 ∷ 0 ∷ 1 ∷ 1 ∷ 1 ∷ [])) ∷ prints_alike copy_guessed copied (bits (1 ∷ 1 ∷ 0 ∷ 1 ∷ 1 ∷ 1 ∷ [])) ∷ prints_alike count_slow ((0 ∷ 0 ∷ []) ∷ []) (bits (1 ∷ 1 ∷ 1 ∷ 1 ∷ 1 ∷ 1 ∷ [])) ∷ [])
+    ≡ true
 unfolding digits add slice zext
 delayed_lines = refl
 

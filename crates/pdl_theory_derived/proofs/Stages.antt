@@ -45,7 +45,9 @@ rejoined w = λ i. record {
   ready = sym (and-true w.ready) i;
 }
 
-verified_joined : (b : Bool) (args : List ℕ) (w v : Work) → cond b (joined w v) (record (joined w v) { child = Some args; fails = true }) ≡ joined w (cond b v (record v { child = Some args; fails = true }))
+verified_joined : (b : Bool) (args : List ℕ) (w v : Work)
+    → cond b (joined w v) (record (joined w v) { child = Some args; fails = true })
+    ≡ joined w (cond b v (record v { child = Some args; fails = true }))
 verified_joined true args w v = refl
 verified_joined false args w v = refl
 
@@ -66,7 +68,8 @@ abbrev pub step : Around → Stmt → Work → Work
 step o x w = if all_hold x.guards w.env then work_after o x.op w else w
 
 -- a statement, done or not, does the same behind the work of earlier stages
-pub step_joined : (b : Bool) (o : Around) (op : Op) (w v : Work) → cond b (work_after o op (joined w v)) (joined w v) ≡ joined w (cond b (work_after o op v) v)
+pub step_joined : (b : Bool) (o : Around) (op : Op) (w v : Work)
+    → cond b (work_after o op (joined w v)) (joined w v) ≡ joined w (cond b (work_after o op v) v)
 step_joined true o op w v = does_joined o op w v
 step_joined false o op w v = refl
 
@@ -121,7 +124,9 @@ cond_same true = refl
 cond_same false = refl
 
 -- a statement whose conditions hold and whose reads are right does what it does alone
-pub does_same : (o : Around) (arrays : Arrays) (op : Op) (w : Work) → (work_after o op w).ready ≡ true → ReadsRight o arrays op w.env → work_after o op w ≡ work_after (alone arrays) op w
+pub does_same : (o : Around) (arrays : Arrays) (op : Op) (w : Work)
+    → (work_after o op w).ready ≡ true → ReadsRight o arrays op w.env
+    → work_after o op w ≡ work_after (alone arrays) op w
 does_same o arrays (CombRead x m a) w h r = λ i. record w { env = slice_set w.env x (r i) }
 does_same o arrays (DelayedRead x m a) w h r = absurd r
 does_same o arrays (ReserveWrite m a) w h r = λ i. record (work_after o (ReserveWrite m a) w) { ready = ready_same w.ready (o.room m) true h refl i }

@@ -47,6 +47,7 @@ and_right true c e = e
 and_right false c e = cc
 
 -- the arrays after two lists of writes are those after the one and then the other
-pub committed_append : (xs ys : List Commit) (arrays : Arrays) → after_commits arrays (xs ++ ys) ≡ after_commits (after_commits arrays xs) ys
+pub committed_append : (xs ys : List Commit) (arrays : Arrays)
+    → after_commits arrays (xs ++ ys) ≡ after_commits (after_commits arrays xs) ys
 committed_append [] ys arrays = refl
 committed_append (x ∷ xs) ys arrays = committed_append xs ys (with_word arrays x.mem x.address x.value)

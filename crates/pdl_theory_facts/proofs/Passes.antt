@@ -35,7 +35,9 @@ reads_of : (p : Pipe) (xs : List Stmt) → path_passes p xs ≡ true → reads_o
 reads_of p xs ok =
     and_left _ _ (and_right (list_all (λ x. knows_memory (length p.mems) x.op) xs) _ (and_right (list_all (λ x. nat_lt x.stage (length p.stages)) xs) _ (and_right (in_text_order 0 xs) _ ok)))
 
-each_passes : (p : Pipe) → on_paths (guard_vars p.stmts) (path_passes p) p.stmts ≡ true → (path : List ℕ) → path_passes p (onpath path p.stmts) ≡ true
+each_passes : (p : Pipe)
+    → on_paths (guard_vars p.stmts) (path_passes p) p.stmts ≡ true → (path : List ℕ)
+    → path_passes p (onpath path p.stmts) ≡ true
 each_passes p ok path = on_each_path p no_scan (guard_vars p.stmts) (path_passes p) p.stmts path (reads_of p) ok
 
 module _ (p : Pipe) (h : Parts p) where

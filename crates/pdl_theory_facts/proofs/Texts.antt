@@ -58,7 +58,8 @@ none_before s l (x ∷ xs) h k =
     ∙ none_before s x.stage xs (and_right _ _ h) (omega arith)
 
 -- statements in order before stage s + 1 are those before s and those of s, where no read is delayed
-pub pieces : (s l : ℕ) (xs : List Stmt) → in_text_order l xs ≡ true → none_of is_fetch xs ≡ true → before (suc s) xs ≡ before s xs ++ in_stage s xs
+pub pieces : (s l : ℕ) (xs : List Stmt)
+    → in_text_order l xs ≡ true → none_of is_fetch xs ≡ true → before (suc s) xs ≡ before s xs ++ in_stage s xs
 pieces s l [] h f = refl
 pieces s l (x ∷ xs) h f = at (nat_lt x.stage (suc s)) (nat_lt x.stage s) (x.stage == s) refl refl refl (pieces s x.stage xs (and_right _ _ h) (and_right _ _ f))
   where
@@ -153,7 +154,9 @@ no_release_op m n (Release k a) h low = ap not (apart m n k h low)
 no_release_op m n _ h low = refl
 
 -- a kind that no statement on the first n memories is has none where the statements know only these
-pub none_known : (test : Op → Bool) (n : ℕ) (xs : List Stmt) → ((op : Op) → knows_memory n op ≡ true → not (test op) ≡ true) → list_all (λ x. knows_memory n x.op) xs ≡ true → none_of test xs ≡ true
+pub none_known : (test : Op → Bool) (n : ℕ) (xs : List Stmt)
+    → ((op : Op) → knows_memory n op ≡ true → not (test op) ≡ true) → list_all (λ x. knows_memory n x.op) xs ≡ true
+    → none_of test xs ≡ true
 none_known test n [] f h = refl
 none_known test n (x ∷ xs) f h = and_from _ _ (f x.op (and_left (knows_memory n x.op) _ h)) (none_known test n xs f (and_right (knows_memory n x.op) _ h))
 
@@ -165,7 +168,9 @@ no_reserve m n xs h low = none_known (is_reserve m) n xs (λ op k. no_reserve_op
 pub no_release : (m n : ℕ) (xs : List Stmt) → list_all (λ x. knows_memory n x.op) xs ≡ true → n ≤ m → none_of (is_release m) xs ≡ true
 no_release m n xs h low = none_known (is_release m) n xs (λ op k. no_release_op m n op k low) h
 
-fresh_op : (p : Pipe) (s m n : ℕ) (c : Scan) (op : Op) → knows_memory n op ≡ true → op_ok p s c op ≡ true → n ≤ m → (phase_ok m Fresh op ≡ true) × (next_phase m Fresh op ≡ Fresh)
+fresh_op : (p : Pipe) (s m n : ℕ) (c : Scan) (op : Op)
+    → knows_memory n op ≡ true → op_ok p s c op ≡ true → n ≤ m
+    → (phase_ok m Fresh op ≡ true) × (next_phase m Fresh op ≡ Fresh)
 fresh_op p s m n c (CombRead x j a) h k low = (or_right (not (j == m)) true refl, refl)
 fresh_op p s m n c (DelayedRead x j a) h k low = absurd (cc k)
 fresh_op p s m n c (Write j a e) h k low = (ap (λ b. not b || false) (apart m n j h low), ap (λ b. cond b (Scans.Written a) Fresh) (apart m n j h low))
@@ -174,7 +179,8 @@ fresh_op p s m n c (Release j a) h k low = (or_right (not (j == m)) true refl, a
 fresh_op p s m n c _ h k low = (refl, refl)
 
 -- a memory past the first n stays in its first phase where the statements know only these
-pub stays_fresh : (p : Pipe) (m n : ℕ) (c : Scan) (xs : List Stmt) → list_all (λ x. knows_memory n x.op) xs ≡ true → reads_ok p c xs ≡ true → n ≤ m
+pub stays_fresh : (p : Pipe) (m n : ℕ) (c : Scan) (xs : List Stmt)
+    → list_all (λ x. knows_memory n x.op) xs ≡ true → reads_ok p c xs ≡ true → n ≤ m
     → (phases_ok m Fresh xs ≡ true) × (phase_all m Fresh xs ≡ Fresh)
 stays_fresh p m n c [] h k low = (refl, refl)
 stays_fresh p m n c (x ∷ xs) h k low =
@@ -194,7 +200,8 @@ side_alike true b v h = h ∙ plain b
     plain b = refl
 side_alike false b v h = ap not h
 
-taken_split : (g : ℕ) (b : Bool) (hs : List Guard) (env : List ℕ) → (slice_index env g == 1) ≡ b → all_hold hs env ≡ (agrees_with g b hs && all_hold (without g hs) env)
+taken_split : (g : ℕ) (b : Bool) (hs : List Guard) (env : List ℕ)
+    → (slice_index env g == 1) ≡ b → all_hold hs env ≡ (agrees_with g b hs && all_hold (without g hs) env)
 taken_split g b [] env e = refl
 taken_split g b (h ∷ hs) env e = at (h.var == g) refl (taken_split g b hs env e)
   where
@@ -238,8 +245,9 @@ unguarded p c (x ∷ xs) env h =
     ∙ ap₂ (λ gs ys. record x { guards = gs } ∷ ys) (sym none) (unguarded p (scan_after x.op c) xs env (and_right (no_guards x.guards && op_ok p x.stage c x.op) _ h))
 
 -- what holds on all paths that are tried holds on each path
-pub on_each_path : (p : Pipe) (c : Scan) (gs : List ℕ) (test : List Stmt → Bool) (xs : List Stmt) (env : List ℕ) → ((ys : List Stmt) → test ys ≡ true → reads_ok p c ys ≡ true)
-    → on_paths gs test xs ≡ true → test (onpath env xs) ≡ true
+pub on_each_path : (p : Pipe) (c : Scan) (gs : List ℕ) (test : List Stmt → Bool) (xs : List Stmt) (env : List ℕ)
+    → ((ys : List Stmt) → test ys ≡ true → reads_ok p c ys ≡ true) → on_paths gs test xs ≡ true
+    → test (onpath env xs) ≡ true
 on_each_path p c [] test xs env f h = subst (λ ys. test ys ≡ true) (sym (unguarded p c xs env (f xs h))) h
 on_each_path p c (g ∷ gs) test xs env f h =
     at (slice_index env g == 1) refl

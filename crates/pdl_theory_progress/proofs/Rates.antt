@@ -53,7 +53,8 @@ unpicked path (y ∷ ys) e x h =
     and_second false k = k
 
 -- a guard among these has the truth value that the path gives it, in the values picked for the path
-pub picked : (path xs e : List ℕ) (x : ℕ) → x < length e → among x xs ≡ true → (slice_index (picks path xs e) x == 1) ≡ (slice_index path x == 1)
+pub picked : (path xs e : List ℕ) (x : ℕ)
+    → x < length e → among x xs ≡ true → (slice_index (picks path xs e) x == 1) ≡ (slice_index path x == 1)
 picked path [] e x low h = absurd (cc h)
 picked path (y ∷ ys) e x low h = at (among x ys) refl (y == x) refl h (picked path ys (slice_set e y (if slice_index path y == 1 then 1 else 0)) x (subst (λ n. x < n) (sym (length-set e y (if slice_index path y == 1 then 1 else 0))) low))
   where
@@ -101,7 +102,9 @@ fork_among (y ∷ ys) (suc s) x a b e = among_append x (guard_of_fork y.next) (f
     or_true false k = k
 
 -- paths that agree on forks have the same stages
-same_way : (p : Pipe) (e path : List ℕ) → ((s x a b : ℕ) → (stage_at p s).next ≡ Forks x a b → (slice_index e x == 1) ≡ (slice_index path x == 1)) → (limit s : ℕ) → stages_on p e limit s ≡ stages_on p path limit s
+same_way : (p : Pipe) (e path : List ℕ)
+    → ((s x a b : ℕ) → (stage_at p s).next ≡ Forks x a b → (slice_index e x == 1) ≡ (slice_index path x == 1))
+    → (limit s : ℕ) → stages_on p e limit s ≡ stages_on p path limit s
 same_way p e path f zero s = refl
 same_way p e path f (suc limit) s = ap suc (at (stage_at p s).next refl (same_way p e path f limit))
   where

@@ -67,7 +67,9 @@ is_same o c e = ap (λ x. same_branch x c) e ∙ ap₂ (λ a b. a && b) (eq-eqb 
 
 -- READS AT ONCE
 
-all_looked : (test : Op → Bool) → ((op : Op) → test (answered_op op) ≡ test op) → (c : ℕ) (xs : List Stmt) → all_at test c (looked_all xs) ≡ all_at test c xs
+all_looked : (test : Op → Bool)
+    → ((op : Op) → test (answered_op op) ≡ test op) → (c : ℕ) (xs : List Stmt)
+    → all_at test c (looked_all xs) ≡ all_at test c xs
 all_looked test f c [] = refl
 all_looked test f c (x ∷ xs) = ap₂ (λ b d. (not b || (x.stage == c)) && d) (f x.op) (all_looked test f c xs)
 

@@ -36,14 +36,16 @@ all_picks test path (g ∷ gs) e h = at (slice_index path g == 1) (all_picks tes
 abbrev pub Agree : List ℕ → List ℕ → List ℕ → Type 0
 Agree gs e f = (g : ℕ) → among g gs ≡ true → (slice_index e g == 1) ≡ (slice_index f g == 1)
 
-pub taken_agree : (gs : List ℕ) (e f : List ℕ) (hs : List Guard) → Agree gs e f → ((g : ℕ) → among g (vars_of hs) ≡ true → among g gs ≡ true) → all_hold hs e ≡ all_hold hs f
+pub taken_agree : (gs : List ℕ) (e f : List ℕ) (hs : List Guard) → Agree gs e f
+    → ((g : ℕ) → among g (vars_of hs) ≡ true → among g gs ≡ true) → all_hold hs e ≡ all_hold hs f
 taken_agree gs e f [] a i = refl
 taken_agree gs e f (h ∷ hs) a i =
     ap₂ (λ b c. b && c) (ap (λ b. if h.first then b else not b) (a h.var (i h.var (ap (λ b. b || among h.var (vars_of hs)) (eq-eqb h.var h.var refl)))))
     (taken_agree gs e f hs a (λ g k. i g (or_more (h.var == g) k)))
 
 -- paths that agree on all guards of some statements take the same of them
-pub path_agree : (gs : List ℕ) (e f : List ℕ) (xs : List Stmt) → Agree gs e f → ((g : ℕ) → among g (guard_vars xs) ≡ true → among g gs ≡ true) → onpath e xs ≡ onpath f xs
+pub path_agree : (gs : List ℕ) (e f : List ℕ) (xs : List Stmt) → Agree gs e f
+    → ((g : ℕ) → among g (guard_vars xs) ≡ true → among g gs ≡ true) → onpath e xs ≡ onpath f xs
 path_agree gs e f [] a i = refl
 path_agree gs e f (x ∷ xs) a i =
     ap₂ (λ b l. cond b (record x { guards = [] } ∷ l) l) (taken_agree gs e f x.guards a (λ g k. i g (among_append g (vars_of x.guards) (guard_vars xs) ∙ ap (λ b. b || among g (guard_vars xs)) k)))
@@ -87,7 +89,8 @@ agree_picks path gs e h g k = picked path gs e g (below gs h k) k
 
 -- GUARDS THAT A STAGE'S DELAYED READS DON'T DECIDE
 
-taken_other : (ys : List Stmt) (gs : List Guard) (env env' : List ℕ) → DifferIn ys env env' → all_hold (unfetched_guards ys gs) env' ≡ all_hold (unfetched_guards ys gs) env
+taken_other : (ys : List Stmt) (gs : List Guard) (env env' : List ℕ) → DifferIn ys env env'
+    → all_hold (unfetched_guards ys gs) env' ≡ all_hold (unfetched_guards ys gs) env
 taken_other ys [] env env' d = refl
 taken_other ys (g ∷ gs) env env' d = at (none_of (is_fetch_of g.var) ys) refl (taken_other ys gs env env' d)
   where
@@ -120,7 +123,9 @@ fewer_among g ys (x ∷ gs) h = at (none_of (is_fetch_of x.var) ys) h (fewer_amo
     at false k go = or_more (x.var == g) (go k)
 
 -- values that differ in what some statements read delayed take the same of others that don't hang on that
-pub hangs_none : (gs : List ℕ) (path env env' : List ℕ) (ys zs : List Stmt) → Agree gs path env → ((g : ℕ) → among g (guard_vars zs) ≡ true → among g gs ≡ true) → DifferIn ys env env' → none_hangs path ys zs ≡ true → onpath env' zs ≡ onpath env zs
+pub hangs_none : (gs : List ℕ) (path env env' : List ℕ) (ys zs : List Stmt) → Agree gs path env
+    → ((g : ℕ) → among g (guard_vars zs) ≡ true → among g gs ≡ true) → DifferIn ys env env'
+    → none_hangs path ys zs ≡ true → onpath env' zs ≡ onpath env zs
 hangs_none gs path env env' ys [] a i d h = refl
 hangs_none gs path env env' ys (z ∷ zs) a i d h =
     ap₂ (λ b l. cond b (record z { guards = [] } ∷ l) l)

@@ -40,14 +40,16 @@ abbrev pub Now : Writes → Writes → Writes → List Act → Type 0
 Now past past' d these = (m : ℕ) → past' m ≡ past m ++ (d m ++ of_mem m (commits_of these))
 
 -- the commits split where the first thread's commits are told apart
-pub now_moved : (past past' d : Writes) (a : Act) (rest : List Act) → a.moves ≡ true → Now past past' d (a ∷ rest) → Now past past' (λ m. d m ++ of_mem m a.work.commits) rest
+pub now_moved : (past past' d : Writes) (a : Act) (rest : List Act)
+    → a.moves ≡ true → Now past past' d (a ∷ rest) → Now past past' (λ m. d m ++ of_mem m a.work.commits) rest
 now_moved past past' d a rest h now m =
     now m ∙ ap (λ k. past m ++ (d m ++ of_mem m (cond k (a.work.commits ++ commits_of rest) (commits_of rest)))) h
     ∙ ap (λ l. past m ++ (d m ++ l)) (of_mem_append m a.work.commits (commits_of rest))
     ∙ ap (λ l. past m ++ l) (sym (append_assoc (d m) (of_mem m a.work.commits) (of_mem m (commits_of rest))))
 
 -- where the first thread stands, the commits of a cycle are those of the threads behind it
-pub now_stays : (past past' d : Writes) (a : Act) (rest : List Act) → a.moves ≡ false → Now past past' d (a ∷ rest) → Now past past' (λ m. d m ++ []) rest
+pub now_stays : (past past' d : Writes) (a : Act) (rest : List Act)
+    → a.moves ≡ false → Now past past' d (a ∷ rest) → Now past past' (λ m. d m ++ []) rest
 now_stays past past' d a rest h now m =
     now m ∙ ap (λ k. past m ++ (d m ++ of_mem m (cond k (a.work.commits ++ commits_of rest) (commits_of rest)))) h
     ∙ ap (λ l. past m ++ (l ++ of_mem m (commits_of rest))) (sym (append-nil (d m)))

@@ -6,7 +6,9 @@ use Rattle.pdl_theory_derived.proofs.Writes.{of_mem_append}
 use Rattle.pdl_semantics.proofs.Facts.{turn_front}
 
 -- one more turn's writes
-pub writes_more : (p : Pipe) (k : ℕ) (arrays : Arrays) (args : List ℕ) → writes_from p (suc k) arrays args ≡ writes_from p k arrays args ++ (thread p (turn_at p arrays args k).arrays (turn_at p arrays args k).next).writes
+pub writes_more : (p : Pipe) (k : ℕ) (arrays : Arrays) (args : List ℕ)
+    → writes_from p (suc k) arrays args ≡ writes_from p k arrays args
+    ++ (thread p (turn_at p arrays args k).arrays (turn_at p arrays args k).next).writes
 writes_more p zero arrays args = append-nil (thread p arrays args).writes
 writes_more p (suc k) arrays args =
     let h = turn_front p k arrays args in
@@ -15,7 +17,9 @@ writes_more p (suc k) arrays args =
     ∙ ap₂ (λ a g. ((thread p arrays args).writes ++ writes_from p k (thread p arrays args).arrays (thread p arrays args).next) ++ (thread p a g).writes) (sym h.0) (sym h.1)
 
 -- the writes of k + j turns are those of k turns and then those of the j turns after them
-pub writes_add : (p : Pipe) (k j : ℕ) (arrays : Arrays) (args : List ℕ) → writes_from p (k + j) arrays args ≡ writes_from p k arrays args ++ writes_from p j (turn_at p arrays args k).arrays (turn_at p arrays args k).next
+pub writes_add : (p : Pipe) (k j : ℕ) (arrays : Arrays) (args : List ℕ)
+    → writes_from p (k + j) arrays args ≡ writes_from p k arrays args
+    ++ writes_from p j (turn_at p arrays args k).arrays (turn_at p arrays args k).next
 writes_add p k zero arrays args = ap (λ n. writes_from p n arrays args) (add-zero k) ∙ sym (append-nil (writes_from p k arrays args))
 writes_add p k (suc j) arrays args =
     ap (λ n. writes_from p n arrays args) (add-suc k j ∙ sym (suc-add k j))
@@ -24,7 +28,9 @@ writes_add p k (suc j) arrays args =
     ∙ append_assoc (writes_from p k arrays args) _ _
 
 -- the writes to m of fewer turns are a prefix of those of more
-pub longer : (p : Pipe) (m n j k : ℕ) (image : Arrays) (args : List ℕ) → j ≤ k → (rest : List Commit) × (of_mem m (writes_from p (n + j) image args) ++ rest ≡ of_mem m (writes_from p (n + k) image args))
+pub longer : (p : Pipe) (m n j k : ℕ) (image : Arrays) (args : List ℕ)
+    → j ≤ k
+    → (rest : List Commit) × (of_mem m (writes_from p (n + j) image args) ++ rest ≡ of_mem m (writes_from p (n + k) image args))
 longer p m n j k image args h = (
   of_mem m (writes_from p (k - j) (turn_at p image args (n + j)).arrays (turn_at p image args (n + j)).next),
   sym (of_mem_append m (writes_from p (n + j) image args) _) ∙ ap (of_mem m) (sym (writes_add p (n + j) (k - j) image args)) ∙ ap (λ i. of_mem m (writes_from p i image args)) same,

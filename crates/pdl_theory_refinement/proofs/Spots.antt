@@ -62,7 +62,8 @@ abbrev pub now_spot : Pipe → State → List Bool → Spot → Spot
 now_spot p st bits sp = record { stage = sp.stage; env = with_answers p st bits (awaited_of sp.asks) sp.env; asks = still_asks p bits sp.asks }
 
 -- the thread of a turn on a spot, with this cycle's answers, is its thread on the spot with them
-pub now_seat : (p : Pipe) (st : State) (bits : List Bool) (arrays : Arrays) (args : List ℕ) (sp : Spot) → answered_thread p st bits (seat p arrays args sp) ≡ seat p arrays args (now_spot p st bits sp)
+pub now_seat : (p : Pipe) (st : State) (bits : List Bool) (arrays : Arrays) (args : List ℕ) (sp : Spot)
+    → answered_thread p st bits (seat p arrays args sp) ≡ seat p arrays args (now_spot p st bits sp)
 now_seat p st bits arrays args sp =
     ap (λ l. record {
       stage = sp.stage;

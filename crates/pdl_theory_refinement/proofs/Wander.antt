@@ -19,7 +19,8 @@ pub record StraysAfter (p : Pipe) (stray : Thread → Type 0) (made : Thread →
   pub ended : list_any (λ a. a.moves && is_none (exit_of p a)) these ≡ false
   pub same : nobody (survivors p these) ≡ none
 
-ahead_next : (p : Pipe) (v : ℕ) (older : List Act) (bound bound' s s' : ℕ) (a : Act) → Ahead p v older bound bound' → s ≤ v → Below p bound s → s ≤ s' → a.before.stage ≡ s → (a.moves ≡ true → s < s') → Ahead p v (a ∷ older) s s'
+ahead_next : (p : Pipe) (v : ℕ) (older : List Act) (bound bound' s s' : ℕ) (a : Act) → Ahead p v older bound bound'
+    → s ≤ v → Below p bound s → s ≤ s' → a.before.stage ≡ s → (a.moves ≡ true → s < s') → Ahead p v (a ∷ older) s s'
 ahead_next p v older bound bound' s s' a h low b up is moved =
     record { low = low; enter = enter_next p older a s s' is moved; grows = up; unclear = λ r k t. none _ _ (h.unclear r (b r t (le_of_lt k)) t) }
   where
@@ -44,8 +45,9 @@ stray_stands p f a rest bound' none stays s low made r =
 
 -- one that moves
 stray_moves : (p : Pipe) (f : Course p) (t : Thread) (a : Act) (rest : List Act) (bound' n : ℕ) (none : Bool)
-    → a.moves ≡ true → Strayed p f.stray f.made t a.work → exit_of p a ≡ Some n → n ≡ next_of p t.stage a.work.env → 0 < n → Below p bound' n → f.made t ≡ not none
-    → StraysAfter p f.stray f.made n none rest → StraysAfter p f.stray f.made bound' false (a ∷ rest)
+    → a.moves ≡ true → Strayed p f.stray f.made t a.work → exit_of p a ≡ Some n → n ≡ next_of p t.stage a.work.env
+    → 0 < n → Below p bound' n → f.made t ≡ not none → StraysAfter p f.stray f.made n none rest
+    → StraysAfter p f.stray f.made bound' false (a ∷ rest)
 stray_moves p f t a rest bound' n none goes h out is more low made r =
     record {
       commits = ap (λ b. cond b (a.work.commits ++ commits_of rest) (commits_of rest)) goes ∙ ap₂ (λ x y. x ++ y) h.commits r.commits;
@@ -98,8 +100,11 @@ none_left [] h = refl
 none_left (r ∷ rs) h = absurd (cc h)
 
 -- a cycle of the threads after a wrong guess
-pub strays_cycle : (p : Pipe) (f : Course p) → verify_stage p.stmts ≡ Some f.v → (st : State) (bits : List Bool) (older : List Act) (bound bound' : ℕ) (ts : List Thread)
-    → Ahead p f.v older bound bound' → Strays p f.stray f.made bound ts → StraysAfter p f.stray f.made bound' (nobody ts) (acts p st bits older ts)
+pub strays_cycle : (p : Pipe) (f : Course p)
+    → verify_stage p.stmts ≡ Some f.v
+    → (st : State) (bits : List Bool) (older : List Act) (bound bound' : ℕ) (ts : List Thread)
+    → Ahead p f.v older bound bound' → Strays p f.stray f.made bound ts
+    → StraysAfter p f.stray f.made bound' (nobody ts) (acts p st bits older ts)
 strays_cycle p f vis st bits older bound bound' [] h s = record { commits = refl; strays = tt; ended = refl; same = refl }
 strays_cycle p f vis st bits older bound bound' (t ∷ ts) h s =
     let i : bound ≤ f.v = h.low in

@@ -48,7 +48,9 @@ early_first s (x ∷ xs) z zs h = at (nat_lt x.stage s) refl h (early_first s xs
     at false e i f = f i
 
 -- reads at once stand where the delayed reads stand
-order_looked : (s : ℕ) (xs : List Stmt) → looked_all xs ≡ before s (looked_all xs) ++ stages_from s (looked_all xs) → xs ≡ stages_before s xs ++ stages_from s xs
+order_looked : (s : ℕ) (xs : List Stmt)
+    → looked_all xs ≡ before s (looked_all xs) ++ stages_from s (looked_all xs)
+    → xs ≡ stages_before s xs ++ stages_from s xs
 order_looked s [] h = refl
 order_looked s (x ∷ xs) h = at (nat_lt x.stage s) refl (nat_le s x.stage) refl h (order_looked s xs)
   where
@@ -89,7 +91,9 @@ fewer s q (x ∷ xs) low = at (nat_lt x.stage s) refl (nat_lt x.stage q) refl (f
     at false d true e r = omega arith
     at false d false e r = r
 
-apart_stages : (path : List ℕ) (s q : ℕ) (xs : List Stmt) → suc s ≤ q → before q (onpath path xs) ≡ before (suc s) (onpath path xs) → AllOf (λ z. all_hold z.guards path ≡ true → (z.stage ≤ s) ⊎ (q ≤ z.stage)) xs
+apart_stages : (path : List ℕ) (s q : ℕ) (xs : List Stmt)
+    → suc s ≤ q → before q (onpath path xs) ≡ before (suc s) (onpath path xs)
+    → AllOf (λ z. all_hold z.guards path ≡ true → (z.stage ≤ s) ⊎ (q ≤ z.stage)) xs
 apart_stages path s q [] low h = tt
 apart_stages path s q (x ∷ xs) low h = at (all_hold x.guards path) refl h (apart_stages path s q xs low)
   where
@@ -110,7 +114,8 @@ apart_stages path s q (x ∷ xs) low h = at (all_hold x.guards path) refl h (apa
 
 -- GUARDS
 
-late_each : (z : Stmt) (ys : List Stmt) → late_for z ys ≡ true → AllOf (λ y. binds_guard y.op z.guards ≡ true → DefinedBy y.stage y.op z.stage) ys
+late_each : (z : Stmt) (ys : List Stmt)
+    → late_for z ys ≡ true → AllOf (λ y. binds_guard y.op z.guards ≡ true → DefinedBy y.stage y.op z.stage) ys
 late_each z [] h = tt
 late_each z (y ∷ ys) h = (one (binds_guard y.op z.guards) (and_left (not (binds_guard y.op z.guards) || defined_by y.stage y.op z.stage) _ h), late_each z ys (and_right (not (binds_guard y.op z.guards) || defined_by y.stage y.op z.stage) _ h))
   where
@@ -123,7 +128,9 @@ late_each z (y ∷ ys) h = (one (binds_guard y.op z.guards) (and_left (not (bind
     one false k e = absurd (clash e)
 
 -- a definition that stands in no later stage, and if it is a delayed read not in this one
-fork_each : (x s : ℕ) (xs : List Stmt) → none_of (binds_var x) (stages_from (suc s) xs) ≡ true → none_of (is_fetch_of x) (in_stage s xs) ≡ true → AllOf (λ y. binds_var x y.op ≡ true → DefinedBy y.stage y.op s) xs
+fork_each : (x s : ℕ) (xs : List Stmt)
+    → none_of (binds_var x) (stages_from (suc s) xs) ≡ true → none_of (is_fetch_of x) (in_stage s xs) ≡ true
+    → AllOf (λ y. binds_var x y.op ≡ true → DefinedBy y.stage y.op s) xs
 fork_each x s [] h k = tt
 fork_each x s (y ∷ ys) h k = at (nat_le (suc s) y.stage) refl (y.stage == s) refl h k (fork_each x s ys)
   where
@@ -188,7 +195,9 @@ like_none x m (y ∷ ys) h = ap₂ (λ a b. a && b) (one y.op (and_left (Rattle.
     one _ k = refl
 
 -- at most one read of a memory, where they stand in one stage and differ there
-one_there : (m s : ℕ) (xs : List Stmt) → AllOf (λ y. is_delayed_read m y.op ≡ true → y.stage ≡ s) xs → fetch_apart (in_stage s xs) ≡ true → at_most_one (is_delayed_read m) xs ≡ true
+one_there : (m s : ℕ) (xs : List Stmt)
+    → AllOf (λ y. is_delayed_read m y.op ≡ true → y.stage ≡ s) xs → fetch_apart (in_stage s xs) ≡ true
+    → at_most_one (is_delayed_read m) xs ≡ true
 one_there m s [] h k = refl
 one_there m s (x ∷ xs) h k = at (is_delayed_read m x.op) refl (one_there m s xs h.1)
   where

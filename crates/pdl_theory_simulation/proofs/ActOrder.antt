@@ -35,7 +35,8 @@ or_swap false true c = refl
 or_swap false false c = refl
 
 -- writes into two threads' entries
-put_swap : (n v k w : ℕ) (xs : List Pending) → (n ≡ k → ⊥) → with_value_of n v (with_value_of k w xs) ≡ with_value_of k w (with_value_of n v xs)
+put_swap : (n v k w : ℕ) (xs : List Pending)
+    → (n ≡ k → ⊥) → with_value_of n v (with_value_of k w xs) ≡ with_value_of k w (with_value_of n v xs)
 put_swap n v k w [] h = refl
 put_swap n v k w (e ∷ es) h = ap₂ (λ a l. a ∷ l) (at (e.thread == n) refl (e.thread == k) refl) (put_swap n v k w es h)
   where
@@ -59,7 +60,8 @@ put_swap n v k w (e ∷ es) h = ap₂ (λ a l. a ∷ l) (at (e.thread == n) refl
         ∙ sym ((λ u. if (cond (i u) (record e { value = Some v }) e).thread == k then record (cond (i u) (record e { value = Some v }) e) { value = Some w } else (cond (i u) (record e { value = Some v }) e))
         ∙ ap (λ b. cond b (record e { value = Some w }) e) j)
 
-put_all_put : (m n k w : ℕ) (ws : List Machine.Written) (xs : List Pending) → (n ≡ k → ⊥) → with_writes_of m n ws (with_value_of k w xs) ≡ with_value_of k w (with_writes_of m n ws xs)
+put_all_put : (m n k w : ℕ) (ws : List Machine.Written) (xs : List Pending)
+    → (n ≡ k → ⊥) → with_writes_of m n ws (with_value_of k w xs) ≡ with_value_of k w (with_writes_of m n ws xs)
 put_all_put m n k w [] xs h = refl
 put_all_put m n k w (x ∷ ws) xs h = at (x.mem == m) (λ ys. put_all_put m n k w ws ys h)
   where
@@ -67,7 +69,8 @@ put_all_put m n k w (x ∷ ws) xs h = at (x.mem == m) (λ ys. put_all_put m n k 
     at true f = ap (with_writes_of m n ws) (put_swap n x.value k w xs h) ∙ f (with_value_of n x.value xs)
     at false f = f xs
 
-put_all_swap : (m n k : ℕ) (ws vs : List Machine.Written) (xs : List Pending) → (n ≡ k → ⊥) → with_writes_of m n ws (with_writes_of m k vs xs) ≡ with_writes_of m k vs (with_writes_of m n ws xs)
+put_all_swap : (m n k : ℕ) (ws vs : List Machine.Written) (xs : List Pending)
+    → (n ≡ k → ⊥) → with_writes_of m n ws (with_writes_of m k vs xs) ≡ with_writes_of m k vs (with_writes_of m n ws xs)
 put_all_swap m n k ws [] xs h = refl
 put_all_swap m n k ws (v ∷ vs) xs h = at (v.mem == m) (λ ys. put_all_swap m n k ws vs ys h)
   where
@@ -103,14 +106,20 @@ or_then_swap a b c (inl e) = ap (λ x. or_then x (or_then b c)) e ∙ sym (ap (�
 or_then_swap a b c (inr e) = ap (λ x. or_then a (or_then x c)) e ∙ sym (ap (λ x. or_then x (or_then a c)) e)
 
 -- a branch's stage reserves nothing and makes no thread
-plain_op : (read : ℕ → ℕ → ℕ) (op : Op) (d : Deeds) → not (trunk_only op) ≡ true → ((Machine.deeds_after read op d).reserves ≡ d.reserves) × ((Machine.deeds_after read op d).child ≡ d.child) × ((Machine.deeds_after read op d).fails ≡ d.fails)
+plain_op : (read : ℕ → ℕ → ℕ) (op : Op) (d : Deeds)
+    → not (trunk_only op) ≡ true
+    → ((Machine.deeds_after read op d).reserves ≡ d.reserves) × ((Machine.deeds_after read op d).child ≡ d.child)
+    × ((Machine.deeds_after read op d).fails ≡ d.fails)
 plain_op read (ReserveWrite m a) d h = absurd (cc h)
 plain_op read (Call args) d h = absurd (cc h)
 plain_op read (SpecCall args) d h = absurd (cc h)
 plain_op read (Verify args) d h = absurd (cc h)
 plain_op read _ d h = (refl, refl, refl)
 
-plain_all : (read : ℕ → ℕ → ℕ) (xs : List Stmt) (d : Deeds) → none_of trunk_only xs ≡ true → ((deeds_after_all read xs d).reserves ≡ d.reserves) × ((deeds_after_all read xs d).child ≡ d.child) × ((deeds_after_all read xs d).fails ≡ d.fails)
+plain_all : (read : ℕ → ℕ → ℕ) (xs : List Stmt) (d : Deeds)
+    → none_of trunk_only xs ≡ true
+    → ((deeds_after_all read xs d).reserves ≡ d.reserves) × ((deeds_after_all read xs d).child ≡ d.child)
+    × ((deeds_after_all read xs d).fails ≡ d.fails)
 plain_all read [] d h = (refl, refl, refl)
 plain_all read (x ∷ xs) d h =
     let r = plain_all read xs (if all_hold x.guards d.env then Machine.deeds_after read x.op d else d) (and_right _ _ h) in

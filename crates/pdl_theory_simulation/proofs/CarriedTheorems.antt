@@ -33,7 +33,8 @@ ended_same p (t ∷ ts) [] h = absurd h
 ended_same p (t ∷ ts) (u ∷ us) h = ap₂ (λ b n. cond b (suc n) n) h.0.ended (ended_same p ts us h.1)
 
 -- the commits to m are the same in the same cycles of both machines
-pub commits_same : (p : Pipe) (m : ℕ) (ts : List Cycle.Turn) (us : List Derived.Turn) → SameTurns p ts us → commits m ts ≡ Derived.commits m us
+pub commits_same : (p : Pipe) (m : ℕ) (ts : List Cycle.Turn) (us : List Derived.Turn) → SameTurns p ts us
+    → commits m ts ≡ Derived.commits m us
 commits_same p m [] [] h = refl
 commits_same p m [] (u ∷ us) h = absurd h
 commits_same p m (t ∷ ts) [] h = absurd h
@@ -59,7 +60,8 @@ not_less a b h = at (nat_lt b a) refl
     at false e = e
 
 -- the older of two comes out in either order
-older_swap : (x y : Moves.Act) (z : Option Moves.Act) → y.thread.number < x.thread.number → older_of y (Some (older_of x z)) ≡ older_of x (Some (older_of y z))
+older_swap : (x y : Moves.Act) (z : Option Moves.Act)
+    → y.thread.number < x.thread.number → older_of y (Some (older_of x z)) ≡ older_of x (Some (older_of y z))
 older_swap x y None h = ap (λ c. if c then x else y) (not_less _ _ h) ∙ sym (ap (λ c. if c then y else x) (lt-ltb _ _ h))
 older_swap x y (Some b) h = at (nat_lt b.thread.number x.thread.number) refl (nat_lt b.thread.number y.thread.number) refl
   where

@@ -70,7 +70,8 @@ fetched_of p s m (r ∷ rs) o h = at (r.mem == m) refl h (λ k. fetched_of p s m
     at false e k f = f k
 
 -- one delayed read statement stands in one stage
-pub one_stage : (test : Op → Bool) (xs : List Stmt) (j k : ℕ) → at_most_one test xs ≡ true → none_of test (in_stage j xs) ≡ false → none_of test (in_stage k xs) ≡ false → j ≡ k
+pub one_stage : (test : Op → Bool) (xs : List Stmt) (j k : ℕ)
+    → at_most_one test xs ≡ true → none_of test (in_stage j xs) ≡ false → none_of test (in_stage k xs) ≡ false → j ≡ k
 one_stage test [] j k h f g = absurd (cc f)
 one_stage test (x ∷ xs) j k h f g = at (test x.op) refl h (λ i. one_stage test xs j k i)
   where

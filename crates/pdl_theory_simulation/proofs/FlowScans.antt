@@ -19,7 +19,9 @@ uses_of m ph [] h = refl
 uses_of m ph (x ∷ xs) h = ap₂ (λ a b. a && b) (use_of m ph x.op (and_right _ _ (and_left _ _ h))) (uses_of m (next_phase m ph x.op) xs (and_right _ _ h))
 
 -- calls and verifies
-call_of : (v : Option ℕ) (k : Making) (s : ℕ) (op : Op) → making_ok v k s op ≡ true → (call_ok (not (is_unmade k)) op ≡ true) × ((not (is_unmade k) || is_call op) ≡ not (is_unmade (next_making k op)))
+call_of : (v : Option ℕ) (k : Making) (s : ℕ) (op : Op)
+    → making_ok v k s op ≡ true
+    → (call_ok (not (is_unmade k)) op ≡ true) × ((not (is_unmade k) || is_call op) ≡ not (is_unmade (next_making k op)))
 call_of v Unmade s (Call args) h = (refl, refl)
 call_of v Unmade s (SpecCall args) h = (refl, refl)
 call_of v Unmade s (Verify args) h = absurd (cc h)

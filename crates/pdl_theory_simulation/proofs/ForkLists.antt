@@ -55,14 +55,18 @@ but_append (x ∷ xs) c h = refl
 -- THE LIST OF FORK f, AS ONE MORE THREAD COMES BEHIND
 
 -- a thread that isn't inside, and enters perhaps
-list_neutral : (l : Bool) (f e n b a x : List Bool) → (if l then but_first f else f) ++ e ≡ n → b ≡ [] → x ≡ a → (if l then but_first (f ++ b) else (f ++ b)) ++ (e ++ x) ≡ n ++ a
+list_neutral : (l : Bool) (f e n b a x : List Bool)
+    → (if l then but_first f else f) ++ e ≡ n → b ≡ [] → x ≡ a
+    → (if l then but_first (f ++ b) else (f ++ b)) ++ (e ++ x) ≡ n ++ a
 list_neutral l f e n b a x h i j =
     ap₂ (λ u v. (if l then but_first (f ++ u) else (f ++ u)) ++ (e ++ v)) i j
     ∙ ap (λ u. (if l then but_first u else u) ++ (e ++ a)) (append-nil f)
     ∙ sym (append_assoc (if l then but_first f else f) e a) ∙ ap (λ u. u ++ a) h
 
 -- one that is inside and stays so
-list_inside : (l : Bool) (f e n : List Bool) (c : Bool) → (if l then but_first f else f) ++ e ≡ n → e ≡ [] → (l ≡ true → is_nobody f ≡ false) → (if l then but_first (f ++ c ∷ []) else (f ++ c ∷ [])) ++ (e ++ []) ≡ n ++ c ∷ []
+list_inside : (l : Bool) (f e n : List Bool) (c : Bool)
+    → (if l then but_first f else f) ++ e ≡ n → e ≡ [] → (l ≡ true → is_nobody f ≡ false)
+    → (if l then but_first (f ++ c ∷ []) else (f ++ c ∷ [])) ++ (e ++ []) ≡ n ++ c ∷ []
 list_inside true f e n c h i j =
     ap (λ u. but_first (f ++ c ∷ []) ++ (u ++ [])) i ∙ append-nil _ ∙ but_append f c (j refl)
     ∙ ap (λ u. u ++ c ∷ []) (sym (append-nil (but_first f)) ∙ ap (λ u. but_first f ++ u) (sym i) ∙ h)
@@ -71,7 +75,9 @@ list_inside false f e n c h i j =
     ∙ ap (λ u. u ++ c ∷ []) (sym (append-nil f) ∙ ap (λ u. f ++ u) (sym i) ∙ h)
 
 -- one that leaves, the first
-list_leaves : (l : Bool) (f e n : List Bool) (c : Bool) → (if l then but_first f else f) ++ e ≡ n → f ≡ [] → e ≡ [] → l ≡ false → but_first (f ++ c ∷ []) ++ (e ++ []) ≡ n ++ []
+list_leaves : (l : Bool) (f e n : List Bool) (c : Bool)
+    → (if l then but_first f else f) ++ e ≡ n → f ≡ [] → e ≡ [] → l ≡ false
+    → but_first (f ++ c ∷ []) ++ (e ++ []) ≡ n ++ []
 list_leaves l f e n c h i j k =
     ap₂ (λ u v. but_first (u ++ c ∷ []) ++ (v ++ [])) i j
     ∙ sym (ap (λ u. u ++ []) (sym h ∙ (λ t. (if k t then but_first (i t) else (i t)) ++ j t)))

@@ -52,7 +52,9 @@ any_rev test (x ∷ xs) = any_more test (rev xs) x ∙ ap (λ b. test x || b) (a
 -- THE SQUASH
 
 -- with an older failing verify nobody moves
-none_fails : (p : Pipe) (xs : List Derived.Act) → list_all (λ (o : Derived.Act). not (o.moves && o.work.fails)) xs ≡ true → list_any (λ (o : Derived.Act). o.moves && o.work.fails) xs ≡ false
+none_fails : (p : Pipe) (xs : List Derived.Act)
+    → list_all (λ (o : Derived.Act). not (o.moves && o.work.fails)) xs ≡ true
+    → list_any (λ (o : Derived.Act). o.moves && o.work.fails) xs ≡ false
 none_fails p [] h = refl
 none_fails p (x ∷ xs) h = at (x.moves && x.work.fails) h (none_fails p xs)
   where
@@ -63,7 +65,9 @@ none_fails p (x ∷ xs) h = at (x.moves && x.work.fails) h (none_fails p xs)
     at false h f = f h
 
 -- what follows a list of acts of which one fails
-survivors_more : (p : Pipe) (xs : List Derived.Act) (b : Derived.Act) → survivors p (xs ++ b ∷ []) ≡ survivors p xs ++ (if list_any (λ (o : Derived.Act). o.moves && o.work.fails) xs then [] else survivors p (b ∷ []))
+survivors_more : (p : Pipe) (xs : List Derived.Act) (b : Derived.Act)
+    → survivors p (xs ++ b ∷ []) ≡ survivors p xs
+    ++ (if list_any (λ (o : Derived.Act). o.moves && o.work.fails) xs then [] else survivors p (b ∷ []))
 survivors_more p [] b = refl
 survivors_more p (a ∷ xs) b = at a.moves a.work.fails (survivors_more p xs b)
   where

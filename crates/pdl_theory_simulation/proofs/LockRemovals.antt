@@ -47,7 +47,8 @@ foreign_put_all k m n (w ∷ ws) xs f = foreign_put_all k m n ws (if w.mem == m 
     at false = f
 
 -- with one more thread behind, the commits are followed by its own, if it moves
-pub commits_more : (xs : List Derived.Act) (b : Derived.Act) → commits_of (xs ++ b ∷ []) ≡ commits_of xs ++ (if b.moves then b.work.commits else [])
+pub commits_more : (xs : List Derived.Act) (b : Derived.Act)
+    → commits_of (xs ++ b ∷ []) ≡ commits_of xs ++ (if b.moves then b.work.commits else [])
 commits_more [] b = at b.moves
   where
     at : (c : Bool) → cond c (b.work.commits ++ []) [] ≡ cond c b.work.commits []
@@ -71,10 +72,10 @@ abbrev pub Still : Bool → List Pending → List Pending → List Commit → Ty
 Still some two three commits = (some ≡ false) × (two ≡ []) × (three ≡ []) × (commits ≡ [])
 
 -- one more thread behind
-pub out_more : (m : ℕ) (some rel : Bool) (two three mine mine' : List Pending) (cs c : List Commit) → Out m some two three cs
-    → mine' ≡ (if rel then but_oldest mine else mine) → (rel ≡ true → (x : Pending) × (mine ≡ x ∷ [])) → c ≡ released m (if rel then oldest mine else None)
-    → (rel ≡ true → Still some two three cs)
-    → Out m (rel || some) (two ++ mine) (three ++ mine') (cs ++ c)
+pub out_more : (m : ℕ) (some rel : Bool) (two three mine mine' : List Pending) (cs c : List Commit)
+    → Out m some two three cs → mine' ≡ (if rel then but_oldest mine else mine)
+    → (rel ≡ true → (x : Pending) × (mine ≡ x ∷ [])) → c ≡ released m (if rel then oldest mine else None)
+    → (rel ≡ true → Still some two three cs) → Out m (rel || some) (two ++ mine) (three ++ mine') (cs ++ c)
 out_more m some true two three mine mine' cs c out e f g h =
     let s = h refl in
     let x = f refl in

@@ -35,7 +35,8 @@ older_falls : (n : ℕ) (ys : List Live) (l : Live) (older : List Live) → Fall
 older_falls n [] l older f = f.1
 older_falls n (y ∷ ys) l older f = older_falls y.number ys l older f.1
 
-younger_behind : (p : Pipe) (ys : List Live) (l : Live) (older : List Live) → Ordered p (ys ++ l ∷ older) → Each (λ y. Behind p y.thread.stage l.thread.stage) ys
+younger_behind : (p : Pipe) (ys : List Live) (l : Live) (older : List Live) → Ordered p (ys ++ l ∷ older)
+    → Each (λ y. Behind p y.thread.stage l.thread.stage) ys
 younger_behind p [] l older o = tt
 younger_behind p (y ∷ ys) l older o = (first ys o.0, younger_behind p ys l older o.1)
   where
@@ -70,7 +71,8 @@ nobody_side f (Some x) = at (x.fork == f)
     at false = refl
 
 -- nobody is inside where the list is empty
-pub sides_nobody : (p : Pipe) (d : Derived.State) (bits : List Bool) (f : ℕ) (ls : List Live) → is_nobody (sides p f ls) ≡ list_all (λ (o : Derived.Act). not (is_inside p f o.before.stage)) (dacts p d bits ls)
+pub sides_nobody : (p : Pipe) (d : Derived.State) (bits : List Bool) (f : ℕ) (ls : List Live)
+    → is_nobody (sides p f ls) ≡ list_all (λ (o : Derived.Act). not (is_inside p f o.before.stage)) (dacts p d bits ls)
 sides_nobody p d bits f [] = refl
 sides_nobody p d bits f (l ∷ ls) =
     nobody_append (sides p f ls) _ ∙ ap₂ (λ a b. a && b) (sides_nobody p d bits f ls) (nobody_side f (stage_at p l.thread.stage).branch)

@@ -10,13 +10,15 @@ use Rattle.pdl_semantics.specs.Promises.{wrote}
 use Rattle.pdl_theory_turns.proofs.EntryCommits.{released}
 
 -- in a list with an entry for each memory the i-th one is that of the i-th memory
-pub at_mem : {X : Type 0} → (f : ℕ → X) (k : ℕ) (xs : List Mem) (i : ℕ) (none : X) → i < length xs → slice_index_or (for_mems f k xs) i none ≡ f (k + i)
+pub at_mem : {X : Type 0} → (f : ℕ → X) (k : ℕ) (xs : List Mem) (i : ℕ) (none : X)
+    → i < length xs → slice_index_or (for_mems f k xs) i none ≡ f (k + i)
 at_mem f k [] i none h = absurd (omega arith)
 at_mem f k (x ∷ xs) zero none h = ap f (sym (add-zero k))
 at_mem f k (x ∷ xs) (suc i) none h = at_mem f (suc k) xs i none (omega arith) ∙ ap f (suc-add k i ∙ sym (add-suc k i))
 
 -- in a list with an entry for each memory there is none past the last one
-pub past_mems : {X : Type 0} → (f : ℕ → X) (k : ℕ) (xs : List Mem) (i : ℕ) (none : X) → length xs ≤ i → slice_index_or (for_mems f k xs) i none ≡ none
+pub past_mems : {X : Type 0} → (f : ℕ → X) (k : ℕ) (xs : List Mem) (i : ℕ) (none : X)
+    → length xs ≤ i → slice_index_or (for_mems f k xs) i none ≡ none
 past_mems f k [] i none h = refl
 past_mems f k (x ∷ xs) zero none h = absurd (omega arith)
 past_mems f k (x ∷ xs) (suc i) none h = past_mems f (suc k) xs i none (omega arith)
@@ -27,7 +29,8 @@ mems_same f g k [] h = refl
 mems_same f g k (x ∷ xs) h = ap₂ (λ a l. a ∷ l) (h k) (mems_same f g (suc k) xs h)
 
 -- the arrays after the commits of all memories
-wrote_shown : (words : Array) (m : ℕ) (o : Option Pending) (arrays : Arrays) → words ≡ arrays m → with_commit arrays m o m ≡ wrote words (released m o)
+wrote_shown : (words : Array) (m : ℕ) (o : Option Pending) (arrays : Arrays)
+    → words ≡ arrays m → with_commit arrays m o m ≡ wrote words (released m o)
 wrote_shown words m None arrays h = sym h
 wrote_shown words m (Some e) arrays h = ap (λ b. cond b (with_value (arrays m) e.address (commit_value e.value)) (arrays m)) (eq-eqb m m refl) ∙ ap (λ w. with_value w e.address (commit_value e.value)) (sym h)
 
@@ -37,12 +40,14 @@ other_commit m n None arrays h = refl
 other_commit m n (Some e) arrays h = ap (λ b. cond b (with_value (arrays m) e.address (commit_value e.value)) (arrays n)) h
 
 -- commits to the memories from k on leave those before k as they are
-pub before_commits : (st : State) (ms : List Act) (k n : ℕ) (xs : List Mem) (arrays : Arrays) → n < k → with_commits st ms k xs arrays n ≡ arrays n
+pub before_commits : (st : State) (ms : List Act) (k n : ℕ) (xs : List Mem) (arrays : Arrays)
+    → n < k → with_commits st ms k xs arrays n ≡ arrays n
 before_commits st ms k n [] arrays h = refl
 before_commits st ms k n (x ∷ xs) arrays h = before_commits st ms (suc k) n xs (with_commit arrays k (taken_out st ms k)) (omega arith) ∙ other_commit k n (taken_out st ms k) arrays (ne_eqb n k (λ e. absurd (omega arith)))
 
 -- after the commits to the memories from k on each of these has what it releases in its words
-pub row_commits : (st : State) (ms : List Act) (k n : ℕ) (xs : List Mem) (arrays : Arrays) → k ≤ n → n < k + length xs → with_commits st ms k xs arrays n ≡ wrote (arrays n) (released n (taken_out st ms n))
+pub row_commits : (st : State) (ms : List Act) (k n : ℕ) (xs : List Mem) (arrays : Arrays)
+    → k ≤ n → n < k + length xs → with_commits st ms k xs arrays n ≡ wrote (arrays n) (released n (taken_out st ms n))
 row_commits st ms k n [] arrays h i = absurd (omega arith)
 row_commits st ms k n (x ∷ xs) arrays h i = at (n == k) refl (λ j. row_commits st ms (suc k) n xs (with_commit arrays k (taken_out st ms k)) j (omega arith))
   where
@@ -57,6 +62,7 @@ row_commits st ms k n (x ∷ xs) arrays h i = at (n == k) refl (λ j. row_commit
         ∙ ap (λ (w : Array). wrote w (released n (taken_out st ms n))) (other_commit k n (taken_out st ms k) arrays e)
 
 -- commits to the memories from k on leave those past the last as they are
-pub past_commits : (st : State) (ms : List Act) (k n : ℕ) (xs : List Mem) (arrays : Arrays) → k + length xs ≤ n → with_commits st ms k xs arrays n ≡ arrays n
+pub past_commits : (st : State) (ms : List Act) (k n : ℕ) (xs : List Mem) (arrays : Arrays)
+    → k + length xs ≤ n → with_commits st ms k xs arrays n ≡ arrays n
 past_commits st ms k n [] arrays h = refl
 past_commits st ms k n (x ∷ xs) arrays h = past_commits st ms (suc k) n xs (with_commit arrays k (taken_out st ms k)) (omega arith) ∙ other_commit k n (taken_out st ms k) arrays (ne_eqb n k (λ e. absurd (omega arith)))

@@ -41,7 +41,8 @@ abbrev address_for : Option Asker → Option ℕ
 address_for None = None
 address_for (Some k) = Some k.address
 
-asked_first : (m n : ℕ) (qs : List Ask) (o : Option Asker) (old : Request) → asked_of m n qs (owned_by o old) ≡ owned_by (first_of (find_ask qs m) n o) old
+asked_first : (m n : ℕ) (qs : List Ask) (o : Option Asker) (old : Request)
+    → asked_of m n qs (owned_by o old) ≡ owned_by (first_of (find_ask qs m) n o) old
 asked_first m n [] o old = refl
 asked_first m n (q ∷ qs) o old = at (q.mem == m) (asked_first m n qs o old)
   where
@@ -132,7 +133,8 @@ none_fetches m (x ∷ xs) h = ap₂ (λ a b. a && b) (off x.op (and_left _ _ h))
     off (DelayedRead y n a) h = absurd (cc h)
     off _ h = refl
 
-still_awaits : (p : Pipe) (bits : List Bool) (rs : List Awaited) (m : ℕ) → awaits_mem rs m ≡ true → is_answered p bits m ≡ false → awaits_mem (still p bits rs) m ≡ true
+still_awaits : (p : Pipe) (bits : List Bool) (rs : List Awaited) (m : ℕ)
+    → awaits_mem rs m ≡ true → is_answered p bits m ≡ false → awaits_mem (still p bits rs) m ≡ true
 still_awaits p bits [] m h e = absurd (cc h)
 still_awaits p bits (r ∷ rs) m h e = at (r.mem == m) refl h (λ i. still_awaits p bits rs m i e)
   where

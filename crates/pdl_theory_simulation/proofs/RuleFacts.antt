@@ -26,7 +26,9 @@ all_stages k [] h = refl
 all_stages k (x ∷ xs) h = ap₂ (λ b l. cond b (x ∷ l) l) (lt-ltb _ _ h.0) (all_stages k xs h.1)
 
 -- a path's statements up to stage s, where none stands between s and q
-up_to : (path : List ℕ) (s q : ℕ) (xs : List Stmt) → s < q → AllOf (λ z. all_hold z.guards path ≡ true → (z.stage ≤ s) ⊎ (q ≤ z.stage)) xs → onpath path (stages_before q xs) ≡ onpath path (stages_before (suc s) xs)
+up_to : (path : List ℕ) (s q : ℕ) (xs : List Stmt)
+    → s < q → AllOf (λ z. all_hold z.guards path ≡ true → (z.stage ≤ s) ⊎ (q ≤ z.stage)) xs
+    → onpath path (stages_before q xs) ≡ onpath path (stages_before (suc s) xs)
 up_to path s q [] low h = refl
 up_to path s q (x ∷ xs) low h = at (nat_lt x.stage q) refl (nat_lt x.stage (suc s)) refl (up_to path s q xs low h.1)
   where
@@ -111,7 +113,8 @@ from_next s (x ∷ xs) = at (nat_le s x.stage) refl (x.stage == s) refl (from_ne
 
 -- GUARDS
 
-none_in : (test : Op → Bool) (s : ℕ) (xs : List Stmt) → AllOf (λ y. test y.op ≡ true → y.stage ≡ s → ⊥) xs → none_of test (in_stage s xs) ≡ true
+none_in : (test : Op → Bool) (s : ℕ) (xs : List Stmt)
+    → AllOf (λ y. test y.op ≡ true → y.stage ≡ s → ⊥) xs → none_of test (in_stage s xs) ≡ true
 none_in test s [] h = refl
 none_in test s (x ∷ xs) h = at (x.stage == s) refl (none_in test s xs h.1)
   where
@@ -142,7 +145,9 @@ fetch_binds g (DelayedRead x m a) h = (h, refl)
 fetch_binds g _ h = absurd (cc h)
 
 -- guards whose variables agree
-taken_agree : (env env' : List ℕ) (gs : List Guard) → ((g : ℕ) → ((op : Op) → binds_var g op ≡ true → binds_guard op gs ≡ true) → slice_index env g ≡ slice_index env' g) → all_hold gs env ≡ all_hold gs env'
+taken_agree : (env env' : List ℕ) (gs : List Guard)
+    → ((g : ℕ) → ((op : Op) → binds_var g op ≡ true → binds_guard op gs ≡ true) → slice_index env g ≡ slice_index env' g)
+    → all_hold gs env ≡ all_hold gs env'
 taken_agree env env' [] f = refl
 taken_agree env env' (g ∷ gs) f =
     ap₂ (λ v b. takes_branch g.first v && b) (f g.var (λ op h. ap (λ b. b || binds_guard op gs) h))
@@ -157,7 +162,9 @@ same_bools true b f g = f refl
 same_bools false true f g = g refl
 same_bools false false f g = refl
 
-same_before : (env env' : List ℕ) (s : ℕ) (xs : List Stmt) → AllOf (λ z. z.stage < s → all_hold z.guards env ≡ all_hold z.guards env') xs → onpath env (stages_before s xs) ≡ onpath env' (stages_before s xs)
+same_before : (env env' : List ℕ) (s : ℕ) (xs : List Stmt)
+    → AllOf (λ z. z.stage < s → all_hold z.guards env ≡ all_hold z.guards env') xs
+    → onpath env (stages_before s xs) ≡ onpath env' (stages_before s xs)
 same_before env env' s [] h = refl
 same_before env env' s (x ∷ xs) h = at (nat_lt x.stage s) refl (same_before env env' s xs h.1)
   where

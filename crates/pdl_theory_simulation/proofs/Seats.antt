@@ -175,12 +175,14 @@ onto_rev [] = refl
 onto_rev (x ∷ xs) = onto_more (rev xs) [] x ∙ ap (λ l. x ∷ l) (onto_rev xs)
 
 acts_more : (p : Pipe) (d : Derived.State) (bits : List Bool) (older : List Derived.Act) (ts : List Derived.Thread) (t : Derived.Thread)
-    → Derived.acts p d bits older (ts ++ t ∷ []) ≡ Derived.acts p d bits older ts ++ Derived.act p d bits (onto (Derived.acts p d bits older ts) older) t ∷ []
+    → Derived.acts p d bits older (ts ++ t ∷ []) ≡ Derived.acts p d bits older ts
+    ++ Derived.act p d bits (onto (Derived.acts p d bits older ts) older) t ∷ []
 acts_more p d bits older [] t = refl
 acts_more p d bits older (u ∷ ts) t = ap (λ l. Derived.act p d bits older u ∷ l) (acts_more p d bits (Derived.act p d bits older u ∷ older) ts t)
 
 -- the derived acts in age order
-pub acts_back : (p : Pipe) (d : Derived.State) (bits : List Bool) (ls : List Live) → Derived.acts p d bits [] (rev (threads_of ls)) ≡ rev (dacts p d bits ls)
+pub acts_back : (p : Pipe) (d : Derived.State) (bits : List Bool) (ls : List Live)
+    → Derived.acts p d bits [] (rev (threads_of ls)) ≡ rev (dacts p d bits ls)
 acts_back p d bits [] = refl
 acts_back p d bits (l ∷ ls) =
     acts_more p d bits [] (rev (threads_of ls)) l.thread

@@ -35,14 +35,16 @@ shape_over m (Written x) es h s = absurd (cc h)
 shape_over m Done es h s = s
 
 -- at the start of a stage
-pub shape_start : (m n : ℕ) (ph : Phase) (es : List Entry) → Shape m ph (entries_of m es) → Staged m n ph (entries_of m es) [] (pend m n es ++ []) [] false
+pub shape_start : (m n : ℕ) (ph : Phase) (es : List Entry) → Shape m ph (entries_of m es)
+    → Staged m n ph (entries_of m es) [] (pend m n es ++ []) [] false
 shape_start m n Fresh es t = (t, refl, append-nil _ ∙ pend_own m n es ∙ ap (pend m n) t, (λ l. refl), refl)
 shape_start m n (Held x) es t = (t.0, t.1, refl, append-nil _ ∙ pend_own m n es ∙ ap (pend m n) t.1 ∙ pend_one m n x t.0 None, refl)
 shape_start m n (Written x) es t = (t.0, t.1, t.2, refl, append-nil _ ∙ pend_own m n es ∙ ap (pend m n) t.2 ∙ pend_one m n x t.0 (Some t.1), refl)
 shape_start m n Done es t = (t, inl (refl, append-nil _ ∙ pend_own m n es ∙ ap (pend m n) t, refl))
 
 -- and at its end
-pub shape_end : (m n : ℕ) (ph : Phase) (es : List Entry) (cs : List Commit) (new : List Pending) (ws : List Machine.Written) (rel : Bool) → Staged m n ph es cs new ws rel → Shape m ph es
+pub shape_end : (m n : ℕ) (ph : Phase) (es : List Entry) (cs : List Commit) (new : List Pending) (ws : List Machine.Written) (rel : Bool)
+    → Staged m n ph es cs new ws rel → Shape m ph es
 shape_end m n Fresh es cs new ws rel g = g.0
 shape_end m n (Held x) es cs new ws rel g = (g.0, g.1)
 shape_end m n (Written x) es cs new ws rel g = (g.0, g.1, g.2)
@@ -97,7 +99,8 @@ none_till test c s (x ∷ xs) h k = at (nat_lt x.stage s) refl (test x.op) refl 
     at false e t f r q = r
 
 -- statements are carried out as the values at their end tell
-pub fixed_to : (path : List ℕ) (o : Around) (xs : List Stmt) (w : Work) → is_fixed xs ≡ true → (do_all o xs w).env ≡ path → Fixed path o xs w
+pub fixed_to : (path : List ℕ) (o : Around) (xs : List Stmt) (w : Work)
+    → is_fixed xs ≡ true → (do_all o xs w).env ≡ path → Fixed path o xs w
 fixed_to path o [] w h e = tt
 fixed_to path o (x ∷ xs) w h e = (
   taken_stays x.guards (x ∷ xs) w.env path (and_left _ _ h) (λ g k. ap (λ l. slice_index l g) (sym e) ∙ all_stays g o (x ∷ xs) w k),
@@ -149,7 +152,8 @@ stuck m (Release k a) ph h r = at (k == m) r
 stuck m _ ph h r = h
 
 -- a write that isn't under way after statements wasn't before them, where none of them releases m
-pub over_early : (m : ℕ) (xs : List Stmt) (ph : Phase) → none_of (is_release m) xs ≡ true → is_over (phase_all m ph xs) ≡ true → is_over ph ≡ true
+pub over_early : (m : ℕ) (xs : List Stmt) (ph : Phase)
+    → none_of (is_release m) xs ≡ true → is_over (phase_all m ph xs) ≡ true → is_over ph ≡ true
 over_early m [] ph h k = k
 over_early m (x ∷ xs) ph h k = at (is_over ph) refl (over_early m xs (next_phase m ph x.op) (and_right _ _ h) k)
   where
@@ -170,7 +174,8 @@ held_append [] ys ls = refl
 held_append (x ∷ xs) ys ls = held_append xs ys (held_after x.op ls)
 
 -- the locations held on a path before stage s are those after its statements before s
-pub held_path : (s : ℕ) (path : List ℕ) (xs : List Stmt) (ls : List HeldLocation) → held_before s path xs ls ≡ held_ops (onpath path (stages_before s xs)) ls
+pub held_path : (s : ℕ) (path : List ℕ) (xs : List Stmt) (ls : List HeldLocation)
+    → held_before s path xs ls ≡ held_ops (onpath path (stages_before s xs)) ls
 held_path s path [] ls = refl
 held_path s path (x ∷ xs) ls = at (nat_lt x.stage s) (all_hold x.guards path) refl (held_path s path xs ls) (held_path s path xs (held_after x.op ls))
   where
@@ -191,7 +196,8 @@ held_op o (Verify args) w = at (same_args (values_of args w.env) w.guess)
 held_op o _ w = refl
 
 -- the locations of the pending writes after statements are those held after the ones on the path
-pub held_work : (path : List ℕ) (o : Around) (xs : List Stmt) (w : Work) → Fixed path o xs w → places (do_all o xs w).entries ≡ held_ops (onpath path xs) (places w.entries)
+pub held_work : (path : List ℕ) (o : Around) (xs : List Stmt) (w : Work) → Fixed path o xs w
+    → places (do_all o xs w).entries ≡ held_ops (onpath path xs) (places w.entries)
 held_work path o [] w f = refl
 held_work path o (x ∷ xs) w f = held_work path o xs (step o x w) f.1 ∙ at (all_hold x.guards w.env) (all_hold x.guards path) f.0
   where

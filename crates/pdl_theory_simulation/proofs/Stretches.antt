@@ -88,7 +88,8 @@ op_sets g o (Verify args) w h = at (same_args (values_of args w.env) w.guess)
 op_sets g o _ w h = refl
 
 -- only what a path's statements bind at once changes
-only_sets : (path : List ℕ) (o : Around) (xs : List Stmt) (w : Work) → Fixed path o xs w → SameBut sets (onpath path xs) w.env (do_all o xs w).env
+only_sets : (path : List ℕ) (o : Around) (xs : List Stmt) (w : Work) → Fixed path o xs w
+    → SameBut sets (onpath path xs) w.env (do_all o xs w).env
 only_sets path o [] w f g h = refl
 only_sets path o (x ∷ xs) w f g h = at (all_hold x.guards w.env) (all_hold x.guards path) f.0 h (λ k. only_sets path o xs (step o x w) f.1 g k)
   where
@@ -106,7 +107,9 @@ awaits_var [] g = false
 awaits_var (r ∷ rs) g = (r.var == g) || awaits_var rs g
 
 -- only what a path's statements ask for is awaited
-op_asks : (g : ℕ) (o : Around) (op : Op) (w : Work) → not (is_fetch_of g op) ≡ true → awaits_var (awaited_of (work_after o op w).asks) g ≡ awaits_var (awaited_of w.asks) g
+op_asks : (g : ℕ) (o : Around) (op : Op) (w : Work)
+    → not (is_fetch_of g op) ≡ true
+    → awaits_var (awaited_of (work_after o op w).asks) g ≡ awaits_var (awaited_of w.asks) g
 op_asks g o (DelayedRead x m a) w h = more w.asks
   where
     off : (b : Bool) → not b ≡ true → (b || false) ≡ false
@@ -123,7 +126,9 @@ op_asks g o (Verify args) w h = at (same_args (values_of args w.env) w.guess)
     at false = refl
 op_asks g o _ w h = refl
 
-only_asks : (path : List ℕ) (o : Around) (xs : List Stmt) (w : Work) → Fixed path o xs w → (g : ℕ) → none_of (is_fetch_of g) (onpath path xs) ≡ true → awaits_var (awaited_of (do_all o xs w).asks) g ≡ awaits_var (awaited_of w.asks) g
+only_asks : (path : List ℕ) (o : Around) (xs : List Stmt) (w : Work) → Fixed path o xs w → (g : ℕ)
+    → none_of (is_fetch_of g) (onpath path xs) ≡ true
+    → awaits_var (awaited_of (do_all o xs w).asks) g ≡ awaits_var (awaited_of w.asks) g
 only_asks path o [] w f g h = refl
 only_asks path o (x ∷ xs) w f g h = at (all_hold x.guards w.env) (all_hold x.guards path) f.0 h (λ k. only_asks path o xs (step o x w) f.1 g k)
   where
@@ -140,7 +145,9 @@ abbrev pub AsksFrom : List Stmt → List Ask → Type 0
 AsksFrom all [] = Unit {0}
 AsksFrom all (q ∷ qs) = (none_of (is_delayed_read q.mem) all ≡ false) × AsksFrom all qs
 
-op_from : (all : List Stmt) (o : Around) (op : Op) (w : Work) → ((m : ℕ) → not (is_delayed_read m op) ≡ false → none_of (is_delayed_read m) all ≡ false) → AsksFrom all w.asks → AsksFrom all (work_after o op w).asks
+op_from : (all : List Stmt) (o : Around) (op : Op) (w : Work)
+    → ((m : ℕ) → not (is_delayed_read m op) ≡ false → none_of (is_delayed_read m) all ≡ false) → AsksFrom all w.asks
+    → AsksFrom all (work_after o op w).asks
 op_from all o (DelayedRead x m a) w f h = more w.asks h
   where
     same : (m == m) ≡ true
@@ -157,7 +164,9 @@ op_from all o (Verify args) w f h = at (same_args (values_of args w.env) w.guess
 op_from all o _ w f h = h
 
 -- statements ask only for memories that statements of the stage read delayed
-pub asks_from : (all : List Stmt) (o : Around) (xs : List Stmt) (w : Work) → ((m : ℕ) → none_of (is_delayed_read m) xs ≡ false → none_of (is_delayed_read m) all ≡ false) → AsksFrom all w.asks → AsksFrom all (do_all o xs w).asks
+pub asks_from : (all : List Stmt) (o : Around) (xs : List Stmt) (w : Work)
+    → ((m : ℕ) → none_of (is_delayed_read m) xs ≡ false → none_of (is_delayed_read m) all ≡ false) → AsksFrom all w.asks
+    → AsksFrom all (do_all o xs w).asks
 asks_from all o [] w f h = h
 asks_from all o (x ∷ xs) w f h = asks_from all o xs (step o x w) (λ m k. f m (more (not (is_delayed_read m x.op)) k)) (at (all_hold x.guards w.env))
   where
@@ -180,7 +189,8 @@ pub record Childed (been : Bool) (c : Bool) (w : Work) : Type 0 where
   pub no_second : been ≡ true → w.fails ≡ false → w.child ≡ None
   pub squashes : w.fails ≡ true → is_some w.child ≡ true
 
-made_op : (been c : Bool) (o : Around) (op : Op) (w : Work) → call_ok c op ≡ true → Childed been c w → Childed been (c || is_call op) (work_after o op w)
+made_op : (been c : Bool) (o : Around) (op : Op) (w : Work)
+    → call_ok c op ≡ true → Childed been c w → Childed been (c || is_call op) (work_after o op w)
 made_op been c o (Call args) w h k = fresh_call c (and_left (not (c && true)) _ h) k
   where
     fresh_call : (c : Bool) → not (c && true) ≡ true → Childed been c w → Childed been (c || true) (record w { child = Some (values_of args w.env) })
@@ -221,7 +231,8 @@ made_op been c o _ w h k = record { since = λ e. or_left (k.since e); called_it
     or_left : {b : Bool} → b ≡ true → (b || false) ≡ true
     or_left e = ap (λ b. b || false) e
 
-made_all : (been c : Bool) (path : List ℕ) (o : Around) (xs : List Stmt) (w : Work) → Fixed path o xs w → calls_ok c (onpath path xs) ≡ true → Childed been c w → Childed been (called c (onpath path xs)) (do_all o xs w)
+made_all : (been c : Bool) (path : List ℕ) (o : Around) (xs : List Stmt) (w : Work) → Fixed path o xs w
+    → calls_ok c (onpath path xs) ≡ true → Childed been c w → Childed been (called c (onpath path xs)) (do_all o xs w)
 made_all been c path o [] w f h k = k
 made_all been c path o (x ∷ xs) w f h k =
     at (all_hold x.guards w.env) (all_hold x.guards path) f.0 h (λ c' w' f' h' k'. made_all been c' path o xs w' f' h' k') f.1
@@ -242,7 +253,7 @@ abbrev pub on_way : Pipe → List ℕ → ℕ → List Stmt
 on_way p path s = onpath path (stages_before s p.stmts)
 
 -- values that differ at most in awaited variables
-abbrev Unlike : List Awaited → List ℕ → List ℕ → Type 0
+abbrev pub Unlike : List Awaited → List ℕ → List ℕ → Type 0
 Unlike rs env env' = (g : ℕ) → awaits_var rs g ≡ false → slice_index env g ≡ slice_index env' g
 
 -- stage s stands after stage b: each trunk stage that was reached from s on was left from b on, and in one branch s is the smaller
@@ -301,7 +312,8 @@ still_less p bits (r ∷ rs) g h = at (r.var == g) refl h (λ k. still_less p bi
         by true = f k
         by false = ap₂ (λ a b. a || b) e (f k)
 
-answers_only : (p : Pipe) (d : Derived.State) (bits : List Bool) (rs : List Awaited) (env : List ℕ) (g : ℕ) → awaits_var rs g ≡ false → slice_index (with_answers p d bits rs env) g ≡ slice_index env g
+answers_only : (p : Pipe) (d : Derived.State) (bits : List Bool) (rs : List Awaited) (env : List ℕ) (g : ℕ)
+    → awaits_var rs g ≡ false → slice_index (with_answers p d bits rs env) g ≡ slice_index env g
 answers_only p d bits [] env g h = refl
 answers_only p d bits (r ∷ rs) env g h = at (r.var == g) refl h (λ e k. answers_only p d bits rs e g k)
   where
@@ -326,7 +338,8 @@ fetched_still p bits s (r ∷ rs) h = at (is_answered p bits r.mem) (fetched_sti
     at false k = (h.0, k)
 
 -- a thread keeps to its way as answers come
-pub keeps_answered : (p : Pipe) (d : Derived.State) (bits : List Bool) (env : List ℕ) (t : Derived.Thread) → Keeps p env t → Keeps p env (answered_thread p d bits t)
+pub keeps_answered : (p : Pipe) (d : Derived.State) (bits : List Bool) (env : List ℕ) (t : Derived.Thread)
+    → Keeps p env t → Keeps p env (answered_thread p d bits t)
 keeps_answered p d bits env t k =
     record {
       inside = k.inside;

@@ -121,7 +121,9 @@ pub pairs_each : (A : Live → Type 0) (ls : List Live) → Each A ls → EachPa
 pairs_each A [] h = tt
 pairs_each A (l ∷ ls) h = (h.0, pairs_each A ls h.1)
 
-find_place : (q : ℕ) (x : Pair) (ys : List Pair) → EachPair (λ y. y.live.thread.stage ≡ x.live.thread.stage → ⊥) ys → find q (lives_of (place x ys)) ≡ find q (x.live ∷ lives_of ys)
+find_place : (q : ℕ) (x : Pair) (ys : List Pair)
+    → EachPair (λ y. y.live.thread.stage ≡ x.live.thread.stage → ⊥) ys
+    → find q (lives_of (place x ys)) ≡ find q (x.live ∷ lives_of ys)
 find_place q x [] h = refl
 find_place q x (y ∷ ys) h = at (nat_lt x.live.thread.stage y.live.thread.stage) (find_place q x ys h.1)
   where
@@ -134,7 +136,10 @@ find_place q x (y ∷ ys) h = at (nat_lt x.live.thread.stage y.live.thread.stage
     at true r = refl
     at false r = ap (λ t. cond (y.live.thread.stage == q) (Some (seat y.live)) t) r ∙ swap (y.live.thread.stage == q) (x.live.thread.stage == q) refl refl
 
-rises_place : (lo hi : ℕ) (x : Pair) (ys : List Pair) → lo ≤ x.live.thread.stage → x.live.thread.stage < hi → EachPair (λ y. y.live.thread.stage ≡ x.live.thread.stage → ⊥) ys → Rises lo hi (lives_of ys) → Rises lo hi (lives_of (place x ys))
+rises_place : (lo hi : ℕ) (x : Pair) (ys : List Pair)
+    → lo ≤ x.live.thread.stage → x.live.thread.stage < hi
+    → EachPair (λ y. y.live.thread.stage ≡ x.live.thread.stage → ⊥) ys → Rises lo hi (lives_of ys)
+    → Rises lo hi (lives_of (place x ys))
 rises_place lo hi x [] a b h r = (a, b, tt)
 rises_place lo hi x (y ∷ ys) a b h r = at (nat_lt x.live.thread.stage y.live.thread.stage) refl (λ i. rises_place (suc y.live.thread.stage) hi x ys i b h.1 r.2)
   where
@@ -149,7 +154,8 @@ rises_place lo hi x (y ∷ ys) a b h r = at (nat_lt x.live.thread.stage y.live.t
 apart_of : (p : Pipe) (s b : ℕ) → Behind p s b → b ≡ s → ⊥
 apart_of p s b h e = let i : s < b = h.branch (ap (λ n. (stage_at p n).branch) (sym e)) in absurd (omega arith)
 
-aparts : (p : Pipe) (l : Live) (ls : List Live) → Each (λ k. Behind p l.thread.stage k.thread.stage) ls → EachPair (λ y. y.live.thread.stage ≡ l.thread.stage → ⊥) (sorted ls)
+aparts : (p : Pipe) (l : Live) (ls : List Live) → Each (λ k. Behind p l.thread.stage k.thread.stage) ls
+    → EachPair (λ y. y.live.thread.stage ≡ l.thread.stage → ⊥) (sorted ls)
 aparts p l ls h = sorted_each (λ y. y.live.thread.stage ≡ l.thread.stage → ⊥) ls (pairs_each (λ k. k.thread.stage ≡ l.thread.stage → ⊥) ls (each_map (λ k b. apart_of p l.thread.stage k.thread.stage b) ls h))
 
 -- who stands in a stage is the same, by stages or by age, where each thread stands behind all older ones
@@ -160,19 +166,24 @@ find_sorted p q (l ∷ ls) o =
     ∙ ap (λ t. cond (l.thread.stage == q) (Some (seat l)) t) (find_sorted p q ls o.1)
 
 -- the threads by stages stand in rising stages, where each one stands behind all older ones
-pub rises_sorted : (p : Pipe) (hi : ℕ) (ls : List Live) → Each (λ k. k.thread.stage < hi) ls → Ordered p ls → Rises 0 hi (lives_of (sorted ls))
+pub rises_sorted : (p : Pipe) (hi : ℕ) (ls : List Live)
+    → Each (λ k. k.thread.stage < hi) ls → Ordered p ls → Rises 0 hi (lives_of (sorted ls))
 rises_sorted p hi [] h o = tt
 rises_sorted p hi (l ∷ ls) h o = rises_place 0 hi (record { live = l; older = ls }) (sorted ls) (omega arith) h.0 (aparts p l ls o.0) (rises_sorted p hi ls h.1 o.1)
 
 -- STATEMENTS OF BRANCHES
 
-fails_op : (read : ℕ → ℕ → ℕ) (op : Op) (d : Deeds) → not (trunk_only op) ≡ true → ((Machine.deeds_after read op d).fails ≡ d.fails) × ((Machine.deeds_after read op d).barrier ≡ d.barrier)
+fails_op : (read : ℕ → ℕ → ℕ) (op : Op) (d : Deeds)
+    → not (trunk_only op) ≡ true
+    → ((Machine.deeds_after read op d).fails ≡ d.fails) × ((Machine.deeds_after read op d).barrier ≡ d.barrier)
 fails_op read (Verify args) d h = absurd (cc h)
 fails_op read SpecBarrier d h = absurd (cc h)
 fails_op read _ d h = (refl, refl)
 
 -- statements that a fork's branch may hold bring no failing verify and no barrier
-pub fails_none : (read : ℕ → ℕ → ℕ) (xs : List Stmt) (d : Deeds) → none_of trunk_only xs ≡ true → ((deeds_after_all read xs d).fails ≡ d.fails) × ((deeds_after_all read xs d).barrier ≡ d.barrier)
+pub fails_none : (read : ℕ → ℕ → ℕ) (xs : List Stmt) (d : Deeds)
+    → none_of trunk_only xs ≡ true
+    → ((deeds_after_all read xs d).fails ≡ d.fails) × ((deeds_after_all read xs d).barrier ≡ d.barrier)
 fails_none read [] d h = (refl, refl)
 fails_none read (x ∷ xs) d h =
     let r = fails_none read xs (if all_hold x.guards d.env then Machine.deeds_after read x.op d else d) (and_right _ _ h) in
@@ -201,11 +212,14 @@ true_pairs h [] e = refl
 true_pairs h (x ∷ xs) e = ap₂ (λ a b. a && b) e.0 (true_pairs h xs e.1)
 
 -- those behind a thread in age, itself, and the older ones
-view_older : (A : Pair → Type 0) (ys : List Live) (l : Live) (older : List Live) → EachPair A (pairs (ys ++ l ∷ older)) → EachPair A (pairs older)
+view_older : (A : Pair → Type 0) (ys : List Live) (l : Live) (older : List Live) → EachPair A (pairs (ys ++ l ∷ older))
+    → EachPair A (pairs older)
 view_older A [] l older h = h.1
 view_older A (y ∷ ys) l older h = view_older A ys l older h.1
 
-view_all : (p : Pipe) (A : Pair → Type 0) (ys : List Live) (l : Live) (older : List Live) → Ordered p (ys ++ l ∷ older) → EachPair (λ y. Behind p y.live.thread.stage l.thread.stage → A y) (pairs (ys ++ l ∷ older)) → A (record { live = l; older = older }) → EachPair A (pairs older) → EachPair A (pairs (ys ++ l ∷ older))
+view_all : (p : Pipe) (A : Pair → Type 0) (ys : List Live) (l : Live) (older : List Live) → Ordered p (ys ++ l ∷ older)
+    → EachPair (λ y. Behind p y.live.thread.stage l.thread.stage → A y) (pairs (ys ++ l ∷ older))
+    → A (record { live = l; older = older }) → EachPair A (pairs older) → EachPair A (pairs (ys ++ l ∷ older))
 view_all p A [] l older o f a h = (a, h)
 view_all p A (y ∷ ys) l older o f a h = (f.0 (first ys o.0), view_all p A ys l older o.1 f.1 a h)
   where
@@ -213,7 +227,8 @@ view_all p A (y ∷ ys) l older o f a h = (f.0 (first ys o.0), view_all p A ys l
     first [] b = b.0
     first (z ∷ zs) b = first zs b.1
 
-view_behind : (p : Pipe) (ys : List Live) (l : Live) (older : List Live) → Ordered p (ys ++ l ∷ older) → EachPair (λ y. Behind p l.thread.stage y.live.thread.stage) (pairs older)
+view_behind : (p : Pipe) (ys : List Live) (l : Live) (older : List Live) → Ordered p (ys ++ l ∷ older)
+    → EachPair (λ y. Behind p l.thread.stage y.live.thread.stage) (pairs older)
 view_behind p [] l older o = pairs_each (λ k. Behind p l.thread.stage k.thread.stage) older o.0
 view_behind p (y ∷ ys) l older o = view_behind p ys l older o.1
 
@@ -222,7 +237,8 @@ rises_each lo hi [] r = tt
 rises_each lo hi (x ∷ xs) r = (r.0, pair_map (λ y h. let i = r.0 in let j : suc x.live.thread.stage ≤ y.live.thread.stage = h in omega arith) xs (rises_each (suc x.live.thread.stage) hi xs r.2))
 
 -- the same test of the threads in later stages and of the older ones: a younger one in a later stage, and an older one in an earlier stage, pass it
-pub later_older : (p : Pipe) (h : Pair → Bool) (all ys : List Live) (l : Live) (older : List Live) (later : List Pair) (hi : ℕ) → all ≡ ys ++ l ∷ older → Ordered p all → Rises (suc l.thread.stage) hi (lives_of later)
+pub later_older : (p : Pipe) (h : Pair → Bool) (all ys : List Live) (l : Live) (older : List Live) (later : List Pair) (hi : ℕ)
+    → all ≡ ys ++ l ∷ older → Ordered p all → Rises (suc l.thread.stage) hi (lives_of later)
     → ((A : Pair → Type 0) → EachPair A (pairs all) → EachPair A later)
     → ((A : Pair → Type 0) → EachPair A later → EachPair (λ y. suc l.thread.stage ≤ y.live.thread.stage → A y) (pairs all))
     → EachPair (λ y. (Behind p y.live.thread.stage l.thread.stage → l.thread.stage < y.live.thread.stage → h y ≡ true) × (Behind p l.thread.stage y.live.thread.stage → y.live.thread.stage ≤ l.thread.stage → h y ≡ true)) (pairs all)

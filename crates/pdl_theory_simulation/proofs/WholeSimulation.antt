@@ -40,11 +40,13 @@ use Rattle.pdl_word.specs.Each.{Each}
 use Rattle.pdl_word.proofs.Each.{each_append}
 use Rattle.pdl_theory_simulation.proofs.SimulatedStates.{Sim}
 
-mems_range : {X : Type 0} → (f g : ℕ → X) (k : ℕ) (xs : List Mem) → ((m : ℕ) → k ≤ m → m < k + length xs → f m ≡ g m) → for_mems f k xs ≡ for_mems g k xs
+mems_range : {X : Type 0} → (f g : ℕ → X) (k : ℕ) (xs : List Mem)
+    → ((m : ℕ) → k ≤ m → m < k + length xs → f m ≡ g m) → for_mems f k xs ≡ for_mems g k xs
 mems_range f g k [] h = refl
 mems_range f g k (x ∷ xs) h = ap₂ (λ a l. a ∷ l) (h k (omega arith) (omega arith)) (mems_range f g (suc k) xs (λ m i j. h m (omega arith) (omega arith)))
 
-asks_mems : (p : Pipe) (bits : List Bool) (qs : List Ask) (f : ℕ → Option ℕ) (k : ℕ) (xs : List Mem) → next_asks p bits qs k (for_mems f k xs) ≡ for_mems (λ m. next_ask (find_ask qs m) (is_answered p bits m) (f m)) k xs
+asks_mems : (p : Pipe) (bits : List Bool) (qs : List Ask) (f : ℕ → Option ℕ) (k : ℕ) (xs : List Mem)
+    → next_asks p bits qs k (for_mems f k xs) ≡ for_mems (λ m. next_ask (find_ask qs m) (is_answered p bits m) (f m)) k xs
 asks_mems p bits qs f k [] = refl
 asks_mems p bits qs f k (x ∷ xs) = ap (λ l. next_ask (find_ask qs k) (is_answered p bits k) (f k) ∷ l) (asks_mems p bits qs f (suc k) xs)
 

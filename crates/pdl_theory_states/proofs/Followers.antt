@@ -87,7 +87,9 @@ not_awaited g (q ∷ qs) h = at (q.var == g) refl h (λ k. not_awaited g qs k)
     at false e k f = (ap not e, f k)
 
 -- the answers that a thread awaits, as its turn has them
-words_are : (st : State) (arrays : Arrays) (qs : List Ask) (env : List ℕ) → AllAsks (λ q. word_at st.arrays q.mem (request_address (request_of st q.mem)) ≡ word_at arrays q.mem q.address) qs → with_kept (awaited_words st (awaited_of qs)) env ≡ caught arrays qs env
+words_are : (st : State) (arrays : Arrays) (qs : List Ask) (env : List ℕ)
+    → AllAsks (λ q. word_at st.arrays q.mem (request_address (request_of st q.mem)) ≡ word_at arrays q.mem q.address) qs
+    → with_kept (awaited_words st (awaited_of qs)) env ≡ caught arrays qs env
 words_are st arrays [] env h = refl
 words_are st arrays (q ∷ qs) env h = words_are st arrays qs (slice_set env q.var (word_at st.arrays q.mem (request_address (request_of st q.mem)))) h.1 ∙ ap (λ v. caught arrays qs (slice_set env q.var v)) h.0
 
@@ -96,7 +98,8 @@ words_kept : (st : State) (P : ℕ → Type 0) (rs : List Awaited) → AllAwaite
 words_kept st P [] h = tt
 words_kept st P (r ∷ rs) h = (h.0, words_kept st P rs h.1)
 
-all_ops : (P : ℕ → Op → Type 0) (qs : List Ask) (ops : List Op) → AllAsks (λ q. AllOps (P q.var) ops) qs → AllOps (λ op. AllAsks (λ q. P q.var op) qs) ops
+all_ops : (P : ℕ → Op → Type 0) (qs : List Ask) (ops : List Op) → AllAsks (λ q. AllOps (P q.var) ops) qs
+    → AllOps (λ op. AllAsks (λ q. P q.var op) qs) ops
 all_ops P [] ops h = every ops
   where
     every : (ops : List Op) → AllOps (λ op. AllAsks (λ q. P q.var op) []) ops
@@ -126,7 +129,8 @@ awaited_all test [] h = refl
 awaited_all test (r ∷ rs) h = ap₂ (λ a b. a && b) h.0 (awaited_all test rs h.1)
 
 -- a test of a thread's entries in a lock's list
-pend_all : (m n : ℕ) (test : Pending → Bool) (es : List Entry) → AllEntries (λ e. test (own n e) ≡ true) es → list_all test (pend m n es) ≡ true
+pend_all : (m n : ℕ) (test : Pending → Bool) (es : List Entry)
+    → AllEntries (λ e. test (own n e) ≡ true) es → list_all test (pend m n es) ≡ true
 pend_all m n test [] h = refl
 pend_all m n test (e ∷ es) h = all_append test (pend m n es) _ (pend_all m n test es h.1) (at (e.mem == m))
   where

@@ -38,11 +38,14 @@ own_held m n (e ∷ es) = owners_append (pend m n es) (cond (e.mem == m) (own n 
     at true = held_snoc m n (places es)
     at false = append-nil (held_of m n (places es))
 
-holders_snoc : (p : Pipe) (m : ℕ) (xs : List Sound.Live) (l : Sound.Live) → holders p m (xs ++ l ∷ []) ≡ holders p m xs ++ held_of m l.thread.number (held_places p l)
+holders_snoc : (p : Pipe) (m : ℕ) (xs : List Sound.Live) (l : Sound.Live)
+    → holders p m (xs ++ l ∷ []) ≡ holders p m xs ++ held_of m l.thread.number (held_places p l)
 holders_snoc p m [] l = append-nil (held_of m l.thread.number (held_places p l))
 holders_snoc p m (x ∷ xs) l = ap (λ k. held_of m x.thread.number (held_places p x) ++ k) (holders_snoc p m xs l) ∙ sym (append_assoc (held_of m x.thread.number (held_places p x)) (holders p m xs) (held_of m l.thread.number (held_places p l)))
 
-owners_are : (p : Pipe) (m : ℕ) (ls : List Live) → Each (λ l. places l.thread.entries ≡ held_places p (told l)) ls → owners (pends m ls) ≡ holders p m (oldest_first ls)
+owners_are : (p : Pipe) (m : ℕ) (ls : List Live)
+    → Each (λ l. places l.thread.entries ≡ held_places p (told l)) ls
+    → owners (pends m ls) ≡ holders p m (oldest_first ls)
 owners_are p m [] h = refl
 owners_are p m (l ∷ ls) h =
     owners_append (pends m ls) (pend m l.number l.thread.entries)

@@ -53,7 +53,8 @@ movers_no_older t m (a ∷ these) h = at a.moves (movers_no_older t m these h.1)
     at false k = k
 
 -- reservations of threads that are not older leave the number of older threads' pending writes as it is
-pub count_appended : (t m : ℕ) (ms : List Act) (list : List Pending) → NoOlder t m ms → count_older t (with_reserves m ms list) ≡ count_older t list
+pub count_appended : (t m : ℕ) (ms : List Act) (list : List Pending) → NoOlder t m ms
+    → count_older t (with_reserves m ms list) ≡ count_older t list
 count_appended t m [] list h = refl
 count_appended t m (a ∷ ms) list h =
     let e = count_append t (with_reserves m ms list) (new_entries m a.thread.number a.does.reserves) in let f = count_appended t m ms list h.1 in let g = none h.0 in omega arith

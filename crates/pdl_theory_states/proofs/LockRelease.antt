@@ -20,7 +20,8 @@ use Rattle.pdl_semantics.specs.PendingLists.{count_older}
 use Rattle.pdl_word.specs.Each.{Each}
 
 -- writes keep the threads of a list
-put_cons : (m n : ℕ) (ws : List Written) (e : Pending) (rest : List Pending) → (x : Pending) × (xs : List Pending) × (with_writes_of m n ws (e ∷ rest) ≡ x ∷ xs) × (x.thread ≡ e.thread)
+put_cons : (m n : ℕ) (ws : List Written) (e : Pending) (rest : List Pending)
+    → (x : Pending) × (xs : List Pending) × (with_writes_of m n ws (e ∷ rest) ≡ x ∷ xs) × (x.thread ≡ e.thread)
 put_cons m n [] e rest = (e, rest, refl, refl)
 put_cons m n (w ∷ ws) e rest = at (w.mem == m) (λ x xs. put_cons m n ws x xs)
   where
@@ -32,7 +33,8 @@ put_cons m n (w ∷ ws) e rest = at (w.mem == m) (λ x xs. put_cons m n ws x xs)
     at true go = let h = go (cond (e.thread == n) (record e { value = Some w.value }) e) (with_value_of n w.value rest) in (h.0, h.1, h.2, h.3 ∙ mine (e.thread == n))
     at false go = go e rest
 
-filled_cons : (m : ℕ) (ms : List Act) (e : Pending) (rest : List Pending) → (x : Pending) × (xs : List Pending) × (with_all_writes m ms (e ∷ rest) ≡ x ∷ xs) × (x.thread ≡ e.thread)
+filled_cons : (m : ℕ) (ms : List Act) (e : Pending) (rest : List Pending)
+    → (x : Pending) × (xs : List Pending) × (with_all_writes m ms (e ∷ rest) ≡ x ∷ xs) × (x.thread ≡ e.thread)
 filled_cons m [] e rest = (e, rest, refl, refl)
 filled_cons m (a ∷ ms) e rest =
     let h = filled_cons m ms e rest in
@@ -52,7 +54,8 @@ filled_nil m [] = refl
 filled_nil m (a ∷ ms) = ap (with_writes_of m a.thread.number a.does.writes) (filled_nil m ms) ∙ put_nil m a.thread.number a.does.writes
 
 -- where the oldest one goes that is older than a thread
-pub count_released : (t m : ℕ) (ms : List Act) (e : Pending) (rest : List Pending) → e.thread < t → count_older t (but_oldest (with_all_writes m ms (e ∷ rest))) + 1 ≡ count_older t (e ∷ rest)
+pub count_released : (t m : ℕ) (ms : List Act) (e : Pending) (rest : List Pending)
+    → e.thread < t → count_older t (but_oldest (with_all_writes m ms (e ∷ rest))) + 1 ≡ count_older t (e ∷ rest)
 count_released t m ms e rest low =
     let h = filled_cons m ms e rest in
     let i : count_older t (with_all_writes m ms (e ∷ rest)) ≡ suc (count_older t h.1) = ap (count_older t) h.2 ∙ ap (λ b. cond b (suc (count_older t h.1)) (count_older t h.1)) (lt-ltb h.0.thread t (let j = h.3 in omega arith)) in

@@ -71,7 +71,9 @@ by_memory n m R f g = at (n == m) refl
     at true e = f (eqb-true n m e)
     at false e = g (eqb-false n m e)
 
-fades_op : (m : ℕ) (start : List Entry) (o : Around) (op : Op) (w : Work) → not (is_reserve m op) ≡ true → Fades start (entries_of m w.entries) → Fades start (entries_of m (work_after o op w).entries)
+fades_op : (m : ℕ) (start : List Entry) (o : Around) (op : Op) (w : Work)
+    → not (is_reserve m op) ≡ true → Fades start (entries_of m w.entries)
+    → Fades start (entries_of m (work_after o op w).entries)
 fades_op m start o (Write n a e) w r h =
     by_memory n m (Fades start (entries_of m (with_entry_value w.entries n a (value_of e w.env))))
     (λ i. subst (λ j. Fades start (entries_of m (with_entry_value w.entries j a (value_of e w.env)))) (sym i) (subst (λ l. Fades start l) (sym (entries_of-filled w.entries m a (value_of e w.env))) (fades_filled m a (value_of e w.env) start (entries_of m w.entries) h)))
@@ -100,7 +102,9 @@ fades_op m start o (SpecCall args) w r h = h
 fades_op m start o SpecCheck w r h = h
 fades_op m start o SpecBarrier w r h = h
 
-fades_all : (m : ℕ) (start : List Entry) (o : Around) (xs : List Stmt) (w : Work) → none_of (is_reserve m) xs ≡ true → Fades start (entries_of m w.entries) → Fades start (entries_of m (do_all o xs w).entries)
+fades_all : (m : ℕ) (start : List Entry) (o : Around) (xs : List Stmt) (w : Work)
+    → none_of (is_reserve m) xs ≡ true → Fades start (entries_of m w.entries)
+    → Fades start (entries_of m (do_all o xs w).entries)
 fades_all m start o [] w r h = h
 fades_all m start o (x ∷ xs) w r h = fades_all m start o xs (step o x w) (and_right (not (is_reserve m x.op)) _ r) (at (all_hold x.guards w.env))
   where
@@ -117,7 +121,9 @@ filled_some m a v (e ∷ es) h = absurd (at ((e.mem == m) && (e.var == a)) h)
     at true i = cc
     at false i = cc
 
-lost_op : (m : ℕ) (o : Around) (op : Op) (w : Work) → not (is_reserve m op) ≡ true → not (is_release m op) ≡ true → entries_of m (work_after o op w).entries ≡ [] → entries_of m w.entries ≡ []
+lost_op : (m : ℕ) (o : Around) (op : Op) (w : Work)
+    → not (is_reserve m op) ≡ true → not (is_release m op) ≡ true → entries_of m (work_after o op w).entries ≡ []
+    → entries_of m w.entries ≡ []
 lost_op m o (Write n a e) w r q h =
     by_memory n m (entries_of m w.entries ≡ [])
     (λ i. filled_some m a (value_of e w.env) (entries_of m w.entries) (sym (entries_of-filled w.entries m a (value_of e w.env)) ∙ ap (λ j. entries_of m (with_entry_value w.entries j a (value_of e w.env))) (sym i) ∙ h))
@@ -143,7 +149,9 @@ lost_op m o (SpecCall args) w r q h = h
 lost_op m o SpecCheck w r q h = h
 lost_op m o SpecBarrier w r q h = h
 
-lost_all : (m : ℕ) (o : Around) (xs : List Stmt) (w : Work) → none_of (is_reserve m) xs ≡ true → none_of (is_release m) xs ≡ true → entries_of m (do_all o xs w).entries ≡ [] → entries_of m w.entries ≡ []
+lost_all : (m : ℕ) (o : Around) (xs : List Stmt) (w : Work)
+    → none_of (is_reserve m) xs ≡ true → none_of (is_release m) xs ≡ true → entries_of m (do_all o xs w).entries ≡ []
+    → entries_of m w.entries ≡ []
 lost_all m o [] w r q h = h
 lost_all m o (x ∷ xs) w r q h = at (all_hold x.guards w.env) (lost_all m o xs (step o x w) (and_right (not (is_reserve m x.op)) _ r) (and_right (not (is_release m x.op)) _ q) h)
   where
@@ -153,7 +161,8 @@ lost_all m o (x ∷ xs) w r q h = at (all_hold x.guards w.env) (lost_all m o xs 
 
 -- READINESS
 
-calm_fades : (m a : ℕ) (es fs : List Entry) (r r' : Latest) → Fades es fs → Calm r r' → (fs ≡ [] → (es ≡ []) ⊎ (r' ≡ Nothing)) → Calm (latest_in es m a r) (latest_in fs m a r')
+calm_fades : (m a : ℕ) (es fs : List Entry) (r r' : Latest) → Fades es fs → Calm r r'
+    → (fs ≡ [] → (es ≡ []) ⊎ (r' ≡ Nothing)) → Calm (latest_in es m a r) (latest_in fs m a r')
 calm_fades m a [] [] r r' h c f = c
 calm_fades m a [] (x ∷ fs) r r' h c f = absurd h
 calm_fades m a (e ∷ []) [] r r' h c f = at (f refl)

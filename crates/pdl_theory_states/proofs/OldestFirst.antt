@@ -44,7 +44,8 @@ abbrev number : Sound.Live → ℕ
 number l = l.thread.number
 
 -- threads of stages from s on
-from_slots : (xs : List Stage) (s : ℕ) (ls : List Live) → Rises s (s + length xs) ls → live_from s (for_stages (λ q. find q ls) s xs) ≡ by_number ls
+from_slots : (xs : List Stage) (s : ℕ) (ls : List Live) → Rises s (s + length xs) ls
+    → live_from s (for_stages (λ q. find q ls) s xs) ≡ by_number ls
 from_slots [] s [] r = refl
 from_slots [] s (l ∷ ls) r = absurd (let h = r.0 in let k = r.1 in omega arith)
 from_slots (x ∷ xs) s [] r = from_slots xs (suc s) [] tt
@@ -101,7 +102,9 @@ swap a b (k ∷ ks) h = at (nat_lt (number a) (number k)) refl (nat_lt (number b
         ∙ ap (λ l. k ∷ l) r
         ∙ sym (ap (λ c. put_in b (cond c (a ∷ k ∷ ks) (k ∷ put_in a ks))) e ∙ ap (λ c. cond c (b ∷ k ∷ put_in a ks) (k ∷ put_in b (put_in a ks))) f)
 
-by_place : (x : Pair) (ys : List Pair) → EachPair (λ y. y.live.number < x.live.number) ys → by_number (lives_of (place x ys)) ≡ put_in (told x.live) (by_number (lives_of ys))
+by_place : (x : Pair) (ys : List Pair)
+    → EachPair (λ y. y.live.number < x.live.number) ys
+    → by_number (lives_of (place x ys)) ≡ put_in (told x.live) (by_number (lives_of ys))
 by_place x [] h = refl
 by_place x (y ∷ ys) h = at (nat_lt x.live.thread.stage y.live.thread.stage) (by_place x ys h.1)
   where
@@ -126,7 +129,9 @@ by_sorted n (l ∷ ls) f =
     ∙ put_last (told l) (oldest_first ls) (live_each (λ z. number z < l.number) ls (falls_each l.number ls f.1))
 
 -- the live threads of a state whose stages hold these
-pub live_is : (p : Pipe) (st : State) (n : ℕ) (ls : List Live) → st.stages ≡ for_stages (λ q. find q ls) 0 p.stages → Each (λ k. k.thread.stage < length p.stages) ls → Ordered p ls → Falls n ls → live st ≡ oldest_first ls
+pub live_is : (p : Pipe) (st : State) (n : ℕ) (ls : List Live)
+    → st.stages ≡ for_stages (λ q. find q ls) 0 p.stages → Each (λ k. k.thread.stage < length p.stages) ls
+    → Ordered p ls → Falls n ls → live st ≡ oldest_first ls
 live_is p st n ls e low o f =
     ap (live_from 0) (e ∙ stages_same _ _ 0 p.stages (λ q i. sym (find_sorted p q ls o)))
     ∙ from_slots p.stages 0 (lives_of (sorted ls)) (subst (λ h. Rises 0 h (lives_of (sorted ls))) (sym (zero-add (length p.stages))) (rises_sorted p (length p.stages) ls low o))
@@ -135,7 +140,8 @@ live_is p st n ls e low o f =
 -- TESTS OF ALL OF THEM
 
 -- where all elements and one more pass a test, all of the list with that one at its end do
-pub all_snoc : {X : Type 0} → (test : X → Bool) (xs : List X) (x : X) → list_all test xs ≡ true → test x ≡ true → list_all test (xs ++ x ∷ []) ≡ true
+pub all_snoc : {X : Type 0} → (test : X → Bool) (xs : List X) (x : X)
+    → list_all test xs ≡ true → test x ≡ true → list_all test (xs ++ x ∷ []) ≡ true
 all_snoc test [] x h k = ap (λ b. b && true) k
 all_snoc test (y ∷ xs) x h k = ap₂ (λ a b. a && b) (and_left _ _ h) (all_snoc test xs x (and_right (test y) _ h) k)
 
@@ -149,12 +155,14 @@ abbrev pub Pairwise : (Live → Live → Type 0) → List Live → Type 0
 Pairwise P [] = Unit {0}
 Pairwise P (l ∷ ls) = Each (λ k. P k l) ls × Pairwise P ls
 
-pairs_snoc : {X : Type 0} → (test : X → X → Bool) (xs : List X) (x : X) → all_pairs test xs ≡ true → list_all (λ y. test y x) xs ≡ true → all_pairs test (xs ++ x ∷ []) ≡ true
+pairs_snoc : {X : Type 0} → (test : X → X → Bool) (xs : List X) (x : X)
+    → all_pairs test xs ≡ true → list_all (λ y. test y x) xs ≡ true → all_pairs test (xs ++ x ∷ []) ≡ true
 pairs_snoc test [] x h k = refl
 pairs_snoc test (y ∷ xs) x h k =
     ap₂ (λ a b. a && b) (all_snoc (test y) xs x (and_left _ _ h) (and_left _ _ k)) (pairs_snoc test xs x (and_right (list_all (test y) xs) _ h) (and_right (test y x) _ k))
 
 -- a test of each older and younger live thread passes for each two of the list, oldest first
-pub pairs_all : (test : Sound.Live → Sound.Live → Bool) (ls : List Live) → Pairwise (λ k l. test (told k) (told l) ≡ true) ls → all_pairs test (oldest_first ls) ≡ true
+pub pairs_all : (test : Sound.Live → Sound.Live → Bool) (ls : List Live)
+    → Pairwise (λ k l. test (told k) (told l) ≡ true) ls → all_pairs test (oldest_first ls) ≡ true
 pairs_all test [] h = refl
 pairs_all test (l ∷ ls) h = pairs_snoc test (oldest_first ls) (told l) (pairs_all test ls h.1) (all_each (λ y. test y (told l)) ls h.0)

@@ -91,7 +91,8 @@ module _ (p : Pipe) (g : Ways p) where
 
 -- FORKS
 
-sides_snoc : (p : Pipe) (f : ℕ) (xs : List Sound.Live) (l : Sound.Live) → sides_in p f (xs ++ l ∷ []) ≡ sides_in p f xs ++ side_in f (stage_at p l.stage).branch
+sides_snoc : (p : Pipe) (f : ℕ) (xs : List Sound.Live) (l : Sound.Live)
+    → sides_in p f (xs ++ l ∷ []) ≡ sides_in p f xs ++ side_in f (stage_at p l.stage).branch
 sides_snoc p f [] l = append-nil (side_in f (stage_at p l.stage).branch)
 sides_snoc p f (x ∷ xs) l = ap (λ k. side_in f (stage_at p x.stage).branch ++ k) (sides_snoc p f xs l) ∙ sym (append_assoc (side_in f (stage_at p x.stage).branch) (sides_in p f xs) (side_in f (stage_at p l.stage).branch))
 

@@ -21,7 +21,8 @@ pub record Mine (p : Pipe) (st : State) (l : Live) : Type 0 where
   pub listed : (m : ℕ) (test : Pending → Bool) → list_all test (pend m l.number l.thread.entries) ≡ true → list_all (of_thread l.number test) (lock_of st m) ≡ true
 
 -- where all elements of two lists pass a test, all of both lists joined do
-pub all_append : {X : Type 0} → (test : X → Bool) (xs ys : List X) → list_all test xs ≡ true → list_all test ys ≡ true → list_all test (xs ++ ys) ≡ true
+pub all_append : {X : Type 0} → (test : X → Bool) (xs ys : List X)
+    → list_all test xs ≡ true → list_all test ys ≡ true → list_all test (xs ++ ys) ≡ true
 all_append test [] ys h k = k
 all_append test (x ∷ xs) ys h k = ap₂ (λ a b. a && b) (and_left _ _ h) (all_append test xs ys (and_right (test x) _ h) k)
 

@@ -59,7 +59,8 @@ onto_append [] ys past = refl
 onto_append (x ∷ xs) ys past = onto_append xs ys (x.op ∷ past)
 
 -- where joined statements bind new variables, those of the second list do so after the first
-pub all_new_append : (vars : ℕ) (xs ys : List Stmt) (past : List Op) → all_new vars past (xs ++ ys) ≡ true → all_new vars (onto xs past) ys ≡ true
+pub all_new_append : (vars : ℕ) (xs ys : List Stmt) (past : List Op)
+    → all_new vars past (xs ++ ys) ≡ true → all_new vars (onto xs past) ys ≡ true
 all_new_append vars [] ys past h = h
 all_new_append vars (x ∷ xs) ys past h = all_new_append vars xs ys (x.op ∷ past) (and_right (is_new vars past (bound_by x.op) && not (uses_own x.op)) _ h)
 
@@ -75,7 +76,8 @@ all_new_front vars (x ∷ xs) ys past h =
 abbrev pub touches : ℕ → Op → Bool
 touches x op = on_delayed_read (λ y m a. a == x) (mentions_var x op) op
 
-value_agree : (e : Expr) (env env' : List ℕ) → ((g : ℕ) → uses_in g e ≡ true → slice_index env g ≡ slice_index env' g) → value_of e env ≡ value_of e env'
+value_agree : (e : Expr) (env env' : List ℕ)
+    → ((g : ℕ) → uses_in g e ≡ true → slice_index env g ≡ slice_index env' g) → value_of e env ≡ value_of e env'
 value_agree (Constant w v) env env' f = refl
 value_agree (Variable x) env env' f = f x (eq-eqb x x refl)
 value_agree (Slice x high low) env env' f = ap (Words.slice high low) (f x (eq-eqb x x refl))
@@ -91,7 +93,8 @@ value_agree (Choose c a b) env env' f =
     let n = value_agree b env env' (λ g h. f g (or_right (uses_in g c) _ (or_right (uses_in g a) _ h))) in
     λ i. Words.mux (k i) (m i) (n i)
 
-values_agree : (es : List Expr) (env env' : List ℕ) → ((g : ℕ) → uses_any g es ≡ true → slice_index env g ≡ slice_index env' g) → values_of es env ≡ values_of es env'
+values_agree : (es : List Expr) (env env' : List ℕ)
+    → ((g : ℕ) → uses_any g es ≡ true → slice_index env g ≡ slice_index env' g) → values_of es env ≡ values_of es env'
 values_agree [] env env' f = refl
 values_agree (e ∷ es) env env' f = ap₂ (λ a l. a ∷ l) (value_agree e env env' (λ g h. f g (or_left _ _ h))) (values_agree es env env' (λ g h. f g (or_right (uses_in g e) _ h)))
 
@@ -178,7 +181,7 @@ abbrev pub AskedBy : List ℕ → List Op → Ask → Type 0
 AskedBy env past q = AnyOp (λ op. (a : ℕ) × (op ≡ DelayedRead q.var q.mem a) × (slice_index env a ≡ q.address)) past
 
 -- whether one hangs on the value of a variable
-abbrev touched : ℕ → List Op → Bool
+abbrev pub touched : ℕ → List Op → Bool
 touched x [] = false
 touched x (op ∷ ops) = touches x op || touched x ops
 
@@ -211,15 +214,18 @@ pub record Past (o : Around) (vars : ℕ) (past : List Op) (w : Work) : Type 0 w
   pub blocks : AllOps (BlockOk o w.env w.entries past) past
 
 -- a variable with which no statement has to do gets a value
-pub placed_set : (x v : ℕ) (env : List ℕ) (past : List Op) (es : List Entry) → touched x past ≡ false → AllPlaced env past es → AllPlaced (slice_set env x v) past es
+pub placed_set : (x v : ℕ) (env : List ℕ) (past : List Op) (es : List Entry)
+    → touched x past ≡ false → AllPlaced env past es → AllPlaced (slice_set env x v) past es
 placed_set x v env past [] h k = tt
 placed_set x v env past (e ∷ es) h k = (k.0 ∙ sym (get_or-set_other env x e.var v 0 (λ i. untrue (sym h ∙ ap (λ n. touched n past) (sym i) ∙ k.1))), k.1, placed_set x v env past es h k.2)
 
-asked_set : (x v : ℕ) (env : List ℕ) (past : List Op) (q : Ask) → AllOps (λ op. touches x op ≡ false) past → AskedBy env past q → AskedBy (slice_set env x v) past q
+asked_set : (x v : ℕ) (env : List ℕ) (past : List Op) (q : Ask)
+    → AllOps (λ op. touches x op ≡ false) past → AskedBy env past q → AskedBy (slice_set env x v) past q
 asked_set x v env past q h k = any_both (λ op t i. (i.0, i.1, sym (set_agrees x v op env t i.0 (ap (touches i.0) i.1 ∙ eq-eqb i.0 i.0 refl)) ∙ i.2)) past h k
 
 -- a block stays ready, or its location released, when a variable is set on which it doesn't hang
-pub block_set : (o : Around) (x v : ℕ) (env : List ℕ) (es : List Entry) (past : List Op) (op : Op) → touches x op ≡ false → BlockOk o env es past op → BlockOk o (slice_set env x v) es past op
+pub block_set : (o : Around) (x v : ℕ) (env : List ℕ) (es : List Entry) (past : List Op) (op : Op)
+    → touches x op ≡ false → BlockOk o env es past op → BlockOk o (slice_set env x v) es past op
 block_set o x v env es past (Block m a) t (inl h) = inl h
 block_set o x v env es past (Block m a) t (inr h) = inr (ap (λ n. cond (has_entry es m a) (o.can_write m n) (o.can_read m n)) (sym (set_agrees x v (Block m a) env t a (eq-eqb a a refl))) ∙ h)
 block_set o x v env es past (Bind y e) t h = tt
@@ -265,7 +271,8 @@ placed_more : (env : List ℕ) (past : List Op) (op : Op) (es : List Entry) → 
 placed_more env past op [] h = tt
 placed_more env past op (e ∷ es) h = (h.0, or_right (touches e.var op) _ h.1, placed_more env past op es h.2)
 
-placed_filled : (env : List ℕ) (past : List Op) (es : List Entry) (m a v : ℕ) → AllPlaced env past es → AllPlaced env past (with_entry_value es m a v)
+placed_filled : (env : List ℕ) (past : List Op) (es : List Entry) (m a v : ℕ) → AllPlaced env past es
+    → AllPlaced env past (with_entry_value es m a v)
 placed_filled env past [] m a v h = tt
 placed_filled env past (e ∷ es) m a v h = at ((e.mem == m) && (e.var == a)) (placed_filled env past es m a v h.2)
   where

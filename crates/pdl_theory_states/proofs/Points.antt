@@ -37,7 +37,9 @@ stmts_all test [] h = refl
 stmts_all test (x ∷ xs) h = both_true h.0 (stmts_all test xs h.1)
 
 -- where one of these statements passes a test, one of those carried out with them does
-pub any_onto : (test : Op → Bool) (some : List Op → Bool) → ((op : Op) (ops : List Op) → some (op ∷ ops) ≡ (test op || some ops)) → (xs : List Stmt) (past : List Op) → list_any (λ (x : Stmt). test x.op) xs ≡ true → some (onto xs past) ≡ true
+pub any_onto : (test : Op → Bool) (some : List Op → Bool)
+    → ((op : Op) (ops : List Op) → some (op ∷ ops) ≡ (test op || some ops)) → (xs : List Stmt) (past : List Op)
+    → list_any (λ (x : Stmt). test x.op) xs ≡ true → some (onto xs past) ≡ true
 any_onto test some f [] past h = absurd (cc h)
 any_onto test some f (x ∷ xs) past h = at (test x.op) refl h (λ k. any_onto test some f xs (x.op ∷ past) k)
   where
@@ -50,7 +52,9 @@ any_onto test some f (x ∷ xs) past h = at (test x.op) refl h (λ k. any_onto t
     at false e k g = g k
 
 -- a statement carried out that passes a test is one of these or one that was carried out before
-pub onto_any : (test : Op → Bool) (some : List Op → Bool) → ((op : Op) (ops : List Op) → some (op ∷ ops) ≡ (test op || some ops)) → (xs : List Stmt) (past : List Op) → some (onto xs past) ≡ true → (list_any (λ (x : Stmt). test x.op) xs ≡ true) ⊎ (some past ≡ true)
+pub onto_any : (test : Op → Bool) (some : List Op → Bool)
+    → ((op : Op) (ops : List Op) → some (op ∷ ops) ≡ (test op || some ops)) → (xs : List Stmt) (past : List Op)
+    → some (onto xs past) ≡ true → (list_any (λ (x : Stmt). test x.op) xs ≡ true) ⊎ (some past ≡ true)
 onto_any test some f [] past h = inr h
 onto_any test some f (x ∷ xs) past h = at (onto_any test some f xs (x.op ∷ past) h)
   where
@@ -62,7 +66,8 @@ onto_any test some f (x ∷ xs) past h = at (onto_any test some f xs (x.op ∷ p
     at (inl k) = inl (or_right (test x.op) _ k)
     at (inr k) = by (test x.op) refl (sym (f x.op past) ∙ k)
 
-pub released_done : (m a : ℕ) (xs : List Stmt) → is_released m a (onto xs []) ≡ true → list_any (λ (x : Stmt). is_release_at m a x.op) xs ≡ true
+pub released_done : (m a : ℕ) (xs : List Stmt)
+    → is_released m a (onto xs []) ≡ true → list_any (λ (x : Stmt). is_release_at m a x.op) xs ≡ true
 released_done m a xs h = at (onto_any (is_release_at m a) (is_released m a) (λ op ops. refl) xs [] h)
   where
     at : (list_any (λ (x : Stmt). is_release_at m a x.op) xs ≡ true) ⊎ (false ≡ true) → list_any (λ (x : Stmt). is_release_at m a x.op) xs ≡ true
@@ -86,20 +91,24 @@ made_is p l = sym (called_any false (on_way p l.env l.thread.stage))
 
 -- 2. CHAIN
 
-linked_snoc : (p : Pipe) (xs : List Sound.Live) (l : Sound.Live) → AllLive (λ x. has_done Sound.is_call p x ≡ true) xs → has_done Sound.is_call p l ≡ false → are_linked p (xs ++ l ∷ []) ≡ true
+linked_snoc : (p : Pipe) (xs : List Sound.Live) (l : Sound.Live)
+    → AllLive (λ x. has_done Sound.is_call p x ≡ true) xs → has_done Sound.is_call p l ≡ false
+    → are_linked p (xs ++ l ∷ []) ≡ true
 linked_snoc p [] l h k = ap not k
 linked_snoc p (x ∷ []) l h k = both_true h.0 (ap not k)
 linked_snoc p (x ∷ y ∷ xs) l h k = both_true h.0 (linked_snoc p (y ∷ xs) l h.1 k)
 
 -- live threads are linked where each but the youngest has made its successor, and the youngest none
-pub chain : (p : Pipe) (l : Live) (ls : List Live) → HaveMade p (l ∷ ls) → has_made p l.env l.thread.stage ≡ false → are_linked p (oldest_first (l ∷ ls)) ≡ true
+pub chain : (p : Pipe) (l : Live) (ls : List Live) → HaveMade p (l ∷ ls)
+    → has_made p l.env l.thread.stage ≡ false → are_linked p (oldest_first (l ∷ ls)) ≡ true
 chain p l ls h k = linked_snoc p (oldest_first ls) (told l) (live_each (λ x. has_done Sound.is_call p x ≡ true) ls (each_map (λ j e. made_is p j ∙ e) ls h)) (made_is p l ∙ k)
 
 -- OF EACH THREAD
 
 -- 7. REQUESTS
 
-held_op : (kept : List Kept) (awaits : List Awaited) (n : ℕ) (env guess : List ℕ) (op : Op) → HeldOp kept awaits op → is_kept_or_awaited (record { number = n; env = env; guess = guess; awaits = awaits; kept = kept }) op ≡ true
+held_op : (kept : List Kept) (awaits : List Awaited) (n : ℕ) (env guess : List ℕ) (op : Op) → HeldOp kept awaits op
+    → is_kept_or_awaited (record { number = n; env = env; guess = guess; awaits = awaits; kept = kept }) op ≡ true
 held_op kept awaits n env guess (DelayedRead x m a) h = h x m a refl
 held_op kept awaits n env guess _ h = refl
 
@@ -107,7 +116,8 @@ imply : (b c : Bool) → (b ≡ true → c ≡ true) → (not b || c) ≡ true
 imply true c f = f refl
 imply false c f = refl
 
-owners_all : (st : State) (n : ℕ) (rs : List Awaited) → Choices.AllOwned st n rs → list_all (λ r. is_owner n (request_of st r.mem)) rs ≡ true
+owners_all : (st : State) (n : ℕ) (rs : List Awaited) → Choices.AllOwned st n rs
+    → list_all (λ r. is_owner n (request_of st r.mem)) rs ≡ true
 owners_all st n [] h = refl
 owners_all st n (r ∷ rs) h = both_true (ap (is_owner n) h.0.1 ∙ eq-eqb n n refl) (owners_all st n rs h.1)
 
@@ -123,7 +133,8 @@ awaits_any : (m : ℕ) (rs : List Awaited) → awaits_mem rs m ≡ list_any (λ 
 awaits_any m [] = refl
 awaits_any m (r ∷ rs) = ap (λ b. (r.mem == m) || b) (awaits_any m rs)
 
-any_snoc : {X : Type 0} → (test : X → Bool) (xs : List X) (x : X) → (list_any test xs || test x) ≡ true → list_any test (xs ++ x ∷ []) ≡ true
+any_snoc : {X : Type 0} → (test : X → Bool) (xs : List X) (x : X)
+    → (list_any test xs || test x) ≡ true → list_any test (xs ++ x ∷ []) ≡ true
 any_snoc test [] x h = or_left (test x) _ h
 any_snoc test (y ∷ xs) x h = at (test y) h (λ k. any_snoc test xs x k)
   where
@@ -132,7 +143,9 @@ any_snoc test (y ∷ xs) x h = at (test y) h (λ k. any_snoc test xs x k)
     at false k f = f k
 
 -- where the thread of this number awaits memory m, it is found in the list that begins with the oldest
-pub owner_any : (n m : ℕ) (ls : List Live) → Choices.has_owner n m ls ≡ true → list_any (λ (l : Sound.Live). (l.thread.number == n) && list_any (λ r. r.mem == m) l.thread.awaits) (oldest_first ls) ≡ true
+pub owner_any : (n m : ℕ) (ls : List Live)
+    → Choices.has_owner n m ls ≡ true
+    → list_any (λ (l : Sound.Live). (l.thread.number == n) && list_any (λ r. r.mem == m) l.thread.awaits) (oldest_first ls) ≡ true
 owner_any n m [] h = absurd (cc h)
 owner_any n m (l ∷ ls) h = any_snoc _ (oldest_first ls) (told l) (at ((l.number == n) && awaits_mem l.thread.awaits m) refl h (λ k. owner_any n m ls k))
   where
@@ -193,7 +206,10 @@ abbrev places_test : ℕ → List ℕ → HeldLocation → Pending → Bool
 places_test n env h e = (e.thread == n) && (e.address == slice_index env h.var)
 
 -- each pending write of a thread is in its lock's list
-own_places : (n : ℕ) (env : List ℕ) (past : List Op) (es : List Entry) → AllPlaced env past es → (test : HeldLocation → Bool) → ((h : HeldLocation) → list_any (places_test n env h) (pend h.mem n es) ≡ true → test h ≡ true) → list_all test (places es) ≡ true
+own_places : (n : ℕ) (env : List ℕ) (past : List Op) (es : List Entry) → AllPlaced env past es
+    → (test : HeldLocation → Bool)
+    → ((h : HeldLocation) → list_any (places_test n env h) (pend h.mem n es) ≡ true → test h ≡ true)
+    → list_all test (places es) ≡ true
 own_places n env past [] h test f = refl
 own_places n env past (e ∷ es) h test f =
     both_true (f (record { mem = e.mem; var = e.var }) (any_append (places_test n env (record { mem = e.mem; var = e.var })) (pend e.mem n es) _ mine))

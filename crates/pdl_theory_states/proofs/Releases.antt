@@ -58,7 +58,8 @@ done_op m ph (Release n a) r h = at (n == m) r
     at false k = h
 done_op m ph _ r h = h
 
-never_done : (m : ℕ) (ph : Phase) (xs : List Stmt) → none_of (is_release m) xs ≡ true → is_done ph ≡ false → is_done (phase_all m ph xs) ≡ false
+never_done : (m : ℕ) (ph : Phase) (xs : List Stmt)
+    → none_of (is_release m) xs ≡ true → is_done ph ≡ false → is_done (phase_all m ph xs) ≡ false
 never_done m ph [] r h = h
 never_done m ph (x ∷ xs) r h = never_done m (next_phase m ph x.op) xs (and_right (not (is_release m x.op)) _ r) (done_op m ph x.op (and_left _ _ r) h)
 
@@ -99,7 +100,8 @@ reserve_op : (m : ℕ) (ph : Phase) (op : Op) → is_write_reserve m op ≡ true
 reserve_op m ph (ReserveWrite n a) h = ap (λ b. is_fresh (cond b (Held a) ph)) h
 reserve_op m ph _ h = absurd (cc h)
 
-reserved_used : (m : ℕ) (ph : Phase) (xs : List Stmt) → list_any (λ (x : Stmt). is_write_reserve m x.op) xs ≡ true → is_fresh (phase_all m ph xs) ≡ false
+reserved_used : (m : ℕ) (ph : Phase) (xs : List Stmt)
+    → list_any (λ (x : Stmt). is_write_reserve m x.op) xs ≡ true → is_fresh (phase_all m ph xs) ≡ false
 reserved_used m ph [] h = absurd (cc h)
 reserved_used m ph (x ∷ xs) h = at (is_write_reserve m x.op) refl h (reserved_used m (next_phase m ph x.op) xs)
   where
@@ -122,7 +124,9 @@ unused_op m (Release n a) u r = at (n == m)
     at false = refl
 unused_op m _ u r = refl
 
-unused_all : (m : ℕ) (xs : List Stmt) → uses_ok m Fresh xs ≡ true → list_any (λ (x : Stmt). is_write_reserve m x.op) xs ≡ false → phase_all m Fresh xs ≡ Fresh
+unused_all : (m : ℕ) (xs : List Stmt)
+    → uses_ok m Fresh xs ≡ true → list_any (λ (x : Stmt). is_write_reserve m x.op) xs ≡ false
+    → phase_all m Fresh xs ≡ Fresh
 unused_all m [] u r = refl
 unused_all m (x ∷ xs) u r = at (is_write_reserve m x.op) refl r (unused_all m xs)
   where
@@ -199,7 +203,8 @@ module _ (p : Pipe) (sound : Sound p) (st : State) (l : Live) (seated : Seated p
 
 -- A THREAD ON ITS TURN
 
-pending_none : (m : ℕ) (ph : Phase) (env : List ℕ) (es : List Entry) (cs ws : List Commit) → Tied m ph env es cs ws → is_done ph ≡ false → cs ≡ []
+pending_none : (m : ℕ) (ph : Phase) (env : List ℕ) (es : List Entry) (cs ws : List Commit) → Tied m ph env es cs ws
+    → is_done ph ≡ false → cs ≡ []
 pending_none m Fresh env es cs ws t h = t.1
 pending_none m (Held x) env es cs ws t h = t.1
 pending_none m (Written x) env es cs ws t h = t.3
@@ -217,13 +222,14 @@ module _ (p : Pipe) (sound : Sound p) (arrays : Arrays) (args : List ℕ) where
 -- A THREAD AFTER A WRONG GUESS
 
 -- a write under way has its location among those that were opened
-abbrev Opened : ℕ → Phase → Scan → Type 0
+abbrev pub Opened : ℕ → Phase → Scan → Type 0
 Opened m Fresh c = Unit {0}
 Opened m (Held x) c = has_location c.held m x ≡ true
 Opened m (Written x) c = has_location c.held m x ≡ true
 Opened m Done c = Unit {0}
 
-opened_more : (m : ℕ) (ph : Phase) (c c' : Scan) → ((x : ℕ) → has_location c.held m x ≡ true → has_location c'.held m x ≡ true) → Opened m ph c → Opened m ph c'
+opened_more : (m : ℕ) (ph : Phase) (c c' : Scan)
+    → ((x : ℕ) → has_location c.held m x ≡ true → has_location c'.held m x ≡ true) → Opened m ph c → Opened m ph c'
 opened_more m Fresh c c' f h = tt
 opened_more m (Held x) c c' f h = f x h
 opened_more m (Written x) c c' f h = f x h
@@ -236,7 +242,9 @@ opened_held m a (Written x) c h o = absurd (cc h)
 opened_held m a Done c h o = absurd (cc h)
 
 -- before V and without a barrier such a write is not released
-sure_op : (m v s : ℕ) (c : Scan) (ph : Phase) (op : Op) → phase_ok m ph op ≡ true → is_sure (Some v) false c s op ≡ true → nat_lt s v ≡ true → Opened m ph c → is_done ph ≡ false → Opened m (next_phase m ph op) (scan_after op c) × (is_done (next_phase m ph op) ≡ false)
+sure_op : (m v s : ℕ) (c : Scan) (ph : Phase) (op : Op)
+    → phase_ok m ph op ≡ true → is_sure (Some v) false c s op ≡ true → nat_lt s v ≡ true → Opened m ph c
+    → is_done ph ≡ false → Opened m (next_phase m ph op) (scan_after op c) × (is_done (next_phase m ph op) ≡ false)
 sure_op m v s c ph (ReserveWrite n a) k u low o d = at (n == m) refl
   where
     more : Opened m ph (scan_after (ReserveWrite n a) c)
@@ -282,7 +290,10 @@ barred_stays [] = refl
 barred_stays (x ∷ xs) = barred_stays xs
 
 -- before stage V, and without a barrier, certain releases leave a write that is not done as not done
-pub sure_done : (m v : ℕ) (c : Scan) (ph : Phase) (xs : List Stmt) → phases_ok m ph xs ≡ true → all_sure (Some v) false c xs ≡ true → some_barrier false xs ≡ false → AllStmts (λ x. nat_lt x.stage v ≡ true) xs → Opened m ph c → is_done ph ≡ false → is_done (phase_all m ph xs) ≡ false
+pub sure_done : (m v : ℕ) (c : Scan) (ph : Phase) (xs : List Stmt)
+    → phases_ok m ph xs ≡ true → all_sure (Some v) false c xs ≡ true → some_barrier false xs ≡ false
+    → AllStmts (λ x. nat_lt x.stage v ≡ true) xs → Opened m ph c → is_done ph ≡ false
+    → is_done (phase_all m ph xs) ≡ false
 sure_done m v c ph [] k u b low o d = d
 sure_done m v c ph (x ∷ xs) k u b low o d =
     let one = sure_op m v x.stage c ph x.op (and_right (no_guards x.guards) _ (and_left _ _ k)) (and_left _ _ u) low.0 o d in
@@ -335,7 +346,10 @@ unbarred (x ∷ xs) h = ap (λ b. some_barrier b (looked_all xs)) (barrier_looke
     at false i f = f i
 
 -- before V and after no barrier
-pub early_unreleased : (p : Pipe) (sound : Sound p) (st : State) (l : Live) → Seated p st l → (v : ℕ) → verify_stage p.stmts ≡ Some v → l.thread.stage < v → list_any (λ (x : Stmt). Sound.is_barrier x.op) (on_way p l.env l.thread.stage) ≡ false → (m : ℕ) → has_released m p (told l) ≡ false
+pub early_unreleased : (p : Pipe) (sound : Sound p) (st : State) (l : Live) → Seated p st l → (v : ℕ)
+    → verify_stage p.stmts ≡ Some v → l.thread.stage < v
+    → list_any (λ (x : Stmt). Sound.is_barrier x.op) (on_way p l.env l.thread.stage) ≡ false → (m : ℕ)
+    → has_released m p (told l) ≡ false
 early_unreleased p sound st l seated v verifies low clear m = not_released p sound st l seated m
     (ap is_done (sym (phases_looked m Fresh (on_way p l.env l.thread.stage))) ∙ ap (λ xs. is_done (phase_all m Fresh xs)) (sym (way_looked p l.env l.thread.stage))
     ∙ sure_done m v no_scan Fresh (before l.thread.stage (onpath l.env (looked_all p.stmts)))

@@ -59,7 +59,8 @@ clear_op o (Verify args) w h r = absurd (cc h)
 clear_op o SpecCheck w h r = absurd (cc h)
 
 -- a thread that moves on from a barrier found nobody
-pub clear_all : (path : List ℕ) (o : Around) (xs : List Stmt) (w : Work) → Fixed path o xs w → some_barrier (onpath path xs) ≡ true → (do_all o xs w).ready ≡ true → o.clear ≡ true
+pub clear_all : (path : List ℕ) (o : Around) (xs : List Stmt) (w : Work) → Fixed path o xs w
+    → some_barrier (onpath path xs) ≡ true → (do_all o xs w).ready ≡ true → o.clear ≡ true
 clear_all path o [] w f h r = absurd (cc h)
 clear_all path o (x ∷ xs) w f h r = at (all_hold x.guards w.env) (all_hold x.guards path) f.0 h r (λ k l. clear_all path o xs (step o x w) f.1 k l)
   where
@@ -112,7 +113,9 @@ block_like o o' env es past SpecCheck f h = tt
 block_like o o' env es past SpecBarrier f h = tt
 
 -- with the answers that are kept
-pub kept_blocks : (o : Around) (es : List Entry) (past ops : List Op) (kept : List Kept) (env : List ℕ) → AllKept (λ k. AllOps (λ op. touches k.var op ≡ false) ops) kept → AllOps (BlockOk o env es past) ops → AllOps (BlockOk o (with_kept kept env) es past) ops
+pub kept_blocks : (o : Around) (es : List Entry) (past ops : List Op) (kept : List Kept) (env : List ℕ)
+    → AllKept (λ k. AllOps (λ op. touches k.var op ≡ false) ops) kept → AllOps (BlockOk o env es past) ops
+    → AllOps (BlockOk o (with_kept kept env) es past) ops
 kept_blocks o es past ops [] env u h = h
 kept_blocks o es past ops (k ∷ kept) env u h = kept_blocks o es past ops kept (slice_set env k.var k.word) u.1 (ops_both (λ op t b. block_set o k.var k.word env es past op t b) ops u.0 h)
 
@@ -120,10 +123,14 @@ kept_blocks o es past ops (k ∷ kept) env u h = kept_blocks o es past ops kept 
 abbrev pub LowBlock : Pipe → ℕ → Op → Type 0
 LowBlock p s op = (m a : ℕ) → op ≡ Block m a → reserve_stage p m ≤ s
 
-low_op : (p q : Pipe) → ((m : ℕ) → reserve_stage q m ≡ reserve_stage p m) → (s : ℕ) (c : Scan) (op : Op) → op_ok q s c (answered_op op) ≡ true → LowBlock p s op
+low_op : (p q : Pipe)
+    → ((m : ℕ) → reserve_stage q m ≡ reserve_stage p m) → (s : ℕ) (c : Scan) (op : Op)
+    → op_ok q s c (answered_op op) ≡ true → LowBlock p s op
 low_op p q f s c op h m a e = subst (λ n. n ≤ s) (f m) (leb-true (reserve_stage q m) s (subst (λ o. op_ok q s c (answered_op o) ≡ true) e h))
 
-low_all : (p q : Pipe) → ((m : ℕ) → reserve_stage q m ≡ reserve_stage p m) → (c : Scan) (xs : List Stmt) → reads_ok q c (looked_all xs) ≡ true → AllStmts (λ z. LowBlock p z.stage z.op) xs
+low_all : (p q : Pipe)
+    → ((m : ℕ) → reserve_stage q m ≡ reserve_stage p m) → (c : Scan) (xs : List Stmt)
+    → reads_ok q c (looked_all xs) ≡ true → AllStmts (λ z. LowBlock p z.stage z.op) xs
 low_all p q f c [] h = tt
 low_all p q f c (x ∷ xs) h = (low_op p q f x.stage c x.op (and_right (no_guards x.guards) _ (and_left _ _ h)), low_all p q f (scan_after (answered_op x.op) c) xs (and_right (no_guards x.guards && op_ok q x.stage c (answered_op x.op)) _ h))
 
@@ -191,7 +198,8 @@ call_child o SpecCheck w h = absurd (cc h)
 call_child o SpecBarrier w h = absurd (cc h)
 
 -- a stage that makes no thread calls none
-pub childless : (path : List ℕ) (o : Around) (xs : List Stmt) (w : Work) → Fixed path o xs w → (do_all o xs w).child ≡ None → called false (onpath path xs) ≡ false
+pub childless : (path : List ℕ) (o : Around) (xs : List Stmt) (w : Work) → Fixed path o xs w
+    → (do_all o xs w).child ≡ None → called false (onpath path xs) ≡ false
 childless path o [] w f h = refl
 childless path o (x ∷ xs) w f h = at (all_hold x.guards w.env) (all_hold x.guards path) f.0 h (λ k. childless path o xs (step o x w) f.1 k)
   where

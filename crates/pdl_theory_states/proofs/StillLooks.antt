@@ -26,7 +26,8 @@ pub let_go_behind : (xs ys : List Stmt) → all_let_go (xs ++ ys) ≡ true → a
 let_go_behind [] ys h = h
 let_go_behind (x ∷ xs) ys h = let_go_behind xs ys (and_right (lets_go x.op (xs ++ ys)) _ h)
 
-reads_behind : (q : Pipe) (c : Scan) (xs ys : List Stmt) → reads_ok q c (looked_all (xs ++ ys)) ≡ true → (c' : Scan) × (reads_ok q c' (looked_all ys) ≡ true)
+reads_behind : (q : Pipe) (c : Scan) (xs ys : List Stmt)
+    → reads_ok q c (looked_all (xs ++ ys)) ≡ true → (c' : Scan) × (reads_ok q c' (looked_all ys) ≡ true)
 reads_behind q c [] ys h = (c, h)
 reads_behind q c (x ∷ xs) ys h = reads_behind q (scan_after (answered_op x.op) c) xs ys (and_right (no_guards x.guards && op_ok q x.stage c (answered_op x.op)) _ h)
 

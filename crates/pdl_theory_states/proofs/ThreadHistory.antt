@@ -61,7 +61,8 @@ asks_op o SpecCheck w = sym (append-nil _)
 asks_op o SpecBarrier w = sym (append-nil _)
 
 -- what a stage asks for
-asks_are : (path : List ℕ) (o : Around) (xs : List Stmt) (w : Work) → Fixed path o xs w → awaited_of (do_all o xs w).asks ≡ awaited_of w.asks ++ fetches_of (onpath path xs)
+asks_are : (path : List ℕ) (o : Around) (xs : List Stmt) (w : Work) → Fixed path o xs w
+    → awaited_of (do_all o xs w).asks ≡ awaited_of w.asks ++ fetches_of (onpath path xs)
 asks_are path o [] w f = sym (append-nil _)
 asks_are path o (x ∷ xs) w f = asks_are path o xs (step o x w) f.1 ∙ at (all_hold x.guards w.env) (all_hold x.guards path) f.0
   where
@@ -323,7 +324,9 @@ all_flip P [] f = tt
 all_flip P (q ∷ qs) f = ((λ a. (f a).0), all_flip P qs (λ a. (f a).1))
 
 -- no call among statements
-uncalled : (c : Bool) (xs : List Stmt) (past : List Op) → called c xs ≡ false → (c ≡ false → AllOps (λ op. is_call op ≡ false) past) → AllOps (λ op. is_call op ≡ false) (onto xs past)
+uncalled : (c : Bool) (xs : List Stmt) (past : List Op)
+    → called c xs ≡ false → (c ≡ false → AllOps (λ op. is_call op ≡ false) past)
+    → AllOps (λ op. is_call op ≡ false) (onto xs past)
 uncalled c [] past h f = f h
 uncalled c (x ∷ xs) past h f = uncalled (c || is_call x.op) xs (x.op ∷ past) h (λ e. both c (is_call x.op) e f)
   where
@@ -331,12 +334,16 @@ uncalled c (x ∷ xs) past h f = uncalled (c || is_call x.op) xs (x.op ∷ past)
     both true d e f = absurd (cc e)
     both false d e f = (e, f refl)
 
-kept_done : (guess : List ℕ) (past : List Op) (kept : List Kept) (env : List ℕ) → AllKept (λ k. AllOps (λ op. touches k.var op ≡ false) past) kept → AllOps (Done env guess) past → AllOps (Done (with_kept kept env) guess) past
+kept_done : (guess : List ℕ) (past : List Op) (kept : List Kept) (env : List ℕ)
+    → AllKept (λ k. AllOps (λ op. touches k.var op ≡ false) past) kept → AllOps (Done env guess) past
+    → AllOps (Done (with_kept kept env) guess) past
 kept_done guess past [] env u h = h
 kept_done guess past (k ∷ kept) env u h =
     kept_done guess past kept (slice_set env k.var k.word) u.1 (ops_both (λ op t d. done_agrees env (slice_set env k.var k.word) guess op (set_agrees k.var k.word op env t) d) past u.0 h)
 
-kept_placed : (past : List Op) (es : List Entry) (kept : List Kept) (env : List ℕ) → AllKept (λ k. AllOps (λ op. touches k.var op ≡ false) past) kept → AllPlaced env past es → AllPlaced (with_kept kept env) past es
+kept_placed : (past : List Op) (es : List Entry) (kept : List Kept) (env : List ℕ)
+    → AllKept (λ k. AllOps (λ op. touches k.var op ≡ false) past) kept → AllPlaced env past es
+    → AllPlaced (with_kept kept env) past es
 kept_placed past es [] env u h = h
 kept_placed past es (k ∷ kept) env u h = kept_placed past es kept (slice_set env k.var k.word) u.1 (placed_set k.var k.word env past es (none_touched k.var past u.0) h)
 
@@ -345,7 +352,8 @@ kept_long n [] env h = h
 kept_long n (k ∷ kept) env h = kept_long n kept (slice_set env k.var k.word) (subst (λ m. n ≤ m) (sym (length-set env k.var k.word)) h)
 
 -- kept answers leave the value of a variable as it is where none of them is for it
-pub kept_other : (z : ℕ) (kept : List Kept) (env : List ℕ) → AllKept (λ k. z ≢ k.var) kept → slice_index (with_kept kept env) z ≡ slice_index env z
+pub kept_other : (z : ℕ) (kept : List Kept) (env : List ℕ) → AllKept (λ k. z ≢ k.var) kept
+    → slice_index (with_kept kept env) z ≡ slice_index env z
 kept_other z [] env h = refl
 kept_other z (k ∷ kept) env h = kept_other z kept (slice_set env k.var k.word) h.1 ∙ get_or-set_other env k.var z k.word 0 h.0
 
@@ -355,10 +363,12 @@ kept_map f [] h = tt
 kept_map f (k ∷ ks) h = (f k h.0, kept_map f ks h.1)
 
 -- kept answers are for variables on which nothing hangs
-pub kept_unused : (p : Pipe) (env : List ℕ) (kept : List Kept) (t : Derived.Thread) → (loc : Local p env kept t) → AllKept (λ k. AllOps (λ op. touches k.var op ≡ false) (past_of p env t.stage)) kept
+pub kept_unused : (p : Pipe) (env : List ℕ) (kept : List Kept) (t : Derived.Thread) → (loc : Local p env kept t)
+    → AllKept (λ k. AllOps (λ op. touches k.var op ≡ false) (past_of p env t.stage)) kept
 kept_unused p env kept t loc = kept_map (λ k i. let a = any_of (λ q. AllOps (λ op. touches q.var op ≡ false) (past_of p env t.stage)) (λ q. q.var ≡ k.var) loc.asks loc.unused i in subst (λ v. AllOps (λ op. touches v op ≡ false) (past_of p env t.stage)) a.2 a.1) kept loc.kept_in
 
-kept_steady : (p : Pipe) (env : List ℕ) (kept : List Kept) (t : Derived.Thread) → (loc : Local p env kept t) → AllKept (λ k. Steady p loc.trail k.var) kept
+kept_steady : (p : Pipe) (env : List ℕ) (kept : List Kept) (t : Derived.Thread) → (loc : Local p env kept t)
+    → AllKept (λ k. Steady p loc.trail k.var) kept
 kept_steady p env kept t loc = kept_map (λ k i. let a = any_of (λ q. Steady p loc.trail q.var) (λ q. q.var ≡ k.var) loc.asks loc.steady i in subst (λ v. Steady p loc.trail v) a.2 a.1) kept loc.kept_in
 
 module _ (p : Pipe) (flows : Flows p) (sound : Sound p) (strict : Strict p) (o : Around) (kind : Kind o) (env : List ℕ) (kept : List Kept) (t : Derived.Thread) (kept_answer : Keeps p env t) (values : with_kept kept env ≡ t.env) (loc : Local p env kept t) (ready : (work_of_stage p o t).ready ≡ true) where

@@ -68,13 +68,16 @@ Among q (r ∷ rs) = (q ≡ r) ⊎ Among q rs
 abbrev pub Steady : Pipe → List ℕ → ℕ → Type 0
 Steady p trail x = (r : ℕ) → Among r trail → (z a b : ℕ) → (stage_at p r).next ≡ Forks z a b → z ≢ x
 
-goes_same : (n : Next) (env env' : List ℕ) → ((z a b : ℕ) → n ≡ Forks z a b → slice_index env z ≡ slice_index env' z) → goes_to n env ≡ goes_to n env'
+goes_same : (n : Next) (env env' : List ℕ)
+    → ((z a b : ℕ) → n ≡ Forks z a b → slice_index env z ≡ slice_index env' z) → goes_to n env ≡ goes_to n env'
 goes_same Ends env env' f = refl
 goes_same (Goes to) env env' f = refl
 goes_same (Forks z a b) env env' f = ap (λ k. Some (if k == 1 then a else b)) (f z a b refl)
 
 -- the same trail with other values, where the forks' variables keep theirs
-pub trail_same : (p : Pipe) (env env' : List ℕ) (s : ℕ) (trail : List ℕ) → ((r : ℕ) → Among r trail → (z a b : ℕ) → (stage_at p r).next ≡ Forks z a b → slice_index env z ≡ slice_index env' z) → Trail p env s trail → Trail p env' s trail
+pub trail_same : (p : Pipe) (env env' : List ℕ) (s : ℕ) (trail : List ℕ)
+    → ((r : ℕ) → Among r trail → (z a b : ℕ) → (stage_at p r).next ≡ Forks z a b → slice_index env z ≡ slice_index env' z)
+    → Trail p env s trail → Trail p env' s trail
 trail_same p env env' s [] f h = h
 trail_same p env env' s (r ∷ rs) f h = (sym (goes_same (stage_at p r).next env env' (f r (inl refl))) ∙ h.0, h.1, trail_same p env env' r rs (λ q i. f q (inr i)) h.2)
 

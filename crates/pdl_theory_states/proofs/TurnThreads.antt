@@ -34,7 +34,10 @@ use Rattle.pdl_theory_turns.proofs.Roams.{verify_same}
 -- PATHS
 
 -- values that agree on all that is not bound later take the same way
-way_same : (env path : List ℕ) (xs ys : List Stmt) → is_fixed (looked_all xs ++ ys) ≡ true → ((g : ℕ) → none_of (binds_var g) ys ≡ true → slice_index path g ≡ slice_index env g) → onpath env xs ≡ onpath path xs
+way_same : (env path : List ℕ) (xs ys : List Stmt)
+    → is_fixed (looked_all xs ++ ys) ≡ true
+    → ((g : ℕ) → none_of (binds_var g) ys ≡ true → slice_index path g ≡ slice_index env g)
+    → onpath env xs ≡ onpath path xs
 way_same env path [] ys h f = refl
 way_same env path (x ∷ xs) ys h f =
     ap₂ (λ b l. cond b (record x { guards = [] } ∷ l) l)
@@ -42,7 +45,8 @@ way_same env path (x ∷ xs) ys h f =
     (way_same env path xs ys (and_right _ _ h) f)
 
 -- a run of the statements that a thread alone carries out
-follow : (path : List ℕ) (arrays : Arrays) (xs : List Stmt) (ph : ℕ → Phase) (w : Work) (r : Run) → Fixed path (alone arrays) xs w → ((n : ℕ) → phases_ok n (ph n) (onpath path xs) ≡ true) → Related arrays ph w r
+follow : (path : List ℕ) (arrays : Arrays) (xs : List Stmt) (ph : ℕ → Phase) (w : Work) (r : Run)
+    → Fixed path (alone arrays) xs w → ((n : ℕ) → phases_ok n (ph n) (onpath path xs) ≡ true) → Related arrays ph w r
     → (do_all (alone arrays) xs w).env ≡ (run_all xs r).env
 follow path arrays [] ph w r f ok rel = rel.env
 follow path arrays (x ∷ xs) ph w r f ok rel =
@@ -65,7 +69,9 @@ abbrev pub AllEntries : (Entry → Type 0) → List Entry → Type 0
 AllEntries P [] = Unit {0}
 AllEntries P (e ∷ es) = P e × AllEntries P es
 
-right_one : (m n : ℕ) (ph : Phase) (env : List ℕ) (es : List Entry) (cs ws ds : List Commit) → Tied m ph env es cs ws → addresses es ++ places cs ≡ places ds → (is_settled ph ≡ true → ds ≡ ws) → AllEntries (λ e. is_right_entry (is_settled ph) ds (own n e) ≡ true) es
+right_one : (m n : ℕ) (ph : Phase) (env : List ℕ) (es : List Entry) (cs ws ds : List Commit) → Tied m ph env es cs ws
+    → addresses es ++ places cs ≡ places ds → (is_settled ph ≡ true → ds ≡ ws)
+    → AllEntries (λ e. is_right_entry (is_settled ph) ds (own n e) ≡ true) es
 right_one m n Fresh env es cs ws ds t f g = subst (λ l. AllEntries (λ e. is_right_entry false ds (own n e) ≡ true) l) (sym t.0) tt
 right_one m n (Held x) env es cs ws ds t f g =
     subst (λ l. AllEntries (λ e. is_right_entry false ds (own n e) ≡ true) l) (sym t.0) (held ds (sym (ap₂ (λ l k. addresses l ++ places k) t.0 t.1) ∙ f), tt)
@@ -151,7 +157,9 @@ or_assoc : (a b c : Bool) → ((a || b) || c) ≡ (a || (b || c))
 or_assoc true b c = refl
 or_assoc false b c = refl
 
-settled_all : (m : ℕ) (ph : Phase) (xs : List Stmt) → phases_ok m ph xs ≡ true → is_settled (phase_all m ph xs) ≡ (is_settled ph || list_any (λ (x : Stmt). is_write m x.op) xs)
+settled_all : (m : ℕ) (ph : Phase) (xs : List Stmt)
+    → phases_ok m ph xs ≡ true
+    → is_settled (phase_all m ph xs) ≡ (is_settled ph || list_any (λ (x : Stmt). is_write m x.op) xs)
 settled_all m ph [] h = no (is_settled ph)
   where
     no : (b : Bool) → b ≡ (b || false)
@@ -162,7 +170,9 @@ settled_all m ph (x ∷ xs) h =
     ∙ ap (λ b. b || list_any (λ (x : Stmt). is_write m x.op) xs) (settled_op m ph x.op (and_right _ _ (and_left _ _ h)))
     ∙ or_assoc (is_settled ph) (is_write m x.op) (list_any (λ (x : Stmt). is_write m x.op) xs)
 
-any_looked : (test : Op → Bool) → ((op : Op) → test (answered_op op) ≡ test op) → (xs : List Stmt) → list_any (λ (x : Stmt). test x.op) (looked_all xs) ≡ list_any (λ (x : Stmt). test x.op) xs
+any_looked : (test : Op → Bool)
+    → ((op : Op) → test (answered_op op) ≡ test op) → (xs : List Stmt)
+    → list_any (λ (x : Stmt). test x.op) (looked_all xs) ≡ list_any (λ (x : Stmt). test x.op) xs
 any_looked test f [] = refl
 any_looked test f (x ∷ xs) = ap₂ (λ a b. a || b) (f x.op) (any_looked test f xs)
 
@@ -182,7 +192,9 @@ specs xs = list_any (λ (x : Stmt). is_spec_call x.op) xs
 abbrev checks : List Stmt → Bool
 checks xs = list_any (λ (x : Stmt). is_verify x.op) xs
 
-guess_op : (v : Option ℕ) (k : Making) (s : ℕ) (op : Op) → making_ok v k s op ≡ true → is_guessed (next_making k op) ≡ ((is_guessed k || is_spec_call op) && not (is_verify op))
+guess_op : (v : Option ℕ) (k : Making) (s : ℕ) (op : Op)
+    → making_ok v k s op ≡ true
+    → is_guessed (next_making k op) ≡ ((is_guessed k || is_spec_call op) && not (is_verify op))
 guess_op v k s (Call args) h = at k h
   where
     at : (k : Making) → is_unmade k ≡ true → false ≡ ((is_guessed k || false) && true)
@@ -206,7 +218,8 @@ guess_op v k s _ h = same (is_guessed k)
     same false = refl
 
 -- a guess that is verified is no guess any more, and none follows
-after_check : (v : Option ℕ) (k : Making) (xs : List Stmt) → makings_ok v k xs ≡ true → is_guessed k ≡ false → is_unmade k ≡ false → (specs xs ≡ false) × (checks xs ≡ false)
+after_check : (v : Option ℕ) (k : Making) (xs : List Stmt)
+    → makings_ok v k xs ≡ true → is_guessed k ≡ false → is_unmade k ≡ false → (specs xs ≡ false) × (checks xs ≡ false)
 after_check v k [] h g u = (refl, refl)
 after_check v k (x ∷ xs) h g u = at k x.op g u (and_left _ _ h) (λ e. after_check v k xs (subst (λ j. makings_ok v j xs ≡ true) e (and_right (making_ok v k x.stage x.op) _ h)) g u)
   where
@@ -218,7 +231,8 @@ after_check v k (x ∷ xs) h g u = at k x.op g u (and_left _ _ h) (λ e. after_c
     at Made (Verify args) g u i f = absurd (cc i)
     at Made _ g u i f = f refl
 
-guess_all : (v : Option ℕ) (k : Making) (xs : List Stmt) → makings_ok v k xs ≡ true → is_guessed (making_all k xs) ≡ ((is_guessed k || specs xs) && not (checks xs))
+guess_all : (v : Option ℕ) (k : Making) (xs : List Stmt)
+    → makings_ok v k xs ≡ true → is_guessed (making_all k xs) ≡ ((is_guessed k || specs xs) && not (checks xs))
 guess_all v k [] h = same (is_guessed k)
   where
     same : (b : Bool) → b ≡ ((b || false) && true)

@@ -48,7 +48,9 @@ later_like x m q (y ∷ ys) e f h = ((λ d z n a i. one z n (ap (fetches_no x m)
     one : (z n : ℕ) → (not (x == z) && not (m == n)) ≡ true → (z ≢ q.var) × (n ≢ q.mem)
     one z n k = ((λ i. differ x z (and_left _ _ k) (i ∙ e)), (λ i. differ m n (and_right (not (x == z)) _ k) (i ∙ f)))
 
-apart_op : (o : Around) (op : Op) (ys : List Stmt) (w : Work) → alone_op op ys ≡ true → Apart w.asks → AllAsks (λ q. ((x m a : ℕ) → op ≡ DelayedRead x m a → (x ≢ q.var) × (m ≢ q.mem)) × Later q ys) w.asks
+apart_op : (o : Around) (op : Op) (ys : List Stmt) (w : Work)
+    → alone_op op ys ≡ true → Apart w.asks
+    → AllAsks (λ q. ((x m a : ℕ) → op ≡ DelayedRead x m a → (x ≢ q.var) × (m ≢ q.mem)) × Later q ys) w.asks
     → Apart (work_after o op w).asks × AllAsks (λ q. Later q ys) (work_after o op w).asks
 apart_op o (DelayedRead x m a) ys w h p l = (
   apart_snoc w.asks (record { mem = m; var = x; address = slice_index w.env a }) p (all_more _ (λ r. (r.var ≢ x) × (r.mem ≢ m)) w.asks (λ q k. ((λ i. (k.0 x m a refl).0 (sym i)), (λ i. (k.0 x m a refl).1 (sym i)))) l),
@@ -62,7 +64,8 @@ apart_op o (Verify args) ys w h p l = at (same_args (values_of args w.env) w.gue
 apart_op o _ ys w h p l = (p, all_more _ (λ q. Later q ys) w.asks (λ q k. k.1) l)
 
 -- requests stay of different memories and variables, where later delayed reads avoid one another and them
-pub apart_asks : (o : Around) (ys : List Stmt) (w : Work) → fetch_apart ys ≡ true → Apart w.asks → AllAsks (λ q. Later q ys) w.asks → Apart (do_all o ys w).asks
+pub apart_asks : (o : Around) (ys : List Stmt) (w : Work)
+    → fetch_apart ys ≡ true → Apart w.asks → AllAsks (λ q. Later q ys) w.asks → Apart (do_all o ys w).asks
 apart_asks o [] w h p l = p
 apart_asks o (y ∷ ys) w h p l =
     let s = at (all_hold y.guards w.env) refl in apart_asks o ys (step o y w) (and_right (alone_op y.op ys) _ h) s.0 s.1
@@ -86,7 +89,9 @@ all_at_looked m c [] = refl
 all_at_looked m c (x ∷ xs) = ap₂ (λ b d. (not b || (x.stage == c)) && d) (release_looked m x.op) (all_at_looked m c xs)
 
 -- what no branch may hold
-trunk_none : (test : Op → Bool) → ((op : Op) → not (trunk_only op) ≡ true → not (test op) ≡ true) → (xs : List Stmt) → none_of trunk_only xs ≡ true → none_of test xs ≡ true
+trunk_none : (test : Op → Bool)
+    → ((op : Op) → not (trunk_only op) ≡ true → not (test op) ≡ true) → (xs : List Stmt) → none_of trunk_only xs ≡ true
+    → none_of test xs ≡ true
 trunk_none test f [] h = refl
 trunk_none test f (x ∷ xs) h = ap₂ (λ a b. a && b) (f x.op (and_left (not (trunk_only x.op)) _ h)) (trunk_none test f xs (and_right (not (trunk_only x.op)) _ h))
 

@@ -39,7 +39,8 @@ makings_first v k [] ys h = refl
 makings_first v k (x ∷ xs) ys h = ap₂ (λ a b. a && b) (and_left (making_ok v k x.stage x.op) _ h) (makings_first v (next_making k x.op) xs ys (and_right (making_ok v k x.stage x.op) _ h))
 
 -- where joined statements call, guess and verify by the rules, the second ones do, after the first
-pub makings_second : (v : Option ℕ) (k : Making) (xs ys : List Stmt) → makings_ok v k (xs ++ ys) ≡ true → makings_ok v (making_all k xs) ys ≡ true
+pub makings_second : (v : Option ℕ) (k : Making) (xs ys : List Stmt)
+    → makings_ok v k (xs ++ ys) ≡ true → makings_ok v (making_all k xs) ys ≡ true
 makings_second v k [] ys h = h
 makings_second v k (x ∷ xs) ys h = makings_second v (next_making k x.op) xs ys (and_right (making_ok v k x.stage x.op) _ h)
 
@@ -66,7 +67,7 @@ no_guess k [] h e = e
 no_guess k (x ∷ xs) h e = no_guess (next_making k x.op) xs (and_right (making_ok None k x.stage x.op) _ h) (unguessed_op k x.stage x.op (and_left _ _ h) e)
 
 -- after a call or a verify there is no verify, and none in a stage other than V
-abbrev Elsewhere : Option ℕ → Making → ℕ → Type 0
+abbrev pub Elsewhere : Option ℕ → Making → ℕ → Type 0
 Elsewhere v k s = is_guessed k ≡ true → stands_at v s ≡ false
 
 before_at : (v : Option ℕ) (s : ℕ) → stands_before v s ≡ true → stands_at v s ≡ false
@@ -77,7 +78,8 @@ before_at (Some v) s h = at (s == v) refl
     at true e = absurd (let i : s < v = ltb-true _ _ h in let j : s ≡ v = eqb-true _ _ e in omega arith)
     at false e = e
 
-elsewhere_next : (v : Option ℕ) (k : Making) (s : ℕ) (op : Op) → making_ok v k s op ≡ true → Elsewhere v k s → Elsewhere v (next_making k op) s
+elsewhere_next : (v : Option ℕ) (k : Making) (s : ℕ) (op : Op)
+    → making_ok v k s op ≡ true → Elsewhere v k s → Elsewhere v (next_making k op) s
 elsewhere_next v k s (Call args) h e = λ i. absurd (cc i)
 elsewhere_next v k s (SpecCall args) h e = λ i. before_at v s (and_right (is_unmade k) _ h)
 elsewhere_next v k s (Verify args) h e = λ i. absurd (cc i)
@@ -91,7 +93,8 @@ unverified_op v k s (Verify args) h e = absurd (clash (sym (e (and_left _ _ h)) 
 unverified_op v k s _ h e = refl
 
 -- statements of a stage have no verify, where a guess that was made is verified in another stage
-pub unverified : (v : Option ℕ) (k : Making) (s : ℕ) (xs : List Stmt) → AllIn s xs → makings_ok v k xs ≡ true → Elsewhere v k s → none_of is_verify xs ≡ true
+pub unverified : (v : Option ℕ) (k : Making) (s : ℕ) (xs : List Stmt) → AllIn s xs
+    → makings_ok v k xs ≡ true → Elsewhere v k s → none_of is_verify xs ≡ true
 unverified v k s [] a h e = refl
 unverified v k s (x ∷ xs) a h e =
     let here : making_ok v k s x.op ≡ true = subst (λ n. making_ok v k n x.op ≡ true) a.0 (and_left _ _ h) in
@@ -116,7 +119,9 @@ unverified_made v (x ∷ xs) h =
 abbrev pub Kept : Work → Work → Type 0
 Kept v w = (v.child ≡ w.child) × (v.fails ≡ w.fails) × (v.guess ≡ w.guess)
 
-settled_op : (o : Around) (v : Option ℕ) (k : Making) (s : ℕ) (op : Op) (w : Work) → is_unmade k ≡ false → making_ok v k s op ≡ true → not (is_verify op) ≡ true → Kept (work_after o op w) w × (next_making k op ≡ k)
+settled_op : (o : Around) (v : Option ℕ) (k : Making) (s : ℕ) (op : Op) (w : Work)
+    → is_unmade k ≡ false → making_ok v k s op ≡ true → not (is_verify op) ≡ true
+    → Kept (work_after o op w) w × (next_making k op ≡ k)
 settled_op o v k s (Call args) w u h n = absurd (clash (sym u ∙ h))
   where
     clash : false ≡ true → ⊥
@@ -133,7 +138,9 @@ kept_step true v w h = h
 kept_step false v w h = (refl, refl, refl)
 
 -- after a call or a guess, statements without a verify leave the next thread and the guess as they are
-pub settled : (o : Around) (v : Option ℕ) (k : Making) (xs : List Stmt) (w : Work) → is_unmade k ≡ false → makings_ok v k xs ≡ true → none_of is_verify xs ≡ true → Kept (do_all o xs w) w × (making_all k xs ≡ k)
+pub settled : (o : Around) (v : Option ℕ) (k : Making) (xs : List Stmt) (w : Work)
+    → is_unmade k ≡ false → makings_ok v k xs ≡ true → none_of is_verify xs ≡ true
+    → Kept (do_all o xs w) w × (making_all k xs ≡ k)
 settled o v k [] w u h n = ((refl, refl, refl), refl)
 settled o v k (x ∷ xs) w u h n =
     let here = settled_op o v k x.stage x.op w u (and_left _ _ h) (and_left _ _ n) in
@@ -142,7 +149,8 @@ settled o v k (x ∷ xs) w u h n =
     ((rest.0.0 ∙ one.0, rest.0.1 ∙ one.1, rest.0.2 ∙ one.2), ap (λ j. making_all j xs) here.1 ∙ rest.1)
 
 -- nor is the next arguments' value changed
-run_op_settled : (v : Option ℕ) (k : Making) (s : ℕ) (op : Op) (r : Run) → is_unmade k ≡ false → making_ok v k s op ≡ true → not (is_verify op) ≡ true → (run_after op r).next ≡ r.next
+run_op_settled : (v : Option ℕ) (k : Making) (s : ℕ) (op : Op) (r : Run)
+    → is_unmade k ≡ false → making_ok v k s op ≡ true → not (is_verify op) ≡ true → (run_after op r).next ≡ r.next
 run_op_settled v k s (Call args) r u h n = absurd (clash (sym u ∙ h))
   where
     clash : false ≡ true → ⊥
@@ -151,7 +159,8 @@ run_op_settled v k s (Verify args) r u h n = absurd (cc n)
 run_op_settled v k s _ r u h n = refl
 
 -- after a call or a guess, statements without a verify leave the sequential run's next arguments as they are
-pub run_settled : (v : Option ℕ) (k : Making) (xs : List Stmt) (r : Run) → is_unmade k ≡ false → makings_ok v k xs ≡ true → none_of is_verify xs ≡ true → (run_all xs r).next ≡ r.next
+pub run_settled : (v : Option ℕ) (k : Making) (xs : List Stmt) (r : Run)
+    → is_unmade k ≡ false → makings_ok v k xs ≡ true → none_of is_verify xs ≡ true → (run_all xs r).next ≡ r.next
 run_settled v k [] r u h n = refl
 run_settled v k (x ∷ xs) r u h n =
     let here = settled_op (alone r.arrays) v k x.stage x.op (record { env = []; entries = []; guess = []; asks = []; commits = []; child = None; fails = false; ready = true }) u (and_left _ _ h) (and_left _ _ n) in
@@ -177,7 +186,9 @@ unfailed o (x ∷ xs) w n = unfailed o xs (step o x w) (and_right (not (is_verif
     at false = refl
 
 -- who had made nothing has a new thread where the scan says so
-begins_op : (o : Around) (op : Op) (w : Work) → not (is_verify op) ≡ true → w.child ≡ None → is_unmade (next_making Unmade op) ≡ not (is_some (work_after o op w).child)
+begins_op : (o : Around) (op : Op) (w : Work)
+    → not (is_verify op) ≡ true → w.child ≡ None
+    → is_unmade (next_making Unmade op) ≡ not (is_some (work_after o op w).child)
 begins_op o (Call args) w n e = refl
 begins_op o (SpecCall args) w n e = refl
 begins_op o (Verify args) w n e = absurd (cc n)
@@ -193,7 +204,9 @@ pub step_free : (o : Around) (x : Stmt) (w : Work) → no_guards x.guards ≡ tr
 step_free o x w h = ap (λ b. cond b (work_after o x.op w) w) (taken_none x.guards w.env h)
 
 -- unguarded statements without a verify count as having made nothing just where they make no next thread
-pub begins : (o : Around) (v : Option ℕ) (xs : List Stmt) (w : Work) → w.child ≡ None → makings_ok v Unmade xs ≡ true → none_of is_verify xs ≡ true → unguarded xs ≡ true → is_unmade (making_all Unmade xs) ≡ not (is_some (do_all o xs w).child)
+pub begins : (o : Around) (v : Option ℕ) (xs : List Stmt) (w : Work)
+    → w.child ≡ None → makings_ok v Unmade xs ≡ true → none_of is_verify xs ≡ true → unguarded xs ≡ true
+    → is_unmade (making_all Unmade xs) ≡ not (is_some (do_all o xs w).child)
 begins o v [] w e h n g = ap (λ c. not (is_some c)) (sym e)
 begins o v (x ∷ xs) w e h n g =
     at (next_making Unmade x.op) refl (λ c k. begins o v xs (work_after o x.op w) c k none_left (and_right (no_guards x.guards) _ g))
@@ -233,7 +246,8 @@ Calls Unmade child guess next = child ≡ None
 Calls Guessed child guess next = child ≡ Some guess
 Calls Made child guess next = child ≡ Some next
 
-calls_op : (o : Around) (v : Option ℕ) (k : Making) (s : ℕ) (op : Op) (w : Work) (r : Run) → making_ok v k s op ≡ true → w.env ≡ r.env → Calls k w.child w.guess r.next
+calls_op : (o : Around) (v : Option ℕ) (k : Making) (s : ℕ) (op : Op) (w : Work) (r : Run)
+    → making_ok v k s op ≡ true → w.env ≡ r.env → Calls k w.child w.guess r.next
     → Calls (next_making k op) (work_after o op w).child (work_after o op w).guess (run_after op r).next
 calls_op o v k s (Call args) w r h e c = ap (λ l. Some (values_of args l)) e
 calls_op o v k s (SpecCall args) w r h e c = refl
@@ -250,7 +264,9 @@ calls_op o v k s (Verify args) w r h e c = by k c (and_left _ _ h)
 calls_op o v k s _ w r h e c = c
 
 -- what a thread alone makes and guesses goes on agreeing with its sequential run's next arguments
-pub calls_all : (arrays : Arrays) (v : Option ℕ) (xs : List Stmt) (ph : ℕ → Phase) (k : Making) (w : Work) (r : Run) → ((m : ℕ) → phases_ok m (ph m) xs ≡ true) → makings_ok v k xs ≡ true → Related arrays ph w r → Calls k w.child w.guess r.next
+pub calls_all : (arrays : Arrays) (v : Option ℕ) (xs : List Stmt) (ph : ℕ → Phase) (k : Making) (w : Work) (r : Run)
+    → ((m : ℕ) → phases_ok m (ph m) xs ≡ true) → makings_ok v k xs ≡ true → Related arrays ph w r
+    → Calls k w.child w.guess r.next
     → Calls (making_all k xs) (do_all (alone arrays) xs w).child (do_all (alone arrays) xs w).guess (run_all xs r).next
 calls_all arrays v [] ph k w r ok h rel c = c
 calls_all arrays v (x ∷ xs) ph k w r ok h rel c =
@@ -280,7 +296,8 @@ Along arrays [] w r = w.env ≡ r.env
 Along arrays (x ∷ xs) w r = (w.env ≡ r.env) × Along arrays xs (step (alone arrays) x w) (if all_hold x.guards r.env then run_after x.op r else r)
 
 -- a thread alone has the values of its sequential run all along statements that the phases allow
-pub along_all : (arrays : Arrays) (xs : List Stmt) (ph : ℕ → Phase) (w : Work) (r : Run) → ((m : ℕ) → phases_ok m (ph m) xs ≡ true) → Related arrays ph w r → Along arrays xs w r
+pub along_all : (arrays : Arrays) (xs : List Stmt) (ph : ℕ → Phase) (w : Work) (r : Run)
+    → ((m : ℕ) → phases_ok m (ph m) xs ≡ true) → Related arrays ph w r → Along arrays xs w r
 along_all arrays [] ph w r ok rel = rel.env
 along_all arrays (x ∷ xs) ph w r ok rel = (
   rel.env,
@@ -300,13 +317,16 @@ along_joined arrays (x ∷ xs) w v r h = (
   along_joined arrays xs w (step (alone arrays) x v) (if all_hold x.guards r.env then run_after x.op r else r) (subst (λ u. Along arrays xs u (if all_hold x.guards r.env then run_after x.op r else r)) (step_joined (all_hold x.guards v.env) (alone arrays) x.op w v) h.1),
 )
 
-along_free : (arrays : Arrays) (x : Stmt) (xs : List Stmt) (w : Work) (r : Run) → no_guards x.guards ≡ true → Along arrays (x ∷ xs) w r → Along arrays xs (work_after (alone arrays) x.op w) (run_after x.op r)
+along_free : (arrays : Arrays) (x : Stmt) (xs : List Stmt) (w : Work) (r : Run)
+    → no_guards x.guards ≡ true → Along arrays (x ∷ xs) w r
+    → Along arrays xs (work_after (alone arrays) x.op w) (run_after x.op r)
 along_free arrays x xs w r free h =
     subst (λ (u : Work). Along arrays xs u (run_after x.op r)) (step_free (alone arrays) x w free)
     (subst (λ (u : Run). Along arrays xs (step (alone arrays) x w) u) (ap (λ b. cond b (run_after x.op r) r) (taken_none x.guards r.env free)) h.1)
 
 -- the end of a guess, over the statements of a path
-pub verified_all : (arrays : Arrays) (v : Option ℕ) (xs : List Stmt) (w : Work) (r : Run) → unguarded xs ≡ true → makings_ok v Guessed xs ≡ true → Along arrays xs w r
+pub verified_all : (arrays : Arrays) (v : Option ℕ) (xs : List Stmt) (w : Work) (r : Run)
+    → unguarded xs ≡ true → makings_ok v Guessed xs ≡ true → Along arrays xs w r
     → Verified (making_all Guessed xs) (do_all (alone arrays) xs w) w (run_all xs r).next
 verified_all arrays v [] w r g h rel = (refl, refl, refl)
 verified_all arrays v (x ∷ xs) w r g h rel =

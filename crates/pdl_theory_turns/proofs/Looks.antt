@@ -69,10 +69,12 @@ taken_unused x v (g ∷ gs) env h = let n = not_or (g.var == x) (asks_for x gs) 
 -- STATEMENTS THAT HAVE NOTHING TO DO WITH A VARIABLE
 
 -- the same work with another value of a variable
-abbrev with_set : Work → ℕ → ℕ → Work
+abbrev pub with_set : Work → ℕ → ℕ → Work
 with_set w x v = record w { env = slice_set w.env x v }
 
-does_set : (arrays : Arrays) (x v : ℕ) (op : Op) (w : Work) → not (mentions_var x op) ≡ true → work_after (alone arrays) (answered_op op) (with_set w x v) ≡ with_set (work_after (alone arrays) (answered_op op) w) x v
+does_set : (arrays : Arrays) (x v : ℕ) (op : Op) (w : Work)
+    → not (mentions_var x op) ≡ true
+    → work_after (alone arrays) (answered_op op) (with_set w x v) ≡ with_set (work_after (alone arrays) (answered_op op) w) x v
 does_set arrays x v (Bind y e) w h =
     let n = not_or (y == x) (uses_in x e) h in
     ap (λ l. record w { env = l }) (ap (λ k. slice_set (slice_set w.env x v) y k) (value_unused x v e w.env n.1) ∙ set_comm w.env x y v (value_of e w.env) (apart x y n.0))
@@ -101,7 +103,8 @@ does_set arrays x v _ w h = refl
 abbrev pub look : Stmt → Stmt
 look y = record y { op = answered_op y.op }
 
-step_set : (arrays : Arrays) (x v : ℕ) (y : Stmt) (w : Work) → (is_dead y.guards || (not (asks_for x y.guards) && not (mentions_var x y.op))) ≡ true
+step_set : (arrays : Arrays) (x v : ℕ) (y : Stmt) (w : Work)
+    → (is_dead y.guards || (not (asks_for x y.guards) && not (mentions_var x y.op))) ≡ true
     → step (alone arrays) (look y) (with_set w x v) ≡ with_set (step (alone arrays) (look y) w) x v
 step_set arrays x v y w h =
     by_or (is_dead y.guards) _ _ h
@@ -112,7 +115,9 @@ step_set arrays x v y w h =
     at true k = does_set arrays x v y.op w k
     at false k = refl
 
-pub set_later : (arrays : Arrays) (x v : ℕ) (ys : List Stmt) (w : Work) → silent_on x ys ≡ true → do_all (alone arrays) (looked_all ys) (with_set w x v) ≡ with_set (do_all (alone arrays) (looked_all ys) w) x v
+pub set_later : (arrays : Arrays) (x v : ℕ) (ys : List Stmt) (w : Work)
+    → silent_on x ys ≡ true
+    → do_all (alone arrays) (looked_all ys) (with_set w x v) ≡ with_set (do_all (alone arrays) (looked_all ys) w) x v
 set_later arrays x v [] w h = refl
 set_later arrays x v (y ∷ ys) w h =
     ap (do_all (alone arrays) (looked_all ys)) (step_set arrays x v y w (and_left (is_dead y.guards || (not (asks_for x y.guards) && not (mentions_var x y.op))) _ h))
@@ -139,11 +144,14 @@ joined_asks : (qs : List Ask) (v : Work) → joined (asking qs) v ≡ record v {
 joined_asks qs v = λ i. record v { asks = qs ++ v.asks; child = or_none v.child i; fails = or-false v.fails i }
 
 -- what a work's request was before stands before those of more statements
-asks_more : (o : Around) (ys : List Stmt) (w : Work) (q : Ask) → do_all o ys (record w { asks = q ∷ [] }) ≡ record (do_all o ys (clear w)) { asks = q ∷ (do_all o ys (clear w)).asks }
+asks_more : (o : Around) (ys : List Stmt) (w : Work) (q : Ask)
+    → do_all o ys (record w { asks = q ∷ [] }) ≡ record (do_all o ys (clear w)) { asks = q ∷ (do_all o ys (clear w)).asks }
 asks_more o ys w q = ap (do_all o ys) (sym (joined_asks (q ∷ []) (clear w))) ∙ do_all_joined o ys (asking (q ∷ [])) (clear w) ∙ joined_asks (q ∷ []) (do_all o ys (clear w))
 
 -- statements that have nothing to do with a variable don't ask for it
-unasked_op : (x : ℕ) (o : Around) (op : Op) (w : Work) → not (mentions_var x op) ≡ true → AllAsks (λ q. q.var ≢ x) w.asks → AllAsks (λ q. q.var ≢ x) (work_after o op w).asks
+unasked_op : (x : ℕ) (o : Around) (op : Op) (w : Work)
+    → not (mentions_var x op) ≡ true → AllAsks (λ q. q.var ≢ x) w.asks
+    → AllAsks (λ q. q.var ≢ x) (work_after o op w).asks
 unasked_op x o (DelayedRead y m a) w h k = all_snoc (λ q. q.var ≢ x) w.asks (record { mem = m; var = y; address = slice_index w.env a }) k (λ e. apart x y (not_or (y == x) (a == x) h).0 (sym e))
 unasked_op x o (Verify args) w h k = at (same_args (values_of args w.env) w.guess)
   where
@@ -152,7 +160,8 @@ unasked_op x o (Verify args) w h k = at (same_args (values_of args w.env) w.gues
     at false = k
 unasked_op x o _ w h k = k
 
-unasked_by : (x : ℕ) (o : Around) (ys : List Stmt) (w : Work) → silent_on x ys ≡ true → AllAsks (λ q. q.var ≢ x) w.asks → AllAsks (λ q. q.var ≢ x) (do_all o ys w).asks
+unasked_by : (x : ℕ) (o : Around) (ys : List Stmt) (w : Work)
+    → silent_on x ys ≡ true → AllAsks (λ q. q.var ≢ x) w.asks → AllAsks (λ q. q.var ≢ x) (do_all o ys w).asks
 unasked_by x o [] w h k = k
 unasked_by x o (y ∷ ys) w h k =
     unasked_by x o ys (step o y w) (and_right (is_dead y.guards || (not (asks_for x y.guards) && not (mentions_var x y.op))) _ h) (at (all_hold y.guards w.env) refl)
@@ -165,7 +174,8 @@ unasked_by x o (y ∷ ys) w h k =
     at false t = k
 
 -- statements without requests make none
-pub keeps_clear : (o : Around) (op : Op) (w : Work) → is_fetch op ≡ false → (answered_op op ≡ op) × (work_after o op (clear w) ≡ clear (work_after o op (clear w)))
+pub keeps_clear : (o : Around) (op : Op) (w : Work)
+    → is_fetch op ≡ false → (answered_op op ≡ op) × (work_after o op (clear w) ≡ clear (work_after o op (clear w)))
 keeps_clear o (DelayedRead x m a) w h = absurd (cc h)
 keeps_clear o (Verify args) w h = (refl, at (same_args (values_of args w.env) w.guess))
   where
@@ -175,9 +185,11 @@ keeps_clear o (Verify args) w h = (refl, at (same_args (values_of args w.env) w.
 keeps_clear o _ w h = (refl, refl)
 
 -- a stage that looks does what it does where it asks, with the answers
-raw_step : (arrays : Arrays) (y : Op) (ys : List Stmt) (w : Work) → unseen_op y ys ≡ true → (f : Bool) → is_fetch y ≡ f
+raw_step : (arrays : Arrays) (y : Op) (ys : List Stmt) (w : Work)
+    → unseen_op y ys ≡ true → (f : Bool) → is_fetch y ≡ f
     → ((v : Work) → do_all (alone arrays) (looked_all ys) (clear v) ≡ answered_now arrays (do_all (alone arrays) ys (clear v)))
-    → do_all (alone arrays) (looked_all ys) (work_after (alone arrays) (answered_op y) (clear w)) ≡ answered_now arrays (do_all (alone arrays) ys (work_after (alone arrays) y (clear w)))
+    → do_all (alone arrays) (looked_all ys) (work_after (alone arrays) (answered_op y) (clear w))
+    ≡ answered_now arrays (do_all (alone arrays) ys (work_after (alone arrays) y (clear w)))
 raw_step arrays y ys w h false e go =
     let k = keeps_clear (alone arrays) y w e in
     ap (λ op. do_all (alone arrays) (looked_all ys) (work_after (alone arrays) op (clear w))) k.0 ∙ ap (do_all (alone arrays) (looked_all ys)) k.1 ∙ go (work_after (alone arrays) y (clear w)) ∙ ap (λ v. answered_now arrays (do_all (alone arrays) ys v)) (sym k.1)
@@ -201,7 +213,9 @@ raw_step arrays SpecCheck ys w h true f go = absurd (cc f)
 raw_step arrays SpecBarrier ys w h true f go = absurd (cc f)
 
 -- delayed reads whose variables no later statement mentions may be answered at once or after the statements
-pub raw_looked : (arrays : Arrays) (ys : List Stmt) (w : Work) → is_unseen ys ≡ true → do_all (alone arrays) (looked_all ys) (clear w) ≡ answered_now arrays (do_all (alone arrays) ys (clear w))
+pub raw_looked : (arrays : Arrays) (ys : List Stmt) (w : Work)
+    → is_unseen ys ≡ true
+    → do_all (alone arrays) (looked_all ys) (clear w) ≡ answered_now arrays (do_all (alone arrays) ys (clear w))
 raw_looked arrays [] w h = refl
 raw_looked arrays (y ∷ ys) w h = at (all_hold y.guards w.env) (λ v. raw_looked arrays ys v (and_right (unseen_op y.op ys) _ h))
   where
@@ -241,7 +255,9 @@ fixed_env path o [] w v h f = tt
 fixed_env path o (y ∷ ys) w v h f = (ap (all_hold y.guards) (sym h) ∙ f.0, fixed_env path o ys (step o y w) (step o y v) (env_step o y w v h) f.1)
 
 -- they are the same for another value of a variable that nothing has to do with
-fixed_set : (path : List ℕ) (arrays : Arrays) (x v : ℕ) (ys : List Stmt) (w : Work) → silent_on x ys ≡ true → Fixed path (alone arrays) (looked_all ys) (with_set w x v) → Fixed path (alone arrays) (looked_all ys) w
+fixed_set : (path : List ℕ) (arrays : Arrays) (x v : ℕ) (ys : List Stmt) (w : Work)
+    → silent_on x ys ≡ true → Fixed path (alone arrays) (looked_all ys) (with_set w x v)
+    → Fixed path (alone arrays) (looked_all ys) w
 fixed_set path arrays x v [] w h f = tt
 fixed_set path arrays x v (y ∷ ys) w h f = (
   by_or (is_dead y.guards) _ _ here (λ d. dead_none y.guards w.env d ∙ sym (dead_none y.guards (slice_set w.env x v) d)) (λ s. sym (taken_unused x v y.guards w.env (and_left _ _ s))) ∙ f.0,
@@ -253,7 +269,10 @@ fixed_set path arrays x v (y ∷ ys) w h f = (
     here = and_left _ _ h
 
 -- a stage that asks takes the path that it takes where it looks
-fixed_op : (path : List ℕ) (arrays : Arrays) (y : Op) (ys : List Stmt) (w : Work) → unseen_op y ys ≡ true → (f : Bool) → is_fetch y ≡ f → Fixed path (alone arrays) (looked_all ys) (work_after (alone arrays) (answered_op y) w) → Fixed path (alone arrays) (looked_all ys) (work_after (alone arrays) y w)
+fixed_op : (path : List ℕ) (arrays : Arrays) (y : Op) (ys : List Stmt) (w : Work)
+    → unseen_op y ys ≡ true → (f : Bool) → is_fetch y ≡ f
+    → Fixed path (alone arrays) (looked_all ys) (work_after (alone arrays) (answered_op y) w)
+    → Fixed path (alone arrays) (looked_all ys) (work_after (alone arrays) y w)
 fixed_op path arrays y ys w h false e g = subst (λ op. Fixed path (alone arrays) (looked_all ys) (work_after (alone arrays) op w)) (keeps_clear (alone arrays) y w e).0 g
 fixed_op path arrays (DelayedRead x m a) ys w h true e g =
     fixed_env path (alone arrays) (looked_all ys) w (work_after (alone arrays) (DelayedRead x m a) w) refl (fixed_set path arrays x (word_at arrays m (slice_index w.env a)) ys w h g)
@@ -271,7 +290,8 @@ fixed_op path arrays SpecCheck ys w h true f g = absurd (cc f)
 fixed_op path arrays SpecBarrier ys w h true f g = absurd (cc f)
 
 -- where a path fixes which statements are carried out with delayed reads answered at once, it does if they ask
-pub fixed_raw : (path : List ℕ) (arrays : Arrays) (ys : List Stmt) (w : Work) → is_unseen ys ≡ true → Fixed path (alone arrays) (looked_all ys) w → Fixed path (alone arrays) ys w
+pub fixed_raw : (path : List ℕ) (arrays : Arrays) (ys : List Stmt) (w : Work)
+    → is_unseen ys ≡ true → Fixed path (alone arrays) (looked_all ys) w → Fixed path (alone arrays) ys w
 fixed_raw path arrays [] w h f = tt
 fixed_raw path arrays (y ∷ ys) w h f = (
   f.0,

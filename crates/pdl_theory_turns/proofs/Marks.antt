@@ -33,7 +33,7 @@ marked known [] = []
 marked known (c ∷ cs) = record { address = c.address; value = c.value; known = known } ∷ marked known cs
 
 -- the same marks, with more values known
-abbrev Raised : List Mark → List Mark → Type 0
+abbrev pub Raised : List Mark → List Mark → Type 0
 Raised [] [] = Unit {0}
 Raised (k ∷ ks) (j ∷ js) = (k.address ≡ j.address) × (k.value ≡ j.value) × (k.known ≡ true → j.known ≡ true) × Raised ks js
 Raised [] (j ∷ js) = ⊥
@@ -144,14 +144,16 @@ calm_raised a (i ∷ ks) (j ∷ js) l k r c = calm_raised a ks js _ _ r.3 (at (i
     at false false e = c
 
 -- a ready location stays ready
-pub later_ready : (m a : ℕ) (k : Lock) (ks : List Mark) (gone : List Commit) (js : List Mark) → Later m ks gone js → read_ready k (seen a ks Nothing) ≡ true → read_ready k (seen a js Nothing) ≡ true
+pub later_ready : (m a : ℕ) (k : Lock) (ks : List Mark) (gone : List Commit) (js : List Mark) → Later m ks gone js
+    → read_ready k (seen a ks Nothing) ≡ true → read_ready k (seen a js Nothing) ≡ true
 later_ready m a k ks gone js l h =
     calm_read k (seen a ks Nothing) (seen a js Nothing)
     (subst (λ x. Calm x (seen a js Nothing)) (sym (ap (λ x. seen a x Nothing) l.whole ∙ seen_append a l.front l.rest Nothing)) (calm_raised a l.rest js _ Nothing l.raised (calm_nothing _ Nothing refl)))
     h
 
 -- what marks give of a word, where it is not still to come, is the word after their writes
-seen_value : (m a : ℕ) (ks : List Mark) (rest : Latest) (words : Array) (base : ℕ) → is_coming (seen a ks rest) ≡ false → (is_coming rest ≡ false → value_or rest base ≡ words a)
+seen_value : (m a : ℕ) (ks : List Mark) (rest : Latest) (words : Array) (base : ℕ)
+    → is_coming (seen a ks rest) ≡ false → (is_coming rest ≡ false → value_or rest base ≡ words a)
     → value_or (seen a ks rest) base ≡ wrote words (strips m ks) a
 seen_value m a [] rest words base h f = f h
 seen_value m a (k ∷ ks) rest words base h f = seen_value m a ks _ (with_value words k.address k.value) base h (at (k.address == a) refl (a == k.address) refl)
@@ -167,7 +169,8 @@ seen_value m a (k ∷ ks) rest words base h f = seen_value m a ks _ (with_value 
     at false e false g = f
 
 -- a ready read gives the word after the undone writes
-pub ready_value : (m a : ℕ) (k : Lock) (ks : List Mark) (words : Array) → (is_plain k ≡ true → ks ≡ []) → read_ready k (seen a ks Nothing) ≡ true
+pub ready_value : (m a : ℕ) (k : Lock) (ks : List Mark) (words : Array)
+    → (is_plain k ≡ true → ks ≡ []) → read_ready k (seen a ks Nothing) ≡ true
     → value_or (seen a ks Nothing) (words a) ≡ wrote words (strips m ks) a
 ready_value m a k ks words p h = seen_value m a ks Nothing words (words a) (read_known k _ (λ e. ap (λ l. seen a l Nothing) (p e)) h) (λ e. refl)
 

@@ -36,7 +36,8 @@ pub record Worked (m n : ℕ) (start : List Pending) (d : Deeds) (w : Work) : Ty
 
 -- where a thread's entries follow its phase, the stage has done its work on those of memory m
 pub worked : (m n : ℕ) (start : List Pending) (d : Deeds) (w : Work) (ph : Phase)
-    → Staged m n ph (entries_of m w.entries) (of_mem m w.commits) (start ++ new_entries m n d.reserves) d.writes (list_any (λ k. k == m) d.releases) → Worked m n start d w
+    → Staged m n ph (entries_of m w.entries) (of_mem m w.commits) (start ++ new_entries m n d.reserves) d.writes (list_any (λ k. k == m) d.releases)
+    → Worked m n start d w
 worked m n start d w ph g = at ph g
   where
     stays : with_writes_of m n d.writes (start ++ new_entries m n d.reserves) ≡ pend m n w.entries → list_any (λ k. k == m) d.releases ≡ false → of_mem m w.commits ≡ [] → Worked m n start d w
@@ -104,7 +105,9 @@ fixed_to path o (x ∷ xs) ys w h e = (
 )
 
 -- only its stage reserves m
-quiet_op : (m n : ℕ) (read : ℕ → ℕ → ℕ) (op : Op) (d : Deeds) → not (is_reserve m op) ≡ true → new_entries m n d.reserves ≡ [] → new_entries m n (Machine.deeds_after read op d).reserves ≡ []
+quiet_op : (m n : ℕ) (read : ℕ → ℕ → ℕ) (op : Op) (d : Deeds)
+    → not (is_reserve m op) ≡ true → new_entries m n d.reserves ≡ []
+    → new_entries m n (Machine.deeds_after read op d).reserves ≡ []
 quiet_op m n read (ReserveWrite j a) d h k = new_more m n d.reserves (record { mem = j; address = slice_index d.env a }) ∙ ap₂ (λ l b. l ++ cond b (own n (entry m 0 (slice_index d.env a) None) ∷ []) []) k (off (j == m) h)
   where
     off : (b : Bool) → not b ≡ true → b ≡ false
@@ -118,7 +121,9 @@ quiet_op m n read (Verify args) d h k = at (same_args (values_of args d.env) d.g
 quiet_op m n read _ d h k = k
 
 -- statements that reserve no write of memory m give it no new pending writes
-pub quiet_reserves : (m n : ℕ) (read : ℕ → ℕ → ℕ) (xs : List Stmt) (d : Deeds) → none_of (is_reserve m) xs ≡ true → new_entries m n d.reserves ≡ [] → new_entries m n (deeds_after_all read xs d).reserves ≡ []
+pub quiet_reserves : (m n : ℕ) (read : ℕ → ℕ → ℕ) (xs : List Stmt) (d : Deeds)
+    → none_of (is_reserve m) xs ≡ true → new_entries m n d.reserves ≡ []
+    → new_entries m n (deeds_after_all read xs d).reserves ≡ []
 quiet_reserves m n read [] d h k = k
 quiet_reserves m n read (x ∷ xs) d h k = quiet_reserves m n read xs (if all_hold x.guards d.env then Machine.deeds_after read x.op d else d) (and_right _ _ h) (at (all_hold x.guards d.env))
   where

@@ -26,7 +26,8 @@ run_op_stays g (CombRead x m a) r h = set_stays r.env x g _ h
 run_op_stays g (DelayedRead x m a) r h = set_stays r.env x g _ h
 run_op_stays g _ r h = refl
 
-op_stays : (g : ℕ) (o : Around) (op : Op) (w : Work) → not (binds_var g op) ≡ true → slice_index (work_after o op w).env g ≡ slice_index w.env g
+op_stays : (g : ℕ) (o : Around) (op : Op) (w : Work)
+    → not (binds_var g op) ≡ true → slice_index (work_after o op w).env g ≡ slice_index w.env g
 op_stays g o (Bind x e) w h = set_stays w.env x g _ h
 op_stays g o (CombRead x m a) w h = set_stays w.env x g _ h
 op_stays g o (Verify args) w h = at (same_args (values_of args w.env) w.guess)
@@ -45,7 +46,8 @@ run_stays g (x ∷ xs) r h = run_stays g xs _ (and_right _ _ h) ∙ at (all_hold
     at false = refl
 
 -- statements that don't bind a variable leave its value as it is
-pub all_stays : (g : ℕ) (o : Around) (xs : List Stmt) (w : Work) → none_of (binds_var g) xs ≡ true → slice_index (do_all o xs w).env g ≡ slice_index w.env g
+pub all_stays : (g : ℕ) (o : Around) (xs : List Stmt) (w : Work)
+    → none_of (binds_var g) xs ≡ true → slice_index (do_all o xs w).env g ≡ slice_index w.env g
 all_stays g o [] w h = refl
 all_stays g o (x ∷ xs) w h = all_stays g o xs _ (and_right _ _ h) ∙ at (all_hold x.guards w.env)
   where
@@ -63,7 +65,8 @@ none_onpath test path (x ∷ xs) h = at (all_hold x.guards path) (none_onpath te
     at false k = k
 
 -- guards that contradict one another are never taken
-against_none : (g : Guard) (hs : List Guard) (env : List ℕ) → against g hs ≡ true → takes_branch g.first (slice_index env g.var) ≡ true → all_hold hs env ≡ false
+against_none : (g : Guard) (hs : List Guard) (env : List ℕ)
+    → against g hs ≡ true → takes_branch g.first (slice_index env g.var) ≡ true → all_hold hs env ≡ false
 against_none g [] env h t = absurd (cc h)
 against_none g (k ∷ ks) env h t = at ((g.var == k.var) && (if g.first then not k.first else k.first)) refl h (against_none g ks env)
   where
@@ -99,13 +102,17 @@ dead_none (g ∷ gs) env h = at (against g gs) refl h (takes_branch g.first (sli
     at false e i true k f = ap (λ t. t && all_hold gs env) k ∙ f i
 
 -- the tests of guards that stay
-free_stays : (gs : List Guard) (xs : List Stmt) (env path : List ℕ) → free_of gs xs ≡ true → ((g : ℕ) → none_of (binds_var g) xs ≡ true → slice_index path g ≡ slice_index env g) → all_hold gs env ≡ all_hold gs path
+free_stays : (gs : List Guard) (xs : List Stmt) (env path : List ℕ)
+    → free_of gs xs ≡ true → ((g : ℕ) → none_of (binds_var g) xs ≡ true → slice_index path g ≡ slice_index env g)
+    → all_hold gs env ≡ all_hold gs path
 free_stays [] xs env path h f = refl
 free_stays (g ∷ gs) xs env path h f =
     ap₂ (λ n b. takes_branch g.first n && b) (sym (f g.var (and_left _ _ h))) (free_stays gs xs env path (and_right _ _ h) f)
 
 -- guards that statements leave alone hold with values just where they hold on a path that agrees with these
-pub taken_stays : (gs : List Guard) (xs : List Stmt) (env path : List ℕ) → keeps_guards gs xs ≡ true → ((g : ℕ) → none_of (binds_var g) xs ≡ true → slice_index path g ≡ slice_index env g) → all_hold gs env ≡ all_hold gs path
+pub taken_stays : (gs : List Guard) (xs : List Stmt) (env path : List ℕ)
+    → keeps_guards gs xs ≡ true → ((g : ℕ) → none_of (binds_var g) xs ≡ true → slice_index path g ≡ slice_index env g)
+    → all_hold gs env ≡ all_hold gs path
 taken_stays gs xs env path h f = at (is_dead gs) refl h
   where
     at : (b : Bool) → is_dead gs ≡ b → (b || free_of gs xs) ≡ true → all_hold gs env ≡ all_hold gs path
@@ -113,7 +120,8 @@ taken_stays gs xs env path h f = at (is_dead gs) refl h
     at false e k = free_stays gs xs env path k f
 
 -- a run is the run of its path, which is told by the values in the end
-pub run_path : (path : List ℕ) (xs : List Stmt) (r : Run) → is_fixed xs ≡ true → (run_all xs r).env ≡ path → run_all xs r ≡ run_all (onpath path xs) r
+pub run_path : (path : List ℕ) (xs : List Stmt) (r : Run)
+    → is_fixed xs ≡ true → (run_all xs r).env ≡ path → run_all xs r ≡ run_all (onpath path xs) r
 run_path path [] r h e = refl
 run_path path (x ∷ xs) r h e =
     run_path path xs (if all_hold x.guards r.env then run_after x.op r else r) (and_right _ _ h) e
@@ -131,7 +139,9 @@ abbrev pub Fixed : List ℕ → Around → List Stmt → Work → Type 0
 Fixed path o [] w = Unit {0}
 Fixed path o (x ∷ xs) w = (all_hold x.guards w.env ≡ all_hold x.guards path) × Fixed path o xs (step o x w)
 
-step_path : (path : List ℕ) (o : Around) (x : Stmt) (xs : List Stmt) (w : Work) → all_hold x.guards w.env ≡ all_hold x.guards path → do_all o (onpath path xs) (step o x w) ≡ do_all o (onpath path (x ∷ xs)) w
+step_path : (path : List ℕ) (o : Around) (x : Stmt) (xs : List Stmt) (w : Work)
+    → all_hold x.guards w.env ≡ all_hold x.guards path
+    → do_all o (onpath path xs) (step o x w) ≡ do_all o (onpath path (x ∷ xs)) w
 step_path path o x xs w e = at (all_hold x.guards w.env) (all_hold x.guards path) e
   where
     at : (b c : Bool) → b ≡ c → do_all o (onpath path xs) (cond b (work_after o x.op w) w) ≡ do_all o (cond c (record x { guards = [] } ∷ onpath path xs) (onpath path xs)) w
@@ -141,7 +151,10 @@ step_path path o x xs w e = at (all_hold x.guards w.env) (all_hold x.guards path
     at false false i = refl
 
 -- the same of statements with others after them, which don't bind the guards
-pub fixed_path_to : (path : List ℕ) (o : Around) (xs ys : List Stmt) (w : Work) → is_fixed (xs ++ ys) ≡ true → ((g : ℕ) → none_of (binds_var g) ys ≡ true → slice_index (do_all o (onpath path xs) w).env g ≡ slice_index path g) → Fixed path o xs w
+pub fixed_path_to : (path : List ℕ) (o : Around) (xs ys : List Stmt) (w : Work)
+    → is_fixed (xs ++ ys) ≡ true
+    → ((g : ℕ) → none_of (binds_var g) ys ≡ true → slice_index (do_all o (onpath path xs) w).env g ≡ slice_index path g)
+    → Fixed path o xs w
 fixed_path_to path o [] ys w h e = tt
 fixed_path_to path o (x ∷ xs) ys w h e =
     let same : all_hold x.guards w.env ≡ all_hold x.guards path = taken_stays x.guards ((x ∷ xs) ++ ys) w.env path (and_left _ _ h) (λ g k. sym (e g (none_behind (binds_var g) (x ∷ xs) ys k)) ∙ all_stays g o (onpath path (x ∷ xs)) w (none_onpath (binds_var g) path (x ∷ xs) (none_front (binds_var g) (x ∷ xs) ys k))) in

@@ -43,7 +43,8 @@ tied_reserve m a Done env es cs ws h t = cc
 
 -- a write through its reservation
 pub tied_write : (m a v : ℕ) (ph : Phase) (env : List ℕ) (es : List Entry) (cs ws : List Commit)
-    → holds_location ph a ≡ true → Tied m ph env es cs ws → Tied m (Written a) env (with_entry_value es m a v) cs (ws ++ write_of m (slice_index env a) v ∷ [])
+    → holds_location ph a ≡ true → Tied m ph env es cs ws
+    → Tied m (Written a) env (with_entry_value es m a v) cs (ws ++ write_of m (slice_index env a) v ∷ [])
 tied_write m a v Fresh env es cs ws h t = cc
 tied_write m a v (Held x) env es cs ws h t =
     (slice_index env a, v, here (eqb-true x a h), t.1, ap (λ l. l ++ write_of m (slice_index env a) v ∷ []) t.2)
@@ -55,7 +56,8 @@ tied_write m a v Done env es cs ws h t = cc
 
 -- a release
 pub tied_release : (m a : ℕ) (ph : Phase) (env : List ℕ) (es : List Entry) (cs ws : List Commit)
-    → not (holds_location ph a) ≡ true → Tied m ph env es cs ws → Tied m (after_release ph a) env (without es m a) (cs ++ released_commits es m a) ws
+    → not (holds_location ph a) ≡ true → Tied m ph env es cs ws
+    → Tied m (after_release ph a) env (without es m a) (cs ++ released_commits es m a) ws
 tied_release m a Fresh env es cs ws h t = (ap (λ l. without l m a) t.0, ap (λ l. l ++ released_commits es m a) t.1 ∙ ap (λ l. released_commits l m a) t.0, t.2)
 tied_release m a (Held x) env es cs ws h t = (
   ap (λ l. without l m a) t.0 ∙ without_no m x a (slice_index env x) None apart,

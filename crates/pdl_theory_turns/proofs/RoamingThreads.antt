@@ -49,7 +49,8 @@ abbrev pub has_made : Pipe → Thread → Bool
 has_made p t = not (is_unmade (making_all Unmade (onpath t.env (before t.stage p.stmts))))
 
 -- answers are for awaited variables
-answers_other : (p : Pipe) (st : State) (bits : List Bool) (x : ℕ) (rs : List Awaited) (env : List ℕ) → awaits_var x rs ≡ false → slice_index (with_answers p st bits rs env) x ≡ slice_index env x
+answers_other : (p : Pipe) (st : State) (bits : List Bool) (x : ℕ) (rs : List Awaited) (env : List ℕ)
+    → awaits_var x rs ≡ false → slice_index (with_answers p st bits rs env) x ≡ slice_index env x
 answers_other p st bits x [] env h = refl
 answers_other p st bits x (r ∷ rs) env h =
     answers_other p st bits x rs (if is_answered p bits r.mem then slice_set env r.var (word_of st.arrays r.mem (asked_at st r.mem)) else env) (or_parts (r.var == x) (awaits_var x rs) h).1 ∙ at (is_answered p bits r.mem)
@@ -67,7 +68,8 @@ still_awaits p bits x (r ∷ rs) h = at (is_answered p bits r.mem) (still_awaits
     at false k = ap₂ (λ a b. a || b) (or_parts (r.var == x) (awaits_var x rs) h).0 k
 
 -- answers leave it on its path
-pub roams_answered : (p : Pipe) (st : State) (bits : List Bool) (t : Thread) → Roams p t → Roams p (answered_thread p st bits t) × (has_made p (answered_thread p st bits t) ≡ has_made p t)
+pub roams_answered : (p : Pipe) (st : State) (bits : List Bool) (t : Thread) → Roams p t
+    → Roams p (answered_thread p st bits t) × (has_made p (answered_thread p st bits t) ≡ has_made p t)
 roams_answered p st bits t r =
     let same = r.blind (with_answers p st bits t.awaits t.env) (λ x h. answers_other p st bits x t.awaits t.env h) in (
       record {

@@ -118,7 +118,9 @@ verify_looked (x ∷ xs) = ap₂ (λ b o. cond b (Some x.stage) o) (verify_same 
 abbrev pub Barred : Around → List Stmt → Type 0
 Barred o xs = (none_of is_barrier xs ≡ true) ⊎ (o.clear ≡ false)
 
-roam_op : (v : Option ℕ) (o : Around) (c : Scan) (s : ℕ) (op : Op) (w : Work) → (not (is_barrier op) ≡ true) ⊎ (o.clear ≡ false) → stands_before v s ≡ true → is_sure v false c s op ≡ true → Covers c.held w.entries → (work_after o op w).ready ≡ true
+roam_op : (v : Option ℕ) (o : Around) (c : Scan) (s : ℕ) (op : Op) (w : Work)
+    → (not (is_barrier op) ≡ true) ⊎ (o.clear ≡ false) → stands_before v s ≡ true → is_sure v false c s op ≡ true
+    → Covers c.held w.entries → (work_after o op w).ready ≡ true
     → ((work_after o op w).commits ≡ w.commits) × (is_barrier op ≡ false)
 roam_op v o c s (Release m a) w clear low sure cover ready = (ap (λ l. w.commits ++ l) (unreleased w.entries m a (unheld (has_entry w.entries m a) refl)) ∙ append-nil w.commits, refl)
   where
@@ -151,7 +153,9 @@ rest_barred o x xs (inl h) = inl (and_right (not (is_barrier x.op)) _ h)
 rest_barred o x xs (inr h) = inr h
 
 -- before V, a thread that passes a stage where no barrier is clear commits nothing and passes no barrier
-pub roam_all : (v : Option ℕ) (o : Around) (c : Scan) (s : ℕ) (xs : List Stmt) (w : Work) → unguarded xs ≡ true → AllIn s xs → Barred o xs → stands_before v s ≡ true → all_sure v false c xs ≡ true → Covers c.held w.entries → (do_all o xs w).ready ≡ true
+pub roam_all : (v : Option ℕ) (o : Around) (c : Scan) (s : ℕ) (xs : List Stmt) (w : Work)
+    → unguarded xs ≡ true → AllIn s xs → Barred o xs → stands_before v s ≡ true → all_sure v false c xs ≡ true
+    → Covers c.held w.entries → (do_all o xs w).ready ≡ true
     → ((do_all o xs w).commits ≡ w.commits) × (some_barrier false xs ≡ false) × Covers (scan_after_all xs c).held (do_all o xs w).entries
 roam_all v o c s [] w g a clear low sure cover ready = (refl, refl, cover)
 roam_all v o c s (x ∷ xs) w g a clear low sure cover ready =
@@ -178,13 +182,16 @@ steers_by (Forks z a b) x = z == x
 abbrev pub steers : Pipe → Branch → ℕ → Bool
 steers p c x = steers_by (stage_at p c.fork).next x
 
-side_set : (n : Next) (first : Bool) (x v : ℕ) (env : List ℕ) → steers_by n x ≡ false → on_side n first (slice_set env x v) ≡ on_side n first env
+side_set : (n : Next) (first : Bool) (x v : ℕ) (env : List ℕ)
+    → steers_by n x ≡ false → on_side n first (slice_set env x v) ≡ on_side n first env
 side_set Ends first x v env h = refl
 side_set (Goes to) first x v env h = refl
 side_set (Forks z a b) first x v env h = ap (λ k. if first then k == 1 else not (k == 1)) (get_or-set_other env x z v 0 (eqb-false z x h))
 
 -- values that agree on a fork's variable take the same side of it
-pub side_same : (n : Next) (first : Bool) (env env' : List ℕ) → ((z a b : ℕ) → n ≡ Forks z a b → slice_index env z ≡ slice_index env' z) → on_side n first env ≡ on_side n first env'
+pub side_same : (n : Next) (first : Bool) (env env' : List ℕ)
+    → ((z a b : ℕ) → n ≡ Forks z a b → slice_index env z ≡ slice_index env' z)
+    → on_side n first env ≡ on_side n first env'
 side_same Ends first env env' h = refl
 side_same (Goes to) first env env' h = refl
 side_same (Forks z a b) first env env' h = ap (λ k. if first then k == 1 else not (k == 1)) (h z a b refl)
@@ -206,7 +213,8 @@ visits_set p s x v env h = at (stage_at p s).branch refl
     at (Some c) e = ap (comes_by p (slice_set env x v)) e ∙ side_set (stage_at p c.fork).next c.first x v env (h c e) ∙ sym (ap (comes_by p env) e)
 
 -- answers for variables on which no side hangs leave the stages that the values come to as they are
-pub visits_answers : (p : Pipe) (st : State) (bits : List Bool) (s : ℕ) (rs : List Awaited) (env : List ℕ) → AllAside p s rs → visits_stage p (with_answers p st bits rs env) s ≡ visits_stage p env s
+pub visits_answers : (p : Pipe) (st : State) (bits : List Bool) (s : ℕ) (rs : List Awaited) (env : List ℕ)
+    → AllAside p s rs → visits_stage p (with_answers p st bits rs env) s ≡ visits_stage p env s
 visits_answers p st bits s [] env h = refl
 visits_answers p st bits s (r ∷ rs) env h =
     visits_answers p st bits s rs (if is_answered p bits r.mem then slice_set env r.var (word_of st.arrays r.mem (asked_at st r.mem)) else env) h.1 ∙ at (is_answered p bits r.mem)
@@ -230,7 +238,8 @@ aside_asks p s [] h = tt
 aside_asks p s (q ∷ qs) h = (h.0, aside_asks p s qs h.1)
 
 -- what no statement of stage k and later ones is, none of stage s is, where k is at most s
-pub none_stage_from : (test : Op → Bool) (k s : ℕ) (xs : List Stmt) → k ≤ s → none_of test (stages_from k xs) ≡ true → none_of test (in_stage s xs) ≡ true
+pub none_stage_from : (test : Op → Bool) (k s : ℕ) (xs : List Stmt)
+    → k ≤ s → none_of test (stages_from k xs) ≡ true → none_of test (in_stage s xs) ≡ true
 none_stage_from test k s [] low h = refl
 none_stage_from test k s (x ∷ xs) low h = at (x.stage == s) refl (nat_le k x.stage) refl h (none_stage_from test k s xs low)
   where

@@ -28,7 +28,8 @@ abbrev pub Ok : (ℕ → Phase) → Op → Type 0
 Ok ph op = (m : ℕ) → phase_ok m (ph m) op ≡ true
 
 -- a memory that may be read was not written
-unwritten : (m : ℕ) (ph : Phase) (env : List ℕ) (es : List Entry) (cs ws : List Commit) → may_read ph ≡ true → Tied m ph env es cs ws → ws ≡ []
+unwritten : (m : ℕ) (ph : Phase) (env : List ℕ) (es : List Entry) (cs ws : List Commit)
+    → may_read ph ≡ true → Tied m ph env es cs ws → ws ≡ []
 unwritten m Fresh env es cs ws h t = t.2
 unwritten m (Held x) env es cs ws h t = t.2
 unwritten m (Written x) env es cs ws h t = cc
@@ -49,8 +50,8 @@ reads_same arrays ph w r x n a rel ok =
 one_of : (m n a v : ℕ) (b : Bool) → (n == m) ≡ b → of_mem m (write_of n a v ∷ []) ≡ cond b (write_of n a v ∷ []) []
 one_of m n a v b e = ap (λ c. cond c (write_of n a v ∷ []) []) e
 
-tied_write_any : (m n a v : ℕ) (ph : Phase) (env : List ℕ) (es : List Entry) (cs ws : List Commit) (b : Bool) → (n == m) ≡ b
-    → (not b || holds_location ph a) ≡ true → Tied m ph env (entries_of m es) cs (of_mem m ws)
+tied_write_any : (m n a v : ℕ) (ph : Phase) (env : List ℕ) (es : List Entry) (cs ws : List Commit) (b : Bool)
+    → (n == m) ≡ b → (not b || holds_location ph a) ≡ true → Tied m ph env (entries_of m es) cs (of_mem m ws)
     → Tied m (cond b (Written a) ph) env (entries_of m (with_entry_value es n a v)) cs (of_mem m (ws ++ write_of n (slice_index env a) v ∷ []))
 tied_write_any m n a v ph env es cs ws true e h t =
     tied_moved m (Written a) env _ _ _ _ _ _

@@ -32,7 +32,8 @@ use Rattle.pdl_theory_turns.proofs.Turns.{none_from_path}
 use Rattle.pdl_semantics.specs.Sound.{stages_from}
 
 -- scans over reads at once
-pub none_looked : (test : Op → Bool) → ((op : Op) → test (answered_op op) ≡ test op) → (xs : List Stmt) → none_of test (looked_all xs) ≡ none_of test xs
+pub none_looked : (test : Op → Bool)
+    → ((op : Op) → test (answered_op op) ≡ test op) → (xs : List Stmt) → none_of test (looked_all xs) ≡ none_of test xs
 none_looked test f [] = refl
 none_looked test f (x ∷ xs) = ap₂ (λ b c. not b && c) (f x.op) (none_looked test f xs)
 
@@ -50,7 +51,9 @@ from_looked s (x ∷ xs) = at (nat_le s x.stage) (from_looked s xs)
     at false h = h
 
 -- requests come stages_from delayed reads
-asks_op : (P : Ask → Type 0) (o : Around) (op : Op) (w : Work) → ((x m a : ℕ) → op ≡ DelayedRead x m a → P (record { mem = m; var = x; address = slice_index w.env a })) → AllAsks P w.asks → AllAsks P (work_after o op w).asks
+asks_op : (P : Ask → Type 0) (o : Around) (op : Op) (w : Work)
+    → ((x m a : ℕ) → op ≡ DelayedRead x m a → P (record { mem = m; var = x; address = slice_index w.env a }))
+    → AllAsks P w.asks → AllAsks P (work_after o op w).asks
 asks_op P o (DelayedRead x m a) w f h = all_snoc P w.asks _ h (f x m a refl)
 asks_op P o (Verify args) w f h = at (same_args (values_of args w.env) w.guess)
   where
@@ -73,7 +76,8 @@ EachFetch P [] = Unit {0}
 EachFetch P (y ∷ ys) = (is_dead y.guards ≡ false → (x m a : ℕ) → y.op ≡ DelayedRead x m a → P x m) × EachFetch P ys
 
 -- what holds of the delayed reads of statements, and of the requests so far, holds of all requests after them
-pub asks_each : (P : ℕ → ℕ → Type 0) (o : Around) (ys : List Stmt) (w : Work) → EachFetch P ys → AllAsks (λ q. P q.var q.mem) w.asks → AllAsks (λ q. P q.var q.mem) (do_all o ys w).asks
+pub asks_each : (P : ℕ → ℕ → Type 0) (o : Around) (ys : List Stmt) (w : Work) → EachFetch P ys
+    → AllAsks (λ q. P q.var q.mem) w.asks → AllAsks (λ q. P q.var q.mem) (do_all o ys w).asks
 asks_each P o [] w f h = h
 asks_each P o (y ∷ ys) w f h = asks_each P o ys (step o y w) f.1 (at (all_hold y.guards w.env) refl)
   where
@@ -92,7 +96,8 @@ not_fetched x [] h = tt
 not_fetched x (y ∷ ys) h = ((λ d z m a e. ap (λ op. not (is_fetch_of x op)) (sym e) ∙ and_left (not (is_fetch_of x y.op)) _ h), not_fetched x ys (and_right (not (is_fetch_of x y.op)) _ h))
 
 -- a variable that no answer is for
-pub caught_other : (arrays : Arrays) (x : ℕ) (qs : List Ask) (env : List ℕ) → AllAsks (λ q. not (q.var == x) ≡ true) qs → slice_index (caught arrays qs env) x ≡ slice_index env x
+pub caught_other : (arrays : Arrays) (x : ℕ) (qs : List Ask) (env : List ℕ)
+    → AllAsks (λ q. not (q.var == x) ≡ true) qs → slice_index (caught arrays qs env) x ≡ slice_index env x
 caught_other arrays x [] env h = refl
 caught_other arrays x (q ∷ qs) env h = caught_other arrays x qs _ h.1 ∙ get_or-set_other env q.var x _ 0 (λ e. clash (ap (λ n. not (n == x)) e ∙ h.0))
   where

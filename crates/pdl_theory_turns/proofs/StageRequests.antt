@@ -22,7 +22,9 @@ abbrev pub Known : (ℕ → ℕ → Type 0) → Scan → List Stmt → Ask → T
 Known clean c xs q = clean q.mem q.address × (not (is_address c.blocked q.var) ≡ true) × (silent_on q.var xs ≡ true)
 
 -- a statement opens no location of a variable that it doesn't mention
-opens_unused : (op : Op) (c : Scan) (x : ℕ) → not (mentions_var x op) ≡ true → not (is_address c.blocked x) ≡ true → not (is_address (scan_after (answered_op op) c).blocked x) ≡ true
+opens_unused : (op : Op) (c : Scan) (x : ℕ)
+    → not (mentions_var x op) ≡ true → not (is_address c.blocked x) ≡ true
+    → not (is_address (scan_after (answered_op op) c).blocked x) ≡ true
 opens_unused (Block m a) c x h u = at (has_location c.held m a)
   where
     at : (b : Bool) → not (is_address (cond b c (record { held = c.held; blocked = location m a ∷ c.blocked })).blocked x) ≡ true
@@ -46,7 +48,8 @@ opens_unused SpecCheck c x h u = u
 opens_unused SpecBarrier c x h u = u
 
 -- a statement of the path mentions no awaited variable
-unmentioned : (y : Stmt) (ys : List Stmt) (env : List ℕ) (x : ℕ) → all_hold y.guards env ≡ true → silent_on x (y ∷ ys) ≡ true → not (mentions_var x y.op) ≡ true
+unmentioned : (y : Stmt) (ys : List Stmt) (env : List ℕ) (x : ℕ)
+    → all_hold y.guards env ≡ true → silent_on x (y ∷ ys) ≡ true → not (mentions_var x y.op) ≡ true
 unmentioned y ys env x t h = at (is_dead y.guards) refl (and_left _ _ h)
   where
     at : (b : Bool) → is_dead y.guards ≡ b → (b || (not (asks_for x y.guards) && not (mentions_var x y.op))) ≡ true → not (mentions_var x y.op) ≡ true

@@ -31,23 +31,29 @@ Staged m n (Written x) es cs new ws rel =
     (a : ℕ) × (v : ℕ) × (es ≡ entry m x a (Some v) ∷ []) × (cs ≡ []) × (with_writes_of m n ws new ≡ own n (entry m x a (Some v)) ∷ []) × (rel ≡ false)
 Staged m n Done es cs new ws rel = (es ≡ []) × Gone m n cs (with_writes_of m n ws new) rel
 
-gone_moved : (m n : ℕ) (cs cs' : List Commit) (two two' : List Pending) (rel rel' : Bool) → cs' ≡ cs → two' ≡ two → rel' ≡ rel → Gone m n cs two rel → Gone m n cs' two' rel'
+gone_moved : (m n : ℕ) (cs cs' : List Commit) (two two' : List Pending) (rel rel' : Bool)
+    → cs' ≡ cs → two' ≡ two → rel' ≡ rel → Gone m n cs two rel → Gone m n cs' two' rel'
 gone_moved m n cs cs' two two' rel rel' p q r (inl g) = inl (p ∙ g.0, q ∙ g.1, r ∙ g.2)
 gone_moved m n cs cs' two two' rel rel' p q r (inr g) = inr (g.0, g.1, p ∙ g.2, q ∙ g.3, r ∙ g.4)
 
-staged_moved : (m n : ℕ) (ph : Phase) (es es' : List Entry) (cs cs' : List Commit) (new new' : List Pending) (ws ws' : List Machine.Written) (rel rel' : Bool)
-    → es' ≡ es → cs' ≡ cs → new' ≡ new → ((l : List Pending) → with_writes_of m n ws' l ≡ with_writes_of m n ws l) → rel' ≡ rel → Staged m n ph es cs new ws rel → Staged m n ph es' cs' new' ws' rel'
+staged_moved : (m n : ℕ) (ph : Phase) (es es' : List Entry) (cs cs' : List Commit) (new new' : List Pending)
+    (ws ws' : List Machine.Written) (rel rel' : Bool)
+    → es' ≡ es → cs' ≡ cs → new' ≡ new → ((l : List Pending) → with_writes_of m n ws' l ≡ with_writes_of m n ws l)
+    → rel' ≡ rel → Staged m n ph es cs new ws rel → Staged m n ph es' cs' new' ws' rel'
 staged_moved m n Fresh es es' cs cs' new new' ws ws' rel rel' p q r s t g = (p ∙ g.0, q ∙ g.1, r ∙ g.2, (λ l. s l ∙ g.3 l), t ∙ g.4)
 staged_moved m n (Held x) es es' cs cs' new new' ws ws' rel rel' p q r s t g = (g.0, p ∙ g.1, q ∙ g.2, s new' ∙ ap (with_writes_of m n ws) r ∙ g.3, t ∙ g.4)
 staged_moved m n (Written x) es es' cs cs' new new' ws ws' rel rel' p q r s t g = (g.0, g.1, p ∙ g.2, q ∙ g.3, s new' ∙ ap (with_writes_of m n ws) r ∙ g.4, t ∙ g.5)
 staged_moved m n Done es es' cs cs' new new' ws ws' rel rel' p q r s t g = (p ∙ g.0, gone_moved m n cs cs' _ _ rel rel' q (s new' ∙ ap (with_writes_of m n ws) r) t g.1)
 
-put_all_more : (m n : ℕ) (ws : List Machine.Written) (w : Machine.Written) (l : List Pending) → with_writes_of m n (ws ++ w ∷ []) l ≡ cond (w.mem == m) (with_value_of n w.value (with_writes_of m n ws l)) (with_writes_of m n ws l)
+put_all_more : (m n : ℕ) (ws : List Machine.Written) (w : Machine.Written) (l : List Pending)
+    → with_writes_of m n (ws ++ w ∷ []) l ≡ cond (w.mem == m) (with_value_of n w.value (with_writes_of m n ws l)) (with_writes_of m n ws l)
 put_all_more m n [] w l = refl
 put_all_more m n (x ∷ ws) w l = put_all_more m n ws w (if x.mem == m then with_value_of n x.value l else l)
 
 -- one reservation more, where it is of memory m, gives one pending write more at the end
-pub new_more : (m n : ℕ) (rs : List Reserved) (r : Reserved) → new_entries m n (rs ++ r ∷ []) ≡ new_entries m n rs ++ cond (r.mem == m) (record { thread = n; address = r.address; value = None } ∷ []) []
+pub new_more : (m n : ℕ) (rs : List Reserved) (r : Reserved)
+    → new_entries m n (rs ++ r ∷ []) ≡ new_entries m n rs
+    ++ cond (r.mem == m) (record { thread = n; address = r.address; value = None } ∷ []) []
 new_more m n [] r = append-nil _
 new_more m n (x ∷ rs) r =
     ap (λ l. (if x.mem == m then record { thread = n; address = x.address; value = None } ∷ [] else []) ++ l) (new_more m n rs r)
@@ -78,8 +84,9 @@ apart_false : (x a m : ℕ) (v : Option ℕ) (y : ℕ) → (x == a) ≡ false �
 apart_false x a m v y h = ap₂ (λ b c. (b && c) || false) (eq-eqb m m refl) h
 
 -- a write
-pub step_write : (m n k a v : ℕ) (ph : Phase) (es : List Entry) (cs : List Commit) (new : List Pending) (ws : List Machine.Written) (rel : Bool) (b : Bool) → (k == m) ≡ b
-    → (not b || holds_location ph a) ≡ true → Staged m n ph (entries_of m es) cs new ws rel
+pub step_write : (m n k a v : ℕ) (ph : Phase) (es : List Entry) (cs : List Commit) (new : List Pending)
+    (ws : List Machine.Written) (rel : Bool) (b : Bool)
+    → (k == m) ≡ b → (not b || holds_location ph a) ≡ true → Staged m n ph (entries_of m es) cs new ws rel
     → Staged m n (cond b (Written a) ph) (entries_of m (Derived.with_entry_value es k a v)) cs new (ws ++ record { mem = k; value = v } ∷ []) rel
 step_write m n k a v ph es cs new ws rel false e h g =
     staged_moved m n ph _ _ _ _ _ _ ws _ _ _ (filled_other es m k a v (eqb-false k m e)) refl refl
@@ -98,8 +105,10 @@ step_write m n k a v (Written x) es cs new ws rel true e h g = absurd (cc h)
 step_write m n k a v Done es cs new ws rel true e h g = absurd (cc h)
 
 -- a reservation for writing
-pub step_reserve : (m n k a y : ℕ) (ph : Phase) (es : List Entry) (cs : List Commit) (start : List Pending) (rs : List Reserved) (ws : List Machine.Written) (rel : Bool) (b : Bool) → (k == m) ≡ b
-    → (not b || is_fresh ph) ≡ true → Staged m n ph (entries_of m es) cs (start ++ new_entries m n rs) ws rel
+pub step_reserve : (m n k a y : ℕ) (ph : Phase) (es : List Entry) (cs : List Commit) (start : List Pending)
+    (rs : List Reserved) (ws : List Machine.Written) (rel : Bool) (b : Bool)
+    → (k == m) ≡ b → (not b || is_fresh ph) ≡ true
+    → Staged m n ph (entries_of m es) cs (start ++ new_entries m n rs) ws rel
     → Staged m n (cond b (Held a) ph) (entries_of m (entry k a y None ∷ es)) cs (start ++ new_entries m n (rs ++ record { mem = k; address = y } ∷ [])) ws rel
 step_reserve m n k a y ph es cs start rs ws rel false e h g =
     staged_moved m n ph _ _ _ _ _ _ ws ws _ _ (ap (λ c. cond c (entry k a y None ∷ entries_of m es) (entries_of m es)) e) refl
@@ -117,9 +126,10 @@ step_reserve m n k a y (Written x) es cs start rs ws rel true e h g = absurd (cc
 step_reserve m n k a y Done es cs start rs ws rel true e h g = absurd (cc h)
 
 -- a release that takes nothing of m out
-step_none : (m n k a : ℕ) (ph : Phase) (es : List Entry) (cs : List Commit) (new : List Pending) (ws : List Machine.Written) (rs : List ℕ) (held : Bool)
-    → entries_of m (without es k a) ≡ entries_of m es → of_mem m (released_commits es k a) ≡ [] → (held && (k == m)) ≡ false
-    → Staged m n ph (entries_of m es) (of_mem m cs) new ws (list_any (λ j. j == m) rs)
+step_none : (m n k a : ℕ) (ph : Phase) (es : List Entry) (cs : List Commit) (new : List Pending)
+    (ws : List Machine.Written) (rs : List ℕ) (held : Bool)
+    → entries_of m (without es k a) ≡ entries_of m es → of_mem m (released_commits es k a) ≡ []
+    → (held && (k == m)) ≡ false → Staged m n ph (entries_of m es) (of_mem m cs) new ws (list_any (λ j. j == m) rs)
     → Staged m n ph (entries_of m (without es k a)) (of_mem m (cs ++ released_commits es k a)) new ws (list_any (λ j. j == m) (rs ++ cond held (k ∷ []) []))
 step_none m n k a ph es cs new ws rs held f h i g =
     staged_moved m n ph _ _ _ _ new new ws ws _ _ f (of_mem_append m cs _ ∙ ap (λ l. of_mem m cs ++ l) h ∙ append-nil _) refl (λ l. refl)
@@ -130,8 +140,10 @@ step_none m n k a ph es cs new ws rs held f h i g =
     at false = refl
 
 -- a release leaves a thread's entries, commits and pending writes of memory m of the phase after it
-pub step_release : (m n k a : ℕ) (ph : Phase) (es : List Entry) (cs : List Commit) (new : List Pending) (ws : List Machine.Written) (rs : List ℕ) (held : Bool) → held ≡ has_entry es k a → (b : Bool) → (k == m) ≡ b
-    → (not b || not (holds_location ph a)) ≡ true → Staged m n ph (entries_of m es) (of_mem m cs) new ws (list_any (λ j. j == m) rs)
+pub step_release : (m n k a : ℕ) (ph : Phase) (es : List Entry) (cs : List Commit) (new : List Pending)
+    (ws : List Machine.Written) (rs : List ℕ) (held : Bool)
+    → held ≡ has_entry es k a → (b : Bool) → (k == m) ≡ b → (not b || not (holds_location ph a)) ≡ true
+    → Staged m n ph (entries_of m es) (of_mem m cs) new ws (list_any (λ j. j == m) rs)
     → Staged m n (cond b (after_release ph a) ph) (entries_of m (without es k a)) (of_mem m (cs ++ released_commits es k a)) new ws (list_any (λ j. j == m) (rs ++ cond held (k ∷ []) []))
 step_release m n k a ph es cs new ws rs held i false e h g =
     step_none m n k a ph es cs new ws rs held (without_other es m k a (eqb-false k m e)) (released_other es m k a (eqb-false k m e)) (off held (k == m) e) g

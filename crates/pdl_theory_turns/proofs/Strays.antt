@@ -15,7 +15,8 @@ pub record Ahead (p : Pipe) (v : ℕ) (older : List Act) (bound bound' : ℕ) : 
   pub unclear : (s : ℕ) → s < bound → Trunk p s → barrier_clear (Some v) s (befores older) ≡ false
 
 -- what the first older thread tells of one that enters a stage
-pub enter_next : (p : Pipe) (older : List Act) (a : Act) (s s' : ℕ) → a.before.stage ≡ s → (a.moves ≡ true → s < s') → (q : ℕ) → can_enter p (a ∷ older) (Some q) ≡ true
+pub enter_next : (p : Pipe) (older : List Act) (a : Act) (s s' : ℕ)
+    → a.before.stage ≡ s → (a.moves ≡ true → s < s') → (q : ℕ) → can_enter p (a ∷ older) (Some q) ≡ true
     → (s ≡ q → s < s') × ((f : ℕ) → (stage_at p q).merges ≡ Some f → is_inside p f s ≡ false)
 enter_next p older a s s' is moved q h = (first, second)
   where
@@ -35,9 +36,11 @@ enter_next p older a s s' is moved q h = (first, second)
         flip false i = refl
 
 -- a thread that moves stays behind the older ones
-pub step_below : (p : Pipe) (g : Graph p) (older : List Act) (bound bound' s : ℕ) (env : List ℕ) → bound ≤ bound' → bound ≤ length p.stages → (bound ≡ length p.stages → bound < bound')
+pub step_below : (p : Pipe) (g : Graph p) (older : List Act) (bound bound' s : ℕ) (env : List ℕ)
+    → bound ≤ bound' → bound ≤ length p.stages → (bound ≡ length p.stages → bound < bound')
     → ((q : ℕ) → can_enter p older (Some q) ≡ true → (bound ≡ q → bound < bound') × ((f : ℕ) → (stage_at p q).merges ≡ Some f → is_inside p f bound ≡ false))
-    → Below p bound s → s < length p.stages → can_enter p older (goes_to (stage_at p s).next env) ≡ true → Below p bound' (next_of p s env)
+    → Below p bound s → s < length p.stages → can_enter p older (goes_to (stage_at p s).next env) ≡ true
+    → Below p bound' (next_of p s env)
 step_below p g older bound bound' s env grows fits top enter b low h r trunk up = at (nat_le r s) refl
   where
     far : r < bound → r < bound'

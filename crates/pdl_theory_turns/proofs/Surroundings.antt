@@ -100,7 +100,8 @@ has_without (e ∷ es) n b m a h = at ((e.mem == n) && (e.var == b)) h (has_with
     at true k f = or_more _ _ k
     at false k f = or_map ((e.mem == m) && (e.var == a)) _ _ f k
 
-covers_block : (b : Bool) (c : Scan) (l : Location) (es : List Entry) → Covers c.held es → Covers (cond b c (record { held = c.held; blocked = l ∷ c.blocked })).held es
+covers_block : (b : Bool) (c : Scan) (l : Location) (es : List Entry) → Covers c.held es
+    → Covers (cond b c (record { held = c.held; blocked = l ∷ c.blocked })).held es
 covers_block true c l es f = f
 covers_block false c l es f = f
 
@@ -109,7 +110,8 @@ covers_verified true x w = refl
 covers_verified false x w = refl
 
 -- after a statement what is pending is still among what was reserved
-pub covers_op : (o : Around) (c : Scan) (op : Op) (w : Work) → Covers c.held w.entries → Covers (scan_after op c).held (work_after o op w).entries
+pub covers_op : (o : Around) (c : Scan) (op : Op) (w : Work) → Covers c.held w.entries
+    → Covers (scan_after op c).held (work_after o op w).entries
 covers_op o c (Write m a e) w f = λ n b h. f n b (sym (has_filled w.entries m a (value_of e w.env) n b) ∙ h)
 covers_op o c (ReserveWrite m a) w f = λ n b h. or_map ((m == n) && (a == b)) _ _ (f n b) h
 covers_op o c (Block m a) w f = covers_block (has_location c.held m a) c (location m a) w.entries f
@@ -118,8 +120,10 @@ covers_op o c (Verify args) w f = subst (λ es. Covers c.held es) (sym (covers_v
 covers_op o c _ w f = f
 
 -- a ready block makes its location clean, if it is one for reading
-block_right : (p : Pipe) (o : Around) (arrays : Arrays) (s : ℕ) (clean : ℕ → ℕ → Type 0) (c : Scan) (m a : ℕ) (w : Work) → Surrounds p o arrays s clean → Covers c.held w.entries → reserve_stage p m ≤ s
-    → cond (has_entry w.entries m a) (o.can_write m (slice_index w.env a)) (o.can_read m (slice_index w.env a)) ≡ true → Right p s clean c.blocked w.env → Right p s clean (scan_after (Block m a) c).blocked w.env
+block_right : (p : Pipe) (o : Around) (arrays : Arrays) (s : ℕ) (clean : ℕ → ℕ → Type 0) (c : Scan) (m a : ℕ) (w : Work)
+    → Surrounds p o arrays s clean → Covers c.held w.entries → reserve_stage p m ≤ s
+    → cond (has_entry w.entries m a) (o.can_write m (slice_index w.env a)) (o.can_read m (slice_index w.env a)) ≡ true
+    → Right p s clean c.blocked w.env → Right p s clean (scan_after (Block m a) c).blocked w.env
 block_right p o arrays s clean c m a w f k low h r = at (has_entry w.entries m a) refl (has_location c.held m a) refl h
   where
     at : (b : Bool) → has_entry w.entries m a ≡ b → (d : Bool) → has_location c.held m a ≡ d → cond b (o.can_write m (slice_index w.env a)) (o.can_read m (slice_index w.env a)) ≡ true
@@ -130,8 +134,8 @@ block_right p o arrays s clean c m a w f k low h r = at (has_entry w.entries m a
 
 -- the blocked locations after a statement are still right
 pub right_after : (p : Pipe) (o : Around) (arrays : Arrays) (s : ℕ) (clean : ℕ → ℕ → Type 0) (c : Scan) (op : Op) (w : Work)
-    → Surrounds p o arrays s clean → Covers c.held w.entries → op_ok p s c op ≡ true → (work_after o op w).ready ≡ true → Right p s clean c.blocked w.env
-    → Right p s clean (scan_after op c).blocked (work_after o op w).env
+    → Surrounds p o arrays s clean → Covers c.held w.entries → op_ok p s c op ≡ true → (work_after o op w).ready ≡ true
+    → Right p s clean c.blocked w.env → Right p s clean (scan_after op c).blocked (work_after o op w).env
 right_after p o arrays s clean c (Bind x e) w f g h k r = right_set p s clean c.blocked w.env x (value_of e w.env) h r
 right_after p o arrays s clean c (CombRead x m a) w f g h k r = right_set p s clean c.blocked w.env x (o.read m (slice_index w.env a)) (and_left (not (is_address c.blocked x)) _ h) r
 right_after p o arrays s clean c (DelayedRead x m a) w f g h k r = absurd (cc h)
@@ -163,7 +167,8 @@ taken_none [] env h = refl
 taken_none (g ∷ gs) env h = cc
 
 -- what statements of a pipe leave pending was reserved by them
-pub covers_all : (p : Pipe) (o : Around) (c : Scan) (xs : List Stmt) (w : Work) → reads_ok p c xs ≡ true → Covers c.held w.entries → Covers (scan_after_all xs c).held (do_all o xs w).entries
+pub covers_all : (p : Pipe) (o : Around) (c : Scan) (xs : List Stmt) (w : Work)
+    → reads_ok p c xs ≡ true → Covers c.held w.entries → Covers (scan_after_all xs c).held (do_all o xs w).entries
 covers_all p o c [] w h f = f
 covers_all p o c (x ∷ xs) w h f =
     subst (λ v. Covers (scan_after_all xs (scan_after x.op c)).held (do_all o xs v).entries) (sym (ap (λ b. cond b (work_after o x.op w) w) (taken_none x.guards w.env (and_left _ _ (and_left _ _ h)))))

@@ -18,7 +18,8 @@ use Rattle.pdl_theory_derived.proofs.Stages.{step}
 use Rattle.pdl_semantics.specs.Sound.{stages_from}
 
 -- statements without a release of m commit nothing of m
-quiet_op : (m : ℕ) (o : Around) (op : Op) (w : Work) → not (is_release m op) ≡ true → of_mem m (work_after o op w).commits ≡ of_mem m w.commits
+quiet_op : (m : ℕ) (o : Around) (op : Op) (w : Work)
+    → not (is_release m op) ≡ true → of_mem m (work_after o op w).commits ≡ of_mem m w.commits
 quiet_op m o (Release n a) w h = of_mem_append m w.commits _ ∙ ap (λ l. of_mem m w.commits ++ l) (released_other w.entries m n a apart) ∙ append-nil (of_mem m w.commits)
   where
     apart : n ≢ m
@@ -30,12 +31,14 @@ quiet_op m o (Verify args) w h = at (same_args (values_of args w.env) w.guess)
     at false = refl
 quiet_op m o _ w h = refl
 
-quiet_step : (b : Bool) (m : ℕ) (o : Around) (op : Op) (w : Work) → not (is_release m op) ≡ true → of_mem m (cond b (work_after o op w) w).commits ≡ of_mem m w.commits
+quiet_step : (b : Bool) (m : ℕ) (o : Around) (op : Op) (w : Work)
+    → not (is_release m op) ≡ true → of_mem m (cond b (work_after o op w) w).commits ≡ of_mem m w.commits
 quiet_step true m o op w h = quiet_op m o op w h
 quiet_step false m o op w h = refl
 
 -- statements that release nothing of memory m commit nothing to it
-pub quiet : (m : ℕ) (o : Around) (xs : List Stmt) (w : Work) → none_of (is_release m) xs ≡ true → of_mem m (do_all o xs w).commits ≡ of_mem m w.commits
+pub quiet : (m : ℕ) (o : Around) (xs : List Stmt) (w : Work)
+    → none_of (is_release m) xs ≡ true → of_mem m (do_all o xs w).commits ≡ of_mem m w.commits
 quiet m o [] w h = refl
 quiet m o (x ∷ xs) w h = quiet m o xs (step o x w) (and_right _ _ h) ∙ quiet_step (all_hold x.guards w.env) m o x.op w (and_left _ _ h)
 
@@ -51,7 +54,9 @@ none_in_stage test c s (x ∷ xs) h k = at (x.stage == s) refl (test x.op) refl 
     at false e t f r q = r
 
 -- what stands in stage c alone is not before stage s, where s is at most c
-pub none_before : (test : Op → Bool) (c s : ℕ) (xs : List Stmt) → ((op : Op) → test (answered_op op) ≡ test op) → all_at test c xs ≡ true → s ≤ c → none_of test (before s xs) ≡ true
+pub none_before : (test : Op → Bool) (c s : ℕ) (xs : List Stmt)
+    → ((op : Op) → test (answered_op op) ≡ test op) → all_at test c xs ≡ true → s ≤ c
+    → none_of test (before s xs) ≡ true
 none_before test c s [] g h k = refl
 none_before test c s (x ∷ xs) g h k = at (nat_lt x.stage s) refl (test x.op) refl (none_before test c s xs g (and_right _ _ h) k) (and_left _ _ h)
   where
@@ -121,7 +126,8 @@ spots_release m a Done env es cs ws h t = ap (λ l. spots (without l m a) (cs ++
 -- a statement that the phases allow and that is no reserve leaves the addresses written to memory m as they are
 pub spots_op : (arrays : Arrays) (m : ℕ) (ph : ℕ → Phase) (op : Op) (w : Work) (r : Run)
     → not (is_reserve m op) ≡ true → Ok ph op → Related arrays ph w r
-    → spots (entries_of m (work_after (alone arrays) op w).entries) (of_mem m (work_after (alone arrays) op w).commits) ≡ spots (entries_of m w.entries) (of_mem m w.commits)
+    → spots (entries_of m (work_after (alone arrays) op w).entries) (of_mem m (work_after (alone arrays) op w).commits)
+    ≡ spots (entries_of m w.entries) (of_mem m w.commits)
 spots_op arrays m ph (Write n a e) w r h ok rel = at (n == m) refl
   where
     at : (b : Bool) → (n == m) ≡ b → spots (entries_of m (with_entry_value w.entries n a (value_of e w.env))) (of_mem m w.commits) ≡ spots (entries_of m w.entries) (of_mem m w.commits)

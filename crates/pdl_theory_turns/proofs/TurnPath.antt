@@ -27,7 +27,8 @@ free_here n ph x xs h = and_left _ _ (and_left _ _ h)
 -- the addresses stay over statements that don't reserve m
 spots_all : (arrays : Arrays) (m : ℕ) (xs : List Stmt) (ph : ℕ → Phase) (w : Work) (r : Run)
     → none_of (is_reserve m) xs ≡ true → ((n : ℕ) → phases_ok n (ph n) xs ≡ true) → Related arrays ph w r
-    → spots (entries_of m (do_all (alone arrays) xs w).entries) (of_mem m (do_all (alone arrays) xs w).commits) ≡ spots (entries_of m w.entries) (of_mem m w.commits)
+    → spots (entries_of m (do_all (alone arrays) xs w).entries) (of_mem m (do_all (alone arrays) xs w).commits)
+    ≡ spots (entries_of m w.entries) (of_mem m w.commits)
 spots_all arrays m [] ph w r h ok rel = refl
 spots_all arrays m (x ∷ xs) ph w r h ok rel =
     ap (λ v. spots (entries_of m (do_all (alone arrays) xs v).entries) (of_mem m (do_all (alone arrays) xs v).commits)) goes
@@ -62,13 +63,16 @@ abbrev pub run_at : Pipe → Arrays → List ℕ → ℕ → Run
 run_at p arrays args s = run_all (before s p.stmts) (start_run p arrays args)
 
 -- where the phase is over, no entry is left, and the commits are the sequential writes
-pub finished : (m : ℕ) (ph : Phase) → is_over ph ≡ true → (env : List ℕ) (es : List Entry) (cs ws : List Commit) → Tied m ph env es cs ws → (es ≡ []) × (cs ≡ ws)
+pub finished : (m : ℕ) (ph : Phase)
+    → is_over ph ≡ true → (env : List ℕ) (es : List Entry) (cs ws : List Commit) → Tied m ph env es cs ws
+    → (es ≡ []) × (cs ≡ ws)
 finished m Fresh h env es cs ws t = (t.0, t.1 ∙ sym t.2)
 finished m (Held x) h env es cs ws t = cc
 finished m (Written x) h env es cs ws t = cc
 finished m Done h env es cs ws t = t
 
-undone_split : (c s : ℕ) (us xs : List Commit) → (s ≢ c → xs ≡ []) → (s ≡ c → xs ≡ us) → cond (nat_lt c s) [] us ≡ xs ++ cond (nat_lt c (suc s)) [] us
+undone_split : (c s : ℕ) (us xs : List Commit)
+    → (s ≢ c → xs ≡ []) → (s ≡ c → xs ≡ us) → cond (nat_lt c s) [] us ≡ xs ++ cond (nat_lt c (suc s)) [] us
 undone_split c s us xs f g = at (nat_lt c s) refl (nat_lt c (suc s)) refl
   where
     at : (b : Bool) → nat_lt c s ≡ b → (d : Bool) → nat_lt c (suc s) ≡ d → cond b [] us ≡ xs ++ cond d [] us

@@ -22,7 +22,8 @@ use Rattle.pdl_theory_turns.proofs.OwnEntries.{fixed_second}
 use Rattle.pdl_semantics.specs.Sound.{stages_from}
 
 -- what holds of a stage and of those after it holds of all stages_from it on
-pub none_parts : (test : Op → Bool) (s : ℕ) (xs : List Stmt) → none_of test (in_stage s xs ++ stages_from (suc s) xs) ≡ true → none_of test (stages_from s xs) ≡ true
+pub none_parts : (test : Op → Bool) (s : ℕ) (xs : List Stmt)
+    → none_of test (in_stage s xs ++ stages_from (suc s) xs) ≡ true → none_of test (stages_from s xs) ≡ true
 none_parts test s xs h = both xs (none_first test (in_stage s xs) (stages_from (suc s) xs) h) (none_second test (in_stage s xs) (stages_from (suc s) xs) h)
   where
     none_first : (test : Op → Bool) (us vs : List Stmt) → none_of test (us ++ vs) ≡ true → none_of test us ≡ true
@@ -52,7 +53,8 @@ none_parts test s xs h = both xs (none_first test (in_stage s xs) (stages_from (
         at false e false f false g i j go = go i j
 
 -- what no statement of stage s and later ones is, none on a path is
-pub none_from_path : (test : Op → Bool) (path : List ℕ) (s : ℕ) (xs : List Stmt) → none_of test (stages_from s xs) ≡ true → none_of test (stages_from s (onpath path xs)) ≡ true
+pub none_from_path : (test : Op → Bool) (path : List ℕ) (s : ℕ) (xs : List Stmt)
+    → none_of test (stages_from s xs) ≡ true → none_of test (stages_from s (onpath path xs)) ≡ true
 none_from_path test path s [] h = refl
 none_from_path test path s (x ∷ xs) h = at (nat_le s x.stage) refl (all_hold x.guards path) h (none_from_path test path s xs)
   where

@@ -48,7 +48,8 @@ settled_release Done a h = refl
 abbrev Settled : ℕ → Phase → Run → Run → Type 0
 Settled m ph r' r = (is_settled ph ≡ true) × (of_mem m r'.writes ≡ of_mem m r.writes)
 
-settled_op : (m : ℕ) (ph : Phase) (op : Op) (r : Run) → phase_ok m ph op ≡ true → is_settled ph ≡ true → Settled m (next_phase m ph op) (run_after op r) r
+settled_op : (m : ℕ) (ph : Phase) (op : Op) (r : Run)
+    → phase_ok m ph op ≡ true → is_settled ph ≡ true → Settled m (next_phase m ph op) (run_after op r) r
 settled_op m ph (Write n a e) r h k = at (n == m) refl h
   where
     at : (b : Bool) → (n == m) ≡ b → (not b || holds_location ph a) ≡ true → Settled m (cond b (Written a) ph) (run_after (Write n a e) r) r
@@ -66,7 +67,8 @@ settled_op m ph (Release n a) r h k = at (n == m)
     at false = (k, refl)
 settled_op m ph _ r h k = (k, refl)
 
-pub settled_all : (m : ℕ) (xs : List Stmt) (ph : Phase) (r : Run) → phases_ok m ph xs ≡ true → is_settled ph ≡ true → Settled m (phase_all m ph xs) (run_all xs r) r
+pub settled_all : (m : ℕ) (xs : List Stmt) (ph : Phase) (r : Run)
+    → phases_ok m ph xs ≡ true → is_settled ph ≡ true → Settled m (phase_all m ph xs) (run_all xs r) r
 settled_all m [] ph r h k = (k, refl)
 settled_all m (x ∷ xs) ph r h k =
     let q = settled_op m ph x.op r (and_right _ _ (and_left _ _ h)) k in
@@ -119,19 +121,23 @@ pending_one m a rest es cs ws ds (Written x) env t e f g =
 pending_one m a rest es cs ws ds Done env t e f g =
     subst (λ l. latest_in l m a rest ≡ seen a (marked (has_value l) ds) rest) (sym t.0) (ap (λ l. seen a (marked false l) rest) (sym (g refl ∙ sym t.1 ∙ e)))
 
-value_written : (m : ℕ) (ph : Phase) (env : List ℕ) (es : List Entry) (cs ws : List Commit) → Tied m ph env es cs ws → has_value es ≡ true → (is_settled ph ≡ true) × (ws ≡ [] → ⊥)
+value_written : (m : ℕ) (ph : Phase) (env : List ℕ) (es : List Entry) (cs ws : List Commit) → Tied m ph env es cs ws
+    → has_value es ≡ true → (is_settled ph ≡ true) × (ws ≡ [] → ⊥)
 value_written m Fresh env es cs ws t h = absurd (cc (sym h ∙ ap has_value t.0))
 value_written m (Held x) env es cs ws t h = absurd (cc (sym h ∙ ap has_value t.0))
 value_written m (Written x) env es cs ws t h = (refl, λ e. absurd (cc (sym e ∙ t.4)))
 value_written m Done env es cs ws t h = absurd (cc (sym h ∙ ap has_value t.0))
 
-written_value : (m : ℕ) (ph : Phase) (env : List ℕ) (es : List Entry) (cs ws : List Commit) → Tied m ph env es cs ws → is_settled ph ≡ true → cs ≡ [] → (ws ≡ [] → ⊥) → has_value es ≡ true
+written_value : (m : ℕ) (ph : Phase) (env : List ℕ) (es : List Entry) (cs ws : List Commit) → Tied m ph env es cs ws
+    → is_settled ph ≡ true → cs ≡ [] → (ws ≡ [] → ⊥) → has_value es ≡ true
 written_value m Fresh env es cs ws t h e f = absurd (cc h)
 written_value m (Held x) env es cs ws t h e f = absurd (cc h)
 written_value m (Written x) env es cs ws t h e f = ap has_value t.2
 written_value m Done env es cs ws t h e f = absurd (f (sym t.1 ∙ e))
 
-later_split : (m c s : ℕ) (b b' : Bool) (ws xs : List Commit) → strips m (marked b ws) ≡ ws → cond (nat_lt c s) [] ws ≡ xs ++ cond (nat_lt c (suc s)) [] ws → (s ≢ c → xs ≡ []) → (suc s ≤ c → b ≡ true → b' ≡ true)
+later_split : (m c s : ℕ) (b b' : Bool) (ws xs : List Commit)
+    → strips m (marked b ws) ≡ ws → cond (nat_lt c s) [] ws ≡ xs ++ cond (nat_lt c (suc s)) [] ws → (s ≢ c → xs ≡ [])
+    → (suc s ≤ c → b ≡ true → b' ≡ true)
     → Later m (cond (nat_lt c s) [] (marked b ws)) xs (cond (nat_lt c (suc s)) [] (marked b' ws))
 later_split m c s b b' ws xs own e f g = at (nat_lt c s) refl (nat_lt c (suc s)) refl e
   where

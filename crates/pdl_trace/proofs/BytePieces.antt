@@ -26,11 +26,13 @@ prefix_more : (old new : Option (List ℕ)) (a b : List ℕ) → TakesPrefix old
 prefix_more old new a b t = (t.0, omega (arith, t.1, length-append a b), t.2 ∙ ap (λ l. with_bytes l old) (sym (take-append-le t.0 a b t.1)))
 
 -- a prefix of the front of a piece
-pub prefix_front : (old new : Option (List ℕ)) (held front rest : List ℕ) → TakesPrefix old new (held ++ front) → TakesPrefix old new (held ++ (front ++ rest))
+pub prefix_front : (old new : Option (List ℕ)) (held front rest : List ℕ) → TakesPrefix old new (held ++ front)
+    → TakesPrefix old new (held ++ (front ++ rest))
 prefix_front old new held front rest t = subst (TakesPrefix old new) (append_assoc held front rest) (prefix_more old new (held ++ front) rest t)
 
 -- a prefix of the bytes up to some place
-pub prefix_to : (old new : Option (List ℕ)) (held line : List ℕ) (n : ℕ) (front : List ℕ) → front ≡ held ++ take n line → TakesPrefix old new front → TakesPrefix old new (held ++ line)
+pub prefix_to : (old new : Option (List ℕ)) (held line : List ℕ) (n : ℕ) (front : List ℕ)
+    → front ≡ held ++ take n line → TakesPrefix old new front → TakesPrefix old new (held ++ line)
 prefix_to old new held line n front e t =
     subst (TakesPrefix old new)
     (ap (λ f. f ++ drop n line) e ∙ append_assoc held (take n line) (drop n line) ∙ ap (λ l. held ++ l) (take-append-drop n line))
@@ -66,7 +68,9 @@ module _ (o a b : Option (List ℕ)) (bytes held line : List ℕ) (so_far : HasP
   passes_on (Err e) held' t = prefix_on t
 
 -- two pieces, of which the second is passed on or fails on its way
-pub both_on : (o a b : Option (List ℕ)) (bytes first second held held' : List ℕ) → HasPassed o a (bytes ++ first) held → {X Y : Type 0} (r : Result X Y) → Passes a b r (held ++ second) held' → Passes o b r (bytes ++ (first ++ second)) held'
+pub both_on : (o a b : Option (List ℕ)) (bytes first second held held' : List ℕ) → HasPassed o a (bytes ++ first) held
+    → {X Y : Type 0} (r : Result X Y) → Passes a b r (held ++ second) held'
+    → Passes o b r (bytes ++ (first ++ second)) held'
 both_on o a b bytes first second held held' so_far r p =
     subst (λ l. Passes o b r l held') (append_assoc bytes first second) (passes_on o a b (bytes ++ first) held second so_far r held' p)
 
@@ -77,16 +81,19 @@ prefix_off o a b bytes held so_far t =
     (prefix_on o a b bytes held [] so_far (subst (TakesPrefix a b) (sym (append-nil held)) t))
 
 -- the rest is handed on
-pub whole_on : (o a b : Option (List ℕ)) (bytes held : List ℕ) → HasPassed o a bytes held → {X Y : Type 0} (r : Result X Y) → WritesText a b r held → WritesText o b r bytes
+pub whole_on : (o a b : Option (List ℕ)) (bytes held : List ℕ) → HasPassed o a bytes held
+    → {X Y : Type 0} (r : Result X Y) → WritesText a b r held → WritesText o b r bytes
 whole_on o a b bytes held so_far (Ok x) w = w ∙ ap (with_bytes held) so_far.taken ∙ with_more o so_far.passed held ∙ ap (λ l. with_bytes l o) (sym so_far.whole)
 whole_on o a b bytes held so_far (Err e) t = prefix_off o a b bytes held so_far t
 
 -- a fault has left a prefix, whichever error tells of it
-pub faulted : {X Y : Type 0} (r : Result X Y) (old new : Option (List ℕ)) (bytes held : List ℕ) → IsErr r → TakesPrefix old new bytes → Passes old new r bytes held
+pub faulted : {X Y : Type 0} (r : Result X Y) (old new : Option (List ℕ)) (bytes held : List ℕ) → IsErr r
+    → TakesPrefix old new bytes → Passes old new r bytes held
 faulted r old new bytes held is t = MatchResult-from_err r (λ x. HasPassed old new bytes held) (λ e. TakesPrefix old new bytes) is (λ e. t)
 
 -- and likewise on the way of a whole text
-pub text_faulted : {X Y : Type 0} (r : Result X Y) (old new : Option (List ℕ)) (text : List ℕ) → IsErr r → TakesPrefix old new text → WritesText old new r text
+pub text_faulted : {X Y : Type 0} (r : Result X Y) (old new : Option (List ℕ)) (text : List ℕ) → IsErr r
+    → TakesPrefix old new text → WritesText old new r text
 text_faulted r old new text is t = MatchResult-from_err r (λ x. new ≡ with_bytes text old) (λ e. TakesPrefix old new text) is (λ e. t)
 
 -- nothing more to pass on

@@ -17,11 +17,14 @@ pub record KeepsWidths (p : Pipe) (before xs : List Place) : Type 0 where
   pub n3 : broken_line N3 p before xs ≡ None
   pub w2 : broken_line W2 p before xs ≡ None
 
-first_kept : (p : Pipe) (r : Rule) (rs : List Rule) → first_broken (r ∷ rs) p ≡ None → (broken_line r p [] (places p) ≡ None) × (first_broken rs p ≡ None)
+first_kept : (p : Pipe) (r : Rule) (rs : List Rule)
+    → first_broken (r ∷ rs) p ≡ None → (broken_line r p [] (places p) ≡ None) × (first_broken rs p ≡ None)
 first_kept p r rs e = no_refusal r (broken_line r p [] (places p)) (first_broken rs p) e
 
 -- a pipe that breaks none of the limits, nor of the rules on names and widths, keeps those that widths rest on
-pub keeps_widths : (p : Pipe) → first_broken limits p ≡ None → first_broken name_rules p ≡ None → first_broken width_rules p ≡ None → KeepsWidths p [] (places p)
+pub keeps_widths : (p : Pipe)
+    → first_broken limits p ≡ None → first_broken name_rules p ≡ None → first_broken width_rules p ≡ None
+    → KeepsWidths p [] (places p)
 keeps_widths p z n w =
     let z2 = first_kept p Z2 (Z3 ∷ Z4 ∷ Z5 ∷ Z6 ∷ Z7 ∷ []) z in
     let z3 = first_kept p Z3 (Z4 ∷ Z5 ∷ Z6 ∷ Z7 ∷ []) z2.1 in
@@ -37,11 +40,13 @@ keeps_widths p z n w =
     record { z7 = z7.0; n2 = n2.0; n3 = n3.0; w2 = w2.0 }
 
 -- at the first of these places, and after it
-pub here : (r : Rule) (p : Pipe) (before : List Place) (x : Place) (xs : List Place) → broken_line r p before (x ∷ xs) ≡ None → breaks_rule r p before x ≡ false
+pub here : (r : Rule) (p : Pipe) (before : List Place) (x : Place) (xs : List Place)
+    → broken_line r p before (x ∷ xs) ≡ None → breaks_rule r p before x ≡ false
 here r p before x xs e = (none_given (breaks_rule r p before x) _ (broken_line r p (before ++ x ∷ []) xs) e).0
 
 -- places that keep the rules that widths rest on keep them after the first of them is passed
-pub after : (p : Pipe) (before : List Place) (x : Place) (xs : List Place) → KeepsWidths p before (x ∷ xs) → KeepsWidths p (before ++ x ∷ []) xs
+pub after : (p : Pipe) (before : List Place) (x : Place) (xs : List Place) → KeepsWidths p before (x ∷ xs)
+    → KeepsWidths p (before ++ x ∷ []) xs
 after p before x xs k =
     record {
       z7 = (none_given (breaks_rule Z7 p before x) _ (broken_line Z7 p (before ++ x ∷ []) xs) k.z7).1;

@@ -104,11 +104,13 @@ record Next (p : Pipe) (vs : List Var) (before : List Place) (y : Place) : Type 
   pub known : AreKnown p vars (before ++ y ∷ [])
   pub narrow : AreNarrow vars
 
-same : (p : Pipe) (vs : List Var) (before : List Place) (y : Place) → variable_at y ≡ None → after_place p.mems vs y ≡ vs → AreKnown p vs before → AreNarrow vs → Next p vs before y
+same : (p : Pipe) (vs : List Var) (before : List Place) (y : Place)
+    → variable_at y ≡ None → after_place p.mems vs y ≡ vs → AreKnown p vs before → AreNarrow vs → Next p vs before y
 same p vs before y none e k h = record { vars = vs; is = e; known = known_same p vs before y none e k; narrow = h }
 
-more : (p : Pipe) (vs : List Var) (before : List Place) (y : Place) (x : List ℕ) (w : ℕ) → variable_at y ≡ Some x → name_at y ≡ Some x → after_place p.mems vs y ≡ with_variable vs x w → breaks_n2 p before y ≡ false → w ≤ 64
-    → AreKnown p vs before → AreNarrow vs → Next p vs before y
+more : (p : Pipe) (vs : List Var) (before : List Place) (y : Place) (x : List ℕ) (w : ℕ)
+    → variable_at y ≡ Some x → name_at y ≡ Some x → after_place p.mems vs y ≡ with_variable vs x w
+    → breaks_n2 p before y ≡ false → w ≤ 64 → AreKnown p vs before → AreNarrow vs → Next p vs before y
 more p vs before y x w variable name after once l k h =
     let known = known_more p vs before y x w variable name after once k in
     record {
@@ -123,7 +125,8 @@ abbrev AreThere : Pipe → List Place → Type 0
 AreThere p before = (x : List ℕ) → is_parameter p x ≡ true → list_any (defines_use (OfVariable x)) before ≡ true
 
 -- a variable that isn't used too early is known
-knows : (p : Pipe) (vs : List Var) (before : List Place) (y : Place) → AreThere p before → AreKnown p vs before → (x : List ℕ) → is_too_early p before y (OfVariable x) ≡ false → IsTrue (is_named vs x)
+knows : (p : Pipe) (vs : List Var) (before : List Place) (y : Place) → AreThere p before → AreKnown p vs before
+    → (x : List ℕ) → is_too_early p before y (OfVariable x) ≡ false → IsTrue (is_named vs x)
 knows p vs before y there k x e =
     ⊎_elim (λ b. k.named x (there x b)) (λ a. k.named x a) (either (is_parameter p x) (list_any (defines_use (OfVariable x)) before) _ e)
   where
@@ -132,15 +135,17 @@ knows p vs before y there k x e =
     either false true c h = inr refl
     either false false c h = cc
 
-bound : (p : Pipe) (vs : List Var) (before : List Place) (s : Span) (x : Ident) (e : Expr) (bs : List Branch) (ys : List Place) → places p ≡ before ++ Statement (Bind s x e) bs ∷ ys
-    → KeepsWidths p before (Statement (Bind s x e) bs ∷ ys) → AreThere p before → AreKnown p vs before → AreNarrow vs → width_of vs e ≤ 64
+bound : (p : Pipe) (vs : List Var) (before : List Place) (s : Span) (x : Ident) (e : Expr) (bs : List Branch) (ys : List Place)
+    → places p ≡ before ++ Statement (Bind s x e) bs ∷ ys → KeepsWidths p before (Statement (Bind s x e) bs ∷ ys)
+    → AreThere p before → AreKnown p vs before → AreNarrow vs → width_of vs e ≤ 64
 bound p vs before s x e bs ys split k there known h =
     let y = Statement (Bind s x e) bs in
     expr_narrow vs (variables p) (is_too_early p before y) (knows p vs before y there known) (λ z n. (known_stay p vs before (y ∷ ys) split known z n).1) (narrow_width vs h) e
     (here N3 p before y ys k.n3) (or_parts _ _ (here W2 p before y ys k.w2)).1 (here Z7 p before y ys k.z7)
 
-one_place : (p : Pipe) (before : List Place) (y : Place) (ys : List Place) (vs : List Var) → places p ≡ before ++ y ∷ ys → KeepsWidths p before (y ∷ ys) → ((m : List ℕ) → mem_width p.mems m ≤ 64) → AreThere p before
-    → AreKnown p vs before → AreNarrow vs → Next p vs before y
+one_place : (p : Pipe) (before : List Place) (y : Place) (ys : List Place) (vs : List Var)
+    → places p ≡ before ++ y ∷ ys → KeepsWidths p before (y ∷ ys) → ((m : List ℕ) → mem_width p.mems m ≤ 64)
+    → AreThere p before → AreKnown p vs before → AreNarrow vs → Next p vs before y
 one_place p before (Parameter a) ys vs split k ms there known h =
     more p vs before (Parameter a) a.name.name a.width.value refl refl refl (here N2 p before (Parameter a) ys k.n2) (width_is a.width.value (here Z7 p before (Parameter a) ys k.z7)).1 known h
 one_place p before (Memory m) ys vs split k ms there known h = same p vs before (Memory m) refl refl known h
@@ -169,7 +174,8 @@ one_place p before (StartClause s) ys vs split k ms there known h = same p vs be
 still_there : (p : Pipe) (before : List Place) (y : Place) → AreThere p before → AreThere p (before ++ y ∷ [])
 still_there p before y h x e = list_any-append (defines_use (OfVariable x)) before (y ∷ []) ∙ or_left _ _ (h x e)
 
-after_params : (p : Pipe) (xs before : List Place) (vs : List Var) → places p ≡ before ++ xs → KeepsWidths p before xs → ((m : List ℕ) → mem_width p.mems m ≤ 64) → AreThere p before
+after_params : (p : Pipe) (xs before : List Place) (vs : List Var)
+    → places p ≡ before ++ xs → KeepsWidths p before xs → ((m : List ℕ) → mem_width p.mems m ≤ 64) → AreThere p before
     → AreKnown p vs before → AreNarrow vs → AreNarrow (fold (after_place p.mems) vs xs)
 after_params p [] before vs split k ms there known h = h
 after_params p (y ∷ ys) before vs split k ms there known h =
@@ -181,7 +187,8 @@ after_params p (y ∷ ys) before vs split k ms there known h =
 abbrev WillBe : Pipe → List Place → List Param → Type 0
 WillBe p before ps = (x : List ℕ) → is_parameter p x ≡ true → (list_any (defines_use (OfVariable x)) before || list_any (λ (a : Param). bytes_eq x a.name.name) ps) ≡ true
 
-next_param : (p : Pipe) (before : List Place) (a : Param) (ps : List Param) → WillBe p before (a ∷ ps) → WillBe p (before ++ Parameter a ∷ []) ps
+next_param : (p : Pipe) (before : List Place) (a : Param) (ps : List Param) → WillBe p before (a ∷ ps)
+    → WillBe p (before ++ Parameter a ∷ []) ps
 next_param p before a ps h x e =
     ap (λ b. b || list_any (λ (c : Param). bytes_eq x c.name.name) ps) (list_any-append (defines_use (OfVariable x)) before (Parameter a ∷ []))
     ∙ moved (list_any (defines_use (OfVariable x)) before) (bytes_eq x a.name.name) (list_any (λ (c : Param). bytes_eq x c.name.name) ps)
@@ -199,8 +206,10 @@ last_param p before h x e = always (list_any (defines_use (OfVariable x)) before
     always true i = refl
     always false i = i
 
-from_params : (p : Pipe) (ps : List Param) (rest before : List Place) (vs : List Var) → places p ≡ before ++ (map Parameter ps ++ rest) → KeepsWidths p before (map Parameter ps ++ rest)
-    → ((m : List ℕ) → mem_width p.mems m ≤ 64) → WillBe p before ps → AreKnown p vs before → AreNarrow vs → AreNarrow (fold (after_place p.mems) vs (map Parameter ps ++ rest))
+from_params : (p : Pipe) (ps : List Param) (rest before : List Place) (vs : List Var)
+    → places p ≡ before ++ (map Parameter ps ++ rest) → KeepsWidths p before (map Parameter ps ++ rest)
+    → ((m : List ℕ) → mem_width p.mems m ≤ 64) → WillBe p before ps → AreKnown p vs before → AreNarrow vs
+    → AreNarrow (fold (after_place p.mems) vs (map Parameter ps ++ rest))
 from_params p [] rest before vs split k ms there known h = after_params p rest before vs split k ms (last_param p before there) known h
 from_params p (a ∷ ps) rest before vs split k ms there known h =
     let y = Parameter a in

@@ -60,20 +60,24 @@ bin_split a o b r = simp append_assoc
 mux_split : (x a b r : List ℕ) → (x ++ codes " ? " ++ a ++ codes " : " ++ b) ++ r ≡ x ++ (codes " ? " ++ (a ++ (codes " : " ++ (b ++ r))))
 mux_split x a b r = simp append_assoc
 
-slice_split : (a h l r : List ℕ) → (a ++ codes "[" ++ h ++ codes ":" ++ l ++ codes "]") ++ r ≡ a ++ (codes "[" ++ (h ++ (codes ":" ++ (l ++ (codes "]" ++ r)))))
+slice_split : (a h l r : List ℕ)
+    → (a ++ codes "[" ++ h ++ codes ":" ++ l ++ codes "]") ++ r ≡ a ++ (codes "[" ++ (h ++ (codes ":" ++ (l ++ (codes "]" ++ r)))))
 slice_split a h l r = simp append_assoc
 
-cat_split : (a b r : List ℕ) → (codes "{" ++ a ++ codes ", " ++ b ++ codes "}") ++ r ≡ codes "{" ++ (a ++ (codes ", " ++ (b ++ (codes "}" ++ r))))
+cat_split : (a b r : List ℕ)
+    → (codes "{" ++ a ++ codes ", " ++ b ++ codes "}") ++ r ≡ codes "{" ++ (a ++ (codes ", " ++ (b ++ (codes "}" ++ r))))
 cat_split a b r = simp append_assoc
 
-rep_split : (k a r : List ℕ) → (codes "{" ++ k ++ codes "{" ++ a ++ codes "}}") ++ r ≡ codes "{" ++ (k ++ (codes "{" ++ (a ++ (codes "}}" ++ r))))
+rep_split : (k a r : List ℕ)
+    → (codes "{" ++ k ++ codes "{" ++ a ++ codes "}}") ++ r ≡ codes "{" ++ (k ++ (codes "{" ++ (a ++ (codes "}}" ++ r))))
 rep_split k a r = simp append_assoc
 
 read_split : (m a r : List ℕ) → (m ++ codes "[" ++ a ++ codes "]") ++ r ≡ m ++ (codes "[" ++ (a ++ (codes "]" ++ r)))
 read_split m a r = simp append_assoc
 
-term_text : (inputs : List (List ℕ)) (arrays : List Array) (line at high : ℕ) (name rest : List ℕ) (before f : File) (g : Cell) → IsCellText inputs arrays g
-    → Continues line at high name rest before f (term_of inputs arrays g) → CompletesTerm line (term inputs arrays g ++ (codes ";\n" ++ rest)) before at high name f
+term_text : (inputs : List (List ℕ)) (arrays : List Array) (line at high : ℕ) (name rest : List ℕ) (before f : File) (g : Cell)
+    → IsCellText inputs arrays g → Continues line at high name rest before f (term_of inputs arrays g)
+    → CompletesTerm line (term inputs arrays g ++ (codes ";\n" ++ rest)) before at high name f
 term_text inputs arrays line at high name rest before f (made.Const w v) h k = const_term line at high name rest before f w v h.0 h.1 h.2 k
 term_text inputs arrays line at high name rest before f (made.Not a) h k = not_term line at high name rest before f (net inputs a) h k
 term_text inputs arrays line at high name rest before f (made.Bin op a b) h k =
@@ -91,15 +95,19 @@ term_text inputs arrays line at high name rest before f (made.Read m a) h k =
 
 -- ---- one cell
 
-eleven : (a b c d e k f g t h r : List ℕ) → (a ++ (b ++ c ++ d) ++ e ++ k ++ (f ++ k ++ g ++ t ++ h)) ++ r ≡ a ++ (b ++ (c ++ (d ++ (e ++ (k ++ (f ++ (k ++ (g ++ (t ++ (h ++ r))))))))))
+eleven : (a b c d e k f g t h r : List ℕ)
+    → (a ++ (b ++ c ++ d) ++ e ++ k ++ (f ++ k ++ g ++ t ++ h)) ++ r ≡ a
+    ++ (b ++ (c ++ (d ++ (e ++ (k ++ (f ++ (k ++ (g ++ (t ++ (h ++ r))))))))))
 eleven a b c d e k f g t h r = simp append_assoc
 
 cell_split : (k w : ℕ) (tm rest : List ℕ) → (wire k w ++ (codes ";\nassign n" ++ decimal k ++ codes " = " ++ tm ++ codes ";\n")) ++ rest
     ≡ codes "wire " ++ (codes "[" ++ (decimal (w - 1) ++ (codes ":0]" ++ (codes " n" ++ (decimal k ++ (codes ";\nassign n" ++ (decimal k ++ (codes " = " ++ (tm ++ (codes ";\n" ++ rest))))))))))
 cell_split k w tm rest = eleven (codes "wire ") (codes "[") (decimal (w - 1)) (codes ":0]") (codes " n") (decimal k) (codes ";\nassign n") (codes " = ") tm (codes ";\n") rest
 
-one_cell : (inputs : List (List ℕ)) (arrays : List Array) (p : Part) (line k w : ℕ) (g : Cell) (rest : List ℕ) (before f : File) → MayCompute p → k < 2 ^ 64 → IsWidth w → IsCellText inputs arrays g
-    → CompletesFile part.Cells ((line + 1) + 1) rest (add_cell before (cell_decl (line + 1) (w - 1) (codes "n" ++ decimal k) (term_of inputs arrays g))) f → CompletesFile p line (cell inputs arrays k w g ++ rest) before f
+one_cell : (inputs : List (List ℕ)) (arrays : List Array) (p : Part) (line k w : ℕ) (g : Cell) (rest : List ℕ) (before f : File)
+    → MayCompute p → k < 2 ^ 64 → IsWidth w → IsCellText inputs arrays g
+    → CompletesFile part.Cells ((line + 1) + 1) rest (add_cell before (cell_decl (line + 1) (w - 1) (codes "n" ++ decimal k) (term_of inputs arrays g))) f
+    → CompletesFile p line (cell inputs arrays k w g ++ rest) before f
 one_cell inputs arrays p line k w g rest before f m l wide h later =
     let tm = term inputs arrays g in
     let name = codes "n" ++ decimal k in
@@ -130,8 +138,11 @@ abbrev pub add_cells : File → List CellDecl → File
 add_cells f gs = record f { cells = f.cells ++ gs }
 
 -- the lines of cells, at a part where a cell may stand, complete the file that what is left completes with them
-pub cell_lines : (inputs : List (List ℕ)) (arrays : List Array) (width : ℕ → ℕ) (gs : List Cell) (p : Part) (line k : ℕ) (rest : List ℕ) (before f : File) → MayCompute p → k + length gs < 2 ^ 64 → AreCellTexts inputs arrays width k gs
-    → ((q : Part) → MayDrive q → CompletesFile q (cells_end line gs) rest (add_cells before (cell_decls inputs arrays width line k gs)) f) → CompletesFile p line (cells inputs arrays width k gs ++ rest) before f
+pub cell_lines : (inputs : List (List ℕ)) (arrays : List Array) (width : ℕ → ℕ) (gs : List Cell) (p : Part) (line k : ℕ)
+    (rest : List ℕ) (before f : File)
+    → MayCompute p → k + length gs < 2 ^ 64 → AreCellTexts inputs arrays width k gs
+    → ((q : Part) → MayDrive q → CompletesFile q (cells_end line gs) rest (add_cells before (cell_decls inputs arrays width line k gs)) f)
+    → CompletesFile p line (cells inputs arrays width k gs ++ rest) before f
 cell_lines inputs arrays width [] p line k rest before f m l h later =
     let same : add_cells before [] ≡ before = ap (λ gs. record before { cells = gs }) (append-nil before.cells) in
     subst (λ z. CompletesFile p line rest z f) same (later p m.drives)

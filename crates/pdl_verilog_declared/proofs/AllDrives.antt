@@ -54,11 +54,15 @@ AreDrivenTexts inputs (p ∷ ps) = IsWordText p.name × (is_port p.name ≡ true
 abbrev pub add_outputs : File → List OutputDecl → File
 add_outputs f gs = record f { outputs = f.outputs ++ gs }
 
-output_split : (name a r : List ℕ) → (codes "assign " ++ name ++ codes " = " ++ a ++ codes ";\n") ++ r ≡ codes "assign " ++ (name ++ (codes " = " ++ (a ++ (codes ";\n" ++ r))))
+output_split : (name a r : List ℕ)
+    → (codes "assign " ++ name ++ codes " = " ++ a ++ codes ";\n") ++ r ≡ codes "assign "
+    ++ (name ++ (codes " = " ++ (a ++ (codes ";\n" ++ r))))
 output_split name a r = simp append_assoc
 
-one_output : (inputs : List (List ℕ)) (d : Dir) (name : List ℕ) (p : Part) (line : ℕ) (rest : List ℕ) (before f : File) → MayDrive p → IsWordText name → is_port name ≡ true → IsDrivenText inputs d
-    → ((q : Part) → MayDrive q → CompletesFile q (next_line line d) rest (add_outputs before (driven_by inputs line d name)) f) → CompletesFile p line (drive inputs d name ++ rest) before f
+one_output : (inputs : List (List ℕ)) (d : Dir) (name : List ℕ) (p : Part) (line : ℕ) (rest : List ℕ) (before f : File)
+    → MayDrive p → IsWordText name → is_port name ≡ true → IsDrivenText inputs d
+    → ((q : Part) → MayDrive q → CompletesFile q (next_line line d) rest (add_outputs before (driven_by inputs line d name)) f)
+    → CompletesFile p line (drive inputs d name ++ rest) before f
 one_output inputs In name p line rest before f m w n h later =
     let same : add_outputs before [] ≡ before = ap (λ gs. record before { outputs = gs }) (append-nil before.outputs) in
     subst (λ z. CompletesFile p line rest z f) same (later p m)
@@ -66,8 +70,10 @@ one_output inputs (Out x) name p line rest before f m w n h later =
     subst (λ z. CompletesFile p line z before f) (sym (output_split name (net inputs x) rest)) (output_line line rest before f p name (net inputs x) m.output w n h (later part.Outputs at_outputs))
 
 -- the lines of outputs, where one may stand, complete the file that what is left completes with them
-pub output_lines : (inputs : List (List ℕ)) (ps : List Port) (p : Part) (line : ℕ) (rest : List ℕ) (before f : File) → MayDrive p → AreDrivenTexts inputs ps
-    → ((q : Part) → MayBlock q → CompletesFile q (outputs_end line ps) rest (add_outputs before (output_decls inputs line ps)) f) → CompletesFile p line (flat_map (output inputs) ps ++ rest) before f
+pub output_lines : (inputs : List (List ℕ)) (ps : List Port) (p : Part) (line : ℕ) (rest : List ℕ) (before f : File)
+    → MayDrive p → AreDrivenTexts inputs ps
+    → ((q : Part) → MayBlock q → CompletesFile q (outputs_end line ps) rest (add_outputs before (output_decls inputs line ps)) f)
+    → CompletesFile p line (flat_map (output inputs) ps ++ rest) before f
 output_lines inputs [] p line rest before f m h later =
     let same : add_outputs before [] ≡ before = ap (λ gs. record before { outputs = gs }) (append-nil before.outputs) in
     subst (λ z. CompletesFile p line rest z f) same (later p m.blocks)
@@ -115,8 +121,10 @@ block_split : (before d c a r : List ℕ) → (before ++ codes " r" ++ d ++ code
 block_split before d c a r = simp append_assoc
 
 -- the blocks of registers, where one may stand, complete the file that what is left completes with them
-pub block_lines : (inputs : List (List ℕ)) (xs : List Reg) (p : Part) (line r : ℕ) (rest : List ℕ) (before f : File) → MayBlock p → r + length xs < 2 ^ 64 → AreRegTexts inputs xs
-    → ((q : Part) → MayBlock q → CompletesFile q (blocks_end line xs) rest (add_blocks before (block_decls inputs line r xs)) f) → CompletesFile p line (blocks inputs r xs ++ rest) before f
+pub block_lines : (inputs : List (List ℕ)) (xs : List Reg) (p : Part) (line r : ℕ) (rest : List ℕ) (before f : File)
+    → MayBlock p → r + length xs < 2 ^ 64 → AreRegTexts inputs xs
+    → ((q : Part) → MayBlock q → CompletesFile q (blocks_end line xs) rest (add_blocks before (block_decls inputs line r xs)) f)
+    → CompletesFile p line (blocks inputs r xs ++ rest) before f
 block_lines inputs [] p line r rest before f m l h later =
     let same : add_blocks before [] ≡ before = ap (λ gs. record before { reg_blocks = gs }) (append-nil before.reg_blocks) in
     subst (λ z. CompletesFile p line rest z f) same (later p m)

@@ -40,7 +40,8 @@ abbrev pub writes_end : ℕ → List WritePort → ℕ
 writes_end line [] = line
 writes_end line (p ∷ ps) = writes_end (line + 1) ps
 
-ten : (a b c d e f g h i r : List ℕ) → (a ++ b ++ c ++ (d ++ e ++ f ++ g ++ h ++ i)) ++ r ≡ a ++ (b ++ (c ++ (d ++ (e ++ (f ++ (g ++ (h ++ (i ++ r))))))))
+ten : (a b c d e f g h i r : List ℕ)
+    → (a ++ b ++ c ++ (d ++ e ++ f ++ g ++ h ++ i)) ++ r ≡ a ++ (b ++ (c ++ (d ++ (e ++ (f ++ (g ++ (h ++ (i ++ r))))))))
 ten a b c d e f g h i r = simp append_assoc
 
 write_split : (e m a v r : List ℕ) → (codes "if (" ++ e ++ codes ") a_" ++ (m ++ codes "[" ++ a ++ codes "] <= " ++ v ++ codes ";\n")) ++ r
@@ -56,15 +57,21 @@ unfolding chosen
 first_chosen = refl
 
 -- one write, at a part where it may stand
-one_write : (inputs : List (List ℕ)) (name : List ℕ) (w : WritePort) (p : Part) (line at : ℕ) (rest : List ℕ) (ws : List WriteDecl) (before f : File) → chosen p (codes "if") ≡ Some rule.Written → is_name name ≡ true → IsWriteText inputs w
-    → CompletesBlock part.Writes (line + 1) rest before (ws ++ write_decl inputs name line w ∷ []) at f → CompletesBlock p line (write inputs name w ++ rest) before ws at f
+one_write : (inputs : List (List ℕ)) (name : List ℕ) (w : WritePort) (p : Part) (line at : ℕ) (rest : List ℕ)
+    (ws : List WriteDecl) (before f : File)
+    → chosen p (codes "if") ≡ Some rule.Written → is_name name ≡ true → IsWriteText inputs w
+    → CompletesBlock part.Writes (line + 1) rest before (ws ++ write_decl inputs name line w ∷ []) at f
+    → CompletesBlock p line (write inputs name w ++ rest) before ws at f
 one_write inputs name w p line at rest ws before f c n h k =
     subst (λ z. CompletesBlock p line z before ws at f) (sym (write_split (net inputs w.enable) name (net inputs w.addr) (net inputs w.value) rest))
     (write_line line rest before f p (net inputs w.enable) name (net inputs w.addr) (net inputs w.value) ws at c h.enable n h.addr h.value k)
 
 -- writes after others
-later_writes : (inputs : List (List ℕ)) (name : List ℕ) (ps : List WritePort) (line at : ℕ) (rest : List ℕ) (ws : List WriteDecl) (before f : File) → is_name name ≡ true → AreWriteTexts inputs ps
-    → CompletesBlock part.Writes (writes_end line ps) rest before (ws ++ write_decls inputs name line ps) at f → CompletesBlock part.Writes line (flat_map (write inputs name) ps ++ rest) before ws at f
+later_writes : (inputs : List (List ℕ)) (name : List ℕ) (ps : List WritePort) (line at : ℕ) (rest : List ℕ)
+    (ws : List WriteDecl) (before f : File)
+    → is_name name ≡ true → AreWriteTexts inputs ps
+    → CompletesBlock part.Writes (writes_end line ps) rest before (ws ++ write_decls inputs name line ps) at f
+    → CompletesBlock part.Writes line (flat_map (write inputs name) ps ++ rest) before ws at f
 later_writes inputs name [] line at rest ws before f n h k = subst (λ z. CompletesBlock part.Writes line rest before z at f) (append-nil ws) k
 later_writes inputs name (p ∷ ps) line at rest ws before f n h k =
     let decl = write_decl inputs name line p in
@@ -91,7 +98,8 @@ array_block_end line [] = line
 array_block_end line (p ∷ ps) = writes_end (line + 1) (p ∷ ps) + 1
 
 -- the writes of a block and its end
-block_inside : (inputs : List (List ℕ)) (name : List ℕ) (p : WritePort) (ps : List WritePort) (line : ℕ) (rest : List ℕ) (before f : File) → is_name name ≡ true → AreWriteTexts inputs (p ∷ ps)
+block_inside : (inputs : List (List ℕ)) (name : List ℕ) (p : WritePort) (ps : List WritePort) (line : ℕ) (rest : List ℕ) (before f : File)
+    → is_name name ≡ true → AreWriteTexts inputs (p ∷ ps)
     → CompletesFile part.ArrayBlocks (array_block_end line (p ∷ ps)) rest (add_array_blocks before (array_block_decls inputs name line (p ∷ ps))) f
     → CompletesBlock part.FirstWrite (line + 1) (flat_map (write inputs name) (p ∷ ps) ++ (codes "end\n" ++ rest)) before [] line f
 block_inside inputs name p ps line rest before f n h k =
@@ -101,7 +109,8 @@ block_inside inputs name p ps line rest before f n h k =
     subst (λ z. CompletesBlock part.FirstWrite (line + 1) z before [] line f) (sym (append_assoc (write inputs name p) (flat_map (write inputs name) ps) last))
     (one_write inputs name p part.FirstWrite (line + 1) line (flat_map (write inputs name) ps ++ last) [] before f first_chosen n h.0 others)
 
-block_split : (before ws r : List ℕ) → (before ++ codes " begin\n" ++ ws ++ codes "end\n") ++ r ≡ before ++ (codes " begin\n" ++ (ws ++ (codes "end\n" ++ r)))
+block_split : (before ws r : List ℕ)
+    → (before ++ codes " begin\n" ++ ws ++ codes "end\n") ++ r ≡ before ++ (codes " begin\n" ++ (ws ++ (codes "end\n" ++ r)))
 block_split before ws r = simp append_assoc
 
 -- ---- all blocks
@@ -136,7 +145,8 @@ ending_later : Ends part.ArrayBlocks
 unfolding chosen
 ending_later = refl
 
-all_blocks : (inputs : List (List ℕ)) (xs : List Array) (p : Part) (line : ℕ) (before f : File) → Ends p → Begins p → AreBlockTexts inputs xs → f ≡ add_array_blocks before (array_blocks_decls inputs line xs)
+all_blocks : (inputs : List (List ℕ)) (xs : List Array) (p : Part) (line : ℕ) (before f : File) → Ends p → Begins p
+    → AreBlockTexts inputs xs → f ≡ add_array_blocks before (array_blocks_decls inputs line xs)
     → CompletesFile p line (flat_map (block_of inputs) xs ++ codes "endmodule\n") before f
 all_blocks inputs [] p line before f e b h same = subst (λ z. CompletesFile p line (codes "endmodule\n") before z) (sym (same ∙ no_blocks before)) (last_line p line before e)
 all_blocks inputs (a ∷ xs) p line before f e b h same =
@@ -160,6 +170,7 @@ all_blocks inputs (a ∷ xs) p line before f e b h same =
         (b line (flat_map (write inputs a.name) (x ∷ ws) ++ (codes "end\n" ++ rest)) before f (block_inside inputs a.name x ws line rest before f h.0.named w after))
 
 -- the same where registers may still be driven
-pub all_blocks_at : (inputs : List (List ℕ)) (xs : List Array) (p : Part) (line : ℕ) (before f : File) → MayBlock p → AreBlockTexts inputs xs → f ≡ add_array_blocks before (array_blocks_decls inputs line xs)
+pub all_blocks_at : (inputs : List (List ℕ)) (xs : List Array) (p : Part) (line : ℕ) (before f : File) → MayBlock p
+    → AreBlockTexts inputs xs → f ≡ add_array_blocks before (array_blocks_decls inputs line xs)
     → CompletesFile p line (flat_map (block_of inputs) xs ++ codes "endmodule\n") before f
 all_blocks_at inputs xs p line before f m h same = all_blocks inputs xs p line before f m.ending (λ n r g u k. first_block n r g u p m.block k) h same

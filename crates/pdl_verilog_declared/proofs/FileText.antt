@@ -26,7 +26,8 @@ use Rattle.pdl_verilog_declared.proofs.Parts.{MayCompute, at_regs, at_arrays}
 
 -- ---- the module
 
-module_first : (name y : List ℕ) (line : ℕ) → tokens_from 0 line (module_word ++ (name ++ y)) ≡ token (codes "module") line ∷ tokens_from 0 line ((codes "pdl_" ++ name) ++ y)
+module_first : (name y : List ℕ) (line : ℕ)
+    → tokens_from 0 line (module_word ++ (name ++ y)) ≡ token (codes "module") line ∷ tokens_from 0 line ((codes "pdl_" ++ name) ++ y)
 unfolding piece_at module_word
 module_first name y line = refl
 
@@ -61,7 +62,9 @@ opening_fits : (name : List ℕ) → is_name name ≡ true → AllFit (fields ru
 unfolding number_of opening_row
 opening_fits name h = more refl (more h (more refl (more refl (more refl (more refl (more refl (more refl (more refl (more refl (more refl (more refl (more refl (more refl (more refl none))))))))))))))
 
-opening_lexed : (name x : List ℕ) → is_name name ≡ true → prefix_len is_word x ≡ 0 → tokens_from 0 1 (module_word ++ (name ++ (clock_and_reset ++ x))) ≡ token (codes "module") 1 ∷ opening_row name ++ tokens_from 0 1 x
+opening_lexed : (name x : List ℕ)
+    → is_name name ≡ true → prefix_len is_word x ≡ 0
+    → tokens_from 0 1 (module_word ++ (name ++ (clock_and_reset ++ x))) ≡ token (codes "module") 1 ∷ opening_row name ++ tokens_from 0 1 x
 unfolding opening_row
 opening_lexed name x h e =
     let rst : IsWordText (codes "rst") = record { some = omega arith; all = refl } in
@@ -71,14 +74,17 @@ opening_lexed name x h e =
     ∙ ap (λ z. token (codes "module") 1 ∷ token (codes "pdl_" ++ name) 1 ∷ token (codes "(") 1 ∷ token (codes "input") 1 ∷ token (codes "wire") 1 ∷ token (codes "clk") 1 ∷ token (codes ",") 1 ∷ token (codes "input") 1 ∷ token (codes "wire") 1 ∷ token (codes "[") 1 ∷ token (codes "0") 1 ∷ token (codes ":") 1 ∷ token (codes "0") 1 ∷ token (codes "]") 1 ∷ z)
     (word_token (codes "rst") x 1 rst e)))
 
-opening_text : (name x : List ℕ) (f : File) → is_name name ≡ true → prefix_len is_word x ≡ 0 → CompletesFile part.Ports 1 x (opened_file name) f → Completes part.Start 1 (module_word ++ (name ++ (clock_and_reset ++ x))) no_draft f
+opening_text : (name x : List ℕ) (f : File)
+    → is_name name ≡ true → prefix_len is_word x ≡ 0 → CompletesFile part.Ports 1 x (opened_file name) f
+    → Completes part.Start 1 (module_word ++ (name ++ (clock_and_reset ++ x))) no_draft f
 opening_text name x f h e k =
     one_rule part.Start rule.Opening 1 1 (module_word ++ (name ++ (clock_and_reset ++ x))) x (token (codes "module") 1) (opening_row name) no_draft f start_chosen (opening_fits name h) (opening_lexed name x h e)
     (k (opened no_draft (token (codes "module") 1 ∷ opening_row name)) (opening_file name) refl)
 
 -- ---- arrays, after registers
 
-first_arrays : (line : ℕ) (xs : List Array) (rest : List ℕ) (before f : File) → AreArrayTexts xs → ((q : Part) → MayCompute q → CompletesFile q (line + length xs) rest (add_arrays before (array_decls line xs)) f)
+first_arrays : (line : ℕ) (xs : List Array) (rest : List ℕ) (before f : File) → AreArrayTexts xs
+    → ((q : Part) → MayCompute q → CompletesFile q (line + length xs) rest (add_arrays before (array_decls line xs)) f)
     → CompletesFile part.Regs line (flat_map array_line xs ++ rest) before f
 first_arrays line [] rest before f h k =
     let n : line + 0 ≡ line = omega arith in

@@ -47,7 +47,8 @@ port_texts_of : (ps : List Port) → Each (λ p. IsHeadText (head_of p)) ps → 
 port_texts_of [] h w = tt
 port_texts_of (p ∷ ps) h w = (record { width = w.0; word = h.0.word; named = h.0.named }, port_texts_of ps h.1 w.1)
 
-one_operand : (d : Dir) (name : List ℕ) (w : ℕ) → IsHeadText (record { name = name; width = w; input = is_input d }) → Each IsOperandText (input_name d name)
+one_operand : (d : Dir) (name : List ℕ) (w : ℕ) → IsHeadText (record { name = name; width = w; input = is_input d })
+    → Each IsOperandText (input_name d name)
 one_operand In name w h = (h.operand refl, tt)
 one_operand (Out x) name w h = tt
 
@@ -55,7 +56,8 @@ operands : (ps : List Port) → Each (λ p. IsHeadText (head_of p)) ps → Each 
 operands [] h = tt
 operands (p ∷ ps) h = each_append IsOperandText (named_input p) (input_names ps) (one_operand p.dir p.name p.width h.0) (operands ps h.1)
 
-one_counted : (d : Dir) (name : List ℕ) (w : ℕ) (xs : List (List ℕ)) (ys : List ℕ) → length xs ≡ length ys → length (input_name d name ++ xs) ≡ length (cons_option (input_with d w) ys)
+one_counted : (d : Dir) (name : List ℕ) (w : ℕ) (xs : List (List ℕ)) (ys : List ℕ)
+    → length xs ≡ length ys → length (input_name d name ++ xs) ≡ length (cons_option (input_with d w) ys)
 one_counted In name w xs ys e = ap suc e
 one_counted (Out x) name w xs ys e = e
 

@@ -73,7 +73,8 @@ pub record IsHeadText (h : Head) : Type 0 where
 abbrev pub IsMemName : PortMem → Type 0
 IsMemName m = is_name m.name ≡ true
 
-output_text : (prefix x : List ℕ) (w : ℕ) → IsWordText (prefix ++ x) → is_memory_output (prefix ++ x) ≡ true → IsHeadText (output (prefix ++ x) w)
+output_text : (prefix x : List ℕ) (w : ℕ) → IsWordText (prefix ++ x)
+    → is_memory_output (prefix ++ x) ≡ true → IsHeadText (output (prefix ++ x) w)
 output_text prefix x w o h = record { word = o; named = memory_output (prefix ++ x) h; operand = λ e. untrue e }
 
 reply_texts : (m : PortMem) → IsMemName m → Each IsHeadText (reply_ports m)
@@ -143,7 +144,8 @@ last_texts =
     (one, (two, tt))
 
 -- the ports of a pipe of at most 64 stages, with memories named in PDL, are ports that a text may have
-pub pipe_texts : (stages : ℕ) (delayed locked : List PortMem) → stages ≤ 64 → Each IsMemName delayed → Each IsMemName locked → Each IsHeadText (pipe_ports stages delayed locked)
+pub pipe_texts : (stages : ℕ) (delayed locked : List PortMem)
+    → stages ≤ 64 → Each IsMemName delayed → Each IsMemName locked → Each IsHeadText (pipe_ports stages delayed locked)
 pipe_texts stages delayed locked l h k =
     let replies = each_flat IsHeadText reply_ports delayed (each_weaker IsMemName (λ m. Each IsHeadText (reply_ports m)) reply_texts delayed h) in
     let states = each_flat IsHeadText stage_ports (range_with_len 0 stages) (stages_texts 0 stages (omega arith)) in

@@ -33,11 +33,13 @@ array_decl line a = record { line = line; name = codes "a_" ++ a.name; high = a.
 abbrev pub add_array : File → ArrayDecl → File
 add_array f g = record f { arrays = f.arrays ++ g ∷ [] }
 
-depth_first : (x : List ℕ) (line : ℕ) → tokens_from 0 line (codes " [0:" ++ x) ≡ token (codes "[") line ∷ token (codes "0") line ∷ token (codes ":") line ∷ tokens_from 0 line x
+depth_first : (x : List ℕ) (line : ℕ)
+    → tokens_from 0 line (codes " [0:" ++ x) ≡ token (codes "[") line ∷ token (codes "0") line ∷ token (codes ":") line ∷ tokens_from 0 line x
 unfolding piece_at
 depth_first x line = refl
 
-square_last : (x : List ℕ) (line : ℕ) → tokens_from 0 line (codes "];\n" ++ x) ≡ token (codes "]") line ∷ token (codes ";") line ∷ tokens_from 0 (line + 1) x
+square_last : (x : List ℕ) (line : ℕ)
+    → tokens_from 0 line (codes "];\n" ++ x) ≡ token (codes "]") line ∷ token (codes ";") line ∷ tokens_from 0 (line + 1) x
 unfolding piece_at
 square_last x line = refl
 
@@ -144,7 +146,8 @@ abbrev pub add_arrays : File → List ArrayDecl → File
 add_arrays f gs = record f { arrays = f.arrays ++ gs }
 
 -- the lines of arrays after others complete the file that what is left completes with them
-pub later_arrays : (line : ℕ) (xs : List Array) (rest : List ℕ) (before f : File) → AreArrayTexts xs → CompletesFile part.Arrays (line + length xs) rest (add_arrays before (array_decls line xs)) f
+pub later_arrays : (line : ℕ) (xs : List Array) (rest : List ℕ) (before f : File) → AreArrayTexts xs
+    → CompletesFile part.Arrays (line + length xs) rest (add_arrays before (array_decls line xs)) f
     → CompletesFile part.Arrays line (flat_map array_line xs ++ rest) before f
 later_arrays line [] rest before f h k =
     let n : line + 0 ≡ line = omega arith in

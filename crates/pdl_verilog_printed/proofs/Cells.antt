@@ -19,7 +19,8 @@ wire_first : (x : List ℕ) (line : ℕ) → tokens_from 0 line (codes "wire " +
 unfolding piece_at
 wire_first x line = refl
 
-assign_first : (x : List ℕ) (line : ℕ) → tokens_from 0 line (codes ";\nassign " ++ x) ≡ token (codes ";") line ∷ token (codes "assign") (line + 1) ∷ tokens_from 0 (line + 1) x
+assign_first : (x : List ℕ) (line : ℕ)
+    → tokens_from 0 line (codes ";\nassign " ++ x) ≡ token (codes ";") line ∷ token (codes "assign") (line + 1) ∷ tokens_from 0 (line + 1) x
 unfolding piece_at
 assign_first x line = refl
 
@@ -28,7 +29,8 @@ unfolding piece_at
 equals_first x line = refl
 
 -- `wire range n_id ; assign n_id =`, at a part where it may stand
-pub cell_head : (p : Part) (line k w : ℕ) (x : List ℕ) (before f : File) → chosen p (codes "wire") ≡ Some rule.CellHead → k < 2 ^ 64 → IsWidth w
+pub cell_head : (p : Part) (line k w : ℕ) (x : List ℕ) (before f : File)
+    → chosen p (codes "wire") ≡ Some rule.CellHead → k < 2 ^ 64 → IsWidth w
     → CompletesTerm (line + 1) x before (line + 1) (w - 1) (codes "n" ++ decimal k) f
     → CompletesFile p line (codes "wire " ++ (range w ++ (codes " " ++ ((codes "n" ++ decimal k) ++ (codes ";\nassign " ++ ((codes "n" ++ decimal k) ++ (codes " = " ++ x))))))) before f
 cell_head p line k w x before f c l wide later d file writes =

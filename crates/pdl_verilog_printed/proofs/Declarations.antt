@@ -24,7 +24,9 @@ use Rattle.pdl_verilog_printed.proofs.RuleSteps.{CompletesFile, one_rule}
 abbrev pub range_row : ℕ → ℕ → Row → Row
 range_row line w later = token (codes "[") line ∷ token (decimal (w - 1)) line ∷ token (codes ":") line ∷ token (codes "0") line ∷ token (codes "]") line ∷ later
 
-range_end : (x : List ℕ) (line : ℕ) → tokens_from 0 line (codes ":0]" ++ x) ≡ token (codes ":") line ∷ token (codes "0") line ∷ token (codes "]") line ∷ tokens_from 0 line x
+range_end : (x : List ℕ) (line : ℕ)
+    → tokens_from 0 line (codes ":0]"
+    ++ x) ≡ token (codes ":") line ∷ token (codes "0") line ∷ token (codes "]") line ∷ tokens_from 0 line x
 unfolding piece_at
 range_end x line = refl
 
@@ -67,7 +69,10 @@ unfolding piece_at
 reg_start x line = refl
 
 -- the tokens of `r_id ;`
-reg_named : (r line : ℕ) (rest : List ℕ) → r < 2 ^ 64 → tokens_from 0 line (codes " r" ++ (decimal r ++ (codes ";\n" ++ rest))) ≡ token (codes "r" ++ decimal r) line ∷ token (codes ";") line ∷ tokens_from 0 (line + 1) rest
+reg_named : (r line : ℕ) (rest : List ℕ)
+    → r < 2 ^ 64
+    → tokens_from 0 line (codes " r" ++ (decimal r ++ (codes ";\n" ++ rest)))
+    ≡ token (codes "r" ++ decimal r) line ∷ token (codes ";") line ∷ tokens_from 0 (line + 1) rest
 reg_named r line rest h =
     space_first (codes "r" ++ (decimal r ++ (codes ";\n" ++ rest))) line
     ∙ (word_token (codes "r" ++ decimal r) (codes ";\n" ++ rest) line (reg_text r h).word refl
@@ -78,8 +83,10 @@ unfolding chosen
 reg_chosen x h = cond-true _ _ _ h
 
 -- the line of a register, at a part where one may stand
-reg_line : (p : Part) (line r : ℕ) (x : Reg) (rest : List ℕ) (before f : File) → chosen p (codes "reg") ≡ Some rule.RegRange → r < 2 ^ 64 → IsWidth x.width
-    → CompletesFile part.Regs (line + 1) rest (add_reg before (reg_decl line r x)) f → CompletesFile p line (reg r x ++ rest) before f
+reg_line : (p : Part) (line r : ℕ) (x : Reg) (rest : List ℕ) (before f : File)
+    → chosen p (codes "reg") ≡ Some rule.RegRange → r < 2 ^ 64 → IsWidth x.width
+    → CompletesFile part.Regs (line + 1) rest (add_reg before (reg_decl line r x)) f
+    → CompletesFile p line (reg r x ++ rest) before f
 reg_line p line r x rest before f c l w k d same writes =
     let name = codes "r" ++ decimal r in
     let middle = codes " r" ++ (decimal r ++ (codes ";\n" ++ rest)) in
@@ -118,8 +125,10 @@ unfolding chosen
 reg_first = refl
 
 -- the lines of registers
-pub reg_lines : (line r : ℕ) (xs : List Reg) (rest : List ℕ) (before f : File) → r + length xs < 2 ^ 64 → HaveWidths xs
-    → CompletesFile part.Regs (line + length xs) rest (add_regs before (reg_decls line r xs)) f → CompletesFile part.Regs line (regs r xs ++ rest) before f
+pub reg_lines : (line r : ℕ) (xs : List Reg) (rest : List ℕ) (before f : File)
+    → r + length xs < 2 ^ 64 → HaveWidths xs
+    → CompletesFile part.Regs (line + length xs) rest (add_regs before (reg_decls line r xs)) f
+    → CompletesFile part.Regs line (regs r xs ++ rest) before f
 reg_lines line r [] rest before f l w k =
     let n : line + 0 ≡ line = omega arith in
     let same : add_regs before [] ≡ before = ap (λ gs. record before { regs = gs }) (append-nil before.regs) in

@@ -63,7 +63,9 @@ unfolding chosen
 comma_chosen = refl
 
 -- the range and the name of a port
-name_tokens : (line w : ℕ) (name x : List ℕ) → w ≤ 64 → IsWordText name → prefix_len is_word x ≡ 0 → tokens_from 0 line (range w ++ (codes " " ++ (name ++ x))) ≡ range_row line w (token name line ∷ tokens_from 0 line x)
+name_tokens : (line w : ℕ) (name x : List ℕ)
+    → w ≤ 64 → IsWordText name → prefix_len is_word x ≡ 0
+    → tokens_from 0 line (range w ++ (codes " " ++ (name ++ x))) ≡ range_row line w (token name line ∷ tokens_from 0 line x)
 name_tokens line w name x h o e =
     range_tokens w line (codes " " ++ (name ++ x)) h
     ∙ ap (range_row line w) (space_first (name ++ x) line ∙ word_token name x line o e)
@@ -124,7 +126,8 @@ module _ (line : ℕ) (name x : List ℕ) (w : ℕ) (before f : File) (small : w
 
 -- ---- all ports
 
-closing_tokens : (rest : List ℕ) (line : ℕ) → tokens_from 0 line (closing rest) ≡ token (codes ")") line ∷ token (codes ";") line ∷ tokens_from 0 (line + 1) rest
+closing_tokens : (rest : List ℕ) (line : ℕ)
+    → tokens_from 0 line (closing rest) ≡ token (codes ")") line ∷ token (codes ";") line ∷ tokens_from 0 (line + 1) rest
 unfolding piece_at
 closing_tokens rest line = refl
 
@@ -142,7 +145,8 @@ abbrev pub add_ports : File → List PortDecl → File
 add_ports f gs = record f { ports = f.ports ++ gs }
 
 -- the ports, up to the first line's end, complete the file that what is left completes with them
-pub port_texts : (line : ℕ) (ps : List Port) (rest : List ℕ) (before f : File) → ArePortTexts ps → CompletesFile part.Regs (line + 1) rest (add_ports before (port_decls line ps)) f
+pub port_texts : (line : ℕ) (ps : List Port) (rest : List ℕ) (before f : File) → ArePortTexts ps
+    → CompletesFile part.Regs (line + 1) rest (add_ports before (port_decls line ps)) f
     → CompletesFile part.Ports line (flat_map port ps ++ closing rest) before f
 port_texts line [] rest before f h k = λ d e v.
     let same : add_ports before [] ≡ before = ap (λ gs. record before { ports = gs }) (append-nil before.ports) in

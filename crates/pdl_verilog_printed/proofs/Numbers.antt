@@ -34,7 +34,8 @@ drop_front [] ys = refl
 drop_front (x ∷ xs) ys = drop_front xs ys
 
 -- a run of bytes that pass a test, before a byte that doesn't
-pub run_before : {X : Type 0} (p : X → Bool) (w rest : List X) → list_all p w ≡ true → prefix_len p rest ≡ 0 → prefix_len p (w ++ rest) ≡ length w
+pub run_before : {X : Type 0} (p : X → Bool) (w rest : List X)
+    → list_all p w ≡ true → prefix_len p rest ≡ 0 → prefix_len p (w ++ rest) ≡ length w
 run_before p [] rest h e = e
 run_before p (x ∷ xs) rest h e = at_test (p x) h (run_before p xs rest)
   where

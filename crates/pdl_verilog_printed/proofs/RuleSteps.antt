@@ -19,8 +19,10 @@ abbrev pub CompletesFile : Part → ℕ → List ℕ → File → File → Type 
 CompletesFile part line text before f = (d : Draft) → d.file ≡ before → d.writes ≡ [] → Completes part line text d f
 
 -- one rule more before a text
-pub one_rule : (part : Part) (rule : Rule) (line after : ℕ) (text rest : List ℕ) (t : Token) (ts : Row) (d : Draft) (f : File) → chosen part t.text ≡ Some rule → AllFit (fields rule) (t ∷ ts)
-    → tokens_from 0 line text ≡ t ∷ ts ++ tokens_from 0 after rest → Completes (next rule) after rest (taken d rule (t ∷ ts)) f → Completes part line text d f
+pub one_rule : (part : Part) (rule : Rule) (line after : ℕ) (text rest : List ℕ) (t : Token) (ts : Row) (d : Draft) (f : File)
+    → chosen part t.text ≡ Some rule → AllFit (fields rule) (t ∷ ts)
+    → tokens_from 0 line text ≡ t ∷ ts ++ tokens_from 0 after rest
+    → Completes (next rule) after rest (taken d rule (t ∷ ts)) f → Completes part line text d f
 unfolding all_taken
 one_rule part rule line after text rest t ts d f c a e r =
     let took : Taken = record { rule = rule; found = t ∷ ts } in

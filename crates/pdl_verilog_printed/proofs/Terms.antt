@@ -40,7 +40,9 @@ pub record IsHeaded (d : Draft) (before : File) (line high : ℕ) (name : List �
   pub target_is : d.target ≡ name
 
 -- a draft with a cell's head has, after its term, the file with that cell
-pub cell_added : (d : Draft) (before : File) (line high : ℕ) (name : List ℕ) (r : Rule) (ts : Row) (tm : Term) → IsHeaded d before line high name → term d.operand r ts ≡ tm → (with_cell d r ts).file ≡ add_cell before (cell_decl line high name tm)
+pub cell_added : (d : Draft) (before : File) (line high : ℕ) (name : List ℕ) (r : Rule) (ts : Row) (tm : Term)
+    → IsHeaded d before line high name → term d.operand r ts ≡ tm
+    → (with_cell d r ts).file ≡ add_cell before (cell_decl line high name tm)
 cell_added d before line high name r ts tm h e =
     let F : File → ℕ → List ℕ → ℕ → List ℕ → Term → File = λ f l n k a u. add_cell f (record { line = l; name = n; high = k; target = a; term = u }) in
     let u = term d.operand r ts in

@@ -25,7 +25,9 @@ pub record IsWordText (w : List ℕ) : Type 0 where
 abbrev pub token : List ℕ → ℕ → Token
 token text line = record { text = text; line = line }
 
-word_piece : (c : ℕ) (w rest : List ℕ) → list_all is_word (c ∷ w) ≡ true → prefix_len is_word rest ≡ 0 → piece_view (record { is_token = true; size = length (c ∷ w) }) ≡ piece_at c ((c ∷ w) ++ rest)
+word_piece : (c : ℕ) (w rest : List ℕ)
+    → list_all is_word (c ∷ w) ≡ true → prefix_len is_word rest ≡ 0
+    → piece_view (record { is_token = true; size = length (c ∷ w) }) ≡ piece_at c ((c ∷ w) ++ rest)
 unfolding piece_at
 word_piece c w rest h e =
     let n : prefix_len is_word ((c ∷ w) ++ rest) ≡ length (c ∷ w) = run_before is_word (c ∷ w) rest h e in
@@ -35,7 +37,8 @@ word_piece c w rest h e =
     sym (cond-false _ _ _ b ∙ (cond-true _ _ _ p.0 ∙ ap P n))
 
 -- a word before a byte that is none of a word
-pub word_token : (w rest : List ℕ) (line : ℕ) → IsWordText w → prefix_len is_word rest ≡ 0 → tokens_from 0 line (w ++ rest) ≡ token w line ∷ tokens_from 0 line rest
+pub word_token : (w rest : List ℕ) (line : ℕ) → IsWordText w
+    → prefix_len is_word rest ≡ 0 → tokens_from 0 line (w ++ rest) ≡ token w line ∷ tokens_from 0 line rest
 word_token [] rest line h e = let l : 1 ≤ 0 = h.some in absurd (omega arith)
 word_token (c ∷ w) rest line h e =
     let p : r.Piece = record { is_token = true; size = length (c ∷ w) } in

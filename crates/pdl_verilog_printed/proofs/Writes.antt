@@ -140,7 +140,8 @@ unfolding all_taken
 nothing_left d f e = e
 
 -- the last line completes a file as it is, at a part where it may stand
-pub last_line : (p : Part) (line : ℕ) (f : File) → chosen p (codes "endmodule") ≡ Some rule.Ending → CompletesFile p line (codes "endmodule\n") f f
+pub last_line : (p : Part) (line : ℕ) (f : File)
+    → chosen p (codes "endmodule") ≡ Some rule.Ending → CompletesFile p line (codes "endmodule\n") f f
 last_line p line f c d file writes =
     let done : Completes part.Finished (line + 1) [] d f = record { rules = []; derives = finished; same = nothing_left d f file } in
     one_rule p rule.Ending line (line + 1) (codes "endmodule\n") [] (token (codes "endmodule") line) [] d f c (more refl none) (last_tokens line) done

@@ -72,7 +72,8 @@ cells_same inputs all width at k (g ∷ gs) =
     ∙ ap (λ z. one (term inputs all g) ∷ z)
     (ap (λ l. cells.cell_decls inputs all width l (suc k) gs) (next_cell at k) ∙ cells_same inputs all width at (suc k) gs)
 
-outputs_same : (inputs : List (List ℕ)) (at k : ℕ) (ps : List Port) → drives.output_decls inputs (at + k) ps ≡ output_decls (λ i. at + i) inputs k ps
+outputs_same : (inputs : List (List ℕ)) (at k : ℕ) (ps : List Port)
+    → drives.output_decls inputs (at + k) ps ≡ output_decls (λ i. at + i) inputs k ps
 outputs_same inputs at k [] = refl
 outputs_same inputs at k (p ∷ ps) = go (λ j. outputs_same inputs at j ps) p.dir
   where
@@ -82,7 +83,8 @@ outputs_same inputs at k (p ∷ ps) = go (λ j. outputs_same inputs at j ps) p.d
     go more In = more k
     go more (Out x) = ap (λ z. output_decl (at + k) p.name (net inputs x) ∷ z) (ap (λ l. drives.output_decls inputs l ps) (next_place at k) ∙ more (suc k))
 
-blocks_same : (inputs : List (List ℕ)) (at k : ℕ) (xs : List Reg) → drives.block_decls inputs (at + k) k xs ≡ reg_blocks (λ i. at + i) inputs k xs
+blocks_same : (inputs : List (List ℕ)) (at k : ℕ) (xs : List Reg)
+    → drives.block_decls inputs (at + k) k xs ≡ reg_blocks (λ i. at + i) inputs k xs
 blocks_same inputs at k [] = refl
 blocks_same inputs at k (x ∷ xs) =
     ap (λ z. drives.block_decl inputs (at + k) k x ∷ z)
@@ -112,7 +114,8 @@ later_lines lines b d ds h = record {
   writes = λ i j. let n : b + suc i ≡ suc b + i = omega arith in subst (λ z. lines.writes z j ≡ (lines.array_blocks z + 1) + j) n (h.writes (suc i) j);
 }
 
-array_blocks_same : (lines : Lines) (inputs : List (List ℕ)) (line b : ℕ) (xs : List Array) → AreLines lines b (writing.array_blocks_decls inputs line xs)
+array_blocks_same : (lines : Lines) (inputs : List (List ℕ)) (line b : ℕ) (xs : List Array)
+    → AreLines lines b (writing.array_blocks_decls inputs line xs)
     → writing.array_blocks_decls inputs line xs ≡ array_blocks lines inputs b xs
 array_blocks_same lines inputs line b [] h = refl
 array_blocks_same lines inputs line b (a ∷ xs) h = go (λ l k e. array_blocks_same lines inputs l k xs e) a.writes h
@@ -164,12 +167,15 @@ zero_first : (i : ℕ) → 0 + i ≡ i
 zero_first i = omega arith
 
 -- a file of a netlist with these declarations
-abbrev file_with : Netlist → List PortDecl → List RegDecl → List ArrayDecl → List CellDecl → List OutputDecl → List RegBlock → List ArrayBlock → File
+abbrev file_with : Netlist → List PortDecl → List RegDecl → List ArrayDecl → List CellDecl → List OutputDecl
+    → List RegBlock → List ArrayBlock → File
 file_with n ps rs xs gs os bs ws =
     record { line = 1; name = n.name; reset_line = 1; reset_high = 0; ports = ps; regs = rs; arrays = xs; cells = gs; outputs = os; reg_blocks = bs; array_blocks = ws }
 
-same_with : (n : Netlist) {ps qs : List PortDecl} {rs rs' : List RegDecl} {xs xs' : List ArrayDecl} {gs gs' : List CellDecl} {os os' : List OutputDecl} {bs bs' : List RegBlock} {ws ws' : List ArrayBlock}
-    → ps ≡ qs → rs ≡ rs' → xs ≡ xs' → gs ≡ gs' → os ≡ os' → bs ≡ bs' → ws ≡ ws' → file_with n ps rs xs gs os bs ws ≡ file_with n qs rs' xs' gs' os' bs' ws'
+same_with : (n : Netlist)
+    {ps qs : List PortDecl} {rs rs' : List RegDecl} {xs xs' : List ArrayDecl} {gs gs' : List CellDecl} {os os' : List OutputDecl} {bs bs' : List RegBlock} {ws ws' : List ArrayBlock}
+    → ps ≡ qs → rs ≡ rs' → xs ≡ xs' → gs ≡ gs' → os ≡ os' → bs ≡ bs' → ws ≡ ws'
+    → file_with n ps rs xs gs os bs ws ≡ file_with n qs rs' xs' gs' os' bs' ws'
 same_with n e1 e2 e3 e4 e5 e6 e7 = rw (e1, e2, e3, e4, e5, e6, e7) refl
 
 -- the file that a netlist's text declares, line by line, is the one that the netlist declares on these lines

@@ -37,7 +37,8 @@ ports_below i k (p ∷ ps) l = go p.dir (ports_below i (suc k) ps (omega arith))
         cond-false (eqb k i) (record { port = k; net = x } ∷ rest) rest (ne_eqb k i (λ e. omega arith)) ∙ h
 
 -- what drives the j-th of these ports is just its own net, or nothing for an input
-pub ports_at : (k j i : ℕ) (ps : List Port) (z : Port) → k + j ≡ i → j < length ps → of_port i (output_drives k ps) ≡ onto_output i (get_or ps j z).dir []
+pub ports_at : (k j i : ℕ) (ps : List Port) (z : Port)
+    → k + j ≡ i → j < length ps → of_port i (output_drives k ps) ≡ onto_output i (get_or ps j z).dir []
 ports_at k j i [] z e l = absurd (omega arith)
 ports_at k zero i (p ∷ ps) z e l = go p.dir (ports_below i (suc k) ps (omega arith))
   where
@@ -56,7 +57,8 @@ ports_at k (suc j) i (p ∷ ps) z e l = go p.dir (ports_at (suc k) j i ps z (ome
         cond-false (eqb k i) (record { port = k; net = x } ∷ rest) rest (ne_eqb k i (λ q. omega arith)) ∙ h
 
 -- an output is driven once
-pub driven_once : (i : ℕ) (d : Dir) (drives : List OutputDrive) → of_port i drives ≡ onto_output i d [] → (is_input d || eqb (count_by (λ o. eqb o.port i) drives) 1) ≡ true
+pub driven_once : (i : ℕ) (d : Dir) (drives : List OutputDrive)
+    → of_port i drives ≡ onto_output i d [] → (is_input d || eqb (count_by (λ o. eqb o.port i) drives) 1) ≡ true
 driven_once i In drives h = refl
 driven_once i (Out x) drives h = eq-eqb (count_by (λ o. eqb o.port i) drives) 1 (sym (length-filter (λ (o : OutputDrive). eqb o.port i) drives) ∙ ap length h)
 
@@ -86,7 +88,8 @@ regs_below i k (x ∷ xs) l =
     cond-false (eqb k i) (reg_drive k x ∷ rest) rest (ne_eqb k i (λ e. omega arith)) ∙ regs_below i (suc k) xs (omega arith)
 
 -- what drives the j-th of these registers is its own block alone
-pub regs_at : (k j i : ℕ) (xs : List Reg) (z : Reg) → k + j ≡ i → j < length xs → of_reg i (reg_drives k xs) ≡ reg_drive i (get_or xs j z) ∷ []
+pub regs_at : (k j i : ℕ) (xs : List Reg) (z : Reg)
+    → k + j ≡ i → j < length xs → of_reg i (reg_drives k xs) ≡ reg_drive i (get_or xs j z) ∷ []
 regs_at k j i [] z e l = absurd (omega arith)
 regs_at k zero i (x ∷ xs) z e l =
     let rest = of_reg i (reg_drives (suc k) xs) in
@@ -121,7 +124,8 @@ writes_below i m (a ∷ xs) l = go a.writes (writes_below i (suc m) xs (omega ar
     go (p ∷ ps) h = cond-false (eqb m i) (map (λ (w : ArrayWrite). w.port) (map (written_to m) (p ∷ ps))) (writes i (block_writes (suc m) xs)) (ne_eqb m i (λ e. omega arith)) ∙ h
 
 -- the writes of the j-th of these arrays are those of its block
-pub writes_at : (m j i : ℕ) (xs : List Array) (z : Array) → m + j ≡ i → j < length xs → writes i (block_writes m xs) ≡ (get_or xs j z).writes
+pub writes_at : (m j i : ℕ) (xs : List Array) (z : Array)
+    → m + j ≡ i → j < length xs → writes i (block_writes m xs) ≡ (get_or xs j z).writes
 writes_at m j i [] z e l = absurd (omega arith)
 writes_at m zero i (a ∷ xs) z e l = go a.writes (writes_below i (suc m) xs (omega arith))
   where

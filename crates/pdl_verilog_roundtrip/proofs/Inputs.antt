@@ -49,7 +49,8 @@ net_at_later a nets None = refl
 net_at_later a nets (Some i) = refl
 
 -- a name that isn't that of the first port
-past_first : (a : Option Net) (nets : List (Option Net)) (y : List ℕ) (ys : List (List ℕ)) (x : List ℕ) → x ≢ y → net_at (a ∷ nets) (place (y ∷ ys) x) ≡ net_at nets (place ys x)
+past_first : (a : Option Net) (nets : List (Option Net)) (y : List ℕ) (ys : List (List ℕ)) (x : List ℕ) → x ≢ y
+    → net_at (a ∷ nets) (place (y ∷ ys) x) ≡ net_at nets (place ys x)
 past_first a nets y ys x ne = ap (net_at (a ∷ nets)) (place_later y ys x ne) ∙ net_at_later a nets (place ys x)
 
 -- the name of the i-th input stands for it, where the inputs are counted from j

@@ -27,7 +27,8 @@ place_missing (y ∷ ys) x h =
     ∙ ap shifted (place_missing ys x (λ i d l. h (suc i) d (omega arith)))
 
 -- of names that are apart the i-th is none of those before it
-pub apart_new : {A : Type 0} (name : A → List ℕ) (xs : List A) (d : A) (i : ℕ) → AllPairs (λ a b. a ≢ b) (map name xs) → i < length xs → is_new (map name (take i xs)) (name (get_or xs i d)) ≡ true
+pub apart_new : {A : Type 0} (name : A → List ℕ) (xs : List A) (d : A) (i : ℕ) → AllPairs (λ a b. a ≢ b) (map name xs)
+    → i < length xs → is_new (map name (take i xs)) (name (get_or xs i d)) ≡ true
 apart_new name xs d i h l =
     ap (λ o. not (is_some o)) (place_missing (map name (take i xs)) (name (get_or xs i d)) (λ j z k.
     let n = length-map (take i xs) name in
@@ -59,38 +60,46 @@ numbered_apart f m apart k n h = λ i j d l o q.
     absurd (omega arith)
 
 -- the names of declared registers, of which there are at most 2^64, are apart
-pub regs_apart : (at : ℕ → ℕ) (xs : List Reg) → length xs ≤ 2 ^ 64 → AllPairs (λ a b. a ≢ b) (map (λ (d : RegDecl). d.name) (reg_decls at 0 xs))
+pub regs_apart : (at : ℕ → ℕ) (xs : List Reg)
+    → length xs ≤ 2 ^ 64 → AllPairs (λ a b. a ≢ b) (map (λ (d : RegDecl). d.name) (reg_decls at 0 xs))
 regs_apart at xs h = subst (AllPairs (λ (a b : List ℕ). a ≢ b)) (sym (reg_names at 0 xs)) (numbered_apart reg_name (2 ^ 64) reg_names_apart 0 (length xs) (omega arith))
 
-cell_names : (at : ℕ → ℕ) (inputs : List (List ℕ)) (arrays : List Array) (width : ℕ → ℕ) (k : ℕ) (gs : List Cell) → map (λ (d : CellDecl). d.name) (cell_decls at inputs arrays width k gs) ≡ numbered cell_name k (length gs)
+cell_names : (at : ℕ → ℕ) (inputs : List (List ℕ)) (arrays : List Array) (width : ℕ → ℕ) (k : ℕ) (gs : List Cell)
+    → map (λ (d : CellDecl). d.name) (cell_decls at inputs arrays width k gs) ≡ numbered cell_name k (length gs)
 cell_names at inputs arrays width k [] = refl
 cell_names at inputs arrays width k (g ∷ gs) = ap (λ z. cell_name k ∷ z) (cell_names at inputs arrays width (suc k) gs)
 
 -- the names of declared cells, of which there are at most 2^64, are apart
-pub cells_apart : (at : ℕ → ℕ) (inputs : List (List ℕ)) (arrays : List Array) (width : ℕ → ℕ) (gs : List Cell) → length gs ≤ 2 ^ 64 → AllPairs (λ a b. a ≢ b) (map (λ (d : CellDecl). d.name) (cell_decls at inputs arrays width 0 gs))
+pub cells_apart : (at : ℕ → ℕ) (inputs : List (List ℕ)) (arrays : List Array) (width : ℕ → ℕ) (gs : List Cell)
+    → length gs ≤ 2 ^ 64
+    → AllPairs (λ a b. a ≢ b) (map (λ (d : CellDecl). d.name) (cell_decls at inputs arrays width 0 gs))
 cells_apart at inputs arrays width gs h = subst (AllPairs (λ (a b : List ℕ). a ≢ b)) (sym (cell_names at inputs arrays width 0 gs)) (numbered_apart cell_name (2 ^ 64) cell_names_apart 0 (length gs) (omega arith))
 
 -- ---- ports and arrays
 
 -- the names of declared ports are apart where those of the ports are
-pub ports_apart : (line : ℕ) (ps : List Port) → AllPairs (λ a b. a ≢ b) (map (λ (p : Port). p.name) ps) → AllPairs (λ a b. a ≢ b) (map (λ (d : PortDecl). d.name) (map (port_decl line) ps))
+pub ports_apart : (line : ℕ) (ps : List Port) → AllPairs (λ a b. a ≢ b) (map (λ (p : Port). p.name) ps)
+    → AllPairs (λ a b. a ≢ b) (map (λ (d : PortDecl). d.name) (map (port_decl line) ps))
 ports_apart line ps h = subst (AllPairs (λ (a b : List ℕ). a ≢ b)) (sym (port_names line ps)) h
 
 -- a text after a prefix
 abbrev after_prefix : List ℕ → List ℕ → List ℕ
 after_prefix prefix x = prefix ++ x
 
-prefixed_apart : (prefix : List ℕ) (ns : List (List ℕ)) → AllPairs (λ a b. a ≢ b) ns → AllPairs (λ a b. a ≢ b) (map (after_prefix prefix) ns)
+prefixed_apart : (prefix : List ℕ) (ns : List (List ℕ)) → AllPairs (λ a b. a ≢ b) ns
+    → AllPairs (λ a b. a ≢ b) (map (after_prefix prefix) ns)
 prefixed_apart prefix ns h = λ i j d l m q.
     let n = length-map ns (after_prefix prefix) in
     let b : j < length ns = omega arith in
     let a : i < length ns = omega arith in
     h i j d l b (append_cancel_left prefix (get_or ns i d) (get_or ns j d) (sym (get_or-map (after_prefix prefix) ns i d d a) ∙ (q ∙ get_or-map (after_prefix prefix) ns j d d b)))
 
-array_names : (at : ℕ → ℕ) (m : ℕ) (xs : List Array) → map (λ (d : ArrayDecl). d.name) (array_decls at m xs) ≡ map (after_prefix (codes "a_")) (map (λ (a : Array). a.name) xs)
+array_names : (at : ℕ → ℕ) (m : ℕ) (xs : List Array)
+    → map (λ (d : ArrayDecl). d.name) (array_decls at m xs) ≡ map (after_prefix (codes "a_")) (map (λ (a : Array). a.name) xs)
 array_names at m [] = refl
 array_names at m (a ∷ xs) = ap (λ z. (codes "a_" ++ a.name) ∷ z) (array_names at (suc m) xs)
 
 -- the names of declared arrays are apart where those of the arrays are
-pub arrays_apart : (at : ℕ → ℕ) (xs : List Array) → AllPairs (λ a b. a ≢ b) (map (λ (a : Array). a.name) xs) → AllPairs (λ a b. a ≢ b) (map (λ (d : ArrayDecl). d.name) (array_decls at 0 xs))
+pub arrays_apart : (at : ℕ → ℕ) (xs : List Array) → AllPairs (λ a b. a ≢ b) (map (λ (a : Array). a.name) xs)
+    → AllPairs (λ a b. a ≢ b) (map (λ (d : ArrayDecl). d.name) (array_decls at 0 xs))
 arrays_apart at xs h = subst (AllPairs (λ (a b : List ℕ). a ≢ b)) (sym (array_names at 0 xs)) (prefixed_apart (codes "a_") (map (λ (a : Array). a.name) xs) h)

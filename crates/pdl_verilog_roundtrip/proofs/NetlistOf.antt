@@ -11,7 +11,8 @@ use Rattle.pdl_verilog_roundtrip.proofs.RuleV4.{once}
 use Rattle.pdl_verilog_roundtrip.proofs.RebuiltNetlist.{again}
 
 -- where its names stand for its wiring
-pub netlist_of : (lines : Lines) (n : Netlist) → IsWellFormed n → IsCounted n → wiring (declared lines n) ≡ Ok (wiring_of n) → IsNetlistOf (declared lines n) n
+pub netlist_of : (lines : Lines) (n : Netlist) → IsWellFormed n → IsCounted n
+    → wiring (declared lines n) ≡ Ok (wiring_of n) → IsNetlistOf (declared lines n) n
 netlist_of lines n h k e = record {
   wiring = wiring_of n;
   wired = record { names = e; widths = right lines n h; once = once lines n h k };

@@ -42,12 +42,15 @@ reg_names at r (x ∷ xs) = ap (λ z. reg_name r ∷ z) (reg_names at (suc r) xs
 abbrev long_name : List ℕ → List ℕ
 long_name x = codes "a_" ++ x
 
-array_names : (at : ℕ → ℕ) (m : ℕ) (xs : List Array) → map (λ (d : ArrayDecl). d.name) (array_decls at m xs) ≡ map long_name (map (λ (a : Array). a.name) xs)
+array_names : (at : ℕ → ℕ) (m : ℕ) (xs : List Array)
+    → map (λ (d : ArrayDecl). d.name) (array_decls at m xs) ≡ map long_name (map (λ (a : Array). a.name) xs)
 array_names at m [] = refl
 array_names at m (a ∷ xs) = ap (λ z. long_name a.name ∷ z) (array_names at (suc m) xs)
 
 -- of the first cells
-cell_names : (at : ℕ → ℕ) (inputs : List (List ℕ)) (arrays : List Array) (width : ℕ → ℕ) (k : ℕ) (gs : List Cell) (j : ℕ) → j ≤ length gs → map (λ (d : CellDecl). d.name) (take j (cell_decls at inputs arrays width k gs)) ≡ numbered cell_name k j
+cell_names : (at : ℕ → ℕ) (inputs : List (List ℕ)) (arrays : List Array) (width : ℕ → ℕ) (k : ℕ) (gs : List Cell) (j : ℕ)
+    → j ≤ length gs
+    → map (λ (d : CellDecl). d.name) (take j (cell_decls at inputs arrays width k gs)) ≡ numbered cell_name k j
 cell_names at inputs arrays width k gs zero l = refl
 cell_names at inputs arrays width k [] (suc j) l = absurd (omega arith)
 cell_names at inputs arrays width k (g ∷ gs) (suc j) l = ap (λ z. cell_name k ∷ z) (cell_names at inputs arrays width (suc k) gs j (omega arith))

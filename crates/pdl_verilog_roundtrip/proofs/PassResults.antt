@@ -28,25 +28,29 @@ pub one_found : {A B : Type 0} (make : A → B) (o : Option A) (a : A) → o ≡
 one_found make o a e = ap (with_one make) e
 
 -- a declaration of two names is found where what both stand for is
-pub two_found : {A B C : Type 0} (make : A → B → C) (o : Option A) (p : Option B) (a : A) (b : B) → o ≡ Some a → p ≡ Some b → with_two make o p ≡ Some (make a b)
+pub two_found : {A B C : Type 0} (make : A → B → C) (o : Option A) (p : Option B) (a : A) (b : B)
+    → o ≡ Some a → p ≡ Some b → with_two make o p ≡ Some (make a b)
 two_found make o p a b e g = ap (λ z. with_two make z p) e ∙ one_found (make a) p b g
 
 -- a declaration of three names is found where what all stand for is
-pub three_found : {A B C D : Type 0} (make : A → B → C → D) (o : Option A) (p : Option B) (q : Option C) (a : A) (b : B) (d : C) → o ≡ Some a → p ≡ Some b → q ≡ Some d → with_three make o p q ≡ Some (make a b d)
+pub three_found : {A B C D : Type 0} (make : A → B → C → D) (o : Option A) (p : Option B) (q : Option C) (a : A) (b : B) (d : C)
+    → o ≡ Some a → p ≡ Some b → q ≡ Some d → with_three make o p q ≡ Some (make a b d)
 three_found make o p q a b d e g i = ap (λ z. with_three make z p q) e ∙ two_found (make a) p q b d g i
 
 -- no width is cut
 pub small_same : (w : ℕ) → w ≤ 64 → small w ≡ w
 small_same w l = let b : w < 255 = omega arith in ap (λ t. cond t w 255) (lt-ltb w 255 b)
 
-line_more : {B : Type 0} (o : Option B) (line : ℕ) (rest : Result (List B) ℕ) (y : B) (ys : List B) → o ≡ Some y → rest ≡ Ok ys → onto_line o line rest ≡ Ok (y ∷ ys)
+line_more : {B : Type 0} (o : Option B) (line : ℕ) (rest : Result (List B) ℕ) (y : B) (ys : List B)
+    → o ≡ Some y → rest ≡ Ok ys → onto_line o line rest ≡ Ok (y ∷ ys)
 line_more o line rest y ys e g = ap (λ z. onto_line z line rest) e ∙ ap (onto_line (Some y) line) g
 
 -- ---- cells
 
 -- all cells that are declared are found where the names in each of them stand for its nets
 pub cells_found : (f : File) (at : ℕ → ℕ) (inputs : List (List ℕ)) (arrays : List Array) (width : ℕ → ℕ) (k : ℕ) (gs : List Cell)
-    → ((i j : ℕ) → k + i ≡ j → i < length gs → cell_of f j (term inputs arrays (get_or gs i no_cell)) ≡ Some (get_or gs i no_cell)) → cells_from f k (cell_decls at inputs arrays width k gs) ≡ Ok gs
+    → ((i j : ℕ) → k + i ≡ j → i < length gs → cell_of f j (term inputs arrays (get_or gs i no_cell)) ≡ Some (get_or gs i no_cell))
+    → cells_from f k (cell_decls at inputs arrays width k gs) ≡ Ok gs
 cells_found f at inputs arrays width k [] h = refl
 cells_found f at inputs arrays width k (g ∷ gs) h =
     let own = cell_of f k (term inputs arrays g) in
@@ -55,7 +59,8 @@ cells_found f at inputs arrays width k (g ∷ gs) h =
     (ap (λ b. cond b own None) (bytes_refl (cell_name k)) ∙ h 0 k (omega arith) (omega arith)) more
 
 -- as many cells are declared as there are
-pub length_cells : (at : ℕ → ℕ) (inputs : List (List ℕ)) (arrays : List Array) (width : ℕ → ℕ) (k : ℕ) (gs : List Cell) → length (cell_decls at inputs arrays width k gs) ≡ length gs
+pub length_cells : (at : ℕ → ℕ) (inputs : List (List ℕ)) (arrays : List Array) (width : ℕ → ℕ) (k : ℕ) (gs : List Cell)
+    → length (cell_decls at inputs arrays width k gs) ≡ length gs
 length_cells at inputs arrays width k [] = refl
 length_cells at inputs arrays width k (g ∷ gs) = ap suc (length_cells at inputs arrays width (suc k) gs)
 

@@ -30,7 +30,8 @@ place_at (y ∷ ys) (suc i) d h l =
     ∙ ap shifted (place_at ys i d (λ j k e m o. h (suc j) (suc k) e (omega arith) (omega arith)) (omega arith))
 
 -- names that are all made longer in one way stand where they stood
-pub place_mapped : (g : List ℕ → List ℕ) → ((x y : List ℕ) → g x ≡ g y → x ≡ y) → (ns : List (List ℕ)) (x : List ℕ) → place (map g ns) (g x) ≡ place ns x
+pub place_mapped : (g : List ℕ → List ℕ)
+    → ((x y : List ℕ) → g x ≡ g y → x ≡ y) → (ns : List (List ℕ)) (x : List ℕ) → place (map g ns) (g x) ≡ place ns x
 place_mapped g back [] x = refl
 place_mapped g back (y ∷ ys) x =
     ap (λ o. cond (bytes_eq (g x) (g y)) (Some 0) (shifted o)) (place_mapped g back ys x)
@@ -66,7 +67,8 @@ abbrev pub AreApart : (ℕ → List ℕ) → ℕ → Type 0
 AreApart f m = (i j : ℕ) → i < m → j < m → f i ≡ f j → i ≡ j
 
 -- the name of a number stands at its own place among numbered ones that are apart
-pub place_numbered : (f : ℕ → List ℕ) (m : ℕ) → AreApart f m → (k n i j : ℕ) → k + n ≤ m → i < n → k + i ≡ j → place (numbered f k n) (f j) ≡ Some i
+pub place_numbered : (f : ℕ → List ℕ) (m : ℕ) → AreApart f m → (k n i j : ℕ)
+    → k + n ≤ m → i < n → k + i ≡ j → place (numbered f k n) (f j) ≡ Some i
 place_numbered f m h k zero i j b l e = absurd (omega arith)
 place_numbered f m h k (suc n) zero j b l e =
     let q : j ≡ k = omega arith in

@@ -16,7 +16,9 @@ pub append_right : (xs ys : List Asked) → first_wrong xs ≡ None → first_wr
 append_right xs ys h k = rest_first xs ys h ∙ k
 
 -- each of a list is right after those before it
-pub turns_right : {A : Type 0} (ask : List A → A → Asked) (before xs : List A) (d : A) → ((i : ℕ) → i < length xs → (ask (before ++ take i xs) (get_or xs i d)).right ≡ true) → first_wrong (in_turn ask before xs) ≡ None
+pub turns_right : {A : Type 0} (ask : List A → A → Asked) (before xs : List A) (d : A)
+    → ((i : ℕ) → i < length xs → (ask (before ++ take i xs) (get_or xs i d)).right ≡ true)
+    → first_wrong (in_turn ask before xs) ≡ None
 turns_right ask before [] d h = refl
 turns_right ask before (x ∷ xs) d h =
     right_then (ask before x).right (first_wrong (in_turn ask (before ++ x ∷ []) xs)) (ask before x).line

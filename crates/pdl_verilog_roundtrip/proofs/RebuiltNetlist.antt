@@ -29,14 +29,16 @@ dir_back : (k : ℕ) (d : Dir) → cond (is_input d) In (Out (driver k (Input 0)
 dir_back k In = refl
 dir_back k (Out x) = ap Out (cond-true (eqb k k) x (Input 0) (eqb_self k))
 
-port_back : (line k : ℕ) (p : Port) (drives : List OutputDrive) → IsWidth p.width → of_port k drives ≡ onto_output k p.dir [] → port (port_decl line p) (driver k (Input 0) drives) ≡ p
+port_back : (line k : ℕ) (p : Port) (drives : List OutputDrive) → IsWidth p.width
+    → of_port k drives ≡ onto_output k p.dir [] → port (port_decl line p) (driver k (Input 0) drives) ≡ p
 port_back line k p drives w h =
     let wide = bits_back p.width w in
     let net : driver k (Input 0) drives ≡ driver k (Input 0) (onto_output k p.dir []) = driver_kept k (Input 0) drives ∙ ap (driver k (Input 0)) h in
     let way = ap (λ x. cond (is_input p.dir) In (Out x)) net ∙ dir_back k p.dir in
     λ q. record { name = p.name; width = wide q; dir = way q }
 
-ports_back : (line k : ℕ) (drives : List OutputDrive) (ps : List Port) → Each (λ p. IsWidth p.width) ps → ((j i : ℕ) → k + j ≡ i → j < length ps → of_port i drives ≡ onto_output i (get_or ps j no_port).dir [])
+ports_back : (line k : ℕ) (drives : List OutputDrive) (ps : List Port) → Each (λ p. IsWidth p.width) ps
+    → ((j i : ℕ) → k + j ≡ i → j < length ps → of_port i drives ≡ onto_output i (get_or ps j no_port).dir [])
     → ports drives k (map (port_decl line) ps) ≡ ps
 ports_back line k drives [] w h = refl
 ports_back line k drives (p ∷ ps) w h =
@@ -45,7 +47,9 @@ ports_back line k drives (p ∷ ps) w h =
 
 -- ---- registers
 
-reg_back : (line k : ℕ) (x : Reg) (drives : List RegDrive) → IsWidth x.width → of_reg k drives ≡ reg_drive k x ∷ [] → driven k (undriven (record { line = line; name = reg_name k; high = x.width - 1 })) drives ≡ x
+reg_back : (line k : ℕ) (x : Reg) (drives : List RegDrive) → IsWidth x.width
+    → of_reg k drives ≡ reg_drive k x ∷ []
+    → driven k (undriven (record { line = line; name = reg_name k; high = x.width - 1 })) drives ≡ x
 reg_back line k x drives w h =
     let d : RegDecl = record { line = line; name = reg_name k; high = x.width - 1 } in
     let y = undriven d in
@@ -53,7 +57,8 @@ reg_back line k x drives w h =
     let last : given y (reg_drive k x) ≡ x = λ q. record { width = wide q; reset = x.reset; next = x.next } in
     driven_kept k y drives ∙ (ap (driven k y) h ∙ (cond-true (eqb k k) (given y (reg_drive k x)) y (eqb_self k) ∙ last))
 
-regs_back : (at : ℕ → ℕ) (k : ℕ) (drives : List RegDrive) (xs : List Reg) → Each (λ x. IsWidth x.width) xs → ((j i : ℕ) → k + j ≡ i → j < length xs → of_reg i drives ≡ reg_drive i (get_or xs j no_reg) ∷ [])
+regs_back : (at : ℕ → ℕ) (k : ℕ) (drives : List RegDrive) (xs : List Reg) → Each (λ x. IsWidth x.width) xs
+    → ((j i : ℕ) → k + j ≡ i → j < length xs → of_reg i drives ≡ reg_drive i (get_or xs j no_reg) ∷ [])
     → regs drives k (reg_decls at k xs) ≡ xs
 regs_back at k drives [] w h = refl
 regs_back at k drives (x ∷ xs) w h =
@@ -62,7 +67,8 @@ regs_back at k drives (x ∷ xs) w h =
 
 -- ---- arrays
 
-arrays_back : (at : ℕ → ℕ) (m : ℕ) (blocks : List (List ArrayWrite)) (xs : List Array) → Each IsSized xs → ((j i : ℕ) → m + j ≡ i → j < length xs → writes i blocks ≡ (get_or xs j no_array).writes)
+arrays_back : (at : ℕ → ℕ) (m : ℕ) (blocks : List (List ArrayWrite)) (xs : List Array) → Each IsSized xs
+    → ((j i : ℕ) → m + j ≡ i → j < length xs → writes i blocks ≡ (get_or xs j no_array).writes)
     → arrays blocks m (array_decls at m xs) ≡ xs
 arrays_back at m blocks [] w h = refl
 arrays_back at m blocks (a ∷ xs) w h =

@@ -85,10 +85,12 @@ module _ (at : ℕ → ℕ) (xs : List Reg) where
       and_from (is_new (map (λ (q : RegDecl). q.name) (take i declared_regs)) d.name) (eqb (drives_of_reg driven_regs (length (take i declared_regs))) 1)
       (apart_new (λ (q : RegDecl). q.name) declared_regs no_decl i (regs_apart at xs h) l) (reg_driven i (omega arith)))
 
-arrays_once : (at : ℕ → ℕ) (xs : List Array) → AllPairs (λ a b. a ≢ b) (map (λ (a : Array). a.name) xs) → first_wrong (in_turn array_once [] (array_decls at 0 xs)) ≡ None
+arrays_once : (at : ℕ → ℕ) (xs : List Array) → AllPairs (λ a b. a ≢ b) (map (λ (a : Array). a.name) xs)
+    → first_wrong (in_turn array_once [] (array_decls at 0 xs)) ≡ None
 arrays_once at xs h = turns_right array_once [] (array_decls at 0 xs) no_array_decl (λ i l. apart_new (λ (q : ArrayDecl). q.name) (array_decls at 0 xs) no_array_decl i (arrays_apart at xs h) l)
 
-cells_once : (ds : List CellDecl) → AllPairs (λ a b. a ≢ b) (map (λ (d : CellDecl). d.name) ds) → first_wrong (in_turn cell_once [] ds) ≡ None
+cells_once : (ds : List CellDecl) → AllPairs (λ a b. a ≢ b) (map (λ (d : CellDecl). d.name) ds)
+    → first_wrong (in_turn cell_once [] ds) ≡ None
 cells_once ds h = turns_right cell_once [] ds no_cell_decl (λ i l. apart_new (λ (q : CellDecl). q.name) ds no_cell_decl i h l)
 
 -- ---- blocks of arrays
@@ -109,11 +111,13 @@ no_owner : (m : ℕ) (before : List ℕ) → AreBefore m before → list_any (λ
 no_owner m [] h = refl
 no_owner m (k ∷ ks) h = let l : k < m = h.0 in or_from (eqb m k) (list_any (λ k. eqb m k) ks) (ne_eqb m k (λ e. omega arith)) (no_owner m ks h.1)
 
-writes_once : (at : ℕ → ℕ) (inputs : List (List ℕ)) (name : List ℕ) (j m : ℕ) (ps : List WritePort) → first_wrong (both (write_once m) (write_decls at inputs name j ps) (map (written_to m) ps)) ≡ None
+writes_once : (at : ℕ → ℕ) (inputs : List (List ℕ)) (name : List ℕ) (j m : ℕ) (ps : List WritePort)
+    → first_wrong (both (write_once m) (write_decls at inputs name j ps) (map (written_to m) ps)) ≡ None
 writes_once at inputs name j m [] = refl
 writes_once at inputs name j m (p ∷ ps) = right_then (eqb m m) (first_wrong (both (write_once m) (write_decls at inputs name (suc j) ps) (map (written_to m) ps))) (at j) (eqb_self m) (writes_once at inputs name (suc j) m ps)
 
-each_block_once : (lines : Lines) (inputs : List (List ℕ)) (before : List ℕ) (b m : ℕ) (xs : List Array) → AreBefore m before → first_wrong (blocks_once before (array_blocks lines inputs b xs) (block_writes m xs)) ≡ None
+each_block_once : (lines : Lines) (inputs : List (List ℕ)) (before : List ℕ) (b m : ℕ) (xs : List Array)
+    → AreBefore m before → first_wrong (blocks_once before (array_blocks lines inputs b xs) (block_writes m xs)) ≡ None
 each_block_once lines inputs before b m [] h = refl
 each_block_once lines inputs before b m (a ∷ xs) h = go (λ ks z k. each_block_once lines inputs ks z (suc m) xs k) a.writes
   where

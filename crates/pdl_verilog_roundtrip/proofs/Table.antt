@@ -48,7 +48,8 @@ depth_back d h =
 
 -- ---- lists of widths
 
-port_widths : (line : ℕ) (ps : List Port) → Each (λ p. IsWidth p.width) ps → map (λ (p : PortDecl). bits p.high) (map (port_decl line) ps) ≡ map (λ (p : Port). p.width) ps
+port_widths : (line : ℕ) (ps : List Port) → Each (λ p. IsWidth p.width) ps
+    → map (λ (p : PortDecl). bits p.high) (map (port_decl line) ps) ≡ map (λ (p : Port). p.width) ps
 port_widths line [] h = refl
 port_widths line (p ∷ ps) h = ap₂ (λ w ws. w ∷ ws) (bits_back p.width h.0) (port_widths line ps h.1)
 
@@ -56,11 +57,13 @@ input_of : (d : Dir) (v w : ℕ) → v ≡ w → cond (is_input d) (Some v) None
 input_of In v w e = ap Some e
 input_of (Out x) v w e = refl
 
-input_widths : (line : ℕ) (ps : List Port) → Each (λ p. IsWidth p.width) ps → filter_map input_width (map (port_decl line) ps) ≡ filter_map port_input ps
+input_widths : (line : ℕ) (ps : List Port) → Each (λ p. IsWidth p.width) ps
+    → filter_map input_width (map (port_decl line) ps) ≡ filter_map port_input ps
 input_widths line [] h = refl
 input_widths line (p ∷ ps) h = ap₂ cons_option (input_of p.dir (bits (p.width - 1)) p.width (bits_back p.width h.0)) (input_widths line ps h.1)
 
-reg_widths : (at : ℕ → ℕ) (r : ℕ) (xs : List Reg) → Each (λ x. IsWidth x.width) xs → map (λ (d : RegDecl). bits d.high) (reg_decls at r xs) ≡ map (λ (x : Reg). x.width) xs
+reg_widths : (at : ℕ → ℕ) (r : ℕ) (xs : List Reg) → Each (λ x. IsWidth x.width) xs
+    → map (λ (d : RegDecl). bits d.high) (reg_decls at r xs) ≡ map (λ (x : Reg). x.width) xs
 reg_widths at r [] h = refl
 reg_widths at r (x ∷ xs) h = ap₂ (λ w ws. w ∷ ws) (bits_back x.width h.0) (reg_widths at (suc r) xs h.1)
 
@@ -68,15 +71,18 @@ reg_widths at r (x ∷ xs) h = ap₂ (λ w ws. w ∷ ws) (bits_back x.width h.0)
 abbrev pub IsSized : Array → Type 0
 IsSized a = IsWidth a.width × IsDepth a.depth
 
-word_widths : (at : ℕ → ℕ) (m : ℕ) (xs : List Array) → Each IsSized xs → map (λ (a : ArrayDecl). bits a.high) (array_decls at m xs) ≡ map (λ (a : Array). a.width) xs
+word_widths : (at : ℕ → ℕ) (m : ℕ) (xs : List Array) → Each IsSized xs
+    → map (λ (a : ArrayDecl). bits a.high) (array_decls at m xs) ≡ map (λ (a : Array). a.width) xs
 word_widths at m [] h = refl
 word_widths at m (a ∷ xs) h = ap₂ (λ w ws. w ∷ ws) (bits_back a.width h.0.0) (word_widths at (suc m) xs h.1)
 
-array_depths : (at : ℕ → ℕ) (m : ℕ) (xs : List Array) → Each IsSized xs → map (λ (a : ArrayDecl). a.last + 1) (array_decls at m xs) ≡ map (λ (a : Array). a.depth) xs
+array_depths : (at : ℕ → ℕ) (m : ℕ) (xs : List Array) → Each IsSized xs
+    → map (λ (a : ArrayDecl). a.last + 1) (array_decls at m xs) ≡ map (λ (a : Array). a.depth) xs
 array_depths at m [] h = refl
 array_depths at m (a ∷ xs) h = ap₂ (λ d ds. d ∷ ds) (depth_back a.depth h.0.1) (array_depths at (suc m) xs h.1)
 
-cell_widths : (at : ℕ → ℕ) (inputs : List (List ℕ)) (arrays : List Array) (width : ℕ → ℕ) (k j i : ℕ) (gs : List Cell) → k + j ≡ i → j < length gs → IsWidth (width i)
+cell_widths : (at : ℕ → ℕ) (inputs : List (List ℕ)) (arrays : List Array) (width : ℕ → ℕ) (k j i : ℕ) (gs : List Cell)
+    → k + j ≡ i → j < length gs → IsWidth (width i)
     → get_or (map (λ (d : CellDecl). bits d.high) (cell_decls at inputs arrays width k gs)) j 0 ≡ width i
 cell_widths at inputs arrays width k j i [] e l h = absurd (omega arith)
 cell_widths at inputs arrays width k zero i (g ∷ gs) e l h = let s : k ≡ i = omega arith in ap (λ z. bits (width z - 1)) s ∙ bits_back (width i) h

@@ -64,7 +64,8 @@ name_of w short none form =
     and_from (has_name_form w && not (is_statement_keyword w)) (not (is_declaration_keyword w))
     (and_from (has_name_form w) (not (is_statement_keyword w)) form (ap not (no_statement w h))) (ap not (no_declaration w h))
 
-form_of : (c : ℕ) (cs : List ℕ) → is_lower c ≡ true → suc (length (take_while is_word cs)) ≤ 32 → has_name_form (c ∷ take_while is_word cs) ≡ true
+form_of : (c : ℕ) (cs : List ℕ)
+    → is_lower c ≡ true → suc (length (take_while is_word cs)) ≤ 32 → has_name_form (c ∷ take_while is_word cs) ≡ true
 form_of c cs e h =
     and_from (is_lower c) (nat_lt (length (take_while is_word cs)) 32 && list_all is_name_byte (take_while is_word cs)) e
     (and_from (nat_lt (length (take_while is_word cs)) 32) (list_all is_name_byte (take_while is_word cs)) (lt-ltb (length (take_while is_word cs)) 32 (omega (arith, h))) (all_taken cs))
@@ -73,7 +74,9 @@ no_spelling : (o : Option Spelling) → keyword_or_name o ≡ kind.Name → o �
 no_spelling None e = refl
 no_spelling (Some s) e = absurd (cc e)
 
-word_named : (w : List ℕ) (b : Bool) → nat_le (length w) 32 ≡ b → cond b (keyword_or_name (spelling_of keywords w)) kind.Bad ≡ kind.Name → (length w ≤ 32) × (spelling_of keywords w ≡ None)
+word_named : (w : List ℕ) (b : Bool)
+    → nat_le (length w) 32 ≡ b → cond b (keyword_or_name (spelling_of keywords w)) kind.Bad ≡ kind.Name
+    → (length w ≤ 32) × (spelling_of keywords w ≡ None)
 word_named w true e k = (leb-true (length w) 32 e, no_spelling (spelling_of keywords w) k)
 word_named w false e k = absurd (cc k)
 
@@ -127,7 +130,8 @@ abbrev pub AreNamed : List Token → Type 0
 AreNamed [] = ⊤
 AreNamed (t ∷ ts) = IsNamed t × AreNamed ts
 
-placed_named : (k : Option TokenKind) (n start line : ℕ) (bytes : List ℕ) → IsNamePiece (record { kind = k; size = n }) bytes → (rest : List Token) → AreNamed rest
+placed_named : (k : Option TokenKind) (n start line : ℕ) (bytes : List ℕ)
+    → IsNamePiece (record { kind = k; size = n }) bytes → (rest : List Token) → AreNamed rest
     → AreNamed (placed_token (record { kind = k; size = n }) start line bytes ++ rest)
 placed_named None n start line bytes h rest t = t
 placed_named (Some k) n start line bytes h rest t = (λ e. h (ap (λ (j : TokenKind). Some j) e), t)

@@ -19,17 +19,21 @@ use Rattle.pdl_net.specs.Width.{HasWidths}
 use Rattle.pdl_net.proofs.WidthLists.{fits_read}
 
 -- an array without write ports adds no block to a text
-pub no_block : (inputs : List (List ℕ)) (name : List ℕ) (ports : List WritePort) (t : List ℕ) → length ports ≡ 0 → t ≡ t ++ spec.array_block inputs name ports
+pub no_block : (inputs : List (List ℕ)) (name : List ℕ) (ports : List WritePort) (t : List ℕ)
+    → length ports ≡ 0 → t ≡ t ++ spec.array_block inputs name ports
 no_block inputs name [] t e = sym (append-nil t)
 no_block inputs name (p ∷ ps) t e = cc
 
 -- the block of an array with write ports is a whole block
-pub some_block : (inputs : List (List ℕ)) (name : List ℕ) (ports : List WritePort) → length ports ≢ 0 → spec.array_block inputs name ports ≡ spec.whole_block inputs name ports
+pub some_block : (inputs : List (List ℕ)) (name : List ℕ) (ports : List WritePort) → length ports ≢ 0
+    → spec.array_block inputs name ports ≡ spec.whole_block inputs name ports
 some_block inputs name [] e = absurd (e refl)
 some_block inputs name (p ∷ ps) e = refl
 
 -- the block of the next register, and those of the others
-pub block_more : (inputs : List (List ℕ)) (xs : List Reg) (r : ℕ) (d : Reg) (t u : List ℕ) → r < length xs → u ≡ t ++ spec.block inputs r (get_or xs r d) → u ++ spec.blocks inputs (r + 1) (drop (r + 1) xs) ≡ t ++ spec.blocks inputs r (drop r xs)
+pub block_more : (inputs : List (List ℕ)) (xs : List Reg) (r : ℕ) (d : Reg) (t u : List ℕ)
+    → r < length xs → u ≡ t ++ spec.block inputs r (get_or xs r d)
+    → u ++ spec.blocks inputs (r + 1) (drop (r + 1) xs) ≡ t ++ spec.blocks inputs r (drop r xs)
 block_more inputs xs r d t u l e =
     let x = get_or xs r d in
     let rest = drop (r + 1) xs in
@@ -68,11 +72,13 @@ short c There at (Rep k a) f = tt
 short c There at (Read m a) f = tt
 
 -- each constant among the cells of a netlist in which all fits has at most 64 bits
-pub short_cell : (n : Netlist) (xs : List Cell) (k : ℕ) → IsWell (circuit_of n) → k < length n.cells → xs ≡ n.cells → spec.IsShort (get_or xs k no_cell)
+pub short_cell : (n : Netlist) (xs : List Cell) (k : ℕ) → IsWell (circuit_of n)
+    → k < length n.cells → xs ≡ n.cells → spec.IsShort (get_or xs k no_cell)
 short_cell n xs k w h e = short (circuit_of n) (IsThereAt (circuit_of n) k) (signal (circuit_of n)) (get_or xs k no_cell) (fits_read (circuit_of n) xs k k w h e refl)
 
 -- each cell of a netlist in which all fits has at least 1 bit
-pub wide_cell : (n : Netlist) (ws : List ℕ) (k : ℕ) → IsWell (circuit_of n) → HasWidths (circuit_of n) ws → length ws ≡ length n.cells → k < length n.cells → 1 ≤ get_or ws k 0
+pub wide_cell : (n : Netlist) (ws : List ℕ) (k : ℕ) → IsWell (circuit_of n) → HasWidths (circuit_of n) ws
+    → length ws ≡ length n.cells → k < length n.cells → 1 ≤ get_or ws k 0
 wide_cell n ws k w h e l =
     let i = (cells_well (circuit_of n) w).widths k l in
     subst (λ x. 1 ≤ x) (sym (h.each k (omega arith))) i.low

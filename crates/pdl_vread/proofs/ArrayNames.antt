@@ -37,11 +37,13 @@ first_name _ later _ (more {g = g} {t = t} q rest) e =
     let i : g ≡ field.ArrayName = cc in
     array_name t.text (subst (λ z. fits z t.text ≡ true) i q)
 
-taken_named : (d : Draft) (ru : Rule) (ts : Row) → AllFit (fields ru) ts → Each IsNamed d.file.arrays → Each IsNamed (taken d ru ts).file.arrays
+taken_named : (d : Draft) (ru : Rule) (ts : Row) → AllFit (fields ru) ts → Each IsNamed d.file.arrays
+    → Each IsNamed (taken d ru ts).file.arrays
 taken_named d rule.ArrayDeclared ts a h = each_push IsNamed d.file.arrays _ h (first_name (fields rule.ArrayDeclared) _ ts a refl)
 taken_named d _ ts a h = h
 
-all_named : (part : Part) (row : Row) (rs : List Taken) → Derives part row rs → (d : Draft) → Each IsNamed d.file.arrays → Each IsNamed (all_taken d rs).file.arrays
+all_named : (part : Part) (row : Row) (rs : List Taken) → Derives part row rs → (d : Draft) → Each IsNamed d.file.arrays
+    → Each IsNamed (all_taken d rs).file.arrays
 unfolding all_taken
 all_named _ _ _ finished d h = h
 all_named part _ _ (goes {rule = ru} {t = t} {ts = ts} {rest = rest} {more = rs} c a i) d h =
@@ -55,7 +57,8 @@ same_rest : (x y : List ℕ) → IsArrayName x → IsArrayName y → drop 2 x �
 same_rest x y h k e = sym (take-append-drop 2 x) ∙ (ap (λ z. z ++ drop 2 x) (h ∙ sym k) ∙ (ap (λ z. take 2 y ++ z) e ∙ take-append-drop 2 y))
 
 -- the j-th name of a list is the name of its j-th element
-pub get_mapped : {A : Type 0} (name : A → List ℕ) (xs : List A) (j : ℕ) (z : List ℕ) (d : A) → j < length xs → get_or (map name xs) j z ≡ name (get_or xs j d)
+pub get_mapped : {A : Type 0} (name : A → List ℕ) (xs : List A) (j : ℕ) (z : List ℕ) (d : A)
+    → j < length xs → get_or (map name xs) j z ≡ name (get_or xs j d)
 get_mapped name [] j z d l = absurd (omega arith)
 get_mapped name (x ∷ xs) zero z d l = refl
 get_mapped name (x ∷ xs) (suc j) z d l = get_mapped name xs j z d (omega arith)
@@ -66,7 +69,8 @@ each_get P (x ∷ xs) zero d h l = h.0
 each_get P (x ∷ xs) (suc i) d h l = each_get P xs i d h.1 (omega arith)
 
 -- the names of memories are apart where those of their arrays are
-pub apart_rests : (xs : List ArrayDecl) → Each IsNamed xs → AllPairs (λ a b. a ≢ b) (map (λ a. a.name) xs) → AllPairs (λ a b. a ≢ b) (map (λ a. drop 2 a.name) xs)
+pub apart_rests : (xs : List ArrayDecl) → Each IsNamed xs → AllPairs (λ a b. a ≢ b) (map (λ a. a.name) xs)
+    → AllPairs (λ a b. a ≢ b) (map (λ a. drop 2 a.name) xs)
 apart_rests xs h p = λ i j d l m q.
     let n = length-map xs (λ (a : ArrayDecl). drop 2 a.name) in
     let o = length-map xs (λ (a : ArrayDecl). a.name) in

@@ -84,12 +84,14 @@ module _ (c : Circuit) (f : File) (h : Has c f) (There : Net → Type 0) (at : N
 abbrev pub AreWide : File → List Signal → Type 0
 AreWide f done = (j : ℕ) → j < length done → (get_or done j no_signal).width ≡ get_or (widths_of f).cells j 0
 
-look_wide : (c : Circuit) (f : File) → Has c f → (done : List Signal) → AreWide f done → (x : Net) → IsThereAt c (length done) x → (look c done x).width ≡ net_width (widths_of f) x
+look_wide : (c : Circuit) (f : File) → Has c f → (done : List Signal) → AreWide f done → (x : Net)
+    → IsThereAt c (length done) x → (look c done x).width ≡ net_width (widths_of f) x
 look_wide c f h done w (Input i) l = ap (λ z. get_or z i 0) h.inputs
 look_wide c f h done w (RegNet r) l = h.reg_widths r (omega (arith, l, h.reg_count))
 look_wide c f h done w (CellNet k) l = w k l
 
-next_drop : (n : ℕ) (xs : List CellDecl) (d : CellDecl) (ds : List CellDecl) → drop n xs ≡ d ∷ ds → (get_or (map (λ e. bits e.high) xs) n 0 ≡ bits d.high) × (drop (suc n) xs ≡ ds)
+next_drop : (n : ℕ) (xs : List CellDecl) (d : CellDecl) (ds : List CellDecl)
+    → drop n xs ≡ d ∷ ds → (get_or (map (λ e. bits e.high) xs) n 0 ≡ bits d.high) × (drop (suc n) xs ≡ ds)
 next_drop zero [] d ds h = absurd (cc)
 next_drop (suc n) [] d ds h = absurd (cc)
 next_drop zero (x ∷ xs) d ds h =
@@ -99,12 +101,14 @@ next_drop zero (x ∷ xs) d ds h =
 next_drop (suc n) (x ∷ xs) d ds h = next_drop n xs d ds h
 
 -- where all declarations of a list are found, the first is, and so are the others
-pub onto_inv : {B : Type 0} (o : Option B) (line : ℕ) (rest : Result (List B) ℕ) (ys : List B) → onto_line o line rest ≡ Ok ys → (z : B) × (zs : List B) × (o ≡ Some z) × (rest ≡ Ok zs) × (z ∷ zs ≡ ys)
+pub onto_inv : {B : Type 0} (o : Option B) (line : ℕ) (rest : Result (List B) ℕ) (ys : List B)
+    → onto_line o line rest ≡ Ok ys → (z : B) × (zs : List B) × (o ≡ Some z) × (rest ≡ Ok zs) × (z ∷ zs ≡ ys)
 onto_inv None line rest ys h = absurd (cc)
 onto_inv (Some y) line (Ok zs) ys h = (y, zs, refl, refl, cc)
 onto_inv (Some y) line (Err e) ys h = absurd (cc)
 
-wide_more : (f : File) (done : List Signal) (x : Signal) → AreWide f done → x.width ≡ get_or (widths_of f).cells (length done) 0 → AreWide f (done ++ x ∷ [])
+wide_more : (f : File) (done : List Signal) (x : Signal) → AreWide f done
+    → x.width ≡ get_or (widths_of f).cells (length done) 0 → AreWide f (done ++ x ∷ [])
 wide_more f done x w e = λ j l. go j l (cases_lt j (length done))
   where
     go : (j : ℕ) → j < length (done ++ x ∷ []) → (j < length done) ⊎ (length done ≤ j) → (get_or (done ++ x ∷ []) j no_signal).width ≡ get_or (widths_of f).cells j 0
@@ -119,7 +123,9 @@ record AllWide (c : Circuit) (f : File) (gs : List Cell) (done : List Signal) : 
   fit : AllFit c gs done
   wide : AreWide f (signals_from c gs done)
 
-all_wide : (c : Circuit) (f : File) → Has c f → (ds : List CellDecl) (gs : List Cell) (done : List Signal) → drop (length done) f.cells ≡ ds → cells_from f (length done) ds ≡ Ok gs → first_wrong (both (asked_cell (widths_of f)) ds gs) ≡ None → AreWide f done → AllWide c f gs done
+all_wide : (c : Circuit) (f : File) → Has c f → (ds : List CellDecl) (gs : List Cell) (done : List Signal)
+    → drop (length done) f.cells ≡ ds → cells_from f (length done) ds ≡ Ok gs
+    → first_wrong (both (asked_cell (widths_of f)) ds gs) ≡ None → AreWide f done → AllWide c f gs done
 all_wide c f h [] gs done at e r w =
     let i : [] ≡ gs = cc in
     subst (λ z. AllWide c f z done) i (record { fit = tt; wide = w })
@@ -148,7 +154,9 @@ pub record CellsRight (c : Circuit) (f : File) : Type 0 where
   pub wide : (x : Net) → IsThere c x → (signal c x).width ≡ net_width (widths_of f) x
 
 -- wired cells in which V3 finds nothing wrong fit, and all nets have the widths that are declared
-pub cells_right : (c : Circuit) (f : File) → Has c f → cells_from f 0 f.cells ≡ Ok c.cells → first_wrong (both (asked_cell (widths_of f)) f.cells c.cells) ≡ None → CellsRight c f
+pub cells_right : (c : Circuit) (f : File) → Has c f
+    → cells_from f 0 f.cells ≡ Ok c.cells → first_wrong (both (asked_cell (widths_of f)) f.cells c.cells) ≡ None
+    → CellsRight c f
 unfolding signal signals IsThere
 cells_right c f h e r =
     let a = all_wide c f h f.cells c.cells [] refl e r (none_wide f) in

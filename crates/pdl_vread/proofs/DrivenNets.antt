@@ -15,17 +15,18 @@ use Rattle.pdl_vread.specs.Built.{driver, drivers, port, ports, undriven, given,
 
 -- ---- outputs
 
-driver_push : (i : ℕ) (x : Net) (ds : List OutputDrive) (d : OutputDrive) → driver i x (ds ++ d ∷ []) ≡ cond (eqb d.port i) d.net (driver i x ds)
+driver_push : (i : ℕ) (x : Net) (ds : List OutputDrive) (d : OutputDrive)
+    → driver i x (ds ++ d ∷ []) ≡ cond (eqb d.port i) d.net (driver i x ds)
 driver_push i x [] d = refl
 driver_push i x (o ∷ os) d = driver_push i (cond (eqb o.port i) o.net x) os d
 
-length_drivers : (n : ℕ) (ds : List OutputDrive) → length (drivers n ds) ≡ n
+pub length_drivers : (n : ℕ) (ds : List OutputDrive) → length (drivers n ds) ≡ n
 length_drivers n ds = length-map-range_with_len (λ i. driver i (Input 0) ds) 0 n
 
 get_drivers : (n i : ℕ) (ds : List OutputDrive) (d : Net) → i < n → get_or (drivers n ds) i d ≡ driver i (Input 0) ds
 get_drivers n i ds d h = get_or-map-range_with_len (λ k. driver k (Input 0) ds) 0 n i i d h (omega arith)
 
-no_drives : (n : ℕ) → replicate n (Input 0) ≡ drivers n []
+pub no_drives : (n : ℕ) → replicate n (Input 0) ≡ drivers n []
 no_drives n = fill_by_all (λ i. Input 0) (replicate n (Input 0)) n (Input 0) (length-replicate n (Input 0)) (λ k h. get_or-replicate n k (Input 0) (Input 0) h)
 
 -- one `assign` more
@@ -44,10 +45,12 @@ driver_set n ds d = fill_by_all (λ i. driver i (Input 0) (ds ++ d ∷ [])) (set
         ∙ (get_drivers n k ds (Input 0) h
         ∙ sym (driver_push k (Input 0) ds d ∙ ap (λ b. cond b d.net (driver k (Input 0) ds)) (ne_eqb d.port k e)))
 
-drivers_more : (n i : ℕ) (ds : List OutputDrive) (d : OutputDrive) → i < length ds → set (drivers n (take i ds)) (get_or ds i d).port (get_or ds i d).net ≡ drivers n (take (i + 1) ds)
+pub drivers_more : (n i : ℕ) (ds : List OutputDrive) (d : OutputDrive)
+    → i < length ds → set (drivers n (take i ds)) (get_or ds i d).port (get_or ds i d).net ≡ drivers n (take (i + 1) ds)
 drivers_more n i ds d h = driver_set n (take i ds) (get_or ds i d) ∙ ap (drivers n) (sym (take_more ds i d h))
 
-drivers_same : (n i : ℕ) (ds : List OutputDrive) (d : OutputDrive) → i < length ds → n ≤ (get_or ds i d).port → drivers n (take i ds) ≡ drivers n (take (i + 1) ds)
+pub drivers_same : (n i : ℕ) (ds : List OutputDrive) (d : OutputDrive)
+    → i < length ds → n ≤ (get_or ds i d).port → drivers n (take i ds) ≡ drivers n (take (i + 1) ds)
 drivers_same n i ds d h k =
     let l = length_drivers n (take i ds) in
     sym (set_past (drivers n (take i ds)) (get_or ds i d).port (get_or ds i d).net (omega arith)) ∙ drivers_more n i ds d h
@@ -55,8 +58,11 @@ drivers_same n i ds d h k =
 pub ruleset driving = (length_drivers, no_drives, drivers_more, drivers_same)
 
 -- one port more is built
-pub port_push : (drives : List OutputDrive) (decls : List PortDecl) (nets : List Net) (i j : ℕ) (d : PortDecl) (x : Net) (p : Port) (done now whole : List Port) → nets ≡ drivers (length decls) drives → i < length decls → d ≡ get_or decls i d → x ≡ get_or nets i x
-    → j ≡ i + 1 → p ≡ port d x → now ≡ done ++ p ∷ [] → done ++ ports drives i (drop i decls) ≡ whole → now ++ ports drives j (drop j decls) ≡ whole
+pub port_push : (drives : List OutputDrive) (decls : List PortDecl) (nets : List Net) (i j : ℕ) (d : PortDecl) (x : Net)
+    (p : Port) (done now whole : List Port)
+    → nets ≡ drivers (length decls) drives → i < length decls → d ≡ get_or decls i d → x ≡ get_or nets i x → j ≡ i + 1
+    → p ≡ port d x → now ≡ done ++ p ∷ [] → done ++ ports drives i (drop i decls) ≡ whole
+    → now ++ ports drives j (drop j decls) ≡ whole
 port_push drives decls nets i j d x p done now whole e h k q m n o w =
     let net : x ≡ driver i (Input 0) drives = q ∙ (ap (λ z. get_or z i x) e ∙ get_drivers (length decls) i drives x h) in
     let same : p ≡ port (get_or decls i d) (driver i (Input 0) drives) = n ∙ (ap (λ z. port z x) k ∙ ap (port (get_or decls i d)) net) in
@@ -70,14 +76,17 @@ port_push drives decls nets i j d x p done now whole e h k q m n o w =
     ∙ (ap (λ z. done ++ ports drives i z) (sym (drop_more decls i d h)) ∙ w)))))
 
 -- the ports built up to the last one declared are all of them
-pub ports_end : (drives : List OutputDrive) (decls : List PortDecl) (nets : List Net) (i : ℕ) (done whole : List Port) → nets ≡ drivers (length decls) drives → i ≡ min (length decls) (length nets) → done ++ ports drives i (drop i decls) ≡ whole → done ≡ whole
+pub ports_end : (drives : List OutputDrive) (decls : List PortDecl) (nets : List Net) (i : ℕ) (done whole : List Port)
+    → nets ≡ drivers (length decls) drives → i ≡ min (length decls) (length nets)
+    → done ++ ports drives i (drop i decls) ≡ whole → done ≡ whole
 ports_end drives decls nets i done whole e m w =
     let l : length nets ≡ length decls = ap length e ∙ length_drivers (length decls) drives in
     sym (append-nil done) ∙ (ap (λ z. done ++ ports drives i z) (sym (drop_all i decls (omega arith))) ∙ w)
 
 -- ---- registers
 
-driven_push : (r : ℕ) (x : Reg) (ds : List RegDrive) (d : RegDrive) → driven r x (ds ++ d ∷ []) ≡ cond (eqb d.reg r) (given (driven r x ds) d) (driven r x ds)
+driven_push : (r : ℕ) (x : Reg) (ds : List RegDrive) (d : RegDrive)
+    → driven r x (ds ++ d ∷ []) ≡ cond (eqb d.reg r) (given (driven r x ds) d) (driven r x ds)
 driven_push r x [] d = refl
 driven_push r x (e ∷ es) d = driven_push r (cond (eqb e.reg r) (given x e) x) es d
 
@@ -90,7 +99,8 @@ pub length_regs : (ds : List RegDrive) (decls : List RegDecl) → length (regs d
 length_regs ds decls = length_regs_from ds 0 decls
 
 -- the i-th register, counted from the r-th on, is as the last block of it gives it
-pub get_regs_from : (ds : List RegDrive) (r i j : ℕ) (decls : List RegDecl) (x : Reg) (z : RegDecl) → i < length decls → r + i ≡ j → get_or (regs ds r decls) i x ≡ driven j (undriven (get_or decls i z)) ds
+pub get_regs_from : (ds : List RegDrive) (r i j : ℕ) (decls : List RegDecl) (x : Reg) (z : RegDecl)
+    → i < length decls → r + i ≡ j → get_or (regs ds r decls) i x ≡ driven j (undriven (get_or decls i z)) ds
 get_regs_from ds r i j [] x z h e = absurd (omega arith)
 get_regs_from ds r zero j (c ∷ cs) x z h e = let k : r ≡ j = omega arith in ap (λ q. driven q (undriven c) ds) k
 get_regs_from ds r (suc i) j (c ∷ cs) x z h e = get_regs_from ds (suc r) i j cs x z (omega arith) (omega arith)
@@ -103,7 +113,8 @@ pub no_blocks : (decls : List RegDecl) → map undriven decls ≡ regs [] 0 decl
 no_blocks decls = no_regs_from 0 decls
 
 -- one block more
-reg_set : (decls : List RegDecl) (ds : List RegDrive) (d : RegDrive) (y : Reg) → set (regs ds 0 decls) d.reg (given (get_or (regs ds 0 decls) d.reg y) d) ≡ regs (ds ++ d ∷ []) 0 decls
+reg_set : (decls : List RegDecl) (ds : List RegDrive) (d : RegDrive) (y : Reg)
+    → set (regs ds 0 decls) d.reg (given (get_or (regs ds 0 decls) d.reg y) d) ≡ regs (ds ++ d ∷ []) 0 decls
 reg_set decls ds d y =
     let l = length_regs ds decls in
     same_lists _ _ (length-set (regs ds 0 decls) d.reg _ ∙ (l ∙ sym (length_regs (ds ++ d ∷ []) decls)))
@@ -127,11 +138,14 @@ reg_set decls ds d y =
         ∙ (get_regs_from ds 0 k k decls x z h (omega arith)
         ∙ sym (get_regs_from (ds ++ d ∷ []) 0 k k decls x z h (omega arith) ∙ (driven_push k u ds d ∙ ap (λ b. cond b (given (driven k u ds) d) (driven k u ds)) (ne_eqb d.reg k e))))
 
-regs_more : (decls : List RegDecl) (i : ℕ) (ds : List RegDrive) (d : RegDrive) (y : Reg) → i < length ds
-    → set (regs (take i ds) 0 decls) (get_or ds i d).reg (given (get_or (regs (take i ds) 0 decls) (get_or ds i d).reg y) (get_or ds i d)) ≡ regs (take (i + 1) ds) 0 decls
+pub regs_more : (decls : List RegDecl) (i : ℕ) (ds : List RegDrive) (d : RegDrive) (y : Reg)
+    → i < length ds
+    → set (regs (take i ds) 0 decls) (get_or ds i d).reg (given (get_or (regs (take i ds) 0 decls) (get_or ds i d).reg y) (get_or ds i d))
+    ≡ regs (take (i + 1) ds) 0 decls
 regs_more decls i ds d y h = reg_set decls (take i ds) (get_or ds i d) y ∙ ap (λ x. regs x 0 decls) (sym (take_more ds i d h))
 
-pub regs_same : (decls : List RegDecl) (i : ℕ) (ds : List RegDrive) (d : RegDrive) → i < length ds → length decls ≤ (get_or ds i d).reg → regs (take i ds) 0 decls ≡ regs (take (i + 1) ds) 0 decls
+pub regs_same : (decls : List RegDecl) (i : ℕ) (ds : List RegDrive) (d : RegDrive)
+    → i < length ds → length decls ≤ (get_or ds i d).reg → regs (take i ds) 0 decls ≡ regs (take (i + 1) ds) 0 decls
 regs_same decls i ds d h k =
     let y : Reg = record { width = 0; reset = 0; next = Input 0 } in
     let l = length_regs (take i ds) decls in

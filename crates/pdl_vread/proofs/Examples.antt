@@ -115,7 +115,8 @@ unfolding once_line
 undriven = refl
 
 -- an output that is driven twice, before an array that is declared twice
-driven_twice : once_line (record sample { arrays = record { line = 3; name = codes "a_m"; high = 7; last = 3 } ∷ record { line = 3; name = codes "a_m"; high = 7; last = 3 } ∷ [] }) (record nets { outputs = record { port = 0; net = CellNet 0 } ∷ nets.outputs }) ≡ Some 1
+driven_twice : once_line (record sample { arrays = record { line = 3; name = codes "a_m"; high = 7; last = 3 } ∷ record { line = 3; name = codes "a_m"; high = 7; last = 3 } ∷ [] })
+    (record nets { outputs = record { port = 0; net = CellNet 0 } ∷ nets.outputs }) ≡ Some 1
 unfolding once_line
 driven_twice = refl
 

@@ -31,7 +31,8 @@ names_differ name xs h = λ i j d l m q.
     let n = length-map xs name in
     h i j [] l (omega arith) (get_mapped name xs i [] d (omega arith) ∙ (q ∙ sym (get_mapped name xs j [] d m)))
 
-pairs_append : {A : Type 0} (R : A → A → Type 0) (xs ys : List A) → AllPairs R xs → AllPairs R ys → All (λ x. All (R x) ys) xs → AllPairs R (xs ++ ys)
+pairs_append : {A : Type 0} (R : A → A → Type 0) (xs ys : List A) → AllPairs R xs → AllPairs R ys
+    → All (λ x. All (R x) ys) xs → AllPairs R (xs ++ ys)
 pairs_append R [] ys h k both = k
 pairs_append R (x ∷ xs) ys h k both =
     let later : All (R x) xs = λ j d l. h 0 (suc j) d (omega arith) (omega arith) in
@@ -43,20 +44,24 @@ pairs_append R (x ∷ xs) ys h k both =
 abbrev no_head : Head
 no_head = input [] 0
 
-replies_named : (x : List ℕ) (ds : List PortMem) (rest : List Head) → All (λ (h : Head). codes "p_" ++ x ≢ h.name) (flat_map reply_ports ds ++ rest) → All (λ (e : PortMem). x ≢ e.name) ds
+replies_named : (x : List ℕ) (ds : List PortMem) (rest : List Head)
+    → All (λ (h : Head). codes "p_" ++ x ≢ h.name) (flat_map reply_ports ds ++ rest)
+    → All (λ (e : PortMem). x ≢ e.name) ds
 replies_named x [] rest h = λ k d l. absurd (omega arith)
 replies_named x (e ∷ ds) rest h =
     let more = replies_named x ds rest (λ k d l. h (suc (suc k)) d (omega arith)) in
     All-cons (λ (e : PortMem). x ≢ e.name) e ds (λ q. h 0 no_head (omega arith) (ap (λ z. codes "p_" ++ z) q)) more
 
-delayed_names : (ds : List PortMem) (rest : List Head) → NamesDiffer (λ (h : Head). h.name) (flat_map reply_ports ds ++ rest) → NamesDiffer (λ (m : PortMem). m.name) ds
+delayed_names : (ds : List PortMem) (rest : List Head)
+    → NamesDiffer (λ (h : Head). h.name) (flat_map reply_ports ds ++ rest) → NamesDiffer (λ (m : PortMem). m.name) ds
 delayed_names [] rest h = λ i j d l m. absurd (omega arith)
 delayed_names (e ∷ ds) rest h =
     let one = replies_named e.name ds rest (λ k d l. h 0 (suc (suc k)) d (omega arith) (omega arith)) in
     let more = delayed_names ds rest (λ i j d l m. h (suc (suc i)) (suc (suc j)) d (omega arith) (omega arith)) in
     AllPairs-cons (λ (a b : PortMem). a.name ≢ b.name) e ds one more
 
-delayed_wide : (ds : List PortMem) (rest : List Head) → All (λ (h : Head). IsWide h.width) (flat_map reply_ports ds ++ rest) → All (λ (m : PortMem). IsWide m.width) ds
+delayed_wide : (ds : List PortMem) (rest : List Head)
+    → All (λ (h : Head). IsWide h.width) (flat_map reply_ports ds ++ rest) → All (λ (m : PortMem). IsWide m.width) ds
 delayed_wide [] rest h = λ k d l. absurd (omega arith)
 delayed_wide (e ∷ ds) rest h =
     let more = delayed_wide ds rest (λ k d l. h (suc (suc k)) d (omega arith)) in
@@ -64,7 +69,8 @@ delayed_wide (e ∷ ds) rest h =
 
 -- ---- the others
 
-info_wide : (a : Array) (locked : List PortMem) → All (λ (m : PortMem). m.name ≡ a.name → a.width ≡ m.width) locked → IsWide a.width → IsWide (told locked a).width
+info_wide : (a : Array) (locked : List PortMem)
+    → All (λ (m : PortMem). m.name ≡ a.name → a.width ≡ m.width) locked → IsWide a.width → IsWide (told locked a).width
 info_wide a [] h w = w
 info_wide a (m ∷ ms) h w = at_test (info_wide a ms (λ k d l. h (suc k) d (omega arith)) w) (bytes_eq m.name a.name) refl
   where
@@ -78,7 +84,8 @@ head_names : (ps : List Port) → map (λ (h : Head). h.name) (map head_of ps) �
 head_names [] = refl
 head_names (p ∷ ps) = ap (λ z. p.name ∷ z) (head_names ps)
 
-delayed_front : (ds : List PortMem) (xs : List MemInfo) → map (λ (m : MemInfo). m.name) (map delayed_info ds ++ xs) ≡ map (λ (m : PortMem). m.name) ds ++ map (λ (m : MemInfo). m.name) xs
+delayed_front : (ds : List PortMem) (xs : List MemInfo)
+    → map (λ (m : MemInfo). m.name) (map delayed_info ds ++ xs) ≡ map (λ (m : PortMem). m.name) ds ++ map (λ (m : MemInfo). m.name) xs
 delayed_front [] xs = refl
 delayed_front (d ∷ ds) xs = ap (λ z. d.name ∷ z) (delayed_front ds xs)
 
@@ -158,11 +165,11 @@ pub read_names : (bytes : List ℕ) (r : Result Netlist VError) → Judges bytes
 read_names bytes (Ok n) h = mems_differ n (reads_well bytes n h)
 read_names bytes (Err e) h = tt
 
-read_low : (bytes : List ℕ) (r : Result Netlist VError) → Judges bytes r → IfOk r (λ n. All (λ m. 1 ≤ m.width) n.mems)
+pub read_low : (bytes : List ℕ) (r : Result Netlist VError) → Judges bytes r → IfOk r (λ n. All (λ m. 1 ≤ m.width) n.mems)
 read_low bytes (Ok n) h = λ k d l. (mems_wide n (reads_well bytes n h) k d l).0
 read_low bytes (Err e) h = tt
 
-read_high : (bytes : List ℕ) (r : Result Netlist VError) → Judges bytes r → IfOk r (λ n. All (λ m. m.width ≤ 64) n.mems)
+pub read_high : (bytes : List ℕ) (r : Result Netlist VError) → Judges bytes r → IfOk r (λ n. All (λ m. m.width ≤ 64) n.mems)
 read_high bytes (Ok n) h = λ k d l. (mems_wide n (reads_well bytes n h) k d l).1
 read_high bytes (Err e) h = tt
 

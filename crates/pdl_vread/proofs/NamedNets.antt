@@ -52,7 +52,8 @@ record IsInput (i n : ℕ) (x : Net) : Type 0 where
   low : i ≤ slot
   high : slot < i + n
 
-port_net_there : (ps : List PortDecl) (i k : ℕ) (x : Net) → get_or (port_nets i ps) k None ≡ Some x → IsInput i (length (filter_map input_width ps)) x
+port_net_there : (ps : List PortDecl) (i k : ℕ) (x : Net)
+    → get_or (port_nets i ps) k None ≡ Some x → IsInput i (length (filter_map input_width ps)) x
 port_net_there [] i k x h = absurd (cc)
 port_net_there (p ∷ ps) i k x h = go (λ j n e. port_net_there ps j n x e) p.input k h
   where
@@ -99,12 +100,14 @@ one_inv make (Some a) y h = (a, refl, cc)
 one_inv make None y h = absurd (cc)
 
 -- what is made of two values is there only where both values are
-pub two_inv : {A B C : Type 0} (make : A → B → C) (o : Option A) (p : Option B) (y : C) → with_two make o p ≡ Some y → (a : A) × (b : B) × (o ≡ Some a) × (p ≡ Some b) × (make a b ≡ y)
+pub two_inv : {A B C : Type 0} (make : A → B → C) (o : Option A) (p : Option B) (y : C)
+    → with_two make o p ≡ Some y → (a : A) × (b : B) × (o ≡ Some a) × (p ≡ Some b) × (make a b ≡ y)
 two_inv make (Some a) p y h = let r = one_inv (make a) p y h in (a, r.0, refl, r.1, r.2)
 two_inv make None p y h = absurd (cc)
 
 -- what is made of three values is there only where all three are
-pub three_inv : {A B C D : Type 0} (make : A → B → C → D) (o : Option A) (p : Option B) (q : Option C) (y : D) → with_three make o p q ≡ Some y
+pub three_inv : {A B C D : Type 0} (make : A → B → C → D) (o : Option A) (p : Option B) (q : Option C) (y : D)
+    → with_three make o p q ≡ Some y
     → (a : A) × (b : B) × (d : C) × (o ≡ Some a) × (p ≡ Some b) × (q ≡ Some d) × (make a b d ≡ y)
 three_inv make (Some a) p q y h = let r = two_inv (make a) p q y h in (a, r.0, r.1, refl, r.2, r.3, r.4)
 three_inv make None p q y h = absurd (cc)
@@ -146,7 +149,8 @@ term_there c f h k (t.Read m a) g e =
     subst (NetsThere c (IsThereAt c k)) r.4 (l, net_there c f h k a r.1 r.3)
 
 -- the nets that the k-th cell reads, where its names stand for something, are there before it
-pub cell_there : (c : Circuit) (f : File) → Has c f → (k : ℕ) (d : CellDecl) (g : Cell) → wired_cell f k d ≡ Some g → NetsThere c (IsThereAt c k) g
+pub cell_there : (c : Circuit) (f : File) → Has c f → (k : ℕ) (d : CellDecl) (g : Cell)
+    → wired_cell f k d ≡ Some g → NetsThere c (IsThereAt c k) g
 cell_there c f h k d g e = go (bytes_eq d.target d.name) e
   where
     go : (b : Bool) → cond b (cell_of f k d.term) None ≡ Some g → NetsThere c (IsThereAt c k) g

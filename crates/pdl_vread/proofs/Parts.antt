@@ -23,8 +23,9 @@ use Rattle.pdl_word.specs.Each.{Each}
 -- ---- each element
 
 -- each that is found and asked is right
-pub each_right : {A B : Type 0} (find : A → Option B) (line : A → ℕ) (ask : A → B → Asked) (P : B → Type 0) → ((a : A) (b : B) → find a ≡ Some b → (ask a b).right ≡ true → P b)
-    → (xs : List A) (ys : List B) → each find line xs ≡ Ok ys → first_wrong (both ask xs ys) ≡ None → Each P ys
+pub each_right : {A B : Type 0} (find : A → Option B) (line : A → ℕ) (ask : A → B → Asked) (P : B → Type 0)
+    → ((a : A) (b : B) → find a ≡ Some b → (ask a b).right ≡ true → P b) → (xs : List A) (ys : List B)
+    → each find line xs ≡ Ok ys → first_wrong (both ask xs ys) ≡ None → Each P ys
 each_right find line ask P step [] ys e r = let i : [] ≡ ys = cc in subst (Each P) i tt
 each_right find line ask P step (a ∷ xs) ys e r =
     let o = onto_inv (find a) (line a) (each find line xs) ys e in
@@ -61,7 +62,9 @@ place_none (y ∷ ys) x i d h l = go (λ j k m. place_none ys x j d k m) (bytes_
     go more false q o p e (suc j) l = more j (ap is_some p ∙ tail o e) (omega arith)
 
 -- each name is new among those before it
-pub new_apart : (ns : List (List ℕ)) → ((j : ℕ) (d : List ℕ) → j < length ns → is_some (place (take j ns) (get_or ns j d)) ≡ false) → AllPairs (λ a b. a ≢ b) ns
+pub new_apart : (ns : List (List ℕ))
+    → ((j : ℕ) (d : List ℕ) → j < length ns → is_some (place (take j ns) (get_or ns j d)) ≡ false)
+    → AllPairs (λ a b. a ≢ b) ns
 new_apart ns h = λ i j d k l.
     let n = length-take j ns in
     let e : get_or (take j ns) i d ≡ get_or ns i d = get_or-take j ns i d k in
@@ -70,7 +73,8 @@ new_apart ns h = λ i j d k l.
 -- ---- the parts of what the rules ask
 
 -- where nothing that is asked of a list is wrong, what is asked of its i-th element is right
-pub map_right : {A : Type 0} (ask : A → Asked) (xs : List A) → first_wrong (map ask xs) ≡ None → (i : ℕ) (d : A) → i < length xs → (ask (get_or xs i d)).right ≡ true
+pub map_right : {A : Type 0} (ask : A → Asked) (xs : List A)
+    → first_wrong (map ask xs) ≡ None → (i : ℕ) (d : A) → i < length xs → (ask (get_or xs i d)).right ≡ true
 map_right ask [] h i d l = absurd (omega arith)
 map_right ask (x ∷ xs) h zero d l = (right_both (ask x).right (first_wrong (map ask xs)) (ask x).line h).0
 map_right ask (x ∷ xs) h (suc i) d l = map_right ask xs (right_both (ask x).right (first_wrong (map ask xs)) (ask x).line h).1 i d (omega arith)
@@ -123,7 +127,9 @@ once_parts f w h =
 
 -- ---- blocks of arrays
 
-onto_block_inv : (a : Result (List ArrayWrite) ℕ) (rest : Result (List (List ArrayWrite)) ℕ) (bs : List (List ArrayWrite)) → onto_block a rest ≡ Ok bs → (ws : List ArrayWrite) × (more : List (List ArrayWrite)) × (a ≡ Ok ws) × (rest ≡ Ok more) × (ws ∷ more ≡ bs)
+onto_block_inv : (a : Result (List ArrayWrite) ℕ) (rest : Result (List (List ArrayWrite)) ℕ) (bs : List (List ArrayWrite))
+    → onto_block a rest ≡ Ok bs
+    → (ws : List ArrayWrite) × (more : List (List ArrayWrite)) × (a ≡ Ok ws) × (rest ≡ Ok more) × (ws ∷ more ≡ bs)
 onto_block_inv (Err l) rest bs h = absurd (cc)
 onto_block_inv (Ok ws) (Ok more) bs h = (ws, more, refl, refl, cc)
 onto_block_inv (Ok ws) (Err l) bs h = absurd (cc)
@@ -133,8 +139,10 @@ both_parts P Q [] h k = tt
 both_parts P Q (x ∷ xs) h k = ((h.0, k.0), both_parts P Q xs h.1 k.1)
 
 -- each write of a block is found, asked and right, and is to the block's array
-pub each_write : (f : File) (k : ℕ) (P : ArrayWrite → Type 0) → ((d : WriteDecl) (b : ArrayWrite) → wired_write f k d ≡ Some b → (asked_write (widths_of f) d b).right ≡ true → P b)
-    → (decls : List ArrayBlock) (bs : List (List ArrayWrite)) (before : List ℕ) → blocks_of f k decls ≡ Ok bs → first_wrong (asked_writes (widths_of f) decls bs) ≡ None → first_wrong (blocks_once before decls bs) ≡ None
+pub each_write : (f : File) (k : ℕ) (P : ArrayWrite → Type 0)
+    → ((d : WriteDecl) (b : ArrayWrite) → wired_write f k d ≡ Some b → (asked_write (widths_of f) d b).right ≡ true → P b)
+    → (decls : List ArrayBlock) (bs : List (List ArrayWrite)) (before : List ℕ) → blocks_of f k decls ≡ Ok bs
+    → first_wrong (asked_writes (widths_of f) decls bs) ≡ None → first_wrong (blocks_once before decls bs) ≡ None
     → Each (λ ws. Each (λ b. P b × (b.array ≡ owner ws)) ws) bs
 each_write f k P step [] bs before e r o = let i : [] ≡ bs = cc in subst (Each (λ ws. Each (λ b. P b × (b.array ≡ owner ws)) ws)) i tt
 each_write f k P step (d ∷ ds) bs before e r o =

@@ -20,13 +20,16 @@ pub breaks_many : (f : File) (w : Wiring) → IsWired f w → 16 < length f.arra
 breaks_many f w d h = (w, d, refl, many_arrays f w h)
 
 -- a refusal by V5 of what is built of a file that breaks none of V2 to V4 tells what the file breaks
-pub refused_pipe : (f : File) (w : Wiring) (n : Netlist) (e : VError) → IsWired f w → n ≡ built f w → Refuses (λ rule line. (rule ≡ V5) × (line ≡ f.line) × ((ms : List MemInfo) → IsPipe (with_mems n ms) → ⊥)) e → Refuses (FileBreaks f) e
+pub refused_pipe : (f : File) (w : Wiring) (n : Netlist) (e : VError) → IsWired f w
+    → n ≡ built f w
+    → Refuses (λ rule line. (rule ≡ V5) × (line ≡ f.line) × ((ms : List MemInfo) → IsPipe (with_mems n ms) → ⊥)) e
+    → Refuses (FileBreaks f) e
 refused_pipe f w n (Refused rule line) d e h =
     let b : FileBreaks f V5 line = (w, d, h.1, λ ms p. h.2 ms (subst (λ x. IsPipe (with_mems x ms)) (sym e) p)) in
     subst (λ r. FileBreaks f r line) (sym h.0) b
 refused_pipe f w n NoMemory d e h = tt
 
-is_netlist : (f : File) (w : Wiring) (n m : Netlist) → IsWired f w → n ≡ built f w → m ≡ with_mems n m.mems → IsPipe m → IsNetlistOf f m
+pub is_netlist : (f : File) (w : Wiring) (n m : Netlist) → IsWired f w → n ≡ built f w → m ≡ with_mems n m.mems → IsPipe m → IsNetlistOf f m
 is_netlist f w n m d e h p = record { wiring = w; wired = d; same = h ∙ ap (λ x. with_mems x m.mems) e; pipe = p }
 
 pub ruleset last_rule = (refused_pipe, is_netlist)

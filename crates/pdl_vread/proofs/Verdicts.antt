@@ -105,7 +105,8 @@ gives_netlist bytes (Err (Refused rule line)) n h k =
     cc
 
 -- where a text breaks a rule at a line, the answer is that refusal, unless memory ran out
-pub gives_refusal : (bytes : List ℕ) (r : Result Netlist VError) (rule : Rule) (line : ℕ) → Judges bytes r → Breaks bytes rule line → GivesRefusal rule line r
+pub gives_refusal : (bytes : List ℕ) (r : Result Netlist VError) (rule : Rule) (line : ℕ) → Judges bytes r
+    → Breaks bytes rule line → GivesRefusal rule line r
 gives_refusal bytes (Ok m) rule line h k =
     let e = one_verdict bytes (Ok m) (Err (fault rule line)) (reads_has bytes m h) (breaks_has bytes rule line k) in
     cc

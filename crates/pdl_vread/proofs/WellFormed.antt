@@ -62,7 +62,8 @@ port_input_of p x = go p.input
     go true = refl
     go false = refl
 
-inputs_built : (drives : List OutputDrive) (i : ℕ) (ps : List PortDecl) → filter_map port_input (ports drives i ps) ≡ filter_map input_width ps
+inputs_built : (drives : List OutputDrive) (i : ℕ) (ps : List PortDecl)
+    → filter_map port_input (ports drives i ps) ≡ filter_map input_width ps
 inputs_built drives i [] = refl
 inputs_built drives i (p ∷ ps) =
     ap (λ o. cons_option o (filter_map port_input (ports drives (suc i) ps))) (port_input_of p (driver i (Input 0) drives))
@@ -97,12 +98,14 @@ no_port_decl = record { line = 0; name = []; high = 0; input = false }
 abbrev array : List (List ArrayWrite) → ℕ → ArrayDecl → Array
 array blocks m a = record { name = drop 2 a.name; width = bits a.high; depth = a.last + 1; writes = writes m blocks }
 
-get_arrays_from : (blocks : List (List ArrayWrite)) (m i j : ℕ) (decls : List ArrayDecl) (x : Array) (z : ArrayDecl) → i < length decls → m + i ≡ j → get_or (arrays blocks m decls) i x ≡ array blocks j (get_or decls i z)
+get_arrays_from : (blocks : List (List ArrayWrite)) (m i j : ℕ) (decls : List ArrayDecl) (x : Array) (z : ArrayDecl)
+    → i < length decls → m + i ≡ j → get_or (arrays blocks m decls) i x ≡ array blocks j (get_or decls i z)
 get_arrays_from blocks m i j [] x z h e = absurd (omega arith)
 get_arrays_from blocks m zero j (a ∷ rest) x z h e = let k : m ≡ j = omega arith in ap (λ q. array blocks q a) k
 get_arrays_from blocks m (suc i) j (a ∷ rest) x z h e = get_arrays_from blocks (suc m) i j rest x z (omega arith) (omega arith)
 
-array_is : (f : File) (w : Wiring) (m : ℕ) → m < length f.arrays → array_at (circuit f w) m ≡ array w.blocks m (get_or f.arrays m no_array_decl)
+array_is : (f : File) (w : Wiring) (m : ℕ)
+    → m < length f.arrays → array_at (circuit f w) m ≡ array w.blocks m (get_or f.arrays m no_array_decl)
 array_is f w m l = get_arrays_from w.blocks 0 m m f.arrays no_array no_array_decl l (omega arith)
 
 reg_is : (f : File) (w : Wiring) (r : ℕ) → r < length f.regs → reg_at (circuit f w) r ≡ driven r (undriven (get_or f.regs r no_decl)) w.regs
@@ -369,7 +372,9 @@ module _ (f : File) (w : Wiring) (k : KeepsRules f w) where
   array_names blocks i (a ∷ xs) = ap (λ z. drop 2 a.name ∷ z) (array_names blocks (suc i) xs)
 
 -- names are apart where each is new among those before it
-names_apart : {A : Type 0} (name : A → List ℕ) (xs : List A) (d : A) → ((i : ℕ) → i < length xs → is_new (map name (take i xs)) (name (get_or xs i d)) ≡ true) → AllPairs (λ a b. a ≢ b) (map name xs)
+names_apart : {A : Type 0} (name : A → List ℕ) (xs : List A) (d : A)
+    → ((i : ℕ) → i < length xs → is_new (map name (take i xs)) (name (get_or xs i d)) ≡ true)
+    → AllPairs (λ a b. a ≢ b) (map name xs)
 names_apart name xs d h = new_apart (map name xs) (λ j z l.
     let n = length-map xs name in
     let b : j < length xs = omega arith in

@@ -31,7 +31,8 @@ first_later true o q = refl
 first_later false o q = refl
 
 -- one name more
-place_more : (names : List (List ℕ)) (x y : List ℕ) → place (names ++ x ∷ []) y ≡ later (place names y) (cond (bytes_eq y x) (Some (length names)) None)
+place_more : (names : List (List ℕ)) (x y : List ℕ)
+    → place (names ++ x ∷ []) y ≡ later (place names y) (cond (bytes_eq y x) (Some (length names)) None)
 place_more [] x y = refl
 place_more (n ∷ ns) x y =
     ap (λ o. cond (bytes_eq y n) (Some 0) (shifted o)) (place_more ns x y)
@@ -58,7 +59,9 @@ more_there names x y h = place_more names x y ∙ go (bytes_eq y x) refl
     go false e = later_none (place names y)
 
 -- a new name
-more_new : (names : List (List ℕ)) (x y : List ℕ) → is_some (place names x) ≡ false → place (names ++ x ∷ []) y ≡ cond (bytes_eq x y) (Some (length names)) (place names y)
+more_new : (names : List (List ℕ)) (x y : List ℕ)
+    → is_some (place names x) ≡ false
+    → place (names ++ x ∷ []) y ≡ cond (bytes_eq x y) (Some (length names)) (place names y)
 more_new names x y h = place_more names x y ∙ (go (bytes_eq y x) refl ∙ ap (λ b. cond b (Some (length names)) (place names y)) (bytes_swap y x))
   where
     go : (b : Bool) → bytes_eq y x ≡ b → later (place names y) (cond b (Some (length names)) None) ≡ cond b (Some (length names)) (place names y)
@@ -76,14 +79,18 @@ count_more : (names : List (List ℕ)) (x : List ℕ) (n m : ℕ) → n ≡ leng
 count_more names x n m e f = let k = length-append names (x ∷ []) in omega (arith, e, f, k)
 
 -- a name that stands among the names already leaves the map of first places as it is
-pub added_there : (old new : r.Places) (names : List (List ℕ)) (x : List ℕ) → AreFirsts names old → is_some (get same old.firsts x) ≡ true → new.firsts ≡ old.firsts → new.count ≡ old.count + 1 → AreFirsts (names ++ x ∷ []) new
+pub added_there : (old new : r.Places) (names : List (List ℕ)) (x : List ℕ) → AreFirsts names old
+    → is_some (get same old.firsts x) ≡ true → new.firsts ≡ old.firsts → new.count ≡ old.count + 1
+    → AreFirsts (names ++ x ∷ []) new
 added_there old new names x h s e f = record {
   count = count_more names x old.count new.count h.count f;
   firsts = λ y. ap (λ m. get same m y) e ∙ (h.firsts y ∙ sym (more_there names x y (subst (λ o. is_some o ≡ true) (h.firsts x) s)));
 }
 
 -- a new name is added to the map of first places, with the next place
-pub added_new : (old new : r.Places) (names : List (List ℕ)) (x : List ℕ) → AreFirsts names old → is_some (get same old.firsts x) ≡ false → Updates same old.firsts new.firsts x (Some old.count) → new.count ≡ old.count + 1 → AreFirsts (names ++ x ∷ []) new
+pub added_new : (old new : r.Places) (names : List (List ℕ)) (x : List ℕ) → AreFirsts names old
+    → is_some (get same old.firsts x) ≡ false → Updates same old.firsts new.firsts x (Some old.count)
+    → new.count ≡ old.count + 1 → AreFirsts (names ++ x ∷ []) new
 added_new old new names x h s u f = record {
   count = count_more names x old.count new.count h.count f;
   firsts = λ y. u.0 y ∙ (ap (λ n. cond (same x y) (Some n) (get same old.firsts y)) h.count ∙ (ap (λ o. cond (same x y) (Some (length names)) o) (h.firsts y) ∙ sym (more_new names x y (subst (λ o. is_some o ≡ false) (h.firsts x) s))));

@@ -17,8 +17,10 @@ moved : (P : File → ℕ → Type 0) (f g : File) (k : ℕ) → g ≡ f → k �
 moved P f g k e h p = subst (P f) h (subst (λ x. P x k) e p)
 
 -- a file is wired so where its cells, outputs, registers and blocks of arrays are
-pub wired_so : (f g : File) (k : ℕ) (cs : List Cell) (os : List OutputDrive) (rs : List RegDrive) (bs : List (List ArrayWrite)) → g ≡ f → k ≡ length f.cells → spec.cells_from f 0 f.cells ≡ Ok cs → spec.all_outputs g k f.outputs ≡ Ok os
-    → spec.all_regs g k f.reg_blocks ≡ Ok rs → spec.blocks_of g k f.array_blocks ≡ Ok bs → spec.wiring f ≡ Ok (record { cells = cs; outputs = os; regs = rs; blocks = bs })
+pub wired_so : (f g : File) (k : ℕ) (cs : List Cell) (os : List OutputDrive) (rs : List RegDrive) (bs : List (List ArrayWrite))
+    → g ≡ f → k ≡ length f.cells → spec.cells_from f 0 f.cells ≡ Ok cs → spec.all_outputs g k f.outputs ≡ Ok os
+    → spec.all_regs g k f.reg_blocks ≡ Ok rs → spec.blocks_of g k f.array_blocks ≡ Ok bs
+    → spec.wiring f ≡ Ok (record { cells = cs; outputs = os; regs = rs; blocks = bs })
 unfolding wiring
 wired_so f g k cs os rs bs e h a b c d =
     let b2 = moved (λ x n. spec.all_outputs x n f.outputs ≡ Ok os) f g k e h b in
@@ -37,7 +39,9 @@ cells_stop f g (stop.Broken line) i h =
 cells_stop f g stop.NoMemory i h = tt
 
 -- where the pass over outputs stops, after that over cells, the wiring of the file does
-pub outputs_stop : (f g : File) (k : ℕ) (cs : List Cell) (e : Stop) → g ≡ f → k ≡ length f.cells → spec.cells_from f 0 f.cells ≡ Ok cs → spec.Gives (spec.all_outputs g k f.outputs) (Err e) → spec.Gives (spec.wiring f) (Err e)
+pub outputs_stop : (f g : File) (k : ℕ) (cs : List Cell) (e : Stop)
+    → g ≡ f → k ≡ length f.cells → spec.cells_from f 0 f.cells ≡ Ok cs
+    → spec.Gives (spec.all_outputs g k f.outputs) (Err e) → spec.Gives (spec.wiring f) (Err e)
 unfolding wiring
 outputs_stop f g k cs (stop.Broken line) i j a h =
     ap (λ x. spec.with_parts x (spec.all_outputs f (length f.cells) f.outputs) (spec.all_regs f (length f.cells) f.reg_blocks) (spec.blocks_of f (length f.cells) f.array_blocks)) a
@@ -45,8 +49,9 @@ outputs_stop f g k cs (stop.Broken line) i j a h =
 outputs_stop f g k cs stop.NoMemory i j a h = tt
 
 -- where the pass over registers stops, after that over outputs, the wiring of the file does
-pub regs_stop : (f g : File) (k : ℕ) (cs : List Cell) (os : List OutputDrive) (e : Stop) → g ≡ f → k ≡ length f.cells → spec.cells_from f 0 f.cells ≡ Ok cs → spec.all_outputs g k f.outputs ≡ Ok os → spec.Gives (spec.all_regs g k f.reg_blocks) (Err e)
-    → spec.Gives (spec.wiring f) (Err e)
+pub regs_stop : (f g : File) (k : ℕ) (cs : List Cell) (os : List OutputDrive) (e : Stop)
+    → g ≡ f → k ≡ length f.cells → spec.cells_from f 0 f.cells ≡ Ok cs → spec.all_outputs g k f.outputs ≡ Ok os
+    → spec.Gives (spec.all_regs g k f.reg_blocks) (Err e) → spec.Gives (spec.wiring f) (Err e)
 unfolding wiring
 regs_stop f g k cs os (stop.Broken line) i j a b h =
     ap (λ x. spec.with_parts x (spec.all_outputs f (length f.cells) f.outputs) (spec.all_regs f (length f.cells) f.reg_blocks) (spec.blocks_of f (length f.cells) f.array_blocks)) a
@@ -55,8 +60,10 @@ regs_stop f g k cs os (stop.Broken line) i j a b h =
 regs_stop f g k cs os stop.NoMemory i j a b h = tt
 
 -- where the pass over blocks of arrays stops, after that over registers, the wiring of the file does
-pub blocks_stop : (f g : File) (k : ℕ) (cs : List Cell) (os : List OutputDrive) (rs : List RegDrive) (e : Stop) → g ≡ f → k ≡ length f.cells → spec.cells_from f 0 f.cells ≡ Ok cs → spec.all_outputs g k f.outputs ≡ Ok os → spec.all_regs g k f.reg_blocks ≡ Ok rs
-    → spec.Gives (spec.blocks_of g k f.array_blocks) (Err e) → spec.Gives (spec.wiring f) (Err e)
+pub blocks_stop : (f g : File) (k : ℕ) (cs : List Cell) (os : List OutputDrive) (rs : List RegDrive) (e : Stop)
+    → g ≡ f → k ≡ length f.cells → spec.cells_from f 0 f.cells ≡ Ok cs → spec.all_outputs g k f.outputs ≡ Ok os
+    → spec.all_regs g k f.reg_blocks ≡ Ok rs → spec.Gives (spec.blocks_of g k f.array_blocks) (Err e)
+    → spec.Gives (spec.wiring f) (Err e)
 unfolding wiring
 blocks_stop f g k cs os rs (stop.Broken line) i j a b c h =
     ap (λ x. spec.with_parts x (spec.all_outputs f (length f.cells) f.outputs) (spec.all_regs f (length f.cells) f.reg_blocks) (spec.blocks_of f (length f.cells) f.array_blocks)) a
@@ -73,11 +80,13 @@ unfolding net_of
 net_cell f k x i e = ap (λ o. spec.cell_or o (spec.reg_or (spec.reg_place f x) (spec.input_of f x))) e
 
 -- a name that a register has, and none of the first k cells, stands for that register
-pub net_reg : (f : File) (k : ℕ) (x : List ℕ) (r : ℕ) → None ≡ spec.cell_place f k x → Some r ≡ spec.reg_place f x → Some (RegNet r) ≡ spec.net_of f k x
+pub net_reg : (f : File) (k : ℕ) (x : List ℕ) (r : ℕ)
+    → None ≡ spec.cell_place f k x → Some r ≡ spec.reg_place f x → Some (RegNet r) ≡ spec.net_of f k x
 unfolding net_of
 net_reg f k x r e h = ap (λ o. spec.reg_or o (spec.input_of f x)) h ∙ ap (λ o. spec.cell_or o (spec.reg_or (spec.reg_place f x) (spec.input_of f x))) e
 
 -- a name that no register has, and none of the first k cells, stands for the input of that name, if there is one
-pub net_input : (f : File) (k : ℕ) (x : List ℕ) → None ≡ spec.cell_place f k x → None ≡ spec.reg_place f x → spec.input_of f x ≡ spec.net_of f k x
+pub net_input : (f : File) (k : ℕ) (x : List ℕ)
+    → None ≡ spec.cell_place f k x → None ≡ spec.reg_place f x → spec.input_of f x ≡ spec.net_of f k x
 unfolding net_of
 net_input f k x e h = ap (λ o. spec.reg_or o (spec.input_of f x)) h ∙ ap (λ o. spec.cell_or o (spec.reg_or (spec.reg_place f x) (spec.input_of f x))) e

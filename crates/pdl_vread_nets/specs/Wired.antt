@@ -190,7 +190,8 @@ blocks_of f k [] = Ok []
 blocks_of f k (b ∷ bs) = onto_block (writes_of f k b.writes) (blocks_of f k bs)
 
 -- the wiring of cells, outputs, registers and blocks, or the first line of the first part that has none
-abbrev pub with_parts : Result (List Cell) ℕ → Result (List OutputDrive) ℕ → Result (List RegDrive) ℕ → Result (List (List ArrayWrite)) ℕ → Result Wiring ℕ
+abbrev pub with_parts : Result (List Cell) ℕ → Result (List OutputDrive) ℕ → Result (List RegDrive) ℕ
+    → Result (List (List ArrayWrite)) ℕ → Result Wiring ℕ
 with_parts (Err line) os rs bs = Err line
 with_parts (Ok cs) (Err line) rs bs = Err line
 with_parts (Ok cs) (Ok os) (Err line) bs = Err line

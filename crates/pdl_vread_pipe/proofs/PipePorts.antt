@@ -94,7 +94,9 @@ at_front k ws w rest h =
     (cc, cc)
 
 -- memories are found again by their names, words and addresses
-again : (ds : List PortMem) (k : ℕ) (ws bs : List ℕ) → drop k ws ≡ map (λ m. m.width) ds → drop k bs ≡ map (λ m. m.bits) ds → mems_from k (map (λ m. m.name) ds) ws bs ≡ ds
+again : (ds : List PortMem) (k : ℕ) (ws bs : List ℕ)
+    → drop k ws ≡ map (λ m. m.width) ds → drop k bs ≡ map (λ m. m.bits) ds
+    → mems_from k (map (λ m. m.name) ds) ws bs ≡ ds
 again [] k ws bs h g = refl
 again (m ∷ ms) k ws bs h g =
     let make : ℕ → ℕ → PortMem = λ w b. record { name = m.name; width = w; bits = b } in

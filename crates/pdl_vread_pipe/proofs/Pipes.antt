@@ -89,12 +89,16 @@ sizes_are d l e h =
 sizes_same : (d l : PortMem) → d ≡ l → spec.same_sizes d l ≡ true
 sizes_same d l e = and_from _ _ (eq-eqb d.width l.width (ap (λ m. m.width) e)) (eq-eqb d.bits l.bits (ap (λ m. m.bits) e))
 
-agree_is : (delayed locked : List PortMem) → list_all (spec.all_agree locked) delayed ≡ true → (d l : PortMem) → Contains delayed d → Contains locked l → d.name ≡ l.name → d ≡ l
+agree_is : (delayed locked : List PortMem)
+    → list_all (spec.all_agree locked) delayed ≡ true → (d l : PortMem) → Contains delayed d → Contains locked l
+    → d.name ≡ l.name → d ≡ l
 agree_is delayed locked h d l c k e =
     let a : spec.agrees d l ≡ true = at_element (spec.agrees d) locked l (at_element (spec.all_agree locked) delayed d h c) k in
     sizes_are d l e (ap (λ b. cond b (spec.same_sizes d l) true) (sym (same_bytes d.name l.name e)) ∙ a)
 
-is_agree : (delayed locked : List PortMem) → ((d l : PortMem) → Contains delayed d → Contains locked l → d.name ≡ l.name → d ≡ l) → list_all (spec.all_agree locked) delayed ≡ true
+is_agree : (delayed locked : List PortMem)
+    → ((d l : PortMem) → Contains delayed d → Contains locked l → d.name ≡ l.name → d ≡ l)
+    → list_all (spec.all_agree locked) delayed ≡ true
 is_agree delayed locked h = each_element (spec.all_agree locked) delayed (λ d c. each_element (spec.agrees d) locked (λ l k. cond_both (bytes_eq d.name l.name) (spec.same_sizes d l) true (λ b. b ≡ true) (λ e. sizes_same d l (h d l c k (bytes_same d.name l.name e))) (λ e. refl)))
 
 -- ---- arrays
@@ -124,13 +128,17 @@ is_depth b d (inl e) = or_left _ _ (eq-eqb d (2 ^ b) e)
 is_depth b d (inr e) = or_right _ _ (eq-eqb d (2 * 2 ^ b) e)
 
 -- what the test of a locked memory says where it has the array's name
-lock_is : (a : Array) (m : PortMem) → spec.fits_lock a m ≡ true → m.name ≡ a.name → (a.width ≡ m.width) × ((a.depth ≡ 2 ^ m.bits) ⊎ (a.depth ≡ 2 * 2 ^ m.bits))
+lock_is : (a : Array) (m : PortMem)
+    → spec.fits_lock a m ≡ true → m.name ≡ a.name
+    → (a.width ≡ m.width) × ((a.depth ≡ 2 ^ m.bits) ⊎ (a.depth ≡ 2 * 2 ^ m.bits))
 lock_is a m h e =
     let k : eqb a.width m.width && spec.has_depth m.bits a.depth ≡ true = ap (λ b. cond b (eqb a.width m.width && spec.has_depth m.bits a.depth) true) (sym (same_bytes m.name a.name e)) ∙ h in
     let p = and_parts (eqb a.width m.width) (spec.has_depth m.bits a.depth) k in
     (eqb-true a.width m.width p.0, depth_is m.bits a.depth p.1)
 
-is_lock : (a : Array) (m : PortMem) → (m.name ≡ a.name → a.width ≡ m.width) → (m.name ≡ a.name → (a.depth ≡ 2 ^ m.bits) ⊎ (a.depth ≡ 2 * 2 ^ m.bits)) → spec.fits_lock a m ≡ true
+is_lock : (a : Array) (m : PortMem)
+    → (m.name ≡ a.name → a.width ≡ m.width) → (m.name ≡ a.name → (a.depth ≡ 2 ^ m.bits) ⊎ (a.depth ≡ 2 * 2 ^ m.bits))
+    → spec.fits_lock a m ≡ true
 is_lock a m w d = cond_both (bytes_eq m.name a.name) (eqb a.width m.width && spec.has_depth m.bits a.depth) true (λ b. b ≡ true)
     (λ e. let n = bytes_same m.name a.name e in and_from _ _ (eq-eqb a.width m.width (w n)) (is_depth m.bits a.depth (d n))) (λ e. refl)
 
@@ -138,14 +146,18 @@ unwritten_is : (ws : List WritePort) → spec.is_unwritten ws ≡ true → ws �
 unwritten_is [] h = refl
 unwritten_is (w ∷ ws) h = absurd (true≢false (sym h))
 
-unlocked_is : (a : Array) (locked : List PortMem) → (list_any (spec.is_named a.name) locked || (leb a.depth 65536 && spec.is_unwritten a.writes)) ≡ true → All (λ m. m.name ≢ a.name) locked → (a.depth ≤ 65536) × (a.writes ≡ [])
+unlocked_is : (a : Array) (locked : List PortMem)
+    → (list_any (spec.is_named a.name) locked || (leb a.depth 65536 && spec.is_unwritten a.writes)) ≡ true
+    → All (λ m. m.name ≢ a.name) locked → (a.depth ≤ 65536) × (a.writes ≡ [])
 unlocked_is a locked h none = go (or_cases (list_any (spec.is_named a.name) locked) (leb a.depth 65536 && spec.is_unwritten a.writes) h)
   where
     go : (list_any (spec.is_named a.name) locked ≡ true) ⊎ (leb a.depth 65536 && spec.is_unwritten a.writes ≡ true) → (a.depth ≤ 65536) × (a.writes ≡ [])
     go (inl e) = absurd (unnamed_clash a.name locked e none)
     go (inr e) = let p = and_parts (leb a.depth 65536) (spec.is_unwritten a.writes) e in (leb-true a.depth 65536 p.0, unwritten_is a.writes p.1)
 
-is_unlocked : (a : Array) (locked : List PortMem) → (All (λ m. m.name ≢ a.name) locked → (a.depth ≤ 65536) × (a.writes ≡ [])) → (list_any (spec.is_named a.name) locked || (leb a.depth 65536 && spec.is_unwritten a.writes)) ≡ true
+is_unlocked : (a : Array) (locked : List PortMem)
+    → (All (λ m. m.name ≢ a.name) locked → (a.depth ≤ 65536) × (a.writes ≡ []))
+    → (list_any (spec.is_named a.name) locked || (leb a.depth 65536 && spec.is_unwritten a.writes)) ≡ true
 is_unlocked a locked h = go (list_any (spec.is_named a.name) locked) refl
   where
     go : (b : Bool) → list_any (spec.is_named a.name) locked ≡ b → (b || (leb a.depth 65536 && spec.is_unwritten a.writes)) ≡ true
@@ -244,7 +256,8 @@ passed n s h =
       count = let i = length_mems s.delayed s.locked n.arrays in omega (arith, i, few);
     }
 
-passes : (n : Netlist) (ms : List MemInfo) (p : IsPipe (with_mems n ms)) → spec.is_pipe n (record { stages = p.stages; delayed = p.delayed; locked = p.locked }) ≡ true
+passes : (n : Netlist) (ms : List MemInfo) (p : IsPipe (with_mems n ms))
+    → spec.is_pipe n (record { stages = p.stages; delayed = p.delayed; locked = p.locked }) ≡ true
 passes n ms p =
     let i : length ms ≡ length p.delayed + length n.arrays = ap length p.mems ∙ length_mems p.delayed p.locked n.arrays in
     let few = p.count in

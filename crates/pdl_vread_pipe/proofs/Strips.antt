@@ -34,12 +34,14 @@ strip_none p s h = go (strip p s) refl
     go None e = refl
     go (Some x) e = absurd (h x (strip_some p s x e))
 
-stripped_as : (p s : List ℕ) (r : Option (Bor (List ℕ))) → MatchOption r ((rest : List ℕ) → s ≢ p ++ rest) (λ x. s ≡ p ++ x.now) → option_copied r ≡ strip p s
+stripped_as : (p s : List ℕ) (r : Option (Bor (List ℕ)))
+    → MatchOption r ((rest : List ℕ) → s ≢ p ++ rest) (λ x. s ≡ p ++ x.now) → option_copied r ≡ strip p s
 stripped_as p s None h = strip_none p s h
 stripped_as p s (Some x) h = sym (ap (strip p) h ∙ strip_of p x.now)
 
 -- what is left of a name after a prefix
-pub stripped : (s p : List ℕ) (r : Option (Bor (List ℕ))) → MatchOption r (pointwise nat_eq (take (length p) s) p ≡ false) (λ x. (pointwise nat_eq (take (length p) s) p ≡ true) × (x.now ≡ drop (length p) s) × (length x.now + length p ≡ length s))
+pub stripped : (s p : List ℕ) (r : Option (Bor (List ℕ)))
+    → MatchOption r (pointwise nat_eq (take (length p) s) p ≡ false) (λ x. (pointwise nat_eq (take (length p) s) p ≡ true) × (x.now ≡ drop (length p) s) × (length x.now + length p ≡ length s))
     → option_copied r ≡ strip p s
 stripped s p r h = stripped_as p s r (strip_prefix_is Decides-eqb s p r h)
 
@@ -53,7 +55,7 @@ same_front p x y =
     let b = bytes_eq-Decides (p ++ x) (p ++ y) in
     same_from_decides _ _ a (λ e. front-cancel p x y (b.0 e), λ e. b.1 (ap (λ z. p ++ z) e))
 
-named_some : (s p y x : List ℕ) → Some x ≡ strip p s → bytes_eq x y ≡ bytes_eq s (p ++ y)
+pub named_some : (s p y x : List ℕ) → Some x ≡ strip p s → bytes_eq x y ≡ bytes_eq s (p ++ y)
 named_some s p y x e = same_front p x y ∙ ap (λ z. bytes_eq z (p ++ y)) (sym (strip_some p s x (sym e)))
 
 pub named_none : (s p y : List ℕ) → None ≡ strip p s → false ≡ bytes_eq s (p ++ y)
@@ -67,7 +69,7 @@ pub ruleset named = (named_some, named_none)
 
 -- ---- ports
 
-after_cons : (e : Head) (es hs ls : List Head) → Some ls ≡ after (e ∷ []) hs → after es ls ≡ after (e ∷ es) hs
+pub after_cons : (e : Head) (es hs ls : List Head) → Some ls ≡ after (e ∷ []) hs → after es ls ≡ after (e ∷ es) hs
 after_cons e es [] ls h = cc
 after_cons e es (x ∷ xs) ls h = go (same e x) h
   where
@@ -75,7 +77,7 @@ after_cons e es (x ∷ xs) ls h = go (same e x) h
     go true h = let i : ls ≡ xs = cc in ap (after es) i
     go false h = cc
 
-stop_cons : (e : Head) (es hs : List Head) → None ≡ after (e ∷ []) hs → None ≡ after (e ∷ es) hs
+pub stop_cons : (e : Head) (es hs : List Head) → None ≡ after (e ∷ []) hs → None ≡ after (e ∷ es) hs
 stop_cons e es [] h = refl
 stop_cons e es (x ∷ xs) h = go (same e x) h
   where
@@ -123,15 +125,21 @@ module _ {A : Type 0} (f : A → List Head) where
 range_more : (k n : ℕ) → k < n → range_with_len k (n - k) ≡ k ∷ range_with_len (k + 1) (n - (k + 1))
 range_more k n h = let e : n - k ≡ suc (n - (k + 1)) = omega arith in ap (range_with_len k) e
 
-stage_one : (k n : ℕ) → k < n → flat_map stage_ports (range_with_len k (n - k)) ≡ stage_ports k ++ flat_map stage_ports (range_with_len (k + 1) (n - (k + 1)))
+stage_one : (k n : ℕ)
+    → k < n
+    → flat_map stage_ports (range_with_len k (n - k)) ≡ stage_ports k ++ flat_map stage_ports (range_with_len (k + 1) (n - (k + 1)))
 stage_one k n h = ap (flat_map stage_ports) (range_more k n h)
 
 -- after the ports of stage k, those of the later stages are expected
-pub stage_more : (k n : ℕ) (hs ls : List Head) (whole : Option (List Head)) → k < n → Some ls ≡ after (stage_ports k) hs → after (flat_map stage_ports (range_with_len k (n - k))) hs ≡ whole → after (flat_map stage_ports (range_with_len (k + 1) (n - (k + 1)))) ls ≡ whole
+pub stage_more : (k n : ℕ) (hs ls : List Head) (whole : Option (List Head))
+    → k < n → Some ls ≡ after (stage_ports k) hs → after (flat_map stage_ports (range_with_len k (n - k))) hs ≡ whole
+    → after (flat_map stage_ports (range_with_len (k + 1) (n - (k + 1)))) ls ≡ whole
 stage_more k n hs ls whole l e h = after_both (stage_ports k) (flat_map stage_ports (range_with_len (k + 1) (n - (k + 1)))) hs ls e ∙ (ap (λ z. after z hs) (sym (stage_one k n l)) ∙ h)
 
 -- where the ports don't begin with those of stage k, they don't with those of the stages from it on
-pub stage_stop : (k n : ℕ) (hs : List Head) (whole : Option (List Head)) → k < n → None ≡ after (stage_ports k) hs → after (flat_map stage_ports (range_with_len k (n - k))) hs ≡ whole → None ≡ whole
+pub stage_stop : (k n : ℕ) (hs : List Head) (whole : Option (List Head))
+    → k < n → None ≡ after (stage_ports k) hs → after (flat_map stage_ports (range_with_len k (n - k))) hs ≡ whole
+    → None ≡ whole
 stage_stop k n hs whole l e h = after_stop (stage_ports k) (flat_map stage_ports (range_with_len (k + 1) (n - (k + 1)))) hs e ∙ (ap (λ z. after z hs) (sym (stage_one k n l)) ∙ h)
 
 pub ruleset all_of_them = (flat_more, flat_stop, flat_end)
@@ -139,13 +147,17 @@ pub ruleset all_of_them = (flat_more, flat_stop, flat_end)
 -- ---- what ports tell
 
 -- with the i-th port the names after a prefix are those of the ports before it, and its own
-pub names_more : (prefix : List ℕ) (ports : List Port) (i : ℕ) (d : Port) → i < length ports → names prefix (heads (take (i + 1) ports)) ≡ names prefix (heads (take i ports)) ++ names prefix (head_of (get_or ports i d) ∷ [])
+pub names_more : (prefix : List ℕ) (ports : List Port) (i : ℕ) (d : Port)
+    → i < length ports
+    → names prefix (heads (take (i + 1) ports)) ≡ names prefix (heads (take i ports)) ++ names prefix (head_of (get_or ports i d) ∷ [])
 names_more prefix ports i d h =
     let f : Head → Option (List ℕ) = λ x. strip prefix x.name in
     ap (filter_map f) (map_more head_of ports i d h) ∙ filter_map-append f (heads (take i ports)) (head_of (get_or ports i d) ∷ [])
 
 -- with the i-th port the widths for a prefix are those of the ports before it, and its own
-pub widths_more : (prefix : List ℕ) (ports : List Port) (i : ℕ) (d : Port) → i < length ports → widths prefix (heads (take (i + 1) ports)) ≡ widths prefix (heads (take i ports)) ++ widths prefix (head_of (get_or ports i d) ∷ [])
+pub widths_more : (prefix : List ℕ) (ports : List Port) (i : ℕ) (d : Port)
+    → i < length ports
+    → widths prefix (heads (take (i + 1) ports)) ≡ widths prefix (heads (take i ports)) ++ widths prefix (head_of (get_or ports i d) ∷ [])
 widths_more prefix ports i d h =
     let f : Head → Option ℕ = λ x. option_map (λ _. x.width) (strip prefix x.name) in
     ap (filter_map f) (map_more head_of ports i d h) ∙ filter_map-append f (heads (take i ports)) (head_of (get_or ports i d) ∷ [])

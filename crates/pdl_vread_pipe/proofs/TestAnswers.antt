@@ -13,7 +13,8 @@ use Rattle.pdl_vread_pipe.specs.Tests as spec
 use Rattle.pdl_vread_pipe.specs.Tests.{judged}
 
 -- where the tests pass, the netlist is judged to have the memories that its ports and arrays tell
-pub taken : (n : Netlist) (s : Shape) (ms : List MemInfo) → s ≡ told (heads n.ports) → spec.is_pipe n s ≡ true → ms ≡ mems_of s.delayed s.locked n.arrays → Some ms ≡ judged n
+pub taken : (n : Netlist) (s : Shape) (ms : List MemInfo)
+    → s ≡ told (heads n.ports) → spec.is_pipe n s ≡ true → ms ≡ mems_of s.delayed s.locked n.arrays → Some ms ≡ judged n
 unfolding judged
 taken n s ms e h m =
     let P : Shape → Type 0 = λ t. Some ms ≡ cond (spec.is_pipe n t) (Some (mems_of t.delayed t.locked n.arrays)) None in

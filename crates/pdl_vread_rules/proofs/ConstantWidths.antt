@@ -26,5 +26,7 @@ unfolding mask
 fits_word v w m e h = ap (leb v) e ∙ (below v w ∙ ap (λ b. b && ltb v (2 ^ w)) (sym h))
 
 -- with the i-th port the widths of inputs are those of the ports before it, and its own, if it is one
-pub inputs_more : (ports : List PortDecl) (i : ℕ) (d : PortDecl) → i < length ports → filter_map input_width (take (i + 1) ports) ≡ filter_map input_width (take i ports) ++ filter_map input_width (get_or ports i d ∷ [])
+pub inputs_more : (ports : List PortDecl) (i : ℕ) (d : PortDecl)
+    → i < length ports
+    → filter_map input_width (take (i + 1) ports) ≡ filter_map input_width (take i ports) ++ filter_map input_width (get_or ports i d ∷ [])
 inputs_more ports i d h = ap (filter_map input_width) (take_more ports i d h) ∙ filter_map-append input_width (take i ports) (get_or ports i d ∷ [])

@@ -22,7 +22,8 @@ abbrev pub inside : ArrayBlock → List ArrayWrite → List Asked
 inside b ws = both (write_once (owner ws)) b.writes ws
 
 -- a block whose array is new to a set of arrays
-pub is_other : (before : List ℕ) (ws : List ArrayWrite) (m : ℕ) (b : Bool) → m ≡ owner ws → b ≡ true → b ≡ not (list_any (λ k. m == k) before) → has_owner before ws ≡ false
+pub is_other : (before : List ℕ) (ws : List ArrayWrite) (m : ℕ) (b : Bool)
+    → m ≡ owner ws → b ≡ true → b ≡ not (list_any (λ k. m == k) before) → has_owner before ws ≡ false
 is_other before ws m b e t h = go (has_owner before ws) (sym t ∙ (h ∙ ap (λ z. not (list_any (λ k. z == k) before)) e))
   where
     go : (r : Bool) → true ≡ not r → r ≡ false
@@ -30,7 +31,8 @@ is_other before ws m b e t h = go (has_owner before ws) (sym t ∙ (h ∙ ap (λ
     go false k = refl
 
 -- a block of array m that isn't the first of m has its array among those before
-pub is_second : (before : List ℕ) (ws : List ArrayWrite) (m : ℕ) (b : Bool) → m ≡ owner ws → b ≡ false → b ≡ not (list_any (λ k. m == k) before) → has_owner before ws ≡ true
+pub is_second : (before : List ℕ) (ws : List ArrayWrite) (m : ℕ) (b : Bool)
+    → m ≡ owner ws → b ≡ false → b ≡ not (list_any (λ k. m == k) before) → has_owner before ws ≡ true
 is_second before ws m b e t h = go (has_owner before ws) (sym t ∙ (h ∙ ap (λ z. not (list_any (λ k. z == k) before)) e))
   where
     go : (r : Bool) → false ≡ not r → r ≡ true
@@ -38,12 +40,15 @@ is_second before ws m b e t h = go (has_owner before ws) (sym t ∙ (h ∙ ap (�
     go false k = cc
 
 -- its array goes last
-pub added : (before after : List ℕ) (ws : List ArrayWrite) (m : ℕ) → m ≡ owner ws → has_owner before ws ≡ false → after ≡ cond (list_any (λ k. m == k) before) before (before ++ m ∷ []) → after ≡ before ++ owner ws ∷ []
+pub added : (before after : List ℕ) (ws : List ArrayWrite) (m : ℕ)
+    → m ≡ owner ws → has_owner before ws ≡ false
+    → after ≡ cond (list_any (λ k. m == k) before) before (before ++ m ∷ []) → after ≡ before ++ owner ws ∷ []
 added before after ws m e r h =
     h ∙ (ap (λ z. cond (list_any (λ k. z == k) before) before (before ++ z ∷ [])) e ∙ ap (λ b. cond b before (before ++ owner ws ∷ [])) r)
 
 -- what is wrong among a block's writes to m is what is wrong inside the block, where m is its array
-pub same_inside : (b : ArrayBlock) (ws : List ArrayWrite) (m : ℕ) (xs : List WriteDecl) (ys : List ArrayWrite) → m ≡ owner ws → xs ≡ b.writes → ys ≡ ws → first_wrong (both (write_once m) xs ys) ≡ first_wrong (inside b ws)
+pub same_inside : (b : ArrayBlock) (ws : List ArrayWrite) (m : ℕ) (xs : List WriteDecl) (ys : List ArrayWrite)
+    → m ≡ owner ws → xs ≡ b.writes → ys ≡ ws → first_wrong (both (write_once m) xs ys) ≡ first_wrong (inside b ws)
 same_inside b ws m xs ys e f g =
     ap (λ z. first_wrong (both (write_once z) xs ys)) e ∙ (ap (λ z. first_wrong (both (write_once (owner ws)) z ys)) f ∙ ap (λ z. first_wrong (both (write_once (owner ws)) b.writes z)) g)
 
@@ -75,7 +80,9 @@ no_more before [] = refl
 no_more before (b ∷ bs) = refl
 
 -- past the last block of arrays nothing is wrong
-pub blocks_end : (bs : List ArrayBlock) (more : List (List ArrayWrite)) (i : ℕ) (before : List ℕ) (whole : Option ℕ) → i ≡ min (length bs) (length more) → first_wrong (blocks_once before (drop i bs) (drop i more)) ≡ whole → whole ≡ None
+pub blocks_end : (bs : List ArrayBlock) (more : List (List ArrayWrite)) (i : ℕ) (before : List ℕ) (whole : Option ℕ)
+    → i ≡ min (length bs) (length more) → first_wrong (blocks_once before (drop i bs) (drop i more)) ≡ whole
+    → whole ≡ None
 blocks_end bs more i before whole e w = sym w ∙ ap first_wrong (go (cases_lt (length more) (length bs)))
   where
     go : (length more < length bs) ⊎ (length bs ≤ length more) → blocks_once before (drop i bs) (drop i more) ≡ []

@@ -10,7 +10,8 @@ use Rattle.pdl_vread_rules.specs.Widths.{widths_of, declared_questions, driven_q
 use Rattle.pdl_vread_rules.specs.RuleQuestions.{Asked, first_wrong, both, Tells}
 
 -- where the first are right the first wrong is among the others
-rest_tells : (xs ys : List Asked) (r : Result (Unit {0}) Stop) → first_wrong xs ≡ None → Tells (first_wrong ys) r → Tells (first_wrong (xs ++ ys)) r
+pub rest_tells : (xs ys : List Asked) (r : Result (Unit {0}) Stop)
+    → first_wrong xs ≡ None → Tells (first_wrong ys) r → Tells (first_wrong (xs ++ ys)) r
 rest_tells [] ys r h t = t
 rest_tells (a ∷ xs) ys r h t = go a.right (rest_tells xs ys r) h
   where
@@ -72,11 +73,13 @@ pub ruleset pairs = (pair_more, pair_stop, pair_end)
 -- ---- all of V3
 
 -- where no declaration is wrong, what is told of cells, `assign`s and blocks is told of all that V3 asks
-pub all_rest : (f : File) (w : Wiring) (r : Result (Unit {0}) Stop) → first_wrong (declared_questions f) ≡ None → Tells (first_wrong (driven_questions f (widths_of f) w)) r → Tells (width_line f w) r
+pub all_rest : (f : File) (w : Wiring) (r : Result (Unit {0}) Stop)
+    → first_wrong (declared_questions f) ≡ None → Tells (first_wrong (driven_questions f (widths_of f) w)) r
+    → Tells (width_line f w) r
 unfolding width_line
 all_rest f w r h t = rest_tells (declared_questions f) (driven_questions f (widths_of f) w) r h t
 
-all_front : (f : File) (w : Wiring) (e : Stop) → Tells (first_wrong (declared_questions f)) (Err e) → Tells (width_line f w) (Err e)
+pub all_front : (f : File) (w : Wiring) (e : Stop) → Tells (first_wrong (declared_questions f)) (Err e) → Tells (width_line f w) (Err e)
 unfolding width_line
 all_front f w e h = front_tells (declared_questions f) (driven_questions f (widths_of f) w) e h
 

@@ -29,14 +29,17 @@ module _ {A : Type 0} (ask : List A → A → Asked) where
       sym w ∙ (ap first_wrong (one_turn xs i x h) ∙ (ap (λ b. cond b (first_wrong rest) (Some a.line)) r ∙ ap Some (sym m)))
 
 -- the names of the first declarations and of the next one
-pub names_more : {A : Type 0} (name : A → List ℕ) (xs : List A) (i j : ℕ) (x : A) → i < length xs → j ≡ i + 1 → x ≡ get_or xs i x → map name (take i xs) ++ name x ∷ [] ≡ map name (take j xs)
+pub names_more : {A : Type 0} (name : A → List ℕ) (xs : List A) (i j : ℕ) (x : A)
+    → i < length xs → j ≡ i + 1 → x ≡ get_or xs i x → map name (take i xs) ++ name x ∷ [] ≡ map name (take j xs)
 names_more name xs i j x h m e =
     ap (λ z. map name (take i xs) ++ name z ∷ []) e
     ∙ sym (ap (λ n. map name (take n xs)) m ∙ (ap (map name) (take_more xs i x h) ∙ map-append name (take i xs) (get_or xs i x ∷ [])))
 
 -- what is asked of a port, where its drives are counted
-pub port_right : (drives : List OutputDrive) (ps : List PortDecl) (i count : ℕ) (p : PortDecl) (b : Bool) → i < length ps → p ≡ get_or ps i p → count ≡ output_drives drives i
-    → b ≡ (is_new (map (λ q. q.name) (take i ps)) p.name && (p.input || count == 1)) → (port_once drives (take i ps) (get_or ps i p)).right ≡ b
+pub port_right : (drives : List OutputDrive) (ps : List PortDecl) (i count : ℕ) (p : PortDecl) (b : Bool)
+    → i < length ps → p ≡ get_or ps i p → count ≡ output_drives drives i
+    → b ≡ (is_new (map (λ q. q.name) (take i ps)) p.name && (p.input || count == 1))
+    → (port_once drives (take i ps) (get_or ps i p)).right ≡ b
 port_right drives ps i count p b h e k r =
     let names = map (λ (q : PortDecl). q.name) (take i ps) in
     let l : length (take i ps) ≡ i = length-take-le i ps (omega arith) in
@@ -45,8 +48,10 @@ port_right drives ps i count p b h e k r =
     ∙ ap (λ (z : PortDecl). is_new names z.name && (z.input || output_drives drives (length (take i ps)) == 1)) e))
 
 -- what is asked of a register, where its drives are counted
-pub reg_right : (drives : List RegDrive) (ds : List RegDecl) (i count : ℕ) (d : RegDecl) (b : Bool) → i < length ds → d ≡ get_or ds i d → count ≡ reg_drives drives i
-    → b ≡ (is_new (map (λ q. q.name) (take i ds)) d.name && count == 1) → (reg_once drives (take i ds) (get_or ds i d)).right ≡ b
+pub reg_right : (drives : List RegDrive) (ds : List RegDecl) (i count : ℕ) (d : RegDecl) (b : Bool)
+    → i < length ds → d ≡ get_or ds i d → count ≡ reg_drives drives i
+    → b ≡ (is_new (map (λ q. q.name) (take i ds)) d.name && count == 1)
+    → (reg_once drives (take i ds) (get_or ds i d)).right ≡ b
 reg_right drives ds i count d b h e k r =
     let names = map (λ (q : RegDecl). q.name) (take i ds) in
     let l : length (take i ds) ≡ i = length-take-le i ds (omega arith) in

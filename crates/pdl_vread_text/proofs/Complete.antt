@@ -75,7 +75,8 @@ pub record Ends (part : Part) : Type 0 where
   pub derives : Derives part row rules
 
 -- a part ends by a rule, and what ends the part after it
-by : (part : Part) (rule : Rule) (g : Field) (gs : List Field) → fields rule ≡ g ∷ gs → chosen part (example g) ≡ Some rule → Ends (next rule) → Ends part
+by : (part : Part) (rule : Rule) (g : Field) (gs : List Field)
+    → fields rule ≡ g ∷ gs → chosen part (example g) ≡ Some rule → Ends (next rule) → Ends part
 unfolding examples
 by part rule g gs e h k = record {
   row = examples (g ∷ gs) ++ k.row;
@@ -127,7 +128,8 @@ pub record Rest (part : Part) (front : Row) : Type 0 where
   pub derives : Derives part (front ++ row) rules
 
 -- a rule that was begun, and the file after it, can be ended
-pub rest : (part : Part) (rule : Rule) (t : Token) (ts : Row) (done later : List Field) → chosen part t.text ≡ Some rule → fields rule ≡ done ++ later → AllFit done (t ∷ ts) → Rest part (t ∷ ts)
+pub rest : (part : Part) (rule : Rule) (t : Token) (ts : Row) (done later : List Field)
+    → chosen part t.text ≡ Some rule → fields rule ≡ done ++ later → AllFit done (t ∷ ts) → Rest part (t ∷ ts)
 rest part rule t ts done later e parts a =
     let k = ends (next rule) in
     record {

@@ -27,7 +27,8 @@ pub record Onward (done : List Taken) (part : Part) (left : Row) (rs : List Take
   pub rules : rs ≡ done ++ more
 
 -- the rules that lead to a part, and those from it on, are a file's
-lead_on : (done : List Taken) (part : Part) (left : Row) (rs : List Taken) → Leads done part → Derives part left rs → Derives p.Start (all_found done ++ left) (done ++ rs)
+lead_on : (done : List Taken) (part : Part) (left : Row) (rs : List Taken) → Leads done part → Derives part left rs
+    → Derives p.Start (all_found done ++ left) (done ++ rs)
 lead_on [] p.Start left rs here d = d
 lead_on _ _ left rs (further {done = done} {part = part} t l c) d =
     let k : Derives part (t.found ++ left) (t ∷ rs) =
@@ -47,7 +48,8 @@ same_front _ _ _ a b (more {gs = gs} {t = x} {ts = xs} h i) (more {t = y} {ts = 
     (ap (λ z. z ∷ xs) r ∙ ap (λ z. y ∷ z) s.0, s.1)
 
 -- a rule that comes at a part is the one by which a file goes on there
-come_off : (part : Part) (t : Taken) (left : Row) (rs : List Taken) (all : Row) → Comes part t → all ≡ t.found ++ left → Derives part all rs → Onward (t ∷ []) (next t.rule) left rs
+come_off : (part : Part) (t : Taken) (left : Row) (rs : List Taken) (all : Row) → Comes part t
+    → all ≡ t.found ++ left → Derives part all rs → Onward (t ∷ []) (next t.rule) left rs
 come_off _ t left _ _ c e finished = absurd (empty t.found c.token c.more c.found e)
   where
     empty : (f : Row) (u : Token) (us : Row) → f ≡ u ∷ us → [] ≡ f ++ left → ⊥
@@ -65,7 +67,8 @@ come_off part t left _ _ c e (goes {rule = rule} {t = u} {ts = us} {rest = later
     }
 
 -- a file that begins with the tokens that lead to a part goes on from it
-cancel : (done : List Taken) (part : Part) (left : Row) (rs : List Taken) → Leads done part → Derives p.Start (all_found done ++ left) rs → Onward done part left rs
+cancel : (done : List Taken) (part : Part) (left : Row) (rs : List Taken) → Leads done part
+    → Derives p.Start (all_found done ++ left) rs → Onward done part left rs
 cancel [] p.Start left rs here d = record { more = rs; derives = d; rules = refl }
 cancel _ _ left rs (further {done = done} {part = part} t l c) d =
     let a : all_found (done ++ t ∷ []) ++ left ≡ all_found done ++ (t.found ++ left) = ap (λ x. x ++ left) (all_found_more done t) ∙ append_assoc (all_found done) t.found left in
@@ -99,7 +102,8 @@ unfit_first later g xs a (t ∷ ts) i s u =
     let j : true ≡ false = sym o.fits ∙ (ap (λ y. fits g y.text) same ∙ u) in cc
 
 -- the rule that a part begins, where its tokens are not what is asked
-no_fit : (done later : List Field) (g : Field) (xs front a left : Row) → AllFit (done ++ g ∷ later) xs → AllFit done front → xs ++ a ≡ front ++ left → IsUnfit g left → ⊥
+no_fit : (done later : List Field) (g : Field) (xs front a left : Row) → AllFit (done ++ g ∷ later) xs
+    → AllFit done front → xs ++ a ≡ front ++ left → IsUnfit g left → ⊥
 no_fit _ later g xs _ a left i none s u = unfit_first later g xs a left i s u
 no_fit _ later g xs _ a left i (more {g = h} {gs = hs} {t = y} {ts = ys} j k) s u =
     let o = one_off h (hs ++ g ∷ later) xs i in
@@ -108,7 +112,9 @@ no_fit _ later g xs _ a left i (more {g = h} {gs = hs} {t = y} {ts = ys} j k) s 
     no_fit hs later g o.row ys a left o.fit k q u
 
 -- the first tokens of a rule that was begun
-first_of : (rule : Rule) (part : Part) (old front left : Row) → chosen_at part old ≡ Some rule → Stopped (fields rule) old front left → record { token : Token; more : Row; front : front ≡ token ∷ more; chosen : chosen part token.text ≡ Some rule }
+first_of : (rule : Rule) (part : Part) (old front left : Row)
+    → chosen_at part old ≡ Some rule → Stopped (fields rule) old front left
+    → record { token : Token; more : Row; front : front ≡ token ∷ more; chosen : chosen part token.text ≡ Some rule }
 first_of rule part [] front left e s = cc
 first_of rule part (t ∷ ts) [] left e s = absurd (go s.done s.fit s.parts)
   where
@@ -141,7 +147,8 @@ chosen_like part [] (v ∷ vs) l e = absurd l
 chosen_like part (t ∷ ts) [] l e = absurd l
 
 -- no file goes on from a part at which the reader is stuck
-stuck_no : (part : Part) (front left others : Row) (rs : List Taken) → IsStuck part front left → IsLike left others → Derives part (front ++ others) rs → ⊥
+stuck_no : (part : Part) (front left others : Row) (rs : List Taken) → IsStuck part front left → IsLike left others
+    → Derives part (front ++ others) rs → ⊥
 stuck_no part [] left others rs (nothing n e) l d = go part others rs n (chosen_like part left others l e) d
   where
     go : (q : Part) (x : Row) (rs : List Taken) → q ≢ p.Finished → chosen_at q x ≡ None → Derives q x rs → ⊥
@@ -171,7 +178,8 @@ stuck_rest part front left (inside {rule = rule} {old = old} e s) =
 -- ---- what is told
 
 -- where rules stop at a token of a text, the first token out of place stands on its line
-pub misplaced : (bytes : List ℕ) (new : Row) (line : ℕ) → AreStopped (tokens bytes) new → line ≡ line_of new (last_line bytes) → IsOutOfPlace bytes line
+pub misplaced : (bytes : List ℕ) (new : Row) (line : ℕ) → AreStopped (tokens bytes) new
+    → line ≡ line_of new (last_line bytes) → IsOutOfPlace bytes line
 misplaced bytes new line h e =
     let k = stuck_rest h.part h.front new h.stuck in
     let front = all_found h.rules ++ h.front in
@@ -209,7 +217,8 @@ none_finished t ts rs d = go p.Finished (t ∷ ts) rs refl refl d
     go _ _ _ e f (goes {t = u} h a d) = let k : None ≡ Some _ = sym (ap (λ y. chosen y u.text) e) ∙ h in cc
 
 -- more tokens after a whole file
-pub after_all : (bytes : List ℕ) (t : Token) (ts : Row) (line : ℕ) (d : Draft) → AreTaken (tokens bytes) (t ∷ ts) d → line ≡ t.line → IsOutOfPlace bytes line
+pub after_all : (bytes : List ℕ) (t : Token) (ts : Row) (line : ℕ) (d : Draft) → AreTaken (tokens bytes) (t ∷ ts) d
+    → line ≡ t.line → IsOutOfPlace bytes line
 after_all bytes t ts line d h e = record {
   front = all_found h.rules;
   after = t ∷ ts;
@@ -233,19 +242,22 @@ whole bytes d h = record {
 }
 
 -- the reader's next token is after a whole file, or there is none
-pub next_after : (bytes : List ℕ) (old new : Row) (t : r.Token) (d : Draft) → old ≡ tokens bytes → AreTaken old new d → maybe_token_view (Some t) ≡ first new → IsOutOfPlace bytes t.line
+pub next_after : (bytes : List ℕ) (old new : Row) (t : r.Token) (d : Draft)
+    → old ≡ tokens bytes → AreTaken old new d → maybe_token_view (Some t) ≡ first new → IsOutOfPlace bytes t.line
 next_after bytes old [] t d o h e = cc
 next_after bytes old (u ∷ us) t d o h e =
     let k : token_view t ≡ u = cc in
     after_all bytes u us t.line d (subst (λ x. AreTaken x (u ∷ us) d) o h) (ap (λ x. x.line) k)
 
 -- a text is one of the file that rules declare, where they leave no token
-pub none_after : (bytes : List ℕ) (old new : Row) (d : Draft) → old ≡ tokens bytes → AreTaken old new d → None ≡ first new → IsFile bytes d.file
+pub none_after : (bytes : List ℕ) (old new : Row) (d : Draft)
+    → old ≡ tokens bytes → AreTaken old new d → None ≡ first new → IsFile bytes d.file
 none_after bytes old [] d o h e = whole bytes d (subst (λ x. AreTaken x [] d) o h)
 none_after bytes old (u ∷ us) d o h e = cc
 
 -- where the reader stops at a token, the first token out of place stands on its line
-pub stopped_there : (bytes : List ℕ) (old new : Row) (line : ℕ) → old ≡ tokens bytes → AreStopped old new → line ≡ line_of new (last_line bytes) → IsOutOfPlace bytes line
+pub stopped_there : (bytes : List ℕ) (old new : Row) (line : ℕ)
+    → old ≡ tokens bytes → AreStopped old new → line ≡ line_of new (last_line bytes) → IsOutOfPlace bytes line
 stopped_there bytes old new line o h e = misplaced bytes new line (subst (λ x. AreStopped x new) o h) e
 
 -- ---- one file, one place

@@ -18,7 +18,8 @@ use Rattle.pdl_vread_text.specs.Read.{IsFitting, Sentence, TakesRules, IsUnfit, 
 -- ---- the tokens of one rule
 
 -- tokens that are what is asked are so with one more that is what is asked next
-pub one_fits : (gs : List Field) (ts : Row) (g : Field) (t : Token) → AllFit gs ts → fits g t.text ≡ true → AllFit (gs ++ g ∷ []) (ts ++ t ∷ [])
+pub one_fits : (gs : List Field) (ts : Row) (g : Field) (t : Token) → AllFit gs ts
+    → fits g t.text ≡ true → AllFit (gs ++ g ∷ []) (ts ++ t ∷ [])
 one_fits _ _ g t none e = more e none
 one_fits _ _ g t (more {gs = hs} {ts = us} d a) e = more d (one_fits hs us g t a e)
 
@@ -60,7 +61,9 @@ all_found_more [] t = append-nil t.found
 all_found_more (u ∷ us) t = ap (λ x. u.found ++ x) (all_found_more us t) ∙ sym (append_assoc u.found (all_found us) t.found)
 
 -- the tokens after a part, from which a rule's were taken
-pub comes : (part : Part) (rule : Rule) (old found new : Row) → chosen_at part old ≡ Some rule → Found (fields rule) old found new → Comes part (record { rule = rule; found = found })
+pub comes : (part : Part) (rule : Rule) (old found new : Row)
+    → chosen_at part old ≡ Some rule → Found (fields rule) old found new
+    → Comes part (record { rule = rule; found = found })
 comes part rule [] found new e f = cc
 comes part rule (t ∷ ts) [] new e f = absurd (no_tokens (fields rule) (chosen_begins part t.text rule e) f.fit)
   where
@@ -71,7 +74,8 @@ comes part rule (t ∷ ts) (u ∷ us) new e f =
     let k : t ≡ u = cc in
     record { token = u; more = us; found = refl; chosen = subst (λ x. chosen part x.text ≡ Some rule) k e; fit = f.fit }
 
-one_more_rule : (old mid found new : Row) (part : Part) (rule : Rule) (d : Draft) → AreSoFar old mid part d → chosen_at part mid ≡ Some rule → Found (fields rule) mid found new
+one_more_rule : (old mid found new : Row) (part : Part) (rule : Rule) (d : Draft) → AreSoFar old mid part d
+    → chosen_at part mid ≡ Some rule → Found (fields rule) mid found new
     → AreSoFar old new (next rule) (taken d rule found)
 one_more_rule old mid found new part rule d h e f =
     let t : Taken = record { rule = rule; found = found } in
@@ -82,7 +86,8 @@ one_more_rule old mid found new part rule d h e f =
       draft = ap (λ x. taken x rule found) h.draft ∙ sym (all_taken_more no_draft h.rules t);
     }
 
-pub fewer_left : (part : Part) (rule : Rule) (old found new : Row) → chosen_at part old ≡ Some rule → Found (fields rule) old found new → length new < length old
+pub fewer_left : (part : Part) (rule : Rule) (old found new : Row)
+    → chosen_at part old ≡ Some rule → Found (fields rule) old found new → length new < length old
 fewer_left part rule old found new e f =
     let k = comes part rule old found new e f in
     let l : length old ≡ length (found ++ new) = ap length f.split in
@@ -102,8 +107,10 @@ pub nothing_found : (ts : Row) (items : List r.Token) → items ≡ [] → (AllF
 nothing_found ts items e = (subst (λ x. AllFit [] (views x)) (sym e) none, ap (λ x. views x ++ ts) (sym e))
 
 -- a token that is what is asked next is found, and those after it are left
-pub one_more_token : (gs : List Field) (i : ℕ) (d : Field) (old mid new : Row) (items others : List r.Token) (t : r.Token) → i < length gs → AllFit (take i gs) (views items) → old ≡ views items ++ mid
-    → IsFitting mid (get_or gs i d) (Some t) → new ≡ skipped mid → others ≡ items ++ t ∷ [] → (AllFit (take (i + 1) gs) (views others)) × (old ≡ views others ++ new)
+pub one_more_token : (gs : List Field) (i : ℕ) (d : Field) (old mid new : Row) (items others : List r.Token) (t : r.Token)
+    → i < length gs → AllFit (take i gs) (views items) → old ≡ views items ++ mid
+    → IsFitting mid (get_or gs i d) (Some t) → new ≡ skipped mid → others ≡ items ++ t ∷ []
+    → (AllFit (take (i + 1) gs) (views others)) × (old ≡ views others ++ new)
 one_more_token gs i d old [] new items others t l a s f n m = absurd f
 one_more_token gs i d old (u ∷ us) new items others t l a s f n m =
     let g = get_or gs i d in
@@ -115,8 +122,9 @@ one_more_token gs i d old (u ∷ us) new items others t l a s f n m =
     )
 
 -- a rule stops at a token that isn't what is asked next
-pub no_more_token : (gs : List Field) (i : ℕ) (d : Field) (old mid : Row) (items : List r.Token) → i < length gs → AllFit (take i gs) (views items) → old ≡ views items ++ mid
-    → IsFitting mid (get_or gs i d) None → Stopped gs old (views items) mid
+pub no_more_token : (gs : List Field) (i : ℕ) (d : Field) (old mid : Row) (items : List r.Token)
+    → i < length gs → AllFit (take i gs) (views items) → old ≡ views items ++ mid → IsFitting mid (get_or gs i d) None
+    → Stopped gs old (views items) mid
 no_more_token gs i d old mid items l a s f = record {
   done = take i gs;
   field = get_or gs i d;
@@ -136,8 +144,9 @@ pub begun : (ts : Row) (d : Draft) → d ≡ no_draft → AreSoFar ts ts p.Start
 begun ts d e = subst (AreSoFar ts ts p.Start) (sym e) (none_yet ts)
 
 -- where the tokens of the rule that comes at a part stop, so does taking the rule
-pub one_stopped : (old found new : Row) (part : Part) (rule : Rule) (gs : List Field) (d e : Draft) (stop : Stop) → Some rule ≡ chosen_at part old → gs ≡ fields rule
-    → Sentence gs old found new (Err stop) → TakesRule part old new d e (Err stop)
+pub one_stopped : (old found new : Row) (part : Part) (rule : Rule) (gs : List Field) (d e : Draft) (stop : Stop)
+    → Some rule ≡ chosen_at part old → gs ≡ fields rule → Sentence gs old found new (Err stop)
+    → TakesRule part old new d e (Err stop)
 one_stopped old found new part rule gs d e stop.NoMemory c g s = tt
 one_stopped old found new part rule gs d e stop.Misplaced c g s =
     let k : Stopped (fields rule) old found new = subst (λ y. Stopped y old found new) g s in
@@ -148,7 +157,8 @@ pub none_chosen : (part : Part) (old : Row) → None ≡ chosen_at part old → 
 none_chosen part old e = record { front = []; split = refl; stuck = λ n. nothing n (sym e) }
 
 -- the rules taken so far go on with the rule that was taken next
-pub gone_on : (old mid new : Row) (part after : Part) (d e : Draft) → AreSoFar old mid part d → IsTaken part mid new d e after → AreSoFar old new after e
+pub gone_on : (old mid new : Row) (part after : Part) (d e : Draft) → AreSoFar old mid part d
+    → IsTaken part mid new d e after → AreSoFar old new after e
 gone_on old mid new part after d e h t =
     let o = one_more_rule old mid t.row new part t.rule d h t.comes t.front in
     subst (λ x. AreSoFar old new x e) (sym t.goes_on) (subst (AreSoFar old new (next t.rule)) (sym t.draft) o)
@@ -158,7 +168,8 @@ pub fewer : (part after : Part) (old new : Row) (d e : Draft) → IsTaken part o
 fewer part after old new d e t = fewer_left part t.rule old t.row new t.comes t.front
 
 -- where taking the next rule stops before the end of a file, taking all rules does
-pub stopped_so : (old mid new : Row) (part : Part) (d e : Draft) (stop : Stop) → AreSoFar old mid part d → is_finished part ≡ false → TakesRule part mid new d e (Err stop) → TakesRules old new e (Err stop)
+pub stopped_so : (old mid new : Row) (part : Part) (d e : Draft) (stop : Stop) → AreSoFar old mid part d
+    → is_finished part ≡ false → TakesRule part mid new d e (Err stop) → TakesRules old new e (Err stop)
 stopped_so old mid new part d e stop.NoMemory h n s = tt
 stopped_so old mid new part d e stop.Misplaced h n s =
     record { rules = h.rules; part = part; leads = h.leads; front = s.front; split = h.split ∙ ap (λ x. all_found h.rules ++ x) s.split; stuck = s.stuck (not_finished part n) }

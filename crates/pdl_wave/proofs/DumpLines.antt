@@ -54,7 +54,8 @@ changes_read ports (x ∷ xs) =
     ∙ ap (λ more. read_as ports x ∷ more) (changes_read ports xs)
 
 -- the lines of moments, with changes that fit their ports, read as those moments
-pub moments_read : (ports : List WavePort) (ms : List Moment) → Each (CanTell ports) ms → map of_line (flat_map (moment_lines ports) ms) ≡ flat_map (read_moment ports) ms
+pub moments_read : (ports : List WavePort) (ms : List Moment) → Each (CanTell ports) ms
+    → map of_line (flat_map (moment_lines ports) ms) ≡ flat_map (read_moment ports) ms
 moments_read ports [] h = refl
 moments_read ports (m ∷ ms) h =
     map-append of_line (moment_lines ports m) (flat_map (moment_lines ports) ms)
@@ -75,7 +76,8 @@ declarations_lines i [] h = tt
 declarations_lines i (p ∷ ps) h = (declaration_line i p h.0, declarations_lines (suc i) ps h.1)
 
 -- the lines of a header have only bytes above the line feed, where the pipe's name is a word
-pub header_lines : (name : List ℕ) (ports : List WavePort) → is_word name ≡ true → Each IsPort ports → Each (λ line. is_line line ≡ true) (header name ports)
+pub header_lines : (name : List ℕ) (ports : List WavePort)
+    → is_word name ≡ true → Each IsPort ports → Each (λ line. is_line line ≡ true) (header name ports)
 header_lines name ports named each = (
   refl,
   (
@@ -98,7 +100,8 @@ changes_lines ports [] = tt
 changes_lines ports (x ∷ xs) = (change_is_line x.value (width_of ports x.port) x.port, changes_lines ports xs)
 
 -- the lines of moments, with changes that fit their ports, have only bytes above the line feed
-pub moments_lines : (ports : List WavePort) (ms : List Moment) → Each (CanTell ports) ms → Each (λ line. is_line line ≡ true) (flat_map (moment_lines ports) ms)
+pub moments_lines : (ports : List WavePort) (ms : List Moment) → Each (CanTell ports) ms
+    → Each (λ line. is_line line ≡ true) (flat_map (moment_lines ports) ms)
 moments_lines ports [] h = tt
 moments_lines ports (m ∷ ms) h =
     each_append _ (moment_lines ports m) (flat_map (moment_lines ports) ms) (time_is_line m.time h.0.counted, changes_lines ports m.changes) (moments_lines ports ms h.1)

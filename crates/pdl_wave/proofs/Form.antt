@@ -39,7 +39,9 @@ first_length j [] = refl
 first_length j (v ∷ vs) = ap suc (first_length (suc j) vs)
 
 -- changes fit as the values do
-each_change : (Q : ℕ → ℕ → Type 0) (j : ℕ) (before vs : List ℕ) → ((i : ℕ) → i < length vs → Q (j + i) (get_or vs i 0)) → Each (λ (x : Change). Q x.port x.value) (changes j before vs)
+each_change : (Q : ℕ → ℕ → Type 0) (j : ℕ) (before vs : List ℕ)
+    → ((i : ℕ) → i < length vs → Q (j + i) (get_or vs i 0))
+    → Each (λ (x : Change). Q x.port x.value) (changes j before vs)
 each_change Q j before [] h = tt
 each_change Q j before (v ∷ vs) h =
     let rest = each_change Q (suc j) before vs (λ i l. let e : j + suc i ≡ suc j + i = omega arith in subst (λ (k : ℕ). Q k (get_or vs i 0)) e (h (suc i) (omega (arith, l)))) in
@@ -72,22 +74,27 @@ changes_fit ports before row h =
 
 -- ---- a moment of a cycle among others
 
-each_with : (P : Moment → Type 0) (k : ℕ) (xs : List Change) (later : List Moment) → P (record { time = k; changes = xs }) → Each P later → Each P (with_moment k xs later)
+each_with : (P : Moment → Type 0) (k : ℕ) (xs : List Change) (later : List Moment)
+    → P (record { time = k; changes = xs }) → Each P later → Each P (with_moment k xs later)
 each_with P k [] later h rest = rest
 each_with P k (x ∷ xs) later h rest = (h, rest)
 
-all_with : (p : Moment → Bool) (k : ℕ) (xs : List Change) (later : List Moment) → p (record { time = k; changes = xs }) ≡ true → list_all p later ≡ true → list_all p (with_moment k xs later) ≡ true
+all_with : (p : Moment → Bool) (k : ℕ) (xs : List Change) (later : List Moment)
+    → p (record { time = k; changes = xs }) ≡ true → list_all p later ≡ true
+    → list_all p (with_moment k xs later) ≡ true
 all_with p k [] later h rest = rest
 all_with p k (x ∷ xs) later h rest = and_from _ _ h rest
 
 -- ---- the times
 
 -- moments go on from one with changes
-go_more : (time : ℕ) (m : Moment) (later : List Moment) → time ≤ m.time → is_none m.changes ≡ false → go_on (suc m.time) later ≡ true → go_on time (m ∷ later) ≡ true
+go_more : (time : ℕ) (m : Moment) (later : List Moment)
+    → time ≤ m.time → is_none m.changes ≡ false → go_on (suc m.time) later ≡ true → go_on time (m ∷ later) ≡ true
 go_more time m [] l some h = absurd (cc h)
 go_more time m (n ∷ later) l some h = and_from _ _ (le-leb time m.time l) (and_from _ _ (ap not some) h)
 
-go_with : (time k : ℕ) (xs : List Change) (later : List Moment) → time ≤ k → ((t : ℕ) → t ≤ suc k → go_on t later ≡ true) → go_on time (with_moment k xs later) ≡ true
+go_with : (time k : ℕ) (xs : List Change) (later : List Moment)
+    → time ≤ k → ((t : ℕ) → t ≤ suc k → go_on t later ≡ true) → go_on time (with_moment k xs later) ≡ true
 go_with time k [] later l h = h time (omega arith)
 go_with time k (x ∷ xs) later l h = go_more time (record { time = k; changes = x ∷ xs }) later l refl (h (suc k) (omega arith))
 
@@ -99,13 +106,15 @@ abbrev pub end_at : ℕ → List Moment
 end_at last = record { time = last; changes = [] } ∷ []
 
 -- the moments of cycles from the k-th on, up to a later time
-goes : (rest : List (List ℕ)) (time k : ℕ) (before : List ℕ) (last : ℕ) → time ≤ k → k + length rest ≤ last → go_on time (moments k before rest ++ end_at last) ≡ true
+goes : (rest : List (List ℕ)) (time k : ℕ) (before : List ℕ) (last : ℕ)
+    → time ≤ k → k + length rest ≤ last → go_on time (moments k before rest ++ end_at last) ≡ true
 goes [] time k before last l end = and_from _ _ (le-leb time last (omega arith)) refl
 goes (now ∷ rest) time k before last l end =
     ap (go_on time) (with_append k (changes 0 before now) (moments (suc k) now rest) (end_at last))
     ∙ go_with time k (changes 0 before now) (moments (suc k) now rest ++ end_at last) l (λ t m. goes rest t (suc k) now last m (omega arith))
 
-begin_more : (count : ℕ) (m : Moment) (later : List Moment) → m.time ≡ 1 → length m.changes ≡ count → go_on 2 later ≡ true → begin count (m ∷ later) ≡ true
+begin_more : (count : ℕ) (m : Moment) (later : List Moment)
+    → m.time ≡ 1 → length m.changes ≡ count → go_on 2 later ≡ true → begin count (m ∷ later) ≡ true
 begin_more count m [] one n h = absurd (cc h)
 begin_more count m (next ∷ later) one n h = and_from _ _ (eq-eqb m.time 1 one) (and_from _ _ (eq-eqb (length m.changes) count n) h)
 
@@ -151,7 +160,9 @@ no_value (now ∷ rest) i = ap (λ o. option_or o None) (none_before rest 2 now 
 
 -- ---- each change is new
 
-one_new : (all : List Moment) (k : ℕ) (before now : List ℕ) → ((i : ℕ) → i < length now → value_in all (k - 1) i ≡ slice_get before i) → are_new all (record { time = k; changes = changes 0 before now }) ≡ true
+one_new : (all : List Moment) (k : ℕ) (before now : List ℕ)
+    → ((i : ℕ) → i < length now → value_in all (k - 1) i ≡ slice_get before i)
+    → are_new all (record { time = k; changes = changes 0 before now }) ≡ true
 one_new all k before now was =
     and_from _ _ (ordered_from 0 0 before now (omega arith)) (new_from (value_in all (k - 1)) 0 before now (λ i l. was i (omega (arith, l))))
 
@@ -172,7 +183,8 @@ pub all_values : (rows : List (List ℕ)) (n c i : ℕ) → Each (λ row. length
 all_values rows n c i h l m = with_last (run_moments rows) (length rows + 1) (c + 1) i ∙ run_values rows n c i h l m
 
 -- the changes in the moments of a run whose rows have n values are in order, and new
-pub all_new : (rows : List (List ℕ)) (n : ℕ) → Each (λ row. length row ≡ n) rows → list_all (are_new (all_moments rows)) (all_moments rows) ≡ true
+pub all_new : (rows : List (List ℕ)) (n : ℕ)
+    → Each (λ row. length row ≡ n) rows → list_all (are_new (all_moments rows)) (all_moments rows) ≡ true
 all_new [] n h = refl
 all_new (now ∷ rest) n h =
     let all = all_moments (now ∷ rest) in
@@ -187,7 +199,8 @@ all_new (now ∷ rest) n h =
 
 -- ---- each moment can be told
 
-tell_from : (ports : List WavePort) (rest : List (List ℕ)) (k : ℕ) (before : List ℕ) → Each (IsRow ports) rest → k + length rest ≤ 2 ^ 64 → Each (CanTell ports) (moments k before rest)
+tell_from : (ports : List WavePort) (rest : List (List ℕ)) (k : ℕ) (before : List ℕ) → Each (IsRow ports) rest
+    → k + length rest ≤ 2 ^ 64 → Each (CanTell ports) (moments k before rest)
 tell_from ports [] k before h l = tt
 tell_from ports (now ∷ rest) k before h l =
     each_with (CanTell ports) k (changes 0 before now) (moments (suc k) now rest)
@@ -195,7 +208,8 @@ tell_from ports (now ∷ rest) k before h l =
     (tell_from ports rest (suc k) now h.1 (omega (arith, l)))
 
 -- the moments of a run have times that can be counted, and changes that fit their ports
-pub can_tell : (ports : List WavePort) (rows : List (List ℕ)) → Each (IsRow ports) rows → length rows + 1 < 2 ^ 64 → Each (CanTell ports) (run_moments rows)
+pub can_tell : (ports : List WavePort) (rows : List (List ℕ)) → Each (IsRow ports) rows
+    → length rows + 1 < 2 ^ 64 → Each (CanTell ports) (run_moments rows)
 can_tell ports [] h l = tt
 can_tell ports (now ∷ rest) h l =
     (record { counted = omega arith; each = changes_fit ports [] now h.0 }, tell_from ports rest 2 now h.1 (omega (arith, l)))

@@ -10,7 +10,8 @@ declarations_length i [] = refl
 declarations_length i (p ∷ ps) = ap suc (declarations_length (suc i) ps)
 
 -- the declaration of the k-th port
-declaration_at : (i : ℕ) (ports : List WavePort) (k : ℕ) (d : WavePort) → k < length ports → get_or (declarations i ports) k [] ≡ declaration (i + k) (get_or ports k d)
+declaration_at : (i : ℕ) (ports : List WavePort) (k : ℕ) (d : WavePort)
+    → k < length ports → get_or (declarations i ports) k [] ≡ declaration (i + k) (get_or ports k d)
 declaration_at i [] k d l = absurd (omega (arith, l))
 declaration_at i (p ∷ ps) zero d l = let e : i ≡ i + 0 = omega arith in ap (λ j. declaration j p) e
 declaration_at i (p ∷ ps) (suc k) d l =
@@ -31,7 +32,8 @@ declared_line name ports k d low l =
     ∙ declaration_at 0 ports (k - 2) d l ∙ ap (λ j. declaration j (get_or ports (k - 2) d)) e
 
 -- the line after the declarations ends the scope
-pub upscope_line : (name : List ℕ) (ports : List WavePort) (k : ℕ) → 2 ≤ k → k - 2 ≡ length ports → get_or (header name ports) k [] ≡ upscope
+pub upscope_line : (name : List ℕ) (ports : List WavePort) (k : ℕ)
+    → 2 ≤ k → k - 2 ≡ length ports → get_or (header name ports) k [] ≡ upscope
 upscope_line name ports k low e =
     let n = declarations_length 0 ports in
     let at : k - 2 - length ports ≡ 0 = omega (arith, e) in

@@ -19,14 +19,16 @@ use Rattle.pdl_wave.proofs.LineBytes.{is_line, no_blank, no_feed, decimal_word, 
 -- ---- cuts
 
 -- a text of lines is cut into them, and nothing is left after the last line feed
-pub cut_lines : (lines : List (List ℕ)) → Each (λ line. is_line line ≡ true) lines → slice_split (λ c. c == 10) (flat_map ended lines) ≡ lines ++ [] ∷ []
+pub cut_lines : (lines : List (List ℕ))
+    → Each (λ line. is_line line ≡ true) lines → slice_split (λ c. c == 10) (flat_map ended lines) ≡ lines ++ [] ∷ []
 cut_lines [] h = refl
 cut_lines (line ∷ lines) h =
     ap (slice_split (λ c. c == 10)) (append_assoc line (codes "\n") (flat_map ended lines))
     ∙ slice_split_at (λ c. c == 10) line 10 (flat_map ended lines) (no_feed line h.0) refl
     ∙ ap (λ more. line ∷ more) (cut_lines lines h.1)
 
-cut_word : (word rest : List ℕ) → is_word word ≡ true → slice_split (λ c. c == 32) (word ++ 32 ∷ rest) ≡ word ∷ slice_split (λ c. c == 32) rest
+cut_word : (word rest : List ℕ)
+    → is_word word ≡ true → slice_split (λ c. c == 32) (word ++ 32 ∷ rest) ≡ word ∷ slice_split (λ c. c == 32) rest
 cut_word word rest h = slice_split_at (λ c. c == 32) word 32 rest (no_blank word h) refl
 
 cut_last : (word : List ℕ) → is_word word ≡ true → slice_split (λ c. c == 32) word ≡ word ∷ []
@@ -65,7 +67,8 @@ regroup : (a d s c n e : List ℕ) → a ++ d ++ s ++ c ++ s ++ n ++ e ≡ a ++ 
 regroup a d s c n e = simp append_assoc
 
 -- the line of a port of at most 128 bits reads as its width, its code and its name, where that is a word
-pub read_declaration : (i : ℕ) (p : WavePort) → p.width ≤ 128 → is_word p.name ≡ true → of_line (declaration i p) ≡ Var p.width (code i) p.name
+pub read_declaration : (i : ℕ) (p : WavePort)
+    → p.width ≤ 128 → is_word p.name ≡ true → of_line (declaration i p) ≡ Var p.width (code i) p.name
 read_declaration i p l h =
     let width : p.width < 2 ^ 64 = omega arith in
     let cut : slice_split (λ c. c == 32) (decimal p.width ++ (codes " " ++ (code i ++ (codes " " ++ (p.name ++ codes " $end"))))) ≡ decimal p.width ∷ code i ∷ p.name ∷ codes "$end" ∷ [] =

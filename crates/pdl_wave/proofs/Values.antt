@@ -41,7 +41,8 @@ same_value None v h = absurd (cc h)
 same_value (Some u) v h = ap Some (eqb-true u v (not-false (u == v) h))
 
 -- the value now is that of the change, or the one before
-value_now : (j i : ℕ) (before vs : List ℕ) → i < length vs → option_or (taken (j + i) (changes j before vs)) (slice_get before (j + i)) ≡ Some (get_or vs i 0)
+value_now : (j i : ℕ) (before vs : List ℕ)
+    → i < length vs → option_or (taken (j + i) (changes j before vs)) (slice_get before (j + i)) ≡ Some (get_or vs i 0)
 value_now j i before [] l = absurd (omega (arith, l))
 value_now j zero before (v ∷ vs) l =
     let e : j + 0 ≡ j = omega arith in
@@ -66,7 +67,8 @@ got (v ∷ vs) zero l = refl
 got (v ∷ vs) (suc i) l = got vs i (omega (arith, l))
 
 -- a port's value in a cycle is the one it changes to, else the one before
-pub now_by_changes : (i : ℕ) (before vs : List ℕ) → i < length vs → option_or (taken i (changes 0 before vs)) (slice_get before i) ≡ Some (get_or vs i 0)
+pub now_by_changes : (i : ℕ) (before vs : List ℕ)
+    → i < length vs → option_or (taken i (changes 0 before vs)) (slice_get before i) ≡ Some (get_or vs i 0)
 now_by_changes i before vs l =
     let e : 0 + i ≡ i = omega arith in
     ap (λ k. option_or (taken k (changes 0 before vs)) (slice_get before k)) (sym e) ∙ value_now 0 i before vs l

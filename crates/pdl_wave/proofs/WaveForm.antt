@@ -25,14 +25,17 @@ read_body ports rows = flat_map (read_moment ports) (run_moments rows) ++ Time (
 regroup : (h f t e : List (List ℕ)) → h ++ f ++ t ++ e ≡ h ++ (f ++ (t ++ e))
 regroup h f t e = simp append_assoc
 
-lines_cut : (name : List ℕ) (ports : List WavePort) (rows : List (List ℕ)) → IsRun name ports rows → Each (λ line. is_line line ≡ true) (dump_lines name ports rows)
+lines_cut : (name : List ℕ) (ports : List WavePort) (rows : List (List ℕ)) → IsRun name ports rows
+    → Each (λ line. is_line line ≡ true) (dump_lines name ports rows)
 lines_cut name ports rows h =
     each_append _ (header name ports ++ flat_map (moment_lines ports) (run_moments rows)) (time_text (length rows + 1) ∷ [])
     (each_append _ (header name ports) (flat_map (moment_lines ports) (run_moments rows))
     (header_lines name ports h.named h.declared) (moments_lines ports (run_moments rows) (can_tell ports rows h.fits h.counted)))
     (time_is_line (length rows + 1) h.counted, tt)
 
-header_read : (name : List ℕ) (ports : List WavePort) → is_word name ≡ true → Each IsPort ports → map of_line (header name ports) ≡ Timescale ∷ Scope name ∷ (read_ports 0 ports ++ Upscope ∷ EndDefinitions ∷ [])
+header_read : (name : List ℕ) (ports : List WavePort)
+    → is_word name ≡ true → Each IsPort ports
+    → map of_line (header name ports) ≡ Timescale ∷ Scope name ∷ (read_ports 0 ports ++ Upscope ∷ EndDefinitions ∷ [])
 header_read name ports named each =
     ap (λ line. Timescale ∷ line ∷ map of_line (declarations 0 ports ++ upscope ∷ enddefinitions ∷ [])) (read_scope name named)
     ∙ ap (λ more. Timescale ∷ Scope name ∷ more) (map-append of_line (declarations 0 ports) (upscope ∷ enddefinitions ∷ []) ∙ ap (λ more. more ++ Upscope ∷ EndDefinitions ∷ []) (ports_read 0 ports each))
@@ -71,7 +74,8 @@ in_form name ports rows h lengths =
 row_lengths : (ports : List WavePort) (rows : List (List ℕ)) → Each (IsRow ports) rows → Each (λ row. length row ≡ length ports) rows
 row_lengths ports rows h = each_weaker (IsRow ports) (λ row. length row ≡ length ports) (row_length ports) rows h
 
-wave_is : (name : List ℕ) (ports : List WavePort) (rows : List (List ℕ)) → IsRun name ports rows → wave (dump name ports rows) ≡ Some (the_wave name ports rows)
+wave_is : (name : List ℕ) (ports : List WavePort) (rows : List (List ℕ)) → IsRun name ports rows
+    → wave (dump name ports rows) ≡ Some (the_wave name ports rows)
 unfolding wave
 wave_is name ports rows h =
     let head : Header = record { name = name; ports = ports; rest = read_body ports rows } in
@@ -81,7 +85,8 @@ wave_is name ports rows h =
     ∙ cond-true _ _ _ (in_form name ports rows h (row_lengths ports rows h.fits))
 
 -- the wave of a dump has the name, the ports, the count of cycles and in each of them the values that it was made of
-pub wave_form : (name : List ℕ) (ports : List WavePort) (rows : List (List ℕ)) → IsRun name ports rows → IsWaveOf (dump name ports rows) name ports rows
+pub wave_form : (name : List ℕ) (ports : List WavePort) (rows : List (List ℕ)) → IsRun name ports rows
+    → IsWaveOf (dump name ports rows) name ports rows
 wave_form name ports rows h =
     let lengths = row_lengths ports rows h.fits in
     let last = last_of (run_moments rows) 0 (length rows + 1) in

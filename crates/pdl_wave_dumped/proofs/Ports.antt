@@ -28,7 +28,7 @@ use Rattle.pdl_wave_dumped.proofs.Names.{IsShortWord, name_word, prefixed, longe
 -- ---- ports by their heads
 
 -- a port whose name can stand in a dump
-abbrev HasWord : Head → Type 0
+abbrev pub HasWord : Head → Type 0
 HasWord h = IsShortWord 64 h.name
 
 words_by : (ps : List Port) → Each HasWord (map head_of ps) → Each (λ (p : WavePort). IsShortWord 64 p.name) (filter_map wave_port ps)
@@ -97,7 +97,9 @@ both_named (m ∷ ms) h k = at m.delayed (λ a b. both_named ms a b) h k
     at false rest h k = (k.0, rest h k.1)
 
 -- the names of the delayed memories, and of all
-pub named_by : (ms : List Mem) (infos : List MemInfo) → infos ≡ net_infos ms → All (λ (m : MemInfo). is_name m.name ≡ true) infos → Each (λ (m : Mem). is_name m.name.name ≡ true) (delayed_of ms) × Each (λ (m : Mem). is_name m.name.name ≡ true) ms
+pub named_by : (ms : List Mem) (infos : List MemInfo)
+    → infos ≡ net_infos ms → All (λ (m : MemInfo). is_name m.name ≡ true) infos
+    → Each (λ (m : Mem). is_name m.name.name ≡ true) (delayed_of ms) × Each (λ (m : Mem). is_name m.name.name ≡ true) ms
 named_by ms infos e all =
     let h = first_named (delayed_of ms) (map info_of (comb_of ms)) (subst (All IsTold) e all) in
     (h.0, both_named ms h.0 (last_named (comb_of ms) h.1))
@@ -138,7 +140,8 @@ replies_count : (ms : List Mem) → length (flat_map reply_ports (map port_mem m
 replies_count [] = refl
 replies_count (m ∷ ms) = let rest = replies_count ms in omega (arith, rest)
 
-requests_words : (ms : List Mem) → Each (λ (m : Mem). is_name m.name.name ≡ true) ms → Each HasWord (flat_map request_ports (map port_mem ms))
+requests_words : (ms : List Mem)
+    → Each (λ (m : Mem). is_name m.name.name ≡ true) ms → Each HasWord (flat_map request_ports (map port_mem ms))
 requests_words [] h = tt
 requests_words (m ∷ ms) h = (
   mem_word (codes "q_") m.name.name (prefix_word (codes "q_") refl (omega arith)) h.0,
@@ -158,7 +161,9 @@ squash_word : IsShortWord 64 (codes "squash")
 squash_word = record { word = refl; short = omega arith }
 
 -- the names of the ports of a pipe
-pub pipe_words : (stages : ℕ) (ms : List Mem) → stages ≤ 64 → Each (λ (m : Mem). is_name m.name.name ≡ true) (delayed_of ms) × Each (λ (m : Mem). is_name m.name.name ≡ true) ms
+pub pipe_words : (stages : ℕ) (ms : List Mem)
+    → stages ≤ 64
+    → Each (λ (m : Mem). is_name m.name.name ≡ true) (delayed_of ms) × Each (λ (m : Mem). is_name m.name.name ≡ true) ms
     → Each HasWord (pipe_ports stages (map port_mem (delayed_of ms)) (locked_of ms))
 pipe_words stages ms few named =
     let replies = flat_map reply_ports (map port_mem (delayed_of ms)) in
@@ -173,7 +178,8 @@ pipe_words stages ms few named =
     (ended_word, (squash_word, tt))
 
 -- and how many they are
-pub pipe_count : (stages : ℕ) (ms : List Mem) → stages ≤ 64 → length ms ≤ 16 → length (pipe_ports stages (map port_mem (delayed_of ms)) (locked_of ms)) ≤ 242
+pub pipe_count : (stages : ℕ) (ms : List Mem)
+    → stages ≤ 64 → length ms ≤ 16 → length (pipe_ports stages (map port_mem (delayed_of ms)) (locked_of ms)) ≤ 242
 pipe_count stages ms few mems =
     let replies = flat_map reply_ports (map port_mem (delayed_of ms)) in
     let front = flat_map stage_ports (range_with_len 0 stages) in
@@ -192,7 +198,9 @@ pipe_count stages ms few mems =
     omega (arith, a, b, c, d, s, k, x, y, many, few, mems)
 
 -- of a netlist with these ports
-pub wave_words : (ps : List Port) (heads : List Head) → map head_of ps ≡ heads → Each HasWord heads → Each (λ (p : WavePort). IsShortWord 64 p.name) (filter_map wave_port ps)
+pub wave_words : (ps : List Port) (heads : List Head)
+    → map head_of ps ≡ heads → Each HasWord heads
+    → Each (λ (p : WavePort). IsShortWord 64 p.name) (filter_map wave_port ps)
 wave_words ps heads e h = words_by ps (subst (Each HasWord) (sym e) h)
 
 -- no more ports are dumped than a netlist has

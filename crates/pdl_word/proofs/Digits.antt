@@ -107,7 +107,8 @@ hex_value w v l = value_back ((w + 3) / 4) v (let k = digits_hold w in omega ari
 -- ---- one digit more of a text
 
 -- a digit after the first i digits of a number gives the first i + 1, with its value after theirs
-pub digits_next : (base : ℕ) (xs : List ℕ) (i v d : ℕ) → i < length xs → list_all (is_digit_of base) (take i xs) ≡ true → v ≡ digits_value base (take i xs)
+pub digits_next : (base : ℕ) (xs : List ℕ) (i v d : ℕ)
+    → i < length xs → list_all (is_digit_of base) (take i xs) ≡ true → v ≡ digits_value base (take i xs)
     → is_digit_of base (get_or xs i 0) ≡ true → d ≡ digit_value (get_or xs i 0)
     → (list_all (is_digit_of base) (take (i + 1) xs) ≡ true) × (v * base + d ≡ digits_value base (take (i + 1) xs))
 digits_next base xs i v d l all e this f =

@@ -1,5 +1,5 @@
 -- Facts on lists of which each element has a property.
-use Rattle.std.proofs.Common.{◌≡◌, ℕ, zero, suc, ◌<◌, List, [], ◌∷◌, ◌++◌, length, map, flat_map, get_or, All, Some, subst, arith}
+use Rattle.std.proofs.Common.{◌≡◌, ℕ, zero, suc, ◌<◌, List, [], ◌∷◌, ◌++◌, length, map, flat_map, get_or, All, Some, refl, subst, arith}
 use Rattle.std.specs.List.{slice_get}
 use Rattle.pdl_word.specs.Each.{Each}
 

@@ -80,7 +80,8 @@ some_filtered f p (x ∷ xs) e = at (p x) e (some_filtered f p xs)
     at false i k = or_right (f x) (list_any f xs) (k i)
 
 -- where all elements pass a test, all pass each test that follows from it
-pub all_weaker : {X : Type 0} (f g : X → Bool) → ((x : X) → f x ≡ true → g x ≡ true) → (xs : List X) → list_all f xs ≡ true → list_all g xs ≡ true
+pub all_weaker : {X : Type 0} (f g : X → Bool)
+    → ((x : X) → f x ≡ true → g x ≡ true) → (xs : List X) → list_all f xs ≡ true → list_all g xs ≡ true
 all_weaker f g h [] e = e
 all_weaker f g h (x ∷ xs) e =
     let parts = and_parts (f x) (list_all f xs) e in

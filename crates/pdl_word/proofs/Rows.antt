@@ -7,12 +7,14 @@ unfolding mask
 masks = (refl, refl, refl, refl)
 
 -- sums at 1, 8, 63 and 64 bits that pass the largest word
-sums : (add 1 1 1 ≡ 0) × (add 8 0xff 2 ≡ 1) × (add 63 0x7fff_ffff_ffff_ffff 1 ≡ 0) × (add 64 0xffff_ffff_ffff_ffff 0xffff_ffff_ffff_ffff ≡ 0xffff_ffff_ffff_fffe) × (add 8 0x0f 0x10 ≡ 0x1f)
+sums : (add 1 1 1 ≡ 0) × (add 8 0xff 2 ≡ 1) × (add 63 0x7fff_ffff_ffff_ffff 1 ≡ 0)
+    × (add 64 0xffff_ffff_ffff_ffff 0xffff_ffff_ffff_ffff ≡ 0xffff_ffff_ffff_fffe) × (add 8 0x0f 0x10 ≡ 0x1f)
 unfolding add
 sums = (refl, refl, refl, refl, refl)
 
 -- differences below 0
-differences : (sub 1 0 1 ≡ 1) × (sub 8 3 5 ≡ 0xfe) × (sub 63 0 1 ≡ 0x7fff_ffff_ffff_ffff) × (sub 64 0 1 ≡ 0xffff_ffff_ffff_ffff) × (sub 8 5 3 ≡ 2) × (sub 8 5 5 ≡ 0)
+differences : (sub 1 0 1 ≡ 1) × (sub 8 3 5 ≡ 0xfe) × (sub 63 0 1 ≡ 0x7fff_ffff_ffff_ffff)
+    × (sub 64 0 1 ≡ 0xffff_ffff_ffff_ffff) × (sub 8 5 3 ≡ 2) × (sub 8 5 5 ≡ 0)
 unfolding sub
 differences = (refl, refl, refl, refl, refl, refl)
 
@@ -20,7 +22,8 @@ products : (mul 1 1 1 ≡ 1) × (mul 8 0x10 0x10 ≡ 0) × (mul 8 0xff 0xff ≡ 
 unfolding mul
 products = (refl, refl, refl, refl)
 
-bitwise : (complement 1 0 ≡ 1) × (complement 8 0x0f ≡ 0xf0) × (complement 64 0 ≡ 0xffff_ffff_ffff_ffff) × (and 0xc 0xa ≡ 8) × (or 0xc 0xa ≡ 0xe) × (xor 0xc 0xa ≡ 6)
+bitwise : (complement 1 0 ≡ 1) × (complement 8 0x0f ≡ 0xf0) × (complement 64 0 ≡ 0xffff_ffff_ffff_ffff)
+    × (and 0xc 0xa ≡ 8) × (or 0xc 0xa ≡ 0xe) × (xor 0xc 0xa ≡ 6)
 unfolding complement and or xor
 bitwise = (refl, refl, refl, refl, refl, refl)
 
@@ -29,28 +32,35 @@ unfolding equal differ less
 comparisons = (refl, refl, refl, refl, refl, refl, refl)
 
 -- the most negative word is less than every other one
-signed_order : (lts 1 1 0 ≡ 1) × (lts 1 0 1 ≡ 0) × (lts 8 0x80 0x7f ≡ 1) × (lts 8 0x7f 0x80 ≡ 0) × (lts 8 0x80 0x80 ≡ 0) × (lts 8 0xff 0 ≡ 1) × (lts 64 0x8000_0000_0000_0000 0 ≡ 1) × (lts 64 0 0x8000_0000_0000_0000 ≡ 0)
+signed_order : (lts 1 1 0 ≡ 1) × (lts 1 0 1 ≡ 0) × (lts 8 0x80 0x7f ≡ 1) × (lts 8 0x7f 0x80 ≡ 0) × (lts 8 0x80 0x80 ≡ 0)
+    × (lts 8 0xff 0 ≡ 1) × (lts 64 0x8000_0000_0000_0000 0 ≡ 1) × (lts 64 0 0x8000_0000_0000_0000 ≡ 0)
 unfolding lts
 signed_order = (refl, refl, refl, refl, refl, refl, refl, refl)
 
 -- shifts by one less than the width, by the width and by more
-left_shifts : (shl 8 0x81 0 ≡ 0x81) × (shl 8 0x81 1 ≡ 2) × (shl 8 0xff 7 ≡ 0x80) × (shl 8 0xff 8 ≡ 0) × (shl 8 0xff 64 ≡ 0) × (shl 64 3 63 ≡ 0x8000_0000_0000_0000) × (shl 64 1 64 ≡ 0) × (shl 64 1 0xffff_ffff_ffff_ffff ≡ 0)
+left_shifts : (shl 8 0x81 0 ≡ 0x81) × (shl 8 0x81 1 ≡ 2) × (shl 8 0xff 7 ≡ 0x80) × (shl 8 0xff 8 ≡ 0)
+    × (shl 8 0xff 64 ≡ 0) × (shl 64 3 63 ≡ 0x8000_0000_0000_0000) × (shl 64 1 64 ≡ 0)
+    × (shl 64 1 0xffff_ffff_ffff_ffff ≡ 0)
 unfolding shl
 left_shifts = (refl, refl, refl, refl, refl, refl, refl, refl)
 
-right_shifts : (shr 8 0x81 0 ≡ 0x81) × (shr 8 0x81 1 ≡ 0x40) × (shr 8 0xff 7 ≡ 1) × (shr 8 0xff 8 ≡ 0) × (shr 8 0xff 64 ≡ 0) × (shr 64 0x8000_0000_0000_0000 63 ≡ 1) × (shr 64 1 64 ≡ 0)
+right_shifts : (shr 8 0x81 0 ≡ 0x81) × (shr 8 0x81 1 ≡ 0x40) × (shr 8 0xff 7 ≡ 1) × (shr 8 0xff 8 ≡ 0)
+    × (shr 8 0xff 64 ≡ 0) × (shr 64 0x8000_0000_0000_0000 63 ≡ 1) × (shr 64 1 64 ≡ 0)
 unfolding shr
 right_shifts = (refl, refl, refl, refl, refl, refl, refl)
 
-slices : (slice 7 7 0x80 ≡ 1) × (slice 7 4 0xa5 ≡ 0xa) × (slice 3 0 0xa5 ≡ 5) × (slice 63 63 0x8000_0000_0000_0000 ≡ 1) × (slice 63 0 0xffff_ffff_ffff_ffff ≡ 0xffff_ffff_ffff_ffff)
+slices : (slice 7 7 0x80 ≡ 1) × (slice 7 4 0xa5 ≡ 0xa) × (slice 3 0 0xa5 ≡ 5) × (slice 63 63 0x8000_0000_0000_0000 ≡ 1)
+    × (slice 63 0 0xffff_ffff_ffff_ffff ≡ 0xffff_ffff_ffff_ffff)
 unfolding slice
 slices = (refl, refl, refl, refl, refl)
 
-joined : (cat 4 0xa 5 ≡ 0xa5) × (cat 32 0xffff_fffe 1 ≡ 0xffff_fffe_0000_0001) × (cat 63 1 0 ≡ 0x8000_0000_0000_0000) × (cat 1 0x7f 1 ≡ 0xff)
+joined : (cat 4 0xa 5 ≡ 0xa5) × (cat 32 0xffff_fffe 1 ≡ 0xffff_fffe_0000_0001) × (cat 63 1 0 ≡ 0x8000_0000_0000_0000)
+    × (cat 1 0x7f 1 ≡ 0xff)
 unfolding cat
 joined = (refl, refl, refl, refl)
 
-extended : (zext 0x80 ≡ 0x80) × (sext 1 64 1 ≡ 0xffff_ffff_ffff_ffff) × (sext 1 64 0 ≡ 0) × (sext 8 16 0x80 ≡ 0xff80) × (sext 8 16 0x7f ≡ 0x7f) × (sext 8 8 0xff ≡ 0xff) × (sext 64 64 0x8000_0000_0000_0000 ≡ 0x8000_0000_0000_0000)
+extended : (zext 0x80 ≡ 0x80) × (sext 1 64 1 ≡ 0xffff_ffff_ffff_ffff) × (sext 1 64 0 ≡ 0) × (sext 8 16 0x80 ≡ 0xff80)
+    × (sext 8 16 0x7f ≡ 0x7f) × (sext 8 8 0xff ≡ 0xff) × (sext 64 64 0x8000_0000_0000_0000 ≡ 0x8000_0000_0000_0000)
 unfolding zext sext
 extended = (refl, refl, refl, refl, refl, refl, refl)
 
@@ -58,6 +68,7 @@ chosen : (mux 1 5 6 ≡ 5) × (mux 0 5 6 ≡ 6)
 unfolding mux
 chosen = (refl, refl)
 
-repeated : (rep 1 8 1 ≡ 0xff) × (rep 4 3 0xa ≡ 0xaaa) × (rep 64 1 7 ≡ 7) × (rep 32 2 1 ≡ 0x1_0000_0001) × (rep 1 64 1 ≡ 0xffff_ffff_ffff_ffff)
+repeated : (rep 1 8 1 ≡ 0xff) × (rep 4 3 0xa ≡ 0xaaa) × (rep 64 1 7 ≡ 7) × (rep 32 2 1 ≡ 0x1_0000_0001)
+    × (rep 1 64 1 ≡ 0xffff_ffff_ffff_ffff)
 unfolding rep
 repeated = (refl, refl, refl, refl, refl)

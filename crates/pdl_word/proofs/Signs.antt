@@ -7,7 +7,9 @@ use Rattle.pdl_word.proofs.Masks.{one_shifted}
 use Rattle.pdl_word.specs.Words.{add, less, lts, sext, mask, sign_shifted}
 
 -- words raised by half of the range, as code in 64 bits computes it, are in the order of two's complement
-pub lts_raised : (w a b x y : ℕ) → 1 ≤ w → w ≤ 64 → x ≡ add w a (1 * 2 ^ (w - 1) % 2 ^ 64) → y ≡ add w b (1 * 2 ^ (w - 1) % 2 ^ 64) → less x y ≡ lts w a b
+pub lts_raised : (w a b x y : ℕ)
+    → 1 ≤ w → w ≤ 64 → x ≡ add w a (1 * 2 ^ (w - 1) % 2 ^ 64) → y ≡ add w b (1 * 2 ^ (w - 1) % 2 ^ 64)
+    → less x y ≡ lts w a b
 unfolding lts less add
 lts_raised w a b x y l h p q =
     let e : 1 * 2 ^ (w - 1) % 2 ^ 64 ≡ 2 ^ (w - 1) = one_shifted (w - 1) (omega arith) in
@@ -60,7 +62,8 @@ pub sext_of_clear : (w n a : ℕ) → 1 ≤ w → w ≤ n → a / 2 ^ (w - 1) �
 sext_of_clear w n a l h e = sym (sext_low w n a l h (top_clear w a e))
 
 -- a word whose top bit isn't 0, by a shift, gets its sign above by the difference of two largest words
-pub sext_of_set : (w n a x y : ℕ) → x ≡ mask n → y ≡ mask w → 1 ≤ w → w ≤ n → a < 2 ^ w → (a / 2 ^ (w - 1) ≡ 0 → ⊥) → a + (x - y) ≡ sext w n a
+pub sext_of_set : (w n a x y : ℕ)
+    → x ≡ mask n → y ≡ mask w → 1 ≤ w → w ≤ n → a < 2 ^ w → (a / 2 ^ (w - 1) ≡ 0 → ⊥) → a + (x - y) ≡ sext w n a
 unfolding mask
 sext_of_set w n a x y p q l h f no_zero =
     elim (cases_lt a (2 ^ (w - 1))) [
