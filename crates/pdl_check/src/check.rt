@@ -4,11 +4,10 @@ ghost use Rattle.pdl_kit.specs.declared.rule.Rule.TheVariants as rules;
 ghost use Rattle.pdl_semantics.specs.Tree as tree;
 ghost use Rattle.pdl_syntax_grammar.specs.Text.{IsText, IsOutOfPlace};
 ghost use Rattle.pdl_syntax_tree.specs.View.{pipe_view};
-ghost use Rattle.pdl_rules.specs.Places.{places as places_of};
+ghost use Rattle.pdl_rules.specs.Places.{places};
 ghost use Rattle.pdl_rules.specs.Refusal.{refusal, first_broken, limits, after_limits};
+ghost use Rattle.pdl_rules_stages.specs.Stages.{stages_in};
 ghost use Rattle.pdl_rules_judge.specs.Known.{AreFindings};
-ghost use Rattle.pdl_form.specs.FormView.{form};
-ghost use Rattle.pdl_stages.specs.Graph.{graph_of};
 ghost use Rattle.pdl_source_paths.specs.Source.{is_source, is_named};
 ghost use Rattle.pdl_check.specs.Made.{IsMadeOf};
 ghost use Rattle.pdl_check.specs.Answers.{check_answer, Gives, Refuses, IsRefused, IsChecked, IsJudged};
@@ -19,7 +18,6 @@ use crate::read::read;
 use pdl_form::FlatPipe;
 use pdl_form_lower::lower;
 use pdl_kit::{MemInfo, NoMemory, Refusal, Seq};
-use pdl_paths::{Guards, places};
 use pdl_rules_judge::{Findings, judge as ask_rules};
 use pdl_stages::{StageGraph, stage_graph};
 use pdl_syntax_tree::Pipe;
@@ -87,9 +85,10 @@ fn accept(alloc: Global, pipe: Pipe, found: Findings) -> Result<Accepted, NoMemo
     let Findings {
         guards,
         variables,
+        stages,
         plans,
     } = found;
-    let made = make(alloc, &pipe, &guards)?;
+    let made = make(alloc, &pipe, stages)?;
     let typed = TypedPipe::new(pipe, variables);
     Ok(Accepted {
         typed,
@@ -101,27 +100,14 @@ fn accept(alloc: Global, pipe: Pipe, found: Findings) -> Result<Accepted, NoMemo
     })
 }
 
-// What is made of a pipe that breaks no rule, with its guards.
-fn make(alloc: Global, pipe: &Pipe, guards: &Guards) -> Result<Made, NoMemory>
+// What is made of a pipe that breaks no rule, and whose places stand in these stages.
+fn make(alloc: Global, pipe: &Pipe, stages: Vec<usize>) -> Result<Made, NoMemory>
     requires kept { first_broken (limits ++ after_limits) (pipe_view pipe.now) ≡ None }
+    requires stages { stages.items ≡ stages_in (places (pipe_view pipe.now)) }
     ensures { IfOk result (IsMadeOf (pipe_view pipe.now)) }
 {
     let mems = infos_of(alloc, pipe.mems.as_slice())?;
     let flat = lower(alloc, pipe)?;
-    let graph = graph_of(alloc, pipe, guards, &flat)?;
+    let graph = stage_graph(alloc, &flat, stages)?;
     Ok(Made { mems, flat, graph })
-}
-
-// The stages of a pipe with this flat form.
-fn graph_of(
-    alloc: Global,
-    pipe: &Pipe,
-    guards: &Guards,
-    flat: &FlatPipe,
-) -> Result<StageGraph, NoMemory>
-    ensures { IfOk result (λ g. g
-        ≡ graph_of (form flat.now).pipe (places_of (pipe_view pipe.now))) }
-{
-    let places = places(alloc, pipe, guards)?;
-    stage_graph(alloc, flat, places.as_slice())
 }

@@ -21,7 +21,7 @@ use Rattle.pdl_net.specs.Holds.{Holds, ImageFits}
 use Rattle.pdl_net.specs.Pipe.{PortMem, delayed_info, comb_info, IsWellFormed}
 use Rattle.pdl_net.specs.Run as net_run
 use Rattle.pdl_net.specs.Run.{Store, delayed_mems, filled_words, loaded_arrays, no_mem}
-use Rattle.pdl_net.proofs.StartState.{loaded_at, holds_start, held_found}
+use Rattle.pdl_net.proofs.StartState.{loaded_at, holds_start, held_found, IsHeld}
 use Rattle.pdl_lockapi.specs.Laws.{words_of, HasImage}
 use Rattle.pdl_lockapi.proofs.NextState.{is_reset}
 use Rattle.pdl_machine_facts.proofs.Requests.{none_requested}
@@ -167,15 +167,6 @@ module _ (p : Pipe) (names : ℕ → List ℕ) (ls : Locks) (n : Netlist) (mems 
     stands_start = stands_at_first p ls vs gates moves (circuit_of n) laid (model.arrays_of (in_order p image)) s suits regs (λ m e d a low. word_first m a (mem_there p m a low) d) starts_first
 
 -- ---- REGISTERS AND ARRAYS FIT
-
--- the memory that an array and the locked memories tell has the array's width and at most its depth
-record IsHeld (a : Array) (m : MemInfo) : Type 0 where
-  width : a.width ≡ m.width
-  depth : m.depth ≤ a.depth
-
-    at : (t : Bool) → bytes_eq l.name a.name ≡ t → IsHeld a (comb_info a (find (λ m. bytes_eq m.name a.name) ls)) → IsHeld a (comb_info a (cond t (Some l) (find (λ m. bytes_eq m.name a.name) ls)))
-    at true e h = mine ((bytes_eq-Decides l.name a.name).0 e)
-    at false e h = h
 
 all_delayed : (ds : List PortMem) → filter (λ (i : MemInfo). i.delayed) (map delayed_info ds) ≡ map delayed_info ds
 all_delayed [] = refl

@@ -153,6 +153,7 @@ slots_law q c r i =
 
 -- ---- the commit nets
 
+-- a net that means a signal of 1 bit is 1 bit wide
 pub wide_of : (c : Circuit) (x : Net) (f : Signal) → Means c x f → f.width ≡ 1 → (signal c x).width ≡ 1
 wide_of c x f m e = ap (λ (g : Signal). g.width) m.same ∙ e
 

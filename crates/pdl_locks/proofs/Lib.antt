@@ -1,9 +1,9 @@
-mod Ahead
-mod Keyed
+mod FirstMatch
+mod KeyNumbers
 pub mod UseSteps
 pub mod UseLaws
 pub mod OpenLocations
-mod Counted
+mod BoundedCounts
 mod Lines
-mod Late
+mod LateReads
 pub mod LowestRule

@@ -21,8 +21,9 @@ use crate::facts::LockFacts;
 use crate::uses::{LocationUse, MemoryUse};
 use pdl_kit::NoMemory;
 use pdl_paths::{Guards, Path, Place};
+use pdl_rules_on_paths::line_at;
 use pdl_rules_stages::all_true;
-use pdl_rules_walk::{Alone, Course, PathRules, line_at};
+use pdl_rules_walk::{Alone, Course, PathRules};
 use pdl_syntax_tree::Pipe;
 use std::alloc::Global;
 

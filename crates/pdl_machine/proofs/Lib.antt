@@ -1,4 +1,4 @@
-mod Seen
-mod Accepting
-mod Promised
+mod FlatForm
+mod AcceptedPipes
+mod RunPromises
 mod Bits

@@ -1,3 +1,3 @@
 pub mod Sweeps
 pub mod WordBounds
-mod Dropping
+mod DroppedWrites

@@ -119,6 +119,7 @@ signal_added old new g w f fit e =
     let s = cell_signal_same old new (IsThere old) (look old d) (look new d) w (λ x h. let P : ℕ → Type 0 = λ k. IsThereAt old k x in look_grows old new w d x (subst P (sym n) h)) g fit in
     ap (λ l. get_or l (length old.cells) no_signal) (a ∙ b) ∙ get_or_push d (cell_signal new (look new d) g) no_signal (length old.cells) n ∙ s
 
+-- a choice has the value of the arm that its bit chooses
 pub mux_at : (c a b : Signal) (s : State) (t : Bool) → c.value s ≡ bit t → (mux_signal c a b).value s ≡ (if t then a.value s else b.value s)
 unfolding mux_value
 mux_at c a b s t e = ap (λ n. mux n (a.value s) (b.value s)) e ∙ mux_bit t (a.value s) (b.value s)

@@ -32,6 +32,7 @@ held_in a m w d = record {
   depth = ⊎_elim (λ (e : a.depth ≡ 2 ^ m.bits). omega (arith, e)) (λ (e : a.depth ≡ 2 * 2 ^ m.bits). omega (arith, e)) d;
 }
 
+-- an array whose width and depth its locked memory has holds that memory
 pub held_found : (a : Array) (ls : List PortMem)
     → All (λ m. m.name ≡ a.name → a.width ≡ m.width) ls
     → All (λ m. m.name ≡ a.name → (a.depth ≡ 2 ^ m.bits) ⊎ (a.depth ≡ 2 * 2 ^ m.bits)) ls

@@ -1,10 +1,11 @@
 mod Bits
-mod Chosen
+mod PathBits
 pub mod Choices
-mod Allowed
+mod MaskPaths
 pub mod DistinctGuards
 mod EachPath
 mod Walks
 mod Numbers
-mod Seen
+mod Parts
+mod Masked
 mod Nth

@@ -2,6 +2,6 @@ pub mod Actions
 pub mod Guards
 pub mod KeptGuards
 pub mod Masks
-pub mod MaskedPlaces
+pub mod Declarations
 pub mod Paths
 pub mod Numbered

@@ -2,13 +2,15 @@
 ghost use Rattle.std.specs.Prelude.{◌≡◌, ◌^◌, ◌≤◌, [], IfOk, OnOk, OnErr, length, map};
 ghost use Rattle.pdl_rules.specs.Places as rules;
 ghost use Rattle.pdl_paths.specs.Actions.{place_view};
-ghost use Rattle.pdl_paths.specs.Guards.{guard_view};
+ghost use Rattle.pdl_paths.specs.Guards.{branch_view, guard_view};
 ghost use Rattle.pdl_paths.specs.KeptGuards.{kept_view};
-ghost use Rattle.pdl_paths.specs.Masks.{number_of, with_new};
+ghost use Rattle.pdl_paths.specs.Masks.{AreMasked, mask_of as spec_mask_of, number_of, with_new};
 
 use crate::action::Action;
-use crate::branch::{Guard, guard_of};
+use crate::branch::{Branch, Guard, guard_of};
+use crate::mask::{EVERYWHERE, Mask};
 use crate::place::Place;
+use crate::readers::branches_at;
 use pdl_kit::{Name, NoMemory};
 use std::alloc::Global;
 use std::marker::Model;
@@ -115,6 +117,27 @@ impl Guards {
             number += 1;
         }
         number
+    }
+
+    /// Sets the masks of places by these guards; else the places stay as they were.
+    pub fn set_masks(&self, places: &mut [Place<'_>])
+        ensures places { map place_view places.new ≡ map place_view places.old }
+        ensures masks { AreMasked self.now places.new }
+    {
+        for place in places.iter_mut() {
+            place.mask = self.mask_of(branches_at(place));
+        }
+    }
+
+    // The mask of what stands in these branches.
+    fn mask_of(&self, branches: &[Branch<'_>]) -> Mask
+        ensures { result ≡ spec_mask_of self.now (map branch_view branches.now) }
+    {
+        let mut mask = EVERYWHERE;
+        for branch in branches {
+            mask = mask.with(self.number(branch.guard), branch.truth);
+        }
+        mask
     }
 }
 

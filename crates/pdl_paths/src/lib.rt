@@ -1,6 +1,6 @@
 //! The places of a pipe: what stands at each, under which guards, and the paths that lead through it.
 //!
-//! The layers above may use `guards_of`, `places` and `PathIter`, read a `Place` by its line, its names and its location, and ask whether a path leads through a place by `on_path`.
+//! The layers above may use `places`, `Guards` with `of` and `set_masks`, and `PathIter`, read a `Place` by its line, its names, its location and its branches, and ask whether a path leads through a place by `on_path`.
 #![tactic(auto)]
 
 pub mod action;
@@ -20,5 +20,7 @@ pub use mask::Mask;
 pub use numbered::on_path;
 pub use path::{Path, PathIter};
 pub use place::Place;
-pub use readers::{guess_at, is_call, is_separator, location_at, memory_at, name_at, variable_at};
-pub use walk::{guards_of, places};
+pub use readers::{
+    branches_at, guess_at, is_call, is_separator, location_at, memory_at, name_at, variable_at,
+};
+pub use walk::places;

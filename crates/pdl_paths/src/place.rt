@@ -18,7 +18,7 @@ pub struct Place<'a> {
     pub action: Action<'a>,
     pub span: Span,
     pub branches: Seq<Branch<'a>>,
-    /// The paths that lead through it.
+    /// The paths that lead through it, once `Guards::set_masks` has set it.
     pub mask: Mask,
 }
 

@@ -1,16 +1,36 @@
 // What rules read of a place.
-ghost use Rattle.std.specs.Prelude.{◌≡◌, option_map};
+ghost use Rattle.std.specs.Prelude.{◌≡◌, map, option_map};
 ghost use Rattle.std.specs.Option.{option_copied};
 ghost use Rattle.pdl_syntax_tree.specs.View.{location_view};
 ghost use Rattle.pdl_rules.specs.Calls as calls;
 ghost use Rattle.pdl_rules.specs.Limits as limits;
 ghost use Rattle.pdl_rules.specs.Names as names;
+ghost use Rattle.pdl_rules.specs.Stages as stages;
 ghost use Rattle.pdl_paths.specs.Actions.{location_at as spec_location_at, place_view};
+ghost use Rattle.pdl_paths.specs.Guards.{branch_view};
 
 use crate::action::Action;
+use crate::branch::Branch;
 use crate::place::Place;
 use pdl_kit::Name;
 use pdl_syntax_tree::Location;
+
+/// The branches that a place stands in, the outermost first; only statements stand in any.
+pub fn branches_at<'a, 'b>(place: &'b Place<'a>) -> &'b [Branch<'a>]
+    ensures { map branch_view result.now ≡ stages.branches_of (place_view place.now) }
+{
+    match place.action {
+        Action::Parameter(_) | Action::Memory(_) | Action::End | Action::StartClause(_) => &[],
+        Action::Separator | Action::CombRead(_, _) | Action::Bind(_, _) => {
+            place.branches.as_slice()
+        }
+        Action::SpecCall(_, _) | Action::DelayedRead(_, _) => place.branches.as_slice(),
+        Action::Write(_, _) | Action::Reserve(_, _) => place.branches.as_slice(),
+        Action::Block(_) | Action::Release(_) | Action::If(_, _, _) => place.branches.as_slice(),
+        Action::Call(_) | Action::Verify(_, _) => place.branches.as_slice(),
+        Action::SpecCheck | Action::SpecBarrier => place.branches.as_slice(),
+    }
+}
 
 /// The variable that a place defines: a parameter, or what a statement binds.
 pub fn variable_at<'a>(place: &Place<'a>) -> Option<&'a Name>

@@ -4,61 +4,33 @@ ghost use Rattle.pdl_syntax_tree.specs.View.{pipe_view, span_view, stmt_view, st
 ghost use Rattle.pdl_rules.specs.Places as rules;
 ghost use Rattle.pdl_paths.specs.Actions.{place_at, place_view};
 ghost use Rattle.pdl_paths.specs.Guards.{branch_view};
-ghost use Rattle.pdl_paths.specs.Masks.{AreMasked, everywhere, mask_of};
-ghost use Rattle.pdl_paths.specs.MaskedPlaces.{masked_view, masked_place, parameter, memory};
+ghost use Rattle.pdl_paths.specs.Declarations.{parameter, memory};
 
 use crate::action::{Action, action_of, span_of};
 use crate::branch::{Branch, guard_of};
-use crate::guards::Guards;
-use crate::mask::{EVERYWHERE, Mask};
+use crate::mask::EVERYWHERE;
 use crate::place::Place;
 use pdl_kit::{NoMemory, Seq};
 use pdl_syntax_tree::{Mem, Param, Pipe, Span, Stmt};
 use std::alloc::Global;
 
-// The branches that a statement stands in, the outermost first, and their mask.
-#[derive(Drop)]
-struct Outer<'a> {
-    branches: Vec<Branch<'a>>,
-    mask: Mask,
-}
-
-/// The places of a pipe in text order, with masks of these guards.
-pub fn places<'a>(
-    alloc: Global,
-    pipe: &'a Pipe,
-    guards: &Guards,
-) -> Result<Vec<Place<'a>>, NoMemory>
-    ensures places { IfOk result (λ ps.
-        map place_view ps.items ≡ rules.places (pipe_view pipe.now)) }
-    ensures masks { IfOk result (λ ps. AreMasked guards.now ps.items) }
+/// The places of a pipe in text order; their masks are not set yet.
+pub fn places<'a>(alloc: Global, pipe: &'a Pipe) -> Result<Vec<Place<'a>>, NoMemory>
+    ensures { IfOk result (λ ps. map place_view ps.items ≡ rules.places (pipe_view pipe.now)) }
 {
     let mut places = Vec::new(alloc);
     add_params(alloc, &mut places, pipe.params.as_slice())?;
     add_mems(alloc, &mut places, pipe.mems.as_slice())?;
-    let branches = Vec::new(alloc);
-    let outer = Outer {
-        branches,
-        mask: EVERYWHERE,
-    };
-    add_stmts(alloc, guards, &mut places, &outer, pipe.body.as_slice())?;
+    let outer = Vec::new(alloc);
+    add_stmts(alloc, &mut places, outer.as_slice(), pipe.body.as_slice())?;
     places.push(bare(alloc, Action::End, pipe.end))?;
     places.push(bare(alloc, Action::StartClause(&pipe.start), pipe.start.span))?;
     Ok(places)
 }
 
-/// The guards of a pipe, of however many `if`s.
-pub fn guards_of(alloc: Global, pipe: &Pipe) -> Result<Guards, NoMemory>
-    ensures { IfOk result (λ gs. gs ≡ rules.guards (rules.places (pipe_view pipe.now))) }
-{
-    let none = Guards::new(alloc);
-    let places = places(alloc, pipe, &none)?;
-    Guards::of(alloc, places.as_slice())
-}
-
 // A place that stands in no branch.
 fn bare<'a>(alloc: Global, action: Action<'a>, span: Span) -> Place<'a>
-    ensures { masked_view result ≡ (place_at (span_view span) [] action.entry, everywhere) }
+    ensures { place_view result ≡ place_at (span_view span) [] action.entry }
 {
     Place {
         action,
@@ -73,8 +45,8 @@ fn add_params<'a>(
     places: &mut Vec<Place<'a>>,
     params: &'a [Param],
 ) -> Result<(), NoMemory>
-    ensures { OnOk result (map masked_view places.new.items
-        ≡ map masked_view places.old.items ++ map parameter params.now) }
+    ensures { OnOk result (map place_view places.new.items
+        ≡ map place_view places.old.items ++ map parameter params.now) }
 {
     for param in params {
         places.push(bare(alloc, Action::Parameter(param), param.name.span))?;
@@ -83,8 +55,8 @@ fn add_params<'a>(
 }
 
 fn add_mems<'a>(alloc: Global, places: &mut Vec<Place<'a>>, mems: &'a [Mem]) -> Result<(), NoMemory>
-    ensures { OnOk result (map masked_view places.new.items
-        ≡ map masked_view places.old.items ++ map memory mems.now) }
+    ensures { OnOk result (map place_view places.new.items
+        ≡ map place_view places.old.items ++ map memory mems.now) }
 {
     for mem in mems {
         places.push(bare(alloc, Action::Memory(mem), mem.name.span))?;
@@ -96,16 +68,13 @@ fn add_mems<'a>(alloc: Global, places: &mut Vec<Place<'a>>, mems: &'a [Mem]) -> 
 #[cycle(walk)]
 fn add_stmt<'a>(
     alloc: Global,
-    guards: &Guards,
     places: &mut Vec<Place<'a>>,
-    outer: &Outer<'a>,
+    outer: &[Branch<'a>],
     stmt: &'a Stmt,
 ) -> Result<(), NoMemory>
-    requires { outer.now.mask ≡ mask_of guards.now
-        (map branch_view outer.now.branches.items) }
-    ensures { OnOk result (map masked_view places.new.items
-        ≡ map masked_view places.old.items ++ map (masked_place guards.now)
-        (rules.with_inner (map branch_view outer.now.branches.items) (stmt_view stmt.now))) }
+    ensures { OnOk result (map place_view places.new.items
+        ≡ map place_view places.old.items ++
+        rules.with_inner (map branch_view outer.now) (stmt_view stmt.now)) }
 {
     push_stmt(alloc, places, outer, stmt)?;
     match stmt {
@@ -121,15 +90,15 @@ fn add_stmt<'a>(
                 truth: true,
                 inside: then.as_slice(),
             };
-            let inner = further_in(alloc, guards, outer, taken)?;
-            add_stmts(alloc, guards, places, &inner, then.as_slice())?;
+            let inner = further_in(alloc, outer, taken)?;
+            add_stmts(alloc, places, inner.as_slice(), then.as_slice())?;
             let other = Branch {
                 guard,
                 truth: false,
                 inside: otherwise.as_slice(),
             };
-            let inner = further_in(alloc, guards, outer, other)?;
-            add_stmts(alloc, guards, places, &inner, otherwise.as_slice())
+            let inner = further_in(alloc, outer, other)?;
+            add_stmts(alloc, places, inner.as_slice(), otherwise.as_slice())
         }
         Stmt::Separator { .. } | Stmt::CombRead { .. } | Stmt::Bind { .. } => Ok(()),
         Stmt::SpecCall { .. } | Stmt::DelayedRead { .. } | Stmt::Write { .. } => Ok(()),
@@ -143,19 +112,16 @@ fn add_stmt<'a>(
 #[cycle(walk)]
 fn add_stmts<'a>(
     alloc: Global,
-    guards: &Guards,
     places: &mut Vec<Place<'a>>,
-    outer: &Outer<'a>,
+    outer: &[Branch<'a>],
     stmts: &'a [Stmt],
 ) -> Result<(), NoMemory>
-    requires { outer.now.mask ≡ mask_of guards.now
-        (map branch_view outer.now.branches.items) }
-    ensures { OnOk result (map masked_view places.new.items
-        ≡ map masked_view places.old.items ++ map (masked_place guards.now)
-        (rules.statements (map branch_view outer.now.branches.items) (stmts_view stmts.now))) }
+    ensures { OnOk result (map place_view places.new.items
+        ≡ map place_view places.old.items ++
+        rules.statements (map branch_view outer.now) (stmts_view stmts.now)) }
 {
     for stmt in stmts {
-        add_stmt(alloc, guards, places, outer, stmt)?;
+        add_stmt(alloc, places, outer, stmt)?;
     }
     Ok(())
 }
@@ -164,43 +130,32 @@ fn add_stmts<'a>(
 fn push_stmt<'a>(
     alloc: Global,
     places: &mut Vec<Place<'a>>,
-    outer: &Outer<'a>,
+    outer: &[Branch<'a>],
     stmt: &'a Stmt,
 ) -> Result<(), NoMemory>
-    ensures { OnOk result (map masked_view places.new.items
-        ≡ map masked_view places.old.items ++ (
-          rules.Statement (stmt_view stmt.now) (map branch_view outer.now.branches.items),
-          outer.now.mask,
-        ) ∷ []) }
+    ensures { OnOk result (map place_view places.new.items
+        ≡ map place_view places.old.items ++
+        rules.Statement (stmt_view stmt.now) (map branch_view outer.now) ∷ []) }
 {
-    let branches = Seq::copy_of(alloc, outer.branches.as_slice())?;
+    let branches = Seq::copy_of(alloc, outer)?;
     places.push(Place {
         action: action_of(stmt),
         span: span_of(stmt),
         branches,
-        mask: outer.mask,
+        mask: EVERYWHERE,
     })?;
     Ok(())
 }
 
-// One branch further in.
+// The branches of what stands one branch further in.
 fn further_in<'a>(
     alloc: Global,
-    guards: &Guards,
-    outer: &Outer<'a>,
+    outer: &[Branch<'a>],
     branch: Branch<'a>,
-) -> Result<Outer<'a>, NoMemory>
-    requires { outer.now.mask ≡ mask_of guards.now
-        (map branch_view outer.now.branches.items) }
-    ensures branches { IfOk result (λ inner.
-        inner.branches.items ≡ outer.now.branches.items ++ branch.entry ∷ []) }
-    ensures mask { IfOk result (λ inner.
-        inner.mask ≡ mask_of guards.now (map branch_view inner.branches.items)) }
+) -> Result<Vec<Branch<'a>>, NoMemory>
+    ensures { IfOk result (λ bs. bs.items ≡ outer.now ++ branch.entry ∷ []) }
 {
-    let mut branches = Vec::from_slice(alloc, outer.branches.as_slice())?;
+    let mut branches = Vec::from_slice(alloc, outer)?;
     branches.push(branch)?;
-    Ok(Outer {
-        branches,
-        mask: outer.mask.with(guards.number(branch.guard), branch.truth),
-    })
+    Ok(branches)
 }

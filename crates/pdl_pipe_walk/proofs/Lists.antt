@@ -55,8 +55,10 @@ pub on_ok : {A B : Type 0} (r : Result (Unit {0}) NoMemory) → (A → B) → On
 on_ok (Ok x) f h = f h
 on_ok (Err e) f h = h
 
+-- what stands in a list before its last stands there without it
 pub some_before : {T : Type 0} (xs : List (Option T)) (o : Option T) (i : ℕ) → i < length xs → some_at (xs ++ o ∷ []) i ≡ some_at xs i
 some_before xs o i h = get_or_append_left xs (o ∷ []) None i h
 
+-- the last of a list stands at its number
 pub some_last : {T : Type 0} (xs : List (Option T)) (o : Option T) (n : ℕ) → length xs ≡ n → some_at (xs ++ o ∷ []) n ≡ o
 some_last xs o n h = get_or_push xs o None n h

@@ -1,3 +1,3 @@
-mod Ordered
-mod Few
-mod Told
+mod LowestRule
+mod GuardCount
+mod FirstBrokenRule

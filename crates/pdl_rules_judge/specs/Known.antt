@@ -6,6 +6,7 @@ use Rattle.pdl_rules.specs.Speculation.{verify_stage}
 use Rattle.pdl_rules.specs.Widths.{variables}
 use Rattle.pdl_paths.specs.Actions.{place_view}
 use Rattle.pdl_paths.specs.Masks.{AreMasked}
+use Rattle.pdl_rules_stages.specs.Stages.{stages_in}
 use Rattle.pdl_locks.specs.Facts.{AreFacts}
 use Rattle.pdl_locks.specs.Plan.{plan_of}
 use Rattle.pdl_rules_judge.specs.declared.order.Known.{Known}
@@ -25,5 +26,6 @@ pub record IsKnown (p : Pipe) (known : Known) : Type 0 where
 pub record AreFindings (p : Pipe) (found : Findings) : Type 0 where
   pub guards : found.guards ≡ guards (places p)
   pub variables : found.variables ≡ variables p
+  pub stages : found.stages.items ≡ stages_in (places p)
   pub locks : found.plans.locks ≡ plan_of p
   pub spec : found.plans.spec ≡ verify_stage p

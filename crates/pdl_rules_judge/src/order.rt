@@ -1,9 +1,12 @@
 // The rules of the tree in their order.
-ghost use Rattle.std.specs.Prelude.{◌≡◌, ◌++◌, None, IfOk};
+ghost use Rattle.std.specs.Prelude.{◌≡◌, ◌++◌, None, IfOk, map};
 ghost use Rattle.pdl_kit.specs.declared.refusal.Refusal.{Refusal as told};
+ghost use Rattle.pdl_semantics.specs.Tree as tree;
 ghost use Rattle.pdl_syntax_tree.specs.View.{pipe_view};
+ghost use Rattle.pdl_rules.specs.Places.{places as spec_places};
 ghost use Rattle.pdl_rules.specs.Refusal.{Refused, first_broken, limits, after_limits};
 ghost use Rattle.pdl_rules.specs.Speculation.{verify_stage};
+ghost use Rattle.pdl_paths.specs.Actions.{place_view};
 ghost use Rattle.pdl_rules_names.specs.Order.{name_rules};
 ghost use Rattle.pdl_rules_widths.specs.Order.{width_rules};
 ghost use Rattle.pdl_locks.specs.Facts.{AreLines as AreLockLines};
@@ -15,7 +18,7 @@ ghost use Rattle.pdl_rules_judge.specs.OrderedRules.{Answers, fork_rules, after_
 
 use pdl_kit::{NoMemory, Refusal, Rule};
 use pdl_locks::{LockFacts, LockLines, LockPlan, lock_path_rules, plan_locks};
-use pdl_paths::{Guards, Place, guards_of, places};
+use pdl_paths::{Guards, Place, places};
 use pdl_rules_forks::forks_broken;
 use pdl_rules_limits::check_limits;
 use pdl_rules_names::check_names;
@@ -33,11 +36,12 @@ pub struct Plans {
     pub spec: SpecPlan,
 }
 
-/// What the rules found of a pipe that keeps them all: its guards in text order, its variables with their widths, and its plans.
+/// What the rules found of a pipe that keeps them all: its guards in text order, its variables with their widths, the stage of each of its places, and its plans.
 #[derive(Drop)]
 pub struct Findings {
     pub guards: Guards,
     pub variables: Variables,
+    pub stages: Vec<usize>,
     pub plans: Plans,
 }
 
@@ -46,32 +50,34 @@ pub fn judge(alloc: Global, pipe: &Pipe) -> Result<Findings, Refusal>
     ensures answers { Answers (limits ++ after_limits) (pipe_view pipe.now) result }
     ensures found { IfOk result (AreFindings (pipe_view pipe.now)) }
 {
-    match ask_limits(alloc, pipe) {
-        Ok(()) => within(alloc, pipe),
+    let places = places(alloc, pipe)?;
+    match ask_limits(alloc, places.as_slice()) {
+        Ok(()) => within(alloc, pipe, places),
         Err(refusal) => Err(refusal),
     }
 }
 
-// Asks the limits. They are asked of places that know no guards, since a pipe may have any number of them.
-fn ask_limits(alloc: Global, pipe: &Pipe) -> Result<(), Refusal>
-    ensures { Answers limits (pipe_view pipe.now) result }
+// Asks the limits. No guards are collected before, since a pipe may have any number of them.
+fn ask_limits(alloc: Global, places: &[Place<'_>]) -> Result<(), Refusal>
+    ensures { (p : tree.Pipe) → map place_view places.now ≡ spec_places p →
+        Answers limits p result }
 {
-    let none = Guards::new(alloc);
-    let places = places(alloc, pipe, &none)?;
-    match check_limits(alloc, places.as_slice())? {
+    match check_limits(alloc, places)? {
         Some(broken) => Err(refusal_at(broken.rule, broken.line)),
         None => Ok(()),
     }
 }
 
-// Asks a pipe that keeps the limits the other rules.
-fn within(alloc: Global, pipe: &Pipe) -> Result<Findings, Refusal>
-    requires { first_broken limits (pipe_view pipe.now) ≡ None }
+// Asks a pipe with these places, that keeps the limits, the other rules.
+fn within(alloc: Global, pipe: &Pipe, places: Vec<Place<'_>>) -> Result<Findings, Refusal>
+    requires kept { first_broken limits (pipe_view pipe.now) ≡ None }
+    requires of { map place_view places.items ≡ spec_places (pipe_view pipe.now) }
     ensures answers { Answers after_limits (pipe_view pipe.now) result }
     ensures found { IfOk result (AreFindings (pipe_view pipe.now)) }
 {
-    let guards = guards_of(alloc, pipe)?;
-    let places = places(alloc, pipe, &guards)?;
+    let mut places = places;
+    let guards = Guards::of(alloc, places.as_slice())?;
+    guards.set_masks(&mut places);
     let all = places.as_slice();
     let variables = Variables::of(alloc, pipe.mems.as_slice(), all)?;
     let facts = LockFacts::of(alloc, pipe, all)?;
@@ -87,6 +93,7 @@ fn within(alloc: Global, pipe: &Pipe) -> Result<Findings, Refusal>
         Ok(plans) => Ok(Findings {
             guards,
             variables,
+            stages: facts.stages,
             plans,
         }),
         Err(refusal) => Err(refusal),

@@ -1,11 +1,12 @@
 // The first place that breaks a rule.
 ghost use Rattle.std.specs.Prelude.{◌≡◌, [], map, length, IfOk};
 ghost use Rattle.pdl_paths.specs.Actions.{place_view};
-ghost use Rattle.pdl_rules_on_paths.specs.Lowest.{breaks_at, line_where, nth_line, IsLowest};
+ghost use Rattle.pdl_rules_on_paths.specs.Lowest.{breaks_at, line_where, IsLowest};
 
 use crate::text_rule::TextRule;
 use pdl_kit::NoMemory;
 use pdl_paths::Place;
+use pdl_rules_on_paths::line_at;
 use std::alloc::Global;
 
 /// The line of the first place that breaks a rule, counted from 1, none where no place does.
@@ -20,17 +21,6 @@ pub fn line_broken<R: TextRule>(
 {
     let lowest = lowest_place(alloc, rule, places)?;
     Ok(line_at(places, lowest))
-}
-
-// The line of a place, none past the last one.
-fn line_at(places: &[Place<'_>], k: usize) -> Option<u32>
-    ensures { result ≡ nth_line (map place_view places.now) k }
-{
-    if k < places.len() {
-        Some(places[k].line())
-    } else {
-        None
-    }
 }
 
 // The number of the first place that breaks a rule; how many places there are, where none does.

@@ -1,28 +1,10 @@
-// The branches that places stand in.
+// Whether some branches are the outer ones of others.
 ghost use Rattle.std.specs.Prelude.{◌≡◌, map};
 ghost use Rattle.pdl_rules.specs.Places as rules;
 ghost use Rattle.pdl_rules.specs.Stages as spec;
-ghost use Rattle.pdl_paths.specs.Actions.{place_view};
 ghost use Rattle.pdl_paths.specs.Guards.{branch_view, guard_view};
 
-use pdl_paths::{Action, Branch, Guard, Place};
-
-/// The branches that a place stands in, the outermost first; only statements stand in any.
-pub fn branches_at<'a, 'b>(place: &'b Place<'a>) -> &'b [Branch<'a>]
-    ensures { map branch_view result.now ≡ spec.branches_of (place_view place.now) }
-{
-    match place.action {
-        Action::Parameter(_) | Action::Memory(_) | Action::End | Action::StartClause(_) => &[],
-        Action::Separator | Action::CombRead(_, _) | Action::Bind(_, _) => {
-            place.branches.as_slice()
-        }
-        Action::SpecCall(_, _) | Action::DelayedRead(_, _) => place.branches.as_slice(),
-        Action::Write(_, _) | Action::Reserve(_, _) => place.branches.as_slice(),
-        Action::Block(_) | Action::Release(_) | Action::If(_, _, _) => place.branches.as_slice(),
-        Action::Call(_) | Action::Verify(_, _) => place.branches.as_slice(),
-        Action::SpecCheck | Action::SpecBarrier => place.branches.as_slice(),
-    }
-}
+use pdl_paths::{Branch, Guard};
 
 fn same_guard(a: Guard<'_>, b: Guard<'_>) -> bool
     ensures { result ≡ rules.same_guard (guard_view a.entry) (guard_view b.entry) }

@@ -5,9 +5,9 @@ ghost use Rattle.pdl_paths.specs.Actions.{place_view};
 ghost use Rattle.pdl_paths.specs.Guards.{branch_view};
 ghost use Rattle.pdl_rules_stages.specs.Stages.{stages_in};
 
-use crate::branches::{are_outer, branches_at};
+use crate::branches::are_outer;
 use pdl_kit::NoMemory;
-use pdl_paths::{Branch, Place, is_separator};
+use pdl_paths::{Branch, Place, branches_at, is_separator};
 use std::alloc::Global;
 
 /// The stage of each place, counted from 0: that of the last separator before it whose branches it stands in too, else the first.

@@ -1,14 +1,12 @@
 // One rule by itself.
-ghost use Rattle.std.specs.Prelude.{◌≡◌, ℕ, ◌+◌, ◌≤◌, List, Some, false, map, length, slice_get};
-ghost use Rattle.pdl_paths.specs.Actions.{place_view};
-ghost use Rattle.pdl_rules_on_paths.specs.Lowest.{nth_line};
+ghost use Rattle.std.specs.Prelude.{◌≡◌, ℕ, ◌+◌, ◌≤◌, List, Some, false, length, slice_get};
 ghost use Rattle.pdl_rules_walk.specs.Course.{IsLowestSoFar, IsOnPath, by_bits, path_line};
 ghost use Rattle.pdl_rules_walk.specs.Aside.{aside};
 
 use crate::path_rules::PathRules;
 use pdl_kit::NoMemory;
 use pdl_paths::{Path, Place};
-use pdl_rules_on_paths::PathRule;
+use pdl_rules_on_paths::{PathRule, line_at};
 use std::alloc::Global;
 
 /// A rule that is asked alone.
@@ -87,15 +85,4 @@ impl<R: PathRule> PathRules for Alone<R> {
         xs bits k courses.lowest x
         (λ path before aside_it h. R.skips rules.0 path before x courses.state aside_it h) got off
         stands };
-}
-
-/// The line of a place, none past the last one.
-pub fn line_at(places: &[Place<'_>], k: usize) -> Option<u32>
-    ensures { result ≡ nth_line (map place_view places.now) k }
-{
-    if k < places.len() {
-        Some(places[k].line())
-    } else {
-        None
-    }
 }

@@ -8,7 +8,7 @@ pub mod both;
 pub mod path_rules;
 pub mod walk;
 
-pub use alone::{Alone, Course, line_at};
+pub use alone::{Alone, Course};
 pub use both::Both;
 pub use path_rules::PathRules;
 pub use walk::broken_lines;

@@ -91,19 +91,23 @@ pub none_leaves : (es : List Pending) → entries_left None es ≡ es
 none_leaves [] = refl
 none_leaves (e ∷ es) = ap (λ (xs : List Pending). e ∷ xs) (none_leaves es)
 
+-- the state after one cycle more is that of the cycle from the state before it
 pub after_more : (q : Pipe) (st : State) (before : List (List Bool)) (bits : List Bool)
     → state_after q st (before ++ bits ∷ []) ≡ cycle q (state_after q st before) bits
 after_more q st [] bits = refl
 after_more q st (b ∷ before) bits = after_more q (cycle q st b) before bits
 
+-- values kept one list after another are those of both lists
 pub kept_append : (xs ys : List Kept) (env : List ℕ) → with_kept (xs ++ ys) env ≡ with_kept ys (with_kept xs env)
 kept_append [] ys env = refl
 kept_append (x ∷ xs) ys env = kept_append xs ys (slice_set env x.var x.word)
 
+-- values that are kept leave the number of variables
 pub kept_long : (xs : List Kept) (env : List ℕ) → length (with_kept xs env) ≡ length env
 kept_long [] env = refl
 kept_long (x ∷ xs) env = kept_long xs (slice_set env x.var x.word) ∙ length-set env x.var x.word
 
+-- a stage merges a fork only where it has one
 pub merges_some : (o : Option ℕ) (f : ℕ) → merges_fork o f ≡ true → o ≡ Some f
 merges_some None f h = absurd (false≢true h)
 merges_some (Some g) f h = ap Some (eqb-true g f h)

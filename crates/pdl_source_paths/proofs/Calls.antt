@@ -149,7 +149,7 @@ module _ (ms : List Mem) (v : Option ℕ) (before : List Place) (bs : List Branc
       ),
     )
 
-  if_next : (k : Making) (t : Stmt) (e : Expr) → is_call (Statement t bs) ≡ false → is_verify (Statement t bs) ≡ false → Stood k before → Goes k t (Along.if_ops vs e)
+  if_next : (k : Making) (t : Stmt) (e : Expr) → is_call (Statement t bs) ≡ false → is_verify (Statement t bs) ≡ false → Stood k before → Goes k t (PathStatements.if_ops vs e)
   if_next k t (Variable y) c w i = still k t c w i
   if_next k t _ c w i = still k t c w i
 

@@ -172,7 +172,7 @@ module _ (p : Pipe) (rules : KeepsRules p) where
         ∙ first_none (is_release (mem_of p.mems n)) (flat p).stmts (ap (none_of (is_release (mem_of p.mems n))) (stmts_are p) ∙ none_sited (is_release (mem_of p.mems n)) p.mems (sites_of p) (each (sites_of p) (all_here p) h)))
       where
         of_stmt : (t : Site) → Here p t → releases_memory n (place_of t) ≡ false → some_op (is_release (mem_of p.mems n)) (ops p.mems t) ≡ false
-        of_stmt t k e = Seen.no_release p.mems (mem_of p.mems n) t.walk.vars t.stmt (λ sp at f. mem_is p.mems at.mem.name n (named sp at f) there ∙ ap (λ s. releases_memory n (Statement s t.branches)) (sym f) ∙ e)
+        of_stmt t k e = StatementTests.no_release p.mems (mem_of p.mems n) t.walk.vars t.stmt (λ sp at f. mem_is p.mems at.mem.name n (named sp at f) there ∙ ap (λ s. releases_memory n (Statement s t.branches)) (sym f) ∙ e)
           where
             named : (sp : Span) (at : Location) → t.stmt ≡ Release sp at → is_memory p.mems at.mem.name ≡ true
             named sp at f = (located p rules t k at (ap location_of f)).0

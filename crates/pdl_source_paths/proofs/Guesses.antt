@@ -333,13 +333,13 @@ module _ (p : Pipe) (rules : KeepsRules p) (v : Guard → Bool) (staged : All St
           unverified (t ∷ ts) h = let parts = or_parts (is_verify (place_of t)) (list_any is_verify (map place_of ts)) h in (none t t.stmt refl parts.0, unverified ts parts.1)
             where
               none : (u : Site) (x : Stmt) → u.stmt ≡ x → is_verify (place_of u) ≡ false → some_op Stages.is_verify (ops p.mems u) ≡ false
-              none u x j h = ap (λ y. some_op Stages.is_verify (Along.ops_of p.mems u.walk.vars y)) j ∙ of_stmt x (sym (ap (λ y. is_verify (Statement y u.branches)) j) ∙ h)
+              none u x j h = ap (λ y. some_op Stages.is_verify (PathStatements.ops_of p.mems u.walk.vars y)) j ∙ of_stmt x (sym (ap (λ y. is_verify (Statement y u.branches)) j) ∙ h)
                 where
-                  of_if : (d : Expr) → some_op Stages.is_verify (Along.if_ops u.walk.vars d) ≡ false
+                  of_if : (d : Expr) → some_op Stages.is_verify (PathStatements.if_ops u.walk.vars d) ≡ false
                   of_if (Variable y) = refl
                   of_if _ = refl
 
-                  of_stmt : (y : Stmt) → is_verify (Statement y u.branches) ≡ false → some_op Stages.is_verify (Along.ops_of p.mems u.walk.vars y) ≡ false
+                  of_stmt : (y : Stmt) → is_verify (Statement y u.branches) ≡ false → some_op Stages.is_verify (PathStatements.ops_of p.mems u.walk.vars y) ≡ false
                   of_stmt (Verify sp g args) k = absurd (false≢true (sym k))
                   of_stmt (If sp d a b) k = of_if d
                   of_stmt (Reserve sp l R) k = refl

@@ -134,7 +134,7 @@ module _ (p : Pipe) (rules : KeepsRules p) where
   plain_reserves : (i : ℕ) → is_plain (mem_at q i).lock ≡ true → All (λ t. some_op (is_reserve i) (ops p.mems t) ≡ false) (sites_of p)
   plain_reserves i plain =
       all_map (Here p) (λ t. some_op (is_reserve i) (ops p.mems t) ≡ false)
-      (λ t h. Seen.no_reserve p.mems i t.walk.vars t.stmt (λ sp at k e. unlocked i plain at.mem.name (at_stmt t h (Reserve sp at k) e))) (sites_of p) (all_here p)
+      (λ t h. StatementTests.no_reserve p.mems i t.walk.vars t.stmt (λ sp at k e. unlocked i plain at.mem.name (at_stmt t h (Reserve sp at k) e))) (sites_of p) (all_here p)
     where
       at_stmt : (t : Site) → Here p t → (s : Stmt) → t.stmt ≡ s → Locks.breaks_f5 p (Statement s t.branches) ≡ false
       at_stmt t h s e = ap (λ x. Locks.breaks_f5 p (Statement x t.branches)) (sym e) ∙ rules F5 t.front (place_of t) h.later h.whole
@@ -142,7 +142,7 @@ module _ (p : Pipe) (rules : KeepsRules p) where
   plain_releases : (i : ℕ) → is_plain (mem_at q i).lock ≡ true → All (λ t. some_op (is_release i) (ops p.mems t) ≡ false) (sites_of p)
   plain_releases i plain =
       all_map (Here p) (λ t. some_op (is_release i) (ops p.mems t) ≡ false)
-      (λ t h. Seen.no_release p.mems i t.walk.vars t.stmt (λ sp at e. unlocked i plain at.mem.name (at_stmt t h (Release sp at) e))) (sites_of p) (all_here p)
+      (λ t h. StatementTests.no_release p.mems i t.walk.vars t.stmt (λ sp at e. unlocked i plain at.mem.name (at_stmt t h (Release sp at) e))) (sites_of p) (all_here p)
     where
       at_stmt : (t : Site) → Here p t → (s : Stmt) → t.stmt ≡ s → Locks.breaks_f5 p (Statement s t.branches) ≡ false
       at_stmt t h s e = ap (λ x. Locks.breaks_f5 p (Statement x t.branches)) (sym e) ∙ rules F5 t.front (place_of t) h.later h.whole
@@ -204,7 +204,7 @@ module _ (p : Pipe) (rules : KeepsRules p) where
         (λ t a d. record { located = located p rules t a.0.1; reserves = a.1; late = d; inside = a.0.0.inside }) ts
         (all_on (λ t. Both t × ((i : ℕ) → some_op (is_reserve i) (ops p.mems t) ≡ true → t.walk.stage ≡ reserve_stage q i)) c (sites_of p)
         (all_both Both (λ t. (i : ℕ) → some_op (is_reserve i) (ops p.mems t) ≡ true → t.walk.stage ≡ reserve_stage q i) (λ t. Both t × ((i : ℕ) → some_op (is_reserve i) (ops p.mems t) ≡ true → t.walk.stage ≡ reserve_stage q i)) (λ t a b. (a, b)) (sites_of p) both
-        (Seen.all_numbers (λ i t. some_op (is_reserve i) (ops p.mems t) ≡ true → t.walk.stage ≡ reserve_stage q i) (sites_of p) reserve_home)))
+        (StatementTests.all_numbers (λ i t. some_op (is_reserve i) (ops p.mems t) ≡ true → t.walk.stage ≡ reserve_stage q i) (sites_of p) reserve_home)))
         late
 
     told : All (Guesses.Told p rules v staged verify_home) ts
@@ -248,9 +248,9 @@ module _ (p : Pipe) (rules : KeepsRules p) where
     mem_pass i low =
         and_from _ _ (writes_pass i low).0
         (and_from _ _ (writes_pass i low).1
-        (and_from _ _ (Seen.at_seen (is_reserve i) (Seen.reserve_blind i) (reserve_stage q i) p.mems ts (all_on (λ t. some_op (is_reserve i) (ops p.mems t) ≡ true → t.walk.stage ≡ reserve_stage q i) c (sites_of p) (reserve_home i)))
-        (and_from _ _ (Seen.at_seen (is_release i) (Seen.release_blind i) (commit_stage q i) p.mems ts (all_on (λ t. some_op (is_release i) (ops p.mems t) ≡ true → t.walk.stage ≡ commit_stage q i) c (sites_of p) (release_home i)))
-        (plain_or i _ (λ e. Seen.none_seen (is_release i) (Seen.release_blind i) p.mems ts (all_on (λ t. some_op (is_release i) (ops p.mems t) ≡ false) c (sites_of p) (plain_releases i e)))))))
+        (and_from _ _ (StatementTests.at_seen (is_reserve i) (StatementTests.reserve_blind i) (reserve_stage q i) p.mems ts (all_on (λ t. some_op (is_reserve i) (ops p.mems t) ≡ true → t.walk.stage ≡ reserve_stage q i) c (sites_of p) (reserve_home i)))
+        (and_from _ _ (StatementTests.at_seen (is_release i) (StatementTests.release_blind i) (commit_stage q i) p.mems ts (all_on (λ t. some_op (is_release i) (ops p.mems t) ≡ true → t.walk.stage ≡ commit_stage q i) c (sites_of p) (release_home i)))
+        (plain_or i _ (λ e. StatementTests.none_seen (is_release i) (StatementTests.release_blind i) p.mems ts (all_on (λ t. some_op (is_release i) (ops p.mems t) ≡ false) c (sites_of p) (plain_releases i e)))))))
 
     abbrev o : Option ℕ
     o = Stages.verify_stage (flat p).stmts
@@ -258,10 +258,10 @@ module _ (p : Pipe) (rules : KeepsRules p) where
     makings_pass : (makings_ok o Unmade (seen p.mems ts) ≡ true) × (is_made (making_all Unmade (seen p.mems ts)) ≡ true)
     makings_pass = (makes.0, ap is_made makes.2 ∙ made_end makes.1 (front_of p ++ map place_of ts) makes.3 calls (verified_end p rules v staged verify_home (front_of p ++ map place_of ts) all_places asked.1))
       where
-        asked : Scanning.AllAsked p o (front_of p) ts × Guesses.Called p rules v staged verify_home (front_of p ++ map place_of ts)
+        asked : PathScans.AllAsked p o (front_of p) ts × Guesses.Called p rules v staged verify_home (front_of p ++ map place_of ts)
         asked = all_asked p rules v staged verify_home (front_of p) ts on told called
 
-        makes : (makings_ok o Unmade (seen p.mems ts) ≡ true) × (j : Certain.Making) × (making_all Unmade (seen p.mems ts) ≡ j) × Stood j (front_of p ++ map place_of ts)
+        makes : (makings_ok o Unmade (seen p.mems ts) ≡ true) × (j : GuessScans.Making) × (making_all Unmade (seen p.mems ts) ≡ j) × Stood j (front_of p ++ map place_of ts)
         makes = makings_along p q lock_is o (front_of p) Unmade ts asked.0 (none_front p is_call (λ a. refl) (λ m. refl), none_front p Speculation.is_verify (λ a. refl) (λ m. refl))
 
         text : filter (on_path c) (front_of p ++ statements [] p.body) ≡ front_of p ++ map place_of ts
@@ -283,7 +283,7 @@ module _ (p : Pipe) (rules : KeepsRules p) where
     knows_pass : Flat.list_all (λ (x : Flat.Stmt). knows_memory (length q.mems) x.op) (seen p.mems ts) ≡ true
     knows_pass =
         subst (λ n. Flat.list_all (λ (x : Flat.Stmt). knows_memory n x.op) (seen p.mems ts) ≡ true) (sym (mems_length p.mems))
-        (Seen.all_seen (knows_memory (length p.mems)) p.mems ts (all_map (Known p q) (λ t. ops_all (λ op. knows_memory (length p.mems) (Alone.answered_op op)) (ops p.mems t) ≡ true) (λ t h. Seen.knows_all p.mems t.walk.vars t.stmt (λ at e. (h.located at e).0)) ts known))
+        (StatementTests.all_seen (knows_memory (length p.mems)) p.mems ts (all_map (Known p q) (λ t. ops_all (λ op. knows_memory (length p.mems) (Alone.answered_op op)) (ops p.mems t) ≡ true) (λ t h. StatementTests.knows_all p.mems t.walk.vars t.stmt (λ at e. (h.located at e).0)) ts known))
 
     pub path_ok : path_passes q (onpath path q.stmts) ≡ true
     path_ok =
@@ -293,7 +293,7 @@ module _ (p : Pipe) (rules : KeepsRules p) where
         (and_from _ _ knows_pass
         (and_from _ _ reads_pass
         (and_from _ _ (below_all (mem_passes q (seen p.mems ts)) (length q.mems) (λ m low. mem_pass m (subst (λ n. m < n) (mems_length p.mems) low)))
-        (subst (λ w. (makings_ok w Unmade (seen p.mems ts) && (is_made (making_all Unmade (seen p.mems ts)) && all_sure w false no_scan (seen p.mems ts))) ≡ true) (sym (Seen.verify_looked (flat p).stmts))
+        (subst (λ w. (makings_ok w Unmade (seen p.mems ts) && (is_made (making_all Unmade (seen p.mems ts)) && all_sure w false no_scan (seen p.mems ts))) ≡ true) (sym (StatementTests.verify_looked (flat p).stmts))
         (and_from _ _ makings_pass.0 (and_from _ _ makings_pass.1 sure_pass))))))))
 
   -- ALL TESTS
@@ -301,8 +301,8 @@ module _ (p : Pipe) (rules : KeepsRules p) where
   lock_ok : (m : ℕ) → m < length p.mems → lock_passes q m ≡ true
   lock_ok m low =
       and_from _ _ (rooms p rules p.mems (map Parameter p.params) m (all_after p))
-      (and_from _ _ (Seen.all_looked (is_reserve m) (Seen.reserve_blind m) (reserve_stage q m) (flat p).stmts ∙ reserves_in p rules m)
-      (and_from _ _ (Seen.all_looked (is_release m) (Seen.release_blind m) (commit_stage q m) (flat p).stmts ∙ releases_in p rules m)
+      (and_from _ _ (StatementTests.all_looked (is_reserve m) (StatementTests.reserve_blind m) (reserve_stage q m) (flat p).stmts ∙ reserves_in p rules m)
+      (and_from _ _ (StatementTests.all_looked (is_release m) (StatementTests.release_blind m) (commit_stage q m) (flat p).stmts ∙ releases_in p rules m)
       (⊎_elim
       (λ t. or_right (not (is_plain (mem_at q m).lock)) _ (and_from _ _
       (eq-eqb _ 0 (ap (λ o. unwrap_or o 0) (stage_at is_reserve (flat p).stmts m p.mems low ∙ first_none (is_reserve m) (flat p).stmts (ap (none_of (is_reserve m)) (stmts_are p) ∙ none_sited (is_reserve m) p.mems (sites_of p) (plain_reserves m t)))))
@@ -327,12 +327,12 @@ module _ (p : Pipe) (rules : KeepsRules p) where
     known =
         subst (λ n. Flat.list_all (λ (x : Flat.Stmt). knows_memory n x.op) q.stmts ≡ true) (sym (mems_length p.mems))
         (ap (λ l. Flat.list_all (λ (x : Flat.Stmt). knows_memory (length p.mems) x.op) (looked_all l)) (stmts_are p)
-        ∙ Seen.all_text (knows_memory (length p.mems)) p.mems (sites_of p)
-        (all_map (Here p) (λ t. ops_all (λ op. knows_memory (length p.mems) (Alone.answered_op op)) (ops p.mems t) ≡ true) (λ t h. Seen.knows_all p.mems t.walk.vars t.stmt (λ at e. (located p rules t h at e).0)) (sites_of p) (all_here p)));
-    unfetched = Seen.unfetched (flat p).stmts;
+        ∙ StatementTests.all_text (knows_memory (length p.mems)) p.mems (sites_of p)
+        (all_map (Here p) (λ t. ops_all (λ op. knows_memory (length p.mems) (Alone.answered_op op)) (ops p.mems t) ≡ true) (λ t h. StatementTests.knows_all p.mems t.walk.vars t.stmt (λ at e. (located p rules t h at e).0)) (sites_of p) (all_here p)));
+    unfetched = StatementTests.unfetched (flat p).stmts;
     below =
-        Seen.below_verify (length q.stages) (flat p).stmts
+        StatementTests.below_verify (length q.stages) (flat p).stmts
         (ap (Flat.list_all (λ (x : Flat.Stmt). nat_lt x.stage (length q.stages))) (stmts_are p)
-        ∙ Seen.inside_text (length q.stages) p.mems (sites_of p) (all_map (Fine p) (λ t. t.walk.stage < length q.stages) (λ t h. h.inside) (sites_of p) (all_fine p rules)));
+        ∙ StatementTests.inside_text (length q.stages) p.mems (sites_of p) (all_map (Fine p) (λ t. t.walk.stage < length q.stages) (λ t h. h.inside) (sites_of p) (all_fine p rules)));
     paths = path_ok apart;
   }

@@ -369,7 +369,7 @@ module _ (p : Pipe) (q : Flat.Pipe) (lock_is : (m : List ℕ) → is_plain (mem_
     (vs : List Var) (before : List Place) (c : Scan) (bs : List Branch) (i : Scanned p vs before c) where
   -- a statement with no location but that of a read
   scanned_if : (e : Expr) (x : Place) → ((l : Location) (h : Hold) → after_place l h x ≡ h) → ((l : Location) → reserves_location l x ≡ false) → ((l : Location) → reserves_to_write l x ≡ false)
-      → (s : Span) → Scanned p (Growth.if_past vs e) (before ++ x ∷ []) (opens_ops (Along.if_ops vs e) c)
+      → (s : Span) → Scanned p (Growth.if_past vs e) (before ++ x ∷ []) (opens_ops (PathStatements.if_ops vs e) c)
   scanned_if (Variable y) x same none nor s = same_next p vs before x c same none nor i
   scanned_if _ x same none nor s = plain_next p vs _ before x c same none nor i
 
@@ -404,7 +404,7 @@ module _ (p : Pipe) (q : Flat.Pipe) (lock_is : (m : List ℕ) → is_plain (mem_
         by false g e f = or_left _ _ e
         by true g e f = or_right _ _ (and_from _ _ (i.blocked_is at (not-false _ f)) (le-leb k _ (late g)))
 
-    if_ok : (e : Expr) → ops_ok q k c (Along.if_ops vs e) ≡ true
+    if_ok : (e : Expr) → ops_ok q k c (PathStatements.if_ops vs e) ≡ true
     if_ok (Variable y) = refl
     if_ok _ = and_from _ _ unbound refl
 

@@ -74,7 +74,7 @@ module _ (p : Pipe) (v : Option ℕ) (vs : List Var) (before : List Place) (c : 
   abbrev Goes : Stmt → List Flat.Op → Type 0
   Goes t os = (sure_oks v b c s os ≡ true) × (list_any Speculation.is_barrier (before ++ Statement t bs ∷ []) ≡ barred_ops b os)
 
-  if_next : (t : Stmt) (e : Expr) → Speculation.is_barrier (Statement t bs) ≡ false → Goes t (Along.if_ops vs e)
+  if_next : (t : Stmt) (e : Expr) → Speculation.is_barrier (Statement t bs) ≡ false → Goes t (PathStatements.if_ops vs e)
   if_next t (Variable y) e = (refl, still (Statement t bs) e)
   if_next t _ e = (refl, still_bind (Statement t bs) e)
 

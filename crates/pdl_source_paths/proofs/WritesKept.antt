@@ -300,7 +300,7 @@ module _ (p : Pipe) (m : List ℕ) (there : is_memory p.mems m ≡ true) (bs : L
       may false f = or_left _ (may_read ph) (ap not (mem_is p.mems at.mem.name m named.0 there ∙ f))
 
   if_next : (vs : List Var) (before : List Place) (ph : Phase) (sp : Span) (s : Stmt) (e : Expr) → ((l : Location) (h : Hold) → after_place l h (Statement s bs) ≡ h) → is_reserve_of W m (Statement s bs) ≡ false → is_write_of m (Statement s bs) ≡ false → Stands vs before m ph
-      → Goes vs before ph s (Along.if_ops vs e) (Growth.if_past vs e)
+      → Goes vs before ph s (PathStatements.if_ops vs e) (Growth.if_past vs e)
   if_next vs before ph sp s (Variable y) same nor now i = (refl, kept_next vs before ph (Statement s bs) same nor now i)
   if_next vs before ph sp s _ same nor now i = (and_true _ (held_low vs before m ph i), bound_next vs _ before ph (Statement s bs) same nor now i)
 

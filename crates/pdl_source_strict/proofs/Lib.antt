@@ -1,3 +1,3 @@
-mod Fresh
+mod FreshVariables
 mod LetGo
 pub mod Paths

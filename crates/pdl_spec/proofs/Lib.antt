@@ -1,2 +1,2 @@
-mod Only
-mod Pulled
+mod SingleNumber
+mod PathlessParts

@@ -1,3 +1,4 @@
+pub mod Called
 pub mod Verified
 pub mod Sure
 pub mod Checked

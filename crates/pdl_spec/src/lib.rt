@@ -6,6 +6,7 @@
 pub mod check;
 pub mod checked;
 pub mod lines;
+pub mod one_call;
 pub mod plan;
 pub mod sure;
 pub mod verified;

@@ -9,11 +9,11 @@ ghost use Rattle.pdl_locks.specs.Facts.{AreFacts};
 ghost use Rattle.pdl_spec.specs.WalkLines.{AreLines, Lines, named_lines};
 
 use crate::checked::CheckedFirst;
+use crate::one_call::OneCall;
 use crate::sure::ReleasedSure;
 use crate::verified::VerifiedOnce;
 use pdl_locks::LockFacts;
 use pdl_paths::{Guards, Place};
-use pdl_rules_on_paths::OneCall;
 use pdl_rules_stages::all_true;
 use pdl_rules_walk::{Alone, Both, PathRules};
 use pdl_syntax_tree::Pipe;

@@ -38,12 +38,15 @@ pub record Graph : Type 0 where
 abbrev pub of_stages : List Stage → Flat.Pipe
 of_stages ss = record { vars = 0; mems = []; stmts = []; stages = ss; start = []; reserves_at = []; releases_at = [] }
 
--- the graph of a pipe with these places
-abbrev pub graph_of : Flat.Pipe → List Place → Graph
-graph_of p xs =
+-- the graph of a pipe whose places stand in these stages, and of one with these places
+abbrev pub graph_with : Flat.Pipe → List ℕ → Graph
+graph_with p places =
     record {
       stages = p.stages;
       forks = forks_in 0 p.stages;
-      places = stages_in xs;
+      places = places;
       depth = stages.depth p;
     }
+
+abbrev pub graph_of : Flat.Pipe → List Place → Graph
+graph_of p xs = graph_with p (stages_in xs)

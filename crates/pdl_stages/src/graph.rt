@@ -1,18 +1,15 @@
 // The stages of a pipe.
-ghost use Rattle.std.specs.Prelude.{◌≡◌, ◌<◌, map, length, slice_index, slice_index_or, is_none, IfOk};
+ghost use Rattle.std.specs.Prelude.{◌≡◌, ◌<◌, length, slice_index, slice_index_or, is_none, IfOk};
 ghost use Rattle.pdl_semantics.specs.Stages.{last_stage};
-ghost use Rattle.pdl_paths.specs.Actions.{place_view};
 ghost use Rattle.pdl_form.specs.FormView.{form};
 ghost use Rattle.pdl_form.specs.View.{stages_view, next_view};
-ghost use Rattle.pdl_stages.specs.Graph.{graph_of, forks_in, way};
+ghost use Rattle.pdl_stages.specs.Graph.{graph_with, forks_in, way};
 ghost use Rattle.pdl_stages.specs.Forks.{forks_view};
 
 use crate::depth::depth;
 use crate::fork::Fork;
 use pdl_form::{FlatPipe, Next, Stage};
 use pdl_kit::NoMemory;
-use pdl_paths::Place;
-use pdl_rules_stages::stages_of;
 use std::alloc::Global;
 use std::marker::Model;
 
@@ -53,17 +50,16 @@ fn forks_of(alloc: Global, stages: &[Stage]) -> Result<Vec<Fork>, NoMemory>
     Ok(forks)
 }
 
-/// The stages of a pipe in flat form with these places.
+/// The stages of a pipe in flat form, whose places stand in these stages.
 pub fn stage_graph(
     alloc: Global,
     flat: &FlatPipe,
-    places: &[Place<'_>],
+    places: Vec<usize>,
 ) -> Result<StageGraph, NoMemory>
-    ensures { IfOk result (λ g. g ≡ graph_of (form flat.now).pipe (map place_view places.now)) }
+    ensures { IfOk result (λ g. g ≡ graph_with (form flat.now).pipe places.items) }
 {
     let stages = Vec::from_slice(alloc, flat.stages())?;
     let forks = forks_of(alloc, flat.stages())?;
-    let places = stages_of(alloc, places)?;
     let depth = depth(alloc, flat)?;
     Ok(StageGraph {
         stages,

@@ -2,12 +2,12 @@ mod Inside
 mod Rows
 mod Top
 mod Automaton
-mod Good
+mod GoodTokens
 mod GoodExpr
 mod GoodItems
 mod GoodBranches
 mod GoodText
-mod Only
-mod Refused
+mod UniqueTrees
+mod ReaderLaws
 pub mod ReaderLimits
 pub mod Places

@@ -129,7 +129,7 @@ fn forks(alloc: Global) -> Option<(bool, ([Option<usize>; 3], [bool; 2], usize))
     let Ok(flat) = forked(alloc) else {
         return None;
     };
-    let Ok(graph) = stage_graph(alloc, &flat, &[]) else {
+    let Ok(graph) = stage_graph(alloc, &flat, Vec::new(alloc)) else {
         return None;
     };
     let meets = [Fork { stage: 0, merge: 2 }];

@@ -4,7 +4,7 @@ ghost use Rattle.pdl_syntax_tree.specs.View.{pipe_view};
 ghost use Rattle.pdl_rules.specs.Places.{places as spec_places, guards as spec_guards};
 ghost use Rattle.pdl_paths.specs.Actions.{place_view};
 
-use pdl_paths::{Guards, Path, Place, guards_of, on_path, places};
+use pdl_paths::{Guards, Path, Place, on_path, places};
 use pdl_syntax::parse::parse;
 use pdl_syntax_tree::Pipe;
 use std::alloc::Global;
@@ -59,10 +59,10 @@ fn row(pipe: &Pipe, guards: &Guards, places: &[Place<'_>], bits: u16) -> Row
 }
 
 fn rows_of(alloc: Global, pipe: &Pipe) -> Option<[Row; 3]> {
-    let Ok(guards) = guards_of(alloc, pipe) else {
+    let Ok(places) = places(alloc, pipe) else {
         return None;
     };
-    let Ok(places) = places(alloc, pipe, &guards) else {
+    let Ok(guards) = Guards::of(alloc, places.as_slice()) else {
         return None;
     };
     if guards.len() != 2 || places.len() != 11 {

@@ -6,7 +6,7 @@ ghost use Rattle.pdl_paths.specs.Actions.{place_view};
 ghost use Rattle.pdl_paths.specs.Masks.{AreMasked};
 
 use pdl_locks::check_locks;
-use pdl_paths::{Guards, Place, guards_of, guess_at, memory_at, places, variable_at};
+use pdl_paths::{Guards, Place, guess_at, memory_at, places, variable_at};
 use pdl_spec::check_spec;
 use pdl_syntax::parse::parse;
 use pdl_syntax_tree::Pipe;
@@ -83,12 +83,13 @@ fn told(alloc: Global, pipe: &Pipe, guards: &Guards, places: &[Place<'_>]) -> To
 }
 
 fn told_of(alloc: Global, pipe: &Pipe) -> Option<Told> {
-    let Ok(guards) = guards_of(alloc, pipe) else {
+    let Ok(mut places) = places(alloc, pipe) else {
         return None;
     };
-    let Ok(places) = places(alloc, pipe, &guards) else {
+    let Ok(guards) = Guards::of(alloc, places.as_slice()) else {
         return None;
     };
+    guards.set_masks(&mut places);
     if guards.len() > 10 {
         return None;
     }

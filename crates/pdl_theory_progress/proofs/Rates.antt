@@ -276,7 +276,7 @@ module _ (p : Pipe) (acc : Sound p) where
                   ap (λ (w : Work). next_of p sp.stage w.env)
                   (work_same p (course p acc) image st bits (λ m. of_mem m past) (λ m. []) [] (λ m. ap (λ k. k m) r.arrays ∙ row_committed m past image) r.known [] (λ m. []) (λ m. []) (λ m. []) (λ m. of_mem m (writes_from p n image p.start)) (λ m. None)
                   (after_turns p image n).arrays (after_turns p image n).next (length p.stages ∷ []) (suc (length p.stages) ∷ []) sp (is_nil sps) (rows_at p (course p acc) image n) (behind_none p (course p acc)) h.0 f)
-                  ∙ Sounds.path_next p acc (after_turns p image n).arrays (after_turns p image n).next sp.stage
+                  ∙ StageFacts.path_next p acc (after_turns p image n).arrays (after_turns p image n).next sp.stage
 
               leaving : exit_of p (act p st bits [] (seat p (after_turns p image n).arrays (after_turns p image n).next sp)) ≡ cond (nat_lt (next_of p sp.stage (turn_path image n)) (length p.stages)) (Some (next_of p sp.stage (turn_path image n))) None
               leaving = acc.graph.leaves sp.stage _ low ∙ ap (λ k. cond (nat_lt k (length p.stages)) (Some k) None) same

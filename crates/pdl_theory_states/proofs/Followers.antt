@@ -279,7 +279,7 @@ module _ (p : Pipe) (sound : Sound p) (image : Arrays) (st : State) (d : Derived
       ap (λ (x : Sound.Live). once_answered st x.thread) g.is ∙ ap (with_kept (awaited_words st g.l.thread.awaits)) g.seated.kept_in ∙ ap (λ (t : Derived.Thread). with_kept (awaited_words st t.awaits) t.env) g.thread
       ∙ words_are st f.arrays g.sp.asks g.sp.env (answers_right g.w g.v f.arrays g.rows_now g.plain g.sp.stage g.here.words g.l.number g.sp.asks (subst (λ rs. AllOwned st g.l.number rs) (ap (λ (t : Derived.Thread). t.awaits) g.thread) g.seated.owned) g.here.waits.out g.here.waits.sure)
       ∙ g.here.waits.gets ∙ turn_env p sound f.arrays f.args g.sp.stage
-      ∙ ap (λ s. (Sequential.run_all (Sound.stages_before s p.stmts) (Whole.start_run p f.arrays f.args)).env) (ap (λ (t : Derived.Thread). t.stage) (sym g.thread) ∙ ap (λ (x : Sound.Live). x.stage) (sym g.is))
+      ∙ ap (λ s. (Sequential.run_all (Sound.stages_before s p.stmts) (TurnPath.start_run p f.arrays f.args)).env) (ap (λ (t : Derived.Thread). t.stage) (sym g.thread) ∙ ap (λ (x : Sound.Live). x.stage) (sym g.is))
 
   pub values_good : (f : Follower) → Good f → same_args (once_answered st f.live.thread) (turn_so_far p f).env ≡ true
   values_good f g = ap (λ l. same_args l (turn_so_far p f).env) (values_are f g) ∙ same_args_refl (turn_so_far p f).env

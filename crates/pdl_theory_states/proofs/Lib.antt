@@ -12,7 +12,7 @@ pub mod Points
 pub mod AllThreads
 pub mod EveryState
 pub mod TurnThreads
-mod Mine
+mod OwnEntries
 pub mod Releases
 pub mod StillLooks
 mod TurnByTurn

@@ -197,7 +197,7 @@ module _ (p : Pipe) (flows : Flows p) (st : State) (d : Derived.State) (bits : L
   late_next : (m a s : ℕ) (ks : List Live) → AllKnown p flows st d bits arrays ks → Each (λ k. Behind p s k.thread.stage) ks → commit_stage p m ≤ s → latest (threads_of (go_on p st d bits ks)) m a ≡ Nothing
   late_next m a s ks k b low = none_latest m a (go_on p st d bits ks) (both (go_on p st d bits ks) (ways_on p flows st d bits arrays ks k) (behind_stay p flows st d bits arrays s ks k b))
     where
-      both : (ls : List Live) → Each (Placed.OnWay p flows st d bits arrays) ls → Each (λ k. Behind p s k.thread.stage) ls → Each (λ k. entries_of m k.thread.entries ≡ []) ls
+      both : (ls : List Live) → Each (ThreadPlaces.OnWay p flows st d bits arrays) ls → Each (λ k. Behind p s k.thread.stage) ls → Each (λ k. entries_of m k.thread.entries ≡ []) ls
       both [] w i = tt
       both (l ∷ ls) w i = (late p flows l.env l.thread w.0.0 m (i.0.trunk (commit_stage p m) (flows.trunk_commit m) low), both ls w.1 i.1)
 

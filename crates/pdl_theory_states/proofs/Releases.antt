@@ -215,8 +215,8 @@ module _ (p : Pipe) (sound : Sound p) (arrays : Arrays) (args : List ℕ) where
   pub turn_kept : (s m : ℕ) → commit_stage p m < s → is_done (phase_all m Fresh (on_way p (thread (at_once p) arrays args).env s)) ≡ false → of_mem m (thread p arrays args).writes ≡ []
   turn_kept s m late h =
       ap (λ (r : Run). of_mem m r.writes) (whole p sound arrays args)
-      ∙ sym (Whole.commits_late (along (thread (at_once p) arrays args).env (at_once p)) (acc p sound arrays args) arrays args s m late)
-      ∙ pending_none m (phase_all m Fresh (before s (onpath (thread (at_once p) arrays args).env (looked_all p.stmts)))) _ _ _ _ ((Whole.related_at (along (thread (at_once p) arrays args).env (at_once p)) (acc p sound arrays args) arrays args s).tied m)
+      ∙ sym (TurnPath.commits_late (along (thread (at_once p) arrays args).env (at_once p)) (acc p sound arrays args) arrays args s m late)
+      ∙ pending_none m (phase_all m Fresh (before s (onpath (thread (at_once p) arrays args).env (looked_all p.stmts)))) _ _ _ _ ((TurnPath.related_at (along (thread (at_once p) arrays args).env (at_once p)) (acc p sound arrays args) arrays args s).tied m)
       (ap (λ xs. is_done (phase_all m Fresh xs)) (way_looked p (thread (at_once p) arrays args).env s) ∙ ap is_done (phases_looked m Fresh (on_way p (thread (at_once p) arrays args).env s)) ∙ h)
 
 -- A THREAD AFTER A WRONG GUESS
@@ -353,7 +353,7 @@ pub early_unreleased : (p : Pipe) (sound : Sound p) (st : State) (l : Live) → 
 early_unreleased p sound st l seated v verifies low clear m = not_released p sound st l seated m
     (ap is_done (sym (phases_looked m Fresh (on_way p l.env l.thread.stage))) ∙ ap (λ xs. is_done (phase_all m Fresh xs)) (sym (way_looked p l.env l.thread.stage))
     ∙ sure_done m v no_scan Fresh (before l.thread.stage (onpath l.env (looked_all p.stmts)))
-    (Whole.ok_before (along l.env (at_once p)) (sound.pathwise.paths l.env) (λ k a. 0) [] l.thread.stage m)
+    (TurnPath.ok_before (along l.env (at_once p)) (sound.pathwise.paths l.env) (λ k a. 0) [] l.thread.stage m)
     (subst (λ o. all_sure o false no_scan (before l.thread.stage (onpath l.env (looked_all p.stmts))) ≡ true) (verify_looked p.stmts ∙ verifies)
     (sure_first (verify_stage (looked_all p.stmts)) false no_scan (before l.thread.stage (onpath l.env (looked_all p.stmts))) (stages_from l.thread.stage (onpath l.env (looked_all p.stmts)))
     (subst (λ xs. all_sure (verify_stage (looked_all p.stmts)) false no_scan xs ≡ true) ((sound.pathwise.paths l.env).ordered l.thread.stage) (sound.pathwise.sure l.env))))

@@ -284,10 +284,10 @@ module _ (p : Pipe) (sound : Sound p) (arrays : Arrays) (args : List ℕ) where
   acc = sound.pathwise.paths (thread (at_once p) arrays args).env
 
   pub so : (s : ℕ) → so_far p arrays args s ≡ so_far (along (thread (at_once p) arrays args).env (at_once p)) arrays args s
-  so s = sym (Sounds.same_so p sound arrays args s) ∙ Turns.so_path (at_once p) sound.pathwise arrays args s
+  so s = sym (StageFacts.same_so p sound arrays args s) ∙ Turns.so_path (at_once p) sound.pathwise arrays args s
 
   pub whole : thread p arrays args ≡ thread (along (thread (at_once p) arrays args).env (at_once p)) arrays args
-  whole = sym (Sounds.same_thread p sound arrays args) ∙ Turns.thread_path (at_once p) sound.pathwise arrays args
+  whole = sym (StageFacts.same_thread p sound arrays args) ∙ Turns.thread_path (at_once p) sound.pathwise arrays args
 
   -- its way
   pub turn_way : (s : ℕ) → on_way p (so_far p arrays args s).env s ≡ on_way p (thread (at_once p) arrays args).env s
@@ -297,13 +297,13 @@ module _ (p : Pipe) (sound : Sound p) (arrays : Arrays) (args : List ℕ) where
       (λ g k. sym (ap (λ (w : Work). slice_index w.env g) (so s) ∙ Turns.value_kept (at_once p) sound.pathwise arrays args s g (Turns.none_parts (binds_var g) s (looked_all p.stmts) k)))
 
   -- its values
-  pub turn_env : (s : ℕ) → (so_far p arrays args s).env ≡ (run_all (stages_before s p.stmts) (Whole.start_run p arrays args)).env
+  pub turn_env : (s : ℕ) → (so_far p arrays args s).env ≡ (run_all (stages_before s p.stmts) (TurnPath.start_run p arrays args)).env
   turn_env s =
-      follow (thread (at_once p) arrays args).env arrays (before s p.stmts) (λ m. Fresh) (start_work p args) (Whole.start_run p arrays args)
+      follow (thread (at_once p) arrays args).env arrays (before s p.stmts) (λ m. Fresh) (start_work p args) (TurnPath.start_run p arrays args)
       (subst (λ l. Fixed (thread (at_once p) arrays args).env (alone arrays) l (start_work p args)) (before_looked s p.stmts) (Turns.fixed_before (at_once p) sound.pathwise arrays args s))
-      (λ n. subst (λ l. phases_ok n Fresh l ≡ true) (before_path (thread (at_once p) arrays args).env s (looked_all p.stmts) ∙ ap (onpath (thread (at_once p) arrays args).env) (before_looked s p.stmts)) (Whole.ok_before (along (thread (at_once p) arrays args).env (at_once p)) acc arrays args s n))
-      (Whole.start_related (along (thread (at_once p) arrays args).env (at_once p)) acc arrays args)
-      ∙ ap (λ l. (run_all l (Whole.start_run p arrays args)).env) (before_stages s p.stmts) ∙ ap (λ (r : Run). r.env) (run_looked (stages_before s p.stmts) (Whole.start_run p arrays args))
+      (λ n. subst (λ l. phases_ok n Fresh l ≡ true) (before_path (thread (at_once p) arrays args).env s (looked_all p.stmts) ∙ ap (onpath (thread (at_once p) arrays args).env) (before_looked s p.stmts)) (TurnPath.ok_before (along (thread (at_once p) arrays args).env (at_once p)) acc arrays args s n))
+      (TurnPath.start_related (along (thread (at_once p) arrays args).env (at_once p)) acc arrays args)
+      ∙ ap (λ l. (run_all l (TurnPath.start_run p arrays args)).env) (before_stages s p.stmts) ∙ ap (λ (r : Run). r.env) (run_looked (stages_before s p.stmts) (TurnPath.start_run p arrays args))
 
   -- its pending writes
   pub turn_entries : (s m n : ℕ) → reserve_stage p m < s → AllEntries (λ e. is_right_entry (list_any (λ (x : Stmt). is_write m x.op) (on_way p (thread (at_once p) arrays args).env s)) (of_mem m (thread p arrays args).writes) (own n e) ≡ true) (entries_of m (so_far p arrays args s).entries)
@@ -312,11 +312,11 @@ module _ (p : Pipe) (sound : Sound p) (arrays : Arrays) (args : List ℕ) where
       (subst (λ (w : Work). AllEntries (λ e. is_right_entry (is_settled (phase_all m Fresh (before s (onpath (thread (at_once p) arrays args).env (looked_all p.stmts))))) (of_mem m (thread p arrays args).writes) (own n e) ≡ true) (entries_of m w.entries)) (sym (so s))
       (subst (λ (r : Run). AllEntries (λ e. is_right_entry (is_settled (phase_all m Fresh (before s (onpath (thread (at_once p) arrays args).env (looked_all p.stmts))))) (of_mem m r.writes) (own n e) ≡ true) (entries_of m (so_far (along (thread (at_once p) arrays args).env (at_once p)) arrays args s).entries)) (sym whole)
       (right_one m n (phase_all m Fresh (before s (onpath (thread (at_once p) arrays args).env (looked_all p.stmts)))) (so_far (along (thread (at_once p) arrays args).env (at_once p)) arrays args s).env _ _ _ _
-      ((Whole.related_at (along (thread (at_once p) arrays args).env (at_once p)) acc arrays args s).tied m) (Whole.all_places (along (thread (at_once p) arrays args).env (at_once p)) acc arrays args s m h) (settled_whole (along (thread (at_once p) arrays args).env (at_once p)) acc arrays args s m))))
+      ((TurnPath.related_at (along (thread (at_once p) arrays args).env (at_once p)) acc arrays args s).tied m) (TurnPath.all_places (along (thread (at_once p) arrays args).env (at_once p)) acc arrays args s m h) (settled_whole (along (thread (at_once p) arrays args).env (at_once p)) acc arrays args s m))))
     where
       written : is_settled (phase_all m Fresh (before s (onpath (thread (at_once p) arrays args).env (looked_all p.stmts)))) ≡ list_any (λ (x : Stmt). is_write m x.op) (on_way p (thread (at_once p) arrays args).env s)
       written =
-          settled_all m Fresh (before s (onpath (thread (at_once p) arrays args).env (looked_all p.stmts))) (Whole.ok_before (along (thread (at_once p) arrays args).env (at_once p)) acc arrays args s m)
+          settled_all m Fresh (before s (onpath (thread (at_once p) arrays args).env (looked_all p.stmts))) (TurnPath.ok_before (along (thread (at_once p) arrays args).env (at_once p)) acc arrays args s m)
           ∙ ap (list_any (λ (x : Stmt). is_write m x.op)) (way_looked p (thread (at_once p) arrays args).env s)
           ∙ any_looked (is_write m) (write_looked m) (on_way p (thread (at_once p) arrays args).env s)
 
@@ -331,7 +331,7 @@ module _ (p : Pipe) (sound : Sound p) (arrays : Arrays) (args : List ℕ) where
   pub turn_wrong : (s : ℕ) (b : Bool) → (right_guess (so_far p arrays args s).child (thread p arrays args).next ≡ not b) → is_some (so_far p arrays args s).child ≡ true
       → (is_guessed (making_all Unmade (before s (onpath (thread (at_once p) arrays args).env (looked_all p.stmts)))) && not (same_args (so_far p arrays args s).guess (thread p arrays args).next)) ≡ b
   turn_wrong s b h made = at (making_all Unmade (before s (onpath (thread (at_once p) arrays args).env (looked_all p.stmts)))) refl
-      (subst (λ (w : Work). Calls (making_all Unmade (before s (onpath (thread (at_once p) arrays args).env (looked_all p.stmts)))) w.child w.guess (Whole.run_at (along (thread (at_once p) arrays args).env (at_once p)) arrays args s).next) (sym (so s)) (Makes.calls_at (at_once p) sound.pathwise (thread (at_once p) arrays args).env arrays args s))
+      (subst (λ (w : Work). Calls (making_all Unmade (before s (onpath (thread (at_once p) arrays args).env (looked_all p.stmts)))) w.child w.guess (TurnPath.run_at (along (thread (at_once p) arrays args).env (at_once p)) arrays args s).next) (sym (so s)) (Makes.calls_at (at_once p) sound.pathwise (thread (at_once p) arrays args).env arrays args s))
     where
       flip : (c : Bool) → c ≡ not b → not c ≡ b
       flip true i = by b i
@@ -345,7 +345,7 @@ module _ (p : Pipe) (sound : Sound p) (arrays : Arrays) (args : List ℕ) where
           by true j = refl
           by false j = absurd (cc j)
 
-      at : (k : Making) → making_all Unmade (before s (onpath (thread (at_once p) arrays args).env (looked_all p.stmts))) ≡ k → Calls k (so_far p arrays args s).child (so_far p arrays args s).guess (Whole.run_at (along (thread (at_once p) arrays args).env (at_once p)) arrays args s).next
+      at : (k : Making) → making_all Unmade (before s (onpath (thread (at_once p) arrays args).env (looked_all p.stmts))) ≡ k → Calls k (so_far p arrays args s).child (so_far p arrays args s).guess (TurnPath.run_at (along (thread (at_once p) arrays args).env (at_once p)) arrays args s).next
           → (is_guessed k && not (same_args (so_far p arrays args s).guess (thread p arrays args).next)) ≡ b
       at Unmade e c = absurd (cc (sym (ap is_some c) ∙ made))
       at Guessed e c = flip (same_args (so_far p arrays args s).guess (thread p arrays args).next) (ap (λ x. right_guess x (thread p arrays args).next) (sym c) ∙ h)

@@ -155,16 +155,16 @@ module _ (p : Pipe) (acc : Sound p) where
 
   module _ (arrays : Arrays) (args : List ℕ) where
     so : (s : ℕ) → so_far p arrays args s ≡ so_far (along (thread (at_once p) arrays args).env (at_once p)) arrays args s
-    so s = sym (Sounds.same_so p acc arrays args s) ∙ Turns.so_path (at_once p) acc.pathwise arrays args s
+    so s = sym (StageFacts.same_so p acc arrays args s) ∙ Turns.so_path (at_once p) acc.pathwise arrays args s
 
     whole : thread p arrays args ≡ thread (along (thread (at_once p) arrays args).env (at_once p)) arrays args
-    whole = sym (Sounds.same_thread p acc arrays args) ∙ Turns.thread_path (at_once p) acc.pathwise arrays args
+    whole = sym (StageFacts.same_thread p acc arrays args) ∙ Turns.thread_path (at_once p) acc.pathwise arrays args
 
     child_here : (s : ℕ) → (stage_work p arrays args s).child ≡ (stage_work (along (thread (at_once p) arrays args).env (at_once p)) arrays args s).child
-    child_here s = ap (λ (w : Work). w.child) (sym (Sounds.same_stage p acc arrays args s)) ∙ ap (λ (w : Work). w.child) (Turns.works_path (at_once p) acc.pathwise arrays args s)
+    child_here s = ap (λ (w : Work). w.child) (sym (StageFacts.same_stage p acc arrays args s)) ∙ ap (λ (w : Work). w.child) (Turns.works_path (at_once p) acc.pathwise arrays args s)
 
     fails_here : (s : ℕ) → (stage_work p arrays args s).fails ≡ (stage_work (along (thread (at_once p) arrays args).env (at_once p)) arrays args s).fails
-    fails_here s = ap (λ (w : Work). w.fails) (sym (Sounds.same_stage p acc arrays args s)) ∙ ap (λ (w : Work). w.fails) (Turns.works_path (at_once p) acc.pathwise arrays args s)
+    fails_here s = ap (λ (w : Work). w.fails) (sym (StageFacts.same_stage p acc arrays args s)) ∙ ap (λ (w : Work). w.fails) (Turns.works_path (at_once p) acc.pathwise arrays args s)
 
     moved_here : (s : ℕ) (c : Option (List ℕ)) (f : Bool)
         → ((stage_work (along (thread (at_once p) arrays args).env (at_once p)) arrays args s).child ≡ c) × ((stage_work (along (thread (at_once p) arrays args).env (at_once p)) arrays args s).fails ≡ f)
@@ -239,28 +239,28 @@ module _ (p : Pipe) (acc : Sound p) where
         plain_from = (acc.pathwise.paths []).plain_from;
         plain_to = (acc.pathwise.paths []).plain_to;
         on = λ arrays args s. (visits_stage p (thread (at_once p) arrays args).env s ≡ true) × Reached p (thread (at_once p) arrays args).env s;
-        on_start = λ arrays args. (Sounds.on_start p acc arrays args, (0, refl));
-        on_next = λ arrays args s on low. (Sounds.on_next p acc arrays args s on.0 low, (suc on.1.0, Sounds.path_next p acc arrays args s ∙ ap (λ n. next_of p n (thread (at_once p) arrays args).env) on.1.1));
+        on_start = λ arrays args. (StageFacts.on_start p acc arrays args, (0, refl));
+        on_next = λ arrays args s on low. (StageFacts.on_next p acc arrays args s on.0 low, (suc on.1.0, StageFacts.path_next p acc arrays args s ∙ ap (λ n. next_of p n (thread (at_once p) arrays args).env) on.1.1));
         start_so = λ arrays args. ap (λ l. do_all (alone arrays) l (start_work p args)) no_start;
         start_blocked = λ arrays args. ap (λ l. (scan_after_all l no_scan).blocked) (before_path (thread p arrays args).env 0 p.stmts ∙ ap (onpath (thread p arrays args).env) no_start);
-        here_alike = λ arrays args o s clean on low f plain ready r. Sounds.here_alike p acc arrays args o s clean on.0 low f plain ready r;
-        next_so = λ arrays args s on low. Sounds.next_values p acc arrays args s on.0 low;
+        here_alike = λ arrays args o s clean on low f plain ready r. StageFacts.here_alike p acc arrays args o s clean on.0 low f plain ready r;
+        next_so = λ arrays args s on low. StageFacts.next_values p acc arrays args s on.0 low;
         fetch = acc.fetch;
         asks_at = λ o t m h. sym (found_one (λ n. acc.fetch n ≡ t.stage) (work_of_stage p o t).asks m (all_more _ (λ q. acc.fetch q.mem ≡ t.stage) (work_of_stage p o t).asks (λ q k. k.here) (fetched (λ n a. 0) [] o t)) h);
         asks_ok = λ arrays args s on low. all_more _ (AskOk p acc.fetch s (next_at p arrays args s)) (stage_work p arrays args s).asks (λ q k. record { here = k.here; known = k.known; exact = k.exact; early = k.early (stage_work p arrays args s).env }) (fetched arrays args (alone arrays) (thread_at p arrays args s));
         asks_apart = λ arrays args s on low. apart_asks (alone arrays) (in_stage s p.stmts) _ (acc.fetch_alone s) tt tt;
-        row_after = λ arrays args m. Sounds.row_after p acc arrays args m;
+        row_after = λ arrays args m. StageFacts.row_after p acc arrays args m;
         quiet_at = λ o t m h. quiet m o (in_stage t.stage p.stmts) _ (none_in_stage (is_release m) (commit_stage p m) t.stage p.stmts (sym (all_at_looked m (commit_stage p m) p.stmts) ∙ acc.pathwise.releases m) h);
-        marks_start = λ arrays args m. Sounds.marks_start p acc arrays args m;
-        marks_step = λ arrays args s m on low. Sounds.marks_step p acc arrays args s m on.0 low;
-        marks_seen = λ arrays args s m a rest h. Sounds.marks_seen p acc arrays args s m a rest h;
-        marks_plain = λ arrays args s m h. Sounds.marks_plain p acc arrays args s m h;
-        marks_late = λ arrays args s m h. Sounds.marks_late p acc arrays args s m h;
-        marks_end = λ arrays args m. Sounds.marks_end p acc arrays args m;
+        marks_start = λ arrays args m. StageFacts.marks_start p acc arrays args m;
+        marks_step = λ arrays args s m on low. StageFacts.marks_step p acc arrays args s m on.0 low;
+        marks_seen = λ arrays args s m a rest h. StageFacts.marks_seen p acc arrays args s m a rest h;
+        marks_plain = λ arrays args s m h. StageFacts.marks_plain p acc arrays args s m h;
+        marks_late = λ arrays args s m h. StageFacts.marks_late p acc arrays args s m h;
+        marks_end = λ arrays args m. StageFacts.marks_end p acc arrays args m;
         v = v_of (verify_stage p.stmts);
         v_inside = v_low (verify_stage p.stmts) refl;
         trunk_v = v_trunk (verify_stage p.stmts) refl;
-        child_next = λ arrays args s on low. Sounds.child_next p acc arrays args s on.0 low;
+        child_next = λ arrays args s on low. StageFacts.child_next p acc arrays args s on.0 low;
         child_end = child_end;
         not_yet = λ arrays args s on low h. not_yet arrays args s h;
         right_stays = λ arrays args s on low h. right_stays arrays args s h;

@@ -282,7 +282,7 @@ module _ (p : Pipe) (acc : Sound p) where
         (subst (λ b. all_sure (verify_stage p.stmts) b (scan_after_all (onpath (work_of_stage p o t).env (before t.stage p.stmts)) no_scan) (onpath (work_of_stage p o t).env (in_stage t.stage p.stmts)) ≡ true) unbarred sure_stage) cover (ap (λ (w : Work). w.ready) (sym along_path) ∙ ready) in
         let m = makes_one apart in
         let opened_now : scan_after_all (onpath (work_of_stage p o t).env (before (next_of p t.stage (work_of_stage p o t).env) p.stmts)) no_scan ≡ scan_after_all (onpath (work_of_stage p o t).env (in_stage t.stage p.stmts)) (scan_after_all (onpath (work_of_stage p o t).env (before t.stage p.stmts)) no_scan) =
-        ap (λ l. scan_after_all l no_scan) piece ∙ Whole.opens_append (onpath (work_of_stage p o t).env (before t.stage p.stmts)) (looked_all (onpath (work_of_stage p o t).env (in_stage t.stage p.stmts))) no_scan ∙ opens_looked (onpath (work_of_stage p o t).env (in_stage t.stage p.stmts)) _ in (
+        ap (λ l. scan_after_all l no_scan) piece ∙ TurnPath.opens_append (onpath (work_of_stage p o t).env (before t.stage p.stmts)) (looked_all (onpath (work_of_stage p o t).env (in_stage t.stage p.stmts))) no_scan ∙ opens_looked (onpath (work_of_stage p o t).env (in_stage t.stage p.stmts)) _ in (
           ap (λ (w : Work). w.commits) along_path ∙ h.0,
           record {
             covers = subst (λ (c : Scan). Covers c.held (work_of_stage p o t).entries) (sym opened_now)

@@ -134,8 +134,8 @@ module _ (p : Pipe) (acc : Sound p) (arrays : Arrays) (args : List ℕ) where
       ∙ ap (λ (t : Thread). slice_index t.env x) (sym (Turns.placed_next (at_once p) acc.pathwise arrays args s))
       ∙ ap (λ (w : Work). slice_index w.env x) (Turns.so_path (at_once p) acc.pathwise arrays args (suc s))
       ∙ sym (all_stays x (alone arrays) (stages_from (suc s) (onpath path (looked_all p.stmts))) (so_far (along (thread (at_once p) arrays args).env (at_once p)) arrays args (suc s)) rest)
-      ∙ ap (λ (w : Work). slice_index w.env x) (sym (Whole.rest_of (along (thread (at_once p) arrays args).env (at_once p)) (acc.pathwise.paths path) arrays args (suc s)))
-      ∙ ap (λ l. slice_index l x) ((Whole.related_whole (along (thread (at_once p) arrays args).env (at_once p)) (acc.pathwise.paths path) arrays args).env ∙ ap (λ (r : Run). r.env) (sym (Turns.thread_path (at_once p) acc.pathwise arrays args)))
+      ∙ ap (λ (w : Work). slice_index w.env x) (sym (TurnPath.rest_of (along (thread (at_once p) arrays args).env (at_once p)) (acc.pathwise.paths path) arrays args (suc s)))
+      ∙ ap (λ l. slice_index l x) ((TurnPath.related_whole (along (thread (at_once p) arrays args).env (at_once p)) (acc.pathwise.paths path) arrays args).env ∙ ap (λ (r : Run). r.env) (sym (Turns.thread_path (at_once p) acc.pathwise arrays args)))
     where
       rest : none_of (binds_var x) (stages_from (suc s) (onpath (thread (at_once p) arrays args).env (looked_all p.stmts))) ≡ true
       rest =
@@ -221,7 +221,7 @@ module _ (p : Pipe) (acc : Sound p) (arrays : Arrays) (args : List ℕ) where
       let reads : reads_ok p (scan_after_all (before s (onpath (thread (at_once p) arrays args).env p.stmts)) no_scan) (onpath (thread (at_once p) arrays args).env (looked_all (in_stage s p.stmts))) ≡ true =
       subst (λ l. reads_ok p (scan_after_all (before s (onpath (thread (at_once p) arrays args).env p.stmts)) no_scan) l ≡ true) (stage_here s)
       (subst (λ c. reads_ok p c (in_stage s (onpath (thread (at_once p) arrays args).env (looked_all p.stmts))) ≡ true) (scan_same s)
-      (Whole.reads_here (along (thread (at_once p) arrays args).env (at_once p)) (acc.pathwise.paths (thread (at_once p) arrays args).env) arrays args s)) in
+      (TurnPath.reads_here (along (thread (at_once p) arrays args).env (at_once p)) (acc.pathwise.paths (thread (at_once p) arrays args).env) arrays args s)) in
       let covers : (m a : ℕ) → has_entry (so_far p arrays args s).entries m a ≡ true → has_location (scan_after_all (before s (onpath (thread (at_once p) arrays args).env p.stmts)) no_scan).held m a ≡ true =
       subst (λ (w : Work). (m a : ℕ) → has_entry w.entries m a ≡ true → has_location (scan_after_all (before s (onpath (thread (at_once p) arrays args).env p.stmts)) no_scan).held m a ≡ true) (sym (Turns.so_path (at_once p) acc.pathwise arrays args s) ∙ same_so s)
       (subst (λ c. (m a : ℕ) → has_entry (so_far (along (thread (at_once p) arrays args).env (at_once p)) arrays args s).entries m a ≡ true → has_location c.held m a ≡ true) (scan_same s)

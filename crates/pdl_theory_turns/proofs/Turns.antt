@@ -73,14 +73,14 @@ module _ (p : Pipe) (acc : Pathwise p) (arrays : Arrays) (args : List ℕ) where
   accq = acc.paths (thread p arrays args).env
 
   pub thread_path : thread p arrays args ≡ thread (along (thread p arrays args).env p) arrays args
-  thread_path = run_path (thread p arrays args).env p.stmts (Whole.start_run p arrays args) acc.fixed_guards refl
+  thread_path = run_path (thread p arrays args).env p.stmts (TurnPath.start_run p arrays args) acc.fixed_guards refl
 
   -- a variable that is bound no more has its value of the path
   pub value_kept : (s g : ℕ) → none_of (binds_var g) (stages_from s p.stmts) ≡ true → slice_index (so_far (along (thread p arrays args).env p) arrays args s).env g ≡ slice_index (thread p arrays args).env g
   value_kept s g h =
       sym (all_stays g (alone arrays) (stages_from s (onpath (thread p arrays args).env p.stmts)) (so_far (along (thread p arrays args).env p) arrays args s) (none_from_path (binds_var g) (thread p arrays args).env s p.stmts h))
-      ∙ ap (λ (w : Work). slice_index w.env g) (sym (Whole.rest_of (along (thread p arrays args).env p) accq arrays args s))
-      ∙ ap (λ l. slice_index l g) ((Whole.related_whole (along (thread p arrays args).env p) accq arrays args).env ∙ ap (λ (r : Run). r.env) (sym thread_path))
+      ∙ ap (λ (w : Work). slice_index w.env g) (sym (TurnPath.rest_of (along (thread p arrays args).env p) accq arrays args s))
+      ∙ ap (λ l. slice_index l g) ((TurnPath.related_whole (along (thread p arrays args).env p) accq arrays args).env ∙ ap (λ (r : Run). r.env) (sym thread_path))
 
   pub fixed_before : (s : ℕ) → Fixed (thread p arrays args).env (alone arrays) (before s p.stmts) (start_work p args)
   fixed_before s =
@@ -107,32 +107,32 @@ module _ (p : Pipe) (acc : Pathwise p) (arrays : Arrays) (args : List ℕ) where
   marks_path s m = ap₂ (λ (w : Work) (r : Run). cond (nat_lt (commit_stage p m) s) [] (marked (has_value (entries_of m w.entries)) (of_mem m r.writes))) (so_path s) thread_path
 
   pub marks_seen : (s m a : ℕ) (rest : Latest) → reserve_stage p m < s → latest_in (so_far p arrays args s).entries m a rest ≡ seen a (marks p arrays args s m) rest
-  marks_seen s m a rest h = ap (λ (w : Work). latest_in w.entries m a rest) (so_path s) ∙ Pending.marks_seen _ accq arrays args s m a rest h ∙ ap (λ l. seen a l rest) (sym (marks_path s m))
+  marks_seen s m a rest h = ap (λ (w : Work). latest_in w.entries m a rest) (so_path s) ∙ UndoneWrites.marks_seen _ accq arrays args s m a rest h ∙ ap (λ l. seen a l rest) (sym (marks_path s m))
 
   pub marks_step : (s m : ℕ) → Later m (marks p arrays args s m) (of_mem m (work_of_stage p (alone arrays) (thread_at p arrays args s)).commits) (marks p arrays args (suc s) m)
   marks_step s m =
       subst (λ k. Later m k (of_mem m (work_of_stage p (alone arrays) (thread_at p arrays args s)).commits) (marks p arrays args (suc s) m)) (sym (marks_path s m))
       (subst (λ (w : Work). Later m (marks (along (thread p arrays args).env p) arrays args s m) (of_mem m w.commits) (marks p arrays args (suc s) m)) (sym (works_path s))
       (subst (λ k. Later m (marks (along (thread p arrays args).env p) arrays args s m) (of_mem m (work_of_stage (along (thread p arrays args).env p) (alone arrays) (thread_at (along (thread p arrays args).env p) arrays args s)).commits) k) (sym (marks_path (suc s) m))
-      (Pending.marks_step (along (thread p arrays args).env p) accq arrays args s m)))
+      (UndoneWrites.marks_step (along (thread p arrays args).env p) accq arrays args s m)))
 
   pub marks_plain : (s m : ℕ) → is_plain (mem_at p m).lock ≡ true → marks p arrays args s m ≡ []
-  marks_plain s m h = marks_path s m ∙ Pending.marks_plain _ accq arrays args s m h
+  marks_plain s m h = marks_path s m ∙ UndoneWrites.marks_plain _ accq arrays args s m h
 
   pub marks_late : (s m : ℕ) → commit_stage p m < s → marks p arrays args s m ≡ []
-  marks_late s m h = marks_path s m ∙ Pending.marks_late _ accq arrays args s m h
+  marks_late s m h = marks_path s m ∙ UndoneWrites.marks_late _ accq arrays args s m h
 
   pub marks_end : (m : ℕ) → marks p arrays args (length p.stages) m ≡ []
-  marks_end m = marks_path (length p.stages) m ∙ Pending.marks_end _ accq arrays args m
+  marks_end m = marks_path (length p.stages) m ∙ UndoneWrites.marks_end _ accq arrays args m
 
   -- at the start all of its writes are undone
   pub marks_start : (m : ℕ) → strips m (marks p arrays args 0 m) ≡ of_mem m (thread p arrays args).writes
   marks_start m =
-      ap (strips m) (marks_path 0 m) ∙ Pending.marks_strips _ accq arrays args 0 m ∙ Whole.undone_start _ accq arrays args m
+      ap (strips m) (marks_path 0 m) ∙ UndoneWrites.marks_strips _ accq arrays args 0 m ∙ TurnPath.undone_start _ accq arrays args m
       ∙ ap (λ (r : Run). of_mem m r.writes) (sym thread_path)
 
   pub row_after : (m : ℕ) → row (thread p arrays args).arrays m ≡ wrote (row arrays m) (of_mem m (thread p arrays args).writes)
-  row_after m = ap (λ (r : Run). row r.arrays m) thread_path ∙ Whole.row_after _ accq arrays args m ∙ ap (λ (r : Run). wrote (row arrays m) (of_mem m r.writes)) (sym thread_path)
+  row_after m = ap (λ (r : Run). row r.arrays m) thread_path ∙ TurnPath.row_after _ accq arrays args m ∙ ap (λ (r : Run). wrote (row arrays m) (of_mem m r.writes)) (sym thread_path)
 
   -- its stage's work is a piece of the whole thread's
   pub piece : (s : ℕ) → so_far p arrays args (suc s) ≡ joined (so_far p arrays args s) (work_of_stage p (alone arrays) (thread_at p arrays args s))
@@ -147,5 +147,5 @@ module _ (p : Pipe) (acc : Pathwise p) (arrays : Arrays) (args : List ℕ) where
   -- the locations that it has blocked for reading before stage s
   pub blocked_next : (s : ℕ) → scan_after_all (before (suc s) (onpath (thread p arrays args).env p.stmts)) no_scan ≡ scan_after_all (onpath (thread p arrays args).env (in_stage s p.stmts)) (scan_after_all (before s (onpath (thread p arrays args).env p.stmts)) no_scan)
   blocked_next s =
-      ap (λ l. scan_after_all l no_scan) (accq.pieces s) ∙ Whole.opens_append (before s (onpath (thread p arrays args).env p.stmts)) (in_stage s (onpath (thread p arrays args).env p.stmts)) no_scan
+      ap (λ l. scan_after_all l no_scan) (accq.pieces s) ∙ TurnPath.opens_append (before s (onpath (thread p arrays args).env p.stmts)) (in_stage s (onpath (thread p arrays args).env p.stmts)) no_scan
       ∙ ap (λ l. scan_after_all l (scan_after_all (before s (onpath (thread p arrays args).env p.stmts)) no_scan)) (stage_path (thread p arrays args).env s p.stmts)

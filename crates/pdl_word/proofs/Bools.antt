@@ -45,6 +45,7 @@ none_given false k o h = (refl, h)
 pub untrue : {A : Type 0} → false ≡ true → A
 untrue h = absurd (cc h)
 
+-- a choice whose other case is false is false
 pub if_false : (t o : Bool) → o ≡ false → (if t then false else o) ≡ false
 if_false true o e = refl
 if_false false o e = e

@@ -64,6 +64,7 @@ pub less_below : (a b : ℕ) → less a b < 2 ^ 1
 unfolding less
 less_below a b = bit_below (nat_lt a b)
 
+-- the bit of signed order is below 2
 pub lts_below : (w a b : ℕ) → lts w a b < 2 ^ 1
 unfolding lts
 lts_below w a b = bit_below _

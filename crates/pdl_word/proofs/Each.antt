@@ -59,6 +59,7 @@ each_got P [] k x h e = absurd (cc e)
 each_got P (y ∷ ys) zero x h e = let i : y ≡ x = cc in subst P i h.0
 each_got P (y ∷ ys) (suc k) x h e = each_got P ys k x h.1 e
 
+-- what holds of each element that is there at a number holds of each
 pub each_from_get : {A : Type 0} (P : A → Type 0) (xs : List A) → ((i : ℕ) (x : A) → slice_get xs i ≡ Some x → P x) → Each P xs
 each_from_get P [] h = tt
 each_from_get P (x ∷ xs) h = (h zero x refl, each_from_get P xs (λ i y e. h (suc i) y e))

@@ -25,6 +25,7 @@ next_fits base most i v d h k l room =
     let p : base ^ (i + 1) ≤ base ^ most = pow-le-pow_right (omega arith) (omega arith) in
     omega (arith, next_below base i v d h k, p)
 
+-- twice a power of two is at most each greater one
 pub less_power : (a b : ℕ) → a < b → 2 * 2 ^ a ≤ 2 ^ b
 less_power a b h =
     let d = b - (a + 1) in
@@ -47,5 +48,6 @@ same_power r b d e low high = ⊎_elim
 pub upto : (P : ℕ → Type 0) (k : ℕ) → P k → ((j : ℕ) → j < k → P j) → (j : ℕ) → j < k + 1 → P j
 upto P k here rest j lt = ⊎_elim (λ (h : j < k). rest j h) (λ (h : k ≤ j). let e : k ≡ j = omega arith in subst P e here) (cases_lt j k)
 
+-- the next power of two is twice as much
 pub twice_power : (n : ℕ) → 2 ^ (n + 1) ≡ 2 * 2 ^ n
 twice_power n = ap (λ k. 2 ^ k) (add-one n) ∙ pow-succ' 2 n

@@ -22,6 +22,9 @@ use Rattle.pdl_check.proofs.Parts.{kept_parts}
 use Rattle.pdl_check.proofs.check.accept.Goals as goal
 use Rattle.pdl_rules.specs.Memories.{infos_of}
 
+pub make-requires : goal.make-requires
+make-requires c = record { kept = c.requires.kept; stages = c.requires.found.stages }
+
 pub new-typed-requires : goal.new-typed-requires
 new-typed-requires c =
     let p = pipe_view c.args.pipe in

@@ -1,8 +1,8 @@
 use Rattle.std.proofs.Common.{ap, sym, ◌∙◌, Some, option_map, arith}
 use Rattle.pdl_rules.specs.Places.{line_of}
 use Rattle.pdl_paths.specs.Actions.{place_view}
-use Rattle.pdl_rules_on_texts.proofs.lowest.line_at.Goals as goal
 use Rattle.pdl_rules_on_paths.proofs.Nth.{nth, past_end}
+use Rattle.pdl_rules_on_paths.proofs.line.line_at.Goals as goal
 
 pub returns-then-k-places : goal.returns-then-k-places
 returns-then-k-places c =

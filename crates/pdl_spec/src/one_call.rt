@@ -3,11 +3,11 @@ ghost use Rattle.std.specs.Prelude.{◌≡◌, filter, ⊤};
 ghost use Rattle.std.specs.List.{list_any};
 ghost use Rattle.pdl_rules.specs.Places.{on_path};
 ghost use Rattle.pdl_rules.specs.Calls as calls;
-ghost use Rattle.pdl_rules_on_paths.specs.Earlier.{skipped};
+ghost use Rattle.pdl_spec.specs.Called.{skipped};
 
-use crate::path_rule::PathRule;
 use pdl_kit::NoMemory;
 use pdl_paths::{Action, Path, Place, is_call};
+use pdl_rules_on_paths::PathRule;
 use std::alloc::Global;
 
 /// One call on each path: a second one breaks the rule, speculative or not, and the end with none before it.
