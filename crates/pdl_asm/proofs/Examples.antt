@@ -2,7 +2,7 @@
 use Rattle.std.proofs.Common.{◌≡◌, List, ℕ, [], ◌∷◌, Some, None, Option, codes, length, option_map, ◌+◌, refl, pos}
 use Rattle.pdl_image.specs.Lines.{lines}
 use Rattle.pdl_kit.specs.declared.rule.Rule.TheVariants.{A1, A2, A3, A4, A5, A6, A7, A8}
-use Rattle.pdl_asm_table.specs.declared.table.Kind.TheVariants.{Reg, Uint, Sint, Rel}
+use Rattle.pdl_asm_table.specs.declared.table.ArgumentKind.TheVariants.{Reg, Uint, Sint, Rel}
 use Rattle.pdl_asm_table.specs.Tables.{TableValue}
 use Rattle.pdl_asm.specs.declared.line.Operand.TheVariants.{Label, Number}
 use Rattle.pdl_asm.specs.declared.line.Operands.{Operands}

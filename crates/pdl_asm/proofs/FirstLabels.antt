@@ -4,7 +4,7 @@ use Rattle.pdl_kit.specs.declared.rule.Rule.{Rule}
 use Rattle.pdl_kit.specs.declared.rule.Rule.TheVariants.{A6}
 use Rattle.pdl_asm_table.specs.Dictionaries.{value_of}
 use Rattle.pdl_asm_table.specs.Tables.{TableValue}
-use Rattle.pdl_asm.specs.declared.line.Line.{Line}
+use Rattle.pdl_asm.specs.declared.line.AssemblyLine.{AssemblyLine}
 use Rattle.pdl_asm.specs.Values.{Labels, lower}
 use Rattle.pdl_asm.specs.Assembly.{Placed, defined_by, label_of, label_rule, labels_of, line_rule, operation_rule, with_label, with_line}
 use Rattle.pdl_asm.proofs.LineSteps.{Taken, none_left}
@@ -72,7 +72,7 @@ next_of : (labels : Labels) (n : ℕ) (place : ℤ) (o : Option Rule) (label : O
 next_of labels n place o None e h = refl
 next_of labels n place o (Some name) e h = next_label labels n place o name (is_some (value_of (take n labels) name)) refl e h
 
-next_line : (t : TableValue) (labels : Labels) (n : ℕ) (taken : Bool) (place : ℤ) (line : Option Line)
+next_line : (t : TableValue) (labels : Labels) (n : ℕ) (taken : Bool) (place : ℤ) (line : Option AssemblyLine)
     → line_rule t labels (take n labels) taken place line ≡ None
     → BeginsWith labels (with_label (take n labels) place (label_of line))
     → take (defined_by n line) labels ≡ with_label (take n labels) place (label_of line)
@@ -84,12 +84,12 @@ if_few true n = omega arith
 if_few false n = omega arith
 
 -- a line defines at most one label
-pub defined_few : (n : ℕ) (line : Option Line) → defined_by n line ≤ n + 1
+pub defined_few : (n : ℕ) (line : Option AssemblyLine) → defined_by n line ≤ n + 1
 defined_few n line = if_few (is_some (label_of line)) n
 
 -- the labels that are defined after a line that breaks no rule
 pub defined_next : (t : TableValue) (labels : Labels) (n m : ℕ) (all rest : List Placed) (number : ℕ) (place : ℤ)
-    (line : Option Line) (taken : Bool) (slots : List (Option ℕ))
+    (line : Option AssemblyLine) (taken : Bool) (slots : List (Option ℕ))
     → labels ≡ labels_of all
     → Taken t labels all number (record { place = place; line = line } ∷ rest) (take n labels) slots
     → line_rule t labels (take n labels) taken place line ≡ None → m ≡ defined_by n line

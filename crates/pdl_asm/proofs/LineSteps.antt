@@ -17,7 +17,7 @@ use Rattle.pdl_asm_table.specs.declared.table.Insn.{Insn as TableInsn}
 use Rattle.pdl_asm.specs.declared.line.Operands.{Operands}
 use Rattle.pdl_asm.specs.declared.line.Operation.{Operation}
 use Rattle.pdl_asm.specs.declared.line.Operation.TheVariants.{Nothing, At, Word, Insn}
-use Rattle.pdl_asm.specs.declared.line.Line.{Line}
+use Rattle.pdl_asm.specs.declared.line.AssemblyLine.{AssemblyLine}
 use Rattle.pdl_asm.specs.declared.asm_error.AsmError.TheVariants.{NoMemory, Refused}
 use Rattle.pdl_asm.specs.Values.{Labels, lower, rank}
 use Rattle.pdl_asm.specs.Assembly.{Placed, addresses, image, image_text, image_unless, lines_from, word_line, at_line, broken_rule, first_wrong, free_rule, insn_rule, insn_word, is_at, is_taken, labels_of, line_rule, line_word, operation_rule, operation_word, place_rule, with_line, word_at, written_word}
@@ -128,7 +128,7 @@ free_operation t labels taken place (At n) w e f = cc
 free_operation t labels taken place (Word n) w e f = none_right _ _ taken e
 free_operation t labels taken place (Insn name operands) w e f = free_insn t labels taken place (value_of t.insns name) operands w e f
 
-free_line : (t : TableValue) (labels before : Labels) (taken : Bool) (place : ℤ) (o : Option Line) (w : ℕ)
+free_line : (t : TableValue) (labels before : Labels) (taken : Bool) (place : ℤ) (o : Option AssemblyLine) (w : ℕ)
     → line_rule t labels before taken place o ≡ None → line_word t labels place o ≡ Some w → place_rule taken place ≡ None
 free_line t labels before taken place None w e f = cc
 free_line t labels before taken place (Some l) w e f = free_operation t labels taken place l.operation w (none_left _ _ e) f
@@ -155,7 +155,7 @@ no_word None e = refl
 no_word (Some v) e = cc
 
 -- the slots with a line's word
-slots_more : (table : TableValue) (labels : Labels) (done : List Placed) (place : ℤ) (line : Option Line) (o : Option ℕ)
+slots_more : (table : TableValue) (labels : Labels) (done : List Placed) (place : ℤ) (line : Option AssemblyLine) (o : Option ℕ)
     → line_word table labels place line ≡ o
     → ((w : ℕ) → o ≡ Some w → place_rule (is_taken table labels done place) place ≡ None)
     → with_word (slots_of table labels done) place o ≡ slots_of table labels (done ++ record { place = place; line = line } ∷ [])
@@ -210,7 +210,7 @@ rule_is t labels all rest number p before slots f =
 
 -- where the next line breaks a rule, it is the first wrong line of all, refused by this rule
 pub wrong_found : (t : TableValue) (labels : Labels) (all rest : List Placed) (number : ℕ) (place : ℤ)
-    (line : Option Line) (before : Labels) (slots : List (Option ℕ)) (rule : Rule)
+    (line : Option AssemblyLine) (before : Labels) (slots : List (Option ℕ)) (rule : Rule)
     → Taken t labels all number (record { place = place; line = line } ∷ rest) before slots
     → line_rule t labels before (is_taken_in slots place) place line ≡ Some rule
     → first_wrong t labels [] 1 all ≡ Some (Refused rule number)
@@ -221,7 +221,7 @@ wrong_found t labels all rest number place line before slots rule f e =
 
 -- the refusal of a line is the first of all lines
 pub refused_first : (t : TableValue) (labels : Labels) (all rest : List Placed) (number : ℕ) (place : ℤ)
-    (line : Option Line) (before : Labels) (slots : List (Option ℕ)) (e : AsmError)
+    (line : Option AssemblyLine) (before : Labels) (slots : List (Option ℕ)) (e : AsmError)
     → Taken t labels all number (record { place = place; line = line } ∷ rest) before slots
     → IsRefusal (line_rule t labels before (is_taken_in slots place) place line) number e
     → AreWritten t labels all (Err e)
@@ -231,7 +231,7 @@ refused_first t labels all rest number place line before slots (Refused rule n) 
 
 -- a line that breaks no rule is taken after those before it, with its label and its word
 pub taken_more : (t : TableValue) (labels : Labels) (all rest : List Placed) (number : ℕ) (place : ℤ)
-    (line : Option Line) (before later : Labels) (slots later_slots : List (Option ℕ))
+    (line : Option AssemblyLine) (before later : Labels) (slots later_slots : List (Option ℕ))
     → Taken t labels all number (record { place = place; line = line } ∷ rest) before slots
     → line_rule t labels before (is_taken_in slots place) place line ≡ None
     → later ≡ with_line before (record { place = place; line = line })

@@ -8,7 +8,7 @@ use Rattle.pdl_asm_table.specs.Dictionaries.{value_of}
 use Rattle.pdl_asm_table.specs.Tables.{IsTable, TableValue}
 use Rattle.pdl_asm_table.specs.declared.table.Insn.{Insn as TableInsn}
 use Rattle.pdl_asm_table.proofs.Entries.{wide_found}
-use Rattle.pdl_asm.specs.declared.line.Line.{Line}
+use Rattle.pdl_asm.specs.declared.line.AssemblyLine.{AssemblyLine}
 use Rattle.pdl_asm.specs.declared.line.Operands.{Operands}
 use Rattle.pdl_asm.specs.declared.line.Operation.{Operation}
 use Rattle.pdl_asm.specs.declared.line.Operation.TheVariants.{Nothing, At, Word, Insn}
@@ -70,12 +70,12 @@ operation_fits t labels place (At n) v h e = cc
 operation_fits t labels place (Word n) v h e = number_fits t.word n v e
 operation_fits t labels place (Insn name operands) v h e = insn_fits t labels place name (value_of t.insns name) operands v h refl e
 
-line_fits : (t : TableValue) (labels : Labels) (place : ℤ) (l : Option Line) (v : ℕ) → IsTable t
+line_fits : (t : TableValue) (labels : Labels) (place : ℤ) (l : Option AssemblyLine) (v : ℕ) → IsTable t
     → line_word t labels place l ≡ Some v → v < 2 ^ t.word
 line_fits t labels place None v h e = cc
 line_fits t labels place (Some l) v h e = operation_fits t labels place l.operation v h e
 
-word_fits : (t : TableValue) (labels : Labels) (b : Bool) (place : ℤ) (l : Option Line) (v : ℕ) → IsTable t
+word_fits : (t : TableValue) (labels : Labels) (b : Bool) (place : ℤ) (l : Option AssemblyLine) (v : ℕ) → IsTable t
     → (if b then line_word t labels place l else None) ≡ Some v → v < 2 ^ t.word
 word_fits t labels true place l v h e = line_fits t labels place l v h e
 word_fits t labels false place l v h e = cc

@@ -14,7 +14,7 @@ use Rattle.pdl_asm.specs.Values.{Labels, given_rule, given_value, in_word, lower
 use Rattle.pdl_asm.specs.declared.line.Operands.{Operands}
 use Rattle.pdl_asm.specs.declared.line.Operation.{Operation}
 use Rattle.pdl_asm.specs.declared.line.Operation.TheVariants.{Nothing, At, Word, Insn}
-use Rattle.pdl_asm.specs.declared.line.Line.{Line}
+use Rattle.pdl_asm.specs.declared.line.AssemblyLine.{AssemblyLine}
 use Rattle.pdl_asm.specs.declared.asm_error.AsmError.{AsmError}
 use Rattle.pdl_asm.specs.declared.asm_error.AsmError.TheVariants.{Refused, NoMemory}
 use Rattle.pdl_word.specs.Digits.{hex}
@@ -29,14 +29,14 @@ after_operation t place (Word n) = place +ℤ pos 1
 after_operation t place (Insn name operands) = if is_some (value_of t.insns name) then place +ℤ pos 1 else place
 
 -- the place after a line: one that lacks a line's form leaves it as it is
-abbrev pub after_line : TableValue → ℤ → Option Line → ℤ
+abbrev pub after_line : TableValue → ℤ → Option AssemblyLine → ℤ
 after_line t place None = place
 after_line t place (Some l) = after_operation t place l.operation
 
 -- a line, if it has a line's form, and the place before its operation
 pub record Placed : Type 0 where
   pub place : ℤ
-  pub line : Option Line
+  pub line : Option AssemblyLine
 
 -- the lines of texts from a place on
 abbrev pub lines_from : TableValue → ℤ → List (List ℕ) → List Placed
@@ -51,12 +51,12 @@ with_label labels place None = labels
 with_label labels place (Some name) = with_definition labels name place
 
 -- the label of a line
-abbrev pub label_of : Option Line → Option (List ℕ)
+abbrev pub label_of : Option AssemblyLine → Option (List ℕ)
 label_of None = None
 label_of (Some l) = l.label
 
 -- how many labels are defined, with a line, of one that breaks no rule
-abbrev pub defined_by : ℕ → Option Line → ℕ
+abbrev pub defined_by : ℕ → Option AssemblyLine → ℕ
 defined_by before line = if is_some (label_of line) then before + 1 else before
 
 -- the labels with that of a line that has a place
@@ -82,7 +82,7 @@ operation_word t labels place (Word n) = in_word t.word n
 operation_word t labels place (Insn name operands) = insn_word t labels place (value_of t.insns name) operands
 
 -- the word that a line gives at a place
-abbrev pub line_word : TableValue → Labels → ℤ → Option Line → Option ℕ
+abbrev pub line_word : TableValue → Labels → ℤ → Option AssemblyLine → Option ℕ
 line_word t labels place None = None
 line_word t labels place (Some l) = operation_word t labels place l.operation
 
@@ -135,7 +135,7 @@ label_rule before None = None
 label_rule before (Some name) = if is_some (value_of before name) then Some A6 else None
 
 -- the lowest rule that a line breaks, by all labels and by those that lines before it defined
-abbrev pub line_rule : TableValue → Labels → Labels → Bool → ℤ → Option Line → Option Rule
+abbrev pub line_rule : TableValue → Labels → Labels → Bool → ℤ → Option AssemblyLine → Option Rule
 line_rule t labels before taken place None = Some A1
 line_rule t labels before taken place (Some l) = lower (operation_rule t labels taken place l.operation) (label_rule before l.label)
 

@@ -9,7 +9,7 @@ use Rattle.pdl_asm.specs.declared.line.Operands.{Operands}
 use Rattle.pdl_asm.specs.declared.line.Operands.TheVariants.{Few, TooMany}
 use Rattle.pdl_asm.specs.declared.line.Operation.{Operation}
 use Rattle.pdl_asm.specs.declared.line.Operation.TheVariants.{Nothing, At, Word, Insn}
-use Rattle.pdl_asm.specs.declared.line.Line.{Line}
+use Rattle.pdl_asm.specs.declared.line.AssemblyLine.{AssemblyLine}
 use Rattle.pdl_word.specs.Digits.{are_digits}
 
 -- a space or a tab
@@ -118,12 +118,12 @@ operation_of [] = Some Nothing
 operation_of (c ∷ cs) = operation_at (c ∷ cs) (position is_blank (c ∷ cs))
 
 -- a line of a label and an operation
-abbrev pub line_with : Option (List ℕ) → Option Operation → Option Line
+abbrev pub line_with : Option (List ℕ) → Option Operation → Option AssemblyLine
 line_with label None = None
 line_with label (Some operation) = Some (record { label = label; operation = operation })
 
 -- the line of a text with a colon at a place: a label stands before it
-abbrev pub labelled_line : List ℕ → Option ℕ → Option Line
+abbrev pub labelled_line : List ℕ → Option ℕ → Option AssemblyLine
 labelled_line text None = line_with None (operation_of (without_blanks text))
 labelled_line text (Some i) =
     if is_name (without_blanks (take i text))
@@ -131,9 +131,9 @@ labelled_line text (Some i) =
     else None
 
 -- the line of a text without comment: a label stands before its first colon
-abbrev pub line_of_text : List ℕ → Option Line
+abbrev pub line_of_text : List ℕ → Option AssemblyLine
 line_of_text text = labelled_line text (position (λ c. c == 58) text)
 
 -- A1: the line that a text is, if it has a line's form
-unfoldable pub line_of : List ℕ → Option Line
+unfoldable pub line_of : List ℕ → Option AssemblyLine
 line_of text = line_of_text (without_comment text)

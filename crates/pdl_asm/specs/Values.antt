@@ -3,8 +3,8 @@ use Rattle.std.specs.Prelude.{ℕ, ℤ, pos, negsuc, ◌-ℤ◌, ◌+◌, ◌-�
 use Rattle.pdl_kit.specs.declared.rule.Rule.{Rule}
 use Rattle.pdl_kit.specs.declared.rule.Rule.TheVariants.{A2, A3, A4, A5, A6, A7, A8}
 use Rattle.pdl_asm_table.specs.Dictionaries.{value_of}
-use Rattle.pdl_asm_table.specs.declared.table.Kind.{Kind}
-use Rattle.pdl_asm_table.specs.declared.table.Kind.TheVariants.{Reg, Uint, Sint, Rel}
+use Rattle.pdl_asm_table.specs.declared.table.ArgumentKind.{ArgumentKind}
+use Rattle.pdl_asm_table.specs.declared.table.ArgumentKind.TheVariants.{Reg, Uint, Sint, Rel}
 use Rattle.pdl_asm_table.specs.declared.table.Arg.{Arg}
 use Rattle.pdl_asm_table.specs.Tables.{TableValue}
 use Rattle.pdl_asm.specs.declared.line.Operand.{Operand}
@@ -56,7 +56,7 @@ amount_value field None = Err A6
 amount_value field (Some n) = or_a5 (field n)
 
 -- the value of an operand in a field of f bits of the word at a place, or the rule that it breaks
-abbrev pub operand_value : TableValue → Labels → ℤ → ℕ → Kind → Operand → Result ℕ Rule
+abbrev pub operand_value : TableValue → Labels → ℤ → ℕ → ArgumentKind → Operand → Result ℕ Rule
 operand_value t labels place f Reg (Label name) = reg_value f (value_of t.regs name)
 operand_value t labels place f Reg (Number n) = Err A4
 operand_value t labels place f Uint o = amount_value (unsigned_field f) (amount labels o)

@@ -9,12 +9,12 @@ ghost use Rattle.pdl_asm.specs.Slots.{AreWritten, IsRefusal, is_taken_in, with_w
 use crate::asm_error::AsmError;
 use crate::encode::line_word;
 use crate::image::to_image;
-use crate::line::Line;
+use crate::line::AssemblyLine;
 use crate::operation::read_line;
 use crate::place::{after_line, define_label};
 use crate::rules::line_rule;
 use crate::text::split_line;
-use crate::words::Words;
+use crate::words::WordSlots;
 use pdl_asm_table::{Dictionary, Table};
 use pdl_kit::NoMemory;
 use std::alloc::Global;
@@ -54,12 +54,12 @@ fn read_labels(alloc: Global, table: &Table, text: &[u8]) -> Result<Dictionary<i
 }
 
 // How many labels are defined after a line, of which so many are before it.
-fn defined_after(before: usize, line: &Option<Line>) -> usize
+fn defined_after(before: usize, line: &Option<AssemblyLine>) -> usize
     requires { before ≤ LONGEST_FILE }
     ensures { result ≡ defined_by before line.now }
 {
     match line {
-        Some(Line { label: Some(_), .. }) => before + 1,
+        Some(AssemblyLine { label: Some(_), .. }) => before + 1,
         _ => before,
     }
 }
@@ -69,10 +69,10 @@ fn take_line(
     table: &Table,
     labels: &Dictionary<i128>,
     before: usize,
-    words: &mut Words,
+    words: &mut WordSlots,
     place: i128,
     number: u32,
-    line: &Option<Line>,
+    line: &Option<AssemblyLine>,
 ) -> Result<(), AsmError>
     ensures right { OnOk result (line_rule_of table.now labels.now (take before labels.now)
         (is_taken_in words.old place) place line.now ≡ None) }
@@ -96,7 +96,7 @@ fn write_lines(
     table: &Table,
     labels: &Dictionary<i128>,
     text: &[u8],
-    words: &mut Words,
+    words: &mut WordSlots,
 ) -> Result<(), AsmError>
     requires size { length text.now ≤ LONGEST_FILE }
     requires known { labels.now ≡ labels_of (lines_from table.now (pos 0) (lines text.now)) }
@@ -133,19 +133,19 @@ fn write_words(
     table: &Table,
     labels: &Dictionary<i128>,
     text: &[u8],
-) -> Result<Words, AsmError>
+) -> Result<WordSlots, AsmError>
     requires size { length text.now ≤ LONGEST_FILE }
     requires known { labels.now ≡ labels_of (lines_from table.now (pos 0) (lines text.now)) }
     ensures { AreWritten table.now labels.now
         (lines_from table.now (pos 0) (lines text.now)) result }
 {
-    let mut words = Words::new(alloc)?;
+    let mut words = WordSlots::new(alloc)?;
     write_lines(alloc, table, labels, text, &mut words)?;
     Ok(words)
 }
 
 // The words that a text writes, or the refusal of its first wrong line.
-fn words_of(alloc: Global, table: &Table, text: &[u8]) -> Result<Words, AsmError>
+fn words_of(alloc: Global, table: &Table, text: &[u8]) -> Result<WordSlots, AsmError>
     requires { length text.now ≤ LONGEST_FILE }
     ensures { AreWritten table.now (labels_of (lines_from table.now (pos 0) (lines text.now)))
         (lines_from table.now (pos 0) (lines text.now)) result }

@@ -4,7 +4,7 @@ ghost use Rattle.pdl_asm_table.specs.Dictionaries.{value_of};
 ghost use Rattle.pdl_asm.specs.Values.{bit_of, given_value as given_value_of, letter_value as letter_value_of, word_of_bits};
 ghost use Rattle.pdl_asm.specs.Assembly.{insn_word as insn_word_of, line_word as line_word_of, operation_word as operation_word_of};
 
-use crate::line::{Line, Operand, Operands, Operation};
+use crate::line::{AssemblyLine, Operand, Operands, Operation};
 use crate::values::{argument_value, field_bits, in_word};
 use pdl_asm_table::{Arg, Dictionary, Insn, Table};
 use pdl_kit::Name;
@@ -157,7 +157,7 @@ pub fn line_word(
     table: &Table,
     labels: &Dictionary<i128>,
     place: i128,
-    line: &Option<Line>,
+    line: &Option<AssemblyLine>,
 ) -> Option<u64>
     ensures { result ≡ line_word_of table.now labels.now place line.now }
 {

@@ -4,7 +4,7 @@ ghost use Rattle.std.specs.List.{range_with_len};
 ghost use Rattle.pdl_asm_table.specs.Tables.{IsTable};
 ghost use Rattle.pdl_asm.specs.Assembly.{image_text, word_line};
 
-use crate::words::Words;
+use crate::words::WordSlots;
 use pdl_asm_table::Table;
 use pdl_kit::{Name, NoMemory};
 use pdl_trace::word_line as line_of_word;
@@ -31,7 +31,7 @@ fn push_word(
 }
 
 /// The image of the words that are written, by ascending address.
-pub fn to_image(alloc: Global, table: &Table, words: &Words) -> Result<Vec<u8>, NoMemory>
+pub fn to_image(alloc: Global, table: &Table, words: &WordSlots) -> Result<Vec<u8>, NoMemory>
     ensures text { IfOk result
         (λ t. t.items ≡ image_text table.now (λ address. slice_index_or words.now address None)) }
     ensures table { IsTable table.now }

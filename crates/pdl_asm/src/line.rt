@@ -1,12 +1,12 @@
 // A line of an assembly text.
-use crate::number::Number;
+use crate::number::SignedNumber;
 use pdl_kit::{Name, Seq};
 
 /// An operand: a name, which may be that of a register or a label, or a number.
 #[derive(Drop)]
 pub enum Operand {
     Label(Name),
-    Number(Number),
+    Number(SignedNumber),
 }
 
 /// The operands of an instruction.
@@ -23,16 +23,16 @@ pub enum Operands {
 pub enum Operation {
     Nothing,
     /// `.at`: sets the place.
-    At(Number),
+    At(SignedNumber),
     /// `.word`: a word of a number.
-    Word(Number),
+    Word(SignedNumber),
     /// An instruction of this name with operands.
     Insn(Name, Operands),
 }
 
 /// A line: its label, if it has one, and its operation.
 #[derive(Drop)]
-pub struct Line {
+pub struct AssemblyLine {
     pub label: Option<Name>,
     pub operation: Operation,
 }

@@ -5,11 +5,11 @@ use std::marker::Model;
 
 /// A number of a text: at most 20 decimal or 16 hexadecimal digits, so between `-2^67` and `2^67`.
 #[derive(Drop)]
-pub struct Number {
+pub struct SignedNumber {
     value: i128,
 }
 
-impl Model for Number {
+impl Model for SignedNumber {
     ghost use Rattle.std.specs.Prelude.{ℤ, pos, neg_ℤ, ◌≤ℤ◌, ◌^◌};
 
     ghost Value = { ℤ };
@@ -19,23 +19,23 @@ impl Model for Number {
     ghost invariant = { λ n. (neg_ℤ (pos (2 ^ 67)) ≤ℤ n.value) × (n.value ≤ℤ pos (2 ^ 67)) };
 }
 
-impl Number {
+impl SignedNumber {
     /// The number of a magnitude.
-    pub fn from_magnitude(magnitude: u128) -> Number
+    pub fn from_magnitude(magnitude: u128) -> SignedNumber
         requires { magnitude ≤ 2 ^ 67 }
         ensures { result ≡ pos magnitude }
     {
-        Number {
+        SignedNumber {
             value: magnitude as i128,
         }
     }
 
     /// The number that is less than 0 by a magnitude.
-    pub fn negative(magnitude: u128) -> Number
+    pub fn negative(magnitude: u128) -> SignedNumber
         requires { magnitude ≤ 2 ^ 67 }
         ensures { result ≡ neg_ℤ (pos magnitude) }
     {
-        Number {
+        SignedNumber {
             value: -(magnitude as i128),
         }
     }

@@ -6,7 +6,7 @@ ghost use Rattle.pdl_asm.specs.Lines.{counted as counted_of, magnitude_of, numbe
 
 use crate::digits::{read_decimal, read_hexadecimal};
 use crate::line::{Operand, Operands};
-use crate::number::Number;
+use crate::number::SignedNumber;
 use crate::text::{find_byte, without_blanks};
 use pdl_asm_table::is_name;
 use pdl_kit::{Name, NoMemory, Seq};
@@ -24,16 +24,16 @@ fn read_magnitude(text: &[u8]) -> Option<u128>
 }
 
 /// The number that a text is, if it is one.
-pub fn read_number(text: &[u8]) -> Option<Number>
+pub fn read_number(text: &[u8]) -> Option<SignedNumber>
     ensures { result ≡ number_of text.now }
 {
     match text {
         [b'-', magnitude @ ..] => match read_magnitude(magnitude) {
-            Some(magnitude) => Some(Number::negative(magnitude)),
+            Some(magnitude) => Some(SignedNumber::negative(magnitude)),
             None => None,
         },
         _ => match read_magnitude(text) {
-            Some(magnitude) => Some(Number::from_magnitude(magnitude)),
+            Some(magnitude) => Some(SignedNumber::from_magnitude(magnitude)),
             None => None,
         },
     }

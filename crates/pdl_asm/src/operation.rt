@@ -2,7 +2,7 @@
 ghost use Rattle.std.specs.Prelude.{◌≡◌, IfOk, Some, None, option_map};
 ghost use Rattle.pdl_asm.specs.Lines.{line_of, line_of_text, number_of, line_with, operands_given, operation_of, operation_with, without_blanks as trimmed_of};
 
-use crate::line::{Line, Operation};
+use crate::line::{AssemblyLine, Operation};
 use crate::operand::{read_number, read_operands};
 use crate::text::{find_blank, find_byte, trim_start, without_blanks, without_comment};
 use pdl_asm_table::is_name;
@@ -68,17 +68,21 @@ fn read_operation(alloc: Global, text: &[u8]) -> Result<Option<Operation>, NoMem
 }
 
 // The line of a label and the text after it.
-fn read_after(alloc: Global, label: Option<Name>, text: &[u8]) -> Result<Option<Line>, NoMemory>
+fn read_after(
+    alloc: Global,
+    label: Option<Name>,
+    text: &[u8],
+) -> Result<Option<AssemblyLine>, NoMemory>
     ensures { IfOk result (λ l. l ≡ line_with label (operation_of (trimmed_of text.now))) }
 {
     match read_operation(alloc, without_blanks(text))? {
-        Some(operation) => Ok(Some(Line { label, operation })),
+        Some(operation) => Ok(Some(AssemblyLine { label, operation })),
         None => Ok(None),
     }
 }
 
 // The line of a text without comment.
-fn read_text(alloc: Global, text: &[u8]) -> Result<Option<Line>, NoMemory>
+fn read_text(alloc: Global, text: &[u8]) -> Result<Option<AssemblyLine>, NoMemory>
     ensures { IfOk result (λ l. l ≡ line_of_text text.now) }
 {
     let Some(colon) = find_byte(text, b':') else {
@@ -94,7 +98,7 @@ fn read_text(alloc: Global, text: &[u8]) -> Result<Option<Line>, NoMemory>
 
 /// The line that a text is, if it has a line's form.
 #[tactic(auto, unfolding(crate::specs::Lines::line_of))]
-pub fn read_line(alloc: Global, text: &[u8]) -> Result<Option<Line>, NoMemory>
+pub fn read_line(alloc: Global, text: &[u8]) -> Result<Option<AssemblyLine>, NoMemory>
     ensures { IfOk result (λ l. l ≡ line_of text.now) }
 {
     read_text(alloc, without_comment(text))

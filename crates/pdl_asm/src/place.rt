@@ -4,7 +4,7 @@ ghost use Rattle.pdl_asm_table.specs.Dictionaries.{value_of};
 ghost use Rattle.pdl_asm.specs.Assembly.{after_line as after_line_of, after_operation as after_operation_of, label_of, with_label};
 ghost use Rattle.pdl_asm.specs.Places.{IsNear};
 
-use crate::line::{Line, Operation};
+use crate::line::{AssemblyLine, Operation};
 use pdl_asm_table::{Dictionary, Table};
 use pdl_kit::NoMemory;
 
@@ -29,7 +29,7 @@ fn after_operation(table: &Table, place: i128, operation: &Operation) -> i128
 }
 
 /// The place after a line.
-pub fn after_line(table: &Table, place: i128, line: &Option<Line>) -> i128
+pub fn after_line(table: &Table, place: i128, line: &Option<AssemblyLine>) -> i128
     requires { place ≤ℤ pos (2 ^ 100) }
     ensures value { result ≡ after_line_of table.now place line.now }
     ensures near { (count : ℕ) → IsNear count place → IsNear (count + 1) result }
@@ -44,7 +44,7 @@ pub fn after_line(table: &Table, place: i128, line: &Option<Line>) -> i128
 pub fn define_label(
     labels: &mut Dictionary<i128>,
     place: i128,
-    line: &Option<Line>,
+    line: &Option<AssemblyLine>,
 ) -> Result<(), NoMemory>
     ensures { OnOk result (labels.new ≡ with_label labels.old place (label_of line.now)) }
 {

@@ -4,7 +4,7 @@ ghost use Rattle.pdl_asm_table.specs.Dictionaries.{value_of};
 ghost use Rattle.pdl_asm.specs.Values.{given_rule as given_rule_of, lower as lower_of, operands_rule as operands_rule_of, rank as rank_of, rule_of as rule_of_value};
 ghost use Rattle.pdl_asm.specs.Assembly.{free_rule, insn_rule as insn_rule_of, is_address as is_address_of, label_rule as label_rule_of, line_rule as line_rule_of, operation_rule as operation_rule_of, place_rule as place_rule_of};
 
-use crate::line::{Line, Operand, Operands, Operation};
+use crate::line::{AssemblyLine, Operand, Operands, Operation};
 use crate::values::{argument_value, in_word};
 use pdl_asm_table::{Arg, Dictionary, Insn, Table};
 use pdl_kit::{Name, Rule};
@@ -193,7 +193,7 @@ pub fn line_rule(
     before: usize,
     taken: bool,
     place: i128,
-    line: &Option<Line>,
+    line: &Option<AssemblyLine>,
 ) -> Option<Rule>
     ensures { result ≡ line_rule_of table.now labels.now (take before labels.now) taken place line.now }
 {

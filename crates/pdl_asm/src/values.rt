@@ -5,7 +5,7 @@ ghost use Rattle.pdl_asm.specs.Values.{amount as amount_of, argument_value as ar
 
 use crate::line::Operand;
 use crate::sign::{below_minus_one, magnitude, power};
-use pdl_asm_table::{Arg, Dictionary, Kind, Table};
+use pdl_asm_table::{Arg, ArgumentKind, Dictionary, Table};
 use pdl_kit::Rule;
 
 // A number in a field of so many bits: 0 to 2^f - 1.
@@ -104,26 +104,26 @@ pub fn operand_value(
     labels: &Dictionary<i128>,
     place: i128,
     field: u8,
-    kind: Kind,
+    kind: ArgumentKind,
     operand: &Operand,
 ) -> Result<u64, Rule>
     requires { field ≤ 64 }
     ensures { result ≡ operand_value_of table.now labels.now place field kind operand.now }
 {
     match kind {
-        Kind::Reg => match operand {
+        ArgumentKind::Reg => match operand {
             Operand::Label(name) => register(field, table.reg(name)),
             Operand::Number(_) => Err(Rule::A4),
         },
-        Kind::Uint => match amount(labels, operand) {
+        ArgumentKind::Uint => match amount(labels, operand) {
             Some(number) => or_a5(unsigned_field(field, number)),
             None => Err(Rule::A6),
         },
-        Kind::Sint => match operand {
+        ArgumentKind::Sint => match operand {
             Operand::Label(_) => Err(Rule::A5),
             Operand::Number(number) => or_a5(signed_field(field, number.get())),
         },
-        Kind::Rel => match amount(labels, operand) {
+        ArgumentKind::Rel => match amount(labels, operand) {
             Some(number) => or_a5(relative(field, number, place)),
             None => Err(Rule::A6),
         },

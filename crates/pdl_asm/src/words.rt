@@ -20,11 +20,11 @@ fn no_words(alloc: Global, count: usize) -> Result<Vec<Option<u64>>, NoMemory>
 
 /// The word that each address from 0 to 65,535 has, if one was written there.
 #[derive(Drop)]
-pub struct Words {
+pub struct WordSlots {
     slots: Vec<Option<u64>>,
 }
 
-impl Model for Words {
+impl Model for WordSlots {
     ghost use Rattle.std.specs.Prelude.{◌≡◌, List, Option, ℕ, length};
 
     ghost Value = { List (Option ℕ) };
@@ -34,12 +34,12 @@ impl Model for Words {
     ghost invariant = { λ w. length w.slots.items ≡ 65536 };
 }
 
-impl Words {
+impl WordSlots {
     /// No word is written yet.
-    pub fn new(alloc: Global) -> Result<Words, NoMemory>
+    pub fn new(alloc: Global) -> Result<WordSlots, NoMemory>
         ensures { IfOk result (λ w. w ≡ replicate addresses None) }
     {
-        Ok(Words {
+        Ok(WordSlots {
             slots: no_words(alloc, ADDRESSES)?,
         })
     }

@@ -3,7 +3,7 @@ use Rattle.std.proofs.Common.{◌≡◌, List, ℕ, [], ◌∷◌, Ok, Err, code
 use Rattle.std.specs.Prelude.{Result}
 use Rattle.toml.proofs.OnLiterals.{toml_on_literals}
 use Rattle.pdl_kit.specs.declared.rule.Rule.TheVariants.{B1, B2, B3, B4, B5}
-use Rattle.pdl_asm_table.specs.declared.table.Kind.TheVariants.{Reg, Sint, Rel}
+use Rattle.pdl_asm_table.specs.declared.table.ArgumentKind.TheVariants.{Reg, Sint, Rel}
 use Rattle.pdl_asm_table.specs.Tables.{TableValue}
 use Rattle.pdl_asm_table.specs.declared.table_error.TableError.{TableError}
 use Rattle.pdl_asm_table.specs.declared.table_error.TableError.TheVariants.{Refused}

@@ -9,8 +9,8 @@ use Rattle.pdl_image.specs.Images.{is_letter, is_name}
 use Rattle.pdl_asm_table.specs.Names.{is_pipe_name}
 use Rattle.pdl_asm_table.specs.Dictionaries.{with_definition}
 use Rattle.pdl_asm_table.specs.Tables.{Named, TableValue, table_with}
-use Rattle.pdl_asm_table.specs.declared.table.Kind.{Kind}
-use Rattle.pdl_asm_table.specs.declared.table.Kind.TheVariants.{Reg, Uint, Sint, Rel}
+use Rattle.pdl_asm_table.specs.declared.table.ArgumentKind.{ArgumentKind}
+use Rattle.pdl_asm_table.specs.declared.table.ArgumentKind.TheVariants.{Reg, Uint, Sint, Rel}
 use Rattle.pdl_asm_table.specs.declared.table.Arg.{Arg}
 use Rattle.pdl_asm_table.specs.declared.table_error.TableError.{TableError}
 use Rattle.pdl_asm_table.specs.declared.table_error.TableError.TheVariants.{Refused, NoMemory}
@@ -31,7 +31,7 @@ has_only keys (member k d ms) = list_any (λ key. bytes_eq k key) keys && has_on
 -- ---- an instruction
 
 -- what an argument is, by its word
-abbrev pub kind_of : List ℕ → Option Kind
+abbrev pub kind_of : List ℕ → Option ArgumentKind
 kind_of w =
     if bytes_eq w (codes "reg") then Some Reg
     else if bytes_eq w (codes "uint") then Some Uint
@@ -40,7 +40,7 @@ kind_of w =
     else None
 
 -- an argument of a letter
-abbrev pub letter_argument : ℕ → Option Kind → Option Arg
+abbrev pub letter_argument : ℕ → Option ArgumentKind → Option Arg
 letter_argument c None = None
 letter_argument c (Some k) = if is_letter c then Some (record { letter = c; kind = k }) else None
 

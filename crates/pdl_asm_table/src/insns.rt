@@ -8,27 +8,27 @@ ghost use Rattle.pdl_asm_table.specs.Documents.{args_of, arg_of, insn_of, insn_o
 
 use crate::document::{has_insn_keys, list_at, text_at};
 use crate::names::{is_letter, is_name};
-use crate::table::{Arg, Insn, Kind};
+use crate::table::{Arg, ArgumentKind, Insn};
 use crate::table_error::TableError;
 use pdl_kit::{Name, NoMemory, Rule, Seq};
 use std::alloc::Global;
 use toml::{Table as Document, Value};
 
 // What an argument is, by its word.
-fn read_kind(word: &[u8]) -> Option<Kind>
+fn read_kind(word: &[u8]) -> Option<ArgumentKind>
     ensures { result ≡ kind_of word.now }
 {
     match word {
-        b"reg" => Some(Kind::Reg),
-        b"uint" => Some(Kind::Uint),
-        b"sint" => Some(Kind::Sint),
-        b"rel" => Some(Kind::Rel),
+        b"reg" => Some(ArgumentKind::Reg),
+        b"uint" => Some(ArgumentKind::Uint),
+        b"sint" => Some(ArgumentKind::Sint),
+        b"rel" => Some(ArgumentKind::Rel),
         _ => None,
     }
 }
 
 // The argument of a letter and a word, if they are one.
-fn argument_of(letter: u8, kind: Option<Kind>) -> Option<Arg>
+fn argument_of(letter: u8, kind: Option<ArgumentKind>) -> Option<Arg>
     ensures { result ≡ lettered_of letter kind }
 {
     match kind {

@@ -14,5 +14,5 @@ pub mod table_error;
 pub use dictionary::Dictionary;
 pub use names::is_name;
 pub use read::read_table;
-pub use table::{Arg, Insn, Kind, Table};
+pub use table::{Arg, ArgumentKind, Insn, Table};
 pub use table_error::TableError;

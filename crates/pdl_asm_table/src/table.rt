@@ -11,7 +11,7 @@ use std::marker::Model;
 
 /// What an argument of an instruction is.
 #[derive(Clone, Copy)]
-pub enum Kind {
+pub enum ArgumentKind {
     /// A register, by its name.
     Reg,
     /// A number or a label, from 0 on.
@@ -26,7 +26,7 @@ pub enum Kind {
 #[derive(Clone, Copy)]
 pub struct Arg {
     pub letter: u8,
-    pub kind: Kind,
+    pub kind: ArgumentKind,
 }
 
 /// An instruction: its arguments in the order of its operands, and its bits, most significant first, as `0`, `1` and letters.

@@ -12,14 +12,14 @@ use Rattle.pdl_net.specs.declared.Cell.TheVariants.{Const}
 use Rattle.pdl_net.specs.Circuit.{Circuit, State}
 use Rattle.pdl_net.specs.Signal.{Signal, Value, const_value, const_signal, not_value, not_signal, bin_width, bin_value, bin_signal, mux_value, mux_signal, slice_value, slice_signal, rep_value, rep_signal}
 use Rattle.pdl_net.specs.Well.{Fits, IsWidth}
-use Rattle.pdl_build.specs.declared.rules.Rule.{Rule}
-use Rattle.pdl_build.specs.declared.rules.Rule.TheVariants.{First, Second, Complement, Number}
+use Rattle.pdl_build.specs.declared.rules.OperatorRule.{OperatorRule}
+use Rattle.pdl_build.specs.declared.rules.OperatorRule.TheVariants.{First, Second, Complement, Number}
 use Rattle.pdl_build.specs.Rules.{Gives, IsBelow}
 
 -- OPERATORS
 
 -- the rule for a constant, at a signal that is the constant
-pub on_constant_at : (r : Rule) (op : BinOp) (w v : ℕ) (t : Bool) (a b : Signal)
+pub on_constant_at : (r : OperatorRule) (op : BinOp) (w v : ℕ) (t : Bool) (a b : Signal)
     → w ≡ a.width → b.value ≡ const_value v → ((x : ℕ) → (IsTrue t → x < 2 ^ w) → Gives r op w x v)
     → (IsTrue t → IsBelow a) → (s : State) → Gives r op a.width (a.value s) (b.value s)
 unfolding const_value
@@ -30,7 +30,7 @@ on_constant_at r op w v t a b e f g h s =
     subst P e (subst Q (sym y) (g (a.value s) (λ i. as_wide (a.value s) a.width w (sym e) (h i s))))
 
 -- likewise, where the first operand is the constant
-pub after_constant_at : (r : Rule) (op : BinOp) (w v : ℕ) (t : Bool) (a b : Signal)
+pub after_constant_at : (r : OperatorRule) (op : BinOp) (w v : ℕ) (t : Bool) (a b : Signal)
     → w ≡ a.width → a.width ≡ b.width → a.value ≡ const_value v → ((y : ℕ) → (IsTrue t → y < 2 ^ w) → Gives r op w v y)
     → (IsTrue t → IsBelow b) → (s : State) → Gives r op a.width (a.value s) (b.value s)
 unfolding const_value

@@ -8,14 +8,14 @@ use Rattle.pdl_net.specs.Circuit.{Circuit, State}
 use Rattle.pdl_net.specs.Signal.{Signal, bin_word, bin_width, const_value}
 use Rattle.pdl_net.specs.Meaning.{Means, cell_signal, signal}
 use Rattle.pdl_net.specs.Well.{Fits}
-use Rattle.pdl_build.specs.declared.rules.Rule.{Rule}
-use Rattle.pdl_build.specs.declared.rules.Rule.TheVariants.{First, Second, Complement, Number, Itself}
+use Rattle.pdl_build.specs.declared.rules.OperatorRule.{OperatorRule}
+use Rattle.pdl_build.specs.declared.rules.OperatorRule.TheVariants.{First, Second, Complement, Number, Itself}
 use Rattle.pdl_build.specs.declared.simplify.Simple.{Simple}
 use Rattle.pdl_build.specs.declared.simplify.Simple.TheVariants.{Net as OfNet, Cell as OfCell}
 use Rattle.pdl_build.specs.FoldedCells.{is_foldable}
 
 -- what an operator makes of words x and y is what the rule says
-abbrev pub Gives : Rule → BinOp → ℕ → ℕ → ℕ → Type 0
+abbrev pub Gives : OperatorRule → BinOp → ℕ → ℕ → ℕ → Type 0
 Gives First op w x y = (bin_width op w ≡ w) × (bin_word op w x y ≡ x)
 Gives Second op w x y = (bin_width op w ≡ w) × (bin_word op w x y ≡ y)
 Gives Complement op w x y = (bin_width op w ≡ w) × (bin_word op w x y ≡ complement w x)

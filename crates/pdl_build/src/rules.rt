@@ -7,7 +7,7 @@ use pdl_word::mask;
 
 /// What an operator on two words gives: one of them, the complement of the first, a number, or what no rule tells.
 #[derive(Clone, Copy)]
-pub enum Rule {
+pub enum OperatorRule {
     First,
     Second,
     Complement,
@@ -16,23 +16,23 @@ pub enum Rule {
 }
 
 /// What an operator gives where both operands are one word.
-pub fn on_one_word(op: BinOp) -> Rule
+pub fn on_one_word(op: BinOp) -> OperatorRule
     ensures { (w x : ℕ) → Gives result op w x x }
 {
     match op {
-        BinOp::And => Rule::First,
-        BinOp::Or => Rule::First,
-        BinOp::Xor => Rule::Number(0),
-        BinOp::Sub => Rule::Number(0),
-        BinOp::Eq => Rule::Number(1),
-        BinOp::Ne => Rule::Number(0),
-        BinOp::Lt => Rule::Number(0),
-        BinOp::Add | BinOp::Mul | BinOp::Shl | BinOp::Shr => Rule::Itself,
+        BinOp::And => OperatorRule::First,
+        BinOp::Or => OperatorRule::First,
+        BinOp::Xor => OperatorRule::Number(0),
+        BinOp::Sub => OperatorRule::Number(0),
+        BinOp::Eq => OperatorRule::Number(1),
+        BinOp::Ne => OperatorRule::Number(0),
+        BinOp::Lt => OperatorRule::Number(0),
+        BinOp::Add | BinOp::Mul | BinOp::Shl | BinOp::Shr => OperatorRule::Itself,
     }
 }
 
 /// What an operator gives where the second operand is a constant; `below` tells that the first is a word of `width` bits in every state.
-pub fn on_constant(op: BinOp, width: u8, value: u64, below: bool) -> Rule
+pub fn on_constant(op: BinOp, width: u8, value: u64, below: bool) -> OperatorRule
     requires low { 1 ≤ width }
     requires high { width ≤ 64 }
     ensures { (x : ℕ) → (IsTrue below → x < 2 ^ width) → Gives result op width x value }
@@ -40,31 +40,31 @@ pub fn on_constant(op: BinOp, width: u8, value: u64, below: bool) -> Rule
     let ones = mask(width);
     let bits = u64::from(width);
     match op {
-        BinOp::And if value == 0 => Rule::Second,
-        BinOp::And if value == ones && below => Rule::First,
-        BinOp::Or if value == 0 => Rule::First,
-        BinOp::Or if value == ones && below => Rule::Second,
-        BinOp::Xor if value == 0 => Rule::First,
-        BinOp::Add if value == 0 && below => Rule::First,
-        BinOp::Sub if value == 0 && below => Rule::First,
-        BinOp::Shl if value == 0 && below => Rule::First,
-        BinOp::Shr if value == 0 => Rule::First,
-        BinOp::Shl if value >= bits => Rule::Number(0),
-        BinOp::Shr if value >= bits => Rule::Number(0),
-        BinOp::Eq if width == 1 && value == 1 && below => Rule::First,
-        BinOp::Eq if width == 1 && value == 0 && below => Rule::Complement,
-        BinOp::Ne if width == 1 && value == 0 && below => Rule::First,
-        BinOp::Ne if width == 1 && value == 1 && below => Rule::Complement,
-        _ => Rule::Itself,
+        BinOp::And if value == 0 => OperatorRule::Second,
+        BinOp::And if value == ones && below => OperatorRule::First,
+        BinOp::Or if value == 0 => OperatorRule::First,
+        BinOp::Or if value == ones && below => OperatorRule::Second,
+        BinOp::Xor if value == 0 => OperatorRule::First,
+        BinOp::Add if value == 0 && below => OperatorRule::First,
+        BinOp::Sub if value == 0 && below => OperatorRule::First,
+        BinOp::Shl if value == 0 && below => OperatorRule::First,
+        BinOp::Shr if value == 0 => OperatorRule::First,
+        BinOp::Shl if value >= bits => OperatorRule::Number(0),
+        BinOp::Shr if value >= bits => OperatorRule::Number(0),
+        BinOp::Eq if width == 1 && value == 1 && below => OperatorRule::First,
+        BinOp::Eq if width == 1 && value == 0 && below => OperatorRule::Complement,
+        BinOp::Ne if width == 1 && value == 0 && below => OperatorRule::First,
+        BinOp::Ne if width == 1 && value == 1 && below => OperatorRule::Complement,
+        _ => OperatorRule::Itself,
     }
 }
 
 /// What an operator gives where the first operand is a constant; `below` tells that the second is a word of `width` bits in every state.
-pub fn after_constant(op: BinOp, width: u8, value: u64, below: bool) -> Rule
+pub fn after_constant(op: BinOp, width: u8, value: u64, below: bool) -> OperatorRule
     ensures { (y : ℕ) → (IsTrue below → y < 2 ^ width) → Gives result op width value y }
 {
     match op {
-        BinOp::Lt if width == 1 && value == 0 && below => Rule::Second,
-        _ => Rule::Itself,
+        BinOp::Lt if width == 1 && value == 0 && below => OperatorRule::Second,
+        _ => OperatorRule::Itself,
     }
 }

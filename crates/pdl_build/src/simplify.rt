@@ -7,7 +7,7 @@ ghost use Rattle.pdl_net.specs.Well.{Fits};
 ghost use Rattle.pdl_build.specs.FoldedCells.{is_const, is_constant};
 ghost use Rattle.pdl_build.specs.Rules.{Gives, StandsFor, IsBelow, is_cut as cut};
 
-use crate::rules::{Rule, after_constant, on_constant, on_one_word};
+use crate::rules::{OperatorRule, after_constant, on_constant, on_one_word};
 use crate::same::is_same_net;
 use crate::{Builder, bin_width};
 use pdl_net::{BinOp, Cell, Net};
@@ -55,16 +55,16 @@ impl Builder {
     {
         let width = bin_width(op, self.width(a));
         match self.rule(op, a, b) {
-            Rule::First => Simple::Net(a),
-            Rule::Second => Simple::Net(b),
-            Rule::Complement => self.simple_not(a),
-            Rule::Number(value) => Simple::Cell(Cell::Const { width, value }),
-            Rule::Itself => Simple::Cell(Cell::Bin(op, a, b)),
+            OperatorRule::First => Simple::Net(a),
+            OperatorRule::Second => Simple::Net(b),
+            OperatorRule::Complement => self.simple_not(a),
+            OperatorRule::Number(value) => Simple::Cell(Cell::Const { width, value }),
+            OperatorRule::Itself => Simple::Cell(Cell::Bin(op, a, b)),
         }
     }
 
     /// The rule for an operator on two nets.
-    fn rule(&self, op: BinOp, a: Net, b: Net) -> Rule
+    fn rule(&self, op: BinOp, a: Net, b: Net) -> OperatorRule
         requires a_there { IsThere self.now a }
         requires b_there { IsThere self.now b }
         requires widths { (signal self.now a).width ≡ (signal self.now b).width }
@@ -79,7 +79,7 @@ impl Builder {
         }
         match self.constant_of(a) {
             Some(value) => after_constant(op, self.width(a), value, self.is_below(b)),
-            None => Rule::Itself,
+            None => OperatorRule::Itself,
         }
     }
 

@@ -12,7 +12,7 @@ use Rattle.pdl_lockapi.specs.Lock.{LockState, Entry, look_ready, or_zero, younge
 use Rattle.pdl_lockapi.specs.Laws.{HasWords, StartLaw, LookLaw, first_array}
 use Rattle.pdl_lockapi.specs.Second.{LateLookLaw}
 use Rattle.pdl_lockapi.specs.SlotLaws.{SlotsLaw}
-use Rattle.pdl_lock_ring.specs.declared.layout.Layout.{Layout}
+use Rattle.pdl_lock_ring.specs.declared.layout.RingLayout.{RingLayout}
 use Rattle.pdl_lock_ring.specs.Slots.{IsSized, Stands, HasEntries, content_signal}
 use Rattle.pdl_lock_ring.specs.Looks.{youngest_look, youngest_ready, youngest_value}
 use Rattle.pdl_lock_ring.proofs.Seeking.{Seeks, seeks_covered, seeks_late}
@@ -37,7 +37,7 @@ word_held : (array : Option ℕ) (s : State) (ws : List ℕ)
 word_held None s ws i h = absurd (cc i)
 word_held (Some m) s ws i h = h
 
-word_is : (l : Layout) (a : Signal) (s : State) (ws : List ℕ)
+word_is : (l : RingLayout) (a : Signal) (s : State) (ws : List ℕ)
     → is_some l.array ≡ true → HasWords l.array s ws → (word_signal l a).value s ≡ slice_index ws (a.value s)
 unfolding read_value
 word_is l a s ws i h = ap (λ us. slice_index us (a.value s)) (word_held l.array s ws i h)
@@ -47,7 +47,7 @@ abbrev ready_of : Kind → List Entry → ℕ → ℕ
 ready_of R es a = bit (is_some (youngest es a (Some 0)))
 ready_of W es a = bit true
 
-picks : (l : Layout) (u : Kind) (a t : Signal) (s : State) (x : LockState) (d : ℕ) → IsSized l
+picks : (l : RingLayout) (u : Kind) (a t : Signal) (s : State) (x : LockState) (d : ℕ) → IsSized l
     → HasEntries l (content_signal l) s x → Seeks l s x t d
     → (youngest_look u (youngest_ready l a t)).value s ≡ ready_of u (take d x.entries) (a.value s)
 unfolding const_value
@@ -59,7 +59,7 @@ ready_is R x t a = refl
 ready_is W x t a = refl
 
 -- a look at the youngest older write to the address keeps the law of a bypass lock's look
-pub look_law : (l : Layout) (u : Kind) (a t : Signal) → IsSized l
+pub look_law : (l : RingLayout) (u : Kind) (a t : Signal) → IsSized l
     → is_some l.array ≡ true → t.width ≡ l.ticket
     → LookLaw (Stands l) Bypass l.ticket u a t (youngest_look u (youngest_ready l a t)) (Some (youngest_value l (content_signal l) (word_signal l a) a t))
 look_law l u a t z i w = record {
@@ -70,7 +70,7 @@ look_law l u a t z i w = record {
 }
 
 -- such a look keeps the law of a look with the ticket of a cycle's second reservation
-pub late_law : (l : Layout) (u : Kind) (a t : Signal) → IsSized l
+pub late_law : (l : RingLayout) (u : Kind) (a t : Signal) → IsSized l
     → is_some l.array ≡ true → t.width ≡ l.ticket
     → LateLookLaw (Stands l) Bypass l.size l.ticket u a t (youngest_look u (youngest_ready l a t)) (Some (youngest_value l (content_signal l) (word_signal l a) a t))
 late_law l u a t z i w = record {

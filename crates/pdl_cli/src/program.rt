@@ -7,7 +7,7 @@ ghost use Rattle.pdl_cli_failure.specs.Texts.{Says};
 ghost use Rattle.pdl_cli_commands.specs.Outcomes.{seen_of, Explains, Streamed};
 ghost use Rattle.pdl_cli.specs.Top.{Allows, IsFew, Answers, Decides};
 
-use pdl_cli_args::{Line, read_line};
+use pdl_cli_args::{CommandLine, read_line};
 use pdl_cli_commands::{
     assembly_text, build, generate, run_in_turn, run_source, simulate, verdict, view_source, wave,
 };
@@ -36,7 +36,7 @@ fn write_text<O: Sink>(text: Result<Vec<u8>, Failure>, out: &mut O) -> Result<()
 #[tactic(auto, using(pdl_cli_commands::proofs::Explanations::text_explains))]
 fn obey_line<F: Files, O: Sink>(
     alloc: Global,
-    line: Line<'_>,
+    line: CommandLine<'_>,
     files: &mut F,
     out: &mut O,
 ) -> Result<(), Failure>
@@ -51,19 +51,22 @@ fn obey_line<F: Files, O: Sink>(
     ensures written { O.faults out.old ≤ O.faults out.new }
 {
     match line {
-        Line::Check { source } => write_text(verdict(alloc, files, source), out),
-        Line::Run { source, setup } => run_source(alloc, files, source, &setup, out),
-        Line::Seq {
+        CommandLine::Check { source } => write_text(verdict(alloc, files, source), out),
+        CommandLine::Run { source, setup } => run_source(alloc, files, source, &setup, out),
+        CommandLine::Seq {
             source,
             image,
             threads,
         } => run_in_turn(alloc, files, source, image, threads, out),
-        Line::Asm { table, text } => write_text(assembly_text(alloc, files, table, text), out),
-        Line::Gen { number } => write_text(generate(alloc, number), out),
-        Line::Build { source } => write_text(build(alloc, files, source), out),
-        Line::Sim { netlist, setup } => simulate(alloc, files, netlist, &setup, out),
-        Line::Wave { source, setup } => wave(alloc, files, source, &setup, out),
-        Line::View { source, setup } => view_source(alloc, files, source, &setup, out),
+        CommandLine::Asm { table, text } => write_text(
+            assembly_text(alloc, files, table, text),
+            out,
+        ),
+        CommandLine::Gen { number } => write_text(generate(alloc, number), out),
+        CommandLine::Build { source } => write_text(build(alloc, files, source), out),
+        CommandLine::Sim { netlist, setup } => simulate(alloc, files, netlist, &setup, out),
+        CommandLine::Wave { source, setup } => wave(alloc, files, source, &setup, out),
+        CommandLine::View { source, setup } => view_source(alloc, files, source, &setup, out),
     }
 }
 

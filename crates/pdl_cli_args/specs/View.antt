@@ -3,15 +3,15 @@ use Rattle.std.specs.Prelude.{ℕ, List, Option, option_map}
 use Rattle.std.specs.Borrow.{Bor}
 use Rattle.pdl_cli_args.specs.Line as spec
 use Rattle.pdl_cli_args.specs.Line.{Command, check, run, seq, asm, gen, build, sim, wave}
-use Rattle.pdl_cli_args.specs.declared.line.Line as rust
-use Rattle.pdl_cli_args.specs.declared.line.Line.TheVariants as code
+use Rattle.pdl_cli_args.specs.declared.line.CommandLine as rust
+use Rattle.pdl_cli_args.specs.declared.line.CommandLine.TheVariants as code
 
 -- the text of a word that may be left out
 abbrev pub text_of : Option (Bor (List ℕ)) → Option (List ℕ)
 text_of word = option_map (λ s. s.now) word
 
 -- a command with the texts of its words
-abbrev pub view : rust.Line → Command
+abbrev pub view : rust.CommandLine → Command
 view (code.Check source) = check source.now
 view (code.Run source setup) = run source.now setup.image.now setup.cycles (text_of setup.delays)
 view (code.Seq source image threads) = seq source.now image.now threads

@@ -21,7 +21,7 @@ pub struct RunSetup<'a> {
 
 /// A command with its words.
 #[derive(Clone, Copy)]
-pub enum Line<'a> {
+pub enum CommandLine<'a> {
     /// `check SRC`: the name of a source.
     Check {
         source: &'a str,
@@ -85,7 +85,7 @@ impl From<AllocError> for LineError {
 /// The command that the words after the program's name are.
 ///
 /// `Usage` comes exactly where they are none, want of memory aside, which may come at any call. A request for help or for the version is no command.
-pub fn read_line<'a>(alloc: Global, words: &'a [String]) -> Result<Line<'a>, LineError>
+pub fn read_line<'a>(alloc: Global, words: &'a [String]) -> Result<CommandLine<'a>, LineError>
     ensures ok { IfOk result (λ l. line (map string_bytes words.now) ≡ Some (view l)) }
     ensures usage { IsErrOf result LineError.Usage → line (map string_bytes words.now) ≡ None }
 {
@@ -103,7 +103,7 @@ pub fn read_line<'a>(alloc: Global, words: &'a [String]) -> Result<Line<'a>, Lin
 }
 
 // The command that matches are, if they have a subcommand.
-fn matched_line<'a>(matches: &ArgMatches<'a>) -> Option<Line<'a>>
+fn matched_line<'a>(matches: &ArgMatches<'a>) -> Option<CommandLine<'a>>
     ensures { option_map view result
         ≡ option_and_then command_of (subcommand_rows_of matches.now) }
 {
@@ -114,7 +114,7 @@ fn matched_line<'a>(matches: &ArgMatches<'a>) -> Option<Line<'a>>
 }
 
 // The command that a subcommand's matches are.
-fn command_line<'a>(name: &str, inner: &ArgMatches<'a>) -> Option<Line<'a>>
+fn command_line<'a>(name: &str, inner: &ArgMatches<'a>) -> Option<CommandLine<'a>>
     ensures { option_map view result ≡ command_of (name.now, rows_of (found_of inner.now)) }
 {
     if name == "check" {
@@ -139,7 +139,7 @@ fn command_line<'a>(name: &str, inner: &ArgMatches<'a>) -> Option<Line<'a>>
 }
 
 // The command that the matches of a subcommand are that shows or reads a netlist.
-fn netlist_line<'a>(name: &str, inner: &ArgMatches<'a>) -> Option<Line<'a>>
+fn netlist_line<'a>(name: &str, inner: &ArgMatches<'a>) -> Option<CommandLine<'a>>
     ensures { option_map view result
         ≡ netlist_command_of (name.now, rows_of (found_of inner.now)) }
 {
@@ -162,17 +162,17 @@ fn value<'a>(inner: &ArgMatches<'a>, id: &str) -> Option<&'a str>
     inner.get_str(id)
 }
 
-fn check_line<'a>(inner: &ArgMatches<'a>) -> Option<Line<'a>>
+fn check_line<'a>(inner: &ArgMatches<'a>) -> Option<CommandLine<'a>>
     ensures { option_map view result
         ≡ check_of (first_of (codes "source") (rows_of (found_of inner.now))) }
 {
     let Some(source) = value(inner, "source") else {
         return None;
     };
-    Some(Line::Check { source })
+    Some(CommandLine::Check { source })
 }
 
-fn run_line<'a>(inner: &ArgMatches<'a>) -> Option<Line<'a>>
+fn run_line<'a>(inner: &ArgMatches<'a>) -> Option<CommandLine<'a>>
     ensures { option_map view result
         ≡ run_of (first_of (codes "source") (rows_of (found_of inner.now)))
         (first_of (codes "image") (rows_of (found_of inner.now)))
@@ -196,10 +196,10 @@ fn run_line<'a>(inner: &ArgMatches<'a>) -> Option<Line<'a>>
         cycles,
         delays: value(inner, "delays"),
     };
-    Some(Line::Run { source, setup })
+    Some(CommandLine::Run { source, setup })
 }
 
-fn seq_line<'a>(inner: &ArgMatches<'a>) -> Option<Line<'a>>
+fn seq_line<'a>(inner: &ArgMatches<'a>) -> Option<CommandLine<'a>>
     ensures { option_map view result
         ≡ seq_of (first_of (codes "source") (rows_of (found_of inner.now)))
         (first_of (codes "image") (rows_of (found_of inner.now)))
@@ -217,14 +217,14 @@ fn seq_line<'a>(inner: &ArgMatches<'a>) -> Option<Line<'a>>
     let Some(threads) = number(threads, 7, 1_000_000) else {
         return None;
     };
-    Some(Line::Seq {
+    Some(CommandLine::Seq {
         source,
         image,
         threads,
     })
 }
 
-fn asm_line<'a>(inner: &ArgMatches<'a>) -> Option<Line<'a>>
+fn asm_line<'a>(inner: &ArgMatches<'a>) -> Option<CommandLine<'a>>
     ensures { option_map view result
         ≡ asm_of (first_of (codes "table") (rows_of (found_of inner.now)))
         (first_of (codes "text") (rows_of (found_of inner.now))) }
@@ -235,10 +235,10 @@ fn asm_line<'a>(inner: &ArgMatches<'a>) -> Option<Line<'a>>
     let Some(text) = value(inner, "text") else {
         return None;
     };
-    Some(Line::Asm { table, text })
+    Some(CommandLine::Asm { table, text })
 }
 
-fn gen_line<'a>(inner: &ArgMatches<'a>) -> Option<Line<'a>>
+fn gen_line<'a>(inner: &ArgMatches<'a>) -> Option<CommandLine<'a>>
     ensures { option_map view result
         ≡ gen_of (first_of (codes "number") (rows_of (found_of inner.now))) }
 {
@@ -248,20 +248,20 @@ fn gen_line<'a>(inner: &ArgMatches<'a>) -> Option<Line<'a>>
     let Some(number) = number(text, 10, 2_147_483_647) else {
         return None;
     };
-    Some(Line::Gen { number })
+    Some(CommandLine::Gen { number })
 }
 
-fn build_line<'a>(inner: &ArgMatches<'a>) -> Option<Line<'a>>
+fn build_line<'a>(inner: &ArgMatches<'a>) -> Option<CommandLine<'a>>
     ensures { option_map view result
         ≡ build_of (first_of (codes "source") (rows_of (found_of inner.now))) }
 {
     let Some(source) = value(inner, "source") else {
         return None;
     };
-    Some(Line::Build { source })
+    Some(CommandLine::Build { source })
 }
 
-fn sim_line<'a>(inner: &ArgMatches<'a>) -> Option<Line<'a>>
+fn sim_line<'a>(inner: &ArgMatches<'a>) -> Option<CommandLine<'a>>
     ensures { option_map view result
         ≡ sim_of (first_of (codes "netlist") (rows_of (found_of inner.now)))
         (first_of (codes "image") (rows_of (found_of inner.now)))
@@ -285,10 +285,10 @@ fn sim_line<'a>(inner: &ArgMatches<'a>) -> Option<Line<'a>>
         cycles,
         delays: value(inner, "delays"),
     };
-    Some(Line::Sim { netlist, setup })
+    Some(CommandLine::Sim { netlist, setup })
 }
 
-fn wave_line<'a>(inner: &ArgMatches<'a>) -> Option<Line<'a>>
+fn wave_line<'a>(inner: &ArgMatches<'a>) -> Option<CommandLine<'a>>
     ensures { option_map view result
         ≡ wave_of (first_of (codes "source") (rows_of (found_of inner.now)))
         (first_of (codes "image") (rows_of (found_of inner.now)))
@@ -312,10 +312,10 @@ fn wave_line<'a>(inner: &ArgMatches<'a>) -> Option<Line<'a>>
         cycles,
         delays: value(inner, "delays"),
     };
-    Some(Line::Wave { source, setup })
+    Some(CommandLine::Wave { source, setup })
 }
 
-fn view_line<'a>(inner: &ArgMatches<'a>) -> Option<Line<'a>>
+fn view_line<'a>(inner: &ArgMatches<'a>) -> Option<CommandLine<'a>>
     ensures { option_map view result
         ≡ view_of (first_of (codes "source") (rows_of (found_of inner.now)))
         (first_of (codes "image") (rows_of (found_of inner.now)))
@@ -339,5 +339,5 @@ fn view_line<'a>(inner: &ArgMatches<'a>) -> Option<Line<'a>>
         cycles,
         delays: value(inner, "delays"),
     };
-    Some(Line::View { source, setup })
+    Some(CommandLine::View { source, setup })
 }

@@ -13,8 +13,8 @@ use Rattle.pdl_net.proofs.PipeMems.{told, told_name}
 use Rattle.pdl_vread_text.specs.declared.field.Field.{Field}
 use Rattle.pdl_vread_text.specs.declared.field.Field.TheVariants as field
 use Rattle.pdl_vread_text.specs.declared.part.Part.{Part}
-use Rattle.pdl_vread_text.specs.declared.rule.Rule.{Rule}
-use Rattle.pdl_vread_text.specs.declared.rule.Rule.TheVariants as rule
+use Rattle.pdl_vread_text.specs.declared.rule.VerilogRule.{VerilogRule}
+use Rattle.pdl_vread_text.specs.declared.rule.VerilogRule.TheVariants as rule
 use Rattle.pdl_vread_text.specs.declared.draft.Draft.{Draft}
 use Rattle.pdl_vread_text.specs.declared.file.File.{File}
 use Rattle.pdl_vread_text.specs.declared.file.ArrayDecl.{ArrayDecl}
@@ -85,7 +85,7 @@ all_more P (y ∷ ys) x h p = (h.0, all_more P ys x h.1 p)
 port_more : (d : Draft) (input : Bool) (ts : Row) → is_port (text_at ts 7) ≡ true → AreShort d.file → AreShort (with_port d input ts).file
 port_more d input ts a h = record { arrays = h.arrays; ports = all_more (λ (d : PortDecl). IsInputShort d.name) d.file.ports _ h.ports (port_short (text_at ts 7) a) }
 
-taken_short : (d : Draft) (r : Rule) (ts : Row) → AllFit (fields r) ts → AreShort d.file → AreShort (taken d r ts).file
+taken_short : (d : Draft) (r : VerilogRule) (ts : Row) → AllFit (fields r) ts → AreShort d.file → AreShort (taken d r ts).file
 taken_short d rule.ArrayDeclared ts a h = record {
   arrays = all_more (λ (d : ArrayDecl). IsShort d.name) d.file.arrays _ h.arrays (array_short (text_at ts 0) (text_fits (fields rule.ArrayDeclared) ts 0 field.ArrayName a refl));
   ports = h.ports;

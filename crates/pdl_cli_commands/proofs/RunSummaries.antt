@@ -24,7 +24,7 @@ use Rattle.pdl_law_follows.specs.Memories.{replies_in}
 use Rattle.pdl_law_follows.specs.Follows.{Follows}
 use Rattle.pdl_law_follows.proofs.Images.{told_in_order}
 use Rattle.pdl_law_follows.proofs.Lines.{shows_turns}
-use Rattle.pdl_netrun_lines.specs.declared.print.Counts.{Counts}
+use Rattle.pdl_netrun_lines.specs.declared.print.RunCounts.{RunCounts}
 use Rattle.pdl_netrun_lines.specs.Printed.{schedule}
 use Rattle.pdl_netrun_lines.specs.Tally.{counts_of}
 use Rattle.pdl_netrun_lines.proofs.RunSteps.{left_length}
@@ -71,7 +71,7 @@ is_image ws ms = record { count = length-map ms (words_in ws); depth = depths ws
 -- ---- its line
 
 -- the counts of a netlist that follows the pipe of a source
-pub is_summary : (p : Pipe) (n : Netlist) (words : List ℕ) (start : List (List ℕ)) (cycles : ℕ) (counts : Counts) (line : List ℕ)
+pub is_summary : (p : Pipe) (n : Netlist) (words : List ℕ) (start : List (List ℕ)) (cycles : ℕ) (counts : RunCounts) (line : List ℕ)
     → Follows p n → start ≡ image_of words n.mems
     → counts ≡ counts_of (map (cycle_of n) (nports n start (schedule [] cycles))) → line ≡ line_of cycles counts
     → (source : List ℕ) → IsAccepted source p → IsSummary source words cycles line

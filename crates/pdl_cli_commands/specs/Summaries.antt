@@ -3,7 +3,7 @@ use Rattle.std.specs.Prelude.{ℕ, ◌%◌, ◌^◌, List, map, length, slice_in
 use Rattle.std.specs.List.{range_with_len}
 use Rattle.pdl_kit.specs.declared.mem_info.MemInfo.{MemInfo}
 use Rattle.pdl_semantics.specs.Lines.{Cycle, end_line}
-use Rattle.pdl_netrun_lines.specs.declared.print.Counts.{Counts}
+use Rattle.pdl_netrun_lines.specs.declared.print.RunCounts.{RunCounts}
 use Rattle.pdl_netrun_lines.specs.Tally.{counts_of}
 
 -- the words in a memory: the first of them, as many as it has, each cut to its width, with zeros after them
@@ -15,7 +15,7 @@ abbrev pub image_of : List ℕ → List MemInfo → List (List ℕ)
 image_of ws ms = map (words_in ws) ms
 
 -- the end line of so many cycles with these counts, and that of these cycles
-abbrev pub line_of : ℕ → Counts → List ℕ
+abbrev pub line_of : ℕ → RunCounts → List ℕ
 line_of cycles n = end_line cycles n.ended n.waits n.squashes
 
 -- the end line of these cycles

@@ -16,7 +16,7 @@ ghost use Rattle.pdl_cli_commands.specs.Commands.{IsAccepted};
 ghost use Rattle.pdl_cli_commands.specs.Outcomes.{seen_of, Explains, Streamed};
 
 use crate::run::accept;
-use crate::start::{Start, start_of};
+use crate::start::{RunStart, start_of};
 use pdl_check::Accepted;
 use pdl_cli_args::RunSetup;
 use pdl_cli_failure::{Failure, in_text};
@@ -32,7 +32,7 @@ use std::alloc::Global;
 fn print_dump<O: Sink>(
     alloc: Global,
     netlist: &Netlist,
-    start: &Start,
+    start: &RunStart,
     cycles: u32,
     out: &mut O,
 ) -> Result<(), Failure>

@@ -20,7 +20,7 @@ use std::alloc::Global;
 
 /// The words of memories at the start, and the replies of the delayed ones.
 #[derive(Drop)]
-pub struct Start {
+pub struct RunStart {
     pub image: Image,
     pub delays: Delays,
 }
@@ -108,7 +108,7 @@ pub fn start_of<F: Files>(
     files: &mut F,
     netlist: &Netlist,
     setup: &RunSetup<'_>,
-) -> Result<Start, Failure>
+) -> Result<RunStart, Failure>
     requires image { IsTrue (F.may files.old setup.now.image.now) }
     requires delays { AllowsFile (F.may files.old) (text_of setup.now.delays) }
     requires well { IsWellFormed netlist.now }
@@ -124,5 +124,5 @@ pub fn start_of<F: Files>(
 {
     let image = read_words(alloc, files, setup.image, netlist)?;
     let delays = replies(alloc, files, setup.delays, few_delayed(netlist))?;
-    Ok(Start { image, delays })
+    Ok(RunStart { image, delays })
 }

@@ -16,7 +16,7 @@ ghost use Rattle.pdl_cli_commands.specs.Outcomes.{seen_of, Explains, Streamed};
 ghost use Rattle.pdl_rules.specs.Memories.{infos_of};
 
 use crate::run::{accept, load};
-use crate::start::{Start, replies};
+use crate::start::{RunStart, replies};
 use pdl_check::Accepted;
 use pdl_cli_args::RunSetup;
 use pdl_cli_failure::{Failure, in_text};
@@ -47,7 +47,7 @@ fn start_of<F: Files>(
     files: &mut F,
     accepted: &Accepted,
     setup: &RunSetup<'_>,
-) -> Result<Start, Failure>
+) -> Result<RunStart, Failure>
     requires image { IsTrue (F.may files.old setup.now.image.now) }
     requires delays { AllowsFile (F.may files.old) (text_of setup.now.delays) }
     requires accepted { (b : List ℕ) × IsAccepted b (pipe_view accepted.now.typed.pipe) }
@@ -65,14 +65,14 @@ fn start_of<F: Files>(
 {
     let image = load(alloc, files, setup.image, accepted)?;
     let delays = replies(alloc, files, setup.delays, few_delayed(accepted))?;
-    Ok(Start { image, delays })
+    Ok(RunStart { image, delays })
 }
 
 // Writes the view of a run of an accepted pipe while it runs.
 fn print_view<O: Sink>(
     alloc: Global,
     accepted: &Accepted,
-    start: &Start,
+    start: &RunStart,
     cycles: u32,
     out: &mut O,
 ) -> Result<(), Failure>

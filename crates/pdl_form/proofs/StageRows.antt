@@ -2,7 +2,7 @@
 use Rattle.std.proofs.Common.{◌≡◌, ℕ, zero, suc, ◌+◌, ◌<◌, ◌==◌, Bool, true, false, if◌then◌else◌, List, [], ◌∷◌, ◌++◌, map, length, get_or, refl, ap, ap₂, sym, ◌∙◌, subst, arith, append_assoc, length-append, ◌⊎◌, inl, inr}
 use Rattle.pdl_semantics.specs.Flat.{Stmt}
 use Rattle.pdl_semantics.specs.Stages.{in_stage}
-use Rattle.pdl_form.specs.declared.form.Stage as r_stage
+use Rattle.pdl_form.specs.declared.form.FlatStage as r_stage
 use Rattle.pdl_form.specs.View.{stages_view}
 use Rattle.pdl_form.specs.Form.{rows_in, rows_below, stmt_at}
 
@@ -71,6 +71,6 @@ pub rows_within : (k : ℕ) (xs : List Stmt) (j : ℕ) → j < length (rows_in k
 rows_within k xs = rows_low k 0 (length xs) xs (omega arith)
 
 -- a stage of the program's list
-pub length_stages : (xs : List r_stage.Stage) → length (stages_view xs) ≡ length xs
+pub length_stages : (xs : List r_stage.FlatStage) → length (stages_view xs) ≡ length xs
 length_stages [] = refl
 length_stages (x ∷ xs) = ap suc (length_stages xs)

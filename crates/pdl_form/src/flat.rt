@@ -4,15 +4,15 @@ ghost use Rattle.pdl_semantics.specs.Stages.{verify_stage};
 ghost use Rattle.pdl_form.specs.View.{stmts_view};
 ghost use Rattle.pdl_form.specs.Form.{rows_below};
 
-use crate::form::{Mem, Stage, Stmt};
+use crate::form::{FlatMem, FlatStage, FlatStmt};
 use pdl_kit::Seq;
 
 /// A pipe in flat form: what its threads, its machine and its circuit are made from.
 pub struct FlatPipe {
     pub(crate) widths: Vec<u8>,
-    pub(crate) mems: Vec<Mem>,
-    pub(crate) stmts: Vec<Stmt>,
-    pub(crate) stages: Vec<Stage>,
+    pub(crate) mems: Vec<FlatMem>,
+    pub(crate) stmts: Vec<FlatStmt>,
+    pub(crate) stages: Vec<FlatStage>,
     pub(crate) start: Vec<u64>,
     pub(crate) reserved: Vec<Option<usize>>,
     pub(crate) released: Vec<Option<usize>>,

@@ -4,7 +4,7 @@ use pdl_syntax_tree::BinaryOp;
 
 /// An expression over numbered variables, with the widths in bits that its value needs: `width` is that of the operands, in `Constant` that of the value, and `wide` that of an extended value. In `Cat` it is that of `b`, the lower part.
 #[derive(Drop)]
-pub enum Expr {
+pub enum FlatExpr {
     Constant {
         width: u8,
         value: u64,
@@ -17,70 +17,70 @@ pub enum Expr {
     },
     Not {
         width: u8,
-        a: Boxed<Expr>,
+        a: Boxed<FlatExpr>,
     },
     Binary {
         op: BinaryOp,
         width: u8,
-        a: Boxed<Expr>,
-        b: Boxed<Expr>,
+        a: Boxed<FlatExpr>,
+        b: Boxed<FlatExpr>,
     },
     Cat {
-        a: Boxed<Expr>,
+        a: Boxed<FlatExpr>,
         width: u8,
-        b: Boxed<Expr>,
+        b: Boxed<FlatExpr>,
     },
     LessSigned {
         width: u8,
-        a: Boxed<Expr>,
-        b: Boxed<Expr>,
+        a: Boxed<FlatExpr>,
+        b: Boxed<FlatExpr>,
     },
     ZeroExtend {
         wide: u8,
-        a: Boxed<Expr>,
+        a: Boxed<FlatExpr>,
     },
     SignExtend {
         width: u8,
         wide: u8,
-        a: Boxed<Expr>,
+        a: Boxed<FlatExpr>,
     },
     Choose {
-        c: Boxed<Expr>,
-        a: Boxed<Expr>,
-        b: Boxed<Expr>,
+        c: Boxed<FlatExpr>,
+        a: Boxed<FlatExpr>,
+        b: Boxed<FlatExpr>,
     },
 }
 
 /// What a statement does, with the variable `x` that it binds, its memory `m` and the variable `a` of its address. An `if` on an expression binds its guard.
 #[derive(Drop)]
 pub enum Op {
-    Bind { x: usize, e: Expr },
+    Bind { x: usize, e: FlatExpr },
     CombRead { x: usize, m: usize, a: usize },
     DelayedRead { x: usize, m: usize, a: usize },
-    Write { m: usize, a: usize, e: Expr },
+    Write { m: usize, a: usize, e: FlatExpr },
     ReserveRead { m: usize, a: usize },
     ReserveWrite { m: usize, a: usize },
     Block { m: usize, a: usize },
     Release { m: usize, a: usize },
-    Call(Seq<Expr>),
-    SpecCall(Seq<Expr>),
-    Verify(Seq<Expr>),
+    Call(Seq<FlatExpr>),
+    SpecCall(Seq<FlatExpr>),
+    Verify(Seq<FlatExpr>),
     SpecCheck,
     SpecBarrier,
 }
 
 /// A branch of an `if`, with the variable of its truth value: the first branch is taken where that is 1, the second where it isn't.
 #[derive(Clone, Copy)]
-pub struct Guard {
+pub struct FlatGuard {
     pub var: usize,
     pub first: bool,
 }
 
 /// A statement with its stage and the guards that it stands under, the outermost first.
 #[derive(Drop)]
-pub struct Stmt {
+pub struct FlatStmt {
     pub stage: usize,
-    pub guards: Seq<Guard>,
+    pub guards: Seq<FlatGuard>,
     pub op: Op,
 }
 
@@ -95,7 +95,7 @@ pub enum Lock {
 
 /// A memory, with the width of its words in bits, how many words it has, and whether it answers in a later cycle.
 #[derive(Drop)]
-pub struct Mem {
+pub struct FlatMem {
     pub name: Name,
     pub width: u8,
     pub depth: u32,
@@ -117,15 +117,15 @@ pub enum Next {
 
 /// One of the two branches of the fork in this stage.
 #[derive(Clone, Copy)]
-pub struct Branch {
+pub struct FlatBranch {
     pub fork: usize,
     pub first: bool,
 }
 
 /// A stage: where it leads, the branch that it stands in, and the fork stage whose branches meet in it.
 #[derive(Clone, Copy)]
-pub struct Stage {
+pub struct FlatStage {
     pub next: Next,
-    pub branch: Option<Branch>,
+    pub branch: Option<FlatBranch>,
     pub merges: Option<usize>,
 }

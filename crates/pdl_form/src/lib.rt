@@ -10,4 +10,4 @@ pub mod rows;
 pub mod stmts;
 
 pub use flat::FlatPipe;
-pub use form::{Branch, Expr, Guard, Lock, Mem, Next, Op, Stage, Stmt};
+pub use form::{FlatBranch, FlatExpr, FlatGuard, FlatMem, FlatStage, FlatStmt, Lock, Next, Op};

@@ -6,7 +6,7 @@ ghost use Rattle.pdl_form.specs.Form.{form_with, rows_in, stmt_at};
 ghost use Rattle.pdl_form.specs.FormView.{form};
 
 use crate::flat::FlatPipe;
-use crate::form::{Mem, Stage, Stmt};
+use crate::form::{FlatMem, FlatStage, FlatStmt};
 use crate::rows::{all_rows, release_stages, reserve_stages};
 use crate::stmts::verify_stage;
 use pdl_kit::NoMemory;
@@ -17,9 +17,9 @@ impl FlatPipe {
     pub fn new(
         alloc: Global,
         widths: Vec<u8>,
-        mems: Vec<Mem>,
-        stmts: Vec<Stmt>,
-        stages: Vec<Stage>,
+        mems: Vec<FlatMem>,
+        stmts: Vec<FlatStmt>,
+        stages: Vec<FlatStage>,
         start: Vec<u64>,
     ) -> Result<FlatPipe, NoMemory>
         ensures { IfOk result (λ f. form f
@@ -59,7 +59,7 @@ impl FlatPipe {
     }
 
     /// Lends the memories in declared order.
-    pub fn mems(&self) -> &[Mem]
+    pub fn mems(&self) -> &[FlatMem]
         ensures mems { mems_view result.now ≡ (form self.now).pipe.mems }
         ensures names { mem_names result.now ≡ (form self.now).names }
     {
@@ -67,7 +67,7 @@ impl FlatPipe {
     }
 
     /// Lends the statements in text order.
-    pub fn stmts(&self) -> &[Stmt]
+    pub fn stmts(&self) -> &[FlatStmt]
         ensures { stmts_view result.now ≡ (form self.now).pipe.stmts }
     {
         self.stmts.as_slice()
@@ -87,7 +87,7 @@ impl FlatPipe {
     }
 
     /// Lends the stages by their numbers.
-    pub fn stages(&self) -> &[Stage]
+    pub fn stages(&self) -> &[FlatStage]
         ensures { stages_view result.now ≡ (form self.now).pipe.stages }
     {
         self.stages.as_slice()

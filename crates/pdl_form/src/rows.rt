@@ -4,13 +4,17 @@ ghost use Rattle.pdl_semantics.specs.Stages as stages;
 ghost use Rattle.pdl_form.specs.View.{stmts_view, mems_view};
 ghost use Rattle.pdl_form.specs.Form.{rows_below, stage_of_each};
 
-use crate::form::{Mem, Stmt};
+use crate::form::{FlatMem, FlatStmt};
 use crate::stmts::{release_stage, reserve_stage, rows};
 use pdl_kit::{NoMemory, Seq};
 use std::alloc::Global;
 
 /// The numbers of the statements of each of so many stages.
-pub fn all_rows(alloc: Global, stmts: &[Stmt], count: usize) -> Result<Vec<Seq<usize>>, NoMemory>
+pub fn all_rows(
+    alloc: Global,
+    stmts: &[FlatStmt],
+    count: usize,
+) -> Result<Vec<Seq<usize>>, NoMemory>
     ensures { IfOk result (λ rs. rs.items ≡ rows_below count (stmts_view stmts.now)) }
 {
     let mut all = Vec::new(alloc);
@@ -24,8 +28,8 @@ pub fn all_rows(alloc: Global, stmts: &[Stmt], count: usize) -> Result<Vec<Seq<u
 /// The stage of each memory's reserves.
 pub fn reserve_stages(
     alloc: Global,
-    stmts: &[Stmt],
-    mems: &[Mem],
+    stmts: &[FlatStmt],
+    mems: &[FlatMem],
 ) -> Result<Vec<Option<usize>>, NoMemory>
     ensures { IfOk result (λ r. r.items
         ≡ stage_of_each stages.is_reserve (stmts_view stmts.now) 0 (mems_view mems.now)) }
@@ -40,8 +44,8 @@ pub fn reserve_stages(
 /// The stage of each memory's releases.
 pub fn release_stages(
     alloc: Global,
-    stmts: &[Stmt],
-    mems: &[Mem],
+    stmts: &[FlatStmt],
+    mems: &[FlatMem],
 ) -> Result<Vec<Option<usize>>, NoMemory>
     ensures { IfOk result (λ r. r.items
         ≡ stage_of_each stages.is_release (stmts_view stmts.now) 0 (mems_view mems.now)) }

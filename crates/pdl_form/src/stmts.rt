@@ -5,12 +5,12 @@ ghost use Rattle.pdl_semantics.specs.Stages as stages;
 ghost use Rattle.pdl_form.specs.View.{act_view, stmts_view};
 ghost use Rattle.pdl_form.specs.Form.{rows_in};
 
-use crate::form::{Op, Stmt};
+use crate::form::{FlatStmt, Op};
 use pdl_kit::NoMemory;
 use std::alloc::Global;
 
 /// The numbers of the statements of a stage.
-pub fn rows(alloc: Global, stmts: &[Stmt], stage: usize) -> Result<Vec<usize>, NoMemory>
+pub fn rows(alloc: Global, stmts: &[FlatStmt], stage: usize) -> Result<Vec<usize>, NoMemory>
     ensures { IfOk result (λ r. r.items ≡ rows_in stage 0 (stmts_view stmts.now)) }
 {
     let mut rows = Vec::new(alloc);
@@ -51,7 +51,7 @@ fn is_verify(op: &Op) -> bool
 }
 
 /// The stage of a memory's reserves: that of the first one in the text.
-pub fn reserve_stage(stmts: &[Stmt], mem: usize) -> Option<usize>
+pub fn reserve_stage(stmts: &[FlatStmt], mem: usize) -> Option<usize>
     ensures { result ≡ first_stage (stages.is_reserve mem) (stmts_view stmts.now) }
 {
     for stmt in stmts {
@@ -63,7 +63,7 @@ pub fn reserve_stage(stmts: &[Stmt], mem: usize) -> Option<usize>
 }
 
 /// The stage of a memory's releases: that of the first one in the text.
-pub fn release_stage(stmts: &[Stmt], mem: usize) -> Option<usize>
+pub fn release_stage(stmts: &[FlatStmt], mem: usize) -> Option<usize>
     ensures { result ≡ first_stage (stages.is_release mem) (stmts_view stmts.now) }
 {
     for stmt in stmts {
@@ -75,7 +75,7 @@ pub fn release_stage(stmts: &[Stmt], mem: usize) -> Option<usize>
 }
 
 /// The stage of the verifies: that of the first one in the text.
-pub fn verify_stage(stmts: &[Stmt]) -> Option<usize>
+pub fn verify_stage(stmts: &[FlatStmt]) -> Option<usize>
     ensures { result ≡ stages.verify_stage (stmts_view stmts.now) }
 {
     for stmt in stmts {

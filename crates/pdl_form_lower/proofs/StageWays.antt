@@ -2,7 +2,7 @@
 use Rattle.std.proofs.Common.{◌≡◌, ℕ, zero, suc, ◌≤◌, ◌<◌, false, List, [], ◌∷◌, ◌++◌, length, get_or, set, Option, Some, None, refl, ap, sym, ◌∙◌, arith, append_assoc}
 use Rattle.pdl_semantics.specs.Flat.{Next, Ends, Goes, Stage, Branch}
 use Rattle.pdl_semantics.specs.Flatten.{Graph, with_merge}
-use Rattle.pdl_form.specs.declared.form.Stage as r_stage
+use Rattle.pdl_form.specs.declared.form.FlatStage as r_stage
 use Rattle.pdl_form.specs.declared.form.Next as r_next
 use Rattle.pdl_form.specs.View.{stage_view, stages_view, next_view}
 use Rattle.pdl_form_lower.specs.Walking.{leading, with_merge_at, next_at, closed_stages}
@@ -10,28 +10,28 @@ use Rattle.pdl_form_lower.specs.Walking.{leading, with_merge_at, next_at, closed
 -- OF THE PROGRAM'S LISTS
 
 -- a stage of the program that is told to lead elsewhere stands for one that leads there
-pub led : (xs : List r_stage.Stage) (k : ℕ) (x : r_stage.Stage) (n : r_next.Next) → k < length xs
+pub led : (xs : List r_stage.FlatStage) (k : ℕ) (x : r_stage.FlatStage) (n : r_next.Next) → k < length xs
     → x ≡ get_or xs k x → stages_view (set xs k (record x { next = n })) ≡ leading k (next_view n) (stages_view xs)
 led [] k x n h e = absurd (omega arith)
-led (y ∷ ys) zero x n h e = ap (λ (z : r_stage.Stage). record { next = next_view n; branch = (stage_view z).branch; merges = z.merges } ∷ stages_view ys) e
+led (y ∷ ys) zero x n h e = ap (λ (z : r_stage.FlatStage). record { next = next_view n; branch = (stage_view z).branch; merges = z.merges } ∷ stages_view ys) e
 led (y ∷ ys) (suc k) x n h e = ap (λ zs. stage_view y ∷ zs) (led ys k x n (omega arith) e)
 
 -- a stage of the program that is marked as a fork's merge stands for one that is marked so
-pub marked_one : (xs : List r_stage.Stage) (k : ℕ) (x : r_stage.Stage) (f : ℕ) → k < length xs
+pub marked_one : (xs : List r_stage.FlatStage) (k : ℕ) (x : r_stage.FlatStage) (f : ℕ) → k < length xs
     → x ≡ get_or xs k x → stages_view (set xs k (record x { merges = Some f })) ≡ with_merge_at k f (stages_view xs)
 marked_one [] k x f h e = absurd (omega arith)
-marked_one (y ∷ ys) zero x f h e = ap (λ (z : r_stage.Stage). record { next = next_view z.next; branch = (stage_view z).branch; merges = Some f } ∷ stages_view ys) e
+marked_one (y ∷ ys) zero x f h e = ap (λ (z : r_stage.FlatStage). record { next = next_view z.next; branch = (stage_view z).branch; merges = Some f } ∷ stages_view ys) e
 marked_one (y ∷ ys) (suc k) x f h e = ap (λ zs. stage_view y ∷ zs) (marked_one ys k x f (omega arith) e)
 
 -- where a stage of the program leads is where the stage leads that it stands for
-pub next_seen : (xs : List r_stage.Stage) (k : ℕ) (d : r_stage.Stage)
+pub next_seen : (xs : List r_stage.FlatStage) (k : ℕ) (d : r_stage.FlatStage)
     → k < length xs → next_view (get_or xs k d).next ≡ next_at k (stages_view xs)
 next_seen [] k d h = absurd (omega arith)
 next_seen (y ∷ ys) zero d h = refl
 next_seen (y ∷ ys) (suc k) d h = next_seen ys k d (omega arith)
 
 -- a stage more of the program stands for a stage more
-pub stages_push : (xs : List r_stage.Stage) (x : r_stage.Stage) → stages_view (xs ++ x ∷ []) ≡ stages_view xs ++ stage_view x ∷ []
+pub stages_push : (xs : List r_stage.FlatStage) (x : r_stage.FlatStage) → stages_view (xs ++ x ∷ []) ≡ stages_view xs ++ stage_view x ∷ []
 stages_push [] x = refl
 stages_push (y ∷ ys) x = ap (λ zs. stage_view y ∷ zs) (stages_push ys x)
 

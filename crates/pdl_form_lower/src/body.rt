@@ -10,14 +10,14 @@ ghost use Rattle.pdl_form_lower.specs.Walking.{place_of, IsWhole, closed_stages,
 use crate::count::separators;
 use crate::expr::flat_expr;
 use crate::row::{add, row};
-use crate::walk::{Round, Walk, begin, lead, mark};
-use pdl_form::{Branch, Guard, Next, Op, Stage};
+use crate::walk::{StmtContext, Walk, begin, lead, mark};
+use pdl_form::{FlatBranch, FlatGuard, FlatStage, Next, Op};
 use pdl_kit::{Name, NoMemory, Seq};
 use pdl_syntax_tree::{Expr, Mem, Stmt};
 use std::alloc::Global;
 
 // The variable of a condition's truth value: the plain variable itself, else one of its own, which is bound here.
-fn guard(alloc: Global, walk: &mut Walk, guards: &[Guard], c: &Expr) -> Result<usize, NoMemory>
+fn guard(alloc: Global, walk: &mut Walk, guards: &[FlatGuard], c: &Expr) -> Result<usize, NoMemory>
     requires { IsSized (tree.expr_view c.now) }
     ensures var { IfOk result (λ x. x ≡ spec.guard_of walk.old.vars (tree.expr_view c.now)) }
     ensures stmts { OnOk result (stmts_view walk.new.stmts.items
@@ -49,7 +49,7 @@ struct Choice {
 }
 
 // Where a stage leads.
-fn way_on(stages: &[Stage], k: usize) -> Next
+fn way_on(stages: &[FlatStage], k: usize) -> Next
     requires { k < length stages.now }
     ensures { next_view result ≡ next_at k (stages_view stages.now) }
 {
@@ -60,7 +60,7 @@ fn way_on(stages: &[Stage], k: usize) -> Next
 fn enter(
     alloc: Global,
     walk: &mut Walk,
-    guards: &[Guard],
+    guards: &[FlatGuard],
     c: &Expr,
     more: usize,
 ) -> Result<Choice, NoMemory>
@@ -94,7 +94,12 @@ fn enter(
 }
 
 // What stands round a branch.
-fn inside(alloc: Global, guards: &[Guard], choice: Choice, first: bool) -> Result<Round, NoMemory>
+fn inside(
+    alloc: Global,
+    guards: &[FlatGuard],
+    choice: Choice,
+    first: bool,
+) -> Result<StmtContext, NoMemory>
     ensures guards { IfOk result (λ r.
         guards_view r.guards ≡ guards_view guards.now ++ record {
           var = choice.var;
@@ -105,17 +110,17 @@ fn inside(alloc: Global, guards: &[Guard], choice: Choice, first: bool) -> Resul
 {
     let mut guards = Seq::copy_of(alloc, guards)?;
     let var = choice.var;
-    guards.push(Guard { var, first })?;
+    guards.push(FlatGuard { var, first })?;
     let fork = choice.stage;
-    Ok(Round {
+    Ok(StmtContext {
         guards,
-        branch: Some(Branch { fork, first }),
+        branch: Some(FlatBranch { fork, first }),
         exit: Next::Goes(choice.merge),
     })
 }
 
 // The stage to which this one leads alone.
-fn entry(stages: &[Stage], k: usize) -> usize
+fn entry(stages: &[FlatStage], k: usize) -> usize
     requires { k < length stages.now }
     ensures { result ≡ spec.entry (next_at k (stages_view stages.now)) }
 {
@@ -160,7 +165,7 @@ fn branch(
     alloc: Global,
     walk: &mut Walk,
     mems: &[Mem],
-    guards: &[Guard],
+    guards: &[FlatGuard],
     choice: Choice,
     first: bool,
     ss: &[Stmt],
@@ -200,7 +205,7 @@ pub fn statement(
     alloc: Global,
     walk: &mut Walk,
     mems: &[Mem],
-    round: &Round,
+    round: &StmtContext,
     forked: bool,
     s: &Stmt,
 ) -> Result<bool, NoMemory>
@@ -255,7 +260,7 @@ pub fn statements(
     alloc: Global,
     walk: &mut Walk,
     mems: &[Mem],
-    round: &Round,
+    round: &StmtContext,
     ss: &[Stmt],
 ) -> Result<(), NoMemory>
     requires whole { IsWhole walk.old }

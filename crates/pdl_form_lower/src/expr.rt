@@ -8,7 +8,7 @@ ghost use Rattle.pdl_form_lower.specs.Sized.{IsSized, AreSized};
 
 use crate::both::both;
 use crate::vars::Vars;
-use pdl_form::Expr;
+use pdl_form::FlatExpr;
 use pdl_kit::{Boxed, Name, NoMemory, Seq};
 use pdl_syntax_tree::{BinaryOp, Expr as Tree, Literal};
 use std::alloc::Global;
@@ -16,7 +16,7 @@ use std::alloc::Global;
 /// An expression with the width of its value in bits.
 #[derive(Drop)]
 pub struct Wide {
-    pub e: Expr,
+    pub e: FlatExpr,
     pub width: u8,
 }
 
@@ -31,7 +31,7 @@ fn constant(l: &Literal) -> Wide
         None => 0,
     };
     Wide {
-        e: Expr::Constant { width, value },
+        e: FlatExpr::Constant { width, value },
         width,
     }
 }
@@ -42,7 +42,7 @@ fn variable(vars: &Vars, name: &Name) -> Wide
     ensures small { result.width ≤ 64 }
 {
     Wide {
-        e: Expr::Variable(vars.number(name)),
+        e: FlatExpr::Variable(vars.number(name)),
         width: vars.width(name),
     }
 }
@@ -66,7 +66,7 @@ fn slice(vars: &Vars, name: &Name, high: u64, low: u64) -> Wide
     let high = high as u8;
     let low = low as u8;
     Wide {
-        e: Expr::Slice {
+        e: FlatExpr::Slice {
             x: vars.number(name),
             high,
             low,
@@ -77,32 +77,32 @@ fn slice(vars: &Vars, name: &Name, high: u64, low: u64) -> Wide
 
 // An operand in a place of its own, with the width of its value.
 #[derive(Drop)]
-struct Operand {
-    e: Boxed<Expr>,
+struct LoweredOperand {
+    e: Boxed<FlatExpr>,
     width: u8,
 }
 
 // An expression as an operand, where memory held for it.
 #[inline(never)]
-fn boxed(alloc: Global, of: Result<Wide, NoMemory>) -> Result<Operand, NoMemory>
+fn boxed(alloc: Global, of: Result<Wide, NoMemory>) -> Result<LoweredOperand, NoMemory>
     ensures { IfOk result (λ r. of ≡ Ok (record { e = r.e; width = r.width })) }
 {
     let Wide { e, width } = of?;
-    Ok(Operand {
+    Ok(LoweredOperand {
         e: Boxed::new(alloc, e)?,
         width,
     })
 }
 
-fn not(alloc: Global, a: Result<Operand, NoMemory>) -> Result<Wide, NoMemory>
+fn not(alloc: Global, a: Result<LoweredOperand, NoMemory>) -> Result<Wide, NoMemory>
     ensures form { (x : flat.Expr) (w : ℕ) → IfOk a (λ a. expr_view a.e ≡ x) →
         IfOk a (λ a. a.width ≡ w) → IfOk result (λ r. expr_view r.e ≡ flat.Not w x) }
     ensures width { (w : ℕ) → IfOk a (λ a. a.width ≡ w) → IfOk result (λ r. r.width ≡ w) }
     ensures small { IfOk a (λ a. a.width ≤ 64) → IfOk result (λ r. r.width ≤ 64) }
 {
-    let Operand { e, width } = a?;
+    let LoweredOperand { e, width } = a?;
     Ok(Wide {
-        e: Expr::Not { width, a: e },
+        e: FlatExpr::Not { width, a: e },
         width,
     })
 }
@@ -124,8 +124,8 @@ fn op_width(op: BinaryOp, width: u8) -> u8
 fn binary(
     alloc: Global,
     op: BinaryOp,
-    a: Result<Operand, NoMemory>,
-    b: Result<Operand, NoMemory>,
+    a: Result<LoweredOperand, NoMemory>,
+    b: Result<LoweredOperand, NoMemory>,
 ) -> Result<Wide, NoMemory>
     requires { IfOk a (λ a. a.width ≤ 64) }
     ensures form { (x y : flat.Expr) (w : ℕ) → IfOk a (λ a. expr_view a.e ≡ x) →
@@ -138,7 +138,7 @@ fn binary(
     let (a, b) = both(a, b)?;
     let width = a.width;
     Ok(Wide {
-        e: Expr::Binary {
+        e: FlatExpr::Binary {
             op,
             width,
             a: a.e,
@@ -161,8 +161,8 @@ fn cat_width(above: u8, below: u8) -> u8
 
 fn cat(
     alloc: Global,
-    a: Result<Operand, NoMemory>,
-    b: Result<Operand, NoMemory>,
+    a: Result<LoweredOperand, NoMemory>,
+    b: Result<LoweredOperand, NoMemory>,
 ) -> Result<Wide, NoMemory>
     requires a_small { IfOk a (λ a. a.width ≤ 64) }
     requires b_small { IfOk b (λ b. b.width ≤ 64) }
@@ -176,7 +176,7 @@ fn cat(
     let (a, b) = both(a, b)?;
     let width = b.width;
     Ok(Wide {
-        e: Expr::Cat {
+        e: FlatExpr::Cat {
             a: a.e,
             width,
             b: b.e,
@@ -187,8 +187,8 @@ fn cat(
 
 fn less_signed(
     alloc: Global,
-    a: Result<Operand, NoMemory>,
-    b: Result<Operand, NoMemory>,
+    a: Result<LoweredOperand, NoMemory>,
+    b: Result<LoweredOperand, NoMemory>,
 ) -> Result<Wide, NoMemory>
     ensures form { (x y : flat.Expr) (w : ℕ) → IfOk a (λ a. expr_view a.e ≡ x) →
         IfOk b (λ b. expr_view b.e ≡ y) → IfOk a (λ a. a.width ≡ w) →
@@ -198,7 +198,7 @@ fn less_signed(
     let (a, b) = both(a, b)?;
     let width = a.width;
     Ok(Wide {
-        e: Expr::LessSigned {
+        e: FlatExpr::LessSigned {
             width,
             a: a.e,
             b: b.e,
@@ -207,7 +207,11 @@ fn less_signed(
     })
 }
 
-fn zero_extend(alloc: Global, a: Result<Operand, NoMemory>, wide: u64) -> Result<Wide, NoMemory>
+fn zero_extend(
+    alloc: Global,
+    a: Result<LoweredOperand, NoMemory>,
+    wide: u64,
+) -> Result<Wide, NoMemory>
     requires { wide ≤ 64 }
     ensures form { (x : flat.Expr) → IfOk a (λ a. expr_view a.e ≡ x) →
         IfOk result (λ r. expr_view r.e ≡ flat.ZeroExtend wide x) }
@@ -216,21 +220,25 @@ fn zero_extend(alloc: Global, a: Result<Operand, NoMemory>, wide: u64) -> Result
     let wide = wide as u8;
     let a = a?.e;
     Ok(Wide {
-        e: Expr::ZeroExtend { wide, a },
+        e: FlatExpr::ZeroExtend { wide, a },
         width: wide,
     })
 }
 
-fn sign_extend(alloc: Global, a: Result<Operand, NoMemory>, wide: u64) -> Result<Wide, NoMemory>
+fn sign_extend(
+    alloc: Global,
+    a: Result<LoweredOperand, NoMemory>,
+    wide: u64,
+) -> Result<Wide, NoMemory>
     requires { wide ≤ 64 }
     ensures form { (x : flat.Expr) (w : ℕ) → IfOk a (λ a. expr_view a.e ≡ x) →
         IfOk a (λ a. a.width ≡ w) → IfOk result (λ r. expr_view r.e ≡ flat.SignExtend w wide x) }
     ensures width { IfOk result (λ r. r.width ≡ wide) }
 {
     let wide = wide as u8;
-    let Operand { e, width } = a?;
+    let LoweredOperand { e, width } = a?;
     Ok(Wide {
-        e: Expr::SignExtend { width, wide, a: e },
+        e: FlatExpr::SignExtend { width, wide, a: e },
         width: wide,
     })
 }
@@ -238,9 +246,9 @@ fn sign_extend(alloc: Global, a: Result<Operand, NoMemory>, wide: u64) -> Result
 #[inline(never)]
 fn choose(
     alloc: Global,
-    c: Result<Operand, NoMemory>,
-    a: Result<Operand, NoMemory>,
-    b: Result<Operand, NoMemory>,
+    c: Result<LoweredOperand, NoMemory>,
+    a: Result<LoweredOperand, NoMemory>,
+    b: Result<LoweredOperand, NoMemory>,
 ) -> Result<Wide, NoMemory>
     ensures form { (z x y : flat.Expr) → IfOk c (λ c. expr_view c.e ≡ z) →
         IfOk a (λ a. expr_view a.e ≡ x) → IfOk b (λ b. expr_view b.e ≡ y) →
@@ -252,7 +260,7 @@ fn choose(
     let (a, b) = arms;
     let width = a.width;
     Ok(Wide {
-        e: Expr::Choose {
+        e: FlatExpr::Choose {
             c: c.e,
             a: a.e,
             b: b.e,
@@ -264,7 +272,7 @@ fn choose(
 // An expression as an operand in a place of its own, which takes less of the stack than the expression.
 #[cycle(flat)]
 #[inline(never)]
-fn flat_operand(alloc: Global, vars: &Vars, e: &Tree) -> Result<Operand, NoMemory>
+fn flat_operand(alloc: Global, vars: &Vars, e: &Tree) -> Result<LoweredOperand, NoMemory>
     requires e { IsSized (tree_view e.now) }
     ensures form { IfOk result (λ r. expr_view r.e ≡ spec.flat_expr vars.now (tree_view e.now)) }
     ensures width { IfOk result (λ r. r.width ≡ spec.width_of vars.now (tree_view e.now)) }
@@ -322,7 +330,7 @@ fn binary_with(
     alloc: Global,
     vars: &Vars,
     op: BinaryOp,
-    a: Result<Operand, NoMemory>,
+    a: Result<LoweredOperand, NoMemory>,
     b: &Tree,
 ) -> Result<Wide, NoMemory>
     requires b { IsSized (tree_view b.now) }
@@ -344,7 +352,7 @@ fn binary_with(
 fn cat_with(
     alloc: Global,
     vars: &Vars,
-    a: Result<Operand, NoMemory>,
+    a: Result<LoweredOperand, NoMemory>,
     b: &Tree,
 ) -> Result<Wide, NoMemory>
     requires b { IsSized (tree_view b.now) }
@@ -365,7 +373,7 @@ fn cat_with(
 fn less_with(
     alloc: Global,
     vars: &Vars,
-    a: Result<Operand, NoMemory>,
+    a: Result<LoweredOperand, NoMemory>,
     b: &Tree,
 ) -> Result<Wide, NoMemory>
     requires b { IsSized (tree_view b.now) }
@@ -385,8 +393,8 @@ fn less_with(
 fn choice_with(
     alloc: Global,
     vars: &Vars,
-    c: Result<Operand, NoMemory>,
-    a: Result<Operand, NoMemory>,
+    c: Result<LoweredOperand, NoMemory>,
+    a: Result<LoweredOperand, NoMemory>,
     b: &Tree,
 ) -> Result<Wide, NoMemory>
     requires b { IsSized (tree_view b.now) }
@@ -437,7 +445,7 @@ pub fn flat_expr(alloc: Global, vars: &Vars, e: &Tree) -> Result<Wide, NoMemory>
 }
 
 /// Arguments over the variables' numbers.
-pub fn flat_exprs(alloc: Global, vars: &Vars, es: &[Tree]) -> Result<Seq<Expr>, NoMemory>
+pub fn flat_exprs(alloc: Global, vars: &Vars, es: &[Tree]) -> Result<Seq<FlatExpr>, NoMemory>
     requires { AreSized (trees_view es.now) }
     ensures { IfOk result (λ r. map expr_view r ≡ spec.flat_exprs vars.now (trees_view es.now)) }
 {

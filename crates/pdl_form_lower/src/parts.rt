@@ -7,7 +7,7 @@ ghost use Rattle.pdl_form.specs.Form.{names_of};
 ghost use Rattle.pdl_form_lower.specs.Sized.{IsSizedLock, IsSizedMem, AreSizedMems, AreSizedParams};
 
 use crate::vars::Vars;
-use pdl_form::{Lock, Mem};
+use pdl_form::{FlatMem, Lock};
 use pdl_kit::NoMemory;
 use pdl_syntax_tree::{Literal, LockDecl, LockKind, Mem as Tree, Param};
 use std::alloc::Global;
@@ -41,7 +41,7 @@ fn lock(lock: Option<LockDecl>) -> Lock
     }
 }
 
-fn memory(mem: &Tree) -> Result<Mem, NoMemory>
+fn memory(mem: &Tree) -> Result<FlatMem, NoMemory>
     requires { IsSizedMem (tree.mem_view mem.now) }
     ensures view { IfOk result (λ m.
         mem_view m ≡ record {
@@ -53,7 +53,7 @@ fn memory(mem: &Tree) -> Result<Mem, NoMemory>
     ensures name { IfOk result (λ m. m.name ≡ mem.now.name.name) }
 {
     let lock = lock(mem.lock);
-    Ok(Mem {
+    Ok(FlatMem {
         name: mem.name.name.clone()?,
         width: mem.width.value as u8,
         depth: mem.depth.value as u32,
@@ -63,7 +63,7 @@ fn memory(mem: &Tree) -> Result<Mem, NoMemory>
 }
 
 /// The memories.
-pub fn memories(alloc: Global, mems: &[Tree]) -> Result<Vec<Mem>, NoMemory>
+pub fn memories(alloc: Global, mems: &[Tree]) -> Result<Vec<FlatMem>, NoMemory>
     requires { AreSizedMems (map tree.mem_view mems.now) }
     ensures view { IfOk result (λ ms.
         mems_view ms.items ≡ spec.mems_of (map tree.mem_view mems.now)) }

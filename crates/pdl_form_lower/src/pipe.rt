@@ -11,8 +11,8 @@ ghost use Rattle.pdl_form_lower.specs.Walking.{place_of};
 use crate::body::statements;
 use crate::parts::{memories, params, start};
 use crate::vars::Vars;
-use crate::walk::{Round, Walk};
-use pdl_form::{FlatPipe, Mem, Next, Stage};
+use crate::walk::{StmtContext, Walk};
+use pdl_form::{FlatMem, FlatPipe, FlatStage, Next};
 use pdl_kit::{NoMemory, Seq};
 use pdl_syntax_tree::Pipe;
 use std::alloc::Global;
@@ -57,12 +57,12 @@ fn walk_body(alloc: Global, walk: &mut Walk, pipe: &Pipe) -> Result<(), NoMemory
     ensures stages { OnOk result (
         stages_view walk.new.stages.items ≡ spec.stages_of (pipe_view pipe.now)) }
 {
-    walk.stages.push(Stage {
+    walk.stages.push(FlatStage {
         next: Next::Ends,
         branch: None,
         merges: None,
     })?;
-    let round = Round {
+    let round = StmtContext {
         guards: Seq::new(alloc),
         branch: None,
         exit: Next::Ends,
@@ -78,14 +78,14 @@ fn walk_body(alloc: Global, walk: &mut Walk, pipe: &Pipe) -> Result<(), NoMemory
 
 // The parts of a flat form that don't come from the walk itself.
 #[derive(Drop)]
-struct Parts {
+struct FormParts {
     widths: Vec<u8>,
-    mems: Vec<Mem>,
+    mems: Vec<FlatMem>,
     start: Vec<u64>,
 }
 
 // The widths of these variables, and a pipe's memories and start arguments.
-fn parts_beside(alloc: Global, pipe: &Pipe, vars: &Vars) -> Result<Parts, NoMemory>
+fn parts_beside(alloc: Global, pipe: &Pipe, vars: &Vars) -> Result<FormParts, NoMemory>
     requires { IsSizedPipe (pipe_view pipe.now) }
     ensures widths { IfOk result (λ r. r.widths.items ≡ map (λ (v : spec.Var). v.width) vars.now) }
     ensures mems { IfOk result (λ r. mems_view r.mems.items
@@ -98,7 +98,7 @@ fn parts_beside(alloc: Global, pipe: &Pipe, vars: &Vars) -> Result<Parts, NoMemo
     let widths = vars.widths(alloc)?;
     let mems = memories(alloc, pipe.mems.as_slice())?;
     let start = start(alloc, pipe.start.args.as_slice())?;
-    Ok(Parts {
+    Ok(FormParts {
         widths,
         mems,
         start,
@@ -112,7 +112,7 @@ pub fn lower(alloc: Global, pipe: &Pipe) -> Result<FlatPipe, NoMemory>
     ensures { IfOk result (λ f. form f ≡ form_of (pipe_view pipe.now)) }
 {
     let walk = walk_over(alloc, pipe)?;
-    let Parts {
+    let FormParts {
         widths,
         mems,
         start,

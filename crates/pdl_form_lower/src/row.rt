@@ -12,9 +12,9 @@ use crate::expr::{flat_expr, flat_exprs};
 use crate::mems::{mem_of, mem_width};
 use crate::vars::Vars;
 use crate::walk::Walk;
-use pdl_form::{Guard, Op, Stmt};
+use pdl_form::{FlatGuard, FlatStmt, Op};
 use pdl_kit::{NoMemory, Seq};
-use pdl_syntax_tree::{Expr, Ident, Kind, Location, Mem, Stmt as Tree};
+use pdl_syntax_tree::{AccessKind, Expr, Ident, Location, Mem, Stmt as Tree};
 use std::alloc::Global;
 
 // A location by numbers: the memory, and the variable of the address.
@@ -35,7 +35,7 @@ fn spot_of(vars: &Vars, mems: &[Mem], at: &Location) -> Spot
 }
 
 /// Adds a statement that stands where the walk is.
-pub fn add(alloc: Global, walk: &mut Walk, guards: &[Guard], op: Op) -> Result<(), NoMemory>
+pub fn add(alloc: Global, walk: &mut Walk, guards: &[FlatGuard], op: Op) -> Result<(), NoMemory>
     ensures stmts { OnOk result (stmts_view walk.new.stmts.items
         ≡ stmts_view walk.old.stmts.items ++ spec.at_position (guards_view guards.now)
         (place_of walk.old) (act_view op)) }
@@ -48,9 +48,9 @@ pub fn add(alloc: Global, walk: &mut Walk, guards: &[Guard], op: Op) -> Result<(
 // Adds a statement of a stage.
 fn push(
     alloc: Global,
-    stmts: &mut Vec<Stmt>,
+    stmts: &mut Vec<FlatStmt>,
     stage: usize,
-    guards: &[Guard],
+    guards: &[FlatGuard],
     op: Op,
 ) -> Result<(), NoMemory>
     ensures { OnOk result (stmts_view stmts.new.items ≡ stmts_view stmts.old.items ++ record {
@@ -60,14 +60,14 @@ fn push(
     } ∷ []) }
 {
     let guards = Seq::copy_of(alloc, guards)?;
-    append(stmts, Stmt { stage, guards, op })
+    append(stmts, FlatStmt { stage, guards, op })
 }
 
 // Adds a binding.
 fn bind(
     alloc: Global,
     walk: &mut Walk,
-    guards: &[Guard],
+    guards: &[FlatGuard],
     x: &Ident,
     e: &Expr,
 ) -> Result<(), NoMemory>
@@ -95,7 +95,7 @@ fn read_row(
     alloc: Global,
     walk: &mut Walk,
     mems: &[Mem],
-    guards: &[Guard],
+    guards: &[FlatGuard],
     x: &Ident,
     from: &Location,
     delayed: bool,
@@ -128,12 +128,12 @@ fn read_at(delayed: bool, x: usize, m: usize, a: usize) -> Op
     }
 }
 
-fn reserve(kind: Kind, m: usize, a: usize) -> Op
+fn reserve(kind: AccessKind, m: usize, a: usize) -> Op
     ensures { act_view result ≡ spec.reserve_op (tree.kind_view kind) m a }
 {
     match kind {
-        Kind::R => Op::ReserveRead { m, a },
-        Kind::W => Op::ReserveWrite { m, a },
+        AccessKind::R => Op::ReserveRead { m, a },
+        AccessKind::W => Op::ReserveWrite { m, a },
     }
 }
 
@@ -181,7 +181,7 @@ pub fn row(
     alloc: Global,
     walk: &mut Walk,
     mems: &[Mem],
-    guards: &[Guard],
+    guards: &[FlatGuard],
     s: &Tree,
 ) -> Result<(), NoMemory>
     requires plain { IsTrue (is_plain (tree.stmt_view s.now)) }

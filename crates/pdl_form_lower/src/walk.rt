@@ -5,29 +5,29 @@ ghost use Rattle.pdl_form.specs.View.{stages_view, next_view, branch_view};
 ghost use Rattle.pdl_form_lower.specs.Walking.{place_of, IsWhole, closed_stages, leading, with_merge_at};
 
 use crate::vars::Vars;
-use pdl_form::{Branch, Guard, Next, Stage, Stmt};
+use pdl_form::{FlatBranch, FlatGuard, FlatStage, FlatStmt, Next};
 use pdl_kit::{NoMemory, Seq};
 
 /// What a walk has made: the variables, statements and stages so far. It stands in `stage`, and `begun` is the last stage that has begun.
 #[derive(Drop)]
 pub struct Walk {
     pub vars: Vars,
-    pub stmts: Vec<Stmt>,
-    pub stages: Vec<Stage>,
+    pub stmts: Vec<FlatStmt>,
+    pub stages: Vec<FlatStage>,
     pub stage: usize,
     pub begun: usize,
 }
 
 /// What stands round some statements: their guards, the branch of a fork, and where their last stage leads.
 #[derive(Drop)]
-pub struct Round {
-    pub guards: Seq<Guard>,
-    pub branch: Option<Branch>,
+pub struct StmtContext {
+    pub guards: Seq<FlatGuard>,
+    pub branch: Option<FlatBranch>,
     pub exit: Next,
 }
 
 /// Lets a stage lead elsewhere.
-pub fn lead(stages: &mut Vec<Stage>, k: usize, next: Next)
+pub fn lead(stages: &mut Vec<FlatStage>, k: usize, next: Next)
     requires { k < length stages.old.items }
     ensures stages { stages_view stages.new.items
         ≡ leading k (next_view next) (stages_view stages.old.items) }
@@ -39,7 +39,7 @@ pub fn lead(stages: &mut Vec<Stage>, k: usize, next: Next)
 }
 
 /// Marks a stage as the merge of a fork.
-pub fn mark(stages: &mut Vec<Stage>, k: usize, fork: usize)
+pub fn mark(stages: &mut Vec<FlatStage>, k: usize, fork: usize)
     requires { k < length stages.old.items }
     ensures stages { stages_view stages.new.items
         ≡ with_merge_at k fork (stages_view stages.old.items) }
@@ -51,7 +51,7 @@ pub fn mark(stages: &mut Vec<Stage>, k: usize, fork: usize)
 }
 
 // Begins a stage after the one in which the walk stands.
-fn begin_after(walk: &mut Walk, branch: Option<Branch>) -> Result<(), NoMemory>
+fn begin_after(walk: &mut Walk, branch: Option<FlatBranch>) -> Result<(), NoMemory>
     requires { IsWhole walk.old }
     ensures place { OnOk result (place_of walk.new ≡ spec.next_position (place_of walk.old)) }
     ensures stmts { OnOk result (walk.new.stmts.items ≡ walk.old.stmts.items) }
@@ -63,7 +63,7 @@ fn begin_after(walk: &mut Walk, branch: Option<Branch>) -> Result<(), NoMemory>
 {
     let last = walk.stage;
     let next = walk.stages.len();
-    walk.stages.push(Stage {
+    walk.stages.push(FlatStage {
         next: Next::Ends,
         branch,
         merges: None,
@@ -75,7 +75,7 @@ fn begin_after(walk: &mut Walk, branch: Option<Branch>) -> Result<(), NoMemory>
 }
 
 // Begins the stage after the fork in the one in which the walk stands.
-fn begin_merge(walk: &mut Walk, branch: Option<Branch>) -> Result<(), NoMemory>
+fn begin_merge(walk: &mut Walk, branch: Option<FlatBranch>) -> Result<(), NoMemory>
     requires { IsWhole walk.old }
     ensures place { OnOk result (place_of walk.new ≡ spec.next_position (place_of walk.old)) }
     ensures stmts { OnOk result (walk.new.stmts.items ≡ walk.old.stmts.items) }
@@ -87,7 +87,7 @@ fn begin_merge(walk: &mut Walk, branch: Option<Branch>) -> Result<(), NoMemory>
 {
     let fork = walk.stage;
     let next = walk.stages.len();
-    walk.stages.push(Stage {
+    walk.stages.push(FlatStage {
         next: Next::Ends,
         branch,
         merges: Some(fork),
@@ -98,7 +98,7 @@ fn begin_merge(walk: &mut Walk, branch: Option<Branch>) -> Result<(), NoMemory>
 }
 
 /// Begins a stage after the one in which the walk stands, or after the fork in it.
-pub fn begin(walk: &mut Walk, branch: Option<Branch>, forked: bool) -> Result<(), NoMemory>
+pub fn begin(walk: &mut Walk, branch: Option<FlatBranch>, forked: bool) -> Result<(), NoMemory>
     requires { IsWhole walk.old }
     ensures place { OnOk result (place_of walk.new ≡ spec.next_position (place_of walk.old)) }
     ensures stmts { OnOk result (walk.new.stmts.items ≡ walk.old.stmts.items) }

@@ -5,7 +5,7 @@ ghost use Rattle.pdl_form.specs.View.{expr_view, exprs_view};
 ghost use Rattle.pdl_form_values.specs.Safe.{IsSafe, AreSafe};
 
 use crate::operators::apply;
-use pdl_form::Expr;
+use pdl_form::FlatExpr;
 
 /// The value of the variable of a number, 0 where there is none.
 pub fn variable(values: &[u64], x: usize) -> u64
@@ -18,35 +18,35 @@ pub fn variable(values: &[u64], x: usize) -> u64
 }
 
 /// The value of an expression where the variables have these values, which are of the widths that its operators want.
-pub fn value_of(e: &Expr, values: &[u64]) -> u64
+pub fn value_of(e: &FlatExpr, values: &[u64]) -> u64
     requires { IsSafe (expr_view e.now) values.now }
     ensures { result ≡ flat.value_of (expr_view e.now) values.now }
 {
     match e {
-        Expr::Constant { width: _, value } => *value,
-        Expr::Variable(x) => variable(values, *x),
-        Expr::Slice { x, high, low } => pdl_word::slice(*high, *low, variable(values, *x)),
-        Expr::Not { width, a } => pdl_word::complement(*width, value_of(a.get(), values)),
-        Expr::Binary { op, width, a, b } => {
+        FlatExpr::Constant { width: _, value } => *value,
+        FlatExpr::Variable(x) => variable(values, *x),
+        FlatExpr::Slice { x, high, low } => pdl_word::slice(*high, *low, variable(values, *x)),
+        FlatExpr::Not { width, a } => pdl_word::complement(*width, value_of(a.get(), values)),
+        FlatExpr::Binary { op, width, a, b } => {
             let first = value_of(a.get(), values);
             let second = value_of(b.get(), values);
             apply(*op, *width, first, second)
         }
-        Expr::Cat { a, width, b } => {
+        FlatExpr::Cat { a, width, b } => {
             let above = value_of(a.get(), values);
             let below = value_of(b.get(), values);
             pdl_word::cat(*width, above, below)
         }
-        Expr::LessSigned { width, a, b } => {
+        FlatExpr::LessSigned { width, a, b } => {
             let first = value_of(a.get(), values);
             let second = value_of(b.get(), values);
             pdl_word::lts(*width, first, second)
         }
-        Expr::ZeroExtend { wide: _, a } => pdl_word::zext(value_of(a.get(), values)),
-        Expr::SignExtend { width, wide, a } => {
+        FlatExpr::ZeroExtend { wide: _, a } => pdl_word::zext(value_of(a.get(), values)),
+        FlatExpr::SignExtend { width, wide, a } => {
             pdl_word::sext(*width, *wide, value_of(a.get(), values))
         }
-        Expr::Choose { c, a, b } => {
+        FlatExpr::Choose { c, a, b } => {
             let choice = value_of(c.get(), values);
             let first = value_of(a.get(), values);
             let second = value_of(b.get(), values);
@@ -56,7 +56,7 @@ pub fn value_of(e: &Expr, values: &[u64]) -> u64
 }
 
 /// Puts the values of arguments into a vector in place of what it held, without taking memory.
-pub fn values_of(args: &[Expr], values: &[u64], given: &mut Vec<u64>)
+pub fn values_of(args: &[FlatExpr], values: &[u64], given: &mut Vec<u64>)
     requires safe { AreSafe (exprs_view args.now) values.now }
     requires room { length args.now ≤ vec_capacity given.old }
     ensures values { given.new.items ≡ flat.values_of (exprs_view args.now) values.now }

@@ -8,7 +8,7 @@ ghost use Rattle.pdl_lock_any.specs.Any.{any_kind, any_size, any_tickets, any_su
 use pdl_build::Builder;
 use pdl_bypass::BypassLock;
 use pdl_kit::{MemInfo, NoMemory};
-use pdl_lockapi::{Kind, LockModule, LockNets, LockPorts, LockRegs, Look};
+use pdl_lockapi::{Kind, LockModule, LockNets, LockPorts, LockRegs, LookNets};
 use pdl_net::Net;
 use pdl_queue::QueueLock;
 use pdl_rename::RenameFile;
@@ -63,7 +63,7 @@ impl LockModule for AnyLock {
         kind: Kind,
         addr: Net,
         ticket: Net,
-    ) -> Result<Look, NoMemory> {
+    ) -> Result<LookNets, NoMemory> {
         match self {
             AnyLock::Queue(lock) => lock.emit_look(b, r, kind, addr, ticket),
             AnyLock::Bypass(lock) => lock.emit_look(b, r, kind, addr, ticket),

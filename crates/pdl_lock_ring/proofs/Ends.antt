@@ -6,7 +6,7 @@ use Rattle.pdl_net.specs.Signal.{Signal, const_signal, bin_signal, mux_signal}
 use Rattle.pdl_net.specs.Meaning.{signal}
 use Rattle.pdl_lockapi.specs.declared.LockPorts.{LockPorts}
 use Rattle.pdl_lockapi.specs.Laws.{StepSignals, step_signals}
-use Rattle.pdl_lock_ring.specs.declared.layout.Layout.{Layout}
+use Rattle.pdl_lock_ring.specs.declared.layout.RingLayout.{RingLayout}
 use Rattle.pdl_lock_ring.specs.Looks.{head_signal, tail_signal, second_ticket}
 use Rattle.pdl_lock_ring.specs.Steps.{pushes, pushes2, next_head, head_after, tail_after}
 
@@ -31,14 +31,14 @@ unfolding step_signals
 release2_is c p = refl
 
 -- the head goes one ticket on with a release, two with a second one, and else stays
-pub head_is : (l : Layout) (f : StepSignals)
+pub head_is : (l : RingLayout) (f : StepSignals)
     → head_after l f
     ≡ mux_signal f.release2 (bin_signal Add (next_head l) (const_signal l.ticket 1)) (mux_signal f.release (next_head l) (head_signal l))
 unfolding head_after
 head_is l f = refl
 
 -- the tail takes what a squash gives, else goes on by one ticket for each of up to two reservations
-pub tail_after_is : (l : Layout) (f : StepSignals)
+pub tail_after_is : (l : RingLayout) (f : StepSignals)
     → tail_after l f
     ≡ mux_signal f.squash f.tail (mux_signal (pushes2 f) (bin_signal Add (second_ticket l) (const_signal l.ticket 1)) (mux_signal (pushes f) (second_ticket l) (tail_signal l)))
 unfolding tail_after

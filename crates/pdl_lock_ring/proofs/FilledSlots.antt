@@ -9,7 +9,7 @@ use Rattle.pdl_net.specs.Circuit.{State}
 use Rattle.pdl_net.specs.Signal.{Signal, reg_value, const_value, bin_value, mux_value}
 use Rattle.pdl_lockapi.specs.Lock.{Entry, LockState, LockAct, WriteAct, act_at, no_write_act, fresh, with_reserves, with_writes, with_write, filled_entries, Proper}
 use Rattle.pdl_lockapi.specs.Laws.{StepSignals, ReserveSignal, reserve_at, ticket_at, no_reserve, asked_addresses, Drives}
-use Rattle.pdl_lock_ring.specs.declared.layout.Layout.{Layout}
+use Rattle.pdl_lock_ring.specs.declared.layout.RingLayout.{RingLayout}
 use Rattle.pdl_lock_ring.specs.Slots.{IsSized, HasEntries, Holds, reg_of, addr_at, has_at}
 use Rattle.pdl_lock_ring.specs.Looks.{slot_of, tail_signal, second_ticket}
 use Rattle.pdl_lock_ring.specs.Steps.{push_signal, push2_signal, last_addr, before_addr, pushes, pushes2, first_addr, second_addr, first_slot, second_slot, written_slot, fills_slot, filled_bit, filled_value, slot_addr, slot_bit}
@@ -134,7 +134,7 @@ pub record TicketsFit (w : ℕ) (f : StepSignals) : Type 0 where
   pub tail : f.tail.width ≡ w
 
 -- what is known in a cycle of proper use
-pub record Cycle (l : Layout) (g : ℕ → Signal) (s : State) (x : LockState) (f : StepSignals) (a : LockAct) : Type 0 where
+pub record Cycle (l : RingLayout) (g : ℕ → Signal) (s : State) (x : LockState) (f : StepSignals) (a : LockAct) : Type 0 where
   pub sized : IsSized l
   pub stands : HasEntries l g s x
   pub fit : TicketsFit l.ticket f
@@ -142,7 +142,7 @@ pub record Cycle (l : Layout) (g : ℕ → Signal) (s : State) (x : LockState) (
   pub proper : Proper l.size x a
 
 -- a slot's number
-pub slot_value : (l : Layout) → IsSized l → (t : Signal) (s : State) (n : ℕ)
+pub slot_value : (l : RingLayout) → IsSized l → (t : Signal) (s : State) (n : ℕ)
     → t.value s ≡ n % 2 ^ l.ticket → (slot_of l t).value s ≡ n % l.size
 unfolding bin_value const_value
 slot_value l z t s n e =
@@ -150,7 +150,7 @@ slot_value l z t s n e =
     ∙ ap (λ v. v % l.size) (e ∙ ap (λ m. n % m) z.whole)
     ∙ half_mod l.size n
 
-module _ (l : Layout) (v : ℕ → Signal) (s : State) (x : LockState) (f : StepSignals) (a : LockAct) where
+module _ (l : RingLayout) (v : ℕ → Signal) (s : State) (x : LockState) (f : StepSignals) (a : LockAct) where
   -- the addresses that are asked for
   asked_all : Cycle l v s x f a → asked_addresses s (take (length f.reserves) f.reserves) ≡ a.reserves
   asked_all c = ap (asked_addresses s) (take_all (length f.reserves) f.reserves (omega arith)) ∙ sym c.drives.reserves

@@ -12,7 +12,7 @@ use Rattle.pdl_net.specs.Meaning.{IsThere, Means, signal}
 use Rattle.pdl_net.specs.Signal.{Signal, reg_signal, reg_value, const_value, bin_value, mux_value, read_value}
 use Rattle.pdl_lockapi.specs.Lock.{Entry, LockState, entry_at, no_entry, or_zero, is_free, youngest, older, look_value, Covered, next_ticket}
 use Rattle.pdl_lockapi.specs.Laws.{HasWords, HasValueNet}
-use Rattle.pdl_lock_ring.specs.declared.layout.Layout.{Layout}
+use Rattle.pdl_lock_ring.specs.declared.layout.RingLayout.{RingLayout}
 use Rattle.pdl_lock_ring.specs.Slots.{IsSized, HasEntries, reg_of, has_at}
 use Rattle.pdl_lock_ring.specs.Looks.{older_count, last_older, order_at, back_at, same_at, hit_at, hit_signal, ready_signal, key_at, is_found, youngest_ready, youngest_value, GivesWord}
 use Rattle.pdl_lock_ring.specs.Choices.{least_key, least_of, some_signal}
@@ -38,10 +38,10 @@ some_of None h = absurd (cc h)
 some_of (Some v) h = refl
 
 -- all slots of a tree
-slots_all : (l : Layout) → IsSized l → 0 + 2 ^ (l.ticket - 1) ≡ l.size
+slots_all : (l : RingLayout) → IsSized l → 0 + 2 ^ (l.ticket - 1) ≡ l.size
 slots_all l z = omega (arith, z.power)
 
-module _ (l : Layout) (g : ℕ → Signal) (s : State) (x : LockState) (a t : Signal) (d : ℕ) (z : IsSized l) (h : HasEntries l g s x) (k : Seeks l s x t d) where
+module _ (l : RingLayout) (g : ℕ → Signal) (s : State) (x : LockState) (a t : Signal) (d : ℕ) (z : IsSized l) (h : HasEntries l g s x) (k : Seeks l s x t d) where
   -- the i-th of the older ones
   abbrev ys : List Entry
   ys = take d x.entries
@@ -224,7 +224,7 @@ some_number None h = absurd (cc h)
 some_number (Some m) h = (m, refl)
 
 -- the value of a look that gives the array's word is the word at its address
-pub word_given : (c : Circuit) (l : Layout) (a : Signal) (v : Option Net) (f : Signal) (s : State) (ws : List ℕ)
+pub word_given : (c : Circuit) (l : RingLayout) (a : Signal) (v : Option Net) (f : Signal) (s : State) (ws : List ℕ)
     → GivesWord c l a v → option_map (signal c) v ≡ Some f → HasWords l.array s ws
     → f.value s ≡ slice_index ws (a.value s)
 unfolding read_value
@@ -250,7 +250,7 @@ is_some_same : (v : Option Net) (x : Net) → v ≡ Some x → is_some v ≡ tru
 is_some_same v x e = rw e refl
 
 -- the net of a look's word, where there is one, is there and has the width of a word
-pub value_net : (c : Circuit) (l : Layout) (a : Signal) (v : Option Net) → GivesWord c l a v → HasValueNet c l.width v
+pub value_net : (c : Circuit) (l : RingLayout) (a : Signal) (v : Option Net) → GivesWord c l a v → HasValueNet c l.width v
 value_net c l a v g = record {
   there = g.there;
   wide = λ x e. let m = some_number l.array (sym g.some ∙ is_some_same v x e) in ap (λ (f : Signal). f.width) (g.same m.0 x m.1 e);

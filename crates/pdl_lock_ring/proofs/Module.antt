@@ -19,7 +19,7 @@ use Rattle.pdl_lockapi.specs.Laws.{own, first_reg, end_reg, first_array, end_arr
 use Rattle.pdl_lockapi.specs.SlotLaws.{slot_regs, slot_reg, HasSlotRegs, HoldsAddresses, HoldsValues, SlotsLaw}
 use Rattle.pdl_lock_ring.specs.declared.layout.Content.{Content}
 use Rattle.pdl_lock_ring.specs.declared.layout.Content.TheVariants.{Value}
-use Rattle.pdl_lock_ring.specs.declared.layout.Layout.{Layout}
+use Rattle.pdl_lock_ring.specs.declared.layout.RingLayout.{RingLayout}
 use Rattle.pdl_lock_ring.specs.Slots.{IsSized, Holds, HasEntries, reg_of, content_signal, addr_at, has_at, value_at, HasSlots, ArePlaced, AreReset, Stands, IsLayout, IsMemArray, layout_of, ticket_bits, numbers_from, slots_of}
 use Rattle.pdl_lock_ring.specs.Oldest.{AreCommits}
 use Rattle.pdl_lock_ring.specs.Steps.{own_all}
@@ -28,7 +28,7 @@ use Rattle.pdl_lock_ring.proofs.Sizes.{numbers_length, numbers_at, slots_length}
 use Rattle.pdl_lock_ring.proofs.Still.{regs_are, each_reg}
 
 -- a layout by its fields
-abbrev fields : ℕ → ℕ → ℕ → ℕ → ℕ → ℕ → Option ℕ → Content → Layout
+abbrev fields : ℕ → ℕ → ℕ → ℕ → ℕ → ℕ → Option ℕ → Content → RingLayout
 fields size ticket width kept bits from array content = record { size = size; ticket = ticket; width = width; kept = kept; bits = bits; from = from; array = array; content = content }
 
 same_fields : (a b c d e f a' b' c' d' e' f' : ℕ) (x y : Option ℕ) (m n : Content)
@@ -45,18 +45,18 @@ pub count_is : (from count : ℕ) (regs : List ℕ) → regs ≡ numbers_from fr
 count_is from count regs e = ap length e ∙ numbers_length from count
 
 -- the registers that are answered are those of the layout
-pub layout_is : (q : ℕ) (m : MemInfo) (n : ℕ) (l : Layout) (r : LockRegs) → IsLayout q m n l
+pub layout_is : (q : ℕ) (m : MemInfo) (n : ℕ) (l : RingLayout) (r : LockRegs) → IsLayout q m n l
     → r.regs ≡ numbers_from l.from (2 + 3 * l.size) → r.width ≡ l.width → r.bits ≡ l.bits → r.array ≡ l.array
     → layout_of q r ≡ l
 layout_is q m n l r i e w b a = same_fields q (ticket_bits q) r.width r.width r.bits (first_reg r) l.size l.ticket l.width l.kept l.bits l.from r.array l.array Value l.content (sym i.size) (sym i.ticket) w (w ∙ i.width ∙ sym i.kept) b (first_is l.from (2 + 3 * l.size) r.regs (omega arith) e) a (sym i.content)
 
 -- slots whose registers were answered are in a circuit where the slots of their layout are
-pub are_placed : (q : ℕ) (m : MemInfo) (n : ℕ) (c : Circuit) (l : Layout) (r : LockRegs) → IsLayout q m n l
+pub are_placed : (q : ℕ) (m : MemInfo) (n : ℕ) (c : Circuit) (l : RingLayout) (r : LockRegs) → IsLayout q m n l
     → layout_of q r ≡ l → r.regs ≡ numbers_from l.from (2 + 3 * l.size) → r.slots ≡ slots_of l l.size → IsSized l
     → HasSlots c l → ArePlaced q c r
 are_placed q m n c l r i same e listed z h =
-    let S : Layout → Type 0 = λ y. HasSlots c y in
-    let L : Layout → Type 0 = λ y. r.slots ≡ slots_of y y.size in
+    let S : RingLayout → Type 0 = λ y. HasSlots c y in
+    let L : RingLayout → Type 0 = λ y. r.slots ≡ slots_of y y.size in
     record {
       count = count_is l.from (2 + 3 * l.size) r.regs e ∙ ap (λ k. 2 + 3 * k) i.size;
       listed = subst L (sym same) listed;
@@ -158,8 +158,9 @@ pub wide_of : (c : Circuit) (x : Net) (f : Signal) → Means c x f → f.width �
 wide_of c x f m e = ap (λ (g : Signal). g.width) m.same ∙ e
 
 -- the nets of the first commit are there with their widths, where the step's ports fit
-pub commit_nets : (a b : Circuit) (l : Layout) (w : ℕ) (p : LockPorts) (n : LockNets) → PortsFit a l.bits l.width w p
-    → AreCommits b l (step_signals a p) n → HasCommitNets b l.bits l.width n.commit n.addr n.value
+pub commit_nets : (a b : Circuit) (l : RingLayout) (w : ℕ) (p : LockPorts) (n : LockNets)
+    → PortsFit a l.bits l.width w p → AreCommits b l (step_signals a p) n
+    → HasCommitNets b l.bits l.width n.commit n.addr n.value
 commit_nets a b l w p n fit c = record {
   commit_there = c.commit.there;
   commit_one = wide_of b n.commit (step_signals a p).release c.commit (ap (λ (f : Signal). f.width) (release_is a p) ∙ fit.release_one);
@@ -170,8 +171,9 @@ commit_nets a b l w p n fit c = record {
 }
 
 -- the nets of the second commit are there with their widths, where the step's ports fit
-pub commit2_nets : (a b : Circuit) (l : Layout) (w : ℕ) (p : LockPorts) (n : LockNets) → PortsFit a l.bits l.width w p
-    → AreCommits b l (step_signals a p) n → HasCommitNets b l.bits l.width n.commit2 n.addr2 n.value2
+pub commit2_nets : (a b : Circuit) (l : RingLayout) (w : ℕ) (p : LockPorts) (n : LockNets)
+    → PortsFit a l.bits l.width w p → AreCommits b l (step_signals a p) n
+    → HasCommitNets b l.bits l.width n.commit2 n.addr2 n.value2
 commit2_nets a b l w p n fit c = record {
   commit_there = c.commit2.there;
   commit_one = wide_of b n.commit2 (step_signals a p).release2 c.commit2 (ap (λ (f : Signal). f.width) (release2_is a p) ∙ fit.release2_one);

@@ -6,7 +6,7 @@ use Rattle.pdl_net.specs.Signal.{Signal, reg_signal, bin_signal, mux_signal}
 use Rattle.pdl_net.specs.Meaning.{Means, signal}
 use Rattle.pdl_net.specs.Growth.{Keeps}
 use Rattle.pdl_net.proofs.Keeps.{means_keeps}
-use Rattle.pdl_lock_ring.specs.declared.layout.Layout.{Layout}
+use Rattle.pdl_lock_ring.specs.declared.layout.RingLayout.{RingLayout}
 use Rattle.pdl_lock_ring.specs.declared.nearest.Nearest.{Nearest}
 use Rattle.pdl_lock_ring.specs.Slots.{has_at, content_signal}
 use Rattle.pdl_lock_ring.specs.Choices.{least_key, least_of}
@@ -15,7 +15,7 @@ use Rattle.pdl_lock_ring.proofs.RingGrowth.{means_as, wide_later}
 use Rattle.pdl_lock_ring.proofs.Trees.{least_more, least_of_more, least_none, least_of_none, least_width, key_width}
 
 -- the nets of the slot with the least key stay in a circuit that keeps what it had
-pub nearest_keep : (a b : Circuit) (l : Layout) (key : ℕ → Signal) (n from : ℕ) (x : Nearest)
+pub nearest_keep : (a b : Circuit) (l : RingLayout) (key : ℕ → Signal) (n from : ℕ) (x : Nearest)
     → IsNearest a l key n from x → Keeps a b → IsNearest b l key n from x
 nearest_keep a b l key n from x i y = record {
   key = means_keeps a b x.key _ y i.key;
@@ -31,7 +31,7 @@ same_nearer : (p q x y p' q' x' y' : Signal)
 same_nearer p q x y p' q' x' y' a b c d = cc
 
 -- of two halves
-pub nearest_more : (a c : Circuit) (l : Layout) (key : ℕ → Signal) (b from : ℕ) (low high z : Nearest) → b ≢ 0
+pub nearest_more : (a c : Circuit) (l : RingLayout) (key : ℕ → Signal) (b from : ℕ) (low high z : Nearest) → b ≢ 0
     → IsNearest a l key (b - 1) from low → IsNearest a l key (b - 1) (from + 2 ^ (b - 1)) high → IsNearer a c low high z
     → IsNearest c l key b from z
 nearest_more a c l key b from low high z some x y n =

@@ -13,7 +13,7 @@ use Rattle.pdl_lockapi.specs.declared.ReservePort.{ReservePort}
 use Rattle.pdl_lockapi.specs.declared.Kind.{Kind}
 use Rattle.pdl_lockapi.specs.declared.Kind.TheVariants.{R, W}
 use Rattle.pdl_lockapi.specs.Laws.{PortsFit, enabled_reserve, StepSignals, step_signals, reserve_at, reserve_signal, no_reserve}
-use Rattle.pdl_lock_ring.specs.declared.layout.Layout.{Layout}
+use Rattle.pdl_lock_ring.specs.declared.layout.RingLayout.{RingLayout}
 use Rattle.pdl_lock_ring.specs.declared.taken.Asked.{Asked}
 use Rattle.pdl_lock_ring.specs.Looks.{youngest_look, net_by_kind, slot_of, tail_signal, second_ticket}
 use Rattle.pdl_lock_ring.specs.Asks.{IsAsked, IsAskedNext}
@@ -92,8 +92,8 @@ push2_width f zero = refl
 push2_width f (suc k) = push_width f k
 
 -- before the first port nothing is asked
-pub asked_none : (c : Circuit) (l : Layout) (f : StepSignals) (nought none : Net) → Means c nought (const_signal 1 0)
-    → Means c none (const_signal l.bits 0)
+pub asked_none : (c : Circuit) (l : RingLayout) (f : StepSignals) (nought none : Net)
+    → Means c nought (const_signal 1 0) → Means c none (const_signal l.bits 0)
     → IsAsked c l f 0 (record { one = nought; two = nought; last = none; before = none })
 unfolding push_signal push2_signal last_addr before_addr
 asked_none c l f nought none m n = record {
@@ -109,7 +109,7 @@ same_choice : (c x y x' y' : Signal) → x ≡ x' → y ≡ y' → mux_signal c 
 same_choice c x y x' y' e f = cc
 
 -- one port more
-pub asked_more : (a c : Circuit) (l : Layout) (f : StepSignals) (k : ℕ) (y x : Asked) → IsAsked a l f k y
+pub asked_more : (a c : Circuit) (l : RingLayout) (f : StepSignals) (k : ℕ) (y x : Asked) → IsAsked a l f k y
     → IsAskedNext a c l f k y x → IsAsked c l f (k + 1) x
 asked_more a c l f k y x i n =
     let e = (reserve_at f.reserves k).enable in
@@ -122,7 +122,7 @@ asked_more a c l f k y x i n =
       before_wide = n.before_wide;
     }
 
-asked_keep : (a b : Circuit) (l : Layout) (f : StepSignals) (k : ℕ) (x : Asked) → IsAsked a l f k x → Keeps a b → IsAsked b l f k x
+asked_keep : (a b : Circuit) (l : RingLayout) (f : StepSignals) (k : ℕ) (x : Asked) → IsAsked a l f k x → Keeps a b → IsAsked b l f k x
 asked_keep a b l f k x i y = record {
   one = means_keeps a b x.one _ y i.one;
   two = means_keeps a b x.two _ y i.two;
@@ -135,24 +135,24 @@ asked_keep a b l f k x i y = record {
 -- ---- what the reservations are given
 
 -- the address of the first reservation: of the last but one port that asks where two do, else of the last
-pub first_addr_is : (l : Layout) (f : StepSignals)
+pub first_addr_is : (l : RingLayout) (f : StepSignals)
     → first_addr l f ≡ mux_signal (pushes2 f) (before_addr l.bits f (length f.reserves)) (last_addr l.bits f (length f.reserves))
 unfolding first_addr
 first_addr_is l f = refl
 
 -- the address of the second reservation: that of the last port that asks
-pub second_addr_is : (l : Layout) (f : StepSignals) → second_addr l f ≡ last_addr l.bits f (length f.reserves)
+pub second_addr_is : (l : RingLayout) (f : StepSignals) → second_addr l f ≡ last_addr l.bits f (length f.reserves)
 unfolding second_addr
 second_addr_is l f = refl
 
 -- the slot of the first reservation: that of the tail where a port asks, else the number of slots
-pub first_slot_is : (l : Layout) (f : StepSignals)
+pub first_slot_is : (l : RingLayout) (f : StepSignals)
     → first_slot l f ≡ mux_signal (pushes f) (slot_of l (tail_signal l)) (const_signal l.ticket l.size)
 unfolding first_slot
 first_slot_is l f = refl
 
 -- the slot of the second reservation: that after the tail's where two ports ask, else the number of slots
-pub second_slot_is : (l : Layout) (f : StepSignals)
+pub second_slot_is : (l : RingLayout) (f : StepSignals)
     → second_slot l f ≡ mux_signal (pushes2 f) (slot_of l (second_ticket l)) (const_signal l.ticket l.size)
 unfolding second_slot
 second_slot_is l f = refl

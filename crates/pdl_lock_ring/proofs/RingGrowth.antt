@@ -14,7 +14,7 @@ use Rattle.pdl_lockapi.specs.declared.LockPorts.{LockPorts}
 use Rattle.pdl_lockapi.specs.Laws.{StepSignals, step_signals}
 use Rattle.pdl_lockapi.proofs.LockGrowth.{ports_there, ports_fit, same_signals}
 use Rattle.pdl_lock_ring.specs.declared.choice.Registers.{Registers}
-use Rattle.pdl_lock_ring.specs.declared.layout.Layout.{Layout}
+use Rattle.pdl_lock_ring.specs.declared.layout.RingLayout.{RingLayout}
 use Rattle.pdl_lock_ring.specs.declared.taken.Taken.{Taken}
 use Rattle.pdl_lock_ring.specs.declared.step.Oldest.{Oldest}
 use Rattle.pdl_lock_ring.specs.Slots.{HasSlots, IsMemArray, AreFirst, AreReset, value_at}
@@ -25,11 +25,11 @@ use Rattle.pdl_lock_ring.specs.Oldest.{AreOldest}
 use Rattle.pdl_lock_ring.specs.Steps.{pushes, pushes2, first_addr, second_addr, first_slot, second_slot}
 
 -- the slots of a lock stay in a circuit that is extended
-pub slots_kept : (a b : Circuit) (l : Layout) → HasSlots a l → Extends a b → HasSlots b l
+pub slots_kept : (a b : Circuit) (l : RingLayout) → HasSlots a l → Extends a b → HasSlots b l
 slots_kept a b l x y = slots_keep a b l x (extends_keeps a b y)
 
 -- the slots of a lock stay in a circuit that is extended but for what a fragment takes next
-pub slots_kept_but : (o : Own) (a b : Circuit) (l : Layout) → HasSlots a l → ExtendsBut o a b → HasSlots b l
+pub slots_kept_but : (o : Own) (a b : Circuit) (l : RingLayout) → HasSlots a l → ExtendsBut o a b → HasSlots b l
 slots_kept_but o a b l x y = slots_keep a b l x (but_keeps o a b y)
 
 -- the first n registers of a row stay in a circuit that is extended
@@ -74,7 +74,7 @@ arrays_extends a b c added x y = record {
 }
 
 -- head, tail and slots keep their reset values in a circuit that is extended
-pub reset_kept : (a b : Circuit) (l : Layout) (p : ℕ) → HasSlots a l → AreReset a l p → Extends a b → AreReset b l p
+pub reset_kept : (a b : Circuit) (l : RingLayout) (p : ℕ) → HasSlots a l → AreReset a l p → Extends a b → AreReset b l p
 reset_kept a b l p h x y = record {
   head = y.reset l.from h.has_head ∙ x.head;
   tail = y.reset (l.from + 1) h.has_tail ∙ x.tail;
@@ -118,7 +118,7 @@ later_is a b x f y m = y.kept x m.there ∙ m.same
 -- ---- the nets of a step
 
 -- the ring and the nets of a step's ports stay in a circuit that keeps what it had
-pub ports_keep : (a b : Circuit) (l : Layout) (p : LockPorts) → HasPorts a l p → Keeps a b → HasPorts b l p
+pub ports_keep : (a b : Circuit) (l : RingLayout) (p : LockPorts) → HasPorts a l p → Keeps a b → HasPorts b l p
 ports_keep a b l p x y = record {
   sized = x.sized;
   slots = slots_keep a b l x.slots y;
@@ -137,7 +137,7 @@ pub wide_later : (a b : Circuit) (x : Net) (f : Signal) (w : ℕ) → Keeps a b 
 wide_later a b x f w y m e = ap (λ (g : Signal). g.width) (y.kept x m.there) ∙ e
 
 -- the nets of a cycle's reservations and ports stay in a circuit that keeps what it had
-pub ready_keep : (a b : Circuit) (l : Layout) (p : LockPorts) (t : Taken) → IsReady a l p t → Keeps a b → IsReady b l p t
+pub ready_keep : (a b : Circuit) (l : RingLayout) (p : LockPorts) (t : Taken) → IsReady a l p t → Keeps a b → IsReady b l p t
 ready_keep a b l p t x y =
     let e = same_signals a b p x.given.ports y in
     record {
@@ -155,24 +155,24 @@ ready_keep a b l p t x y =
     }
 
 -- the ring and the nets of a step's ports stay in a circuit that is extended
-pub ports_kept : (a b : Circuit) (l : Layout) (p : LockPorts) → HasPorts a l p → Extends a b → HasPorts b l p
+pub ports_kept : (a b : Circuit) (l : RingLayout) (p : LockPorts) → HasPorts a l p → Extends a b → HasPorts b l p
 ports_kept a b l p x y = ports_keep a b l p x (extends_keeps a b y)
 
 -- the ring and the nets of a step's ports stay in a circuit extended but for what a fragment takes next
-pub ports_kept_but : (o : Own) (a b : Circuit) (l : Layout) (p : LockPorts) → HasPorts a l p → ExtendsBut o a b → HasPorts b l p
+pub ports_kept_but : (o : Own) (a b : Circuit) (l : RingLayout) (p : LockPorts) → HasPorts a l p → ExtendsBut o a b → HasPorts b l p
 ports_kept_but o a b l p x y = ports_keep a b l p x (but_keeps o a b y)
 
 -- the nets of a cycle's reservations and ports stay in a circuit that is extended
-pub ready_kept : (a b : Circuit) (l : Layout) (p : LockPorts) (t : Taken) → IsReady a l p t → Extends a b → IsReady b l p t
+pub ready_kept : (a b : Circuit) (l : RingLayout) (p : LockPorts) (t : Taken) → IsReady a l p t → Extends a b → IsReady b l p t
 ready_kept a b l p t x y = ready_keep a b l p t x (extends_keeps a b y)
 
 -- the nets of a cycle's reservations and ports stay in a circuit extended but for what a fragment takes next
-pub ready_kept_but : (o : Own) (a b : Circuit) (l : Layout) (p : LockPorts) (t : Taken) → IsReady a l p t
+pub ready_kept_but : (o : Own) (a b : Circuit) (l : RingLayout) (p : LockPorts) (t : Taken) → IsReady a l p t
     → ExtendsBut o a b → IsReady b l p t
 ready_kept_but o a b l p t x y = ready_keep a b l p t x (but_keeps o a b y)
 
 -- the nets of the two oldest pending writes stay in a circuit that keeps what it had
-pub oldest_keep : (a b : Circuit) (l : Layout) (f : StepSignals) (o : Oldest) → AreOldest a l f o → Keeps a b → AreOldest b l f o
+pub oldest_keep : (a b : Circuit) (l : RingLayout) (f : StepSignals) (o : Oldest) → AreOldest a l f o → Keeps a b → AreOldest b l f o
 oldest_keep a b l f o x y = record {
   addr = means_keeps a b o.first.addr _ y x.addr;
   content = means_keeps a b o.first.content _ y x.content;
@@ -185,9 +185,10 @@ oldest_keep a b l f o x y = record {
 }
 
 -- the nets of the two oldest pending writes stay in a circuit that is extended
-pub oldest_kept : (a b : Circuit) (l : Layout) (f : StepSignals) (o : Oldest) → AreOldest a l f o → Extends a b → AreOldest b l f o
+pub oldest_kept : (a b : Circuit) (l : RingLayout) (f : StepSignals) (o : Oldest) → AreOldest a l f o → Extends a b → AreOldest b l f o
 oldest_kept a b l f o x y = oldest_keep a b l f o x (extends_keeps a b y)
 
 -- the nets of the two oldest pending writes stay in a later circuit where the step's signals are the same
-pub oldest_later : (a b : Circuit) (l : Layout) (f g : StepSignals) (o : Oldest) → f ≡ g → Keeps a b → AreOldest a l f o → AreOldest b l g o
+pub oldest_later : (a b : Circuit) (l : RingLayout) (f g : StepSignals) (o : Oldest)
+    → f ≡ g → Keeps a b → AreOldest a l f o → AreOldest b l g o
 oldest_later a b l f g o e y x = subst (λ h. AreOldest b l h o) e (oldest_keep a b l f o x y)

@@ -8,7 +8,7 @@ use Rattle.pdl_net.specs.Meaning.{IsThere, signal}
 use Rattle.pdl_net.specs.Growth.{Extends}
 use Rattle.pdl_build.specs.Change.{IsNewReg}
 use Rattle.pdl_lock_ring.specs.declared.choice.Registers.{Registers}
-use Rattle.pdl_lock_ring.specs.declared.layout.Layout.{Layout}
+use Rattle.pdl_lock_ring.specs.declared.layout.RingLayout.{RingLayout}
 use Rattle.pdl_lock_ring.specs.declared.layout.Content.TheVariants.{Value, Place}
 use Rattle.pdl_lock_ring.specs.Slots.{HasOwnArray, HasSlots, AreFirst, AreReset, first_content_of, addr_at, has_at, value_at}
 use Rattle.pdl_lock_ring.specs.Registers.{HasRow, IsRowReset, register_of, row_of}
@@ -71,7 +71,7 @@ new_kept a b r w v x y = record {
 }
 
 -- the array of a layout, where there is one, stays in a circuit that is extended
-pub own_array_kept : (a b : Circuit) (l : Layout) → HasOwnArray a l → Extends a b → HasOwnArray b l
+pub own_array_kept : (a b : Circuit) (l : RingLayout) → HasOwnArray a l → Extends a b → HasOwnArray b l
 own_array_kept a b l x y = record {
   has_array = λ m e. y.has_array m (x.has_array m e);
   array_word = λ m e. y.word m (x.has_array m e) ∙ x.array_word m e;
@@ -79,7 +79,7 @@ own_array_kept a b l x y = record {
 }
 
 -- the ring of its rows
-pub slots_made : (c : Circuit) (l : Layout) → IsNewReg c l.from l.ticket 0 → IsNewReg c (l.from + 1) l.ticket 0
+pub slots_made : (c : Circuit) (l : RingLayout) → IsNewReg c l.from l.ticket 0 → IsNewReg c (l.from + 1) l.ticket 0
     → HasRow c (row_of l (l.from + 2) l.bits) l.size → HasRow c (row_of l (l.from + 2 + l.size) 1) l.size
     → HasRow c (row_of l (l.from + 2 + 2 * l.size) l.kept) l.size → HasOwnArray c l → HasSlots c l
 slots_made c l head tail addrs bits contents array = record {
@@ -109,16 +109,16 @@ slots_made c l head tail addrs bits contents array = record {
 }
 
 -- head and tail that were made with 0, and slots with what they hold first, are at reset
-pub reset_made : (c : Circuit) (l : Layout) (place : ℕ) → IsNewReg c l.from l.ticket 0
+pub reset_made : (c : Circuit) (l : RingLayout) (place : ℕ) → IsNewReg c l.from l.ticket 0
     → IsNewReg c (l.from + 1) l.ticket 0 → AreFirst c l place → AreReset c l place
 reset_made c l place head tail first = record { head = head.reset; tail = tail.reset; contents = first }
 
 -- what the slots hold first, by what they keep
-pub first_values : (c : Circuit) (l : Layout) (place : ℕ)
+pub first_values : (c : Circuit) (l : RingLayout) (place : ℕ)
     → l.content ≡ Value → IsRowReset c (row_of l (l.from + 2 + 2 * l.size) l.kept) 0 0 l.size → AreFirst c l place
 first_values c l place e r = record { content = λ k h. r.reset k h ∙ (let z : 0 + 0 * k ≡ 0 = omega arith in z) ∙ sym (ap (λ x. first_content_of x place k) e) }
 
-pub first_places : (c : Circuit) (l : Layout) (place : ℕ)
+pub first_places : (c : Circuit) (l : RingLayout) (place : ℕ)
     → l.content ≡ Place → IsRowReset c (row_of l (l.from + 2 + 2 * l.size) l.kept) place 1 l.size → AreFirst c l place
 first_places c l place e r = record { content = λ k h. r.reset k h ∙ (let z : place + 1 * k ≡ place + k = omega arith in z) ∙ sym (ap (λ x. first_content_of x place k) e) }
 

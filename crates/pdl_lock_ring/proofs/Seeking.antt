@@ -14,7 +14,7 @@ use Rattle.pdl_net.specs.Signal.{Signal, reg_signal, reg_value, const_value, bin
 use Rattle.pdl_lockapi.specs.Lock.{Entry, LockState, entry_at, no_entry, or_zero, is_free, youngest, older, look_value, Covered, has_room, has_room2, next_ticket}
 use Rattle.pdl_lockapi.specs.Laws.{HasWords, HasValueNet, RoomLaw, TicketLaw, holds_ticket}
 use Rattle.pdl_lockapi.specs.Second.{Room2Law, Ticket2Law}
-use Rattle.pdl_lock_ring.specs.declared.layout.Layout.{Layout}
+use Rattle.pdl_lock_ring.specs.declared.layout.RingLayout.{RingLayout}
 use Rattle.pdl_lock_ring.specs.Slots.{IsSized, HasEntries, reg_of, addr_at, has_at}
 use Rattle.pdl_lock_ring.specs.Looks.{head_signal, tail_signal, second_ticket, count_signal, room_signal, room2_signal, slot_of, ahead, is_late, older_count, last_older, order_at, back_at, same_at, hit_at, hit_signal, ready_signal, key_at, is_found, youngest_ready, youngest_value, GivesWord}
 use Rattle.pdl_lock_ring.specs.Choices.{least_key, least_of, some_signal}
@@ -24,7 +24,7 @@ use Rattle.pdl_lock_ring.proofs.Trees.{some_one, some_zero, less_one, less_none,
 use Rattle.pdl_word.proofs.Bools.{if_false}
 
 -- how many writes are pending
-count_value : (l : Layout) (g : ℕ → Signal) (s : State) (x : LockState) → IsSized l → HasEntries l g s x
+count_value : (l : RingLayout) (g : ℕ → Signal) (s : State) (x : LockState) → IsSized l → HasEntries l g s x
     → (count_signal l).value s ≡ length x.entries
 unfolding bin_value reg_value
 count_value l g s x z h =
@@ -34,7 +34,7 @@ count_value l g s x z h =
     ∙ (omega arith)
 
 -- the laws of tickets and room, for each meaning of a state in which the registers stand for the pending writes
-module _ (stands : State → LockState → Type 0) (l : Layout) (g : ℕ → Signal) (z : IsSized l) (f : (s : State) (x : LockState) → stands s x → HasEntries l g s x) where
+module _ (stands : State → LockState → Type 0) (l : RingLayout) (g : ℕ → Signal) (z : IsSized l) (f : (s : State) (x : LockState) → stands s x → HasEntries l g s x) where
   pub ticket_law : TicketLaw stands l.ticket (tail_signal l)
   unfolding reg_value
   ticket_law = record { holds = λ s x i. (f s x i).tail }
@@ -62,12 +62,12 @@ module _ (stands : State → LockState → Type 0) (l : Layout) (g : ℕ → Sig
 -- ---- which pending writes are older
 
 -- a look's nets: d pending writes are older, and the youngest of them has this ticket
-pub record Seeks (l : Layout) (s : State) (x : LockState) (t : Signal) (d : ℕ) : Type 0 where
+pub record Seeks (l : RingLayout) (s : State) (x : LockState) (t : Signal) (d : ℕ) : Type 0 where
   pub few : d ≤ length x.entries
   pub older : (older_count l t).value s ≡ d
   pub last : 1 ≤ d → (last_older l t).value s ≡ (x.base + d - 1) % 2 ^ l.ticket
 
-ahead_value : (l : Layout) (g : ℕ → Signal) (s : State) (x : LockState) (f : Signal) (t : ℕ) → HasEntries l g s x
+ahead_value : (l : RingLayout) (g : ℕ → Signal) (s : State) (x : LockState) (f : Signal) (t : ℕ) → HasEntries l g s x
     → f.width ≡ l.ticket → x.base ≤ t → t - x.base < 2 ^ l.ticket → f.value s ≡ t % 2 ^ l.ticket
     → (ahead l f).value s ≡ t - x.base
 unfolding bin_value reg_value
@@ -78,7 +78,7 @@ ahead_value l g s x f t h w from to e =
     ∙ sub_held l.ticket x.base t from to
 
 -- a ticket up to the next one
-pub seeks_covered : (l : Layout) (g : ℕ → Signal) (s : State) (x : LockState) (f : Signal) (t : ℕ) → IsSized l
+pub seeks_covered : (l : RingLayout) (g : ℕ → Signal) (s : State) (x : LockState) (f : Signal) (t : ℕ) → IsSized l
     → HasEntries l g s x → f.width ≡ l.ticket → Covered x t → f.value s ≡ t % 2 ^ l.ticket → Seeks l s x f (t - x.base)
 unfolding mux_value bin_value const_value
 seeks_covered l g s x f t z h w c e =
@@ -96,8 +96,8 @@ seeks_covered l g s x f t z h w c e =
     }
 
 -- the ticket after the next one
-pub seeks_late : (l : Layout) (g : ℕ → Signal) (s : State) (x : LockState) (f : Signal) → IsSized l → HasEntries l g s x
-    → f.width ≡ l.ticket → 2 ≤ l.size → f.value s ≡ (next_ticket x + 1) % 2 ^ l.ticket
+pub seeks_late : (l : RingLayout) (g : ℕ → Signal) (s : State) (x : LockState) (f : Signal) → IsSized l
+    → HasEntries l g s x → f.width ≡ l.ticket → 2 ≤ l.size → f.value s ≡ (next_ticket x + 1) % 2 ^ l.ticket
     → Seeks l s x f (length x.entries)
 unfolding mux_value bin_value reg_value const_value
 seeks_late l g s x f z h w two e =
@@ -116,17 +116,17 @@ seeks_late l g s x f z h w two e =
 -- ---- slots and pending writes
 
 -- slot k is that of the i-th pending write, or of a number after the last one
-pub record IsSlotOf (l : Layout) (x : LockState) (k i : ℕ) : Type 0 where
+pub record IsSlotOf (l : RingLayout) (x : LockState) (k i : ℕ) : Type 0 where
   pub below : i < l.size
   pub same : (x.base + i) % l.size ≡ k
 
 -- each slot is that of the i-th pending write, or of a number after the last one
-pub slot_has : (l : Layout) (x : LockState) (k : ℕ) → k < l.size → (i : ℕ) × IsSlotOf l x k i
+pub slot_has : (l : RingLayout) (x : LockState) (k : ℕ) → k < l.size → (i : ℕ) × IsSlotOf l x k i
 slot_has l x k h = let e = index_of l.size x.base k h in (e.0, record { below = e.1; same = e.2 })
 
 -- the slot of a pending write has an address where the pending write has it
-pub same_value : (l : Layout) (g : ℕ → Signal) (s : State) (x : LockState) (a : Signal) (k i : ℕ) → HasEntries l g s x
-    → IsSlotOf l x k i → i < length x.entries
+pub same_value : (l : RingLayout) (g : ℕ → Signal) (s : State) (x : LockState) (a : Signal) (k i : ℕ)
+    → HasEntries l g s x → IsSlotOf l x k i → i < length x.entries
     → (same_at l a k).value s ≡ words.equal (entry_at x.entries i).addr (a.value s)
 unfolding bin_value reg_value
 same_value l g s x a k i h o lt = ap (λ m. words.equal m (a.value s)) (ap (λ m. reg_of s (addr_at l m)) (sym o.same) ∙ h.slots.has_addr i lt)
@@ -143,8 +143,8 @@ cc_diff t q u m k e f le =
     ap (λ v. v % u) g ∙ ap (λ v. (q + (m - k)) % v) f
 
 -- how far the slot of the i-th pending write is after the head's slot: i
-pub order_value : (l : Layout) (g : ℕ → Signal) (s : State) (x : LockState) (k i : ℕ) → IsSized l → HasEntries l g s x
-    → IsSlotOf l x k i → (order_at l k).value s ≡ i
+pub order_value : (l : RingLayout) (g : ℕ → Signal) (s : State) (x : LockState) (k i : ℕ) → IsSized l
+    → HasEntries l g s x → IsSlotOf l x k i → (order_at l k).value s ≡ i
 unfolding bin_value reg_value const_value words.sub
 order_value l g s x k i z h o =
     let n = l.size in
@@ -159,7 +159,7 @@ order_value l g s x k i z h o =
     ∙ order_mod n b i o.below
 
 -- how far slot k is before the slot of the last of the d oldest, by that one's ticket
-pub back_value : (l : Layout) (s : State) (x : LockState) (f : Signal) (d k : ℕ) → IsSized l
+pub back_value : (l : RingLayout) (s : State) (x : LockState) (f : Signal) (d k : ℕ) → IsSized l
     → f.width ≡ l.ticket → k < l.size → f.value s ≡ (x.base + d - 1) % 2 ^ l.ticket
     → (back_at l f k).value s ≡ ((x.base + d - 1) % (2 * l.size) + (2 * l.size - k)) % l.size
 unfolding bin_value const_value words.sub

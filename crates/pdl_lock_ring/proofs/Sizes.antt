@@ -6,7 +6,7 @@ use Rattle.std.proofs.lemmas.Bool.{cases_lt}
 use Rattle.std.proofs.lemmas.Bool.Decides.{eqb_tells}
 use Rattle.std.proofs.lemmas.List.{get_or_append_left, get_or_push}
 use Rattle.std.proofs.lemmas.Nat.{pow_pos, pow-add}
-use Rattle.pdl_lock_ring.specs.declared.layout.Layout.{Layout}
+use Rattle.pdl_lock_ring.specs.declared.layout.RingLayout.{RingLayout}
 use Rattle.pdl_lock_ring.specs.Slots.{IsSize, IsSized, ticket_bits, numbers_from, slot_numbers, slots_of}
 use Rattle.pdl_word.proofs.Numbers.{less_power}
 
@@ -58,7 +58,7 @@ pub size_power : (n : ℕ) → IsSize n → n ≡ 2 ^ (ticket_bits n - 1)
 size_power = by_size (λ n. n ≡ 2 ^ (ticket_bits n - 1)) refl refl refl refl refl
 
 -- a slot's number has few bits
-pub few_bits : (l : Layout) → IsSized l → l.ticket - 1 ≤ 16
+pub few_bits : (l : RingLayout) → IsSized l → l.ticket - 1 ≤ 16
 few_bits l z = ⊎_elim
     (λ (h : 16 < l.ticket - 1).
     let lo : 17 ≤ l.ticket - 1 = omega (arith, h) in
@@ -91,16 +91,16 @@ numbers_at a (suc n) zero h = omega arith
 numbers_at a (suc n) (suc k) h = numbers_at (a + 1) n k (omega arith) ∙ (omega arith)
 
 -- the registers of one slot more
-pub slots_push : (l : Layout) (n : ℕ) → slots_of l (n + 1) ≡ slots_of l n ++ slot_numbers l.content l n ∷ []
+pub slots_push : (l : RingLayout) (n : ℕ) → slots_of l (n + 1) ≡ slots_of l n ++ slot_numbers l.content l n ∷ []
 slots_push l n = ap (slots_of l) (add-one n)
 
 -- the registers of the first n slots are n lists
-pub slots_length : (l : Layout) (n : ℕ) → length (slots_of l n) ≡ n
+pub slots_length : (l : RingLayout) (n : ℕ) → length (slots_of l n) ≡ n
 slots_length l zero = refl
 slots_length l (suc n) = length-append (slots_of l n) (slot_numbers l.content l n ∷ []) ∙ ap (λ k. k + 1) (slots_length l n) ∙ add-one n
 
 -- those of slot k
-pub slots_at : (l : Layout) (n k : ℕ) → k < n → get_or (slots_of l n) k [] ≡ slot_numbers l.content l k
+pub slots_at : (l : RingLayout) (n k : ℕ) → k < n → get_or (slots_of l n) k [] ≡ slot_numbers l.content l k
 slots_at l zero k h = absurd (omega arith)
 slots_at l (suc n) k h = ⊎_elim
     (λ (i : k < n). get_or_append_left (slots_of l n) (slot_numbers l.content l n ∷ []) [] k (omega (arith, slots_length l n)) ∙ slots_at l n k i)

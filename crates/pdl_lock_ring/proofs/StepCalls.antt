@@ -11,7 +11,7 @@ use Rattle.pdl_lockapi.specs.declared.LockPorts.{LockPorts}
 use Rattle.pdl_lockapi.specs.declared.LockNets.{LockNets}
 use Rattle.pdl_lockapi.specs.Laws.{StepSignals, step_signals, HasNoPorts, after_writes}
 use Rattle.pdl_lockapi.proofs.LockGrowth.{same_signals}
-use Rattle.pdl_lock_ring.specs.declared.layout.Layout.{Layout}
+use Rattle.pdl_lock_ring.specs.declared.layout.RingLayout.{RingLayout}
 use Rattle.pdl_lock_ring.specs.Slots.{HasSlots, IsSized, addr_at, has_at, value_at}
 use Rattle.pdl_lock_ring.specs.SlotGrowth.{slots_keep}
 use Rattle.pdl_lock_ring.specs.Oldest.{AreCommits}
@@ -48,7 +48,7 @@ row_in_row from n first m a b lo hi x = but_wider (own_row first m) (own_row fro
     (λ k o. inr (omega arith)) x
 
 -- what changes only a row of a ring's registers changes only the ring
-pub row_in_all : (l : Layout) (from n : ℕ) (a b : Circuit)
+pub row_in_all : (l : RingLayout) (from n : ℕ) (a b : Circuit)
     → l.from ≤ from → from + n ≤ l.from + (2 + 3 * l.size) → ExtendsBut (own_row from n) a b
     → ExtendsBut (own_all l) a b
 row_in_all l from n a b lo hi x = but_wider (own_row from n) (own_all l) a b
@@ -56,11 +56,11 @@ row_in_all l from n a b lo hi x = but_wider (own_row from n) (own_all l) a b
     (λ m o. inr (omega arith)) x
 
 -- what changes only a ring's array changes only the ring
-pub array_in_all : (l : Layout) (a b : Circuit) → ExtendsBut (own_array l) a b → ExtendsBut (own_all l) a b
+pub array_in_all : (l : RingLayout) (a b : Circuit) → ExtendsBut (own_array l) a b → ExtendsBut (own_all l) a b
 array_in_all l a b x = but_wider (own_array l) (own_all l) a b (λ r o. inr (omega arith)) (λ m o. o) x
 
 -- the calls of a step, one after the other
-pub slots_in_all : (l : Layout) (a b c d : Circuit) → Extends a b → ExtendsBut (own_slots l) b c
+pub slots_in_all : (l : RingLayout) (a b c d : Circuit) → Extends a b → ExtendsBut (own_slots l) b c
     → ExtendsBut (own_contents l) c d → ExtendsBut (own_all l) a d
 slots_in_all l a b c d x y z =
     but_trans (own_all l) a b d (but_extends (own_all l) a b x)
@@ -68,29 +68,29 @@ slots_in_all l a b c d x y z =
     (row_in_all l (l.from + 2 + 2 * l.size) l.size c d (omega arith) (omega arith) z))
 
 -- what changes the ring, and then head and tail, changes only the ring
-pub ends_in_all : (l : Layout) (a b c : Circuit) → ExtendsBut (own_all l) a b → ExtendsBut (own_ends l) b c → ExtendsBut (own_all l) a c
+pub ends_in_all : (l : RingLayout) (a b c : Circuit) → ExtendsBut (own_all l) a b → ExtendsBut (own_ends l) b c → ExtendsBut (own_all l) a c
 ends_in_all l a b c x y = but_trans (own_all l) a b c x (row_in_all l l.from 2 b c (omega arith) (omega arith) y)
 
 -- what registers take next stays where others change
-pub addrs_kept : (o : Own) (a b : Circuit) (l : Layout) (f : StepSignals) (n : ℕ)
+pub addrs_kept : (o : Own) (a b : Circuit) (l : RingLayout) (f : StepSignals) (n : ℕ)
     → n ≤ l.size → ((k : ℕ) → k < n → Outside o.from o.to (addr_at l k)) → HasSlots a l → NextAddrs a l f n
     → ExtendsBut o a b → NextAddrs b l f n
 addrs_kept o a b l f n few out h x y = record { addr = λ k lt. y.nexts (addr_at l k) (h.has_addr k (omega (arith, lt, few))) (out k lt) ∙ x.addr k lt }
 
 -- value bits take next what they took where other registers change
-pub bits_kept : (o : Own) (a b : Circuit) (l : Layout) (f : StepSignals) (n : ℕ)
+pub bits_kept : (o : Own) (a b : Circuit) (l : RingLayout) (f : StepSignals) (n : ℕ)
     → n ≤ l.size → ((k : ℕ) → k < n → Outside o.from o.to (has_at l k)) → HasSlots a l → NextBits a l f n
     → ExtendsBut o a b → NextBits b l f n
 bits_kept o a b l f n few out h x y = record { bit = λ k lt. y.nexts (has_at l k) (h.has_has k (omega (arith, lt, few))) (out k lt) ∙ x.bit k lt }
 
 -- contents of slots take next what they took where other registers change
-pub contents_kept : (o : Own) (a b : Circuit) (l : Layout) (f : StepSignals) (n : ℕ)
+pub contents_kept : (o : Own) (a b : Circuit) (l : RingLayout) (f : StepSignals) (n : ℕ)
     → n ≤ l.size → ((k : ℕ) → k < n → Outside o.from o.to (value_at l k)) → HasSlots a l → NextContents a l f n
     → ExtendsBut o a b → NextContents b l f n
 contents_kept o a b l f n few out h x y = record { value = λ k lt. y.nexts (value_at l k) (h.has_value k (omega (arith, lt, few))) (out k lt) ∙ x.value k lt }
 
 -- head and tail take next what they took where other registers change
-pub ends_kept : (o : Own) (a b : Circuit) (l : Layout) (f : StepSignals) → Outside o.from o.to l.from
+pub ends_kept : (o : Own) (a b : Circuit) (l : RingLayout) (f : StepSignals) → Outside o.from o.to l.from
     → Outside o.from o.to (l.from + 1) → HasSlots a l → NextEnds a l f → ExtendsBut o a b → NextEnds b l f
 ends_kept o a b l f p q h x y = record {
   head = y.nexts l.from h.has_head p ∙ x.head;
@@ -98,7 +98,7 @@ ends_kept o a b l f p q h x y = record {
 }
 
 -- one slot more takes its next address, where only that register changed
-pub addrs_more : (a b : Circuit) (l : Layout) (f : StepSignals) (k : ℕ)
+pub addrs_more : (a b : Circuit) (l : RingLayout) (f : StepSignals) (k : ℕ)
     → k < l.size → HasSlots a l → NextAddrs a l f k → ExtendsBut (own_reg (addr_at l k)) a b
     → next_signal b (addr_at l k) ≡ slot_addr l f k → NextAddrs b l f (k + 1)
 addrs_more a b l f k h s x y e =
@@ -106,7 +106,7 @@ addrs_more a b l f k h s x y e =
     record { addr = upto (λ j. next_signal b (addr_at l j) ≡ slot_addr l f j) k e old.addr }
 
 -- one slot more takes its next value bit, where only that register changed
-pub bits_more : (a b : Circuit) (l : Layout) (f : StepSignals) (k : ℕ)
+pub bits_more : (a b : Circuit) (l : RingLayout) (f : StepSignals) (k : ℕ)
     → k < l.size → HasSlots a l → NextBits a l f k → ExtendsBut (own_reg (has_at l k)) a b
     → next_signal b (has_at l k) ≡ slot_bit l f k → NextBits b l f (k + 1)
 bits_more a b l f k h s x y e =
@@ -114,7 +114,7 @@ bits_more a b l f k h s x y e =
     record { bit = upto (λ j. next_signal b (has_at l j) ≡ slot_bit l f j) k e old.bit }
 
 -- one slot more takes its next content, where only that register changed
-pub contents_more : (a b : Circuit) (l : Layout) (f : StepSignals) (k : ℕ)
+pub contents_more : (a b : Circuit) (l : RingLayout) (f : StepSignals) (k : ℕ)
     → k < l.size → HasSlots a l → NextContents a l f k → ExtendsBut (own_reg (value_at l k)) a b
     → next_signal b (value_at l k) ≡ slot_value l f k → NextContents b l f (k + 1)
 contents_more a b l f k h s x y e =
@@ -122,19 +122,19 @@ contents_more a b l f k h s x y e =
     record { value = upto (λ j. next_signal b (value_at l j) ≡ slot_value l f j) k e old.value }
 
 -- the addresses of the first 0 slots take next what they are to take
-pub addrs_none : (c : Circuit) (l : Layout) (f : StepSignals) → NextAddrs c l f 0
+pub addrs_none : (c : Circuit) (l : RingLayout) (f : StepSignals) → NextAddrs c l f 0
 addrs_none c l f = record { addr = λ k h. absurd (omega arith) }
 
 -- the value bits of the first 0 slots take next what they are to take
-pub bits_none : (c : Circuit) (l : Layout) (f : StepSignals) → NextBits c l f 0
+pub bits_none : (c : Circuit) (l : RingLayout) (f : StepSignals) → NextBits c l f 0
 bits_none c l f = record { bit = λ k h. absurd (omega arith) }
 
 -- the contents of the first 0 slots take next what they are to take
-pub contents_none : (c : Circuit) (l : Layout) (f : StepSignals) → NextContents c l f 0
+pub contents_none : (c : Circuit) (l : RingLayout) (f : StepSignals) → NextContents c l f 0
 contents_none c l f = record { value = λ k h. absurd (omega arith) }
 
 -- the nets of commits stay
-pub commits_keep : (a b : Circuit) (l : Layout) (f : StepSignals) (n : LockNets) → AreCommits a l f n → Keeps a b → AreCommits b l f n
+pub commits_keep : (a b : Circuit) (l : RingLayout) (f : StepSignals) (n : LockNets) → AreCommits a l f n → Keeps a b → AreCommits b l f n
 commits_keep a b l f n x y = record {
   commit = means_keeps a b n.commit _ y x.commit;
   addr = means_keeps a b n.addr _ y x.addr;
@@ -158,7 +158,7 @@ one_off : (s : State) (w v : WriteSignal) (ws : List ℕ) → v.enable.value s �
 one_off s w v ws e = sym (if_zero (v.enable.value s) _ _ e)
 
 -- an array that is given its only write port is written as with a second one that is always off
-pub writes_one : (a b : Circuit) (l : Layout) (m : ℕ) (w v : WriteSignal)
+pub writes_one : (a b : Circuit) (l : RingLayout) (m : ℕ) (w v : WriteSignal)
     → l.array ≡ Some m → HasNoPorts l.array a → write_signals b m ≡ write_signals a m ++ w ∷ []
     → ((s : State) → v.enable.value s ≡ 0) → WritesArray b l (w ∷ v ∷ [])
 writes_one a b l m w v is none more off = record {
@@ -169,7 +169,7 @@ writes_one a b l m w v is none more off = record {
 }
 
 -- an array without write ports that is given two is written by these
-pub writes_two : (a b c : Circuit) (l : Layout) (m : ℕ) (w v : WriteSignal)
+pub writes_two : (a b c : Circuit) (l : RingLayout) (m : ℕ) (w v : WriteSignal)
     → l.array ≡ Some m → HasNoPorts l.array a → write_signals b m ≡ write_signals a m ++ w ∷ []
     → write_signals c m ≡ write_signals b m ++ v ∷ [] → WritesArray c l (w ∷ v ∷ [])
 writes_two a b c l m w v is none one more = record {
@@ -179,7 +179,7 @@ writes_two a b c l m w v is none one more = record {
       ap (λ n. after_writes s (write_signals c n) ws) (sym q) ∙ ap (λ us. after_writes s us ws) e;
 }
 
-writes_none : (c : Circuit) (l : Layout) (ws : List WriteSignal) → l.array ≡ None → WritesArray c l ws
+writes_none : (c : Circuit) (l : RingLayout) (ws : List WriteSignal) → l.array ≡ None → WritesArray c l ws
 writes_none c l ws e = record { words = λ m i s us. absurd (cc (e, i)) }
 
 -- a later circuit that keeps the array's ports

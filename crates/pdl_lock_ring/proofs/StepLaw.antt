@@ -12,7 +12,7 @@ use Rattle.pdl_net.specs.Signal.{Signal, reg_value, const_value, bin_value, mux_
 use Rattle.pdl_lockapi.specs.Lock.{Entry, LockState, LockAct, Proper, entry_at, or_zero, filled_entries, next_base, after_release, after_squash, committed, committed_words, step, commit_addr, commit_value, commit2_addr, commit2_value}
 use Rattle.pdl_lockapi.specs.Laws.{StepSignals, Drives, HasWords, IsNext, StepLaw, after_writes, first_array, end_array}
 use Rattle.pdl_lockapi.specs.Second.{Commit2Law}
-use Rattle.pdl_lock_ring.specs.declared.layout.Layout.{Layout}
+use Rattle.pdl_lock_ring.specs.declared.layout.RingLayout.{RingLayout}
 use Rattle.pdl_lock_ring.specs.declared.layout.Content.TheVariants.{Value}
 use Rattle.pdl_lock_ring.specs.Slots.{IsSized, HasEntries, Holds, Stands, content_signal, reg_of, addr_at, has_at, value_at}
 use Rattle.pdl_lock_ring.specs.Looks.{head_signal, tail_signal, second_ticket}
@@ -25,7 +25,7 @@ use Rattle.pdl_lock_ring.proofs.LookValues.{some_of}
 use Rattle.pdl_lock_ring.proofs.FilledSlots.{TicketsFit, Cycle, some, two, all_filled, length_filled, pushes_value, pushes2_value, second_value}
 
 -- slot k's value after the writes, from what is given as the value before them
-abbrev pub after_fill : Layout → StepSignals → (ℕ → Signal) → ℕ → Signal
+abbrev pub after_fill : RingLayout → StepSignals → (ℕ → Signal) → ℕ → Signal
 after_fill l f v k = filled_value l f (v k) k (length f.writes)
 
 pub there_first : (xs : List Entry) → is_some (entry_at xs 0).value ≡ true → 0 < length xs
@@ -43,7 +43,7 @@ same_choice true x y z h = h refl
 same_choice false x y z h = refl
 
 -- the signal of a ticket's slot
-pub ticket_value : (l : Layout) → IsSized l → (g : ℕ → Signal) (t : Signal) (s : State) (n : ℕ)
+pub ticket_value : (l : RingLayout) → IsSized l → (g : ℕ → Signal) (t : Signal) (s : State) (n : ℕ)
     → t.value s ≡ n % 2 ^ l.ticket → (at_ticket l g t).value s ≡ (g (n % l.size)).value s
 ticket_value l z g t s n e =
     let q : t.value s % 2 ^ (l.ticket - 1) ≡ n % l.size = ap (λ m. t.value s % m) (sym z.power) ∙ ap (λ m. m % l.size) (e ∙ ap (λ m. n % m) z.whole) ∙ half_mod l.size n in
@@ -104,14 +104,14 @@ unfolding words.mux
 by_bit m t y z e = ap (λ b. if b then y else z) (test_bit m t e)
 
 -- the registers of head, tail, addresses and value bits are in a fragment, and take these next values
-pub record EntriesStay (b : Circuit) (o : Own) (l : Layout) (f : StepSignals) : Type 0 where
+pub record EntriesStay (b : Circuit) (o : Own) (l : RingLayout) (f : StepSignals) : Type 0 where
   pub from : o.from ≤ l.from
   pub to : l.from + 2 + 2 * l.size ≤ o.to
   pub addrs : NextAddrs b l f l.size
   pub bits : NextBits b l f l.size
   pub ends : NextEnds b l f
 
-module _ (l : Layout) (v : ℕ → Signal) (s : State) (x : LockState) (f : StepSignals) (a : LockAct) where
+module _ (l : RingLayout) (v : ℕ → Signal) (s : State) (x : LockState) (f : StepSignals) (a : LockAct) where
   abbrev xs : List Entry
   xs = filled_entries x a
 
@@ -220,7 +220,7 @@ module _ (l : Layout) (v : ℕ → Signal) (s : State) (x : LockState) (f : Step
 -- ---- slots that keep values
 
 -- the words of the array, where there is one, after two writes
-words_next : (array : Option ℕ) (s t : State) (c : Circuit) (l : Layout) (e a v e' a' v' : Signal) (ws next : List ℕ)
+words_next : (array : Option ℕ) (s t : State) (c : Circuit) (l : RingLayout) (e a v e' a' v' : Signal) (ws next : List ℕ)
     → l.array ≡ array → HasWords array s ws
     → ((m : ℕ) → array ≡ Some m → slice_index_or t.arrays m [] ≡ after_writes s (two_writes e a v e' a' v') (slice_index_or s.arrays m []))
     → after_writes s (two_writes e a v e' a' v') ws ≡ next → HasWords array t next
@@ -252,7 +252,7 @@ two_committed t true e e' a v a' v' xs ws p q both i j k m =
 two_committed true false e e' a v a' v' xs ws p q both i j k m = rw (q, p) (cc_set ws a (entry_at xs 0).addr v (or_zero (entry_at xs 0).value) (i refl) (j refl))
 two_committed false false e e' a v a' v' xs ws p q both i j k m = rw (q, p) refl
 
-module _ (b : Circuit) (l : Layout) (f : StepSignals) (keeps : l.content ≡ Value) (z : IsSized l) (t : TicketsFit l.ticket f) (n : NextValues b l f) where
+module _ (b : Circuit) (l : RingLayout) (f : StepSignals) (keeps : l.content ≡ Value) (z : IsSized l) (t : TicketsFit l.ticket f) (n : NextValues b l f) where
   abbrev V : ℕ → Signal
   V = content_signal l
 

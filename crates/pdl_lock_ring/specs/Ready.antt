@@ -4,20 +4,20 @@ use Rattle.pdl_net.specs.Circuit.{Circuit}
 use Rattle.pdl_net.specs.Meaning.{Means, signal}
 use Rattle.pdl_lockapi.specs.declared.LockPorts.{LockPorts}
 use Rattle.pdl_lockapi.specs.Laws.{PortsThere, PortsFit, step_signals}
-use Rattle.pdl_lock_ring.specs.declared.layout.Layout.{Layout}
+use Rattle.pdl_lock_ring.specs.declared.layout.RingLayout.{RingLayout}
 use Rattle.pdl_lock_ring.specs.declared.taken.Taken.{Taken}
 use Rattle.pdl_lock_ring.specs.Slots.{IsSized, HasSlots}
 use Rattle.pdl_lock_ring.specs.Steps.{pushes, pushes2, first_addr, second_addr, first_slot, second_slot}
 
 -- the ring is in a circuit, and so are the nets of a step's ports
-pub record HasPorts (c : Circuit) (l : Layout) (p : LockPorts) : Type 0 where
+pub record HasPorts (c : Circuit) (l : RingLayout) (p : LockPorts) : Type 0 where
   pub sized : IsSized l
   pub slots : HasSlots c l
   pub ports : PortsThere c p
   pub fit : PortsFit c l.bits l.width l.ticket p
 
 -- and the nets of a cycle's reservations too
-pub record IsReady (c : Circuit) (l : Layout) (p : LockPorts) (t : Taken) : Type 0 where
+pub record IsReady (c : Circuit) (l : RingLayout) (p : LockPorts) (t : Taken) : Type 0 where
   pub given : HasPorts c l p
   pub one : Means c t.one (pushes (step_signals c p))
   pub two : Means c t.two (pushes2 (step_signals c p))

@@ -4,7 +4,7 @@ use Rattle.pdl_net.specs.Circuit.{Circuit}
 use Rattle.pdl_net.specs.declared.BinOp.TheVariants.{Lt}
 use Rattle.pdl_net.specs.Signal.{Signal, reg_signal, bin_signal, mux_signal}
 use Rattle.pdl_net.specs.Meaning.{Means, IsThere, signal}
-use Rattle.pdl_lock_ring.specs.declared.layout.Layout.{Layout}
+use Rattle.pdl_lock_ring.specs.declared.layout.RingLayout.{RingLayout}
 use Rattle.pdl_lock_ring.specs.declared.look.Sought.{Sought}
 use Rattle.pdl_lock_ring.specs.declared.nearest.Nearest.{Nearest}
 use Rattle.pdl_lock_ring.specs.Slots.{has_at, content_signal}
@@ -12,7 +12,7 @@ use Rattle.pdl_lock_ring.specs.Choices.{least_key, least_of}
 use Rattle.pdl_lock_ring.specs.Looks.{older_count, last_older, key_at}
 
 -- a look at an address with a ticket
-pub record IsSought (c : Circuit) (l : Layout) (a t : Signal) (s : Sought) : Type 0 where
+pub record IsSought (c : Circuit) (l : RingLayout) (a t : Signal) (s : Sought) : Type 0 where
   pub addr : Means c s.addr a
   pub older : Means c s.older (older_count l t)
   pub last : Means c s.last (last_older l t)
@@ -21,7 +21,7 @@ pub record IsSought (c : Circuit) (l : Layout) (a t : Signal) (s : Sought) : Typ
   pub last_wide : (last_older l t).width ≡ l.ticket
 
 -- of the 2 ^ b slots from this one on, the one with the least key
-pub record IsNearest (c : Circuit) (l : Layout) (by : ℕ → Signal) (b from : ℕ) (x : Nearest) : Type 0 where
+pub record IsNearest (c : Circuit) (l : RingLayout) (by : ℕ → Signal) (b from : ℕ) (x : Nearest) : Type 0 where
   pub key : Means c x.key (least_key by b from)
   pub has : Means c x.has (least_of by (λ k. reg_signal 1 (has_at l k)) b from)
   pub content : Means c x.content (least_of by (content_signal l) b from)

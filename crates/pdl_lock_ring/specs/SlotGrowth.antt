@@ -5,11 +5,11 @@ use Rattle.pdl_net.specs.declared.Net.TheVariants.{Reg}
 use Rattle.pdl_net.specs.Circuit.{Circuit}
 use Rattle.pdl_net.specs.Growth.{Keeps}
 use Rattle.pdl_lockapi.specs.declared.LockRegs.{LockRegs}
-use Rattle.pdl_lock_ring.specs.declared.layout.Layout.{Layout}
+use Rattle.pdl_lock_ring.specs.declared.layout.RingLayout.{RingLayout}
 use Rattle.pdl_lock_ring.specs.Slots.{HasSlots, ArePlaced, layout_of, addr_at, has_at, value_at}
 
 -- the slots of a lock stay in a circuit that keeps what it had
-pub slots_keep : (a b : Circuit) (l : Layout) → HasSlots a l → Keeps a b → HasSlots b l
+pub slots_keep : (a b : Circuit) (l : RingLayout) → HasSlots a l → Keeps a b → HasSlots b l
 slots_keep a b l x y = record {
   head_there = y.there (Reg l.from) x.head_there;
   head = y.kept (Reg l.from) x.head_there ∙ x.head;

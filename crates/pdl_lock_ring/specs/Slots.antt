@@ -9,20 +9,20 @@ use Rattle.pdl_net.specs.Meaning.{IsThere, signal, write_signals}
 use Rattle.pdl_lockapi.specs.declared.LockRegs.{LockRegs}
 use Rattle.pdl_lockapi.specs.Lock.{Entry, LockState, entry_at}
 use Rattle.pdl_lockapi.specs.Laws.{first_reg, HasWords}
-use Rattle.pdl_lock_ring.specs.declared.layout.Layout.{Layout}
+use Rattle.pdl_lock_ring.specs.declared.layout.RingLayout.{RingLayout}
 use Rattle.pdl_lock_ring.specs.declared.layout.Content.{Content}
 use Rattle.pdl_lock_ring.specs.declared.layout.Content.TheVariants.{Value, Place}
 
 -- the registers of slot k: those of one sort stand together
-abbrev pub addr_at : Layout → ℕ → ℕ
+abbrev pub addr_at : RingLayout → ℕ → ℕ
 addr_at l k = l.from + 2 + k
 
 -- the register of slot k that says whether it has its value
-abbrev pub has_at : Layout → ℕ → ℕ
+abbrev pub has_at : RingLayout → ℕ → ℕ
 has_at l k = l.from + 2 + l.size + k
 
 -- the register of slot k that keeps its value, or its place in the array
-abbrev pub value_at : Layout → ℕ → ℕ
+abbrev pub value_at : RingLayout → ℕ → ℕ
 value_at l k = l.from + 2 + 2 * l.size + k
 
 -- how many writes may be pending
@@ -48,11 +48,11 @@ abbrev pub ticket_bits : ℕ → ℕ
 ticket_bits n = if n == 1 then 1 else if n == 2 then 2 else if n == 4 then 3 else if n == 8 then 4 else 5
 
 -- where the slots stand that keep values, by what `emit_state` has answered
-abbrev pub layout_of : ℕ → LockRegs → Layout
+abbrev pub layout_of : ℕ → LockRegs → RingLayout
 layout_of size r = record { size = size; ticket = ticket_bits size; width = r.width; kept = r.width; bits = r.bits; from = first_reg r; array = r.array; content = Value }
 
 -- the sizes and widths of a layout, and that its numbers are those of a machine
-pub record IsSized (l : Layout) : Type 0 where
+pub record IsSized (l : RingLayout) : Type 0 where
   pub some : 1 ≤ l.size
   pub few : l.size ≤ 16
   pub fits : l.size < 2 ^ l.ticket
@@ -75,7 +75,7 @@ numbers_from a zero = []
 numbers_from a (suc n) = a ∷ numbers_from (a + 1) n
 
 -- the layout of so many slots for a memory, with its registers from this one on
-pub record IsLayout (n : ℕ) (m : MemInfo) (from : ℕ) (l : Layout) : Type 0 where
+pub record IsLayout (n : ℕ) (m : MemInfo) (from : ℕ) (l : RingLayout) : Type 0 where
   pub size : l.size ≡ n
   pub ticket : l.ticket ≡ ticket_bits n
   pub content : l.content ≡ Value
@@ -96,13 +96,13 @@ pub record IsMemArray (old new : Circuit) (m : MemInfo) (array : Option ℕ) : T
   pub empty : (k : ℕ) → array ≡ Some k → write_signals new k ≡ []
 
 -- the array, where there is one, is in a circuit
-pub record HasOwnArray (c : Circuit) (l : Layout) : Type 0 where
+pub record HasOwnArray (c : Circuit) (l : RingLayout) : Type 0 where
   pub has_array : (m : ℕ) → l.array ≡ Some m → HasArray c m
   pub array_word : (m : ℕ) → l.array ≡ Some m → array_width c m ≡ l.width
   pub array_depth : (m : ℕ) → l.array ≡ Some m → array_depth c m ≡ 2 ^ l.bits
 
 -- the registers of head and tail, those of all slots, and the array, where there is one, are in a circuit
-pub record HasSlots (c : Circuit) (l : Layout) : Type 0 where
+pub record HasSlots (c : Circuit) (l : RingLayout) : Type 0 where
   pub head_there : IsThere c (Reg l.from)
   pub head : signal c (Reg l.from) ≡ reg_signal l.ticket l.from
   pub has_head : HasReg c l.from
@@ -128,12 +128,12 @@ pub record HasSlots (c : Circuit) (l : Layout) : Type 0 where
   pub array_depth : (m : ℕ) → l.array ≡ Some m → array_depth c m ≡ 2 ^ l.bits
 
 -- the registers of slot k that only its own reservations and writes change: a place is none of them
-abbrev pub slot_numbers : Content → Layout → ℕ → List ℕ
+abbrev pub slot_numbers : Content → RingLayout → ℕ → List ℕ
 slot_numbers Value l k = addr_at l k ∷ value_at l k ∷ has_at l k ∷ []
 slot_numbers Place l k = addr_at l k ∷ has_at l k ∷ []
 
 -- those of the first n slots
-abbrev pub slots_of : Layout → ℕ → List (List ℕ)
+abbrev pub slots_of : RingLayout → ℕ → List (List ℕ)
 slots_of l zero = []
 slots_of l (suc n) = slots_of l n ++ slot_numbers l.content l n ∷ []
 
@@ -150,11 +150,11 @@ first_content_of Value place k = 0
 first_content_of Place place k = place + k
 
 -- what the slots hold in the first cycle
-pub record AreFirst (c : Circuit) (l : Layout) (place : ℕ) : Type 0 where
+pub record AreFirst (c : Circuit) (l : RingLayout) (place : ℕ) : Type 0 where
   pub content : (k : ℕ) → k < l.size → reg_reset c (value_at l k) ≡ first_content_of l.content place k
 
 -- and head and tail are 0
-pub record AreReset (c : Circuit) (l : Layout) (place : ℕ) : Type 0 where
+pub record AreReset (c : Circuit) (l : RingLayout) (place : ℕ) : Type 0 where
   pub head : reg_reset c l.from ≡ 0
   pub tail : reg_reset c (l.from + 1) ≡ 0
   pub contents : AreFirst c l place
@@ -171,16 +171,16 @@ abbrev pub reg_of : State → ℕ → ℕ
 reg_of s k = slice_index s.regs k
 
 -- what the second register of slot k holds
-abbrev pub content_signal : Layout → ℕ → Signal
+abbrev pub content_signal : RingLayout → ℕ → Signal
 content_signal l k = reg_signal l.kept (value_at l k)
 
 -- the registers stand for the pending writes of a state, where the value of slot k is this signal's
-pub record HasEntries (l : Layout) (value : ℕ → Signal) (s : State) (x : LockState) : Type 0 where
+pub record HasEntries (l : RingLayout) (value : ℕ → Signal) (s : State) (x : LockState) : Type 0 where
   pub head : reg_of s l.from ≡ x.base % 2 ^ l.ticket
   pub tail : reg_of s (l.from + 1) ≡ (x.base + length x.entries) % 2 ^ l.ticket
   pub slots : Holds l.size x.base (λ k. reg_of s (addr_at l k)) (λ k. reg_of s (has_at l k)) (λ k. (value k).value s) x.entries
 
 -- registers that keep the values, and an array that holds the words, stand for a state of the lock
-pub record Stands (l : Layout) (s : State) (x : LockState) : Type 0 where
+pub record Stands (l : RingLayout) (s : State) (x : LockState) : Type 0 where
   pub entries : HasEntries l (content_signal l) s x
   pub words : HasWords l.array s x.words

@@ -7,7 +7,7 @@ ghost use Rattle.pdl_lockapi.specs.Laws.{step_signals, ticket_at};
 ghost use Rattle.pdl_lock_ring.specs.Ready.{HasPorts, IsReady};
 ghost use Rattle.pdl_lock_ring.specs.Steps.{takes_first, takes_second, written_slot, fills_slot, filled_bit, filled_value, slot_addr, slot_bit, slot_value};
 
-use crate::layout::{Content, Layout};
+use crate::layout::{Content, RingLayout};
 use crate::taken::{Taken, emit_gate};
 use pdl_build::Builder;
 use pdl_kit::NoMemory;
@@ -26,7 +26,7 @@ pub fn write_port(p: &LockPorts, j: usize) -> TicketWrite
 #[tactic(auto, using(crate::proofs::RingGrowth::ready_kept))]
 fn emit_takes(
     b: &mut Builder,
-    l: Layout,
+    l: RingLayout,
     p: &LockPorts,
     t: Taken,
     k: usize,
@@ -49,7 +49,7 @@ fn emit_takes(
 #[tactic(auto, using(crate::proofs::Fills::slot_addr_is, crate::proofs::RingGrowth::ready_kept))]
 pub fn emit_addr(
     b: &mut Builder,
-    l: Layout,
+    l: RingLayout,
     p: &LockPorts,
     t: Taken,
     k: usize,
@@ -70,7 +70,7 @@ pub fn emit_addr(
 #[tactic(auto, using(crate::proofs::Fills::filling, crate::proofs::RingGrowth::ready_kept))]
 fn emit_emptied(
     b: &mut Builder,
-    l: Layout,
+    l: RingLayout,
     p: &LockPorts,
     t: Taken,
     k: usize,
@@ -89,7 +89,12 @@ fn emit_emptied(
 
 /// The slot into which write port j writes, or a number that no slot has.
 #[tactic(auto, using(crate::proofs::Fills::ticket_is))]
-pub fn emit_written(b: &mut Builder, l: Layout, p: &LockPorts, j: usize) -> Result<Net, NoMemory>
+pub fn emit_written(
+    b: &mut Builder,
+    l: RingLayout,
+    p: &LockPorts,
+    j: usize,
+) -> Result<Net, NoMemory>
     requires given { HasPorts b.old l p.now }
     requires within { j < length p.now.writes }
     ensures means { IfOk result (λ x. Means b.new x (written_slot l (step_signals b.old p.now) j)) }
@@ -104,7 +109,7 @@ pub fn emit_written(b: &mut Builder, l: Layout, p: &LockPorts, j: usize) -> Resu
 #[tactic(auto)]
 fn emit_match(
     b: &mut Builder,
-    l: Layout,
+    l: RingLayout,
     p: &LockPorts,
     k: usize,
     j: usize,
@@ -124,7 +129,7 @@ fn emit_match(
 #[tactic(auto, using(crate::proofs::Fills::filling, crate::proofs::RingGrowth::ports_kept))]
 pub fn emit_bit(
     b: &mut Builder,
-    l: Layout,
+    l: RingLayout,
     p: &LockPorts,
     t: Taken,
     k: usize,
@@ -147,7 +152,7 @@ pub fn emit_bit(
 #[tactic(auto, using(crate::proofs::Fills::ticket_is, crate::proofs::RingGrowth::ports_kept))]
 fn emit_put(
     b: &mut Builder,
-    l: Layout,
+    l: RingLayout,
     p: &LockPorts,
     k: usize,
     j: usize,
@@ -173,7 +178,7 @@ fn emit_put(
 #[tactic(auto, using(crate::proofs::Fills::filling, crate::proofs::RingGrowth::ports_kept))]
 fn emit_value(
     b: &mut Builder,
-    l: Layout,
+    l: RingLayout,
     p: &LockPorts,
     k: usize,
     before: Net,
@@ -197,7 +202,12 @@ fn emit_value(
 
 /// What slot k holds after all write ports, a value or a place.
 #[tactic(auto, using(crate::proofs::Fills::contents))]
-pub fn emit_content(b: &mut Builder, l: Layout, p: &LockPorts, k: usize) -> Result<Net, NoMemory>
+pub fn emit_content(
+    b: &mut Builder,
+    l: RingLayout,
+    p: &LockPorts,
+    k: usize,
+) -> Result<Net, NoMemory>
     requires given { HasPorts b.old l p.now }
     requires slot_in { k < l.size }
     ensures content { IfOk result (λ x. Means b.new x (slot_value l (step_signals b.old p.now) k)) }

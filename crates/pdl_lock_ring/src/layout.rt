@@ -13,7 +13,7 @@ pub enum Content {
 
 /// The registers of the ring: the ticket of the oldest pending write, the next ticket, then the addresses of all slots, whether they have their values, and what they hold; and an array of words.
 #[derive(Clone, Copy)]
-pub struct Layout {
+pub struct RingLayout {
     /// How many slots there are.
     pub size: usize,
     /// The bits of a ticket.
@@ -31,13 +31,13 @@ pub struct Layout {
     pub content: Content,
 }
 
-impl Layout {
+impl RingLayout {
     /// The layout of so many slots that keep values, whose registers are these.
-    pub fn of(size: u8, r: &LockRegs) -> Layout
+    pub fn of(size: u8, r: &LockRegs) -> RingLayout
         requires { 0 < length r.now.regs }
         ensures { result ≡ layout_of size r.now }
     {
-        Layout {
+        RingLayout {
             size: size as usize,
             ticket: ticket_width(size),
             width: r.width,

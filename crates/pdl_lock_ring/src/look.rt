@@ -8,7 +8,7 @@ ghost use Rattle.pdl_lock_ring.specs.Looks.{slot_of, order_at, same_at, hit_at, 
 ghost use Rattle.pdl_lock_ring.specs.Seeks.{IsSought};
 
 use crate::choice::power;
-use crate::layout::Layout;
+use crate::layout::RingLayout;
 use pdl_build::Builder;
 use pdl_kit::NoMemory;
 use pdl_lockapi::Kind;
@@ -24,7 +24,7 @@ pub struct Sought {
 
 /// A number modulo the number of slots.
 #[tactic(auto)]
-pub fn emit_slot_of(b: &mut Builder, l: Layout, ticket: Net) -> Result<Net, NoMemory>
+pub fn emit_slot_of(b: &mut Builder, l: RingLayout, ticket: Net) -> Result<Net, NoMemory>
     requires sized { IsSized l }
     requires ticket_there { IsThere b.old ticket }
     requires ticket_width { (signal b.old ticket).width ≡ l.ticket }
@@ -37,7 +37,12 @@ pub fn emit_slot_of(b: &mut Builder, l: Layout, ticket: Net) -> Result<Net, NoMe
 
 /// What a look at an address with a ticket asks for.
 #[tactic(auto, using(crate::proofs::RingGrowth::slots_kept))]
-pub fn emit_sought(b: &mut Builder, l: Layout, addr: Net, ticket: Net) -> Result<Sought, NoMemory>
+pub fn emit_sought(
+    b: &mut Builder,
+    l: RingLayout,
+    addr: Net,
+    ticket: Net,
+) -> Result<Sought, NoMemory>
     requires sized { IsSized l }
     requires slots { HasSlots b.old l }
     requires addr_there { IsThere b.old addr }
@@ -62,7 +67,7 @@ pub fn emit_sought(b: &mut Builder, l: Layout, addr: Net, ticket: Net) -> Result
 
 /// How far slot k is after the head's.
 #[tactic(auto)]
-fn emit_order(b: &mut Builder, l: Layout, k: usize) -> Result<Net, NoMemory>
+fn emit_order(b: &mut Builder, l: RingLayout, k: usize) -> Result<Net, NoMemory>
     requires sized { IsSized l }
     requires slots { HasSlots b.old l }
     requires within { k < l.size }
@@ -76,7 +81,7 @@ fn emit_order(b: &mut Builder, l: Layout, k: usize) -> Result<Net, NoMemory>
 
 /// Whether slot k has the address.
 #[tactic(auto)]
-pub fn emit_same(b: &mut Builder, l: Layout, addr: Net, k: usize) -> Result<Net, NoMemory>
+pub fn emit_same(b: &mut Builder, l: RingLayout, addr: Net, k: usize) -> Result<Net, NoMemory>
     requires sized { IsSized l }
     requires slots { HasSlots b.old l }
     requires within { k < l.size }
@@ -92,7 +97,7 @@ pub fn emit_same(b: &mut Builder, l: Layout, addr: Net, k: usize) -> Result<Net,
 #[tactic(auto, using(crate::proofs::RingGrowth::slots_kept))]
 fn emit_hit_slot(
     b: &mut Builder,
-    l: Layout,
+    l: RingLayout,
     addr: Net,
     older: Net,
     k: usize,
@@ -119,7 +124,7 @@ fn emit_hit_slot(
 #[tactic(auto, using(crate::proofs::Trees::some, crate::proofs::RingGrowth::slots_kept))]
 fn emit_hits(
     b: &mut Builder,
-    l: Layout,
+    l: RingLayout,
     addr: Net,
     older: Net,
     bits: u8,
@@ -152,7 +157,7 @@ fn emit_hits(
 
 /// Whether an older pending write has the address.
 #[tactic(auto)]
-pub fn emit_hit(b: &mut Builder, l: Layout, addr: Net, older: Net) -> Result<Net, NoMemory>
+pub fn emit_hit(b: &mut Builder, l: RingLayout, addr: Net, older: Net) -> Result<Net, NoMemory>
     requires sized { IsSized l }
     requires slots { HasSlots b.old l }
     requires addr_there { IsThere b.old addr }
@@ -168,7 +173,7 @@ pub fn emit_hit(b: &mut Builder, l: Layout, addr: Net, older: Net) -> Result<Net
 }
 
 /// The word of the array at an address; a delayed memory has none.
-pub fn emit_read(b: &mut Builder, l: Layout, addr: Net) -> Result<Option<Net>, NoMemory>
+pub fn emit_read(b: &mut Builder, l: RingLayout, addr: Net) -> Result<Option<Net>, NoMemory>
     requires slots { HasSlots b.old l }
     requires addr_there { IsThere b.old addr }
     requires addr_width { (signal b.old addr).width ≡ l.bits }

@@ -10,7 +10,7 @@ ghost use Rattle.pdl_lock_ring.specs.Steps.{slot_addr, slot_bit, slot_value, at_
 
 use crate::choice::power;
 use crate::fill::{emit_addr, emit_bit, emit_content};
-use crate::layout::Layout;
+use crate::layout::RingLayout;
 use crate::taken::Taken;
 use pdl_build::Builder;
 use pdl_kit::NoMemory;
@@ -28,7 +28,7 @@ pub struct Slot {
 #[tactic(auto, using(crate::proofs::RingGrowth::ready_kept))]
 fn emit_slot(
     b: &mut Builder,
-    l: Layout,
+    l: RingLayout,
     p: &LockPorts,
     t: Taken,
     k: usize,
@@ -52,7 +52,7 @@ fn emit_slot(
 #[tactic(auto, using(crate::proofs::Trees::selecting, crate::proofs::RingGrowth::ready_kept))]
 fn emit_picked(
     b: &mut Builder,
-    l: Layout,
+    l: RingLayout,
     p: &LockPorts,
     t: Taken,
     number: Net,
@@ -91,7 +91,7 @@ fn emit_picked(
 #[tactic(auto)]
 pub fn emit_at(
     b: &mut Builder,
-    l: Layout,
+    l: RingLayout,
     p: &LockPorts,
     t: Taken,
     ticket: Net,
@@ -116,7 +116,7 @@ pub fn emit_at(
 #[tactic(auto, using(crate::proofs::RingGrowth::slots_kept))]
 fn emit_next_addr(
     b: &mut Builder,
-    l: Layout,
+    l: RingLayout,
     p: &LockPorts,
     t: Taken,
     k: usize,
@@ -136,7 +136,7 @@ fn emit_next_addr(
 #[tactic(auto, using(crate::proofs::Fills::bit_width, crate::proofs::RingGrowth::slots_kept))]
 fn emit_next_bit(
     b: &mut Builder,
-    l: Layout,
+    l: RingLayout,
     p: &LockPorts,
     t: Taken,
     k: usize,
@@ -154,7 +154,12 @@ fn emit_next_bit(
 
 /// What slot k's value takes next.
 #[tactic(auto, using(crate::proofs::RingGrowth::slots_kept))]
-fn emit_next_content(b: &mut Builder, l: Layout, p: &LockPorts, k: usize) -> Result<(), NoMemory>
+fn emit_next_content(
+    b: &mut Builder,
+    l: RingLayout,
+    p: &LockPorts,
+    k: usize,
+) -> Result<(), NoMemory>
     requires given { HasPorts b.old l p.now }
     requires slot_in { k < l.size }
     ensures next { OnOk result (next_signal b.new (value_at l k)
@@ -167,7 +172,7 @@ fn emit_next_content(b: &mut Builder, l: Layout, p: &LockPorts, k: usize) -> Res
 }
 
 /// What all addresses take next.
-fn emit_addrs(b: &mut Builder, l: Layout, p: &LockPorts, t: Taken) -> Result<(), NoMemory>
+fn emit_addrs(b: &mut Builder, l: RingLayout, p: &LockPorts, t: Taken) -> Result<(), NoMemory>
     requires ready { IsReady b.old l p.now t }
     ensures next { OnOk result (NextAddrs b.new l (step_signals b.old p.now) l.size) }
     ensures extends { ExtendsBut (own_addrs l) b.old b.new }
@@ -179,7 +184,7 @@ fn emit_addrs(b: &mut Builder, l: Layout, p: &LockPorts, t: Taken) -> Result<(),
 }
 
 /// What all value bits take next.
-fn emit_bits(b: &mut Builder, l: Layout, p: &LockPorts, t: Taken) -> Result<(), NoMemory>
+fn emit_bits(b: &mut Builder, l: RingLayout, p: &LockPorts, t: Taken) -> Result<(), NoMemory>
     requires ready { IsReady b.old l p.now t }
     ensures next { OnOk result (NextBits b.new l (step_signals b.old p.now) l.size) }
     ensures extends { ExtendsBut (own_bits l) b.old b.new }
@@ -191,7 +196,7 @@ fn emit_bits(b: &mut Builder, l: Layout, p: &LockPorts, t: Taken) -> Result<(), 
 }
 
 /// What all values take next.
-pub fn emit_contents(b: &mut Builder, l: Layout, p: &LockPorts) -> Result<(), NoMemory>
+pub fn emit_contents(b: &mut Builder, l: RingLayout, p: &LockPorts) -> Result<(), NoMemory>
     requires given { HasPorts b.old l p.now }
     ensures next { OnOk result (NextContents b.new l (step_signals b.old p.now) l.size) }
     ensures extends { ExtendsBut (own_contents l) b.old b.new }
@@ -204,7 +209,7 @@ pub fn emit_contents(b: &mut Builder, l: Layout, p: &LockPorts) -> Result<(), No
 
 /// What the addresses and value bits of all slots take next.
 #[tactic(auto, using(crate::proofs::RingGrowth::ready_kept_but))]
-pub fn emit_slots(b: &mut Builder, l: Layout, p: &LockPorts, t: Taken) -> Result<(), NoMemory>
+pub fn emit_slots(b: &mut Builder, l: RingLayout, p: &LockPorts, t: Taken) -> Result<(), NoMemory>
     requires ready { IsReady b.old l p.now t }
     ensures addrs { OnOk result (NextAddrs b.new l (step_signals b.old p.now) l.size) }
     ensures bits { OnOk result (NextBits b.new l (step_signals b.old p.now) l.size) }

@@ -11,7 +11,7 @@ ghost use Rattle.pdl_lock_ring.specs.Registers.{HasRow, IsRowReset, row_of};
 ghost use Rattle.pdl_lock_ring.specs.Looks.{count_signal, second_ticket, room_signal, room2_signal};
 
 use crate::choice::Registers;
-use crate::layout::{Content, Layout, address_bits, ticket_width};
+use crate::layout::{Content, RingLayout, address_bits, ticket_width};
 use pdl_build::Builder;
 use pdl_kit::{MemInfo, NoMemory, Seq};
 use pdl_lockapi::LockRegs;
@@ -20,7 +20,7 @@ use std::alloc::Global;
 
 /// How many writes are pending.
 #[tactic(auto)]
-fn emit_count(b: &mut Builder, l: Layout) -> Result<Net, NoMemory>
+fn emit_count(b: &mut Builder, l: RingLayout) -> Result<Net, NoMemory>
     requires sized { IsSized l }
     requires slots { HasSlots b.old l }
     ensures means { IfOk result (λ x. Means b.new x (count_signal l)) }
@@ -31,7 +31,7 @@ fn emit_count(b: &mut Builder, l: Layout) -> Result<Net, NoMemory>
 
 /// The ticket after the next one.
 #[tactic(auto)]
-pub fn emit_ticket2(b: &mut Builder, l: Layout) -> Result<Net, NoMemory>
+pub fn emit_ticket2(b: &mut Builder, l: RingLayout) -> Result<Net, NoMemory>
     requires sized { IsSized l }
     requires slots { HasSlots b.old l }
     ensures means { IfOk result (λ x. Means b.new x (second_ticket l)) }
@@ -44,7 +44,7 @@ pub fn emit_ticket2(b: &mut Builder, l: Layout) -> Result<Net, NoMemory>
 
 /// Room for one reservation: fewer writes are pending than there are slots.
 #[tactic(auto)]
-pub fn emit_room(b: &mut Builder, l: Layout) -> Result<Net, NoMemory>
+pub fn emit_room(b: &mut Builder, l: RingLayout) -> Result<Net, NoMemory>
     requires sized { IsSized l }
     requires slots { HasSlots b.old l }
     ensures means { IfOk result (λ x. Means b.new x (room_signal l)) }
@@ -57,7 +57,7 @@ pub fn emit_room(b: &mut Builder, l: Layout) -> Result<Net, NoMemory>
 
 /// Room for two reservations.
 #[tactic(auto)]
-pub fn emit_room2(b: &mut Builder, l: Layout) -> Result<Net, NoMemory>
+pub fn emit_room2(b: &mut Builder, l: RingLayout) -> Result<Net, NoMemory>
     requires sized { IsSized l }
     requires slots { HasSlots b.old l }
     ensures means { IfOk result (λ x. Means b.new x (room2_signal l)) }
@@ -91,7 +91,7 @@ pub fn emit_row(b: &mut Builder, r: Registers, start: u64, step: u64) -> Result<
 }
 
 /// A row of registers for the slots, from this one on.
-fn row(l: Layout, first: usize, width: u8) -> Registers
+fn row(l: RingLayout, first: usize, width: u8) -> Registers
     ensures { result ≡ row_of l first width }
 {
     Registers {
@@ -103,7 +103,7 @@ fn row(l: Layout, first: usize, width: u8) -> Registers
 
 /// What the slots hold in the first cycle: 0, or places that are numbered from `place` on.
 #[tactic(auto, using(crate::proofs::Rows::contents_made))]
-fn emit_first_contents(b: &mut Builder, l: Layout, place: u64) -> Result<(), NoMemory>
+fn emit_first_contents(b: &mut Builder, l: RingLayout, place: u64) -> Result<(), NoMemory>
     requires first { length b.old.regs ≡ l.from + 2 + 2 * l.size }
     requires places { l.content ≡ Content.Place → place + l.size ≤ 2 ^ l.kept }
     requires below { place < 2 ^ l.kept }
@@ -125,7 +125,7 @@ fn emit_first_contents(b: &mut Builder, l: Layout, place: u64) -> Result<(), NoM
 
 /// The registers of a layout; in the first cycle head and tail are 0, and places are numbered from `place` on.
 #[tactic(auto, using(crate::proofs::Rows::slots_made, crate::proofs::Rows::reset_made))]
-pub fn emit_registers(b: &mut Builder, l: Layout, place: u64) -> Result<(), NoMemory>
+pub fn emit_registers(b: &mut Builder, l: RingLayout, place: u64) -> Result<(), NoMemory>
     requires from { l.from ≡ length b.old.regs }
     requires places { l.content ≡ Content.Place → place + l.size ≤ 2 ^ l.kept }
     requires below { place < 2 ^ l.kept }
@@ -173,7 +173,7 @@ fn emit_array(b: &mut Builder, mem: &MemInfo) -> Result<Option<usize>, NoMemory>
 
 /// The registers and the array of so many slots for a memory.
 #[tactic(auto, using(crate::proofs::RingGrowth::arrays_extends, crate::proofs::RingGrowth::mem_array_kept, crate::proofs::Sizes::sizes, pdl_net::proofs::Keeps::keeping, pdl_net::proofs::Keeps::keeps_trans))]
-fn emit_layout(b: &mut Builder, size: u8, mem: &MemInfo) -> Result<Layout, NoMemory>
+fn emit_layout(b: &mut Builder, size: u8, mem: &MemInfo) -> Result<RingLayout, NoMemory>
     requires suits { Suits size mem.now }
     ensures layout { IfOk result (λ l. IsLayout size mem.now (length b.old.regs) l) }
     ensures count { IfOk result (λ l. length b.new.regs ≡ l.from + 2 + 3 * l.size) }
@@ -185,7 +185,7 @@ fn emit_layout(b: &mut Builder, size: u8, mem: &MemInfo) -> Result<Layout, NoMem
     ensures keeps { Keeps b.old b.new }
 {
     let array = emit_array(b, mem)?;
-    let l = Layout {
+    let l = RingLayout {
         size: size as usize,
         ticket: ticket_width(size),
         width: mem.width,
@@ -200,7 +200,7 @@ fn emit_layout(b: &mut Builder, size: u8, mem: &MemInfo) -> Result<Layout, NoMem
 }
 
 /// The registers of slot k that only its own reservations and writes change.
-fn slot_registers(alloc: Global, l: Layout, k: usize) -> Result<Seq<usize>, NoMemory>
+fn slot_registers(alloc: Global, l: RingLayout, k: usize) -> Result<Seq<usize>, NoMemory>
     requires sized { IsSized l }
     requires slot_in { k < l.size }
     ensures { IfOk result (λ s. s ≡ slot_numbers l.content l k) }
@@ -216,7 +216,7 @@ fn slot_registers(alloc: Global, l: Layout, k: usize) -> Result<Seq<usize>, NoMe
 
 /// Those of each slot.
 #[tactic(auto, using(crate::proofs::Sizes::slots_push))]
-pub fn slots(alloc: Global, l: Layout) -> Result<Seq<Seq<usize>>, NoMemory>
+pub fn slots(alloc: Global, l: RingLayout) -> Result<Seq<Seq<usize>>, NoMemory>
     requires { IsSized l }
     ensures { IfOk result (λ s. s ≡ slots_of l l.size) }
 {
@@ -233,7 +233,7 @@ pub fn slots(alloc: Global, l: Layout) -> Result<Seq<Seq<usize>>, NoMemory>
 pub fn emit_regs(
     alloc: Global,
     b: &mut Builder,
-    l: Layout,
+    l: RingLayout,
     array: Option<usize>,
     count: usize,
 ) -> Result<LockRegs, NoMemory>

@@ -13,7 +13,7 @@ ghost use Rattle.pdl_lock_ring.specs.Looks.{head_signal};
 ghost use Rattle.pdl_lock_ring.specs.Steps.{next_head, head_after, tail_after, slot_addr, slot_value, oldest_addr, oldest_value, next_addr, next_value, NextEnds, NextValues, WritesArray, two_writes, own_ends, own_array, own_all};
 ghost use Rattle.pdl_lock_ring.specs.Oldest.{AreOldest, AreCommits};
 
-use crate::layout::Layout;
+use crate::layout::RingLayout;
 use crate::slot::{Slot, emit_at, emit_contents, emit_slots};
 use crate::state::emit_ticket2;
 use crate::taken::{Taken, emit_taken};
@@ -31,7 +31,7 @@ pub struct Oldest {
 
 /// The ticket after the oldest one.
 #[tactic(auto)]
-pub fn emit_next_head(b: &mut Builder, l: Layout) -> Result<Net, NoMemory>
+pub fn emit_next_head(b: &mut Builder, l: RingLayout) -> Result<Net, NoMemory>
     requires sized { IsSized l }
     requires slots { HasSlots b.old l }
     ensures means { IfOk result (λ x. Means b.new x (next_head l)) }
@@ -43,7 +43,12 @@ pub fn emit_next_head(b: &mut Builder, l: Layout) -> Result<Net, NoMemory>
 
 /// The two oldest pending writes after the reservations and writes.
 #[tactic(auto, using(crate::proofs::RingGrowth::ready_kept, pdl_lockapi::proofs::LockGrowth::ports))]
-pub fn emit_oldest(b: &mut Builder, l: Layout, p: &LockPorts, t: Taken) -> Result<Oldest, NoMemory>
+pub fn emit_oldest(
+    b: &mut Builder,
+    l: RingLayout,
+    p: &LockPorts,
+    t: Taken,
+) -> Result<Oldest, NoMemory>
     requires ready { IsReady b.old l p.now t }
     ensures oldest { IfOk result (λ o. AreOldest b.new l (step_signals b.old p.now) o) }
     ensures extends { Extends b.old b.new }
@@ -59,7 +64,7 @@ pub fn emit_oldest(b: &mut Builder, l: Layout, p: &LockPorts, t: Taken) -> Resul
 #[tactic(auto)]
 pub fn emit_commit(
     b: &mut Builder,
-    l: Layout,
+    l: RingLayout,
     commit: Net,
     addr: Net,
     value: Net,
@@ -86,7 +91,12 @@ pub fn emit_commit(
 
 /// The commit ports.
 #[tactic(auto, using(crate::proofs::Ends::release_is, crate::proofs::RingGrowth::oldest_kept, pdl_lockapi::proofs::LockGrowth::ports))]
-fn emit_commits(b: &mut Builder, l: Layout, p: &LockPorts, o: Oldest) -> Result<LockNets, NoMemory>
+fn emit_commits(
+    b: &mut Builder,
+    l: RingLayout,
+    p: &LockPorts,
+    o: Oldest,
+) -> Result<LockNets, NoMemory>
     requires given { HasPorts b.old l p.now }
     requires same { l.kept ≡ l.width }
     requires oldest { AreOldest b.old l (step_signals b.old p.now) o }
@@ -107,7 +117,7 @@ fn emit_commits(b: &mut Builder, l: Layout, p: &LockPorts, o: Oldest) -> Result<
 
 /// What the head takes next.
 #[tactic(auto, using(crate::proofs::Ends::afters, crate::proofs::RingGrowth::ports_kept))]
-fn emit_head(b: &mut Builder, l: Layout, p: &LockPorts) -> Result<Net, NoMemory>
+fn emit_head(b: &mut Builder, l: RingLayout, p: &LockPorts) -> Result<Net, NoMemory>
     requires given { HasPorts b.old l p.now }
     ensures means { IfOk result (λ x. Means b.new x (head_after l (step_signals b.old p.now))) }
     ensures wide { IfOk result (λ x. (signal b.new x).width ≡ l.ticket) }
@@ -123,7 +133,7 @@ fn emit_head(b: &mut Builder, l: Layout, p: &LockPorts) -> Result<Net, NoMemory>
 
 /// What the tail takes next.
 #[tactic(auto, using(crate::proofs::Ends::afters, crate::proofs::RingGrowth::ready_kept))]
-fn emit_tail(b: &mut Builder, l: Layout, p: &LockPorts, t: Taken) -> Result<Net, NoMemory>
+fn emit_tail(b: &mut Builder, l: RingLayout, p: &LockPorts, t: Taken) -> Result<Net, NoMemory>
     requires ready { IsReady b.old l p.now t }
     ensures means { IfOk result (λ x. Means b.new x (tail_after l (step_signals b.old p.now))) }
     ensures wide { IfOk result (λ x. (signal b.new x).width ≡ l.ticket) }
@@ -140,7 +150,7 @@ fn emit_tail(b: &mut Builder, l: Layout, p: &LockPorts, t: Taken) -> Result<Net,
 
 /// Sets what head and tail take next.
 #[tactic(auto, using(crate::proofs::RingGrowth::ready_kept))]
-pub fn emit_ends(b: &mut Builder, l: Layout, p: &LockPorts, t: Taken) -> Result<(), NoMemory>
+pub fn emit_ends(b: &mut Builder, l: RingLayout, p: &LockPorts, t: Taken) -> Result<(), NoMemory>
     requires ready { IsReady b.old l p.now t }
     ensures next { OnOk result (NextEnds b.new l (step_signals b.old p.now)) }
     ensures extends { ExtendsBut (own_ends l) b.old b.new }
@@ -166,7 +176,7 @@ fn is_off(b: &Builder, net: Net) -> bool
 /// The writes of a cycle's commits into the array; a second port is made only where there may be a second release.
 fn emit_write(
     b: &mut Builder,
-    l: Layout,
+    l: RingLayout,
     p: &LockPorts,
     o: Oldest,
     m: usize,
@@ -192,7 +202,7 @@ fn emit_write(
 }
 
 /// What the array takes next, where there is one.
-fn emit_writes(b: &mut Builder, l: Layout, p: &LockPorts, o: Oldest) -> Result<(), NoMemory>
+fn emit_writes(b: &mut Builder, l: RingLayout, p: &LockPorts, o: Oldest) -> Result<(), NoMemory>
     requires given { HasPorts b.old l p.now }
     requires same { l.kept ≡ l.width }
     requires empty { HasNoPorts l.array b.old }
@@ -210,7 +220,7 @@ fn emit_writes(b: &mut Builder, l: Layout, p: &LockPorts, o: Oldest) -> Result<(
 }
 
 /// The nets of the commit ports, and what head, tail, slots and array take next.
-fn emit_all(b: &mut Builder, l: Layout, p: &LockPorts) -> Result<LockNets, NoMemory>
+fn emit_all(b: &mut Builder, l: RingLayout, p: &LockPorts) -> Result<LockNets, NoMemory>
     requires given { HasPorts b.old l p.now }
     requires same { l.kept ≡ l.width }
     requires empty { HasNoPorts l.array b.old }
@@ -255,7 +265,7 @@ pub fn emit_step(
         (ticket_bits size) (own r.now) b.new (step_signals b.old p.now) r.now) }
     ensures extends { ExtendsBut (own r.now) b.old b.new }
 {
-    let l = Layout::of(size, r);
+    let l = RingLayout::of(size, r);
     let nets = emit_all(b, l, p)?;
     Ok(nets)
 }

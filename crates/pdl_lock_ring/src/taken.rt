@@ -9,7 +9,7 @@ ghost use Rattle.pdl_lock_ring.specs.Asks.{IsAsked, IsAskedNext};
 ghost use Rattle.pdl_lock_ring.specs.Ready.{HasPorts, IsReady};
 ghost use Rattle.pdl_lock_ring.specs.Slots.{IsSized, HasSlots};
 
-use crate::layout::Layout;
+use crate::layout::RingLayout;
 use crate::look::{by_kind, emit_slot_of};
 use crate::state::emit_ticket2;
 use pdl_build::Builder;
@@ -49,7 +49,7 @@ fn reserve_port(p: &LockPorts, k: usize) -> ReservePort
 #[tactic(auto, using(crate::proofs::Reserves::reserve_is, crate::proofs::Reserves::reserve_width, crate::proofs::Reserves::taken_means))]
 fn emit_ask(
     b: &mut Builder,
-    l: Layout,
+    l: RingLayout,
     p: &LockPorts,
     k: usize,
     before: Asked,
@@ -79,7 +79,7 @@ fn emit_ask(
 
 /// What all reserve ports ask.
 #[tactic(auto, using(crate::proofs::Reserves::asked_none, crate::proofs::Reserves::asked_more, pdl_lockapi::proofs::LockGrowth::ports))]
-fn emit_asked(b: &mut Builder, l: Layout, p: &LockPorts) -> Result<Asked, NoMemory>
+fn emit_asked(b: &mut Builder, l: RingLayout, p: &LockPorts) -> Result<Asked, NoMemory>
     requires given { HasPorts b.old l p.now }
     ensures asked { IfOk result (λ x.
         IsAsked b.new l (step_signals b.old p.now) (length p.now.reserves) x) }
@@ -101,7 +101,7 @@ fn emit_asked(b: &mut Builder, l: Layout, p: &LockPorts) -> Result<Asked, NoMemo
 
 /// The slot of a ticket where a net is 1, else a number that no slot has.
 #[tactic(auto)]
-pub fn emit_gate(b: &mut Builder, l: Layout, on: Net, ticket: Net) -> Result<Net, NoMemory>
+pub fn emit_gate(b: &mut Builder, l: RingLayout, on: Net, ticket: Net) -> Result<Net, NoMemory>
     requires sized { IsSized l }
     requires on { IsThere b.old on }
     requires on_one { (signal b.old on).width ≡ 1 }
@@ -120,7 +120,7 @@ pub fn emit_gate(b: &mut Builder, l: Layout, on: Net, ticket: Net) -> Result<Net
 
 /// The entries that a cycle's reservations take.
 #[tactic(auto, using(crate::proofs::RingGrowth::slots_kept, pdl_lockapi::proofs::LockGrowth::ports))]
-pub fn emit_taken(b: &mut Builder, l: Layout, p: &LockPorts) -> Result<Taken, NoMemory>
+pub fn emit_taken(b: &mut Builder, l: RingLayout, p: &LockPorts) -> Result<Taken, NoMemory>
     requires given { HasPorts b.old l p.now }
     ensures ready { IfOk result (λ t. IsReady b.new l p.now t) }
     ensures extends { Extends b.old b.new }

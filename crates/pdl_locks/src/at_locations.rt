@@ -18,7 +18,7 @@ use crate::uses::{LocationUse, use_at};
 use pdl_kit::{Name, NoMemory};
 use pdl_paths::{Action, Path, Place};
 use pdl_rules_on_paths::PathRule;
-use pdl_syntax_tree::{Kind, Mem, Pipe};
+use pdl_syntax_tree::{AccessKind, Mem, Pipe};
 use std::alloc::Global;
 
 /// What is asked of the places at one location.
@@ -114,11 +114,12 @@ fn lacks_hold(pipe: &Pipe, used: LocationUse, place: &Place<'_>) -> bool
     let hold = used.hold;
     match place.action {
         Action::Block(_) => !hold.is_reserved(),
-        Action::CombRead(_, at) => is_locked(mems, &at.mem.name) && !hold.is_blocked_for(Kind::R),
+        Action::CombRead(_, at) => is_locked(mems, &at.mem.name)
+            && !hold.is_blocked_for(AccessKind::R),
         Action::DelayedRead(_, at) => {
-            is_locked(mems, &at.mem.name) && !hold.is_blocked_for(Kind::R)
+            is_locked(mems, &at.mem.name) && !hold.is_blocked_for(AccessKind::R)
         }
-        Action::Write(_, _) => !hold.is_blocked_for(Kind::W),
+        Action::Write(_, _) => !hold.is_blocked_for(AccessKind::W),
         Action::Release(_) => !hold.is_blocked(),
         Action::Parameter(_) | Action::Memory(_) | Action::Separator | Action::Bind(_, _) => false,
         Action::SpecCall(_, _) | Action::Reserve(_, _) | Action::If(_, _, _) => false,
@@ -146,7 +147,7 @@ fn is_not_written_once(used: LocationUse, place: &Place<'_>) -> bool
         result ≡ spec.is_not_written_once earlier (place_view place.now) }
 {
     match place.action {
-        Action::Release(_) => used.hold.is_held_for(Kind::W) && used.writes != 1,
+        Action::Release(_) => used.hold.is_held_for(AccessKind::W) && used.writes != 1,
         Action::Parameter(_) | Action::Memory(_) | Action::Separator | Action::Bind(_, _) => false,
         Action::CombRead(_, _) | Action::DelayedRead(_, _) | Action::Write(_, _) => false,
         Action::SpecCall(_, _) | Action::Block(_) | Action::Reserve(_, _) => false,

@@ -15,7 +15,7 @@ use crate::uses::{MemoryUse, use_at};
 use pdl_kit::NoMemory;
 use pdl_paths::{Action, Path, Place};
 use pdl_rules_on_paths::PathRule;
-use pdl_syntax_tree::Kind;
+use pdl_syntax_tree::AccessKind;
 use std::alloc::Global;
 
 /// What is asked of the places of one memory.
@@ -88,8 +88,8 @@ fn is_late_read(used: MemoryUse, place: &Place<'_>) -> bool
 {
     match place.action {
         Action::Reserve(_, kind) => match kind {
-            Kind::R => used.reserved,
-            Kind::W => false,
+            AccessKind::R => used.reserved,
+            AccessKind::W => false,
         },
         Action::CombRead(_, _) => used.written,
         Action::DelayedRead(_, _) => used.written,
@@ -108,8 +108,8 @@ fn is_one_too_many(used: MemoryUse, place: &Place<'_>) -> bool
 {
     match place.action {
         Action::Reserve(_, kind) => match kind {
-            Kind::R => used.reads >= 4,
-            Kind::W => used.reserved,
+            AccessKind::R => used.reads >= 4,
+            AccessKind::W => used.reserved,
         },
         Action::Parameter(_) | Action::Memory(_) | Action::Separator | Action::Bind(_, _) => false,
         Action::CombRead(_, _) | Action::DelayedRead(_, _) | Action::Write(_, _) => false,

@@ -13,7 +13,7 @@ use crate::at_locations::is_locked;
 use pdl_kit::NoMemory;
 use pdl_paths::{Action, Guards, Path, Place, location_at};
 use pdl_rules_on_paths::PathRule;
-use pdl_rules_stages::{Sought, among, first_stage, next_on, stage_at};
+use pdl_rules_stages::{SoughtPlace, among, first_stage, next_on, stage_at};
 use pdl_syntax_tree::Pipe;
 use std::alloc::Global;
 
@@ -120,7 +120,7 @@ fn last_stage(
     match location_at(place) {
         Some(at) => {
             if is_locked(pipe.mems.as_slice(), &at.mem.name) {
-                first_stage(places, stages, Sought::Release(&at.mem.name))
+                first_stage(places, stages, SoughtPlace::Release(&at.mem.name))
             } else {
                 None
             }

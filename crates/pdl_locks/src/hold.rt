@@ -7,14 +7,14 @@ ghost use Rattle.pdl_paths.specs.Actions.{location_at as spec_location_at, place
 ghost use Rattle.pdl_locks.specs.Holds.{hold_view};
 
 use pdl_paths::{Action, Place};
-use pdl_syntax_tree::{Kind, Location};
+use pdl_syntax_tree::{AccessKind, Location};
 
 /// What a thread holds of a location.
 #[derive(Clone, Copy)]
 pub enum Hold {
     Nothing,
-    Reserved(Kind),
-    Blocked(Kind),
+    Reserved(AccessKind),
+    Blocked(AccessKind),
     Released,
 }
 
@@ -26,12 +26,12 @@ pub fn same_location(a: &Location, b: &Location) -> bool
 }
 
 /// Whether both are for reading or both for writing.
-pub fn same_kind(a: Kind, b: Kind) -> bool
+pub fn same_kind(a: AccessKind, b: AccessKind) -> bool
     ensures { result ≡ spec.same_kind (kind_view a) (kind_view b) }
 {
     match (a, b) {
-        (Kind::R, Kind::R) | (Kind::W, Kind::W) => true,
-        (Kind::R, Kind::W) | (Kind::W, Kind::R) => false,
+        (AccessKind::R, AccessKind::R) | (AccessKind::W, AccessKind::W) => true,
+        (AccessKind::R, AccessKind::W) | (AccessKind::W, AccessKind::R) => false,
     }
 }
 
@@ -57,7 +57,7 @@ impl Hold {
     }
 
     /// Whether the location is blocked for this kind of use.
-    pub fn is_blocked_for(self, kind: Kind) -> bool
+    pub fn is_blocked_for(self, kind: AccessKind) -> bool
         ensures { result ≡ spec.is_blocked_for (kind_view kind) (hold_view self) }
     {
         match self {
@@ -67,7 +67,7 @@ impl Hold {
     }
 
     /// Whether the location is reserved for this kind of use, blocked or not yet.
-    pub fn is_held_for(self, kind: Kind) -> bool
+    pub fn is_held_for(self, kind: AccessKind) -> bool
         ensures { result ≡ spec.is_held_for (kind_view kind) (hold_view self) }
     {
         match self {

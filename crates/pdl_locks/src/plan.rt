@@ -9,7 +9,7 @@ ghost use Rattle.pdl_locks.specs.Plan as spec;
 
 use pdl_kit::NoMemory;
 use pdl_paths::Place;
-use pdl_rules_stages::{Sought, first_stage};
+use pdl_rules_stages::{SoughtPlace, first_stage};
 use pdl_syntax_tree::{Mem, Pipe};
 use std::alloc::Global;
 use std::marker::Model;
@@ -82,7 +82,7 @@ fn stages_of(places: &[Place<'_>], stages: &[usize], mem: &Mem) -> MemStages
         result ≡ spec.stages_of p (mem_view mem.now) }
 {
     MemStages {
-        reserved: first_stage(places, stages, Sought::Reserve(&mem.name.name)),
-        released: first_stage(places, stages, Sought::Release(&mem.name.name)),
+        reserved: first_stage(places, stages, SoughtPlace::Reserve(&mem.name.name)),
+        released: first_stage(places, stages, SoughtPlace::Release(&mem.name.name)),
     }
 }

@@ -9,7 +9,7 @@ ghost use Rattle.pdl_locks.specs.Uses.{IsUsed, IsUsedMemory};
 
 use crate::hold::{Hold, same_kind};
 use pdl_paths::{Action, Place};
-use pdl_syntax_tree::Kind;
+use pdl_syntax_tree::AccessKind;
 
 /// What was done so far at a location. Writes count up to two.
 #[derive(Clone, Copy)]
@@ -73,8 +73,8 @@ impl MemoryUse {
             IsUsedMemory result l (earlier ++ place_view place.now ∷ []) }
     {
         MemoryUse {
-            reads: up_to(4, self.reads, is_reserve_for(place, Kind::R)),
-            reserved: self.reserved || is_reserve_for(place, Kind::W),
+            reads: up_to(4, self.reads, is_reserve_for(place, AccessKind::R)),
+            reserved: self.reserved || is_reserve_for(place, AccessKind::W),
             written: self.written || is_write(place),
         }
     }
@@ -105,7 +105,7 @@ fn is_reserve(place: &Place<'_>) -> bool
     }
 }
 
-fn is_reserve_for(place: &Place<'_>, kind: Kind) -> bool
+fn is_reserve_for(place: &Place<'_>, kind: AccessKind) -> bool
     ensures { (l : SpecLocation) → spec_location_at (place_view place.now) ≡ Some l →
         result ≡ spec.is_reserve_of (kind_view kind) l.mem.name (place_view place.now) }
 {

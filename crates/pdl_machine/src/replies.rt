@@ -4,12 +4,12 @@ ghost use Rattle.pdl_semantics.specs.Flat as flat;
 ghost use Rattle.pdl_form.specs.View.{mems_view};
 ghost use Rattle.pdl_machine_facts.specs.Ports.{replies_of};
 
-use pdl_form::Mem;
+use pdl_form::FlatMem;
 use pdl_kit::NoMemory;
 use std::alloc::Global;
 
 /// Room for a reply of each delayed memory.
-pub fn no_replies(alloc: Global, mems: &[Mem]) -> Result<Vec<bool>, NoMemory>
+pub fn no_replies(alloc: Global, mems: &[FlatMem]) -> Result<Vec<bool>, NoMemory>
     ensures { IfOk result (λ v.
         length v.items ≡ count_by (λ (x : flat.Mem). x.delayed) (mems_view mems.now)) }
 {

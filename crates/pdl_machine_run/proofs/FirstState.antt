@@ -6,7 +6,7 @@ use Rattle.pdl_semantics.specs.Flat.{Lock, Mem, Stage, Pipe, arrays_of}
 use Rattle.pdl_semantics.specs.Stages.{plain_mem, mem_at}
 use Rattle.pdl_semantics.specs.Machine.{Thread, Pending, Request, NoRequest}
 use Rattle.pdl_semantics.specs.Cycle.{born_thread, first, for_mems, for_stages}
-use Rattle.pdl_form.specs.declared.form.Mem as r_mem
+use Rattle.pdl_form.specs.declared.form.FlatMem as r_mem
 use Rattle.pdl_form.specs.View.{mem_view, mems_view, lock_view}
 use Rattle.pdl_form.specs.Form.{Form}
 use Rattle.pdl_machine_pending.specs.Memory.{Memory}
@@ -93,7 +93,7 @@ first_push p image xs x m n each new k less = by_order (split k m less)
         subst (IsFirst (mem_at p k).lock (slice_index_or image k [])) (sym (last xs x k (omega arith)))
         (subst (λ i. IsFirst (mem_at p i).lock (slice_index_or image i []) x) (sym e) new)
 
-pub lock_at : (p : Pipe) (mems : List r_mem.Mem) (m : ℕ) (x : r_mem.Mem)
+pub lock_at : (p : Pipe) (mems : List r_mem.FlatMem) (m : ℕ) (x : r_mem.FlatMem)
     → mems_view mems ≡ p.mems → m < length mems → x ≡ get_or mems m x → lock_view x.lock ≡ (mem_at p m).lock
 lock_at p mems m x seen h is = ap (λ (d : Mem). d.lock) (seen_at mem_view mems m x plain_mem h is ∙ ap (λ (ds : List Mem). get_or ds m plain_mem) seen)
 

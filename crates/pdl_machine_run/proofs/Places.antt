@@ -3,7 +3,7 @@ use Rattle.std.proofs.Common.{◌≡◌, refl, sym, ap, ap₂, ◌∙◌, ℕ, s
 use Rattle.std.proofs.lemmas.List.{length-map, map-append, take-map, drop-map}
 use Rattle.pdl_semantics.specs.Machine.{HeldLocation}
 use Rattle.pdl_semantics.specs.Machine as machine
-use Rattle.pdl_machine_run.specs.declared.place.Place as r_place
+use Rattle.pdl_machine_run.specs.declared.place.LocationNumbers as r_place
 use Rattle.pdl_machine_run.specs.View.{place_view}
 use Rattle.pdl_machine_run.specs.Places.{place_index}
 
@@ -33,7 +33,7 @@ place_nowhere (l ∷ ls) m a h = here ((l.mem == m) && (l.var == a)) h (λ less.
     here false less more = let one = more (omega arith) in (one.0, ap (λ (xs : List HeldLocation). l ∷ xs) one.1)
 
 -- as the program holds them
-module _ (xs : List r_place.Place) (m a i : ℕ) (same : i ≡ place_index (map place_view xs) m a) where
+module _ (xs : List r_place.LocationNumbers) (m a i : ℕ) (same : i ≡ place_index (map place_view xs) m a) where
   pub gone : i < length xs → map place_view (take i xs ++ drop (i + 1) xs) ≡ machine.let_go (map place_view xs) m a
   gone h =
       let counted : length (map place_view xs) ≡ length xs = length-map _ _ in

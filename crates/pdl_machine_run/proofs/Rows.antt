@@ -3,7 +3,7 @@ use Rattle.std.proofs.Common.{◌≡◌, sym, ap, ◌∙◌, subst, ℕ, ◌+◌
 use Rattle.std.proofs.Math.ListN.{get_or-map}
 use Rattle.std.proofs.lemmas.List.{get_or_default, length-map, drop_more}
 use Rattle.pdl_semantics.specs.Flat.{Stmt, SpecCheck}
-use Rattle.pdl_form.specs.declared.form.Stmt as r_stmt
+use Rattle.pdl_form.specs.declared.form.FlatStmt as r_stmt
 use Rattle.pdl_form.specs.View.{stmt_view, stmts_view}
 use Rattle.pdl_form.specs.Form.{Form, stmt_at}
 use Rattle.pdl_form_types.specs.Stmts.{IsTypedOp, AreTypedStmts}
@@ -17,8 +17,8 @@ seen_at view xs i x d h e =
     let within : i < length (map view xs) = omega arith in
     ap view e ∙ sym (get_or-map view xs i x) ∙ get_or_default (map view xs) i (view x) d within
 
-module _ (f : Form) (stmts : List r_stmt.Stmt) (seen : stmts_view stmts ≡ f.pipe.stmts) (typed : AreTypedStmts f f.pipe.stmts) (rows : List ℕ) (within : (j : ℕ) → j < length rows → slice_index rows j < length f.pipe.stmts)
-    (j : ℕ) (there : j < length rows) (x : r_stmt.Stmt) (is : x ≡ get_or stmts (get_or rows j 0) x) where
+module _ (f : Form) (stmts : List r_stmt.FlatStmt) (seen : stmts_view stmts ≡ f.pipe.stmts) (typed : AreTypedStmts f f.pipe.stmts) (rows : List ℕ) (within : (j : ℕ) → j < length rows → slice_index rows j < length f.pipe.stmts)
+    (j : ℕ) (there : j < length rows) (x : r_stmt.FlatStmt) (is : x ≡ get_or stmts (get_or rows j 0) x) where
   pub row_there : get_or rows j 0 < length stmts
   row_there =
       let mapped : length (stmts_view stmts) ≡ length stmts = length-map _ _ in

@@ -11,7 +11,7 @@ use Rattle.pdl_semantics.specs.Cycle.{or_then, if_kept, born_thread, child_of, s
 use Rattle.pdl_semantics.specs.Cycle as stated
 use Rattle.pdl_machine_facts.specs.Ports.{stage_values, whole_values}
 use Rattle.pdl_form.specs.Form.{Form}
-use Rattle.pdl_machine_run.specs.declared.stage.Slot as r_slot
+use Rattle.pdl_machine_run.specs.declared.stage.ThreadSlot as r_slot
 use Rattle.pdl_machine_run.specs.declared.stage.Stage as r_stage
 use Rattle.pdl_machine_run.specs.declared.deeds.Deeds as r_deeds
 use Rattle.pdl_machine_run.specs.declared.beside.Beside as r_beside
@@ -41,14 +41,14 @@ pub record Turn (f : Form) (b : r_beside.Beside) (bits : List Bool) (next : ℕ)
 
 same_carried : (f : Form) (b : r_beside.Beside) (bits : List Bool) (k : ℕ) (o : Option Thread) (x z : r_stage.Stage)
     → z.slot ≡ x.slot → z.deeds ≡ x.deeds → IsCarried f b bits k o x → IsCarried f b bits k o z
-same_carried f b bits k None x z e g h = ap (λ (s : r_slot.Slot). s.number) e ∙ h
+same_carried f b bits k None x z e g h = ap (λ (s : r_slot.ThreadSlot). s.number) e ∙ h
 same_carried f b bits k (Some t) x z e g h =
     let does : deeds_view z.deeds ≡ deeds_view x.deeds = ap (λ (r : r_deeds.Deeds). deeds_view r) g in
-    (ap (λ (s : r_slot.Slot). thread_in s) e ∙ h.0, does ∙ h.1, h.2, subst (AreFit f) (sym does) h.3)
+    (ap (λ (s : r_slot.ThreadSlot). thread_in s) e ∙ h.0, does ∙ h.1, h.2, subst (AreFit f) (sym does) h.3)
 
 same_stage : (f : Form) (x z : r_stage.Stage) → z.slot ≡ x.slot → z.deeds ≡ x.deeds → IsStage f x → IsStage f z
 same_stage f x z e g h =
-    subst (λ (s : r_slot.Slot). IsStage f (record { slot = s; deeds = z.deeds; moves = z.moves })) (sym e)
+    subst (λ (s : r_slot.ThreadSlot). IsStage f (record { slot = s; deeds = z.deeds; moves = z.moves })) (sym e)
     (subst (λ (r : r_deeds.Deeds). IsStage f (record { slot = x.slot; deeds = r; moves = z.moves })) (sym g) (record { slot = h.slot; count = h.count; deeds = h.deeds }))
 
 same_at : {Y : Type 0} (view : r_stage.Stage → Y) (xs zs : List r_stage.Stage)
@@ -103,7 +103,7 @@ module _ (f : Form) (b : r_beside.Beside) (bits : List Bool) (next : ℕ) (ys zs
   turn_acted : Rattle.pdl_machine_run.proofs.ActedThreads.AllActed f zs
   turn_acted = acted f t.run b bits next ys zs t.beside t.count t.long t.carried t.decided t.reached
 
-  pub turn_child : (way : r_slot.Slot) → IsWide f way → IfSome (child_of ms) (λ args. length args ≤ length way.values.items)
+  pub turn_child : (way : r_slot.ThreadSlot) → IsWide f way → IfSome (child_of ms) (λ args. length args ≤ length way.values.items)
   turn_child way w = args_room f t.run.typed.vars (child_of ms) (length way.values.items) (sym w.count) (child_fits f 0 zs turn_acted)
 
   pub turn_awaits : (k : ℕ) (d : r_stage.Stage) → k < length zs → HasAwaits (get_or zs k d)

@@ -4,14 +4,14 @@ use Rattle.pdl_semantics.specs.Moves.{Act}
 use Rattle.pdl_semantics.specs.Cycle.{with_reserves, oldest}
 use Rattle.pdl_form.specs.Form.{Form}
 use Rattle.pdl_machine_pending.specs.Memory.{Memory}
-use Rattle.pdl_machine_run.specs.declared.stage.Slot as r_slot
+use Rattle.pdl_machine_run.specs.declared.stage.ThreadSlot as r_slot
 use Rattle.pdl_machine_run.specs.declared.stage.Stage as r_stage
 use Rattle.pdl_machine_run.specs.declared.beside.Order as r_order
 use Rattle.pdl_machine_run.specs.Acts.{mover_of, both}
 use Rattle.pdl_machine_run.specs.Room.{capacities, IsLarge}
 
 -- a value for each variable, and room for a guess, and for as many reads as there are statements
-pub record IsWide (f : Form) (s : r_slot.Slot) : Type 0 where
+pub record IsWide (f : Form) (s : r_slot.ThreadSlot) : Type 0 where
   pub count : length s.values.items ≡ length f.widths
   pub guess : length f.pipe.start ≤ vec_capacity s.guess
   pub awaits : length f.pipe.stmts ≤ vec_capacity s.awaits

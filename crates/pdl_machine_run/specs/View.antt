@@ -2,13 +2,13 @@
 use Rattle.std.specs.Prelude.{ℕ, Bool, true, false, List, map, Option, Some, None}
 use Rattle.pdl_semantics.specs.Machine.{Awaited, Kept, Thread, HeldLocation, Blocked, Ask, Deeds, Request, NoRequest, Owned, Orphan}
 use Rattle.pdl_machine_pending.specs.View.{reserved_view, written_view}
-use Rattle.pdl_machine_run.specs.declared.place.Place as r_place
+use Rattle.pdl_machine_run.specs.declared.place.LocationNumbers as r_place
 use Rattle.pdl_machine_run.specs.declared.deeds.Blocked as r_blocked
 use Rattle.pdl_machine_run.specs.declared.deeds.Ask as r_ask
 use Rattle.pdl_machine_run.specs.declared.deeds.Deeds as r_deeds
 use Rattle.pdl_machine_run.specs.declared.stage.Awaited as r_awaited
-use Rattle.pdl_machine_run.specs.declared.stage.Kept as r_kept
-use Rattle.pdl_machine_run.specs.declared.stage.Slot as r_slot
+use Rattle.pdl_machine_run.specs.declared.stage.KeptAnswer as r_kept
+use Rattle.pdl_machine_run.specs.declared.stage.ThreadSlot as r_slot
 use Rattle.pdl_machine_run.specs.declared.stage.Stage as r_stage
 use Rattle.pdl_machine_run.specs.declared.beside.Request as r_request
 use Rattle.pdl_machine_run.specs.declared.beside.Request.TheVariants as r_requests
@@ -17,7 +17,7 @@ use Rattle.pdl_machine_run.specs.declared.beside.Order as r_order
 -- WHAT A STAGE DOES
 
 -- a held location: the memory and the variable
-abbrev pub place_view : r_place.Place → HeldLocation
+abbrev pub place_view : r_place.LocationNumbers → HeldLocation
 place_view l = record { mem = l.mem; var = l.var }
 
 -- a block: the memory, the address, and whether it is for writing
@@ -57,20 +57,20 @@ abbrev pub awaited_view : r_awaited.Awaited → Awaited
 awaited_view r = record { mem = r.mem; var = r.var }
 
 -- an answer that is kept: the variable and the word
-abbrev pub kept_view : r_kept.Kept → Kept
+abbrev pub kept_view : r_kept.KeptAnswer → Kept
 kept_view k = record { var = k.var; word = k.word }
 
 -- the thread that stands there, of this number
-abbrev pub thread_of : ℕ → r_slot.Slot → Thread
+abbrev pub thread_of : ℕ → r_slot.ThreadSlot → Thread
 thread_of number s = record { number = number; env = s.values.items; guess = s.guess.items; awaits = map awaited_view s.awaits.items; kept = map kept_view s.kept.items }
 
 -- if there is one
-abbrev pub thread_if : Option ℕ → r_slot.Slot → Option Thread
+abbrev pub thread_if : Option ℕ → r_slot.ThreadSlot → Option Thread
 thread_if None s = None
 thread_if (Some number) s = Some (thread_of number s)
 
 -- the thread that stands in a slot, if there is one
-abbrev pub thread_in : r_slot.Slot → Option Thread
+abbrev pub thread_in : r_slot.ThreadSlot → Option Thread
 thread_in s = thread_if s.number s
 
 -- who stands in each of these stages

@@ -10,19 +10,19 @@ ghost use Rattle.pdl_machine_run.specs.View.{awaited_view, kept_view, thread_of}
 ghost use Rattle.pdl_machine_run.specs.Outside.{arrays_in, outside};
 
 use crate::beside::{Beside, Request, request_of};
-use crate::stage::{Awaited, Kept, Slot};
-use pdl_form::{FlatPipe, Mem};
+use crate::stage::{Awaited, KeptAnswer, ThreadSlot};
+use pdl_form::{FlatMem, FlatPipe};
 use pdl_machine_pending::Memory;
 
 // The first n of these, or all where there are fewer.
-fn front(mems: &[Mem], n: usize) -> &[Mem]
+fn front(mems: &[FlatMem], n: usize) -> &[FlatMem]
     ensures { mems_view result.now ≡ take n (mems_view mems.now) }
 {
     if n < mems.len() { &mems[..n] } else { mems }
 }
 
 // How many of these are delayed.
-fn delayed_count(mems: &[Mem]) -> usize
+fn delayed_count(mems: &[FlatMem]) -> usize
     ensures value { result ≡ count_by (λ (x : flat.Mem). x.delayed) (mems_view mems.now) }
     ensures most { result ≤ length mems.now }
 {
@@ -80,7 +80,7 @@ fn keep_answers(
     replies: &[bool],
     thread: u64,
     awaits: &[Awaited],
-    kept: &mut Vec<Kept>,
+    kept: &mut Vec<KeptAnswer>,
 )
     requires { vec_len kept.old + length awaits.now ≤ vec_capacity kept.old }
     ensures kept { map kept_view kept.new.items
@@ -90,7 +90,7 @@ fn keep_answers(
 {
     for read in awaits {
         if let Some(word) = answer(pipe, beside, replies, thread, read.mem) {
-            kept.push_reserved(Kept {
+            kept.push_reserved(KeptAnswer {
                 var: read.var,
                 word,
             });
@@ -120,7 +120,7 @@ pub fn give_answers(
     beside: &Beside,
     replies: &[bool],
     thread: u64,
-    slot: &mut Slot,
+    slot: &mut ThreadSlot,
 )
     requires { vec_len slot.old.kept + vec_len slot.old.awaits ≤ vec_capacity slot.old.kept }
     ensures thread { thread_of thread slot.new

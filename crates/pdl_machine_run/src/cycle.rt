@@ -23,7 +23,7 @@ use crate::moves::{call, come_in, move_on, remove_all, squasher};
 use crate::orders::step_orders;
 use crate::requests::{show_requests, step_requests};
 use crate::shown::{show_end, show_stages};
-use crate::stage::{Slot, Stage};
+use crate::stage::{Stage, ThreadSlot};
 use crate::step::step_memories;
 use pdl_form::FlatPipe;
 
@@ -77,7 +77,7 @@ fn step_beside(
 }
 
 // The stages after a cycle, of which the first takes a new thread.
-fn step_stages(pipe: &FlatPipe, squasher: Option<u64>, stages: &mut [Stage], way: &mut Slot)
+fn step_stages(pipe: &FlatPipe, squasher: Option<u64>, stages: &mut [Stage], way: &mut ThreadSlot)
     requires leads { LeadsOn (form pipe.now).pipe }
     requires some { 1 ≤ length stages.old }
     requires count { length stages.old ≡ length (form pipe.now).pipe.stages }
@@ -102,7 +102,7 @@ pub fn cycle(
     replies: &[bool],
     beside: &mut Beside,
     stages: &mut [Stage],
-    way: &mut Slot,
+    way: &mut ThreadSlot,
     next: u64,
     shown: &mut Vec<u64>,
 ) -> bool

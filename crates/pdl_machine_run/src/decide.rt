@@ -16,9 +16,9 @@ ghost use Rattle.pdl_machine_run.specs.declared.beside.Beside as r_beside;
 use crate::answers::is_answered;
 use crate::beside::{Beside, Request, fork_of, request_of};
 use crate::deeds::{Ask, Blocked, Deeds};
-use crate::stage::{Slot, Stage};
+use crate::stage::{Stage, ThreadSlot};
 use crate::ways::{next_stage, stage_at};
-use pdl_form::{Branch, FlatPipe};
+use pdl_form::{FlatBranch, FlatPipe};
 use pdl_machine_pending::{Memory, Reserved};
 
 // Whether the thread in a stage, if there is one, doesn't move with a failing verify.
@@ -229,7 +229,7 @@ fn is_first(first: bool, list: &[bool]) -> bool
 }
 
 // Whether it is a thread's turn to come into a stage with this merge: out of a branch where that is the first of the list, straight from the fork where the list is empty.
-fn may_merge(beside: &Beside, merges: Option<usize>, from: Option<Branch>) -> bool
+fn may_merge(beside: &Beside, merges: Option<usize>, from: Option<FlatBranch>) -> bool
     ensures { result ≡ moves.may_merge (outside beside.now) merges (branch_view from) }
 {
     match (merges, from) {
@@ -272,7 +272,7 @@ fn locks_ready(pipe: &FlatPipe, beside: &Beside, thread: u64, deeds: &Deeds) -> 
 
 // Whether a thread awaits no answer.
 #[tactic(auto, using(crate::proofs::ActLists::nothing_awaited))]
-fn awaits_nothing(slot: &Slot) -> bool
+fn awaits_nothing(slot: &ThreadSlot) -> bool
     ensures { result ≡ moves.is_empty (map awaited_view slot.now.awaits.items) }
 {
     slot.awaits.is_empty()

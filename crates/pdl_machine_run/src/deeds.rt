@@ -8,9 +8,9 @@ ghost use Rattle.pdl_machine_run.specs.View.{place_view, kept_view, deeds_view, 
 ghost use Rattle.pdl_machine_run.specs.Room.{capacities, IsLarge, HasRoomFor, IsEmpty};
 ghost use Rattle.pdl_machine_run.specs.StageDeeds.{nothing_done};
 
-use crate::place::{Place, hold, let_go};
-use crate::stage::{Kept, Slot};
-use pdl_form::{FlatPipe, Op, Stmt};
+use crate::place::{LocationNumbers, hold, let_go};
+use crate::stage::{KeptAnswer, ThreadSlot};
+use pdl_form::{FlatPipe, FlatStmt, Op};
 use pdl_form_values::are_taken;
 use pdl_machine_pending::{Reserved, Written};
 
@@ -34,7 +34,7 @@ pub struct Ask {
 pub struct Deeds {
     pub values: Vec<u64>,
     pub guess: Vec<u64>,
-    pub held: Vec<Place>,
+    pub held: Vec<LocationNumbers>,
     pub blocks: Vec<Blocked>,
     pub reserves: Vec<Reserved>,
     pub writes: Vec<Written>,
@@ -91,7 +91,7 @@ pub fn set_variable(values: &mut [u64], x: usize, word: u64)
 }
 
 // Puts the answers of delayed reads into their variables.
-fn put_answers(kept: &[Kept], values: &mut [u64])
+fn put_answers(kept: &[KeptAnswer], values: &mut [u64])
     ensures { values.new ≡ machine.with_kept (map kept_view kept.now) values.old }
 {
     for answer in kept {
@@ -100,7 +100,7 @@ fn put_answers(kept: &[Kept], values: &mut [u64])
 }
 
 // What is held after an operation.
-fn hold_after(op: &Op, held: &mut Vec<Place>)
+fn hold_after(op: &Op, held: &mut Vec<LocationNumbers>)
     requires { vec_len held.old < vec_capacity held.old }
     ensures held { map place_view held.new.items
         ≡ machine.held_after (act_view op.now) (map place_view held.old.items) }
@@ -117,7 +117,7 @@ fn hold_after(op: &Op, held: &mut Vec<Place>)
 }
 
 // What is held after these statements, of which those on the path in the stages before one count.
-fn hold_before(stmts: &[Stmt], stage: usize, path: &[u64], held: &mut Vec<Place>)
+fn hold_before(stmts: &[FlatStmt], stage: usize, path: &[u64], held: &mut Vec<LocationNumbers>)
     requires { vec_len held.old + length stmts.now ≤ vec_capacity held.old }
     ensures held { map place_view held.new.items
         ≡ machine.held_before stage path.now (stmts_view stmts.now)
@@ -153,7 +153,7 @@ impl Deeds {
     }
 
     /// Nothing is done yet for the thread of a stage, of any number.
-    pub fn begin(&mut self, pipe: &FlatPipe, stage: usize, slot: &Slot)
+    pub fn begin(&mut self, pipe: &FlatPipe, stage: usize, slot: &ThreadSlot)
         requires values { length self.old.values.items ≡ length slot.now.values.items }
         requires large { IsLarge (length (form pipe.now).pipe.stmts)
             (length (form pipe.now).pipe.start) (capacities self.old) }

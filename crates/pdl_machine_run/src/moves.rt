@@ -11,7 +11,7 @@ ghost use Rattle.pdl_machine_run.specs.Ready.{IsWide, IsStage, AreStages, HasAwa
 ghost use Rattle.pdl_machine_run.specs.declared.stage.Stage as r_stage;
 
 use crate::deeds::Ask;
-use crate::stage::{Awaited, Slot, Stage};
+use crate::stage::{Awaited, Stage, ThreadSlot};
 use crate::step::mover;
 use crate::ways::next_stage;
 use pdl_form::FlatPipe;
@@ -198,7 +198,7 @@ pub fn remove_all(squasher: Option<u64>, stages: &mut [Stage])
 }
 
 /// A new thread with these arguments stands in a place.
-pub fn begin(place: &mut Slot, thread: u64, args: &[u64])
+pub fn begin(place: &mut ThreadSlot, thread: u64, args: &[u64])
     requires few { length args.now ≤ length place.old.values.items }
     ensures thread { (p : Pipe) → p.vars ≡ length place.old.values.items →
         thread_in place.new ≡ stated.born_thread p thread (Some args.now) }
@@ -212,7 +212,7 @@ pub fn begin(place: &mut Slot, thread: u64, args: &[u64])
 }
 
 /// The thread that one of those who move has called, if there is one, comes into a place; whether there is.
-pub fn call(stages: &[Stage], thread: u64, place: &mut Slot) -> bool
+pub fn call(stages: &[Stage], thread: u64, place: &mut ThreadSlot) -> bool
     requires few { IfSome (stated.child_of (acts_of 0 stages.now)) (λ args.
         length args ≤ length place.old.values.items) }
     ensures called { result ≡ is_some (stated.child_of (acts_of 0 stages.now)) }
@@ -231,7 +231,7 @@ pub fn call(stages: &[Stage], thread: u64, place: &mut Slot) -> bool
 }
 
 // A new thread, if there is one, comes into a stage.
-fn come_into(stage: &mut Stage, place: &mut Slot)
+fn come_into(stage: &mut Stage, place: &mut ThreadSlot)
     ensures thread { thread_in stage.new.slot
         ≡ stated.or_then (thread_in place.old) (thread_in stage.old.slot) }
     ensures wide { (f : Form) → IsStage f stage.old → IsWide f place.old → IsStage f stage.new }
@@ -243,7 +243,7 @@ fn come_into(stage: &mut Stage, place: &mut Slot)
 }
 
 /// A new thread, if there is one, comes into stage 0.
-pub fn come_in(stages: &mut [Stage], place: &mut Slot)
+pub fn come_in(stages: &mut [Stage], place: &mut ThreadSlot)
     requires some { 1 ≤ length stages.old }
     ensures threads { (q : ℕ) (d : r_stage.Stage) → q < length stages.old →
         thread_in (slice_index_or stages.new q d).slot

@@ -16,7 +16,7 @@ use crate::beside::Order;
 use crate::stage::Stage;
 use crate::step::mover;
 use crate::ways::{next_stage, stage_at};
-use pdl_form::{Branch, FlatPipe, Stage as PipeStage};
+use pdl_form::{FlatBranch, FlatPipe, FlatStage};
 
 // The branch of fork f that a thread comes into as it goes to a stage, if it does.
 fn branch_into(pipe: &FlatPipe, f: usize, to: Option<usize>) -> Option<bool>
@@ -29,7 +29,7 @@ fn branch_into(pipe: &FlatPipe, f: usize, to: Option<usize>) -> Option<bool>
 }
 
 // Which of the branches of fork f this is, if it is one.
-fn branch_of(branch: Option<Branch>, f: usize) -> Option<bool>
+fn branch_of(branch: Option<FlatBranch>, f: usize) -> Option<bool>
     ensures value { listed result ≡ into f (branch_view branch) }
     ensures is { is_some result ≡ stages.is_branch_of (branch_view branch) f }
 {
@@ -87,7 +87,7 @@ fn has_left(pipe: &FlatPipe, stages: &[Stage], f: usize) -> bool
 }
 
 // The stages up to this one, or all where there are fewer.
-fn stages_to(stages: &[PipeStage], last: usize) -> &[PipeStage]
+fn stages_to(stages: &[FlatStage], last: usize) -> &[FlatStage]
     ensures { stages_view result.now ≡ take (suc last) (stages_view stages.now) }
 {
     if last < stages.len() {
@@ -98,7 +98,7 @@ fn stages_to(stages: &[PipeStage], last: usize) -> &[PipeStage]
 }
 
 // Whether one of these stages merges fork f.
-fn merge_among(stages: &[PipeStage], f: usize) -> bool
+fn merge_among(stages: &[FlatStage], f: usize) -> bool
     ensures { result ≡ list_any (λ (x : flat.Stage). merges_fork x.merges f)
         (stages_view stages.now) }
 {

@@ -14,7 +14,7 @@ use crate::deeds::Ask;
 use crate::moves::is_kept;
 use crate::stage::Stage;
 use crate::step::mover;
-use pdl_form::{FlatPipe, Mem};
+use pdl_form::{FlatMem, FlatPipe};
 
 // The request of memory m after these delayed reads of a thread: that of the first that asks it, else the one before.
 fn asked_of(m: usize, thread: u64, asks: &[Ask], old: Request) -> Request
@@ -143,7 +143,7 @@ fn address_asked(m: usize, stages: &[Stage]) -> Option<u64>
 }
 
 // Shows of a delayed memory whether it is asked, and the address, 0 where it isn't.
-fn show_request(mem: &Mem, address: Option<u64>, shown: &mut Vec<u64>)
+fn show_request(mem: &FlatMem, address: Option<u64>, shown: &mut Vec<u64>)
     requires room { vec_len shown.old + 2 ≤ vec_capacity shown.old }
     ensures shown { shown.new.items
         ≡ shown.old.items ++ (if mem.now.delayed then request_values address else []) }
@@ -157,7 +157,7 @@ fn show_request(mem: &Mem, address: Option<u64>, shown: &mut Vec<u64>)
 }
 
 /// Shows the requests of all delayed memories.
-pub fn show_requests(mems: &[Mem], stages: &[Stage], shown: &mut Vec<u64>)
+pub fn show_requests(mems: &[FlatMem], stages: &[Stage], shown: &mut Vec<u64>)
     requires room { vec_len shown.old + 2 * length mems.now ≤ vec_capacity shown.old }
     ensures shown { shown.new.items
         ≡ shown.old.items ++ requests_shown 0 (acts_of 0 stages.now) (mems_view mems.now) }

@@ -13,7 +13,7 @@ use crate::beside::Beside;
 use crate::cycle::cycle;
 use crate::requests::waits;
 use crate::setup::{first_beside, first_stages, outputs, slot, zeros};
-use crate::stage::{Slot, Stage};
+use crate::stage::{Stage, ThreadSlot};
 use pdl_form::FlatPipe;
 use pdl_image::Image;
 use pdl_kit::NoMemory;
@@ -24,7 +24,7 @@ pub struct Run {
     stages: Vec<Stage>,
     beside: Beside,
     // Room for the new thread on its way into stage 0.
-    way: Slot,
+    way: ThreadSlot,
     next: u64,
     shown: Vec<u64>,
     waited: bool,

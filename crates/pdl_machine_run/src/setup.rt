@@ -18,8 +18,8 @@ ghost use Rattle.pdl_machine_run.specs.Outputs.{memory_count, all_memory_count, 
 use crate::beside::{Beside, Order, Request};
 use crate::deeds::Deeds;
 use crate::moves::begin;
-use crate::stage::{Slot, Stage};
-use pdl_form::{FlatPipe, Lock, Mem};
+use crate::stage::{Stage, ThreadSlot};
+use pdl_form::{FlatMem, FlatPipe, Lock};
 use pdl_image::Image;
 use pdl_kit::NoMemory;
 use pdl_machine_pending::Memory;
@@ -73,13 +73,13 @@ pub fn memories(alloc: Global, pipe: &FlatPipe, image: &Image) -> Result<Vec<Mem
 }
 
 /// A place with room for a thread, without one.
-pub fn slot(alloc: Global, pipe: &FlatPipe) -> Result<Slot, NoMemory>
+pub fn slot(alloc: Global, pipe: &FlatPipe) -> Result<ThreadSlot, NoMemory>
     ensures empty { IfOk result (λ s. s.number ≡ None) }
     ensures wide { IfOk result (λ s. IsWide (form pipe.now) s) }
 {
     let vars = pipe.vars();
     let count = pipe.stmts().len();
-    Ok(Slot {
+    Ok(ThreadSlot {
         number: None,
         values: zeros(alloc, vars, vars)?,
         guess: Vec::with_capacity(alloc, pipe.start().len())?,
@@ -199,7 +199,7 @@ pub fn first_beside(alloc: Global, pipe: &FlatPipe, image: &Image) -> Result<Bes
 }
 
 // How many outputs show a memory: its commits where it has a lock, and its requests where it is delayed.
-fn memory_output(mem: &Mem) -> usize
+fn memory_output(mem: &FlatMem) -> usize
     ensures value { result ≡ memory_count (mem_view mem.now) }
     ensures most { result ≤ 5 }
 {
@@ -211,7 +211,7 @@ fn memory_output(mem: &Mem) -> usize
 }
 
 // How many outputs show memories.
-fn memory_outputs(mems: &[Mem]) -> usize
+fn memory_outputs(mems: &[FlatMem]) -> usize
     ensures value { result ≡ all_memory_count (mems_view mems.now) }
     ensures most { result ≤ 5 * length mems.now }
 {

@@ -10,25 +10,25 @@ pub struct Awaited {
 
 /// An answer that came while its thread couldn't move: the number of the variable that it is for, and its word.
 #[derive(Clone, Copy)]
-pub struct Kept {
+pub struct KeptAnswer {
     pub var: usize,
     pub word: u64,
 }
 
 /// A place for a thread: its number or none, its values, the arguments of its guess, the reads that it awaits, and its kept answers.
 #[derive(Drop)]
-pub struct Slot {
+pub struct ThreadSlot {
     pub number: Option<u64>,
     pub values: Vec<u64>,
     pub guess: Vec<u64>,
     pub awaits: Vec<Awaited>,
-    pub kept: Vec<Kept>,
+    pub kept: Vec<KeptAnswer>,
 }
 
 /// A stage: who stands in it, what its statements do in this cycle, and whether its thread moves.
 #[derive(Drop)]
 pub struct Stage {
-    pub slot: Slot,
+    pub slot: ThreadSlot,
     pub deeds: Deeds,
     pub moves: bool,
 }

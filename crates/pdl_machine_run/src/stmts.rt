@@ -14,13 +14,13 @@ ghost use Rattle.pdl_machine_run.specs.Typed.{AreFit, AreMemories};
 
 use crate::deeds::{Ask, Blocked, Deeds, copy_words, set_variable};
 use crate::place::{hold, is_held, let_go};
-use pdl_form::{Expr, FlatPipe, Op, Stmt};
+use pdl_form::{FlatExpr, FlatPipe, FlatStmt, Op};
 use pdl_form_values::{are_taken, value_of, values_of, variable};
 use pdl_machine_pending::{Memory, Reserved, Written};
 use std::mem::swap;
 
 // A variable is bound to the value of an expression.
-fn bind(x: usize, e: &Expr, values: &mut [u64])
+fn bind(x: usize, e: &FlatExpr, values: &mut [u64])
     requires safe { IsSafe (expr_view e.now) values.old }
     ensures { values.new ≡ slice_set values.old x (spec_value_of (expr_view e.now) values.old) }
 {
@@ -131,7 +131,7 @@ fn release(m: usize, a: usize, deeds: &mut Deeds)
 }
 
 // A value is written.
-fn write(m: usize, e: &Expr, deeds: &mut Deeds)
+fn write(m: usize, e: &FlatExpr, deeds: &mut Deeds)
     requires safe { IsSafe (expr_view e.now) (deeds_view deeds.old).env }
     requires room { HasRoomFor 1 deeds.old }
     ensures deeds { deeds_view deeds.new
@@ -149,7 +149,7 @@ fn write(m: usize, e: &Expr, deeds: &mut Deeds)
 }
 
 // A thread is called.
-fn call(args: &[Expr], deeds: &mut Deeds)
+fn call(args: &[FlatExpr], deeds: &mut Deeds)
     requires safe { AreSafe (exprs_view args.now) (deeds_view deeds.old).env }
     requires room { length args.now ≤ vec_capacity deeds.old.args }
     ensures deeds { deeds_view deeds.new
@@ -165,7 +165,7 @@ fn call(args: &[Expr], deeds: &mut Deeds)
 }
 
 // A thread is called by a guess, which is kept.
-fn guess(args: &[Expr], deeds: &mut Deeds)
+fn guess(args: &[FlatExpr], deeds: &mut Deeds)
     requires safe { AreSafe (exprs_view args.now) (deeds_view deeds.old).env }
     requires room { length args.now ≤ vec_capacity deeds.old.args }
     requires guess_room { length args.now ≤ vec_capacity deeds.old.guess }
@@ -197,7 +197,7 @@ fn same_args(these: &[u64], those: &[u64]) -> bool
 }
 
 // A guess is verified: where it was wrong, a thread is called with the right arguments.
-fn verify(args: &[Expr], deeds: &mut Deeds)
+fn verify(args: &[FlatExpr], deeds: &mut Deeds)
     requires safe { AreSafe (exprs_view args.now) (deeds_view deeds.old).env }
     requires room { length args.now ≤ vec_capacity deeds.old.verified }
     requires args_room { length args.now ≤ vec_capacity deeds.old.args }
@@ -243,7 +243,7 @@ fn act(memories: &[Memory], thread: u64, op: &Op, deeds: &mut Deeds)
 }
 
 // What a statement does for a thread: nothing off its path.
-fn run_stmt(memories: &[Memory], thread: u64, stmt: &Stmt, deeds: &mut Deeds)
+fn run_stmt(memories: &[Memory], thread: u64, stmt: &FlatStmt, deeds: &mut Deeds)
     requires safe { all_hold (stmt_view stmt.now).guards (deeds_view deeds.old).env ≡ true →
         IsSafeOp (capacities deeds.old) (stmt_view stmt.now).op (deeds_view deeds.old).env }
     requires room { HasRoomFor 1 deeds.old }

@@ -7,15 +7,15 @@ ghost use Rattle.pdl_form.specs.FormView.{form};
 ghost use Rattle.pdl_machine_run.specs.View.{deeds_view};
 
 use crate::deeds::Deeds;
-use pdl_form::{FlatPipe, Next, Stage};
+use pdl_form::{FlatPipe, FlatStage, Next};
 use pdl_form_values::variable;
 
 /// The stage of a number, past the end one that leads out of the pipe.
-pub fn stage_at(pipe: &FlatPipe, k: usize) -> Stage
+pub fn stage_at(pipe: &FlatPipe, k: usize) -> FlatStage
     ensures { stage_view result ≡ stages.stage_at (form pipe.now).pipe k }
 {
     match pipe.stages().get(k) {
-        None => Stage {
+        None => FlatStage {
             next: Next::Ends,
             branch: None,
             merges: None,

@@ -22,8 +22,8 @@ use Rattle.pdl_net.specs.Holds.{Holds, ImageFits}
 
 -- the memory that an array and the locked memories tell has the array's width and at most its depth
 pub record IsHeld (a : Array) (m : MemInfo) : Type 0 where
-  width : a.width ≡ m.width
-  depth : m.depth ≤ a.depth
+  pub width : a.width ≡ m.width
+  pub depth : m.depth ≤ a.depth
 
 held_in : (a : Array) (m : PortMem)
     → a.width ≡ m.width → (a.depth ≡ 2 ^ m.bits) ⊎ (a.depth ≡ 2 * 2 ^ m.bits) → IsHeld a (comb_info a (Some m))

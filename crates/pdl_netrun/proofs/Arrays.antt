@@ -13,7 +13,7 @@ use Rattle.pdl_net.specs.Meaning.{IsThere}
 use Rattle.pdl_net.specs.Cycle.{net_value, after_writes, arrays_from, next_arrays}
 use Rattle.pdl_net.specs.Well.{IsWell, IsWellWrite, IsWellArray, Suits}
 use Rattle.pdl_net.proofs.Bounds.{bounded}
-use Rattle.pdl_netrun.specs.declared.writes.ArrayWrite.{ArrayWrite}
+use Rattle.pdl_netrun.specs.declared.writes.PlannedWrite.{PlannedWrite}
 use Rattle.pdl_netrun.specs.Steps.{WriteFits, after_write, after_all}
 use Rattle.pdl_netrun.specs.Order.{first_place, place, AllEarly}
 use Rattle.pdl_netrun.specs.Plan.{planned_write, planned_writes, writes_from, HasValues}
@@ -21,7 +21,7 @@ use Rattle.pdl_netrun.proofs.Orders.{all_placed}
 
 -- WRITES ONE AFTER ANOTHER
 
-after_all_append : (ps qs : List ArrayWrite) (vs : List ℕ) (ws : List (List ℕ))
+after_all_append : (ps qs : List PlannedWrite) (vs : List ℕ) (ws : List (List ℕ))
     → after_all (ps ++ qs) vs ws ≡ after_all qs vs (after_all ps vs ws)
 after_all_append [] qs vs ws = refl
 after_all_append (p ∷ ps) qs vs ws = after_all_append ps qs vs (after_write p vs ws)

@@ -8,7 +8,7 @@ use Rattle.pdl_net.specs.Cycle.{output_values, next_regs, next_arrays}
 use Rattle.pdl_net.specs.Holds.{Holds}
 use Rattle.pdl_net.proofs.Holds.{next_holds}
 use Rattle.pdl_netrun.specs.declared.walk.CellRun.{CellRun}
-use Rattle.pdl_netrun.specs.declared.writes.ArrayWrite.{ArrayWrite}
+use Rattle.pdl_netrun.specs.declared.writes.PlannedWrite.{PlannedWrite}
 use Rattle.pdl_netrun.specs.declared.sim.Sim.TheInside.{Inside}
 use Rattle.pdl_netrun.specs.Steps.{StepsFit, AreBelow, WriteFits, after_steps, after_all, array_words, steps_of}
 use Rattle.pdl_netrun.specs.Order.{first_place, AllEarly}
@@ -74,7 +74,7 @@ pub outs_now : (a : Inside) (bits : ℕ) → IsReady a → (vs : List ℕ)
 outs_now a bits r vs f = let w = now_walked a bits r vs f in outputs_read (circuit_of a.net.now) (state_now a bits) r.well r.places vs w.values w.all w.few a.drivers.items r.drivers
 
 -- the planned writes of the arrays fit the values after the walk
-pub writes_now : (a : Inside) (bits : ℕ) → IsReady a → (ps : List ArrayWrite) (vs : List ℕ) (ws : List (Vec ℕ Global))
+pub writes_now : (a : Inside) (bits : ℕ) → IsReady a → (ps : List PlannedWrite) (vs : List ℕ) (ws : List (Vec ℕ Global))
     → ps ≡ a.writes.items → vs ≡ walked_values a bits → ws ≡ a.arrays.items
     → All (λ p. WriteFits p vs (array_words ws)) ps
 writes_now a bits r ps vs ws e f g =
@@ -85,7 +85,7 @@ writes_now a bits r ps vs ws e f g =
 
 -- the arrays after the planned writes are those after the cycle of the circuit
 pub arrays_now : (a : Inside) (bits : ℕ) → IsReady a
-    → (ps : List ArrayWrite) (vs : List ℕ) (ws : List (Vec ℕ Global)) (new : List (List ℕ)) → ps ≡ a.writes.items
+    → (ps : List PlannedWrite) (vs : List ℕ) (ws : List (Vec ℕ Global)) (new : List (List ℕ)) → ps ≡ a.writes.items
     → vs ≡ walked_values a bits → ws ≡ a.arrays.items → new ≡ after_all ps vs (array_words ws)
     → new ≡ next_arrays (circuit_of a.net.now) (state_now a bits)
 arrays_now a bits r ps vs ws new e f g h =

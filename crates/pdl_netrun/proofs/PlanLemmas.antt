@@ -16,9 +16,9 @@ use Rattle.pdl_net.specs.declared.Netlist.{Netlist}
 use Rattle.pdl_net.specs.Circuit.{Circuit, circuit_of, no_reg, no_array, array_at}
 use Rattle.pdl_net.specs.Meaning.{signal, IsThereAt, IsThere}
 use Rattle.pdl_net.specs.Well.{FitsIn, IsWell, IsDriven}
-use Rattle.pdl_netrun.specs.declared.operation.Kind.{Kind}
-use Rattle.pdl_netrun.specs.declared.operation.Operands.{Operands}
-use Rattle.pdl_netrun.specs.declared.order.Order.{Order}
+use Rattle.pdl_netrun.specs.declared.operation.CellKind.{CellKind}
+use Rattle.pdl_netrun.specs.declared.operation.CellOperands.{CellOperands}
+use Rattle.pdl_netrun.specs.declared.order.CellOrder.{CellOrder}
 use Rattle.pdl_netrun.specs.declared.walk.CellRun.{CellRun}
 use Rattle.pdl_netrun.specs.Steps.{Step, steps_with, steps_of}
 use Rattle.pdl_netrun.specs.Order.{IsOrder, IsNetThere}
@@ -37,7 +37,7 @@ pub steps_push : (rs : List CellRun) (r : CellRun) → steps_of (rs ++ r ∷ [])
 steps_push rs r = steps_append rs (r ∷ []) ∙ ap (λ l. steps_of rs ++ l) (append-nil (steps_with r.kind r.operands.items))
 
 -- one cell more in a run
-pub with_push : (kind : Kind) (os : List Operands) (o : Operands)
+pub with_push : (kind : CellKind) (os : List CellOperands) (o : CellOperands)
     → steps_with kind (os ++ o ∷ []) ≡ steps_with kind os ++ step_of kind o ∷ []
 with_push kind [] o = refl
 with_push kind (p ∷ os) o = ap (λ l. step_of kind p ∷ l) (with_push kind os o)
@@ -65,7 +65,7 @@ pub ruleset places = (map_more)
 -- NETS THAT ARE THERE
 
 -- of the netlist of an order
-pub there_in : (o : Order) (n : Netlist) → o.net.now ≡ n → (x : Net) → IsThereAt (circuit_of n) (length n.cells) x → IsNetThere o x
+pub there_in : (o : CellOrder) (n : Netlist) → o.net.now ≡ n → (x : Net) → IsThereAt (circuit_of n) (length n.cells) x → IsNetThere o x
 there_in o n e x h = subst (λ (y : Netlist). IsThereAt (circuit_of y) (length y.cells) x) (sym e) h
 
 -- the net that a register of a well formed circuit takes next is there
@@ -92,7 +92,7 @@ driver_there c xs i p x w h e f g =
 pub ruleset drivers = (drop_more)
 
 -- the nets of the write ports of an array
-pub writes_there : (o : Order) (n : Netlist) (xs : List Array) (m : ℕ) (a : Array) (ps : List WritePort)
+pub writes_there : (o : CellOrder) (n : Netlist) (xs : List Array) (m : ℕ) (a : Array) (ps : List WritePort)
     → IsWell (circuit_of n) → o.net.now ≡ n → m < length n.arrays → xs ≡ n.arrays → a ≡ get_or xs m a → ps ≡ a.writes
     → All (IsWriteThere o) ps
 unfolding IsThere

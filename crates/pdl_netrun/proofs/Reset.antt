@@ -12,7 +12,7 @@ use Rattle.pdl_net.specs.Holds.{Holds, ImageFits}
 use Rattle.pdl_net.proofs.StartState.{holds_start}
 use Rattle.pdl_netrun.specs.Order.{first_place, cell_at, cell_of, unplaced, HasTurn, IsOrder, IsOrderOf, AllEarly, AllPlaced}
 use Rattle.pdl_netrun.specs.Plan.{held_at_start, IsHeld, HasConstants}
-use Rattle.pdl_netrun.specs.declared.order.Order.{Order}
+use Rattle.pdl_netrun.specs.declared.order.CellOrder.{CellOrder}
 use Rattle.pdl_netrun.specs.Sim.{run_at, run_at_start}
 use Rattle.pdl_netrun.specs.Outside.{first_stores}
 
@@ -75,17 +75,17 @@ begun_is n image k regs arrays stores d e f g =
 -- OF A NETLIST
 
 -- what is known of an order of a netlist
-pub record IsOrdered (o : Order) (n : Netlist) : Type 0 where
+pub record IsOrdered (o : CellOrder) (n : Netlist) : Type 0 where
   pub regs : o.regs ≡ length (inputs_of (circuit_of n))
   pub order : IsOrder (circuit_of n) o.cells.items o.places.items
   pub all : AllEarly (circuit_of n) o.places.items (first_place (circuit_of n) + length o.cells.items)
 
 -- where all cells have a place in an order of a netlist, it is an order of all its cells
-pub ordered : (o : Order) (n : Netlist) → o.net.now ≡ n → IsOrderOf o → AllPlaced o → IsOrdered o n
+pub ordered : (o : CellOrder) (n : Netlist) → o.net.now ≡ n → IsOrderOf o → AllPlaced o → IsOrdered o n
 ordered o n e f a = subst (IsOrdered o) e (record { regs = f.regs; order = f.order; all = subst (λ i. AllEarly (circuit_of o.net.now) o.places.items i) f.next a })
 
 -- zeros for inputs and registers, and then what each cell holds at the start, are the first list of values
-pub first_is : (o : Order) (n : Netlist) (front vs : List ℕ) (k : ℕ)
+pub first_is : (o : CellOrder) (n : Netlist) (front vs : List ℕ) (k : ℕ)
     → o.net.now ≡ n → vs ≡ front ++ map (λ i. held_at_start (cell_of o i)) o.cells.items → front ≡ replicate k 0
     → k ≡ first_place (circuit_of n) → vs ≡ first_values (circuit_of n) o.cells.items
 first_is o n front vs k e f g h =

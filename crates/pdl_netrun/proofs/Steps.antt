@@ -2,17 +2,17 @@
 use Rattle.std.proofs.Common.{◌≡◌, ℕ, suc, ◌+◌, ◌<◌, ◌≤◌, List, [], ◌∷◌, ◌++◌, length, get_or, take, drop, set, map, refl, sym, ap, ◌∙◌, subst, arith, length-append}
 use Rattle.std.proofs.lemmas.List.{take_all, map_more, drop_more, drop_all, length-set, length-map}
 use Rattle.std.proofs.lemmas.Grind.{take-set_at}
-use Rattle.pdl_netrun.specs.declared.operation.Kind.{Kind}
-use Rattle.pdl_netrun.specs.declared.operation.Kind.TheVariants as kinds
-use Rattle.pdl_netrun.specs.declared.operation.Operands.{Operands}
+use Rattle.pdl_netrun.specs.declared.operation.CellKind.{CellKind}
+use Rattle.pdl_netrun.specs.declared.operation.CellKind.TheVariants as kinds
+use Rattle.pdl_netrun.specs.declared.operation.CellOperands.{CellOperands}
 use Rattle.pdl_netrun.specs.declared.walk.CellRun.{CellRun}
-use Rattle.pdl_netrun.specs.declared.writes.ArrayWrite.{ArrayWrite}
+use Rattle.pdl_netrun.specs.declared.writes.PlannedWrite.{PlannedWrite}
 use Rattle.pdl_netrun.specs.Steps.{Step, KindFits, StepsFit, steps_with, steps_of, after_kind, after_step, after_steps, after_write, after_all}
 
 -- CELLS OF ONE KIND
 
 -- a cell that stands at k is the first of those from k on
-pub cells_more : (kind : Kind) (os : List Operands) (first k : ℕ) (o : Operands) (vs : List ℕ) (ws : List (List ℕ))
+pub cells_more : (kind : CellKind) (os : List CellOperands) (first k : ℕ) (o : CellOperands) (vs : List ℕ) (ws : List (List ℕ))
     → k < length os → o ≡ get_or os k o
     → after_steps (steps_with kind (drop (k + 1) os)) (first + (k + 1)) (after_kind kind o (first + k) vs ws) ws
     ≡ after_steps (steps_with kind (drop k os)) (first + k) vs ws
@@ -23,18 +23,18 @@ cells_more kind os first k o vs ws h e =
     ∙ sym (ap (λ l. after_steps (steps_with kind l) (first + k) vs ws) (drop_more os k o h))
 
 -- it fits, and so do those after it
-pub cells_fit : (kind : Kind) (os : List Operands) (first k : ℕ) (o : Operands) (vs : List ℕ) (ws : List (List ℕ))
+pub cells_fit : (kind : CellKind) (os : List CellOperands) (first k : ℕ) (o : CellOperands) (vs : List ℕ) (ws : List (List ℕ))
     → k < length os → o ≡ get_or os k o → StepsFit (steps_with kind (drop k os)) (first + k) vs ws
     → KindFits kind o vs ws × StepsFit (steps_with kind (drop (k + 1) os)) (first + (k + 1)) (after_kind kind o (first + k) vs ws) ws
 cells_fit kind os first k o vs ws h e f =
-    let P : List Operands → Type 0 = λ l. StepsFit (steps_with kind l) (first + k) vs ws in
+    let P : List CellOperands → Type 0 = λ l. StepsFit (steps_with kind l) (first + k) vs ws in
     let g : StepsFit (steps_with kind (get_or os k o ∷ drop (k + 1) os)) (first + k) vs ws = subst P (drop_more os k o h) f in
     let n : suc (first + k) ≡ first + (k + 1) = omega arith in
-    let Q : Operands → Type 0 = λ y. KindFits kind y vs ws × StepsFit (steps_with kind (drop (k + 1) os)) (suc (first + k)) (after_kind kind y (first + k) vs ws) ws in
+    let Q : CellOperands → Type 0 = λ y. KindFits kind y vs ws × StepsFit (steps_with kind (drop (k + 1) os)) (suc (first + k)) (after_kind kind y (first + k) vs ws) ws in
     let q : Q o = subst Q (sym e) g in
     (q.0, let R : ℕ → Type 0 = λ j. StepsFit (steps_with kind (drop (k + 1) os)) j (after_kind kind o (first + k) vs ws) ws in subst R n q.1)
 
-pub cells_all : (kind : Kind) (os : List Operands) (first k : ℕ) (vs : List ℕ) (ws : List (List ℕ))
+pub cells_all : (kind : CellKind) (os : List CellOperands) (first k : ℕ) (vs : List ℕ) (ws : List (List ℕ))
     → length os ≤ k → after_steps (steps_with kind (drop k os)) (first + k) vs ws ≡ vs
 cells_all kind os first k vs ws h = ap (λ l. after_steps (steps_with kind l) (first + k) vs ws) (drop_all k os h)
 
@@ -57,12 +57,12 @@ fit_append (x ∷ xs) ys at vs ws f =
     ((f.0, r.0), subst (λ n. StepsFit ys n (after_steps xs (suc at) (after_step x at vs ws) ws) ws) e r.1)
 
 -- constants change nothing
-pub constants_stand : (os : List Operands) (at : ℕ) (vs : List ℕ) (ws : List (List ℕ))
+pub constants_stand : (os : List CellOperands) (at : ℕ) (vs : List ℕ) (ws : List (List ℕ))
     → after_steps (steps_with kinds.Constant os) at vs ws ≡ vs
 constants_stand [] at vs ws = refl
 constants_stand (o ∷ os) at vs ws = constants_stand os (suc at) vs ws
 
-pub with_length : (kind : Kind) (os : List Operands) → length (steps_with kind os) ≡ length os
+pub with_length : (kind : CellKind) (os : List CellOperands) → length (steps_with kind os) ≡ length os
 with_length kind os = simp length-map
 
 -- the steps from the k-th run on
@@ -104,7 +104,7 @@ run_length rs k r h e =
     ∙ ap (λ i. i + length (steps_of (drop (k + 1) rs))) (with_length r.kind r.operands.items)
 
 -- steps leave the number of values
-pub after_kind_length : (kind : Kind) (o : Operands) (at : ℕ) (vs : List ℕ) (ws : List (List ℕ))
+pub after_kind_length : (kind : CellKind) (o : CellOperands) (at : ℕ) (vs : List ℕ) (ws : List (List ℕ))
     → length (after_kind kind o at vs ws) ≡ length vs
 after_kind_length kinds.Constant o at vs ws = refl
 after_kind_length _ o at vs ws = length-set vs at _
@@ -138,14 +138,14 @@ mapped_all f xs ys k e l m = sym (take_all k ys m) ∙ e ∙ ap (map f) (take_al
 pub ruleset reads = (mapped_more, mapped_all)
 
 -- one write more
-pub writes_more : (ps : List ArrayWrite) (k : ℕ) (p : ArrayWrite) (vs : List ℕ) (ws : List (List ℕ))
+pub writes_more : (ps : List PlannedWrite) (k : ℕ) (p : PlannedWrite) (vs : List ℕ) (ws : List (List ℕ))
     → k < length ps → p ≡ get_or ps k p
     → after_all (drop (k + 1) ps) vs (after_write p vs ws) ≡ after_all (drop k ps) vs ws
 writes_more ps k p vs ws h e =
     ap (λ q. after_all (drop (k + 1) ps) vs (after_write q vs ws)) e
     ∙ sym (ap (λ l. after_all l vs ws) (drop_more ps k p h))
 
-pub writes_all : (ps : List ArrayWrite) (k : ℕ) (vs : List ℕ) (ws : List (List ℕ)) → length ps ≤ k → after_all (drop k ps) vs ws ≡ ws
+pub writes_all : (ps : List PlannedWrite) (k : ℕ) (vs : List ℕ) (ws : List (List ℕ)) → length ps ≤ k → after_all (drop k ps) vs ws ≡ ws
 writes_all ps k vs ws h = ap (λ l. after_all l vs ws) (drop_all k ps h)
 
 pub ruleset writes = (writes_more, writes_all)

@@ -17,9 +17,9 @@ use Rattle.pdl_net.specs.Meaning.{signal, cell_signal}
 use Rattle.pdl_net.specs.Well.{FitsIn, IsWell, Suits, IsBounded}
 use Rattle.pdl_net.proofs.CellSignals.{signal_cell}
 use Rattle.pdl_net.proofs.Bounds.{bounded_at}
-use Rattle.pdl_netrun.specs.declared.operation.Kind.{Kind}
-use Rattle.pdl_netrun.specs.declared.operation.Kind.TheVariants as kinds
-use Rattle.pdl_netrun.specs.declared.operation.Operands.{Operands}
+use Rattle.pdl_netrun.specs.declared.operation.CellKind.{CellKind}
+use Rattle.pdl_netrun.specs.declared.operation.CellKind.TheVariants as kinds
+use Rattle.pdl_netrun.specs.declared.operation.CellOperands.{CellOperands}
 use Rattle.pdl_netrun.specs.Kinds.{operator_kind}
 use Rattle.pdl_netrun.specs.Steps.{Step, KindFits, StepsFit, AreWords, after_kind, after_step, after_steps}
 use Rattle.pdl_netrun.specs.Order.{first_place, place, unplaced, IsPlaced, cell_at, IsTurn, HasTurn, IsOrder}
@@ -31,13 +31,13 @@ use Rattle.pdl_word.proofs.Lists.{either}
 -- ONE STEP
 
 -- a step changes no other place, and no number of places
-after_other : (k : Kind) (o : Operands) (at j : ℕ) (vs : List ℕ) (ws : List (List ℕ)) → j ≢ at
+after_other : (k : CellKind) (o : CellOperands) (at j : ℕ) (vs : List ℕ) (ws : List (List ℕ)) → j ≢ at
     → slice_index (after_kind k o at vs ws) j ≡ slice_index vs j
 after_other kinds.Constant o at j vs ws ne = refl
 after_other _ o at j vs ws ne = get_or-set_other vs at j _ 0 ne
 
 -- an operator's cell
-operated : (f : BinOp) (o : Operands) (at : ℕ) (vs : List ℕ) (ws : List (List ℕ))
+operated : (f : BinOp) (o : CellOperands) (at : ℕ) (vs : List ℕ) (ws : List (List ℕ))
     → after_kind (operator_kind f) o at vs ws
     ≡ set vs at (bin_word f o.width (slice_index vs (slice_index o.places 0)) (slice_index vs (slice_index o.places 1)))
 operated op.Add o at vs ws = refl
@@ -52,7 +52,8 @@ operated op.Lt o at vs ws = refl
 operated op.Shl o at vs ws = refl
 operated op.Shr o at vs ws = refl
 
-operation_fits : (f : BinOp) (o : Operands) (vs : List ℕ) (ws : List (List ℕ)) → AreWords o.width o vs → KindFits (operator_kind f) o vs ws
+operation_fits : (f : BinOp) (o : CellOperands) (vs : List ℕ) (ws : List (List ℕ)) → AreWords o.width o vs
+    → KindFits (operator_kind f) o vs ws
 operation_fits op.Add o vs ws h = h
 operation_fits op.Sub o vs ws h = h
 operation_fits op.Mul o vs ws h = h

@@ -6,7 +6,7 @@ use Rattle.pdl_net.specs.declared.Cell.{Cell}
 use Rattle.pdl_net.specs.declared.Cell.TheVariants as cell
 use Rattle.pdl_net.specs.Circuit.{Circuit, circuit_of, inputs_of}
 use Rattle.pdl_net.specs.Meaning.{IsThereAt}
-use Rattle.pdl_netrun.specs.declared.order.Order.{Order}
+use Rattle.pdl_netrun.specs.declared.order.CellOrder.{CellOrder}
 
 -- PLACES
 
@@ -77,45 +77,45 @@ AllEarly c ps n = (k : ℕ) → k < length c.cells → slice_index ps k < n
 -- OF A NETLIST
 
 -- the circuit of the netlist whose cells are being put in order
-abbrev pub order_circuit : Order → Circuit
+abbrev pub order_circuit : CellOrder → Circuit
 order_circuit o = circuit_of o.net.now
 
-pub record IsOrderOf (o : Order) : Type 0 where
+pub record IsOrderOf (o : CellOrder) : Type 0 where
   pub regs : o.regs ≡ length (inputs_of (order_circuit o))
   pub next : o.next ≡ first_place (order_circuit o) + length o.cells.items
   pub arrays : length o.net.now.arrays < unplaced
   pub order : IsOrder (order_circuit o) o.cells.items o.places.items
 
 -- all cells of the netlist have a place before the next one to be given
-abbrev pub AllPlaced : Order → Type 0
+abbrev pub AllPlaced : CellOrder → Type 0
 AllPlaced o = AllEarly (order_circuit o) o.places.items o.next
 
 -- the place of a net, by the places that an order has given so far
-abbrev pub place_in : Order → Net → ℕ
+abbrev pub place_in : CellOrder → Net → ℕ
 place_in o x = place (order_circuit o) o.places.items x
 
 -- a net is an input, a register or a cell of the order's netlist
-abbrev pub IsNetThere : Order → Net → Type 0
+abbrev pub IsNetThere : CellOrder → Net → Type 0
 IsNetThere o x = IsThereAt (order_circuit o) (length o.net.now.cells) x
 
 -- all nets that a cell reads are in the order's netlist
-abbrev pub AreThere : Order → Cell → Type 0
+abbrev pub AreThere : CellOrder → Cell → Type 0
 AreThere o g = Reads (IsNetThere o) g
 
 -- all nets that a cell reads have a place before the next one to be given
-abbrev pub AreEarly : Order → Cell → Type 0
+abbrev pub AreEarly : CellOrder → Cell → Type 0
 AreEarly o g = Reads (IsEarly (order_circuit o) o.places.items o.next) g
 
 -- the k-th cell of the order's netlist
-abbrev pub cell_of : Order → ℕ → Cell
+abbrev pub cell_of : CellOrder → ℕ → Cell
 cell_of o k = cell_at (order_circuit o) k
 
 -- the netlist of an order is as it was
-abbrev pub IsSameNet : Order → Order → Type 0
+abbrev pub IsSameNet : CellOrder → CellOrder → Type 0
 IsSameNet old new = new.net.now ≡ old.net.now
 
 -- a cell has got the next place
-pub record IsNextOf (old : Order) (k : ℕ) (new : Order) : Type 0 where
+pub record IsNextOf (old : CellOrder) (k : ℕ) (new : CellOrder) : Type 0 where
   pub net : new.net.now ≡ old.net.now
   pub places : new.places.items ≡ slice_set old.places.items k old.next
   pub next : new.next ≡ old.next + 1

@@ -7,10 +7,10 @@ use Rattle.pdl_net.specs.declared.WritePort.{WritePort}
 use Rattle.pdl_net.specs.declared.Array.{Array}
 use Rattle.pdl_net.specs.Circuit.{Circuit, State}
 use Rattle.pdl_net.specs.Meaning.{signal}
-use Rattle.pdl_netrun.specs.declared.operation.Kind.{Kind}
-use Rattle.pdl_netrun.specs.declared.operation.Operands.{Operands}
-use Rattle.pdl_netrun.specs.declared.order.Order.{Order}
-use Rattle.pdl_netrun.specs.declared.writes.ArrayWrite.{ArrayWrite}
+use Rattle.pdl_netrun.specs.declared.operation.CellKind.{CellKind}
+use Rattle.pdl_netrun.specs.declared.operation.CellOperands.{CellOperands}
+use Rattle.pdl_netrun.specs.declared.order.CellOrder.{CellOrder}
+use Rattle.pdl_netrun.specs.declared.writes.PlannedWrite.{PlannedWrite}
 use Rattle.pdl_netrun.specs.Kinds.{cell_kind}
 use Rattle.pdl_netrun.specs.Steps.{Step, reading_at}
 use Rattle.pdl_netrun.specs.Order.{place, IsPlaced, IsNetThere, cell_at}
@@ -18,11 +18,11 @@ use Rattle.pdl_netrun.specs.Order.{place, IsPlaced, IsNetThere, cell_at}
 -- STEPS
 
 -- the step of a cell of this kind, with what it reads
-abbrev pub step_of : Kind → Operands → Step
+abbrev pub step_of : CellKind → CellOperands → Step
 step_of k o = record { kind = k; operands = o }
 
 -- what a cell reads
-abbrev pub cell_operands : Circuit → List ℕ → Cell → Operands
+abbrev pub cell_operands : Circuit → List ℕ → Cell → CellOperands
 cell_operands c ps (cell.Const w v) = reading_at 0 0
 cell_operands c ps (cell.Not a) = record { places = place c ps a ∷ place c ps a ∷ []; selector = 0; width = (signal c a).width; high = 0; low = 0; count = 0 }
 cell_operands c ps (cell.Bin o a b) = record { places = place c ps a ∷ place c ps b ∷ []; selector = 0; width = (signal c a).width; high = 0; low = 0; count = 0 }
@@ -44,20 +44,20 @@ held_at_start _ = 0
 -- WRITES
 
 -- a write port of array m, with the places of its nets
-abbrev pub planned_write : Circuit → List ℕ → ℕ → WritePort → ArrayWrite
+abbrev pub planned_write : Circuit → List ℕ → ℕ → WritePort → PlannedWrite
 planned_write c ps m p = record { array = m; enable = place c ps p.enable; addr = place c ps p.addr; value = place c ps p.value }
 
 -- those of arrays of which the first has the number m
-abbrev pub writes_from : Circuit → List ℕ → ℕ → List Array → List ArrayWrite
+abbrev pub writes_from : Circuit → List ℕ → ℕ → List Array → List PlannedWrite
 writes_from c ps m [] = []
 writes_from c ps m (a ∷ rest) = map (planned_write c ps m) a.writes ++ writes_from c ps (suc m) rest
 
 -- the write ports of all arrays of a circuit, with the places of their nets
-abbrev pub planned_writes : Circuit → List ℕ → List ArrayWrite
+abbrev pub planned_writes : Circuit → List ℕ → List PlannedWrite
 planned_writes c ps = writes_from c ps 0 c.arrays
 
 -- the nets of a write port are there
-pub record IsWriteThere (o : Order) (p : WritePort) : Type 0 where
+pub record IsWriteThere (o : CellOrder) (p : WritePort) : Type 0 where
   pub enable : IsNetThere o p.enable
   pub addr : IsNetThere o p.addr
   pub value : IsNetThere o p.value

@@ -2,11 +2,11 @@
 use Rattle.std.specs.Prelude.{◌≡◌, ℕ, suc, ◌-◌, ◌*◌, ◌^◌, ◌<◌, ◌≤◌, ◌==◌, List, [], ◌∷◌, ◌++◌, length, map, slice_index, slice_index_or, slice_set, Vec, All, if◌then◌else◌}
 use Rattle.std.specs.declared.alloc.Global.{Global}
 use Rattle.pdl_word.specs.Words as words
-use Rattle.pdl_netrun.specs.declared.operation.Kind.{Kind}
-use Rattle.pdl_netrun.specs.declared.operation.Kind.TheVariants.{Constant, Complement, Add, Sub, Mul, And, Or, Xor, Equal, Differ, Less, ShiftLeft, ShiftRight, Choose, Slice, Join, Repeat, Look}
-use Rattle.pdl_netrun.specs.declared.operation.Operands.{Operands}
+use Rattle.pdl_netrun.specs.declared.operation.CellKind.{CellKind}
+use Rattle.pdl_netrun.specs.declared.operation.CellKind.TheVariants.{Constant, Complement, Add, Sub, Mul, And, Or, Xor, Equal, Differ, Less, ShiftLeft, ShiftRight, Choose, Slice, Join, Repeat, Look}
+use Rattle.pdl_netrun.specs.declared.operation.CellOperands.{CellOperands}
 use Rattle.pdl_netrun.specs.declared.walk.CellRun.{CellRun}
-use Rattle.pdl_netrun.specs.declared.writes.ArrayWrite.{ArrayWrite}
+use Rattle.pdl_netrun.specs.declared.writes.PlannedWrite.{PlannedWrite}
 
 -- the words of each array
 abbrev pub array_words : List (Vec ℕ Global) → List (List ℕ)
@@ -19,26 +19,26 @@ AreBelow n places = All (λ p. p < n) places
 -- ONE STEP
 
 -- a cell that reads the words at these places
-abbrev pub reading_at : ℕ → ℕ → Operands
+abbrev pub reading_at : ℕ → ℕ → CellOperands
 reading_at a b = record { places = a ∷ b ∷ []; selector = 0; width = 0; high = 0; low = 0; count = 0 }
 
 -- the places of the two words
-abbrev pub first_of : Operands → ℕ
+abbrev pub first_of : CellOperands → ℕ
 first_of o = slice_index o.places 0
 
-abbrev pub second_of : Operands → ℕ
+abbrev pub second_of : CellOperands → ℕ
 second_of o = slice_index o.places 1
 
 -- the words there
-abbrev pub first : Operands → List ℕ → ℕ
+abbrev pub first : CellOperands → List ℕ → ℕ
 first o vs = slice_index vs (first_of o)
 
 -- the word at the second place
-abbrev pub second : Operands → List ℕ → ℕ
+abbrev pub second : CellOperands → List ℕ → ℕ
 second o vs = slice_index vs (second_of o)
 
 -- the value that a cell makes; a constant's stands, and none is made
-abbrev pub kind_value : Kind → Operands → List ℕ → List (List ℕ) → ℕ
+abbrev pub kind_value : CellKind → CellOperands → List ℕ → List (List ℕ) → ℕ
 kind_value Constant o vs ws = 0
 kind_value Complement o vs ws = words.complement o.width (first o vs)
 kind_value Add o vs ws = words.add o.width (first o vs) (second o vs)
@@ -59,19 +59,19 @@ kind_value Repeat o vs ws = words.rep o.width o.count (first o vs)
 kind_value Look o vs ws = slice_index (slice_index_or ws o.selector []) (first o vs)
 
 -- the first place is there, and holds a word of w bits
-pub record IsWord (w : ℕ) (o : Operands) (vs : List ℕ) : Type 0 where
+pub record IsWord (w : ℕ) (o : CellOperands) (vs : List ℕ) : Type 0 where
   pub there : first_of o < length vs
   pub low : 1 ≤ w
   pub high : w ≤ 64
   pub fits : first o vs < 2 ^ w
 
 -- both places are there
-pub record AreThere (o : Operands) (vs : List ℕ) : Type 0 where
+pub record AreThere (o : CellOperands) (vs : List ℕ) : Type 0 where
   pub first : first_of o < length vs
   pub second : second_of o < length vs
 
 -- they hold words of w bits
-pub record AreWords (w : ℕ) (o : Operands) (vs : List ℕ) : Type 0 where
+pub record AreWords (w : ℕ) (o : CellOperands) (vs : List ℕ) : Type 0 where
   pub there : first_of o < length vs
   pub second_there : second_of o < length vs
   pub low : 1 ≤ w
@@ -80,20 +80,20 @@ pub record AreWords (w : ℕ) (o : Operands) (vs : List ℕ) : Type 0 where
   pub second_fits : second o vs < 2 ^ w
 
 -- the two places of a choice are there, and its bit
-pub record IsChoice (o : Operands) (vs : List ℕ) : Type 0 where
+pub record IsChoice (o : CellOperands) (vs : List ℕ) : Type 0 where
   pub count : length o.places ≡ 2
   pub bit_there : o.selector < length vs
   pub bit_fits : slice_index vs o.selector < 2
   pub each : (i : ℕ) → i < 2 → slice_index o.places i < length vs
 
 -- the first place holds the address of a word of the array
-pub record IsAddress (o : Operands) (vs : List ℕ) (ws : List (List ℕ)) : Type 0 where
+pub record IsAddress (o : CellOperands) (vs : List ℕ) (ws : List (List ℕ)) : Type 0 where
   pub there : first_of o < length vs
   pub array : o.selector < length ws
   pub within : first o vs < length (slice_index_or ws o.selector [])
 
 -- the first place's word is joined above another that leaves it room
-pub record AreJoined (o : Operands) (vs : List ℕ) : Type 0 where
+pub record AreJoined (o : CellOperands) (vs : List ℕ) : Type 0 where
   pub there : first_of o < length vs
   pub second_there : second_of o < length vs
   pub some : 1 ≤ o.low
@@ -102,19 +102,19 @@ pub record AreJoined (o : Operands) (vs : List ℕ) : Type 0 where
   pub second_fits : second o vs < 2 ^ o.low
 
 -- the first place is there, and the bits from high down to low are bits of a word
-pub record IsSliced (o : Operands) (vs : List ℕ) : Type 0 where
+pub record IsSliced (o : CellOperands) (vs : List ℕ) : Type 0 where
   pub there : first_of o < length vs
   pub order : o.low ≤ o.high
   pub top : o.high < 64
 
 -- the first place's word is repeated within 64 bits
-pub record IsRepeated (o : Operands) (vs : List ℕ) : Type 0 where
+pub record IsRepeated (o : CellOperands) (vs : List ℕ) : Type 0 where
   pub word : IsWord o.width o vs
   pub some : 1 ≤ o.count
   pub room : o.count * o.width ≤ 64
 
 -- a cell of this kind reads places that are there, and its words are as wide as it takes them to be
-abbrev pub KindFits : Kind → Operands → List ℕ → List (List ℕ) → Type 0
+abbrev pub KindFits : CellKind → CellOperands → List ℕ → List (List ℕ) → Type 0
 KindFits Constant o vs ws = Unit {0}
 KindFits Complement o vs ws = IsWord o.width o vs
 KindFits Add o vs ws = AreWords o.width o vs
@@ -135,7 +135,7 @@ KindFits Repeat o vs ws = IsRepeated o vs
 KindFits Look o vs ws = IsAddress o vs ws
 
 -- the values after a cell of this kind gave its value to a place; a constant's stands
-abbrev pub after_kind : Kind → Operands → ℕ → List ℕ → List (List ℕ) → List ℕ
+abbrev pub after_kind : CellKind → CellOperands → ℕ → List ℕ → List (List ℕ) → List ℕ
 after_kind Constant o at vs ws = vs
 after_kind k o at vs ws = slice_set vs at (kind_value k o vs ws)
 
@@ -143,11 +143,11 @@ after_kind k o at vs ws = slice_set vs at (kind_value k o vs ws)
 
 -- what one cell does
 pub record Step : Type 0 where
-  pub kind : Kind
-  pub operands : Operands
+  pub kind : CellKind
+  pub operands : CellOperands
 
 -- the steps of cells of one kind
-abbrev pub steps_with : Kind → List Operands → List Step
+abbrev pub steps_with : CellKind → List CellOperands → List Step
 steps_with k os = map (λ o. record { kind = k; operands = o }) os
 
 -- the steps of runs, one after another
@@ -172,19 +172,19 @@ StepsFit (x ∷ xs) at vs ws = KindFits x.kind x.operands vs ws × StepsFit xs (
 -- WRITES
 
 -- the arrays after one write
-abbrev pub after_write : ArrayWrite → List ℕ → List (List ℕ) → List (List ℕ)
+abbrev pub after_write : PlannedWrite → List ℕ → List (List ℕ) → List (List ℕ)
 after_write p vs ws =
     if slice_index vs p.enable == 1
     then slice_set ws p.array (slice_set (slice_index_or ws p.array []) (slice_index vs p.addr) (slice_index vs p.value))
     else ws
 
 -- and after some, the later last
-abbrev pub after_all : List ArrayWrite → List ℕ → List (List ℕ) → List (List ℕ)
+abbrev pub after_all : List PlannedWrite → List ℕ → List (List ℕ) → List (List ℕ)
 after_all [] vs ws = ws
 after_all (p ∷ ps) vs ws = after_all ps vs (after_write p vs ws)
 
 -- a write's places are there, and its address is within its array, as in the arrays at the start
-pub record WriteFits (p : ArrayWrite) (vs : List ℕ) (ws : List (List ℕ)) : Type 0 where
+pub record WriteFits (p : PlannedWrite) (vs : List ℕ) (ws : List (List ℕ)) : Type 0 where
   pub enable : p.enable < length vs
   pub addr : p.addr < length vs
   pub value : p.value < length vs

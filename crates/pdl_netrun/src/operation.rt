@@ -5,7 +5,7 @@ ghost use Rattle.pdl_netrun.specs.Steps.{KindFits, kind_value, after_kind, array
 
 /// What a cell does, apart from what it reads.
 #[derive(Clone, Copy, PartialEq, Eq)]
-pub enum Kind {
+pub enum CellKind {
     /// Nothing, since the value of a constant stands.
     Constant,
     Complement,
@@ -29,7 +29,7 @@ pub enum Kind {
 
 /// What a cell reads, and the widths that it goes by; its kind says which of these it looks at.
 #[derive(Clone, Copy)]
-pub struct Operands {
+pub struct CellOperands {
     /// The places of the two words, of a choice that for 0 first; one that reads one word has it first.
     pub places: [u32; 2],
     /// The place of a choice's bit, or the number of the array.
@@ -44,12 +44,12 @@ pub struct Operands {
     pub count: u8,
 }
 
-impl Operands {
+impl CellOperands {
     /// A cell that reads the words at these places.
-    pub fn reading(first: u32, second: u32) -> Operands
+    pub fn reading(first: u32, second: u32) -> CellOperands
         ensures { result ≡ reading_at first second }
     {
-        Operands {
+        CellOperands {
             places: [first, second],
             selector: 0,
             width: 0,
@@ -60,10 +60,10 @@ impl Operands {
     }
 
     /// A cell that reads the one word at this place.
-    pub fn reading_one(place: u32) -> Operands
+    pub fn reading_one(place: u32) -> CellOperands
         ensures { result ≡ reading_at place place }
     {
-        Operands::reading(place, place)
+        CellOperands::reading(place, place)
     }
 
     /// The word at the first place.
@@ -86,19 +86,19 @@ impl Operands {
 /// How a kind of cells that aren't constants makes its value.
 ///
 /// A loop over cells of one kind is generic over it, so that it asks for the kind once and not for each cell.
-pub trait Operation {
-    ghost use Rattle.pdl_netrun.specs.declared.operation.Kind.{Kind};
-    ghost use Rattle.pdl_netrun.specs.declared.operation.Operands.{Operands};
+pub trait CellOperation {
+    ghost use Rattle.pdl_netrun.specs.declared.operation.CellKind.{CellKind};
+    ghost use Rattle.pdl_netrun.specs.declared.operation.CellOperands.{CellOperands};
 
     /// The kind of its cells.
-    ghost kind: { Kind };
+    ghost kind: { CellKind };
 
     /// The value that a cell makes.
-    fn value(operands: &Operands, values: &[u64], arrays: &[Vec<u64>]) -> u64
+    fn value(operands: &CellOperands, values: &[u64], arrays: &[Vec<u64>]) -> u64
         requires { KindFits kind operands.now values.now (array_words arrays.now) }
         ensures { result ≡ kind_value kind operands.now values.now (array_words arrays.now) };
 
     /// A cell's place has this value afterwards.
-    ghost acts: { (o : Operands) (at : ℕ) (vs : List ℕ) (ws : List (List ℕ)) →
+    ghost acts: { (o : CellOperands) (at : ℕ) (vs : List ℕ) (ws : List (List ℕ)) →
         after_kind kind o at vs ws ≡ slice_set vs at (kind_value kind o vs ws) };
 }

@@ -3,9 +3,9 @@
 ghost use Rattle.std.specs.Prelude.{◌≡◌, ◌<◌, ◌≤◌, ◌%◌, ◌^◌, refl};
 ghost use Rattle.pdl_word.specs.Words.{rep};
 ghost use Rattle.pdl_netrun.specs.Steps.{KindFits, kind_value, array_words};
-ghost use Rattle.pdl_netrun.specs.declared.operation.Kind.TheVariants as kinds;
+ghost use Rattle.pdl_netrun.specs.declared.operation.CellKind.TheVariants as kinds;
 
-use crate::operation::{Kind, Operands, Operation};
+use crate::operation::{CellKind, CellOperands, CellOperation};
 
 /// The lowest `width` bits of a word.
 #[tactic(auto, using(crate::proofs::Bits::top_off))]
@@ -31,10 +31,10 @@ fn repeated_bit(count: u8, bit: u64) -> u64
 
 pub struct Complement;
 
-impl Operation for Complement {
+impl CellOperation for Complement {
     ghost kind = { kinds.Complement };
 
-    fn value(operands: &Operands, values: &[u64], arrays: &[Vec<u64>]) -> u64 {
+    fn value(operands: &CellOperands, values: &[u64], arrays: &[Vec<u64>]) -> u64 {
         pdl_word::complement(operands.width, operands.first(values))
     }
 
@@ -43,11 +43,11 @@ impl Operation for Complement {
 
 pub struct Add;
 
-impl Operation for Add {
+impl CellOperation for Add {
     ghost kind = { kinds.Add };
 
     #[tactic(auto, using(crate::proofs::Bits::added))]
-    fn value(operands: &Operands, values: &[u64], arrays: &[Vec<u64>]) -> u64 {
+    fn value(operands: &CellOperands, values: &[u64], arrays: &[Vec<u64>]) -> u64 {
         let sum = operands.first(values).wrapping_add(operands.second(values));
         low_bits(operands.width, sum)
     }
@@ -57,11 +57,11 @@ impl Operation for Add {
 
 pub struct Sub;
 
-impl Operation for Sub {
+impl CellOperation for Sub {
     ghost kind = { kinds.Sub };
 
     #[tactic(auto, using(crate::proofs::Bits::subtracted))]
-    fn value(operands: &Operands, values: &[u64], arrays: &[Vec<u64>]) -> u64 {
+    fn value(operands: &CellOperands, values: &[u64], arrays: &[Vec<u64>]) -> u64 {
         let difference = operands.first(values).wrapping_sub(operands.second(values));
         low_bits(operands.width, difference)
     }
@@ -71,11 +71,11 @@ impl Operation for Sub {
 
 pub struct Mul;
 
-impl Operation for Mul {
+impl CellOperation for Mul {
     ghost kind = { kinds.Mul };
 
     #[tactic(auto, using(crate::proofs::Bits::multiplied))]
-    fn value(operands: &Operands, values: &[u64], arrays: &[Vec<u64>]) -> u64 {
+    fn value(operands: &CellOperands, values: &[u64], arrays: &[Vec<u64>]) -> u64 {
         let product = operands.first(values).wrapping_mul(operands.second(values));
         low_bits(operands.width, product)
     }
@@ -85,11 +85,11 @@ impl Operation for Mul {
 
 pub struct And;
 
-impl Operation for And {
+impl CellOperation for And {
     ghost kind = { kinds.And };
 
     #[tactic(auto, unfolding(pdl_word::specs::Words::and))]
-    fn value(operands: &Operands, values: &[u64], arrays: &[Vec<u64>]) -> u64 {
+    fn value(operands: &CellOperands, values: &[u64], arrays: &[Vec<u64>]) -> u64 {
         operands.first(values) & operands.second(values)
     }
 
@@ -98,11 +98,11 @@ impl Operation for And {
 
 pub struct Or;
 
-impl Operation for Or {
+impl CellOperation for Or {
     ghost kind = { kinds.Or };
 
     #[tactic(auto, unfolding(pdl_word::specs::Words::or))]
-    fn value(operands: &Operands, values: &[u64], arrays: &[Vec<u64>]) -> u64 {
+    fn value(operands: &CellOperands, values: &[u64], arrays: &[Vec<u64>]) -> u64 {
         operands.first(values) | operands.second(values)
     }
 
@@ -111,11 +111,11 @@ impl Operation for Or {
 
 pub struct Xor;
 
-impl Operation for Xor {
+impl CellOperation for Xor {
     ghost kind = { kinds.Xor };
 
     #[tactic(auto, unfolding(pdl_word::specs::Words::xor))]
-    fn value(operands: &Operands, values: &[u64], arrays: &[Vec<u64>]) -> u64 {
+    fn value(operands: &CellOperands, values: &[u64], arrays: &[Vec<u64>]) -> u64 {
         operands.first(values) ^ operands.second(values)
     }
 
@@ -124,10 +124,10 @@ impl Operation for Xor {
 
 pub struct Equal;
 
-impl Operation for Equal {
+impl CellOperation for Equal {
     ghost kind = { kinds.Equal };
 
-    fn value(operands: &Operands, values: &[u64], arrays: &[Vec<u64>]) -> u64 {
+    fn value(operands: &CellOperands, values: &[u64], arrays: &[Vec<u64>]) -> u64 {
         pdl_word::equal(operands.first(values), operands.second(values))
     }
 
@@ -136,10 +136,10 @@ impl Operation for Equal {
 
 pub struct Differ;
 
-impl Operation for Differ {
+impl CellOperation for Differ {
     ghost kind = { kinds.Differ };
 
-    fn value(operands: &Operands, values: &[u64], arrays: &[Vec<u64>]) -> u64 {
+    fn value(operands: &CellOperands, values: &[u64], arrays: &[Vec<u64>]) -> u64 {
         pdl_word::differ(operands.first(values), operands.second(values))
     }
 
@@ -148,10 +148,10 @@ impl Operation for Differ {
 
 pub struct Less;
 
-impl Operation for Less {
+impl CellOperation for Less {
     ghost kind = { kinds.Less };
 
-    fn value(operands: &Operands, values: &[u64], arrays: &[Vec<u64>]) -> u64 {
+    fn value(operands: &CellOperands, values: &[u64], arrays: &[Vec<u64>]) -> u64 {
         pdl_word::less(operands.first(values), operands.second(values))
     }
 
@@ -160,11 +160,11 @@ impl Operation for Less {
 
 pub struct ShiftLeft;
 
-impl Operation for ShiftLeft {
+impl CellOperation for ShiftLeft {
     ghost kind = { kinds.ShiftLeft };
 
     #[tactic(auto, using(crate::proofs::Bits::moved_up, pdl_word::proofs::Shifts::shl_past))]
-    fn value(operands: &Operands, values: &[u64], arrays: &[Vec<u64>]) -> u64 {
+    fn value(operands: &CellOperands, values: &[u64], arrays: &[Vec<u64>]) -> u64 {
         // The word is moved in any case, so that no jump hangs on a value.
         let by = operands.second(values);
         let moved = low_bits(operands.width, operands.first(values) << (by % 64));
@@ -180,11 +180,11 @@ impl Operation for ShiftLeft {
 
 pub struct ShiftRight;
 
-impl Operation for ShiftRight {
+impl CellOperation for ShiftRight {
     ghost kind = { kinds.ShiftRight };
 
     #[tactic(auto, using(crate::proofs::Bits::moved_down, pdl_word::proofs::Shifts::shr_past))]
-    fn value(operands: &Operands, values: &[u64], arrays: &[Vec<u64>]) -> u64 {
+    fn value(operands: &CellOperands, values: &[u64], arrays: &[Vec<u64>]) -> u64 {
         let by = operands.second(values);
         let moved = operands.first(values) >> (by % 64);
         if by < u64::from(operands.width) {
@@ -199,10 +199,10 @@ impl Operation for ShiftRight {
 
 pub struct Choose;
 
-impl Operation for Choose {
+impl CellOperation for Choose {
     ghost kind = { kinds.Choose };
 
-    fn value(operands: &Operands, values: &[u64], arrays: &[Vec<u64>]) -> u64 {
+    fn value(operands: &CellOperands, values: &[u64], arrays: &[Vec<u64>]) -> u64 {
         let choice = values[operands.selector as usize];
         values[operands.places[choice as usize] as usize]
     }
@@ -212,11 +212,11 @@ impl Operation for Choose {
 
 pub struct Slice;
 
-impl Operation for Slice {
+impl CellOperation for Slice {
     ghost kind = { kinds.Slice };
 
     #[tactic(auto, using(crate::proofs::Bits::sliced))]
-    fn value(operands: &Operands, values: &[u64], arrays: &[Vec<u64>]) -> u64 {
+    fn value(operands: &CellOperands, values: &[u64], arrays: &[Vec<u64>]) -> u64 {
         low_bits(operands.high + 1, operands.first(values)) >> operands.low
     }
 
@@ -225,10 +225,10 @@ impl Operation for Slice {
 
 pub struct Join;
 
-impl Operation for Join {
+impl CellOperation for Join {
     ghost kind = { kinds.Join };
 
-    fn value(operands: &Operands, values: &[u64], arrays: &[Vec<u64>]) -> u64 {
+    fn value(operands: &CellOperands, values: &[u64], arrays: &[Vec<u64>]) -> u64 {
         pdl_word::cat(
             operands.low,
             operands.first(values),
@@ -241,10 +241,10 @@ impl Operation for Join {
 
 pub struct Repeat;
 
-impl Operation for Repeat {
+impl CellOperation for Repeat {
     ghost kind = { kinds.Repeat };
 
-    fn value(operands: &Operands, values: &[u64], arrays: &[Vec<u64>]) -> u64 {
+    fn value(operands: &CellOperands, values: &[u64], arrays: &[Vec<u64>]) -> u64 {
         let word = operands.first(values);
         // One bit, as the sign of a number, is what is repeated most.
         if operands.width == 1 {
@@ -259,11 +259,11 @@ impl Operation for Repeat {
 
 pub struct Look;
 
-impl Operation for Look {
+impl CellOperation for Look {
     ghost kind = { kinds.Look };
 
     #[tactic(auto, using(crate::proofs::Words::words))]
-    fn value(operands: &Operands, values: &[u64], arrays: &[Vec<u64>]) -> u64 {
+    fn value(operands: &CellOperands, values: &[u64], arrays: &[Vec<u64>]) -> u64 {
         let words = &arrays[operands.selector as usize];
         words[operands.first(values) as usize]
     }

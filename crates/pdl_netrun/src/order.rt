@@ -7,7 +7,7 @@ ghost use Rattle.pdl_netrun.specs.Order.{IsOrderOf, IsSameNet, IsNextOf, AllPlac
 ghost use Rattle.pdl_netrun.specs.Kinds.{cell_kind};
 
 use crate::kinds::kind_of;
-use crate::operation::Kind;
+use crate::operation::CellKind;
 use pdl_kit::NoMemory;
 use pdl_net::{Cell, Dir, Net, Netlist};
 use std::alloc::Global;
@@ -19,32 +19,32 @@ const UNPLACED: u32 = u32::MAX;
 const RUNS: u32 = 64;
 
 /// The kinds of cells, in the order in which runs are tried.
-const KINDS: [Kind; 18] = [
-    Kind::Constant,
-    Kind::Complement,
-    Kind::Add,
-    Kind::Sub,
-    Kind::Mul,
-    Kind::And,
-    Kind::Or,
-    Kind::Xor,
-    Kind::Equal,
-    Kind::Differ,
-    Kind::Less,
-    Kind::ShiftLeft,
-    Kind::ShiftRight,
-    Kind::Choose,
-    Kind::Slice,
-    Kind::Join,
-    Kind::Repeat,
-    Kind::Look,
+const KINDS: [CellKind; 18] = [
+    CellKind::Constant,
+    CellKind::Complement,
+    CellKind::Add,
+    CellKind::Sub,
+    CellKind::Mul,
+    CellKind::And,
+    CellKind::Or,
+    CellKind::Xor,
+    CellKind::Equal,
+    CellKind::Differ,
+    CellKind::Less,
+    CellKind::ShiftLeft,
+    CellKind::ShiftRight,
+    CellKind::Choose,
+    CellKind::Slice,
+    CellKind::Join,
+    CellKind::Repeat,
+    CellKind::Look,
 ];
 
 /// The places of the values of a netlist, and its cells in the order of their places.
 ///
 /// Inputs stand first, then registers, then cells.
 #[derive(Drop)]
-pub struct Order<'a> {
+pub struct CellOrder<'a> {
     net: &'a Netlist,
     /// The place of the first register.
     pub regs: u32,
@@ -56,9 +56,9 @@ pub struct Order<'a> {
     pub cells: Vec<usize>,
 }
 
-impl<'a> Order<'a> {
+impl<'a> CellOrder<'a> {
     /// An order in which no cell has a place yet.
-    fn new(alloc: Global, net: &'a Netlist) -> Result<Order<'a>, NoMemory>
+    fn new(alloc: Global, net: &'a Netlist) -> Result<CellOrder<'a>, NoMemory>
         ensures order { IfOk result IsOrderOf }
         ensures net { IfOk result (λ o. o.net.now ≡ net.now) }
     {
@@ -69,7 +69,7 @@ impl<'a> Order<'a> {
             return Err(NoMemory);
         }
         let places = vec![in alloc; UNPLACED; net.cells.len()]?;
-        Ok(Order {
+        Ok(CellOrder {
             net,
             regs: inputs as u32,
             next: (inputs + regs) as u32,
@@ -149,7 +149,7 @@ impl<'a> Order<'a> {
     }
 
     /// Gives the next places to the cells of a kind, as far as all that they read has one.
-    fn place_kind(&mut self, kind: Kind) -> Result<(), NoMemory>
+    fn place_kind(&mut self, kind: CellKind) -> Result<(), NoMemory>
         requires well { IsWell (order_circuit self.old) }
         requires order { IsOrderOf self.old }
         ensures order { OnOk result (IsOrderOf self.new) }
@@ -213,7 +213,7 @@ impl<'a> Order<'a> {
     }
 
     /// How many cells a run of a kind would have, of how many of the kind that have no place yet; `run` tells which they are.
-    fn share(&self, kind: Kind, run: &mut [bool]) -> Share
+    fn share(&self, kind: CellKind, run: &mut [bool]) -> Share
         requires well { IsWell (order_circuit self.now) }
         requires order { IsOrderOf self.now }
         requires run { length run.old ≡ length self.now.net.now.cells }
@@ -232,7 +232,7 @@ impl<'a> Order<'a> {
     }
 
     /// The kind of which a run would have the greatest share of the cells that are left, if some run would have any.
-    fn best_kind(&self, run: &mut [bool]) -> Option<Kind>
+    fn best_kind(&self, run: &mut [bool]) -> Option<CellKind>
         requires well { IsWell (order_circuit self.now) }
         requires order { IsOrderOf self.now }
         requires run { length run.old ≡ length self.now.net.now.cells }
@@ -279,13 +279,13 @@ fn count_inputs(net: &Netlist) -> usize
 }
 
 /// An order of all cells, in runs of one kind as long as some choices of kinds make them.
-pub fn order_of<'a>(alloc: Global, net: &'a Netlist) -> Result<Order<'a>, NoMemory>
+pub fn order_of<'a>(alloc: Global, net: &'a Netlist) -> Result<CellOrder<'a>, NoMemory>
     requires { IsWell (circuit_of net.now) }
     ensures order { IfOk result IsOrderOf }
     ensures net { IfOk result (λ o. o.net.now ≡ net.now) }
     ensures all { IfOk result AllPlaced }
 {
-    let mut order = Order::new(alloc, net)?;
+    let mut order = CellOrder::new(alloc, net)?;
     let mut run = vec![in alloc; false; net.cells.len()]?;
     for _ in 0..RUNS {
         let Some(kind) = order.best_kind(&mut run) else {

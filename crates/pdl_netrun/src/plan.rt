@@ -10,17 +10,17 @@ ghost use Rattle.pdl_netrun.specs.Steps.{steps_of, steps_with};
 ghost use Rattle.pdl_netrun.specs.Plan.{cell_operands, step_of, step_of_cell, planned_write, planned_writes, held_at_start, IsWriteThere};
 
 use crate::kinds::kind_of;
-use crate::operation::{Kind, Operands};
-use crate::order::Order;
+use crate::operation::{CellKind, CellOperands};
+use crate::order::CellOrder;
 use crate::walk::CellRun;
 use crate::widths::width_of;
-use crate::writes::ArrayWrite;
+use crate::writes::PlannedWrite;
 use pdl_kit::NoMemory;
 use pdl_net::{Cell, Dir, Netlist, WritePort};
 use std::alloc::Global;
 
 /// Adds the values of all cells at the start, in the order of their places: a constant's value, and 0 for any other cell.
-pub fn put_constants(n: &Netlist, order: &Order, values: &mut Vec<u64>) -> Result<(), NoMemory>
+pub fn put_constants(n: &Netlist, order: &CellOrder, values: &mut Vec<u64>) -> Result<(), NoMemory>
     requires order { IsOrderOf order.now }
     requires net { order.now.net.now ≡ n.now }
     ensures { OnOk result (values.new.items ≡ values.old.items
@@ -58,7 +58,7 @@ pub fn all_resets(alloc: Global, n: &Netlist) -> Result<Vec<u64>, NoMemory>
 pub fn all_runs(
     alloc: Global,
     n: &Netlist,
-    order: &Order,
+    order: &CellOrder,
     widths: &[u8],
 ) -> Result<Vec<CellRun>, NoMemory>
     requires well { IsWell (circuit_of n.now) }
@@ -72,7 +72,7 @@ pub fn all_runs(
 {
     let mut runs = Vec::new(alloc);
     let mut run = CellRun {
-        kind: Kind::Constant,
+        kind: CellKind::Constant,
         operands: Vec::new(alloc),
     };
     for j in 0..order.cells.len() {
@@ -90,8 +90,8 @@ fn push_step(
     alloc: Global,
     runs: &mut Vec<CellRun>,
     run: &mut CellRun,
-    kind: Kind,
-    operands: Operands,
+    kind: CellKind,
+    operands: CellOperands,
 ) -> Result<(), NoMemory>
     ensures { OnOk result (steps_of runs.new.items
         ++ steps_with run.new.kind run.new.operands.items
@@ -112,7 +112,7 @@ fn push_step(
 
 /// What a cell reads, at the places of an order.
 #[tactic(auto, using(crate::proofs::PlanLemmas::places))]
-fn operands_of(n: &Netlist, order: &Order, widths: &[u8], cell: Cell) -> Operands
+fn operands_of(n: &Netlist, order: &CellOrder, widths: &[u8], cell: Cell) -> CellOperands
     requires well { IsWell (circuit_of n.now) }
     requires order { IsOrderOf order.now }
     requires net { order.now.net.now ≡ n.now }
@@ -123,43 +123,43 @@ fn operands_of(n: &Netlist, order: &Order, widths: &[u8], cell: Cell) -> Operand
     ensures { result ≡ cell_operands (circuit_of n.now) order.now.places.items cell }
 {
     match cell {
-        Cell::Const { width: _, value: _ } => Operands::reading(0, 0),
-        Cell::Not(a) => Operands {
+        Cell::Const { width: _, value: _ } => CellOperands::reading(0, 0),
+        Cell::Not(a) => CellOperands {
             width: width_of(n, widths, a),
-            ..Operands::reading_one(order.place(a))
+            ..CellOperands::reading_one(order.place(a))
         },
-        Cell::Bin(_, a, b) => Operands {
+        Cell::Bin(_, a, b) => CellOperands {
             width: width_of(n, widths, a),
-            ..Operands::reading(order.place(a), order.place(b))
+            ..CellOperands::reading(order.place(a), order.place(b))
         },
-        Cell::Mux(choice, a, b) => Operands {
+        Cell::Mux(choice, a, b) => CellOperands {
             selector: order.place(choice),
-            ..Operands::reading(order.place(b), order.place(a))
+            ..CellOperands::reading(order.place(b), order.place(a))
         },
-        Cell::Slice { a, high, low } => Operands {
+        Cell::Slice { a, high, low } => CellOperands {
             high,
             low,
-            ..Operands::reading_one(order.place(a))
+            ..CellOperands::reading_one(order.place(a))
         },
-        Cell::Cat(a, b) => Operands {
+        Cell::Cat(a, b) => CellOperands {
             low: width_of(n, widths, b),
-            ..Operands::reading(order.place(a), order.place(b))
+            ..CellOperands::reading(order.place(a), order.place(b))
         },
-        Cell::Rep { count, a } => Operands {
+        Cell::Rep { count, a } => CellOperands {
             width: width_of(n, widths, a),
             count,
-            ..Operands::reading_one(order.place(a))
+            ..CellOperands::reading_one(order.place(a))
         },
-        Cell::Read { array, addr } => Operands {
+        Cell::Read { array, addr } => CellOperands {
             selector: array as u32,
-            ..Operands::reading_one(order.place(addr))
+            ..CellOperands::reading_one(order.place(addr))
         },
     }
 }
 
 /// The places of the registers' next values.
 #[tactic(auto, using(crate::proofs::PlanLemmas::nexts))]
-pub fn all_nexts(alloc: Global, n: &Netlist, order: &Order) -> Result<Vec<u32>, NoMemory>
+pub fn all_nexts(alloc: Global, n: &Netlist, order: &CellOrder) -> Result<Vec<u32>, NoMemory>
     requires well { IsWell (circuit_of n.now) }
     requires order { IsOrderOf order.now }
     requires net { order.now.net.now ≡ n.now }
@@ -175,7 +175,7 @@ pub fn all_nexts(alloc: Global, n: &Netlist, order: &Order) -> Result<Vec<u32>, 
 
 /// The places of the outputs' values, in order.
 #[tactic(auto, using(crate::proofs::PlanLemmas::drivers))]
-pub fn all_drivers(alloc: Global, n: &Netlist, order: &Order) -> Result<Vec<u32>, NoMemory>
+pub fn all_drivers(alloc: Global, n: &Netlist, order: &CellOrder) -> Result<Vec<u32>, NoMemory>
     requires well { IsWell (circuit_of n.now) }
     requires order { IsOrderOf order.now }
     requires net { order.now.net.now ≡ n.now }
@@ -194,7 +194,11 @@ pub fn all_drivers(alloc: Global, n: &Netlist, order: &Order) -> Result<Vec<u32>
 
 /// The write ports of all arrays, array by array, each array's in order.
 #[tactic(auto, using(crate::proofs::PlanLemmas::writes))]
-pub fn all_writes(alloc: Global, n: &Netlist, order: &Order) -> Result<Vec<ArrayWrite>, NoMemory>
+pub fn all_writes(
+    alloc: Global,
+    n: &Netlist,
+    order: &CellOrder,
+) -> Result<Vec<PlannedWrite>, NoMemory>
     requires well { IsWell (circuit_of n.now) }
     requires order { IsOrderOf order.now }
     requires net { order.now.net.now ≡ n.now }
@@ -212,10 +216,10 @@ pub fn all_writes(alloc: Global, n: &Netlist, order: &Order) -> Result<Vec<Array
 /// Adds the write ports of an array.
 #[tactic(auto, using(crate::proofs::PlanLemmas::array_writes))]
 fn put_writes(
-    order: &Order,
+    order: &CellOrder,
     array: usize,
     writes: &[WritePort],
-    ports: &mut Vec<ArrayWrite>,
+    ports: &mut Vec<PlannedWrite>,
 ) -> Result<(), NoMemory>
     requires order { IsOrderOf order.now }
     requires there { All (IsWriteThere order.now) writes.now }
@@ -224,7 +228,7 @@ fn put_writes(
 {
     for k in 0..writes.len() {
         let port = writes[k];
-        ports.push(ArrayWrite {
+        ports.push(PlannedWrite {
             array,
             enable: order.place(port.enable),
             addr: order.place(port.addr),

@@ -12,14 +12,14 @@ ghost use Rattle.pdl_netrun.specs.Steps.{array_words};
 ghost use Rattle.pdl_netrun.specs.Order.{IsOrderOf, AllPlaced};
 ghost use Rattle.pdl_net.specs.Holds.{Holds};
 
-use crate::order::{Order, order_of};
+use crate::order::{CellOrder, order_of};
 use crate::outside::{Outside, answer_all, step_all};
 use crate::places::{CommitPlaces, all_places};
 use crate::plan::{all_drivers, all_nexts, all_resets, all_runs, all_writes, put_constants};
 use crate::start::{all_arrays, all_outside, count_delayed};
 use crate::walk::{CellRun, read_place, read_places, walk_runs};
 use crate::widths::all_widths;
-use crate::writes::{ArrayWrite, write_words};
+use crate::writes::{PlannedWrite, write_words};
 use pdl_image::Image;
 use pdl_kit::NoMemory;
 use pdl_net::Netlist;
@@ -37,7 +37,7 @@ pub struct Sim<'a> {
     runs: Vec<CellRun>,
     nexts: Vec<u32>,
     drivers: Vec<u32>,
-    writes: Vec<ArrayWrite>,
+    writes: Vec<PlannedWrite>,
     commits: Vec<CommitPlaces>,
     /// The values of all nets in the last cycle.
     values: Vec<u64>,
@@ -108,7 +108,7 @@ impl<'a> Sim<'a> {
     fn plan_of(
         alloc: Global,
         net: &'a Netlist,
-        order: &Order,
+        order: &CellOrder,
         next: Vec<u64>,
         arrays: Vec<Vec<u64>>,
         outside: Vec<Outside>,

@@ -3,7 +3,7 @@
 ghost use Rattle.std.specs.Prelude.{◌≡◌, ◌+◌, ◌<◌, ◌≤◌, length, map, slice_index};
 ghost use Rattle.pdl_netrun.specs.Steps.{StepsFit, AreBelow, steps_with, steps_of, after_steps, array_words};
 
-use crate::operation::{Kind, Operands, Operation};
+use crate::operation::{CellKind, CellOperands, CellOperation};
 use crate::operations::{
     Add, And, Choose, Complement, Differ, Equal, Join, Less, Look, Mul, Or, Repeat, ShiftLeft,
     ShiftRight, Slice, Sub, Xor,
@@ -12,13 +12,18 @@ use crate::operations::{
 /// Cells of one kind whose places follow one another.
 #[derive(Drop)]
 pub struct CellRun {
-    pub kind: Kind,
-    pub operands: Vec<Operands>,
+    pub kind: CellKind,
+    pub operands: Vec<CellOperands>,
 }
 
 /// Gives cells of one kind their values, the first of which goes to a place and the others to those after it.
 #[tactic(auto, using(crate::proofs::Steps::walks))]
-fn walk<K: Operation>(operands: &[Operands], first: usize, arrays: &[Vec<u64>], values: &mut [u64])
+fn walk<K: CellOperation>(
+    operands: &[CellOperands],
+    first: usize,
+    arrays: &[Vec<u64>],
+    values: &mut [u64],
+)
     requires room { first + length operands.now ≤ length values.old }
     requires fit { StepsFit (steps_with K.kind operands.now) first values.old
         (array_words arrays.now) }
@@ -41,24 +46,24 @@ fn walk_run(run: &CellRun, first: usize, arrays: &[Vec<u64>], values: &mut [u64]
 {
     let operands = run.operands.as_slice();
     match run.kind {
-        Kind::Constant => (),
-        Kind::Complement => walk::<Complement>(operands, first, arrays, values),
-        Kind::Add => walk::<Add>(operands, first, arrays, values),
-        Kind::Sub => walk::<Sub>(operands, first, arrays, values),
-        Kind::Mul => walk::<Mul>(operands, first, arrays, values),
-        Kind::And => walk::<And>(operands, first, arrays, values),
-        Kind::Or => walk::<Or>(operands, first, arrays, values),
-        Kind::Xor => walk::<Xor>(operands, first, arrays, values),
-        Kind::Equal => walk::<Equal>(operands, first, arrays, values),
-        Kind::Differ => walk::<Differ>(operands, first, arrays, values),
-        Kind::Less => walk::<Less>(operands, first, arrays, values),
-        Kind::ShiftLeft => walk::<ShiftLeft>(operands, first, arrays, values),
-        Kind::ShiftRight => walk::<ShiftRight>(operands, first, arrays, values),
-        Kind::Choose => walk::<Choose>(operands, first, arrays, values),
-        Kind::Slice => walk::<Slice>(operands, first, arrays, values),
-        Kind::Join => walk::<Join>(operands, first, arrays, values),
-        Kind::Repeat => walk::<Repeat>(operands, first, arrays, values),
-        Kind::Look => walk::<Look>(operands, first, arrays, values),
+        CellKind::Constant => (),
+        CellKind::Complement => walk::<Complement>(operands, first, arrays, values),
+        CellKind::Add => walk::<Add>(operands, first, arrays, values),
+        CellKind::Sub => walk::<Sub>(operands, first, arrays, values),
+        CellKind::Mul => walk::<Mul>(operands, first, arrays, values),
+        CellKind::And => walk::<And>(operands, first, arrays, values),
+        CellKind::Or => walk::<Or>(operands, first, arrays, values),
+        CellKind::Xor => walk::<Xor>(operands, first, arrays, values),
+        CellKind::Equal => walk::<Equal>(operands, first, arrays, values),
+        CellKind::Differ => walk::<Differ>(operands, first, arrays, values),
+        CellKind::Less => walk::<Less>(operands, first, arrays, values),
+        CellKind::ShiftLeft => walk::<ShiftLeft>(operands, first, arrays, values),
+        CellKind::ShiftRight => walk::<ShiftRight>(operands, first, arrays, values),
+        CellKind::Choose => walk::<Choose>(operands, first, arrays, values),
+        CellKind::Slice => walk::<Slice>(operands, first, arrays, values),
+        CellKind::Join => walk::<Join>(operands, first, arrays, values),
+        CellKind::Repeat => walk::<Repeat>(operands, first, arrays, values),
+        CellKind::Look => walk::<Look>(operands, first, arrays, values),
     }
 }
 

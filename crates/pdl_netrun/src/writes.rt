@@ -5,7 +5,7 @@ ghost use Rattle.pdl_netrun.specs.Steps.{WriteFits, after_write, after_all, arra
 
 /// A write port of an array, with the places of its nets in the list of values.
 #[derive(Clone, Copy)]
-pub struct ArrayWrite {
+pub struct PlannedWrite {
     pub array: usize,
     pub enable: u32,
     pub addr: u32,
@@ -14,7 +14,7 @@ pub struct ArrayWrite {
 
 /// Does what a write port is told.
 #[tactic(auto, using(crate::proofs::Words::written))]
-fn write_word(port: ArrayWrite, values: &[u64], arrays: &mut [Vec<u64>])
+fn write_word(port: PlannedWrite, values: &[u64], arrays: &mut [Vec<u64>])
     requires { WriteFits port values.now (array_words arrays.old) }
     ensures { array_words arrays.new ≡ after_write port values.now (array_words arrays.old) }
 {
@@ -28,7 +28,7 @@ fn write_word(port: ArrayWrite, values: &[u64], arrays: &mut [Vec<u64>])
 
 /// Does what all write ports are told, the later port of an array last.
 #[tactic(auto, using(crate::proofs::Steps::writes))]
-pub fn write_words(ports: &[ArrayWrite], values: &[u64], arrays: &mut [Vec<u64>])
+pub fn write_words(ports: &[PlannedWrite], values: &[u64], arrays: &mut [Vec<u64>])
     requires { All (λ p. WriteFits p values.now (array_words arrays.old)) ports.now }
     ensures { array_words arrays.new ≡ after_all ports.now values.now (array_words arrays.old) }
 {

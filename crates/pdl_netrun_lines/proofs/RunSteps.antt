@@ -12,7 +12,7 @@ use Rattle.pdl_netrun.specs.Sim.{Run, run_after}
 use Rattle.pdl_law_parts.specs.Runs.{cycle_of}
 use Rattle.pdl_image.specs.Delays.{bits_in}
 use Rattle.pdl_netrun_lines.specs.Printed.{cycles_from, replies_from, schedule}
-use Rattle.pdl_netrun_lines.specs.declared.print.Counts.{Counts}
+use Rattle.pdl_netrun_lines.specs.declared.print.RunCounts.{RunCounts}
 use Rattle.pdl_netrun_lines.specs.Tally.{one_if, tallied_of}
 
 -- the cycles of a run
@@ -57,7 +57,7 @@ few_more : (b : Bool) (old new done : ℕ) → new ≡ old + one_if b → old �
 few_more b old new done e h = omega (arith, e, at_most_one b)
 
 -- counts of the cycles so far, which with those of the rest are those of all
-pub record Counted (n : Counts) (rest all : List Cycle) (done : ℕ) : Type 0 where
+pub record Counted (n : RunCounts) (rest all : List Cycle) (done : ℕ) : Type 0 where
   pub ended : n.ended + count_by (λ (c : Cycle). c.ended) rest ≡ count_by (λ (c : Cycle). c.ended) all
   pub waits : n.waits + count_by (λ (c : Cycle). c.wait) rest ≡ count_by (λ (c : Cycle). c.wait) all
   pub squashes : n.squashes + count_by (λ (c : Cycle). c.squash) rest ≡ count_by (λ (c : Cycle). c.squash) all
@@ -66,12 +66,12 @@ pub record Counted (n : Counts) (rest all : List Cycle) (done : ℕ) : Type 0 wh
   pub few_squashes : n.squashes ≤ done
 
 -- one cycle more
-pub counted_more : (old new : Counts) (c : Cycle) (cs rest all : List Cycle) (done : ℕ) → cs ≡ c ∷ rest → new ≡ tallied_of old c
+pub counted_more : (old new : RunCounts) (c : Cycle) (cs rest all : List Cycle) (done : ℕ) → cs ≡ c ∷ rest → new ≡ tallied_of old c
     → Counted old cs all done → Counted new rest all (done + 1)
 counted_more old new c cs rest all done more e h =
-    let ended = ap (λ (k : Counts). k.ended) e in
-    let waits = ap (λ (k : Counts). k.waits) e in
-    let squashes = ap (λ (k : Counts). k.squashes) e in
+    let ended = ap (λ (k : RunCounts). k.ended) e in
+    let waits = ap (λ (k : RunCounts). k.waits) e in
+    let squashes = ap (λ (k : RunCounts). k.squashes) e in
     record {
       ended = count_step (λ (x : Cycle). x.ended) c cs rest old.ended new.ended (count_by (λ (x : Cycle). x.ended) all) more ended h.ended;
       waits = count_step (λ (x : Cycle). x.wait) c cs rest old.waits new.waits (count_by (λ (x : Cycle). x.wait) all) more waits h.waits;

@@ -4,4 +4,4 @@
 mod commits;
 mod print;
 
-pub use print::{Counts, Schedule, count, run};
+pub use print::{RunCounts, Schedule, count, run};

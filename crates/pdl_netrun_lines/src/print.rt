@@ -31,7 +31,7 @@ pub struct Schedule<'a> {
 
 /// How many cycles a run has had, in how many a thread ended, a request stayed unanswered, and a squash happened.
 #[derive(Clone, Copy)]
-pub struct Counts {
+pub struct RunCounts {
     pub ended: u32,
     pub waits: u32,
     pub squashes: u32,
@@ -53,14 +53,14 @@ fn one_if(holds: bool) -> u32
 }
 
 // Counts with the last cycle; `outputs` is how many outputs there are.
-fn with_cycle(counts: Counts, sim: &Sim, outputs: usize) -> Counts
+fn with_cycle(counts: RunCounts, sim: &Sim, outputs: usize) -> RunCounts
     requires outputs { outputs ≡ output_count sim.now.netlist }
     requires two { 2 ≤ outputs }
     requires room { (counts.ended < 1000000) × (counts.waits < 1000000)
         × (counts.squashes < 1000000) }
     ensures { result ≡ tallied_of counts (cycle_of sim.now.netlist sim.now.last) }
 {
-    Counts {
+    RunCounts {
         ended: counts.ended + one_if(sim.port(outputs - 2) == 1),
         waits: counts.waits + one_if(sim.waited()),
         squashes: counts.squashes + one_if(sim.port(outputs - 1) == 1),
@@ -83,7 +83,7 @@ fn run_cycles<S: Sink>(
     sim: &mut Sim,
     probes: &Probes<'_>,
     schedule: &Schedule<'_>,
-) -> Result<Counts, WriteFailed>
+) -> Result<RunCounts, WriteFailed>
     requires mems { probes.now.mems.now ≡ sim.old.netlist.mems }
     requires order { AreOrdered sim.old.netlist probes.now.order.now }
     requires names { All (λ m. length m.name ≤ 32) probes.now.mems.now }
@@ -98,7 +98,7 @@ fn run_cycles<S: Sink>(
         (λ c. c ≡ counts_of (cycles_from sim.old.netlist sim.old.held (replies_of schedule.now))) }
     ensures cause { HasCause (S.faults sink.old) (S.faults sink.new) result }
 {
-    let mut counts = Counts {
+    let mut counts = RunCounts {
         ended: 0,
         waits: 0,
         squashes: 0,
@@ -166,13 +166,13 @@ fn print_run<S: Sink>(
 }
 
 // Runs cycles with the reply bits of each, and counts them.
-fn count_cycles(sim: &mut Sim, outputs: usize, schedule: &Schedule<'_>) -> Counts
+fn count_cycles(sim: &mut Sim, outputs: usize, schedule: &Schedule<'_>) -> RunCounts
     requires outputs { outputs ≡ output_count sim.old.netlist }
     requires two { 2 ≤ outputs }
     requires few { schedule.now.cycles ≤ 1000000 }
     ensures { result ≡ counts_of (cycles_from sim.old.netlist sim.old.held (replies_of schedule.now)) }
 {
-    let mut counts = Counts {
+    let mut counts = RunCounts {
         ended: 0,
         waits: 0,
         squashes: 0,
@@ -234,7 +234,7 @@ pub fn count(
     net: &Netlist,
     image: &Image,
     schedule: &Schedule<'_>,
-) -> Result<Counts, NoMemory>
+) -> Result<RunCounts, NoMemory>
     requires well { IsWellFormed net.now }
     requires image { IsImage net.now.mems image.now }
     requires two { 2 ≤ output_count net.now }

@@ -8,7 +8,7 @@ use Rattle.pdl_word.specs.Words.{bit, mux}
 use Rattle.pdl_net.specs.declared.BinOp.TheVariants.{Shr}
 use Rattle.pdl_net.specs.Circuit.{Circuit, State, reg_reset}
 use Rattle.pdl_net.specs.Signal.{Signal, const_signal, bin_signal, mux_signal, mux_value, const_value, reg_value, bin_value, slice_value}
-use Rattle.pdl_order.specs.declared.layout.Layout.{Layout}
+use Rattle.pdl_order.specs.declared.layout.OrderLayout.{OrderLayout}
 use Rattle.pdl_order.specs.Order.{OrderAct, Proper, step, after_left, after_entered}
 use Rattle.pdl_order.specs.Laws.{StepSignals, Drives, StartLaw, FirstLaw, StepLaw}
 use Rattle.pdl_order.specs.Words.{sides_at, word_of, Stands}
@@ -19,7 +19,8 @@ use Rattle.pdl_word.proofs.Laws.{mux_bit}
 use Rattle.pdl_net.proofs.Signals.{mux_at}
 
 -- registers at reset stand for no thread inside
-pub start_law : (c : Circuit) (l : Layout) → reg_reset c l.from ≡ 0 → reg_reset c (sides_at l) ≡ 0 → StartLaw (Stands l) c (own_words l)
+pub start_law : (c : Circuit) (l : OrderLayout)
+    → reg_reset c l.from ≡ 0 → reg_reset c (sides_at l) ≡ 0 → StartLaw (Stands l) c (own_words l)
 start_law c l u d = record {
   starts = λ s h. record {
     room = omega arith;
@@ -28,24 +29,25 @@ start_law c l u d = record {
   };
 }
 
-used_at : (l : Layout) (s : State) (xs : List Bool) → Stands l s xs → (used_signal l).value s + 1 ≡ 2 ^ length xs
+used_at : (l : OrderLayout) (s : State) (xs : List Bool) → Stands l s xs → (used_signal l).value s + 1 ≡ 2 ^ length xs
 unfolding reg_value
 used_at l s xs h = h.used
 
-sides_value : (l : Layout) (s : State) (xs : List Bool) → Stands l s xs → (sides_signal l).value s ≡ word_of xs
+sides_value : (l : OrderLayout) (s : State) (xs : List Bool) → Stands l s xs → (sides_signal l).value s ≡ word_of xs
 unfolding reg_value
 sides_value l s xs h = h.sides
 
-empty_value : (l : Layout) (s : State) (xs : List Bool) → Stands l s xs → (empty_signal l).value s ≡ words.equal ((used_signal l).value s) 0
+empty_value : (l : OrderLayout) (s : State) (xs : List Bool) → Stands l s xs
+    → (empty_signal l).value s ≡ words.equal ((used_signal l).value s) 0
 unfolding bin_value const_value
 empty_value l s xs h = refl
 
-first_value : (l : Layout) (s : State) (xs : List Bool) → Stands l s xs → (first_signal l).value s ≡ words.slice 0 0 (word_of xs)
+first_value : (l : OrderLayout) (s : State) (xs : List Bool) → Stands l s xs → (first_signal l).value s ≡ words.slice 0 0 (word_of xs)
 unfolding slice_value
 first_value l s xs h = ap (words.slice 0 0) (sides_value l s xs h)
 
 -- the nets of emptiness and of the first entry keep their law, where they are an order's signals
-pub first_law : (l : Layout) (first empty : Signal) → first ≡ first_signal l → empty ≡ empty_signal l → FirstLaw (Stands l) first empty
+pub first_law : (l : OrderLayout) (first empty : Signal) → first ≡ first_signal l → empty ≡ empty_signal l → FirstLaw (Stands l) first empty
 first_law l first empty f e = record {
   empties = λ s xs h. ap (λ (g : Signal). g.value s) e ∙ empty_value l s xs h ∙ used_none ((used_signal l).value s) xs (used_at l s xs h);
   leads = λ s x xs h. ap (λ (g : Signal). g.value s) f ∙ first_value l s (x ∷ xs) h ∙ lowest x xs;
@@ -57,12 +59,13 @@ record AreWords (n : ℕ) (f g : Signal) (s : State) (xs : List Bool) : Type 0 w
   used : f.value s + 1 ≡ 2 ^ length xs
   sides : g.value s ≡ word_of xs
 
-half_value : (l : Layout) (f : Signal) (s : State) → (bin_signal Shr f (const_signal l.stages 1)).value s ≡ words.shr f.width (f.value s) 1
+half_value : (l : OrderLayout) (f : Signal) (s : State)
+    → (bin_signal Shr f (const_signal l.stages 1)).value s ≡ words.shr f.width (f.value s) 1
 unfolding bin_value const_value
 half_value l f s = refl
 
 -- after the oldest has left
-halved : (l : Layout) (s : State) (xs : List Bool)
+halved : (l : OrderLayout) (s : State) (xs : List Bool)
     → 1 ≤ l.stages → 1 ≤ length xs → Stands l s xs
     → AreWords l.stages (bin_signal Shr (used_signal l) (const_signal l.stages 1)) (bin_signal Shr (sides_signal l) (const_signal l.stages 1)) s (drop 1 xs)
 halved l s [] one some h = absurd (omega arith)
@@ -77,7 +80,7 @@ halved l s (x ∷ xs) one some h =
       sides = half_value l (sides_signal l) s ∙ ap (λ n. words.shr l.stages n 1) d ∙ half l.stages (word_of (x ∷ xs)) one (omega (arith, below, wide)) ∙ sides_half x xs;
     }
 
-left_words : (l : Layout) (f : StepSignals) (s : State) (xs : List Bool) (a : OrderAct)
+left_words : (l : OrderLayout) (f : StepSignals) (s : State) (xs : List Bool) (a : OrderAct)
     → 1 ≤ l.stages → Stands l s xs → Drives f s a → (a.left ≡ true → 1 ≤ length xs)
     → AreWords l.stages (used_left l f) (sides_left l f) s (after_left a xs)
 left_words l f s xs a one h d some = by_left a.left refl
@@ -109,16 +112,16 @@ left_words l f s xs a one h d some = by_left a.left refl
         }
 
 -- the words with one more
-place_value : (l : Layout) (f : StepSignals) (s : State) → (place_signal l f).value s ≡ words.add l.stages ((used_left l f).value s) 1
+place_value : (l : OrderLayout) (f : StepSignals) (s : State) → (place_signal l f).value s ≡ words.add l.stages ((used_left l f).value s) 1
 unfolding bin_value const_value
 place_value l f s = refl
 
-more_value : (l : Layout) (f : StepSignals) (g : Signal) (s : State)
+more_value : (l : OrderLayout) (f : StepSignals) (g : Signal) (s : State)
     → (more_signal l f g).value s ≡ words.add g.width (g.value s) ((place_signal l f).value s)
 unfolding bin_value
 more_value l f g s = refl
 
-place_is : (l : Layout) (f : StepSignals) (s : State) (ys : List Bool)
+place_is : (l : OrderLayout) (f : StepSignals) (s : State) (ys : List Bool)
     → AreWords l.stages (used_left l f) (sides_left l f) s ys → length ys + 1 ≤ l.stages
     → (place_signal l f).value s ≡ 2 ^ length ys
 place_is l f s ys w h =
@@ -128,7 +131,7 @@ place_is l f s ys w h =
     let u = w.used in
     place_value l f s ∙ sum_is l.stages ((used_left l f).value s) 1 (omega (arith, wide, double, some, u)) ∙ u
 
-used_grown : (l : Layout) (f : StepSignals) (s : State) (ys : List Bool)
+used_grown : (l : OrderLayout) (f : StepSignals) (s : State) (ys : List Bool)
     → AreWords l.stages (used_left l f) (sides_left l f) s ys → length ys + 1 ≤ l.stages
     → (more_signal l f (used_left l f)).value s + 1 ≡ 2 ^ (length ys + 1)
 used_grown l f s ys w h =
@@ -139,7 +142,7 @@ used_grown l f s ys w h =
     let sum : words.add l.stages n (2 ^ length ys) ≡ n + 2 ^ length ys = sum_is l.stages n (2 ^ length ys) (omega (arith, wide, double, u)) in
     ap (λ m. m + 1) (more_value l f (used_left l f) s ∙ ap (words.add l.stages n) (place_is l f s ys w h) ∙ sum) ∙ omega (arith, double, u)
 
-sides_grown : (l : Layout) (f : StepSignals) (s : State) (ys : List Bool)
+sides_grown : (l : OrderLayout) (f : StepSignals) (s : State) (ys : List Bool)
     → AreWords l.stages (used_left l f) (sides_left l f) s ys → length ys + 1 ≤ l.stages
     → (more_signal l f (sides_left l f)).value s ≡ word_of (ys ++ true ∷ [])
 sides_grown l f s ys w h =
@@ -155,7 +158,7 @@ sides_grown l f s ys w h =
 pushed : (ys : List Bool) (x : Bool) → length (ys ++ x ∷ []) ≡ length ys + 1
 pushed ys x = length-append ys (x ∷ [])
 
-entered_words : (l : Layout) (f : StepSignals) (s : State) (ys : List Bool) (a : OrderAct)
+entered_words : (l : OrderLayout) (f : StepSignals) (s : State) (ys : List Bool) (a : OrderAct)
     → AreWords l.stages (used_left l f) (sides_left l f) s ys → Drives f s a → length (after_entered a ys) ≤ l.stages
     → AreWords l.stages (used_entered l f) (sides_entered l f) s (after_entered a ys)
 entered_words l f s ys a w d room = by_first a.entered_first a.entered_second refl refl room
@@ -204,7 +207,7 @@ unfolding const_value
 none_value n s = refl
 
 -- after the cycle
-step_words : (l : Layout) (f : StepSignals) (s : State) (xs : List Bool) (a : OrderAct)
+step_words : (l : OrderLayout) (f : StepSignals) (s : State) (xs : List Bool) (a : OrderAct)
     → 1 ≤ l.stages → Stands l s xs → Drives f s a → Proper l.stages xs a
     → AreWords l.stages (next_used l f) (next_sides l f) s (step xs a)
 step_words l f s xs a one h d p = by_emptied a.emptied refl p.room
@@ -242,7 +245,8 @@ step_words l f s xs a one h d p = by_emptied a.emptied refl p.room
         }
 
 -- where the two registers take the next words, they keep the law of a step
-pub step_law : (c : Circuit) (l : Layout) (f : StepSignals) → 1 ≤ l.stages → NextWords c l f → StepLaw (Stands l) l.stages (own_words l) c f
+pub step_law : (c : Circuit) (l : OrderLayout) (f : StepSignals)
+    → 1 ≤ l.stages → NextWords c l f → StepLaw (Stands l) l.stages (own_words l) c f
 step_law c l f one p = record {
   next = λ s t xs a h d u n.
       let w = step_words l f s xs a one h d u in

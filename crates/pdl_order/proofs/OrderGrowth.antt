@@ -8,11 +8,11 @@ use Rattle.pdl_net.proofs.Keeps.{extends_keeps}
 use Rattle.pdl_lockapi.specs.Laws.{OwnKept}
 use Rattle.pdl_order.specs.declared.OrderRegs.{OrderRegs}
 use Rattle.pdl_order.specs.declared.OrderPorts.{OrderPorts}
-use Rattle.pdl_order.specs.declared.layout.Layout.{Layout}
+use Rattle.pdl_order.specs.declared.layout.OrderLayout.{OrderLayout}
 use Rattle.pdl_order.specs.Laws.{own, IsFragment, HasPorts}
 use Rattle.pdl_order.specs.Words.{sides_at, HasWords, ArePlaced, layout_of}
 
-words_keep : (a b : Circuit) (l : Layout) → HasWords a l → Keeps a b → HasWords b l
+words_keep : (a b : Circuit) (l : OrderLayout) → HasWords a l → Keeps a b → HasWords b l
 words_keep a b l x y = record {
   low = x.low;
   high = x.high;
@@ -28,7 +28,7 @@ words_keep a b l x y = record {
 }
 
 -- the two registers of an order stay in a circuit that grows without other change
-pub words_kept : (a b : Circuit) (l : Layout) → HasWords a l → Extends a b → HasWords b l
+pub words_kept : (a b : Circuit) (l : OrderLayout) → HasWords a l → Extends a b → HasWords b l
 words_kept a b l x y = words_keep a b l x (extends_keeps a b y)
 
 -- an order stands in a circuit that keeps what it was made in

@@ -6,19 +6,19 @@ use Rattle.pdl_net.specs.Circuit.{Circuit, State, HasReg, reg_width}
 use Rattle.pdl_net.specs.Signal.{reg_signal}
 use Rattle.pdl_net.specs.Meaning.{IsThere, signal}
 use Rattle.pdl_order.specs.declared.OrderRegs.{OrderRegs}
-use Rattle.pdl_order.specs.declared.layout.Layout.{Layout}
+use Rattle.pdl_order.specs.declared.layout.OrderLayout.{OrderLayout}
 use Rattle.pdl_order.specs.Laws.{first_reg}
 
 -- the register of the branches
-abbrev pub sides_at : Layout → ℕ
+abbrev pub sides_at : OrderLayout → ℕ
 sides_at l = l.from + 1
 
 -- where the registers of an order stand
-abbrev pub layout_of : OrderRegs → Layout
+abbrev pub layout_of : OrderRegs → OrderLayout
 layout_of r = record { from = first_reg r; stages = r.stages }
 
 -- the two registers are in a circuit
-pub record HasWords (c : Circuit) (l : Layout) : Type 0 where
+pub record HasWords (c : Circuit) (l : OrderLayout) : Type 0 where
   pub low : 1 ≤ l.stages
   pub high : l.stages ≤ 64
   pub small : l.from + 2 < 2 ^ 64
@@ -46,7 +46,7 @@ abbrev pub reg_of : State → ℕ → ℕ
 reg_of s k = slice_index s.regs k
 
 -- the registers stand for a list of branches
-pub record Stands (l : Layout) (s : State) (xs : List Bool) : Type 0 where
+pub record Stands (l : OrderLayout) (s : State) (xs : List Bool) : Type 0 where
   pub room : length xs ≤ l.stages
   pub used : reg_of s l.from + 1 ≡ 2 ^ length xs
   pub sides : reg_of s (sides_at l) ≡ word_of xs

@@ -6,20 +6,20 @@ use crate::OrderRegs;
 
 /// The two registers of an order.
 #[derive(Clone, Copy)]
-pub struct Layout {
+pub struct OrderLayout {
     /// The first of them.
     pub from: usize,
     /// How many threads may be inside, which is the width of each in bits.
     pub stages: u8,
 }
 
-impl Layout {
+impl OrderLayout {
     /// The layout of an order that has been made.
-    pub fn of(r: &OrderRegs) -> Layout
+    pub fn of(r: &OrderRegs) -> OrderLayout
         requires { 0 < length r.now.regs }
         ensures { result ≡ layout_of r.now }
     {
-        Layout {
+        OrderLayout {
             from: r.regs.as_slice()[0],
             stages: r.stages,
         }

@@ -8,14 +8,14 @@ ghost use Rattle.pdl_order.specs.Words.{sides_at, HasWords, ArePlaced, stands};
 ghost use Rattle.pdl_order.specs.Nets.{empty_signal, first_signal};
 
 use crate::OrderRegs;
-use crate::layout::Layout;
+use crate::layout::OrderLayout;
 use pdl_build::Builder;
 use pdl_kit::{NoMemory, Seq};
 use pdl_net::{BinOp, Net};
 use std::alloc::Global;
 
 /// The two registers of an order, 0 at first.
-fn emit_words(b: &mut Builder, l: Layout) -> Result<(), NoMemory>
+fn emit_words(b: &mut Builder, l: OrderLayout) -> Result<(), NoMemory>
     requires from { l.from ≡ length b.old.regs }
     requires low { 1 ≤ l.stages }
     requires high { l.stages ≤ 64 }
@@ -43,7 +43,7 @@ fn two(alloc: Global, from: usize) -> Result<Seq<usize>, NoMemory>
 }
 
 /// Whether no thread is inside.
-fn emit_empty(b: &mut Builder, l: Layout) -> Result<Net, NoMemory>
+fn emit_empty(b: &mut Builder, l: OrderLayout) -> Result<Net, NoMemory>
     requires words { HasWords b.old l }
     ensures means { IfOk result (λ x. Means b.new x (empty_signal l)) }
     ensures extends { Extends b.old b.new }
@@ -53,7 +53,7 @@ fn emit_empty(b: &mut Builder, l: Layout) -> Result<Net, NoMemory>
 }
 
 /// Whether the oldest thread inside took the first branch.
-fn emit_first(b: &mut Builder, l: Layout) -> Result<Net, NoMemory>
+fn emit_first(b: &mut Builder, l: OrderLayout) -> Result<Net, NoMemory>
     requires words { HasWords b.old l }
     ensures means { IfOk result (λ x. Means b.new x (first_signal l)) }
     ensures extends { Extends b.old b.new }
@@ -79,7 +79,7 @@ pub fn emit_order_state(
         FirstLaw (stands r) (signal b.new r.first) (signal b.new r.empty)) }
     ensures extends { Extends b.old b.new }
 {
-    let l = Layout {
+    let l = OrderLayout {
         from: b.reg_count(),
         stages: branch_stages,
     };

@@ -7,7 +7,7 @@ ghost use Rattle.pdl_order.specs.Laws.{own, HasPorts, step_signals, StepLaw};
 ghost use Rattle.pdl_order.specs.Words.{HasWords, ArePlaced, stands};
 ghost use Rattle.pdl_order.specs.Nets.{used_left, sides_left, more_signal, used_entered, sides_entered, next_used, next_sides, NextWords, own_words};
 
-use crate::layout::Layout;
+use crate::layout::OrderLayout;
 use crate::{OrderPorts, OrderRegs};
 use pdl_build::Builder;
 use pdl_kit::NoMemory;
@@ -22,7 +22,7 @@ struct WordNets {
 
 /// The words after the oldest thread has left, where it does.
 #[tactic(auto, using(crate::proofs::Lists::one_fits))]
-fn emit_left(b: &mut Builder, l: Layout, p: &OrderPorts) -> Result<WordNets, NoMemory>
+fn emit_left(b: &mut Builder, l: OrderLayout, p: &OrderPorts) -> Result<WordNets, NoMemory>
     requires words { HasWords b.old l }
     requires ports { HasPorts b.old p.now }
     ensures used { IfOk result (λ x. Means b.new x.used (used_left l (step_signals b.old p.now))) }
@@ -45,7 +45,7 @@ fn emit_left(b: &mut Builder, l: Layout, p: &OrderPorts) -> Result<WordNets, NoM
 #[tactic(auto, using(crate::proofs::Lists::one_fits))]
 fn emit_more(
     b: &mut Builder,
-    l: Layout,
+    l: OrderLayout,
     p: &OrderPorts,
     left: WordNets,
 ) -> Result<WordNets, NoMemory>
@@ -69,7 +69,7 @@ fn emit_more(
 
 /// The words with the thread that comes in.
 #[tactic(auto, using(crate::proofs::OrderGrowth::words_kept))]
-fn emit_entered(b: &mut Builder, l: Layout, p: &OrderPorts) -> Result<WordNets, NoMemory>
+fn emit_entered(b: &mut Builder, l: OrderLayout, p: &OrderPorts) -> Result<WordNets, NoMemory>
     requires words { HasWords b.old l }
     requires ports { HasPorts b.old p.now }
     ensures used { IfOk result (λ x.
@@ -87,7 +87,7 @@ fn emit_entered(b: &mut Builder, l: Layout, p: &OrderPorts) -> Result<WordNets, 
 }
 
 /// What the two registers take next.
-fn emit_next(b: &mut Builder, l: Layout, p: &OrderPorts) -> Result<WordNets, NoMemory>
+fn emit_next(b: &mut Builder, l: OrderLayout, p: &OrderPorts) -> Result<WordNets, NoMemory>
     requires words { HasWords b.old l }
     requires ports { HasPorts b.old p.now }
     ensures used { IfOk result (λ x. Means b.new x.used (next_used l (step_signals b.old p.now))) }
@@ -105,7 +105,7 @@ fn emit_next(b: &mut Builder, l: Layout, p: &OrderPorts) -> Result<WordNets, NoM
 
 /// Sets what the two registers take next.
 #[tactic(auto, using(crate::proofs::OrderGrowth::words_kept))]
-fn emit_words(b: &mut Builder, l: Layout, p: &OrderPorts) -> Result<(), NoMemory>
+fn emit_words(b: &mut Builder, l: OrderLayout, p: &OrderPorts) -> Result<(), NoMemory>
     requires words { HasWords b.old l }
     requires ports { HasPorts b.old p.now }
     ensures next { OnOk result (NextWords b.new l (step_signals b.old p.now)) }
@@ -125,7 +125,7 @@ pub fn emit_order_step(b: &mut Builder, r: &OrderRegs, p: &OrderPorts) -> Result
         (step_signals b.old p.now)) }
     ensures extends { ExtendsBut (own r.now) b.old b.new }
 {
-    let l = Layout::of(r);
+    let l = OrderLayout::of(r);
     emit_words(b, l, p)?;
     Ok(())
 }

@@ -4,7 +4,7 @@ ghost use Rattle.pdl_syntax_tree.specs.View.{span_view, stmt_view};
 ghost use Rattle.pdl_rules.specs.Places as rules;
 ghost use Rattle.pdl_paths.specs.Actions.{place_at};
 
-use pdl_syntax_tree::{Expr, Ident, Kind, Location, Mem, Param, Span, Start, Stmt};
+use pdl_syntax_tree::{AccessKind, Expr, Ident, Location, Mem, Param, Span, Start, Stmt};
 
 /// What stands at a place: a parameter, a memory, one of the kinds of statement with its parts, the end of the body or the start clause.
 #[derive(Clone, Copy)]
@@ -17,7 +17,7 @@ pub enum Action<'a> {
     SpecCall(&'a Ident, &'a [Expr]),
     DelayedRead(&'a Ident, &'a Location),
     Write(&'a Location, &'a Expr),
-    Reserve(&'a Location, Kind),
+    Reserve(&'a Location, AccessKind),
     Block(&'a Location),
     Release(&'a Location),
     If(&'a Expr, &'a [Stmt], &'a [Stmt]),

@@ -17,7 +17,7 @@ use std::marker::Model;
 
 // A guard that keeps its name.
 #[derive(Drop)]
-enum Kept {
+enum KeptGuard {
     Shared(Name),
     Own(u32),
 }
@@ -25,7 +25,7 @@ enum Kept {
 /// Guards in text order, each once; each is known by its number, counted from 0.
 #[derive(Drop)]
 pub struct Guards {
-    items: Vec<Kept>,
+    items: Vec<KeptGuard>,
 }
 
 impl Model for Guards {
@@ -142,21 +142,21 @@ impl Guards {
 }
 
 // Whether a guard is the kept one.
-fn is_same(guard: Guard<'_>, kept: &Kept) -> bool
+fn is_same(guard: Guard<'_>, kept: &KeptGuard) -> bool
     ensures { result ≡ rules.same_guard (guard_view guard.entry) (kept_view kept.now) }
 {
     match (guard, kept) {
-        (Guard::Shared(x), Kept::Shared(y)) => *x == *y,
-        (Guard::Own(m), Kept::Own(n)) => m == *n,
-        (Guard::Shared(_), Kept::Own(_)) | (Guard::Own(_), Kept::Shared(_)) => false,
+        (Guard::Shared(x), KeptGuard::Shared(y)) => *x == *y,
+        (Guard::Own(m), KeptGuard::Own(n)) => m == *n,
+        (Guard::Shared(_), KeptGuard::Own(_)) | (Guard::Own(_), KeptGuard::Shared(_)) => false,
     }
 }
 
-fn keep(guard: Guard<'_>) -> Result<Kept, NoMemory>
+fn keep(guard: Guard<'_>) -> Result<KeptGuard, NoMemory>
     ensures { IfOk result (λ kept. kept_view kept ≡ guard_view guard.entry) }
 {
     match guard {
-        Guard::Shared(x) => Ok(Kept::Shared(x.clone()?)),
-        Guard::Own(at) => Ok(Kept::Own(at)),
+        Guard::Shared(x) => Ok(KeptGuard::Shared(x.clone()?)),
+        Guard::Own(at) => Ok(KeptGuard::Own(at)),
     }
 }

@@ -16,7 +16,7 @@ use Rattle.pdl_pipe_registers.proofs.TicketsMade.{tickets_fit}
 use Rattle.pdl_pipe_answers.specs.Ports.{IsBit}
 use Rattle.pdl_pipe_beside.specs.declared.ends.StageEnd.{StageEnd}
 use Rattle.pdl_pipe_beside.specs.Ends.{IsEnd, AreEnds}
-use Rattle.pdl_pipe_nexts.specs.declared.line.Line.{Line}
+use Rattle.pdl_pipe_nexts.specs.declared.line.StageLine.{StageLine}
 use Rattle.pdl_pipe_nexts.specs.Lines.{line_form, line_pipe, IsLineIn}
 use Rattle.pdl_pipe_locks.specs.declared.deeds.StageDeeds.{StageDeeds}
 use Rattle.pdl_pipe_locks.specs.Deeds.{IsDeed, AreDeeds}
@@ -34,7 +34,7 @@ at_bit c (y ∷ ys) zero x l is h = subst (IsBit c) is h.0
 at_bit c (y ∷ ys) (suc k) x l is h = at_bit c ys k x (omega (arith, l)) is h.1
 
 -- what the locks are told of the stages of a line is there, with its widths
-pub deeds_there : {T : Type 0} (l : Members T) (c : Circuit) (x : Line) (xs : List (Option (MemLock T))) (ds : List StageDeeds)
+pub deeds_there : {T : Type 0} (l : Members T) (c : Circuit) (x : StageLine) (xs : List (Option (MemLock T))) (ds : List StageDeeds)
     → IsLineIn c x → AreLocked l c (line_pipe x) xs → signals_in c x.shared.now.next ≡ next_signals c xs
     → AreDeedsOf x ds → AreDeeds l c (line_pipe x) (line_form x).widths xs ds
 deeds_there l c x xs ds line locked next told = record { count = told.count ∙ line.count; each = each_from (IsDeed l c (line_pipe x) (line_form x).widths xs) ds each }
@@ -57,7 +57,7 @@ deeds_there l c x xs ds line locked next told = record { count = told.count ∙ 
         }
 
 -- what ports and orders are told of the stages of a line is there, with its widths
-pub ends_there : (c : Circuit) (x : Line) (es : List StageEnd) → IsLineIn c x → AreEndsOf x es → AreEnds c (line_form x) es
+pub ends_there : (c : Circuit) (x : StageLine) (es : List StageEnd) → IsLineIn c x → AreEndsOf x es → AreEnds c (line_form x) es
 ends_there c x es line told = record { count = told.count ∙ line.count; each = each_from (IsEnd c (line_form x)) es each }
   where
     each : (k : ℕ) (e : StageEnd) → k < length es → slice_index_or es k e ≡ e → IsEnd c (line_form x) e

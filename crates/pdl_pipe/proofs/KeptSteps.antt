@@ -13,7 +13,7 @@ use Rattle.pdl_lockapi.specs.declared.LockNets.{LockNets}
 use Rattle.pdl_order.specs.declared.OrderRegs.{OrderRegs}
 use Rattle.pdl_pipe_beside.specs.declared.ends.StageEnd.{StageEnd}
 use Rattle.pdl_pipe_registers.specs.declared.nets.StageNets.{StageNets}
-use Rattle.pdl_pipe_nexts.specs.declared.line.Line.{Line}
+use Rattle.pdl_pipe_nexts.specs.declared.line.StageLine.{StageLine}
 use Rattle.pdl_pipe_nexts.specs.Nexts.{regs_of}
 use Rattle.pdl_pipe_tails.specs.declared.whole.TailNets.{TailNets}
 use Rattle.pdl_pipe.specs.Emitted.{HasSteps}
@@ -55,7 +55,7 @@ apart_from low high high' ss l h other m = record {
 }
 
 -- all steps keep the nets
-pub steps_keep : {T : Type 0} (l : Members T) (c i : Circuit) (x : Line) (locks : List (Option (MemLock T)))
+pub steps_keep : {T : Type 0} (l : Members T) (c i : Circuit) (x : StageLine) (locks : List (Option (MemLock T)))
     (forks : List (Option OrderRegs)) (es : List StageEnd) (squash : Net) (tails : TailNets)
     (commits : List (Option LockNets))
     → AreApart 0 (length c.regs) x.stages.now → HasSteps l c i x locks forks es squash tails commits → Keeps c i

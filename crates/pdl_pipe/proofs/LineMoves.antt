@@ -13,7 +13,7 @@ use Rattle.pdl_pipe_walk.specs.Locked.{Members, some_at}
 use Rattle.pdl_pipe_answers.specs.Ports.{IsBit}
 use Rattle.pdl_pipe_beside.specs.Orders.{StandOrders}
 use Rattle.pdl_pipe_beside.proofs.OrderParts.{is_merged_by}
-use Rattle.pdl_pipe_nexts.specs.declared.line.Line.{Line}
+use Rattle.pdl_pipe_nexts.specs.declared.line.StageLine.{StageLine}
 use Rattle.pdl_pipe_nexts.specs.Lines.{line_pipe, IsLineIn}
 use Rattle.pdl_pipe_moves.specs.declared.whole.MoveNets.{MoveNets}
 use Rattle.pdl_pipe_moves.specs.Gates.{HasTurns, IsOrderThere}
@@ -31,7 +31,7 @@ has_turns c p rs forks h q i low is = (subst (λ n. i < n) (sym h.count) (forks 
     there (Some r) e = (h.each i r (forks q i low is) e).nets
 
 -- one line in place of another, of the same stages
-pub line_with : (c : Circuit) (x y : Line) → IsLineIn c x
+pub line_with : (c : Circuit) (x y : StageLine) → IsLineIn c x
     → length y.moves.now ≡ length x.stages.now → Each (IsBit c) y.moves.now → length y.kills.now ≡ length x.stages.now
     → Each (IsBit c) y.kills.now → IsLineIn c (record y { pipe = x.pipe; shared = x.shared; stages = x.stages })
 line_with c x y h m ms k ks = record {
@@ -47,7 +47,7 @@ line_with c x y h m ms k ks = record {
 }
 
 -- a line is laid out as before with the moves and removals of another line in it
-pub layout_with : {T : Type 0} (l : Members T) (a : Circuit) (x y : Line) (xs : List (Option (MemLock T)))
+pub layout_with : {T : Type 0} (l : Members T) (a : Circuit) (x y : StageLine) (xs : List (Option (MemLock T)))
     (rs : List (Option OrderRegs)) (low mid high : ℕ)
     → IsLayout l a x xs rs low mid high
     → IsLayout l a (record y { pipe = x.pipe; shared = x.shared; stages = x.stages }) xs rs low mid high
@@ -75,7 +75,7 @@ layout_with l a x y xs rs low mid high h = record {
 }
 
 -- the moves of a line are its moves as well with the moves and removals of another line in it
-pub moved_with : (c : Circuit) (x y : Line) (rs : List (Option OrderRegs)) (z : MoveNets) → AreMoved c x rs z
+pub moved_with : (c : Circuit) (x y : StageLine) (rs : List (Option OrderRegs)) (z : MoveNets) → AreMoved c x rs z
     → AreMoved c (record y { pipe = x.pipe; shared = x.shared; stages = x.stages }) rs z
 moved_with c x y rs z h = record {
   passed = record {

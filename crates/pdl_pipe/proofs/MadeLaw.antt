@@ -24,7 +24,7 @@ use Rattle.pdl_pipe_locks.specs.Suited.{shapes_in}
 use Rattle.pdl_pipe_locks.specs.Lawful.{AreLawful}
 use Rattle.pdl_pipe_locks.specs.Stepped.{AreStepped}
 use Rattle.pdl_pipe_locks.proofs.LockGrowth.{Stays}
-use Rattle.pdl_pipe_outputs.specs.declared.outputs.StageNets.{StageNets as ShownNets}
+use Rattle.pdl_pipe_outputs.specs.declared.outputs.ShownNets.{ShownNets}
 use Rattle.pdl_pipe_outputs.specs.declared.outputs.OutNet.{OutNet}
 use Rattle.pdl_pipe_outputs.specs.ToldOutputs.{asks_in, output_of, OutsThere, ShowAll}
 use Rattle.pdl_pipe_emitted.specs.Emitted.{Nets, Emission, name_in, locks_of, views_of, moves_of, gates_of, sides_of}

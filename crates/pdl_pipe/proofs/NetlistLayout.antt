@@ -34,7 +34,7 @@ use Rattle.pdl_pipe_registers.specs.Begun.{IsShared, ticket_net}
 use Rattle.pdl_pipe_registers.specs.Stages.{IsAt, zero_signal}
 use Rattle.pdl_pipe_registers.specs.Staged.{IsStaged, AreStaged, AreApart, next_signals}
 use Rattle.pdl_pipe_registers.proofs.TicketsMade.{next_are, next_there, next_same}
-use Rattle.pdl_pipe_nexts.specs.declared.line.Line.{Line}
+use Rattle.pdl_pipe_nexts.specs.declared.line.StageLine.{StageLine}
 use Rattle.pdl_pipe_nexts.specs.Lines.{line_form, line_pipe, IsLineIn}
 use Rattle.pdl_pipe_locks.proofs.LockGrowth.{Stays, locked_kept, laws_kept}
 use Rattle.pdl_pipe_line.proofs.LineGrowth.{made_keep, line_there}
@@ -44,7 +44,7 @@ use Rattle.pdl_pipe.specs.Emitted.{HasMemories, IsLaidOut}
 use Rattle.pdl_pipe.proofs.KeptSteps.{apart_from, unwritten_kept}
 
 -- stages with the answers, tickets and locks of a later circuit
-answered_later : {T : Type 0} (l : Members T) (a c : Circuit) (x : Line) (e : Keeps a c) (nexts : List Signal) (ls : Locks)
+answered_later : {T : Type 0} (l : Members T) (a c : Circuit) (x : StageLine) (e : Keeps a c) (nexts : List Signal) (ls : Locks)
     → HasAnswers a (line_pipe x) x.shared.now.ports.now
     → AreStaged c (line_form x) nexts (answers_in a x.shared.now.ports.now) ls x.stages.now
     → AreStaged c (line_form x) nexts (answers_in c x.shared.now.ports.now) ls x.stages.now
@@ -61,7 +61,7 @@ answered_later l a c x e nexts ls answers all k s low is =
       walk = h.walk;
     }
 
-module _ {T : Type 0} (l : Members T) (stays : Stays l) (a b s c : Circuit) (x : Line) (xs : List (Option (MemLock T))) (rs : List (Option OrderRegs)) (low mid : ℕ) (bits : Bits) (ab : Extends a b) (bs : Extends b s) (sc : Extends s c)
+module _ {T : Type 0} (l : Members T) (stays : Stays l) (a b s c : Circuit) (x : StageLine) (xs : List (Option (MemLock T))) (rs : List (Option OrderRegs)) (low mid : ℕ) (bits : Bits) (ab : Extends a b) (bs : Extends b s) (sc : Extends s c)
     (mem : HasMemories l a (line_form x) bits xs x.shared.now.ports.now low mid) (same_bits : x.shared.now.bits ≡ bits) (next_is : x.shared.now.next ≡ map (ticket_net bits.zero) xs)
     (zeros_there : NetsThere c x.shared.now.zeros) (zeros : signals_in c x.shared.now.zeros ≡ map zero_signal (line_form x).widths) where
   ac : Extends a c
@@ -136,7 +136,7 @@ module _ {T : Type 0} (l : Members T) (stays : Stays l) (a b s c : Circuit) (x :
         }
 
 -- one line of these stages, whose threads don't move yet
-module _ {T : Type 0} (l : Members T) (stays : Stays l) (a b s c : Circuit) (x : Line) (xs : List (Option (MemLock T))) (rs : List (Option OrderRegs)) (low mid : ℕ) (bits : Bits) (ab : Extends a b) (bs : Extends b s) (sc : Extends s c) (can : CanEmit (line_form x))
+module _ {T : Type 0} (l : Members T) (stays : Stays l) (a b s c : Circuit) (x : StageLine) (xs : List (Option (MemLock T))) (rs : List (Option OrderRegs)) (low mid : ℕ) (bits : Bits) (ab : Extends a b) (bs : Extends b s) (sc : Extends s c) (can : CanEmit (line_form x))
     (mem : HasMemories l a (line_form x) bits xs x.shared.now.ports.now low mid) (same_bits : x.shared.now.bits ≡ bits) (next_is : x.shared.now.next ≡ map (ticket_net bits.zero) xs)
     (zeros_there : NetsThere c x.shared.now.zeros) (zeros : signals_in c x.shared.now.zeros ≡ map zero_signal (line_form x).widths) (orders : AreParts order_own (HasOrderOf b (line_pipe x)) (length a.regs) (length b.regs) rs (length (line_pipe x).stages))
     (ss : List StageNets) (stages_are : x.stages.now ≡ ss) (staged : AreStaged s (line_form x) (next_signals b xs) (answers_in b x.shared.now.ports.now) (locks_in l (line_pipe x) b xs) ss)

@@ -13,11 +13,11 @@ use Rattle.pdl_lockapi.specs.Laws.{StepSignals}
 use Rattle.pdl_pipe_walk.specs.declared.locks.MemLock.{MemLock}
 use Rattle.pdl_pipe_walk.specs.Locked.{Members, some_at, AreLocked}
 use Rattle.pdl_pipe_beside.specs.declared.outside.RequestNets.{RequestNets}
-use Rattle.pdl_pipe_nexts.specs.declared.line.Line.{Line}
+use Rattle.pdl_pipe_nexts.specs.declared.line.StageLine.{StageLine}
 use Rattle.pdl_pipe_nexts.specs.Lines.{line_pipe, IsLineIn}
 use Rattle.pdl_pipe_nexts.proofs.LineGrowth.{bits_there}
 use Rattle.pdl_pipe_locks.specs.Stepped.{AreStepped}
-use Rattle.pdl_pipe_outputs.specs.declared.outputs.StageNets.{StageNets as ShownNets}
+use Rattle.pdl_pipe_outputs.specs.declared.outputs.ShownNets.{ShownNets}
 use Rattle.pdl_pipe_outputs.specs.ToldOutputs.{AreThereStages, AreCommits, AreAsked, IsThereCommit, IsThereRequest}
 use Rattle.pdl_pipe_emitted.proofs.SidesStages.{some_of}
 use Rattle.pdl_pipe.specs.Emitted.{AreShownOf}
@@ -30,7 +30,7 @@ stages_from c [] h = tt
 stages_from c (s ∷ ss) h = let x = h 0 s (omega arith) refl in (x.0, x.1, stages_from c ss (λ k y l is. h (suc k) y (omega (arith, l)) is))
 
 -- the nets that show of each stage of a line whether it holds a thread and whether that moves are there
-pub shown_there : (c : Circuit) (x : Line) (ss : List ShownNets) → IsLineIn c x → AreShownOf x ss → AreThereStages c ss
+pub shown_there : (c : Circuit) (x : StageLine) (ss : List ShownNets) → IsLineIn c x → AreShownOf x ss → AreThereStages c ss
 shown_there c x ss line told = stages_from c ss each
   where
     each : (k : ℕ) (y : ShownNets) → k < length ss → slice_index_or ss k y ≡ y → IsThere c y.valid × IsThere c y.moves

@@ -30,7 +30,7 @@ use Rattle.pdl_pipe_beside.specs.Steps.{IsPortStepped, IsOrderStepped}
 use Rattle.pdl_pipe_registers.specs.declared.nets.StageNets.{StageNets}
 use Rattle.pdl_pipe_registers.specs.Stages.{IsAt}
 use Rattle.pdl_pipe_registers.specs.Staged.{AreApart}
-use Rattle.pdl_pipe_nexts.specs.declared.line.Line.{Line}
+use Rattle.pdl_pipe_nexts.specs.declared.line.StageLine.{StageLine}
 use Rattle.pdl_pipe_nexts.specs.Lines.{line_form, line_pipe}
 use Rattle.pdl_pipe_nexts.specs.Nexts.{regs_of, TakesNext}
 use Rattle.pdl_pipe_moves.specs.declared.whole.MoveNets.{MoveNets}
@@ -43,12 +43,12 @@ use Rattle.pdl_pipe_locks.specs.Lawful.{AreLawful, AreUnwritten}
 use Rattle.pdl_pipe_locks.specs.Stepped.{own_of, AreStepped, ExtendsLocks}
 use Rattle.pdl_pipe_locks.specs.Suited.{shapes_in}
 use Rattle.pdl_pipe_outputs.specs.declared.outputs.OutNet.{OutNet}
-use Rattle.pdl_pipe_outputs.specs.declared.outputs.StageNets.{StageNets as ShownNets}
+use Rattle.pdl_pipe_outputs.specs.declared.outputs.ShownNets.{ShownNets}
 use Rattle.pdl_pipe_outputs.specs.ToldOutputs.{OutsThere, ShowAll, output_of}
 use Rattle.pdl_pipe_emitted.specs.Emitted.{AreDeedsOf, Emission, IsLayout, Nets, inputs_of, name_in}
 
 -- of each stage whether it holds a thread, and whether that moves
-pub record AreShownOf (x : Line) (ss : List ShownNets) : Type 0 where
+pub record AreShownOf (x : StageLine) (ss : List ShownNets) : Type 0 where
   pub count : length ss ≡ length x.stages.now
   pub valid : (k : ℕ) (s : StageNets) (y : ShownNets) → k < length ss → IsAt x.stages.now k s → slice_index_or ss k y ≡ y → y.valid ≡ RegNet s.regs.valid
   pub moves : (k : ℕ) (z : Net) (y : ShownNets) → k < length ss → slice_index_or x.moves.now k z ≡ z → slice_index_or ss k y ≡ y → y.moves ≡ z
@@ -77,11 +77,11 @@ abbrev pub HasMemoriesIn : {T : Type 0} → Members T → Circuit → Form → B
 HasMemoriesIn l c f bits locks ports = (low : ℕ) × (mid : ℕ) × HasMemories l c f bits locks ports low mid
 
 -- all that stands in a circuit before the moves are known, with some bounds between its registers
-abbrev pub IsLaidOut : {T : Type 0} → Members T → Circuit → Line → List (Option (MemLock T)) → List (Option OrderRegs) → Type 0
+abbrev pub IsLaidOut : {T : Type 0} → Members T → Circuit → StageLine → List (Option (MemLock T)) → List (Option OrderRegs) → Type 0
 IsLaidOut l c x locks orders = (low : ℕ) × (mid : ℕ) × (high : ℕ) × IsLayout l c x locks orders low mid high
 
 -- it is known who moves
-pub record HasMoves {T : Type 0} (l : Members T) (b : Circuit) (x : Line) (locks : List (Option (MemLock T))) (forks : List (Option OrderRegs)) (y : MoveNets) : Type 0 where
+pub record HasMoves {T : Type 0} (l : Members T) (b : Circuit) (x : StageLine) (locks : List (Option (MemLock T))) (forks : List (Option OrderRegs)) (y : MoveNets) : Type 0 where
   pub a : Circuit
   pub layout : IsLaidOut l a x locks forks
   pub to_moves : Extends a b
@@ -90,14 +90,14 @@ pub record HasMoves {T : Type 0} (l : Members T) (b : Circuit) (x : Line) (locks
   pub line_kills_are : x.kills.now ≡ y.kills.items
 
 -- the locks take what they should next, from circuit h to circuit i
-pub record HasLockSteps {T : Type 0} (l : Members T) (h i : Circuit) (x : Line) (locks : List (Option (MemLock T))) (squash : Net) (cut : List Net) (commits : List (Option LockNets)) : Type 0 where
+pub record HasLockSteps {T : Type 0} (l : Members T) (h i : Circuit) (x : StageLine) (locks : List (Option (MemLock T))) (squash : Net) (cut : List Net) (commits : List (Option LockNets)) : Type 0 where
   pub deeds : List StageDeeds
   pub are_deeds : AreDeedsOf x deeds
   pub stepped : AreStepped l i (line_pipe x) (steps_in h (line_pipe x) deeds squash cut) locks commits (length (line_pipe x).mems)
   pub to_locks : ExtendsLocks locks (length (line_pipe x).mems) h i
 
 -- all registers do, from circuit c to circuit i; those of the stages are from `high` on
-pub record HasSteps {T : Type 0} (l : Members T) (c i : Circuit) (x : Line) (locks : List (Option (MemLock T))) (forks : List (Option OrderRegs)) (es : List StageEnd) (squash : Net) (tails : TailNets) (commits : List (Option LockNets)) : Type 0 where
+pub record HasSteps {T : Type 0} (l : Members T) (c i : Circuit) (x : StageLine) (locks : List (Option (MemLock T))) (forks : List (Option OrderRegs)) (es : List StageEnd) (squash : Net) (tails : TailNets) (commits : List (Option LockNets)) : Type 0 where
   pub e : Circuit
   pub f : Circuit
   pub g : Circuit

@@ -7,9 +7,9 @@ use pdl_kit::NoMemory;
 use pdl_net::Net;
 use pdl_pipe_beside::StageEnd;
 use pdl_pipe_locks::StageDeeds;
-use pdl_pipe_nexts::Line;
+use pdl_pipe_nexts::StageLine;
 use pdl_pipe_nexts::line::stage_of;
-use pdl_pipe_outputs::StageNets as ShownNets;
+use pdl_pipe_outputs::ShownNets;
 use std::alloc::Global;
 
 // A net, by its place.
@@ -21,7 +21,7 @@ fn net_of(nets: &[Net], k: usize) -> Net
 }
 
 /// Each stage after its statements, with whether its thread moves and whether it is removed.
-pub fn stage_ends<'a>(alloc: Global, line: &Line<'a>) -> Result<Vec<StageEnd<'a>>, NoMemory>
+pub fn stage_ends<'a>(alloc: Global, line: &StageLine<'a>) -> Result<Vec<StageEnd<'a>>, NoMemory>
     requires moves { length line.now.moves.now ≡ length line.now.stages.now }
     requires kills { length line.now.kills.now ≡ length line.now.stages.now }
     ensures { IfOk result (λ es. AreEndsOf line.now es.items) }
@@ -38,7 +38,7 @@ pub fn stage_ends<'a>(alloc: Global, line: &Line<'a>) -> Result<Vec<StageEnd<'a>
 }
 
 /// What each stage does to the locks.
-pub fn deeds<'a>(alloc: Global, line: &Line<'a>) -> Result<Vec<StageDeeds<'a>>, NoMemory>
+pub fn deeds<'a>(alloc: Global, line: &StageLine<'a>) -> Result<Vec<StageDeeds<'a>>, NoMemory>
     requires moves { length line.now.moves.now ≡ length line.now.stages.now }
     ensures { IfOk result (λ ds. AreDeedsOf line.now ds.items) }
 {
@@ -55,7 +55,7 @@ pub fn deeds<'a>(alloc: Global, line: &Line<'a>) -> Result<Vec<StageDeeds<'a>>, 
 }
 
 /// Of each stage whether it holds a thread, and whether that moves.
-pub fn stage_ports(alloc: Global, line: &Line<'_>) -> Result<Vec<ShownNets>, NoMemory>
+pub fn stage_ports(alloc: Global, line: &StageLine<'_>) -> Result<Vec<ShownNets>, NoMemory>
     requires moves { length line.now.moves.now ≡ length line.now.stages.now }
     ensures { IfOk result (λ ss. AreShownOf line.now ss.items) }
 {

@@ -21,11 +21,11 @@ use pdl_kit::{NoMemory, Seq};
 use pdl_lockapi::LockModule;
 use pdl_net::Net;
 use pdl_order::OrderRegs;
-use pdl_pipe_beside::{Round, order_states, port_states, requests};
+use pdl_pipe_beside::{BesideRound, order_states, port_states, requests};
 use pdl_pipe_exprs::Bits;
 use pdl_pipe_locks::memories;
 use pdl_pipe_moves::{MoveNets, all_moves};
-use pdl_pipe_nexts::Line;
+use pdl_pipe_nexts::StageLine;
 use pdl_pipe_outputs::{all_outputs, read_inputs, reply_inputs, show};
 use pdl_pipe_registers::tickets::next_tickets;
 use pdl_pipe_registers::{Shared, stages};
@@ -37,7 +37,7 @@ use std::alloc::Global;
 fn emit_steps<L: LockModule>(
     alloc: Global,
     b: &mut Builder,
-    line: &Line<'_>,
+    line: &StageLine<'_>,
     locks: &[Option<MemLock<L>>],
     orders: &[Option<OrderRegs>],
     moves: &MoveNets,
@@ -48,7 +48,7 @@ fn emit_steps<L: LockModule>(
     ensures { OnOk result (IsEmitted (members L.LockModule) b.new (line_form line.now)) }
 {
     let ends = stage_ends(alloc, line)?;
-    let round = Round {
+    let round = BesideRound {
         pipe: line.pipe,
         bits: line.shared.bits,
         ends: ends.as_slice(),
@@ -78,7 +78,7 @@ fn emit_steps<L: LockModule>(
 fn emit_moves<L: LockModule>(
     alloc: Global,
     b: &mut Builder,
-    line: &Line<'_>,
+    line: &StageLine<'_>,
     locks: &[Option<MemLock<L>>],
     orders: &[Option<OrderRegs>],
 ) -> Result<(), NoMemory>
@@ -88,7 +88,7 @@ fn emit_moves<L: LockModule>(
     ensures { OnOk result (IsEmitted (members L.LockModule) b.new (line_form line.now)) }
 {
     let moves = all_moves(alloc, b, line, orders)?;
-    let moving = Line {
+    let moving = StageLine {
         pipe: line.pipe,
         shared: line.shared,
         stages: line.stages,
@@ -148,7 +148,7 @@ fn emit_stages<L: LockModule>(
         ports,
     };
     let blank = blank(alloc, bits, stages.len())?;
-    let line = Line {
+    let line = StageLine {
         pipe,
         shared: &shared,
         stages: stages.as_slice(),

@@ -18,9 +18,9 @@ use pdl_kit::NoMemory;
 use pdl_lockapi::{LockModule, LockNets};
 use pdl_net::Net;
 use pdl_order::OrderRegs;
-use pdl_pipe_beside::{Round, StageEnd, order_steps, port_steps};
+use pdl_pipe_beside::{BesideRound, StageEnd, order_steps, port_steps};
 use pdl_pipe_locks::{Round as LockRound, step};
-use pdl_pipe_nexts::{Line, connect};
+use pdl_pipe_nexts::{StageLine, connect};
 use pdl_pipe_tails::{TailNets, tails};
 use pdl_pipe_walk::MemLock;
 use std::alloc::Global;
@@ -35,7 +35,7 @@ pub struct StepNets {
 /// What is told of a pipe when its registers are: the stages with their moves, its locks, the orders of its forks, and whether a squash happens.
 #[derive(Drop)]
 pub struct Standing<'a, L> {
-    pub line: &'a Line<'a>,
+    pub line: &'a StageLine<'a>,
     pub locks: &'a [Option<MemLock<L>>],
     pub orders: &'a [Option<OrderRegs>],
     pub squash: Net,
@@ -94,7 +94,7 @@ pub fn set_registers<L: LockModule>(
 {
     connect(alloc, b, all.line)?;
     let tails = tails(alloc, b, all.line)?;
-    let round = Round {
+    let round = BesideRound {
         pipe: all.line.pipe,
         bits: all.line.shared.bits,
         ends,

@@ -7,7 +7,7 @@ ghost use Rattle.pdl_semantics.specs.Stages.{stage_at};
 ghost use Rattle.pdl_machine_inflight.specs.Readings.{reading as read_of, reading_in};
 ghost use Rattle.pdl_pipe_answers.specs.Readings.{reading_view, bound_by, gets_one, gets_some, gets_answer as gets};
 
-use pdl_form::{FlatPipe, Next, Op, Stmt};
+use pdl_form::{FlatPipe, FlatStmt, Next, Op};
 
 /// A delayed read of a memory: the stage that reads, and the variable that it binds.
 #[derive(Clone, Copy)]
@@ -27,7 +27,7 @@ fn bound(op: &Op, mem: usize) -> Option<usize>
 }
 
 // The first delayed read of a memory among statements.
-fn find(stmts: &[Stmt], mem: usize) -> Option<Reading>
+fn find(stmts: &[FlatStmt], mem: usize) -> Option<Reading>
     ensures { option_map reading_view result ≡ reading_in mem (stmts_view stmts.now) }
 {
     for s in stmts {

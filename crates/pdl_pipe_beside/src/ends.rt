@@ -16,7 +16,7 @@ pub struct StageEnd<'a> {
 
 /// What the steps of ports and orders go round: the pipe, the constant bits, and the stages after their statements.
 #[derive(Clone, Copy)]
-pub struct Round<'a, 'e> {
+pub struct BesideRound<'a, 'e> {
     pub pipe: &'a FlatPipe,
     pub bits: Bits,
     pub ends: &'a [StageEnd<'e>],

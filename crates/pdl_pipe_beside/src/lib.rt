@@ -1,6 +1,6 @@
 //! What stands beside the stages of a pipe as nets: the ports of delayed memories and the orders of forks, their registers and their steps.
 //!
-//! The layers above may use `port_states` and `order_states`, which make registers, `port_steps`, `order_steps` and `requests` round a `Round`, the definitions in specs/, and the lemmas `Beside`, by which ports and orders are what the law of a netlist takes.
+//! The layers above may use `port_states` and `order_states`, which make registers, `port_steps`, `order_steps` and `requests` round a `BesideRound`, the definitions in specs/, and the lemmas `Beside`, by which ports and orders are what the law of a netlist takes.
 #![tactic(auto)]
 
 mod asks;
@@ -12,7 +12,7 @@ pub mod outside;
 mod port_round;
 mod ports;
 
-pub use ends::{Round, StageEnd};
+pub use ends::{BesideRound, StageEnd};
 pub use free::port_free;
 pub use order_round::order_steps;
 pub use orders::order_states;

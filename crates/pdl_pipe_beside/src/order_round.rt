@@ -20,10 +20,10 @@ ghost use Rattle.pdl_pipe_beside.specs.Orders.{merged_in, StandOrders};
 ghost use Rattle.pdl_pipe_beside.specs.Ends.{ends_in, moves_in, AreEnds};
 ghost use Rattle.pdl_pipe_beside.specs.Steps.{leave_or as leave_signal, order_signals, IsOrderStepped};
 
-use crate::ends::{Round, end_at};
+use crate::ends::{BesideRound, end_at};
 use crate::orders::{is_merged, merges, stands_in};
 use pdl_build::Builder;
-use pdl_form::{FlatPipe, Next, Stage};
+use pdl_form::{FlatPipe, FlatStage, Next};
 use pdl_kit::NoMemory;
 use pdl_net::Net;
 use pdl_order::{OrderPorts, OrderRegs, emit_order_step};
@@ -41,7 +41,7 @@ fn is_inside(pipe: &FlatPipe, fork: usize, k: usize) -> bool
 }
 
 // Whether a thread that comes into a stage comes into the merge of a fork.
-fn merge_bit(b: &Builder, round: &Round<'_, '_>, fork: usize, q: usize) -> Net
+fn merge_bit(b: &Builder, round: &BesideRound<'_, '_>, fork: usize, q: usize) -> Net
     requires bits { AreBits b.now round.now.bits }
     ensures { Means b.now result (merging (form round.now.pipe.now).pipe fork q) }
 {
@@ -61,7 +61,7 @@ fn merge_bit(b: &Builder, round: &Round<'_, '_>, fork: usize, q: usize) -> Net
 // A bit where the variable of a stage is 1, else another one.
 fn by_variable(
     b: &mut Builder,
-    round: &Round<'_, '_>,
+    round: &BesideRound<'_, '_>,
     k: usize,
     x: usize,
     yes: Net,
@@ -87,7 +87,7 @@ fn by_variable(
 }
 
 // Whether the thread of a stage that forks goes into the first branch.
-fn into_first(b: &mut Builder, round: &Round<'_, '_>, fork: usize) -> Result<Net, NoMemory>
+fn into_first(b: &mut Builder, round: &BesideRound<'_, '_>, fork: usize) -> Result<Net, NoMemory>
     requires bits { AreBits b.old round.now.bits }
     requires forks { AreForks (form round.now.pipe.now).widths (form round.now.pipe.now).pipe.stages }
     requires ends { AreEnds b.old (form round.now.pipe.now) round.now.ends.now }
@@ -108,7 +108,7 @@ fn into_first(b: &mut Builder, round: &Round<'_, '_>, fork: usize) -> Result<Net
 }
 
 // Whether it goes into the second branch.
-fn into_second(b: &mut Builder, round: &Round<'_, '_>, fork: usize) -> Result<Net, NoMemory>
+fn into_second(b: &mut Builder, round: &BesideRound<'_, '_>, fork: usize) -> Result<Net, NoMemory>
     requires bits { AreBits b.old round.now.bits }
     requires forks { AreForks (form round.now.pipe.now).widths (form round.now.pipe.now).pipe.stages }
     requires ends { AreEnds b.old (form round.now.pipe.now) round.now.ends.now }
@@ -131,7 +131,7 @@ fn into_second(b: &mut Builder, round: &Round<'_, '_>, fork: usize) -> Result<Ne
 // Whether the thread of a stage goes into the merge of a fork.
 fn into_merge(
     b: &mut Builder,
-    round: &Round<'_, '_>,
+    round: &BesideRound<'_, '_>,
     fork: usize,
     k: usize,
 ) -> Result<Net, NoMemory>
@@ -160,7 +160,7 @@ fn into_merge(
 // Whether the thread of a stage in a branch of a fork goes into the merge, or else one of the rest.
 fn leave_or(
     b: &mut Builder,
-    round: &Round<'_, '_>,
+    round: &BesideRound<'_, '_>,
     fork: usize,
     k: usize,
     rest: Net,
@@ -187,7 +187,7 @@ fn leave_or(
 }
 
 // Whether a thread leaves the branches of a fork.
-fn leaves_fork(b: &mut Builder, round: &Round<'_, '_>, fork: usize) -> Result<Net, NoMemory>
+fn leaves_fork(b: &mut Builder, round: &BesideRound<'_, '_>, fork: usize) -> Result<Net, NoMemory>
     requires bits { AreBits b.old round.now.bits }
     requires forks { AreForks (form round.now.pipe.now).widths (form round.now.pipe.now).pipe.stages }
     requires ends { AreEnds b.old (form round.now.pipe.now) round.now.ends.now }
@@ -207,7 +207,7 @@ fn leaves_fork(b: &mut Builder, round: &Round<'_, '_>, fork: usize) -> Result<Ne
 }
 
 // The first of the stages.
-fn front(stages: &[Stage], count: usize) -> &[Stage]
+fn front(stages: &[FlatStage], count: usize) -> &[FlatStage]
     requires { count ≤ length stages.now }
     ensures { result.now ≡ take count stages.now }
 {
@@ -215,7 +215,7 @@ fn front(stages: &[Stage], count: usize) -> &[Stage]
 }
 
 // Whether one of the stages up to this one merges a fork.
-fn is_merged_by(stages: &[Stage], fork: usize, last: usize) -> bool
+fn is_merged_by(stages: &[FlatStage], fork: usize, last: usize) -> bool
     ensures { result ≡ merged_in (take (suc last) (stages_view stages.now)) fork }
 {
     if last < stages.len() {
@@ -236,7 +236,12 @@ fn is_emptied(pipe: &FlatPipe, fork: usize) -> bool
 }
 
 // Whether the thread of a fork moves, and goes where a net says.
-fn enters(b: &mut Builder, round: &Round<'_, '_>, fork: usize, goes: Net) -> Result<Net, NoMemory>
+fn enters(
+    b: &mut Builder,
+    round: &BesideRound<'_, '_>,
+    fork: usize,
+    goes: Net,
+) -> Result<Net, NoMemory>
     requires bits { AreBits b.old round.now.bits }
     requires ends { AreEnds b.old (form round.now.pipe.now) round.now.ends.now }
     requires stage { fork < length (form round.now.pipe.now).pipe.stages }
@@ -254,7 +259,7 @@ fn enters(b: &mut Builder, round: &Round<'_, '_>, fork: usize, goes: Net) -> Res
 // What the stages do to the order of a fork; `squash` says whether a squash happens.
 fn order_ports(
     b: &mut Builder,
-    round: &Round<'_, '_>,
+    round: &BesideRound<'_, '_>,
     squash: Net,
     fork: usize,
 ) -> Result<OrderPorts, NoMemory>
@@ -298,7 +303,7 @@ fn order_at(orders: &[Option<OrderRegs>], fork: usize) -> &Option<OrderRegs>
 // The step of the order of a fork, where it has one.
 fn fork_step(
     b: &mut Builder,
-    round: &Round<'_, '_>,
+    round: &BesideRound<'_, '_>,
     squash: Net,
     orders: &[Option<OrderRegs>],
     fork: usize,
@@ -327,7 +332,7 @@ fn fork_step(
 /// What the registers of all orders take next, by what the stages do: which thread goes into which branch, which leaves, and whether a squash removes all. It is called once.
 pub fn order_steps(
     b: &mut Builder,
-    round: &Round<'_, '_>,
+    round: &BesideRound<'_, '_>,
     squash: Net,
     orders: &[Option<OrderRegs>],
 ) -> Result<(), NoMemory>

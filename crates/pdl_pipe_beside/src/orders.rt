@@ -10,13 +10,13 @@ ghost use Rattle.pdl_pipe_beside.specs.Parts.{AreParts, IsNewPart};
 ghost use Rattle.pdl_pipe_beside.specs.Orders.{merged_in, is_merged as merged, branches_in, ForksFit, HasOrderOf};
 
 use pdl_build::Builder;
-use pdl_form::{FlatPipe, Stage};
+use pdl_form::{FlatPipe, FlatStage};
 use pdl_kit::NoMemory;
 use pdl_order::{OrderRegs, emit_order_state};
 use std::alloc::Global;
 
 // Whether a stage merges a fork.
-pub(crate) fn merges(stage: &Stage, fork: usize) -> bool
+pub(crate) fn merges(stage: &FlatStage, fork: usize) -> bool
     ensures { result ≡ merges_fork stage.now.merges fork }
 {
     match stage.merges {
@@ -26,7 +26,7 @@ pub(crate) fn merges(stage: &Stage, fork: usize) -> bool
 }
 
 // Whether a stage stands in a branch of a fork.
-pub(crate) fn stands_in(stage: &Stage, fork: usize) -> bool
+pub(crate) fn stands_in(stage: &FlatStage, fork: usize) -> bool
     ensures { result ≡ is_branch_of (branch_view stage.now.branch) fork }
 {
     match stage.branch {
@@ -36,7 +36,7 @@ pub(crate) fn stands_in(stage: &Stage, fork: usize) -> bool
 }
 
 // Whether some stage merges a fork.
-pub(crate) fn is_merged(stages: &[Stage], fork: usize) -> bool
+pub(crate) fn is_merged(stages: &[FlatStage], fork: usize) -> bool
     ensures { result ≡ merged_in (stages_view stages.now) fork }
 {
     for stage in stages {
@@ -48,7 +48,7 @@ pub(crate) fn is_merged(stages: &[Stage], fork: usize) -> bool
 }
 
 // How many stages the branches of a fork have.
-fn branch_count(stages: &[Stage], fork: usize) -> usize
+fn branch_count(stages: &[FlatStage], fork: usize) -> usize
     ensures { result ≡ branches_in (stages_view stages.now) fork }
 {
     let mut count = 0;

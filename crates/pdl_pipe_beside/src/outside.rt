@@ -15,10 +15,10 @@ ghost use Rattle.pdl_pipe_beside.specs.Ends.{AreEnds};
 ghost use Rattle.pdl_pipe_beside.specs.Requests.{address_or as or_signal, address_from, IsAddressNet, IsRequest, HasRequest, AreRequests};
 
 use crate::asks::{ask_at, asks_memory};
-use crate::ends::{Round, end_at};
+use crate::ends::{BesideRound, end_at};
 use crate::ports::memory;
 use pdl_build::Builder;
-use pdl_form::Mem;
+use pdl_form::FlatMem;
 use pdl_kit::NoMemory;
 use pdl_net::Net;
 use pdl_pipe_answers::read_delayed;
@@ -34,7 +34,7 @@ pub struct RequestNets {
 }
 
 // The bits of an address of a memory.
-fn address_bits(mem: &Mem) -> u8
+fn address_bits(mem: &FlatMem) -> u8
     requires { IsTypedMem (mem_view mem.now) }
     ensures power { 2 ^ result ≡ mem.now.depth }
     ensures low { 1 ≤ result }
@@ -127,7 +127,7 @@ fn stage_request(
 }
 
 // What the stages ask of a delayed memory.
-fn request(b: &mut Builder, round: &Round<'_, '_>, m: usize) -> Result<RequestNets, NoMemory>
+fn request(b: &mut Builder, round: &BesideRound<'_, '_>, m: usize) -> Result<RequestNets, NoMemory>
     requires bits { AreBits b.old round.now.bits }
     requires mems { AreTypedMems (form round.now.pipe.now).pipe.mems }
     requires leads { ReadsLeadOn (form round.now.pipe.now).pipe }
@@ -158,7 +158,7 @@ fn request(b: &mut Builder, round: &Round<'_, '_>, m: usize) -> Result<RequestNe
 // What the stages ask of a memory, where it is delayed.
 fn memory_request(
     b: &mut Builder,
-    round: &Round<'_, '_>,
+    round: &BesideRound<'_, '_>,
     m: usize,
 ) -> Result<Option<RequestNets>, NoMemory>
     requires bits { AreBits b.old round.now.bits }
@@ -181,7 +181,7 @@ fn memory_request(
 pub fn requests(
     alloc: Global,
     b: &mut Builder,
-    round: &Round<'_, '_>,
+    round: &BesideRound<'_, '_>,
 ) -> Result<Vec<Option<RequestNets>>, NoMemory>
     requires bits { AreBits b.old round.now.bits }
     requires mems { AreTypedMems (form round.now.pipe.now).pipe.mems }

@@ -19,7 +19,7 @@ ghost use Rattle.pdl_pipe_beside.specs.Ends.{ends_in, moves_in, kills_in, AreEnd
 ghost use Rattle.pdl_pipe_beside.specs.Steps.{AreNetsOf, IsPortStepped};
 
 use crate::asks::{asks_memory, goes_to_place};
-use crate::ends::{Round, end_at};
+use crate::ends::{BesideRound, end_at};
 use crate::ports::place_count;
 use pdl_build::Builder;
 use pdl_form::{FlatPipe, Next};
@@ -44,7 +44,7 @@ pub(crate) fn place(next: Next, i: usize) -> usize
 // Whether the thread asks that comes into a place of a stage, where `asks` says whether the stage's thread does.
 fn asks_into(
     b: &mut Builder,
-    round: &Round<'_, '_>,
+    round: &BesideRound<'_, '_>,
     asks: Net,
     stage: usize,
     i: usize,
@@ -71,7 +71,7 @@ fn asks_into(
 // Whether the thread of a stage moves and asks a memory.
 fn stage_asks(
     b: &mut Builder,
-    round: &Round<'_, '_>,
+    round: &BesideRound<'_, '_>,
     m: usize,
     stage: usize,
 ) -> Result<Net, NoMemory>
@@ -92,7 +92,7 @@ fn stage_asks(
 fn step_nets(
     alloc: Global,
     b: &mut Builder,
-    round: &Round<'_, '_>,
+    round: &BesideRound<'_, '_>,
     m: usize,
     r: Reading,
 ) -> Result<PortStep, NoMemory>
@@ -151,7 +151,7 @@ fn port_of(ports: &[Option<PortRegs>], m: usize) -> &PortRegs
 fn memory_step(
     alloc: Global,
     b: &mut Builder,
-    round: &Round<'_, '_>,
+    round: &BesideRound<'_, '_>,
     ports: &[Option<PortRegs>],
     m: usize,
 ) -> Result<(), NoMemory>
@@ -178,7 +178,7 @@ fn memory_step(
 pub fn port_steps(
     alloc: Global,
     b: &mut Builder,
-    round: &Round<'_, '_>,
+    round: &BesideRound<'_, '_>,
     ports: &[Option<PortRegs>],
 ) -> Result<(), NoMemory>
     requires bits { AreBits b.old round.now.bits }

@@ -12,7 +12,7 @@ ghost use Rattle.pdl_pipe_beside.specs.Ports.{ReadsLeadOn, input_at as input_in,
 
 use crate::PortInput;
 use pdl_build::Builder;
-use pdl_form::{FlatPipe, Mem, Next};
+use pdl_form::{FlatMem, FlatPipe, Next};
 use pdl_kit::{MemInfo, NoMemory};
 use pdl_pipe_answers::{next_of, read_delayed};
 use pdl_port::{PortRegs, emit_port_state};
@@ -31,7 +31,7 @@ pub(crate) fn place_count(next: Next) -> u8
 }
 
 // The memory of a number.
-pub(crate) fn memory(pipe: &FlatPipe, m: usize) -> &Mem
+pub(crate) fn memory(pipe: &FlatPipe, m: usize) -> &FlatMem
     requires { m < length (form pipe.now).pipe.mems }
     ensures { mem_view result.now ≡ mem_at (form pipe.now).pipe m }
 {
@@ -39,7 +39,7 @@ pub(crate) fn memory(pipe: &FlatPipe, m: usize) -> &Mem
 }
 
 // A memory as it is told to its port.
-fn info(mem: &Mem) -> Result<MemInfo, NoMemory>
+fn info(mem: &FlatMem) -> Result<MemInfo, NoMemory>
     ensures { IfOk result (λ i. i.width ≡ mem.now.width) }
 {
     let name = mem.name.clone()?;

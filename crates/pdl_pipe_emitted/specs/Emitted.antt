@@ -37,7 +37,7 @@ use Rattle.pdl_pipe_registers.specs.declared.nets.StageNets.{StageNets}
 use Rattle.pdl_pipe_registers.specs.Begun.{IsShared}
 use Rattle.pdl_pipe_registers.specs.Stages.{IsAt}
 use Rattle.pdl_pipe_registers.specs.Staged.{AreStaged, AreApart, next_signals}
-use Rattle.pdl_pipe_nexts.specs.declared.line.Line.{Line}
+use Rattle.pdl_pipe_nexts.specs.declared.line.StageLine.{StageLine}
 use Rattle.pdl_pipe_nexts.specs.Lines.{line_form, line_pipe, line_views, line_moves, line_kills, IsLineIn}
 use Rattle.pdl_pipe_nexts.specs.Nexts.{regs_of, TakesNext}
 use Rattle.pdl_pipe_moves.specs.declared.whole.MoveNets.{MoveNets}
@@ -80,7 +80,7 @@ abbrev pub inputs_of : Pipe → ℕ → Inputs
 inputs_of p m = record { reply = input_signal 1 (2 * reply_place p m); word = input_signal (mem_at p m).width (2 * reply_place p m + 1) }
 
 -- inputs, memories with their locks, ports, orders and stages stand in a circuit; the registers of the locks are below `low`, those of the ports from there up to `mid`, those of the orders up to `high`, and those of the stages from there on
-pub record IsLayout {T : Type 0} (l : Members T) (a : Circuit) (x : Line) (locks : List (Option (MemLock T))) (forks : List (Option OrderRegs)) (low mid high : ℕ) : Type 0 where
+pub record IsLayout {T : Type 0} (l : Members T) (a : Circuit) (x : StageLine) (locks : List (Option (MemLock T))) (forks : List (Option OrderRegs)) (low mid high : ℕ) : Type 0 where
   pub shared : IsShared a (line_form x) x.shared.now
   pub next : signals_in a x.shared.now.next ≡ next_signals a locks
   pub staged : AreStaged a (line_form x) (next_signals a locks) (answers_in a x.shared.now.ports.now) (locks_in l (line_pipe x) a locks) x.stages.now
@@ -107,7 +107,7 @@ pub record IsLayout {T : Type 0} (l : Members T) (a : Circuit) (x : Line) (locks
 pub record Nets (T : Type 0) : Type 0 where
   pub locks : List (Option (MemLock T))
   pub orders : List (Option OrderRegs)
-  pub line : Line
+  pub line : StageLine
   pub moves : MoveNets
   pub requests : List (Option RequestNets)
   pub tails : TailNets
@@ -116,13 +116,13 @@ pub record Nets (T : Type 0) : Type 0 where
   pub commits : List (Option LockNets)
 
 -- each stage ends so
-pub record AreEndsOf (x : Line) (es : List StageEnd) : Type 0 where
+pub record AreEndsOf (x : StageLine) (es : List StageEnd) : Type 0 where
   pub count : length es ≡ length x.stages.now
   pub ended : (k : ℕ) (s : StageNets) (e : StageEnd) → k < length es → IsAt x.stages.now k s → slice_index_or es k e ≡ e → e.ended.now ≡ s.end
   pub moves : (k : ℕ) (y : Net) (e : StageEnd) → k < length es → slice_index_or x.moves.now k y ≡ y → slice_index_or es k e ≡ e → e.moves ≡ y
   pub killed : (k : ℕ) (y : Net) (e : StageEnd) → k < length es → slice_index_or x.kills.now k y ≡ y → slice_index_or es k e ≡ e → e.killed ≡ y
 
-pub record AreDeedsOf (x : Line) (ds : List StageDeeds) : Type 0 where
+pub record AreDeedsOf (x : StageLine) (ds : List StageDeeds) : Type 0 where
   pub count : length ds ≡ length x.stages.now
   pub ended : (k : ℕ) (s : StageNets) (d : StageDeeds) → k < length ds → IsAt x.stages.now k s → slice_index_or ds k d ≡ d → d.ended.now ≡ s.end
   pub tickets : (k : ℕ) (s : StageNets) (d : StageDeeds) → k < length ds → IsAt x.stages.now k s → slice_index_or ds k d ≡ d → d.tickets.now ≡ s.tickets

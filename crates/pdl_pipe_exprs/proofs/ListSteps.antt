@@ -2,8 +2,8 @@
 use Rattle.std.proofs.Common.{◌≡◌, ℕ, ◌+◌, ◌<◌, List, [], ◌∷◌, ◌++◌, map, length, drop, get_or, refl, sym, ap, ap₂, ◌∙◌, subst}
 use Rattle.std.proofs.lemmas.List.{map-append, drop_more}
 use Rattle.pdl_semantics.specs.Flat.{Guard, Expr}
-use Rattle.pdl_form.specs.declared.form.Guard as r_guard
-use Rattle.pdl_form.specs.declared.form.Expr as r_expr
+use Rattle.pdl_form.specs.declared.form.FlatGuard as r_guard
+use Rattle.pdl_form.specs.declared.form.FlatExpr as r_expr
 use Rattle.pdl_form.specs.View.{guard_view, guards_view, expr_view, exprs_view}
 use Rattle.pdl_net.specs.declared.Net.{Net}
 use Rattle.pdl_net.specs.Circuit.{Circuit}
@@ -17,7 +17,7 @@ use Rattle.pdl_pipe_exprs.specs.Values.{value_signal, value_signals}
 use Rattle.pdl_form_types.specs.Exprs.{AreTyped}
 use Rattle.pdl_pipe_exprs.proofs.NetLists.{nets_kept}
 
-module _ (gs : List r_guard.Guard) (i : ℕ) (d : r_guard.Guard) (l : i < length gs) where
+module _ (gs : List r_guard.FlatGuard) (i : ℕ) (d : r_guard.FlatGuard) (l : i < length gs) where
   -- the guards from i on, and the next one
   pub guards_split : guards_view (drop i gs) ≡ guard_view (get_or gs i d) ∷ guards_view (drop (i + 1) gs)
   guards_split = ap guards_view (drop_more gs i d l)
@@ -28,7 +28,7 @@ module _ (gs : List r_guard.Guard) (i : ℕ) (d : r_guard.Guard) (l : i < length
   pub taken_next : (fs : List Signal) (f g : Signal) (whole : Signal) → g ≡ both f (literal (get_or gs i d).first (signal_at fs (get_or gs i d).var)) → taken_from fs f (guards_view (drop i gs)) ≡ whole → taken_from fs g (guards_view (drop (i + 1) gs)) ≡ whole
   taken_next fs f g whole e h = ap (λ x. taken_from fs x (guards_view (drop (i + 1) gs))) e ∙ sym (ap (taken_from fs f) guards_split) ∙ h
 
-module _ (es : List r_expr.Expr) (i : ℕ) (d : r_expr.Expr) (l : i < length es) (is : d ≡ get_or es i d) where
+module _ (es : List r_expr.FlatExpr) (i : ℕ) (d : r_expr.FlatExpr) (l : i < length es) (is : d ≡ get_or es i d) where
   pub exprs_split : exprs_view (drop i es) ≡ expr_view d ∷ exprs_view (drop (i + 1) es)
   exprs_split = ap exprs_view (drop_more es i d l) ∙ ap (λ e. expr_view e ∷ exprs_view (drop (i + 1) es)) (sym is)
 

@@ -11,7 +11,7 @@ ghost use Rattle.pdl_form_types.specs.Exprs.{IsTyped, AreTyped};
 ghost use Rattle.pdl_pipe_exprs.specs.Values.{value_signal, value_signals, IsValue};
 
 use pdl_build::Builder;
-use pdl_form::Expr;
+use pdl_form::FlatExpr;
 use pdl_kit::{NoMemory, Seq};
 use pdl_net::{BinOp, Net};
 use pdl_syntax_tree::BinaryOp;
@@ -62,7 +62,7 @@ fn slice_of(b: &mut Builder, vars: &[Net], x: usize, high: u8, low: u8) -> Resul
 }
 
 // The net of an expression, which means its signal.
-fn expr_net(b: &mut Builder, vars: &[Net], e: &Expr) -> Result<Net, NoMemory>
+fn expr_net(b: &mut Builder, vars: &[Net], e: &FlatExpr) -> Result<Net, NoMemory>
     requires there { NetsThere b.old vars.now }
     requires typed { IsTyped (widths_of (signals_in b.old vars.now)) (expr_view e.now) }
     ensures means { IfOk result (λ x.
@@ -71,37 +71,37 @@ fn expr_net(b: &mut Builder, vars: &[Net], e: &Expr) -> Result<Net, NoMemory>
     ensures regs { b.new.regs ≡ b.old.regs }
 {
     match e {
-        Expr::Constant { width, value } => b.constant(*width, *value),
-        Expr::Variable(x) => Ok(variable(b, vars, *x)),
-        Expr::Slice { x, high, low } => slice_of(b, vars, *x, *high, *low),
-        Expr::Not { a, .. } => {
+        FlatExpr::Constant { width, value } => b.constant(*width, *value),
+        FlatExpr::Variable(x) => Ok(variable(b, vars, *x)),
+        FlatExpr::Slice { x, high, low } => slice_of(b, vars, *x, *high, *low),
+        FlatExpr::Not { a, .. } => {
             let a = expr_net(b, vars, a.get())?;
             b.not(a)
         }
-        Expr::Binary { op, a, b: c, .. } => {
+        FlatExpr::Binary { op, a, b: c, .. } => {
             let a = expr_net(b, vars, a.get())?;
             let c = expr_net(b, vars, c.get())?;
             b.bin(bin_op(*op), a, c)
         }
-        Expr::Cat { a, b: c, .. } => {
+        FlatExpr::Cat { a, b: c, .. } => {
             let a = expr_net(b, vars, a.get())?;
             let c = expr_net(b, vars, c.get())?;
             b.cat(a, c)
         }
-        Expr::LessSigned { a, b: c, .. } => {
+        FlatExpr::LessSigned { a, b: c, .. } => {
             let a = expr_net(b, vars, a.get())?;
             let c = expr_net(b, vars, c.get())?;
             b.less_signed(a, c)
         }
-        Expr::ZeroExtend { wide, a } => {
+        FlatExpr::ZeroExtend { wide, a } => {
             let a = expr_net(b, vars, a.get())?;
             b.zero_extend(a, *wide)
         }
-        Expr::SignExtend { wide, a, .. } => {
+        FlatExpr::SignExtend { wide, a, .. } => {
             let a = expr_net(b, vars, a.get())?;
             b.sign_extend(a, *wide)
         }
-        Expr::Choose { c, a, b: d } => {
+        FlatExpr::Choose { c, a, b: d } => {
             let c = expr_net(b, vars, c.get())?;
             let a = expr_net(b, vars, a.get())?;
             let d = expr_net(b, vars, d.get())?;
@@ -114,7 +114,7 @@ fn expr_net(b: &mut Builder, vars: &[Net], e: &Expr) -> Result<Net, NoMemory>
 ///
 /// Where memory runs out, cells may have been added, and every earlier net means what it meant.
 #[tactic(auto, using(crate::proofs::SignalValues::net_value))]
-pub fn value(b: &mut Builder, vars: &[Net], e: &Expr) -> Result<Net, NoMemory>
+pub fn value(b: &mut Builder, vars: &[Net], e: &FlatExpr) -> Result<Net, NoMemory>
     requires there { NetsThere b.old vars.now }
     requires typed { IsTyped (widths_of (signals_in b.old vars.now)) (expr_view e.now) }
     ensures means { IfOk result (λ x.
@@ -132,7 +132,7 @@ pub fn values(
     alloc: Global,
     b: &mut Builder,
     vars: &[Net],
-    es: &[Expr],
+    es: &[FlatExpr],
 ) -> Result<Seq<Net>, NoMemory>
     requires there { NetsThere b.old vars.now }
     requires typed { AreTyped (widths_of (signals_in b.old vars.now)) (exprs_view es.now) }

@@ -10,7 +10,7 @@ ghost use Rattle.pdl_form_types.specs.Stmts.{AreGuards};
 use crate::bits::Bits;
 use crate::exprs::variable;
 use pdl_build::Builder;
-use pdl_form::Guard;
+use pdl_form::FlatGuard;
 use pdl_kit::NoMemory;
 use pdl_net::Net;
 
@@ -26,7 +26,13 @@ fn literal(b: &mut Builder, first: bool, x: Net) -> Result<Net, NoMemory>
 }
 
 // Whether `on` is 1 and a branch is taken.
-fn and_taken(bits: Bits, b: &mut Builder, vars: &[Net], on: Net, g: &Guard) -> Result<Net, NoMemory>
+fn and_taken(
+    bits: Bits,
+    b: &mut Builder,
+    vars: &[Net],
+    on: Net,
+    g: &FlatGuard,
+) -> Result<Net, NoMemory>
     requires bits { AreBits b.old bits }
     requires there { NetsThere b.old vars.now }
     requires on { IsThere b.old on }
@@ -50,7 +56,7 @@ pub fn all_taken(
     bits: Bits,
     b: &mut Builder,
     vars: &[Net],
-    guards: &[Guard],
+    guards: &[FlatGuard],
 ) -> Result<Net, NoMemory>
     requires bits { AreBits b.old bits }
     requires there { NetsThere b.old vars.now }

@@ -25,7 +25,7 @@ use Rattle.pdl_pipe_registers.specs.Begun.{IsShared, IsEnded, AreEnded}
 use Rattle.pdl_pipe_registers.specs.Staged.{IsStaged, AreStaged, AreApart, next_signals}
 use Rattle.pdl_pipe_registers.proofs.StageEnds.{staged_keep}
 use Rattle.pdl_pipe_registers.proofs.TicketsMade.{next_at}
-use Rattle.pdl_pipe_nexts.specs.declared.line.Line.{Line}
+use Rattle.pdl_pipe_nexts.specs.declared.line.StageLine.{StageLine}
 use Rattle.pdl_pipe_nexts.specs.Lines.{IsBit, IsStageNow, IsLineIn, line_form, line_pipe, line_views, line_moves, line_kills}
 use Rattle.pdl_pipe_nexts.specs.Nexts.{TakesNext}
 use Rattle.pdl_pipe_nexts.proofs.LineGrowth.{all_moves_same, kills_same, stage_now, view_same, views_same}
@@ -56,7 +56,7 @@ module _ (f : Form) (nexts : List Signal) (answers : ℕ → ℕ → AnswerSigna
     made_keep = λ k s l is. staged_keep a b e f nexts answers ls ss k s (are_ended a all) (omega (arith, l)) (all k s l is)
 
 -- a line of stages that were made, with nets for its moves and removals
-pub line_there : (a c : Circuit) (x : Line) (nexts : List Signal) (answers : ℕ → ℕ → AnswerSignals) (ls : Locks)
+pub line_there : (a c : Circuit) (x : StageLine) (nexts : List Signal) (answers : ℕ → ℕ → AnswerSignals) (ls : Locks)
     → AreStaged a (line_form x) nexts answers ls x.stages.now → Keeps a c → length x.stages.now ≡ length (line_pipe x).stages
     → IsShared c (line_form x) x.shared.now → signals_in c x.shared.now.next ≡ nexts → AreForks (line_form x).widths (line_pipe x).stages
     → length (line_pipe x).start ≤ length (line_form x).widths → length x.moves.now ≡ length x.stages.now → Each (IsBit c) x.moves.now
@@ -76,7 +76,7 @@ line_there a c x nexts answers ls all e count shared next forks params moves_cou
 }
 
 -- whether threads are removed is what it was
-all_kills_same : (a b : Circuit) (x : Line) → Keeps a b → IsLineIn a x → line_kills b x ≡ line_kills a x
+all_kills_same : (a b : Circuit) (x : StageLine) → Keeps a b → IsLineIn a x → line_kills b x ≡ line_kills a x
 all_kills_same a b x e h = fun_ext (kills_same a b x e h)
 
 -- ---- next tickets
@@ -89,9 +89,9 @@ locks_next l a p xs h = λ m e. (lock_there p m e, next_at l a p xs h m (lock_th
 -- ---- what registers take
 
 -- a stage's registers still take it where they were left alone
-takes_later : (c e d : Circuit) (x : Line) (k : ℕ) (s : StageNets) (low high : ℕ) → AreApart low high x.stages.now → k < length x.stages.now
-    → IsAt x.stages.now k s → ((r : ℕ) → low ≤ r → r < high → next_signal d r ≡ next_signal e r)
-    → TakesNext c e x k s → TakesNext c d x k s
+takes_later : (c e d : Circuit) (x : StageLine) (k : ℕ) (s : StageNets) (low high : ℕ) → AreApart low high x.stages.now
+    → k < length x.stages.now → IsAt x.stages.now k s
+    → ((r : ℕ) → low ≤ r → r < high → next_signal d r ≡ next_signal e r) → TakesNext c e x k s → TakesNext c d x k s
 takes_later c e d x k s low high apart l is same h =
     let from = apart.from k s l is in
     let to = apart.to k s l is in
@@ -101,7 +101,7 @@ takes_later c e d x k s low high apart l is same h =
     }
 
 -- a line that was connected in circuit e, and whose registers were left alone then
-pub line_made : (a c e d : Circuit) (x : Line) (nexts : List Signal) (answers : ℕ → ℕ → AnswerSignals) (ls : Locks) (low high : ℕ)
+pub line_made : (a c e d : Circuit) (x : StageLine) (nexts : List Signal) (answers : ℕ → ℕ → AnswerSignals) (ls : Locks) (low high : ℕ)
     → AreStaged a (line_form x) nexts answers ls x.stages.now → AreApart low high x.stages.now → Keeps a c
     → IsLineIn c x → Keeps c e
     → ((k : ℕ) (s : StageNets) → k < length x.stages.now → IsAt x.stages.now k s → TakesNext c e x k s) → Keeps e d
@@ -118,7 +118,7 @@ line_made a c e d x nexts answers ls low high staged apart ac line ce takes ed w
 
 -- ---- a made line looks the same in all its circuits
 
-module _ (a c d : Circuit) (x : Line) (nexts : List Signal) (answers : ℕ → ℕ → AnswerSignals) (ls : Locks) (made : IsLineMade a c d x nexts answers ls) where
+module _ (a c d : Circuit) (x : StageLine) (nexts : List Signal) (answers : ℕ → ℕ → AnswerSignals) (ls : Locks) (made : IsLineMade a c d x nexts answers ls) where
   pub views_before : line_views c x ≡ line_views a x
   views_before = made_views_same (line_form x) nexts answers ls x.stages.now a c made.before made.staged
 

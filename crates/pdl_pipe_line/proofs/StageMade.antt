@@ -26,7 +26,7 @@ use Rattle.pdl_pipe_registers.specs.Items.{item_at, item_width, is_needed, kept_
 use Rattle.pdl_pipe_registers.specs.Stages.{reg_of, view_in, IsAt, IsRegister, IsBegunBy, IsSettled, IsAsVariable, IsSpared}
 use Rattle.pdl_pipe_registers.specs.Staged.{IsStaged, AreStaged}
 use Rattle.pdl_pipe_registers.proofs.Lists.{view_at, some_stage}
-use Rattle.pdl_pipe_nexts.specs.declared.line.Line.{Line}
+use Rattle.pdl_pipe_nexts.specs.declared.line.StageLine.{StageLine}
 use Rattle.pdl_pipe_nexts.specs.Lines.{line_form, line_pipe, line_views, line_moves, line_kills, ValueAs}
 use Rattle.pdl_pipe_nexts.specs.Nexts.{arriving, kept_signal, staying}
 use Rattle.pdl_pipe_line.specs.MadeLine.{BeginsFirst, AreNextTickets, IsLineMade}
@@ -66,7 +66,7 @@ own_guess p k i l e = ap₂ (λ a b. a && b) e (le-leb (suc i) (length p.start) 
 
 -- ---- a stage
 
-module _ (a c d : Circuit) (x : Line) (nexts : List Signal) (answers : ℕ → ℕ → AnswerSignals) (ls : Locks) (begins : BeginsFirst (line_pipe x)) (made : IsLineMade a c d x nexts answers ls) where
+module _ (a c d : Circuit) (x : StageLine) (nexts : List Signal) (answers : ℕ → ℕ → AnswerSignals) (ls : Locks) (begins : BeginsFirst (line_pipe x)) (made : IsLineMade a c d x nexts answers ls) where
   staged : AreStaged c (line_form x) nexts answers ls x.stages.now
   staged = made_keep (line_form x) nexts answers ls x.stages.now a c made.before made.staged
 

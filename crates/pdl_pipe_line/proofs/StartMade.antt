@@ -21,7 +21,7 @@ use Rattle.pdl_pipe_registers.specs.Items.{item_at, item_width, first_value, is_
 use Rattle.pdl_pipe_registers.specs.Stages.{reg_of, view_in, views_in, IsBegunBy, IsSettled, IsSpared}
 use Rattle.pdl_pipe_registers.specs.Staged.{IsStaged}
 use Rattle.pdl_pipe_registers.proofs.Lists.{view_at, some_stage}
-use Rattle.pdl_pipe_nexts.specs.declared.line.Line.{Line}
+use Rattle.pdl_pipe_nexts.specs.declared.line.StageLine.{StageLine}
 use Rattle.pdl_pipe_nexts.specs.Lines.{line_form, line_pipe, line_views}
 use Rattle.pdl_pipe_line.specs.MadeLine.{BeginsFirst, IsLineMade}
 use Rattle.pdl_pipe_line.proofs.LineGrowth.{made_keep}
@@ -60,8 +60,8 @@ module _ (c d : Circuit) (f : Form) (nexts : List Signal) (answers : ℕ → ℕ
           (starts_at c d keeps (item_width f nexts (item_at s.regs.items j)) (reg_of s.regs j) (first_value f.pipe 0 (item_at s.regs.items j)) (st.registers.kept j l)))
 
 -- a line that was made starts as the law of the netlist asks, where threads begin in the first stage
-pub is_start : (a c d : Circuit) (x : Line) (nexts : List Signal) (answers : ℕ → ℕ → AnswerSignals) (ls : Locks) → BeginsFirst (line_pipe x)
-    → IsLineMade a c d x nexts answers ls → IsStart (line_pipe x) d (line_views c x)
+pub is_start : (a c d : Circuit) (x : StageLine) (nexts : List Signal) (answers : ℕ → ℕ → AnswerSignals) (ls : Locks)
+    → BeginsFirst (line_pipe x) → IsLineMade a c d x nexts answers ls → IsStart (line_pipe x) d (line_views c x)
 is_start a c d x nexts answers ls begins made =
     let p = line_pipe x in
     let ss = x.stages.now in

@@ -13,7 +13,7 @@ use Rattle.pdl_law_parts.specs.Walk.{Locks, is_locked}
 use Rattle.pdl_pipe_registers.specs.declared.nets.StageNets.{StageNets}
 use Rattle.pdl_pipe_registers.specs.Stages.{IsAt}
 use Rattle.pdl_pipe_registers.specs.Staged.{AreStaged}
-use Rattle.pdl_pipe_nexts.specs.declared.line.Line.{Line}
+use Rattle.pdl_pipe_nexts.specs.declared.line.StageLine.{StageLine}
 use Rattle.pdl_pipe_nexts.specs.Lines.{line_form, IsLineIn}
 use Rattle.pdl_pipe_nexts.specs.Nexts.{TakesNext}
 
@@ -28,7 +28,7 @@ abbrev pub AreNextTickets : Pipe → Locks → List Signal → Type 0
 AreNextTickets p ls nexts = (m : ℕ) → is_locked p m ≡ true → (m < length p.mems) × (signal_at nexts m ≡ ls.ticket m)
 
 -- the stages of a line, as they were made in circuit a; in the later circuit d their registers take next what the nets of circuit c say
-pub record IsLineMade (a c d : Circuit) (x : Line) (nexts : List Signal) (answers : ℕ → ℕ → AnswerSignals) (ls : Locks) : Type 0 where
+pub record IsLineMade (a c d : Circuit) (x : StageLine) (nexts : List Signal) (answers : ℕ → ℕ → AnswerSignals) (ls : Locks) : Type 0 where
   pub staged : AreStaged a (line_form x) nexts answers ls x.stages.now
   pub before : Keeps a c
   pub line : IsLineIn c x

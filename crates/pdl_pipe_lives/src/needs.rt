@@ -9,7 +9,7 @@ ghost use Rattle.pdl_law_parts.specs.Walk.{is_locked};
 ghost use Rattle.pdl_pipe_lives.specs.Needs.{rows_use, any_forks_by, rows_ask, goes_with};
 
 use crate::usage::is_using;
-use pdl_form::{FlatPipe, Lock, Next, Op, Stage, Stmt};
+use pdl_form::{FlatPipe, FlatStage, FlatStmt, Lock, Next, Op};
 
 // Whether a stage forks by a variable.
 fn forks_by(next: &Next, x: usize) -> bool
@@ -23,7 +23,7 @@ fn forks_by(next: &Next, x: usize) -> bool
 }
 
 // Whether a statement of the stage or a later one uses a variable.
-fn is_used(stmts: &[Stmt], stage: usize, x: usize) -> bool
+fn is_used(stmts: &[FlatStmt], stage: usize, x: usize) -> bool
     ensures { result ≡ rows_use stage x (stmts_view stmts.now) }
 {
     for s in stmts {
@@ -35,7 +35,7 @@ fn is_used(stmts: &[Stmt], stage: usize, x: usize) -> bool
 }
 
 // Whether one of some stages forks by a variable.
-fn is_fork_var(stages: &[Stage], x: usize) -> bool
+fn is_fork_var(stages: &[FlatStage], x: usize) -> bool
     ensures { result ≡ any_forks_by x (stages_view stages.now) }
 {
     for s in stages {

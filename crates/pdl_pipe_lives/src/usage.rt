@@ -3,30 +3,30 @@ ghost use Rattle.std.specs.Prelude.{◌≡◌};
 ghost use Rattle.pdl_form.specs.View.{expr_view, exprs_view, act_view, guards_view, stmt_view};
 ghost use Rattle.pdl_law_parts.specs.Lives.{uses_var, are_using as any_uses, op_uses as act_uses, guards_use as any_guard_uses, row_uses};
 
-use pdl_form::{Expr, Guard, Op, Stmt};
+use pdl_form::{FlatExpr, FlatGuard, FlatStmt, Op};
 
 /// Whether an expression uses a variable.
-pub fn uses_variable(e: &Expr, x: usize) -> bool
+pub fn uses_variable(e: &FlatExpr, x: usize) -> bool
     ensures { result ≡ uses_var (expr_view e.now) x }
 {
     match e {
-        Expr::Constant { .. } => false,
-        Expr::Variable(y) => *y == x,
-        Expr::Slice { x: y, .. } => *y == x,
-        Expr::Not { a, .. } => uses_variable(a.get(), x),
-        Expr::Binary { a, b, .. } => uses_variable(a.get(), x) || uses_variable(b.get(), x),
-        Expr::Cat { a, b, .. } => uses_variable(a.get(), x) || uses_variable(b.get(), x),
-        Expr::LessSigned { a, b, .. } => uses_variable(a.get(), x) || uses_variable(b.get(), x),
-        Expr::ZeroExtend { a, .. } => uses_variable(a.get(), x),
-        Expr::SignExtend { a, .. } => uses_variable(a.get(), x),
-        Expr::Choose { c, a, b } => uses_variable(c.get(), x)
+        FlatExpr::Constant { .. } => false,
+        FlatExpr::Variable(y) => *y == x,
+        FlatExpr::Slice { x: y, .. } => *y == x,
+        FlatExpr::Not { a, .. } => uses_variable(a.get(), x),
+        FlatExpr::Binary { a, b, .. } => uses_variable(a.get(), x) || uses_variable(b.get(), x),
+        FlatExpr::Cat { a, b, .. } => uses_variable(a.get(), x) || uses_variable(b.get(), x),
+        FlatExpr::LessSigned { a, b, .. } => uses_variable(a.get(), x) || uses_variable(b.get(), x),
+        FlatExpr::ZeroExtend { a, .. } => uses_variable(a.get(), x),
+        FlatExpr::SignExtend { a, .. } => uses_variable(a.get(), x),
+        FlatExpr::Choose { c, a, b } => uses_variable(c.get(), x)
             || uses_variable(a.get(), x)
             || uses_variable(b.get(), x),
     }
 }
 
 // Whether one of some expressions uses a variable.
-fn are_using(es: &[Expr], x: usize) -> bool
+fn are_using(es: &[FlatExpr], x: usize) -> bool
     ensures { result ≡ any_uses (exprs_view es.now) x }
 {
     for e in es {
@@ -59,7 +59,7 @@ fn op_uses(op: &Op, x: usize) -> bool
 }
 
 // Whether one of some guards goes by a variable.
-fn guards_use(gs: &[Guard], x: usize) -> bool
+fn guards_use(gs: &[FlatGuard], x: usize) -> bool
     ensures { result ≡ any_guard_uses (guards_view gs.now) x }
 {
     for g in gs {
@@ -71,7 +71,7 @@ fn guards_use(gs: &[Guard], x: usize) -> bool
 }
 
 /// Whether a statement or one of its guards uses a variable.
-pub fn is_using(s: &Stmt, x: usize) -> bool
+pub fn is_using(s: &FlatStmt, x: usize) -> bool
     ensures { result ≡ row_uses (stmt_view s.now) x }
 {
     guards_use(s.guards.as_slice(), x) || op_uses(&s.op, x)

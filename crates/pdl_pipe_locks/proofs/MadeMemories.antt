@@ -13,7 +13,7 @@ use Rattle.pdl_net.proofs.Keeps.{arrays_keeps, arrays_trans, regs_grow}
 use Rattle.pdl_lockapi.specs.Laws.{first_reg, end_reg}
 use Rattle.pdl_lockapi.specs.Forget.{as_lock}
 use Rattle.pdl_form.specs.Form.{Form}
-use Rattle.pdl_form.specs.declared.form.Mem as r_mem
+use Rattle.pdl_form.specs.declared.form.FlatMem as r_mem
 use Rattle.pdl_form.specs.View.{mem_view, mems_view, mem_names}
 use Rattle.pdl_form_types.specs.Stmts.{IsTypedMem, AreTypedMems}
 use Rattle.pdl_lockapi.specs.Sizes.{words_in}
@@ -32,23 +32,23 @@ use Rattle.pdl_pipe_walk.proofs.Lists.{some_before, some_last}
 -- ---- the memory of a number
 
 -- the i-th memory of the program is memory i of the pipe
-pub mem_is : (p : Pipe) (ms : List r_mem.Mem) (i : ℕ) (d : r_mem.Mem)
+pub mem_is : (p : Pipe) (ms : List r_mem.FlatMem) (i : ℕ) (d : r_mem.FlatMem)
     → mems_view ms ≡ p.mems → i < length ms → d ≡ get_or ms i d → mem_view d ≡ mem_at p i
 mem_is p ms i d e h q = ap mem_view q ∙ sym (get_or-map mem_view ms i d plain_mem h) ∙ ap (λ xs. get_or xs i plain_mem) e
 
 -- there are as many memories of the program as in the pipe
-pub mem_count : (p : Pipe) (ms : List r_mem.Mem) → mems_view ms ≡ p.mems → length ms ≡ length p.mems
+pub mem_count : (p : Pipe) (ms : List r_mem.FlatMem) → mems_view ms ≡ p.mems → length ms ≡ length p.mems
 mem_count p ms e = sym (length-map ms mem_view) ∙ ap length e
 
 -- there are as many names as memories in the pipe
-pub name_count : (names : List (List ℕ)) (p : Pipe) (ms : List r_mem.Mem)
+pub name_count : (names : List (List ℕ)) (p : Pipe) (ms : List r_mem.FlatMem)
     → mem_names ms ≡ names → mems_view ms ≡ p.mems → length names ≡ length p.mems
-name_count names p ms e h = sym (ap length e) ∙ length-map ms (λ (m : r_mem.Mem). m.name) ∙ mem_count p ms h
+name_count names p ms e h = sym (ap length e) ∙ length-map ms (λ (m : r_mem.FlatMem). m.name) ∙ mem_count p ms h
 
 -- the i-th memory has the i-th name
-pub name_is : (names : List (List ℕ)) (ms : List r_mem.Mem) (i : ℕ) (d : r_mem.Mem)
+pub name_is : (names : List (List ℕ)) (ms : List r_mem.FlatMem) (i : ℕ) (d : r_mem.FlatMem)
     → mem_names ms ≡ names → i < length ms → d ≡ get_or ms i d → d.name ≡ get_or names i []
-name_is names ms i d e h q = ap (λ (m : r_mem.Mem). m.name) q ∙ sym (get_or-map (λ (m : r_mem.Mem). m.name) ms i d [] h) ∙ ap (λ xs. get_or xs i []) e
+name_is names ms i d e h q = ap (λ (m : r_mem.FlatMem). m.name) q ∙ sym (get_or-map (λ (m : r_mem.FlatMem). m.name) ms i d [] h) ∙ ap (λ xs. get_or xs i []) e
 
 -- the i-th of some typed memories is typed
 pub typed_at : (ms : List Mem) (i : ℕ) → i < length ms → AreTypedMems ms → IsTypedMem (get_or ms i plain_mem)

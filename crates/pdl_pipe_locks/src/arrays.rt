@@ -13,14 +13,14 @@ ghost use Rattle.pdl_pipe_locks.specs.Lawful.{AreLawful, AreAbove, AreUnwritten}
 ghost use Rattle.pdl_pipe_locks.specs.NewMemories.{IsServed, AreServed, IsNewLock, IsNewMemory};
 
 use pdl_build::Builder;
-use pdl_form::{FlatPipe, Mem};
+use pdl_form::{FlatMem, FlatPipe};
 use pdl_kit::{MemInfo, NoMemory};
 use pdl_lockapi::LockModule;
 use pdl_pipe_walk::MemLock;
 use std::alloc::Global;
 
 /// A memory as it is told to its lock.
-pub fn info(m: &Mem) -> Result<MemInfo, NoMemory>
+pub fn info(m: &FlatMem) -> Result<MemInfo, NoMemory>
     ensures { IfOk result (λ i. i ≡ info_of m.now.name (mem_view m.now)) }
 {
     let name = m.name.clone()?;
@@ -33,7 +33,7 @@ pub fn info(m: &Mem) -> Result<MemInfo, NoMemory>
 }
 
 // The array of a memory without lock.
-fn plain(b: &mut Builder, m: &Mem) -> Result<(), NoMemory>
+fn plain(b: &mut Builder, m: &FlatMem) -> Result<(), NoMemory>
     requires typed { IsTypedMem (mem_view m.now) }
     ensures unwritten { OnOk result (write_signals b.new (length b.old.arrays) ≡ []) }
     ensures extends { OnOk result (ExtendsArrays b.old b.new
@@ -48,7 +48,7 @@ fn plain(b: &mut Builder, m: &Mem) -> Result<(), NoMemory>
 fn lock_registers<L: LockModule + Copy>(
     alloc: Global,
     b: &mut Builder,
-    m: &Mem,
+    m: &FlatMem,
     lock: &L,
 ) -> Result<MemLock<L>, NoMemory>
     requires served { IsServed L.suits (members L.LockModule) m.now.name (mem_view m.now) lock.now }
@@ -69,7 +69,7 @@ fn lock_registers<L: LockModule + Copy>(
 fn memory<L: LockModule + Copy>(
     alloc: Global,
     b: &mut Builder,
-    m: &Mem,
+    m: &FlatMem,
     lock: &Option<L>,
 ) -> Result<Option<MemLock<L>>, NoMemory>
     requires typed { IsTypedMem (mem_view m.now) }
@@ -98,7 +98,7 @@ fn memory<L: LockModule + Copy>(
 }
 
 // The memory of a number.
-fn mem_at(mems: &[Mem], m: usize) -> &Mem
+fn mem_at(mems: &[FlatMem], m: usize) -> &FlatMem
     requires { m < length mems.now }
     ensures { result.now ≡ slice_index_or mems.now m result.now }
 {

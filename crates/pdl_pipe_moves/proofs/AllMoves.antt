@@ -29,7 +29,7 @@ use Rattle.pdl_pipe_walk.proofs.Lists.{each_by}
 use Rattle.pdl_pipe_registers.proofs.Lists.{some_stage, view_at}
 use Rattle.pdl_pipe_beside.specs.Ports.{StandPorts}
 use Rattle.pdl_pipe_answers.specs.Ports.{IsBit, IsBitFor, answers_in}
-use Rattle.pdl_pipe_nexts.specs.declared.line.Line.{Line}
+use Rattle.pdl_pipe_nexts.specs.declared.line.StageLine.{StageLine}
 use Rattle.pdl_pipe_nexts.specs.Lines.{line_pipe, line_views, line_moves, IsLineIn}
 use Rattle.pdl_pipe_nexts.proofs.LineGrowth.{line_keep, views_same, all_moves_same, bits_there}
 use Rattle.pdl_pipe_moves.specs.declared.controls.Controls.{Controls}
@@ -82,7 +82,7 @@ controls_keep a b p y e h = record {
 
 -- ---- a stage that is asked
 
-module _ (a b : Circuit) (e : Keeps a b) (x : Line) (y : Controls) (line : IsLineIn a x) (inside : LeadsInside (line_pipe x)) (h : IsControlled a (line_pipe x) y) where
+module _ (a b : Circuit) (e : Keeps a b) (x : StageLine) (y : Controls) (line : IsLineIn a x) (inside : LeadsInside (line_pipe x)) (h : IsControlled a (line_pipe x) y) where
   -- by a gate that was made, and moves as they were then
   pub moved_so : (c : Circuit) (f : Keeps b c) (frees : List Net) (gate moves : Net) (k : ℕ) → k < length (line_pipe x).stages → Each (IsBit a) frees
       → IsBitFor b gate (gate_by (line_pipe x) (line_views a x) (signs_by a x y) (signal_at (signals_in a frees)) k)
@@ -111,7 +111,7 @@ frees_bits c [] k h = tt
 frees_bits c (fs ∷ xs) zero h = h.0
 frees_bits c (fs ∷ xs) (suc k) h = frees_bits c xs k h.1
 
-module _ (a b : Circuit) (e : Keeps a b) (x : Line) (y : Controls) (line : IsLineIn a x) (inside : LeadsInside (line_pipe x)) (stand : StandPorts a (line_pipe x) x.shared.now.ports.now) (h : IsControlled a (line_pipe x) y) where
+module _ (a b : Circuit) (e : Keeps a b) (x : StageLine) (y : Controls) (line : IsLineIn a x) (inside : LeadsInside (line_pipe x)) (stand : StandPorts a (line_pipe x) x.shared.now.ports.now) (h : IsControlled a (line_pipe x) y) where
   pub all_passed_keep : (nets : List Net) (opens : List (Seq Net)) (low : ℕ) → ArePassed a x (signs_by a x y) nets opens low → ArePassed b x (signs_by b x y) nets opens low
   all_passed_keep nets opens low it = record {
     moves_count = it.moves_count;
@@ -122,7 +122,7 @@ module _ (a b : Circuit) (e : Keeps a b) (x : Line) (y : Controls) (line : IsLin
         passed_keep a b e x line stand (signs_by a x y) (signs_by b x y) nets (frees_at opens k) k (λ fs. gate_same a b e x y line inside h fs k m) it.moves (frees_bits a opens k it.frees) (it.each k l m);
   }
 
-  pub passed_more : (nets : List Net) (opens : List (Seq Net)) (k : ℕ) (one : Passage) (z : Line) → z.moves.now ≡ nets → k < length (line_pipe x).stages → ArePassed a x (signs_by a x y) nets opens (k + 1)
+  pub passed_more : (nets : List Net) (opens : List (Seq Net)) (k : ℕ) (one : Passage) (z : StageLine) → z.moves.now ≡ nets → k < length (line_pipe x).stages → ArePassed a x (signs_by a x y) nets opens (k + 1)
       → IsBit b one.moves → HaveFree b (record z { pipe = x.pipe; shared = x.shared; stages = x.stages }) k one.frees (length (line_pipe x).mems)
       → IsMovedBy b x (signs_by b x y) (signal_at (signals_in b one.frees)) (line_moves b z) k (signal b one.moves)
       → ArePassed b x (signs_by b x y) (slice_set nets k one.moves) (slice_set opens k one.frees) k
@@ -136,7 +136,7 @@ module _ (a b : Circuit) (e : Keeps a b) (x : Line) (y : Controls) (line : IsLin
         each = λ j l m. at j l m (cases_lt k j);
       }
     where
-      w : Line
+      w : StageLine
       w = record z { pipe = x.pipe; shared = x.shared; stages = x.stages }
 
       at : (j : ℕ) → k ≤ j → j < length (line_pipe x).stages → (k < j) ⊎ (j ≤ k) → IsPassed b x (signs_by b x y) (slice_set nets k one.moves) (frees_at (slice_set opens k one.frees) j) j
@@ -210,7 +210,7 @@ squash_as v va vb ma mb fa fb qa qb ra rb ca cb valid moves fails squash removed
     }
 
 -- the nets of whether stages hold threads
-valid_net : (c : Circuit) (x : Line) (xs : List Net) → IsLineIn c x → HasValids x xs → (k : ℕ)
+valid_net : (c : Circuit) (x : StageLine) (xs : List Net) → IsLineIn c x → HasValids x xs → (k : ℕ)
     → k < length xs → IsThere c (net_at xs k) × (squash_net c xs k ≡ (line_views c x k).valid)
 valid_net c x xs line h k l =
     let n = h.count in
@@ -222,7 +222,7 @@ valid_net c x xs line h k l =
     (subst (IsThere c) (sym net) now.registers.valid.there, ap (signal c) net ∙ now.registers.valid.same ∙ sym (ap (λ (v : View). v.valid) (view_at c x.stages.now k s low some.1)))
 
 -- the nets that tell whether stages hold threads have 1 bit each
-pub valid_bits : (c : Circuit) (x : Line) (xs : List Net) → IsLineIn c x → HasValids x xs → AreSquashBits c xs (length xs)
+pub valid_bits : (c : Circuit) (x : StageLine) (xs : List Net) → IsLineIn c x → HasValids x xs → AreSquashBits c xs (length xs)
 valid_bits c x xs line h = record {
   count = refl;
   there = λ k l. (valid_net c x xs line h k l).0;
@@ -234,7 +234,7 @@ valid_bits c x xs line h = record {
 }
 
 -- the k-th of the nets that tell whether stages hold threads tells it of stage k
-pub valid_is : (c : Circuit) (x : Line) (xs : List Net) → IsLineIn c x → HasValids x xs → (k : ℕ)
+pub valid_is : (c : Circuit) (x : StageLine) (xs : List Net) → IsLineIn c x → HasValids x xs → (k : ℕ)
     → k < length xs → squash_net c xs k ≡ (line_views c x k).valid
 valid_is c x xs line h k l = (valid_net c x xs line h k l).1
 
@@ -259,7 +259,7 @@ gate_late p vs answers turns f g c d frees v k e l =
     (unsquashed_late (verify_stage p.stmts) v k e l f g) (barrier_late (verify_stage p.stmts) v k e l (vs k).ended.barrier (c k) (d k))
 
 -- from the stage that verifies on, threads move alike by any squash and any clear stages
-pub passed_late : (b : Circuit) (x : Line) (orders : List (Option OrderRegs)) (f g : Net) (c d : List Net)
+pub passed_late : (b : Circuit) (x : StageLine) (orders : List (Option OrderRegs)) (f g : Net) (c d : List Net)
     (nets : List Net) (opens : List (Seq Net)) (v : ℕ)
     → verify_stage (line_pipe x).stmts ≡ Some v → ArePassed b x (signs_in b x orders f c) nets opens v
     → ArePassed b x (signs_in b x orders g d) nets opens v
@@ -296,7 +296,7 @@ gate_none p vs answers turns f g c d frees k e =
     (unsquashed_none (verify_stage p.stmts) k e f g) (barrier_none (verify_stage p.stmts) k e (vs k).ended.barrier (c k) (d k))
 
 -- in a pipe without a stage that verifies, threads move alike by any clear stages
-pub passed_certain : (b : Circuit) (x : Line) (orders : List (Option OrderRegs)) (f : Net) (c d : List Net)
+pub passed_certain : (b : Circuit) (x : StageLine) (orders : List (Option OrderRegs)) (f : Net) (c d : List Net)
     (nets : List Net) (opens : List (Seq Net)) (low : ℕ)
     → verify_stage (line_pipe x).stmts ≡ None → ArePassed b x (signs_in b x orders f c) nets opens low
     → ArePassed b x (signs_in b x orders f d) nets opens low

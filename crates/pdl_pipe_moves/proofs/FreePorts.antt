@@ -20,7 +20,7 @@ use Rattle.pdl_pipe_exprs.specs.Nets.{signals_in, signal_at}
 use Rattle.pdl_pipe_walk.specs.Locked.{some_at}
 use Rattle.pdl_pipe_beside.specs.Ports.{StandPorts}
 use Rattle.pdl_pipe_answers.specs.Ports.{IsBit}
-use Rattle.pdl_pipe_nexts.specs.declared.line.Line.{Line}
+use Rattle.pdl_pipe_nexts.specs.declared.line.StageLine.{StageLine}
 use Rattle.pdl_pipe_nexts.specs.Lines.{line_pipe, line_moves, IsLineIn}
 use Rattle.pdl_pipe_nexts.proofs.LineGrowth.{all_moves_same}
 use Rattle.pdl_pipe_moves.specs.Inside.{LeadsInside}
@@ -40,7 +40,7 @@ net_signal c (x ∷ xs) (suc k) l = net_signal c xs k (omega (arith, l))
 -- ---- the port of a memory
 
 -- the places of a stage are stages of the line
-pub place_low : (a : Circuit) (x : Line) → IsLineIn a x → LeadsInside (line_pipe x) → (k : ℕ)
+pub place_low : (a : Circuit) (x : StageLine) → IsLineIn a x → LeadsInside (line_pipe x) → (k : ℕ)
     → k < length (line_pipe x).stages → (i : ℕ) → i < length (places_of (stage_at (line_pipe x) k).next)
     → slice_index (places_of (stage_at (line_pipe x) k).next) i < length x.moves.now
 place_low a x line inside k low i l =
@@ -49,7 +49,7 @@ place_low a x line inside k low i l =
     let m = line.moves_count in
     omega (arith, q, n, m)
 
-module _ (a b : Circuit) (e : Keeps a b) (x : Line) (line : IsLineIn a x) (inside : LeadsInside (line_pipe x)) (stand : StandPorts a (line_pipe x) x.shared.now.ports.now) (k : ℕ) (low : k < length (line_pipe x).stages) where
+module _ (a b : Circuit) (e : Keeps a b) (x : StageLine) (line : IsLineIn a x) (inside : LeadsInside (line_pipe x)) (stand : StandPorts a (line_pipe x) x.shared.now.ports.now) (k : ℕ) (low : k < length (line_pipe x).stages) where
   pub made_free : (m : ℕ) (port : PortRegs) (net : Net) → some_at x.shared.now.ports.now m ≡ Some port → port_laws.places port ≡ length (places_of (stage_at (line_pipe x) k).next) → IsThere b net → (signal b net).width ≡ 1
       → FreeLaw (stands port) (port_laws.places port) (signal a port.reply) (λ i. port_laws.signal_at a x.moves.now (slice_index (places_of (stage_at (line_pipe x) k).next) i)) (signal b net) → HasFree b x k m net
   made_free m port net some count there one law = record {
@@ -84,7 +84,7 @@ module _ (a b : Circuit) (e : Keeps a b) (x : Line) (line : IsLineIn a x) (insid
       keeps (y ∷ ys) t = ap₂ (λ f fs. f ∷ fs) (e.kept y t.0.0) (keeps ys t.1)
 
 -- one memory more
-pub free_more : (c : Circuit) (x : Line) (k : ℕ) (nets : List Net) (n : ℕ) (net : Net) → HaveFree c x k nets n
+pub free_more : (c : Circuit) (x : StageLine) (k : ℕ) (nets : List Net) (n : ℕ) (net : Net) → HaveFree c x k nets n
     → HasFree c x k n net → HaveFree c x k (nets ++ net ∷ []) (n + 1)
 free_more c x k nets n net h new = record {
   count = length-append nets (net ∷ []) ∙ ap (λ i. i + 1) h.count;

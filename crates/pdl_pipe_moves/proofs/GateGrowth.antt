@@ -10,7 +10,7 @@ use Rattle.pdl_pipe_exprs.proofs.NetLists.{signals_keep}
 use Rattle.pdl_law_parts.specs.Walk.{both}
 use Rattle.pdl_law_parts.specs.Views.{View}
 use Rattle.pdl_law_sides.specs.Sides.{unsquashed, barrier_open}
-use Rattle.pdl_pipe_nexts.specs.declared.line.Line.{Line}
+use Rattle.pdl_pipe_nexts.specs.declared.line.StageLine.{StageLine}
 use Rattle.pdl_pipe_nexts.specs.Lines.{line_pipe, line_views, IsLineIn}
 use Rattle.pdl_pipe_nexts.proofs.LineGrowth.{views_same, bits_there}
 use Rattle.pdl_pipe_moves.specs.declared.controls.Controls.{Controls}
@@ -25,7 +25,7 @@ gate_parts : (p : Pipe) (v : View) (k : ℕ) (frees : ℕ → Signal) (f g h i j
     ≡ both g (both (unsquashed (verify_stage p.stmts) k i) (both (opens_by frees v.ended.asks) (both (barrier_open (verify_stage p.stmts) k v.ended.barrier l) n)))
 gate_parts p v k frees f g h i j l m n a b c d = cc (a, b, c, d)
 
-module _ (a b : Circuit) (e : Keeps a b) (x : Line) (y : Controls) (line : IsLineIn a x) (inside : LeadsInside (line_pipe x)) (h : IsControlled a (line_pipe x) y) where
+module _ (a b : Circuit) (e : Keeps a b) (x : StageLine) (y : Controls) (line : IsLineIn a x) (inside : LeadsInside (line_pipe x)) (h : IsControlled a (line_pipe x) y) where
   clear_same : (k : ℕ) → signal_at (signals_in b y.clear.now) k ≡ signal_at (signals_in a y.clear.now) k
   clear_same k = ap (λ fs. signal_at fs k) (signals_keep a b y.clear.now e (bits_there a y.clear.now h.clear))
 

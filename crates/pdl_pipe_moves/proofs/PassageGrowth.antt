@@ -24,7 +24,7 @@ use Rattle.pdl_pipe_walk.proofs.Lists.{signal_set}
 use Rattle.pdl_pipe_beside.specs.Ports.{StandPorts}
 use Rattle.pdl_pipe_answers.specs.Ports.{IsBit, IsOnAs}
 use Rattle.pdl_pipe_answers.proofs.Bits.{both_as}
-use Rattle.pdl_pipe_nexts.specs.declared.line.Line.{Line}
+use Rattle.pdl_pipe_nexts.specs.declared.line.StageLine.{StageLine}
 use Rattle.pdl_pipe_nexts.specs.Lines.{line_pipe, line_views, line_moves, IsLineIn}
 use Rattle.pdl_pipe_nexts.proofs.LineGrowth.{views_same, bits_there}
 use Rattle.pdl_pipe_moves.specs.Inside.{LeadsInside}
@@ -70,7 +70,7 @@ place_leads (flat.Forks x first second) (suc zero) l = right (first == second) (
     right false e = e
 place_leads (flat.Forks x first second) (suc (suc i)) l = absurd (omega (arith, l))
 
-free_by : (c : Circuit) (x : Line) (moves others : ℕ → Signal) (k m : ℕ) (f : Signal)
+free_by : (c : Circuit) (x : StageLine) (moves others : ℕ → Signal) (k m : ℕ) (f : Signal)
     → ((q : ℕ) → leads_to (stage_at (line_pipe x) k).next q ≡ true → moves q ≡ others q) → IsFreeBy c x moves k m f
     → IsFreeBy c x others k m f
 free_by c x moves others k m f h law r q is at some =
@@ -117,7 +117,7 @@ gate_as p vs g h moves k e =
 
 -- ---- one stage
 
-module _ (x : Line) (inside : LeadsInside (line_pipe x)) (k : ℕ) (low : k < length (line_pipe x).stages) where
+module _ (x : StageLine) (inside : LeadsInside (line_pipe x)) (k : ℕ) (low : k < length (line_pipe x).stages) where
   pub moved_as : (c : Circuit) (g : Signs) (frees moves others : ℕ → Signal) (f : Signal) → ((q : ℕ) → k < q → moves q ≡ others q) → IsMovedBy c x g frees moves k f → IsMovedBy c x g frees others k f
   moved_as c g frees moves others f h is s =
       is s ∙ ap (λ (i : Signal). is_on i s) (moves_as (line_pipe x) (line_views c x) (λ j. gate_by (line_pipe x) (line_views c x) g frees k) moves others k (λ q l. h q (inside k q low l).0))
@@ -148,7 +148,7 @@ module _ (x : Line) (inside : LeadsInside (line_pipe x)) (k : ℕ) (low : k < le
 
 -- ---- while the circuit grows
 
-module _ (a b : Circuit) (e : Keeps a b) (x : Line) (line : IsLineIn a x) where
+module _ (a b : Circuit) (e : Keeps a b) (x : StageLine) (line : IsLineIn a x) where
   pub free_keep : (stand : StandPorts a (line_pipe x) x.shared.now.ports.now) (moves : ℕ → Signal) (k m : ℕ) (f : Signal) → IsFreeBy a x moves k m f → IsFreeBy b x moves k m f
   free_keep stand moves k m f h r q is at some =
       subst (λ (g : Signal). FreeLaw (stands q) (length (places (line_pipe x) r)) g (λ i. moves (place_at (line_pipe x) r i)) f) (sym (e.kept q.reply (stand.each m r q is some).placed.reply_there)) (h r q is at some)

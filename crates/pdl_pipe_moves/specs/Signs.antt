@@ -14,7 +14,7 @@ use Rattle.pdl_law_parts.specs.Views.{View, way_on}
 use Rattle.pdl_pipe_exprs.specs.Nets.{signals_in, signal_at}
 use Rattle.pdl_law_sides.specs.Sides.{all_answered, unsquashed, barrier_open}
 use Rattle.pdl_pipe_answers.specs.Ports.{IsBit, answers_in}
-use Rattle.pdl_pipe_nexts.specs.declared.line.Line.{Line}
+use Rattle.pdl_pipe_nexts.specs.declared.line.StageLine.{StageLine}
 use Rattle.pdl_pipe_nexts.specs.Lines.{line_pipe}
 use Rattle.pdl_pipe_moves.specs.declared.controls.Controls.{Controls}
 use Rattle.pdl_pipe_moves.specs.Gates.{opens_by, turn_in, HasTurns}
@@ -37,7 +37,7 @@ abbrev pub gate_by : Pipe → (ℕ → View) → Signs → (ℕ → Signal) → 
 gate_by p vs g frees k = both (all_answered p g.answers k (length p.mems) 0) (both (unsquashed (verify_stage p.stmts) k g.squash) (path_by p vs g frees k))
 
 -- those of a line, by nets: the orders of the forks, whether a squash happens, and which stages are clear
-abbrev pub signs_in : Circuit → Line → List (Option OrderRegs) → Net → List Net → Signs
+abbrev pub signs_in : Circuit → StageLine → List (Option OrderRegs) → Net → List Net → Signs
 signs_in c x orders squash clear = record {
   answers = answers_in c x.shared.now.ports.now;
   turns = turn_in c (line_pipe x) orders;
@@ -46,7 +46,7 @@ signs_in c x orders squash clear = record {
 }
 
 -- what the gates of a line go by, by the nets of these controls
-abbrev pub signs_by : Circuit → Line → Controls → Signs
+abbrev pub signs_by : Circuit → StageLine → Controls → Signs
 signs_by c x y = signs_in c x y.orders.now y.squash y.clear.now
 
 -- these nets are there

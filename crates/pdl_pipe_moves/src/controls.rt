@@ -16,7 +16,7 @@ use pdl_net::Net;
 use pdl_order::OrderRegs;
 use pdl_pipe_answers::{all_answered, both_bits};
 use pdl_pipe_exprs::exprs::variable;
-use pdl_pipe_nexts::Line;
+use pdl_pipe_nexts::StageLine;
 use pdl_pipe_nexts::line::stage_of;
 
 /// What the gates of stages go by: the orders of the forks, by the stages that fork, whether a squash happens, 1 bit, and of each stage whether no later one up to the one that verifies holds a thread, 1 bit each.
@@ -30,7 +30,7 @@ pub struct Controls<'a> {
 // Whether the ports of the thread of stage k are free, no barrier holds it, and it is its turn.
 fn path_open(
     b: &mut Builder,
-    line: &Line<'_>,
+    line: &StageLine<'_>,
     controls: &Controls<'_>,
     frees: &[Net],
     k: usize,
@@ -61,7 +61,7 @@ fn path_open(
 /// Whether what stands beside the stages lets the thread of stage k move, 1 bit: it awaits no answer, no squash keeps it, its ports are free, no barrier holds it, and it is its turn. `frees` tells of each memory whether its port is free.
 pub fn gate(
     b: &mut Builder,
-    line: &Line<'_>,
+    line: &StageLine<'_>,
     controls: &Controls<'_>,
     frees: &[Net],
     k: usize,

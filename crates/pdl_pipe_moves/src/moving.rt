@@ -14,11 +14,11 @@ use pdl_kit::NoMemory;
 use pdl_net::Net;
 use pdl_pipe_answers::{both_bits, next_of};
 use pdl_pipe_exprs::exprs::variable;
-use pdl_pipe_nexts::Line;
+use pdl_pipe_nexts::StageLine;
 use pdl_pipe_nexts::line::stage_of;
 
 // Whether stage q is free for a thread: it is empty, or its own moves.
-fn free(b: &mut Builder, line: &Line<'_>, q: usize) -> Result<Net, NoMemory>
+fn free(b: &mut Builder, line: &StageLine<'_>, q: usize) -> Result<Net, NoMemory>
     requires line { IsLineIn b.old line.now }
     requires low { q < length (line_pipe line.now).stages }
     ensures means { IfOk result (λ y. Means b.new y
@@ -34,7 +34,7 @@ fn free(b: &mut Builder, line: &Line<'_>, q: usize) -> Result<Net, NoMemory>
 }
 
 // Whether the stage to which the thread of stage k goes next is free; after the last one all is.
-fn way_on(b: &mut Builder, line: &Line<'_>, k: usize) -> Result<Net, NoMemory>
+fn way_on(b: &mut Builder, line: &StageLine<'_>, k: usize) -> Result<Net, NoMemory>
     requires line { IsLineIn b.old line.now }
     requires inside { LeadsInside (line_pipe line.now) }
     requires low { k < length (line_pipe line.now).stages }
@@ -63,7 +63,12 @@ fn way_on(b: &mut Builder, line: &Line<'_>, k: usize) -> Result<Net, NoMemory>
 }
 
 /// Whether the thread of stage k moves, 1 bit: it is there, the locks let it, its gate is open, and its next stage is free.
-pub fn stage_moves(b: &mut Builder, line: &Line<'_>, k: usize, gate: Net) -> Result<Net, NoMemory>
+pub fn stage_moves(
+    b: &mut Builder,
+    line: &StageLine<'_>,
+    k: usize,
+    gate: Net,
+) -> Result<Net, NoMemory>
     requires line { IsLineIn b.old line.now }
     requires inside { LeadsInside (line_pipe line.now) }
     requires low { k < length (line_pipe line.now).stages }

@@ -16,7 +16,7 @@ use pdl_kit::{NoMemory, Seq};
 use pdl_net::Net;
 use pdl_pipe_answers::read_delayed;
 use pdl_pipe_beside::port_free;
-use pdl_pipe_nexts::Line;
+use pdl_pipe_nexts::StageLine;
 use pdl_port::PortRegs;
 use std::alloc::Global;
 
@@ -50,7 +50,7 @@ fn port_of(ports: &[Option<PortRegs>], m: usize) -> &PortRegs
 fn memory_free(
     alloc: Global,
     b: &mut Builder,
-    line: &Line<'_>,
+    line: &StageLine<'_>,
     k: usize,
     m: usize,
 ) -> Result<Net, NoMemory>
@@ -76,7 +76,7 @@ fn memory_free(
 fn stage_frees(
     alloc: Global,
     b: &mut Builder,
-    line: &Line<'_>,
+    line: &StageLine<'_>,
     k: usize,
 ) -> Result<Seq<Net>, NoMemory>
     requires line { IsLineIn b.old line.now }
@@ -99,7 +99,7 @@ fn stage_frees(
 fn stage_passage(
     alloc: Global,
     b: &mut Builder,
-    line: &Line<'_>,
+    line: &StageLine<'_>,
     controls: &Controls<'_>,
     k: usize,
 ) -> Result<Passage, NoMemory>
@@ -135,7 +135,7 @@ impl Passages {
         &mut self,
         alloc: Global,
         b: &mut Builder,
-        line: &Line<'_>,
+        line: &StageLine<'_>,
         controls: &Controls<'_>,
         k: usize,
     ) -> Result<(), NoMemory>
@@ -152,7 +152,7 @@ impl Passages {
             net_at self.new.moves.items q ≡ net_at self.old.moves.items q) }
         ensures extends { Extends b.old b.new }
     {
-        let now = Line {
+        let now = StageLine {
             pipe: line.pipe,
             shared: line.shared,
             stages: line.stages,
@@ -169,7 +169,7 @@ impl Passages {
         &mut self,
         alloc: Global,
         b: &mut Builder,
-        line: &Line<'_>,
+        line: &StageLine<'_>,
         controls: &Controls<'_>,
         low: usize,
         high: usize,

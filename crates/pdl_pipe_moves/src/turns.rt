@@ -14,7 +14,7 @@ ghost use Rattle.pdl_pipe_moves.specs.Gates.{turn_by, turn_in, HasTurns};
 ghost use Rattle.pdl_pipe_walk.specs.Locked.{some_at};
 
 use pdl_build::Builder;
-use pdl_form::{Branch, FlatPipe, Stage};
+use pdl_form::{FlatBranch, FlatPipe, FlatStage};
 use pdl_kit::NoMemory;
 use pdl_net::Net;
 use pdl_order::OrderRegs;
@@ -42,7 +42,7 @@ pub fn branch_turn(
     b: &mut Builder,
     bits: Bits,
     order: &OrderRegs,
-    from: Option<Branch>,
+    from: Option<FlatBranch>,
 ) -> Result<Net, NoMemory>
     requires bits { AreBits b.old bits }
     requires nets { HasOrderNets b.old order.now }
@@ -62,7 +62,7 @@ pub fn branch_turn(
 }
 
 // A stage of a pipe.
-fn pipe_stage(pipe: &FlatPipe, k: usize) -> Stage
+fn pipe_stage(pipe: &FlatPipe, k: usize) -> FlatStage
     requires { k < length (form pipe.now).pipe.stages }
     ensures { stage_view result ≡ stage_at (form pipe.now).pipe k }
 {

@@ -16,13 +16,13 @@ use pdl_net::Net;
 use pdl_order::OrderRegs;
 use pdl_pipe_answers::next_of;
 use pdl_pipe_exprs::exprs::variable;
-use pdl_pipe_nexts::Line;
+use pdl_pipe_nexts::StageLine;
 use pdl_pipe_nexts::line::stage_of;
 
 /// Whether it is the turn of the thread of stage k to go where it goes next.
 pub fn way_turn(
     b: &mut Builder,
-    line: &Line<'_>,
+    line: &StageLine<'_>,
     orders: &[Option<OrderRegs>],
     k: usize,
 ) -> Result<Net, NoMemory>

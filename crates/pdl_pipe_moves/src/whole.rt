@@ -17,7 +17,7 @@ use pdl_build::Builder;
 use pdl_kit::{NoMemory, Seq};
 use pdl_net::Net;
 use pdl_order::OrderRegs;
-use pdl_pipe_nexts::Line;
+use pdl_pipe_nexts::StageLine;
 use pdl_pipe_nexts::line::stage_of;
 use pdl_squash::{SquashNets, SquashPorts, emit_squash};
 use std::alloc::Global;
@@ -66,7 +66,7 @@ fn net_of(nets: &[Net], k: usize) -> Net
 }
 
 // Whether each stage holds a thread.
-fn valids(alloc: Global, line: &Line<'_>) -> Result<Seq<Net>, NoMemory>
+fn valids(alloc: Global, line: &StageLine<'_>) -> Result<Seq<Net>, NoMemory>
     ensures { IfOk result (λ xs. HasValids line.now xs) }
 {
     let mut nets = Seq::new(alloc);
@@ -80,7 +80,7 @@ fn valids(alloc: Global, line: &Line<'_>) -> Result<Seq<Net>, NoMemory>
 fn squash_by(
     alloc: Global,
     b: &mut Builder,
-    line: &Line<'_>,
+    line: &StageLine<'_>,
     v: usize,
     moves: Net,
 ) -> Result<SquashNets, NoMemory>
@@ -121,7 +121,7 @@ fn none_passed(alloc: Global, zero: Net, count: usize) -> Result<Passages, NoMem
 fn guessing_moves(
     alloc: Global,
     b: &mut Builder,
-    line: &Line<'_>,
+    line: &StageLine<'_>,
     orders: &[Option<OrderRegs>],
     v: usize,
     blank: &[Net],
@@ -168,7 +168,7 @@ fn guessing_moves(
 fn certain_moves(
     alloc: Global,
     b: &mut Builder,
-    line: &Line<'_>,
+    line: &StageLine<'_>,
     orders: &[Option<OrderRegs>],
     blank: &[Net],
 ) -> Result<MoveNets, NoMemory>
@@ -205,7 +205,7 @@ fn certain_moves(
 pub fn all_moves(
     alloc: Global,
     b: &mut Builder,
-    line: &Line<'_>,
+    line: &StageLine<'_>,
     orders: &[Option<OrderRegs>],
 ) -> Result<MoveNets, NoMemory>
     requires line { IsLineIn b.old line.now }

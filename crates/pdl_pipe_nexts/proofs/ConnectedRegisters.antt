@@ -19,7 +19,7 @@ use Rattle.pdl_pipe_registers.specs.Stages.{reg_of, end_of, IsAt}
 use Rattle.pdl_pipe_registers.specs.Staged.{AreApart}
 use Rattle.pdl_pipe_registers.proofs.Begins.{next_keep}
 use Rattle.pdl_pipe_registers.proofs.Lists.{up_to}
-use Rattle.pdl_pipe_nexts.specs.declared.line.Line.{Line}
+use Rattle.pdl_pipe_nexts.specs.declared.line.StageLine.{StageLine}
 use Rattle.pdl_pipe_nexts.specs.Lines.{IsStageNow, IsLineIn, line_form}
 use Rattle.pdl_pipe_nexts.specs.Nexts.{arriving, staying, kept_signal, regs_of, AreNexts, AllNexts, FitsRegs, AreSet, TakesNext}
 use Rattle.pdl_pipe_nexts.proofs.LineGrowth.{at_same, arriving_same, staying_same}
@@ -85,7 +85,7 @@ set_more a b c s nets i net low count there fits is new x h =
 
 -- ---- one stage more
 
-nexts_keep : (a b c : Circuit) (x : Line) (k : ℕ) (s : StageNets) (nets : List Net) → Keeps b c
+nexts_keep : (a b c : Circuit) (x : StageLine) (k : ℕ) (s : StageNets) (nets : List Net) → Keeps b c
     → AreNexts a b x k s nets → AreNexts a c x k s nets
 nexts_keep a b c x k s nets e h =
     let same = signals_keep b c nets e h.there in
@@ -99,15 +99,15 @@ nexts_keep a b c x k s nets e h =
     }
 
 -- the nets for the registers of all stages stay in a circuit that keeps them
-pub all_keep : (a b c : Circuit) (x : Line) (xs : List (Seq Net)) → Keeps b c → AllNexts a b x xs → AllNexts a c x xs
+pub all_keep : (a b c : Circuit) (x : StageLine) (xs : List (Seq Net)) → Keeps b c → AllNexts a b x xs → AllNexts a c x xs
 all_keep a b c x xs e h = record { count = h.count; each = λ k s nets l is at. nexts_keep a b c x k s nets e (h.each k s nets l is at) }
 
 -- the nets of the first k stages
-abbrev pub FirstNexts : Circuit → Circuit → Line → List (Seq Net) → ℕ → Type 0
+abbrev pub FirstNexts : Circuit → Circuit → StageLine → List (Seq Net) → ℕ → Type 0
 FirstNexts a c x xs n = (k : ℕ) (s : StageNets) (nets : Seq Net) → k < n → IsAt x.stages.now k s → get_or xs k nets ≡ nets → AreNexts a c x k s nets
 
 -- with nets for the registers of one stage more, the first n + 1 stages have theirs
-pub first_more : (a b c : Circuit) (x : Line) (xs : List (Seq Net)) (new : Seq Net) (n : ℕ)
+pub first_more : (a b c : Circuit) (x : StageLine) (xs : List (Seq Net)) (new : Seq Net) (n : ℕ)
     → n ≡ length xs → Keeps b c → FirstNexts a b x xs n
     → ((s : StageNets) → IsAt x.stages.now n s → AreNexts a c x n s new) → FirstNexts a c x (xs ++ new ∷ []) (n + 1)
 first_more a b c x xs new n e keeps old here k s nets l is at =
@@ -118,7 +118,7 @@ first_more a b c x xs new n e keeps old here k s nets l is at =
 -- ---- registers fit their nets
 
 -- the nets for the registers of a stage have the widths of these registers
-pub fits_regs : (a b : Circuit) (x : Line) (k : ℕ) (s : StageNets) (nets : List Net) (nexts : List Signal)
+pub fits_regs : (a b : Circuit) (x : StageLine) (k : ℕ) (s : StageNets) (nets : List Net) (nexts : List Signal)
     → nexts ≡ signals_in a x.shared.now.next → IsStageNow b (line_form x) nexts k s → AreNexts a b x k s nets
     → FitsRegs b s nets
 unfolding HasReg
@@ -132,7 +132,7 @@ fits_regs a b x k s nets nexts e now h (suc i) l =
     (q.has, h.kept_wide i low ∙ ap (λ fs. Rattle.pdl_pipe_registers.specs.Items.item_width (line_form x) fs (item_at s.regs.items i)) (sym e) ∙ sym q.width)
 
 -- so they take what they should
-pub takes_now : (a b d : Circuit) (x : Line) (k : ℕ) (s : StageNets) (nets : List Net) → AreNexts a b x k s nets
+pub takes_now : (a b d : Circuit) (x : StageLine) (k : ℕ) (s : StageNets) (nets : List Net) → AreNexts a b x k s nets
     → AreSet b d s nets → TakesNext a d x k s
 takes_now a b d x k s nets h set =
     let n = h.count in
@@ -142,7 +142,7 @@ takes_now a b d x k s nets h set =
     }
 
 -- and still do where others are told
-takes_keep : (a b d : Circuit) (x : Line) (k : ℕ) (s : StageNets) (nexts : List Signal) (low high : ℕ)
+takes_keep : (a b d : Circuit) (x : StageLine) (k : ℕ) (s : StageNets) (nexts : List Signal) (low high : ℕ)
     → IsStageNow b (line_form x) nexts k s → end_of s.regs ≤ low → ExtendsBut (regs_of low high) b d
     → TakesNext a b x k s → TakesNext a d x k s
 takes_keep a b d x k s nexts low high now l e h = record {
@@ -152,12 +152,12 @@ takes_keep a b d x k s nexts low high now l e h = record {
 
 -- ---- all stages
 
-pub record ConnectedSoFar (a b : Circuit) (x : Line) (n : ℕ) : Type 0 where
+pub record ConnectedSoFar (a b : Circuit) (x : StageLine) (n : ℕ) : Type 0 where
   pub extends : (low : ℕ) → AreApart low (length a.regs) x.stages.now → ExtendsBut (regs_of low (length a.regs)) a b
   pub takes : (k : ℕ) (s : StageNets) → k < n → IsAt x.stages.now k s → TakesNext a b x k s
 
 -- with the registers of one stage more connected, those of the first n + 1 take what they should
-pub connected_more : (a b d : Circuit) (x : Line) (n : ℕ) (t : StageNets) (nexts : List Signal)
+pub connected_more : (a b d : Circuit) (x : StageLine) (n : ℕ) (t : StageNets) (nexts : List Signal)
     → n < length x.stages.now → IsAt x.stages.now n t → AreApart 0 (length a.regs) x.stages.now
     → ((k : ℕ) (s : StageNets) → k < length x.stages.now → IsAt x.stages.now k s → IsStageNow b (line_form x) nexts k s)
     → ExtendsBut (regs_of t.regs.valid (end_of t.regs)) b d → TakesNext a d x n t → ConnectedSoFar a b x n
@@ -191,7 +191,7 @@ net_is c (y ∷ ys) (suc i) x l e = net_is c ys i x (omega (arith, l)) e
 -- ---- by the nets as they stood before
 
 -- nets for the registers of a stage are such too by the line's nets as they stood in an earlier circuit
-pub nexts_as : (a b c : Circuit) (x : Line) (k : ℕ) (s : StageNets) (nets : List Net) → Keeps a b → IsLineIn a x
+pub nexts_as : (a b c : Circuit) (x : StageLine) (k : ℕ) (s : StageNets) (nets : List Net) → Keeps a b → IsLineIn a x
     → IsStageNow a (line_form x) (signals_in a x.shared.now.next) k s → AreNexts b c x k s nets
     → AreNexts a c x k s nets
 nexts_as a b c x k s nets e line now h =

@@ -20,7 +20,7 @@ use Rattle.pdl_pipe_registers.proofs.Lists.{view_at, some_stage}
 use Rattle.pdl_pipe_registers.proofs.RegisterGrowth.{registers_keep}
 use Rattle.pdl_pipe_registers.proofs.Begins.{shared_keep, next_keep}
 use Rattle.pdl_pipe_registers.proofs.StageEnds.{begun_keep, begun_parts_keep}
-use Rattle.pdl_pipe_nexts.specs.declared.line.Line.{Line}
+use Rattle.pdl_pipe_nexts.specs.declared.line.StageLine.{StageLine}
 use Rattle.pdl_pipe_nexts.specs.Lines.{IsBit, IsStageNow, IsLineIn, line_form, line_pipe, line_views, line_moves, line_kills}
 use Rattle.pdl_pipe_nexts.specs.Brings.{brought_signal}
 use Rattle.pdl_pipe_nexts.specs.Nexts.{arriving, staying}
@@ -60,7 +60,7 @@ stage_keep a b f nexts k s e h = record {
 }
 
 -- the nets of a line stay in a circuit that keeps what stands in theirs
-pub line_keep : (a b : Circuit) (x : Line) → Keeps a b → IsLineIn a x → IsLineIn b x
+pub line_keep : (a b : Circuit) (x : StageLine) → Keeps a b → IsLineIn a x → IsLineIn b x
 line_keep a b x e h = record {
   shared = shared_keep a b (line_form x) x.shared.now e h.shared;
   count = h.count;
@@ -74,7 +74,7 @@ line_keep a b x e h = record {
   params = h.params;
 }
 
-module _ (a b : Circuit) (x : Line) (e : Keeps a b) (h : IsLineIn a x) where
+module _ (a b : Circuit) (x : StageLine) (e : Keeps a b) (h : IsLineIn a x) where
   -- a stage ends as it did
   pub ended_same : (j : ℕ) → j < length x.stages.now → (line_views b x j).ended ≡ (line_views a x j).ended
   ended_same j l =
@@ -114,7 +114,7 @@ view_same a b f nexts k s e h =
     ap₂ (λ (vars tickets : List Signal). view_from s.regs.valid vars tickets (begun_parts b s) (parts_in b s.end)) (signals_keep a b s.vars e h.nets.vars) (signals_keep a b s.tickets e h.nets.tickets)
     ∙ ap₂ (λ (begun ended : Parts). view_from s.regs.valid (signals_in a s.vars) (signals_in a s.tickets) begun ended) (begun_parts_keep a b e f nexts s h.nets) (parts_keep a b e s.end h.walk.there)
 
-module _ (a b : Circuit) (x : Line) (e : Keeps a b) (h : IsLineIn a x) where
+module _ (a b : Circuit) (x : StageLine) (e : Keeps a b) (h : IsLineIn a x) where
   pub views_same : line_views b x ≡ line_views a x
   views_same = ap (λ vs k. get_or vs k no_view) (map_same (view_in b) (view_in a) x.stages.now (λ k s l is. view_same a b (line_form x) (signals_in a x.shared.now.next) k s e (h.stages k s l is)))
 

@@ -19,7 +19,7 @@ use Rattle.pdl_pipe_registers.specs.Stages.{reg_of}
 use Rattle.pdl_pipe_registers.specs.Begun.{IsItem}
 use Rattle.pdl_pipe_registers.proofs.Lists.{up_to}
 use Rattle.pdl_pipe_registers.proofs.Begins.{nets_long, signal_old, signal_new}
-use Rattle.pdl_pipe_nexts.specs.declared.line.Line.{Line}
+use Rattle.pdl_pipe_nexts.specs.declared.line.StageLine.{StageLine}
 use Rattle.pdl_pipe_nexts.specs.Lines.{IsStageNow, IsLineIn, ValueAs, line_form}
 use Rattle.pdl_pipe_nexts.proofs.LineGrowth.{arriving_same, staying_same}
 use Rattle.pdl_pipe_nexts.specs.Brings.{IsArgument, IsBrought}
@@ -85,7 +85,7 @@ kept_signal_keep a b f nexts k s i (Guess n) e l h = e.kept (RegNet (reg_of s.re
 
 -- ---- the first of them
 
-pub record NextsSoFar (a c : Circuit) (x : Line) (k : ℕ) (s : StageNets) (nets : List Net) (i : ℕ) : Type 0 where
+pub record NextsSoFar (a c : Circuit) (x : StageLine) (k : ℕ) (s : StageNets) (nets : List Net) (i : ℕ) : Type 0 where
   pub there : NetsThere c nets
   pub count : length nets ≡ suc i
   pub valid_wide : (signal_at (signals_in c nets) 0).width ≡ 1
@@ -94,8 +94,8 @@ pub record NextsSoFar (a c : Circuit) (x : Line) (k : ℕ) (s : StageNets) (nets
   pub kept : (j : ℕ) → j < i → ValueAs (signal_at (signals_in c nets) (suc j)) (arriving a x k (Some (item_at s.regs.items j)) (kept_signal a s j (item_at s.regs.items j)))
 
 -- whether it holds a thread
-pub nexts_first : (a b c : Circuit) (x : Line) (k : ℕ) (s : StageNets) (stays valid : Net) → Keeps a b → IsLineIn a x
-    → IsThere c valid → (signal c valid).width ≡ 1 → signal b stays ≡ staying b x k s
+pub nexts_first : (a b c : Circuit) (x : StageLine) (k : ℕ) (s : StageNets) (stays valid : Net) → Keeps a b
+    → IsLineIn a x → IsThere c valid → (signal c valid).width ≡ 1 → signal b stays ≡ staying b x k s
     → ValueAs (signal c valid) (arriving b x k None (signal b stays)) → NextsSoFar a c x k s (valid ∷ []) 0
 nexts_first a b c x k s stays valid e line there wide rest h = record {
   there = (there, tt);
@@ -107,7 +107,7 @@ nexts_first a b c x k s stays valid e line there wide rest h = record {
 }
 
 -- one item more
-pub nexts_more : (a b c : Circuit) (x : Line) (k : ℕ) (s : StageNets) (nets : List Net) (i : ℕ) (rest net : Net)
+pub nexts_more : (a b c : Circuit) (x : StageLine) (k : ℕ) (s : StageNets) (nets : List Net) (i : ℕ) (rest net : Net)
     → Keeps a b → Keeps b c → IsLineIn a x → IsStageNow a (line_form x) (signals_in a x.shared.now.next) k s
     → i < length s.regs.items → signal b rest ≡ kept_signal b s i (item_at s.regs.items i) → IsThere c net
     → (signal c net).width ≡ (signal b rest).width
@@ -136,7 +136,7 @@ nexts_more a b c x k s nets i rest net ab bc line now low is there wide h so =
     }
 
 -- all of them
-pub nexts_all : (a c : Circuit) (x : Line) (k : ℕ) (s : StageNets) (nets : List Net) (i : ℕ)
+pub nexts_all : (a c : Circuit) (x : StageLine) (k : ℕ) (s : StageNets) (nets : List Net) (i : ℕ)
     → i ≡ length s.regs.items → NextsSoFar a c x k s nets i → AreNexts a c x k s nets
 nexts_all a c x k s nets i e h = record {
   there = h.there;

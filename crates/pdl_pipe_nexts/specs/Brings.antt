@@ -14,7 +14,7 @@ use Rattle.pdl_pipe_registers.specs.declared.nets.Item.{Item}
 use Rattle.pdl_pipe_registers.specs.declared.nets.Item.TheVariants.{Var, Held, Ticket, Guess}
 use Rattle.pdl_pipe_registers.specs.Items.{comer_item, ended_item, item_width}
 use Rattle.pdl_pipe_registers.specs.Begun.{IsItem}
-use Rattle.pdl_pipe_nexts.specs.declared.line.Line.{Line}
+use Rattle.pdl_pipe_nexts.specs.declared.line.StageLine.{StageLine}
 use Rattle.pdl_pipe_nexts.specs.Lines.{line_views, line_moves}
 
 -- of one that may come, of one out of a stage with this view, and of a call with these arguments
@@ -67,5 +67,5 @@ pub record IsBirth (c : Circuit) (f : Form) (b : BirthNet) : Type 0 where
   pub wide : widths_of (signals_in c b.args) ≡ param_widths f
 
 -- the new threads that the calls of all stages bring
-abbrev pub new_in : Circuit → Line → List Comer
+abbrev pub new_in : Circuit → StageLine → List Comer
 new_in c x = new_from (line_views c x) (line_moves c x) (length x.stages.now) 0

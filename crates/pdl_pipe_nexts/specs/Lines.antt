@@ -16,7 +16,7 @@ use Rattle.pdl_pipe_walk.specs.Sized.{IsWalk}
 use Rattle.pdl_pipe_registers.specs.declared.nets.StageNets.{StageNets}
 use Rattle.pdl_pipe_registers.specs.Stages.{views_in, HasRegisters, AreOwn, IsThereBegun, IsAt}
 use Rattle.pdl_pipe_registers.specs.Begun.{IsShared}
-use Rattle.pdl_pipe_nexts.specs.declared.line.Line.{Line}
+use Rattle.pdl_pipe_nexts.specs.declared.line.StageLine.{StageLine}
 
 -- a bit that never changes
 abbrev pub bit_signal : Bool → Signal
@@ -31,23 +31,23 @@ abbrev pub IsBit : Circuit → Net → Type 0
 IsBit c x = IsThere c x × ((signal c x).width ≡ 1)
 
 -- the form of its pipe, the views of its stages, and the nets of its moves and removals
-abbrev pub line_form : Line → Form
+abbrev pub line_form : StageLine → Form
 line_form x = form x.pipe.now
 
 -- the flat pipe of a line
-abbrev pub line_pipe : Line → Pipe
+abbrev pub line_pipe : StageLine → Pipe
 line_pipe x = (line_form x).pipe
 
 -- the views of a line's stages
-abbrev pub line_views : Circuit → Line → ℕ → View
+abbrev pub line_views : Circuit → StageLine → ℕ → View
 line_views c x = views_in c x.stages.now
 
 -- whether the thread of stage k of a line moves
-abbrev pub line_moves : Circuit → Line → ℕ → Signal
+abbrev pub line_moves : Circuit → StageLine → ℕ → Signal
 line_moves c x k = signal_at (signals_in c x.moves.now) k
 
 -- whether the thread of stage k of a line is removed
-abbrev pub line_kills : Circuit → Line → ℕ → Signal
+abbrev pub line_kills : Circuit → StageLine → ℕ → Signal
 line_kills c x k = signal_at (signals_in c x.kills.now) k
 
 -- stage k of a line: its registers, what it begins with, and its nets after its statements
@@ -58,7 +58,7 @@ pub record IsStageNow (c : Circuit) (f : Form) (nexts : List Signal) (k : ℕ) (
   pub walk : IsWalk c f.pipe f.widths s.end
 
 -- the nets of a line are there: a stage, its move and its removal for each stage of the pipe
-pub record IsLineIn (c : Circuit) (x : Line) : Type 0 where
+pub record IsLineIn (c : Circuit) (x : StageLine) : Type 0 where
   pub shared : IsShared c (line_form x) x.shared.now
   pub count : length x.stages.now ≡ length (line_pipe x).stages
   pub stages : (k : ℕ) (s : StageNets) → k < length x.stages.now → IsAt x.stages.now k s → IsStageNow c (line_form x) (signals_in c x.shared.now.next) k s

@@ -15,7 +15,7 @@ use Rattle.pdl_pipe_registers.specs.declared.nets.Item.TheVariants.{Var, Held, T
 use Rattle.pdl_pipe_registers.specs.declared.nets.StageNets.{StageNets}
 use Rattle.pdl_pipe_registers.specs.Items.{item_at, item_width}
 use Rattle.pdl_pipe_registers.specs.Stages.{reg_of, IsAt}
-use Rattle.pdl_pipe_nexts.specs.declared.line.Line.{Line}
+use Rattle.pdl_pipe_nexts.specs.declared.line.StageLine.{StageLine}
 use Rattle.pdl_pipe_nexts.specs.Lines.{line_form, line_pipe, line_views, line_moves, line_kills, ValueAs}
 use Rattle.pdl_pipe_nexts.specs.Brings.{brought_signal}
 
@@ -31,15 +31,15 @@ kept_signal c s i (Ticket m) = signal c (RegNet (reg_of s.regs i))
 kept_signal c s i (Guess k) = signal c (RegNet (reg_of s.regs i))
 
 -- whether a stage still holds its thread: unless that moves or is removed
-abbrev pub staying : Circuit → Line → ℕ → StageNets → Signal
+abbrev pub staying : Circuit → StageLine → ℕ → StageNets → Signal
 staying c x k s = mux_signal (line_moves c x k) zero_bit (mux_signal (line_kills c x k) zero_bit (reg_signal 1 s.regs.valid))
 
 -- what the first that comes into stage k brings, else this
-abbrev pub arriving : Circuit → Line → ℕ → Option Item → Signal → Signal
+abbrev pub arriving : Circuit → StageLine → ℕ → Option Item → Signal → Signal
 arriving c x k what rest = first_coming (brought_signal what) (comers (line_pipe x) (line_views c x) (line_moves c x) k) rest
 
 -- nets for the registers of stage k: the first tells whether it holds a thread next, and those of the items follow
-pub record AreNexts (a c : Circuit) (x : Line) (k : ℕ) (s : StageNets) (nets : List Net) : Type 0 where
+pub record AreNexts (a c : Circuit) (x : StageLine) (k : ℕ) (s : StageNets) (nets : List Net) : Type 0 where
   pub there : NetsThere c nets
   pub count : length nets ≡ suc (length s.regs.items)
   pub valid_wide : (signal_at (signals_in c nets) 0).width ≡ 1
@@ -48,7 +48,7 @@ pub record AreNexts (a c : Circuit) (x : Line) (k : ℕ) (s : StageNets) (nets :
   pub kept : (i : ℕ) → i < length s.regs.items → ValueAs (signal_at (signals_in c nets) (suc i)) (arriving a x k (Some (item_at s.regs.items i)) (kept_signal a s i (item_at s.regs.items i)))
 
 -- the registers of stage k take it, by the nets as they stood in circuit a
-pub record TakesNext (a c : Circuit) (x : Line) (k : ℕ) (s : StageNets) : Type 0 where
+pub record TakesNext (a c : Circuit) (x : StageLine) (k : ℕ) (s : StageNets) : Type 0 where
   pub valid : ValueAs (next_signal c s.regs.valid) (arriving a x k None (staying a x k s))
   pub kept : (i : ℕ) → i < length s.regs.items → ValueAs (next_signal c (reg_of s.regs i)) (arriving a x k (Some (item_at s.regs.items i)) (kept_signal a s i (item_at s.regs.items i)))
 
@@ -64,7 +64,7 @@ abbrev pub IsKeptItem : Circuit → StageNets → ℕ → Type 0
 IsKeptItem c s i = IsKeptNow c s i (item_at s.regs.items i)
 
 -- those of all stages
-pub record AllNexts (a c : Circuit) (x : Line) (nexts : List (Seq Net)) : Type 0 where
+pub record AllNexts (a c : Circuit) (x : StageLine) (nexts : List (Seq Net)) : Type 0 where
   pub count : length nexts ≡ length x.stages.now
   pub each : (k : ℕ) (s : StageNets) (nets : Seq Net) → k < length nexts → IsAt x.stages.now k s → slice_index_or nexts k nets ≡ nets → AreNexts a c x k s nets
 

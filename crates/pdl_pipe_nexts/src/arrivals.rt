@@ -8,7 +8,7 @@ ghost use Rattle.pdl_pipe_exprs.specs.Conditions.{AreBits};
 ghost use Rattle.pdl_pipe_nexts.specs.Lines.{bit_signal, line_pipe, line_views, line_moves, IsLineIn};
 ghost use Rattle.pdl_pipe_nexts.specs.Arrivals.{Comes, AreArrivals};
 
-use crate::line::{Line, stage_of};
+use crate::line::{StageLine, stage_of};
 use pdl_build::Builder;
 use pdl_form::Next;
 use pdl_kit::{NoMemory, Seq};
@@ -52,7 +52,7 @@ fn way(b: &mut Builder, bits: Bits, choice: Net, first: bool, second: bool) -> R
 }
 
 // Whether the thread of stage j moves to stage q.
-fn comes(b: &mut Builder, line: &Line<'_>, j: usize, q: usize) -> Result<Net, NoMemory>
+fn comes(b: &mut Builder, line: &StageLine<'_>, j: usize, q: usize) -> Result<Net, NoMemory>
     requires line { IsLineIn b.old line.now }
     requires low { j < length (line_pipe line.now).stages }
     ensures arrives { IfOk result (λ y. Comes b.new (line_pipe line.now)
@@ -79,7 +79,7 @@ fn comes(b: &mut Builder, line: &Line<'_>, j: usize, q: usize) -> Result<Net, No
 pub fn threads_into(
     alloc: Global,
     b: &mut Builder,
-    line: &Line<'_>,
+    line: &StageLine<'_>,
     q: usize,
 ) -> Result<Seq<Arrival>, NoMemory>
     requires line { IsLineIn b.old line.now }

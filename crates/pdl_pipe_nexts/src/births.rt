@@ -11,7 +11,7 @@ ghost use Rattle.pdl_pipe_nexts.specs.Lines.{line_form, line_pipe, IsLineIn};
 ghost use Rattle.pdl_pipe_nexts.specs.Brings.{brought_signal, brought_new, brought_width, new_in, IsArgument, IsBirth};
 ghost use Rattle.pdl_word.specs.Each.{Each};
 
-use crate::line::{Line, stage_of};
+use crate::line::{StageLine, stage_of};
 use pdl_build::Builder;
 use pdl_form::FlatPipe;
 use pdl_kit::NoMemory;
@@ -77,7 +77,7 @@ fn picked_of(
 /// What the first of the calls of all stages that is made brings, else `rest`.
 pub(crate) fn new_coming(
     b: &mut Builder,
-    line: &Line<'_>,
+    line: &StageLine<'_>,
     what: Option<Item>,
     rest: Net,
 ) -> Result<Net, NoMemory>

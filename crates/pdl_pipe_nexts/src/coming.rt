@@ -11,14 +11,14 @@ ghost use Rattle.pdl_pipe_nexts.specs.Brings.{brought_signal, brought_out, broug
 
 use crate::arrivals::Arrival;
 use crate::births::new_coming;
-use crate::line::{Line, stage_of};
+use crate::line::{StageLine, stage_of};
 use pdl_build::Builder;
 use pdl_kit::NoMemory;
 use pdl_net::Net;
 use pdl_pipe_registers::{Item, ended};
 
 // What a thread brings out of stage j.
-fn brings(b: &Builder, line: &Line<'_>, j: usize, what: Option<Item>) -> Net
+fn brings(b: &Builder, line: &StageLine<'_>, j: usize, what: Option<Item>) -> Net
     requires line { IsLineIn b.now line.now }
     requires low { j < length line.now.stages.now }
     requires what { IsBrought (line_form line.now) what }
@@ -43,7 +43,7 @@ fn arrival_at(arrivals: &[Arrival], i: usize) -> Arrival
 /// What the first that comes into stage q brings, else `rest`.
 pub(crate) fn coming(
     b: &mut Builder,
-    line: &Line<'_>,
+    line: &StageLine<'_>,
     q: usize,
     arrivals: &[Arrival],
     what: Option<Item>,

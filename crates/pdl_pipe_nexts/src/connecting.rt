@@ -9,7 +9,7 @@ ghost use Rattle.pdl_pipe_registers.specs.Staged.{AreApart};
 ghost use Rattle.pdl_pipe_nexts.specs.Lines.{line_pipe, IsLineIn};
 ghost use Rattle.pdl_pipe_nexts.specs.Nexts.{regs_of, AllNexts, AreSet, FitsRegs, TakesNext};
 
-use crate::line::{Line, stage_of};
+use crate::line::{StageLine, stage_of};
 use crate::nexts::stage_nexts;
 use pdl_build::Builder;
 use pdl_kit::{NoMemory, Seq};
@@ -18,7 +18,11 @@ use pdl_pipe_registers::StageNets;
 use std::alloc::Global;
 
 // The nets for all stages.
-fn all_nexts(alloc: Global, b: &mut Builder, line: &Line<'_>) -> Result<Vec<Seq<Net>>, NoMemory>
+fn all_nexts(
+    alloc: Global,
+    b: &mut Builder,
+    line: &StageLine<'_>,
+) -> Result<Vec<Seq<Net>>, NoMemory>
     requires line { IsLineIn b.old line.now }
     ensures nexts { IfOk result (λ xs. AllNexts b.old b.new line.now xs.items) }
     ensures extends { Extends b.old b.new }
@@ -57,7 +61,7 @@ fn set_stage(b: &mut Builder, s: &StageNets, nets: &[Net])
 }
 
 /// What the registers of all stages take next.
-pub fn connect(alloc: Global, b: &mut Builder, line: &Line<'_>) -> Result<(), NoMemory>
+pub fn connect(alloc: Global, b: &mut Builder, line: &StageLine<'_>) -> Result<(), NoMemory>
     requires line { IsLineIn b.old line.now }
     requires apart { AreApart 0 (length b.old.regs) line.now.stages.now }
     ensures next { OnOk result ((k : ℕ) (s : Stage) → k < length line.now.stages.now →

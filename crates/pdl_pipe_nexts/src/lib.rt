@@ -1,6 +1,6 @@
 //! Which threads come into each stage of a pipe, and what the registers of the stages take next, whatever lets the threads move.
 //!
-//! The layer above may use `Line`, a pipe's stages with their moves, and `connect`.
+//! The layer above may use `StageLine`, a pipe's stages with their moves, and `connect`.
 #![tactic(auto)]
 
 pub mod arrivals;
@@ -11,4 +11,4 @@ pub mod line;
 pub mod nexts;
 
 pub use connecting::connect;
-pub use line::Line;
+pub use line::StageLine;

@@ -8,7 +8,7 @@ use pdl_pipe_registers::{Shared, StageNets};
 
 /// The stages of a pipe, with whether the thread of each moves, and whether one that stays is removed, 1 bit each.
 #[derive(Clone, Copy)]
-pub struct Line<'a> {
+pub struct StageLine<'a> {
     pub pipe: &'a FlatPipe,
     pub shared: &'a Shared<'a>,
     pub stages: &'a [StageNets],
@@ -17,7 +17,7 @@ pub struct Line<'a> {
 }
 
 /// The stage of a number.
-pub fn stage_of<'a>(line: &Line<'a>, k: usize) -> &'a StageNets
+pub fn stage_of<'a>(line: &StageLine<'a>, k: usize) -> &'a StageNets
     requires { k < length line.now.stages.now }
     ensures { result.now ≡ slice_index_or line.now.stages.now k result.now }
 {

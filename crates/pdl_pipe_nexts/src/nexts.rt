@@ -11,7 +11,7 @@ ghost use Rattle.pdl_pipe_nexts.specs.Nexts.{staying as staying_signal, kept_sig
 
 use crate::arrivals::threads_into;
 use crate::coming::coming;
-use crate::line::{Line, stage_of};
+use crate::line::{StageLine, stage_of};
 use pdl_build::Builder;
 use pdl_kit::{NoMemory, Seq};
 use pdl_net::Net;
@@ -20,7 +20,7 @@ use pdl_pipe_registers::{Item, StageNets};
 use std::alloc::Global;
 
 // Whether stage k still holds its thread where none comes.
-fn staying(b: &mut Builder, line: &Line<'_>, k: usize) -> Result<Net, NoMemory>
+fn staying(b: &mut Builder, line: &StageLine<'_>, k: usize) -> Result<Net, NoMemory>
     requires line { IsLineIn b.old line.now }
     requires low { k < length (line_pipe line.now).stages }
     ensures means { (s : Stage) → IsAt line.now.stages.now k s → IfOk result (λ y.
@@ -66,7 +66,7 @@ fn kept(b: &Builder, s: &StageNets, i: usize) -> Net
 pub fn stage_nexts(
     alloc: Global,
     b: &mut Builder,
-    line: &Line<'_>,
+    line: &StageLine<'_>,
     k: usize,
 ) -> Result<Seq<Net>, NoMemory>
     requires line { IsLineIn b.old line.now }

@@ -9,7 +9,7 @@ use Rattle.std.specs.Prelude.{Option}
 use Rattle.pdl_semantics.specs.Flat.{Mem, Pipe}
 use Rattle.pdl_semantics.specs.Stages.{plain_mem, mem_at, reply_place}
 use Rattle.pdl_form.specs.Form.{Form}
-use Rattle.pdl_form.specs.declared.form.Mem as r_mem
+use Rattle.pdl_form.specs.declared.form.FlatMem as r_mem
 use Rattle.pdl_form.specs.View.{mem_view, mems_view, mem_names}
 use Rattle.pdl_net.specs.declared.Net.{Net}
 use Rattle.pdl_net.specs.declared.Port.{Port}
@@ -53,7 +53,7 @@ pub inputs_more : (a b : Circuit) (added : List Port)
 inputs_more a b added e = ap (λ ps. length (filter_map port_input ps)) e ∙ ap length (filter_map-append port_input a.ports added) ∙ length-append (inputs_of a) (filter_map port_input added)
 
 -- the two inputs of a delayed memory
-module _ (a b d : Circuit) (m : r_mem.Mem) (x y : List ℕ) (first : x ≡ codes "p_" ++ m.name) (second : y ≡ codes "pd_" ++ m.name) (one : ExtendsPorts a b (input_port x 1 ∷ [])) (two : ExtendsPorts b d (input_port y m.width ∷ [])) where
+module _ (a b d : Circuit) (m : r_mem.FlatMem) (x y : List ℕ) (first : x ≡ codes "p_" ++ m.name) (second : y ≡ codes "pd_" ++ m.name) (one : ExtendsPorts a b (input_port x 1 ∷ [])) (two : ExtendsPorts b d (input_port y m.width ∷ [])) where
   pub pair_added : ExtendsPorts a d (reply_pair m)
   pair_added = subst (ExtendsPorts a d) (ap₂ (λ (p q : List ℕ). input_port p 1 ∷ input_port q m.width ∷ []) first second) (ports_trans a b d (input_port x 1 ∷ []) (input_port y m.width ∷ []) one two)
 
@@ -64,14 +64,14 @@ module _ (a b d : Circuit) (m : r_mem.Mem) (x y : List ℕ) (first : x ≡ codes
   word_means i h = subst (λ n. Means d i (input_signal m.width n)) (inputs_more a b (input_port x 1 ∷ []) one.ports) h
 
 -- the input ports of the first i + 1 memories are those of the first i and those of the next one
-pub mems_more : (ms : List r_mem.Mem) (i : ℕ) (d : r_mem.Mem)
+pub mems_more : (ms : List r_mem.FlatMem) (i : ℕ) (d : r_mem.FlatMem)
     → i < length ms → flat_map mem_ports (take (i + 1) ms) ≡ flat_map mem_ports (take i ms) ++ mem_ports (get_or ms i d)
 mems_more ms i d h =
     ap (flat_map mem_ports) (take_more ms i d h) ∙ flat_map-append mem_ports (take i ms) (get_or ms i d ∷ [])
     ∙ ap (λ ps. flat_map mem_ports (take i ms) ++ ps) (append-nil (mem_ports (get_or ms i d)))
 
 -- those of the memories are the ports that the law of a netlist asks for
-ports_as : (k : ℕ) (ms : List r_mem.Mem) (names : ℕ → List ℕ)
+ports_as : (k : ℕ) (ms : List r_mem.FlatMem) (names : ℕ → List ℕ)
     → ((i j : ℕ) → j ≡ k + i → i < length ms → names j ≡ get_or (mem_names ms) i [])
     → flat_map mem_ports ms ≡ reply_ports names k (mems_view ms)
 ports_as k [] names h = refl
@@ -81,7 +81,7 @@ ports_as k (m ∷ ms) names h =
     (ports_as (suc k) ms names (λ i j u l. h (suc i) j (omega (arith, u)) (omega (arith, l))))
 
 -- all of them, with the names of the memories
-pub ports_all : (f : Form) (ms : List r_mem.Mem) (i : ℕ) (names : ℕ → List ℕ)
+pub ports_all : (f : Form) (ms : List r_mem.FlatMem) (i : ℕ) (names : ℕ → List ℕ)
     → mems_view ms ≡ f.pipe.mems → mem_names ms ≡ f.names → length ms ≤ i → AreNames f.names names
     → flat_map mem_ports (take i ms) ≡ reply_ports names 0 f.pipe.mems
 ports_all f ms i names same named past told =
@@ -107,7 +107,7 @@ place_more p i l = by (mem_at p i).delayed refl
     by false e = count_by_more_no (λ (x : Mem). x.delayed) p.mems i plain_mem l e ∙ (omega arith)
 
 -- two inputs more for a delayed memory
-pub inputs_place : (p : Pipe) (a b : Circuit) (m : r_mem.Mem) (i : ℕ)
+pub inputs_place : (p : Pipe) (a b : Circuit) (m : r_mem.FlatMem) (i : ℕ)
     → i < length p.mems → mem_view m ≡ mem_at p i → b.ports ≡ a.ports ++ mem_ports m
     → length (inputs_of a) ≡ 2 * reply_place p i → length (inputs_of b) ≡ 2 * reply_place p (i + 1)
 inputs_place p a b m i l is e h =

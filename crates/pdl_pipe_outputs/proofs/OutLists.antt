@@ -14,7 +14,7 @@ use Rattle.pdl_law_parts.specs.Ports.{Shown, Commit, shown_signal, stages_shown,
 use Rattle.pdl_law_parts.specs.Compiled.{shown_in}
 use Rattle.pdl_law_sides.specs.WholeNetlist.{Request, request_shown, requests_shown, whole_shown}
 use Rattle.pdl_pipe_beside.specs.declared.outside.RequestNets.{RequestNets}
-use Rattle.pdl_pipe_outputs.specs.declared.outputs.StageNets.{StageNets}
+use Rattle.pdl_pipe_outputs.specs.declared.outputs.ShownNets.{ShownNets}
 use Rattle.pdl_pipe_outputs.specs.declared.outputs.OutNet.{OutNet}
 use Rattle.pdl_pipe_locks.specs.Stepped.{commit_of, commits_in}
 use Rattle.pdl_pipe_outputs.specs.ToldOutputs.{AreThereStages, IsThereCommit, IsThereRequest, AreTold, ask_of, asks_in, valid_in, moves_in, AreOf, output_of, OutsThere, shown_by}
@@ -31,11 +31,11 @@ shown_more c os ps = ap (map (shown_in c)) (map-append output_of os ps) ∙ map-
 
 -- ---- the stages
 
-stages_there : (c : Circuit) (k : ℕ) (ss : List StageNets) → AreThereStages c ss → OutsThere c (stages_outs k ss)
+stages_there : (c : Circuit) (k : ℕ) (ss : List ShownNets) → AreThereStages c ss → OutsThere c (stages_outs k ss)
 stages_there c k [] t = tt
 stages_there c k (s ∷ ss) t = (t.0, (t.1, stages_there c (suc k) ss t.2))
 
-stages_show : (c : Circuit) (k : ℕ) (ss : List StageNets) (vs : ℕ → View) (moves : ℕ → Signal)
+stages_show : (c : Circuit) (k : ℕ) (ss : List ShownNets) (vs : ℕ → View) (moves : ℕ → Signal)
     → ((i j : ℕ) → j ≡ k + i → i < length ss → (vs j).valid ≡ valid_in c ss i)
     → ((i j : ℕ) → j ≡ k + i → i < length ss → moves j ≡ moves_in c ss i)
     → shown_by c (stages_outs k ss) ≡ stages_shown vs moves (length ss) k
@@ -123,21 +123,21 @@ requests_show c k (x ∷ names) (m ∷ ms) (r ∷ rs) name asks a b e f g =
 
 -- ---- the last stage
 
-last_there : (c : Circuit) (ss : List StageNets) (x : Net) → IsThere c x → AreThereStages c ss → IsThere c (last_moves ss x)
+last_there : (c : Circuit) (ss : List ShownNets) (x : Net) → IsThere c x → AreThereStages c ss → IsThere c (last_moves ss x)
 last_there c [] x h t = h
 last_there c (s ∷ ss) x h t = last_there c ss s.moves t.1 t.2
 
-last_is : (c : Circuit) (s : StageNets) (ss : List StageNets) → signal c (last_moves ss s.moves) ≡ moves_in c (s ∷ ss) (length ss)
+last_is : (c : Circuit) (s : ShownNets) (ss : List ShownNets) → signal c (last_moves ss s.moves) ≡ moves_in c (s ∷ ss) (length ss)
 last_is c s [] = refl
 last_is c s (t ∷ ss) = last_is c t ss
 
-last_means : (c : Circuit) (ss : List StageNets) (x : Net) → 1 ≤ length ss → signal c (last_moves ss x) ≡ moves_in c ss (length ss - 1)
+last_means : (c : Circuit) (ss : List ShownNets) (x : Net) → 1 ≤ length ss → signal c (last_moves ss x) ≡ moves_in c ss (length ss - 1)
 last_means c [] x h = absurd (omega (arith, h))
 last_means c (s ∷ ss) x h = let e : length ss ≡ length (s ∷ ss) - 1 = omega arith in last_is c s ss ∙ ap (moves_in c (s ∷ ss)) e
 
 -- ---- all outputs
 
-module _ (c : Circuit) (p : Pipe) (names : List (List ℕ)) (ss : List StageNets) (ns : List (Option LockNets)) (rs : List (Option RequestNets)) (squash : Net)
+module _ (c : Circuit) (p : Pipe) (names : List (List ℕ)) (ss : List ShownNets) (ns : List (Option LockNets)) (rs : List (Option RequestNets)) (squash : Net)
     (some : 1 ≤ length ss) (count : length ss ≡ length p.stages) (named : length names ≡ length p.mems) (told : AreTold c p ss ns rs squash) where
   mems_there : OutsThere c (commits_outs names ns)
   mems_there = commits_there c names ns (λ i l. told.commits.there i (omega (arith, l, told.commits.count)))

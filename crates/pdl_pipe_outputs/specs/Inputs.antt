@@ -3,7 +3,7 @@ use Rattle.std.specs.Prelude.{◌≡◌, ℕ, ◌+◌, ◌*◌, ◌<◌, true, L
 use Rattle.pdl_semantics.specs.Flat.{Mem, Pipe}
 use Rattle.pdl_semantics.specs.Stages.{mem_at, reply_place}
 use Rattle.pdl_form.specs.Form.{Form}
-use Rattle.pdl_form.specs.declared.form.Mem as r_mem
+use Rattle.pdl_form.specs.declared.form.FlatMem as r_mem
 use Rattle.pdl_net.specs.declared.Port.{Port}
 use Rattle.pdl_net.specs.Circuit.{Circuit}
 use Rattle.pdl_net.specs.Signal.{input_signal}
@@ -18,11 +18,11 @@ use Rattle.pdl_pipe_beside.specs.Beside.{Inputs}
 use Rattle.pdl_pipe_outputs.specs.ToldOutputs.{AreNames}
 
 -- the two inputs of a delayed memory; another one has none
-abbrev pub reply_pair : r_mem.Mem → List Port
+abbrev pub reply_pair : r_mem.FlatMem → List Port
 reply_pair m = input_port (codes "p_" ++ m.name) 1 ∷ input_port (codes "pd_" ++ m.name) m.width ∷ []
 
 -- the inputs of a memory: both of them where it is delayed, else none
-abbrev pub mem_ports : r_mem.Mem → List Port
+abbrev pub mem_ports : r_mem.FlatMem → List Port
 mem_ports m = if m.delayed then reply_pair m else []
 
 -- what comes from a memory where that is delayed; its reply has this number among the inputs, and its word the next one

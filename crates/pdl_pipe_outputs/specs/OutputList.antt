@@ -3,7 +3,7 @@ use Rattle.std.specs.Prelude.{ℕ, suc, List, [], ◌∷◌, ◌++◌, Option, S
 use Rattle.pdl_net.specs.declared.Net.{Net}
 use Rattle.pdl_lockapi.specs.declared.LockNets.{LockNets}
 use Rattle.pdl_pipe_beside.specs.declared.outside.RequestNets.{RequestNets}
-use Rattle.pdl_pipe_outputs.specs.declared.outputs.StageNets.{StageNets}
+use Rattle.pdl_pipe_outputs.specs.declared.outputs.ShownNets.{ShownNets}
 use Rattle.pdl_pipe_outputs.specs.declared.outputs.OutNet.{OutNet}
 
 -- an output of this name, with its net
@@ -11,7 +11,7 @@ abbrev pub out : List ℕ → Net → OutNet
 out n x = record { name = n; net = x }
 
 -- of each stage whether it holds a thread and whether that moves; the first has the number k
-abbrev pub stages_outs : ℕ → List StageNets → List OutNet
+abbrev pub stages_outs : ℕ → List ShownNets → List OutNet
 stages_outs k [] = []
 stages_outs k (s ∷ ss) = out (codes "v_" ++ decimal k) s.valid ∷ out (codes "g_" ++ decimal k) s.moves ∷ stages_outs (suc k) ss
 
@@ -36,11 +36,11 @@ requests_outs (name ∷ names) (r ∷ rs) = request_outs name r ++ requests_outs
 requests_outs _ _ = []
 
 -- whether a thread ends: that of the last stage moves
-abbrev pub last_moves : List StageNets → Net → Net
+abbrev pub last_moves : List ShownNets → Net → Net
 last_moves [] x = x
 last_moves (s ∷ ss) x = last_moves ss s.moves
 
 -- all outputs: of stages, of commits, of requests, whether a thread ends, and whether a squash happens
-abbrev pub all_outs : List (List ℕ) → List StageNets → List (Option LockNets) → List (Option RequestNets) → Net → List OutNet
+abbrev pub all_outs : List (List ℕ) → List ShownNets → List (Option LockNets) → List (Option RequestNets) → Net → List OutNet
 all_outs names ss ns rs squash =
     ((stages_outs 0 ss ++ commits_outs names ns) ++ requests_outs names rs) ++ out (codes "ended") (last_moves ss squash) ∷ out (codes "squash") squash ∷ []

@@ -15,13 +15,13 @@ use Rattle.pdl_law_parts.specs.Compiled.{shown_in}
 use Rattle.pdl_law_sides.specs.WholeNetlist.{Request, whole_shown}
 use Rattle.pdl_pipe_locks.specs.Stepped.{commits_in}
 use Rattle.pdl_pipe_beside.specs.declared.outside.RequestNets.{RequestNets}
-use Rattle.pdl_pipe_outputs.specs.declared.outputs.StageNets.{StageNets}
+use Rattle.pdl_pipe_outputs.specs.declared.outputs.ShownNets.{ShownNets}
 use Rattle.pdl_pipe_outputs.specs.declared.outputs.OutNet.{OutNet}
 
 -- ---- what is told
 
 -- a stage's nets are there
-abbrev pub AreThereStages : Circuit → List StageNets → Type 0
+abbrev pub AreThereStages : Circuit → List ShownNets → Type 0
 AreThereStages c [] = ⊤
 AreThereStages c (s ∷ ss) = IsThere c s.valid × IsThere c s.moves × AreThereStages c ss
 
@@ -48,7 +48,7 @@ pub record AreAsked (c : Circuit) (p : Pipe) (rs : List (Option RequestNets)) : 
   pub there : (m : ℕ) → m < length p.mems → IsThereRequest c (slice_index_or rs m None)
 
 -- all nets that are told are there
-pub record AreTold (c : Circuit) (p : Pipe) (ss : List StageNets) (ns : List (Option LockNets)) (rs : List (Option RequestNets)) (removes : Net) : Type 0 where
+pub record AreTold (c : Circuit) (p : Pipe) (ss : List ShownNets) (ns : List (Option LockNets)) (rs : List (Option RequestNets)) (removes : Net) : Type 0 where
   pub stages : AreThereStages c ss
   pub commits : AreCommits c p ns
   pub asks : AreAsked c p rs
@@ -57,12 +57,12 @@ pub record AreTold (c : Circuit) (p : Pipe) (ss : List StageNets) (ns : List (Op
 -- ---- as the law of a netlist sees it
 
 -- whether stage k holds a thread, by the nets that are told
-abbrev pub valid_in : Circuit → List StageNets → ℕ → Signal
-valid_in c ss k = slice_index_or (map (λ (s : StageNets). signal c s.valid) ss) k no_signal
+abbrev pub valid_in : Circuit → List ShownNets → ℕ → Signal
+valid_in c ss k = slice_index_or (map (λ (s : ShownNets). signal c s.valid) ss) k no_signal
 
 -- whether the thread of stage k moves, by the nets that are told
-abbrev pub moves_in : Circuit → List StageNets → ℕ → Signal
-moves_in c ss k = slice_index_or (map (λ (s : StageNets). signal c s.moves) ss) k no_signal
+abbrev pub moves_in : Circuit → List ShownNets → ℕ → Signal
+moves_in c ss k = slice_index_or (map (λ (s : ShownNets). signal c s.moves) ss) k no_signal
 
 -- what is asked of a memory; nothing of one that isn't delayed
 abbrev pub ask_of : Circuit → Option RequestNets → Request
@@ -78,7 +78,7 @@ abbrev pub AreNames : List (List ℕ) → (ℕ → List ℕ) → Type 0
 AreNames told name = (m : ℕ) → m < length told → name m ≡ slice_index_or told m []
 
 -- the stages, the net of squashes and the memories' names are those of a netlist
-pub record AreOf (c : Circuit) (ss : List StageNets) (x : Net) (told : List (List ℕ)) (vs : ℕ → View) (gates : Gates) (goes : ℕ → Signal) (name : ℕ → List ℕ) : Type 0 where
+pub record AreOf (c : Circuit) (ss : List ShownNets) (x : Net) (told : List (List ℕ)) (vs : ℕ → View) (gates : Gates) (goes : ℕ → Signal) (name : ℕ → List ℕ) : Type 0 where
   pub valid : (k : ℕ) → k < length ss → (vs k).valid ≡ valid_in c ss k
   pub moves : (k : ℕ) → k < length ss → goes k ≡ moves_in c ss k
   pub squash : gates.squash ≡ signal c x
@@ -100,7 +100,7 @@ abbrev pub shown_by : Circuit → List OutNet → List Shown
 shown_by c os = map (shown_in c) (map output_of os)
 
 -- outputs show what the law of a netlist asks, wherever these stages, this net of squashes, these commits and these requests are a netlist's
-abbrev pub ShowAll : Circuit → Form → List StageNets → Net → List (Option LockNets) → List (Option RequestNets) → List OutNet → Type 0
+abbrev pub ShowAll : Circuit → Form → List ShownNets → Net → List (Option LockNets) → List (Option RequestNets) → List OutNet → Type 0
 ShowAll c f ss x ns rs os =
     (vs : ℕ → View) (gates : Gates) (moves : ℕ → Signal) (names : ℕ → List ℕ) → AreOf c ss x f.names vs gates moves names
     → shown_by c os ≡ whole_shown f.pipe names (commits_in c ns) (asks_in c rs) vs gates moves

@@ -13,14 +13,14 @@ ghost use Rattle.pdl_pipe_outputs.specs.Inputs.{reply_pair, mem_ports, IsReplyOf
 
 use crate::outputs::with_prefix;
 use pdl_build::Builder;
-use pdl_form::{FlatPipe, Mem};
+use pdl_form::{FlatMem, FlatPipe};
 use pdl_kit::NoMemory;
 use pdl_pipe_answers::read_delayed;
 use pdl_pipe_beside::PortInput;
 use std::alloc::Global;
 
 // The two inputs of a delayed memory: the reply, and the word.
-fn delayed_input(alloc: Global, b: &mut Builder, mem: &Mem) -> Result<PortInput, NoMemory>
+fn delayed_input(alloc: Global, b: &mut Builder, mem: &FlatMem) -> Result<PortInput, NoMemory>
     requires { IsTypedMem (mem_view mem.now) }
     ensures reply { IfOk result (λ i.
         Means b.new i.reply (input_signal 1 (length (inputs_of b.old)))) }
@@ -37,7 +37,11 @@ fn delayed_input(alloc: Global, b: &mut Builder, mem: &Mem) -> Result<PortInput,
 }
 
 // What comes from a memory, where it is delayed.
-fn memory_input(alloc: Global, b: &mut Builder, mem: &Mem) -> Result<Option<PortInput>, NoMemory>
+fn memory_input(
+    alloc: Global,
+    b: &mut Builder,
+    mem: &FlatMem,
+) -> Result<Option<PortInput>, NoMemory>
     requires { IsTypedMem (mem_view mem.now) }
     ensures input { IfOk result (IsReplyOf b.new (mem_view mem.now) (length (inputs_of b.old))) }
     ensures extends { OnOk result (ExtendsPorts b.old b.new (mem_ports mem.now)) }

@@ -7,4 +7,4 @@ pub mod inputs;
 pub mod outputs;
 
 pub use inputs::{read_inputs, reply_inputs};
-pub use outputs::{OutNet, StageNets, all_outputs, show};
+pub use outputs::{OutNet, ShownNets, all_outputs, show};

@@ -10,7 +10,7 @@ ghost use Rattle.pdl_pipe_outputs.specs.OutputList.{stages_outs, commit_outs, co
 
 use itoa::Buffer;
 use pdl_build::Builder;
-use pdl_form::{FlatPipe, Mem};
+use pdl_form::{FlatMem, FlatPipe};
 use pdl_kit::{Name, NoMemory, Seq};
 use pdl_lockapi::LockNets;
 use pdl_net::Net;
@@ -19,7 +19,7 @@ use std::alloc::Global;
 
 /// Whether a stage holds a thread, and whether that moves, 1 bit each.
 #[derive(Clone, Copy)]
-pub struct StageNets {
+pub struct ShownNets {
     pub valid: Net,
     pub moves: Net,
 }
@@ -63,7 +63,7 @@ fn push_stage(
     alloc: Global,
     outs: &mut Seq<OutNet>,
     k: usize,
-    stage: &StageNets,
+    stage: &ShownNets,
 ) -> Result<(), NoMemory>
     ensures { OnOk result (outs.new ≡ outs.old ++ stages_outs k (stage.now ∷ [])) }
 {
@@ -74,7 +74,7 @@ fn push_stage(
 }
 
 // The outputs of the stages.
-fn push_stages(alloc: Global, outs: &mut Seq<OutNet>, stages: &[StageNets]) -> Result<(), NoMemory>
+fn push_stages(alloc: Global, outs: &mut Seq<OutNet>, stages: &[ShownNets]) -> Result<(), NoMemory>
     ensures { OnOk result (outs.new ≡ outs.old ++ stages_outs 0 stages.now) }
 {
     for (k, stage) in stages.iter().enumerate() {
@@ -104,7 +104,7 @@ fn push_commit(
 fn push_memory(
     alloc: Global,
     outs: &mut Seq<OutNet>,
-    m: &Mem,
+    m: &FlatMem,
     nets: Option<LockNets>,
 ) -> Result<(), NoMemory>
     ensures { OnOk result (outs.new ≡ outs.old ++ commit_outs m.now.name nets) }
@@ -127,7 +127,7 @@ fn nets_at(nets: &[Option<LockNets>], m: usize) -> Option<LockNets>
 fn push_memories(
     alloc: Global,
     outs: &mut Seq<OutNet>,
-    mems: &[Mem],
+    mems: &[FlatMem],
     nets: &[Option<LockNets>],
 ) -> Result<(), NoMemory>
     requires { length nets.now ≡ length mems.now }
@@ -158,7 +158,7 @@ fn push_request(
 fn push_asked(
     alloc: Global,
     outs: &mut Seq<OutNet>,
-    m: &Mem,
+    m: &FlatMem,
     nets: Option<RequestNets>,
 ) -> Result<(), NoMemory>
     ensures { OnOk result (outs.new ≡ outs.old ++ request_outs m.now.name nets) }
@@ -181,7 +181,7 @@ fn request_at(requests: &[Option<RequestNets>], m: usize) -> Option<RequestNets>
 fn push_requests(
     alloc: Global,
     outs: &mut Seq<OutNet>,
-    mems: &[Mem],
+    mems: &[FlatMem],
     requests: &[Option<RequestNets>],
 ) -> Result<(), NoMemory>
     requires { length requests.now ≡ length mems.now }
@@ -195,7 +195,7 @@ fn push_requests(
 }
 
 // Whether the thread of the last stage moves, `none` where there is no stage.
-fn last_of(stages: &[StageNets], none: Net) -> Net
+fn last_of(stages: &[ShownNets], none: Net) -> Net
     ensures { result ≡ last_moves stages.now none }
 {
     let mut last = none;
@@ -216,8 +216,8 @@ fn push_named(alloc: Global, outs: &mut Seq<OutNet>, name: &[u8], net: Net) -> R
 // All outputs, with their nets.
 fn all(
     alloc: Global,
-    mems: &[Mem],
-    stages: &[StageNets],
+    mems: &[FlatMem],
+    stages: &[ShownNets],
     nets: &[Option<LockNets>],
     requests: &[Option<RequestNets>],
     squash: Net,
@@ -242,7 +242,7 @@ fn all(
 pub fn all_outputs(
     alloc: Global,
     pipe: &FlatPipe,
-    stages: &[StageNets],
+    stages: &[ShownNets],
     nets: &[Option<LockNets>],
     requests: &[Option<RequestNets>],
     squash: Net,

@@ -34,7 +34,7 @@ use Rattle.pdl_pipe_walk.specs.Parts.{Held as HeldPart, held_in, held_of, reserv
 use Rattle.pdl_pipe_walk.specs.Sized.{IsWalk, IsSizedReserve, IsSizedPut, IsSizedBirth, IsSizedAsk}
 use Rattle.pdl_pipe_registers.specs.declared.nets.Item.{Item}
 use Rattle.pdl_pipe_registers.specs.declared.nets.Item.TheVariants.{Var, Held, Ticket, Guess}
-use Rattle.pdl_pipe_registers.specs.declared.nets.Kept.{Kept}
+use Rattle.pdl_pipe_registers.specs.declared.nets.StageRegs.{StageRegs}
 use Rattle.pdl_pipe_registers.specs.declared.nets.Earlier.{Earlier}
 use Rattle.pdl_pipe_registers.specs.declared.nets.Shared.{Shared}
 use Rattle.pdl_pipe_registers.specs.declared.nets.StageNets.{StageNets}
@@ -98,16 +98,16 @@ module _ (a : Circuit) (f : Form) (x : Earlier) (s : Shared) (shared : IsShared 
   nexts_same : signals_in b s.next ≡ signals_in a s.next
   nexts_same = next_keep a b f s e shared
 
-  pub frame_from : (c : Circuit) (r : Kept) → IsFrame c f (signals_in b s.next) (earlier_count x) r → IsFrame c f (signals_in a s.next) (earlier_count x) r
+  pub frame_from : (c : Circuit) (r : StageRegs) → IsFrame c f (signals_in b s.next) (earlier_count x) r → IsFrame c f (signals_in a s.next) (earlier_count x) r
   frame_from c r h = subst (λ fs. IsFrame c f fs (earlier_count x) r) nexts_same h
 
-  pub frame_to : (c : Circuit) (r : Kept) → IsFrame c f (signals_in a s.next) (earlier_count x) r → IsFrame c f (signals_in b s.next) (earlier_count x) r
+  pub frame_to : (c : Circuit) (r : StageRegs) → IsFrame c f (signals_in a s.next) (earlier_count x) r → IsFrame c f (signals_in b s.next) (earlier_count x) r
   frame_to c r h = subst (λ fs. IsFrame c f fs (earlier_count x) r) (sym nexts_same) h
 
   ends : (i : Item) (j : ℕ) → j < earlier_count x → ended_item (earlier_views a x j) i ≡ ended_item (earlier_views b x j) i
   ends i j l = sym (ends_same a b f (signals_in a s.next) x.stages.now i e earlier.ended j l)
 
-  begun_from : (c : Circuit) (r : Kept) (item : ℕ → Item) (needed : ℕ → Bool) (S T : ℕ → Signal → Type 0) (ws : List ℕ) (xs : List Net) → ((i : ℕ) (g : Signal) → S i g → T i g) → AreBegun c f (signals_in b s.next) r item needed S ws xs → AreBegun c f (signals_in a s.next) r item needed T ws xs
+  begun_from : (c : Circuit) (r : StageRegs) (item : ℕ → Item) (needed : ℕ → Bool) (S T : ℕ → Signal → Type 0) (ws : List ℕ) (xs : List Net) → ((i : ℕ) (g : Signal) → S i g → T i g) → AreBegun c f (signals_in b s.next) r item needed S ws xs → AreBegun c f (signals_in a s.next) r item needed T ws xs
   begun_from c r item needed S T ws xs weaker h =
       let now = subst (λ fs. AreBegun c f fs r item needed S ws xs) nexts_same h in
       record {
@@ -116,18 +116,18 @@ module _ (a : Circuit) (f : Form) (x : Earlier) (s : Shared) (shared : IsShared 
         begun = λ i l need. by_weaker f (signals_in a s.next) r (item i) (signal_at (signals_in c xs) i) (S i) (T i) (λ z. weaker i (signal_at (signals_in c xs) i) z) (now.begun i l need);
       }
 
-  pub vars_from : (c : Circuit) (r : Kept) (needed : ℕ → Bool) (ws : List ℕ) (xs : List Net) → AreBegun c f (signals_in b s.next) r Var needed (λ y. IsSettledAfter b f x (Var y)) ws xs → AreBegun c f (signals_in a s.next) r Var needed (λ y. IsSettledAfter a f x (Var y)) ws xs
+  pub vars_from : (c : Circuit) (r : StageRegs) (needed : ℕ → Bool) (ws : List ℕ) (xs : List Net) → AreBegun c f (signals_in b s.next) r Var needed (λ y. IsSettledAfter b f x (Var y)) ws xs → AreBegun c f (signals_in a s.next) r Var needed (λ y. IsSettledAfter a f x (Var y)) ws xs
   vars_from c r needed ws xs h =
       begun_from c r Var needed (λ y. IsSettledAfter b f x (Var y)) (λ y. IsSettledAfter a f x (Var y)) ws xs (λ y g z. settled_as f.pipe (earlier_views b x) (earlier_views a x) (earlier_count x) (Var y) g (ends (Var y)) z) h
 
   -- where the variables have the same signals in another circuit
-  pub guess_from : (c d : Circuit) (r : Kept) (needed : ℕ → Bool) (ws : List ℕ) (vars xs : List Net) → signals_in d vars ≡ signals_in b vars → AreBegun c f (signals_in b s.next) r Guess needed (λ i. IsSparedAfter b f x vars (Guess i)) ws xs
+  pub guess_from : (c d : Circuit) (r : StageRegs) (needed : ℕ → Bool) (ws : List ℕ) (vars xs : List Net) → signals_in d vars ≡ signals_in b vars → AreBegun c f (signals_in b s.next) r Guess needed (λ i. IsSparedAfter b f x vars (Guess i)) ws xs
       → AreBegun c f (signals_in a s.next) r Guess needed (λ i. IsSpared f.pipe (earlier_views a x) (earlier_count x) (signals_in d vars) (Guess i)) ws xs
   guess_from c d r needed ws vars xs same h =
       begun_from c r Guess needed (λ i. IsSparedAfter b f x vars (Guess i)) (λ i. IsSpared f.pipe (earlier_views a x) (earlier_count x) (signals_in d vars) (Guess i)) ws xs
       (λ i g z. spared_as f.pipe (earlier_views b x) (earlier_views a x) (earlier_count x) (signals_in b vars) (signals_in d vars) (Guess i) g ends same z) h
 
-  pub helds_from : (c : Circuit) (r : Kept) (hs : List HeldNet) → AreHeldBegun c f (signals_in b s.next) (earlier_views b x) (earlier_count x) r hs → AreHeldBegun c f (signals_in a s.next) (earlier_views a x) (earlier_count x) r hs
+  pub helds_from : (c : Circuit) (r : StageRegs) (hs : List HeldNet) → AreHeldBegun c f (signals_in b s.next) (earlier_views b x) (earlier_count x) r hs → AreHeldBegun c f (signals_in a s.next) (earlier_views a x) (earlier_count x) r hs
   helds_from c r hs h =
       helds_as c f (signals_in a s.next) (earlier_views b x) (earlier_views a x) (earlier_count x) r hs (λ m v j l. ends (Held m v) j l) (subst (λ fs. AreHeldBegun c f fs (earlier_views b x) (earlier_count x) r hs) nexts_same h)
 

@@ -22,7 +22,7 @@ use Rattle.pdl_pipe_walk.proofs.NetGrowth.{bits_keep, walk_keep, parts_keep}
 use Rattle.pdl_pipe_answers.proofs.PortAnswers.{answers_keep}
 use Rattle.pdl_pipe_registers.specs.declared.nets.Item.{Item}
 use Rattle.pdl_pipe_registers.specs.declared.nets.Item.TheVariants.{Var, Held, Ticket, Guess}
-use Rattle.pdl_pipe_registers.specs.declared.nets.Kept.{Kept}
+use Rattle.pdl_pipe_registers.specs.declared.nets.StageRegs.{StageRegs}
 use Rattle.pdl_pipe_registers.specs.declared.nets.Shared.{Shared}
 use Rattle.pdl_pipe_registers.specs.declared.nets.Earlier.{Earlier}
 use Rattle.pdl_pipe_registers.specs.declared.nets.StageNets.{StageNets}
@@ -118,13 +118,13 @@ settled_as p us vs (suc k) i g same h = record {
 }
 
 -- a register was added or none, with a weaker demand on the signal where none was
-pub may_as : (c : Circuit) (r t : Kept) (i : Item) (w v : ℕ) (net : Net) (S Settled : Signal → Type 0)
+pub may_as : (c : Circuit) (r t : StageRegs) (i : Item) (w v : ℕ) (net : Net) (S Settled : Signal → Type 0)
     → ((g : Signal) → S g → Settled g) → MayAdd c r t i w v net S → MayAdd c r t i w v net Settled
 may_as c r t i w v net S Settled k (inl m) = inl record { regs = m.regs; net_is = m.net_is; register = m.register }
 may_as c r t i w v net S Settled k (inr m) = inr record { regs = m.regs; there = m.there; wide = m.wide; settled = k (signal c net) m.settled }
 
 -- an item begins with a register or none, with a weaker demand on its signal where it has none
-pub begin_as : (c : Circuit) (f : Form) (nexts : List Signal) (k : ℕ) (needed : Bool) (r t : Kept) (i : Item)
+pub begin_as : (c : Circuit) (f : Form) (nexts : List Signal) (k : ℕ) (needed : Bool) (r t : StageRegs) (i : Item)
     (net : Net) (S Settled : Signal → Type 0)
     → ((g : Signal) → S g → Settled g) → MayBegin c f nexts k needed r t i net S
     → MayBegin c f nexts k needed r t i net Settled
@@ -219,7 +219,7 @@ module _ (b c : Circuit) (e : Keeps b c) (ws : List ℕ) (i : ℕ) (xs : List Ne
 
 module _ (f : Form) (nexts : List Signal) (item : ℕ → Item) (needed : ℕ → Bool) (S : ℕ → Signal → Type 0) (ws : List ℕ) where
   -- they stay
-  pub begun_keep : (b c : Circuit) (r t : Kept) (xs : List Net) → Keeps b c → IsLonger r t → AreBegun b f nexts r item needed S ws xs → AreBegun c f nexts t item needed S ws xs
+  pub begun_keep : (b c : Circuit) (r t : StageRegs) (xs : List Net) → Keeps b c → IsLonger r t → AreBegun b f nexts r item needed S ws xs → AreBegun c f nexts t item needed S ws xs
   begun_keep b c r t xs e l h =
       let same = signals_keep b c xs e h.there in
       record {
@@ -230,11 +230,11 @@ module _ (f : Form) (nexts : List Signal) (item : ℕ → Item) (needed : ℕ �
       }
 
 module _ (f : Form) (nexts : List Signal) (k : ℕ) (item : ℕ → Item) (needed : ℕ → Bool) (S : ℕ → Signal → Type 0) (ws : List ℕ) where
-  pub begun_none : (c : Circuit) (r : Kept) → AreBegun c f nexts r item needed S (take 0 ws) []
+  pub begun_none : (c : Circuit) (r : StageRegs) → AreBegun c f nexts r item needed S (take 0 ws) []
   begun_none c r = record { there = tt; wide = refl; begun = λ i low. absurd (omega (arith, low)) }
 
   -- one more
-  pub begun_more : (b c : Circuit) (r t : Kept) (i : ℕ) (xs : List Net) (net : Net) → i < length ws → Extends b c → MayBegin c f nexts k (needed i) r t (item i) net (S i) → item_width f nexts (item i) ≡ slice_index ws i
+  pub begun_more : (b c : Circuit) (r t : StageRegs) (i : ℕ) (xs : List Net) (net : Net) → i < length ws → Extends b c → MayBegin c f nexts k (needed i) r t (item i) net (S i) → item_width f nexts (item i) ≡ slice_index ws i
       → AreBegun b f nexts r item needed S (take i ws) xs → AreBegun c f nexts t item needed S (take (i + 1) ws) (xs ++ net ∷ [])
   begun_more b c r t i xs net low bc may wide h =
       let e = extends_keeps b c bc in
@@ -254,14 +254,14 @@ module _ (f : Form) (nexts : List Signal) (k : ℕ) (item : ℕ → Item) (neede
       }
 
 -- the first of them, with the registers
-pub record SoFar (a c : Circuit) (f : Form) (nexts : List Signal) (k : ℕ) (r0 r : Kept) (item : ℕ → Item) (needed : ℕ → Bool) (Settled : ℕ → Signal → Type 0) (ws : List ℕ) (xs : List Net) : Type 0 where
+pub record SoFar (a c : Circuit) (f : Form) (nexts : List Signal) (k : ℕ) (r0 r : StageRegs) (item : ℕ → Item) (needed : ℕ → Bool) (Settled : ℕ → Signal → Type 0) (ws : List ℕ) (xs : List Net) : Type 0 where
   pub extends : Extends a c
   pub frame : IsFrame c f nexts k r
   pub own : AreOwn f k r
   pub longer : IsLonger r0 r
   pub begun : AreBegun c f nexts r item needed Settled ws xs
 
-module _ (a : Circuit) (f : Form) (nexts : List Signal) (k : ℕ) (r0 : Kept) (item : ℕ → Item) (needed : ℕ → Bool) (S : ℕ → Signal → Type 0) (ws : List ℕ) where
+module _ (a : Circuit) (f : Form) (nexts : List Signal) (k : ℕ) (r0 : StageRegs) (item : ℕ → Item) (needed : ℕ → Bool) (S : ℕ → Signal → Type 0) (ws : List ℕ) where
   pub sofar_none : IsFrame a f nexts k r0 → AreOwn f k r0 → Extends a a → SoFar a a f nexts k r0 r0 item needed S (take 0 ws) []
   sofar_none frame own none = record {
     extends = none;
@@ -271,7 +271,7 @@ module _ (a : Circuit) (f : Form) (nexts : List Signal) (k : ℕ) (r0 : Kept) (i
     begun = begun_none f nexts k item needed S ws a r0;
   }
 
-  pub sofar_more : (b c : Circuit) (r t : Kept) (i : ℕ) (xs : List Net) (net : Net) → i < length ws → Extends b c → MayBegin c f nexts k (needed i) r t (item i) net (S i) → end_of t ≡ length c.regs → item_width f nexts (item i) ≡ slice_index ws i
+  pub sofar_more : (b c : Circuit) (r t : StageRegs) (i : ℕ) (xs : List Net) (net : Net) → i < length ws → Extends b c → MayBegin c f nexts k (needed i) r t (item i) net (S i) → end_of t ≡ length c.regs → item_width f nexts (item i) ≡ slice_index ws i
       → SoFar a b f nexts k r0 r item needed S (take i ws) xs → SoFar a c f nexts k r0 t item needed S (take (i + 1) ws) (xs ++ net ∷ [])
   sofar_more b c r t i xs net low bc may last wide h =
       let W = item_width f nexts (item i) in

@@ -17,7 +17,7 @@ use Rattle.pdl_pipe_walk.specs.declared.nets.HeldNet.{HeldNet}
 use Rattle.pdl_pipe_walk.specs.Parts.{held_in, held_of}
 use Rattle.pdl_pipe_walk.proofs.Lists.{map_each}
 use Rattle.pdl_pipe_registers.specs.declared.nets.Item.TheVariants.{Held}
-use Rattle.pdl_pipe_registers.specs.declared.nets.Kept.{Kept}
+use Rattle.pdl_pipe_registers.specs.declared.nets.StageRegs.{StageRegs}
 use Rattle.pdl_pipe_registers.specs.Stages.{end_of, IsFrame, IsBegunBy, IsSettled, AreOwn}
 use Rattle.pdl_pipe_registers.specs.Items.{ended_item, IsOwn}
 use Rattle.pdl_pipe_registers.specs.Begun.{is_listed, MayAdd, AddsHeld, IsLonger, AreHeldBegun, AreStillListed, HasAllHeld}
@@ -93,7 +93,7 @@ one_now b c e [] t o = tt
 one_now b c e (x ∷ xs) t o = (ap (λ (g : Signal). g.width) (e.kept x.net t.0) ∙ o.0, one_now b c e xs t.1 o.1)
 
 -- the listed locations stay while the circuit grows and registers are added to the stage's
-pub helds_keep : (f : Form) (nexts : List Signal) (us : ℕ → View) (k : ℕ) (b c : Circuit) (r t : Kept) (hs : List HeldNet)
+pub helds_keep : (f : Form) (nexts : List Signal) (us : ℕ → View) (k : ℕ) (b c : Circuit) (r t : StageRegs) (hs : List HeldNet)
     → Keeps b c → IsLonger r t → AreHeldBegun b f nexts us k r hs → AreHeldBegun c f nexts us k t hs
 helds_keep f nexts us k b c r t hs e l h = record {
   there = there_now f nexts us k b c e hs h.there;
@@ -103,7 +103,7 @@ helds_keep f nexts us k b c r t hs e l h = record {
 }
 
 -- by other views that end alike
-pub adds_as : (c : Circuit) (f : Form) (nexts : List Signal) (us vs : ℕ → View) (k m v : ℕ) (r t : Kept) (hs xs : List HeldNet)
+pub adds_as : (c : Circuit) (f : Form) (nexts : List Signal) (us vs : ℕ → View) (k m v : ℕ) (r t : StageRegs) (hs xs : List HeldNet)
     → ((j : ℕ) → j < k → ended_item (vs j) (Held m v) ≡ ended_item (us j) (Held m v))
     → AddsHeld c f nexts us k m v r hs t xs → AddsHeld c f nexts vs k m v r hs t xs
 adds_as c f nexts us vs k m v r t hs xs same (inl q) = inl q
@@ -113,7 +113,7 @@ adds_as c f nexts us vs k m v r t hs xs same (inr q) =
 -- ---- one more
 
 -- locations with their registers, and what they were
-pub record HeldsSoFar (a c : Circuit) (f : Form) (nexts : List Signal) (us : ℕ → View) (k : ℕ) (r0 : Kept) (hs0 : List HeldNet) (r : Kept) (hs : List HeldNet) : Type 0 where
+pub record HeldsSoFar (a c : Circuit) (f : Form) (nexts : List Signal) (us : ℕ → View) (k : ℕ) (r0 : StageRegs) (hs0 : List HeldNet) (r : StageRegs) (hs : List HeldNet) : Type 0 where
   pub extends : Extends a c
   pub frame : IsFrame c f nexts k r
   pub own : AreOwn f k r
@@ -121,7 +121,7 @@ pub record HeldsSoFar (a c : Circuit) (f : Form) (nexts : List Signal) (us : ℕ
   pub begun : AreHeldBegun c f nexts us k r hs
   pub still : AreStillListed hs0 hs
 
-helds_first : (a : Circuit) (f : Form) (nexts : List Signal) (us : ℕ → View) (k : ℕ) (r : Kept) (hs : List HeldNet)
+helds_first : (a : Circuit) (f : Form) (nexts : List Signal) (us : ℕ → View) (k : ℕ) (r : StageRegs) (hs : List HeldNet)
     → Extends a a → IsFrame a f nexts k r → AreOwn f k r → AreHeldBegun a f nexts us k r hs
     → HeldsSoFar a a f nexts us k r hs r hs
 helds_first a f nexts us k r hs x frame own begun = record { extends = x; frame = frame; own = own; longer = longer_none r; begun = begun; still = λ m v q. q }
@@ -130,12 +130,12 @@ own_held : (f : Form) (k m v : ℕ) → 0 < k → IsOwn f k (Held m v)
 own_held f Rattle.std.proofs.Common.zero m v l = absurd (omega (arith, l))
 own_held f (Rattle.std.proofs.Common.suc k) m v l = tt
 
-module _ (a b c : Circuit) (f : Form) (nexts : List Signal) (us : ℕ → View) (k : ℕ) (r0 : Kept) (hs0 : List HeldNet) (r t : Kept) (hs xs : List HeldNet) (m0 v0 : ℕ) (after : 0 < k) (bc : Extends b c) (last : end_of t ≡ length c.regs)
+module _ (a b c : Circuit) (f : Form) (nexts : List Signal) (us : ℕ → View) (k : ℕ) (r0 : StageRegs) (hs0 : List HeldNet) (r t : StageRegs) (hs xs : List HeldNet) (m0 v0 : ℕ) (after : 0 < k) (bc : Extends b c) (last : end_of t ≡ length c.regs)
     (so : HeldsSoFar a b f nexts us k r0 hs0 r hs) where
   same_case : (t ≡ r) × (xs ≡ hs) × (held_from f.pipe k m0 v0 ≡ true → is_listed hs m0 v0 ≡ true) → HeldsSoFar a c f nexts us k r0 hs0 t xs
   same_case q =
       let e = extends_keeps b c bc in
-      subst (λ (u : Kept). HeldsSoFar a c f nexts us k r0 hs0 u xs) (sym q.0) (subst (HeldsSoFar a c f nexts us k r0 hs0 r) (sym q.1) record {
+      subst (λ (u : StageRegs). HeldsSoFar a c f nexts us k r0 hs0 u xs) (sym q.0) (subst (HeldsSoFar a c f nexts us k r0 hs0 r) (sym q.1) record {
         extends = extends_trans a b c so.extends bc;
         frame = record { last = ap end_of (sym q.0) ∙ last; registers = Rattle.pdl_pipe_registers.proofs.RegisterGrowth.registers_keep b c f nexts k r e so.frame.registers };
         own = so.own;
@@ -237,7 +237,7 @@ all_held_more p k u hs xs still h m v need un = h m v need (at (is_listed hs m v
     at false q = q
 
 -- by other views that end alike
-pub helds_as : (c : Circuit) (f : Form) (nexts : List Signal) (us vs : ℕ → View) (k : ℕ) (r : Kept) (hs : List HeldNet)
+pub helds_as : (c : Circuit) (f : Form) (nexts : List Signal) (us vs : ℕ → View) (k : ℕ) (r : StageRegs) (hs : List HeldNet)
     → ((m v j : ℕ) → j < k → ended_item (vs j) (Held m v) ≡ ended_item (us j) (Held m v))
     → AreHeldBegun c f nexts us k r hs → AreHeldBegun c f nexts vs k r hs
 helds_as c f nexts us vs k r hs same h = record {
@@ -246,12 +246,12 @@ helds_as c f nexts us vs k r hs same h = record {
   begun = λ m v q. by_weaker f nexts r (Held m v) _ (IsSettled f.pipe us k (Held m v)) (IsSettled f.pipe vs k (Held m v)) (λ z. settled_as f.pipe us vs k (Held m v) (held_of (map (held_in c) hs) m v) (same m v) z) (h.begun m v q);
 }
 
-helds_none : (c : Circuit) (f : Form) (nexts : List Signal) (us : ℕ → View) (k : ℕ) (r : Kept) → AreHeldBegun c f nexts us k r []
+helds_none : (c : Circuit) (f : Form) (nexts : List Signal) (us : ℕ → View) (k : ℕ) (r : StageRegs) → AreHeldBegun c f nexts us k r []
 helds_none c f nexts us k r = record { there = tt; one = tt; begun = λ m v q. absurd (false≢true q) }
 
 -- what is listed on the way from one circuit to the next
-pub helds_then : (a b c : Circuit) (f : Form) (nexts : List Signal) (us : ℕ → View) (k : ℕ) (r0 : Kept)
-    (hs0 : List HeldNet) (r t : Kept) (hs xs : List HeldNet)
+pub helds_then : (a b c : Circuit) (f : Form) (nexts : List Signal) (us : ℕ → View) (k : ℕ) (r0 : StageRegs)
+    (hs0 : List HeldNet) (r t : StageRegs) (hs xs : List HeldNet)
     → HeldsSoFar a b f nexts us k r0 hs0 r hs → Extends b c → IsFrame c f nexts k t → AreOwn f k t → IsLonger r t
     → AreHeldBegun c f nexts us k t xs → AreStillListed hs xs → HeldsSoFar a c f nexts us k r0 hs0 t xs
 helds_then a b c f nexts us k r0 hs0 r t hs xs so bc frame own longer begun still = record {

@@ -12,7 +12,7 @@ use Rattle.pdl_net.specs.Growth.{Keeps, Extends}
 use Rattle.pdl_net.proofs.Keeps.{extends_keeps}
 use Rattle.pdl_pipe_registers.specs.declared.nets.Item.{Item}
 use Rattle.pdl_pipe_registers.specs.declared.nets.Item.TheVariants.{Var}
-use Rattle.pdl_pipe_registers.specs.declared.nets.Kept.{Kept}
+use Rattle.pdl_pipe_registers.specs.declared.nets.StageRegs.{StageRegs}
 use Rattle.pdl_pipe_registers.specs.Items.{item_at, item_width, first_value, IsOwn}
 use Rattle.pdl_pipe_registers.specs.Stages.{reg_of, end_of, IsRegister, IsFrame, HasRegisters, IsBegunBy, AreOwn}
 use Rattle.pdl_pipe_registers.specs.Begun.{with_item, MayAdd, IsLonger}
@@ -28,7 +28,7 @@ register_keep a b r w v e h = record {
 }
 
 -- the registers of a stage stay in a circuit that keeps what stands in theirs
-pub registers_keep : (a b : Circuit) (f : Form) (nexts : List Signal) (k : ℕ) (r : Kept) → Keeps a b
+pub registers_keep : (a b : Circuit) (f : Form) (nexts : List Signal) (k : ℕ) (r : StageRegs) → Keeps a b
     → HasRegisters a f nexts k r → HasRegisters b f nexts k r
 registers_keep a b f nexts k r e h = record {
   valid = register_keep a b r.valid 1 _ e h.valid;
@@ -46,14 +46,14 @@ count_new xs i = length-append xs (i ∷ [])
 
 -- ---- registers
 
-abbrev IsKeptIn : Form → List Signal → ℕ → Circuit → Kept → List Item → ℕ → Type 0
+abbrev IsKeptIn : Form → List Signal → ℕ → Circuit → StageRegs → List Item → ℕ → Type 0
 IsKeptIn f nexts k c r items j = IsRegister c (reg_of r j) (item_width f nexts (item_at items j)) (first_value f.pipe k (item_at items j))
 
 module _ (f : Form) (nexts : List Signal) (k : ℕ) where
-  frame_kept : (a b : Circuit) (r : Kept) → Extends a b → end_of r ≡ length b.regs → IsFrame a f nexts k r → IsFrame b f nexts k r
+  frame_kept : (a b : Circuit) (r : StageRegs) → Extends a b → end_of r ≡ length b.regs → IsFrame a f nexts k r → IsFrame b f nexts k r
   frame_kept a b r x last h = record { last = last; registers = registers_keep a b f nexts k r (extends_keeps a b x) h.registers }
 
-  frame_more : (a b : Circuit) (r : Kept) (i : Item) → Extends a b → IsRegister b (end_of r) (item_width f nexts i) (first_value f.pipe k i) → end_of (with_item r i) ≡ length b.regs
+  frame_more : (a b : Circuit) (r : StageRegs) (i : Item) → Extends a b → IsRegister b (end_of r) (item_width f nexts i) (first_value f.pipe k i) → end_of (with_item r i) ≡ length b.regs
       → IsFrame a f nexts k r → IsFrame b f nexts k (with_item r i)
   frame_more a b r i x new last h = record {
     last = last;
@@ -73,7 +73,7 @@ module _ (f : Form) (nexts : List Signal) (k : ℕ) where
       all = up_to (IsKeptIn f nexts k b r (r.items ++ i ∷ [])) (length r.items) old here
 
   -- whether one is added or none
-  pub frame_may : (a b : Circuit) (r t : Kept) (i : Item) (net : Net) (Settled : Signal → Type 0) → Extends a b → MayAdd b r t i (item_width f nexts i) (first_value f.pipe k i) net Settled → end_of t ≡ length b.regs
+  pub frame_may : (a b : Circuit) (r t : StageRegs) (i : Item) (net : Net) (Settled : Signal → Type 0) → Extends a b → MayAdd b r t i (item_width f nexts i) (first_value f.pipe k i) net Settled → end_of t ≡ length b.regs
       → IsFrame a f nexts k r → IsFrame b f nexts k t
   frame_may a b r t i net Settled x (inl m) last h = subst (IsFrame b f nexts k) (sym m.regs) (frame_more a b r i x m.register (ap end_of (sym m.regs) ∙ last) h)
   frame_may a b r t i net Settled x (inr m) last h = subst (IsFrame b f nexts k) (sym m.regs) (frame_kept a b r x (ap end_of (sym m.regs) ∙ last) h)
@@ -81,7 +81,7 @@ module _ (f : Form) (nexts : List Signal) (k : ℕ) where
 -- ---- what they may keep
 
 -- with an item that it may keep a stage's registers still keep what they may
-pub own_more : (c : Circuit) (f : Form) (k : ℕ) (i : Item) (r t : Kept) (w v : ℕ) (net : Net) (S : Signal → Type 0)
+pub own_more : (c : Circuit) (f : Form) (k : ℕ) (i : Item) (r t : StageRegs) (w v : ℕ) (net : Net) (S : Signal → Type 0)
     → MayAdd c r t i w v net S → ((t ≡ r) ⊎ IsOwn f k i) → AreOwn f k r → AreOwn f k t
 own_more c f k i r t w v net S may (inl e) h = subst (AreOwn f k) (sym e) h
 own_more c f k i r t w v net S (inr m) (inr o) h = subst (AreOwn f k) (sym m.regs) h
@@ -93,18 +93,19 @@ own_more c f k i r t w v net S (inl m) (inr o) h =
 -- ---- longer and longer
 
 -- where no register was added, a stage's registers begin with those it had
-pub longer_none : (r : Kept) → IsLonger r r
+pub longer_none : (r : StageRegs) → IsLonger r r
 longer_none r = record { valid = Rattle.std.proofs.Common.refl; items = ([], sym (append-nil r.items)) }
 
 -- registers that were added to registers with some added were added to the first ones too
-pub longer_trans : (r s t : Kept) → IsLonger r s → IsLonger s t → IsLonger r t
+pub longer_trans : (r s t : StageRegs) → IsLonger r s → IsLonger s t → IsLonger r t
 longer_trans r s t h k = record {
   valid = k.valid ∙ h.valid;
   items = let a = h.items in let b = k.items in (a.0 ++ b.0, b.1 ∙ ap (λ l. l ++ b.0) a.1 ∙ append_assoc r.items a.0 b.0);
 }
 
 -- where one register may have been added, a stage's registers begin with those it had
-pub longer_may : (c : Circuit) (r t : Kept) (i : Item) (w v : ℕ) (net : Net) (S : Signal → Type 0) → MayAdd c r t i w v net S → IsLonger r t
+pub longer_may : (c : Circuit) (r t : StageRegs) (i : Item) (w v : ℕ) (net : Net) (S : Signal → Type 0)
+    → MayAdd c r t i w v net S → IsLonger r t
 longer_may c r t i w v net S (inl m) = subst (IsLonger r) (sym m.regs) record { valid = Rattle.std.proofs.Common.refl; items = (i ∷ [], Rattle.std.proofs.Common.refl) }
 longer_may c r t i w v net S (inr m) = subst (IsLonger r) (sym m.regs) (longer_none r)
 
@@ -112,7 +113,7 @@ longer_may c r t i w v net S (inr m) = subst (IsLonger r) (sym m.regs) (longer_n
 
 module _ (f : Form) (nexts : List Signal) where
   -- an item stays where more follow
-  pub by_longer : (r t : Kept) (i : Item) (g : Signal) (S : Signal → Type 0) → IsLonger r t → IsBegunBy f nexts r i g S → IsBegunBy f nexts t i g S
+  pub by_longer : (r t : StageRegs) (i : Item) (g : Signal) (S : Signal → Type 0) → IsLonger r t → IsBegunBy f nexts r i g S → IsBegunBy f nexts t i g S
   by_longer r t i g S h (inr q) = inr q
   by_longer r t i g S h (inl q) =
       let j = q.0 in
@@ -123,23 +124,24 @@ module _ (f : Form) (nexts : List Signal) where
       inl (j, omega (arith, low, long), ap (λ xs. item_at xs j) h.items.1 ∙ get_or_append_left r.items more (Var 0) j low ∙ same, q.3 ∙ ap (λ n. reg_signal (item_width f nexts i) (suc (n + j))) (sym h.valid))
 
   -- and the one that was added, or not, is so
-  pub by_new : (c : Circuit) (r t : Kept) (i : Item) (v : ℕ) (net : Net) (Settled : Signal → Type 0) → MayAdd c r t i (item_width f nexts i) v net Settled → IsBegunBy f nexts t i (signal c net) Settled
+  pub by_new : (c : Circuit) (r t : StageRegs) (i : Item) (v : ℕ) (net : Net) (Settled : Signal → Type 0) → MayAdd c r t i (item_width f nexts i) v net Settled → IsBegunBy f nexts t i (signal c net) Settled
   by_new c r t i v net Settled (inr m) = inr m.settled
   by_new c r t i v net Settled (inl m) =
-      subst (λ (u : Kept). IsBegunBy f nexts u i (signal c net) Settled) (sym m.regs)
+      subst (λ (u : StageRegs). IsBegunBy f nexts u i (signal c net) Settled) (sym m.regs)
       (inl (length r.items, (let e = count_new r.items i in omega (arith, e)), item_new r.items i, ap (signal c) m.net_is ∙ m.register.same))
 
-  pub by_weaker : (r : Kept) (i : Item) (g : Signal) (S Settled : Signal → Type 0) → (S g → Settled g) → IsBegunBy f nexts r i g S → IsBegunBy f nexts r i g Settled
+  pub by_weaker : (r : StageRegs) (i : Item) (g : Signal) (S Settled : Signal → Type 0) → (S g → Settled g) → IsBegunBy f nexts r i g S → IsBegunBy f nexts r i g Settled
   by_weaker r i g S Settled k (inl h) = inl h
   by_weaker r i g S Settled k (inr h) = inr (k h)
 
 -- the net of an item is there, whether a register was added for it or not
-pub may_there : (c : Circuit) (r t : Kept) (i : Item) (w v : ℕ) (net : Net) (S : Signal → Type 0) → MayAdd c r t i w v net S → IsThere c net
+pub may_there : (c : Circuit) (r t : StageRegs) (i : Item) (w v : ℕ) (net : Net) (S : Signal → Type 0)
+    → MayAdd c r t i w v net S → IsThere c net
 may_there c r t i w v net S (inl m) = subst (IsThere c) (sym m.net_is) m.register.there
 may_there c r t i w v net S (inr m) = m.there
 
 -- the net of an item has its width, whether a register was added for it or not
-pub may_wide : (c : Circuit) (r t : Kept) (i : Item) (w v : ℕ) (net : Net) (S : Signal → Type 0)
+pub may_wide : (c : Circuit) (r t : StageRegs) (i : Item) (w v : ℕ) (net : Net) (S : Signal → Type 0)
     → MayAdd c r t i w v net S → (signal c net).width ≡ w
 may_wide c r t i w v net S (inl m) = ap (λ (x : Net). (signal c x).width) m.net_is ∙ ap (λ (g : Signal). g.width) m.register.same
 may_wide c r t i w v net S (inr m) = m.wide

@@ -27,7 +27,7 @@ use Rattle.pdl_law_sides.specs.Sides.{with_answer}
 use Rattle.pdl_pipe_answers.specs.Ports.{HasAnswers}
 use Rattle.pdl_pipe_registers.specs.declared.nets.Item.{Item}
 use Rattle.pdl_pipe_registers.specs.declared.nets.Item.TheVariants.{Var, Held, Ticket, Guess}
-use Rattle.pdl_pipe_registers.specs.declared.nets.Kept.{Kept}
+use Rattle.pdl_pipe_registers.specs.declared.nets.StageRegs.{StageRegs}
 use Rattle.pdl_pipe_registers.specs.declared.nets.Shared.{Shared}
 use Rattle.pdl_pipe_registers.specs.declared.nets.Earlier.{Earlier}
 use Rattle.pdl_pipe_registers.specs.declared.nets.StageNets.{StageNets}
@@ -88,7 +88,7 @@ pub record IsCommonNet (c : Circuit) (us : ℕ → View) (js : List ℕ) (i : It
   pub same : (k : ℕ) → k < length js → ended_item (us (slice_index js k)) i ≡ signal c x
 
 -- the registers of a stage and one more, which is for this item
-abbrev pub with_item : Kept → Item → Kept
+abbrev pub with_item : StageRegs → Item → StageRegs
 with_item r i = record r { items = r.items ++ i ∷ [] }
 
 -- whether a location is among these
@@ -97,24 +97,24 @@ is_listed [] m a = false
 is_listed (h ∷ hs) m a = ((h.mem == m) && (h.var == a)) || is_listed hs m a
 
 -- one register more, for this item
-pub record Adds (c : Circuit) (r r' : Kept) (i : Item) (w v : ℕ) (net : Net) : Type 0 where
+pub record Adds (c : Circuit) (r r' : StageRegs) (i : Item) (w v : ℕ) (net : Net) : Type 0 where
   pub regs : r' ≡ with_item r i
   pub net_is : net ≡ RegNet (end_of r)
   pub register : IsRegister c (end_of r) w v
 
 -- none, and the signal is so
-pub record Leaves (c : Circuit) (r r' : Kept) (w : ℕ) (net : Net) (Settled : Signal → Type 0) : Type 0 where
+pub record Leaves (c : Circuit) (r r' : StageRegs) (w : ℕ) (net : Net) (Settled : Signal → Type 0) : Type 0 where
   pub regs : r' ≡ r
   pub there : IsThere c net
   pub wide : (signal c net).width ≡ w
   pub settled : Settled (signal c net)
 
 -- a register was added, or none and the signal is so
-abbrev pub MayAdd : Circuit → Kept → Kept → Item → ℕ → ℕ → Net → (Signal → Type 0) → Type 0
+abbrev pub MayAdd : Circuit → StageRegs → StageRegs → Item → ℕ → ℕ → Net → (Signal → Type 0) → Type 0
 MayAdd c r r' i w v net Settled = Adds c r r' i w v net ⊎ Leaves c r r' w net Settled
 
 -- for an item of stage k that is needed where this is true: a register that it may have, or none and the signal is so
-pub record MayBegin (c : Circuit) (f : Form) (nexts : List Signal) (k : ℕ) (needed : Bool) (r r' : Kept) (i : Item) (net : Net) (Settled : Signal → Type 0) : Type 0 where
+pub record MayBegin (c : Circuit) (f : Form) (nexts : List Signal) (k : ℕ) (needed : Bool) (r r' : StageRegs) (i : Item) (net : Net) (Settled : Signal → Type 0) : Type 0 where
   pub may : MayAdd c r r' i (item_width f nexts i) (first_value f.pipe k i) net (λ g. needed ≡ true → Settled g)
   pub own : (r' ≡ r) ⊎ IsOwn f k i
 
@@ -123,7 +123,7 @@ abbrev pub IsAtFront : List Item → List Item → Type 0
 IsAtFront xs ys = (more : List Item) × (ys ≡ xs ++ more)
 
 -- registers were added to those of a stage
-pub record IsLonger (r r' : Kept) : Type 0 where
+pub record IsLonger (r r' : StageRegs) : Type 0 where
   pub valid : r'.valid ≡ r.valid
   pub items : IsAtFront r.items r'.items
 
@@ -136,7 +136,7 @@ abbrev pub IsSparedAfter : Circuit → Form → Earlier → List Net → Item �
 IsSparedAfter c f x vars i g = IsSpared f.pipe (earlier_views c x) (earlier_count x) (signals_in c vars) i g
 
 -- nets of these widths, one for each item of a kind; those that are needed are registers, or their signals are so
-pub record AreBegun (c : Circuit) (f : Form) (nexts : List Signal) (r : Kept) (item : ℕ → Item) (needed : ℕ → Bool) (Settled : ℕ → Signal → Type 0) (ws : List ℕ) (xs : List Net) : Type 0 where
+pub record AreBegun (c : Circuit) (f : Form) (nexts : List Signal) (r : StageRegs) (item : ℕ → Item) (needed : ℕ → Bool) (Settled : ℕ → Signal → Type 0) (ws : List ℕ) (xs : List Net) : Type 0 where
   pub there : NetsThere c xs
   pub wide : widths_of (signals_in c xs) ≡ ws
   pub begun : (i : ℕ) → i < length ws → needed i ≡ true → IsBegunBy f nexts r (item i) (signal_at (signals_in c xs) i) (Settled i)
@@ -146,7 +146,7 @@ abbrev pub AreStillListed : List HeldNet → List HeldNet → Type 0
 AreStillListed hs xs = (m v : ℕ) → is_listed hs m v ≡ true → is_listed xs m v ≡ true
 
 -- held locations, each once
-pub record AreHeldBegun (c : Circuit) (f : Form) (nexts : List Signal) (us : ℕ → View) (k : ℕ) (r : Kept) (hs : List HeldNet) : Type 0 where
+pub record AreHeldBegun (c : Circuit) (f : Form) (nexts : List Signal) (us : ℕ → View) (k : ℕ) (r : StageRegs) (hs : List HeldNet) : Type 0 where
   pub there : Each (λ (h : HeldNet). IsThere c h.net) hs
   pub one : Each (λ (h : HeldNet). (signal c h.net).width ≡ 1) hs
   pub begun : (m v : ℕ) → is_listed hs m v ≡ true → IsBegunBy f nexts r (Held m v) (held_of (map (held_in c) hs) m v) (IsSettled f.pipe us k (Held m v))
@@ -156,7 +156,7 @@ abbrev pub HasAllHeld : Pipe → ℕ → View → List HeldNet → Type 0
 HasAllHeld p k u hs = (m v : ℕ) → held_from p k m v ≡ true → is_listed hs m v ≡ false → u.ended.held m v ≡ zero_bit
 
 -- one location more, where it is asked for and not yet listed
-abbrev pub AddsHeld : Circuit → Form → List Signal → (ℕ → View) → ℕ → ℕ → ℕ → Kept → List HeldNet → Kept → List HeldNet → Type 0
+abbrev pub AddsHeld : Circuit → Form → List Signal → (ℕ → View) → ℕ → ℕ → ℕ → StageRegs → List HeldNet → StageRegs → List HeldNet → Type 0
 AddsHeld c f nexts us k m v r hs r' hs' =
     ((r' ≡ r) × (hs' ≡ hs) × (held_from f.pipe k m v ≡ true → is_listed hs m v ≡ true))
     ⊎ ((net : Net) × MayAdd c r r' (Held m v) 1 0 net (IsSettled f.pipe us k (Held m v)) × (hs' ≡ hs ++ record { mem = m; var = v; net = net } ∷ []) × (is_listed hs m v ≡ false))

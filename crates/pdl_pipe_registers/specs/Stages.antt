@@ -19,7 +19,7 @@ use Rattle.pdl_pipe_walk.specs.Locked.{tickets_in}
 use Rattle.pdl_pipe_walk.specs.Sized.{IsWalk}
 use Rattle.pdl_pipe_registers.specs.declared.nets.Item.{Item}
 use Rattle.pdl_pipe_registers.specs.declared.nets.Item.TheVariants.{Var, Held, Ticket, Guess}
-use Rattle.pdl_pipe_registers.specs.declared.nets.Kept.{Kept}
+use Rattle.pdl_pipe_registers.specs.declared.nets.StageRegs.{StageRegs}
 use Rattle.pdl_pipe_registers.specs.declared.nets.StageNets.{StageNets}
 use Rattle.pdl_pipe_registers.specs.Items.{item_at, is_needed, is_answered, kept_item, ended_item, item_width, first_value, IsOwn, IsConstant, IsZero}
 use Rattle.pdl_word.specs.Each.{Each}
@@ -84,31 +84,31 @@ pub record IsRegister (c : Circuit) (r w v : ℕ) : Type 0 where
   pub reset : reg_reset c r ≡ v
 
 -- where the i-th item of a stage is kept
-abbrev pub reg_of : Kept → ℕ → ℕ
+abbrev pub reg_of : StageRegs → ℕ → ℕ
 reg_of r i = suc (r.valid + i)
 
 -- the first register after those of a stage
-abbrev pub end_of : Kept → ℕ
+abbrev pub end_of : StageRegs → ℕ
 end_of r = reg_of r (length r.items)
 
 -- the registers of stage k
-pub record HasRegisters (c : Circuit) (f : Form) (nexts : List Signal) (k : ℕ) (r : Kept) : Type 0 where
+pub record HasRegisters (c : Circuit) (f : Form) (nexts : List Signal) (k : ℕ) (r : StageRegs) : Type 0 where
   pub valid : IsRegister c r.valid 1 (if k == 0 then 1 else 0)
   pub kept : (i : ℕ) → i < length r.items → IsRegister c (reg_of r i) (item_width f nexts (item_at r.items i)) (first_value f.pipe k (item_at r.items i))
 
 -- and they are the last ones
-pub record IsFrame (c : Circuit) (f : Form) (nexts : List Signal) (k : ℕ) (r : Kept) : Type 0 where
+pub record IsFrame (c : Circuit) (f : Form) (nexts : List Signal) (k : ℕ) (r : StageRegs) : Type 0 where
   pub last : end_of r ≡ length c.regs
   pub registers : HasRegisters c f nexts k r
 
 -- each of them keeps what it may
-abbrev pub AreOwn : Form → ℕ → Kept → Type 0
+abbrev pub AreOwn : Form → ℕ → StageRegs → Type 0
 AreOwn f k r = (i : ℕ) → i < length r.items → IsOwn f k (item_at r.items i)
 
 -- ---- what a stage begins with
 
 -- the signal of an item is one of these registers, or as this says
-abbrev pub IsBegunBy : Form → List Signal → Kept → Item → Signal → (Signal → Type 0) → Type 0
+abbrev pub IsBegunBy : Form → List Signal → StageRegs → Item → Signal → (Signal → Type 0) → Type 0
 IsBegunBy f nexts r i g Settled =
     ((j : ℕ) × (j < length r.items) × (item_at r.items j ≡ i) × (g ≡ reg_signal (item_width f nexts i) (reg_of r j))) ⊎ Settled g
 

@@ -18,7 +18,7 @@ ghost use Rattle.pdl_pipe_registers.specs.Begun.{earlier_views, earlier_count, I
 
 use crate::guess::begin_guess;
 use crate::helds::begin_helds;
-use crate::nets::{Earlier, Item, Kept, Shared, StageNets};
+use crate::nets::{Earlier, Item, Shared, StageNets, StageRegs};
 use crate::registers::common;
 use crate::tickets::begin_tickets;
 use pdl_build::Builder;
@@ -48,7 +48,7 @@ pub(crate) fn begin_item(
     pipe: &FlatPipe,
     shared: &Shared<'_>,
     earlier: &Earlier<'_>,
-    regs: &mut Kept,
+    regs: &mut StageRegs,
     item: Item,
     width: u8,
 ) -> Result<Net, NoMemory>
@@ -88,7 +88,7 @@ fn start_of(pipe: &FlatPipe, x: usize) -> u64
 fn first_var(
     b: &mut Builder,
     pipe: &FlatPipe,
-    regs: &mut Kept,
+    regs: &mut StageRegs,
     zero: Net,
     x: usize,
 ) -> Result<Net, NoMemory>
@@ -116,7 +116,7 @@ fn begin_var(
     pipe: &FlatPipe,
     shared: &Shared<'_>,
     earlier: &Earlier<'_>,
-    regs: &mut Kept,
+    regs: &mut StageRegs,
     x: usize,
 ) -> Result<Net, NoMemory>
     requires typed { IsTypedForm (form pipe.now) }
@@ -151,7 +151,7 @@ fn begin_vars(
     pipe: &FlatPipe,
     shared: &Shared<'_>,
     earlier: &Earlier<'_>,
-    regs: &mut Kept,
+    regs: &mut StageRegs,
 ) -> Result<Seq<Net>, NoMemory>
     requires typed { IsTypedForm (form pipe.now) }
     requires shared { IsShared b.old (form pipe.now) shared.now }
@@ -254,7 +254,7 @@ pub fn begin(
     ensures extends { Extends b.old b.new }
 {
     let stage = earlier.stages.len();
-    let mut regs = Kept::new(alloc, b, u64::from(stage == 0))?;
+    let mut regs = StageRegs::new(alloc, b, u64::from(stage == 0))?;
     let vars = begin_vars(alloc, b, pipe, shared, earlier, &mut regs)?;
     let held = begin_helds(alloc, b, pipe, shared, earlier, &mut regs)?;
     let tickets = begin_tickets(alloc, b, pipe, shared, stage, &mut regs)?;

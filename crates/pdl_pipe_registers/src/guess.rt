@@ -12,7 +12,7 @@ ghost use Rattle.pdl_pipe_registers.specs.Stages.{end_of, IsFrame, IsTwin, AreOw
 ghost use Rattle.pdl_pipe_registers.specs.Begun.{earlier_views, earlier_count, IsShared, IsEarlier, IsItem, IsSparedAfter, IsLonger, MayBegin, AreBegun};
 
 use crate::entry::begin_item;
-use crate::nets::{Earlier, Item, Kept, Shared};
+use crate::nets::{Earlier, Item, Shared, StageRegs};
 use crate::registers::coming;
 use pdl_build::Builder;
 use pdl_form::FlatPipe;
@@ -89,7 +89,7 @@ fn begin_argument(
     pipe: &FlatPipe,
     shared: &Shared<'_>,
     earlier: &Earlier<'_>,
-    regs: &mut Kept,
+    regs: &mut StageRegs,
     vars: &[Net],
     i: usize,
 ) -> Result<Net, NoMemory>
@@ -136,7 +136,7 @@ pub(crate) fn begin_guess(
     pipe: &FlatPipe,
     shared: &Shared<'_>,
     earlier: &Earlier<'_>,
-    regs: &mut Kept,
+    regs: &mut StageRegs,
     vars: &[Net],
 ) -> Result<Seq<Net>, NoMemory>
     requires typed { IsTypedForm (form pipe.now) }

@@ -8,7 +8,7 @@ ghost use Rattle.pdl_pipe_registers.specs.Stages.{end_of, IsFrame, AreOwn};
 ghost use Rattle.pdl_pipe_registers.specs.Begun.{is_listed as is_listed_in, earlier_views, earlier_count, IsShared, IsEarlier, IsLonger, AreStillListed, AreHeldBegun, HasAllHeld, AddsHeld};
 
 use crate::entry::begin_item;
-use crate::nets::{Earlier, Item, Kept, Shared};
+use crate::nets::{Earlier, Item, Shared, StageRegs};
 use crate::registers::stage_at;
 use pdl_build::Builder;
 use pdl_form::FlatPipe;
@@ -19,13 +19,13 @@ use std::alloc::Global;
 
 // A location, by its memory and the variable of its address.
 #[derive(Clone, Copy)]
-struct Location {
+struct LocationIndex {
     mem: usize,
     var: usize,
 }
 
 // Whether a location is among these.
-fn is_listed(held: &[HeldNet], at: Location) -> bool
+fn is_listed(held: &[HeldNet], at: LocationIndex) -> bool
     ensures { result ≡ is_listed_in held.now at.mem at.var }
 {
     for h in held {
@@ -42,9 +42,9 @@ fn push_held(
     pipe: &FlatPipe,
     shared: &Shared<'_>,
     earlier: &Earlier<'_>,
-    regs: &mut Kept,
+    regs: &mut StageRegs,
     held: &mut Seq<HeldNet>,
-    at: Location,
+    at: LocationIndex,
 ) -> Result<(), NoMemory>
     requires shared { IsShared b.old (form pipe.now) shared.now }
     requires earlier { IsEarlier b.old (form pipe.now)
@@ -58,7 +58,7 @@ fn push_held(
     ensures extends { Extends b.old b.new }
 {
     let stage = earlier.stages.len();
-    let Location { mem, var } = at;
+    let LocationIndex { mem, var } = at;
     if is_listed(held.as_slice(), at) || !held_from(pipe, stage, mem, var) {
         return Ok(());
     }
@@ -82,7 +82,7 @@ fn push_helds(
     pipe: &FlatPipe,
     shared: &Shared<'_>,
     earlier: &Earlier<'_>,
-    regs: &mut Kept,
+    regs: &mut StageRegs,
     held: &mut Seq<HeldNet>,
     j: usize,
 ) -> Result<(), NoMemory>
@@ -110,7 +110,7 @@ fn push_helds(
     let from = stage_at(earlier, j);
     for i in 0..from.end.held.len() {
         let h = entry_of(from.end.held.as_slice(), i);
-        let at = Location {
+        let at = LocationIndex {
             mem: h.mem,
             var: h.var,
         };
@@ -126,7 +126,7 @@ pub(crate) fn begin_helds(
     pipe: &FlatPipe,
     shared: &Shared<'_>,
     earlier: &Earlier<'_>,
-    regs: &mut Kept,
+    regs: &mut StageRegs,
 ) -> Result<Seq<HeldNet>, NoMemory>
     requires shared { IsShared b.old (form pipe.now) shared.now }
     requires earlier { IsEarlier b.old (form pipe.now)

@@ -12,7 +12,7 @@ pub mod tickets;
 pub mod ways;
 pub mod whole;
 
-pub use nets::{Earlier, Item, Kept, Shared, StageNets};
+pub use nets::{Earlier, Item, Shared, StageNets, StageRegs};
 pub use registers::ended;
 pub use ways::ways_into;
 pub use whole::stages;

@@ -16,14 +16,14 @@ pub enum Item {
 
 /// The registers of a stage: the first tells whether it holds a thread, and those of the items follow it, in order.
 #[derive(Drop)]
-pub struct Kept {
+pub struct StageRegs {
     pub valid: usize,
     pub items: Seq<Item>,
 }
 
 /// A stage: what it begins with, and its nets after its statements.
 pub struct StageNets {
-    pub regs: Kept,
+    pub regs: StageRegs,
     /// The variables by their numbers, as the stage keeps them.
     pub vars: Seq<Net>,
     /// The variables with the answers of this cycle, as the statements begin with them.

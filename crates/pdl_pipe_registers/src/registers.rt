@@ -10,7 +10,7 @@ ghost use Rattle.pdl_pipe_registers.specs.Items.{IsConstant, ended_item};
 ghost use Rattle.pdl_pipe_registers.specs.Stages.{end_of, view_in, IsRegister};
 ghost use Rattle.pdl_pipe_registers.specs.Begun.{earlier_views, with_item, IsShared, IsEnded, IsEarlier, IsItem, IsCommonNet};
 
-use crate::nets::{Earlier, Item, Kept, Shared, StageNets};
+use crate::nets::{Earlier, Item, Shared, StageNets, StageRegs};
 use pdl_build::Builder;
 use pdl_form::FlatPipe;
 use pdl_kit::{NoMemory, Seq};
@@ -19,9 +19,9 @@ use pdl_pipe_exprs::are_same;
 use pdl_pipe_exprs::exprs::variable;
 use std::alloc::Global;
 
-impl Kept {
+impl StageRegs {
     /// The register that tells whether a stage holds a thread, with this value at reset.
-    pub fn new(alloc: Global, b: &mut Builder, reset: u64) -> Result<Kept, NoMemory>
+    pub fn new(alloc: Global, b: &mut Builder, reset: u64) -> Result<StageRegs, NoMemory>
         requires { reset < 2 }
         ensures place { IfOk result (λ r. r.valid ≡ length b.old.regs) }
         ensures none { IfOk result (λ r. r.items ≡ []) }
@@ -30,7 +30,7 @@ impl Kept {
         ensures extends { Extends b.old b.new }
     {
         let valid = b.reg(1, reset)?;
-        Ok(Kept {
+        Ok(StageRegs {
             valid,
             items: Seq::new(alloc),
         })

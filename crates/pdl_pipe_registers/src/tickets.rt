@@ -11,7 +11,7 @@ ghost use Rattle.pdl_pipe_registers.specs.declared.nets.Item.TheVariants.{Ticket
 ghost use Rattle.pdl_pipe_registers.specs.Stages.{end_of, IsFrame, IsSettled, AreOwn};
 ghost use Rattle.pdl_pipe_registers.specs.Begun.{ticket_net, IsShared, IsLonger, MayBegin, AreBegun, AreNextTickets};
 
-use crate::nets::{Item, Kept, Shared};
+use crate::nets::{Item, Shared, StageRegs};
 use pdl_build::Builder;
 use pdl_form::FlatPipe;
 use pdl_kit::{NoMemory, Seq};
@@ -52,7 +52,7 @@ fn begin_ticket(
     pipe: &FlatPipe,
     shared: &Shared<'_>,
     stage: usize,
-    regs: &mut Kept,
+    regs: &mut StageRegs,
     mem: usize,
     next: Net,
 ) -> Result<Net, NoMemory>
@@ -87,7 +87,7 @@ pub(crate) fn begin_tickets(
     pipe: &FlatPipe,
     shared: &Shared<'_>,
     stage: usize,
-    regs: &mut Kept,
+    regs: &mut StageRegs,
 ) -> Result<Seq<Net>, NoMemory>
     requires shared { IsShared b.old (form pipe.now) shared.now }
     requires reserves { length (form pipe.now).pipe.reserves_at ≡ length (form pipe.now).pipe.mems }

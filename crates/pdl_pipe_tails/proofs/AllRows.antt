@@ -11,7 +11,7 @@ use Rattle.pdl_pipe_exprs.specs.Nets.{NetsThere, signals_in, signal_at, widths_o
 use Rattle.pdl_pipe_exprs.proofs.NetLists.{signals_keep, length_signals}
 use Rattle.pdl_pipe_registers.proofs.Lists.{up_to}
 use Rattle.pdl_pipe_registers.proofs.Begins.{next_keep}
-use Rattle.pdl_pipe_nexts.specs.declared.line.Line.{Line}
+use Rattle.pdl_pipe_nexts.specs.declared.line.StageLine.{StageLine}
 use Rattle.pdl_pipe_nexts.specs.Lines.{line_form, IsLineIn}
 use Rattle.pdl_pipe_tails.specs.declared.whole.TailNets.{TailNets}
 use Rattle.pdl_pipe_tails.specs.Reserved.{AreAfterAll}
@@ -20,11 +20,11 @@ use Rattle.pdl_pipe_tails.specs.Tails.{AreStageTails, AreTails, IsRow}
 use Rattle.pdl_pipe_tails.proofs.Rows.{stage_keep, stage_as}
 
 -- the first n stages
-abbrev pub FirstRows : Circuit → Circuit → Line → List (Seq Net) → ℕ → Type 0
+abbrev pub FirstRows : Circuit → Circuit → StageLine → List (Seq Net) → ℕ → Type 0
 FirstRows a c x rows n = (j : ℕ) → j < n → AreStageTails a c x (tail_in c rows []) j (get_or rows j [])
 
 -- each of them has a tail of each memory
-pub have_rows : (a c : Circuit) (x : Line) (fresh : List Net) (rows : List (Seq Net)) (n m : ℕ)
+pub have_rows : (a c : Circuit) (x : StageLine) (fresh : List Net) (rows : List (Seq Net)) (n m : ℕ)
     → length rows ≡ n → Keeps a c → IsLineIn a x → AreAfterAll c c x fresh → m < length fresh → FirstRows a c x rows n
     → HaveTails c m (signal_at (signals_in c fresh) m).width rows
 have_rows a c x fresh rows n m count e line after low h k l =
@@ -45,12 +45,12 @@ tail_same : (c d : Circuit) (rows others : List (Seq Net)) (last : List Net) (j 
 tail_same c d rows others last j m e there same = ap (λ (row : List Net). signal_at (signals_in d row) m) same ∙ ap (λ fs. signal_at fs m) (signals_keep c d (get_or rows j []) e there)
 
 -- the tails of the first n stages are the same in a circuit that grew, by lists that begin alike
-pub tails_same : (a c d : Circuit) (x : Line) (rows others : List (Seq Net)) (last : List Net) (n : ℕ) → Keeps c d
+pub tails_same : (a c d : Circuit) (x : StageLine) (rows others : List (Seq Net)) (last : List Net) (n : ℕ) → Keeps c d
     → FirstRows a c x rows n → ((j : ℕ) → j < n → get_or others j last ≡ get_or rows j []) → (j m : ℕ) → j < n
     → tail_in d others last j m ≡ tail_in c rows [] j m
 tails_same a c d x rows others last n e h same j m l = tail_same c d rows others last j m e (h j l).there (same j l)
 
-row_later : (a c d : Circuit) (x : Line) (rows others : List (Seq Net)) (last : List Net) (n : ℕ) → Extends c d
+row_later : (a c d : Circuit) (x : StageLine) (rows others : List (Seq Net)) (last : List Net) (n : ℕ) → Extends c d
     → FirstRows a c x rows n → ((j : ℕ) → j < n → get_or others j last ≡ get_or rows j []) → (k : ℕ) → k < n
     → AreStageTails a d x (tail_in d others last) k (get_or others k last)
 row_later a c d x rows others last n e h same k l =
@@ -69,7 +69,7 @@ pub same_before : (rows : List (Seq Net)) (last : List Net) (n : ℕ)
 same_before rows last n count j l = get_or_default rows j last [] (omega (arith, l, count))
 
 -- one stage more
-pub rows_more : (a c d : Circuit) (x : Line) (rows : List (Seq Net)) (new : Seq Net) (n : ℕ)
+pub rows_more : (a c d : Circuit) (x : StageLine) (rows : List (Seq Net)) (new : Seq Net) (n : ℕ)
     → length rows ≡ n → Extends c d → FirstRows a c x rows n
     → AreStageTails a d x (tail_in d (rows ++ new ∷ []) []) n new → FirstRows a d x (rows ++ new ∷ []) (n + 1)
 rows_more a c d x rows new n count e h here =
@@ -78,7 +78,7 @@ rows_more a c d x rows new n count e h here =
     (subst (AreStageTails a d x (tail_in d (rows ++ new ∷ []) []) n) (sym (get_or_push rows new [] n count)) here)
 
 -- and the last one
-pub rows_all : (a c d : Circuit) (x : Line) (t : TailNets) (v : ℕ)
+pub rows_all : (a c d : Circuit) (x : StageLine) (t : TailNets) (v : ℕ)
     → length t.before.items ≡ v → Extends c d → FirstRows a c x t.before.items v
     → AreStageTails a d x (tail_in d t.before.items t.cut) v t.cut → AreTails a d x t v
 rows_all a c d x t v count e h here =
@@ -102,7 +102,7 @@ widths_as (f ∷ fs) [] n h = absurd (omega (arith, n))
 widths_as (f ∷ fs) (g ∷ gs) n h = ap₂ (λ w ws. w ∷ ws) (h 0 (omega arith)) (widths_as fs gs (omega (arith, n)) (λ m l. h (suc m) (omega (arith, l))))
 
 -- the tails of a stage are a net for each memory, as wide as its lock's next ticket
-pub row_is : (a c : Circuit) (x : Line) (tails : ℕ → ℕ → Signal) (k : ℕ) (nets : List Net)
+pub row_is : (a c : Circuit) (x : StageLine) (tails : ℕ → ℕ → Signal) (k : ℕ) (nets : List Net)
     → AreStageTails a c x tails k nets → IsRow a c x nets
 row_is a c x tails k nets h =
     let n = length_signals c nets in

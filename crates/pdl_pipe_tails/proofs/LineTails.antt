@@ -21,7 +21,7 @@ use Rattle.pdl_law_parts.specs.Compiled.{Becomes}
 use Rattle.pdl_law_parts.proofs.NextState.{lock_there}
 use Rattle.pdl_law_sides.specs.Sides.{Sides, with_tickets}
 use Rattle.pdl_law_sides.specs.HasSides.{HasTails}
-use Rattle.pdl_pipe_nexts.specs.declared.line.Line.{Line}
+use Rattle.pdl_pipe_nexts.specs.declared.line.StageLine.{StageLine}
 use Rattle.pdl_pipe_nexts.specs.Lines.{line_pipe, line_views, line_moves, IsLineIn}
 use Rattle.pdl_pipe_nexts.proofs.BroughtItems.{after_first}
 use Rattle.pdl_pipe_tails.specs.declared.whole.TailNets.{TailNets}
@@ -59,7 +59,7 @@ carried_becomes a c d g taken e on h = register_becomes c d h.reg g.width g take
 
 -- ---- a ticket after reservations
 
-holds_after : (a : Circuit) (x : Line) (ls : Locks) (m n : ℕ) (g : Signal) (s : State) (y : LockState)
+holds_after : (a : Circuit) (x : StageLine) (ls : Locks) (m n : ℕ) (g : Signal) (s : State) (y : LockState)
     → IsNextOf a x ls m → length x.stages.now ≡ n → IsAfterAll a x m g → ls.stands m s y
     → holds_ticket (ls.bits m) g s (next_ticket y + length (asked_addresses s (all_reserves m (line_views a x) (line_moves a x) n 0)))
 holds_after a x ls m n g s y next count after stand =
@@ -71,7 +71,7 @@ holds_after a x ls m n g s y next count after stand =
 
 -- ---- all of it
 
-module _ (a c d : Circuit) (x : Line) (t : TailNets) (v : ℕ) (ls : Locks) (line : IsLineIn a x) (made : AreTails a c x t v) (keeps : Keeps c d) (on : GoOn a c d) (next : (m : ℕ) → is_locked (line_pipe x) m ≡ true → IsNextOf a x ls m) where
+module _ (a c d : Circuit) (x : StageLine) (t : TailNets) (v : ℕ) (ls : Locks) (line : IsLineIn a x) (made : AreTails a c x t v) (keeps : Keeps c d) (on : GoOn a c d) (next : (m : ℕ) → is_locked (line_pipe x) m ≡ true → IsNextOf a x ls m) where
   abbrev p : Pipe
   p = line_pipe x
 

@@ -21,7 +21,7 @@ use Rattle.pdl_law_sides.specs.Sides.{with_tickets}
 use Rattle.pdl_pipe_registers.proofs.Lists.{up_to}
 use Rattle.pdl_pipe_registers.proofs.Begins.{next_keep, each_way, signal_old, signal_new}
 use Rattle.pdl_pipe_nexts.specs.declared.arrivals.Arrival.{Arrival}
-use Rattle.pdl_pipe_nexts.specs.declared.line.Line.{Line}
+use Rattle.pdl_pipe_nexts.specs.declared.line.StageLine.{StageLine}
 use Rattle.pdl_pipe_nexts.specs.Lines.{line_form, line_pipe, line_views, line_moves, IsLineIn}
 use Rattle.pdl_pipe_nexts.specs.Arrivals.{AreArrivals}
 use Rattle.pdl_pipe_nexts.proofs.LineGrowth.{views_same, all_moves_same}
@@ -33,21 +33,21 @@ use Rattle.pdl_pipe_tails.proofs.TailRegisters.{tail_keep, brought_keep, carried
 -- ---- the next tickets, as the circuit was before
 
 -- a ticket after all reservations is so as well by the line's nets as they stood in an earlier circuit
-pub after_from : (a b : Circuit) (x : Line) (m : ℕ) (g : Signal) → Keeps a b → IsLineIn a x → IsAfterAll b x m g → IsAfterAll a x m g
+pub after_from : (a b : Circuit) (x : StageLine) (m : ℕ) (g : Signal) → Keeps a b → IsLineIn a x → IsAfterAll b x m g → IsAfterAll a x m g
 after_from a b x m g e line h =
     subst (λ vs. IsAfter (signal_at (signals_in a x.shared.now.next) m) g (all_reserves m vs (line_moves a x) (length x.stages.now) 0)) (views_same a b x e line)
     (subst (λ ms. IsAfter (signal_at (signals_in a x.shared.now.next) m) g (all_reserves m (line_views b x) ms (length x.stages.now) 0)) (all_moves_same a b x e line)
     (subst (λ fs. IsAfter (signal_at fs m) g (all_reserves m (line_views b x) (line_moves b x) (length x.stages.now) 0)) (next_keep a b (line_form x) x.shared.now e line.shared) h))
 
 -- and as it is later
-after_now : (a b : Circuit) (x : Line) (m : ℕ) (g : Signal) → Keeps a b → IsLineIn a x → IsAfterAll a x m g → IsAfterAll b x m g
+after_now : (a b : Circuit) (x : StageLine) (m : ℕ) (g : Signal) → Keeps a b → IsLineIn a x → IsAfterAll a x m g → IsAfterAll b x m g
 after_now a b x m g e line h =
     subst (λ fs. IsAfter (signal_at fs m) g (all_reserves m (line_views b x) (line_moves b x) (length x.stages.now) 0)) (sym (next_keep a b (line_form x) x.shared.now e line.shared))
     (subst (λ ms. IsAfter (signal_at (signals_in a x.shared.now.next) m) g (all_reserves m (line_views b x) ms (length x.stages.now) 0)) (sym (all_moves_same a b x e line))
     (subst (λ vs. IsAfter (signal_at (signals_in a x.shared.now.next) m) g (all_reserves m vs (line_moves a x) (length x.stages.now) 0)) (sym (views_same a b x e line)) h))
 
 -- the tickets of all memories after all reservations stay so by the line's nets in a later circuit
-pub all_now : (a b c : Circuit) (x : Line) (nets : List Net) → Keeps a c → Keeps b c → IsLineIn a x
+pub all_now : (a b c : Circuit) (x : StageLine) (nets : List Net) → Keeps a c → Keeps b c → IsLineIn a x
     → AreAfterAll a b x nets → AreAfterAll c c x nets
 all_now a b c x nets ac bc line h = record {
   there = there_keeps b c nets bc h.there;
@@ -130,7 +130,7 @@ tails_more a b d p fresh before ys k xs m new e there n old here =
 -- ---- the tails of a stage, by signals
 
 -- a memory's tail by the nets of a stage is its tail by the signals of the threads that come
-pub stage_tail_is : (a b c : Circuit) (x : Line) (fresh : List Net) (before : List (Seq Net)) (ys : List Arrival)
+pub stage_tail_is : (a b c : Circuit) (x : StageLine) (fresh : List Net) (before : List (Seq Net)) (ys : List Arrival)
     (k m w : ℕ) (tails : ℕ → ℕ → Signal) (g : Signal)
     → Keeps a b → AreAfterAll a a x fresh → m < length fresh → HaveTails a m w before → length before ≡ k
     → AreArrivals b (line_pipe x) (line_views a x) (line_moves a x) k (ways (line_pipe x) k) ys
@@ -151,7 +151,7 @@ stage_tail_is a b c x fresh before ys k m w tails g e after low rows count come 
     }
 
 -- the tails of a stage stay while the circuit grows
-pub stage_keep : (a c d : Circuit) (x : Line) (tails : ℕ → ℕ → Signal) (k : ℕ) (nets : List Net) → Extends c d
+pub stage_keep : (a c d : Circuit) (x : StageLine) (tails : ℕ → ℕ → Signal) (k : ℕ) (nets : List Net) → Extends c d
     → AreStageTails a c x tails k nets → AreStageTails a d x tails k nets
 stage_keep a c d x tails k nets e h =
     let keeps = extends_keeps c d e in
@@ -170,7 +170,7 @@ stage_keep a c d x tails k nets e h =
     }
 
 -- the tails of a stage are so by other signals that are the same in the stages before it
-pub stage_as : (a c : Circuit) (x : Line) (tails others : ℕ → ℕ → Signal) (k : ℕ) (nets : List Net)
+pub stage_as : (a c : Circuit) (x : StageLine) (tails others : ℕ → ℕ → Signal) (k : ℕ) (nets : List Net)
     → ((j m : ℕ) → j < k → m < length nets → tails j m ≡ others j m) → AreStageTails a c x tails k nets
     → AreStageTails a c x others k nets
 stage_as a c x tails others k nets same h = record {
@@ -190,7 +190,7 @@ stage_as a c x tails others k nets same h = record {
 }
 
 -- as the circuit was before
-pub stage_from : (a b c : Circuit) (x : Line) (tails : ℕ → ℕ → Signal) (k : ℕ) (nets : List Net) → Keeps a b
+pub stage_from : (a b c : Circuit) (x : StageLine) (tails : ℕ → ℕ → Signal) (k : ℕ) (nets : List Net) → Keeps a b
     → IsLineIn a x → AreStageTails b c x tails k nets → AreStageTails a c x tails k nets
 stage_from a b c x tails k nets e line h = record {
   there = h.there;

@@ -10,7 +10,7 @@ use Rattle.pdl_lockapi.specs.Laws.{TicketLaw}
 use Rattle.pdl_law_parts.specs.Walk.{Locks}
 use Rattle.pdl_pipe_exprs.specs.Nets.{NetsThere, signals_in, signal_at, widths_of}
 use Rattle.pdl_pipe_nexts.specs.declared.arrivals.Arrival.{Arrival}
-use Rattle.pdl_pipe_nexts.specs.declared.line.Line.{Line}
+use Rattle.pdl_pipe_nexts.specs.declared.line.StageLine.{StageLine}
 use Rattle.pdl_pipe_nexts.specs.Lines.{line_pipe, line_views, line_moves}
 use Rattle.pdl_pipe_tails.specs.declared.whole.TailNets.{TailNets}
 use Rattle.pdl_pipe_tails.specs.Reserved.{IsAfterAll}
@@ -23,13 +23,13 @@ pub record IsTail (a c : Circuit) (p : Pipe) (fresh : List Net) (before : List (
   pub carried : carries_tail p k m ≡ true → IsCarried c (length a.regs) g (brought_tail a before m arrivals g)
 
 -- and by signals, where the threads of a line have these tails
-pub record IsStageTail (a c : Circuit) (x : Line) (tails : ℕ → ℕ → Signal) (k m : ℕ) (g : Signal) : Type 0 where
+pub record IsStageTail (a c : Circuit) (x : StageLine) (tails : ℕ → ℕ → Signal) (k m : ℕ) (g : Signal) : Type 0 where
   pub wide : g.width ≡ (signal_at (signals_in a x.shared.now.next) m).width
   pub first : carries_tail (line_pipe x) k m ≡ false → IsAfterAll a x m g
   pub carried : carries_tail (line_pipe x) k m ≡ true → IsCarried c (length a.regs) g (coming_tail (line_pipe x) (line_views a x) (line_moves a x) tails k m g)
 
 -- a net for each memory, which is its tail in stage k
-pub record AreStageTails (a c : Circuit) (x : Line) (tails : ℕ → ℕ → Signal) (k : ℕ) (nets : List Net) : Type 0 where
+pub record AreStageTails (a c : Circuit) (x : StageLine) (tails : ℕ → ℕ → Signal) (k : ℕ) (nets : List Net) : Type 0 where
   pub there : NetsThere c nets
   pub count : length nets ≡ length x.shared.now.next
   pub each : (m : ℕ) → m < length nets → IsStageTail a c x tails k m (signal_at (signals_in c nets) m)
@@ -39,22 +39,22 @@ abbrev pub tails_in : Circuit → TailNets → ℕ → ℕ → Signal
 tails_in c t = tail_in c t.before.items t.cut
 
 -- those of all stages up to V
-pub record AreTails (a c : Circuit) (x : Line) (t : TailNets) (v : ℕ) : Type 0 where
+pub record AreTails (a c : Circuit) (x : StageLine) (t : TailNets) (v : ℕ) : Type 0 where
   pub count : length t.before.items ≡ v
   pub each : (k : ℕ) → k ≤ v → AreStageTails a c x (tails_in c t) k (slice_index_or t.before.items k t.cut)
 
 -- nothing is added where no stage verifies: no squash cuts a lock
-abbrev pub HasCut : Circuit → Circuit → Line → TailNets → Option ℕ → Type 0
+abbrev pub HasCut : Circuit → Circuit → StageLine → TailNets → Option ℕ → Type 0
 HasCut a c x t None = (t.cut ≡ x.shared.now.next) × (c ≡ a)
 HasCut a c x t (Some v) = AreTails a c x t v
 
 -- a net for each memory, as wide as its lock's next ticket
-pub record IsRow (a c : Circuit) (x : Line) (nets : List Net) : Type 0 where
+pub record IsRow (a c : Circuit) (x : StageLine) (nets : List Net) : Type 0 where
   pub there : NetsThere c nets
   pub wide : widths_of (signals_in c nets) ≡ widths_of (signals_in a x.shared.now.next)
 
 -- a line's next ticket of memory m is that of its lock, with the bits of its tickets
-pub record IsNextOf (a : Circuit) (x : Line) (ls : Locks) (m : ℕ) : Type 0 where
+pub record IsNextOf (a : Circuit) (x : StageLine) (ls : Locks) (m : ℕ) : Type 0 where
   pub ticket : signal_at (signals_in a x.shared.now.next) m ≡ ls.ticket m
   pub wide : (ls.ticket m).width ≡ ls.bits m
   pub law : TicketLaw (ls.stands m) (ls.bits m) (ls.ticket m)

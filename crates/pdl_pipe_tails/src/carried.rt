@@ -16,7 +16,7 @@ use pdl_kit::{NoMemory, Seq};
 use pdl_net::Net;
 use pdl_pipe_exprs::exprs::variable;
 use pdl_pipe_lives::needs::has_lock;
-use pdl_pipe_nexts::Line;
+use pdl_pipe_nexts::StageLine;
 use pdl_pipe_nexts::arrivals::{Arrival, threads_into};
 use std::alloc::Global;
 
@@ -132,7 +132,7 @@ fn stage_tail(
 pub fn stage_tails(
     alloc: Global,
     b: &mut Builder,
-    line: &Line<'_>,
+    line: &StageLine<'_>,
     fresh: &[Net],
     before: &[Seq<Net>],
     stage: usize,

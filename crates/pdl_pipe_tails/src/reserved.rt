@@ -14,7 +14,7 @@ use pdl_kit::{NoMemory, Seq};
 use pdl_net::{BinOp, Net};
 use pdl_pipe_exprs::Bits;
 use pdl_pipe_exprs::exprs::variable;
-use pdl_pipe_nexts::Line;
+use pdl_pipe_nexts::StageLine;
 use pdl_pipe_nexts::line::stage_of;
 use pdl_pipe_walk::ReserveNet;
 use std::alloc::Global;
@@ -88,7 +88,7 @@ fn after_stage(
 }
 
 // The next ticket of the memory's lock after all that the moving threads reserve.
-fn after_all(b: &mut Builder, line: &Line<'_>, mem: usize) -> Result<Net, NoMemory>
+fn after_all(b: &mut Builder, line: &StageLine<'_>, mem: usize) -> Result<Net, NoMemory>
     requires line { IsLineIn b.old line.now }
     requires low { mem < length line.now.shared.now.next }
     ensures there { IfOk result (λ x. IsThere b.new x) }
@@ -107,7 +107,11 @@ fn after_all(b: &mut Builder, line: &Line<'_>, mem: usize) -> Result<Net, NoMemo
 }
 
 /// The next ticket of each memory's lock after all that the moving threads reserve.
-pub fn next_after(alloc: Global, b: &mut Builder, line: &Line<'_>) -> Result<Seq<Net>, NoMemory>
+pub fn next_after(
+    alloc: Global,
+    b: &mut Builder,
+    line: &StageLine<'_>,
+) -> Result<Seq<Net>, NoMemory>
     requires line { IsLineIn b.old line.now }
     ensures after { IfOk result (λ xs. AreAfterAll b.old b.new line.now xs) }
     ensures extends { Extends b.old b.new }

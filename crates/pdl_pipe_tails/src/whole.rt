@@ -10,7 +10,7 @@ use crate::reserved::next_after;
 use pdl_build::Builder;
 use pdl_kit::{NoMemory, Seq};
 use pdl_net::Net;
-use pdl_pipe_nexts::Line;
+use pdl_pipe_nexts::StageLine;
 use std::alloc::Global;
 
 /// The tickets from which on a thread's squash would drop pending writes, by stage and memory, each as wide as its lock's next ticket: those of the threads before the stage of the verifies, and those of its own thread, at which a squash cuts the locks.
@@ -23,7 +23,7 @@ pub struct TailNets {
 /// From which ticket on a squash drops the pending writes of each memory's lock: the next one after this cycle's reservations, or the one that came with the thread which squashes.
 ///
 /// Without a stage of verifies nothing is squashed, and the next tickets are returned.
-pub fn tails(alloc: Global, b: &mut Builder, line: &Line<'_>) -> Result<TailNets, NoMemory>
+pub fn tails(alloc: Global, b: &mut Builder, line: &StageLine<'_>) -> Result<TailNets, NoMemory>
     requires line { IsLineIn b.old line.now }
     requires reserves { length (line_pipe line.now).reserves_at ≡ length (line_pipe line.now).mems }
     requires verify { (v : ℕ) → verify_stage (line_pipe line.now).stmts ≡ Some v →

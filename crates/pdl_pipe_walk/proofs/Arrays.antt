@@ -3,7 +3,7 @@ use Rattle.std.proofs.Common.{◌≡◌, ℕ, Bool, true, false, not, List, [], 
 use Rattle.std.proofs.lemmas.List.{take-map}
 use Rattle.std.specs.Prelude.{is_some, count_by, if◌then◌else◌, Some, None}
 use Rattle.pdl_semantics.specs.Flat.{Mem}
-use Rattle.pdl_form.specs.declared.form.Mem as r_mem
+use Rattle.pdl_form.specs.declared.form.FlatMem as r_mem
 use Rattle.pdl_form.specs.View.{mem_view, mems_view}
 use Rattle.pdl_pipe_walk.specs.Locked.{array_of}
 
@@ -19,15 +19,15 @@ turned : (b : Bool) → not b ≡ (if b then false else true)
 turned true = refl
 turned false = refl
 
-counted : (ms : List r_mem.Mem) (n : ℕ)
-    → fold (λ (a : ℕ) (x : r_mem.Mem). a + (if not x.delayed then 1 else 0)) n ms
+counted : (ms : List r_mem.FlatMem) (n : ℕ)
+    → fold (λ (a : ℕ) (x : r_mem.FlatMem). a + (if not x.delayed then 1 else 0)) n ms
     ≡ fold (λ (a : ℕ) (x : Mem). a + (if (if x.delayed then false else true) then 1 else 0)) n (mems_view ms)
 counted [] n = refl
 counted (x ∷ xs) n =
-    ap (λ (b : Bool). fold (λ (a : ℕ) (x : r_mem.Mem). a + (if not x.delayed then 1 else 0)) (n + (if b then 1 else 0)) xs) (turned x.delayed) ∙ counted xs (n + (if (if x.delayed then false else true) then 1 else 0))
+    ap (λ (b : Bool). fold (λ (a : ℕ) (x : r_mem.FlatMem). a + (if not x.delayed then 1 else 0)) (n + (if b then 1 else 0)) xs) (turned x.delayed) ∙ counted xs (n + (if (if x.delayed then false else true) then 1 else 0))
 
 -- memories that answer at once, of the program's and of the pipe's
-pub count_same : (ms : List r_mem.Mem) (m : ℕ)
-    → count_by (λ (x : r_mem.Mem). not x.delayed) (take m ms)
+pub count_same : (ms : List r_mem.FlatMem) (m : ℕ)
+    → count_by (λ (x : r_mem.FlatMem). not x.delayed) (take m ms)
     ≡ count_by (λ (x : Mem). if x.delayed then false else true) (take m (mems_view ms))
 count_same ms m = counted (take m ms) 0 ∙ ap (count_by (λ (x : Mem). if x.delayed then false else true)) (sym (take-map mem_view m ms))

@@ -3,9 +3,9 @@ use Rattle.std.proofs.Common.{arith, ◌≡◌, ℕ, ◌+◌, ◌<◌, List, [],
 use Rattle.std.proofs.lemmas.List.{drop_more, take_more, map-append, get_or-map, length-map}
 use Rattle.std.specs.Prelude.{slice_index}
 use Rattle.pdl_semantics.specs.Flat.{Guard, Op, Stmt, Pipe, SpecCheck}
-use Rattle.pdl_form.specs.declared.form.Stmt as r_stmt
+use Rattle.pdl_form.specs.declared.form.FlatStmt as r_stmt
 use Rattle.pdl_form.specs.declared.form.Op as r_op
-use Rattle.pdl_form.specs.declared.form.Guard as r_guard
+use Rattle.pdl_form.specs.declared.form.FlatGuard as r_guard
 use Rattle.pdl_form.specs.View.{act_view, guards_view, stmt_view, stmts_view}
 use Rattle.pdl_form_types.specs.Stmts.{AreGuards, IsTypedOp}
 use Rattle.pdl_form.specs.Form.{Form, stmt_at}
@@ -24,11 +24,11 @@ pub step_as : (c : Circuit) (p : Pipe) (ls : Locks) (tickets : ℕ → Signal) (
 step_as c p ls tickets gs gs' op op' w w' e h s = subst (λ o. IsStep c p ls tickets gs' o w w') h (subst (λ l. IsStep c p ls tickets l op w w') e s)
 
 -- what a statement of the program needs, by its operation
-pub typed_as : (f : Form) (s : r_stmt.Stmt) (o : r_op.Op) → IsWalked f (stmt_view s) → s.op ≡ o → IsTypedOp f (act_view o)
+pub typed_as : (f : Form) (s : r_stmt.FlatStmt) (o : r_op.Op) → IsWalked f (stmt_view s) → s.op ≡ o → IsTypedOp f (act_view o)
 typed_as f s o h e = subst (λ (o : r_op.Op). IsTypedOp f (act_view o)) e h.0.1
 
 -- the guards of a statement of which nets are made go by variables of 1 bit
-pub guards_as : (f : Form) (s : r_stmt.Stmt) (gs : List r_guard.Guard) → IsWalked f (stmt_view s)
+pub guards_as : (f : Form) (s : r_stmt.FlatStmt) (gs : List r_guard.FlatGuard) → IsWalked f (stmt_view s)
     → gs ≡ s.guards → AreGuards f.widths (guards_view gs)
 guards_as f s gs h e = subst (λ l. AreGuards f.widths (guards_view l)) (sym e) h.0.0
 
@@ -57,11 +57,11 @@ pub rows_walked : (f : Form) (xs : List Stmt) (rows : List ℕ) → AreWalked f 
 rows_walked f xs rows h low = each_by (λ (i : ℕ). (i < length xs) × IsWalked f (stmt_at xs i)) rows 0 (λ j l. (low j l, each_at (IsWalked f) xs (slice_index rows j) _ (low j l) h))
 
 -- the k-th statement of the pipe is one of the program's as well
-pub row_low : (ss : List r_stmt.Stmt) (k : ℕ) → k < length (stmts_view ss) → k < length ss
+pub row_low : (ss : List r_stmt.FlatStmt) (k : ℕ) → k < length (stmts_view ss) → k < length ss
 row_low ss k l = omega (arith, l, length-map ss stmt_view)
 
 -- the statement of a number, as its view
-pub row_view : (ss : List r_stmt.Stmt) (k : ℕ) (d : r_stmt.Stmt)
+pub row_view : (ss : List r_stmt.FlatStmt) (k : ℕ) (d : r_stmt.FlatStmt)
     → k < length ss → d ≡ get_or ss k d → stmt_view d ≡ stmt_at (stmts_view ss) k
 row_view ss k d l e = ap stmt_view e ∙ sym (get_or-map stmt_view ss k d (record { stage = 0; guards = []; op = SpecCheck }) l)
 

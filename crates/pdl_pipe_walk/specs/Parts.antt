@@ -1,7 +1,7 @@
 -- What the nets of a stage mean in a circuit.
 use Rattle.std.specs.Prelude.{ℕ, ◌==◌, ◌&&◌, List, [], ◌∷◌, map, if◌then◌else◌}
-use Rattle.pdl_form.specs.declared.form.Expr as r_expr
-use Rattle.pdl_form.specs.declared.form.Guard as r_guard
+use Rattle.pdl_form.specs.declared.form.FlatExpr as r_expr
+use Rattle.pdl_form.specs.declared.form.FlatGuard as r_guard
 use Rattle.pdl_form.specs.View.{guards_view, expr_view, exprs_view}
 use Rattle.pdl_net.specs.Circuit.{Circuit}
 use Rattle.pdl_net.specs.Signal.{Signal}
@@ -108,15 +108,15 @@ abbrev pub walk_in : Circuit → WalkNets → Walk
 walk_in c w = walk_of (parts_in c w)
 
 -- whether guards are taken, and the values of expressions, by a stage's variables
-abbrev pub taken_by : Circuit → WalkNets → List r_guard.Guard → Signal
+abbrev pub taken_by : Circuit → WalkNets → List r_guard.FlatGuard → Signal
 taken_by c w gs = taken_signal (signals_in c w.vars.items) (guards_view gs)
 
 -- the value of an expression, by a stage's variables
-abbrev pub value_by : Circuit → WalkNets → r_expr.Expr → Signal
+abbrev pub value_by : Circuit → WalkNets → r_expr.FlatExpr → Signal
 value_by c w e = value_signal (signals_in c w.vars.items) (expr_view e)
 
 -- the values of some expressions, by a stage's variables
-abbrev pub values_by : Circuit → WalkNets → List r_expr.Expr → List Signal
+abbrev pub values_by : Circuit → WalkNets → List r_expr.FlatExpr → List Signal
 values_by c w es = value_signals (signals_in c w.vars.items) (exprs_view es)
 
 -- the nets of a walk are there

@@ -16,7 +16,7 @@ ghost use Rattle.pdl_pipe_walk.specs.Steps.{with_guess, with_verify, with_barrie
 
 use crate::nets::WalkNets;
 use pdl_build::Builder;
-use pdl_form::{Expr, FlatPipe, Guard};
+use pdl_form::{FlatExpr, FlatGuard, FlatPipe};
 use pdl_kit::{NoMemory, Seq};
 use pdl_net::{BinOp, Net};
 use pdl_pipe_exprs::Bits;
@@ -134,8 +134,8 @@ impl WalkNets {
         b: &mut Builder,
         pipe: &FlatPipe,
         bits: Bits,
-        guards: &[Guard],
-        args: &[Expr],
+        guards: &[FlatGuard],
+        args: &[FlatExpr],
     ) -> Result<(), NoMemory>
         requires walk { IsWalkOf (form pipe.now) b.old self.old }
         requires bits { AreBits b.old bits }
@@ -162,8 +162,8 @@ impl WalkNets {
         b: &mut Builder,
         pipe: &FlatPipe,
         bits: Bits,
-        guards: &[Guard],
-        args: &[Expr],
+        guards: &[FlatGuard],
+        args: &[FlatExpr],
     ) -> Result<(), NoMemory>
         requires walk { IsWalkOf (form pipe.now) b.old self.old }
         requires bits { AreBits b.old bits }
@@ -189,7 +189,7 @@ impl WalkNets {
         b: &mut Builder,
         pipe: &FlatPipe,
         bits: Bits,
-        guards: &[Guard],
+        guards: &[FlatGuard],
     ) -> Result<(), NoMemory>
         requires walk { IsWalkOf (form pipe.now) b.old self.old }
         requires bits { AreBits b.old bits }

@@ -15,9 +15,9 @@ ghost use Rattle.pdl_pipe_walk.specs.Setting.{HasLocks, set_locks};
 ghost use Rattle.pdl_pipe_walk.specs.Words.{IsLookOf, IsWordSignal, IsLooked};
 
 use pdl_build::Builder;
-use pdl_form::{FlatPipe, Mem};
+use pdl_form::{FlatMem, FlatPipe};
 use pdl_kit::NoMemory;
-use pdl_lockapi::{Kind, LockModule, LockRegs, Look};
+use pdl_lockapi::{Kind, LockModule, LockRegs, LookNets};
 use pdl_net::Net;
 use pdl_pipe_exprs::{Bits, are_same};
 
@@ -58,7 +58,7 @@ fn has_lock<L>(locks: &[Option<MemLock<L>>], m: usize) -> bool
 }
 
 // The value of a look.
-fn value_of(look: Look) -> Net
+fn value_of(look: LookNets) -> Net
     requires { is_some look.value ≡ true }
     ensures { look.value ≡ Some result }
 {
@@ -69,8 +69,8 @@ fn value_of(look: Look) -> Net
 }
 
 // How many memories answer at once.
-fn count_at_once(mems: &[Mem]) -> usize
-    ensures { result ≡ count_by (λ (x : Mem). not x.delayed) mems.now }
+fn count_at_once(mems: &[FlatMem]) -> usize
+    ensures { result ≡ count_by (λ (x : FlatMem). not x.delayed) mems.now }
 {
     mems.iter().filter(|mem| !mem.delayed).count()
 }
@@ -91,7 +91,7 @@ pub(crate) fn look<L: LockModule>(
     kind: Kind,
     addr: Net,
     ticket: Net,
-) -> Result<Look, NoMemory>
+) -> Result<LookNets, NoMemory>
     requires locks { HasLocks (members L.LockModule) b.old setting.now }
     requires low { m < length (form setting.now.pipe.now).pipe.mems }
     requires locked { is_locked (form setting.now.pipe.now).pipe m ≡ true }

@@ -21,7 +21,7 @@ ghost use Rattle.pdl_pipe_walk.specs.Steps.{with_var, with_put, with_reserve, wi
 use crate::locks::{Setting, look_held, room, word};
 use crate::nets::{AskNet, HeldNet, WalkNets};
 use pdl_build::Builder;
-use pdl_form::{Expr, FlatPipe, Guard, Op, Stmt};
+use pdl_form::{FlatExpr, FlatGuard, FlatPipe, FlatStmt, Op};
 use pdl_kit::NoMemory;
 use pdl_lockapi::LockModule;
 use pdl_net::Net;
@@ -30,7 +30,7 @@ use pdl_pipe_exprs::exprs::variable;
 use std::alloc::Global;
 
 // The statement of a number.
-fn row(stmts: &[Stmt], i: usize) -> &Stmt
+fn row(stmts: &[FlatStmt], i: usize) -> &FlatStmt
     requires { i < length stmts.now }
     ensures { stmt_view result.now ≡ stmt_at (stmts_view stmts.now) i }
 {
@@ -44,9 +44,9 @@ impl WalkNets {
         b: &mut Builder,
         pipe: &FlatPipe,
         bits: Bits,
-        guards: &[Guard],
+        guards: &[FlatGuard],
         x: usize,
-        e: &Expr,
+        e: &FlatExpr,
     ) -> Result<(), NoMemory>
         requires walk { IsWalkOf (form pipe.now) b.old self.old }
         requires bits { AreBits b.old bits }
@@ -71,7 +71,7 @@ impl WalkNets {
         &mut self,
         b: &mut Builder,
         setting: &Setting<'_, L>,
-        guards: &[Guard],
+        guards: &[FlatGuard],
         x: usize,
         m: usize,
         a: usize,
@@ -106,7 +106,7 @@ impl WalkNets {
         &mut self,
         b: &mut Builder,
         setting: &Setting<'_, L>,
-        guards: &[Guard],
+        guards: &[FlatGuard],
         x: usize,
         m: usize,
         a: usize,
@@ -137,9 +137,9 @@ impl WalkNets {
         b: &mut Builder,
         pipe: &FlatPipe,
         bits: Bits,
-        guards: &[Guard],
+        guards: &[FlatGuard],
         m: usize,
-        e: &Expr,
+        e: &FlatExpr,
     ) -> Result<(), NoMemory>
         requires walk { IsWalkOf (form pipe.now) b.old self.old }
         requires bits { AreBits b.old bits }
@@ -164,7 +164,7 @@ impl WalkNets {
         &mut self,
         b: &mut Builder,
         setting: &Setting<'_, L>,
-        guards: &[Guard],
+        guards: &[FlatGuard],
         m: usize,
         a: usize,
     ) -> Result<(), NoMemory>
@@ -229,7 +229,7 @@ impl WalkNets {
         &mut self,
         b: &mut Builder,
         setting: &Setting<'_, L>,
-        guards: &[Guard],
+        guards: &[FlatGuard],
         m: usize,
         a: usize,
     ) -> Result<(), NoMemory>
@@ -258,7 +258,7 @@ impl WalkNets {
         b: &mut Builder,
         pipe: &FlatPipe,
         bits: Bits,
-        guards: &[Guard],
+        guards: &[FlatGuard],
         m: usize,
         a: usize,
     ) -> Result<(), NoMemory>
@@ -289,8 +289,8 @@ impl WalkNets {
         b: &mut Builder,
         pipe: &FlatPipe,
         bits: Bits,
-        guards: &[Guard],
-        args: &[Expr],
+        guards: &[FlatGuard],
+        args: &[FlatExpr],
     ) -> Result<(), NoMemory>
         requires walk { IsWalkOf (form pipe.now) b.old self.old }
         requires bits { AreBits b.old bits }
@@ -314,7 +314,7 @@ impl WalkNets {
         alloc: Global,
         b: &mut Builder,
         setting: &Setting<'_, L>,
-        s: &Stmt,
+        s: &FlatStmt,
     ) -> Result<(), NoMemory>
         requires walk { IsWalkOf (form setting.now.pipe.now) b.old self.old }
         requires bits { AreBits b.old setting.now.bits }
@@ -354,7 +354,7 @@ impl WalkNets {
         alloc: Global,
         b: &mut Builder,
         setting: &Setting<'_, L>,
-        stmts: &[Stmt],
+        stmts: &[FlatStmt],
         rows: &[usize],
     ) -> Result<(), NoMemory>
         requires walk { IsWalkOf (form setting.now.pipe.now) b.old self.old }

@@ -13,7 +13,7 @@ ghost use Rattle.pdl_pipe_walk.specs.Parts.{taken_by, value_by, values_by};
 
 use crate::nets::WalkNets;
 use pdl_build::Builder;
-use pdl_form::{Expr, FlatPipe, Guard};
+use pdl_form::{FlatExpr, FlatGuard, FlatPipe};
 use pdl_kit::{NoMemory, Seq};
 use pdl_net::Net;
 use pdl_pipe_exprs::{Bits, exprs, guards as conditions};
@@ -35,7 +35,7 @@ impl WalkNets {
         b: &mut Builder,
         pipe: &FlatPipe,
         bits: Bits,
-        guards: &[Guard],
+        guards: &[FlatGuard],
     ) -> Result<Net, NoMemory>
         requires walk { IsWalkOf (form pipe.now) b.old self.now }
         requires bits { AreBits b.old bits }
@@ -48,7 +48,12 @@ impl WalkNets {
     }
 
     // The value of an expression.
-    pub(crate) fn value(&self, b: &mut Builder, pipe: &FlatPipe, e: &Expr) -> Result<Net, NoMemory>
+    pub(crate) fn value(
+        &self,
+        b: &mut Builder,
+        pipe: &FlatPipe,
+        e: &FlatExpr,
+    ) -> Result<Net, NoMemory>
         requires walk { IsWalkOf (form pipe.now) b.old self.now }
         requires typed { IsTyped (form pipe.now).widths (expr_view e.now) }
         ensures means { IfOk result (λ x. Means b.new x (value_by b.old self.now e.now)) }
@@ -65,7 +70,7 @@ impl WalkNets {
         alloc: Global,
         b: &mut Builder,
         pipe: &FlatPipe,
-        args: &[Expr],
+        args: &[FlatExpr],
     ) -> Result<Seq<Net>, NoMemory>
         requires walk { IsWalkOf (form pipe.now) b.old self.now }
         requires typed { AreArguments (form pipe.now).widths (param_widths (form pipe.now))

@@ -6,7 +6,7 @@ use Rattle.pdl_net.specs.Circuit.{Circuit, State}
 use Rattle.pdl_net.specs.Signal.{Signal, reg_signal, const_signal, mux_signal, mux_value, const_value, reg_value}
 use Rattle.pdl_net.specs.Meaning.{next_signal}
 use Rattle.pdl_lockapi.specs.Laws.{IsNext}
-use Rattle.pdl_port.specs.declared.layout.Layout.{Layout}
+use Rattle.pdl_port.specs.declared.layout.PortLayout.{PortLayout}
 use Rattle.pdl_port.specs.Port.{PortState, PortAct, owns}
 use Rattle.pdl_port.specs.Laws.{AnswerSignals, StepSignals, AreBits, Drives, StartLaw, AnswerLaw, FreeLaw, StepLaw}
 use Rattle.pdl_port.specs.Places.{AreReset, Stands, is_orphan, owns_at}
@@ -34,16 +34,16 @@ unfolding const_value
 zero_at s = refl
 
 -- the registers as signals
-orphan_at : (l : Layout) (s : State) (x : PortState) → Stands l s x → (reg_signal 1 l.from).value s ≡ bit (is_orphan x)
+orphan_at : (l : PortLayout) (s : State) (x : PortState) → Stands l s x → (reg_signal 1 l.from).value s ≡ bit (is_orphan x)
 unfolding reg_value
 orphan_at l s x h = h.orphan
 
-owner_at : (l : Layout) (s : State) (x : PortState) (k : ℕ) → Stands l s x → k < l.places → (owns_signal l k).value s ≡ bit (owns x k)
+owner_at : (l : PortLayout) (s : State) (x : PortState) (k : ℕ) → Stands l s x → k < l.places → (owns_signal l k).value s ≡ bit (owns x k)
 unfolding reg_value
 owner_at l s x k h i = h.owner k i
 
 -- registers at reset stand for a port at its start
-pub start_law : (c : Circuit) (l : Layout) → AreReset c l l.places → StartLaw (Stands l) c (own_all l)
+pub start_law : (c : Circuit) (l : PortLayout) → AreReset c l l.places → StartLaw (Stands l) c (own_all l)
 start_law c l r = record {
   starts = λ s h. record {
     below = λ k e. absurd (cc e);
@@ -53,7 +53,7 @@ start_law c l r = record {
 }
 
 -- the nets of the answers
-pub answer_law : (l : Layout) (reply word : Signal) (f : ℕ → AnswerSignals)
+pub answer_law : (l : PortLayout) (reply word : Signal) (f : ℕ → AnswerSignals)
     → ((k : ℕ) → k < l.places → f k ≡ place_signals l reply word k) → AnswerLaw (Stands l) l.places reply word f
 answer_law l reply word f same = record {
   answered = λ s x r w h p k i. ap (λ (g : AnswerSignals). g.answered.value s) (same k i) ∙ choose (owns_signal l k) reply (const_signal 1 1) s (owns x k) r true (owner_at l s x k h i) p.reply (one_at s);
@@ -66,7 +66,7 @@ answer_law l reply word f same = record {
     comes false r e = absurd (cc e)
 
 -- whether the port is free
-free_value : (l : Layout) (reply : Signal) (moves : ℕ → Signal) (s : State) (x : PortState) (r : Bool) (on : ℕ → Bool)
+free_value : (l : PortLayout) (reply : Signal) (moves : ℕ → Signal) (s : State) (x : PortState) (r : Bool) (on : ℕ → Bool)
     → Stands l s x → reply.value s ≡ bit r → AreBits l.places s moves on → (n : ℕ) → n ≤ l.places
     → (free_signal l reply moves n).value s ≡ bit (frees x r on n)
 unfolding free_signal
@@ -82,25 +82,25 @@ free_value l reply moves s x r on h e m (suc k) i =
     both false b = refl
 
 -- the net of whether a port is free keeps its law, where it means this signal
-pub free_law : (l : Layout) (reply : Signal) (moves : ℕ → Signal) (free : Signal)
+pub free_law : (l : PortLayout) (reply : Signal) (moves : ℕ → Signal) (free : Signal)
     → free ≡ free_signal l reply moves l.places → FreeLaw (Stands l) l.places reply moves free
 free_law l reply moves free same = record {
   holds = λ s x r on h p m. ap (λ (g : Signal). g.value s) same ∙ free_value l reply moves s x r on h p m l.places (omega arith) ∙ ap bit (frees_is x r on l.places h.below);
 }
 
 -- what the registers take next
-open_value : (l : Layout) (f : StepSignals) (s : State) (x : PortState) (a : PortAct) (k : ℕ) → Stands l s x
+open_value : (l : PortLayout) (f : StepSignals) (s : State) (x : PortState) (a : PortAct) (k : ℕ) → Stands l s x
     → Drives l.places f s a → k < l.places → (open_signal l f k).value s ≡ bit (if a.reply then false else owns x k)
 open_value l f s x a k h d i = choose f.reply (const_signal 1 0) (owns_signal l k) s a.reply false (owns x k) d.reply (zero_at s) (owner_at l s x k h i)
 
-owns_value : (l : Layout) (f : StepSignals) (s : State) (x : PortState) (a : PortAct) (k : ℕ) → Stands l s x
+owns_value : (l : PortLayout) (f : StepSignals) (s : State) (x : PortState) (a : PortAct) (k : ℕ) → Stands l s x
     → Drives l.places f s a → k < l.places
     → (next_owns l f k).value s ≡ bit (if a.asked k then true else still (a.removed k) a.reply (owns x k))
 owns_value l f s x a k h d i =
     choose (f.asked k) (const_signal 1 1) (mux_signal (f.removed k) (const_signal 1 0) (open_signal l f k)) s (a.asked k) true (still (a.removed k) a.reply (owns x k)) (d.asked k i) (one_at s)
     (choose (f.removed k) (const_signal 1 0) (open_signal l f k) s (a.removed k) false (if a.reply then false else owns x k) (d.removed k i) (zero_at s) (open_value l f s x a k h d i))
 
-orphan_value : (l : Layout) (f : StepSignals) (s : State) (x : PortState) (a : PortAct) → Stands l s x
+orphan_value : (l : PortLayout) (f : StepSignals) (s : State) (x : PortState) (a : PortAct) → Stands l s x
     → Drives l.places f s a → (n : ℕ) → n ≤ l.places → (orphan_signal l f n).value s ≡ bit (lost a x n)
 unfolding orphan_signal
 orphan_value l f s x a h d zero i = choose f.reply (const_signal 1 0) (reg_signal 1 l.from) s a.reply false (is_orphan x) d.reply (zero_at s) (orphan_at l s x h)
@@ -112,12 +112,12 @@ orphan_value l f s x a h d (suc k) i =
     before
 
 -- the register of a fragment after a cycle
-next_at : (c : Circuit) (l : Layout) (s t : State) (r : ℕ) (f : Signal) → IsNext c (own_all l) s t
+next_at : (c : Circuit) (l : PortLayout) (s t : State) (r : ℕ) (f : Signal) → IsNext c (own_all l) s t
     → l.from ≤ r → r < l.from + (l.places + 1) → next_signal c r ≡ f → slice_index t.regs r ≡ f.value s
 next_at c l s t r f n lo hi e = n.regs r lo hi ∙ ap (λ (g : Signal). g.value s) e
 
 -- a port keeps the law of its step, where its registers take what they should
-pub step_law : (c : Circuit) (l : Layout) (f : StepSignals) → NextPort c l f → StepLaw (Stands l) l.places (own_all l) c f
+pub step_law : (c : Circuit) (l : PortLayout) (f : StepSignals) → NextPort c l f → StepLaw (Stands l) l.places (own_all l) c f
 step_law c l f p = record {
   next = λ s t x a h d u n. record {
     below = λ k e. below_after a x l.places k h.below e;

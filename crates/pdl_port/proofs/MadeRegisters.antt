@@ -10,7 +10,7 @@ use Rattle.pdl_net.specs.Growth.{Extends}
 use Rattle.pdl_net.proofs.Keeps.{means_kept}
 use Rattle.pdl_build.specs.Change.{IsNewReg}
 use Rattle.pdl_port.specs.declared.Answer.{Answer}
-use Rattle.pdl_port.specs.declared.layout.Layout.{Layout}
+use Rattle.pdl_port.specs.declared.layout.PortLayout.{PortLayout}
 use Rattle.pdl_port.specs.Laws.{answer_in, no_answer}
 use Rattle.pdl_port.specs.Places.{HasPlaces, AreReset, owns_at}
 use Rattle.pdl_port.specs.Nets.{AreAnswers, answered_signal, given_signal}
@@ -24,7 +24,7 @@ pub numbers_more : (xs : List ℕ) (from n : ℕ)
 numbers_more xs from n e h = upto (λ k. get_or (xs ++ (from + n) ∷ []) k 0 ≡ from + k) n (get_or_push xs (from + n) 0 n e) (λ k lt. get_or_append_left xs ((from + n) ∷ []) 0 k (omega (arith, e, lt)) ∙ h k lt)
 
 -- a new register of an orphan is there for a port that has no place as yet
-pub places_none : (c : Circuit) (l : Layout) → IsNewReg c l.from 1 0 → HasPlaces c l 0
+pub places_none : (c : Circuit) (l : PortLayout) → IsNewReg c l.from 1 0 → HasPlaces c l 0
 places_none c l b = record {
   orphan_there = b.there;
   orphan = b.same;
@@ -37,8 +37,8 @@ places_none c l b = record {
 }
 
 -- with a new register for one place more the first k + 1 places have theirs
-pub places_more : (c d : Circuit) (l : Layout) (k : ℕ) → HasPlaces c l k → Extends c d → IsNewReg d (owns_at l k) 1 0
-    → HasPlaces d l (k + 1)
+pub places_more : (c d : Circuit) (l : PortLayout) (k : ℕ) → HasPlaces c l k → Extends c d
+    → IsNewReg d (owns_at l k) 1 0 → HasPlaces d l (k + 1)
 places_more c d l k h e o =
     let g = places_kept c d l k h e in
     record {
@@ -53,11 +53,11 @@ places_more c d l k h e o =
     }
 
 -- a new register of an orphan is 0 at reset, with no place as yet
-pub reset_none : (c : Circuit) (l : Layout) → IsNewReg c l.from 1 0 → AreReset c l 0
+pub reset_none : (c : Circuit) (l : PortLayout) → IsNewReg c l.from 1 0 → AreReset c l 0
 reset_none c l b = record { orphan = b.reset; owns = λ k h. absurd (omega arith) }
 
 -- with a new register for one place more all of the first k + 1 are 0 at reset
-pub reset_more : (c d : Circuit) (l : Layout) (k : ℕ) → HasPlaces c l k → AreReset c l k → Extends c d
+pub reset_more : (c d : Circuit) (l : PortLayout) (k : ℕ) → HasPlaces c l k → AreReset c l k → Extends c d
     → IsNewReg d (owns_at l k) 1 0 → AreReset d l (k + 1)
 reset_more c d l k h a e o =
     let g = reset_kept c d l k h a e in
@@ -67,7 +67,7 @@ reset_more c d l k h a e o =
     }
 
 -- the answers of one more place
-pub answers_none : (c : Circuit) (l : Layout) (reply word : Signal) → AreAnswers c l reply word [] 0
+pub answers_none : (c : Circuit) (l : PortLayout) (reply word : Signal) → AreAnswers c l reply word [] 0
 answers_none c l reply word = record {
   count = refl;
   answered = λ k h. absurd (omega arith);
@@ -76,7 +76,7 @@ answers_none c l reply word = record {
 }
 
 -- with the answers of one place more the nets of the first n + 1 places say what they should
-pub answers_more : (a b : Circuit) (l : Layout) (reply word : Signal) (xs : List Answer) (x : Answer) (n : ℕ)
+pub answers_more : (a b : Circuit) (l : PortLayout) (reply word : Signal) (xs : List Answer) (x : Answer) (n : ℕ)
     → AreAnswers a l reply word xs n → Extends a b → Means b x.answered (answered_signal l reply n)
     → Means b x.given (given_signal l reply n) → Means b x.value word → AreAnswers b l reply word (xs ++ x ∷ []) (n + 1)
 answers_more a b l reply word xs x n h e p q r =

@@ -9,11 +9,11 @@ use Rattle.pdl_net.proofs.Keeps.{extends_keeps, but_keeps}
 use Rattle.pdl_lockapi.specs.Laws.{OwnKept}
 use Rattle.pdl_port.specs.declared.PortRegs.{PortRegs}
 use Rattle.pdl_port.specs.declared.PortStep.{PortStep}
-use Rattle.pdl_port.specs.declared.layout.Layout.{Layout}
+use Rattle.pdl_port.specs.declared.layout.PortLayout.{PortLayout}
 use Rattle.pdl_port.specs.Laws.{places, own, IsFragment, HasBits, net_at}
 use Rattle.pdl_port.specs.Places.{HasPlaces, HasStep, AreReset, ArePlaced, layout_of, owns_at}
 
-places_keep : (a b : Circuit) (l : Layout) (n : ℕ) → HasPlaces a l n → Keeps a b → HasPlaces b l n
+places_keep : (a b : Circuit) (l : PortLayout) (n : ℕ) → HasPlaces a l n → Keeps a b → HasPlaces b l n
 places_keep a b l n x y = record {
   orphan_there = y.there (Reg l.from) x.orphan_there;
   orphan = y.kept (Reg l.from) x.orphan_there ∙ x.orphan;
@@ -26,15 +26,15 @@ places_keep a b l n x y = record {
 }
 
 -- the registers of a port stay while the circuit grows
-pub places_kept : (a b : Circuit) (l : Layout) (n : ℕ) → HasPlaces a l n → Extends a b → HasPlaces b l n
+pub places_kept : (a b : Circuit) (l : PortLayout) (n : ℕ) → HasPlaces a l n → Extends a b → HasPlaces b l n
 places_kept a b l n x y = places_keep a b l n x (extends_keeps a b y)
 
 -- the registers of a port stay while those of a fragment are told what they take next
-pub places_kept_but : (o : Own) (a b : Circuit) (l : Layout) (n : ℕ) → HasPlaces a l n → ExtendsBut o a b → HasPlaces b l n
+pub places_kept_but : (o : Own) (a b : Circuit) (l : PortLayout) (n : ℕ) → HasPlaces a l n → ExtendsBut o a b → HasPlaces b l n
 places_kept_but o a b l n x y = places_keep a b l n x (but_keeps o a b y)
 
 -- the reset values of a port's registers stay while the circuit grows
-pub reset_kept : (a b : Circuit) (l : Layout) (n : ℕ) → HasPlaces a l n → AreReset a l n → Extends a b → AreReset b l n
+pub reset_kept : (a b : Circuit) (l : PortLayout) (n : ℕ) → HasPlaces a l n → AreReset a l n → Extends a b → AreReset b l n
 reset_kept a b l n h x y = record {
   orphan = y.reset l.from h.has_orphan ∙ x.orphan;
   owns = λ k lt. y.reset (owns_at l k) (h.has_owns k lt) ∙ x.owns k lt;

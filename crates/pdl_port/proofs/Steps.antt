@@ -10,19 +10,19 @@ use Rattle.pdl_net.specs.Growth.{Keeps, Extends, ExtendsBut}
 use Rattle.pdl_build.specs.Change.{one_reg}
 use Rattle.pdl_port.specs.declared.PortRegs.{PortRegs}
 use Rattle.pdl_port.specs.declared.PortStep.{PortStep}
-use Rattle.pdl_port.specs.declared.layout.Layout.{Layout}
+use Rattle.pdl_port.specs.declared.layout.PortLayout.{PortLayout}
 use Rattle.pdl_port.specs.Laws.{StepSignals, step_signals, net_at}
 use Rattle.pdl_port.specs.Places.{HasPlaces, HasStep, owns_at}
 use Rattle.pdl_port.specs.Nets.{owns_signal, free_signal, open_signal, orphan_signal, next_owns, NextPlaces}
 use Rattle.pdl_word.proofs.Numbers.{upto}
 
-pub free_none : (l : Layout) (reply : Signal) (moves : ℕ → Signal)
+pub free_none : (l : PortLayout) (reply : Signal) (moves : ℕ → Signal)
     → free_signal l reply moves 0 ≡ mux_signal (reg_signal 1 l.from) reply (const_signal 1 1)
 unfolding free_signal
 free_none l reply moves = refl
 
 -- whether a port is free by the first k + 1 places, by whether it is by the first k
-pub free_more : (l : Layout) (reply : Signal) (moves : ℕ → Signal) (k : ℕ)
+pub free_more : (l : PortLayout) (reply : Signal) (moves : ℕ → Signal) (k : ℕ)
     → free_signal l reply moves (k + 1)
     ≡ mux_signal (owns_signal l k) (mux_signal reply (moves k) (const_signal 1 0)) (free_signal l reply moves k)
 unfolding free_signal
@@ -30,11 +30,11 @@ free_more l reply moves k = ap (free_signal l reply moves) (add-one k)
 
 pub ruleset frees = (free_none, free_more)
 
-pub orphan_none : (l : Layout) (f : StepSignals) → orphan_signal l f 0 ≡ mux_signal f.reply (const_signal 1 0) (reg_signal 1 l.from)
+pub orphan_none : (l : PortLayout) (f : StepSignals) → orphan_signal l f 0 ≡ mux_signal f.reply (const_signal 1 0) (reg_signal 1 l.from)
 unfolding orphan_signal
 orphan_none l f = refl
 
-pub orphan_more : (l : Layout) (f : StepSignals) (k : ℕ)
+pub orphan_more : (l : PortLayout) (f : StepSignals) (k : ℕ)
     → orphan_signal l f (k + 1)
     ≡ mux_signal (f.removed k) (mux_signal (open_signal l f k) (const_signal 1 1) (orphan_signal l f k)) (orphan_signal l f k)
 unfolding orphan_signal
@@ -60,15 +60,15 @@ same_step a b n r p x k = record {
 }
 
 -- what the register of a place takes next is the same by nets that mean the same
-pub owns_same : (l : Layout) (n : ℕ) (f g : StepSignals) (k : ℕ) → SameStep n f g → k < n → next_owns l f k ≡ next_owns l g k
+pub owns_same : (l : PortLayout) (n : ℕ) (f g : StepSignals) (k : ℕ) → SameStep n f g → k < n → next_owns l f k ≡ next_owns l g k
 owns_same l n f g k s h = let a = s.asked k h in let b = s.removed k h in let e = s.reply in cc
 
 -- the registers of the first n places take what they should by nets that mean the same
-pub places_same : (c : Circuit) (l : Layout) (n : ℕ) (f g : StepSignals) → SameStep n f g → NextPlaces c l f n → NextPlaces c l g n
+pub places_same : (c : Circuit) (l : PortLayout) (n : ℕ) (f g : StepSignals) → SameStep n f g → NextPlaces c l f n → NextPlaces c l g n
 places_same c l n f g s x = record { owns = λ k h. x.owns k h ∙ owns_same l n f g k s h }
 
 -- the register of one more place takes what it is to take
-pub places_next : (a b c : Circuit) (l : Layout) (n : ℕ) (f : StepSignals) (k : ℕ)
+pub places_next : (a b c : Circuit) (l : PortLayout) (n : ℕ) (f : StepSignals) (k : ℕ)
     → k < n → HasPlaces a l n → NextPlaces a l f k → Extends a b → ExtendsBut (one_reg (owns_at l k)) b c
     → next_signal c (owns_at l k) ≡ next_owns l f k → NextPlaces c l f (k + 1)
 places_next a b c l n f k h x y e o p = record {
@@ -76,11 +76,11 @@ places_next a b c l n f k h x y e o p = record {
 }
 
 -- no place, so nothing to take
-places_nothing : (c : Circuit) (l : Layout) (f : StepSignals) → NextPlaces c l f 0
+places_nothing : (c : Circuit) (l : PortLayout) (f : StepSignals) → NextPlaces c l f 0
 places_nothing c l f = record { owns = λ k h. absurd (omega arith) }
 
 -- whether an orphan is left by one place more
-pub orphan_net : (a b m n d : Circuit) (l : Layout) (r : PortRegs) (p : PortStep) (k : ℕ)
+pub orphan_net : (a b m n d : Circuit) (l : PortLayout) (r : PortRegs) (p : PortStep) (k : ℕ)
     (one nought orphan open_net left removed next : Net)
     → HasPlaces a l l.places → HasStep a l.places r p → k < l.places → Extends a b → Extends b m → Extends m n
     → Means b one (const_signal 1 1) → Means b nought (const_signal 1 0)

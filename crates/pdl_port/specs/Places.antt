@@ -7,20 +7,20 @@ use Rattle.pdl_net.specs.Signal.{reg_signal}
 use Rattle.pdl_net.specs.Meaning.{IsThere, signal}
 use Rattle.pdl_port.specs.declared.PortRegs.{PortRegs}
 use Rattle.pdl_port.specs.declared.PortStep.{PortStep}
-use Rattle.pdl_port.specs.declared.layout.Layout.{Layout}
+use Rattle.pdl_port.specs.declared.layout.PortLayout.{PortLayout}
 use Rattle.pdl_port.specs.Port.{PortState, Idle, Owned, Orphan, owns}
 use Rattle.pdl_port.specs.Laws.{places, first_reg, net_at}
 
 -- the register of place k
-abbrev pub owns_at : Layout → ℕ → ℕ
+abbrev pub owns_at : PortLayout → ℕ → ℕ
 owns_at l k = l.from + k + 1
 
 -- where the registers of a port stand
-abbrev pub layout_of : PortRegs → Layout
+abbrev pub layout_of : PortRegs → PortLayout
 layout_of r = record { from = first_reg r; places = places r }
 
 -- the orphan's register and those of the first n places are in a circuit
-pub record HasPlaces (c : Circuit) (l : Layout) (n : ℕ) : Type 0 where
+pub record HasPlaces (c : Circuit) (l : PortLayout) (n : ℕ) : Type 0 where
   pub orphan_there : IsThere c (Reg l.from)
   pub orphan : signal c (Reg l.from) ≡ reg_signal 1 l.from
   pub has_orphan : HasReg c l.from
@@ -31,7 +31,7 @@ pub record HasPlaces (c : Circuit) (l : Layout) (n : ℕ) : Type 0 where
   pub owns_one : (k : ℕ) → k < n → reg_width c (owns_at l k) ≡ 1
 
 -- in the first cycle no request is outstanding
-pub record AreReset (c : Circuit) (l : Layout) (n : ℕ) : Type 0 where
+pub record AreReset (c : Circuit) (l : PortLayout) (n : ℕ) : Type 0 where
   pub orphan : reg_reset c l.from ≡ 0
   pub owns : (k : ℕ) → k < n → reg_reset c (owns_at l k) ≡ 0
 
@@ -68,7 +68,7 @@ abbrev pub reg_of : State → ℕ → ℕ
 reg_of s k = slice_index s.regs k
 
 -- the registers stand for a state of the port
-pub record Stands (l : Layout) (s : State) (x : PortState) : Type 0 where
+pub record Stands (l : PortLayout) (s : State) (x : PortState) : Type 0 where
   pub below : (k : ℕ) → x ≡ Owned k → k < l.places
   pub orphan : reg_of s l.from ≡ bit (is_orphan x)
   pub owner : (k : ℕ) → k < l.places → reg_of s (owns_at l k) ≡ bit (owns x k)

@@ -7,7 +7,7 @@ ghost use Rattle.pdl_port.specs.Places.{HasPlaces, ArePlaced, stands};
 ghost use Rattle.pdl_port.specs.Nets.{free_signal};
 
 use crate::PortRegs;
-use crate::layout::Layout;
+use crate::layout::PortLayout;
 use pdl_build::Builder;
 use pdl_kit::{NoMemory, Seq};
 use pdl_net::Net;
@@ -22,7 +22,7 @@ pub fn net(nets: &Seq<Net>, k: usize) -> Net
 
 /// Whether the port is free, over the places from the first on.
 #[tactic(auto, using(crate::proofs::Steps::frees, crate::proofs::PortGrowth::places_kept, crate::proofs::PortGrowth::bits_kept))]
-fn emit_free(b: &mut Builder, l: Layout, reply: Net, moves: &Seq<Net>) -> Result<Net, NoMemory>
+fn emit_free(b: &mut Builder, l: PortLayout, reply: Net, moves: &Seq<Net>) -> Result<Net, NoMemory>
     requires small { l.from + l.places + 1 < 2 ^ 64 }
     requires places { HasPlaces b.old l l.places }
     requires reply_there { IsThere b.old reply }
@@ -54,7 +54,7 @@ pub fn emit_port_free(b: &mut Builder, r: &PortRegs, moves: &Seq<Net>) -> Result
         (signal_at b.old moves.now) (signal b.new x)) }
     ensures extends { Extends b.old b.new }
 {
-    let l = Layout::of(r);
+    let l = PortLayout::of(r);
     let free = emit_free(b, l, r.reply, moves)?;
     Ok(free)
 }

@@ -6,7 +6,7 @@ ghost use Rattle.pdl_port.specs.Laws.{places, own, IsFragment, HasAnswerNets, St
 ghost use Rattle.pdl_port.specs.Places.{HasPlaces, AreReset, ArePlaced, stands};
 ghost use Rattle.pdl_port.specs.Nets.{answered_signal, given_signal, AreAnswers};
 
-use crate::layout::Layout;
+use crate::layout::PortLayout;
 use crate::{Answer, PortRegs};
 use pdl_build::Builder;
 use pdl_kit::{MemInfo, NoMemory, Seq};
@@ -28,7 +28,7 @@ fn numbers(alloc: Global, from: usize, count: usize) -> Result<Seq<usize>, NoMem
 
 /// The registers of a port.
 #[tactic(auto, using(crate::proofs::MadeRegisters::places_none, crate::proofs::MadeRegisters::places_more, crate::proofs::MadeRegisters::reset_none, crate::proofs::MadeRegisters::reset_more))]
-fn emit_registers(b: &mut Builder, l: Layout) -> Result<(), NoMemory>
+fn emit_registers(b: &mut Builder, l: PortLayout) -> Result<(), NoMemory>
     requires from { l.from ≡ length b.old.regs }
     ensures small { OnOk result (l.from + l.places + 1 < 2 ^ 64) }
     ensures count { OnOk result (length b.new.regs ≡ l.from + l.places + 1) }
@@ -47,7 +47,7 @@ fn emit_registers(b: &mut Builder, l: Layout) -> Result<(), NoMemory>
 /// What a port tells of place k.
 fn emit_answer(
     b: &mut Builder,
-    l: Layout,
+    l: PortLayout,
     reply: Net,
     word: Net,
     k: usize,
@@ -82,7 +82,7 @@ fn emit_answer(
 fn emit_answers(
     alloc: Global,
     b: &mut Builder,
-    l: Layout,
+    l: PortLayout,
     reply: Net,
     word: Net,
 ) -> Result<Seq<Answer>, NoMemory>
@@ -129,7 +129,7 @@ pub fn emit_port_state(
         (answer_signals b.new r)) }
     ensures extends { Extends b.old b.new }
 {
-    let l = Layout {
+    let l = PortLayout {
         from: b.reg_count(),
         places: next_stages as usize,
     };

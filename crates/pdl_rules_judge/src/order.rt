@@ -22,7 +22,7 @@ use pdl_paths::{Guards, Place, places};
 use pdl_rules_forks::forks_broken;
 use pdl_rules_limits::check_limits;
 use pdl_rules_names::check_names;
-use pdl_rules_stages::{Sought, first_stage};
+use pdl_rules_stages::{SoughtPlace, first_stage};
 use pdl_rules_walk::{Both, broken_lines};
 use pdl_rules_widths::{Variables, widths_broken};
 use pdl_spec::{SpecLines, SpecPlan, plan_spec, spec_path_rules};
@@ -81,7 +81,7 @@ fn within(alloc: Global, pipe: &Pipe, places: Vec<Place<'_>>) -> Result<Findings
     let all = places.as_slice();
     let variables = Variables::of(alloc, pipe.mems.as_slice(), all)?;
     let facts = LockFacts::of(alloc, pipe, all)?;
-    let verified = first_stage(all, facts.stages.as_slice(), Sought::Verify);
+    let verified = first_stage(all, facts.stages.as_slice(), SoughtPlace::Verify);
     let known = Known {
         guards: &guards,
         places: all,

@@ -12,7 +12,7 @@ ghost use Rattle.pdl_rules_names.specs.Ready.{Suits, SuitsPaths};
 ghost use Rattle.pdl_rules_names.specs.Order.{name_rules};
 
 use crate::index::Index;
-use crate::rules::{Taken, TooEarly, Undefined};
+use crate::rules::{TakenName, TooEarly, Undefined};
 use pdl_kit::{NoMemory, Rule};
 use pdl_paths::{Guards, Place};
 use pdl_rules_on_texts::{Broken, line_broken};
@@ -121,7 +121,7 @@ fn taken_at(
     ensures { IfOk result (λ line. line
         ≡ broken_line names.N2 (pipe_view pipe.now) [] (spec_places (pipe_view pipe.now))) }
 {
-    line_broken(alloc, &Taken { pipe, index }, places)
+    line_broken(alloc, &TakenName { pipe, index }, places)
 }
 
 // The line that breaks N3, where no name is defined twice.

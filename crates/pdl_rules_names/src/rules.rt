@@ -29,7 +29,7 @@ pub struct Undefined<'a> {
 
 /// N2: a name that is taken, by the pipe or by a place before.
 #[derive(Clone, Copy)]
-pub struct Taken<'a> {
+pub struct TakenName<'a> {
     pub pipe: &'a Pipe,
     pub index: &'a Index,
 }
@@ -114,7 +114,7 @@ fn names_another_pipe(pipe: &Pipe, place: &Place<'_>) -> bool
     }
 }
 
-impl TextRule for Taken<'_> {
+impl TextRule for TakenName<'_> {
     type State = ();
 
     ghost fits = { λ rule xs. Suits rule.pipe.now rule.index.now xs };

@@ -3,7 +3,7 @@ use Rattle.std.specs.Prelude.{◌≡◌, Bool, true, false, List}
 use Rattle.pdl_rules.specs.Places.{Place}
 use Rattle.pdl_rules.specs.Stages.{stage_of, is_elsewhere, breaks_l2}
 use Rattle.pdl_rules.specs.Speculation.{breaks_s3}
-use Rattle.pdl_rules_stages.specs.declared.first.Sought.{Sought}
+use Rattle.pdl_rules_stages.specs.declared.first.SoughtPlace.{SoughtPlace}
 use Rattle.pdl_rules_stages.specs.declared.astray.Kinds.{Kinds}
 use Rattle.pdl_rules_stages.specs.declared.astray.Kinds.TheVariants.{Locks, Verifies}
 use Rattle.pdl_rules_stages.specs.Stages.{is_sought}
@@ -18,6 +18,6 @@ abbrev pub IsUnasked : Kinds → Place → Type 0
 IsUnasked kinds x = (before : List Place) → is_astray kinds before x ≡ false
 
 -- and one that is of this kind, and breaks it where it stands elsewhere than the first of the kind
-pub record IsAsked (kinds : Kinds) (sought : Sought) (x : Place) : Type 0 where
+pub record IsAsked (kinds : Kinds) (sought : SoughtPlace) (x : Place) : Type 0 where
   pub is_one : is_sought sought x ≡ true
   pub where_astray : (before : List Place) → is_astray kinds before x ≡ is_elsewhere (is_sought sought) before (stage_of before x)

@@ -3,8 +3,8 @@ use Rattle.std.specs.Prelude.{ℕ, Bool, true, List, []}
 use Rattle.pdl_rules.specs.Places.{Place}
 use Rattle.pdl_rules.specs.Stages.{stages_that, reserves_memory, releases_memory}
 use Rattle.pdl_rules.specs.Speculation.{is_verify}
-use Rattle.pdl_rules_stages.specs.declared.first.Sought.{Sought}
-use Rattle.pdl_rules_stages.specs.declared.first.Sought.TheVariants.{Reserve, Release, Verify}
+use Rattle.pdl_rules_stages.specs.declared.first.SoughtPlace.{SoughtPlace}
+use Rattle.pdl_rules_stages.specs.declared.first.SoughtPlace.TheVariants.{Reserve, Release, Verify}
 
 -- each place, as a test that all pass
 abbrev pub each : Place → Bool
@@ -15,7 +15,7 @@ abbrev pub stages_in : List Place → List ℕ
 stages_in xs = stages_that each [] xs
 
 -- whether a place is of the kind
-abbrev pub is_sought : Sought → Place → Bool
+abbrev pub is_sought : SoughtPlace → Place → Bool
 is_sought (Reserve m) x = reserves_memory m.now x
 is_sought (Release m) x = releases_memory m.now x
 is_sought Verify x = is_verify x

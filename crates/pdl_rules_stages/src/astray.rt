@@ -7,7 +7,7 @@ ghost use Rattle.pdl_rules_stages.specs.Stages.{stages_in};
 ghost use Rattle.pdl_rules_stages.specs.declared.astray.Kinds.TheVariants as asked;
 ghost use Rattle.pdl_rules_stages.specs.Astray.{is_astray as spec_is_astray, IsAsked, IsUnasked};
 
-use crate::first::{Sought, first_stage};
+use crate::first::{SoughtPlace, first_stage};
 use crate::stages::stage_at;
 use pdl_paths::{Action, Place};
 
@@ -52,7 +52,7 @@ fn is_elsewhere(first: Option<usize>, stage: usize) -> bool
 }
 
 // The kind of a place, where it is asked.
-fn sought_at<'a>(kinds: Kinds, place: &Place<'a>) -> Option<Sought<'a>>
+fn sought_at<'a>(kinds: Kinds, place: &Place<'a>) -> Option<SoughtPlace<'a>>
     ensures { MatchOption result (IsUnasked kinds (place_view place.now)) (λ sought.
         IsAsked kinds sought (place_view place.now)) }
 {
@@ -62,13 +62,13 @@ fn sought_at<'a>(kinds: Kinds, place: &Place<'a>) -> Option<Sought<'a>>
     }
 }
 
-fn lock_at<'a>(place: &Place<'a>) -> Option<Sought<'a>>
+fn lock_at<'a>(place: &Place<'a>) -> Option<SoughtPlace<'a>>
     ensures { MatchOption result (IsUnasked asked.Locks (place_view place.now)) (λ sought.
         IsAsked asked.Locks sought (place_view place.now)) }
 {
     match place.action {
-        Action::Reserve(at, _) => Some(Sought::Reserve(&at.mem.name)),
-        Action::Release(at) => Some(Sought::Release(&at.mem.name)),
+        Action::Reserve(at, _) => Some(SoughtPlace::Reserve(&at.mem.name)),
+        Action::Release(at) => Some(SoughtPlace::Release(&at.mem.name)),
         Action::Parameter(_) | Action::Memory(_) | Action::Separator => None,
         Action::CombRead(_, _) | Action::Bind(_, _) | Action::DelayedRead(_, _) => None,
         Action::Write(_, _) | Action::SpecCall(_, _) | Action::Block(_) => None,
@@ -77,12 +77,12 @@ fn lock_at<'a>(place: &Place<'a>) -> Option<Sought<'a>>
     }
 }
 
-fn verify_at<'a>(place: &Place<'a>) -> Option<Sought<'a>>
+fn verify_at<'a>(place: &Place<'a>) -> Option<SoughtPlace<'a>>
     ensures { MatchOption result (IsUnasked asked.Verifies (place_view place.now)) (λ sought.
         IsAsked asked.Verifies sought (place_view place.now)) }
 {
     match place.action {
-        Action::Verify(_, _) => Some(Sought::Verify),
+        Action::Verify(_, _) => Some(SoughtPlace::Verify),
         Action::Parameter(_) | Action::Memory(_) | Action::Separator => None,
         Action::CombRead(_, _) | Action::Bind(_, _) | Action::DelayedRead(_, _) => None,
         Action::Write(_, _) | Action::SpecCall(_, _) | Action::Block(_) => None,

@@ -11,14 +11,14 @@ use pdl_paths::{Action, Place};
 
 /// A kind of place: those that reserve a memory, those that release it, or those that verify a guess.
 #[derive(Clone, Copy)]
-pub enum Sought<'a> {
+pub enum SoughtPlace<'a> {
     Reserve(&'a Name),
     Release(&'a Name),
     Verify,
 }
 
 /// The stage of the first place of a kind, none where the text has no such place. The stages are those of the places.
-pub fn first_stage(places: &[Place<'_>], stages: &[usize], sought: Sought<'_>) -> Option<usize>
+pub fn first_stage(places: &[Place<'_>], stages: &[usize], sought: SoughtPlace<'_>) -> Option<usize>
     requires { stages.now ≡ stages_in (map place_view places.now) }
     ensures { result ≡ spec.first_stage (is_sought sought.entry) [] (map place_view places.now) }
 {
@@ -31,13 +31,13 @@ pub fn first_stage(places: &[Place<'_>], stages: &[usize], sought: Sought<'_>) -
 }
 
 /// Whether a place is of a kind.
-pub fn is_of(place: &Place<'_>, sought: Sought<'_>) -> bool
+pub fn is_of(place: &Place<'_>, sought: SoughtPlace<'_>) -> bool
     ensures { result ≡ is_sought sought.entry (place_view place.now) }
 {
     match sought {
-        Sought::Reserve(name) => is_reserve_of(place, name),
-        Sought::Release(name) => is_release_of(place, name),
-        Sought::Verify => is_verify(place),
+        SoughtPlace::Reserve(name) => is_reserve_of(place, name),
+        SoughtPlace::Release(name) => is_release_of(place, name),
+        SoughtPlace::Verify => is_verify(place),
     }
 }
 

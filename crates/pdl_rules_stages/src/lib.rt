@@ -11,5 +11,5 @@ pub mod stages;
 
 pub use along::{all_true, among, begun_before, next_on};
 pub use astray::{Kinds, astray_line};
-pub use first::{Sought, first_stage};
+pub use first::{SoughtPlace, first_stage};
 pub use stages::{stage_at, stage_in, stages_of};

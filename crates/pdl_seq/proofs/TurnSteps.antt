@@ -3,7 +3,7 @@ use Rattle.std.proofs.Common.{◌≡◌, sym, ap, ◌∙◌, subst, ℕ, zero, s
 use Rattle.std.proofs.lemmas.List.{drop_more}
 use Rattle.pdl_semantics.specs.Flat.{Op, Bind, CombRead, DelayedRead, Write, ReserveRead, ReserveWrite, Block, Release, Call, SpecCall, Verify, SpecCheck, SpecBarrier, Stmt, Commit, all_hold}
 use Rattle.pdl_semantics.specs.Sequential.{Run, run_after, run_all}
-use Rattle.pdl_form.specs.declared.form.Stmt as r_stmt
+use Rattle.pdl_form.specs.declared.form.FlatStmt as r_stmt
 use Rattle.pdl_form.specs.View.{stmt_view, stmts_view}
 use Rattle.pdl_form.specs.Form.{Form}
 use Rattle.pdl_form_types.specs.Stmts.{IsTypedStmt, AreTypedStmts}
@@ -40,20 +40,20 @@ writes_grow (x ∷ xs) r =
 -- THE STATEMENT THAT COMES NEXT
 
 -- the statements from here on begin with this one
-pub next_stmt : (items : List r_stmt.Stmt) (i : ℕ) (x : r_stmt.Stmt)
+pub next_stmt : (items : List r_stmt.FlatStmt) (i : ℕ) (x : r_stmt.FlatStmt)
     → i < length items → x ≡ get_or items i x
     → stmts_view (drop i items) ≡ stmt_view x ∷ stmts_view (drop (i + 1) items)
-next_stmt items i x h e = ap stmts_view (drop_more items i x h) ∙ ap (λ (y : r_stmt.Stmt). stmt_view y ∷ stmts_view (drop (i + 1) items)) (sym e)
+next_stmt items i x h e = ap stmts_view (drop_more items i x h) ∙ ap (λ (y : r_stmt.FlatStmt). stmt_view y ∷ stmts_view (drop (i + 1) items)) (sym e)
 
-typed_at : (f : Form) (items : List r_stmt.Stmt) (i : ℕ) (x : r_stmt.Stmt) → AreTypedStmts f (stmts_view items)
+typed_at : (f : Form) (items : List r_stmt.FlatStmt) (i : ℕ) (x : r_stmt.FlatStmt) → AreTypedStmts f (stmts_view items)
     → i < length items → IsTypedStmt f (stmt_view (get_or items i x))
 typed_at f [] i x t h = absurd (omega arith)
 typed_at f (y ∷ items) zero x t h = t.0
 typed_at f (y ∷ items) (suc i) x t h = typed_at f items i x t.1 (omega arith)
 
 -- and it is typed
-pub typed_next : (f : Form) (items : List r_stmt.Stmt) (i : ℕ) (x : r_stmt.Stmt)
+pub typed_next : (f : Form) (items : List r_stmt.FlatStmt) (i : ℕ) (x : r_stmt.FlatStmt)
     → stmts_view items ≡ f.pipe.stmts → AreTypedStmts f f.pipe.stmts → i < length items → x ≡ get_or items i x
     → IsTypedStmt f (stmt_view x)
 typed_next f items i x seen t h e =
-    subst (λ (y : r_stmt.Stmt). IsTypedStmt f (stmt_view y)) (sym e) (typed_at f items i x (subst (AreTypedStmts f) (sym seen) t) h)
+    subst (λ (y : r_stmt.FlatStmt). IsTypedStmt f (stmt_view y)) (sym e) (typed_at f items i x (subst (AreTypedStmts f) (sym seen) t) h)

@@ -9,11 +9,11 @@ ghost use Rattle.pdl_seq.specs.Turns.{run_view, rooms, list_at, shape, IsSafeOp}
 use crate::commit::Commit;
 use crate::turn::Turn;
 use crate::words::Words;
-use pdl_form::{Expr, Op};
+use pdl_form::{FlatExpr, Op};
 use pdl_form_values::{value_of, values_of, variable};
 
 // A variable is bound to the value of an expression.
-fn bind(x: usize, e: &Expr, values: &mut [u64])
+fn bind(x: usize, e: &FlatExpr, values: &mut [u64])
     requires there { x < length values.old }
     requires safe { IsSafe (expr_view e.now) values.old }
     ensures { values.new ≡ slice_set values.old x (spec_value_of (expr_view e.now) values.old) }
@@ -45,7 +45,7 @@ fn put_word(memories: &mut [Words], m: usize, address: u64, value: u64)
 }
 
 // A write is done, and noted.
-fn write(m: usize, a: usize, e: &Expr, turn: &mut Turn)
+fn write(m: usize, a: usize, e: &FlatExpr, turn: &mut Turn)
     requires safe { IsSafe (expr_view e.now) turn.old.values.items }
     requires memory { m < length turn.old.memories.items }
     requires word { slice_index turn.old.values.items a

@@ -33,7 +33,7 @@ pub struct SeqRun<'p> {
 
 impl<'p> Model for SeqRun<'p> {
     ghost use Rattle.std.specs.Coded.{codes};
-    ghost use Rattle.pdl_form.specs.contracts.form.Expr as expr;
+    ghost use Rattle.pdl_form.specs.contracts.form.FlatExpr as expr;
     ghost use Rattle.pdl_seq.specs.Runs.{Running};
 
     ghost Value = { Running };

@@ -11,7 +11,7 @@ ghost use Rattle.pdl_seq.specs.Runs.{IsRunnable};
 use crate::act::act;
 use crate::commit::Commit;
 use crate::words::Words;
-use pdl_form::{FlatPipe, Stmt};
+use pdl_form::{FlatPipe, FlatStmt};
 use pdl_form_values::are_taken;
 
 /// A thread on its way: the words of the memories, its variables, the next thread's arguments, and its writes so far.
@@ -24,7 +24,7 @@ pub struct Turn {
 }
 
 // A statement is carried out where its guards hold.
-fn run_stmt(stmt: &Stmt, turn: &mut Turn)
+fn run_stmt(stmt: &FlatStmt, turn: &mut Turn)
     requires safe { all_hold (stmt_view stmt.now).guards turn.old.values.items ≡ true →
         IsSafeOp turn.old.memories.items (rooms turn.old).next
         (stmt_view stmt.now).op turn.old.values.items }

@@ -3,7 +3,7 @@ use Rattle.std.proofs.Common.{◌≡◌, refl, ℕ, Bool, true, false, ◌&&◌,
 use Rattle.std.proofs.lemmas.Bool.{and_parts}
 use Rattle.pdl_semantics.specs.Tree.{Expr, Pipe}
 use Rattle.pdl_syntax_tokens.specs.Tokens.{Row, piece_at, tokens}
-use Rattle.pdl_syntax_cursor.specs.declared.limits.Counts.{Counts}
+use Rattle.pdl_syntax_cursor.specs.declared.limits.LimitCounts.{LimitCounts}
 use Rattle.pdl_syntax_cursor.specs.Limits.{counts_after, is_within, AreWithin, at_start}
 use Rattle.pdl_syntax_grammar.specs.Grammar.{last, Level, Full, whole, tighter, inverted, variable, branching, calling, none, more, parameter, unlocked, memory, given, starting, text}
 use Rattle.pdl_syntax_grammar.specs.Text.{IsText}
@@ -20,11 +20,11 @@ alone : {e : Expr} {a r : Row} → Level 0 e a r → Full e a r
 alone l = whole (tighter (tighter (tighter (tighter (tighter (tighter (tighter (tighter l))))))))
 
 -- whether the counts stay within the limits
-abbrev stays : Counts → Row → Bool
+abbrev stays : LimitCounts → Row → Bool
 stays c [] = true
 stays c (t ∷ ts) = is_within (counts_after c t.kind) && stays (counts_after c t.kind) ts
 
-within_of : (c : Counts) (ts : Row) → stays c ts ≡ true → AreWithin c ts
+within_of : (c : LimitCounts) (ts : Row) → stays c ts ≡ true → AreWithin c ts
 within_of c [] e = tt
 within_of c (t ∷ ts) e = let h = and_parts (is_within (counts_after c t.kind)) (stays (counts_after c t.kind) ts) e in (h.0, within_of (counts_after c t.kind) ts h.1)
 

@@ -16,7 +16,7 @@ use crate::plan::SpecPlan;
 use pdl_kit::{NoMemory, Refusal, Rule};
 use pdl_locks::{LockFacts, refuse};
 use pdl_paths::{Guards, Place};
-use pdl_rules_stages::{Kinds, Sought, astray_line, first_stage};
+use pdl_rules_stages::{Kinds, SoughtPlace, astray_line, first_stage};
 use pdl_rules_walk::broken_lines;
 use pdl_syntax_tree::Pipe;
 use std::alloc::Global;
@@ -39,7 +39,7 @@ pub fn check_spec(
         × (plan ≡ verify_stage (pipe_view pipe.now))) (Tells spec_rules (pipe_view pipe.now)) }
 {
     let facts = LockFacts::of(alloc, pipe, places)?;
-    let verified = first_stage(places, facts.stages.as_slice(), Sought::Verify);
+    let verified = first_stage(places, facts.stages.as_slice(), SoughtPlace::Verify);
     let lines = spec_lines(alloc, &*pipe, &*guards, &*places, &facts, verified)?;
     plan_spec(pipe, places, &facts, verified, &lines)
 }

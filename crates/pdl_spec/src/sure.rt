@@ -13,7 +13,7 @@ use pdl_locks::{LocationUse, number_of, pass, use_at};
 use pdl_paths::{Action, Path, Place};
 use pdl_rules_on_paths::PathRule;
 use pdl_rules_stages::stage_at;
-use pdl_syntax_tree::Kind;
+use pdl_syntax_tree::AccessKind;
 use std::alloc::Global;
 
 /// A reservation to write is released in the stage that verifies guesses or later, or after a `spec_barrier`.
@@ -91,7 +91,7 @@ fn is_unsure(used: LocationUse, barrier: bool, place: &Place<'_>) -> bool
         result ≡ spec.releases_unsure earlier (place_view place.now) }
 {
     match place.action {
-        Action::Release(_) => used.hold.is_held_for(Kind::W) && !barrier,
+        Action::Release(_) => used.hold.is_held_for(AccessKind::W) && !barrier,
         Action::Parameter(_) | Action::Memory(_) | Action::Separator | Action::Bind(_, _) => false,
         Action::CombRead(_, _) | Action::DelayedRead(_, _) | Action::Write(_, _) => false,
         Action::SpecCall(_, _) | Action::Block(_) | Action::Reserve(_, _) => false,

@@ -5,7 +5,7 @@ ghost use Rattle.pdl_form.specs.View.{stages_view, next_view};
 ghost use Rattle.pdl_form.specs.FormView.{form};
 ghost use Rattle.pdl_stages.specs.Graph.{of_stages};
 
-use pdl_form::{FlatPipe, Next, Stage};
+use pdl_form::{FlatPipe, FlatStage, Next};
 use pdl_kit::NoMemory;
 use std::alloc::Global;
 
@@ -20,7 +20,7 @@ pub fn depth(alloc: Global, pipe: &FlatPipe) -> Result<usize, NoMemory>
 }
 
 // The variables of the forks.
-fn fork_guards(alloc: Global, all: &[Stage]) -> Result<Vec<usize>, NoMemory>
+fn fork_guards(alloc: Global, all: &[FlatStage]) -> Result<Vec<usize>, NoMemory>
     ensures { IfOk result (λ gs. gs.items ≡ stages.fork_guards (stages_view all.now)) }
 {
     let mut guards = Vec::new(alloc);
@@ -34,7 +34,7 @@ fn fork_guards(alloc: Global, all: &[Stage]) -> Result<Vec<usize>, NoMemory>
 
 // The greatest number of stages over all truth values of these guards.
 #[cycle(longest)]
-fn longest(all: &[Stage], path: &mut [u64], guards: &[usize]) -> usize
+fn longest(all: &[FlatStage], path: &mut [u64], guards: &[usize]) -> usize
     ensures value { result ≡ stages.longest (of_stages (stages_view all.now)) path.old guards.now }
     ensures kept { path.new ≡ path.old }
 {
@@ -46,7 +46,7 @@ fn longest(all: &[Stage], path: &mut [u64], guards: &[usize]) -> usize
 
 // The same of a guard and the rest of them. A guard that comes again counts where it comes last.
 #[cycle(longest)]
-fn longest_over(all: &[Stage], path: &mut [u64], x: usize, rest: &[usize]) -> usize
+fn longest_over(all: &[FlatStage], path: &mut [u64], x: usize, rest: &[usize]) -> usize
     ensures value { result ≡ stages.longest (of_stages (stages_view all.now)) path.old
         (x ∷ rest.now) }
     ensures kept { path.new ≡ path.old }
@@ -64,7 +64,7 @@ fn longest_over(all: &[Stage], path: &mut [u64], x: usize, rest: &[usize]) -> us
 
 // The same where a guard has this truth value.
 #[cycle(longest)]
-fn longest_where(all: &[Stage], path: &mut [u64], x: usize, truth: u64, rest: &[usize]) -> usize
+fn longest_where(all: &[FlatStage], path: &mut [u64], x: usize, truth: u64, rest: &[usize]) -> usize
     requires { x < length path.old }
     ensures value { result ≡ stages.longest (of_stages (stages_view all.now))
         (slice_set path.old x truth) rest.now }
@@ -78,7 +78,7 @@ fn longest_where(all: &[Stage], path: &mut [u64], x: usize, truth: u64, rest: &[
 }
 
 // How many stages a thread comes to on a path.
-fn stages_on(all: &[Stage], path: &[u64]) -> usize
+fn stages_on(all: &[FlatStage], path: &[u64]) -> usize
     ensures { result ≡ stages.stages_on (of_stages (stages_view all.now)) path.now
         (length all.now) 0 }
 {
@@ -93,7 +93,7 @@ fn stages_on(all: &[Stage], path: &[u64]) -> usize
 }
 
 // The stage that a thread goes to from this one on a path.
-fn next_of(all: &[Stage], stage: usize, path: &[u64]) -> Option<usize>
+fn next_of(all: &[FlatStage], stage: usize, path: &[u64]) -> Option<usize>
     ensures { result ≡ stages.goes_to (stages.stage_at (of_stages (stages_view all.now)) stage).next
         path.now }
 {

@@ -8,7 +8,7 @@ ghost use Rattle.pdl_stages.specs.Forks.{forks_view};
 
 use crate::depth::depth;
 use crate::fork::Fork;
-use pdl_form::{FlatPipe, Next, Stage};
+use pdl_form::{FlatPipe, FlatStage, Next};
 use pdl_kit::NoMemory;
 use std::alloc::Global;
 use std::marker::Model;
@@ -16,7 +16,7 @@ use std::marker::Model;
 /// The stages of a pipe, numbered from 0 in the order in which they begin in the text, its forks, and the stage of each of its places.
 #[derive(Drop)]
 pub struct StageGraph {
-    stages: Vec<Stage>,
+    stages: Vec<FlatStage>,
     forks: Vec<Fork>,
     places: Vec<usize>,
     depth: usize,
@@ -38,7 +38,7 @@ impl Model for StageGraph {
 }
 
 // The forks of these stages, in the order of their merges.
-fn forks_of(alloc: Global, stages: &[Stage]) -> Result<Vec<Fork>, NoMemory>
+fn forks_of(alloc: Global, stages: &[FlatStage]) -> Result<Vec<Fork>, NoMemory>
     ensures { IfOk result (λ fs. forks_view fs.items ≡ forks_in 0 (stages_view stages.now)) }
 {
     let mut forks = Vec::new(alloc);

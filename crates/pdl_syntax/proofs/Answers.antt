@@ -6,8 +6,8 @@ use Rattle.pdl_kit.specs.declared.rule.Rule.TheVariants.{Z1}
 use Rattle.pdl_semantics.specs.Tree.{Pipe}
 use Rattle.pdl_syntax_tree.specs.declared.tree.Pipe as r_pipe
 use Rattle.pdl_syntax_tree.specs.View.{pipe_view}
-use Rattle.pdl_syntax_grammar.specs.declared.error.ReadError.{ReadError}
-use Rattle.pdl_syntax_grammar.specs.declared.error.ReadError.TheVariants as read
+use Rattle.pdl_syntax_grammar.specs.declared.error.GrammarError.{GrammarError}
+use Rattle.pdl_syntax_grammar.specs.declared.error.GrammarError.TheVariants as read
 use Rattle.pdl_syntax_grammar.specs.Text as grammar
 use Rattle.pdl_syntax_grammar.specs.Text.{IsText, IsOutOfPlace}
 use Rattle.pdl_syntax_grammar.proofs.Places.{one_tree, apart, one_place}
@@ -21,7 +21,7 @@ too_long bytes p h t = (p, t, grind (arith, nat_tests))
 pub short_enough : (bytes : List ℕ) (p : Pipe) → length bytes ≤ 1048576 → broken_limit bytes p ≡ None
 short_enough bytes p h = grind (arith, nat_tests)
 
-pub read_refusal : (bytes : List ℕ) (e : ReadError) → grammar.IsRefused bytes (Err e) → IsRefusal bytes (refusal e)
+pub read_refusal : (bytes : List ℕ) (e : GrammarError) → grammar.IsRefused bytes (Err e) → IsRefusal bytes (refusal e)
 read_refusal bytes (read.Misplaced line) h = h
 read_refusal bytes read.NoMemory h = tt
 

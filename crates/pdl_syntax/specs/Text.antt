@@ -5,14 +5,14 @@ use Rattle.pdl_kit.specs.declared.rule.Rule.TheVariants.{Z1}
 use Rattle.pdl_semantics.specs.Tree.{Pipe}
 use Rattle.pdl_syntax_tree.specs.declared.tree.Pipe as r
 use Rattle.pdl_syntax_tree.specs.View.{pipe_view}
-use Rattle.pdl_syntax_grammar.specs.declared.error.ReadError.{ReadError}
-use Rattle.pdl_syntax_grammar.specs.declared.error.ReadError.TheVariants as read
+use Rattle.pdl_syntax_grammar.specs.declared.error.GrammarError.{GrammarError}
+use Rattle.pdl_syntax_grammar.specs.declared.error.GrammarError.TheVariants as read
 use Rattle.pdl_syntax_grammar.specs.Text.{IsText, IsOutOfPlace}
 use Rattle.pdl_syntax.specs.declared.error.ParseError.{ParseError}
 use Rattle.pdl_syntax.specs.declared.error.ParseError.TheVariants as error
 
 -- the refusal that a text out of the grammar gets
-abbrev pub refusal : ReadError → ParseError
+abbrev pub refusal : GrammarError → ParseError
 refusal (read.Misplaced line) = error.Grammar line
 refusal read.NoMemory = error.NoMemory
 

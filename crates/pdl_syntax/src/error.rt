@@ -4,7 +4,7 @@ ghost use Rattle.pdl_syntax.specs.declared.error.ParseError.TheVariants.{NoMemor
 ghost use Rattle.pdl_syntax.specs.Text.{refusal};
 
 use pdl_kit::{NoMemory, Rule};
-use pdl_syntax_grammar::ReadError;
+use pdl_syntax_grammar::GrammarError;
 use std::alloc::AllocError;
 
 /// Why a source text was not taken: the line (counted from 1) of the first token out of place (rule G1), a broken limit with its line, or want of memory.
@@ -23,13 +23,13 @@ impl From<NoMemory> for ParseError {
     }
 }
 
-impl From<ReadError> for ParseError {
+impl From<GrammarError> for ParseError {
     ghost from_gives = { λ e p. p ≡ refusal e };
 
-    fn from(e: ReadError) -> ParseError {
+    fn from(e: GrammarError) -> ParseError {
         match e {
-            ReadError::Misplaced { line } => ParseError::Grammar { line },
-            ReadError::NoMemory => ParseError::NoMemory,
+            GrammarError::Misplaced { line } => ParseError::Grammar { line },
+            GrammarError::NoMemory => ParseError::NoMemory,
         }
     }
 }

@@ -7,7 +7,7 @@ ghost use Rattle.pdl_syntax_cursor.specs.Limits.{at_start};
 ghost use Rattle.pdl_syntax_cursor.specs.MarkedTokens.{marked_row, first_line};
 ghost use Rattle.pdl_syntax_cursor.specs.Looks.{is_mark, is_place, begins_place};
 
-use crate::limits::Counts;
+use crate::limits::LimitCounts;
 use pdl_kit::{Name, NoMemory};
 use pdl_syntax_tokens::{Mark, TokenKind, Tokens};
 use pdl_syntax_tree::{Ident, Span};
@@ -18,7 +18,7 @@ use std::marker::Model;
 #[derive(Drop)]
 pub struct Cursor<'a> {
     tokens: Tokens<'a>,
-    counts: Counts,
+    counts: LimitCounts,
 }
 
 impl<'a> Model for Cursor<'a> {
@@ -39,7 +39,7 @@ impl<'a> Cursor<'a> {
         ensures { result ≡ marked_row at_start (lexed.tokens source.entry.now) }
     {
         let tokens = Tokens::new(source);
-        let counts = Counts::new().after_token(tokens.kind());
+        let counts = LimitCounts::new().after_token(tokens.kind());
         Cursor { tokens, counts }
     }
 

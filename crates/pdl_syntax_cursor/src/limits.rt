@@ -14,7 +14,7 @@ const MOST_OPERATORS: u32 = 256;
 
 /// How many brackets are open, whether the statements have begun, and how many operators and function words the statement has so far.
 #[derive(Clone, Copy)]
-pub struct Counts {
+pub struct LimitCounts {
     brackets: u32,
     in_body: bool,
     operators: u32,
@@ -33,12 +33,12 @@ fn is_operator(mark: Mark) -> bool
     }
 }
 
-impl Counts {
+impl LimitCounts {
     /// The counts before the first token.
-    pub fn new() -> Counts
+    pub fn new() -> LimitCounts
         ensures { result ≡ spec.at_start }
     {
-        Counts {
+        LimitCounts {
             brackets: 0,
             in_body: false,
             operators: 0,
@@ -129,7 +129,7 @@ impl Counts {
     }
 
     /// The counts after a token, if there is one.
-    pub fn after_token(self, kind: Option<TokenKind>) -> Counts
+    pub fn after_token(self, kind: Option<TokenKind>) -> LimitCounts
         ensures { result ≡ passed_if self kind }
     {
         let mut counts = self;

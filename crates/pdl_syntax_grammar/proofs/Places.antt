@@ -5,8 +5,8 @@ use Rattle.pdl_syntax_tree.specs.declared.tree.Pipe as r_pipe
 use Rattle.pdl_syntax_tree.specs.View.{pipe_view}
 use Rattle.pdl_syntax_tokens.specs.declared.token.TokenKind.{TokenKind}
 use Rattle.pdl_syntax_tokens.specs.Tokens.{Piece, piece_at, placed_token, line_after, tokens_from, tokens, last_line}
-use Rattle.pdl_syntax_grammar.specs.declared.error.ReadError.{ReadError}
-use Rattle.pdl_syntax_grammar.specs.declared.error.ReadError.TheVariants as error
+use Rattle.pdl_syntax_grammar.specs.declared.error.GrammarError.{GrammarError}
+use Rattle.pdl_syntax_grammar.specs.declared.error.GrammarError.TheVariants as error
 use Rattle.pdl_syntax_tokens.specs.Tokens.{Row}
 use Rattle.pdl_syntax_grammar.specs.Grammar.{Text}
 use Rattle.pdl_syntax_cursor.specs.Limits.{at_start}
@@ -101,25 +101,25 @@ one_place bytes n m h i =
 -- ---- what is answered
 
 -- a tree that is answered is that of the text
-pub answer_found : (bytes : List ℕ) (x : Result r_pipe.Pipe ReadError) → IsRead bytes x → IfOk x (λ p. IsText bytes (pipe_view p))
+pub answer_found : (bytes : List ℕ) (x : Result r_pipe.Pipe GrammarError) → IsRead bytes x → IfOk x (λ p. IsText bytes (pipe_view p))
 answer_found bytes (Ok p) h = h
 answer_found bytes (Err e) h = tt
 
 -- to a text of a pipe its tree is answered, unless memory runs out
-pub answer_only : (bytes : List ℕ) (x : Result r_pipe.Pipe ReadError) (p : Pipe) → IsRead bytes x → IsText bytes p → Gives (Tree p) x
+pub answer_only : (bytes : List ℕ) (x : Result r_pipe.Pipe GrammarError) (p : Pipe) → IsRead bytes x → IsText bytes p → Gives (Tree p) x
 answer_only bytes (Ok q) p h k = one_tree bytes (pipe_view q) p h k
 answer_only bytes (Err (error.Misplaced line)) p h k = absurd (apart bytes p line k h)
 answer_only bytes (Err error.NoMemory) p h k = tt
 
 -- to bytes with a token out of place its line is answered, unless memory runs out
-pub answer_exact : (bytes : List ℕ) (x : Result r_pipe.Pipe ReadError) (line : ℕ) → IsRead bytes x
+pub answer_exact : (bytes : List ℕ) (x : Result r_pipe.Pipe GrammarError) (line : ℕ) → IsRead bytes x
     → IsOutOfPlace bytes line → Gives (Misplaced line) x
 answer_exact bytes (Ok q) line h k = absurd (apart bytes (pipe_view q) line h k)
 answer_exact bytes (Err (error.Misplaced n)) line h k = one_place bytes n line h k
 answer_exact bytes (Err error.NoMemory) line h k = tt
 
 -- an error that is answered tells why, unless memory ran out
-pub answer_refused : (bytes : List ℕ) (x : Result r_pipe.Pipe ReadError) → IsRead bytes x → IsRefused bytes x
+pub answer_refused : (bytes : List ℕ) (x : Result r_pipe.Pipe GrammarError) → IsRead bytes x → IsRefused bytes x
 answer_refused bytes (Ok q) h = tt
 answer_refused bytes (Err (error.Misplaced line)) h = h
 answer_refused bytes (Err error.NoMemory) h = tt

@@ -3,7 +3,7 @@ use Rattle.std.proofs.Common.{◌≡◌, ℕ, suc, ◌<◌, Bool, true, false, [
 use Rattle.pdl_semantics.specs.Tree.{Pipe}
 use Rattle.pdl_syntax_tokens.specs.declared.token.TokenKind.TheVariants as kind
 use Rattle.pdl_syntax_tokens.specs.Tokens.{Token}
-use Rattle.pdl_syntax_cursor.specs.declared.limits.Counts.{Counts}
+use Rattle.pdl_syntax_cursor.specs.declared.limits.LimitCounts.{LimitCounts}
 use Rattle.pdl_syntax_tokens.specs.Tokens.{Row}
 use Rattle.pdl_syntax_grammar.specs.Grammar.{Text}
 use Rattle.pdl_syntax_cursor.specs.Limits.{counts_after, is_within, AreWithin, at_start}
@@ -44,23 +44,23 @@ act_bad in_square = refl
 
 -- ---- what the marking says of a front
 
-over_kind : (d : Counts) (t : Token) → is_within d ≡ false → (mark_token d t).kind ≡ kind.Bad
+over_kind : (d : LimitCounts) (t : Token) → is_within d ≡ false → (mark_token d t).kind ≡ kind.Bad
 over_kind d t e = rw e refl
 
-same_token : (d : Counts) (t : Token) → is_within d ≡ true → mark_token d t ≡ t
+same_token : (d : LimitCounts) (t : Token) → is_within d ≡ true → mark_token d t ≡ t
 same_token d t e = rw e refl
 
 -- a front that some text begins with is as it was, and within the limits
-record IsSplit (c : Counts) (ts front left : Row) : Type 0 where
+record IsSplit (c : LimitCounts) (ts front left : Row) : Type 0 where
   after : Row
-  d : Counts
+  d : LimitCounts
   split : ts ≡ front ++ after
   rest : left ≡ marked_row d after
   within : AreWithin c front
   fine : is_within d ≡ true
   next : (t : Token) → AreWithin c (front ++ t ∷ []) → is_within (counts_after d t.kind) ≡ true
 
-one_further : (c : Counts) (t u : Token) (ts front left : Row)
+one_further : (c : LimitCounts) (t u : Token) (ts front left : Row)
     → is_within (counts_after c t.kind) ≡ true → t ≡ u → IsSplit (counts_after c t.kind) ts front left
     → IsSplit c (t ∷ ts) (u ∷ front) left
 one_further c t u ts front left e is h = subst (λ x. IsSplit c (t ∷ ts) (x ∷ front) left) is (record {
@@ -73,7 +73,7 @@ one_further c t u ts front left e is h = subst (λ x. IsSplit c (t ∷ ts) (x �
   next = λ v w. h.next v w.1;
 })
 
-split_marked : (front : Row) (c : Counts) (ts left others : Row) (below : Stack)
+split_marked : (front : Row) (c : LimitCounts) (ts left others : Row) (below : Stack)
     → is_within c ≡ true → marked_row c ts ≡ front ++ left → run (front ++ others) below ≡ None
     → IsSplit c ts front left
 split_marked [] c ts left others below w e r = record { after = ts; d = c; split = refl; rest = sym e; within = tt; fine = w; next = λ t h. h.0 }
@@ -98,20 +98,20 @@ split_marked (u ∷ front) c (t ∷ ts) left others (s ∷ below) w e r = go (is
     go true f (Some above) i r ih = one_further c t u ts front left f (sym (same_token (counts_after c t.kind) t f) ∙ head) (ih above f tail r)
 
 -- tokens within the limits are as they were
-pub unmarked : (c : Counts) (ts : Row) → is_within c ≡ true → AreWithin c ts → marked_row c ts ≡ ts
+pub unmarked : (c : LimitCounts) (ts : Row) → is_within c ≡ true → AreWithin c ts → marked_row c ts ≡ ts
 unmarked c [] w h = refl
 unmarked c (t ∷ ts) w h = let k : counts_passing c t.kind ≡ counts_after c t.kind = rw w refl in
     rw k (ap (λ x. x ∷ marked_row (counts_after c t.kind) ts) (same_token (counts_after c t.kind) t h.0) ∙ ap (λ x. t ∷ x) (unmarked (counts_after c t.kind) ts h.0 h.1))
 
-marked_length : (c : Counts) (ts : Row) → length (marked_row c ts) ≡ length ts
+marked_length : (c : LimitCounts) (ts : Row) → length (marked_row c ts) ≡ length ts
 marked_length c [] = refl
 marked_length c (t ∷ ts) = ap suc (marked_length (counts_passing c t.kind) ts)
 
-same_line : (d : Counts) (after : Row) (last : ℕ) → line_of (marked_row d after) last ≡ line_of after last
+same_line : (d : LimitCounts) (after : Row) (last : ℕ) → line_of (marked_row d after) last ≡ line_of after last
 same_line d [] last = refl
 same_line d (t ∷ ts) last = refl
 
-none_after : (d : Counts) (after : Row) → ◌≡◌ {A = Row} [] (marked_row d after) → after ≡ []
+none_after : (d : LimitCounts) (after : Row) → ◌≡◌ {A = Row} [] (marked_row d after) → after ≡ []
 none_after d [] e = refl
 none_after d (t ∷ ts) e = cc
 
@@ -149,7 +149,7 @@ out ts left h =
       no_text = λ p b. h.no_text p (subst (λ x. Text p x []) (sym (unmarked at_start ts refl b.within)) b.text);
     }
   where
-    next_is : (d : Counts) (after left : Row) (t : Token) (us : Row) → is_within d ≡ true → left ≡ marked_row d after → after ≡ t ∷ us → is_within (counts_after d t.kind) ≡ true → left ≡ t ∷ marked_row (counts_after d t.kind) us
+    next_is : (d : LimitCounts) (after left : Row) (t : Token) (us : Row) → is_within d ≡ true → left ≡ marked_row d after → after ≡ t ∷ us → is_within (counts_after d t.kind) ≡ true → left ≡ t ∷ marked_row (counts_after d t.kind) us
     next_is d after left t us w e same f = e ∙ (ap (marked_row d) same ∙ rw w (ap (λ x. x ∷ marked_row (counts_after d t.kind) us) (same_token (counts_after d t.kind) t f)))
 
 -- tokens that the reader with the limits reads as a pipe are a spelling of it within the limits
@@ -161,6 +161,6 @@ pub text_refused : (room : ℕ) (ts left : Row) → length ts < room → parse r
 text_refused room ts left le e = out ts left (refused room (marked_row at_start ts) left (rw marked_length le) e)
 
 -- a front is within the limits too
-pub front_within : (c : Counts) (xs ys : Row) → AreWithin c (xs ++ ys) → AreWithin c xs
+pub front_within : (c : LimitCounts) (xs ys : Row) → AreWithin c (xs ++ ys) → AreWithin c xs
 front_within c [] ys w = tt
 front_within c (t ∷ xs) ys w = (w.0, front_within (counts_after c t.kind) xs ys w.1)

@@ -1,22 +1,22 @@
 -- What the parts of the parser ensure.
 use Rattle.std.specs.Prelude.{◌≡◌, ◌≢◌, ℕ, Bool, List, map, [], ◌∷◌, ◌++◌, Option, Some, None, Result, Ok, Err}
 use Rattle.pdl_semantics.specs.Tree.{Span, Ident, Number, Expr, Location, Kind, Stmt, Stmts, Param, LockDecl, Mem, Start}
-use Rattle.pdl_syntax_grammar.specs.declared.item.Item.{Item}
-use Rattle.pdl_syntax_grammar.specs.declared.item.Item.TheVariants.{One, Two}
-use Rattle.pdl_syntax_grammar.specs.declared.item.Reserved as r_reserved
+use Rattle.pdl_syntax_grammar.specs.declared.item.GrammarItem.{GrammarItem}
+use Rattle.pdl_syntax_grammar.specs.declared.item.GrammarItem.TheVariants.{One, Two}
+use Rattle.pdl_syntax_grammar.specs.declared.item.ReservedEnd as r_reserved
 use Rattle.pdl_syntax_grammar.specs.declared.item.Held as r_held
-use Rattle.pdl_syntax_grammar.specs.declared.item.Branch as r_branch
+use Rattle.pdl_syntax_grammar.specs.declared.item.BranchEnd as r_branch
 use Rattle.pdl_syntax_grammar.specs.declared.item.ExprEnd as r_expr_end
 use Rattle.pdl_syntax_grammar.specs.declared.item.ArgsEnd as r_args_end
 use Rattle.pdl_syntax_grammar.specs.declared.item.Purpose as r_purpose
-use Rattle.pdl_syntax_grammar.specs.declared.item.Shape as r_shape
+use Rattle.pdl_syntax_grammar.specs.declared.item.MemShape as r_shape
 use Rattle.pdl_syntax_grammar.specs.declared.item.Head as r_head
 use Rattle.pdl_syntax_grammar.specs.declared.item.Rest as r_rest
 use Rattle.pdl_syntax_grammar.specs.declared.item.Bounds as r_bounds
 use Rattle.pdl_syntax_grammar.specs.declared.item.Pair as r_pair
 use Rattle.pdl_syntax_grammar.specs.declared.item.Sized as r_sized
-use Rattle.pdl_syntax_grammar.specs.declared.error.ReadError.{ReadError}
-use Rattle.pdl_syntax_grammar.specs.declared.error.ReadError.TheVariants as error
+use Rattle.pdl_syntax_grammar.specs.declared.error.GrammarError.{GrammarError}
+use Rattle.pdl_syntax_grammar.specs.declared.error.GrammarError.TheVariants as error
 use Rattle.pdl_syntax_grammar.specs.declared.stop.Stop.{Stop}
 use Rattle.pdl_syntax_grammar.specs.declared.stop.Stop.TheVariants.{NoMemory as no_memory}
 use Rattle.pdl_syntax_tokens.specs.Tokens.{Row}
@@ -32,7 +32,7 @@ Reads view outcome (Ok a) left = outcome ≡ Ok (view a, left)
 Reads view outcome (Err e) left = e ≢ no_memory → outcome ≡ Err left
 
 -- the statements of an item
-abbrev pub item_view : Item → List Stmt
+abbrev pub item_view : GrammarItem → List Stmt
 item_view (One s) = stmt_view s ∷ []
 item_view (Two s t) = stmt_view s ∷ stmt_view t ∷ []
 
@@ -49,7 +49,7 @@ abbrev pub purpose_view : r_purpose.Purpose → Kind × Span
 purpose_view v = (kind_view v.kind, span_view v.end)
 
 -- a location, what it is reserved for, and where the semicolon stands
-abbrev pub reserved_view : r_reserved.Reserved → Location × Kind × Span
+abbrev pub reserved_view : r_reserved.ReservedEnd → Location × Kind × Span
 reserved_view v = (location_view v.at, kind_view v.kind, span_view v.end)
 
 -- a location, and where the semicolon stands
@@ -57,7 +57,7 @@ abbrev pub held_view : r_held.Held → Location × Span
 held_view v = (location_view v.at, span_view v.end)
 
 -- the statements of a branch, and where its closing brace stands
-abbrev pub branch_view : r_branch.Branch → Stmts × Span
+abbrev pub branch_view : r_branch.BranchEnd → Stmts × Span
 branch_view v = (stmts_view v.stmts, span_view v.end)
 
 -- the two numbers of a slice
@@ -73,7 +73,7 @@ abbrev pub sized_view : r_sized.Sized → Expr × Number
 sized_view v = (expr_view v.e, number_view v.width)
 
 -- what stands after the name of a memory
-abbrev pub shape_view : r_shape.Shape → Number × Number × Bool × Option LockDecl
+abbrev pub shape_view : r_shape.MemShape → Number × Number × Bool × Option LockDecl
 shape_view v = (number_view v.width, number_view v.depth, v.delayed, maybe_lock_view v.lock)
 
 -- what stands before the body of a pipe
@@ -105,7 +105,7 @@ line_at (Some line) last = line
 line_at None last = last
 
 -- the tree of the text, or a refusal at the first token out of place
-abbrev pub IsRead : List ℕ → Result r_pipe.Pipe ReadError → Type 0
+abbrev pub IsRead : List ℕ → Result r_pipe.Pipe GrammarError → Type 0
 IsRead bytes (Ok p) = IsText bytes (pipe_view p)
 IsRead bytes (Err (error.Misplaced line)) = IsOutOfPlace bytes line
 IsRead bytes (Err error.NoMemory) = Unit {0}

@@ -3,8 +3,8 @@ use Rattle.std.specs.Prelude.{◌≡◌, ℕ, List, [], ◌∷◌, ◌++◌, Res
 use Rattle.pdl_semantics.specs.Tree.{Pipe}
 use Rattle.pdl_syntax_tree.specs.declared.tree.Pipe as r
 use Rattle.pdl_syntax_tree.specs.View.{pipe_view}
-use Rattle.pdl_syntax_grammar.specs.declared.error.ReadError.{ReadError}
-use Rattle.pdl_syntax_grammar.specs.declared.error.ReadError.TheVariants as error
+use Rattle.pdl_syntax_grammar.specs.declared.error.GrammarError.{GrammarError}
+use Rattle.pdl_syntax_grammar.specs.declared.error.GrammarError.TheVariants as error
 use Rattle.pdl_syntax_tokens.specs.Tokens.{Token, tokens, last_line}
 use Rattle.pdl_syntax_grammar.specs.Grammar.{Text}
 use Rattle.pdl_syntax_cursor.specs.Limits.{AreWithin, at_start}
@@ -46,14 +46,14 @@ pub data Answer : Type 0 where
   Misplaced : (line : ℕ) → Answer
 
 -- a result is the answer, or memory ran out
-abbrev pub Gives : Answer → Result r.Pipe ReadError → Type 0
+abbrev pub Gives : Answer → Result r.Pipe GrammarError → Type 0
 Gives a (Err error.NoMemory) = Unit {0}
 Gives (Tree p) (Ok q) = pipe_view q ≡ p
 Gives (Misplaced line) (Err (error.Misplaced n)) = n ≡ line
 Gives a result = ⊥
 
 -- why a result is an error, unless memory ran out
-abbrev pub IsRefused : List ℕ → Result r.Pipe ReadError → Type 0
+abbrev pub IsRefused : List ℕ → Result r.Pipe GrammarError → Type 0
 IsRefused bytes (Ok p) = Unit {0}
 IsRefused bytes (Err error.NoMemory) = Unit {0}
 IsRefused bytes (Err (error.Misplaced line)) = IsOutOfPlace bytes line

@@ -5,7 +5,7 @@ ghost use Rattle.pdl_syntax_grammar.specs.Reading as spec;
 ghost use Rattle.pdl_syntax_tree.specs.View.{span_view, expr_view, stmt_view, stmts_view};
 
 use crate::expression::expr;
-use crate::item::{Branch, Item};
+use crate::item::{BranchEnd, GrammarItem};
 use crate::statement::{across, plain};
 use crate::stop::Stop;
 use crate::words::take;
@@ -34,12 +34,12 @@ pub fn branch(
     tokens: &mut Cursor<'_>,
     room: usize,
     most: usize,
-) -> Result<Branch, Stop>
+) -> Result<BranchEnd, Stop>
     ensures { Reads branch_view (spec.branch (spec.items room most) tokens.old) result tokens.new }
 {
     let stmts = items(alloc, tokens, room, most)?;
     let end = take(tokens, Mark::CloseBrace)?;
-    Ok(Branch { stmts, end })
+    Ok(BranchEnd { stmts, end })
 }
 
 // The other branch, after the first one's closing brace: none where no `else` comes.
@@ -50,7 +50,7 @@ fn otherwise(
     room: usize,
     most: usize,
     end: Span,
-) -> Result<Branch, Stop>
+) -> Result<BranchEnd, Stop>
     ensures { Reads branch_view (spec.otherwise (spec.items room most) (span_view end) tokens.old)
         result tokens.new }
 {
@@ -59,7 +59,7 @@ fn otherwise(
         take(tokens, Mark::OpenBrace)?;
         branch(alloc, tokens, room, most)
     } else {
-        Ok(Branch {
+        Ok(BranchEnd {
             stmts: Seq::new(alloc),
             end,
         })
@@ -74,14 +74,14 @@ fn choice(
     room: usize,
     most: usize,
     word: Span,
-) -> Result<Item, Stop>
+) -> Result<GrammarItem, Stop>
     ensures { Reads item_view (spec.if_of room (spec.items room most) (span_view word) tokens.old)
         result tokens.new }
 {
     let condition = condition(alloc, tokens, room)?;
-    let Branch { stmts: then, end } = branch(alloc, tokens, room, most)?;
+    let BranchEnd { stmts: then, end } = branch(alloc, tokens, room, most)?;
     let other = otherwise(alloc, tokens, room, most, end)?;
-    Ok(Item::One(Stmt::If {
+    Ok(GrammarItem::One(Stmt::If {
         span: across(word, other.end),
         condition: condition.into_inner(),
         then,
@@ -92,7 +92,12 @@ fn choice(
 // An item of the grammar, with at most so many items inside.
 #[cycle(items)]
 #[tactic(auto, unfolding(crate::specs::Reading::item))]
-fn item(alloc: Global, tokens: &mut Cursor<'_>, room: usize, most: usize) -> Result<Item, Stop>
+fn item(
+    alloc: Global,
+    tokens: &mut Cursor<'_>,
+    room: usize,
+    most: usize,
+) -> Result<GrammarItem, Stop>
     ensures { Reads item_view (spec.item room (spec.items room most) tokens.old) result tokens.new }
 {
     if tokens.is(Mark::If) {
@@ -105,12 +110,12 @@ fn item(alloc: Global, tokens: &mut Cursor<'_>, room: usize, most: usize) -> Res
 }
 
 // Adds the statements of an item.
-fn add(done: &mut Seq<Stmt>, item: Item) -> Result<(), NoMemory>
+fn add(done: &mut Seq<Stmt>, item: GrammarItem) -> Result<(), NoMemory>
     ensures { OnOk result (map stmt_view done.new ≡ map stmt_view done.old ++ item_view item) }
 {
     match item {
-        Item::One(only) => done.push(only),
-        Item::Two(first, second) => {
+        GrammarItem::One(only) => done.push(only),
+        GrammarItem::Two(first, second) => {
             let one = done.push(first);
             let two = done.push(second);
             one.and(two)

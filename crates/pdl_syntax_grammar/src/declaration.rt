@@ -5,7 +5,7 @@ ghost use Rattle.pdl_syntax_grammar.specs.Reading as spec;
 ghost use Rattle.pdl_syntax_tree.specs.View.{number_view, param_view, mem_view, maybe_lock_view};
 ghost use Rattle.pdl_syntax_tokens.specs.declared.token.Mark.TheVariants as mark;
 
-use crate::item::Shape;
+use crate::item::MemShape;
 use crate::stop::Stop;
 use crate::words::{goes_on, lock_kind, name, number, pace, take};
 use pdl_kit::Seq;
@@ -86,7 +86,7 @@ fn lock(tokens: &mut Cursor<'_>) -> Result<Option<LockDecl>, Stop>
 
 // What stands after the name of a memory.
 #[tactic(auto, unfolding(crate::specs::Reading::shape))]
-fn shape(tokens: &mut Cursor<'_>) -> Result<Shape, Stop>
+fn shape(tokens: &mut Cursor<'_>) -> Result<MemShape, Stop>
     ensures { Reads shape_view (spec.shape tokens.old) result tokens.new }
 {
     take(tokens, Mark::Colon)?;
@@ -96,7 +96,7 @@ fn shape(tokens: &mut Cursor<'_>) -> Result<Shape, Stop>
     take(tokens, Mark::CloseSquare)?;
     let delayed = pace(tokens)?;
     let lock = lock(tokens)?;
-    Ok(Shape {
+    Ok(MemShape {
         width,
         depth,
         delayed,

@@ -1,12 +1,12 @@
 // Parts of expressions and statements.
 use pdl_kit::{Boxed, Seq};
 use pdl_syntax_tree::{
-    Expr, Ident, Kind, Location, LockDecl, Mem, Number, Param, Span, Start, Stmt,
+    AccessKind, Expr, Ident, Location, LockDecl, Mem, Number, Param, Span, Start, Stmt,
 };
 
 /// An item of the grammar: a statement, or two.
 #[derive(Drop)]
-pub enum Item {
+pub enum GrammarItem {
     One(Stmt),
     Two(Stmt, Stmt),
 }
@@ -28,15 +28,15 @@ pub struct ArgsEnd {
 /// What a location is reserved for, and where the semicolon stands.
 #[derive(Clone, Copy)]
 pub struct Purpose {
-    pub kind: Kind,
+    pub kind: AccessKind,
     pub end: Span,
 }
 
 /// A location and what it is reserved for, and where the semicolon stands.
 #[derive(Drop)]
-pub struct Reserved {
+pub struct ReservedEnd {
     pub at: Location,
-    pub kind: Kind,
+    pub kind: AccessKind,
     pub end: Span,
 }
 
@@ -49,7 +49,7 @@ pub struct Held {
 
 /// The statements of a branch, and where its closing brace stands.
 #[derive(Drop)]
-pub struct Branch {
+pub struct BranchEnd {
     pub stmts: Seq<Stmt>,
     pub end: Span,
 }
@@ -77,7 +77,7 @@ pub struct Sized {
 
 /// What stands after the name of a memory: its words, how many there are, whether it answers in a later cycle, and its lock or none.
 #[derive(Clone, Copy)]
-pub struct Shape {
+pub struct MemShape {
     pub width: Number,
     pub depth: Number,
     pub delayed: bool,

@@ -13,4 +13,4 @@ mod stop;
 mod text;
 mod words;
 
-pub use error::ReadError;
+pub use error::GrammarError;

@@ -6,7 +6,7 @@ ghost use Rattle.pdl_syntax_tokens.specs.Tokens as lexed;
 ghost use Rattle.pdl_syntax_grammar.specs.Read.{IsRead, line_at};
 ghost use Rattle.pdl_syntax_grammar.specs.Text.{IsText, IsOutOfPlace, Tree, Misplaced, Gives, IsRefused};
 
-use crate::error::ReadError;
+use crate::error::GrammarError;
 use crate::stop::Stop;
 use crate::text::text;
 use pdl_syntax_cursor::Cursor;
@@ -26,7 +26,7 @@ fn line_of(source: &[u8], at: Option<u32>) -> u32
 }
 
 #[tactic(auto, using(crate::proofs::Places::read_whole, crate::proofs::Places::read_misplaced))]
-fn read_text(alloc: Global, source: &[u8]) -> Result<Pipe, ReadError>
+fn read_text(alloc: Global, source: &[u8]) -> Result<Pipe, GrammarError>
     requires { length source.now ≤ 268435456 }
     ensures { IsRead source.now result }
 {
@@ -34,16 +34,16 @@ fn read_text(alloc: Global, source: &[u8]) -> Result<Pipe, ReadError>
     let mut tokens = Cursor::new(source);
     match text(alloc, &mut tokens, room) {
         Ok(pipe) => Ok(pipe),
-        Err(Stop::Misplaced) => Err(ReadError::Misplaced {
+        Err(Stop::Misplaced) => Err(GrammarError::Misplaced {
             line: line_of(source, tokens.line()),
         }),
-        Err(Stop::NoMemory) => Err(ReadError::NoMemory),
+        Err(Stop::NoMemory) => Err(GrammarError::NoMemory),
     }
 }
 
 /// The tree of a source text of at most 268,435,456 bytes. A text with a token out of place is refused at the line of the first one, one that ends too early at the line on which it ends.
 #[tactic(auto, using(crate::proofs::Places::answer_found, crate::proofs::Places::answer_only, crate::proofs::Places::answer_exact, crate::proofs::Places::answer_refused))]
-pub fn read(alloc: Global, source: &[u8]) -> Result<Pipe, ReadError>
+pub fn read(alloc: Global, source: &[u8]) -> Result<Pipe, GrammarError>
     requires { length source.now ≤ 268435456 }
     // What is read is the pipe of the text.
     ensures found { IfOk result (λ p. IsText source.now (pipe_view p)) }

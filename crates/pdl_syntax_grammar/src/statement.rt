@@ -6,7 +6,7 @@ ghost use Rattle.pdl_syntax_grammar.specs.Reading as spec;
 ghost use Rattle.pdl_syntax_tree.specs.View.{span_view, ident_view, location_view, stmt_view};
 
 use crate::expression::{args, expr};
-use crate::item::{ArgsEnd, ExprEnd, Held, Item, Purpose, Reserved};
+use crate::item::{ArgsEnd, ExprEnd, GrammarItem, Held, Purpose, ReservedEnd};
 use crate::stop::Stop;
 use crate::words::{access, name, place, take};
 use pdl_kit::NoMemory;
@@ -211,13 +211,13 @@ fn closed(tokens: &mut Cursor<'_>) -> Result<Span, Stop>
 
 // A location and what it is reserved for, up to the semicolon.
 #[tactic(auto, unfolding(crate::specs::Reading::reserved_location))]
-fn reserved_location(alloc: Global, tokens: &mut Cursor<'_>) -> Result<Reserved, Stop>
+fn reserved_location(alloc: Global, tokens: &mut Cursor<'_>) -> Result<ReservedEnd, Stop>
     ensures { Reads reserved_view (spec.reserved_location tokens.old) result tokens.new }
 {
     take(tokens, Mark::OpenRound)?;
     let at = place(alloc, tokens)?;
     let Purpose { kind, end } = purpose(tokens)?;
-    Ok(Reserved { at, kind, end })
+    Ok(ReservedEnd { at, kind, end })
 }
 
 // A location up to the semicolon.
@@ -250,11 +250,11 @@ fn copy_of(at: &Location) -> Result<Location, NoMemory>
 }
 
 // A reservation, after its word.
-fn reserve(alloc: Global, tokens: &mut Cursor<'_>, word: Span) -> Result<Item, Stop>
+fn reserve(alloc: Global, tokens: &mut Cursor<'_>, word: Span) -> Result<GrammarItem, Stop>
     ensures { Reads item_view (spec.reserve_of (span_view word) tokens.old) result tokens.new }
 {
-    let Reserved { at, kind, end } = reserved_location(alloc, tokens)?;
-    Ok(Item::One(Stmt::Reserve {
+    let ReservedEnd { at, kind, end } = reserved_location(alloc, tokens)?;
+    Ok(GrammarItem::One(Stmt::Reserve {
         span: across(word, end),
         at,
         kind,
@@ -262,59 +262,69 @@ fn reserve(alloc: Global, tokens: &mut Cursor<'_>, word: Span) -> Result<Item, S
 }
 
 // A reservation and the wait for it, after their word: two statements.
-fn acquire(alloc: Global, tokens: &mut Cursor<'_>, word: Span) -> Result<Item, Stop>
+fn acquire(alloc: Global, tokens: &mut Cursor<'_>, word: Span) -> Result<GrammarItem, Stop>
     ensures { Reads item_view (spec.acquire_of (span_view word) tokens.old) result tokens.new }
 {
-    let Reserved { at, kind, end } = reserved_location(alloc, tokens)?;
+    let ReservedEnd { at, kind, end } = reserved_location(alloc, tokens)?;
     let span = across(word, end);
     let again = copy_of(&at)?;
     let first = Stmt::Reserve { span, at, kind };
-    Ok(Item::Two(first, Stmt::Block { span, at: again }))
+    Ok(GrammarItem::Two(first, Stmt::Block { span, at: again }))
 }
 
 // A wait, after its word.
-fn block(alloc: Global, tokens: &mut Cursor<'_>, word: Span) -> Result<Item, Stop>
+fn block(alloc: Global, tokens: &mut Cursor<'_>, word: Span) -> Result<GrammarItem, Stop>
     ensures { Reads item_view (spec.block_of (span_view word) tokens.old) result tokens.new }
 {
     let Held { at, end } = held_location(alloc, tokens)?;
-    Ok(Item::One(Stmt::Block {
+    Ok(GrammarItem::One(Stmt::Block {
         span: across(word, end),
         at,
     }))
 }
 
 // A release, after its word.
-fn release(alloc: Global, tokens: &mut Cursor<'_>, word: Span) -> Result<Item, Stop>
+fn release(alloc: Global, tokens: &mut Cursor<'_>, word: Span) -> Result<GrammarItem, Stop>
     ensures { Reads item_view (spec.release_of (span_view word) tokens.old) result tokens.new }
 {
     let Held { at, end } = held_location(alloc, tokens)?;
-    Ok(Item::One(Stmt::Release {
+    Ok(GrammarItem::One(Stmt::Release {
         span: across(word, end),
         at,
     }))
 }
 
 // A call, after its word.
-fn call(alloc: Global, tokens: &mut Cursor<'_>, room: usize, word: Span) -> Result<Item, Stop>
+fn call(
+    alloc: Global,
+    tokens: &mut Cursor<'_>,
+    room: usize,
+    word: Span,
+) -> Result<GrammarItem, Stop>
     ensures { Reads item_view (spec.call_of room (span_view word) tokens.old) result tokens.new }
 {
     take(tokens, Mark::OpenRound)?;
     let ArgsEnd { args, end } = ended_args(alloc, tokens, room)?;
-    Ok(Item::One(Stmt::Call {
+    Ok(GrammarItem::One(Stmt::Call {
         span: across(word, end),
         args,
     }))
 }
 
 // A test of a guess, after its word.
-fn verify(alloc: Global, tokens: &mut Cursor<'_>, room: usize, word: Span) -> Result<Item, Stop>
+fn verify(
+    alloc: Global,
+    tokens: &mut Cursor<'_>,
+    room: usize,
+    word: Span,
+) -> Result<GrammarItem, Stop>
     ensures { Reads item_view (spec.verify_of room (span_view word) tokens.old) result tokens.new }
 {
     take(tokens, Mark::OpenRound)?;
     let guess = name(alloc, tokens)?;
     take(tokens, Mark::Comma)?;
     let ArgsEnd { args, end } = ended_args(alloc, tokens, room)?;
-    Ok(Item::One(Stmt::Verify {
+    Ok(GrammarItem::One(Stmt::Verify {
         span: across(word, end),
         guess,
         args,
@@ -332,28 +342,28 @@ fn bare(tokens: &mut Cursor<'_>) -> Result<Span, Stop>
 }
 
 // A check of the guess that began the thread, after its word.
-fn check(tokens: &mut Cursor<'_>, word: Span) -> Result<Item, Stop>
+fn check(tokens: &mut Cursor<'_>, word: Span) -> Result<GrammarItem, Stop>
     ensures { Reads item_view (spec.check_of (span_view word) tokens.old) result tokens.new }
 {
     let end = bare(tokens)?;
-    Ok(Item::One(Stmt::SpecCheck {
+    Ok(GrammarItem::One(Stmt::SpecCheck {
         span: across(word, end),
     }))
 }
 
 // A barrier, after its word.
-fn barrier(tokens: &mut Cursor<'_>, word: Span) -> Result<Item, Stop>
+fn barrier(tokens: &mut Cursor<'_>, word: Span) -> Result<GrammarItem, Stop>
     ensures { Reads item_view (spec.barrier_of (span_view word) tokens.old) result tokens.new }
 {
     let end = bare(tokens)?;
-    Ok(Item::One(Stmt::SpecBarrier {
+    Ok(GrammarItem::One(Stmt::SpecBarrier {
         span: across(word, end),
     }))
 }
 
 // A statement on a lock.
 #[tactic(auto, unfolding(crate::specs::Reading::locking))]
-fn locking(alloc: Global, tokens: &mut Cursor<'_>) -> Result<Item, Stop>
+fn locking(alloc: Global, tokens: &mut Cursor<'_>) -> Result<GrammarItem, Stop>
     ensures { Reads item_view (spec.locking tokens.old) result tokens.new }
 {
     let word = tokens.span();
@@ -379,17 +389,17 @@ fn locking(alloc: Global, tokens: &mut Cursor<'_>) -> Result<Item, Stop>
 }
 
 // A statement that begins with a name.
-fn named_item(alloc: Global, tokens: &mut Cursor<'_>, room: usize) -> Result<Item, Stop>
+fn named_item(alloc: Global, tokens: &mut Cursor<'_>, room: usize) -> Result<GrammarItem, Stop>
     ensures { Reads item_view (spec.named_item room tokens.old) result tokens.new }
 {
     let x = tokens.name(alloc)?;
     tokens.skip();
-    Ok(Item::One(named_stmt(alloc, tokens, room, x)?))
+    Ok(GrammarItem::One(named_stmt(alloc, tokens, room, x)?))
 }
 
 /// An item without statements inside: a separator, or what stands up to a semicolon.
 #[tactic(auto, unfolding(crate::specs::Reading::plain))]
-pub fn plain(alloc: Global, tokens: &mut Cursor<'_>, room: usize) -> Result<Item, Stop>
+pub fn plain(alloc: Global, tokens: &mut Cursor<'_>, room: usize) -> Result<GrammarItem, Stop>
     ensures { Reads item_view (spec.plain room tokens.old) result tokens.new }
 {
     let span = tokens.span();
@@ -397,7 +407,7 @@ pub fn plain(alloc: Global, tokens: &mut Cursor<'_>, room: usize) -> Result<Item
         Some(TokenKind::Name) => named_item(alloc, tokens, room),
         Some(TokenKind::Mark(Mark::Separator)) => {
             tokens.skip();
-            Ok(Item::One(Stmt::Separator { span }))
+            Ok(GrammarItem::One(Stmt::Separator { span }))
         }
         Some(TokenKind::Mark(Mark::Call)) => {
             tokens.skip();

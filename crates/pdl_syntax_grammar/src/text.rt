@@ -7,7 +7,7 @@ ghost use Rattle.pdl_syntax_tokens.specs.declared.token.Mark.TheVariants as mark
 
 use crate::branch::branch;
 use crate::declaration::{mems, params};
-use crate::item::{Branch, Head, Rest};
+use crate::item::{BranchEnd, Head, Rest};
 use crate::statement::across;
 use crate::stop::Stop;
 use crate::words::{goes_on, literal, name, take};
@@ -77,7 +77,7 @@ fn rest(alloc: Global, tokens: &mut Cursor<'_>, room: usize) -> Result<Rest, Sto
     ensures { Reads rest_view (spec.pipe_rest room tokens.old) result tokens.new }
 {
     take(tokens, Mark::OpenBrace)?;
-    let Branch { stmts, end } = branch(alloc, tokens, room, room)?;
+    let BranchEnd { stmts, end } = branch(alloc, tokens, room, room)?;
     let start = start(alloc, tokens, room)?;
     Ok(Rest {
         body: stmts,

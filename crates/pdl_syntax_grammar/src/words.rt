@@ -8,7 +8,7 @@ ghost use Rattle.pdl_syntax_tree.specs.View.{span_view, ident_view, number_view,
 use crate::stop::Stop;
 use pdl_syntax_cursor::Cursor;
 use pdl_syntax_tokens::{Mark, TokenKind};
-use pdl_syntax_tree::{Ident, Kind, Literal, Location, LockKind, Number, Span};
+use pdl_syntax_tree::{AccessKind, Ident, Literal, Location, LockKind, Number, Span};
 use std::alloc::Global;
 
 /// Takes a keyword or a symbol, and tells where it stands.
@@ -72,17 +72,17 @@ pub fn literal(tokens: &mut Cursor<'_>) -> Result<Literal, Stop>
 
 /// Takes an `R` or a `W`.
 #[tactic(auto, unfolding(crate::specs::ReadingExprs::access))]
-pub fn access(tokens: &mut Cursor<'_>) -> Result<Kind, Stop>
+pub fn access(tokens: &mut Cursor<'_>) -> Result<AccessKind, Stop>
     ensures { Reads kind_view (spec.access tokens.old) result tokens.new }
 {
     match tokens.kind() {
         Some(TokenKind::Mark(Mark::R)) => {
             tokens.skip();
-            Ok(Kind::R)
+            Ok(AccessKind::R)
         }
         Some(TokenKind::Mark(Mark::W)) => {
             tokens.skip();
-            Ok(Kind::W)
+            Ok(AccessKind::W)
         }
         _ => Err(Stop::Misplaced),
     }

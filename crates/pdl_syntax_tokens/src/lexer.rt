@@ -21,7 +21,7 @@ pub fn last_line(source: &[u8]) -> u32
 
 // What is left of a source text, which byte of it comes next, and on which line.
 #[derive(Clone, Copy)]
-struct Place<'a> {
+struct SourcePlace<'a> {
     rest: &'a [u8],
     start: u32,
     line: u32,
@@ -33,13 +33,13 @@ struct Place<'a> {
 #[derive(Clone, Copy)]
 struct Step<'a> {
     token: Option<Token<'a>>,
-    after: Place<'a>,
+    after: SourcePlace<'a>,
 }
 
-impl<'a> Place<'a> {
+impl<'a> SourcePlace<'a> {
     // The place after the piece at the front.
     #[tactic(auto, using(crate::proofs::Steps::piece_fits))]
-    fn after(&self, piece: Piece) -> Place<'a>
+    fn after(&self, piece: Piece) -> SourcePlace<'a>
         requires { IsFront self.now.rest.now (Some piece) }
         ensures rest { result.rest.now ≡ drop piece.size self.now.rest.now }
         ensures start { result.start ≡ self.now.start + piece.size }
@@ -51,7 +51,7 @@ impl<'a> Place<'a> {
             Some(b'\n') => self.line + 1,
             _ => self.line,
         };
-        Place {
+        SourcePlace {
             rest: &self.rest[piece.size..],
             start: self.start + piece.size as u32,
             line,
@@ -108,7 +108,7 @@ impl<'a> Place<'a> {
 #[derive(Drop)]
 pub struct Tokens<'a> {
     first: Option<Token<'a>>,
-    after: Place<'a>,
+    after: SourcePlace<'a>,
 }
 
 impl<'a> Model for Tokens<'a> {
@@ -128,7 +128,7 @@ impl<'a> Tokens<'a> {
         requires { length source.now ≤ 268435456 }
         ensures { result ≡ tokens source.entry.now }
     {
-        let place = Place {
+        let place = SourcePlace {
             rest: source,
             start: 0,
             line: 1,

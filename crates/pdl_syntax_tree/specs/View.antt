@@ -7,8 +7,8 @@ use Rattle.pdl_syntax_tree.specs.declared.tree.Literal as r_literal
 use Rattle.pdl_syntax_tree.specs.declared.tree.Location as r_location
 use Rattle.pdl_syntax_tree.specs.declared.tree.BinaryOp as r_op
 use Rattle.pdl_syntax_tree.specs.declared.tree.BinaryOp.TheVariants as r_ops
-use Rattle.pdl_syntax_tree.specs.declared.tree.Kind as r_kind
-use Rattle.pdl_syntax_tree.specs.declared.tree.Kind.TheVariants as r_kinds
+use Rattle.pdl_syntax_tree.specs.declared.tree.AccessKind as r_kind
+use Rattle.pdl_syntax_tree.specs.declared.tree.AccessKind.TheVariants as r_kinds
 use Rattle.pdl_syntax_tree.specs.declared.tree.Expr as r_expr
 use Rattle.pdl_syntax_tree.specs.declared.tree.Expr.TheOpen.{Expr-F}
 use Rattle.pdl_syntax_tree.specs.declared.tree.Stmt as r_stmt
@@ -63,7 +63,7 @@ maybe_op_view (Some op) = Some (op_view op)
 maybe_op_view None = None
 
 -- the kind of access, `R` or `W`, that a value of the program stands for
-abbrev pub kind_view : r_kind.Kind → Kind
+abbrev pub kind_view : r_kind.AccessKind → Kind
 kind_view r_kinds.R = tree.R
 kind_view r_kinds.W = tree.W
 

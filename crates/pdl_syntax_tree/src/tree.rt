@@ -79,7 +79,7 @@ pub struct Location {
 
 /// What a location is reserved for: to be read or to be written.
 #[derive(Clone, Copy)]
-pub enum Kind {
+pub enum AccessKind {
     R,
     W,
 }
@@ -118,7 +118,7 @@ pub enum Stmt {
     Reserve {
         span: Span,
         at: Location,
-        kind: Kind,
+        kind: AccessKind,
     },
     Block {
         span: Span,

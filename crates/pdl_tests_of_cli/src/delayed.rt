@@ -7,7 +7,7 @@ ghost use Rattle.pdl_net.specs.Pipe.{IsWellFormed};
 ghost use Rattle.pdl_rules.specs.Memories.{infos_of};
 
 use crate::delayed_chances::CHANCES;
-use crate::delayed_runs::{BURSTS, Counts, DelayedRun, STEADY};
+use crate::delayed_runs::{BURSTS, DelayedCounts, DelayedRun, STEADY};
 use crate::machine::image_of;
 use pdl_check::Accepted;
 use pdl_check::check::check;
@@ -67,12 +67,12 @@ fn bits_in(replies: [u128; 3], cycle: u32) -> u16
 }
 
 // Counts with the machine's last cycle: whether a thread ended is its last output but one, and whether a guess was wrong the last.
-fn with_cycle(counts: Counts, machine: &Machine<'_>) -> Counts {
+fn with_cycle(counts: DelayedCounts, machine: &Machine<'_>) -> DelayedCounts {
     let outputs = machine.port_count();
     if outputs < 2 {
         return counts;
     }
-    Counts {
+    DelayedCounts {
         ended: counts.ended.saturating_add(machine.port(outputs - 2)),
         waits: counts.waits.saturating_add(u64::from(machine.waited())),
         squashes: counts.squashes.saturating_add(machine.port(outputs - 1)),
@@ -85,11 +85,11 @@ fn counted(
     machine: &mut Machine<'_>,
     outputs: usize,
     replies: [u128; 3],
-) -> Option<Counts>
+) -> Option<DelayedCounts>
     requires begun { machine.old.cycles ≡ 0 }
     requires outputs { outputs ≡ length (outputs_of (circuit_of sim.old.netlist)) }
 {
-    let mut counts = Counts::default();
+    let mut counts = DelayedCounts::default();
     for cycle in 0..100_u32 {
         let bits = bits_in(replies, cycle);
         sim.cycle(bits);
@@ -119,7 +119,7 @@ fn counted_from(
     accepted: &Accepted,
     image: &Image,
     replies: [u128; 3],
-) -> Result<Option<Counts>, NoMemory>
+) -> Result<Option<DelayedCounts>, NoMemory>
     requires well { IsWellFormed netlist.now }
     requires words { IsImage netlist.now.mems words.now }
     requires image { IsImage (infos_of (pipe_view accepted.now.typed.pipe).mems) image.now }
@@ -136,7 +136,7 @@ fn counted_with(
     netlist: &Netlist,
     accepted: &Accepted,
     run: &DelayedRun,
-) -> Option<Counts>
+) -> Option<DelayedCounts>
     requires well { IsWellFormed netlist.now }
     requires short { length run.now.image.now ≤ LONGEST_FILE }
 {
@@ -152,7 +152,7 @@ fn counted_with(
 }
 
 // The same of an accepted pipe and the netlist that is compiled of it.
-fn counted_of(alloc: Global, accepted: &Accepted, run: &DelayedRun) -> Option<Counts>
+fn counted_of(alloc: Global, accepted: &Accepted, run: &DelayedRun) -> Option<DelayedCounts>
     requires { length run.now.image.now ≤ LONGEST_FILE }
 {
     match compile(alloc, accepted) {

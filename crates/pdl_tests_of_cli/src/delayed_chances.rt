@@ -1,5 +1,5 @@
 // Further ones, whose memories answer by chance, each on its own.
-use crate::delayed_runs::{Counts, DelayedRun};
+use crate::delayed_runs::{DelayedCounts, DelayedRun};
 
 /// Each reply is given by chance.
 pub const CHANCES: [DelayedRun; 5] = [
@@ -35,7 +35,7 @@ m0 1 1
 d1 0 9
 ",
         replies: [0xb9e57a4b0e44f0b75b4b6f506, 0, 0],
-        counts: Counts {
+        counts: DelayedCounts {
             ended: 16,
             waits: 17,
             squashes: 0,
@@ -66,7 +66,7 @@ m1 0 b1
 m1 1 7b
 ",
         replies: [0x709be072117b95a4e77a3e2b2, 0, 0],
-        counts: Counts {
+        counts: DelayedCounts {
             ended: 51,
             waits: 48,
             squashes: 0,
@@ -116,7 +116,7 @@ d2 6 98
 d2 7 db
 ",
         replies: [0xab0741e2425c72d817a95003c, 0xf3b3ca13eeb87499e3559c600, 0],
-        counts: Counts {
+        counts: DelayedCounts {
             ended: 12,
             waits: 40,
             squashes: 0,
@@ -147,7 +147,7 @@ d1 0 d5
 d1 1 a5
 ",
         replies: [0xc204205d14101300103001b00, 0, 0],
-        counts: Counts {
+        counts: DelayedCounts {
             ended: 20,
             waits: 72,
             squashes: 0,
@@ -198,7 +198,7 @@ d3 7 88
             0x4840043a0b4c4000c10106800,
             0x300400640261004c801480210,
         ],
-        counts: Counts {
+        counts: DelayedCounts {
             ended: 16,
             waits: 82,
             squashes: 0,

@@ -2,7 +2,7 @@
 
 /// How many threads ended in a run, in how many cycles some request waited, and how many guesses were wrong.
 #[derive(Clone, Copy, Default, PartialEq)]
-pub struct Counts {
+pub struct DelayedCounts {
     pub ended: u64,
     pub waits: u64,
     pub squashes: u64,
@@ -14,7 +14,7 @@ pub struct DelayedRun {
     pub source: &'static [u8],
     pub image: &'static [u8],
     pub replies: [u128; 3],
-    pub counts: Counts,
+    pub counts: DelayedCounts,
 }
 
 /// Replies that are always the same.
@@ -61,7 +61,7 @@ release(m0[a2]);
 d1 0 dd
 ",
         replies: [u128::MAX, 0, 0],
-        counts: Counts {
+        counts: DelayedCounts {
             ended: 12,
             waits: 0,
             squashes: 4,
@@ -115,7 +115,7 @@ d2 2 c8
 d2 3 5
 ",
         replies: [u128::MAX, u128::MAX, 0],
-        counts: Counts {
+        counts: DelayedCounts {
             ended: 19,
             waits: 0,
             squashes: 0,
@@ -170,7 +170,7 @@ m4 2 9a46
 m4 3 f045
 ",
         replies: [0, 0, 0],
-        counts: Counts {
+        counts: DelayedCounts {
             ended: 0,
             waits: 99,
             squashes: 0,
@@ -233,7 +233,7 @@ m3 0 a
 m3 1 9
 ",
         replies: [0x382397478f9f81c0e40c3e13e, 0x382397478f9f81c0e40c3e13e, 0],
-        counts: Counts {
+        counts: DelayedCounts {
             ended: 22,
             waits: 43,
             squashes: 17,
@@ -287,7 +287,7 @@ d3 3 b9
             0xe71e7c1e30478f9e6c630765c,
             0xe71e7c1e30478f9e6c630765c,
         ],
-        counts: Counts {
+        counts: DelayedCounts {
             ended: 19,
             waits: 41,
             squashes: 11,

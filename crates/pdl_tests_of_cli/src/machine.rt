@@ -8,7 +8,7 @@ use crate::asked::{is_done, prints};
 use crate::random::RANDOM;
 use pdl_check::Accepted;
 use pdl_check::check::check;
-use pdl_form::{Lock, Mem};
+use pdl_form::{FlatMem, Lock};
 use pdl_image::{FileError, Image, read_image};
 use pdl_kit::files::LONGEST_FILE;
 use pdl_kit::{MemSink, NoMemory};
@@ -32,7 +32,7 @@ fn push_ports(
     text: &mut Vec<u8>,
     cycle: u32,
     machine: &Machine<'_>,
-    mem: &Mem,
+    mem: &FlatMem,
     at: usize,
 ) -> Result<(), NoMemory> {
     if shown(machine, at) == 1 && mem.name.len() <= 32 && mem.width <= 64 {
@@ -49,7 +49,7 @@ fn push_commits(
     text: &mut Vec<u8>,
     cycle: u32,
     machine: &Machine<'_>,
-    mems: &[Mem],
+    mems: &[FlatMem],
     first: usize,
 ) -> Result<usize, NoMemory> {
     let mut at = first;
@@ -63,7 +63,7 @@ fn push_commits(
 }
 
 // How many memories are delayed.
-fn count_delayed(mems: &[Mem]) -> usize {
+fn count_delayed(mems: &[FlatMem]) -> usize {
     mems.iter().filter(|mem| mem.delayed).count()
 }
 

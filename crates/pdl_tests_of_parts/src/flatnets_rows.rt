@@ -1,6 +1,6 @@
 // Expressions and guards as nets.
 use pdl_build::Builder;
-use pdl_form::{Expr, Guard};
+use pdl_form::{FlatExpr, FlatGuard};
 use pdl_kit::{Boxed, Name, NoMemory};
 use pdl_net::Net;
 use pdl_pipe_exprs::{Bits, all_taken, value};
@@ -12,29 +12,29 @@ fn emit_twice(alloc: Global, b: &mut Builder) -> Result<[(Net, usize); 2], NoMem
     let name = Name::copy_of(alloc, b"n")?;
     let n = b.input(&name, 8)?;
     let (op, width) = (BinaryOp::Add, 8);
-    let x = Boxed::new(alloc, Expr::Variable(0))?;
-    let one = Boxed::new(alloc, Expr::Constant { width, value: 1 })?;
+    let x = Boxed::new(alloc, FlatExpr::Variable(0))?;
+    let one = Boxed::new(alloc, FlatExpr::Constant { width, value: 1 })?;
     let high = Boxed::new(
         alloc,
-        Expr::Binary {
+        FlatExpr::Binary {
             op,
             width,
             a: x,
             b: one,
         },
     )?;
-    let y = Boxed::new(alloc, Expr::Variable(0))?;
-    let same = Boxed::new(alloc, Expr::Constant { width, value: 1 })?;
+    let y = Boxed::new(alloc, FlatExpr::Variable(0))?;
+    let same = Boxed::new(alloc, FlatExpr::Constant { width, value: 1 })?;
     let low = Boxed::new(
         alloc,
-        Expr::Binary {
+        FlatExpr::Binary {
             op,
             width,
             a: y,
             b: same,
         },
     )?;
-    let e = Expr::Cat {
+    let e = FlatExpr::Cat {
         a: high,
         width,
         b: low,
@@ -50,19 +50,19 @@ fn emit_folded(alloc: Global, b: &mut Builder) -> Result<(Net, usize), NoMemory>
     let name = Name::copy_of(alloc, b"n")?;
     let n = b.input(&name, 8)?;
     let (op, width) = (BinaryOp::Add, 8);
-    let two = Boxed::new(alloc, Expr::Constant { width, value: 2 })?;
-    let three = Boxed::new(alloc, Expr::Constant { width, value: 3 })?;
+    let two = Boxed::new(alloc, FlatExpr::Constant { width, value: 2 })?;
+    let three = Boxed::new(alloc, FlatExpr::Constant { width, value: 3 })?;
     let five = Boxed::new(
         alloc,
-        Expr::Binary {
+        FlatExpr::Binary {
             op,
             width,
             a: two,
             b: three,
         },
     )?;
-    let x = Boxed::new(alloc, Expr::Variable(0))?;
-    let e = Expr::Binary {
+    let x = Boxed::new(alloc, FlatExpr::Variable(0))?;
+    let e = FlatExpr::Binary {
         op,
         width,
         a: five,
@@ -78,9 +78,9 @@ fn emit_cells(alloc: Global, b: &mut Builder) -> Result<[Net; 4], NoMemory> {
     let input = b.input(&name, 1)?;
     let bits = Bits::new(b)?;
     let (op, width) = (BinaryOp::Add, 1);
-    let x = Boxed::new(alloc, Expr::Variable(0))?;
-    let one = Boxed::new(alloc, Expr::Constant { width, value: 1 })?;
-    let e = Expr::Binary {
+    let x = Boxed::new(alloc, FlatExpr::Variable(0))?;
+    let one = Boxed::new(alloc, FlatExpr::Constant { width, value: 1 })?;
+    let e = FlatExpr::Binary {
         op,
         width,
         a: x,
@@ -89,7 +89,7 @@ fn emit_cells(alloc: Global, b: &mut Builder) -> Result<[Net; 4], NoMemory> {
     let sum = value(b, &[input], &e)?;
     drop(e);
     let (var, first) = (0, false);
-    let on = all_taken(bits, b, &[sum], &[Guard { var, first }])?;
+    let on = all_taken(bits, b, &[sum], &[FlatGuard { var, first }])?;
     let off = bits.both(b, bits.zero, on)?;
     Ok([bits.zero, sum, on, off])
 }

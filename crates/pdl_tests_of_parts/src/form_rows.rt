@@ -2,14 +2,14 @@
 ghost use Rattle.std.specs.Prelude.{◌≡◌, length, IfOk};
 ghost use Rattle.pdl_form.specs.FormView.{form};
 
-use pdl_form::{Branch, Expr, FlatPipe, Lock, Mem, Next, Op, Stage, Stmt};
+use pdl_form::{FlatBranch, FlatExpr, FlatMem, FlatPipe, FlatStage, FlatStmt, Lock, Next, Op};
 use pdl_kit::{Name, NoMemory, Seq};
 use pdl_stages::{Fork, StageGraph, stage_graph};
 use std::alloc::Global;
 
 // A fork on the variable 0 in the stage 0 into the stage 1 on its first branch, and the merge in the stage 2.
-const STAGES: [Stage; 3] = [
-    Stage {
+const STAGES: [FlatStage; 3] = [
+    FlatStage {
         next: Next::Forks {
             x: 0,
             first: 1,
@@ -18,15 +18,15 @@ const STAGES: [Stage; 3] = [
         branch: None,
         merges: None,
     },
-    Stage {
+    FlatStage {
         next: Next::Goes(2),
-        branch: Some(Branch {
+        branch: Some(FlatBranch {
             fork: 0,
             first: true,
         }),
         merges: None,
     },
-    Stage {
+    FlatStage {
         next: Next::Ends,
         branch: None,
         merges: Some(0),
@@ -34,8 +34,8 @@ const STAGES: [Stage; 3] = [
 ];
 
 /// A memory of eight bytes.
-pub fn memory(alloc: Global) -> Result<Mem, NoMemory> {
-    Ok(Mem {
+pub fn memory(alloc: Global) -> Result<FlatMem, NoMemory> {
+    Ok(FlatMem {
         name: Name::copy_of(alloc, b"m")?,
         width: 8,
         depth: 8,
@@ -44,8 +44,8 @@ pub fn memory(alloc: Global) -> Result<Mem, NoMemory> {
     })
 }
 
-fn add(alloc: Global, stmts: &mut Vec<Stmt>, stage: usize, op: Op) -> Result<(), NoMemory> {
-    stmts.push(Stmt {
+fn add(alloc: Global, stmts: &mut Vec<FlatStmt>, stage: usize, op: Op) -> Result<(), NoMemory> {
+    stmts.push(FlatStmt {
         stage,
         guards: Seq::new(alloc),
         op,
@@ -54,10 +54,10 @@ fn add(alloc: Global, stmts: &mut Vec<Stmt>, stage: usize, op: Op) -> Result<(),
 }
 
 /// A reserve in the first stage, its write and its release in the last.
-pub fn statements(alloc: Global, last: usize) -> Result<Vec<Stmt>, NoMemory> {
+pub fn statements(alloc: Global, last: usize) -> Result<Vec<FlatStmt>, NoMemory> {
     let mut stmts = Vec::new(alloc);
     add(alloc, &mut stmts, 0, Op::ReserveWrite { m: 0, a: 0 })?;
-    let e = Expr::Constant { width: 8, value: 7 };
+    let e = FlatExpr::Constant { width: 8, value: 7 };
     add(alloc, &mut stmts, last, Op::Write { m: 0, a: 0, e })?;
     add(alloc, &mut stmts, last, Op::Release { m: 0, a: 0 })?;
     Ok(stmts)

@@ -3,19 +3,19 @@ ghost use Rattle.std.specs.Prelude.{◌≡◌, length, IfOk};
 ghost use Rattle.pdl_form.specs.FormView.{form};
 
 use crate::form_rows::{memory, statements};
-use pdl_form::{FlatPipe, Next, Stage};
+use pdl_form::{FlatPipe, FlatStage, Next};
 use pdl_kit::NoMemory;
 use pdl_pipe_lives::{held_from, keeps_ticket, lives_from};
 use std::alloc::Global;
 use std::mem::drop;
 
-const STAGES: [Stage; 2] = [
-    Stage {
+const STAGES: [FlatStage; 2] = [
+    FlatStage {
         next: Next::Goes(1),
         branch: None,
         merges: None,
     },
-    Stage {
+    FlatStage {
         next: Next::Ends,
         branch: None,
         merges: None,

@@ -9,7 +9,7 @@ mod model;
 use crate::locks::bench::{Bench, emit_bench};
 use crate::locks::board::{Board, lowest};
 use crate::locks::drive::agreed;
-use crate::locks::model::Lock;
+use crate::locks::model::ModelLock;
 use pdl_bypass::BypassLock;
 use pdl_kit::{MemInfo, Name, NoMemory};
 use pdl_lockapi::LockModule;
@@ -64,7 +64,7 @@ fn agreed_from_reset(
     tickets: u64,
 ) -> Result<u32, NoMemory> {
     let mut board = Board::new(alloc, &bench.netlist, IMAGE.as_slice())?;
-    let mut lock = Lock::new(alloc, sees_pending, size, IMAGE.as_slice())?;
+    let mut lock = ModelLock::new(alloc, sees_pending, size, IMAGE.as_slice())?;
     Ok(agreed(&mut board, bench, &mut lock, tickets))
 }
 

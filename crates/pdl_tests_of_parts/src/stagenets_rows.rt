@@ -6,7 +6,7 @@ ghost use Rattle.pdl_pipe_exprs.specs.Conditions.{AreBits};
 ghost use Rattle.pdl_pipe_walk.specs.Sized.{IsWalkOf, AreWalked};
 
 use pdl_build::Builder;
-use pdl_form::{FlatPipe, Next, Op, Stage, Stmt};
+use pdl_form::{FlatPipe, FlatStage, FlatStmt, Next, Op};
 use pdl_kit::{NoMemory, Seq};
 use pdl_pipe_exprs::Bits;
 use pdl_pipe_walk::{Setting, WalkNets};
@@ -14,10 +14,10 @@ use pdl_queue::QueueLock;
 use std::alloc::Global;
 
 // A statement of the first stage, which stands under no guard.
-fn statement(alloc: Global, op: Op) -> Stmt
+fn statement(alloc: Global, op: Op) -> FlatStmt
     ensures { stmt_view result ≡ record { stage = 0; guards = []; op = act_view op } }
 {
-    Stmt {
+    FlatStmt {
         stage: 0,
         guards: Seq::new(alloc),
         op,
@@ -53,7 +53,7 @@ fn guesser(alloc: Global) -> Result<FlatPipe, NoMemory>
 }
 
 // A pipe of one stage with these statements, without variables and memories.
-fn one_stage(alloc: Global, stmts: Vec<Stmt>) -> Result<FlatPipe, NoMemory>
+fn one_stage(alloc: Global, stmts: Vec<FlatStmt>) -> Result<FlatPipe, NoMemory>
     ensures stmts { IfOk result (λ f. (form f).pipe.stmts ≡ stmts_view stmts.items) }
     ensures start { IfOk result (λ f. (form f).pipe.start ≡ []) }
     ensures widths { IfOk result (λ f. (form f).widths ≡ []) }
@@ -61,7 +61,7 @@ fn one_stage(alloc: Global, stmts: Vec<Stmt>) -> Result<FlatPipe, NoMemory>
     ensures stages { IfOk result (λ f. length (form f).pipe.stages ≡ 1) }
 {
     let mut stages = Vec::new(alloc);
-    stages.push(Stage {
+    stages.push(FlatStage {
         next: Next::Ends,
         branch: None,
         merges: None,

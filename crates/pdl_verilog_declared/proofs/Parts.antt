@@ -2,7 +2,7 @@
 use Rattle.std.proofs.Common.{◌≡◌, Some, codes, refl}
 use Rattle.pdl_vread_text.specs.declared.part.Part.{Part}
 use Rattle.pdl_vread_text.specs.declared.part.Part.TheVariants as part
-use Rattle.pdl_vread_text.specs.declared.rule.Rule.TheVariants as rule
+use Rattle.pdl_vread_text.specs.declared.rule.VerilogRule.TheVariants as rule
 use Rattle.pdl_vread_text.specs.Grammar.{chosen}
 
 -- a block of a register or of an array, or the last line

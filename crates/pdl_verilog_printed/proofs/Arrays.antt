@@ -4,7 +4,7 @@ use Rattle.std.proofs.lemmas.Bool.{cond-true}
 use Rattle.pdl_net.specs.declared.Array.{Array}
 use Rattle.pdl_net.specs.Well.{IsWidth}
 use Rattle.pdl_vread_text.specs.declared.part.Part.TheVariants as part
-use Rattle.pdl_vread_text.specs.declared.rule.Rule.TheVariants as rule
+use Rattle.pdl_vread_text.specs.declared.rule.VerilogRule.TheVariants as rule
 use Rattle.pdl_vread_text.specs.declared.file.File.{File}
 use Rattle.pdl_vread_text.specs.declared.file.ArrayDecl.{ArrayDecl}
 use Rattle.pdl_vread_text.specs.declared.draft.Draft.{Draft}

@@ -4,7 +4,7 @@ use Rattle.std.specs.List.{list_all}
 use Rattle.std.proofs.lemmas.Bool.{and_parts, or_from, ne_eqb, leb-true, cond-true, cond-false, and_left}
 use Rattle.std.proofs.lemmas.Fmt.{decimal_nonempty}
 use Rattle.pdl_vread_text.specs.declared.part.Part.TheVariants as part
-use Rattle.pdl_vread_text.specs.declared.rule.Rule.TheVariants as rule
+use Rattle.pdl_vread_text.specs.declared.rule.VerilogRule.TheVariants as rule
 use Rattle.pdl_vread_text.specs.declared.file.File.{File}
 use Rattle.pdl_vread_text.specs.declared.file.Term.{Term}
 use Rattle.pdl_vread_text.specs.declared.file.Term.TheVariants as t

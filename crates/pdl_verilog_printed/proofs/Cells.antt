@@ -2,7 +2,7 @@
 use Rattle.std.proofs.Common.{◌≡◌, ℕ, ◌+◌, ◌-◌, ◌^◌, ◌<◌, ◌≤◌, List, [], ◌∷◌, ◌++◌, codes, decimal, Some, refl, ap, ◌∙◌, arith}
 use Rattle.pdl_net.specs.Well.{IsWidth}
 use Rattle.pdl_vread_text.specs.declared.part.Part.{Part}
-use Rattle.pdl_vread_text.specs.declared.rule.Rule.TheVariants as rule
+use Rattle.pdl_vread_text.specs.declared.rule.VerilogRule.TheVariants as rule
 use Rattle.pdl_vread_text.specs.declared.file.File.{File}
 use Rattle.pdl_vread_text.specs.Tokens.{piece_at, tokens_from}
 use Rattle.pdl_vread_text.specs.Grammar.{Row, AllFit, none, more, fields, chosen}

@@ -4,7 +4,7 @@ use Rattle.std.proofs.lemmas.Bool.{cond-true}
 use Rattle.pdl_vread_text.specs.declared.numbers.Constant.{Constant}
 use Rattle.pdl_vread_text.specs.declared.part.Part.{Part}
 use Rattle.pdl_vread_text.specs.declared.part.Part.TheVariants as part
-use Rattle.pdl_vread_text.specs.declared.rule.Rule.TheVariants as rule
+use Rattle.pdl_vread_text.specs.declared.rule.VerilogRule.TheVariants as rule
 use Rattle.pdl_vread_text.specs.declared.file.File.{File}
 use Rattle.pdl_vread_text.specs.declared.file.OutputDecl.{OutputDecl}
 use Rattle.pdl_vread_text.specs.declared.file.RegBlock.{RegBlock}

@@ -7,8 +7,8 @@ use Rattle.pdl_net.specs.declared.Port.{Port}
 use Rattle.pdl_net.specs.Well.{IsWidth}
 use Rattle.pdl_net.specs.Pipe.{is_input}
 use Rattle.pdl_vread_text.specs.declared.part.Part.TheVariants as part
-use Rattle.pdl_vread_text.specs.declared.rule.Rule.{Rule}
-use Rattle.pdl_vread_text.specs.declared.rule.Rule.TheVariants as rule
+use Rattle.pdl_vread_text.specs.declared.rule.VerilogRule.{VerilogRule}
+use Rattle.pdl_vread_text.specs.declared.rule.VerilogRule.TheVariants as rule
 use Rattle.pdl_vread_text.specs.declared.file.File.{File}
 use Rattle.pdl_vread_text.specs.declared.file.PortDecl.{PortDecl}
 use Rattle.pdl_vread_text.specs.declared.draft.Draft.{Draft}
@@ -75,7 +75,7 @@ abbrev word_of : Dir → List ℕ
 word_of In = codes "input"
 word_of (Out n) = codes "output"
 
-abbrev rule_of : Dir → Rule
+abbrev rule_of : Dir → VerilogRule
 rule_of In = rule.InputPort
 rule_of (Out n) = rule.OutputPort
 

@@ -5,7 +5,7 @@ use Rattle.std.proofs.lemmas.Bool.{and_parts, and_from, or_cases, or_left, or_ri
 use Rattle.std.proofs.lemmas.List.Folds.{list_all-append}
 use Rattle.std.proofs.lemmas.Fmt.{decimal_nonempty}
 use Rattle.pdl_vread_text.specs.declared.part.Part.TheVariants as part
-use Rattle.pdl_vread_text.specs.declared.rule.Rule.TheVariants as rule
+use Rattle.pdl_vread_text.specs.declared.rule.VerilogRule.TheVariants as rule
 use Rattle.pdl_vread_text.specs.Tokens.{is_word, is_lower, is_digit}
 use Rattle.pdl_vread_text.specs.Words.{number_of, constant_of, is_name, has_name_form, is_name_byte, is_statement_keyword, are_decimals, is_named, is_input, is_reg, is_cell, is_operand}
 use Rattle.pdl_vread_text.specs.Grammar.{chosen}

@@ -1,7 +1,7 @@
 -- A text that is read rule by rule, from a part of a file on.
 use Rattle.std.proofs.Common.{◌≡◌, ℕ, List, [], ◌∷◌, ◌++◌, Some, sym, subst}
 use Rattle.pdl_vread_text.specs.declared.part.Part.{Part}
-use Rattle.pdl_vread_text.specs.declared.rule.Rule.{Rule}
+use Rattle.pdl_vread_text.specs.declared.rule.VerilogRule.{VerilogRule}
 use Rattle.pdl_vread_text.specs.declared.file.File.{File}
 use Rattle.pdl_vread_text.specs.declared.draft.Draft.{Draft}
 use Rattle.pdl_vread_text.specs.Tokens.{Token, tokens_from}
@@ -19,7 +19,7 @@ abbrev pub CompletesFile : Part → ℕ → List ℕ → File → File → Type 
 CompletesFile part line text before f = (d : Draft) → d.file ≡ before → d.writes ≡ [] → Completes part line text d f
 
 -- one rule more before a text
-pub one_rule : (part : Part) (rule : Rule) (line after : ℕ) (text rest : List ℕ) (t : Token) (ts : Row) (d : Draft) (f : File)
+pub one_rule : (part : Part) (rule : VerilogRule) (line after : ℕ) (text rest : List ℕ) (t : Token) (ts : Row) (d : Draft) (f : File)
     → chosen part t.text ≡ Some rule → AllFit (fields rule) (t ∷ ts)
     → tokens_from 0 line text ≡ t ∷ ts ++ tokens_from 0 after rest
     → Completes (next rule) after rest (taken d rule (t ∷ ts)) f → Completes part line text d f

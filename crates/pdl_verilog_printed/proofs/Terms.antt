@@ -5,8 +5,8 @@ use Rattle.pdl_net.specs.declared.BinOp.{BinOp}
 use Rattle.pdl_net.specs.declared.BinOp.TheVariants as op
 use Rattle.pdl_vread_text.specs.declared.numbers.Constant.{Constant}
 use Rattle.pdl_vread_text.specs.declared.part.Part.TheVariants as part
-use Rattle.pdl_vread_text.specs.declared.rule.Rule.{Rule}
-use Rattle.pdl_vread_text.specs.declared.rule.Rule.TheVariants as rule
+use Rattle.pdl_vread_text.specs.declared.rule.VerilogRule.{VerilogRule}
+use Rattle.pdl_vread_text.specs.declared.rule.VerilogRule.TheVariants as rule
 use Rattle.pdl_vread_text.specs.declared.file.File.{File}
 use Rattle.pdl_vread_text.specs.declared.file.CellDecl.{CellDecl}
 use Rattle.pdl_vread_text.specs.declared.file.Term.{Term}
@@ -40,7 +40,7 @@ pub record IsHeaded (d : Draft) (before : File) (line high : ℕ) (name : List �
   pub target_is : d.target ≡ name
 
 -- a draft with a cell's head has, after its term, the file with that cell
-pub cell_added : (d : Draft) (before : File) (line high : ℕ) (name : List ℕ) (r : Rule) (ts : Row) (tm : Term)
+pub cell_added : (d : Draft) (before : File) (line high : ℕ) (name : List ℕ) (r : VerilogRule) (ts : Row) (tm : Term)
     → IsHeaded d before line high name → term d.operand r ts ≡ tm
     → (with_cell d r ts).file ≡ add_cell before (cell_decl line high name tm)
 cell_added d before line high name r ts tm h e =

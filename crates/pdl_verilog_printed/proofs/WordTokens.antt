@@ -2,7 +2,7 @@
 use Rattle.std.proofs.Common.{◌≡◌, ℕ, ◌+◌, ◌≤◌, true, false, cond, ◌||◌, eqb, List, [], ◌∷◌, ◌++◌, length, take, drop, codes, refl, sym, ap, ◌∙◌, arith}
 use Rattle.std.specs.List.{list_all, prefix_len}
 use Rattle.std.proofs.lemmas.Bool.{and_parts, or_parts, or_from, ne_eqb, true≢false, cond-true, cond-false}
-use Rattle.pdl_vread_text.specs.declared.piece.Piece as r
+use Rattle.pdl_vread_text.specs.declared.piece.VerilogPiece as r
 use Rattle.pdl_vread_text.specs.Tokens.{Token, Piece, is_word, is_blank, piece_at, line_after, tokens_from}
 use Rattle.pdl_vread_text.specs.Pieces.{piece_view}
 use Rattle.pdl_vread_text.proofs.Steps.{step_token}
@@ -41,7 +41,7 @@ pub word_token : (w rest : List ℕ) (line : ℕ) → IsWordText w
     → prefix_len is_word rest ≡ 0 → tokens_from 0 line (w ++ rest) ≡ token w line ∷ tokens_from 0 line rest
 word_token [] rest line h e = let l : 1 ≤ 0 = h.some in absurd (omega arith)
 word_token (c ∷ w) rest line h e =
-    let p : r.Piece = record { is_token = true; size = length (c ∷ w) } in
+    let p : r.VerilogPiece = record { is_token = true; size = length (c ∷ w) } in
     let k = and_parts (is_word c) (list_all is_word w) h.all in
     let same : drop (length (c ∷ w)) ((c ∷ w) ++ rest) ≡ rest = drop_front (c ∷ w) rest in
     let text : take (length (c ∷ w)) ((c ∷ w) ++ rest) ≡ c ∷ w = take-append_seam (c ∷ w) rest in

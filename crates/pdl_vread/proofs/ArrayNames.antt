@@ -7,8 +7,8 @@ use Rattle.std.proofs.lemmas.Slice.Eq.{bytes_eq-Decides}
 use Rattle.pdl_vread_text.specs.declared.field.Field.{Field}
 use Rattle.pdl_vread_text.specs.declared.field.Field.TheVariants as field
 use Rattle.pdl_vread_text.specs.declared.part.Part.{Part}
-use Rattle.pdl_vread_text.specs.declared.rule.Rule.{Rule}
-use Rattle.pdl_vread_text.specs.declared.rule.Rule.TheVariants as rule
+use Rattle.pdl_vread_text.specs.declared.rule.VerilogRule.{VerilogRule}
+use Rattle.pdl_vread_text.specs.declared.rule.VerilogRule.TheVariants as rule
 use Rattle.pdl_vread_text.specs.declared.draft.Draft.{Draft}
 use Rattle.pdl_vread_text.specs.declared.file.File.{File}
 use Rattle.pdl_vread_text.specs.declared.file.ArrayDecl.{ArrayDecl}
@@ -37,7 +37,7 @@ first_name _ later _ (more {g = g} {t = t} q rest) e =
     let i : g ≡ field.ArrayName = cc in
     array_name t.text (subst (λ z. fits z t.text ≡ true) i q)
 
-taken_named : (d : Draft) (ru : Rule) (ts : Row) → AllFit (fields ru) ts → Each IsNamed d.file.arrays
+taken_named : (d : Draft) (ru : VerilogRule) (ts : Row) → AllFit (fields ru) ts → Each IsNamed d.file.arrays
     → Each IsNamed (taken d ru ts).file.arrays
 taken_named d rule.ArrayDeclared ts a h = each_push IsNamed d.file.arrays _ h (first_name (fields rule.ArrayDeclared) _ ts a refl)
 taken_named d _ ts a h = h

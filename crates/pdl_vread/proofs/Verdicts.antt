@@ -6,7 +6,7 @@ use Rattle.pdl_kit.specs.declared.rule.Rule.TheVariants.{V1, V2, V3, V4, V5}
 use Rattle.pdl_net.specs.declared.Netlist.{Netlist}
 use Rattle.pdl_net.specs.Pipe.{IsPipe}
 use Rattle.pdl_vread_text.specs.declared.file.File.{File}
-use Rattle.pdl_vread_text.specs.declared.read.TextError.TheVariants.{Misplaced}
+use Rattle.pdl_vread_text.specs.declared.read.VerilogError.TheVariants.{Misplaced}
 use Rattle.pdl_vread_text.specs.Text.{IsFile, IsOutOfPlace}
 use Rattle.pdl_vread_text.proofs.Place.{one_file, judged_exact}
 use Rattle.pdl_vread_nets.specs.declared.wiring.Wiring.{Wiring}

@@ -7,8 +7,8 @@ use Rattle.pdl_net.specs.declared.Netlist.{Netlist}
 use Rattle.pdl_net.specs.Pipe.{IsPipe}
 use Rattle.pdl_vread_text.specs.declared.file.File.{File}
 use Rattle.pdl_vread_text.specs.Text.{IsFile, IsOutOfPlace}
-use Rattle.pdl_vread_nets.specs.declared.passes.Stop.{Stop}
-use Rattle.pdl_vread_nets.specs.declared.passes.Stop.TheVariants as stop
+use Rattle.pdl_vread_nets.specs.declared.passes.PassStop.{PassStop}
+use Rattle.pdl_vread_nets.specs.declared.passes.PassStop.TheVariants as stop
 use Rattle.pdl_vread_nets.specs.declared.wiring.Wiring.{Wiring}
 use Rattle.pdl_vread_nets.specs.Wired.{wiring}
 use Rattle.pdl_vread_rules.specs.Widths.{width_line}
@@ -85,6 +85,6 @@ abbrev pub no_memory : VError
 no_memory = NoMemory
 
 -- the refusal by a rule of what a pass stopped at
-abbrev pub refusal : Rule → Stop → VError
+abbrev pub refusal : Rule → PassStop → VError
 refusal rule (stop.Broken line) = Refused rule line
 refusal rule stop.NoMemory = NoMemory

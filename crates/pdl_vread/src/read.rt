@@ -14,10 +14,10 @@ ghost use Rattle.pdl_vread.specs.Reads as spec;
 use crate::build::build;
 use pdl_kit::{NoMemory, Rule};
 use pdl_net::Netlist;
-use pdl_vread_nets::{Stop, Wiring, wire};
+use pdl_vread_nets::{PassStop, Wiring, wire};
 use pdl_vread_pipe::pipe_mems;
 use pdl_vread_rules::{check_once, check_widths};
-use pdl_vread_text::{File, TextError, read_file};
+use pdl_vread_text::{File, VerilogError, read_file};
 use std::alloc::Global;
 
 /// Why a text was not taken: the lowest rule that it breaks, with the lowest line where it breaks it (counted from 1), or want of memory.
@@ -36,12 +36,12 @@ impl From<NoMemory> for VError {
 }
 
 // The refusal by a rule.
-fn refusal(rule: Rule, stop: Stop) -> VError
+fn refusal(rule: Rule, stop: PassStop) -> VError
     ensures { result ≡ spec.refusal rule stop }
 {
     match stop {
-        Stop::Broken { line } => VError::Refused { rule, line },
-        Stop::NoMemory => VError::NoMemory,
+        PassStop::Broken { line } => VError::Refused { rule, line },
+        PassStop::NoMemory => VError::NoMemory,
     }
 }
 
@@ -52,11 +52,11 @@ fn file_of(alloc: Global, text: &[u8]) -> Result<File, VError>
 {
     match read_file(alloc, text) {
         Ok(file) => Ok(file),
-        Err(TextError::Misplaced { line }) => Err(VError::Refused {
+        Err(VerilogError::Misplaced { line }) => Err(VError::Refused {
             rule: Rule::V1,
             line,
         }),
-        Err(TextError::NoMemory) => Err(VError::NoMemory),
+        Err(VerilogError::NoMemory) => Err(VError::NoMemory),
     }
 }
 

@@ -8,8 +8,8 @@ use Rattle.pdl_vread_nets.specs.declared.wiring.RegDrive.{RegDrive}
 use Rattle.pdl_vread_nets.specs.Wired as spec
 use Rattle.pdl_vread_nets.specs.Wired.{wiring, net_of}
 use Rattle.pdl_net.specs.declared.Net.TheVariants.{Reg as RegNet, Cell as CellNet}
-use Rattle.pdl_vread_nets.specs.declared.passes.Stop.{Stop}
-use Rattle.pdl_vread_nets.specs.declared.passes.Stop.TheVariants as stop
+use Rattle.pdl_vread_nets.specs.declared.passes.PassStop.{PassStop}
+use Rattle.pdl_vread_nets.specs.declared.passes.PassStop.TheVariants as stop
 
 -- ---- all of it
 
@@ -32,14 +32,14 @@ wired_so f g k cs os rs bs e h a b c d =
     ∙ ap (λ x. spec.with_parts (Ok cs) (Ok os) (Ok rs) x) d2))
 
 -- where the pass over cells stops, the wiring of the file does
-pub cells_stop : (f g : File) (e : Stop) → g ≡ f → spec.Gives (spec.cells_from g 0 f.cells) (Err e) → spec.Gives (spec.wiring f) (Err e)
+pub cells_stop : (f g : File) (e : PassStop) → g ≡ f → spec.Gives (spec.cells_from g 0 f.cells) (Err e) → spec.Gives (spec.wiring f) (Err e)
 unfolding wiring
 cells_stop f g (stop.Broken line) i h =
     ap (λ x. spec.with_parts x (spec.all_outputs f (length f.cells) f.outputs) (spec.all_regs f (length f.cells) f.reg_blocks) (spec.blocks_of f (length f.cells) f.array_blocks)) (subst (λ x. spec.cells_from x 0 f.cells ≡ Err line) i h)
 cells_stop f g stop.NoMemory i h = tt
 
 -- where the pass over outputs stops, after that over cells, the wiring of the file does
-pub outputs_stop : (f g : File) (k : ℕ) (cs : List Cell) (e : Stop)
+pub outputs_stop : (f g : File) (k : ℕ) (cs : List Cell) (e : PassStop)
     → g ≡ f → k ≡ length f.cells → spec.cells_from f 0 f.cells ≡ Ok cs
     → spec.Gives (spec.all_outputs g k f.outputs) (Err e) → spec.Gives (spec.wiring f) (Err e)
 unfolding wiring
@@ -49,7 +49,7 @@ outputs_stop f g k cs (stop.Broken line) i j a h =
 outputs_stop f g k cs stop.NoMemory i j a h = tt
 
 -- where the pass over registers stops, after that over outputs, the wiring of the file does
-pub regs_stop : (f g : File) (k : ℕ) (cs : List Cell) (os : List OutputDrive) (e : Stop)
+pub regs_stop : (f g : File) (k : ℕ) (cs : List Cell) (os : List OutputDrive) (e : PassStop)
     → g ≡ f → k ≡ length f.cells → spec.cells_from f 0 f.cells ≡ Ok cs → spec.all_outputs g k f.outputs ≡ Ok os
     → spec.Gives (spec.all_regs g k f.reg_blocks) (Err e) → spec.Gives (spec.wiring f) (Err e)
 unfolding wiring
@@ -60,7 +60,7 @@ regs_stop f g k cs os (stop.Broken line) i j a b h =
 regs_stop f g k cs os stop.NoMemory i j a b h = tt
 
 -- where the pass over blocks of arrays stops, after that over registers, the wiring of the file does
-pub blocks_stop : (f g : File) (k : ℕ) (cs : List Cell) (os : List OutputDrive) (rs : List RegDrive) (e : Stop)
+pub blocks_stop : (f g : File) (k : ℕ) (cs : List Cell) (os : List OutputDrive) (rs : List RegDrive) (e : PassStop)
     → g ≡ f → k ≡ length f.cells → spec.cells_from f 0 f.cells ≡ Ok cs → spec.all_outputs g k f.outputs ≡ Ok os
     → spec.all_regs g k f.reg_blocks ≡ Ok rs → spec.Gives (spec.blocks_of g k f.array_blocks) (Err e)
     → spec.Gives (spec.wiring f) (Err e)

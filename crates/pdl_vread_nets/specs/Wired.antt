@@ -14,8 +14,8 @@ use Rattle.pdl_vread_text.specs.declared.file.WriteDecl.{WriteDecl}
 use Rattle.pdl_vread_text.specs.declared.file.ArrayBlock.{ArrayBlock}
 use Rattle.pdl_vread_text.specs.declared.file.Term.{Term}
 use Rattle.pdl_vread_text.specs.declared.file.Term.TheVariants as t
-use Rattle.pdl_vread_nets.specs.declared.passes.Stop.{Stop}
-use Rattle.pdl_vread_nets.specs.declared.passes.Stop.TheVariants.{Broken, NoMemory}
+use Rattle.pdl_vread_nets.specs.declared.passes.PassStop.{PassStop}
+use Rattle.pdl_vread_nets.specs.declared.passes.PassStop.TheVariants.{Broken, NoMemory}
 use Rattle.pdl_vread_nets.specs.declared.wiring.OutputDrive.{OutputDrive}
 use Rattle.pdl_vread_nets.specs.declared.wiring.RegDrive.{RegDrive}
 use Rattle.pdl_vread_nets.specs.declared.wiring.ArrayWrite.{ArrayWrite}
@@ -205,7 +205,7 @@ wiring f = with_parts (cells_from f 0 f.cells) (all_outputs f (length f.cells) f
 -- ---- what passes answer
 
 -- the answer is what is wanted, unless memory ran out
-abbrev pub Gives : {A : Type 0} → Result A ℕ → Result A Stop → Type 0
+abbrev pub Gives : {A : Type 0} → Result A ℕ → Result A PassStop → Type 0
 Gives wanted (Ok a) = wanted ≡ Ok a
 Gives wanted (Err (Broken line)) = wanted ≡ Err line
 Gives wanted (Err NoMemory) = Unit {0}
@@ -220,10 +220,10 @@ abbrev pub IsNamed : File → ℕ → List ℕ → Type 0
 IsNamed f k name = map (λ d. d.name) (take (k + 1) f.cells) ≡ map (λ d. d.name) (take k f.cells) ++ name ∷ []
 
 -- the stop where memory ran out
-abbrev pub no_memory : Stop
+abbrev pub no_memory : PassStop
 no_memory = NoMemory
 
 -- what holds where an answer isn't an error
-abbrev pub IfDone : {A : Type 0} → Result A Stop → Type 0 → Type 0
+abbrev pub IfDone : {A : Type 0} → Result A PassStop → Type 0 → Type 0
 IfDone (Ok a) T = T
 IfDone (Err e) T = Unit {0}

@@ -8,6 +8,6 @@ mod places;
 mod scope;
 pub mod wiring;
 
-pub use passes::{Stop, wire};
+pub use passes::{PassStop, wire};
 pub use places::Places;
 pub use wiring::{ArrayWrite, OutputDrive, RegDrive, Wiring};

@@ -12,32 +12,32 @@ use std::alloc::{AllocError, AllocFailed, Global};
 
 /// Why a pass over a file stopped: the line of the first place that breaks its rule, or want of memory.
 #[derive(Clone, Copy)]
-pub enum Stop {
+pub enum PassStop {
     Broken { line: u32 },
     NoMemory,
 }
 
-impl From<NoMemory> for Stop {
+impl From<NoMemory> for PassStop {
     ghost from_gives = { λ _ e. e ≡ spec.no_memory };
 
-    fn from(_e: NoMemory) -> Stop {
-        Stop::NoMemory
+    fn from(_e: NoMemory) -> PassStop {
+        PassStop::NoMemory
     }
 }
 
-impl From<AllocError> for Stop {
+impl From<AllocError> for PassStop {
     ghost from_gives = { λ _ e. e ≡ spec.no_memory };
 
-    fn from(_e: AllocError) -> Stop {
-        Stop::NoMemory
+    fn from(_e: AllocError) -> PassStop {
+        PassStop::NoMemory
     }
 }
 
-impl<T: Drop> From<AllocFailed<T>> for Stop {
+impl<T: Drop> From<AllocFailed<T>> for PassStop {
     ghost from_gives = { λ _ e. e ≡ spec.no_memory };
 
-    fn from(_e: AllocFailed<T>) -> Stop {
-        Stop::NoMemory
+    fn from(_e: AllocFailed<T>) -> PassStop {
+        PassStop::NoMemory
     }
 }
 
@@ -130,7 +130,7 @@ fn write(scope: &Scope<'_>, decl: &WriteDecl) -> Option<ArrayWrite>
     })
 }
 
-fn cells(alloc: Global, scope: &mut Scope<'_>, decls: &[CellDecl]) -> Result<Seq<Cell>, Stop>
+fn cells(alloc: Global, scope: &mut Scope<'_>, decls: &[CellDecl]) -> Result<Seq<Cell>, PassStop>
     requires scope { IsScope scope.old }
     requires none { scope.old.cells.count ≡ 0 }
     requires all { decls.now ≡ scope.old.file.now.cells }
@@ -143,14 +143,18 @@ fn cells(alloc: Global, scope: &mut Scope<'_>, decls: &[CellDecl]) -> Result<Seq
     for decl in decls {
         match cell(scope, decl) {
             Some(cell) => cells.push(cell)?,
-            None => return Err(Stop::Broken { line: decl.line }),
+            None => return Err(PassStop::Broken { line: decl.line }),
         }
         scope.add_cell(&decl.name)?;
     }
     Ok(cells)
 }
 
-fn outputs(alloc: Global, scope: &Scope<'_>, decls: &[OutputDecl]) -> Result<Seq<OutputDrive>, Stop>
+fn outputs(
+    alloc: Global,
+    scope: &Scope<'_>,
+    decls: &[OutputDecl],
+) -> Result<Seq<OutputDrive>, PassStop>
     requires { IsScope scope.now }
     ensures { spec.Gives (spec.all_outputs scope.now.file.now scope.now.cells.count decls.now)
         result }
@@ -159,13 +163,17 @@ fn outputs(alloc: Global, scope: &Scope<'_>, decls: &[OutputDecl]) -> Result<Seq
     for decl in decls {
         match output(scope, decl) {
             Some(drive) => drives.push(drive)?,
-            None => return Err(Stop::Broken { line: decl.line }),
+            None => return Err(PassStop::Broken { line: decl.line }),
         }
     }
     Ok(drives)
 }
 
-fn reg_blocks(alloc: Global, scope: &Scope<'_>, blocks: &[RegBlock]) -> Result<Seq<RegDrive>, Stop>
+fn reg_blocks(
+    alloc: Global,
+    scope: &Scope<'_>,
+    blocks: &[RegBlock],
+) -> Result<Seq<RegDrive>, PassStop>
     requires { IsScope scope.now }
     ensures { spec.Gives (spec.all_regs scope.now.file.now scope.now.cells.count blocks.now)
         result }
@@ -174,13 +182,17 @@ fn reg_blocks(alloc: Global, scope: &Scope<'_>, blocks: &[RegBlock]) -> Result<S
     for block in blocks {
         match reg_block(scope, block) {
             Some(drive) => drives.push(drive)?,
-            None => return Err(Stop::Broken { line: block.line }),
+            None => return Err(PassStop::Broken { line: block.line }),
         }
     }
     Ok(drives)
 }
 
-fn writes(alloc: Global, scope: &Scope<'_>, decls: &[WriteDecl]) -> Result<Seq<ArrayWrite>, Stop>
+fn writes(
+    alloc: Global,
+    scope: &Scope<'_>,
+    decls: &[WriteDecl],
+) -> Result<Seq<ArrayWrite>, PassStop>
     requires { IsScope scope.now }
     ensures { spec.Gives (spec.writes_of scope.now.file.now scope.now.cells.count decls.now)
         result }
@@ -189,7 +201,7 @@ fn writes(alloc: Global, scope: &Scope<'_>, decls: &[WriteDecl]) -> Result<Seq<A
     for decl in decls {
         match write(scope, decl) {
             Some(done) => writes.push(done)?,
-            None => return Err(Stop::Broken { line: decl.line }),
+            None => return Err(PassStop::Broken { line: decl.line }),
         }
     }
     Ok(writes)
@@ -199,7 +211,7 @@ fn blocks(
     alloc: Global,
     scope: &Scope<'_>,
     decls: &[ArrayBlock],
-) -> Result<Seq<Seq<ArrayWrite>>, Stop>
+) -> Result<Seq<Seq<ArrayWrite>>, PassStop>
     requires { IsScope scope.now }
     ensures { spec.Gives (spec.blocks_of scope.now.file.now scope.now.cells.count decls.now)
         result }
@@ -219,7 +231,7 @@ fn wire_after(
     scope: &Scope<'_>,
     file: &File,
     cells: Seq<Cell>,
-) -> Result<Wiring, Stop>
+) -> Result<Wiring, PassStop>
     requires scope { IsScope scope.now }
     requires file { scope.now.file.now ≡ file.now }
     requires count { scope.now.cells.count ≡ length file.now.cells }
@@ -245,7 +257,7 @@ fn wire_after(
 
 /// The wiring of a file, or the line of the first place that breaks V2.
 #[tactic(auto, using(crate::proofs::Steps::cells_stop))]
-pub fn wire(alloc: Global, file: &File) -> Result<Wiring, Stop>
+pub fn wire(alloc: Global, file: &File) -> Result<Wiring, PassStop>
     ensures { spec.Gives (spec.wiring file.now) result }
 {
     let mut scope = Scope::of(alloc, file)?;

@@ -4,7 +4,7 @@ use Rattle.std.proofs.lemmas.List.{drop_more, drop_all}
 use Rattle.std.proofs.lemmas.Bool.{cases_lt}
 use Rattle.pdl_vread_text.specs.declared.file.ArrayBlock.{ArrayBlock}
 use Rattle.pdl_vread_nets.specs.declared.wiring.ArrayWrite.{ArrayWrite}
-use Rattle.pdl_vread_nets.specs.declared.passes.Stop.{Stop}
+use Rattle.pdl_vread_nets.specs.declared.passes.PassStop.{PassStop}
 use Rattle.pdl_vread_rules.specs.declared.table.Widths.{Widths}
 use Rattle.pdl_vread_rules.specs.RuleQuestions.{Asked, first_wrong, both, Tells}
 use Rattle.pdl_vread_rules.specs.Widths.{asked_write, asked_writes}
@@ -38,13 +38,13 @@ module _ (t : Widths) where
       ap (λ n. first_wrong (asked_writes t (drop n bs) (drop n more))) m
       ∙ (sym (rest_first (block (get_or bs i b) (get_or more i ws)) (asked_writes t (drop (i + 1) bs) (drop (i + 1) more)) r) ∙ (ap first_wrong (sym (one_block bs more i b ws h k)) ∙ w))
 
-  pub block_stop : (bs : List ArrayBlock) (more : List (List ArrayWrite)) (i : ℕ) (b : ArrayBlock) (ws : List ArrayWrite) (whole : Option ℕ) (e : Stop) → i < length bs → i < length more
+  pub block_stop : (bs : List ArrayBlock) (more : List (List ArrayWrite)) (i : ℕ) (b : ArrayBlock) (ws : List ArrayWrite) (whole : Option ℕ) (e : PassStop) → i < length bs → i < length more
       → Tells (first_wrong (block (get_or bs i b) (get_or more i ws))) (Err e) → first_wrong (asked_writes t (drop i bs) (drop i more)) ≡ whole → Tells whole (Err e)
   block_stop bs more i b ws whole e h k r w =
       subst (λ z. Tells z (Err e)) (sym (ap first_wrong (one_block bs more i b ws h k)) ∙ w)
       (front_tells (block (get_or bs i b) (get_or more i ws)) (asked_writes t (drop (i + 1) bs) (drop (i + 1) more)) e r)
 
-  pub block_stop_at : (bs : List ArrayBlock) (more : List (List ArrayWrite)) (i : ℕ) (b : ArrayBlock) (ws : List ArrayWrite) (whole : Option ℕ) (e : Stop) → i < length bs → i < length more
+  pub block_stop_at : (bs : List ArrayBlock) (more : List (List ArrayWrite)) (i : ℕ) (b : ArrayBlock) (ws : List ArrayWrite) (whole : Option ℕ) (e : PassStop) → i < length bs → i < length more
       → (told : Option ℕ) → told ≡ first_wrong (block (get_or bs i b) (get_or more i ws)) → Tells told (Err e) → first_wrong (asked_writes t (drop i bs) (drop i more)) ≡ whole → Tells whole (Err e)
   block_stop_at bs more i b ws whole e h k told m r w = block_stop bs more i b ws whole e h k (subst (λ z. Tells z (Err e)) m r) w
 

@@ -6,7 +6,7 @@ use Rattle.std.proofs.lemmas.Bool.{cases_lt}
 use Rattle.pdl_vread_text.specs.declared.file.WriteDecl.{WriteDecl}
 use Rattle.pdl_vread_text.specs.declared.file.ArrayBlock.{ArrayBlock}
 use Rattle.pdl_vread_nets.specs.declared.wiring.ArrayWrite.{ArrayWrite}
-use Rattle.pdl_vread_nets.specs.declared.passes.Stop.{Stop}
+use Rattle.pdl_vread_nets.specs.declared.passes.PassStop.{PassStop}
 use Rattle.pdl_vread_rules.specs.RuleQuestions.{Asked, first_wrong, both, Tells}
 use Rattle.pdl_vread_rules.specs.Once.{owner, write_once, blocks_once}
 use Rattle.pdl_vread_rules.proofs.Passes.{front_tells}
@@ -70,7 +70,7 @@ module _ (bs : List ArrayBlock) (more : List (List ArrayWrite)) (i : ℕ) (b : A
       ∙ (ap (λ z. first_wrong (blocks_once (before ++ owner ws ∷ []) (drop z bs) (drop z more))) m
       ∙ (sym (rest_first (inside b ws) (blocks_once (before ++ owner ws ∷ []) (drop (i + 1) bs) (drop (i + 1) more)) n) ∙ sym (first_block r)))
 
-  pub blocks_stop : (told : Option ℕ) (e : Stop) → has_owner before ws ≡ false → told ≡ first_wrong (inside b ws) → Tells told (Err e) → Tells whole (Err e)
+  pub blocks_stop : (told : Option ℕ) (e : PassStop) → has_owner before ws ≡ false → told ≡ first_wrong (inside b ws) → Tells told (Err e) → Tells whole (Err e)
   blocks_stop told e r m t =
       subst (λ z. Tells z (Err e)) (sym (first_block r))
       (front_tells (inside b ws) (blocks_once (before ++ owner ws ∷ []) (drop (i + 1) bs) (drop (i + 1) more)) e (subst (λ z. Tells z (Err e)) m t))

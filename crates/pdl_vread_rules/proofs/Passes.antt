@@ -2,15 +2,15 @@
 use Rattle.std.proofs.Common.{◌≡◌, ◌⊎◌, inl, inr, ℕ, ◌+◌, ◌<◌, ◌≤◌, Bool, true, false, cond, min, List, [], ◌∷◌, ◌++◌, length, drop, get_or, Option, Some, None, Result, Err, refl, sym, ap, ◌∙◌, arith}
 use Rattle.std.proofs.lemmas.List.{drop_more, drop_all}
 use Rattle.std.proofs.lemmas.Bool.{cases_lt}
-use Rattle.pdl_vread_nets.specs.declared.passes.Stop.{Stop}
-use Rattle.pdl_vread_nets.specs.declared.passes.Stop.TheVariants as stop
+use Rattle.pdl_vread_nets.specs.declared.passes.PassStop.{PassStop}
+use Rattle.pdl_vread_nets.specs.declared.passes.PassStop.TheVariants as stop
 use Rattle.pdl_vread_text.specs.declared.file.File.{File}
 use Rattle.pdl_vread_nets.specs.declared.wiring.Wiring.{Wiring}
 use Rattle.pdl_vread_rules.specs.Widths.{widths_of, declared_questions, driven_questions, width_line}
 use Rattle.pdl_vread_rules.specs.RuleQuestions.{Asked, first_wrong, both, Tells}
 
 -- where the first are right the first wrong is among the others
-pub rest_tells : (xs ys : List Asked) (r : Result (Unit {0}) Stop)
+pub rest_tells : (xs ys : List Asked) (r : Result (Unit {0}) PassStop)
     → first_wrong xs ≡ None → Tells (first_wrong ys) r → Tells (first_wrong (xs ++ ys)) r
 rest_tells [] ys r h t = t
 rest_tells (a ∷ xs) ys r h t = go a.right (rest_tells xs ys r) h
@@ -28,7 +28,7 @@ front_line (a ∷ xs) ys line h = go a.right (front_line xs ys line) h
     go false i k = k
 
 -- where one of the first is wrong it is the first wrong of all
-pub front_tells : (xs ys : List Asked) (e : Stop) → Tells (first_wrong xs) (Err e) → Tells (first_wrong (xs ++ ys)) (Err e)
+pub front_tells : (xs ys : List Asked) (e : PassStop) → Tells (first_wrong xs) (Err e) → Tells (first_wrong (xs ++ ys)) (Err e)
 front_tells xs ys (stop.Broken line) h = front_line xs ys line h
 front_tells xs ys stop.NoMemory h = tt
 
@@ -73,13 +73,13 @@ pub ruleset pairs = (pair_more, pair_stop, pair_end)
 -- ---- all of V3
 
 -- where no declaration is wrong, what is told of cells, `assign`s and blocks is told of all that V3 asks
-pub all_rest : (f : File) (w : Wiring) (r : Result (Unit {0}) Stop)
+pub all_rest : (f : File) (w : Wiring) (r : Result (Unit {0}) PassStop)
     → first_wrong (declared_questions f) ≡ None → Tells (first_wrong (driven_questions f (widths_of f) w)) r
     → Tells (width_line f w) r
 unfolding width_line
 all_rest f w r h t = rest_tells (declared_questions f) (driven_questions f (widths_of f) w) r h t
 
-pub all_front : (f : File) (w : Wiring) (e : Stop) → Tells (first_wrong (declared_questions f)) (Err e) → Tells (width_line f w) (Err e)
+pub all_front : (f : File) (w : Wiring) (e : PassStop) → Tells (first_wrong (declared_questions f)) (Err e) → Tells (width_line f w) (Err e)
 unfolding width_line
 all_front f w e h = front_tells (declared_questions f) (driven_questions f (widths_of f) w) e h
 

@@ -1,7 +1,7 @@
 -- What a rule asks, place by place in the order of a text.
 use Rattle.std.specs.Prelude.{◌≡◌, ℕ, Bool, List, [], ◌∷◌, cond, Option, Some, None, Result, Ok, Err}
-use Rattle.pdl_vread_nets.specs.declared.passes.Stop.{Stop}
-use Rattle.pdl_vread_nets.specs.declared.passes.Stop.TheVariants.{Broken, NoMemory}
+use Rattle.pdl_vread_nets.specs.declared.passes.PassStop.{PassStop}
+use Rattle.pdl_vread_nets.specs.declared.passes.PassStop.TheVariants.{Broken, NoMemory}
 
 -- a line, and whether what stands there is right
 pub record Asked : Type 0 where
@@ -24,7 +24,7 @@ both ask [] _ = []
 both ask (x ∷ xs) [] = []
 
 -- an answer tells where the first wrong place is, or that there is none, unless memory ran out
-abbrev pub Tells : Option ℕ → Result (Unit {0}) Stop → Type 0
+abbrev pub Tells : Option ℕ → Result (Unit {0}) PassStop → Type 0
 Tells wanted (Ok _) = wanted ≡ None
 Tells wanted (Err (Broken line)) = wanted ≡ Some line
 Tells wanted (Err NoMemory) = Unit {0}

@@ -6,7 +6,7 @@ ghost use Rattle.pdl_vread_rules.specs.Once as spec;
 
 use indexmap::IndexSet;
 use pdl_kit::{NoMemory, Seq};
-use pdl_vread_nets::{ArrayWrite, OutputDrive, Places, RegDrive, Stop, Wiring};
+use pdl_vread_nets::{ArrayWrite, OutputDrive, PassStop, Places, RegDrive, Wiring};
 use pdl_vread_text::{ArrayBlock, ArrayDecl, CellDecl, File, PortDecl, RegDecl, WriteDecl};
 use std::alloc::Global;
 
@@ -66,21 +66,21 @@ fn add_ports(
     places: &mut Places,
     decls: &[PortDecl],
     drives: &[OutputDrive],
-) -> Result<(), Stop>
+) -> Result<(), PassStop>
     requires { AreFirsts [] places.old }
     ensures { Tells (first_wrong (spec.in_turn (spec.port_once drives.now) [] decls.now)) result }
 {
     let counts = output_counts(alloc, decls.len(), drives)?;
     for (decl, count) in decls.iter().zip(counts.as_slice()) {
         if !port_is_right(places, decl, *count) {
-            return Err(Stop::Broken { line: decl.line });
+            return Err(PassStop::Broken { line: decl.line });
         }
         places.add(&decl.name)?;
     }
     Ok(())
 }
 
-fn ports(alloc: Global, decls: &[PortDecl], drives: &[OutputDrive]) -> Result<(), Stop>
+fn ports(alloc: Global, decls: &[PortDecl], drives: &[OutputDrive]) -> Result<(), PassStop>
     ensures { Tells (first_wrong (spec.in_turn (spec.port_once drives.now) [] decls.now)) result }
 {
     let mut places = Places::new(alloc);
@@ -101,21 +101,21 @@ fn add_regs(
     places: &mut Places,
     decls: &[RegDecl],
     drives: &[RegDrive],
-) -> Result<(), Stop>
+) -> Result<(), PassStop>
     requires { AreFirsts [] places.old }
     ensures { Tells (first_wrong (spec.in_turn (spec.reg_once drives.now) [] decls.now)) result }
 {
     let counts = reg_counts(alloc, decls.len(), drives)?;
     for (decl, count) in decls.iter().zip(counts.as_slice()) {
         if !reg_is_right(places, decl, *count) {
-            return Err(Stop::Broken { line: decl.line });
+            return Err(PassStop::Broken { line: decl.line });
         }
         places.add(&decl.name)?;
     }
     Ok(())
 }
 
-fn regs(alloc: Global, decls: &[RegDecl], drives: &[RegDrive]) -> Result<(), Stop>
+fn regs(alloc: Global, decls: &[RegDecl], drives: &[RegDrive]) -> Result<(), PassStop>
     ensures { Tells (first_wrong (spec.in_turn (spec.reg_once drives.now) [] decls.now)) result }
 {
     let mut places = Places::new(alloc);
@@ -123,20 +123,20 @@ fn regs(alloc: Global, decls: &[RegDecl], drives: &[RegDrive]) -> Result<(), Sto
 }
 
 // Declares arrays, where no name is declared yet.
-fn add_arrays(places: &mut Places, decls: &[ArrayDecl]) -> Result<(), Stop>
+fn add_arrays(places: &mut Places, decls: &[ArrayDecl]) -> Result<(), PassStop>
     requires { AreFirsts [] places.old }
     ensures { Tells (first_wrong (spec.in_turn spec.array_once [] decls.now)) result }
 {
     for decl in decls {
         if places.find(&decl.name).is_some() {
-            return Err(Stop::Broken { line: decl.line });
+            return Err(PassStop::Broken { line: decl.line });
         }
         places.add(&decl.name)?;
     }
     Ok(())
 }
 
-fn arrays(alloc: Global, decls: &[ArrayDecl]) -> Result<(), Stop>
+fn arrays(alloc: Global, decls: &[ArrayDecl]) -> Result<(), PassStop>
     ensures { Tells (first_wrong (spec.in_turn spec.array_once [] decls.now)) result }
 {
     let mut places = Places::new(alloc);
@@ -144,20 +144,20 @@ fn arrays(alloc: Global, decls: &[ArrayDecl]) -> Result<(), Stop>
 }
 
 // Declares cells, where no name is declared yet.
-fn add_cells(places: &mut Places, decls: &[CellDecl]) -> Result<(), Stop>
+fn add_cells(places: &mut Places, decls: &[CellDecl]) -> Result<(), PassStop>
     requires { AreFirsts [] places.old }
     ensures { Tells (first_wrong (spec.in_turn spec.cell_once [] decls.now)) result }
 {
     for decl in decls {
         if places.find(&decl.name).is_some() {
-            return Err(Stop::Broken { line: decl.line });
+            return Err(PassStop::Broken { line: decl.line });
         }
         places.add(&decl.name)?;
     }
     Ok(())
 }
 
-fn cells(alloc: Global, decls: &[CellDecl]) -> Result<(), Stop>
+fn cells(alloc: Global, decls: &[CellDecl]) -> Result<(), PassStop>
     ensures { Tells (first_wrong (spec.in_turn spec.cell_once [] decls.now)) result }
 {
     let mut places = Places::new(alloc);
@@ -176,12 +176,12 @@ fn owner(writes: &[ArrayWrite]) -> usize
 
 // All writes of a block are to this array.
 #[tactic(auto, using(crate::proofs::Passes::pairs))]
-fn writes(array: usize, decls: &[WriteDecl], writes: &[ArrayWrite]) -> Result<(), Stop>
+fn writes(array: usize, decls: &[WriteDecl], writes: &[ArrayWrite]) -> Result<(), PassStop>
     ensures { Tells (first_wrong (both (spec.write_once array) decls.now writes.now)) result }
 {
     for (decl, write) in decls.iter().zip(writes) {
         if write.array != array {
-            return Err(Stop::Broken { line: decl.line });
+            return Err(PassStop::Broken { line: decl.line });
         }
     }
     Ok(())
@@ -192,7 +192,7 @@ fn add_blocks(
     owners: &mut IndexSet<usize>,
     decls: &[ArrayBlock],
     blocks: &[Seq<ArrayWrite>],
-) -> Result<(), Stop>
+) -> Result<(), PassStop>
     requires { owners.old.keys ≡ [] }
     ensures { Tells (first_wrong (spec.blocks_once [] decls.now blocks.now)) result }
 {
@@ -200,14 +200,14 @@ fn add_blocks(
         let array = owner(block.as_slice());
         let is_first = owners.insert(array)?;
         if !is_first {
-            return Err(Stop::Broken { line: decl.line });
+            return Err(PassStop::Broken { line: decl.line });
         }
         writes(array, decl.writes.as_slice(), block.as_slice())?;
     }
     Ok(())
 }
 
-fn blocks(alloc: Global, decls: &[ArrayBlock], blocks: &[Seq<ArrayWrite>]) -> Result<(), Stop>
+fn blocks(alloc: Global, decls: &[ArrayBlock], blocks: &[Seq<ArrayWrite>]) -> Result<(), PassStop>
     ensures { Tells (first_wrong (spec.blocks_once [] decls.now blocks.now)) result }
 {
     let mut owners = IndexSet::new(alloc);
@@ -216,7 +216,7 @@ fn blocks(alloc: Global, decls: &[ArrayBlock], blocks: &[Seq<ArrayWrite>]) -> Re
 
 // What V4 asks of declarations.
 #[tactic(auto, using(crate::proofs::Passes::two_parts))]
-fn check_declared(alloc: Global, file: &File, wiring: &Wiring) -> Result<(), Stop>
+fn check_declared(alloc: Global, file: &File, wiring: &Wiring) -> Result<(), PassStop>
     ensures { Tells (first_wrong (spec.declared_once file.now wiring.now)) result }
 {
     ports(alloc, file.ports.as_slice(), wiring.outputs.as_slice())?;
@@ -227,7 +227,7 @@ fn check_declared(alloc: Global, file: &File, wiring: &Wiring) -> Result<(), Sto
 
 /// Asks V4 of a file and its wiring: the line of the first place that breaks it.
 #[tactic(auto, using(crate::proofs::Passes::two_parts), unfolding(crate::specs::Once::once_line))]
-pub fn check_once(alloc: Global, file: &File, wiring: &Wiring) -> Result<(), Stop>
+pub fn check_once(alloc: Global, file: &File, wiring: &Wiring) -> Result<(), PassStop>
     ensures { Tells (spec.once_line file.now wiring.now) result }
 {
     check_declared(alloc, file, wiring)?;

@@ -7,7 +7,7 @@ ghost use Rattle.pdl_vread_rules.specs.Widths as spec;
 use crate::table::{Widths, bits};
 use pdl_kit::Seq;
 use pdl_net::{BinOp, Cell, Net};
-use pdl_vread_nets::{ArrayWrite, OutputDrive, RegDrive, Stop, Wiring};
+use pdl_vread_nets::{ArrayWrite, OutputDrive, PassStop, RegDrive, Wiring};
 use pdl_vread_text::{
     ArrayBlock, ArrayDecl, CellDecl, File, OutputDecl, PortDecl, RegBlock, RegDecl, WriteDecl,
 };
@@ -126,89 +126,89 @@ fn fits_write(widths: &Widths, write: ArrayWrite) -> bool
         && widths.net(write.port.value) == widths.word(write.array)
 }
 
-fn ports(decls: &[PortDecl]) -> Result<(), Stop>
+fn ports(decls: &[PortDecl]) -> Result<(), PassStop>
     ensures { Tells (first_wrong (map spec.asked_port decls.now)) result }
 {
     for decl in decls {
         if !is_width(bits(decl.high)) {
-            return Err(Stop::Broken { line: decl.line });
+            return Err(PassStop::Broken { line: decl.line });
         }
     }
     Ok(())
 }
 
-fn regs(decls: &[RegDecl]) -> Result<(), Stop>
+fn regs(decls: &[RegDecl]) -> Result<(), PassStop>
     ensures { Tells (first_wrong (map spec.asked_reg decls.now)) result }
 {
     for decl in decls {
         if !is_width(bits(decl.high)) {
-            return Err(Stop::Broken { line: decl.line });
+            return Err(PassStop::Broken { line: decl.line });
         }
     }
     Ok(())
 }
 
-fn arrays(decls: &[ArrayDecl]) -> Result<(), Stop>
+fn arrays(decls: &[ArrayDecl]) -> Result<(), PassStop>
     ensures { Tells (first_wrong (map spec.asked_array decls.now)) result }
 {
     for decl in decls {
         if !is_width(bits(decl.high)) || !is_depth(decl.last) {
-            return Err(Stop::Broken { line: decl.line });
+            return Err(PassStop::Broken { line: decl.line });
         }
     }
     Ok(())
 }
 
 #[tactic(auto, using(crate::proofs::Passes::pairs))]
-fn cells(widths: &Widths, decls: &[CellDecl], cells: &[Cell]) -> Result<(), Stop>
+fn cells(widths: &Widths, decls: &[CellDecl], cells: &[Cell]) -> Result<(), PassStop>
     ensures { Tells (first_wrong (both (spec.asked_cell widths.now) decls.now cells.now)) result }
 {
     for (decl, cell) in decls.iter().zip(cells) {
         if !is_width(bits(decl.high)) || !fits_cell(widths, *cell, bits(decl.high)) {
-            return Err(Stop::Broken { line: decl.line });
+            return Err(PassStop::Broken { line: decl.line });
         }
     }
     Ok(())
 }
 
 #[tactic(auto, using(crate::proofs::Passes::pairs))]
-fn outputs(widths: &Widths, decls: &[OutputDecl], drives: &[OutputDrive]) -> Result<(), Stop>
+fn outputs(widths: &Widths, decls: &[OutputDecl], drives: &[OutputDrive]) -> Result<(), PassStop>
     ensures { Tells
         (first_wrong (both (spec.asked_output widths.now) decls.now drives.now)) result }
 {
     for (decl, drive) in decls.iter().zip(drives) {
         if !fits_output(widths, *drive) {
-            return Err(Stop::Broken { line: decl.line });
+            return Err(PassStop::Broken { line: decl.line });
         }
     }
     Ok(())
 }
 
 #[tactic(auto, using(crate::proofs::Passes::pairs))]
-fn reg_blocks(widths: &Widths, decls: &[RegBlock], drives: &[RegDrive]) -> Result<(), Stop>
+fn reg_blocks(widths: &Widths, decls: &[RegBlock], drives: &[RegDrive]) -> Result<(), PassStop>
     ensures { Tells (first_wrong (both (spec.asked_block widths.now) decls.now drives.now)) result }
 {
     for (decl, drive) in decls.iter().zip(drives) {
         if !fits_reg(widths, *drive) {
-            return Err(Stop::Broken { line: decl.line });
+            return Err(PassStop::Broken { line: decl.line });
         }
     }
     Ok(())
 }
 
 #[tactic(auto, using(crate::proofs::Passes::pairs))]
-fn writes(widths: &Widths, decls: &[WriteDecl], writes: &[ArrayWrite]) -> Result<(), Stop>
+fn writes(widths: &Widths, decls: &[WriteDecl], writes: &[ArrayWrite]) -> Result<(), PassStop>
     ensures { Tells (first_wrong (both (spec.asked_write widths.now) decls.now writes.now)) result }
 {
     for (decl, write) in decls.iter().zip(writes) {
         if !fits_write(widths, *write) {
-            return Err(Stop::Broken { line: decl.line });
+            return Err(PassStop::Broken { line: decl.line });
         }
     }
     Ok(())
 }
 
-fn blocks(widths: &Widths, decls: &[ArrayBlock], blocks: &[Seq<ArrayWrite>]) -> Result<(), Stop>
+fn blocks(widths: &Widths, decls: &[ArrayBlock], blocks: &[Seq<ArrayWrite>]) -> Result<(), PassStop>
     ensures { Tells (first_wrong (spec.asked_writes widths.now decls.now blocks.now)) result }
 {
     for (decl, block) in decls.iter().zip(blocks) {
@@ -219,11 +219,11 @@ fn blocks(widths: &Widths, decls: &[ArrayBlock], blocks: &[Seq<ArrayWrite>]) -> 
 
 // What V3 asks of declarations.
 #[tactic(auto, using(crate::proofs::Passes::two_parts))]
-fn check_declared(file: &File) -> Result<(), Stop>
+fn check_declared(file: &File) -> Result<(), PassStop>
     ensures { Tells (first_wrong (spec.declared_questions file.now)) result }
 {
     if bits(file.reset_high) != 1 {
-        return Err(Stop::Broken {
+        return Err(PassStop::Broken {
             line: file.reset_line,
         });
     }
@@ -234,7 +234,7 @@ fn check_declared(file: &File) -> Result<(), Stop>
 
 // What V3 asks of cells, `assign`s and blocks.
 #[tactic(auto, using(crate::proofs::Passes::two_parts))]
-fn check_driven(widths: &Widths, file: &File, wiring: &Wiring) -> Result<(), Stop>
+fn check_driven(widths: &Widths, file: &File, wiring: &Wiring) -> Result<(), PassStop>
     ensures { Tells (first_wrong (spec.driven_questions file.now widths.now wiring.now)) result }
 {
     cells(widths, file.cells.as_slice(), wiring.cells.as_slice())?;
@@ -249,7 +249,7 @@ fn check_driven(widths: &Widths, file: &File, wiring: &Wiring) -> Result<(), Sto
 
 /// Asks V3 of a file and its wiring: the line of the first place that breaks it.
 #[tactic(auto, using(crate::proofs::Passes::told_all))]
-pub fn check_widths(alloc: Global, file: &File, wiring: &Wiring) -> Result<(), Stop>
+pub fn check_widths(alloc: Global, file: &File, wiring: &Wiring) -> Result<(), PassStop>
     ensures { Tells (spec.width_line file.now wiring.now) result }
 {
     check_declared(file)?;

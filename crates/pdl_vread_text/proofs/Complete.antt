@@ -4,8 +4,8 @@ use Rattle.pdl_vread_text.specs.declared.field.Field.{Field}
 use Rattle.pdl_vread_text.specs.declared.field.Field.TheVariants as f
 use Rattle.pdl_vread_text.specs.declared.part.Part.{Part}
 use Rattle.pdl_vread_text.specs.declared.part.Part.TheVariants as p
-use Rattle.pdl_vread_text.specs.declared.rule.Rule.{Rule}
-use Rattle.pdl_vread_text.specs.declared.rule.Rule.TheVariants as r
+use Rattle.pdl_vread_text.specs.declared.rule.VerilogRule.{VerilogRule}
+use Rattle.pdl_vread_text.specs.declared.rule.VerilogRule.TheVariants as r
 use Rattle.pdl_vread_text.specs.Tokens.{Token}
 use Rattle.pdl_vread_text.specs.Words.{number_of, constant_of, operator_of, is_name, is_port, is_operand}
 use Rattle.pdl_vread_text.specs.Grammar.{Row, Taken, AllFit, none, more, fits, fields, chosen, begins_with, rules, next, Derives, finished, goes}
@@ -75,7 +75,7 @@ pub record Ends (part : Part) : Type 0 where
   pub derives : Derives part row rules
 
 -- a part ends by a rule, and what ends the part after it
-by : (part : Part) (rule : Rule) (g : Field) (gs : List Field)
+by : (part : Part) (rule : VerilogRule) (g : Field) (gs : List Field)
     → fields rule ≡ g ∷ gs → chosen part (example g) ≡ Some rule → Ends (next rule) → Ends part
 unfolding examples
 by part rule g gs e h k = record {
@@ -128,7 +128,7 @@ pub record Rest (part : Part) (front : Row) : Type 0 where
   pub derives : Derives part (front ++ row) rules
 
 -- a rule that was begun, and the file after it, can be ended
-pub rest : (part : Part) (rule : Rule) (t : Token) (ts : Row) (done later : List Field)
+pub rest : (part : Part) (rule : VerilogRule) (t : Token) (ts : Row) (done later : List Field)
     → chosen part t.text ≡ Some rule → fields rule ≡ done ++ later → AllFit done (t ∷ ts) → Rest part (t ∷ ts)
 rest part rule t ts done later e parts a =
     let k = ends (next rule) in

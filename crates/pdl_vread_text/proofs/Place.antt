@@ -3,16 +3,16 @@ use Rattle.std.proofs.Common.{◌≡◌, ◌≢◌, ℕ, ◌<◌, true, false, L
 use Rattle.pdl_vread_text.specs.declared.field.Field.{Field}
 use Rattle.pdl_vread_text.specs.declared.part.Part.{Part}
 use Rattle.pdl_vread_text.specs.declared.part.Part.TheVariants as p
-use Rattle.pdl_vread_text.specs.declared.rule.Rule.{Rule}
+use Rattle.pdl_vread_text.specs.declared.rule.VerilogRule.{VerilogRule}
 use Rattle.pdl_vread_text.specs.declared.draft.Draft.{Draft}
 use Rattle.pdl_vread_text.specs.declared.file.File.{File}
-use Rattle.pdl_vread_text.specs.declared.read.TextError.{TextError}
-use Rattle.pdl_vread_text.specs.declared.read.TextError.TheVariants.{Misplaced, NoMemory}
+use Rattle.pdl_vread_text.specs.declared.read.VerilogError.{VerilogError}
+use Rattle.pdl_vread_text.specs.declared.read.VerilogError.TheVariants.{Misplaced, NoMemory}
 use Rattle.pdl_vread_text.specs.Tokens.{Token, tokens, last_line}
 use Rattle.pdl_vread_text.specs.Grammar.{Row, Taken, AllFit, none, more, fits, fields, chosen, begins_fields, next, Derives, finished, goes}
 use Rattle.pdl_vread_text.specs.Drafts.{file_of}
 use Rattle.pdl_vread_text.specs.Read.{IsUnfit, Stopped, Comes, Leads, here, further, all_found, chosen_at, IsStuck, nothing, inside, AreTaken, AreStopped, Judges}
-use Rattle.pdl_vread_text.specs.declared.token.Token as r
+use Rattle.pdl_vread_text.specs.declared.token.VerilogToken as r
 use Rattle.pdl_vread_text.specs.Cursor.{token_view, maybe_token_view, first}
 use Rattle.pdl_vread_text.specs.Text.{IsFile, Begins, line_of, IsOutOfPlace, GivesFile, GivesLine, IsRefused}
 use Rattle.pdl_vread_text.proofs.Rules.{chosen_begins, all_found_more}
@@ -112,7 +112,7 @@ no_fit _ later g xs _ a left i (more {g = h} {gs = hs} {t = y} {ts = ys} j k) s 
     no_fit hs later g o.row ys a left o.fit k q u
 
 -- the first tokens of a rule that was begun
-first_of : (rule : Rule) (part : Part) (old front left : Row)
+first_of : (rule : VerilogRule) (part : Part) (old front left : Row)
     → chosen_at part old ≡ Some rule → Stopped (fields rule) old front left
     → record { token : Token; more : Row; front : front ≡ token ∷ more; chosen : chosen part token.text ≡ Some rule }
 first_of rule part [] front left e s = cc
@@ -242,7 +242,7 @@ whole bytes d h = record {
 }
 
 -- the reader's next token is after a whole file, or there is none
-pub next_after : (bytes : List ℕ) (old new : Row) (t : r.Token) (d : Draft)
+pub next_after : (bytes : List ℕ) (old new : Row) (t : r.VerilogToken) (d : Draft)
     → old ≡ tokens bytes → AreTaken old new d → maybe_token_view (Some t) ≡ first new → IsOutOfPlace bytes t.line
 next_after bytes old [] t d o h e = cc
 next_after bytes old (u ∷ us) t d o h e =
@@ -293,19 +293,19 @@ one_place bytes n m h i =
 -- ---- what the reader answers
 
 -- where a text is one of a file, the answer is that file, unless memory ran out
-pub judged_only : (bytes : List ℕ) (x : Result File TextError) (f : File) → Judges bytes x → IsFile bytes f → GivesFile f x
+pub judged_only : (bytes : List ℕ) (x : Result File VerilogError) (f : File) → Judges bytes x → IsFile bytes f → GivesFile f x
 judged_only bytes (Ok g) f h k = one_file bytes g f h k
 judged_only bytes (Err (Misplaced line)) f h k = h.no_text f k
 judged_only bytes (Err NoMemory) f h k = tt
 
 -- where a text is out of place at a line, the answer is that line, unless memory ran out
-pub judged_exact : (bytes : List ℕ) (x : Result File TextError) (line : ℕ) → Judges bytes x → IsOutOfPlace bytes line → GivesLine line x
+pub judged_exact : (bytes : List ℕ) (x : Result File VerilogError) (line : ℕ) → Judges bytes x → IsOutOfPlace bytes line → GivesLine line x
 judged_exact bytes (Ok g) line h k = k.no_text g h
 judged_exact bytes (Err (Misplaced n)) line h k = one_place bytes n line h k
 judged_exact bytes (Err NoMemory) line h k = tt
 
 -- a refusal is at the line of the first token out of place
-pub judged_refused : (bytes : List ℕ) (x : Result File TextError) → Judges bytes x → IsRefused bytes x
+pub judged_refused : (bytes : List ℕ) (x : Result File VerilogError) → Judges bytes x → IsRefused bytes x
 judged_refused bytes (Ok g) h = tt
 judged_refused bytes (Err (Misplaced n)) h = h
 judged_refused bytes (Err NoMemory) h = tt

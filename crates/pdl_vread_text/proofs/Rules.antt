@@ -4,14 +4,14 @@ use Rattle.std.proofs.lemmas.List.{take_more, take-append-drop, drop_more, map-a
 use Rattle.pdl_vread_text.specs.declared.field.Field.{Field}
 use Rattle.pdl_vread_text.specs.declared.part.Part.{Part}
 use Rattle.pdl_vread_text.specs.declared.part.Part.TheVariants as p
-use Rattle.pdl_vread_text.specs.declared.rule.Rule.{Rule}
+use Rattle.pdl_vread_text.specs.declared.rule.VerilogRule.{VerilogRule}
 use Rattle.pdl_vread_text.specs.declared.draft.Draft.{Draft}
 use Rattle.pdl_vread_text.specs.Tokens.{Token}
 use Rattle.pdl_vread_text.specs.Grammar.{Row, Taken, AllFit, none, more, fits, fields, chosen, begins_with, begins_fields, first_with, is_finished, rules, next}
 use Rattle.pdl_vread_text.specs.Drafts.{no_draft, taken, all_taken}
-use Rattle.pdl_vread_text.specs.declared.token.Token as r
-use Rattle.pdl_vread_text.specs.declared.read.Stop.{Stop}
-use Rattle.pdl_vread_text.specs.declared.read.Stop.TheVariants as stop
+use Rattle.pdl_vread_text.specs.declared.token.VerilogToken as r
+use Rattle.pdl_vread_text.specs.declared.read.ReaderStop.{ReaderStop}
+use Rattle.pdl_vread_text.specs.declared.read.ReaderStop.TheVariants as stop
 use Rattle.pdl_vread_text.specs.Cursor.{token_view, next as skipped}
 use Rattle.pdl_vread_text.specs.Read.{IsFitting, Sentence, TakesRules, IsUnfit, Found, Stopped, Comes, Leads, here, further, all_found, chosen_at, nothing, inside, IsTaken, IsOff, TakesRule}
 
@@ -24,7 +24,7 @@ one_fits _ _ g t none e = more e none
 one_fits _ _ g t (more {gs = hs} {ts = us} d a) e = more d (one_fits hs us g t a e)
 
 -- the first rule whose first token a word may be has it as its first token
-found_begins : (rs : List Rule) (t : List ℕ) (r : Rule) → first_with rs t ≡ Some r → begins_with r t ≡ true
+found_begins : (rs : List VerilogRule) (t : List ℕ) (r : VerilogRule) → first_with rs t ≡ Some r → begins_with r t ≡ true
 found_begins [] t r e = cc
 found_begins (s ∷ rs) t r e = go (begins_with s t) refl e (found_begins rs t r)
   where
@@ -33,7 +33,7 @@ found_begins (s ∷ rs) t r e = go (begins_with s t) refl e (found_begins rs t r
     go false is e f = f e
 
 -- the rule that comes at a part is one that may begin with the next token
-pub chosen_begins : (part : Part) (t : List ℕ) (r : Rule) → chosen part t ≡ Some r → begins_with r t ≡ true
+pub chosen_begins : (part : Part) (t : List ℕ) (r : VerilogRule) → chosen part t ≡ Some r → begins_with r t ≡ true
 unfolding chosen
 chosen_begins part t r e = found_begins (rules part) t r e
 
@@ -61,7 +61,7 @@ all_found_more [] t = append-nil t.found
 all_found_more (u ∷ us) t = ap (λ x. u.found ++ x) (all_found_more us t) ∙ sym (append_assoc u.found (all_found us) t.found)
 
 -- the tokens after a part, from which a rule's were taken
-pub comes : (part : Part) (rule : Rule) (old found new : Row)
+pub comes : (part : Part) (rule : VerilogRule) (old found new : Row)
     → chosen_at part old ≡ Some rule → Found (fields rule) old found new
     → Comes part (record { rule = rule; found = found })
 comes part rule [] found new e f = cc
@@ -74,7 +74,7 @@ comes part rule (t ∷ ts) (u ∷ us) new e f =
     let k : t ≡ u = cc in
     record { token = u; more = us; found = refl; chosen = subst (λ x. chosen part x.text ≡ Some rule) k e; fit = f.fit }
 
-one_more_rule : (old mid found new : Row) (part : Part) (rule : Rule) (d : Draft) → AreSoFar old mid part d
+one_more_rule : (old mid found new : Row) (part : Part) (rule : VerilogRule) (d : Draft) → AreSoFar old mid part d
     → chosen_at part mid ≡ Some rule → Found (fields rule) mid found new
     → AreSoFar old new (next rule) (taken d rule found)
 one_more_rule old mid found new part rule d h e f =
@@ -86,7 +86,7 @@ one_more_rule old mid found new part rule d h e f =
       draft = ap (λ x. taken x rule found) h.draft ∙ sym (all_taken_more no_draft h.rules t);
     }
 
-pub fewer_left : (part : Part) (rule : Rule) (old found new : Row)
+pub fewer_left : (part : Part) (rule : VerilogRule) (old found new : Row)
     → chosen_at part old ≡ Some rule → Found (fields rule) old found new → length new < length old
 fewer_left part rule old found new e f =
     let k = comes part rule old found new e f in
@@ -99,15 +99,15 @@ not_finished part h = λ e. let k : true ≡ false = subst (λ x. is_finished x 
 
 -- ---- steps of the reader
 
-abbrev views : List r.Token → Row
+abbrev views : List r.VerilogToken → Row
 views ts = map token_view ts
 
 -- before the first token of a rule none is found, and all are left
-pub nothing_found : (ts : Row) (items : List r.Token) → items ≡ [] → (AllFit [] (views items)) × (ts ≡ views items ++ ts)
+pub nothing_found : (ts : Row) (items : List r.VerilogToken) → items ≡ [] → (AllFit [] (views items)) × (ts ≡ views items ++ ts)
 nothing_found ts items e = (subst (λ x. AllFit [] (views x)) (sym e) none, ap (λ x. views x ++ ts) (sym e))
 
 -- a token that is what is asked next is found, and those after it are left
-pub one_more_token : (gs : List Field) (i : ℕ) (d : Field) (old mid new : Row) (items others : List r.Token) (t : r.Token)
+pub one_more_token : (gs : List Field) (i : ℕ) (d : Field) (old mid new : Row) (items others : List r.VerilogToken) (t : r.VerilogToken)
     → i < length gs → AllFit (take i gs) (views items) → old ≡ views items ++ mid
     → IsFitting mid (get_or gs i d) (Some t) → new ≡ skipped mid → others ≡ items ++ t ∷ []
     → (AllFit (take (i + 1) gs) (views others)) × (old ≡ views others ++ new)
@@ -122,7 +122,7 @@ one_more_token gs i d old (u ∷ us) new items others t l a s f n m =
     )
 
 -- a rule stops at a token that isn't what is asked next
-pub no_more_token : (gs : List Field) (i : ℕ) (d : Field) (old mid : Row) (items : List r.Token)
+pub no_more_token : (gs : List Field) (i : ℕ) (d : Field) (old mid : Row) (items : List r.VerilogToken)
     → i < length gs → AllFit (take i gs) (views items) → old ≡ views items ++ mid → IsFitting mid (get_or gs i d) None
     → Stopped gs old (views items) mid
 no_more_token gs i d old mid items l a s f = record {
@@ -144,7 +144,7 @@ pub begun : (ts : Row) (d : Draft) → d ≡ no_draft → AreSoFar ts ts p.Start
 begun ts d e = subst (AreSoFar ts ts p.Start) (sym e) (none_yet ts)
 
 -- where the tokens of the rule that comes at a part stop, so does taking the rule
-pub one_stopped : (old found new : Row) (part : Part) (rule : Rule) (gs : List Field) (d e : Draft) (stop : Stop)
+pub one_stopped : (old found new : Row) (part : Part) (rule : VerilogRule) (gs : List Field) (d e : Draft) (stop : ReaderStop)
     → Some rule ≡ chosen_at part old → gs ≡ fields rule → Sentence gs old found new (Err stop)
     → TakesRule part old new d e (Err stop)
 one_stopped old found new part rule gs d e stop.NoMemory c g s = tt
@@ -168,7 +168,7 @@ pub fewer : (part after : Part) (old new : Row) (d e : Draft) → IsTaken part o
 fewer part after old new d e t = fewer_left part t.rule old t.row new t.comes t.front
 
 -- where taking the next rule stops before the end of a file, taking all rules does
-pub stopped_so : (old mid new : Row) (part : Part) (d e : Draft) (stop : Stop) → AreSoFar old mid part d
+pub stopped_so : (old mid new : Row) (part : Part) (d e : Draft) (stop : ReaderStop) → AreSoFar old mid part d
     → is_finished part ≡ false → TakesRule part mid new d e (Err stop) → TakesRules old new e (Err stop)
 stopped_so old mid new part d e stop.NoMemory h n s = tt
 stopped_so old mid new part d e stop.Misplaced h n s =

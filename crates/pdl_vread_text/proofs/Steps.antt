@@ -6,7 +6,7 @@ use Rattle.std.proofs.Math.Seq.{drop-nil}
 use Rattle.std.proofs.lemmas.List.Sums.{prefix_len-le-length}
 use Rattle.std.proofs.lemmas.Bool.Decides.{nat_tests}
 use Rattle.std.proofs.lemmas.Bool.{and_parts}
-use Rattle.pdl_vread_text.specs.declared.piece.Piece as r
+use Rattle.pdl_vread_text.specs.declared.piece.VerilogPiece as r
 use Rattle.pdl_vread_text.specs.Tokens.{Piece, is_blank, is_word, in_line, begins_pair, piece_at, placed, line_after, tokens_from}
 use Rattle.pdl_vread_text.specs.Pieces.{piece_view, IsFront, IsLineAfter}
 use Rattle.pdl_word.proofs.Lists.{run_least, prefix_fits}
@@ -45,7 +45,7 @@ piece_sized c cs =
     (λ _. record { least = omega arith; most = omega arith }))))
 
 -- the size of the piece at the front
-pub piece_fits : (bytes : List ℕ) (p : r.Piece) → IsFront bytes (Some p) → (1 ≤ p.size) × (p.size ≤ length bytes)
+pub piece_fits : (bytes : List ℕ) (p : r.VerilogPiece) → IsFront bytes (Some p) → (1 ≤ p.size) × (p.size ≤ length bytes)
 piece_fits [] p h = absurd h
 piece_fits (c ∷ cs) p h = let k = piece_sized c cs in
     let e : p.size ≡ (piece_at c (c ∷ cs)).size = ap (λ x. x.size) h in (rw e k.least, rw e k.most)
@@ -67,7 +67,7 @@ one_piece c cs line = let p = piece_at c (c ∷ cs) in
     ap (λ ts. placed p line (c ∷ cs) ++ ts) (after_piece p.size c (line_after c line) cs (piece_sized c cs).least)
 
 -- the place after the piece at the front
-step_is : (bytes rest : List ℕ) (p : r.Piece) (line line2 : ℕ) → IsFront bytes (Some p) → rest ≡ drop p.size bytes →
+step_is : (bytes rest : List ℕ) (p : r.VerilogPiece) (line line2 : ℕ) → IsFront bytes (Some p) → rest ≡ drop p.size bytes →
     IsLineAfter bytes line line2 → tokens_from 0 line bytes ≡ placed (piece_view p) line bytes ++ tokens_from 0 line2 rest
 step_is [] rest p line line2 h er el = absurd h
 step_is (c ∷ cs) rest p line line2 h er el =
@@ -75,13 +75,13 @@ step_is (c ∷ cs) rest p line line2 h er el =
     rw (er, el) (subst P (sym h) (one_piece c cs line))
 
 -- white space or a comment at the front gives no token
-pub step_blank : (bytes rest : List ℕ) (p : r.Piece) (line line2 : ℕ) → IsFront bytes (Some p) → rest ≡ drop p.size bytes →
+pub step_blank : (bytes rest : List ℕ) (p : r.VerilogPiece) (line line2 : ℕ) → IsFront bytes (Some p) → rest ≡ drop p.size bytes →
     IsLineAfter bytes line line2 → p.is_token ≡ false → tokens_from 0 line2 rest ≡ tokens_from 0 line bytes
 step_blank bytes rest p line line2 h er el e =
     let k = step_is bytes rest p line line2 h er el in sym (k ∙ rw e refl)
 
 -- a token at the front is the first of the tokens, on the line where it stands
-pub step_token : (bytes rest : List ℕ) (p : r.Piece) (line line2 : ℕ) → IsFront bytes (Some p) → rest ≡ drop p.size bytes →
+pub step_token : (bytes rest : List ℕ) (p : r.VerilogPiece) (line line2 : ℕ) → IsFront bytes (Some p) → rest ≡ drop p.size bytes →
     IsLineAfter bytes line line2 → p.is_token ≡ true →
     record { text = take p.size bytes; line = line } ∷ tokens_from 0 line2 rest ≡ tokens_from 0 line bytes
 step_token bytes rest p line line2 h er el e =

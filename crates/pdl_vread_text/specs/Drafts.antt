@@ -3,8 +3,8 @@ use Rattle.std.specs.Prelude.{ℕ, Bool, true, false, List, [], ◌∷◌, ◌++
 use Rattle.pdl_net.specs.declared.BinOp.{BinOp}
 use Rattle.pdl_net.specs.declared.BinOp.TheVariants.{Add}
 use Rattle.pdl_vread_text.specs.declared.numbers.Constant.{Constant}
-use Rattle.pdl_vread_text.specs.declared.rule.Rule.{Rule}
-use Rattle.pdl_vread_text.specs.declared.rule.Rule.TheVariants as r
+use Rattle.pdl_vread_text.specs.declared.rule.VerilogRule.{VerilogRule}
+use Rattle.pdl_vread_text.specs.declared.rule.VerilogRule.TheVariants as r
 use Rattle.pdl_vread_text.specs.declared.file.Term.{Term}
 use Rattle.pdl_vread_text.specs.declared.file.Term.TheVariants.{Const, Not, Bin, Mux, Slice, Cat, Rep, Read}
 use Rattle.pdl_vread_text.specs.declared.file.File.{File}
@@ -75,7 +75,7 @@ abbrev pub with_operand : Draft → Row → Draft
 with_operand d ts = record d { operand = text_at ts 0 }
 
 -- the term that a rule ends, where its first operand may stand before
-abbrev pub term : List ℕ → Rule → Row → Term
+abbrev pub term : List ℕ → VerilogRule → Row → Term
 term first r.NotTerm ts = Not (text_at ts 1)
 term first r.ReadTerm ts = Read (text_at ts 0) (text_at ts 2)
 term first r.CatTerm ts = Cat (text_at ts 0) (text_at ts 2)
@@ -86,7 +86,7 @@ term first r.SliceTerm ts = Slice first (number_at ts 1) (number_at ts 3)
 term first _ ts = Const (constant_at ts 0).width (constant_at ts 0).value
 
 -- a draft whose file has one cell more: that of its head, with the term of a rule
-abbrev pub with_cell : Draft → Rule → Row → Draft
+abbrev pub with_cell : Draft → VerilogRule → Row → Draft
 with_cell d rule ts = record d { file = record d.file { cells = d.file.cells ++ record { line = d.line; name = d.name; high = d.high; target = d.target; term = term d.operand rule ts } ∷ [] } }
 
 -- `assign port = id ;`
@@ -110,7 +110,7 @@ abbrev pub with_array_block : Draft → Draft
 with_array_block d = record d { file = record d.file { array_blocks = d.file.array_blocks ++ record { line = d.line; writes = d.writes } ∷ [] }; writes = [] }
 
 -- what is declared after a rule
-abbrev pub taken : Draft → Rule → Row → Draft
+abbrev pub taken : Draft → VerilogRule → Row → Draft
 taken d r.Opening ts = opened d ts
 taken d r.InputPort ts = with_port d true ts
 taken d r.OutputPort ts = with_port d false ts

@@ -4,8 +4,8 @@ use Rattle.pdl_vread_text.specs.declared.field.Field.{Field}
 use Rattle.pdl_vread_text.specs.declared.field.Field.TheVariants as f
 use Rattle.pdl_vread_text.specs.declared.part.Part.{Part}
 use Rattle.pdl_vread_text.specs.declared.part.Part.TheVariants as p
-use Rattle.pdl_vread_text.specs.declared.rule.Rule.{Rule}
-use Rattle.pdl_vread_text.specs.declared.rule.Rule.TheVariants as r
+use Rattle.pdl_vread_text.specs.declared.rule.VerilogRule.{VerilogRule}
+use Rattle.pdl_vread_text.specs.declared.rule.VerilogRule.TheVariants as r
 use Rattle.pdl_vread_text.specs.Tokens.{Token}
 use Rattle.pdl_vread_text.specs.Words.{number_of, constant_of, operator_of, is_module, is_port, is_reg, is_array, is_cell, is_operand}
 
@@ -100,7 +100,7 @@ abbrev range : List Field → List Field
 range more = f.OpenSquare ∷ f.Number ∷ f.Colon ∷ f.Zero ∷ f.CloseSquare ∷ more
 
 -- the tokens of a rule
-abbrev pub fields : Rule → List Field
+abbrev pub fields : VerilogRule → List Field
 fields r.Opening = f.Module ∷ f.ModuleName ∷ f.OpenRound ∷ f.Input ∷ f.Wire ∷ f.Clock ∷ f.Comma ∷ f.Input ∷ f.Wire ∷ range (f.Reset ∷ [])
 fields r.NextPort = f.Comma ∷ []
 fields r.InputPort = f.Input ∷ f.Wire ∷ range (f.PortName ∷ [])
@@ -131,7 +131,7 @@ fields r.ArrayEnd = f.End ∷ []
 fields r.Ending = f.EndModule ∷ []
 
 -- the rules that may come at a part
-abbrev pub rules : Part → List Rule
+abbrev pub rules : Part → List VerilogRule
 rules p.Start = r.Opening ∷ []
 rules p.Ports = r.NextPort ∷ r.Closing ∷ []
 rules p.Direction = r.InputPort ∷ r.OutputPort ∷ []
@@ -152,7 +152,7 @@ rules p.Writes = r.Written ∷ r.ArrayEnd ∷ []
 rules p.Finished = []
 
 -- the part after a rule
-abbrev pub next : Rule → Part
+abbrev pub next : VerilogRule → Part
 next r.Opening = p.Ports
 next r.NextPort = p.Direction
 next r.InputPort = p.Ports
@@ -193,16 +193,16 @@ begins_fields [] t = false
 begins_fields (g ∷ gs) t = fits g t
 
 -- a word may be the first token of a rule
-abbrev pub begins_with : Rule → List ℕ → Bool
+abbrev pub begins_with : VerilogRule → List ℕ → Bool
 begins_with r t = begins_fields (fields r) t
 
 -- the first of some rules whose first token a word may be
-abbrev pub first_with : List Rule → List ℕ → Option Rule
+abbrev pub first_with : List VerilogRule → List ℕ → Option VerilogRule
 first_with [] t = None
 first_with (r ∷ rs) t = cond (begins_with r t) (Some r) (first_with rs t)
 
 -- the rule that comes at a part where the next token is this word: of the part's rules the first whose first token it may be (it may be that of no other)
-unfoldable pub chosen : Part → List ℕ → Option Rule
+unfoldable pub chosen : Part → List ℕ → Option VerilogRule
 chosen part t = first_with (rules part) t
 
 -- tokens one after another
@@ -216,11 +216,11 @@ pub data AllFit : List Field → Row → Type 0 where
 
 -- a rule with the tokens that it took
 pub record Taken : Type 0 where
-  pub rule : Rule
+  pub rule : VerilogRule
   pub found : Row
 
 -- the tokens are, from a part on, those of these rules up to the end of a file
 pub data Derives : Part → Row → List Taken → Type 0 where
   finished : Derives p.Finished [] []
-  goes : {part : Part} {rule : Rule} {t : Token} {ts rest : Row} {more : List Taken} → chosen part t.text ≡ Some rule → AllFit (fields rule) (t ∷ ts)
+  goes : {part : Part} {rule : VerilogRule} {t : Token} {ts rest : Row} {more : List Taken} → chosen part t.text ≡ Some rule → AllFit (fields rule) (t ∷ ts)
       → Derives (next rule) rest more → Derives part (t ∷ ts ++ rest) (record { rule = rule; found = t ∷ ts } ∷ more)

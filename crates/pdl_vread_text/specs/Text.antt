@@ -2,8 +2,8 @@
 use Rattle.std.specs.Prelude.{◌≡◌, ℕ, List, [], ◌∷◌, ◌++◌, Result, Ok, Err}
 use Rattle.pdl_vread_text.specs.declared.file.File.{File}
 use Rattle.pdl_vread_text.specs.declared.part.Part.TheVariants.{Start}
-use Rattle.pdl_vread_text.specs.declared.read.TextError.{TextError}
-use Rattle.pdl_vread_text.specs.declared.read.TextError.TheVariants.{Misplaced, NoMemory}
+use Rattle.pdl_vread_text.specs.declared.read.VerilogError.{VerilogError}
+use Rattle.pdl_vread_text.specs.declared.read.VerilogError.TheVariants.{Misplaced, NoMemory}
 use Rattle.pdl_vread_text.specs.Tokens.{Token, tokens, last_line}
 use Rattle.pdl_vread_text.specs.Grammar.{Row, Taken, Derives}
 use Rattle.pdl_vread_text.specs.Drafts.{file_of}
@@ -40,19 +40,19 @@ pub record IsOutOfPlace (bytes : List ℕ) (line : ℕ) : Type 0 where
   pub no_text : (f : File) → IsFile bytes f → ⊥
 
 -- a result is this file, or memory ran out
-abbrev pub GivesFile : File → Result File TextError → Type 0
+abbrev pub GivesFile : File → Result File VerilogError → Type 0
 GivesFile f (Ok g) = g ≡ f
 GivesFile f (Err NoMemory) = Unit {0}
 GivesFile f (Err (Misplaced line)) = ⊥
 
 -- a result is a refusal at this line, or memory ran out
-abbrev pub GivesLine : ℕ → Result File TextError → Type 0
+abbrev pub GivesLine : ℕ → Result File VerilogError → Type 0
 GivesLine line (Ok g) = ⊥
 GivesLine line (Err NoMemory) = Unit {0}
 GivesLine line (Err (Misplaced n)) = n ≡ line
 
 -- why a result is an error, unless memory ran out
-abbrev pub IsRefused : List ℕ → Result File TextError → Type 0
+abbrev pub IsRefused : List ℕ → Result File VerilogError → Type 0
 IsRefused bytes (Ok f) = Unit {0}
 IsRefused bytes (Err NoMemory) = Unit {0}
 IsRefused bytes (Err (Misplaced line)) = IsOutOfPlace bytes line

@@ -10,8 +10,8 @@ use crate::file::{
 use crate::found::{
     constant_at, line_at, module_at, name_at, names_at, number_at, operands, operator_at, text_at,
 };
-use crate::rule::Rule;
-use crate::token::Token;
+use crate::rule::VerilogRule;
+use crate::token::VerilogToken;
 use pdl_kit::{Name, NoMemory, Seq};
 use std::alloc::Global;
 use std::mem;
@@ -42,7 +42,7 @@ impl Drop for Draft {
     }
 }
 
-fn read_term(alloc: Global, found: &[Token<'_>]) -> Result<Term, NoMemory>
+fn read_term(alloc: Global, found: &[VerilogToken<'_>]) -> Result<Term, NoMemory>
     ensures { IfOk result (λ t. t ≡ Read (spec.text_at (map token_view found.now) 0)
         (spec.text_at (map token_view found.now) 2)) }
 {
@@ -50,7 +50,7 @@ fn read_term(alloc: Global, found: &[Token<'_>]) -> Result<Term, NoMemory>
     Ok(Term::Read { array, addr })
 }
 
-fn cat_term(alloc: Global, found: &[Token<'_>]) -> Result<Term, NoMemory>
+fn cat_term(alloc: Global, found: &[VerilogToken<'_>]) -> Result<Term, NoMemory>
     ensures { IfOk result (λ t. t ≡ Cat (spec.text_at (map token_view found.now) 0)
         (spec.text_at (map token_view found.now) 2)) }
 {
@@ -58,7 +58,7 @@ fn cat_term(alloc: Global, found: &[Token<'_>]) -> Result<Term, NoMemory>
     Ok(Term::Cat(a, b))
 }
 
-fn bin_term(alloc: Global, first: &Name, found: &[Token<'_>]) -> Result<Term, NoMemory>
+fn bin_term(alloc: Global, first: &Name, found: &[VerilogToken<'_>]) -> Result<Term, NoMemory>
     ensures { IfOk result (λ t. t ≡ Bin (spec.operator_at (map token_view found.now) 0) first.now
         (spec.text_at (map token_view found.now) 1)) }
 {
@@ -66,7 +66,7 @@ fn bin_term(alloc: Global, first: &Name, found: &[Token<'_>]) -> Result<Term, No
     Ok(Term::Bin(operator_at(found, 0), a, b))
 }
 
-fn mux_term(alloc: Global, first: &Name, found: &[Token<'_>]) -> Result<Term, NoMemory>
+fn mux_term(alloc: Global, first: &Name, found: &[VerilogToken<'_>]) -> Result<Term, NoMemory>
     ensures { IfOk result (λ t. t ≡ Mux first.now (spec.text_at (map token_view found.now) 1)
         (spec.text_at (map token_view found.now) 3)) }
 {
@@ -74,7 +74,7 @@ fn mux_term(alloc: Global, first: &Name, found: &[Token<'_>]) -> Result<Term, No
     Ok(Term::Mux(chosen, a, name_at(alloc, found, 3)?))
 }
 
-fn write_decl(alloc: Global, found: &[Token<'_>]) -> Result<WriteDecl, NoMemory>
+fn write_decl(alloc: Global, found: &[VerilogToken<'_>]) -> Result<WriteDecl, NoMemory>
     ensures { IfOk result (λ w. w ≡ record {
       line = spec.line_at (map token_view found.now) 0;
       enable = spec.text_at (map token_view found.now) 2;
@@ -97,7 +97,7 @@ fn write_decl(alloc: Global, found: &[Token<'_>]) -> Result<WriteDecl, NoMemory>
 fn add_port(
     alloc: Global,
     ports: &mut Seq<PortDecl>,
-    found: &[Token<'_>],
+    found: &[VerilogToken<'_>],
     input: bool,
 ) -> Result<(), NoMemory>
     ensures { OnOk result (ports.new ≡ ports.old ++ record {
@@ -120,7 +120,7 @@ fn add_reg(
     regs: &mut Seq<RegDecl>,
     line: u32,
     high: u32,
-    found: &[Token<'_>],
+    found: &[VerilogToken<'_>],
 ) -> Result<(), NoMemory>
     ensures { OnOk result (regs.new ≡ regs.old ++ record {
       line = line;
@@ -140,7 +140,7 @@ fn add_array(
     arrays: &mut Seq<ArrayDecl>,
     line: u32,
     high: u32,
-    found: &[Token<'_>],
+    found: &[VerilogToken<'_>],
 ) -> Result<(), NoMemory>
     ensures { OnOk result (arrays.new ≡ arrays.old ++ record {
       line = line;
@@ -160,7 +160,7 @@ fn add_array(
 fn add_output(
     alloc: Global,
     outputs: &mut Seq<OutputDecl>,
-    found: &[Token<'_>],
+    found: &[VerilogToken<'_>],
 ) -> Result<(), NoMemory>
     ensures { OnOk result (outputs.new ≡ outputs.old ++ record {
       line = spec.line_at (map token_view found.now) 0;
@@ -180,7 +180,7 @@ fn add_reg_block(
     alloc: Global,
     blocks: &mut Seq<RegBlock>,
     line: u32,
-    found: &[Token<'_>],
+    found: &[VerilogToken<'_>],
 ) -> Result<(), NoMemory>
     ensures { OnOk result (blocks.new ≡ blocks.old ++ record {
       line = line;
@@ -204,7 +204,7 @@ fn add_reg_block(
 fn add_write(
     alloc: Global,
     writes: &mut Seq<WriteDecl>,
-    found: &[Token<'_>],
+    found: &[VerilogToken<'_>],
 ) -> Result<(), NoMemory>
     ensures { OnOk result (writes.new ≡ writes.old ++ record {
       line = spec.line_at (map token_view found.now) 0;
@@ -218,21 +218,26 @@ fn add_write(
 }
 
 // The term that a rule ends, where its first operand may stand before.
-fn term(alloc: Global, operand: &Name, rule: Rule, found: &[Token<'_>]) -> Result<Term, NoMemory>
+fn term(
+    alloc: Global,
+    operand: &Name,
+    rule: VerilogRule,
+    found: &[VerilogToken<'_>],
+) -> Result<Term, NoMemory>
     ensures { IfOk result (λ t. t ≡ spec.term operand.now rule
         (map token_view found.now)) }
 {
     match rule {
-        Rule::NotTerm => Ok(Term::Not(name_at(alloc, found, 1)?)),
-        Rule::ReadTerm => read_term(alloc, found),
-        Rule::CatTerm => cat_term(alloc, found),
-        Rule::RepTerm => Ok(Term::Rep {
+        VerilogRule::NotTerm => Ok(Term::Not(name_at(alloc, found, 1)?)),
+        VerilogRule::ReadTerm => read_term(alloc, found),
+        VerilogRule::CatTerm => cat_term(alloc, found),
+        VerilogRule::RepTerm => Ok(Term::Rep {
             count: number_at(found, 0),
             a: name_at(alloc, found, 2)?,
         }),
-        Rule::BinTerm => bin_term(alloc, operand, found),
-        Rule::MuxTerm => mux_term(alloc, operand, found),
-        Rule::SliceTerm => Ok(Term::Slice {
+        VerilogRule::BinTerm => bin_term(alloc, operand, found),
+        VerilogRule::MuxTerm => mux_term(alloc, operand, found),
+        VerilogRule::SliceTerm => Ok(Term::Slice {
             a: operand.clone()?,
             high: number_at(found, 1),
             low: number_at(found, 3),
@@ -301,45 +306,63 @@ impl Draft {
     }
 
     /// Takes the tokens of a rule.
-    pub fn take(&mut self, alloc: Global, rule: Rule, found: &[Token<'_>]) -> Result<(), NoMemory>
+    pub fn take(
+        &mut self,
+        alloc: Global,
+        rule: VerilogRule,
+        found: &[VerilogToken<'_>],
+    ) -> Result<(), NoMemory>
         ensures { OnOk result (self.new ≡ spec.taken self.old rule (map token_view found.now)) }
     {
         match rule {
-            Rule::Opening => self.open(alloc, found),
-            Rule::InputPort => add_port(alloc, &mut self.file.ports, found, true),
-            Rule::OutputPort => add_port(alloc, &mut self.file.ports, found, false),
-            Rule::RegRange | Rule::ArrayRange => self.range(found),
-            Rule::RegDeclared => add_reg(alloc, &mut self.file.regs, self.line, self.high, found),
-            Rule::ArrayDeclared => add_array(
+            VerilogRule::Opening => self.open(alloc, found),
+            VerilogRule::InputPort => add_port(alloc, &mut self.file.ports, found, true),
+            VerilogRule::OutputPort => add_port(alloc, &mut self.file.ports, found, false),
+            VerilogRule::RegRange | VerilogRule::ArrayRange => self.range(found),
+            VerilogRule::RegDeclared => add_reg(
+                alloc,
+                &mut self.file.regs,
+                self.line,
+                self.high,
+                found,
+            ),
+            VerilogRule::ArrayDeclared => add_array(
                 alloc,
                 &mut self.file.arrays,
                 self.line,
                 self.high,
                 found,
             ),
-            Rule::CellHead => self.cell_head(alloc, found),
-            Rule::FirstOperand => self.first_operand(alloc, found),
-            Rule::ConstTerm
-            | Rule::NotTerm
-            | Rule::ReadTerm
-            | Rule::BinTerm
-            | Rule::MuxTerm
-            | Rule::SliceTerm
-            | Rule::CatTerm
-            | Rule::RepTerm => self.cell(alloc, rule, found),
-            Rule::OutputDriven => add_output(alloc, &mut self.file.outputs, found),
-            Rule::BlockHead | Rule::ArrayHead => self.block_head(found),
-            Rule::RegDriven => add_reg_block(alloc, &mut self.file.reg_blocks, self.line, found),
-            Rule::Written => add_write(alloc, &mut self.writes, found),
-            Rule::ArrayEnd => self.array_block(alloc),
-            Rule::NextPort | Rule::Closing | Rule::OpenTerm | Rule::ArrayBegin | Rule::Ending => Ok(
-                (),
+            VerilogRule::CellHead => self.cell_head(alloc, found),
+            VerilogRule::FirstOperand => self.first_operand(alloc, found),
+            VerilogRule::ConstTerm
+            | VerilogRule::NotTerm
+            | VerilogRule::ReadTerm
+            | VerilogRule::BinTerm
+            | VerilogRule::MuxTerm
+            | VerilogRule::SliceTerm
+            | VerilogRule::CatTerm
+            | VerilogRule::RepTerm => self.cell(alloc, rule, found),
+            VerilogRule::OutputDriven => add_output(alloc, &mut self.file.outputs, found),
+            VerilogRule::BlockHead | VerilogRule::ArrayHead => self.block_head(found),
+            VerilogRule::RegDriven => add_reg_block(
+                alloc,
+                &mut self.file.reg_blocks,
+                self.line,
+                found,
             ),
+            VerilogRule::Written => add_write(alloc, &mut self.writes, found),
+            VerilogRule::ArrayEnd => self.array_block(alloc),
+            VerilogRule::NextPort
+            | VerilogRule::Closing
+            | VerilogRule::OpenTerm
+            | VerilogRule::ArrayBegin
+            | VerilogRule::Ending => Ok(()),
         }
     }
 
     // The module and the reset.
-    fn open(&mut self, alloc: Global, found: &[Token<'_>]) -> Result<(), NoMemory>
+    fn open(&mut self, alloc: Global, found: &[VerilogToken<'_>]) -> Result<(), NoMemory>
         ensures { OnOk result (self.new ≡ spec.opened self.old (map token_view found.now)) }
     {
         self.file.name = module_at(alloc, found, 1)?;
@@ -349,7 +372,7 @@ impl Draft {
         Ok(())
     }
 
-    fn range(&mut self, found: &[Token<'_>]) -> Result<(), NoMemory>
+    fn range(&mut self, found: &[VerilogToken<'_>]) -> Result<(), NoMemory>
         ensures { OnOk result (self.new ≡ spec.with_range self.old (map token_view found.now)) }
     {
         self.line = line_at(found, 0);
@@ -357,7 +380,7 @@ impl Draft {
         Ok(())
     }
 
-    fn cell_head(&mut self, alloc: Global, found: &[Token<'_>]) -> Result<(), NoMemory>
+    fn cell_head(&mut self, alloc: Global, found: &[VerilogToken<'_>]) -> Result<(), NoMemory>
         ensures { OnOk result (self.new ≡ spec.with_head self.old (map token_view found.now)) }
     {
         let (name, target) = names_at(alloc, found, 6, 9)?;
@@ -368,7 +391,7 @@ impl Draft {
         Ok(())
     }
 
-    fn first_operand(&mut self, alloc: Global, found: &[Token<'_>]) -> Result<(), NoMemory>
+    fn first_operand(&mut self, alloc: Global, found: &[VerilogToken<'_>]) -> Result<(), NoMemory>
         ensures { OnOk result (self.new ≡ spec.with_operand self.old (map token_view found.now)) }
     {
         self.operand = name_at(alloc, found, 0)?;
@@ -379,8 +402,8 @@ impl Draft {
     fn cell_decl(
         &self,
         alloc: Global,
-        rule: Rule,
-        found: &[Token<'_>],
+        rule: VerilogRule,
+        found: &[VerilogToken<'_>],
     ) -> Result<CellDecl, NoMemory>
         ensures { IfOk result (λ c. c ≡ record {
           line = self.now.line;
@@ -401,14 +424,19 @@ impl Draft {
         })
     }
 
-    fn cell(&mut self, alloc: Global, rule: Rule, found: &[Token<'_>]) -> Result<(), NoMemory>
+    fn cell(
+        &mut self,
+        alloc: Global,
+        rule: VerilogRule,
+        found: &[VerilogToken<'_>],
+    ) -> Result<(), NoMemory>
         ensures { OnOk result (self.new ≡ spec.with_cell self.old rule (map token_view found.now)) }
     {
         let decl = self.cell_decl(alloc, rule, found)?;
         self.file.cells.push(decl)
     }
 
-    fn block_head(&mut self, found: &[Token<'_>]) -> Result<(), NoMemory>
+    fn block_head(&mut self, found: &[VerilogToken<'_>]) -> Result<(), NoMemory>
         ensures { OnOk result (self.new ≡ spec.with_block self.old (map token_view found.now)) }
     {
         self.line = line_at(found, 0);

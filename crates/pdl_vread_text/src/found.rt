@@ -5,13 +5,13 @@ ghost use Rattle.pdl_vread_text.specs.Drafts as spec;
 
 use crate::field::operator_of;
 use crate::numbers::{Constant, constant_of, number_of};
-use crate::token::Token;
+use crate::token::VerilogToken;
 use pdl_kit::{Name, NoMemory};
 use pdl_net::BinOp;
 use std::alloc::Global;
 
 /// The text of the token at a place, nothing where there is none.
-pub fn text_at<'a>(found: &[Token<'a>], i: usize) -> &'a [u8]
+pub fn text_at<'a>(found: &[VerilogToken<'a>], i: usize) -> &'a [u8]
     ensures { result.now ≡ spec.text_at (map token_view found.now) i }
 {
     match found.get(i) {
@@ -21,7 +21,7 @@ pub fn text_at<'a>(found: &[Token<'a>], i: usize) -> &'a [u8]
 }
 
 /// Its line, 0 where there is none.
-pub fn line_at(found: &[Token<'_>], i: usize) -> u32
+pub fn line_at(found: &[VerilogToken<'_>], i: usize) -> u32
     ensures { result ≡ spec.line_at (map token_view found.now) i }
 {
     match found.get(i) {
@@ -31,28 +31,28 @@ pub fn line_at(found: &[Token<'_>], i: usize) -> u32
 }
 
 /// The number that it is, or 0.
-pub fn number_at(found: &[Token<'_>], i: usize) -> u32
+pub fn number_at(found: &[VerilogToken<'_>], i: usize) -> u32
     ensures { result ≡ spec.number_at (map token_view found.now) i }
 {
     number_of(text_at(found, i)).unwrap_or(0)
 }
 
 /// The constant that it is, or one of no bits.
-pub fn constant_at(found: &[Token<'_>], i: usize) -> Constant
+pub fn constant_at(found: &[VerilogToken<'_>], i: usize) -> Constant
     ensures { result ≡ spec.constant_at (map token_view found.now) i }
 {
     constant_of(text_at(found, i)).unwrap_or(Constant { width: 0, value: 0 })
 }
 
 /// The operator that it is, or `+`.
-pub fn operator_at(found: &[Token<'_>], i: usize) -> BinOp
+pub fn operator_at(found: &[VerilogToken<'_>], i: usize) -> BinOp
     ensures { result ≡ spec.operator_at (map token_view found.now) i }
 {
     operator_of(text_at(found, i)).unwrap_or(BinOp::Add)
 }
 
 /// Its text as a name.
-pub fn name_at(alloc: Global, found: &[Token<'_>], i: usize) -> Result<Name, NoMemory>
+pub fn name_at(alloc: Global, found: &[VerilogToken<'_>], i: usize) -> Result<Name, NoMemory>
     ensures { IfOk result (λ n. n ≡ spec.text_at (map token_view found.now) i) }
 {
     Name::copy_of(alloc, text_at(found, i))
@@ -61,7 +61,7 @@ pub fn name_at(alloc: Global, found: &[Token<'_>], i: usize) -> Result<Name, NoM
 /// The names at two places.
 pub fn names_at(
     alloc: Global,
-    found: &[Token<'_>],
+    found: &[VerilogToken<'_>],
     i: usize,
     j: usize,
 ) -> Result<(Name, Name), NoMemory>
@@ -77,7 +77,7 @@ pub fn names_at(
 pub fn operands(
     alloc: Global,
     first: &Name,
-    found: &[Token<'_>],
+    found: &[VerilogToken<'_>],
     i: usize,
 ) -> Result<(Name, Name), NoMemory>
     ensures { IfOk result (λ (a, b). (a ≡ first.now)
@@ -89,7 +89,7 @@ pub fn operands(
 }
 
 /// The name of a module without `pdl_`.
-pub fn module_at(alloc: Global, found: &[Token<'_>], i: usize) -> Result<Name, NoMemory>
+pub fn module_at(alloc: Global, found: &[VerilogToken<'_>], i: usize) -> Result<Name, NoMemory>
     ensures { IfOk result (λ n. n ≡ drop 4 (spec.text_at (map token_view found.now) i)) }
 {
     let text = text_at(found, i);

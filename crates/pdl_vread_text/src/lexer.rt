@@ -4,13 +4,13 @@ ghost use Rattle.pdl_vread_text.specs.Tokens.{tokens, tokens_from};
 ghost use Rattle.pdl_vread_text.specs.Pieces.{IsFront, IsLineAfter};
 ghost use Rattle.pdl_vread_text.specs.Cursor.{token_view, maybe_token_view, onto, first, next};
 
-use crate::piece::{Piece, front};
-use crate::token::Token;
+use crate::piece::{VerilogPiece, front};
+use crate::token::VerilogToken;
 use std::marker::Model;
 
 // What is left of a text, and on which line it begins.
 #[derive(Clone, Copy)]
-struct Place<'a> {
+struct VerilogPlace<'a> {
     rest: &'a [u8],
     line: u32,
     ghost lines: { line + length rest.now ≤ 268435457 },
@@ -18,15 +18,15 @@ struct Place<'a> {
 
 // A token, if there is one, and the place after it.
 #[derive(Clone, Copy)]
-struct Step<'a> {
-    token: Option<Token<'a>>,
-    after: Place<'a>,
+struct VerilogStep<'a> {
+    token: Option<VerilogToken<'a>>,
+    after: VerilogPlace<'a>,
 }
 
-impl<'a> Place<'a> {
+impl<'a> VerilogPlace<'a> {
     // The place after the piece at the front.
     #[tactic(auto, using(crate::proofs::Steps::piece_fits))]
-    fn after(&self, piece: Piece) -> Place<'a>
+    fn after(&self, piece: VerilogPiece) -> VerilogPlace<'a>
         requires { IsFront self.now.rest.now (Some piece) }
         ensures rest { result.rest.now ≡ drop piece.size self.now.rest.now }
         ensures line { IsLineAfter self.now.rest.now self.now.line result.line }
@@ -37,28 +37,28 @@ impl<'a> Place<'a> {
             Some(b'\n') => self.line + 1,
             _ => self.line,
         };
-        Place {
+        VerilogPlace {
             rest: &self.rest[piece.size..],
             line,
         }
     }
 
     // The token of so many bytes that stands here.
-    fn token(&self, size: usize) -> Token<'a>
+    fn token(&self, size: usize) -> VerilogToken<'a>
         requires { size ≤ length self.now.rest.now }
         ensures { token_view result ≡ record {
           text = take size self.now.rest.now;
           line = self.now.line;
         } }
     {
-        Token {
+        VerilogToken {
             text: &self.rest[..size],
             line: self.line,
         }
     }
 
     // The first token from here on.
-    fn step(&self) -> Step<'a>
+    fn step(&self) -> VerilogStep<'a>
         ensures { onto result.token (tokens_from 0 result.after.line result.after.rest.now)
             ≡ tokens_from 0 self.now.line self.now.rest.now }
     {
@@ -66,14 +66,14 @@ impl<'a> Place<'a> {
         while let Some(piece) = front(place.rest) {
             let after = place.after(piece);
             if piece.is_token {
-                return Step {
+                return VerilogStep {
                     token: Some(place.token(piece.size)),
                     after,
                 };
             }
             place = after;
         }
-        Step {
+        VerilogStep {
             token: None,
             after: place,
         }
@@ -82,12 +82,12 @@ impl<'a> Place<'a> {
 
 /// The tokens that are left, of which the first is known.
 #[derive(Drop)]
-pub struct Tokens<'a> {
-    known: Option<Token<'a>>,
-    after: Place<'a>,
+pub struct VerilogTokens<'a> {
+    known: Option<VerilogToken<'a>>,
+    after: VerilogPlace<'a>,
 }
 
-impl<'a> Model for Tokens<'a> {
+impl<'a> Model for VerilogTokens<'a> {
     ghost use Rattle.std.specs.Prelude.{List};
     ghost use Rattle.pdl_vread_text.specs.Tokens.{Token, tokens_from};
     ghost use Rattle.pdl_vread_text.specs.Cursor.{onto};
@@ -97,25 +97,25 @@ impl<'a> Model for Tokens<'a> {
     ghost view = { λ t. onto t.known (tokens_from 0 t.after.line t.after.rest.now) };
 }
 
-impl<'a> Tokens<'a> {
+impl<'a> VerilogTokens<'a> {
     /// The tokens of a text of at most 268,435,456 bytes.
-    pub fn new(source: &'a [u8]) -> Tokens<'a>
+    pub fn new(source: &'a [u8]) -> VerilogTokens<'a>
         requires { length source.now ≤ 268435456 }
         ensures { result ≡ tokens source.entry.now }
     {
-        let place = Place {
+        let place = VerilogPlace {
             rest: source,
             line: 1,
         };
         let step = place.step();
-        Tokens {
+        VerilogTokens {
             known: step.token,
             after: step.after,
         }
     }
 
     /// The first of the tokens that are left.
-    pub fn peek(&self) -> Option<Token<'a>>
+    pub fn peek(&self) -> Option<VerilogToken<'a>>
         ensures { maybe_token_view result ≡ first self.now }
     {
         self.known

@@ -20,4 +20,4 @@ pub mod token;
 pub use file::{
     ArrayBlock, ArrayDecl, CellDecl, File, OutputDecl, PortDecl, RegBlock, RegDecl, Term, WriteDecl,
 };
-pub use read::{TextError, read_file};
+pub use read::{VerilogError, read_file};

@@ -2,7 +2,7 @@
 ghost use Rattle.std.specs.Prelude.{◌≡◌};
 ghost use Rattle.pdl_vread_text.specs.Grammar as spec;
 
-use crate::rule::Rule;
+use crate::rule::VerilogRule;
 
 /// A place in a file, by what may come there.
 #[derive(Clone, Copy)]
@@ -45,65 +45,73 @@ pub enum Part {
     Finished,
 }
 
-static AT_START: [Rule; 1] = [Rule::Opening];
+static AT_START: [VerilogRule; 1] = [VerilogRule::Opening];
 
-static AT_PORTS: [Rule; 2] = [Rule::NextPort, Rule::Closing];
+static AT_PORTS: [VerilogRule; 2] = [VerilogRule::NextPort, VerilogRule::Closing];
 
-static AT_DIRECTION: [Rule; 2] = [Rule::InputPort, Rule::OutputPort];
+static AT_DIRECTION: [VerilogRule; 2] = [VerilogRule::InputPort, VerilogRule::OutputPort];
 
-static AT_REGS: [Rule; 5] = [
-    Rule::RegRange,
-    Rule::CellHead,
-    Rule::OutputDriven,
-    Rule::BlockHead,
-    Rule::Ending,
+static AT_REGS: [VerilogRule; 5] = [
+    VerilogRule::RegRange,
+    VerilogRule::CellHead,
+    VerilogRule::OutputDriven,
+    VerilogRule::BlockHead,
+    VerilogRule::Ending,
 ];
 
-static AT_DECLARED: [Rule; 2] = [Rule::RegDeclared, Rule::ArrayDeclared];
+static AT_DECLARED: [VerilogRule; 2] = [VerilogRule::RegDeclared, VerilogRule::ArrayDeclared];
 
-static AT_ARRAYS: [Rule; 5] = [
-    Rule::ArrayRange,
-    Rule::CellHead,
-    Rule::OutputDriven,
-    Rule::BlockHead,
-    Rule::Ending,
+static AT_ARRAYS: [VerilogRule; 5] = [
+    VerilogRule::ArrayRange,
+    VerilogRule::CellHead,
+    VerilogRule::OutputDriven,
+    VerilogRule::BlockHead,
+    VerilogRule::Ending,
 ];
 
-static AT_LATER_ARRAY: [Rule; 1] = [Rule::ArrayDeclared];
+static AT_LATER_ARRAY: [VerilogRule; 1] = [VerilogRule::ArrayDeclared];
 
-static AT_CELLS: [Rule; 4] = [
-    Rule::CellHead,
-    Rule::OutputDriven,
-    Rule::BlockHead,
-    Rule::Ending,
+static AT_CELLS: [VerilogRule; 4] = [
+    VerilogRule::CellHead,
+    VerilogRule::OutputDriven,
+    VerilogRule::BlockHead,
+    VerilogRule::Ending,
 ];
 
-static AT_TERM: [Rule; 5] = [
-    Rule::ConstTerm,
-    Rule::NotTerm,
-    Rule::FirstOperand,
-    Rule::ReadTerm,
-    Rule::OpenTerm,
+static AT_TERM: [VerilogRule; 5] = [
+    VerilogRule::ConstTerm,
+    VerilogRule::NotTerm,
+    VerilogRule::FirstOperand,
+    VerilogRule::ReadTerm,
+    VerilogRule::OpenTerm,
 ];
 
-static AT_AFTER_OPERAND: [Rule; 3] = [Rule::BinTerm, Rule::MuxTerm, Rule::SliceTerm];
+static AT_AFTER_OPERAND: [VerilogRule; 3] = [
+    VerilogRule::BinTerm,
+    VerilogRule::MuxTerm,
+    VerilogRule::SliceTerm,
+];
 
-static AT_BRACED: [Rule; 2] = [Rule::CatTerm, Rule::RepTerm];
+static AT_BRACED: [VerilogRule; 2] = [VerilogRule::CatTerm, VerilogRule::RepTerm];
 
-static AT_OUTPUTS: [Rule; 3] = [Rule::OutputDriven, Rule::BlockHead, Rule::Ending];
+static AT_OUTPUTS: [VerilogRule; 3] = [
+    VerilogRule::OutputDriven,
+    VerilogRule::BlockHead,
+    VerilogRule::Ending,
+];
 
-static AT_BLOCKS: [Rule; 2] = [Rule::BlockHead, Rule::Ending];
+static AT_BLOCKS: [VerilogRule; 2] = [VerilogRule::BlockHead, VerilogRule::Ending];
 
-static AT_BLOCK: [Rule; 2] = [Rule::RegDriven, Rule::ArrayBegin];
+static AT_BLOCK: [VerilogRule; 2] = [VerilogRule::RegDriven, VerilogRule::ArrayBegin];
 
-static AT_ARRAY_BLOCKS: [Rule; 2] = [Rule::ArrayHead, Rule::Ending];
+static AT_ARRAY_BLOCKS: [VerilogRule; 2] = [VerilogRule::ArrayHead, VerilogRule::Ending];
 
-static AT_FIRST_WRITE: [Rule; 1] = [Rule::Written];
+static AT_FIRST_WRITE: [VerilogRule; 1] = [VerilogRule::Written];
 
-static AT_WRITES: [Rule; 2] = [Rule::Written, Rule::ArrayEnd];
+static AT_WRITES: [VerilogRule; 2] = [VerilogRule::Written, VerilogRule::ArrayEnd];
 
 // The first of the rules whose first token a word may be.
-fn first_with(rules: &[Rule], text: &[u8]) -> Option<Rule>
+fn first_with(rules: &[VerilogRule], text: &[u8]) -> Option<VerilogRule>
     ensures { result ≡ spec.first_with rules.now text.now }
 {
     for rule in rules {
@@ -116,7 +124,7 @@ fn first_with(rules: &[Rule], text: &[u8]) -> Option<Rule>
 
 impl Part {
     /// The rules that may come here.
-    fn rules(self) -> &'static [Rule]
+    fn rules(self) -> &'static [VerilogRule]
         ensures { result.now ≡ spec.rules self }
     {
         match self {
@@ -153,7 +161,7 @@ impl Part {
 
     /// The rule that comes here where the next token is this word: the first whose first token it may be.
     #[tactic(auto, unfolding(crate::specs::Grammar::chosen))]
-    pub fn chosen(self, text: &[u8]) -> Option<Rule>
+    pub fn chosen(self, text: &[u8]) -> Option<VerilogRule>
         ensures { result ≡ spec.chosen self text.now }
     {
         first_with(self.rules(), text)

@@ -7,7 +7,7 @@ use crate::bytes::{is_blank, is_word, line_length, word_length};
 
 /// What stands at the front: a token, or white space or a comment, and how many bytes it takes.
 #[derive(Clone, Copy)]
-pub struct Piece {
+pub struct VerilogPiece {
     pub is_token: bool,
     pub size: usize,
 }
@@ -25,32 +25,32 @@ fn begins_pair(bytes: &[u8]) -> bool
 
 /// The piece at the front, or none where nothing is left.
 #[tactic(auto, unfolding(crate::specs::Tokens::piece_at))]
-pub fn front(bytes: &[u8]) -> Option<Piece>
+pub fn front(bytes: &[u8]) -> Option<VerilogPiece>
     ensures { IsFront bytes.now result }
 {
     let first = *bytes.first()?;
     Some(if is_blank(first) {
-        Piece {
+        VerilogPiece {
             is_token: false,
             size: 1,
         }
     } else if is_word(first) {
-        Piece {
+        VerilogPiece {
             is_token: true,
             size: word_length(bytes),
         }
     } else if bytes.starts_with(b"//") {
-        Piece {
+        VerilogPiece {
             is_token: false,
             size: line_length(bytes),
         }
     } else if begins_pair(bytes) {
-        Piece {
+        VerilogPiece {
             is_token: true,
             size: 2,
         }
     } else {
-        Piece {
+        VerilogPiece {
             is_token: true,
             size: 1,
         }

@@ -11,45 +11,45 @@ ghost use Rattle.pdl_vread_text.specs.declared.file.File.{File as File'};
 use crate::draft::Draft;
 use crate::field::Field;
 use crate::file::File;
-use crate::lexer::Tokens;
+use crate::lexer::VerilogTokens;
 use crate::part::Part;
-use crate::rule::Rule;
-use crate::token::Token;
+use crate::rule::VerilogRule;
+use crate::token::VerilogToken;
 use pdl_kit::NoMemory;
 use std::alloc::{AllocFailed, Global};
 
 /// Why a text was not taken: a token out of place, with the line of the first one (counted from 1), or want of memory.
 #[derive(Clone, Copy)]
-pub enum TextError {
+pub enum VerilogError {
     Misplaced { line: u32 },
     NoMemory,
 }
 
 // Why the reader stopped: a token out of place, which is the next one, or want of memory.
 #[derive(Clone, Copy)]
-enum Stop {
+enum ReaderStop {
     Misplaced,
     NoMemory,
 }
 
-impl From<NoMemory> for Stop {
+impl From<NoMemory> for ReaderStop {
     ghost from_gives = { λ _ e. e ≡ spec.no_memory };
 
-    fn from(_e: NoMemory) -> Stop {
-        Stop::NoMemory
+    fn from(_e: NoMemory) -> ReaderStop {
+        ReaderStop::NoMemory
     }
 }
 
-impl<T: Drop> From<AllocFailed<T>> for Stop {
+impl<T: Drop> From<AllocFailed<T>> for ReaderStop {
     ghost from_gives = { λ _ e. e ≡ spec.no_memory };
 
-    fn from(_e: AllocFailed<T>) -> Stop {
-        Stop::NoMemory
+    fn from(_e: AllocFailed<T>) -> ReaderStop {
+        ReaderStop::NoMemory
     }
 }
 
 // The rule that comes at a part.
-fn rule_at(part: Part, tokens: &Tokens<'_>) -> Option<Rule>
+fn rule_at(part: Part, tokens: &VerilogTokens<'_>) -> Option<VerilogRule>
     ensures { result ≡ spec.chosen_at part tokens.now }
 {
     match tokens.peek() {
@@ -59,7 +59,7 @@ fn rule_at(part: Part, tokens: &Tokens<'_>) -> Option<Rule>
 }
 
 // The next token, where it is what is asked.
-fn fitting<'a>(tokens: &Tokens<'a>, field: Field) -> Option<Token<'a>>
+fn fitting<'a>(tokens: &VerilogTokens<'a>, field: Field) -> Option<VerilogToken<'a>>
     ensures { spec.IsFitting tokens.now field result }
 {
     match tokens.peek() {
@@ -76,10 +76,10 @@ fn fitting<'a>(tokens: &Tokens<'a>, field: Field) -> Option<Token<'a>>
 
 // Takes the tokens of a rule.
 fn sentence<'a>(
-    tokens: &mut Tokens<'a>,
+    tokens: &mut VerilogTokens<'a>,
     fields: &[Field],
-    found: &mut Vec<Token<'a>>,
-) -> Result<(), Stop>
+    found: &mut Vec<VerilogToken<'a>>,
+) -> Result<(), ReaderStop>
     ensures { spec.Sentence fields.now tokens.old
         (map token_view found.new.items) tokens.new result }
 {
@@ -90,7 +90,7 @@ fn sentence<'a>(
                 found.push(token)?;
                 tokens.skip();
             }
-            None => return Err(Stop::Misplaced),
+            None => return Err(ReaderStop::Misplaced),
         }
     }
     Ok(())
@@ -99,11 +99,11 @@ fn sentence<'a>(
 // Takes the rule that comes at a part, and answers the part after it.
 fn take_rule<'a>(
     alloc: Global,
-    tokens: &mut Tokens<'a>,
+    tokens: &mut VerilogTokens<'a>,
     part: Part,
     draft: &mut Draft,
-    found: &mut Vec<Token<'a>>,
-) -> Result<Part, Stop>
+    found: &mut Vec<VerilogToken<'a>>,
+) -> Result<Part, ReaderStop>
     ensures { spec.TakesRule part tokens.old tokens.new draft.old draft.new result }
 {
     match rule_at(part, tokens) {
@@ -114,17 +114,17 @@ fn take_rule<'a>(
             }
             Err(stop) => Err(stop),
         },
-        None => Err(Stop::Misplaced),
+        None => Err(ReaderStop::Misplaced),
     }
 }
 
 // Takes rules up to the end of a file.
 fn take_rules<'a>(
     alloc: Global,
-    tokens: &mut Tokens<'a>,
+    tokens: &mut VerilogTokens<'a>,
     draft: &mut Draft,
-    found: &mut Vec<Token<'a>>,
-) -> Result<(), Stop>
+    found: &mut Vec<VerilogToken<'a>>,
+) -> Result<(), ReaderStop>
     requires { draft.old ≡ no_draft }
     ensures { spec.TakesRules tokens.old tokens.new draft.new result }
 {
@@ -148,7 +148,7 @@ fn last_line(source: &[u8]) -> u32
 }
 
 // The line of the next token, or the last line where there is none.
-fn line_of(source: &[u8], tokens: &Tokens<'_>) -> u32
+fn line_of(source: &[u8], tokens: &VerilogTokens<'_>) -> u32
     requires { length source.now ≤ 268435456 }
     ensures { result ≡ spec.line_of tokens.now (lexed.last_line source.now) }
 {
@@ -159,39 +159,43 @@ fn line_of(source: &[u8], tokens: &Tokens<'_>) -> u32
 }
 
 // What is answered of a text whose rules were taken up to some token.
-fn verdict(source: &[u8], tokens: &Tokens<'_>, taken: Result<(), Stop>) -> Result<(), TextError>
+fn verdict(
+    source: &[u8],
+    tokens: &VerilogTokens<'_>,
+    taken: Result<(), ReaderStop>,
+) -> Result<(), VerilogError>
     requires { length source.now ≤ 268435456 }
     ensures { (d : Draft') → spec.TakesRules (lexed.tokens source.now) tokens.now d taken →
         spec.JudgesDraft source.now d result }
 {
     match taken {
         Ok(()) => match tokens.peek() {
-            Some(token) => Err(TextError::Misplaced { line: token.line }),
+            Some(token) => Err(VerilogError::Misplaced { line: token.line }),
             None => Ok(()),
         },
         Err(stop) => match stop {
-            Stop::Misplaced => Err(TextError::Misplaced {
+            ReaderStop::Misplaced => Err(VerilogError::Misplaced {
                 line: line_of(source, tokens),
             }),
-            Stop::NoMemory => Err(TextError::NoMemory),
+            ReaderStop::NoMemory => Err(VerilogError::NoMemory),
         },
     }
 }
 
 // Reads a text by the grammar, into a draft for which nothing is taken yet.
-fn read_into(alloc: Global, source: &[u8], draft: &mut Draft) -> Result<(), TextError>
+fn read_into(alloc: Global, source: &[u8], draft: &mut Draft) -> Result<(), VerilogError>
     requires size { length source.now ≤ 268435456 }
     requires nothing { draft.old ≡ no_draft }
     ensures { spec.JudgesDraft source.now draft.new result }
 {
-    let mut tokens = Tokens::new(source);
+    let mut tokens = VerilogTokens::new(source);
     let mut found = Vec::new(alloc);
     let taken = take_rules(alloc, &mut tokens, draft, &mut found);
     verdict(source, &tokens, taken)
 }
 
 // Reads a text by the grammar.
-fn read(alloc: Global, source: &[u8]) -> Result<File, TextError>
+fn read(alloc: Global, source: &[u8]) -> Result<File, VerilogError>
     requires { length source.now ≤ 268435456 }
     ensures { spec.Judges source.now result }
 {
@@ -204,7 +208,7 @@ fn read(alloc: Global, source: &[u8]) -> Result<File, TextError>
 
 /// Reads a text of at most 268,435,456 bytes by the grammar. A text with a token out of place is refused at the line of the first one, one that ends too early at the line on which it ends.
 #[tactic(auto, using(crate::proofs::Place::judged_only, crate::proofs::Place::judged_exact, crate::proofs::Place::judged_refused))]
-pub fn read_file(alloc: Global, source: &[u8]) -> Result<File, TextError>
+pub fn read_file(alloc: Global, source: &[u8]) -> Result<File, VerilogError>
     requires { length source.now ≤ 268435456 }
     // What is read is what the text declares.
     ensures found { IfOk result (λ f. IsFile source.now f) }

@@ -7,7 +7,7 @@ use crate::part::Part;
 
 /// A rule: a row of tokens that may come at some part, and the part after it.
 #[derive(Clone, Copy)]
-pub enum Rule {
+pub enum VerilogRule {
     /// `module module_name ( input wire clk , input wire [ num : 0 ] rst`
     Opening,
     /// `,`
@@ -264,40 +264,40 @@ static ARRAY_END: [Field; 1] = [Field::End];
 
 static ENDING: [Field; 1] = [Field::EndModule];
 
-impl Rule {
+impl VerilogRule {
     /// What its tokens have to be.
     pub fn fields(self) -> &'static [Field]
         ensures { result.now ≡ spec.fields self }
     {
         match self {
-            Rule::Opening => &OPENING,
-            Rule::NextPort => &NEXT_PORT,
-            Rule::InputPort => &INPUT_PORT,
-            Rule::OutputPort => &OUTPUT_PORT,
-            Rule::Closing => &CLOSING,
-            Rule::RegRange => &REG_RANGE,
-            Rule::RegDeclared => &REG_DECLARED,
-            Rule::ArrayDeclared => &ARRAY_DECLARED,
-            Rule::ArrayRange => &ARRAY_RANGE,
-            Rule::CellHead => &CELL_HEAD,
-            Rule::ConstTerm => &CONST_TERM,
-            Rule::NotTerm => &NOT_TERM,
-            Rule::ReadTerm => &READ_TERM,
-            Rule::FirstOperand => &FIRST_OPERAND,
-            Rule::BinTerm => &BIN_TERM,
-            Rule::MuxTerm => &MUX_TERM,
-            Rule::SliceTerm => &SLICE_TERM,
-            Rule::OpenTerm => &OPEN_TERM,
-            Rule::CatTerm => &CAT_TERM,
-            Rule::RepTerm => &REP_TERM,
-            Rule::OutputDriven => &OUTPUT_DRIVEN,
-            Rule::BlockHead => &BLOCK_HEAD,
-            Rule::RegDriven => &REG_DRIVEN,
-            Rule::ArrayBegin => &ARRAY_BEGIN,
-            Rule::ArrayHead => &ARRAY_HEAD,
-            Rule::Written => &WRITTEN,
-            Rule::ArrayEnd => &ARRAY_END,
-            Rule::Ending => &ENDING,
+            VerilogRule::Opening => &OPENING,
+            VerilogRule::NextPort => &NEXT_PORT,
+            VerilogRule::InputPort => &INPUT_PORT,
+            VerilogRule::OutputPort => &OUTPUT_PORT,
+            VerilogRule::Closing => &CLOSING,
+            VerilogRule::RegRange => &REG_RANGE,
+            VerilogRule::RegDeclared => &REG_DECLARED,
+            VerilogRule::ArrayDeclared => &ARRAY_DECLARED,
+            VerilogRule::ArrayRange => &ARRAY_RANGE,
+            VerilogRule::CellHead => &CELL_HEAD,
+            VerilogRule::ConstTerm => &CONST_TERM,
+            VerilogRule::NotTerm => &NOT_TERM,
+            VerilogRule::ReadTerm => &READ_TERM,
+            VerilogRule::FirstOperand => &FIRST_OPERAND,
+            VerilogRule::BinTerm => &BIN_TERM,
+            VerilogRule::MuxTerm => &MUX_TERM,
+            VerilogRule::SliceTerm => &SLICE_TERM,
+            VerilogRule::OpenTerm => &OPEN_TERM,
+            VerilogRule::CatTerm => &CAT_TERM,
+            VerilogRule::RepTerm => &REP_TERM,
+            VerilogRule::OutputDriven => &OUTPUT_DRIVEN,
+            VerilogRule::BlockHead => &BLOCK_HEAD,
+            VerilogRule::RegDriven => &REG_DRIVEN,
+            VerilogRule::ArrayBegin => &ARRAY_BEGIN,
+            VerilogRule::ArrayHead => &ARRAY_HEAD,
+            VerilogRule::Written => &WRITTEN,
+            VerilogRule::ArrayEnd => &ARRAY_END,
+            VerilogRule::Ending => &ENDING,
         }
     }
 
@@ -316,30 +316,30 @@ impl Rule {
         ensures { result ≡ spec.next self }
     {
         match self {
-            Rule::Opening | Rule::InputPort | Rule::OutputPort => Part::Ports,
-            Rule::NextPort => Part::Direction,
-            Rule::Closing | Rule::RegDeclared => Part::Regs,
-            Rule::RegRange => Part::Declared,
-            Rule::ArrayDeclared => Part::Arrays,
-            Rule::ArrayRange => Part::LaterArray,
-            Rule::CellHead => Part::Term,
-            Rule::ConstTerm
-            | Rule::NotTerm
-            | Rule::ReadTerm
-            | Rule::BinTerm
-            | Rule::MuxTerm
-            | Rule::SliceTerm
-            | Rule::CatTerm
-            | Rule::RepTerm => Part::Cells,
-            Rule::FirstOperand => Part::AfterOperand,
-            Rule::OpenTerm => Part::Braced,
-            Rule::OutputDriven => Part::Outputs,
-            Rule::BlockHead => Part::Block,
-            Rule::RegDriven => Part::Blocks,
-            Rule::ArrayBegin | Rule::ArrayHead => Part::FirstWrite,
-            Rule::Written => Part::Writes,
-            Rule::ArrayEnd => Part::ArrayBlocks,
-            Rule::Ending => Part::Finished,
+            VerilogRule::Opening | VerilogRule::InputPort | VerilogRule::OutputPort => Part::Ports,
+            VerilogRule::NextPort => Part::Direction,
+            VerilogRule::Closing | VerilogRule::RegDeclared => Part::Regs,
+            VerilogRule::RegRange => Part::Declared,
+            VerilogRule::ArrayDeclared => Part::Arrays,
+            VerilogRule::ArrayRange => Part::LaterArray,
+            VerilogRule::CellHead => Part::Term,
+            VerilogRule::ConstTerm
+            | VerilogRule::NotTerm
+            | VerilogRule::ReadTerm
+            | VerilogRule::BinTerm
+            | VerilogRule::MuxTerm
+            | VerilogRule::SliceTerm
+            | VerilogRule::CatTerm
+            | VerilogRule::RepTerm => Part::Cells,
+            VerilogRule::FirstOperand => Part::AfterOperand,
+            VerilogRule::OpenTerm => Part::Braced,
+            VerilogRule::OutputDriven => Part::Outputs,
+            VerilogRule::BlockHead => Part::Block,
+            VerilogRule::RegDriven => Part::Blocks,
+            VerilogRule::ArrayBegin | VerilogRule::ArrayHead => Part::FirstWrite,
+            VerilogRule::Written => Part::Writes,
+            VerilogRule::ArrayEnd => Part::ArrayBlocks,
+            VerilogRule::Ending => Part::Finished,
         }
     }
 }

@@ -12,7 +12,7 @@ pub mod line;
 pub mod lines;
 pub mod port;
 
-pub use line::Line;
+pub use line::WaveLine;
 pub use lines::{change_line, code, header_line, time_line};
 pub use port::WavePort;
 

@@ -8,12 +8,12 @@ use std::marker::Model;
 
 /// A line of up to 256 bytes, its line feed included, seen as those bytes.
 #[derive(Drop)]
-pub struct Line {
+pub struct WaveLine {
     bytes: [u8; 256],
     len: usize,
 }
 
-impl Model for Line {
+impl Model for WaveLine {
     ghost use Rattle.std.specs.Prelude.{List, ℕ, ◌≤◌, take};
 
     ghost Value = { List ℕ };
@@ -23,12 +23,12 @@ impl Model for Line {
     ghost invariant = { λ l. l.len ≤ 256 };
 }
 
-impl Line {
+impl WaveLine {
     /// An empty line.
-    pub(crate) fn new() -> Line
+    pub(crate) fn new() -> WaveLine
         ensures { result ≡ [] }
     {
-        Line {
+        WaveLine {
             bytes: [0; 256],
             len: 0,
         }

@@ -2,7 +2,7 @@
 ghost use Rattle.std.specs.Prelude.{◌≡◌, ◌≤◌, ◌<◌, ◌+◌, ◌^◌, All, [], length, take, slice_index_or};
 ghost use Rattle.pdl_wave.specs.Dump.{code as code_of, ended, header, scope, declaration, time_text, change_text};
 
-use crate::line::Line;
+use crate::line::WaveLine;
 use crate::port::WavePort;
 use pdl_kit::Name;
 
@@ -20,12 +20,12 @@ pub fn code(i: usize) -> ([u8; 2], usize)
 }
 
 // The line that declares the i-th port.
-fn declaration_line(i: usize, port: &WavePort) -> Line
+fn declaration_line(i: usize, port: &WavePort) -> WaveLine
     requires below { i < 8930 }
     requires name { length port.now.name ≤ 64 }
     ensures { result ≡ ended (declaration i port.now) }
 {
-    let mut line = Line::new();
+    let mut line = WaveLine::new();
     line.push(b"$var wire ");
     line.push_decimal(u64::from(port.width));
     line.push(b" ");
@@ -37,11 +37,11 @@ fn declaration_line(i: usize, port: &WavePort) -> Line
 }
 
 // The line that names the pipe.
-fn scope_line(name: &Name) -> Line
+fn scope_line(name: &Name) -> WaveLine
     requires { length name.now ≤ 64 }
     ensures { result ≡ ended (scope name.now) }
 {
-    let mut line = Line::new();
+    let mut line = WaveLine::new();
     line.push(b"$scope module pdl_");
     line.push(name.as_bytes());
     line.push(b" $end\n");
@@ -49,11 +49,11 @@ fn scope_line(name: &Name) -> Line
 }
 
 // A line of these bytes.
-fn fixed_line(text: &[u8]) -> Line
+fn fixed_line(text: &[u8]) -> WaveLine
     requires { length text.now ≤ 32 }
     ensures { result ≡ ended text.now }
 {
-    let mut line = Line::new();
+    let mut line = WaveLine::new();
     line.push(text);
     line.push(b"\n");
     line
@@ -62,7 +62,7 @@ fn fixed_line(text: &[u8]) -> Line
 /// The k-th line of the header, counted from 0, of a pipe with this name and these output ports.
 ///
 /// It has four lines more than ports, of which there are fewer than 8,930; the name and those of the ports have at most 64 bytes.
-pub fn header_line(name: &Name, ports: &[WavePort], k: usize) -> Line
+pub fn header_line(name: &Name, ports: &[WavePort], k: usize) -> WaveLine
     requires name { length name.now ≤ 64 }
     requires names { All (λ p. length p.name ≤ 64) ports.now }
     requires few { length ports.now < 8930 }
@@ -83,10 +83,10 @@ pub fn header_line(name: &Name, ports: &[WavePort], k: usize) -> Line
 }
 
 /// The line of a time: that of a cycle in which ports change, or the one after the last cycle.
-pub fn time_line(time: u64) -> Line
+pub fn time_line(time: u64) -> WaveLine
     ensures { result ≡ ended (time_text time) }
 {
-    let mut line = Line::new();
+    let mut line = WaveLine::new();
     line.push(b"#");
     line.push_decimal(time);
     line.push(b"\n");
@@ -94,14 +94,14 @@ pub fn time_line(time: u64) -> Line
 }
 
 /// The line of the new value of the i-th port, counted from 0 and below 8,930, with a binary digit for each of its 1 to 128 bits.
-pub fn change_line(value: u128, width: u8, i: usize) -> Line
+pub fn change_line(value: u128, width: u8, i: usize) -> WaveLine
     requires low { 1 ≤ width }
     requires high { width ≤ 128 }
     requires fits { value < 2 ^ width }
     requires below { i < 8930 }
     ensures { result ≡ ended (change_text value width i) }
 {
-    let mut line = Line::new();
+    let mut line = WaveLine::new();
     line.push(b"b");
     line.push_binary(width, value);
     line.push(b" ");

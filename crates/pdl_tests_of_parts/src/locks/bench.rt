@@ -9,7 +9,7 @@ use crate::drives::{EndDrive, LookDrive, PortDrive, ReserveDrive, WriteDrive};
 use pdl_build::Builder;
 use pdl_kit::{MemInfo, NoMemory, Seq};
 use pdl_lockapi::{
-    Kind, LockModule, LockNets, LockPorts, LockRegs, Look, ReservePort, TicketWrite,
+    Kind, LockModule, LockNets, LockPorts, LockRegs, LookNets, ReservePort, TicketWrite,
 };
 use pdl_net::{Net, Netlist};
 use std::alloc::Global;
@@ -20,8 +20,8 @@ pub struct DrivenLock {
     pub regs: LockRegs,
     pub looks: LookDrive,
     pub ports: PortDrive,
-    pub read: Look,
-    pub write: Look,
+    pub read: LookNets,
+    pub write: LookNets,
     pub nets: LockNets,
 }
 
@@ -186,7 +186,7 @@ fn emit_looks<L: LockModule>(
     b: &mut Builder,
     regs: &LockRegs,
     d: LookDrive,
-) -> Result<(Look, Look), NoMemory>
+) -> Result<(LookNets, LookNets), NoMemory>
     requires placed { L.placed lock.now b.old regs.now }
     requires look { IsLook b.old regs.now.bits (L.tickets lock.now) d }
     ensures extends { Extends b.old b.new }

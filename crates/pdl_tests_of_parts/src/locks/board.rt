@@ -6,7 +6,7 @@ use std::mem::swap;
 
 /// A width in bits and a value.
 #[derive(Clone, Copy)]
-pub struct Word {
+pub struct BoardWord {
     pub width: u8,
     pub value: u64,
 }
@@ -17,10 +17,10 @@ pub struct Board {
     regs: Vec<u64>,
     next: Vec<u64>,
     words: Vec<u64>,
-    cells: Vec<Word>,
+    cells: Vec<BoardWord>,
 }
 
-const ZERO: Word = Word { width: 0, value: 0 };
+const ZERO: BoardWord = BoardWord { width: 0, value: 0 };
 
 /// The lowest bits of a number.
 pub fn lowest(width: u8, value: u64) -> u64 {
@@ -48,7 +48,7 @@ fn distance(n: u64) -> u32 {
     if n < 64 { n as u32 } else { 64 }
 }
 
-fn operated(op: BinOp, a: Word, b: Word) -> Word {
+fn operated(op: BinOp, a: BoardWord, b: BoardWord) -> BoardWord {
     let value = match op {
         BinOp::Add => a.value.wrapping_add(b.value),
         BinOp::Sub => a.value.wrapping_sub(b.value),
@@ -66,7 +66,7 @@ fn operated(op: BinOp, a: Word, b: Word) -> Word {
         BinOp::Eq | BinOp::Ne | BinOp::Lt => 1,
         _ => a.width,
     };
-    Word {
+    BoardWord {
         width,
         value: lowest(width, value),
     }
@@ -104,11 +104,11 @@ impl Board {
         )
     }
 
-    fn word(&self, net: &Netlist, x: Net) -> Word {
+    fn word(&self, net: &Netlist, x: Net) -> BoardWord {
         match x {
             Net::Input(_) => ZERO,
             Net::Reg(r) => match net.regs.as_slice().get(r) {
-                Some(reg) => Word {
+                Some(reg) => BoardWord {
                     width: reg.width,
                     value: number(self.regs.as_slice(), r),
                 },
@@ -126,9 +126,9 @@ impl Board {
         self.word(net, x).value
     }
 
-    fn read(&self, net: &Netlist, array: usize, addr: u64) -> Word {
+    fn read(&self, net: &Netlist, array: usize, addr: u64) -> BoardWord {
         match net.arrays.get(array) {
-            Some(a) => Word {
+            Some(a) => BoardWord {
                 width: a.width,
                 value: number(self.words.as_slice(), addr as usize),
             },
@@ -136,12 +136,12 @@ impl Board {
         }
     }
 
-    fn cell(&self, net: &Netlist, c: Cell) -> Word {
+    fn cell(&self, net: &Netlist, c: Cell) -> BoardWord {
         match c {
-            Cell::Const { width, value } => Word { width, value },
+            Cell::Const { width, value } => BoardWord { width, value },
             Cell::Not(a) => {
                 let a = self.word(net, a);
-                Word {
+                BoardWord {
                     width: a.width,
                     value: lowest(a.width, !a.value),
                 }
@@ -157,7 +157,7 @@ impl Board {
             Cell::Slice { a, high, low } => {
                 let width = high.wrapping_sub(low).wrapping_add(1);
                 let a = self.word(net, a).value.checked_shr(low as u32).unwrap_or(0);
-                Word {
+                BoardWord {
                     width,
                     value: lowest(width, a),
                 }
@@ -166,7 +166,7 @@ impl Board {
                 let a = self.word(net, a);
                 let b = self.word(net, b);
                 let above = a.value.checked_shl(b.width as u32).unwrap_or(0);
-                Word {
+                BoardWord {
                     width: a.width.wrapping_add(b.width),
                     value: above | b.value,
                 }
@@ -176,7 +176,7 @@ impl Board {
         }
     }
 
-    fn put_cell(&mut self, k: usize, word: Word) {
+    fn put_cell(&mut self, k: usize, word: BoardWord) {
         if k < self.cells.len() {
             self.cells[k] = word;
         }

@@ -2,7 +2,7 @@
 use crate::drives::{ReserveDrive, WriteDrive};
 use crate::locks::bench::Bench;
 use crate::locks::board::Board;
-use crate::locks::model::{Act, Commit, Lock, Pending, Write};
+use crate::locks::model::{ModelAct, ModelCommit, ModelLock, ModelPending, ModelWrite};
 use pdl_net::Net;
 
 /// Numbers that look random (Marsaglia's xorshift).
@@ -49,18 +49,18 @@ fn reserved(random: &mut Random, room: bool) -> Option<u64> {
 }
 
 /// A write through one of so many tickets from this one on.
-fn written(random: &mut Random, base: u64, count: u64) -> Option<Write> {
+fn written(random: &mut Random, base: u64, count: u64) -> Option<ModelWrite> {
     let ticket = base.wrapping_add(random.below(count));
     let value = random.below(256);
     if count > 0 && random.once_in(2) {
-        Some(Write { ticket, value })
+        Some(ModelWrite { ticket, value })
     } else {
         None
     }
 }
 
 /// What a cycle may do first: up to two reservations where there is room, and writes through tickets that are pending then.
-fn first_act(random: &mut Random, lock: &Lock) -> Act {
+fn first_act(random: &mut Random, lock: &ModelLock) -> ModelAct {
     let reserve = reserved(random, lock.has_room());
     let room = if reserve.is_some() {
         lock.has_room2()
@@ -70,7 +70,7 @@ fn first_act(random: &mut Random, lock: &Lock) -> Act {
     let reserve2 = reserved(random, room);
     let more = (reserve.is_some() as u64).wrapping_add(reserve2.is_some() as u64);
     let count = lock.count().wrapping_add(more);
-    Act {
+    ModelAct {
         reserve,
         reserve2,
         write: written(random, lock.base(), count),
@@ -82,7 +82,7 @@ fn first_act(random: &mut Random, lock: &Lock) -> Act {
 }
 
 /// And then: releases of writes that have their values, and a squash from a ticket after them.
-fn last_act(random: &mut Random, lock: &Lock, act: Act) -> Act {
+fn last_act(random: &mut Random, lock: &ModelLock, act: ModelAct) -> ModelAct {
     let release = lock.is_done(0) && random.once_in(2);
     let release2 = release && lock.is_done(1) && random.once_in(2);
     let released = (release as u64).wrapping_add(release2 as u64);
@@ -93,7 +93,7 @@ fn last_act(random: &mut Random, lock: &Lock, act: Act) -> Act {
     } else {
         None
     };
-    Act {
+    ModelAct {
         reserve: act.reserve,
         reserve2: act.reserve2,
         write: act.write,
@@ -111,8 +111,8 @@ fn set_reserve(board: &mut Board, d: ReserveDrive, reserve: Option<u64>) {
 }
 
 /// Sets what drives a write.
-fn set_write(board: &mut Board, d: WriteDrive, write: Option<Write>, tickets: u64) {
-    let w = write.unwrap_or(Write {
+fn set_write(board: &mut Board, d: WriteDrive, write: Option<ModelWrite>, tickets: u64) {
+    let w = write.unwrap_or(ModelWrite {
         ticket: 0,
         value: 0,
     });
@@ -122,7 +122,7 @@ fn set_write(board: &mut Board, d: WriteDrive, write: Option<Write>, tickets: u6
 }
 
 /// Sets what drives the ports.
-fn set_ports(board: &mut Board, bench: &Bench, act: Act, tickets: u64) {
+fn set_ports(board: &mut Board, bench: &Bench, act: ModelAct, tickets: u64) {
     let d = bench.lock.ports;
     set_reserve(board, d.reserve, act.reserve);
     set_reserve(board, d.reserve2, act.reserve2);
@@ -135,7 +135,7 @@ fn set_ports(board: &mut Board, bench: &Bench, act: Act, tickets: u64) {
 }
 
 /// Whether a look shows what the lock finds.
-fn looks_agree(board: &Board, bench: &Bench, lock: &Lock, addr: u64, ticket: u64) -> bool {
+fn looks_agree(board: &Board, bench: &Bench, lock: &ModelLock, addr: u64, ticket: u64) -> bool {
     let net = &bench.netlist;
     let found = lock.find(addr, ticket);
     let word = board.show(net, bench.lock.read.value.unwrap_or(bench.lock.regs.room));
@@ -146,7 +146,7 @@ fn looks_agree(board: &Board, bench: &Bench, lock: &Lock, addr: u64, ticket: u64
 }
 
 /// Whether room and tickets are the lock's, for one reservation and for two.
-fn rooms_agree(board: &Board, bench: &Bench, lock: &Lock, tickets: u64) -> bool {
+fn rooms_agree(board: &Board, bench: &Bench, lock: &ModelLock, tickets: u64) -> bool {
     let net = &bench.netlist;
     let regs = &bench.lock.regs;
     let room = board.show(net, regs.room) == lock.has_room() as u64;
@@ -157,23 +157,32 @@ fn rooms_agree(board: &Board, bench: &Bench, lock: &Lock, tickets: u64) -> bool 
 }
 
 /// Whether a commit port shows this commit, and zeros where there is none.
-fn commit_agrees(board: &Board, bench: &Bench, nets: (Net, Net, Net), of: Option<Commit>) -> bool {
+fn commit_agrees(
+    board: &Board,
+    bench: &Bench,
+    nets: (Net, Net, Net),
+    of: Option<ModelCommit>,
+) -> bool {
     let net = &bench.netlist;
-    let shown = of.unwrap_or(Commit { addr: 0, value: 0 });
+    let shown = of.unwrap_or(ModelCommit { addr: 0, value: 0 });
     let commit = board.show(net, nets.0) == of.is_some() as u64;
     let addr = board.show(net, nets.1) == shown.addr;
     commit & addr & (board.show(net, nets.2) == shown.value)
 }
 
 /// Whether both do.
-fn commits_agree(board: &Board, bench: &Bench, of: (Option<Commit>, Option<Commit>)) -> bool {
+fn commits_agree(
+    board: &Board,
+    bench: &Bench,
+    of: (Option<ModelCommit>, Option<ModelCommit>),
+) -> bool {
     let n = bench.lock.nets;
     let first = commit_agrees(board, bench, (n.commit, n.addr, n.value), of.0);
     first & commit_agrees(board, bench, (n.commit2, n.addr2, n.value2), of.1)
 }
 
 /// Whether the slot of a pending write has its address, and its value where slots have three registers.
-fn slot_agrees(board: &Board, slot: &[usize], pending: Pending) -> bool {
+fn slot_agrees(board: &Board, slot: &[usize], pending: ModelPending) -> bool {
     let addr = slot.len() > 0 && board.reg(slot[0]).0 == pending.addr;
     let value = match pending.value {
         Some(value) if slot.len() > 2 => board.reg(slot[1]).0 == value,
@@ -183,7 +192,7 @@ fn slot_agrees(board: &Board, slot: &[usize], pending: Pending) -> bool {
 }
 
 /// Whether each pending write stands in the slot of its ticket.
-fn slots_agree(board: &Board, bench: &Bench, lock: &Lock) -> bool {
+fn slots_agree(board: &Board, bench: &Bench, lock: &ModelLock) -> bool {
     let slots = bench.lock.regs.slots.as_slice();
     let mut at = lock.base();
     let mut agree = true;
@@ -199,7 +208,7 @@ fn slots_agree(board: &Board, bench: &Bench, lock: &Lock) -> bool {
 }
 
 /// Whether a cycle that begins with this next ticket has a reservation or a write of a ticket that slot k serves.
-fn is_touched(act: Act, next: u64, size: u64, k: u64) -> bool {
+fn is_touched(act: ModelAct, next: u64, size: u64, k: u64) -> bool {
     let serves = |ticket: u64| ticket.checked_rem(size) == Some(k);
     let second = next.wrapping_add(act.reserve.is_some() as u64);
     let first = act.reserve.is_some() && serves(next);
@@ -225,7 +234,7 @@ fn is_still(board: &Board, slot: &[usize]) -> bool {
 }
 
 /// Whether all slots that a cycle doesn't touch stay as they were.
-fn slots_stay(board: &Board, bench: &Bench, act: Act, next: u64, size: u64) -> bool {
+fn slots_stay(board: &Board, bench: &Bench, act: ModelAct, next: u64, size: u64) -> bool {
     let mut stay = true;
     let mut k = 0;
     for slot in bench.lock.regs.slots.as_slice() {
@@ -239,7 +248,7 @@ fn slots_stay(board: &Board, bench: &Bench, act: Act, next: u64, size: u64) -> b
 fn agree_once(
     board: &mut Board,
     bench: &Bench,
-    lock: &mut Lock,
+    lock: &mut ModelLock,
     random: &mut Random,
     tickets: u64,
 ) -> bool {
@@ -265,7 +274,7 @@ fn agree_once(
 }
 
 /// How many of 200 cycles agree.
-pub fn agreed(board: &mut Board, bench: &Bench, lock: &mut Lock, tickets: u64) -> u32 {
+pub fn agreed(board: &mut Board, bench: &Bench, lock: &mut ModelLock, tickets: u64) -> u32 {
     let mut random = Random::new(2463534242);
     let mut count: u32 = 0;
     for _ in 0..200u32 {

@@ -5,25 +5,25 @@ use std::alloc::Global;
 
 /// A pending write; its ticket is that of the oldest one and its place in the list together.
 #[derive(Clone, Copy)]
-pub struct Pending {
+pub struct ModelPending {
     pub addr: u64,
     pub value: Option<u64>,
 }
 
 /// A write through a ticket.
 #[derive(Clone, Copy)]
-pub struct Write {
+pub struct ModelWrite {
     pub ticket: u64,
     pub value: u64,
 }
 
 /// What a cycle does: up to two reservations, writes and releases, and a squash from a ticket on.
 #[derive(Clone, Copy)]
-pub struct Act {
+pub struct ModelAct {
     pub reserve: Option<u64>,
     pub reserve2: Option<u64>,
-    pub write: Option<Write>,
-    pub write2: Option<Write>,
+    pub write: Option<ModelWrite>,
+    pub write2: Option<ModelWrite>,
     pub release: bool,
     pub release2: bool,
     pub tail: Option<u64>,
@@ -31,38 +31,38 @@ pub struct Act {
 
 /// A committed write.
 #[derive(Clone, Copy)]
-pub struct Commit {
+pub struct ModelCommit {
     pub addr: u64,
     pub value: u64,
 }
 
 /// What a read finds: whether it is ready, and the word.
 #[derive(Clone, Copy)]
-pub struct Found {
+pub struct ModelFound {
     pub ready: bool,
     pub word: u64,
 }
 
 #[derive(Drop)]
-pub struct Lock {
+pub struct ModelLock {
     /// Whether reads see pending values.
     sees_pending: bool,
     size: usize,
     /// The ticket of the oldest pending write, or of the next one.
     base: u64,
-    pending: Vec<Pending>,
+    pending: Vec<ModelPending>,
     words: Vec<u64>,
 }
 
-impl Lock {
+impl ModelLock {
     /// A lock of so many writes over the words of an image, where reads see pending values or wait for them.
     pub fn new(
         alloc: Global,
         sees_pending: bool,
         size: u8,
         image: &[u64],
-    ) -> Result<Lock, NoMemory> {
-        Ok(Lock {
+    ) -> Result<ModelLock, NoMemory> {
+        Ok(ModelLock {
             sees_pending,
             size: size as usize,
             base: 0,
@@ -87,7 +87,7 @@ impl Lock {
     }
 
     /// The pending writes, the oldest first.
-    pub fn pending(&self) -> &[Pending] {
+    pub fn pending(&self) -> &[ModelPending] {
         self.pending.as_slice()
     }
 
@@ -115,16 +115,16 @@ impl Lock {
     }
 
     /// What a read finds in a pending write.
-    fn seen(&self, value: Option<u64>) -> Found {
+    fn seen(&self, value: Option<u64>) -> ModelFound {
         let word = value.unwrap_or(0);
         let ready = self.sees_pending & value.is_some();
-        Found { ready, word }
+        ModelFound { ready, word }
     }
 
     /// What a read at an address finds among the writes below a ticket.
-    pub fn find(&self, addr: u64, ticket: u64) -> Found {
+    pub fn find(&self, addr: u64, ticket: u64) -> ModelFound {
         let word = number(self.words.as_slice(), addr as usize);
-        let mut found = Found { ready: true, word };
+        let mut found = ModelFound { ready: true, word };
         let mut at = self.base;
         for p in self.pending.as_slice() {
             if at < ticket && p.addr == addr {
@@ -151,18 +151,18 @@ impl Lock {
     /// Appends a pending write; where memory runs out the lock falls behind the circuit.
     fn reserve(&mut self, addr: Option<u64>) {
         if let Some(addr) = addr {
-            let _ = self.pending.push(Pending { addr, value: None });
+            let _ = self.pending.push(ModelPending { addr, value: None });
         }
     }
 
-    fn write(&mut self, write: Option<Write>) {
+    fn write(&mut self, write: Option<ModelWrite>) {
         if let Some(w) = write {
             self.put(w.ticket, w.value);
         }
     }
 
     /// Appends and writes.
-    pub fn fill(&mut self, act: Act) {
+    pub fn fill(&mut self, act: ModelAct) {
         self.reserve(act.reserve);
         self.reserve(act.reserve2);
         self.write(act.write);
@@ -170,7 +170,7 @@ impl Lock {
     }
 
     /// Takes the oldest pending write out, into the memory.
-    fn release(&mut self) -> Option<Commit> {
+    fn release(&mut self) -> Option<ModelCommit> {
         if self.pending.is_empty() {
             return None;
         }
@@ -178,14 +178,14 @@ impl Lock {
         self.base = self.base.wrapping_add(1);
         let value = oldest.value.unwrap_or(0);
         put(self.words.as_mut_slice(), oldest.addr as usize, value);
-        Some(Commit {
+        Some(ModelCommit {
             addr: oldest.addr,
             value,
         })
     }
 
     /// Releases and squashes; answers what is committed.
-    pub fn leave(&mut self, act: Act) -> (Option<Commit>, Option<Commit>) {
+    pub fn leave(&mut self, act: ModelAct) -> (Option<ModelCommit>, Option<ModelCommit>) {
         let first = if act.release { self.release() } else { None };
         let second = if act.release2 { self.release() } else { None };
         if let Some(tail) = act.tail {

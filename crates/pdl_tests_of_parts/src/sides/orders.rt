@@ -15,7 +15,7 @@ use std::mem::drop;
 
 /// An order in a netlist, with what drives it.
 #[derive(Drop)]
-struct Bench {
+struct OrderBench {
     netlist: Netlist,
     regs: OrderRegs,
     ports: OrderPorts,
@@ -52,7 +52,7 @@ fn emit_driven(
     Ok(regs)
 }
 
-fn emit_bench(alloc: Global, stages: u8) -> Result<Bench, NoMemory>
+fn emit_bench(alloc: Global, stages: u8) -> Result<OrderBench, NoMemory>
     requires low { 1 ≤ stages }
     requires high { stages ≤ 64 }
 {
@@ -60,7 +60,7 @@ fn emit_bench(alloc: Global, stages: u8) -> Result<Bench, NoMemory>
     let mut b = Builder::new(alloc);
     let ports = emit_ports(&mut b)?;
     let regs = emit_driven(alloc, &mut b, &ports, stages)?;
-    Ok(Bench {
+    Ok(OrderBench {
         netlist: b.finish(name, Seq::new(alloc)),
         regs,
         ports,
@@ -69,14 +69,14 @@ fn emit_bench(alloc: Global, stages: u8) -> Result<Bench, NoMemory>
 
 /// What a cycle does.
 #[derive(Clone, Copy)]
-struct Act {
+struct OrderAct {
     entered: Option<bool>,
     left: bool,
     emptied: bool,
 }
 
 /// An act for a list of at most so many entries: one comes in where there is room, which a full list has where one leaves.
-fn random_act(random: &mut Random, list: &[bool], stages: u8) -> Act {
+fn random_act(random: &mut Random, list: &[bool], stages: u8) -> OrderAct {
     let left = !list.is_empty() & !random.once_in(3);
     let emptied = random.once_in(16);
     let room = list.len() < stages as usize || left;
@@ -86,7 +86,7 @@ fn random_act(random: &mut Random, list: &[bool], stages: u8) -> Act {
     } else {
         None
     };
-    Act {
+    OrderAct {
         entered,
         left,
         emptied,
@@ -94,7 +94,7 @@ fn random_act(random: &mut Random, list: &[bool], stages: u8) -> Act {
 }
 
 /// The list after an act.
-fn stepped(alloc: Global, list: &[bool], act: Act) -> Result<Vec<bool>, NoMemory> {
+fn stepped(alloc: Global, list: &[bool], act: OrderAct) -> Result<Vec<bool>, NoMemory> {
     let mut next = Vec::new(alloc);
     if act.emptied {
         return Ok(next);
@@ -108,7 +108,7 @@ fn stepped(alloc: Global, list: &[bool], act: Act) -> Result<Vec<bool>, NoMemory
     Ok(next)
 }
 
-fn set_ports(board: &mut Board, ports: OrderPorts, act: Act) {
+fn set_ports(board: &mut Board, ports: OrderPorts, act: OrderAct) {
     set(
         board,
         ports.entered_first,
@@ -124,7 +124,7 @@ fn set_ports(board: &mut Board, ports: OrderPorts, act: Act) {
 }
 
 /// Whether the nets tell of the list.
-fn shows(board: &Board, bench: &Bench, list: &[bool]) -> bool {
+fn shows(board: &Board, bench: &OrderBench, list: &[bool]) -> bool {
     let empty = board.show(&bench.netlist, bench.regs.empty);
     let first = board.show(&bench.netlist, bench.regs.first);
     match list.first() {
@@ -134,7 +134,7 @@ fn shows(board: &Board, bench: &Bench, list: &[bool]) -> bool {
 }
 
 /// How many of 400 cycles agree.
-fn agreed(alloc: Global, bench: &Bench, stages: u8) -> Result<u32, NoMemory> {
+fn agreed(alloc: Global, bench: &OrderBench, stages: u8) -> Result<u32, NoMemory> {
     let mut board = Board::new(alloc, &bench.netlist, &[])?;
     let mut random = Random::new(88172645463325252);
     let mut list = Vec::new(alloc);

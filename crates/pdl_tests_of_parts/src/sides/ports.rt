@@ -24,7 +24,7 @@ struct Driven {
 
 /// The same in a netlist, and nothing else.
 #[derive(Drop)]
-struct Bench {
+struct PortBench {
     netlist: Netlist,
     port: Driven,
 }
@@ -86,7 +86,7 @@ fn emit_driven(
     Ok(Driven { regs, step, free })
 }
 
-fn emit_bench(alloc: Global, places: u8) -> Result<Bench, NoMemory>
+fn emit_bench(alloc: Global, places: u8) -> Result<PortBench, NoMemory>
     requires some { 1 ≤ places }
     requires few { places ≤ 2 }
 {
@@ -99,7 +99,7 @@ fn emit_bench(alloc: Global, places: u8) -> Result<Bench, NoMemory>
     let name = Name::copy_of(alloc, b"port")?;
     let mut b = Builder::new(alloc);
     let port = emit_driven(alloc, &mut b, &mem, places)?;
-    Ok(Bench {
+    Ok(PortBench {
         netlist: b.finish(name, Seq::new(alloc)),
         port,
     })
@@ -107,7 +107,7 @@ fn emit_bench(alloc: Global, places: u8) -> Result<Bench, NoMemory>
 
 /// A port by hand, of at most two places: whose the outstanding request is.
 #[derive(Clone, Copy, PartialEq)]
-enum Port {
+enum BenchPort {
     Idle,
     Owned(usize),
     Orphan,
@@ -123,15 +123,15 @@ struct PlaceAct {
 
 /// What a cycle does: the word of a reply, and what it does at each place.
 #[derive(Clone, Copy)]
-struct Act {
+struct PortAct {
     reply: Option<u64>,
     places: [PlaceAct; 2],
 }
 
-impl Port {
+impl BenchPort {
     /// The answer that comes for the thread of a place.
-    fn answer(&self, act: Act, k: usize) -> Option<u64> {
-        if *self == Port::Owned(k) {
+    fn answer(&self, act: PortAct, k: usize) -> Option<u64> {
+        if *self == BenchPort::Owned(k) {
             act.reply
         } else {
             None
@@ -139,49 +139,49 @@ impl Port {
     }
 
     /// Whether the thread of a place waits for nothing.
-    fn is_answered(&self, act: Act, k: usize) -> bool {
-        *self != Port::Owned(k) || act.reply.is_some()
+    fn is_answered(&self, act: PortAct, k: usize) -> bool {
+        *self != BenchPort::Owned(k) || act.reply.is_some()
     }
 
     /// Whether the port is free.
-    fn is_free(&self, act: Act) -> bool {
+    fn is_free(&self, act: PortAct) -> bool {
         match *self {
-            Port::Idle => true,
-            Port::Owned(k) => {
+            BenchPort::Idle => true,
+            BenchPort::Owned(k) => {
                 let moves = match act.places.get(k) {
                     Some(place) => place.moves,
                     None => false,
                 };
                 act.reply.is_some() & moves
             }
-            Port::Orphan => act.reply.is_some(),
+            BenchPort::Orphan => act.reply.is_some(),
         }
     }
 
     /// Whose the request is after a cycle, before a new one.
-    fn left_after(&self, act: Act) -> Port {
+    fn left_after(&self, act: PortAct) -> BenchPort {
         match *self {
-            _ if act.reply.is_some() => Port::Idle,
-            Port::Owned(k) => match act.places.get(k) {
-                Some(place) if place.removed => Port::Orphan,
+            _ if act.reply.is_some() => BenchPort::Idle,
+            BenchPort::Owned(k) => match act.places.get(k) {
+                Some(place) if place.removed => BenchPort::Orphan,
                 _ => *self,
             },
             other => other,
         }
     }
 
-    fn after(&self, act: Act) -> Port {
+    fn after(&self, act: PortAct) -> BenchPort {
         match (act.places[0].asked, act.places[1].asked) {
-            (true, _) => Port::Owned(0),
-            (false, true) => Port::Owned(1),
+            (true, _) => BenchPort::Owned(0),
+            (false, true) => BenchPort::Owned(1),
             (false, false) => self.left_after(act),
         }
     }
 }
 
 /// Whether a thread of a place moves or is removed: an owner moves only where it is answered.
-fn random_place(random: &mut Random, port: &Port, reply: Option<u64>, k: usize) -> PlaceAct {
-    let may_move = *port != Port::Owned(k) || reply.is_some();
+fn random_place(random: &mut Random, port: &BenchPort, reply: Option<u64>, k: usize) -> PlaceAct {
+    let may_move = *port != BenchPort::Owned(k) || reply.is_some();
     let moves = random.once_in(2) & may_move;
     let removed = random.once_in(6) & !moves;
     PlaceAct {
@@ -192,8 +192,8 @@ fn random_place(random: &mut Random, port: &Port, reply: Option<u64>, k: usize) 
 }
 
 /// Proper use: a reply where a request is outstanding, and a new request where the port is free.
-fn random_act(random: &mut Random, port: &Port, places: u8) -> Act {
-    let outstanding = *port != Port::Idle;
+fn random_act(random: &mut Random, port: &BenchPort, places: u8) -> PortAct {
+    let outstanding = *port != BenchPort::Idle;
     let word = random.below(256);
     let reply = if random.once_in(3) & outstanding {
         Some(word)
@@ -202,7 +202,7 @@ fn random_act(random: &mut Random, port: &Port, places: u8) -> Act {
     };
     let first = random_place(random, port, reply, 0);
     let second = random_place(random, port, reply, 1);
-    let mut act = Act {
+    let mut act = PortAct {
         reply,
         places: [first, second],
     };
@@ -214,7 +214,7 @@ fn random_act(random: &mut Random, port: &Port, places: u8) -> Act {
 }
 
 /// Sets what drives the port.
-fn set_port(board: &mut Board, port: &Driven, act: Act) {
+fn set_port(board: &mut Board, port: &Driven, act: PortAct) {
     set(board, port.regs.reply, act.reply.is_some() as u64);
     set(board, port.regs.word, act.reply.unwrap_or(77));
     for k in 0..2usize {
@@ -226,7 +226,14 @@ fn set_port(board: &mut Board, port: &Driven, act: Act) {
 }
 
 /// Whether the nets of a place show what the port by hand says.
-fn place_agrees(board: &Board, net: &Netlist, x: Answer, port: &Port, act: Act, k: usize) -> bool {
+fn place_agrees(
+    board: &Board,
+    net: &Netlist,
+    x: Answer,
+    port: &BenchPort,
+    act: PortAct,
+    k: usize,
+) -> bool {
     let answer = port.answer(act, k);
     let answered = board.show(net, x.answered) == port.is_answered(act, k) as u64;
     let given = board.show(net, x.given) == answer.is_some() as u64;
@@ -238,7 +245,7 @@ fn place_agrees(board: &Board, net: &Netlist, x: Answer, port: &Port, act: Act, 
 }
 
 /// Whether all nets do.
-fn shows(board: &Board, bench: &Bench, port: &Port, act: Act) -> bool {
+fn shows(board: &Board, bench: &PortBench, port: &BenchPort, act: PortAct) -> bool {
     let net = &bench.netlist;
     let mut right = board.show(net, bench.port.free) == port.is_free(act) as u64;
     let answers = bench.port.regs.answers.as_slice();
@@ -249,10 +256,10 @@ fn shows(board: &Board, bench: &Bench, port: &Port, act: Act) -> bool {
 }
 
 /// How many of 400 cycles agree.
-fn agreed(alloc: Global, bench: &Bench, places: u8) -> Result<u32, NoMemory> {
+fn agreed(alloc: Global, bench: &PortBench, places: u8) -> Result<u32, NoMemory> {
     let mut board = Board::new(alloc, &bench.netlist, &[])?;
     let mut random = Random::new(88172645463325252);
-    let mut port = Port::Idle;
+    let mut port = BenchPort::Idle;
     let mut count: u32 = 0;
     for _ in 0..400u32 {
         let act = random_act(&mut random, &port, places);

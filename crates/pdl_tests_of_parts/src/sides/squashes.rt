@@ -15,7 +15,7 @@ use std::mem::drop;
 
 /// A squash in a netlist, with what drives it.
 #[derive(Drop)]
-struct Bench {
+struct SquashBench {
     netlist: Netlist,
     ports: SquashPorts,
     nets: SquashNets,
@@ -41,14 +41,14 @@ fn emit_ports(
     })
 }
 
-fn emit_bench(alloc: Global, stages: usize, stage: usize) -> Result<Bench, NoMemory>
+fn emit_bench(alloc: Global, stages: usize, stage: usize) -> Result<SquashBench, NoMemory>
     requires { stage < stages }
 {
     let name = Name::copy_of(alloc, b"squash")?;
     let mut b = Builder::new(alloc);
     let ports = emit_ports(alloc, &mut b, stages, stage)?;
     let nets = emit_squash(alloc, &mut b, &ports)?;
-    Ok(Bench {
+    Ok(SquashBench {
         netlist: b.finish(name, Seq::new(alloc)),
         ports,
         nets,
@@ -81,7 +81,7 @@ fn none_after(held: &[bool], k: usize, last: usize) -> bool {
 }
 
 /// Whether the nets show what these threads and this squash say.
-fn shows(board: &Board, bench: &Bench, held: &[bool], squash: bool) -> bool {
+fn shows(board: &Board, bench: &SquashBench, held: &[bool], squash: bool) -> bool {
     let net = &bench.netlist;
     let stage = bench.ports.stage;
     let mut right = board.show(net, bench.nets.squash) == squash as u64;
@@ -95,7 +95,7 @@ fn shows(board: &Board, bench: &Bench, held: &[bool], squash: bool) -> bool {
 }
 
 /// Sets which stages hold threads.
-fn set_held(board: &mut Board, bench: &Bench, held: &[bool]) {
+fn set_held(board: &mut Board, bench: &SquashBench, held: &[bool]) {
     for k in 0..held.len() {
         set_at(board, bench.ports.valid.as_slice(), k, held[k]);
     }
@@ -111,7 +111,7 @@ fn random_held(random: &mut Random) -> [bool; 6] {
 }
 
 /// How many of 200 draws agree.
-fn agreed(alloc: Global, bench: &Bench) -> Result<u32, NoMemory> {
+fn agreed(alloc: Global, bench: &SquashBench) -> Result<u32, NoMemory> {
     let mut board = Board::new(alloc, &bench.netlist, &[])?;
     let mut random = Random::new(2463534242);
     let mut count: u32 = 0;

@@ -3,7 +3,7 @@ use Rattle.std.specs.Result.{result_unwrap_or}
 use Rattle.std.specs.Int.{cast_signed, cast_unsigned, w128}
 use Rattle.std.proofs.lemmas.Int.{to_z-of_z}
 use Rattle.pdl_asm_table.specs.declared.table.Arg.{Arg}
-use Rattle.pdl_asm_table.specs.declared.table.Kind.TheVariants.{Reg}
+use Rattle.pdl_asm_table.specs.declared.table.ArgumentKind.TheVariants.{Reg}
 use Rattle.pdl_asm.specs.Values.{argument_value, letter_value}
 use Rattle.pdl_asm.proofs.Bits.{letter_first, unwrap_is}
 use Rattle.pdl_asm.proofs.encode.+letter_value.Goals as goal

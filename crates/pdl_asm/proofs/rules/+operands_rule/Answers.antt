@@ -2,7 +2,7 @@ use Rattle.std.proofs.Common.{◌≡◌, ℤ, ap, get_or, refl, subst, ◌∙◌
 use Rattle.std.specs.Int.{cast_signed, cast_unsigned, w128}
 use Rattle.std.proofs.lemmas.Int.{to_z-of_z}
 use Rattle.pdl_asm_table.specs.declared.table.Arg.{Arg}
-use Rattle.pdl_asm_table.specs.declared.table.Kind.TheVariants.{Reg}
+use Rattle.pdl_asm_table.specs.declared.table.ArgumentKind.TheVariants.{Reg}
 use Rattle.pdl_asm.specs.Values.{operands_rule, rule_of}
 use Rattle.pdl_asm.proofs.Bits.{rule_first}
 use Rattle.pdl_asm.proofs.rules.+operands_rule.Goals as goal

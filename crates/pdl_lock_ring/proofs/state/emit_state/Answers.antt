@@ -4,7 +4,7 @@ use Rattle.pdl_net.specs.Meaning.{IsThere, signal}
 use Rattle.pdl_lockapi.specs.declared.LockRegs.{LockRegs}
 use Rattle.pdl_lockapi.specs.Laws.{IsFragment, RoomLaw, TicketLaw}
 use Rattle.pdl_lockapi.specs.Second.{Room2Law, Ticket2Law}
-use Rattle.pdl_lock_ring.specs.declared.layout.Layout.{Layout}
+use Rattle.pdl_lock_ring.specs.declared.layout.RingLayout.{RingLayout}
 use Rattle.pdl_lock_ring.specs.Slots.{AreReset, ArePlaced, Stands, content_signal, layout_of, ticket_bits, IsMemArray}
 use Rattle.pdl_lock_ring.specs.Looks.{tail_signal, second_ticket, room_signal, room2_signal}
 use Rattle.pdl_lock_ring.proofs.RingGrowth.{slots_kept, reset_kept}
@@ -69,7 +69,7 @@ returns-clause-start c =
     let r = c.in_ok-r.r in
     let g = c.in_ok-r.ensures in
     let same = layout_is q c.args.mem.now _ l r e.layout g.regs g.width g.bits g.array in
-    let R : Layout → Type 0 = λ y. AreReset d y 0 in
+    let R : RingLayout → Type 0 = λ y. AreReset d y 0 in
     start_law q d r (are_placed q c.args.mem.now _ d l r e.layout same g.regs g.slots e.sized (slots_kept b d l e.slots g.extends)) (subst R (sym same) (reset_kept b d l 0 e.slots e.reset g.extends))
 
 pub returns-clause-room : goal.returns-clause-room
@@ -80,7 +80,7 @@ returns-clause-room c =
     let r = c.in_ok-r.r in
     let g = c.in_ok-r.ensures in
     let same = layout_is q c.args.mem.now _ l r e.layout g.regs g.width g.bits g.array in
-    let P : Layout → Type 0 = λ y. RoomLaw (Stands y) y.size (room_signal l) in
+    let P : RingLayout → Type 0 = λ y. RoomLaw (Stands y) y.size (room_signal l) in
     let Q : Signal → Type 0 = λ f. RoomLaw (Stands (layout_of q r)) q f in
     subst Q (sym g.room.same) (subst P (sym same) (room_law (Stands l) l (content_signal l) e.sized (λ s x h. h.entries)))
 
@@ -92,7 +92,7 @@ returns-clause-room2 c =
     let r = c.in_ok-r.r in
     let g = c.in_ok-r.ensures in
     let same = layout_is q c.args.mem.now _ l r e.layout g.regs g.width g.bits g.array in
-    let P : Layout → Type 0 = λ y. Room2Law (Stands y) y.size (room2_signal l) in
+    let P : RingLayout → Type 0 = λ y. Room2Law (Stands y) y.size (room2_signal l) in
     let Q : Signal → Type 0 = λ f. Room2Law (Stands (layout_of q r)) q f in
     subst Q (sym g.room2.same) (subst P (sym same) (room2_law (Stands l) l (content_signal l) e.sized (λ s x h. h.entries)))
 
@@ -106,7 +106,7 @@ returns-clause-ticket c =
     let g = c.in_ok-r.ensures in
     let h = slots_kept c.emit_layout.new.b d l e.slots g.extends in
     let same = layout_is q c.args.mem.now _ l r e.layout g.regs g.width g.bits g.array in
-    let P : Layout → Type 0 = λ y. TicketLaw (Stands y) y.ticket (tail_signal l) in
+    let P : RingLayout → Type 0 = λ y. TicketLaw (Stands y) y.ticket (tail_signal l) in
     let Q : Signal → Type 0 = λ f. TicketLaw (Stands (layout_of q r)) (ticket_bits q) f in
     subst Q (sym (ap (signal d) g.ticket ∙ h.tail)) (subst P (sym same) (ticket_law (Stands l) l (content_signal l) e.sized (λ s x h. h.entries)))
 
@@ -118,7 +118,7 @@ returns-clause-ticket2 c =
     let r = c.in_ok-r.r in
     let g = c.in_ok-r.ensures in
     let same = layout_is q c.args.mem.now _ l r e.layout g.regs g.width g.bits g.array in
-    let P : Layout → Type 0 = λ y. Ticket2Law (Stands y) y.ticket (second_ticket l) in
+    let P : RingLayout → Type 0 = λ y. Ticket2Law (Stands y) y.ticket (second_ticket l) in
     let Q : Signal → Type 0 = λ f. Ticket2Law (Stands (layout_of q r)) (ticket_bits q) f in
     subst Q (sym g.ticket2.same) (subst P (sym same) (ticket2_law (Stands l) l (content_signal l) e.sized (λ s x h. h.entries)))
 

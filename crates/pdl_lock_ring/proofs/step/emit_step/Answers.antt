@@ -5,7 +5,7 @@ use Rattle.pdl_net.specs.Meaning.{signal}
 use Rattle.pdl_lockapi.specs.Laws.{step_signals, StepLaw, own, HasNoPorts}
 use Rattle.pdl_lockapi.specs.Second.{Commit2Law}
 use Rattle.pdl_lockapi.specs.SlotLaws.{StillLaw}
-use Rattle.pdl_lock_ring.specs.declared.layout.Layout.{Layout}
+use Rattle.pdl_lock_ring.specs.declared.layout.RingLayout.{RingLayout}
 use Rattle.pdl_lock_ring.specs.Slots.{layout_of, ticket_bits, Stands}
 use Rattle.pdl_lock_ring.specs.Ready.{HasPorts}
 use Rattle.pdl_lock_ring.specs.Oldest.{AreCommits}
@@ -19,9 +19,9 @@ use Rattle.pdl_lock_ring.proofs.step.emit_step.Goals as goal
 pub emit_all-requires : goal.emit_all-requires
 emit_all-requires c =
     let l = layout_of c.args.size c.args.r.now in
-    let H : Layout → Type 0 = λ y. HasPorts c.args.b.now y c.args.p.now in
-    let E : Layout → Type 0 = λ y. HasNoPorts y.array c.args.b.now in
-    let S : Layout → Type 0 = λ y. y.kept ≡ y.width in
+    let H : RingLayout → Type 0 = λ y. HasPorts c.args.b.now y c.args.p.now in
+    let E : RingLayout → Type 0 = λ y. HasNoPorts y.array c.args.b.now in
+    let S : RingLayout → Type 0 = λ y. y.kept ≡ y.width in
     let given : HasPorts c.args.b.now l c.args.p.now = record { sized = c.requires.placed.sized; slots = c.requires.placed.slots; ports = c.requires.ports; fit = c.requires.fit } in
     record {
       given = subst H (sym c.of-l.ensures) given;
@@ -36,7 +36,7 @@ returns-clause-nets c =
     let p = c.args.p.now in
     let l = layout_of c.args.size c.args.r.now in
     let n = c.in_ok-nets.nets in
-    let C : Layout → Type 0 = λ y. AreCommits b y (step_signals a p) n in
+    let C : RingLayout → Type 0 = λ y. AreCommits b y (step_signals a p) n in
     commit_nets a b l l.ticket p n c.requires.fit (subst C c.of-l.ensures c.in_ok-nets.ensures.commits)
 
 pub returns-clause-nets2 : goal.returns-clause-nets2
@@ -46,7 +46,7 @@ returns-clause-nets2 c =
     let p = c.args.p.now in
     let l = layout_of c.args.size c.args.r.now in
     let n = c.in_ok-nets.nets in
-    let C : Layout → Type 0 = λ y. AreCommits b y (step_signals a p) n in
+    let C : RingLayout → Type 0 = λ y. AreCommits b y (step_signals a p) n in
     commit2_nets a b l l.ticket p n c.requires.fit (subst C c.of-l.ensures c.in_ok-nets.ensures.commits)
 
 pub returns-clause-law : goal.returns-clause-law
@@ -59,8 +59,8 @@ returns-clause-law c =
     let p = c.args.p.now in
     let f = step_signals a p in
     let n = c.in_ok-nets.nets in
-    let N : Layout → Type 0 = λ y. NextValues b y f in
-    let C : Layout → Type 0 = λ y. AreCommits b y f n in
+    let N : RingLayout → Type 0 = λ y. NextValues b y f in
+    let C : RingLayout → Type 0 = λ y. AreCommits b y f n in
     let e = subst C c.of-l.ensures c.in_ok-nets.ensures.commits in
     let law = step_law b l f refl c.requires.placed.sized (tickets_fit a r.bits r.width l.ticket p c.requires.fit) (subst N c.of-l.ensures c.in_ok-nets.ensures.next) in
     let A0 = mux_signal f.release (oldest_addr l f) (const_signal l.bits 0) in
@@ -81,8 +81,8 @@ returns-clause-law2 c =
     let p = c.args.p.now in
     let f = step_signals a p in
     let n = c.in_ok-nets.nets in
-    let N : Layout → Type 0 = λ y. NextValues b y f in
-    let C : Layout → Type 0 = λ y. AreCommits b y f n in
+    let N : RingLayout → Type 0 = λ y. NextValues b y f in
+    let C : RingLayout → Type 0 = λ y. AreCommits b y f n in
     let e = subst C c.of-l.ensures c.in_ok-nets.ensures.commits in
     let law = commit2_law b l f refl c.requires.placed.sized (tickets_fit a r.bits r.width l.ticket p c.requires.fit) (subst N c.of-l.ensures c.in_ok-nets.ensures.next) in
     let V0 = mux_signal f.release2 (next_value l f) (const_signal l.width 0) in
@@ -100,6 +100,6 @@ returns-clause-still c =
     let b = c.emit_all.new.b in
     let p = c.args.p.now in
     let f = step_signals a p in
-    let N : Layout → Type 0 = λ y. NextValues b y f in
+    let N : RingLayout → Type 0 = λ y. NextValues b y f in
     let O : Own → Type 0 = λ o. StillLaw (Stands l) q (ticket_bits q) o b f r in
     subst O (own_is q a r c.requires.placed) (still_law b l f r refl c.requires.placed.listed c.requires.placed.sized (tickets_fit a r.bits r.width l.ticket p c.requires.fit) (subst N c.of-l.ensures c.in_ok-nets.ensures.next))

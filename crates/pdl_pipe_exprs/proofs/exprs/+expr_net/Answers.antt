@@ -2,7 +2,7 @@
 use Rattle.std.proofs.Common.{◌≡◌, rules, refl, sym, ap, ap₂, ◌∙◌, subst, arith}
 use Rattle.std.proofs.lemmas.Result.{IfOk-weaker}
 use Rattle.pdl_syntax_tree.specs.View.{op_view}
-use Rattle.pdl_form.specs.declared.form.Expr.{the_lemmas}
+use Rattle.pdl_form.specs.declared.form.FlatExpr.{the_lemmas}
 use Rattle.pdl_net.specs.declared.BinOp.{BinOp}
 use Rattle.pdl_net.specs.declared.BinOp.TheVariants as net_op
 use Rattle.pdl_net.specs.Signal.{bin_signal, cat_signal, mux_signal}

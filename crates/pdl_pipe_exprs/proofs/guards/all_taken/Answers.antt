@@ -1,5 +1,5 @@
 use Rattle.std.proofs.Common.{◌≡◌, false, List, get_or, subst, ◌∙◌}
-use Rattle.pdl_form.specs.declared.form.Guard.{Guard}
+use Rattle.pdl_form.specs.declared.form.FlatGuard.{FlatGuard}
 use Rattle.pdl_form.specs.View.{guards_view}
 use Rattle.pdl_net.specs.Signal.{Signal}
 use Rattle.pdl_net.specs.Meaning.{signal}
@@ -17,7 +17,7 @@ loop-g-preserved c =
     let e = c.and_taken.ensures.extends in
     let inv = c.loop-g.invariant in
     let fs = signals_in c.args.b.now c.args.vars.now in
-    let d : Guard = record { var = 0; first = false } in
+    let d : FlatGuard = record { var = 0; first = false } in
     let g = get_or c.args.guards.now c.loop-g.g-index d in
     let now : signal b c.in_ok-on.on ≡ both (signal a c.loop-g.on) (literal g.first (signal_at (signals_in a c.args.vars.now) g.var)) = c.in_ok-on.ensures.means.same in
     record {

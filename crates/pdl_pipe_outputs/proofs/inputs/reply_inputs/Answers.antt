@@ -3,7 +3,7 @@ use Rattle.std.specs.Prelude.{Option}
 use Rattle.pdl_semantics.specs.Flat.{Mem}
 use Rattle.pdl_semantics.specs.Stages.{mem_at, reply_place}
 use Rattle.pdl_form.specs.FormView.{form}
-use Rattle.pdl_form.specs.declared.form.Mem as r_mem
+use Rattle.pdl_form.specs.declared.form.FlatMem as r_mem
 use Rattle.pdl_form.specs.View.{mem_view}
 use Rattle.pdl_form_types.specs.Stmts.{IsTypedMem}
 use Rattle.pdl_net.specs.declared.Port.{Port}
@@ -41,7 +41,7 @@ loop-mem-preserved c =
     let new : IsReplyOf d (mem_at p i) (2 * reply_place p i) o =
     subst (λ (x : Mem). IsReplyOf d x (2 * reply_place p i) o) is (subst (λ (n : ℕ). IsReplyOf d (mem_view m) n o) v.place s.input) in
     let more : flat_map mem_ports (take i ms) ++ mem_ports m ≡ flat_map mem_ports (take (i + 1) ms) =
-    ap (λ (x : r_mem.Mem). flat_map mem_ports (take i ms) ++ mem_ports x) c.mem-item.is ∙ sym (mems_more ms i m c.loop-mem-test.true) in
+    ap (λ (x : r_mem.FlatMem). flat_map mem_ports (take i ms) ++ mem_ports x) c.mem-item.is ∙ sym (mems_more ms i m c.loop-mem-test.true) in
     record {
       inputs = subst (λ (xs : List (Option PortInput)). AreReplies d p xs (i + 1)) (sym c.in_ok-push.ensures.items) (replies_more b d p c.loop-mem.found.items o i (ports_keeps b d (mem_ports m) s.extends) new v.inputs);
       place = inputs_place p b d m i (omega (arith, count, c.loop-mem-test.true)) is s.extends.ports v.place;

@@ -4,7 +4,7 @@ use Rattle.pdl_net.specs.Growth.{Extends}
 use Rattle.pdl_net.specs.Meaning.{signal}
 use Rattle.pdl_net.proofs.Keeps.{extends_trans}
 use Rattle.pdl_port.specs.declared.PortRegs.{PortRegs}
-use Rattle.pdl_port.specs.declared.layout.Layout.{Layout}
+use Rattle.pdl_port.specs.declared.layout.PortLayout.{PortLayout}
 use Rattle.pdl_port.specs.Laws.{AnswerLaw, answer_signals}
 use Rattle.pdl_port.specs.Places.{Stands}
 use Rattle.pdl_port.proofs.PortGrowth.{places_kept}
@@ -18,7 +18,7 @@ returns-clause-placed c =
     let b = c.emit_registers.new.b in
     let d = c.emit_answers.new.b in
     let q = c.requires in
-    let l : Layout = record { from = c.reg_count.result; places = c.args.next_stages } in
+    let l : PortLayout = record { from = c.reg_count.result; places = c.args.next_stages } in
     let r : PortRegs = record { regs = c.in_ok-regs.regs; reply = c.args.reply; word = c.args.word; answers = c.in_ok-answers.answers } in
     let listed : AreListed l r = record { count = c.in_ok-regs.ensures.count; listed = c.in_ok-regs.ensures.listed; answers = c.in_ok-answers.ensures.answers.count } in
     let y = c.in_ok-answers.ensures.extends in
@@ -31,7 +31,7 @@ returns-clause-fragment c =
     let a = c.args.b.now in
     let b = c.emit_registers.new.b in
     let d = c.emit_answers.new.b in
-    let l : Layout = record { from = c.reg_count.result; places = c.args.next_stages } in
+    let l : PortLayout = record { from = c.reg_count.result; places = c.args.next_stages } in
     let r : PortRegs = record { regs = c.in_ok-regs.regs; reply = c.args.reply; word = c.args.word; answers = c.in_ok-answers.answers } in
     let listed : AreListed l r = record { count = c.in_ok-regs.ensures.count; listed = c.in_ok-regs.ensures.listed; answers = c.in_ok-answers.ensures.answers.count } in
     is_fragment a b d l r listed c.reg_count.ensures c.in_ok-emit_registers.ensures.count c.in_ok-answers.ensures.extends
@@ -42,11 +42,11 @@ returns-clause-answers c =
     let b = c.emit_registers.new.b in
     let d = c.emit_answers.new.b in
     let q = c.requires in
-    let l : Layout = record { from = c.reg_count.result; places = c.args.next_stages } in
+    let l : PortLayout = record { from = c.reg_count.result; places = c.args.next_stages } in
     let r : PortRegs = record { regs = c.in_ok-regs.regs; reply = c.args.reply; word = c.args.word; answers = c.in_ok-answers.answers } in
     let listed : AreListed l r = record { count = c.in_ok-regs.ensures.count; listed = c.in_ok-regs.ensures.listed; answers = c.in_ok-answers.ensures.answers.count } in
     let x = c.in_ok-emit_registers.ensures.extends in
     let y = c.in_ok-answers.ensures.extends in
-    let P : Layout → Type 0 = λ g. AnswerLaw (Stands g) c.args.next_stages (signal d r.reply) (signal d r.word) (answer_signals d r) in
+    let P : PortLayout → Type 0 = λ g. AnswerLaw (Stands g) c.args.next_stages (signal d r.reply) (signal d r.word) (answer_signals d r) in
     subst P (sym (layout_is l r listed)) (answer_law l (signal d r.reply) (signal d r.word) (answer_signals d r)
     (answers_are b d l r c.in_ok-answers.ensures.answers (y.kept r.reply (x.there r.reply q.reply_there)) (y.kept r.word (x.there r.word q.word_there))))

@@ -7,7 +7,7 @@ use Rattle.pdl_form.specs.declared.form.Op as r_op
 use Rattle.pdl_form_types.specs.Stmts.{AreGuards, IsTypedOp}
 use Rattle.pdl_pipe_walk.specs.Parts.{parts_in, walk_of}
 use Rattle.pdl_pipe_walk.specs.Locked.{members, locks_in, tickets_in}
-use Rattle.pdl_form.specs.declared.form.Expr as r_expr
+use Rattle.pdl_form.specs.declared.form.FlatExpr as r_expr
 use Rattle.pdl_form_types.specs.Stmts.{param_widths, AreArguments}
 use Rattle.pdl_pipe_walk.proofs.Arguments.{arguments_typed, arguments_few, arguments_wide}
 use Rattle.pdl_pipe_walk.proofs.Lists.{on_ok}
@@ -44,12 +44,12 @@ delayed_read-requires-clause-at g c = (typed_as (form c.args.setting.now.pipe.no
 pub spec_call-requires-clause-typed : goal.spec_call-requires-clause-typed
 spec_call-requires-clause-typed g c =
     let f = form c.args.setting.now.pipe.now in
-    subst (λ (es : List r_expr.Expr). AreArguments f.widths (param_widths f) (exprs_view es)) (sym c.as_slice-in-SpecCall.ensures) (typed_as f c.args.s.now _ c.requires.typed c.in-SpecCall.is)
+    subst (λ (es : List r_expr.FlatExpr). AreArguments f.widths (param_widths f) (exprs_view es)) (sym c.as_slice-in-SpecCall.ensures) (typed_as f c.args.s.now _ c.requires.typed c.in-SpecCall.is)
 
 pub verify-requires-clause-typed : goal.verify-requires-clause-typed
 verify-requires-clause-typed g c =
     let f = form c.args.setting.now.pipe.now in
-    subst (λ (es : List r_expr.Expr). AreArguments f.widths (param_widths f) (exprs_view es)) (sym c.as_slice-in-Verify.ensures) (typed_as f c.args.s.now _ c.requires.typed c.in-Verify.is)
+    subst (λ (es : List r_expr.FlatExpr). AreArguments f.widths (param_widths f) (exprs_view es)) (sym c.as_slice-in-Verify.ensures) (typed_as f c.args.s.now _ c.requires.typed c.in-Verify.is)
 
 pub delayed_read-requires-clause-guards : goal.delayed_read-requires-clause-guards
 delayed_read-requires-clause-guards g c = guards_as (form c.args.setting.now.pipe.now) c.args.s.now c.as_slice-guards.result.now c.requires.typed c.as_slice-guards.ensures
@@ -87,7 +87,7 @@ block-requires-clause-locked g c = (typed_as (form c.args.setting.now.pipe.now) 
 pub call-requires-clause-typed : goal.call-requires-clause-typed
 call-requires-clause-typed g c =
     let f = form c.args.setting.now.pipe.now in
-    subst (λ (es : List r_expr.Expr). AreArguments f.widths (param_widths f) (exprs_view es)) (sym c.as_slice.ensures) (typed_as f c.args.s.now _ c.requires.typed c.in-Call.is)
+    subst (λ (es : List r_expr.FlatExpr). AreArguments f.widths (param_widths f) (exprs_view es)) (sym c.as_slice.ensures) (typed_as f c.args.s.now _ c.requires.typed c.in-Call.is)
 
 pub bind-requires-clause-guards : goal.bind-requires-clause-guards
 bind-requires-clause-guards g c = guards_as (form c.args.setting.now.pipe.now) c.args.s.now c.as_slice-guards.result.now c.requires.typed c.as_slice-guards.ensures
@@ -231,8 +231,8 @@ returns-in-Call-clause-step g c =
     let typed = subst (λ (o : r_op.Op). IsTypedOp (form c.args.setting.now.pipe.now) (act_view o)) c.in-Call.is c.requires.typed.0.1 in
     let nets = has_keep a b (parts_in a w).vars (extends_keeps a b c.call.ensures.extends) (nets_of a (form c.args.setting.now.pipe.now).pipe (form c.args.setting.now.pipe.now).widths w c.requires.walk) in
     let es = exprs_view c.as_slice.result.now in
-    let op = ap (λ (l : List r_expr.Expr). flat.Call (exprs_view l)) c.as_slice.ensures ∙ sym (ap act_view c.in-Call.is) in
-    let args = subst (λ (l : List r_expr.Expr). AreArguments (form c.args.setting.now.pipe.now).widths (param_widths (form c.args.setting.now.pipe.now)) (exprs_view l)) (sym c.as_slice.ensures) typed in
+    let op = ap (λ (l : List r_expr.FlatExpr). flat.Call (exprs_view l)) c.as_slice.ensures ∙ sym (ap act_view c.in-Call.is) in
+    let args = subst (λ (l : List r_expr.FlatExpr). AreArguments (form c.args.setting.now.pipe.now).widths (param_widths (form c.args.setting.now.pipe.now)) (exprs_view l)) (sym c.as_slice.ensures) typed in
     let ws = (form c.args.setting.now.pipe.now).widths in
     let n = length (form c.args.setting.now.pipe.now).pipe.start in
     on_ok c.call.result
@@ -281,8 +281,8 @@ returns-in-SpecCall-clause-step g c =
     let nets = has_keep a b (parts_in a w).vars (extends_keeps a b c.spec_call.ensures.extends) (nets_of a (form c.args.setting.now.pipe.now).pipe (form c.args.setting.now.pipe.now).widths w c.requires.walk) in
     let typed = subst (λ (o : r_op.Op). IsTypedOp (form c.args.setting.now.pipe.now) (act_view o)) c.in-SpecCall.is c.requires.typed.0.1 in
     let es = exprs_view c.as_slice-in-SpecCall.result.now in
-    let op = ap (λ (l : List r_expr.Expr). flat.SpecCall (exprs_view l)) c.as_slice-in-SpecCall.ensures ∙ sym (ap act_view c.in-SpecCall.is) in
-    let args = subst (λ (l : List r_expr.Expr). AreArguments (form c.args.setting.now.pipe.now).widths (param_widths (form c.args.setting.now.pipe.now)) (exprs_view l)) (sym c.as_slice-in-SpecCall.ensures) typed in
+    let op = ap (λ (l : List r_expr.FlatExpr). flat.SpecCall (exprs_view l)) c.as_slice-in-SpecCall.ensures ∙ sym (ap act_view c.in-SpecCall.is) in
+    let args = subst (λ (l : List r_expr.FlatExpr). AreArguments (form c.args.setting.now.pipe.now).widths (param_widths (form c.args.setting.now.pipe.now)) (exprs_view l)) (sym c.as_slice-in-SpecCall.ensures) typed in
     let ws = (form c.args.setting.now.pipe.now).widths in
     let n = length (form c.args.setting.now.pipe.now).pipe.start in
     let wide = arguments_wide (parts_in a w).vars (param_widths (form c.args.setting.now.pipe.now)) es (subst (λ l. AreArguments l (param_widths (form c.args.setting.now.pipe.now)) es) (sym c.requires.walk.sized.vars) args) ∙ sym c.requires.walk.sized.guess in
@@ -304,8 +304,8 @@ returns-in-Verify-clause-step g c =
     let nets = has_keep a b (parts_in a w).vars (extends_keeps a b c.verify.ensures.extends) (nets_of a (form c.args.setting.now.pipe.now).pipe (form c.args.setting.now.pipe.now).widths w c.requires.walk) in
     let typed = subst (λ (o : r_op.Op). IsTypedOp (form c.args.setting.now.pipe.now) (act_view o)) c.in-Verify.is c.requires.typed.0.1 in
     let es = exprs_view c.as_slice-in-Verify.result.now in
-    let op = ap (λ (l : List r_expr.Expr). flat.Verify (exprs_view l)) c.as_slice-in-Verify.ensures ∙ sym (ap act_view c.in-Verify.is) in
-    let args = subst (λ (l : List r_expr.Expr). AreArguments (form c.args.setting.now.pipe.now).widths (param_widths (form c.args.setting.now.pipe.now)) (exprs_view l)) (sym c.as_slice-in-Verify.ensures) typed in
+    let op = ap (λ (l : List r_expr.FlatExpr). flat.Verify (exprs_view l)) c.as_slice-in-Verify.ensures ∙ sym (ap act_view c.in-Verify.is) in
+    let args = subst (λ (l : List r_expr.FlatExpr). AreArguments (form c.args.setting.now.pipe.now).widths (param_widths (form c.args.setting.now.pipe.now)) (exprs_view l)) (sym c.as_slice-in-Verify.ensures) typed in
     let ws = (form c.args.setting.now.pipe.now).widths in
     let n = length (form c.args.setting.now.pipe.now).pipe.start in
     let wide = arguments_wide (parts_in a w).vars (param_widths (form c.args.setting.now.pipe.now)) es (subst (λ l. AreArguments l (param_widths (form c.args.setting.now.pipe.now)) es) (sym c.requires.walk.sized.vars) args) ∙ sym c.requires.walk.sized.guess in

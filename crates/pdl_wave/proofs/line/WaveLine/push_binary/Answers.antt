@@ -1,6 +1,6 @@
 use Rattle.std.proofs.Common.{arith}
 use Rattle.std.proofs.lemmas.Grind.{common_steps}
-use Rattle.pdl_wave.proofs.line.Line.push_binary.Goals as goal
+use Rattle.pdl_wave.proofs.line.WaveLine.push_binary.Goals as goal
 use Rattle.pdl_wave.proofs.Digits.{binary_next}
 
 pub loop-done-preserved : goal.loop-done-preserved

@@ -1,7 +1,7 @@
 use Rattle.std.proofs.Common.{ℕ, ◌<◌}
 use Rattle.std.specs.Prelude.{slice_index}
 use Rattle.pdl_netrun.specs.Order.{IsOrderOf, IsSameNet}
-use Rattle.pdl_netrun.proofs.order.Order.place_left.Given as goal
+use Rattle.pdl_netrun.proofs.order.CellOrder.place_left.Given as goal
 
 abbrev pub invariant-loop-k : goal.invariant-loop-k
 invariant-loop-k l = record {

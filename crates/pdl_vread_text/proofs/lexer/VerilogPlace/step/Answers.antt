@@ -1,7 +1,7 @@
 use Rattle.std.proofs.Common.{ap, ◌∷◌, ◌∙◌, sym}
 use Rattle.pdl_vread_text.specs.Tokens.{tokens_from}
 use Rattle.pdl_vread_text.proofs.Steps.{step_blank, step_token}
-use Rattle.pdl_vread_text.proofs.lexer.Place.step.Goals as goal
+use Rattle.pdl_vread_text.proofs.lexer.VerilogPlace.step.Goals as goal
 
 pub returns-then-piece : goal.returns-then-piece
 returns-then-piece c =

@@ -1,6 +1,6 @@
 use Rattle.std.proofs.Common.{◌≡◌, length}
 use Rattle.pdl_syntax_tokens.specs.Tokens.{tokens_from}
-use Rattle.pdl_syntax_tokens.proofs.lexer.Place.step.Given as goal
+use Rattle.pdl_syntax_tokens.proofs.lexer.SourcePlace.step.Given as goal
 
 -- only white space and comments were passed
 abbrev pub invariant-loop-piece : goal.invariant-loop-piece

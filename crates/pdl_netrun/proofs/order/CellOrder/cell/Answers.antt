@@ -1,6 +1,6 @@
 use Rattle.pdl_net.specs.Circuit.{circuit_of}
 use Rattle.pdl_netrun.proofs.Orders.{reads_read}
-use Rattle.pdl_netrun.proofs.order.Order.cell.Goals as goal
+use Rattle.pdl_netrun.proofs.order.CellOrder.cell.Goals as goal
 
 pub returns-clause-reads : goal.returns-clause-reads
 returns-clause-reads c =

@@ -1,5 +1,5 @@
 use Rattle.pdl_netrun.specs.Order.{IsOrderOf, IsSameNet}
-use Rattle.pdl_netrun.proofs.order.Order.place_kind.Given as goal
+use Rattle.pdl_netrun.proofs.order.CellOrder.place_kind.Given as goal
 
 abbrev pub invariant-loop-k : goal.invariant-loop-k
 invariant-loop-k l = record {

@@ -3,7 +3,7 @@ use Rattle.pdl_net.specs.declared.Netlist.{Netlist}
 use Rattle.pdl_net.specs.Circuit.{circuit_of}
 use Rattle.pdl_net.specs.Well.{IsWell}
 use Rattle.pdl_netrun.proofs.Orders.{reads_before}
-use Rattle.pdl_netrun.proofs.order.Order.place_left.Goals as goal
+use Rattle.pdl_netrun.proofs.order.CellOrder.place_left.Goals as goal
 
 pub place_cell-requires-clause-ready : goal.place_cell-requires-clause-ready
 place_cell-requires-clause-ready c =

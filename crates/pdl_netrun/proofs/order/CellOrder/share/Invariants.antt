@@ -1,5 +1,5 @@
 use Rattle.std.proofs.Common.{◌≡◌, ◌≤◌, length}
-use Rattle.pdl_netrun.proofs.order.Order.share.Given as goal
+use Rattle.pdl_netrun.proofs.order.CellOrder.share.Given as goal
 
 abbrev pub invariant-loop-k : goal.invariant-loop-k
 invariant-loop-k l = record {

@@ -1,7 +1,7 @@
 use Rattle.std.proofs.Common.{ap, ◌∷◌, ◌∙◌}
 use Rattle.pdl_syntax_tokens.specs.Tokens.{tokens_from}
 use Rattle.pdl_syntax_tokens.proofs.Steps.{step_blank, step_token}
-use Rattle.pdl_syntax_tokens.proofs.lexer.Place.step.Goals as goal
+use Rattle.pdl_syntax_tokens.proofs.lexer.SourcePlace.step.Goals as goal
 
 pub returns-in-Some-kind : goal.returns-in-Some-kind
 returns-in-Some-kind c =

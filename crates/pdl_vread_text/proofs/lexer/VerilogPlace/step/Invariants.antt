@@ -1,6 +1,6 @@
 use Rattle.std.proofs.Common.{◌≡◌, length}
 use Rattle.pdl_vread_text.specs.Tokens.{tokens_from}
-use Rattle.pdl_vread_text.proofs.lexer.Place.step.Given as goal
+use Rattle.pdl_vread_text.proofs.lexer.VerilogPlace.step.Given as goal
 
 -- only white space and comments were passed
 abbrev pub invariant-loop-piece : goal.invariant-loop-piece

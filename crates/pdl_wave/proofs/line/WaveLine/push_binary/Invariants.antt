@@ -1,5 +1,5 @@
 use Rattle.std.proofs.Common.{◌≡◌, ◌+◌, ◌-◌, ◌/◌, ◌^◌, ◌++◌, length}
-use Rattle.pdl_wave.proofs.line.Line.push_binary.Given as goal
+use Rattle.pdl_wave.proofs.line.WaveLine.push_binary.Given as goal
 use Rattle.pdl_wave.specs.Dump.{binary}
 
 -- the highest digits are there

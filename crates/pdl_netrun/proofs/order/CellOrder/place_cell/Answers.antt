@@ -1,7 +1,7 @@
 use Rattle.std.proofs.Common.{arith}
 use Rattle.std.proofs.lemmas.Grind.{common_steps}
 use Rattle.pdl_netrun.proofs.Orders.{order_next}
-use Rattle.pdl_netrun.proofs.order.Order.place_cell.Goals as goal
+use Rattle.pdl_netrun.proofs.order.CellOrder.place_cell.Goals as goal
 
 pub returns-clause-order : goal.returns-clause-order
 returns-clause-order c =

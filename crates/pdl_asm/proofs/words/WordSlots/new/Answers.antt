@@ -1,6 +1,6 @@
 use Rattle.std.proofs.Common.{◌≡◌, ℕ, None, replicate, subst, sym}
 use Rattle.pdl_asm.proofs.LineSteps.{addresses_are}
-use Rattle.pdl_asm.proofs.words.Words.new.Goals as goal
+use Rattle.pdl_asm.proofs.words.WordSlots.new.Goals as goal
 
 pub returns : goal.returns
 returns c =
