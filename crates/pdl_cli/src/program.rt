@@ -52,7 +52,12 @@ fn obey_line<F: Files, O: Sink>(
 {
     match line {
         CommandLine::Check { source } => write_text(verdict(alloc, files, source), out),
-        CommandLine::Run { source, setup } => run_source(alloc, files, source, &setup, out),
+        CommandLine::Run {
+            source,
+            image,
+            cycles,
+            delays,
+        } => run_source(alloc, files, source, image, cycles, delays, out),
         CommandLine::Seq {
             source,
             image,
@@ -64,9 +69,24 @@ fn obey_line<F: Files, O: Sink>(
         ),
         CommandLine::Gen { number } => write_text(generate(alloc, number), out),
         CommandLine::Build { source } => write_text(build(alloc, files, source), out),
-        CommandLine::Sim { netlist, setup } => simulate(alloc, files, netlist, &setup, out),
-        CommandLine::Wave { source, setup } => wave(alloc, files, source, &setup, out),
-        CommandLine::View { source, setup } => view_source(alloc, files, source, &setup, out),
+        CommandLine::Sim {
+            netlist,
+            image,
+            cycles,
+            delays,
+        } => simulate(alloc, files, netlist, image, cycles, delays, out),
+        CommandLine::Wave {
+            source,
+            image,
+            cycles,
+            delays,
+        } => wave(alloc, files, source, image, cycles, delays, out),
+        CommandLine::View {
+            source,
+            image,
+            cycles,
+            delays,
+        } => view_source(alloc, files, source, image, cycles, delays, out),
     }
 }
 

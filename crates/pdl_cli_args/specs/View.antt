@@ -13,11 +13,11 @@ text_of word = option_map (λ s. s.now) word
 -- a command with the texts of its words
 abbrev pub view : rust.CommandLine → Command
 view (code.Check source) = check source.now
-view (code.Run source setup) = run source.now setup.image.now setup.cycles (text_of setup.delays)
+view (code.Run source image cycles delays) = run source.now image.now cycles (text_of delays)
 view (code.Seq source image threads) = seq source.now image.now threads
 view (code.Asm table text) = asm table.now text.now
 view (code.Gen number) = gen number
 view (code.Build source) = build source.now
-view (code.Sim netlist setup) = sim netlist.now setup.image.now setup.cycles (text_of setup.delays)
-view (code.Wave source setup) = wave source.now setup.image.now setup.cycles (text_of setup.delays)
-view (code.View source setup) = spec.view source.now setup.image.now setup.cycles (text_of setup.delays)
+view (code.Sim netlist image cycles delays) = sim netlist.now image.now cycles (text_of delays)
+view (code.Wave source image cycles delays) = wave source.now image.now cycles (text_of delays)
+view (code.View source image cycles delays) = spec.view source.now image.now cycles (text_of delays)

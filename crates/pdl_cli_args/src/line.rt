@@ -11,14 +11,6 @@ use clap::ArgMatches;
 use clap::error::ErrorKind;
 use std::alloc::{AllocError, Global};
 
-/// What a run is given, but for what runs: the name of an image, how many cycles to run, up to 1,000,000, and the name of a delay file, if there is one.
-#[derive(Clone, Copy)]
-pub struct RunSetup<'a> {
-    pub image: &'a str,
-    pub cycles: u32,
-    pub delays: Option<&'a str>,
-}
-
 /// A command with its words.
 #[derive(Clone, Copy)]
 pub enum CommandLine<'a> {
@@ -26,10 +18,12 @@ pub enum CommandLine<'a> {
     Check {
         source: &'a str,
     },
-    /// `run SRC IMG CYCLES [--delays F]`: the name of a source, and the setup of its run.
+    /// `run SRC IMG CYCLES [--delays F]`: the names of two files, how many cycles to run, up to 1,000,000, and the name of a delay file, if there is one.
     Run {
         source: &'a str,
-        setup: RunSetup<'a>,
+        image: &'a str,
+        cycles: u32,
+        delays: Option<&'a str>,
     },
     /// `seq SRC IMG THREADS`: the names of two files, and how many threads to run, up to 1,000,000.
     Seq {
@@ -50,20 +44,26 @@ pub enum CommandLine<'a> {
     Build {
         source: &'a str,
     },
-    /// `sim V IMG CYCLES [--delays F]`: the name of a netlist's text, and the setup of its run.
+    /// `sim V IMG CYCLES [--delays F]`: the names of a netlist's text and of an image, how many cycles to run, up to 1,000,000, and the name of a delay file, if there is one.
     Sim {
         netlist: &'a str,
-        setup: RunSetup<'a>,
+        image: &'a str,
+        cycles: u32,
+        delays: Option<&'a str>,
     },
-    /// `wave SRC IMG CYCLES [--delays F]`: the name of a source, and the setup of its run.
+    /// `wave SRC IMG CYCLES [--delays F]`: the names of two files, how many cycles to run, up to 1,000,000, and the name of a delay file, if there is one.
     Wave {
         source: &'a str,
-        setup: RunSetup<'a>,
+        image: &'a str,
+        cycles: u32,
+        delays: Option<&'a str>,
     },
-    /// `view SRC IMG CYCLES [--delays F]`: the name of a source, and the setup of its run.
+    /// `view SRC IMG CYCLES [--delays F]`: the names of two files, how many cycles to run, up to 1,000,000, and the name of a delay file, if there is one.
     View {
         source: &'a str,
-        setup: RunSetup<'a>,
+        image: &'a str,
+        cycles: u32,
+        delays: Option<&'a str>,
     },
 }
 
@@ -191,12 +191,12 @@ fn run_line<'a>(inner: &ArgMatches<'a>) -> Option<CommandLine<'a>>
     let Some(cycles) = number(cycles, 7, 1_000_000) else {
         return None;
     };
-    let setup = RunSetup {
+    Some(CommandLine::Run {
+        source,
         image,
         cycles,
         delays: value(inner, "delays"),
-    };
-    Some(CommandLine::Run { source, setup })
+    })
 }
 
 fn seq_line<'a>(inner: &ArgMatches<'a>) -> Option<CommandLine<'a>>
@@ -280,12 +280,12 @@ fn sim_line<'a>(inner: &ArgMatches<'a>) -> Option<CommandLine<'a>>
     let Some(cycles) = number(cycles, 7, 1_000_000) else {
         return None;
     };
-    let setup = RunSetup {
+    Some(CommandLine::Sim {
+        netlist,
         image,
         cycles,
         delays: value(inner, "delays"),
-    };
-    Some(CommandLine::Sim { netlist, setup })
+    })
 }
 
 fn wave_line<'a>(inner: &ArgMatches<'a>) -> Option<CommandLine<'a>>
@@ -307,12 +307,12 @@ fn wave_line<'a>(inner: &ArgMatches<'a>) -> Option<CommandLine<'a>>
     let Some(cycles) = number(cycles, 7, 1_000_000) else {
         return None;
     };
-    let setup = RunSetup {
+    Some(CommandLine::Wave {
+        source,
         image,
         cycles,
         delays: value(inner, "delays"),
-    };
-    Some(CommandLine::Wave { source, setup })
+    })
 }
 
 fn view_line<'a>(inner: &ArgMatches<'a>) -> Option<CommandLine<'a>>
@@ -334,10 +334,10 @@ fn view_line<'a>(inner: &ArgMatches<'a>) -> Option<CommandLine<'a>>
     let Some(cycles) = number(cycles, 7, 1_000_000) else {
         return None;
     };
-    let setup = RunSetup {
+    Some(CommandLine::View {
+        source,
         image,
         cycles,
         delays: value(inner, "delays"),
-    };
-    Some(CommandLine::View { source, setup })
+    })
 }

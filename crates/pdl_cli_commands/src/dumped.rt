@@ -18,7 +18,6 @@ ghost use Rattle.pdl_cli_commands.specs.Outcomes.{seen_of, Explains, Streamed};
 use crate::run::accept;
 use crate::start::{RunStart, start_of};
 use pdl_check::Accepted;
-use pdl_cli_args::RunSetup;
 use pdl_cli_failure::{Failure, in_text};
 use pdl_kit::files::Files;
 use pdl_kit::sink::Sink;
@@ -51,24 +50,25 @@ fn print_dump<O: Sink>(
     in_text(dump(alloc, netlist, &start.image, &schedule, out))
 }
 
-// Dumps a run of a netlist with this setup: as the command does for each source whose pipe it follows.
+// Dumps a run of a netlist from the image with this name, with the replies of the delay file, if one is named: as the command does for each source whose pipe it follows.
 fn dump_netlist<F: Files, O: Sink>(
     alloc: Global,
     files: &mut F,
     netlist: &Netlist,
-    setup: &RunSetup<'_>,
+    image: &str,
+    cycles: u32,
+    delays: Option<&str>,
     out: &mut O,
 ) -> Result<(), Failure>
-    requires image { IsTrue (F.may files.old setup.now.image.now) }
-    requires delays { AllowsFile (F.may files.old) (text_of setup.now.delays) }
+    requires image { IsTrue (F.may files.old image.now) }
+    requires delays { AllowsFile (F.may files.old) (text_of delays) }
     requires well { IsWellFormed netlist.now }
     requires dumpable { CanBeDumped netlist.now }
-    requires few { setup.now.cycles ≤ 1000000 }
+    requires few { cycles ≤ 1000000 }
     ensures explained { (source b : List ℕ) (p : pipes) → Gives (F.holds files.old) source b
         → IsAccepted b p → Follows p netlist.now
         → HasLocksOf any_lock p netlist.now
-        → Explains (Some (command.wave source setup.now.image.now
-        setup.now.cycles (text_of setup.now.delays)))
+        → Explains (Some (command.wave source image.now cycles (text_of delays.entry)))
         (seen_of (F.holds files.old) (F.faults files.old) (F.faults files.new)
         (O.written out.old) (O.written out.new) (O.faults out.old) (O.faults out.new)) result }
     ensures held { F.holds files.new ≡ F.holds files.old }
@@ -76,8 +76,8 @@ fn dump_netlist<F: Files, O: Sink>(
     ensures later { F.faults files.old ≤ F.faults files.new }
     ensures written { O.faults out.old ≤ O.faults out.new }
 {
-    match start_of(alloc, files, netlist, setup) {
-        Ok(start) => print_dump(alloc, netlist, &start, setup.cycles, out),
+    match start_of(alloc, files, netlist, image, delays) {
+        Ok(start) => print_dump(alloc, netlist, &start, cycles, out),
         Err(failure) => Err(failure),
     }
 }
@@ -87,17 +87,18 @@ fn dump_accepted<F: Files, O: Sink>(
     alloc: Global,
     files: &mut F,
     accepted: &Accepted,
-    setup: &RunSetup<'_>,
+    image: &str,
+    cycles: u32,
+    delays: Option<&str>,
     out: &mut O,
 ) -> Result<(), Failure>
-    requires image { IsTrue (F.may files.old setup.now.image.now) }
-    requires delays { AllowsFile (F.may files.old) (text_of setup.now.delays) }
+    requires image { IsTrue (F.may files.old image.now) }
+    requires delays { AllowsFile (F.may files.old) (text_of delays) }
     requires accepted { (b : List ℕ) × IsAccepted b (pipe_view accepted.now.typed.pipe) }
-    requires few { setup.now.cycles ≤ 1000000 }
+    requires few { cycles ≤ 1000000 }
     ensures explained { (source b : List ℕ) → Gives (F.holds files.old) source b
         → IsAccepted b (pipe_view accepted.now.typed.pipe)
-        → Explains (Some (command.wave source setup.now.image.now
-        setup.now.cycles (text_of setup.now.delays)))
+        → Explains (Some (command.wave source image.now cycles (text_of delays.entry)))
         (seen_of (F.holds files.old) (F.faults files.old) (F.faults files.new)
         (O.written out.old) (O.written out.new) (O.faults out.old) (O.faults out.new)) result }
     ensures held { F.holds files.new ≡ F.holds files.old }
@@ -106,25 +107,26 @@ fn dump_accepted<F: Files, O: Sink>(
     ensures written { O.faults out.old ≤ O.faults out.new }
 {
     match compile(alloc, accepted) {
-        Ok(netlist) => dump_netlist(alloc, files, &netlist, setup, out),
+        Ok(netlist) => dump_netlist(alloc, files, &netlist, image, cycles, delays, out),
         Err(_) => Err(Failure::NoMemory),
     }
 }
 
-/// Does what `wave` asks for, with a source of this name and this setup: all memory is taken before the first byte is written.
+/// Does what `wave` asks for, with a source and an image of these names, a delay file, if one is named, and so many cycles: all memory is taken before the first byte is written.
 pub fn wave<F: Files, O: Sink>(
     alloc: Global,
     files: &mut F,
     source: &str,
-    setup: &RunSetup<'_>,
+    image: &str,
+    cycles: u32,
+    delays: Option<&str>,
     out: &mut O,
 ) -> Result<(), Failure>
     requires source { IsTrue (F.may files.old source.now) }
-    requires image { IsTrue (F.may files.old setup.now.image.now) }
-    requires delays { AllowsFile (F.may files.old) (text_of setup.now.delays) }
-    requires few { setup.now.cycles ≤ 1000000 }
-    ensures explained { Explains (Some (command.wave source.now setup.now.image.now
-        setup.now.cycles (text_of setup.now.delays)))
+    requires image { IsTrue (F.may files.old image.now) }
+    requires delays { AllowsFile (F.may files.old) (text_of delays) }
+    requires few { cycles ≤ 1000000 }
+    ensures explained { Explains (Some (command.wave source.now image.now cycles (text_of delays.entry)))
         (seen_of (F.holds files.old) (F.faults files.old) (F.faults files.new)
         (O.written out.old) (O.written out.new) (O.faults out.old) (O.faults out.new)) result }
     ensures held { F.holds files.new ≡ F.holds files.old }
@@ -133,7 +135,7 @@ pub fn wave<F: Files, O: Sink>(
     ensures written { O.faults out.old ≤ O.faults out.new }
 {
     match accept(alloc, files, source) {
-        Ok(accepted) => dump_accepted(alloc, files, &accepted, setup, out),
+        Ok(accepted) => dump_accepted(alloc, files, &accepted, image, cycles, delays, out),
         Err(failure) => Err(failure),
     }
 }

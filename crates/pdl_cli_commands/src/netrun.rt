@@ -14,7 +14,6 @@ ghost use Rattle.pdl_cli_commands.specs.Commands.{IsAccepted};
 ghost use Rattle.pdl_cli_commands.specs.Outcomes.{seen_of, Explains, Streamed};
 
 use crate::start::{RunStart, start_of};
-use pdl_cli_args::RunSetup;
 use pdl_cli_failure::{Failure, in_text};
 use pdl_kit::files::Files;
 use pdl_kit::sink::Sink;
@@ -46,28 +45,28 @@ fn print_run<O: Sink>(
     in_text(run(alloc, netlist, &start.image, &schedule, out))
 }
 
-/// Runs a netlist with this setup, and writes what it prints: as `run` does for each source whose pipe it follows, and `sim` for each file that holds it. All memory is taken before the first byte is written.
+/// Runs a netlist from the image with this name, with the replies of the delay file, if one is named, and writes what it prints: as `run` does for each source whose pipe it follows, and `sim` for each file that holds it. All memory is taken before the first byte is written.
 pub fn run_netlist<F: Files, O: Sink>(
     alloc: Global,
     files: &mut F,
     netlist: &Netlist,
-    setup: &RunSetup<'_>,
+    image: &str,
+    cycles: u32,
+    delays: Option<&str>,
     out: &mut O,
 ) -> Result<(), Failure>
-    requires image { IsTrue (F.may files.old setup.now.image.now) }
-    requires delays { AllowsFile (F.may files.old) (text_of setup.now.delays) }
+    requires image { IsTrue (F.may files.old image.now) }
+    requires delays { AllowsFile (F.may files.old) (text_of delays) }
     requires well { IsWellFormed netlist.now }
     requires short { All (λ m. length m.name ≤ 32) netlist.now.mems }
-    requires few { setup.now.cycles ≤ 1000000 }
+    requires few { cycles ≤ 1000000 }
     ensures source { (source b : List ℕ) (p : pipes) → Gives (F.holds files.old) source b
         → IsAccepted b p → Follows p netlist.now
-        → Explains (Some (command.run source setup.now.image.now
-        setup.now.cycles (text_of setup.now.delays)))
+        → Explains (Some (command.run source image.now cycles (text_of delays.entry)))
         (seen_of (F.holds files.old) (F.faults files.old) (F.faults files.new)
         (O.written out.old) (O.written out.new) (O.faults out.old) (O.faults out.new)) result }
     ensures netlist { (v : List ℕ) → HoldsNetlist (F.holds files.old) v netlist.now
-        → Explains (Some (command.sim v setup.now.image.now
-        setup.now.cycles (text_of setup.now.delays)))
+        → Explains (Some (command.sim v image.now cycles (text_of delays.entry)))
         (seen_of (F.holds files.old) (F.faults files.old) (F.faults files.new)
         (O.written out.old) (O.written out.new) (O.faults out.old) (O.faults out.new)) result }
     ensures held { F.holds files.new ≡ F.holds files.old }
@@ -75,8 +74,8 @@ pub fn run_netlist<F: Files, O: Sink>(
     ensures later { F.faults files.old ≤ F.faults files.new }
     ensures written { O.faults out.old ≤ O.faults out.new }
 {
-    match start_of(alloc, files, netlist, setup) {
-        Ok(start) => print_run(alloc, netlist, &start, setup.cycles, out),
+    match start_of(alloc, files, netlist, image, delays) {
+        Ok(start) => print_run(alloc, netlist, &start, cycles, out),
         Err(failure) => Err(failure),
     }
 }

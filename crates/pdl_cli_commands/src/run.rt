@@ -15,7 +15,6 @@ use crate::netrun::run_netlist;
 use crate::sequential::sequential;
 use pdl_check::Accepted;
 use pdl_check::check::check;
-use pdl_cli_args::RunSetup;
 use pdl_cli_failure::{Failure, in_memory};
 use pdl_image::{FileError, Image, read_image};
 use pdl_kit::NoMemory;
@@ -102,22 +101,23 @@ pub fn verdict<F: Files>(alloc: Global, files: &mut F, source: &str) -> Result<V
     text
 }
 
-// Runs the netlist of an accepted pipe with this setup: as the command does for whatever source gives the pipe.
+// Runs the netlist of an accepted pipe from the image with this name, with the replies of the delay file, if one is named: as the command does for whatever source gives the pipe.
 fn run_accepted<F: Files, O: Sink>(
     alloc: Global,
     files: &mut F,
     accepted: &Accepted,
-    setup: &RunSetup<'_>,
+    image: &str,
+    cycles: u32,
+    delays: Option<&str>,
     out: &mut O,
 ) -> Result<(), Failure>
-    requires image { IsTrue (F.may files.old setup.now.image.now) }
-    requires delays { AllowsFile (F.may files.old) (text_of setup.now.delays) }
+    requires image { IsTrue (F.may files.old image.now) }
+    requires delays { AllowsFile (F.may files.old) (text_of delays) }
     requires accepted { (b : List ℕ) × IsAccepted b (pipe_view accepted.now.typed.pipe) }
-    requires few { setup.now.cycles ≤ 1000000 }
+    requires few { cycles ≤ 1000000 }
     ensures explained { (source b : List ℕ) → Gives (F.holds files.old) source b
         → IsAccepted b (pipe_view accepted.now.typed.pipe)
-        → Explains (Some (command.run source setup.now.image.now
-        setup.now.cycles (text_of setup.now.delays)))
+        → Explains (Some (command.run source image.now cycles (text_of delays.entry)))
         (seen_of (F.holds files.old) (F.faults files.old) (F.faults files.new)
         (O.written out.old) (O.written out.new) (O.faults out.old) (O.faults out.new)) result }
     ensures held { F.holds files.new ≡ F.holds files.old }
@@ -126,7 +126,7 @@ fn run_accepted<F: Files, O: Sink>(
     ensures written { O.faults out.old ≤ O.faults out.new }
 {
     match compile(alloc, accepted) {
-        Ok(netlist) => run_netlist(alloc, files, &netlist, setup, out),
+        Ok(netlist) => run_netlist(alloc, files, &netlist, image, cycles, delays, out),
         Err(_) => Err(Failure::NoMemory),
     }
 }
@@ -158,20 +158,21 @@ fn run_accepted_in_turn<F: Files, O: Sink>(
     }
 }
 
-/// Does what `run` asks for, with a source of this name and this setup: all memory is taken before the first byte is written.
+/// Does what `run` asks for, with a source and an image of these names, a delay file, if one is named, and so many cycles: all memory is taken before the first byte is written.
 pub fn run_source<F: Files, O: Sink>(
     alloc: Global,
     files: &mut F,
     source: &str,
-    setup: &RunSetup<'_>,
+    image: &str,
+    cycles: u32,
+    delays: Option<&str>,
     out: &mut O,
 ) -> Result<(), Failure>
     requires source { IsTrue (F.may files.old source.now) }
-    requires image { IsTrue (F.may files.old setup.now.image.now) }
-    requires delays { AllowsFile (F.may files.old) (text_of setup.now.delays) }
-    requires few { setup.now.cycles ≤ 1000000 }
-    ensures explained { Explains (Some (command.run source.now setup.now.image.now
-        setup.now.cycles (text_of setup.now.delays)))
+    requires image { IsTrue (F.may files.old image.now) }
+    requires delays { AllowsFile (F.may files.old) (text_of delays) }
+    requires few { cycles ≤ 1000000 }
+    ensures explained { Explains (Some (command.run source.now image.now cycles (text_of delays.entry)))
         (seen_of (F.holds files.old) (F.faults files.old) (F.faults files.new)
         (O.written out.old) (O.written out.new) (O.faults out.old) (O.faults out.new)) result }
     ensures held { F.holds files.new ≡ F.holds files.old }
@@ -180,7 +181,7 @@ pub fn run_source<F: Files, O: Sink>(
     ensures written { O.faults out.old ≤ O.faults out.new }
 {
     match accept(alloc, files, source) {
-        Ok(accepted) => run_accepted(alloc, files, &accepted, setup, out),
+        Ok(accepted) => run_accepted(alloc, files, &accepted, image, cycles, delays, out),
         Err(failure) => Err(failure),
     }
 }

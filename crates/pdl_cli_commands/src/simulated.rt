@@ -8,7 +8,6 @@ ghost use Rattle.pdl_cli_commands.specs.Commands.{NetlistFails};
 ghost use Rattle.pdl_cli_commands.specs.Outcomes.{seen_of, Explains};
 
 use crate::netrun::run_netlist;
-use pdl_cli_args::RunSetup;
 use pdl_cli_failure::Failure;
 use pdl_kit::files::Files;
 use pdl_kit::sink::Sink;
@@ -30,20 +29,21 @@ fn netlist_of_file<F: Files>(alloc: Global, files: &mut F, name: &str) -> Result
     Ok(read_verilog(alloc, text.as_slice())?)
 }
 
-/// Does what `sim` asks for, with a netlist of this name and this setup: all memory is taken before the first byte is written.
+/// Does what `sim` asks for, with a netlist and an image of these names, a delay file, if one is named, and so many cycles: all memory is taken before the first byte is written.
 pub fn simulate<F: Files, O: Sink>(
     alloc: Global,
     files: &mut F,
     netlist: &str,
-    setup: &RunSetup<'_>,
+    image: &str,
+    cycles: u32,
+    delays: Option<&str>,
     out: &mut O,
 ) -> Result<(), Failure>
     requires netlist { IsTrue (F.may files.old netlist.now) }
-    requires image { IsTrue (F.may files.old setup.now.image.now) }
-    requires delays { AllowsFile (F.may files.old) (text_of setup.now.delays) }
-    requires few { setup.now.cycles ≤ 1000000 }
-    ensures explained { Explains (Some (command.sim netlist.now setup.now.image.now
-        setup.now.cycles (text_of setup.now.delays)))
+    requires image { IsTrue (F.may files.old image.now) }
+    requires delays { AllowsFile (F.may files.old) (text_of delays) }
+    requires few { cycles ≤ 1000000 }
+    ensures explained { Explains (Some (command.sim netlist.now image.now cycles (text_of delays.entry)))
         (seen_of (F.holds files.old) (F.faults files.old) (F.faults files.new)
         (O.written out.old) (O.written out.new) (O.faults out.old) (O.faults out.new)) result }
     ensures held { F.holds files.new ≡ F.holds files.old }
@@ -52,7 +52,7 @@ pub fn simulate<F: Files, O: Sink>(
     ensures written { O.faults out.old ≤ O.faults out.new }
 {
     match netlist_of_file(alloc, files, netlist) {
-        Ok(read) => run_netlist(alloc, files, &read, setup, out),
+        Ok(read) => run_netlist(alloc, files, &read, image, cycles, delays, out),
         Err(failure) => Err(failure),
     }
 }

@@ -10,7 +10,6 @@ ghost use Rattle.pdl_netrun_lines.specs.Printed.{schedule};
 ghost use Rattle.pdl_cli_commands.specs.Replies.{AllowsFile, IsSchedule};
 ghost use Rattle.pdl_cli_commands.specs.Commands.{ImageFails, DelaysFails, StartFails, IsBegun};
 
-use pdl_cli_args::RunSetup;
 use pdl_cli_failure::Failure;
 use pdl_image::{Delays, Image, read_delays, read_image};
 use pdl_kit::files::Files;
@@ -102,27 +101,27 @@ fn few_delayed(netlist: &Netlist) -> u8
     count_delayed(netlist) as u8
 }
 
-/// Reads the image of a setup for the memories of a netlist, and after it the delay file for its delayed ones, if one is named.
+/// Reads an image of this name for the memories of a netlist, and after it the delay file for its delayed ones, if one is named.
 pub fn start_of<F: Files>(
     alloc: Global,
     files: &mut F,
     netlist: &Netlist,
-    setup: &RunSetup<'_>,
+    image: &str,
+    delays: Option<&str>,
 ) -> Result<RunStart, Failure>
-    requires image { IsTrue (F.may files.old setup.now.image.now) }
-    requires delays { AllowsFile (F.may files.old) (text_of setup.now.delays) }
+    requires image { IsTrue (F.may files.old image.now) }
+    requires delays { AllowsFile (F.may files.old) (text_of delays) }
     requires well { IsWellFormed netlist.now }
-    ensures ok { IfOk result (λ s. IsBegun (F.holds files.old) setup.now.image.now
-        (text_of setup.now.delays)
+    ensures ok { IfOk result (λ s. IsBegun (F.holds files.old) image.now (text_of delays.entry)
         netlist.now.mems (length (delayed_mems netlist.now)) s.image s.delays) }
     ensures err { IfErr result (StartFails (F.holds files.old) (F.faults files.old)
-        (F.faults files.new) setup.now.image.now (text_of setup.now.delays) netlist.now.mems
+        (F.faults files.new) image.now (text_of delays.entry) netlist.now.mems
         (length (delayed_mems netlist.now))) }
     ensures held { F.holds files.new ≡ F.holds files.old }
     ensures allowed { (n : List ℕ) → F.may files.new n ≡ F.may files.old n }
     ensures later { F.faults files.old ≤ F.faults files.new }
 {
-    let image = read_words(alloc, files, setup.image, netlist)?;
-    let delays = replies(alloc, files, setup.delays, few_delayed(netlist))?;
+    let image = read_words(alloc, files, image, netlist)?;
+    let delays = replies(alloc, files, delays, few_delayed(netlist))?;
     Ok(RunStart { image, delays })
 }

@@ -18,7 +18,6 @@ ghost use Rattle.pdl_rules.specs.Memories.{infos_of};
 use crate::run::{accept, load};
 use crate::start::{RunStart, replies};
 use pdl_check::Accepted;
-use pdl_cli_args::RunSetup;
 use pdl_cli_failure::{Failure, in_text};
 use pdl_kit::MemInfo;
 use pdl_kit::files::Files;
@@ -41,30 +40,30 @@ fn few_delayed(accepted: &Accepted) -> u8
     count_delayed(accepted.mems()) as u8
 }
 
-// Reads the image of a setup for the memories of a pipe, and after it the delay file for its delayed ones, if one is named.
+// Reads an image of this name for the memories of a pipe, and after it the delay file for its delayed ones, if one is named.
 fn start_of<F: Files>(
     alloc: Global,
     files: &mut F,
     accepted: &Accepted,
-    setup: &RunSetup<'_>,
+    image: &str,
+    delays: Option<&str>,
 ) -> Result<RunStart, Failure>
-    requires image { IsTrue (F.may files.old setup.now.image.now) }
-    requires delays { AllowsFile (F.may files.old) (text_of setup.now.delays) }
+    requires image { IsTrue (F.may files.old image.now) }
+    requires delays { AllowsFile (F.may files.old) (text_of delays) }
     requires accepted { (b : List ℕ) × IsAccepted b (pipe_view accepted.now.typed.pipe) }
-    ensures ok { IfOk result (λ s. IsBegun (F.holds files.old) setup.now.image.now
-        (text_of setup.now.delays)
+    ensures ok { IfOk result (λ s. IsBegun (F.holds files.old) image.now (text_of delays.entry)
         (infos_of (pipe_view accepted.now.typed.pipe).mems)
         (delayed_count (flat (pipe_view accepted.now.typed.pipe))) s.image s.delays) }
     ensures err { IfErr result (StartFails (F.holds files.old) (F.faults files.old)
-        (F.faults files.new) setup.now.image.now (text_of setup.now.delays)
+        (F.faults files.new) image.now (text_of delays.entry)
         (infos_of (pipe_view accepted.now.typed.pipe).mems)
         (delayed_count (flat (pipe_view accepted.now.typed.pipe)))) }
     ensures held { F.holds files.new ≡ F.holds files.old }
     ensures allowed { (n : List ℕ) → F.may files.new n ≡ F.may files.old n }
     ensures later { F.faults files.old ≤ F.faults files.new }
 {
-    let image = load(alloc, files, setup.image, accepted)?;
-    let delays = replies(alloc, files, setup.delays, few_delayed(accepted))?;
+    let image = load(alloc, files, image, accepted)?;
+    let delays = replies(alloc, files, delays, few_delayed(accepted))?;
     Ok(RunStart { image, delays })
 }
 
@@ -88,22 +87,23 @@ fn print_view<O: Sink>(
     in_text(view(alloc, accepted, image, &start.delays, cycles, out))
 }
 
-// Shows the stages of an accepted pipe in a run with this setup: as the command does for whatever source gives the pipe.
+// Shows the stages of an accepted pipe in a run from the image with this name, with the replies of the delay file, if one is named: as the command does for whatever source gives the pipe.
 fn view_accepted<F: Files, O: Sink>(
     alloc: Global,
     files: &mut F,
     accepted: &Accepted,
-    setup: &RunSetup<'_>,
+    image: &str,
+    cycles: u32,
+    delays: Option<&str>,
     out: &mut O,
 ) -> Result<(), Failure>
-    requires image { IsTrue (F.may files.old setup.now.image.now) }
-    requires delays { AllowsFile (F.may files.old) (text_of setup.now.delays) }
+    requires image { IsTrue (F.may files.old image.now) }
+    requires delays { AllowsFile (F.may files.old) (text_of delays) }
     requires accepted { (b : List ℕ) × IsAccepted b (pipe_view accepted.now.typed.pipe) }
-    requires few { setup.now.cycles ≤ 1000000 }
+    requires few { cycles ≤ 1000000 }
     ensures explained { (source b : List ℕ) → Gives (F.holds files.old) source b
         → IsAccepted b (pipe_view accepted.now.typed.pipe)
-        → Explains (Some (command.view source setup.now.image.now
-        setup.now.cycles (text_of setup.now.delays)))
+        → Explains (Some (command.view source image.now cycles (text_of delays.entry)))
         (seen_of (F.holds files.old) (F.faults files.old) (F.faults files.new)
         (O.written out.old) (O.written out.new) (O.faults out.old) (O.faults out.new)) result }
     ensures held { F.holds files.new ≡ F.holds files.old }
@@ -111,26 +111,27 @@ fn view_accepted<F: Files, O: Sink>(
     ensures later { F.faults files.old ≤ F.faults files.new }
     ensures written { O.faults out.old ≤ O.faults out.new }
 {
-    match start_of(alloc, files, accepted, setup) {
-        Ok(start) => print_view(alloc, accepted, &start, setup.cycles, out),
+    match start_of(alloc, files, accepted, image, delays) {
+        Ok(start) => print_view(alloc, accepted, &start, cycles, out),
         Err(failure) => Err(failure),
     }
 }
 
-/// Does what `view` asks for, with a source of this name and this setup: all memory is taken before the first byte is written.
+/// Does what `view` asks for, with a source and an image of these names, a delay file, if one is named, and so many cycles: all memory is taken before the first byte is written.
 pub fn view_source<F: Files, O: Sink>(
     alloc: Global,
     files: &mut F,
     source: &str,
-    setup: &RunSetup<'_>,
+    image: &str,
+    cycles: u32,
+    delays: Option<&str>,
     out: &mut O,
 ) -> Result<(), Failure>
     requires source { IsTrue (F.may files.old source.now) }
-    requires image { IsTrue (F.may files.old setup.now.image.now) }
-    requires delays { AllowsFile (F.may files.old) (text_of setup.now.delays) }
-    requires few { setup.now.cycles ≤ 1000000 }
-    ensures explained { Explains (Some (command.view source.now setup.now.image.now
-        setup.now.cycles (text_of setup.now.delays)))
+    requires image { IsTrue (F.may files.old image.now) }
+    requires delays { AllowsFile (F.may files.old) (text_of delays) }
+    requires few { cycles ≤ 1000000 }
+    ensures explained { Explains (Some (command.view source.now image.now cycles (text_of delays.entry)))
         (seen_of (F.holds files.old) (F.faults files.old) (F.faults files.new)
         (O.written out.old) (O.written out.new) (O.faults out.old) (O.faults out.new)) result }
     ensures held { F.holds files.new ≡ F.holds files.old }
@@ -139,7 +140,7 @@ pub fn view_source<F: Files, O: Sink>(
     ensures written { O.faults out.old ≤ O.faults out.new }
 {
     match accept(alloc, files, source) {
-        Ok(accepted) => view_accepted(alloc, files, &accepted, setup, out),
+        Ok(accepted) => view_accepted(alloc, files, &accepted, image, cycles, delays, out),
         Err(failure) => Err(failure),
     }
 }

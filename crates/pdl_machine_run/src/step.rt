@@ -124,7 +124,7 @@ fn commit(memory: &mut Memory, m: usize, stages: &[Stage]) -> Option<Pending>
 }
 
 // What the threads that move, of which one may squash, do to memory m; the pending write that is released.
-#[tactic(auto, using(crate::proofs::ActLists::none_leaves))]
+#[tactic(auto, using(pdl_semantics::proofs::Facts::none_leaves))]
 fn step_memory(
     memory: &mut Memory,
     m: usize,

@@ -37,10 +37,12 @@ short_all ms h = λ k d l.
 mems_pass : (n : Netlist) (s : Shape) → spec.is_pipe n s ≡ true → spec.has_mems s n.arrays ≡ true
 mems_pass n s h = (and_parts (spec.has_ports (heads n.ports) s) (spec.has_mems s n.arrays) (and_parts (spec.has_counts s n.arrays) _ h).1).1
 
-short_delayed : (n : Netlist) (s : Shape) → spec.is_pipe n s ≡ true → All spec.IsShort s.delayed
+-- the delayed memories of a netlist that passes the tests have short addresses
+pub short_delayed : (n : Netlist) (s : Shape) → spec.is_pipe n s ≡ true → All spec.IsShort s.delayed
 short_delayed n s h = short_all s.delayed (and_parts (list_all spec.has_address s.delayed) _ (mems_pass n s h)).0
 
-short_locked : (n : Netlist) (s : Shape) → spec.is_pipe n s ≡ true → All spec.IsShort s.locked
+-- the memories with locks of a netlist that passes the tests have short addresses
+pub short_locked : (n : Netlist) (s : Shape) → spec.is_pipe n s ≡ true → All spec.IsShort s.locked
 short_locked n s h = short_all s.locked (and_parts (list_all spec.has_address s.locked) _ (and_parts (list_all spec.has_address s.delayed) _ (mems_pass n s h)).1).0
 
 pub ruleset judging = (taken, refused, short_delayed, short_locked)

@@ -12,9 +12,9 @@ use Rattle.pdl_cli_commands.proofs.dumped.dump_netlist.Goals as goal
 pub returns-in-Ok-clause-explained : goal.returns-in-Ok-clause-explained
 returns-in-Ok-clause-explained g c = λ source b p given accepted follows locks.
     let holds = g.F.Files.holds c.args.files.now in
-    let image' = c.args.setup.now.image.now in
-    let cycles = c.args.setup.now.cycles in
-    let delays = text_of c.args.setup.now.delays in
+    let image' = c.args.image.now in
+    let cycles = c.args.cycles in
+    let delays = text_of c.args.delays in
     let start = c.in-Ok.start in
     let n = c.args.netlist.now in
     streamed_explains (wave source image' cycles delays) (seen_of holds (g.F.Files.faults c.args.files.now) (g.F.Files.faults c.start_of.new.files) (g.O.Sink.written c.args.out.now) (g.O.Sink.written c.print_dump.new.out) (g.O.Sink.faults c.args.out.now) (g.O.Sink.faults c.print_dump.new.out)) c.print_dump.result
@@ -26,6 +26,6 @@ returns-in-Err-clause-explained g c = λ source b p given accepted follows locks
     let holds = g.F.Files.holds c.args.files.now in
     let before = g.F.Files.faults c.args.files.now in
     let now = g.F.Files.faults c.start_of.new.files in
-    let command = wave source c.args.setup.now.image.now c.args.setup.now.cycles (text_of c.args.setup.now.delays) in
+    let command = wave source c.args.image.now c.args.cycles (text_of c.args.delays) in
     silent command (seen_of holds before now (g.O.Sink.written c.args.out.now) (g.O.Sink.written c.args.out.now) (g.O.Sink.faults c.args.out.now) (g.O.Sink.faults c.args.out.now)) c.in-Err.failure
-    (source_start_fails holds before now source b c.args.setup.now.image.now (text_of c.args.setup.now.delays) p c.args.netlist.now given accepted follows command (λ rule line w. w) c.in-Err.failure c.in-Err.ensures.err) refl
+    (source_start_fails holds before now source b c.args.image.now (text_of c.args.delays) p c.args.netlist.now given accepted follows command (λ rule line w. w) c.in-Err.failure c.in-Err.ensures.err) refl

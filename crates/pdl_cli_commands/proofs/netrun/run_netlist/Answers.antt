@@ -11,9 +11,9 @@ use Rattle.pdl_cli_commands.proofs.netrun.run_netlist.Goals as goal
 pub returns-in-Ok-clause-source : goal.returns-in-Ok-clause-source
 returns-in-Ok-clause-source g c = λ source b p given accepted follows.
     let holds = g.F.Files.holds c.args.files.now in
-    let image' = c.args.setup.now.image.now in
-    let cycles = c.args.setup.now.cycles in
-    let delays = text_of c.args.setup.now.delays in
+    let image' = c.args.image.now in
+    let cycles = c.args.cycles in
+    let delays = text_of c.args.delays in
     let start = c.in-Ok.start in
     let n = c.args.netlist.now in
     streamed_explains (run source image' cycles delays) (seen_of holds (g.F.Files.faults c.args.files.now) (g.F.Files.faults c.start_of.new.files) (g.O.Sink.written c.args.out.now) (g.O.Sink.written c.print_run.new.out) (g.O.Sink.faults c.args.out.now) (g.O.Sink.faults c.print_run.new.out)) c.print_run.result
@@ -23,9 +23,9 @@ returns-in-Ok-clause-source g c = λ source b p given accepted follows.
 pub returns-in-Ok-clause-netlist : goal.returns-in-Ok-clause-netlist
 returns-in-Ok-clause-netlist g c = λ v held.
     let holds = g.F.Files.holds c.args.files.now in
-    let image' = c.args.setup.now.image.now in
-    let cycles = c.args.setup.now.cycles in
-    let delays = text_of c.args.setup.now.delays in
+    let image' = c.args.image.now in
+    let cycles = c.args.cycles in
+    let delays = text_of c.args.delays in
     let start = c.in-Ok.start in
     let n = c.args.netlist.now in
     let b = c.in-Ok.ensures.ok in
@@ -45,14 +45,14 @@ returns-in-Err-clause-source g c = λ source b p given accepted follows.
     let holds = g.F.Files.holds c.args.files.now in
     let before = g.F.Files.faults c.args.files.now in
     let now = g.F.Files.faults c.start_of.new.files in
-    let command = run source c.args.setup.now.image.now c.args.setup.now.cycles (text_of c.args.setup.now.delays) in
+    let command = run source c.args.image.now c.args.cycles (text_of c.args.delays) in
     silent command (seen_of holds before now (g.O.Sink.written c.args.out.now) (g.O.Sink.written c.args.out.now) (g.O.Sink.faults c.args.out.now) (g.O.Sink.faults c.args.out.now)) c.in-Err.failure
-    (source_start_fails holds before now source b c.args.setup.now.image.now (text_of c.args.setup.now.delays) p c.args.netlist.now given accepted follows command (λ rule line w. w) c.in-Err.failure c.in-Err.ensures.err) refl
+    (source_start_fails holds before now source b c.args.image.now (text_of c.args.delays) p c.args.netlist.now given accepted follows command (λ rule line w. w) c.in-Err.failure c.in-Err.ensures.err) refl
 
 pub returns-in-Err-clause-netlist : goal.returns-in-Err-clause-netlist
 returns-in-Err-clause-netlist g c = λ v held.
     let holds = g.F.Files.holds c.args.files.now in
     let before = g.F.Files.faults c.args.files.now in
     let now = g.F.Files.faults c.start_of.new.files in
-    silent (sim v c.args.setup.now.image.now c.args.setup.now.cycles (text_of c.args.setup.now.delays)) (seen_of holds before now (g.O.Sink.written c.args.out.now) (g.O.Sink.written c.args.out.now) (g.O.Sink.faults c.args.out.now) (g.O.Sink.faults c.args.out.now)) c.in-Err.failure
-    (start_fails holds before now v c.args.setup.now.image.now c.args.setup.now.cycles (text_of c.args.setup.now.delays) c.args.netlist.now held c.in-Err.failure c.in-Err.ensures.err) refl
+    silent (sim v c.args.image.now c.args.cycles (text_of c.args.delays)) (seen_of holds before now (g.O.Sink.written c.args.out.now) (g.O.Sink.written c.args.out.now) (g.O.Sink.faults c.args.out.now) (g.O.Sink.faults c.args.out.now)) c.in-Err.failure
+    (start_fails holds before now v c.args.image.now c.args.cycles (text_of c.args.delays) c.args.netlist.now held c.in-Err.failure c.in-Err.ensures.err) refl

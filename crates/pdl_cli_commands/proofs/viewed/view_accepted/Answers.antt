@@ -13,9 +13,9 @@ use Rattle.pdl_cli_commands.proofs.viewed.view_accepted.Goals as goal
 pub returns-in-Ok-clause-explained : goal.returns-in-Ok-clause-explained
 returns-in-Ok-clause-explained g c = λ source b given accepted.
     let holds = g.F.Files.holds c.args.files.now in
-    let image' = c.args.setup.now.image.now in
-    let cycles = c.args.setup.now.cycles in
-    let delays = text_of c.args.setup.now.delays in
+    let image' = c.args.image.now in
+    let cycles = c.args.cycles in
+    let delays = text_of c.args.delays in
     let start = c.in-Ok.start in
     let begun = c.in-Ok.ensures.ok in
     let p = pipe_view c.args.accepted.now.typed.pipe in
@@ -35,6 +35,6 @@ returns-in-Err-clause-explained g c = λ source b given accepted.
     let holds = g.F.Files.holds c.args.files.now in
     let before = g.F.Files.faults c.args.files.now in
     let now = g.F.Files.faults c.start_of.new.files in
-    let command = view source c.args.setup.now.image.now c.args.setup.now.cycles (text_of c.args.setup.now.delays) in
+    let command = view source c.args.image.now c.args.cycles (text_of c.args.delays) in
     silent command (seen_of holds before now (g.O.Sink.written c.args.out.now) (g.O.Sink.written c.args.out.now) (g.O.Sink.faults c.args.out.now) (g.O.Sink.faults c.args.out.now)) c.in-Err.failure
-    (pipe_start_fails holds before now source b c.args.setup.now.image.now (text_of c.args.setup.now.delays) (pipe_view c.args.accepted.now.typed.pipe) given accepted command (λ rule line w. w) c.in-Err.failure c.in-Err.ensures.err) refl
+    (pipe_start_fails holds before now source b c.args.image.now (text_of c.args.delays) (pipe_view c.args.accepted.now.typed.pipe) given accepted command (λ rule line w. w) c.in-Err.failure c.in-Err.ensures.err) refl

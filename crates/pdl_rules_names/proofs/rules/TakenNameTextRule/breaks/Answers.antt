@@ -8,7 +8,7 @@ use Rattle.pdl_paths.specs.Actions.{place_view}
 use Rattle.pdl_rules_on_texts.proofs.LineSteps.{breaks_kth}
 use Rattle.pdl_rules_names.specs.First.{comes_before}
 use Rattle.pdl_rules_names.proofs.Firsts.{any_before}
-use Rattle.pdl_rules_names.proofs.rules.TakenTextRule.breaks.Goals as goal
+use Rattle.pdl_rules_names.proofs.rules.TakenNameTextRule.breaks.Goals as goal
 use Rattle.pdl_rules_on_paths.proofs.Nth.{nth}
 
 pub returns-in-Some : goal.returns-in-Some
