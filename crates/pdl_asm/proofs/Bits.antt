@@ -33,8 +33,10 @@ pub word_first : (value : ℕ → ℕ) (xs : List ℕ) (high low d : ℕ)
 word_first value [] high low d h k one e f = absurd (omega (arith, h))
 word_first value (c ∷ cs) high low d h k one e f =
     let r : rest_of (c ∷ cs) ≡ cs = take_rest (c ∷ cs) 1 in
-    let m : high * 2 ^ length (rest_of (c ∷ cs)) % 2 ^ 64 ≡ high * 2 ^ length cs = ap (λ ys. high * 2 ^ length ys % 2 ^ 64) r ∙ small_mod high (length cs) one (omega (arith, k)) in
-    ap (λ n. n + low) m ∙ ap (λ n. n * 2 ^ length cs + low) (e ∙ ap (bit_of value c) r) ∙ ap (λ n. bit_of value c cs * 2 ^ length cs + n) (f ∙ ap (word_of_bits value) r)
+    let m : high * 2 ^ length (rest_of (c ∷ cs)) % 2 ^ 64 ≡ high * 2 ^ length cs =
+    ap (λ ys. high * 2 ^ length ys % 2 ^ 64) r ∙ small_mod high (length cs) one (omega (arith, k)) in
+    ap (λ n. n + low) m ∙ ap (λ n. n * 2 ^ length cs + low) (e ∙ ap (bit_of value c) r)
+    ∙ ap (λ n. bit_of value c cs * 2 ^ length cs + n) (f ∙ ap (word_of_bits value) r)
 
 -- the first argument with the first operand, and those after them
 pub letter_first : (t : TableValue) (labels : Labels) (place : ℤ) (bits : List ℕ) (args : List Arg) (os : List Operand)
@@ -64,7 +66,9 @@ rule_first t labels place bits [] os a d o x y h k e f g i = absurd (omega (arit
 rule_first t labels place bits (b ∷ bs) [] a d o x y h k e f g i = absurd (omega (arith, k))
 rule_first t labels place bits (b ∷ bs) (p ∷ ps) a d o x y h k e f g i =
     ap (λ z. lower z y) (g ∙ ap (λ z. rule_of (argument_value t labels place bits z o)) e ∙ ap (λ z. rule_of (argument_value t labels place bits b z)) f)
-    ∙ ap (lower (rule_of (argument_value t labels place bits b p))) (i ∙ ap (λ xs. operands_rule t labels place bits xs (rest_of (p ∷ ps))) (take_rest (b ∷ bs) 1) ∙ ap (operands_rule t labels place bits bs) (take_rest (p ∷ ps) 1))
+    ∙ ap (lower (rule_of (argument_value t labels place bits b p)))
+    (i ∙ ap (λ xs. operands_rule t labels place bits xs (rest_of (p ∷ ps))) (take_rest (b ∷ bs) 1)
+    ∙ ap (operands_rule t labels place bits bs) (take_rest (p ∷ ps) 1))
 
 -- the rule of an instruction is that of the operation
 pub rule_of_insn : (t : TableValue) (labels : Labels) (taken : Bool) (place : ℤ) (name : List ℕ) (os : Operands)

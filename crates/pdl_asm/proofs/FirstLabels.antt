@@ -95,4 +95,5 @@ pub defined_next : (t : TableValue) (labels : Labels) (n m : ℕ) (all rest : Li
     → line_rule t labels (take n labels) taken place line ≡ None → m ≡ defined_by n line
     → take m labels ≡ with_label (take n labels) place (label_of line)
 defined_next t labels n m all rest number place line taken slots e f g h =
-    ap (λ k. take k labels) h ∙ next_line t labels n taken place line g (begins t labels (take n labels) all rest number (record { place = place; line = line }) slots e f)
+    ap (λ k. take k labels) h
+    ∙ next_line t labels n taken place line g (begins t labels (take n labels) all rest number (record { place = place; line = line }) slots e f)

@@ -35,7 +35,8 @@ written_push : (t : TableValue) (labels : Labels) (done : List Placed) (p : Plac
     → written_word t labels (done ++ p ∷ []) a ≡ or_else (written_word t labels done a) (word_at t labels a p)
 written_push t labels [] p a = or_else_none (word_at t labels a p)
 written_push t labels (q ∷ done) p a =
-    ap (or_else (word_at t labels a q)) (written_push t labels done p a) ∙ or_else_assoc (word_at t labels a q) (written_word t labels done a) (word_at t labels a p)
+    ap (or_else (word_at t labels a q)) (written_push t labels done p a)
+    ∙ or_else_assoc (word_at t labels a q) (written_word t labels done a) (word_at t labels a p)
 
 written_kept : (t : TableValue) (labels : Labels) (done : List Placed) (p : Placed) (a : ℕ)
     → word_at t labels a p ≡ None → written_word t labels done a ≡ written_word t labels (done ++ p ∷ []) a
@@ -69,7 +70,8 @@ slots_written : (t : TableValue) (labels : Labels) (done : List Placed) (p : Pla
     → set (slots_of t labels done) n (Some w) ≡ slots_of t labels (done ++ p ∷ [])
 unfolding slots_of
 slots_written t labels done p n w l free here others =
-    let at : Some w ≡ written_word t labels (done ++ p ∷ []) n = sym (written_push t labels done p n ∙ ap (λ o. or_else o (word_at t labels n p)) free ∙ here) in
+    let at : Some w ≡ written_word t labels (done ++ p ∷ []) n =
+    sym (written_push t labels done p n ∙ ap (λ o. or_else o (word_at t labels n p)) free ∙ here) in
     map_set _ _ (range_with_len 0 addresses) n (Some w) (let P : ℕ → Type 0 = λ m. n < m in subst P (sym (length-range_with_len 0 addresses)) l)
     (λ d. let P : ℕ → Type 0 = λ a. Some w ≡ written_word t labels (done ++ p ∷ []) a in subst P (sym (address_of n d l)) at)
     (λ k d h ne.
@@ -166,7 +168,8 @@ slots_more table labels done (pos n) line (Some w) e free = elim (cases_lt n 655
       let holds : ltb n 65536 ≡ true = lt-ltb n 65536 h in
       let p : Placed = record { place = pos n; line = line } in
       let P : ℕ → Type 0 = λ m. n < m in
-      let f : free_rule true (is_some (written_word table labels done n)) ≡ None = sym (ap (λ b. free_rule b (b && is_some (written_word table labels done n))) holds) ∙ free w refl in
+      let f : free_rule true (is_some (written_word table labels done n)) ≡ None =
+      sym (ap (λ b. free_rule b (b && is_some (written_word table labels done n))) holds) ∙ free w refl in
       ap (λ b. if b then set (slots_of table labels done) n (Some w) else slots_of table labels done) holds
       ∙ slots_written table labels done p n w (subst P (sym addresses_are) h) (no_word _ (not_taken _ f))
       (ap (λ b. if b then line_word table labels (pos n) line else None) (eq-eqb n n refl) ∙ e)
@@ -182,7 +185,8 @@ slots_more table labels done (pos n) line (Some w) e free = elim (cases_lt n 655
 -- ---- the whole
 
 -- so many lines were taken: the rest breaks what the whole breaks, and labels and slots are those of the lines so far
-pub record Taken (t : TableValue) (labels : Labels) (all : List Placed) (number : ℕ) (rest : List Placed) (before : Labels) (slots : List (Option ℕ)) : Type 0 where
+pub record Taken (t : TableValue) (labels : Labels) (all : List Placed) (number : ℕ) (rest : List Placed)
+    (before : Labels) (slots : List (Option ℕ)) : Type 0 where
   pub done : List Placed
   pub whole : done ++ rest ≡ all
   pub wrong : first_wrong t labels done number rest ≡ first_wrong t labels [] 1 all
@@ -264,7 +268,8 @@ flat_same f g a (suc n) h =
     let P : ℕ → Type 0 = λ m. f m ≡ g m in
     let z : a + 0 ≡ a = omega arith in
     let here : f a ≡ g a = subst P z (h 0 (omega arith)) in
-    let later : flat_map f (range_with_len (a + 1) n) ≡ flat_map g (range_with_len (a + 1) n) = flat_same f g (a + 1) n (λ k l. let e : a + suc k ≡ a + 1 + k = omega arith in subst P e (h (suc k) (omega arith))) in
+    let later : flat_map f (range_with_len (a + 1) n) ≡ flat_map g (range_with_len (a + 1) n) =
+    flat_same f g (a + 1) n (λ k l. let e : a + suc k ≡ a + 1 + k = omega arith in subst P e (h (suc k) (omega arith))) in
     ap (λ xs. xs ++ flat_map f (range_with_len (a + 1) n)) here ∙ ap (λ xs. g a ++ xs) later
 
 -- the texts of the numbers from `a` on, after some bytes, begin with the text of `a`
@@ -284,7 +289,8 @@ flat_end f xs a n h =
 text_same : (t : TableValue) (labels : Labels) (ps : List Placed) (slots : List (Option ℕ))
     → slots ≡ slots_of t labels ps → image_text t (λ a. get_or slots a None) ≡ image_text t (written_word t labels ps)
 text_same t labels ps slots e =
-    ap (λ xs. codes "image 1\n" ++ xs) (flat_same (λ a. word_line t.mem t.word a (get_or slots a None)) (λ a. word_line t.mem t.word a (written_word t labels ps a)) 0 addresses (λ k h.
+    ap (λ xs. codes "image 1\n" ++ xs)
+    (flat_same (λ a. word_line t.mem t.word a (get_or slots a None)) (λ a. word_line t.mem t.word a (written_word t labels ps a)) 0 addresses (λ k h.
     let P : ℕ → Type 0 = λ m. word_line t.mem t.word m (get_or slots m None) ≡ word_line t.mem t.word m (written_word t labels ps m) in
     subst P (sym (zero-add k)) (ap (word_line t.mem t.word k) (ap (λ s. get_or s k None) e ∙ row_at t labels ps k h))))
 

@@ -22,7 +22,9 @@ pub next : (ops more : List Operand) (x : Operand) (part : List ℕ) (ps rest : 
     → more ≡ ops ++ x ∷ [] → operand_of (without_blanks part) ≡ Some x → rest ≡ part ∷ ps
     → joined ops (operands_in rest) ≡ whole → joined more (operands_in ps) ≡ whole
 next ops more x part ps rest whole e f g h =
-    ap (λ o. joined o (operands_in ps)) e ∙ joined-cons ops x (operands_in ps) ∙ ap (λ o. joined ops (with_operand o (operands_in ps))) (sym f) ∙ ap (λ r. joined ops (operands_in r)) (sym g) ∙ h
+    ap (λ o. joined o (operands_in ps)) e ∙ joined-cons ops x (operands_in ps)
+    ∙ ap (λ o. joined ops (with_operand o (operands_in ps))) (sym f) ∙ ap (λ r. joined ops (operands_in r)) (sym g)
+    ∙ h
 
 -- what was read before, of which one too many is kept, and what is to come are all
 pub record Read (kept : List Operand) (later all : Option (List Operand)) : Type 0 where
@@ -44,7 +46,8 @@ few_taken n xs = elim (cases_lt n (length xs)) [
 
 -- an operand more, where there is room for it
 pub kept_more : (xs : List Operand) (x : Operand) → length xs ≤ 64 → xs ++ x ∷ [] ≡ take 65 (xs ++ x ∷ [])
-kept_more xs x h = sym (take_all 65 (xs ++ x ∷ []) (let n : length (xs ++ x ∷ []) ≡ length xs + length (x ∷ []) = length-append xs (x ∷ []) in omega (arith, n, h)))
+kept_more xs x h =
+    sym (take_all 65 (xs ++ x ∷ []) (let n : length (xs ++ x ∷ []) ≡ length xs + length (x ∷ []) = length-append xs (x ∷ []) in omega (arith, n, h)))
 
 -- no operand more, where there are too many
 pub kept_full : (xs : List Operand) (x : Operand) → length xs ≡ 65 → xs ≡ take 65 (xs ++ x ∷ [])

@@ -84,4 +84,5 @@ bytes_are t text bytes e = ok_of (first_wrong t (labels_of (lines_in t text)) []
 pub reads_back : (t : TableValue) (text bytes : List ℕ) → IsTable t → image t text ≡ Ok bytes → IsReadBack t text bytes
 reads_back t text bytes h e m k =
     subst (λ b. image_read (m ∷ []) b ≡ Ok (words_in t text m.depth ∷ [])) (bytes_are t text bytes e)
-    (read_back m addresses (word_in t text) (word_line t.mem t.word) (line_of_word t) (gives t text m h k) (subst (λ n. m.depth ≤ n) (sym addresses_are) k.depth))
+    (read_back m addresses (word_in t text) (word_line t.mem t.word) (line_of_word t) (gives t text m h k)
+    (subst (λ n. m.depth ≤ n) (sym addresses_are) k.depth))

@@ -49,7 +49,8 @@ bits_fit value (c ∷ right) =
     let one : bit_of value c right ≤ 1 = bit_small (c == 48) (c == 49) (value c / 2 ^ field_bits right c) in
     let high : bit_of value c right * 2 ^ length right ≤ 1 * 2 ^ length right = mul-le-mul_right (2 ^ length right) one in
     let twice : 2 ^ length (c ∷ right) ≡ 2 ^ length right * 2 = pow-suc 2 (length right) in
-    let small : bit_of value c right * 2 ^ length right + word_of_bits value right < 2 ^ length (c ∷ right) = omega (arith, high, bits_fit value right, twice) in
+    let small : bit_of value c right * 2 ^ length right + word_of_bits value right < 2 ^ length (c ∷ right) =
+    omega (arith, high, bits_fit value right, twice) in
     small
 
 insn_fits : (t : TableValue) (labels : Labels) (place : ℤ) (name : List ℕ) (o : Option TableInsn) (operands : Operands) (v : ℕ)

@@ -114,7 +114,8 @@ or_zero (Err rule) = 0
 
 -- the value of a letter: that of its argument's operand
 abbrev pub letter_value : TableValue → Labels → ℤ → List ℕ → List Arg → List Operand → ℕ → ℕ
-letter_value t labels place bits (a ∷ rest) (o ∷ os) c = if a.letter == c then or_zero (argument_value t labels place bits a o) else letter_value t labels place bits rest os c
+letter_value t labels place bits (a ∷ rest) (o ∷ os) c =
+    if a.letter == c then or_zero (argument_value t labels place bits a o) else letter_value t labels place bits rest os c
 letter_value t labels place bits _ _ c = 0
 
 -- the value of a letter among an instruction's operands

@@ -14,7 +14,8 @@ use Rattle.toml.specs.Parse.{parse_document}
 abbrev tab : List ℕ → Result TableValue TableError
 tab text = table_of_document (parse_document text)
 
-two_instructions : tab (codes "word = 8\nmem = \"im\"\n[regs]\nr0 = 0\nr1 = 1\n[[insn]]\nname = \"add\"\nargs = [\"d:reg\", \"i:sint\"]\nbits = \"01 d iiiii\"\n[[insn]]\nname = \"b\"\nargs = [\"t:rel\"]\nbits = \"100 ttttt\"\n")
+two_instructions : tab
+    (codes "word = 8\nmem = \"im\"\n[regs]\nr0 = 0\nr1 = 1\n[[insn]]\nname = \"add\"\nargs = [\"d:reg\", \"i:sint\"]\nbits = \"01 d iiiii\"\n[[insn]]\nname = \"b\"\nargs = [\"t:rel\"]\nbits = \"100 ttttt\"\n")
     ≡ Ok (record {
       word = 8;
       mem = codes "im";
@@ -25,7 +26,8 @@ two_instructions : tab (codes "word = 8\nmem = \"im\"\n[regs]\nr0 = 0\nr1 = 1\n[
 unfolding toml_on_literals
 two_instructions = refl
 
-short_bits : tab (codes "word = 8\nmem = \"im\"\n[[insn]]\nname = \"add\"\nargs = [\"i:sint\"]\nbits = \"010iiiii\"\n[[insn]]\nname = \"b\"\nargs = [\"t:rel\"]\nbits = \"100 tttt\"\n")
+short_bits : tab
+    (codes "word = 8\nmem = \"im\"\n[[insn]]\nname = \"add\"\nargs = [\"i:sint\"]\nbits = \"010iiiii\"\n[[insn]]\nname = \"b\"\nargs = [\"t:rel\"]\nbits = \"100 tttt\"\n")
     ≡ Err (Refused B3 2)
 unfolding toml_on_literals
 short_bits = refl
@@ -66,7 +68,8 @@ unfolding toml_on_literals
 name_twice = refl
 
 -- the lowest rule first, though it stands at a later instruction
-rule_before_instruction : tab (codes "word = 1\nmem = \"m\"\n[[insn]]\nname = \"a\"\nargs = []\nbits = \"x\"\n[[insn]]\nname = \"b\"\nargs = []\nbits = \"?\"\n")
+rule_before_instruction : tab
+    (codes "word = 1\nmem = \"m\"\n[[insn]]\nname = \"a\"\nargs = []\nbits = \"x\"\n[[insn]]\nname = \"b\"\nargs = []\nbits = \"?\"\n")
     ≡ Err (Refused B3 2)
 unfolding toml_on_literals
 rule_before_instruction = refl

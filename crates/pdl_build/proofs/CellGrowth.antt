@@ -167,7 +167,9 @@ means_input c n w =
     let m = ap length e ∙ length-append (inputs_of c) (w ∷ []) in
     record {
       there = omega (arith, m);
-      same = ap (λ v. input_signal v (length (inputs_of c))) (ap (λ ns. get_or ns (length (inputs_of c)) 0) e ∙ get_or_push (inputs_of c) w 0 (length (inputs_of c)) refl);
+      same =
+          ap (λ v. input_signal v (length (inputs_of c)))
+          (ap (λ ns. get_or ns (length (inputs_of c)) 0) e ∙ get_or_push (inputs_of c) w 0 (length (inputs_of c)) refl);
     }
 
 -- with an input more, the widths of inputs are those with its own, and what is known of cells stays true
@@ -188,10 +190,14 @@ well_output c n x w t low high = well_port c (output_port c n x) w (record { low
 -- with an output more, what is known of inputs and cells stays true
 pub extents_output : (c : Circuit) (n : List ℕ) (x : Net) (ins : List ℕ) (ns : List Extent) → IsWell c
     → HaveExtents c ins ns → HaveExtents (with_port c (output_port c n x)) ins ns
-extents_output c n x ins ns w h = extents_still c (with_port c (output_port c n x)) ins ns (port_keeps c (output_port c n x) w) (inputs_pushed c (output_port c n x) ∙ append-nil (inputs_of c)) refl h
+extents_output c n x ins ns w h =
+    extents_still c (with_port c (output_port c n x)) ins ns (port_keeps c (output_port c n x) w)
+    (inputs_pushed c (output_port c n x) ∙ append-nil (inputs_of c)) refl h
 
 -- each port is an input or an output
 pub count_ports : (ps : List Port) → length (filter_map port_input ps) + length (filter_map port_output ps) ≡ length ps
 count_ports [] = refl
-count_ports (p ∷ ps) = elim p.dir as (λ d. length (filter_map port_input (record p { dir = d } ∷ ps)) + length (filter_map port_output (record p { dir = d } ∷ ps)) ≡ length (p ∷ ps))
+count_ports (p ∷ ps) =
+    elim p.dir as
+    (λ d. length (filter_map port_input (record p { dir = d } ∷ ps)) + length (filter_map port_output (record p { dir = d } ∷ ps)) ≡ length (p ∷ ps))
     [ In ↦ omega (arith, count_ports ps) | Out x ↦ omega (arith, count_ports ps) ]

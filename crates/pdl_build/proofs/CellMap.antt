@@ -53,14 +53,19 @@ differs g q n = go (same g q) refl
     go true e = absurd (n ((cell_equal g q).0 e))
     go false e = refl
 
-module _ (a b : Inside) (g : Cell) (none : (k : ℕ) → slice_get a.cells.items k ≢ Some g) (c : b.cells.items ≡ a.cells.items ++ g ∷ []) (p : (q : Cell) → get same b.places q ≡ cond (same g q) (Some (length a.cells.items)) (get same a.places q)) (h : AreFound same a) where
+module _ (a b : Inside) (g : Cell) (none : (k : ℕ) → slice_get a.cells.items k ≢ Some g)
+    (c : b.cells.items ≡ a.cells.items ++ g ∷ [])
+    (p : (q : Cell) → get same b.places q ≡ cond (same g q) (Some (length a.cells.items)) (get same a.places q))
+    (h : AreFound same a) where
   found_in : (k : ℕ) (q : Cell) → slice_get b.cells.items k ≡ Some q → get same b.places q ≡ Some k
   found_in k q e = p q ∙ elim (at_pushed a.cells.items g q k (ap (λ xs. slice_get xs k) (sym c) ∙ e)) [
     | inl l ↦ ap (λ t. cond t (Some (length a.cells.items)) (get same a.places q)) (differs g q (λ s. none k (l ∙ ap Some (sym s)))) ∙ h.found k q l
     | inr r ↦ ap (λ t. cond t (Some (length a.cells.items)) (get same a.places q)) ((cell_equal g q).1 r.0) ∙ ap Some r.1
   ]
 
-  only_in : (t : Bool) (k : ℕ) (q : Cell) → same g q ≡ t → cond t (Some (length a.cells.items)) (get same a.places q) ≡ Some k → slice_get (a.cells.items ++ g ∷ []) k ≡ Some q
+  only_in : (t : Bool) (k : ℕ) (q : Cell) → same g q ≡ t
+      → cond t (Some (length a.cells.items)) (get same a.places q) ≡ Some k
+      → slice_get (a.cells.items ++ g ∷ []) k ≡ Some q
   only_in true k q s e =
       let n : length a.cells.items ≡ k = cc e in
       ap (λ i. slice_get (a.cells.items ++ g ∷ []) i) (sym n) ∙ last_at a.cells.items g ∙ ap Some ((cell_equal g q).0 s)

@@ -30,12 +30,31 @@ mux_second a b v e w =
 
 module _ (c : Circuit) (choice x y : Net) where
   pub same_arm : x ≡ y → IsThere c x → Means c x (mux_signal (signal c choice) (signal c x) (signal c y))
-  same_arm e t = record { there = t; same = sym (ap (λ (z : Net). mux_signal (signal c choice) (signal c x) (signal c z)) (sym e) ∙ mux_same (signal c choice) (signal c x)) }
+  same_arm e t =
+      record {
+        there = t;
+        same = sym (ap (λ (z : Net). mux_signal (signal c choice) (signal c x) (signal c z)) (sym e) ∙ mux_same (signal c choice) (signal c x));
+      }
 
-  pub first_arm : (v : ℕ) → (signal c choice).value ≡ const_value v → (v == 1) ≡ true → IsThere c x → Means c x (mux_signal (signal c choice) (signal c x) (signal c y))
+  pub first_arm : (v : ℕ) → (signal c choice).value ≡ const_value v → (v == 1) ≡ true → IsThere c x
+      → Means c x (mux_signal (signal c choice) (signal c x) (signal c y))
   first_arm v k e t =
-      record { there = t; same = sym (ap (λ (f : Value). record { width = (signal c x).width; value = mux_value f (signal c x).value (signal c y).value }) k ∙ mux_first (signal c x) (signal c y) v e) }
+      record {
+        there = t;
+        same =
+            sym
+            (ap (λ (f : Value). record { width = (signal c x).width; value = mux_value f (signal c x).value (signal c y).value }) k
+            ∙ mux_first (signal c x) (signal c y) v e);
+      }
 
-  pub second_arm : (v : ℕ) → (signal c choice).value ≡ const_value v → (v == 1) ≡ false → (signal c x).width ≡ (signal c y).width → IsThere c y → Means c y (mux_signal (signal c choice) (signal c x) (signal c y))
+  pub second_arm : (v : ℕ) → (signal c choice).value ≡ const_value v → (v == 1) ≡ false
+      → (signal c x).width ≡ (signal c y).width → IsThere c y
+      → Means c y (mux_signal (signal c choice) (signal c x) (signal c y))
   second_arm v k e w t =
-      record { there = t; same = sym (ap (λ (f : Value). record { width = (signal c x).width; value = mux_value f (signal c x).value (signal c y).value }) k ∙ mux_second (signal c x) (signal c y) v e w) }
+      record {
+        there = t;
+        same =
+            sym
+            (ap (λ (f : Value). record { width = (signal c x).width; value = mux_value f (signal c x).value (signal c y).value }) k
+            ∙ mux_second (signal c x) (signal c y) v e w);
+      }

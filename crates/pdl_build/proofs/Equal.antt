@@ -29,7 +29,9 @@ first_signal c g gs done fit =
     let n = length-append done (f ∷ []) in
     let front = signals_from_front c (g ∷ gs) done in
     let at : get_or (signals_from c gs (done ++ f ∷ [])) (length done) no_signal ≡ f =
-    ap (λ fs. get_or fs (length done) no_signal) r.1 ∙ get_or_append_left (done ++ f ∷ []) r.0 no_signal (length done) (omega (arith, n)) ∙ get_or_push done f no_signal (length done) refl in
+    ap (λ fs. get_or fs (length done) no_signal) r.1
+    ∙ get_or_append_left (done ++ f ∷ []) r.0 no_signal (length done) (omega (arith, n))
+    ∙ get_or_push done f no_signal (length done) refl in
     let same = cell_signal_same c c (IsThereAt c (length done)) (look c done) (look c (signals_from c (g ∷ gs) done)) (same_grows c)
     (λ x h. ap (λ fs. look c fs x) front.1 ∙ look_front c done front.0 x h) g fit.0 in
     at ∙ sym same

@@ -60,8 +60,10 @@ folded_pushed cells g f e =
     let P : Cell → Type 0 = λ h. is_foldable (cells ++ g ∷ []) h ≡ false in
     record {
       each = λ k l. ⊎_elim
-          (λ (lt : k < length cells). subst P (sym (get_or_append_left cells (g ∷ []) (Const 0 0) k lt)) (foldable_still cells g (cell_in cells k) (f.each k lt)))
-          (λ ge. let n : length cells ≡ k = omega (arith, length-append cells (g ∷ [])) in subst P (sym (get_or_push cells g (Const 0 0) k n)) (foldable_still cells g g e))
+          (λ (lt : k < length cells). subst P (sym (get_or_append_left cells (g ∷ []) (Const 0 0) k lt))
+          (foldable_still cells g (cell_in cells k) (f.each k lt)))
+          (λ ge. let n : length cells ≡ k = omega (arith, length-append cells (g ∷ [])) in
+          subst P (sym (get_or_push cells g (Const 0 0) k n)) (foldable_still cells g g e))
           (cases_lt k (length cells));
     }
 

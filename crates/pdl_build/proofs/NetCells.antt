@@ -21,5 +21,8 @@ cell_there c v x k e f t = subst (λ (d : Circuit). k < length d.cells) (sym e) 
 pub known_fits : (c : Circuit) (k : ℕ) (g : Cell) → IsWell c → k < length c.cells → get_or c.cells k (Const 0 0) ≡ g → Fits c g
 unfolding IsThere
 known_fits c k g w l e =
-    let h = fits_same c c (IsThereAt c k) (IsThere c) (signal c) (signal c) (same_grows c) (λ x t. there_grows c c (same_grows c) k (length c.cells) (omega arith) x t) (λ x t. refl) (cell_at c k) (fits_cell c w.cells k l) in
+    let h =
+    fits_same c c (IsThereAt c k) (IsThere c) (signal c) (signal c) (same_grows c)
+    (λ x t. there_grows c c (same_grows c) k (length c.cells) (omega arith) x t) (λ x t. refl) (cell_at c k)
+    (fits_cell c w.cells k l) in
     subst (λ g. Fits c g) e h

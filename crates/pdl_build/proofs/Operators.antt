@@ -38,8 +38,10 @@ op_bounded s Add a b e p q = record { low = p.low; high = p.high; fits = add_bel
 op_bounded s Sub a b e p q = record { low = p.low; high = p.high; fits = sub_below a.width (a.value s) (b.value s) }
 op_bounded s Mul a b e p q = record { low = p.low; high = p.high; fits = mul_below a.width (a.value s) (b.value s) }
 op_bounded s And a b e p q = record { low = p.low; high = p.high; fits = and_below a.width (a.value s) (b.value s) p.fits }
-op_bounded s Or a b e p q = record { low = p.low; high = p.high; fits = or_below a.width (a.value s) (b.value s) p.fits (as_wide (b.value s) b.width a.width (sym e) q.fits) }
-op_bounded s Xor a b e p q = record { low = p.low; high = p.high; fits = xor_below a.width (a.value s) (b.value s) p.fits (as_wide (b.value s) b.width a.width (sym e) q.fits) }
+op_bounded s Or a b e p q =
+    record { low = p.low; high = p.high; fits = or_below a.width (a.value s) (b.value s) p.fits (as_wide (b.value s) b.width a.width (sym e) q.fits) }
+op_bounded s Xor a b e p q =
+    record { low = p.low; high = p.high; fits = xor_below a.width (a.value s) (b.value s) p.fits (as_wide (b.value s) b.width a.width (sym e) q.fits) }
 op_bounded s Equal a b e p q = record { low = lit≤ tt; high = lit≤ tt; fits = equal_below (a.value s) (b.value s) }
 op_bounded s Differ a b e p q = record { low = lit≤ tt; high = lit≤ tt; fits = differ_below (a.value s) (b.value s) }
 op_bounded s Less a b e p q = record { low = lit≤ tt; high = lit≤ tt; fits = less_below (a.value s) (b.value s) }

@@ -89,7 +89,8 @@ well_reg c w v h low high fits =
       cells = all_fit_still c d (reg_grows c w v) h refl;
       regs = λ r l. ⊎_elim
           (λ (lt : r < length c.regs). subst W (sym (get_or_append_left c.regs (g ∷ []) no_reg r lt)) (reg_stays c d k (reg_at c r) (h.regs r lt)))
-          (λ (ge : length c.regs ≤ r). let n : length c.regs ≡ r = omega (arith, length-append c.regs (g ∷ [])) in subst W (sym (get_or_push c.regs g no_reg r n)) last)
+          (λ (ge : length c.regs ≤ r). let n : length c.regs ≡ r = omega (arith, length-append c.regs (g ∷ [])) in
+          subst W (sym (get_or_push c.regs g no_reg r n)) last)
           (cases_lt r (length c.regs));
       arrays = λ i l. array_stays c d k (array_at c i) (h.arrays i l);
     }
@@ -166,7 +167,8 @@ well_next c r x h t e w =
     let k = next_keeps c r x h w in
     let W : Reg → Type 0 = λ q. IsWellReg d q in
     let old = w.regs r h in
-    let here : IsWellReg d (next_reg c r x) = record { low = old.low; high = old.high; reset = old.reset; next = (k.nets x t).there; width = ap (λ f. f.width) ((k.nets x t).same) ∙ e } in
+    let here : IsWellReg d (next_reg c r x) =
+    record { low = old.low; high = old.high; reset = old.reset; next = (k.nets x t).there; width = ap (λ f. f.width) ((k.nets x t).same) ∙ e } in
     record {
       ports = λ i p y. port_stays c d k p (w.ports i p y);
       cells = all_fit_still c d (next_grows c r x h) w refl;
@@ -193,7 +195,8 @@ array_grows c n w d =
     record {
       inputs = λ i h. (h, refl);
       regs = λ r h. (h, refl);
-      arrays = λ m h. let e = get_or_append_left c.arrays (a ∷ []) no_array m h in (omega (arith, length-append c.arrays (a ∷ [])), ap (λ (x : Array). x.width) e, ap (λ (x : Array). x.depth) e);
+      arrays = λ m h. let e = get_or_append_left c.arrays (a ∷ []) no_array m h in
+          (omega (arith, length-append c.arrays (a ∷ [])), ap (λ (x : Array). x.width) e, ap (λ (x : Array). x.depth) e);
       more = [];
       cells = sym (append-nil c.cells);
     }
@@ -209,7 +212,9 @@ array_parts c n w d =
 -- a well formed circuit is extended by an array more
 pub extends_array : (c : Circuit) (n : List ℕ) (w d : ℕ) → IsWell c → ExtendsArrays c (with_array c n w d) (new_shape n w d ∷ [])
 unfolding shapes_of
-extends_array c n w d h = extends_arrays_kept c (with_array c n w d) (new_shape n w d ∷ []) (array_keeps c n w d h) h (array_parts c n w d) refl (map-append shape_of c.arrays (new_array n w d ∷ []))
+extends_array c n w d h =
+    extends_arrays_kept c (with_array c n w d) (new_shape n w d ∷ [])
+    (array_keeps c n w d h) h (array_parts c n w d) refl (map-append shape_of c.arrays (new_array n w d ∷ []))
 
 -- with an array more, what is known of inputs and cells stays true
 pub extents_array : (c : Circuit) (n : List ℕ) (w d : ℕ) (ins : List ℕ) (ns : List Extent) → IsWell c
@@ -243,7 +248,8 @@ well_array c n w d h low high is =
       regs = λ r l. reg_stays c b k (reg_at c r) (h.regs r l);
       arrays = λ m l. ⊎_elim
           (λ (lt : m < length c.arrays). subst W (sym (get_or_append_left c.arrays (a ∷ []) no_array m lt)) (array_stays c b k (array_at c m) (h.arrays m lt)))
-          (λ (ge : length c.arrays ≤ m). let e : length c.arrays ≡ m = omega (arith, length-append c.arrays (a ∷ [])) in subst W (sym (get_or_push c.arrays a no_array m e)) last)
+          (λ (ge : length c.arrays ≤ m). let e : length c.arrays ≡ m = omega (arith, length-append c.arrays (a ∷ [])) in
+          subst W (sym (get_or_push c.arrays a no_array m e)) last)
           (cases_lt m (length c.arrays));
     }
 
@@ -266,7 +272,8 @@ write_grows : (c : Circuit) (m : ℕ) (p : WritePort) → m < length c.arrays �
 write_grows c m p h = record {
   inputs = λ i l. (l, refl);
   regs = λ r l. (l, refl);
-  arrays = λ q l. let e = write_width c m q p h in (omega (arith, length-set c.arrays m (written_array c m p)), ap (λ (s : Shape). s.width) e, ap (λ (s : Shape). s.depth) e);
+  arrays = λ q l. let e = write_width c m q p h in
+      (omega (arith, length-set c.arrays m (written_array c m p)), ap (λ (s : Shape). s.width) e, ap (λ (s : Shape). s.depth) e);
   more = [];
   cells = sym (append-nil c.cells);
 }
@@ -275,7 +282,8 @@ write_keeps : (c : Circuit) (m : ℕ) (p : WritePort) → m < length c.arrays �
 write_keeps c m p h w = keeps_nets_grown c (with_write c m p) (write_grows c m p h) w.cells
 
 write_shapes : (c : Circuit) (m : ℕ) (p : WritePort) → m < length c.arrays → map shape_of (with_write c m p).arrays ≡ map shape_of c.arrays
-write_shapes c m p h = map-set_same shape_of c.arrays m (written_array c m p) (array_at c m) (ap shape_of (sym (get_or_default c.arrays m (array_at c m) no_array h)))
+write_shapes c m p h =
+    map-set_same shape_of c.arrays m (written_array c m p) (array_at c m) (ap shape_of (sym (get_or_default c.arrays m (array_at c m) no_array h)))
 
 -- an array has a write port more, and nothing else of a well formed circuit changes
 pub extends_write : (c : Circuit) (m : ℕ) (p : WritePort) → HasArray c m → IsWell c → ExtendsBut (one_array m) c (with_write c m p)
@@ -295,7 +303,8 @@ extends_write c m p h w =
       nexts = λ r l u. (k.nets (reg_at c r).next ((w.regs r l).next)).same;
       writes = λ q l u.
           let n : q ≢ m = λ e. ⊎_elim (λ (a : q < m). absurd (omega arith)) (λ (b : m + 1 ≤ q). absurd (omega arith)) u in
-          ap (λ (g : Array). map (write_signal d) g.writes) (write_there c m q p n) ∙ writes_stay c d k (array_at c q) (array_at c q).writes ((w.arrays q l).writes);
+          ap (λ (g : Array). map (write_signal d) g.writes) (write_there c m q p n)
+          ∙ writes_stay c d k (array_at c q) (array_at c q).writes ((w.arrays q l).writes);
       ports = refl;
       shapes = write_shapes c m p h;
     }
@@ -362,7 +371,8 @@ pub write_same : (c : Circuit) (m : ℕ) (p : WritePort) (a : Array) → HasArra
     → a ≡ get_or c.arrays m a
     → record c { arrays = set c.arrays m (record a { writes = a.writes ++ p ∷ [] }) } ≡ with_write c m p
 unfolding HasArray
-write_same c m p a h e = ap (λ (q : Array). record c { arrays = set c.arrays m (record q { writes = q.writes ++ p ∷ [] }) }) (e ∙ get_or_default c.arrays m a no_array h)
+write_same c m p a h e =
+    ap (λ (q : Array). record c { arrays = set c.arrays m (record q { writes = q.writes ++ p ∷ [] }) }) (e ∙ get_or_default c.arrays m a no_array h)
 
 -- the number of a register that is there is below their count
 pub has_reg_below : (c : Circuit) (r : ℕ) → HasReg c r → r < length c.regs

@@ -66,7 +66,8 @@ module _ (op : BinOp) (a b : Signal) where
       ap (λ (v : Value). record { width = a.width; value = v }) (fun_ext (λ s. sym (g s).1))
       ∙ ap (λ (m : ℕ). record { width = m; value = bin_value op a.width a.value b.value }) (sym n)
 
-  pub number_same : (w n : ℕ) → w ≡ bin_width op a.width → ((s : State) → Gives (Number n) op a.width (a.value s) (b.value s)) → const_signal w n ≡ bin_signal op a b
+  pub number_same : (w n : ℕ) → w ≡ bin_width op a.width
+      → ((s : State) → Gives (Number n) op a.width (a.value s) (b.value s)) → const_signal w n ≡ bin_signal op a b
   unfolding bin_value const_value
   number_same w n e g =
       ap (λ (v : Value). record { width = w; value = v }) (fun_ext (λ s. sym (g s).1))
@@ -109,7 +110,9 @@ unfolding mux_value const_value
 choice_same c a b n m below e f =
     let P : ℕ → Type 0 = λ k. (s : State) → c.value s < 2 ^ k in
     let two = subst P n below in
-    let v : c.value ≡ mux_value c.value a.value b.value = fun_ext (λ s. sym (mux_one (c.value s) (two s))) ∙ ap (λ (u : Value). mux_value c.value u (const_value 0)) (sym e) ∙ ap (mux_value c.value a.value) (sym f) in
+    let v : c.value ≡ mux_value c.value a.value b.value =
+    fun_ext (λ s. sym (mux_one (c.value s) (two s)))
+    ∙ ap (λ (u : Value). mux_value c.value u (const_value 0)) (sym e) ∙ ap (mux_value c.value a.value) (sym f) in
     ap (λ (u : Value). record { width = c.width; value = u }) v
     ∙ ap (λ (k : ℕ). record { width = k; value = mux_value c.value a.value b.value }) (n ∙ sym m)
 
@@ -121,7 +124,9 @@ unfolding mux_value const_value not_value
 choice_other c a b n m below e f =
     let P : ℕ → Type 0 = λ k. (s : State) → c.value s < 2 ^ k in
     let two = subst P n below in
-    let v : not_value c.width c.value ≡ mux_value c.value a.value b.value = ap (λ k. not_value k c.value) n ∙ fun_ext (λ s. sym (mux_other (c.value s) (two s))) ∙ ap (λ (u : Value). mux_value c.value u (const_value 1)) (sym e) ∙ ap (mux_value c.value a.value) (sym f) in
+    let v : not_value c.width c.value ≡ mux_value c.value a.value b.value =
+    ap (λ k. not_value k c.value) n ∙ fun_ext (λ s. sym (mux_other (c.value s) (two s)))
+    ∙ ap (λ (u : Value). mux_value c.value u (const_value 1)) (sym e) ∙ ap (mux_value c.value a.value) (sym f) in
     ap (λ (u : Value). record { width = c.width; value = u }) v
     ∙ ap (λ (k : ℕ). record { width = k; value = mux_value c.value a.value b.value }) (n ∙ sym m)
 
@@ -133,7 +138,8 @@ choice_turned c x a b e n below w =
     let one : x.width ≡ 1 = sym (ap (λ (f : Signal). f.width) e) ∙ n in
     let P : ℕ → Type 0 = λ k. (s : State) → x.value s < 2 ^ k in
     let two = subst P one below in
-    let v : mux_value x.value b.value a.value ≡ mux_value (not_value x.width x.value) a.value b.value = fun_ext (λ s. mux_turned (x.value s) (a.value s) (b.value s) (two s)) ∙ ap (λ k. mux_value (not_value k x.value) a.value b.value) (sym one) in
+    let v : mux_value x.value b.value a.value ≡ mux_value (not_value x.width x.value) a.value b.value =
+    fun_ext (λ s. mux_turned (x.value s) (a.value s) (b.value s) (two s)) ∙ ap (λ k. mux_value (not_value k x.value) a.value b.value) (sym one) in
     ap (λ (u : Value). record { width = b.width; value = u }) v
     ∙ ap (λ (k : ℕ). record { width = k; value = mux_value (not_value x.width x.value) a.value b.value }) (sym w)
     ∙ ap (λ (f : Signal). mux_signal f a b) (sym e)
@@ -145,7 +151,9 @@ pub whole_same : (a : Signal) (high low : ℕ) → low ≡ 0 → high ≡ a.widt
 unfolding slice_value
 whole_same a high low z h l b =
     let n : a.width ≡ high + 1 - low = omega (arith, z, h, l) in
-    ap (λ (v : Value). record { width = a.width; value = v }) (fun_ext (λ s. sym (slice_whole a.width (a.value s) l (b s)) ∙ ap (λ k. words.slice k 0 (a.value s)) (sym h) ∙ ap (λ k. words.slice high k (a.value s)) (sym z)))
+    ap (λ (v : Value). record { width = a.width; value = v })
+    (fun_ext
+    (λ s. sym (slice_whole a.width (a.value s) l (b s)) ∙ ap (λ k. words.slice k 0 (a.value s)) (sym h) ∙ ap (λ k. words.slice high k (a.value s)) (sym z)))
     ∙ ap (λ (k : ℕ). record { width = k; value = slice_value high low a.value }) n
 
 -- a slice of a slice is one slice of what that was taken from

@@ -85,7 +85,8 @@ cell_below c v ins ns x k h e f t b =
 
 -- a state in which all is 0
 abbrev pub nothing : Circuit → State
-nothing c = record { inputs = map (λ (w : ℕ). zero) (inputs_of c); regs = map (λ (r : Reg). zero) c.regs; arrays = map (λ (a : Array). replicate a.depth 0) c.arrays }
+nothing c =
+    record { inputs = map (λ (w : ℕ). zero) (inputs_of c); regs = map (λ (r : Reg). zero) c.regs; arrays = map (λ (a : Array). replicate a.depth 0) c.arrays }
 
 zero_fits : (v w : ℕ) → v ≡ 0 → v < 2 ^ w
 zero_fits v w e = omega (arith, e, pow_pos w)
@@ -101,7 +102,9 @@ nothing_suits c =
       regs = λ r h. zero_fits (slice_index (nothing c).regs r) (reg_at c r).width (get_or-map (λ (g : Reg). zero) c.regs r no_reg 0 h);
       array_count = length-map c.arrays (λ (a : Array). replicate a.depth 0);
       depth = λ m h. ap length (at m h) ∙ length-replicate {A = ℕ} (array_at c m).depth 0;
-      words = λ m h a. zero_fits (slice_index (slice_index_or (nothing c).arrays m []) a) (array_at c m).width (ap (λ l. get_or l a 0) (at m h) ∙ zeros_at (array_at c m).depth a);
+      words =
+          λ m h a. zero_fits (slice_index (slice_index_or (nothing c).arrays m []) a)
+          (array_at c m).width (ap (λ l. get_or l a 0) (at m h) ∙ zeros_at (array_at c m).depth a);
     }
 
 -- each net has 1 to 64 bits

@@ -19,7 +19,8 @@ tested true false n m h c e = absurd (cc e)
 tested false b n m h c e = absurd (cc e)
 
 number_small : (digits most : ℕ) (t : List ℕ) (c : ℕ) → number_of digits most t ≡ Some c → c ≤ most
-number_small digits most t c e = tested (is_numeral_of digits t) (nat_le (digits_value 10 t) most) (digits_value 10 t) most (leb-true (digits_value 10 t) most) c e
+number_small digits most t c e =
+    tested (is_numeral_of digits t) (nat_le (digits_value 10 t) most) (digits_value 10 t) most (leb-true (digits_value 10 t) most) c e
 
 few_same : (a c : Command) → IsFew a → Some a ≡ Some c → IsFew c
 few_same a c h e = let same : a ≡ c = cc e in subst IsFew same h
@@ -117,7 +118,8 @@ of_found (Some f) c e =
     (of_if (bytes_eq f.0 (codes "seq")) (seq_of source image threads) assembled c (of_seq source image threads c)
     (of_if (bytes_eq f.0 (codes "asm")) (asm_of table text) generated c (of_asm table text c)
     (of_if (bytes_eq f.0 (codes "gen")) (gen_of number) viewed c (of_gen number c)
-    (of_if (bytes_eq f.0 (codes "view")) (view_of source image cycles delays) (netlist_command_of f) c (of_view source image cycles delays c) (of_netlist f c)))))) e
+    (of_if (bytes_eq f.0 (codes "view")) (view_of source image cycles delays)
+    (netlist_command_of f) c (of_view source image cycles delays c) (of_netlist f c)))))) e
 
 of_taken : (kinds : Kinds) (found : Option (Text × List Row)) (c : Command) → where_taken kinds found ≡ Some c → IsFew c
 of_taken [] found c e = of_found found c e

@@ -83,7 +83,8 @@ pub table_right : (held : Held) (table : List ℕ) (rule : Rule) (insn : ℕ) (v
     → IsTabled (Some held) table v → IsWrongTable (Some held) table rule insn → ⊥
 table_right held table rule insn v a w =
     let t : w.table_text ≡ a.table_text = one_text held table w.table_text a.table_text w.table_given a.table_given in
-    let k : documents.table a.table_text ≡ Err (table_error.Refused rule insn) = subst (λ (x : List ℕ). documents.table x ≡ Err (table_error.Refused rule insn)) t w.refused in
+    let k : documents.table a.table_text ≡ Err (table_error.Refused rule insn) =
+    subst (λ (x : List ℕ). documents.table x ≡ Err (table_error.Refused rule insn)) t w.refused in
     let l : documents.table a.table_text ≡ Ok v = a.taken in absurd cc
 
 program_right : (held : Held) (table program text : List ℕ) (rule : Rule) (line : ℕ)
@@ -115,7 +116,8 @@ run_right held source image' delays cycles schedule rule line p words l a (inr w
     let b : w.loaded.source_text ≡ l.source_text = one_text held source w.loaded.source_text l.source_text w.loaded.source_given l.source_given in
     let t : IsText l.source_text w.pipe = subst (λ (s : List ℕ). IsText s w.pipe) b w.loaded.accepted.text in
     let q : w.pipe ≡ p = one_tree l.source_text w.pipe p t l.accepted.text in
-    replies_right held delays (delayed_count (flat p)) cycles schedule rule line a (subst (λ (o : Pipe). DelaysRefused (Some held) delays (delayed_count (flat o)) rule line) q w.refused)
+    replies_right held delays (delayed_count (flat p)) cycles schedule rule line a
+    (subst (λ (o : Pipe). DelaysRefused (Some held) delays (delayed_count (flat o)) rule line) q w.refused)
 
 -- a file holds one netlist
 pub one_held : (held : Held) (v : List ℕ) (n m : Netlist) → HoldsNetlist (Some held) v n → HoldsNetlist (Some held) v m → n ≡ m
@@ -147,14 +149,16 @@ sim_right held v image' cycles delays text rule line s (inl w) = netlist_right h
 sim_right held v image' cycles delays text rule line s (inr (inl w)) = start_right held v image' s.netlist s.words rule line s.started w
 sim_right held v image' cycles delays text rule line s (inr (inr w)) =
     let n : w.netlist ≡ s.netlist = one_held held v w.netlist s.netlist w.started.held s.started.held in
-    replies_right held delays (length (delayed_mems s.netlist)) cycles s.schedule rule line s.replies (subst (λ (k : Netlist). DelaysRefused (Some held) delays (length (delayed_mems k)) rule line) n w.refused)
+    replies_right held delays (length (delayed_mems s.netlist)) cycles s.schedule rule line s.replies
+    (subst (λ (k : Netlist). DelaysRefused (Some held) delays (length (delayed_mems k)) rule line) n w.refused)
 
 -- a command that writes its text has no wrong file
 exclusive_told : (held : Held) (command : Command) (text : List ℕ) (rule : Rule) (position : Position)
     → Writes (Some held) command text → IsWrongFor (Some held) command rule position → ⊥
 exclusive_told held (check source) text rule (Line n) o w = source_right held source rule n o.source_text o.pipe o.source_given o.accepted w
 exclusive_told held (check source) text rule (Insn n) o w = w
-exclusive_told held (run source image' cycles delays) text rule (Line n) o w = run_right held source image' delays cycles o.schedule rule n o.pipe o.words o.loaded o.replies w
+exclusive_told held (run source image' cycles delays) text rule (Line n) o w =
+    run_right held source image' delays cycles o.schedule rule n o.pipe o.words o.loaded o.replies w
 exclusive_told held (run source image' cycles delays) text rule (Insn n) o w = w
 exclusive_told held (seq source image' threads) text rule (Line n) o w = none_wrong held source image' rule n o.pipe o.words o.loaded w
 exclusive_told held (seq source image' threads) text rule (Insn n) o w = w
@@ -164,9 +168,11 @@ exclusive_told held (build source) text rule (Line n) o w = source_right held so
 exclusive_told held (build source) text rule (Insn n) o w = w
 exclusive_told held (sim v image' cycles delays) text rule (Line n) o w = sim_right held v image' cycles delays text rule n o w
 exclusive_told held (sim v image' cycles delays) text rule (Insn n) o w = w
-exclusive_told held (wave source image' cycles delays) text rule (Line n) o w = run_right held source image' delays cycles o.schedule rule n o.pipe o.words o.loaded o.replies w
+exclusive_told held (wave source image' cycles delays) text rule (Line n) o w =
+    run_right held source image' delays cycles o.schedule rule n o.pipe o.words o.loaded o.replies w
 exclusive_told held (wave source image' cycles delays) text rule (Insn n) o w = w
-exclusive_told held (view source image' cycles delays) text rule (Line n) o w = run_right held source image' delays cycles o.schedule rule n o.pipe o.words o.loaded o.replies w
+exclusive_told held (view source image' cycles delays) text rule (Line n) o w =
+    run_right held source image' delays cycles o.schedule rule n o.pipe o.words o.loaded o.replies w
 exclusive_told held (view source image' cycles delays) text rule (Insn n) o w = w
 exclusive_told held (asm table program) text rule (Line n) o (inl w) = w
 exclusive_told held (asm table program) text rule (Line n) o (inr w) = program_right held table program text rule n o w
@@ -175,7 +181,8 @@ exclusive_told held (asm table program) text rule (Insn n) o (inr w) = w
 
 exclusive : (holds : Option Held) (held : Held) (command : Command) (text : List ℕ) (rule : Rule) (position : Position)
     → holds ≡ Some held → Writes holds command text → IsWrongFor (Some held) command rule position → ⊥
-exclusive holds held command text rule position h o w = exclusive_told held command text rule position (subst (λ (k : Option Held). Writes k command text) h o) w
+exclusive holds held command text rule position h o w =
+    exclusive_told held command text rule position (subst (λ (k : Option Held). Writes k command text) h o) w
 
 of_command : (command : Command) (s : Seen) (o : Result (Unit {0}) Failure) → Explains (Some command) s o
     → IsDecided command s (status_of o)

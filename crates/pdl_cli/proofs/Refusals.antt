@@ -88,9 +88,12 @@ wrong_delays : (held : Held) (source image' : List ℕ) (delays : Option (List �
     → IsWrongDelays (Some held) source image' delays r n → IsWrongDelays (Some held) source image' delays s m
     → (r ≡ s) × (n ≡ m)
 wrong_delays held source image' delays r s n m v w =
-    let b : v.loaded.source_text ≡ w.loaded.source_text = one_text held source v.loaded.source_text w.loaded.source_text v.loaded.source_given w.loaded.source_given in
-    let q : v.pipe ≡ w.pipe = one_tree w.loaded.source_text v.pipe w.pipe (subst (λ (x : List ℕ). IsText x v.pipe) b v.loaded.accepted.text) w.loaded.accepted.text in
-    one_delays held delays (delayed_count (flat w.pipe)) r s n m (subst (λ (p : Pipe). DelaysRefused (Some held) delays (delayed_count (flat p)) r n) q v.refused) w.refused
+    let b : v.loaded.source_text ≡ w.loaded.source_text =
+    one_text held source v.loaded.source_text w.loaded.source_text v.loaded.source_given w.loaded.source_given in
+    let q : v.pipe ≡ w.pipe =
+    one_tree w.loaded.source_text v.pipe w.pipe (subst (λ (x : List ℕ). IsText x v.pipe) b v.loaded.accepted.text) w.loaded.accepted.text in
+    one_delays held delays (delayed_count (flat w.pipe)) r s n m
+    (subst (λ (p : Pipe). DelaysRefused (Some held) delays (delayed_count (flat p)) r n) q v.refused) w.refused
 
 wrong_replies : (held : Held) (source image' : List ℕ) (delays : Option (List ℕ)) (r s : Rule) (n m : ℕ)
     → IsWrongRun (Some held) source image' delays r n → IsWrongRun (Some held) source image' delays s m
@@ -104,7 +107,8 @@ wrong_table : (held : Held) (table : List ℕ) (r s : Rule) (n m : ℕ) → IsWr
     → IsWrongTable (Some held) table s m → (r ≡ s) × (n ≡ m)
 wrong_table held table r s n m v w =
     let t : v.table_text ≡ w.table_text = one_text held table v.table_text w.table_text v.table_given w.table_given in
-    let k : documents.table w.table_text ≡ Err (table_error.Refused r n) = subst (λ (x : List ℕ). documents.table x ≡ Err (table_error.Refused r n)) t v.refused in
+    let k : documents.table w.table_text ≡ Err (table_error.Refused r n) =
+    subst (λ (x : List ℕ). documents.table x ≡ Err (table_error.Refused r n)) t v.refused in
     let l : documents.table w.table_text ≡ Err (table_error.Refused s m) = w.refused in
     (cc, cc)
 
@@ -141,7 +145,8 @@ wrong_sim_replies : (held : Held) (v image' : List ℕ) (delays : Option (List �
     → (r ≡ s) × (n ≡ m)
 wrong_sim_replies held v image' delays r s n m a b =
     let q : a.netlist ≡ b.netlist = one_held held v a.netlist b.netlist a.started.held b.started.held in
-    one_delays held delays (length (delayed_mems b.netlist)) r s n m (subst (λ (x : Netlist). DelaysRefused (Some held) delays (length (delayed_mems x)) r n) q a.refused) b.refused
+    one_delays held delays (length (delayed_mems b.netlist)) r s n m
+    (subst (λ (x : Netlist). DelaysRefused (Some held) delays (length (delayed_mems x)) r n) q a.refused) b.refused
 
 wrong_sim : (held : Held) (v image' : List ℕ) (delays : Option (List ℕ)) (r s : Rule) (n m : ℕ)
     → IsWrongSim (Some held) v image' delays r n → IsWrongSim (Some held) v image' delays s m → (r ≡ s) × (n ≡ m)
@@ -192,10 +197,12 @@ one_refusal held (sim netlist image' cycles delays) r s (Line n) (Insn m) v w = 
 one_refusal held (sim netlist image' cycles delays) r s (Line n) (Line m) v w = let h = wrong_sim held netlist image' delays r s n m v w in (h.0, ap Line h.1)
 one_refusal held (wave source image' cycles delays) r s (Insn n) q v w = absurd v
 one_refusal held (wave source image' cycles delays) r s (Line n) (Insn m) v w = absurd w
-one_refusal held (wave source image' cycles delays) r s (Line n) (Line m) v w = let h = wrong_replies held source image' delays r s n m v w in (h.0, ap Line h.1)
+one_refusal held (wave source image' cycles delays) r s (Line n) (Line m) v w = let h = wrong_replies held source image' delays r s n m v w in
+    (h.0, ap Line h.1)
 one_refusal held (view source image' cycles delays) r s (Insn n) q v w = absurd v
 one_refusal held (view source image' cycles delays) r s (Line n) (Insn m) v w = absurd w
-one_refusal held (view source image' cycles delays) r s (Line n) (Line m) v w = let h = wrong_replies held source image' delays r s n m v w in (h.0, ap Line h.1)
+one_refusal held (view source image' cycles delays) r s (Line n) (Line m) v w = let h = wrong_replies held source image' delays r s n m v w in
+    (h.0, ap Line h.1)
 one_refusal held (gen number) r s (Insn n) q v w = absurd v
 one_refusal held (gen number) r s (Line n) (Insn m) v w = absurd w
 one_refusal held (gen number) r s (Line n) (Line m) v w = let h = source_one (source number) r s n m v w in (h.0, ap Line h.1)

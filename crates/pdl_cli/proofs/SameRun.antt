@@ -66,7 +66,8 @@ refused_from p (Err g) f e = let k : g ≡ f = cc e in ap (λ x. Err x) k
 
 -- ---- what is built
 
-module _ (held : Held) (source v image' text : List ℕ) (cycles : ℕ) (delays : Option (List ℕ)) (b : IsBuilt (Some held) source text) (given : Gives (Some held) v text) where
+module _ (held : Held) (source v image' text : List ℕ) (cycles : ℕ) (delays : Option (List ℕ))
+    (b : IsBuilt (Some held) source text) (given : Gives (Some held) v text) where
   has_netlist : HoldsNetlist (Some held) v b.netlist
   has_netlist = record { netlist_text = text; netlist_given = given; read = b.read }
 
@@ -77,7 +78,8 @@ module _ (held : Held) (source v image' text : List ℕ) (cycles : ℕ) (delays 
   count = delayed_as_many b.pipe b.netlist b.follows
 
   fits : (image_text : List ℕ) (words : List (List ℕ)) → image b.netlist.mems image_text ≡ Ok words → IsImage b.netlist.mems words
-  fits image_text words e = taken_image b.netlist.mems image_text words (after_header (image_lines.lines image_text)) (read_names text (Ok b.netlist) b.read) e refl
+  fits image_text words e =
+      taken_image b.netlist.mems image_text words (after_header (image_lines.lines image_text)) (read_names text (Ok b.netlist) b.read) e refl
 
   one_pipe : (source_text : List ℕ) (p : Pipe) → Gives (Some held) source source_text → IsText source_text p → p ≡ b.pipe
   one_pipe source_text p g t =
@@ -124,7 +126,8 @@ module _ (held : Held) (source v image' text : List ℕ) (cycles : ℕ) (delays 
       }
 
   -- what an image that `run` takes is for `sim`
-  taken_for : (p : Pipe) (words : List (List ℕ)) → p ≡ b.pipe → (l : IsLoaded (Some held) source image' p words) → (start : List (List ℕ)) × IsStarted (Some held) v image' b.netlist start × (in_order (flat b.pipe) start ≡ words)
+  taken_for : (p : Pipe) (words : List (List ℕ)) → p ≡ b.pipe → (l : IsLoaded (Some held) source image' p words)
+      → (start : List (List ℕ)) × IsStarted (Some held) v image' b.netlist start × (in_order (flat b.pipe) start ≡ words)
   taken_for p words q l =
       let taken : image (infos_of b.pipe.mems) l.image_text ≡ Ok words = subst (λ (x : Pipe). image (infos_of x.mems) l.image_text ≡ Ok words) q l.taken in
       let k = taken_from (flat b.pipe) (image b.netlist.mems l.image_text) words (sym (same_images l.image_text) ∙ taken) in
@@ -135,7 +138,8 @@ module _ (held : Held) (source v image' text : List ℕ) (cycles : ℕ) (delays 
       let q : o.pipe ≡ b.pipe = one_pipe o.loaded.source_text o.pipe o.loaded.source_given o.loaded.accepted.text in
       let k = taken_for o.pipe o.words q o.loaded in
       let replies = subst (λ (x : Pipe). IsSchedule (Some held) delays (delayed_count (flat x)) cycles o.schedule) q o.replies in
-      let lines : t ≡ run_lines b.pipe o.words (replies_in (flat b.pipe) o.schedule) = subst (λ (x : Pipe). t ≡ run_lines x o.words (replies_in (flat x) o.schedule)) q o.lines in
+      let lines : t ≡ run_lines b.pipe o.words (replies_in (flat b.pipe) o.schedule) =
+      subst (λ (x : Pipe). t ≡ run_lines x o.words (replies_in (flat x) o.schedule)) q o.lines in
       let fit = fits k.1.image_text k.0 k.1.taken in
       record {
         netlist = b.netlist;
@@ -158,7 +162,8 @@ module _ (held : Held) (source v image' text : List ℕ) (cycles : ℕ) (delays 
         image_given = w.image_given;
         refused =
             same_images w.image_text
-            ∙ ap (taken_in_order (flat b.pipe)) (subst (λ (x : Netlist). image x.mems w.image_text ≡ Err (file.Refused rule line)) (netlist_is w.netlist w.held) w.refused);
+            ∙ ap (taken_in_order (flat b.pipe))
+            (subst (λ (x : Netlist). image x.mems w.image_text ≡ Err (file.Refused rule line)) (netlist_is w.netlist w.held) w.refused);
       }))
   run_wrong rule line (inr (inr w)) =
       let n = netlist_is w.netlist w.started.held in
@@ -174,7 +179,8 @@ module _ (held : Held) (source v image' text : List ℕ) (cycles : ℕ) (delays 
   sim_wrong rule line (inl (inl w)) = absurd (source_right held source rule line b.source_text b.pipe b.source_given b.accepted w)
   sim_wrong rule line (inl (inr w)) =
       let q : w.pipe ≡ b.pipe = one_pipe w.source_text w.pipe w.source_given w.accepted.text in
-      let refused : image (infos_of b.pipe.mems) w.image_text ≡ Err (file.Refused rule line) = subst (λ (p : Pipe). image (infos_of p.mems) w.image_text ≡ Err (file.Refused rule line)) q w.refused in
+      let refused : image (infos_of b.pipe.mems) w.image_text ≡ Err (file.Refused rule line) =
+      subst (λ (p : Pipe). image (infos_of p.mems) w.image_text ≡ Err (file.Refused rule line)) q w.refused in
       inr (inl (record {
         netlist = b.netlist;
         held = has_netlist;
@@ -195,7 +201,8 @@ module _ (held : Held) (source v image' text : List ℕ) (cycles : ℕ) (delays 
 same_refusals : (held : Held) (source netlist image' text : List ℕ) (cycles : ℕ) (delays : Option (List ℕ))
     → IsBuilt (Some held) source text → Gives (Some held) netlist text → (rule : Rule) (position : Position)
     → IsWrongFor (Some held) (sim netlist image' cycles delays) rule position ↔ IsWrongFor (Some held) (run source image' cycles delays) rule position
-same_refusals held source netlist image' text cycles delays b given rule (Line n) = (run_wrong held source netlist image' text cycles delays b given rule n, sim_wrong held source netlist image' text cycles delays b given rule n)
+same_refusals held source netlist image' text cycles delays b given rule (Line n) =
+    (run_wrong held source netlist image' text cycles delays b given rule n, sim_wrong held source netlist image' text cycles delays b given rule n)
 same_refusals held source netlist image' text cycles delays b given rule (Insn n) = (λ w. w, λ w. w)
 
 -- `sim` of what is built does what `run` of the source does

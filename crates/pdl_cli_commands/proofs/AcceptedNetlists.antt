@@ -74,7 +74,8 @@ module _ (b : List ℕ) (p : Pipe) (n : Netlist) (accepted : IsAccepted b p) (fo
   writes = refines p (keeps_rules b p accepted) (source_of b p accepted.text) (named_of b p accepted.text) n follows
 
   pub promised : (start : List (List ℕ)) (schedule : List ℕ) → IsImage n.mems start → IsRunOf p n start schedule
-  promised start schedule is_image = runs p (keeps_rules b p accepted) (source_of b p accepted.text) (named_of b p accepted.text) n follows start schedule is_image
+  promised start schedule is_image =
+      runs p (keeps_rules b p accepted) (source_of b p accepted.text) (named_of b p accepted.text) n follows start schedule is_image
 
   -- an image file gives the pipe's memories what it gives the netlist's
   pub images : (file : List ℕ) → image (infos_of p.mems) file ≡ taken_in_order (flat p) (image n.mems file)
@@ -82,7 +83,8 @@ module _ (b : List ℕ) (p : Pipe) (n : Netlist) (accepted : IsAccepted b p) (fo
 
 -- ---- what a command writes of a source that is given
 
-module _ (holds : Option Held) (source b : List ℕ) (p : Pipe) (n : Netlist) (given : Gives holds source b) (accepted : IsAccepted b p) (follows : Follows p n) where
+module _ (holds : Option Held) (source b : List ℕ) (p : Pipe) (n : Netlist) (given : Gives holds source b)
+    (accepted : IsAccepted b p) (follows : Follows p n) where
   -- what the netlist's run starts from is what the source's does
   module _ (image' : List ℕ) (words : List (List ℕ)) (file : List ℕ) (file_given : Gives holds image' file) (taken : image n.mems file ≡ Ok words) where
     pub loaded : IsLoaded holds source image' p (in_order (flat p) words)
@@ -95,7 +97,8 @@ module _ (holds : Option Held) (source b : List ℕ) (p : Pipe) (n : Netlist) (g
       taken = images b p n accepted follows file ∙ ap (taken_in_order (flat p)) taken;
     }
 
-  module _ (image' : List ℕ) (delays : Option (List ℕ)) (words : List (List ℕ)) (rows : List ℕ) (begun : IsBegun holds image' delays n.mems (length (delayed_mems n)) words rows) (cycles : ℕ) where
+  module _ (image' : List ℕ) (delays : Option (List ℕ)) (words : List (List ℕ)) (rows : List ℕ)
+      (begun : IsBegun holds image' delays n.mems (length (delayed_mems n)) words rows) (cycles : ℕ) where
     replies : IsSchedule holds delays (delayed_count (flat p)) cycles (schedule rows cycles)
     replies = subst (λ k. IsSchedule holds delays k cycles (schedule rows cycles)) (delayed_as_many p n follows) (begun.replies cycles)
 
@@ -134,7 +137,9 @@ module _ (holds : Option Held) (source b : List ℕ) (p : Pipe) (n : Netlist) (g
       start = words;
       started = record { fits = begun.fits; ordered = refl };
       dumped = refl;
-      says = says b p n accepted.text (keeps_rules b p accepted) follows words (schedule rows cycles) begun.fits (let k = schedule_length rows 1 cycles in omega (arith, k, few));
+      says =
+          says b p n accepted.text (keeps_rules b p accepted) follows words (schedule rows cycles) begun.fits
+          (let k = schedule_length rows 1 cycles in omega (arith, k, few));
     }
 
   -- its text is what is built of the source

@@ -101,7 +101,8 @@ pub start_fails : (holds : Option Held) (before now : ℕ) (v image' : List ℕ)
     → Fails holds before now (sim v image' cycles delays) f
 start_fails holds before now v image' cycles delays n held Usage (inl w) = w
 start_fails holds before now v image' cycles delays n held Usage (inr w) = w.4
-start_fails holds before now v image' cycles delays n held (Refused rule (Line k)) (inl w) = inr (inl (record { netlist = n; held = held; image_text = w.0; image_given = w.1; refused = w.2 }))
+start_fails holds before now v image' cycles delays n held (Refused rule (Line k)) (inl w) =
+    inr (inl (record { netlist = n; held = held; image_text = w.0; image_given = w.1; refused = w.2 }))
 start_fails holds before now v image' cycles delays n held (Refused rule (Line k)) (inr w) =
     inr (inr (record { netlist = n; words = w.1; started = record { held = held; image_text = w.0; image_given = w.2; taken = w.3 }; refused = w.4 }))
 start_fails holds before now v image' cycles delays n held (Refused rule (Insn k)) (inl w) = absurd w
@@ -113,7 +114,8 @@ start_fails holds before now v image' cycles delays n held WriteFault (inr w) = 
 start_fails holds before now v image' cycles delays n held NoMemory w = tt
 
 -- of a netlist that follows a source
-module _ (holds : Option Held) (before now : ℕ) (source b image' : List ℕ) (delays : Option (List ℕ)) (p : Pipe) (n : Netlist) (given : Gives holds source b) (accepted : IsAccepted b p) (follows : Follows p n)
+module _ (holds : Option Held) (before now : ℕ) (source b image' : List ℕ) (delays : Option (List ℕ)) (p : Pipe)
+    (n : Netlist) (given : Gives holds source b) (accepted : IsAccepted b p) (follows : Follows p n)
     (command : Command) (wrong : (rule : Rule) (line : ℕ) → IsWrongRun holds source image' delays rule line → IsWrongFor holds command rule (Line line)) where
   pub source_start_fails : (f : Failure) → StartFails holds before now image' delays n.mems (length (delayed_mems n)) f → Fails holds before now command f
   source_start_fails Usage (inl w) = w
@@ -144,13 +146,17 @@ module _ (holds : Option Held) (before now : ℕ) (source b image' : List ℕ) (
   source_start_fails NoMemory w = tt
 
 -- of the memories of a source
-module _ (holds : Option Held) (before now : ℕ) (source b image' : List ℕ) (delays : Option (List ℕ)) (p : Pipe) (given : Gives holds source b) (accepted : IsAccepted b p)
+module _ (holds : Option Held) (before now : ℕ) (source b image' : List ℕ) (delays : Option (List ℕ)) (p : Pipe)
+    (given : Gives holds source b) (accepted : IsAccepted b p)
     (command : Command) (wrong : (rule : Rule) (line : ℕ) → IsWrongRun holds source image' delays rule line → IsWrongFor holds command rule (Line line)) where
-  pub pipe_start_fails : (f : Failure) → StartFails holds before now image' delays (infos_of p.mems) (delayed_count (flat p)) f → Fails holds before now command f
+  pub pipe_start_fails : (f : Failure)
+      → StartFails holds before now image' delays (infos_of p.mems) (delayed_count (flat p)) f
+      → Fails holds before now command f
   pipe_start_fails Usage (inl w) = w
   pipe_start_fails Usage (inr w) = w.4
   pipe_start_fails (Refused rule (Line k)) (inl w) =
-      wrong rule k (inl (inr (record { source_text = b; source_given = given; pipe = p; accepted = accepted; image_text = w.0; image_given = w.1; refused = w.2 })))
+      wrong rule k
+      (inl (inr (record { source_text = b; source_given = given; pipe = p; accepted = accepted; image_text = w.0; image_given = w.1; refused = w.2 })))
   pipe_start_fails (Refused rule (Line k)) (inr w) =
       wrong rule k (inr (record {
         pipe = p;
@@ -176,7 +182,9 @@ pub explained_before : {T : Type 0} (holds after : Option Held) (before mid now 
 explained_before holds after before mid now old new writes writes_now command r e h w =
     earlier r (subst (λ (k : Option Held). Explains (Some command) (seen_of k mid now old new writes writes_now) r) e w)
   where
-    earlier : {T : Type 0} (r : Result T Failure) → Explains (Some command) (seen_of holds mid now old new writes writes_now) r → Explains (Some command) (seen_of holds before now old new writes writes_now) r
+    earlier : {T : Type 0} (r : Result T Failure)
+        → Explains (Some command) (seen_of holds mid now old new writes writes_now) r
+        → Explains (Some command) (seen_of holds before now old new writes writes_now) r
     earlier (Ok x) w = w
     earlier (Err Usage) w = w
     earlier (Err (Refused rule position)) w = w
@@ -191,6 +199,7 @@ pub text_explains : {T : Type 0} (command : Command) (s : Seen) (text : Result (
     → IfOk text (λ t. Writes s.holds command t.items) → IfErr text (Fails s.holds s.reads s.reads_now command)
     → IfOk text (λ t. Streamed (λ bytes. bytes ≡ t.items) s.written s.written_now s.writes s.writes_now r)
     → IfErr text (λ f. (r ≡ Err f) × (s.written_now ≡ s.written)) → Explains (Some command) s r
-text_explains command s (Ok t) r is wrong made failed = streamed_explains command s r (λ bytes. bytes ≡ t.items) (λ bytes e. subst (Writes s.holds command) (sym e) is) made
+text_explains command s (Ok t) r is wrong made failed =
+    streamed_explains command s r (λ bytes. bytes ≡ t.items) (λ bytes e. subst (Writes s.holds command) (sym e) is) made
 text_explains {T} command s (Err f) r is wrong made failed =
     subst (λ (x : Result T Failure). Explains (Some command) s x) (sym failed.0) (silent command s f wrong failed.1)

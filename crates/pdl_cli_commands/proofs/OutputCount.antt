@@ -43,6 +43,9 @@ last_two = omega arith
 pub two_outputs : (n : Netlist) → IsPipe n → 2 ≤ output_count n
 two_outputs n p =
     let counted = outputs_counted n.ports ∙ ap (λ hs. length (heads_out hs)) p.ports in
-    let before : List Head = flat_map reply_ports p.delayed ++ flat_map stage_ports (range_with_len 0 p.stages) ++ flat_map commit_ports p.locked ++ flat_map request_ports p.delayed in
-    let there : 2 ≤ length (heads_out (pipe_ports p.stages p.delayed p.locked)) = more_heads before (output (codes "ended") 1 ∷ output (codes "squash") 1 ∷ []) last_two in
+    let before : List Head =
+    flat_map reply_ports p.delayed ++ flat_map stage_ports (range_with_len 0 p.stages)
+    ++ flat_map commit_ports p.locked ++ flat_map request_ports p.delayed in
+    let there : 2 ≤ length (heads_out (pipe_ports p.stages p.delayed p.locked)) =
+    more_heads before (output (codes "ended") 1 ∷ output (codes "squash") 1 ∷ []) last_two in
     omega (arith, counted, there)

@@ -40,7 +40,10 @@ form_short (c ∷ cs) h =
 
 name_short : (t : List ℕ) → is_name t ≡ true → length t ≤ 32
 unfolding is_name
-name_short t h = form_short t (and_parts (has_name_form t) (not (is_statement_keyword t)) (and_parts (has_name_form t && not (is_statement_keyword t)) (not (is_declaration_keyword t)) h).0).0
+name_short t h =
+    form_short t
+    (and_parts (has_name_form t) (not (is_statement_keyword t))
+    (and_parts (has_name_form t && not (is_statement_keyword t)) (not (is_declaration_keyword t)) h).0).0
 
 -- an array's, after `a_`
 abbrev IsShort : List ℕ → Type 0
@@ -83,11 +86,14 @@ all_more P (y ∷ ys) x h p = (h.0, all_more P ys x h.1 p)
 
 -- one port more
 port_more : (d : Draft) (input : Bool) (ts : Row) → is_port (text_at ts 7) ≡ true → AreShort d.file → AreShort (with_port d input ts).file
-port_more d input ts a h = record { arrays = h.arrays; ports = all_more (λ (d : PortDecl). IsInputShort d.name) d.file.ports _ h.ports (port_short (text_at ts 7) a) }
+port_more d input ts a h =
+    record { arrays = h.arrays; ports = all_more (λ (d : PortDecl). IsInputShort d.name) d.file.ports _ h.ports (port_short (text_at ts 7) a) }
 
 taken_short : (d : Draft) (r : VerilogRule) (ts : Row) → AllFit (fields r) ts → AreShort d.file → AreShort (taken d r ts).file
 taken_short d rule.ArrayDeclared ts a h = record {
-  arrays = all_more (λ (d : ArrayDecl). IsShort d.name) d.file.arrays _ h.arrays (array_short (text_at ts 0) (text_fits (fields rule.ArrayDeclared) ts 0 field.ArrayName a refl));
+  arrays =
+      all_more (λ (d : ArrayDecl). IsShort d.name) d.file.arrays _ h.arrays
+      (array_short (text_at ts 0) (text_fits (fields rule.ArrayDeclared) ts 0 field.ArrayName a refl));
   ports = h.ports;
 }
 taken_short d rule.InputPort ts a h = port_more d true ts (text_fits (fields rule.InputPort) ts 7 field.PortName a refl) h
@@ -144,10 +150,16 @@ mems_short bytes n r =
     let p = r.netlist.pipe in
     let file = file_short bytes r.file r.text in
     let w = r.netlist.wiring in
-    let later = flat_map stage_ports (range_with_len 0 p.stages) ++ (flat_map commit_ports p.locked ++ (flat_map request_ports p.delayed ++ (output (codes "ended") 1 ∷ output (codes "squash") 1 ∷ []))) in
+    let later =
+    flat_map stage_ports (range_with_len 0 p.stages)
+    ++ (flat_map commit_ports p.locked ++ (flat_map request_ports p.delayed ++ (output (codes "ended") 1 ∷ output (codes "squash") 1 ∷ []))) in
     let split : pipe_ports p.stages p.delayed p.locked ≡ flat_map reply_ports p.delayed ++ later = simp append_assoc in
-    let ps : AllByRecursion (λ (p : Port). IsInputShort p.name) n.ports = subst (λ (x : Netlist). AllByRecursion (λ (p : Port). IsInputShort p.name) x.ports) (sym r.netlist.same) (port_names w.outputs 0 r.file.ports file.ports) in
-    let xs : AllByRecursion (λ (a : Array). length a.name ≤ 32) n.arrays = subst (λ (x : Netlist). AllByRecursion (λ (a : Array). length a.name ≤ 32) x.arrays) (sym r.netlist.same) (array_names w.blocks 0 r.file.arrays file.arrays) in
+    let ps : AllByRecursion (λ (p : Port). IsInputShort p.name) n.ports =
+    subst (λ (x : Netlist). AllByRecursion (λ (p : Port). IsInputShort p.name) x.ports) (sym r.netlist.same)
+    (port_names w.outputs 0 r.file.ports file.ports) in
+    let xs : AllByRecursion (λ (a : Array). length a.name ≤ 32) n.arrays =
+    subst (λ (x : Netlist). AllByRecursion (λ (a : Array). length a.name ≤ 32) x.arrays) (sym r.netlist.same)
+    (array_names w.blocks 0 r.file.arrays file.arrays) in
     let heads = subst (AllByRecursion (λ (h : Head). IsInputShort h.name)) (p.ports ∙ split) (heads_short n.ports ps) in
     subst (All (λ (m : MemInfo). length m.name ≤ 32)) (sym p.mems)
     (All-append (λ m. length m.name ≤ 32) (map delayed_info p.delayed) (map (told p.locked) n.arrays)

@@ -81,10 +81,12 @@ is_summary p n words start cycles counts line follows filled e said source accep
     let cs = map (cycle_of n) (nports n start all) in
     let many : length cs ≡ cycles = left_length n (begin n start) all ∙ length-replicate cycles 65535 in
     let shown : line ≡ end_of cs =
-    said ∙ ap (line_of cycles) (e ∙ ap (λ bits. counts_of (map (cycle_of n) (nports n start bits))) (none_given cycles)) ∙ ap (λ k. line_of k (counts_of cs)) (sym many) in
+    said ∙ ap (line_of cycles) (e ∙ ap (λ bits. counts_of (map (cycle_of n) (nports n start bits))) (none_given cycles))
+    ∙ ap (λ k. line_of k (counts_of cs)) (sym many) in
     let is_image : IsImage n.mems start = subst (IsImage n.mems) (sym filled) (is_image words n.mems) in
     let ordered : image_of words (infos_of p.mems) ≡ in_order (flat p) start =
-    sym (told_in_order (flat p) p.mems refl (words_in words)) ∙ ap (λ ms. in_order (flat p) (image_of words ms)) (sym follows.mems) ∙ ap (in_order (flat p)) (sym filled) in
+    sym (told_in_order (flat p) p.mems refl (words_in words))
+    ∙ ap (λ ms. in_order (flat p) (image_of words ms)) (sym follows.mems) ∙ ap (in_order (flat p)) (sym filled) in
     let turns = shows_turns p kept (source_of source p accepted.text) (named_of source p accepted.text) n follows in
     record {
       pipe = p;

@@ -64,7 +64,8 @@ prefix_grows old new held cs p arrays k (suc d) n e t =
     let before = prefix_grows old new held cs p arrays k d (d + k) refl t in
     let more : List ℕ = flat_map (write_line cs) (told_writes true p arrays (suc (d + k))) in
     subst (λ i. TakesPrefix old new (held ++ texts cs p arrays i)) last
-    (subst (TakesPrefix old new) (ap (λ l. held ++ l) (sym (texts_next cs p arrays (d + k)))) (prefix_front old new held (texts cs p arrays (d + k)) more before))
+    (subst (TakesPrefix old new) (ap (λ l. held ++ l) (sym (texts_next cs p arrays (d + k))))
+    (prefix_front old new held (texts cs p arrays (d + k)) more before))
 
 module _ (o a b : Option (List ℕ)) (held middle piece front next : List ℕ) (e : front ++ piece ≡ next) (so_far : HasPassed o a (held ++ front) middle) where
   joined : (held ++ front) ++ piece ≡ held ++ next
@@ -82,7 +83,8 @@ module _ (o a b : Option (List ℕ)) (held middle piece front next : List ℕ) (
 pub last_line : (front : List ℕ) (k : ℕ)
     → front ++ (codes "end threads " ++ decimal k ++ codes "\n") ≡ front ++ codes "end threads " ++ decimal k ++ codes "\n"
 last_line front k =
-    sym (append_assoc front (codes "end threads " ++ decimal k) (codes "\n")) ∙ ap (λ l. l ++ codes "\n") (sym (append_assoc front (codes "end threads ") (decimal k)))
+    sym (append_assoc front (codes "end threads " ++ decimal k) (codes "\n"))
+    ∙ ap (λ l. l ++ codes "\n") (sym (append_assoc front (codes "end threads ") (decimal k)))
 
 -- the lines of the writes, and the last line
 pub printed : (p : tree.Pipe) (image : List (List ℕ)) (k : ℕ) (ms : List MemInfo) (q : Pipe)
@@ -91,4 +93,5 @@ pub printed : (p : tree.Pipe) (image : List (List ℕ)) (k : ℕ) (ms : List Mem
     ++ codes "\n" ≡ texts (columns p.mems) (flat p) (arrays_of image) k ++ codes "end threads " ++ decimal k
     ++ codes "\n"
 printed p image k ms q told flattened =
-    ap₂ (λ cs (x : Pipe). texts cs x (arrays_of image) k ++ codes "end threads " ++ decimal k ++ codes "\n") (ap (map column_of) told ∙ told_columns p.mems) flattened
+    ap₂ (λ cs (x : Pipe). texts cs x (arrays_of image) k ++ codes "end threads " ++ decimal k ++ codes "\n")
+    (ap (map column_of) told ∙ told_columns p.mems) flattened

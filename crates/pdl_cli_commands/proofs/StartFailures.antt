@@ -25,7 +25,17 @@ pub image_fails : (holds after : Option Held) (before mid now : ℕ) (source ima
 image_fails holds after before mid now source image' text command p e h given a wrong Usage w = w
 image_fails holds after before mid now source image' text command p e h given a wrong (Refused rule (Insn n)) w = absurd w
 image_fails holds after before mid now source image' text command p e h given a wrong (Refused rule (Line n)) w =
-    wrong rule (Line n) (inr (record { source_text = text; source_given = given; pipe = p; accepted = a; image_text = w.0; image_given = subst (λ (o : Option Held). Gives o image' w.0) e w.1; refused = w.2 }))
+    wrong rule (Line n)
+    (inr
+    (record {
+      source_text = text;
+      source_given = given;
+      pipe = p;
+      accepted = a;
+      image_text = w.0;
+      image_given = subst (λ (o : Option Held). Gives o image' w.0) e w.1;
+      refused = w.2;
+    }))
 image_fails holds after before mid now source image' text command p e h given a wrong ReadFault w = rose_before before mid now h w
 image_fails holds after before mid now source image' text command p e h given a wrong WriteFault w = w
 image_fails holds after before mid now source image' text command p e h given a wrong NoMemory w = tt
@@ -44,7 +54,14 @@ pub is_loaded : (holds after : Option Held) (source image' text image_text : Lis
     → after ≡ holds → Gives holds source text → IsAccepted text p → Gives after image' image_text
     → IsTaken p image_text words → IsLoaded holds source image' p words
 is_loaded holds after source image' text image_text p words e given a held taken =
-    record { source_text = text; source_given = given; accepted = a; image_text = image_text; image_given = subst (λ (o : Option Held). Gives o image' image_text) e held; taken = taken }
+    record {
+      source_text = text;
+      source_given = given;
+      accepted = a;
+      image_text = image_text;
+      image_given = subst (λ (o : Option Held). Gives o image' image_text) e held;
+      taken = taken;
+    }
 
 -- what holds of the files after the source was read, by its text, holds of them as they were before
 as_before : (P : Option Held → Type 0) (holds after : Option Held) (source text : List ℕ) (p : Pipe)

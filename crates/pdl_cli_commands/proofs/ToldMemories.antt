@@ -65,11 +65,13 @@ told_both P ms h =
 
 -- the words of each memory of a pipe that keeps the rules have at least 1 bit
 pub widths_low : (p : Pipe) (ms : List MemInfo) → KeepsRules p → ms ≡ infos_of p.mems → All (λ m. 1 ≤ m.width) ms
-widths_low p ms kept e = subst (All (λ (m : MemInfo). 1 ≤ m.width)) (sym e) (told_all (λ m. 1 ≤ m.width) p.mems (λ m a. (sized_among p.mems (declared p kept).sized m a).low))
+widths_low p ms kept e =
+    subst (All (λ (m : MemInfo). 1 ≤ m.width)) (sym e) (told_all (λ m. 1 ≤ m.width) p.mems (λ m a. (sized_among p.mems (declared p kept).sized m a).low))
 
 -- the words of each memory of a pipe that keeps the rules have at most 64 bits
 pub widths_high : (p : Pipe) (ms : List MemInfo) → KeepsRules p → ms ≡ infos_of p.mems → All (λ m. m.width ≤ 64) ms
-widths_high p ms kept e = subst (All (λ (m : MemInfo). m.width ≤ 64)) (sym e) (told_all (λ m. m.width ≤ 64) p.mems (λ m a. (sized_among p.mems (declared p kept).sized m a).high))
+widths_high p ms kept e =
+    subst (All (λ (m : MemInfo). m.width ≤ 64)) (sym e) (told_all (λ m. m.width ≤ 64) p.mems (λ m a. (sized_among p.mems (declared p kept).sized m a).high))
 
 short_one : (ms : List Mem) → HaveShortNames ms → (m : Mem) → Among m ms → length m.name.name ≤ 32
 short_one [] h m a = absurd a
@@ -78,13 +80,15 @@ short_one (x ∷ ms) h m (inr a) = short_one ms h.1 m a
 
 -- their names are short
 pub names_short : (b : List ℕ) (p : Pipe) (ms : List MemInfo) → IsText b p → ms ≡ infos_of p.mems → All (λ m. length m.name ≤ 32) ms
-names_short b p ms t e = subst (All (λ (m : MemInfo). length m.name ≤ 32)) (sym e) (told_all (λ m. length m.name ≤ 32) p.mems (short_one p.mems (short_names b p t)))
+names_short b p ms t e =
+    subst (All (λ (m : MemInfo). length m.name ≤ 32)) (sym e) (told_all (λ m. length m.name ≤ 32) p.mems (short_one p.mems (short_names b p t)))
 
 -- ---- of a netlist that follows the pipe
 
 -- the memories of a netlist that follows the pipe of a text have names of at most 32 characters
 pub net_names_short : (b : List ℕ) (p : Pipe) (n : Netlist) → IsText b p → Follows p n → All (λ m. length m.name ≤ 32) n.mems
-net_names_short b p n t f = subst (All (λ (m : MemInfo). length m.name ≤ 32)) (sym f.mems) (told_both (λ m. length m.name ≤ 32) p.mems (short_one p.mems (short_names b p t)))
+net_names_short b p n t f =
+    subst (All (λ (m : MemInfo). length m.name ≤ 32)) (sym f.mems) (told_both (λ m. length m.name ≤ 32) p.mems (short_one p.mems (short_names b p t)))
 
 delayed_told : (ms : List Mem) → filter told_delayed (net_infos ms) ≡ map info_of (delayed_of ms)
 delayed_told ms =
@@ -108,7 +112,10 @@ counted [] = refl
 counted (m ∷ ms) =
     sum_by-cons (λ (i : MemInfo). cond i.delayed 1 0) (info_of m) (infos_of ms)
     ∙ ap (λ n. cond m.delayed 1 0 + n) (counted ms)
-    ∙ sym (sum_by-cons (λ (x : Flat.Mem). cond x.delayed 1 0) (record { width = m.width.value; depth = m.depth.value; delayed = m.delayed; lock = flat_lock m.lock }) (mems_of ms))
+    ∙ sym
+    (sum_by-cons (λ (x : Flat.Mem). cond x.delayed 1 0)
+    (record { width = m.width.value; depth = m.depth.value; delayed = m.delayed; lock = flat_lock m.lock })
+    (mems_of ms))
 
 -- as many of the memories that are told as of the pipe's
 pub told_count : (p : Pipe) → count_by (λ (i : MemInfo). i.delayed) (infos_of p.mems) ≡ delayed_count (flat p)

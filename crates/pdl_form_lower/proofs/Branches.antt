@@ -62,7 +62,8 @@ module _ (k begun more : ℕ) (s0 s1 s2 : List Stage) (first second : Graph)
       ∙ ap (λ xs. xs ++ first.later) (leading-twice k first.next second.next s0) in
       ap (leading k n) (two ∙ ap (λ xs. xs ++ second.later) second_on)
       ∙ leading-append k n (leading k second.next s0 ++ first.later) second.later c
-      ∙ ap (λ xs. xs ++ second.later) (leading-append k n (leading k second.next s0) first.later b ∙ ap (λ xs. xs ++ first.later) (leading-twice k second.next n s0))
+      ∙ ap (λ xs. xs ++ second.later)
+      (leading-append k n (leading k second.next s0) first.later b ∙ ap (λ xs. xs ++ first.later) (leading-twice k second.next n s0))
 
   led_back : leading k (next_at k s0) s2 ≡ s0 ++ (first.later ++ second.later)
   led_back = led_after (next_at k s0) ∙ append_assoc (leading k (next_at k s0) s0) first.later second.later
@@ -120,7 +121,8 @@ module _ (ms : List Mem) (b : Option Branch) (sp : Span) (c : Expr) (when otherw
     (ek : k ≡ at'.stage) (eb : begun ≡ at'.begun) (em : merge ≡ suc (at'.begun + (separators when + separators otherwise))) (ex : x ≡ guard_of at'.vars c)
     (en : before ≡ next_at at'.stage s0) (ep : p ≡ with_guard c at') (eq : q ≡ at_otherwise ms c when at') (whole : length s0 ≡ suc at'.begun)
     (within : at'.stage ≤ at'.begun)
-    (e1 : s1 ≡ closed_stages k false s0 (graph ms (side k true) (Goes merge) when p)) (e2 : s2 ≡ closed_stages k false s1 (graph ms (side k false) (Goes merge) otherwise q))
+    (e1 : s1 ≡ closed_stages k false s0 (graph ms (side k true) (Goes merge) when p))
+    (e2 : s2 ≡ closed_stages k false s1 (graph ms (side k false) (Goes merge) otherwise q))
     (eu : u ≡ entry (graph ms (side k true) (Goes merge) when p).next) (ev : v ≡ entry (graph ms (side k false) (Goes merge) otherwise q).next)
     (count : n ≡ at'.begun + (separators when + separators otherwise)) where
   abbrev exit : ℕ
@@ -150,8 +152,12 @@ module _ (ms : List Mem) (b : Option Branch) (sp : Span) (c : Expr) (when otherw
   if_closed forked rest =
       ap (λ i. closed_stages i (if n == begun then forked else true) (settled_stages (n == begun) forked i begun before (Forks x u v) s2) rest) ek
       ∙ ap (λ i. closed_stages at'.stage (if n == begun then forked else true) (settled_stages (n == begun) forked at'.stage i before (Forks x u v) s2) rest) eb
-      ∙ ap (λ i. closed_stages at'.stage (if n == begun then forked else true) (settled_stages (n == begun) forked at'.stage at'.begun i (Forks x u v) s2) rest) en
-      ∙ ap (λ i. closed_stages at'.stage (if n == begun then forked else true) (settled_stages (n == begun) forked at'.stage at'.begun (next_at at'.stage s0) i s2) rest)
+      ∙ ap
+      (λ i. closed_stages at'.stage (if n == begun then forked else true)
+      (settled_stages (n == begun) forked at'.stage at'.begun i (Forks x u v) s2) rest) en
+      ∙ ap
+      (λ i. closed_stages at'.stage (if n == begun then forked else true)
+      (settled_stages (n == begun) forked at'.stage at'.begun (next_at at'.stage s0) i s2) rest)
       (ap (λ i. Forks i u v) ex ∙ ap (λ i. Forks (guard_of at'.vars c) i v) (eu ∙ ap (λ (g : Graph). entry g.next) is_first)
       ∙ ap (λ i. Forks (guard_of at'.vars c) (entry first.next) i) (ev ∙ ap (λ (g : Graph). entry g.next) is_second))
       ∙ choice_closed at'.stage at'.begun (separators when + separators otherwise) s0 s1 s2 first second whole within

@@ -179,7 +179,8 @@ pub pushed_there : (es : List (List ℕ × ℕ)) (vs ws : List Variable) (own k 
     → AreNumbered es (vars_of vs) → w ≤ 64 → own ≡ k → o ≡ lookup (pointwise nat_eq k) es → is_some o ≡ true
     → ws ≡ vs ++ record { name = own; width = w } ∷ [] → AreNumbered es (vars_of ws)
 pushed_there es vs ws own k w o a small e h s g =
-    subst (AreNumbered es) (sym (ap vars_of g ∙ vars_push vs (record { name = own; width = w }) ∙ ap (λ n. vars_of vs ++ record { name = n; width = w } ∷ []) e))
+    subst (AreNumbered es)
+    (sym (ap vars_of g ∙ vars_push vs (record { name = own; width = w }) ∙ ap (λ n. vars_of vs ++ record { name = n; width = w } ∷ []) e))
     (numbered_there es (vars_of vs) k w a small (found_some o _ h s))
 
 -- the program has as many variables as they stand for
@@ -193,7 +194,8 @@ pub pushed_new : (es fs : List (List ℕ × ℕ)) (vs ws : List Variable) (own k
     → is_some o ≡ false → fs ≡ insert_entry (pointwise nat_eq) es key n
     → ws ≡ vs ++ record { name = own; width = w } ∷ [] → AreNumbered fs (vars_of ws)
 pushed_new es fs vs ws own key k w n o a small e f long h s i g =
-    subst (AreNumbered fs) (sym (ap vars_of g ∙ vars_push vs (record { name = own; width = w }) ∙ ap (λ m. vars_of vs ++ record { name = m; width = w } ∷ []) e))
+    subst (AreNumbered fs)
+    (sym (ap vars_of g ∙ vars_push vs (record { name = own; width = w }) ∙ ap (λ m. vars_of vs ++ record { name = m; width = w } ∷ []) e))
     (subst (λ gs. AreNumbered gs (vars_of vs ++ record { name = k; width = w } ∷ []))
     (sym (i ∙ ap (λ m. insert_entry (pointwise nat_eq) es m n) f ∙ insert_new es k n (found_none o _ h s)
     ∙ ap (λ m. es ++ (k, m) ∷ []) (long ∙ sym (length_vars vs))))

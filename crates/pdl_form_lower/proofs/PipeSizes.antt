@@ -135,7 +135,8 @@ ready p vs before x later e b = record { small = b.small; knows = knows; stays =
     knows n h =
         ⊎_elim
         (λ t. b.params n (not-false _ t))
-        (λ t. b.known.named n (not-false _ (or_parts (is_undefined before (OfVariable n)) (on_some_path (λ earlier. not (is_given earlier (OfVariable n))) p before x) t).0))
+        (λ t. b.known.named n
+        (not-false _ (or_parts (is_undefined before (OfVariable n)) (on_some_path (λ earlier. not (is_given earlier (OfVariable n))) p before x) t).0))
         (and_cases (not (is_parameter p n)) _ h)
 
 -- one variable more
@@ -208,7 +209,8 @@ module _ (p : Pipe) (rules : KeepsRules p) where
 
   -- PARAMETERS AND MEMORIES
 
-  params_known : (ps : List Param) (vs : List Var) (before later : List Place) → places p ≡ before ++ (map Parameter ps ++ later) → AreKnown p vs before → Small vs
+  params_known : (ps : List Param) (vs : List Var) (before later : List Place)
+      → places p ≡ before ++ (map Parameter ps ++ later) → AreKnown p vs before → Small vs
       → AreKnown p (vs ++ params_of ps) (before ++ map Parameter ps) × Small (vs ++ params_of ps)
   params_known [] vs before later e k small = (
     subst₂ (λ us xs. AreKnown p us xs) (sym (append-nil vs)) (sym (append-nil before)) k,
@@ -217,7 +219,8 @@ module _ (p : Pipe) (rules : KeepsRules p) where
   )
   params_known (a ∷ ps) vs before later e k small =
       let v : Var = record { name = a.name.name; width = a.width.value } in
-      let rest = params_known ps (vs ++ v ∷ []) (before ++ Parameter a ∷ []) later (e ∙ sym (append_assoc before (Parameter a ∷ []) (map Parameter ps ++ later)))
+      let rest =
+      params_known ps (vs ++ v ∷ []) (before ++ Parameter a ∷ []) later (e ∙ sym (append_assoc before (Parameter a ∷ []) (map Parameter ps ++ later)))
       (known_more p vs before (Parameter a) a.name.name a.width.value refl refl refl (rules N2 before (Parameter a) _ e) k)
       (small_more vs v small (width_is a.width.value (rules Z7 before (Parameter a) _ e)).1) in (
         subst₂ (λ us xs. AreKnown p us xs) (append_assoc vs (v ∷ []) (params_of ps)) (append_assoc before (Parameter a ∷ []) (map Parameter ps)) rest.0,
@@ -317,7 +320,8 @@ mutual
 
   count_all : (bs : List Branch) (ss : Stmts) → count_by is_separator (statements bs ss) ≡ separators ss
   count_all bs Nil = refl
-  count_all bs (Cons s ss) = sum_by-append (λ x. weight (is_separator x)) (with_inner bs s) (statements bs ss) ∙ ap₂ (λ m n. m + n) (count_in bs s) (count_all bs ss)
+  count_all bs (Cons s ss) =
+      sum_by-append (λ x. weight (is_separator x)) (with_inner bs s) (statements bs ss) ∙ ap₂ (λ m n. m + n) (count_in bs s) (count_all bs ss)
 
 few_more : (c : Bool) (n : ℕ) → (c && (n == 63)) ≡ false → n ≤ 63 → n + weight c ≤ 63
 few_more true n e h = let other : n ≢ 63 = eqb-false n 63 e in omega arith
@@ -329,7 +333,8 @@ few p rules before [] e h = subst (λ l. count_by is_separator l ≤ 63) (sym (a
 few p rules before (x ∷ xs) e h =
     few p rules (before ++ x ∷ []) xs (e ∙ sym (append_assoc before (x ∷ []) xs))
     (let sum = count_push is_separator before x in
-    let most : count_by is_separator before + weight (is_separator x) ≤ 63 = few_more (is_separator x) (count_by is_separator before) (rules Z3 before x xs e) h in
+    let most : count_by is_separator before + weight (is_separator x) ≤ 63 =
+    few_more (is_separator x) (count_by is_separator before) (rules Z3 before x xs e) h in
     omega arith)
 
 few_separators : (p : Pipe) → KeepsRules p → separators p.body ≤ 63

@@ -20,7 +20,8 @@ led (y ∷ ys) (suc k) x n h e = ap (λ zs. stage_view y ∷ zs) (led ys k x n (
 pub marked_one : (xs : List r_stage.FlatStage) (k : ℕ) (x : r_stage.FlatStage) (f : ℕ) → k < length xs
     → x ≡ get_or xs k x → stages_view (set xs k (record x { merges = Some f })) ≡ with_merge_at k f (stages_view xs)
 marked_one [] k x f h e = absurd (omega arith)
-marked_one (y ∷ ys) zero x f h e = ap (λ (z : r_stage.FlatStage). record { next = next_view z.next; branch = (stage_view z).branch; merges = Some f } ∷ stages_view ys) e
+marked_one (y ∷ ys) zero x f h e =
+    ap (λ (z : r_stage.FlatStage). record { next = next_view z.next; branch = (stage_view z).branch; merges = Some f } ∷ stages_view ys) e
 marked_one (y ∷ ys) (suc k) x f h e = ap (λ zs. stage_view y ∷ zs) (marked_one ys k x f (omega arith) e)
 
 -- where a stage of the program leads is where the stage leads that it stands for

@@ -38,8 +38,10 @@ sized_typed vs small (Not a) t = sized_typed vs small a t
 sized_typed vs small (Binary op a b) t =
     let left = sized_typed vs small a t.0 in
     ((left.0, (sized_typed vs small b t.1).0), op_narrow op (width_of vs a) left.1)
-sized_typed vs small (Cat a b) t =
-    (((sized_typed vs small a t.0).0, (sized_typed vs small b t.1).0), small_if (nat_lt widest (width_of vs a + width_of vs b)) (width_of vs a + width_of vs b) t.2)
+sized_typed vs small (Cat a b) t = (
+  ((sized_typed vs small a t.0).0, (sized_typed vs small b t.1).0),
+  small_if (nat_lt widest (width_of vs a + width_of vs b)) (width_of vs a + width_of vs b) t.2,
+)
 sized_typed vs small (LessSigned a b) t = (((sized_typed vs small a t.0).0, (sized_typed vs small b t.1).0), omega arith)
 sized_typed vs small (ZeroExtend a n) t = ((t.2, (sized_typed vs small a t.0).0), t.2)
 sized_typed vs small (SignExtend a n) t = ((t.2, (sized_typed vs small a t.0).0), t.2)

@@ -378,7 +378,8 @@ stage_tells x y e0 =
     whole
 
 stage_knows : Knows same_stage
-stage_knows x = and_from _ _ (next_knows x.next) (and_from _ _ (option_knows same_branch branch_knows x.branch) (option_knows same_number number_knows x.merges))
+stage_knows x =
+    and_from _ _ (next_knows x.next) (and_from _ _ (option_knows same_branch branch_knows x.branch) (option_knows same_number number_knows x.merges))
 
 -- THE WHOLE
 
@@ -400,11 +401,20 @@ pipe_tells x y e0 =
     let h4 : x.start ≡ y.start = bytes_tells _ _ s4.0 in
     let h5 : x.reserves_at ≡ y.reserves_at = list_tells (same_option same_number) (option_tells same_number number_tells) _ _ s5.0 in
     let h6 : x.releases_at ≡ y.releases_at = list_tells (same_option same_number) (option_tells same_number number_tells) _ _ s5.1 in
-    let whole : pipe_of x.vars x.mems x.stmts x.stages x.start x.reserves_at x.releases_at ≡ pipe_of y.vars y.mems y.stmts y.stages y.start y.reserves_at y.releases_at = cc in
+    let whole : pipe_of x.vars x.mems x.stmts x.stages x.start x.reserves_at x.releases_at
+    ≡ pipe_of y.vars y.mems y.stmts y.stages y.start y.reserves_at y.releases_at =
+    cc in
     whole
 
 pipe_knows : Knows same_pipe
-pipe_knows x = and_from _ _ (number_knows x.vars) (and_from _ _ (list_knows same_mem mem_knows x.mems) (and_from _ _ (list_knows same_stmt stmt_knows x.stmts) (and_from _ _ (list_knows same_stage stage_knows x.stages) (and_from _ _ (bytes_knows x.start) (and_from _ _ (list_knows (same_option same_number) (option_knows same_number number_knows) x.reserves_at) (list_knows (same_option same_number) (option_knows same_number number_knows) x.releases_at))))))
+pipe_knows x =
+    and_from _ _ (number_knows x.vars)
+    (and_from _ _ (list_knows same_mem mem_knows x.mems)
+    (and_from _ _ (list_knows same_stmt stmt_knows x.stmts)
+    (and_from _ _ (list_knows same_stage stage_knows x.stages)
+    (and_from _ _ (bytes_knows x.start)
+    (and_from _ _ (list_knows (same_option same_number) (option_knows same_number number_knows) x.reserves_at)
+    (list_knows (same_option same_number) (option_knows same_number number_knows) x.releases_at))))))
 
 abbrev form_of : Pipe → List ℕ → List (List ℕ) → Form
 form_of a0 a1 a2 = record { pipe = a0; widths = a1; names = a2 }

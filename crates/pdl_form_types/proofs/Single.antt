@@ -29,7 +29,8 @@ abbrev pub is_if : Stmt → Bool
 is_if (If _ _ _ _) = true
 is_if _ = false
 
-module _ (p : Pipe) (rules : KeepsRules p) (before : List Place) (bs : List Branch) (later : List Place) (w : Flatten.Position) (b : After p before w.vars) where
+module _ (p : Pipe) (rules : KeepsRules p) (before : List Place) (bs : List Branch) (later : List Place)
+    (w : Flatten.Position) (b : After p before w.vars) where
   -- ITS FLAT STATEMENT
 
   module _ (s : Stmt) (e : places p ≡ before ++ Statement s bs ∷ later) (begins : Begins w.vars (all_vars p)) where
@@ -66,7 +67,8 @@ module _ (p : Pipe) (rules : KeepsRules p) (before : List Place) (bs : List Bran
       ((g, (new.0, place, new.1 ∙ sym (found_width p.mems at.mem.name))), tt)
   single (Bind sp x v) i e begins gs g =
       let new = new_last w.vars (all_vars p) _ begins in
-      let value = its_value (Bind sp x v) e (begins_then w.vars _ (all_vars p) (begins_self w.vars _) begins) v (fits p rules before (Bind sp x v) bs later e) in
+      let value =
+      its_value (Bind sp x v) e (begins_then w.vars _ (all_vars p) (begins_self w.vars _) begins) v (fits p rules before (Bind sp x v) bs later e) in
       ((g, (new.0, value.typed, value.width ∙ sym value.same ∙ sym new.1)), tt)
   single (SpecCall sp h es) i e begins gs g = (
     (
@@ -123,7 +125,8 @@ module _ (p : Pipe) (rules : KeepsRules p) (before : List Place) (bs : List Bran
   -- WHAT STANDS BEHIND IT
 
   module _ (named : is_undefined (places p) (OfVariable []) ≡ true) (mems : AreTypedMems (mems_of p.mems)) where
-    pub after_single : (s : Stmt) → is_if s ≡ false → places p ≡ before ++ Statement s bs ∷ later → After p (before ++ Statement s bs ∷ []) (past p.mems s w).vars
+    pub after_single : (s : Stmt) → is_if s ≡ false → places p ≡ before ++ Statement s bs ∷ later
+        → After p (before ++ Statement s bs ∷ []) (past p.mems s w).vars
     after_single (CombRead sp x at) i e =
         after_more p before w.vars b (Statement (CombRead sp x at) bs) x.name (mem_width p.mems at.mem.name) refl refl refl
         (rules N2 before (Statement (CombRead sp x at) bs) later e)

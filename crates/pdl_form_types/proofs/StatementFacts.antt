@@ -27,7 +27,8 @@ use Rattle.pdl_form_types.proofs.Memories.{memory_there, mem_low, found_depth, f
 use Rattle.pdl_form_types.proofs.Memories as memories
 use Rattle.pdl_form_types.proofs.VariableFacts.{After, knows, by_params}
 
-module _ (p : Pipe) (rules : KeepsRules p) (before : List Place) (s : Stmt) (bs : List Branch) (later : List Place) (e : places p ≡ before ++ Statement s bs ∷ later) where
+module _ (p : Pipe) (rules : KeepsRules p) (before : List Place) (s : Stmt) (bs : List Branch) (later : List Place)
+    (e : places p ≡ before ++ Statement s bs ∷ later) where
   -- what the rules ask of the expressions
   pub fits : Fits (is_too_early p before (Statement s bs)) (variables p) (λ test. some_expr_of test s)
   fits = record {

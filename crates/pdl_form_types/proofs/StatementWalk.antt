@@ -59,7 +59,8 @@ module _ (p : Pipe) (w : Flatten.Position) where
   guard_bit us (Variable x) graph_with_stage h one = (h.typed, h.width ∙ one)
   guard_bit us c graph_with_stage h one = new_last w.vars (all_vars p) _ graph_with_stage
 
-  guard_typed : (us : List Flatten.Var) (gs : List flat.Guard) (c : Expr) → Begins (with_guard c w).vars (all_vars p) → Alike us w.vars (widths_of (all_vars p)) c
+  guard_typed : (us : List Flatten.Var) (gs : List flat.Guard) (c : Expr) → Begins (with_guard c w).vars (all_vars p)
+      → Alike us w.vars (widths_of (all_vars p)) c
       → width_of us c ≡ 1 → AreGuards (widths_of (all_vars p)) gs → AreTypedStmts (form_of p) (binds_guard gs w c)
   guard_typed us gs (Variable x) graph_with_stage h one g = tt
   guard_typed us gs c graph_with_stage h one g =
@@ -90,14 +91,16 @@ branch sp c truth inside = record { guard = Places.guard_of sp c; truth = truth;
 
 module _ (p : Pipe) (rules : KeepsRules p) (named : is_undefined (places p) (OfVariable []) ≡ true) (mems : AreTypedMems (mems_of p.mems)) where
   mutual
-    walked : (before later : List Place) (bs : List Branch) (gs : List flat.Guard) (s : Stmt) (w : Flatten.Position) → places p ≡ before ++ (with_inner bs s ++ later)
+    walked : (before later : List Place) (bs : List Branch) (gs : List flat.Guard) (s : Stmt) (w : Flatten.Position)
+        → places p ≡ before ++ (with_inner bs s ++ later)
         → After p before w.vars → Begins (past p.mems s w).vars (all_vars p) → AreGuards (widths_of (all_vars p)) gs → Walked p before bs gs s w
     walked before later bs gs (If sp c when otherwise) w e b graph_with_stage g =
         let here = Statement (If sp c when otherwise) bs in
         let first = statements (bs ++ branch sp c true when ∷ []) when in
         let second = statements (bs ++ branch sp c false otherwise ∷ []) otherwise in
         let middle : Begins (past_all p.mems when (with_guard c w)).vars (all_vars p) =
-        begins_then (past_all p.mems when (with_guard c w)).vars _ (all_vars p) (past_all_begins p.mems otherwise (at_otherwise p.mems c when w)) graph_with_stage in
+        begins_then (past_all p.mems when (with_guard c w)).vars _ (all_vars p)
+        (past_all_begins p.mems otherwise (at_otherwise p.mems c when w)) graph_with_stage in
         let start : Begins (with_guard c w).vars (all_vars p) =
         begins_then (with_guard c w).vars _ (all_vars p) (past_all_begins p.mems when (with_guard c w)) middle in
         let low : Begins w.vars (all_vars p) = begins_then w.vars _ (all_vars p) (guard_begins c w) start in
@@ -112,8 +115,10 @@ module _ (p : Pipe) (rules : KeepsRules p) (named : is_undefined (places p) (OfV
         at_if ∙ ap (λ l. before ++ here ∷ l) (append_assoc first second later) ∙ sym (append_assoc before (here ∷ []) (first ++ (second ++ later))) in
         let one_branch = all_walked (before ++ here ∷ []) (second ++ later) _ _ when (with_guard c w) at_first after_if middle
         (guards_push _ gs (record { var = guard_of w.vars c; first = true }) g bit) in
-        let at_second : places p ≡ ((before ++ here ∷ []) ++ first) ++ (second ++ later) = at_first ∙ sym (append_assoc (before ++ here ∷ []) first (second ++ later)) in
-        let other_branch = all_walked ((before ++ here ∷ []) ++ first) later _ _ otherwise (at_otherwise p.mems c when w) at_second one_branch.after graph_with_stage
+        let at_second : places p ≡ ((before ++ here ∷ []) ++ first) ++ (second ++ later) =
+        at_first ∙ sym (append_assoc (before ++ here ∷ []) first (second ++ later)) in
+        let other_branch =
+        all_walked ((before ++ here ∷ []) ++ first) later _ _ otherwise (at_otherwise p.mems c when w) at_second one_branch.after graph_with_stage
         (guards_push _ gs (record { var = guard_of w.vars c; first = false }) g bit) in
         record {
           after = subst (λ l. After p l (past p.mems (If sp c when otherwise) w).vars)
@@ -126,8 +131,11 @@ module _ (p : Pipe) (rules : KeepsRules p) (named : is_undefined (places p) (OfV
               let lower = graph p.mems (side w.stage false) merge otherwise (at_otherwise p.mems c when w) in
               let of_upper = one_branch.forked (side w.stage true) merge tt in
               let of_lower = other_branch.forked (side w.stage false) merge tt in
-              either_forked (widths_of (all_vars p)) (separators when + separators otherwise == 0) rest (graph_with_fork w.stage (guard_of w.vars c) upper lower rest) h
-              (bit, forks_append _ (upper.later ++ lower.later) _ (forks_append _ upper.later _ of_upper.1 of_lower.1) (merging_forks _ w.stage rest.later h.1));
+              either_forked (widths_of (all_vars p))
+              (separators when + separators otherwise == 0) rest (graph_with_fork w.stage (guard_of w.vars c) upper lower rest) h (
+                bit,
+                forks_append _ (upper.later ++ lower.later) _ (forks_append _ upper.later _ of_upper.1 of_lower.1) (merging_forks _ w.stage rest.later h.1),
+              );
         }
     walked before later bs gs (Tree.Separator sp) w e b graph_with_stage g = record {
       after = after_single p rules before bs later w b named mems (Tree.Separator sp) refl e;
@@ -140,7 +148,8 @@ module _ (p : Pipe) (rules : KeepsRules p) (named : is_undefined (places p) (OfV
       forked = λ out rest h. h;
     }
 
-    pub all_walked : (before later : List Place) (bs : List Branch) (gs : List flat.Guard) (ss : Stmts) (w : Flatten.Position) → places p ≡ before ++ (statements bs ss ++ later)
+    pub all_walked : (before later : List Place) (bs : List Branch) (gs : List flat.Guard) (ss : Stmts) (w : Flatten.Position)
+        → places p ≡ before ++ (statements bs ss ++ later)
         → After p before w.vars → Begins (past_all p.mems ss w).vars (all_vars p) → AreGuards (widths_of (all_vars p)) gs → AllWalked p before bs gs ss w
     all_walked before later bs gs Nil w e b graph_with_stage g = record {
       after = subst (λ l. After p l w.vars) (sym (append-nil before)) b;
@@ -148,10 +157,13 @@ module _ (p : Pipe) (rules : KeepsRules p) (named : is_undefined (places p) (OfV
       forked = λ out exit h. (h, tt);
     }
     all_walked before later bs gs (Cons s ss) w e b graph_with_stage g =
-        let here : places p ≡ before ++ (with_inner bs s ++ (statements bs ss ++ later)) = e ∙ ap (λ l. before ++ l) (append_assoc (with_inner bs s) (statements bs ss) later) in
+        let here : places p ≡ before ++ (with_inner bs s ++ (statements bs ss ++ later)) =
+        e ∙ ap (λ l. before ++ l) (append_assoc (with_inner bs s) (statements bs ss) later) in
         let one = walked before (statements bs ss ++ later) bs gs s w here b
         (begins_then (past p.mems s w).vars _ (all_vars p) (past_all_begins p.mems ss (past p.mems s w)) graph_with_stage) g in
-        let others = all_walked (before ++ with_inner bs s) later bs gs ss (past p.mems s w) (here ∙ sym (append_assoc before (with_inner bs s) (statements bs ss ++ later)))
+        let others =
+        all_walked (before ++ with_inner bs s) later bs gs ss (past p.mems s w)
+        (here ∙ sym (append_assoc before (with_inner bs s) (statements bs ss ++ later)))
         one.after graph_with_stage g in
         record {
           after = subst (λ l. After p l (past_all p.mems (Cons s ss) w).vars) (append_assoc before (with_inner bs s) (statements bs ss)) others.after;

@@ -61,7 +61,9 @@ module _ (p : Pipe) (before : List Place) (vs : List Var) where
     us = b.us;
     known = b.known;
     stays = stays_after b.us vs (record { name = []; width = 1 }) b.stays;
-    only = λ x e h. ⊎_elim (b.only x e) (λ t. absurd (both_ways (bytes_eq [] x) e t)) (any_split (λ (v : Var). bytes_eq v.name x) vs (record { name = []; width = 1 }) h);
+    only =
+        λ x e h. ⊎_elim (b.only x e) (λ t. absurd (both_ways (bytes_eq [] x) e t))
+        (any_split (λ (v : Var). bytes_eq v.name x) vs (record { name = []; width = 1 }) h);
     params = b.params;
     wide = wide_more vs (record { name = []; width = 1 }) b.wide (record { low = omega arith; high = omega arith });
   }
@@ -105,7 +107,8 @@ module _ (p : Pipe) (before : List Place) (vs : List Var) where
   knows b x n h =
       ⊎_elim
       (λ t. b.params n (not-false _ t))
-      (λ t. b.known.named n (not-false _ (or_parts (is_undefined before (OfVariable n)) (on_some_path (λ earlier. not (is_given earlier (OfVariable n))) p before x) t).0))
+      (λ t. b.known.named n
+      (not-false _ (or_parts (is_undefined before (OfVariable n)) (on_some_path (λ earlier. not (is_given earlier (OfVariable n))) p before x) t).0))
       (and_cases (not (is_parameter p n)) _ h)
 
 -- BEFORE THE STATEMENTS

@@ -134,7 +134,13 @@ same_stage x y = same_next x.next y.next && (same_option same_branch x.branch y.
 
 -- two pipes are the same
 abbrev pub same_pipe : Pipe → Pipe → Bool
-same_pipe p q = (p.vars == q.vars) && (same_list same_mem p.mems q.mems && (same_list same_stmt p.stmts q.stmts && (same_list same_stage p.stages q.stages && (bytes_eq p.start q.start && (same_list (same_option same_number) p.reserves_at q.reserves_at && same_list (same_option same_number) p.releases_at q.releases_at)))))
+same_pipe p q =
+    (p.vars == q.vars)
+    && (same_list same_mem p.mems q.mems
+    && (same_list same_stmt p.stmts q.stmts
+    && (same_list same_stage p.stages q.stages
+    && (bytes_eq p.start q.start
+    && (same_list (same_option same_number) p.reserves_at q.reserves_at && same_list (same_option same_number) p.releases_at q.releases_at)))))
 
 -- two flat forms are the same, in pipe, widths and names
 abbrev pub same_form : Form → Form → Bool

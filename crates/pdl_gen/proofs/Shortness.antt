@@ -25,7 +25,8 @@ reads_short s h =
     let before = codes "a = n[3:0];\nb = n[7:4];\nreserve(m[a], R);\nreserve(m[b], W);\ncall(n + 8'd" in
     let after = codes ");\n---\nblock(m[a]);\nx = m[a];\n" in
     let few : length (decimal s) ≤ 3 = length-decimal-le 3 s (omega arith) h (omega (arith, h)) in
-    let all : length (reading_stages s) ≡ length before + length (decimal s) + length after = length-append (before ++ decimal s) after ∙ ap (λ n. n + length after) (length-append before (decimal s)) in
+    let all : length (reading_stages s) ≡ length before + length (decimal s) + length after =
+    length-append (before ++ decimal s) after ∙ ap (λ n. n + length after) (length-append before (decimal s)) in
     omega (arith, few, all)
 
 separators_short : (k : ℕ) → length (separators k) ≡ 4 * k

@@ -59,8 +59,11 @@ pub row_taken : (count : ℕ) (all left : List (List ℕ)) (number : ℕ) (words
     → TakenRows count all left number words → left ≡ row ∷ later → broken_row count number row ≡ None
     → word ≡ row_word row → new ≡ words ++ word ∷ [] → TakenRows count all later (number + 1) new
 row_taken count all left number words new row later word t e b f g = record {
-  same = t.same ∙ ap (first_wrong_row count number) e ∙ next_row count number row later ∙ ap (λ o. at_line number o (first_wrong_row count (number + 1) later)) b;
-  given = t.given ∙ ap (λ rs. words ++ map row_word rs) e ∙ ap (λ w. words ++ w ∷ map row_word later) (sym f) ∙ sym (append_assoc words (word ∷ []) (map row_word later)) ∙ ap (λ ws. ws ++ map row_word later) (sym g);
+  same =
+      t.same ∙ ap (first_wrong_row count number) e ∙ next_row count number row later ∙ ap (λ o. at_line number o (first_wrong_row count (number + 1) later)) b;
+  given =
+      t.given ∙ ap (λ rs. words ++ map row_word rs) e ∙ ap (λ w. words ++ w ∷ map row_word later) (sym f)
+      ∙ sym (append_assoc words (word ∷ []) (map row_word later)) ∙ ap (λ ws. ws ++ map row_word later) (sym g);
 }
 
 -- where the next row breaks a rule, it is the first wrong row of all, refused by this rule

@@ -194,7 +194,9 @@ row_set : (before : List (List ℕ)) (line : List ℕ) (w : Word) (m : MemInfo)
 unfolding slots_of
 row_set before line w m e n l free =
     let here : Some w.value ≡ given_value (before ++ line ∷ []) m.name w.address =
-    sym (given_push before line m.name w.address ∙ ap (λ o. or_else o (value_at (word_of line) m.name w.address)) free ∙ ap (λ o. value_at o m.name w.address) e ∙ value_same w m.name n) in
+    sym
+    (given_push before line m.name w.address ∙ ap (λ o. or_else o (value_at (word_of line) m.name w.address)) free
+    ∙ ap (λ o. value_at o m.name w.address) e ∙ value_same w m.name n) in
     map_set _ _ (range_with_len 0 m.depth) w.address (Some w.value) (rw length-range_with_len l)
     (λ d. let P : ℕ → Type 0 = λ a. Some w.value ≡ given_value (before ++ line ∷ []) m.name a in
     subst P (sym (range_at m.depth w.address d l)) here)
@@ -222,7 +224,8 @@ names_differ mems i j d h li lj ne = elim (cases_order i j) [
 ]
 
 -- a line says a word of the memory at a place, whose slots are the row
-pub record IsNamed (mems : List MemInfo) (before : List (List ℕ)) (line : List ℕ) (w : Word) (place : ℕ) (m : MemInfo) (row : List (Option ℕ)) (slots : List (List (Option ℕ))) : Type 0 where
+pub record IsNamed (mems : List MemInfo) (before : List (List ℕ)) (line : List ℕ) (w : Word) (place : ℕ) (m : MemInfo)
+    (row : List (Option ℕ)) (slots : List (List (Option ℕ))) : Type 0 where
   pub said : says_nothing line ≡ false
   pub word : word_of line ≡ Some w
   pub found : position (λ k. bytes_eq k.name w.name) mems ≡ Some place
@@ -261,7 +264,8 @@ slots_at mems before line w place m row slots distinct f e =
     let g = mem_facts mems before line w place m row slots f in
     let k = taken_facts m row w.address w.value e in
     let free : given_value before m.name w.address ≡ None = sym (row_at before m w.address k.0) ∙ ap (λ r. get_or r w.address None) (sym g.2) ∙ k.1 in
-    let here : set row w.address (Some w.value) ≡ slots_of (before ++ line ∷ []) m = ap (λ r. set r w.address (Some w.value)) g.2 ∙ row_set before line w m f.word g.1 k.0 free in
+    let here : set row w.address (Some w.value) ≡ slots_of (before ++ line ∷ []) m =
+    ap (λ r. set r w.address (Some w.value)) g.2 ∙ row_set before line w m f.word g.1 k.0 free in
     let at = λ (d : MemInfo). f.mem ∙ get_or_default mems place m d g.0 in
     ap (λ s. set s place (set row w.address (Some w.value))) f.was
     ∙ map_set _ _ mems place (set row w.address (Some w.value)) g.0

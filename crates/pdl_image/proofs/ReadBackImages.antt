@@ -116,7 +116,8 @@ module _ (m : MemInfo) (count : ℕ) (word : ℕ → Option ℕ) (text : ℕ →
       text_lines a (word a) _ (omega (arith, h)) refl ∙ ap (λ ls. line_at line a (word a) ++ ls) (all_lines (a + 1) n (omega (arith, h)))
 
   -- what a line gives to an address
-  line_given : (a k : ℕ) (o : Option ℕ) (more : List (List ℕ)) → a < count → word a ≡ o → k ≢ a → given_value (line_at line a o ++ more) m.name k ≡ given_value more m.name k
+  line_given : (a k : ℕ) (o : Option ℕ) (more : List (List ℕ)) → a < count → word a ≡ o → k ≢ a
+      → given_value (line_at line a o ++ more) m.name k ≡ given_value more m.name k
   unfolding given_value
   line_given a k None more l e ne = refl
   line_given a k (Some v) more l e ne =
@@ -124,7 +125,8 @@ module _ (m : MemInfo) (count : ℕ) (word : ℕ → Option ℕ) (text : ℕ →
       ap (λ o. or_else (value_at o m.name k) (given_value more m.name k)) (g.says a v l e).word
       ∙ ap (λ o. or_else o (given_value more m.name k)) (value_other w m.name k (λ p q. ne q))
 
-  here_given : (a : ℕ) (o : Option ℕ) (more : List (List ℕ)) → a < count → word a ≡ o → given_value more m.name a ≡ None → given_value (line_at line a o ++ more) m.name a ≡ o
+  here_given : (a : ℕ) (o : Option ℕ) (more : List (List ℕ)) → a < count → word a ≡ o → given_value more m.name a ≡ None
+      → given_value (line_at line a o ++ more) m.name a ≡ o
   unfolding given_value
   here_given a None more l e f = f
   here_given a (Some v) more l e f =
@@ -136,7 +138,8 @@ module _ (m : MemInfo) (count : ℕ) (word : ℕ → Option ℕ) (text : ℕ →
   none_before : (a n k : ℕ) → a + n ≤ count → k < a → given_value (lines_from line word a n) m.name k ≡ None
   unfolding given_value
   none_before a zero k h l = refl
-  none_before a (suc n) k h l = line_given a k (word a) _ (omega (arith, h)) refl (λ e. omega (arith, l, e)) ∙ none_before (a + 1) n k (omega (arith, h)) (omega (arith, l))
+  none_before a (suc n) k h l =
+      line_given a k (word a) _ (omega (arith, h)) refl (λ e. omega (arith, l, e)) ∙ none_before (a + 1) n k (omega (arith, h)) (omega (arith, l))
 
   word_given : (a n k : ℕ) → a + n ≤ count → a ≤ k → k < a + n → given_value (lines_from line word a n) m.name k ≡ word k
   word_given a zero k h l r = absurd (omega (arith, l, r))
@@ -154,10 +157,12 @@ module _ (m : MemInfo) (count : ℕ) (word : ℕ → Option ℕ) (text : ℕ →
 
   -- ---- no line breaks a rule
 
-  rule_none : (before : List (List ℕ)) (w : Word) → w.address < m.depth → w.value < 2 ^ m.width → given_value before w.name w.address ≡ None → broken_in before w (Some m) ≡ None
+  rule_none : (before : List (List ℕ)) (w : Word) → w.address < m.depth → w.value < 2 ^ m.width
+      → given_value before w.name w.address ≡ None → broken_in before w (Some m) ≡ None
   rule_none before w l s e = rw (lt-leb m.depth w.address l, lt-leb (2 ^ m.width) w.value s, e) refl
 
-  line_right : (before : List (List ℕ)) (a v : ℕ) → a < count → word a ≡ Some v → given_value before m.name a ≡ None → broken_rule (m ∷ []) before (line a v) ≡ None
+  line_right : (before : List (List ℕ)) (a v : ℕ) → a < count → word a ≡ Some v → given_value before m.name a ≡ None
+      → broken_rule (m ∷ []) before (line a v) ≡ None
   unfolding broken_rule
   line_right before a v l e f =
       let w : Word = record { name = m.name; address = a; value = v } in
@@ -168,7 +173,8 @@ module _ (m : MemInfo) (count : ℕ) (word : ℕ → Option ℕ) (text : ℕ →
       ∙ rule_none before w (g.fits a v l e).0 (g.fits a v l e).1 f
 
   -- a line more gives nothing to a later address
-  later_free : (before : List (List ℕ)) (a v k : ℕ) → a < count → word a ≡ Some v → a < k → given_value before m.name k ≡ None → given_value (before ++ line a v ∷ []) m.name k ≡ None
+  later_free : (before : List (List ℕ)) (a v k : ℕ) → a < count → word a ≡ Some v → a < k
+      → given_value before m.name k ≡ None → given_value (before ++ line a v ∷ []) m.name k ≡ None
   later_free before a v k l e h f =
       let w : Word = record { name = m.name; address = a; value = v } in
       given_push before (line a v) m.name k ∙ ap (λ o. or_else o (value_at (word_of (line a v)) m.name k)) f
@@ -178,14 +184,16 @@ module _ (m : MemInfo) (count : ℕ) (word : ℕ → Option ℕ) (text : ℕ →
   Free a before = (k : ℕ) → a ≤ k → given_value before m.name k ≡ None
 
   none_after : (before : List (List ℕ)) (number a : ℕ) (o : Option ℕ) (more : List (List ℕ)) → a < count → word a ≡ o → Free a before
-      → ((b : List (List ℕ)) (i : ℕ) → Free (a + 1) b → first_wrong (m ∷ []) b i more ≡ None) → first_wrong (m ∷ []) before number (line_at line a o ++ more) ≡ None
+      → ((b : List (List ℕ)) (i : ℕ) → Free (a + 1) b → first_wrong (m ∷ []) b i more ≡ None)
+      → first_wrong (m ∷ []) before number (line_at line a o ++ more) ≡ None
   unfolding first_wrong
   none_after before number a None more l e free later = later before number (λ k h. free k (omega (arith, h)))
   none_after before number a (Some v) more l e free later =
       ap (λ r. at_line number r (first_wrong (m ∷ []) (before ++ line a v ∷ []) (number + 1) more)) (line_right before a v l e (free a (omega arith)))
       ∙ later (before ++ line a v ∷ []) (number + 1) (λ k h. later_free before a v k l e (omega (arith, h)) (free k (omega (arith, h))))
 
-  none_wrong : (a n : ℕ) → a + n ≤ count → (before : List (List ℕ)) (number : ℕ) → Free a before → first_wrong (m ∷ []) before number (lines_from line word a n) ≡ None
+  none_wrong : (a n : ℕ) → a + n ≤ count → (before : List (List ℕ)) (number : ℕ) → Free a before
+      → first_wrong (m ∷ []) before number (lines_from line word a n) ≡ None
   unfolding first_wrong
   none_wrong a zero h before number free = refl
   none_wrong a (suc n) h before number free =
@@ -204,11 +212,13 @@ module _ (m : MemInfo) (count : ℕ) (word : ℕ → Option ℕ) (text : ℕ →
 
   -- read as the image of the memory, the texts after the first line give it the words, and 0 where there is none
   pub read_back : m.depth ≤ count
-      → image (m ∷ []) (codes "image 1\n" ++ flat_map (λ k. text k (word k)) (range_with_len 0 count)) ≡ Ok (map (λ k. unwrap_or (word k) 0) (range_with_len 0 m.depth) ∷ [])
+      → image (m ∷ []) (codes "image 1\n" ++ flat_map (λ k. text k (word k)) (range_with_len 0 count))
+      ≡ Ok (map (λ k. unwrap_or (word k) 0) (range_with_len 0 m.depth) ∷ [])
   unfolding image
   read_back h =
       let rest : List ℕ = flat_map (λ k. text k (word k)) (range_with_len 0 count) in
-      let first : lines (codes "image 1\n" ++ rest) ≡ codes "image 1" ∷ lines rest = lines_at_feed (codes "image 1") rest (refl, (refl, (refl, (refl, (refl, (refl, (refl, tt))))))) in
+      let first : lines (codes "image 1\n" ++ rest) ≡ codes "image 1" ∷ lines rest =
+      lines_at_feed (codes "image 1") rest (refl, (refl, (refl, (refl, (refl, (refl, (refl, tt))))))) in
       ap (λ ls. image_after (m ∷ []) (after_header ls)) first
       ∙ ap (λ ls. contents (m ∷ []) ls (first_wrong (m ∷ []) [] 2 ls)) (all_lines 0 count (omega arith))
       ∙ ap (contents (m ∷ []) (lines_from line word 0 count)) (none_wrong 0 count (omega arith) [] 2 (λ k l. nothing_before k))

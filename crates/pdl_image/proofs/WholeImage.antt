@@ -90,7 +90,8 @@ line_small mems before line m None address v b e f = cc
 line_small mems before line m (Some w) address v b e f =
     let g = value_if (bytes_eq w.name m.name && eqb w.address address) w v f in
     let n : w.name ≡ m.name = (bytes_eq-Decides w.name m.name).0 (and_parts _ _ g.0).0 in
-    let c : broken_in before w (mem_of mems w.name) ≡ broken_in before w (Some m) = ap (λ k. broken_in before w (mem_of mems k)) n ∙ ap (broken_in before w) e in
+    let c : broken_in before w (mem_of mems w.name) ≡ broken_in before w (Some m) =
+    ap (λ k. broken_in before w (mem_of mems k)) n ∙ ap (broken_in before w) e in
     let h = middle_passes _ _ _ (sym c ∙ b) in
     omega (arith, leb-false (2 ^ m.width) w.value h, g.1)
 
@@ -113,14 +114,16 @@ unfolding first_wrong given_value
 values_small mems [] before number m address e f = pow_pos m.width
 values_small mems (line ∷ more) before number m address e f =
     let g = at_none number (broken_rule mems before line) _ e in
-    or_small (value_at (word_of line) m.name address) _ _ (λ v h. said_small mems before line m address v g.0 f h) (values_small mems more (before ++ line ∷ []) (number + 1) m address g.1 f)
+    or_small (value_at (word_of line) m.name address) _ _ (λ v h. said_small mems before line m address v g.0 f h)
+    (values_small mems more (before ++ line ∷ []) (number + 1) m address g.1 f)
 
 word_small : (mems : List MemInfo) (rest : List (List ℕ)) (m : MemInfo) (a : ℕ)
     → first_wrong mems [] 2 rest ≡ None → mem_of mems m.name ≡ Some m → get_or (words_of rest m) a 0 < 2 ^ m.width
 word_small mems rest m a e f = elim (cases_lt a m.depth) [
   | inl h ↦
       let P : ℕ → Type 0 = λ n. n < 2 ^ m.width in
-      subst P (sym (get_or-map-range_with_len (λ k. unwrap_or (given_value rest m.name k) 0) 0 m.depth a a 0 h (zero-add a))) (values_small mems rest [] 2 m a e f)
+      subst P (sym (get_or-map-range_with_len (λ k. unwrap_or (given_value rest m.name k) 0) 0 m.depth a a 0 h (zero-add a)))
+      (values_small mems rest [] 2 m a e f)
   | inr h ↦
       let P : ℕ → Type 0 = λ n. n < 2 ^ m.width in
       let k : length (words_of rest m) ≤ a = omega (arith, length-map-range_with_len (λ k. unwrap_or (given_value rest m.name k) 0) 0 m.depth) in

@@ -29,5 +29,6 @@ known_here p sound strict careful reads image before bits = record {
   next = subst (InFlight p) (after_more p (first p image) before bits) (flights p sound strict reads image (before ++ bits ∷ []));
   spared =
       λ k t h g. ap (λ ms. is_kept (squasher ms) t.number) (sym (stages_here p sound strict image before bits).movers)
-      ∙ at_here p (state_after p (first p image) before) bits (IsSpared p (state_after p (first p image) before) bits) (spared_here p sound strict image before bits) k t h g;
+      ∙ at_here p (state_after p (first p image) before) bits (IsSpared p (state_after p (first p image) before) bits)
+      (spared_here p sound strict image before bits) k t h g;
 }

@@ -21,7 +21,9 @@ pub rises_from : (lo low hi : ℕ) (xs : List Stmt) → lo ≤ low → RisesIn l
 rises_from lo low hi [] l h = omega (arith, l, h)
 rises_from lo low hi (x ∷ xs) l h = at x.op h (λ i. rises_from lo low hi xs l i)
   where
-    at : (op : Op) → on_delayed_read (λ y m a. (low ≤ y) × RisesIn (suc y) hi xs) (RisesIn low hi xs) op → (RisesIn low hi xs → RisesIn lo hi xs) → on_delayed_read (λ y m a. (lo ≤ y) × RisesIn (suc y) hi xs) (RisesIn lo hi xs) op
+    at : (op : Op) → on_delayed_read (λ y m a. (low ≤ y) × RisesIn (suc y) hi xs) (RisesIn low hi xs) op
+        → (RisesIn low hi xs → RisesIn lo hi xs)
+        → on_delayed_read (λ y m a. (lo ≤ y) × RisesIn (suc y) hi xs) (RisesIn lo hi xs) op
     at (DelayedRead y m a) i go = (let k = i.0 in omega (arith, l, k), i.1)
     at _ i go = go i
 
@@ -35,7 +37,9 @@ pub reading_has : (P : ℕ → Reading → Type 0) (xs : List Stmt)
 reading_has P [] h m r e = absurd (cc e)
 reading_has P (x ∷ xs) h m r e = at x.op h.0 e (reading_has P xs h.1 m r)
   where
-    at : (op : Op) → on_delayed_read (λ y n a. P n (record { stage = x.stage; var = y })) ⊤ op → on_delayed_read (λ y n a. if n == m then Some (record { stage = x.stage; var = y }) else reading_in m xs) (reading_in m xs) op ≡ Some r → (reading_in m xs ≡ Some r → P m r) → P m r
+    at : (op : Op) → on_delayed_read (λ y n a. P n (record { stage = x.stage; var = y })) ⊤ op
+        → on_delayed_read (λ y n a. if n == m then Some (record { stage = x.stage; var = y }) else reading_in m xs) (reading_in m xs) op ≡ Some r
+        → (reading_in m xs ≡ Some r → P m r) → P m r
     at (DelayedRead y n a) i f go = by (n == m) refl f
       where
         by : (b : Bool) → (n == m) ≡ b → (if b then Some (record { stage = x.stage; var = y }) else reading_in m xs) ≡ Some r → P m r
@@ -59,7 +63,9 @@ risen lo hi (x ∷ xs) h = at x.op h (λ low i. risen low hi xs i)
     weaker : (low : ℕ) → lo ≤ low → (zs : List Stmt) → Each (Range low) zs → Each (Range lo) zs
     weaker low l zs i = Rattle.pdl_word.proofs.Each.each_weaker (Range low) (Range lo) (λ z j. weaker_op low z.op l j) zs i
 
-    at : (op : Op) → on_delayed_read (λ y m a. (lo ≤ y) × RisesIn (suc y) hi xs) (RisesIn lo hi xs) op → ((low : ℕ) → RisesIn low hi xs → Each (Range low) xs × (low ≤ hi)) → (on_delayed_read (λ y m a. (lo ≤ y) × (y < hi)) ⊤ op × Each (Range lo) xs) × (lo ≤ hi)
+    at : (op : Op) → on_delayed_read (λ y m a. (lo ≤ y) × RisesIn (suc y) hi xs) (RisesIn lo hi xs) op
+        → ((low : ℕ) → RisesIn low hi xs → Each (Range low) xs × (low ≤ hi))
+        → (on_delayed_read (λ y m a. (lo ≤ y) × (y < hi)) ⊤ op × Each (Range lo) xs) × (lo ≤ hi)
     at (DelayedRead y m a) i go =
         let r = go (suc y) i.1 in
         let l = i.0 in
@@ -83,10 +89,18 @@ reads_apart lo hi (x ∷ xs) h m n r q e f g = at x.op h e f (λ low i. reads_ap
         later : (k : ℕ) (z : Reading) → reading_in k xs ≡ Some z → suc y ≤ z.var
         later k z l = (reading_has (λ _ v. (suc y ≤ v.var) × (v.var < hi)) xs (risen (suc y) hi xs j.1).0 k z l).0
 
-        by : (b c : Bool) → (i == m) ≡ b → (i == n) ≡ c → (if b then Some (record { stage = x.stage; var = y }) else reading_in m xs) ≡ Some r → (if c then Some (record { stage = x.stage; var = y }) else reading_in n xs) ≡ Some q → m ≡ n
+        by : (b c : Bool) → (i == m) ≡ b → (i == n) ≡ c
+            → (if b then Some (record { stage = x.stage; var = y }) else reading_in m xs) ≡ Some r
+            → (if c then Some (record { stage = x.stage; var = y }) else reading_in n xs) ≡ Some q → m ≡ n
         by true true s t k l = sym (eqb-true i m s) ∙ eqb-true i n t
-        by true false s t k l = absurd (let v : y ≡ r.var = ap (λ (z : Reading). z.var) (some_is (record { stage = x.stage; var = y }) r k) in let w = later n q l in omega (arith, v, w, g))
-        by false true s t k l = absurd (let v : y ≡ q.var = ap (λ (z : Reading). z.var) (some_is (record { stage = x.stage; var = y }) q l) in let w = later m r k in omega (arith, v, w, g))
+        by true false s t k l =
+            absurd
+            (let v : y ≡ r.var = ap (λ (z : Reading). z.var) (some_is (record { stage = x.stage; var = y }) r k) in
+            let w = later n q l in omega (arith, v, w, g))
+        by false true s t k l =
+            absurd
+            (let v : y ≡ q.var = ap (λ (z : Reading). z.var) (some_is (record { stage = x.stage; var = y }) q l) in
+            let w = later m r k in omega (arith, v, w, g))
         by false false s t k l = go (suc y) j.1 k l g
     at _ j e f go = go lo j e f g
 
@@ -107,7 +121,8 @@ module _ (p : Pipe) (fetch : ℕ → ℕ) where
 
   -- what holds of a statement's stage, and of the rest
   first_fetched : (x : Stmt) (xs : List Stmt) → Fetched (x ∷ xs) → AllFetches p fetch x.stage (x ∷ in_stage x.stage xs)
-  first_fetched x xs h = subst (λ b. AllFetches p fetch x.stage (if b then x ∷ in_stage x.stage xs else in_stage x.stage xs)) (eq-eqb x.stage x.stage refl) (h x.stage)
+  first_fetched x xs h =
+      subst (λ b. AllFetches p fetch x.stage (if b then x ∷ in_stage x.stage xs else in_stage x.stage xs)) (eq-eqb x.stage x.stage refl) (h x.stage)
 
   rest_fetched : (x : Stmt) (xs : List Stmt) → Fetched (x ∷ xs) → Fetched xs
   rest_fetched x xs h s = at (x.stage == s) (h s)
@@ -133,7 +148,9 @@ module _ (p : Pipe) (fetch : ℕ → ℕ) where
       rest false i = i
 
       here : x.stage ≡ s → fetches_no v m x.op ≡ true
-      here i = (and_parts (fetches_no v m x.op) (none_like v m (in_stage s xs)) (subst (λ b. none_like v m (if b then x ∷ in_stage s xs else in_stage s xs) ≡ true) (eq-eqb x.stage s i) n)).0
+      here i =
+          (and_parts (fetches_no v m x.op) (none_like v m (in_stage s xs))
+          (subst (λ b. none_like v m (if b then x ∷ in_stage s xs else in_stage s xs) ≡ true) (eq-eqb x.stage s i) n)).0
 
       one : (op : Op) → x.op ≡ op → on_delayed_read (λ y k a. fetch k ≡ x.stage) ⊤ op → on_delayed_read (λ y k a. k ≡ m → ⊥) ⊤ op
       one (DelayedRead y k a) f i = λ same.
@@ -151,10 +168,14 @@ module _ (p : Pipe) (fetch : ℕ → ℕ) where
       rest s false i = i
 
       alone : on_delayed_read (λ y m a. none_like y m (in_stage x.stage xs)) true x.op ≡ true
-      alone = (and_parts (on_delayed_read (λ y m a. none_like y m (in_stage x.stage xs)) true x.op) (fetch_apart (in_stage x.stage xs)) (subst (λ b. fetch_apart (if b then x ∷ in_stage x.stage xs else in_stage x.stage xs) ≡ true) (eq-eqb x.stage x.stage refl) (n x.stage))).0
+      alone =
+          (and_parts (on_delayed_read (λ y m a. none_like y m (in_stage x.stage xs)) true x.op)
+          (fetch_apart (in_stage x.stage xs))
+          (subst (λ b. fetch_apart (if b then x ∷ in_stage x.stage xs else in_stage x.stage xs) ≡ true) (eq-eqb x.stage x.stage refl) (n x.stage))).0
 
       one : (op : Op) → x.op ≡ op → on_delayed_read (λ y k a. fetch k ≡ x.stage) ⊤ op → on_delayed_read (λ y m a. Unread m xs) ⊤ op
-      one (DelayedRead y m a) f i = unread y m x.stage xs i (ap (λ (o : Op). on_delayed_read (λ y m a. none_like y m (in_stage x.stage xs)) true o) (sym f) ∙ alone) (rest_fetched x xs h)
+      one (DelayedRead y m a) f i =
+          unread y m x.stage xs i (ap (λ (o : Op). on_delayed_read (λ y m a. none_like y m (in_stage x.stage xs)) true o) (sym f) ∙ alone) (rest_fetched x xs h)
       one _ f i = tt
 
 -- a statement that reads delayed is the first one of its memory
@@ -166,13 +187,19 @@ firsts [] h = tt
 firsts (x ∷ xs) h = at x.op h.0 (firsts xs h.1)
   where
     -- behind a read of memory n
-    behind : (w n : ℕ) (zs : List Stmt) → Unread n zs → Each (IsFirst xs) zs → Each (λ (z : Stmt). on_delayed_read (λ y m a. (if n == m then Some (record { stage = x.stage; var = w }) else reading_in m xs) ≡ Some (record { stage = z.stage; var = y })) ⊤ z.op) zs
+    behind : (w n : ℕ) (zs : List Stmt) → Unread n zs → Each (IsFirst xs) zs
+        → Each
+        (λ (z : Stmt). on_delayed_read
+        (λ y m a. (if n == m then Some (record { stage = x.stage; var = w }) else reading_in m xs) ≡ Some (record { stage = z.stage; var = y })) ⊤ z.op) zs
     behind w n [] u i = tt
     behind w n (z ∷ zs) u i = (one z.op u.0 i.0, behind w n zs u.1 i.1)
       where
-        one : (op : Op) → on_delayed_read (λ y m a. m ≡ n → ⊥) ⊤ op → on_delayed_read (λ y m a. reading_in m xs ≡ Some (record { stage = z.stage; var = y })) ⊤ op
-            → on_delayed_read (λ y m a. (if n == m then Some (record { stage = x.stage; var = w }) else reading_in m xs) ≡ Some (record { stage = z.stage; var = y })) ⊤ op
-        one (DelayedRead y m a) j e = ap (λ b. if b then Some (record { stage = x.stage; var = w }) else reading_in m xs) (ne_eqb n m (λ same. j (sym same))) ∙ e
+        one : (op : Op) → on_delayed_read (λ y m a. m ≡ n → ⊥) ⊤ op
+            → on_delayed_read (λ y m a. reading_in m xs ≡ Some (record { stage = z.stage; var = y })) ⊤ op
+            → on_delayed_read
+            (λ y m a. (if n == m then Some (record { stage = x.stage; var = w }) else reading_in m xs) ≡ Some (record { stage = z.stage; var = y })) ⊤ op
+        one (DelayedRead y m a) j e =
+            ap (λ b. if b then Some (record { stage = x.stage; var = w }) else reading_in m xs) (ne_eqb n m (λ same. j (sym same))) ∙ e
         one _ j e = tt
 
     at : (op : Op) → on_delayed_read (λ y m a. Unread m xs) ⊤ op → Each (IsFirst xs) xs → Each (IsFirst (record x { op = op } ∷ xs)) (record x { op = op } ∷ xs)

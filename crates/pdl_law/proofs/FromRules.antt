@@ -37,8 +37,10 @@ delayed_there : (ms : List Mem) (n : List ℕ)
 delayed_there [] n e = absurd (false≢true e)
 delayed_there (x ∷ xs) n e = at (bytes_eq x.name.name n) e (delayed_there xs n)
   where
-    at : (b : Bool) → (if b then x.delayed else is_delayed_memory xs n) ≡ true → (is_delayed_memory xs n ≡ true → (mem_of xs n < length (mems_of xs)) × ((slice_index_or (mems_of xs) (mem_of xs n) plain_mem).delayed ≡ true))
-        → ((if b then 0 else suc (mem_of xs n)) < suc (length (mems_of xs))) × ((slice_index_or (mems_of (x ∷ xs)) (if b then 0 else suc (mem_of xs n)) plain_mem).delayed ≡ true)
+    at : (b : Bool) → (if b then x.delayed else is_delayed_memory xs n) ≡ true
+        → (is_delayed_memory xs n ≡ true → (mem_of xs n < length (mems_of xs)) × ((slice_index_or (mems_of xs) (mem_of xs n) plain_mem).delayed ≡ true))
+        → ((if b then 0 else suc (mem_of xs n)) < suc (length (mems_of xs)))
+        × ((slice_index_or (mems_of (x ∷ xs)) (if b then 0 else suc (mem_of xs n)) plain_mem).delayed ≡ true)
     at true f rest = (omega arith, f)
     at false f rest = let r = rest f in (let l = r.0 in omega (arith, l), r.1)
 
@@ -47,7 +49,8 @@ comb_there : (ms : List Mem) (n : List ℕ)
 comb_there [] n e = refl
 comb_there (x ∷ xs) n e = at (bytes_eq x.name.name n) e (comb_there xs n)
   where
-    at : (b : Bool) → (if b then x.delayed else is_delayed_memory xs n) ≡ false → (is_delayed_memory xs n ≡ false → (slice_index_or (mems_of xs) (mem_of xs n) plain_mem).delayed ≡ false)
+    at : (b : Bool) → (if b then x.delayed else is_delayed_memory xs n) ≡ false
+        → (is_delayed_memory xs n ≡ false → (slice_index_or (mems_of xs) (mem_of xs n) plain_mem).delayed ≡ false)
         → (slice_index_or (mems_of (x ∷ xs)) (if b then 0 else suc (mem_of xs n)) plain_mem).delayed ≡ false
     at true f rest = f
     at false f rest = rest f
@@ -73,7 +76,9 @@ kind_at p _ vs e = (tt, tt, tt)
 
 -- each read of a pipe that keeps the rules is of a memory of its kind, delayed or at once
 pub kinds : (p : tree.Pipe) → KeepsRules p → Each (λ (x : Stmt). IsOfKind (flat p) x.op) (flat p).stmts
-kinds p rules = each_fine p rules (λ (x : Stmt). IsOfKind (flat p) x.op) (λ t h op e. subst (OnSome (IsOfKind (flat p))) e (kind_at p t.stmt t.walk.vars (rules F4 t.front (place_of t) h.later h.whole)))
+kinds p rules =
+    each_fine p rules (λ (x : Stmt). IsOfKind (flat p) x.op)
+    (λ t h op e. subst (OnSome (IsOfKind (flat p))) e (kind_at p t.stmt t.walk.vars (rules F4 t.front (place_of t) h.later h.whole)))
 
 -- ---- VARIABLES
 
@@ -86,8 +91,14 @@ rises_row ms gs w s lo hi rest l h = at s h past
     past : lo ≤ length (vars_past ms w.vars s)
     past = let g = past_grown ms w.vars s in let e = ap length g.1 in let f = length-append w.vars g.0 in omega (arith, l, e, f)
 
-    at : (s : tree.Stmt) → RisesIn (length (vars_past ms w.vars s)) hi rest → lo ≤ length (vars_past ms w.vars s) → RisesIn lo hi (rows_of gs w (op_of ms w.vars s) ++ rest)
-    at (DelayedRead sp x from) i k = (l, subst (λ n. RisesIn n hi rest) (let e = length-append w.vars (record { name = x.name; width = Flatten.mem_width ms from.mem.name } ∷ []) in let z : length (vars_past ms w.vars (DelayedRead sp x from)) ≡ suc (length w.vars) = omega (arith, e) in z) i)
+    at : (s : tree.Stmt) → RisesIn (length (vars_past ms w.vars s)) hi rest → lo ≤ length (vars_past ms w.vars s)
+        → RisesIn lo hi (rows_of gs w (op_of ms w.vars s) ++ rest)
+    at (DelayedRead sp x from) i k = (
+      l,
+      subst (λ n. RisesIn n hi rest)
+          (let e = length-append w.vars (record { name = x.name; width = Flatten.mem_width ms from.mem.name } ∷ []) in
+          let z : length (vars_past ms w.vars (DelayedRead sp x from)) ≡ suc (length w.vars) = omega (arith, e) in z) i,
+    )
     at (Reserve sp place R) i k = rises_from lo (length w.vars) hi rest k i
     at (Reserve sp place W) i k = rises_from lo (length w.vars) hi rest k i
     at (If sp (Variable x) when otherwise) i k = rises_from lo (length w.vars) hi rest k i
@@ -98,11 +109,15 @@ rises_sites : (ms : List Mem) (vs us : List Var) (ts : List Site) → Grows ms v
 rises_sites ms vs us [] g = let e = ap length g.1 in let f = length-append vs g.0 in omega (arith, e, f)
 rises_sites ms vs us (t ∷ ts) g =
     subst (λ r. RisesIn (length vs) (length us) (r ++ owns ms ts)) (sym (own_is ms t.gs t.walk t.stmt))
-    (rises_row ms t.gs t.walk t.stmt (length vs) (length us) (owns ms ts) (let e = ap length g.0.1 in let f = length-append vs g.0.0 in omega (arith, e, f)) (rises_sites ms (vars_past ms t.walk.vars t.stmt) us ts g.1))
+    (rises_row ms t.gs t.walk t.stmt (length vs) (length us) (owns ms ts)
+    (let e = ap length g.0.1 in let f = length-append vs g.0.0 in omega (arith, e, f))
+    (rises_sites ms (vars_past ms t.walk.vars t.stmt) us ts g.1))
 
 -- the variables of delayed reads rise along the text
 pub rises : (p : tree.Pipe) → RisesIn (length (params_of p.params)) (flat p).vars (flat p).stmts
-rises p = subst (RisesIn (length (params_of p.params)) (flat p).vars) (sym (stmts_are p)) (rises_sites p.mems (params_of p.params) (all_vars p) (sites_of p) (grows_all p))
+rises p =
+    subst (RisesIn (length (params_of p.params)) (flat p).vars) (sym (stmts_are p))
+    (rises_sites p.mems (params_of p.params) (all_vars p) (sites_of p) (grows_all p))
 
 -- ---- STAGES
 
@@ -125,8 +140,15 @@ reads_source : (p : tree.Pipe) → KeepsRules p → Sound (flat p) → Reads (fl
 reads_source p rules sound = record {
   one = each_reading (flat p) sound;
   apart = reads_apart (length (params_of p.params)) (flat p).vars (flat p).stmts (rises p);
-  known = λ m r e. (let k = reading_has (λ n q. (n < length (flat p).mems) × ((mem_at (flat p) n).delayed ≡ true)) (flat p).stmts (each_weaker (λ (x : Stmt). IsOfKind (flat p) x.op) _ (λ x h. h.2) (flat p).stmts (kinds p rules)) m r e in
-      (k.0, k.1, (reading_has (λ n q. (length (params_of p.params) ≤ q.var) × (q.var < (flat p).vars)) (flat p).stmts (risen (length (params_of p.params)) (flat p).vars (flat p).stmts (rises p)).0 m r e).1));
+  known =
+      λ m r e.
+      (let k = reading_has (λ n q. (n < length (flat p).mems) × ((mem_at (flat p) n).delayed ≡ true))
+      (flat p).stmts (each_weaker (λ (x : Stmt). IsOfKind (flat p) x.op) _ (λ x h. h.2) (flat p).stmts (kinds p rules)) m r e in (
+        k.0,
+        k.1,
+        (reading_has (λ n q. (length (params_of p.params) ≤ q.var) × (q.var < (flat p).vars))
+            (flat p).stmts (risen (length (params_of p.params)) (flat p).vars (flat p).stmts (rises p)).0 m r e).1,
+      ));
   at_once = each_weaker (λ (x : Stmt). IsOfKind (flat p) x.op) (λ (x : Stmt). ReadsAtOnce (flat p) x.op) (λ x h. h.1) (flat p).stmts (kinds p rules);
 }
 

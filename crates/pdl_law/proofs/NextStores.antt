@@ -38,17 +38,23 @@ waits_one (Orphan a) o false e = ap (λ o. is_waiting o false) e
 
 -- the reply bits of these memories, of which the first has the number m
 abbrev pub Replied : Pipe → List Bool → ℕ → List Mem → ℕ → Type 0
-Replied p bits m xs b = (i : ℕ) → i < length xs → (slice_index_or xs i plain_mem).delayed ≡ true → is_answered p bits (m + i) ≡ slice_index_or (replies_of (delayed_in xs) b) (delayed_in (take i xs)) false
+Replied p bits m xs b =
+    (i : ℕ) → i < length xs → (slice_index_or xs i plain_mem).delayed ≡ true
+    → is_answered p bits (m + i) ≡ slice_index_or (replies_of (delayed_in xs) b) (delayed_in (take i xs)) false
 
 -- those of the rest
 replied_after : (p : Pipe) (bits : List Bool) (m : ℕ) (x : Mem) (xs : List Mem) (b : ℕ) (t : Bool)
     → x.delayed ≡ t → Replied p bits m (x ∷ xs) b → Replied p bits (suc m) xs (if t then b / 2 else b)
 replied_after p bits m x xs b false e h i l d =
     ap (is_answered p bits) (let z : suc m + i ≡ m + suc i = omega arith in z) ∙ h (suc i) (omega (arith, l)) d
-    ∙ ap (λ t. slice_index_or (replies_of (if t then suc (delayed_in xs) else delayed_in xs) b) (if t then suc (delayed_in (take i xs)) else delayed_in (take i xs)) false) e
+    ∙ ap
+    (λ t. slice_index_or (replies_of (if t then suc (delayed_in xs) else delayed_in xs) b)
+    (if t then suc (delayed_in (take i xs)) else delayed_in (take i xs)) false) e
 replied_after p bits m x xs b true e h i l d =
     ap (is_answered p bits) (let z : suc m + i ≡ m + suc i = omega arith in z) ∙ h (suc i) (omega (arith, l)) d
-    ∙ ap (λ t. slice_index_or (replies_of (if t then suc (delayed_in xs) else delayed_in xs) b) (if t then suc (delayed_in (take i xs)) else delayed_in (take i xs)) false) e
+    ∙ ap
+    (λ t. slice_index_or (replies_of (if t then suc (delayed_in xs) else delayed_in xs) b)
+    (if t then suc (delayed_in (take i xs)) else delayed_in (take i xs)) false) e
 
 replied_here : (p : Pipe) (bits : List Bool) (m : ℕ) (x : Mem) (xs : List Mem) (b : ℕ)
     → x.delayed ≡ true → Replied p bits m (x ∷ xs) b → is_answered p bits m ≡ reply b
@@ -64,26 +70,38 @@ pub waits_are : (p : Pipe) (st : machine.State) (bits : List Bool) (m : ℕ) (xs
 waits_are p st bits m [] [] b h r n = refl
 waits_are p st bits m [] (y ∷ ys) b h r n = absurd h
 waits_are p st bits m (x ∷ xs) ys b h r n =
-    at x.delayed refl ys h (λ zs k c q. waits_are p st bits (suc m) xs zs c k q (λ i l d. ap (request_of st) (let z : suc m + i ≡ m + suc i = omega arith in z) ∙ n (suc i) (omega (arith, l)) d))
+    at x.delayed refl ys h
+    (λ zs k c q. waits_are p st bits (suc m) xs zs c k q
+    (λ i l d. ap (request_of st) (let z : suc m + i ≡ m + suc i = omega arith in z) ∙ n (suc i) (omega (arith, l)) d))
   where
-    at : (t : Bool) → x.delayed ≡ t → (ys : List Store) → StoreThen (AreStores st (suc m) xs) t st m x ys → ((zs : List Store) → AreStores st (suc m) xs zs → (c : ℕ) → Replied p bits (suc m) xs c → some_waits zs c ≡ waits_from p bits (suc m) (for_mems (request_of st) (suc m) xs))
-        → some_waits ys b ≡ ((is_outstanding (request_of st m) && not (is_answered p bits m)) || waits_from p bits (suc m) (for_mems (request_of st) (suc m) xs))
+    at : (t : Bool) → x.delayed ≡ t → (ys : List Store) → StoreThen (AreStores st (suc m) xs) t st m x ys
+        → ((zs : List Store) → AreStores st (suc m) xs zs → (c : ℕ) → Replied p bits (suc m) xs c
+        → some_waits zs c ≡ waits_from p bits (suc m) (for_mems (request_of st) (suc m) xs))
+        → some_waits ys b
+        ≡ ((is_outstanding (request_of st m) && not (is_answered p bits m)) || waits_from p bits (suc m) (for_mems (request_of st) (suc m) xs))
     at false e ys h go =
         go ys h b (replied_after p bits m x xs b false e r)
-        ∙ ap (λ q. (is_outstanding q && not (is_answered p bits m)) || waits_from p bits (suc m) (for_mems (request_of st) (suc m) xs)) (sym (ap (request_of st) (let z : m ≡ m + 0 = omega arith in z) ∙ n 0 (omega arith) e))
+        ∙ ap (λ q. (is_outstanding q && not (is_answered p bits m)) || waits_from p bits (suc m) (for_mems (request_of st) (suc m) xs))
+        (sym (ap (request_of st) (let z : m ≡ m + 0 = omega arith in z) ∙ n 0 (omega arith) e))
     at true e [] h go = absurd h
     at true e (y ∷ ys) h go =
-        ap₂ (λ u w. u || w) (waits_one (request_of st m) y.request (reply b) h.0.request ∙ ap (λ c. is_outstanding (request_of st m) && not c) (sym (replied_here p bits m x xs b e r))) (go ys h.1 (b / 2) (replied_after p bits m x xs b true e r))
+        ap₂ (λ u w. u || w)
+        (waits_one (request_of st m) y.request (reply b) h.0.request
+        ∙ ap (λ c. is_outstanding (request_of st m) && not c) (sym (replied_here p bits m x xs b e r)))
+        (go ys h.1 (b / 2) (replied_after p bits m x xs b true e r))
 
 -- ONE MEMORY
 
 module _ (p : Pipe) (lawful : IsLawful p) (st : machine.State) (bits : List Bool) (known : IsKnown p st bits) where
   -- the request after the cycle
-  request_after : (m : ℕ) → m < length p.mems → address_asked (request_of (cycle p st bits) m) ≡ or_old (asked_in (moving p st bits) m) (address_asked (if is_answered p bits m then NoRequest else request_of st m))
+  request_after : (m : ℕ) → m < length p.mems
+      → address_asked (request_of (cycle p st bits) m)
+      ≡ or_old (asked_in (moving p st bits) m) (address_asked (if is_answered p bits m then NoRequest else request_of st m))
   request_after m l =
       ap (λ (s : machine.State). address_asked (request_of s m)) (next_is p lawful.leads lawful.some st bits known.flight.count)
       ∙ ap address_asked (at_mem (λ i. request_left (squasher (moving p st bits)) (request_next p st bits (moving p st bits) i)) 0 p.mems m NoRequest l)
-      ∙ ap (λ i. address_asked (request_left (squasher (moving p st bits)) (request_next p st bits (moving p st bits) i))) (let z : 0 + m ≡ m = omega arith in z)
+      ∙ ap (λ i. address_asked (request_left (squasher (moving p st bits)) (request_next p st bits (moving p st bits) i)))
+      (let z : 0 + m ≡ m = omega arith in z)
       ∙ address_next m (squasher (moving p st bits)) (moving p st bits) (if is_answered p bits m then NoRequest else request_of st m)
 
   -- a memory that is never read delayed has no request
@@ -100,15 +118,19 @@ module _ (p : Pipe) (lawful : IsLawful p) (st : machine.State) (bits : List Bool
       none (Owned o a) f = absurd (cc f)
       none (Orphan a) f = absurd (cc f)
 
-  outstanding_is : (m : ℕ) (old : Option ℕ) (b : Bool) → old ≡ address_asked (request_of st m) → (asked : Option ℕ) → outstanding old b asked ≡ or_old asked (address_asked (if b then NoRequest else request_of st m))
+  outstanding_is : (m : ℕ) (old : Option ℕ) (b : Bool) → old ≡ address_asked (request_of st m) → (asked : Option ℕ)
+      → outstanding old b asked ≡ or_old asked (address_asked (if b then NoRequest else request_of st m))
   outstanding_is m old b e (Some a) = refl
   outstanding_is m old true e None = refl
   outstanding_is m old false e None = e
 
   -- its words and its request, by what it commits and is asked
   module _ (m : ℕ) (l : m < length p.mems) (y : Store) (h : IsStore st m (mem_at p m) y)
-      (wide : (e : Pending) → taken_out st (moving p st bits) m ≡ Some e → commit_value e.value < 2 ^ (mem_at p m).width) (low : (a : ℕ) → asked_in (moving p st bits) m ≡ Some a → a < (mem_at p m).depth) where
-    words_for : (o : Option Pending) → taken_out st (moving p st bits) m ≡ o → (length (committed_words y.words (write_of (port_write o))) ≡ (mem_at p m).depth) × ((a : ℕ) → slice_index (committed_words y.words (write_of (port_write o))) a < 2 ^ (mem_at p m).width)
+      (wide : (e : Pending) → taken_out st (moving p st bits) m ≡ Some e → commit_value e.value < 2 ^ (mem_at p m).width)
+      (low : (a : ℕ) → asked_in (moving p st bits) m ≡ Some a → a < (mem_at p m).depth) where
+    words_for : (o : Option Pending) → taken_out st (moving p st bits) m ≡ o
+        → (length (committed_words y.words (write_of (port_write o))) ≡ (mem_at p m).depth)
+        × ((a : ℕ) → slice_index (committed_words y.words (write_of (port_write o))) a < 2 ^ (mem_at p m).width)
         × ((a : ℕ) → a < (mem_at p m).depth → slice_index (committed_words y.words (write_of (port_write o))) a ≡ with_commit st.arrays m o m a)
     words_for None e = (h.long, h.bounded, h.same)
     words_for (Some e) f = (length-set y.words e.address (commit_value e.value) ∙ h.long, bounded, same)
@@ -117,22 +139,44 @@ module _ (p : Pipe) (lawful : IsLawful p) (st : machine.State) (bits : List Bool
         bounded a = at (e.address == a) refl
           where
             at : (b : Bool) → (e.address == a) ≡ b → slice_index (slice_set y.words e.address (commit_value e.value)) a < 2 ^ (mem_at p m).width
-            at false g = let z = get_or-set_other y.words e.address a (commit_value e.value) 0 (λ i. eqb-false e.address a g (sym i)) in let w = h.bounded a in omega (arith, z, w)
+            at false g = let z = get_or-set_other y.words e.address a (commit_value e.value) 0 (λ i. eqb-false e.address a g (sym i)) in
+                let w = h.bounded a in omega (arith, z, w)
             at true g = Rattle.std.proofs.Common.⊎_elim
-                (λ (i : e.address < length y.words). (let z = get_or-set_same y.words e.address (commit_value e.value) 0 i in let w = wide e f in let k = ap (λ j. slice_index (slice_set y.words e.address (commit_value e.value)) j) (eqb-true e.address a g) in omega (arith, z, w, k)))
-                (λ (i : length y.words ≤ e.address). (let n = length-set y.words e.address (commit_value e.value) in let z = get_or_past (slice_set y.words e.address (commit_value e.value)) e.address 0 (omega (arith, i, n)) in let w = pow_pos (mem_at p m).width in let k = ap (λ j. slice_index (slice_set y.words e.address (commit_value e.value)) j) (eqb-true e.address a g) in omega (arith, z, w, k)))
+                (λ (i : e.address < length y.words).
+                (let z = get_or-set_same y.words e.address (commit_value e.value) 0 i in let w = wide e f in
+                let k = ap (λ j. slice_index (slice_set y.words e.address (commit_value e.value)) j) (eqb-true e.address a g) in
+                omega (arith, z, w, k)))
+                (λ (i : length y.words ≤ e.address).
+                (let n = length-set y.words e.address (commit_value e.value) in
+                let z = get_or_past (slice_set y.words e.address (commit_value e.value)) e.address 0 (omega (arith, i, n)) in
+                let w = pow_pos (mem_at p m).width in
+                let k = ap (λ j. slice_index (slice_set y.words e.address (commit_value e.value)) j) (eqb-true e.address a g) in
+                omega (arith, z, w, k)))
                 (Rattle.std.proofs.lemmas.Bool.cases_lt e.address (length y.words))
 
         same : (a : ℕ) → a < (mem_at p m).depth → slice_index (slice_set y.words e.address (commit_value e.value)) a ≡ with_commit st.arrays m (Some e) m a
-        same a i = at (a == e.address) refl ∙ sym (ap (λ b. (if b then Rattle.pdl_semantics.specs.Flat.with_value (st.arrays m) e.address (commit_value e.value) else st.arrays m) a) (eq-eqb m m refl))
+        same a i =
+            at (a == e.address) refl
+            ∙ sym
+            (ap (λ b. (if b then Rattle.pdl_semantics.specs.Flat.with_value (st.arrays m) e.address (commit_value e.value) else st.arrays m) a)
+            (eq-eqb m m refl))
           where
-            at : (b : Bool) → (a == e.address) ≡ b → slice_index (slice_set y.words e.address (commit_value e.value)) a ≡ (if a == e.address then commit_value e.value else st.arrays m a)
+            at : (b : Bool) → (a == e.address) ≡ b
+                → slice_index (slice_set y.words e.address (commit_value e.value)) a ≡ (if a == e.address then commit_value e.value else st.arrays m a)
             at true g =
                 let k = eqb-true a e.address g in
-                ap (slice_index (slice_set y.words e.address (commit_value e.value))) k ∙ get_or-set_same y.words e.address (commit_value e.value) 0 (let n = h.long in omega (arith, n, i, k)) ∙ ap (λ b. if b then commit_value e.value else st.arrays m a) (sym g)
-            at false g = get_or-set_other y.words e.address a (commit_value e.value) 0 (eqb-false a e.address g) ∙ h.same a i ∙ ap (λ b. if b then commit_value e.value else st.arrays m a) (sym g)
+                ap (slice_index (slice_set y.words e.address (commit_value e.value))) k
+                ∙ get_or-set_same y.words e.address (commit_value e.value) 0 (let n = h.long in omega (arith, n, i, k))
+                ∙ ap (λ b. if b then commit_value e.value else st.arrays m a) (sym g)
+            at false g =
+                get_or-set_other y.words e.address a (commit_value e.value) 0 (eqb-false a e.address g) ∙ h.same a i
+                ∙ ap (λ b. if b then commit_value e.value else st.arrays m a) (sym g)
 
-    pub store_next : IsStore (cycle p st bits) m (mem_at p m) (record { words = committed_words y.words (write_of (port_write (taken_out st (moving p st bits) m))); request = outstanding y.request (is_answered p bits m) (asked_in (moving p st bits) m) })
+    pub store_next : IsStore (cycle p st bits) m (mem_at p m)
+        (record {
+          words = committed_words y.words (write_of (port_write (taken_out st (moving p st bits) m)));
+          request = outstanding y.request (is_answered p bits m) (asked_in (moving p st bits) m);
+        })
     store_next =
         let w = words_for (taken_out st (moving p st bits) m) refl in
         record {
@@ -160,20 +204,29 @@ module _ (p : Pipe) (lawful : IsLawful p) (st : machine.State) (bits : List Bool
     pub wide : (e : Pending) → taken_out st (moving p st bits) m ≡ Some e → commit_value e.value < 2 ^ (mem_at p m).width
     pub low : (a : ℕ) → asked_in (moving p st bits) m ≡ Some a → a < (mem_at p m).depth
 
-  pub stores_next : (c : Circuit) (s : State) (names : ℕ → List ℕ) (m : ℕ) (xs : List Mem) (infos : List MemInfo) (ys : List Store) (b : ℕ) → m + length xs ≡ length p.mems → ((i : ℕ) → i < length xs → mem_at p (m + i) ≡ slice_index_or xs i plain_mem)
-      → map (λ (i : MemInfo). i.name) infos ≡ names_delayed names m xs → AreStores st m xs ys → Replied p bits m xs b → ((i : ℕ) → i < length xs → (slice_index_or xs i plain_mem).delayed ≡ true → StepsTo c s names (m + i))
+  pub stores_next : (c : Circuit) (s : State) (names : ℕ → List ℕ) (m : ℕ) (xs : List Mem) (infos : List MemInfo) (ys : List Store) (b : ℕ)
+      → m + length xs ≡ length p.mems → ((i : ℕ) → i < length xs → mem_at p (m + i) ≡ slice_index_or xs i plain_mem)
+      → map (λ (i : MemInfo). i.name) infos ≡ names_delayed names m xs → AreStores st m xs ys → Replied p bits m xs b
+      → ((i : ℕ) → i < length xs → (slice_index_or xs i plain_mem).delayed ≡ true → StepsTo c s names (m + i))
       → AreStores (cycle p st bits) m xs (next_stores c (output_values c s) infos ys b)
   stores_next c s names m [] [] [] b e f g h r k = tt
   stores_next c s names m [] (i ∷ infos) ys b e f g h r k = absurd (cc g)
   stores_next c s names m [] [] (y ∷ ys) b e f g h r k = absurd h
   stores_next c s names m (x ∷ xs) infos ys b e f g h r k =
-      at x.delayed refl infos ys g h (λ is zs u c' w q. stores_next c s names (suc m) xs is zs c' (omega (arith, e)) (λ i l. ap (mem_at p) (let z : suc m + i ≡ m + suc i = omega arith in z) ∙ f (suc i) (omega (arith, l))) u w q (λ i l d. subst (StepsTo c s names) (let z : m + suc i ≡ suc m + i = omega arith in z) (k (suc i) (omega (arith, l)) d)))
+      at x.delayed refl infos ys g h
+      (λ is zs u c' w q. stores_next c s names (suc m) xs is zs c' (omega (arith, e))
+      (λ i l. ap (mem_at p) (let z : suc m + i ≡ m + suc i = omega arith in z) ∙ f (suc i) (omega (arith, l))) u w q
+      (λ i l d. subst (StepsTo c s names) (let z : m + suc i ≡ suc m + i = omega arith in z) (k (suc i) (omega (arith, l)) d)))
     where
       same_name : {u v : List ℕ} {us vs : List (List ℕ)} → (u ∷ us) ≡ (v ∷ vs) → (u ≡ v) × (us ≡ vs)
       same_name z = (cc z, cc z)
 
-      at : (t : Bool) → x.delayed ≡ t → (infos : List MemInfo) (ys : List Store) → map (λ (i : MemInfo). i.name) infos ≡ (if t then names m ∷ [] else []) ++ names_delayed names (suc m) xs → StoreThen (AreStores st (suc m) xs) t st m x ys
-          → ((is : List MemInfo) (zs : List Store) → map (λ (i : MemInfo). i.name) is ≡ names_delayed names (suc m) xs → (c' : ℕ) → AreStores st (suc m) xs zs → Replied p bits (suc m) xs c' → AreStores (cycle p st bits) (suc m) xs (next_stores c (output_values c s) is zs c'))
+      at : (t : Bool) → x.delayed ≡ t → (infos : List MemInfo) (ys : List Store)
+          → map (λ (i : MemInfo). i.name) infos ≡ (if t then names m ∷ [] else []) ++ names_delayed names (suc m) xs
+          → StoreThen (AreStores st (suc m) xs) t st m x ys
+          → ((is : List MemInfo) (zs : List Store) → map (λ (i : MemInfo). i.name) is ≡ names_delayed names (suc m) xs
+          → (c' : ℕ) → AreStores st (suc m) xs zs → Replied p bits (suc m) xs c'
+          → AreStores (cycle p st bits) (suc m) xs (next_stores c (output_values c s) is zs c'))
           → StoreThen (AreStores (cycle p st bits) (suc m) xs) t (cycle p st bits) m x (next_stores c (output_values c s) infos ys b)
       at false d infos ys u w go = go infos ys u b w (replied_after p bits m x xs b false d r)
       at true d [] ys u w go = absurd (cc u)
@@ -183,11 +236,24 @@ module _ (p : Pipe) (lawful : IsLawful p) (st : machine.State) (bits : List Bool
           let q = subst (StepsTo c s names) (let z : m + 0 ≡ m = omega arith in z) (k 0 (omega arith) d) in
           let mem : mem_at p m ≡ x = ap (mem_at p) (let z : m ≡ m + 0 = omega arith in z) ∙ f 0 (omega arith) in
           let mine = store_next m (omega (arith, e)) y (subst (λ z. IsStore st m z y) (sym mem) w.0) q.wide q.low in
-          let told : record { words = committed_words y.words (write_of (port_write (taken_out st (moving p st bits) m))); request = outstanding y.request (is_answered p bits m) (asked_in (moving p st bits) m) } ≡ record { words = committed_words y.words (commit_of c (output_values c s) i.name); request = outstanding y.request (reply b) (net_run.request_of c (output_values c s) i.name) } =
+          let told : record {
+            words = committed_words y.words (write_of (port_write (taken_out st (moving p st bits) m)));
+            request = outstanding y.request (is_answered p bits m) (asked_in (moving p st bits) m);
+          }
+          ≡ record {
+            words = committed_words y.words (commit_of c (output_values c s) i.name);
+            request = outstanding y.request (reply b) (net_run.request_of c (output_values c s) i.name);
+          } =
           λ j. record {
             words = committed_words y.words ((sym q.commit ∙ ap (commit_of c (output_values c s)) (sym n.0)) j);
             request = outstanding y.request (replied_here p bits m x xs b d r j) ((sym q.request ∙ ap (net_run.request_of c (output_values c s)) (sym n.0)) j);
           } in (
-            subst (λ z. IsStore (cycle p st bits) m x z) told (subst (λ z. IsStore (cycle p st bits) m z (record { words = committed_words y.words (write_of (port_write (taken_out st (moving p st bits) m))); request = outstanding y.request (is_answered p bits m) (asked_in (moving p st bits) m) })) mem mine),
+            subst (λ z. IsStore (cycle p st bits) m x z) told
+                (subst
+                (λ z. IsStore (cycle p st bits) m z
+                (record {
+                  words = committed_words y.words (write_of (port_write (taken_out st (moving p st bits) m)));
+                  request = outstanding y.request (is_answered p bits m) (asked_in (moving p st bits) m);
+                })) mem mine),
             go is ys n.1 (b / 2) w.1 (replied_after p bits m x xs b true d r),
           )

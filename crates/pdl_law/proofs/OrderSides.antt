@@ -52,7 +52,8 @@ way_at s w Ends env h f g none some = one_is s ∙ ap bit (sym none)
 way_at s w (Goes to) env h f g none some = some to refl
 way_at s w (Forks x a b) env h f g none some = fork_at s w x a b env h (f a) (f b) ∙ choose (slice_index env x == 1) (λ q e. some q e)
   where
-    choose : (t : Bool) → ((q : ℕ) → Some (if t then a else b) ≡ Some q → (f q).value s ≡ bit (g (Some q))) → (if t then (f a).value s else (f b).value s) ≡ bit (g (Some (if t then a else b)))
+    choose : (t : Bool) → ((q : ℕ) → Some (if t then a else b) ≡ Some q → (f q).value s ≡ bit (g (Some q)))
+        → (if t then (f a).value s else (f b).value s) ≡ bit (g (Some (if t then a else b)))
     choose true k = k a refl
     choose false k = k b refl
 
@@ -62,24 +63,30 @@ way_at s w (Forks x a b) env h f g none some = fork_at s w x a b env h (f a) (f 
 list_first : (p : Pipe) (image : Arrays) (f : ℕ) → f < length p.stages → fork_of (first p image) f ≡ []
 list_first p image f low = at_stage (λ g. []) 0 p.stages f [] low
 
-module _ (p : Pipe) (c : Circuit) (vs : ℕ → View) (gates : Gates) (moves : ℕ → Signal) (sides : Sides) (own : Own) (f : ℕ) (low : f < length p.stages) (order : HasOrder p c vs gates moves sides own f) where
+module _ (p : Pipe) (c : Circuit) (vs : ℕ → View) (gates : Gates) (moves : ℕ → Signal) (sides : Sides) (own : Own)
+    (f : ℕ) (low : f < length p.stages) (order : HasOrder p c vs gates moves sides own f) where
   pub order_starts : (image : Arrays) (s : State) → s.regs ≡ map (λ (r : Reg). r.reset) c.regs → (sides.order f).stands s (fork_of (first p image) f)
-  order_starts image s regs = subst ((sides.order f).stands s) (sym (list_first p image f low)) (order.starts.starts s (is_reset c own.from own.to s order.owned.regs regs))
+  order_starts image s regs =
+      subst ((sides.order f).stands s) (sym (list_first p image f low)) (order.starts.starts s (is_reset c own.from own.to s order.owned.regs regs))
 
   -- ---- A CYCLE
 
-  module _ (s : State) (st : machine.State) (bits : List Bool) (by : IsByStages p st bits) (seen : (j : ℕ) → j < length p.stages → IsSeen p vs moves s st bits j) (squash : gates.squash.value s ≡ bit (is_some (squasher (moving p st bits)))) where
+  module _ (s : State) (st : machine.State) (bits : List Bool) (by : IsByStages p st bits)
+      (seen : (j : ℕ) → j < length p.stages → IsSeen p vs moves s st bits j)
+      (squash : gates.squash.value s ≡ bit (is_some (squasher (moving p st bits)))) where
     so_at : (k : ℕ) (t : Thread) → k < length p.stages → here p st bits k ≡ Some t → stage_moves p st bits k ≡ true → IsSo p k s (vs k).ended (deeds p st k t)
     so_at k t l h g = ((seen k l).follows t h).so (ready_of p st bits k t by l h g)
 
-    agrees_at : (k : ℕ) (t : Thread) → k < length p.stages → here p st bits k ≡ Some t → stage_moves p st bits k ≡ true → Agrees s (vs k).ended (stage_at p k).next (deeds p st k t).env
+    agrees_at : (k : ℕ) (t : Thread) → k < length p.stages → here p st bits k ≡ Some t → stage_moves p st bits k ≡ true
+        → Agrees s (vs k).ended (stage_at p k).next (deeds p st k t).env
     agrees_at k t l h g x e = (so_at k t l h g).env x (lives_fork p k x l e)
 
     nobody : (k : ℕ) → here p st bits k ≡ None → stage_moves p st bits k ≡ true → ⊥
     nobody k h g = false≢true (sym (ap (slot_moves p st bits k) h) ∙ g)
 
     -- what holds of a thread that moves
-    moves_so : (k : ℕ) → k < length p.stages → (b : Signal) (test : List ℕ → Bool) → ((t : Thread) → here p st bits k ≡ Some t → stage_moves p st bits k ≡ true → b.value s ≡ bit (test (deeds p st k t).env))
+    moves_so : (k : ℕ) → k < length p.stages → (b : Signal) (test : List ℕ → Bool)
+        → ((t : Thread) → here p st bits k ≡ Some t → stage_moves p st bits k ≡ true → b.value s ≡ bit (test (deeds p st k t).env))
         → (both (moves k) b).value s ≡ bit (if_moves test p st k (stage_moves p st bits k) (here p st bits k))
     moves_so k l b test h = at (stage_moves p st bits k) (here p st bits k) refl refl
       where
@@ -153,13 +160,18 @@ module _ (p : Pipe) (c : Circuit) (vs : ℕ → View) (gates : Gates) (moves : �
         goes true o r h g = mux_at s out one rest o h ∙ ap₂ (λ x y. if o then x else y) (one_is s) g ∙ or_is o r
         goes false o r h g = g
 
-        at : (g : Bool) (o : Option Thread) → stage_moves p st bits k ≡ g → here p st bits k ≡ o → rest.value s ≡ bit (has_left p f (movers_from p st bits n (suc k)))
+        at : (g : Bool) (o : Option Thread) → stage_moves p st bits k ≡ g → here p st bits k ≡ o
+            → rest.value s ≡ bit (has_left p f (movers_from p st bits n (suc k)))
             → (if is_inside p f k then mux_signal out one rest else rest).value s ≡ bit (has_left p f (mover p st k g o ++ movers_from p st bits n (suc k)))
-        at false o h i r = stays (is_inside p f k) (mux_at s (moves k) (into_merge p f (stage_at p k).next (vs k).ended) zero_bit false ((seen k l).leaves ∙ ap bit h) ∙ zero_is s) ∙ r
+        at false o h i r =
+            stays (is_inside p f k)
+            (mux_at s (moves k) (into_merge p f (stage_at p k).next (vs k).ended) zero_bit false ((seen k l).leaves ∙ ap bit h) ∙ zero_is s)
+            ∙ r
         at true None h i r = absurd (nobody k i h)
         at true (Some t) h i r =
             goes (is_inside p f k) (goes_out p f (next_stage p k (deeds p st k t))) (has_left p f (movers_from p st bits n (suc k)))
-            (mux_at s (moves k) (into_merge p f (stage_at p k).next (vs k).ended) zero_bit true ((seen k l).leaves ∙ ap bit h) ∙ merge_is (vs k).ended (stage_at p k).next (deeds p st k t).env (agrees_at k t l i h)) r
+            (mux_at s (moves k) (into_merge p f (stage_at p k).next (vs k).ended) zero_bit true ((seen k l).leaves ∙ ap bit h)
+            ∙ merge_is (vs k).ended (stage_at p k).next (deeds p st k t).env (agrees_at k t l i h)) r
 
     emptied_is : (order_step p vs gates moves f).emptied.value s ≡ bit (order_act p st bits f).emptied
     emptied_is = at (merges_by p f (verify_stage p.stmts)) (is_some (squasher (moving p st bits))) squash
@@ -173,19 +185,32 @@ module _ (p : Pipe) (c : Circuit) (vs : ℕ → View) (gates : Gates) (moves : �
     -- the nets of the order's step do what the cycle does to the fork's list
     pub order_driven : Drives (order_step p vs gates moves f) s (order_act p st bits f)
     order_driven = record {
-      entered_first = moves_so f low (into_first p f (stage_at p f).next (vs f).ended) (goes_first p f (stage_at p f).next) (λ t h g. first_is (vs f).ended (stage_at p f).next (deeds p st f t).env (agrees_at f t low h g));
-      entered_second = moves_so f low (into_second p f (stage_at p f).next (vs f).ended) (goes_second p f (stage_at p f).next) (λ t h g. second_is (vs f).ended (stage_at p f).next (deeds p st f t).env (agrees_at f t low h g));
+      entered_first =
+          moves_so f low (into_first p f (stage_at p f).next (vs f).ended) (goes_first p f (stage_at p f).next)
+          (λ t h g. first_is (vs f).ended (stage_at p f).next (deeds p st f t).env (agrees_at f t low h g));
+      entered_second =
+          moves_so f low (into_second p f (stage_at p f).next (vs f).ended) (goes_second p f (stage_at p f).next)
+          (λ t h g. second_is (vs f).ended (stage_at p f).next (deeds p st f t).env (agrees_at f t low h g));
       left = left_is (length p.stages) 0 (omega arith);
       emptied = emptied_is;
     }
 
     -- an order that stands for the fork's list stands for the next one
-    pub order_kept : Sound p → LeadsOn p → length st.stages ≡ length p.stages → InFlight p (cycle p st bits) → (sides.order f).stands s (fork_of st f) → (t : State) → t.regs ≡ next_regs c s → t.arrays ≡ next_arrays c s → (sides.order f).stands t (fork_of (cycle p st bits) f)
+    pub order_kept : Sound p → LeadsOn p → length st.stages ≡ length p.stages → InFlight p (cycle p st bits)
+        → (sides.order f).stands s (fork_of st f) → (t : State) → t.regs ≡ next_regs c s → t.arrays ≡ next_arrays c s
+        → (sides.order f).stands t (fork_of (cycle p st bits) f)
     order_kept sound leads count flight stands t regs arrays =
         let none = order.owned.none in
         subst ((sides.order f).stands t) (step_is p sound st bits f low leads sound.graph.some_stage count by)
-        (order.step.next s t (fork_of st f) (order_act p st bits f) stands order_driven (proper_order p sound st bits f low leads sound.graph.some_stage count by flight)
-        (is_next own c c s t (record { has_reg = order.owned.regs; nexts = λ k lo hi. refl; has_array = λ i lo hi. absurd (omega (arith, lo, hi, none)); writes = λ i lo hi. refl }) regs arrays))
+        (order.step.next s t (fork_of st f)
+        (order_act p st bits f) stands order_driven (proper_order p sound st bits f low leads sound.graph.some_stage count by flight)
+        (is_next own c c s t
+        (record {
+          has_reg = order.owned.regs;
+          nexts = λ k lo hi. refl;
+          has_array = λ i lo hi. absurd (omega (arith, lo, hi, none));
+          writes = λ i lo hi. refl;
+        }) regs arrays))
 
 -- ---- MERGES
 
@@ -222,10 +247,13 @@ turn_is p c vs gates moves sides own f order s st from stands = at from (fork_of
     at None (x ∷ xs) h = order.first.empties s (x ∷ xs) h ∙ ap bit (not_empty xs)
     at (Some b) [] h = mux_at s o.empty zero_bit (if b.first then o.first else mux_signal o.first zero_bit one) true (order.first.empties s [] h) ∙ zero_is s
     at (Some b) (x ∷ xs) h =
-        mux_at s o.empty zero_bit (if b.first then o.first else mux_signal o.first zero_bit one) false (order.first.empties s (x ∷ xs) h ∙ ap bit (not_empty xs))
+        mux_at s o.empty zero_bit (if b.first then o.first else mux_signal o.first zero_bit one) false
+        (order.first.empties s (x ∷ xs) h ∙ ap bit (not_empty xs))
         ∙ side b.first x (order.first.leads s x xs h)
 
-module _ (p : Pipe) (sound : Sound p) (c : Circuit) (vs : ℕ → View) (gates : Gates) (moves : ℕ → Signal) (sides : Sides) (owns : ℕ → Own) (orders : (f q : ℕ) → f < length p.stages → (stage_at p q).merges ≡ Some f → HasOrder p c vs gates moves sides (owns f) f)
+module _ (p : Pipe) (sound : Sound p) (c : Circuit) (vs : ℕ → View) (gates : Gates) (moves : ℕ → Signal) (sides : Sides)
+    (owns : ℕ → Own)
+    (orders : (f q : ℕ) → f < length p.stages → (stage_at p q).merges ≡ Some f → HasOrder p c vs gates moves sides (owns f) f)
     (s : State) (st : machine.State) (stands : (f q : ℕ) → f < length p.stages → (stage_at p q).merges ≡ Some f → (sides.order f).stands s (fork_of st f)) where
   -- a fork that a thread may leave is one of the stages
   fork_low : (k q f : ℕ) (env : List ℕ) → k < length p.stages → goes_to (stage_at p k).next env ≡ Some q → (stage_at p q).merges ≡ Some f → f < length p.stages
@@ -238,7 +266,8 @@ module _ (p : Pipe) (sound : Sound p) (c : Circuit) (vs : ℕ → View) (gates :
       at (inr h) = let below = (sound.branches.fork_trunk h.0 k h.1).1 in let same = h.2 in omega (arith, below, same, l)
 
   -- condition 8: a thread is told whether it is its turn at a merge
-  pub merges_is : (k : ℕ) (w : Walk) (d : Deeds) → k < length p.stages → Agrees s w (stage_at p k).next d.env → (way_on (stage_at p k).next (turn p sides k) w).value s ≡ bit (merges_well p st k (next_stage p k d))
+  pub merges_is : (k : ℕ) (w : Walk) (d : Deeds) → k < length p.stages → Agrees s w (stage_at p k).next d.env
+      → (way_on (stage_at p k).next (turn p sides k) w).value s ≡ bit (merges_well p st k (next_stage p k d))
   merges_is k w d l agrees = way_at s w (stage_at p k).next d.env agrees (turn p sides k) (merges_well p st k) refl one_turn
     where
       one_turn : (q : ℕ) → goes_to (stage_at p k).next d.env ≡ Some q → (turn p sides k q).value s ≡ bit (merges_well p st k (Some q))
@@ -256,16 +285,24 @@ module _ (p : Pipe) (sound : Sound p) (c : Circuit) (vs : ℕ → View) (gates :
 abbrev OrdersStand : Pipe → Sides → State → machine.State → Type 0
 OrdersStand p sides s st = (f q : ℕ) → f < length p.stages → (stage_at p q).merges ≡ Some f → (sides.order f).stands s (fork_of st f)
 
-module _ (p : Pipe) (ls : Locks) (c : Circuit) (vs : ℕ → View) (gates : Gates) (moves : ℕ → Signal) (sides : Sides) (has : HasSides p ls c vs gates moves sides) where
+module _ (p : Pipe) (ls : Locks) (c : Circuit) (vs : ℕ → View) (gates : Gates) (moves : ℕ → Signal) (sides : Sides)
+    (has : HasSides p ls c vs gates moves sides) where
   pub orders_first : (image : Arrays) (s : State) → s.regs ≡ map (λ (r : Reg). r.reset) c.regs → OrdersStand p sides s (first p image)
   orders_first image s regs f q low m = order_starts p c vs gates moves sides (has.order_owns f) f low (has.orders f q low m) image s regs
 
-  pub orders_next : Sound p → LeadsOn p → (s t : State) (st : machine.State) (bits : List Bool) → IsByStages p st bits → ((j : ℕ) → j < length p.stages → IsSeen p vs moves s st bits j) → gates.squash.value s ≡ bit (is_some (squasher (moving p st bits)))
-      → InFlight p st → InFlight p (cycle p st bits) → OrdersStand p sides s st → t.regs ≡ next_regs c s → t.arrays ≡ next_arrays c s → OrdersStand p sides t (cycle p st bits)
+  pub orders_next : Sound p → LeadsOn p → (s t : State) (st : machine.State) (bits : List Bool) → IsByStages p st bits
+      → ((j : ℕ) → j < length p.stages → IsSeen p vs moves s st bits j)
+      → gates.squash.value s ≡ bit (is_some (squasher (moving p st bits)))
+      → InFlight p st → InFlight p (cycle p st bits) → OrdersStand p sides s st → t.regs ≡ next_regs c s
+      → t.arrays ≡ next_arrays c s → OrdersStand p sides t (cycle p st bits)
   orders_next sound leads s t st bits by seen squash flight flight' stands regs arrays f q low m =
-      order_kept p c vs gates moves sides (has.order_owns f) f low (has.orders f q low m) s st bits by seen squash sound leads flight.count flight' (stands f q low m) t regs arrays
+      order_kept p c vs gates moves sides (has.order_owns f) f low
+      (has.orders f q low m) s st bits by seen squash sound leads flight.count flight'
+      (stands f q low m) t regs arrays
 
   -- whether it is a thread's turn at a merge
-  pub merges_told : Sound p → (s : State) (st : machine.State) → OrdersStand p sides s st → (k : ℕ) (d : Deeds) → k < length p.stages → IsSo p k s (vs k).ended d
+  pub merges_told : Sound p → (s : State) (st : machine.State) → OrdersStand p sides s st → (k : ℕ) (d : Deeds)
+      → k < length p.stages → IsSo p k s (vs k).ended d
       → (way_on (stage_at p k).next (turn p sides k) (vs k).ended).value s ≡ bit (merges_well p st k (next_stage p k d))
-  merges_told sound s st stands k d l so = merges_is p sound c vs gates moves sides has.order_owns has.orders s st stands k (vs k).ended d l (λ x e. so.env x (lives_fork p k x l e))
+  merges_told sound s st stands k d l so =
+      merges_is p sound c vs gates moves sides has.order_owns has.orders s st stands k (vs k).ended d l (λ x e. so.env x (lives_fork p k x l e))

@@ -50,13 +50,16 @@ entered_list a b = if a then true ∷ [] else (if b then false ∷ [] else [])
 
 module _ (p : Pipe) (sound : Sound p) (st : State) (bits : List Bool) (f : ℕ) (low : f < length p.stages) where
   -- the side of a branch is that by which it is entered
-  side_is : (q : ℕ) (env : List ℕ) (b : Branch) → goes_to (stage_at p f).next env ≡ Some q → q < length p.stages → (stage_at p q).branch ≡ Some b → b.fork ≡ f → goes_by p b env ≡ true
+  side_is : (q : ℕ) (env : List ℕ) (b : Branch) → goes_to (stage_at p f).next env ≡ Some q → q < length p.stages
+      → (stage_at p q).branch ≡ Some b → b.fork ≡ f → goes_by p b env ≡ true
   side_is q env b e l h same =
       let n : next_of p b.fork env ≡ q = ap (λ g. next_of p g env) same ∙ ap (λ o. Rattle.pdl_theory_facts.specs.Graphs.stage_or (length p.stages) o) e in
       sound.branches.side b env (omega (arith, low, same)) (ap (λ k. (stage_at p k).branch) n ∙ h)
 
   -- the branch that a thread appends
-  into_is : (n : Next) → (stage_at p f).next ≡ n → (env : List ℕ) → ((q : ℕ) → goes_to n env ≡ Some q → q < length p.stages) → goes_into p f (goes_to n env) ≡ entered_list (goes_first p f n env) (goes_second p f n env)
+  into_is : (n : Next) → (stage_at p f).next ≡ n → (env : List ℕ)
+      → ((q : ℕ) → goes_to n env ≡ Some q → q < length p.stages)
+      → goes_into p f (goes_to n env) ≡ entered_list (goes_first p f n env) (goes_second p f n env)
   into_is Ends same env up = refl
   into_is (Goes to) same env up = at (stage_at p to).branch refl
     where
@@ -76,7 +79,12 @@ module _ (p : Pipe) (sound : Sound p) (st : State) (bits : List Bool) (f : ℕ) 
           by false g = refl
           by true g =
               let s = side_is to env b (ap (λ n. goes_to n env) same) (up to refl) e (eqb-true b.fork f g) in
-              absurd (cc (sym (ap (λ k. Rattle.pdl_theory_facts.specs.Graphs.on_side (stage_at p k).next b.first env) (eqb-true b.fork f g) ∙ ap (λ n. Rattle.pdl_theory_facts.specs.Graphs.on_side n b.first env) same) ∙ s))
+              absurd
+              (cc
+              (sym
+              (ap (λ k. Rattle.pdl_theory_facts.specs.Graphs.on_side (stage_at p k).next b.first env) (eqb-true b.fork f g)
+              ∙ ap (λ n. Rattle.pdl_theory_facts.specs.Graphs.on_side n b.first env) same)
+              ∙ s))
   into_is (Forks x a b) same env up = at (slice_index env x == 1) refl
     where
       into : Option Branch → List Bool
@@ -84,7 +92,8 @@ module _ (p : Pipe) (sound : Sound p) (st : State) (bits : List Bool) (f : ℕ) 
       into (Some c) = if c.fork == f then c.first ∷ [] else []
 
       -- of the stage to which it goes
-      to : (q : ℕ) (first : Bool) → (slice_index env x == 1) ≡ first → goes_to (Forks x a b) env ≡ Some q → into (stage_at p q).branch ≡ (if is_inside p f q then first ∷ [] else [])
+      to : (q : ℕ) (first : Bool) → (slice_index env x == 1) ≡ first → goes_to (Forks x a b) env ≡ Some q
+          → into (stage_at p q).branch ≡ (if is_inside p f q then first ∷ [] else [])
       to q first e g = by (stage_at p q).branch refl
         where
           by : (o : Option Branch) → (stage_at p q).branch ≡ o → into (stage_at p q).branch ≡ (if is_inside p f q then first ∷ [] else [])
@@ -101,7 +110,11 @@ module _ (p : Pipe) (sound : Sound p) (st : State) (bits : List Bool) (f : ℕ) 
               mine false i = refl
               mine true i =
                   let s = side_is q env c (ap (λ n. goes_to n env) same ∙ g) (up q g) h (eqb-true c.fork f i) in
-                  let t : (if c.first then slice_index env x == 1 else not (slice_index env x == 1)) ≡ true = sym (ap (λ k. Rattle.pdl_theory_facts.specs.Graphs.on_side (stage_at p k).next c.first env) (eqb-true c.fork f i) ∙ ap (λ n. Rattle.pdl_theory_facts.specs.Graphs.on_side n c.first env) same) ∙ s in
+                  let t : (if c.first then slice_index env x == 1 else not (slice_index env x == 1)) ≡ true =
+                  sym
+                  (ap (λ k. Rattle.pdl_theory_facts.specs.Graphs.on_side (stage_at p k).next c.first env) (eqb-true c.fork f i)
+                  ∙ ap (λ n. Rattle.pdl_theory_facts.specs.Graphs.on_side n c.first env) same)
+                  ∙ s in
                   ap (λ u. u ∷ []) (right c.first first (sym (ap (λ w. if c.first then w else not w) e) ∙ t))
 
       first_list : (u : Bool) → (if u then true ∷ [] else []) ≡ entered_list (u && true) false
@@ -116,7 +129,9 @@ module _ (p : Pipe) (sound : Sound p) (st : State) (bits : List Bool) (f : ℕ) 
       second_list true = refl
       second_list false = refl
 
-      at : (w : Bool) → (slice_index env x == 1) ≡ w → into (stage_at p (if slice_index env x == 1 then a else b)).branch ≡ entered_list (is_inside p f a && (slice_index env x == 1)) (is_inside p f b && not (slice_index env x == 1))
+      at : (w : Bool) → (slice_index env x == 1) ≡ w
+          → into (stage_at p (if slice_index env x == 1 then a else b)).branch
+          ≡ entered_list (is_inside p f a && (slice_index env x == 1)) (is_inside p f b && not (slice_index env x == 1))
       at true e =
           ap (λ w. into (stage_at p (if w then a else b)).branch) e ∙ to a true e (ap (λ w. Some (if w then a else b)) e) ∙ first_list (is_inside p f a)
           ∙ ap (entered_list (is_inside p f a && true)) (sym (no (is_inside p f b)))
@@ -128,38 +143,50 @@ module _ (p : Pipe) (sound : Sound p) (st : State) (bits : List Bool) (f : ℕ) 
 
   -- OVER ALL MOVERS
 
-  entered_past : (k : ℕ) (b : Bool) (o : Option Thread) (rest : List Act) → (k == f) ≡ false → entered_branches p f (mover p st k b o ++ rest) ≡ entered_branches p f rest
+  entered_past : (k : ℕ) (b : Bool) (o : Option Thread) (rest : List Act) → (k == f) ≡ false
+      → entered_branches p f (mover p st k b o ++ rest) ≡ entered_branches p f rest
   entered_past k false o rest h = refl
   entered_past k true None rest h = refl
-  entered_past k true (Some t) rest h = ap (λ c. entered_branches p f rest ++ (if c then goes_into p f (next_stage p k (deeds p st k t)) else [])) h ∙ append-nil (entered_branches p f rest)
+  entered_past k true (Some t) rest h =
+      ap (λ c. entered_branches p f rest ++ (if c then goes_into p f (next_stage p k (deeds p st k t)) else [])) h ∙ append-nil (entered_branches p f rest)
 
   entered_none : (n k : ℕ) → ((j : ℕ) → k ≤ j → j < k + n → (j == f) ≡ false) → entered_branches p f (movers_from p st bits n k) ≡ []
   entered_none zero k h = refl
-  entered_none (suc n) k h = entered_past k (stage_moves p st bits k) (here p st bits k) (movers_from p st bits n (suc k)) (h k (omega arith) (omega arith)) ∙ entered_none n (suc k) (λ j l i. h j (omega (arith, l)) (omega (arith, i)))
+  entered_none (suc n) k h =
+      entered_past k (stage_moves p st bits k) (here p st bits k) (movers_from p st bits n (suc k)) (h k (omega arith) (omega arith))
+      ∙ entered_none n (suc k) (λ j l i. h j (omega (arith, l)) (omega (arith, i)))
 
   module _ (leads : LeadsOn p) where
     entered_here : (b : Bool) (o : Option Thread) (rest : List Act) → entered_branches p f rest ≡ []
-        → entered_branches p f (mover p st f b o ++ rest) ≡ entered_list (if_moves (goes_first p f (stage_at p f).next) p st f b o) (if_moves (goes_second p f (stage_at p f).next) p st f b o)
+        → entered_branches p f (mover p st f b o ++ rest)
+        ≡ entered_list (if_moves (goes_first p f (stage_at p f).next) p st f b o) (if_moves (goes_second p f (stage_at p f).next) p st f b o)
     entered_here false o rest h = h
     entered_here true None rest h = h
     entered_here true (Some t) rest h =
         ap₂ (λ l c. l ++ (if c then goes_into p f (next_stage p f (deeds p st f t)) else [])) h (Rattle.std.proofs.Common.eq-eqb f f refl)
         ∙ into_is (stage_at p f).next refl (deeds p st f t).env (λ q e. (leads.up f q (deeds p st f t).env low e).1)
 
-    entered_from : (n k : ℕ) → k ≤ f → f < k + n → entered_branches p f (movers_from p st bits n k) ≡ entered_list (order_act p st bits f).entered_first (order_act p st bits f).entered_second
+    entered_from : (n k : ℕ) → k ≤ f → f < k + n
+        → entered_branches p f (movers_from p st bits n k) ≡ entered_list (order_act p st bits f).entered_first (order_act p st bits f).entered_second
     entered_from zero k l h = absurd (omega (arith, l, h))
     entered_from (suc n) k l h = at (k == f) refl (λ i. entered_from n (suc k) i (omega (arith, h)))
       where
         Goal : List Act → Type 0
         Goal ms = entered_branches p f ms ≡ entered_list (order_act p st bits f).entered_first (order_act p st bits f).entered_second
 
-        at : (b : Bool) → (k == f) ≡ b → (suc k ≤ f → entered_branches p f (movers_from p st bits n (suc k)) ≡ entered_list (order_act p st bits f).entered_first (order_act p st bits f).entered_second)
+        at : (b : Bool) → (k == f) ≡ b
+            → (suc k ≤ f
+            → entered_branches p f (movers_from p st bits n (suc k))
+            ≡ entered_list (order_act p st bits f).entered_first (order_act p st bits f).entered_second)
             → entered_branches p f (movers_from p st bits (suc n) k) ≡ entered_list (order_act p st bits f).entered_first (order_act p st bits f).entered_second
-        at false e rest = entered_past k (stage_moves p st bits k) (here p st bits k) (movers_from p st bits n (suc k)) e ∙ rest (let d = eqb-false k f e in omega (arith, l, d))
+        at false e rest =
+            entered_past k (stage_moves p st bits k) (here p st bits k) (movers_from p st bits n (suc k)) e
+            ∙ rest (let d = eqb-false k f e in omega (arith, l, d))
         at true e rest =
             let same = eqb-true k f e in
             ap (λ j. entered_branches p f (mover p st j (stage_moves p st bits j) (here p st bits j) ++ movers_from p st bits n (suc j))) same
-            ∙ entered_here (stage_moves p st bits f) (here p st bits f) (movers_from p st bits n (suc f)) (entered_none n (suc f) (λ j i m. Rattle.std.proofs.Common.ne_eqb j f (λ z. absurd (omega (arith, i, z)))))
+            ∙ entered_here (stage_moves p st bits f) (here p st bits f) (movers_from p st bits n (suc f))
+            (entered_none n (suc f) (λ j i m. Rattle.std.proofs.Common.ne_eqb j f (λ z. absurd (omega (arith, i, z)))))
 
     -- A CYCLE
 
@@ -174,7 +201,9 @@ module _ (p : Pipe) (sound : Sound p) (st : State) (bits : List Bool) (f : ℕ) 
       but_is [] = refl
       but_is (x ∷ xs) = refl
 
-      step_of_list : (left emptied first second : Bool) (xs : List Bool) → step xs (record { entered_first = first; entered_second = second; left = left; emptied = emptied }) ≡ (if emptied then [] else ((if left then but_first xs else xs) ++ entered_list first second))
+      step_of_list : (left emptied first second : Bool) (xs : List Bool)
+          → step xs (record { entered_first = first; entered_second = second; left = left; emptied = emptied })
+          ≡ (if emptied then [] else ((if left then but_first xs else xs) ++ entered_list first second))
       step_of_list left true first second xs = refl
       step_of_list left false first second xs = at first second ∙ ap (λ ys. (if left then ys else xs) ++ entered_list first second) (sym (but_is xs))
         where
@@ -191,7 +220,8 @@ module _ (p : Pipe) (sound : Sound p) (st : State) (bits : List Bool) (f : ℕ) 
       step_is =
           let a = order_act p st bits f in
           step_of_list a.left a.emptied a.entered_first a.entered_second (fork_of st f)
-          ∙ ap (λ es. if a.emptied then [] else ((if a.left then but_first (fork_of st f) else fork_of st f) ++ es)) (sym (entered_from (length p.stages) 0 (omega arith) (omega (arith, low))))
+          ∙ ap (λ es. if a.emptied then [] else ((if a.left then but_first (fork_of st f) else fork_of st f) ++ es))
+          (sym (entered_from (length p.stages) 0 (omega arith) (omega (arith, low))))
           ∙ sym list_next
 
       -- who leaves is the first
@@ -203,7 +233,8 @@ module _ (p : Pipe) (sound : Sound p) (st : State) (bits : List Bool) (f : ℕ) 
           first_some b [] i = absurd (cc i)
           first_some b (x ∷ xs) i = omega arith
 
-          merged : (m : Option ℕ) (from : Option Branch) → merges_fork m f ≡ true → is_branch_of from f ≡ true → may_merge st m from ≡ true → 1 ≤ length (fork_of st f)
+          merged : (m : Option ℕ) (from : Option Branch) → merges_fork m f ≡ true → is_branch_of from f ≡ true
+              → may_merge st m from ≡ true → 1 ≤ length (fork_of st f)
           merged None from g i j = absurd (cc g)
           merged (Some g') None g i j = absurd (cc i)
           merged (Some g') (Some b) g i j = subst (λ k. 1 ≤ length (fork_of st k)) (eqb-true g' f g) (first_some b.first (fork_of st g') j)
@@ -226,7 +257,10 @@ module _ (p : Pipe) (sound : Sound p) (st : State) (bits : List Bool) (f : ℕ) 
           enter true false i = refl
           enter false b i = absurd (cc i)
 
-          at : (b : Bool) (o : Option Thread) → stage_moves p st bits k ≡ b → here p st bits k ≡ o → has_left p f (mover p st k b o ++ movers_from p st bits n (suc k)) ≡ true → (has_left p f (movers_from p st bits n (suc k)) ≡ true → 1 ≤ length (fork_of st f)) → 1 ≤ length (fork_of st f)
+          at : (b : Bool) (o : Option Thread) → stage_moves p st bits k ≡ b → here p st bits k ≡ o
+              → has_left p f (mover p st k b o ++ movers_from p st bits n (suc k)) ≡ true
+              → (has_left p f (movers_from p st bits n (suc k)) ≡ true → 1 ≤ length (fork_of st f))
+              → 1 ≤ length (fork_of st f)
           at false o g i h rest = rest h
           at true None g i h rest = rest h
           at true (Some t) g i h rest = by' (is_branch_of (stage_at p k).branch f && goes_out p f (next_stage p k (deeds p st k t))) refl h
@@ -243,7 +277,8 @@ module _ (p : Pipe) (sound : Sound p) (st : State) (bits : List Bool) (f : ℕ) 
                   let u = and_parts (ports_free p st bits (later_acts p st bits k) d) _ z.1 in
                   (and_parts (barrier_clear p (later_acts p st bits k) d) _ u.1).1
 
-              by' : (c : Bool) → (is_branch_of (stage_at p k).branch f && goes_out p f (next_stage p k d)) ≡ c → (c || has_left p f (movers_from p st bits n (suc k))) ≡ true → 1 ≤ length (fork_of st f)
+              by' : (c : Bool) → (is_branch_of (stage_at p k).branch f && goes_out p f (next_stage p k d)) ≡ c
+                  → (c || has_left p f (movers_from p st bits n (suc k))) ≡ true → 1 ≤ length (fork_of st f)
               by' false j h = rest h
               by' true j h = let parts = and_parts (is_branch_of (stage_at p k).branch f) _ j in well (next_stage p k d) parts.1 parts.0 passes
 
@@ -266,7 +301,8 @@ module _ (p : Pipe) (sound : Sound p) (st : State) (bits : List Bool) (f : ℕ) 
         room = subst (λ (xs : List Bool). length xs ≤ branch_stages p f) (sym step_is) (flight'.forked f);
       }
         where
-          at : (b : Bool) (o : Option Thread) → (if_moves (goes_first p f (stage_at p f).next) p st f b o && if_moves (goes_second p f (stage_at p f).next) p st f b o) ≡ false
+          at : (b : Bool) (o : Option Thread)
+              → (if_moves (goes_first p f (stage_at p f).next) p st f b o && if_moves (goes_second p f (stage_at p f).next) p st f b o) ≡ false
           at false o = refl
           at true None = refl
           at true (Some t) = one_side (stage_at p f).next (deeds p st f t).env

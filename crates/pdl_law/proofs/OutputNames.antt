@@ -29,14 +29,16 @@ pub past_stages : (s : State) (vs : ℕ → View) (moves : ℕ → Signal) (x : 
     → look s (stages_shown vs moves n k ++ rest) x ≡ look s rest x
 past_stages s vs moves x v g zero k rest = refl
 past_stages s vs moves x v g (suc n) k rest =
-    ap₂ (λ a b. if a then (vs k).valid.value s else (if b then (moves k).value s else look s (stages_shown vs moves n (suc k) ++ rest) x)) (v k) (g k) ∙ past_stages s vs moves x v g n (suc k) rest
+    ap₂ (λ a b. if a then (vs k).valid.value s else (if b then (moves k).value s else look s (stages_shown vs moves n (suc k) ++ rest) x)) (v k) (g k)
+    ∙ past_stages s vs moves x v g n (suc k) rest
 
 -- MEMORIES
 
 -- the value of the first memory of this name that passes the test; the first of them has the number m
 abbrev pub pick : (Mem → Bool) → (ℕ → ℕ) → (ℕ → List ℕ) → ℕ → List Mem → List ℕ → ℕ → ℕ
 pick test value names m [] y rest = rest
-pick test value names m (x ∷ xs) y rest = if test x then (if bytes_eq (names m) y then value m else pick test value names (suc m) xs y rest) else pick test value names (suc m) xs y rest
+pick test value names m (x ∷ xs) y rest =
+    if test x then (if bytes_eq (names m) y then value m else pick test value names (suc m) xs y rest) else pick test value names (suc m) xs y rest
 
 -- where names differ, a memory that passes the test is found by its name
 pub pick_at : (test : Mem → Bool) (value : ℕ → ℕ) (names : ℕ → List ℕ) (n m : ℕ) (xs : List Mem) (i rest : ℕ)
@@ -46,24 +48,42 @@ pick_at test value names n m [] i rest e a l t = absurd (omega (arith, l))
 pick_at test value names n m (x ∷ xs) zero rest e a l t =
     let same : m ≡ m + 0 = omega arith in
     subst (λ j. pick test value names m (x ∷ xs) (names j) rest ≡ value j) same
-    (ap₂ (λ b c. if b then (if c then value m else pick test value names (suc m) xs (names m) rest) else pick test value names (suc m) xs (names m) rest) t (bytes_refl (names m)))
+    (ap₂
+    (λ b c. if b then (if c then value m else pick test value names (suc m) xs (names m) rest) else pick test value names (suc m) xs (names m) rest) t
+    (bytes_refl (names m)))
 pick_at test value names n m (x ∷ xs) (suc i) rest e a l t =
-    at (test x) ∙ subst (λ j. pick test value names (suc m) xs (names j) rest ≡ value j) (let z : suc m + i ≡ m + suc i = omega arith in z) (pick_at test value names n (suc m) xs i rest (omega (arith, e)) a (omega (arith, l)) t)
+    at (test x)
+    ∙ subst (λ j. pick test value names (suc m) xs (names j) rest ≡ value j)
+    (let z : suc m + i ≡ m + suc i = omega arith in z)
+    (pick_at test value names n (suc m) xs i rest (omega (arith, e)) a (omega (arith, l)) t)
   where
-    at : (b : Bool) → (if b then (if bytes_eq (names m) (names (m + suc i)) then value m else pick test value names (suc m) xs (names (m + suc i)) rest) else pick test value names (suc m) xs (names (m + suc i)) rest) ≡ pick test value names (suc m) xs (names (m + suc i)) rest
+    at : (b : Bool)
+        → (if b
+        then (if bytes_eq (names m) (names (m + suc i)) then value m else pick test value names (suc m) xs (names (m + suc i)) rest)
+        else pick test value names (suc m) xs (names (m + suc i)) rest)
+        ≡ pick test value names (suc m) xs (names (m + suc i)) rest
     at false = refl
-    at true = ap (λ c. if c then value m else pick test value names (suc m) xs (names (m + suc i)) rest) (a m (m + suc i) (omega (arith, e)) (omega (arith, e, l)) (λ z. omega (arith, z)))
+    at true =
+        ap (λ c. if c then value m else pick test value names (suc m) xs (names (m + suc i)) rest)
+        (a m (m + suc i) (omega (arith, e)) (omega (arith, e, l)) (λ z. omega (arith, z)))
 
 -- where names differ, a memory that doesn't pass the test is not found by its name
 pub pick_not : (test : Mem → Bool) (value : ℕ → ℕ) (names : ℕ → List ℕ) (n m : ℕ) (xs : List Mem) (i rest : ℕ)
     → m + length xs ≤ n → Apart names n → i < n → ((j : ℕ) → m + j ≡ i → test (slice_index_or xs j plain_mem) ≡ false)
     → pick test value names m xs (names i) rest ≡ rest
 pick_not test value names n m [] i rest e a l h = refl
-pick_not test value names n m (x ∷ xs) i rest e a l h = at (test x) refl ∙ pick_not test value names n (suc m) xs i rest (omega (arith, e)) a l (λ j f. h (suc j) (omega (arith, f)))
+pick_not test value names n m (x ∷ xs) i rest e a l h =
+    at (test x) refl ∙ pick_not test value names n (suc m) xs i rest (omega (arith, e)) a l (λ j f. h (suc j) (omega (arith, f)))
   where
-    at : (b : Bool) → test x ≡ b → (if b then (if bytes_eq (names m) (names i) then value m else pick test value names (suc m) xs (names i) rest) else pick test value names (suc m) xs (names i) rest) ≡ pick test value names (suc m) xs (names i) rest
+    at : (b : Bool) → test x ≡ b
+        → (if b
+        then (if bytes_eq (names m) (names i) then value m else pick test value names (suc m) xs (names i) rest)
+        else pick test value names (suc m) xs (names i) rest)
+        ≡ pick test value names (suc m) xs (names i) rest
     at false f = refl
-    at true f = ap (λ c. if c then value m else pick test value names (suc m) xs (names i) rest) (a m i (omega (arith, e)) l (λ z. false≢true (sym (h 0 (omega (arith, z))) ∙ f)))
+    at true f =
+        ap (λ c. if c then value m else pick test value names (suc m) xs (names i) rest)
+        (a m i (omega (arith, e)) l (λ z. false≢true (sym (h 0 (omega (arith, z))) ∙ f)))
 
 -- whether a memory commits, where, and what
 pub commit_flag : (s : State) (names : ℕ → List ℕ) (commits : ℕ → Commit) (m : ℕ) (xs : List Mem) (y : List ℕ) (rest : List Shown)
@@ -72,9 +92,14 @@ pub commit_flag : (s : State) (names : ℕ → List ℕ) (commits : ℕ → Comm
 commit_flag s names commits m [] y rest = refl
 commit_flag s names commits m (x ∷ xs) y rest = at (has_lock x.lock) (commit_flag s names commits (suc m) xs y rest)
   where
-    at : (b : Bool) → look s (commits_shown names commits (suc m) xs ++ rest) (codes "c_" ++ y) ≡ pick (λ (x : Mem). has_lock x.lock) (λ i. (commits i).enable.value s) names (suc m) xs y (look s rest (codes "c_" ++ y))
+    at : (b : Bool)
+        → look s (commits_shown names commits (suc m) xs ++ rest) (codes "c_" ++ y)
+        ≡ pick (λ (x : Mem). has_lock x.lock) (λ i. (commits i).enable.value s) names (suc m) xs y (look s rest (codes "c_" ++ y))
         → look s (((if b then commit_shown (names m) (commits m) else []) ++ commits_shown names commits (suc m) xs) ++ rest) (codes "c_" ++ y)
-        ≡ (if b then (if bytes_eq (names m) y then (commits m).enable.value s else pick (λ (x : Mem). has_lock x.lock) (λ i. (commits i).enable.value s) names (suc m) xs y (look s rest (codes "c_" ++ y))) else pick (λ (x : Mem). has_lock x.lock) (λ i. (commits i).enable.value s) names (suc m) xs y (look s rest (codes "c_" ++ y)))
+        ≡ (if b
+        then (if bytes_eq (names m) y then (commits m).enable.value s
+        else pick (λ (x : Mem). has_lock x.lock) (λ i. (commits i).enable.value s) names (suc m) xs y (look s rest (codes "c_" ++ y)))
+        else pick (λ (x : Mem). has_lock x.lock) (λ i. (commits i).enable.value s) names (suc m) xs y (look s rest (codes "c_" ++ y)))
     at false go = go
     at true go = ap (λ n. if bytes_eq (names m) y then (commits m).enable.value s else n) go
 
@@ -85,9 +110,14 @@ pub commit_addr : (s : State) (names : ℕ → List ℕ) (commits : ℕ → Comm
 commit_addr s names commits m [] y rest = refl
 commit_addr s names commits m (x ∷ xs) y rest = at (has_lock x.lock) (commit_addr s names commits (suc m) xs y rest)
   where
-    at : (b : Bool) → look s (commits_shown names commits (suc m) xs ++ rest) (codes "ca_" ++ y) ≡ pick (λ (x : Mem). has_lock x.lock) (λ i. (commits i).addr.value s) names (suc m) xs y (look s rest (codes "ca_" ++ y))
+    at : (b : Bool)
+        → look s (commits_shown names commits (suc m) xs ++ rest) (codes "ca_" ++ y)
+        ≡ pick (λ (x : Mem). has_lock x.lock) (λ i. (commits i).addr.value s) names (suc m) xs y (look s rest (codes "ca_" ++ y))
         → look s (((if b then commit_shown (names m) (commits m) else []) ++ commits_shown names commits (suc m) xs) ++ rest) (codes "ca_" ++ y)
-        ≡ (if b then (if bytes_eq (names m) y then (commits m).addr.value s else pick (λ (x : Mem). has_lock x.lock) (λ i. (commits i).addr.value s) names (suc m) xs y (look s rest (codes "ca_" ++ y))) else pick (λ (x : Mem). has_lock x.lock) (λ i. (commits i).addr.value s) names (suc m) xs y (look s rest (codes "ca_" ++ y)))
+        ≡ (if b
+        then (if bytes_eq (names m) y then (commits m).addr.value s
+        else pick (λ (x : Mem). has_lock x.lock) (λ i. (commits i).addr.value s) names (suc m) xs y (look s rest (codes "ca_" ++ y)))
+        else pick (λ (x : Mem). has_lock x.lock) (λ i. (commits i).addr.value s) names (suc m) xs y (look s rest (codes "ca_" ++ y)))
     at false go = go
     at true go = ap (λ n. if bytes_eq (names m) y then (commits m).addr.value s else n) go
 
@@ -98,9 +128,14 @@ pub commit_word : (s : State) (names : ℕ → List ℕ) (commits : ℕ → Comm
 commit_word s names commits m [] y rest = refl
 commit_word s names commits m (x ∷ xs) y rest = at (has_lock x.lock) (commit_word s names commits (suc m) xs y rest)
   where
-    at : (b : Bool) → look s (commits_shown names commits (suc m) xs ++ rest) (codes "cd_" ++ y) ≡ pick (λ (x : Mem). has_lock x.lock) (λ i. (commits i).value.value s) names (suc m) xs y (look s rest (codes "cd_" ++ y))
+    at : (b : Bool)
+        → look s (commits_shown names commits (suc m) xs ++ rest) (codes "cd_" ++ y)
+        ≡ pick (λ (x : Mem). has_lock x.lock) (λ i. (commits i).value.value s) names (suc m) xs y (look s rest (codes "cd_" ++ y))
         → look s (((if b then commit_shown (names m) (commits m) else []) ++ commits_shown names commits (suc m) xs) ++ rest) (codes "cd_" ++ y)
-        ≡ (if b then (if bytes_eq (names m) y then (commits m).value.value s else pick (λ (x : Mem). has_lock x.lock) (λ i. (commits i).value.value s) names (suc m) xs y (look s rest (codes "cd_" ++ y))) else pick (λ (x : Mem). has_lock x.lock) (λ i. (commits i).value.value s) names (suc m) xs y (look s rest (codes "cd_" ++ y)))
+        ≡ (if b
+        then (if bytes_eq (names m) y then (commits m).value.value s
+        else pick (λ (x : Mem). has_lock x.lock) (λ i. (commits i).value.value s) names (suc m) xs y (look s rest (codes "cd_" ++ y)))
+        else pick (λ (x : Mem). has_lock x.lock) (λ i. (commits i).value.value s) names (suc m) xs y (look s rest (codes "cd_" ++ y)))
     at false go = go
     at true go = ap (λ n. if bytes_eq (names m) y then (commits m).value.value s else n) go
 
@@ -111,9 +146,14 @@ pub request_flag : (s : State) (names : ℕ → List ℕ) (asks : ℕ → Reques
 request_flag s names asks m [] y rest = refl
 request_flag s names asks m (x ∷ xs) y rest = at x.delayed (request_flag s names asks (suc m) xs y rest)
   where
-    at : (b : Bool) → look s (requests_shown names asks (suc m) xs ++ rest) (codes "q_" ++ y) ≡ pick (λ (x : Mem). x.delayed) (λ i. (asks i).enable.value s) names (suc m) xs y (look s rest (codes "q_" ++ y))
+    at : (b : Bool)
+        → look s (requests_shown names asks (suc m) xs ++ rest) (codes "q_" ++ y)
+        ≡ pick (λ (x : Mem). x.delayed) (λ i. (asks i).enable.value s) names (suc m) xs y (look s rest (codes "q_" ++ y))
         → look s (((if b then request_shown (names m) (asks m) else []) ++ requests_shown names asks (suc m) xs) ++ rest) (codes "q_" ++ y)
-        ≡ (if b then (if bytes_eq (names m) y then (asks m).enable.value s else pick (λ (x : Mem). x.delayed) (λ i. (asks i).enable.value s) names (suc m) xs y (look s rest (codes "q_" ++ y))) else pick (λ (x : Mem). x.delayed) (λ i. (asks i).enable.value s) names (suc m) xs y (look s rest (codes "q_" ++ y)))
+        ≡ (if b
+        then (if bytes_eq (names m) y then (asks m).enable.value s
+        else pick (λ (x : Mem). x.delayed) (λ i. (asks i).enable.value s) names (suc m) xs y (look s rest (codes "q_" ++ y)))
+        else pick (λ (x : Mem). x.delayed) (λ i. (asks i).enable.value s) names (suc m) xs y (look s rest (codes "q_" ++ y)))
     at false go = go
     at true go = ap (λ n. if bytes_eq (names m) y then (asks m).enable.value s else n) go
 
@@ -124,9 +164,14 @@ pub request_addr : (s : State) (names : ℕ → List ℕ) (asks : ℕ → Reques
 request_addr s names asks m [] y rest = refl
 request_addr s names asks m (x ∷ xs) y rest = at x.delayed (request_addr s names asks (suc m) xs y rest)
   where
-    at : (b : Bool) → look s (requests_shown names asks (suc m) xs ++ rest) (codes "qa_" ++ y) ≡ pick (λ (x : Mem). x.delayed) (λ i. (asks i).addr.value s) names (suc m) xs y (look s rest (codes "qa_" ++ y))
+    at : (b : Bool)
+        → look s (requests_shown names asks (suc m) xs ++ rest) (codes "qa_" ++ y)
+        ≡ pick (λ (x : Mem). x.delayed) (λ i. (asks i).addr.value s) names (suc m) xs y (look s rest (codes "qa_" ++ y))
         → look s (((if b then request_shown (names m) (asks m) else []) ++ requests_shown names asks (suc m) xs) ++ rest) (codes "qa_" ++ y)
-        ≡ (if b then (if bytes_eq (names m) y then (asks m).addr.value s else pick (λ (x : Mem). x.delayed) (λ i. (asks i).addr.value s) names (suc m) xs y (look s rest (codes "qa_" ++ y))) else pick (λ (x : Mem). x.delayed) (λ i. (asks i).addr.value s) names (suc m) xs y (look s rest (codes "qa_" ++ y)))
+        ≡ (if b
+        then (if bytes_eq (names m) y then (asks m).addr.value s
+        else pick (λ (x : Mem). x.delayed) (λ i. (asks i).addr.value s) names (suc m) xs y (look s rest (codes "qa_" ++ y)))
+        else pick (λ (x : Mem). x.delayed) (λ i. (asks i).addr.value s) names (suc m) xs y (look s rest (codes "qa_" ++ y)))
     at false go = go
     at true go = ap (λ n. if bytes_eq (names m) y then (asks m).addr.value s else n) go
 
@@ -137,7 +182,8 @@ past_commits_q s names commits m [] y rest = refl
 past_commits_q s names commits m (x ∷ xs) y rest = at (has_lock x.lock) (past_commits_q s names commits (suc m) xs y rest)
   where
     at : (b : Bool) → look s (commits_shown names commits (suc m) xs ++ rest) (codes "q_" ++ y) ≡ look s rest (codes "q_" ++ y)
-        → look s (((if b then commit_shown (names m) (commits m) else []) ++ commits_shown names commits (suc m) xs) ++ rest) (codes "q_" ++ y) ≡ look s rest (codes "q_" ++ y)
+        → look s (((if b then commit_shown (names m) (commits m) else []) ++ commits_shown names commits (suc m) xs) ++ rest) (codes "q_" ++ y)
+        ≡ look s rest (codes "q_" ++ y)
     at false go = go
     at true go = go
 
@@ -148,7 +194,8 @@ past_commits_qa s names commits m [] y rest = refl
 past_commits_qa s names commits m (x ∷ xs) y rest = at (has_lock x.lock) (past_commits_qa s names commits (suc m) xs y rest)
   where
     at : (b : Bool) → look s (commits_shown names commits (suc m) xs ++ rest) (codes "qa_" ++ y) ≡ look s rest (codes "qa_" ++ y)
-        → look s (((if b then commit_shown (names m) (commits m) else []) ++ commits_shown names commits (suc m) xs) ++ rest) (codes "qa_" ++ y) ≡ look s rest (codes "qa_" ++ y)
+        → look s (((if b then commit_shown (names m) (commits m) else []) ++ commits_shown names commits (suc m) xs) ++ rest) (codes "qa_" ++ y)
+        ≡ look s rest (codes "qa_" ++ y)
     at false go = go
     at true go = go
 
@@ -159,7 +206,8 @@ past_requests_c s names asks m [] y rest = refl
 past_requests_c s names asks m (x ∷ xs) y rest = at x.delayed (past_requests_c s names asks (suc m) xs y rest)
   where
     at : (b : Bool) → look s (requests_shown names asks (suc m) xs ++ rest) (codes "c_" ++ y) ≡ look s rest (codes "c_" ++ y)
-        → look s (((if b then request_shown (names m) (asks m) else []) ++ requests_shown names asks (suc m) xs) ++ rest) (codes "c_" ++ y) ≡ look s rest (codes "c_" ++ y)
+        → look s (((if b then request_shown (names m) (asks m) else []) ++ requests_shown names asks (suc m) xs) ++ rest) (codes "c_" ++ y)
+        ≡ look s rest (codes "c_" ++ y)
     at false go = go
     at true go = go
 
@@ -170,7 +218,8 @@ past_requests_ca s names asks m [] y rest = refl
 past_requests_ca s names asks m (x ∷ xs) y rest = at x.delayed (past_requests_ca s names asks (suc m) xs y rest)
   where
     at : (b : Bool) → look s (requests_shown names asks (suc m) xs ++ rest) (codes "ca_" ++ y) ≡ look s rest (codes "ca_" ++ y)
-        → look s (((if b then request_shown (names m) (asks m) else []) ++ requests_shown names asks (suc m) xs) ++ rest) (codes "ca_" ++ y) ≡ look s rest (codes "ca_" ++ y)
+        → look s (((if b then request_shown (names m) (asks m) else []) ++ requests_shown names asks (suc m) xs) ++ rest) (codes "ca_" ++ y)
+        ≡ look s rest (codes "ca_" ++ y)
     at false go = go
     at true go = go
 
@@ -181,6 +230,7 @@ past_requests_cd s names asks m [] y rest = refl
 past_requests_cd s names asks m (x ∷ xs) y rest = at x.delayed (past_requests_cd s names asks (suc m) xs y rest)
   where
     at : (b : Bool) → look s (requests_shown names asks (suc m) xs ++ rest) (codes "cd_" ++ y) ≡ look s rest (codes "cd_" ++ y)
-        → look s (((if b then request_shown (names m) (asks m) else []) ++ requests_shown names asks (suc m) xs) ++ rest) (codes "cd_" ++ y) ≡ look s rest (codes "cd_" ++ y)
+        → look s (((if b then request_shown (names m) (asks m) else []) ++ requests_shown names asks (suc m) xs) ++ rest) (codes "cd_" ++ y)
+        ≡ look s rest (codes "cd_" ++ y)
     at false go = go
     at true go = go

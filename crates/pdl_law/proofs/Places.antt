@@ -17,11 +17,14 @@ use Rattle.pdl_law_sides.specs.WholeNetlist.{names_delayed, in_order, HasWholeMe
 
 -- a memory before others that passes the test makes the count one more
 pub count_yes : (test : Mem → Bool) (x : Mem) (xs : List Mem) → test x ≡ true → count_by test (x ∷ xs) ≡ suc (count_by test xs)
-count_yes test x xs e = sum_by-cons (λ y. cond (test y) 1 0) x xs ∙ ap (λ b. cond b 1 0 + count_by test xs) e ∙ (let z : 1 + count_by test xs ≡ suc (count_by test xs) = omega arith in z)
+count_yes test x xs e =
+    sum_by-cons (λ y. cond (test y) 1 0) x xs ∙ ap (λ b. cond b 1 0 + count_by test xs) e
+    ∙ (let z : 1 + count_by test xs ≡ suc (count_by test xs) = omega arith in z)
 
 -- a memory before others that doesn't pass the test leaves the count
 pub count_no : (test : Mem → Bool) (x : Mem) (xs : List Mem) → test x ≡ false → count_by test (x ∷ xs) ≡ count_by test xs
-count_no test x xs e = sum_by-cons (λ y. cond (test y) 1 0) x xs ∙ ap (λ b. cond b 1 0 + count_by test xs) e ∙ (let z : 0 + count_by test xs ≡ count_by test xs = omega arith in z)
+count_no test x xs e =
+    sum_by-cons (λ y. cond (test y) 1 0) x xs ∙ ap (λ b. cond b 1 0 + count_by test xs) e ∙ (let z : 0 + count_by test xs ≡ count_by test xs = omega arith in z)
 
 -- before one that passes the test fewer do than in all
 pub fewer_before : (test : Mem → Bool) (xs : List Mem) (i : ℕ)
@@ -47,7 +50,8 @@ count_both : (xs : List Mem) → count_by is_delayed xs + count_by is_comb xs �
 count_both [] = omega arith
 count_both (x ∷ xs) = at x.delayed refl (count_both xs)
   where
-    at : (b : Bool) → x.delayed ≡ b → count_by is_delayed xs + count_by is_comb xs ≡ length xs → count_by is_delayed (x ∷ xs) + count_by is_comb (x ∷ xs) ≡ suc (length xs)
+    at : (b : Bool) → x.delayed ≡ b → count_by is_delayed xs + count_by is_comb xs ≡ length xs
+        → count_by is_delayed (x ∷ xs) + count_by is_comb (x ∷ xs) ≡ suc (length xs)
     at true f h = let c = count_yes is_delayed x xs f in let d = count_no is_comb x xs (ap (λ b. if b then false else true) f) in omega (arith, c, d, h)
     at false f h = let c = count_no is_delayed x xs f in let d = count_yes is_comb x xs (ap (λ b. if b then false else true) f) in omega (arith, c, d, h)
 
@@ -79,7 +83,9 @@ reply_low p m l e = fewer_before is_delayed p.mems m l e
 -- the words of a memory in an image of the netlist's memories
 pub part_is : (p : Pipe) (image : List (List ℕ)) (m : ℕ)
     → m < length p.mems → slice_index_or (in_order p image) m [] ≡ slice_index_or image (net_place p m) []
-part_is p image m l = at_mem (λ i. slice_index_or image (net_place p i) []) 0 p.mems m [] l ∙ ap (λ i. slice_index_or image (net_place p i) []) (let z : 0 + m ≡ m = omega arith in z)
+part_is p image m l =
+    at_mem (λ i. slice_index_or image (net_place p i) []) 0 p.mems m [] l
+    ∙ ap (λ i. slice_index_or image (net_place p i) []) (let z : 0 + m ≡ m = omega arith in z)
 
 -- ---- THE NETLIST'S
 
@@ -87,7 +93,8 @@ named_count : (names : ℕ → List ℕ) (m : ℕ) (xs : List Mem) → length (n
 named_count names m [] = refl
 named_count names m (x ∷ xs) = at x.delayed refl (named_count names (suc m) xs)
   where
-    at : (b : Bool) → x.delayed ≡ b → length (names_delayed names (suc m) xs) ≡ count_by is_delayed xs → length ((if b then names m ∷ [] else []) ++ names_delayed names (suc m) xs) ≡ count_by is_delayed (x ∷ xs)
+    at : (b : Bool) → x.delayed ≡ b → length (names_delayed names (suc m) xs) ≡ count_by is_delayed xs
+        → length ((if b then names m ∷ [] else []) ++ names_delayed names (suc m) xs) ≡ count_by is_delayed (x ∷ xs)
     at true f h = ap suc h ∙ sym (count_yes is_delayed x xs f)
     at false f h = h ∙ sym (count_no is_delayed x xs f)
 

@@ -50,10 +50,12 @@ asks_value s m moves g e (q ∷ qs) = at (q.mem == m) refl (asks_value s m moves
     rest = asks_memory m moves qs
 
     at : (b : Bool) → (q.mem == m) ≡ b → (asks_memory m moves qs).value s ≡ bit (g && asks_of m (asked_in s qs))
-        → (if b then mux_signal (both moves q.on) one (asks_memory m moves qs) else asks_memory m moves qs).value s ≡ bit (g && asks_of m (if is_on q.on s then record { mem = q.mem; var = q.var; address = q.addr.value s } ∷ asked_in s qs else asked_in s qs))
+        → (if b then mux_signal (both moves q.on) one (asks_memory m moves qs) else asks_memory m moves qs).value s
+        ≡ bit (g && asks_of m (if is_on q.on s then record { mem = q.mem; var = q.var; address = q.addr.value s } ∷ asked_in s qs else asked_in s qs))
     at false f h = h ∙ ap bit (ap (λ b. g && b) (by (is_on q.on s)))
       where
-        by : (c : Bool) → asks_of m (asked_in s qs) ≡ asks_of m (if c then record { mem = q.mem; var = q.var; address = q.addr.value s } ∷ asked_in s qs else asked_in s qs)
+        by : (c : Bool)
+            → asks_of m (asked_in s qs) ≡ asks_of m (if c then record { mem = q.mem; var = q.var; address = q.addr.value s } ∷ asked_in s qs else asked_in s qs)
         by true = sym (ap (λ b. b || asks_of m (asked_in s qs)) f)
         by false = refl
     at true f h =
@@ -62,7 +64,9 @@ asks_value s m moves g e (q ∷ qs) = at (q.mem == m) refl (asks_value s m moves
         ∙ ap (λ n. if g && is_on q.on s then 1 else n) h
         ∙ by g (is_on q.on s)
       where
-        by : (b d : Bool) → (if b && d then 1 else bit (b && asks_of m (asked_in s qs))) ≡ bit (b && asks_of m (if d then record { mem = q.mem; var = q.var; address = q.addr.value s } ∷ asked_in s qs else asked_in s qs))
+        by : (b d : Bool)
+            → (if b && d then 1 else bit (b && asks_of m (asked_in s qs)))
+            ≡ bit (b && asks_of m (if d then record { mem = q.mem; var = q.var; address = q.addr.value s } ∷ asked_in s qs else asked_in s qs))
         by true true = sym (ap (λ c. bit (c || asks_of m (asked_in s qs))) f)
         by true false = refl
         by false d = refl
@@ -84,10 +88,16 @@ address_value s m moves g e [] = zero_is s ∙ at 0 g
 address_value s m moves g e (q ∷ qs) = at (q.mem == m) refl (address_value s m moves g e qs)
   where
     at : (b : Bool) → (q.mem == m) ≡ b → (asked_address m moves qs).value s ≡ (if g then address_or (address_of m (asked_in s qs) None) else 0)
-        → (if b then mux_signal (both moves q.on) q.addr (asked_address m moves qs) else asked_address m moves qs).value s ≡ (if g then address_or (address_of m (if is_on q.on s then record { mem = q.mem; var = q.var; address = q.addr.value s } ∷ asked_in s qs else asked_in s qs) None) else 0)
+        → (if b then mux_signal (both moves q.on) q.addr (asked_address m moves qs) else asked_address m moves qs).value s
+        ≡ (if g
+        then address_or
+        (address_of m (if is_on q.on s then record { mem = q.mem; var = q.var; address = q.addr.value s } ∷ asked_in s qs else asked_in s qs) None)
+        else 0)
     at false f h = h ∙ ap (λ n. if g then n else 0) (by (is_on q.on s))
       where
-        by : (c : Bool) → address_or (address_of m (asked_in s qs) None) ≡ address_or (address_of m (if c then record { mem = q.mem; var = q.var; address = q.addr.value s } ∷ asked_in s qs else asked_in s qs) None)
+        by : (c : Bool)
+            → address_or (address_of m (asked_in s qs) None)
+            ≡ address_or (address_of m (if c then record { mem = q.mem; var = q.var; address = q.addr.value s } ∷ asked_in s qs else asked_in s qs) None)
         by true = sym (ap (λ b. address_or (if b then Some (q.addr.value s) else address_of m (asked_in s qs) None)) f)
         by false = refl
     at true f h =
@@ -96,7 +106,11 @@ address_value s m moves g e (q ∷ qs) = at (q.mem == m) refl (address_value s m
         ∙ ap (λ n. if g && is_on q.on s then q.addr.value s else n) h
         ∙ by g (is_on q.on s)
       where
-        by : (b d : Bool) → (if b && d then q.addr.value s else (if b then address_or (address_of m (asked_in s qs) None) else 0)) ≡ (if b then address_or (address_of m (if d then record { mem = q.mem; var = q.var; address = q.addr.value s } ∷ asked_in s qs else asked_in s qs) None) else 0)
+        by : (b d : Bool)
+            → (if b && d then q.addr.value s else (if b then address_or (address_of m (asked_in s qs) None) else 0))
+            ≡ (if b
+            then address_or (address_of m (if d then record { mem = q.mem; var = q.var; address = q.addr.value s } ∷ asked_in s qs else asked_in s qs) None)
+            else 0)
         by true true = sym (ap (λ c. address_or (if c then Some (q.addr.value s) else address_of m (asked_in s qs) None)) f)
         by true false = refl
         by false d = refl
@@ -127,7 +141,14 @@ place_value s (Forks x a b) (suc (suc i)) w env l h = absurd (omega (arith, l))
 -- a next state of a fragment without array
 pub own_next : (c : Circuit) (own : Rattle.pdl_net.specs.Growth.Own) (s t : State) → HasOwn c own
     → t.regs ≡ next_regs c s → t.arrays ≡ next_arrays c s → IsNext c own s t
-own_next c own s t h regs arrays = is_next own c c s t (record { has_reg = h.regs; nexts = λ k lo hi. refl; has_array = λ i lo hi. absurd (let z = h.none in omega (arith, lo, hi, z)); writes = λ i lo hi. refl }) regs arrays
+own_next c own s t h regs arrays =
+    is_next own c c s t
+    (record {
+      has_reg = h.regs;
+      nexts = λ k lo hi. refl;
+      has_array = λ i lo hi. absurd (let z = h.none in omega (arith, lo, hi, z));
+      writes = λ i lo hi. refl;
+    }) regs arrays
 
 -- AT THE START
 
@@ -144,11 +165,17 @@ ports_first p c vs gates moves sides own m r h image s regs = record {
 
 -- FROM CYCLE TO CYCLE
 
-module _ (p : Pipe) (reads : Reads p) (leads : LeadsOn p) (some : 0 < length p.stages) (c : Circuit) (vs : ℕ → View) (gates : Gates) (moves : ℕ → Signal) (sides : Sides) (own : Rattle.pdl_net.specs.Growth.Own) (m : ℕ) (r : Reading) (is : reading p m ≡ Some r) (r_low : r.stage < length p.stages) (has : HasPort p c vs gates moves sides own m r)
-    (s : State) (st : MachineState) (bits : List Bool) (flight : InFlight p st) (flight' : InFlight p (cycle p st bits)) (by : IsByStages p st bits) (stand : PortStands p sides s st m r) (given : IsGiven p sides s st bits) (seen : (j : ℕ) → j < length p.stages → IsSeen p vs moves s st bits j)
+module _ (p : Pipe) (reads : Reads p) (leads : LeadsOn p) (some : 0 < length p.stages) (c : Circuit) (vs : ℕ → View)
+    (gates : Gates) (moves : ℕ → Signal) (sides : Sides) (own : Rattle.pdl_net.specs.Growth.Own) (m : ℕ) (r : Reading)
+    (is : reading p m ≡ Some r) (r_low : r.stage < length p.stages) (has : HasPort p c vs gates moves sides own m r)
+    (s : State) (st : MachineState) (bits : List Bool) (flight : InFlight p st) (flight' : InFlight p (cycle p st bits))
+    (by : IsByStages p st bits) (stand : PortStands p sides s st m r) (given : IsGiven p sides s st bits)
+    (seen : (j : ℕ) → j < length p.stages → IsSeen p vs moves s st bits j)
     (spared : (k : ℕ) (t : Thread) → here p st bits k ≡ Some t → stage_moves p st bits k ≡ true → is_kept (squasher (moving p st bits)) t.number ≡ true)
-    (removed : ℕ → Bool) (kills : (k : ℕ) → k < length p.stages → (gates.kill k).value s ≡ bit (removed k)) (removes : (k : ℕ) (u : Thread) → slot st k ≡ Some u → removed k ≡ not (is_kept (squasher (moving p st bits)) u.number)) where
-  asked_is : (i : ℕ) → i < length (places p r) → (asked_into p vs moves m r i).value s ≡ bit (asked_at p st m r (stage_moves p st bits r.stage) (here p st bits r.stage) i)
+    (removed : ℕ → Bool) (kills : (k : ℕ) → k < length p.stages → (gates.kill k).value s ≡ bit (removed k))
+    (removes : (k : ℕ) (u : Thread) → slot st k ≡ Some u → removed k ≡ not (is_kept (squasher (moving p st bits)) u.number)) where
+  asked_is : (i : ℕ) → i < length (places p r)
+      → (asked_into p vs moves m r i).value s ≡ bit (asked_at p st m r (stage_moves p st bits r.stage) (here p st bits r.stage) i)
   asked_is i l = at (moves_or_not p st bits r.stage)
     where
       k : ℕ
@@ -157,7 +184,8 @@ module _ (p : Pipe) (reads : Reads p) (leads : LeadsOn p) (some : 0 < length p.s
       Goal : Type 0
       Goal = (asked_into p vs moves m r i).value s ≡ bit (asked_at p st m r (stage_moves p st bits r.stage) (here p st bits r.stage) i)
 
-      at : (stage_moves p st bits r.stage ≡ false) ⊎ ((t : Thread) × (here p st bits r.stage ≡ Some t) × (stage_moves p st bits r.stage ≡ true)) → (asked_into p vs moves m r i).value s ≡ bit (asked_at p st m r (stage_moves p st bits r.stage) (here p st bits r.stage) i)
+      at : (stage_moves p st bits r.stage ≡ false) ⊎ ((t : Thread) × (here p st bits r.stage ≡ Some t) × (stage_moves p st bits r.stage ≡ true))
+          → (asked_into p vs moves m r i).value s ≡ bit (asked_at p st m r (stage_moves p st bits r.stage) (here p st bits r.stage) i)
       at (inl e) =
           both_at s (asks_memory m (moves r.stage) (vs r.stage).ended.asks) (goes_to_place (stage_at p r.stage).next i (vs r.stage).ended) false false
           (asks_value s m (moves r.stage) false ((seen r.stage r_low).leaves ∙ ap bit e) (vs r.stage).ended.asks) (λ z. absurd (cc z))
@@ -166,8 +194,11 @@ module _ (p : Pipe) (reads : Reads p) (leads : LeadsOn p) (some : 0 < length p.s
           let t = e.0 in
           let so = ((seen r.stage r_low).follows t e.1).so (ready_of p st bits r.stage t by r_low e.1 e.2) in
           let d = deeds p st r.stage t in
-          both_at s (asks_memory m (moves r.stage) (vs r.stage).ended.asks) (goes_to_place (stage_at p r.stage).next i (vs r.stage).ended) (asks_of m (asked_in s (vs r.stage).ended.asks)) (place_to (stage_at p r.stage).next d.env == i)
-          (asks_value s m (moves r.stage) true ((seen r.stage r_low).leaves ∙ ap bit e.2) (vs r.stage).ended.asks) (λ z. place_value s (stage_at p r.stage).next i (vs r.stage).ended d.env l (λ x f. so.env x (lives_fork p r.stage x r_low f)))
+          both_at s (asks_memory m (moves r.stage) (vs r.stage).ended.asks)
+          (goes_to_place (stage_at p r.stage).next i (vs r.stage).ended)
+          (asks_of m (asked_in s (vs r.stage).ended.asks)) (place_to (stage_at p r.stage).next d.env == i)
+          (asks_value s m (moves r.stage) true ((seen r.stage r_low).leaves ∙ ap bit e.2) (vs r.stage).ended.asks)
+          (λ z. place_value s (stage_at p r.stage).next i (vs r.stage).ended d.env l (λ x f. so.env x (lives_fork p r.stage x r_low f)))
           ∙ ap (λ (qs : List Ask). bit (asks_of m qs && (place_to (stage_at p r.stage).next d.env == i))) (sym so.asks)
           ∙ ap₂ (λ b o. bit (asked_at p st m r b o i)) (sym e.2) (sym e.1)
 
@@ -191,5 +222,7 @@ module _ (p : Pipe) (reads : Reads p) (leads : LeadsOn p) (some : 0 < length p.s
     stands = has.step.next s t stand.state (port_act p st bits m r (λ i. removed (place_at p r i))) stand.stands drives
         (proper_port p reads leads some st bits flight by m r is r_low stand.state stand.same (λ i. removed (place_at p r i)))
         (own_next c own s t has.owned regs arrays);
-    same = same_next p reads leads some st bits flight by m r is r_low stand.state stand.same flight' spared (λ i. removed (place_at p r i)) (λ i u l e. removes (place_at p r i) u e);
+    same =
+        same_next p reads leads some st bits flight by m r is r_low stand.state stand.same flight' spared (λ i. removed (place_at p r i))
+        (λ i u l e. removes (place_at p r i) u e);
   }

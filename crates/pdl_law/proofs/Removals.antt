@@ -31,8 +31,11 @@ abbrev pub removes : Option ℕ → Option Thread → Bool
 removes sq None = false
 removes sq (Some t) = not (is_kept sq t.number)
 
-module _ (p : Pipe) (sound : Sound p) (c : Circuit) (vs : ℕ → View) (gates : Gates) (moves : ℕ → Signal) (sides : Sides) (removals : HasRemovals p c vs gates moves sides)
-    (s : State) (st : machine.State) (bits : List Bool) (suits : Suits c s) (flight : InFlight p st) (by : IsByStages p st bits) (valid : (k : ℕ) → k < length p.stages → (vs k).valid.value s ≡ bit (is_some (slot st k))) where
+module _ (p : Pipe) (sound : Sound p) (c : Circuit) (vs : ℕ → View) (gates : Gates) (moves : ℕ → Signal) (sides : Sides)
+    (removals : HasRemovals p c vs gates moves sides)
+    (s : State) (st : machine.State) (bits : List Bool) (suits : Suits c s) (flight : InFlight p st)
+    (by : IsByStages p st bits)
+    (valid : (k : ℕ) → k < length p.stages → (vs k).valid.value s ≡ bit (is_some (slot st k))) where
   module _ (v : ℕ) (is : verify_stage p.stmts ≡ Some v) where
     -- whether V squashes
     abbrev squashing : Bool
@@ -41,7 +44,8 @@ module _ (p : Pipe) (sound : Sound p) (c : Circuit) (vs : ℕ → View) (gates :
     low_v : v < length p.stages
     low_v = v_low p sound st bits flight v is
 
-    drives : IsSeen p vs moves s st bits v → Drives (squash_of vs moves v) s (λ k. is_some (slot st k)) (stage_moves p st bits v) (failing p st v (here p st bits v))
+    drives : IsSeen p vs moves s st bits v
+        → Drives (squash_of vs moves v) s (λ k. is_some (slot st k)) (stage_moves p st bits v) (failing p st v (here p st bits v))
     drives seen = record {
       valid = λ k low. valid k (let l = low_v in omega (arith, low, l));
       moves = seen.leaves;
@@ -56,14 +60,16 @@ module _ (p : Pipe) (sound : Sound p) (c : Circuit) (vs : ℕ → View) (gates :
     squash_at seen = (removals.law v is).squashes s (λ k. is_some (slot st k)) (stage_moves p st bits v) (failing p st v (here p st bits v)) (drives seen)
 
     -- up to V nobody stands
-    none_from : (k n j : ℕ) → k < j → j + n ≡ v + 1 → ((i : ℕ) → k < i → i < j → slot st i ≡ None) → none_held (λ i. is_some (slot st i)) n j ≡ none_up_to (Some v) (later_acts p st bits k)
+    none_from : (k n j : ℕ) → k < j → j + n ≡ v + 1 → ((i : ℕ) → k < i → i < j → slot st i ≡ None)
+        → none_held (λ i. is_some (slot st i)) n j ≡ none_up_to (Some v) (later_acts p st bits k)
     none_from k zero j low e h = sym (clear_where p sound st bits flight v is k (λ i l r. h i l (omega (arith, r, e))))
     none_from k (suc n) j low e h = at (slot st j) refl (λ f. none_from k n (j + 1) (omega (arith, low)) (omega (arith, e)) (λ i l r. ⊎_elim
         (λ (same : i ≡ j). ap (slot st) same ∙ f)
         (λ (apart : i ≡ j → ⊥). h i l (omega (arith, r, apart)))
         (cases_eq i j)))
       where
-        at : (o : Option Thread) → slot st j ≡ o → (slot st j ≡ None → none_held (λ i. is_some (slot st i)) n (j + 1) ≡ none_up_to (Some v) (later_acts p st bits k))
+        at : (o : Option Thread) → slot st j ≡ o
+            → (slot st j ≡ None → none_held (λ i. is_some (slot st i)) n (j + 1) ≡ none_up_to (Some v) (later_acts p st bits k))
             → (if is_some (slot st j) then false else none_held (λ i. is_some (slot st i)) n (j + 1)) ≡ none_up_to (Some v) (later_acts p st bits k)
         at (Some t) f rest =
             ap (λ (o : Option Thread). if is_some o then false else none_held (λ i. is_some (slot st i)) n (j + 1)) f
@@ -72,11 +78,13 @@ module _ (p : Pipe) (sound : Sound p) (c : Circuit) (vs : ℕ → View) (gates :
 
     clear_at : IsSeen p vs moves s st bits v → (k : ℕ) → k < v → (sides.clear k).value s ≡ bit (none_up_to (Some v) (later_acts p st bits k))
     clear_at seen k low =
-        (removals.law v is).clears s (λ i. is_some (slot st i)) (stage_moves p st bits v) (failing p st v (here p st bits v)) (drives seen) k (v - k) (omega (arith, low)) low
+        (removals.law v is).clears s (λ i. is_some (slot st i)) (stage_moves p st bits v)
+        (failing p st v (here p st bits v)) (drives seen) k (v - k) (omega (arith, low)) low
         ∙ ap bit (none_from k (v - k) (k + 1) (omega arith) (omega (arith, low)) (λ i l r. absurd (omega (arith, l, r))))
 
   -- condition 1: a stage is told whether a later thread fails
-  pub unsquashed_is : (k : ℕ) → ((j : ℕ) → k < j → j < length p.stages → IsSeen p vs moves s st bits j) → (unsquashed (verify_stage p.stmts) k gates.squash).value s ≡ bit (no_failure (later_acts p st bits k))
+  pub unsquashed_is : (k : ℕ) → ((j : ℕ) → k < j → j < length p.stages → IsSeen p vs moves s st bits j)
+      → (unsquashed (verify_stage p.stmts) k gates.squash).value s ≡ bit (no_failure (later_acts p st bits k))
   unsquashed_is k later = at (verify_stage p.stmts) refl
     where
       at : (o : Option ℕ) → verify_stage p.stmts ≡ o → (unsquashed o k gates.squash).value s ≡ bit (no_failure (later_acts p st bits k))
@@ -97,7 +105,8 @@ module _ (p : Pipe) (sound : Sound p) (c : Circuit) (vs : ℕ → View) (gates :
           side false f = one_is s ∙ ap bit (sym (fails_high p sound st bits flight v e k (ltb-false k v f)))
 
   -- condition 6: at a barrier it is told whether all is clear up to V
-  pub barrier_is : (k : ℕ) (d : Deeds) (barrier : Signal) → barrier.value s ≡ bit d.barrier → ((j : ℕ) → k < j → j < length p.stages → IsSeen p vs moves s st bits j)
+  pub barrier_is : (k : ℕ) (d : Deeds) (barrier : Signal) → barrier.value s ≡ bit d.barrier
+      → ((j : ℕ) → k < j → j < length p.stages → IsSeen p vs moves s st bits j)
       → (barrier_open (verify_stage p.stmts) k barrier (sides.clear k)).value s ≡ bit (barrier_clear p (later_acts p st bits k) d)
   barrier_is k d barrier on later = at (verify_stage p.stmts) refl ∙ ap bit (sym (table d.barrier (none_up_to (verify_stage p.stmts) (later_acts p st bits k))))
     where
@@ -109,12 +118,16 @@ module _ (p : Pipe) (sound : Sound p) (c : Circuit) (vs : ℕ → View) (gates :
       all true c f = ap bit (sym f)
       all false c f = refl
 
-      at : (o : Option ℕ) → verify_stage p.stmts ≡ o → (barrier_open o k barrier (sides.clear k)).value s ≡ bit (if d.barrier then none_up_to (verify_stage p.stmts) (later_acts p st bits k) else true)
+      at : (o : Option ℕ) → verify_stage p.stmts ≡ o
+          → (barrier_open o k barrier (sides.clear k)).value s ≡ bit (if d.barrier then none_up_to (verify_stage p.stmts) (later_acts p st bits k) else true)
       at None e = one_is s ∙ all d.barrier (none_up_to (verify_stage p.stmts) (later_acts p st bits k)) (ap (λ o. none_up_to o (later_acts p st bits k)) e)
       at (Some v) e = side (nat_lt k v) refl ∙ ap (λ o. bit (if d.barrier then none_up_to o (later_acts p st bits k) else true)) (sym e)
         where
-          side : (b : Bool) → nat_lt k v ≡ b → (if b then Rattle.pdl_law_parts.specs.Walk.if_on barrier (sides.clear k) else one).value s ≡ bit (if d.barrier then none_up_to (Some v) (later_acts p st bits k) else true)
-          side true f = let low = ltb-true k v f in if_on_at s barrier (sides.clear k) d.barrier (none_up_to (Some v) (later_acts p st bits k)) on (λ g. clear_at v e (later v low (low_v v e)) k low)
+          side : (b : Bool) → nat_lt k v ≡ b
+              → (if b then Rattle.pdl_law_parts.specs.Walk.if_on barrier (sides.clear k) else one).value s
+              ≡ bit (if d.barrier then none_up_to (Some v) (later_acts p st bits k) else true)
+          side true f = let low = ltb-true k v f in
+              if_on_at s barrier (sides.clear k) d.barrier (none_up_to (Some v) (later_acts p st bits k)) on (λ g. clear_at v e (later v low (low_v v e)) k low)
           side false f = one_is s ∙ all d.barrier (none_up_to (Some v) (later_acts p st bits k)) (clear_high p sound st bits flight v e k (ltb-false k v f))
 
   module _ (seen : (j : ℕ) → j < length p.stages → IsSeen p vs moves s st bits j) where
@@ -130,7 +143,9 @@ module _ (p : Pipe) (sound : Sound p) (c : Circuit) (vs : ℕ → View) (gates :
     pub kill_is : (k : ℕ) → k < length p.stages → (gates.kill k).value s ≡ bit (removes (squasher (moving p st bits)) (slot st k))
     kill_is k l = at (verify_stage p.stmts) refl
       where
-        spared : (o : Option Thread) → slot st k ≡ o → ((t : Thread) → o ≡ Some t → is_kept (squasher (moving p st bits)) t.number ≡ true) → 0 ≡ bit (removes (squasher (moving p st bits)) o)
+        spared : (o : Option Thread) → slot st k ≡ o
+            → ((t : Thread) → o ≡ Some t → is_kept (squasher (moving p st bits)) t.number ≡ true)
+            → 0 ≡ bit (removes (squasher (moving p st bits)) o)
         spared None e h = refl
         spared (Some t) e h = ap (λ b. bit (not b)) (sym (h t refl))
 
@@ -162,7 +177,8 @@ module _ (p : Pipe) (sound : Sound p) (c : Circuit) (vs : ℕ → View) (gates :
             side : (b : Bool) → nat_lt k v ≡ b → (gates.kill k).value s ≡ bit (removes (squasher (moving p st bits)) (slot st k))
             side true f =
                 let low = ltb-true k v f in
-                (removals.law v e).removes s (λ i. is_some (slot st i)) (stage_moves p st bits v) (failing p st v (here p st bits v)) (drives v e (seen v (low_v v e))) k low
+                (removals.law v e).removes s (λ i. is_some (slot st i)) (stage_moves p st bits v)
+                (failing p st v (here p st bits v)) (drives v e (seen v (low_v v e))) k low
                 ∙ below (slot st k) refl low
             side false f =
                 removals.spared k l (λ w g. let i = same w (sym e ∙ g) in let high = ltb-false k v f in omega (arith, i, high)) s suits
@@ -170,7 +186,8 @@ module _ (p : Pipe) (sound : Sound p) (c : Circuit) (vs : ℕ → View) (gates :
                 ∙ spared (slot st k) refl (λ t g. kept_high p sound st bits flight v e k t (ltb-false k v f) g)
 
     -- and of a thread with this cycle's answers
-    pub kill_here : (k : ℕ) (t : Thread) → k < length p.stages → here p st bits k ≡ Some t → (gates.kill k).value s ≡ bit (not (is_kept (squasher (moving p st bits)) t.number))
+    pub kill_here : (k : ℕ) (t : Thread) → k < length p.stages → here p st bits k ≡ Some t
+        → (gates.kill k).value s ≡ bit (not (is_kept (squasher (moving p st bits)) t.number))
     kill_here k t l h =
         let u = stood_in p st bits k t h in
         kill_is k l

@@ -43,7 +43,8 @@ no_address : (m : ℕ) (qs : List Ask) (rest : Option ℕ) → asks_of m qs ≡ 
 no_address m [] rest e = refl
 no_address m (q ∷ qs) rest e = at (q.mem == m) e (no_address m qs rest)
   where
-    at : (b : Bool) → (b || asks_of m qs) ≡ false → (asks_of m qs ≡ false → address_of m qs rest ≡ rest) → (if b then Some q.address else address_of m qs rest) ≡ rest
+    at : (b : Bool) → (b || asks_of m qs) ≡ false → (asks_of m qs ≡ false → address_of m qs rest ≡ rest)
+        → (if b then Some q.address else address_of m qs rest) ≡ rest
     at true f go = absurd (cc f)
     at false f go = go f
 
@@ -57,7 +58,8 @@ asked_address : (m n : ℕ) (qs : List Ask) (old : machine.Request)
 asked_address m n [] old = refl
 asked_address m n (q ∷ qs) old = at (q.mem == m) (asked_address m n qs old)
   where
-    at : (b : Bool) → address_asked (asked_of m n qs old) ≡ address_of m qs (address_asked old) → address_asked (if b then Owned n q.address else asked_of m n qs old) ≡ (if b then Some q.address else address_of m qs (address_asked old))
+    at : (b : Bool) → address_asked (asked_of m n qs old) ≡ address_of m qs (address_asked old)
+        → address_asked (if b then Owned n q.address else asked_of m n qs old) ≡ (if b then Some q.address else address_of m qs (address_asked old))
     at true e = refl
     at false e = e
 
@@ -65,7 +67,8 @@ address_split : (m : ℕ) (qs : List Ask) (rest : Option ℕ) → address_of m q
 address_split m [] rest = refl
 address_split m (q ∷ qs) rest = at (q.mem == m) (address_split m qs rest)
   where
-    at : (b : Bool) → address_of m qs rest ≡ or_old (address_of m qs None) rest → (if b then Some q.address else address_of m qs rest) ≡ or_old (if b then Some q.address else address_of m qs None) rest
+    at : (b : Bool) → address_of m qs rest ≡ or_old (address_of m qs None) rest
+        → (if b then Some q.address else address_of m qs rest) ≡ or_old (if b then Some q.address else address_of m qs None) rest
     at true e = refl
     at false e = e
 
@@ -111,14 +114,18 @@ module _ (p : Pipe) (reads : Reads p) (st : MachineState) (bits : List Bool) (m 
           at false e f = f
           at true e f = absurd (n (record { stage = k; var = q.var }) (sym (ap (reading p) (eqb-true q.mem m e)) ∙ h.0) refl)
 
-  past : (k : ℕ) (b : Bool) (o : Option Thread) (rest : List Act) → ((r : Reading) → reading p m ≡ Some r → k ≡ r.stage → ⊥) → asked_in (mover p st k b o ++ rest) m ≡ asked_in rest m
+  past : (k : ℕ) (b : Bool) (o : Option Thread) (rest : List Act)
+      → ((r : Reading) → reading p m ≡ Some r → k ≡ r.stage → ⊥)
+      → asked_in (mover p st k b o ++ rest) m ≡ asked_in rest m
   past k false o rest n = refl
   past k true None rest n = refl
   past k true (Some t) rest n = no_address m (deeds p st k t).asks (asked_in rest m) (silent k t n)
 
   none_asked : (n k : ℕ) → ((j : ℕ) (r : Reading) → k ≤ j → j < k + n → reading p m ≡ Some r → j ≡ r.stage → ⊥) → asked_in (movers_from p st bits n k) m ≡ None
   none_asked zero k h = refl
-  none_asked (suc n) k h = past k (stage_moves p st bits k) (here p st bits k) (movers_from p st bits n (suc k)) (λ r e. h k r (omega arith) (omega arith) e) ∙ none_asked n (suc k) (λ j r l i e. h j r (omega (arith, l)) (omega (arith, i)) e)
+  none_asked (suc n) k h =
+      past k (stage_moves p st bits k) (here p st bits k) (movers_from p st bits n (suc k)) (λ r e. h k r (omega arith) (omega arith) e)
+      ∙ none_asked n (suc k) (λ j r l i e. h j r (omega (arith, l)) (omega (arith, i)) e)
 
   -- a memory that is not read delayed is not asked
   pub never_asked : reading p m ≡ None → asked_in (moving p st bits) m ≡ None
@@ -141,23 +148,35 @@ module _ (p : Pipe) (reads : Reads p) (st : MachineState) (bits : List Bool) (m 
     there true None rest e = e
     there true (Some t) rest e = ap (address_of m (deeds p st r.stage t).asks) e
 
-    asked_from : (n k : ℕ) → k ≤ r.stage → r.stage < k + n → asked_in (movers_from p st bits n k) m ≡ asked_there (stage_moves p st bits r.stage) (here p st bits r.stage)
+    asked_from : (n k : ℕ) → k ≤ r.stage → r.stage < k + n
+        → asked_in (movers_from p st bits n k) m ≡ asked_there (stage_moves p st bits r.stage) (here p st bits r.stage)
     asked_from zero k l h = absurd (omega (arith, l, h))
     asked_from (suc n) k l h = at (k == r.stage) refl (λ i. asked_from n (suc k) i (omega (arith, h)))
       where
-        at : (b : Bool) → (k == r.stage) ≡ b → (suc k ≤ r.stage → asked_in (movers_from p st bits n (suc k)) m ≡ asked_there (stage_moves p st bits r.stage) (here p st bits r.stage)) → asked_in (movers_from p st bits (suc n) k) m ≡ asked_there (stage_moves p st bits r.stage) (here p st bits r.stage)
-        at false e go = let d = eqb-false k r.stage e in past k (stage_moves p st bits k) (here p st bits k) (movers_from p st bits n (suc k)) (λ b f g. d (g ∙ one_stage b f)) ∙ go (omega (arith, l, d))
+        at : (b : Bool) → (k == r.stage) ≡ b
+            → (suc k ≤ r.stage → asked_in (movers_from p st bits n (suc k)) m ≡ asked_there (stage_moves p st bits r.stage) (here p st bits r.stage))
+            → asked_in (movers_from p st bits (suc n) k) m ≡ asked_there (stage_moves p st bits r.stage) (here p st bits r.stage)
+        at false e go = let d = eqb-false k r.stage e in
+            past k (stage_moves p st bits k) (here p st bits k) (movers_from p st bits n (suc k)) (λ b f g. d (g ∙ one_stage b f)) ∙ go (omega (arith, l, d))
         at true e go =
             let same = eqb-true k r.stage e in
             ap (λ j. asked_in (mover p st j (stage_moves p st bits j) (here p st bits j) ++ movers_from p st bits n (suc j)) m) same
-            ∙ there (stage_moves p st bits r.stage) (here p st bits r.stage) (movers_from p st bits n (suc r.stage)) (none_asked n (suc r.stage) (λ j b i u f g. let z = one_stage b f in omega (arith, i, g, z)))
+            ∙ there (stage_moves p st bits r.stage) (here p st bits r.stage) (movers_from p st bits n (suc r.stage))
+            (none_asked n (suc r.stage) (λ j b i u f g. let z = one_stage b f in omega (arith, i, g, z)))
 
   -- what the netlist shows of the request
-  module _ (c : Circuit) (vs : ℕ → View) (moves : ℕ → Signal) (sides : Sides) (ask : whole.Request) (outside : IsOutside p c vs moves sides ask m) (s : State) (suits : Suits c s) (by : IsByStages p st bits) (inside : (r : Reading) → reading p m ≡ Some r → r.stage < length p.stages) (seen : (j : ℕ) → j < length p.stages → IsSeen p vs moves s st bits j) where
+  module _ (c : Circuit) (vs : ℕ → View) (moves : ℕ → Signal) (sides : Sides) (ask : whole.Request)
+      (outside : IsOutside p c vs moves sides ask m) (s : State) (suits : Suits c s) (by : IsByStages p st bits)
+      (inside : (r : Reading) → reading p m ≡ Some r → r.stage < length p.stages)
+      (seen : (j : ℕ) → j < length p.stages → IsSeen p vs moves s st bits j) where
     abbrev Shown : Option Reading → Type 0
-    Shown o = ((whole.request_of vs moves m o).enable.value s ≡ bit (is_some (asked_in (moving p st bits) m))) × ((whole.request_of vs moves m o).addr.value s ≡ address_or (asked_in (moving p st bits) m))
+    Shown o =
+        ((whole.request_of vs moves m o).enable.value s ≡ bit (is_some (asked_in (moving p st bits) m)))
+        × ((whole.request_of vs moves m o).addr.value s ≡ address_or (asked_in (moving p st bits) m))
 
-    shown : (o : Option Reading) → reading p m ≡ o → ((whole.request_of vs moves m o).enable.value s ≡ bit (is_some (asked_in (moving p st bits) m))) × ((whole.request_of vs moves m o).addr.value s ≡ address_or (asked_in (moving p st bits) m))
+    shown : (o : Option Reading) → reading p m ≡ o
+        → ((whole.request_of vs moves m o).enable.value s ≡ bit (is_some (asked_in (moving p st bits) m)))
+        × ((whole.request_of vs moves m o).addr.value s ≡ address_or (asked_in (moving p st bits) m))
     shown None e = (zero_is s ∙ ap (λ (o : Option ℕ). bit (is_some o)) (sym (never_asked e)), zero_is s ∙ ap address_or (sym (never_asked e)))
     shown (Some r) e = at (moves_or_not p st bits r.stage)
       where
@@ -168,16 +187,19 @@ module _ (p : Pipe) (reads : Reads p) (st : MachineState) (bits : List Bool) (m 
         asked = asked_from r e (length p.stages) 0 (omega arith) (omega (arith, low))
 
         at : (stage_moves p st bits r.stage ≡ false) ⊎ ((t : Thread) × (here p st bits r.stage ≡ Some t) × (stage_moves p st bits r.stage ≡ true))
-            → ((whole.request_of vs moves m (Some r)).enable.value s ≡ bit (is_some (asked_in (moving p st bits) m))) × ((whole.request_of vs moves m (Some r)).addr.value s ≡ address_or (asked_in (moving p st bits) m))
+            → ((whole.request_of vs moves m (Some r)).enable.value s ≡ bit (is_some (asked_in (moving p st bits) m)))
+            × ((whole.request_of vs moves m (Some r)).addr.value s ≡ address_or (asked_in (moving p st bits) m))
         at (inl f) =
             let none : asked_in (moving p st bits) m ≡ None = asked ∙ ap (λ b. asked_there r e b (here p st bits r.stage)) f in (
-              asks_value s m (moves r.stage) false ((seen r.stage low).leaves ∙ ap bit f) (vs r.stage).ended.asks ∙ ap (λ (o : Option ℕ). bit (is_some o)) (sym none),
+              asks_value s m (moves r.stage) false ((seen r.stage low).leaves ∙ ap bit f) (vs r.stage).ended.asks
+                  ∙ ap (λ (o : Option ℕ). bit (is_some o)) (sym none),
               address_value s m (moves r.stage) false ((seen r.stage low).leaves ∙ ap bit f) (vs r.stage).ended.asks ∙ ap address_or (sym none),
             )
         at (inr f) =
             let t = f.0 in
             let so = ((seen r.stage low).follows t f.1).so (ready_of p st bits r.stage t by low f.1 f.2) in
-            let mine : asked_in (moving p st bits) m ≡ address_of m (stands.asked_in s (vs r.stage).ended.asks) None = asked ∙ ap₂ (λ b o. asked_there r e b o) f.2 f.1 ∙ ap (λ (qs : List Ask). address_of m qs None) so.asks in (
+            let mine : asked_in (moving p st bits) m ≡ address_of m (stands.asked_in s (vs r.stage).ended.asks) None =
+            asked ∙ ap₂ (λ b o. asked_there r e b o) f.2 f.1 ∙ ap (λ (qs : List Ask). address_of m qs None) so.asks in (
               asks_value s m (moves r.stage) true ((seen r.stage low).leaves ∙ ap bit f.2) (vs r.stage).ended.asks
                   ∙ ap bit (sym (some_address m (stands.asked_in s (vs r.stage).ended.asks)))
                   ∙ ap (λ (o : Option ℕ). bit (is_some o)) (sym mine),

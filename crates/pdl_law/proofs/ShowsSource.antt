@@ -73,7 +73,9 @@ known_source p rules source named =
     let lawful = lawful_source p rules source named in
     known_here (flat p) lawful.sound (paths_strict p rules source) (careful_source p rules source) lawful.reads
 
-module _ (p : tree.Pipe) (rules : KeepsRules p) (source : is_source p ≡ true) (named : is_named p ≡ true) (ls : Locks) (vs : ℕ → View) (gates : Gates) (moves : ℕ → Signal) (sides : Sides) (n : Netlist) (made : IsMadeWhole p ls vs gates moves sides n) where
+module _ (p : tree.Pipe) (rules : KeepsRules p) (source : is_source p ≡ true) (named : is_named p ≡ true) (ls : Locks)
+    (vs : ℕ → View) (gates : Gates) (moves : ℕ → Signal) (sides : Sides) (n : Netlist)
+    (made : IsMadeWhole p ls vs gates moves sides n) where
   pub lawful : IsLawful (flat p)
   lawful = lawful_source p rules source named
 
@@ -83,9 +85,13 @@ module _ (p : tree.Pipe) (rules : KeepsRules p) (source : is_source p ≡ true) 
   -- what the netlist holds and a state of the machine of a run from this image, for which it stands
   abbrev pub IsStandingFor : List (List ℕ) → Held → machine.State → Type 0
   IsStandingFor image h st =
-      IsStanding (flat p) (mem_names p.mems) apart lawful (known_source p rules source named) ls vs gates moves sides n made.compiled made.formed.well made.mems (arrays_of (in_order (flat p) image)) h st
+      IsStanding (flat p)
+      (mem_names p.mems) apart lawful
+      (known_source p rules source named) ls vs gates moves sides n made.compiled made.formed.well made.mems
+      (arrays_of (in_order (flat p) image)) h st
 
-  pub stands_source : (image : List (List ℕ)) → IsImage n.mems image → IsStandingFor image (start n image) (first (flat p) (arrays_of (in_order (flat p) image)))
+  pub stands_source : (image : List (List ℕ)) → IsImage n.mems image
+      → IsStandingFor image (start n image) (first (flat p) (arrays_of (in_order (flat p) image)))
   stands_source image is_image = record {
     before = [];
     reached = refl;
@@ -93,9 +99,14 @@ module _ (p : tree.Pipe) (rules : KeepsRules p) (source : is_source p ≡ true) 
     stores = stores_start (flat p) (mem_names p.mems) ls n made.mems image is_image;
     quiet = λ m l e. none_requested 0 m (flat p).mems;
     whole = λ b suits.
-        whole_first (flat p) lawful ls vs gates moves sides (circuit_of n) made.compiled.laid made.compiled.beside (arrays_of (in_order (flat p) image)) (state_in (start n image) b) refl
-        (stands_start (flat p) (mem_names p.mems) ls n made.mems image is_image vs gates moves made.compiled.laid made.compiled.starts (state_in (start n image) b) suits refl refl);
+        whole_first (flat p) lawful ls vs gates moves sides (circuit_of n) made.compiled.laid made.compiled.beside (arrays_of (in_order (flat p) image))
+        (state_in (start n image) b) refl
+        (stands_start (flat p)
+        (mem_names p.mems) ls n made.mems image is_image vs gates moves made.compiled.laid made.compiled.starts
+        (state_in (start n image) b) suits refl refl);
   }
 
   pub shows_source : ShowsWhole (flat p) n
-  shows_source = shows_whole (flat p) (mem_names p.mems) apart lawful (known_source p rules source named) ls vs gates moves sides n made.compiled made.formed.well made.mems stands_source
+  shows_source =
+      shows_whole (flat p)
+      (mem_names p.mems) apart lawful (known_source p rules source named) ls vs gates moves sides n made.compiled made.formed.well made.mems stands_source

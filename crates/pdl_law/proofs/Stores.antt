@@ -47,16 +47,26 @@ pair_read st m x y h b rest (Owned n a) e = at b
     asked : y.request ≡ Some a
     asked = h.request ∙ ap address_asked e
 
-    at : (b : Bool) → (slice_index (answer y.words y.request b ++ rest) 0 ≡ bit (true && b)) × ((true && b) ≡ true → slice_index (answer y.words y.request b ++ rest) 1 ≡ word_at st.arrays m a)
-    at true = (ap (λ o. slice_index (answer y.words o true ++ rest) 0) asked, λ i. ap (λ o. slice_index (answer y.words o true ++ rest) 1) asked ∙ h.same a (h.reach a asked))
+    at : (b : Bool)
+        → (slice_index (answer y.words y.request b ++ rest) 0 ≡ bit (true && b))
+        × ((true && b) ≡ true → slice_index (answer y.words y.request b ++ rest) 1 ≡ word_at st.arrays m a)
+    at true = (
+      ap (λ o. slice_index (answer y.words o true ++ rest) 0) asked,
+      λ i. ap (λ o. slice_index (answer y.words o true ++ rest) 1) asked ∙ h.same a (h.reach a asked),
+    )
     at false = (ap (λ o. slice_index (answer y.words o false ++ rest) 0) asked, λ i. absurd (cc i))
 pair_read st m x y h b rest (Orphan a) e = at b
   where
     asked : y.request ≡ Some a
     asked = h.request ∙ ap address_asked e
 
-    at : (b : Bool) → (slice_index (answer y.words y.request b ++ rest) 0 ≡ bit (true && b)) × ((true && b) ≡ true → slice_index (answer y.words y.request b ++ rest) 1 ≡ word_at st.arrays m a)
-    at true = (ap (λ o. slice_index (answer y.words o true ++ rest) 0) asked, λ i. ap (λ o. slice_index (answer y.words o true ++ rest) 1) asked ∙ h.same a (h.reach a asked))
+    at : (b : Bool)
+        → (slice_index (answer y.words y.request b ++ rest) 0 ≡ bit (true && b))
+        × ((true && b) ≡ true → slice_index (answer y.words y.request b ++ rest) 1 ≡ word_at st.arrays m a)
+    at true = (
+      ap (λ o. slice_index (answer y.words o true ++ rest) 0) asked,
+      λ i. ap (λ o. slice_index (answer y.words o true ++ rest) 1) asked ∙ h.same a (h.reach a asked),
+    )
     at false = (ap (λ o. slice_index (answer y.words o false ++ rest) 0) asked, λ i. absurd (cc i))
 
 -- each store gives two inputs
@@ -73,26 +83,39 @@ pub inputs_read : (st : State) (m : ℕ) (xs : List Mem) (ys : List Store) (b : 
 inputs_read st m [] ys b h i l d = absurd (omega (arith, l))
 inputs_read st m (x ∷ xs) ys b h i l d = at x.delayed refl ys h i l d (λ zs k c j n e. inputs_read st (suc m) xs zs c k j n e)
   where
-    at : (t : Bool) → x.delayed ≡ t → (ys : List Store) → StoreThen (AreStores st (suc m) xs) t st m x ys → (i : ℕ) → i < suc (length xs) → (slice_index_or (x ∷ xs) i plain_mem).delayed ≡ true
-        → ((zs : List Store) → AreStores st (suc m) xs zs → (c : ℕ) → (j : ℕ) → j < length xs → (slice_index_or xs j plain_mem).delayed ≡ true → ReadsStore st (suc m + j) (replies_of (delayed_in xs) c) (answers zs c) (delayed_in (take j xs)))
+    at : (t : Bool) → x.delayed ≡ t → (ys : List Store) → StoreThen (AreStores st (suc m) xs) t st m x ys → (i : ℕ)
+        → i < suc (length xs) → (slice_index_or (x ∷ xs) i plain_mem).delayed ≡ true
+        → ((zs : List Store) → AreStores st (suc m) xs zs → (c : ℕ) → (j : ℕ) → j < length xs
+        → (slice_index_or xs j plain_mem).delayed ≡ true
+        → ReadsStore st (suc m + j) (replies_of (delayed_in xs) c) (answers zs c) (delayed_in (take j xs)))
         → ReadsStore st (m + i) (replies_of (if t then suc (delayed_in xs) else delayed_in xs) b) (answers ys b) (delayed_in (take i (x ∷ xs)))
     at false e ys h zero l d go = absurd (cc (sym e ∙ d))
     at false e ys h (suc i) l d go =
-        subst (λ j. ReadsStore st (m + suc i) (replies_of (delayed_in xs) b) (answers ys b) j) (sym (ap (λ t. if t then suc (delayed_in (take i xs)) else delayed_in (take i xs)) e))
-        (subst (λ j. ReadsStore st j (replies_of (delayed_in xs) b) (answers ys b) (delayed_in (take i xs))) (let z : suc m + i ≡ m + suc i = omega arith in z) (go ys h b i (omega (arith, l)) d))
+        subst (λ j. ReadsStore st (m + suc i) (replies_of (delayed_in xs) b) (answers ys b) j)
+        (sym (ap (λ t. if t then suc (delayed_in (take i xs)) else delayed_in (take i xs)) e))
+        (subst (λ j. ReadsStore st j (replies_of (delayed_in xs) b) (answers ys b) (delayed_in (take i xs)))
+        (let z : suc m + i ≡ m + suc i = omega arith in z) (go ys h b i (omega (arith, l)) d))
     at true e [] h i l d go = absurd h
     at true e (y ∷ ys) h zero l d go =
         let r = pair_read st m x y h.0 (reply b) (answers ys (b / 2)) (request_of st m) refl in
-        subst (λ j. ReadsStore st j (reply b ∷ replies_of (delayed_in xs) (b / 2)) (answer y.words y.request (reply b) ++ answers ys (b / 2)) 0) (let z : m ≡ m + 0 = omega arith in z)
+        subst (λ j. ReadsStore st j (reply b ∷ replies_of (delayed_in xs) (b / 2)) (answer y.words y.request (reply b) ++ answers ys (b / 2)) 0)
+        (let z : m ≡ m + 0 = omega arith in z)
         (record { reply = r.0; word = r.1 })
     at true e (y ∷ ys) h (suc i) l d go =
         let rest = go ys h.1 (b / 2) i (omega (arith, l)) d in
         let j = delayed_in (take i xs) in
-        subst (λ n. ReadsStore st (m + suc i) (reply b ∷ replies_of (delayed_in xs) (b / 2)) (answer y.words y.request (reply b) ++ answers ys (b / 2)) n) (sym (ap (λ t. if t then suc (delayed_in (take i xs)) else delayed_in (take i xs)) e))
-        (subst (λ n. ReadsStore st n (reply b ∷ replies_of (delayed_in xs) (b / 2)) (answer y.words y.request (reply b) ++ answers ys (b / 2)) (suc j)) (let z : suc m + i ≡ m + suc i = omega arith in z)
+        subst (λ n. ReadsStore st (m + suc i) (reply b ∷ replies_of (delayed_in xs) (b / 2)) (answer y.words y.request (reply b) ++ answers ys (b / 2)) n)
+        (sym (ap (λ t. if t then suc (delayed_in (take i xs)) else delayed_in (take i xs)) e))
+        (subst (λ n. ReadsStore st n (reply b ∷ replies_of (delayed_in xs) (b / 2)) (answer y.words y.request (reply b) ++ answers ys (b / 2)) (suc j))
+        (let z : suc m + i ≡ m + suc i = omega arith in z)
         (record {
-          reply = ap (slice_index (answer y.words y.request (reply b) ++ answers ys (b / 2))) (let z : 2 * suc j ≡ suc (suc (2 * j)) = omega arith in z) ∙ pair_after y.words y.request (reply b) (answers ys (b / 2)) (2 * j) ∙ rest.reply;
-          word = λ k. ap (slice_index (answer y.words y.request (reply b) ++ answers ys (b / 2))) (let z : 2 * suc j + 1 ≡ suc (suc (2 * j + 1)) = omega arith in z) ∙ pair_after y.words y.request (reply b) (answers ys (b / 2)) (2 * j + 1) ∙ rest.word k;
+          reply =
+              ap (slice_index (answer y.words y.request (reply b) ++ answers ys (b / 2))) (let z : 2 * suc j ≡ suc (suc (2 * j)) = omega arith in z)
+              ∙ pair_after y.words y.request (reply b) (answers ys (b / 2)) (2 * j) ∙ rest.reply;
+          word =
+              λ k. ap (slice_index (answer y.words y.request (reply b) ++ answers ys (b / 2)))
+              (let z : 2 * suc j + 1 ≡ suc (suc (2 * j + 1)) = omega arith in z)
+              ∙ pair_after y.words y.request (reply b) (answers ys (b / 2)) (2 * j + 1) ∙ rest.word k;
         }))
 
 -- their widths
@@ -109,7 +132,9 @@ pair_bound x st m y h b rest ws f l = at y.request b
     some : (a : ℕ) → 0 < 2 ^ a
     some a = pow_pos a
 
-    at : (o : Option ℕ) (b : Bool) → (length (answer y.words o b ++ rest) ≡ suc (suc (length ws))) × ((i : ℕ) → i < suc (suc (length ws)) → slice_index (answer y.words o b ++ rest) i < 2 ^ slice_index (1 ∷ x.width ∷ ws) i)
+    at : (o : Option ℕ) (b : Bool)
+        → (length (answer y.words o b ++ rest) ≡ suc (suc (length ws)))
+        × ((i : ℕ) → i < suc (suc (length ws)) → slice_index (answer y.words o b ++ rest) i < 2 ^ slice_index (1 ∷ x.width ∷ ws) i)
     at (Some a) true = (ap (λ n. suc (suc n)) l, each)
       where
         each : (i : ℕ) → i < suc (suc (length ws)) → slice_index (1 ∷ slice_index y.words a ∷ rest) i < 2 ^ slice_index (1 ∷ x.width ∷ ws) i
@@ -138,8 +163,12 @@ inputs_fit st m [] (y ∷ ys) b h = absurd h
 inputs_fit st m (x ∷ xs) ys b h = at x.delayed ys h (λ zs k c. inputs_fit st (suc m) xs zs c k)
   where
     at : (t : Bool) (ys : List Store) → StoreThen (AreStores st (suc m) xs) t st m x ys
-        → ((zs : List Store) → AreStores st (suc m) xs zs → (c : ℕ) → (length (answers zs c) ≡ length (input_widths xs)) × ((i : ℕ) → i < length (input_widths xs) → slice_index (answers zs c) i < 2 ^ slice_index (input_widths xs) i))
-        → (length (answers ys b) ≡ length ((if t then 1 ∷ x.width ∷ [] else []) ++ input_widths xs)) × ((i : ℕ) → i < length ((if t then 1 ∷ x.width ∷ [] else []) ++ input_widths xs) → slice_index (answers ys b) i < 2 ^ slice_index ((if t then 1 ∷ x.width ∷ [] else []) ++ input_widths xs) i)
+        → ((zs : List Store) → AreStores st (suc m) xs zs → (c : ℕ)
+        → (length (answers zs c) ≡ length (input_widths xs))
+        × ((i : ℕ) → i < length (input_widths xs) → slice_index (answers zs c) i < 2 ^ slice_index (input_widths xs) i))
+        → (length (answers ys b) ≡ length ((if t then 1 ∷ x.width ∷ [] else []) ++ input_widths xs))
+        × ((i : ℕ) → i < length ((if t then 1 ∷ x.width ∷ [] else []) ++ input_widths xs)
+        → slice_index (answers ys b) i < 2 ^ slice_index ((if t then 1 ∷ x.width ∷ [] else []) ++ input_widths xs) i)
     at false ys h go = go ys h b
     at true [] h go = absurd h
     at true (y ∷ ys) h go = let r = go ys h.1 (b / 2) in pair_bound x st m y h.0 (reply b) (answers ys (b / 2)) (input_widths xs) r.1 r.0

@@ -55,7 +55,11 @@ StandTails p ls vs sides v s st =
 pub tails_first : (p : Pipe) (ls : Locks) (vs : ℕ → View) (sides : Sides) (v : ℕ) (image : Arrays) (s : State)
     → StandTails p ls vs sides v s (first p image)
 tails_first p ls vs sides v image s k m t e locked low high stand = absurd (⊎_elim
-    (λ (l : k < length p.stages). none_some (sym (at_stage (λ q. if q == 0 then born_thread p 1 (Some p.start) else None) 0 p.stages k None l ∙ ap (λ b. if b then born_thread p 1 (Some p.start) else None) (ne_eqb (0 + k) 0 (λ i. absurd (omega (arith, i, low))))) ∙ e))
+    (λ (l : k < length p.stages). none_some
+    (sym
+    (at_stage (λ q. if q == 0 then born_thread p 1 (Some p.start) else None) 0 p.stages k None l
+    ∙ ap (λ b. if b then born_thread p 1 (Some p.start) else None) (ne_eqb (0 + k) 0 (λ i. absurd (omega (arith, i, low)))))
+    ∙ e))
     (λ (l : length p.stages ≤ k). none_some (sym (past_stage (λ q. if q == 0 then born_thread p 1 (Some p.start) else None) 0 p.stages k None l) ∙ e))
     (cases_lt k (length p.stages)))
   where
@@ -86,13 +90,15 @@ branch_is s w (Goes to) q env h = at (to == q)
     at : (b : Bool) → is_on (if b then one else zero_bit) s ≡ b
     at true = on_is s one true (one_is s)
     at false = on_is s zero_bit false (zero_is s)
-branch_is s w (Forks x a b) q env h = ap (λ n. n == 1) (fork_at s w x a b env h (if a == q then one else zero_bit) (if b == q then one else zero_bit)) ∙ choose (slice_index env x == 1)
+branch_is s w (Forks x a b) q env h =
+    ap (λ n. n == 1) (fork_at s w x a b env h (if a == q then one else zero_bit) (if b == q then one else zero_bit)) ∙ choose (slice_index env x == 1)
   where
     at : (b : Bool) → is_on (if b then one else zero_bit) s ≡ b
     at true = on_is s one true (one_is s)
     at false = on_is s zero_bit false (zero_is s)
 
-    choose : (t : Bool) → ((if t then (if a == q then one else zero_bit).value s else (if b == q then one else zero_bit).value s) == 1) ≡ ((if t then a else b) == q)
+    choose : (t : Bool)
+        → ((if t then (if a == q then one else zero_bit).value s else (if b == q then one else zero_bit).value s) == 1) ≡ ((if t then a else b) == q)
     choose true = at (a == q)
     choose false = at (b == q)
 
@@ -105,9 +111,14 @@ if_kept_is sq (Some t) u e = at (is_kept sq t.number) refl e
     at true f g = let same : t ≡ u = cc g in (g, subst (λ (x : Thread). is_kept sq x.number ≡ true) same f)
     at false f g = absurd (cc g)
 
-module _ (p : Pipe) (sound : Sound p) (leads : LeadsOn p) (ls : Locks) (c : Circuit) (vs : ℕ → View) (gates : Gates) (moves : ℕ → Signal) (made : IsLaid p ls vs gates moves c) (sides : Sides) (v : ℕ) (is : verify_stage p.stmts ≡ Some v) (has : HasTails p ls c vs gates moves sides v)
-    (s : State) (st : machine.State) (bits : List Bool) (suits : Suits c s) (flight : InFlight p st) (by : IsByStages p st bits) (used : IsInUse p st bits) (cut : IsCut p st bits)
-    (seen : (j : ℕ) → j < length p.stages → IsSeen p vs moves s st bits j) (stood : (k : ℕ) (t : Thread) → here p st bits k ≡ Some t → Stood st k t) (stands : StandTails p ls vs sides v s st) where
+module _ (p : Pipe) (sound : Sound p) (leads : LeadsOn p) (ls : Locks) (c : Circuit) (vs : ℕ → View) (gates : Gates)
+    (moves : ℕ → Signal) (made : IsLaid p ls vs gates moves c) (sides : Sides) (v : ℕ)
+    (is : verify_stage p.stmts ≡ Some v) (has : HasTails p ls c vs gates moves sides v)
+    (s : State) (st : machine.State) (bits : List Bool) (suits : Suits c s) (flight : InFlight p st)
+    (by : IsByStages p st bits) (used : IsInUse p st bits) (cut : IsCut p st bits)
+    (seen : (j : ℕ) → j < length p.stages → IsSeen p vs moves s st bits j)
+    (stood : (k : ℕ) (t : Thread) → here p st bits k ≡ Some t → Stood st k t)
+    (stands : StandTails p ls vs sides v s st) where
   module _ (m : ℕ) (locked : is_locked p m ≡ true) (stand : StandsLock p ls vs s st m) where
     -- the pending writes with those that this cycle appends
     abbrev pending : List Pending
@@ -117,7 +128,8 @@ module _ (p : Pipe) (sound : Sound p) (leads : LeadsOn p) (ls : Locks) (c : Circ
     released = bit (has_release m (moving p st bits))
 
     -- a thread's second ticket is where its squash cuts what the cycle has appended
-    tail_now : (k : ℕ) (t : Thread) → slot st k ≡ Some t → k ≤ v → holds_ticket (ls.bits m) (sides.tails k m) s (stand.base + count_older (suc t.number) pending)
+    tail_now : (k : ℕ) (t : Thread) → slot st k ≡ Some t → k ≤ v
+        → holds_ticket (ls.bits m) (sides.tails k m) s (stand.base + count_older (suc t.number) pending)
     tail_now k t e high = ⊎_elim
         (λ (low : reserve_stage p m < k). stands k m t e locked low high stand ∙ ap (λ n. (stand.base + n) % 2 ^ ls.bits m) (sym (cut.kept k t m e low)))
         (λ (low : k ≤ reserve_stage p m).
@@ -131,11 +143,13 @@ module _ (p : Pipe) (sound : Sound p) (leads : LeadsOn p) (ls : Locks) (c : Circ
         (cases_lt (reserve_stage p m) k)
 
     -- and at the releases it shifts
-    shifts : (k : ℕ) (t : Thread) → slot st k ≡ Some t → k ≤ v → stand.base + released + count_older (suc t.number) (list_three st (moving p st bits) m) ≡ stand.base + count_older (suc t.number) pending
+    shifts : (k : ℕ) (t : Thread) → slot st k ≡ Some t → k ≤ v
+        → stand.base + released + count_older (suc t.number) (list_three st (moving p st bits) m) ≡ stand.base + count_older (suc t.number) pending
     shifts k t e high = let h = cut.shifts k t m v e is high in omega (arith, h)
 
     -- that of V's thread is where its squash cuts the lock
-    pub tail_is : (n : ℕ) → squasher (moving p st bits) ≡ Some n → holds_ticket (ls.bits m) (gates.tail m) s (stand.base + released + count_older (suc n) (list_three st (moving p st bits) m))
+    pub tail_is : (n : ℕ) → squasher (moving p st bits) ≡ Some n
+        → holds_ticket (ls.bits m) (gates.tail m) s (stand.base + released + count_older (suc n) (list_three st (moving p st bits) m))
     tail_is n e =
         let u = squasher_in p sound st bits flight v is n e in
         has.tail m locked s suits
@@ -158,13 +172,16 @@ module _ (p : Pipe) (sound : Sound p) (leads : LeadsOn p) (ls : Locks) (c : Circ
     AreAlike (Some o) (Some u) = Brings o u
     AreAlike _ _ = ⊥
 
-    alike_then : (o : Comer) (b : Bool) (cs : List Comer) (x y : Option Thread) → AreAlike (if b then Some o else None) x → AreAlike (first_come s cs) y → AreAlike (if b then Some o else first_come s cs) (or_then x y)
+    alike_then : (o : Comer) (b : Bool) (cs : List Comer) (x y : Option Thread)
+        → AreAlike (if b then Some o else None) x → AreAlike (first_come s cs) y
+        → AreAlike (if b then Some o else first_come s cs) (or_then x y)
     alike_then o true cs (Some u) y h g = h
     alike_then o true cs None y h g = absurd h
     alike_then o false cs None y h g = g
     alike_then o false cs (Some u) y h g = absurd h
 
-    one_alike : (q j : ℕ) → j < q → q ≤ v → j < length p.stages → AreAlike (if is_on (out_of p tailed moves q j).comes s then Some (out_of p tailed moves q j) else None) (passing_thread p st bits q j)
+    one_alike : (q j : ℕ) → j < q → q ≤ v → j < length p.stages
+        → AreAlike (if is_on (out_of p tailed moves q j).comes s then Some (out_of p tailed moves q j) else None) (passing_thread p st bits q j)
     one_alike q j low high l = ⊎_elim
         (λ (f : stage_moves p st bits j ≡ false).
         let off : is_on o.comes s ≡ false = both_is s (moves j) (branch (stage_at p j).next q (vs j).ended) false ((seen j l).leaves ∙ ap bit f) in
@@ -174,59 +191,83 @@ module _ (p : Pipe) (sound : Sound p) (leads : LeadsOn p) (ls : Locks) (c : Circ
         (λ (f : (t : Thread) × (here p st bits j ≡ Some t) × (stage_moves p st bits j ≡ true)).
         let d = deeds p st j f.0 in
         let so = ((seen j l).follows f.0 f.1).so (ready_of p st bits j f.0 by l f.1 f.2) in
-        let on : is_on o.comes s ≡ is_stage q (next_stage p j d) = both_is s (moves j) (branch (stage_at p j).next q (vs j).ended) true ((seen j l).leaves ∙ ap bit f.2) ∙ branch_is s (vs j).ended (stage_at p j).next q d.env (λ x e. so.env x (lives_fork p j x l e)) in
+        let on : is_on o.comes s ≡ is_stage q (next_stage p j d) =
+        both_is s (moves j) (branch (stage_at p j).next q (vs j).ended) true ((seen j l).leaves ∙ ap bit f.2)
+        ∙ branch_is s (vs j).ended (stage_at p j).next q d.env (λ x e. so.env x (lives_fork p j x l e)) in
         let P : Option Thread → Type 0 = λ x. AreAlike (if is_on o.comes s then Some o else None) x in
-        let Q : Bool → Type 0 = λ b. AreAlike (if b then Some o else None) (if is_stage q (next_stage p j d) then Some (thread_after (act_at p st j f.0)) else None) in
+        let Q : Bool → Type 0 =
+        λ b. AreAlike (if b then Some o else None) (if is_stage q (next_stage p j d) then Some (thread_after (act_at p st j f.0)) else None) in
         subst P (sym (ap₂ (thread_into p st q j) f.2 f.1)) (subst Q (sym on) (at f.0 f.1 (is_stage q (next_stage p j d)))))
         (moves_or_not p st bits j)
       where
         o : Comer
         o = out_of p tailed moves q j
 
-        at : (t : Thread) → here p st bits j ≡ Some t → (b : Bool) → AreAlike (if b then Some (out_of p tailed moves q j) else None) (if b then Some (thread_after (act_at p st j t)) else None)
+        at : (t : Thread) → here p st bits j ≡ Some t → (b : Bool)
+            → AreAlike (if b then Some (out_of p tailed moves q j) else None) (if b then Some (thread_after (act_at p st j t)) else None)
         at t h false = tt
         at t h true =
             let u = stood_in p st bits j t h in
             let same = ap (λ (x : Thread). x.number) u.2 in
             record {
-              value = subst (λ n. holds_ticket (ls.bits m) (sides.tails j m) s (stand.base + count_older (suc n) pending)) same (tail_now j u.0 u.1 (omega (arith, low, high)));
-              shift = subst (λ n. stand.base + released + count_older (suc n) (list_three st (moving p st bits) m) ≡ stand.base + count_older (suc n) pending) same (shifts j u.0 u.1 (omega (arith, low, high)));
+              value =
+                  subst
+                  (λ n. holds_ticket (ls.bits m) (sides.tails j m) s (stand.base + count_older (suc n) pending)) same
+                  (tail_now j u.0 u.1 (omega (arith, low, high)));
+              shift =
+                  subst
+                  (λ n. stand.base + released + count_older (suc n) (list_three st (moving p st bits) m) ≡ stand.base + count_older (suc n) pending) same
+                  (shifts j u.0 u.1 (omega (arith, low, high)));
             }
 
-    ways_alike : (q n j : ℕ) → j + n ≡ q → q ≤ v → q < length p.stages → AreAlike (first_come s (map (out_of p tailed moves q) (ways_from p q n j))) (first_of p st bits q (ways_from p q n j))
+    ways_alike : (q n j : ℕ) → j + n ≡ q → q ≤ v → q < length p.stages
+        → AreAlike (first_come s (map (out_of p tailed moves q) (ways_from p q n j))) (first_of p st bits q (ways_from p q n j))
     ways_alike q zero j e high l = tt
     ways_alike q (suc n) j e high l = at (leads_to (stage_at p j).next q) (ways_alike q n (suc j) (omega (arith, e)) high l)
       where
         rest : List ℕ
         rest = ways_from p q n (suc j)
 
-        at : (b : Bool) → AreAlike (first_come s (map (out_of p tailed moves q) rest)) (first_of p st bits q rest) → AreAlike (first_come s (map (out_of p tailed moves q) (if b then j ∷ rest else rest))) (first_of p st bits q (if b then j ∷ rest else rest))
-        at true h = alike_then (out_of p tailed moves q j) (is_on (out_of p tailed moves q j).comes s) (map (out_of p tailed moves q) rest) (passing_thread p st bits q j) (first_of p st bits q rest) (one_alike q j (omega (arith, e)) high (omega (arith, e, l))) h
+        at : (b : Bool) → AreAlike (first_come s (map (out_of p tailed moves q) rest)) (first_of p st bits q rest)
+            → AreAlike (first_come s (map (out_of p tailed moves q) (if b then j ∷ rest else rest))) (first_of p st bits q (if b then j ∷ rest else rest))
+        at true h =
+            alike_then (out_of p tailed moves q j) (is_on (out_of p tailed moves q j).comes s)
+            (map (out_of p tailed moves q) rest) (passing_thread p st bits q j) (first_of p st bits q rest)
+            (one_alike q j (omega (arith, e)) high (omega (arith, e, l))) h
         at false h = h
 
     -- into a stage past the first one
     comers_alike : (q : ℕ) → 0 < q → q ≤ v → q < length p.stages → AreAlike (first_come s (comers p tailed moves q)) (arriving_thread p st bits q)
     comers_alike q above high l =
-        let P : Bool → Type 0 = λ b. AreAlike (first_come s ((if b then new_from tailed moves (length p.stages) 0 else []) ++ map (out_of p tailed moves q) (ways p q))) (arriving_thread p st bits q) in
+        let P : Bool → Type 0 =
+        λ b. AreAlike (first_come s ((if b then new_from tailed moves (length p.stages) 0 else []) ++ map (out_of p tailed moves q) (ways p q)))
+        (arriving_thread p st bits q) in
         subst P (sym (ne_eqb q 0 (λ e. absurd (omega (arith, e, above))))) (ways_alike q q 0 (omega arith) high l)
 
     -- what the second ticket of who stands there then takes
     came_with : (q : ℕ) (u : Thread) → 0 < q → q ≤ v → slot (cycle p st bits) q ≡ Some u
-        → (brought s (λ (o : Comer). o.tickets m) (sides.tails q m) (first_come s (comers p tailed moves q)) ≡ (stand.base + count_older (suc u.number) pending) % 2 ^ ls.bits m)
+        → (brought s (λ (o : Comer). o.tickets m) (sides.tails q m) (first_come s (comers p tailed moves q))
+        ≡ (stand.base + count_older (suc u.number) pending) % 2 ^ ls.bits m)
         × (stand.base + released + count_older (suc u.number) (list_three st (moving p st bits) m) ≡ stand.base + count_older (suc u.number) pending)
         × (is_kept (squasher (moving p st bits)) u.number ≡ true)
-    came_with q u above high e = (let r = at (first_come s (comers p tailed moves q)) (arriving_thread p st bits q) (comers_alike q above high l) left.0 in (r.0, r.1, left.1))
+    came_with q u above high e =
+        (let r = at (first_come s (comers p tailed moves q)) (arriving_thread p st bits q) (comers_alike q above high l) left.0 in (r.0, r.1, left.1))
       where
         l : q < length p.stages
         l = stage_low p st bits by q u e
 
         left : (or_then (arriving_thread p st bits q) (staying_thread p st bits q) ≡ Some u) × (is_kept (squasher (moving p st bits)) u.number ≡ true)
         left = if_kept_is (squasher (moving p st bits)) (or_then (arriving_thread p st bits q) (staying_thread p st bits q)) u
-            (ap (λ b. or_then (if b then born_thread p st.next (child_of (moving p st bits)) else None) (if_kept (squasher (moving p st bits)) (or_then (arriving_thread p st bits q) (staying_thread p st bits q)))) (sym (ne_eqb q 0 (λ i. absurd (omega (arith, i, above)))))
+            (ap
+            (λ b. or_then (if b then born_thread p st.next (child_of (moving p st bits)) else None)
+            (if_kept (squasher (moving p st bits)) (or_then (arriving_thread p st bits q) (staying_thread p st bits q))))
+            (sym (ne_eqb q 0 (λ i. absurd (omega (arith, i, above)))))
             ∙ sym (by.next q l) ∙ e)
 
         Goal : Option Comer → Type 0
-        Goal o = (brought s (λ (o : Comer). o.tickets m) (sides.tails q m) o ≡ (stand.base + count_older (suc u.number) pending) % 2 ^ ls.bits m) × (stand.base + released + count_older (suc u.number) (list_three st (moving p st bits) m) ≡ stand.base + count_older (suc u.number) pending)
+        Goal o =
+            (brought s (λ (o : Comer). o.tickets m) (sides.tails q m) o ≡ (stand.base + count_older (suc u.number) pending) % 2 ^ ls.bits m)
+            × (stand.base + released + count_older (suc u.number) (list_three st (moving p st bits) m) ≡ stand.base + count_older (suc u.number) pending)
 
         stayed : (b : Bool) → (if b then None else here p st bits q) ≡ Some u → here p st bits q ≡ Some u
         stayed true i = absurd (cc i)
@@ -240,17 +281,21 @@ module _ (p : Pipe) (sound : Sound p) (leads : LeadsOn p) (ls : Locks) (c : Circ
             let w = stood_in p st bits q u (stayed (stage_moves p st bits q) i) in
             let same = ap (λ (x : Thread). x.number) w.2 in (
               subst (λ n. holds_ticket (ls.bits m) (sides.tails q m) s (stand.base + count_older (suc n) pending)) same (tail_now q w.0 w.1 high),
-              subst (λ n. stand.base + released + count_older (suc n) (list_three st (moving p st bits) m) ≡ stand.base + count_older (suc n) pending) same (shifts q w.0 w.1 high),
+              subst
+                  (λ n. stand.base + released + count_older (suc n) (list_three st (moving p st bits) m) ≡ stand.base + count_older (suc n) pending) same
+                  (shifts q w.0 w.1 high),
             )
 
     -- ---- THE NEXT STATE
 
-    module _ (squashed : IsSquashed p ls vs gates s st bits) (t : State) (regs : t.regs ≡ next_regs c s) (arrays : t.arrays ≡ next_arrays c s) (stand' : StandsLock p ls vs t (cycle p st bits) m) where
+    module _ (squashed : IsSquashed p ls vs gates s st bits) (t : State) (regs : t.regs ≡ next_regs c s)
+        (arrays : t.arrays ≡ next_arrays c s) (stand' : StandsLock p ls vs t (cycle p st bits) m) where
       left_list : machine.lock_of (cycle p st bits) m ≡ entries_left (squasher (moving p st bits)) (list_three st (moving p st bits) m)
       left_list = by.locks m (lock_there p m locked)
 
       -- the oldest pending write's number shifts with the release
-      base_next : (stand.base + released + length (map forget (machine.lock_of (cycle p st bits) m))) % 2 ^ ls.bits m ≡ (stand'.base + length (map forget (machine.lock_of (cycle p st bits) m))) % 2 ^ ls.bits m
+      base_next : (stand.base + released + length (map forget (machine.lock_of (cycle p st bits) m))) % 2 ^ ls.bits m
+          ≡ (stand'.base + length (map forget (machine.lock_of (cycle p st bits) m))) % 2 ^ ls.bits m
       base_next =
           let x = made.locks m locked in
           let words = words_next p ls vs moves s st bits by used seen stood m locked stand gates squashed in
@@ -261,11 +306,13 @@ module _ (p : Pipe) (sound : Sound p) (leads : LeadsOn p) (ls : Locks) (c : Circ
           sym (x.ticket.holds t (lock_state_of (stand.base + released) (machine.lock_of (cycle p st bits) m) words) on)
           ∙ x.ticket.holds t (lock_state_of stand'.base (machine.lock_of (cycle p st bits) m) stand'.words) stand'.stands
 
-      tail_next : (q : ℕ) (u : Thread) → slot (cycle p st bits) q ≡ Some u → reserve_stage p m < q → q ≤ v → holds_ticket (ls.bits m) (sides.tails q m) t (stand'.base + count_older (suc u.number) (machine.lock_of (cycle p st bits) m))
+      tail_next : (q : ℕ) (u : Thread) → slot (cycle p st bits) q ≡ Some u → reserve_stage p m < q → q ≤ v
+          → holds_ticket (ls.bits m) (sides.tails q m) t (stand'.base + count_older (suc u.number) (machine.lock_of (cycle p st bits) m))
       tail_next q u e low high =
           let came = came_with q u (omega (arith, low)) high e in
           let next = machine.lock_of (cycle p st bits) m in
-          let count : count_older (suc u.number) next ≡ count_older (suc u.number) (list_three st (moving p st bits) m) = ap (count_older (suc u.number)) left_list ∙ cut.left m u.number came.2 in
+          let count : count_older (suc u.number) next ≡ count_older (suc u.number) (list_three st (moving p st bits) m) =
+          ap (count_older (suc u.number)) left_list ∙ cut.left m u.number came.2 in
           let shift = came.1 in
           let same : stand.base + count_older (suc u.number) pending ≡ stand.base + released + count_older (suc u.number) next = omega (arith, shift, count) in
           has.carried q m locked high low s t suits regs
@@ -275,5 +322,7 @@ module _ (p : Pipe) (sound : Sound p) (leads : LeadsOn p) (ls : Locks) (c : Circ
           ∙ same_offset (ls.bits m) (stand.base + released) stand'.base (length (map forget next)) (count_older (suc u.number) next) base_next
 
   -- the second tickets go on to stand, where each lock that stands then stood before
-  pub tails_kept : ((m : ℕ) → is_locked p m ≡ true → StandsLock p ls vs s st m) → IsSquashed p ls vs gates s st bits → (t : State) → t.regs ≡ next_regs c s → t.arrays ≡ next_arrays c s → StandTails p ls vs sides v t (cycle p st bits)
+  pub tails_kept : ((m : ℕ) → is_locked p m ≡ true → StandsLock p ls vs s st m) → IsSquashed p ls vs gates s st bits
+      → (t : State) → t.regs ≡ next_regs c s → t.arrays ≡ next_arrays c s
+      → StandTails p ls vs sides v t (cycle p st bits)
   tails_kept locks squashed t regs arrays q m u e locked low high stand' = tail_next m locked (locks m locked) squashed t regs arrays stand' q u e low high

@@ -75,7 +75,9 @@ each_some P Q [] h i = absurd i
 each_some P Q (y ∷ ys) h (inl i) = (y, h.0, i)
 each_some P Q (y ∷ ys) h (inr i) = each_some P Q ys h.1 i
 
-module _ (p : Pipe) (reads : Reads p) (leads : LeadsOn p) (st : State) (bits : List Bool) (flight : InFlight p st) (by : IsByStages p st bits) (m : ℕ) (r : Reading) (is : reading p m ≡ Some r) (r_low : r.stage < length p.stages) (x : PortState) (same : SamePort p st m r x) where
+module _ (p : Pipe) (reads : Reads p) (leads : LeadsOn p) (st : State) (bits : List Bool) (flight : InFlight p st)
+    (by : IsByStages p st bits) (m : ℕ) (r : Reading) (is : reading p m ≡ Some r) (r_low : r.stage < length p.stages)
+    (x : PortState) (same : SamePort p st m r x) where
   -- PLACES
 
   pub place_up : (i : ℕ) → i < length (places p r) → (r.stage < place_at p r i) × (place_at p r i < length p.stages)
@@ -99,7 +101,8 @@ module _ (p : Pipe) (reads : Reads p) (leads : LeadsOn p) (st : State) (bits : L
   pub owner_of : (i : ℕ) → x ≡ port.Owned i → (number : ℕ) × (a : ℕ) × (request_of st m ≡ Owned number a) × StandsAt p st r number i
   owner_of i f = at (request_of st m) refl (subst (λ q. SameRequest p st r (request_of st m) q) f same)
     where
-      at : (q : machine.Request) → request_of st m ≡ q → SameRequest p st r (request_of st m) (port.Owned i) → (number : ℕ) × (a : ℕ) × (request_of st m ≡ Owned number a) × StandsAt p st r number i
+      at : (q : machine.Request) → request_of st m ≡ q → SameRequest p st r (request_of st m) (port.Owned i)
+          → (number : ℕ) × (a : ℕ) × (request_of st m ≡ Owned number a) × StandsAt p st r number i
       at NoRequest e h = absurd (subst (λ q. SameRequest p st r q (port.Owned i)) e h)
       at (Orphan a) e h = absurd (subst (λ q. SameRequest p st r q (port.Owned i)) e h)
       at (Owned number a) e h = (number, a, e, subst (λ q. SameRequest p st r q (port.Owned i)) e h)
@@ -118,7 +121,8 @@ module _ (p : Pipe) (reads : Reads p) (leads : LeadsOn p) (st : State) (bits : L
   -- ANSWERED
 
   -- who awaits the memory has its request, and stands in a place
-  pub waits_at : (k : ℕ) (u : Thread) → slot st k ≡ Some u → Awaits u m → (a : ℕ) × (i : ℕ) × (request_of st m ≡ Owned u.number a) × (x ≡ port.Owned i) × (i < length (places p r)) × (place_at p r i ≡ k)
+  pub waits_at : (k : ℕ) (u : Thread) → slot st k ≡ Some u → Awaits u m
+      → (a : ℕ) × (i : ℕ) × (request_of st m ≡ Owned u.number a) × (x ≡ port.Owned i) × (i < length (places p r)) × (place_at p r i ≡ k)
   waits_at k u e w =
       let a = each_some (IsAwaited p st k u.number) (λ (q : Awaited). q.mem ≡ m) u.awaits (flight.awaited k u e) w in
       let owned : request_of st m ≡ Owned u.number a.1.address = subst (λ j. request_of st j ≡ Owned u.number a.1.address) a.2 a.1.owned in
@@ -137,13 +141,15 @@ module _ (p : Pipe) (reads : Reads p) (leads : LeadsOn p) (st : State) (bits : L
       some_is z = cc z
 
   -- the thread of a place that the port owns
-  pub owner_here : (k i : ℕ) (u : Thread) → place_at p r i ≡ k → slot st k ≡ Some u → x ≡ port.Owned i → Awaits u m × ((number : ℕ) × (a : ℕ) × (request_of st m ≡ Owned number a) × (u.number ≡ number))
+  pub owner_here : (k i : ℕ) (u : Thread) → place_at p r i ≡ k → slot st k ≡ Some u → x ≡ port.Owned i
+      → Awaits u m × ((number : ℕ) × (a : ℕ) × (request_of st m ≡ Owned number a) × (u.number ≡ number))
   owner_here k i u e f g =
       let o = owner_of i g in
       let same' = thread_is k i u o.0 e f o.3 in
       (subst (λ (t : Thread). Awaits t m) same' (owner_awaits o.0 o.1 i o.2 o.3), (o.0, o.1, o.2, sym (ap (λ (t : Thread). t.number) same') ∙ o.3.number))
 
-  pub answered_yes : (i k : ℕ) (u : Thread) → place_at p r i ≡ k → slot st k ≡ Some u → is_empty (with_answers p st bits u).awaits ≡ true → port.is_answered x (reply_bit p st bits m) i ≡ true
+  pub answered_yes : (i k : ℕ) (u : Thread) → place_at p r i ≡ k → slot st k ≡ Some u
+      → is_empty (with_answers p st bits u).awaits ≡ true → port.is_answered x (reply_bit p st bits m) i ≡ true
   answered_yes i k u e f none = at (owns x i) refl
     where
       at : (b : Bool) → owns x i ≡ b → (if b then reply_bit p st bits m else true) ≡ true
@@ -152,10 +158,17 @@ module _ (p : Pipe) (reads : Reads p) (leads : LeadsOn p) (st : State) (bits : L
           let o = owner_here k i u e f (owns_is x i g) in
           owned_reply o.1.0 o.1.1 o.1.2 ∙ all_in p st bits k u.number u.awaits (flight.awaited k u f) none m o.0
 
-  pub answered_no : (k : ℕ) (u : Thread) → slot st k ≡ Some u → Awaits u m → is_answered p bits m ≡ false → (i : ℕ) × (i < length (places p r)) × (place_at p r i ≡ k) × (port.is_answered x (reply_bit p st bits m) i ≡ false)
+  pub answered_no : (k : ℕ) (u : Thread) → slot st k ≡ Some u → Awaits u m → is_answered p bits m ≡ false
+      → (i : ℕ) × (i < length (places p r)) × (place_at p r i ≡ k) × (port.is_answered x (reply_bit p st bits m) i ≡ false)
   answered_no k u f w late =
-      let o = waits_at k u f w in
-      (o.1, o.4, o.5, ap (λ q. if owns q o.1 then reply_bit p st bits m else true) o.3 ∙ ap (λ b. if b then reply_bit p st bits m else true) (eq-eqb o.1 o.1 refl) ∙ owned_reply u.number o.0 o.2 ∙ late)
+      let o = waits_at k u f w in (
+        o.1,
+        o.4,
+        o.5,
+        ap (λ q. if owns q o.1 then reply_bit p st bits m else true) o.3
+            ∙ ap (λ b. if b then reply_bit p st bits m else true) (eq-eqb o.1 o.1 refl) ∙ owned_reply u.number o.0 o.2
+            ∙ late,
+      )
 
   -- ANSWERS
 
@@ -177,7 +190,8 @@ module _ (p : Pipe) (reads : Reads p) (leads : LeadsOn p) (st : State) (bits : L
     mine [] h = tt
     mine (q ∷ rs) h = ((λ e. reads.apart q.mem m h.0.read r h.0.is is (h.0.var ∙ e)), mine rs h.1)
 
-    with_var : (rs : List Awaited) → Each (IsAwaited p st k u.number) rs → Some-of (λ (q : Awaited). q.mem ≡ m) rs → Some-of (λ (q : Awaited). (q.mem ≡ m) × (q.var ≡ r.var)) rs
+    with_var : (rs : List Awaited) → Each (IsAwaited p st k u.number) rs → Some-of (λ (q : Awaited). q.mem ≡ m) rs
+        → Some-of (λ (q : Awaited). (q.mem ≡ m) × (q.var ≡ r.var)) rs
     with_var [] h i = absurd i
     with_var (q ∷ rs) h (inl e) = inl (e, sym h.0.var ∙ ap (λ (y : Reading). y.var) (some_is (sym h.0.is ∙ ap (reading p) e ∙ is)))
       where
@@ -192,22 +206,33 @@ module _ (p : Pipe) (reads : Reads p) (leads : LeadsOn p) (st : State) (bits : L
         ap (λ e. slice_index e r.var) now_is ∙ bound p st bits k u.number r.var m u.awaits raw each (mine u.awaits each) var_low a (with_var u.awaits each w)
 
     -- what the port gives for a place is the thread's value
-    pub given_right : (i : ℕ) → place_at p r i ≡ k → port.is_given x (reply_bit p st bits m) i ≡ true → slice_index (with_kept (with_answers p st bits u).kept u.env) r.var ≡ word_asked st m
+    pub given_right : (i : ℕ) → place_at p r i ≡ k → port.is_given x (reply_bit p st bits m) i ≡ true
+        → slice_index (with_kept (with_answers p st bits u).kept u.env) r.var ≡ word_asked st m
     given_right i e g = at (owns x i) refl g
       where
-        at : (b : Bool) → owns x i ≡ b → (if b then reply_bit p st bits m else false) ≡ true → slice_index (with_kept (with_answers p st bits u).kept u.env) r.var ≡ word_asked st m
+        at : (b : Bool) → owns x i ≡ b → (if b then reply_bit p st bits m else false) ≡ true
+            → slice_index (with_kept (with_answers p st bits u).kept u.env) r.var ≡ word_asked st m
         at false h j = absurd (cc j)
         at true h j = let z = owner_here k i u e f (owns_is x i h) in comes_now z.0 (sym (owned_reply z.1.0 z.1.1 z.1.2) ∙ j)
 
   -- and it gives what comes
-  pub given_comes : (k : ℕ) (u : Thread) → slot st k ≡ Some u → Awaits u m → is_answered p bits m ≡ true → (i : ℕ) × (i < length (places p r)) × (place_at p r i ≡ k) × (port.is_given x (reply_bit p st bits m) i ≡ true)
+  pub given_comes : (k : ℕ) (u : Thread) → slot st k ≡ Some u → Awaits u m → is_answered p bits m ≡ true
+      → (i : ℕ) × (i < length (places p r)) × (place_at p r i ≡ k) × (port.is_given x (reply_bit p st bits m) i ≡ true)
   given_comes k u f w a =
-      let o = waits_at k u f w in
-      (o.1, o.4, o.5, ap (λ q. if owns q o.1 then reply_bit p st bits m else false) o.3 ∙ ap (λ b. if b then reply_bit p st bits m else false) (eq-eqb o.1 o.1 refl) ∙ owned_reply u.number o.0 o.2 ∙ a)
+      let o = waits_at k u f w in (
+        o.1,
+        o.4,
+        o.5,
+        ap (λ q. if owns q o.1 then reply_bit p st bits m else false) o.3
+            ∙ ap (λ b. if b then reply_bit p st bits m else false) (eq-eqb o.1 o.1 refl) ∙ owned_reply u.number o.0 o.2
+            ∙ a,
+      )
 
   -- FREE
 
-  free_of : (q : machine.Request) → request_of st m ≡ q → (g : PortState) → x ≡ g → is_free q (is_answered p bits m) (later_acts p st bits r.stage) ≡ port.is_free g (is_outstanding q && is_answered p bits m) (λ i. stage_moves p st bits (place_at p r i))
+  free_of : (q : machine.Request) → request_of st m ≡ q → (g : PortState) → x ≡ g
+      → is_free q (is_answered p bits m) (later_acts p st bits r.stage)
+      ≡ port.is_free g (is_outstanding q && is_answered p bits m) (λ i. stage_moves p st bits (place_at p r i))
   free_of NoRequest e Idle f = refl
   free_of (Orphan a) e port.Orphan f = refl
   free_of NoRequest e (port.Owned i) f = absurd (subst (λ q. SameRequest p st r NoRequest q) f (subst (λ q. SameRequest p st r q x) e same))
@@ -224,10 +249,12 @@ module _ (p : Pipe) (reads : Reads p) (leads : LeadsOn p) (st : State) (bits : L
       test : Act → Bool
       test y = (y.thread.number == number) && y.moves
 
-      at : (b : Bool) → stage_moves p st bits (place_at p r i) ≡ b → list_any (λ (y : Act). (y.thread.number == number) && y.moves) (later_acts p st bits r.stage) ≡ b
+      at : (b : Bool) → stage_moves p st bits (place_at p r i) ≡ b
+          → list_any (λ (y : Act). (y.thread.number == number) && y.moves) (later_acts p st bits r.stage) ≡ b
       at true g =
           let up = place_up i o.low in
-          some_later p st bits (λ (y : Act). (y.thread.number == number) && y.moves) flight.count r.stage (place_at p r i) (with_answers p st bits o.thread) up.0 up.1 (ap (with_now p st bits) o.slot)
+          some_later p st bits (λ (y : Act). (y.thread.number == number) && y.moves) flight.count r.stage (place_at p r i)
+          (with_answers p st bits o.thread) up.0 up.1 (ap (with_now p st bits) o.slot)
           (ap₂ (λ b c. b && c) (eq-eqb o.thread.number number o.number) g)
       at false g = none_later p st bits (λ (y : Act). (y.thread.number == number) && y.moves) flight.count r.stage each
         where
@@ -235,15 +262,18 @@ module _ (p : Pipe) (reads : Reads p) (leads : LeadsOn p) (st : State) (bits : L
           no true = refl
           no false = refl
 
-          each : (j : ℕ) (t : Thread) → r.stage < j → j < length p.stages → here p st bits j ≡ Some t → ((t.number == number) && stage_moves p st bits j) ≡ false
+          each : (j : ℕ) (t : Thread) → r.stage < j → j < length p.stages → here p st bits j ≡ Some t
+              → ((t.number == number) && stage_moves p st bits j) ≡ false
           each j t low high h = by' (t.number == number) refl
             where
               by' : (b : Bool) → (t.number == number) ≡ b → (b && stage_moves p st bits j) ≡ false
               by' false z = refl
               by' true z =
                   let s = stood_in p st bits j t h in
-                  let j_is : j ≡ place_at p r i = flight.same j (place_at p r i) s.0 o.thread s.1 o.slot (ap (λ (v : Thread). v.number) s.2 ∙ eqb-true t.number number z ∙ sym o.number) in
+                  let j_is : j ≡ place_at p r i =
+                  flight.same j (place_at p r i) s.0 o.thread s.1 o.slot (ap (λ (v : Thread). v.number) s.2 ∙ eqb-true t.number number z ∙ sym o.number) in
                   ap (stage_moves p st bits) j_is ∙ g
 
-  pub free_is : is_free (request_of st m) (is_answered p bits m) (later_acts p st bits r.stage) ≡ port.is_free x (reply_bit p st bits m) (λ i. stage_moves p st bits (place_at p r i))
+  pub free_is : is_free (request_of st m) (is_answered p bits m) (later_acts p st bits r.stage)
+      ≡ port.is_free x (reply_bit p st bits m) (λ i. stage_moves p st bits (place_at p r i))
   free_is = free_of (request_of st m) refl x refl

@@ -41,10 +41,13 @@ pub record WholeStands (p : Pipe) (ls : Locks) (vs : ℕ → View) (sides : Side
   pub orders : (f q : ℕ) → f < length p.stages → (stage_at p q).merges ≡ Some f → (sides.order f).stands s (fork_of st f)
   pub tails : TailsStand p ls vs sides s st
 
-module _ (p : Pipe) (lawful : IsLawful p) (ls : Locks) (vs : ℕ → View) (gates : Gates) (moves : ℕ → Signal) (sides : Sides) (c : Circuit) (laid : IsLaid p ls vs gates moves c) (beside : HasSides p ls c vs gates moves sides) where
+module _ (p : Pipe) (lawful : IsLawful p) (ls : Locks) (vs : ℕ → View) (gates : Gates) (moves : ℕ → Signal)
+    (sides : Sides) (c : Circuit) (laid : IsLaid p ls vs gates moves c)
+    (beside : HasSides p ls c vs gates moves sides) where
   -- THE START
 
-  pub whole_first : (image : Arrays) (s : State) → s.regs ≡ map (λ (r : Reg). r.reset) c.regs → StandsFor p ls vs s (first p image) → WholeStands p ls vs sides s (first p image)
+  pub whole_first : (image : Arrays) (s : State) → s.regs ≡ map (λ (r : Reg). r.reset) c.regs
+      → StandsFor p ls vs s (first p image) → WholeStands p ls vs sides s (first p image)
   whole_first image s regs stands = record {
     stands = stands;
     ports = λ m r is. ports_first p c vs gates moves sides (beside.port_owns m) m r (beside.ports m r is) image s regs;
@@ -54,14 +57,17 @@ module _ (p : Pipe) (lawful : IsLawful p) (ls : Locks) (vs : ℕ → View) (gate
 
   -- A CYCLE
 
-  module _ (s : State) (st : machine.State) (bits : List Bool) (suits : Suits c s) (known : IsKnown p st bits) (whole : WholeStands p ls vs sides s st) (given : IsGiven p sides s st bits) where
+  module _ (s : State) (st : machine.State) (bits : List Bool) (suits : Suits c s) (known : IsKnown p st bits)
+      (whole : WholeStands p ls vs sides s st) (given : IsGiven p sides s st bits) where
     -- each walk begins with the answers
     answers : (k : ℕ) (t : Thread) → k < length p.stages → here p st bits k ≡ Some t → IsEnv p k s (vs k).begun.vars (with_kept t.kept t.env)
     answers k t l h x live =
         let y = stood_in p st bits k t h in
         subst (λ (v : Thread). slice_index (with_kept v.kept v.env) x ≡ ((vs k).begun.vars x).value s) y.2
         (sym (beside.begun k x l s suits
-        ∙ variable_told p lawful.reads lawful.leads lawful.inside c vs gates moves sides beside.port_owns beside.ports s st bits known.flight known.by whole.ports given k y.0 y.1 (whole.stands.long k y.0 y.1) x ((vs k).kept x) (sym (whole.stands.env k y.0 y.1 x live))))
+        ∙ variable_told p lawful.reads lawful.leads lawful.inside c vs gates moves sides beside.port_owns beside.ports s st bits known.flight known.by whole.ports given k y.0 y.1
+        (whole.stands.long k y.0 y.1) x ((vs k).kept x)
+        (sym (whole.stands.env k y.0 y.1 x live))))
 
     -- and each gate tells what it should
     tells : (k : ℕ) (t : Thread) → k < length p.stages → here p st bits k ≡ Some t → TellsGate p vs gates moves s st bits k t
@@ -74,15 +80,21 @@ module _ (p : Pipe) (lawful : IsLawful p) (ls : Locks) (vs : ℕ → View) (gate
         let acts = later_acts p st bits k in
         let pass = both (barrier_open v k w.barrier (sides.clear k)) (way_on (stage_at p k).next (turn p sides k) w) in
         beside.gate k l s suits
-        ∙ both_at s (all_answered p (answers_of sides) k (length p.mems) 0) (both (unsquashed v k gates.squash) (both (ports_open sides w.asks) pass)) (is_empty t.awaits) (may_pass p st bits acts k d)
-        (awaits_told p lawful.reads lawful.leads lawful.inside c vs gates moves sides beside.port_owns beside.ports s st bits known.flight known.by whole.ports given k y.0 y.1 ∙ ap (λ (u : Thread). bit (is_empty u.awaits)) y.2)
-        (λ a. both_at s (unsquashed v k gates.squash) (both (ports_open sides w.asks) pass) (no_failure acts) (ports_free p st bits acts d && (barrier_clear p acts d && merges_well p st k (next_stage p k d)))
+        ∙ both_at s (all_answered p (answers_of sides) k (length p.mems) 0)
+        (both (unsquashed v k gates.squash) (both (ports_open sides w.asks) pass)) (is_empty t.awaits)
+        (may_pass p st bits acts k d)
+        (awaits_told p lawful.reads lawful.leads lawful.inside c vs gates moves sides beside.port_owns beside.ports s st bits known.flight known.by whole.ports given k y.0 y.1
+        ∙ ap (λ (u : Thread). bit (is_empty u.awaits)) y.2)
+        (λ a. both_at s (unsquashed v k gates.squash) (both (ports_open sides w.asks) pass) (no_failure acts)
+        (ports_free p st bits acts d && (barrier_clear p acts d && merges_well p st k (next_stage p k d)))
         (unsquashed_is p lawful.sound c vs gates moves sides beside.removals s st bits suits known.flight known.by whole.stands.valid k later)
         (λ b. both_at s (ports_open sides w.asks) pass (ports_free p st bits acts d) (barrier_clear p acts d && merges_well p st k (next_stage p k d))
         (ports_told p lawful.reads lawful.leads lawful.inside c vs gates moves sides beside.port_owns beside.ports s st bits known.flight known.by whole.ports given k t w.asks so.asks later)
-        (λ e. both_at s (barrier_open v k w.barrier (sides.clear k)) (way_on (stage_at p k).next (turn p sides k) w) (barrier_clear p acts d) (merges_well p st k (next_stage p k d))
+        (λ e. both_at s (barrier_open v k w.barrier (sides.clear k)) (way_on (stage_at p k).next (turn p sides k) w)
+        (barrier_clear p acts d) (merges_well p st k (next_stage p k d))
         (barrier_is p lawful.sound c vs gates moves sides beside.removals s st bits suits known.flight known.by whole.stands.valid k d w.barrier so.barrier later)
-        (λ g. merges_is p lawful.sound c vs gates moves sides beside.order_owns beside.orders s st whole.orders k w d l (λ x i. so.env x (lives_fork p k x l i))))))
+        (λ g. merges_is p lawful.sound c vs gates moves sides beside.order_owns beside.orders s st whole.orders k w d l
+        (λ x i. so.env x (lives_fork p k x l i))))))
 
     -- so each stage is as the machine's
     pub seen_whole : (j : ℕ) → j < length p.stages → IsSeen p vs moves s st bits j
@@ -90,17 +102,25 @@ module _ (p : Pipe) (lawful : IsLawful p) (ls : Locks) (vs : ℕ → View) (gate
 
     -- and squashes are
     pub squashed_whole : IsSquashed p ls vs gates s st bits
-    squashed_whole = squashed_is p lawful.sound lawful.leads ls c vs gates moves laid sides beside s st bits suits known.flight known.by known.used known.cut seen_whole whole.tails
+    squashed_whole =
+        squashed_is p lawful.sound lawful.leads ls c vs gates moves laid sides beside s st bits suits known.flight known.by known.used known.cut seen_whole whole.tails
 
     -- and the next state stands for the machine's
     pub whole_next : (t : State) → Suits c t → t.regs ≡ next_regs c s → t.arrays ≡ next_arrays c s → WholeStands p ls vs sides t (cycle p st bits)
     whole_next t suits' regs arrays = record {
-      stands = stands_after p ls vs gates moves c laid lawful.leads s st bits suits whole.stands known.used known.by known.spared seen_whole (stood p st bits) squashed_whole answers t suits' regs arrays known.later;
+      stands =
+          stands_after p ls vs gates moves c laid lawful.leads s st bits suits whole.stands known.used known.by known.spared seen_whole
+          (stood p st bits) squashed_whole answers t suits' regs arrays known.later;
       ports = λ m r is.
-          ports_next p lawful.reads lawful.leads lawful.some c vs gates moves sides (beside.port_owns m) m r is (lawful.inside m r is) (beside.ports m r is) s st bits known.flight known.next known.by (whole.ports m r is) given seen_whole known.spared
+          ports_next p lawful.reads lawful.leads lawful.some c vs gates moves sides (beside.port_owns m) m r is (lawful.inside m r is)
+          (beside.ports m r is) s st bits known.flight known.next known.by (whole.ports m r is) given seen_whole known.spared
           (λ k. removes (squasher (moving p st bits)) (slot st k))
           (λ k l. kill_is p lawful.sound c vs gates moves sides beside.removals s st bits suits known.flight known.by whole.stands.valid seen_whole k l)
           (λ k u e. ap (removes (squasher (moving p st bits))) e) t regs arrays;
-      orders = λ f q low e. order_kept p c vs gates moves sides (beside.order_owns f) f low (beside.orders f q low e) s st bits known.by seen_whole squashed_whole.squash lawful.sound lawful.leads known.flight.count known.next (whole.orders f q low e) t regs arrays;
-      tails = tails_next p lawful.sound lawful.leads ls c vs gates moves laid sides beside s st bits suits known.flight known.by known.used known.cut seen_whole whole.tails whole.stands.locks t regs arrays;
+      orders =
+          λ f q low e. order_kept p c vs gates moves sides (beside.order_owns f) f low
+          (beside.orders f q low e) s st bits known.by seen_whole squashed_whole.squash lawful.sound lawful.leads known.flight.count known.next
+          (whole.orders f q low e) t regs arrays;
+      tails =
+          tails_next p lawful.sound lawful.leads ls c vs gates moves laid sides beside s st bits suits known.flight known.by known.used known.cut seen_whole whole.tails whole.stands.locks t regs arrays;
     }

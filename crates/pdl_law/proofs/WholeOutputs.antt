@@ -38,7 +38,14 @@ no_outputs names m [] = refl
 no_outputs names m (x ∷ xs) = at x.delayed (no_outputs names (suc m) xs)
   where
     at : (b : Bool) → filter_map port_output (reply_ports names (suc m) xs) ≡ []
-        → filter_map port_output ((if b then record { name = codes "p_" ++ names m; width = 1; dir = Rattle.pdl_net.specs.declared.Dir.TheVariants.In } ∷ record { name = codes "pd_" ++ names m; width = x.width; dir = Rattle.pdl_net.specs.declared.Dir.TheVariants.In } ∷ [] else []) ++ reply_ports names (suc m) xs) ≡ []
+        → filter_map port_output
+        ((if b
+        then record { name = codes "p_" ++ names m; width = 1; dir = Rattle.pdl_net.specs.declared.Dir.TheVariants.In }
+        ∷ record { name = codes "pd_" ++ names m; width = x.width; dir = Rattle.pdl_net.specs.declared.Dir.TheVariants.In }
+        ∷ []
+        else [])
+        ++ reply_ports names (suc m) xs)
+        ≡ []
     at false e = e
     at true e = e
 
@@ -53,7 +60,9 @@ abbrev pub write_of : Option PortWrite → Option (ℕ × ℕ)
 write_of None = None
 write_of (Some w) = Some (w.address, w.value)
 
-module _ (p : Pipe) (names : ℕ → List ℕ) (apart : Apart names (length p.mems)) (lawful : IsLawful p) (ls : Locks) (vs : ℕ → View) (gates : Gates) (moves : ℕ → Signal) (sides : Sides) (c : Circuit) (made : IsWhole p names ls vs gates moves sides c) where
+module _ (p : Pipe) (names : ℕ → List ℕ) (apart : Apart names (length p.mems)) (lawful : IsLawful p) (ls : Locks)
+    (vs : ℕ → View) (gates : Gates) (moves : ℕ → Signal) (sides : Sides) (c : Circuit)
+    (made : IsWhole p names ls vs gates moves sides c) where
   pub outputs_made : outputs_of c ≡ made.outs
   outputs_made =
       ap (filter_map port_output) made.ports ∙ filter_map-append port_output (reply_ports names 0 p.mems) (map (port_in c) made.outs)
@@ -69,7 +78,10 @@ module _ (p : Pipe) (names : ℕ → List ℕ) (apart : Apart names (length p.me
   -- an output by its name
   named_is : (s : State) (x : List ℕ) → port_value c (output_values c s) x ≡ look s (whole_shown p names made.laid.commits made.asks vs gates moves) x
   named_is s x =
-      port_is c (output_values c s) x (ap length (outputs_are s) ∙ length-map (whole_shown p names made.laid.commits made.asks vs gates moves) (shown_value s) ∙ ap length (sym made.shown) ∙ length-map made.outs (shown_in c) ∙ ap length (sym outputs_made))
+      port_is c (output_values c s) x
+      (ap length (outputs_are s)
+      ∙ length-map (whole_shown p names made.laid.commits made.asks vs gates moves) (shown_value s)
+      ∙ ap length (sym made.shown) ∙ length-map made.outs (shown_in c) ∙ ap length (sym outputs_made))
       ∙ ap₂ (λ ns vals. named_value ns vals x) (ap (map name_of_output) outputs_made) (outputs_are s ∙ ap (map (shown_value s)) (sym made.shown))
       ∙ named_look c s made.outs x
       ∙ ap (λ fs. look s fs x) made.shown
@@ -78,80 +90,125 @@ module _ (p : Pipe) (names : ℕ → List ℕ) (apart : Apart names (length p.me
   ends = shown_signal (codes "ended") (moves (length p.stages - 1)) ∷ shown_signal (codes "squash") gates.squash ∷ []
 
   -- commits and requests by the memory's name
-  flag_is : (s : State) (y : List ℕ) → port_value c (output_values c s) (codes "c_" ++ y) ≡ pick (λ (x : Mem). has_lock x.lock) (λ i. (made.laid.commits i).enable.value s) names 0 p.mems y 0
+  flag_is : (s : State) (y : List ℕ)
+      → port_value c (output_values c s) (codes "c_" ++ y) ≡ pick (λ (x : Mem). has_lock x.lock) (λ i. (made.laid.commits i).enable.value s) names 0 p.mems y 0
   flag_is s y =
       named_is s (codes "c_" ++ y)
-      ∙ past_stages s vs moves (codes "c_" ++ y) (λ j. refl) (λ j. refl) (length p.stages) 0 (commits_shown names made.laid.commits 0 p.mems ++ (requests_shown names made.asks 0 p.mems ++ ends))
+      ∙ past_stages s vs moves (codes "c_" ++ y) (λ j. refl) (λ j. refl)
+      (length p.stages) 0 (commits_shown names made.laid.commits 0 p.mems ++ (requests_shown names made.asks 0 p.mems ++ ends))
       ∙ commit_flag s names made.laid.commits 0 p.mems y (requests_shown names made.asks 0 p.mems ++ ends)
-      ∙ ap (pick (λ (x : Mem). has_lock x.lock) (λ i. (made.laid.commits i).enable.value s) names 0 p.mems y) (past_requests_c s names made.asks 0 p.mems y ends)
+      ∙ ap (pick (λ (x : Mem). has_lock x.lock) (λ i. (made.laid.commits i).enable.value s) names 0 p.mems y)
+      (past_requests_c s names made.asks 0 p.mems y ends)
 
-  addr_is : (s : State) (y : List ℕ) → port_value c (output_values c s) (codes "ca_" ++ y) ≡ pick (λ (x : Mem). has_lock x.lock) (λ i. (made.laid.commits i).addr.value s) names 0 p.mems y 0
+  addr_is : (s : State) (y : List ℕ)
+      → port_value c (output_values c s) (codes "ca_" ++ y) ≡ pick (λ (x : Mem). has_lock x.lock) (λ i. (made.laid.commits i).addr.value s) names 0 p.mems y 0
   addr_is s y =
       named_is s (codes "ca_" ++ y)
-      ∙ past_stages s vs moves (codes "ca_" ++ y) (λ j. refl) (λ j. refl) (length p.stages) 0 (commits_shown names made.laid.commits 0 p.mems ++ (requests_shown names made.asks 0 p.mems ++ ends))
+      ∙ past_stages s vs moves (codes "ca_" ++ y) (λ j. refl) (λ j. refl)
+      (length p.stages) 0 (commits_shown names made.laid.commits 0 p.mems ++ (requests_shown names made.asks 0 p.mems ++ ends))
       ∙ commit_addr s names made.laid.commits 0 p.mems y (requests_shown names made.asks 0 p.mems ++ ends)
       ∙ ap (pick (λ (x : Mem). has_lock x.lock) (λ i. (made.laid.commits i).addr.value s) names 0 p.mems y) (past_requests_ca s names made.asks 0 p.mems y ends)
 
-  word_is : (s : State) (y : List ℕ) → port_value c (output_values c s) (codes "cd_" ++ y) ≡ pick (λ (x : Mem). has_lock x.lock) (λ i. (made.laid.commits i).value.value s) names 0 p.mems y 0
+  word_is : (s : State) (y : List ℕ)
+      → port_value c (output_values c s) (codes "cd_" ++ y) ≡ pick (λ (x : Mem). has_lock x.lock) (λ i. (made.laid.commits i).value.value s) names 0 p.mems y 0
   word_is s y =
       named_is s (codes "cd_" ++ y)
-      ∙ past_stages s vs moves (codes "cd_" ++ y) (λ j. refl) (λ j. refl) (length p.stages) 0 (commits_shown names made.laid.commits 0 p.mems ++ (requests_shown names made.asks 0 p.mems ++ ends))
+      ∙ past_stages s vs moves (codes "cd_" ++ y) (λ j. refl) (λ j. refl)
+      (length p.stages) 0 (commits_shown names made.laid.commits 0 p.mems ++ (requests_shown names made.asks 0 p.mems ++ ends))
       ∙ commit_word s names made.laid.commits 0 p.mems y (requests_shown names made.asks 0 p.mems ++ ends)
-      ∙ ap (pick (λ (x : Mem). has_lock x.lock) (λ i. (made.laid.commits i).value.value s) names 0 p.mems y) (past_requests_cd s names made.asks 0 p.mems y ends)
+      ∙ ap (pick (λ (x : Mem). has_lock x.lock) (λ i. (made.laid.commits i).value.value s) names 0 p.mems y)
+      (past_requests_cd s names made.asks 0 p.mems y ends)
 
-  ask_is : (s : State) (y : List ℕ) → port_value c (output_values c s) (codes "q_" ++ y) ≡ pick (λ (x : Mem). x.delayed) (λ i. (made.asks i).enable.value s) names 0 p.mems y 0
+  ask_is : (s : State) (y : List ℕ)
+      → port_value c (output_values c s) (codes "q_" ++ y) ≡ pick (λ (x : Mem). x.delayed) (λ i. (made.asks i).enable.value s) names 0 p.mems y 0
   ask_is s y =
       named_is s (codes "q_" ++ y)
-      ∙ past_stages s vs moves (codes "q_" ++ y) (λ j. refl) (λ j. refl) (length p.stages) 0 (commits_shown names made.laid.commits 0 p.mems ++ (requests_shown names made.asks 0 p.mems ++ ends))
+      ∙ past_stages s vs moves (codes "q_" ++ y) (λ j. refl) (λ j. refl)
+      (length p.stages) 0 (commits_shown names made.laid.commits 0 p.mems ++ (requests_shown names made.asks 0 p.mems ++ ends))
       ∙ past_commits_q s names made.laid.commits 0 p.mems y (requests_shown names made.asks 0 p.mems ++ ends)
       ∙ request_flag s names made.asks 0 p.mems y ends
 
-  ask_addr_is : (s : State) (y : List ℕ) → port_value c (output_values c s) (codes "qa_" ++ y) ≡ pick (λ (x : Mem). x.delayed) (λ i. (made.asks i).addr.value s) names 0 p.mems y 0
+  ask_addr_is : (s : State) (y : List ℕ)
+      → port_value c (output_values c s) (codes "qa_" ++ y) ≡ pick (λ (x : Mem). x.delayed) (λ i. (made.asks i).addr.value s) names 0 p.mems y 0
   ask_addr_is s y =
       named_is s (codes "qa_" ++ y)
-      ∙ past_stages s vs moves (codes "qa_" ++ y) (λ j. refl) (λ j. refl) (length p.stages) 0 (commits_shown names made.laid.commits 0 p.mems ++ (requests_shown names made.asks 0 p.mems ++ ends))
+      ∙ past_stages s vs moves (codes "qa_" ++ y) (λ j. refl) (λ j. refl)
+      (length p.stages) 0 (commits_shown names made.laid.commits 0 p.mems ++ (requests_shown names made.asks 0 p.mems ++ ends))
       ∙ past_commits_qa s names made.laid.commits 0 p.mems y (requests_shown names made.asks 0 p.mems ++ ends)
       ∙ request_addr s names made.asks 0 p.mems y ends
 
-  module _ (s : State) (st : machine.State) (bits : List Bool) (suits : Suits c s) (known : IsKnown p st bits) (stands : StandsFor p ls vs s st) (seen : (j : ℕ) → j < length p.stages → IsSeen p vs moves s st bits j) (squashed : IsSquashed p ls vs gates s st bits) where
-    pub commit_at : (m : ℕ) → is_locked p m ≡ true → commit_words names s st (made.laid.commits m) ≡ commit_values (mem_at p m).lock (port_write (taken_out st (moving p st bits) m))
+  module _ (s : State) (st : machine.State) (bits : List Bool) (suits : Suits c s) (known : IsKnown p st bits)
+      (stands : StandsFor p ls vs s st) (seen : (j : ℕ) → j < length p.stages → IsSeen p vs moves s st bits j)
+      (squashed : IsSquashed p ls vs gates s st bits) where
+    pub commit_at : (m : ℕ) → is_locked p m ≡ true
+        → commit_words names s st (made.laid.commits m) ≡ commit_values (mem_at p m).lock (port_write (taken_out st (moving p st bits) m))
     commit_at = commit_laid p names ls vs gates moves c made.laid s st bits stands known.used known.by seen (stood p st bits) squashed
 
-    pub request_at : (m : ℕ) → m < length p.mems → (mem_at p m).delayed ≡ true → ((made.asks m).enable.value s ≡ bit (is_some (asked_in (moving p st bits) m))) × ((made.asks m).addr.value s ≡ address_or (asked_in (moving p st bits) m))
-    request_at m l d = requests.request_shown p lawful.reads st bits m c vs moves sides (made.asks m) (made.outside m l d) s suits known.by (λ r e. lawful.inside m r e) seen
+    pub request_at : (m : ℕ) → m < length p.mems → (mem_at p m).delayed ≡ true
+        → ((made.asks m).enable.value s ≡ bit (is_some (asked_in (moving p st bits) m)))
+        × ((made.asks m).addr.value s ≡ address_or (asked_in (moving p st bits) m))
+    request_at m l d =
+        requests.request_shown p lawful.reads st bits m c vs moves sides (made.asks m) (made.outside m l d) s suits known.by (λ r e. lawful.inside m r e) seen
 
     -- what a memory commits, by its name
-    pub commit_named : (m : ℕ) → m < length p.mems → is_locked p m ≡ true → commit_of c (output_values c s) (names m) ≡ write_of (port_write (taken_out st (moving p st bits) m))
+    pub commit_named : (m : ℕ) → m < length p.mems → is_locked p m ≡ true
+        → commit_of c (output_values c s) (names m) ≡ write_of (port_write (taken_out st (moving p st bits) m))
     commit_named m l e =
-        let value : (g : Commit → Signal) → pick (λ (x : Mem). has_lock x.lock) (λ i. (g (made.laid.commits i)).value s) names 0 p.mems (names m) 0 ≡ (g (made.laid.commits m)).value s =
-        λ g. subst (λ j. pick (λ (x : Mem). has_lock x.lock) (λ i. (g (made.laid.commits i)).value s) names 0 p.mems (names j) 0 ≡ (g (made.laid.commits j)).value s) (let z : 0 + m ≡ m = omega arith in z)
+        let value : (g : Commit → Signal)
+        → pick (λ (x : Mem). has_lock x.lock) (λ i. (g (made.laid.commits i)).value s) names 0 p.mems (names m) 0 ≡ (g (made.laid.commits m)).value s =
+        λ g. subst
+        (λ j. pick (λ (x : Mem). has_lock x.lock) (λ i. (g (made.laid.commits i)).value s) names 0 p.mems (names j) 0 ≡ (g (made.laid.commits j)).value s)
+        (let z : 0 + m ≡ m = omega arith in z)
         (pick_at (λ (x : Mem). has_lock x.lock) (λ i. (g (made.laid.commits i)).value s) names (length p.mems) 0 p.mems m 0 (omega arith) apart l e) in
-        ap (λ f. if f == 1 then Some (port_value c (output_values c s) (codes "ca_" ++ names m), port_value c (output_values c s) (codes "cd_" ++ names m)) else None) (flag_is s (names m) ∙ value (λ (x : Commit). x.enable))
-        ∙ ap₂ (λ a b. if (made.laid.commits m).enable.value s == 1 then Some (a, b) else None) (addr_is s (names m) ∙ value (λ (x : Commit). x.addr)) (word_is s (names m) ∙ value (λ (x : Commit). x.value))
+        ap
+        (λ f. if f == 1
+        then Some (port_value c (output_values c s) (codes "ca_" ++ names m), port_value c (output_values c s) (codes "cd_" ++ names m))
+        else None)
+        (flag_is s (names m) ∙ value (λ (x : Commit). x.enable))
+        ∙ ap₂ (λ a b. if (made.laid.commits m).enable.value s == 1 then Some (a, b) else None)
+        (addr_is s (names m) ∙ value (λ (x : Commit). x.addr))
+        (word_is s (names m) ∙ value (λ (x : Commit). x.value))
         ∙ at (mem_at p m).lock e (port_write (taken_out st (moving p st bits) m)) (commit_at m e)
       where
-        at : (l : Rattle.pdl_semantics.specs.Flat.Lock) → has_lock l ≡ true → (o : Option PortWrite) → commit_words names s st (made.laid.commits m) ≡ commit_values l o
-            → (if (made.laid.commits m).enable.value s == 1 then Some ((made.laid.commits m).addr.value s, (made.laid.commits m).value.value s) else None) ≡ write_of o
+        at : (l : Rattle.pdl_semantics.specs.Flat.Lock) → has_lock l ≡ true → (o : Option PortWrite)
+            → commit_words names s st (made.laid.commits m) ≡ commit_values l o
+            → (if (made.laid.commits m).enable.value s == 1 then Some ((made.laid.commits m).addr.value s, (made.laid.commits m).value.value s) else None)
+            ≡ write_of o
         at l e o h = told o (h ∙ ap (λ (b : Bool). if b then shown_values o else []) e)
           where
-            told : (o : Option PortWrite) → commit_words names s st (made.laid.commits m) ≡ shown_values o → (if (made.laid.commits m).enable.value s == 1 then Some ((made.laid.commits m).addr.value s, (made.laid.commits m).value.value s) else None) ≡ write_of o
-            told None g = ap (λ n. if n == 1 then Some ((made.laid.commits m).addr.value s, (made.laid.commits m).value.value s) else None) (ap (λ ws. slice_index ws 0) g)
+            told : (o : Option PortWrite) → commit_words names s st (made.laid.commits m) ≡ shown_values o
+                → (if (made.laid.commits m).enable.value s == 1 then Some ((made.laid.commits m).addr.value s, (made.laid.commits m).value.value s) else None)
+                ≡ write_of o
+            told None g =
+                ap (λ n. if n == 1 then Some ((made.laid.commits m).addr.value s, (made.laid.commits m).value.value s) else None)
+                (ap (λ ws. slice_index ws 0) g)
             told (Some w) g =
-                ap (λ n. if n == 1 then Some ((made.laid.commits m).addr.value s, (made.laid.commits m).value.value s) else None) (ap (λ ws. slice_index ws 0) g)
+                ap (λ n. if n == 1 then Some ((made.laid.commits m).addr.value s, (made.laid.commits m).value.value s) else None)
+                (ap (λ ws. slice_index ws 0) g)
                 ∙ ap₂ (λ a b. Some (a, b)) (ap (λ ws. slice_index ws 1) g) (ap (λ ws. slice_index ws 2) g)
 
     pub no_commit : (m : ℕ) → m < length p.mems → is_locked p m ≡ false → commit_of c (output_values c s) (names m) ≡ None
     no_commit m l e =
-        ap (λ f. if f == 1 then Some (port_value c (output_values c s) (codes "ca_" ++ names m), port_value c (output_values c s) (codes "cd_" ++ names m)) else None)
-        (flag_is s (names m) ∙ pick_not (λ (x : Mem). has_lock x.lock) (λ i. (made.laid.commits i).enable.value s) names (length p.mems) 0 p.mems m 0 (omega arith) apart l (λ j f. ap (λ i. has_lock (slice_index_or p.mems i plain_mem).lock) (let z : j ≡ m = omega (arith, f) in z) ∙ e))
+        ap
+        (λ f. if f == 1
+        then Some (port_value c (output_values c s) (codes "ca_" ++ names m), port_value c (output_values c s) (codes "cd_" ++ names m))
+        else None)
+        (flag_is s (names m)
+        ∙ pick_not (λ (x : Mem). has_lock x.lock)
+        (λ i. (made.laid.commits i).enable.value s) names (length p.mems) 0 p.mems m 0 (omega arith) apart l
+        (λ j f. ap (λ i. has_lock (slice_index_or p.mems i plain_mem).lock) (let z : j ≡ m = omega (arith, f) in z) ∙ e))
 
     -- and what it is asked
     pub request_named : (m : ℕ) → m < length p.mems → (mem_at p m).delayed ≡ true → request_of c (output_values c s) (names m) ≡ asked_in (moving p st bits) m
     request_named m l d =
-        let value : (g : Request → Signal) → pick (λ (x : Mem). x.delayed) (λ i. (g (made.asks i)).value s) names 0 p.mems (names m) 0 ≡ (g (made.asks m)).value s =
-        λ g. subst (λ j. pick (λ (x : Mem). x.delayed) (λ i. (g (made.asks i)).value s) names 0 p.mems (names j) 0 ≡ (g (made.asks j)).value s) (let z : 0 + m ≡ m = omega arith in z)
+        let value : (g : Request → Signal)
+        → pick (λ (x : Mem). x.delayed) (λ i. (g (made.asks i)).value s) names 0 p.mems (names m) 0 ≡ (g (made.asks m)).value s =
+        λ g. subst (λ j. pick (λ (x : Mem). x.delayed) (λ i. (g (made.asks i)).value s) names 0 p.mems (names j) 0 ≡ (g (made.asks j)).value s)
+        (let z : 0 + m ≡ m = omega arith in z)
         (pick_at (λ (x : Mem). x.delayed) (λ i. (g (made.asks i)).value s) names (length p.mems) 0 p.mems m 0 (omega arith) apart l d) in
-        ap₂ (λ f a. if f == 1 then Some a else None) (ask_is s (names m) ∙ value (λ (q : Request). q.enable) ∙ (request_at m l d).0) (ask_addr_is s (names m) ∙ value (λ (q : Request). q.addr) ∙ (request_at m l d).1)
+        ap₂ (λ f a. if f == 1 then Some a else None)
+        (ask_is s (names m) ∙ value (λ (q : Request). q.enable) ∙ (request_at m l d).0)
+        (ask_addr_is s (names m) ∙ value (λ (q : Request). q.addr) ∙ (request_at m l d).1)
         ∙ at (asked_in (moving p st bits) m)
       where
         at : (o : Option ℕ) → (if bit (is_some o) == 1 then Some (address_or o) else None) ≡ o
@@ -160,21 +217,39 @@ module _ (p : Pipe) (names : ℕ → List ℕ) (apart : Apart names (length p.me
 
     -- ALL VALUES
 
-    requests_are : (m : ℕ) (xs : List Mem) → ((i : ℕ) → i < length xs → (slice_index_or xs i plain_mem).delayed ≡ true → ((made.asks (m + i)).enable.value s ≡ bit (is_some (asked_in (moving p st bits) (m + i)))) × ((made.asks (m + i)).addr.value s ≡ address_or (asked_in (moving p st bits) (m + i))))
+    requests_are : (m : ℕ) (xs : List Mem)
+        → ((i : ℕ) → i < length xs → (slice_index_or xs i plain_mem).delayed ≡ true
+        → ((made.asks (m + i)).enable.value s ≡ bit (is_some (asked_in (moving p st bits) (m + i))))
+        × ((made.asks (m + i)).addr.value s ≡ address_or (asked_in (moving p st bits) (m + i))))
         → map (shown_value s) (requests_shown names made.asks m xs) ≡ all_request_values xs (for_mems (λ i. asked_in (moving p st bits) i) m xs)
     requests_are m [] h = refl
     requests_are m (x ∷ xs) h =
         map-append (shown_value s) (if x.delayed then request_shown (names m) (made.asks m) else []) (requests_shown names made.asks (suc m) xs)
-        ∙ ap₂ (λ a b. a ++ b) (mine x.delayed (λ e. h 0 (omega arith) e)) (requests_are (suc m) xs (λ i l e. (let z : m + suc i ≡ suc m + i = omega arith in subst (λ j. ((made.asks j).enable.value s ≡ bit (is_some (asked_in (moving p st bits) j))) × ((made.asks j).addr.value s ≡ address_or (asked_in (moving p st bits) j))) z (h (suc i) (omega (arith, l)) e))))
+        ∙ ap₂ (λ a b. a ++ b) (mine x.delayed (λ e. h 0 (omega arith) e))
+        (requests_are (suc m) xs
+        (λ i l e.
+        (let z : m + suc i ≡ suc m + i = omega arith in
+        subst
+        (λ j. ((made.asks j).enable.value s ≡ bit (is_some (asked_in (moving p st bits) j)))
+        × ((made.asks j).addr.value s ≡ address_or (asked_in (moving p st bits) j))) z
+        (h (suc i) (omega (arith, l)) e))))
       where
         values : (o : Option ℕ) → bit (is_some o) ∷ address_or o ∷ [] ≡ request_values o
         values None = refl
         values (Some a) = refl
 
-        mine : (b : Bool) → (b ≡ true → ((made.asks (m + 0)).enable.value s ≡ bit (is_some (asked_in (moving p st bits) (m + 0)))) × ((made.asks (m + 0)).addr.value s ≡ address_or (asked_in (moving p st bits) (m + 0)))) → map (shown_value s) (if b then request_shown (names m) (made.asks m) else []) ≡ (if b then request_values (asked_in (moving p st bits) m) else [])
+        mine : (b : Bool)
+            → (b ≡ true
+            → ((made.asks (m + 0)).enable.value s ≡ bit (is_some (asked_in (moving p st bits) (m + 0))))
+            × ((made.asks (m + 0)).addr.value s ≡ address_or (asked_in (moving p st bits) (m + 0))))
+            → map (shown_value s) (if b then request_shown (names m) (made.asks m) else []) ≡ (if b then request_values (asked_in (moving p st bits) m) else [])
         mine false g = refl
         mine true g =
-            let here = subst (λ j. ((made.asks j).enable.value s ≡ bit (is_some (asked_in (moving p st bits) j))) × ((made.asks j).addr.value s ≡ address_or (asked_in (moving p st bits) j))) (let z : m + 0 ≡ m = omega arith in z) (g refl) in
+            let here =
+            subst
+            (λ j. ((made.asks j).enable.value s ≡ bit (is_some (asked_in (moving p st bits) j)))
+            × ((made.asks j).addr.value s ≡ address_or (asked_in (moving p st bits) j)))
+            (let z : m + 0 ≡ m = omega arith in z) (g refl) in
             ap₂ (λ a b. a ∷ b ∷ []) here.0 here.1 ∙ values (asked_in (moving p st bits) m)
 
     -- the outputs are the machine's ports
@@ -187,11 +262,27 @@ module _ (p : Pipe) (names : ℕ → List ℕ) (apart : Apart names (length p.me
         let commits = commits_shown names made.laid.commits 0 p.mems in
         let asks = requests_shown names made.asks 0 p.mems in
         let valids = stages_are p vs moves s st bits seen n 0 p.stages (omega arith) refl ∙ ap₂ stage_values (sym known.by.valid) (sym known.by.moves) in
-        let taken = commits_are names s st (moving p st bits) made.laid.commits 0 p.mems (λ i l e. (let z : i ≡ 0 + i = omega arith in subst (λ j. commit_words names s st (made.laid.commits j) ≡ commit_values (mem_at p i).lock (port_write (taken_out st (moving p st bits) j))) z (commit_at i e))) ∙ ap (all_commit_values p.mems) (sym known.by.commits) in
-        let asked = requests_are 0 p.mems (λ i l d. (let z : i ≡ 0 + i = omega arith in subst (λ j. ((made.asks j).enable.value s ≡ bit (is_some (asked_in (moving p st bits) j))) × ((made.asks j).addr.value s ≡ address_or (asked_in (moving p st bits) j))) z (request_at i l d)))
+        let taken =
+        commits_are names s st (moving p st bits) made.laid.commits 0 p.mems
+        (λ i l e.
+        (let z : i ≡ 0 + i = omega arith in
+        subst
+        (λ j. commit_words names s st (made.laid.commits j) ≡ commit_values (mem_at p i).lock (port_write (taken_out st (moving p st bits) j))) z
+        (commit_at i e)))
+        ∙ ap (all_commit_values p.mems) (sym known.by.commits) in
+        let asked =
+        requests_are 0 p.mems
+        (λ i l d.
+        (let z : i ≡ 0 + i = omega arith in
+        subst
+        (λ j. ((made.asks j).enable.value s ≡ bit (is_some (asked_in (moving p st bits) j)))
+        × ((made.asks j).addr.value s ≡ address_or (asked_in (moving p st bits) j))) z
+        (request_at i l d)))
         ∙ ap (λ ms. all_request_values p.mems (for_mems (λ i. asked_in ms i) 0 p.mems)) (sym known.by.movers) in
         let ended = (seen (n - 1) (let z = lawful.some in omega (arith, z))).leaves ∙ ap bit (sym known.by.ended) in
         let squash : gates.squash.value s ≡ bit o.squash = squashed.squash ∙ ap bit (sym known.by.squash) in
         outputs_are s
         ∙ map-append value stages (commits ++ (asks ++ ends))
-        ∙ ap₂ (λ a b. a ++ b) valids (map-append value commits (asks ++ ends) ∙ ap₂ (λ a b. a ++ b) taken (map-append value asks ends ∙ ap₂ (λ a b. a ++ b) asked (ap₂ (λ a b. a ∷ b ∷ []) ended squash)))
+        ∙ ap₂ (λ a b. a ++ b) valids
+        (map-append value commits (asks ++ ends)
+        ∙ ap₂ (λ a b. a ++ b) taken (map-append value asks ends ∙ ap₂ (λ a b. a ++ b) asked (ap₂ (λ a b. a ∷ b ∷ []) ended squash)))

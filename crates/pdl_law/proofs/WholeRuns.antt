@@ -52,7 +52,12 @@ widths_of names m [] = refl
 widths_of names m (x ∷ xs) = at x.delayed (widths_of names (suc m) xs)
   where
     at : (b : Bool) → filter_map port_input (reply_ports names (suc m) xs) ≡ input_widths xs
-        → filter_map port_input ((if b then record { name = codes "p_" ++ names m; width = 1; dir = In } ∷ record { name = codes "pd_" ++ names m; width = x.width; dir = In } ∷ [] else []) ++ reply_ports names (suc m) xs) ≡ (if b then 1 ∷ x.width ∷ [] else []) ++ input_widths xs
+        → filter_map port_input
+        ((if b
+        then record { name = codes "p_" ++ names m; width = 1; dir = In } ∷ record { name = codes "pd_" ++ names m; width = x.width; dir = In } ∷ []
+        else [])
+        ++ reply_ports names (suc m) xs)
+        ≡ (if b then 1 ∷ x.width ∷ [] else []) ++ input_widths xs
     at false e = e
     at true e = ap (λ ws. 1 ∷ x.width ∷ ws) e
 
@@ -60,7 +65,9 @@ no_inputs : (c : Circuit) (outs : List Output) → filter_map port_input (map (p
 no_inputs c [] = refl
 no_inputs c (o ∷ outs) = no_inputs c outs
 
-module _ (p : Pipe) (names : ℕ → List ℕ) (apart : Apart names (length p.mems)) (lawful : IsLawful p) (known : (image : Arrays) (before : List (List Bool)) (bits : List Bool) → IsKnown p (state_after p (first p image) before) bits) (ls : Locks) (vs : ℕ → View) (gates : Gates) (moves : ℕ → Signal) (sides : Sides) (n : Netlist)
+module _ (p : Pipe) (names : ℕ → List ℕ) (apart : Apart names (length p.mems)) (lawful : IsLawful p)
+    (known : (image : Arrays) (before : List (List Bool)) (bits : List Bool) → IsKnown p (state_after p (first p image) before) bits)
+    (ls : Locks) (vs : ℕ → View) (gates : Gates) (moves : ℕ → Signal) (sides : Sides) (n : Netlist)
     (made : IsWhole p names ls vs gates moves sides (circuit_of n)) (well : IsWell (circuit_of n)) (mems : HasWholeMems p names ls n) where
   abbrev c : Circuit
   c = circuit_of n
@@ -102,7 +109,9 @@ module _ (p : Pipe) (names : ℕ → List ℕ) (apart : Apart names (length p.me
           let f = inputs_fit st 0 p.mems h.stores b x.stores in
           record {
             input_count = f.0 ∙ ap length (sym inputs_are);
-            inputs = λ i l. subst (λ ws. slice_index (Rattle.pdl_net.specs.Run.answers h.stores b) i < 2 ^ slice_index ws i) (sym inputs_are) (f.1 i (subst (λ ws. i < length ws) inputs_are l));
+            inputs =
+                λ i l. subst (λ ws. slice_index (Rattle.pdl_net.specs.Run.answers h.stores b) i < 2 ^ slice_index ws i)
+                (sym inputs_are) (f.1 i (subst (λ ws. i < length ws) inputs_are l));
             reg_count = x.holds.reg_count;
             regs = x.holds.each;
             array_count = x.holds.array_count;
@@ -113,12 +122,14 @@ module _ (p : Pipe) (names : ℕ → List ℕ) (apart : Apart names (length p.me
       pub knows : IsKnown p st (replies_of (delayed_count p) b)
       knows = subst (λ y. IsKnown p y (replies_of (delayed_count p) b)) (sym x.reached) (known image x.before (replies_of (delayed_count p) b))
 
-      reads_at : (m : ℕ) → m < length p.mems → (mem_at p m).delayed ≡ true → ReadsStore st m (replies_of (delayed_count p) b) (Rattle.pdl_net.specs.Run.answers h.stores b) (reply_place p m)
+      reads_at : (m : ℕ) → m < length p.mems → (mem_at p m).delayed ≡ true
+          → ReadsStore st m (replies_of (delayed_count p) b) (Rattle.pdl_net.specs.Run.answers h.stores b) (reply_place p m)
       reads_at m l d =
           let r = inputs_read st 0 p.mems h.stores b x.stores m l d in
           subst (λ j. ReadsStore st m (replies_of (delayed_count p) b) (Rattle.pdl_net.specs.Run.answers h.stores b) j) (counted (take m p.mems))
           (subst (λ k. ReadsStore st m (replies_of k b) (Rattle.pdl_net.specs.Run.answers h.stores b) (delayed_in (take m p.mems))) (counted p.mems)
-          (subst (λ j. ReadsStore st j (replies_of (delayed_in p.mems) b) (Rattle.pdl_net.specs.Run.answers h.stores b) (delayed_in (take m p.mems))) (let z : 0 + m ≡ m = omega arith in z) r))
+          (subst (λ j. ReadsStore st j (replies_of (delayed_in p.mems) b) (Rattle.pdl_net.specs.Run.answers h.stores b) (delayed_in (take m p.mems)))
+          (let z : 0 + m ≡ m = omega arith in z) r))
 
       given : IsGiven p sides (state_in h b) st (replies_of (delayed_count p) b)
       unfolding input_value
@@ -132,15 +143,20 @@ module _ (p : Pipe) (names : ℕ → List ℕ) (apart : Apart names (length p.me
           }
 
       pub seen : (j : ℕ) → j < length p.stages → IsSeen p vs moves (state_in h b) st (replies_of (delayed_count p) b) j
-      seen = seen_whole p lawful ls vs gates moves sides (circuit_of n) made.laid made.beside (state_in h b) st (replies_of (delayed_count p) b) suits knows (x.whole b suits) given
+      seen =
+          seen_whole p lawful ls vs gates moves sides (circuit_of n) made.laid made.beside (state_in h b) st
+          (replies_of (delayed_count p) b) suits knows (x.whole b suits) given
 
       pub squashed : IsSquashed p ls vs gates (state_in h b) st (replies_of (delayed_count p) b)
-      squashed = squashed_whole p lawful ls vs gates moves sides (circuit_of n) made.laid made.beside (state_in h b) st (replies_of (delayed_count p) b) suits knows (x.whole b suits) given
+      squashed =
+          squashed_whole p lawful ls vs gates moves sides (circuit_of n) made.laid made.beside (state_in h b) st
+          (replies_of (delayed_count p) b) suits knows (x.whole b suits) given
 
       -- the cycle is a wait of both
       waits : net_run.some_waits h.stores b ≡ is_wait p st (replies_of (delayed_count p) b)
       waits =
-          waits_are p st (replies_of (delayed_count p) b) 0 p.mems h.stores b x.stores (replied b) (λ i l d. ap (request_of st) (let z : 0 + i ≡ i = omega arith in z) ∙ x.quiet i l (unread i l d))
+          waits_are p st (replies_of (delayed_count p) b) 0 p.mems h.stores b x.stores (replied b)
+          (λ i l d. ap (request_of st) (let z : 0 + i ≡ i = omega arith in z) ∙ x.quiet i l (unread i l d))
           ∙ ap (waits_from p (replies_of (delayed_count p) b) 0) (sym knows.flight.listed)
         where
           unread : (i : ℕ) → i < length p.mems → (mem_at p i).delayed ≡ false → reading p i ≡ None
@@ -151,51 +167,76 @@ module _ (p : Pipe) (names : ℕ → List ℕ) (apart : Apart names (length p.me
               at (Some r) e = absurd (cc (sym d ∙ (lawful.reads.known i r e).1))
 
       -- and its ports are the machine's
-      pub shows_here : seen_of (net_run.shown_ports n h b) ≡ whole_had p (record { ports = stated.ports p st (all_acts p st (replies_of (delayed_count p) b)); wait = is_wait p st (replies_of (delayed_count p) b) })
+      pub shows_here : seen_of (net_run.shown_ports n h b)
+          ≡ whole_had p
+          (record { ports = stated.ports p st (all_acts p st (replies_of (delayed_count p) b)); wait = is_wait p st (replies_of (delayed_count p) b) })
       shows_here =
           ap₂ (λ ps w. record { ports = ps; wait = w })
-          (whole_shows p names apart lawful ls vs gates moves sides (circuit_of n) made (state_in h b) st (replies_of (delayed_count p) b) suits knows (x.whole b suits).stands seen squashed) waits
+          (whole_shows p names apart lawful ls vs gates moves sides (circuit_of n) made (state_in h b) st
+          (replies_of (delayed_count p) b) suits knows (x.whole b suits).stands seen squashed) waits
 
       -- what each delayed memory commits and is asked
-      steps : (m : ℕ) → m < length p.mems → (mem_at p m).delayed ≡ true → StepsTo p lawful st (replies_of (delayed_count p) b) knows (circuit_of n) (state_in h b) names m
+      steps : (m : ℕ) → m < length p.mems → (mem_at p m).delayed ≡ true
+          → StepsTo p lawful st (replies_of (delayed_count p) b) knows (circuit_of n) (state_in h b) names m
       steps m l d = record {
         commit = at (is_locked p m) refl;
-        request = request_named p names apart lawful ls vs gates moves sides (circuit_of n) made (state_in h b) st (replies_of (delayed_count p) b) suits knows (x.whole b suits).stands seen squashed m l d;
+        request =
+            request_named p names apart lawful ls vs gates moves sides (circuit_of n) made (state_in h b) st
+            (replies_of (delayed_count p) b) suits knows (x.whole b suits).stands seen squashed m l d;
         wide = λ e f. wide (is_locked p m) refl e f;
         low = λ a f. low a f;
       }
         where
           none : is_locked p m ≡ false → taken_out st (moving p st (replies_of (delayed_count p) b)) m ≡ None
-          none e = ap (λ t. if t then oldest (list_two st (moving p st (replies_of (delayed_count p) b)) m) else None) (knows.used.unreleased m (plain_is p m e))
+          none e =
+              ap (λ t. if t then oldest (list_two st (moving p st (replies_of (delayed_count p) b)) m) else None) (knows.used.unreleased m (plain_is p m e))
 
-          at : (t : Bool) → is_locked p m ≡ t → net_run.commit_of (circuit_of n) (output_values (circuit_of n) (state_in h b)) (names m) ≡ write_of (port_write (taken_out st (moving p st (replies_of (delayed_count p) b)) m))
-          at true e = commit_named p names apart lawful ls vs gates moves sides (circuit_of n) made (state_in h b) st (replies_of (delayed_count p) b) suits knows (x.whole b suits).stands seen squashed m l e
+          at : (t : Bool) → is_locked p m ≡ t
+              → net_run.commit_of (circuit_of n) (output_values (circuit_of n) (state_in h b)) (names m)
+              ≡ write_of (port_write (taken_out st (moving p st (replies_of (delayed_count p) b)) m))
+          at true e =
+              commit_named p names apart lawful ls vs gates moves sides (circuit_of n) made (state_in h b) st
+              (replies_of (delayed_count p) b) suits knows (x.whole b suits).stands seen squashed m l e
           at false e =
-              no_commit p names apart lawful ls vs gates moves sides (circuit_of n) made (state_in h b) st (replies_of (delayed_count p) b) suits knows (x.whole b suits).stands seen squashed m l e
+              no_commit p names apart lawful ls vs gates moves sides (circuit_of n) made (state_in h b) st
+              (replies_of (delayed_count p) b) suits knows (x.whole b suits).stands seen squashed m l e
               ∙ ap (λ o. write_of (port_write o)) (sym (none e))
 
-          wide : (t : Bool) → is_locked p m ≡ t → (e : Pending) → taken_out st (moving p st (replies_of (delayed_count p) b)) m ≡ Some e → commit_value e.value < 2 ^ (mem_at p m).width
+          wide : (t : Bool) → is_locked p m ≡ t → (e : Pending)
+              → taken_out st (moving p st (replies_of (delayed_count p) b)) m ≡ Some e
+              → commit_value e.value < 2 ^ (mem_at p m).width
           wide false g e f = absurd (cc (sym (none g) ∙ f))
           wide true g e f =
               let fits = made.fits m l d in
               let net = fits.word g in
-              let words = commit_at p names apart lawful ls vs gates moves sides (circuit_of n) made (state_in h b) st (replies_of (delayed_count p) b) suits knows (x.whole b suits).stands seen squashed m g in
-              let value : (made.laid.commits m).value.value (state_in h b) ≡ commit_value e.value = value_is (mem_at p m).lock g (words ∙ ap (λ o. Rattle.pdl_machine_facts.specs.Ports.commit_values (mem_at p m).lock (port_write o)) f) in
+              let words =
+              commit_at p names apart lawful ls vs gates moves sides (circuit_of n) made (state_in h b) st
+              (replies_of (delayed_count p) b) suits knows (x.whole b suits).stands seen squashed m g in
+              let value : (made.laid.commits m).value.value (state_in h b) ≡ commit_value e.value =
+              value_is (mem_at p m).lock g (words ∙ ap (λ o. Rattle.pdl_machine_facts.specs.Ports.commit_values (mem_at p m).lock (port_write o)) f) in
               let bound = (bounded (circuit_of n) (state_in h b) well suits net.0 net.1).fits in
-              let bound' : (made.laid.commits m).value.value (state_in h b) < 2 ^ (made.laid.commits m).value.width = subst (λ (y : Signal). y.value (state_in h b) < 2 ^ y.width) net.2 bound in
-              let bound'' : (made.laid.commits m).value.value (state_in h b) < 2 ^ (mem_at p m).width = subst (λ k. (made.laid.commits m).value.value (state_in h b) < 2 ^ k) (fits.wide g) bound' in
+              let bound' : (made.laid.commits m).value.value (state_in h b) < 2 ^ (made.laid.commits m).value.width =
+              subst (λ (y : Signal). y.value (state_in h b) < 2 ^ y.width) net.2 bound in
+              let bound'' : (made.laid.commits m).value.value (state_in h b) < 2 ^ (mem_at p m).width =
+              subst (λ k. (made.laid.commits m).value.value (state_in h b) < 2 ^ k) (fits.wide g) bound' in
               subst (λ k. k < 2 ^ (mem_at p m).width) value bound''
             where
-              value_is : (k : Lock) → has_lock k ≡ true → commit_words names (state_in h b) st (made.laid.commits m) ≡ Rattle.pdl_machine_facts.specs.Ports.commit_values k (port_write (Some e)) → (made.laid.commits m).value.value (state_in h b) ≡ commit_value e.value
+              value_is : (k : Lock) → has_lock k ≡ true
+                  → commit_words names (state_in h b) st (made.laid.commits m) ≡ Rattle.pdl_machine_facts.specs.Ports.commit_values k (port_write (Some e))
+                  → (made.laid.commits m).value.value (state_in h b) ≡ commit_value e.value
               value_is k i j = ap (λ ws. slice_index ws 2) (j ∙ ap (λ (t : Bool). if t then 1 ∷ e.address ∷ commit_value e.value ∷ [] else []) i)
 
           low : (a : ℕ) → asked_in (moving p st (replies_of (delayed_count p) b)) m ≡ Some a → a < (mem_at p m).depth
           low a f =
               let fits = made.fits m l d in
               let net = fits.addr in
-              let asked = (request_at p names apart lawful ls vs gates moves sides (circuit_of n) made (state_in h b) st (replies_of (delayed_count p) b) suits knows (x.whole b suits).stands seen squashed m l d).1 ∙ ap address_or f in
+              let asked =
+              (request_at p names apart lawful ls vs gates moves sides (circuit_of n) made (state_in h b) st
+              (replies_of (delayed_count p) b) suits knows (x.whole b suits).stands seen squashed m l d).1
+              ∙ ap address_or f in
               let bound = (bounded (circuit_of n) (state_in h b) well suits net.0 net.1).fits in
-              let bound' : (made.asks m).addr.value (state_in h b) < 2 ^ (made.asks m).addr.width = subst (λ (y : Signal). y.value (state_in h b) < 2 ^ y.width) net.2 bound in
+              let bound' : (made.asks m).addr.value (state_in h b) < 2 ^ (made.asks m).addr.width =
+              subst (λ (y : Signal). y.value (state_in h b) < 2 ^ y.width) net.2 bound in
               subst (λ k. k < (mem_at p m).depth) asked (subst (λ k. (made.asks m).addr.value (state_in h b) < k) fits.reach bound')
 
       -- the next cycle begins with a state that stands for the machine's
@@ -204,17 +245,31 @@ module _ (p : Pipe) (names : ℕ → List ℕ) (apart : Apart names (length p.me
         before = x.before ++ replies_of (delayed_count p) b ∷ [];
         reached = ap (λ y. cycle p y (replies_of (delayed_count p) b)) x.reached ∙ sym (after_more p (first p image) x.before (replies_of (delayed_count p) b));
         holds = next_holds (circuit_of n) (state_in h b) well suits;
-        stores = stores_next p lawful st (replies_of (delayed_count p) b) knows (circuit_of n) (state_in h b) names 0 p.mems (delayed_mems n) h.stores b (omega arith) (λ i l. ap (mem_at p) (let z : 0 + i ≡ i = omega arith in z)) mems.named x.stores (replied b)
-            (λ i l d. subst (StepsTo p lawful st (replies_of (delayed_count p) b) knows (circuit_of n) (state_in h b) names) (let z : i ≡ 0 + i = omega arith in z) (steps i l d));
+        stores =
+            stores_next p lawful st (replies_of (delayed_count p) b) knows (circuit_of n)
+            (state_in h b) names 0 p.mems (delayed_mems n) h.stores b (omega arith)
+            (λ i l. ap (mem_at p) (let z : 0 + i ≡ i = omega arith in z)) mems.named x.stores (replied b)
+            (λ i l d. subst (StepsTo p lawful st (replies_of (delayed_count p) b) knows (circuit_of n) (state_in h b) names)
+            (let z : i ≡ 0 + i = omega arith in z) (steps i l d));
         quiet = λ m l e. quiet_next p lawful st (replies_of (delayed_count p) b) knows m l e (x.quiet m l e);
-        whole = λ k fits. whole_next p lawful ls vs gates moves sides (circuit_of n) made.laid made.beside (state_in h b) st (replies_of (delayed_count p) b) suits knows (x.whole b suits) given (state_in (net_run.next n h b) k) fits refl refl;
+        whole =
+            λ k fits. whole_next p lawful ls vs gates moves sides (circuit_of n) made.laid made.beside (state_in h b) st
+            (replies_of (delayed_count p) b) suits knows (x.whole b suits) given
+            (state_in (net_run.next n h b) k) fits refl refl;
       }
 
     -- from a state that stands for one of a run on, each cycle shows the machine's
-    pub shows_from : (schedule : List ℕ) (h : Held) (st : machine.State) → IsStanding h st → map seen_of (net_run.nports_from n h schedule) ≡ map (whole_had p) (turns_from p st (map (replies_of (delayed_count p)) schedule))
+    pub shows_from : (schedule : List ℕ) (h : Held) (st : machine.State) → IsStanding h st
+        → map seen_of (net_run.nports_from n h schedule) ≡ map (whole_had p) (turns_from p st (map (replies_of (delayed_count p)) schedule))
     shows_from [] h st x = refl
-    shows_from (b ∷ schedule) h st x = ap₂ (λ (y : Seen) (ys : List Seen). y ∷ ys) (shows_here h st x b) (shows_from schedule (net_run.next n h b) (cycle p st (replies_of (delayed_count p) b)) (stands_next h st x b))
+    shows_from (b ∷ schedule) h st x =
+        ap₂ (λ (y : Seen) (ys : List Seen). y ∷ ys) (shows_here h st x b)
+        (shows_from schedule (net_run.next n h b) (cycle p st (replies_of (delayed_count p) b)) (stands_next h st x b))
 
   -- a netlist whose start stands for the machine's shows it from each image and with each schedule
-  pub shows_whole : ((image : List (List ℕ)) → IsImage n.mems image → IsStanding (arrays_of (in_order p image)) (net_run.start n image) (first p (arrays_of (in_order p image)))) → ShowsWhole p n
-  shows_whole starts image schedule is_image = shows_from (arrays_of (in_order p image)) schedule (net_run.start n image) (first p (arrays_of (in_order p image))) (starts image is_image)
+  pub shows_whole :
+      ((image : List (List ℕ)) → IsImage n.mems image
+      → IsStanding (arrays_of (in_order p image)) (net_run.start n image) (first p (arrays_of (in_order p image))))
+      → ShowsWhole p n
+  shows_whole starts image schedule is_image =
+      shows_from (arrays_of (in_order p image)) schedule (net_run.start n image) (first p (arrays_of (in_order p image))) (starts image is_image)

@@ -29,7 +29,8 @@ some_rec : (P : PortMem → Type 0) (test : Mem → Bool) (ms : List Mem)
 some_rec P test [] h = tt
 some_rec P test (m ∷ ms) h = at (test m) refl (some_rec P test ms (λ k a t. h k (inr a) t))
   where
-    at : (b : Bool) → test m ≡ b → AllByRecursion P (map port_mem (filter test ms)) → AllByRecursion P (map port_mem (if b then m ∷ filter test ms else filter test ms))
+    at : (b : Bool) → test m ≡ b → AllByRecursion P (map port_mem (filter test ms))
+        → AllByRecursion P (map port_mem (if b then m ∷ filter test ms else filter test ms))
     at true e x = (h m (inl refl) e, x)
     at false e x = x
 
@@ -61,8 +62,11 @@ pub pipe_array : (ms : List Mem) (a : Array) (m : Mem) → AreDistinct ms → ((
 pipe_array ms a m distinct reach size among at_once free shape = record {
   inside = delayed_all (λ l. l.name ≢ a.name) ms (λ y h d e. false≢true (sym at_once ∙ ap (λ (x : Mem). x.delayed) (sym (same y h e)) ∙ d));
   width = locked_all (λ l. l.name ≡ a.name → a.width ≡ l.width) ms (λ y h e. width ∙ ap (λ (x : Mem). x.width.value) (sym (same y h e)));
-  depth = locked_all (λ l. l.name ≡ a.name → (a.depth ≡ 2 ^ l.bits) ⊎ (a.depth ≡ 2 * 2 ^ l.bits)) ms (λ y h e. deep m.lock (2 ^ (port_mem y).bits) (sym (reach y h ∙ ap (λ (x : Mem). x.depth.value) (same y h e))) depth);
-  unlocked = λ none. let e = lockless (is_some m.lock) refl none in (subst (λ n. n ≤ 65536) (sym (depth ∙ shallow m.lock m.depth.value e)) size.shallow, free e);
+  depth =
+      locked_all (λ l. l.name ≡ a.name → (a.depth ≡ 2 ^ l.bits) ⊎ (a.depth ≡ 2 * 2 ^ l.bits)) ms
+      (λ y h e. deep m.lock (2 ^ (port_mem y).bits) (sym (reach y h ∙ ap (λ (x : Mem). x.depth.value) (same y h e))) depth);
+  unlocked = λ none. let e = lockless (is_some m.lock) refl none in
+      (subst (λ n. n ≤ 65536) (sym (depth ∙ shallow m.lock m.depth.value e)) size.shallow, free e);
 }
   where
     name : a.name ≡ m.name.name
@@ -96,14 +100,19 @@ agree_all ms distinct d l h i e =
     (delayed_all (λ (x : PortMem). (y : PortMem) → Contains (locked_of ms) y → x.name ≡ y.name → x ≡ y) ms (λ m a t. with_locked m a)) h l i e
   where
     with_locked : (m : Mem) → Among m ms → (y : PortMem) → Contains (locked_of ms) y → m.name.name ≡ y.name → port_mem m ≡ y
-    with_locked m a y c = all_contained (λ (z : PortMem). m.name.name ≡ z.name → port_mem m ≡ z) (locked_of ms) y (locked_all (λ (z : PortMem). m.name.name ≡ z.name → port_mem m ≡ z) ms (λ k b f. ap port_mem (among_one ms distinct m k a b f))) c
+    with_locked m a y c =
+        all_contained (λ (z : PortMem). m.name.name ≡ z.name → port_mem m ≡ z)
+        (locked_of ms) y (locked_all (λ (z : PortMem). m.name.name ≡ z.name → port_mem m ≡ z) ms (λ k b f. ap port_mem (among_one ms distinct m k a b f))) c
 
 -- ---- as they are told
 
 delayed_told : (ms : List Mem) → ((m : Mem) → Among m ms → Reaches m)
     → ((m : Mem) → Among m ms → m.delayed ≡ true) → map info_of ms ≡ map delayed_info (map port_mem ms)
 delayed_told [] r d = refl
-delayed_told (m ∷ ms) r d = ap₂ (λ (x : MemInfo) xs. x ∷ xs) (info_same m.name.name m.name.name m.width.value m.width.value m.depth.value _ m.delayed true refl refl (sym (r m (inl refl))) (d m (inl refl))) (delayed_told ms (λ k a. r k (inr a)) (λ k a. d k (inr a)))
+delayed_told (m ∷ ms) r d =
+    ap₂ (λ (x : MemInfo) xs. x ∷ xs)
+    (info_same m.name.name m.name.name m.width.value m.width.value m.depth.value _ m.delayed true refl refl (sym (r m (inl refl))) (d m (inl refl)))
+    (delayed_told ms (λ k a. r k (inr a)) (λ k a. d k (inr a)))
 
 infos_from : (all : List Mem) (ars : List Array) (ms : List Mem) → AreDistinct all
     → ((m : Mem) → Among m all → Reaches m) → ((m : Mem) → Among m ms → m.delayed ≡ false)
@@ -117,7 +126,8 @@ infos_from all (a ∷ ars) (m ∷ ms) h r d i e =
     let rest : map shape_of ars ≡ map shape_of_mem ms = cc e in
     let am = i m (inl refl) in
     let one : info_of m ≡ comb_info a (locked_named all a.name) =
-    info_if (is_some m.lock) a m refl here (r m am) (d m (inl refl)) ∙ ap (comb_info a) (sym (found all h m am) ∙ ap (locked_named all) (sym (ap (λ (s : Shape). s.name) here))) in
+    info_if (is_some m.lock) a m refl here (r m am) (d m (inl refl))
+    ∙ ap (comb_info a) (sym (found all h m am) ∙ ap (locked_named all) (sym (ap (λ (s : Shape). s.name) here))) in
     ap₂ (λ (x : MemInfo) xs. x ∷ xs) one (infos_from all ars ms h r (λ y g. d y (inr g)) (λ y g. i y (inr g)) rest)
 
 -- the memories are what the ports and arrays tell
@@ -128,4 +138,6 @@ pub infos_same : (ars : List Array) (ms : List Mem) → AreDistinct ms → ((m :
 infos_same ars ms h r e =
     ap₂ (λ (xs ys : List MemInfo). xs ++ ys)
     (delayed_told (delayed_of ms) (λ m a. r m (among_some is_delayed ms m a).0) (λ m a. (among_some is_delayed ms m a).1))
-    (infos_from ms ars (comb_of ms) h r (λ m a. Rattle.pdl_law_follows.proofs.Memories.comb_delayed m (among_some Rattle.pdl_rules.specs.Refusal.is_comb ms m a).1) (λ m a. (among_some Rattle.pdl_rules.specs.Refusal.is_comb ms m a).0) e)
+    (infos_from ms ars (comb_of ms) h r
+    (λ m a. Rattle.pdl_law_follows.proofs.Memories.comb_delayed m (among_some Rattle.pdl_rules.specs.Refusal.is_comb ms m a).1)
+    (λ m a. (among_some Rattle.pdl_rules.specs.Refusal.is_comb ms m a).0) e)

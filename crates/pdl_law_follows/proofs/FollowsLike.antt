@@ -48,6 +48,8 @@ few_outputs p n f =
     let a = more_requests delayed last_names in
     let b = more_commits locked (request_names delayed last_names) in
     let c = some_stages 0 stages (commit_names locked (request_names delayed last_names)) in
-    let same : length (map name_of_output (outputs_of (circuit_of n))) ≡ length (output_names stages delayed locked) = ap length (outputs_are (circuit_of n) stages delayed locked f.ports) in
-    let long : length (map name_of_output (outputs_of (circuit_of n))) ≡ length (outputs_of (circuit_of n)) = length-map (outputs_of (circuit_of n)) name_of_output in
+    let same : length (map name_of_output (outputs_of (circuit_of n))) ≡ length (output_names stages delayed locked) =
+    ap length (outputs_are (circuit_of n) stages delayed locked f.ports) in
+    let long : length (map name_of_output (outputs_of (circuit_of n))) ≡ length (outputs_of (circuit_of n)) =
+    length-map (outputs_of (circuit_of n)) name_of_output in
     omega (arith, a, b, c, same, long)

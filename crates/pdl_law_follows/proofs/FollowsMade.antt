@@ -44,7 +44,9 @@ mems_keep p rules (m ∷ ms) before later e = (
 pub declared : (p : tree.Pipe) → KeepsRules p → AreDeclared p.mems
 declared p rules =
     let front = map Parameter p.params in
-    let each = mems_keep p rules p.mems front (statements [] p.body ++ End p.end ∷ StartClause p.start ∷ []) (append_assoc (front ++ map Memory p.mems) (statements [] p.body) (End p.end ∷ StartClause p.start ∷ [])) in
+    let each =
+    mems_keep p rules p.mems front (statements [] p.body ++ End p.end ∷ StartClause p.start ∷ [])
+    (append_assoc (front ++ map Memory p.mems) (statements [] p.body) (End p.end ∷ StartClause p.start ∷ [])) in
     record {
       distinct = distinct p p.mems front each;
       sized = sized p p.mems front each;
@@ -54,7 +56,9 @@ declared p rules =
 
 -- ---- the whole
 
-module _ (p : tree.Pipe) (rules : KeepsRules p) (source : is_source p ≡ true) (named : is_named p ≡ true) (ls : Locks) (vs : ℕ → View) (gates : Gates) (moves : ℕ → Signal) (sides : Sides) (n : Netlist) (made : IsMade p ls vs gates moves sides n) where
+module _ (p : tree.Pipe) (rules : KeepsRules p) (source : is_source p ≡ true) (named : is_named p ≡ true) (ls : Locks)
+    (vs : ℕ → View) (gates : Gates) (moves : ℕ → Signal) (sides : Sides) (n : Netlist)
+    (made : IsMade p ls vs gates moves sides n) where
   lawful : IsLawful (flat p)
   lawful = lawful_source p rules source named
 
@@ -62,16 +66,24 @@ module _ (p : tree.Pipe) (rules : KeepsRules p) (source : is_source p ≡ true) 
   asked i l d =
       let z : i ≡ 0 + i = omega arith in
       let low : i < length (flat p).mems = let e = mems_length p.mems in omega (arith, l, e) in
-      subst (λ j. ((made.compiled.asks j).enable.width ≡ 1) × (2 ^ (made.compiled.asks j).addr.width ≡ (slice_index_or (mems_of p.mems) i plain_mem).depth)) z (made.requests i low d, (made.compiled.fits i low d).reach)
+      subst
+      (λ j. ((made.compiled.asks j).enable.width ≡ 1) × (2 ^ (made.compiled.asks j).addr.width ≡ (slice_index_or (mems_of p.mems) i plain_mem).depth)) z
+      (made.requests i low d, (made.compiled.fits i low d).reach)
 
   pub follows : Follows p n
   follows =
-      let formed = well_formed (flat p) p.mems (declared p rules) refl lawful.some (few_stages p rules) ls vs gates moves sides n made.well made.compiled made.in_order made.arrays made.wide made.commits asked made.mems in
+      let formed =
+      well_formed (flat p) p.mems (declared p rules) refl lawful.some
+      (few_stages p rules) ls vs gates moves sides n made.well made.compiled made.in_order made.arrays made.wide made.commits asked made.mems in
       record {
         name = made.name;
         well_formed = formed;
-        ports = ports (flat p) p.mems (declared p rules) refl lawful.some (few_stages p rules) ls vs gates moves sides n made.well made.compiled made.in_order made.arrays made.wide made.commits asked made.mems;
+        ports =
+            ports (flat p) p.mems (declared p rules) refl lawful.some
+            (few_stages p rules) ls vs gates moves sides n made.well made.compiled made.in_order made.arrays made.wide made.commits asked made.mems;
         mems = made.mems;
         arrays = made.arrays;
-        shows = shows_source p rules source named ls vs gates moves sides n (record { compiled = made.compiled; formed = formed; mems = has_mems (flat p) p.mems refl ls n made.in_order made.mems });
+        shows =
+            shows_source p rules source named ls vs gates moves sides n
+            (record { compiled = made.compiled; formed = formed; mems = has_mems (flat p) p.mems refl ls n made.in_order made.mems });
       }

@@ -24,7 +24,8 @@ use Rattle.pdl_law_follows.proofs.Memories.{some_count, some_at, told_at, told_d
 -- an element after others
 get_or_after : {X : Type 0} (xs ys : List X) (k : ℕ) (d : X) → slice_index_or (xs ++ ys) (length xs + k) d ≡ slice_index_or ys k d
 get_or_after [] ys k d = ap (λ i. slice_index_or ys i d) (let z : 0 + k ≡ k = omega arith in z)
-get_or_after (x ∷ xs) ys k d = ap (λ i. slice_index_or (x ∷ (xs ++ ys)) i d) (let z : suc (length xs) + k ≡ suc (length xs + k) = omega arith in z) ∙ get_or_after xs ys k d
+get_or_after (x ∷ xs) ys k d =
+    ap (λ i. slice_index_or (x ∷ (xs ++ ys)) i d) (let z : suc (length xs) + k ≡ suc (length xs + k) = omega arith in z) ∙ get_or_after xs ys k d
 
 -- the memory of a number stands at its place
 module _ (ms : List Mem) (p : Pipe) (same : p.mems ≡ mems_of ms) where
@@ -51,10 +52,12 @@ module _ (ms : List Mem) (p : Pipe) (same : p.mems ≡ mems_of ms) where
           ∙ ap (λ ys. slice_index_or (map info_of (delayed_of ms)) (count_by places.is_delayed (take m ys)) d) same
           ∙ some_at is_delayed places.is_delayed (λ x. refl) ms m d (low_here m l) (ap (λ ys. (slice_index_or ys m plain_mem).delayed) (sym same) ∙ e)
       at false e =
-          ap (λ k. slice_index_or (net_infos ms) k d) (place_comb p m e ∙ ap (λ k. k + comb_place p m) (sym comb_count ∙ sym (length-map (delayed_of ms) info_of)))
+          ap (λ k. slice_index_or (net_infos ms) k d)
+          (place_comb p m e ∙ ap (λ k. k + comb_place p m) (sym comb_count ∙ sym (length-map (delayed_of ms) info_of)))
           ∙ get_or_after (map info_of (delayed_of ms)) (map info_of (comb_of ms)) (comb_place p m) d
           ∙ ap (λ ys. slice_index_or (map info_of (comb_of ms)) (count_by places.is_comb (take m ys)) d) same
-          ∙ some_at is_comb places.is_comb (λ x. by x.delayed) ms m d (low_here m l) (ap (λ ys. if (slice_index_or ys m plain_mem).delayed then false else true) (sym same) ∙ ap (λ b. if b then false else true) e)
+          ∙ some_at is_comb places.is_comb (λ x. by x.delayed) ms m d (low_here m l)
+          (ap (λ ys. if (slice_index_or ys m plain_mem).delayed then false else true) (sym same) ∙ ap (λ b. if b then false else true) e)
         where
           by : (b : Bool) → (if b then false else true) ≡ Rattle.std.proofs.Common.not b
           by true = refl
@@ -68,7 +71,10 @@ pub has_mems : (p : Pipe) (ms : List Mem)
 has_mems p ms same ls n in_order mems = record {
   named =
       ap (λ l. map (λ (i : MemInfo). i.name) (filter told_delayed l)) mems
-      ∙ ap (map (λ (i : MemInfo). i.name)) (filter-append told_delayed (map info_of (delayed_of ms)) (map info_of (comb_of ms)) ∙ ap (λ l. filter told_delayed (map info_of (delayed_of ms)) ++ l) (none_told ms) ∙ Rattle.std.proofs.Common.append-nil _ ∙ all_told ms)
+      ∙ ap (map (λ (i : MemInfo). i.name))
+      (filter-append told_delayed (map info_of (delayed_of ms)) (map info_of (comb_of ms))
+      ∙ ap (λ l. filter told_delayed (map info_of (delayed_of ms)) ++ l) (none_told ms)
+      ∙ Rattle.std.proofs.Common.append-nil _ ∙ all_told ms)
       ∙ names_told (mem_names ms) 0 ms (λ i l. ap (mem_names ms) (let z : 0 + i ≡ i = omega arith in z))
       ∙ ap (names_delayed (mem_names ms) 0) (sym same);
   in_order = in_order;
@@ -79,9 +85,15 @@ has_mems p ms same ls n in_order mems = record {
       let both = as_many ms in
       let here = ap length same ∙ mems_length ms in
       omega (arith, all, delayed, comb, both, here);
-  depth = λ m d l. ap (λ (i : MemInfo). i.depth) (place m d l) ∙ (told_at ms m d (low_here ms p same m l)).0 ∙ ap (λ ys. (slice_index_or ys m plain_mem).depth) (sym same);
-  width = λ m d l. ap (λ (i : MemInfo). i.width) (place m d l) ∙ (told_at ms m d (low_here ms p same m l)).1 ∙ ap (λ ys. (slice_index_or ys m plain_mem).width) (sym same);
-  delayed = λ m d l. ap (λ (i : MemInfo). i.delayed) (place m d l) ∙ (told_at ms m d (low_here ms p same m l)).2 ∙ ap (λ ys. (slice_index_or ys m plain_mem).delayed) (sym same);
+  depth =
+      λ m d l. ap (λ (i : MemInfo). i.depth) (place m d l) ∙ (told_at ms m d (low_here ms p same m l)).0
+      ∙ ap (λ ys. (slice_index_or ys m plain_mem).depth) (sym same);
+  width =
+      λ m d l. ap (λ (i : MemInfo). i.width) (place m d l) ∙ (told_at ms m d (low_here ms p same m l)).1
+      ∙ ap (λ ys. (slice_index_or ys m plain_mem).width) (sym same);
+  delayed =
+      λ m d l. ap (λ (i : MemInfo). i.delayed) (place m d l) ∙ (told_at ms m d (low_here ms p same m l)).2
+      ∙ ap (λ ys. (slice_index_or ys m plain_mem).delayed) (sym same);
 }
   where
     place : (m : ℕ) (d : MemInfo) → m < length p.mems → slice_index_or n.mems (net_place p m) d ≡ slice_index_or (map info_of ms) m d

@@ -41,7 +41,9 @@ named_among : (ms : List Mem) (x : List ℕ) → is_memory ms x ≡ true → (m 
 named_among [] x e = absurd (cc e)
 named_among (m ∷ ms) x e = at (bytes_eq m.name.name x) refl e (named_among ms x)
   where
-    at : (b : Bool) → bytes_eq m.name.name x ≡ b → (b || is_memory ms x) ≡ true → (is_memory ms x ≡ true → (k : Mem) × Among k ms × (k.name.name ≡ x)) → (k : Mem) × Among k (m ∷ ms) × (k.name.name ≡ x)
+    at : (b : Bool) → bytes_eq m.name.name x ≡ b → (b || is_memory ms x) ≡ true
+        → (is_memory ms x ≡ true → (k : Mem) × Among k ms × (k.name.name ≡ x))
+        → (k : Mem) × Among k (m ∷ ms) × (k.name.name ≡ x)
     at true f h rest = (m, inl refl, (bytes_eq-Decides m.name.name x).0 f)
     at false f h rest = let r = rest h in (r.0, inr r.1, r.2)
 
@@ -54,7 +56,8 @@ same_found ms h x = by_port (net_infos ms) x ∙ at (is_memory ms x) refl ∙ sy
         ∙ none_found (comb_of ms) x (none_named Rattle.pdl_rules.specs.Refusal.is_comb ms x e) ∙ sym (none_found ms x e)
     at true e =
         let m = named_among ms x e in
-        subst (λ y. commit_mem (net_infos ms) (codes "c_" ++ y) ≡ commit_mem (infos_of ms) (codes "c_" ++ y)) m.2 (net_found ms h m.0 m.1 ∙ sym (declared_found ms h m.0 m.1))
+        subst (λ y. commit_mem (net_infos ms) (codes "c_" ++ y) ≡ commit_mem (infos_of ms) (codes "c_" ++ y)) m.2
+        (net_found ms h m.0 m.1 ∙ sym (declared_found ms h m.0 m.1))
 
 -- ---- lines
 
@@ -106,7 +109,10 @@ told_in_order p ms same f =
     at i l =
         let here = ap length same ∙ mems_length ms in
         let place = place_low p i l in
-        let count : length (net_infos ms) ≡ length ms = (let a = length-append (map info_of (delayed_of ms)) (map info_of (comb_of ms)) in let b = length-map (delayed_of ms) info_of in let c = length-map (comb_of ms) info_of in let d = as_many ms in omega (arith, a, b, c, d)) in
+        let count : length (net_infos ms) ≡ length ms =
+        (let a = length-append (map info_of (delayed_of ms)) (map info_of (comb_of ms)) in
+        let b = length-map (delayed_of ms) info_of in let c = length-map (comb_of ms) info_of in
+        let d = as_many ms in omega (arith, a, b, c, d)) in
         let low : i < length (infos_of ms) = (let a = length-map ms info_of in omega (arith, l, here, a)) in
         map_at f (net_infos ms) (net_place p i) no_info [] (omega (arith, place, here, count))
         ∙ ap f (told_here ms p same i no_info l)
@@ -122,7 +128,8 @@ same_contents p rest (Some refusal) = refl
 same_after : (p : tree.Pipe) → AreDistinct p.mems → (o : Option (List (List ℕ)))
     → image_after (infos_of p.mems) o ≡ taken_in_order (flat p) (image_after (net_infos p.mems) o)
 same_after p h None = refl
-same_after p h (Some rest) = ap (contents (infos_of p.mems) rest) (sym (same_wrong p.mems h [] 2 rest)) ∙ same_contents p rest (first_wrong (net_infos p.mems) [] 2 rest)
+same_after p h (Some rest) =
+    ap (contents (infos_of p.mems) rest) (sym (same_wrong p.mems h [] 2 rest)) ∙ same_contents p rest (first_wrong (net_infos p.mems) [] 2 rest)
 
 -- a file gives the memories of a pipe, in declared order, what it gives those of its netlist, or is refused by the same rule at the same line
 pub same_image : (p : tree.Pipe) → AreDistinct p.mems → (text : List ℕ)

@@ -72,7 +72,9 @@ turns_have p image known before st (bits ∷ schedule) e = (
   turns_have p image known (before ++ bits ∷ []) (cycle p st bits) schedule (ap (λ x. cycle p x bits) e ∙ sym (after_more p (first p image) before bits)),
 )
 
-module _ (p : Pipe) (ms : List Mem) (same : p.mems ≡ mems_of ms) (n : Netlist) (distinct : AreDistinct ms) (there : AreFound ms n.mems) (named : map name_of_output (outputs_of (circuit_of n)) ≡ output_names (length p.stages) (map port_mem (delayed_of ms)) (locked_of ms)) where
+module _ (p : Pipe) (ms : List Mem) (same : p.mems ≡ mems_of ms) (n : Netlist) (distinct : AreDistinct ms)
+    (there : AreFound ms n.mems)
+    (named : map name_of_output (outputs_of (circuit_of n)) ≡ output_names (length p.stages) (map port_mem (delayed_of ms)) (locked_of ms)) where
   -- ---- one cycle
 
   module _ (o : Ports) (has : HasPorts p o) where
@@ -102,7 +104,10 @@ module _ (p : Pipe) (ms : List Mem) (same : p.mems ≡ mems_of ms) (n : Netlist)
     rest_same = commits_same ms o.commits asked_names asked commits asked_same
 
     values : whole_values p o ≡ stage_values o.valid o.moves ++ rest
-    values = ap (λ (l : List Flat.Mem). stage_values o.valid o.moves ++ (all_commit_values l o.commits ++ (all_request_values l o.requests ++ bit o.ended ∷ bit o.squash ∷ []))) same
+    values =
+        ap
+        (λ (l : List Flat.Mem). stage_values o.valid o.moves
+        ++ (all_commit_values l o.commits ++ (all_request_values l o.requests ++ bit o.ended ∷ bit o.squash ∷ []))) same
 
     count : length (whole_values p o) ≡ length (outputs_of (circuit_of n))
     count =
@@ -112,7 +117,9 @@ module _ (p : Pipe) (ms : List Mem) (same : p.mems ≡ mems_of ms) (n : Netlist)
         ∙ length-map (outputs_of (circuit_of n)) name_of_output
 
     -- a port that is no stage's is looked up after those of the stages
-    look : (x : List ℕ) → ((names : List (List ℕ)) (vals : List ℕ) → named_value (stage_names 0 (length p.stages) names) (stage_values o.valid o.moves ++ vals) x ≡ named_value names vals x)
+    look : (x : List ℕ)
+        → ((names : List (List ℕ)) (vals : List ℕ)
+        → named_value (stage_names 0 (length p.stages) names) (stage_values o.valid o.moves ++ vals) x ≡ named_value names vals x)
         → port_value (circuit_of n) (whole_values p o) x ≡ named_value (commit_names (locked_of ms) asked_names) rest x
     look x pass =
         port_is (circuit_of n) (whole_values p o) x count
@@ -120,19 +127,28 @@ module _ (p : Pipe) (ms : List Mem) (same : p.mems ≡ mems_of ms) (n : Netlist)
         ∙ pass (commit_names (locked_of ms) asked_names) rest
 
     -- a commit's is none after them
-    none_after : (x : List ℕ) → ((y : List ℕ) → Rattle.std.specs.Prelude.bytes_eq (codes "q_" ++ y) x ≡ false) → ((y : List ℕ) → Rattle.std.specs.Prelude.bytes_eq (codes "qa_" ++ y) x ≡ false) → named_value last_names (bit o.ended ∷ bit o.squash ∷ []) x ≡ 0
+    none_after : (x : List ℕ) → ((y : List ℕ) → Rattle.std.specs.Prelude.bytes_eq (codes "q_" ++ y) x ≡ false)
+        → ((y : List ℕ) → Rattle.std.specs.Prelude.bytes_eq (codes "qa_" ++ y) x ≡ false)
+        → named_value last_names (bit o.ended ∷ bit o.squash ∷ []) x ≡ 0
         → named_value (request_names (map port_mem (delayed_of ms)) last_names) (requests_then ms o.requests (bit o.ended ∷ bit o.squash ∷ [])) x ≡ 0
     none_after x f g z = past_requests x f g ms o.requests last_names (bit o.ended ∷ bit o.squash ∷ []) requests ∙ z
 
     -- what a memory commits, by its name
     commit_found : (m : List ℕ) → commit_of (circuit_of n) (whole_values p o) m ≡ put_in (found ms o.commits m)
     commit_found m =
-        put_cases (found ms o.commits m) (port_value (circuit_of n) (whole_values p o) (codes "c_" ++ m)) (port_value (circuit_of n) (whole_values p o) (codes "ca_" ++ m)) (port_value (circuit_of n) (whole_values p o) (codes "cd_" ++ m))
-        (look (codes "c_" ++ m) (λ names vals. past_stages (codes "c_" ++ m) (λ j. refl) (λ j. refl) 0 (length p.stages) names o.valid o.moves vals has.shape.valid has.shape.moves)
+        put_cases (found ms o.commits m) (port_value (circuit_of n) (whole_values p o) (codes "c_" ++ m))
+        (port_value (circuit_of n) (whole_values p o) (codes "ca_" ++ m))
+        (port_value (circuit_of n) (whole_values p o) (codes "cd_" ++ m))
+        (look (codes "c_" ++ m)
+        (λ names vals. past_stages (codes "c_" ++ m) (λ j. refl) (λ j. refl) 0 (length p.stages) names o.valid o.moves vals has.shape.valid has.shape.moves)
         ∙ flag_is ms o.commits asked_names asked m commits (none_after (codes "c_" ++ m) (λ y. refl) (λ y. refl) refl))
-        (look (codes "ca_" ++ m) (λ names vals. past_stages (codes "ca_" ++ m) (λ j. refl) (λ j. refl) 0 (length p.stages) names o.valid o.moves vals has.shape.valid has.shape.moves)
+        (look (codes "ca_" ++ m)
+        (λ names vals. past_stages (codes "ca_" ++ m) (λ j. refl)
+        (λ j. refl) 0 (length p.stages) names o.valid o.moves vals has.shape.valid has.shape.moves)
         ∙ addr_is ms o.commits asked_names asked m commits (none_after (codes "ca_" ++ m) (λ y. refl) (λ y. refl) refl))
-        (look (codes "cd_" ++ m) (λ names vals. past_stages (codes "cd_" ++ m) (λ j. refl) (λ j. refl) 0 (length p.stages) names o.valid o.moves vals has.shape.valid has.shape.moves)
+        (look (codes "cd_" ++ m)
+        (λ names vals. past_stages (codes "cd_" ++ m) (λ j. refl)
+        (λ j. refl) 0 (length p.stages) names o.valid o.moves vals has.shape.valid has.shape.moves)
         ∙ word_is ms o.commits asked_names asked m commits (none_after (codes "cd_" ++ m) (λ y. refl) (λ y. refl) refl))
 
     -- what a memory commits by its ports, and what it does
@@ -150,22 +166,30 @@ module _ (p : Pipe) (ms : List Mem) (same : p.mems ≡ mems_of ms) (n : Netlist)
     commits_are = map_same by_ports by_turn by_name (map info_of ms) ∙ each_found (found ms o.commits) ms o.commits distinct commits (λ m a. refl)
 
     -- and as lines, by the commit ports in their order
-    lines_are : (number : ℕ) → cycle_lines number (map column_of (commit_mems n)) (map by_ports (commit_mems n)) ≡ cycle_lines number (columns ms) (puts_in o.commits)
+    lines_are : (number : ℕ)
+        → cycle_lines number (map column_of (commit_mems n)) (map by_ports (commit_mems n)) ≡ cycle_lines number (columns ms) (puts_in o.commits)
     lines_are number =
         ap (λ l. cycle_lines number (map column_of l) (map by_ports l)) (locked_shown n ms (length p.stages) named there)
         ∙ ap (cycle_lines number (map column_of (locked_infos ms))) (map_same by_ports by_turn by_name (locked_infos ms))
         ∙ locked_lines (found ms o.commits) number ms o.commits distinct commits (λ m a. refl)
 
     last_are : (slice_index (whole_values p o) (output_count n - 2) ≡ bit o.ended) × (slice_index (whole_values p o) (output_count n - 1) ≡ bit o.squash)
-    last_are = subst (λ l. (slice_index l (output_count n - 2) ≡ bit o.ended) × (slice_index l (output_count n - 1) ≡ bit o.squash)) ends (last_two front (bit o.ended) (bit o.squash) (output_count n) (ap length ends ∙ count))
+    last_are =
+        subst
+        (λ l. (slice_index l (output_count n - 2) ≡ bit o.ended) × (slice_index l (output_count n - 1) ≡ bit o.squash)) ends
+        (last_two front (bit o.ended) (bit o.squash) (output_count n) (ap length ends ∙ count))
       where
         front : List ℕ
         front = stage_values o.valid o.moves ++ (all_commit_values p.mems o.commits ++ all_request_values p.mems o.requests)
 
-        ends : (stage_values o.valid o.moves ++ (all_commit_values p.mems o.commits ++ all_request_values p.mems o.requests)) ++ bit o.ended ∷ bit o.squash ∷ [] ≡ whole_values p o
+        ends : (stage_values o.valid o.moves ++ (all_commit_values p.mems o.commits ++ all_request_values p.mems o.requests)) ++ bit o.ended ∷ bit o.squash ∷ []
+            ≡ whole_values p o
         ends =
-            append_assoc (stage_values o.valid o.moves) (all_commit_values p.mems o.commits ++ all_request_values p.mems o.requests) (bit o.ended ∷ bit o.squash ∷ [])
-            ∙ ap (λ l. stage_values o.valid o.moves ++ l) (append_assoc (all_commit_values p.mems o.commits) (all_request_values p.mems o.requests) (bit o.ended ∷ bit o.squash ∷ []))
+            append_assoc (stage_values o.valid o.moves)
+            (all_commit_values p.mems o.commits ++ all_request_values p.mems o.requests)
+            (bit o.ended ∷ bit o.squash ∷ [])
+            ∙ ap (λ l. stage_values o.valid o.moves ++ l)
+            (append_assoc (all_commit_values p.mems o.commits) (all_request_values p.mems o.requests) (bit o.ended ∷ bit o.squash ∷ []))
 
   -- what is seen of a cycle is the machine's
   cycle_is : (x : Shown) (t : Turn) → HasPorts p t.ports → seen_of x ≡ whole_had p t → cycle_by n (map info_of ms) x ≡ turn_cycle t
@@ -173,13 +197,19 @@ module _ (p : Pipe) (ms : List Mem) (same : p.mems ≡ mems_of ms) (n : Netlist)
       let ports : x.ports ≡ whole_values p t.ports = ap (λ (s : Seen). s.ports) e in
       let wait : x.waited ≡ t.wait = ap (λ (s : Seen). s.wait) e in
       let last = last_are t.ports has in
-      ap₂ (λ ps w. line.cycle (map (λ (m : MemInfo). puts_of (commit_of (circuit_of n) ps m.name)) (map info_of ms)) (slice_index ps (output_count n - 2) == 1) w (slice_index ps (output_count n - 1) == 1)) ports wait
-      ∙ ap (λ puts. line.cycle puts (slice_index (whole_values p t.ports) (output_count n - 2) == 1) t.wait (slice_index (whole_values p t.ports) (output_count n - 1) == 1)) (commits_are t.ports has)
+      ap₂
+      (λ ps w. line.cycle (map (λ (m : MemInfo). puts_of (commit_of (circuit_of n) ps m.name)) (map info_of ms))
+      (slice_index ps (output_count n - 2) == 1) w (slice_index ps (output_count n - 1) == 1)) ports wait
+      ∙ ap
+      (λ puts. line.cycle puts (slice_index (whole_values p t.ports) (output_count n - 2) == 1) t.wait
+      (slice_index (whole_values p t.ports) (output_count n - 1) == 1))
+      (commits_are t.ports has)
       ∙ ap₂ (λ a b. line.cycle (puts_in t.ports.commits) (a == 1) t.wait (b == 1)) last.0 last.1
       ∙ ap₂ (λ a b. line.cycle (puts_in t.ports.commits) a t.wait b) (bit_one t.ports.ended) (bit_one t.ports.squash)
 
   -- and so are its lines
-  puts_are : (number : ℕ) (x : Shown) (t : Turn) → HasPorts p t.ports → seen_of x ≡ whole_had p t → cycle_lines number (map column_of (commit_mems n)) (cycle_of n x).puts ≡ cycle_lines number (columns ms) (turn_cycle t).puts
+  puts_are : (number : ℕ) (x : Shown) (t : Turn) → HasPorts p t.ports → seen_of x ≡ whole_had p t
+      → cycle_lines number (map column_of (commit_mems n)) (cycle_of n x).puts ≡ cycle_lines number (columns ms) (turn_cycle t).puts
   puts_are number x t has e =
       let ports : x.ports ≡ whole_values p t.ports = ap (λ (s : Seen). s.ports) e in
       ap (λ ps. cycle_lines number (map column_of (commit_mems n)) (map (λ (m : MemInfo). puts_of (commit_of (circuit_of n) ps m.name)) (commit_mems n))) ports
@@ -187,7 +217,8 @@ module _ (p : Pipe) (ms : List Mem) (same : p.mems ≡ mems_of ms) (n : Netlist)
 
   -- ---- all cycles
 
-  pub cycles_are : (xs : List Shown) (ts : List Turn) → AllHave p ts → map seen_of xs ≡ map (whole_had p) ts → map (cycle_by n (map info_of ms)) xs ≡ turn_cycles ts
+  pub cycles_are : (xs : List Shown) (ts : List Turn) → AllHave p ts → map seen_of xs ≡ map (whole_had p) ts
+      → map (cycle_by n (map info_of ms)) xs ≡ turn_cycles ts
   cycles_are [] [] h e = refl
   cycles_are [] (t ∷ ts) h e = absurd (cc e)
   cycles_are (x ∷ xs) [] h e = absurd (cc e)
@@ -196,7 +227,8 @@ module _ (p : Pipe) (ms : List Mem) (same : p.mems ≡ mems_of ms) (n : Netlist)
       let others : map seen_of xs ≡ map (whole_had p) ts = cc e in
       ap₂ (λ y ys. y ∷ ys) (cycle_is x t h.0 one) (cycles_are xs ts h.1 others)
 
-  puts_lines : (number : ℕ) (xs : List Shown) (ts : List Turn) → AllHave p ts → map seen_of xs ≡ map (whole_had p) ts → lines_from number (map column_of (commit_mems n)) (map (cycle_of n) xs) ≡ lines_from number (columns ms) (turn_cycles ts)
+  puts_lines : (number : ℕ) (xs : List Shown) (ts : List Turn) → AllHave p ts → map seen_of xs ≡ map (whole_had p) ts
+      → lines_from number (map column_of (commit_mems n)) (map (cycle_of n) xs) ≡ lines_from number (columns ms) (turn_cycles ts)
   puts_lines number [] [] h e = refl
   puts_lines number [] (t ∷ ts) h e = absurd (cc e)
   puts_lines number (x ∷ xs) [] h e = absurd (cc e)
@@ -205,7 +237,8 @@ module _ (p : Pipe) (ms : List Mem) (same : p.mems ≡ mems_of ms) (n : Netlist)
       let others : map seen_of xs ≡ map (whole_had p) ts = cc e in
       ap₂ (λ a b. a ++ b) (puts_are number x t h.0 one) (puts_lines (suc number) xs ts h.1 others)
 
-  pub all_lines : (xs : List Shown) (ts : List Turn) → AllHave p ts → map seen_of xs ≡ map (whole_had p) ts → lines (map column_of (commit_mems n)) (map (cycle_of n) xs) ≡ lines (columns ms) (turn_cycles ts)
+  pub all_lines : (xs : List Shown) (ts : List Turn) → AllHave p ts → map seen_of xs ≡ map (whole_had p) ts
+      → lines (map column_of (commit_mems n)) (map (cycle_of n) xs) ≡ lines (columns ms) (turn_cycles ts)
   all_lines xs ts h e =
       ap₂ (λ a b. a ++ b) (puts_lines 1 xs ts h e)
       (same_end n (commit_mems n) (map info_of ms) xs ∙ ap end_of (cycles_are xs ts h e))
@@ -216,8 +249,16 @@ shows_turns p rules source named n follows =
     let distinct = (declared p rules).distinct in
     let names = outputs_are (circuit_of n) (length (flat p).stages) (map port_mem (delayed_of p.mems)) (locked_of p.mems) follows.ports in
     let found = subst (AreFound p.mems) (sym follows.mems) (net_found p.mems distinct) in
-    let have : (image : List (List ℕ)) (schedule : List (List Bool)) → AllHave (flat p) (turns (flat p) (arrays_of image) schedule) = λ image schedule. turns_have (flat p) (arrays_of image) (known_source p rules source named (arrays_of image)) [] (first (flat p) (arrays_of image)) schedule refl in
+    let have : (image : List (List ℕ)) (schedule : List (List Bool)) → AllHave (flat p) (turns (flat p) (arrays_of image) schedule) =
+    λ image schedule. turns_have (flat p) (arrays_of image) (known_source p rules source named (arrays_of image)) []
+    (first (flat p) (arrays_of image)) schedule refl in
     record {
-      cycles = λ image schedule is_image. cycles_are (flat p) p.mems refl n distinct found names (nports n image schedule) (turns (flat p) (arrays_of (in_order (flat p) image)) (replies_in (flat p) schedule)) (have (in_order (flat p) image) (replies_in (flat p) schedule)) (follows.shows image schedule is_image);
-      lines = λ image schedule is_image. all_lines (flat p) p.mems refl n distinct found names (nports n image schedule) (turns (flat p) (arrays_of (in_order (flat p) image)) (replies_in (flat p) schedule)) (have (in_order (flat p) image) (replies_in (flat p) schedule)) (follows.shows image schedule is_image);
+      cycles =
+          λ image schedule is_image. cycles_are (flat p) p.mems refl n distinct found names (nports n image schedule)
+          (turns (flat p) (arrays_of (in_order (flat p) image)) (replies_in (flat p) schedule))
+          (have (in_order (flat p) image) (replies_in (flat p) schedule)) (follows.shows image schedule is_image);
+      lines =
+          λ image schedule is_image. all_lines (flat p) p.mems refl n distinct found names (nports n image schedule)
+          (turns (flat p) (arrays_of (in_order (flat p) image)) (replies_in (flat p) schedule))
+          (have (in_order (flat p) image) (replies_in (flat p) schedule)) (follows.shows image schedule is_image);
     }

@@ -59,7 +59,8 @@ commits_then ms es vals = all_commit_values (mems_of ms) es ++ vals
 -- those of the first memory come first
 commits_first : (m : Mem) (ms : List Mem) (e : Option PortWrite) (es : List (Option PortWrite)) (vals : List ℕ)
     → commits_then (m ∷ ms) (e ∷ es) vals ≡ commit_if (is_some m.lock) e ++ commits_then ms es vals
-commits_first m ms e es vals = append_assoc (commit_values (flat_lock m.lock) e) (all_commit_values (mems_of ms) es) vals ∙ ap (λ l. l ++ commits_then ms es vals) (commit_is m.lock e)
+commits_first m ms e es vals =
+    append_assoc (commit_values (flat_lock m.lock) e) (all_commit_values (mems_of ms) es) vals ∙ ap (λ l. l ++ commits_then ms es vals) (commit_is m.lock e)
 
 -- the port `c_` of a name tells whether that memory commits, where the ports after have 0 for the name
 pub flag_is : (ms : List Mem) (es : List (Option PortWrite)) (names : List (List ℕ)) (vals x : List ℕ)
@@ -108,7 +109,8 @@ pub commits_same : (ms : List Mem) (es : List (Option PortWrite)) (names : List 
 commits_same [] [] names vals h l = l
 commits_same [] (e ∷ es) names vals h l = absurd h
 commits_same (m ∷ ms) [] names vals h l = absurd h
-commits_same (m ∷ ms) (e ∷ es) names vals h l = ap length (commits_first m ms e es vals) ∙ same_step (is_some m.lock) m ms names e (commits_then ms es vals) (commits_same ms es names vals h.1 l)
+commits_same (m ∷ ms) (e ∷ es) names vals h l =
+    ap length (commits_first m ms e es vals) ∙ same_step (is_some m.lock) m ms names e (commits_then ms es vals) (commits_same ms es names vals h.1 l)
 
 -- ---- requests
 
@@ -127,13 +129,23 @@ past_requests x f g (m ∷ ms) [] names vals l = absurd (cc l)
 past_requests x f g (m ∷ ms) (q ∷ qs) names vals l = at m.delayed q (past_requests x f g ms qs names vals (omega (arith, l)))
   where
     pair : (a b : ℕ) → named_value (request_names (map port_mem (delayed_of ms)) names) (requests_then ms qs vals) x ≡ named_value names vals x
-        → (if bytes_eq (codes "q_" ++ m.name.name) x then a else (if bytes_eq (codes "qa_" ++ m.name.name) x then b else named_value (request_names (map port_mem (delayed_of ms)) names) (requests_then ms qs vals) x)) ≡ named_value names vals x
+        → (if bytes_eq (codes "q_" ++ m.name.name) x
+        then a
+        else (if bytes_eq (codes "qa_" ++ m.name.name) x then b
+        else named_value (request_names (map port_mem (delayed_of ms)) names) (requests_then ms qs vals) x))
+        ≡ named_value names vals x
     pair a b h =
-        ap (λ t. if t then a else (if bytes_eq (codes "qa_" ++ m.name.name) x then b else named_value (request_names (map port_mem (delayed_of ms)) names) (requests_then ms qs vals) x)) (f m.name.name)
+        ap
+        (λ t. if t then a
+        else (if bytes_eq (codes "qa_" ++ m.name.name) x then b
+        else named_value (request_names (map port_mem (delayed_of ms)) names) (requests_then ms qs vals) x))
+        (f m.name.name)
         ∙ ap (λ t. if t then b else named_value (request_names (map port_mem (delayed_of ms)) names) (requests_then ms qs vals) x) (g m.name.name) ∙ h
 
     at : (b : Bool) (o : Option ℕ) → named_value (request_names (map port_mem (delayed_of ms)) names) (requests_then ms qs vals) x ≡ named_value names vals x
-        → named_value (request_names (map port_mem (if b then m ∷ delayed_of ms else delayed_of ms)) names) (((if b then request_values o else []) ++ all_request_values (mems_of ms) qs) ++ vals) x ≡ named_value names vals x
+        → named_value (request_names (map port_mem (if b then m ∷ delayed_of ms else delayed_of ms)) names)
+        (((if b then request_values o else []) ++ all_request_values (mems_of ms) qs) ++ vals) x
+        ≡ named_value names vals x
     at false o h = h
     at true None h = pair 0 0 h
     at true (Some a) h = pair 1 a h
@@ -148,7 +160,8 @@ requests_same (m ∷ ms) [] names vals l e = absurd (cc l)
 requests_same (m ∷ ms) (q ∷ qs) names vals l e = at m.delayed q (requests_same ms qs names vals (omega (arith, l)) e)
   where
     at : (b : Bool) (o : Option ℕ) → length (requests_then ms qs vals) ≡ length (request_names (map port_mem (delayed_of ms)) names)
-        → length (((if b then request_values o else []) ++ all_request_values (mems_of ms) qs) ++ vals) ≡ length (request_names (map port_mem (if b then m ∷ delayed_of ms else delayed_of ms)) names)
+        → length (((if b then request_values o else []) ++ all_request_values (mems_of ms) qs) ++ vals)
+        ≡ length (request_names (map port_mem (if b then m ∷ delayed_of ms else delayed_of ms)) names)
     at false o h = h
     at true None h = ap (λ i. suc (suc i)) h
     at true (Some a) h = ap (λ i. suc (suc i)) h
@@ -184,7 +197,8 @@ locked_shown n ms stages named h =
     by_names n.mems (outputs_of (circuit_of n))
     ∙ ap (with_port n.mems) named
     ∙ none_of_stages n.mems 0 stages _
-    ∙ all_of_locked n.mems ms (request_names (map port_mem (delayed_of ms)) last_names) h (requests_none n.mems (map port_mem (delayed_of ms)) last_names ∙ last_none n.mems)
+    ∙ all_of_locked n.mems ms (request_names (map port_mem (delayed_of ms)) last_names) h
+    (requests_none n.mems (map port_mem (delayed_of ms)) last_names ∙ last_none n.mems)
 
 -- ---- the memories of a netlist by the names of their commit ports
 
@@ -192,7 +206,9 @@ found_left : (xs ys : List MemInfo) (port : List ℕ) (i : MemInfo) → commit_m
 found_left [] ys port i e = absurd (cc e)
 found_left (x ∷ xs) ys port i e = at (bytes_eq port (codes "c_" ++ x.name)) e (found_left xs ys port i)
   where
-    at : (b : Bool) → (if b then Some x else commit_mem xs port) ≡ Some i → (commit_mem xs port ≡ Some i → commit_mem (xs ++ ys) port ≡ Some i) → (if b then Some x else commit_mem (xs ++ ys) port) ≡ Some i
+    at : (b : Bool) → (if b then Some x else commit_mem xs port) ≡ Some i
+        → (commit_mem xs port ≡ Some i → commit_mem (xs ++ ys) port ≡ Some i)
+        → (if b then Some x else commit_mem (xs ++ ys) port) ≡ Some i
     at true h rest = h
     at false h rest = rest h
 
@@ -201,7 +217,9 @@ pub found_right : (xs ys : List MemInfo) (port : List ℕ) → commit_mem xs por
 found_right [] ys port e = refl
 found_right (x ∷ xs) ys port e = at (bytes_eq port (codes "c_" ++ x.name)) e (found_right xs ys port)
   where
-    at : (b : Bool) → (if b then Some x else commit_mem xs port) ≡ None → (commit_mem xs port ≡ None → commit_mem (xs ++ ys) port ≡ commit_mem ys port) → (if b then Some x else commit_mem (xs ++ ys) port) ≡ commit_mem ys port
+    at : (b : Bool) → (if b then Some x else commit_mem xs port) ≡ None
+        → (commit_mem xs port ≡ None → commit_mem (xs ++ ys) port ≡ commit_mem ys port)
+        → (if b then Some x else commit_mem (xs ++ ys) port) ≡ commit_mem ys port
     at true h rest = absurd (cc h)
     at false h rest = rest h
 
@@ -232,7 +250,12 @@ pub net_found : (ms : List Mem) → AreDistinct ms → AreFound ms (net_infos ms
 net_found ms h m a = at m.delayed refl
   where
     at : (b : Bool) → m.delayed ≡ b → commit_mem (net_infos ms) (codes "c_" ++ m.name.name) ≡ Some (info_of m)
-    at true e = found_left (map info_of (delayed_of ms)) (map info_of (comb_of ms)) (codes "c_" ++ m.name.name) (info_of m) (declared_found (delayed_of ms) (distinct_some is_delayed ms h) m (some_among is_delayed ms m a e))
+    at true e =
+        found_left (map info_of (delayed_of ms)) (map info_of (comb_of ms)) (codes "c_" ++ m.name.name) (info_of m)
+        (declared_found (delayed_of ms) (distinct_some is_delayed ms h) m (some_among is_delayed ms m a e))
     at false e =
-        found_right (map info_of (delayed_of ms)) (map info_of (comb_of ms)) (codes "c_" ++ m.name.name) (none_found (delayed_of ms) m.name.name (not_among is_delayed ms h m a e))
-        ∙ declared_found (comb_of ms) (distinct_some Rattle.pdl_rules.specs.Refusal.is_comb ms h) m (some_among Rattle.pdl_rules.specs.Refusal.is_comb ms m a (ap Rattle.std.proofs.Common.not e))
+        found_right (map info_of (delayed_of ms)) (map info_of (comb_of ms)) (codes "c_" ++ m.name.name)
+        (none_found (delayed_of ms) m.name.name (not_among is_delayed ms h m a e))
+        ∙ declared_found (comb_of ms)
+        (distinct_some Rattle.pdl_rules.specs.Refusal.is_comb ms h) m
+        (some_among Rattle.pdl_rules.specs.Refusal.is_comb ms m a (ap Rattle.std.proofs.Common.not e))

@@ -25,7 +25,8 @@ pub among_some : (test : Mem → Bool) (ms : List Mem) (m : Mem) → Among m (fi
 among_some test [] m a = absurd a
 among_some test (x ∷ xs) m a = at (test x) refl a (among_some test xs m)
   where
-    at : (b : Bool) → test x ≡ b → Among m (if b then x ∷ filter test xs else filter test xs) → (Among m (filter test xs) → Among m xs × (test m ≡ true)) → Among m (x ∷ xs) × (test m ≡ true)
+    at : (b : Bool) → test x ≡ b → Among m (if b then x ∷ filter test xs else filter test xs)
+        → (Among m (filter test xs) → Among m xs × (test m ≡ true)) → Among m (x ∷ xs) × (test m ≡ true)
     at true e (inl s) rest = (inl s, subst (λ (y : Mem). test y ≡ true) s e)
     at true e (inr i) rest = let r = rest i in (inr r.0, r.1)
     at false e i rest = let r = rest i in (inr r.0, r.1)
@@ -72,7 +73,8 @@ pub as_many : (ms : List Mem) → length (delayed_of ms) + length (comb_of ms) �
 as_many [] = omega arith
 as_many (m ∷ ms) = at m.delayed (as_many ms)
   where
-    at : (b : Bool) → length (delayed_of ms) + length (comb_of ms) ≡ length ms → length (if b then m ∷ delayed_of ms else delayed_of ms) + length (if not b then m ∷ comb_of ms else comb_of ms) ≡ suc (length ms)
+    at : (b : Bool) → length (delayed_of ms) + length (comb_of ms) ≡ length ms
+        → length (if b then m ∷ delayed_of ms else delayed_of ms) + length (if not b then m ∷ comb_of ms else comb_of ms) ≡ suc (length ms)
     at true h = omega (arith, h)
     at false h = omega (arith, h)
 
@@ -94,16 +96,30 @@ pub comb_at : (ms : List Mem) (k : ℕ) → k < length (comb_of ms) → IsCombAt
 comb_at [] k l = absurd (omega (arith, l))
 comb_at (x ∷ xs) k l = at x.delayed refl k l (comb_at xs)
   where
-    at : (b : Bool) → x.delayed ≡ b → (k : ℕ) → k < length (if not b then x ∷ comb_of xs else comb_of xs) → ((j : ℕ) → j < length (comb_of xs) → IsCombAt xs (comb_of xs) j) → IsCombAt (x ∷ xs) (if not b then x ∷ comb_of xs else comb_of xs) k
+    at : (b : Bool) → x.delayed ≡ b → (k : ℕ) → k < length (if not b then x ∷ comb_of xs else comb_of xs)
+        → ((j : ℕ) → j < length (comb_of xs) → IsCombAt xs (comb_of xs) j)
+        → IsCombAt (x ∷ xs) (if not b then x ∷ comb_of xs else comb_of xs) k
     at true e k l rest =
         let r = rest k l in
         let low = r.low in
-        record { place = suc r.place; low = omega (arith, low); comb = r.comb; count = count_no places.is_comb (flat_mem x) (take r.place (mems_of xs)) (ap (λ b. if b then false else true) e) ∙ r.count; lock = r.lock }
+        record {
+          place = suc r.place;
+          low = omega (arith, low);
+          comb = r.comb;
+          count = count_no places.is_comb (flat_mem x) (take r.place (mems_of xs)) (ap (λ b. if b then false else true) e) ∙ r.count;
+          lock = r.lock;
+        }
     at false e zero l rest = record { place = 0; low = omega arith; comb = e; count = refl; lock = lock_declared x.lock }
     at false e (suc j) l rest =
         let r = rest j (omega (arith, l)) in
         let low = r.low in
-        record { place = suc r.place; low = omega (arith, low); comb = r.comb; count = count_yes places.is_comb (flat_mem x) (take r.place (mems_of xs)) (ap (λ b. if b then false else true) e) ∙ ap suc r.count; lock = r.lock }
+        record {
+          place = suc r.place;
+          low = omega (arith, low);
+          comb = r.comb;
+          count = count_yes places.is_comb (flat_mem x) (take r.place (mems_of xs)) (ap (λ b. if b then false else true) e) ∙ ap suc r.count;
+          lock = r.lock;
+        }
 
 -- memories of two forms that pass a test
 module _ (test : Mem → Bool) (other : flat.Mem → Bool) (same : (m : Mem) → other (flat_mem m) ≡ test m) where
@@ -111,18 +127,23 @@ module _ (test : Mem → Bool) (other : flat.Mem → Bool) (same : (m : Mem) →
   some_count [] = refl
   some_count (m ∷ ms) = at (test m) refl (some_count ms)
     where
-      at : (b : Bool) → test m ≡ b → length (filter test ms) ≡ count_by other (mems_of ms) → length (if b then m ∷ filter test ms else filter test ms) ≡ count_by other (flat_mem m ∷ mems_of ms)
+      at : (b : Bool) → test m ≡ b → length (filter test ms) ≡ count_by other (mems_of ms)
+          → length (if b then m ∷ filter test ms else filter test ms) ≡ count_by other (flat_mem m ∷ mems_of ms)
       at true e h = ap suc h ∙ sym (count_yes other (flat_mem m) (mems_of ms) (same m ∙ e))
       at false e h = h ∙ sym (count_no other (flat_mem m) (mems_of ms) (same m ∙ e))
 
   -- one of them, by how many stand before it
-  pub some_at : (ms : List Mem) (m : ℕ) (d : MemInfo) → m < length ms → other (slice_index_or (mems_of ms) m plain_mem) ≡ true → slice_index_or (map info_of (filter test ms)) (count_by other (take m (mems_of ms))) d ≡ slice_index_or (map info_of ms) m d
+  pub some_at : (ms : List Mem) (m : ℕ) (d : MemInfo) → m < length ms
+      → other (slice_index_or (mems_of ms) m plain_mem) ≡ true
+      → slice_index_or (map info_of (filter test ms)) (count_by other (take m (mems_of ms))) d ≡ slice_index_or (map info_of ms) m d
   some_at [] m d l e = absurd (omega (arith, l))
   some_at (x ∷ xs) zero d l e = ap (λ b. slice_index_or (map info_of (if b then x ∷ filter test xs else filter test xs)) 0 d) (sym (same x) ∙ e)
   some_at (x ∷ xs) (suc m) d l e = at (test x) refl (some_at xs m d (omega (arith, l)) e)
     where
-      at : (b : Bool) → test x ≡ b → slice_index_or (map info_of (filter test xs)) (count_by other (take m (mems_of xs))) d ≡ slice_index_or (map info_of xs) m d
-          → slice_index_or (map info_of (if b then x ∷ filter test xs else filter test xs)) (count_by other (flat_mem x ∷ take m (mems_of xs))) d ≡ slice_index_or (map info_of xs) m d
+      at : (b : Bool) → test x ≡ b
+          → slice_index_or (map info_of (filter test xs)) (count_by other (take m (mems_of xs))) d ≡ slice_index_or (map info_of xs) m d
+          → slice_index_or (map info_of (if b then x ∷ filter test xs else filter test xs)) (count_by other (flat_mem x ∷ take m (mems_of xs))) d
+          ≡ slice_index_or (map info_of xs) m d
       at true g h = ap (λ k. slice_index_or (map info_of (x ∷ filter test xs)) k d) (count_yes other (flat_mem x) (take m (mems_of xs)) (same x ∙ g)) ∙ h
       at false g h = ap (λ k. slice_index_or (map info_of (filter test xs)) k d) (count_no other (flat_mem x) (take m (mems_of xs)) (same x ∙ g)) ∙ h
 
@@ -146,8 +167,11 @@ pub all_told : (ms : List Mem) → filter told_delayed (map info_of (delayed_of 
 all_told [] = refl
 all_told (m ∷ ms) = at m.delayed refl (all_told ms)
   where
-    at : (b : Bool) → m.delayed ≡ b → filter told_delayed (map info_of (delayed_of ms)) ≡ map info_of (delayed_of ms) → filter told_delayed (map info_of (if b then m ∷ delayed_of ms else delayed_of ms)) ≡ map info_of (if b then m ∷ delayed_of ms else delayed_of ms)
-    at true e h = ap (λ b. if b then info_of m ∷ filter told_delayed (map info_of (delayed_of ms)) else filter told_delayed (map info_of (delayed_of ms))) e ∙ ap (λ l. info_of m ∷ l) h
+    at : (b : Bool) → m.delayed ≡ b → filter told_delayed (map info_of (delayed_of ms)) ≡ map info_of (delayed_of ms)
+        → filter told_delayed (map info_of (if b then m ∷ delayed_of ms else delayed_of ms)) ≡ map info_of (if b then m ∷ delayed_of ms else delayed_of ms)
+    at true e h =
+        ap (λ b. if b then info_of m ∷ filter told_delayed (map info_of (delayed_of ms)) else filter told_delayed (map info_of (delayed_of ms))) e
+        ∙ ap (λ l. info_of m ∷ l) h
     at false e h = h
 
 -- no memory that answers at once is told as delayed
@@ -155,7 +179,8 @@ pub none_told : (ms : List Mem) → filter told_delayed (map info_of (comb_of ms
 none_told [] = refl
 none_told (m ∷ ms) = at m.delayed refl (none_told ms)
   where
-    at : (b : Bool) → m.delayed ≡ b → filter told_delayed (map info_of (comb_of ms)) ≡ [] → filter told_delayed (map info_of (if not b then m ∷ comb_of ms else comb_of ms)) ≡ []
+    at : (b : Bool) → m.delayed ≡ b → filter told_delayed (map info_of (comb_of ms)) ≡ []
+        → filter told_delayed (map info_of (if not b then m ∷ comb_of ms else comb_of ms)) ≡ []
     at true e h = h
     at false e h = ap (λ b. if b then info_of m ∷ filter told_delayed (map info_of (comb_of ms)) else filter told_delayed (map info_of (comb_of ms))) e ∙ h
 
@@ -164,11 +189,15 @@ pub names_told : (names : ℕ → List ℕ) (k : ℕ) (ms : List Mem)
     → ((i : ℕ) → i < length ms → names (k + i) ≡ mem_names ms i)
     → map (λ (i : MemInfo). i.name) (map info_of (delayed_of ms)) ≡ names_delayed names k (mems_of ms)
 names_told names k [] h = refl
-names_told names k (m ∷ ms) h = at m.delayed (names_told names (suc k) ms (λ i l. ap names (let z : suc k + i ≡ k + suc i = omega arith in z) ∙ h (suc i) (omega (arith, l))))
+names_told names k (m ∷ ms) h =
+    at m.delayed (names_told names (suc k) ms (λ i l. ap names (let z : suc k + i ≡ k + suc i = omega arith in z) ∙ h (suc i) (omega (arith, l))))
   where
     here : names k ≡ m.name.name
     here = ap names (let z : k ≡ k + 0 = omega arith in z) ∙ h 0 (omega arith)
 
-    at : (b : Bool) → map (λ (i : MemInfo). i.name) (map info_of (delayed_of ms)) ≡ names_delayed names (suc k) (mems_of ms) → map (λ (i : MemInfo). i.name) (map info_of (if b then m ∷ delayed_of ms else delayed_of ms)) ≡ (if b then names k ∷ [] else []) ++ names_delayed names (suc k) (mems_of ms)
+    at : (b : Bool)
+        → map (λ (i : MemInfo). i.name) (map info_of (delayed_of ms)) ≡ names_delayed names (suc k) (mems_of ms)
+        → map (λ (i : MemInfo). i.name) (map info_of (if b then m ∷ delayed_of ms else delayed_of ms))
+        ≡ (if b then names k ∷ [] else []) ++ names_delayed names (suc k) (mems_of ms)
     at true g = ap (λ l. m.name.name ∷ l) g ∙ ap (λ x. x ∷ names_delayed names (suc k) (mems_of ms)) (sym here)
     at false g = g

@@ -63,12 +63,16 @@ stage_none a x k (suc n) rest v g h = (heads_apart a 118 x _ v, (heads_apart a 1
 reply_flag : (n : List ℕ) (ls : List PortMem) (rest : List (List ℕ)) → IsFree n ls → IsNone (codes "p_" ++ n) rest
     → IsNone (codes "p_" ++ n) (reply_names ls rest)
 reply_flag n [] rest f h = h
-reply_flag n (l ∷ ls) rest f h = (tails_apart 112 _ _ (tails_apart 95 _ _ f.0), (tails_apart 112 _ _ (heads_apart 95 100 _ _ (λ e. omega arith)), reply_flag n ls rest f.1 h))
+reply_flag n (l ∷ ls) rest f h =
+    (tails_apart 112 _ _ (tails_apart 95 _ _ f.0), (tails_apart 112 _ _ (heads_apart 95 100 _ _ (λ e. omega arith)), reply_flag n ls rest f.1 h))
 
 reply_word : (n : List ℕ) (ls : List PortMem) (rest : List (List ℕ)) → IsFree n ls → IsNone (codes "pd_" ++ n) rest
     → IsNone (codes "pd_" ++ n) (reply_names ls rest)
 reply_word n [] rest f h = h
-reply_word n (l ∷ ls) rest f h = (tails_apart 112 _ _ (heads_apart 100 95 _ _ (λ e. omega arith)), (tails_apart 112 _ _ (tails_apart 100 _ _ (tails_apart 95 _ _ f.0)), reply_word n ls rest f.1 h))
+reply_word n (l ∷ ls) rest f h = (
+  tails_apart 112 _ _ (heads_apart 100 95 _ _ (λ e. omega arith)),
+  (tails_apart 112 _ _ (tails_apart 100 _ _ (tails_apart 95 _ _ f.0)), reply_word n ls rest f.1 h),
+)
 
 replies_differ : (ls : List PortMem) (rest : List (List ℕ)) → AreFree ls → ((x : List ℕ) → IsNone (112 ∷ x) rest)
     → AllDiffer rest → AllDiffer (reply_names ls rest)
@@ -85,7 +89,10 @@ commit_flag : (n : List ℕ) (ls : List PortMem) (rest : List (List ℕ)) → Is
 commit_flag n [] rest f h = h
 commit_flag n (l ∷ ls) rest f h = (
   tails_apart 99 _ _ (tails_apart 95 _ _ f.0),
-  (tails_apart 99 _ _ (heads_apart 95 97 _ _ (λ e. omega arith)), (tails_apart 99 _ _ (heads_apart 95 100 _ _ (λ e. omega arith)), commit_flag n ls rest f.1 h)),
+  (
+    tails_apart 99 _ _ (heads_apart 95 97 _ _ (λ e. omega arith)),
+    (tails_apart 99 _ _ (heads_apart 95 100 _ _ (λ e. omega arith)), commit_flag n ls rest f.1 h),
+  ),
 )
 
 commit_address : (n : List ℕ) (ls : List PortMem) (rest : List (List ℕ)) → IsFree n ls → IsNone (codes "ca_" ++ n) rest
@@ -93,7 +100,10 @@ commit_address : (n : List ℕ) (ls : List PortMem) (rest : List (List ℕ)) →
 commit_address n [] rest f h = h
 commit_address n (l ∷ ls) rest f h = (
   tails_apart 99 _ _ (heads_apart 97 95 _ _ (λ e. omega arith)),
-  (tails_apart 99 _ _ (tails_apart 97 _ _ (tails_apart 95 _ _ f.0)), (tails_apart 99 _ _ (heads_apart 97 100 _ _ (λ e. omega arith)), commit_address n ls rest f.1 h)),
+  (
+    tails_apart 99 _ _ (tails_apart 97 _ _ (tails_apart 95 _ _ f.0)),
+    (tails_apart 99 _ _ (heads_apart 97 100 _ _ (λ e. omega arith)), commit_address n ls rest f.1 h),
+  ),
 )
 
 commit_word : (n : List ℕ) (ls : List PortMem) (rest : List (List ℕ)) → IsFree n ls → IsNone (codes "cd_" ++ n) rest
@@ -101,15 +111,24 @@ commit_word : (n : List ℕ) (ls : List PortMem) (rest : List (List ℕ)) → Is
 commit_word n [] rest f h = h
 commit_word n (l ∷ ls) rest f h = (
   tails_apart 99 _ _ (heads_apart 100 95 _ _ (λ e. omega arith)),
-  (tails_apart 99 _ _ (heads_apart 100 97 _ _ (λ e. omega arith)), (tails_apart 99 _ _ (tails_apart 100 _ _ (tails_apart 95 _ _ f.0)), commit_word n ls rest f.1 h)),
+  (
+    tails_apart 99 _ _ (heads_apart 100 97 _ _ (λ e. omega arith)),
+    (tails_apart 99 _ _ (tails_apart 100 _ _ (tails_apart 95 _ _ f.0)), commit_word n ls rest f.1 h),
+  ),
 )
 
 commits_differ : (ls : List PortMem) (rest : List (List ℕ)) → AreFree ls → ((x : List ℕ) → IsNone (99 ∷ x) rest)
     → AllDiffer rest → AllDiffer (commit_names ls rest)
 commits_differ [] rest f h d = d
 commits_differ (l ∷ ls) rest f h d = (
-  (tails_apart 99 _ _ (heads_apart 95 97 _ _ (λ e. omega arith)), (tails_apart 99 _ _ (heads_apart 95 100 _ _ (λ e. omega arith)), commit_flag l.name ls rest f.0 (h _))),
-  ((tails_apart 99 _ _ (heads_apart 97 100 _ _ (λ e. omega arith)), commit_address l.name ls rest f.0 (h _)), (commit_word l.name ls rest f.0 (h _), commits_differ ls rest f.1 h d)),
+  (
+    tails_apart 99 _ _ (heads_apart 95 97 _ _ (λ e. omega arith)),
+    (tails_apart 99 _ _ (heads_apart 95 100 _ _ (λ e. omega arith)), commit_flag l.name ls rest f.0 (h _)),
+  ),
+  (
+    (tails_apart 99 _ _ (heads_apart 97 100 _ _ (λ e. omega arith)), commit_address l.name ls rest f.0 (h _)),
+    (commit_word l.name ls rest f.0 (h _), commits_differ ls rest f.1 h d),
+  ),
 )
 
 -- ---- requests
@@ -117,12 +136,16 @@ commits_differ (l ∷ ls) rest f h d = (
 request_flag : (n : List ℕ) (ls : List PortMem) (rest : List (List ℕ)) → IsFree n ls → IsNone (codes "q_" ++ n) rest
     → IsNone (codes "q_" ++ n) (request_names ls rest)
 request_flag n [] rest f h = h
-request_flag n (l ∷ ls) rest f h = (tails_apart 113 _ _ (tails_apart 95 _ _ f.0), (tails_apart 113 _ _ (heads_apart 95 97 _ _ (λ e. omega arith)), request_flag n ls rest f.1 h))
+request_flag n (l ∷ ls) rest f h =
+    (tails_apart 113 _ _ (tails_apart 95 _ _ f.0), (tails_apart 113 _ _ (heads_apart 95 97 _ _ (λ e. omega arith)), request_flag n ls rest f.1 h))
 
 request_address : (n : List ℕ) (ls : List PortMem) (rest : List (List ℕ)) → IsFree n ls → IsNone (codes "qa_" ++ n) rest
     → IsNone (codes "qa_" ++ n) (request_names ls rest)
 request_address n [] rest f h = h
-request_address n (l ∷ ls) rest f h = (tails_apart 113 _ _ (heads_apart 97 95 _ _ (λ e. omega arith)), (tails_apart 113 _ _ (tails_apart 97 _ _ (tails_apart 95 _ _ f.0)), request_address n ls rest f.1 h))
+request_address n (l ∷ ls) rest f h = (
+  tails_apart 113 _ _ (heads_apart 97 95 _ _ (λ e. omega arith)),
+  (tails_apart 113 _ _ (tails_apart 97 _ _ (tails_apart 95 _ _ f.0)), request_address n ls rest f.1 h),
+)
 
 requests_differ : (ls : List PortMem) (rest : List (List ℕ)) → AreFree ls → ((x : List ℕ) → IsNone (113 ∷ x) rest)
     → AllDiffer rest → AllDiffer (request_names ls rest)
@@ -155,13 +178,16 @@ are_free test (m ∷ ms) h = at (test m) (are_free test ms h.1)
 pub port_names_differ : (n : ℕ) (ms : List Mem)
     → n ≤ 64 → AreDistinct ms → AllDiffer (port_names n (map port_mem (delayed_of ms)) (locked_of ms))
 port_names_differ n ms l h =
-    replies_differ delayed (stage_names 0 n commits) free (λ x. stage_none 112 x 0 n commits (λ e. omega arith) (λ e. omega arith) (commits_none 112 x (λ e. omega arith) (λ e. omega arith) (λ e. omega arith) (λ e. omega arith)))
+    replies_differ delayed (stage_names 0 n commits) free
+    (λ x. stage_none 112 x 0 n commits (λ e. omega arith) (λ e. omega arith)
+    (commits_none 112 x (λ e. omega arith) (λ e. omega arith) (λ e. omega arith) (λ e. omega arith)))
     (stages_differ 0 n commits (omega arith)
     (λ j. commits_none 118 _ (λ e. omega arith) (λ e. omega arith) (λ e. omega arith) (λ e. omega arith))
     (λ j. commits_none 103 _ (λ e. omega arith) (λ e. omega arith) (λ e. omega arith) (λ e. omega arith))
     (commits_differ (locked_of ms) (request_names delayed last_names) (all_free ms h)
     (λ x. request_none 99 x delayed last_names (λ e. omega arith) (last_none 99 x (λ e. omega arith) (λ e. omega arith)))
-    (requests_differ delayed last_names free (λ x. last_none 113 x (λ e. omega arith) (λ e. omega arith)) ((heads_apart 101 115 _ _ (λ e. omega arith), tt), (tt, tt)))))
+    (requests_differ delayed last_names free (λ x. last_none 113 x (λ e. omega arith) (λ e. omega arith))
+    ((heads_apart 101 115 _ _ (λ e. omega arith), tt), (tt, tt)))))
   where
     delayed : List PortMem
     delayed = map port_mem (delayed_of ms)
@@ -172,5 +198,6 @@ port_names_differ n ms l h =
     free : AreFree (map port_mem (delayed_of ms))
     free = are_free Rattle.pdl_law_follows.specs.Memories.is_delayed ms h
 
-    commits_none : (a : ℕ) (x : List ℕ) → a ≢ 99 → a ≢ 113 → a ≢ 101 → a ≢ 115 → IsNone (a ∷ x) (commit_names (locked_of ms) (request_names (map port_mem (delayed_of ms)) last_names))
+    commits_none : (a : ℕ) (x : List ℕ) → a ≢ 99 → a ≢ 113 → a ≢ 101 → a ≢ 115
+        → IsNone (a ∷ x) (commit_names (locked_of ms) (request_names (map port_mem (delayed_of ms)) last_names))
     commits_none a x c q e s = commit_none a x (locked_of ms) _ c (request_none a x (map port_mem (delayed_of ms)) last_names q (last_none a x e s))

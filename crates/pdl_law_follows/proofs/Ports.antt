@@ -43,14 +43,20 @@ reply_heads names k [] h = refl
 reply_heads names k (m ∷ ms) h = at m.delayed (reply_heads names (suc k) ms (rest_named names k m ms h))
   where
     at : (b : Bool) → map head_of (whole.reply_ports names (suc k) (mems_of ms)) ≡ flat_map reply_ports (map port_mem (delayed_of ms))
-        → map head_of ((if b then record { name = codes "p_" ++ names k; width = 1; dir = In } ∷ record { name = codes "pd_" ++ names k; width = m.width.value; dir = In } ∷ [] else []) ++ whole.reply_ports names (suc k) (mems_of ms))
+        → map head_of
+        ((if b
+        then record { name = codes "p_" ++ names k; width = 1; dir = In } ∷ record { name = codes "pd_" ++ names k; width = m.width.value; dir = In } ∷ []
+        else [])
+        ++ whole.reply_ports names (suc k) (mems_of ms))
         ≡ flat_map reply_ports (map port_mem (if b then m ∷ delayed_of ms else delayed_of ms))
     at true g = ap₂ (λ n l. input (codes "p_" ++ n) 1 ∷ input (codes "pd_" ++ n) m.width.value ∷ l) (first_named names k m ms h) g
     at false g = g
 
 -- what is asked of each delayed memory has 1 bit, and addresses that reach each of its words and no more
 abbrev pub AreAsked : (ℕ → Request) → ℕ → List Mem → Type 0
-AreAsked asks k ms = (i : ℕ) → i < length ms → (slice_index_or (mems_of ms) i plain_mem).delayed ≡ true → ((asks (k + i)).enable.width ≡ 1) × (2 ^ (asks (k + i)).addr.width ≡ (slice_index_or (mems_of ms) i plain_mem).depth)
+AreAsked asks k ms =
+    (i : ℕ) → i < length ms → (slice_index_or (mems_of ms) i plain_mem).delayed ≡ true
+    → ((asks (k + i)).enable.width ≡ 1) × (2 ^ (asks (k + i)).addr.width ≡ (slice_index_or (mems_of ms) i plain_mem).depth)
 
 request_heads : (names : ℕ → List ℕ) (asks : ℕ → Request) (k : ℕ) (ms : List Mem) → AreNamed names k ms
     → ((m : Mem) → Among m ms → Reaches m) → AreAsked asks k ms
@@ -58,10 +64,12 @@ request_heads : (names : ℕ → List ℕ) (asks : ℕ → Request) (k : ℕ) (m
 request_heads names asks k [] h r f = refl
 request_heads names asks k (m ∷ ms) h r f =
     at m.delayed refl
-    (request_heads names asks (suc k) ms (rest_named names k m ms h) (λ x a. r x (inr a)) (λ i l d. (let z : k + suc i ≡ suc k + i = omega arith in rw (sym z) (f (suc i) (omega (arith, l)) d))))
+    (request_heads names asks (suc k) ms (rest_named names k m ms h) (λ x a. r x (inr a))
+    (λ i l d. (let z : k + suc i ≡ suc k + i = omega arith in rw (sym z) (f (suc i) (omega (arith, l)) d))))
   where
     at : (b : Bool) → m.delayed ≡ b → map head_shown (requests_shown names asks (suc k) (mems_of ms)) ≡ flat_map request_ports (map port_mem (delayed_of ms))
-        → map head_shown ((if b then request_shown (names k) (asks k) else []) ++ requests_shown names asks (suc k) (mems_of ms)) ≡ flat_map request_ports (map port_mem (if b then m ∷ delayed_of ms else delayed_of ms))
+        → map head_shown ((if b then request_shown (names k) (asks k) else []) ++ requests_shown names asks (suc k) (mems_of ms))
+        ≡ flat_map request_ports (map port_mem (if b then m ∷ delayed_of ms else delayed_of ms))
     at false e g = g
     at true e g =
         let z : k + 0 ≡ k = omega arith in
@@ -69,7 +77,9 @@ request_heads names asks k (m ∷ ms) h r f =
         let enable : (asks k).enable.width ≡ 1 = ap (λ j. (asks j).enable.width) (sym z) ∙ w.0 in
         let reach : 2 ^ (asks k).addr.width ≡ m.depth.value = ap (λ j. 2 ^ (asks j).addr.width) (sym z) ∙ w.1 in
         ap₂ (λ n l. output (codes "q_" ++ n) (asks k).enable.width ∷ output (codes "qa_" ++ n) (asks k).addr.width ∷ l) (first_named names k m ms h) g
-        ∙ ap₂ (λ v a. output (codes "q_" ++ m.name.name) v ∷ output (codes "qa_" ++ m.name.name) a ∷ flat_map request_ports (map port_mem (delayed_of ms))) enable (power_one _ _ (reach ∙ sym (r m (inl refl))))
+        ∙ ap₂
+        (λ v a. output (codes "q_" ++ m.name.name) v ∷ output (codes "qa_" ++ m.name.name) a ∷ flat_map request_ports (map port_mem (delayed_of ms))) enable
+        (power_one _ _ (reach ∙ sym (r m (inl refl))))
 
 -- ---- all
 
@@ -82,7 +92,9 @@ by_kinds k delayed locked =
     let stages = flat_map stage_ports (range_with_len 0 k) in
     let commits = flat_map commit_ports locked in
     let requests = flat_map request_ports delayed in
-    append_assoc ((replies ++ stages) ++ commits) requests last_heads ∙ append_assoc (replies ++ stages) commits (requests ++ last_heads) ∙ append_assoc replies stages (commits ++ (requests ++ last_heads))
+    append_assoc ((replies ++ stages) ++ commits) requests last_heads
+    ∙ append_assoc (replies ++ stages) commits (requests ++ last_heads)
+    ∙ append_assoc replies stages (commits ++ (requests ++ last_heads))
 
 -- what a whole netlist shows has the names, directions and widths of a pipe's outputs, kind by kind
 pub shown_heads : (p : Pipe) (ms : List Mem)
@@ -107,7 +119,9 @@ shown_heads p ms same some commits asks vs gates moves wide r h f =
 pub replies_heads : (p : Pipe) (ms : List Mem)
     → p.mems ≡ mems_of ms
     → map head_of (whole.reply_ports (mem_names ms) 0 p.mems) ≡ flat_map reply_ports (map port_mem (delayed_of ms))
-replies_heads p ms same = ap (λ l. map head_of (whole.reply_ports (mem_names ms) 0 l)) same ∙ reply_heads (mem_names ms) 0 ms (λ i l. ap (mem_names ms) (let z : 0 + i ≡ i = omega arith in z))
+replies_heads p ms same =
+    ap (λ l. map head_of (whole.reply_ports (mem_names ms) 0 l)) same
+    ∙ reply_heads (mem_names ms) 0 ms (λ i l. ap (mem_names ms) (let z : 0 + i ≡ i = omega arith in z))
 
 -- ---- names
 
@@ -124,7 +138,8 @@ stages_out : (k n : ℕ) (hs : List Head) → outs_in (flat_map stage_ports (ran
 stages_out k zero hs = refl
 stages_out k (suc n) hs =
     let next : k + 1 ≡ suc k = omega arith in
-    ap (λ l. (codes "v_" ++ decimal k) ∷ (codes "g_" ++ decimal k) ∷ l) (ap (λ j. outs_in (flat_map stage_ports (range_with_len j n) ++ hs)) next ∙ stages_out (suc k) n hs)
+    ap (λ l. (codes "v_" ++ decimal k) ∷ (codes "g_" ++ decimal k) ∷ l)
+    (ap (λ j. outs_in (flat_map stage_ports (range_with_len j n) ++ hs)) next ∙ stages_out (suc k) n hs)
 
 commits_out : (ls : List PortMem) (hs : List Head) → outs_in (flat_map commit_ports ls ++ hs) ≡ commit_names ls (outs_in hs)
 commits_out [] hs = refl
@@ -176,7 +191,8 @@ outputs_in : (ps : List Port) → map name_of_output (filter_map port_output ps)
 outputs_in [] = refl
 outputs_in (p ∷ ps) = at p.dir refl (outputs_in ps)
   where
-    at : (d : Dir) → p.dir ≡ d → map name_of_output (filter_map port_output ps) ≡ outs_in (map head_of ps) → map name_of_output (filter_map port_output (p ∷ ps)) ≡ outs_in (map head_of (p ∷ ps))
+    at : (d : Dir) → p.dir ≡ d → map name_of_output (filter_map port_output ps) ≡ outs_in (map head_of ps)
+        → map name_of_output (filter_map port_output (p ∷ ps)) ≡ outs_in (map head_of (p ∷ ps))
     at In e h = rw e h
     at (Out x) e h = rw e (ap (λ l. p.name ∷ l) h)
 
@@ -184,4 +200,5 @@ outputs_in (p ∷ ps) = at p.dir refl (outputs_in ps)
 pub outputs_are : (c : Circuit) (k : ℕ) (delayed locked : List PortMem)
     → map head_of c.ports ≡ pipe_ports k delayed locked
     → map name_of_output (outputs_of c) ≡ output_names k delayed locked
-outputs_are c k delayed locked e = outputs_in c.ports ∙ ap outs_in (e ∙ by_kinds k delayed locked) ∙ none_in delayed (outs_of k delayed locked) ∙ outs_named k delayed locked
+outputs_are c k delayed locked e =
+    outputs_in c.ports ∙ ap outs_in (e ∙ by_kinds k delayed locked) ∙ none_in delayed (outs_of k delayed locked) ∙ outs_named k delayed locked

@@ -89,7 +89,8 @@ last_wait p n bits [] h st e = ap (λ (xs : List Seen). first_wait xs) e
     first_wait : List Seen → Bool
     first_wait [] = false
     first_wait (x ∷ xs) = x.wait
-last_wait p n bits (b ∷ schedule) h st e = last_wait p n bits schedule (next n h b) (stated.cycle p st (replies_of (delayed_count p) b)) (ap (λ (xs : List Seen). rest xs) e)
+last_wait p n bits (b ∷ schedule) h st e =
+    last_wait p n bits schedule (next n h b) (stated.cycle p st (replies_of (delayed_count p) b)) (ap (λ (xs : List Seen). rest xs) e)
   where
     rest : List Seen → List Seen
     rest [] = []
@@ -105,7 +106,8 @@ module _ (p : tree.Pipe) (rules : KeepsRules p) (source : is_source p ≡ true) 
   refines image schedule is_image =
       let words = arrays_of (in_order (flat p) image) in
       let replies = replies_in (flat p) schedule in
-      subst (AreSequential (flat p) words replies) (sym (turned.cycles image schedule is_image)) (machine_sequential (flat p) words replies (whole_refines (flat p) (of_source p rules source named) words replies))
+      subst (AreSequential (flat p) words replies) (sym (turned.cycles image schedule is_image))
+      (machine_sequential (flat p) words replies (whole_refines (flat p) (of_source p rules source named) words replies))
 
   pub moves : MovesOldest p n
   moves image schedule bits is_image e =
@@ -119,7 +121,11 @@ module _ (p : tree.Pipe) (rules : KeepsRules p) (source : is_source p ≡ true) 
       let replies = replies_in (flat p) schedule in
       let ts = turns (flat p) words replies in
       subst (λ cs. (length schedule - waits_in cs) / depth (flat p) ≤ ended_in cs) (sym (turned.cycles image schedule is_image))
-      (rw (ended_same ts) (rw (waits_same ts) (subst (λ k. (k - stated.waits_in ts) / depth (flat p) ≤ stated.ended_in ts) (length-map schedule (replies_of (delayed_count (flat p)))) (whole_paces (flat p) (of_source p rules source named) words replies))))
+      (rw (ended_same ts)
+      (rw (waits_same ts)
+      (subst (λ k. (k - stated.waits_in ts) / depth (flat p) ≤ stated.ended_in ts)
+      (length-map schedule (replies_of (delayed_count (flat p))))
+      (whole_paces (flat p) (of_source p rules source named) words replies))))
 
   pub runs : (image : List (List ℕ)) (schedule : List ℕ) → IsImage n.mems image → IsRunOf p n image schedule
   runs image schedule is_image =
@@ -128,6 +134,7 @@ module _ (p : tree.Pipe) (rules : KeepsRules p) (source : is_source p ≡ true) 
       record {
         lines = turned.lines image schedule is_image;
         refines = whole_refines (flat p) sound words (replies_in (flat p) schedule);
-        moves = λ k low. whole_advances (flat p) sound words (replies_in (flat p) (take k schedule)) (replies_of (delayed_count (flat p)) (slice_index schedule k));
+        moves =
+            λ k low. whole_advances (flat p) sound words (replies_in (flat p) (take k schedule)) (replies_of (delayed_count (flat p)) (slice_index schedule k));
         pace = whole_paces (flat p) sound words (replies_in (flat p) schedule);
       }

@@ -42,9 +42,14 @@ pub record AreDeclared (ms : List Mem) : Type 0 where
   pub reach : list_all (λ (m : Mem). Rattle.pdl_rules.specs.Limits.is_depth m.depth.value) ms ≡ true
   pub few : length ms ≤ 16
 
-module _ (p : Pipe) (ms : List Mem) (declared : AreDeclared ms) (same : p.mems ≡ mems_of ms) (some : 1 ≤ length p.stages) (most : length p.stages ≤ 64) (ls : Locks) (vs : ℕ → View) (gates : Gates) (moves : ℕ → Signal) (sides : Sides) (n : Netlist)
-    (well : IsWell (circuit_of n)) (made : IsWhole p (mem_names ms) ls vs gates moves sides (circuit_of n)) (in_order : (m : ℕ) → m < length p.mems → (mem_at p m).delayed ≡ false → ls.array m ≡ comb_place p m)
-    (shapes : map shape_of n.arrays ≡ map shape_of_mem (comb_of ms)) (wide : AreBitsWide vs gates moves (length p.stages)) (fit : CommitsFit made.laid.commits 0 ms) (asked : AreAsked made.asks 0 ms) (mems : n.mems ≡ net_infos ms) where
+module _ (p : Pipe) (ms : List Mem) (declared : AreDeclared ms) (same : p.mems ≡ mems_of ms)
+    (some : 1 ≤ length p.stages) (most : length p.stages ≤ 64) (ls : Locks) (vs : ℕ → View) (gates : Gates)
+    (moves : ℕ → Signal) (sides : Sides) (n : Netlist)
+    (well : IsWell (circuit_of n)) (made : IsWhole p (mem_names ms) ls vs gates moves sides (circuit_of n))
+    (in_order : (m : ℕ) → m < length p.mems → (mem_at p m).delayed ≡ false → ls.array m ≡ comb_place p m)
+    (shapes : map shape_of n.arrays ≡ map shape_of_mem (comb_of ms))
+    (wide : AreBitsWide vs gates moves (length p.stages)) (fit : CommitsFit made.laid.commits 0 ms)
+    (asked : AreAsked made.asks 0 ms) (mems : n.mems ≡ net_infos ms) where
   reach : (m : Mem) → Among m ms → Reaches m
   reach m h = reaches_all ms declared.reach m h
 
@@ -56,11 +61,13 @@ module _ (p : Pipe) (ms : List Mem) (declared : AreDeclared ms) (same : p.mems �
       ap (map head_of) made.ports
       ∙ map-append head_of (reply_ports (mem_names ms) 0 p.mems) _
       ∙ ap₂ (λ a b. a ++ b) (replies_heads p ms same)
-      (heads_of (circuit_of n) made.outs ∙ ap (map head_shown) made.shown ∙ shown_heads p ms same some made.laid.commits made.asks vs gates moves wide reach fit asked)
+      (heads_of (circuit_of n) made.outs ∙ ap (map head_shown) made.shown
+      ∙ shown_heads p ms same some made.laid.commits made.asks vs gates moves wide reach fit asked)
       ∙ sym (by_kinds (length p.stages) (map port_mem (delayed_of ms)) (locked_of ms))
 
   -- an array whose memory has no lock has no write port
-  never_written : (k : ℕ) (m : Mem) → k < length n.arrays → IsArrayOf (comb_of ms) k (array_at (circuit_of n) k) m → is_some m.lock ≡ false → (array_at (circuit_of n) k).writes ≡ []
+  never_written : (k : ℕ) (m : Mem) → k < length n.arrays → IsArrayOf (comb_of ms) k (array_at (circuit_of n) k) m
+      → is_some m.lock ≡ false → (array_at (circuit_of n) k).writes ≡ []
   unfolding write_signals
   never_written k m l h e =
       let count = sym (length-map n.arrays shape_of) ∙ ap length shapes ∙ length-map (comb_of ms) shape_of_mem in
@@ -69,8 +76,12 @@ module _ (p : Pipe) (ms : List Mem) (declared : AreDeclared ms) (same : p.mems �
       let comb : (mem_at p c.place).delayed ≡ false = ap (λ (ys : List flat.Mem). (slice_index_or ys c.place plain_mem).delayed) same ∙ c.comb in
       let plain = ap (λ (ys : List flat.Mem). flat.has_lock (slice_index_or ys c.place plain_mem).lock) same ∙ c.lock ∙ h.lock ∙ e in
       let none = made.laid.unwritten c.place low plain comb in
-      let place : ls.array c.place ≡ k = in_order c.place low comb ∙ ap (λ (ys : List flat.Mem). Rattle.std.specs.Prelude.count_by Rattle.pdl_law.proofs.Places.is_comb (Rattle.std.specs.Prelude.take c.place ys)) same ∙ c.count in
-      no_write (circuit_of n) (array_at (circuit_of n) k).writes (ap (λ i. map (write_signal (circuit_of n)) (array_at (circuit_of n) i).writes) (sym place) ∙ none)
+      let place : ls.array c.place ≡ k =
+      in_order c.place low comb
+      ∙ ap (λ (ys : List flat.Mem). Rattle.std.specs.Prelude.count_by Rattle.pdl_law.proofs.Places.is_comb (Rattle.std.specs.Prelude.take c.place ys)) same
+      ∙ c.count in
+      no_write (circuit_of n)
+      (array_at (circuit_of n) k).writes (ap (λ i. map (write_signal (circuit_of n)) (array_at (circuit_of n) i).writes) (sym place) ∙ none)
 
   array_fits : (k : ℕ) → k < length n.arrays → IsPipeArray (map port_mem (delayed_of ms)) (locked_of ms) (get_or n.arrays k no_array)
   array_fits k l =
@@ -116,7 +127,12 @@ module _ (p : Pipe) (ms : List Mem) (declared : AreDeclared ms) (same : p.mems �
   pub well_formed : IsWellFormed n
   well_formed = record {
     well = well;
-    port_names = subst (AllPairs (λ a b. a ≢ b)) (sym (names_are n.ports (length p.stages) (map port_mem (delayed_of ms)) (locked_of ms) ports)) (all_pairs _ (port_names_differ (length p.stages) ms most declared.distinct));
-    array_names = subst (AllPairs (λ a b. a ≢ b)) (sym (array_names_are n.arrays (comb_of ms) shapes)) (all_pairs (map name_of_mem (comb_of ms)) (mem_names_differ (comb_of ms) (distinct_some is_comb ms declared.distinct)));
+    port_names =
+        subst (AllPairs (λ a b. a ≢ b))
+        (sym (names_are n.ports (length p.stages) (map port_mem (delayed_of ms)) (locked_of ms) ports))
+        (all_pairs _ (port_names_differ (length p.stages) ms most declared.distinct));
+    array_names =
+        subst (AllPairs (λ a b. a ≢ b)) (sym (array_names_are n.arrays (comb_of ms) shapes))
+        (all_pairs (map name_of_mem (comb_of ms)) (mem_names_differ (comb_of ms) (distinct_some is_comb ms declared.distinct)));
     pipe = is_pipe;
   }

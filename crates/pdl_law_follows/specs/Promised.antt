@@ -19,6 +19,7 @@ pub record IsRunOf (p : tree.Pipe) (n : Netlist) (image : List (List ℕ)) (sche
   pub refines : Refines (flat p) (arrays_of (in_order (flat p) image)) (replies_in (flat p) schedule)
   -- in each cycle that is no wait the oldest thread moves
   pub moves : (k : ℕ) → k < length schedule
-      → Advances (flat p) (arrays_of (in_order (flat p) image)) (replies_in (flat p) (take k schedule)) (replies_of (delayed_count (flat p)) (slice_index schedule k))
+      → Advances (flat p) (arrays_of (in_order (flat p) image)) (replies_in (flat p) (take k schedule))
+      (replies_of (delayed_count (flat p)) (slice_index schedule k))
   -- and so enough threads end
   pub pace : KeepsPace (flat p) (arrays_of (in_order (flat p) image)) (replies_in (flat p) schedule)

@@ -52,7 +52,8 @@ pub record AreSequential (p : Pipe) (image : Arrays) (schedule : List (List Bool
 -- from each image, with each schedule of replies
 abbrev pub RefinesThreads : tree.Pipe → Netlist → Type 0
 RefinesThreads p n =
-    (image : List (List ℕ)) (schedule : List ℕ) → IsImage n.mems image → AreSequential (flat p) (arrays_of (in_order (flat p) image)) (replies_in (flat p) schedule) (cycles_of p n image schedule)
+    (image : List (List ℕ)) (schedule : List ℕ) → IsImage n.mems image
+    → AreSequential (flat p) (arrays_of (in_order (flat p) image)) (replies_in (flat p) schedule) (cycles_of p n image schedule)
 
 -- a netlist's cycle after a schedule leaves a request unanswered
 abbrev pub waits_after : Netlist → List (List ℕ) → List ℕ → ℕ → Bool

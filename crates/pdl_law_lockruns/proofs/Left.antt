@@ -34,10 +34,13 @@ squashed (Some n) tail base es h =
 -- what is left of filled pending writes after a release and a squash, which drops those from the tail on
 pub left : (release : Bool) (squash : Option ℕ) (tail base : ℕ) (xs : List Entry) (es : List Pending) → xs ≡ forgotten_entries es
     → ((n : ℕ) → squash ≡ Some n → (tail ≡ base + bit release + count_older (suc n) (if release then but_oldest es else es))
-    × (entries_left (Some n) (if release then but_oldest es else es) ≡ take (count_older (suc n) (if release then but_oldest es else es)) (if release then but_oldest es else es)))
-    → (if is_some squash then take (tail - (if release then base + 1 else base)) (if release then drop 1 xs else xs) else (if release then drop 1 xs else xs)) ≡ forgotten_entries (entries_left squash (if release then but_oldest es else es))
+    × (entries_left (Some n) (if release then but_oldest es else es)
+    ≡ take (count_older (suc n) (if release then but_oldest es else es)) (if release then but_oldest es else es)))
+    → (if is_some squash then take (tail - (if release then base + 1 else base)) (if release then drop 1 xs else xs) else (if release then drop 1 xs else xs))
+    ≡ forgotten_entries (entries_left squash (if release then but_oldest es else es))
 left release squash tail base xs es e h =
     let at = if release then base + 1 else base in
-    ap (λ (ys : List Entry). if is_some squash then take (tail - at) ys else ys) (ap (λ (ys : List Entry). if release then drop 1 ys else ys) e ∙ released release es)
+    ap (λ (ys : List Entry). if is_some squash then take (tail - at) ys else ys)
+    (ap (λ (ys : List Entry). if release then drop 1 ys else ys) e ∙ released release es)
     ∙ squashed squash tail at (if release then but_oldest es else es)
     (λ n is. let f = h n is in (ap (λ k. k - at) f.0 ∙ next release base (count_older (suc n) (if release then but_oldest es else es)), f.1))

@@ -49,7 +49,12 @@ pub used_locks : {T : Type 0} (l : Members T) (p : tree.Pipe) → KeepsRules p
     → IsMade p (locks_in l (flat p) c locks) views gates moves sides n
     → (image : List (List ℕ)) (schedule : List ℕ) (bits m : ℕ) (x : MemLock T) → IsImage n.mems image
     → m < length (flat p).mems → some_at locks m ≡ Some x
-    → IsUsed l (flat p) m x (step_of (flat p) views gates moves m) (state_in (held_after n (start n image) schedule) bits) (machine_after (flat p) image schedule) (replies_of (delayed_count (flat p)) bits)
+    → IsUsed l (flat p) m x (step_of (flat p) views gates moves m)
+    (state_in (held_after n (start n image) schedule) bits) (machine_after (flat p) image schedule)
+    (replies_of (delayed_count (flat p)) bits)
 used_locks l p rules source named n c locks locked views gates moves sides made image schedule bits m x is_image low e =
-    used_lock l (flat p) c locks views gates moves m x (state_in (held_after n (start n image) schedule) bits) (machine_after (flat p) image schedule) (replies_of (delayed_count (flat p)) bits) e
-    (used_made p rules source named (locks_in l (flat p) c locks) views gates moves sides n made image schedule bits m is_image (sym (locked m low) ∙ ap is_some e))
+    used_lock l (flat p) c locks views gates moves m x (state_in (held_after n (start n image) schedule) bits)
+    (machine_after (flat p) image schedule) (replies_of (delayed_count (flat p)) bits) e
+    (used_made p rules source named
+    (locks_in l (flat p) c locks) views gates moves sides n made image schedule bits m is_image
+    (sym (locked m low) ∙ ap is_some e))

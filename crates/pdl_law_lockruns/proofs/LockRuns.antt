@@ -49,8 +49,11 @@ use Rattle.pdl_law_lockruns.proofs.Left.{left}
 -- ---- a cycle
 
 -- where the state stands for the machine's, and stages and squashes are as the machine's
-module _ (p : Pipe) (ls : Locks) (vs : ℕ → View) (gates : Gates) (moves : ℕ → Signal) (s : State) (st : machine.State) (bits : List Bool) (known : IsKnown p st bits)
-    (seen : (j : ℕ) → j < length p.stages → IsSeen p vs moves s st bits j) (squashed : IsSquashed p ls vs gates s st bits) (m : ℕ) (locked : is_locked p m ≡ true) (stand : StandsLock p ls vs s st m) where
+module _ (p : Pipe) (ls : Locks) (vs : ℕ → View) (gates : Gates) (moves : ℕ → Signal) (s : State) (st : machine.State)
+    (bits : List Bool) (known : IsKnown p st bits)
+    (seen : (j : ℕ) → j < length p.stages → IsSeen p vs moves s st bits j)
+    (squashed : IsSquashed p ls vs gates s st bits) (m : ℕ) (locked : is_locked p m ≡ true)
+    (stand : StandsLock p ls vs s st m) where
   -- what the stages do to the lock, the pending writes that this fills, and those that are left
   abbrev act : LockAct
   act = act_of p ls vs moves s st bits known.by known.used seen (stood p st bits) m locked stand gates squashed
@@ -60,7 +63,9 @@ module _ (p : Pipe) (ls : Locks) (vs : ℕ → View) (gates : Gates) (moves : �
 
   left_is : (step (lock_state_of stand.base (machine.lock_of st m) stand.words) act).entries ≡ forgotten_entries (machine.lock_of (cycle p st bits) m)
   left_is =
-      left (has_release m (moving p st bits)) (squasher (moving p st bits)) act.tail stand.base (filled_entries (lock_state_of stand.base (machine.lock_of st m) stand.words) act) (list_two st (moving p st bits) m) filled
+      left (has_release m (moving p st bits))
+      (squasher (moving p st bits)) act.tail stand.base (filled_entries (lock_state_of stand.base (machine.lock_of st m) stand.words) act)
+      (list_two st (moving p st bits) m) filled
       (λ n e. (ap (tail_with p ls vs moves s st bits known.by known.used seen (stood p st bits) m locked stand gates squashed) e, known.cut.cuts m n e))
       ∙ ap forgotten_entries (sym (known.by.locks m (lock_there p m locked)))
 
@@ -90,13 +95,16 @@ stage_here p vs moves s st bits by k low seen = record {
   where
     same : list_any (λ (a : Act). a.stage == k) (movers (all_acts p st bits)) ≡ stage_moves p st bits k
     same =
-        sym (at_stage (λ q. list_any (λ (a : Act). a.stage == q) (movers (all_acts p st bits))) 0 p.stages k false low ∙ ap (λ q. list_any (λ (a : Act). a.stage == q) (movers (all_acts p st bits))) (let z : 0 + k ≡ k = omega arith in z))
+        sym
+        (at_stage (λ q. list_any (λ (a : Act). a.stage == q) (movers (all_acts p st bits))) 0 p.stages k false low
+        ∙ ap (λ q. list_any (λ (a : Act). a.stage == q) (movers (all_acts p st bits))) (let z : 0 + k ≡ k = omega arith in z))
         ∙ ap (λ (bs : List Bool). slice_index_or bs k false) by.moves
         ∙ at_stage (stage_moves p st bits) 0 p.stages k false low ∙ ap (stage_moves p st bits) (let z : 0 + k ≡ k = omega arith in z)
 
 -- ---- runs
 
-module _ (p : tree.Pipe) (rules : KeepsRules p) (source : is_source p ≡ true) (named : is_named p ≡ true) (ls : Locks) (vs : ℕ → View) (gates : Gates) (moves : ℕ → Signal) (sides : Sides) (n : Netlist) where
+module _ (p : tree.Pipe) (rules : KeepsRules p) (source : is_source p ≡ true) (named : is_named p ≡ true) (ls : Locks)
+    (vs : ℕ → View) (gates : Gates) (moves : ℕ → Signal) (sides : Sides) (n : Netlist) where
   module _ (made : IsMadeWhole p ls vs gates moves sides n) (image : List (List ℕ)) where
     abbrev far : Apart (mem_names p.mems) (length (flat p).mems)
     far = apart p rules source named ls vs gates moves sides n made
@@ -106,25 +114,44 @@ module _ (p : tree.Pipe) (rules : KeepsRules p) (source : is_source p ≡ true) 
 
     -- each state that a run comes to stands for the machine's
     stands_from : (schedule : List ℕ) (h : Held) (st : machine.State) → IsStandingFor p rules source named ls vs gates moves sides n made image h st
-        → IsStandingFor p rules source named ls vs gates moves sides n made image (held_after n h schedule) (state_after (flat p) st (replies_in (flat p) schedule))
+        → IsStandingFor p rules source named ls vs gates moves sides n made image (held_after n h schedule)
+        (state_after (flat p) st (replies_in (flat p) schedule))
     stands_from [] h st x = x
     stands_from (b ∷ schedule) h st x =
         stands_from schedule (next n h b) (cycle (flat p) st (replies_of (delayed_count (flat p)) b))
-        (stands_next (flat p) (mem_names p.mems) far law (known_source p rules source named) ls vs gates moves sides n made.compiled made.formed.well made.mems (arrays_of (in_order (flat p) image)) h st x b)
+        (stands_next (flat p)
+        (mem_names p.mems) far law
+        (known_source p rules source named) ls vs gates moves sides n made.compiled made.formed.well made.mems
+        (arrays_of (in_order (flat p) image)) h st x b)
 
     -- a cycle from such a state
     module _ (h : Held) (st : machine.State) (x : IsStandingFor p rules source named ls vs gates moves sides n made image h st) (b : ℕ) where
       knows : IsKnown (flat p) st (replies_of (delayed_count (flat p)) b)
-      knows = runs.knows (flat p) (mem_names p.mems) far law (known_source p rules source named) ls vs gates moves sides n made.compiled made.formed.well made.mems (arrays_of (in_order (flat p) image)) h st x b
+      knows =
+          runs.knows (flat p)
+          (mem_names p.mems) far law
+          (known_source p rules source named) ls vs gates moves sides n made.compiled made.formed.well made.mems
+          (arrays_of (in_order (flat p) image)) h st x b
 
       seen : (j : ℕ) → j < length (flat p).stages → IsSeen (flat p) vs moves (state_in h b) st (replies_of (delayed_count (flat p)) b) j
-      seen = runs.seen (flat p) (mem_names p.mems) far law (known_source p rules source named) ls vs gates moves sides n made.compiled made.formed.well made.mems (arrays_of (in_order (flat p) image)) h st x b
+      seen =
+          runs.seen (flat p)
+          (mem_names p.mems) far law
+          (known_source p rules source named) ls vs gates moves sides n made.compiled made.formed.well made.mems
+          (arrays_of (in_order (flat p) image)) h st x b
 
       used_standing : (m : ℕ) → is_locked (flat p) m ≡ true → IsUsedLock (flat p) ls vs gates moves (state_in h b) st (replies_of (delayed_count (flat p)) b) m
       used_standing m locked =
-          let suits = runs.suits (flat p) (mem_names p.mems) far law (known_source p rules source named) ls vs gates moves sides n made.compiled made.formed.well made.mems (arrays_of (in_order (flat p) image)) h st x b in
+          let suits =
+          runs.suits (flat p)
+          (mem_names p.mems) far law
+          (known_source p rules source named) ls vs gates moves sides n made.compiled made.formed.well made.mems
+          (arrays_of (in_order (flat p) image)) h st x b in
           used_here (flat p) ls vs gates moves (state_in h b) st (replies_of (delayed_count (flat p)) b) knows seen
-          (runs.squashed (flat p) (mem_names p.mems) far law (known_source p rules source named) ls vs gates moves sides n made.compiled made.formed.well made.mems (arrays_of (in_order (flat p) image)) h st x b)
+          (runs.squashed (flat p)
+          (mem_names p.mems) far law
+          (known_source p rules source named) ls vs gates moves sides n made.compiled made.formed.well made.mems
+          (arrays_of (in_order (flat p) image)) h st x b)
           m locked ((x.whole b suits).stands.locks m locked) (made.compiled.laid.locks m locked).kind
 
       stage_standing : (k : ℕ) → k < length (flat p).stages → IsStageAs (vs k) (moves k) (state_in h b) (flat p) st (replies_of (delayed_count (flat p)) b) k
@@ -140,17 +167,24 @@ module _ (p : tree.Pipe) (rules : KeepsRules p) (source : is_source p ≡ true) 
 
     -- what the netlist holds after a schedule stands for the machine's state
     abbrev Reached : (image : List (List ℕ)) → List ℕ → Type 0
-    Reached image schedule = IsStandingFor p rules source named ls vs gates moves sides n whole image (held_after n (start n image) schedule) (machine_after (flat p) image schedule)
+    Reached image schedule =
+        IsStandingFor p rules source named ls vs gates moves sides n whole image (held_after n (start n image) schedule) (machine_after (flat p) image schedule)
 
     reached : (image : List (List ℕ)) (schedule : List ℕ) → IsImage n.mems image → Reached image schedule
     reached image schedule is_image =
-        stands_from whole image schedule (start n image) (first (flat p) (arrays_of (in_order (flat p) image))) (stands_source p rules source named ls vs gates moves sides n whole image is_image)
+        stands_from whole image schedule (start n image) (first (flat p) (arrays_of (in_order (flat p) image)))
+        (stands_source p rules source named ls vs gates moves sides n whole image is_image)
 
     -- from each image, after each schedule, whatever is replied next
     pub used_made : (image : List (List ℕ)) (schedule : List ℕ) (bits m : ℕ) → IsImage n.mems image → is_locked (flat p) m ≡ true
-        → IsUsedLock (flat p) ls vs gates moves (state_in (held_after n (start n image) schedule) bits) (machine_after (flat p) image schedule) (replies_of (delayed_count (flat p)) bits) m
-    used_made image schedule bits m is_image locked = used_standing whole image (held_after n (start n image) schedule) (machine_after (flat p) image schedule) (reached image schedule is_image) bits m locked
+        → IsUsedLock (flat p) ls vs gates moves (state_in (held_after n (start n image) schedule) bits)
+        (machine_after (flat p) image schedule) (replies_of (delayed_count (flat p)) bits) m
+    used_made image schedule bits m is_image locked =
+        used_standing whole image (held_after n (start n image) schedule) (machine_after (flat p) image schedule)
+        (reached image schedule is_image) bits m locked
 
     pub stages_made : (image : List (List ℕ)) (schedule : List ℕ) (bits k : ℕ) → IsImage n.mems image → k < length (flat p).stages
-        → IsStageAs (vs k) (moves k) (state_in (held_after n (start n image) schedule) bits) (flat p) (machine_after (flat p) image schedule) (replies_of (delayed_count (flat p)) bits) k
-    stages_made image schedule bits k is_image low = stage_standing whole image (held_after n (start n image) schedule) (machine_after (flat p) image schedule) (reached image schedule is_image) bits k low
+        → IsStageAs (vs k) (moves k) (state_in (held_after n (start n image) schedule) bits) (flat p)
+        (machine_after (flat p) image schedule) (replies_of (delayed_count (flat p)) bits) k
+    stages_made image schedule bits k is_image low =
+        stage_standing whole image (held_after n (start n image) schedule) (machine_after (flat p) image schedule) (reached image schedule is_image) bits k low

@@ -19,7 +19,8 @@ use Rattle.pdl_pipe_walk.specs.declared.locks.MemLock.{MemLock}
 use Rattle.pdl_pipe_walk.specs.Locked.{Members}
 
 -- as a cycle with these replies begins, a lock of this size, whose tickets have so many bits, stands for the machine's pending writes and words of memory m, and its ports do, in proper use, what the threads that move and a squash do to these
-pub record IsUsedAs (for_state : State → LockState → Type 0) (size bits : ℕ) (p : Pipe) (m : ℕ) (ports : StepSignals) (s : State) (st : machine.State) (replies : List Bool) : Type 0 where
+pub record IsUsedAs (for_state : State → LockState → Type 0) (size bits : ℕ) (p : Pipe) (m : ℕ) (ports : StepSignals)
+    (s : State) (st : machine.State) (replies : List Bool) : Type 0 where
   pub base : ℕ
   -- the memory's words, which stand outside where it is delayed
   pub words : List ℕ

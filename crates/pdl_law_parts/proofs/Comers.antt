@@ -76,14 +76,19 @@ or_map false b false d f g e = g e
 lives_down : (p : Pipe) (j q x : ℕ) → j ≤ q → lives_from p q x ≡ true → lives_from p j x ≡ true
 lives_down p j q x h =
     or_map (list_any (λ (r : Stmt). nat_le q r.stage && row_uses r x) p.stmts) (list_any (λ (s : Stage). forks_by s.next x) (drop q p.stages)) _ _
-    (any_more (λ (r : Stmt). nat_le q r.stage && row_uses r x) (λ (r : Stmt). nat_le j r.stage && row_uses r x) p.stmts (λ r e. lower j q r.stage (row_uses r x) h e))
+    (any_more (λ (r : Stmt). nat_le q r.stage && row_uses r x)
+    (λ (r : Stmt). nat_le j r.stage && row_uses r x) p.stmts (λ r e. lower j q r.stage (row_uses r x) h e))
     (any_dropped (λ (s : Stage). forks_by s.next x) p.stages j q h)
 
 holds_down : (p : Pipe) (j q m a : ℕ) → j ≤ q → held_from p q m a ≡ true → held_from p j m a ≡ true
-holds_down p j q m a h e = any_more (λ (r : Stmt). nat_le q r.stage && asks_held r.op m a) (λ (r : Stmt). nat_le j r.stage && asks_held r.op m a) p.stmts (λ r i. lower j q r.stage (asks_held r.op m a) h i) e
+holds_down p j q m a h e =
+    any_more (λ (r : Stmt). nat_le q r.stage && asks_held r.op m a)
+    (λ (r : Stmt). nat_le j r.stage && asks_held r.op m a) p.stmts (λ r i. lower j q r.stage (asks_held r.op m a) h i) e
 
 verifies_down : (p : Pipe) (j q : ℕ) → j ≤ q → verifies_from p q ≡ true → verifies_from p j ≡ true
-verifies_down p j q h e = any_more (λ (r : Stmt). nat_le q r.stage && is_verify r.op) (λ (r : Stmt). nat_le j r.stage && is_verify r.op) p.stmts (λ r i. lower j q r.stage (is_verify r.op) h i) e
+verifies_down p j q h e =
+    any_more (λ (r : Stmt). nat_le q r.stage && is_verify r.op)
+    (λ (r : Stmt). nat_le j r.stage && is_verify r.op) p.stmts (λ r i. lower j q r.stage (is_verify r.op) h i) e
 
 -- one of the values of signals
 pub signal_at : (s : State) (fs : List Signal) (i : ℕ)
@@ -119,7 +124,8 @@ pub picked_is : (s : State) (of : Comer → Signal) (cs : List Comer) (f : Signa
 picked_is s of [] f = refl
 picked_is s of (c ∷ cs) f = mux_by s c.comes (of c) (first_coming of cs f) ∙ at (is_on c.comes s) (picked_is s of cs f)
   where
-    at : (b : Bool) → (first_coming of cs f).value s ≡ brought s of f (first_come s cs) → (if b then (of c).value s else (first_coming of cs f).value s) ≡ brought s of f (if b then Some c else first_come s cs)
+    at : (b : Bool) → (first_coming of cs f).value s ≡ brought s of f (first_come s cs)
+        → (if b then (of c).value s else (first_coming of cs f).value s) ≡ brought s of f (if b then Some c else first_come s cs)
     at true e = refl
     at false e = e
 
@@ -129,7 +135,10 @@ args_at s [] n x = zeros_at n x
 args_at s (f ∷ fs) n zero = refl
 args_at s (f ∷ fs) n (suc x) = args_at s fs n x
 
-module _ (p : Pipe) (ls : Locks) (vs : ℕ → View) (moves : ℕ → Signal) (s : State) (st : machine.State) (bits : List Bool) (leads : LeadsOn p) (by : IsByStages p st bits) (used : IsInUse p st bits) (stands : StandsFor p ls vs s st) (seen : (j : ℕ) → j < length p.stages → IsSeen p vs moves s st bits j) (stood : (k : ℕ) (t : Thread) → here p st bits k ≡ Some t → Stood st k t) (spared : Spares p st bits) where
+module _ (p : Pipe) (ls : Locks) (vs : ℕ → View) (moves : ℕ → Signal) (s : State) (st : machine.State)
+    (bits : List Bool) (leads : LeadsOn p) (by : IsByStages p st bits) (used : IsInUse p st bits)
+    (stands : StandsFor p ls vs s st) (seen : (j : ℕ) → j < length p.stages → IsSeen p vs moves s st bits j)
+    (stood : (k : ℕ) (t : Thread) → here p st bits k ≡ Some t → Stood st k t) (spared : Spares p st bits) where
   -- a thread that comes into stage q with what this brings
   pub record Brings (q : ℕ) (c : Comer) (u : Thread) : Type 0 where
     pub long : length u.env ≡ p.vars
@@ -146,12 +155,15 @@ module _ (p : Pipe) (ls : Locks) (vs : ℕ → View) (moves : ℕ → Signal) (s
   AreAlike q (Some c) (Some u) = Brings q c u
   AreAlike q _ _ = ⊥
 
-  alike_then : (q : ℕ) (xs ys : List Comer) (a b : Option Thread) → AreAlike q (first_come s xs) a → AreAlike q (first_come s ys) b → AreAlike q (first_come s (xs ++ ys)) (or_then a b)
+  alike_then : (q : ℕ) (xs ys : List Comer) (a b : Option Thread) → AreAlike q (first_come s xs) a
+      → AreAlike q (first_come s ys) b → AreAlike q (first_come s (xs ++ ys)) (or_then a b)
   alike_then q [] ys None b f g = g
   alike_then q [] ys (Some u) b f g = absurd f
   alike_then q (x ∷ xs) ys a b f g = at (is_on x.comes s) a f (λ a f. alike_then q xs ys a b f g)
     where
-      at : (c : Bool) (a : Option Thread) → AreAlike q (if c then Some x else first_come s xs) a → ((a : Option Thread) → AreAlike q (first_come s xs) a → AreAlike q (first_come s (xs ++ ys)) (or_then a b)) → AreAlike q (if c then Some x else first_come s (xs ++ ys)) (or_then a b)
+      at : (c : Bool) (a : Option Thread) → AreAlike q (if c then Some x else first_come s xs) a
+          → ((a : Option Thread) → AreAlike q (first_come s xs) a → AreAlike q (first_come s (xs ++ ys)) (or_then a b))
+          → AreAlike q (if c then Some x else first_come s (xs ++ ys)) (or_then a b)
       at true None f go = absurd f
       at true (Some u) f go = f
       at false a f go = go a f
@@ -161,12 +173,15 @@ module _ (p : Pipe) (ls : Locks) (vs : ℕ → View) (moves : ℕ → Signal) (s
 
   -- NEW THREADS
 
-  born_brings : (number : ℕ) (moves : Signal) (b : Birth) → length b.args ≤ p.vars → AreAlike 0 (Some (new_by moves b)) (born_thread p number (Some (map (λ (f : Signal). f.value s) b.args)))
+  born_brings : (number : ℕ) (moves : Signal) (b : Birth) → length b.args ≤ p.vars
+      → AreAlike 0 (Some (new_by moves b)) (born_thread p number (Some (map (λ (f : Signal). f.value s) b.args)))
   born_brings number moves b short =
       let vals = map (λ (f : Signal). f.value s) b.args in
       let n = length-map b.args (λ (f : Signal). f.value s) in
       record {
-        long = (let e = length-append vals (replicate (p.vars - length vals) 0) in let z = length-replicate {A = ℕ} (p.vars - length vals) 0 in omega (arith, e, z, n, short));
+        long =
+            (let e = length-append vals (replicate (p.vars - length vals) 0) in
+            let z = length-replicate {A = ℕ} (p.vars - length vals) 0 in omega (arith, e, z, n, short));
         env = λ x live. args_at s b.args (p.vars - length vals) x;
         held = λ m a live. zero_is s ∙ ap (λ l. bit (is_held l m a)) (sym (held_first (start_env p vals) p.stmts []));
         guess = λ v e i l. absurd (omega (arith, e, l));
@@ -174,24 +189,35 @@ module _ (p : Pipe) (ls : Locks) (vs : ℕ → View) (moves : ℕ → Signal) (s
       }
 
   -- of the calls of one stage whose thread moves
-  births_alike : (number : ℕ) (moves : Signal) (bs : List Birth) → moves.value s ≡ bit true → AreShort p bs → AreAlike 0 (first_come s (map (new_by moves) bs)) (born_thread p number (child_in s bs))
+  births_alike : (number : ℕ) (moves : Signal) (bs : List Birth) → moves.value s ≡ bit true → AreShort p bs
+      → AreAlike 0 (first_come s (map (new_by moves) bs)) (born_thread p number (child_in s bs))
   births_alike number moves [] e h = tt
   births_alike number moves (b ∷ bs) e h = at (is_on b.on s) (both_is s moves b.on true e) (births_alike number moves bs e h.1)
     where
       at : (o : Bool) → is_on (both moves b.on) s ≡ o → AreAlike 0 (first_come s (map (new_by moves) bs)) (born_thread p number (child_in s bs))
-          → AreAlike 0 (if is_on (both moves b.on) s then Some (new_by moves b) else first_come s (map (new_by moves) bs)) (born_thread p number (if o then Some (map (λ (f : Signal). f.value s) b.args) else child_in s bs))
-      at true f rest = subst (λ c. AreAlike 0 (if c then Some (new_by moves b) else first_come s (map (new_by moves) bs)) (born_thread p number (Some (map (λ (f : Signal). f.value s) b.args)))) (sym f) (born_brings number moves b h.0)
-      at false f rest = subst (λ c. AreAlike 0 (if c then Some (new_by moves b) else first_come s (map (new_by moves) bs)) (born_thread p number (child_in s bs))) (sym f) rest
+          → AreAlike 0 (if is_on (both moves b.on) s then Some (new_by moves b) else first_come s (map (new_by moves) bs))
+          (born_thread p number (if o then Some (map (λ (f : Signal). f.value s) b.args) else child_in s bs))
+      at true f rest =
+          subst
+          (λ c. AreAlike 0 (if c then Some (new_by moves b) else first_come s (map (new_by moves) bs))
+          (born_thread p number (Some (map (λ (f : Signal). f.value s) b.args))))
+          (sym f) (born_brings number moves b h.0)
+      at false f rest =
+          subst (λ c. AreAlike 0 (if c then Some (new_by moves b) else first_come s (map (new_by moves) bs)) (born_thread p number (child_in s bs)))
+          (sym f) rest
 
   no_births : (moves : Signal) (bs : List Birth) → moves.value s ≡ bit false → first_come s (map (new_by moves) bs) ≡ None
   no_births moves [] e = refl
-  no_births moves (b ∷ bs) e = ap (λ c. if c then Some (new_by moves b) else first_come s (map (new_by moves) bs)) (both_is s moves b.on false e) ∙ no_births moves bs e
+  no_births moves (b ∷ bs) e =
+      ap (λ c. if c then Some (new_by moves b) else first_come s (map (new_by moves) bs)) (both_is s moves b.on false e) ∙ no_births moves bs e
 
-  born_then : (number : ℕ) (o rest : Option (List ℕ)) → born_thread p number (if is_some o then o else rest) ≡ or_then (born_thread p number o) (born_thread p number rest)
+  born_then : (number : ℕ) (o rest : Option (List ℕ))
+      → born_thread p number (if is_some o then o else rest) ≡ or_then (born_thread p number o) (born_thread p number rest)
   born_then number None rest = refl
   born_then number (Some x) rest = refl
 
-  new_alike : (n k : ℕ) → k + n ≡ length p.stages → AreAlike 0 (first_come s (new_from vs moves n k)) (born_thread p st.next (child_of (movers_from p st bits n k)))
+  new_alike : (n k : ℕ) → k + n ≡ length p.stages
+      → AreAlike 0 (first_come s (new_from vs moves n k)) (born_thread p st.next (child_of (movers_from p st bits n k)))
   new_alike zero k e = tt
   new_alike (suc n) k e =
       let l : k < length p.stages = omega (arith, e) in
@@ -207,15 +233,22 @@ module _ (p : Pipe) (ls : Locks) (vs : ℕ → View) (moves : ℕ → Signal) (s
       (alike_then 0 bs (new_from vs moves n (suc k)) None (born_thread p st.next (child_of rest)) (subst Q (sym none) tt) more))
       (λ (f : (t : Thread) × (here p st bits k ≡ Some t) × (stage_moves p st bits k ≡ true)).
       let so = so_at k f.0 l f.1 f.2 in
-      let child : born_thread p st.next (child_in s (vs k).ended.births) ≡ born_thread p st.next (deeds p st k f.0).child = ap (born_thread p st.next) (sym so.child) in
+      let child : born_thread p st.next (child_in s (vs k).ended.births) ≡ born_thread p st.next (deeds p st k f.0).child =
+      ap (born_thread p st.next) (sym so.child) in
       let Q : Option Thread → Type 0 = λ o. AreAlike 0 (first_come s bs) o in
-      subst P (sym (born_then st.next (deeds p st k f.0).child (child_of rest)) ∙ ap (λ ms. born_thread p st.next (child_of (ms ++ rest))) (sym (one_mover p st bits k f.0 f.1 f.2)))
-      (alike_then 0 bs (new_from vs moves n (suc k)) (born_thread p st.next (deeds p st k f.0).child) (born_thread p st.next (child_of rest)) (subst Q child (births_alike st.next (moves k) (vs k).ended.births ((seen k l).leaves ∙ ap bit f.2) so.short)) more))
+      subst P
+      (sym (born_then st.next (deeds p st k f.0).child (child_of rest))
+      ∙ ap (λ ms. born_thread p st.next (child_of (ms ++ rest))) (sym (one_mover p st bits k f.0 f.1 f.2)))
+      (alike_then 0 bs (new_from vs moves n (suc k)) (born_thread p st.next (deeds p st k f.0).child)
+      (born_thread p st.next (child_of rest))
+      (subst Q child (births_alike st.next (moves k) (vs k).ended.births ((seen k l).leaves ∙ ap bit f.2) so.short)) more))
       (moves_or_not p st bits k)
 
   -- OUT OF EARLIER STAGES
 
-  on_branch : (n : Next) (q : ℕ) (w : Walk) (env : List ℕ) → ((x : ℕ) → forks_by n x ≡ true → slice_index env x ≡ (w.vars x).value s) → is_on (branch n q w) s ≡ is_stage q (goes_to n env)
+  on_branch : (n : Next) (q : ℕ) (w : Walk) (env : List ℕ)
+      → ((x : ℕ) → forks_by n x ≡ true → slice_index env x ≡ (w.vars x).value s)
+      → is_on (branch n q w) s ≡ is_stage q (goes_to n env)
   on_branch Ends q w env f = ap (λ n. n == 1) (zero_is s)
   on_branch (Goes to) q w env f = at (to == q)
     where
@@ -223,19 +256,25 @@ module _ (p : Pipe) (ls : Locks) (vs : ℕ → View) (moves : ℕ → Signal) (s
       at true = ap (λ n. n == 1) (one_is s)
       at false = ap (λ n. n == 1) (zero_is s)
   on_branch (Forks x a b) q w env f =
-      ap (λ n. n == 1) (mux_by s (w.vars x) (if a == q then one else zero_bit) (if b == q then one else zero_bit) ∙ ap (λ n. if n == 1 then (if a == q then one else zero_bit).value s else (if b == q then one else zero_bit).value s) (sym (f x (Rattle.std.proofs.Common.eq-eqb x x refl))))
+      ap (λ n. n == 1)
+      (mux_by s (w.vars x) (if a == q then one else zero_bit) (if b == q then one else zero_bit)
+      ∙ ap (λ n. if n == 1 then (if a == q then one else zero_bit).value s else (if b == q then one else zero_bit).value s)
+      (sym (f x (Rattle.std.proofs.Common.eq-eqb x x refl))))
       ∙ choose (slice_index env x == 1)
     where
       at : (b : Bool) → ((if b then one else zero_bit).value s == 1) ≡ b
       at true = ap (λ n. n == 1) (one_is s)
       at false = ap (λ n. n == 1) (zero_is s)
 
-      choose : (t : Bool) → ((if t then (if a == q then one else zero_bit).value s else (if b == q then one else zero_bit).value s) == 1) ≡ ((if t then a else b) == q)
+      choose : (t : Bool)
+          → ((if t then (if a == q then one else zero_bit).value s else (if b == q then one else zero_bit).value s) == 1) ≡ ((if t then a else b) == q)
       choose true = at (a == q)
       choose false = at (b == q)
 
   -- a thread that goes from stage j to stage q
-  out_brings : (q j : ℕ) (t : Thread) → j < q → j < length p.stages → here p st bits j ≡ Some t → stage_moves p st bits j ≡ true → is_stage q (next_stage p j (deeds p st j t)) ≡ true → Brings q (out_of p vs moves q j) (thread_after (act_at p st j t))
+  out_brings : (q j : ℕ) (t : Thread) → j < q → j < length p.stages → here p st bits j ≡ Some t
+      → stage_moves p st bits j ≡ true → is_stage q (next_stage p j (deeds p st j t)) ≡ true
+      → Brings q (out_of p vs moves q j) (thread_after (act_at p st j t))
   out_brings q j t low l h g on =
       let so = so_at j t l h g in
       let u = stood j t h in
@@ -245,10 +284,16 @@ module _ (p : Pipe) (ls : Locks) (vs : ℕ → View) (moves : ℕ → Signal) (s
         long = so.long;
         env = λ x live. so.env x (lives_down p j q x (omega (arith, low)) live);
         held = λ m a live. so.held m a (holds_down p j q m a (omega (arith, low)) live) ∙ ap (λ ps. bit (is_held ps m a)) (used.held j q t h on);
-        guess = λ v e i m. ap (λ l'. slice_index l' i) (so.guess (verifies_down p j q (omega (arith, low)) v) e) ∙ signal_at s (vs j).ended.guess i (let z = so.guess_long in omega (arith, m, z));
+        guess =
+            λ v e i m. ap (λ l'. slice_index l' i) (so.guess (verifies_down p j q (omega (arith, low)) v) e)
+            ∙ signal_at s (vs j).ended.guess i (let z = so.guess_long in omega (arith, m, z));
         tickets = λ m e r high. (
-          subst (λ n. holds_ticket (ls.bits m) ((vs j).tickets m) s ((stands.locks m e).base + count_older n (machine.lock_of st m))) u.number ((stands.locks m e).tickets j u.thread u.slot (omega (arith, low, high))),
-          subst (λ n. count_older n (list_three st (moving p st bits) m) + bit (has_release m (moving p st bits)) ≡ count_older n (machine.lock_of st m)) u.number (used.shifts j u.thread m u.slot (leads.over j q m d.env l to r) (omega (arith, low, high)) (λ c. absurd (omega (arith, c, low, high)))),
+          subst
+              (λ n. holds_ticket (ls.bits m) ((vs j).tickets m) s ((stands.locks m e).base + count_older n (machine.lock_of st m))) u.number
+              ((stands.locks m e).tickets j u.thread u.slot (omega (arith, low, high))),
+          subst
+              (λ n. count_older n (list_three st (moving p st bits) m) + bit (has_release m (moving p st bits)) ≡ count_older n (machine.lock_of st m)) u.number
+              (used.shifts j u.thread m u.slot (leads.over j q m d.env l to r) (omega (arith, low, high)) (λ c. absurd (omega (arith, c, low, high)))),
           spared j t h g,
         );
       }
@@ -257,10 +302,12 @@ module _ (p : Pipe) (ls : Locks) (vs : ℕ → View) (moves : ℕ → Signal) (s
       is_next None e = absurd (false≢true e)
       is_next (Some r) e = ap (λ i. Some i) (eqb-true r q e)
 
-  one_alike : (q j : ℕ) → j < q → j < length p.stages → AreAlike q (if is_on (out_of p vs moves q j).comes s then Some (out_of p vs moves q j) else None) (passing_thread p st bits q j)
+  one_alike : (q j : ℕ) → j < q → j < length p.stages
+      → AreAlike q (if is_on (out_of p vs moves q j).comes s then Some (out_of p vs moves q j) else None) (passing_thread p st bits q j)
   one_alike q j low l = ⊎_elim
       (λ (f : stage_moves p st bits j ≡ false).
-      let off : is_on (out_of p vs moves q j).comes s ≡ false = both_is s (moves j) (branch (stage_at p j).next q (vs j).ended) false ((seen j l).leaves ∙ ap bit f) in
+      let off : is_on (out_of p vs moves q j).comes s ≡ false =
+      both_is s (moves j) (branch (stage_at p j).next q (vs j).ended) false ((seen j l).leaves ∙ ap bit f) in
       let P : Option Thread → Type 0 = λ o. AreAlike q (if is_on (out_of p vs moves q j).comes s then Some (out_of p vs moves q j) else None) o in
       let Q : Bool → Type 0 = λ b. AreAlike q (if b then Some (out_of p vs moves q j) else None) None in
       subst P (ap (λ b. thread_into p st q j b (here p st bits j)) (sym f)) (subst Q (sym off) tt))
@@ -268,17 +315,23 @@ module _ (p : Pipe) (ls : Locks) (vs : ℕ → View) (moves : ℕ → Signal) (s
       let d = deeds p st j f.0 in
       let so = so_at j f.0 l f.1 f.2 in
       let on : is_on (out_of p vs moves q j).comes s ≡ is_stage q (next_stage p j d) =
-      both_is s (moves j) (branch (stage_at p j).next q (vs j).ended) true ((seen j l).leaves ∙ ap bit f.2) ∙ on_branch (stage_at p j).next q (vs j).ended d.env (λ x e. so.env x (lives_fork p j x l e)) in
+      both_is s (moves j) (branch (stage_at p j).next q (vs j).ended) true ((seen j l).leaves ∙ ap bit f.2)
+      ∙ on_branch (stage_at p j).next q (vs j).ended d.env (λ x e. so.env x (lives_fork p j x l e)) in
       let P : Option Thread → Type 0 = λ o. AreAlike q (if is_on (out_of p vs moves q j).comes s then Some (out_of p vs moves q j) else None) o in
-      let Q : Bool → Type 0 = λ b. AreAlike q (if b then Some (out_of p vs moves q j) else None) (if is_stage q (next_stage p j d) then Some (thread_after (act_at p st j f.0)) else None) in
+      let Q : Bool → Type 0 =
+      λ b. AreAlike q (if b then Some (out_of p vs moves q j) else None)
+      (if is_stage q (next_stage p j d) then Some (thread_after (act_at p st j f.0)) else None) in
       subst P (sym (ap₂ (thread_into p st q j) f.2 f.1)) (subst Q (sym on) (at f.0 f.1 f.2 (is_stage q (next_stage p j d)) refl)))
       (moves_or_not p st bits j)
     where
-      at : (t : Thread) → here p st bits j ≡ Some t → stage_moves p st bits j ≡ true → (b : Bool) → is_stage q (next_stage p j (deeds p st j t)) ≡ b → AreAlike q (if b then Some (out_of p vs moves q j) else None) (if b then Some (thread_after (act_at p st j t)) else None)
+      at : (t : Thread) → here p st bits j ≡ Some t → stage_moves p st bits j ≡ true → (b : Bool)
+          → is_stage q (next_stage p j (deeds p st j t)) ≡ b
+          → AreAlike q (if b then Some (out_of p vs moves q j) else None) (if b then Some (thread_after (act_at p st j t)) else None)
       at t h g true e = out_brings q j t low l h g e
       at t h g false e = tt
 
-  ways_alike : (q m j : ℕ) → j + m ≡ q → q < length p.stages → AreAlike q (first_come s (map (out_of p vs moves q) (ways_from p q m j))) (first_of p st bits q (ways_from p q m j))
+  ways_alike : (q m j : ℕ) → j + m ≡ q → q < length p.stages
+      → AreAlike q (first_come s (map (out_of p vs moves q) (ways_from p q m j))) (first_of p st bits q (ways_from p q m j))
   ways_alike q zero j e l = tt
   ways_alike q (suc m) j e l = at (leads_to (stage_at p j).next q) (ways_alike q m (suc j) (omega (arith, e)) l)
     where
@@ -287,14 +340,23 @@ module _ (p : Pipe) (ls : Locks) (vs : ℕ → View) (moves : ℕ → Signal) (s
 
       at : (b : Bool) → AreAlike q (first_come s (map (out_of p vs moves q) rest)) (first_of p st bits q rest)
           → AreAlike q (first_come s (map (out_of p vs moves q) (if b then j ∷ rest else rest))) (first_of p st bits q (if b then j ∷ rest else rest))
-      at true h = alike_then q (out_of p vs moves q j ∷ []) (map (out_of p vs moves q) rest) (passing_thread p st bits q j) (first_of p st bits q rest) (one_alike q j (omega (arith, e)) (omega (arith, e, l))) h
+      at true h =
+          alike_then q (out_of p vs moves q j ∷ []) (map (out_of p vs moves q) rest) (passing_thread p st bits q j)
+          (first_of p st bits q rest) (one_alike q j (omega (arith, e)) (omega (arith, e, l))) h
       at false h = h
 
   -- ALL
 
-  pub comers_alike : (q : ℕ) → q < length p.stages → AreAlike q (first_come s (comers p vs moves q)) (or_then (newborn p st bits q) (arriving_thread p st bits q))
-  comers_alike q l = alike_then q (if q == 0 then new_from vs moves (length p.stages) 0 else []) (map (out_of p vs moves q) (ways p q)) (newborn p st bits q) (arriving_thread p st bits q) (at (q == 0) refl) (ways_alike q q 0 (omega arith) l)
+  pub comers_alike : (q : ℕ) → q < length p.stages
+      → AreAlike q (first_come s (comers p vs moves q)) (or_then (newborn p st bits q) (arriving_thread p st bits q))
+  comers_alike q l =
+      alike_then q (if q == 0 then new_from vs moves (length p.stages) 0 else []) (map (out_of p vs moves q) (ways p q))
+      (newborn p st bits q) (arriving_thread p st bits q) (at (q == 0) refl) (ways_alike q q 0 (omega arith) l)
     where
-      at : (b : Bool) → (q == 0) ≡ b → AreAlike q (first_come s (if b then new_from vs moves (length p.stages) 0 else [])) (if b then born_thread p st.next (child_of (moving p st bits)) else None)
-      at true e = subst (λ i. AreAlike i (first_come s (new_from vs moves (length p.stages) 0)) (born_thread p st.next (child_of (moving p st bits)))) (sym (eqb-true q 0 e)) (new_alike (length p.stages) 0 (omega arith))
+      at : (b : Bool) → (q == 0) ≡ b
+          → AreAlike q (first_come s (if b then new_from vs moves (length p.stages) 0 else []))
+          (if b then born_thread p st.next (child_of (moving p st bits)) else None)
+      at true e =
+          subst (λ i. AreAlike i (first_come s (new_from vs moves (length p.stages) 0)) (born_thread p st.next (child_of (moving p st bits))))
+          (sym (eqb-true q 0 e)) (new_alike (length p.stages) 0 (omega arith))
       at false e = tt

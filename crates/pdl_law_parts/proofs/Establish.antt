@@ -69,13 +69,23 @@ value_agrees (Constant w v) env other h = refl
 value_agrees (Variable x) env other h = h x (Rattle.std.proofs.Common.eq-eqb x x refl)
 value_agrees (Slice x high low) env other h = ap (words.slice high low) (h x (Rattle.std.proofs.Common.eq-eqb x x refl))
 value_agrees (Not w a) env other h = ap (words.complement w) (value_agrees a env other h)
-value_agrees (Binary op w a b) env other h = ap₂ (operator_value op w) (value_agrees a env other (λ x u. h x (or_left (uses_var a x) (uses_var b x) u))) (value_agrees b env other (λ x u. h x (or_right (uses_var a x) (uses_var b x) u)))
-value_agrees (Cat a w b) env other h = ap₂ (words.cat w) (value_agrees a env other (λ x u. h x (or_left (uses_var a x) (uses_var b x) u))) (value_agrees b env other (λ x u. h x (or_right (uses_var a x) (uses_var b x) u)))
-value_agrees (LessSigned w a b) env other h = ap₂ (words.lts w) (value_agrees a env other (λ x u. h x (or_left (uses_var a x) (uses_var b x) u))) (value_agrees b env other (λ x u. h x (or_right (uses_var a x) (uses_var b x) u)))
+value_agrees (Binary op w a b) env other h =
+    ap₂ (operator_value op w) (value_agrees a env other (λ x u. h x (or_left (uses_var a x) (uses_var b x) u)))
+    (value_agrees b env other (λ x u. h x (or_right (uses_var a x) (uses_var b x) u)))
+value_agrees (Cat a w b) env other h =
+    ap₂ (words.cat w) (value_agrees a env other (λ x u. h x (or_left (uses_var a x) (uses_var b x) u)))
+    (value_agrees b env other (λ x u. h x (or_right (uses_var a x) (uses_var b x) u)))
+value_agrees (LessSigned w a b) env other h =
+    ap₂ (words.lts w) (value_agrees a env other (λ x u. h x (or_left (uses_var a x) (uses_var b x) u)))
+    (value_agrees b env other (λ x u. h x (or_right (uses_var a x) (uses_var b x) u)))
 value_agrees (ZeroExtend wide a) env other h = ap words.zext (value_agrees a env other h)
 value_agrees (SignExtend w wide a) env other h = ap (words.sext w wide) (value_agrees a env other h)
 value_agrees (Choose c a b) env other h =
-    rw (value_agrees c env other (λ x u. h x (or_left (uses_var c x) (uses_var a x || uses_var b x) u)), value_agrees a env other (λ x u. h x (or_right (uses_var c x) (uses_var a x || uses_var b x) (or_left (uses_var a x) (uses_var b x) u))), value_agrees b env other (λ x u. h x (or_right (uses_var c x) (uses_var a x || uses_var b x) (or_right (uses_var a x) (uses_var b x) u)))) refl
+    rw (
+      value_agrees c env other (λ x u. h x (or_left (uses_var c x) (uses_var a x || uses_var b x) u)),
+      value_agrees a env other (λ x u. h x (or_right (uses_var c x) (uses_var a x || uses_var b x) (or_left (uses_var a x) (uses_var b x) u))),
+      value_agrees b env other (λ x u. h x (or_right (uses_var c x) (uses_var a x || uses_var b x) (or_right (uses_var a x) (uses_var b x) u))),
+    ) refl
 
 -- LOOKS
 
@@ -83,7 +93,8 @@ value_agrees (Choose c a b) env other h =
 pub block_one : (ls : Locks) (m : ℕ) (addr ticket f held : Signal) (value : Option Signal) (u : Bool) (s : State)
     → LookLaw (ls.stands m) (ls.kind m) (ls.bits m) (look_of u) addr ticket f value → is_on held s ≡ u
     → ThroughLock ls m ticket s (λ x t. f.value s ≡ bit (look_ready (ls.kind m) (look_of (is_on held s)) x t (addr.value s)))
-block_one ls m addr ticket f held value u s law e x t stands covered holds = law.answers s x t stands covered holds ∙ ap (λ b. bit (look_ready (ls.kind m) (look_of b) x t (addr.value s))) (sym e)
+block_one ls m addr ticket f held value u s law e x t stands covered holds =
+    law.answers s x t stands covered holds ∙ ap (λ b. bit (look_ready (ls.kind m) (look_of b) x t (addr.value s))) (sym e)
 
 -- and one whose kind depends on the path two
 pub block_two : (ls : Locks) (m : ℕ) (addr ticket f g held : Signal) (v u : Option Signal) (s : State)

@@ -48,7 +48,9 @@ lock_first q image m = none_first q.mems 0 m
 
 slot_first : (q : Pipe) (image : model.Arrays) (k : ℕ)
     → k < length q.stages → slot (first q image) k ≡ (if k == 0 then born_thread q 1 (Some q.start) else None)
-slot_first q image k l = let z : 0 + k ≡ k = omega arith in at_stage (λ i. if i == 0 then born_thread q 1 (Some q.start) else None) 0 q.stages k None l ∙ ap (λ i. if i == 0 then born_thread q 1 (Some q.start) else None) z
+slot_first q image k l = let z : 0 + k ≡ k = omega arith in
+    at_stage (λ i. if i == 0 then born_thread q 1 (Some q.start) else None) 0 q.stages k None l
+    ∙ ap (λ i. if i == 0 then born_thread q 1 (Some q.start) else None) z
 
 holds_first : (q : Pipe) (b : Bool) → (if b then 1 else 0) ≡ bit (is_some (if b then born_thread q 1 (Some q.start) else None))
 holds_first q true = refl
@@ -66,7 +68,8 @@ is_first q image k u e = ⊎_elim
     none_some : None ≡ Some u → ⊥
     none_some h = cc h
 
-    at : (k : ℕ) → k < length q.stages → slot (first q image) k ≡ Some u → (k ≡ 0) × (u.env ≡ start_env q q.start) × (0 < length q.stages) × (u.guess ≡ []) × (u.kept ≡ [])
+    at : (k : ℕ) → k < length q.stages → slot (first q image) k ≡ Some u
+        → (k ≡ 0) × (u.env ≡ start_env q q.start) × (0 < length q.stages) × (u.guess ≡ []) × (u.kept ≡ [])
     at zero l e = let z = sym (slot_first q image 0 l) ∙ e in (refl, cc z, omega (arith, l), cc z, cc z)
     at (suc k) l e =
         let n : (suc k == 0) ≡ false = ne_eqb (suc k) 0 (λ h. omega (arith, h)) in
@@ -80,8 +83,11 @@ pub record StartsWith (p : Pipe) (ls : Locks) (image : model.Arrays) (s : State)
   pub stands : ls.stands m s (start words)
 
 -- whatever the locks' first states are made of
-module _ (p : Pipe) (ls : Locks) (vs : ℕ → View) (gates : Gates) (moves : ℕ → Signal) (c : Circuit) (made : IsLaid p ls vs gates moves c) (image : model.Arrays) (s : State) (suits : Suits c s) (regs : s.regs ≡ map (λ (r : Reg). r.reset) c.regs)
-    (words : (m : ℕ) → is_locked p m ≡ false → (mem_at p m).delayed ≡ false → (a : ℕ) → a < (mem_at p m).depth → image m a ≡ slice_index (slice_index_or s.arrays (ls.array m) []) a)
+module _ (p : Pipe) (ls : Locks) (vs : ℕ → View) (gates : Gates) (moves : ℕ → Signal) (c : Circuit)
+    (made : IsLaid p ls vs gates moves c) (image : model.Arrays) (s : State) (suits : Suits c s)
+    (regs : s.regs ≡ map (λ (r : Reg). r.reset) c.regs)
+    (words : (m : ℕ) → is_locked p m ≡ false → (mem_at p m).delayed ≡ false → (a : ℕ) → a < (mem_at p m).depth
+    → image m a ≡ slice_index (slice_index_or s.arrays (ls.array m) []) a)
     (starts : (m : ℕ) → is_locked p m ≡ true → StartsWith p ls image s m) where
   abbrev first_state : machine.State
   first_state = first p image
@@ -93,7 +99,9 @@ module _ (p : Pipe) (ls : Locks) (vs : ℕ → View) (gates : Gates) (moves : �
   long_first k u h =
       let f = is_first p image k u h in
       let short = made.begins.long in
-      ap length f.1 ∙ (let e = length-append p.start (replicate (p.vars - length p.start) 0) in let z = length-replicate {A = ℕ} (p.vars - length p.start) 0 in omega (arith, e, z, short))
+      ap length f.1
+      ∙ (let e = length-append p.start (replicate (p.vars - length p.start) 0) in
+      let z = length-replicate {A = ℕ} (p.vars - length p.start) 0 in omega (arith, e, z, short))
 
   env_first : (k : ℕ) (u : Thread) → slot first_state k ≡ Some u → IsEnv p k s (vs k).kept (with_kept u.kept u.env)
   env_first k u h x live =
@@ -116,7 +124,8 @@ module _ (p : Pipe) (ls : Locks) (vs : ℕ → View) (gates : Gates) (moves : �
       let f = is_first p image k u h in
       let none = ap length f.3 in
       let l : k < length p.stages = subst (λ i. i < length p.stages) (sym f.0) f.2 in
-      signals_are s (vs k).begun.guess u.guess (long ∙ sym (made.stages k l).guess_long) (λ i m. absurd (let z = (made.stages k l).guess_long in omega (arith, m, z, long, none)))
+      signals_are s (vs k).begun.guess u.guess (long ∙ sym (made.stages k l).guess_long)
+      (λ i m. absurd (let z = (made.stages k l).guess_long in omega (arith, m, z, long, none)))
 
   lock_at_first : (m : ℕ) → is_locked p m ≡ true → StandsLock p ls vs s first_state m
   lock_at_first m e =

@@ -93,13 +93,17 @@ locked_lines f number (m ∷ ms) [] d h g = absurd h
 locked_lines f number (m ∷ ms) (e ∷ es) d h g =
     go (is_some m.lock) (λ n. h.0 (lock_declared m.lock ∙ n))
     (locked_lines f number ms es d.1 h.1
-    (λ k a. g k (inr a) ∙ ap (λ t. if t && is_some m.lock then e else found ms es k.name.name) (name_turned k.name.name m.name.name (among_other m.name.name ms k d.0 a))))
+    (λ k a. g k (inr a)
+    ∙ ap (λ t. if t && is_some m.lock then e else found ms es k.name.name) (name_turned k.name.name m.name.name (among_other m.name.name ms k d.0 a))))
   where
     here : f m.name.name ≡ e
     here = g m (inl refl) ∙ found_first m ms e es d.0 h.0
 
     go : (b : Bool) → (b ≡ false → e ≡ None)
-        → cycle_lines number (map column_of (locked_infos ms)) (map (λ (i : MemInfo). put_of (f i.name)) (locked_infos ms)) ≡ cycle_lines number (columns ms) (puts_in es)
-        → cycle_lines number (map column_of ((if b then info_of m ∷ [] else []) ++ locked_infos ms)) (map (λ (i : MemInfo). put_of (f i.name)) ((if b then info_of m ∷ [] else []) ++ locked_infos ms)) ≡ cycle_lines number (columns (m ∷ ms)) (puts_in (e ∷ es))
+        → cycle_lines number (map column_of (locked_infos ms)) (map (λ (i : MemInfo). put_of (f i.name)) (locked_infos ms))
+        ≡ cycle_lines number (columns ms) (puts_in es)
+        → cycle_lines number (map column_of ((if b then info_of m ∷ [] else []) ++ locked_infos ms))
+        (map (λ (i : MemInfo). put_of (f i.name)) ((if b then info_of m ∷ [] else []) ++ locked_infos ms))
+        ≡ cycle_lines number (columns (m ∷ ms)) (puts_in (e ∷ es))
     go true n rest = ap₂ (λ o l. mem_lines number (column m) (put_of o) ++ l) here rest
     go false n rest = rest ∙ ap (λ o. mem_lines number (column m) (put_of o) ++ cycle_lines number (columns ms) (puts_in es)) (sym (n refl))

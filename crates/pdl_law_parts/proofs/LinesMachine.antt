@@ -41,5 +41,11 @@ pub shaped : (q : Flat.Pipe) (st : State) (bits : List Bool) → IsByStages q st
 shaped q st bits by used = record {
   valid = stages_long _ 0 q.stages;
   moves = stages_long _ 0 q.stages;
-  commits = subst (AreCommits q.mems) (sym by.commits) (commits_from (λ m. port_write (taken_out st (moving q st bits) m)) 0 q.mems (λ i e. let z : 0 + i ≡ i = omega arith in ap port_write (ap (taken_out st (moving q st bits)) z ∙ ap (λ b. if b then oldest (list_two st (moving q st bits) i) else None) (used.unreleased i (plain_is (mem_at q i).lock e)))));
+  commits =
+      subst (AreCommits q.mems) (sym by.commits)
+      (commits_from (λ m. port_write (taken_out st (moving q st bits) m)) 0 q.mems
+      (λ i e. let z : 0 + i ≡ i = omega arith in
+      ap port_write
+      (ap (taken_out st (moving q st bits)) z
+      ∙ ap (λ b. if b then oldest (list_two st (moving q st bits) i) else None) (used.unreleased i (plain_is (mem_at q i).lock e)))));
 }

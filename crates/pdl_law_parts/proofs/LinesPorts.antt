@@ -80,7 +80,8 @@ stages_same k zero names [] (b ∷ moves) vals e f l = absurd (cc f)
 stages_same k zero names (a ∷ valid) moves vals e f l = absurd (cc e)
 stages_same k (suc n) names [] moves vals e f l = absurd (cc e)
 stages_same k (suc n) names (a ∷ valid) [] vals e f l = absurd (cc f)
-stages_same k (suc n) names (a ∷ valid) (b ∷ moves) vals e f l = ap (λ i. suc (suc i)) (stages_same (suc k) n names valid moves vals (omega (arith, e)) (omega (arith, f)) l)
+stages_same k (suc n) names (a ∷ valid) (b ∷ moves) vals e f l =
+    ap (λ i. suc (suc i)) (stages_same (suc k) n names valid moves vals (omega (arith, e)) (omega (arith, f)) l)
 
 -- ---- commits
 
@@ -179,4 +180,5 @@ each_found f (m ∷ ms) (e ∷ es) d h g =
     ap₂ (λ (x : List Put) (xs : List (List Put)). x ∷ xs)
     (ap put_of (g m (inl refl) ∙ found_first m ms e es d.0 h.0))
     (each_found f ms es d.1 h.1
-    (λ k a. g k (inr a) ∙ ap (λ t. if t && is_some m.lock then e else found ms es k.name.name) (name_turned k.name.name m.name.name (among_other m.name.name ms k d.0 a))))
+    (λ k a. g k (inr a)
+    ∙ ap (λ t. if t && is_some m.lock then e else found ms es k.name.name) (name_turned k.name.name m.name.name (among_other m.name.name ms k d.0 a))))

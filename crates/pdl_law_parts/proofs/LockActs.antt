@@ -36,7 +36,10 @@ use Rattle.pdl_semantics.specs.PendingLists.{AreOrdered, count_older}
 
 -- OF ALL STAGES
 
-module _ (p : Pipe) (ls : Locks) (vs : ℕ → View) (moves : ℕ → Signal) (s : State) (st : machine.State) (bits : List Bool) (by : IsByStages p st bits) (used : IsInUse p st bits) (seen : (j : ℕ) → j < length p.stages → IsSeen p vs moves s st bits j) (stood : (k : ℕ) (t : Thread) → here p st bits k ≡ Some t → Stood st k t) (m : ℕ) where
+module _ (p : Pipe) (ls : Locks) (vs : ℕ → View) (moves : ℕ → Signal) (s : State) (st : machine.State)
+    (bits : List Bool) (by : IsByStages p st bits) (used : IsInUse p st bits)
+    (seen : (j : ℕ) → j < length p.stages → IsSeen p vs moves s st bits j)
+    (stood : (k : ℕ) (t : Thread) → here p st bits k ≡ Some t → Stood st k t) (m : ℕ) where
   -- what a thread that moves does
   pub so_at : (k : ℕ) (t : Thread) → k < length p.stages → here p st bits k ≡ Some t → stage_moves p st bits k ≡ true → IsSo p k s (vs k).ended (deeds p st k t)
   so_at k t l h g = ((seen k l).follows t h).so (ready_of p st bits k t by l h g)
@@ -57,7 +60,9 @@ module _ (p : Pipe) (ls : Locks) (vs : ℕ → View) (moves : ℕ → Signal) (s
       ∙ ap₂ (λ x y. x ++ y) i (ap (λ b. if b then addresses_of m (reserved_in s rs) else []) (sym f) ∙ here') ∙ back)
       (λ (f : (t : Thread) × (here p st bits k ≡ Some t) × (stage_moves p st bits k ≡ true)).
       ap (λ ms. addresses m (ms ++ rest)) (one_mover p st bits k f.0 f.1 f.2)
-      ∙ ap₂ (λ x y. x ++ y) i (ap (addresses_of m) (so_at k f.0 l f.1 f.2).reserves ∙ ap (λ b. if b then addresses_of m (reserved_in s rs) else []) (sym f.2) ∙ here') ∙ back)
+      ∙ ap₂ (λ x y. x ++ y) i
+      (ap (addresses_of m) (so_at k f.0 l f.1 f.2).reserves ∙ ap (λ b. if b then addresses_of m (reserved_in s rs) else []) (sym f.2) ∙ here')
+      ∙ back)
       (moves_or_not p st bits k)
 
   fitting : (n k : ℕ) → k + n ≡ length p.stages → AreFitting s (all_reserves m vs moves n k)
@@ -80,19 +85,22 @@ module _ (p : Pipe) (ls : Locks) (vs : ℕ → View) (moves : ℕ → Signal) (s
       lets_stage s m (moves k) (stage_moves p st bits k) (seen k l).leaves (vs k).ended.lettings (release_signal m vs moves n (suc k)) (has_release m rest) i
       ∙ ap bit (⊎_elim
       (λ (f : stage_moves p st bits k ≡ false).
-      ap (λ b. (b && list_any (λ n. n == m) (let_in s (vs k).ended.lettings)) || has_release m rest) f ∙ ap (λ ms. has_release m (ms ++ rest)) (sym (no_mover p st bits k f)))
+      ap (λ b. (b && list_any (λ n. n == m) (let_in s (vs k).ended.lettings)) || has_release m rest) f
+      ∙ ap (λ ms. has_release m (ms ++ rest)) (sym (no_mover p st bits k f)))
       (λ (f : (t : Thread) × (here p st bits k ≡ Some t) × (stage_moves p st bits k ≡ true)).
       ap (λ b. (b && list_any (λ n. n == m) (let_in s (vs k).ended.lettings)) || has_release m rest) f.2
       ∙ ap (λ ns. list_any (λ n. n == m) ns || has_release m rest) (sym (so_at k f.0 l f.1 f.2).releases)
       ∙ ap (λ ms. has_release m (ms ++ rest)) (sym (one_mover p st bits k f.0 f.1 f.2)))
       (moves_or_not p st bits k))
 
-  room_from : (n k : ℕ) → k + n ≡ length p.stages → 1 ≤ length (addresses m (movers_from p st bits n k)) → locks.has_room (mem_at p m).lock (length (machine.lock_of st m)) ≡ true
+  room_from : (n k : ℕ) → k + n ≡ length p.stages → 1 ≤ length (addresses m (movers_from p st bits n k))
+      → locks.has_room (mem_at p m).lock (length (machine.lock_of st m)) ≡ true
   room_from zero k e l = absurd (omega (arith, l))
   room_from (suc n) k e l =
       let rest = movers_from p st bits n (suc k) in
       ⊎_elim
-      (λ (f : stage_moves p st bits k ≡ false). room_from n (suc k) (omega (arith, e)) (let e = ap (λ ms. length (addresses m (ms ++ rest))) (no_mover p st bits k f) in omega (arith, e, l)))
+      (λ (f : stage_moves p st bits k ≡ false). room_from n (suc k) (omega (arith, e))
+      (let e = ap (λ ms. length (addresses m (ms ++ rest))) (no_mover p st bits k f) in omega (arith, e, l)))
       (λ (f : (t : Thread) × (here p st bits k ≡ Some t) × (stage_moves p st bits k ≡ true)).
       let d = deeds p st k f.0 in
       let g = ap (λ ms. length (addresses m (ms ++ rest))) (one_mover p st bits k f.0 f.1 f.2) ∙ length-append (addresses m rest) (addresses_of m d.reserves) in
@@ -128,13 +136,17 @@ module _ (p : Pipe) (ls : Locks) (vs : ℕ → View) (moves : ℕ → Signal) (s
       let e = appended_is m (moving p st bits) es in
       let few = used.one m in
       ap (count_older t) e
-      ∙ same_count t 0 es new (subst (AreOrdered 0) e (used.ordered_next m)) (let n = new_count m (moving p st bits) in omega (arith, n, few)) (ap (has_thread t) (sym e) ∙ h)
+      ∙ same_count t 0 es new (subst (AreOrdered 0) e (used.ordered_next m))
+      (let n = new_count m (moving p st bits) in omega (arith, n, few)) (ap (has_thread t) (sym e) ∙ h)
 
   -- a thread that moves and writes has a pending write, and is in time
-  has_written : (k : ℕ) (t : Thread) → k < length p.stages → here p st bits k ≡ Some t → stage_moves p st bits k ≡ true → writes_to m (written_in s (vs k).ended.puts) ≡ true → (k ≤ commit_stage p m) × (has_thread t.number pending ≡ true)
+  has_written : (k : ℕ) (t : Thread) → k < length p.stages → here p st bits k ≡ Some t → stage_moves p st bits k ≡ true
+      → writes_to m (written_in s (vs k).ended.puts) ≡ true
+      → (k ≤ commit_stage p m) × (has_thread t.number pending ≡ true)
   has_written k t l h g w =
       let c = write_among m (written_in s (vs k).ended.puts) w in
-      used.writer k t m c.0 h g (let P : List Written → Type 0 = λ ws. Contains ws (record { mem = m; value = c.0 }) in subst P (sym (so_at k t l h g).writes) c.1)
+      used.writer k t m c.0 h g
+      (let P : List Written → Type 0 = λ ws. Contains ws (record { mem = m; value = c.0 }) in subst P (sym (so_at k t l h g).writes) c.1)
 
   module _ (e : is_locked p m ≡ true) (stand : StandsLock p ls vs s st m) (gates : Gates) (squashed : IsSquashed p ls vs gates s st bits) where
     abbrev base : ℕ
@@ -169,7 +181,9 @@ module _ (p : Pipe) (ls : Locks) (vs : ℕ → View) (moves : ℕ → Signal) (s
     driven (suc n) k e =
         let l : k < length p.stages = omega (arith, e) in
         let xs = (vs k).ended.puts in
-        driven_append (ls.bits m) s (acts_of n (suc k)) (write_acts s m (stage_moves p st bits k) (base + older_of (here p st bits k)) xs) (all_puts m vs moves n (suc k)) (puts_to m (moves k) ((vs k).tickets m) xs)
+        driven_append (ls.bits m) s (acts_of n (suc k))
+        (write_acts s m (stage_moves p st bits k) (base + older_of (here p st bits k)) xs)
+        (all_puts m vs moves n (suc k)) (puts_to m (moves k) ((vs k).tickets m) xs)
         (driven n (suc k) (omega (arith, e)))
         (driven_stage (ls.bits m) s m (base + older_of (here p st bits k)) (moves k) ((vs k).tickets m) (stage_moves p st bits k) xs (seen k l).leaves
         (λ g. at (moves_or_not p st bits k) g (λ t h g. (so_at k t l h g).bits))
@@ -177,9 +191,15 @@ module _ (p : Pipe) (ls : Locks) (vs : ℕ → View) (moves : ℕ → Signal) (s
         let low = (has_written k t l h g w).0 in
         let P : Option Thread → Type 0 = λ o. holds_ticket (ls.bits m) ((vs k).tickets m) s (base + older_of o) in
         let u = stood k t h in
-        subst P (sym h) (subst (λ n. holds_ticket (ls.bits m) ((vs k).tickets m) s (base + count_older n (machine.lock_of st m))) u.number (stand.tickets k u.thread u.slot low)))))
+        subst P (sym h)
+        (subst
+        (λ n. holds_ticket (ls.bits m) ((vs k).tickets m) s (base + count_older n (machine.lock_of st m))) u.number
+        (stand.tickets k u.thread u.slot low)))))
       where
-        at : {R : Type 0} → (stage_moves p st bits k ≡ false) ⊎ ((t : Thread) × (here p st bits k ≡ Some t) × (stage_moves p st bits k ≡ true)) → stage_moves p st bits k ≡ true → ((t : Thread) → here p st bits k ≡ Some t → stage_moves p st bits k ≡ true → R) → R
+        at : {R : Type 0}
+            → (stage_moves p st bits k ≡ false) ⊎ ((t : Thread) × (here p st bits k ≡ Some t) × (stage_moves p st bits k ≡ true))
+            → stage_moves p st bits k ≡ true
+            → ((t : Thread) → here p st bits k ≡ Some t → stage_moves p st bits k ≡ true → R) → R
         at (inl f) g h = absurd (false≢true (sym f ∙ g))
         at (inr f) g h = h f.0 f.1 f.2
 
@@ -202,7 +222,9 @@ module _ (p : Pipe) (ls : Locks) (vs : ℕ → View) (moves : ℕ → Signal) (s
         }
 
     -- the writes of these stages go into pending writes
-    pub all_written : (n k : ℕ) → k + n ≡ length p.stages → (forgotten_entries (with_all_writes m (movers_from p st bits n k) pending) ≡ with_writes base (acts_of n k) (forgotten_entries pending)) × IsAlike (with_all_writes m (movers_from p st bits n k) pending) pending
+    pub all_written : (n k : ℕ) → k + n ≡ length p.stages
+        → (forgotten_entries (with_all_writes m (movers_from p st bits n k) pending) ≡ with_writes base (acts_of n k) (forgotten_entries pending))
+        × IsAlike (with_all_writes m (movers_from p st bits n k) pending) pending
     all_written zero k e = (refl, alike pending (used.ordered_next m))
     all_written (suc n) k e =
         let l : k < length p.stages = omega (arith, e) in
@@ -212,7 +234,9 @@ module _ (p : Pipe) (ls : Locks) (vs : ℕ → View) (moves : ℕ → Signal) (s
         let xs = (vs k).ended.puts in
         let now = written_append base (acts_of n (suc k)) (write_acts s m (stage_moves p st bits k) ticket xs) (forgotten_entries pending) in
         let before = with_writes base (acts_of n (suc k)) (forgotten_entries pending) in
-        let P : List Mover → Type 0 = λ ms. (forgotten_entries (with_all_writes m (ms ++ rest) pending) ≡ with_writes base (acts_of (suc n) k) (forgotten_entries pending)) × IsAlike (with_all_writes m (ms ++ rest) pending) pending in
+        let P : List Mover → Type 0 =
+        λ ms. (forgotten_entries (with_all_writes m (ms ++ rest) pending) ≡ with_writes base (acts_of (suc n) k) (forgotten_entries pending))
+        × IsAlike (with_all_writes m (ms ++ rest) pending) pending in
         ⊎_elim
         (λ (f : stage_moves p st bits k ≡ false).
         subst P (sym (no_mover p st bits k f)) (
@@ -228,7 +252,9 @@ module _ (p : Pipe) (ls : Locks) (vs : ℕ → View) (moves : ℕ → Signal) (s
           ap (λ o. base + older_of o) f.1 ∙ ap (λ c. base + c) (sym (older_same t has)),
         )) in
         let writes = (so_at k f.0 l f.1 f.2).writes in
-        let Q : List Written → Type 0 = λ ws. (forgotten_entries (with_writes_of m t ws es) ≡ with_writes base (write_acts s m true ticket xs) (forgotten_entries es)) × IsAlike (with_writes_of m t ws es) pending in
+        let Q : List Written → Type 0 =
+        λ ws. (forgotten_entries (with_writes_of m t ws es) ≡ with_writes base (write_acts s m true ticket xs) (forgotten_entries es))
+        × IsAlike (with_writes_of m t ws es) pending in
         let q = subst Q (sym writes) j in
         subst P (sym (one_mover p st bits k f.0 f.1 f.2)) (
           q.0 ∙ ap (with_writes base (write_acts s m true ticket xs)) i.0 ∙ ap (λ b. with_writes base (write_acts s m b ticket xs) before) (sym f.2) ∙ sym now,
@@ -245,19 +271,29 @@ module _ (p : Pipe) (ls : Locks) (vs : ℕ → View) (moves : ℕ → Signal) (s
     within_append high [] bs h i = i
     within_append high (a ∷ as') bs h i = (h.0, within_append high as' bs h.1 i)
 
-    within_at : (high : ℕ) (as' : List WriteAct) → AreWithin high as' → (k : ℕ) → k < length as' → (lock.act_at as' k).on ≡ true → (base ≤ (lock.act_at as' k).ticket) × ((lock.act_at as' k).ticket < high)
+    within_at : (high : ℕ) (as' : List WriteAct) → AreWithin high as' → (k : ℕ) → k < length as'
+        → (lock.act_at as' k).on ≡ true → (base ≤ (lock.act_at as' k).ticket) × ((lock.act_at as' k).ticket < high)
     within_at high [] h k l o = absurd (omega arith)
     within_at high (a ∷ as') h zero l o = h.0 o
     within_at high (a ∷ as') h (suc k) l o = within_at high as' h.1 k (omega arith) o
 
-    within_stage : (high : ℕ) (g : Bool) (ticket : ℕ) (xs : List Put) → (g ≡ true → writes_to m (written_in s xs) ≡ true → (base ≤ ticket) × (ticket < high)) → AreWithin high (write_acts s m g ticket xs)
+    within_stage : (high : ℕ) (g : Bool) (ticket : ℕ) (xs : List Put)
+        → (g ≡ true → writes_to m (written_in s xs) ≡ true → (base ≤ ticket) × (ticket < high))
+        → AreWithin high (write_acts s m g ticket xs)
     within_stage high g ticket [] h = tt
     within_stage high g ticket (x ∷ xs) h = at (is_on x.on s) refl (x.mem == m) refl h (λ f. within_stage high g ticket xs f)
       where
-        at : (o : Bool) → is_on x.on s ≡ o → (c : Bool) → (x.mem == m) ≡ c → (g ≡ true → writes_to m (if o then record { mem = x.mem; value = x.value.value s } ∷ written_in s xs else written_in s xs) ≡ true → (base ≤ ticket) × (ticket < high))
+        at : (o : Bool) → is_on x.on s ≡ o → (c : Bool) → (x.mem == m) ≡ c
+            → (g ≡ true
+            → writes_to m (if o then record { mem = x.mem; value = x.value.value s } ∷ written_in s xs else written_in s xs) ≡ true
+            → (base ≤ ticket) × (ticket < high))
             → ((g ≡ true → writes_to m (written_in s xs) ≡ true → (base ≤ ticket) × (ticket < high)) → AreWithin high (write_acts s m g ticket xs))
-            → AreWithin high (if c then record { on = g && is_on x.on s; ticket = ticket; value = x.value.value s } ∷ write_acts s m g ticket xs else write_acts s m g ticket xs)
-        at true f true i h rest = let k = ap (λ c. if c then true else writes_to m (written_in s xs)) i in ((λ z. h (and_parts g (is_on x.on s) z).0 k), rest (λ z y. h z k))
+            → AreWithin high
+            (if c
+            then record { on = g && is_on x.on s; ticket = ticket; value = x.value.value s } ∷ write_acts s m g ticket xs
+            else write_acts s m g ticket xs)
+        at true f true i h rest = let k = ap (λ c. if c then true else writes_to m (written_in s xs)) i in
+            ((λ z. h (and_parts g (is_on x.on s) z).0 k), rest (λ z y. h z k))
         at true f false i h rest = rest (λ z y. h z (ap (λ c. if c then true else writes_to m (written_in s xs)) i ∙ y))
         at false f true i h rest = ((λ z. absurd (false≢true (sym f ∙ (and_parts g (is_on x.on s) z).1))), rest h)
         at false f false i h rest = rest h
@@ -265,7 +301,8 @@ module _ (p : Pipe) (ls : Locks) (vs : ℕ → View) (moves : ℕ → Signal) (s
     all_within : (n k : ℕ) → k + n ≡ length p.stages → AreWithin (base + length pending) (acts_of n k)
     all_within zero k e = tt
     all_within (suc n) k e =
-        within_append (base + length pending) (acts_of n (suc k)) (write_acts s m (stage_moves p st bits k) (base + older_of (here p st bits k)) (vs k).ended.puts)
+        within_append (base + length pending) (acts_of n (suc k))
+        (write_acts s m (stage_moves p st bits k) (base + older_of (here p st bits k)) (vs k).ended.puts)
         (all_within n (suc k) (omega (arith, e)))
         (within_stage (base + length pending) (stage_moves p st bits k) (base + older_of (here p st bits k)) (vs k).ended.puts
         (λ g w. elim (moves_or_not p st bits k) [
@@ -305,7 +342,9 @@ module _ (p : Pipe) (ls : Locks) (vs : ℕ → View) (moves : ℕ → Signal) (s
     tail_high None = omega arith
     tail_high (Some n) =
         let two = (all_written (length p.stages) 0 (omega arith)).1.long in
-        let three = three_long (has_release m (moving p st bits)) (list_two st (moving p st bits) m) (λ g. let r = ap length (used.releaser m g).3 in omega (arith, r)) in
+        let three =
+        three_long (has_release m (moving p st bits)) (list_two st (moving p st bits) m)
+        (λ g. let r = ap length (used.releaser m g).3 in omega (arith, r)) in
         let few = ticket_covered (suc n) (list_three st (moving p st bits) m) in
         omega (arith, two, three, few)
 
@@ -321,7 +360,9 @@ module _ (p : Pipe) (ls : Locks) (vs : ℕ → View) (moves : ℕ → Signal) (s
           one = used.one m;
           room = ⊎_elim
               (λ (i : 0 < length (addresses m ms)).
-              let room = room_there (ls.kind m) (length es) (ls.size m) (ap (λ l. locks.has_room l (length es)) (sym kind) ∙ room_from (length p.stages) 0 (omega arith) (omega (arith, i))) in
+              let room =
+              room_there (ls.kind m) (length es) (ls.size m)
+              (ap (λ l. locks.has_room l (length es)) (sym kind) ∙ room_from (length p.stages) 0 (omega arith) (omega (arith, i))) in
               let one = used.one m in
               omega (arith, long, room, one))
               (λ (i : length (addresses m ms) ≤ 0). omega (arith, long, few, i))

@@ -28,7 +28,9 @@ pub asked_append : (s : State) (xs ys : List ReserveSignal) → asked_addresses 
 asked_append s [] ys = refl
 asked_append s (x ∷ xs) ys = at (x.enable.value s == 1) (asked_append s xs ys)
   where
-    at : (b : Bool) → asked_addresses s (xs ++ ys) ≡ asked_addresses s xs ++ asked_addresses s ys → (if b then x.addr.value s ∷ asked_addresses s (xs ++ ys) else asked_addresses s (xs ++ ys)) ≡ (if b then x.addr.value s ∷ asked_addresses s xs else asked_addresses s xs) ++ asked_addresses s ys
+    at : (b : Bool) → asked_addresses s (xs ++ ys) ≡ asked_addresses s xs ++ asked_addresses s ys
+        → (if b then x.addr.value s ∷ asked_addresses s (xs ++ ys) else asked_addresses s (xs ++ ys))
+        ≡ (if b then x.addr.value s ∷ asked_addresses s xs else asked_addresses s xs) ++ asked_addresses s ys
     at true e = ap (λ l. x.addr.value s ∷ l) e
     at false e = e
 
@@ -45,8 +47,12 @@ asked_stage s m moves true e [] = refl
 asked_stage s m moves false e [] = refl
 asked_stage s m moves false e (r ∷ rs) = at (r.mem == m) (asked_stage s m moves false e rs)
   where
-    at : (b : Bool) → [] ≡ asked_addresses s (reserves_to m moves rs) → [] ≡ asked_addresses s (if b then record { enable = both moves r.on; addr = r.addr } ∷ reserves_to m moves rs else reserves_to m moves rs)
-    at true i = i ∙ ap (λ t. if t then r.addr.value s ∷ asked_addresses s (reserves_to m moves rs) else asked_addresses s (reserves_to m moves rs)) (sym (both_is s moves r.on false e))
+    at : (b : Bool) → [] ≡ asked_addresses s (reserves_to m moves rs)
+        → [] ≡ asked_addresses s (if b then record { enable = both moves r.on; addr = r.addr } ∷ reserves_to m moves rs else reserves_to m moves rs)
+    at true i =
+        i
+        ∙ ap (λ t. if t then r.addr.value s ∷ asked_addresses s (reserves_to m moves rs) else asked_addresses s (reserves_to m moves rs))
+        (sym (both_is s moves r.on false e))
     at false i = i
 asked_stage s m moves true e (r ∷ rs) = at (is_on r.on s) (both_is s moves r.on true e) (asked_stage s m moves true e rs)
   where
@@ -54,10 +60,13 @@ asked_stage s m moves true e (r ∷ rs) = at (is_on r.on s) (both_is s moves r.o
     rest = reserves_to m moves rs
 
     at : (o : Bool) → ((both moves r.on).value s == 1) ≡ o → addresses_of m (reserved_in s rs) ≡ asked_addresses s rest
-        → addresses_of m (if o then record { mem = r.mem; address = r.addr.value s } ∷ reserved_in s rs else reserved_in s rs) ≡ asked_addresses s (if r.mem == m then record { enable = both moves r.on; addr = r.addr } ∷ rest else rest)
+        → addresses_of m (if o then record { mem = r.mem; address = r.addr.value s } ∷ reserved_in s rs else reserved_in s rs)
+        ≡ asked_addresses s (if r.mem == m then record { enable = both moves r.on; addr = r.addr } ∷ rest else rest)
     at true f i = by (r.mem == m)
       where
-        by : (b : Bool) → (if b then r.addr.value s ∷ [] else []) ++ addresses_of m (reserved_in s rs) ≡ asked_addresses s (if b then record { enable = both moves r.on; addr = r.addr } ∷ rest else rest)
+        by : (b : Bool)
+            → (if b then r.addr.value s ∷ [] else []) ++ addresses_of m (reserved_in s rs)
+            ≡ asked_addresses s (if b then record { enable = both moves r.on; addr = r.addr } ∷ rest else rest)
         by true = ap (λ l. r.addr.value s ∷ l) i ∙ ap (λ t. if t then r.addr.value s ∷ asked_addresses s rest else asked_addresses s rest) (sym f)
         by false = i
     at false f i = by (r.mem == m)
@@ -96,7 +105,8 @@ fitting_stage s m moves g e (r ∷ rs) h = at (fitting_stage s m moves g e rs (�
         let parts = and_parts g (is_on r.on s) both_on in
         (h parts.0).0 parts.1
 
-    at : AreFitting s (reserves_to m moves rs) → (b : Bool) → AreFitting s (if b then record { enable = both moves r.on; addr = r.addr } ∷ reserves_to m moves rs else reserves_to m moves rs)
+    at : AreFitting s (reserves_to m moves rs) → (b : Bool)
+        → AreFitting s (if b then record { enable = both moves r.on; addr = r.addr } ∷ reserves_to m moves rs else reserves_to m moves rs)
     at i true = (made, i)
     at i false = i
 
@@ -108,8 +118,12 @@ lets_stage s m moves true e [] rest b h = h
 lets_stage s m moves false e [] rest b h = h
 lets_stage s m moves false e (l ∷ ls) rest b h = at (l.mem == m) (lets_stage s m moves false e ls rest b h)
   where
-    at : (t : Bool) → (release_moves m moves ls rest).value s ≡ bit b → (if t then mux_signal (both moves l.on) one (release_moves m moves ls rest) else release_moves m moves ls rest).value s ≡ bit b
-    at true i = mux_by s (both moves l.on) one (release_moves m moves ls rest) ∙ ap (λ t. if t then one.value s else (release_moves m moves ls rest).value s) (both_is s moves l.on false e) ∙ i
+    at : (t : Bool) → (release_moves m moves ls rest).value s ≡ bit b
+        → (if t then mux_signal (both moves l.on) one (release_moves m moves ls rest) else release_moves m moves ls rest).value s ≡ bit b
+    at true i =
+        mux_by s (both moves l.on) one (release_moves m moves ls rest)
+        ∙ ap (λ t. if t then one.value s else (release_moves m moves ls rest).value s) (both_is s moves l.on false e)
+        ∙ i
     at false i = i
 lets_stage s m moves true e (l ∷ ls) rest b h = at (is_on l.on s) (both_is s moves l.on true e) (lets_stage s m moves true e ls rest b h)
   where
@@ -119,7 +133,9 @@ lets_stage s m moves true e (l ∷ ls) rest b h = at (is_on l.on s) (both_is s m
     left : Bool
     left = list_any (λ n. n == m) (let_in s ls)
 
-    at : (o : Bool) → ((both moves l.on).value s == 1) ≡ o → more.value s ≡ bit (left || b) → (if l.mem == m then mux_signal (both moves l.on) one more else more).value s ≡ bit (list_any (λ n. n == m) (if o then l.mem ∷ let_in s ls else let_in s ls) || b)
+    at : (o : Bool) → ((both moves l.on).value s == 1) ≡ o → more.value s ≡ bit (left || b)
+        → (if l.mem == m then mux_signal (both moves l.on) one more else more).value s
+        ≡ bit (list_any (λ n. n == m) (if o then l.mem ∷ let_in s ls else let_in s ls) || b)
     at true f i = by (l.mem == m)
       where
         by : (t : Bool) → (if t then mux_signal (both moves l.on) one more else more).value s ≡ bit ((t || left) || b)
@@ -172,7 +188,8 @@ pub driven_stage : (w : ℕ) (s : State) (m number : ℕ) (moves ticket : Signal
     → (g ≡ true → writes_to m (written_in s xs) ≡ true → holds_ticket w ticket s number)
     → AreDriven w s (write_acts s m g number xs) (puts_to m moves ticket xs)
 driven_stage w s m number moves ticket g [] e b h = tt
-driven_stage w s m number moves ticket g (x ∷ xs) e b h = at (is_on x.on s) refl (x.mem == m) refl (h) (λ f. driven_stage w s m number moves ticket g xs e (λ z. (b z).1) f)
+driven_stage w s m number moves ticket g (x ∷ xs) e b h =
+    at (is_on x.on s) refl (x.mem == m) refl (h) (λ f. driven_stage w s m number moves ticket g xs e (λ z. (b z).1) f)
   where
     Tail : Type 0
     Tail = AreDriven w s (write_acts s m g number xs) (puts_to m moves ticket xs)
@@ -180,9 +197,14 @@ driven_stage w s m number moves ticket g (x ∷ xs) e b h = at (is_on x.on s) re
     on : (both moves x.on).value s ≡ bit (g && is_on x.on s)
     on = both_at s moves x.on g (is_on x.on s) e (λ z. (b z).0)
 
-    at : (o : Bool) → is_on x.on s ≡ o → (c : Bool) → (x.mem == m) ≡ c → (g ≡ true → writes_to m (if o then record { mem = x.mem; value = x.value.value s } ∷ written_in s xs else written_in s xs) ≡ true → holds_ticket w ticket s number)
+    at : (o : Bool) → is_on x.on s ≡ o → (c : Bool) → (x.mem == m) ≡ c
+        → (g ≡ true
+        → writes_to m (if o then record { mem = x.mem; value = x.value.value s } ∷ written_in s xs else written_in s xs) ≡ true
+        → holds_ticket w ticket s number)
         → ((g ≡ true → writes_to m (written_in s xs) ≡ true → holds_ticket w ticket s number) → Tail)
-        → AreDriven w s (if c then record { on = g && is_on x.on s; ticket = number; value = x.value.value s } ∷ write_acts s m g number xs else write_acts s m g number xs) (if c then record { enable = both moves x.on; ticket = ticket; value = x.value } ∷ puts_to m moves ticket xs else puts_to m moves ticket xs)
+        → AreDriven w s
+        (if c then record { on = g && is_on x.on s; ticket = number; value = x.value.value s } ∷ write_acts s m g number xs else write_acts s m g number xs)
+        (if c then record { enable = both moves x.on; ticket = ticket; value = x.value } ∷ puts_to m moves ticket xs else puts_to m moves ticket xs)
     at true f true i h rest = (
       record { on = on; ticket = λ z. h (and_parts g (is_on x.on s) z).0 (ap (λ c. if c then true else writes_to m (written_in s xs)) i); value = refl },
       rest (λ z y. h z (ap (λ c. if c then true else writes_to m (written_in s xs)) i)),
@@ -206,8 +228,10 @@ room_of q st m (r ∷ rs) h l =
     let parts = and_parts (test r) (list_all test rs) h in
     at (λ i. room_of q st m rs parts.1 i) parts.0 (r.mem == m) refl l
   where
-    at : (1 ≤ length (addresses_of m rs) → locks.has_room (mem_at q m).lock (length (machine.lock_of st m)) ≡ true) → locks.has_room (mem_at q r.mem).lock (length (machine.lock_of st r.mem)) ≡ true
-        → (b : Bool) → (r.mem == m) ≡ b → 1 ≤ length ((if b then r.address ∷ [] else []) ++ addresses_of m rs) → locks.has_room (mem_at q m).lock (length (machine.lock_of st m)) ≡ true
+    at : (1 ≤ length (addresses_of m rs) → locks.has_room (mem_at q m).lock (length (machine.lock_of st m)) ≡ true)
+        → locks.has_room (mem_at q r.mem).lock (length (machine.lock_of st r.mem)) ≡ true
+        → (b : Bool) → (r.mem == m) ≡ b → 1 ≤ length ((if b then r.address ∷ [] else []) ++ addresses_of m rs)
+        → locks.has_room (mem_at q m).lock (length (machine.lock_of st m)) ≡ true
     at rest here true e i = ap (λ n. locks.has_room (mem_at q n).lock (length (machine.lock_of st n))) (sym (eqb-true r.mem m e)) ∙ here
     at rest here false e i = rest i
 
@@ -216,7 +240,8 @@ pub moves_or_not : (p : Pipe) (st : machine.State) (bits : List Bool) (k : ℕ)
     → (stage_moves p st bits k ≡ false) ⊎ ((t : Thread) × (here p st bits k ≡ Some t) × (stage_moves p st bits k ≡ true))
 moves_or_not p st bits k = at (stage_moves p st bits k) (here p st bits k) refl refl
   where
-    at : (b : Bool) (o : Option Thread) → stage_moves p st bits k ≡ b → here p st bits k ≡ o → (stage_moves p st bits k ≡ false) ⊎ ((t : Thread) × (here p st bits k ≡ Some t) × (stage_moves p st bits k ≡ true))
+    at : (b : Bool) (o : Option Thread) → stage_moves p st bits k ≡ b → here p st bits k ≡ o
+        → (stage_moves p st bits k ≡ false) ⊎ ((t : Thread) × (here p st bits k ≡ Some t) × (stage_moves p st bits k ≡ true))
     at false o e h = inl e
     at true (Some t) e h = inr (t, h, e)
     at true None e h = absurd (false≢true (sym (ap (slot_moves p st bits k) h) ∙ e))

@@ -119,7 +119,11 @@ few_by true [] n h = h
 few_by true (e ∷ es) n h = omega (arith, h)
 few_by false es n h = h
 
-module _ (p : Pipe) (ls : Locks) (vs : ℕ → View) (moves : ℕ → Signal) (s : State) (st : machine.State) (bits : List Bool) (by : IsByStages p st bits) (used : IsInUse p st bits) (seen : (j : ℕ) → j < length p.stages → IsSeen p vs moves s st bits j) (stood : (k : ℕ) (t : Thread) → here p st bits k ≡ Some t → Stood st k t) (m : ℕ) (locked : is_locked p m ≡ true) (stand : StandsLock p ls vs s st m) (gates : Gates) (squashed : IsSquashed p ls vs gates s st bits) where
+module _ (p : Pipe) (ls : Locks) (vs : ℕ → View) (moves : ℕ → Signal) (s : State) (st : machine.State)
+    (bits : List Bool) (by : IsByStages p st bits) (used : IsInUse p st bits)
+    (seen : (j : ℕ) → j < length p.stages → IsSeen p vs moves s st bits j)
+    (stood : (k : ℕ) (t : Thread) → here p st bits k ≡ Some t → Stood st k t) (m : ℕ) (locked : is_locked p m ≡ true)
+    (stand : StandsLock p ls vs s st m) (gates : Gates) (squashed : IsSquashed p ls vs gates s st bits) where
   abbrev ms : List Mover
   ms = moving p st bits
 
@@ -152,19 +156,41 @@ module _ (p : Pipe) (ls : Locks) (vs : ℕ → View) (moves : ℕ → Signal) (s
   take_same : (base b c d : ℕ) (xs : List Entry) → c ≡ d → take (base + b + c - (base + b)) xs ≡ take d xs
   take_same base b c d xs e = ap (λ n. take n xs) (let z : base + b + c - (base + b) ≡ d = omega (arith, e) in z)
 
-  left_is : (q : Option ℕ) → (if is_some q then take (tail_with p ls vs moves s st bits by used seen stood m locked stand gates squashed q - (stand.base + bit (has_release m ms))) (forgotten_entries (list_three st ms m)) else forgotten_entries (list_three st ms m)) ≡ forgotten_entries (entries_left q (list_three st ms m))
+  left_is : (q : Option ℕ)
+      → (if is_some q
+      then take (tail_with p ls vs moves s st bits by used seen stood m locked stand gates squashed q - (stand.base + bit (has_release m ms)))
+      (forgotten_entries (list_three st ms m))
+      else forgotten_entries (list_three st ms m))
+      ≡ forgotten_entries (entries_left q (list_three st ms m))
   left_is None = ap forgotten_entries (sym (entries_all (list_three st ms m)))
   left_is (Some n) =
-      let o = ordered_three (has_release m ms) (list_two st ms m) (all_written p ls vs moves s st bits by used seen stood m locked stand gates squashed (length p.stages) 0 (omega arith)).1.ordered in
-      take_same stand.base (bit (has_release m ms)) (count_older (suc n) (list_three st ms m)) (count_older (n + 1) (list_three st ms m)) (forgotten_entries (list_three st ms m)) (ap (λ k. count_older k (list_three st ms m)) (let z : suc n ≡ n + 1 = omega arith in z))
+      let o =
+      ordered_three (has_release m ms) (list_two st ms m)
+      (all_written p ls vs moves s st bits by used seen stood m locked stand gates squashed (length p.stages) 0 (omega arith)).1.ordered in
+      take_same stand.base (bit (has_release m ms)) (count_older (suc n) (list_three st ms m))
+      (count_older (n + 1) (list_three st ms m)) (forgotten_entries (list_three st ms m))
+      (ap (λ k. count_older k (list_three st ms m)) (let z : suc n ≡ n + 1 = omega arith in z))
       ∙ sym (same_squash o.0 n (list_three st ms m) o.1)
 
   abbrev cut : LockState → LockState
-  cut x = record { base = x.base; entries = if is_some (squasher ms) then take (tail_with p ls vs moves s st bits by used seen stood m locked stand gates squashed (squasher ms) - x.base) x.entries else x.entries; words = x.words }
+  cut x =
+      record {
+        base = x.base;
+        entries =
+            if is_some (squasher ms)
+            then take (tail_with p ls vs moves s st bits by used seen stood m locked stand gates squashed (squasher ms) - x.base) x.entries
+            else x.entries;
+        words = x.words;
+      }
 
-  step_is : step (lock_state_of stand.base (machine.lock_of st m) stand.words) (act_of p ls vs moves s st bits by used seen stood m locked stand gates squashed) ≡ lock_state_of (stand.base + bit (has_release m ms)) left words_next
+  step_is : step (lock_state_of stand.base (machine.lock_of st m) stand.words) (act_of p ls vs moves s st bits by used seen stood m locked stand gates squashed)
+      ≡ lock_state_of (stand.base + bit (has_release m ms)) left words_next
   step_is =
-      ap cut (step_by (has_release m ms) stand.base (lock.filled_entries (lock_state_of stand.base (machine.lock_of st m) stand.words) (act_of p ls vs moves s st bits by used seen stood m locked stand gates squashed)) (list_two st ms m) stand.words (filled_is p ls vs moves s st bits by used seen stood m locked stand gates squashed))
+      ap cut
+      (step_by (has_release m ms) stand.base
+      (lock.filled_entries (lock_state_of stand.base (machine.lock_of st m) stand.words)
+      (act_of p ls vs moves s st bits by used seen stood m locked stand gates squashed))
+      (list_two st ms m) stand.words (filled_is p ls vs moves s st bits by used seen stood m locked stand gates squashed))
       ∙ ap (λ (es : List Entry). record { base = stand.base + bit (has_release m ms); entries = es; words = words_next }) (left_is (squasher ms))
 
   fewer : (q : Option ℕ) (es : List Pending) → length (entries_left q es) ≤ length es
@@ -187,7 +213,8 @@ module _ (p : Pipe) (ls : Locks) (vs : ℕ → View) (moves : ℕ → Signal) (s
         let three = few_by (has_release m ms) (list_two st ms m) (ls.size m) (omega (arith, room, long, count, same)) in
         omega (arith, cut, three)
 
-    module _ (own : Own) (c : Circuit) (commit : Commit) (law : StepLaw (ls.stands m) (ls.size m) (ls.bits m) own c (step_of p vs gates moves m) commit.enable commit.addr commit.value) where
+    module _ (own : Own) (c : Circuit) (commit : Commit)
+        (law : StepLaw (ls.stands m) (ls.size m) (ls.bits m) own c (step_of p vs gates moves m) commit.enable commit.addr commit.value) where
       -- the commit ports show what the machine takes out
       pub commit_is : commit.enable.value s ∷ commit.addr.value s ∷ commit.value.value s ∷ [] ≡ commit_shows (taken_out st ms m)
       commit_is =
@@ -195,8 +222,10 @@ module _ (p : Pipe) (ls : Locks) (vs : ℕ → View) (moves : ℕ → Signal) (s
           let a = act_of p ls vs moves s st bits by used seen stood m locked stand gates squashed in
           let d = drives p ls vs moves s st bits by used seen stood m locked stand gates squashed in
           let q = proper p ls vs moves s st bits by used seen stood m locked stand gates squashed kind in
-          ap₂ (λ u v. u ∷ v) (law.commits s x a stand.stands d q) (ap₂ (λ u v. u ∷ v ∷ []) (law.commits_addr s x a stand.stands d q) (law.commits_value s x a stand.stands d q))
-          ∙ commit_by (has_release m ms) (lock.filled_entries x a) (list_two st ms m) some_left (filled_is p ls vs moves s st bits by used seen stood m locked stand gates squashed)
+          ap₂ (λ u v. u ∷ v) (law.commits s x a stand.stands d q)
+          (ap₂ (λ u v. u ∷ v ∷ []) (law.commits_addr s x a stand.stands d q) (law.commits_value s x a stand.stands d q))
+          ∙ commit_by (has_release m ms) (lock.filled_entries x a)
+          (list_two st ms m) some_left (filled_is p ls vs moves s st bits by used seen stood m locked stand gates squashed)
 
       -- the next state stands for the next pending writes and words
       pub stands_next : (t : State) → IsNext c own s t → ls.stands m t (lock_state_of (stand.base + bit (has_release m ms)) left words_next)

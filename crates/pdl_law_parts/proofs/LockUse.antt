@@ -40,7 +40,9 @@ same_count t u (e ∷ es) fs o l h = ⊎_elim
     ] in
     rw (lt-ltb e.thread t n) (ap suc (same_count t (e.thread + 1) es fs o.1 l k)))
     (λ (n : t ≤ e.thread).
-    rw (le-ltb e.thread t n) (none_older t (e.thread + 1) (es ++ fs) o.1 (omega arith) ∙ sym (none_older t (e.thread + 1) es (ordered_front (e.thread + 1) es fs o.1) (omega arith))))
+    rw (le-ltb e.thread t n)
+    (none_older t (e.thread + 1) (es ++ fs) o.1 (omega arith)
+    ∙ sym (none_older t (e.thread + 1) es (ordered_front (e.thread + 1) es fs o.1) (omega arith))))
     (cases_lt e.thread t)
 
 -- a list of pending writes with the same threads as another one
@@ -87,7 +89,9 @@ all_new m (a ∷ ms) = all_new m ms ++ new_entries m a.thread.number a.does.rese
 -- what a cycle reserves comes after the pending writes that are there
 pub appended_is : (m : ℕ) (ms : List Act) (es : List Pending) → with_reserves m ms es ≡ es ++ all_new m ms
 appended_is m [] es = sym (append-nil es)
-appended_is m (a ∷ ms) es = ap (λ l. l ++ new_entries m a.thread.number a.does.reserves) (appended_is m ms es) ∙ append_assoc es (all_new m ms) (new_entries m a.thread.number a.does.reserves)
+appended_is m (a ∷ ms) es =
+    ap (λ l. l ++ new_entries m a.thread.number a.does.reserves) (appended_is m ms es)
+    ∙ append_assoc es (all_new m ms) (new_entries m a.thread.number a.does.reserves)
 
 -- threads that move add as many pending writes as they reserve addresses
 pub new_count : (m : ℕ) (ms : List Act) → length (all_new m ms) ≡ length (addresses m ms)
@@ -111,7 +115,8 @@ pub write_among : (m : ℕ) (xs : List Written) → writes_to m xs ≡ true → 
 write_among m [] w = absurd (false≢true w)
 write_among m (x ∷ xs) w = at (λ g. write_among m xs g) (x.mem == m) refl w
   where
-    at : (writes_to m xs ≡ true → (v : ℕ) × Contains xs (record { mem = m; value = v })) → (b : Bool) → (x.mem == m) ≡ b → (if b then true else writes_to m xs) ≡ true
+    at : (writes_to m xs ≡ true → (v : ℕ) × Contains xs (record { mem = m; value = v })) → (b : Bool) → (x.mem == m) ≡ b
+        → (if b then true else writes_to m xs) ≡ true
         → (v : ℕ) × Contains (x ∷ xs) (record { mem = m; value = v })
     at rest true e w = (x.value, (0, omega arith, ap (λ n. record { mem = n; value = x.value }) (eqb-true x.mem m e)))
     at rest false e w = let i = rest w in (i.0, (suc i.1.0, omega (arith, i.1.1), i.1.2))
@@ -119,7 +124,10 @@ write_among m (x ∷ xs) w = at (λ g. write_among m xs g) (x.mem == m) refl w
 -- what write ports do with these writes, where this tells whether their thread moves
 abbrev pub write_acts : State → ℕ → Bool → ℕ → List Put → List WriteAct
 write_acts s m goes ticket [] = []
-write_acts s m goes ticket (x ∷ xs) = if x.mem == m then record { on = goes && is_on x.on s; ticket = ticket; value = x.value.value s } ∷ write_acts s m goes ticket xs else write_acts s m goes ticket xs
+write_acts s m goes ticket (x ∷ xs) =
+    if x.mem == m
+    then record { on = goes && is_on x.on s; ticket = ticket; value = x.value.value s } ∷ write_acts s m goes ticket xs
+    else write_acts s m goes ticket xs
 
 -- writes of two lists are made one list after the other
 pub written_append : (base : ℕ) (xs ys : List WriteAct) (es : List lock.Entry)
@@ -133,7 +141,10 @@ pub none_written : (s : State) (m base ticket : ℕ) (xs : List Put) (es : List 
 none_written s m base ticket [] es = refl
 none_written s m base ticket (x ∷ xs) es = at (none_written s m base ticket xs es) (x.mem == m)
   where
-    at : with_writes base (write_acts s m false ticket xs) es ≡ es → (b : Bool) → with_writes base (if b then record { on = false; ticket = ticket; value = x.value.value s } ∷ write_acts s m false ticket xs else write_acts s m false ticket xs) es ≡ es
+    at : with_writes base (write_acts s m false ticket xs) es ≡ es → (b : Bool)
+        → with_writes base
+        (if b then record { on = false; ticket = ticket; value = x.value.value s } ∷ write_acts s m false ticket xs else write_acts s m false ticket xs) es
+        ≡ es
     at i true = i
     at i false = i
 
@@ -156,26 +167,35 @@ stage_written s m base t ticket fs (x ∷ xs) es a h = at (λ gs b g. stage_writ
     acts = write_acts s m true ticket xs
 
     at : ((gs : List Pending) → IsAlike gs fs → (writes_to m (written_in s xs) ≡ true → Has)
-        → (forgotten_entries (with_writes_of m t (written_in s xs) gs) ≡ with_writes base acts (forgotten_entries gs)) × IsAlike (with_writes_of m t (written_in s xs) gs) fs)
+        → (forgotten_entries (with_writes_of m t (written_in s xs) gs) ≡ with_writes base acts (forgotten_entries gs))
+        × IsAlike (with_writes_of m t (written_in s xs) gs) fs)
         → (o b : Bool) → (writes_to m (if o then record { mem = x.mem; value = v } ∷ written_in s xs else written_in s xs) ≡ true → Has)
-        → (forgotten_entries (with_writes_of m t (if o then record { mem = x.mem; value = v } ∷ written_in s xs else written_in s xs) es) ≡ with_writes base (if x.mem == m then record { on = o; ticket = ticket; value = v } ∷ acts else acts) (forgotten_entries es))
+        → (forgotten_entries (with_writes_of m t (if o then record { mem = x.mem; value = v } ∷ written_in s xs else written_in s xs) es)
+        ≡ with_writes base (if x.mem == m then record { on = o; ticket = ticket; value = v } ∷ acts else acts) (forgotten_entries es))
         × IsAlike (with_writes_of m t (if o then record { mem = x.mem; value = v } ∷ written_in s xs else written_in s xs) es) fs
     at rest false b g = by (rest es a g) (x.mem == m)
       where
-        by : (forgotten_entries (with_writes_of m t (written_in s xs) es) ≡ with_writes base acts (forgotten_entries es)) × IsAlike (with_writes_of m t (written_in s xs) es) fs → (b : Bool)
-            → (forgotten_entries (with_writes_of m t (written_in s xs) es) ≡ with_writes base (if b then record { on = false; ticket = ticket; value = v } ∷ acts else acts) (forgotten_entries es)) × IsAlike (with_writes_of m t (written_in s xs) es) fs
+        by : (forgotten_entries (with_writes_of m t (written_in s xs) es) ≡ with_writes base acts (forgotten_entries es))
+            × IsAlike (with_writes_of m t (written_in s xs) es) fs
+            → (b : Bool)
+            → (forgotten_entries (with_writes_of m t (written_in s xs) es)
+            ≡ with_writes base (if b then record { on = false; ticket = ticket; value = v } ∷ acts else acts) (forgotten_entries es))
+            × IsAlike (with_writes_of m t (written_in s xs) es) fs
         by i true = i
         by i false = i
     at rest true b g = by (x.mem == m) g
       where
         by : (b : Bool) → ((if b then true else writes_to m (written_in s xs)) ≡ true → Has)
-            → (forgotten_entries (with_writes_of m t (written_in s xs) (if b then with_value_of t v es else es)) ≡ with_writes base (if b then record { on = true; ticket = ticket; value = v } ∷ acts else acts) (forgotten_entries es))
+            → (forgotten_entries (with_writes_of m t (written_in s xs) (if b then with_value_of t v es else es))
+            ≡ with_writes base (if b then record { on = true; ticket = ticket; value = v } ∷ acts else acts) (forgotten_entries es))
             × IsAlike (with_writes_of m t (written_in s xs) (if b then with_value_of t v es else es)) fs
         by false g = rest es a g
         by true g =
             let i = rest (with_value_of t v es) (put_alike t v es fs a) (λ e. g refl) in
             let k : ticket_of base t es ≡ ticket = let n = a.count t in let q = (g refl).1 in omega (arith, n, q) in
-            let e = (same_put base 0 t v es a.ordered (a.has t ∙ (g refl).0)).1 ∙ ap (λ n. lock.with_write base (record { on = true; ticket = n; value = v }) (forgotten_entries es)) k in
+            let e =
+            (same_put base 0 t v es a.ordered (a.has t ∙ (g refl).0)).1
+            ∙ ap (λ n. lock.with_write base (record { on = true; ticket = n; value = v }) (forgotten_entries es)) k in
             (i.0 ∙ ap (with_writes base acts) e, i.1)
 
 -- the ticket of a pending write's thread is below the next one

@@ -54,13 +54,17 @@ ready_of p st bits k t by l h g = second (is_empty t.awaits) (locks_ready p st t
     second false b c e = absurd (cc e)
 
 -- each stage in a cycle, where the walks begin with the answers of the cycle and the gates tell what they should
-module _ (p : Pipe) (ls : Locks) (vs : ℕ → View) (gates : Gates) (moves : ℕ → Signal) (c : Circuit) (made : IsLaid p ls vs gates moves c) (once : AreAtOnce p) (leads : LeadsOn p)
-    (s : State) (st : machine.State) (bits : List Bool) (suits : Suits c s) (stands : StandsFor p ls vs s st) (used : IsInUse p st bits) (by : IsByStages p st bits)
-    (answers : (k : ℕ) (t : Thread) → k < length p.stages → here p st bits k ≡ Some t → IsEnv p k s (vs k).begun.vars (with_kept t.kept t.env)) (tells : (k : ℕ) (t : Thread) → k < length p.stages → here p st bits k ≡ Some t → TellsGate p vs gates moves s st bits k t) where
+module _ (p : Pipe) (ls : Locks) (vs : ℕ → View) (gates : Gates) (moves : ℕ → Signal) (c : Circuit)
+    (made : IsLaid p ls vs gates moves c) (once : AreAtOnce p) (leads : LeadsOn p)
+    (s : State) (st : machine.State) (bits : List Bool) (suits : Suits c s) (stands : StandsFor p ls vs s st)
+    (used : IsInUse p st bits) (by : IsByStages p st bits)
+    (answers : (k : ℕ) (t : Thread) → k < length p.stages → here p st bits k ≡ Some t → IsEnv p k s (vs k).begun.vars (with_kept t.kept t.env))
+    (tells : (k : ℕ) (t : Thread) → k < length p.stages → here p st bits k ≡ Some t → TellsGate p vs gates moves s st bits k t) where
   follows_at : (k : ℕ) (t : Thread) → k < length p.stages → here p st bits k ≡ Some t → Follows p k s st t.number (vs k).ended (deeds p st k t)
   follows_at k t l h =
       let x = made.stages k l in
-      stage_follows c p ls vs s st bits suits (λ m e. (made.locks m e).kind) (λ m e. (made.locks m e).room) stands used once k t x.rows x.fresh x.guess_long (answers k t l h) h
+      stage_follows c p ls vs s st bits suits (λ m e. (made.locks m e).kind)
+      (λ m e. (made.locks m e).room) stands used once k t x.rows x.fresh x.guess_long (answers k t l h) h
 
   module _ (k : ℕ) (l : k < length p.stages) (later : (j : ℕ) → k < j → j < length p.stages → IsSeen p vs moves s st bits j) where
     free_is : (q : ℕ) → k < q → q < length p.stages → (free vs moves q).value s ≡ bit (is_none (slot st q) || stage_moves p st bits q)
@@ -74,13 +78,15 @@ module _ (p : Pipe) (ls : Locks) (vs : ℕ → View) (gates : Gates) (moves : �
         table None b = refl
         table (Some t) b = refl
 
-    way_is : (t : Thread) → IsSo p k s (vs k).ended (deeds p st k t) → (way_on (stage_at p k).next (free vs moves) (vs k).ended).value s ≡ bit (may_enter p st bits (next_stage p k (deeds p st k t)))
+    way_is : (t : Thread) → IsSo p k s (vs k).ended (deeds p st k t)
+        → (way_on (stage_at p k).next (free vs moves) (vs k).ended).value s ≡ bit (may_enter p st bits (next_stage p k (deeds p st k t)))
     way_is t so = at (stage_at p k).next (λ q e. leads.up k q (deeds p st k t).env l e) (λ x e. so.env x (lives_fork p k x l e))
       where
         env : List ℕ
         env = (deeds p st k t).env
 
-        at : (n : Next) → ((q : ℕ) → goes_to n env ≡ Some q → (k < q) × (q < length p.stages)) → ((x : ℕ) → forks_by n x ≡ true → slice_index env x ≡ ((vs k).ended.vars x).value s)
+        at : (n : Next) → ((q : ℕ) → goes_to n env ≡ Some q → (k < q) × (q < length p.stages))
+            → ((x : ℕ) → forks_by n x ≡ true → slice_index env x ≡ ((vs k).ended.vars x).value s)
             → (way_on n (free vs moves) (vs k).ended).value s ≡ bit (may_enter p st bits (goes_to n env))
         at Ends up f = one_is s
         at (Goes to) up f = let g = up to refl in free_is to g.0 g.1
@@ -89,7 +95,8 @@ module _ (p : Pipe) (ls : Locks) (vs : ℕ → View) (gates : Gates) (moves : �
             ∙ ap (λ n. if n == 1 then (free vs moves a).value s else (free vs moves b).value s) (sym (f x (Rattle.std.proofs.Common.eq-eqb x x refl)))
             ∙ choose (slice_index env x == 1) (λ q e. up q e)
           where
-            choose : (t : Bool) → ((q : ℕ) → Some (if t then a else b) ≡ Some q → (k < q) × (q < length p.stages)) → (if t then (free vs moves a).value s else (free vs moves b).value s) ≡ bit (may_enter p st bits (Some (if t then a else b)))
+            choose : (t : Bool) → ((q : ℕ) → Some (if t then a else b) ≡ Some q → (k < q) × (q < length p.stages))
+                → (if t then (free vs moves a).value s else (free vs moves b).value s) ≡ bit (may_enter p st bits (Some (if t then a else b)))
             choose true g = let i = g a refl in free_is a i.0 i.1
             choose false g = let i = g b refl in free_is b i.0 i.1
 
@@ -103,7 +110,9 @@ module _ (p : Pipe) (ls : Locks) (vs : ℕ → View) (gates : Gates) (moves : �
         valid = stands.valid k l ∙ ap bit (sym (some_here p st bits k))
 
         at : (o : Option Thread) → here p st bits k ≡ o → (moves_where p vs gates.gate moves k).value s ≡ bit (stage_moves p st bits k)
-        at None e = both_at s (vs k).valid (both (vs k).ended.ready (both (gates.gate k) way)) false true (valid ∙ ap (λ o. bit (is_some o)) e) (λ z. absurd (cc z)) ∙ ap (λ o. bit (slot_moves p st bits k o)) (sym e)
+        at None e =
+            both_at s (vs k).valid (both (vs k).ended.ready (both (gates.gate k) way)) false true (valid ∙ ap (λ o. bit (is_some o)) e) (λ z. absurd (cc z))
+            ∙ ap (λ o. bit (slot_moves p st bits k o)) (sym e)
         at (Some t) e =
             let d = deeds p st k t in
             let f = follows_at k t l e in
@@ -111,7 +120,8 @@ module _ (p : Pipe) (ls : Locks) (vs : ℕ → View) (gates : Gates) (moves : �
             let passes = may_pass p st bits (later_acts p st bits k) k d in
             let enters = may_enter p st bits (next_stage p k d) in
             let none = is_empty t.awaits in
-            both_at s (vs k).valid (both (vs k).ended.ready (both (gates.gate k) way)) true (ready && ((none && passes) && enters)) (valid ∙ ap (λ o. bit (is_some o)) e) (λ y.
+            both_at s (vs k).valid (both (vs k).ended.ready (both (gates.gate k) way)) true (ready && ((none && passes) && enters))
+            (valid ∙ ap (λ o. bit (is_some o)) e) (λ y.
             both_at s (vs k).ended.ready (both (gates.gate k) way) ready ((none && passes) && enters) f.ready (λ z.
             both_at s (gates.gate k) way (none && passes) enters (tells k t l e f z later) (λ u. way_is t (f.so z))))
             ∙ ap bit (regroup ready none passes enters)
@@ -126,7 +136,8 @@ module _ (p : Pipe) (ls : Locks) (vs : ℕ → View) (gates : Gates) (moves : �
   seen_from (suc n) k e j i l = at (k == j) refl (λ j i l. seen_from n (suc k) (omega (arith, e)) j i l)
     where
       at : (b : Bool) → (k == j) ≡ b → ((j : ℕ) → suc k ≤ j → j < length p.stages → IsSeen p vs moves s st bits j) → IsSeen p vs moves s st bits j
-      at true f later = subst (λ i. IsSeen p vs moves s st bits i) (Rattle.std.proofs.lemmas.Bool.eqb-true k j f) (seen_here k (omega (arith, e)) (λ i h m. later i h m))
+      at true f later =
+          subst (λ i. IsSeen p vs moves s st bits i) (Rattle.std.proofs.lemmas.Bool.eqb-true k j f) (seen_here k (omega (arith, e)) (λ i h m. later i h m))
       at false f later = later j (let z = Rattle.std.proofs.lemmas.Bool.eqb-false k j f in omega arith) l
 
   pub all_seen : (j : ℕ) → j < length p.stages → IsSeen p vs moves s st bits j

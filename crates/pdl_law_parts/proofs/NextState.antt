@@ -39,14 +39,17 @@ use Rattle.pdl_semantics.specs.PendingLists.{count_older}
 pub mem_there : (p : Pipe) (m a : ℕ) → a < (mem_at p m).depth → m < length p.mems
 mem_there p m a l = ⊎_elim
     (λ (h : m < length p.mems). h)
-    (λ (h : length p.mems ≤ m). absurd (let z = ap (λ (x : Rattle.pdl_semantics.specs.Flat.Mem). x.depth) (get_or_past p.mems m plain_mem h) in omega (arith, z, l)))
+    (λ (h : length p.mems ≤ m). absurd
+    (let z = ap (λ (x : Rattle.pdl_semantics.specs.Flat.Mem). x.depth) (get_or_past p.mems m plain_mem h) in omega (arith, z, l)))
     (cases_lt m (length p.mems))
 
 -- the number of a memory that has a lock is below the count of memories
 pub lock_there : (p : Pipe) (m : ℕ) → is_locked p m ≡ true → m < length p.mems
 lock_there p m e = ⊎_elim
     (λ (h : m < length p.mems). h)
-    (λ (h : length p.mems ≤ m). absurd (false≢true (sym (ap (λ (x : Rattle.pdl_semantics.specs.Flat.Mem). Rattle.pdl_semantics.specs.Flat.has_lock x.lock) (get_or_past p.mems m plain_mem h)) ∙ e)))
+    (λ (h : length p.mems ≤ m). absurd
+    (false≢true
+    (sym (ap (λ (x : Rattle.pdl_semantics.specs.Flat.Mem). Rattle.pdl_semantics.specs.Flat.has_lock x.lock) (get_or_past p.mems m plain_mem h)) ∙ e)))
     (cases_lt m (length p.mems))
 
 -- who comes isn't removed
@@ -72,9 +75,13 @@ count_left sq n (e ∷ es) h = at sq (nat_lt e.thread n) refl h (count_left sq n
     kept : (k : ℕ) → e.thread < n → n ≤ k → nat_le e.thread k ≡ true
     kept k i j = le-leb e.thread k (omega (arith, i, j))
 
-    at : (sq : Option ℕ) (b : Bool) → nat_lt e.thread n ≡ b → removed sq n ≡ true → count_older n (entries_left sq es) ≡ count_older n es → count_older n (if removed sq e.thread then e ∷ entries_left sq es else entries_left sq es) ≡ (if b then suc (count_older n es) else count_older n es)
+    at : (sq : Option ℕ) (b : Bool) → nat_lt e.thread n ≡ b → removed sq n ≡ true
+        → count_older n (entries_left sq es) ≡ count_older n es
+        → count_older n (if removed sq e.thread then e ∷ entries_left sq es else entries_left sq es) ≡ (if b then suc (count_older n es) else count_older n es)
     at None b i j g = ap₂ (λ c k. if c then suc k else k) i g
-    at (Some k) true i j g = ap (λ c. count_older n (if c then e ∷ entries_left (Some k) es else entries_left (Some k) es)) (kept k (ltb-true e.thread n i) (leb-true n k j)) ∙ ap₂ (λ c k. if c then suc k else k) i g
+    at (Some k) true i j g =
+        ap (λ c. count_older n (if c then e ∷ entries_left (Some k) es else entries_left (Some k) es)) (kept k (ltb-true e.thread n i) (leb-true n k j))
+        ∙ ap₂ (λ c k. if c then suc k else k) i g
     at (Some k) false i j g = by (nat_le e.thread k)
       where
         by : (c : Bool) → count_older n (if c then e ∷ entries_left (Some k) es else entries_left (Some k) es) ≡ count_older n es
@@ -82,8 +89,12 @@ count_left sq n (e ∷ es) h = at sq (nat_lt e.thread n) refl h (count_left sq n
         by false = g
 
 module _ (p : Pipe) (ls : Locks) (vs : ℕ → View) (gates : Gates) (moves : ℕ → Signal) (c : Circuit) (made : IsLaid p ls vs gates moves c) (leads : LeadsOn p)
-    (s : State) (st : machine.State) (bits : List Bool) (suits : Suits c s) (stands : StandsFor p ls vs s st) (used : IsInUse p st bits) (by : IsByStages p st bits) (spared : Spares p st bits)
-    (seen : (j : ℕ) → j < length p.stages → IsSeen p vs moves s st bits j) (stood : (k : ℕ) (t : Thread) → here p st bits k ≡ Some t → Stood st k t) (squashed : IsSquashed p ls vs gates s st bits) (answers : (k : ℕ) (t : Thread) → k < length p.stages → here p st bits k ≡ Some t → IsEnv p k s (vs k).begun.vars (with_kept t.kept t.env)) where
+    (s : State) (st : machine.State) (bits : List Bool) (suits : Suits c s) (stands : StandsFor p ls vs s st)
+    (used : IsInUse p st bits) (by : IsByStages p st bits) (spared : Spares p st bits)
+    (seen : (j : ℕ) → j < length p.stages → IsSeen p vs moves s st bits j)
+    (stood : (k : ℕ) (t : Thread) → here p st bits k ≡ Some t → Stood st k t)
+    (squashed : IsSquashed p ls vs gates s st bits)
+    (answers : (k : ℕ) (t : Thread) → k < length p.stages → here p st bits k ≡ Some t → IsEnv p k s (vs k).begun.vars (with_kept t.kept t.env)) where
   abbrev next : machine.State
   next = cycle p st bits
 
@@ -101,19 +112,25 @@ module _ (p : Pipe) (ls : Locks) (vs : ℕ → View) (gates : Gates) (moves : �
   none_removed q [] u e = absurd (cc e)
   none_removed q (j ∷ js) u e = at (stage_moves p st bits j) (here p st bits j) refl refl (λ i. none_removed q js u i) e
     where
-      at : (g : Bool) (o : Option Thread) → stage_moves p st bits j ≡ g → here p st bits j ≡ o → (slots.first_of p st bits q js ≡ Some u → removed sq u.number ≡ true) → or_then (slots.thread_into p st q j g o) (slots.first_of p st bits q js) ≡ Some u → removed sq u.number ≡ true
+      at : (g : Bool) (o : Option Thread) → stage_moves p st bits j ≡ g → here p st bits j ≡ o
+          → (slots.first_of p st bits q js ≡ Some u → removed sq u.number ≡ true)
+          → or_then (slots.thread_into p st q j g o) (slots.first_of p st bits q js) ≡ Some u
+          → removed sq u.number ≡ true
       at false o f h go i = go i
       at true None f h go i = go i
       at true (Some t) f h go i = taken (is_stage q (next_stage p j (machine.deeds p st j t))) i
         where
-          taken : (b : Bool) → or_then (if b then Some (thread_after (slots.act_at p st j t)) else None) (slots.first_of p st bits q js) ≡ Some u → removed sq u.number ≡ true
+          taken : (b : Bool)
+              → or_then (if b then Some (thread_after (slots.act_at p st j t)) else None) (slots.first_of p st bits q js) ≡ Some u
+              → removed sq u.number ≡ true
           taken true k = let same : thread_after (slots.act_at p st j t) ≡ u = cc k in subst (λ (v : Thread). removed sq v.number ≡ true) same (spared j t h f)
           taken false k = go k
 
   slot_next : (q : ℕ) → q < length p.stages → slot next q ≡ or_then (coming q) (stays q)
   slot_next q l =
       by.next q l
-      ∙ ap (or_then (newborn p st bits q)) (if_stays_then sq (arriving_thread p st bits q) (slots.staying_thread p st bits q) (λ u e. none_removed q (slots.ways p q) u e))
+      ∙ ap (or_then (newborn p st bits q))
+      (if_stays_then sq (arriving_thread p st bits q) (slots.staying_thread p st bits q) (λ u e. none_removed q (slots.ways p q) u e))
       ∙ sym (then_then (newborn p st bits q) (arriving_thread p st bits q) (if_kept sq (slots.staying_thread p st bits q)))
 
   -- a thread in a stage came into it with what a comer brings, or stayed
@@ -122,7 +139,10 @@ module _ (p : Pipe) (ls : Locks) (vs : ℕ → View) (gates : Gates) (moves : �
     stayed : first_come s (comers p vs moves q) ≡ None → stage_moves p st bits q ≡ false → here p st bits q ≡ Some u → removed sq u.number ≡ true → Came q u
 
   came_how : (q : ℕ) (u : Thread) → q < length p.stages → slot next q ≡ Some u → Came q u
-  came_how q u l e = at (first_come s (comers p vs moves q)) refl (coming q) (stage_moves p st bits q) refl (comers_alike p ls vs moves s st bits leads by used stands seen stood spared q l) (sym (slot_next q l) ∙ e)
+  came_how q u l e =
+      at (first_come s (comers p vs moves q)) refl (coming q)
+      (stage_moves p st bits q) refl (comers_alike p ls vs moves s st bits leads by used stands seen stood spared q l)
+      (sym (slot_next q l) ∙ e)
     where
       none_some : None ≡ Some u → ⊥
       none_some h = cc h
@@ -130,7 +150,9 @@ module _ (p : Pipe) (ls : Locks) (vs : ℕ → View) (gates : Gates) (moves : �
       same : (t : Thread) → Some t ≡ Some u → t ≡ u
       same t h = cc h
 
-      at : (o : Option Comer) → first_come s (comers p vs moves q) ≡ o → (a : Option Thread) (g : Bool) → stage_moves p st bits q ≡ g → AreAlike p ls vs moves s st bits leads by used stands seen stood spared q o a → or_then a (if_kept sq (if g then None else here p st bits q)) ≡ Some u → Came q u
+      at : (o : Option Comer) → first_come s (comers p vs moves q) ≡ o → (a : Option Thread) (g : Bool)
+          → stage_moves p st bits q ≡ g → AreAlike p ls vs moves s st bits leads by used stands seen stood spared q o a
+          → or_then a (if_kept sq (if g then None else here p st bits q)) ≡ Some u → Came q u
       at None f None true i h e = absurd (none_some e)
       at None f None false i h e = let z = if_stays_is sq (here p st bits q) u e in stayed f i z.0 z.1
       at None f (Some t) g i h e = absurd h
@@ -138,8 +160,12 @@ module _ (p : Pipe) (ls : Locks) (vs : ℕ → View) (gates : Gates) (moves : �
       at (Some o) f (Some t) g i h e = came o f (subst (Brings p ls vs moves s st bits leads by used stands seen stood spared q o) (same t e) h)
 
   -- whether somebody stands in it
-  holds_next : (q : ℕ) → q < length p.stages → brought s (λ (o : Comer). one) (mux_signal (moves q) zero_bit (mux_signal (gates.kill q) zero_bit (vs q).valid)) (first_come s (comers p vs moves q)) ≡ bit (is_some (slot next q))
-  holds_next q l = at (first_come s (comers p vs moves q)) (coming q) (comers_alike p ls vs moves s st bits leads by used stands seen stood spared q l) ∙ ap (λ o. bit (is_some o)) (sym (slot_next q l))
+  holds_next : (q : ℕ) → q < length p.stages
+      → brought s (λ (o : Comer). one) (mux_signal (moves q) zero_bit (mux_signal (gates.kill q) zero_bit (vs q).valid)) (first_come s (comers p vs moves q))
+      ≡ bit (is_some (slot next q))
+  holds_next q l =
+      at (first_come s (comers p vs moves q)) (coming q) (comers_alike p ls vs moves s st bits leads by used stands seen stood spared q l)
+      ∙ ap (λ o. bit (is_some o)) (sym (slot_next q l))
     where
       still : Signal
       still = mux_signal (gates.kill q) zero_bit (vs q).valid
@@ -151,10 +177,14 @@ module _ (p : Pipe) (ls : Locks) (vs : ℕ → View) (gates : Gates) (moves : �
       -- a thread that stays, where it isn't removed
       is_left : (o : Option Thread) → here p st bits q ≡ o → stage_moves p st bits q ≡ false → still.value s ≡ bit (is_some (if_kept sq o))
       is_left None e g =
-          mux_by s (gates.kill q) zero_bit (vs q).valid ∙ none (zero_bit.value s) ((vs q).valid.value s) (zero_is s) (stands.valid q l ∙ ap bit (sym (some_here p st bits q)) ∙ ap (λ o. bit (is_some o)) e) ((gates.kill q).value s == 1)
+          mux_by s (gates.kill q) zero_bit (vs q).valid
+          ∙ none (zero_bit.value s) ((vs q).valid.value s) (zero_is s)
+          (stands.valid q l ∙ ap bit (sym (some_here p st bits q)) ∙ ap (λ o. bit (is_some o)) e)
+          ((gates.kill q).value s == 1)
       is_left (Some t) e g =
           mux_at s (gates.kill q) zero_bit (vs q).valid (not (removed sq t.number)) (squashed.kill q t e g)
-          ∙ ap₂ (λ x y. if not (removed sq t.number) then x else y) (zero_is s) (stands.valid q l ∙ ap bit (sym (some_here p st bits q)) ∙ ap (λ o. bit (is_some o)) e)
+          ∙ ap₂ (λ x y. if not (removed sq t.number) then x else y) (zero_is s)
+          (stands.valid q l ∙ ap bit (sym (some_here p st bits q)) ∙ ap (λ o. bit (is_some o)) e)
           ∙ by' (removed sq t.number)
         where
           by' : (b : Bool) → (if not b then 0 else 1) ≡ bit (is_some (if b then Some t else None))
@@ -165,7 +195,9 @@ module _ (p : Pipe) (ls : Locks) (vs : ℕ → View) (gates : Gates) (moves : �
       settled true e = refl
       settled false e = is_left (here p st bits q) refl e
 
-      at : (o : Option Comer) (a : Option Thread) → AreAlike p ls vs moves s st bits leads by used stands seen stood spared q o a → brought s (λ (o : Comer). one) (mux_signal (moves q) zero_bit still) o ≡ bit (is_some (or_then a (stays q)))
+      at : (o : Option Comer) (a : Option Thread)
+          → AreAlike p ls vs moves s st bits leads by used stands seen stood spared q o a
+          → brought s (λ (o : Comer). one) (mux_signal (moves q) zero_bit still) o ≡ bit (is_some (or_then a (stays q)))
       at None None h =
           mux_at s (moves q) zero_bit still (stage_moves p st bits q) (seen q l).leaves
           ∙ ap (λ x. if stage_moves p st bits q then x else still.value s) (zero_is s)
@@ -185,11 +217,14 @@ module _ (p : Pipe) (ls : Locks) (vs : ℕ → View) (gates : Gates) (moves : �
 
   module _ (t : State) (suits' : Suits c t) (regs : t.regs ≡ next_regs c s) (arrays : t.arrays ≡ next_arrays c s) (used' : IsInUse p next []) where
     -- what a signal then has that a comer brings, or that stays
-    becomes : (q : ℕ) (of : Comer → Signal) (f g : Signal) → Becomes c f (first_coming of (comers p vs moves q) g) → f.value t ≡ brought s of g (first_come s (comers p vs moves q))
+    becomes : (q : ℕ) (of : Comer → Signal) (f g : Signal) → Becomes c f (first_coming of (comers p vs moves q) g)
+        → f.value t ≡ brought s of g (first_come s (comers p vs moves q))
     becomes q of f g h = h s t suits regs ∙ picked_is s of (comers p vs moves q) g
 
     valid_next : (q : ℕ) → q < length p.stages → (vs q).valid.value t ≡ bit (is_some (slot next q))
-    valid_next q l = becomes q (λ (o : Comer). one) (vs q).valid (mux_signal (moves q) zero_bit (mux_signal (gates.kill q) zero_bit (vs q).valid)) (made.stages q l).valid ∙ holds_next q l
+    valid_next q l =
+        becomes q (λ (o : Comer). one) (vs q).valid (mux_signal (moves q) zero_bit (mux_signal (gates.kill q) zero_bit (vs q).valid)) (made.stages q l).valid
+        ∙ holds_next q l
 
     long_next : (q : ℕ) (u : Thread) → slot next q ≡ Some u → length u.env ≡ p.vars
     long_next q u e = at (came_how q u (stage_low q u e) e)
@@ -222,10 +257,14 @@ module _ (p : Pipe) (ls : Locks) (vs : ℕ → View) (gates : Gates) (moves : �
 
         at : Came q u → ((vs q).begun.held m a).value t ≡ bit (is_held (held_before q u.env p.stmts []) m a)
         at (came o f b) = now ∙ ap (brought s (λ (o : Comer). o.held m a) ((vs q).begun.held m a)) f ∙ b.held m a live
-        at (stayed f g h r) = now ∙ ap (brought s (λ (o : Comer). o.held m a) ((vs q).begun.held m a)) f ∙ (let v = stood q u h in stands.held q v.thread v.slot m a live ∙ ap (λ e. bit (is_held (held_before q e p.stmts []) m a)) v.env)
+        at (stayed f g h r) =
+            now ∙ ap (brought s (λ (o : Comer). o.held m a) ((vs q).begun.held m a)) f
+            ∙ (let v = stood q u h in stands.held q v.thread v.slot m a live ∙ ap (λ e. bit (is_held (held_before q e p.stmts []) m a)) v.env)
 
     guess_next : (q : ℕ) (u : Thread) → slot next q ≡ Some u → IsGuess p q t (vs q).begun.guess u.guess
-    guess_next q u e v long = signals_are t (vs q).begun.guess u.guess (long ∙ sym (made.stages q l).guess_long) (λ i m. at i (let z = (made.stages q l).guess_long in omega (arith, m, z)) (came_how q u l e))
+    guess_next q u e v long =
+        signals_are t (vs q).begun.guess u.guess (long ∙ sym (made.stages q l).guess_long)
+        (λ i m. at i (let z = (made.stages q l).guess_long in omega (arith, m, z)) (came_how q u l e))
       where
         l : q < length p.stages
         l = stage_low q u e
@@ -241,12 +280,16 @@ module _ (p : Pipe) (ls : Locks) (vs : ℕ → View) (gates : Gates) (moves : �
 
             by' : Came q u → slice_index u.guess i ≡ mine.value t
             by' (came o f b) = b.guess v long i m ∙ ap (brought s (λ (o : Comer). o.guess i) mine) (sym f) ∙ sym now
-            by' (stayed f g h r) = ap (λ l'. slice_index l' i) (let w = stood q u h in sym w.guess ∙ stands.guess q w.thread w.slot v (ap length w.guess ∙ long)) ∙ signal_at s (vs q).begun.guess i (let z = (made.stages q l).guess_long in omega (arith, m, z)) ∙ ap (brought s (λ (o : Comer). o.guess i) mine) (sym f) ∙ sym now
+            by' (stayed f g h r) =
+                ap (λ l'. slice_index l' i) (let w = stood q u h in sym w.guess ∙ stands.guess q w.thread w.slot v (ap length w.guess ∙ long))
+                ∙ signal_at s (vs q).begun.guess i (let z = (made.stages q l).guess_long in omega (arith, m, z))
+                ∙ ap (brought s (λ (o : Comer). o.guess i) mine) (sym f) ∙ sym now
 
     -- MEMORIES
 
     own_next : (own : Own) → ((r : ℕ) → own.from ≤ r → r < own.to → HasReg c r) → ((i : ℕ) → own.first ≤ i → i < own.last → HasArray c i) → IsNext c own s t
-    own_next own has has_array = is_next own c c s t (record { has_reg = has; nexts = λ k lo hi. refl; has_array = has_array; writes = λ i lo hi. refl }) regs arrays
+    own_next own has has_array =
+        is_next own c c s t (record { has_reg = has; nexts = λ k lo hi. refl; has_array = has_array; writes = λ i lo hi. refl }) regs arrays
 
     module _ (m : ℕ) (e : is_locked p m ≡ true) where
       abbrev stand : StandsLock p ls vs s st m
@@ -265,10 +308,12 @@ module _ (p : Pipe) (ls : Locks) (vs : ℕ → View) (gates : Gates) (moves : �
       stands' =
           let x = made.locks m e in
           subst (λ es. ls.stands m t (lock_state_of base es words)) (sym list)
-          (stands_next p ls vs moves s st bits by used seen stood m e stand gates squashed x.kind (made.owns m) c (made.commits m) x.step t (own_next (made.owns m) x.regs x.arrays))
+          (stands_next p ls vs moves s st bits by used seen stood m e stand gates squashed x.kind (made.owns m) c
+          (made.commits m) x.step t (own_next (made.owns m) x.regs x.arrays))
 
       -- the ticket of a thread is its place
-      ticket_next : (q : ℕ) (u : Thread) → slot next q ≡ Some u → q ≤ commit_stage p m → holds_ticket (ls.bits m) ((vs q).tickets m) t (base + count_older u.number (machine.lock_of next m))
+      ticket_next : (q : ℕ) (u : Thread) → slot next q ≡ Some u → q ≤ commit_stage p m
+          → holds_ticket (ls.bits m) ((vs q).tickets m) t (base + count_older u.number (machine.lock_of next m))
       ticket_next q u h high = ⊎_elim before after (cases_lt (reserve_stage p m) q)
         where
           l : q < length p.stages
@@ -283,16 +328,36 @@ module _ (p : Pipe) (ls : Locks) (vs : ℕ → View) (gates : Gates) (moves : �
               now : ((vs q).tickets m).value t ≡ brought s (λ (o : Comer). o.tickets m) ((vs q).tickets m) (first_come s (comers p vs moves q))
               now = becomes q (λ (o : Comer). o.tickets m) ((vs q).tickets m) ((vs q).tickets m) ((made.stages q l).tickets m e low high)
 
-              thread_after : (f : Signal) → holds_ticket (ls.bits m) f s (stand.base + count_older u.number (machine.lock_of st m)) → count_older u.number (list_three st (moving p st bits) m) + bit (has_release m (moving p st bits)) ≡ count_older u.number (machine.lock_of st m) → removed sq u.number ≡ true
+              thread_after : (f : Signal)
+                  → holds_ticket (ls.bits m) f s (stand.base + count_older u.number (machine.lock_of st m))
+                  → count_older u.number (list_three st (moving p st bits) m) + bit (has_release m (moving p st bits))
+                  ≡ count_older u.number (machine.lock_of st m)
+                  → removed sq u.number ≡ true
                   → f.value s ≡ (base + count_older u.number es) % 2 ^ ls.bits m
-              thread_after f i j r = i ∙ ap (λ n. n % 2 ^ ls.bits m) (let k : stand.base + count_older u.number (machine.lock_of st m) ≡ base + count_older u.number (list_three st (moving p st bits) m) = omega (arith, j) in k) ∙ ap (λ n. (base + n) % 2 ^ ls.bits m) (sym (count_left sq u.number (list_three st (moving p st bits) m) r)) ∙ ap (λ x. (base + count_older u.number x) % 2 ^ ls.bits m) (sym list)
+              thread_after f i j r =
+                  i
+                  ∙ ap (λ n. n % 2 ^ ls.bits m)
+                  (let k : stand.base + count_older u.number (machine.lock_of st m)
+                  ≡ base + count_older u.number (list_three st (moving p st bits) m) = omega (arith, j) in
+                  k)
+                  ∙ ap (λ n. (base + n) % 2 ^ ls.bits m) (sym (count_left sq u.number (list_three st (moving p st bits) m) r))
+                  ∙ ap (λ x. (base + count_older u.number x) % 2 ^ ls.bits m) (sym list)
 
               at : Came q u → holds_ticket (ls.bits m) ((vs q).tickets m) t (base + count_older u.number es)
-              at (came o f b) = now ∙ ap (brought s (λ (o : Comer). o.tickets m) ((vs q).tickets m)) f ∙ (let z = b.tickets m e low high in thread_after (o.tickets m) z.0 z.1 z.2)
+              at (came o f b) =
+                  now ∙ ap (brought s (λ (o : Comer). o.tickets m) ((vs q).tickets m)) f
+                  ∙ (let z = b.tickets m e low high in thread_after (o.tickets m) z.0 z.1 z.2)
               at (stayed f g i r) =
                   now ∙ ap (brought s (λ (o : Comer). o.tickets m) ((vs q).tickets m)) f
-                  ∙ (let w = stood q u i in thread_after ((vs q).tickets m) (subst (λ n. holds_ticket (ls.bits m) ((vs q).tickets m) s (stand.base + count_older n (machine.lock_of st m))) w.number (stand.tickets q w.thread w.slot high))
-                  (subst (λ n. count_older n (list_three st (moving p st bits) m) + bit (has_release m (moving p st bits)) ≡ count_older n (machine.lock_of st m)) w.number (used.shifts q w.thread m w.slot (let z : reserve_stage p m ≤ q = omega (arith, low) in z) high (λ z. g))) r)
+                  ∙ (let w = stood q u i in
+                  thread_after ((vs q).tickets m)
+                  (subst
+                  (λ n. holds_ticket (ls.bits m) ((vs q).tickets m) s (stand.base + count_older n (machine.lock_of st m))) w.number
+                  (stand.tickets q w.thread w.slot high))
+                  (subst
+                  (λ n. count_older n (list_three st (moving p st bits) m) + bit (has_release m (moving p st bits))
+                  ≡ count_older n (machine.lock_of st m)) w.number
+                  (used.shifts q w.thread m w.slot (let z : reserve_stage p m ≤ q = omega (arith, low) in z) high (λ z. g))) r)
 
           after : q ≤ reserve_stage p m → holds_ticket (ls.bits m) ((vs q).tickets m) t (base + count_older u.number es)
           after low =
@@ -310,18 +375,25 @@ module _ (p : Pipe) (ls : Locks) (vs : ℕ → View) (gates : Gates) (moves : �
             base = base;
             words = words;
             long = (let z = stand.long in omega (arith, long, z));
-            same = λ a low. ap (λ (f : ℕ → ℕ). f a) (by.arrays m (lock_there p m e)) ∙ words_same p ls vs moves s st bits by used seen stood m e stand gates squashed a low;
+            same =
+                λ a low. ap (λ (f : ℕ → ℕ). f a) (by.arrays m (lock_there p m e))
+                ∙ words_same p ls vs moves s st bits by used seen stood m e stand gates squashed a low;
             stands = stands';
             few = subst (λ es. length es ≤ ls.size m) (sym list) (few_next p ls vs moves s st bits by used seen stood m e stand gates squashed x.kind);
             tickets = ticket_next;
           }
 
     -- a memory without lock keeps its words
-    word_next : (m : ℕ) → is_locked p m ≡ false → (mem_at p m).delayed ≡ false → (a : ℕ) → a < (mem_at p m).depth → next.arrays m a ≡ slice_index (slice_index_or t.arrays (ls.array m) []) a
+    word_next : (m : ℕ) → is_locked p m ≡ false → (mem_at p m).delayed ≡ false → (a : ℕ) → a < (mem_at p m).depth
+        → next.arrays m a ≡ slice_index (slice_index_or t.arrays (ls.array m) []) a
     word_next m e comb a low =
         let l = mem_there p m a low in
         let own : Own = record { from = 0; to = 0; first = ls.array m; last = ls.array m + 1 } in
-        let kept = (own_next own (λ r lo hi. absurd (omega (arith, hi))) (λ i lo hi. (let e : ls.array m ≡ i = omega (arith, lo, hi) in subst (HasArray c) e (made.arrays m l comb)))).arrays (ls.array m) (omega arith) (omega arith) in
+        let kept =
+        (own_next own (λ r lo hi. absurd (omega (arith, hi)))
+        (λ i lo hi. (let e : ls.array m ≡ i = omega (arith, lo, hi) in subst (HasArray c) e (made.arrays m l comb)))).arrays
+        (ls.array m)
+        (omega arith) (omega arith) in
         ap (λ (f : ℕ → ℕ). f a) (by.arrays m l)
         ∙ ap (λ b. with_commit st.arrays m (if b then oldest (list_two st (moving p st bits) m) else None) m a) (used.unreleased m (plain_is p m e))
         ∙ stands.words m e comb a low

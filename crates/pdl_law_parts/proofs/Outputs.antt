@@ -40,9 +40,11 @@ values_shown c s [] = refl
 values_shown c s (o ∷ outs) = ap (λ l. net_value c s o.net ∷ l) (values_shown c s outs)
 
 -- of each stage, where all are as the machine's
-module _ (p : Pipe) (vs : ℕ → View) (moves : ℕ → Signal) (s : State) (st : machine.State) (bits : List Bool) (seen : (j : ℕ) → j < length p.stages → IsSeen p vs moves s st bits j) where
+module _ (p : Pipe) (vs : ℕ → View) (moves : ℕ → Signal) (s : State) (st : machine.State) (bits : List Bool)
+    (seen : (j : ℕ) → j < length p.stages → IsSeen p vs moves s st bits j) where
   pub stages_are : (n k : ℕ) (xs : List Stage) → k + n ≡ length p.stages → n ≡ length xs
-      → map (shown_value s) (stages_shown vs moves n k) ≡ stage_values (for_stages (λ i. is_some (slot st i)) k xs) (for_stages (λ i. stage_moves p st bits i) k xs)
+      → map (shown_value s) (stages_shown vs moves n k)
+      ≡ stage_values (for_stages (λ i. is_some (slot st i)) k xs) (for_stages (λ i. stage_moves p st bits i) k xs)
   stages_are zero k [] e f = refl
   stages_are zero k (x ∷ xs) e f = absurd (omega (arith, f))
   stages_are (suc n) k [] e f = absurd (omega (arith, f))
@@ -56,7 +58,8 @@ module _ (names : ℕ → List ℕ) (s : State) (st : machine.State) where
   commit_words x = x.enable.value s ∷ x.addr.value s ∷ x.value.value s ∷ []
 
   pub commits_are : (ms : List Act) (commits : ℕ → Commit) (m : ℕ) (xs : List Mem)
-      → ((i : ℕ) → i < length xs → has_lock (slice_index_or xs i plain_mem).lock ≡ true → commit_words (commits (m + i)) ≡ commit_values (slice_index_or xs i plain_mem).lock (port_write (taken_out st ms (m + i))))
+      → ((i : ℕ) → i < length xs → has_lock (slice_index_or xs i plain_mem).lock ≡ true
+      → commit_words (commits (m + i)) ≡ commit_values (slice_index_or xs i plain_mem).lock (port_write (taken_out st ms (m + i))))
       → map (shown_value s) (commits_shown names commits m xs) ≡ all_commit_values xs (for_mems (λ i. port_write (taken_out st ms i)) m xs)
   commits_are ms commits m [] h = refl
   commits_are ms commits m (x ∷ xs) h =
@@ -64,18 +67,25 @@ module _ (names : ℕ → List ℕ) (s : State) (st : machine.State) where
       ∙ ap₂ (λ a b. a ++ b) (mine x.lock (λ e. at (h 0 (omega arith) e)))
       (commits_are ms commits (suc m) xs (λ i l e. later i (h (suc i) (omega (arith, l)) e)))
     where
-      at : commit_words (commits (m + 0)) ≡ commit_values x.lock (port_write (taken_out st ms (m + 0))) → commit_words (commits m) ≡ commit_values x.lock (port_write (taken_out st ms m))
+      at : commit_words (commits (m + 0)) ≡ commit_values x.lock (port_write (taken_out st ms (m + 0)))
+          → commit_words (commits m) ≡ commit_values x.lock (port_write (taken_out st ms m))
       at e = ap (λ i. commit_words (commits i)) (sym (add-zero m)) ∙ e ∙ ap (λ i. commit_values x.lock (port_write (taken_out st ms i))) (add-zero m)
 
-      mine : (l : Lock) → (has_lock l ≡ true → commit_words (commits m) ≡ commit_values l (port_write (taken_out st ms m))) → map (shown_value s) (if has_lock l then commit_shown (names m) (commits m) else []) ≡ commit_values l (port_write (taken_out st ms m))
+      mine : (l : Lock)
+          → (has_lock l ≡ true → commit_words (commits m) ≡ commit_values l (port_write (taken_out st ms m)))
+          → map (shown_value s) (if has_lock l then commit_shown (names m) (commits m) else []) ≡ commit_values l (port_write (taken_out st ms m))
       mine l g = told (has_lock l) refl
         where
-          told : (b : Bool) → has_lock l ≡ b → map (shown_value s) (if b then commit_shown (names m) (commits m) else []) ≡ commit_values l (port_write (taken_out st ms m))
+          told : (b : Bool) → has_lock l ≡ b
+              → map (shown_value s) (if b then commit_shown (names m) (commits m) else []) ≡ commit_values l (port_write (taken_out st ms m))
           told false e = ap (λ (x : Lock). commit_values x (port_write (taken_out st ms m))) (sym (plain_is l e))
           told true e = g e
 
-      later : (i : ℕ) → commit_words (commits (m + suc i)) ≡ commit_values (slice_index_or xs i plain_mem).lock (port_write (taken_out st ms (m + suc i))) → commit_words (commits (suc m + i)) ≡ commit_values (slice_index_or xs i plain_mem).lock (port_write (taken_out st ms (suc m + i)))
-      later i e = let z : m + suc i ≡ suc m + i = omega arith in subst (λ j. commit_words (commits j) ≡ commit_values (slice_index_or xs i plain_mem).lock (port_write (taken_out st ms j))) z e
+      later : (i : ℕ)
+          → commit_words (commits (m + suc i)) ≡ commit_values (slice_index_or xs i plain_mem).lock (port_write (taken_out st ms (m + suc i)))
+          → commit_words (commits (suc m + i)) ≡ commit_values (slice_index_or xs i plain_mem).lock (port_write (taken_out st ms (suc m + i)))
+      later i e = let z : m + suc i ≡ suc m + i = omega arith in
+          subst (λ j. commit_words (commits j) ≡ commit_values (slice_index_or xs i plain_mem).lock (port_write (taken_out st ms j))) z e
 
 -- what a lock commits
 pub commit_laid : (p : Pipe) (names : ℕ → List ℕ) (ls : Locks) (vs : ℕ → View) (gates : Gates) (moves : ℕ → Signal)

@@ -66,7 +66,9 @@ reserved_more s (x ∷ rs) r = at (is_on x.on s) (reserved_more s rs r)
     more : List Reserved
     more = if is_on r.on s then record { mem = r.mem; address = r.addr.value s } ∷ [] else []
 
-    at : (b : Bool) → reserved_in s (rs ++ r ∷ []) ≡ reserved_in s rs ++ more → (if b then record { mem = x.mem; address = x.addr.value s } ∷ reserved_in s (rs ++ r ∷ []) else reserved_in s (rs ++ r ∷ [])) ≡ (if b then record { mem = x.mem; address = x.addr.value s } ∷ reserved_in s rs else reserved_in s rs) ++ more
+    at : (b : Bool) → reserved_in s (rs ++ r ∷ []) ≡ reserved_in s rs ++ more
+        → (if b then record { mem = x.mem; address = x.addr.value s } ∷ reserved_in s (rs ++ r ∷ []) else reserved_in s (rs ++ r ∷ []))
+        ≡ (if b then record { mem = x.mem; address = x.addr.value s } ∷ reserved_in s rs else reserved_in s rs) ++ more
     at true e = ap (λ l. record { mem = x.mem; address = x.addr.value s } ∷ l) e
     at false e = e
 
@@ -85,7 +87,9 @@ written_more s (x ∷ xs) y = at (is_on x.on s) (written_more s xs y)
     more : List Written
     more = if is_on y.on s then record { mem = y.mem; value = y.value.value s } ∷ [] else []
 
-    at : (b : Bool) → written_in s (xs ++ y ∷ []) ≡ written_in s xs ++ more → (if b then record { mem = x.mem; value = x.value.value s } ∷ written_in s (xs ++ y ∷ []) else written_in s (xs ++ y ∷ [])) ≡ (if b then record { mem = x.mem; value = x.value.value s } ∷ written_in s xs else written_in s xs) ++ more
+    at : (b : Bool) → written_in s (xs ++ y ∷ []) ≡ written_in s xs ++ more
+        → (if b then record { mem = x.mem; value = x.value.value s } ∷ written_in s (xs ++ y ∷ []) else written_in s (xs ++ y ∷ []))
+        ≡ (if b then record { mem = x.mem; value = x.value.value s } ∷ written_in s xs else written_in s xs) ++ more
     at true e = ap (λ l. record { mem = x.mem; value = x.value.value s } ∷ l) e
     at false e = e
 
@@ -97,7 +101,8 @@ let_more s (x ∷ ls) l = at (is_on x.on s) (let_more s ls l)
     more : List ℕ
     more = if is_on l.on s then l.mem ∷ [] else []
 
-    at : (b : Bool) → let_in s (ls ++ l ∷ []) ≡ let_in s ls ++ more → (if b then x.mem ∷ let_in s (ls ++ l ∷ []) else let_in s (ls ++ l ∷ [])) ≡ (if b then x.mem ∷ let_in s ls else let_in s ls) ++ more
+    at : (b : Bool) → let_in s (ls ++ l ∷ []) ≡ let_in s ls ++ more
+        → (if b then x.mem ∷ let_in s (ls ++ l ∷ []) else let_in s (ls ++ l ∷ [])) ≡ (if b then x.mem ∷ let_in s ls else let_in s ls) ++ more
     at true e = ap (λ k. x.mem ∷ k) e
     at false e = e
 
@@ -116,6 +121,8 @@ asked_more s (x ∷ qs) q = at (is_on x.on s) (asked_more s qs q)
     more : List machine.Ask
     more = if is_on q.on s then record { mem = q.mem; var = q.var; address = q.addr.value s } ∷ [] else []
 
-    at : (b : Bool) → asked_in s (qs ++ q ∷ []) ≡ asked_in s qs ++ more → (if b then record { mem = x.mem; var = x.var; address = x.addr.value s } ∷ asked_in s (qs ++ q ∷ []) else asked_in s (qs ++ q ∷ [])) ≡ (if b then record { mem = x.mem; var = x.var; address = x.addr.value s } ∷ asked_in s qs else asked_in s qs) ++ more
+    at : (b : Bool) → asked_in s (qs ++ q ∷ []) ≡ asked_in s qs ++ more
+        → (if b then record { mem = x.mem; var = x.var; address = x.addr.value s } ∷ asked_in s (qs ++ q ∷ []) else asked_in s (qs ++ q ∷ []))
+        ≡ (if b then record { mem = x.mem; var = x.var; address = x.addr.value s } ∷ asked_in s qs else asked_in s qs) ++ more
     at true e = ap (λ k. record { mem = x.mem; var = x.var; address = x.addr.value s } ∷ k) e
     at false e = e

@@ -29,20 +29,62 @@ module _ (c : Circuit) (p : Pipe) (ls : Locks) (vs : ℕ → View) (s : State) (
       same true = refl
       same false = refl
 
-      child_at : IsSo p k s w d → (b : Bool) → all_hold gs d.env ≡ b → (done st thread b (Call args) d).child ≡ child_in s (record { on = r.on; args = r.args } ∷ w.births)
+      child_at : IsSo p k s w d → (b : Bool) → all_hold gs d.env ≡ b
+          → (done st thread b (Call args) d).child ≡ child_in s (record { on = r.on; args = r.args } ∷ w.births)
       child_at h true f =
-          ap (λ l. Some l) (values_same c p ls vs s st k thread around args r.args w d.env (row.1 s around.suits (is_taken c p ls vs s st k thread around gs r w d glive on q h f)) (λ e i y u. h.env y (live.vars y (or_right (guards_use gs y) (are_using args y) (i y u)))))
-          ∙ ap (λ c. if c then Some (map (λ (f : Signal). f.value s) r.args) else child_in s w.births) (sym (on_is s r.on true (on_at c p ls vs s st k thread around gs r w d glive on q h ∙ ap bit f)))
+          ap (λ l. Some l)
+          (values_same c p ls vs s st k thread around args r.args w d.env
+          (row.1 s around.suits (is_taken c p ls vs s st k thread around gs r w d glive on q h f))
+          (λ e i y u. h.env y (live.vars y (or_right (guards_use gs y) (are_using args y) (i y u)))))
+          ∙ ap (λ c. if c then Some (map (λ (f : Signal). f.value s) r.args) else child_in s w.births)
+          (sym (on_is s r.on true (on_at c p ls vs s st k thread around gs r w d glive on q h ∙ ap bit f)))
       child_at h false f =
-          h.child ∙ ap (λ c. if c then Some (map (λ (f : Signal). f.value s) r.args) else child_in s w.births) (sym (on_is s r.on false (on_at c p ls vs s st k thread around gs r w d glive on q h ∙ ap bit f)))
+          h.child
+          ∙ ap (λ c. if c then Some (map (λ (f : Signal). f.value s) r.args) else child_in s w.births)
+          (sym (on_is s r.on false (on_at c p ls vs s st k thread around gs r w d glive on q h ∙ ap bit f)))
 
       so : IsSo p k s w d → (b : Bool) → all_hold gs d.env ≡ b → IsSo p k s (walk_after (Call args) r ls w) (done st thread b (Call args) d)
-      so h true f = record { long = h.long; env = h.env; held = h.held; reserves = h.reserves; fits = h.fits; writes = h.writes; bits = h.bits; releases = h.releases; child = child_at h true f; short = (row.0, h.short); asks = h.asks; guess_long = h.guess_long; guess = h.guess; fails = h.fails; barrier = h.barrier }
-      so h false f = record { long = h.long; env = h.env; held = h.held; reserves = h.reserves; fits = h.fits; writes = h.writes; bits = h.bits; releases = h.releases; child = child_at h false f; short = (row.0, h.short); asks = h.asks; guess_long = h.guess_long; guess = h.guess; fails = h.fails; barrier = h.barrier }
+      so h true f =
+          record {
+            long = h.long;
+            env = h.env;
+            held = h.held;
+            reserves = h.reserves;
+            fits = h.fits;
+            writes = h.writes;
+            bits = h.bits;
+            releases = h.releases;
+            child = child_at h true f;
+            short = (row.0, h.short);
+            asks = h.asks;
+            guess_long = h.guess_long;
+            guess = h.guess;
+            fails = h.fails;
+            barrier = h.barrier;
+          }
+      so h false f =
+          record {
+            long = h.long;
+            env = h.env;
+            held = h.held;
+            reserves = h.reserves;
+            fits = h.fits;
+            writes = h.writes;
+            bits = h.bits;
+            releases = h.releases;
+            child = child_at h false f;
+            short = (row.0, h.short);
+            asks = h.asks;
+            guess_long = h.guess_long;
+            guess = h.guess;
+            fails = h.fails;
+            barrier = h.barrier;
+          }
 
   pub follows_fetch : (y m a : ℕ) → FollowsOp c p ls vs s st k thread around (DelayedRead y m a)
   follows_fetch y m a j gs r w d live on row here fine q =
-      quiet c p ls vs s st k thread around gs r w d glive on q (DelayedRead y m a) (walk_after (DelayedRead y m a) r ls w) refl (λ b. same b) (λ h z b f. so h b f)
+      quiet c p ls vs s st k thread around gs r w d glive on q (DelayedRead y m a)
+      (walk_after (DelayedRead y m a) r ls w) refl (λ b. same b) (λ h z b f. so h b f)
     where
       glive : (z : ℕ) → guards_use gs z ≡ true → lives_from p k z ≡ true
       glive z u = live.vars z (or_left (guards_use gs z) (a == z) u)
@@ -51,16 +93,58 @@ module _ (c : Circuit) (p : Pipe) (ls : Locks) (vs : ℕ → View) (s : State) (
       same true = refl
       same false = refl
 
-      more : IsSo p k s w d → (b : Bool) → all_hold gs d.env ≡ b → asked_in s (w.asks ++ record { mem = m; var = y; on = r.on; addr = w.vars a } ∷ []) ≡ asked_in s w.asks ++ (if b then record { mem = m; var = y; address = (w.vars a).value s } ∷ [] else [])
-      more h b f = asked_more s w.asks (record { mem = m; var = y; on = r.on; addr = w.vars a }) ∙ ap (λ c. asked_in s w.asks ++ (if c then record { mem = m; var = y; address = (w.vars a).value s } ∷ [] else [])) (on_is s r.on b (on_at c p ls vs s st k thread around gs r w d glive on q h ∙ ap bit f))
+      more : IsSo p k s w d → (b : Bool) → all_hold gs d.env ≡ b
+          → asked_in s (w.asks ++ record { mem = m; var = y; on = r.on; addr = w.vars a } ∷ [])
+          ≡ asked_in s w.asks ++ (if b then record { mem = m; var = y; address = (w.vars a).value s } ∷ [] else [])
+      more h b f =
+          asked_more s w.asks (record { mem = m; var = y; on = r.on; addr = w.vars a })
+          ∙ ap (λ c. asked_in s w.asks ++ (if c then record { mem = m; var = y; address = (w.vars a).value s } ∷ [] else []))
+          (on_is s r.on b (on_at c p ls vs s st k thread around gs r w d glive on q h ∙ ap bit f))
 
-      asks_at : IsSo p k s w d → (b : Bool) → all_hold gs d.env ≡ b → (done st thread b (DelayedRead y m a) d).asks ≡ asked_in s (w.asks ++ record { mem = m; var = y; on = r.on; addr = w.vars a } ∷ [])
-      asks_at h true f = ap₂ (λ l v. l ++ record { mem = m; var = y; address = v } ∷ []) h.asks (h.env a (live.vars a (or_right (guards_use gs a) (a == a) (eqb_self a)))) ∙ sym (more h true f)
+      asks_at : IsSo p k s w d → (b : Bool) → all_hold gs d.env ≡ b
+          → (done st thread b (DelayedRead y m a) d).asks ≡ asked_in s (w.asks ++ record { mem = m; var = y; on = r.on; addr = w.vars a } ∷ [])
+      asks_at h true f =
+          ap₂ (λ l v. l ++ record { mem = m; var = y; address = v } ∷ []) h.asks (h.env a (live.vars a (or_right (guards_use gs a) (a == a) (eqb_self a))))
+          ∙ sym (more h true f)
       asks_at h false f = h.asks ∙ sym (append-nil (asked_in s w.asks)) ∙ sym (more h false f)
 
       so : IsSo p k s w d → (b : Bool) → all_hold gs d.env ≡ b → IsSo p k s (walk_after (DelayedRead y m a) r ls w) (done st thread b (DelayedRead y m a) d)
-      so h true f = record { long = h.long; env = h.env; held = h.held; reserves = h.reserves; fits = h.fits; writes = h.writes; bits = h.bits; releases = h.releases; child = h.child; short = h.short; asks = asks_at h true f; guess_long = h.guess_long; guess = h.guess; fails = h.fails; barrier = h.barrier }
-      so h false f = record { long = h.long; env = h.env; held = h.held; reserves = h.reserves; fits = h.fits; writes = h.writes; bits = h.bits; releases = h.releases; child = h.child; short = h.short; asks = asks_at h false f; guess_long = h.guess_long; guess = h.guess; fails = h.fails; barrier = h.barrier }
+      so h true f =
+          record {
+            long = h.long;
+            env = h.env;
+            held = h.held;
+            reserves = h.reserves;
+            fits = h.fits;
+            writes = h.writes;
+            bits = h.bits;
+            releases = h.releases;
+            child = h.child;
+            short = h.short;
+            asks = asks_at h true f;
+            guess_long = h.guess_long;
+            guess = h.guess;
+            fails = h.fails;
+            barrier = h.barrier;
+          }
+      so h false f =
+          record {
+            long = h.long;
+            env = h.env;
+            held = h.held;
+            reserves = h.reserves;
+            fits = h.fits;
+            writes = h.writes;
+            bits = h.bits;
+            releases = h.releases;
+            child = h.child;
+            short = h.short;
+            asks = asks_at h false f;
+            guess_long = h.guess_long;
+            guess = h.guess;
+            fails = h.fails;
+            barrier = h.barrier;
+          }
 
   pub follows_spec_call : (args : List Expr) → FollowsOp c p ls vs s st k thread around (SpecCall args)
   follows_spec_call args j gs r w d live on row here fine q =
@@ -74,22 +158,63 @@ module _ (c : Circuit) (p : Pipe) (ls : Locks) (vs : ℕ → View) (s : State) (
       same false = refl
 
       values : IsSo p k s w d → all_hold gs d.env ≡ true → values_of args d.env ≡ values_at s r.args
-      values h f = values_same c p ls vs s st k thread around args r.args w d.env (row.1 s around.suits (is_taken c p ls vs s st k thread around gs r w d glive on q h f)) (λ e i y u. h.env y (live.vars y (or_right (guards_use gs y) (are_using args y) (i y u))))
+      values h f =
+          values_same c p ls vs s st k thread around args r.args w d.env
+          (row.1 s around.suits (is_taken c p ls vs s st k thread around gs r w d glive on q h f))
+          (λ e i y u. h.env y (live.vars y (or_right (guards_use gs y) (are_using args y) (i y u))))
 
-      child_at : IsSo p k s w d → (b : Bool) → all_hold gs d.env ≡ b → (done st thread b (SpecCall args) d).child ≡ child_in s (record { on = r.on; args = r.args } ∷ w.births)
+      child_at : IsSo p k s w d → (b : Bool) → all_hold gs d.env ≡ b
+          → (done st thread b (SpecCall args) d).child ≡ child_in s (record { on = r.on; args = r.args } ∷ w.births)
       child_at h true f =
           ap (λ l. Some l) (values h f)
-          ∙ ap (λ c. if c then Some (map (λ (f : Signal). f.value s) r.args) else child_in s w.births) (sym (on_is s r.on true (on_at c p ls vs s st k thread around gs r w d glive on q h ∙ ap bit f)))
+          ∙ ap (λ c. if c then Some (map (λ (f : Signal). f.value s) r.args) else child_in s w.births)
+          (sym (on_is s r.on true (on_at c p ls vs s st k thread around gs r w d glive on q h ∙ ap bit f)))
       child_at h false f =
-          h.child ∙ ap (λ c. if c then Some (map (λ (f : Signal). f.value s) r.args) else child_in s w.births) (sym (on_is s r.on false (on_at c p ls vs s st k thread around gs r w d glive on q h ∙ ap bit f)))
+          h.child
+          ∙ ap (λ c. if c then Some (map (λ (f : Signal). f.value s) r.args) else child_in s w.births)
+          (sym (on_is s r.on false (on_at c p ls vs s st k thread around gs r w d glive on q h ∙ ap bit f)))
 
       guess_at : IsSo p k s w d → (b : Bool) → all_hold gs d.env ≡ b → IsGuess p k s r.guess (done st thread b (SpecCall args) d).guess
       guess_at h true f v l = values h f ∙ sym (row.3 s around.suits (is_taken c p ls vs s st k thread around gs r w d glive on q h f))
       guess_at h false f v l = h.guess v l ∙ sym (row.4 s around.suits (is_not c p ls vs s st k thread around gs r w d glive on q h f))
 
       so : IsSo p k s w d → (b : Bool) → all_hold gs d.env ≡ b → IsSo p k s (walk_after (SpecCall args) r ls w) (done st thread b (SpecCall args) d)
-      so h true f = record { long = h.long; env = h.env; held = h.held; reserves = h.reserves; fits = h.fits; writes = h.writes; bits = h.bits; releases = h.releases; child = child_at h true f; short = (row.0, h.short); asks = h.asks; guess_long = row.2 ∙ h.guess_long; guess = guess_at h true f; fails = h.fails; barrier = h.barrier }
-      so h false f = record { long = h.long; env = h.env; held = h.held; reserves = h.reserves; fits = h.fits; writes = h.writes; bits = h.bits; releases = h.releases; child = child_at h false f; short = (row.0, h.short); asks = h.asks; guess_long = row.2 ∙ h.guess_long; guess = guess_at h false f; fails = h.fails; barrier = h.barrier }
+      so h true f =
+          record {
+            long = h.long;
+            env = h.env;
+            held = h.held;
+            reserves = h.reserves;
+            fits = h.fits;
+            writes = h.writes;
+            bits = h.bits;
+            releases = h.releases;
+            child = child_at h true f;
+            short = (row.0, h.short);
+            asks = h.asks;
+            guess_long = row.2 ∙ h.guess_long;
+            guess = guess_at h true f;
+            fails = h.fails;
+            barrier = h.barrier;
+          }
+      so h false f =
+          record {
+            long = h.long;
+            env = h.env;
+            held = h.held;
+            reserves = h.reserves;
+            fits = h.fits;
+            writes = h.writes;
+            bits = h.bits;
+            releases = h.releases;
+            child = child_at h false f;
+            short = (row.0, h.short);
+            asks = h.asks;
+            guess_long = row.2 ∙ h.guess_long;
+            guess = guess_at h false f;
+            fails = h.fails;
+            barrier = h.barrier;
+          }
 
   pub follows_verify : (args : List Expr) → FollowsOp c p ls vs s st k thread around (Verify args)
   follows_verify args j gs r w d live on row here fine q =
@@ -116,7 +241,8 @@ module _ (c : Circuit) (p : Pipe) (ls : Locks) (vs : ℕ → View) (s : State) (
       new = walk_after (Verify args) r ls w
 
       -- after a verify of which this says whether it fails
-      after : IsSo p k s w d → (b : Bool) → wrong.value s ≡ bit b → (b ≡ true → values_of args d.env ≡ values_at s r.args) → IsSo p k s new (if b then failed else d)
+      after : IsSo p k s w d → (b : Bool) → wrong.value s ≡ bit b
+          → (b ≡ true → values_of args d.env ≡ values_at s r.args) → IsSo p k s new (if b then failed else d)
       after h true e v = record {
         long = h.long;
         env = h.env;
@@ -126,7 +252,8 @@ module _ (c : Circuit) (p : Pipe) (ls : Locks) (vs : ℕ → View) (s : State) (
         writes = h.writes;
         bits = h.bits;
         releases = h.releases;
-        child = ap (λ l. Some l) (v refl) ∙ ap (λ c. if c then Some (map (λ (f : Signal). f.value s) r.args) else child_in s w.births) (sym (on_is s wrong true e));
+        child =
+            ap (λ l. Some l) (v refl) ∙ ap (λ c. if c then Some (map (λ (f : Signal). f.value s) r.args) else child_in s w.births) (sym (on_is s wrong true e));
         short = (row.0, h.short);
         asks = h.asks;
         guess_long = h.guess_long;
@@ -153,13 +280,20 @@ module _ (c : Circuit) (p : Pipe) (ls : Locks) (vs : ℕ → View) (s : State) (
       }
 
       so : IsSo p k s w d → locks_ready p st thread d ≡ true → (b : Bool) → all_hold gs d.env ≡ b → IsSo p k s new (done st thread b (Verify args) d)
-      so h z false f = after h false (both_at s r.on r.value false true (on_at c p ls vs s st k thread around gs r w d glive on q h ∙ ap bit f) (λ e. absurd (cc e))) (λ e. absurd (cc e))
+      so h z false f =
+          after h false (both_at s r.on r.value false true (on_at c p ls vs s st k thread around gs r w d glive on q h ∙ ap bit f) (λ e. absurd (cc e)))
+          (λ e. absurd (cc e))
       so h z true f =
           let t = is_taken c p ls vs s st k thread around gs r w d glive on q h f in
-          let v : values_of args d.env ≡ values_at s r.args = values_same c p ls vs s st k thread around args r.args w d.env (row.1 s around.suits t) (λ e i y u. h.env y (live.vars y (or_right (guards_use gs y) (are_using args y) (i y u)))) in
+          let v : values_of args d.env ≡ values_at s r.args =
+          values_same c p ls vs s st k thread around args r.args w d.env (row.1 s around.suits t)
+          (λ e i y u. h.env y (live.vars y (or_right (guards_use gs y) (are_using args y) (i y u)))) in
           let g : d.guess ≡ values_at s w.guess = h.guess (live.verify refl) ((fine f z).1 ∙ sym row.2 ∙ h.guess_long) in
-          let e : r.value.value s ≡ bit (not (same_args (values_of args d.env) d.guess)) = row.3 s around.suits t ∙ ap₂ (λ x y. bit (not (same_args x y))) (sym v) (sym g) in
-          at (same_args (values_of args d.env) d.guess) (both_at s r.on r.value true (not (same_args (values_of args d.env) d.guess)) (on_at c p ls vs s st k thread around gs r w d glive on q h ∙ ap bit f) (λ x. e)) v
+          let e : r.value.value s ≡ bit (not (same_args (values_of args d.env) d.guess)) =
+          row.3 s around.suits t ∙ ap₂ (λ x y. bit (not (same_args x y))) (sym v) (sym g) in
+          at (same_args (values_of args d.env) d.guess)
+          (both_at s r.on r.value true (not (same_args (values_of args d.env) d.guess))
+          (on_at c p ls vs s st k thread around gs r w d glive on q h ∙ ap bit f) (λ x. e)) v
         where
           at : (b : Bool) → wrong.value s ≡ bit (not b) → values_of args d.env ≡ values_at s r.args → IsSo p k s new (if b then d else failed)
           at true e v = after h false e (λ x. v)
@@ -192,5 +326,39 @@ module _ (c : Circuit) (p : Pipe) (ls : Locks) (vs : ℕ → View) (s : State) (
       same false = refl
 
       so : IsSo p k s w d → (b : Bool) → all_hold gs d.env ≡ b → IsSo p k s (walk_after SpecBarrier r ls w) (done st thread b SpecBarrier d)
-      so h true f = record { long = h.long; env = h.env; held = h.held; reserves = h.reserves; fits = h.fits; writes = h.writes; bits = h.bits; releases = h.releases; child = h.child; short = h.short; asks = h.asks; guess_long = h.guess_long; guess = h.guess; fails = h.fails; barrier = mux_at s r.on one w.barrier true (on_at c p ls vs s st k thread around gs r w d glive on q h ∙ ap bit f) ∙ one_is s }
-      so h false f = record { long = h.long; env = h.env; held = h.held; reserves = h.reserves; fits = h.fits; writes = h.writes; bits = h.bits; releases = h.releases; child = h.child; short = h.short; asks = h.asks; guess_long = h.guess_long; guess = h.guess; fails = h.fails; barrier = mux_at s r.on one w.barrier false (on_at c p ls vs s st k thread around gs r w d glive on q h ∙ ap bit f) ∙ h.barrier }
+      so h true f =
+          record {
+            long = h.long;
+            env = h.env;
+            held = h.held;
+            reserves = h.reserves;
+            fits = h.fits;
+            writes = h.writes;
+            bits = h.bits;
+            releases = h.releases;
+            child = h.child;
+            short = h.short;
+            asks = h.asks;
+            guess_long = h.guess_long;
+            guess = h.guess;
+            fails = h.fails;
+            barrier = mux_at s r.on one w.barrier true (on_at c p ls vs s st k thread around gs r w d glive on q h ∙ ap bit f) ∙ one_is s;
+          }
+      so h false f =
+          record {
+            long = h.long;
+            env = h.env;
+            held = h.held;
+            reserves = h.reserves;
+            fits = h.fits;
+            writes = h.writes;
+            bits = h.bits;
+            releases = h.releases;
+            child = h.child;
+            short = h.short;
+            asks = h.asks;
+            guess_long = h.guess_long;
+            guess = h.guess;
+            fails = h.fails;
+            barrier = mux_at s r.on one w.barrier false (on_at c p ls vs s st k thread around gs r w d glive on q h ∙ ap bit f) ∙ h.barrier;
+          }

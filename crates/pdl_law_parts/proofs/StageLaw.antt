@@ -42,7 +42,11 @@ live_from : (p : Pipe) (k : ℕ) (xs : List Stmt) → Each (λ (x : Stmt). IsAtO
     → ((m a : ℕ) → list_any (λ (r : Stmt). nat_le k r.stage && asks_held r.op m a) xs ≡ true → held_from p k m a ≡ true)
     → AllLive p k (in_stage k xs)
 live_from p k [] once v f g = tt
-live_from p k (x ∷ xs) once v f g = at (x.stage == k) refl (live_from p k xs once.1 (λ e. v (or_right (nat_le k x.stage && is_verify x.op) _ e)) (λ y e. f y (or_right (nat_le k x.stage && row_uses x y) _ e)) (λ m a e. g m a (or_right (nat_le k x.stage && asks_held x.op m a) _ e)))
+live_from p k (x ∷ xs) once v f g =
+    at (x.stage == k) refl
+    (live_from p k xs once.1 (λ e. v (or_right (nat_le k x.stage && is_verify x.op) _ e))
+    (λ y e. f y (or_right (nat_le k x.stage && row_uses x y) _ e))
+    (λ m a e. g m a (or_right (nat_le k x.stage && asks_held x.op m a) _ e)))
   where
     at : (b : Bool) → (x.stage == k) ≡ b → AllLive p k (in_stage k xs) → AllLive p k (cond b (x ∷ in_stage k xs) (in_stage k xs))
     at false e rest = rest
@@ -67,7 +71,9 @@ live_rows p k once = live_from p k p.stmts once (λ e. e) (λ y e. or_left _ _ e
 -- ALL ROWS
 
 module _ (c : Circuit) (p : Pipe) (ls : Locks) (vs : ℕ → View) (s : State) (st : machine.State) (k thread : ℕ) (around : IsAround c p ls vs s st k thread) where
-  follows_all : (xs : List Stmt) (w end : Walk) (d : Deeds) → AllLive p k xs → AreRows c p ls (vs k).tickets xs w end → AreFine p st thread xs d → Follows p k s st thread w d → Follows p k s st thread end (deeds_after_all (word_for st thread) xs d)
+  follows_all : (xs : List Stmt) (w end : Walk) (d : Deeds) → AllLive p k xs → AreRows c p ls (vs k).tickets xs w end
+      → AreFine p st thread xs d → Follows p k s st thread w d
+      → Follows p k s st thread end (deeds_after_all (word_for st thread) xs d)
   follows_all [] w end d live rows fine q = subst (λ (x : Walk). Follows p k s st thread x d) (sym rows) q
   follows_all (x ∷ xs) w end d live rows fine q =
       follows_all xs (walk_after x.op rows.0 ls w) end (if all_hold x.guards d.env then deeds_after (word_for st thread) x.op d else d) live.1 rows.2 fine.1
@@ -76,7 +82,8 @@ module _ (c : Circuit) (p : Pipe) (ls : Locks) (vs : ℕ → View) (s : State) (
 -- THE WHOLE STAGE
 
 module _ (c : Circuit) (p : Pipe) (ls : Locks) (vs : ℕ → View) (s : State) (st : machine.State) (bits : List Bool) (suits : Suits c s)
-    (kind : (m : ℕ) → is_locked p m ≡ true → (mem_at p m).lock ≡ as_lock (ls.kind m) (ls.size m)) (room : (m : ℕ) → is_locked p m ≡ true → RoomLaw (ls.stands m) (ls.size m) (ls.room m))
+    (kind : (m : ℕ) → is_locked p m ≡ true → (mem_at p m).lock ≡ as_lock (ls.kind m) (ls.size m))
+    (room : (m : ℕ) → is_locked p m ≡ true → RoomLaw (ls.stands m) (ls.size m) (ls.room m))
     (stands : StandsFor p ls vs s st) (used : IsInUse p st bits) (once : AreAtOnce p) where
   around_of : (k : ℕ) (t : Thread) → here p st bits k ≡ Some t → IsAround c p ls vs s st k t.number
   around_of k t h = record {
@@ -87,7 +94,12 @@ module _ (c : Circuit) (p : Pipe) (ls : Locks) (vs : ℕ → View) (s : State) (
     unlocked = λ m e. used.plain m (plain_is p m e);
     words = stands.words;
     locks = stands.locks;
-    tickets = λ m e low. (let u = stood p st bits k t h in subst (λ n. holds_ticket (ls.bits m) ((vs k).tickets m) s ((stands.locks m e).base + count_older n (machine.lock_of st m))) u.number ((stands.locks m e).tickets k u.thread u.slot low));
+    tickets =
+        λ m e low.
+        (let u = stood p st bits k t h in
+        subst
+        (λ n. holds_ticket (ls.bits m) ((vs k).tickets m) s ((stands.locks m e).base + count_older n (machine.lock_of st m))) u.number
+        ((stands.locks m e).tickets k u.thread u.slot low));
   }
 
   pub stage_follows : (k : ℕ) (t : Thread) → AreRows c p ls (vs k).tickets (in_stage k p.stmts) (vs k).begun (vs k).ended
@@ -96,7 +108,8 @@ module _ (c : Circuit) (p : Pipe) (ls : Locks) (vs : ℕ → View) (s : State) (
       → IsEnv p k s (vs k).begun.vars (with_kept t.kept t.env) → here p st bits k ≡ Some t → Follows p k s st t.number (vs k).ended (deeds p st k t)
   stage_follows k t rows fresh guess_long env h =
       let u = stood p st bits k t h in
-      follows_all c p ls vs s st k t.number (around_of k t h) (in_stage k p.stmts) (vs k).begun (vs k).ended (before_stage p k t) (live_rows p k once) rows (used.fine k t h)
+      follows_all c p ls vs s st k t.number (around_of k t h) (in_stage k p.stmts)
+      (vs k).begun (vs k).ended (before_stage p k t) (live_rows p k once) rows (used.fine k t h)
       (record {
         ready = ap (λ (f : Signal). f.value s) fresh.ready ∙ one_is s;
         so = λ z. record {

@@ -37,22 +37,64 @@ module _ (c : Circuit) (p : Pipe) (ls : Locks) (vs : ℕ → View) (s : State) (
       same true = refl
       same false = refl
 
-      writes_at : IsSo p k s w d → (b : Bool) → all_hold gs d.env ≡ b → (done st thread b (Write m a e) d).writes ≡ written_in s (w.puts ++ record { mem = m; on = r.on; value = r.value } ∷ [])
+      writes_at : IsSo p k s w d → (b : Bool) → all_hold gs d.env ≡ b
+          → (done st thread b (Write m a e) d).writes ≡ written_in s (w.puts ++ record { mem = m; on = r.on; value = r.value } ∷ [])
       writes_at h true f =
-          ap₂ (λ l v. l ++ record { mem = m; value = v } ∷ []) h.writes (sym (row s around.suits (is_taken c p ls vs s st k thread around gs r w d glive on q h f) d.env (λ z u. h.env z (live.vars z (or_right (guards_use gs z) (uses_var e z) u)))))
-          ∙ ap (λ c. written_in s w.puts ++ (if c then record { mem = m; value = r.value.value s } ∷ [] else [])) (sym (on_is s r.on true (on_at c p ls vs s st k thread around gs r w d glive on q h ∙ ap bit f)))
+          ap₂ (λ l v. l ++ record { mem = m; value = v } ∷ []) h.writes
+          (sym
+          (row s around.suits (is_taken c p ls vs s st k thread around gs r w d glive on q h f) d.env
+          (λ z u. h.env z (live.vars z (or_right (guards_use gs z) (uses_var e z) u)))))
+          ∙ ap (λ c. written_in s w.puts ++ (if c then record { mem = m; value = r.value.value s } ∷ [] else []))
+          (sym (on_is s r.on true (on_at c p ls vs s st k thread around gs r w d glive on q h ∙ ap bit f)))
           ∙ sym (written_more s w.puts (record { mem = m; on = r.on; value = r.value }))
       writes_at h false f =
           h.writes ∙ sym (append-nil (written_in s w.puts))
-          ∙ ap (λ c. written_in s w.puts ++ (if c then record { mem = m; value = r.value.value s } ∷ [] else [])) (sym (on_is s r.on false (on_at c p ls vs s st k thread around gs r w d glive on q h ∙ ap bit f)))
+          ∙ ap (λ c. written_in s w.puts ++ (if c then record { mem = m; value = r.value.value s } ∷ [] else []))
+          (sym (on_is s r.on false (on_at c p ls vs s st k thread around gs r w d glive on q h ∙ ap bit f)))
           ∙ sym (written_more s w.puts (record { mem = m; on = r.on; value = r.value }))
 
       bit_on : IsSo p k s w d → r.on.value s ≡ bit (is_on r.on s)
-      bit_on h = on_at c p ls vs s st k thread around gs r w d glive on q h ∙ ap bit (sym (on_is s r.on (all_hold gs d.env) (on_at c p ls vs s st k thread around gs r w d glive on q h)))
+      bit_on h =
+          on_at c p ls vs s st k thread around gs r w d glive on q h
+          ∙ ap bit (sym (on_is s r.on (all_hold gs d.env) (on_at c p ls vs s st k thread around gs r w d glive on q h)))
 
       so : IsSo p k s w d → (b : Bool) → all_hold gs d.env ≡ b → IsSo p k s (walk_after (Write m a e) r ls w) (done st thread b (Write m a e) d)
-      so h true f = record { long = h.long; env = h.env; held = h.held; reserves = h.reserves; fits = h.fits; writes = writes_at h true f; bits = bits_more s w.puts _ h.bits (bit_on h); releases = h.releases; child = h.child; short = h.short; asks = h.asks; guess_long = h.guess_long; guess = h.guess; fails = h.fails; barrier = h.barrier }
-      so h false f = record { long = h.long; env = h.env; held = h.held; reserves = h.reserves; fits = h.fits; writes = writes_at h false f; bits = bits_more s w.puts _ h.bits (bit_on h); releases = h.releases; child = h.child; short = h.short; asks = h.asks; guess_long = h.guess_long; guess = h.guess; fails = h.fails; barrier = h.barrier }
+      so h true f =
+          record {
+            long = h.long;
+            env = h.env;
+            held = h.held;
+            reserves = h.reserves;
+            fits = h.fits;
+            writes = writes_at h true f;
+            bits = bits_more s w.puts _ h.bits (bit_on h);
+            releases = h.releases;
+            child = h.child;
+            short = h.short;
+            asks = h.asks;
+            guess_long = h.guess_long;
+            guess = h.guess;
+            fails = h.fails;
+            barrier = h.barrier;
+          }
+      so h false f =
+          record {
+            long = h.long;
+            env = h.env;
+            held = h.held;
+            reserves = h.reserves;
+            fits = h.fits;
+            writes = writes_at h false f;
+            bits = bits_more s w.puts _ h.bits (bit_on h);
+            releases = h.releases;
+            child = h.child;
+            short = h.short;
+            asks = h.asks;
+            guess_long = h.guess_long;
+            guess = h.guess;
+            fails = h.fails;
+            barrier = h.barrier;
+          }
 
   pub follows_reserve_read : (m a : ℕ) → FollowsOp c p ls vs s st k thread around (ReserveRead m a)
   follows_reserve_read m a j gs r w d live on row here fine q =
@@ -71,7 +113,10 @@ module _ (c : Circuit) (p : Pipe) (ls : Locks) (vs : ℕ → View) (s : State) (
 
   pub follows_reserve_write : (m a : ℕ) → FollowsOp c p ls vs s st k thread around (ReserveWrite m a)
   follows_reserve_write m a j gs r w d live on row here fine q =
-      asking c p ls vs s st k thread around gs r w d glive on q (ReserveWrite m a) (walk_after (ReserveWrite m a) r ls w) (ls.room m) roomy refl (λ b. split b) (λ h z f. room_is p ls vs s st m (around.kind m row.0) (around.locks m row.0) (around.ordered m) (around.room m row.0)) (λ h b f. so h b f)
+      asking c p ls vs s st k thread around gs r w d glive on q (ReserveWrite m a)
+      (walk_after (ReserveWrite m a) r ls w) (ls.room m) roomy refl (λ b. split b)
+      (λ h z f. room_is p ls vs s st m (around.kind m row.0) (around.locks m row.0) (around.ordered m) (around.room m row.0))
+      (λ h b f. so h b f)
     where
       glive : (z : ℕ) → guards_use gs z ≡ true → lives_from p k z ≡ true
       glive z u = live.vars z (or_left (guards_use gs z) (a == z) u)
@@ -84,14 +129,23 @@ module _ (c : Circuit) (p : Pipe) (ls : Locks) (vs : ℕ → View) (s : State) (
 
       split : (b : Bool) → locks_ready p st thread (done st thread b (ReserveWrite m a) d) ≡ (locks_ready p st thread d && (if b then roomy else true))
       split true =
-          ap (λ b. blocks_ready p st thread d && b) (all_push (λ (r : Reserved). has_room (mem_at p r.mem).lock (length (machine.lock_of st r.mem))) d.reserves (record { mem = m; address = slice_index d.env a }))
+          ap (λ b. blocks_ready p st thread d && b)
+          (all_push
+          (λ (r : Reserved). has_room (mem_at p r.mem).lock (length (machine.lock_of st r.mem))) d.reserves
+          (record { mem = m; address = slice_index d.env a }))
           ∙ sym (and_assoc (blocks_ready p st thread d) (have_room p st d) roomy)
       split false = and_true (locks_ready p st thread d)
 
-      more : IsSo p k s w d → (b : Bool) → all_hold gs d.env ≡ b → reserved_in s (w.reserves ++ record { mem = m; on = r.on; addr = w.vars a } ∷ []) ≡ reserved_in s w.reserves ++ (if b then record { mem = m; address = (w.vars a).value s } ∷ [] else [])
-      more h b f = reserved_more s w.reserves (record { mem = m; on = r.on; addr = w.vars a }) ∙ ap (λ c. reserved_in s w.reserves ++ (if c then record { mem = m; address = (w.vars a).value s } ∷ [] else [])) (on_is s r.on b (on_at c p ls vs s st k thread around gs r w d glive on q h ∙ ap bit f))
+      more : IsSo p k s w d → (b : Bool) → all_hold gs d.env ≡ b
+          → reserved_in s (w.reserves ++ record { mem = m; on = r.on; addr = w.vars a } ∷ [])
+          ≡ reserved_in s w.reserves ++ (if b then record { mem = m; address = (w.vars a).value s } ∷ [] else [])
+      more h b f =
+          reserved_more s w.reserves (record { mem = m; on = r.on; addr = w.vars a })
+          ∙ ap (λ c. reserved_in s w.reserves ++ (if c then record { mem = m; address = (w.vars a).value s } ∷ [] else []))
+          (on_is s r.on b (on_at c p ls vs s st k thread around gs r w d glive on q h ∙ ap bit f))
 
-      mine : (b : Bool) → IsSo p k s w d → all_hold gs d.env ≡ b → held_from p k m a ≡ true → (mux_signal r.on one (w.held m a)).value s ≡ bit (if b then true else is_held d.held m a)
+      mine : (b : Bool) → IsSo p k s w d → all_hold gs d.env ≡ b → held_from p k m a ≡ true
+          → (mux_signal r.on one (w.held m a)).value s ≡ bit (if b then true else is_held d.held m a)
       mine true h f l = mux_at s r.on one (w.held m a) true (on_at c p ls vs s st k thread around gs r w d glive on q h ∙ ap bit f) ∙ one_is s
       mine false h f l = mux_at s r.on one (w.held m a) false (on_at c p ls vs s st k thread around gs r w d glive on q h ∙ ap bit f) ∙ h.held m a l
 
@@ -106,7 +160,9 @@ module _ (c : Circuit) (p : Pipe) (ls : Locks) (vs : ℕ → View) (s : State) (
         held = hold c p ls vs s st k thread around gs r w d glive on q m a (mux_signal r.on one (w.held m a)) (record { mem = m; var = a } ∷ d.held)
             (λ l. mine true h f l ∙ ap bit (sym (or_left ((m == m) && (a == a)) (is_held d.held m a) (ap₂ (λ x y. x && y) (eqb_self m) (eqb_self a)))))
             (λ n b e. ap (λ x. x || is_held d.held n b) e) h.held;
-        reserves = ap₂ (λ l v. l ++ record { mem = m; address = v } ∷ []) h.reserves (h.env a (live.vars a (or_right (guards_use gs a) (a == a) (eqb_self a)))) ∙ sym (more h true f);
+        reserves =
+            ap₂ (λ l v. l ++ record { mem = m; address = v } ∷ []) h.reserves (h.env a (live.vars a (or_right (guards_use gs a) (a == a) (eqb_self a))))
+            ∙ sym (more h true f);
         fits = fits_more s w.reserves _ h.fits (fits_new h true f);
         writes = h.writes;
         bits = h.bits;
@@ -122,7 +178,9 @@ module _ (c : Circuit) (p : Pipe) (ls : Locks) (vs : ℕ → View) (s : State) (
       so h false f = record {
         long = h.long;
         env = h.env;
-        held = hold c p ls vs s st k thread around gs r w d glive on q m a (mux_signal r.on one (w.held m a)) d.held (λ l. mine false h f l) (λ n b e. refl) h.held;
+        held =
+            hold c p ls vs s st k thread around gs r w d glive on q m a (mux_signal r.on one (w.held m a)) d.held (λ l. mine false h f l)
+            (λ n b e. refl) h.held;
         reserves = h.reserves ∙ sym (append-nil (reserved_in s w.reserves)) ∙ sym (more h false f);
         fits = fits_more s w.reserves _ h.fits (fits_new h false f);
         writes = h.writes;
@@ -139,7 +197,8 @@ module _ (c : Circuit) (p : Pipe) (ls : Locks) (vs : ℕ → View) (s : State) (
 
   pub follows_block : (m a : ℕ) → FollowsOp c p ls vs s st k thread around (Block m a)
   follows_block m a j gs r w d live on row here fine q =
-      asking c p ls vs s st k thread around gs r w d glive on q (Block m a) (walk_after (Block m a) r ls w) r.value found refl (λ b. split b) told (λ h b f. so h b)
+      asking c p ls vs s st k thread around gs r w d glive on q (Block m a)
+      (walk_after (Block m a) r ls w) r.value found refl (λ b. split b) told (λ h b f. so h b)
     where
       glive : (z : ℕ) → guards_use gs z ≡ true → lives_from p k z ≡ true
       glive z u = live.vars z (or_left (guards_use gs z) (a == z) u)
@@ -160,14 +219,51 @@ module _ (c : Circuit) (p : Pipe) (ls : Locks) (vs : ℕ → View) (s : State) (
       told h z f =
           let e = row.0 in
           let low = early c p ls vs s st k thread around j (commit_stage p m) here (fine f z).0 in
-          let kept : is_on (w.held m a) s ≡ is_held d.held m a = on_is s (w.held m a) (is_held d.held m a) (h.held m a (live.held m a (ap₂ (λ x y. x && y) (eqb_self m) (eqb_self a)))) in
+          let kept : is_on (w.held m a) s ≡ is_held d.held m a =
+          on_is s (w.held m a) (is_held d.held m a) (h.held m a (live.held m a (ap₂ (λ x y. x && y) (eqb_self m) (eqb_self a)))) in
           let addr : slice_index d.env a ≡ (w.vars a).value s = h.env a (live.vars a (or_right (guards_use gs a) (a == a) (eqb_self a))) in
-          block_is p ls vs s st m (around.kind m e) (around.locks m e) (around.ordered m) thread ((vs k).tickets m) (around.tickets m e low) (is_on (w.held m a) s) ((w.vars a).value s) r.value (row.1 s around.suits (is_taken c p ls vs s st k thread around gs r w d glive on q h f))
+          block_is p ls vs s st m (around.kind m e) (around.locks m e) (around.ordered m) thread ((vs k).tickets m)
+          (around.tickets m e low) (is_on (w.held m a) s)
+          ((w.vars a).value s) r.value (row.1 s around.suits (is_taken c p ls vs s st k thread around gs r w d glive on q h f))
           ∙ ap₂ (λ u v. bit (finds p st thread m u v)) kept (sym addr)
 
       so : IsSo p k s w d → (b : Bool) → IsSo p k s (walk_after (Block m a) r ls w) (done st thread b (Block m a) d)
-      so h true = record { long = h.long; env = h.env; held = h.held; reserves = h.reserves; fits = h.fits; writes = h.writes; bits = h.bits; releases = h.releases; child = h.child; short = h.short; asks = h.asks; guess_long = h.guess_long; guess = h.guess; fails = h.fails; barrier = h.barrier }
-      so h false = record { long = h.long; env = h.env; held = h.held; reserves = h.reserves; fits = h.fits; writes = h.writes; bits = h.bits; releases = h.releases; child = h.child; short = h.short; asks = h.asks; guess_long = h.guess_long; guess = h.guess; fails = h.fails; barrier = h.barrier }
+      so h true =
+          record {
+            long = h.long;
+            env = h.env;
+            held = h.held;
+            reserves = h.reserves;
+            fits = h.fits;
+            writes = h.writes;
+            bits = h.bits;
+            releases = h.releases;
+            child = h.child;
+            short = h.short;
+            asks = h.asks;
+            guess_long = h.guess_long;
+            guess = h.guess;
+            fails = h.fails;
+            barrier = h.barrier;
+          }
+      so h false =
+          record {
+            long = h.long;
+            env = h.env;
+            held = h.held;
+            reserves = h.reserves;
+            fits = h.fits;
+            writes = h.writes;
+            bits = h.bits;
+            releases = h.releases;
+            child = h.child;
+            short = h.short;
+            asks = h.asks;
+            guess_long = h.guess_long;
+            guess = h.guess;
+            fails = h.fails;
+            barrier = h.barrier;
+          }
 
   pub follows_release : (m a : ℕ) → FollowsOp c p ls vs s st k thread around (Release m a)
   follows_release m a j gs r w d live on row here fine q =
@@ -186,17 +282,22 @@ module _ (c : Circuit) (p : Pipe) (ls : Locks) (vs : ℕ → View) (s : State) (
       holding : IsSo p k s w d → (w.held m a).value s ≡ bit (is_held d.held m a)
       holding h = h.held m a (live.held m a (ap₂ (λ x y. x && y) (eqb_self m) (eqb_self a)))
 
-      letting : IsSo p k s w d → (b : Bool) → all_hold gs d.env ≡ b → let_in s (w.lettings ++ record { mem = m; on = both r.on (w.held m a) } ∷ []) ≡ let_in s w.lettings ++ (if b && is_held d.held m a then m ∷ [] else [])
+      letting : IsSo p k s w d → (b : Bool) → all_hold gs d.env ≡ b
+          → let_in s (w.lettings ++ record { mem = m; on = both r.on (w.held m a) } ∷ [])
+          ≡ let_in s w.lettings ++ (if b && is_held d.held m a then m ∷ [] else [])
       letting h b f =
           let_more s w.lettings (record { mem = m; on = both r.on (w.held m a) })
-          ∙ ap (λ c. let_in s w.lettings ++ (if c then m ∷ [] else [])) (on_is s (both r.on (w.held m a)) (b && is_held d.held m a) (both_at s r.on (w.held m a) b (is_held d.held m a) (on_at c p ls vs s st k thread around gs r w d glive on q h ∙ ap bit f) (λ z. holding h)))
+          ∙ ap (λ c. let_in s w.lettings ++ (if c then m ∷ [] else []))
+          (on_is s (both r.on (w.held m a)) (b && is_held d.held m a)
+          (both_at s r.on (w.held m a) b (is_held d.held m a) (on_at c p ls vs s st k thread around gs r w d glive on q h ∙ ap bit f) (λ z. holding h)))
 
       so : IsSo p k s w d → locks_ready p st thread d ≡ true → (b : Bool) → all_hold gs d.env ≡ b → IsSo p k s new (done st thread b (Release m a) d)
       so h z true f = record {
         long = h.long;
         env = h.env;
         held = hold c p ls vs s st k thread around gs r w d glive on q m a (mux_signal r.on zero_bit (w.held m a)) (let_go d.held m a)
-            (λ l. mux_at s r.on zero_bit (w.held m a) true (on_at c p ls vs s st k thread around gs r w d glive on q h ∙ ap bit f) ∙ zero_is s ∙ ap bit (sym (fine f z).1))
+            (λ l. mux_at s r.on zero_bit (w.held m a) true (on_at c p ls vs s st k thread around gs r w d glive on q h ∙ ap bit f)
+            ∙ zero_is s ∙ ap bit (sym (fine f z).1))
             (λ n b e. other_held d.held m a n b e) h.held;
         reserves = h.reserves;
         fits = h.fits;
@@ -214,7 +315,10 @@ module _ (c : Circuit) (p : Pipe) (ls : Locks) (vs : ℕ → View) (s : State) (
       so h z false f = record {
         long = h.long;
         env = h.env;
-        held = hold c p ls vs s st k thread around gs r w d glive on q m a (mux_signal r.on zero_bit (w.held m a)) d.held (λ l. mux_at s r.on zero_bit (w.held m a) false (on_at c p ls vs s st k thread around gs r w d glive on q h ∙ ap bit f) ∙ holding h) (λ n b e. refl) h.held;
+        held =
+            hold c p ls vs s st k thread around gs r w d glive on q m a (mux_signal r.on zero_bit (w.held m a)) d.held
+            (λ l. mux_at s r.on zero_bit (w.held m a) false (on_at c p ls vs s st k thread around gs r w d glive on q h ∙ ap bit f) ∙ holding h)
+            (λ n b e. refl) h.held;
         reserves = h.reserves;
         fits = h.fits;
         writes = h.writes;

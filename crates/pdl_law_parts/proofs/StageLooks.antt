@@ -29,7 +29,9 @@ abbrev pub finds : Pipe → machine.State → ℕ → ℕ → Bool → ℕ → B
 finds p st thread m u a =
     if u then write_ready (mem_at p m).lock (older_write st thread m a) else read_ready (mem_at p m).lock (older_write st thread m a)
 
-module _ (p : Pipe) (ls : Locks) (vs : ℕ → View) (s : State) (st : machine.State) (m : ℕ) (kind : (mem_at p m).lock ≡ as_lock (ls.kind m) (ls.size m)) (stands : StandsLock p ls vs s st m) (ordered : AreOrdered 0 (machine.lock_of st m)) where
+module _ (p : Pipe) (ls : Locks) (vs : ℕ → View) (s : State) (st : machine.State) (m : ℕ)
+    (kind : (mem_at p m).lock ≡ as_lock (ls.kind m) (ls.size m)) (stands : StandsLock p ls vs s st m)
+    (ordered : AreOrdered 0 (machine.lock_of st m)) where
   -- the lock that stands for the pending writes, and the number of a thread's ticket
   abbrev state_of : LockState
   state_of = lock_state_of stands.base (machine.lock_of st m) stands.words
@@ -46,19 +48,28 @@ module _ (p : Pipe) (ls : Locks) (vs : ℕ → View) (s : State) (st : machine.S
   pub room_is : RoomLaw (ls.stands m) (ls.size m) (ls.room m) → (ls.room m).value s ≡ bit (has_room (mem_at p m).lock (length (machine.lock_of st m)))
   room_is law =
       law.holds s state_of stands.stands
-      ∙ ap bit ((same_meaning (ls.kind m) (ls.size m) stands.base 0 0 0 (machine.lock_of st m) stands.words ordered).3 ∙ ap (λ l. has_room l (length (machine.lock_of st m))) (sym kind))
+      ∙ ap bit
+      ((same_meaning (ls.kind m) (ls.size m) stands.base 0 0 0 (machine.lock_of st m) stands.words ordered).3
+      ∙ ap (λ l. has_room l (length (machine.lock_of st m))) (sym kind))
 
   module _ (thread : ℕ) (ticket : Signal) (mine : holds_ticket (ls.bits m) ticket s (stands.base + count_older thread (machine.lock_of st m))) where
     look_same : (u : Bool) (a : ℕ) → look_ready (ls.kind m) (look_of u) state_of (number_of thread) a ≡ finds p st thread m u a
-    look_same true a = (same_meaning (ls.kind m) (ls.size m) stands.base 0 thread a (machine.lock_of st m) stands.words ordered).1 ∙ ap (λ l. write_ready l (older_write st thread m a)) (sym kind)
-    look_same false a = (same_meaning (ls.kind m) (ls.size m) stands.base 0 thread a (machine.lock_of st m) stands.words ordered).0 ∙ ap (λ l. read_ready l (older_write st thread m a)) (sym kind)
+    look_same true a =
+        (same_meaning (ls.kind m) (ls.size m) stands.base 0 thread a (machine.lock_of st m) stands.words ordered).1
+        ∙ ap (λ l. write_ready l (older_write st thread m a)) (sym kind)
+    look_same false a =
+        (same_meaning (ls.kind m) (ls.size m) stands.base 0 thread a (machine.lock_of st m) stands.words ordered).0
+        ∙ ap (λ l. read_ready l (older_write st thread m a)) (sym kind)
 
     -- a block's signal says whether the block is ready
-    pub block_is : (u : Bool) (a : ℕ) (f : Signal) → ThroughLock ls m ticket s (λ x t. f.value s ≡ bit (look_ready (ls.kind m) (look_of u) x t a)) → f.value s ≡ bit (finds p st thread m u a)
+    pub block_is : (u : Bool) (a : ℕ) (f : Signal)
+        → ThroughLock ls m ticket s (λ x t. f.value s ≡ bit (look_ready (ls.kind m) (look_of u) x t a))
+        → f.value s ≡ bit (finds p st thread m u a)
     block_is u a f h = h state_of (number_of thread) stands.stands (covered thread) mine ∙ ap bit (look_same u a)
 
     -- a ready read gives the word that the thread finds
-    pub read_is : (addr f : Signal) → IsWord p ls m addr ticket f s → is_locked p m ≡ true → finds p st thread m false (addr.value s) ≡ true → f.value s ≡ word_for st thread m (addr.value s)
+    pub read_is : (addr f : Signal) → IsWord p ls m addr ticket f s → is_locked p m ≡ true
+        → finds p st thread m false (addr.value s) ≡ true → f.value s ≡ word_for st thread m (addr.value s)
     read_is addr f h e ready =
         let a = addr.value s in
         let r = look_same false a ∙ ready in

@@ -33,7 +33,8 @@ pub other_held : (ls : List HeldLocation) (m a n b : ℕ) → ((m == n) && (a ==
 other_held [] m a n b e = refl
 other_held (l ∷ ls) m a n b e = at ((l.mem == m) && (l.var == a)) refl (other_held ls m a n b e)
   where
-    at : (t : Bool) → ((l.mem == m) && (l.var == a)) ≡ t → is_held (let_go ls m a) n b ≡ is_held ls n b → is_held (if t then ls else l ∷ let_go ls m a) n b ≡ (((l.mem == n) && (l.var == b)) || is_held ls n b)
+    at : (t : Bool) → ((l.mem == m) && (l.var == a)) ≡ t → is_held (let_go ls m a) n b ≡ is_held ls n b
+        → is_held (if t then ls else l ∷ let_go ls m a) n b ≡ (((l.mem == n) && (l.var == b)) || is_held ls n b)
     at true f h =
         let g = and_parts (l.mem == m) (l.var == a) f in
         sym (ap (λ x. x || is_held ls n b) (ap₂ (λ i j. (i == n) && (j == b)) (eqb-true l.mem m g.0) (eqb-true l.var a g.1) ∙ e))
@@ -53,16 +54,19 @@ pub record IsAround (c : Circuit) (p : Pipe) (ls : Locks) (vs : ℕ → View) (s
   pub room : (m : ℕ) → is_locked p m ≡ true → RoomLaw (ls.stands m) (ls.size m) (ls.room m)
   pub ordered : (m : ℕ) → Rattle.pdl_semantics.specs.PendingLists.AreOrdered 0 (machine.lock_of st m)
   pub unlocked : (m : ℕ) → is_locked p m ≡ false → machine.lock_of st m ≡ []
-  pub words : (m : ℕ) → is_locked p m ≡ false → (mem_at p m).delayed ≡ false → (a : ℕ) → a < (mem_at p m).depth → st.arrays m a ≡ slice_index (slice_index_or s.arrays (ls.array m) []) a
+  pub words : (m : ℕ) → is_locked p m ≡ false → (mem_at p m).delayed ≡ false → (a : ℕ) → a < (mem_at p m).depth
+      → st.arrays m a ≡ slice_index (slice_index_or s.arrays (ls.array m) []) a
   pub locks : (m : ℕ) → is_locked p m ≡ true → StandsLock p ls vs s st m
-  pub tickets : (m : ℕ) (e : is_locked p m ≡ true) → k ≤ commit_stage p m → holds_ticket (ls.bits m) ((vs k).tickets m) s ((locks m e).base + count_older thread (machine.lock_of st m))
+  pub tickets : (m : ℕ) (e : is_locked p m ≡ true) → k ≤ commit_stage p m
+      → holds_ticket (ls.bits m) ((vs k).tickets m) s ((locks m e).base + count_older thread (machine.lock_of st m))
 
 -- guards are taken as the signals say
 taken_same : (gs : List Guard) (w : Walk) (s : State) (env : List ℕ)
     → ((x : ℕ) → guards_use gs x ≡ true → slice_index env x ≡ (w.vars x).value s) → all_hold gs env ≡ taken_in gs w s
 taken_same [] w s env h = refl
 taken_same (g ∷ gs) w s env h =
-    ap₂ (λ n b. takes_branch g.first n && b) (h g.var (or_left (g.var == g.var) (guards_use gs g.var) (eqb_self g.var))) (taken_same gs w s env (λ x u. h x (or_right (g.var == x) (guards_use gs x) u)))
+    ap₂ (λ n b. takes_branch g.first n && b) (h g.var (or_left (g.var == g.var) (guards_use gs g.var) (eqb_self g.var)))
+    (taken_same gs w s env (λ x u. h x (or_right (g.var == x) (guards_use gs x) u)))
 
 -- what a thread has done after an operation, where it is taken
 abbrev pub done : machine.State → ℕ → Bool → Op → Deeds → Deeds
@@ -70,7 +74,9 @@ done st thread b op d = if b then deeds_after (word_for st thread) op d else d
 
 module _ (c : Circuit) (p : Pipe) (ls : Locks) (vs : ℕ → View) (s : State) (st : machine.State) (k thread : ℕ) (around : IsAround c p ls vs s st k thread) where
   -- a row under these guards, after deeds that have come so far
-  module _ (gs : List Guard) (r : Row) (w : Walk) (d : Deeds) (glive : (y : ℕ) → guards_use gs y ≡ true → lives_from p k y ≡ true) (on : (s : State) → Suits c s → r.on.value s ≡ bit (taken_in gs w s)) (q : Follows p k s st thread w d) where
+  module _ (gs : List Guard) (r : Row) (w : Walk) (d : Deeds)
+      (glive : (y : ℕ) → guards_use gs y ≡ true → lives_from p k y ≡ true)
+      (on : (s : State) → Suits c s → r.on.value s ≡ bit (taken_in gs w s)) (q : Follows p k s st thread w d) where
     pub guards_same : IsSo p k s w d → all_hold gs d.env ≡ taken_in gs w s
     guards_same h = taken_same gs w s d.env (λ y u. h.env y (glive y u))
 
@@ -85,20 +91,29 @@ module _ (c : Circuit) (p : Pipe) (ls : Locks) (vs : ℕ → View) (s : State) (
     on_at h = on s around.suits ∙ ap bit (sym (guards_same h))
 
     -- a row that asks nothing of the locks
-    pub quiet : (op : Op) (w' : Walk) → w'.ready ≡ w.ready → ((b : Bool) → locks_ready p st thread (done st thread b op d) ≡ locks_ready p st thread d) → (IsSo p k s w d → locks_ready p st thread d ≡ true → (b : Bool) → all_hold gs d.env ≡ b → IsSo p k s w' (done st thread b op d)) → Follows p k s st thread w' (done st thread (all_hold gs d.env) op d)
+    pub quiet : (op : Op) (w' : Walk) → w'.ready ≡ w.ready
+        → ((b : Bool) → locks_ready p st thread (done st thread b op d) ≡ locks_ready p st thread d)
+        → (IsSo p k s w d → locks_ready p st thread d ≡ true → (b : Bool) → all_hold gs d.env ≡ b → IsSo p k s w' (done st thread b op d))
+        → Follows p k s st thread w' (done st thread (all_hold gs d.env) op d)
     quiet op w' e f g = record {
       ready = ap (λ (h : Signal). h.value s) e ∙ q.ready ∙ ap bit (sym (f (all_hold gs d.env)));
       so = λ z. let y = sym (f (all_hold gs d.env)) ∙ z in g (q.so y) y (all_hold gs d.env) refl;
     }
 
     -- a row that asks this of them where it is on the path
-    pub asking : (op : Op) (w' : Walk) (f : Signal) (y : Bool) → w'.ready ≡ both w.ready (if_on r.on f) → ((b : Bool) → locks_ready p st thread (done st thread b op d) ≡ (locks_ready p st thread d && (if b then y else true)))
+    pub asking : (op : Op) (w' : Walk) (f : Signal) (y : Bool) → w'.ready ≡ both w.ready (if_on r.on f)
+        → ((b : Bool) → locks_ready p st thread (done st thread b op d) ≡ (locks_ready p st thread d && (if b then y else true)))
         → (IsSo p k s w d → locks_ready p st thread d ≡ true → all_hold gs d.env ≡ true → f.value s ≡ bit y)
-        → (IsSo p k s w d → (b : Bool) → all_hold gs d.env ≡ b → IsSo p k s w' (done st thread b op d)) → Follows p k s st thread w' (done st thread (all_hold gs d.env) op d)
+        → (IsSo p k s w d → (b : Bool) → all_hold gs d.env ≡ b → IsSo p k s w' (done st thread b op d))
+        → Follows p k s st thread w' (done st thread (all_hold gs d.env) op d)
     asking op w' f y e split told g =
         let b = all_hold gs d.env in
         record {
-          ready = ap (λ (h : Signal). h.value s) e ∙ both_at s w.ready (if_on r.on f) (locks_ready p st thread d) (if b then y else true) q.ready (λ z. if_on_at s r.on f b y (on_at (q.so z)) (told (q.so z) z)) ∙ ap bit (sym (split b));
+          ready =
+              ap (λ (h : Signal). h.value s) e
+              ∙ both_at s w.ready (if_on r.on f) (locks_ready p st thread d)
+              (if b then y else true) q.ready (λ z. if_on_at s r.on f b y (on_at (q.so z)) (told (q.so z) z))
+              ∙ ap bit (sym (split b));
           so = λ z. g (q.so (and_parts (locks_ready p st thread d) (if b then y else true) (sym (split b) ∙ z)).0) b refl;
         }
 
@@ -120,7 +135,10 @@ module _ (c : Circuit) (p : Pipe) (ls : Locks) (vs : ℕ → View) (s : State) (
 
     -- LOCATIONS
 
-    pub hold : (m a : ℕ) (f : Signal) (new : List HeldLocation) → (held_from p k m a ≡ true → f.value s ≡ bit (is_held new m a)) → ((n b : ℕ) → ((m == n) && (a == b)) ≡ false → is_held new n b ≡ is_held d.held n b) → IsHolding p k s w.held d.held → IsHolding p k s (with_held m a f w.held) new
+    pub hold : (m a : ℕ) (f : Signal) (new : List HeldLocation)
+        → (held_from p k m a ≡ true → f.value s ≡ bit (is_held new m a))
+        → ((n b : ℕ) → ((m == n) && (a == b)) ≡ false → is_held new n b ≡ is_held d.held n b)
+        → IsHolding p k s w.held d.held → IsHolding p k s (with_held m a f w.held) new
     hold m a f new e other h n b live = at ((m == n) && (a == b)) refl
       where
         at : (t : Bool) → ((m == n) && (a == b)) ≡ t → (if t then f else w.held n b).value s ≡ bit (is_held new n b)
@@ -131,14 +149,22 @@ module _ (c : Circuit) (p : Pipe) (ls : Locks) (vs : ℕ → View) (s : State) (
         at false g = h n b live ∙ ap bit (sym (other n b g))
 
     -- a memory's word
-    pub word_at : (m a : ℕ) → (mem_at p m).delayed ≡ false → IsWord p ls m (w.vars a) ((vs k).tickets m) r.value s → k ≤ commit_stage p m → IsTrue (read_ready (mem_at p m).lock (older_write st thread m ((w.vars a).value s))) → r.value.value s ≡ word_for st thread m ((w.vars a).value s)
+    pub word_at : (m a : ℕ) → (mem_at p m).delayed ≡ false → IsWord p ls m (w.vars a) ((vs k).tickets m) r.value s
+        → k ≤ commit_stage p m → IsTrue (read_ready (mem_at p m).lock (older_write st thread m ((w.vars a).value s)))
+        → r.value.value s ≡ word_for st thread m ((w.vars a).value s)
     word_at m a comb word low ready = at (is_locked p m) refl
       where
         at : (b : Bool) → is_locked p m ≡ b → r.value.value s ≡ word_for st thread m ((w.vars a).value s)
-        at true e = read_is p ls vs s st m (around.kind m e) (around.locks m e) (around.ordered m) thread ((vs k).tickets m) (around.tickets m e low) (w.vars a) r.value word e ready
-        at false e = word_is p ls s st thread m (w.vars a) ((vs k).tickets m) r.value word e (around.unlocked m e) (around.words m e comb ((w.vars a).value s) word.reach)
+        at true e =
+            read_is p ls vs s st m (around.kind m e) (around.locks m e) (around.ordered m) thread ((vs k).tickets m)
+            (around.tickets m e low) (w.vars a) r.value word e ready
+        at false e =
+            word_is p ls s st thread m (w.vars a) ((vs k).tickets m) r.value word e (around.unlocked m e)
+            (around.words m e comb ((w.vars a).value s) word.reach)
 
-  pub values_same : (args : List Expr) (fs : List Signal) (w : Walk) (env : List ℕ) → HaveValues args w fs s → ((e : Expr) → ((y : ℕ) → uses_var e y ≡ true → are_using args y ≡ true) → AgreeOn e w s env) → values_of args env ≡ map (λ (f : Signal). f.value s) fs
+  pub values_same : (args : List Expr) (fs : List Signal) (w : Walk) (env : List ℕ) → HaveValues args w fs s
+      → ((e : Expr) → ((y : ℕ) → uses_var e y ≡ true → are_using args y ≡ true) → AgreeOn e w s env)
+      → values_of args env ≡ map (λ (f : Signal). f.value s) fs
   values_same [] [] w env h g = refl
   values_same [] (f ∷ fs) w env h g = absurd h
   values_same (e ∷ es) [] w env h g = absurd h
@@ -151,6 +177,10 @@ module _ (c : Circuit) (p : Pipe) (ls : Locks) (vs : ℕ → View) (s : State) (
 
   -- a row with this operation: after it the walk tells what the thread does
   abbrev pub FollowsOp : Op → Type 0
-  FollowsOp op = (j : ℕ) (gs : List Guard) (r : Row) (w : Walk) (d : Deeds) → IsLive p k (record { stage = j; guards = gs; op = op }) → ((s : State) → Suits c s → r.on.value s ≡ bit (taken_in gs w s)) → IsOp c p ls (vs k).tickets gs op w r → j ≡ k
-      → (all_hold gs d.env ≡ true → locks_ready p st thread d ≡ true → (is_early p (record { stage = j; guards = gs; op = op }) ≡ true) × IsOpFine p st thread op d)
+  FollowsOp op =
+      (j : ℕ) (gs : List Guard) (r : Row) (w : Walk) (d : Deeds)
+      → IsLive p k (record { stage = j; guards = gs; op = op })
+      → ((s : State) → Suits c s → r.on.value s ≡ bit (taken_in gs w s)) → IsOp c p ls (vs k).tickets gs op w r → j ≡ k
+      → (all_hold gs d.env ≡ true → locks_ready p st thread d ≡ true
+      → (is_early p (record { stage = j; guards = gs; op = op }) ≡ true) × IsOpFine p st thread op d)
       → Follows p k s st thread w d → Follows p k s st thread (walk_after op r ls w) (done st thread (all_hold gs d.env) op d)

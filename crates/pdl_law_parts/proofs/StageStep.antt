@@ -35,7 +35,10 @@ module _ (c : Circuit) (p : Pipe) (ls : Locks) (vs : ℕ → View) (s : State) (
       so : IsSo p k s w d → (b : Bool) → all_hold gs d.env ≡ b → IsSo p k s (with_var y r.value w) (done st thread b (Bind y e) d)
       so h true f = record {
         long = length-set d.env y (value_of e d.env) ∙ h.long;
-        env = set_env c p ls vs s st k thread around gs r w d glive on q y (value_of e d.env) r.value (subst (λ n. y < n) (sym h.long) row.0) (row.1 s around.suits (is_taken c p ls vs s st k thread around gs r w d glive on q h f) d.env (λ z u. h.env z (live.vars z (or_right (guards_use gs z) (uses_var e z) u)))) h.env;
+        env =
+            set_env c p ls vs s st k thread around gs r w d glive on q y (value_of e d.env) r.value (subst (λ n. y < n) (sym h.long) row.0)
+            (row.1 s around.suits (is_taken c p ls vs s st k thread around gs r w d glive on q h f) d.env
+            (λ z u. h.env z (live.vars z (or_right (guards_use gs z) (uses_var e z) u)))) h.env;
         held = h.held;
         reserves = h.reserves;
         fits = h.fits;
@@ -52,7 +55,9 @@ module _ (c : Circuit) (p : Pipe) (ls : Locks) (vs : ℕ → View) (s : State) (
       }
       so h false f = record {
         long = h.long;
-        env = keep_env c p ls vs s st k thread around gs r w d glive on q y r.value (row.2 s around.suits (is_not c p ls vs s st k thread around gs r w d glive on q h f)) h.env;
+        env =
+            keep_env c p ls vs s st k thread around gs r w d glive on q y r.value
+            (row.2 s around.suits (is_not c p ls vs s st k thread around gs r w d glive on q h f)) h.env;
         held = h.held;
         reserves = h.reserves;
         fits = h.fits;
@@ -79,7 +84,8 @@ module _ (c : Circuit) (p : Pipe) (ls : Locks) (vs : ℕ → View) (s : State) (
       same true = refl
       same false = refl
 
-      so : IsSo p k s w d → locks_ready p st thread d ≡ true → (b : Bool) → all_hold gs d.env ≡ b → IsSo p k s (with_var y r.value w) (done st thread b (CombRead y m a) d)
+      so : IsSo p k s w d → locks_ready p st thread d ≡ true → (b : Bool) → all_hold gs d.env ≡ b
+          → IsSo p k s (with_var y r.value w) (done st thread b (CombRead y m a) d)
       so h z true f =
           let addr : slice_index d.env a ≡ (w.vars a).value s = h.env a (live.vars a (or_right (guards_use gs a) (a == a) (eqb_self a))) in
           let word = row.1 s around.suits (is_taken c p ls vs s st k thread around gs r w d glive on q h f) in
@@ -87,8 +93,13 @@ module _ (c : Circuit) (p : Pipe) (ls : Locks) (vs : ℕ → View) (s : State) (
           let P : ℕ → Type 0 = λ v. IsTrue (read_ready (mem_at p m).lock (older_write st thread m v)) in
           record {
             long = length-set d.env y _ ∙ h.long;
-            env = set_env c p ls vs s st k thread around gs r w d glive on q y (word_for st thread m (slice_index d.env a)) r.value (subst (λ n. y < n) (sym h.long) row.0)
-                (word_at c p ls vs s st k thread around gs r w d glive on q m a live.at_once word (early c p ls vs s st k thread around j (commit_stage p m) here g.0) (subst P addr g.1) ∙ ap (word_for st thread m) (sym addr)) h.env;
+            env =
+                set_env c p ls vs s st k thread around gs r w d glive on q y
+                (word_for st thread m (slice_index d.env a)) r.value (subst (λ n. y < n) (sym h.long) row.0)
+                (word_at c p ls vs s st k thread around gs r w d glive on q m a live.at_once word
+                (early c p ls vs s st k thread around j (commit_stage p m) here g.0)
+                (subst P addr g.1)
+                ∙ ap (word_for st thread m) (sym addr)) h.env;
             held = h.held;
             reserves = h.reserves;
             fits = h.fits;
@@ -105,7 +116,9 @@ module _ (c : Circuit) (p : Pipe) (ls : Locks) (vs : ℕ → View) (s : State) (
           }
       so h z false f = record {
         long = h.long;
-        env = keep_env c p ls vs s st k thread around gs r w d glive on q y r.value (row.2 s around.suits (is_not c p ls vs s st k thread around gs r w d glive on q h f)) h.env;
+        env =
+            keep_env c p ls vs s st k thread around gs r w d glive on q y r.value
+            (row.2 s around.suits (is_not c p ls vs s st k thread around gs r w d glive on q h f)) h.env;
         held = h.held;
         reserves = h.reserves;
         fits = h.fits;
@@ -137,6 +150,8 @@ module _ (c : Circuit) (p : Pipe) (ls : Locks) (vs : ℕ → View) (s : State) (
   follows_op SpecBarrier = follows_barrier c p ls vs s st k thread around
 
   -- the deeds follow after each row
-  pub follows_row : (x : Stmt) (r : Row) (w : Walk) (d : Deeds) → IsLive p k x → IsRow c p ls (vs k).tickets x w r → x.stage ≡ k → (all_hold x.guards d.env ≡ true → locks_ready p st thread d ≡ true → (is_early p x ≡ true) × IsOpFine p st thread x.op d)
+  pub follows_row : (x : Stmt) (r : Row) (w : Walk) (d : Deeds) → IsLive p k x → IsRow c p ls (vs k).tickets x w r
+      → x.stage ≡ k
+      → (all_hold x.guards d.env ≡ true → locks_ready p st thread d ≡ true → (is_early p x ≡ true) × IsOpFine p st thread x.op d)
       → Follows p k s st thread w d → Follows p k s st thread (walk_after x.op r ls w) (done st thread (all_hold x.guards d.env) x.op d)
   follows_row x r w d live row here fine q = follows_op x.op x.stage x.guards r w d live row.on row.op here fine q

@@ -61,7 +61,8 @@ pub mem_array : (ars : List Array) (ms : List Mem)
 mem_array [] [] e m h d = absurd h
 mem_array (a ∷ ars) [] e m h d = absurd h
 mem_array [] (x ∷ xs) e m h d = absurd (cc e)
-mem_array (a ∷ ars) (x ∷ xs) e m (inl s) d = (0, (omega arith), subst (λ (y : Mem). IsArrayOf (x ∷ xs) 0 a y) s (record { shape = cc e; among = inl refl; lock = refl }))
+mem_array (a ∷ ars) (x ∷ xs) e m (inl s) d =
+    (0, (omega arith), subst (λ (y : Mem). IsArrayOf (x ∷ xs) 0 a y) s (record { shape = cc e; among = inl refl; lock = refl }))
 mem_array (a ∷ ars) (x ∷ xs) e m (inr h) d =
     let rest : map shape_of ars ≡ map shape_of_mem xs = cc e in
     let w = mem_array ars xs rest m h d in
@@ -122,5 +123,8 @@ info_same x y a b c d s t e f g h = cc
 pub info_if : (b : Bool) (a : Array) (m : Mem)
     → is_some m.lock ≡ b → shape_of a ≡ shape_of_mem m → Reaches m → m.delayed ≡ false
     → info_of m ≡ comb_info a (if b then Some (port_mem m) else None)
-info_if true a m l e r d = info_same m.name.name a.name m.width.value m.width.value m.depth.value _ m.delayed false (sym (ap (λ (s : Shape). s.name) e)) refl (sym r) d
-info_if false a m l e r d = info_same m.name.name a.name m.width.value a.width m.depth.value a.depth m.delayed false (sym (ap (λ (s : Shape). s.name) e)) (sym (ap (λ (s : Shape). s.width) e)) (sym (ap (λ (s : Shape). s.depth) e ∙ shallow m.lock m.depth.value l)) d
+info_if true a m l e r d =
+    info_same m.name.name a.name m.width.value m.width.value m.depth.value _ m.delayed false (sym (ap (λ (s : Shape). s.name) e)) refl (sym r) d
+info_if false a m l e r d =
+    info_same m.name.name a.name m.width.value a.width m.depth.value a.depth m.delayed false (sym (ap (λ (s : Shape). s.name) e))
+    (sym (ap (λ (s : Shape). s.width) e)) (sym (ap (λ (s : Shape). s.depth) e ∙ shallow m.lock m.depth.value l)) d

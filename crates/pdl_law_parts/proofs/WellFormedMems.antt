@@ -39,8 +39,12 @@ few_from (m ∷ ms) before k e l each =
 pub few_mems : (p : Pipe) → KeepsRules p → length p.mems ≤ 16
 few_mems p rules =
     let all = each_from IsFew (places p) [] (λ front x later e. rules Z4 front x later e) in
-    let front = each_front IsFew (map Parameter p.params ++ map Memory p.mems) (statements [] p.body) [] (each_front IsFew ((map Parameter p.params ++ map Memory p.mems) ++ statements [] p.body) (closing p) [] all) in
-    let few : 0 + length p.mems ≤ 16 = few_from p.mems (map Parameter p.params) 0 (no_mem_params p.params) (omega arith) (each_back IsFew (map Parameter p.params) (map Memory p.mems) [] front) in
+    let front =
+    each_front IsFew (map Parameter p.params ++ map Memory p.mems) (statements [] p.body) []
+    (each_front IsFew ((map Parameter p.params ++ map Memory p.mems) ++ statements [] p.body) (closing p) [] all) in
+    let few : 0 + length p.mems ≤ 16 =
+    few_from p.mems (map Parameter p.params) 0 (no_mem_params p.params) (omega arith)
+    (each_back IsFew (map Parameter p.params) (map Memory p.mems) [] front) in
     omega arith
 
 -- ---- sizes

@@ -38,8 +38,10 @@ among_other n (x ∷ xs) m e (inr a) = among_other n xs m (or_parts (bytes_eq x.
 pub among_one : (ms : List Mem) → AreDistinct ms → (a b : Mem) → Among a ms → Among b ms → a.name.name ≡ b.name.name → a ≡ b
 among_one [] h a b p q e = absurd p
 among_one (x ∷ xs) h a b (inl s) (inl t) e = sym s ∙ t
-among_one (x ∷ xs) h a b (inl s) (inr q) e = absurd (name_apart b.name.name x.name.name (among_other x.name.name xs b h.0 q) (sym e ∙ ap (λ (y : Mem). y.name.name) (sym s)))
-among_one (x ∷ xs) h a b (inr p) (inl t) e = absurd (name_apart a.name.name x.name.name (among_other x.name.name xs a h.0 p) (e ∙ ap (λ (y : Mem). y.name.name) (sym t)))
+among_one (x ∷ xs) h a b (inl s) (inr q) e =
+    absurd (name_apart b.name.name x.name.name (among_other x.name.name xs b h.0 q) (sym e ∙ ap (λ (y : Mem). y.name.name) (sym s)))
+among_one (x ∷ xs) h a b (inr p) (inl t) e =
+    absurd (name_apart a.name.name x.name.name (among_other x.name.name xs a h.0 p) (e ∙ ap (λ (y : Mem). y.name.name) (sym t)))
 among_one (x ∷ xs) h a b (inr p) (inr q) e = among_one xs h.1 a b p q e
 
 -- ---- lists of names

@@ -49,7 +49,9 @@ found_here false l ls h = h
 -- the locked memory of a memory's name is that memory, if it has a lock
 pub found : (ms : List Mem) → AreDistinct ms → (m : Mem) → Among m ms → locked_named ms m.name.name ≡ if_some m
 found [] h m a = absurd a
-found (x ∷ xs) h m (inl s) = subst (λ (y : Mem). locked_named (x ∷ xs) y.name.name ≡ if_some y) s (found_here (is_some x.lock) (port_mem x) (locked_of xs) (none_named xs x.name.name (mem_none x.name.name xs h.0)))
+found (x ∷ xs) h m (inl s) =
+    subst (λ (y : Mem). locked_named (x ∷ xs) y.name.name ≡ if_some y) s
+    (found_here (is_some x.lock) (port_mem x) (locked_of xs) (none_named xs x.name.name (mem_none x.name.name xs h.0)))
 found (x ∷ xs) h m (inr a) =
     found_first (is_some x.lock) (port_mem x) (locked_of xs) m.name.name (name_turned m.name.name x.name.name (among_other x.name.name xs m h.0 a))
     ∙ found xs h.1 m a
@@ -76,14 +78,18 @@ stages_heads vs gates moves total (suc n) k e h =
     let next : suc k ≡ k + 1 = omega arith in
     let w = h.stages k (omega (arith, e)) in
     ap₂ (λ v g. output (codes "v_" ++ decimal k) v ∷ output (codes "g_" ++ decimal k) g ∷ map head_shown (stages_shown vs moves n (suc k))) w.0 w.1
-    ∙ ap (λ l. output (codes "v_" ++ decimal k) 1 ∷ output (codes "g_" ++ decimal k) 1 ∷ l) (stages_heads vs gates moves total n (suc k) (omega (arith, e)) h ∙ ap (λ j. flat_map stage_ports (range_with_len j n)) next)
+    ∙ ap (λ l. output (codes "v_" ++ decimal k) 1 ∷ output (codes "g_" ++ decimal k) 1 ∷ l)
+    (stages_heads vs gates moves total n (suc k) (omega (arith, e)) h ∙ ap (λ j. flat_map stage_ports (range_with_len j n)) next)
 
 -- ---- commits
 
 commit_head : (m : Mem) (x : Commit) → Reaches m → FitsMem m x → map head_shown (commit_shown m.name.name x) ≡ commit_ports (port_mem m)
 commit_head m x r w =
-    ap (λ e. output (codes "c_" ++ m.name.name) e ∷ output (codes "ca_" ++ m.name.name) x.addr.width ∷ output (codes "cd_" ++ m.name.name) x.value.width ∷ []) w.enable
-    ∙ ap₂ (λ a v. output (codes "c_" ++ m.name.name) 1 ∷ output (codes "ca_" ++ m.name.name) a ∷ output (codes "cd_" ++ m.name.name) v ∷ []) (power_one _ _ (w.reach ∙ sym r)) w.value
+    ap
+    (λ e. output (codes "c_" ++ m.name.name) e ∷ output (codes "ca_" ++ m.name.name) x.addr.width
+    ∷ output (codes "cd_" ++ m.name.name) x.value.width ∷ []) w.enable
+    ∙ ap₂ (λ a v. output (codes "c_" ++ m.name.name) 1 ∷ output (codes "ca_" ++ m.name.name) a ∷ output (codes "cd_" ++ m.name.name) v ∷ [])
+    (power_one _ _ (w.reach ∙ sym r)) w.value
 
 commit_heads_if : (b : Bool) (xs : List Shown) (l : PortMem) (rest : List Shown) (ls : List PortMem)
     → (b ≡ true → map head_shown xs ≡ commit_ports l) → map head_shown rest ≡ flat_map commit_ports ls
@@ -103,7 +109,8 @@ commit_heads names commits k (x ∷ xs) f r h =
     ∙ ap (λ n. map head_shown ((if is_some x.lock then commit_shown n (commits k) else []) ++ commits_shown names commits (suc k) (mems_of xs))) here
     ∙ commit_heads_if (is_some x.lock) (commit_shown x.name.name (commits k)) (port_mem x) (commits_shown names commits (suc k) (mems_of xs)) (locked_of xs)
     (λ e. commit_head x (commits k) (r x (inl refl)) (h.0 e))
-    (commit_heads names commits (suc k) xs (λ i l. ap names (let z : suc k + i ≡ k + suc i = omega arith in z) ∙ f (suc i) (omega (arith, l))) (λ m a. r m (inr a)) h.1)
+    (commit_heads names commits (suc k) xs (λ i l. ap names (let z : suc k + i ≡ k + suc i = omega arith in z) ∙ f (suc i) (omega (arith, l)))
+    (λ m a. r m (inr a)) h.1)
 
 -- the last two ports
 abbrev pub last_heads : List Head

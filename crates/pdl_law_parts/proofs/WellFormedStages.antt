@@ -31,7 +31,8 @@ one_more before x short low = at (is_separator x) refl short
 
 few_cuts : (xs before : List Place) → Each IsShort before xs → cut before ≤ 63 → cut (before ++ xs) ≤ 63
 few_cuts [] before each low = subst (λ l. cut l ≤ 63) (sym (append-nil before)) low
-few_cuts (x ∷ xs) before each low = subst (λ l. cut l ≤ 63) (append_assoc before (x ∷ []) xs) (few_cuts xs (before ++ x ∷ []) each.1 (one_more before x each.0 low))
+few_cuts (x ∷ xs) before each low =
+    subst (λ l. cut l ≤ 63) (append_assoc before (x ∷ []) xs) (few_cuts xs (before ++ x ∷ []) each.1 (one_more before x each.0 low))
 
 -- the flat form of a pipe that keeps the rules has at most 64 stages
 pub few_stages : (p : Pipe) → KeepsRules p → length (flat p).stages ≤ 64

@@ -37,14 +37,19 @@ pub record IsStage (p : Pipe) (ls : Locks) (c : Circuit) (vs : ℕ → View) (ga
   pub fresh : IsFresh (vs k).begun
   pub leaves : Same c (moves k) (moves_where p vs gates.gate moves k)
   pub valid_start : StartsAs c (vs k).valid (if k == 0 then 1 else 0)
-  pub valid : Becomes c (vs k).valid (first_coming (λ (o : Comer). one) (comers p vs moves k) (mux_signal (moves k) zero_bit (mux_signal (gates.kill k) zero_bit (vs k).valid)))
+  pub valid : Becomes c (vs k).valid
+      (first_coming (λ (o : Comer). one) (comers p vs moves k) (mux_signal (moves k) zero_bit (mux_signal (gates.kill k) zero_bit (vs k).valid)))
   pub vars : (x : ℕ) → lives_from p k x ≡ true → Becomes c ((vs k).kept x) (first_coming (λ (o : Comer). o.vars x) (comers p vs moves k) ((vs k).begun.vars x))
-  pub held : (m a : ℕ) → held_from p k m a ≡ true → Becomes c ((vs k).begun.held m a) (first_coming (λ (o : Comer). o.held m a) (comers p vs moves k) ((vs k).begun.held m a))
+  pub held : (m a : ℕ) → held_from p k m a ≡ true
+      → Becomes c ((vs k).begun.held m a) (first_coming (λ (o : Comer). o.held m a) (comers p vs moves k) ((vs k).begun.held m a))
   pub guess_long : length (vs k).begun.guess ≡ length p.start
-  pub guess : (i : ℕ) → i < length p.start → verifies_from p k ≡ true → Becomes c (slice_index_or (vs k).begun.guess i no_signal) (first_coming (λ (o : Comer). o.guess i) (comers p vs moves k) (slice_index_or (vs k).begun.guess i no_signal))
+  pub guess : (i : ℕ) → i < length p.start → verifies_from p k ≡ true
+      → Becomes c (slice_index_or (vs k).begun.guess i no_signal)
+      (first_coming (λ (o : Comer). o.guess i) (comers p vs moves k) (slice_index_or (vs k).begun.guess i no_signal))
   -- a thread's ticket of a lock is the next one up to the stage of the reserves, and goes with it up to that of the releases
   pub tickets_first : (m : ℕ) → is_locked p m ≡ true → k ≤ reserve_stage p m → Same c ((vs k).tickets m) (ls.ticket m)
-  pub tickets : (m : ℕ) → is_locked p m ≡ true → reserve_stage p m < k → k ≤ commit_stage p m → Becomes c ((vs k).tickets m) (first_coming (λ (o : Comer). o.tickets m) (comers p vs moves k) ((vs k).tickets m))
+  pub tickets : (m : ℕ) → is_locked p m ≡ true → reserve_stage p m < k → k ≤ commit_stage p m
+      → Becomes c ((vs k).tickets m) (first_coming (λ (o : Comer). o.tickets m) (comers p vs moves k) ((vs k).tickets m))
 
 -- at the start stage 0 holds the first thread's arguments, and nothing is held
 pub record IsStart (p : Pipe) (c : Circuit) (vs : ℕ → View) : Type 0 where
@@ -53,7 +58,8 @@ pub record IsStart (p : Pipe) (c : Circuit) (vs : ℕ → View) : Type 0 where
   pub held : (m a : ℕ) → held_from p 0 m a ≡ true → StartsAs c ((vs 0).begun.held m a) 0
 
 -- of a memory's lock what a cycle rests on: its own registers and arrays are there, and the laws of its nets
-pub record GoesOn (p : Pipe) (ls : Locks) (c : Circuit) (vs : ℕ → View) (gates : Gates) (moves : ℕ → Signal) (own : Own) (commit : Commit) (m : ℕ) : Type 0 where
+pub record GoesOn (p : Pipe) (ls : Locks) (c : Circuit) (vs : ℕ → View) (gates : Gates) (moves : ℕ → Signal) (own : Own)
+    (commit : Commit) (m : ℕ) : Type 0 where
   pub kind : (mem_at p m).lock ≡ as_lock (ls.kind m) (ls.size m)
   pub regs : (r : ℕ) → own.from ≤ r → r < own.to → HasReg c r
   pub arrays : (i : ℕ) → own.first ≤ i → i < own.last → HasArray c i

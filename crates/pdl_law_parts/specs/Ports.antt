@@ -21,7 +21,8 @@ all_reserves m vs moves (suc n) k = all_reserves m vs moves n (suc k) ++ reserve
 -- the write ports of a memory by the writes of one stage, where its thread moves, with the thread's ticket
 abbrev pub puts_to : ℕ → Signal → Signal → List Put → List TicketSignal
 puts_to m moves ticket [] = []
-puts_to m moves ticket (x ∷ xs) = if x.mem == m then record { enable = both moves x.on; ticket = ticket; value = x.value } ∷ puts_to m moves ticket xs else puts_to m moves ticket xs
+puts_to m moves ticket (x ∷ xs) =
+    if x.mem == m then record { enable = both moves x.on; ticket = ticket; value = x.value } ∷ puts_to m moves ticket xs else puts_to m moves ticket xs
 
 -- the write ports of a memory over n stages
 abbrev pub all_puts : ℕ → (ℕ → View) → (ℕ → Signal) → ℕ → ℕ → List TicketSignal
@@ -69,7 +70,8 @@ pub record Commit : Type 0 where
 -- of each of n stages whether it holds a thread and whether that moves; the first has the number k
 abbrev pub stages_shown : (ℕ → View) → (ℕ → Signal) → ℕ → ℕ → List Shown
 stages_shown vs moves zero k = []
-stages_shown vs moves (suc n) k = shown_signal (codes "v_" ++ decimal k) (vs k).valid ∷ shown_signal (codes "g_" ++ decimal k) (moves k) ∷ stages_shown vs moves n (suc k)
+stages_shown vs moves (suc n) k =
+    shown_signal (codes "v_" ++ decimal k) (vs k).valid ∷ shown_signal (codes "g_" ++ decimal k) (moves k) ∷ stages_shown vs moves n (suc k)
 
 -- the three outputs of what a memory commits, by its name
 abbrev pub commit_shown : List ℕ → Commit → List Shown

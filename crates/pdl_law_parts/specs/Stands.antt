@@ -36,7 +36,8 @@ pub record StandsLock (p : Pipe) (ls : Locks) (vs : ℕ → View) (s : State) (s
   pub same : (a : ℕ) → a < (mem_at p m).depth → st.arrays m a ≡ slice_index words a
   pub stands : ls.stands m s (lock_state_of base (machine.lock_of st m) words)
   pub few : length (machine.lock_of st m) ≤ ls.size m
-  pub tickets : (k : ℕ) (t : Thread) → slot st k ≡ Some t → k ≤ commit_stage p m → holds_ticket (ls.bits m) ((vs k).tickets m) s (base + count_older t.number (machine.lock_of st m))
+  pub tickets : (k : ℕ) (t : Thread) → slot st k ≡ Some t → k ≤ commit_stage p m
+      → holds_ticket (ls.bits m) ((vs k).tickets m) s (base + count_older t.number (machine.lock_of st m))
 
 pub record StandsFor (p : Pipe) (ls : Locks) (vs : ℕ → View) (s : State) (st : machine.State) : Type 0 where
   pub valid : (k : ℕ) → k < length p.stages → (vs k).valid.value s ≡ bit (is_some (slot st k))
@@ -44,7 +45,8 @@ pub record StandsFor (p : Pipe) (ls : Locks) (vs : ℕ → View) (s : State) (st
   pub env : (k : ℕ) (t : Thread) → slot st k ≡ Some t → IsEnv p k s (vs k).kept (with_kept t.kept t.env)
   pub held : (k : ℕ) (t : Thread) → slot st k ≡ Some t → IsHolding p k s (vs k).begun.held (held_before k t.env p.stmts [])
   pub guess : (k : ℕ) (t : Thread) → slot st k ≡ Some t → IsGuess p k s (vs k).begun.guess t.guess
-  pub words : (m : ℕ) → is_locked p m ≡ false → (mem_at p m).delayed ≡ false → (a : ℕ) → a < (mem_at p m).depth → st.arrays m a ≡ slice_index (slice_index_or s.arrays (ls.array m) []) a
+  pub words : (m : ℕ) → is_locked p m ≡ false → (mem_at p m).delayed ≡ false → (a : ℕ) → a < (mem_at p m).depth
+      → st.arrays m a ≡ slice_index (slice_index_or s.arrays (ls.array m) []) a
   pub locks : (m : ℕ) → is_locked p m ≡ true → StandsLock p ls vs s st m
 
 -- what a stage's reservations, writes, releases and calls are in a state: those whose condition is 1
@@ -117,7 +119,9 @@ pub record IsSeen (p : Pipe) (vs : ℕ → View) (moves : ℕ → Signal) (s : S
 
 -- a squash in a state: whether it removes a thread that stays, whether there is one, and the ticket of the next thread after the squasher among the pending writes that are left
 pub record IsSquashed (p : Pipe) (ls : Locks) (vs : ℕ → View) (gates : Gates) (s : State) (st : machine.State) (bits : List Bool) : Type 0 where
-  pub kill : (k : ℕ) (t : Thread) → here p st bits k ≡ Some t → stage_moves p st bits k ≡ false → (gates.kill k).value s ≡ bit (not (is_kept (squasher (moving p st bits)) t.number))
+  pub kill : (k : ℕ) (t : Thread) → here p st bits k ≡ Some t → stage_moves p st bits k ≡ false
+      → (gates.kill k).value s ≡ bit (not (is_kept (squasher (moving p st bits)) t.number))
   pub squash : gates.squash.value s ≡ bit (is_some (squasher (moving p st bits)))
   pub tail : (m n : ℕ) → is_locked p m ≡ true → (stand : StandsLock p ls vs s st m) → squasher (moving p st bits) ≡ Some n
-      → holds_ticket (ls.bits m) (gates.tail m) s (stand.base + bit (has_release m (moving p st bits)) + count_older (suc n) (list_three st (moving p st bits) m))
+      → holds_ticket (ls.bits m)
+      (gates.tail m) s (stand.base + bit (has_release m (moving p st bits)) + count_older (suc n) (list_three st (moving p st bits) m))

@@ -24,7 +24,8 @@ pub record HasOwn (c : Circuit) (own : Own) : Type 0 where
   pub none : own.last ≤ own.first
 
 -- the port of a memory that is read delayed
-pub record HasPort (p : Pipe) (c : Circuit) (vs : ℕ → View) (gates : Gates) (moves : ℕ → Signal) (sides : Sides) (own : Own) (m : ℕ) (r : Reading) : Type 0 where
+pub record HasPort (p : Pipe) (c : Circuit) (vs : ℕ → View) (gates : Gates) (moves : ℕ → Signal) (sides : Sides)
+    (own : Own) (m : ℕ) (r : Reading) : Type 0 where
   pub owned : HasOwn c own
   pub starts : port_laws.StartLaw (sides.port m).stands c own
   pub answers : port_laws.AnswerLaw (sides.port m).stands (length (places p r)) (sides.port m).reply (sides.port m).word (sides.port m).answers
@@ -51,7 +52,8 @@ pub record HasRemovals (p : Pipe) (c : Circuit) (vs : ℕ → View) (gates : Gat
 -- where a squash cuts each lock: up to the stage of its reserves after all that this cycle reserves, and from there on up to V where it did before
 pub record HasTails (p : Pipe) (ls : Locks) (c : Circuit) (vs : ℕ → View) (gates : Gates) (moves : ℕ → Signal) (sides : Sides) (v : ℕ) : Type 0 where
   pub first : (k m : ℕ) → is_locked p m ≡ true → k ≤ v → k ≤ reserve_stage p m
-      → (s : State) → Suits c s → (x : LockState) → ls.stands m s x → holds_ticket (ls.bits m) (sides.tails k m) s (next_ticket x + length (asked_addresses s (all_reserves m vs moves (length p.stages) 0)))
+      → (s : State) → Suits c s → (x : LockState) → ls.stands m s x
+      → holds_ticket (ls.bits m) (sides.tails k m) s (next_ticket x + length (asked_addresses s (all_reserves m vs moves (length p.stages) 0)))
   pub carried : (k m : ℕ) → is_locked p m ≡ true → k ≤ v → reserve_stage p m < k
       → Becomes c (sides.tails k m) (first_coming (λ (o : Comer). o.tickets m) (comers p (with_tickets vs sides.tails) moves k) (sides.tails k m))
   pub tail : (m : ℕ) → is_locked p m ≡ true → Same c (gates.tail m) (sides.tails v m)

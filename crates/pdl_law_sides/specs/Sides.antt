@@ -172,7 +172,9 @@ into_merge p f (Forks x first second) w = mux_signal (w.vars x) (merging p f fir
 abbrev pub leaves_fork : Pipe → (ℕ → View) → (ℕ → Signal) → ℕ → ℕ → ℕ → Signal
 leaves_fork p vs moves f zero k = zero_bit
 leaves_fork p vs moves f (suc n) k =
-    if is_inside p f k then mux_signal (both (moves k) (into_merge p f (stage_at p k).next (vs k).ended)) one (leaves_fork p vs moves f n (suc k)) else leaves_fork p vs moves f n (suc k)
+    if is_inside p f k
+    then mux_signal (both (moves k) (into_merge p f (stage_at p k).next (vs k).ended)) one (leaves_fork p vs moves f n (suc k))
+    else leaves_fork p vs moves f n (suc k)
 
 -- what a cycle does to the order of a fork
 abbrev pub order_step : Pipe → (ℕ → View) → Gates → (ℕ → Signal) → ℕ → order_laws.StepSignals

@@ -36,7 +36,8 @@ pub record Request : Type 0 where
 -- what a memory without delayed read asks, and one with
 abbrev pub request_of : (ℕ → View) → (ℕ → Signal) → ℕ → Option Reading → Request
 request_of vs moves m None = record { enable = zero_bit; addr = zero_bit }
-request_of vs moves m (Some r) = record { enable = asks_memory m (moves r.stage) (vs r.stage).ended.asks; addr = asked_address m (moves r.stage) (vs r.stage).ended.asks }
+request_of vs moves m (Some r) =
+    record { enable = asks_memory m (moves r.stage) (vs r.stage).ended.asks; addr = asked_address m (moves r.stage) (vs r.stage).ended.asks }
 
 -- its request has these values, and the port of its reads takes its two inputs
 pub record IsOutside (p : Pipe) (c : Circuit) (vs : ℕ → View) (moves : ℕ → Signal) (sides : Sides) (ask : Request) (m : ℕ) : Type 0 where
@@ -71,20 +72,26 @@ requests_shown names asks m (x ∷ xs) = (if x.delayed then request_shown (names
 abbrev pub whole_shown : Pipe → (ℕ → List ℕ) → (ℕ → Commit) → (ℕ → Request) → (ℕ → View) → Gates → (ℕ → Signal) → List Shown
 whole_shown p names commits asks vs gates moves =
     stages_shown vs moves (length p.stages) 0
-    ++ (commits_shown names commits 0 p.mems ++ (requests_shown names asks 0 p.mems ++ shown_signal (codes "ended") (moves (length p.stages - 1)) ∷ shown_signal (codes "squash") gates.squash ∷ []))
+    ++ (commits_shown names commits 0 p.mems
+    ++ (requests_shown names asks 0 p.mems ++ shown_signal (codes "ended") (moves (length p.stages - 1)) ∷ shown_signal (codes "squash") gates.squash ∷ []))
 
 -- the inputs of the delayed memories
 abbrev pub reply_ports : (ℕ → List ℕ) → ℕ → List Mem → List Port
 reply_ports names m [] = []
 reply_ports names m (x ∷ xs) =
-    (if x.delayed then record { name = codes "p_" ++ names m; width = 1; dir = In } ∷ record { name = codes "pd_" ++ names m; width = x.width; dir = In } ∷ [] else []) ++ reply_ports names (suc m) xs
+    (if x.delayed
+    then record { name = codes "p_" ++ names m; width = 1; dir = In } ∷ record { name = codes "pd_" ++ names m; width = x.width; dir = In } ∷ []
+    else [])
+    ++ reply_ports names (suc m) xs
 
 -- a memory's lock at the start: its array, where the memory answers at once, has the image in front
 pub record StartsLock (p : Pipe) (ls : Locks) (c : Circuit) (from to m : ℕ) : Type 0 where
   pub deep : (mem_at p m).delayed ≡ false → array_depth c (ls.array m) ≡ words_of (ls.kind m) (mem_at p m).depth
-  pub starts : (s : State) (image : List ℕ) → IsReset c from to s → length image ≡ (mem_at p m).depth → ((mem_at p m).delayed ≡ false → HasImage (ls.kind m) (Some (ls.array m)) s image) → ls.stands m s (start image)
+  pub starts : (s : State) (image : List ℕ) → IsReset c from to s → length image ≡ (mem_at p m).depth
+      → ((mem_at p m).delayed ≡ false → HasImage (ls.kind m) (Some (ls.array m)) s image) → ls.stands m s (start image)
 
-pub record IsWhole (p : Pipe) (names : ℕ → List ℕ) (ls : Locks) (vs : ℕ → View) (gates : Gates) (moves : ℕ → Signal) (sides : Sides) (c : Circuit) : Type 0 where
+pub record IsWhole (p : Pipe) (names : ℕ → List ℕ) (ls : Locks) (vs : ℕ → View) (gates : Gates) (moves : ℕ → Signal)
+    (sides : Sides) (c : Circuit) : Type 0 where
   pub laid : IsLaid p ls vs gates moves c
   pub starts : (m : ℕ) → is_locked p m ≡ true → StartsLock p ls c (laid.owns m).from (laid.owns m).to m
   pub beside : HasSides p ls c vs gates moves sides

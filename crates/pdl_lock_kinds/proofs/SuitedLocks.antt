@@ -28,7 +28,8 @@ sized_at (m ∷ ms) zero h s = s.0
 sized_at (m ∷ ms) (suc i) h s = sized_at ms i (omega (arith, h)) s.1
 
 slots_suit : (n : ℕ) (name : List ℕ) (m : Mem) → IsTypedMem m → IsSize n → Suits n (info_of name m)
-slots_suit n name m t s = record { size = s; width_low = t.low; width_high = t.high; depth = record { bits = t.bits; low = t.some; high = t.few; power = t.depth } }
+slots_suit n name m t s =
+    record { size = s; width_low = t.low; width_high = t.high; depth = record { bits = t.bits; low = t.some; high = t.few; power = t.depth } }
 
 in_time_at : (ms : List Mem) (i : ℕ) → i < length ms → AreInTime ms → IsInTime (get_or ms i plain_mem).lock (get_or ms i plain_mem)
 in_time_at [] i h s = absurd (omega (arith, h))
@@ -39,7 +40,8 @@ in_time_at (m ∷ ms) (suc i) h s = in_time_at ms i (omega (arith, h)) s.1
 suit_in_time : (k : Lock) (x : AnyLock) (name : List ℕ) (m : Mem) → ((n : ℕ) → IsSize n → Suits n (info_of name m))
     → IsInTime k m → IsSizedLock k m.depth → lock_asked k ≡ Some x → any_suits x (info_of name m)
 suit_in_time Plain x name m t c s e = absurd (cc e)
-suit_in_time (Queue n) x name m t c s e = let same : any_lock.Queue (record { size = n }) ≡ x = cc e in subst (λ (y : AnyLock). any_suits y (info_of name m)) same (t n s)
+suit_in_time (Queue n) x name m t c s e = let same : any_lock.Queue (record { size = n }) ≡ x = cc e in
+    subst (λ (y : AnyLock). any_suits y (info_of name m)) same (t n s)
 suit_in_time (Bypass n) x name m t c s e = suit_asked (Bypass n) x (info_of name m) t c s e
 suit_in_time (Rename n) x name m t c s e = suit_asked (Rename n) x (info_of name m) t c s e
 
@@ -51,7 +53,9 @@ are_suited l f k z t c s = record {
   count = length-map f.pipe.mems (λ (m : Mem). lock_asked m.lock);
   locked = λ m h. ap is_some (asked_at f.pipe.mems m h) ∙ some_asked (mem_at f.pipe m).lock;
   suited = λ m x h e.
-      suit_in_time (mem_at f.pipe m).lock x (get_or f.names m []) (mem_at f.pipe m) (λ n. slots_suit n (get_or f.names m []) (mem_at f.pipe m) (typed_at f.pipe.mems m h t)) (in_time_at f.pipe.mems m h c) (sized_at f.pipe.mems m h s) (sym (asked_at f.pipe.mems m h) ∙ e);
+      suit_in_time (mem_at f.pipe m).lock x (get_or f.names m []) (mem_at f.pipe m)
+      (λ n. slots_suit n (get_or f.names m []) (mem_at f.pipe m) (typed_at f.pipe.mems m h t))
+      (in_time_at f.pipe.mems m h c) (sized_at f.pipe.mems m h s) (sym (asked_at f.pipe.mems m h) ∙ e);
   kinds = λ m x h e.
       let here = kind_asked (mem_at f.pipe m).lock x (sym (asked_at f.pipe.mems m h) ∙ e) in
       here ∙ ap (λ g. as_lock (g x) (any_size x)) (sym k) ∙ ap (λ g. as_lock (l.kind x) (g x)) (sym z);

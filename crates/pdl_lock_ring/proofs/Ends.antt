@@ -40,7 +40,8 @@ head_is l f = refl
 -- the tail takes what a squash gives, else goes on by one ticket for each of up to two reservations
 pub tail_after_is : (l : RingLayout) (f : StepSignals)
     → tail_after l f
-    ≡ mux_signal f.squash f.tail (mux_signal (pushes2 f) (bin_signal Add (second_ticket l) (const_signal l.ticket 1)) (mux_signal (pushes f) (second_ticket l) (tail_signal l)))
+    ≡ mux_signal f.squash f.tail
+    (mux_signal (pushes2 f) (bin_signal Add (second_ticket l) (const_signal l.ticket 1)) (mux_signal (pushes f) (second_ticket l) (tail_signal l)))
 unfolding tail_after
 tail_after_is l f = refl
 

@@ -62,8 +62,12 @@ asked-push s (f ∷ fs) g =
     let u = g.enable.value s == 1 in
     let xs = asked_addresses s fs in
     let z = g.addr.value s in
-    let swap : (t u : Bool) (xs : List ℕ) → (if t then y ∷ (if u then xs ++ z ∷ [] else xs) else (if u then xs ++ z ∷ [] else xs)) ≡ (if u then (if t then y ∷ xs else xs) ++ z ∷ [] else (if t then y ∷ xs else xs))
-    = λ t u xs. elim t as (λ t. (if t then y ∷ (if u then xs ++ z ∷ [] else xs) else (if u then xs ++ z ∷ [] else xs)) ≡ (if u then (if t then y ∷ xs else xs) ++ z ∷ [] else (if t then y ∷ xs else xs))) [
+    let swap : (t u : Bool) (xs : List ℕ)
+    → (if t then y ∷ (if u then xs ++ z ∷ [] else xs) else (if u then xs ++ z ∷ [] else xs))
+    ≡ (if u then (if t then y ∷ xs else xs) ++ z ∷ [] else (if t then y ∷ xs else xs))
+    = λ t u xs. elim t as
+    (λ t. (if t then y ∷ (if u then xs ++ z ∷ [] else xs) else (if u then xs ++ z ∷ [] else xs))
+    ≡ (if u then (if t then y ∷ xs else xs) ++ z ∷ [] else (if t then y ∷ xs else xs))) [
       | true ↦ elim u as (λ u. y ∷ (if u then xs ++ z ∷ [] else xs) ≡ (if u then (y ∷ xs) ++ z ∷ [] else y ∷ xs)) [ true ↦ refl | false ↦ refl ]
       | false ↦ elim u as (λ u. (if u then xs ++ z ∷ [] else xs) ≡ (if u then xs ++ z ∷ [] else xs)) [ true ↦ refl | false ↦ refl ]
     ] in
@@ -73,8 +77,13 @@ asked-push s (f ∷ fs) g =
 asked_more : (f : StepSignals) (s : State) (k : ℕ)
     → k < length f.reserves
     → asked_addresses s (take (suc k) f.reserves)
-    ≡ (if (reserve_at f.reserves k).enable.value s == 1 then asked_addresses s (take k f.reserves) ++ (reserve_at f.reserves k).addr.value s ∷ [] else asked_addresses s (take k f.reserves))
-asked_more f s k h = ap (λ n. asked_addresses s (take n f.reserves)) (sym (add-one k)) ∙ ap (asked_addresses s) (take_more f.reserves k no_reserve h) ∙ asked-push s (take k f.reserves) (reserve_at f.reserves k)
+    ≡ (if (reserve_at f.reserves k).enable.value s == 1
+    then asked_addresses s (take k f.reserves) ++ (reserve_at f.reserves k).addr.value s ∷ []
+    else asked_addresses s (take k f.reserves))
+asked_more f s k h =
+    ap (λ n. asked_addresses s (take n f.reserves)) (sym (add-one k))
+    ∙ ap (asked_addresses s) (take_more f.reserves k no_reserve h)
+    ∙ asked-push s (take k f.reserves) (reserve_at f.reserves k)
 
 push_value : (f : StepSignals) (s : State) (k : ℕ)
     → k ≤ length f.reserves → (push_signal f k).value s ≡ some (asked_addresses s (take k f.reserves))
@@ -98,7 +107,8 @@ push2_value f s (suc k) h =
     let xs = asked_addresses s (take k f.reserves) in
     let e = asked_more f s k (omega arith) in
     ⊎_elim
-    (λ (o : g.enable.value s ≡ 1). if_one (g.enable.value s) _ _ o ∙ push_value f s k (omega arith) ∙ sym (two-push xs (g.addr.value s)) ∙ ap two (sym (e ∙ if_one (g.enable.value s) _ _ o)))
+    (λ (o : g.enable.value s ≡ 1). if_one (g.enable.value s) _ _ o ∙ push_value f s k (omega arith)
+    ∙ sym (two-push xs (g.addr.value s)) ∙ ap two (sym (e ∙ if_one (g.enable.value s) _ _ o)))
     (λ (o : g.enable.value s ≢ 1). if_other (g.enable.value s) _ _ o ∙ push2_value f s k (omega arith) ∙ ap two (sym (e ∙ if_other (g.enable.value s) _ _ o)))
     (cases_eq (g.enable.value s) 1)
 
@@ -111,8 +121,10 @@ last_value bits f s (suc k) h =
     let xs = asked_addresses s (take k f.reserves) in
     let e = asked_more f s k (omega arith) in
     ⊎_elim
-    (λ (o : g.enable.value s ≡ 1). if_one (g.enable.value s) _ _ o ∙ sym (last-push xs (g.addr.value s) 0) ∙ ap (λ l. last_or l 0) (sym (e ∙ if_one (g.enable.value s) _ _ o)))
-    (λ (o : g.enable.value s ≢ 1). if_other (g.enable.value s) _ _ o ∙ last_value bits f s k (omega arith) ∙ ap (λ l. last_or l 0) (sym (e ∙ if_other (g.enable.value s) _ _ o)))
+    (λ (o : g.enable.value s ≡ 1). if_one (g.enable.value s) _ _ o ∙ sym (last-push xs (g.addr.value s) 0)
+    ∙ ap (λ l. last_or l 0) (sym (e ∙ if_one (g.enable.value s) _ _ o)))
+    (λ (o : g.enable.value s ≢ 1). if_other (g.enable.value s) _ _ o ∙ last_value bits f s k (omega arith)
+    ∙ ap (λ l. last_or l 0) (sym (e ∙ if_other (g.enable.value s) _ _ o)))
     (cases_eq (g.enable.value s) 1)
 
 before_value : (bits : ℕ) (f : StepSignals) (s : State) (k : ℕ)
@@ -124,8 +136,10 @@ before_value bits f s (suc k) h =
     let xs = asked_addresses s (take k f.reserves) in
     let e = asked_more f s k (omega arith) in
     ⊎_elim
-    (λ (o : g.enable.value s ≡ 1). if_one (g.enable.value s) _ _ o ∙ last_value bits f s k (omega arith) ∙ sym (before-push xs (g.addr.value s) 0) ∙ ap (λ l. before_or l 0) (sym (e ∙ if_one (g.enable.value s) _ _ o)))
-    (λ (o : g.enable.value s ≢ 1). if_other (g.enable.value s) _ _ o ∙ before_value bits f s k (omega arith) ∙ ap (λ l. before_or l 0) (sym (e ∙ if_other (g.enable.value s) _ _ o)))
+    (λ (o : g.enable.value s ≡ 1). if_one (g.enable.value s) _ _ o ∙ last_value bits f s k (omega arith)
+    ∙ sym (before-push xs (g.addr.value s) 0) ∙ ap (λ l. before_or l 0) (sym (e ∙ if_one (g.enable.value s) _ _ o)))
+    (λ (o : g.enable.value s ≢ 1). if_other (g.enable.value s) _ _ o ∙ before_value bits f s k (omega arith)
+    ∙ ap (λ l. before_or l 0) (sym (e ∙ if_other (g.enable.value s) _ _ o)))
     (cases_eq (g.enable.value s) 1)
 
 -- the tickets' nets have the width of a ticket
@@ -165,8 +179,10 @@ module _ (l : RingLayout) (v : ℕ → Signal) (s : State) (x : LockState) (f : 
   unfolding first_addr mux_value
   first_is c =
       let p = pushes2_value c in
-      let q : (before_addr l.bits f (length f.reserves)).value s ≡ before_or a.reserves 0 = before_value l.bits f s (length f.reserves) (omega arith) ∙ ap (λ ys. before_or ys 0) (asked_all c) in
-      let r : (last_addr l.bits f (length f.reserves)).value s ≡ last_or a.reserves 0 = last_value l.bits f s (length f.reserves) (omega arith) ∙ ap (λ ys. last_or ys 0) (asked_all c) in
+      let q : (before_addr l.bits f (length f.reserves)).value s ≡ before_or a.reserves 0 =
+      before_value l.bits f s (length f.reserves) (omega arith) ∙ ap (λ ys. before_or ys 0) (asked_all c) in
+      let r : (last_addr l.bits f (length f.reserves)).value s ≡ last_or a.reserves 0 =
+      last_value l.bits f s (length f.reserves) (omega arith) ∙ ap (λ ys. last_or ys 0) (asked_all c) in
       cc (p, q, r)
 
   second_is : Cycle l v s x f a → (second_addr l f).value s ≡ last_or a.reserves 0
@@ -196,26 +212,46 @@ module _ (l : RingLayout) (v : ℕ → Signal) (s : State) (x : LockState) (f : 
       cc (p, q)
 
   -- the reservations are given the slots of their tickets
-  pub are_given : Cycle l v s x f a → AreGiven l.size (x.base + length x.entries) a.reserves ((first_slot l f).value s) ((second_slot l f).value s) ((first_addr l f).value s) ((second_addr l f).value s)
-  are_given c = given a.reserves ((first_slot l f).value s) ((second_slot l f).value s) ((first_addr l f).value s) ((second_addr l f).value s) c.proper.two (first_slot_is c) (second_slot_is c) (first_is c) (second_is c)
+  pub are_given : Cycle l v s x f a
+      → AreGiven l.size (x.base + length x.entries) a.reserves ((first_slot l f).value s) ((second_slot l f).value s)
+      ((first_addr l f).value s) ((second_addr l f).value s)
+  are_given c =
+      given a.reserves ((first_slot l f).value s) ((second_slot l f).value s) ((first_addr l f).value s)
+      ((second_addr l f).value s) c.proper.two (first_slot_is c) (second_slot_is c) (first_is c) (second_is c)
     where
-      given : (ys : List ℕ) (t1 t2 a1 a2 : ℕ) → length ys ≤ 2 → t1 ≡ words.mux (some ys) ((x.base + length x.entries) % l.size) l.size → t2 ≡ words.mux (two ys) ((x.base + length x.entries + 1) % l.size) l.size
+      given : (ys : List ℕ) (t1 t2 a1 a2 : ℕ) → length ys ≤ 2
+          → t1 ≡ words.mux (some ys) ((x.base + length x.entries) % l.size) l.size
+          → t2 ≡ words.mux (two ys) ((x.base + length x.entries + 1) % l.size) l.size
           → a1 ≡ words.mux (two ys) (before_or ys 0) (last_or ys 0) → a2 ≡ last_or ys 0 → AreGiven l.size (x.base + length x.entries) ys t1 t2 a1 a2
-      given [] t1 t2 a1 a2 h p q r u = (p ∙ mux_zero 0 ((x.base + length x.entries) % l.size) l.size refl, q ∙ mux_zero 0 ((x.base + length x.entries + 1) % l.size) l.size refl)
-      given (y ∷ []) t1 t2 a1 a2 h p q r u = (p ∙ mux_one 1 ((x.base + length x.entries) % l.size) l.size refl, q ∙ mux_zero 0 ((x.base + length x.entries + 1) % l.size) l.size refl, r ∙ mux_zero 0 0 y refl)
-      given (y ∷ z ∷ []) t1 t2 a1 a2 h p q r u = (p ∙ mux_one 1 ((x.base + length x.entries) % l.size) l.size refl, q ∙ mux_one 1 ((x.base + length x.entries + 1) % l.size) l.size refl, r ∙ mux_one 1 y z refl, u)
+      given [] t1 t2 a1 a2 h p q r u =
+          (p ∙ mux_zero 0 ((x.base + length x.entries) % l.size) l.size refl, q ∙ mux_zero 0 ((x.base + length x.entries + 1) % l.size) l.size refl)
+      given (y ∷ []) t1 t2 a1 a2 h p q r u = (
+        p ∙ mux_one 1 ((x.base + length x.entries) % l.size) l.size refl,
+        q ∙ mux_zero 0 ((x.base + length x.entries + 1) % l.size) l.size refl,
+        r ∙ mux_zero 0 0 y refl,
+      )
+      given (y ∷ z ∷ []) t1 t2 a1 a2 h p q r u = (
+        p ∙ mux_one 1 ((x.base + length x.entries) % l.size) l.size refl,
+        q ∙ mux_one 1 ((x.base + length x.entries + 1) % l.size) l.size refl,
+        r ∙ mux_one 1 y z refl,
+        u,
+      )
       given (y ∷ z ∷ z' ∷ ys) t1 t2 a1 a2 h p q r u = absurd (omega (arith, h))
 
   -- after the reservations
   appended_holds : Cycle l v s x f a
-      → Holds l.size x.base (λ k. (slot_addr l f k).value s) (λ k. (filled_bit l f k 0).value s) (λ k. (filled_value l f (v k) k 0).value s) (with_reserves a.reserves x.entries)
+      → Holds l.size x.base (λ k. (slot_addr l f k).value s) (λ k. (filled_bit l f k 0).value s)
+      (λ k. (filled_value l f (v k) k 0).value s) (with_reserves a.reserves x.entries)
   unfolding slot_addr filled_bit filled_value mux_value bin_value reg_value const_value
   appended_holds c =
-      append_holds l.size x.base (λ k. reg_of s (addr_at l k)) (λ k. reg_of s (has_at l k)) (λ k. (v k).value s) x.entries a.reserves ((first_slot l f).value s) ((second_slot l f).value s) ((first_addr l f).value s) ((second_addr l f).value s)
+      append_holds l.size x.base (λ k. reg_of s (addr_at l k)) (λ k. reg_of s (has_at l k))
+      (λ k. (v k).value s) x.entries a.reserves ((first_slot l f).value s) ((second_slot l f).value s)
+      ((first_addr l f).value s) ((second_addr l f).value s)
       c.sized.some c.proper.two c.proper.room (are_given c) c.stands.slots
 
   -- the slot of a write
-  pub written_value : Cycle l v s x f a → (j : ℕ) → j < length a.writes → (act_at a.writes j).on ≡ true → (written_slot l f j).value s ≡ (act_at a.writes j).ticket % l.size
+  pub written_value : Cycle l v s x f a → (j : ℕ) → j < length a.writes → (act_at a.writes j).on ≡ true
+      → (written_slot l f j).value s ≡ (act_at a.writes j).ticket % l.size
   unfolding mux_value const_value
   written_value c j lt o =
       let g = ticket_at f.writes j in
@@ -229,7 +265,8 @@ module _ (l : RingLayout) (v : ℕ → Signal) (s : State) (x : LockState) (f : 
       mux_zero (g.enable.value s) ((slot_of l g.ticket).value s) l.size (c.drives.on j lt ∙ ap bit o)
 
   -- whether a write port writes into slot k
-  pub fills_one : Cycle l v s x f a → (k j : ℕ) → j < length a.writes → (act_at a.writes j).on ≡ true → (fills_slot l f k j).value s ≡ words.equal ((act_at a.writes j).ticket % l.size) k
+  pub fills_one : Cycle l v s x f a → (k j : ℕ) → j < length a.writes → (act_at a.writes j).on ≡ true
+      → (fills_slot l f k j).value s ≡ words.equal ((act_at a.writes j).ticket % l.size) k
   unfolding bin_value const_value
   fills_one c k j lt o = ap (λ n. words.equal n k) (written_value c j lt o)
 
@@ -239,7 +276,9 @@ module _ (l : RingLayout) (v : ℕ → Signal) (s : State) (x : LockState) (f : 
 
   -- after the first j write ports
   filled_holds : Cycle l v s x f a → (j : ℕ) → j ≤ length a.writes
-      → Holds l.size x.base (λ k. (slot_addr l f k).value s) (λ k. (filled_bit l f k j).value s) (λ k. (filled_value l f (v k) k j).value s) (with_writes x.base (take j a.writes) (with_reserves a.reserves x.entries))
+      → Holds l.size x.base (λ k. (slot_addr l f k).value s) (λ k. (filled_bit l f k j).value s)
+      (λ k. (filled_value l f (v k) k j).value s)
+      (with_writes x.base (take j a.writes) (with_reserves a.reserves x.entries))
   unfolding filled_bit filled_value mux_value const_value
   filled_holds c zero h = appended_holds c
   filled_holds c (suc j) h =
@@ -248,12 +287,19 @@ module _ (l : RingLayout) (v : ℕ → Signal) (s : State) (x : LockState) (f : 
       let w = act_at a.writes j in
       let lt : j < length a.writes = omega arith in
       let len = length-written x.base (take j a.writes) ys ∙ length_appended a.reserves x.entries in
-      let e : with_writes x.base (take (suc j) a.writes) ys ≡ with_write x.base w (with_writes x.base (take j a.writes) ys) = ap (λ n. with_writes x.base (take n a.writes) ys) (sym (add-one j)) ∙ ap (λ ws. with_writes x.base ws ys) (take_more a.writes j no_write_act lt) ∙ written-push x.base (take j a.writes) w ys in
-      let P : List Entry → Type 0 = λ zs. Holds l.size x.base (λ k. (slot_addr l f k).value s) (λ k. (filled_bit l f k (suc j)).value s) (λ k. (filled_value l f (v k) k (suc j)).value s) zs in
+      let e : with_writes x.base (take (suc j) a.writes) ys ≡ with_write x.base w (with_writes x.base (take j a.writes) ys) =
+      ap (λ n. with_writes x.base (take n a.writes) ys) (sym (add-one j))
+      ∙ ap (λ ws. with_writes x.base ws ys) (take_more a.writes j no_write_act lt)
+      ∙ written-push x.base (take j a.writes) w ys in
+      let P : List Entry → Type 0 =
+      λ zs. Holds l.size x.base (λ k. (slot_addr l f k).value s) (λ k. (filled_bit l f k (suc j)).value s)
+      (λ k. (filled_value l f (v k) k (suc j)).value s) zs in
       subst P (sym e)
       (holds_same l.size x.base _ _ _ _ _ _ (with_write x.base w (with_writes x.base (take j a.writes) ys)) c.sized.some (λ k m. refl) (λ k m. refl)
       (λ k m. ap (λ n. words.mux ((fills_slot l f k j).value s) n ((filled_value l f (v k) k j).value s)) (c.drives.value j lt))
-      (put_holds l.size x.base w (λ k. (slot_addr l f k).value s) (λ k. (filled_bit l f k j).value s) (λ k. (filled_value l f (v k) k j).value s) (λ k. (fills_slot l f k j).value s) (with_writes x.base (take j a.writes) ys)
+      (put_holds l.size x.base w (λ k. (slot_addr l f k).value s) (λ k. (filled_bit l f k j).value s)
+      (λ k. (filled_value l f (v k) k j).value s) (λ k. (fills_slot l f k j).value s)
+      (with_writes x.base (take j a.writes) ys)
       c.sized.some (λ o. c.proper.from j lt o)
       (λ o. omega (arith, len, c.proper.from j lt o, c.proper.below j lt o))
       (λ k o. fills_one c k j lt o)
@@ -265,13 +311,21 @@ module _ (l : RingLayout) (v : ℕ → Signal) (s : State) (x : LockState) (f : 
 
   -- after all write ports
   pub all_filled : Cycle l v s x f a
-      → Holds l.size x.base (λ k. (slot_addr l f k).value s) (λ k. (slot_bit l f k).value s) (λ k. (filled_value l f (v k) k (length f.writes)).value s) (filled_entries x a)
+      → Holds l.size x.base (λ k. (slot_addr l f k).value s) (λ k. (slot_bit l f k).value s)
+      (λ k. (filled_value l f (v k) k (length f.writes)).value s) (filled_entries x a)
   all_filled c =
       let h = filled_holds c (length a.writes) (omega arith) in
-      let P : ℕ → Type 0 = λ n. Holds l.size x.base (λ k. (slot_addr l f k).value s) (λ k. (filled_bit l f k n).value s) (λ k. (filled_value l f (v k) k n).value s) (filled_entries x a) in
-      let Q : List WriteAct → Type 0 = λ ws. Holds l.size x.base (λ k. (slot_addr l f k).value s) (λ k. (filled_bit l f k (length a.writes)).value s) (λ k. (filled_value l f (v k) k (length a.writes)).value s) (with_writes x.base ws (with_reserves a.reserves x.entries)) in
+      let P : ℕ → Type 0 =
+      λ n. Holds l.size x.base (λ k. (slot_addr l f k).value s) (λ k. (filled_bit l f k n).value s)
+      (λ k. (filled_value l f (v k) k n).value s) (filled_entries x a) in
+      let Q : List WriteAct → Type 0 =
+      λ ws. Holds l.size x.base (λ k. (slot_addr l f k).value s) (λ k. (filled_bit l f k (length a.writes)).value s)
+      (λ k. (filled_value l f (v k) k (length a.writes)).value s)
+      (with_writes x.base ws (with_reserves a.reserves x.entries)) in
       subst P c.drives.count (subst Q (take_all (length a.writes) a.writes (omega arith)) h)
 
 -- as many entries as before, and those that are reserved
 pub length_filled : (x : LockState) (a : LockAct) → length (filled_entries x a) ≡ length x.entries + length a.reserves
-length_filled x a = length-written x.base a.writes (with_reserves a.reserves x.entries) ∙ length-append x.entries (map fresh a.reserves) ∙ ap (λ n. length x.entries + n) (length-map a.reserves fresh)
+length_filled x a =
+    length-written x.base a.writes (with_reserves a.reserves x.entries) ∙ length-append x.entries (map fresh a.reserves)
+    ∙ ap (λ n. length x.entries + n) (length-map a.reserves fresh)

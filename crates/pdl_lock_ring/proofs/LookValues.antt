@@ -41,7 +41,8 @@ some_of (Some v) h = refl
 slots_all : (l : RingLayout) → IsSized l → 0 + 2 ^ (l.ticket - 1) ≡ l.size
 slots_all l z = omega (arith, z.power)
 
-module _ (l : RingLayout) (g : ℕ → Signal) (s : State) (x : LockState) (a t : Signal) (d : ℕ) (z : IsSized l) (h : HasEntries l g s x) (k : Seeks l s x t d) where
+module _ (l : RingLayout) (g : ℕ → Signal) (s : State) (x : LockState) (a t : Signal) (d : ℕ) (z : IsSized l)
+    (h : HasEntries l g s x) (k : Seeks l s x t d) where
   -- the i-th of the older ones
   abbrev ys : List Entry
   ys = take d x.entries
@@ -75,7 +76,8 @@ module _ (l : RingLayout) (g : ℕ → Signal) (s : State) (x : LockState) (a t 
       (same_value l g s x a j i.0 h i.1 (omega (arith, q, k.few))
       ∙ eq_none (entry_at x.entries i.0).addr (a.value s) (λ e. n i.0 (omega (arith, q, count)) (ap (λ (y : Entry). y.addr) (entry_is i.0 q) ∙ e))))
       (λ (q : d ≤ i.0).
-      ap (λ m. words.mux ((same_at l a j).value s) m 0) (less_none ((order_at l j).value s) ((older_count l t).value s) (let p = k.older in omega (arith, order, p, q)))
+      ap (λ m. words.mux ((same_at l a j).value s) m 0)
+      (less_none ((order_at l j).value s) ((older_count l t).value s) (let p = k.older in omega (arith, order, p, q)))
       ∙ mux_both ((same_at l a j).value s) 0)
       (cases_lt i.0 d)
 
@@ -86,10 +88,14 @@ module _ (l : RingLayout) (g : ℕ → Signal) (s : State) (x : LockState) (a t 
         let lt : y.0 < d = omega (arith, y.1.within, count) in
         let slot = (x.base + y.0) % l.size in
         let below : slot < l.size = mod_below (x.base + y.0) l.size z.some in
-        let hit : (hit_signal l a (older_count l t)).value s ≡ 1 = some_one (hit_at l a (older_count l t)) s (l.ticket - 1) 0 slot (omega arith) (omega (arith, below, slots_all l z)) (hit_one y.0 lt (ap (λ (e : Entry). e.addr) (sym (entry_is y.0 lt)) ∙ y.1.same)) in
+        let hit : (hit_signal l a (older_count l t)).value s ≡ 1 =
+        some_one (hit_at l a (older_count l t)) s (l.ticket - 1) 0 slot (omega arith)
+        (omega (arith, below, slots_all l z))
+        (hit_one y.0 lt (ap (λ (e : Entry). e.addr) (sym (entry_is y.0 lt)) ∙ y.1.same)) in
         mux_one ((hit_signal l a (older_count l t)).value s) 0 1 hit ∙ ap bit (sym y.3)
     | inr n ↦
-        let hit : (hit_signal l a (older_count l t)).value s ≡ 0 = some_zero (hit_at l a (older_count l t)) s (l.ticket - 1) 0 (λ j lo hi. hit_zero n.0 j (omega (arith, hi, slots_all l z))) in
+        let hit : (hit_signal l a (older_count l t)).value s ≡ 0 =
+        some_zero (hit_at l a (older_count l t)) s (l.ticket - 1) 0 (λ j lo hi. hit_zero n.0 j (omega (arith, hi, slots_all l z))) in
         mux_zero ((hit_signal l a (older_count l t)).value s) 0 1 hit ∙ ap bit (sym n.2)
   ]
 
@@ -109,7 +115,9 @@ module _ (l : RingLayout) (g : ℕ → Signal) (s : State) (x : LockState) (a t 
       ∙ back_older l.size x.base d i (omega (arith, k.few, h.slots.room)) lt
 
   -- a slot that is further away
-  key_far : (m i j : ℕ) → m ≤ l.size → IsSlotOf l x j i → (i < d → (entry_at x.entries i).addr ≡ a.value s → m ≤ d - 1 - i) → (1 ≤ d → m ≤ d) → (d ≡ 0 → m ≡ 0) → m ≤ (keys j).value s
+  key_far : (m i j : ℕ) → m ≤ l.size → IsSlotOf l x j i
+      → (i < d → (entry_at x.entries i).addr ≡ a.value s → m ≤ d - 1 - i) → (1 ≤ d → m ≤ d) → (d ≡ 0 → m ≡ 0)
+      → m ≤ (keys j).value s
   unfolding mux_value const_value
   key_far m i j small o near far none = ⊎_elim
       (λ (q : i < d). ⊎_elim
@@ -122,8 +130,12 @@ module _ (l : RingLayout) (g : ℕ → Signal) (s : State) (x : LockState) (a t 
       (λ (q : d ≤ i). ⊎_elim
       (λ (some : 0 < d).
       let below : j < l.size = subst (λ n. n < l.size) o.same (mod_below (x.base + i) l.size z.some) in
-      let v = back_value l s x (last_older l t) d j z refl below (k.last (omega (arith, some))) ∙ ap (λ n. ((x.base + d - 1) % (2 * l.size) + (2 * l.size - n)) % l.size) (sym o.same) ∙ back_younger l.size x.base d i (omega (arith, some)) q o.below in
-      mux_least m ((same_at l a j).value s) ((back_at l (last_older l t) j).value s) l.size (let w = far (omega (arith, some)) in let b = o.below in omega (arith, v, w, b, q)) small)
+      let v =
+      back_value l s x (last_older l t) d j z refl below (k.last (omega (arith, some)))
+      ∙ ap (λ n. ((x.base + d - 1) % (2 * l.size) + (2 * l.size - n)) % l.size) (sym o.same)
+      ∙ back_younger l.size x.base d i (omega (arith, some)) q o.below in
+      mux_least m ((same_at l a j).value s)
+      ((back_at l (last_older l t) j).value s) l.size (let w = far (omega (arith, some)) in let b = o.below in omega (arith, v, w, b, q)) small)
       (λ (e : d ≤ 0). let w = none (omega (arith, e)) in omega (arith, w))
       (cases_lt 0 d))
       (cases_lt i d)
@@ -166,7 +178,9 @@ module _ (l : RingLayout) (g : ℕ → Signal) (s : State) (x : LockState) (a t 
   found_zero n =
       let key : d ≤ (least_key keys (l.ticket - 1) 0).value s = least_from keys s d (l.ticket - 1) 0 (λ j lo hi.
       let o = slot_has l x j (omega (arith, hi, slots_all l z)) in
-      key_far d o.0 j (omega (arith, k.few, h.slots.room)) o.1 (λ u e. absurd (n o.0 (omega (arith, u, count)) (ap (λ (y : Entry). y.addr) (entry_is o.0 u) ∙ e))) (λ u. omega arith) (λ u. u)) in
+      key_far d o.0 j (omega (arith, k.few, h.slots.room)) o.1
+      (λ u e. absurd (n o.0 (omega (arith, u, count)) (ap (λ (y : Entry). y.addr) (entry_is o.0 u) ∙ e)))
+      (λ u. omega arith) (λ u. u)) in
       less_none ((least_key keys (l.ticket - 1) 0).value s) ((older_count l t).value s) (let q = k.older in omega (arith, key, q))
 
   -- whether it has its value, or there is none
@@ -185,7 +199,9 @@ module _ (l : RingLayout) (g : ℕ → Signal) (s : State) (x : LockState) (a t 
   ]
 
   -- and what is given then, where what is given else is the word
-  pub value_looked : (o : Signal) → o.value s ≡ slice_index x.words (a.value s) → is_some (youngest ys (a.value s) (Some 0)) ≡ true → (youngest_value l g o a t).value s ≡ or_zero (youngest ys (a.value s) (Some (slice_index x.words (a.value s))))
+  pub value_looked : (o : Signal) → o.value s ≡ slice_index x.words (a.value s)
+      → is_some (youngest ys (a.value s) (Some 0)) ≡ true
+      → (youngest_value l g o a t).value s ≡ or_zero (youngest ys (a.value s) (Some (slice_index x.words (a.value s))))
   unfolding mux_value
   value_looked o p ready = elim (youngest_of ys (a.value s)) [
     | inl y ↦
@@ -195,7 +211,8 @@ module _ (l : RingLayout) (g : ℕ → Signal) (s : State) (x : LockState) (a t 
         let has : is_some (entry_at ys y.0).value ≡ true = ap is_some (sym (y.2 (Some 0))) ∙ ready in
         let v = or_zero (entry_at ys y.0).value in
         mux_one ((is_found l a t).value s) ((least_of keys g (l.ticket - 1) 0).value s) (o.value s) (found_one y.0 y.1)
-        ∙ least.1 ∙ h.slots.has_value y.0 v (omega (arith, lt, k.few)) (ap (λ (e : Entry). e.value) (sym (entry_is y.0 lt)) ∙ some_of (entry_at ys y.0).value has)
+        ∙ least.1
+        ∙ h.slots.has_value y.0 v (omega (arith, lt, k.few)) (ap (λ (e : Entry). e.value) (sym (entry_is y.0 lt)) ∙ some_of (entry_at ys y.0).value has)
         ∙ ap or_zero (sym (y.2 word))
     | inr n ↦
         mux_zero ((is_found l a t).value s) ((least_of keys g (l.ticket - 1) 0).value s) (o.value s) (found_zero n.0)

@@ -29,7 +29,8 @@ use Rattle.pdl_lock_ring.proofs.Still.{regs_are, each_reg}
 
 -- a layout by its fields
 abbrev fields : ℕ → ℕ → ℕ → ℕ → ℕ → ℕ → Option ℕ → Content → RingLayout
-fields size ticket width kept bits from array content = record { size = size; ticket = ticket; width = width; kept = kept; bits = bits; from = from; array = array; content = content }
+fields size ticket width kept bits from array content =
+    record { size = size; ticket = ticket; width = width; kept = kept; bits = bits; from = from; array = array; content = content }
 
 same_fields : (a b c d e f a' b' c' d' e' f' : ℕ) (x y : Option ℕ) (m n : Content)
     → a ≡ a' → b ≡ b' → c ≡ c' → d ≡ d' → e ≡ e' → f ≡ f' → x ≡ y → m ≡ n
@@ -48,7 +49,9 @@ count_is from count regs e = ap length e ∙ numbers_length from count
 pub layout_is : (q : ℕ) (m : MemInfo) (n : ℕ) (l : RingLayout) (r : LockRegs) → IsLayout q m n l
     → r.regs ≡ numbers_from l.from (2 + 3 * l.size) → r.width ≡ l.width → r.bits ≡ l.bits → r.array ≡ l.array
     → layout_of q r ≡ l
-layout_is q m n l r i e w b a = same_fields q (ticket_bits q) r.width r.width r.bits (first_reg r) l.size l.ticket l.width l.kept l.bits l.from r.array l.array Value l.content (sym i.size) (sym i.ticket) w (w ∙ i.width ∙ sym i.kept) b (first_is l.from (2 + 3 * l.size) r.regs (omega arith) e) a (sym i.content)
+layout_is q m n l r i e w b a =
+    same_fields q (ticket_bits q) r.width r.width r.bits (first_reg r) l.size l.ticket l.width l.kept l.bits l.from r.array l.array Value l.content (sym i.size)
+    (sym i.ticket) w (w ∙ i.width ∙ sym i.kept) b (first_is l.from (2 + 3 * l.size) r.regs (omega arith) e) a (sym i.content)
 
 -- slots whose registers were answered are in a circuit where the slots of their layout are
 pub are_placed : (q : ℕ) (m : MemInfo) (n : ℕ) (c : Circuit) (l : RingLayout) (r : LockRegs) → IsLayout q m n l
@@ -137,7 +140,9 @@ slots_law q c r i =
         within = λ k j h lt.
             let P : ℕ → Type 0 = λ g. (first_reg r ≤ g) × (g < end_reg r) in
             let Q : List ℕ → Type 0 = λ gs. (j < length gs) → P (slice_index gs j) in
-            subst Q (sym (at k h)) (λ m. each_reg P (addr_at l k) (value_at l k) (has_at l k) (omega arith, omega (arith, i.count, h)) (omega arith, omega (arith, i.count, h)) (omega arith, omega (arith, i.count, h)) j m) lt;
+            subst Q (sym (at k h))
+            (λ m. each_reg P (addr_at l k) (value_at l k) (has_at l k) (omega arith, omega (arith, i.count, h))
+            (omega arith, omega (arith, i.count, h)) (omega arith, omega (arith, i.count, h)) j m) lt;
       };
       addresses = record {
         addr = λ s x k h lt.

@@ -40,8 +40,15 @@ nearest_more a c l key b from low high z some x y n =
     let k0 = least_key key (b - 1) from in
     record {
       key = means_as c z.key _ _ n.key (same_nearer _ _ _ _ k1 k0 k1 k0 y.key.same x.key.same y.key.same x.key.same ∙ sym (least_more key b from some));
-      has = means_as c z.has _ _ n.has (same_nearer _ _ _ _ k1 k0 (least_of key has (b - 1) (from + 2 ^ (b - 1))) (least_of key has (b - 1) from) y.key.same x.key.same y.has.same x.has.same ∙ sym (least_of_more key has b from some));
-      content = means_as c z.content _ _ n.content (same_nearer _ _ _ _ k1 k0 (least_of key (content_signal l) (b - 1) (from + 2 ^ (b - 1))) (least_of key (content_signal l) (b - 1) from) y.key.same x.key.same y.content.same x.content.same ∙ sym (least_of_more key (content_signal l) b from some));
+      has =
+          means_as c z.has _ _ n.has
+          (same_nearer _ _ _ _ k1 k0 (least_of key has (b - 1) (from + 2 ^ (b - 1))) (least_of key has (b - 1) from) y.key.same x.key.same y.has.same x.has.same
+          ∙ sym (least_of_more key has b from some));
+      content =
+          means_as c z.content _ _ n.content
+          (same_nearer _ _ _ _ k1 k0 (least_of key (content_signal l) (b - 1) (from + 2 ^ (b - 1)))
+          (least_of key (content_signal l) (b - 1) from) y.key.same x.key.same y.content.same x.content.same
+          ∙ sym (least_of_more key (content_signal l) b from some));
       key_wide = ap (λ (g : Signal). g.width) n.key.same ∙ y.key_wide;
       has_wide = ap (λ (g : Signal). g.width) n.has.same ∙ y.has_wide;
       content_wide = ap (λ (g : Signal). g.width) n.content.same ∙ y.content_wide;

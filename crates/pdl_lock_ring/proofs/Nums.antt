@@ -65,7 +65,8 @@ order_mod n b i h =
     let k = d * 2 * n in
     let e : b + i + (m - r) ≡ (i + k) + m = omega (arith, q, twice, below) in
     let two : (i + k) + m ≡ (i + n + n) + k = omega arith in
-    mod-add-mod (b + i) n (m - r) ∙ ap (λ x. x % n) (e ∙ two) ∙ add-mul-mod_self_right (i + n + n) (d * 2) n ∙ add-mod_right (i + n) n ∙ add-mod_right i n ∙ small_mod i n h
+    mod-add-mod (b + i) n (m - r) ∙ ap (λ x. x % n) (e ∙ two) ∙ add-mul-mod_self_right (i + n + n) (d * 2) n
+    ∙ add-mod_right (i + n) n ∙ add-mod_right i n ∙ small_mod i n h
 
 -- different pending writes have different slots
 pub apart : (n b i j : ℕ) → i < n → j < n → (b + i) % n ≡ (b + j) % n → i ≡ j
@@ -106,7 +107,8 @@ back_mod n b d i most some le =
 pub back_older : (n b d i : ℕ) → d ≤ n → i < d → ((b + d - 1) % (2 * n) + (2 * n - (b + i) % n)) % n ≡ d - 1 - i
 back_older n b d i le h =
     let e : n + d - 1 - i ≡ n + (d - 1 - i) = omega (arith, h) in
-    back_mod n b d i (omega (arith, h, le)) (omega (arith, h)) (omega (arith, h, le)) ∙ ap (λ x. x % n) e ∙ add-mod_left n (d - 1 - i) ∙ small_mod (d - 1 - i) n (omega (arith, h, le))
+    back_mod n b d i (omega (arith, h, le)) (omega (arith, h)) (omega (arith, h, le)) ∙ ap (λ x. x % n) e
+    ∙ add-mod_left n (d - 1 - i) ∙ small_mod (d - 1 - i) n (omega (arith, h, le))
 
 -- how far the slot of the i-th one is before that of the last of the d oldest, where it is none of these
 pub back_younger : (n b d i : ℕ) → 1 ≤ d → d ≤ i → i < n → ((b + d - 1) % (2 * n) + (2 * n - (b + i) % n)) % n ≡ n + d - 1 - i

@@ -114,10 +114,33 @@ pub asked_more : (a c : Circuit) (l : RingLayout) (f : StepSignals) (k : ℕ) (y
 asked_more a c l f k y x i n =
     let e = (reserve_at f.reserves k).enable in
     record {
-      one = record { there = n.one.there; same = n.one.same ∙ same_choice e (const_signal 1 1) (signal a y.one) (const_signal 1 1) (push_signal f k) refl i.one.same ∙ sym (push_more f k) };
-      two = record { there = n.two.there; same = n.two.same ∙ same_choice e (signal a y.one) (signal a y.two) (push_signal f k) (push2_signal f k) i.one.same i.two.same ∙ sym (push2_more f k) };
-      last = record { there = n.last.there; same = n.last.same ∙ same_choice e (reserve_at f.reserves k).addr (signal a y.last) (reserve_at f.reserves k).addr (last_addr l.bits f k) refl i.last.same ∙ sym (last_more l.bits f k) };
-      before = record { there = n.before.there; same = n.before.same ∙ same_choice e (signal a y.last) (signal a y.before) (last_addr l.bits f k) (before_addr l.bits f k) i.last.same i.before.same ∙ sym (before_more l.bits f k) };
+      one =
+          record {
+            there = n.one.there;
+            same = n.one.same ∙ same_choice e (const_signal 1 1) (signal a y.one) (const_signal 1 1) (push_signal f k) refl i.one.same ∙ sym (push_more f k);
+          };
+      two =
+          record {
+            there = n.two.there;
+            same =
+                n.two.same ∙ same_choice e (signal a y.one) (signal a y.two) (push_signal f k) (push2_signal f k) i.one.same i.two.same ∙ sym (push2_more f k);
+          };
+      last =
+          record {
+            there = n.last.there;
+            same =
+                n.last.same
+                ∙ same_choice e (reserve_at f.reserves k).addr (signal a y.last) (reserve_at f.reserves k).addr (last_addr l.bits f k) refl i.last.same
+                ∙ sym (last_more l.bits f k);
+          };
+      before =
+          record {
+            there = n.before.there;
+            same =
+                n.before.same
+                ∙ same_choice e (signal a y.last) (signal a y.before) (last_addr l.bits f k) (before_addr l.bits f k) i.last.same i.before.same
+                ∙ sym (before_more l.bits f k);
+          };
       last_wide = n.last_wide;
       before_wide = n.before_wide;
     }

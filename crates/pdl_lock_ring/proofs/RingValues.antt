@@ -81,7 +81,9 @@ pub record IsChanged (n base j : ℕ) (A H X A' H' X' : ℕ → ℕ) (xs ys : Li
 changed_holds : (n base j : ℕ) (A H X A' H' X' : ℕ → ℕ) (xs ys : List Entry) → IsChanged n base j A H X A' H' X' xs ys
     → Holds n base A H X xs → Holds n base A' H' X' ys
 changed_holds n base j A H X A' H' X' xs ys c h =
-    let there = λ (i : ℕ) (l : i < length ys) (q : i ≢ j) (e : (base + i) % n ≡ (base + j) % n). q (apart n base i j (omega (arith, l, c.room)) (omega (arith, c.within, c.room)) e) in
+    let there =
+    λ (i : ℕ) (l : i < length ys) (q : i ≢ j)
+    (e : (base + i) % n ≡ (base + j) % n). q (apart n base i j (omega (arith, l, c.room)) (omega (arith, c.within, c.room)) e) in
     record {
       room = c.room;
       has_addr = λ i l. ⊎_elim
@@ -90,7 +92,8 @@ changed_holds n base j A H X A' H' X' xs ys c h =
           (cases_eq i j);
       is_full = λ i l. ⊎_elim
           (λ (q : i ≡ j). ap (λ k. H' ((base + k) % n)) q ∙ c.full ∙ ap (λ k. bit (is_some (entry_at ys k).value)) (sym q))
-          (λ (q : i ≢ j). c.bits ((base + i) % n) (there i l q) ∙ h.is_full i (c.other i l q).0 ∙ ap (λ (e : Entry). bit (is_some e.value)) (sym (c.other i l q).1))
+          (λ (q : i ≢ j). c.bits ((base + i) % n) (there i l q) ∙ h.is_full i (c.other i l q).0
+          ∙ ap (λ (e : Entry). bit (is_some e.value)) (sym (c.other i l q).1))
           (cases_eq i j);
       has_value = λ i v l f. ⊎_elim
           (λ (q : i ≡ j). ap (λ k. X' ((base + k) % n)) q ∙ c.value v (ap (λ k. (entry_at ys k).value) (sym q) ∙ f))
@@ -115,7 +118,8 @@ one_more n base t a A H X xs room e h =
       bits = λ k q. mux_zero (words.equal t k) 0 (H k) (off k q);
       values = λ k q. refl;
       addr = mux_one (words.equal t ((base + j) % n)) a (A ((base + j) % n)) (eq_one t ((base + j) % n) e) ∙ ap (λ (x : Entry). x.addr) (sym last);
-      full = mux_one (words.equal t ((base + j) % n)) 0 (H ((base + j) % n)) (eq_one t ((base + j) % n) e) ∙ ap (λ (x : Entry). bit (is_some x.value)) (sym last);
+      full =
+          mux_one (words.equal t ((base + j) % n)) 0 (H ((base + j) % n)) (eq_one t ((base + j) % n) e) ∙ ap (λ (x : Entry). bit (is_some x.value)) (sym last);
       value = λ v f. let g : (fresh a).value ≡ Some v = ap (λ (x : Entry). x.value) (sym last) ∙ f in absurd (cc g);
     }) h
 
@@ -137,20 +141,34 @@ AreGiven n next (y ∷ z ∷ ys) t1 t2 a1 a2 = (t1 ≡ next % n) × (t2 ≡ (nex
 pub append_holds : (n base : ℕ) (A H X : ℕ → ℕ) (xs : List Entry) (ys : List ℕ) (t1 t2 a1 a2 : ℕ)
     → 1 ≤ n → length ys ≤ 2 → length xs + length ys ≤ n → AreGiven n (base + length xs) ys t1 t2 a1 a2
     → Holds n base A H X xs
-    → Holds n base (λ k. words.mux (words.equal t2 k) a2 (words.mux (words.equal t1 k) a1 (A k))) (λ k. words.mux (words.equal t2 k) 0 (words.mux (words.equal t1 k) 0 (H k))) X (with_reserves ys xs)
+    → Holds n base (λ k. words.mux (words.equal t2 k) a2 (words.mux (words.equal t1 k) a1 (A k)))
+    (λ k. words.mux (words.equal t2 k) 0 (words.mux (words.equal t1 k) 0 (H k))) X (with_reserves ys xs)
 append_holds n base A H X xs [] t1 t2 a1 a2 some two room g h =
-    let P : List Entry → Type 0 = λ l. Holds n base (λ k. words.mux (words.equal t2 k) a2 (words.mux (words.equal t1 k) a1 (A k))) (λ k. words.mux (words.equal t2 k) 0 (words.mux (words.equal t1 k) 0 (H k))) X l in
-    subst P (sym (append-nil xs)) (none_more n base t2 a2 (λ k. words.mux (words.equal t1 k) a1 (A k)) (λ k. words.mux (words.equal t1 k) 0 (H k)) X xs some g.1 (none_more n base t1 a1 A H X xs some g.0 h))
+    let P : List Entry → Type 0 =
+    λ l. Holds n base (λ k. words.mux (words.equal t2 k) a2 (words.mux (words.equal t1 k) a1 (A k)))
+    (λ k. words.mux (words.equal t2 k) 0 (words.mux (words.equal t1 k) 0 (H k))) X l in
+    subst P (sym (append-nil xs))
+    (none_more n base t2 a2 (λ k. words.mux (words.equal t1 k) a1 (A k))
+    (λ k. words.mux (words.equal t1 k) 0 (H k)) X xs some g.1 (none_more n base t1 a1 A H X xs some g.0 h))
 append_holds n base A H X xs (y ∷ []) t1 t2 a1 a2 some two room g h =
-    let P : ℕ → Type 0 = λ a. Holds n base (λ k. words.mux (words.equal t2 k) a2 (words.mux (words.equal t1 k) a1 (A k))) (λ k. words.mux (words.equal t2 k) 0 (words.mux (words.equal t1 k) 0 (H k))) X (xs ++ fresh a ∷ []) in
-    subst P g.2 (none_more n base t2 a2 (λ k. words.mux (words.equal t1 k) a1 (A k)) (λ k. words.mux (words.equal t1 k) 0 (H k)) X (xs ++ fresh a1 ∷ []) some g.1 (one_more n base t1 a1 A H X xs (omega (arith, room)) g.0 h))
+    let P : ℕ → Type 0 =
+    λ a. Holds n base (λ k. words.mux (words.equal t2 k) a2 (words.mux (words.equal t1 k) a1 (A k)))
+    (λ k. words.mux (words.equal t2 k) 0 (words.mux (words.equal t1 k) 0 (H k))) X (xs ++ fresh a ∷ []) in
+    subst P g.2
+    (none_more n base t2 a2 (λ k. words.mux (words.equal t1 k) a1 (A k))
+    (λ k. words.mux (words.equal t1 k) 0 (H k)) X (xs ++ fresh a1 ∷ []) some g.1 (one_more n base t1 a1 A H X xs (omega (arith, room)) g.0 h))
 append_holds n base A H X xs (y ∷ z ∷ []) t1 t2 a1 a2 some two room g h =
     let zs = xs ++ fresh a1 ∷ [] in
     let len : length zs ≡ length xs + 1 = length-append xs (fresh a1 ∷ []) in
     let at : t2 ≡ (base + length zs) % n = g.1 ∙ ap (λ m. m % n) (omega (arith, len)) in
-    let both : zs ++ fresh a2 ∷ [] ≡ xs ++ fresh y ∷ fresh z ∷ [] = append_assoc xs (fresh a1 ∷ []) (fresh a2 ∷ []) ∙ ap₂ (λ u v. xs ++ fresh u ∷ fresh v ∷ []) g.2 g.3 in
-    let P : List Entry → Type 0 = λ l. Holds n base (λ k. words.mux (words.equal t2 k) a2 (words.mux (words.equal t1 k) a1 (A k))) (λ k. words.mux (words.equal t2 k) 0 (words.mux (words.equal t1 k) 0 (H k))) X l in
-    subst P both (one_more n base t2 a2 (λ k. words.mux (words.equal t1 k) a1 (A k)) (λ k. words.mux (words.equal t1 k) 0 (H k)) X zs (omega (arith, len, room)) at (one_more n base t1 a1 A H X xs (omega (arith, room)) g.0 h))
+    let both : zs ++ fresh a2 ∷ [] ≡ xs ++ fresh y ∷ fresh z ∷ [] =
+    append_assoc xs (fresh a1 ∷ []) (fresh a2 ∷ []) ∙ ap₂ (λ u v. xs ++ fresh u ∷ fresh v ∷ []) g.2 g.3 in
+    let P : List Entry → Type 0 =
+    λ l. Holds n base (λ k. words.mux (words.equal t2 k) a2 (words.mux (words.equal t1 k) a1 (A k)))
+    (λ k. words.mux (words.equal t2 k) 0 (words.mux (words.equal t1 k) 0 (H k))) X l in
+    subst P both
+    (one_more n base t2 a2 (λ k. words.mux (words.equal t1 k) a1 (A k))
+    (λ k. words.mux (words.equal t1 k) 0 (H k)) X zs (omega (arith, len, room)) at (one_more n base t1 a1 A H X xs (omega (arith, room)) g.0 h))
 append_holds n base A H X xs (y ∷ z ∷ z' ∷ ys) t1 t2 a1 a2 some two room g h = absurd (omega (arith, two))
 
 -- a write of entry j
@@ -181,7 +199,8 @@ none_holds : (n base w : ℕ) (A H X E : ℕ → ℕ) (xs : List Entry)
     → 1 ≤ n → ((k : ℕ) → k < n → E k ≡ 0) → Holds n base A H X xs
     → Holds n base A (λ k. words.mux (E k) 1 (H k)) (λ k. words.mux (E k) w (X k)) xs
 none_holds n base w A H X E xs some e h =
-    holds_same n base A H X A (λ k. words.mux (E k) 1 (H k)) (λ k. words.mux (E k) w (X k)) xs some (λ k l. refl) (λ k l. mux_zero (E k) 1 (H k) (e k l)) (λ k l. mux_zero (E k) w (X k) (e k l)) h
+    holds_same n base A H X A (λ k. words.mux (E k) 1 (H k)) (λ k. words.mux (E k) w (X k)) xs some (λ k l. refl)
+    (λ k l. mux_zero (E k) 1 (H k) (e k l)) (λ k l. mux_zero (E k) w (X k) (e k l)) h
 
 -- slots hold the pending writes after a write port, where the slot of its ticket is filled if it is on
 pub put_holds : (n base : ℕ) (w : WriteAct) (A H X E : ℕ → ℕ) (xs : List Entry)
@@ -206,7 +225,8 @@ written-push base (v ∷ ws) w xs = written-push base ws w (with_write base v xs
 
 length-put : (base : ℕ) (w : WriteAct) (xs : List Entry) → length (with_write base w xs) ≡ length xs
 length-put base w xs = ⊎_elim
-    (λ (o : w.on ≡ true). ap length (if_true w.on (set xs (w.ticket - base) (with_entry_value (entry_at xs (w.ticket - base)) w.value)) xs o) ∙ length-set xs (w.ticket - base) _)
+    (λ (o : w.on ≡ true). ap length (if_true w.on (set xs (w.ticket - base) (with_entry_value (entry_at xs (w.ticket - base)) w.value)) xs o)
+    ∙ length-set xs (w.ticket - base) _)
     (λ (o : w.on ≡ false). ap length (if_false w.on (set xs (w.ticket - base) (with_entry_value (entry_at xs (w.ticket - base)) w.value)) xs o))
     (cases_Bool w.on)
 

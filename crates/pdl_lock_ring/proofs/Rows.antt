@@ -43,7 +43,8 @@ reset_none c r start step = record { reset = λ k h. absurd (omega arith) }
 -- one register more of a row holds first what it is to hold, where it was made with that reset value
 pub reset_more : (c d : Circuit) (r : Registers) (start step k : ℕ) → HasRow c r k → IsRowReset c r start step k
     → Extends c d → IsNewReg d (r.first + k) r.width (start + step * k) → IsRowReset d r start step (k + 1)
-reset_more c d r start step k h i e x = record { reset = upto (λ j. reg_reset d (r.first + j) ≡ start + step * j) k x.reset (λ j l. e.reset (r.first + j) (h.has j l) ∙ i.reset j l) }
+reset_more c d r start step k h i e x =
+    record { reset = upto (λ j. reg_reset d (r.first + j) ≡ start + step * j) k x.reset (λ j l. e.reset (r.first + j) (h.has j l) ∙ i.reset j l) }
 
 -- what the k-th holds first fits its register
 pub fits : (start step k n w : ℕ) → start + step * n ≤ 2 ^ w → start < 2 ^ w → step ≤ 1 → k < n → start + step * k < 2 ^ w
@@ -120,7 +121,8 @@ first_values c l place e r = record { content = λ k h. r.reset k h ∙ (let z :
 
 pub first_places : (c : Circuit) (l : RingLayout) (place : ℕ)
     → l.content ≡ Place → IsRowReset c (row_of l (l.from + 2 + 2 * l.size) l.kept) place 1 l.size → AreFirst c l place
-first_places c l place e r = record { content = λ k h. r.reset k h ∙ (let z : place + 1 * k ≡ place + k = omega arith in z) ∙ sym (ap (λ x. first_content_of x place k) e) }
+first_places c l place e r =
+    record { content = λ k h. r.reset k h ∙ (let z : place + 1 * k ≡ place + k = omega arith in z) ∙ sym (ap (λ x. first_content_of x place k) e) }
 
 pub ruleset contents_made = (first_values, first_places)
 

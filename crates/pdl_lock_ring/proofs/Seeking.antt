@@ -34,7 +34,8 @@ count_value l g s x z h =
     ∙ (omega arith)
 
 -- the laws of tickets and room, for each meaning of a state in which the registers stand for the pending writes
-module _ (stands : State → LockState → Type 0) (l : RingLayout) (g : ℕ → Signal) (z : IsSized l) (f : (s : State) (x : LockState) → stands s x → HasEntries l g s x) where
+module _ (stands : State → LockState → Type 0) (l : RingLayout) (g : ℕ → Signal) (z : IsSized l)
+    (f : (s : State) (x : LockState) → stands s x → HasEntries l g s x) where
   pub ticket_law : TicketLaw stands l.ticket (tail_signal l)
   unfolding reg_value
   ticket_law = record { holds = λ s x i. (f s x i).tail }
@@ -85,7 +86,8 @@ seeks_covered l g s x f t z h w c e =
     let n = length x.entries in
     let a = ahead_value l g s x f t h w c.from (omega (arith, c.to, c.from, h.slots.room, z.fits)) e in
     let k = count_value l g s x z h in
-    let late : words.less ((count_signal l).value s) ((ahead l f).value s) ≡ 0 = less_none ((count_signal l).value s) ((ahead l f).value s) (omega (arith, a, k, c.from, c.to)) in
+    let late : words.less ((count_signal l).value s) ((ahead l f).value s) ≡ 0 =
+    less_none ((count_signal l).value s) ((ahead l f).value s) (omega (arith, a, k, c.from, c.to)) in
     record {
       few = omega (arith, c.from, c.to);
       older = mux_zero _ ((count_signal l).value s) ((ahead l f).value s) late ∙ a;
@@ -104,7 +106,8 @@ seeks_late l g s x f z h w two e =
     let n = length x.entries in
     let a = ahead_value l g s x f (next_ticket x + 1) h w (omega arith) (omega (arith, h.slots.room, z.whole, two)) e in
     let k = count_value l g s x z h in
-    let late : words.less ((count_signal l).value s) ((ahead l f).value s) ≡ 1 = less_one ((count_signal l).value s) ((ahead l f).value s) (omega (arith, a, k)) in
+    let late : words.less ((count_signal l).value s) ((ahead l f).value s) ≡ 1 =
+    less_one ((count_signal l).value s) ((ahead l f).value s) (omega (arith, a, k)) in
     record {
       few = omega arith;
       older = mux_one _ ((count_signal l).value s) ((ahead l f).value s) late ∙ k;
@@ -152,7 +155,8 @@ order_value l g s x k i z h o =
     let b = x.base in
     let below : b % m < m = mod_below b m (omega (arith, z.some)) in
     let head : reg_of s l.from ≡ b % m = h.head ∙ ap (λ w. b % w) z.whole in
-    let e : (k + 2 ^ l.ticket - reg_of s l.from) % 2 ^ l.ticket ≡ (k + (m - b % m)) % m = cc_sum k (2 ^ l.ticket) m (reg_of s l.from) (b % m) z.whole head (omega (arith, below)) in
+    let e : (k + 2 ^ l.ticket - reg_of s l.from) % 2 ^ l.ticket ≡ (k + (m - b % m)) % m =
+    cc_sum k (2 ^ l.ticket) m (reg_of s l.from) (b % m) z.whole head (omega (arith, below)) in
     slot_held l.ticket n ((k + 2 ^ l.ticket - reg_of s l.from) % 2 ^ l.ticket) z.power
     ∙ ap (λ v. v % n) e ∙ half_mod n (k + (m - b % m))
     ∙ ap (λ v. (v + (m - b % m)) % n) (sym o.same)
@@ -169,7 +173,8 @@ back_value l s x f d k z w h e =
     let t = f.value s in
     let same : t ≡ (x.base + d - 1) % m = e ∙ ap (λ v. (x.base + d - 1) % v) z.whole in
     let wide : 2 ^ f.width ≡ m = ap (λ v. 2 ^ v) w ∙ z.whole in
-    let sum : (t + 2 ^ f.width - k) % 2 ^ f.width ≡ ((x.base + d - 1) % m + (m - k)) % m = cc_diff t ((x.base + d - 1) % m) (2 ^ f.width) m k same wide (omega (arith, h)) in
+    let sum : (t + 2 ^ f.width - k) % 2 ^ f.width ≡ ((x.base + d - 1) % m + (m - k)) % m =
+    cc_diff t ((x.base + d - 1) % m) (2 ^ f.width) m k same wide (omega (arith, h)) in
     slot_held l.ticket n ((t + 2 ^ f.width - k) % 2 ^ f.width) z.power
     ∙ ap (λ v. v % n) sum ∙ half_mod n ((x.base + d - 1) % m + (m - k))
 
@@ -203,16 +208,26 @@ later e es a i y = record { within = omega (arith, y.within); same = y.same; las
 
 -- what the youngest of them says
 pub youngest_of : (xs : List Entry) (a : ℕ)
-    → ((i : ℕ) × IsYoungest xs a i × ((f : Option ℕ) → youngest xs a f ≡ (entry_at xs i).value) × (is_free xs a ≡ false)) ⊎ (HasNone xs a × ((f : Option ℕ) → youngest xs a f ≡ f) × (is_free xs a ≡ true))
+    → ((i : ℕ) × IsYoungest xs a i × ((f : Option ℕ) → youngest xs a f ≡ (entry_at xs i).value) × (is_free xs a ≡ false))
+    ⊎ (HasNone xs a × ((f : Option ℕ) → youngest xs a f ≡ f) × (is_free xs a ≡ true))
 youngest_of [] a = inr ((λ j h. absurd (omega arith)), (λ f. refl), refl)
 youngest_of (e ∷ es) a = elim (youngest_of es a) [
   | inl y ↦ inl (suc y.0, later e es a y.0 y.1, (λ f. y.2 (if e.addr == a then e.value else f)), if_false (e.addr == a) (is_free es a) y.3)
   | inr n ↦ ⊎_elim
       (λ (q : e.addr ≡ a).
       let t : (e.addr == a) ≡ true = eq-eqb e.addr a q in
-      inl (0, record { within = omega arith; same = q; last = last_first e es a n.0 }, (λ f. n.1 (if e.addr == a then e.value else f) ∙ ap (λ (b : Bool). if b then e.value else f) t), ap (λ (b : Bool). if b then false else is_free es a) t))
+      inl (
+        0,
+        record { within = omega arith; same = q; last = last_first e es a n.0 },
+        (λ f. n.1 (if e.addr == a then e.value else f) ∙ ap (λ (b : Bool). if b then e.value else f) t),
+        ap (λ (b : Bool). if b then false else is_free es a) t,
+      ))
       (λ (q : e.addr ≢ a).
       let t : (e.addr == a) ≡ false = ne_eqb e.addr a q in
-      inr (none_more e es a q n.0, (λ f. n.1 (if e.addr == a then e.value else f) ∙ ap (λ (b : Bool). if b then e.value else f) t), ap (λ (b : Bool). if b then false else is_free es a) t ∙ n.2))
+      inr (
+        none_more e es a q n.0,
+        (λ f. n.1 (if e.addr == a then e.value else f) ∙ ap (λ (b : Bool). if b then e.value else f) t),
+        ap (λ (b : Bool). if b then false else is_free es a) t ∙ n.2,
+      ))
       (cases_eq e.addr a)
 ]

@@ -26,7 +26,8 @@ by_size P a b c d e n h = elim (eqb_tells n 1) [
         | inl w ↦ subst P (sym w.1) d
         | inr w ↦ elim (eqb_tells n 16) [
           | inl v ↦ subst P (sym v.1) e
-          | inr v ↦ let f : ((n == 1) || (n == 2) || (n == 4) || (n == 8) || (n == 16)) ≡ false = rw (x.0, y.0, z.0, w.0, v.0) refl in absurd (cc (subst (λ t. IsTrue t) f h))
+          | inr v ↦ let f : ((n == 1) || (n == 2) || (n == 4) || (n == 8) || (n == 16)) ≡ false = rw (x.0, y.0, z.0, w.0, v.0) refl in
+              absurd (cc (subst (λ t. IsTrue t) f h))
         ]
       ]
     ]

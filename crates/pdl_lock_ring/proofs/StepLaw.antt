@@ -46,7 +46,8 @@ same_choice false x y z h = refl
 pub ticket_value : (l : RingLayout) → IsSized l → (g : ℕ → Signal) (t : Signal) (s : State) (n : ℕ)
     → t.value s ≡ n % 2 ^ l.ticket → (at_ticket l g t).value s ≡ (g (n % l.size)).value s
 ticket_value l z g t s n e =
-    let q : t.value s % 2 ^ (l.ticket - 1) ≡ n % l.size = ap (λ m. t.value s % m) (sym z.power) ∙ ap (λ m. m % l.size) (e ∙ ap (λ m. n % m) z.whole) ∙ half_mod l.size n in
+    let q : t.value s % 2 ^ (l.ticket - 1) ≡ n % l.size =
+    ap (λ m. t.value s % m) (sym z.power) ∙ ap (λ m. m % l.size) (e ∙ ap (λ m. n % m) z.whole) ∙ half_mod l.size n in
     selected_value g t s (l.ticket - 1) 0 ∙ ap (λ k. (g k).value s) (let r : 0 + t.value s % 2 ^ (l.ticket - 1) ≡ n % l.size = omega (arith, q) in r)
 
 head_number : (t u : Bool) (w b : ℕ)
@@ -79,18 +80,23 @@ base_low false false b = omega arith
 left_count : (t u q : Bool) (b tail n : ℕ) (xs : List Entry)
     → length xs ≡ n → (t ≡ true → 0 < n) → (u ≡ true → 1 < n)
     → (q ≡ true → (if u then b + 2 else if t then b + 1 else b) ≤ tail) → (q ≡ true → tail ≤ b + n)
-    → (if u then b + 2 else if t then b + 1 else b) + length (if q then take (tail - (if u then b + 2 else if t then b + 1 else b)) (if u then drop 2 xs else if t then drop 1 xs else xs) else (if u then drop 2 xs else if t then drop 1 xs else xs))
+    → (if u then b + 2 else if t then b + 1 else b) + length (if q
+    then take (tail - (if u then b + 2 else if t then b + 1 else b)) (if u then drop 2 xs else if t then drop 1 xs else xs)
+    else (if u then drop 2 xs else if t then drop 1 xs else xs))
     ≡ (if q then tail else b + n)
-left_count t true true b tail n xs e one more lo hi = let d = length-drop 2 xs in let k = length-take (tail - (b + 2)) (drop 2 xs) in omega (arith, d, k, e, lo refl, hi refl, more refl)
+left_count t true true b tail n xs e one more lo hi = let d = length-drop 2 xs in
+    let k = length-take (tail - (b + 2)) (drop 2 xs) in omega (arith, d, k, e, lo refl, hi refl, more refl)
 left_count t true false b tail n xs e one more lo hi = let d = length-drop 2 xs in omega (arith, d, e, more refl)
-left_count true false true b tail n xs e one more lo hi = let d = length-drop 1 xs in let k = length-take (tail - (b + 1)) (drop 1 xs) in omega (arith, d, k, e, lo refl, hi refl, one refl)
+left_count true false true b tail n xs e one more lo hi = let d = length-drop 1 xs in
+    let k = length-take (tail - (b + 1)) (drop 1 xs) in omega (arith, d, k, e, lo refl, hi refl, one refl)
 left_count true false false b tail n xs e one more lo hi = let d = length-drop 1 xs in omega (arith, d, e, one refl)
 left_count false false true b tail n xs e one more lo hi = let k = length-take (tail - b) xs in omega (arith, k, e, lo refl, hi refl)
 left_count false false false b tail n xs e one more lo hi = omega (arith, e)
 
 -- what the slots hold of the pending writes that are left
 left_holds : (t u q : Bool) (n b d : ℕ) (A H X : ℕ → ℕ) (xs : List Entry) → Holds n b A H X xs
-    → Holds n (if u then b + 2 else if t then b + 1 else b) A H X (if q then take d (if u then drop 2 xs else if t then drop 1 xs else xs) else (if u then drop 2 xs else if t then drop 1 xs else xs))
+    → Holds n (if u then b + 2 else if t then b + 1 else b) A H X
+    (if q then take d (if u then drop 2 xs else if t then drop 1 xs else xs) else (if u then drop 2 xs else if t then drop 1 xs else xs))
 left_holds t true true n b d A H X xs h = take_holds n (b + 2) d A H X (drop 2 xs) (drop_holds n b 2 A H X xs h)
 left_holds t true false n b d A H X xs h = drop_holds n b 2 A H X xs h
 left_holds true false true n b d A H X xs h = take_holds n (b + 1) d A H X (drop 1 xs) (drop_holds n b 1 A H X xs h)
@@ -135,20 +141,23 @@ module _ (l : RingLayout) (v : ℕ → Signal) (s : State) (x : LockState) (f : 
   pub oldest_addr_is : Cycle l v s x f a → a.release ≡ true → (oldest_addr l f).value s ≡ (entry_at (filled_entries x a) 0).addr
   oldest_addr_is c o =
       let h = all_filled l v s x f a c in
-      ticket_value l c.sized (slot_addr l f) (head_signal l) s x.base (head_value c) ∙ ap (λ k. (slot_addr l f k).value s) slot_zero ∙ h.has_addr 0 (there_first xs (c.proper.done o))
+      ticket_value l c.sized (slot_addr l f) (head_signal l) s x.base (head_value c)
+      ∙ ap (λ k. (slot_addr l f k).value s) slot_zero ∙ h.has_addr 0 (there_first xs (c.proper.done o))
 
   pub next_addr_is : Cycle l v s x f a → a.release2 ≡ true → (next_addr l f).value s ≡ (entry_at (filled_entries x a) 1).addr
   next_addr_is c o =
       let h = all_filled l v s x f a c in
       ticket_value l c.sized (slot_addr l f) (next_head l) s (x.base + 1) (next_head_value c) ∙ h.has_addr 1 (there_second xs (c.proper.done2 o))
 
-  pub oldest_value_is : Cycle l v s x f a → a.release ≡ true → (at_ticket l (after_fill l f v) (head_signal l)).value s ≡ or_zero (entry_at (filled_entries x a) 0).value
+  pub oldest_value_is : Cycle l v s x f a → a.release ≡ true
+      → (at_ticket l (after_fill l f v) (head_signal l)).value s ≡ or_zero (entry_at (filled_entries x a) 0).value
   oldest_value_is c o =
       let h = all_filled l v s x f a c in
       ticket_value l c.sized (after_fill l f v) (head_signal l) s x.base (head_value c) ∙ ap (λ k. (after_fill l f v k).value s) slot_zero
       ∙ h.has_value 0 (or_zero (entry_at xs 0).value) (there_first xs (c.proper.done o)) (some_of (entry_at xs 0).value (c.proper.done o))
 
-  pub next_value_is : Cycle l v s x f a → a.release2 ≡ true → (at_ticket l (after_fill l f v) (next_head l)).value s ≡ or_zero (entry_at (filled_entries x a) 1).value
+  pub next_value_is : Cycle l v s x f a → a.release2 ≡ true
+      → (at_ticket l (after_fill l f v) (next_head l)).value s ≡ or_zero (entry_at (filled_entries x a) 1).value
   next_value_is c o =
       let h = all_filled l v s x f a c in
       ticket_value l c.sized (after_fill l f v) (next_head l) s (x.base + 1) (next_head_value c)
@@ -170,8 +179,12 @@ module _ (l : RingLayout) (v : ℕ → Signal) (s : State) (x : LockState) (f : 
   head_after_value c =
       let w = l.ticket in
       ap (λ m. if f.release2.value s == 1 then words.add w (words.add w m 1) 1 else (if f.release.value s == 1 then words.add w m 1 else m)) c.stands.head
-      ∙ ap (λ t. if t then words.add w (words.add w (x.base % 2 ^ w) 1) 1 else (if f.release.value s == 1 then words.add w (x.base % 2 ^ w) 1 else x.base % 2 ^ w)) (test_bit (f.release2.value s) a.release2 c.drives.release2)
-      ∙ ap (λ t. if a.release2 then words.add w (words.add w (x.base % 2 ^ w) 1) 1 else (if t then words.add w (x.base % 2 ^ w) 1 else x.base % 2 ^ w)) (test_bit (f.release.value s) a.release c.drives.release)
+      ∙ ap
+      (λ t. if t then words.add w (words.add w (x.base % 2 ^ w) 1) 1
+      else (if f.release.value s == 1 then words.add w (x.base % 2 ^ w) 1 else x.base % 2 ^ w))
+      (test_bit (f.release2.value s) a.release2 c.drives.release2)
+      ∙ ap (λ t. if a.release2 then words.add w (words.add w (x.base % 2 ^ w) 1) 1 else (if t then words.add w (x.base % 2 ^ w) 1 else x.base % 2 ^ w))
+      (test_bit (f.release.value s) a.release c.drives.release)
       ∙ head_number a.release a.release2 w x.base
 
   tail_after_value : Cycle l v s x f a → (tail_after l f).value s ≡ (if a.squash then a.tail else x.base + length x.entries + length a.reserves) % 2 ^ l.ticket
@@ -181,9 +194,15 @@ module _ (l : RingLayout) (v : ℕ → Signal) (s : State) (x : LockState) (f : 
       let n = x.base + length x.entries in
       let p = pushes_value l v s x f a c in
       let q = pushes2_value l v s x f a c in
-      let pushed : words.mux ((pushes2 f).value s) (words.add w (words.add w (reg_of s (l.from + 1)) 1) 1) (words.mux ((pushes f).value s) (words.add w (reg_of s (l.from + 1)) 1) (reg_of s (l.from + 1))) ≡ (n + length a.reserves) % 2 ^ w =
-      ap (λ m. words.mux m (words.add w (words.add w (reg_of s (l.from + 1)) 1) 1) (words.mux ((pushes f).value s) (words.add w (reg_of s (l.from + 1)) 1) (reg_of s (l.from + 1)))) q
-      ∙ ap (λ m. words.mux (two a.reserves) (words.add w (words.add w (reg_of s (l.from + 1)) 1) 1) (words.mux m (words.add w (reg_of s (l.from + 1)) 1) (reg_of s (l.from + 1)))) p
+      let pushed : words.mux ((pushes2 f).value s) (words.add w (words.add w (reg_of s (l.from + 1)) 1) 1)
+      (words.mux ((pushes f).value s) (words.add w (reg_of s (l.from + 1)) 1) (reg_of s (l.from + 1)))
+      ≡ (n + length a.reserves) % 2 ^ w =
+      ap
+      (λ m. words.mux m (words.add w (words.add w (reg_of s (l.from + 1)) 1) 1)
+      (words.mux ((pushes f).value s) (words.add w (reg_of s (l.from + 1)) 1) (reg_of s (l.from + 1)))) q
+      ∙ ap
+      (λ m. words.mux (two a.reserves) (words.add w (words.add w (reg_of s (l.from + 1)) 1) 1)
+      (words.mux m (words.add w (reg_of s (l.from + 1)) 1) (reg_of s (l.from + 1)))) p
       ∙ ap (λ m. words.mux (two a.reserves) (words.add w (words.add w m 1) 1) (words.mux (some a.reserves) (words.add w m 1) m)) c.stands.tail
       ∙ pushed_number w n a.reserves c.proper.two in
       ap (λ m. words.mux (f.squash.value s) (f.tail.value s) m) pushed
@@ -208,13 +227,22 @@ module _ (l : RingLayout) (v : ℕ → Signal) (s : State) (x : LockState) (f : 
   entries_next b o t c n i m =
       record {
         head = i.regs l.from (omega (arith, n.from)) (omega (arith, n.to)) ∙ ap (λ (g : Signal). g.value s) n.ends.head ∙ head_after_value c;
-        tail = i.regs (l.from + 1) (omega (arith, n.from)) (omega (arith, n.to)) ∙ ap (λ (g : Signal). g.value s) n.ends.tail ∙ tail_after_value c ∙ ap (λ k. k % 2 ^ l.ticket) (sym (left_long c));
-        slots = values_same l.size (next_base x a) (λ k. reg_of t (addr_at l k)) (λ k. reg_of t (has_at l k)) (λ k. (after_fill l f v k).value s) (λ k. (v k).value t) left m.stay
-            (holds_same l.size (next_base x a) (λ k. (slot_addr l f k).value s) (λ k. (slot_bit l f k).value s) (λ k. (after_fill l f v k).value s) (λ k. reg_of t (addr_at l k)) (λ k. reg_of t (has_at l k)) (λ k. (after_fill l f v k).value s) left c.sized.some
+        tail =
+            i.regs (l.from + 1) (omega (arith, n.from)) (omega (arith, n.to))
+            ∙ ap (λ (g : Signal). g.value s) n.ends.tail ∙ tail_after_value c
+            ∙ ap (λ k. k % 2 ^ l.ticket) (sym (left_long c));
+        slots =
+            values_same l.size (next_base x a) (λ k. reg_of t (addr_at l k)) (λ k. reg_of t (has_at l k))
+            (λ k. (after_fill l f v k).value s) (λ k. (v k).value t) left m.stay
+            (holds_same l.size (next_base x a) (λ k. (slot_addr l f k).value s) (λ k. (slot_bit l f k).value s)
+            (λ k. (after_fill l f v k).value s) (λ k. reg_of t (addr_at l k)) (λ k. reg_of t (has_at l k))
+            (λ k. (after_fill l f v k).value s) left c.sized.some
             (λ k h. i.regs (addr_at l k) (omega (arith, n.from)) (omega (arith, n.to, h)) ∙ ap (λ (g : Signal). g.value s) (n.addrs.addr k h))
             (λ k h. i.regs (has_at l k) (omega (arith, n.from)) (omega (arith, n.to, h)) ∙ ap (λ (g : Signal). g.value s) (n.bits.bit k h))
             (λ k h. refl)
-            (left_holds a.release a.release2 a.squash l.size x.base (a.tail - next_base x a) (λ k. (slot_addr l f k).value s) (λ k. (slot_bit l f k).value s) (λ k. (after_fill l f v k).value s) xs (all_filled l v s x f a c)));
+            (left_holds a.release a.release2 a.squash l.size x.base (a.tail - next_base x a)
+            (λ k. (slot_addr l f k).value s) (λ k. (slot_bit l f k).value s)
+            (λ k. (after_fill l f v k).value s) xs (all_filled l v s x f a c)));
       }
 
 -- ---- slots that keep values
@@ -247,9 +275,11 @@ two_committed : (t u : Bool) (e e' a v a' v' : ℕ) (xs : List Entry) (ws : List
 two_committed t true e e' a v a' v' xs ws p q both i j k m =
     let o = both refl in
     let d : e ≡ 1 = p ∙ ap bit o in
-    let first : (if e == 1 then slice_set ws a v else ws) ≡ committed xs 0 ws = rw d (cc_set ws a (entry_at xs 0).addr v (or_zero (entry_at xs 0).value) (i o) (j o)) in
+    let first : (if e == 1 then slice_set ws a v else ws) ≡ committed xs 0 ws =
+    rw d (cc_set ws a (entry_at xs 0).addr v (or_zero (entry_at xs 0).value) (i o) (j o)) in
     rw q (ap (λ zs. slice_set zs a' v') first ∙ cc_set (committed xs 0 ws) a' (entry_at xs 1).addr v' (or_zero (entry_at xs 1).value) (k refl) (m refl))
-two_committed true false e e' a v a' v' xs ws p q both i j k m = rw (q, p) (cc_set ws a (entry_at xs 0).addr v (or_zero (entry_at xs 0).value) (i refl) (j refl))
+two_committed true false e e' a v a' v' xs ws p q both i j k m =
+    rw (q, p) (cc_set ws a (entry_at xs 0).addr v (or_zero (entry_at xs 0).value) (i refl) (j refl))
 two_committed false false e e' a v a' v' xs ws p q both i j k m = rw (q, p) refl
 
 module _ (b : Circuit) (l : RingLayout) (f : StepSignals) (keeps : l.content ≡ Value) (z : IsSized l) (t : TicketsFit l.ticket f) (n : NextValues b l f) where
@@ -260,13 +290,18 @@ module _ (b : Circuit) (l : RingLayout) (f : StepSignals) (keeps : l.content ≡
   cycle s x a h d p = record { sized = z; stands = h.entries; fit = t; drives = d; proper = p }
 
   -- what a ticket's slot holds is its value after the writes
-  same_at : (s : State) (u : Signal) (m : ℕ) → u.value s ≡ m % 2 ^ l.ticket → (at_ticket l (slot_value l f) u).value s ≡ (at_ticket l (after_fill l f V) u).value s
-  same_at s u m e = ticket_value l z (slot_value l f) u s m e ∙ ap (λ (g : Signal). g.value s) (content_value l f (m % l.size) keeps) ∙ sym (ticket_value l z (after_fill l f V) u s m e)
+  same_at : (s : State) (u : Signal) (m : ℕ) → u.value s ≡ m % 2 ^ l.ticket
+      → (at_ticket l (slot_value l f) u).value s ≡ (at_ticket l (after_fill l f V) u).value s
+  same_at s u m e =
+      ticket_value l z (slot_value l f) u s m e ∙ ap (λ (g : Signal). g.value s) (content_value l f (m % l.size) keeps)
+      ∙ sym (ticket_value l z (after_fill l f V) u s m e)
 
-  oldest_same : (s : State) (x : LockState) (a : LockAct) → Cycle l V s x f a → a.release ≡ true → (oldest_value l f).value s ≡ or_zero (entry_at (filled_entries x a) 0).value
+  oldest_same : (s : State) (x : LockState) (a : LockAct) → Cycle l V s x f a → a.release ≡ true
+      → (oldest_value l f).value s ≡ or_zero (entry_at (filled_entries x a) 0).value
   oldest_same s x a c o = same_at s (head_signal l) x.base (head_value l V s x f a c) ∙ oldest_value_is l V s x f a c o
 
-  next_same : (s : State) (x : LockState) (a : LockAct) → Cycle l V s x f a → a.release2 ≡ true → (next_value l f).value s ≡ or_zero (entry_at (filled_entries x a) 1).value
+  next_same : (s : State) (x : LockState) (a : LockAct) → Cycle l V s x f a → a.release2 ≡ true
+      → (next_value l f).value s ≡ or_zero (entry_at (filled_entries x a) 1).value
   next_same s x a c o = same_at s (next_head l) (x.base + 1) (next_head_value l V s x f a c) ∙ next_value_is l V s x f a c o
 
   stands_next : (s u : State) (x : LockState) (a : LockAct) → Stands l s x → Cycle l V s x f a → IsNext b (own_all l) s u → Stands l u (step x a)
@@ -279,27 +314,39 @@ module _ (b : Circuit) (l : RingLayout) (f : StepSignals) (keeps : l.content ≡
               stay = λ i lt.
                   let k = (next_base x a + i) % l.size in
                   let below : k < l.size = mod_below (next_base x a + i) l.size z.some in
-                  o.regs (value_at l k) (omega arith) (omega (arith, below)) ∙ ap (λ (g : Signal). g.value s) (n.contents.value k below ∙ content_value l f k keeps);
+                  o.regs (value_at l k) (omega arith) (omega (arith, below))
+                  ∙ ap (λ (g : Signal). g.value s) (n.contents.value k below ∙ content_value l f k keeps);
             });
-        words = words_next l.array s u b l f.release (oldest_addr l f) (oldest_value l f) f.release2 (next_addr l f) (next_value l f) x.words (committed_words a (filled_entries x a) x.words) refl h.words
+        words =
+            words_next l.array s u b l f.release (oldest_addr l f) (oldest_value l f) f.release2 (next_addr l f)
+            (next_value l f) x.words (committed_words a (filled_entries x a) x.words) refl h.words
             (λ m e. o.arrays m (array_low l.array m e) (array_high l.array m e) ∙ n.array.words m e s (slice_index_or s.arrays m []))
-            (two_committed a.release a.release2 (f.release.value s) (f.release2.value s) ((oldest_addr l f).value s) ((oldest_value l f).value s) ((next_addr l f).value s) ((next_value l f).value s) (filled_entries x a) x.words
-            c.drives.release c.drives.release2 c.proper.both (oldest_addr_is l V s x f a c) (oldest_same s x a c) (next_addr_is l V s x f a c) (next_same s x a c));
+            (two_committed a.release a.release2 (f.release.value s) (f.release2.value s) ((oldest_addr l f).value s)
+            ((oldest_value l f).value s) ((next_addr l f).value s) ((next_value l f).value s)
+            (filled_entries x a) x.words
+            c.drives.release c.drives.release2 c.proper.both (oldest_addr_is l V s x f a c) (oldest_same s x a c)
+            (next_addr_is l V s x f a c) (next_same s x a c));
       }
 
-  pub step_law : StepLaw (Stands l) l.size l.ticket (own_all l) b f f.release (mux_signal f.release (oldest_addr l f) (const_signal l.bits 0)) (mux_signal f.release (oldest_value l f) (const_signal l.width 0))
+  pub step_law : StepLaw (Stands l) l.size l.ticket (own_all l) b f f.release (mux_signal f.release (oldest_addr l f) (const_signal l.bits 0))
+      (mux_signal f.release (oldest_value l f) (const_signal l.width 0))
   unfolding mux_value const_value
   step_law = record {
     commits = λ s x a h d p. d.release;
-    commits_addr = λ s x a h d p. let c = cycle s x a h d p in by_release l V s x f a c ((oldest_addr l f).value s) (entry_at (filled_entries x a) 0).addr (oldest_addr_is l V s x f a c);
-    commits_value = λ s x a h d p. let c = cycle s x a h d p in by_release l V s x f a c ((oldest_value l f).value s) (or_zero (entry_at (filled_entries x a) 0).value) (oldest_same s x a c);
+    commits_addr = λ s x a h d p. let c = cycle s x a h d p in
+        by_release l V s x f a c ((oldest_addr l f).value s) (entry_at (filled_entries x a) 0).addr (oldest_addr_is l V s x f a c);
+    commits_value = λ s x a h d p. let c = cycle s x a h d p in
+        by_release l V s x f a c ((oldest_value l f).value s) (or_zero (entry_at (filled_entries x a) 0).value) (oldest_same s x a c);
     next = λ s u x a h d p o. stands_next s u x a h (cycle s x a h d p) o;
   }
 
-  pub commit2_law : Commit2Law (Stands l) l.size l.ticket f f.release2 (mux_signal f.release2 (next_addr l f) (const_signal l.bits 0)) (mux_signal f.release2 (next_value l f) (const_signal l.width 0))
+  pub commit2_law : Commit2Law (Stands l) l.size l.ticket f f.release2 (mux_signal f.release2 (next_addr l f) (const_signal l.bits 0))
+      (mux_signal f.release2 (next_value l f) (const_signal l.width 0))
   unfolding mux_value const_value
   commit2_law = record {
     commits = λ s x a h d p. d.release2;
-    commits_addr = λ s x a h d p. let c = cycle s x a h d p in by_release2 l V s x f a c ((next_addr l f).value s) (entry_at (filled_entries x a) 1).addr (next_addr_is l V s x f a c);
-    commits_value = λ s x a h d p. let c = cycle s x a h d p in by_release2 l V s x f a c ((next_value l f).value s) (or_zero (entry_at (filled_entries x a) 1).value) (next_same s x a c);
+    commits_addr = λ s x a h d p. let c = cycle s x a h d p in
+        by_release2 l V s x f a c ((next_addr l f).value s) (entry_at (filled_entries x a) 1).addr (next_addr_is l V s x f a c);
+    commits_value = λ s x a h d p. let c = cycle s x a h d p in
+        by_release2 l V s x f a c ((next_value l f).value s) (or_zero (entry_at (filled_entries x a) 1).value) (next_same s x a c);
   }

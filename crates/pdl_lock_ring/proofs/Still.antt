@@ -24,15 +24,21 @@ not_given : (n next k : ℕ) (ys : List ℕ) (t1 t2 a1 a2 : ℕ)
     → k < n → length ys ≤ 2 → ((i : ℕ) → i < length ys → (next + i) % n ≢ k) → AreGiven n next ys t1 t2 a1 a2
     → (t1 ≢ k) × (t2 ≢ k)
 not_given n next k [] t1 t2 a1 a2 h two u g = ((λ e. omega (arith, e, g.0, h)), (λ e. omega (arith, e, g.1, h)))
-not_given n next k (y ∷ []) t1 t2 a1 a2 h two u g = ((λ e. u 0 (omega arith) (ap (λ m. m % n) (let q : next + 0 ≡ next = omega arith in q) ∙ sym g.0 ∙ e)), (λ e. omega (arith, e, g.1, h)))
-not_given n next k (y ∷ z ∷ []) t1 t2 a1 a2 h two u g = ((λ e. u 0 (omega arith) (ap (λ m. m % n) (let q : next + 0 ≡ next = omega arith in q) ∙ sym g.0 ∙ e)), (λ e. u 1 (omega arith) (sym g.1 ∙ e)))
+not_given n next k (y ∷ []) t1 t2 a1 a2 h two u g =
+    ((λ e. u 0 (omega arith) (ap (λ m. m % n) (let q : next + 0 ≡ next = omega arith in q) ∙ sym g.0 ∙ e)), (λ e. omega (arith, e, g.1, h)))
+not_given n next k (y ∷ z ∷ []) t1 t2 a1 a2 h two u g =
+    ((λ e. u 0 (omega arith) (ap (λ m. m % n) (let q : next + 0 ≡ next = omega arith in q) ∙ sym g.0 ∙ e)), (λ e. u 1 (omega arith) (sym g.1 ∙ e)))
 not_given n next k (y ∷ z ∷ z' ∷ ys) t1 t2 a1 a2 h two u g = absurd (omega (arith, two))
 
-module _ (l : RingLayout) (v : ℕ → Signal) (s : State) (x : LockState) (f : StepSignals) (a : LockAct) (c : Cycle l v s x f a) (k : ℕ) (below : k < l.size) (spared : IsSpared l.size x a k) where
+module _ (l : RingLayout) (v : ℕ → Signal) (s : State) (x : LockState) (f : StepSignals) (a : LockAct)
+    (c : Cycle l v s x f a) (k : ℕ) (below : k < l.size) (spared : IsSpared l.size x a k) where
   untaken : ((takes_first l f k).value s ≡ 0) × ((takes_second l f k).value s ≡ 0)
   unfolding bin_value const_value
   untaken =
-      let n = not_given l.size (x.base + length x.entries) k a.reserves ((first_slot l f).value s) ((second_slot l f).value s) ((first_addr l f).value s) ((second_addr l f).value s) below c.proper.two spared.reserves (are_given l v s x f a c) in
+      let n =
+      not_given l.size (x.base + length x.entries) k a.reserves ((first_slot l f).value s)
+      ((second_slot l f).value s) ((first_addr l f).value s)
+      ((second_addr l f).value s) below c.proper.two spared.reserves (are_given l v s x f a c) in
       (eq_none ((first_slot l f).value s) k n.0, eq_none ((second_slot l f).value s) k n.1)
 
   unfilled : (j : ℕ) → j < length a.writes → (fills_slot l f k j).value s ≡ 0
@@ -87,8 +93,11 @@ still_law b l f r e listed z t n = record {
       let P : ℕ → Type 0 = λ g. slice_index u.regs g ≡ slice_index s.regs g in
       let Q : List ℕ → Type 0 = λ gs. (j < length gs) → P (slice_index gs j) in
       subst Q (sym regs) (λ lt. each_reg P (addr_at l k) (value_at l k) (has_at l k)
-      (o.regs (addr_at l k) (omega arith) (omega (arith, below)) ∙ ap (λ (g : Signal). g.value s) (n.addrs.addr k below) ∙ addr_still l V s x f a c k below spared)
-      (o.regs (value_at l k) (omega arith) (omega (arith, below)) ∙ ap (λ (g : Signal). g.value s) (n.contents.value k below ∙ content_value l f k e) ∙ value_still l V s x f a c k below spared (V k))
+      (o.regs (addr_at l k) (omega arith) (omega (arith, below)) ∙ ap (λ (g : Signal). g.value s) (n.addrs.addr k below)
+      ∙ addr_still l V s x f a c k below spared)
+      (o.regs (value_at l k) (omega arith) (omega (arith, below))
+      ∙ ap (λ (g : Signal). g.value s) (n.contents.value k below ∙ content_value l f k e)
+      ∙ value_still l V s x f a c k below spared (V k))
       (o.regs (has_at l k) (omega arith) (omega (arith, below)) ∙ ap (λ (g : Signal). g.value s) (n.bits.bit k below) ∙ bit_still l V s x f a c k below spared)
       j lt) within;
 }

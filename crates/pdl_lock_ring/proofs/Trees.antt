@@ -27,7 +27,8 @@ pub selected_more : (f : ℕ → Signal) (d : Signal) (b from : ℕ) → b ≢ 0
     ≡ mux_signal (slice_signal (b - 1) (b - 1) d) (selected_signal f d (b - 1) (from + 2 ^ (b - 1))) (selected_signal f d (b - 1) from)
 unfolding selected_signal
 selected_more f d zero from h = absurd (h refl)
-selected_more f d (suc b) from h = let e : b ≡ suc b - 1 = omega arith in ap (λ n. mux_signal (slice_signal n n d) (selected_signal f d n (from + 2 ^ n)) (selected_signal f d n from)) e
+selected_more f d (suc b) from h = let e : b ≡ suc b - 1 = omega arith in
+    ap (λ n. mux_signal (slice_signal n n d) (selected_signal f d n (from + 2 ^ n)) (selected_signal f d n from)) e
 
 -- a choice by bits has the width that all its signals have
 pub selected_width : (f : ℕ → Signal) (d : Signal) (w : ℕ)
@@ -72,7 +73,8 @@ pub some_more : (f : ℕ → Signal) (b from : ℕ) → b ≢ 0
     → some_signal f b from ≡ mux_signal (some_signal f (b - 1) (from + 2 ^ (b - 1))) (const_signal 1 1) (some_signal f (b - 1) from)
 unfolding some_signal
 some_more f zero from h = absurd (h refl)
-some_more f (suc b) from h = let e : b ≡ suc b - 1 = omega arith in ap (λ n. mux_signal (some_signal f n (from + 2 ^ n)) (const_signal 1 1) (some_signal f n from)) e
+some_more f (suc b) from h = let e : b ≡ suc b - 1 = omega arith in
+    ap (λ n. mux_signal (some_signal f n (from + 2 ^ n)) (const_signal 1 1) (some_signal f n from)) e
 
 some_width : (f : ℕ → Signal) → ((k : ℕ) → (f k).width ≡ 1) → (b from : ℕ) → (some_signal f b from).width ≡ 1
 unfolding some_signal
@@ -125,7 +127,8 @@ pub least_more : (key : ℕ → Signal) (b from : ℕ) → b ≢ 0
     (least_key key (b - 1) (from + 2 ^ (b - 1))) (least_key key (b - 1) from)
 unfolding least_key
 least_more key zero from h = absurd (h refl)
-least_more key (suc b) from h = let e : b ≡ suc b - 1 = omega arith in ap (λ n. mux_signal (bin_signal Lt (least_key key n (from + 2 ^ n)) (least_key key n from)) (least_key key n (from + 2 ^ n)) (least_key key n from)) e
+least_more key (suc b) from h = let e : b ≡ suc b - 1 = omega arith in
+    ap (λ n. mux_signal (bin_signal Lt (least_key key n (from + 2 ^ n)) (least_key key n from)) (least_key key n (from + 2 ^ n)) (least_key key n from)) e
 
 -- the signal of the least of one key is the signal of that key
 pub least_of_none : (key f : ℕ → Signal) (b from : ℕ) → b ≡ 0 → least_of key f b from ≡ f from
@@ -139,7 +142,8 @@ pub least_of_more : (key f : ℕ → Signal) (b from : ℕ) → b ≢ 0
     (least_of key f (b - 1) (from + 2 ^ (b - 1))) (least_of key f (b - 1) from)
 unfolding least_of
 least_of_more key f zero from h = absurd (h refl)
-least_of_more key f (suc b) from h = let e : b ≡ suc b - 1 = omega arith in ap (λ n. mux_signal (bin_signal Lt (least_key key n (from + 2 ^ n)) (least_key key n from)) (least_of key f n (from + 2 ^ n)) (least_of key f n from)) e
+least_of_more key f (suc b) from h = let e : b ≡ suc b - 1 = omega arith in
+    ap (λ n. mux_signal (bin_signal Lt (least_key key n (from + 2 ^ n)) (least_key key n from)) (least_of key f n (from + 2 ^ n)) (least_of key f n from)) e
 
 -- the signal of the least key has the width that all signals have
 pub least_width : (key f : ℕ → Signal) (w : ℕ) → ((k : ℕ) → (f k).width ≡ w) → (b from : ℕ) → (least_of key f b from).width ≡ w
@@ -189,7 +193,8 @@ lower : (key : ℕ → Signal) (s : State) (b from j : ℕ) → IsLeast key s (s
 lower key s b from j i h = let two = two-pow-succ b in record { low = i.low; high = h; least = λ k lo hi q. i.least k lo (omega (arith, hi, two)) q }
 
 upper : (key : ℕ → Signal) (s : State) (b from j : ℕ) → IsLeast key s (suc b) from j → from + 2 ^ b ≤ j → IsLeast key s b (from + 2 ^ b) j
-upper key s b from j i h = let two = two-pow-succ b in record { low = h; high = omega (arith, i.high, two); least = λ k lo hi q. i.least k (omega (arith, lo)) (omega (arith, hi, two)) q }
+upper key s b from j i h = let two = two-pow-succ b in
+    record { low = h; high = omega (arith, i.high, two); least = λ k lo hi q. i.least k (omega (arith, lo)) (omega (arith, hi, two)) q }
 
 -- a key that is below all others is the least, and the signal of the least key is its signal
 pub least_is : (key f : ℕ → Signal) (s : State) (b from j : ℕ) → IsLeast key s b from j
@@ -205,12 +210,16 @@ least_is key f s (suc b) from j i =
     ⊎_elim
     (λ (h : j < from + 2 ^ b).
     let r = least_is key f s b from j (lower key s b from j i h) in
-    let more : (key j).value s + 1 ≤ high = least_from key s ((key j).value s + 1) b (from + 2 ^ b) (λ k lo hi. let q = i.least k (omega (arith, lo)) (omega (arith, hi, two)) (λ z. omega (arith, z, h, lo)) in omega (arith, q)) in
+    let more : (key j).value s + 1 ≤ high =
+    least_from key s ((key j).value s + 1) b (from + 2 ^ b)
+    (λ k lo hi. let q = i.least k (omega (arith, lo)) (omega (arith, hi, two)) (λ z. omega (arith, z, h, lo)) in omega (arith, q)) in
     let off : words.less high low ≡ 0 = less_none high low (let e = r.0 in omega (arith, e, more)) in
     (mux_zero (words.less high low) high low off ∙ r.0, mux_zero (words.less high low) fh fl off ∙ r.1))
     (λ (h : from + 2 ^ b ≤ j).
     let r = least_is key f s b (from + 2 ^ b) j (upper key s b from j i h) in
-    let more : (key j).value s + 1 ≤ low = least_from key s ((key j).value s + 1) b from (λ k lo hi. let q = i.least k lo (omega (arith, hi, two)) (λ z. omega (arith, z, h, hi)) in omega (arith, q)) in
+    let more : (key j).value s + 1 ≤ low =
+    least_from key s ((key j).value s + 1) b from
+    (λ k lo hi. let q = i.least k lo (omega (arith, hi, two)) (λ z. omega (arith, z, h, hi)) in omega (arith, q)) in
     let on : words.less high low ≡ 1 = less_one high low (let e = r.0 in omega (arith, e, more)) in
     (mux_one (words.less high low) high low on ∙ r.0, mux_one (words.less high low) fh fl on ∙ r.1))
     (cases_lt j (from + 2 ^ b))

@@ -16,9 +16,11 @@ some_signal f (suc b) from = mux_signal (some_signal f b (from + 2 ^ b)) (const_
 -- the least of 2 ^ b keys from this one on
 unfoldable pub least_key : (ℕ → Signal) → ℕ → ℕ → Signal
 least_key key zero from = key from
-least_key key (suc b) from = mux_signal (bin_signal Lt (least_key key b (from + 2 ^ b)) (least_key key b from)) (least_key key b (from + 2 ^ b)) (least_key key b from)
+least_key key (suc b) from =
+    mux_signal (bin_signal Lt (least_key key b (from + 2 ^ b)) (least_key key b from)) (least_key key b (from + 2 ^ b)) (least_key key b from)
 
 -- of 2 ^ b signals from this one on that of the least key
 unfoldable pub least_of : (ℕ → Signal) → (ℕ → Signal) → ℕ → ℕ → Signal
 least_of key f zero from = f from
-least_of key f (suc b) from = mux_signal (bin_signal Lt (least_key key b (from + 2 ^ b)) (least_key key b from)) (least_of key f b (from + 2 ^ b)) (least_of key f b from)
+least_of key f (suc b) from =
+    mux_signal (bin_signal Lt (least_key key b (from + 2 ^ b)) (least_key key b from)) (least_of key f b (from + 2 ^ b)) (least_of key f b from)

@@ -49,7 +49,8 @@ ticket_bits n = if n == 1 then 1 else if n == 2 then 2 else if n == 4 then 3 els
 
 -- where the slots stand that keep values, by what `emit_state` has answered
 abbrev pub layout_of : ℕ → LockRegs → RingLayout
-layout_of size r = record { size = size; ticket = ticket_bits size; width = r.width; kept = r.width; bits = r.bits; from = first_reg r; array = r.array; content = Value }
+layout_of size r =
+    record { size = size; ticket = ticket_bits size; width = r.width; kept = r.width; bits = r.bits; from = first_reg r; array = r.array; content = Value }
 
 -- the sizes and widths of a layout, and that its numbers are those of a machine
 pub record IsSized (l : RingLayout) : Type 0 where

@@ -110,7 +110,9 @@ head_after l f = mux_signal f.release2 (bin_signal Add (next_head l) (const_sign
 
 -- the tail after the reservations and the squash
 unfoldable pub tail_after : RingLayout → StepSignals → Signal
-tail_after l f = mux_signal f.squash f.tail (mux_signal (pushes2 f) (bin_signal Add (second_ticket l) (const_signal l.ticket 1)) (mux_signal (pushes f) (second_ticket l) (tail_signal l)))
+tail_after l f =
+    mux_signal f.squash f.tail
+    (mux_signal (pushes2 f) (bin_signal Add (second_ticket l) (const_signal l.ticket 1)) (mux_signal (pushes f) (second_ticket l) (tail_signal l)))
 
 -- of a signal for each slot that of a ticket's slot
 abbrev pub at_ticket : RingLayout → (ℕ → Signal) → Signal → Signal

@@ -12,7 +12,8 @@ new_long m t [] = refl
 new_long m t (r ∷ rs) = at (r.mem == m) (new_long m t rs)
   where
     at : (b : Bool) → length (new_entries m t rs) ≡ length (addresses_of m rs)
-        → length ((if b then record { thread = t; address = r.address; value = None } ∷ [] else []) ++ new_entries m t rs) ≡ length ((if b then r.address ∷ [] else []) ++ addresses_of m rs)
+        → length ((if b then record { thread = t; address = r.address; value = None } ∷ [] else []) ++ new_entries m t rs)
+        ≡ length ((if b then r.address ∷ [] else []) ++ addresses_of m rs)
     at true h = ap suc h
     at false h = h
 

@@ -98,8 +98,13 @@ same_ticket a b q e f g = cc
 pub same_signals : (a b : Circuit) (p : LockPorts) → PortsThere a p → Keeps a b → step_signals b p ≡ step_signals a p
 unfolding step_signals
 same_signals a b p x y =
-    let e1 = same_map (reserve_signal b) (reserve_signal a) p.reserves (λ k q h e. same_reserve a b q (y.kept q.enable (x.ask k q h e)) (y.kept q.addr (x.addr k q h e))) in
-    let e2 = same_map (ticket_signal b) (ticket_signal a) p.writes (λ k q h e. same_ticket a b q (y.kept q.enable (x.enable k q h e)) (y.kept q.ticket (x.ticket k q h e)) (y.kept q.value (x.value k q h e))) in
+    let e1 =
+    same_map (reserve_signal b)
+    (reserve_signal a) p.reserves (λ k q h e. same_reserve a b q (y.kept q.enable (x.ask k q h e)) (y.kept q.addr (x.addr k q h e))) in
+    let e2 =
+    same_map (ticket_signal b)
+    (ticket_signal a) p.writes
+    (λ k q h e. same_ticket a b q (y.kept q.enable (x.enable k q h e)) (y.kept q.ticket (x.ticket k q h e)) (y.kept q.value (x.value k q h e))) in
     cc (e1, e2, y.kept p.release x.release, y.kept p.release2 x.release2, y.kept p.squash x.squash, y.kept p.tail x.tail)
 
 pub ruleset ports = (extends_keeps, ports_there, ports_fit, same_signals)

@@ -95,7 +95,8 @@ pub record HasRegNets (w : ℕ) (c : Circuit) (r : LockRegs) : Type 0 where
 
 -- registers at reset, and an array that holds a whole image, stand for the lock at its start
 pub record StartLaw (stands : State → LockState → Type 0) (k : LockKind) (c : Circuit) (r : LockRegs) : Type 0 where
-  pub starts : (s : State) (image : List ℕ) → IsReset c (first_reg r) (end_reg r) s → length image ≡ 2 ^ r.bits → HasImage k r.array s image → stands s (start image)
+  pub starts : (s : State) (image : List ℕ) → IsReset c (first_reg r) (end_reg r) s → length image ≡ 2 ^ r.bits
+      → HasImage k r.array s image → stands s (start image)
 
 -- where the array of a renaming lock has the word of each address and the value of each pending write that has one, all at different places
 pub record HasPlaces (bits m : ℕ) (s : State) (x : LockState) : Type 0 where
@@ -134,8 +135,11 @@ FitsIn f s = f.value s < 2 ^ f.width
 
 -- a look of a covered ticket says whether it is ready, and at an address that fits it gives the value of a ready read
 pub record LookLaw (stands : State → LockState → Type 0) (k : LockKind) (w : ℕ) (u : Kind) (addr ticket ready : Signal) (value : Option Signal) : Type 0 where
-  pub answers : (s : State) (x : LockState) (t : ℕ) → stands s x → Covered x t → holds_ticket w ticket s t → ready.value s ≡ bit (look_ready k u x t (addr.value s))
-  pub gives : (f : Signal) → value ≡ Some f → (s : State) (x : LockState) (t : ℕ) → stands s x → Covered x t → holds_ticket w ticket s t → FitsIn addr s → look_ready k R x t (addr.value s) ≡ true → f.value s ≡ look_value x t (addr.value s)
+  pub answers : (s : State) (x : LockState) (t : ℕ) → stands s x → Covered x t → holds_ticket w ticket s t
+      → ready.value s ≡ bit (look_ready k u x t (addr.value s))
+  pub gives : (f : Signal) → value ≡ Some f → (s : State) (x : LockState) (t : ℕ) → stands s x → Covered x t
+      → holds_ticket w ticket s t → FitsIn addr s → look_ready k R x t (addr.value s) ≡ true
+      → f.value s ≡ look_value x t (addr.value s)
 
 -- the net of a look's value, where there is one
 pub record HasValueNet (c : Circuit) (width : ℕ) (value : Option Net) : Type 0 where
@@ -239,7 +243,8 @@ pub record SameButValues (o : Own) (f : StepSignals) (s t : State) : Type 0 wher
 
 -- in the next states the registers are the same again
 pub record HidesValues (c : Circuit) (o : Own) (f : StepSignals) : Type 0 where
-  pub same : (s t u v : State) → SameButValues o f s t → IsNext c o s u → IsNext c o t v → (k : ℕ) → o.from ≤ k → k < o.to → slice_index u.regs k ≡ slice_index v.regs k
+  pub same : (s t u v : State) → SameButValues o f s t → IsNext c o s u → IsNext c o t v → (k : ℕ) → o.from ≤ k
+      → k < o.to → slice_index u.regs k ≡ slice_index v.regs k
 
 -- no written value comes into a register of a renaming lock
 abbrev pub HidesLaw : LockKind → Circuit → Own → StepSignals → Type 0

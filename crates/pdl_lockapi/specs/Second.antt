@@ -27,9 +27,14 @@ pub record Ticket2Law (stands : State → LockState → Type 0) (w : ℕ) (ticke
   pub holds : (s : State) (x : LockState) → stands s x → holds_ticket w ticket2 s (next_ticket x + 1)
 
 -- a look with the ticket of a cycle's second reservation says what all pending writes say, where a lock's size is at least 2
-pub record LateLookLaw (stands : State → LockState → Type 0) (k : LockKind) (n w : ℕ) (u : Kind) (addr ticket ready : Signal) (value : Option Signal) : Type 0 where
-  pub answers : 2 ≤ n → (s : State) (x : LockState) → stands s x → holds_ticket w ticket s (next_ticket x + 1) → ready.value s ≡ bit (look_ready k u x (next_ticket x + 1) (addr.value s))
-  pub gives : 2 ≤ n → (f : Signal) → value ≡ Some f → (s : State) (x : LockState) → stands s x → holds_ticket w ticket s (next_ticket x + 1) → FitsIn addr s → look_ready k R x (next_ticket x + 1) (addr.value s) ≡ true → f.value s ≡ look_value x (next_ticket x + 1) (addr.value s)
+pub record LateLookLaw (stands : State → LockState → Type 0) (k : LockKind) (n w : ℕ) (u : Kind)
+    (addr ticket ready : Signal) (value : Option Signal) : Type 0 where
+  pub answers : 2 ≤ n → (s : State) (x : LockState) → stands s x → holds_ticket w ticket s (next_ticket x + 1)
+      → ready.value s ≡ bit (look_ready k u x (next_ticket x + 1) (addr.value s))
+  pub gives : 2 ≤ n → (f : Signal) → value ≡ Some f → (s : State) (x : LockState) → stands s x
+      → holds_ticket w ticket s (next_ticket x + 1) → FitsIn addr s
+      → look_ready k R x (next_ticket x + 1) (addr.value s) ≡ true
+      → f.value s ≡ look_value x (next_ticket x + 1) (addr.value s)
 
 -- in a cycle of proper use the second commit's nets show the second commit
 pub record Commit2Law (stands : State → LockState → Type 0) (n w : ℕ) (f : StepSignals) (commit addr value : Signal) : Type 0 where

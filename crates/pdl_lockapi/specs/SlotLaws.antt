@@ -33,7 +33,8 @@ pub record HoldsAddresses (stands : State → LockState → Type 0) (n : ℕ) (r
 
 -- the second one has its value, once it was written
 pub record HoldsValues (stands : State → LockState → Type 0) (n : ℕ) (r : LockRegs) : Type 0 where
-  pub value : (s : State) (x : LockState) (i v : ℕ) → stands s x → i < length x.entries → (entry_at x.entries i).value ≡ Some v → slot_reg r ((x.base + i) % n) 1 s ≡ v
+  pub value : (s : State) (x : LockState) (i v : ℕ) → stands s x → i < length x.entries
+      → (entry_at x.entries i).value ≡ Some v → slot_reg r ((x.base + i) % n) 1 s ≡ v
 
 -- a renaming lock keeps no value in a register
 abbrev pub KeepsValues : (State → LockState → Type 0) → LockKind → ℕ → LockRegs → Type 0
@@ -53,4 +54,5 @@ pub record IsSpared (n : ℕ) (x : LockState) (a : LockAct) (k : ℕ) : Type 0 w
 
 -- then its registers stay as they are, whatever is released and dropped
 pub record StillLaw (stands : State → LockState → Type 0) (n w : ℕ) (o : Own) (c : Circuit) (f : StepSignals) (r : LockRegs) : Type 0 where
-  pub still : (s t : State) (x : LockState) (a : LockAct) (k j : ℕ) → stands s x → Drives w f s a → Proper n x a → IsNext c o s t → k < n → j < length (slot_regs r k) → IsSpared n x a k → slot_reg r k j t ≡ slot_reg r k j s
+  pub still : (s t : State) (x : LockState) (a : LockAct) (k j : ℕ) → stands s x → Drives w f s a → Proper n x a
+      → IsNext c o s t → k < n → j < length (slot_regs r k) → IsSpared n x a k → slot_reg r k j t ≡ slot_reg r k j s

@@ -9,7 +9,8 @@ use Rattle.pdl_rules.proofs.Counts.{counted, count_none}
 -- a count up to a most of four is at least four where the whole count is
 pub up_to_four : (n count : ℕ) → n ≡ min 4 count → nat_le 4 n ≡ nat_le 4 count
 up_to_four n count e =
-    both_ways _ _ (λ h. le-leb 4 count (let l : 4 ≤ n = leb-true 4 n h in omega arith)) (λ h. le-leb 4 n (let l : 4 ≤ count = leb-true 4 count h in omega arith))
+    both_ways _ _ (λ h. le-leb 4 count (let l : 4 ≤ n = leb-true 4 n h in omega arith))
+    (λ h. le-leb 4 n (let l : 4 ≤ count = leb-true 4 count h in omega arith))
 
 -- one of the places passes where at least 1 of them is counted as passing
 pub any_counted : (f : Place → Bool) (xs : List Place) → list_any f xs ≡ nat_le 1 (count_by f xs)

@@ -14,7 +14,9 @@ use Rattle.pdl_locks.specs.Bound.{last_of}
 pub late_as : (p : Pipe) (m : List ℕ) (s : ℕ) → is_some_and (λ c. nat_lt c s) (last_of p m) ≡ is_bound_late p m s
 late_as p m s = at (is_locked p.mems m)
   where
-    at : (b : Bool) → is_some_and (λ c. nat_lt c s) (if b then first_stage (releases_memory m) [] (places p) else None) ≡ (b && is_some_and (λ c. nat_lt c s) (first_stage (releases_memory m) [] (places p)))
+    at : (b : Bool)
+        → is_some_and (λ c. nat_lt c s) (if b then first_stage (releases_memory m) [] (places p) else None)
+        ≡ (b && is_some_and (λ c. nat_lt c s) (first_stage (releases_memory m) [] (places p)))
     at true = refl
     at false = refl
 

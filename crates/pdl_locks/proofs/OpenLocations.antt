@@ -51,11 +51,13 @@ opened : (l : Location) (h : Hold) (xs : List Place)
 opened l h [] e = or_left (is_unreleased h) false e
 opened l h (x ∷ xs) e = at (or_cases (is_unreleased (after_place l h x)) _ (opened l (after_place l h x) xs e))
   where
-    at : (is_unreleased (after_place l h x) ≡ true) ⊎ (list_any (reserves_location l) xs ≡ true) → (is_unreleased h || (reserves_location l x || list_any (reserves_location l) xs)) ≡ true
+    at : (is_unreleased (after_place l h x) ≡ true) ⊎ (list_any (reserves_location l) xs ≡ true)
+        → (is_unreleased h || (reserves_location l x || list_any (reserves_location l) xs)) ≡ true
     at (inr i) = or_right (is_unreleased h) _ (or_right (reserves_location l x) _ i)
     at (inl i) = here (or_cases (is_unreleased h) _ (opens l h x i))
       where
-        here : (is_unreleased h ≡ true) ⊎ (reserves_location l x ≡ true) → (is_unreleased h || (reserves_location l x || list_any (reserves_location l) xs)) ≡ true
+        here : (is_unreleased h ≡ true) ⊎ (reserves_location l x ≡ true)
+            → (is_unreleased h || (reserves_location l x || list_any (reserves_location l) xs)) ≡ true
         here (inl j) = or_left (is_unreleased h) _ j
         here (inr j) = or_right (is_unreleased h) _ (or_left (reserves_location l x) _ j)
 
@@ -78,7 +80,8 @@ some_left earlier (x ∷ xs) e = which (λ i. some_left earlier xs i) (or_cases 
     at None i = absurd (false≢true i)
     at (Some l) i = any_weaker (reserves_location l) (leaves_open earlier) (leaves earlier l i) earlier (opened l spec.Nothing earlier i)
 
-    which : (list_any (open_at earlier) xs ≡ true → list_any (leaves_open earlier) earlier ≡ true) → (open_at earlier x ≡ true) ⊎ (list_any (open_at earlier) xs ≡ true)
+    which : (list_any (open_at earlier) xs ≡ true → list_any (leaves_open earlier) earlier ≡ true)
+        → (open_at earlier x ≡ true) ⊎ (list_any (open_at earlier) xs ≡ true)
         → list_any (leaves_open earlier) earlier ≡ true
     which rest (inl i) = at (location_at x) i
     which rest (inr i) = rest i
@@ -100,7 +103,8 @@ open_number all earlier uses h before later x e = at (location_at x) refl
     at : (o : Option Location) → location_at x ≡ o → is_open uses (first_of Locations o all) ≡ is_some_and (λ l. is_unreleased (hold_after l earlier)) o
     at None i = ap (λ o. is_some_and (λ (used : location.LocationUse). is_unreleased (hold_view used.hold)) o) (past_last uses (length all) (sym h.one_each))
     at (Some l) i =
-        let within : first_place Locations l all < length all = subst (λ xs. first_place Locations l xs < length xs) (sym e) (found Locations l before later x (is_own Locations l x i)) in
+        let within : first_place Locations l all < length all =
+        subst (λ xs. first_place Locations l xs < length xs) (sym e) (found Locations l before later x (is_own Locations l x i)) in
         ap (is_some_and (λ (used : location.LocationUse). is_unreleased (hold_view used.hold)))
         (slice_get-get_or uses (first_place Locations l all) none (subst (λ n. first_place Locations l all < n) (sym h.one_each) within))
         ∙ ap is_unreleased (h.each l none within).hold
@@ -136,4 +140,5 @@ some_open places first path before later x uses s h =
     back : list_any (leaves_open earlier) earlier ≡ true → list_any (open_at earlier) all ≡ true
     back e =
         list_any-append (open_at earlier) before (x ∷ later)
-        ∙ or_left (list_any (open_at earlier) before) _ (some_filtered (open_at earlier) (on_path path) before (any_weaker (leaves_open earlier) (open_at earlier) (left_at earlier) earlier e))
+        ∙ or_left (list_any (open_at earlier) before) _
+        (some_filtered (open_at earlier) (on_path path) before (any_weaker (leaves_open earlier) (open_at earlier) (left_at earlier) earlier e))

@@ -20,8 +20,10 @@ pub record HasLaws {T : Type 0} (keys : Keys) (Is : T → Location → List Plac
   pub aside : (used : T) (l : Location) (earlier : List Place) (x : Place) → is_at keys l x ≡ false → Is used l earlier → Is used l (earlier ++ x ∷ [])
 
 -- what a place reads
-read : {T : Type 0} (keys : Keys) (Is : T → Location → List Place → Type 0) (places : List r_place.Place) (first : List ℕ) (before later : List Place) (x : Place) (k : ℕ)
-    (uses : List T) (none : T) (earlier : List Place) → AreNumbered keys places first (before ++ x ∷ later) → k ≡ length before → AreKept keys Is (map place_view places) earlier uses
+read : {T : Type 0} (keys : Keys) (Is : T → Location → List Place → Type 0) (places : List r_place.Place)
+    (first : List ℕ) (before later : List Place) (x : Place) (k : ℕ)
+    (uses : List T) (none : T) (earlier : List Place) → AreNumbered keys places first (before ++ x ∷ later)
+    → k ≡ length before → AreKept keys Is (map place_view places) earlier uses
     → IsOwn Is (get_or uses (get_or first k 0) none) earlier x
 read keys Is places first before later x k uses none earlier s e h l own =
     let all = before ++ x ∷ later in
@@ -31,8 +33,10 @@ read keys Is places first before later x k uses none earlier s e h l own =
     subst (λ n. Is (get_or uses n none) l earlier) (sym number) (so.each l none (found keys l before later x (is_own keys l x own)))
 
 -- the use that is kept by a place's number is that of its own location, or of its memory
-pub own : {T : Type 0} (keys : Keys) (Is : T → Location → List Place → Type 0) (places : List r_place.Place) (first : List ℕ) (before later : List Place) (x : Place) (k : ℕ)
-    (uses : List T) (none used : T) (earlier : List Place) → AreNumbered keys places first (before ++ x ∷ later) → k ≡ length before → AreKept keys Is (map place_view places) earlier uses
+pub own : {T : Type 0} (keys : Keys) (Is : T → Location → List Place → Type 0) (places : List r_place.Place)
+    (first : List ℕ) (before later : List Place) (x : Place) (k : ℕ)
+    (uses : List T) (none used : T) (earlier : List Place) → AreNumbered keys places first (before ++ x ∷ later)
+    → k ≡ length before → AreKept keys Is (map place_view places) earlier uses
     → used ≡ get_or uses (get_or first k 0) none → IsOwn Is used earlier x
 own keys Is places first before later x k uses none used earlier s e h is l at =
     subst (λ u. Is u l earlier) (sym is) (read keys Is places first before later x k uses none earlier s e h l at)
@@ -90,9 +94,11 @@ unchanged keys Is laws before later earlier x n uses number h past =
         absurd (omega (arith, here, inside, same, past))
 
 -- and on a path
-pub stepped : {T : Type 0} (keys : Keys) (Is : T → Location → List Place → Type 0) (laws : HasLaws keys Is) (places : List r_place.Place) (first : List ℕ) (path : List Guard)
+pub stepped : {T : Type 0} (keys : Keys) (Is : T → Location → List Place → Type 0) (laws : HasLaws keys Is)
+    (places : List r_place.Place) (first : List ℕ) (path : List Guard)
     (before later : List Place) (x : Place) (k n : ℕ) (uses : List T) (new old : T)
-    → AreNumbered keys places first (before ++ x ∷ later) → k ≡ length before → on_path path x ≡ true → AreKept keys Is (map place_view places) (filter (on_path path) before) uses
+    → AreNumbered keys places first (before ++ x ∷ later) → k ≡ length before → on_path path x ≡ true
+    → AreKept keys Is (map place_view places) (filter (on_path path) before) uses
     → n ≡ get_or first k 0 → n < length uses → old ≡ get_or uses n old
     → ((l : Location) (earlier : List Place) → location_at x ≡ Some l → Is old l earlier → Is new l (earlier ++ x ∷ []))
     → AreKept keys Is (map place_view places) (filter (on_path path) (before ++ x ∷ [])) (set uses n new)
@@ -102,13 +108,16 @@ stepped keys Is laws places first path before later x k n uses new old s e is_on
     let number : n ≡ number_at keys all x = is ∙ ap (λ ns. get_or ns k 0) s.numbers ∙ nth_told (number_at keys all) before later x k 0 e in
     let so : AreKept keys Is all earlier uses = subst (λ xs. AreKept keys Is xs earlier uses) (sym s.own) h in
     let moved : AreKept keys Is (map place_view places) (earlier ++ x ∷ []) (set uses n new) =
-    subst (λ xs. AreKept keys Is xs (earlier ++ x ∷ []) (set uses n new)) s.own (changed keys Is laws all earlier x n uses new old number so below was (λ l. step l earlier)) in
+    subst (λ xs. AreKept keys Is xs (earlier ++ x ∷ []) (set uses n new)) s.own
+    (changed keys Is laws all earlier x n uses new old number so below was (λ l. step l earlier)) in
     subst (λ b. AreKept keys Is (map place_view places) b (set uses n new)) (sym (earlier_more path before x is_on)) moved
 
 -- the uses stay as they are after a place on the path whose number none of them has
-pub unstepped : {T : Type 0} (keys : Keys) (Is : T → Location → List Place → Type 0) (laws : HasLaws keys Is) (places : List r_place.Place) (first : List ℕ) (path : List Guard)
+pub unstepped : {T : Type 0} (keys : Keys) (Is : T → Location → List Place → Type 0) (laws : HasLaws keys Is)
+    (places : List r_place.Place) (first : List ℕ) (path : List Guard)
     (before later : List Place) (x : Place) (k n : ℕ) (uses : List T)
-    → AreNumbered keys places first (before ++ x ∷ later) → k ≡ length before → on_path path x ≡ true → AreKept keys Is (map place_view places) (filter (on_path path) before) uses
+    → AreNumbered keys places first (before ++ x ∷ later) → k ≡ length before → on_path path x ≡ true
+    → AreKept keys Is (map place_view places) (filter (on_path path) before) uses
     → n ≡ get_or first k 0 → length uses ≤ n → AreKept keys Is (map place_view places) (filter (on_path path) (before ++ x ∷ [])) uses
 unstepped keys Is laws places first path before later x k n uses s e is_on h is past =
     let all = before ++ x ∷ later in
@@ -128,5 +137,8 @@ pub begun : {T : Type 0} (keys : Keys) (Is : T → Location → List Place → T
     → n ≡ length all → ((l : Location) → Is none l []) → AreKept keys Is all [] (replicate n none)
 begun keys Is all none n e h = record {
   one_each = length-replicate n none ∙ e;
-  each = λ l other within. subst (λ u. Is u l []) (sym (repeated n (first_place keys l all) none other (subst (λ m. first_place keys l all < m) (sym e) within))) (h l);
+  each =
+      λ l other within. subst (λ u. Is u l [])
+      (sym (repeated n (first_place keys l all) none other (subst (λ m. first_place keys l all < m) (sym e) within)))
+      (h l);
 }

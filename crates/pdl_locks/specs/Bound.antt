@@ -22,7 +22,8 @@ abbrev pub last_at : Pipe → Place → Option ℕ
 last_at p x = last_for p (location_at x)
 
 -- the guards, the path on which all are true, the stages and the last stages are those of the pipe with these guards and places
-pub record AreOfPipe (p : Pipe) (guards : List Guard) (all : ℕ) (rows : List r_place.Place) (stages : List ℕ) (last : List (Option ℕ)) (gs : List Guard) (xs : List Place) : Type 0 where
+pub record AreOfPipe (p : Pipe) (guards : List Guard) (all : ℕ) (rows : List r_place.Place) (stages : List ℕ)
+    (last : List (Option ℕ)) (gs : List Guard) (xs : List Place) : Type 0 where
   pub own : gs ≡ guards
   pub text : xs ≡ places p
   pub seen : xs ≡ map place_view rows

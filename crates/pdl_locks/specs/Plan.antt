@@ -12,7 +12,8 @@ use Rattle.pdl_locks.specs.declared.plan.MemStages.{MemStages}
 
 -- of one memory, and of all
 abbrev pub stages_of : Pipe → Mem → MemStages
-stages_of p m = record { reserved = first_stage (reserves_memory m.name.name) [] (places p); released = first_stage (releases_memory m.name.name) [] (places p) }
+stages_of p m =
+    record { reserved = first_stage (reserves_memory m.name.name) [] (places p); released = first_stage (releases_memory m.name.name) [] (places p) }
 
 -- the stages of the reserves and of the releases of each memory
 abbrev pub plan_of : Pipe → List MemStages

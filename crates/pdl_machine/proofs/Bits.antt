@@ -9,7 +9,8 @@ pub bits_more : (now : List Bool) (i left : ℕ) (all : List Bool)
     → take (i + 1) (set now i (left % 2 == 1)) ++ replies_of (length (drop (i + 1) (set now i (left % 2 == 1)))) (left / 2) ≡ all
 bits_more now i left all less h =
     let bit : Bool = left % 2 == 1 in
-    let rest : length (drop (i + 1) (set now i bit)) ≡ length (drop (i + 1) now) = ap (λ (bs : List Bool). length bs) (drop-set-lt (i + 1) now i bit (omega arith)) in
+    let rest : length (drop (i + 1) (set now i bit)) ≡ length (drop (i + 1) now) =
+    ap (λ (bs : List Bool). length bs) (drop-set-lt (i + 1) now i bit (omega arith)) in
     let one : suc (length (drop (i + 1) now)) ≡ length (drop i now) = omega (arith, length-drop {A = Bool}, less) in
     ap₂ (λ (bs : List Bool) n. bs ++ replies_of n (left / 2)) (take_more_set now i bit less) rest
     ∙ append_assoc (take i now) (bit ∷ []) (replies_of (length (drop (i + 1) now)) (left / 2))

@@ -36,5 +36,6 @@ module _ (p : Pipe) (source : IsTrue (is_source p)) (letters : IsTrue (is_named 
   pub paces : KeepsPace (flat p) image schedule
   paces = whole_paces (flat p) facts image schedule
 
-  pub stays_sound : IsTrue (is_sound (flat p) image (stated.ended_in (stated.turns (flat p) image schedule)) (stated.state_after (flat p) (stated.first (flat p) image) schedule))
+  pub stays_sound : IsTrue
+      (is_sound (flat p) image (stated.ended_in (stated.turns (flat p) image schedule)) (stated.state_after (flat p) (stated.first (flat p) image) schedule))
   stays_sound = EveryState.sound_state (flat p) facts (paths_strict p kept source) image schedule

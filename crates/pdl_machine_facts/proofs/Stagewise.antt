@@ -31,9 +31,13 @@ commits_at st ms k zero (x ∷ xs) arrays h =
     (before_commits st ms (suc k) k xs (with_commit arrays k (taken_out st ms k)) (omega arith))
 commits_at st ms k (suc n) (x ∷ xs) arrays h =
     let e : suc k + n ≡ k + suc n = omega arith in
-    subst (λ j. with_commits st ms (suc k) xs (with_commit arrays k (taken_out st ms k)) j ≡ with_commit (with_commit arrays k (taken_out st ms k)) j (taken_out st ms j) j) e
+    subst
+    (λ j. with_commits st ms (suc k) xs (with_commit arrays k (taken_out st ms k)) j
+    ≡ with_commit (with_commit arrays k (taken_out st ms k)) j (taken_out st ms j) j) e
     (commits_at st ms (suc k) n xs (with_commit arrays k (taken_out st ms k)) (omega arith))
-    ∙ same_commit (k + suc n) (taken_out st ms (k + suc n)) (with_commit arrays k (taken_out st ms k)) arrays (other_commit k (k + suc n) (taken_out st ms k) arrays (ne_eqb (k + suc n) k (λ e. absurd (omega arith))))
+    ∙ same_commit (k + suc n) (taken_out st ms (k + suc n))
+    (with_commit arrays k (taken_out st ms k)) arrays
+    (other_commit k (k + suc n) (taken_out st ms k) arrays (ne_eqb (k + suc n) k (λ e. absurd (omega arith))))
 
 -- ONE CYCLE
 
@@ -52,8 +56,12 @@ module _ (p : Pipe) (leads : LeadsOn p) (some : 0 < length p.stages) (st : State
   ended_is : list_any (λ (a : Act). is_none (next_stage p a.stage a.does)) (movers (all_acts p st bits)) ≡ stage_moves p st bits (length p.stages - 1)
   ended_is = ap (list_any (λ (a : Act). is_none (next_stage p a.stage a.does))) movers_here ∙ at (some_after (length p.stages) some)
     where
-      at : (k : ℕ) × (length p.stages ≡ suc k) → list_any (λ (a : Act). is_none (next_stage p a.stage a.does)) (movers_from p st bits (length p.stages) 0) ≡ stage_moves p st bits (length p.stages - 1)
-      at (k, e) = ap (λ n. list_any (λ (a : Act). is_none (next_stage p a.stage a.does)) (movers_from p st bits n 0)) e ∙ ended_at p st bits leads k 0 (omega (arith, e))
+      at : (k : ℕ) × (length p.stages ≡ suc k)
+          → list_any (λ (a : Act). is_none (next_stage p a.stage a.does)) (movers_from p st bits (length p.stages) 0)
+          ≡ stage_moves p st bits (length p.stages - 1)
+      at (k, e) =
+          ap (λ n. list_any (λ (a : Act). is_none (next_stage p a.stage a.does)) (movers_from p st bits n 0)) e
+          ∙ ended_at p st bits leads k 0 (omega (arith, e))
 
   -- the next state, by the movers of the stages
   abbrev next_state : State
@@ -62,13 +70,16 @@ module _ (p : Pipe) (leads : LeadsOn p) (some : 0 < length p.stages) (st : State
   pub next_is : cycle p st bits ≡ next_state
   next_is = λ i. after_these p st bits (these_are i) (movers_here i) (squasher (movers_here i))
 
-  slot_next : (k : ℕ) → k < length p.stages → slot next_state k ≡ or_then (newborn p st bits k) (if_kept (squasher (moving p st bits)) (or_then (arriving_thread p st bits k) (Slots.staying_thread p st bits k)))
+  slot_next : (k : ℕ) → k < length p.stages
+      → slot next_state k
+      ≡ or_then (newborn p st bits k) (if_kept (squasher (moving p st bits)) (or_then (arriving_thread p st bits k) (Slots.staying_thread p st bits k)))
   slot_next k h =
       let z : 0 + k ≡ k = omega arith in
       let these = line_acts p st bits (length p.stages) 0 in
       at_stage _ 0 p.stages k None h
       ∙ ap (stage_next p st these (squasher (moving p st bits))) z
-      ∙ ap₂ (λ ms o. or_then (if k == 0 then born_thread p st.next (child_of ms) else None) (if_kept (squasher (moving p st bits)) o)) (movers_are p st bits (length p.stages) 0) (stands_at p st bits leads k h)
+      ∙ ap₂ (λ ms o. or_then (if k == 0 then born_thread p st.next (child_of ms) else None) (if_kept (squasher (moving p st bits)) o))
+      (movers_are p st bits (length p.stages) 0) (stands_at p st bits leads k h)
 
   pub by_stages : IsByStages p st bits
   by_stages =
@@ -84,8 +95,12 @@ module _ (p : Pipe) (leads : LeadsOn p) (some : 0 < length p.stages) (st : State
         next = λ k h. ap (λ (s : State). slot s k) next_is ∙ slot_next k h;
         locks = λ m h.
             ap (λ (s : State). lock_of s m) next_is
-            ∙ at_mem _ 0 p.mems m [] h ∙ ap (λ i. entries_left (squasher (moving p st bits)) (list_three st (moving p st bits) i)) (let e : 0 + m ≡ m = omega arith in e);
+            ∙ at_mem _ 0 p.mems m [] h
+            ∙ ap (λ i. entries_left (squasher (moving p st bits)) (list_three st (moving p st bits) i)) (let e : 0 + m ≡ m = omega arith in e);
         arrays = λ m h.
             ap (λ (s : State). s.arrays m) next_is
-            ∙ (let e : 0 + m ≡ m = omega arith in subst (λ j. with_commits st (moving p st bits) 0 p.mems st.arrays j ≡ with_commit st.arrays j (taken_out st (moving p st bits) j) j) e (commits_at st (moving p st bits) 0 m p.mems st.arrays h));
+            ∙ (let e : 0 + m ≡ m = omega arith in
+            subst
+            (λ j. with_commits st (moving p st bits) 0 p.mems st.arrays j ≡ with_commit st.arrays j (taken_out st (moving p st bits) j) j) e
+            (commits_at st (moving p st bits) 0 m p.mems st.arrays h));
       }

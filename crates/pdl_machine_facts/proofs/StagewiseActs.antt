@@ -55,7 +55,8 @@ module _ (p : Pipe) (st : State) (bits : List Bool) where
       n : ℕ
       n = length ts
 
-      at : (o : Option Thread) → here p st bits k ≡ with_now p st bits o → later_acts p st bits k ≡ acts p st bits (suc k) ts → acts p st bits (suc k) ts ≡ line_acts n (suc k)
+      at : (o : Option Thread) → here p st bits k ≡ with_now p st bits o
+          → later_acts p st bits k ≡ acts p st bits (suc k) ts → acts p st bits (suc k) ts ≡ line_acts n (suc k)
           → acts p st bits k (o ∷ ts) ≡ seen (stage_moves p st bits k) k (here p st bits k) ++ line_acts n (suc k)
       at None h b rest = rest ∙ ap (λ x. seen (stage_moves p st bits k) k x ++ line_acts n (suc k)) (sym h)
       at (Some t) h b rest =
@@ -101,9 +102,12 @@ module _ (p : Pipe) (st : State) (bits : List Bool) where
 
   open_before : (n k q : ℕ) → q < k → list_all (opens q) (line_acts n k) ≡ true
   open_before zero k q h = refl
-  open_before (suc n) k q h = open_seen (stage_moves p st bits k) k q (here p st bits k) (line_acts n (suc k)) (ne_eqb k q (λ e. absurd (omega arith))) ∙ open_before n (suc k) q (omega arith)
+  open_before (suc n) k q h =
+      open_seen (stage_moves p st bits k) k q (here p st bits k) (line_acts n (suc k)) (ne_eqb k q (λ e. absurd (omega arith)))
+      ∙ open_before n (suc k) q (omega arith)
 
-  open_here : (b : Bool) (k q : ℕ) (o : Option Thread) (rest : List Act) → (k == q) ≡ true → list_all (opens q) rest ≡ true → list_all (opens q) (seen b k o ++ rest) ≡ (is_none o || b)
+  open_here : (b : Bool) (k q : ℕ) (o : Option Thread) (rest : List Act) → (k == q) ≡ true
+      → list_all (opens q) rest ≡ true → list_all (opens q) (seen b k o ++ rest) ≡ (is_none o || b)
   open_here b k q None rest e h = h
   open_here b k q (Some t) rest e h = ap₂ (λ x y. (not x || b) && y) e h ∙ at b
     where
@@ -115,7 +119,9 @@ module _ (p : Pipe) (st : State) (bits : List Bool) where
   open_at zero k q h i = absurd (omega (arith, h, i))
   open_at (suc n) k q h i = at (k == q) refl (λ j. open_at n (suc k) q j (omega (arith, i)))
     where
-      at : (x : Bool) → (k == q) ≡ x → (k < q → list_all (opens q) (line_acts n (suc k)) ≡ (is_none (slot st q) || stage_moves p st bits q)) → list_all (opens q) (line_acts (suc n) k) ≡ (is_none (slot st q) || stage_moves p st bits q)
+      at : (x : Bool) → (k == q) ≡ x
+          → (k < q → list_all (opens q) (line_acts n (suc k)) ≡ (is_none (slot st q) || stage_moves p st bits q))
+          → list_all (opens q) (line_acts (suc n) k) ≡ (is_none (slot st q) || stage_moves p st bits q)
       at true e f =
           open_here (stage_moves p st bits k) k q (here p st bits k) (line_acts n (suc k)) e (open_before n (suc k) q (let j = eqb-true k q e in omega arith))
           ∙ ap (λ o. o || stage_moves p st bits k) (none_here k)
@@ -128,16 +134,21 @@ module _ (p : Pipe) (st : State) (bits : List Bool) where
       where
         at : (q : Option ℕ) → ((r : ℕ) → q ≡ Some r → (k < r) × (r < length p.stages)) → can_enter q (later_acts p st bits k) ≡ may_enter p st bits q
         at None f = refl
-        at (Some r) f = let g = f r refl in ap (list_all (opens r)) (after_are k) ∙ open_at (length st.stages - suc k) (suc k) r g.0 (omega (arith, g.0, g.1, count))
+        at (Some r) f = let g = f r refl in
+            ap (list_all (opens r)) (after_are k) ∙ open_at (length st.stages - suc k) (suc k) r g.0 (omega (arith, g.0, g.1, count))
 
     -- a thread moves where the locks, the rest and its next stage let it
     pub goes_is : (k : ℕ) (t : Thread) → k < length p.stages → here p st bits k ≡ Some t
-        → stage_moves p st bits k ≡ ((is_empty t.awaits && locks_ready p st t.number (deeds p st k t)) && (may_pass p st bits (later_acts p st bits k) k (deeds p st k t) && may_enter p st bits (next_stage p k (deeds p st k t))))
+        → stage_moves p st bits k
+        ≡ ((is_empty t.awaits && locks_ready p st t.number (deeds p st k t))
+        && (may_pass p st bits (later_acts p st bits k) k (deeds p st k t) && may_enter p st bits (next_stage p k (deeds p st k t))))
     goes_is k t l e =
         let d = deeds p st k t in
         let later = later_acts p st bits k in
         ap (slot_moves p st bits k) e
-        ∙ regroup (no_failure later) (blocks_ready p st t.number d) (have_room p st d) (is_empty t.awaits) (ports_free p st bits later d) (barrier_clear p later d) (can_enter (next_stage p k d) later) (merges_well p st k (next_stage p k d))
+        ∙ regroup (no_failure later) (blocks_ready p st t.number d) (have_room p st d) (is_empty t.awaits)
+        (ports_free p st bits later d) (barrier_clear p later d) (can_enter (next_stage p k d) later)
+        (merges_well p st k (next_stage p k d))
         ∙ ap (λ b. (is_empty t.awaits && locks_ready p st t.number d) && (may_pass p st bits later k d && b)) (enters k d l)
 
   mover_seen : (b : Bool) (k : ℕ) (o : Option Thread) (rest : List Act) → movers (seen b k o ++ rest) ≡ mover p st k b o ++ movers rest

@@ -15,7 +15,8 @@ use Rattle.pdl_word.proofs.Numbers.{eqb_self}
 pub stages_below : {X : Type 0} → (f g : ℕ → X) (s : ℕ) (xs : List Stage)
     → ((q : ℕ) → s ≤ q → q < s + length xs → f q ≡ g q) → for_stages f s xs ≡ for_stages g s xs
 stages_below f g s [] h = refl
-stages_below f g s (x ∷ xs) h = ap₂ (λ a l. a ∷ l) (h s (omega arith) (omega arith)) (stages_below f g (suc s) xs (λ q i j. h q (omega (arith, i)) (omega (arith, j))))
+stages_below f g s (x ∷ xs) h =
+    ap₂ (λ a l. a ∷ l) (h s (omega arith) (omega arith)) (stages_below f g (suc s) xs (λ q i j. h q (omega (arith, i)) (omega (arith, j))))
 
 -- what is listed for each stage is as long as the list of stages
 pub stages_count : {X : Type 0} → (f : ℕ → X) (s : ℕ) (xs : List Stage) → length (for_stages f s xs) ≡ length xs
@@ -69,16 +70,20 @@ module _ (p : Pipe) (st : State) (bits : List Bool) where
   or_none : (b r : Bool) → b ≡ false → (b || r) ≡ r
   or_none b r e = ap (λ x. x || r) e
 
-  is_other : (s : ℕ) (b : Bool) (k : ℕ) (o : Option Thread) (rest : List Act) → (k == s) ≡ false → list_any (λ (a : Act). a.stage == s) (shown b k o ++ rest) ≡ list_any (λ (a : Act). a.stage == s) rest
+  is_other : (s : ℕ) (b : Bool) (k : ℕ) (o : Option Thread) (rest : List Act) → (k == s) ≡ false
+      → list_any (λ (a : Act). a.stage == s) (shown b k o ++ rest) ≡ list_any (λ (a : Act). a.stage == s) rest
   is_other s b k None rest e = refl
   is_other s b k (Some t) rest e = or_none (k == s) (list_any (λ (a : Act). a.stage == s) rest) e
 
   none_there : (n k s : ℕ) → s < k → list_any (λ (a : Act). a.stage == s) (lined n k) ≡ false
   none_there zero k s h = refl
   none_there (suc n) k s h =
-      is_other s (stage_moves p st bits k) k (here p st bits k) (lined n (suc k)) (ne_eqb k s (λ e. absurd (omega arith))) ∙ none_there n (suc k) s (omega arith)
+      is_other s (stage_moves p st bits k) k (here p st bits k) (lined n (suc k)) (ne_eqb k s (λ e. absurd (omega arith)))
+      ∙ none_there n (suc k) s (omega arith)
 
-  is_here : (s : ℕ) (b : Bool) (k : ℕ) (o : Option Thread) (rest : List Act) → (k == s) ≡ true → list_any (λ (a : Act). a.stage == s) rest ≡ false → list_any (λ (a : Act). a.stage == s) (shown b k o ++ rest) ≡ is_some o
+  is_here : (s : ℕ) (b : Bool) (k : ℕ) (o : Option Thread) (rest : List Act) → (k == s) ≡ true
+      → list_any (λ (a : Act). a.stage == s) rest ≡ false
+      → list_any (λ (a : Act). a.stage == s) (shown b k o ++ rest) ≡ is_some o
   is_here s b k None rest e h = h
   is_here s b k (Some t) rest e h = ap (λ x. x || list_any (λ (a : Act). a.stage == s) rest) e
 
@@ -86,7 +91,9 @@ module _ (p : Pipe) (st : State) (bits : List Bool) where
   valid_at zero k s h i = absurd (omega (arith, h, i))
   valid_at (suc n) k s h i = at (k == s) refl (λ j. valid_at n (suc k) s j (omega (arith, i)))
     where
-      at : (b : Bool) → (k == s) ≡ b → (k < s → list_any (λ (a : Act). a.stage == s) (lined n (suc k)) ≡ is_some (slot st s)) → list_any (λ (a : Act). a.stage == s) (shown (stage_moves p st bits k) k (here p st bits k) ++ lined n (suc k)) ≡ is_some (slot st s)
+      at : (b : Bool) → (k == s) ≡ b
+          → (k < s → list_any (λ (a : Act). a.stage == s) (lined n (suc k)) ≡ is_some (slot st s))
+          → list_any (λ (a : Act). a.stage == s) (shown (stage_moves p st bits k) k (here p st bits k) ++ lined n (suc k)) ≡ is_some (slot st s)
       at true e f =
           is_here s (stage_moves p st bits k) k (here p st bits k) (lined n (suc k)) e (none_there n (suc k) s (let j = eqb-true k s e in omega arith))
           ∙ some_here p st bits k
@@ -95,7 +102,8 @@ module _ (p : Pipe) (st : State) (bits : List Bool) where
 
   -- WHO MOVES
 
-  mover_other : (s : ℕ) (b : Bool) (k : ℕ) (o : Option Thread) (rest : List Act) → (k == s) ≡ false → list_any (λ (a : Act). a.stage == s) (mover p st k b o ++ rest) ≡ list_any (λ (a : Act). a.stage == s) rest
+  mover_other : (s : ℕ) (b : Bool) (k : ℕ) (o : Option Thread) (rest : List Act) → (k == s) ≡ false
+      → list_any (λ (a : Act). a.stage == s) (mover p st k b o ++ rest) ≡ list_any (λ (a : Act). a.stage == s) rest
   mover_other s false k o rest e = refl
   mover_other s true k None rest e = refl
   mover_other s true k (Some t) rest e = or_none (k == s) (list_any (λ (a : Act). a.stage == s) rest) e
@@ -103,9 +111,12 @@ module _ (p : Pipe) (st : State) (bits : List Bool) where
   none_moves : (n k s : ℕ) → s < k → list_any (λ (a : Act). a.stage == s) (movers_from p st bits n k) ≡ false
   none_moves zero k s h = refl
   none_moves (suc n) k s h =
-      mover_other s (stage_moves p st bits k) k (here p st bits k) (movers_from p st bits n (suc k)) (ne_eqb k s (λ e. absurd (omega arith))) ∙ none_moves n (suc k) s (omega arith)
+      mover_other s (stage_moves p st bits k) k (here p st bits k) (movers_from p st bits n (suc k)) (ne_eqb k s (λ e. absurd (omega arith)))
+      ∙ none_moves n (suc k) s (omega arith)
 
-  mover_here : (s : ℕ) (b : Bool) (k : ℕ) (o : Option Thread) (rest : List Act) → (k == s) ≡ true → list_any (λ (a : Act). a.stage == s) rest ≡ false → list_any (λ (a : Act). a.stage == s) (mover p st k b o ++ rest) ≡ (b && is_some o)
+  mover_here : (s : ℕ) (b : Bool) (k : ℕ) (o : Option Thread) (rest : List Act) → (k == s) ≡ true
+      → list_any (λ (a : Act). a.stage == s) rest ≡ false
+      → list_any (λ (a : Act). a.stage == s) (mover p st k b o ++ rest) ≡ (b && is_some o)
   mover_here s false k o rest e h = h
   mover_here s true k None rest e h = h
   mover_here s true k (Some t) rest e h = ap (λ x. x || list_any (λ (a : Act). a.stage == s) rest) e
@@ -114,30 +125,43 @@ module _ (p : Pipe) (st : State) (bits : List Bool) where
   moves_at zero k s h i = absurd (omega (arith, h, i))
   moves_at (suc n) k s h i = at (k == s) refl (λ j. moves_at n (suc k) s j (omega (arith, i)))
     where
-      at : (b : Bool) → (k == s) ≡ b → (k < s → list_any (λ (a : Act). a.stage == s) (movers_from p st bits n (suc k)) ≡ stage_moves p st bits s) → list_any (λ (a : Act). a.stage == s) (mover p st k (stage_moves p st bits k) (here p st bits k) ++ movers_from p st bits n (suc k)) ≡ stage_moves p st bits s
+      at : (b : Bool) → (k == s) ≡ b
+          → (k < s → list_any (λ (a : Act). a.stage == s) (movers_from p st bits n (suc k)) ≡ stage_moves p st bits s)
+          → list_any (λ (a : Act). a.stage == s) (mover p st k (stage_moves p st bits k) (here p st bits k) ++ movers_from p st bits n (suc k))
+          ≡ stage_moves p st bits s
       at true e f =
-          mover_here s (stage_moves p st bits k) k (here p st bits k) (movers_from p st bits n (suc k)) e (none_moves n (suc k) s (let j = eqb-true k s e in omega arith))
+          mover_here s (stage_moves p st bits k) k (here p st bits k)
+          (movers_from p st bits n (suc k)) e (none_moves n (suc k) s (let j = eqb-true k s e in omega arith))
           ∙ someone p st bits k ∙ ap (stage_moves p st bits) (eqb-true k s e)
-      at false e f = mover_other s (stage_moves p st bits k) k (here p st bits k) (movers_from p st bits n (suc k)) e ∙ f (let j = eqb-false k s e in omega arith)
+      at false e f =
+          mover_other s (stage_moves p st bits k) k (here p st bits k) (movers_from p st bits n (suc k)) e ∙ f (let j = eqb-false k s e in omega arith)
 
   module _ (leads : LeadsOn p) where
     -- who moves out of the last stage ends
     abbrev leaves : Act → Bool
     leaves a = is_none (next_stage p a.stage a.does)
 
-    leaves_on : (k : ℕ) (b : Bool) (o : Option Thread) (rest : List Act) → suc k < length p.stages → list_any leaves (mover p st k b o ++ rest) ≡ list_any leaves rest
+    leaves_on : (k : ℕ) (b : Bool) (o : Option Thread) (rest : List Act) → suc k < length p.stages
+        → list_any leaves (mover p st k b o ++ rest) ≡ list_any leaves rest
     leaves_on k false o rest h = refl
     leaves_on k true None rest h = refl
-    leaves_on k true (Some t) rest h = ap (λ x. x || list_any leaves rest) (leads.ends k (deeds p st k t).env (omega (arith, h)) ∙ ne_eqb (suc k) (length p.stages) (λ e. absurd (omega (arith, e, h))))
+    leaves_on k true (Some t) rest h =
+        ap (λ x. x || list_any leaves rest)
+        (leads.ends k (deeds p st k t).env (omega (arith, h)) ∙ ne_eqb (suc k) (length p.stages) (λ e. absurd (omega (arith, e, h))))
 
     leaves_last : (k : ℕ) (b : Bool) (o : Option Thread) → suc k ≡ length p.stages → list_any leaves (mover p st k b o ++ []) ≡ (b && is_some o)
     leaves_last k false o h = refl
     leaves_last k true None h = refl
-    leaves_last k true (Some t) h = ap (λ x. x || false) (leads.ends k (deeds p st k t).env (omega (arith, h)) ∙ Rattle.std.proofs.Common.eq-eqb (suc k) (length p.stages) h)
+    leaves_last k true (Some t) h =
+        ap (λ x. x || false) (leads.ends k (deeds p st k t).env (omega (arith, h)) ∙ Rattle.std.proofs.Common.eq-eqb (suc k) (length p.stages) h)
 
     pub ended_at : (n k : ℕ) → k + suc n ≡ length p.stages → list_any leaves (movers_from p st bits (suc n) k) ≡ stage_moves p st bits (length p.stages - 1)
-    ended_at zero k e = leaves_last k (stage_moves p st bits k) (here p st bits k) (omega (arith, e)) ∙ someone p st bits k ∙ ap (stage_moves p st bits) (let i : k ≡ length p.stages - 1 = omega (arith, e) in i)
-    ended_at (suc n) k e = leaves_on k (stage_moves p st bits k) (here p st bits k) (movers_from p st bits (suc n) (suc k)) (omega (arith, e)) ∙ ended_at n (suc k) (omega (arith, e))
+    ended_at zero k e =
+        leaves_last k (stage_moves p st bits k) (here p st bits k) (omega (arith, e)) ∙ someone p st bits k
+        ∙ ap (stage_moves p st bits) (let i : k ≡ length p.stages - 1 = omega (arith, e) in i)
+    ended_at (suc n) k e =
+        leaves_on k (stage_moves p st bits k) (here p st bits k) (movers_from p st bits (suc n) (suc k)) (omega (arith, e))
+        ∙ ended_at n (suc k) (omega (arith, e))
 
     -- WHO STANDS IN A STAGE
 
@@ -145,7 +169,8 @@ module _ (p : Pipe) (st : State) (bits : List Bool) where
     abbrev left : Bool → Bool → Option Thread → Option Thread
     left same b o = if same then (if b then None else o) else None
 
-    stands_seen : (q k : ℕ) (b : Bool) (o : Option Thread) (rest : List Act) → next_thread p q (shown b k o ++ rest) ≡ or_then (thread_into p st q k b o) (or_then (left (k == q) b o) (next_thread p q rest))
+    stands_seen : (q k : ℕ) (b : Bool) (o : Option Thread) (rest : List Act)
+        → next_thread p q (shown b k o ++ rest) ≡ or_then (thread_into p st q k b o) (or_then (left (k == q) b o) (next_thread p q rest))
     stands_seen q k b None rest = at b (k == q)
       where
         at : (b same : Bool) → next_thread p q rest ≡ or_then (thread_into p st q k b None) (or_then (left same b None) (next_thread p q rest))
@@ -155,7 +180,9 @@ module _ (p : Pipe) (st : State) (bits : List Bool) where
         at false false = refl
     stands_seen q k true (Some t) rest = at (is_stage q (next_stage p k (deeds p st k t))) (k == q)
       where
-        at : (c same : Bool) → or_then (if c then Some (thread_after (act_at p st k t)) else None) (next_thread p q rest) ≡ or_then (if c then Some (thread_after (act_at p st k t)) else None) (or_then (left same true (Some t)) (next_thread p q rest))
+        at : (c same : Bool)
+            → or_then (if c then Some (thread_after (act_at p st k t)) else None) (next_thread p q rest)
+            ≡ or_then (if c then Some (thread_after (act_at p st k t)) else None) (or_then (left same true (Some t)) (next_thread p q rest))
         at c true = refl
         at c false = refl
     stands_seen q k false (Some t) rest = refl
@@ -164,7 +191,9 @@ module _ (p : Pipe) (st : State) (bits : List Bool) where
     no_way : (q k : ℕ) (b : Bool) (o : Option Thread) → k < length p.stages → q ≤ k → thread_into p st q k b o ≡ None
     no_way q k false o l h = refl
     no_way q k true None l h = refl
-    no_way q k true (Some t) l h = ap (λ c. if c then Some (thread_after (act_at p st k t)) else None) (at (next_stage p k (deeds p st k t)) (λ r e. (leads.up k r (deeds p st k t).env l e).0))
+    no_way q k true (Some t) l h =
+        ap (λ c. if c then Some (thread_after (act_at p st k t)) else None)
+        (at (next_stage p k (deeds p st k t)) (λ r e. (leads.up k r (deeds p st k t).env l e).0))
       where
         at : (n : Option ℕ) → ((r : ℕ) → n ≡ Some r → k < r) → is_stage q n ≡ false
         at None f = refl
@@ -173,24 +202,29 @@ module _ (p : Pipe) (st : State) (bits : List Bool) where
     no_reach : (q k : ℕ) (b : Bool) (o : Option Thread) → leads_to (stage_at p k).next q ≡ false → thread_into p st q k b o ≡ None
     no_reach q k false o h = refl
     no_reach q k true None h = refl
-    no_reach q k true (Some t) h = ap (λ c. if c then Some (thread_after (act_at p st k t)) else None) (not_reached (stage_at p k).next q (deeds p st k t).env h)
+    no_reach q k true (Some t) h =
+        ap (λ c. if c then Some (thread_after (act_at p st k t)) else None) (not_reached (stage_at p k).next q (deeds p st k t).env h)
 
     -- after a stage nobody comes into it
     stands_after : (q n k : ℕ) → q < k → k + n ≤ length p.stages → next_thread p q (lined n k) ≡ None
     stands_after q zero k h e = refl
     stands_after q (suc n) k h e =
         stands_seen q k (stage_moves p st bits k) (here p st bits k) (lined n (suc k))
-        ∙ ap₂ (λ a c. or_then a (or_then (left c (stage_moves p st bits k) (here p st bits k)) (next_thread p q (lined n (suc k))))) (no_way q k (stage_moves p st bits k) (here p st bits k) (omega (arith, e)) (omega (arith, h))) (ne_eqb k q (λ s. absurd (omega (arith, s, h))))
+        ∙ ap₂ (λ a c. or_then a (or_then (left c (stage_moves p st bits k) (here p st bits k)) (next_thread p q (lined n (suc k)))))
+        (no_way q k (stage_moves p st bits k) (here p st bits k) (omega (arith, e)) (omega (arith, h)))
+        (ne_eqb k q (λ s. absurd (omega (arith, s, h))))
         ∙ stands_after q n (suc k) (omega (arith, h)) (omega (arith, e))
 
     stands_own : (q n : ℕ) → q + suc n ≤ length p.stages → next_thread p q (lined (suc n) q) ≡ Slots.staying_thread p st bits q
     stands_own q n e =
         stands_seen q q (stage_moves p st bits q) (here p st bits q) (lined n (suc q))
-        ∙ ap₂ (λ a c. or_then a (or_then (left c (stage_moves p st bits q) (here p st bits q)) (next_thread p q (lined n (suc q))))) (no_way q q (stage_moves p st bits q) (here p st bits q) (omega (arith, e)) (omega arith)) (eqb_self q)
+        ∙ ap₂ (λ a c. or_then a (or_then (left c (stage_moves p st bits q) (here p st bits q)) (next_thread p q (lined n (suc q)))))
+        (no_way q q (stage_moves p st bits q) (here p st bits q) (omega (arith, e)) (omega arith)) (eqb_self q)
         ∙ ap (or_then (Slots.staying_thread p st bits q)) (stands_after q n (suc q) (omega arith) (omega (arith, e)))
         ∙ then_none (Slots.staying_thread p st bits q)
 
-    stands_ways : (q m n j : ℕ) → j + m ≡ q → q + suc n ≤ length p.stages → next_thread p q (lined (m + suc n) j) ≡ or_then (first_of p st bits q (ways_from p q m j)) (Slots.staying_thread p st bits q)
+    stands_ways : (q m n j : ℕ) → j + m ≡ q → q + suc n ≤ length p.stages
+        → next_thread p q (lined (m + suc n) j) ≡ or_then (first_of p st bits q (ways_from p q m j)) (Slots.staying_thread p st bits q)
     stands_ways q zero n j e l =
         let z : 0 + suc n ≡ suc n = omega arith in
         let i : j ≡ q = omega (arith, e) in
@@ -199,18 +233,26 @@ module _ (p : Pipe) (st : State) (bits : List Bool) where
         let z : suc m + suc n ≡ suc (m + suc n) = omega arith in
         ap (λ a. next_thread p q (lined a j)) z
         ∙ stands_seen q j (stage_moves p st bits j) (here p st bits j) (lined (m + suc n) (suc j))
-        ∙ ap (λ c. or_then (passing_thread p st bits q j) (or_then (left c (stage_moves p st bits j) (here p st bits j)) (next_thread p q (lined (m + suc n) (suc j))))) (ne_eqb j q (λ s. absurd (omega (arith, s, e))))
+        ∙ ap
+        (λ c. or_then (passing_thread p st bits q j)
+        (or_then (left c (stage_moves p st bits j) (here p st bits j)) (next_thread p q (lined (m + suc n) (suc j)))))
+        (ne_eqb j q (λ s. absurd (omega (arith, s, e))))
         ∙ ap (or_then (passing_thread p st bits q j)) (stands_ways q m n (suc j) (omega (arith, e)) l)
         ∙ at (leads_to (stage_at p j).next q) refl
       where
         rest : List ℕ
         rest = ways_from p q m (suc j)
 
-        at : (b : Bool) → leads_to (stage_at p j).next q ≡ b → or_then (passing_thread p st bits q j) (or_then (first_of p st bits q rest) (Slots.staying_thread p st bits q)) ≡ or_then (first_of p st bits q (if b then j ∷ rest else rest)) (Slots.staying_thread p st bits q)
+        at : (b : Bool) → leads_to (stage_at p j).next q ≡ b
+            → or_then (passing_thread p st bits q j) (or_then (first_of p st bits q rest) (Slots.staying_thread p st bits q))
+            ≡ or_then (first_of p st bits q (if b then j ∷ rest else rest)) (Slots.staying_thread p st bits q)
         at true h = sym (then_then (passing_thread p st bits q j) (first_of p st bits q rest) (Slots.staying_thread p st bits q))
-        at false h = ap (λ o. or_then o (or_then (first_of p st bits q rest) (Slots.staying_thread p st bits q))) (no_reach q j (stage_moves p st bits j) (here p st bits j) h)
+        at false h =
+            ap (λ o. or_then o (or_then (first_of p st bits q rest) (Slots.staying_thread p st bits q)))
+            (no_reach q j (stage_moves p st bits j) (here p st bits j) h)
 
-    pub stands_at : (q : ℕ) → q < length p.stages → next_thread p q (lined (length p.stages) 0) ≡ or_then (arriving_thread p st bits q) (Slots.staying_thread p st bits q)
+    pub stands_at : (q : ℕ) → q < length p.stages
+        → next_thread p q (lined (length p.stages) 0) ≡ or_then (arriving_thread p st bits q) (Slots.staying_thread p st bits q)
     stands_at q l =
         let n = length p.stages - suc q in
         let z : length p.stages ≡ q + suc n = omega (arith, l) in

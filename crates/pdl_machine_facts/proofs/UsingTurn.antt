@@ -7,7 +7,8 @@ use Rattle.pdl_semantics.specs.Machine.{Written, Deeds, deeds_after}
 -- statements that are carried out just where a path takes them
 abbrev pub IsAlong : List ℕ → (ℕ → ℕ → ℕ) → List Stmt → Deeds → Type 0
 IsAlong path read [] d = Unit {0}
-IsAlong path read (x ∷ xs) d = (all_hold x.guards d.env ≡ all_hold x.guards path) × IsAlong path read xs (if all_hold x.guards d.env then deeds_after read x.op d else d)
+IsAlong path read (x ∷ xs) d =
+    (all_hold x.guards d.env ≡ all_hold x.guards path) × IsAlong path read xs (if all_hold x.guards d.env then deeds_after read x.op d else d)
 
 -- whether one of a thread's writes is to this memory
 abbrev pub writes_to : ℕ → List Written → Bool

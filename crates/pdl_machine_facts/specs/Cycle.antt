@@ -20,7 +20,9 @@ pub record IsByStages (p : Pipe) (st : State) (bits : List Bool) : Type 0 where
   pub movers : model.movers (all_acts p st bits) ≡ moving p st bits
   -- a thread moves where it awaits nothing and the locks let it, where the rest lets it, and where its next stage is free
   pub goes_where : (k : ℕ) (t : Thread) → k < length p.stages → here p st bits k ≡ Some t
-      → stage_moves p st bits k ≡ ((is_empty t.awaits && locks_ready p st t.number (deeds p st k t)) && (may_pass p st bits (later_acts p st bits k) k (deeds p st k t) && may_enter p st bits (next_stage p k (deeds p st k t))))
+      → stage_moves p st bits k
+      ≡ ((is_empty t.awaits && locks_ready p st t.number (deeds p st k t))
+      && (may_pass p st bits (later_acts p st bits k) k (deeds p st k t) && may_enter p st bits (next_stage p k (deeds p st k t))))
   -- the ports
   pub valid : (ports_of p st bits).valid ≡ for_stages (λ k. is_some (slot st k)) 0 p.stages
   pub moves : (ports_of p st bits).moves ≡ for_stages (λ k. stage_moves p st bits k) 0 p.stages
@@ -30,6 +32,7 @@ pub record IsByStages (p : Pipe) (st : State) (bits : List Bool) : Type 0 where
   -- the next state: into a stage comes a new thread or one out of an earlier stage, and who doesn't move stays, as long as no squash removes it
   pub count : length (cycle p st bits).stages ≡ length p.stages
   pub next : (k : ℕ) → k < length p.stages
-      → slot (cycle p st bits) k ≡ or_then (newborn p st bits k) (if_kept (squasher (moving p st bits)) (or_then (arriving_thread p st bits k) (staying_thread p st bits k)))
+      → slot (cycle p st bits) k
+      ≡ or_then (newborn p st bits k) (if_kept (squasher (moving p st bits)) (or_then (arriving_thread p st bits k) (staying_thread p st bits k)))
   pub locks : (m : ℕ) → m < length p.mems → lock_of (cycle p st bits) m ≡ entries_left (squasher (moving p st bits)) (list_three st (moving p st bits) m)
   pub arrays : (m : ℕ) → m < length p.mems → (cycle p st bits).arrays m ≡ with_commit st.arrays m (taken_out st (moving p st bits) m) m

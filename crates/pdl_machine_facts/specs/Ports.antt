@@ -49,4 +49,5 @@ all_request_values _ _ = []
 
 -- the values of all ports, in the order of a netlist's outputs
 abbrev pub whole_values : Pipe → Ports → List ℕ
-whole_values p o = stage_values o.valid o.moves ++ (all_commit_values p.mems o.commits ++ (all_request_values p.mems o.requests ++ bit o.ended ∷ bit o.squash ∷ []))
+whole_values p o =
+    stage_values o.valid o.moves ++ (all_commit_values p.mems o.commits ++ (all_request_values p.mems o.requests ++ bit o.ended ∷ bit o.squash ∷ []))

@@ -83,15 +83,20 @@ pub record IsInUse (p : Pipe) (st : State) (bits : List Bool) : Type 0 where
   -- a thread that has come to no reserve of the memory finds all pending writes older
   pub unreserved : (k : ℕ) (t : Thread) (m : ℕ) → slot st k ≡ Some t → k ≤ reserve_stage p m → count_older t.number (lock_of st m) ≡ length (lock_of st m)
   -- a thread that writes has a pending write, and what this cycle appends is no older
-  pub writer : (k : ℕ) (t : Thread) (m v : ℕ) → here p st bits k ≡ Some t → stage_moves p st bits k ≡ true → Contains (deeds p st k t).writes (record { mem = m; value = v })
+  pub writer : (k : ℕ) (t : Thread) (m v : ℕ) → here p st bits k ≡ Some t → stage_moves p st bits k ≡ true
+      → Contains (deeds p st k t).writes (record { mem = m; value = v })
       → (k ≤ commit_stage p m) × (has_thread t.number (with_reserves m (moving p st bits) (lock_of st m)) ≡ true)
-  pub after : (k : ℕ) (t : Thread) (m : ℕ) → slot st k ≡ Some t → reserve_stage p m ≤ k → count_older t.number (with_reserves m (moving p st bits) (lock_of st m)) ≡ count_older t.number (lock_of st m)
+  pub after : (k : ℕ) (t : Thread) (m : ℕ) → slot st k ≡ Some t → reserve_stage p m ≤ k
+      → count_older t.number (with_reserves m (moving p st bits) (lock_of st m)) ≡ count_older t.number (lock_of st m)
   -- what is released is pending, and has its value
-  pub releaser : (m : ℕ) → has_release m (moving p st bits) ≡ true → (e : Pending) × (es : List Pending) × (v : ℕ) × (list_two st (moving p st bits) m ≡ e ∷ es) × (e.value ≡ Some v)
+  pub releaser : (m : ℕ) → has_release m (moving p st bits) ≡ true
+      → (e : Pending) × (es : List Pending) × (v : ℕ) × (list_two st (moving p st bits) m ≡ e ∷ es) × (e.value ≡ Some v)
   -- until a thread moves out of the stage of the releases, its place among the pending writes shifts at each release
-  pub shifts : (k : ℕ) (t : Thread) (m : ℕ) → slot st k ≡ Some t → reserve_stage p m ≤ k → k ≤ commit_stage p m → (k ≡ commit_stage p m → stage_moves p st bits k ≡ false)
+  pub shifts : (k : ℕ) (t : Thread) (m : ℕ) → slot st k ≡ Some t → reserve_stage p m ≤ k → k ≤ commit_stage p m
+      → (k ≡ commit_stage p m → stage_moves p st bits k ≡ false)
       → count_older t.number (list_three st (moving p st bits) m) + bit (has_release m (moving p st bits)) ≡ count_older t.number (lock_of st m)
   -- what a thread holds as it leaves for a stage is told by the values with which it leaves
-  pub held : (k q : ℕ) (t : Thread) → here p st bits k ≡ Some t → is_stage q (next_stage p k (deeds p st k t)) ≡ true → (deeds p st k t).held ≡ held_before q (deeds p st k t).env p.stmts []
+  pub held : (k q : ℕ) (t : Thread) → here p st bits k ≡ Some t → is_stage q (next_stage p k (deeds p st k t)) ≡ true
+      → (deeds p st k t).held ≡ held_before q (deeds p st k t).env p.stmts []
   -- a block that a thread has passed stays ready, so each of its reads is ready
   pub fine : (k : ℕ) (t : Thread) → here p st bits k ≡ Some t → AreFine p st t.number (in_stage k p.stmts) (before_stage p k t)

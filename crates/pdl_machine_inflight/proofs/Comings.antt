@@ -13,7 +13,8 @@ use Rattle.pdl_machine_facts.specs.Cycle.{newborn, IsByStages}
 -- a thread of the next state is new, or moved there out of an earlier stage, or stayed
 pub data CameFrom (p : Pipe) (st : State) (bits : List Bool) (q : ℕ) (u : Thread) : Type 0 where
   born : u.number ≡ st.next → CameFrom p st bits q u
-  moved : (j : ℕ) (t : Thread) → here p st bits j ≡ Some t → stage_moves p st bits j ≡ true → next_stage p j (deeds p st j t) ≡ Some q → u ≡ thread_after (act_at p st j t) → CameFrom p st bits q u
+  moved : (j : ℕ) (t : Thread) → here p st bits j ≡ Some t → stage_moves p st bits j ≡ true
+      → next_stage p j (deeds p st j t) ≡ Some q → u ≡ thread_after (act_at p st j t) → CameFrom p st bits q u
   stayed : here p st bits q ≡ Some u → stage_moves p st bits q ≡ false → CameFrom p st bits q u
 
 module _ (p : Pipe) (st : State) (bits : List Bool) (by : IsByStages p st bits) where
@@ -25,12 +26,16 @@ module _ (p : Pipe) (st : State) (bits : List Bool) (by : IsByStages p st bits) 
   from_ways q u [] e = absurd (cc e)
   from_ways q u (j ∷ js) e = at (stage_moves p st bits j) (here p st bits j) refl refl e (from_ways q u js)
     where
-      at : (b : Bool) (o : Option Thread) → stage_moves p st bits j ≡ b → here p st bits j ≡ o → or_then (thread_into p st q j b o) (first_of p st bits q js) ≡ Some u → (first_of p st bits q js ≡ Some u → CameFrom p st bits q u) → CameFrom p st bits q u
+      at : (b : Bool) (o : Option Thread) → stage_moves p st bits j ≡ b → here p st bits j ≡ o
+          → or_then (thread_into p st q j b o) (first_of p st bits q js) ≡ Some u
+          → (first_of p st bits q js ≡ Some u → CameFrom p st bits q u) → CameFrom p st bits q u
       at false o f g h rest = rest h
       at true None f g h rest = rest h
       at true (Some t) f g h rest = to (is_stage q (next_stage p j (deeds p st j t))) refl h
         where
-          to : (b : Bool) → is_stage q (next_stage p j (deeds p st j t)) ≡ b → or_then (if b then Some (thread_after (act_at p st j t)) else None) (first_of p st bits q js) ≡ Some u → CameFrom p st bits q u
+          to : (b : Bool) → is_stage q (next_stage p j (deeds p st j t)) ≡ b
+              → or_then (if b then Some (thread_after (act_at p st j t)) else None) (first_of p st bits q js) ≡ Some u
+              → CameFrom p st bits q u
           to true i k = moved j t g f (to_stage (next_stage p j (deeds p st j t)) q i) (sym (some_is k))
             where
               some_is : {a b : Thread} → Some a ≡ Some b → a ≡ b
@@ -70,7 +75,10 @@ module _ (p : Pipe) (st : State) (bits : List Bool) (by : IsByStages p st bits) 
       none_some h = cc h
 
   pub came_from : (q : ℕ) (u : Thread) → slot (cycle p st bits) q ≡ Some u → CameFrom p st bits q u
-  came_from q u e = at (either (newborn p st bits q) (if_kept (squasher (moving p st bits)) (or_then (arriving_thread p st bits q) (staying_thread p st bits q))) u (sym (by.next q (stage_low q u e)) ∙ e))
+  came_from q u e =
+      at
+      (either (newborn p st bits q)
+      (if_kept (squasher (moving p st bits)) (or_then (arriving_thread p st bits q) (staying_thread p st bits q))) u (sym (by.next q (stage_low q u e)) ∙ e))
     where
       still : (b : Bool) → stage_moves p st bits q ≡ b → (if b then None else here p st bits q) ≡ Some u → CameFrom p st bits q u
       still true f g = absurd (cc g)
@@ -80,9 +88,14 @@ module _ (p : Pipe) (st : State) (bits : List Bool) (by : IsByStages p st bits) 
       late (inl f) = from_ways q u (ways p q) f
       late (inr f) = still (stage_moves p st bits q) refl f
 
-      at : (newborn p st bits q ≡ Some u) ⊎ (if_kept (squasher (moving p st bits)) (or_then (arriving_thread p st bits q) (staying_thread p st bits q)) ≡ Some u) → CameFrom p st bits q u
+      at : (newborn p st bits q ≡ Some u)
+          ⊎ (if_kept (squasher (moving p st bits)) (or_then (arriving_thread p st bits q) (staying_thread p st bits q)) ≡ Some u)
+          → CameFrom p st bits q u
       at (inl f) = born (new_number q u f)
-      at (inr f) = late (either (arriving_thread p st bits q) (staying_thread p st bits q) u (kept_is (squasher (moving p st bits)) (or_then (arriving_thread p st bits q) (staying_thread p st bits q)) u f))
+      at (inr f) =
+          late
+          (either (arriving_thread p st bits q)
+          (staying_thread p st bits q) u (kept_is (squasher (moving p st bits)) (or_then (arriving_thread p st bits q) (staying_thread p st bits q)) u f))
 
   -- WHO STAYS
 
@@ -100,7 +113,8 @@ module _ (p : Pipe) (st : State) (bits : List Bool) (by : IsByStages p st bits) 
     low_of : (j : ℕ) (u : Thread) → here p st bits j ≡ Some u → j < length p.stages
     low_of j u e = ⊎_elim
         (λ (l : j < length p.stages). l)
-        (λ (l : length p.stages ≤ j). absurd (none_some (sym (ap (Rattle.pdl_machine_facts.specs.Slots.with_now p st bits) (get_or_past st.stages j None (omega (arith, l, count)))) ∙ e)))
+        (λ (l : length p.stages ≤ j). absurd
+        (none_some (sym (ap (Rattle.pdl_machine_facts.specs.Slots.with_now p st bits) (get_or_past st.stages j None (omega (arith, l, count)))) ∙ e)))
         (cases_lt j (length p.stages))
       where
         none_some : None ≡ Some u → ⊥
@@ -133,6 +147,9 @@ module _ (p : Pipe) (st : State) (bits : List Bool) (by : IsByStages p st bits) 
     pub stays : 0 < q → is_kept (squasher (moving p st bits)) t.number ≡ true → slot (cycle p st bits) q ≡ Some t
     stays above kept =
         by.next q (low_of q t h)
-        ∙ ap₂ (λ b o. or_then (if b then born_thread p st.next (child_of (moving p st bits)) else None) (if_kept (squasher (moving p st bits)) (or_then o (staying_thread p st bits q)))) (ne_eqb q 0 (λ z. omega (arith, z, above))) (none_among (ways p q))
+        ∙ ap₂
+        (λ b o. or_then (if b then born_thread p st.next (child_of (moving p st bits)) else None)
+        (if_kept (squasher (moving p st bits)) (or_then o (staying_thread p st bits q))))
+        (ne_eqb q 0 (λ z. omega (arith, z, above))) (none_among (ways p q))
         ∙ ap₂ (λ b o. if_kept (squasher (moving p st bits)) (if b then None else o)) still h
         ∙ ap (λ b. if b then Some t else None) kept

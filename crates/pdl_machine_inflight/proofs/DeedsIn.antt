@@ -17,7 +17,8 @@ stage_each : (P : Stmt → Type 0) (k : ℕ) (xs : List Stmt) → Each P xs → 
 stage_each P k [] h = tt
 stage_each P k (x ∷ xs) h = at (x.stage == k) refl (stage_each P k xs h.1)
   where
-    at : (b : Bool) → (x.stage == k) ≡ b → Each (λ (x : Stmt). P x × (x.stage ≡ k)) (in_stage k xs) → Each (λ (x : Stmt). P x × (x.stage ≡ k)) (if b then x ∷ in_stage k xs else in_stage k xs)
+    at : (b : Bool) → (x.stage == k) ≡ b → Each (λ (x : Stmt). P x × (x.stage ≡ k)) (in_stage k xs)
+        → Each (λ (x : Stmt). P x × (x.stage ≡ k)) (if b then x ∷ in_stage k xs else in_stage k xs)
     at true e r = ((h.0, eqb-true x.stage k e), r)
     at false e r = r
 
@@ -25,7 +26,8 @@ asks_op : (p : Pipe) (k s : ℕ) (read : ℕ → ℕ → ℕ) (x : Stmt) → IsT
     → x.stage ≡ k → (d : Deeds) → Each (AsksIn p k) d.asks → Each (AsksIn p k) (deeds_after read x.op d).asks
 asks_op p k s read x h e d r = by x.op h
   where
-    verified : (args : List Rattle.pdl_semantics.specs.Flat.Expr) (b : Bool) → Each (AsksIn p k) (cond b d (record d { child = Some (values_of args d.env); fails = true })).asks
+    verified : (args : List Rattle.pdl_semantics.specs.Flat.Expr) (b : Bool)
+        → Each (AsksIn p k) (cond b d (record d { child = Some (values_of args d.env); fails = true })).asks
     verified args true = r
     verified args false = r
 
@@ -97,7 +99,8 @@ unverified v k (x ∷ xs) h n = at (x.stage == k) refl (unverified v k xs parts.
     none false e s = e
     none true e s = absurd (n (sym s ∙ eqb-true x.stage v (ap (λ b. not b || (x.stage == v)) (sym e) ∙ parts.0)))
 
-    at : (b : Bool) → (x.stage == k) ≡ b → Each (λ (x : Stmt). is_verify x.op ≡ false) (in_stage k xs) → Each (λ (x : Stmt). is_verify x.op ≡ false) (if b then x ∷ in_stage k xs else in_stage k xs)
+    at : (b : Bool) → (x.stage == k) ≡ b → Each (λ (x : Stmt). is_verify x.op ≡ false) (in_stage k xs)
+        → Each (λ (x : Stmt). is_verify x.op ≡ false) (if b then x ∷ in_stage k xs else in_stage k xs)
     at true e r = (none (is_verify x.op) refl (eqb-true x.stage k e), r)
     at false e r = r
 
@@ -112,7 +115,9 @@ verifies_none : (xs : List Stmt) → verify_stage xs ≡ None → Each (λ (x : 
 verifies_none [] h = tt
 verifies_none (x ∷ xs) h = at (is_verify x.op) refl h (verifies_none xs)
   where
-    at : (b : Bool) → is_verify x.op ≡ b → (if b then Some x.stage else verify_stage xs) ≡ None → (verify_stage xs ≡ None → Each (λ (y : Stmt). is_verify y.op ≡ false) xs) → Each (λ (y : Stmt). is_verify y.op ≡ false) (x ∷ xs)
+    at : (b : Bool) → is_verify x.op ≡ b → (if b then Some x.stage else verify_stage xs) ≡ None
+        → (verify_stage xs ≡ None → Each (λ (y : Stmt). is_verify y.op ≡ false) xs)
+        → Each (λ (y : Stmt). is_verify y.op ≡ false) (x ∷ xs)
     at true e g rest = absurd (cc g)
     at false e g rest = (e, rest g)
 
@@ -126,4 +131,5 @@ stage_each_of P k (x ∷ xs) h = at (x.stage == k) (stage_each_of P k xs h.1)
 
 -- where a pipe has no verify none fails in any stage
 pub fails_never : (p : Pipe) → verify_stage p.stmts ≡ None → (st : State) (k : ℕ) (t : Thread) → (deeds p st k t).fails ≡ false
-fails_never p h st k t = fails_all (word_for st t.number) (in_stage k p.stmts) (stage_each_of (λ (x : Stmt). is_verify x.op ≡ false) k p.stmts (verifies_none p.stmts h)) _
+fails_never p h st k t =
+    fails_all (word_for st t.number) (in_stage k p.stmts) (stage_each_of (λ (x : Stmt). is_verify x.op ≡ false) k p.stmts (verifies_none p.stmts h)) _

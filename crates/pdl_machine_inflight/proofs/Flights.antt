@@ -68,17 +68,26 @@ module _ (p : Pipe) (reads : Reads p) (st : State) (d : Derived.State) (ls : Lis
   lasting_of l (k ∷ ks) h (inr i) = lasting_of l ks h.1 i
 
   -- the variable of an awaited read is that of its memory's delayed read
-  var_of : (l : Live) (older : List Live) → (x : Lasting p st l older) → (r : Awaited) → AnyAsk (λ q. (q.var ≡ r.var) × (q.mem ≡ r.mem) × (request_of st r.mem ≡ Owned l.number q.address)) x.local.asks → (k : ℕ) × (reading p r.mem ≡ Some (record { stage = k; var = r.var }))
+  var_of : (l : Live) (older : List Live) → (x : Lasting p st l older) → (r : Awaited)
+      → AnyAsk (λ q. (q.var ≡ r.var) × (q.mem ≡ r.mem) × (request_of st r.mem ≡ Owned l.number q.address)) x.local.asks
+      → (k : ℕ) × (reading p r.mem ≡ Some (record { stage = k; var = r.var }))
   var_of l older x r h =
-      let a = any_of (AskedBy l.env (past_of p l.env l.thread.stage)) (λ q. (q.var ≡ r.var) × (q.mem ≡ r.mem) × (request_of st r.mem ≡ Owned l.number q.address)) x.local.asks x.local.asked h in
+      let a =
+      any_of (AskedBy l.env (past_of p l.env l.thread.stage))
+      (λ q. (q.var ≡ r.var) × (q.mem ≡ r.mem) × (request_of st r.mem ≡ Owned l.number q.address)) x.local.asks x.local.asked h in
       let q : Ask = a.0 in
       let e : q.var ≡ r.var = a.2.0 in
       let f : q.mem ≡ r.mem = a.2.1 in
-      read_among p q.var q.mem (λ b. Rattle.std.specs.Prelude.slice_index l.env b ≡ q.address) ((k : ℕ) × (reading p r.mem ≡ Some (record { stage = k; var = r.var })))
+      read_among p q.var q.mem (λ b. Rattle.std.specs.Prelude.slice_index l.env b ≡ q.address)
+      ((k : ℕ) × (reading p r.mem ≡ Some (record { stage = k; var = r.var })))
       (λ k g. (k, subst (λ m. reading p m ≡ Some (record { stage = k; var = r.var })) f (g ∙ ap (λ v. Some (record { stage = k; var = v })) e)))
-      (on_way p l.env l.thread.stage) [] (path_each p l.env (stages_before l.thread.stage p.stmts) (before_each (IsTheReading p) l.thread.stage p.stmts reads.one)) (λ i. absurd i) a.1
+      (on_way p l.env l.thread.stage) []
+      (path_each p l.env (stages_before l.thread.stage p.stmts) (before_each (IsTheReading p) l.thread.stage p.stmts reads.one))
+      (λ i. absurd i) a.1
 
-  awaited_each : (l : Live) (older : List Live) → (x : Lasting p st l older) → (rs : List Awaited) → AllFetched p l.thread.stage rs → AllOwned st l.number rs → Owns st l.number x.local.asks rs → Each (IsAwaited p st l.thread.stage l.number) rs
+  awaited_each : (l : Live) (older : List Live) → (x : Lasting p st l older) → (rs : List Awaited)
+      → AllFetched p l.thread.stage rs → AllOwned st l.number rs → Owns st l.number x.local.asks rs
+      → Each (IsAwaited p st l.thread.stage l.number) rs
   awaited_each l older x [] f o w = tt
   awaited_each l older x (r ∷ rs) f o w =
       let found = read_in p f.0.0 r.mem p.stmts reads.one f.0.2 in
@@ -113,7 +122,9 @@ module _ (p : Pipe) (reads : Reads p) (st : State) (d : Derived.State) (ls : Lis
   awaits_some m [] h = absurd (cc h)
   awaits_some m (r ∷ rs) h = at (r.mem == m) refl h (awaits_some m rs)
     where
-      at : (b : Bool) → (r.mem == m) ≡ b → (b || awaits_mem rs m) ≡ true → (awaits_mem rs m ≡ true → Some-of (λ (x : Awaited). x.mem ≡ m) rs) → Some-of (λ (x : Awaited). x.mem ≡ m) (r ∷ rs)
+      at : (b : Bool) → (r.mem == m) ≡ b → (b || awaits_mem rs m) ≡ true
+          → (awaits_mem rs m ≡ true → Some-of (λ (x : Awaited). x.mem ≡ m) rs)
+          → Some-of (λ (x : Awaited). x.mem ≡ m) (r ∷ rs)
       at true e f rest = inl (eqb-true r.mem m e)
       at false e f rest = inr (rest f)
 
@@ -121,7 +132,9 @@ module _ (p : Pipe) (reads : Reads p) (st : State) (d : Derived.State) (ls : Lis
   owner_among n m [] h = absurd (cc h)
   owner_among n m (k ∷ ks) h = at ((k.number == n) && awaits_mem k.thread.awaits m) refl h (owner_among n m ks)
     where
-      at : (b : Bool) → ((k.number == n) && awaits_mem k.thread.awaits m) ≡ b → (b || Choices.has_owner n m ks) ≡ true → (Choices.has_owner n m ks ≡ true → (l : Live) × Among l ks × (l.number ≡ n) × (awaits_mem l.thread.awaits m ≡ true)) → (l : Live) × Among l (k ∷ ks) × (l.number ≡ n) × (awaits_mem l.thread.awaits m ≡ true)
+      at : (b : Bool) → ((k.number == n) && awaits_mem k.thread.awaits m) ≡ b → (b || Choices.has_owner n m ks) ≡ true
+          → (Choices.has_owner n m ks ≡ true → (l : Live) × Among l ks × (l.number ≡ n) × (awaits_mem l.thread.awaits m ≡ true))
+          → (l : Live) × Among l (k ∷ ks) × (l.number ≡ n) × (awaits_mem l.thread.awaits m ≡ true)
       at true e f rest = let z = and_parts (k.number == n) (awaits_mem k.thread.awaits m) e in (k, inl refl, eqb-true k.number n z.0, z.1)
       at false e f rest = let r = rest f in (r.0, inr r.1, r.2, r.3)
 

@@ -63,14 +63,21 @@ side_long f (Some b) = at (b.fork == f)
 
 stages_counted : (f : ℕ) (xs : List Stage)
     → total (λ k. side_count f (slice_index_or xs k last_stage).branch) (length xs) ≡ count_by (λ (x : Stage). is_branch_of x.branch f) xs
-stages_counted f xs = is_count_by (λ ys. total (λ k. side_count f (slice_index_or ys k last_stage).branch) (length ys)) (λ (x : Stage). is_branch_of x.branch f) refl one xs
+stages_counted f xs =
+    is_count_by (λ ys. total (λ k. side_count f (slice_index_or ys k last_stage).branch) (length ys)) (λ (x : Stage). is_branch_of x.branch f) refl one xs
   where
     at : (b : Bool) (n : ℕ) → (if b then 1 else 0) + n ≡ cond b (1 + n) n
     at true n = refl
     at false n = omega arith
 
-    one : (x : Stage) (ys : List Stage) → total (λ k. side_count f (slice_index_or (x ∷ ys) k last_stage).branch) (suc (length ys)) ≡ cond (is_branch_of x.branch f) (1 + total (λ k. side_count f (slice_index_or ys k last_stage).branch) (length ys)) (total (λ k. side_count f (slice_index_or ys k last_stage).branch) (length ys))
-    one x ys = total_shift (λ k. side_count f (slice_index_or (x ∷ ys) k last_stage).branch) (length ys) ∙ at (is_branch_of x.branch f) (total (λ k. side_count f (slice_index_or ys k last_stage).branch) (length ys))
+    one : (x : Stage) (ys : List Stage)
+        → total (λ k. side_count f (slice_index_or (x ∷ ys) k last_stage).branch) (suc (length ys))
+        ≡ cond (is_branch_of x.branch f)
+        (1 + total (λ k. side_count f (slice_index_or ys k last_stage).branch) (length ys))
+        (total (λ k. side_count f (slice_index_or ys k last_stage).branch) (length ys))
+    one x ys =
+        total_shift (λ k. side_count f (slice_index_or (x ∷ ys) k last_stage).branch) (length ys)
+        ∙ at (is_branch_of x.branch f) (total (λ k. side_count f (slice_index_or ys k last_stage).branch) (length ys))
 
 module _ (p : Pipe) (f : ℕ) where
   abbrev inside_at : ℕ → ℕ
@@ -82,7 +89,8 @@ module _ (p : Pipe) (f : ℕ) where
   not_found : (l : Live) (ks : List Live) → Each (λ k. Behind p l.thread.stage k.thread.stage) ks → find l.thread.stage ks ≡ None
   not_found l [] h = refl
   not_found l (k ∷ ks) h =
-      ap (λ b. cond b (Some (seat k)) (find l.thread.stage ks)) (ne_eqb k.thread.stage l.thread.stage (λ e. (let low = h.0.branch (ap (λ s. (stage_at p s).branch) (sym e)) in omega (arith, low, e))))
+      ap (λ b. cond b (Some (seat k)) (find l.thread.stage ks))
+      (ne_eqb k.thread.stage l.thread.stage (λ e. (let low = h.0.branch (ap (λ s. (stage_at p s).branch) (sym e)) in omega (arith, low, e))))
       ∙ not_found l ks h.1
 
   sides_counted : (ls : List Live) (n : ℕ) → Ordered p ls → Each (λ l. l.thread.stage < n) ls → length (sides p f ls) ≡ total (held_at ls) n
@@ -101,7 +109,8 @@ module _ (p : Pipe) (f : ℕ) where
 
       here : held_at (l ∷ ls) l.thread.stage ≡ inside_at l.thread.stage + held_at ls l.thread.stage
       here =
-          ap (λ b. if is_some (if b then Some (seat l) else find l.thread.stage ls) then inside_at l.thread.stage else 0) (eq-eqb l.thread.stage l.thread.stage refl)
+          ap (λ b. if is_some (if b then Some (seat l) else find l.thread.stage ls) then inside_at l.thread.stage else 0)
+          (eq-eqb l.thread.stage l.thread.stage refl)
           ∙ (let z = ap (λ o. if is_some o then inside_at l.thread.stage else 0) (not_found l ls o.0) in omega (arith, z))
 
   sides_few : (ls : List Live) → Ordered p ls → Each (λ l. l.thread.stage < length p.stages) ls → length (sides p f ls) ≤ branch_stages p f

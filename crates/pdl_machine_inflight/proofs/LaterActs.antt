@@ -15,15 +15,19 @@ module _ (p : Pipe) (st : State) (bits : List Bool) where
 
   module _ (test : Act → Bool) where
     -- of n stages, of which the first is k
-    all_line : (n k : ℕ) → ((j : ℕ) (t : Thread) → k ≤ j → j < k + n → here p st bits j ≡ Some t → test (act_in j t) ≡ true) → list_all test (line_acts p st bits n k) ≡ true
+    all_line : (n k : ℕ)
+        → ((j : ℕ) (t : Thread) → k ≤ j → j < k + n → here p st bits j ≡ Some t → test (act_in j t) ≡ true)
+        → list_all test (line_acts p st bits n k) ≡ true
     all_line zero k h = refl
     all_line (suc n) k h = at (here p st bits k) refl (all_line n (suc k) (λ j t low high e. h j t (omega (arith, low)) (omega (arith, high)) e))
       where
-        at : (o : Option Thread) → here p st bits k ≡ o → list_all test (line_acts p st bits n (suc k)) ≡ true → list_all test (seen p st bits (stage_moves p st bits k) k o ++ line_acts p st bits n (suc k)) ≡ true
+        at : (o : Option Thread) → here p st bits k ≡ o → list_all test (line_acts p st bits n (suc k)) ≡ true
+            → list_all test (seen p st bits (stage_moves p st bits k) k o ++ line_acts p st bits n (suc k)) ≡ true
         at None e r = r
         at (Some t) e r = ap₂ (λ a b. a && b) (h k t (omega arith) (omega arith) e) r
 
-    one_line : (n k j : ℕ) (t : Thread) → k ≤ j → j < k + n → here p st bits j ≡ Some t → test (act_in j t) ≡ false → list_all test (line_acts p st bits n k) ≡ false
+    one_line : (n k j : ℕ) (t : Thread) → k ≤ j → j < k + n → here p st bits j ≡ Some t → test (act_in j t) ≡ false
+        → list_all test (line_acts p st bits n k) ≡ false
     one_line zero k j t low high e f = absurd (omega (arith, low, high))
     one_line (suc n) k j t low high e f = at (k == j) refl (here p st bits k) refl (λ l. one_line n (suc k) j t l (omega (arith, high)) e f)
       where
@@ -31,7 +35,9 @@ module _ (p : Pipe) (st : State) (bits : List Bool) where
         no true c g = g
         no false c g = refl
 
-        at : (b : Bool) → (k == j) ≡ b → (o : Option Thread) → here p st bits k ≡ o → (suc k ≤ j → list_all test (line_acts p st bits n (suc k)) ≡ false) → list_all test (seen p st bits (stage_moves p st bits k) k o ++ line_acts p st bits n (suc k)) ≡ false
+        at : (b : Bool) → (k == j) ≡ b → (o : Option Thread) → here p st bits k ≡ o
+            → (suc k ≤ j → list_all test (line_acts p st bits n (suc k)) ≡ false)
+            → list_all test (seen p st bits (stage_moves p st bits k) k o ++ line_acts p st bits n (suc k)) ≡ false
         at true g o i r =
             let same = eqb-true k j g in
             let o_is : o ≡ Some t = sym i ∙ ap (here p st bits) same ∙ e in
@@ -40,15 +46,19 @@ module _ (p : Pipe) (st : State) (bits : List Bool) where
         at false g None i r = r (let d = eqb-false k j g in omega (arith, low, d))
         at false g (Some u) i r = no (test (act_in k u)) _ (r (let d = eqb-false k j g in omega (arith, low, d)))
 
-    none_line : (n k : ℕ) → ((j : ℕ) (t : Thread) → k ≤ j → j < k + n → here p st bits j ≡ Some t → test (act_in j t) ≡ false) → list_any test (line_acts p st bits n k) ≡ false
+    none_line : (n k : ℕ)
+        → ((j : ℕ) (t : Thread) → k ≤ j → j < k + n → here p st bits j ≡ Some t → test (act_in j t) ≡ false)
+        → list_any test (line_acts p st bits n k) ≡ false
     none_line zero k h = refl
     none_line (suc n) k h = at (here p st bits k) refl (none_line n (suc k) (λ j t low high e. h j t (omega (arith, low)) (omega (arith, high)) e))
       where
-        at : (o : Option Thread) → here p st bits k ≡ o → list_any test (line_acts p st bits n (suc k)) ≡ false → list_any test (seen p st bits (stage_moves p st bits k) k o ++ line_acts p st bits n (suc k)) ≡ false
+        at : (o : Option Thread) → here p st bits k ≡ o → list_any test (line_acts p st bits n (suc k)) ≡ false
+            → list_any test (seen p st bits (stage_moves p st bits k) k o ++ line_acts p st bits n (suc k)) ≡ false
         at None e r = r
         at (Some t) e r = ap₂ (λ a b. a || b) (h k t (omega arith) (omega arith) e) r
 
-    some_line : (n k j : ℕ) (t : Thread) → k ≤ j → j < k + n → here p st bits j ≡ Some t → test (act_in j t) ≡ true → list_any test (line_acts p st bits n k) ≡ true
+    some_line : (n k j : ℕ) (t : Thread) → k ≤ j → j < k + n → here p st bits j ≡ Some t → test (act_in j t) ≡ true
+        → list_any test (line_acts p st bits n k) ≡ true
     some_line zero k j t low high e f = absurd (omega (arith, low, high))
     some_line (suc n) k j t low high e f = at (k == j) refl (here p st bits k) refl (λ l. some_line n (suc k) j t l (omega (arith, high)) e f)
       where
@@ -56,7 +66,9 @@ module _ (p : Pipe) (st : State) (bits : List Bool) where
         yes true c g = refl
         yes false c g = g
 
-        at : (b : Bool) → (k == j) ≡ b → (o : Option Thread) → here p st bits k ≡ o → (suc k ≤ j → list_any test (line_acts p st bits n (suc k)) ≡ true) → list_any test (seen p st bits (stage_moves p st bits k) k o ++ line_acts p st bits n (suc k)) ≡ true
+        at : (b : Bool) → (k == j) ≡ b → (o : Option Thread) → here p st bits k ≡ o
+            → (suc k ≤ j → list_any test (line_acts p st bits n (suc k)) ≡ true)
+            → list_any test (seen p st bits (stage_moves p st bits k) k o ++ line_acts p st bits n (suc k)) ≡ true
         at true g o i r =
             let same = eqb-true k j g in
             let o_is : o ≡ Some t = sym i ∙ ap (here p st bits) same ∙ e in
@@ -67,14 +79,26 @@ module _ (p : Pipe) (st : State) (bits : List Bool) where
 
     module _ (count : length st.stages ≡ length p.stages) (k : ℕ) where
       -- of all stages after k
-      pub all_later : ((j : ℕ) (t : Thread) → k < j → j < length p.stages → here p st bits j ≡ Some t → test (act_in j t) ≡ true) → list_all test (later_acts p st bits k) ≡ true
-      all_later h = ap (list_all test) (after_are p st bits k) ∙ all_line (length st.stages - suc k) (suc k) (λ j t low high e. h j t (omega (arith, low)) (omega (arith, low, high, count)) e)
+      pub all_later : ((j : ℕ) (t : Thread) → k < j → j < length p.stages → here p st bits j ≡ Some t → test (act_in j t) ≡ true)
+          → list_all test (later_acts p st bits k) ≡ true
+      all_later h =
+          ap (list_all test) (after_are p st bits k)
+          ∙ all_line (length st.stages - suc k) (suc k) (λ j t low high e. h j t (omega (arith, low)) (omega (arith, low, high, count)) e)
 
-      pub not_all_later : (j : ℕ) (t : Thread) → k < j → j < length p.stages → here p st bits j ≡ Some t → test (act_in j t) ≡ false → list_all test (later_acts p st bits k) ≡ false
-      not_all_later j t low high e f = ap (list_all test) (after_are p st bits k) ∙ one_line (length st.stages - suc k) (suc k) j t (omega (arith, low)) (omega (arith, low, high, count)) e f
+      pub not_all_later : (j : ℕ) (t : Thread) → k < j → j < length p.stages → here p st bits j ≡ Some t
+          → test (act_in j t) ≡ false → list_all test (later_acts p st bits k) ≡ false
+      not_all_later j t low high e f =
+          ap (list_all test) (after_are p st bits k)
+          ∙ one_line (length st.stages - suc k) (suc k) j t (omega (arith, low)) (omega (arith, low, high, count)) e f
 
-      pub none_later : ((j : ℕ) (t : Thread) → k < j → j < length p.stages → here p st bits j ≡ Some t → test (act_in j t) ≡ false) → list_any test (later_acts p st bits k) ≡ false
-      none_later h = ap (list_any test) (after_are p st bits k) ∙ none_line (length st.stages - suc k) (suc k) (λ j t low high e. h j t (omega (arith, low)) (omega (arith, low, high, count)) e)
+      pub none_later : ((j : ℕ) (t : Thread) → k < j → j < length p.stages → here p st bits j ≡ Some t → test (act_in j t) ≡ false)
+          → list_any test (later_acts p st bits k) ≡ false
+      none_later h =
+          ap (list_any test) (after_are p st bits k)
+          ∙ none_line (length st.stages - suc k) (suc k) (λ j t low high e. h j t (omega (arith, low)) (omega (arith, low, high, count)) e)
 
-      pub some_later : (j : ℕ) (t : Thread) → k < j → j < length p.stages → here p st bits j ≡ Some t → test (act_in j t) ≡ true → list_any test (later_acts p st bits k) ≡ true
-      some_later j t low high e f = ap (list_any test) (after_are p st bits k) ∙ some_line (length st.stages - suc k) (suc k) j t (omega (arith, low)) (omega (arith, low, high, count)) e f
+      pub some_later : (j : ℕ) (t : Thread) → k < j → j < length p.stages → here p st bits j ≡ Some t
+          → test (act_in j t) ≡ true → list_any test (later_acts p st bits k) ≡ true
+      some_later j t low high e f =
+          ap (list_any test) (after_are p st bits k)
+          ∙ some_line (length st.stages - suc k) (suc k) j t (omega (arith, low)) (omega (arith, low, high, count)) e f

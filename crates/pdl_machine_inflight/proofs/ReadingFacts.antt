@@ -20,11 +20,14 @@ read_in p k m (y ∷ ys) h e = at (y.stage == k) refl e (read_in p k m ys h.1)
     Goal : Type 0
     Goal = (x : ℕ) × (reading p m ≡ Some (record { stage = k; var = x }))
 
-    op_is : (op : Op) → IsTheReading p (record y { op = op }) → y.stage ≡ k → (not (is_delayed_read m op) && none_of (is_delayed_read m) (in_stage k ys)) ≡ false → (none_of (is_delayed_read m) (in_stage k ys) ≡ false → Goal) → Goal
+    op_is : (op : Op) → IsTheReading p (record y { op = op }) → y.stage ≡ k
+        → (not (is_delayed_read m op) && none_of (is_delayed_read m) (in_stage k ys)) ≡ false
+        → (none_of (is_delayed_read m) (in_stage k ys) ≡ false → Goal) → Goal
     op_is (DelayedRead x n a) g s f rest = by (n == m) refl f
       where
         by : (b : Bool) → (n == m) ≡ b → (not b && none_of (is_delayed_read m) (in_stage k ys)) ≡ false → Goal
-        by true i f = (x, subst (λ j. reading p j ≡ Some (record { stage = k; var = x })) (eqb-true n m i) (g ∙ ap (λ j. Some (record { stage = j; var = x })) s))
+        by true i f =
+            (x, subst (λ j. reading p j ≡ Some (record { stage = k; var = x })) (eqb-true n m i) (g ∙ ap (λ j. Some (record { stage = j; var = x })) s))
         by false i f = rest f
     op_is (Bind x a) g s f rest = rest f
     op_is (CombRead x n a) g s f rest = rest f
@@ -39,7 +42,9 @@ read_in p k m (y ∷ ys) h e = at (y.stage == k) refl e (read_in p k m ys h.1)
     op_is SpecCheck g s f rest = rest f
     op_is SpecBarrier g s f rest = rest f
 
-    at : (b : Bool) → (y.stage == k) ≡ b → none_of (is_delayed_read m) (if b then y ∷ in_stage k ys else in_stage k ys) ≡ false → (none_of (is_delayed_read m) (in_stage k ys) ≡ false → Goal) → Goal
+    at : (b : Bool) → (y.stage == k) ≡ b
+        → none_of (is_delayed_read m) (if b then y ∷ in_stage k ys else in_stage k ys) ≡ false
+        → (none_of (is_delayed_read m) (in_stage k ys) ≡ false → Goal) → Goal
     at true i f rest = op_is y.op h.0 (eqb-true y.stage k i) f rest
     at false i f rest = rest f
 

@@ -29,14 +29,18 @@ pub found : (q : ℕ) (t : Thread) (ls : List Live) → find q ls ≡ Some t →
 found q t [] e = absurd (cc e)
 found q t (l ∷ ls) e = at (l.thread.stage == q) refl e (found q t ls)
   where
-    at : (b : Bool) → (l.thread.stage == q) ≡ b → (if b then Some (seat l) else find q ls) ≡ Some t → (find q ls ≡ Some t → (k : Live) × Among k ls × (k.thread.stage ≡ q) × (seat k ≡ t)) → (k : Live) × Among k (l ∷ ls) × (k.thread.stage ≡ q) × (seat k ≡ t)
+    at : (b : Bool) → (l.thread.stage == q) ≡ b → (if b then Some (seat l) else find q ls) ≡ Some t
+        → (find q ls ≡ Some t → (k : Live) × Among k ls × (k.thread.stage ≡ q) × (seat k ≡ t))
+        → (k : Live) × Among k (l ∷ ls) × (k.thread.stage ≡ q) × (seat k ≡ t)
     at true f g rest = (l, inl refl, eqb-true l.thread.stage q f, cc g)
     at false f g rest = let r = rest g in (r.0, inr r.1, r.2, r.3)
 
 -- no two stand in one stage
 stands_alone : (p : Pipe) (l : Live) (ls : List Live) → Ordered p ls → Among l ls → find l.thread.stage ls ≡ Some (seat l)
 stands_alone p l [] o i = absurd i
-stands_alone p l (k ∷ ks) o (inl e) = subst (λ (j : Live). find j.thread.stage (k ∷ ks) ≡ Some (seat j)) e (ap (λ b. cond b (Some (seat k)) (find k.thread.stage ks)) (Rattle.std.proofs.Common.eq-eqb k.thread.stage k.thread.stage refl))
+stands_alone p l (k ∷ ks) o (inl e) =
+    subst (λ (j : Live). find j.thread.stage (k ∷ ks) ≡ Some (seat j)) e
+    (ap (λ b. cond b (Some (seat k)) (find k.thread.stage ks)) (Rattle.std.proofs.Common.eq-eqb k.thread.stage k.thread.stage refl))
 stands_alone p l (k ∷ ks) o (inr i) =
     ap (λ b. cond b (Some (seat k)) (find l.thread.stage ks)) (ne_eqb k.thread.stage l.thread.stage (λ e. other e))
     ∙ stands_alone p l ks o.1 i
@@ -69,13 +73,16 @@ stands_behind p n a b (k ∷ ks) f o (inr i) (inr j) e = stands_behind p k.numbe
 
 module _ (p : Pipe) (st : State) (d : Derived.State) (ls : List Live) (sim : Sim p st d ls) where
   slot_low : (k : ℕ) → k < length p.stages → slot st k ≡ find k ls
-  slot_low k l = ap (λ (xs : List (Option Thread)). slice_index_or xs k None) sim.stages ∙ at_stage (λ q. find q ls) 0 p.stages k None l ∙ ap (λ n. find n ls) (let z : 0 + k ≡ k = omega arith in z)
+  slot_low k l =
+      ap (λ (xs : List (Option Thread)). slice_index_or xs k None) sim.stages
+      ∙ at_stage (λ q. find q ls) 0 p.stages k None l ∙ ap (λ n. find n ls) (let z : 0 + k ≡ k = omega arith in z)
 
   -- who stands in a stage
   pub seated_in : (k : ℕ) (t : Thread) → slot st k ≡ Some t → (l : Live) × Among l ls × (l.thread.stage ≡ k) × (seat l ≡ t)
   seated_in k t e = ⊎_elim
       (λ (l : k < length p.stages). found k t ls (sym (slot_low k l) ∙ e))
-      (λ (l : length p.stages ≤ k). absurd (none_some (sym (ap (λ (xs : List (Option Thread)). slice_index_or xs k None) sim.stages ∙ past_stage (λ q. find q ls) 0 p.stages k None l) ∙ e)))
+      (λ (l : length p.stages ≤ k). absurd
+      (none_some (sym (ap (λ (xs : List (Option Thread)). slice_index_or xs k None) sim.stages ∙ past_stage (λ q. find q ls) 0 p.stages k None l) ∙ e)))
       (cases_lt k (length p.stages))
     where
       none_some : None ≡ Some t → ⊥
@@ -101,11 +108,13 @@ module _ (p : Pipe) (st : State) (d : Derived.State) (ls : List Live) (sim : Sim
       let low = each_among _ a.0 ls (falls_each st.next ls sim.falls) a.1 in
       let z = ap (λ (v : Thread). v.number) a.3 in omega (arith, low, z)
 
-  pub behind_older : (j k : ℕ) (t u : Thread) → slot st j ≡ Some t → slot st k ≡ Some u → u.number < t.number → (r : ℕ) → (stage_at p r).branch ≡ None → r ≤ j → r < k
+  pub behind_older : (j k : ℕ) (t u : Thread) → slot st j ≡ Some t → slot st k ≡ Some u → u.number < t.number → (r : ℕ)
+      → (stage_at p r).branch ≡ None → r ≤ j → r < k
   behind_older j k t u e f g r trunk low =
       let a = seated_in j t e in
       let b = seated_in k u f in
       let x = ap (λ (v : Thread). v.number) a.3 in
       let y = ap (λ (v : Thread). v.number) b.3 in
-      let h = (stands_behind p st.next a.0 b.0 ls sim.falls sim.ordered a.1 b.1 (omega (arith, g, x, y))).trunk r trunk (let z = a.2 in omega (arith, low, z)) in
+      let h =
+      (stands_behind p st.next a.0 b.0 ls sim.falls sim.ordered a.1 b.1 (omega (arith, g, x, y))).trunk r trunk (let z = a.2 in omega (arith, low, z)) in
       let z = b.2 in omega (arith, h, z)

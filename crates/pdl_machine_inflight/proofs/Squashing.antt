@@ -60,7 +60,8 @@ some_squasher p st k true (Some t) = at (deeds p st k t).fails
 module _ (p : Pipe) (none : verify_stage p.stmts ≡ None) (st : State) (bits : List Bool) where
   never : (n k : ℕ) → squasher (movers_from p st bits n k) ≡ None
   never zero k = refl
-  never (suc n) k = squasher_past p st k (stage_moves p st bits k) (here p st bits k) (movers_from p st bits n (suc k)) (at (here p st bits k)) ∙ never n (suc k)
+  never (suc n) k =
+      squasher_past p st k (stage_moves p st bits k) (here p st bits k) (movers_from p st bits n (suc k)) (at (here p st bits k)) ∙ never n (suc k)
     where
       at : (o : Option Thread) → failing p st k o ≡ false
       at None = refl
@@ -70,7 +71,9 @@ module _ (p : Pipe) (none : verify_stage p.stmts ≡ None) (st : State) (bits : 
   no_squasher = never (length p.stages) 0
 
   pub none_fails : length st.stages ≡ length p.stages → (k : ℕ) → no_failure (later_acts p st bits k) ≡ true
-  none_fails count k = all_later p st bits (λ (o : Act). not (o.moves && o.does.fails)) count k (λ j t low high e. ap (λ b. not (stage_moves p st bits j && b)) (fails_never p none st j t) ∙ no (stage_moves p st bits j))
+  none_fails count k =
+      all_later p st bits (λ (o : Act). not (o.moves && o.does.fails)) count k
+      (λ j t low high e. ap (λ b. not (stage_moves p st bits j && b)) (fails_never p none st j t) ∙ no (stage_moves p st bits j))
     where
       no : (b : Bool) → not (b && false) ≡ true
       no true = refl
@@ -108,21 +111,26 @@ module _ (p : Pipe) (sound : Sound p) (st : State) (bits : List Bool) (flight : 
   squasher_none : (n k : ℕ) → ((j : ℕ) → k ≤ j → j < k + n → j ≡ v → ⊥) → squasher (movers_from p st bits n k) ≡ None
   squasher_none zero k h = refl
   squasher_none (suc n) k h =
-      squasher_past p st k (stage_moves p st bits k) (here p st bits k) (movers_from p st bits n (suc k)) (failing_apart k (here p st bits k) (h k (omega arith) (omega arith)))
+      squasher_past p st k (stage_moves p st bits k) (here p st bits k) (movers_from p st bits n (suc k))
+      (failing_apart k (here p st bits k) (h k (omega arith) (omega arith)))
       ∙ squasher_none n (suc k) (λ j low high. h j (omega (arith, low)) (omega (arith, high)))
 
   squasher_from : (n k : ℕ) → k ≤ v → v < k + n → squasher (movers_from p st bits n k) ≡ squasher_at p st v (stage_moves p st bits v) (here p st bits v)
   squasher_from zero k low high = absurd (omega (arith, low, high))
   squasher_from (suc n) k low high = at (k == v) refl (λ i. squasher_from n (suc k) i (omega (arith, high)))
     where
-      at : (b : Bool) → (k == v) ≡ b → (suc k ≤ v → squasher (movers_from p st bits n (suc k)) ≡ squasher_at p st v (stage_moves p st bits v) (here p st bits v)) → squasher (movers_from p st bits (suc n) k) ≡ squasher_at p st v (stage_moves p st bits v) (here p st bits v)
+      at : (b : Bool) → (k == v) ≡ b
+          → (suc k ≤ v → squasher (movers_from p st bits n (suc k)) ≡ squasher_at p st v (stage_moves p st bits v) (here p st bits v))
+          → squasher (movers_from p st bits (suc n) k) ≡ squasher_at p st v (stage_moves p st bits v) (here p st bits v)
       at true e rest =
           let same = eqb-true k v e in
-          squasher_here p st k (stage_moves p st bits k) (here p st bits k) (movers_from p st bits n (suc k)) (squasher_none n (suc k) (λ j l h i. omega (arith, l, i, same)))
+          squasher_here p st k (stage_moves p st bits k) (here p st bits k) (movers_from p st bits n (suc k))
+          (squasher_none n (suc k) (λ j l h i. omega (arith, l, i, same)))
           ∙ ap (λ j. squasher_at p st j (stage_moves p st bits j) (here p st bits j)) same
       at false e rest =
           let apart = eqb-false k v e in
-          squasher_past p st k (stage_moves p st bits k) (here p st bits k) (movers_from p st bits n (suc k)) (failing_apart k (here p st bits k) apart) ∙ rest (omega (arith, low, apart))
+          squasher_past p st k (stage_moves p st bits k) (here p st bits k) (movers_from p st bits n (suc k)) (failing_apart k (here p st bits k) apart)
+          ∙ rest (omega (arith, low, apart))
 
   -- the squasher stands in V
   pub squasher_is : squasher (moving p st bits) ≡ squasher_at p st v (stage_moves p st bits v) (here p st bits v)
@@ -158,7 +166,8 @@ module _ (p : Pipe) (sound : Sound p) (st : State) (bits : List Bool) (flight : 
               by true f =
                   let same = eqb-true j v f in
                   let here_v : here p st bits v ≡ Some t = ap (here p st bits) (sym same) ∙ e in
-                  ap (λ i. not (stage_moves p st bits i && (deeds p st i t).fails)) same ∙ ap (λ o. not (stage_moves p st bits v && failing p st v o)) (sym here_v) ∙ ap not h
+                  ap (λ i. not (stage_moves p st bits i && (deeds p st i t).fails)) same
+                  ∙ ap (λ o. not (stage_moves p st bits v && failing p st v o)) (sym here_v) ∙ ap not h
 
       at : (o : Option Thread) → here p st bits v ≡ o → no_failure (later_acts p st bits k) ≡ not (stage_moves p st bits v && failing p st v (here p st bits v))
       at None e = let off = ap (λ o. stage_moves p st bits v && failing p st v o) e ∙ none (stage_moves p st bits v) in quiet off ∙ ap not (sym off)
@@ -171,7 +180,8 @@ module _ (p : Pipe) (sound : Sound p) (st : State) (bits : List Bool) (flight : 
           same : (stage_moves p st bits v && failing p st v (here p st bits v)) ≡ (stage_moves p st bits v && (deeds p st v t).fails)
           same = ap (λ o. stage_moves p st bits v && failing p st v o) e
 
-          by : (b : Bool) → (stage_moves p st bits v && (deeds p st v t).fails) ≡ b → no_failure (later_acts p st bits k) ≡ not (stage_moves p st bits v && failing p st v (here p st bits v))
+          by : (b : Bool) → (stage_moves p st bits v && (deeds p st v t).fails) ≡ b
+              → no_failure (later_acts p st bits k) ≡ not (stage_moves p st bits v && failing p st v (here p st bits v))
           by true f = not_all_later p st bits (λ (o : Act). not (o.moves && o.does.fails)) flight.count k v t low v_low e (ap not f) ∙ ap not (sym (same ∙ f))
           by false f = quiet (same ∙ f) ∙ ap not (sym (same ∙ f))
 
@@ -191,7 +201,8 @@ module _ (p : Pipe) (sound : Sound p) (st : State) (bits : List Bool) (flight : 
           by true g = let s = stood_in p st bits v t h in (s.0, s.1, ap (λ (x : Thread). x.number) s.2 ∙ (let z : t.number ≡ n = cc g in z))
 
   -- a squash removes all threads before V
-  pub removed_low : (k : ℕ) (t : Thread) → k < v → slot st k ≡ Some t → is_kept (squasher (moving p st bits)) t.number ≡ not (stage_moves p st bits v && failing p st v (here p st bits v))
+  pub removed_low : (k : ℕ) (t : Thread) → k < v → slot st k ≡ Some t
+      → is_kept (squasher (moving p st bits)) t.number ≡ not (stage_moves p st bits v && failing p st v (here p st bits v))
   removed_low k t low e = at (squasher (moving p st bits)) refl ∙ ap not some_squash
     where
       at : (o : Option ℕ) → squasher (moving p st bits) ≡ o → is_kept (squasher (moving p st bits)) t.number ≡ not (is_some (squasher (moving p st bits)))
@@ -205,7 +216,8 @@ module _ (p : Pipe) (sound : Sound p) (st : State) (bits : List Bool) (flight : 
           younger true g u =
               let le = Rattle.std.proofs.lemmas.Bool.leb-true t.number n g in
               absurd (⊎_elim
-              (λ (lt : t.number < n). let h = flight.behind v k u.0 t u.1 e (let z = u.2 in omega (arith, lt, z)) v v_trunk (omega arith) in omega (arith, h, low))
+              (λ (lt : t.number < n). let h = flight.behind v k u.0 t u.1 e (let z = u.2 in omega (arith, lt, z)) v v_trunk (omega arith) in
+              omega (arith, h, low))
               (λ (ge : n ≤ t.number). let h = flight.same k v t u.0 e u.1 (let z = u.2 in omega (arith, ge, le, z)) in omega (arith, h, low))
               (cases_lt t.number n))
 
@@ -240,5 +252,6 @@ module _ (p : Pipe) (sound : Sound p) (st : State) (bits : List Bool) (flight : 
 
   pub not_clear : (k j : ℕ) (t : Thread) → k < j → j ≤ v → slot st j ≡ Some t → none_up_to (Some v) (later_acts p st bits k) ≡ false
   not_clear k j t low high e =
-      not_all_later p st bits (λ (o : Act). nat_lt v o.stage) flight.count k j (with_answers p st bits t) low (let l = v_low in omega (arith, l, high)) (ap (with_now p st bits) e)
+      not_all_later p st bits (λ (o : Act). nat_lt v o.stage) flight.count k j (with_answers p st bits t) low (let l = v_low in omega (arith, l, high))
+      (ap (with_now p st bits) e)
       (le-ltb v j high)

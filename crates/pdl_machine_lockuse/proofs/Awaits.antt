@@ -115,7 +115,11 @@ module _ (p : Pipe) (sound : Sound p) (st : State) (older : List Live) (l : Live
       at : (b : Bool) → (r.mem == m) ≡ b → (b || list_any (λ (r : Awaited). r.mem == m) rs) ≡ true
           → (list_any (λ (r : Awaited). r.mem == m) rs ≡ true → l.thread.stage ≤ commit_stage p m) → l.thread.stage ≤ commit_stage p m
       at true e i go =
-          let q = any_of (AskedBy l.env (past_of p l.env l.thread.stage)) (λ q. (q.var ≡ r.var) × (q.mem ≡ r.mem) × (Rattle.pdl_semantics.specs.Machine.request_of st r.mem ≡ Rattle.pdl_semantics.specs.Machine.Owned l.number q.address)) lasting.local.asks lasting.local.asked o.0 in
+          let q =
+          any_of (AskedBy l.env (past_of p l.env l.thread.stage))
+          (λ q. (q.var ≡ r.var) × (q.mem ≡ r.mem)
+          × (Rattle.pdl_semantics.specs.Machine.request_of st r.mem
+          ≡ Rattle.pdl_semantics.specs.Machine.Owned l.number q.address)) lasting.local.asks lasting.local.asked o.0 in
           bound_by_commit m (subst (λ n. Fetched p l.thread.stage n) (eqb-true r.mem m e) f.0) q.0 (q.2.1 ∙ eqb-true r.mem m e) q.1
       at false e i go = go i
 

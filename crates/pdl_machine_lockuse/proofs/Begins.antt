@@ -110,7 +110,8 @@ module _ (p : Pipe) (s : ℕ) (clean : ℕ → ℕ → Type 0) (env : List ℕ) 
           by early (inl i) = absurd (false≢true (sym (unreleased m a early) ∙ i))
           by early (inr i) = cleans m a (subst (λ t. cond t (o.can_write m (slice_index env a)) (o.can_read m (slice_index env a)) ≡ true) none i)
 
-  right_op : (c : Scan) (hs : List HeldLocation) (op : Op) (xs : List Stmt) → Covers c.held hs → LowBlock p s op → BlockOk o env es past op → keeps_kind op xs ≡ true
+  right_op : (c : Scan) (hs : List HeldLocation) (op : Op) (xs : List Stmt) → Covers c.held hs → LowBlock p s op
+      → BlockOk o env es past op → keeps_kind op xs ≡ true
       → places es ≡ held_ops xs (held_after op hs) → Right p s clean c.blocked env → Right p s clean (scan_after (answered_op op) c).blocked env
   right_op c hs (Block m a) xs f low b r e k = block_right c hs m a xs f (low m a refl) b r e k
   right_op c hs (DelayedRead x m a) xs f low b r e k = k
@@ -195,12 +196,19 @@ module _ (o : Around) (read : ℕ → ℕ → ℕ) (block : Blocked → Bool) (r
   along_of path [] d es cs h f q = tt
   along_of path (x ∷ xs) d es cs h f q =
       let t = told_step o read block room free (all_hold x.guards d.env) x.op d es cs h f.0 in
-      let w : Work = cond (all_hold x.guards d.env) (Derived.work_after o x.op (work_of o read block room free d es cs)) (work_of o read block room free d es cs) in
-      (q.0, along_of path xs (if all_hold x.guards d.env then deeds_after read x.op d else d) w.entries w.commits t.held f.1 (subst (λ v. Fixed path o xs v) t.is q.1))
+      let w : Work =
+      cond (all_hold x.guards d.env) (Derived.work_after o x.op (work_of o read block room free d es cs)) (work_of o read block room free d es cs) in (
+        q.0,
+        along_of path xs
+            (if all_hold x.guards d.env then deeds_after read x.op d else d) w.entries w.commits t.held f.1
+            (subst (λ v. Fixed path o xs v) t.is q.1),
+      )
 
 -- A LIVE THREAD
 
-module _ (p : Pipe) (sound : Sound p) (st : State) (d : Derived.State) (bits : List Bool) (arrays : st.arrays ≡ d.arrays) (older : List Live) (l : Live) (k : Known p (sound_flows p sound) st d bits arrays older l) where
+module _ (p : Pipe) (sound : Sound p) (st : State) (d : Derived.State) (bits : List Bool)
+    (arrays : st.arrays ≡ d.arrays) (older : List Live) (l : Live)
+    (k : Known p (sound_flows p sound) st d bits arrays older l) where
   abbrev way : List ℕ
   way = path p sound st d bits arrays older l k
 
@@ -257,7 +265,8 @@ module _ (p : Pipe) (sound : Sound p) (st : State) (d : Derived.State) (bits : L
     blocks_past =
         subst
         (λ e. AllOps (BlockOk (look_at p (threads_of older)) e l.thread.entries (past_of p l.env l.thread.stage)) (past_of p l.env l.thread.stage)) k.values
-        (kept_blocks (look_at p (threads_of older)) l.thread.entries (past_of p l.env l.thread.stage) (past_of p l.env l.thread.stage) (l.kept ++ Machine.answered_reads p st bits l.number l.thread.awaits) l.env
+        (kept_blocks (look_at p (threads_of older)) l.thread.entries (past_of p l.env l.thread.stage)
+        (past_of p l.env l.thread.stage) (l.kept ++ Machine.answered_reads p st bits l.number l.thread.awaits) l.env
         (kept_unused p l.env (l.kept ++ Machine.answered_reads p st bits l.number l.thread.awaits) (now_of p d bits l) now_local) lasting.blocks)
 
     blocks_now : AllStmts (λ z. BlockOk (look_at p (threads_of older)) (now_of p d bits l).env l.thread.entries (past_of p l.env l.thread.stage) z.op)
@@ -276,7 +285,8 @@ module _ (p : Pipe) (sound : Sound p) (st : State) (d : Derived.State) (bits : L
     unreleased_yet : (m a : ℕ) → l.thread.stage ≤ commit_stage p m → is_released m a (past_of p l.env l.thread.stage) ≡ false
     unreleased_yet m a i =
         unreleased_onto m a done []
-        (none_onpath (is_release m) l.env (stages_before l.thread.stage p.stmts) (none_till (is_release m) (commit_stage p m) l.thread.stage p.stmts ((sound_flows p sound).releases m) i)) refl
+        (none_onpath (is_release m) l.env (stages_before l.thread.stage p.stmts)
+        (none_till (is_release m) (commit_stage p m) l.thread.stage p.stmts ((sound_flows p sound).releases m) i)) refl
 
     reads_here : reads_ok p (scan_after_all (looked_all done) no_scan)
         (looked_all own) ≡ true
@@ -295,7 +305,9 @@ module _ (p : Pipe) (sound : Sound p) (st : State) (d : Derived.State) (bits : L
         right_all p l.thread.stage (Clean p st l.number) (now_of p d bits l).env (look_at p (threads_of older)) l.thread.entries
         (past_of p l.env l.thread.stage)
         unreleased_yet
-        (λ m a i. ap (read_ready (mem_at p m).lock) (k.older m (slice_index (now_of p d bits l).env a) ∙ ap (λ ts. latest ts m (slice_index (now_of p d bits l).env a)) (befores_are p d bits older)) ∙ i)
+        (λ m a i. ap (read_ready (mem_at p m).lock)
+        (k.older m (slice_index (now_of p d bits l).env a) ∙ ap (λ ts. latest ts m (slice_index (now_of p d bits l).env a)) (befores_are p d bits older))
+        ∙ i)
         no_scan [] done (λ m a h. h) low_here blocks_now (passed_kinds p sound st d bits arrays older l k careful)
         (k.seated.keeps_on.held ∙ passed_held) tt
 
@@ -309,7 +321,9 @@ module _ (p : Pipe) (sound : Sound p) (st : State) (d : Derived.State) (bits : L
     let_begin =
         let_start p l.thread.stage (Let p st l.number) (now_of p d bits l).env (look_at p (threads_of older)) l.thread.entries
         (past_of p l.env l.thread.stage) unreleased_yet
-        (λ m a i. ap (write_ready (mem_at p m).lock) (k.older m (slice_index (now_of p d bits l).env a) ∙ ap (λ ts. latest ts m (slice_index (now_of p d bits l).env a)) (befores_are p d bits older)) ∙ i)
+        (λ m a i. ap (write_ready (mem_at p m).lock)
+        (k.older m (slice_index (now_of p d bits l).env a) ∙ ap (λ ts. latest ts m (slice_index (now_of p d bits l).env a)) (befores_are p d bits older))
+        ∙ i)
         (λ m a i. read_write (mem_at p m).lock (latest (threads_of older) m a) i) (past_of p l.env l.thread.stage)
         (ops_stmts (LowBlock p l.thread.stage) done [] low_here tt) blocks_past
 
@@ -317,7 +331,8 @@ module _ (p : Pipe) (sound : Sound p) (st : State) (d : Derived.State) (bits : L
     pub let_here : AreLetIn p st l.number (in_stage l.thread.stage p.stmts) (before_stage p l.thread.stage (with_answers p st bits (seat l)))
     let_here =
         subst (AreLetIn p st l.number (in_stage l.thread.stage p.stmts)) (sym begun_is)
-        (let_all p st l.number p.vars l.thread.stage (scan_after_all (looked_all done) no_scan) way (past_of p l.env l.thread.stage) (in_stage l.thread.stage p.stmts) begun
+        (let_all p st l.number p.vars l.thread.stage (scan_after_all (looked_all done) no_scan) way (past_of p l.env l.thread.stage)
+        (in_stage l.thread.stage p.stmts) begun
         (in_stage_all l.thread.stage p.stmts) along_here reads_here (mine_new p sound st d bits arrays older l k strict)
         (mine_let_in p sound st d bits arrays older l k careful) (mine_early p sound st d bits arrays older l k strict)
         covers_start (λ e. right_start) (λ e. let_begin))
@@ -334,5 +349,6 @@ module _ (p : Pipe) (sound : Sound p) (st : State) (d : Derived.State) (bits : L
         (mine_uses p sound st d bits arrays older l k) (mine_makings p sound st d bits arrays older l k)
         (all_here (passes_on (length p.start)) way l.thread.stage p.stmts careful.args)
         (mine_early p sound st d bits arrays older l k strict)
-        (λ m. subst (IsOnce m (phase_all m Fresh done)) k.seated.keeps_on.held (once_shape m (phase_all m Fresh done) l.thread.entries (k.seated.keeps_on.shape m)))
+        (λ m. subst (IsOnce m (phase_all m Fresh done)) k.seated.keeps_on.held
+        (once_shape m (phase_all m Fresh done) l.thread.entries (k.seated.keeps_on.shape m)))
         covers_start guess_start (λ e. right_start))

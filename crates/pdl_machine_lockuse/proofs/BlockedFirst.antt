@@ -64,8 +64,10 @@ module _ (ms : List Mem) where
 
   carry : (vs ws : List Var) (zs : List Flat.Stmt) (past : List Flat.Op) (l : Location) → Grown vs ws → WasBlocked vs past l → WasBlocked ws (onto zs past) l
   carry vs ws zs past l g w =
-      let stays : var_of ws l.address.name ≡ var_of vs l.address.name = ap (λ us. var_of us l.address.name) g.1 ∙ var_stays vs g.0 l.address.name w.0 in
-      (named_grown vs ws l.address.name g w.0, ap (λ n. was_blocked (mem_of ms l.mem.name) n (onto zs past)) stays ∙ was_more (mem_of ms l.mem.name) (var_of vs l.address.name) zs past w.1)
+      let stays : var_of ws l.address.name ≡ var_of vs l.address.name = ap (λ us. var_of us l.address.name) g.1 ∙ var_stays vs g.0 l.address.name w.0 in (
+        named_grown vs ws l.address.name g w.0,
+        ap (λ n. was_blocked (mem_of ms l.mem.name) n (onto zs past)) stays ∙ was_more (mem_of ms l.mem.name) (var_of vs l.address.name) zs past w.1,
+      )
 
   -- a place after which a location is blocked
   abbrev BlocksIt : Location → Stmt → Type 0
@@ -100,15 +102,18 @@ module _ (ms : List Mem) where
       subst (λ r. WasBlocked (vars_past ms ws r) (onto (seen_ops k (ops_of ms ws r)) past) l) (sym b.2) (
         subst (λ x. is_named ws x ≡ true) var there,
         or_left _ _
-            (and_from _ _ (eq-eqb (mem_of ms b.1.mem.name) (mem_of ms l.mem.name) (ap (mem_of ms) mem)) (eq-eqb (var_of ws b.1.address.name) (var_of ws l.address.name) (ap (var_of ws) var))),
+            (and_from _ _ (eq-eqb (mem_of ms b.1.mem.name) (mem_of ms l.mem.name) (ap (mem_of ms) mem))
+            (eq-eqb (var_of ws b.1.address.name) (var_of ws l.address.name) (ap (var_of ws) var))),
       )
 
   step : (k : ℕ) (before : List Place) (past : List Flat.Op) (vs ws : List Var) (s : Stmt) (bs : List Branch) → Grown vs ws
       → ((at : Location) → location_of s ≡ Some at → IsNamed ms ws at) → Blocks before vs past
       → Blocks (before ++ Statement s bs ∷ []) (vars_past ms ws s) (onto (seen_ops k (ops_of ms ws s)) past)
-  step k before past vs ws s bs g named i = λ l h. by l (blocked_or l (hold_after l before) s bs (ap is_blocked (sym (held_more l before (Statement s bs))) ∙ h))
+  step k before past vs ws s bs g named i =
+      λ l h. by l (blocked_or l (hold_after l before) s bs (ap is_blocked (sym (held_more l before (Statement s bs))) ∙ h))
     where
-      by : (l : Location) → (is_blocked (hold_after l before) ≡ true) ⊎ BlocksIt l s → WasBlocked (vars_past ms ws s) (onto (seen_ops k (ops_of ms ws s)) past) l
+      by : (l : Location) → (is_blocked (hold_after l before) ≡ true) ⊎ BlocksIt l s
+          → WasBlocked (vars_past ms ws s) (onto (seen_ops k (ops_of ms ws s)) past) l
       by l (inl e) = carry vs (vars_past ms ws s) (seen_ops k (ops_of ms ws s)) past l (grown_more vs ws (vars_past ms ws s) g (past_grown ms ws s)) (i l e)
       by l (inr b) = block_here k ws past l s named b
 
@@ -124,18 +129,22 @@ module _ (ms : List Mem) where
 pub sites_let : (p : Pipe) (vs us : List Var) (before : List Place) (past : List Flat.Op) (ts : List Site) → Grows p.mems vs ts us
     → Each (KeepsLocks p) before (map place_of ts ++ closing p) → All (λ t. (l : Location) → location_of t.stmt ≡ Some l → IsNamed p.mems t.walk.vars l) ts
     →
-    ((l : Location) → is_blocked (hold_after l before) ≡ true → (is_named vs l.address.name ≡ true) × (was_blocked (mem_of p.mems l.mem.name) (var_of vs l.address.name) past ≡ true))
+    ((l : Location) → is_blocked (hold_after l before) ≡ true
+    → (is_named vs l.address.name ≡ true) × (was_blocked (mem_of p.mems l.mem.name) (var_of vs l.address.name) past ≡ true))
     → all_let_in past (seen p.mems ts) ≡ true
 sites_let p vs us before past [] g each named i = refl
 sites_let p vs us before past (t ∷ ts) g each named i =
     here t.stmt refl
-    (sites_let p (vars_past p.mems t.walk.vars t.stmt) us (before ++ place_of t ∷ []) (onto (seen_ops t.walk.stage (ops_of p.mems t.walk.vars t.stmt)) past) ts g.1 each.1 named.1 (step p.mems t.walk.stage before past vs t.walk.vars t.stmt t.branches g.0 named.0 i))
+    (sites_let p (vars_past p.mems t.walk.vars t.stmt) us (before ++ place_of t ∷ [])
+    (onto (seen_ops t.walk.stage (ops_of p.mems t.walk.vars t.stmt)) past) ts g.1 each.1 named.1
+    (step p.mems t.walk.stage before past vs t.walk.vars t.stmt t.branches g.0 named.0 i))
   where
     write : (sp : Span) (at : Location) (v : Expr) → t.stmt ≡ Write sp at v
         → was_blocked (mem_of p.mems at.mem.name) (var_of t.walk.vars at.address.name) past ≡ true
     write sp at v e =
         (carry p.mems vs t.walk.vars [] past at g.0
-        (i at (blocked_some p.mems (hold_after at before) (not-false _ (subst (λ s. Locks.lacks_hold p before (Statement s t.branches) ≡ false) e each.0.l1))))).1
+        (i at
+        (blocked_some p.mems (hold_after at before) (not-false _ (subst (λ s. Locks.lacks_hold p before (Statement s t.branches) ≡ false) e each.0.l1))))).1
 
     here : (s : Stmt) → t.stmt ≡ s → all_let_in (onto (seen_ops t.walk.stage (ops_of p.mems t.walk.vars s)) past) (seen p.mems ts) ≡ true
         → all_let_in past (seen_ops t.walk.stage (ops_of p.mems t.walk.vars s) ++ seen p.mems ts) ≡ true

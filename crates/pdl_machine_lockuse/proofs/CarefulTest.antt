@@ -18,19 +18,23 @@ module _ (p : Pipe) (low : list_all (λ g. nat_lt g (length (start_env p []))) (
       → test (onpath path p.stmts) ≡ true
   each_path test h path =
       ap test
-      (sym (path_agree (all_guards p) (picks path (all_guards p) (start_env p [])) path p.stmts (agree_picks path (all_guards p) (start_env p []) low) guard_among))
+      (sym
+      (path_agree (all_guards p)
+      (picks path (all_guards p) (start_env p [])) path p.stmts (agree_picks path (all_guards p) (start_env p []) low) guard_among))
       ∙ all_picks (λ path. test (onpath path p.stmts)) path (all_guards p) (start_env p []) h
 
   careful_tested : is_careful p ≡ true → Careful p
   careful_tested h =
       let rest = and_left _ _ h in
-      let both = each_path (λ xs. all_keep_kind xs && all_let_in [] xs) (and_right (list_all (λ g. nat_lt g (length (start_env p []))) (all_guards p)) _ rest) in
+      let both =
+      each_path (λ xs. all_keep_kind xs && all_let_in [] xs) (and_right (list_all (λ g. nat_lt g (length (start_env p []))) (all_guards p)) _ rest) in
       record {
         kinds = λ path. and_left _ _ (both path);
         writes = λ path. and_right (all_keep_kind (onpath path p.stmts)) _ (both path);
         args =
             and_right
-            (list_all (λ g. nat_lt g (length (start_env p []))) (all_guards p) && all_paths (all_guards p) (λ path. all_keep_kind (onpath path p.stmts) && all_let_in [] (onpath path p.stmts)) (start_env p [])) _ h;
+            (list_all (λ g. nat_lt g (length (start_env p []))) (all_guards p)
+            && all_paths (all_guards p) (λ path. all_keep_kind (onpath path p.stmts) && all_let_in [] (onpath path p.stmts)) (start_env p [])) _ h;
       }
 
 -- the facts of a pipe that passes the test

@@ -87,4 +87,7 @@ front_left t from (e ∷ es) o = at (nat_le e.thread t) refl (front_left t (e.th
         let r = none_left t (e.thread + 1) es (let j = leb-false e.thread t i in omega (arith, j)) o.1 in
         r.0
         ∙ ap (λ k. take k (e ∷ es))
-        (sym (ap (λ b. cond b (suc (count_older (suc t) es)) (count_older (suc t) es)) (le-ltb e.thread (suc t) (let j = leb-false e.thread t i in omega (arith, j))) ∙ r.1))
+        (sym
+        (ap (λ b. cond b (suc (count_older (suc t) es)) (count_older (suc t) es))
+        (le-ltb e.thread (suc t) (let j = leb-false e.thread t i in omega (arith, j)))
+        ∙ r.1))

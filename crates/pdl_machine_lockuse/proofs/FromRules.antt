@@ -91,8 +91,12 @@ module _ (p : Pipe) (at : Location) (vs : List Var) (there : IsNamed p.mems vs a
           let parts = and_parts (mem_of p.mems l.mem.name == m0) (var_of ws l.address.name == a0) e in
           let mems : l.mem.name ≡ at.mem.name = mem_same p.mems l.mem.name at.mem.name n.0 there.0 (eqb-true (mem_of p.mems l.mem.name) m0 parts.0) in
           let stays : var_of ws at.address.name ≡ a0 = ap (λ us. var_of us at.address.name) g.1 ∙ var_stays vs g.0 at.address.name there.1 in
-          let vars : l.address.name ≡ at.address.name = var_same ws l.address.name at.address.name n.1 (named_grown vs ws at.address.name g there.1) (eqb-true (var_of ws l.address.name) a0 parts.1 ∙ sym stays) in
-          let same : same_location l at ≡ true = and_from _ _ (ap (λ x. bytes_eq x at.mem.name) mems ∙ bytes_refl at.mem.name) (ap (λ x. bytes_eq x at.address.name) vars ∙ bytes_refl at.address.name) in
+          let vars : l.address.name ≡ at.address.name =
+          var_same ws l.address.name at.address.name n.1 (named_grown vs ws at.address.name g there.1)
+          (eqb-true (var_of ws l.address.name) a0 parts.1 ∙ sym stays) in
+          let same : same_location l at ≡ true =
+          and_from _ _ (ap (λ x. bytes_eq x at.mem.name) mems ∙ bytes_refl at.mem.name)
+          (ap (λ x. bytes_eq x at.address.name) vars ∙ bytes_refl at.address.name) in
           absurd (both_ways _ again (any_weaker (reserves_location at) (reserves_location l) (λ x i. reserves_alike l at same x ∙ i) before r))
 
   one_site : (before : List Place) (k : ℕ) (ws : List Var) (s : Stmt) (bs : List Rattle.pdl_rules.specs.Places.Branch) → Grown vs ws
@@ -122,7 +126,9 @@ module _ (p : Pipe) (at : Location) (vs : List Var) (there : IsNamed p.mems vs a
   not_again ws us before (t ∷ ts) g gs each n r =
       none_append (reserves_at m0 a0) (seen_ops t.walk.stage (ops_of p.mems t.walk.vars t.stmt)) (seen p.mems ts)
       (one_site before t.walk.stage t.walk.vars t.stmt t.branches (grown_more vs ws t.walk.vars g gs.0) n.0 r each.0)
-      (not_again (vars_past p.mems t.walk.vars t.stmt) us (before ++ place_of t ∷ []) ts (grown_more vs t.walk.vars (vars_past p.mems t.walk.vars t.stmt) (grown_more vs ws t.walk.vars g gs.0) (past_grown p.mems t.walk.vars t.stmt)) gs.1 each.1 n.1
+      (not_again (vars_past p.mems t.walk.vars t.stmt) us (before ++ place_of t ∷ []) ts
+      (grown_more vs t.walk.vars (vars_past p.mems t.walk.vars t.stmt) (grown_more vs ws t.walk.vars g gs.0)
+      (past_grown p.mems t.walk.vars t.stmt)) gs.1 each.1 n.1
       (any_front (reserves_location at) before (place_of t) r))
 
 -- A PATH
@@ -141,7 +147,8 @@ sites_kinds p vs us before (t ∷ ts) g each named =
         not_again p at t.walk.vars (named.0 at (ap location_of e)) (vars_past p.mems t.walk.vars t.stmt) us (before ++ place_of t ∷ []) ts
         (past_grown p.mems t.walk.vars t.stmt) g.1 each.1 named.1
         (any_front (reserves_location at) before (place_of t)
-        (open_reserved at before (reserved_open (hold_after at before) (not-false _ (subst (λ s. Locks.lacks_hold p before (Statement s t.branches) ≡ false) e each.0.l1)))))
+        (open_reserved at before
+        (reserved_open (hold_after at before) (not-false _ (subst (λ s. Locks.lacks_hold p before (Statement s t.branches) ≡ false) e each.0.l1)))))
 
     here : (s : Stmt) → t.stmt ≡ s → all_keep_kind (seen p.mems ts) ≡ true
         → all_keep_kind (seen_ops t.walk.stage (ops_of p.mems t.walk.vars s) ++ seen p.mems ts) ≡ true
@@ -186,13 +193,16 @@ module _ (p : Pipe) (rules : KeepsRules p) where
   start_right =
       sym (length-map p.start.args (λ (l : Literal). l.width))
       ∙ as_many (map (λ (l : Literal). l.width) p.start.args) (rules W5 (front_of p ++ (map place_of (sites_of p) ++ End p.end ∷ [])) (StartClause p.start) []
-      (text_places p ∙ ap (λ l. front_of p ++ l) (sym (append_assoc (map place_of (sites_of p)) (End p.end ∷ []) (StartClause p.start ∷ []))) ∙ sym (append_assoc (front_of p) (map place_of (sites_of p) ++ End p.end ∷ []) (StartClause p.start ∷ []))))
+      (text_places p
+      ∙ ap (λ l. front_of p ++ l) (sym (append_assoc (map place_of (sites_of p)) (End p.end ∷ []) (StartClause p.start ∷ [])))
+      ∙ sym (append_assoc (front_of p) (map place_of (sites_of p) ++ End p.end ∷ []) (StartClause p.start ∷ []))))
 
   args_right : (vs : List Var) (args : List Expr) → are_no_arguments p (map (width_of (variables p)) args) ≡ false
       → (length (flat_exprs vs args) == length (flat p).start) ≡ true
   args_right vs args h =
       eq-eqb (length (flat_exprs vs args)) (length (flat p).start)
-      (flat_length vs args ∙ sym (length-map args (width_of (variables p))) ∙ as_many (map (width_of (variables p)) args) h ∙ sym start_right ∙ sym (start_length p.start.args))
+      (flat_length vs args ∙ sym (length-map args (width_of (variables p)))
+      ∙ as_many (map (width_of (variables p)) args) h ∙ sym start_right ∙ sym (start_length p.start.args))
 
   site_passes : (k : ℕ) (gs : List Flat.Guard) (vs : List Var) (s : Stmt) (bs : List Rattle.pdl_rules.specs.Places.Branch)
       → breaks_w5 p (Statement s bs) ≡ false
@@ -223,7 +233,9 @@ module _ (p : Pipe) (rules : KeepsRules p) where
   sites_pass [] h = refl
   sites_pass (t ∷ ts) h =
       all_append (λ (x : Flat.Stmt). passes_on (length (flat p).start) x.op) (own p.mems t) (owns p.mems ts)
-      (subst (λ xs. Flat.list_all (λ (x : Flat.Stmt). passes_on (length (flat p).start) x.op) xs ≡ true) (sym (own_is p.mems t.gs t.walk t.stmt)) (site_passes t.walk.stage t.gs t.walk.vars t.stmt t.branches (rules W5 t.front (place_of t) h.0.later h.0.whole)))
+      (subst (λ xs. Flat.list_all (λ (x : Flat.Stmt). passes_on (length (flat p).start) x.op) xs ≡ true)
+      (sym (own_is p.mems t.gs t.walk t.stmt))
+      (site_passes t.walk.stage t.gs t.walk.vars t.stmt t.branches (rules W5 t.front (place_of t) h.0.later h.0.whole)))
       (sites_pass ts h.1)
 
   -- THE PIPE
@@ -240,7 +252,8 @@ module _ (p : Pipe) (rules : KeepsRules p) where
     locations : All (λ t. (l : Location) → location_of t.stmt ≡ Some l → IsNamed p.mems t.walk.vars l) ts
     locations =
         all_on (λ t. (l : Location) → location_of t.stmt ≡ Some l → IsNamed p.mems t.walk.vars l) (path_of p (value p path)) (sites_of p)
-        (all_map (Here p) (λ t. (l : Location) → location_of t.stmt ≡ Some l → IsNamed p.mems t.walk.vars l) (λ t h. located p rules t h) (sites_of p) (all_here p))
+        (all_map (Here p) (λ t. (l : Location) → location_of t.stmt ≡ Some l → IsNamed p.mems t.walk.vars l)
+        (λ t h. located p rules t h) (sites_of p) (all_here p))
 
     kinds : all_keep_kind (onpath path (flat p).stmts) ≡ true
     kinds =
@@ -258,4 +271,8 @@ module _ (p : Pipe) (rules : KeepsRules p) where
 
   pub careful_source : is_source p ≡ true → Careful (flat p)
   careful_source source =
-      record { kinds = kinds source; writes = writes source; args = ap (Flat.list_all (λ (x : Flat.Stmt). passes_on (length (flat p).start) x.op)) (stmts_are p) ∙ sites_pass (sites_of p) (all_here p) }
+      record {
+        kinds = kinds source;
+        writes = writes source;
+        args = ap (Flat.list_all (λ (x : Flat.Stmt). passes_on (length (flat p).start) x.op)) (stmts_are p) ∙ sites_pass (sites_of p) (all_here p);
+      }

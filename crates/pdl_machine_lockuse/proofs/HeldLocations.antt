@@ -122,7 +122,10 @@ once_op m ph (ReserveWrite j a) hs k o = at (j == m) refl k
   where
     at : (b : Bool) → (j == m) ≡ b → (not b || is_fresh ph) ≡ true → IsOnce m (cond b (Held a) ph) (record { mem = j; var = a } ∷ hs)
     at true e i =
-        record { none = λ f. absurd (false≢true f); one = subst (λ b. cond b (suc (count_mem m hs)) (count_mem m hs) ≤ 1) (sym e) (let z = o.none i in omega (arith, z)) }
+        record {
+          none = λ f. absurd (false≢true f);
+          one = subst (λ b. cond b (suc (count_mem m hs)) (count_mem m hs) ≤ 1) (sym e) (let z = o.none i in omega (arith, z));
+        }
     at false e i = record {
       none = λ f. ap (λ b. cond b (suc (count_mem m hs)) (count_mem m hs)) e ∙ o.none f;
       one = subst (λ b. cond b (suc (count_mem m hs)) (count_mem m hs) ≤ 1) (sym e) o.one;

@@ -69,7 +69,11 @@ leads_sound p sound = record { up = λ k q env l e. (sound_flows p sound).graph.
         at true f = leb-true _ _ f
         at false f =
             absurd
-            (let i = leb-false _ _ f in let j = (sound_flows p sound).graph.jump k q (reserve_stage p m) (env, e, l) ((sound_flows p sound).trunk_reserve m) (omega (arith, i)) (omega (arith, h)) in omega (arith, h, j))
+            (let i = leb-false _ _ f in
+            let j =
+            (sound_flows p sound).graph.jump k q (reserve_stage p m) (env, e, l)
+            ((sound_flows p sound).trunk_reserve m) (omega (arith, i)) (omega (arith, h)) in
+            omega (arith, h, j))
 
     ends : (k : ℕ) (env : List ℕ) → k < length p.stages → is_none (goes_to (stage_at p k).next env) ≡ (suc k == length p.stages)
     ends k env l = at (goes_to (stage_at p k).next env) refl
@@ -77,7 +81,8 @@ leads_sound p sound = record { up = λ k q env l e. (sound_flows p sound).graph.
         at : (r : Option ℕ) → goes_to (stage_at p k).next env ≡ r → is_none r ≡ (suc k == length p.stages)
         at None e = sym (eq-eqb (suc k) (length p.stages) ((sound_flows p sound).graph.last k env l e).0)
         at (Some q) e =
-            let u = (sound_flows p sound).graph.up k q (env, e, l) in sym (ne_eqb (suc k) (length p.stages) (λ f. absurd (let a = u.0 in let b = u.1 in omega (arith, a, b, f))))
+            let u = (sound_flows p sound).graph.up k q (env, e, l) in
+            sym (ne_eqb (suc k) (length p.stages) (λ f. absurd (let a = u.0 in let b = u.1 in omega (arith, a, b, f))))
 
 -- A MEMORY WITHOUT LOCK
 
@@ -101,8 +106,13 @@ module _ (p : Pipe) (sound : Sound p) (st : State) (m : ℕ) (plain : is_plain (
       (shape_over m (phase_all m Fresh (on_way p l.env l.thread.stage)) (entries_of m l.thread.entries)
       (over_early m (onpath l.env (stages_from l.thread.stage p.stmts)) (phase_all m Fresh (on_way p l.env l.thread.stage))
       (none_back m (on_way p l.env l.thread.stage) (onpath l.env (stages_from l.thread.stage p.stmts))
-      (subst (λ xs. none_of (is_release m) xs ≡ true) ((sound_flows p sound).all_pieces l.env l.thread.stage) (sym (none_looked m (onpath l.env p.stmts)) ∙ ap (none_of (is_release m)) (sym (path_looked l.env p.stmts)) ∙ (sound.pathwise.paths l.env).plain m plain)))
-      (subst (λ ph. is_over ph ≡ true) (ap (phase_all m Fresh) ((sound_flows p sound).all_pieces l.env l.thread.stage) ∙ phase_append m (on_way p l.env l.thread.stage) (onpath l.env (stages_from l.thread.stage p.stmts)) Fresh) ((sound_flows p sound).over l.env m)))
+      (subst (λ xs. none_of (is_release m) xs ≡ true) ((sound_flows p sound).all_pieces l.env l.thread.stage)
+      (sym (none_looked m (onpath l.env p.stmts)) ∙ ap (none_of (is_release m)) (sym (path_looked l.env p.stmts))
+      ∙ (sound.pathwise.paths l.env).plain m plain)))
+      (subst (λ ph. is_over ph ≡ true)
+      (ap (phase_all m Fresh) ((sound_flows p sound).all_pieces l.env l.thread.stage)
+      ∙ phase_append m (on_way p l.env l.thread.stage) (onpath l.env (stages_from l.thread.stage p.stmts)) Fresh)
+      ((sound_flows p sound).over l.env m)))
       (s.keeps_on.shape m))
 
   pub none_pends : (ls : List Live) → Each (Seated p st) ls → pends m ls ≡ []
@@ -126,7 +136,8 @@ module _ (p : Pipe) (st : State) (bits : List Bool) where
 
 -- A STATE AND THE LIVE THREADS
 
-module _ (p : Pipe) (sound : Sound p) (strict : Strict p) (st : State) (d : Derived.State) (bits : List Bool) (ls : List Live) (sim : Sim p st d ls) (whole : Whole p st ls) where
+module _ (p : Pipe) (sound : Sound p) (strict : Strict p) (st : State) (d : Derived.State) (bits : List Bool)
+    (ls : List Live) (sim : Sim p st d ls) (whole : Whole p st ls) where
   all_known : AllKnown p (sound_flows p sound) st d bits sim.arrays ls
   all_known = known p (sound_flows p sound) st d bits ls sim
 
@@ -243,11 +254,14 @@ module _ (p : Pipe) (sound : Sound p) (strict : Strict p) (st : State) (d : Deri
     calm : has_release m (moving p st bits) ≡ false → (t : ℕ)
         → count_older t (with_release p st bits m) + bit (has_release m (moving p st bits)) ≡ count_older t (with_new p st bits m)
     calm e t =
-        let f : count_older t (with_release p st bits m) ≡ count_older t (with_new p st bits m) = ap (λ b. count_older t (cond b (but_oldest (list_two st (moving p st bits) m)) (list_two st (moving p st bits) m))) e ∙ count_filled t m (moving p st bits) (with_new p st bits m) in
+        let f : count_older t (with_release p st bits m) ≡ count_older t (with_new p st bits m) =
+        ap (λ b. count_older t (cond b (but_oldest (list_two st (moving p st bits) m)) (list_two st (moving p st bits) m))) e
+        ∙ count_filled t m (moving p st bits) (with_new p st bits m) in
         let g : bit (has_release m (moving p st bits)) ≡ 0 = ap bit e in
         omega (arith, f, g)
 
-    shifted : has_release m (moving p st bits) ≡ true → (x : Pending) (xs : List Pending) → with_reserves m (movers (lacts p st d bits ls)) (pends m ls) ≡ x ∷ xs
+    shifted : has_release m (moving p st bits) ≡ true → (x : Pending) (xs : List Pending)
+        → with_reserves m (movers (lacts p st d bits ls)) (pends m ls) ≡ x ∷ xs
         → (t : ℕ) → x.thread < t
         → count_older t (with_release p st bits m) + bit (has_release m (moving p st bits)) ≡ count_older t (with_new p st bits m)
     shifted e x xs i t low =
@@ -308,11 +322,17 @@ module _ (p : Pipe) (sound : Sound p) (strict : Strict p) (st : State) (d : Deri
 
     pub finds_all : AllActs (FindsAll p st bits m) (all_acts p st bits)
     finds_all = all_each p sound st d bits ls sim m (FindsAll p st bits m)
-        (pair_map (λ x h g. ap (count_older (suc x.live.number)) (with_new_is p sound st d bits ls sim m) ∙ h g ∙ ap length (sym (with_new_is p sound st d bits ls sim m))) (pairs ls) (all_own p sound st d bits sim.arrays m st.next ls all_known sim.seated sim.ordered sim.falls))
+        (pair_map
+        (λ x h g. ap (count_older (suc x.live.number)) (with_new_is p sound st d bits ls sim m) ∙ h g
+        ∙ ap length (sym (with_new_is p sound st d bits ls sim m)))
+        (pairs ls) (all_own p sound st d bits sim.arrays m st.next ls all_known sim.seated sim.ordered sim.falls))
 
     pub tails_kept : AllActs (KeepsTail p st bits m) (all_acts p st bits)
     tails_kept = all_each p sound st d bits ls sim m (KeepsTail p st bits m)
-        (pair_map (λ x h g. ap (count_older (suc x.live.number)) (with_new_is p sound st d bits ls sim m) ∙ h g ∙ ap (count_older (suc x.live.number)) (sym (sim.locks m))) (pairs ls) (tail_kept p sound st d bits sim.arrays m st.next ls (pends m ls) sim.ordered sim.falls))
+        (pair_map
+        (λ x h g. ap (count_older (suc x.live.number)) (with_new_is p sound st d bits ls sim m) ∙ h g
+        ∙ ap (count_older (suc x.live.number)) (sym (sim.locks m)))
+        (pairs ls) (tail_kept p sound st d bits sim.arrays m st.next ls (pends m ls) sim.ordered sim.falls))
 
     pub tails_left : AllActs (LeavesTail p st bits m) (all_acts p st bits)
     tails_left = every (all_acts p st bits)
@@ -343,12 +363,15 @@ module _ (p : Pipe) (sound : Sound p) (strict : Strict p) (st : State) (d : Deri
         (forget.has_thread a.thread.number (with_new p st bits m) ≡ true)
 
     open_all : EachPair
-        (λ x. (did p d bits x.older x.live).moves ≡ true → (v : ℕ) → Contains (deeds_of p st bits x.live).writes (record { mem = m; value = v }) → is_open x.live.number (with_new p st bits m) ≡ true)
+        (λ x. (did p d bits x.older x.live).moves ≡ true → (v : ℕ)
+        → Contains (deeds_of p st bits x.live).writes (record { mem = m; value = v })
+        → is_open x.live.number (with_new p st bits m) ≡ true)
         (pairs ls)
     open_all = pair_both (λ x k h i v c.
         ap (is_open x.live.number) (with_new_is p sound st d bits ls sim m)
         ∙ h i
-        ((used_here p sound st d bits sim.arrays x.older x.live k m).once.unfilled (contains_write m (deeds_of p st bits x.live).writes (record { mem = m; value = v }) refl c)))
+        ((used_here p sound st d bits sim.arrays x.older x.live k m).once.unfilled
+        (contains_write m (deeds_of p st bits x.live).writes (record { mem = m; value = v }) refl c)))
         (pairs ls) knowns (has_open p sound st d bits sim.arrays m ls sim.seated sim.ordered)
 
     writes_all : (v : ℕ) → AllActs (Writes v) (all_acts p st bits)
@@ -442,8 +465,13 @@ module _ (p : Pipe) (sound : Sound p) (strict : Strict p) (st : State) (d : Deri
           λ k t m h low. ap (count_older t.number) (list_is m) ∙ sym (same_count t.number (with_new p st bits m))
           ∙ at_slot p st bits (KeepsPlace p st bits m) (places p sound st d bits ls sim m) k t h low ∙ same_count t.number (lock_of st m);
       releaser = λ m h.
-          let w = written m (ap (has_release m) by.movers ∙ h) in
-          (record { thread = w.0; address = w.1.address; value = Some w.1.value }, w.1.rest, w.1.value, ap (λ ms. list_two st ms m) (sym by.movers) ∙ w.1.is, refl);
+          let w = written m (ap (has_release m) by.movers ∙ h) in (
+            record { thread = w.0; address = w.1.address; value = Some w.1.value },
+            w.1.rest,
+            w.1.value,
+            ap (λ ms. list_two st ms m) (sym by.movers) ∙ w.1.is,
+            refl,
+          );
       shifts = λ k t m h low early stands.
           let s = at_slot p st bits (ShiftsPlace p st bits m) (shifts p sound st d bits ls sim m) k t h early stands in
           let b = at_slot p st bits (KeepsPlace p st bits m) (places p sound st d bits ls sim m) k t h low in

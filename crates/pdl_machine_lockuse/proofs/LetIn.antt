@@ -124,18 +124,23 @@ module _ (p : Pipe) (st : State) (n : ℕ) where
           → all_let_in past (cond t (record x { guards = [] } ∷ onpath path xs) (onpath path xs)) ≡ true
           → list_all (is_early p) (cond t (record x { guards = [] } ∷ onpath path xs) (onpath path xs)) ≡ true
           →
-          ((c : Scan) (past : List Op) (d : Deeds) → IsAlong path (word_for st n) xs d → reads_ok p c (looked_all (onpath path xs)) ≡ true → all_new vars past (onpath path xs) ≡ true → all_let_in past (onpath path xs) ≡ true
+          ((c : Scan) (past : List Op) (d : Deeds) → IsAlong path (word_for st n) xs d
+          → reads_ok p c (looked_all (onpath path xs)) ≡ true → all_new vars past (onpath path xs) ≡ true
+          → all_let_in past (onpath path xs) ≡ true
           → list_all (is_early p) (onpath path xs) ≡ true → Covers c.held d.held → RightIf p st n s c d → LetIf s past d → AreLetIn p st n xs d)
           → Goal b
       at true false z q h k w e go = absurd (cc z)
       at false true z q h k w e go = absurd (cc z)
       at false false z q h k w e go = ((λ b. absurd (false≢true b)), go c past d q h k w e f r l)
       at true true z q h k w e go =
-          let ok : op_ok p s c (answered_op x.op) ≡ true = subst (λ j. op_ok p j c (answered_op x.op) ≡ true) i.0 (and_right (no_guards []) _ (and_left _ _ h)) in
+          let ok : op_ok p s c (answered_op x.op) ≡ true =
+          subst (λ j. op_ok p j c (answered_op x.op) ≡ true) i.0 (and_right (no_guards []) _ (and_left _ _ h)) in
           let early : in_time p s x.op ≡ true = subst (λ j. in_time p j x.op ≡ true) i.0 (and_left (is_early p x) _ e) in
-          let new : is_new vars past (bound_by x.op) ≡ true = and_left (is_new vars past (bound_by x.op)) _ (and_left (is_new vars past (bound_by x.op) && not (uses_own x.op)) _ k) in (
+          let new : is_new vars past (bound_by x.op) ≡ true =
+          and_left (is_new vars past (bound_by x.op)) _ (and_left (is_new vars past (bound_by x.op) && not (uses_own x.op)) _ k) in (
             (λ a b. let_op s c past x.op d ok (and_left _ _ w) early r l b),
-            go (scan_after (answered_op x.op) c) (x.op ∷ past) (deeds_after (word_for st n) x.op d) q (and_right (no_guards [] && op_ok p x.stage c (answered_op x.op)) _ h)
+            go (scan_after (answered_op x.op) c) (x.op ∷ past)
+                (deeds_after (word_for st n) x.op d) q (and_right (no_guards [] && op_ok p x.stage c (answered_op x.op)) _ h)
                 (and_right (is_new vars past (bound_by x.op) && not (uses_own x.op)) _ k)
                 (and_right (is_let_in x.op past) _ w) (and_right (is_early p x) _ e)
                 (subst (Covers (scan_after (answered_op x.op) c).held) (sym (held_does (word_for st n) x.op d)) (covers_op c x.op d.held f))

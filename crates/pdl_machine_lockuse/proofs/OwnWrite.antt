@@ -55,7 +55,8 @@ put_none : (m n : ℕ) (ws : List Written) (xs : List Pending) → writes_to m w
 put_none m n [] xs h = refl
 put_none m n (w ∷ ws) xs h = at (w.mem == m) h (put_none m n ws xs)
   where
-    at : (b : Bool) → (b || writes_to m ws) ≡ false → (writes_to m ws ≡ false → with_writes_of m n ws xs ≡ xs) → with_writes_of m n ws (cond b (with_value_of n w.value xs) xs) ≡ xs
+    at : (b : Bool) → (b || writes_to m ws) ≡ false → (writes_to m ws ≡ false → with_writes_of m n ws xs ≡ xs)
+        → with_writes_of m n ws (cond b (with_value_of n w.value xs) xs) ≡ xs
     at true i f = absurd (cc i)
     at false i f = f i
 
@@ -213,7 +214,9 @@ module _ (o : Around) (read : ℕ → ℕ → ℕ) (block : Blocked → Bool) (r
       by (inl q) = record { once = h.once; gives = λ e. absurd (false≢true (sym q.2 ∙ e)); done = λ e. refl }
       by (inr q) = record { once = h.once; gives = λ e. (q.0, q.1, q.3); done = λ e. refl }
 
-  pub used_all : (path : List ℕ) (xs : List Stmt) (ph : Phase) (d : Deeds) (es : List Entry) (cs : List Commit) → places es ≡ d.held → AllFit o read block room free xs → IsAlong path read xs d → uses_ok m ph (onpath path xs) ≡ true → At ph d (W d es cs) → Wrote ph d
+  pub used_all : (path : List ℕ) (xs : List Stmt) (ph : Phase) (d : Deeds) (es : List Entry) (cs : List Commit)
+      → places es ≡ d.held → AllFit o read block room free xs → IsAlong path read xs d
+      → uses_ok m ph (onpath path xs) ≡ true → At ph d (W d es cs) → Wrote ph d
       → Used m n start (deeds_after_all read xs d) (phase_all m ph (onpath path xs))
   used_all path [] ph d es cs h i f k g w = in_end ph d (W d es cs) g w
   used_all path (x ∷ xs) ph d es cs h i f k g w =
@@ -222,7 +225,9 @@ module _ (o : Around) (read : ℕ → ℕ → ℕ) (block : Blocked → Bool) (r
       at : (b c : Bool) → b ≡ c → IsAlong path read xs (cond b (deeds_after read x.op d) d)
           → uses_ok m ph (cond c (record x { guards = [] } ∷ onpath path xs) (onpath path xs)) ≡ true
           →
-          ((ph : Phase) (d : Deeds) (es : List Entry) (cs : List Commit) → places es ≡ d.held → IsAlong path read xs d → uses_ok m ph (onpath path xs) ≡ true → At ph d (W d es cs) → Wrote ph d → Used m n start (deeds_after_all read xs d) (phase_all m ph (onpath path xs)))
+          ((ph : Phase) (d : Deeds) (es : List Entry) (cs : List Commit) → places es ≡ d.held → IsAlong path read xs d
+          → uses_ok m ph (onpath path xs) ≡ true → At ph d (W d es cs) → Wrote ph d
+          → Used m n start (deeds_after_all read xs d) (phase_all m ph (onpath path xs)))
           → Used m n start (deeds_after_all read xs (cond b (deeds_after read x.op d) d))
           (phase_all m ph (cond c (record x { guards = [] } ∷ onpath path xs) (onpath path xs)))
       at true false e f k go = absurd (cc e)
@@ -232,7 +237,8 @@ module _ (o : Around) (read : ℕ → ℕ → ℕ) (block : Blocked → Bool) (r
           let t = told_step o read block room free true x.op d es cs h i.0 in
           let ok : use_ok m ph x.op ≡ true = and_left (use_ok m ph x.op) (uses_ok m (next_phase m ph x.op) (onpath path xs)) k in
           let w' : Work = Derived.work_after o x.op (W d es cs) in
-          let g' : At (next_phase m ph x.op) (deeds_after read x.op d) (W (deeds_after read x.op d) w'.entries w'.commits) = subst (λ v. At (next_phase m ph x.op) (deeds_after read x.op d) v) t.is (step_op x.op ph d es cs h ok g) in
+          let g' : At (next_phase m ph x.op) (deeds_after read x.op d) (W (deeds_after read x.op d) w'.entries w'.commits) =
+          subst (λ v. At (next_phase m ph x.op) (deeds_after read x.op d) v) t.is (step_op x.op ph d es cs h ok g) in
           go (next_phase m ph x.op) (deeds_after read x.op d) w'.entries w'.commits t.held f
           (and_right (use_ok m ph x.op) (uses_ok m (next_phase m ph x.op) (onpath path xs)) k) g' (wrote_next x.op ph d es cs ok g w)
 
@@ -263,7 +269,8 @@ module _ (p : Pipe) (k : ℕ) (read : ℕ → ℕ → ℕ) (path : List ℕ) whe
       at : (b c : Bool) → b ≡ c → IsAlong path read xs (cond b (deeds_after read x.op d) d)
           → list_all (is_early p) (cond c (record x { guards = [] } ∷ onpath path xs) (onpath path xs)) ≡ true
           →
-          ((d : Deeds) → IsAlong path read xs d → list_all (is_early p) (onpath path xs) ≡ true → list_all is_timely d.writes ≡ true → list_all is_timely (deeds_after_all read xs d).writes ≡ true)
+          ((d : Deeds) → IsAlong path read xs d → list_all (is_early p) (onpath path xs) ≡ true
+          → list_all is_timely d.writes ≡ true → list_all is_timely (deeds_after_all read xs d).writes ≡ true)
           → list_all is_timely (deeds_after_all read xs (cond b (deeds_after read x.op d) d)).writes ≡ true
       at true false q f e go = absurd (false≢true (sym q))
       at false true q f e go = absurd (false≢true q)
@@ -281,7 +288,9 @@ module _ (p : Pipe) (k : ℕ) (read : ℕ → ℕ → ℕ) (path : List ℕ) whe
 
 -- A LIVE THREAD
 
-module _ (p : Pipe) (sound : Sound p) (st : State) (d : Derived.State) (bits : List Bool) (arrays : st.arrays ≡ d.arrays) (older : List Live) (l : Live) (k : Known p (sound_flows p sound) st d bits arrays older l) where
+module _ (p : Pipe) (sound : Sound p) (st : State) (d : Derived.State) (bits : List Bool)
+    (arrays : st.arrays ≡ d.arrays) (older : List Live) (l : Live)
+    (k : Known p (sound_flows p sound) st d bits arrays older l) where
   abbrev way : List ℕ
   way = path p sound st d bits arrays older l k
 
@@ -300,12 +309,16 @@ module _ (p : Pipe) (sound : Sound p) (st : State) (d : Derived.State) (bits : L
   did_is : deeds_of p st bits l ≡ deeds_after_all (word_for st l.number) (in_stage l.thread.stage p.stmts) (begun p sound st d bits arrays older l k)
   did_is = ap (deeds_after_all (word_for st l.number) (in_stage l.thread.stage p.stmts)) (begun_is p sound st d bits arrays older l k)
 
-  pub used_here : (m : ℕ) → Used m l.number (pend m l.number l.thread.entries) (deeds_of p st bits l) (phase_all m (phase_all m Fresh (passed p sound st d bits arrays older l k)) (mine p sound st d bits arrays older l k))
+  pub used_here : (m : ℕ)
+      → Used m l.number (pend m l.number l.thread.entries) (deeds_of p st bits l)
+      (phase_all m (phase_all m Fresh (passed p sound st d bits arrays older l k)) (mine p sound st d bits arrays older l k))
   used_here m =
       subst
       (λ e. Used m l.number (pend m l.number l.thread.entries) e (phase_all m (phase_all m Fresh done) mine_here))
       (sym did_is)
-      (used_all o (word_for st l.number) (λ b. block_ready p st l.number b) (λ r. has_room (mem_at p r.mem).lock (length (lock_of st r.mem))) (λ q. port_free p d bits (dacts p d bits older) q.mem) m l.number (pend m l.number l.thread.entries)
+      (used_all o (word_for st l.number) (λ b. block_ready p st l.number b)
+      (λ r. has_room (mem_at p r.mem).lock (length (lock_of st r.mem)))
+      (λ q. port_free p d bits (dacts p d bits older) q.mem) m l.number (pend m l.number l.thread.entries)
       way (in_stage l.thread.stage p.stmts) (phase_all m Fresh done)
       (begun p sound st d bits arrays older l k) l.thread.entries []
       k.seated.keeps_on.held (fit_all p (sound_flows p sound) st d bits arrays older l k) (along_here p sound st d bits arrays older l k)
@@ -318,7 +331,9 @@ module _ (p : Pipe) (sound : Sound p) (st : State) (d : Derived.State) (bits : L
   writes_early strict m w =
       timely_to p l.thread.stage (word_for st l.number) way m (deeds_of p st bits l).writes
       (subst (λ (e : Deeds). list_all (λ (w : Written). nat_le l.thread.stage (commit_stage p w.mem)) e.writes ≡ true) (sym did_is)
-      (timely p l.thread.stage (word_for st l.number) way (in_stage l.thread.stage p.stmts) (begun p sound st d bits arrays older l k) (in_stage_all l.thread.stage p.stmts) (along_here p sound st d bits arrays older l k)
+      (timely p l.thread.stage (word_for st l.number) way (in_stage l.thread.stage p.stmts)
+      (begun p sound st d bits arrays older l k) (in_stage_all l.thread.stage p.stmts)
+      (along_here p sound st d bits arrays older l k)
       (mine_early p sound st d bits arrays older l k strict) refl)) w
 
   -- what it holds as it leaves for a stage is told by the values with which it leaves
@@ -335,7 +350,9 @@ module _ (p : Pipe) (sound : Sound p) (st : State) (d : Derived.State) (bits : L
           → (deeds_of p st bits l).held ≡ held_before q (deeds_of p st bits l).env p.stmts []
       at None f g = absurd (false≢true g)
       at (Some r) f g =
-          let next = keeps_next p (sound_flows p sound) l.env (now_of p d bits l) keeps o (word_for st l.number) (λ b. block_ready p st l.number b) (λ r. has_room (mem_at p r.mem).lock (length (lock_of st r.mem)))
+          let next =
+          keeps_next p (sound_flows p sound) l.env (now_of p d bits l) keeps o (word_for st l.number)
+          (λ b. block_ready p st l.number b) (λ r. has_room (mem_at p r.mem).lock (length (lock_of st r.mem)))
           (λ q. port_free p d bits (dacts p d bits older) q.mem) (fit_all p (sound_flows p sound) st d bits arrays older l k) r f in
           sym (told_here p (sound_flows p sound) st d bits arrays older l k).held ∙ next.held
           ∙ ap₂ (λ s env. held_before s env p.stmts []) (eqb-true r q g) env_is

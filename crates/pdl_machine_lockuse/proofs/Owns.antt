@@ -77,10 +77,14 @@ module _ (p : Pipe) (sound : Sound p) (st : State) (d : Derived.State) (bits : L
       empty : part p (sound_flows p sound) st d bits arrays m l ≡ []
       empty =
           sym
-          (w.after ∙ ap (λ b. cond b (but_oldest (part p (sound_flows p sound) st d bits arrays m l)) (part p (sound_flows p sound) st d bits arrays m l)) keeps)
+          (w.after
+          ∙ ap (λ b. cond b (but_oldest (part p (sound_flows p sound) st d bits arrays m l)) (part p (sound_flows p sound) st d bits arrays m l)) keeps)
           ∙ pend_own m l.number (work_of_live p d bits ls l).entries
           ∙ ap (pend m l.number)
-          (late_here p (sound_flows p sound) st d bits arrays ls l k.0 m (let i = c.0 in let j = next_up p (sound_flows p sound) st d bits arrays l.thread.stage (work_of_live p d bits ls l).env k.0.seated.keeps_on.inside in omega (arith, i, j)))
+          (late_here p (sound_flows p sound) st d bits arrays ls l k.0 m
+          (let i = c.0 in
+          let j = next_up p (sound_flows p sound) st d bits arrays l.thread.stage (work_of_live p d bits ls l).env k.0.seated.keeps_on.inside in
+          omega (arith, i, j)))
 
       at : (b : Bool) → cond b (part p (sound_flows p sound) st d bits arrays m l) (pend m l.number l.thread.entries) ≡ []
       at true = empty
@@ -117,7 +121,8 @@ module _ (p : Pipe) (sound : Sound p) (st : State) (d : Derived.State) (bits : L
   -- a pending write of a thread that moves, or one that it reserves, is there with those that are appended
   has_any : (test : Pending → Bool) (ls : List Live) → Each (Seated p st) ls → Ordered p ls
       → EachPair
-      (λ x. (did p d bits x.older x.live).moves ≡ true → list_any test (pend m x.live.number x.live.thread.entries ++ new_entries m x.live.number (deeds_of p st bits x.live).reserves) ≡ true
+      (λ x. (did p d bits x.older x.live).moves ≡ true
+      → list_any test (pend m x.live.number x.live.thread.entries ++ new_entries m x.live.number (deeds_of p st bits x.live).reserves) ≡ true
       → list_any test (with_reserves m (movers (lacts p st d bits ls)) (pends m ls)) ≡ true) (pairs ls)
   has_any test [] s o = tt
   has_any test (l ∷ ls) s o =
@@ -125,9 +130,12 @@ module _ (p : Pipe) (sound : Sound p) (st : State) (d : Derived.State) (bits : L
     where
       more : (b : Bool) → list_any test (with_reserves m (movers (lacts p st d bits ls)) (pends m ls)) ≡ true
           → list_any test
-          (with_reserves m (cond b (lact p st d bits ls l ∷ movers (lacts p st d bits ls)) (movers (lacts p st d bits ls))) (pends m ls ++ pend m l.number l.thread.entries)) ≡ true
+          (with_reserves m (cond b (lact p st d bits ls l ∷ movers (lacts p st d bits ls)) (movers (lacts p st d bits ls)))
+          (pends m ls ++ pend m l.number l.thread.entries))
+          ≡ true
       more b h =
-          let t = appended_more p (sound_flows p sound) st d bits arrays m ls l s.0 o.0 b in ap (list_any test) t.1 ∙ any_front test (with_reserves m (movers (lacts p st d bits ls)) (pends m ls)) t.0 h
+          let t = appended_more p (sound_flows p sound) st d bits arrays m ls l s.0 o.0 b in
+          ap (list_any test) t.1 ∙ any_front test (with_reserves m (movers (lacts p st d bits ls)) (pends m ls)) t.0 h
 
       split : (xs ys zs : List Pending) → list_any test (xs ++ ys) ≡ true → (list_any test xs ≡ true → list_any test zs ≡ true)
           → list_any test (zs ++ ys) ≡ true
@@ -142,25 +150,33 @@ module _ (p : Pipe) (sound : Sound p) (st : State) (d : Derived.State) (bits : L
 
       mine : (b : Bool) → b ≡ true → list_any test (pend m l.number l.thread.entries ++ new_entries m l.number (deeds_of p st bits l).reserves) ≡ true
           → list_any test
-          (with_reserves m (cond b (lact p st d bits ls l ∷ movers (lacts p st d bits ls)) (movers (lacts p st d bits ls))) (pends m ls ++ pend m l.number l.thread.entries)) ≡ true
+          (with_reserves m (cond b (lact p st d bits ls l ∷ movers (lacts p st d bits ls)) (movers (lacts p st d bits ls)))
+          (pends m ls ++ pend m l.number l.thread.entries))
+          ≡ true
       mine false i h = absurd (false≢true i)
       mine true i h =
           split (pend m l.number l.thread.entries) (new_entries m l.number (deeds_of p st bits l).reserves)
           (with_reserves m (movers (lacts p st d bits ls)) (pends m ls ++ pend m l.number l.thread.entries)) h
-          (λ g. any_appended test m (movers (lacts p st d bits ls)) (pends m ls ++ pend m l.number l.thread.entries) (any_append test (pends m ls) (pend m l.number l.thread.entries) g))
+          (λ g. any_appended test m (movers (lacts p st d bits ls)) (pends m ls ++ pend m l.number l.thread.entries)
+          (any_append test (pends m ls) (pend m l.number l.thread.entries) g))
 
   pub has_open : (ls : List Live) → Each (Seated p st) ls → Ordered p ls
       → EachPair
-      (λ x. (did p d bits x.older x.live).moves ≡ true → is_open x.live.number (pend m x.live.number x.live.thread.entries ++ new_entries m x.live.number (deeds_of p st bits x.live).reserves) ≡ true
+      (λ x. (did p d bits x.older x.live).moves ≡ true
+      → is_open x.live.number (pend m x.live.number x.live.thread.entries ++ new_entries m x.live.number (deeds_of p st bits x.live).reserves) ≡ true
       → is_open x.live.number (with_reserves m (movers (lacts p st d bits ls)) (pends m ls)) ≡ true) (pairs ls)
   has_open ls s o = every (pairs ls) (λ n. has_any (λ (e : Pending). (e.thread == n) && is_none e.value) ls s o)
     where
       every : (xs : List Pair)
           →
-          ((n : ℕ) → EachPair (λ x. (did p d bits x.older x.live).moves ≡ true → is_open n (pend m x.live.number x.live.thread.entries ++ new_entries m x.live.number (deeds_of p st bits x.live).reserves) ≡ true
+          ((n : ℕ)
+          → EachPair
+          (λ x. (did p d bits x.older x.live).moves ≡ true
+          → is_open n (pend m x.live.number x.live.thread.entries ++ new_entries m x.live.number (deeds_of p st bits x.live).reserves) ≡ true
           → is_open n (with_reserves m (movers (lacts p st d bits ls)) (pends m ls)) ≡ true) xs)
           → EachPair
-          (λ x. (did p d bits x.older x.live).moves ≡ true → is_open x.live.number (pend m x.live.number x.live.thread.entries ++ new_entries m x.live.number (deeds_of p st bits x.live).reserves) ≡ true
+          (λ x. (did p d bits x.older x.live).moves ≡ true
+          → is_open x.live.number (pend m x.live.number x.live.thread.entries ++ new_entries m x.live.number (deeds_of p st bits x.live).reserves) ≡ true
           → is_open x.live.number (with_reserves m (movers (lacts p st d bits ls)) (pends m ls)) ≡ true) xs
       every [] f = tt
       every (x ∷ xs) f = ((f x.live.number).0, every xs (λ n. (f n).1))

@@ -75,7 +75,8 @@ none_release m a (x ∷ xs) h = ap₂ (λ b c. b || c) (one x.op (and_left _ _ h
     one (Release n b) k = at (n == m) (b == a) k
     one _ k = refl
 
-module _ (p q : Pipe) (same : (m : ℕ) → commit_stage q m ≡ commit_stage p m) (s : ℕ) (low : s < length p.stages) (plain : (m : ℕ) → is_plain (mem_at q m).lock ≡ true → commit_stage p m ≡ length p.stages) where
+module _ (p q : Pipe) (same : (m : ℕ) → commit_stage q m ≡ commit_stage p m) (s : ℕ) (low : s < length p.stages)
+    (plain : (m : ℕ) → is_plain (mem_at q m).lock ≡ true → commit_stage p m ≡ length p.stages) where
   read_early : (m : ℕ) (o : Bool) → (is_plain (mem_at q m).lock || (o && nat_le s (commit_stage q m))) ≡ true → nat_le s (commit_stage p m) ≡ true
   read_early m o h = at (is_plain (mem_at q m).lock) refl h
     where
@@ -113,16 +114,24 @@ module _ (p q : Pipe) (same : (m : ℕ) → commit_stage q m ≡ commit_stage p 
   early_all c ph (x ∷ xs) rest i ok go r over =
       let behind : (m : ℕ) → commit_stage p m < s → none_of (is_release m) (xs ++ rest) ≡ true = λ m j. and_right (not (is_release m x.op)) _ (r m j) in
       ap₂ (λ a b. a && b)
-      (ap (λ k. in_time p k x.op) i.0 ∙ read_later x.op (one c x.op (xs ++ rest) (subst (λ k. op_ok q k c (answered_op x.op) ≡ true) i.0 (and_right (no_guards x.guards) _ (and_left _ _ ok))) (and_left _ _ go) behind
+      (ap (λ k. in_time p k x.op) i.0
+      ∙ read_later x.op
+      (one c x.op (xs ++ rest)
+      (subst (λ k. op_ok q k c (answered_op x.op) ≡ true) i.0 (and_right (no_guards x.guards) _ (and_left _ _ ok)))
+      (and_left _ _ go) behind
       (λ m a e w j. false≢true (left_open m a e w ∙ over_early m (xs ++ rest) (next_phase m (ph m) x.op) (behind m j) (over m)))))
-      (early_all (scan_after (answered_op x.op) c) (λ m. next_phase m (ph m) x.op) xs rest i.1 (and_right (no_guards x.guards && op_ok q x.stage c (answered_op x.op)) _ ok) (and_right (lets_go x.op (xs ++ rest)) _ go) behind over)
+      (early_all (scan_after (answered_op x.op) c)
+      (λ m. next_phase m (ph m) x.op) xs rest i.1 (and_right (no_guards x.guards && op_ok q x.stage c (answered_op x.op)) _ ok)
+      (and_right (lets_go x.op (xs ++ rest)) _ go) behind over)
     where
       left_open : (m a : ℕ) (e : Expr) → x.op ≡ Write m a e → false ≡ is_over (next_phase m (ph m) x.op)
       left_open m a e w = sym (ap (λ o. is_over (next_phase m (ph m) o)) w ∙ ap (λ b. is_over (cond b (Written a) (ph m))) (eq-eqb m m refl))
 
 -- A THREAD IN ITS STAGE
 
-module _ (p : Pipe) (sound : Sound p) (st : State) (d : Derived.State) (bits : List Bool) (arrays : st.arrays ≡ d.arrays) (older : List Live) (l : Live) (k : Known p (sound_flows p sound) st d bits arrays older l) where
+module _ (p : Pipe) (sound : Sound p) (st : State) (d : Derived.State) (bits : List Bool)
+    (arrays : st.arrays ≡ d.arrays) (older : List Live) (l : Live)
+    (k : Known p (sound_flows p sound) st d bits arrays older l) where
   abbrev pub path : List ℕ
   path = (work_of_live p d bits older l).env
 
@@ -157,7 +166,9 @@ module _ (p : Pipe) (sound : Sound p) (st : State) (d : Derived.State) (bits : L
   pub mine_reads : reads_ok (along path (at_once p)) (scan_after_all (looked_all passed) no_scan) (looked_all mine) ≡ true
   mine_reads =
       reads_back (along path (at_once p)) no_scan (looked_all passed) (looked_all mine)
-      (subst (λ xs. reads_ok (along path (at_once p)) no_scan xs ≡ true) (way_looked p path next ∙ ap looked_all way_is ∙ looked_append passed mine) ((sound.pathwise.paths path).reads next))
+      (subst (λ xs. reads_ok (along path (at_once p)) no_scan xs ≡ true)
+      (way_looked p path next ∙ ap looked_all way_is ∙ looked_append passed mine)
+      ((sound.pathwise.paths path).reads next))
 
   pub mine_uses : (m : ℕ) → uses_ok m (phase_all m Fresh passed) mine ≡ true
   mine_uses m =
@@ -188,8 +199,10 @@ module _ (p : Pipe) (sound : Sound p) (st : State) (d : Derived.State) (bits : L
   released_before m h =
       let up : l.thread.stage < next = next_up p (sound_flows p sound) st d bits arrays l.thread.stage path k.seated.keeps_on.inside in
       none_both (is_release m) mine rest
-      (none_onpath (is_release m) path (in_stage l.thread.stage p.stmts) (none_in_stage (is_release m) (commit_stage p m) l.thread.stage p.stmts ((sound_flows p sound).releases m) (λ e. absurd (omega (arith, h, e)))))
-      (none_onpath (is_release m) path (stages_from next p.stmts) (none_from (is_release m) (commit_stage p m) next p.stmts ((sound_flows p sound).releases m) (omega (arith, h, up))))
+      (none_onpath (is_release m) path (in_stage l.thread.stage p.stmts)
+      (none_in_stage (is_release m) (commit_stage p m) l.thread.stage p.stmts ((sound_flows p sound).releases m) (λ e. absurd (omega (arith, h, e)))))
+      (none_onpath (is_release m) path (stages_from next p.stmts)
+      (none_from (is_release m) (commit_stage p m) next p.stmts ((sound_flows p sound).releases m) (omega (arith, h, up))))
 
   over_here : (m : ℕ) → is_over (phase_all m (phase_all m Fresh passed) (mine ++ rest)) ≡ true
   over_here m =

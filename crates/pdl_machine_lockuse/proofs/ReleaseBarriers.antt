@@ -68,7 +68,9 @@ any_append (x ∷ xs) ys h k = at (Sound.is_barrier x.op) h (λ i. any_append xs
     at true e f = absurd (cc e)
     at false e f = f e
 
-module _ (p : Pipe) (sound : Sound p) (st : State) (d : Derived.State) (bits : List Bool) (arrays : st.arrays ≡ d.arrays) (older : List Live) (l : Live) (k : Known p (sound_flows p sound) st d bits arrays older l) where
+module _ (p : Pipe) (sound : Sound p) (st : State) (d : Derived.State) (bits : List Bool)
+    (arrays : st.arrays ≡ d.arrays) (older : List Live) (l : Live)
+    (k : Known p (sound_flows p sound) st d bits arrays older l) where
   abbrev route : List ℕ
   route = path p sound st d bits arrays older l k
 
@@ -100,7 +102,8 @@ module _ (p : Pipe) (sound : Sound p) (st : State) (d : Derived.State) (bits : L
       (subst (λ xs. phases_ok m Fresh xs ≡ true) looked_way (TurnPath.ok_before (along q (at_once p)) (sound.pathwise.paths q) (λ k a. 0) [] n m))
       (subst (λ o. all_sure o false no_scan (looked_all way) ≡ true) (verify_looked p.stmts ∙ verifies)
       (subst (λ xs. all_sure (verify_stage (looked_all p.stmts)) false no_scan xs ≡ true) looked_way
-      (sure_first (verify_stage (looked_all p.stmts)) false no_scan (Rattle.pdl_theory_derived.specs.Alone.before n (onpath q (looked_all p.stmts))) (stages_from n (onpath q (looked_all p.stmts)))
+      (sure_first (verify_stage (looked_all p.stmts)) false no_scan (Rattle.pdl_theory_derived.specs.Alone.before n (onpath q (looked_all p.stmts)))
+      (stages_from n (onpath q (looked_all p.stmts)))
       (subst (λ xs. all_sure (verify_stage (looked_all p.stmts)) false no_scan xs ≡ true) ((sound.pathwise.paths q).ordered n) (sound.pathwise.sure q)))))
       (unbarred way clear)
       (stages_looked (λ s. nat_lt s v ≡ true) way
@@ -122,13 +125,17 @@ module _ (p : Pipe) (sound : Sound p) (st : State) (d : Derived.State) (bits : L
       clear =
           subst (λ ts. Derived.barrier_clear (Some v) l.thread.stage ts ≡ true) (befores_are p d bits older)
           (subst (λ r. Derived.barrier_clear r l.thread.stage (befores (dacts p d bits older)) ≡ true) e
-          (clear_all (work_of_live p d bits older l).env o (in_stage l.thread.stage p.stmts) (start_of (now_of p d bits l)) (fixed_here p (sound_flows p sound) l.env (now_of p d bits l) keeps o) b ready))
+          (clear_all (work_of_live p d bits older l).env o (in_stage l.thread.stage p.stmts)
+          (start_of (now_of p d bits l))
+          (fixed_here p (sound_flows p sound) l.env (now_of p d bits l) keeps o) b ready))
 
       each : (js : List Live) → Each (λ j. l.thread.stage < j.thread.stage) js → Derived.barrier_clear (Some v) l.thread.stage (threads_of js) ≡ true
           → Each (λ j. v < j.thread.stage) js
       each [] s c = tt
-      each (j ∷ js) s c =
-          (one (nat_le j.thread.stage l.thread.stage) refl (and_left _ _ c), each js s.1 (and_right (nat_le j.thread.stage l.thread.stage || nat_lt v j.thread.stage) _ c))
+      each (j ∷ js) s c = (
+        one (nat_le j.thread.stage l.thread.stage) refl (and_left _ _ c),
+        each js s.1 (and_right (nat_le j.thread.stage l.thread.stage || nat_lt v j.thread.stage) _ c),
+      )
         where
           one : (t : Bool) → nat_le j.thread.stage l.thread.stage ≡ t → (t || nat_lt v j.thread.stage) ≡ true → v < j.thread.stage
           one true i u = absurd (let w = leb-true _ _ i in let y = s.0 in omega (arith, w, y))

@@ -36,7 +36,8 @@ high_from : (s : ℕ) (xs : List Stmt) → AllStmts (λ z. s ≤ z.stage) (stage
 high_from s [] = tt
 high_from s (x ∷ xs) = at (nat_le s x.stage) refl (high_from s xs)
   where
-    at : (b : Bool) → nat_le s x.stage ≡ b → AllStmts (λ z. s ≤ z.stage) (stages_from s xs) → AllStmts (λ z. s ≤ z.stage) (cond b (x ∷ stages_from s xs) (stages_from s xs))
+    at : (b : Bool) → nat_le s x.stage ≡ b → AllStmts (λ z. s ≤ z.stage) (stages_from s xs)
+        → AllStmts (λ z. s ≤ z.stage) (cond b (x ∷ stages_from s xs) (stages_from s xs))
     at true e r = (leb-true _ _ e, r)
     at false e r = r
 
@@ -70,7 +71,9 @@ module _ (x : Stmt) (xs : List Stmt) (split : Split (x ∷ xs)) where
       here : x ∷ xs ≡ before x.stage xs ++ x ∷ stages_from x.stage xs
       here =
           split x.stage
-          ∙ ap₂ (λ b c. cond b (record x { op = answered_op x.op } ∷ before x.stage xs) (before x.stage xs) ++ cond c (x ∷ stages_from x.stage xs) (stages_from x.stage xs))
+          ∙ ap₂
+          (λ b c. cond b (record x { op = answered_op x.op } ∷ before x.stage xs) (before x.stage xs)
+          ++ cond c (x ∷ stages_from x.stage xs) (stages_from x.stage xs))
           (le-ltb x.stage x.stage (le_refl x.stage)) (le-leb x.stage x.stage (le_refl x.stage))
 
       at : (l : List Stmt) → before x.stage xs ≡ l → AllStmts (λ z. z.stage < x.stage) l → AllStmts (λ z. x.stage ≤ z.stage) xs
@@ -85,7 +88,11 @@ module _ (x : Stmt) (xs : List Stmt) (split : Split (x ∷ xs)) where
       at : (b : Bool) → nat_lt x.stage s ≡ b → xs ≡ before s xs ++ stages_from s xs
       at true e =
           let i = ltb-true _ _ e in
-          tail_is (split s ∙ ap₂ (λ b c. cond b (record x { op = answered_op x.op } ∷ before s xs) (before s xs) ++ cond c (x ∷ stages_from s xs) (stages_from s xs)) e (far i))
+          tail_is
+          (split s
+          ∙ ap₂
+          (λ b c. cond b (record x { op = answered_op x.op } ∷ before s xs) (before s xs) ++ cond c (x ∷ stages_from s xs) (stages_from s xs)) e
+          (far i))
         where
           far : x.stage < s → nat_le s x.stage ≡ false
           far i = go (nat_le s x.stage) refl
@@ -138,12 +145,17 @@ module _ (p : Pipe) (sound : Sound p) (path : List ℕ) where
       → list_all (λ (x : Stmt). in_time p x.stage (answered_op x.op)) xs ≡ true
   all_early c ph [] ok go r at over inside = refl
   all_early c ph (x ∷ xs) ok go r at over inside =
-      let rest : (m : ℕ) → all_at (is_release m) (commit_stage p m) xs ≡ true = λ m. and_right (not (is_release m x.op) || (x.stage == commit_stage p m)) _ (at m) in
-      let late : (m : ℕ) → commit_stage p m < x.stage → none_of (is_release m) xs ≡ true = λ m low. none_late m (commit_stage p m) x.stage xs (rest m) low r.0 in
+      let rest : (m : ℕ) → all_at (is_release m) (commit_stage p m) xs ≡ true =
+      λ m. and_right (not (is_release m x.op) || (x.stage == commit_stage p m)) _ (at m) in
+      let late : (m : ℕ) → commit_stage p m < x.stage → none_of (is_release m) xs ≡ true =
+      λ m low. none_late m (commit_stage p m) x.stage xs (rest m) low r.0 in
       ap₂ (λ a b. a && b)
-      (one p (along path (at_once p)) (λ m. refl) x.stage (ltb-true _ _ (and_left _ _ inside)) plain_to c x.op xs (and_right (no_guards x.guards) _ (and_left _ _ ok)) (and_left _ _ go) late
+      (one p (along path (at_once p))
+      (λ m. refl) x.stage (ltb-true _ _ (and_left _ _ inside)) plain_to c x.op xs (and_right (no_guards x.guards) _ (and_left _ _ ok))
+      (and_left _ _ go) late
       (λ m a e w low. false≢true (left_open m a e w ∙ over_early m xs (next_phase m (ph m) x.op) (late m low) (over m))))
-      (all_early (scan_after (answered_op x.op) c) (λ m. next_phase m (ph m) x.op) xs (and_right (no_guards x.guards && op_ok (along path (at_once p)) x.stage c (answered_op x.op)) _ ok)
+      (all_early (scan_after (answered_op x.op) c)
+      (λ m. next_phase m (ph m) x.op) xs (and_right (no_guards x.guards && op_ok (along path (at_once p)) x.stage c (answered_op x.op)) _ ok)
       (and_right (lets_go x.op xs) _ go) r.1 rest over (and_right (nat_lt x.stage (length p.stages)) _ inside))
     where
       left_open : (m a : ℕ) (e : Expr) → x.op ≡ Write m a e → false ≡ is_over (next_phase m (ph m) x.op)

@@ -44,7 +44,8 @@ module _ (p : Pipe) (sound : Sound p) (strict : Strict p) (image : Arrays) (befo
         count_new (suc t.number) m ∙ at_slot p now bits (KeepsTail p now bits m) (kept_here p sound strict image before bits m) k t h low
         ∙ same_count (suc t.number) (lock_of now m);
     shifts = λ k t m v h e low.
-        ap₂ (λ x y. x + y) (count_three (suc t.number) m) (ap (λ ms. Words.bit (has_release m ms)) (sym movers) ∙ sym (same_bit (has_release m (moving p now bits))))
+        ap₂ (λ x y. x + y) (count_three (suc t.number) m)
+        (ap (λ ms. Words.bit (has_release m ms)) (sym movers) ∙ sym (same_bit (has_release m (moving p now bits))))
         ∙ at_slot p now bits (ShiftsTail p now bits m) (tails_here p sound strict image before bits m) k t h v e low ∙ sym (count_new (suc t.number) m);
     left = λ m n h.
         let sq = squasher (Slots.moving p now bits) in

@@ -112,7 +112,8 @@ module _ (p : Pipe) (st : State) (n : ℕ) where
     where
       Fine : Bool → Type 0
       Fine b =
-          (b ≡ true → locks_ready p st n d ≡ true → (is_early p x ≡ true) × IsOpFine p st n x.op d) × AreFine p st n xs (cond b (deeds_after (word_for st n) x.op d) d)
+          (b ≡ true → locks_ready p st n d ≡ true → (is_early p x ≡ true) × IsOpFine p st n x.op d)
+          × AreFine p st n xs (cond b (deeds_after (word_for st n) x.op d) d)
 
       at : (b t : Bool) → b ≡ t → IsAlong path (word_for st n) xs (cond b (deeds_after (word_for st n) x.op d) d)
           → reads_ok p c (looked_all (cond t (record x { guards = [] } ∷ onpath path xs) (onpath path xs))) ≡ true
@@ -121,7 +122,8 @@ module _ (p : Pipe) (st : State) (n : ℕ) where
           → list_all (λ (x : Stmt). passes_on size x.op) (cond t (record x { guards = [] } ∷ onpath path xs) (onpath path xs)) ≡ true
           → list_all (is_early p) (cond t (record x { guards = [] } ∷ onpath path xs) (onpath path xs)) ≡ true
           →
-          ((c : Scan) (ph : ℕ → Phase) (g : Making) (d : Deeds) → IsAlong path (word_for st n) xs d → reads_ok p c (looked_all (onpath path xs)) ≡ true → ((m : ℕ) → uses_ok m (ph m) (onpath path xs) ≡ true)
+          ((c : Scan) (ph : ℕ → Phase) (g : Making) (d : Deeds) → IsAlong path (word_for st n) xs d
+          → reads_ok p c (looked_all (onpath path xs)) ≡ true → ((m : ℕ) → uses_ok m (ph m) (onpath path xs) ≡ true)
           → makings_ok v g (looked_all (onpath path xs)) ≡ true → list_all (λ (x : Stmt). passes_on size x.op) (onpath path xs) ≡ true
           → list_all (is_early p) (onpath path xs) ≡ true
           → ((m : ℕ) → IsOnce m (ph m) d.held) → Covers c.held d.held → (is_guessed g ≡ true → length d.guess ≡ size) → RightIf s c d → AreFine p st n xs d)
@@ -130,7 +132,8 @@ module _ (p : Pipe) (st : State) (n : ℕ) where
       at false true z q h k w y e go = absurd (cc z)
       at false false z q h k w y e go = ((λ b. absurd (false≢true b)), go c ph g d q h k w y e o f u r)
       at true true z q h k w y e go =
-          let ok : op_ok p s c (answered_op x.op) ≡ true = subst (λ j. op_ok p j c (answered_op x.op) ≡ true) i.0 (and_right (no_guards []) _ (and_left _ _ h)) in
+          let ok : op_ok p s c (answered_op x.op) ≡ true =
+          subst (λ j. op_ok p j c (answered_op x.op) ≡ true) i.0 (and_right (no_guards []) _ (and_left _ _ h)) in
           let made : making_ok v g s (answered_op x.op) ≡ true = subst (λ j. making_ok v g j (answered_op x.op) ≡ true) i.0 (and_left _ _ w) in
           let held = held_does (word_for st n) x.op d in (
             (λ a b. (and_left (is_early p x) _ e, op_fine size s v c ph g x.op d ok o made (and_left _ _ y) u r b)),

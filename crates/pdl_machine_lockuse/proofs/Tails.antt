@@ -75,7 +75,8 @@ module _ (p : Pipe) (sound : Sound p) (st : State) (d : Derived.State) (bits : L
       (pairs ls)
   up_released P n [] bars s k o f h = tt
   up_released P n (l ∷ ls) bars s k o f h = (
-    (λ g e rest i. first_low p (sound_flows p sound) st d bits arrays m 0 (suc l.number) (new (l ∷ ls)) e rest i (within_new p (sound_flows p sound) st d bits arrays m (suc l.number) (l ∷ ls) k o (le_refl (suc l.number), f.1))),
+    (λ g e rest i. first_low p (sound_flows p sound) st d bits arrays m 0 (suc l.number)
+        (new (l ∷ ls)) e rest i (within_new p (sound_flows p sound) st d bits arrays m (suc l.number) (l ∷ ls) k o (le_refl (suc l.number), f.1))),
     at (did p d bits ls l).moves refl (lets l) refl h (appended_more p (sound_flows p sound) st d bits arrays m ls l s.0 o.0)
         (λ i. (up_released P l.number ls bars.1 s.1 k.1 o.1 f.1 i, some_pending p (sound_flows p sound) st d bits arrays m l.number ls s.1 k.1 o.1 f.1 i)),
   )
@@ -96,11 +97,21 @@ module _ (p : Pipe) (sound : Sound p) (st : State) (d : Derived.State) (bits : L
       at : (b : Bool) → (did p d bits ls l).moves ≡ b → (c : Bool) → lets l ≡ c
           → has_release m (cond b (lact p st d bits ls l ∷ movers (lacts p st d bits ls)) (movers (lacts p st d bits ls))) ≡ true
           →
-          ((b : Bool) → (tail : List Pending) × (with_reserves m (cond b (lact p st d bits ls l ∷ movers (lacts p st d bits ls)) (movers (lacts p st d bits ls))) (pends m ls ++ pend m l.number l.thread.entries) ≡ new ls ++ tail))
+          ((b : Bool)
+          → (tail : List Pending)
+          × (with_reserves m (cond b (lact p st d bits ls l ∷ movers (lacts p st d bits ls)) (movers (lacts p st d bits ls)))
+          (pends m ls ++ pend m l.number l.thread.entries)
+          ≡ new ls ++ tail))
           →
-          (has_release m (movers (lacts p st d bits ls)) ≡ true → EachPair (λ x. P x → (e : Pending) (rest : List Pending) → new ls ≡ e ∷ rest → e.thread < suc x.live.number) (pairs ls) × ((x : Pending) × (xs : List Pending) × (new ls ≡ x ∷ xs)))
+          (has_release m (movers (lacts p st d bits ls)) ≡ true
+          → EachPair (λ x. P x → (e : Pending) (rest : List Pending) → new ls ≡ e ∷ rest → e.thread < suc x.live.number) (pairs ls)
+          × ((x : Pending) × (xs : List Pending) × (new ls ≡ x ∷ xs)))
           → EachPair
-          (λ x. P x → (e : Pending) (rest : List Pending) → with_reserves m (cond b (lact p st d bits ls l ∷ movers (lacts p st d bits ls)) (movers (lacts p st d bits ls))) (pends m ls ++ pend m l.number l.thread.entries) ≡ e ∷ rest → e.thread < suc x.live.number)
+          (λ x. P x → (e : Pending) (rest : List Pending)
+          → with_reserves m (cond b (lact p st d bits ls l ∷ movers (lacts p st d bits ls)) (movers (lacts p st d bits ls)))
+          (pends m ls ++ pend m l.number l.thread.entries)
+          ≡ e ∷ rest
+          → e.thread < suc x.live.number)
           (pairs ls)
       at true i true j h t r = pair_map (λ x g i. absurd (g i)) (pairs ls) (bars.0 i j)
       at true i false j h t r = other _ (t true) (r (sym (ap (λ c. c || has_release m (movers (lacts p st d bits ls))) j) ∙ h))
@@ -111,7 +122,11 @@ module _ (p : Pipe) (sound : Sound p) (st : State) (d : Derived.State) (bits : L
       → Bars (λ x. x.live.thread.stage ≤ commit_stage p m) ls
   bars_commit [] k o = tt
   bars_commit (l ∷ ls) k o = (
-    (λ i j. pair_map (λ x b g. absurd (let here = release_here p (sound_flows p sound) st d bits arrays ls l k.0 m j in let u : commit_stage p m < x.live.thread.stage = b.trunk (commit_stage p m) ((sound_flows p sound).trunk_commit m) (let v = here in omega arith) in let v = g in omega arith))
+    (λ i j. pair_map
+        (λ x b g. absurd
+        (let here = release_here p (sound_flows p sound) st d bits arrays ls l k.0 m j in
+        let u : commit_stage p m < x.live.thread.stage = b.trunk (commit_stage p m) ((sound_flows p sound).trunk_commit m) (let v = here in omega arith) in
+        let v = g in omega arith))
         (pairs ls) (pairs_each (λ k. Behind p l.thread.stage k.thread.stage) ls o.0)),
     bars_commit ls k.1 o.1,
   )
@@ -138,11 +153,15 @@ module _ (p : Pipe) (sound : Sound p) (st : State) (d : Derived.State) (bits : L
   -- up to the stage of the reserves all are its own or older
   pub all_own : (n : ℕ) (ls : List Live) → AllKnown p (sound_flows p sound) st d bits arrays ls → Each (Seated p st) ls → Ordered p ls → Falls n ls
       → EachPair
-      (λ x. x.live.thread.stage ≤ reserve_stage p m → count_older (suc x.live.number) (with_reserves m (movers (lacts p st d bits ls)) (pends m ls)) ≡ length (with_reserves m (movers (lacts p st d bits ls)) (pends m ls)))
+      (λ x. x.live.thread.stage ≤ reserve_stage p m
+      → count_older (suc x.live.number) (with_reserves m (movers (lacts p st d bits ls)) (pends m ls))
+      ≡ length (with_reserves m (movers (lacts p st d bits ls)) (pends m ls)))
       (pairs ls)
   all_own n [] k s o f = tt
   all_own n (l ∷ ls) k s o f = (
-    (λ h. within_count 0 (suc l.number) (suc l.number) (new (l ∷ ls)) (within_new p (sound_flows p sound) st d bits arrays m (suc l.number) (l ∷ ls) k o (le_refl (suc l.number), f.1)) (le_refl (suc l.number))),
+    (λ h. within_count 0 (suc l.number) (suc l.number) (new (l ∷ ls))
+        (within_new p (sound_flows p sound) st d bits arrays m (suc l.number) (l ∷ ls) k o (le_refl (suc l.number), f.1))
+        (le_refl (suc l.number))),
     pair_both (λ x b g h. subst (λ xs. count_older (suc x.live.number) xs ≡ length xs) (sym (same x b h)) (g h)) (pairs ls)
         (pairs_each (λ k. Behind p l.thread.stage k.thread.stage) ls o.0) (all_own l.number ls k.1 s.1 o.1 f.1),
   )
@@ -154,7 +173,8 @@ module _ (p : Pipe) (sound : Sound p) (st : State) (d : Derived.State) (bits : L
           low : (c : Bool) → nat_le (reserve_stage p m) l.thread.stage ≡ c → l.thread.stage < reserve_stage p m
           low true e =
               absurd
-              (let u : reserve_stage p m < x.live.thread.stage = b.trunk (reserve_stage p m) ((sound_flows p sound).trunk_reserve m) (leb-true _ _ e) in omega (arith, u, h))
+              (let u : reserve_stage p m < x.live.thread.stage = b.trunk (reserve_stage p m) ((sound_flows p sound).trunk_reserve m) (leb-true _ _ e) in
+              omega (arith, u, h))
           low false e = leb-false _ _ e
 
   -- behind it nothing up to its own is appended
@@ -166,14 +186,18 @@ module _ (p : Pipe) (sound : Sound p) (st : State) (d : Derived.State) (bits : L
       → EachPair (λ x. reserve_stage p m < x.live.thread.stage → NoOlder (suc x.live.number) m (lacts p st d bits ls)) (pairs ls)
   no_older n [] o f = tt
   no_older n (l ∷ ls) o f = (
-    (λ h. (inl (past_new p (sound_flows p sound) st d bits arrays m l h), past_older (suc l.number) ls (older_past p (sound_flows p sound) st d bits arrays m l ls o.0 (let i = h in omega arith)))),
+    (λ h. (
+      inl (past_new p (sound_flows p sound) st d bits arrays m l h),
+      past_older (suc l.number) ls (older_past p (sound_flows p sound) st d bits arrays m l ls o.0 (let i = h in omega arith)),
+    )),
     pair_both (λ x a g h. (inr (let i = a in omega arith), g h)) (pairs ls) (pairs_each (λ k. k.number < l.number) ls (falls_each l.number ls f.1))
         (no_older l.number ls o.1 f.1),
   )
 
   pub tail_kept : (n : ℕ) (ls : List Live) (list : List Pending) → Ordered p ls → Falls n ls
       → EachPair
-      (λ x. reserve_stage p m < x.live.thread.stage → count_older (suc x.live.number) (with_reserves m (movers (lacts p st d bits ls)) list) ≡ count_older (suc x.live.number) list)
+      (λ x. reserve_stage p m < x.live.thread.stage
+      → count_older (suc x.live.number) (with_reserves m (movers (lacts p st d bits ls)) list) ≡ count_older (suc x.live.number) list)
       (pairs ls)
   tail_kept n ls list o f =
       pair_map

@@ -18,9 +18,12 @@ pub record IsCut (p : Pipe) (st : State) (bits : List Bool) : Type 0 where
       → count_older (suc t.number) (with_reserves m (moving p st bits) (lock_of st m)) ≡ count_older (suc t.number) (lock_of st m)
   -- up to V it shifts at each release
   pub shifts : (k : ℕ) (t : Thread) (m v : ℕ) → slot st k ≡ Some t → verify_stage p.stmts ≡ Some v → k ≤ v
-      → count_older (suc t.number) (list_three st (moving p st bits) m) + bit (has_release m (moving p st bits)) ≡ count_older (suc t.number) (with_reserves m (moving p st bits) (lock_of st m))
+      → count_older (suc t.number) (list_three st (moving p st bits) m) + bit (has_release m (moving p st bits))
+      ≡ count_older (suc t.number) (with_reserves m (moving p st bits) (lock_of st m))
   -- a squash that leaves the thread keeps it, and the thread's own cuts there
   pub left : (m n : ℕ) → is_kept (squasher (moving p st bits)) n ≡ true
-      → count_older (suc n) (entries_left (squasher (moving p st bits)) (list_three st (moving p st bits) m)) ≡ count_older (suc n) (list_three st (moving p st bits) m)
+      → count_older (suc n) (entries_left (squasher (moving p st bits)) (list_three st (moving p st bits) m))
+      ≡ count_older (suc n) (list_three st (moving p st bits) m)
   pub cuts : (m n : ℕ) → squasher (moving p st bits) ≡ Some n
-      → entries_left (Some n) (list_three st (moving p st bits) m) ≡ take (count_older (suc n) (list_three st (moving p st bits) m)) (list_three st (moving p st bits) m)
+      → entries_left (Some n) (list_three st (moving p st bits) m)
+      ≡ take (count_older (suc n) (list_three st (moving p st bits) m)) (list_three st (moving p st bits) m)

@@ -31,7 +31,8 @@ ReleasesOwn p st bits m a = a.moves ≡ true → list_any (λ n. n == m) a.does.
 -- what is released is no younger than this thread: the pending writes up to its own become one fewer
 abbrev pub ShiftsUpTo : Pipe → State → List Bool → ℕ → Act → Type 0
 ShiftsUpTo p st bits m a =
-    count_older (suc a.thread.number) (with_release p st bits m) + bit (has_release m (moving p st bits)) ≡ count_older (suc a.thread.number) (with_new p st bits m)
+    count_older (suc a.thread.number) (with_release p st bits m) + bit (has_release m (moving p st bits))
+    ≡ count_older (suc a.thread.number) (with_new p st bits m)
 
 -- up to the stage of the releases, where a block or a read of the memory may still be made
 abbrev pub ReleasesOlder : Pipe → State → List Bool → ℕ → Act → Type 0
@@ -79,7 +80,8 @@ is_open thread es = list_any (λ (e : Pending). (e.thread == thread) && is_none 
 abbrev pub WritesOnce : Pipe → State → List Bool → ℕ → Act → Type 0
 WritesOnce p st bits m a =
     a.moves ≡ true
-    → (written_in m a.does.writes ≤ 1) × ((v : ℕ) → Contains a.does.writes (record { mem = m; value = v }) → is_open a.thread.number (with_new p st bits m) ≡ true)
+    → (written_in m a.does.writes ≤ 1)
+    × ((v : ℕ) → Contains a.does.writes (record { mem = m; value = v }) → is_open a.thread.number (with_new p st bits m) ≡ true)
 
 -- whether a statement blocks, reads or writes a memory
 abbrev pub uses_mem : ℕ → Op → Bool
@@ -114,13 +116,15 @@ FindsAll p st bits m a = a.stage ≤ reserve_stage p m → count_older (suc a.th
 
 -- after it their number is kept by what is reserved
 abbrev pub KeepsTail : Pipe → State → List Bool → ℕ → Act → Type 0
-KeepsTail p st bits m a = reserve_stage p m < a.stage → count_older (suc a.thread.number) (with_new p st bits m) ≡ count_older (suc a.thread.number) (lock_of st m)
+KeepsTail p st bits m a =
+    reserve_stage p m < a.stage → count_older (suc a.thread.number) (with_new p st bits m) ≡ count_older (suc a.thread.number) (lock_of st m)
 
 -- a squash that leaves a thread leaves all of them, and one by the thread leaves nothing else
 abbrev pub LeavesTail : Pipe → State → List Bool → ℕ → Act → Type 0
 LeavesTail p st bits m a =
     is_kept (squasher (moving p st bits)) a.thread.number ≡ true
-    → count_older (suc a.thread.number) (entries_left (squasher (moving p st bits)) (with_release p st bits m)) ≡ count_older (suc a.thread.number) (with_release p st bits m)
+    → count_older (suc a.thread.number) (entries_left (squasher (moving p st bits)) (with_release p st bits m))
+    ≡ count_older (suc a.thread.number) (with_release p st bits m)
 
 -- a squash leaves of a memory's pending writes a front, those of the squasher and of older threads
 abbrev pub Cuts : Pipe → State → List Bool → ℕ → Type 0

@@ -13,6 +13,8 @@ left_filtered thread [] = refl
 left_filtered thread (e ∷ es) = at (nat_le e.thread thread) (left_filtered thread es)
   where
     at : (b : Bool) → map pending_view (filter (λ (e : r_pending.Pending). nat_le e.thread thread) es) ≡ entries_left (Some thread) (map pending_view es)
-        → map pending_view (if b then e ∷ filter (λ (e : r_pending.Pending). nat_le e.thread thread) es else filter (λ (e : r_pending.Pending). nat_le e.thread thread) es) ≡ (if b then pending_view e ∷ entries_left (Some thread) (map pending_view es) else entries_left (Some thread) (map pending_view es))
+        → map pending_view
+        (if b then e ∷ filter (λ (e : r_pending.Pending). nat_le e.thread thread) es else filter (λ (e : r_pending.Pending). nat_le e.thread thread) es)
+        ≡ (if b then pending_view e ∷ entries_left (Some thread) (map pending_view es) else entries_left (Some thread) (map pending_view es))
     at true h = ap (λ xs. pending_view e ∷ xs) h
     at false h = h

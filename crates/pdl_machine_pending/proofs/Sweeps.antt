@@ -4,7 +4,8 @@ use Rattle.std.proofs.lemmas.List.{map-append, take_more, take_more_set, drop_mo
 use Rattle.std.proofs.Common.{arith}
 use Rattle.pdl_word.proofs.Lists.{head_same, tail_same}
 
-module _ {X Y : Type 0} (view : X → Y) (now all : List X) (i : ℕ) (x d : X) (h : i < length now) (n : length now ≡ length all) (left : drop i now ≡ drop i all) where
+module _ {X Y : Type 0} (view : X → Y) (now all : List X) (i : ℕ) (x d : X) (h : i < length now)
+    (n : length now ≡ length all) (left : drop i now ≡ drop i all) where
   within : i < length all
   within = subst (λ k. i < k) n h
 
@@ -15,7 +16,8 @@ module _ {X Y : Type 0} (view : X → Y) (now all : List X) (i : ℕ) (x d : X) 
   swept_left = drop-set-lt (i + 1) now i x (omega arith) ∙ tail_same same
 
   -- f of lists side by side is f of each, and the new element is f of the old one
-  pub swept_done : (f : List Y → List Y) → ((a b : List Y) → f (a ++ b) ≡ f a ++ f b) → map view (take i now) ≡ f (map view (take i all)) → view x ∷ [] ≡ f (view (get_or now i d) ∷ [])
+  pub swept_done : (f : List Y → List Y) → ((a b : List Y) → f (a ++ b) ≡ f a ++ f b)
+      → map view (take i now) ≡ f (map view (take i all)) → view x ∷ [] ≡ f (view (get_or now i d) ∷ [])
       → map view (take (i + 1) (set now i x)) ≡ f (map view (take (i + 1) all))
   swept_done f splits done one =
       ap (map view) (take_more_set now i x h)

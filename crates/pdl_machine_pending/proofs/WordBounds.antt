@@ -24,7 +24,9 @@ youngest_found : (n depth thread a : ℕ) (es : List Pending) (found : Latest) �
     → IsFound n (youngest es thread a found)
 youngest_found n depth thread a [] found h f = f
 youngest_found n depth thread a (e ∷ es) found h f =
-    youngest_found n depth thread a es (if nat_lt e.thread thread && (e.address == a) then as_latest e.value else found) h.2 (found_next n (nat_lt e.thread thread && (e.address == a)) e.value found h.1 f)
+    youngest_found n depth thread a es
+    (if nat_lt e.thread thread && (e.address == a) then as_latest e.value else found) h.2
+    (found_next n (nat_lt e.thread thread && (e.address == a)) e.value found h.1 f)
 
 value_found : (n : ℕ) (found : Latest) (w : ℕ) → IsFound n found → w < n → value_or found w < n
 value_found n Nothing w f h = h
@@ -34,4 +36,5 @@ value_found n (Known v) w f h = f
 -- the word that a read finds is below the bound of a memory's words and pending values
 pub read_fits : (n depth thread a : ℕ) (x : Memory) → IsKept n depth x
     → value_or (youngest x.pending thread a Nothing) (slice_index x.words a) < n
-read_fits n depth thread a x k = value_found n (youngest x.pending thread a Nothing) _ (youngest_found n depth thread a x.pending Nothing k.pending tt) (k.words a)
+read_fits n depth thread a x k =
+    value_found n (youngest x.pending thread a Nothing) _ (youngest_found n depth thread a x.pending Nothing k.pending tt) (k.words a)

@@ -33,7 +33,8 @@ address_is m (a ∷ ms) = ap (address_of m a.does.asks) (address_is m ms)
 -- WHO GOES INTO A FORK'S BRANCHES
 
 module _ (p : Pipe) (f : ℕ) where
-  entered_more : (k : ℕ) (o : Option ℕ) (x : r_stage.Stage) (more : List Act) → entered_branches p f (act_of k o x ++ more) ≡ entered_branches p f more ++ entered_branches p f (act_of k o x)
+  entered_more : (k : ℕ) (o : Option ℕ) (x : r_stage.Stage) (more : List Act)
+      → entered_branches p f (act_of k o x ++ more) ≡ entered_branches p f more ++ entered_branches p f (act_of k o x)
   entered_more k None x more = sym (append-nil (entered_branches p f more))
   entered_more k (Some n) x more = refl
 

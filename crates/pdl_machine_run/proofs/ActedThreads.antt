@@ -35,7 +35,9 @@ asked_verify false args d = refl
 asked_op : (read : ℕ → ℕ → ℕ) (op : Op) (d : Deeds) → length (deeds_after read op d).asks ≤ suc (length d.asks)
 asked_op read (Bind x e) d = omega arith
 asked_op read (CombRead x m a) d = omega arith
-asked_op read (DelayedRead x m a) d = let sum = Rattle.std.proofs.Common.length-append d.asks (record { mem = m; var = x; address = slice_index d.env a } ∷ []) in omega (arith, sum)
+asked_op read (DelayedRead x m a) d = let sum =
+    Rattle.std.proofs.Common.length-append d.asks (record { mem = m; var = x; address = slice_index d.env a } ∷ []) in
+    omega (arith, sum)
 asked_op read (Write m a e) d = omega arith
 asked_op read (ReserveRead m a) d = omega arith
 asked_op read (ReserveWrite m a) d = omega arith
@@ -86,13 +88,17 @@ module _ (f : Form) where
         some_same : {a d : Thread} → Some a ≡ Some d → a ≡ d
         some_same e = cc e
 
-    pub all_acted : (k : ℕ) (ys zs : List r_stage.Stage) → length ys ≡ length zs → ((i : ℕ) (d : r_stage.Stage) → i < length ys → IsCarried f b bits (k + i) (thread_in (get_or ys i d).slot) (get_or zs i d)) → AllActed zs
+    pub all_acted : (k : ℕ) (ys zs : List r_stage.Stage) → length ys ≡ length zs
+        → ((i : ℕ) (d : r_stage.Stage) → i < length ys → IsCarried f b bits (k + i) (thread_in (get_or ys i d).slot) (get_or zs i d))
+        → AllActed zs
     all_acted k [] [] n c = tt
     all_acted k [] (z ∷ zs) n c = absurd (omega arith)
     all_acted k (y ∷ ys) [] n c = absurd (omega arith)
     all_acted k (y ∷ ys) (z ∷ zs) n c = (
       carried_acted (k + 0) (thread_in y.slot) z.slot.number z refl (c 0 z (omega arith)),
-      all_acted (suc k) ys zs (omega arith) (λ i e less. let same : k + suc i ≡ suc k + i = omega arith in subst (λ j. IsCarried f b bits j (thread_in (get_or ys i e).slot) (get_or zs i e)) same (c (suc i) e (omega (arith, less)))),
+      all_acted (suc k) ys zs (omega arith)
+          (λ i e less. let same : k + suc i ≡ suc k + i = omega arith in
+          subst (λ j. IsCarried f b bits j (thread_in (get_or ys i e).slot) (get_or zs i e)) same (c (suc i) e (omega (arith, less)))),
     )
 
   pub acted_at : (zs : List r_stage.Stage) (i : ℕ) (d : r_stage.Stage) → AllActed zs → i < length zs → HasActed (get_or zs i d).slot.number (get_or zs i d)
@@ -106,7 +112,8 @@ AllSized p [] = ⊤
 AllSized p (a ∷ ms) = AreReserved p a.does.reserves × AreWritten p a.does.writes × AllSized p ms
 
 module _ (f : Form) where
-  sized_one : (k : ℕ) (z : r_stage.Stage) (o : Option ℕ) (b : Bool) (more : List Act) → HasActed f o z → AllSized f.pipe more → AllSized f.pipe (act_of k (if b then o else None) z ++ more)
+  sized_one : (k : ℕ) (z : r_stage.Stage) (o : Option ℕ) (b : Bool) (more : List Act) → HasActed f o z
+      → AllSized f.pipe more → AllSized f.pipe (act_of k (if b then o else None) z ++ more)
   sized_one k z o false more done h = h
   sized_one k z None true more done h = h
   sized_one k z (Some n) true more done h = (done.1.reserves, done.1.writes, h)
@@ -137,7 +144,8 @@ module _ (p : Pipe) (m : ℕ) where
   kept_entries thread (r ∷ rs) h = kept_entry (r.mem == m) thread r (new_entries m thread rs) refl h.0 (kept_entries thread rs h.1)
 
   kept_here : (b : Bool) (v : ℕ) (e : Pending) → v < 2 ^ (mem_at p m).width → (e.address < (mem_at p m).depth) → IsBelow (2 ^ (mem_at p m).width) e.value
-      → ((if b then record e { value = Some v } else e).address < (mem_at p m).depth) × IsBelow (2 ^ (mem_at p m).width) (if b then record e { value = Some v } else e).value
+      → ((if b then record e { value = Some v } else e).address < (mem_at p m).depth)
+      × IsBelow (2 ^ (mem_at p m).width) (if b then record e { value = Some v } else e).value
   kept_here true v e h a w = (a, h)
   kept_here false v e h a w = (a, w)
 
@@ -147,7 +155,8 @@ module _ (p : Pipe) (m : ℕ) where
       let here = kept_here (e.thread == thread) v e h k.0 k.1 in
       (here.0, here.1, kept_put thread v es h k.2)
 
-  kept_if : (b : Bool) (thread : ℕ) (w : Written) (es : List Pending) → (w.mem == m) ≡ b → w.value < 2 ^ (mem_at p w.mem).width → Kept es → Kept (if b then with_value_of thread w.value es else es)
+  kept_if : (b : Bool) (thread : ℕ) (w : Written) (es : List Pending) → (w.mem == m) ≡ b
+      → w.value < 2 ^ (mem_at p w.mem).width → Kept es → Kept (if b then with_value_of thread w.value es else es)
   kept_if true thread w es e h k =
       let same : w.mem ≡ m = eqb-true w.mem m e in
       kept_put thread w.value es (subst (λ i. w.value < 2 ^ (mem_at p i).width) same h) k
@@ -155,7 +164,8 @@ module _ (p : Pipe) (m : ℕ) where
 
   kept_puts : (thread : ℕ) (ws : List Written) (es : List Pending) → AreWritten p ws → Kept es → Kept (with_writes_of m thread ws es)
   kept_puts thread [] es h k = k
-  kept_puts thread (w ∷ ws) es h k = kept_puts thread ws (if w.mem == m then with_value_of thread w.value es else es) h.1 (kept_if (w.mem == m) thread w es refl h.0 k)
+  kept_puts thread (w ∷ ws) es h k =
+      kept_puts thread ws (if w.mem == m then with_value_of thread w.value es else es) h.1 (kept_if (w.mem == m) thread w es refl h.0 k)
 
   kept_appended : (ms : List Act) (es : List Pending) → AllSized p ms → Kept es → Kept (with_reserves m ms es)
   kept_appended [] es h k = k
@@ -214,7 +224,9 @@ module _ (p : Pipe) (m : ℕ) where
       at true h = (k.0, k.1, h)
       at false h = h
 
-  pub kept_after : (ms : List Act) (sq : Option ℕ) (x : Memory) → AllSized p ms → IsKept (2 ^ (mem_at p m).width) (mem_at p m).depth x → IsKept (2 ^ (mem_at p m).width) (mem_at p m).depth (memory_after m ms sq x)
+  pub kept_after : (ms : List Act) (sq : Option ℕ) (x : Memory) → AllSized p ms
+      → IsKept (2 ^ (mem_at p m).width) (mem_at p m).depth x
+      → IsKept (2 ^ (mem_at p m).width) (mem_at p m).depth (memory_after m ms sq x)
   kept_after ms sq x h k =
       let all = kept_both ms x.pending h k.pending in
       record {
@@ -249,14 +261,17 @@ module _ (p : Pipe) (b : r_beside.Beside) (bits : List Bool) (m : ℕ) where
   abbrev pub HasRoom : Type 0
   HasRoom = has_room (mem_at p m).lock (length (lock_of st m)) ≡ true
 
-  room_one : (b : Bool) (r : Reserved) (rest : List ℕ) → (r.mem == m) ≡ b → has_room (mem_at p r.mem).lock (length (lock_of st r.mem)) ≡ true → (rest ≡ []) ⊎ HasRoom
+  room_one : (b : Bool) (r : Reserved) (rest : List ℕ) → (r.mem == m) ≡ b
+      → has_room (mem_at p r.mem).lock (length (lock_of st r.mem)) ≡ true → (rest ≡ []) ⊎ HasRoom
       → ((if b then r.address ∷ [] else []) ++ rest ≡ []) ⊎ HasRoom
   room_one true r rest e h more =
       let same : r.mem ≡ m = eqb-true r.mem m e in
       inr (subst (λ i. has_room (mem_at p i).lock (length (lock_of st i)) ≡ true) same h)
   room_one false r rest e h more = more
 
-  room_in : (rs : List Reserved) → list_all (λ (r : Reserved). has_room (mem_at p r.mem).lock (length (lock_of st r.mem))) rs ≡ true → (addresses_of m rs ≡ []) ⊎ HasRoom
+  room_in : (rs : List Reserved)
+      → list_all (λ (r : Reserved). has_room (mem_at p r.mem).lock (length (lock_of st r.mem))) rs ≡ true
+      → (addresses_of m rs ≡ []) ⊎ HasRoom
   room_in [] h = inl refl
   room_in (r ∷ rs) h = room_one (r.mem == m) r (addresses_of m rs) refl (and_left _ _ h) (room_in rs (and_right _ _ h))
 
@@ -268,7 +283,8 @@ module _ (p : Pipe) (b : r_beside.Beside) (bits : List Bool) (m : ℕ) where
   joined as' bs (inl e) (inr h) = inr h
   joined as' bs (inl e) (inl g) = inl (both_none as' bs e g)
 
-  mover_room : (k number : ℕ) (z : r_stage.Stage) (zs : List r_stage.Stage) → true ≡ goes p b bits k (Some number) z zs → (addresses_of m (deeds_view z.deeds).reserves ≡ []) ⊎ HasRoom
+  mover_room : (k number : ℕ) (z : r_stage.Stage) (zs : List r_stage.Stage) → true ≡ goes p b bits k (Some number) z zs
+      → (addresses_of m (deeds_view z.deeds).reserves ≡ []) ⊎ HasRoom
   mover_room k number z zs e =
       let ready = and_left _ _ (and_left _ _ (sym e)) in
       let room : have_room p st (deeds_view z.deeds) ≡ true = and_right (blocks_ready p st number (deeds_view z.deeds)) _ ready in

@@ -17,6 +17,7 @@ unanswered_filtered p st bits thread (x ∷ xs) = at (answer_for p st bits threa
     rest ys = filter (λ (r : r_awaited.Awaited). is_none (answer_for p st bits thread r.mem)) ys
 
     at : (o : Option ℕ) → map awaited_view (rest xs) ≡ unanswered_reads p st bits thread (map awaited_view xs)
-        → map awaited_view (if is_none o then x ∷ rest xs else rest xs) ≡ (if is_some o then [] else awaited_view x ∷ []) ++ unanswered_reads p st bits thread (map awaited_view xs)
+        → map awaited_view (if is_none o then x ∷ rest xs else rest xs)
+        ≡ (if is_some o then [] else awaited_view x ∷ []) ++ unanswered_reads p st bits thread (map awaited_view xs)
     at None h = ap (λ (rs : List Awaited). awaited_view x ∷ rs) h
     at (Some w) h = h

@@ -35,7 +35,9 @@ word_listed (x ∷ xs) (suc m) a = word_listed xs m a
 -- the words that a thread finds are those that it finds in the memories
 pub words_are : (b : r_beside.Beside) (thread : ℕ) → word_for (outside b) thread ≡ word_of b.memories.items thread
 words_are b thread =
-    fun_ext (λ m. fun_ext (λ a. ap₂ (λ (es : List Pending) w. value_or (youngest es thread a Nothing) w) (lock_listed b.memories.items m) (word_listed b.memories.items m a)))
+    fun_ext
+    (λ m. fun_ext
+    (λ a. ap₂ (λ (es : List Pending) w. value_or (youngest es thread a Nothing) w) (lock_listed b.memories.items m) (word_listed b.memories.items m a)))
 
 -- what the statements of a stage do
 pub carried_deeds : (p : Pipe) (b : r_beside.Beside) (xs : List Memory) (thread k : ℕ) (t : Thread) (d : Deeds)
@@ -118,21 +120,27 @@ module _ (f : Form) where
     unanswered_fit [] h = tt
     unanswered_fit (r ∷ rs) h = at (answer_for f.pipe (outside b) bits thread r.mem) (unanswered_fit rs h.1)
       where
-        at : (o : Option ℕ) → AreAwaited f (unanswered_reads f.pipe (outside b) bits thread rs) → AreAwaited f ((if is_some o then [] else r ∷ []) ++ unanswered_reads f.pipe (outside b) bits thread rs)
+        at : (o : Option ℕ) → AreAwaited f (unanswered_reads f.pipe (outside b) bits thread rs)
+            → AreAwaited f ((if is_some o then [] else r ∷ []) ++ unanswered_reads f.pipe (outside b) bits thread rs)
         at None g = (h.0, g)
         at (Some w) g = g
 
-    reads_counted : (rs : List Awaited) → length (answered_reads f.pipe (outside b) bits thread rs) + length (unanswered_reads f.pipe (outside b) bits thread rs) ≡ length rs
+    reads_counted : (rs : List Awaited)
+        → length (answered_reads f.pipe (outside b) bits thread rs) + length (unanswered_reads f.pipe (outside b) bits thread rs) ≡ length rs
     reads_counted [] = refl
     reads_counted (r ∷ rs) = at (answer_for f.pipe (outside b) bits thread r.mem) (reads_counted rs)
       where
-        at : (o : Option ℕ) → length (answered_reads f.pipe (outside b) bits thread rs) + length (unanswered_reads f.pipe (outside b) bits thread rs) ≡ length rs
-            → length (kept_answer r.var o ++ answered_reads f.pipe (outside b) bits thread rs) + length ((if is_some o then [] else r ∷ []) ++ unanswered_reads f.pipe (outside b) bits thread rs) ≡ suc (length rs)
+        at : (o : Option ℕ)
+            → length (answered_reads f.pipe (outside b) bits thread rs) + length (unanswered_reads f.pipe (outside b) bits thread rs) ≡ length rs
+            → length (kept_answer r.var o ++ answered_reads f.pipe (outside b) bits thread rs) + length
+            ((if is_some o then [] else r ∷ []) ++ unanswered_reads f.pipe (outside b) bits thread rs)
+            ≡ suc (length rs)
         at None g = omega (arith, g)
         at (Some w) g = omega (arith, g)
 
   -- a thread with its answers fits
-  pub answers_fine : (b : r_beside.Beside) (bits : List Bool) → AreMemories f.pipe b.memories.items → (t : Thread) → IsFine f t → IsFine f (with_answers f.pipe (outside b) bits t)
+  pub answers_fine : (b : r_beside.Beside) (bits : List Bool) → AreMemories f.pipe b.memories.items → (t : Thread)
+      → IsFine f t → IsFine f (with_answers f.pipe (outside b) bits t)
   answers_fine b bits memories t h =
       let count = reads_counted b bits memories t.number t.awaits in
       let sum = length-append t.kept (answered_reads f.pipe (outside b) bits t.number t.awaits) in

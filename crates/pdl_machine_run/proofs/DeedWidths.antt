@@ -23,7 +23,8 @@ set_below : (ws env : List ℕ) (x v : ℕ) → Fit ws env
     → slice_index (slice_set env x v) y < 2 ^ slice_index ws y
 set_below ws env x v f h there y true e =
     let same : y ≡ x = eqb-true y x e in
-    subst (λ i. slice_index (slice_set env x v) i < 2 ^ slice_index ws i) (sym same) (subst (λ u. u < 2 ^ slice_index ws x) (sym (get_or-set_same env x v 0 there)) h)
+    subst (λ i. slice_index (slice_set env x v) i < 2 ^ slice_index ws i) (sym same)
+    (subst (λ u. u < 2 ^ slice_index ws x) (sym (get_or-set_same env x v 0 there)) h)
 set_below ws env x v f h there y false e =
     let other : y ≢ x = λ same. grind (arith) in
     subst (λ u. u < 2 ^ slice_index ws y) (sym (get_or-set_other env x y v 0 other)) (f.below y)
@@ -81,19 +82,30 @@ module _ (f : Form) (wide : AreWidths f.widths) (xs : List Memory) (ms : AreMemo
       let few = few_args args t in
       omega arith
 
-  fit_verify : (b : Bool) (args : List ℕ) (d : Deeds) → Fit (param_widths f) args → AreFit f d → AreFit f (if b then d else record d { child = Some args; fails = true })
+  fit_verify : (b : Bool) (args : List ℕ) (d : Deeds) → Fit (param_widths f) args → AreFit f d
+      → AreFit f (if b then d else record d { child = Some args; fails = true })
   fit_verify true args d h k = k
   fit_verify false args d h k = record { env = k.env; guess = k.guess; reserves = k.reserves; writes = k.writes; asks = k.asks; child = h }
 
   pub fit_does : (thread : ℕ) (op : Op) (d : Deeds) → IsTypedOp f op → AreFit f d → AreFit f (deeds_after (word_of xs thread) op d)
   fit_does thread (Bind x e) d t k =
       let there : x < length d.env = subst (λ n. x < n) (sym k.env.count) t.0 in
-      record { env = fit_set f.widths d.env x (value_of e d.env) k.env (fits_in f.widths d.env wide k.env e _ t.1 t.2) there; guess = k.guess; reserves = k.reserves; writes = k.writes; asks = k.asks; child = k.child }
+      record {
+        env = fit_set f.widths d.env x (value_of e d.env) k.env (fits_in f.widths d.env wide k.env e _ t.1 t.2) there;
+        guess = k.guess;
+        reserves = k.reserves;
+        writes = k.writes;
+        asks = k.asks;
+        child = k.child;
+      }
   fit_does thread (CombRead x m a) d t k =
       let there : x < length d.env = subst (λ n. x < n) (sym k.env.count) t.0 in
-      let found : word_of xs thread m (slice_index d.env a) < 2 ^ (mem_at f.pipe m).width = read_fits _ _ thread (slice_index d.env a) (memory_at xs m) (ms.kept m t.1.memory) in
+      let found : word_of xs thread m (slice_index d.env a) < 2 ^ (mem_at f.pipe m).width =
+      read_fits _ _ thread (slice_index d.env a) (memory_at xs m) (ms.kept m t.1.memory) in
       record {
-        env = fit_set f.widths d.env x (word_of xs thread m (slice_index d.env a)) k.env (subst (λ w. word_of xs thread m (slice_index d.env a) < 2 ^ w) (sym t.2) found) there;
+        env =
+            fit_set f.widths d.env x (word_of xs thread m (slice_index d.env a)) k.env
+            (subst (λ w. word_of xs thread m (slice_index d.env a) < 2 ^ w) (sym t.2) found) there;
         guess = k.guess;
         reserves = k.reserves;
         writes = k.writes;
@@ -101,9 +113,23 @@ module _ (f : Form) (wide : AreWidths f.widths) (xs : List Memory) (ms : AreMemo
         child = k.child;
       }
   fit_does thread (DelayedRead x m a) d t k =
-      record { env = k.env; guess = k.guess; reserves = k.reserves; writes = k.writes; asks = asked_more f d.asks _ k.asks (record { there = t.0; width = t.2 }); child = k.child }
+      record {
+        env = k.env;
+        guess = k.guess;
+        reserves = k.reserves;
+        writes = k.writes;
+        asks = asked_more f d.asks _ k.asks (record { there = t.0; width = t.2 });
+        child = k.child;
+      }
   fit_does thread (Write m a e) d t k =
-      record { env = k.env; guess = k.guess; reserves = k.reserves; writes = written_more f.pipe d.writes _ k.writes (fits_in f.widths d.env wide k.env e _ t.1 t.2); asks = k.asks; child = k.child }
+      record {
+        env = k.env;
+        guess = k.guess;
+        reserves = k.reserves;
+        writes = written_more f.pipe d.writes _ k.writes (fits_in f.widths d.env wide k.env e _ t.1 t.2);
+        asks = k.asks;
+        child = k.child;
+      }
   fit_does thread (ReserveRead m a) d t k = k
   fit_does thread (ReserveWrite m a) d t k =
       let small : slice_index d.env a < 2 ^ slice_index f.widths a = k.env.below a in
@@ -113,10 +139,25 @@ module _ (f : Form) (wide : AreWidths f.widths) (xs : List Memory) (ms : AreMemo
   fit_does thread (Block m a) d t k = record { env = k.env; guess = k.guess; reserves = k.reserves; writes = k.writes; asks = k.asks; child = k.child }
   fit_does thread (Release m a) d t k = record { env = k.env; guess = k.guess; reserves = k.reserves; writes = k.writes; asks = k.asks; child = k.child }
   fit_does thread (Call args) d t k =
-      record { env = k.env; guess = k.guess; reserves = k.reserves; writes = k.writes; asks = k.asks; child = args_fit f.widths d.env wide k.env (param_widths f) args t }
+      record {
+        env = k.env;
+        guess = k.guess;
+        reserves = k.reserves;
+        writes = k.writes;
+        asks = k.asks;
+        child = args_fit f.widths d.env wide k.env (param_widths f) args t;
+      }
   fit_does thread (SpecCall args) d t k =
-      record { env = k.env; guess = few_values args d.env t; reserves = k.reserves; writes = k.writes; asks = k.asks; child = args_fit f.widths d.env wide k.env (param_widths f) args t }
-  fit_does thread (Verify args) d t k = fit_verify (same_args (values_of args d.env) d.guess) (values_of args d.env) d (args_fit f.widths d.env wide k.env (param_widths f) args t) k
+      record {
+        env = k.env;
+        guess = few_values args d.env t;
+        reserves = k.reserves;
+        writes = k.writes;
+        asks = k.asks;
+        child = args_fit f.widths d.env wide k.env (param_widths f) args t;
+      }
+  fit_does thread (Verify args) d t k =
+      fit_verify (same_args (values_of args d.env) d.guess) (values_of args d.env) d (args_fit f.widths d.env wide k.env (param_widths f) args t) k
   fit_does thread SpecCheck d t k = k
   fit_does thread SpecBarrier d t k = record { env = k.env; guess = k.guess; reserves = k.reserves; writes = k.writes; asks = k.asks; child = k.child }
 
@@ -125,7 +166,8 @@ module _ (f : Form) (wide : AreWidths f.widths) (xs : List Memory) (ms : AreMemo
   fit_if thread false op d t k = k
 
   -- one statement more
-  pub fit_more : (thread : ℕ) (x : Stmt) (old new : Deeds) → new ≡ deeds_after_all (word_of xs thread) (x ∷ []) old → IsTypedOp f x.op → AreFit f old → AreFit f new
+  pub fit_more : (thread : ℕ) (x : Stmt) (old new : Deeds) → new ≡ deeds_after_all (word_of xs thread) (x ∷ []) old
+      → IsTypedOp f x.op → AreFit f old → AreFit f new
   fit_more thread x old new e t k = subst (AreFit f) (sym e) (fit_if thread (all_hold x.guards old.env) x.op old t k)
 
   pub safe_op : (op : Op) (d : Deeds) (c : Capacities) (n : ℕ) → IsTypedOp f op → AreFit f d → IsLarge n (length f.pipe.start) c → IsSafeOp c op d.env

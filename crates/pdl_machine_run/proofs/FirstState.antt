@@ -108,7 +108,9 @@ first_stages_are p (s ∷ ss) = ap (λ (ts : List (Option Thread)). born_thread 
     others k [] h = refl
     others k (y ∷ ys) h =
         let none : (k == 0) ≡ false = grind (arith) in
-        ap₂ (λ (t : Option Thread) (ts : List (Option Thread)). t ∷ ts) (ap (λ (b : Bool). if b then born_thread p 1 (Some p.start) else None) (sym none)) (others (suc k) ys (omega arith))
+        ap₂ (λ (t : Option Thread) (ts : List (Option Thread)). t ∷ ts)
+        (ap (λ (b : Bool). if b then born_thread p 1 (Some p.start) else None) (sym none))
+        (others (suc k) ys (omega arith))
 
 same_stages : {X : Type 0} → (x : X) (k : ℕ) (ss : List Stage) → replicate (length ss) x ≡ for_stages (λ i. x) k ss
 same_stages {X} x k [] = refl
@@ -124,7 +126,8 @@ first_words : (k : ℕ) (image : List (List ℕ)) (xs : List Memory)
 first_words k [] [] n h = refl
 first_words k [] (x ∷ xs) n h = absurd (omega arith)
 first_words k (ws ∷ image) [] n h = absurd (omega arith)
-first_words k (ws ∷ image) (x ∷ xs) n h = ap₂ (λ (w : List ℕ) (all : List (List ℕ)). w ∷ all) (h 0 (omega arith)) (first_words (suc k) image xs (omega arith) (λ i less. h (suc i) (omega arith)))
+first_words k (ws ∷ image) (x ∷ xs) n h =
+    ap₂ (λ (w : List ℕ) (all : List (List ℕ)). w ∷ all) (h 0 (omega arith)) (first_words (suc k) image xs (omega arith) (λ i less. h (suc i) (omega arith)))
 
 first_locks : (k : ℕ) (ds : List Mem) (xs : List Memory)
     → length xs ≡ length ds → ((i : ℕ) → i < length xs → (memory_at xs i).pending ≡ [])
@@ -132,7 +135,9 @@ first_locks : (k : ℕ) (ds : List Mem) (xs : List Memory)
 first_locks k [] [] n h = refl
 first_locks k [] (x ∷ xs) n h = absurd (omega arith)
 first_locks k (d ∷ ds) [] n h = absurd (omega arith)
-first_locks k (d ∷ ds) (x ∷ xs) n h = ap₂ (λ (es : List Pending) (all : List (List Pending)). es ∷ all) (h 0 (omega arith)) (first_locks (suc k) ds xs (omega arith) (λ i less. h (suc i) (omega arith)))
+first_locks k (d ∷ ds) (x ∷ xs) n h =
+    ap₂ (λ (es : List Pending) (all : List (List Pending)). es ∷ all) (h 0 (omega arith))
+    (first_locks (suc k) ds xs (omega arith) (λ i less. h (suc i) (omega arith)))
 
 past_end : (xs : List Memory) (m : ℕ) → length xs ≤ m → memory_at xs m ≡ no_memory
 past_end [] m h = refl
@@ -144,7 +149,8 @@ no_mem [] m h = refl
 no_mem (d ∷ ds) zero h = absurd (omega arith)
 no_mem (d ∷ ds) (suc m) h = no_mem ds m (omega arith)
 
-module _ (f : Form) (run : IsRunnable f) (image : List (List ℕ)) (images : AreImages f.pipe image) (b : r_beside.Beside) (begun : IsFirstBeside f.pipe image b) where
+module _ (f : Form) (run : IsRunnable f) (image : List (List ℕ)) (images : AreImages f.pipe image) (b : r_beside.Beside)
+    (begun : IsFirstBeside f.pipe image b) where
   abbrev pub p : Pipe
   p = f.pipe
 
@@ -167,9 +173,36 @@ module _ (f : Form) (run : IsRunnable f) (image : List (List ℕ)) (images : Are
       let stages = e ∙ first_stages_are p p.stages in
       let forks = begun.orders ∙ same_stages {X = List Bool} [] 0 p.stages in
       let requests = begun.requests ∙ same_mems NoRequest 0 p.mems in
-      ap₂ (λ (ts : List (Option Thread)) (ws : List (List ℕ)). record { stages = ts; arrays = arrays_of ws; locks = map (λ (x : Memory). x.pending) xs; forks = order_views b.orders.items; requests = map request_view b.requests.items; next = 2 }) stages words
-      ∙ ap₂ (λ (ls : List (List Pending)) (fs : List (List Bool)). record { stages = (first p (arrays_of image)).stages; arrays = arrays_of image; locks = ls; forks = fs; requests = map request_view b.requests.items; next = 2 }) locks forks
-      ∙ ap (λ (qs : List Request). record { stages = (first p (arrays_of image)).stages; arrays = arrays_of image; locks = for_mems (λ m. []) 0 p.mems; forks = for_stages (λ i. []) 0 p.stages; requests = qs; next = 2 }) requests
+      ap₂
+      (λ (ts : List (Option Thread))
+      (ws : List (List ℕ)). record {
+        stages = ts;
+        arrays = arrays_of ws;
+        locks = map (λ (x : Memory). x.pending) xs;
+        forks = order_views b.orders.items;
+        requests = map request_view b.requests.items;
+        next = 2;
+      }) stages words
+      ∙ ap₂
+      (λ (ls : List (List Pending))
+      (fs : List (List Bool)). record {
+        stages = (first p (arrays_of image)).stages;
+        arrays = arrays_of image;
+        locks = ls;
+        forks = fs;
+        requests = map request_view b.requests.items;
+        next = 2;
+      }) locks forks
+      ∙ ap
+      (λ
+      (qs : List Request). record {
+        stages = (first p (arrays_of image)).stages;
+        arrays = arrays_of image;
+        locks = for_mems (λ m. []) 0 p.mems;
+        forks = for_stages (λ i. []) 0 p.stages;
+        requests = qs;
+        next = 2;
+      }) requests
 
   kinds_by : (m : ℕ) → (m < length p.mems) ⊎ (length p.mems ≤ m) → (mem_at p m).lock ≡ (memory_at xs m).lock
   kinds_by m (inl h) = sym (each m h).lock
@@ -242,5 +275,7 @@ module _ (f : Form) (run : IsRunnable f) (image : List (List ℕ)) (images : Are
         count = omega arith;
         wide = wide;
         fine = λ k d less.
-            subst (λ (o : Option Thread). IfSome o (IsFine f)) (ap (λ (os : List (Option Thread)). slice_index_or os k None) (sym e) ∙ seat_at zs k d less) (first_fine (length p.stages) k);
+            subst (λ (o : Option Thread). IfSome o (IsFine f))
+            (ap (λ (os : List (Option Thread)). slice_index_or os k None) (sym e) ∙ seat_at zs k d less)
+            (first_fine (length p.stages) k);
       }

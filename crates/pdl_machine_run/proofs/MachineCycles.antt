@@ -60,7 +60,8 @@ flags_listed g k (b ∷ bs) (s ∷ ss) n h =
     (flags_listed g (suc k) bs ss (omega arith) (λ i less. let same : suc k + i ≡ k + suc i = omega arith in ap g same ∙ h (suc i) (omega (arith, less))))
 
 module _ (p : Pipe) (st : State) (bits : List Bool) (ms : List Act) (sq : Option ℕ) where
-  orders_listed : (k : ℕ) (lists : List (List Bool)) (ss : List Stage) → length lists ≡ length ss → ((i : ℕ) → slice_index_or lists i [] ≡ slice_index_or st.forks (k + i) [])
+  orders_listed : (k : ℕ) (lists : List (List Bool)) (ss : List Stage) → length lists ≡ length ss
+      → ((i : ℕ) → slice_index_or lists i [] ≡ slice_index_or st.forks (k + i) [])
       → orders_after p ms (is_some sq) k lists ≡ for_stages (λ f. branches_left p sq f (fork_next p st ms f)) k ss
   orders_listed k [] [] n h = refl
   orders_listed k [] (s ∷ ss) n h = absurd (omega arith)
@@ -68,17 +69,21 @@ module _ (p : Pipe) (st : State) (bits : List Bool) (ms : List Act) (sq : Option
   orders_listed k (l ∷ ls) (s ∷ ss) n h =
       let here : k + 0 ≡ k = omega arith in
       ap₂ (λ (a : List Bool) (as' : List (List Bool)). order_after p ms (is_some sq) k a ∷ as') (h 0 ∙ ap (λ i. slice_index_or st.forks i []) here)
-      (orders_listed (suc k) ls ss (omega arith) (λ i. let same : k + suc i ≡ suc k + i = omega arith in h (suc i) ∙ ap (λ j. slice_index_or st.forks j []) same))
+      (orders_listed (suc k) ls ss (omega arith)
+      (λ i. let same : k + suc i ≡ suc k + i = omega arith in h (suc i) ∙ ap (λ j. slice_index_or st.forks j []) same))
 
-  requests_listed : (k : ℕ) (rs : List Request) (ds : List Mem) → length rs ≡ length ds → ((i : ℕ) → slice_index_or rs i NoRequest ≡ slice_index_or st.requests (k + i) NoRequest)
+  requests_listed : (k : ℕ) (rs : List Request) (ds : List Mem) → length rs ≡ length ds
+      → ((i : ℕ) → slice_index_or rs i NoRequest ≡ slice_index_or st.requests (k + i) NoRequest)
       → requests_after p bits ms sq k rs ≡ for_mems (λ m. request_left sq (request_next p st bits ms m)) k ds
   requests_listed k [] [] n h = refl
   requests_listed k [] (d ∷ ds) n h = absurd (omega arith)
   requests_listed k (r ∷ rs) [] n h = absurd (omega arith)
   requests_listed k (r ∷ rs) (d ∷ ds) n h =
       let here : k + 0 ≡ k = omega arith in
-      ap₂ (λ (a : Request) (as' : List Request). request_after k ms sq (stated_answered k) a ∷ as') (h 0 ∙ ap (λ i. slice_index_or st.requests i NoRequest) here)
-      (requests_listed (suc k) rs ds (omega arith) (λ i. let same : k + suc i ≡ suc k + i = omega arith in h (suc i) ∙ ap (λ j. slice_index_or st.requests j NoRequest) same))
+      ap₂ (λ (a : Request) (as' : List Request). request_after k ms sq (stated_answered k) a ∷ as')
+      (h 0 ∙ ap (λ i. slice_index_or st.requests i NoRequest) here)
+      (requests_listed (suc k) rs ds (omega arith)
+      (λ i. let same : k + suc i ≡ suc k + i = omega arith in h (suc i) ∙ ap (λ j. slice_index_or st.requests j NoRequest) same))
     where
       stated_answered : ℕ → Bool
       stated_answered m = Rattle.pdl_semantics.specs.Machine.is_answered p bits m
@@ -108,7 +113,8 @@ module _ (test : Act → Bool) where
       at None e = e
       at (Some n) e = ap₂ (λ (b c : Bool). (b && flag k (Some n) z) || c) apart e
 
-  found_at : (k i : ℕ) (zs : List r_stage.Stage) (d : r_stage.Stage) → i < length zs → found (k + i) (all_of k zs) ≡ flag (k + i) (get_or zs i d).slot.number (get_or zs i d)
+  found_at : (k i : ℕ) (zs : List r_stage.Stage) (d : r_stage.Stage) → i < length zs
+      → found (k + i) (all_of k zs) ≡ flag (k + i) (get_or zs i d).slot.number (get_or zs i d)
   found_at k i [] d less = absurd (omega arith)
   found_at k zero (z ∷ zs) d less = at z.slot.number (none_found (k + 0) (suc k) zs (omega arith))
     where
@@ -121,9 +127,11 @@ module _ (test : Act → Bool) where
 
       at : (o : Option ℕ) → found (k + 0) (all_of (suc k) zs) ≡ false → found (k + 0) (act_here k o z ++ all_of (suc k) zs) ≡ flag (k + 0) o z
       at None e = e
-      at (Some n) e = ap₂ (λ (b c : Bool). (b && flag k (Some n) z) || c) (eq-eqb k (k + 0) here) e ∙ or_none (flag k (Some n) z) ∙ ap (λ j. flag j (Some n) z) here
+      at (Some n) e =
+          ap₂ (λ (b c : Bool). (b && flag k (Some n) z) || c) (eq-eqb k (k + 0) here) e ∙ or_none (flag k (Some n) z) ∙ ap (λ j. flag j (Some n) z) here
   found_at k (suc i) (z ∷ zs) d less =
-      at z.slot.number ∙ ap (λ j. found j (all_of (suc k) zs)) same ∙ found_at (suc k) i zs d (omega arith) ∙ ap (λ j. flag j (get_or zs i d).slot.number (get_or zs i d)) (sym same)
+      at z.slot.number ∙ ap (λ j. found j (all_of (suc k) zs)) same ∙ found_at (suc k) i zs d (omega arith)
+      ∙ ap (λ j. flag j (get_or zs i d).slot.number (get_or zs i d)) (sym same)
     where
       same : k + suc i ≡ suc k + i
       same = omega arith
@@ -149,7 +157,8 @@ moving_by s [] = refl
 moving_by s (a ∷ acts) = at a.moves (a.stage == s) (moving_by s acts)
   where
     at : (m b : Bool) → list_any (λ (a : Act). a.stage == s) (movers acts) ≡ list_any (λ (a : Act). (a.stage == s) && a.moves) acts
-        → list_any (λ (a : Act). a.stage == s) (if m then a ∷ movers acts else movers acts) ≡ (((a.stage == s) && m) || list_any (λ (a : Act). (a.stage == s) && a.moves) acts)
+        → list_any (λ (a : Act). a.stage == s) (if m then a ∷ movers acts else movers acts)
+        ≡ (((a.stage == s) && m) || list_any (λ (a : Act). (a.stage == s) && a.moves) acts)
     at true b h = go (a.stage == s)
       where
         go : (c : Bool) → (c || list_any (λ (a : Act). a.stage == s) (movers acts)) ≡ ((c && true) || list_any (λ (a : Act). (a.stage == s) && a.moves) acts)
@@ -183,8 +192,10 @@ decided_at p b bits k (suc i) (z ∷ zs) d h less =
 
 -- THE CYCLE
 
-module _ (f : Form) (b : r_beside.Beside) (bits : List Bool) (next : ℕ) (ys zs : List r_stage.Stage) (beside : IsBeside f.pipe b) (count : length ys ≡ length f.pipe.stages) (long : length ys ≡ length zs)
-    (carried : (i : ℕ) (d : r_stage.Stage) → i < length ys → IsCarried f b bits i (thread_in (get_or ys i d).slot) (get_or zs i d)) (decided : AreDecided f.pipe b bits 0 zs) where
+module _ (f : Form) (b : r_beside.Beside) (bits : List Bool) (next : ℕ) (ys zs : List r_stage.Stage)
+    (beside : IsBeside f.pipe b) (count : length ys ≡ length f.pipe.stages) (long : length ys ≡ length zs)
+    (carried : (i : ℕ) (d : r_stage.Stage) → i < length ys → IsCarried f b bits i (thread_in (get_or ys i d).slot) (get_or zs i d))
+    (decided : AreDecided f.pipe b bits 0 zs) where
   abbrev pub p : Pipe
   p = f.pipe
 
@@ -201,7 +212,9 @@ module _ (f : Form) (b : r_beside.Beside) (bits : List Bool) (next : ℕ) (ys zs
   zero_on m = omega arith
 
   pub these_are : all_of 0 zs ≡ all_acts p st bits
-  these_are = acts_are f b bits (seats ys) next 0 ys zs long (λ i d less. subst (λ j. IsCarried f b bits j (thread_in (get_or ys i d).slot) (get_or zs i d)) (sym (zero_on i)) (carried i d less)) decided
+  these_are =
+      acts_are f b bits (seats ys) next 0 ys zs long
+      (λ i d less. subst (λ j. IsCarried f b bits j (thread_in (get_or ys i d).slot) (get_or zs i d)) (sym (zero_on i)) (carried i d less)) decided
 
   pub movers_known : movers (all_acts p st bits) ≡ ms
   movers_known = ap movers (sym these_are) ∙ movers_are 0 zs
@@ -224,13 +237,17 @@ module _ (f : Form) (b : r_beside.Beside) (bits : List Bool) (next : ℕ) (ys zs
 
   module _ (news : List r_stage.Stage) (c : r_beside.Beside) (called : Bool) (sq : Option ℕ) (born : Option Thread) where
     pub next_state : length news ≡ length zs → sq ≡ squasher ms → born ≡ born_thread p next (child_of ms) → called ≡ is_some (child_of ms) → Within st ms 0 xs
-        → ((q : ℕ) (d : r_stage.Stage) → q < length zs → thread_in (get_or news q d).slot ≡ or_then (if q == 0 then born else None) (if_kept sq (next_thread p q (all_of 0 zs))))
+        → ((q : ℕ) (d : r_stage.Stage) → q < length zs
+        → thread_in (get_or news q d).slot ≡ or_then (if q == 0 then born else None) (if_kept sq (next_thread p q (all_of 0 zs))))
         → c.memories.items ≡ memories_after 0 ms sq xs
         → order_views c.orders.items ≡ orders_after p ms (is_some sq) 0 (order_views b.orders.items)
         → map request_view c.requests.items ≡ requests_after p bits ms sq 0 (map request_view b.requests.items)
         → state_of (seats news) c (if called then suc next else next) ≡ cycle p st bits
     next_state same squashed bears calls within threads memories orders requests =
-        same_state (state_of (seats news) c (if called then suc next else next)) (after_these p st bits (all_of 0 zs) ms (squasher ms)) stages_are arrays_next locks_next forks_next requests_next (ap (λ (t : Bool). if t then suc next else next) calls) ∙ sym cycle_is
+        same_state (state_of (seats news) c (if called then suc next else next))
+        (after_these p st bits (all_of 0 zs) ms (squasher ms)) stages_are arrays_next locks_next forks_next requests_next
+        (ap (λ (t : Bool). if t then suc next else next) calls)
+        ∙ sym cycle_is
       where
         children : child_of ms ≡ child_of (movers (all_of 0 zs))
         children = ap child_of (sym (movers_are 0 zs))
@@ -240,7 +257,8 @@ module _ (f : Form) (b : r_beside.Beside) (bits : List Bool) (next : ℕ) (ys zs
             seats_listed (λ q. stage_next p st (all_of 0 zs) (squasher ms) q) 0 news p.stages (omega (arith, same, long, count))
             (λ i d less.
             threads i d (omega (arith, less, same))
-            ∙ ap₂ (λ (o : Option Thread) (s : Option ℕ). or_then (if i == 0 then o else None) (if_kept s (next_thread p i (all_of 0 zs)))) (bears ∙ ap (born_thread p next) children) squashed
+            ∙ ap₂ (λ (o : Option Thread) (s : Option ℕ). or_then (if i == 0 then o else None) (if_kept s (next_thread p i (all_of 0 zs))))
+            (bears ∙ ap (born_thread p next) children) squashed
             ∙ ap (λ q. stage_next p st (all_of 0 zs) (squasher ms) q) (sym (zero_on i)))
 
         arrays_next : arrays_in c.memories.items ≡ with_commits st ms 0 p.mems st.arrays
@@ -254,13 +272,15 @@ module _ (f : Form) (b : r_beside.Beside) (bits : List Bool) (next : ℕ) (ys zs
         forks_next : order_views c.orders.items ≡ for_stages (λ i. branches_left p (squasher ms) i (fork_next p st ms i)) 0 p.stages
         forks_next =
             orders
-            ∙ orders_listed p st bits ms sq 0 (order_views b.orders.items) p.stages (length-map b.orders.items _ ∙ beside.orders) (λ i. ap (λ j. slice_index_or st.forks j []) (sym (zero_on i)))
+            ∙ orders_listed p st bits ms sq 0 (order_views b.orders.items) p.stages (length-map b.orders.items _ ∙ beside.orders)
+            (λ i. ap (λ j. slice_index_or st.forks j []) (sym (zero_on i)))
             ∙ ap (λ (s : Option ℕ). for_stages (λ i. branches_left p s i (fork_next p st ms i)) 0 p.stages) squashed
 
         requests_next : map request_view c.requests.items ≡ for_mems (λ m. request_left (squasher ms) (request_next p st bits ms m)) 0 p.mems
         requests_next =
             requests
-            ∙ requests_listed p st bits ms sq 0 (map request_view b.requests.items) p.mems (length-map b.requests.items request_view ∙ beside.requests) (λ i. ap (λ j. slice_index_or st.requests j NoRequest) (sym (zero_on i)))
+            ∙ requests_listed p st bits ms sq 0 (map request_view b.requests.items) p.mems (length-map b.requests.items request_view ∙ beside.requests)
+            (λ i. ap (λ j. slice_index_or st.requests j NoRequest) (sym (zero_on i)))
             ∙ ap (λ (s : Option ℕ). for_mems (λ m. request_left s (request_next p st bits ms m)) 0 p.mems) squashed
 
   -- THE PORTS
@@ -271,7 +291,9 @@ module _ (f : Form) (b : r_beside.Beside) (bits : List Bool) (next : ℕ) (ys zs
       (λ i less.
       (let there : i < length zs = omega (arith, less, length-map zs (λ (x : r_stage.Stage). is_some x.slot.number)) in
       let d : r_stage.Stage = get_or zs i (some_stage zs there) in
-      held_by (0 + i) (all_of 0 zs) ∙ found_at (λ a. true) 0 i zs d there ∙ stands (0 + i) (get_or zs i d) (get_or zs i d).slot.number ∙ sym (flag_mapped (λ (x : r_stage.Stage). is_some x.slot.number) zs i d there)))
+      held_by (0 + i) (all_of 0 zs) ∙ found_at (λ a. true) 0 i zs d there
+      ∙ stands (0 + i) (get_or zs i d) (get_or zs i d).slot.number
+      ∙ sym (flag_mapped (λ (x : r_stage.Stage). is_some x.slot.number) zs i d there)))
     where
       some_stage : (ns : List r_stage.Stage) → {i : ℕ} → i < length ns → r_stage.Stage
       some_stage [] h = absurd (omega arith)
@@ -288,19 +310,26 @@ module _ (f : Form) (b : r_beside.Beside) (bits : List Bool) (next : ℕ) (ys zs
       (let there : i < length zs = omega (arith, less, length-map zs (λ (x : r_stage.Stage). x.moves)) in
       let d : r_stage.Stage = get_or zs i (some_stage zs there) in
       ap (λ (as' : List Act). list_any (λ (a : Act). a.stage == 0 + i) as') (sym (movers_are 0 zs))
-      ∙ moving_by (0 + i) (all_of 0 zs) ∙ found_at (λ a. a.moves) 0 i zs d there ∙ decided_at p b bits 0 i zs d decided there ∙ sym (flag_mapped (λ (x : r_stage.Stage). x.moves) zs i d there)))
+      ∙ moving_by (0 + i) (all_of 0 zs) ∙ found_at (λ a. a.moves) 0 i zs d there
+      ∙ decided_at p b bits 0 i zs d decided there
+      ∙ sym (flag_mapped (λ (x : r_stage.Stage). x.moves) zs i d there)))
     where
       some_stage : (ns : List r_stage.Stage) → {i : ℕ} → i < length ns → r_stage.Stage
       some_stage [] h = absurd (omega arith)
       some_stage (n ∷ ns) h = n
 
   pub next_ports : (sq : Option ℕ) → sq ≡ squasher ms
-      → stage_values (are_held zs) (are_moving zs) ++ (commits_shown 0 ms xs ++ (requests_shown 0 ms p.mems ++ bit (one_ends p ms) ∷ bit (is_some sq) ∷ [])) ≡ whole_values p (stated.ports p st (all_acts p st bits))
+      → stage_values (are_held zs) (are_moving zs) ++ (commits_shown 0 ms xs ++ (requests_shown 0 ms p.mems ++ bit (one_ends p ms) ∷ bit (is_some sq) ∷ []))
+      ≡ whole_values p (stated.ports p st (all_acts p st bits))
   next_ports sq squashed =
-      ap₂ (λ (u v : List Bool). stage_values u v ++ (commits_shown 0 ms xs ++ (requests_shown 0 ms p.mems ++ bit (one_ends p ms) ∷ bit (is_some sq) ∷ []))) held_are moving_are
+      ap₂
+      (λ (u v : List Bool). stage_values u v
+      ++ (commits_shown 0 ms xs ++ (requests_shown 0 ms p.mems ++ bit (one_ends p ms) ∷ bit (is_some sq) ∷ []))) held_are moving_are
       ∙ ap₂ (λ (u v : List ℕ). stage_values valid moves ++ (u ++ (v ++ bit (one_ends p ms) ∷ bit (is_some sq) ∷ [])))
       (sym (commits_after st ms 0 p.mems xs mems locked kinds)) (requests_are ms 0 p.mems)
-      ∙ ap (λ (s : Option ℕ). stage_values valid moves ++ (all_commit_values p.mems commits ++ (all_request_values p.mems asked ++ bit (one_ends p ms) ∷ bit (is_some s) ∷ []))) squashed
+      ∙ ap
+      (λ (s : Option ℕ). stage_values valid moves
+      ++ (all_commit_values p.mems commits ++ (all_request_values p.mems asked ++ bit (one_ends p ms) ∷ bit (is_some s) ∷ []))) squashed
       ∙ ap (λ (as' : List Act). whole_values p (ports_these p st (all_of 0 zs) as')) (sym (movers_are 0 zs))
       ∙ ap (λ (as' : List Act). whole_values p (stated.ports p st as')) these_are
     where

@@ -40,7 +40,8 @@ module _ (st : State) (ms : List Act) where
   out_at : (m : ℕ) (x : Memory) → lock_of st m ≡ x.pending → taken_out st ms m ≡ out_of m ms x.pending
   out_at m x h = ap (λ es. out_of m ms es) h
 
-  pub commits_after : (m : ℕ) (ds : List Mem) (xs : List Memory) → length ds ≡ length xs → Locked m xs → ((i : ℕ) (d : Mem) → i < length ds → (slice_index_or ds i d).lock ≡ (memory_at xs i).lock)
+  pub commits_after : (m : ℕ) (ds : List Mem) (xs : List Memory) → length ds ≡ length xs → Locked m xs
+      → ((i : ℕ) (d : Mem) → i < length ds → (slice_index_or ds i d).lock ≡ (memory_at xs i).lock)
       → all_commit_values ds (for_mems (λ n. port_write (taken_out st ms n)) m ds) ≡ commits_shown m ms xs
   commits_after m [] [] n h k = refl
   commits_after m [] (x ∷ xs) n h k = absurd (omega arith)
@@ -87,7 +88,8 @@ module _ (st : State) (ms : List Act) where
       by_equal true e = set_hit ws a v h ∙ ap (slice_index (slice_set ws a v)) (sym (eqb-true b a e))
       by_equal false e = set_miss ws a v b (λ same. both_ways (b == a) e (ap (λ i. i == a) same ∙ eqb_self a))
 
-  this_array : (arrays : Arrays) (m : ℕ) (ws : List ℕ) (e : Option Pending) → ((a : ℕ) → arrays m a ≡ slice_index ws a) → IfSome e (λ x. x.address < length ws) → (a : ℕ) → with_commit arrays m e m a ≡ slice_index (committed_to ws e) a
+  this_array : (arrays : Arrays) (m : ℕ) (ws : List ℕ) (e : Option Pending) → ((a : ℕ) → arrays m a ≡ slice_index ws a)
+      → IfSome e (λ x. x.address < length ws) → (a : ℕ) → with_commit arrays m e m a ≡ slice_index (committed_to ws e) a
   this_array arrays m ws None h within a = h a
   this_array arrays m ws (Some e) h within a =
       ap (λ (b : Bool). (if b then with_value (arrays m) e.address (commit_value e.value) else arrays m) a) (eqb_self m)
@@ -101,7 +103,8 @@ module _ (st : State) (ms : List Act) where
   Within m [] = ⊤
   Within m (x ∷ xs) = IfSome (out_of m ms x.pending) (λ e. e.address < length x.words) × Within (suc m) xs
 
-  pub words_after : (sq : Option ℕ) (m : ℕ) (ds : List Mem) (xs : List Memory) (arrays : Arrays) → length ds ≡ length xs → Locked m xs → Worded arrays m xs → Within m xs
+  pub words_after : (sq : Option ℕ) (m : ℕ) (ds : List Mem) (xs : List Memory) (arrays : Arrays) → length ds ≡ length xs
+      → Locked m xs → Worded arrays m xs → Within m xs
       → Worded (with_commits st ms m ds arrays) m (memories_after m ms sq xs)
   words_after sq m [] [] arrays n h w k i a = w i a
   words_after sq m [] (x ∷ xs) arrays n h w k i a = absurd (omega arith)

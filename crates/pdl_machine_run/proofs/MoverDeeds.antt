@@ -56,5 +56,6 @@ room_here m i j xs x d list most there is room =
     let later = with_reserves m (acts_of (j + 1) (drop (j + 1) xs)) list in
     let whole : length (with_reserves m (acts_of j (drop j xs)) list) ≡ length (with_reserves m (act_of i (mover_of x) x) later) =
     ap (λ (as' : List Act). length (with_reserves m as' list)) split
-    ∙ ap (λ (es : List Pending). length es) (appended_both m (act_of j (mover_of x) x) (acts_of (j + 1) (drop (j + 1) xs)) list ∙ appended_anywhere m j i (mover_of x) x later) in
+    ∙ ap (λ (es : List Pending). length es)
+    (appended_both m (act_of j (mover_of x) x) (acts_of (j + 1) (drop (j + 1) xs)) list ∙ appended_anywhere m j i (mover_of x) x later) in
     omega arith

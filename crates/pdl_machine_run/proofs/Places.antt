@@ -14,8 +14,11 @@ place_there [] m a h = absurd (omega arith)
 place_there (l ∷ ls) m a h = here ((l.mem == m) && (l.var == a)) h (λ less. place_there ls m a less)
   where
     here : (b : Bool) → (if b then 0 else suc (place_index ls m a)) < suc (length ls)
-        → (place_index ls m a < length ls → (true ≡ machine.is_held ls m a) × (take (place_index ls m a) ls ++ drop (place_index ls m a + 1) ls ≡ machine.let_go ls m a))
-        → (true ≡ (b || machine.is_held ls m a)) × (take (if b then 0 else suc (place_index ls m a)) (l ∷ ls) ++ drop ((if b then 0 else suc (place_index ls m a)) + 1) (l ∷ ls) ≡ (if b then ls else l ∷ machine.let_go ls m a))
+        → (place_index ls m a < length ls
+        → (true ≡ machine.is_held ls m a) × (take (place_index ls m a) ls ++ drop (place_index ls m a + 1) ls ≡ machine.let_go ls m a))
+        → (true ≡ (b || machine.is_held ls m a))
+        × (take (if b then 0 else suc (place_index ls m a)) (l ∷ ls) ++ drop ((if b then 0 else suc (place_index ls m a)) + 1) (l ∷ ls)
+        ≡ (if b then ls else l ∷ machine.let_go ls m a))
     here true less more = (refl, refl)
     here false less more =
         let one = more (omega arith) in
@@ -27,7 +30,8 @@ place_nowhere : (ls : List HeldLocation) (m a : ℕ)
 place_nowhere [] m a h = (refl, refl)
 place_nowhere (l ∷ ls) m a h = here ((l.mem == m) && (l.var == a)) h (λ less. place_nowhere ls m a less)
   where
-    here : (b : Bool) → suc (length ls) ≤ (if b then 0 else suc (place_index ls m a)) → (length ls ≤ place_index ls m a → (false ≡ machine.is_held ls m a) × (ls ≡ machine.let_go ls m a))
+    here : (b : Bool) → suc (length ls) ≤ (if b then 0 else suc (place_index ls m a))
+        → (length ls ≤ place_index ls m a → (false ≡ machine.is_held ls m a) × (ls ≡ machine.let_go ls m a))
         → (false ≡ (b || machine.is_held ls m a)) × (l ∷ ls ≡ (if b then ls else l ∷ machine.let_go ls m a))
     here true less more = absurd (omega arith)
     here false less more = let one = more (omega arith) in (one.0, ap (λ (xs : List HeldLocation). l ∷ xs) one.1)

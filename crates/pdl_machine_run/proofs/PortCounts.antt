@@ -47,7 +47,8 @@ ports_counted p st acts =
     let o : stated.Ports = stated.ports p st acts in
     let last : List ℕ = bit o.ended ∷ bit o.squash ∷ [] in
     let stages : length (stage_values o.valid o.moves) ≡ 2 * length p.stages = stages_counted _ _ 0 p.stages in
-    let memories : length (all_commit_values p.mems o.commits) + length (all_request_values p.mems o.requests) ≡ all_memory_count p.mems = memories_counted _ _ 0 p.mems in
+    let memories : length (all_commit_values p.mems o.commits) + length (all_request_values p.mems o.requests) ≡ all_memory_count p.mems =
+    memories_counted _ _ 0 p.mems in
     let a = length-append (all_request_values p.mems o.requests) last in
     let b = length-append (all_commit_values p.mems o.commits) (all_request_values p.mems o.requests ++ last) in
     let c = length-append (stage_values o.valid o.moves) (all_commit_values p.mems o.commits ++ (all_request_values p.mems o.requests ++ last)) in

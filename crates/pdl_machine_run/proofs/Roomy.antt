@@ -68,11 +68,17 @@ after_length ms sq k (x ∷ xs) = ap suc (after_length ms sq (suc k) xs)
 all_step : (ms : List Act) (k : ℕ) (xs : List Memory) → ((i : ℕ) → i < length xs → CanStep (k + i) ms (memory_at xs i)) → AllCanStep k ms xs
 all_step ms k [] h = tt
 all_step ms k (x ∷ xs) h =
-    let here : k + 0 ≡ k = omega arith in
-    (subst (λ i. CanStep i ms x) here (h 0 (omega arith)), all_step ms (suc k) xs (λ i less. let same : k + suc i ≡ suc k + i = omega arith in subst (λ j. CanStep j ms (memory_at xs i)) same (h (suc i) (omega arith))))
+    let here : k + 0 ≡ k = omega arith in (
+      subst (λ i. CanStep i ms x) here (h 0 (omega arith)),
+      all_step ms (suc k) xs
+          (λ i less. let same : k + suc i ≡ suc k + i = omega arith in subst (λ j. CanStep j ms (memory_at xs i)) same (h (suc i) (omega arith))),
+    )
 
-module _ (f : Form) (run : IsRunnable f) (b : r_beside.Beside) (bits : List Bool) (next : ℕ) (ys zs : List r_stage.Stage) (beside : IsBeside f.pipe b) (count : length ys ≡ length f.pipe.stages) (long : length ys ≡ length zs)
-    (carried : (i : ℕ) (d : r_stage.Stage) → i < length ys → IsCarried f b bits i (thread_in (get_or ys i d).slot) (get_or zs i d)) (decided : AreDecided f.pipe b bits 0 zs) (reached : IsReached f.pipe (state_of (seats ys) b next)) where
+module _ (f : Form) (run : IsRunnable f) (b : r_beside.Beside) (bits : List Bool) (next : ℕ)
+    (ys zs : List r_stage.Stage) (beside : IsBeside f.pipe b) (count : length ys ≡ length f.pipe.stages)
+    (long : length ys ≡ length zs)
+    (carried : (i : ℕ) (d : r_stage.Stage) → i < length ys → IsCarried f b bits i (thread_in (get_or ys i d).slot) (get_or zs i d))
+    (decided : AreDecided f.pipe b bits 0 zs) (reached : IsReached f.pipe (state_of (seats ys) b next)) where
   abbrev pub p : Pipe
   p = f.pipe
 
@@ -86,7 +92,10 @@ module _ (f : Form) (run : IsRunnable f) (b : r_beside.Beside) (bits : List Bool
   xs = b.memories.items
 
   pub acted : AllActed f zs
-  acted = all_acted f b bits 0 ys zs long (λ i d less. let same : i ≡ 0 + i = omega arith in subst (λ j. IsCarried f b bits j (thread_in (get_or ys i d).slot) (get_or zs i d)) same (carried i d less))
+  acted =
+      all_acted f b bits 0 ys zs long
+      (λ i d less. let same : i ≡ 0 + i = omega arith in
+      subst (λ j. IsCarried f b bits j (thread_in (get_or ys i d).slot) (get_or zs i d)) same (carried i d less))
 
   sized : AllSized p ms
   sized = acts_sized f 0 zs acted
@@ -111,7 +120,9 @@ module _ (f : Form) (run : IsRunnable f) (b : r_beside.Beside) (bits : List Bool
       let sum = appended_long m ms (memory_at xs m).pending in
       record {
         room = omega arith;
-        within = subst (λ n. IfSome (oldest (both m ms (memory_at xs m).pending)) (λ e. e.address < n)) (sym depth) (oldest_within p m (both m ms (memory_at xs m).pending) (kept_both p m ms (memory_at xs m).pending sized has.pending));
+        within =
+            subst (λ n. IfSome (oldest (both m ms (memory_at xs m).pending)) (λ e. e.address < n)) (sym depth)
+            (oldest_within p m (both m ms (memory_at xs m).pending) (kept_both p m ms (memory_at xs m).pending sized has.pending));
       }
 
   pub can_step : AllCanStep 0 ms xs
@@ -140,7 +151,9 @@ module _ (f : Form) (run : IsRunnable f) (b : r_beside.Beside) (bits : List Bool
         ∙ ap (λ (as' : List Act). entries_left (squasher as') (list_three st as' m)) moving_is
         ∙ ap₂ (λ (q : Option ℕ) (es : List Pending). entries_left q (left_of m ms es)) (sym squashed) (lock_listed xs m)
 
-    few_by : (m : ℕ) → m < length p.mems → ((mem_at p m).lock ≡ Plain) ⊎ (length (memory_at xs m).pending < size_of (memory_at xs m).lock) → length (after m) ≤ size_of (memory_at xs m).lock
+    few_by : (m : ℕ) → m < length p.mems
+        → ((mem_at p m).lock ≡ Plain) ⊎ (length (memory_at xs m).pending < size_of (memory_at xs m).lock)
+        → length (after m) ≤ size_of (memory_at xs m).lock
     few_by m less (inl plain) =
         let used = used_run f run (cycle p st bits) bits (reached_next p st bits reached) in
         let none : after m ≡ [] = sym (left_is m less) ∙ used.plain m plain in
@@ -161,7 +174,8 @@ module _ (f : Form) (run : IsRunnable f) (b : r_beside.Beside) (bits : List Bool
         omega (arith, empty, left, fewer, few)
     few_room m less (inr room) = few_by m less (sized_by (room_size (mem_at p m).lock (length (lock_of (outside b) m)) room))
       where
-        sized_by : ((mem_at p m).lock ≡ Plain) ⊎ (length (lock_of (outside b) m) < size_of (mem_at p m).lock) → ((mem_at p m).lock ≡ Plain) ⊎ (length (memory_at xs m).pending < size_of (memory_at xs m).lock)
+        sized_by : ((mem_at p m).lock ≡ Plain) ⊎ (length (lock_of (outside b) m) < size_of (mem_at p m).lock)
+            → ((mem_at p m).lock ≡ Plain) ⊎ (length (memory_at xs m).pending < size_of (memory_at xs m).lock)
         sized_by (inl e) = inl e
         sized_by (inr h) =
             inr (subst (λ (l : Lock). length (memory_at xs m).pending < size_of l) (beside.roomy.memories.kinds m)
@@ -175,7 +189,9 @@ module _ (f : Form) (run : IsRunnable f) (b : r_beside.Beside) (bits : List Bool
         record {
           memories = record {
             count = after_length ms sq 0 xs ∙ beside.roomy.memories.count;
-            kept = λ m less. subst (λ (x : Memory). IsKept (2 ^ (mem_at p m).width) (mem_at p m).depth x) (sym (at m less)) (kept_after p m ms sq (memory_at xs m) sized (beside.roomy.memories.kept m less));
+            kept =
+                λ m less. subst (λ (x : Memory). IsKept (2 ^ (mem_at p m).width) (mem_at p m).depth x) (sym (at m less))
+                (kept_after p m ms sq (memory_at xs m) sized (beside.roomy.memories.kept m less));
             kinds = λ m. beside.roomy.memories.kinds m ∙ sym (lock_same 0 m xs);
           };
           room = λ m less. subst (λ (x : Memory). size_of x.lock + 1 ≤ x.capacity) (sym (at m less)) (beside.roomy.room m less);
@@ -193,12 +209,14 @@ module _ (f : Form) (run : IsRunnable f) (b : r_beside.Beside) (bits : List Bool
         lock_same k (suc m) (x ∷ ns) = lock_same (suc k) m ns
 
     -- a fork's order has room
-    order_at : (os : List r_order.Order) (i : ℕ) (d : r_order.Order) → i < length os → slice_index_or (map (λ (o : r_order.Order). o.branches.items) os) i [] ≡ (get_or os i d).branches.items
+    order_at : (os : List r_order.Order) (i : ℕ) (d : r_order.Order) → i < length os
+        → slice_index_or (map (λ (o : r_order.Order). o.branches.items) os) i [] ≡ (get_or os i d).branches.items
     order_at [] i d less = absurd (omega arith)
     order_at (o ∷ os) zero d less = refl
     order_at (o ∷ os) (suc i) d less = order_at os i d (omega arith)
 
-    pub orders_room : (i : ℕ) (d : r_order.Order) → i < length b.orders.items → length (order_after p ms (is_some sq) i (get_or b.orders.items i d).branches.items) ≤ vec_capacity (get_or b.orders.items i d).branches
+    pub orders_room : (i : ℕ) (d : r_order.Order) → i < length b.orders.items
+        → length (order_after p ms (is_some sq) i (get_or b.orders.items i d).branches.items) ≤ vec_capacity (get_or b.orders.items i d).branches
     orders_room i d less =
         let there : i < length p.stages = subst (λ n. i < n) beside.orders less in
         let now : fork_of (cycle p st bits) i ≡ order_after p ms (is_some sq) i (get_or b.orders.items i d).branches.items =

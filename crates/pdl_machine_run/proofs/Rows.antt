@@ -17,7 +17,9 @@ seen_at view xs i x d h e =
     let within : i < length (map view xs) = omega arith in
     ap view e ∙ sym (get_or-map view xs i x) ∙ get_or_default (map view xs) i (view x) d within
 
-module _ (f : Form) (stmts : List r_stmt.FlatStmt) (seen : stmts_view stmts ≡ f.pipe.stmts) (typed : AreTypedStmts f f.pipe.stmts) (rows : List ℕ) (within : (j : ℕ) → j < length rows → slice_index rows j < length f.pipe.stmts)
+module _ (f : Form) (stmts : List r_stmt.FlatStmt) (seen : stmts_view stmts ≡ f.pipe.stmts)
+    (typed : AreTypedStmts f f.pipe.stmts) (rows : List ℕ)
+    (within : (j : ℕ) → j < length rows → slice_index rows j < length f.pipe.stmts)
     (j : ℕ) (there : j < length rows) (x : r_stmt.FlatStmt) (is : x ≡ get_or stmts (get_or rows j 0) x) where
   pub row_there : get_or rows j 0 < length stmts
   row_there =
@@ -27,7 +29,9 @@ module _ (f : Form) (stmts : List r_stmt.FlatStmt) (seen : stmts_view stmts ≡ 
       omega arith
 
   pub row_stmt : stmt_view x ≡ stmt_at f.pipe.stmts (get_or rows j 0)
-  row_stmt = seen_at stmt_view stmts (get_or rows j 0) x (record { stage = 0; guards = []; op = SpecCheck }) row_there is ∙ ap (λ (ss : List Stmt). stmt_at ss (get_or rows j 0)) seen
+  row_stmt =
+      seen_at stmt_view stmts (get_or rows j 0) x (record { stage = 0; guards = []; op = SpecCheck }) row_there is
+      ∙ ap (λ (ss : List Stmt). stmt_at ss (get_or rows j 0)) seen
 
   pub row_typed : IsTypedOp f (stmt_view x).op
   row_typed = subst (λ (s : Stmt). IsTypedOp f s.op) (sym row_stmt) (typed_at f f.pipe.stmts (get_or rows j 0) typed (within j there))

@@ -67,12 +67,15 @@ map_set view (x ∷ xs) (suc k) y d h e = ap (λ zs. view x ∷ zs) (map_set vie
 module _ (p : Pipe) where
   -- who leaves stage k comes into its next stage, whoever stood there
   pub passed : (q k : ℕ) (x y : r_stage.Stage) (to : Option ℕ) (old : Option Thread) → is_none (mover_of x) ≡ false → to ≡ next_stage p k (deeds_view x.deeds)
-      → ((j n : ℕ) → thread_of n y.slot ≡ thread_after (record { stage = j; thread = thread_of n x.slot; does = deeds_view x.deeds; moves = true })) → y.slot.number ≡ x.slot.number
+      → ((j n : ℕ) → thread_of n y.slot ≡ thread_after (record { stage = j; thread = thread_of n x.slot; does = deeds_view x.deeds; moves = true }))
+      → y.slot.number ≡ x.slot.number
       → (if is_stage q to then thread_in y.slot else old) ≡ or_then (comes p q k (mover_of x) x) old
   passed q k x y to old some goes left same =
       ap₂ (λ (o : Option ℕ) (n : Option ℕ). if is_stage q o then thread_if n y.slot else old) goes same ∙ at x.moves x.slot.number some
     where
-      into : (n : ℕ) (c : Bool) → (if c then Some (thread_of n y.slot) else old) ≡ or_then (if c then Some (thread_after (record { stage = k; thread = thread_of n x.slot; does = deeds_view x.deeds; moves = true })) else None) old
+      into : (n : ℕ) (c : Bool)
+          → (if c then Some (thread_of n y.slot) else old)
+          ≡ or_then (if c then Some (thread_after (record { stage = k; thread = thread_of n x.slot; does = deeds_view x.deeds; moves = true })) else None) old
       into n true = ap (λ (t : Thread). Some t) (left k n)
       into n false = refl
 
@@ -83,10 +86,12 @@ module _ (p : Pipe) where
       at true (Some n) e = into n (is_stage q (next_stage p k (deeds_view x.deeds)))
 
   -- one thread more, which isn't in the stage
-  pub next_more : (q k : ℕ) (x : r_stage.Stage) (more : List Act) → (k ≡ q → ⊥) → next_thread p q (act_here k x.slot.number x ++ more) ≡ or_then (comes p q k (mover_of x) x) (next_thread p q more)
+  pub next_more : (q k : ℕ) (x : r_stage.Stage) (more : List Act) → (k ≡ q → ⊥)
+      → next_thread p q (act_here k x.slot.number x ++ more) ≡ or_then (comes p q k (mover_of x) x) (next_thread p q more)
   next_more q k x more apart = at x.moves x.slot.number
     where
-      at : (b : Bool) (o : Option ℕ) → next_thread p q (act_here k o (record x { moves = b }) ++ more) ≡ or_then (comes p q k (if b then o else None) x) (next_thread p q more)
+      at : (b : Bool) (o : Option ℕ)
+          → next_thread p q (act_here k o (record x { moves = b }) ++ more) ≡ or_then (comes p q k (if b then o else None) x) (next_thread p q more)
       at true None = refl
       at false None = refl
       at true (Some n) = refl
@@ -106,23 +111,33 @@ module _ (p : Pipe) where
     none_back q k [] low n = refl
     none_back q k (z ∷ zs) low n = at z.slot.number z.moves (none_back q (suc k) zs (omega arith) (omega arith))
       where
-        at : (o : Option ℕ) (b : Bool) → next_thread p q (all_of (suc k) zs) ≡ None → next_thread p q (act_here k o (record z { moves = b }) ++ all_of (suc k) zs) ≡ None
+        at : (o : Option ℕ) (b : Bool) → next_thread p q (all_of (suc k) zs) ≡ None
+            → next_thread p q (act_here k o (record z { moves = b }) ++ all_of (suc k) zs) ≡ None
         at None b h = h
         at (Some m) true h =
-            ap₂ (λ (c : Bool) (o : Option Thread). or_then (if c then Some (thread_after (record { stage = k; thread = thread_of m z.slot; does = deeds_view z.deeds; moves = true })) else None) o)
+            ap₂
+            (λ (c : Bool)
+            (o : Option Thread). or_then
+            (if c then Some (thread_after (record { stage = k; thread = thread_of m z.slot; does = deeds_view z.deeds; moves = true })) else None) o)
             (never_back q k (deeds_view z.deeds) (omega arith) (omega arith)) h
         at (Some m) false h =
-            ap₂ (λ (c : Bool) (o : Option Thread). or_then (if c then Some (thread_of m z.slot) else None) o) (ne_eqb k q (λ e. absurd (omega (arith, e, low)))) h
+            ap₂ (λ (c : Bool) (o : Option Thread). or_then (if c then Some (thread_of m z.slot) else None) o)
+            (ne_eqb k q (λ e. absurd (omega (arith, e, low)))) h
 
     -- who stays in a stage
-    pub next_here : (k : ℕ) (x : r_stage.Stage) (zs : List r_stage.Stage) → suc k + length zs ≤ length p.stages → next_thread p k (act_here k x.slot.number x ++ all_of (suc k) zs) ≡ stays x
+    pub next_here : (k : ℕ) (x : r_stage.Stage) (zs : List r_stage.Stage) → suc k + length zs ≤ length p.stages
+        → next_thread p k (act_here k x.slot.number x ++ all_of (suc k) zs) ≡ stays x
     next_here k x zs n = at x.slot.number x.moves (none_back k (suc k) zs (omega arith) n)
       where
-        at : (o : Option ℕ) (b : Bool) → next_thread p k (all_of (suc k) zs) ≡ None → next_thread p k (act_here k o (record x { moves = b }) ++ all_of (suc k) zs) ≡ (if b then None else thread_if o x.slot)
+        at : (o : Option ℕ) (b : Bool) → next_thread p k (all_of (suc k) zs) ≡ None
+            → next_thread p k (act_here k o (record x { moves = b }) ++ all_of (suc k) zs) ≡ (if b then None else thread_if o x.slot)
         at None true h = h
         at None false h = h
         at (Some m) true h =
-            ap₂ (λ (c : Bool) (o : Option Thread). or_then (if c then Some (thread_after (record { stage = k; thread = thread_of m x.slot; does = deeds_view x.deeds; moves = true })) else None) o)
+            ap₂
+            (λ (c : Bool)
+            (o : Option Thread). or_then
+            (if c then Some (thread_after (record { stage = k; thread = thread_of m x.slot; does = deeds_view x.deeds; moves = true })) else None) o)
             (never_back k k (deeds_view x.deeds) (omega arith) (omega arith)) h
         at (Some m) false h =
             ap₂ (λ (c : Bool) (o : Option Thread). or_then (if c then Some (thread_of m x.slot) else None) o) (eq-eqb k k refl) h
@@ -131,7 +146,8 @@ module _ (p : Pipe) where
     pub moved : (j : ℕ) (init now new : List r_stage.Stage) → j < length init → length init ≡ length p.stages → length now ≡ length init
         → ((i : ℕ) (d : r_stage.Stage) → i < j + 1 → get_or now i d ≡ get_or init i d)
         → ((q : ℕ) (d : r_stage.Stage) → j + 1 ≤ q → q < length now → thread_in (get_or now q d).slot ≡ next_thread p q (all_of (j + 1) (drop (j + 1) init)))
-        → ((q : ℕ) (d : r_stage.Stage) → j < q → thread_in (get_or new q d).slot ≡ or_then (comes p q j (mover_of (get_or now j d)) (get_or now j d)) (thread_in (get_or now q d).slot))
+        → ((q : ℕ) (d : r_stage.Stage) → j < q
+        → thread_in (get_or new q d).slot ≡ or_then (comes p q j (mover_of (get_or now j d)) (get_or now j d)) (thread_in (get_or now q d).slot))
         → ((d : r_stage.Stage) → thread_in (get_or new j d).slot ≡ stays (get_or now j d))
         → (q : ℕ) (d : r_stage.Stage) → j ≤ q → q < length now → thread_in (get_or new q d).slot ≡ next_thread p q (all_of j (drop j init))
     moved j init now new less count long left done there here q d low high = at (same_or q j)
@@ -157,6 +173,7 @@ module _ (p : Pipe) where
         at (inr n) =
             let past : j < q = omega (arith, low, n) in
             there q d past
-            ∙ ap₂ (λ (z : r_stage.Stage) (o : Option Thread). or_then (comes p q j (mover_of z) z) o) same (done q d (omega (arith, past)) high ∙ ap (λ i. next_thread p q (all_of i (drop (j + 1) init))) up)
+            ∙ ap₂ (λ (z : r_stage.Stage) (o : Option Thread). or_then (comes p q j (mover_of z) z) o) same
+            (done q d (omega (arith, past)) high ∙ ap (λ i. next_thread p q (all_of i (drop (j + 1) init))) up)
             ∙ sym (next_more q j x (all_of (suc j) (drop (j + 1) init)) (λ e. n (sym e)))
             ∙ ap (next_thread p q) (sym split)

@@ -59,12 +59,15 @@ module _ (f : Form) (vars : f.pipe.vars ≡ length f.widths) where
   args_room (Some args) n e h = let few = args_few args h in omega (arith, few, e)
 
 module _ (f : Form) where
-  child_here : (c later : Option (List ℕ)) → IfSome c (λ args. Fit (param_widths f) args) → IfSome later (λ args. Fit (param_widths f) args) → IfSome (if is_some c then c else later) (λ args. Fit (param_widths f) args)
+  child_here : (c later : Option (List ℕ)) → IfSome c (λ args. Fit (param_widths f) args)
+      → IfSome later (λ args. Fit (param_widths f) args)
+      → IfSome (if is_some c then c else later) (λ args. Fit (param_widths f) args)
   child_here None later h g = g
   child_here (Some args) later h g = h
 
   child_one : (k : ℕ) (z : r_stage.Stage) (o : Option ℕ) (b : Bool) (more : List Act) → HasActed f o z
-      → IfSome (child_of more) (λ args. Fit (param_widths f) args) → IfSome (child_of (act_of k (if b then o else None) z ++ more)) (λ args. Fit (param_widths f) args)
+      → IfSome (child_of more) (λ args. Fit (param_widths f) args)
+      → IfSome (child_of (act_of k (if b then o else None) z ++ more)) (λ args. Fit (param_widths f) args)
   child_one k z o false more done h = h
   child_one k z None true more done h = h
   child_one k z (Some n) true more done h = child_here (deeds_view z.deeds).child (child_of more) done.1.child h
@@ -102,7 +105,10 @@ module _ (f : Form) where
   coming_fine : (q : ℕ) (a : Act) → IsFine f a.thread → AreFit f a.does → length a.does.asks ≤ length f.pipe.stmts → Fine (coming_thread f.pipe q a)
   coming_fine q a h g few = at a.moves
     where
-      at : (b : Bool) → Fine (if b then (if is_stage q (next_stage f.pipe a.stage a.does) then Some (thread_after a) else None) else (if a.stage == q then Some a.thread else None))
+      at : (b : Bool)
+          → Fine
+          (if b then (if is_stage q (next_stage f.pipe a.stage a.does) then Some (thread_after a) else None)
+          else (if a.stage == q then Some a.thread else None))
       at true = if_fine (is_stage q (next_stage f.pipe a.stage a.does)) (thread_after a) (after_fine a g few)
       at false = if_fine (a.stage == q) a.thread h
 
@@ -121,8 +127,11 @@ module _ (f : Form) where
   kept_fine sq (Some t) h = if_fine (is_kept sq t.number) t h
 
   -- a stage's next thread fits
-  pub stage_fine : (q : ℕ) (sq : Option ℕ) (born : Option Thread) (zs : List r_stage.Stage) → AllActed f zs → Fine born → Fine (or_then (if q == 0 then born else None) (if_kept sq (next_thread f.pipe q (all_of 0 zs))))
-  stage_fine q sq born zs h g = or_fine (if q == 0 then born else None) (if_kept sq (next_thread f.pipe q (all_of 0 zs))) (at (q == 0)) (kept_fine sq (next_thread f.pipe q (all_of 0 zs)) (next_fine q 0 zs h))
+  pub stage_fine : (q : ℕ) (sq : Option ℕ) (born : Option Thread) (zs : List r_stage.Stage) → AllActed f zs → Fine born
+      → Fine (or_then (if q == 0 then born else None) (if_kept sq (next_thread f.pipe q (all_of 0 zs))))
+  stage_fine q sq born zs h g =
+      or_fine (if q == 0 then born else None) (if_kept sq (next_thread f.pipe q (all_of 0 zs))) (at (q == 0))
+      (kept_fine sq (next_thread f.pipe q (all_of 0 zs)) (next_fine q 0 zs h))
     where
       at : (b : Bool) → Fine (if b then born else None)
       at true = g
@@ -130,7 +139,8 @@ module _ (f : Form) where
 
   -- ROOM
 
-  awaits_if : (z : r_stage.Stage) (b : Bool) (o : Option ℕ) → HasActed f o z → IsStage f z → IfSome (if b then o else None) (λ n. vec_len z.deeds.asks ≤ vec_capacity z.slot.awaits)
+  awaits_if : (z : r_stage.Stage) (b : Bool) (o : Option ℕ) → HasActed f o z → IsStage f z
+      → IfSome (if b then o else None) (λ n. vec_len z.deeds.asks ≤ vec_capacity z.slot.awaits)
   awaits_if z false o h w = tt
   awaits_if z true None h w = tt
   awaits_if z true (Some n) h w =
@@ -140,5 +150,6 @@ module _ (f : Form) where
       let mapped = length-map z.deeds.asks.items ask_view in
       omega (arith, few, room, long, mapped)
 
-  pub awaits_room : (zs : List r_stage.Stage) (k : ℕ) (d : r_stage.Stage) → AllActed f zs → k < length zs → IsStage f (get_or zs k d) → HasAwaits (get_or zs k d)
+  pub awaits_room : (zs : List r_stage.Stage) (k : ℕ) (d : r_stage.Stage) → AllActed f zs → k < length zs
+      → IsStage f (get_or zs k d) → HasAwaits (get_or zs k d)
   awaits_room zs k d h less w = awaits_if (get_or zs k d) (get_or zs k d).moves (get_or zs k d).slot.number (acted_at f zs k d h less) w

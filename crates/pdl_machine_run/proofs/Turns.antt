@@ -49,7 +49,8 @@ same_carried f b bits k (Some t) x z e g h =
 same_stage : (f : Form) (x z : r_stage.Stage) → z.slot ≡ x.slot → z.deeds ≡ x.deeds → IsStage f x → IsStage f z
 same_stage f x z e g h =
     subst (λ (s : r_slot.ThreadSlot). IsStage f (record { slot = s; deeds = z.deeds; moves = z.moves })) (sym e)
-    (subst (λ (r : r_deeds.Deeds). IsStage f (record { slot = x.slot; deeds = r; moves = z.moves })) (sym g) (record { slot = h.slot; count = h.count; deeds = h.deeds }))
+    (subst (λ (r : r_deeds.Deeds). IsStage f (record { slot = x.slot; deeds = r; moves = z.moves })) (sym g)
+    (record { slot = h.slot; count = h.count; deeds = h.deeds }))
 
 same_at : {Y : Type 0} (view : r_stage.Stage → Y) (xs zs : List r_stage.Stage)
     → map view zs ≡ map view xs → (i : ℕ) (d : r_stage.Stage) → view (get_or zs i d) ≡ view (get_or xs i d)
@@ -70,10 +71,15 @@ turn_of f run b bits next ys xs zs ready beside reached n m carried wide slots d
       count = ready.count;
       long = sym n ∙ sym m;
       carried = λ i d less.
-          same_carried f b bits i (thread_in (get_or ys i d).slot) (get_or xs i d) (get_or zs i d) (same_at (λ (x : r_stage.Stage). x.slot) xs zs slots i d) (same_at (λ (x : r_stage.Stage). x.deeds) xs zs deeds i d) (carried i d less);
+          same_carried f b bits i (thread_in (get_or ys i d).slot) (get_or xs i d) (get_or zs i d)
+          (same_at (λ (x : r_stage.Stage). x.slot) xs zs slots i d)
+          (same_at (λ (x : r_stage.Stage). x.deeds) xs zs deeds i d) (carried i d less);
       decided = decided;
       reached = reached;
-      wide = λ k d less. same_stage f (get_or xs k d) (get_or zs k d) (same_at (λ (x : r_stage.Stage). x.slot) xs zs slots k d) (same_at (λ (x : r_stage.Stage). x.deeds) xs zs deeds k d) (wide k d (omega (arith, less, m)));
+      wide =
+          λ k d less. same_stage f (get_or xs k d) (get_or zs k d)
+          (same_at (λ (x : r_stage.Stage). x.slot) xs zs slots k d)
+          (same_at (λ (x : r_stage.Stage). x.deeds) xs zs deeds k d) (wide k d (omega (arith, less, m)));
     }
 
 requests_count : (p : Pipe) (bits : List Bool) (ms : List Act) (sq : Option ℕ) (m : ℕ) (rs : List Request)
@@ -97,7 +103,8 @@ module _ (f : Form) (b : r_beside.Beside) (bits : List Bool) (next : ℕ) (ys zs
   pub turn_steps : AllCanStep 0 ms b.memories.items
   turn_steps = can_step f t.run b bits next ys zs t.beside t.count t.long t.carried t.decided t.reached
 
-  pub turn_orders : (sq : Option ℕ) → sq ≡ squasher ms → (i : ℕ) (d : r_order.Order) → i < length b.orders.items → length (order_after p ms (is_some sq) i (get_or b.orders.items i d).branches.items) ≤ vec_capacity (get_or b.orders.items i d).branches
+  pub turn_orders : (sq : Option ℕ) → sq ≡ squasher ms → (i : ℕ) (d : r_order.Order) → i < length b.orders.items
+      → length (order_after p ms (is_some sq) i (get_or b.orders.items i d).branches.items) ≤ vec_capacity (get_or b.orders.items i d).branches
   turn_orders sq e = orders_room f t.run b bits next ys zs t.beside t.count t.long t.carried t.decided t.reached sq e
 
   turn_acted : Rattle.pdl_machine_run.proofs.ActedThreads.AllActed f zs
@@ -112,11 +119,15 @@ module _ (f : Form) (b : r_beside.Beside) (bits : List Bool) (next : ℕ) (ys zs
   -- WHAT COMES OF IT
 
   pub turn_ports : (sq : Option ℕ) → sq ≡ squasher ms
-      → stage_values (are_held zs) (are_moving zs) ++ (commits_shown 0 ms b.memories.items ++ (requests_shown 0 ms p.mems ++ bit (one_ends p ms) ∷ bit (is_some sq) ∷ [])) ≡ whole_values p (stated.ports p (state_of (seats ys) b next) (all_acts p (state_of (seats ys) b next) bits))
+      → stage_values (are_held zs) (are_moving zs)
+      ++ (commits_shown 0 ms b.memories.items ++ (requests_shown 0 ms p.mems ++ bit (one_ends p ms) ∷ bit (is_some sq) ∷ []))
+      ≡ whole_values p (stated.ports p (state_of (seats ys) b next) (all_acts p (state_of (seats ys) b next) bits))
   turn_ports sq e = next_ports f b bits next ys zs t.beside t.count t.long t.carried t.decided sq e
 
-  module _ (sq : Option ℕ) (squashed : sq ≡ squasher ms) (news : List r_stage.Stage) (born : Option Thread) (bears : born ≡ born_thread p next (child_of ms)) (same : length news ≡ length zs)
-      (threads : (q : ℕ) (d : r_stage.Stage) → q < length zs → thread_in (get_or news q d).slot ≡ or_then (if q == 0 then born else None) (if_kept sq (next_thread p q (all_of 0 zs)))) where
+  module _ (sq : Option ℕ) (squashed : sq ≡ squasher ms) (news : List r_stage.Stage) (born : Option Thread)
+      (bears : born ≡ born_thread p next (child_of ms)) (same : length news ≡ length zs)
+      (threads : (q : ℕ) (d : r_stage.Stage) → q < length zs
+      → thread_in (get_or news q d).slot ≡ or_then (if q == 0 then born else None) (if_kept sq (next_thread p q (all_of 0 zs)))) where
     pub turn_ready : AreStages f news → AreReady f news
     turn_ready wide =
         record {
@@ -124,14 +135,19 @@ module _ (f : Form) (b : r_beside.Beside) (bits : List Bool) (next : ℕ) (ys zs
           wide = wide;
           fine = λ k d less.
               subst (λ (o : Option Thread). IfSome o (IsFine f)) (sym (threads k d (omega (arith, less, same))))
-              (stage_fine f k sq born zs turn_acted (subst (λ (o : Option Thread). IfSome o (IsFine f)) (sym bears) (born_fine f t.run.typed.vars next (child_of ms) (child_fits f 0 zs turn_acted))));
+              (stage_fine f k sq born zs turn_acted
+              (subst (λ (o : Option Thread). IfSome o (IsFine f)) (sym bears)
+              (born_fine f t.run.typed.vars next (child_of ms) (child_fits f 0 zs turn_acted))));
         }
 
-    module _ (c : r_beside.Beside) (memories : c.memories.items ≡ memories_after 0 ms sq b.memories.items) (orders : order_views c.orders.items ≡ orders_after p ms (is_some sq) 0 (order_views b.orders.items))
+    module _ (c : r_beside.Beside) (memories : c.memories.items ≡ memories_after 0 ms sq b.memories.items)
+        (orders : order_views c.orders.items ≡ orders_after p ms (is_some sq) 0 (order_views b.orders.items))
         (requests : map request_view c.requests.items ≡ requests_after p bits ms sq 0 (map request_view b.requests.items)) where
-      pub turn_state : (called : Bool) → called ≡ is_some (child_of ms) → state_of (seats news) c (if called then suc next else next) ≡ cycle p (state_of (seats ys) b next) bits
+      pub turn_state : (called : Bool) → called ≡ is_some (child_of ms)
+          → state_of (seats news) c (if called then suc next else next) ≡ cycle p (state_of (seats ys) b next) bits
       turn_state called calls =
-          next_state f b bits next ys zs t.beside t.count t.long t.carried t.decided news c called sq born same squashed bears calls (within f t.run b bits next ys zs t.beside t.count t.long t.carried t.decided t.reached) threads memories orders requests
+          next_state f b bits next ys zs t.beside t.count t.long t.carried t.decided news c called sq born same squashed bears calls
+          (within f t.run b bits next ys zs t.beside t.count t.long t.carried t.decided t.reached) threads memories orders requests
 
       pub turn_beside : AreOrders (length p.stages) c.orders.items → IsBeside p c
       turn_beside long =

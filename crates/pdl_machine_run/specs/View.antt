@@ -62,7 +62,8 @@ kept_view k = record { var = k.var; word = k.word }
 
 -- the thread that stands there, of this number
 abbrev pub thread_of : ℕ → r_slot.ThreadSlot → Thread
-thread_of number s = record { number = number; env = s.values.items; guess = s.guess.items; awaits = map awaited_view s.awaits.items; kept = map kept_view s.kept.items }
+thread_of number s =
+    record { number = number; env = s.values.items; guess = s.guess.items; awaits = map awaited_view s.awaits.items; kept = map kept_view s.kept.items }
 
 -- if there is one
 abbrev pub thread_if : Option ℕ → r_slot.ThreadSlot → Option Thread

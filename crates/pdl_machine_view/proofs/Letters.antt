@@ -20,14 +20,17 @@ by_values f g k (x ∷ xs) rest shown s h =
     let zero_more : 2 * s + 0 ≡ 2 * s = omega arith in
     let holds : slice_index shown (2 * s) ≡ bit (f k) = ap (slice_index shown) (omega arith) ∙ h 0 in
     let moves : slice_index shown (2 * s + 1) ≡ bit (g k) = h 1 in
-    let later = by_values f g (suc k) xs rest shown (s + 1) (λ i. let e : 2 * (s + 1) + i ≡ 2 * s + suc (suc i) = omega arith in ap (slice_index shown) e ∙ h (suc (suc i))) in
+    let later =
+    by_values f g (suc k) xs rest shown (s + 1)
+    (λ i. let e : 2 * (s + 1) + i ≡ 2 * s + suc (suc i) = omega arith in ap (slice_index shown) e ∙ h (suc (suc i))) in
     ap₂ (λ c cs. c ∷ cs) (ap₂ (λ v m. letter (v == 1) (m == 1)) holds moves ∙ ap₂ letter (bit_one (f k)) (bit_one (g k))) later
 
 -- those of all stages are the letters of the machine's cycle
 pub letters_shown : (p : Pipe) (st : State) (these : List Act)
     → letters_from (whole_values p (ports p st these)) 0 (length p.stages) ≡ letters (ports p st these).valid (ports p st these).moves
 letters_shown p st these =
-    by_values (λ s. list_any (λ (a : Act). a.stage == s) these) (λ s. list_any (λ (a : Act). a.stage == s) (movers these)) 0 p.stages _ (whole_values p (ports p st these)) 0
+    by_values (λ s. list_any (λ (a : Act). a.stage == s) these)
+    (λ s. list_any (λ (a : Act). a.stage == s) (movers these)) 0 p.stages _ (whole_values p (ports p st these)) 0
     (λ i. let e : 2 * 0 + i ≡ i = omega arith in ap (slice_index (whole_values p (ports p st these))) e)
 
 -- each stage has two values

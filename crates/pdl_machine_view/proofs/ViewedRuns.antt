@@ -26,7 +26,9 @@ line_is number ls rest = ap (λ l. l ++ rest) (append_assoc (decimal number ++ c
 -- the line of the next turn, and those after it
 view_next : (p : Pipe) (st : State) (number : ℕ) (bits : List Bool) (schedule : List (List Bool))
     → view_from number (view (turns_from p st (bits ∷ schedule)))
-    ≡ decimal number ++ codes " " ++ letters (ports p st (all_acts p st bits)).valid (ports p st (all_acts p st bits)).moves ++ codes "\n" ++ view_from (suc number) (view (turns_from p (stated.cycle p st bits) schedule))
+    ≡ decimal number ++ codes " "
+    ++ letters (ports p st (all_acts p st bits)).valid (ports p st (all_acts p st bits)).moves ++ codes "\n"
+    ++ view_from (suc number) (view (turns_from p (stated.cycle p st bits) schedule))
 view_next p st number bits schedule = refl
 
 -- the replies of the next cycle, and those after it
@@ -51,8 +53,10 @@ module _ (p : Pipe) (st next : State) (bits : ℕ) (shown : List ℕ) (state : n
       let after = replies_from delays (done + 1 + 1) (cycles - (done + 1)) in
       let number : suc (done + 1) ≡ done + 1 + 1 = omega arith in
       let own : letters (ports p st these).valid (ports p st these).moves ≡ letters_from shown 0 stages =
-      sym (letters_shown p st these) ∙ ap (λ k. letters_from (whole_values p (ports p st these)) 0 k) (sym count) ∙ ap (λ vs. letters_from vs 0 stages) (sym seen) in
-      let first : map f (replies_from delays (done + 1) (cycles - done)) ≡ f bits ∷ map f after = replies_next f delays done cycles l ∙ ap (λ b. f b ∷ map f after) (sym is) in
+      sym (letters_shown p st these) ∙ ap (λ k. letters_from (whole_values p (ports p st these)) 0 k) (sym count)
+      ∙ ap (λ vs. letters_from vs 0 stages) (sym seen) in
+      let first : map f (replies_from delays (done + 1) (cycles - done)) ≡ f bits ∷ map f after =
+      replies_next f delays done cycles l ∙ ap (λ b. f b ∷ map f after) (sym is) in
       ap (λ schedule. view_from (done + 1) (view (turns_from p st schedule))) first
       ∙ view_next p st (done + 1) (f bits) (map f after)
       ∙ ap (λ ls. decimal (done + 1) ++ codes " " ++ ls ++ codes "\n" ++ lines_from (suc (done + 1)) p (stated.cycle p st (f bits)) after) own
@@ -65,12 +69,14 @@ module _ (p : Pipe) (st next : State) (bits : ℕ) (shown : List ℕ) (state : n
   stages_in = subst (λ vs. 2 * length p.stages ≤ length vs) (sym seen) (has_stages p st (all_acts p st (replies_of (delayed_count p) bits)))
 
 module _ (old new : Running) (bits : ℕ) (state : state_of new ≡ stated.cycle (flat_of old) (state_of old) (replies_to old bits))
-    (seen : new.shown ≡ whole_values (flat_of old) (ports (flat_of old) (state_of old) (all_acts (flat_of old) (state_of old) (replies_to old bits)))) (pipe : new.pipe ≡ old.pipe) where
+    (seen : new.shown ≡ whole_values (flat_of old) (ports (flat_of old) (state_of old) (all_acts (flat_of old) (state_of old) (replies_to old bits))))
+    (pipe : new.pipe ≡ old.pipe) where
   pub stages_there : 2 * length (flat_of old).stages ≤ length new.shown
   stages_there = stages_in (flat_of old) (state_of old) (state_of new) bits new.shown state seen
 
   pub cycle_step : (delays : List ℕ) (done cycles stages : ℕ) → bits ≡ bits_in delays (done + 1) → done < cycles → stages ≡ length (flat_of old).stages
-      → left (flat_of old) (state_of old) delays done cycles ≡ cycle_line (done + 1) new.shown stages ++ left (flat_of new) (state_of new) delays (done + 1) cycles
+      → left (flat_of old) (state_of old) delays done cycles
+      ≡ cycle_line (done + 1) new.shown stages ++ left (flat_of new) (state_of new) delays (done + 1) cycles
   cycle_step delays done cycles stages is l count =
       further (flat_of old) (state_of old) (state_of new) bits new.shown state seen delays done cycles stages is l count
       ∙ ap (λ q. cycle_line (done + 1) new.shown stages ++ left (flat (pipe_view q)) (state_of new) delays (done + 1) cycles) (sym pipe)

@@ -34,8 +34,10 @@ bin_bounded s Add a b p q e = record { low = p.low; high = p.high; fits = add_be
 bin_bounded s Sub a b p q e = record { low = p.low; high = p.high; fits = sub_below a.width (a.value s) (b.value s) }
 bin_bounded s Mul a b p q e = record { low = p.low; high = p.high; fits = mul_below a.width (a.value s) (b.value s) }
 bin_bounded s And a b p q e = record { low = p.low; high = p.high; fits = and_below a.width (a.value s) (b.value s) p.fits }
-bin_bounded s Or a b p q e = record { low = p.low; high = p.high; fits = or_below a.width (a.value s) (b.value s) p.fits (narrowed b.width a.width (b.value s) q.fits e) }
-bin_bounded s Xor a b p q e = record { low = p.low; high = p.high; fits = xor_below a.width (a.value s) (b.value s) p.fits (narrowed b.width a.width (b.value s) q.fits e) }
+bin_bounded s Or a b p q e =
+    record { low = p.low; high = p.high; fits = or_below a.width (a.value s) (b.value s) p.fits (narrowed b.width a.width (b.value s) q.fits e) }
+bin_bounded s Xor a b p q e =
+    record { low = p.low; high = p.high; fits = xor_below a.width (a.value s) (b.value s) p.fits (narrowed b.width a.width (b.value s) q.fits e) }
 bin_bounded s Eq a b p q e = record { low = lit≤ tt; high = lit≤ tt; fits = equal_below (a.value s) (b.value s) }
 bin_bounded s Ne a b p q e = record { low = lit≤ tt; high = lit≤ tt; fits = differ_below (a.value s) (b.value s) }
 bin_bounded s Lt a b p q e = record { low = lit≤ tt; high = lit≤ tt; fits = less_below (a.value s) (b.value s) }
@@ -51,7 +53,12 @@ cell_bounded c s There at w t h (Not a) f = let p = h a f in record { low = p.lo
 cell_bounded c s There at w t h (Bin op a b) f = bin_bounded s op (at a) (at b) (h a f.0) (h b f.1) f.2
 cell_bounded c s There at w t h (Mux x a b) f =
     let p = h a f.1 in let q = h b f.2 in
-    record { low = p.low; high = p.high; fits = mux_below (at a).width ((at x).value s) ((at a).value s) ((at b).value s) p.fits (narrowed (at b).width (at a).width ((at b).value s) q.fits f.4) }
+    record {
+      low = p.low;
+      high = p.high;
+      fits =
+          mux_below (at a).width ((at x).value s) ((at a).value s) ((at b).value s) p.fits (narrowed (at b).width (at a).width ((at b).value s) q.fits f.4);
+    }
 cell_bounded c s There at w t h (Slice a high low) f =
     let p = h a f.0 in
     record { low = omega (arith, f.1); high = omega (arith, f.1, f.2, p.high); fits = slice_below high low ((at a).value s) }
@@ -100,7 +107,8 @@ bounded_at c s w t (suc n) l (CellNet k) h =
     let e : k ≡ n = omega arith in
     let P : Signal → Type 0 = λ f. IsBounded s f in
     let Q : ℕ → Type 0 = λ j. FitsIn c (IsThereAt c j) (signal c) (cell_at c k) in
-    subst P (sym (signal_cell c w.cells k i)) (cell_bounded c s (IsThereAt c n) (signal c) w t (bounded_at c s w t n (omega arith)) (cell_at c k) (subst Q e (fits_cell c w.cells k i))))
+    subst P (sym (signal_cell c w.cells k i))
+    (cell_bounded c s (IsThereAt c n) (signal c) w t (bounded_at c s w t n (omega arith)) (cell_at c k) (subst Q e (fits_cell c w.cells k i))))
     (cases_lt k n)
 
 -- each net of a well formed circuit has 1 to 64 bits and a value that fits them, in each state that suits it

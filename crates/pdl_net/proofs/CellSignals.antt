@@ -42,7 +42,9 @@ fixed c (g ∷ gs) done f zero h =
     let same : (x : Net) → IsThereAt c (length done) x → look c all x ≡ look c done x = λ x t. ap (λ l. look c l x) e ∙ look_front c done (s ∷ r.0) x t in
     let P : ℕ → Type 0 = λ i. IsFixed c all i g in
     subst P n (record {
-      value = ap (λ l. get_or l (length done) no_signal) e ∙ get_or_at done s r.0 no_signal (length done) refl ∙ sym (cell_signal_same c c (IsThereAt c (length done)) (look c done) (look c all) (grows_refl c) same g f.0);
+      value =
+          ap (λ l. get_or l (length done) no_signal) e ∙ get_or_at done s r.0 no_signal (length done) refl
+          ∙ sym (cell_signal_same c c (IsThereAt c (length done)) (look c done) (look c all) (grows_refl c) same g f.0);
       fits = fits_same c c (IsThereAt c (length done)) (IsThereAt c (length done)) (look c done) (look c all) (grows_refl c) (λ x t. t) same g f.0;
     })
 fixed c (g ∷ gs) done f (suc k) h =

@@ -24,10 +24,13 @@ pub fits_same : (old new : Circuit) (There There' : Net → Type 0) (at at' : Ne
 fits_same old new There There' at at' w i h (Const v n) f = f
 fits_same old new There There' at at' w i h (Not a) f = i a f
 fits_same old new There There' at at' w i h (Bin op a b) f = (i a f.0, i b f.1, ap (λ s. s.width) (h a f.0) ∙ f.2 ∙ sym (ap (λ s. s.width) (h b f.1)))
-fits_same old new There There' at at' w i h (Mux s a b) f = (i s f.0, i a f.1, i b f.2, ap (λ s. s.width) (h s f.0) ∙ f.3, ap (λ s. s.width) (h a f.1) ∙ f.4 ∙ sym (ap (λ s. s.width) (h b f.2)))
+fits_same old new There There' at at' w i h (Mux s a b) f =
+    (i s f.0, i a f.1, i b f.2, ap (λ s. s.width) (h s f.0) ∙ f.3, ap (λ s. s.width) (h a f.1) ∙ f.4 ∙ sym (ap (λ s. s.width) (h b f.2)))
 fits_same old new There There' at at' w i h (Slice a high low) f = (i a f.0, f.1, let e = ap (λ s. s.width) (h a f.0) in omega (arith, e, f.2))
-fits_same old new There There' at at' w i h (Cat a b) f = (i a f.0, i b f.1, let e = ap (λ s. s.width) (h a f.0) in let d = ap (λ s. s.width) (h b f.1) in omega (arith, e, d, f.2))
-fits_same old new There There' at at' w i h (Rep k a) f = (i a f.0, f.1, let e = ap (λ s. s.width) (h a f.0) in let P : ℕ → Type 0 = λ n. k * n ≤ 64 in subst P (sym e) f.2)
+fits_same old new There There' at at' w i h (Cat a b) f =
+    (i a f.0, i b f.1, let e = ap (λ s. s.width) (h a f.0) in let d = ap (λ s. s.width) (h b f.1) in omega (arith, e, d, f.2))
+fits_same old new There There' at at' w i h (Rep k a) f =
+    (i a f.0, f.1, let e = ap (λ s. s.width) (h a f.0) in let P : ℕ → Type 0 = λ n. k * n ≤ 64 in subst P (sym e) f.2)
 fits_same old new There There' at at' w i h (Read m a) f = ((w.arrays m f.0).0, i a f.1, ap (λ s. 2 ^ s.width) (h a f.1) ∙ f.2 ∙ sym ((w.arrays m f.0).2))
 
 -- cells that fit do so in a circuit that has grown
@@ -36,7 +39,9 @@ all_fit_grown old new w [] done f = tt
 all_fit_grown old new w (g ∷ gs) done f =
     let e = cell_signal_same old new (IsThereAt old (length done)) (look old done) (look new done) w (look_grows old new w done) g f.0 in
     let P : Signal → Type 0 = λ s. AllFit new gs (done ++ s ∷ []) in (
-      fits_same old new (IsThereAt old (length done)) (IsThereAt new (length done)) (look old done) (look new done) w (there_grows old new w (length done) (length done) (omega arith)) (look_grows old new w done) g f.0,
+      fits_same old new (IsThereAt old (length done)) (IsThereAt new (length done)) (look old done)
+          (look new done) w (there_grows old new w (length done) (length done) (omega arith))
+          (look_grows old new w done) g f.0,
       subst P (sym e) (all_fit_grown old new w gs (done ++ cell_signal old (look old done) g ∷ []) f.1),
     )
 
@@ -54,10 +59,14 @@ all_fit_added old new g w f fit e =
     let n = length_signals old in
     let P : ℕ → Net → Type 0 = λ k x. IsThereAt old k x in
     let last : FitsIn new (IsThereAt new (length d)) (look new d) g =
-    fits_same old new (IsThere old) (IsThereAt new (length d)) (look old d) (look new d) w (λ x h. there_grows old new w (length old.cells) (length d) (omega (arith, n)) x h) (λ x h. look_grows old new w d x (subst (λ k. P k x) (sym n) h)) g fit in
+    fits_same old new (IsThere old) (IsThereAt new (length d)) (look old d)
+    (look new d) w (λ x h. there_grows old new w (length old.cells) (length d) (omega (arith, n)) x h)
+    (λ x h. look_grows old new w d x (subst (λ k. P k x) (sym n) h)) g fit in
     let R : List Signal → Type 0 = λ s. FitsIn new (IsThereAt new (length s)) (look new s) g in
     let Q : List Cell → Type 0 = λ gs. AllFit new gs [] in
-    subst Q (sym e) (all_fit_append new old.cells (g ∷ []) [] (all_fit_grown old new w old.cells [] f) (subst R (sym (signals_from_grows old new w old.cells [] f)) last, tt))
+    subst Q (sym e)
+    (all_fit_append new old.cells (g ∷ []) [] (all_fit_grown old new w old.cells [] f)
+    (subst R (sym (signals_from_grows old new w old.cells [] f)) last, tt))
 
 -- a well formed port, register, write port or array stays so
 driven_stays : (old new : Circuit) → KeepsNets old new → (w : ℕ) (d : Dir) → IsDriven old w d → IsDriven new w d

@@ -32,20 +32,34 @@ replies_fit x w (d ∷ ds) = ((λ i e. absurd (cc i), (λ i e. absurd (cc i), tt
 
 stages_fit : (x : List ℕ) (w : ℕ) (ks : List ℕ) → Each (λ k. Each (Shows (codes "cd_" ++ x) w) (stage_ports k)) ks
 stages_fit x w [] = tt
-stages_fit x w (k ∷ ks) = ((λ i e. let l = ap (λ xs. get_or xs 0 0) e in absurd (omega (arith, l)), (λ i e. let l = ap (λ xs. get_or xs 0 0) e in absurd (omega (arith, l)), tt)), stages_fit x w ks)
+stages_fit x w (k ∷ ks) = (
+  (λ i e. let l = ap (λ xs. get_or xs 0 0) e in absurd (omega (arith, l)), (λ i e. let l = ap (λ xs. get_or xs 0 0) e in absurd (omega (arith, l)), tt)),
+  stages_fit x w ks,
+)
 
 commits_fit : (d : PortMem) (ls : List PortMem)
     → ((l : PortMem) → Contains ls l → d.name ≡ l.name → d ≡ l)
     → Each (λ l. Each (Shows (codes "cd_" ++ d.name) d.width) (commit_ports l)) ls
 commits_fit d [] f = tt
 commits_fit d (l ∷ ls) f = (
-  (λ i e. let l = ap (λ xs. get_or xs 1 0) e in absurd (omega (arith, l)), (λ i e. let l = ap (λ xs. get_or xs 1 0) e in absurd (omega (arith, l)), (λ i e. ap (λ (m : PortMem). m.width) (sym (f l (0, omega arith, refl) (sym (prefix_of l.name d.name e)))), tt))),
+  (
+    λ i e. let l = ap (λ xs. get_or xs 1 0) e in
+        absurd (omega (arith, l)),
+    (
+      λ i e. let l = ap (λ xs. get_or xs 1 0) e in
+          absurd (omega (arith, l)),
+      (λ i e. ap (λ (m : PortMem). m.width) (sym (f l (0, omega arith, refl) (sym (prefix_of l.name d.name e)))), tt),
+    ),
+  ),
   commits_fit d ls (λ m c. f m (suc c.0, omega (arith, c.1), c.2)),
 )
 
 requests_fit : (x : List ℕ) (w : ℕ) (ds : List PortMem) → Each (λ d. Each (Shows (codes "cd_" ++ x) w) (request_ports d)) ds
 requests_fit x w [] = tt
-requests_fit x w (d ∷ ds) = ((λ i e. let l = ap (λ xs. get_or xs 0 0) e in absurd (omega (arith, l)), (λ i e. let l = ap (λ xs. get_or xs 0 0) e in absurd (omega (arith, l)), tt)), requests_fit x w ds)
+requests_fit x w (d ∷ ds) = (
+  (λ i e. let l = ap (λ xs. get_or xs 0 0) e in absurd (omega (arith, l)), (λ i e. let l = ap (λ xs. get_or xs 0 0) e in absurd (omega (arith, l)), tt)),
+  requests_fit x w ds,
+)
 
 heads_fit : (n : Netlist) (p : IsPipe n) (d : PortMem) → Contains p.delayed d
     → Each (λ q. Shows (codes "cd_" ++ d.name) d.width (head_of q)) n.ports
@@ -60,7 +74,8 @@ heads_fit n p d c =
     (each_append P (((replies ++ stages) ++ commits) ++ requests) ends
     (each_append P ((replies ++ stages) ++ commits) requests
     (each_append P (replies ++ stages) commits
-    (each_append P replies stages (each_flat P reply_ports p.delayed (replies_fit d.name d.width p.delayed)) (each_flat P stage_ports (range_with_len 0 p.stages) (stages_fit d.name d.width (range_with_len 0 p.stages))))
+    (each_append P replies stages (each_flat P reply_ports p.delayed (replies_fit d.name d.width p.delayed))
+    (each_flat P stage_ports (range_with_len 0 p.stages) (stages_fit d.name d.width (range_with_len 0 p.stages))))
     (each_flat P commit_ports p.locked (commits_fit d p.locked (λ l k e. p.agree d l c k e))))
     (each_flat P request_ports p.delayed (requests_fit d.name d.width p.delayed)))
     (λ i e. let l = ap (λ xs. get_or xs 0 0) e in absurd (omega (arith, l)), (λ i e. let l = ap (λ xs. get_or xs 0 0) e in absurd (omega (arith, l)), tt))))
@@ -83,20 +98,27 @@ module _ (c : Circuit) (s : State) (w : IsWell c) (t : Suits c s) (name : List �
             ((λ same. subst (λ k. net_value c s x < 2 ^ k) (g.1 ∙ f (ap is_input e) same) b.fits), rest))
       ]) refl
 
-  outputs_fit : (ps : List Port) → ((k : ℕ) (q : Port) → slice_get ps k ≡ Some q → IsWellPort c q) → Each (λ q. Shows name bits (head_of q)) ps → Each Fits (filter_map port_output ps)
+  outputs_fit : (ps : List Port) → ((k : ℕ) (q : Port) → slice_get ps k ≡ Some q → IsWellPort c q)
+      → Each (λ q. Shows name bits (head_of q)) ps → Each Fits (filter_map port_output ps)
   outputs_fit [] h f = tt
   outputs_fit (q ∷ ps) h f = port_fits q (filter_map port_output ps) (h 0 q refl) f.0 (outputs_fit ps (λ k r e. h (suc k) r e) f.1)
 
-  found_fits : (os : List Output) (front : List ℕ) (i : ℕ) → length front ≡ i → 0 < 2 ^ bits → Each Fits os → value_at (front ++ map (λ o. net_value c s o.net) os) (position_from (λ o. bytes_eq o.name name) i os) < 2 ^ bits
+  found_fits : (os : List Output) (front : List ℕ) (i : ℕ) → length front ≡ i → 0 < 2 ^ bits → Each Fits os
+      → value_at (front ++ map (λ o. net_value c s o.net) os) (position_from (λ o. bytes_eq o.name name) i os) < 2 ^ bits
   found_fits [] front i e z f = z
   found_fits (o ∷ os) front i e z f =
       let v = net_value c s o.net in
       let values = front ++ v ∷ map (λ o. net_value c s o.net) os in
       let here : get_or values i 0 ≡ v = get_or_at front v (map (λ o. net_value c s o.net) os) 0 i e in
-      let later : value_at ((front ++ v ∷ []) ++ map (λ o. net_value c s o.net) os) (position_from (λ o. bytes_eq o.name name) (i + 1) os) < 2 ^ bits = found_fits os (front ++ v ∷ []) (i + 1) (length-append front (v ∷ []) ∙ ap (λ k. k + 1) e) z f.1 in
-      let after = subst (λ xs. value_at xs (position_from (λ o. bytes_eq o.name name) (i + 1) os) < 2 ^ bits) (append_assoc front (v ∷ []) (map (λ o. net_value c s o.net) os)) later in
-      let P : Bool → Type 0 = λ b. (b ≡ true → o.name ≡ name) → value_at values (cond b (Some i) (position_from (λ o. bytes_eq o.name name) (i + 1) os)) < 2 ^ bits in
-      (elim (bytes_eq o.name name) as P [ true ↦ (λ g. subst (λ x. x < 2 ^ bits) (sym here) (f.0 (g refl))) | false ↦ (λ g. after) ]) ((bytes_eq-Decides o.name name).0)
+      let later : value_at ((front ++ v ∷ []) ++ map (λ o. net_value c s o.net) os) (position_from (λ o. bytes_eq o.name name) (i + 1) os) < 2 ^ bits =
+      found_fits os (front ++ v ∷ []) (i + 1) (length-append front (v ∷ []) ∙ ap (λ k. k + 1) e) z f.1 in
+      let after =
+      subst (λ xs. value_at xs (position_from (λ o. bytes_eq o.name name) (i + 1) os) < 2 ^ bits)
+      (append_assoc front (v ∷ []) (map (λ o. net_value c s o.net) os)) later in
+      let P : Bool → Type 0 =
+      λ b. (b ≡ true → o.name ≡ name) → value_at values (cond b (Some i) (position_from (λ o. bytes_eq o.name name) (i + 1) os)) < 2 ^ bits in
+      (elim (bytes_eq o.name name) as P [ true ↦ (λ g. subst (λ x. x < 2 ^ bits) (sym here) (f.0 (g refl))) | false ↦ (λ g. after) ])
+      ((bytes_eq-Decides o.name name).0)
 
 -- the value that a delayed memory commits, in each state that suits
 pub committed_fits : (n : Netlist) (w : IsWellFormed n) (d : PortMem) → Contains w.pipe.delayed d → (s : State)
@@ -105,4 +127,5 @@ pub committed_fits : (n : Netlist) (w : IsWellFormed n) (d : PortMem) → Contai
 unfolding output_values
 committed_fits n w d c s t =
     let k = circuit_of n in
-    found_fits k s w.well t (codes "cd_" ++ d.name) d.width (outputs_of k) [] 0 refl (pow_pos d.width) (outputs_fit k s w.well t (codes "cd_" ++ d.name) d.width n.ports w.well.ports (heads_fit n w.pipe d c))
+    found_fits k s w.well t (codes "cd_" ++ d.name) d.width (outputs_of k) [] 0 refl (pow_pos d.width)
+    (outputs_fit k s w.well t (codes "cd_" ++ d.name) d.width n.ports w.well.ports (heads_fit n w.pipe d c))

@@ -69,7 +69,17 @@ written = record {
   name = codes "written";
   ports = out (codes "c_m") 1 (CellNet 0) ∷ out (codes "ca_m") 1 (CellNet 1) ∷ out (codes "cd_m") 4 (CellNet 5) ∷ [];
   regs = [];
-  arrays = record { name = codes "m"; width = 4; depth = 2; writes = record { enable = CellNet 0; addr = CellNet 1; value = CellNet 2 } ∷ record { enable = CellNet 0; addr = CellNet 1; value = CellNet 3 } ∷ record { enable = CellNet 1; addr = CellNet 1; value = CellNet 2 } ∷ [] } ∷ [];
+  arrays =
+      record {
+        name = codes "m";
+        width = 4;
+        depth = 2;
+        writes =
+            record { enable = CellNet 0; addr = CellNet 1; value = CellNet 2 }
+            ∷ record { enable = CellNet 0; addr = CellNet 1; value = CellNet 3 }
+            ∷ record { enable = CellNet 1; addr = CellNet 1; value = CellNet 2 } ∷ [];
+      }
+      ∷ [];
   cells = Const 1 1 ∷ Const 1 0 ∷ Const 4 7 ∷ Const 4 9 ∷ Const 1 1 ∷ Read 0 (CellNet 1) ∷ [];
   mems = record { name = codes "m"; width = 4; depth = 1; delayed = false } ∷ [];
 }
@@ -82,7 +92,10 @@ later_stands = refl
 abbrev asked : Netlist
 asked = record {
   name = codes "asked";
-  ports = into (codes "p_m") 1 ∷ into (codes "pd_m") 4 ∷ out (codes "c_m") 1 (CellNet 0) ∷ out (codes "ca_m") 1 (CellNet 0) ∷ out (codes "cd_m") 4 (CellNet 1) ∷ out (codes "q_m") 1 (CellNet 0) ∷ out (codes "qa_m") 1 (CellNet 0) ∷ out (codes "x") 1 (Input 0) ∷ out (codes "y") 4 (Input 1) ∷ [];
+  ports =
+      into (codes "p_m") 1 ∷ into (codes "pd_m") 4 ∷ out (codes "c_m") 1 (CellNet 0) ∷ out (codes "ca_m") 1 (CellNet 0)
+      ∷ out (codes "cd_m") 4 (CellNet 1) ∷ out (codes "q_m") 1 (CellNet 0) ∷ out (codes "qa_m") 1 (CellNet 0)
+      ∷ out (codes "x") 1 (Input 0) ∷ out (codes "y") 4 (Input 1) ∷ [];
   regs = [];
   arrays = [];
   cells = Const 1 1 ∷ Const 4 8 ∷ [];
@@ -101,5 +114,7 @@ answers_come = refl
 -- the ports of a pipe of two stages, with a locked memory and a delayed one
 ports_stand : map (λ h. h.name)
     (pipe_ports 2 (record { name = codes "d"; width = 8; bits = 3 } ∷ []) (record { name = codes "m"; width = 4; bits = 2 } ∷ []))
-    ≡ codes "p_d" ∷ codes "pd_d" ∷ (codes "v_" ++ decimal 0) ∷ (codes "g_" ++ decimal 0) ∷ (codes "v_" ++ decimal 1) ∷ (codes "g_" ++ decimal 1) ∷ codes "c_m" ∷ codes "ca_m" ∷ codes "cd_m" ∷ codes "q_d" ∷ codes "qa_d" ∷ codes "ended" ∷ codes "squash" ∷ []
+    ≡ codes "p_d" ∷ codes "pd_d" ∷ (codes "v_" ++ decimal 0) ∷ (codes "g_" ++ decimal 0) ∷ (codes "v_" ++ decimal 1)
+    ∷ (codes "g_" ++ decimal 1) ∷ codes "c_m" ∷ codes "ca_m" ∷ codes "cd_m" ∷ codes "q_d" ∷ codes "qa_d"
+    ∷ codes "ended" ∷ codes "squash" ∷ []
 ports_stand = refl

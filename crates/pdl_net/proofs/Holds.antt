@@ -63,7 +63,8 @@ written_below false xs i v n h f a = f a
 
 length-after_writes : (c : Circuit) (s : State) (ps : List WritePort) (xs : List ℕ) → length (after_writes c s ps xs) ≡ length xs
 length-after_writes c s [] xs = refl
-length-after_writes c s (p ∷ ps) xs = length-after_writes c s ps _ ∙ written_length (net_value c s p.enable == 1) xs (net_value c s p.addr) (net_value c s p.value)
+length-after_writes c s (p ∷ ps) xs =
+    length-after_writes c s ps _ ∙ written_length (net_value c s p.enable == 1) xs (net_value c s p.addr) (net_value c s p.value)
 
 after_writes_below : (c : Circuit) (s : State) (m : Array) → IsWell c → Suits c s → (ps : List WritePort)
     → ((k : ℕ) (p : WritePort) → slice_get ps k ≡ Some p → IsWellWrite c m p) → (xs : List ℕ)
@@ -73,7 +74,8 @@ after_writes_below c s m w t (p ∷ ps) f xs h a =
     let g = f zero p refl in
     let b = bounded c s w t p.value g.value in
     let P : ℕ → Type 0 = λ n. net_value c s p.value < 2 ^ n in
-    after_writes_below c s m w t ps (λ k q i. f (suc k) q i) _ (written_below (net_value c s p.enable == 1) xs (net_value c s p.addr) (net_value c s p.value) (2 ^ m.width) (subst P g.width b.fits) h) a
+    after_writes_below c s m w t ps (λ k q i. f (suc k) q i) _
+    (written_below (net_value c s p.enable == 1) xs (net_value c s p.addr) (net_value c s p.value) (2 ^ m.width) (subst P g.width b.fits) h) a
 
 array_after : (c : Circuit) (s : State) (m : ℕ)
     → m < length c.arrays

@@ -38,19 +38,23 @@ keeps_trans a b c x y = record {
 
 -- each way to add keeps what was there
 pub extends_keeps : (a b : Circuit) → Extends a b → Keeps a b
-extends_keeps a b x = record { there = x.there; kept = x.kept; has_reg = x.has_reg; width = x.width; reset = x.reset; has_array = x.has_array; word = x.word; depth = x.depth }
+extends_keeps a b x =
+    record { there = x.there; kept = x.kept; has_reg = x.has_reg; width = x.width; reset = x.reset; has_array = x.has_array; word = x.word; depth = x.depth }
 
 -- a circuit that is extended but for what a fragment takes next keeps what it had
 pub but_keeps : (o : Own) (a b : Circuit) → ExtendsBut o a b → Keeps a b
-but_keeps o a b x = record { there = x.there; kept = x.kept; has_reg = x.has_reg; width = x.width; reset = x.reset; has_array = x.has_array; word = x.word; depth = x.depth }
+but_keeps o a b x =
+    record { there = x.there; kept = x.kept; has_reg = x.has_reg; width = x.width; reset = x.reset; has_array = x.has_array; word = x.word; depth = x.depth }
 
 -- a circuit that is extended with ports keeps what it had
 pub ports_keeps : (a b : Circuit) (added : List Port) → ExtendsPorts a b added → Keeps a b
-ports_keeps a b added x = record { there = x.there; kept = x.kept; has_reg = x.has_reg; width = x.width; reset = x.reset; has_array = x.has_array; word = x.word; depth = x.depth }
+ports_keeps a b added x =
+    record { there = x.there; kept = x.kept; has_reg = x.has_reg; width = x.width; reset = x.reset; has_array = x.has_array; word = x.word; depth = x.depth }
 
 -- a circuit that is extended with arrays keeps what it had
 pub arrays_keeps : (a b : Circuit) (added : List Shape) → ExtendsArrays a b added → Keeps a b
-arrays_keeps a b added x = record { there = x.there; kept = x.kept; has_reg = x.has_reg; width = x.width; reset = x.reset; has_array = x.has_array; word = x.word; depth = x.depth }
+arrays_keeps a b added x =
+    record { there = x.there; kept = x.kept; has_reg = x.has_reg; width = x.width; reset = x.reset; has_array = x.has_array; word = x.word; depth = x.depth }
 
 -- a circuit extends itself
 pub extends_refl : (c : Circuit) → Extends c c

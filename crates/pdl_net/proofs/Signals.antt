@@ -82,7 +82,8 @@ signals_grow : (old new : Circuit) → Grows old new → AllFit old old.cells []
 unfolding signals
 signals_grow old new w f =
     let r = signals_from_front new w.more (signals_from new old.cells []) in
-    let e : signals_from new new.cells [] ≡ signals_from new w.more (signals_from new old.cells []) = ap (λ l. signals_from new l []) w.cells ∙ signals_from_append new old.cells w.more [] in
+    let e : signals_from new new.cells [] ≡ signals_from new w.more (signals_from new old.cells []) =
+    ap (λ l. signals_from new l []) w.cells ∙ signals_from_append new old.cells w.more [] in
     let l : length new.cells ≡ length old.cells + length w.more = ap length w.cells ∙ length-append old.cells w.more in
     (r.0, e ∙ r.1 ∙ ap (λ s. s ++ r.0) (signals_from_grows old new w old.cells [] f), omega (arith, r.2, l))
 
@@ -114,9 +115,13 @@ unfolding signal signals IsThere
 signal_added old new g w f fit e =
     let d = signals_from old old.cells [] in
     let n = length_signals old in
-    let a : signals_from new new.cells [] ≡ signals_from new (g ∷ []) (signals_from new old.cells []) = ap (λ l. signals_from new l []) e ∙ signals_from_append new old.cells (g ∷ []) [] in
-    let b : signals_from new (g ∷ []) (signals_from new old.cells []) ≡ d ++ cell_signal new (look new d) g ∷ [] = ap (λ s. s ++ cell_signal new (look new s) g ∷ []) (signals_from_grows old new w old.cells [] f) in
-    let s = cell_signal_same old new (IsThere old) (look old d) (look new d) w (λ x h. let P : ℕ → Type 0 = λ k. IsThereAt old k x in look_grows old new w d x (subst P (sym n) h)) g fit in
+    let a : signals_from new new.cells [] ≡ signals_from new (g ∷ []) (signals_from new old.cells []) =
+    ap (λ l. signals_from new l []) e ∙ signals_from_append new old.cells (g ∷ []) [] in
+    let b : signals_from new (g ∷ []) (signals_from new old.cells []) ≡ d ++ cell_signal new (look new d) g ∷ [] =
+    ap (λ s. s ++ cell_signal new (look new s) g ∷ []) (signals_from_grows old new w old.cells [] f) in
+    let s =
+    cell_signal_same old new (IsThere old) (look old d)
+    (look new d) w (λ x h. let P : ℕ → Type 0 = λ k. IsThereAt old k x in look_grows old new w d x (subst P (sym n) h)) g fit in
     ap (λ l. get_or l (length old.cells) no_signal) (a ∙ b) ∙ get_or_push d (cell_signal new (look new d) g) no_signal (length old.cells) n ∙ s
 
 -- a choice has the value of the arm that its bit chooses

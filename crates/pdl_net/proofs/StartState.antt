@@ -42,7 +42,13 @@ held_found a (l ∷ ls) w d =
     let rest = held_found a ls (λ k x h. w (suc k) x (omega arith)) (λ k x h. d (suc k) x (omega arith)) in
     let same = (bytes_eq-Decides l.name a.name).0 in
     let P : Bool → Type 0 = λ t. (t ≡ true → l.name ≡ a.name) → IsHeld a (comb_info a (cond t (Some l) (find (λ m. bytes_eq m.name a.name) ls))) in
-    (elim (bytes_eq l.name a.name) as P [ true ↦ (λ f. held_in a l (w zero l (omega arith) (f refl)) (d zero l (omega arith) (f refl))) | false ↦ (λ f. rest) ]) same
+    (elim
+    (bytes_eq l.name a.name) as P [
+      | true ↦
+          (λ f. held_in a l (w zero l (omega arith) (f refl)) (d zero l (omega arith) (f refl)))
+      | false ↦
+          (λ f. rest)
+    ]) same
 
 -- the memories of arrays stand after the delayed ones, and an array holds its own
 mem_held : (n : Netlist) (p : IsPipe n)
@@ -61,7 +67,12 @@ mem_held n p =
           let f = p.arrays m no_array h in
           let P : MemInfo → Type 0 = λ x. IsHeld a x in
           let after : length p.delayed + m - length p.delayed ≡ m = omega arith in
-          subst P (sym (ap (λ l. get_or l (length p.delayed + m) no_mem) p.mems ∙ get_or-append_right front (map info n.arrays) (length p.delayed) (length p.delayed + m) no_mem many (omega arith) ∙ ap (λ i. get_or (map info n.arrays) i no_mem) after ∙ get_or-map info n.arrays m no_array no_mem h)) (held_found a p.locked f.width f.depth),
+          subst P
+          (sym
+          (ap (λ l. get_or l (length p.delayed + m) no_mem) p.mems
+          ∙ get_or-append_right front (map info n.arrays) (length p.delayed) (length p.delayed + m) no_mem many (omega arith)
+          ∙ ap (λ i. get_or (map info n.arrays) i no_mem) after ∙ get_or-map info n.arrays m no_array no_mem h))
+          (held_found a p.locked f.width f.depth),
     )
 
 -- words for each memory, as many as it has and of its width: those after the delayed memories' fit the arrays
@@ -91,7 +102,8 @@ image_fits : (n : Netlist) (image : List (List ℕ)) → IsWellFormed n → dela
     → ((m : ℕ) (d : MemInfo) → m < length n.mems → length (get_or image m []) ≡ (get_or n.mems m d).depth)
     → ((m : ℕ) (d : MemInfo) → m < length n.mems → (a : ℕ) → get_or (get_or image m []) a 0 < 2 ^ (get_or n.mems m d).width)
     → ImageFits (circuit_of n) image
-image_fits n image w e count depth width = subst (λ (ms : List MemInfo). ImageFits (circuit_of n) (drop (length ms) image)) e (image_part_fits n image w count depth width)
+image_fits n image w e count depth width =
+    subst (λ (ms : List MemInfo). ImageFits (circuit_of n) (drop (length ms) image)) e (image_part_fits n image w count depth width)
 
 -- no head among these is an input
 head_input : Head → Option ℕ
@@ -135,7 +147,8 @@ inputs_told n p =
     let requests = flat_map request_ports p.delayed in
     inputs_of_heads n.ports
     ∙ ap (filter_map head_input) p.ports
-    ∙ grind (arith, filter_map-append, append-nil, replies_show p.delayed, stages_show (range_with_len 0 p.stages), commits_show p.locked, requests_show p.delayed)
+    ∙ grind
+    (arith, filter_map-append, append-nil, replies_show p.delayed, stages_show (range_with_len 0 p.stages), commits_show p.locked, requests_show p.delayed)
 
 pub no_inputs : (n : Netlist) → IsWellFormed n → delayed_mems n ≡ [] → inputs_of (circuit_of n) ≡ []
 no_inputs n w e =
@@ -166,7 +179,8 @@ filled_below d w ws f a =
     let b = f a in
     ⊎_elim
     (λ (lt : a < length ws). let e = get_or_append_left ws zs 0 a lt in omega (arith, e, b))
-    (λ (ge : length ws ≤ a). let e = get_or-append_right ws zs (length ws) a 0 refl ge in let z : get_or zs (a - length ws) 0 ≡ 0 = zeros_at (d - length ws) (a - length ws) in omega (arith, e, z, b))
+    (λ (ge : length ws ≤ a). let e = get_or-append_right ws zs (length ws) a 0 refl ge in
+    let z : get_or zs (a - length ws) 0 ≡ 0 = zeros_at (d - length ws) (a - length ws) in omega (arith, e, z, b))
     (cases_lt a (length ws))
 
 -- registers at reset, and arrays with an image that fits, have values that fit a well formed circuit
@@ -181,7 +195,9 @@ holds_start n image regs arrays w i e f =
           let v = ap (λ xs. get_or xs r 0) e ∙ get_or-map (λ (x : Reg). x.reset) c.regs r no_reg 0 h in
           omega (arith, v, (w.regs r h).reset);
       array_count = ap length f ∙ loaded_length n.arrays image;
-      depth = λ m h. ap (λ l. length (get_or l m [])) f ∙ ap length (loaded_at n.arrays image m h) ∙ filled_length (array_at c m).depth (get_or image m []) (i.depth m h);
+      depth =
+          λ m h. ap (λ l. length (get_or l m [])) f ∙ ap length (loaded_at n.arrays image m h)
+          ∙ filled_length (array_at c m).depth (get_or image m []) (i.depth m h);
       words = λ m h a.
           let v = ap (λ l. get_or (get_or l m []) a 0) f ∙ ap (λ l. get_or l a 0) (loaded_at n.arrays image m h) in
           let b = filled_below (array_at c m).depth (array_at c m).width (get_or image m []) (i.words m h) a in

@@ -107,7 +107,8 @@ wide_at c w (suc n) l (CellNet k) h =
     let e : k ≡ n = omega arith in
     let P : Signal → Type 0 = λ f. IsWidth f.width in
     let Q : ℕ → Type 0 = λ j. FitsIn c (IsThereAt c j) (signal c) (cell_at c k) in
-    subst P (sym (signal_cell c w.cells k i)) (cell_wide c (IsThereAt c n) (signal c) w (wide_at c w n (omega arith)) (cell_at c k) (subst Q e (fits_cell c w.cells k i))))
+    subst P (sym (signal_cell c w.cells k i))
+    (cell_wide c (IsThereAt c n) (signal c) w (wide_at c w n (omega arith)) (cell_at c k) (subst Q e (fits_cell c w.cells k i))))
     (cases_lt k n)
 
 -- all cells of a well formed circuit fit, and have 1 to 64 bits

@@ -92,7 +92,8 @@ pub record ExtendsArrays (old new : Circuit) (added : List Shape) : Type 0 where
 pub record Grows (old new : Circuit) : Type 0 where
   pub inputs : (i : ℕ) → i < length (inputs_of old) → (i < length (inputs_of new)) × (slice_index (inputs_of new) i ≡ slice_index (inputs_of old) i)
   pub regs : (r : ℕ) → r < length old.regs → (r < length new.regs) × ((reg_at new r).width ≡ (reg_at old r).width)
-  pub arrays : (m : ℕ) → m < length old.arrays → (m < length new.arrays) × ((array_at new m).width ≡ (array_at old m).width) × ((array_at new m).depth ≡ (array_at old m).depth)
+  pub arrays : (m : ℕ) → m < length old.arrays
+      → (m < length new.arrays) × ((array_at new m).width ≡ (array_at old m).width) × ((array_at new m).depth ≡ (array_at old m).depth)
   pub more : List Cell
   pub cells : new.cells ≡ old.cells ++ more
 

@@ -70,7 +70,8 @@ port_value c ports name = value_at ports (place_of c name)
 
 -- what a memory commits: an address and a value, where its commit port is 1
 abbrev pub commit_of : Circuit → List ℕ → List ℕ → Option (ℕ × ℕ)
-commit_of c ports mem = if port_value c ports (codes "c_" ++ mem) == 1 then Some (port_value c ports (codes "ca_" ++ mem), port_value c ports (codes "cd_" ++ mem)) else None
+commit_of c ports mem =
+    if port_value c ports (codes "c_" ++ mem) == 1 then Some (port_value c ports (codes "ca_" ++ mem), port_value c ports (codes "cd_" ++ mem)) else None
 
 -- what a memory is asked for: an address, where its request port is 1
 abbrev pub request_of : Circuit → List ℕ → List ℕ → Option ℕ
@@ -92,7 +93,8 @@ abbrev pub next_stores : Circuit → List ℕ → List MemInfo → List Store �
 next_stores c ports [] stores bits = []
 next_stores c ports (i ∷ infos) [] bits = []
 next_stores c ports (i ∷ infos) (m ∷ ms) bits =
-    record { words = committed_words m.words (commit_of c ports i.name); request = outstanding m.request (reply bits) (request_of c ports i.name) } ∷ next_stores c ports infos ms (bits / 2)
+    record { words = committed_words m.words (commit_of c ports i.name); request = outstanding m.request (reply bits) (request_of c ports i.name) }
+    ∷ next_stores c ports infos ms (bits / 2)
 
 -- the delayed memories, in order
 abbrev pub delayed_mems : Netlist → List MemInfo

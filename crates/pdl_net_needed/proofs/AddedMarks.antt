@@ -188,7 +188,9 @@ pub adds_more : {X : Type 0} (f : X → List Net) (ps : List X) (i : ℕ) (p : X
     → Adds a c (flat_map f (take (i + 1) ps))
 adds_more f ps i p a b c l e h g =
     let t : flat_map f (take i ps) ++ f p ≡ flat_map f (take (i + 1) ps) =
-    sym (ap (flat_map f) (take_more ps i p l ∙ ap (λ y. take i ps ++ y ∷ []) (sym e)) ∙ flat_map-append f (take i ps) (p ∷ []) ∙ ap (λ ys. flat_map f (take i ps) ++ ys) (append-nil (f p))) in
+    sym
+    (ap (flat_map f) (take_more ps i p l ∙ ap (λ y. take i ps ++ y ∷ []) (sym e))
+    ∙ flat_map-append f (take i ps) (p ∷ []) ∙ ap (λ ys. flat_map f (take i ps) ++ ys) (append-nil (f p))) in
     subst (Adds a c) t (adds_then a b c (flat_map f (take i ps)) (f p) h g)
 
 pub adds_all : {X : Type 0} (f : X → List Net) (ps : List X) (i : ℕ) (a b : Work)
@@ -199,7 +201,8 @@ pub within_at : {X : Type 0} (f : X → List Net) (ps : List X) (i : ℕ) (p : X
     → i < length ps → p ≡ get_or ps i p → Adds a b xs → Each (IsWithin a.kept) (flat_map f ps)
     → Each (IsWithin b.kept) (f p)
 within_at f ps i p a b xs l e h w =
-    each_within_stays a b xs (f p) h (subst (λ q. Each (IsWithin a.kept) (f q)) (sym e) (each_get (λ q. Each (IsWithin a.kept) (f q)) ps i p l (each_unflat (IsWithin a.kept) f ps w)))
+    each_within_stays a b xs (f p) h
+    (subst (λ q. Each (IsWithin a.kept) (f q)) (sym e) (each_get (λ q. Each (IsWithin a.kept) (f q)) ps i p l (each_unflat (IsWithin a.kept) f ps w)))
 
 -- of a copied element
 pub adds_read : {X : Type 0} (f : X → List Net) (ps : List X) (i : ℕ) (d : X) (a b c : Work)

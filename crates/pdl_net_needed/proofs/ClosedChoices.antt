@@ -45,7 +45,8 @@ pub port_kept : (c : Circuit) (k : Choice) → IsClosed c k → (i : ℕ) (p : P
     → slice_get c.ports i ≡ Some p → Each (IsKept k) (shown_by p.dir)
 port_kept c k h i p e =
     let f = λ (q : Port). shown_by q.dir in
-    each_got (λ q. Each (IsKept k) (f q)) c.ports i p (each_unflat (IsKept k) f c.ports (each_front (IsKept k) (flat_map f c.ports) (flat_map written_from c.arrays) h.ends)) e
+    each_got (λ q. Each (IsKept k) (f q)) c.ports i p
+    (each_unflat (IsKept k) f c.ports (each_front (IsKept k) (flat_map f c.ports) (flat_map written_from c.arrays) h.ends)) e
 
 -- the nets that a write port of an array reads are kept
 pub write_kept : (c : Circuit) (k : Choice) → IsClosed c k → (m : ℕ)

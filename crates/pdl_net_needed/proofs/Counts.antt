@@ -135,7 +135,9 @@ kept_step (true ∷ bs) (suc i) = ap suc (kept_step bs i) ∙ push (get_or bs i 
 kept_step (false ∷ bs) (suc i) = kept_step bs i
 
 pub count_more : (bs : List Bool) (i : ℕ) → get_or bs i false ≡ true → kept_before bs (i + 1) ≡ kept_before bs i + 1
-count_more bs i e = let s = kept_step bs i ∙ ap (λ b. cond b (suc (kept_before bs i)) (kept_before bs i)) e in let m : i + 1 ≡ suc i = omega arith in let n : kept_before bs i + 1 ≡ suc (kept_before bs i) = omega arith in ap (kept_before bs) m ∙ s ∙ sym n
+count_more bs i e = let s = kept_step bs i ∙ ap (λ b. cond b (suc (kept_before bs i)) (kept_before bs i)) e in
+    let m : i + 1 ≡ suc i = omega arith in let n : kept_before bs i + 1 ≡ suc (kept_before bs i) = omega arith in
+    ap (kept_before bs) m ∙ s ∙ sym n
 
 -- no more kept ones stand before place i + 1 than before place i, where the one there isn't kept
 pub count_same : (bs : List Bool) (i : ℕ) → get_or bs i false ≡ false → kept_before bs (i + 1) ≡ kept_before bs i

@@ -166,7 +166,9 @@ reads_there c There at (Read m a) f = (f.1, tt)
 
 -- the nets that a cell of a well formed circuit reads are there
 pub cell_there : (c : Circuit) → IsWell c → (j : ℕ) → j < length c.cells → Each (IsThere c) (reads_of (cell_at c j))
-cell_there c w j l = each_weaker (IsThereAt c j) (IsThere c) (λ x h. there_within c j x (omega arith) h) (reads_of (cell_at c j)) (reads_there c (IsThereAt c j) (signal c) (cell_at c j) (fits_cell c w.cells j l))
+cell_there c w j l =
+    each_weaker (IsThereAt c j) (IsThere c) (λ x h. there_within c j x (omega arith) h) (reads_of (cell_at c j))
+    (reads_there c (IsThereAt c j) (signal c) (cell_at c j) (fits_cell c w.cells j l))
 
 -- the net that a port of a well formed circuit shows is there
 pub shown_there : (c : Circuit) → IsWell c → (i : ℕ) (p : Port) → slice_get c.ports i ≡ Some p → Each (IsThere c) (shown_by p.dir)
@@ -182,7 +184,9 @@ ports_there c w = each_from_get (λ (p : Port). Each (IsThere c) (shown_by p.dir
 
 -- the nets that the write ports of an array read are there, in a well formed circuit
 pub writes_there : (c : Circuit) → IsWell c → (m : ℕ) → m < length c.arrays → Each (λ p. Each (IsThere c) (read_by p)) (array_at c m).writes
-writes_there c w m l = each_from_get (λ (p : WritePort). Each (IsThere c) (read_by p)) (array_at c m).writes (λ i p e. let f = (w.arrays m l).writes i p e in (f.enable, (f.addr, (f.value, tt))))
+writes_there c w m l =
+    each_from_get (λ (p : WritePort). Each (IsThere c) (read_by p))
+    (array_at c m).writes (λ i p e. let f = (w.arrays m l).writes i p e in (f.enable, (f.addr, (f.value, tt))))
 
 arrays_there : (c : Circuit) → IsWell c → Each (λ a. Each (λ p. Each (IsThere c) (read_by p)) a.writes) c.arrays
 arrays_there c w = each_from_at (λ (a : Array). Each (λ p. Each (IsThere c) (read_by p)) a.writes) no_array c.arrays (writes_there c w)
@@ -194,7 +198,8 @@ ports_within c w ps f e p =
     let shown = λ (q : Port). shown_by q.dir in
     let r = ap (λ (v : Work). length v.kept.regs) e ∙ length-replicate (length c.regs) false in
     let g = ap (λ (v : Work). length v.kept.cells) e ∙ length-replicate (length c.cells) false in
-    each_within c w.kept r g (flat_map shown ps) (subst (λ qs. Each (IsThere c) (flat_map shown qs)) (sym p) (each_flat (IsThere c) shown c.ports (ports_there c f)))
+    each_within c w.kept r g (flat_map shown ps)
+    (subst (λ qs. Each (IsThere c) (flat_map shown qs)) (sym p) (each_flat (IsThere c) shown c.ports (ports_there c f)))
 
 -- the nets that write ports read have marks, after nets were added to none
 pub arrays_within : (c : Circuit) (u v : Work) (ms : List Array) (xs : List Net) → IsWell c
@@ -202,8 +207,12 @@ pub arrays_within : (c : Circuit) (u v : Work) (ms : List Array) (xs : List Net)
 arrays_within c u v ms xs f e h m =
     let r = h.regs ∙ ap (λ (w : Work). length w.kept.regs) e ∙ length-replicate (length c.regs) false in
     let g = h.cells ∙ ap (λ (w : Work). length w.kept.cells) e ∙ length-replicate (length c.cells) false in
-    let there = each_weaker (λ (a : Array). Each (λ p. Each (IsThere c) (read_by p)) a.writes) (λ a. Each (IsThere c) (written_from a)) (λ a t. each_flat (IsThere c) read_by a.writes t) c.arrays (arrays_there c f) in
-    each_within c v.kept r g (flat_map written_from ms) (subst (λ as'. Each (IsThere c) (flat_map written_from as')) (sym m) (each_flat (IsThere c) written_from c.arrays there))
+    let there =
+    each_weaker (λ (a : Array). Each (λ p. Each (IsThere c) (read_by p)) a.writes)
+    (λ a. Each (IsThere c) (written_from a))
+    (λ a t. each_flat (IsThere c) read_by a.writes t) c.arrays (arrays_there c f) in
+    each_within c v.kept r g (flat_map written_from ms)
+    (subst (λ as'. Each (IsThere c) (flat_map written_from as')) (sym m) (each_flat (IsThere c) written_from c.arrays there))
 
 -- marking stands once what outputs show and write ports read is marked, and nothing was before
 pub marking_ready : (c : Circuit) (u v w : Work) (ps : List Port) (ms : List Array)
@@ -211,7 +220,8 @@ pub marking_ready : (c : Circuit) (u v w : Work) (ps : List Port) (ms : List Arr
     → Adds v w (flat_map written_from ms) → IsMarking c w
 marking_ready c u v w ps ms e p m h g =
     let shown = λ (q : Port). shown_by q.dir in
-    let h' : Adds (begun c) v (flat_map shown c.ports) = subst (λ (x : Work). Adds x v (flat_map shown c.ports)) e (subst (λ qs. Adds u v (flat_map shown qs)) p h) in
+    let h' : Adds (begun c) v (flat_map shown c.ports) =
+    subst (λ (x : Work). Adds x v (flat_map shown c.ports)) e (subst (λ qs. Adds u v (flat_map shown qs)) p h) in
     let g' : Adds v w (flat_map written_from c.arrays) = subst (λ xs. Adds v w (flat_map written_from xs)) m g in
     marking_begun c w (adds_then (begun c) v w (flat_map shown c.ports) (flat_map written_from c.arrays) h' g')
 
@@ -254,23 +264,34 @@ kept_within c k h xs t = each_within c k h.reg_count h.cell_count xs t
 -- what the ports of a well formed circuit show has marks in a choice that keeps what is needed
 pub ports_marked : (c : Circuit) (k : Choice) (ps : List Port) → IsWell c → KeepsNeeded c k
     → ps ≡ c.ports → All (λ p. Each (IsWithin k) (shown_by p.dir)) ps
-ports_marked c k ps w h e = subst (All (λ (p : Port). Each (IsWithin k) (shown_by p.dir))) (sym e) (all_from_each (λ (p : Port). Each (IsWithin k) (shown_by p.dir)) c.ports (each_weaker (λ (p : Port). Each (IsThere c) (shown_by p.dir)) (λ p. Each (IsWithin k) (shown_by p.dir)) (λ p t. kept_within c k h (shown_by p.dir) t) c.ports (ports_there c w)))
+ports_marked c k ps w h e =
+    subst (All (λ (p : Port). Each (IsWithin k) (shown_by p.dir))) (sym e)
+    (all_from_each (λ (p : Port). Each (IsWithin k) (shown_by p.dir)) c.ports
+    (each_weaker (λ (p : Port). Each (IsThere c) (shown_by p.dir)) (λ p. Each (IsWithin k) (shown_by p.dir))
+    (λ p t. kept_within c k h (shown_by p.dir) t) c.ports (ports_there c w)))
 
 -- what the registers of a well formed circuit take next has marks in a choice that keeps what is needed
 pub regs_marked : (c : Circuit) (k : Choice) (rs : List Reg) → IsWell c → KeepsNeeded c k → rs ≡ c.regs → All (λ r. IsWithin k r.next) rs
-regs_marked c k rs w h e = subst (All (λ (r : Reg). IsWithin k r.next)) (sym e) (All-from_get_or (λ (r : Reg). IsWithin k r.next) c.regs no_reg (λ i l. within c k h.reg_count h.cell_count (reg_at c i).next (w.regs i l).next))
+regs_marked c k rs w h e =
+    subst (All (λ (r : Reg). IsWithin k r.next)) (sym e)
+    (All-from_get_or (λ (r : Reg). IsWithin k r.next) c.regs no_reg (λ i l. within c k h.reg_count h.cell_count (reg_at c i).next (w.regs i l).next))
 
 -- what the cells of a well formed circuit read has marks in a choice that keeps what is needed
 pub cells_marked : (c : Circuit) (k : Choice) (gs : List Cell) → IsWell c → KeepsNeeded c k
     → gs ≡ c.cells → All (λ g. Each (IsWithin k) (reads_of g)) gs
-cells_marked c k gs w h e = subst (All (λ g. Each (IsWithin k) (reads_of g))) (sym e) (All-from_get_or (λ g. Each (IsWithin k) (reads_of g)) c.cells no_cell (λ i l. kept_within c k h (reads_of (cell_at c i)) (cell_there c w i l)))
+cells_marked c k gs w h e =
+    subst (All (λ g. Each (IsWithin k) (reads_of g))) (sym e)
+    (All-from_get_or (λ g. Each (IsWithin k) (reads_of g)) c.cells no_cell (λ i l. kept_within c k h (reads_of (cell_at c i)) (cell_there c w i l)))
 
 -- what the write ports of a well formed circuit read has marks in a choice that keeps what is needed
 pub arrays_marked : (c : Circuit) (k : Choice) (ms : List Array) → IsWell c → KeepsNeeded c k
     → ms ≡ c.arrays → All (λ a. All (λ p. Each (IsWithin k) (read_by p)) a.writes) ms
 arrays_marked c k ms w h e =
     let At : Array → Type 0 = λ a. All (λ (p : WritePort). Each (IsWithin k) (read_by p)) a.writes in
-    let one : (a : Array) → Each (λ p. Each (IsThere c) (read_by p)) a.writes → At a = λ a t. all_from_each (λ p. Each (IsWithin k) (read_by p)) a.writes (each_weaker (λ p. Each (IsThere c) (read_by p)) (λ p. Each (IsWithin k) (read_by p)) (λ p u. kept_within c k h (read_by p) u) a.writes t) in
-    subst (All At) (sym e) (all_from_each At c.arrays (each_weaker (λ (a : Array). Each (λ p. Each (IsThere c) (read_by p)) a.writes) At one c.arrays (arrays_there c w)))
+    let one : (a : Array) → Each (λ p. Each (IsThere c) (read_by p)) a.writes → At a =
+    λ a t. all_from_each (λ p. Each (IsWithin k) (read_by p)) a.writes
+    (each_weaker (λ p. Each (IsThere c) (read_by p)) (λ p. Each (IsWithin k) (read_by p)) (λ p u. kept_within c k h (read_by p) u) a.writes t) in
+    subst (All At) (sym e)
+    (all_from_each At c.arrays (each_weaker (λ (a : Array). Each (λ p. Each (IsThere c) (read_by p)) a.writes) At one c.arrays (arrays_there c w)))
 
 pub ruleset taken = (fewer, taken_within, taken_there)

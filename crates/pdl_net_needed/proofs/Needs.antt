@@ -36,10 +36,13 @@ reads_moved k (Read m a) = refl
 shown_moved : (k : Choice) (ps : List Port)
     → flat_map (λ p. shown_by p.dir) (map (moved_port k) ps) ≡ map (moved_net k) (flat_map (λ p. shown_by p.dir) ps)
 shown_moved k [] = refl
-shown_moved k (p ∷ ps) = elim p.dir as (λ (d : Dir). flat_map (λ (q : Port). shown_by q.dir) (map (moved_port k) (record { name = p.name; width = p.width; dir = d } ∷ ps)) ≡ map (moved_net k) (flat_map (λ (q : Port). shown_by q.dir) (record { name = p.name; width = p.width; dir = d } ∷ ps))) [
-  | In ↦ shown_moved k ps
-  | Out x ↦ ap (λ xs. moved_net k x ∷ xs) (shown_moved k ps)
-]
+shown_moved k (p ∷ ps) =
+    elim p.dir as
+    (λ (d : Dir). flat_map (λ (q : Port). shown_by q.dir) (map (moved_port k) (record { name = p.name; width = p.width; dir = d } ∷ ps))
+    ≡ map (moved_net k) (flat_map (λ (q : Port). shown_by q.dir) (record { name = p.name; width = p.width; dir = d } ∷ ps))) [
+      | In ↦ shown_moved k ps
+      | Out x ↦ ap (λ xs. moved_net k x ∷ xs) (shown_moved k ps)
+    ]
 
 written_moved : (k : Choice) (ps : List WritePort) → flat_map read_by (map (moved_write k) ps) ≡ map (moved_net k) (flat_map read_by ps)
 written_moved k [] = refl
@@ -66,7 +69,8 @@ pub cell_moved : (k : Choice) (n : Netlist) → IsClosed (circuit_of n) k → (j
 cell_moved k n h j kept =
     let e = kept_length k.cells n.cells h.cell_count in
     let b = kept_within k.cells j kept in
-    get_or-map (moved_cell k) (kept_of k.cells n.cells) (kept_before k.cells j) no_cell no_cell (omega arith) ∙ ap (moved_cell k) (kept_get k.cells n.cells j no_cell kept)
+    get_or-map (moved_cell k) (kept_of k.cells n.cells) (kept_before k.cells j) no_cell no_cell (omega arith)
+    ∙ ap (moved_cell k) (kept_get k.cells n.cells j no_cell kept)
 
 sources_moved : (k : Choice) (n : Netlist) → IsClosed (circuit_of n) k → (x : Net) → IsKept k x
     → sources (after k n) (moved_net k x) ≡ map (moved_net k) (sources (circuit_of n) x)
@@ -85,7 +89,9 @@ contains_moved k xs ys x e m =
 needed_moved : (k : Choice) (n : Netlist) → KeepsNeeded (circuit_of n) k → {x : Net} → IsNeeded (circuit_of n) x
     → IsNeeded (after k n) (moved_net k x)
 needed_moved k n h (outside {x = x} m) = outside (contains_moved k (used_outside (circuit_of n)) (used_outside (after k n)) x (used_moved k n) m)
-needed_moved k n h (inside {x = x} {y = y} b m) = inside (needed_moved k n h b) (contains_moved k (sources (circuit_of n) x) (sources (after k n) (moved_net k x)) y (sources_moved k n (closed (circuit_of n) k h) x (h.needed x b)) m)
+needed_moved k n h (inside {x = x} {y = y} b m) =
+    inside (needed_moved k n h b)
+    (contains_moved k (sources (circuit_of n) x) (sources (after k n) (moved_net k x)) y (sources_moved k n (closed (circuit_of n) k h) x (h.needed x b)) m)
 
 -- each register and each cell of a pruned netlist is needed in it, where just what was needed is kept
 pub all_needed : (k : Choice) (n : Netlist) → KeepsNeeded (circuit_of n) k → AllNeeded (after k n)

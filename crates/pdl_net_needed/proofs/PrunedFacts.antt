@@ -27,7 +27,9 @@ well_formed n p w h = subst IsWellFormed (sym h.same) (well_formed_by h.kept n (
 
 shows : (n p : Netlist) → IsWellFormed n → IsPruned n p → (image : List (List ℕ)) (schedule : List ℕ)
     → nports p image schedule ≡ nports n image schedule
-shows n p w h = subst (λ (q : Netlist). (image : List (List ℕ)) (schedule : List ℕ) → nports q image schedule ≡ nports n image schedule) (sym h.same) (shows_same h.kept n (closed (circuit_of n) h.kept h.needed) w.well)
+shows n p w h =
+    subst (λ (q : Netlist). (image : List (List ℕ)) (schedule : List ℕ) → nports q image schedule ≡ nports n image schedule)
+    (sym h.same) (shows_same h.kept n (closed (circuit_of n) h.kept h.needed) w.well)
 
 same_frame : (n p : Netlist) → IsPruned n p → HasSameFrame n p
 same_frame n p h = subst (HasSameFrame n) (sym h.same) (frame h.kept n)
@@ -45,7 +47,8 @@ all_well n r w o = lifted (IsPruned n) IsWellFormed r (λ p h. well_formed n p w
 -- a netlist with its needed registers and cells alone shows what the whole one shows, which is well formed
 pub all_show : {E : Type 0} (n : Netlist) (r : Result Netlist E) → IsWellFormed n → IfOk r (IsPruned n)
     → IfOk r (λ p. (image : List (List ℕ)) (schedule : List ℕ) → nports p image schedule ≡ nports n image schedule)
-all_show n r w o = lifted (IsPruned n) (λ p. (image : List (List ℕ)) (schedule : List ℕ) → nports p image schedule ≡ nports n image schedule) r (λ p h. shows n p w h) o
+all_show n r w o =
+    lifted (IsPruned n) (λ p. (image : List (List ℕ)) (schedule : List ℕ) → nports p image schedule ≡ nports n image schedule) r (λ p h. shows n p w h) o
 
 -- a netlist with its needed registers and cells alone has the name, ports, array shapes and memories of all
 pub all_framed : {E : Type 0} (n : Netlist) (r : Result Netlist E) → IfOk r (IsPruned n) → IfOk r (HasSameFrame n)

@@ -31,10 +31,14 @@ place_from : (k : Choice) (name : List ℕ) (ps : List Port) (i : ℕ)
     → position_from (λ o. bytes_eq o.name name) i (filter_map port_output (map (moved_port k) ps))
     ≡ position_from (λ o. bytes_eq o.name name) i (filter_map port_output ps)
 place_from k name [] i = refl
-place_from k name (p ∷ ps) i = elim p.dir as (λ (d : Dir). position_from (λ o. bytes_eq o.name name) i (filter_map port_output (map (moved_port k) (record { name = p.name; width = p.width; dir = d } ∷ ps))) ≡ position_from (λ o. bytes_eq o.name name) i (filter_map port_output (record { name = p.name; width = p.width; dir = d } ∷ ps))) [
-  | In ↦ place_from k name ps i
-  | Out x ↦ ap (cond (bytes_eq p.name name) (Some i)) (place_from k name ps (i + 1))
-]
+place_from k name (p ∷ ps) i =
+    elim p.dir as
+    (λ (d : Dir). position_from (λ o. bytes_eq o.name name) i
+    (filter_map port_output (map (moved_port k) (record { name = p.name; width = p.width; dir = d } ∷ ps)))
+    ≡ position_from (λ o. bytes_eq o.name name) i (filter_map port_output (record { name = p.name; width = p.width; dir = d } ∷ ps))) [
+      | In ↦ place_from k name ps i
+      | Out x ↦ ap (cond (bytes_eq p.name name) (Some i)) (place_from k name ps (i + 1))
+    ]
 
 place_same : (k : Choice) (n : Netlist) (name : List ℕ) → place_of (after k n) name ≡ place_of (circuit_of n) name
 place_same k n name = place_from k name n.ports 0
@@ -49,7 +53,8 @@ stores_same : (k : Choice) (n : Netlist) (ports : List ℕ) (mems : List MemInfo
     → next_stores (after k n) ports mems stores bits ≡ next_stores (circuit_of n) ports mems stores bits
 stores_same k n ports [] stores bits = refl
 stores_same k n ports (i ∷ mems) [] bits = refl
-stores_same k n ports (i ∷ mems) (m ∷ stores) bits = cc (commit_same k n ports i.name, request_same k n ports i.name, stores_same k n ports mems stores (bits / 2))
+stores_same k n ports (i ∷ mems) (m ∷ stores) bits =
+    cc (commit_same k n ports i.name, request_same k n ports i.name, stores_same k n ports mems stores (bits / 2))
 
 -- ---- values in one cycle
 
@@ -67,7 +72,9 @@ each_from_at P d (x ∷ xs) h = (h zero (omega arith), each_from_at P d xs (λ i
 
 ports_same : (k : Choice) (n : Netlist) → IsClosed (circuit_of n) k → IsWell (circuit_of n) → (s s' : State)
     → IsSameState k s s' → Each (λ p. Each (IsSame k n s s') (shown_by p.dir)) n.ports
-ports_same k n h w s s' t = each_from_get (λ (p : Port). Each (IsSame k n s s') (shown_by p.dir)) n.ports (λ i p e. at p.width p.dir (w.ports i p e).driven (port_kept (circuit_of n) k h i p e))
+ports_same k n h w s s' t =
+    each_from_get (λ (p : Port). Each (IsSame k n s s') (shown_by p.dir)) n.ports
+    (λ i p e. at p.width p.dir (w.ports i p e).driven (port_kept (circuit_of n) k h i p e))
   where
     at : (v : ℕ) (d : Dir) → IsDriven (circuit_of n) v d → Each (IsKept k) (shown_by d) → Each (IsSame k n s s') (shown_by d)
     at v In d kept = tt
@@ -78,10 +85,14 @@ outputs_from : (k : Choice) (n : Netlist) (s s' : State) (ps : List Port)
     → map (λ o. net_value (after k n) s' o.net) (filter_map port_output (map (moved_port k) ps))
     ≡ map (λ o. net_value (circuit_of n) s o.net) (filter_map port_output ps)
 outputs_from k n s s' [] h = refl
-outputs_from k n s s' (p ∷ ps) h = (elim p.dir as (λ (d : Dir). Each (IsSame k n s s') (shown_by d) → map (λ o. net_value (after k n) s' o.net) (filter_map port_output (map (moved_port k) (record { name = p.name; width = p.width; dir = d } ∷ ps))) ≡ map (λ o. net_value (circuit_of n) s o.net) (filter_map port_output (record { name = p.name; width = p.width; dir = d } ∷ ps))) [
-  | In ↦ (λ g. outputs_from k n s s' ps h.1)
-  | Out x ↦ (λ g. cc (g.0, outputs_from k n s s' ps h.1))
-]) h.0
+outputs_from k n s s' (p ∷ ps) h =
+    (elim p.dir as
+    (λ (d : Dir). Each (IsSame k n s s') (shown_by d)
+    → map (λ o. net_value (after k n) s' o.net) (filter_map port_output (map (moved_port k) (record { name = p.name; width = p.width; dir = d } ∷ ps)))
+    ≡ map (λ o. net_value (circuit_of n) s o.net) (filter_map port_output (record { name = p.name; width = p.width; dir = d } ∷ ps))) [
+      | In ↦ (λ g. outputs_from k n s s' ps h.1)
+      | Out x ↦ (λ g. cc (g.0, outputs_from k n s s' ps h.1))
+    ]) h.0
 
 outputs_same : (k : Choice) (n : Netlist) → IsClosed (circuit_of n) k → IsWell (circuit_of n) → (s s' : State)
     → IsSameState k s s' → output_values (after k n) s' ≡ output_values (circuit_of n) s
@@ -100,7 +111,8 @@ nexts_from k n s s' (false ∷ bs) (r ∷ rs) h = nexts_from k n s s' bs rs (λ 
 nexts_same : (k : Choice) (n : Netlist) → IsClosed (circuit_of n) k → IsWell (circuit_of n) → (s s' : State)
     → IsSameState k s s' → next_regs (after k n) s' ≡ kept_of k.regs (next_regs (circuit_of n) s)
 unfolding next_regs
-nexts_same k n h w s s' t = nexts_from k n s s' k.regs n.regs (λ r l e. value_same k n h w s s' t (reg_at (circuit_of n) r).next (w.regs r l).next (h.reads (RegNet r) e).0)
+nexts_same k n h w s s' t =
+    nexts_from k n s s' k.regs n.regs (λ r l e. value_same k n h w s s' t (reg_at (circuit_of n) r).next (w.regs r l).next (h.reads (RegNet r) e).0)
 
 writes_from : (k : Choice) (n : Netlist) (s s' : State) (ps : List WritePort) (xs : List ℕ)
     → Each (λ p. Each (IsSame k n s s') (read_by p)) ps
@@ -110,7 +122,12 @@ writes_from k n s s' (p ∷ ps) xs h =
     let e = h.0.0 in
     let a = h.0.1.0 in
     let v = h.0.1.1.0 in
-    let one : (if net_value (after k n) s' (moved_net k p.enable) == 1 then slice_set xs (net_value (after k n) s' (moved_net k p.addr)) (net_value (after k n) s' (moved_net k p.value)) else xs) ≡ (if net_value (circuit_of n) s p.enable == 1 then slice_set xs (net_value (circuit_of n) s p.addr) (net_value (circuit_of n) s p.value) else xs) = cc (e, a, v) in
+    let one :
+    (if net_value (after k n) s' (moved_net k p.enable) == 1
+    then slice_set xs (net_value (after k n) s' (moved_net k p.addr)) (net_value (after k n) s' (moved_net k p.value))
+    else xs)
+    ≡ (if net_value (circuit_of n) s p.enable == 1 then slice_set xs (net_value (circuit_of n) s p.addr) (net_value (circuit_of n) s p.value) else xs) =
+    cc (e, a, v) in
     ap (after_writes (after k n) s' (map (moved_write k) ps)) one ∙ writes_from k n s s' ps _ h.1
 
 arrays_from_same : (k : Choice) (n : Netlist) (s s' : State)
@@ -119,7 +136,9 @@ arrays_from_same : (k : Choice) (n : Netlist) (s s' : State)
     → arrays_from (after k n) s' (map (moved_array k) ms) j ≡ arrays_from (circuit_of n) s ms j
 arrays_from_same k n s s' t [] j h = refl
 arrays_from_same k n s s' t (a ∷ ms) j h =
-    let first = ap (λ xs. after_writes (after k n) s' (map (moved_write k) a.writes) (slice_index_or xs j [])) t ∙ writes_from k n s s' a.writes (slice_index_or s.arrays j []) h.0 in
+    let first =
+    ap (λ xs. after_writes (after k n) s' (map (moved_write k) a.writes) (slice_index_or xs j [])) t
+    ∙ writes_from k n s s' a.writes (slice_index_or s.arrays j []) h.0 in
     cc (first, arrays_from_same k n s s' t ms (suc j) h.1)
 
 writes_same : (k : Choice) (n : Netlist) → IsClosed (circuit_of n) k → IsWell (circuit_of n) → (s s' : State)

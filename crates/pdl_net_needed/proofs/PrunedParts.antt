@@ -25,7 +25,11 @@ after k n = circuit_of (pruned k n)
 
 inputs_moved : (k : Choice) (ps : List Port) → filter_map port_input (map (moved_port k) ps) ≡ filter_map port_input ps
 inputs_moved k [] = refl
-inputs_moved k (p ∷ ps) = elim p.dir as (λ (d : Dir). filter_map port_input (map (moved_port k) (record { name = p.name; width = p.width; dir = d } ∷ ps)) ≡ filter_map port_input (record { name = p.name; width = p.width; dir = d } ∷ ps)) [ In ↦ ap (λ ws. p.width ∷ ws) (inputs_moved k ps) | Out x ↦ inputs_moved k ps ]
+inputs_moved k (p ∷ ps) =
+    elim p.dir as
+    (λ (d : Dir). filter_map port_input (map (moved_port k) (record { name = p.name; width = p.width; dir = d } ∷ ps))
+    ≡ filter_map port_input (record { name = p.name; width = p.width; dir = d } ∷ ps))
+    [ In ↦ ap (λ ws. p.width ∷ ws) (inputs_moved k ps) | Out x ↦ inputs_moved k ps ]
 
 inputs_same : (k : Choice) (n : Netlist) → inputs_of (after k n) ≡ inputs_of (circuit_of n)
 inputs_same k n = inputs_moved k n.ports
@@ -44,7 +48,8 @@ pub reg_moved : (k : Choice) (n : Netlist) → IsClosed (circuit_of n) k → (r 
 reg_moved k n h r kept =
     let e = kept_length k.regs n.regs h.reg_count in
     let b = kept_within k.regs r kept in
-    get_or-map (moved_reg k) (kept_of k.regs n.regs) (kept_before k.regs r) no_reg no_reg (omega arith) ∙ ap (moved_reg k) (kept_get k.regs n.regs r no_reg kept)
+    get_or-map (moved_reg k) (kept_of k.regs n.regs) (kept_before k.regs r) no_reg no_reg (omega arith)
+    ∙ ap (moved_reg k) (kept_get k.regs n.regs r no_reg kept)
 
 -- each array stays at its number, with the new numbers of what its write ports read
 pub array_moved : (k : Choice) (n : Netlist) (m : ℕ)

@@ -41,7 +41,8 @@ port_well : (k : Choice) (n : Netlist) → IsClosed (circuit_of n) k → IsWell 
 port_well k n h f i q e =
     let r = mapped_at (moved_port k) n.ports i q e in
     let w = f.ports i r.old r.here in
-    subst (IsWellPort (after k n)) r.same (record { low = w.low; high = w.high; driven = driven_moved k n h f r.old.width r.old.dir (port_kept (circuit_of n) k h i r.old r.here) w.driven })
+    subst (IsWellPort (after k n)) r.same
+    (record { low = w.low; high = w.high; driven = driven_moved k n h f r.old.width r.old.dir (port_kept (circuit_of n) k h i r.old r.here) w.driven })
 
 reg_well : (k : Choice) (n : Netlist) → IsClosed (circuit_of n) k → IsWell (circuit_of n) → (r : ℕ)
     → r < length (after k n).regs → IsWellReg (after k n) (reg_at (after k n) r)
@@ -86,7 +87,8 @@ array_well k n h f m l =
       depth = w.depth;
       writes = λ i q e.
           let r = mapped_at (moved_write k) a.writes i q e in
-          subst (IsWellWrite (after k n) (moved_array k a)) r.same (write_well k n h f a r.old (write_kept (circuit_of n) k h m o i r.old r.here) (w.writes i r.old r.here));
+          subst (IsWellWrite (after k n) (moved_array k a)) r.same
+          (write_well k n h f a r.old (write_kept (circuit_of n) k h m o i r.old r.here) (w.writes i r.old r.here));
     })
 
 pub well : (k : Choice) (n : Netlist) → IsClosed (circuit_of n) k → IsWell (circuit_of n) → IsWell (after k n)

@@ -19,7 +19,8 @@ use Rattle.pdl_net_needed.proofs.Counts.{kept_get, kept_less, kept_next}
 -- two circuits with the same inputs and array sizes, of which the second has the kept registers of the first
 pub record HasMoved (c c' : Circuit) (k : Choice) : Type 0 where
   pub inputs : inputs_of c' ≡ inputs_of c
-  pub regs : (r : ℕ) → r < length c.regs → IsKept k (RegNet r) → (kept_before k.regs r < length c'.regs) × ((reg_at c' (kept_before k.regs r)).width ≡ (reg_at c r).width)
+  pub regs : (r : ℕ) → r < length c.regs → IsKept k (RegNet r)
+      → (kept_before k.regs r < length c'.regs) × ((reg_at c' (kept_before k.regs r)).width ≡ (reg_at c r).width)
   pub arrays : length c'.arrays ≡ length c.arrays
   pub widths : (m : ℕ) → m < length c.arrays → (array_at c' m).width ≡ (array_at c m).width
   pub depths : (m : ℕ) → m < length c.arrays → (array_at c' m).depth ≡ (array_at c m).depth
@@ -85,8 +86,10 @@ moved_value c c' k s s' There There' at at' m t h (Slice a high low) e f = let p
 moved_value c c' k s s' There There' at at' m t h (Cat a b) e f =
     let p = (h a f.0 e.0).same in let q = (h b f.1 e.1.0).same in
     record { width = cc (p.width, q.width); value = cc (q.width, p.value, q.value) }
-moved_value c c' k s s' There There' at at' m t h (Rep n a) e f = let p = (h a f.0 e.0).same in record { width = ap (λ w. n * w) p.width; value = cc (p.width, p.value) }
-moved_value c c' k s s' There There' at at' m t h (Read i a) e f = let p = (h a f.1 e.0).same in record { width = m.widths i f.0; value = cc (t.arrays, p.value) }
+moved_value c c' k s s' There There' at at' m t h (Rep n a) e f = let p = (h a f.0 e.0).same in
+    record { width = ap (λ w. n * w) p.width; value = cc (p.width, p.value) }
+moved_value c c' k s s' There There' at at' m t h (Read i a) e f = let p = (h a f.1 e.0).same in
+    record { width = m.widths i f.0; value = cc (t.arrays, p.value) }
 
 -- the signals of the first cells, and those of the kept ones among them
 pub record Agrees (k : Choice) (s s' : State) (done done' : List Signal) : Type 0 where
@@ -117,7 +120,8 @@ agrees_kept : (k : Choice) (s s' : State) (front bs : List Bool) (done done' : L
     → Agrees k s s' (done ++ f ∷ []) (done' ++ f' ∷ [])
 agrees_kept k s s' front bs done done' f f' e n g h =
     let last : kept_before k.cells (suc (length front)) ≡ suc (kept_before k.cells (length front)) =
-    (let P : List Bool → Type 0 = λ xs. kept_before xs (suc (length front)) ≡ suc (kept_before xs (length front)) in subst P (sym e) (kept_next front true bs)) in
+    (let P : List Bool → Type 0 = λ xs. kept_before xs (suc (length front)) ≡ suc (kept_before xs (length front)) in
+    subst P (sym e) (kept_next front true bs)) in
     let l = length-append done (f ∷ []) in
     let l' = length-append done' (f' ∷ []) in
     record {
@@ -132,7 +136,8 @@ agrees_kept k s s' front bs done done' f f' e n g h =
           let P : Signal → Signal → Type 0 = λ x y. SameAt s s' x y in
           let i = get_or_append_left done (f ∷ []) no_signal j less in
           let i' = get_or_append_left done' (f' ∷ []) no_signal (kept_before k.cells j) (omega (arith, w, g.count)) in
-          subst (λ x. P x (get_or (done' ++ f' ∷ []) (kept_before k.cells j) no_signal)) (sym i) (subst (P (get_or done j no_signal)) (sym i') (g.cells j less kept)))
+          subst (λ x. P x (get_or (done' ++ f' ∷ []) (kept_before k.cells j) no_signal)) (sym i)
+          (subst (P (get_or done j no_signal)) (sym i') (g.cells j less kept)))
           (λ (ge : length done ≤ j).
           let a : length done ≡ j = omega arith in
           let P : Signal → Signal → Type 0 = λ x y. SameAt s s' x y in

@@ -12,7 +12,8 @@ top_off n w h =
     let s = 64 - w in
     let e : w + s ≡ 64 = omega arith in
     let z : n % 2 ^ w * 2 ^ s + 0 ≡ n % 2 ^ w * 2 ^ s = omega arith in
-    let p : n * 2 ^ s % 2 ^ (w + s) ≡ n % 2 ^ w * 2 ^ s = mod-pow-add (n * 2 ^ s) w s ∙ ap₂ (λ x y. x % 2 ^ w * 2 ^ s + y) (shl-shr n s) (mul-mod_left n (2 ^ s)) ∙ z in
+    let p : n * 2 ^ s % 2 ^ (w + s) ≡ n % 2 ^ w * 2 ^ s =
+    mod-pow-add (n * 2 ^ s) w s ∙ ap₂ (λ x y. x % 2 ^ w * 2 ^ s + y) (shl-shr n s) (mul-mod_left n (2 ^ s)) ∙ z in
     ap (λ k. n * 2 ^ s % 2 ^ k / 2 ^ s) (sym e) ∙ ap (λ x. x / 2 ^ s) p ∙ shl-shr (n % 2 ^ w) s
 
 -- the lowest w bits of a sum of 64 bits are the sum of w bits
@@ -31,7 +32,8 @@ unfolding slice
 sliced high low a h =
     let j = high + 1 - low in
     let e : j + low ≡ high + 1 = omega arith in
-    ap (λ k. a % 2 ^ k / 2 ^ low) (sym e) ∙ ap (λ x. x / 2 ^ low) (mod-pow-add a j low) ∙ shr_high (a / 2 ^ low % 2 ^ j) low (a % 2 ^ low) (mod-lt a (pow_pos low))
+    ap (λ k. a % 2 ^ k / 2 ^ low) (sym e) ∙ ap (λ x. x / 2 ^ low) (mod-pow-add a j low)
+    ∙ shr_high (a / 2 ^ low % 2 ^ j) low (a % 2 ^ low) (mod-lt a (pow_pos low))
 
 -- A BIT, REPEATED
 

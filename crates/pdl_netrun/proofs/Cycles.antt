@@ -65,13 +65,15 @@ nexts_now a bits r ps vs e f = let w = now_walked a bits r vs f in nexts_below (
 pub regs_now : (a : Inside) (bits : ℕ) → IsReady a → (ps vs next : List ℕ)
     → ps ≡ a.nexts.items → vs ≡ walked_values a bits → next ≡ map (slice_index vs) ps
     → next ≡ next_regs (circuit_of a.net.now) (state_now a bits)
-regs_now a bits r ps vs next e f g = let w = now_walked a bits r vs f in g ∙ nexts_read (circuit_of a.net.now) (state_now a bits) r.well r.places vs w.values w.all w.few ps (e ∙ r.nexts)
+regs_now a bits r ps vs next e f g = let w = now_walked a bits r vs f in
+    g ∙ nexts_read (circuit_of a.net.now) (state_now a bits) r.well r.places vs w.values w.all w.few ps (e ∙ r.nexts)
 
 -- the values at the places of the outputs' nets are those that the outputs show
 pub outs_now : (a : Inside) (bits : ℕ) → IsReady a → (vs : List ℕ)
     → vs ≡ walked_values a bits
     → map (slice_index vs) a.drivers.items ≡ output_values (circuit_of a.net.now) (state_now a bits)
-outs_now a bits r vs f = let w = now_walked a bits r vs f in outputs_read (circuit_of a.net.now) (state_now a bits) r.well r.places vs w.values w.all w.few a.drivers.items r.drivers
+outs_now a bits r vs f = let w = now_walked a bits r vs f in
+    outputs_read (circuit_of a.net.now) (state_now a bits) r.well r.places vs w.values w.all w.few a.drivers.items r.drivers
 
 -- the planned writes of the arrays fit the values after the walk
 pub writes_now : (a : Inside) (bits : ℕ) → IsReady a → (ps : List PlannedWrite) (vs : List ℕ) (ws : List (Vec ℕ Global))
@@ -96,14 +98,17 @@ arrays_now a bits r ps vs ws new e f g h =
 -- what the delayed memories show goes by the outputs
 pub outs_below_now : (a : Inside) (bits : ℕ) → IsReady a → (ps vs : List ℕ)
     → ps ≡ a.drivers.items → vs ≡ walked_values a bits → AreBelow (length vs) ps
-outs_below_now a bits r ps vs e f = let w = now_walked a bits r vs f in drivers_below (circuit_of a.net.now) r.well r.places (length vs) w.all w.few ps (e ∙ r.drivers)
+outs_below_now a bits r ps vs e f = let w = now_walked a bits r vs f in
+    drivers_below (circuit_of a.net.now) r.well r.places (length vs) w.all w.few ps (e ∙ r.drivers)
 
 -- the delayed memories go on by what the outputs show, where they go on by the values at their places
 pub stores_now : (a : Inside) (bits : ℕ) → IsReady a → (ps vs : List ℕ) (old new : List Outside)
     → ps ≡ a.drivers.items → vs ≡ walked_values a bits → old ≡ a.outside.items
     → stores_of new ≡ stores_after (map (slice_index vs) ps) old bits
     → stores_of new ≡ stores_after (output_values (circuit_of a.net.now) (state_now a bits)) a.outside.items bits
-stores_now a bits r ps vs old new e f g h = h ∙ ap (λ l. stores_after (map (slice_index vs) ps) l bits) g ∙ ap (λ l. stores_after l a.outside.items bits) (ap (map (slice_index vs)) e ∙ outs_now a bits r vs f)
+stores_now a bits r ps vs old new e f g h =
+    h ∙ ap (λ l. stores_after (map (slice_index vs) ps) l bits) g
+    ∙ ap (λ l. stores_after l a.outside.items bits) (ap (map (slice_index vs)) e ∙ outs_now a bits r vs f)
 
 -- they go on standing outside the netlist
 pub outside_now : (a : Inside) (bits : ℕ) → IsReady a → (new : List Outside)
@@ -116,7 +121,8 @@ outside_now a bits r new e f g =
     let s = state_now a bits in
     let o = r.outside in
     let infos = delayed_mems a.net.now in
-    let same : next_stores c (output_values c s) infos (stores_of a.outside.items) bits ≡ stores_of new = stores_named c (output_values c s) infos a.outside.items bits o.commits o.requests ∙ sym e in
+    let same : next_stores c (output_values c s) infos (stores_of a.outside.items) bits ≡ stores_of new =
+    stores_named c (output_values c s) infos a.outside.items bits o.commits o.requests ∙ sym e in
     record {
       commits = f ∙ o.commits;
       requests = g ∙ o.requests;
@@ -145,7 +151,8 @@ pub holds_now : (a : Inside) (bits : ℕ) → IsReady a → (next : List ℕ) (a
     → arrays ≡ next_arrays (circuit_of a.net.now) (state_now a bits) → Holds (circuit_of a.net.now) next arrays
 holds_now a bits r next arrays g h =
     let c = circuit_of a.net.now in
-    subst (λ x. Holds c x arrays) (sym g) (subst (λ x. Holds c (next_regs c (state_now a bits)) x) (sym h) (next_holds c (state_now a bits) r.well (suits_now a bits r)))
+    subst (λ x. Holds c x arrays) (sym g)
+    (subst (λ x. Holds c (next_regs c (state_now a bits)) x) (sym h) (next_holds c (state_now a bits) r.well (suits_now a bits r)))
 
 -- OUTPUTS
 

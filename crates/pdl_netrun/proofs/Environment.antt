@@ -129,7 +129,8 @@ pub record AreFirst (c : Circuit) (mems : List MemInfo) (image : List (List ℕ)
 
 -- an empty list has the first 0 memories
 pub first_none : (c : Circuit) (mems : List MemInfo) (image : List (List ℕ)) (ms : List Outside) → ms ≡ [] → AreFirst c mems image 0 ms
-first_none c mems image ms e = record { stores = ap stores_of e; commits = ap (map (λ (m : Outside). m.commits)) e; requests = ap (map (λ (m : Outside). m.requests)) e }
+first_none c mems image ms e =
+    record { stores = ap stores_of e; commits = ap (map (λ (m : Outside). m.commits)) e; requests = ap (map (λ (m : Outside). m.requests)) e }
 
 -- f of the first k + 1 elements, from f of the first k
 mapped_next : {A B C : Type 0} (f : A → C) (g : B → C) (xs : List A) (ys : List B) (k : ℕ) (x : A) (d : B)
@@ -146,8 +147,12 @@ pub first_more : (c : Circuit) (mems : List MemInfo) (image : List (List ℕ)) (
 first_more c mems image k ms new i m h l e o f s =
     subst (AreFirst c mems image (k + 1)) (sym f) (record {
       stores = mapped_next store_of (λ (words : List ℕ). record { words = words; request = None }) ms image k m [] s.stores l o.store;
-      commits = mapped_next (λ (x : Outside). x.commits) (λ (x : MemInfo). places_of c x.name) ms mems k m i s.commits h (o.commits ∙ ap (λ (x : MemInfo). places_of c x.name) e);
-      requests = mapped_next (λ (x : Outside). x.requests) (λ (x : MemInfo). requests_of c x.name) ms mems k m i s.requests h (o.requests ∙ ap (λ (x : MemInfo). requests_of c x.name) e);
+      commits =
+          mapped_next (λ (x : Outside). x.commits)
+          (λ (x : MemInfo). places_of c x.name) ms mems k m i s.commits h (o.commits ∙ ap (λ (x : MemInfo). places_of c x.name) e);
+      requests =
+          mapped_next (λ (x : Outside). x.requests)
+          (λ (x : MemInfo). requests_of c x.name) ms mems k m i s.requests h (o.requests ∙ ap (λ (x : MemInfo). requests_of c x.name) e);
     })
 
 -- INPUTS AND STORES
@@ -180,7 +185,8 @@ inputs_fit [] (m ∷ ms) bits f = absurd f
 inputs_fit (r ∷ []) ms bits f = absurd f
 inputs_fit (r ∷ w ∷ ws) [] bits f = absurd f
 inputs_fit (r ∷ w ∷ ws) (m ∷ ms) bits f =
-    subst (λ x. InputsFit (x ∷ w ∷ ws) (answers (m ∷ ms) bits)) (sym f.0) (answer_fits w m.words m.request (reply bits) ws (answers ms (bits / 2)) f.1 (inputs_fit ws ms (bits / 2) f.2))
+    subst (λ x. InputsFit (x ∷ w ∷ ws) (answers (m ∷ ms) bits)) (sym f.0)
+    (answer_fits w m.words m.request (reply bits) ws (answers ms (bits / 2)) f.1 (inputs_fit ws ms (bits / 2) f.2))
 
 -- ports by their places show what they show by their names
 pub stores_named : (c : Circuit) (ports : List ℕ) (infos : List MemInfo) (ms : List Outside) (bits : ℕ)
@@ -195,7 +201,14 @@ stores_named c ports (i ∷ infos) (m ∷ ms) bits e f =
     let requests : m.requests ≡ requests_of c i.name = cc in
     let commits_after : map (λ (x : Outside). x.commits) ms ≡ map (λ (x : MemInfo). places_of c x.name) infos = cc in
     let requests_after : map (λ (x : Outside). x.requests) ms ≡ map (λ (x : MemInfo). requests_of c x.name) infos = cc in
-    ap₂ (λ (p : CommitPlaces) (q : RequestPlaces). record { words = committed_words m.words.items (commit_at ports p); request = outstanding m.request (reply bits) (request_at ports q) } ∷ next_stores c ports infos (stores_of ms) (bits / 2)) (sym commits) (sym requests)
+    ap₂
+    (λ (p : CommitPlaces)
+    (q : RequestPlaces). record {
+      words = committed_words m.words.items (commit_at ports p);
+      request = outstanding m.request (reply bits) (request_at ports q);
+    }
+    ∷ next_stores c ports infos (stores_of ms) (bits / 2))
+    (sym commits) (sym requests)
     ∙ ap (λ l. store_after ports (reply bits) m ∷ l) (stores_named c ports infos ms (bits / 2) commits_after requests_after)
 
 -- words after a commit that fits
@@ -206,7 +219,8 @@ committed_below ws None n f g a = g a
 committed_below ws (Some (i, v)) n f g a = ⊎_elim
     (λ (e : a ≡ i). ⊎_elim
     (λ (lt : i < length ws). subst (λ x. x < n) (sym (ap (slice_index (set ws i v)) e ∙ get_or-set_same ws i v 0 lt)) (f i v refl))
-    (λ (ge : length ws ≤ i). let z : slice_index (set ws i v) a ≡ 0 = get_or_past (set ws i v) a 0 (omega (arith, e, ge, length-set ws i v)) in let q = f i v refl in omega (arith, z, q))
+    (λ (ge : length ws ≤ i). let z : slice_index (set ws i v) a ≡ 0 = get_or_past (set ws i v) a 0 (omega (arith, e, ge, length-set ws i v)) in
+    let q = f i v refl in omega (arith, z, q))
     (cases_lt i (length ws)))
     (λ (ne : a ≢ i). subst (λ x. x < n) (sym (get_or-set_other ws i a v 0 ne)) (g a))
     (cases_eq a i)
@@ -232,7 +246,10 @@ words_kept c s (r ∷ w ∷ ws) [] ms bits t k f = absurd k
 words_kept c s (r ∷ w ∷ ws) (i ∷ is) [] bits t k f = absurd f
 words_kept c s (r ∷ w ∷ ws) (i ∷ is) (m ∷ ms) bits t k f = (
   f.0,
-  committed_below m.words (commit_of c (output_values c s) i.name) (2 ^ w) (commit_below (port_value c (output_values c s) (codes "c_" ++ i.name) == 1) (port_value c (output_values c s) (codes "ca_" ++ i.name)) (port_value c (output_values c s) (codes "cd_" ++ i.name)) (2 ^ w) (k.0 s t)) f.1,
+  committed_below m.words (commit_of c (output_values c s) i.name) (2 ^ w)
+      (commit_below (port_value c (output_values c s) (codes "c_" ++ i.name) == 1)
+      (port_value c (output_values c s) (codes "ca_" ++ i.name))
+      (port_value c (output_values c s) (codes "cd_" ++ i.name)) (2 ^ w) (k.0 s t)) f.1,
   words_kept c s ws is ms (bits / 2) t k.1 f.2,
 )
 
@@ -249,7 +266,8 @@ words_first (d ∷ ds) [] e f = absurd (omega (arith, e))
 words_first (d ∷ ds) (i ∷ is) e f = (refl, f zero d (omega arith), words_first ds is (omega (arith, e)) (λ k x l. f (suc k) x (omega (arith, l))))
 
 commits_first : (c : Circuit) (ds : List PortMem)
-    → ((k : ℕ) (d : PortMem) → k < length ds → (s : State) → Suits c s → port_value c (output_values c s) (codes "cd_" ++ (get_or ds k d).name) < 2 ^ (get_or ds k d).width)
+    → ((k : ℕ) (d : PortMem) → k < length ds → (s : State) → Suits c s
+    → port_value c (output_values c s) (codes "cd_" ++ (get_or ds k d).name) < 2 ^ (get_or ds k d).width)
     → CommitsFit c (flat_map reply_widths ds) (map delayed_info ds)
 commits_first c [] f = tt
 commits_first c (d ∷ ds) f = (f zero d (omega arith), commits_first c ds (λ k x l. f (suc k) x (omega (arith, l))))
@@ -277,19 +295,29 @@ fit_at_start n image w i =
     let count : length (delayed_mems n) ≡ length ds = ap length told ∙ (simp length-map) in
     let front = delayed_in_front n p in
     let few = (few_delayed n p).0 in
-    let part : length (take (length (delayed_mems n)) image) ≡ length ds = length-take-le (length (delayed_mems n)) image (let q = i.count in omega (arith, q, few)) ∙ count in
-    let words : (k : ℕ) (d : PortMem) → k < length ds → (a : ℕ) → slice_index (get_or (take (length (delayed_mems n)) image) k []) a < 2 ^ (get_or ds k d).width =
+    let part : length (take (length (delayed_mems n)) image) ≡ length ds =
+    length-take-le (length (delayed_mems n)) image (let q = i.count in omega (arith, q, few)) ∙ count in
+    let words : (k : ℕ) (d : PortMem) → k < length ds → (a : ℕ)
+    → slice_index (get_or (take (length (delayed_mems n)) image) k []) a < 2 ^ (get_or ds k d).width =
     λ k d l a.
     let u : k < length (delayed_mems n) = omega (arith, l, count) in
-    let mem : get_or n.mems k (delayed_info d) ≡ delayed_info (get_or ds k d) = sym (get_or-take (length (delayed_mems n)) n.mems k (delayed_info d) u) ∙ ap (λ (x : List MemInfo). get_or x k (delayed_info d)) (sym front ∙ told) ∙ get_or-map delayed_info ds k d (delayed_info d) l in
+    let mem : get_or n.mems k (delayed_info d) ≡ delayed_info (get_or ds k d) =
+    sym (get_or-take (length (delayed_mems n)) n.mems k (delayed_info d) u)
+    ∙ ap (λ (x : List MemInfo). get_or x k (delayed_info d)) (sym front ∙ told)
+    ∙ get_or-map delayed_info ds k d (delayed_info d) l in
     let x = i.width k (delayed_info d) (omega (arith, u, few)) a in
     let y = subst (λ (m : MemInfo). slice_index (get_or image k []) a < 2 ^ m.width) mem x in
     subst (λ (r : List ℕ). slice_index r a < 2 ^ (get_or ds k d).width) (sym (get_or-take (length (delayed_mems n)) image k [] u)) y in
-    let values : (k : ℕ) (d : PortMem) → k < length ds → (s : State) → Suits c s → port_value c (output_values c s) (codes "cd_" ++ (get_or ds k d).name) < 2 ^ (get_or ds k d).width =
+    let values : (k : ℕ) (d : PortMem) → k < length ds → (s : State) → Suits c s
+    → port_value c (output_values c s) (codes "cd_" ++ (get_or ds k d).name) < 2 ^ (get_or ds k d).width =
     λ k d l s t. committed_fits n w (get_or ds k d) (k, l, get_or_default ds k (get_or ds k d) d l) s t in
     record {
-      words = subst (λ (ws : List ℕ). WordsFit ws (first_stores (take (length (delayed_mems n)) image))) (sym (inputs_told n p)) (words_first ds (take (length (delayed_mems n)) image) part words);
-      commits = subst (λ (is : List MemInfo). CommitsFit c (inputs_of c) is) (sym told) (subst (λ (ws : List ℕ). CommitsFit c ws (map delayed_info ds)) (sym (inputs_told n p)) (commits_first c ds values));
+      words =
+          subst (λ (ws : List ℕ). WordsFit ws (first_stores (take (length (delayed_mems n)) image)))
+          (sym (inputs_told n p)) (words_first ds (take (length (delayed_mems n)) image) part words);
+      commits =
+          subst (λ (is : List MemInfo). CommitsFit c (inputs_of c) is) (sym told)
+          (subst (λ (ws : List ℕ). CommitsFit c ws (map delayed_info ds)) (sym (inputs_told n p)) (commits_first c ds values));
     }
 
 -- those of a well formed netlist stand outside it

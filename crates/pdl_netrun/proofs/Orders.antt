@@ -55,17 +55,25 @@ there_later c k n (CellNet j) l h = omega arith
 
 pub reads_there : (c : Circuit) → IsWell c → (k : ℕ) → k < length c.cells → Reads (IsThereAt c (length c.cells)) (cell_at c k)
 reads_there c w k h =
-    reads_each (IsThereAt c k) (IsThereAt c (length c.cells)) (λ x t. there_later c k (length c.cells) x (omega arith) t) (cell_at c k) (reads_fit c (IsThereAt c k) (cell_at c k) (fits_cell c w.cells k h))
+    reads_each (IsThereAt c k) (IsThereAt c (length c.cells))
+    (λ x t. there_later c k (length c.cells) x (omega arith) t) (cell_at c k)
+    (reads_fit c (IsThereAt c k) (cell_at c k) (fits_cell c w.cells k h))
 
 both_each : (c : Circuit) (ps : List ℕ) (n k : ℕ)
     → k < length c.cells → (g : Cell) → FitsIn c (IsThereAt c k) (signal c) g → Reads (IsEarly c ps n) g
     → Reads (IsPlaced c ps n) g
 both_each c ps n k l (cell.Const w v) h r = tt
 both_each c ps n k l (cell.Not a) h r = record { there = there_later c k _ a (omega arith) h; early = r }
-both_each c ps n k l (cell.Bin o a b) h r = (record { there = there_later c k _ a (omega arith) h.0; early = r.0 }, record { there = there_later c k _ b (omega arith) h.1; early = r.1 })
-both_each c ps n k l (cell.Mux x a b) h r = (record { there = there_later c k _ x (omega arith) h.0; early = r.0 }, record { there = there_later c k _ a (omega arith) h.1; early = r.1 }, record { there = there_later c k _ b (omega arith) h.2; early = r.2 })
+both_each c ps n k l (cell.Bin o a b) h r =
+    (record { there = there_later c k _ a (omega arith) h.0; early = r.0 }, record { there = there_later c k _ b (omega arith) h.1; early = r.1 })
+both_each c ps n k l (cell.Mux x a b) h r = (
+  record { there = there_later c k _ x (omega arith) h.0; early = r.0 },
+  record { there = there_later c k _ a (omega arith) h.1; early = r.1 },
+  record { there = there_later c k _ b (omega arith) h.2; early = r.2 },
+)
 both_each c ps n k l (cell.Slice a high low) h r = record { there = there_later c k _ a (omega arith) h.0; early = r }
-both_each c ps n k l (cell.Cat a b) h r = (record { there = there_later c k _ a (omega arith) h.0; early = r.0 }, record { there = there_later c k _ b (omega arith) h.1; early = r.1 })
+both_each c ps n k l (cell.Cat a b) h r =
+    (record { there = there_later c k _ a (omega arith) h.0; early = r.0 }, record { there = there_later c k _ b (omega arith) h.1; early = r.1 })
 both_each c ps n k l (cell.Rep m a) h r = record { there = there_later c k _ a (omega arith) h.0; early = r }
 both_each c ps n k l (cell.Read m a) h r = record { there = there_later c k _ a (omega arith) h.1; early = r }
 
@@ -86,7 +94,8 @@ early_kept c ps k v n e l (CellNet m) h = ⊎_elim
     (λ (ne : m ≢ k). subst (λ i. i < n) (sym (get_or-set_other ps k m v 0 ne)) h)
     (cases_eq m k)
 
-module _ (c : Circuit) (order ps : List ℕ) (k : ℕ) (o : IsOrder c order ps) (h : k < length c.cells) (e : slice_index ps k ≡ unplaced) (r : Reads (IsEarly c ps (first_place c + length order)) (cell_at c k)) where
+module _ (c : Circuit) (order ps : List ℕ) (k : ℕ) (o : IsOrder c order ps) (h : k < length c.cells)
+    (e : slice_index ps k ≡ unplaced) (r : Reads (IsEarly c ps (first_place c + length order)) (cell_at c k)) where
   abbrev at : ℕ
   at = first_place c + length order
 
@@ -108,7 +117,8 @@ module _ (c : Circuit) (order ps : List ℕ) (k : ℕ) (o : IsOrder c order ps) 
 
   turns : (j : ℕ) → j < length (order ++ k ∷ []) → IsTurn c new (slice_index (order ++ k ∷ []) j) (first_place c + j)
   turns j l = ⊎_elim
-      (λ (lt : j < length order). subst (λ i. IsTurn c new i (first_place c + j)) (sym (get_or_append_left order (k ∷ []) 0 j lt)) (turn_kept (slice_index order j) j lt (o.turns j lt)))
+      (λ (lt : j < length order). subst (λ i. IsTurn c new i (first_place c + j))
+      (sym (get_or_append_left order (k ∷ []) 0 j lt)) (turn_kept (slice_index order j) j lt (o.turns j lt)))
       (λ (ge : length order ≤ j).
       let s : length order ≡ j = omega (arith, l, length-append order (k ∷ [])) in
       let t : IsTurn c new k at = record { there = h; own = get_or-set_same ps k at 0 inside; reads = kept at (cell_at c k) (omega arith) r } in
@@ -173,7 +183,8 @@ early_before c ps k n l f (CellNet j) h = f j h
 pub reads_before : (c : Circuit) (ps : List ℕ) (k n : ℕ) → IsWell c
     → k < length c.cells → first_place c ≤ n → ((j : ℕ) → j < k → slice_index ps j < n)
     → Reads (IsEarly c ps n) (cell_at c k)
-reads_before c ps k n w h l f = reads_each (IsThereAt c k) (IsEarly c ps n) (early_before c ps k n l f) (cell_at c k) (reads_fit c (IsThereAt c k) (cell_at c k) (fits_cell c w.cells k h))
+reads_before c ps k n w h l f =
+    reads_each (IsThereAt c k) (IsEarly c ps n) (early_before c ps k n l f) (cell_at c k) (reads_fit c (IsThereAt c k) (cell_at c k) (fits_cell c w.cells k h))
 
 -- a cell with a place has one before the next
 placed_early : (c : Circuit) (order ps : List ℕ) (k : ℕ) → IsOrder c order ps
@@ -208,7 +219,9 @@ order_next c order ps cells k n o h u e r ne f =
 
 -- each cell fits the netlist's nets
 fits_later : (c : Circuit) (k n : ℕ) → k ≤ n → (g : Cell) → FitsIn c (IsThereAt c k) (signal c) g → FitsIn c (IsThereAt c n) (signal c) g
-fits_later c k n l g h = fits_both c (IsThereAt c k) (IsThereAt c n) g h (reads_each (IsThereAt c k) (IsThereAt c n) (λ x t. there_later c k n x l t) g (reads_fit c (IsThereAt c k) g h))
+fits_later c k n l g h =
+    fits_both c (IsThereAt c k)
+    (IsThereAt c n) g h (reads_each (IsThereAt c k) (IsThereAt c n) (λ x t. there_later c k n x l t) g (reads_fit c (IsThereAt c k) g h))
 
 -- each cell of a well formed circuit fits over all its nets
 pub fits_whole : (c : Circuit) → IsWell c → (k : ℕ) → k < length c.cells → FitsIn c (IsThereAt c (length c.cells)) (signal c) (cell_at c k)

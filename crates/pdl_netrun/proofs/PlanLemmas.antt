@@ -30,7 +30,8 @@ use Rattle.pdl_netrun.proofs.Orders.{fits_whole}
 -- one run more
 steps_append : (rs qs : List CellRun) → steps_of (rs ++ qs) ≡ steps_of rs ++ steps_of qs
 steps_append [] qs = refl
-steps_append (r ∷ rs) qs = ap (λ l. steps_with r.kind r.operands.items ++ l) (steps_append rs qs) ∙ sym (append_assoc (steps_with r.kind r.operands.items) (steps_of rs) (steps_of qs))
+steps_append (r ∷ rs) qs =
+    ap (λ l. steps_with r.kind r.operands.items ++ l) (steps_append rs qs) ∙ sym (append_assoc (steps_with r.kind r.operands.items) (steps_of rs) (steps_of qs))
 
 -- the steps of one run more come after those of the runs before it
 pub steps_push : (rs : List CellRun) (r : CellRun) → steps_of (rs ++ r ∷ []) ≡ steps_of rs ++ steps_with r.kind r.operands.items

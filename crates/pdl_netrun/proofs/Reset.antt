@@ -48,7 +48,8 @@ pub constants_first : (c : Circuit) (order ps vs : List ℕ) (n : ℕ) → IsOrd
     → n < unplaced → vs ≡ first_values c order → HasConstants c ps n vs
 constants_first c order ps vs n o l e = record { each = λ k h b. held k h b (o.known k h) }
   where
-    held : (k : ℕ) → k < length c.cells → slice_index ps k < n → (slice_index ps k ≡ unplaced) ⊎ HasTurn c order ps k → IsHeld (cell_at c k) (slice_index vs (slice_index ps k))
+    held : (k : ℕ) → k < length c.cells → slice_index ps k < n → (slice_index ps k ≡ unplaced) ⊎ HasTurn c order ps k
+        → IsHeld (cell_at c k) (slice_index vs (slice_index ps k))
     held k h b (inl u) = absurd (omega (arith, u, b, l))
     held k h b (inr t) =
         let front : List ℕ = replicate (first_place c) 0 in
@@ -70,7 +71,8 @@ pub begun_is : (n : Netlist) (image : List (List ℕ)) (k : ℕ) (regs : List �
 begun_is n image k regs arrays stores d e f g =
     ap (λ x. run_at n x arrays stores) e
     ∙ ap (λ x. run_at n (map (λ r. r.reset) n.regs) x stores) (f ∙ ap (λ (j : ℕ). loaded_arrays n.arrays (drop j image)) d)
-    ∙ ap (run_at n (map (λ r. r.reset) n.regs) (loaded_arrays n.arrays (drop (length (delayed_mems n)) image))) (g ∙ ap (λ (j : ℕ). first_stores (take j image)) d)
+    ∙ ap (run_at n (map (λ r. r.reset) n.regs) (loaded_arrays n.arrays (drop (length (delayed_mems n)) image)))
+    (g ∙ ap (λ (j : ℕ). first_stores (take j image)) d)
 
 -- OF A NETLIST
 
@@ -82,7 +84,8 @@ pub record IsOrdered (o : CellOrder) (n : Netlist) : Type 0 where
 
 -- where all cells have a place in an order of a netlist, it is an order of all its cells
 pub ordered : (o : CellOrder) (n : Netlist) → o.net.now ≡ n → IsOrderOf o → AllPlaced o → IsOrdered o n
-ordered o n e f a = subst (IsOrdered o) e (record { regs = f.regs; order = f.order; all = subst (λ i. AllEarly (circuit_of o.net.now) o.places.items i) f.next a })
+ordered o n e f a =
+    subst (IsOrdered o) e (record { regs = f.regs; order = f.order; all = subst (λ i. AllEarly (circuit_of o.net.now) o.places.items i) f.next a })
 
 -- zeros for inputs and registers, and then what each cell holds at the start, are the first list of values
 pub first_is : (o : CellOrder) (n : Netlist) (front vs : List ℕ) (k : ℕ)

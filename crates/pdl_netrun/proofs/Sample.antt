@@ -47,10 +47,20 @@ differing [] h i j d l m = absurd (omega arith)
 differing (x ∷ xs) h zero zero d l m = absurd (omega arith)
 differing (x ∷ xs) h zero (suc j) d l m = apart_all x xs (and_parts (list_all (λ y. not (bytes_eq x y)) xs) (differ_all xs) h).0 j d (omega arith)
 differing (x ∷ xs) h (suc i) zero d l m = absurd (omega arith)
-differing (x ∷ xs) h (suc i) (suc j) d l m = differing xs (and_parts (list_all (λ y. not (bytes_eq x y)) xs) (differ_all xs) h).1 i j d (omega arith) (omega arith)
+differing (x ∷ xs) h (suc i) (suc j) d l m =
+    differing xs (and_parts (list_all (λ y. not (bytes_eq x y)) xs) (differ_all xs) h).1 i j d (omega arith) (omega arith)
 
 cells_fit : CellsFit circuit
-cells_fit = ((lit≤ tt, lit≤ tt, lit< tt), ((lit≤ tt, lit≤ tt, lit< tt), ((lit< tt, lit< tt, refl), ((lit< tt, lit≤ tt, lit< tt), ((lit≤ tt, lit≤ tt, lit< tt), ((lit< tt, lit≤ tt, lit< tt), ((lit< tt, lit< tt, refl), ((lit< tt, lit< tt, refl), tt))))))))
+cells_fit = (
+  (lit≤ tt, lit≤ tt, lit< tt),
+  (
+    (lit≤ tt, lit≤ tt, lit< tt),
+    (
+      (lit< tt, lit< tt, refl),
+      ((lit< tt, lit≤ tt, lit< tt), ((lit≤ tt, lit≤ tt, lit< tt), ((lit< tt, lit≤ tt, lit< tt), ((lit< tt, lit< tt, refl), ((lit< tt, lit< tt, refl), tt))))),
+    ),
+  ),
+)
 
 write_well : IsWellWrite circuit memory odd_write
 unfolding signal signals IsThere
@@ -66,7 +76,22 @@ array_well = record {
 
 ports_well : Each (IsWellPort circuit) circuit.ports
 unfolding signal signals IsThere
-ports_well = (record { low = lit≤ tt; high = lit≤ tt; driven = (lit< tt, refl) }, (record { low = lit≤ tt; high = lit≤ tt; driven = (lit< tt, refl) }, (record { low = lit≤ tt; high = lit≤ tt; driven = (lit< tt, refl) }, (record { low = lit≤ tt; high = lit≤ tt; driven = (lit< tt, refl) }, (record { low = lit≤ tt; high = lit≤ tt; driven = (lit< tt, refl) }, (record { low = lit≤ tt; high = lit≤ tt; driven = (lit< tt, refl) }, (record { low = lit≤ tt; high = lit≤ tt; driven = (lit< tt, refl) }, tt)))))))
+ports_well = (
+  record { low = lit≤ tt; high = lit≤ tt; driven = (lit< tt, refl) },
+  (
+    record { low = lit≤ tt; high = lit≤ tt; driven = (lit< tt, refl) },
+    (
+      record { low = lit≤ tt; high = lit≤ tt; driven = (lit< tt, refl) },
+      (
+        record { low = lit≤ tt; high = lit≤ tt; driven = (lit< tt, refl) },
+        (
+          record { low = lit≤ tt; high = lit≤ tt; driven = (lit< tt, refl) },
+          (record { low = lit≤ tt; high = lit≤ tt; driven = (lit< tt, refl) }, (record { low = lit≤ tt; high = lit≤ tt; driven = (lit< tt, refl) }, tt)),
+        ),
+      ),
+    ),
+  ),
+)
 
 reg_well : (r : ℕ) → r < length circuit.regs → IsWellReg circuit (reg_at circuit r)
 unfolding signal signals IsThere

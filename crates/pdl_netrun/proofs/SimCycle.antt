@@ -92,7 +92,8 @@ values_first c s ps vs order n o g l = record { each = at }
     long : length (values_put 0 vs s.inputs) ≡ length vs
     long = put_length vs s.inputs 0 (omega (arith, n, l))
 
-    at : (x : Net) → IsPlaced c ps (first_place c) x → slice_index (values_put (length (inputs_of c)) (values_put 0 vs s.inputs) s.regs) (place c ps x) ≡ (signal c x).value s
+    at : (x : Net) → IsPlaced c ps (first_place c) x
+        → slice_index (values_put (length (inputs_of c)) (values_put 0 vs s.inputs) s.regs) (place c ps x) ≡ (signal c x).value s
     at (Input i) h =
         let q = h.there in
         let z : 0 + i ≡ i = omega arith in
@@ -112,7 +113,9 @@ constants_put : (c : Circuit) (order ps vs next : List ℕ) (n : ℕ) → IsOrde
     → HasConstants c ps (length vs) (values_put n vs next)
 constants_put c order ps vs next n o e l f = record { each = λ k h b. held k h b (o.known k h) }
   where
-    held : (k : ℕ) → k < length c.cells → slice_index ps k < length vs → (slice_index ps k ≡ unplaced) ⊎ HasTurn c order ps k → IsHeld (cell_at c k) (slice_index (values_put n vs next) (slice_index ps k))
+    held : (k : ℕ) → k < length c.cells → slice_index ps k < length vs
+        → (slice_index ps k ≡ unplaced) ⊎ HasTurn c order ps k
+        → IsHeld (cell_at c k) (slice_index (values_put n vs next) (slice_index ps k))
     held k h b (inl u) = let r = o.room in absurd (omega (arith, u, b, l, r))
     held k h b (inr t) =
         let q = t.own in
@@ -135,11 +138,14 @@ pub answers_count : (a : Inside) (bits : ℕ) → IsReady a
 answers_count a bits r = (inputs_fit (inputs_of (circuit_of a.net.now)) (stores_of a.outside.items) bits (r.outside).fit).count
 
 answered_count : (a : Inside) (bits : ℕ) → IsReady a → length (answered_values a bits) ≡ length a.values.items
-answered_count a bits r = let l = r.room in let n = answers_count a bits r in put_length a.values.items (answers (stores_of a.outside.items) bits) 0 (omega (arith, l, n))
+answered_count a bits r = let l = r.room in let n = answers_count a bits r in
+    put_length a.values.items (answers (stores_of a.outside.items) bits) 0 (omega (arith, l, n))
 
 -- as a cycle begins to walk, the list has as many values as before
 pub begun_count : (a : Inside) (bits : ℕ) → IsReady a → length (begun_values a bits) ≡ length a.values.items
-begun_count a bits r = let e = r.first_reg in let l = r.room in let n = next_count a r in let k = answered_count a bits r in put_length (answered_values a bits) a.next.items a.first_reg (omega (arith, e, l, n, k)) ∙ k
+begun_count a bits r = let e = r.first_reg in let l = r.room in let n = next_count a r in
+    let k = answered_count a bits r in
+    put_length (answered_values a bits) a.next.items a.first_reg (omega (arith, e, l, n, k)) ∙ k
 
 -- what the steps of a cycle do
 pub walked_now : (a : Inside) (bits : ℕ) (r : IsReady a)
@@ -152,14 +158,20 @@ walked_now a bits r =
     let j = answers_count a bits r in
     let k = answered_count a bits r in
     let l = r.room in
-    let e : values_put i (answered_values a bits) a.next.items ≡ begun_values a bits = ap (λ x. values_put x (answered_values a bits) a.next.items) (sym r.first_reg) in
+    let e : values_put i (answered_values a bits) a.next.items ≡ begun_values a bits =
+    ap (λ x. values_put x (answered_values a bits) a.next.items) (sym r.first_reg) in
     let m = begun_count a bits r in
     let v = subst (λ (xs : List ℕ). HasValues c r.places s xs (first_place c)) e (values_first c s r.places a.values.items r.order j r.ordered n r.room) in
     let asked = constants_put c r.order r.places a.values.items (answers (stores_of a.outside.items) bits) 0 r.ordered (omega (arith, j)) r.room r.constants in
-    let held = constants_put c r.order r.places (answered_values a bits) a.next.items i r.ordered (omega (arith, n)) (k ∙ l) (subst (λ (x : ℕ). HasConstants c r.places x (answered_values a bits)) (sym k) asked) in
+    let held =
+    constants_put c r.order r.places (answered_values a bits) a.next.items i r.ordered (omega (arith, n)) (k ∙ l)
+    (subst (λ (x : ℕ). HasConstants c r.places x (answered_values a bits)) (sym k) asked) in
     let constants = subst (λ (xs : List ℕ). HasConstants c r.places (length (answered_values a bits)) xs) e held in
-    let w = walked c s r.well (suits_now a bits r) r.order r.places r.ordered (begun_values a bits) (m ∙ r.room) v (subst (λ (x : ℕ). HasConstants c r.places x (begun_values a bits)) (k ∙ sym m) constants) in
-    subst (λ xs. IsWalked c r.places s (begun_values a bits) xs a.first_cell) (sym r.runs) (subst (λ n. IsWalked c r.places s (begun_values a bits) (order_steps c r.places r.order) n) (sym r.first_cell) w)
+    let w =
+    walked c s r.well (suits_now a bits r) r.order r.places r.ordered (begun_values a bits)
+    (m ∙ r.room) v (subst (λ (x : ℕ). HasConstants c r.places x (begun_values a bits)) (k ∙ sym m) constants) in
+    subst (λ xs. IsWalked c r.places s (begun_values a bits) xs a.first_cell) (sym r.runs)
+    (subst (λ n. IsWalked c r.places s (begun_values a bits) (order_steps c r.places r.order) n) (sym r.first_cell) w)
 
 -- OUTPUTS AND REGISTERS
 
@@ -174,7 +186,8 @@ drivers_in : (c : Circuit) (ps : List Port)
     → ((k : ℕ) (p : Port) → slice_get ps k ≡ Some p → IsWellPort c p)
     → All (λ o. IsThere c o.net) (filter_map port_output ps)
 drivers_in c [] w k x l = absurd (omega arith)
-drivers_in c (p ∷ ps) w k x l = driver_step c p.dir p.width p.name (filter_map port_output ps) ((w zero p refl).driven) (drivers_in c ps (λ j q e. w (suc j) q e)) k x l
+drivers_in c (p ∷ ps) w k x l =
+    driver_step c p.dir p.width p.name (filter_map port_output ps) ((w zero p refl).driven) (drivers_in c ps (λ j q e. w (suc j) q e)) k x l
 
 module _ (c : Circuit) (w : IsWell c) (ps : List ℕ) (n : ℕ) (all : AllEarly c ps n) (few : first_place c ≤ n) where
   below : (x : Net) → IsThere c x → place c ps x < n
@@ -197,12 +210,14 @@ module _ (c : Circuit) (w : IsWell c) (ps : List ℕ) (n : ℕ) (all : AllEarly 
   pub nexts_below : (places : List ℕ) → places ≡ map (λ r. place c ps r.next) c.regs → AreBelow n places
   nexts_below places e = subst (AreBelow n) (sym e) next_below
 
-module _ (c : Circuit) (s : State) (w : IsWell c) (ps vs : List ℕ) (v : HasValues c ps s vs (length vs)) (all : AllEarly c ps (length vs)) (few : first_place c ≤ length vs) where
+module _ (c : Circuit) (s : State) (w : IsWell c) (ps vs : List ℕ) (v : HasValues c ps s vs (length vs))
+    (all : AllEarly c ps (length vs)) (few : first_place c ≤ length vs) where
   valued : (x : Net) → IsThere c x → slice_index vs (place c ps x) ≡ net_value c s x
   unfolding IsThere
   valued x h = v.each x (all_placed c ps (length vs) all few x h)
 
-  outputs_valued : (os : List Output) → All (λ o. IsThere c o.net) os → map (slice_index vs) (map (λ o. place c ps o.net) os) ≡ map (λ o. net_value c s o.net) os
+  outputs_valued : (os : List Output) → All (λ o. IsThere c o.net) os
+      → map (slice_index vs) (map (λ o. place c ps o.net) os) ≡ map (λ o. net_value c s o.net) os
   outputs_valued [] f = refl
   outputs_valued (o ∷ os) f = ap₂ (λ x xs. x ∷ xs) (valued o.net (f 0 o (omega arith))) (outputs_valued os (λ j x l. f (suc j) x (omega arith)))
 
@@ -210,7 +225,8 @@ module _ (c : Circuit) (s : State) (w : IsWell c) (ps vs : List ℕ) (v : HasVal
   unfolding output_values
   outputs_read places e = ap (map (slice_index vs)) e ∙ outputs_valued (outputs_of c) (drivers_in c c.ports w.ports)
 
-  regs_valued : (rs : List Reg) → ((k : ℕ) → k < length rs → IsThere c (get_or rs k no_reg).next) → map (slice_index vs) (map (λ r. place c ps r.next) rs) ≡ map (λ r. net_value c s r.next) rs
+  regs_valued : (rs : List Reg) → ((k : ℕ) → k < length rs → IsThere c (get_or rs k no_reg).next)
+      → map (slice_index vs) (map (λ r. place c ps r.next) rs) ≡ map (λ r. net_value c s r.next) rs
   regs_valued [] f = refl
   regs_valued (r ∷ rs) f = ap₂ (λ x xs. x ∷ xs) (valued r.next (f 0 (omega arith))) (regs_valued rs (λ k l. f (suc k) (omega arith)))
 
@@ -222,7 +238,8 @@ module _ (c : Circuit) (s : State) (w : IsWell c) (ps vs : List ℕ) (v : HasVal
 
 -- a run from its parts
 abbrev pub run_with : Netlist → List ℕ → List (List ℕ) → List Store → List ℕ → Bool → Run
-run_with n regs arrays stores ports waited = record { netlist = n; held = record { regs = regs; arrays = arrays; stores = stores }; last = record { ports = ports; waited = waited } }
+run_with n regs arrays stores ports waited =
+    record { netlist = n; held = record { regs = regs; arrays = arrays; stores = stores }; last = record { ports = ports; waited = waited } }
 
 -- a run whose parts are those after a cycle is the run after that cycle
 pub stepped_from : (a : Inside) (bits : ℕ) (regs : List ℕ) (arrays : List (List ℕ)) (stores : List Store) (outs : List ℕ) (waited : Bool)
@@ -237,6 +254,9 @@ stepped_from a bits regs arrays stores outs waited r e f g h w =
     let s = state_now a bits in
     ap (λ x. run_with n x arrays stores outs waited) e
     ∙ ap (λ x. run_with n (next_regs c s) x stores outs waited) f
-    ∙ ap (λ x. run_with n (next_regs c s) (next_arrays c s) x outs waited) (h ∙ sym (stores_named c outs (delayed_mems n) a.outside.items bits (r.outside).commits (r.outside).requests))
+    ∙ ap (λ x. run_with n (next_regs c s) (next_arrays c s) x outs waited)
+    (h ∙ sym (stores_named c outs (delayed_mems n) a.outside.items bits (r.outside).commits (r.outside).requests))
     ∙ ap (λ x. run_with n (next_regs c s) (next_arrays c s) (next_stores c x (delayed_mems n) (stores_of a.outside.items) bits) x waited) g
-    ∙ ap (run_with n (next_regs c s) (next_arrays c s) (next_stores c (output_values c s) (delayed_mems n) (stores_of a.outside.items) bits) (output_values c s)) w
+    ∙ ap
+    (run_with n (next_regs c s) (next_arrays c s)
+    (next_stores c (output_values c s) (delayed_mems n) (stores_of a.outside.items) bits) (output_values c s)) w

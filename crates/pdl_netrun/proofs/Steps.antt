@@ -30,7 +30,8 @@ cells_fit kind os first k o vs ws h e f =
     let P : List CellOperands → Type 0 = λ l. StepsFit (steps_with kind l) (first + k) vs ws in
     let g : StepsFit (steps_with kind (get_or os k o ∷ drop (k + 1) os)) (first + k) vs ws = subst P (drop_more os k o h) f in
     let n : suc (first + k) ≡ first + (k + 1) = omega arith in
-    let Q : CellOperands → Type 0 = λ y. KindFits kind y vs ws × StepsFit (steps_with kind (drop (k + 1) os)) (suc (first + k)) (after_kind kind y (first + k) vs ws) ws in
+    let Q : CellOperands → Type 0 =
+    λ y. KindFits kind y vs ws × StepsFit (steps_with kind (drop (k + 1) os)) (suc (first + k)) (after_kind kind y (first + k) vs ws) ws in
     let q : Q o = subst Q (sym e) g in
     (q.0, let R : ℕ → Type 0 = λ j. StepsFit (steps_with kind (drop (k + 1) os)) j (after_kind kind o (first + k) vs ws) ws in subst R n q.1)
 
@@ -81,8 +82,11 @@ pub run_fits : (rs : List CellRun) (k n at : ℕ) (r : CellRun) (vs : List ℕ) 
     × StepsFit (steps_of (drop (k + 1) rs)) (at + n) (after_steps (steps_with r.kind r.operands.items) at vs ws) ws
 run_fits rs k n at r vs ws h e m f =
     let P : List Step → Type 0 = λ l. StepsFit l at vs ws in
-    let g = fit_append (steps_with r.kind r.operands.items) (steps_of (drop (k + 1) rs)) at vs ws (subst P (runs_more rs k r h e) f) in
-    (g.0, subst (λ i. StepsFit (steps_of (drop (k + 1) rs)) (at + i) (after_steps (steps_with r.kind r.operands.items) at vs ws) ws) (with_length r.kind r.operands.items ∙ sym m) g.1)
+    let g = fit_append (steps_with r.kind r.operands.items) (steps_of (drop (k + 1) rs)) at vs ws (subst P (runs_more rs k r h e) f) in (
+      g.0,
+      subst (λ i. StepsFit (steps_of (drop (k + 1) rs)) (at + i) (after_steps (steps_with r.kind r.operands.items) at vs ws) ws)
+          (with_length r.kind r.operands.items ∙ sym m) g.1,
+    )
 
 -- and after it those are left
 pub run_rest : (rs : List CellRun) (k n at : ℕ) (r : CellRun) (vs : List ℕ) (ws : List (List ℕ))
@@ -90,7 +94,8 @@ pub run_rest : (rs : List CellRun) (k n at : ℕ) (r : CellRun) (vs : List ℕ) 
     → after_steps (steps_of (drop (k + 1) rs)) (at + n) (after_steps (steps_with r.kind r.operands.items) at vs ws) ws
     ≡ after_steps (steps_of (drop k rs)) at vs ws
 run_rest rs k n at r vs ws h e m =
-    ap (λ i. after_steps (steps_of (drop (k + 1) rs)) (at + i) (after_steps (steps_with r.kind r.operands.items) at vs ws) ws) (m ∙ sym (with_length r.kind r.operands.items))
+    ap (λ i. after_steps (steps_of (drop (k + 1) rs)) (at + i) (after_steps (steps_with r.kind r.operands.items) at vs ws) ws)
+    (m ∙ sym (with_length r.kind r.operands.items))
     ∙ sym (after_append (steps_with r.kind r.operands.items) (steps_of (drop (k + 1) rs)) at vs ws)
     ∙ sym (ap (λ l. after_steps l at vs ws) (runs_more rs k r h e))
 

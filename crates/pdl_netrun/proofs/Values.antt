@@ -137,7 +137,9 @@ module _ (c : Circuit) (s : State) (w : IsWell c) (t : Suits c s) (ps vs : List 
       record { there = here a h.1; array = omega (arith, t.array_count, h.0); within = omega (arith, e, f, r) }
 
   -- it gives its place the signal's value; a constant's has it
-  pub after_planned : (g : Cell) (at : ℕ) → FitsIn c (IsPlaced c ps n) (signal c) g → at < length vs → IsHeld g (slice_index vs at) → slice_index (after_step (step_of_cell c ps g) at vs s.arrays) at ≡ (cell_signal c (signal c) g).value s
+  pub after_planned : (g : Cell) (at : ℕ) → FitsIn c (IsPlaced c ps n) (signal c) g → at < length vs
+      → IsHeld g (slice_index vs at)
+      → slice_index (after_step (step_of_cell c ps g) at vs s.arrays) at ≡ (cell_signal c (signal c) g).value s
   unfolding const_value not_value bin_value mux_value slice_value cat_value rep_value read_value
   after_planned (cell.Const b x) at h l k = k
   after_planned (cell.Not a) at h l k = get_or-set_same vs at _ 0 l ∙ ap (λ x. words.complement (signal c a).width x) (v.each a h)
@@ -147,7 +149,8 @@ module _ (c : Circuit) (s : State) (w : IsWell c) (t : Suits c s) (ps vs : List 
       ∙ ap₂ (λ x y. bin_word o (signal c a).width x y) (v.each a h.0) (v.each b h.1)
   after_planned (cell.Mux x a b) at h l k =
       get_or-set_same vs at _ 0 l
-      ∙ chosen vs (slice_index vs (place c ps x)) (place c ps a) (place c ps b) ((signal c x).value s) (v.each x h.0) (let q = is_bit x h.0 h.3 in let e = v.each x h.0 in omega (arith, q, e))
+      ∙ chosen vs (slice_index vs (place c ps x)) (place c ps a) (place c ps b) ((signal c x).value s) (v.each x h.0)
+      (let q = is_bit x h.0 h.3 in let e = v.each x h.0 in omega (arith, q, e))
       ∙ ap₂ (λ y z. words.mux ((signal c x).value s) y z) (v.each a h.1) (v.each b h.2)
   after_planned (cell.Slice a high low) at h l k = get_or-set_same vs at _ 0 l ∙ ap (λ x. words.slice high low x) (v.each a h.0)
   after_planned (cell.Cat a b) at h l k = get_or-set_same vs at _ 0 l ∙ ap₂ (λ x y. words.cat (signal c b).width x y) (v.each a h.0) (v.each b h.1)
@@ -177,7 +180,9 @@ turn_of c order ps j k o l h e = ⊎_elim
     (o.known k h)
 
 -- what a step keeps: the values before it, its own value, and the constants
-module _ (c : Circuit) (s : State) (w : IsWell c) (t : Suits c s) (order ps : List ℕ) (o : IsOrder c order ps) (j : ℕ) (l : j < length order) (vs : List ℕ) (count : length vs ≡ first_place c + length order) (v : HasValues c ps s vs (first_place c + j)) (f : HasConstants c ps (length vs) vs) where
+module _ (c : Circuit) (s : State) (w : IsWell c) (t : Suits c s) (order ps : List ℕ) (o : IsOrder c order ps) (j : ℕ)
+    (l : j < length order) (vs : List ℕ) (count : length vs ≡ first_place c + length order)
+    (v : HasValues c ps s vs (first_place c + j)) (f : HasConstants c ps (length vs) vs) where
   abbrev own_cell : Cell
   own_cell = cell_at c (slice_index order j)
 
@@ -200,7 +205,8 @@ module _ (c : Circuit) (s : State) (w : IsWell c) (t : Suits c s) (order ps : Li
   step_fits = fits_planned c s w t ps vs at (omega (arith, count, l)) v own_cell fits_own
 
   held : IsHeld own_cell (slice_index vs at)
-  held = subst (λ (i : ℕ). IsHeld own_cell (slice_index vs i)) (turn.own) (f.each (slice_index order j) turn.there (let e = turn.own in omega (arith, e, inside)))
+  held =
+      subst (λ (i : ℕ). IsHeld own_cell (slice_index vs i)) (turn.own) (f.each (slice_index order j) turn.there (let e = turn.own in omega (arith, e, inside)))
 
   own : slice_index new at ≡ (signal c (CellNet (slice_index order j))).value s
   own =
@@ -212,9 +218,11 @@ module _ (c : Circuit) (s : State) (w : IsWell c) (t : Suits c s) (order ps : Li
 
   each_new : (x : Net) → IsPlaced c ps (suc at) x → slice_index new (place c ps x) ≡ (signal c x).value s
   each_new (Input i) h = let q = h.there in other i (λ e. absurd (omega (arith, e, q))) ∙ v.each (Input i) (record { there = q; early = omega (arith, q) })
-  each_new (RegNet r) h = let q = h.there in other (place c ps (RegNet r)) (λ e. absurd (omega (arith, e, q))) ∙ v.each (RegNet r) (record { there = q; early = omega (arith, q) })
+  each_new (RegNet r) h = let q = h.there in
+      other (place c ps (RegNet r)) (λ e. absurd (omega (arith, e, q))) ∙ v.each (RegNet r) (record { there = q; early = omega (arith, q) })
   each_new (CellNet k) h = ⊎_elim
-      (λ (lt : slice_index ps k < at). other (slice_index ps k) (λ e. absurd (omega (arith, e, lt))) ∙ v.each (CellNet k) (record { there = h.there; early = lt }))
+      (λ (lt : slice_index ps k < at). other (slice_index ps k) (λ e. absurd (omega (arith, e, lt)))
+      ∙ v.each (CellNet k) (record { there = h.there; early = lt }))
       (λ (ge : at ≤ slice_index ps k).
       let q = h.early in
       let e : slice_index ps k ≡ at = omega (arith, q, ge) in
@@ -232,7 +240,8 @@ module _ (c : Circuit) (s : State) (w : IsWell c) (t : Suits c s) (order ps : Li
   kept k h b = ⊎_elim
       (λ (e : slice_index ps k ≡ at).
       let i = turn_of c order ps j k o l h e in
-      subst (λ (m : ℕ). IsHeld (cell_at c k) (slice_index new m)) (sym e) (subst (λ (m : ℕ). IsHeld (cell_at c m) (slice_index new at)) i (held_after c ps own_cell at vs s.arrays held)))
+      subst (λ (m : ℕ). IsHeld (cell_at c k) (slice_index new m)) (sym e)
+      (subst (λ (m : ℕ). IsHeld (cell_at c m) (slice_index new at)) i (held_after c ps own_cell at vs s.arrays held)))
       (λ (ne : slice_index ps k ≢ at). subst (λ (x : ℕ). IsHeld (cell_at c k) x) (sym (other (slice_index ps k) ne)) (f.each k h b))
       (cases_eq (slice_index ps k) at)
 
@@ -256,21 +265,31 @@ walked_from : (c : Circuit) (s : State) → IsWell c → Suits c s → (order ps
     → IsWalked c ps s vs (order_steps c ps (drop j order)) (first_place c + j)
 walked_from c s w t order ps o zero j e vs m v f =
     let P : List ℕ → Type 0 = λ l. IsWalked c ps s vs (order_steps c ps l) (first_place c + j) in
-    subst P (sym (drop_all j order (omega (arith, e)))) (record { fit = tt; values = (let z : first_place c + j ≡ length vs = omega (arith, e, m) in subst (λ (i : ℕ). HasValues c ps s vs i) z v); constants = f; count = refl })
+    subst P (sym (drop_all j order (omega (arith, e))))
+    (record {
+      fit = tt;
+      values = (let z : first_place c + j ≡ length vs = omega (arith, e, m) in subst (λ (i : ℕ). HasValues c ps s vs i) z v);
+      constants = f;
+      count = refl;
+    })
 walked_from c s w t order ps o (suc n) j e vs m v f =
     let l : j < length order = omega (arith, e) in
     let x = slice_index order j in
     let new = after_step (step_of_cell c ps (cell_at c x)) (first_place c + j) vs s.arrays in
     let k = step_count c s w t order ps o j l vs m v f in
     let i : suc (first_place c + j) ≡ first_place c + (j + 1) = omega arith in
-    let rest = walked_from c s w t order ps o n (j + 1) (omega (arith, e)) new (k ∙ m) (subst (λ (a : ℕ). HasValues c ps s new a) i (step_values c s w t order ps o j l vs m v f)) (step_constants c s w t order ps o j l vs m v f) in
+    let rest =
+    walked_from c s w t order ps o n (j + 1) (omega (arith, e)) new (k ∙ m)
+    (subst (λ (a : ℕ). HasValues c ps s new a) i (step_values c s w t order ps o j l vs m v f))
+    (step_constants c s w t order ps o j l vs m v f) in
     let Q : ℕ → Type 0 = λ a. IsWalked c ps s new (order_steps c ps (drop (j + 1) order)) a in
     let r = subst Q (sym i) rest in
     let P : List ℕ → Type 0 = λ xs. IsWalked c ps s vs (order_steps c ps xs) (first_place c + j) in
     subst P (sym (drop_more order j 0 l)) (record {
       fit = (step_fits c s w t order ps o j l vs m v f, r.fit);
       values = subst (λ (a : ℕ). HasValues c ps s (after_steps (order_steps c ps (drop (j + 1) order)) (suc (first_place c + j)) new s.arrays) a) k r.values;
-      constants = subst (λ (a : ℕ). HasConstants c ps a (after_steps (order_steps c ps (drop (j + 1) order)) (suc (first_place c + j)) new s.arrays)) k r.constants;
+      constants =
+          subst (λ (a : ℕ). HasConstants c ps a (after_steps (order_steps c ps (drop (j + 1) order)) (suc (first_place c + j)) new s.arrays)) k r.constants;
       count = r.count ∙ k;
     })
 
@@ -280,4 +299,5 @@ pub walked : (c : Circuit) (s : State) → IsWell c → Suits c s → (order ps 
     → IsWalked c ps s vs (order_steps c ps order) (first_place c)
 walked c s w t order ps o vs m v f =
     let e : first_place c + 0 ≡ first_place c = omega arith in
-    subst (λ (a : ℕ). IsWalked c ps s vs (order_steps c ps order) a) e (walked_from c s w t order ps o (length order) 0 (omega arith) vs m (subst (λ (a : ℕ). HasValues c ps s vs a) (sym e) v) f)
+    subst (λ (a : ℕ). IsWalked c ps s vs (order_steps c ps order) a) e
+    (walked_from c s w t order ps o (length order) 0 (omega arith) vs m (subst (λ (a : ℕ). HasValues c ps s vs a) (sym e) v) f)

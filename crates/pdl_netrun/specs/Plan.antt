@@ -25,7 +25,8 @@ step_of k o = record { kind = k; operands = o }
 abbrev pub cell_operands : Circuit → List ℕ → Cell → CellOperands
 cell_operands c ps (cell.Const w v) = reading_at 0 0
 cell_operands c ps (cell.Not a) = record { places = place c ps a ∷ place c ps a ∷ []; selector = 0; width = (signal c a).width; high = 0; low = 0; count = 0 }
-cell_operands c ps (cell.Bin o a b) = record { places = place c ps a ∷ place c ps b ∷ []; selector = 0; width = (signal c a).width; high = 0; low = 0; count = 0 }
+cell_operands c ps (cell.Bin o a b) =
+    record { places = place c ps a ∷ place c ps b ∷ []; selector = 0; width = (signal c a).width; high = 0; low = 0; count = 0 }
 cell_operands c ps (cell.Mux x a b) = record { places = place c ps b ∷ place c ps a ∷ []; selector = place c ps x; width = 0; high = 0; low = 0; count = 0 }
 cell_operands c ps (cell.Slice a high low) = record { places = place c ps a ∷ place c ps a ∷ []; selector = 0; width = 0; high = high; low = low; count = 0 }
 cell_operands c ps (cell.Cat a b) = record { places = place c ps a ∷ place c ps b ∷ []; selector = 0; width = 0; high = 0; low = (signal c b).width; count = 0 }

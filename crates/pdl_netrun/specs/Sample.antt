@@ -26,9 +26,14 @@ memory = record { name = codes "m"; width = 4; depth = 2; writes = odd_write ∷
 abbrev pub sample : Netlist
 sample = record {
   name = codes "sample";
-  ports = out (codes "v_0") 1 (CellNet 0) ∷ out (codes "g_0") 1 (CellNet 0) ∷ out (codes "c_m") 1 (CellNet 3) ∷ out (codes "ca_m") 1 (CellNet 5) ∷ out (codes "cd_m") 4 (CellNet 7) ∷ out (codes "ended") 1 (CellNet 0) ∷ out (codes "squash") 1 (CellNet 4) ∷ [];
+  ports =
+      out (codes "v_0") 1 (CellNet 0) ∷ out (codes "g_0") 1 (CellNet 0) ∷ out (codes "c_m") 1 (CellNet 3)
+      ∷ out (codes "ca_m") 1 (CellNet 5) ∷ out (codes "cd_m") 4 (CellNet 7) ∷ out (codes "ended") 1 (CellNet 0)
+      ∷ out (codes "squash") 1 (CellNet 4) ∷ [];
   regs = record { width = 4; reset = 1; next = CellNet 2 } ∷ [];
   arrays = memory ∷ [];
-  cells = Const 1 1 ∷ Const 4 1 ∷ Bin Add (RegNet 0) (CellNet 1) ∷ Slice (RegNet 0) 0 0 ∷ Const 1 0 ∷ Slice (RegNet 0) 1 1 ∷ Read 0 (CellNet 5) ∷ Bin Add (CellNet 6) (RegNet 0) ∷ [];
+  cells =
+      Const 1 1 ∷ Const 4 1 ∷ Bin Add (RegNet 0) (CellNet 1) ∷ Slice (RegNet 0) 0 0 ∷ Const 1 0 ∷ Slice (RegNet 0) 1 1
+      ∷ Read 0 (CellNet 5) ∷ Bin Add (CellNet 6) (RegNet 0) ∷ [];
   mems = record { name = codes "m"; width = 4; depth = 2; delayed = false } ∷ [];
 }

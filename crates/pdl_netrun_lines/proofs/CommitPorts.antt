@@ -77,7 +77,9 @@ pub one_more : (n : Netlist) (ports : List Port) (k : ℕ) (p : Port) (x : Net) 
 one_more n ports k p x i old new l e out h low more so_far =
     let rest = drop (k + 1) ports in
     record {
-      there = subst (All (λ i. i < length n.mems)) (sym more) (All-append (λ i. i < length n.mems) old (i ∷ []) so_far.there (All-cons (λ i. i < length n.mems) i [] low (All-nil (λ i. i < length n.mems))));
+      there =
+          subst (All (λ i. i < length n.mems)) (sym more)
+          (All-append (λ i. i < length n.mems) old (i ∷ []) so_far.there (All-cons (λ i. i < length n.mems) i [] low (All-nil (λ i. i < length n.mems))));
       mems =
           ap (λ (o : List ℕ). map (mem_at n) o ++ by_ports n rest) more
           ∙ ap (λ l. l ++ by_ports n rest) (map-append (mem_at n) old (i ∷ []))

@@ -47,7 +47,8 @@ count_step test c cs rest old new all e n a =
 pub sim_step : (old new : Run) (rows : List ℕ) (done cycles : ℕ) → new ≡ run_after old (bits_in rows (done + 1)) → done < cycles
     → left old.netlist old.held rows done cycles ≡ cycle_of new.netlist new.last ∷ left new.netlist new.held rows (done + 1) cycles
 sim_step old new rows done cycles e lt =
-    subst (λ (r : Run). left old.netlist old.held rows done cycles ≡ cycle_of r.netlist r.last ∷ left r.netlist r.held rows (done + 1) cycles) (sym e) (left_step old.netlist old.held rows done cycles lt)
+    subst (λ (r : Run). left old.netlist old.held rows done cycles ≡ cycle_of r.netlist r.last ∷ left r.netlist r.held rows (done + 1) cycles)
+    (sym e) (left_step old.netlist old.held rows done cycles lt)
 
 at_most_one : (b : Bool) → one_if b ≤ 1
 at_most_one true = omega arith

@@ -43,15 +43,22 @@ module _ (old new : Run) (bits : ℕ) (e : new ≡ run_after old bits) where
   pub fit_after : IsFit old.netlist old.held → IsFit new.netlist new.held
   fit_after fit = subst (λ (r : Run). IsFit r.netlist r.held) (sym e) (fit_next old.netlist old.held bits fit)
 
-  left_step : (delays : List ℕ) (done cycles : ℕ) → bits ≡ bits_in delays (done + 1) → done < cycles → left old delays done cycles ≡ new.last.ports ∷ left new delays (done + 1) cycles
+  left_step : (delays : List ℕ) (done cycles : ℕ) → bits ≡ bits_in delays (done + 1) → done < cycles
+      → left old delays done cycles ≡ new.last.ports ∷ left new delays (done + 1) cycles
   left_step delays done cycles is l =
       let more : cycles - done ≡ suc (cycles - (done + 1)) = omega arith in
-      let first : left old delays done cycles ≡ (shown_ports old.netlist old.held bits).ports ∷ left (run_after old bits) delays (done + 1) cycles = rw (more, is) refl in
-      first ∙ subst (λ (r : Run). (shown_ports old.netlist old.held bits).ports ∷ left (run_after old bits) delays (done + 1) cycles ≡ r.last.ports ∷ left r delays (done + 1) cycles) (sym e) refl
+      let first : left old delays done cycles ≡ (shown_ports old.netlist old.held bits).ports ∷ left (run_after old bits) delays (done + 1) cycles =
+      rw (more, is) refl in
+      first
+      ∙ subst
+      (λ (r : Run). (shown_ports old.netlist old.held bits).ports ∷ left (run_after old bits) delays (done + 1) cycles
+      ≡ r.last.ports ∷ left r delays (done + 1) cycles)
+      (sym e) refl
 
   -- one cycle further
   pub cycle_step : (ports : List WavePort) (delays : List ℕ) (done cycles : ℕ) (before : List ℕ) → bits ≡ bits_in delays (done + 1) → done < cycles →
-      cycles_text ports (done + 1) before (left old delays done cycles) ≡ cycle_text ports (done + 1) before new.last.ports ++ cycles_text ports (done + 1 + 1) new.last.ports (left new delays (done + 1) cycles)
+      cycles_text ports (done + 1) before (left old delays done cycles)
+      ≡ cycle_text ports (done + 1) before new.last.ports ++ cycles_text ports (done + 1 + 1) new.last.ports (left new delays (done + 1) cycles)
   cycle_step ports delays done cycles before is l =
       let number : suc (done + 1) ≡ done + 1 + 1 = omega arith in
       ap (cycles_text ports (done + 1) before) (left_step delays done cycles is l)
@@ -61,5 +68,6 @@ module _ (old new : Run) (bits : ℕ) (e : new ≡ run_after old bits) where
 pub finish_on : (o a b : Option (List ℕ)) (all rest held piece : List ℕ)
     → rest ≡ piece → IsUnderWay o a all rest held → {X Y : Type 0} (r : Result X Y) (held' : List ℕ)
     → Passes a b r (held ++ piece) held' → Passes o b r all held'
-finish_on o a b all rest held piece e w (Ok x) held' p = at_last o b all [] held' refl (step_on o a b all rest held piece [] (e ∙ sym (append-nil piece)) w held' p)
+finish_on o a b all rest held piece e w (Ok x) held' p =
+    at_last o b all [] held' refl (step_on o a b all rest held piece [] (e ∙ sym (append-nil piece)) w held' p)
 finish_on o a b all rest held piece e w (Err x) held' t = step_off o a b all rest held piece [] (e ∙ sym (append-nil piece)) w t

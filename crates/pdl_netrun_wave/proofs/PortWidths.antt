@@ -28,7 +28,8 @@ use Rattle.pdl_netrun_wave.specs.Cycles.{AreDumpable, IsFit}
 
 module _ (c : Circuit) (s : State) (well : IsWell c) (suits : Suits c s) where
   -- the values of these ports fit
-  fits_by : (d : Dir) (name : List ℕ) (w : ℕ) (ps : List WavePort) (os : List Output) → IsDriven c w d → IsRow ps (map (λ (o : Output). net_value c s o.net) os) →
+  fits_by : (d : Dir) (name : List ℕ) (w : ℕ) (ps : List WavePort) (os : List Output) → IsDriven c w d
+      → IsRow ps (map (λ (o : Output). net_value c s o.net) os) →
       IsRow (cons_option (wave_with d name w) ps) (map (λ (o : Output). net_value c s o.net) (cons_option (output_with d name) os))
   fits_by In name w ps os h rest = rest
   fits_by (Out x) name w ps os h rest =
@@ -88,9 +89,12 @@ widths_by : (c : Circuit) (ps : List Port)
 widths_by c [] h = All-nil (λ (p : WavePort). (1 ≤ p.width) × (p.width ≤ 64))
 widths_by c (p ∷ ps) h = one p.dir p.width (h 0 p refl).low (h 0 p refl).high (widths_by c ps (λ i q e. h (suc i) q e))
   where
-    one : (d : Dir) (w : ℕ) → 1 ≤ w → w ≤ 64 → All (λ (q : WavePort). (1 ≤ q.width) × (q.width ≤ 64)) (filter_map wave_port ps) → All (λ (q : WavePort). (1 ≤ q.width) × (q.width ≤ 64)) (cons_option (wave_with d p.name w) (filter_map wave_port ps))
+    one : (d : Dir) (w : ℕ) → 1 ≤ w → w ≤ 64
+        → All (λ (q : WavePort). (1 ≤ q.width) × (q.width ≤ 64)) (filter_map wave_port ps)
+        → All (λ (q : WavePort). (1 ≤ q.width) × (q.width ≤ 64)) (cons_option (wave_with d p.name w) (filter_map wave_port ps))
     one In w low high rest = rest
-    one (Out x) w low high rest = All-cons (λ (q : WavePort). (1 ≤ q.width) × (q.width ≤ 64)) (record { name = p.name; width = w }) (filter_map wave_port ps) (low, high) rest
+    one (Out x) w low high rest =
+        All-cons (λ (q : WavePort). (1 ≤ q.width) × (q.width ≤ 64)) (record { name = p.name; width = w }) (filter_map wave_port ps) (low, high) rest
 
 -- the ports of a netlist have 1 to 64 bits
 pub port_widths : (n : Netlist) → IsWell (circuit_of n) → All (λ (p : WavePort). (1 ≤ p.width) × (p.width ≤ 64)) (wave_ports n)
@@ -101,7 +105,8 @@ count_by : (ps : List Port) → length (filter_map wave_port ps) ≡ length (fil
 count_by [] = refl
 count_by (p ∷ ps) = one p.dir (count_by ps)
   where
-    one : (d : Dir) → length (filter_map wave_port ps) ≡ length (filter_map port_output ps) → length (cons_option (wave_with d p.name p.width) (filter_map wave_port ps)) ≡ length (cons_option (output_with d p.name) (filter_map port_output ps))
+    one : (d : Dir) → length (filter_map wave_port ps) ≡ length (filter_map port_output ps)
+        → length (cons_option (wave_with d p.name p.width) (filter_map wave_port ps)) ≡ length (cons_option (output_with d p.name) (filter_map port_output ps))
     one In e = e
     one (Out x) e = ap suc e
 
@@ -118,7 +123,8 @@ next_port ports k p l e = ap (filter_map wave_port) (drop_more ports k p l ∙ a
 
 -- an output more
 pub output_more : (ports : List Port) (k : ℕ) (p : Port) (x : Net) (old new all : List WavePort) → k < length ports → p ≡ get_or ports k p → p.dir ≡ Out x →
-    new ≡ old ++ record { name = p.name; width = p.width } ∷ [] → old ++ filter_map wave_port (drop k ports) ≡ all → new ++ filter_map wave_port (drop (k + 1) ports) ≡ all
+    new ≡ old ++ record { name = p.name; width = p.width } ∷ [] → old ++ filter_map wave_port (drop k ports) ≡ all
+    → new ++ filter_map wave_port (drop (k + 1) ports) ≡ all
 output_more ports k p x old new all l e out more so_far =
     let rest = filter_map wave_port (drop (k + 1) ports) in
     ap (λ ps. ps ++ rest) more
@@ -130,7 +136,8 @@ output_more ports k p x old new all l e out more so_far =
 pub input_more : (ports : List Port) (k : ℕ) (p : Port) (old all : List WavePort) → k < length ports → p ≡ get_or ports k p → p.dir ≡ In →
     old ++ filter_map wave_port (drop k ports) ≡ all → old ++ filter_map wave_port (drop (k + 1) ports) ≡ all
 input_more ports k p old all l e input so_far =
-    ap (λ ps. old ++ ps) (sym (next_port ports k p l e ∙ ap (λ d. cons_option (wave_with d p.name p.width) (filter_map wave_port (drop (k + 1) ports))) input)) ∙ so_far
+    ap (λ ps. old ++ ps) (sym (next_port ports k p l e ∙ ap (λ d. cons_option (wave_with d p.name p.width) (filter_map wave_port (drop (k + 1) ports))) input))
+    ∙ so_far
 
 -- the ports of a netlist, where they are few
 pub dumpable : (n : Netlist) → IsWell (circuit_of n) → length (wave_ports n) < 8930 → AreDumpable (wave_ports n)

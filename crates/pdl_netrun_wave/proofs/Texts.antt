@@ -15,7 +15,8 @@ use Rattle.pdl_netrun_wave.specs.Cycles.{known, cycle_moments, changes_text, mom
 moments_append : (ports : List WavePort) (xs ys : List Moment)
     → moments_text ports (xs ++ ys) ≡ moments_text ports xs ++ moments_text ports ys
 moments_append ports xs ys =
-    ap (flat_map ended) (flat_map-append (moment_lines ports) xs ys) ∙ flat_map-append ended (flat_map (moment_lines ports) xs) (flat_map (moment_lines ports) ys)
+    ap (flat_map ended) (flat_map-append (moment_lines ports) xs ys)
+    ∙ flat_map-append ended (flat_map (moment_lines ports) xs) (flat_map (moment_lines ports) ys)
 
 -- ---- cycles
 
@@ -78,7 +79,8 @@ told_or ports false i v more = refl
 
 -- one port further
 pub next_port : (ports : List WavePort) (before row : List ℕ) (i : ℕ) → i < length row →
-    changes_text ports (changes i before (drop i row)) ≡ port_text ports (differs (slice_get before i) (get_or row i 0)) i (get_or row i 0) ++ changes_text ports (changes (i + 1) before (drop (i + 1) row))
+    changes_text ports (changes i before (drop i row))
+    ≡ port_text ports (differs (slice_get before i) (get_or row i 0)) i (get_or row i 0) ++ changes_text ports (changes (i + 1) before (drop (i + 1) row))
 next_port ports before row i l =
     let e : suc i ≡ i + 1 = omega arith in
     ap (λ vs. changes_text ports (changes i before vs)) (drop_more row i 0 l)
@@ -136,10 +138,17 @@ quiet_same first before row n both =
 -- ---- ports that don't change
 
 next_change : (before row : List ℕ) (i : ℕ) → i < length row → i < length before →
-    is_none (changes i before (drop i row)) ≡ is_none (if not (get_or before i 0 == get_or row i 0) then record { port = i; value = get_or row i 0 } ∷ changes (suc i) before (drop (i + 1) row) else changes (suc i) before (drop (i + 1) row))
+    is_none (changes i before (drop i row))
+    ≡ is_none
+    (if not (get_or before i 0 == get_or row i 0)
+    then record { port = i; value = get_or row i 0 } ∷ changes (suc i) before (drop (i + 1) row)
+    else changes (suc i) before (drop (i + 1) row))
 next_change before row i l m =
     ap (λ vs. is_none (changes i before vs)) (drop_more row i 0 l)
-    ∙ ap (λ b. is_none (if b then record { port = i; value = get_or row i 0 } ∷ changes (suc i) before (drop (i + 1) row) else changes (suc i) before (drop (i + 1) row))) (changed_as false before i (get_or row i 0) m)
+    ∙ ap
+    (λ b. is_none
+    (if b then record { port = i; value = get_or row i 0 } ∷ changes (suc i) before (drop (i + 1) row) else changes (suc i) before (drop (i + 1) row)))
+    (changed_as false before i (get_or row i 0) m)
 
 -- one more
 pub still_quiet : (before row : List ℕ) (i : ℕ)
@@ -148,7 +157,10 @@ pub still_quiet : (before row : List ℕ) (i : ℕ)
 still_quiet before row i l m e =
     let next : suc i ≡ i + 1 = omega arith in
     next_change before row i l m
-    ∙ ap (λ b. is_none (if not b then record { port = i; value = get_or row i 0 } ∷ changes (suc i) before (drop (i + 1) row) else changes (suc i) before (drop (i + 1) row))) (eq-eqb (get_or before i 0) (get_or row i 0) e)
+    ∙ ap
+    (λ b. is_none
+    (if not b then record { port = i; value = get_or row i 0 } ∷ changes (suc i) before (drop (i + 1) row) else changes (suc i) before (drop (i + 1) row)))
+    (eq-eqb (get_or before i 0) (get_or row i 0) e)
     ∙ ap (λ j. is_none (changes j before (drop (i + 1) row))) next
 
 -- one that does
@@ -157,7 +169,10 @@ pub not_quiet : (before row : List ℕ) (i : ℕ)
     → is_none (changes i before (drop i row)) ≡ false
 not_quiet before row i l m d =
     next_change before row i l m
-    ∙ ap (λ b. is_none (if not b then record { port = i; value = get_or row i 0 } ∷ changes (suc i) before (drop (i + 1) row) else changes (suc i) before (drop (i + 1) row))) (ne_eqb (get_or before i 0) (get_or row i 0) d)
+    ∙ ap
+    (λ b. is_none
+    (if not b then record { port = i; value = get_or row i 0 } ∷ changes (suc i) before (drop (i + 1) row) else changes (suc i) before (drop (i + 1) row)))
+    (ne_eqb (get_or before i 0) (get_or row i 0) d)
 
 -- ---- the values before, port by port
 
@@ -184,7 +199,8 @@ value_taken before row i l m =
 -- one port further, where it is known that it changed
 pub port_step : (ports : List WavePort) (first : Bool) (before row : List ℕ) (i : ℕ) (at v : ℕ) (changed : Bool) → i < length row → length before ≡ length row →
     at ≡ get_or (take i row ++ drop i before) i 0 → v ≡ get_or row i 0 → changed ≡ (first || not (at == v)) →
-    changes_text ports (changes i (known first before) (drop i row)) ≡ port_text ports changed i v ++ changes_text ports (changes (i + 1) (known first before) (drop (i + 1) row))
+    changes_text ports (changes i (known first before) (drop i row))
+    ≡ port_text ports changed i v ++ changes_text ports (changes (i + 1) (known first before) (drop (i + 1) row))
 port_step ports first before row i at v changed l n e f h =
     let r = get_or row i 0 in
     let after = changes_text ports (changes (i + 1) (known first before) (drop (i + 1) row)) in

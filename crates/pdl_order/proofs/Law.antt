@@ -76,8 +76,12 @@ halved l s (x ∷ xs) one some h =
     let below = word_below (x ∷ xs) in
     record {
       room = omega (arith, h.room);
-      used = ap (λ n. n + 1) (half_value l (used_signal l) s ∙ half l.stages ((used_signal l).value s) one (omega (arith, u, wide))) ∙ used_half ((used_signal l).value s) x xs u;
-      sides = half_value l (sides_signal l) s ∙ ap (λ n. words.shr l.stages n 1) d ∙ half l.stages (word_of (x ∷ xs)) one (omega (arith, below, wide)) ∙ sides_half x xs;
+      used =
+          ap (λ n. n + 1) (half_value l (used_signal l) s ∙ half l.stages ((used_signal l).value s) one (omega (arith, u, wide)))
+          ∙ used_half ((used_signal l).value s) x xs u;
+      sides =
+          half_value l (sides_signal l) s ∙ ap (λ n. words.shr l.stages n 1) d
+          ∙ half l.stages (word_of (x ∷ xs)) one (omega (arith, below, wide)) ∙ sides_half x xs;
     }
 
 left_words : (l : OrderLayout) (f : StepSignals) (s : State) (xs : List Bool) (a : OrderAct)
@@ -172,7 +176,8 @@ entered_words l f s ys a w d room = by_first a.entered_first a.entered_second re
     more : Signal → Signal
     more x = more_signal l f x
 
-    by_first : (t v : Bool) → a.entered_first ≡ t → a.entered_second ≡ v → length (if t then ys ++ true ∷ [] else (if v then ys ++ false ∷ [] else ys)) ≤ l.stages
+    by_first : (t v : Bool) → a.entered_first ≡ t → a.entered_second ≡ v
+        → length (if t then ys ++ true ∷ [] else (if v then ys ++ false ∷ [] else ys)) ≤ l.stages
         → AreWords l.stages (used_entered l f) (sides_entered l f) s (if t then ys ++ true ∷ [] else (if v then ys ++ false ∷ [] else ys))
     by_first true v e i fits =
         let m = d.entered_first ∙ ap bit e in
@@ -180,7 +185,9 @@ entered_words l f s ys a w d room = by_first a.entered_first a.entered_second re
         let h : length ys + 1 ≤ l.stages = omega (arith, n, fits) in
         record {
           room = fits;
-          used = ap (λ k. k + 1) (mux_at f.entered_first (more u) (mux_signal f.entered_second (more u) u) s true m) ∙ used_grown l f s ys w h ∙ ap (λ k. 2 ^ k) (sym n);
+          used =
+              ap (λ k. k + 1) (mux_at f.entered_first (more u) (mux_signal f.entered_second (more u) u) s true m)
+              ∙ used_grown l f s ys w h ∙ ap (λ k. 2 ^ k) (sym n);
           sides = mux_at f.entered_first (more g) g s true m ∙ sides_grown l f s ys w h;
         }
     by_first false true e i fits =
@@ -190,7 +197,9 @@ entered_words l f s ys a w d room = by_first a.entered_first a.entered_second re
         let h : length ys + 1 ≤ l.stages = omega (arith, n, fits) in
         record {
           room = fits;
-          used = ap (λ k. k + 1) (mux_at f.entered_first (more u) (mux_signal f.entered_second (more u) u) s false m ∙ mux_at f.entered_second (more u) u s true o) ∙ used_grown l f s ys w h ∙ ap (λ k. 2 ^ k) (sym n);
+          used =
+              ap (λ k. k + 1) (mux_at f.entered_first (more u) (mux_signal f.entered_second (more u) u) s false m ∙ mux_at f.entered_second (more u) u s true o)
+              ∙ used_grown l f s ys w h ∙ ap (λ k. 2 ^ k) (sym n);
           sides = mux_at f.entered_first (more g) g s false m ∙ w.sides ∙ omega (arith, word_more ys false);
         }
     by_first false false e i fits =
@@ -198,7 +207,10 @@ entered_words l f s ys a w d room = by_first a.entered_first a.entered_second re
         let o = d.entered_second ∙ ap bit i in
         record {
           room = fits;
-          used = ap (λ k. k + 1) (mux_at f.entered_first (more u) (mux_signal f.entered_second (more u) u) s false m ∙ mux_at f.entered_second (more u) u s false o) ∙ w.used;
+          used =
+              ap (λ k. k + 1)
+              (mux_at f.entered_first (more u) (mux_signal f.entered_second (more u) u) s false m ∙ mux_at f.entered_second (more u) u s false o)
+              ∙ w.used;
           sides = mux_at f.entered_first (more g) g s false m ∙ w.sides;
         }
 
@@ -227,7 +239,8 @@ step_words l f s xs a one h d p = by_emptied a.emptied refl p.room
     g : Signal
     g = sides_entered l f
 
-    by_emptied : (t : Bool) → a.emptied ≡ t → length (if t then [] else zs) ≤ l.stages → AreWords l.stages (next_used l f) (next_sides l f) s (if t then [] else zs)
+    by_emptied : (t : Bool) → a.emptied ≡ t → length (if t then [] else zs) ≤ l.stages
+        → AreWords l.stages (next_used l f) (next_sides l f) s (if t then [] else zs)
     by_emptied true e fits =
         let m = d.emptied ∙ ap bit e in
         record {

@@ -54,7 +54,8 @@ pub used_none : (u : ℕ) (xs : List Bool) → u + 1 ≡ 2 ^ length xs → words
 unfolding words.equal
 used_none u [] e = let z : u ≡ 0 = omega (arith, e) in ap bit (eq-eqb u 0 z)
 used_none u (x ∷ xs) e =
-    ap bit (ne_eqb u 0 (λ (z : u ≡ 0). absurd (omega (arith, e, z, pow-succ' 2 (length xs), pow_pos (length xs))))) ∙ ap bit (sym (ne_eqb (length (x ∷ xs)) 0 (λ (z : length (x ∷ xs) ≡ 0). absurd (omega (arith, z)))))
+    ap bit (ne_eqb u 0 (λ (z : u ≡ 0). absurd (omega (arith, e, z, pow-succ' 2 (length xs), pow_pos (length xs)))))
+    ∙ ap bit (sym (ne_eqb (length (x ∷ xs)) 0 (λ (z : length (x ∷ xs) ≡ 0). absurd (omega (arith, z)))))
 
 -- the lowest bit of a list's word is its first entry
 pub lowest : (x : Bool) (xs : List Bool) → words.slice 0 0 (word_of (x ∷ xs)) ≡ bit x

@@ -49,7 +49,8 @@ common x a p i = bit_at_and x (bit_or a p) i ∙ ap (min (bit_at x i)) (bit_at_o
 pub with_bit_on : (x a n : ℕ) → (bit_and x (bit_or a (2 ^ n)) == bit_or a (2 ^ n)) ≡ ((bit_and x a == a) && (bit_at x n == 1))
 with_bit_on x a n = same_bools _ _ forth back
   where
-    each : bit_and x (bit_or a (2 ^ n)) ≡ bit_or a (2 ^ n) → (i : ℕ) → min (bit_at x i) (max (bit_at a i) (bit_at (2 ^ n) i)) ≡ max (bit_at a i) (bit_at (2 ^ n) i)
+    each : bit_and x (bit_or a (2 ^ n)) ≡ bit_or a (2 ^ n) → (i : ℕ)
+        → min (bit_at x i) (max (bit_at a i) (bit_at (2 ^ n) i)) ≡ max (bit_at a i) (bit_at (2 ^ n) i)
     each e i = sym (common x a (2 ^ n) i) ∙ ap (λ k. bit_at k i) e ∙ bit_at_or a (2 ^ n) i
 
     forth : (bit_and x (bit_or a (2 ^ n)) == bit_or a (2 ^ n)) ≡ true → ((bit_and x a == a) && (bit_at x n == 1)) ≡ true
@@ -59,14 +60,16 @@ with_bit_on x a n = same_bools _ _ forth back
         (eq-eqb _ _ (same_from_bits (bit_and x a) a (λ i. bit_at_and x a i ∙ on_low _ _ _ (bit_at-lt x i) (bit_at-lt a i) (bit_at-lt (2 ^ n) i) (e i))))
         (eq-eqb _ _ (on_one _ _ _ (bit_at-lt x n) (bit_at-lt a n) (bit_at-pow_same n) (e n)))
 
-    bit : bit_and x a ≡ a → bit_at x n ≡ 1 → (i : ℕ) → ((i == n) ≡ true × (i ≡ n)) ⊎ ((i == n) ≡ false × (i ≢ n)) → min (bit_at x i) (max (bit_at a i) (bit_at (2 ^ n) i)) ≡ max (bit_at a i) (bit_at (2 ^ n) i)
+    bit : bit_and x a ≡ a → bit_at x n ≡ 1 → (i : ℕ) → ((i == n) ≡ true × (i ≡ n)) ⊎ ((i == n) ≡ false × (i ≢ n))
+        → min (bit_at x i) (max (bit_at a i) (bit_at (2 ^ n) i)) ≡ max (bit_at a i) (bit_at (2 ^ n) i)
     bit e one i (inl h) = on_same _ _ _ (ap (bit_at x) h.1 ∙ one) (bit_at-lt a i) (bit_at-lt (2 ^ n) i)
     bit e one i (inr h) = on_other _ _ _ (bit_at-lt x i) (bit_at-lt a i) (bit_at-pow_other n i h.1) (sym (bit_at_and x a i) ∙ ap (λ k. bit_at k i) e)
 
     back : ((bit_and x a == a) && (bit_at x n == 1)) ≡ true → (bit_and x (bit_or a (2 ^ n)) == bit_or a (2 ^ n)) ≡ true
     back h =
         let parts = and_parts (bit_and x a == a) (bit_at x n == 1) h in
-        eq-eqb _ _ (same_from_bits _ _ (λ i. common x a (2 ^ n) i ∙ bit (eqb-true _ _ parts.0) (eqb-true _ _ parts.1) i (eqb_tells i n) ∙ sym (bit_at_or a (2 ^ n) i)))
+        eq-eqb _ _
+        (same_from_bits _ _ (λ i. common x a (2 ^ n) i ∙ bit (eqb-true _ _ parts.0) (eqb-true _ _ parts.1) i (eqb_tells i n) ∙ sym (bit_at_or a (2 ^ n) i)))
 
 -- a word has none of a mask's bits and bit n just where it has none of the mask's and its bit n is 0
 pub with_bit_off : (x a n : ℕ) → (bit_and x (bit_or a (2 ^ n)) == 0) ≡ ((bit_and x a == 0) && not (bit_at x n == 1))
@@ -79,12 +82,16 @@ with_bit_off x a n = same_bools _ _ forth back
     forth h =
         let e = each (eqb-true _ _ h) in
         and_from _ _
-        (eq-eqb _ _ (same_from_bits (bit_and x a) 0 (λ i. bit_at_and x a i ∙ off_low _ _ _ (bit_at-lt x i) (bit_at-lt a i) (bit_at-lt (2 ^ n) i) (e i) ∙ sym (bit_at-zero i))))
+        (eq-eqb _ _
+        (same_from_bits (bit_and x a) 0
+        (λ i. bit_at_and x a i ∙ off_low _ _ _ (bit_at-lt x i) (bit_at-lt a i) (bit_at-lt (2 ^ n) i) (e i) ∙ sym (bit_at-zero i))))
         (ap (λ k. not (k == 1)) (off_one _ _ _ (bit_at-lt x n) (bit_at-lt a n) (bit_at-pow_same n) (e n)))
 
-    bit : bit_and x a ≡ 0 → bit_at x n ≡ 0 → (i : ℕ) → ((i == n) ≡ true × (i ≡ n)) ⊎ ((i == n) ≡ false × (i ≢ n)) → min (bit_at x i) (max (bit_at a i) (bit_at (2 ^ n) i)) ≡ 0
+    bit : bit_and x a ≡ 0 → bit_at x n ≡ 0 → (i : ℕ) → ((i == n) ≡ true × (i ≡ n)) ⊎ ((i == n) ≡ false × (i ≢ n))
+        → min (bit_at x i) (max (bit_at a i) (bit_at (2 ^ n) i)) ≡ 0
     bit e none i (inl h) = off_same _ _ _ (ap (bit_at x) h.1 ∙ none)
-    bit e none i (inr h) = off_other _ _ _ (bit_at-lt x i) (bit_at-lt a i) (bit_at-pow_other n i h.1) (sym (bit_at_and x a i) ∙ ap (λ k. bit_at k i) e ∙ bit_at-zero i)
+    bit e none i (inr h) =
+        off_other _ _ _ (bit_at-lt x i) (bit_at-lt a i) (bit_at-pow_other n i h.1) (sym (bit_at_and x a i) ∙ ap (λ k. bit_at k i) e ∙ bit_at-zero i)
 
     back : ((bit_and x a == 0) && not (bit_at x n == 1)) ≡ true → (bit_and x (bit_or a (2 ^ n)) == 0) ≡ true
     back h =

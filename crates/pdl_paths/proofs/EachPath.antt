@@ -16,7 +16,8 @@ below : (test : ℕ → Bool) (n b : ℕ) → b < n → test b ≡ true → list
 below test zero b l e = absurd (omega arith)
 below test (suc n) b l e = at (eq-or-lt_of_le (less b n l)) (λ m. below test n b m e)
   where
-    at : (b ≡ n) ⊎ (b < n) → (b < n → list_any (λ path. test path.bits) (paths_below n) ≡ true) → (test n || list_any (λ path. test path.bits) (paths_below n)) ≡ true
+    at : (b ≡ n) ⊎ (b < n) → (b < n → list_any (λ path. test path.bits) (paths_below n) ≡ true)
+        → (test n || list_any (λ path. test path.bits) (paths_below n)) ≡ true
     at (inr m) go = or_right _ _ (go m)
     at (inl i) go = or_left _ _ (sym (ap test i) ∙ e)
 

@@ -17,7 +17,8 @@ bit_law : (n bits : ℕ) (truth : Bool) (m : Mask)
 bit_law n bits true m =
     ap (λ x. x && (bit_and bits m.off == 0)) (with_bit_on bits m.on n) ∙ and_swap (bit_and bits m.on == m.on) (bit_at bits n == 1) (bit_and bits m.off == 0)
 bit_law n bits false m =
-    ap (λ x. (bit_and bits m.on == m.on) && x) (with_bit_off bits m.off n) ∙ sym (and_assoc (bit_and bits m.on == m.on) (bit_and bits m.off == 0) (not (bit_at bits n == 1)))
+    ap (λ x. (bit_and bits m.on == m.on) && x) (with_bit_off bits m.off n)
+    ∙ sym (and_assoc (bit_and bits m.on == m.on) (bit_and bits m.off == 0) (not (bit_at bits n == 1)))
 
 number_within : (g : Guard) (gs : List Guard) → number_of g gs ≤ length gs
 number_within g [] = omega arith
@@ -57,6 +58,7 @@ pub mask_law : (gs : List Guard) (x : Place) (bits : ℕ)
     → allows_path (mask_in gs x) bits ≡ on_path (path_of gs bits) x
 mask_law gs (Parameter a) bits d few l = everywhere_law bits
 mask_law gs (Memory m) bits d few l = everywhere_law bits
-mask_law gs (Statement s bs) bits d few l = branches_law gs bits d few l bs everywhere ∙ ap (λ a. a && list_all (is_taken (path_of gs bits)) bs) (everywhere_law bits)
+mask_law gs (Statement s bs) bits d few l =
+    branches_law gs bits d few l bs everywhere ∙ ap (λ a. a && list_all (is_taken (path_of gs bits)) bs) (everywhere_law bits)
 mask_law gs (End s) bits d few l = everywhere_law bits
 mask_law gs (StartClause s) bits d few l = everywhere_law bits

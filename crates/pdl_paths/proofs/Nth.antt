@@ -52,7 +52,8 @@ in_one gs xs ys n m t = subst (λ ms. Tells ms n (Here m)) (sym (map-append (mas
 pub in_rest : (gs : List Guard) (xs ys : List Place) (n left : ℕ) (r : Found)
     → Tells (map (mask_in gs) xs) n (After left) → Tells (map (mask_in gs) ys) left r
     → Tells (map (mask_in gs) (xs ++ ys)) n r
-in_rest gs xs ys n left r f t = subst (λ ms. Tells ms n r) (sym (map-append (mask_in gs) xs ys)) (here_later (map (mask_in gs) xs) (map (mask_in gs) ys) n left r f t)
+in_rest gs xs ys n left r f t =
+    subst (λ ms. Tells ms n r) (sym (map-append (mask_in gs) xs ys)) (here_later (map (mask_in gs) xs) (map (mask_in gs) ys) n left r f t)
 
 -- THE PARTS OF A PIPE
 

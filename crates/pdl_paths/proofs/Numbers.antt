@@ -8,7 +8,8 @@ pub there : (g : Guard) (gs : List Guard) → number_of g gs < length gs → is_
 there g [] l = absurd (omega arith)
 there g (h ∷ gs) l = at (same_guard g h) l (there g gs)
   where
-    at : (b : Bool) → (if b then 0 else suc (number_of g gs)) < suc (length gs) → (number_of g gs < length gs → is_among g gs ≡ true) → (b || is_among g gs) ≡ true
+    at : (b : Bool) → (if b then 0 else suc (number_of g gs)) < suc (length gs)
+        → (number_of g gs < length gs → is_among g gs ≡ true) → (b || is_among g gs) ≡ true
     at true m go = refl
     at false m go = go (omega arith)
 
@@ -17,6 +18,7 @@ pub missing : (g : Guard) (gs : List Guard) → length gs ≤ number_of g gs →
 missing g [] l = refl
 missing g (h ∷ gs) l = at (same_guard g h) l (missing g gs)
   where
-    at : (b : Bool) → suc (length gs) ≤ (if b then 0 else suc (number_of g gs)) → (length gs ≤ number_of g gs → is_among g gs ≡ false) → (b || is_among g gs) ≡ false
+    at : (b : Bool) → suc (length gs) ≤ (if b then 0 else suc (number_of g gs))
+        → (length gs ≤ number_of g gs → is_among g gs ≡ false) → (b || is_among g gs) ≡ false
     at true m go = absurd (omega arith)
     at false m go = go (omega arith)

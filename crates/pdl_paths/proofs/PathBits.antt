@@ -43,7 +43,8 @@ among_path g (h ∷ gs) bits d l =
     first true f i = or_left (same_guard g h) _ f
     first false f i = among_none g gs (bits / 2) i
 
-    rest : (b : Bool) → same_guard g h ≡ false → is_among g (if b then h ∷ path_of gs (bits / 2) else path_of gs (bits / 2)) ≡ is_among g (path_of gs (bits / 2))
+    rest : (b : Bool) → same_guard g h ≡ false
+        → is_among g (if b then h ∷ path_of gs (bits / 2) else path_of gs (bits / 2)) ≡ is_among g (path_of gs (bits / 2))
     rest true f = ap (λ k. k || is_among g (path_of gs (bits / 2))) f
     rest false f = refl
 

@@ -37,7 +37,8 @@ at_bit c (y ∷ ys) (suc k) x l is h = at_bit c ys k x (omega (arith, l)) is h.1
 pub deeds_there : {T : Type 0} (l : Members T) (c : Circuit) (x : StageLine) (xs : List (Option (MemLock T))) (ds : List StageDeeds)
     → IsLineIn c x → AreLocked l c (line_pipe x) xs → signals_in c x.shared.now.next ≡ next_signals c xs
     → AreDeedsOf x ds → AreDeeds l c (line_pipe x) (line_form x).widths xs ds
-deeds_there l c x xs ds line locked next told = record { count = told.count ∙ line.count; each = each_from (IsDeed l c (line_pipe x) (line_form x).widths xs) ds each }
+deeds_there l c x xs ds line locked next told =
+    record { count = told.count ∙ line.count; each = each_from (IsDeed l c (line_pipe x) (line_form x).widths xs) ds each }
   where
     each : (k : ℕ) (d : StageDeeds) → k < length ds → slice_index_or ds k d ≡ d → IsDeed l c (line_pipe x) (line_form x).widths xs d
     each k d low is =
@@ -53,7 +54,9 @@ deeds_there l c x xs ds line locked next told = record { count = told.count ∙ 
           moves = bit.0;
           one = bit.1;
           walk = subst (IsWalk c (line_pipe x) (line_form x).widths) (sym (told.ended k s d low some.1 is)) now.walk;
-          tickets = subst (AreTickets l c xs) (sym (told.tickets k s d low some.1 is)) (tickets_fit l c c (line_pipe x) xs s.tickets locked now.nets.tickets (now.nets.tickets_wide ∙ ap widths_of next));
+          tickets =
+              subst (AreTickets l c xs) (sym (told.tickets k s d low some.1 is))
+              (tickets_fit l c c (line_pipe x) xs s.tickets locked now.nets.tickets (now.nets.tickets_wide ∙ ap widths_of next));
         }
 
 -- what ports and orders are told of the stages of a line is there, with its widths

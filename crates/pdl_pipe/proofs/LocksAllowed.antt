@@ -57,7 +57,8 @@ lock_fits : (m : Mem) (l : Option LockDecl) → is_some_and (is_wrong_lock m) l 
 lock_fits m None e = tt
 lock_fits m (Some l) e =
     let parts = and_parts (is_size l.size.value) (allows_lock m.depth.value m.delayed l.kind l.size.value) (not-false _ e) in
-    subst (λ x. IsSizedLock x m.depth.value) (sym (lock_is l)) (sized_allowed l.kind l.size.value m.depth.value m.delayed (size_of l.size.value parts.0) parts.1)
+    subst (λ x. IsSizedLock x m.depth.value) (sym (lock_is l))
+    (sized_allowed l.kind l.size.value m.depth.value m.delayed (size_of l.size.value parts.0) parts.1)
 
 -- a lock that gives values is one of a memory that answers at once
 time_allowed : (k : LockKind) (size depth : ℕ) (m : flat.Mem) → allows_lock depth m.delayed k size ≡ true → IsInTime (as_lock k size) m

@@ -61,8 +61,11 @@ answered_later l a c x e nexts ls answers all k s low is =
       walk = h.walk;
     }
 
-module _ {T : Type 0} (l : Members T) (stays : Stays l) (a b s c : Circuit) (x : StageLine) (xs : List (Option (MemLock T))) (rs : List (Option OrderRegs)) (low mid : ℕ) (bits : Bits) (ab : Extends a b) (bs : Extends b s) (sc : Extends s c)
-    (mem : HasMemories l a (line_form x) bits xs x.shared.now.ports.now low mid) (same_bits : x.shared.now.bits ≡ bits) (next_is : x.shared.now.next ≡ map (ticket_net bits.zero) xs)
+module _ {T : Type 0} (l : Members T) (stays : Stays l) (a b s c : Circuit) (x : StageLine)
+    (xs : List (Option (MemLock T))) (rs : List (Option OrderRegs)) (low mid : ℕ) (bits : Bits) (ab : Extends a b)
+    (bs : Extends b s) (sc : Extends s c)
+    (mem : HasMemories l a (line_form x) bits xs x.shared.now.ports.now low mid) (same_bits : x.shared.now.bits ≡ bits)
+    (next_is : x.shared.now.next ≡ map (ticket_net bits.zero) xs)
     (zeros_there : NetsThere c x.shared.now.zeros) (zeros : signals_in c x.shared.now.zeros ≡ map zero_signal (line_form x).widths) where
   ac : Extends a c
   ac = extends_trans a b c ab (extends_trans b s c bs sc)
@@ -99,10 +102,16 @@ module _ {T : Type 0} (l : Members T) (stays : Stays l) (a b s c : Circuit) (x :
     staged_now =
         let locked = locked_kept l a b (line_pipe x) xs (extends_keeps a b ab) stays mem.locked in
         let ebc = extends_keeps b c bc in
-        let kept = made_keep (line_form x) (next_signals b xs) (answers_in b x.shared.now.ports.now) (locks_in l (line_pipe x) b xs) x.stages.now s c (extends_keeps s c sc) staged in
-        let answered = answered_later l b c x ebc (next_signals b xs) (locks_in l (line_pipe x) b xs) (answers_keep a b (extends_keeps a b ab) (line_pipe x) x.shared.now.ports.now mem.answers) kept in
-        subst (λ (g : Locks). AreStaged c (line_form x) (next_signals c xs) (answers_in c x.shared.now.ports.now) g x.stages.now) (sym (locks_same l b c ebc stays (line_pipe x) xs locked))
-        (subst (λ ns. AreStaged c (line_form x) ns (answers_in c x.shared.now.ports.now) (locks_in l (line_pipe x) b xs) x.stages.now) (sym (next_same l b c ebc (line_pipe x) xs locked)) answered)
+        let kept =
+        made_keep (line_form x) (next_signals b xs) (answers_in b x.shared.now.ports.now)
+        (locks_in l (line_pipe x) b xs) x.stages.now s c (extends_keeps s c sc) staged in
+        let answered =
+        answered_later l b c x ebc (next_signals b xs) (locks_in l (line_pipe x) b xs)
+        (answers_keep a b (extends_keeps a b ab) (line_pipe x) x.shared.now.ports.now mem.answers) kept in
+        subst (λ (g : Locks). AreStaged c (line_form x) (next_signals c xs) (answers_in c x.shared.now.ports.now) g x.stages.now)
+        (sym (locks_same l b c ebc stays (line_pipe x) xs locked))
+        (subst (λ ns. AreStaged c (line_form x) ns (answers_in c x.shared.now.ports.now) (locks_in l (line_pipe x) b xs) x.stages.now)
+        (sym (next_same l b c ebc (line_pipe x) xs locked)) answered)
 
     pub layout : IsLayout l c x xs rs low mid (length b.regs)
     layout =
@@ -136,13 +145,22 @@ module _ {T : Type 0} (l : Members T) (stays : Stays l) (a b s c : Circuit) (x :
         }
 
 -- one line of these stages, whose threads don't move yet
-module _ {T : Type 0} (l : Members T) (stays : Stays l) (a b s c : Circuit) (x : StageLine) (xs : List (Option (MemLock T))) (rs : List (Option OrderRegs)) (low mid : ℕ) (bits : Bits) (ab : Extends a b) (bs : Extends b s) (sc : Extends s c) (can : CanEmit (line_form x))
-    (mem : HasMemories l a (line_form x) bits xs x.shared.now.ports.now low mid) (same_bits : x.shared.now.bits ≡ bits) (next_is : x.shared.now.next ≡ map (ticket_net bits.zero) xs)
-    (zeros_there : NetsThere c x.shared.now.zeros) (zeros : signals_in c x.shared.now.zeros ≡ map zero_signal (line_form x).widths) (orders : AreParts order_own (HasOrderOf b (line_pipe x)) (length a.regs) (length b.regs) rs (length (line_pipe x).stages))
-    (ss : List StageNets) (stages_are : x.stages.now ≡ ss) (staged : AreStaged s (line_form x) (next_signals b xs) (answers_in b x.shared.now.ports.now) (locks_in l (line_pipe x) b xs) ss)
-    (count : length ss ≡ length (line_pipe x).stages) (apart : AreApart (length b.regs) (length s.regs) ss) (nets : List Net) (moves_are : x.moves.now ≡ nets) (kills_are : x.kills.now ≡ nets) (long : length nets ≡ length ss) (blank : Each (λ (y : Net). y ≡ bits.zero) nets) where
+module _ {T : Type 0} (l : Members T) (stays : Stays l) (a b s c : Circuit) (x : StageLine)
+    (xs : List (Option (MemLock T))) (rs : List (Option OrderRegs)) (low mid : ℕ) (bits : Bits) (ab : Extends a b)
+    (bs : Extends b s) (sc : Extends s c) (can : CanEmit (line_form x))
+    (mem : HasMemories l a (line_form x) bits xs x.shared.now.ports.now low mid) (same_bits : x.shared.now.bits ≡ bits)
+    (next_is : x.shared.now.next ≡ map (ticket_net bits.zero) xs)
+    (zeros_there : NetsThere c x.shared.now.zeros)
+    (zeros : signals_in c x.shared.now.zeros ≡ map zero_signal (line_form x).widths)
+    (orders : AreParts order_own (HasOrderOf b (line_pipe x)) (length a.regs) (length b.regs) rs (length (line_pipe x).stages))
+    (ss : List StageNets) (stages_are : x.stages.now ≡ ss)
+    (staged : AreStaged s (line_form x) (next_signals b xs) (answers_in b x.shared.now.ports.now) (locks_in l (line_pipe x) b xs) ss)
+    (count : length ss ≡ length (line_pipe x).stages) (apart : AreApart (length b.regs) (length s.regs) ss)
+    (nets : List Net) (moves_are : x.moves.now ≡ nets) (kills_are : x.kills.now ≡ nets)
+    (long : length nets ≡ length ss) (blank : Each (λ (y : Net). y ≡ bits.zero) nets) where
   all_staged : AreStaged s (line_form x) (next_signals b xs) (answers_in b x.shared.now.ports.now) (locks_in l (line_pipe x) b xs) x.stages.now
-  all_staged = subst (AreStaged s (line_form x) (next_signals b xs) (answers_in b x.shared.now.ports.now) (locks_in l (line_pipe x) b xs)) (sym stages_are) staged
+  all_staged =
+      subst (AreStaged s (line_form x) (next_signals b xs) (answers_in b x.shared.now.ports.now) (locks_in l (line_pipe x) b xs)) (sym stages_are) staged
 
   all_count : length x.stages.now ≡ length (line_pipe x).stages
   all_count = ap length stages_are ∙ count
@@ -154,11 +172,22 @@ module _ {T : Type 0} (l : Members T) (stays : Stays l) (a b s c : Circuit) (x :
 
   -- with its orders as they are told
   pub laid_out : (forks : List (Option OrderRegs)) → forks ≡ rs → IsLaidOut l c x xs forks
-  laid_out forks is = subst (IsLaidOut l c x xs) (sym is) (low, mid, length b.regs, layout l stays a b s c x xs rs low mid bits ab bs sc mem same_bits next_is zeros_there zeros orders all_staged all_count (subst (AreApart (length b.regs) (length s.regs)) (sym stages_are) apart))
+  laid_out forks is =
+      subst (IsLaidOut l c x xs) (sym is) (
+        low,
+        mid,
+        length b.regs,
+        layout l stays a b s c x xs rs low mid bits ab bs sc mem same_bits next_is zeros_there zeros orders all_staged all_count
+            (subst (AreApart (length b.regs) (length s.regs)) (sym stages_are) apart),
+      )
 
   pub line_in : IsLineIn c x
   line_in =
       line_there c c x (next_signals c xs) (answers_in c x.shared.now.ports.now) (locks_in l (line_pipe x) c xs)
-      (staged_now l stays a b s c x xs rs low mid bits ab bs sc mem same_bits next_is zeros_there zeros orders all_staged all_count (subst (AreApart (length b.regs) (length s.regs)) (sym stages_are) apart)) (keeps_refl c) all_count
-      (shared_now l stays a b s c x xs rs low mid bits ab bs sc mem same_bits next_is zeros_there zeros) (next_now l stays a b s c x xs rs low mid bits ab bs sc mem same_bits next_is zeros_there zeros) can.typed.forks can.wide
-      (ap length moves_are ∙ long ∙ sym (ap length stages_are)) (subst (Each (IsBit c)) (sym moves_are) none_moves) (ap length kills_are ∙ long ∙ sym (ap length stages_are)) (subst (Each (IsBit c)) (sym kills_are) none_moves)
+      (staged_now l stays a b s c x xs rs low mid bits ab bs sc mem same_bits next_is zeros_there zeros orders all_staged all_count
+      (subst (AreApart (length b.regs) (length s.regs)) (sym stages_are) apart))
+      (keeps_refl c) all_count
+      (shared_now l stays a b s c x xs rs low mid bits ab bs sc mem same_bits next_is zeros_there zeros)
+      (next_now l stays a b s c x xs rs low mid bits ab bs sc mem same_bits next_is zeros_there zeros) can.typed.forks can.wide
+      (ap length moves_are ∙ long ∙ sym (ap length stages_are)) (subst (Each (IsBit c)) (sym moves_are) none_moves)
+      (ap length kills_are ∙ long ∙ sym (ap length stages_are)) (subst (Each (IsBit c)) (sym kills_are) none_moves)

@@ -48,7 +48,8 @@ unfolding shapes_of
 empty_shapes c e = ap (λ (z : Circuit). map shape_of z.arrays) e
 
 -- inputs in circuit a, memories in b, bits in c, ports in d
-module _ {T : Type 0} (l : Members T) (stays : Stays l) (a b c d : Circuit) (f : Form) (bits : Bits) (xs : List (Option (MemLock T))) (ins reads : List (Option PortInput)) (qs : List (Option PortRegs))
+module _ {T : Type 0} (l : Members T) (stays : Stays l) (a b c d : Circuit) (f : Form) (bits : Bits)
+    (xs : List (Option (MemLock T))) (ins reads : List (Option PortInput)) (qs : List (Option PortRegs))
     (ab : ExtendsArrays a b (shapes_in f.names f.pipe.mems)) (bc : Extends b c) (cd : Extends c d) where
   keeps_ac : Keeps a c
   keeps_ac = keeps_trans a b c (arrays_keeps a b (shapes_in f.names f.pipe.mems) ab) (extends_keeps b c bc)
@@ -62,8 +63,11 @@ module _ {T : Type 0} (l : Members T) (stays : Stays l) (a b c d : Circuit) (f :
   pub inputs_now : AreReplies a f.pipe ins (length f.pipe.mems) → AreReplies c f.pipe ins (length f.pipe.mems)
   inputs_now = replies_kept a c f.pipe ins (length f.pipe.mems) keeps_ac
 
-  pub memories_now : AreLocked l b f.pipe xs → AreLawful l b f.pipe xs → AreUnwritten b f.pipe → AreBits c bits → AreReplies a f.pipe ins (length f.pipe.mems) → AreReadDelayed f.pipe → ReadsLeadOn f.pipe → AreWhereRead f.pipe ins reads (length ins)
-      → AreParts port_own (has_port d f.pipe reads) (length c.regs) (length d.regs) qs (length f.pipe.mems) → HasAnswers d f.pipe qs → HasReplies a f → shapes_of a ≡ [] → HasMemoriesIn l d f bits xs qs
+  pub memories_now : AreLocked l b f.pipe xs → AreLawful l b f.pipe xs → AreUnwritten b f.pipe → AreBits c bits
+      → AreReplies a f.pipe ins (length f.pipe.mems) → AreReadDelayed f.pipe → ReadsLeadOn f.pipe
+      → AreWhereRead f.pipe ins reads (length ins)
+      → AreParts port_own (has_port d f.pipe reads) (length c.regs) (length d.regs) qs (length f.pipe.mems)
+      → HasAnswers d f.pipe qs → HasReplies a f → shapes_of a ≡ [] → HasMemoriesIn l d f bits xs qs
   memories_now locked lawful unwritten are replies delayed onward read parts answers ports none = (
     length c.regs,
     length d.regs,
@@ -78,7 +82,9 @@ module _ {T : Type 0} (l : Members T) (stays : Stays l) (a b c d : Circuit) (f :
       ports_from = λ m q low is. parts.from m q low is;
       ports_to = λ m q low is. parts.to m q low is;
       order = (regs_grow c d (extends_keeps c d cd), omega arith);
-      taken = λ z e. are_taken d z f.pipe ins reads qs (length c.regs) (length d.regs) (replies_kept c z f.pipe ins (length f.pipe.mems) (keeps_trans c d z (extends_keeps c d cd) e) (inputs_now replies)) delayed read parts;
+      taken =
+          λ z e. are_taken d z f.pipe ins reads qs (length c.regs) (length d.regs)
+          (replies_kept c z f.pipe ins (length f.pipe.mems) (keeps_trans c d z (extends_keeps c d cd) e) (inputs_now replies)) delayed read parts;
       inputs = bd.ports ∙ ab.ports ∙ ports (name_in f) (λ m low. refl);
       shapes = bd.shapes ∙ ab.shapes ∙ ap (λ ss. ss ++ shapes_in f.names f.pipe.mems) none;
     },

@@ -56,7 +56,8 @@ pub record AreShownOf (x : StageLine) (ss : List ShownNets) : Type 0 where
 -- ---- in order
 
 -- inputs, memories with their locks, and ports stand in a circuit; the registers of the locks are below `low`, and those of the ports from there up to `mid`
-pub record HasMemories {T : Type 0} (l : Members T) (c : Circuit) (f : Form) (bits : Bits) (locks : List (Option (MemLock T))) (ports : List (Option PortRegs)) (low mid : ℕ) : Type 0 where
+pub record HasMemories {T : Type 0} (l : Members T) (c : Circuit) (f : Form) (bits : Bits)
+    (locks : List (Option (MemLock T))) (ports : List (Option PortRegs)) (low mid : ℕ) : Type 0 where
   pub are_bits : AreBits c bits
   pub locked : AreLocked l c f.pipe locks
   pub lawful : AreLawful l c f.pipe locks
@@ -81,7 +82,8 @@ abbrev pub IsLaidOut : {T : Type 0} → Members T → Circuit → StageLine → 
 IsLaidOut l c x locks orders = (low : ℕ) × (mid : ℕ) × (high : ℕ) × IsLayout l c x locks orders low mid high
 
 -- it is known who moves
-pub record HasMoves {T : Type 0} (l : Members T) (b : Circuit) (x : StageLine) (locks : List (Option (MemLock T))) (forks : List (Option OrderRegs)) (y : MoveNets) : Type 0 where
+pub record HasMoves {T : Type 0} (l : Members T) (b : Circuit) (x : StageLine) (locks : List (Option (MemLock T)))
+    (forks : List (Option OrderRegs)) (y : MoveNets) : Type 0 where
   pub a : Circuit
   pub layout : IsLaidOut l a x locks forks
   pub to_moves : Extends a b
@@ -90,14 +92,17 @@ pub record HasMoves {T : Type 0} (l : Members T) (b : Circuit) (x : StageLine) (
   pub line_kills_are : x.kills.now ≡ y.kills.items
 
 -- the locks take what they should next, from circuit h to circuit i
-pub record HasLockSteps {T : Type 0} (l : Members T) (h i : Circuit) (x : StageLine) (locks : List (Option (MemLock T))) (squash : Net) (cut : List Net) (commits : List (Option LockNets)) : Type 0 where
+pub record HasLockSteps {T : Type 0} (l : Members T) (h i : Circuit) (x : StageLine) (locks : List (Option (MemLock T)))
+    (squash : Net) (cut : List Net) (commits : List (Option LockNets)) : Type 0 where
   pub deeds : List StageDeeds
   pub are_deeds : AreDeedsOf x deeds
   pub stepped : AreStepped l i (line_pipe x) (steps_in h (line_pipe x) deeds squash cut) locks commits (length (line_pipe x).mems)
   pub to_locks : ExtendsLocks locks (length (line_pipe x).mems) h i
 
 -- all registers do, from circuit c to circuit i; those of the stages are from `high` on
-pub record HasSteps {T : Type 0} (l : Members T) (c i : Circuit) (x : StageLine) (locks : List (Option (MemLock T))) (forks : List (Option OrderRegs)) (es : List StageEnd) (squash : Net) (tails : TailNets) (commits : List (Option LockNets)) : Type 0 where
+pub record HasSteps {T : Type 0} (l : Members T) (c i : Circuit) (x : StageLine) (locks : List (Option (MemLock T)))
+    (forks : List (Option OrderRegs)) (es : List StageEnd) (squash : Net) (tails : TailNets)
+    (commits : List (Option LockNets)) : Type 0 where
   pub e : Circuit
   pub f : Circuit
   pub g : Circuit

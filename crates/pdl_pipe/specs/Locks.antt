@@ -42,11 +42,14 @@ pub record HasLocks {T : Type 0} (l : Members T) (p : tree.Pipe) (n : Netlist) :
   -- in each cycle of each run, from each image and with each schedule of replies, each stage holds a thread, and that moves, where the machine's does
   pub alike : (image : List (List ℕ)) (schedule : List ℕ) (bits k : ℕ)
       → IsImage n.mems image → k < length (flat p).stages
-      → IsStageAs (views k) (moves k) (state_in (held_after n (start n image) schedule) bits) (flat p) (machine_after (flat p) image schedule) (replies_of (delayed_count (flat p)) bits) k
+      → IsStageAs (views k) (moves k) (state_in (held_after n (start n image) schedule) bits) (flat p)
+      (machine_after (flat p) image schedule) (replies_of (delayed_count (flat p)) bits) k
   -- and each lock is used as the machine's threads use it
   pub used : (image : List (List ℕ)) (schedule : List ℕ) (bits m : ℕ) (x : MemLock T)
       → IsImage n.mems image → m < length (flat p).mems → some_at locks m ≡ Some x
-      → IsUsed l (flat p) m x (step_of (flat p) views gates moves m) (state_in (held_after n (start n image) schedule) bits) (machine_after (flat p) image schedule) (replies_of (delayed_count (flat p)) bits)
+      → IsUsed l (flat p) m x (step_of (flat p) views gates moves m)
+      (state_in (held_after n (start n image) schedule) bits) (machine_after (flat p) image schedule)
+      (replies_of (delayed_count (flat p)) bits)
 
 -- it is the needed part of a netlist with the locks that the pipe asks for
 pub record HasLocksOf {T : Type 0} (l : Members T) (p : tree.Pipe) (n : Netlist) : Type 0 where

@@ -45,21 +45,29 @@ both_as f g h k e d s = both_on f g s ∙ ap₂ (λ (a b : Bool). if a then b el
 -- ---- while the circuit grows
 
 module _ (a b : Circuit) (e : Keeps a b) where
-  place_answered_same : (w : ℕ) (r : PortRegs) (k : ℕ) (next : Next) → port_places r ≡ length (places_of next) → HasAnswerNets a w r → place_answered (answer_signals b r) k (places_of next) 0 ≡ place_answered (answer_signals a r) k (places_of next) 0
+  place_answered_same : (w : ℕ) (r : PortRegs) (k : ℕ) (next : Next) → port_places r ≡ length (places_of next)
+      → HasAnswerNets a w r
+      → place_answered (answer_signals b r) k (places_of next) 0 ≡ place_answered (answer_signals a r) k (places_of next) 0
   place_answered_same w r k flat.Ends n h = refl
-  place_answered_same w r k (flat.Goes to) n h = ap (λ (y : AnswerSignals). if to == k then both y.answered one else one) (at_place a b e w r 0 (omega (arith, n)) h)
+  place_answered_same w r k (flat.Goes to) n h =
+      ap (λ (y : AnswerSignals). if to == k then both y.answered one else one) (at_place a b e w r 0 (omega (arith, n)) h)
   place_answered_same w r k (flat.Forks x first second) n h =
-      ap₂ (λ (y z : AnswerSignals). if first == k then both y.answered (if second == k then both z.answered one else one) else (if second == k then both z.answered one else one))
+      ap₂
+      (λ (y z : AnswerSignals). if first == k
+      then both y.answered (if second == k then both z.answered one else one)
+      else (if second == k then both z.answered one else one))
       (at_place a b e w r 0 (omega (arith, n)) h) (at_place a b e w r 1 (omega (arith, n)) h)
 
-  pub memory_answered_same : (p : Pipe) (ports : List (Option PortRegs)) (k m : ℕ) → HasAnswers a p ports → memory_answered p (answers_in b ports) k m (reading p m) ≡ memory_answered p (answers_in a ports) k m (reading p m)
+  pub memory_answered_same : (p : Pipe) (ports : List (Option PortRegs)) (k m : ℕ) → HasAnswers a p ports
+      → memory_answered p (answers_in b ports) k m (reading p m) ≡ memory_answered p (answers_in a ports) k m (reading p m)
   memory_answered_same p ports k m h = at (reading p m) refl
     where
       at : (o : Option Reading) → reading p m ≡ o → memory_answered p (answers_in b ports) k m o ≡ memory_answered p (answers_in a ports) k m o
       at None is = refl
       at (Some r) is = by (port_at ports m) (h.each m r is)
         where
-          by : (o : Option PortRegs) → IsPortFor a p m r o → place_answered (port_answers b o) k (places p r) 0 ≡ place_answered (port_answers a o) k (places p r) 0
+          by : (o : Option PortRegs) → IsPortFor a p m r o
+              → place_answered (port_answers b o) k (places p r) 0 ≡ place_answered (port_answers a o) k (places p r) 0
           by None q = absurd q
           by (Some y) q = place_answered_same (mem_at p m).width y k (stage_at p r.stage).next q.0 q.1
 

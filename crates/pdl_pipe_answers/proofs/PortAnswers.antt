@@ -45,7 +45,11 @@ place_none f k flat.Ends rest e = refl
 place_none f k (flat.Goes to) rest e = ap (λ b. if b then mux_signal (f 0).given (f 0).value rest else rest) e
 place_none f k (flat.Forks x first second) rest e = at (first == k) (second == k) e
   where
-    at : (b d : Bool) → (b || d) ≡ false → (if b then mux_signal (f 0).given (f 0).value (if d then mux_signal (f 1).given (f 1).value rest else rest) else (if d then mux_signal (f 1).given (f 1).value rest else rest)) ≡ rest
+    at : (b d : Bool) → (b || d) ≡ false
+        → (if b
+        then mux_signal (f 0).given (f 0).value (if d then mux_signal (f 1).given (f 1).value rest else rest)
+        else (if d then mux_signal (f 1).given (f 1).value rest else rest))
+        ≡ rest
     at true d h = absurd (false≢true (sym h))
     at false true h = absurd (false≢true (sym h))
     at false false h = refl
@@ -64,7 +68,8 @@ some_none : (p : Pipe) (f : ℕ → ℕ → AnswerSignals) (k x n m : ℕ) (rest
 some_none p f k x zero m rest e = refl
 some_none p f k x (suc n) m rest e = at (gets_one p k x (reading p m)) (gets_some p k x n (suc m)) refl refl e (some_none p f k x n (suc m) rest)
   where
-    at : (b d : Bool) → gets_one p k x (reading p m) ≡ b → gets_some p k x n (suc m) ≡ d → (b || d) ≡ false → (gets_some p k x n (suc m) ≡ false → some_answer p f k x n (suc m) rest ≡ rest)
+    at : (b d : Bool) → gets_one p k x (reading p m) ≡ b → gets_some p k x n (suc m) ≡ d → (b || d) ≡ false
+        → (gets_some p k x n (suc m) ≡ false → some_answer p f k x n (suc m) rest ≡ rest)
         → memory_answer p f k x m (reading p m) (some_answer p f k x n (suc m) rest) ≡ rest
     at true d g h z later = absurd (false≢true (sym z))
     at false true g h z later = absurd (false≢true (sym z))
@@ -98,17 +103,25 @@ module _ (a b : Circuit) (e : Keeps a b) where
   -- what each place is told is what it was
   pub at_place : (w : ℕ) (r : PortRegs) (i : ℕ) → i < port_places r → HasAnswerNets a w r → answer_signals b r i ≡ answer_signals a r i
   at_place w r i l h =
-      ap₂ (λ (f : Signal) (g : Signal × Signal). (let z : AnswerSignals = record { answered = f; given = g.0; value = g.1 } in z)) (e.kept (answer_at r i).answered (h.answered_there i l))
+      ap₂ (λ (f : Signal) (g : Signal × Signal). (let z : AnswerSignals = record { answered = f; given = g.0; value = g.1 } in z))
+      (e.kept (answer_at r i).answered (h.answered_there i l))
       (ap₂ (λ (f g : Signal). (f, g)) (e.kept (answer_at r i).given (h.given_there i l)) (e.kept (answer_at r i).value (h.value_there i l)))
 
-  pub place_same : (w : ℕ) (r : PortRegs) (k : ℕ) (next : Next) (rest : Signal) → port_places r ≡ length (places_of next) → HasAnswerNets a w r → place_answer (answer_signals b r) k (places_of next) 0 rest ≡ place_answer (answer_signals a r) k (places_of next) 0 rest
+  pub place_same : (w : ℕ) (r : PortRegs) (k : ℕ) (next : Next) (rest : Signal)
+      → port_places r ≡ length (places_of next) → HasAnswerNets a w r
+      → place_answer (answer_signals b r) k (places_of next) 0 rest ≡ place_answer (answer_signals a r) k (places_of next) 0 rest
   place_same w r k flat.Ends rest n h = refl
-  place_same w r k (flat.Goes to) rest n h = ap (λ (y : AnswerSignals). if to == k then mux_signal y.given y.value rest else rest) (at_place w r 0 (omega (arith, n)) h)
+  place_same w r k (flat.Goes to) rest n h =
+      ap (λ (y : AnswerSignals). if to == k then mux_signal y.given y.value rest else rest) (at_place w r 0 (omega (arith, n)) h)
   place_same w r k (flat.Forks x first second) rest n h =
-      ap₂ (λ (y z : AnswerSignals). if first == k then mux_signal y.given y.value (if second == k then mux_signal z.given z.value rest else rest) else (if second == k then mux_signal z.given z.value rest else rest))
+      ap₂
+      (λ (y z : AnswerSignals). if first == k
+      then mux_signal y.given y.value (if second == k then mux_signal z.given z.value rest else rest)
+      else (if second == k then mux_signal z.given z.value rest else rest))
       (at_place w r 0 (omega (arith, n)) h) (at_place w r 1 (omega (arith, n)) h)
 
-  pub memory_same : (p : Pipe) (ports : List (Option PortRegs)) (k x m : ℕ) (rest : Signal) → HasAnswers a p ports → memory_answer p (answers_in b ports) k x m (reading p m) rest ≡ memory_answer p (answers_in a ports) k x m (reading p m) rest
+  pub memory_same : (p : Pipe) (ports : List (Option PortRegs)) (k x m : ℕ) (rest : Signal) → HasAnswers a p ports
+      → memory_answer p (answers_in b ports) k x m (reading p m) rest ≡ memory_answer p (answers_in a ports) k x m (reading p m) rest
   memory_same p ports k x m rest h = at (reading p m) refl
     where
       at : (o : Option Reading) → reading p m ≡ o → memory_answer p (answers_in b ports) k x m o rest ≡ memory_answer p (answers_in a ports) k x m o rest
@@ -116,15 +129,19 @@ module _ (a b : Circuit) (e : Keeps a b) where
       at (Some r) is = by (port_at ports m) (h.each m r is)
         where
           by : (o : Option PortRegs) → IsPortFor a p m r o
-              → (if r.var == x then place_answer (Rattle.pdl_pipe_answers.specs.Ports.port_answers b o) k (places p r) 0 rest else rest) ≡ (if r.var == x then place_answer (Rattle.pdl_pipe_answers.specs.Ports.port_answers a o) k (places p r) 0 rest else rest)
+              → (if r.var == x then place_answer (Rattle.pdl_pipe_answers.specs.Ports.port_answers b o) k (places p r) 0 rest else rest)
+              ≡ (if r.var == x then place_answer (Rattle.pdl_pipe_answers.specs.Ports.port_answers a o) k (places p r) 0 rest else rest)
           by None q = absurd q
           by (Some y) q = ap (λ (g : Signal). if r.var == x then g else rest) (place_same (mem_at p m).width y k (stage_at p r.stage).next rest q.0 q.1)
 
-  some_same : (p : Pipe) (ports : List (Option PortRegs)) (k x n m : ℕ) (rest : Signal) → HasAnswers a p ports → some_answer p (answers_in b ports) k x n m rest ≡ some_answer p (answers_in a ports) k x n m rest
+  some_same : (p : Pipe) (ports : List (Option PortRegs)) (k x n m : ℕ) (rest : Signal) → HasAnswers a p ports
+      → some_answer p (answers_in b ports) k x n m rest ≡ some_answer p (answers_in a ports) k x n m rest
   some_same p ports k x zero m rest h = refl
   some_same p ports k x (suc n) m rest h =
-      memory_same p ports k x m (some_answer p (answers_in b ports) k x n (suc m) rest) h ∙ ap (memory_answer p (answers_in a ports) k x m (reading p m)) (some_same p ports k x n (suc m) rest h)
+      memory_same p ports k x m (some_answer p (answers_in b ports) k x n (suc m) rest) h
+      ∙ ap (memory_answer p (answers_in a ports) k x m (reading p m)) (some_same p ports k x n (suc m) rest h)
 
   -- a variable has the same answers
-  pub answer_same : (p : Pipe) (ports : List (Option PortRegs)) (k x : ℕ) (kept : Signal) → HasAnswers a p ports → with_answer p (answers_in b ports) k x kept ≡ with_answer p (answers_in a ports) k x kept
+  pub answer_same : (p : Pipe) (ports : List (Option PortRegs)) (k x : ℕ) (kept : Signal) → HasAnswers a p ports
+      → with_answer p (answers_in b ports) k x kept ≡ with_answer p (answers_in a ports) k x kept
   answer_same p ports k x kept h = some_same p ports k x (length p.mems) 0 kept h

@@ -16,11 +16,14 @@ found_or (Some x) k rest = Some (record { stage = k; var = x })
 pub reading_next : (m : ℕ) (s : Stmt) (ss : List Stmt) → reading_in m (s ∷ ss) ≡ found_or (bound_by m s.op) s.stage (reading_in m ss)
 reading_next m s ss = at s.op
   where
-    if_is : (b : Bool) (x : ℕ) → (if b then Some (record { stage = s.stage; var = x }) else reading_in m ss) ≡ found_or (if b then Some x else None) s.stage (reading_in m ss)
+    if_is : (b : Bool) (x : ℕ)
+        → (if b then Some (record { stage = s.stage; var = x }) else reading_in m ss) ≡ found_or (if b then Some x else None) s.stage (reading_in m ss)
     if_is true x = refl
     if_is false x = refl
 
-    at : (op : Op) → on_delayed_read (λ y n a. if n == m then Some (record { stage = s.stage; var = y }) else reading_in m ss) (reading_in m ss) op ≡ found_or (bound_by m op) s.stage (reading_in m ss)
+    at : (op : Op)
+        → on_delayed_read (λ y n a. if n == m then Some (record { stage = s.stage; var = y }) else reading_in m ss) (reading_in m ss) op
+        ≡ found_or (bound_by m op) s.stage (reading_in m ss)
     at (flat.Bind x e) = refl
     at (flat.CombRead x n a) = refl
     at (flat.DelayedRead x n a) = if_is (n == m) x

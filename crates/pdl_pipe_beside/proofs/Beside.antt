@@ -68,7 +68,8 @@ made_orders c p low high rs h = record {
 pub port_stays_stepped : (a c d : Circuit) (p : Pipe) (es : List StageEnd) (qs : List (Option PortRegs)) (m : ℕ)
     → ((q : PortRegs) → some_at qs m ≡ Some q → OwnKept (port_laws.own q) c d) → IsPortStepped a c p es qs m
     → IsPortStepped a d p es qs m
-port_stays_stepped a c d p es qs m kept x r q is e = port_steps.law_kept (port_places.stands q) (length (places p r)) (port_laws.own q) c d _ (kept q e) (x r q is e)
+port_stays_stepped a c d p es qs m kept x r q is e =
+    port_steps.law_kept (port_places.stands q) (length (places p r)) (port_laws.own q) c d _ (kept q e) (x r q is e)
 
 -- the step of a fork's order stays where its registers take next what they took
 pub order_stays_stepped : (a c d : Circuit) (p : Pipe) (es : List StageEnd) (squash : Net) (rs : List (Option OrderRegs)) (f : ℕ)
@@ -78,16 +79,23 @@ order_stays_stepped a c d p es squash rs f kept x r e = order_steps.law_kept r (
 
 -- ---- ports
 
-module _ (a c : Circuit) (p : Pipe) (es : List StageEnd) (squash : Net) (vs : ℕ → View) (gates : Gates) (moves : ℕ → Signal) (qs : List (Option PortRegs)) (ins : ℕ → Inputs) (frees : ℕ → Signal) (rs : List (Option OrderRegs)) (clear : ℕ → Signal) (tails : ℕ → ℕ → Signal)
+module _ (a c : Circuit) (p : Pipe) (es : List StageEnd) (squash : Net) (vs : ℕ → View) (gates : Gates)
+    (moves : ℕ → Signal) (qs : List (Option PortRegs)) (ins : ℕ → Inputs) (frees : ℕ → Signal)
+    (rs : List (Option OrderRegs)) (clear : ℕ → Signal) (tails : ℕ → ℕ → Signal)
     (keeps : Keeps a c) (stages : AreStagesOf a p es squash vs gates moves) where
-  module _ (leads : ReadsLeadOn p) (stand : StandPorts a p qs) (taken : AreTaken c qs ins) (free : AreFree c p moves qs frees) (stepped : (m : ℕ) → IsPortStepped a c p es qs m) where
+  module _ (leads : ReadsLeadOn p) (stand : StandPorts a p qs) (taken : AreTaken c qs ins)
+      (free : AreFree c p moves qs frees) (stepped : (m : ℕ) → IsPortStepped a c p es qs m) where
     asked_same : (m : ℕ) (r : Reading) (i : ℕ) → r.stage < length p.stages → asked_into p (ends_in a es) (moves_in a es) m r i ≡ asked_into p vs moves m r i
-    asked_same m r i low = ap₂ (λ (f : Signal) (w : Walk). both (asks_memory m f w.asks) (goes_to_place (stage_at p r.stage).next i w)) (sym (stages.move r.stage low)) (sym (stages.ends r.stage low))
+    asked_same m r i low =
+        ap₂ (λ (f : Signal) (w : Walk). both (asks_memory m f w.asks) (goes_to_place (stage_at p r.stage).next i w))
+        (sym (stages.move r.stage low)) (sym (stages.ends r.stage low))
 
     abbrev step_by : ℕ → Reading → port_laws.StepSignals
-    step_by m r = record { reply = (ins m).reply; moves = λ i. moves (place_at p r i); removed = λ i. gates.kill (place_at p r i); asked = asked_into p vs moves m r }
+    step_by m r =
+        record { reply = (ins m).reply; moves = λ i. moves (place_at p r i); removed = λ i. gates.kill (place_at p r i); asked = asked_into p vs moves m r }
 
-    step_law : (m : ℕ) (r : Reading) (q : PortRegs) → reading p m ≡ Some r → some_at qs m ≡ Some q → port_laws.StepLaw (port_places.stands q) (length (places p r)) (port_laws.own q) c (step_by m r)
+    step_law : (m : ℕ) (r : Reading) (q : PortRegs) → reading p m ≡ Some r → some_at qs m ≡ Some q
+        → port_laws.StepLaw (port_places.stands q) (length (places p r)) (port_laws.own q) c (step_by m r)
     step_law m r q is e =
         port_steps.law_as (port_places.stands q) (length (places p r)) (port_laws.own q) c _ (step_by m r)
         (sym (keeps.kept q.reply (stand.each m r q is e).placed.reply_there) ∙ taken.reply m q e)
@@ -96,7 +104,8 @@ module _ (a c : Circuit) (p : Pipe) (es : List StageEnd) (squash : Net) (vs : �
         (λ k l. asked_same m r k (leads.stage m r is))
         (stepped m r q is e)
 
-    port_here : (m : ℕ) (r : Reading) (q : PortRegs) → reading p m ≡ Some r → some_at qs m ≡ Some q → HasPort p c vs gates moves (sides_in c qs ins frees rs clear tails) (own_at port_laws.own qs m) m r
+    port_here : (m : ℕ) (r : Reading) (q : PortRegs) → reading p m ≡ Some r → some_at qs m ≡ Some q
+        → HasPort p c vs gates moves (sides_in c qs ins frees rs clear tails) (own_at port_laws.own qs m) m r
     port_here m r q is e =
         let it = (port_steps.ports_stand a c p qs keeps stand).each m r q is e in
         let n = length (places p r) in
@@ -117,7 +126,8 @@ module _ (a c : Circuit) (p : Pipe) (es : List StageEnd) (squash : Net) (vs : �
         }
 
     -- each memory that is read delayed has its port
-    pub has_ports : (m : ℕ) (r : Reading) → reading p m ≡ Some r → HasPort p c vs gates moves (sides_in c qs ins frees rs clear tails) (own_at port_laws.own qs m) m r
+    pub has_ports : (m : ℕ) (r : Reading) → reading p m ≡ Some r
+        → HasPort p c vs gates moves (sides_in c qs ins frees rs clear tails) (own_at port_laws.own qs m) m r
     has_ports m r is = let x = some_of (some_at qs m) (stand.some m r is) in port_here m r x.0 is x.1
 
   -- ---- what is asked outside
@@ -128,10 +138,14 @@ module _ (a c : Circuit) (p : Pipe) (es : List StageEnd) (squash : Net) (vs : �
       where
         at : (o : Option Reading) → reading p m ≡ o → request_of (ends_in a es) (moves_in a es) m o ≡ request_of vs moves m o
         at None is = refl
-        at (Some r) is = ap₂ (λ (f : Signal) (w : Walk). (let z : Request = record { enable = asks_memory m f w.asks; addr = asked_address m f w.asks } in z)) (sym (stages.move r.stage (leads.stage m r is))) (sym (stages.ends r.stage (leads.stage m r is)))
+        at (Some r) is =
+            ap₂ (λ (f : Signal) (w : Walk). (let z : Request = record { enable = asks_memory m f w.asks; addr = asked_address m f w.asks } in z))
+            (sym (stages.move r.stage (leads.stage m r is))) (sym (stages.ends r.stage (leads.stage m r is)))
 
     -- a delayed memory is asked by these nets, and its port takes its two inputs
-    pub is_outside : (m : ℕ) (x : RequestNets) → IsRequest a c p es m x → (ins m).reply ≡ input_signal 1 (2 * reply_place p m) → (ins m).word ≡ input_signal (mem_at p m).width (2 * reply_place p m + 1)
+    pub is_outside : (m : ℕ) (x : RequestNets) → IsRequest a c p es m x
+        → (ins m).reply ≡ input_signal 1 (2 * reply_place p m)
+        → (ins m).word ≡ input_signal (mem_at p m).width (2 * reply_place p m + 1)
         → IsOutside p c vs moves (sides_in c qs ins frees rs clear tails) (record { enable = signal c x.enable; addr = signal c x.addr }) m
     is_outside m x h reply word = record {
       enable = λ s suits. ap (λ (f : Signal). f.value s) (h.enable ∙ ap (λ (q : Request). q.enable) (request_as m));
@@ -144,7 +158,8 @@ module _ (a c : Circuit) (p : Pipe) (es : List StageEnd) (squash : Net) (vs : �
 
   module _ (stand : StandOrders a p rs) (stepped : (f : ℕ) → f < length p.stages → IsOrderStepped a c p es squash rs f) where
     leave_step : (f k : ℕ) (b : Bool) (rest other : Signal) → k < length p.stages → rest ≡ other
-        → (if b then mux_signal (both (moves_in a es k) (into_merge p f (stage_at p k).next (ends_in a es k).ended)) one rest else rest) ≡ (if b then mux_signal (both (moves k) (into_merge p f (stage_at p k).next (vs k).ended)) one other else other)
+        → (if b then mux_signal (both (moves_in a es k) (into_merge p f (stage_at p k).next (ends_in a es k).ended)) one rest else rest)
+        ≡ (if b then mux_signal (both (moves k) (into_merge p f (stage_at p k).next (vs k).ended)) one other else other)
     leave_step f k true rest other low e =
         ap₂ (λ (g : Signal) (w : Walk). mux_signal (both g (into_merge p f (stage_at p k).next w)) one rest) (sym (stages.move k low)) (sym (stages.ends k low))
         ∙ ap (mux_signal (both (moves k) (into_merge p f (stage_at p k).next (vs k).ended)) one) e
@@ -152,9 +167,12 @@ module _ (a c : Circuit) (p : Pipe) (es : List StageEnd) (squash : Net) (vs : �
 
     leaves_as : (f n k : ℕ) → k + n ≡ length p.stages → leaves_fork p (ends_in a es) (moves_in a es) f n k ≡ leaves_fork p vs moves f n k
     leaves_as f zero k e = refl
-    leaves_as f (suc n) k e = leave_step f k (is_inside p f k) (leaves_fork p (ends_in a es) (moves_in a es) f n (suc k)) (leaves_fork p vs moves f n (suc k)) (omega (arith, e)) (leaves_as f n (suc k) (omega (arith, e)))
+    leaves_as f (suc n) k e =
+        leave_step f k (is_inside p f k) (leaves_fork p (ends_in a es) (moves_in a es) f n (suc k))
+        (leaves_fork p vs moves f n (suc k)) (omega (arith, e)) (leaves_as f n (suc k) (omega (arith, e)))
 
-    order_law : (f : ℕ) (r : OrderRegs) → f < length p.stages → some_at rs f ≡ Some r → order_laws.StepLaw (order_words.stands r) (branch_stages p f) (order_laws.own r) c (order_step p vs gates moves f)
+    order_law : (f : ℕ) (r : OrderRegs) → f < length p.stages → some_at rs f ≡ Some r
+        → order_laws.StepLaw (order_words.stands r) (branch_stages p f) (order_laws.own r) c (order_step p vs gates moves f)
     order_law f r low e =
         order_steps.law_as r (branch_stages p f) c (order_signals a p es squash f) (order_step p vs gates moves f)
         (ap₂ (λ (g : Signal) (w : Walk). both g (into_first p f (stage_at p f).next w)) (sym (stages.move f low)) (sym (stages.ends f low)))
@@ -163,13 +181,15 @@ module _ (a c : Circuit) (p : Pipe) (es : List StageEnd) (squash : Net) (vs : �
         (ap (λ (g : Signal). if merges_by p f (verify_stage p.stmts) then g else zero_bit) (sym stages.squashes))
         (stepped f low r e)
 
-    order_here : (f : ℕ) (r : OrderRegs) → f < length p.stages → some_at rs f ≡ Some r → HasOrder p c vs gates moves (sides_in c qs ins frees rs clear tails) (own_at order_laws.own rs f) f
+    order_here : (f : ℕ) (r : OrderRegs) → f < length p.stages → some_at rs f ≡ Some r
+        → HasOrder p c vs gates moves (sides_in c qs ins frees rs clear tails) (own_at order_laws.own rs f) f
     order_here f r low e =
         let it = (order_steps.orders_stand a c p rs keeps stand).each f r low e in
         let O : Option OrderRegs → Type 0 = λ o. HasOwn c (own_of order_laws.own o) in
         let S : Option OrderRegs → Type 0 = λ o. order_laws.StartLaw (order_stands o) c (own_of order_laws.own o) in
         let F : Option OrderRegs → Type 0 = λ o. order_laws.FirstLaw (order_stands o) (order_first c o) (order_empty c o) in
-        let N : Option OrderRegs → Type 0 = λ o. order_laws.StepLaw (order_stands o) (branch_stages p f) (own_of order_laws.own o) c (order_step p vs gates moves f) in
+        let N : Option OrderRegs → Type 0 =
+        λ o. order_laws.StepLaw (order_stands o) (branch_stages p f) (own_of order_laws.own o) c (order_step p vs gates moves f) in
         record {
           owned = subst O (sym e) it.owned;
           starts = subst S (sym e) it.starts;
@@ -178,5 +198,6 @@ module _ (a c : Circuit) (p : Pipe) (es : List StageEnd) (squash : Net) (vs : �
         }
 
     -- each fork that is merged has its order
-    pub has_orders : (f q : ℕ) → f < length p.stages → (stage_at p q).merges ≡ Some f → HasOrder p c vs gates moves (sides_in c qs ins frees rs clear tails) (own_at order_laws.own rs f) f
+    pub has_orders : (f q : ℕ) → f < length p.stages → (stage_at p q).merges ≡ Some f
+        → HasOrder p c vs gates moves (sides_in c qs ins frees rs clear tails) (own_at order_laws.own rs f) f
     has_orders f q low merges = let x = some_of (some_at rs f) (stand.some f low ∙ is_merged_by p f q merges) in order_here f x.0 low x.1

@@ -76,7 +76,8 @@ module _ (a b : Circuit) (k : Keeps a b) (f : Form) where
   ends_keep es h = record { count = h.count; each = each_weaker (IsEnd a f) (IsEnd b f) end_keeps es h.each }
 
   pub views_same : (es : List StageEnd) → AreEnds a f es → map (view_in b) es ≡ map (view_in a) es
-  views_same es h = map_each (view_in b) (view_in a) (IsEnd a f) (λ e x. ap (λ (w : Parts). view_of (walk_of w)) (parts_keep a b k e.ended.now x.walk.there)) es h.each
+  views_same es h =
+      map_each (view_in b) (view_in a) (IsEnd a f) (λ e x. ap (λ (w : Parts). view_of (walk_of w)) (parts_keep a b k e.ended.now x.walk.there)) es h.each
 
   pub moves_same : (es : List StageEnd) → AreEnds a f es → map (move_in b) es ≡ map (move_in a) es
   moves_same es h = map_each (move_in b) (move_in a) (IsEnd a f) (λ e x. k.kept e.moves x.moves) es h.each
@@ -105,8 +106,12 @@ nets_more a b nets n f x h e there one same =
     record {
       bits = record {
         count = length-append nets (x ∷ []) ∙ ap (λ k. k + 1) g.count;
-        there = below_more (λ k. IsThere b (net_at (nets ++ x ∷ []) k)) n (λ k l. subst (IsThere b) (sym (old k l)) (g.there k l)) (subst (IsThere b) (sym last) there);
-        one = below_more (λ k. (signal_at b (nets ++ x ∷ []) k).width ≡ 1) n (λ k l. ap (λ y. (signal b y).width) (old k l) ∙ g.one k l) (ap (λ y. (signal b y).width) last ∙ one);
+        there =
+            below_more (λ k. IsThere b (net_at (nets ++ x ∷ []) k)) n (λ k l. subst (IsThere b) (sym (old k l)) (g.there k l))
+            (subst (IsThere b) (sym last) there);
+        one =
+            below_more (λ k. (signal_at b (nets ++ x ∷ []) k).width ≡ 1) n (λ k l. ap (λ y. (signal b y).width) (old k l) ∙ g.one k l)
+            (ap (λ y. (signal b y).width) last ∙ one);
       };
       same = below_more (λ k. signal_at b (nets ++ x ∷ []) k ≡ f k) n
           (λ k l. ap (signal b) (old k l) ∙ e.kept (net_at nets k) (h.bits.there k l) ∙ h.same k l)

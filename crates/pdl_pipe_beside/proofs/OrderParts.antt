@@ -25,7 +25,9 @@ merged_here : (ss : List Stage) (f : ℕ) → merged_in ss f ≡ true → (q : �
 merged_here [] f e = absurd (false≢true e)
 merged_here (s ∷ ss) f e = at (merges_fork s.merges f) refl e (merged_here ss f)
   where
-    at : (b : Bool) → merges_fork s.merges f ≡ b → (b || merged_in ss f) ≡ true → (merged_in ss f ≡ true → (q : ℕ) × ((slice_index_or ss q last_stage).merges ≡ Some f)) → (q : ℕ) × ((slice_index_or (s ∷ ss) q last_stage).merges ≡ Some f)
+    at : (b : Bool) → merges_fork s.merges f ≡ b → (b || merged_in ss f) ≡ true
+        → (merged_in ss f ≡ true → (q : ℕ) × ((slice_index_or ss q last_stage).merges ≡ Some f))
+        → (q : ℕ) × ((slice_index_or (s ∷ ss) q last_stage).merges ≡ Some f)
     at true d h later = (0, merges_some s.merges f d)
     at false d h later = let r = later h in (suc r.0, r.1)
 
@@ -82,7 +84,15 @@ order_some a c p f r merged fits fragment nets placed starts first = record {
   some = sym merged;
   order = λ x e.
       let same : r ≡ x = cc e in
-      let here : IsOrder c p f r = record { stages = fits; nets = nets; placed = placed; owned = record { regs = fragment.has_reg; none = omega arith }; starts = starts; first = first } in
+      let here : IsOrder c p f r =
+      record {
+        stages = fits;
+        nets = nets;
+        placed = placed;
+        owned = record { regs = fragment.has_reg; none = omega arith };
+        starts = starts;
+        first = first;
+      } in
       subst (IsOrder c p f) same here;
 }
 

@@ -49,8 +49,11 @@ module _ (a b : Circuit) (f : Form) (es : List StageEnd) (k : ℕ) (e : Keeps a 
   pub view_same : ends_in b es k ≡ ends_in a es k
   view_same = ap (λ vs. slice_index_or vs k no_view) (views_same a b e f es h)
 
-  pub leaves_same : leaves_fork f.pipe (ends_in b es) (moves_in b es) k (length f.pipe.stages) 0 ≡ leaves_fork f.pipe (ends_in a es) (moves_in a es) k (length f.pipe.stages) 0
-  leaves_same = ap₂ (λ vs ms. leaves_fork f.pipe (λ j. slice_index_or vs j no_view) (λ j. signal_at ms j) k (length f.pipe.stages) 0) (views_same a b e f es h) (moves_same a b e f es h)
+  pub leaves_same : leaves_fork f.pipe (ends_in b es) (moves_in b es) k (length f.pipe.stages) 0
+      ≡ leaves_fork f.pipe (ends_in a es) (moves_in a es) k (length f.pipe.stages) 0
+  leaves_same =
+      ap₂ (λ vs ms. leaves_fork f.pipe (λ j. slice_index_or vs j no_view) (λ j. signal_at ms j) k (length f.pipe.stages) 0)
+      (views_same a b e f es h) (moves_same a b e f es h)
 
 -- the nets of an order's step mean what the stages do to it, where each of the four nets does
 pub ports_same : (a c : Circuit) (p : Pipe) (es : List StageEnd) (squash : Net) (k : ℕ) (x : OrderPorts)
@@ -107,7 +110,10 @@ orders_stand a b p rs k h = record { count = h.count; some = h.some; each = λ f
 
 -- the signals by the lists of the stages
 abbrev step_by : Pipe → ℕ → List View → List Signal → List Signal → Signal → StepSignals
-step_by p f vs ms ks squash = order_step p (λ k. slice_index_or vs k no_view) (record { gate = λ k. one; kill = λ k. signal_at ks k; squash = squash; tail = λ m. no_signal }) (λ k. signal_at ms k) f
+step_by p f vs ms ks squash =
+    order_step p (λ k. slice_index_or vs k no_view)
+    (record { gate = λ k. one; kill = λ k. signal_at ks k; squash = squash; tail = λ m. no_signal })
+    (λ k. signal_at ms k) f
 
 signals_same : (a b : Circuit) (f : Form) (es : List StageEnd) (squash : Net) (k : ℕ) → Keeps a b → AreEnds a f es
     → IsThere a squash → order_signals b f.pipe es squash k ≡ order_signals a f.pipe es squash k
@@ -119,13 +125,16 @@ pub law_kept : (r : OrderRegs) (n : ℕ) (a b : Circuit) (f : StepSignals) → O
     → StepLaw (stands r) n (own r) a f → StepLaw (stands r) n (own r) b f
 law_kept r n a b f k x = record { next = λ s t xs d st dr pr nx. x.next s t xs d st dr pr (next_kept (own r) a b s t k nx) }
 
-module _ (a : Circuit) (f : Form) (es : List StageEnd) (squash : Net) (rs : List (Option OrderRegs)) (there : IsThere a squash) (stand : StandOrders a f.pipe rs) (ends : AreEnds a f es) where
+module _ (a : Circuit) (f : Form) (es : List StageEnd) (squash : Net) (rs : List (Option OrderRegs))
+    (there : IsThere a squash) (stand : StandOrders a f.pipe rs) (ends : AreEnds a f es) where
   -- a step is that by the signals at first
   stepped_as : (b c : Circuit) (k : ℕ) → Keeps a b → IsOrderStepped b c f.pipe es squash rs k → IsOrderStepped a c f.pipe es squash rs k
   stepped_as b c k e x r g = subst (StepLaw (stands r) (branch_stages f.pipe k) (own r) c) (signals_same a b f es squash k e ends there) (x r g)
 
   -- and stays while a later order makes its own
-  stepped_kept : (b c : Circuit) (j k : ℕ) → j < k → k < length f.pipe.stages → Keeps a b → ExtendsBut (own_at own rs k) b c → IsOrderStepped a b f.pipe es squash rs j → IsOrderStepped a c f.pipe es squash rs j
+  stepped_kept : (b c : Circuit) (j k : ℕ) → j < k → k < length f.pipe.stages → Keeps a b
+      → ExtendsBut (own_at own rs k) b c → IsOrderStepped a b f.pipe es squash rs j
+      → IsOrderStepped a c f.pipe es squash rs j
   stepped_kept b c j k l low e d x r g =
       let it = stand.each j r (omega (arith, l, low)) g in
       let kept : OwnKept (own r) b c = record {
@@ -136,7 +145,9 @@ module _ (a : Circuit) (f : Form) (es : List StageEnd) (squash : Net) (rs : List
       } in
       law_kept r (branch_stages f.pipe j) b c (order_signals a f.pipe es squash j) kept (x r g)
 
-  pub stepped_more : (b c : Circuit) (k : ℕ) → k < length f.pipe.stages → Keeps a b → ExtendsBut (own_at own rs k) b c → IsOrderStepped b c f.pipe es squash rs k → ((j : ℕ) → j < k → IsOrderStepped a b f.pipe es squash rs j) → (j : ℕ) → j < k + 1 → IsOrderStepped a c f.pipe es squash rs j
+  pub stepped_more : (b c : Circuit) (k : ℕ) → k < length f.pipe.stages → Keeps a b → ExtendsBut (own_at own rs k) b c
+      → IsOrderStepped b c f.pipe es squash rs k → ((j : ℕ) → j < k → IsOrderStepped a b f.pipe es squash rs j)
+      → (j : ℕ) → j < k + 1 → IsOrderStepped a c f.pipe es squash rs j
   stepped_more b c k low e d x h =
       below_more (λ j. IsOrderStepped a c f.pipe es squash rs j) k (λ j l. stepped_kept b c j k l low e d (h j l)) (stepped_as b c k e x)
 

@@ -12,7 +12,9 @@ use Rattle.pdl_pipe_walk.proofs.Lists.{some_before, some_last}
 
 -- one part more, in a circuit that grew
 module _ {T : Type 0} (own : T → Own) (A B : ℕ → Option T → Type 0) (low : ℕ) (a b : Circuit) (xs : List (Option T)) (o : Option T) (n : ℕ)
-    (stays : (i : ℕ) (q : Option T) → A i q → B i q) (grows : length a.regs ≤ length b.regs) (above : low ≤ length a.regs) (new : IsNewPart own a b o) (has : B n o) (h : AreParts own A low (length a.regs) xs n) where
+    (stays : (i : ℕ) (q : Option T) → A i q → B i q) (grows : length a.regs ≤ length b.regs)
+    (above : low ≤ length a.regs) (new : IsNewPart own a b o) (has : B n o)
+    (h : AreParts own A low (length a.regs) xs n) where
   old : (i : ℕ) → i < n → some_at (xs ++ o ∷ []) i ≡ some_at xs i
   old i l = some_before xs o i (omega (arith, l, h.count))
 

@@ -116,13 +116,16 @@ module _ (a b : Circuit) (k : Keeps a b) where
   starts_keep : (q : PortRegs) → HasOwn a (own q) → StartLaw (stands q) a (own q) → StartLaw (stands q) b (own q)
   starts_keep q h x = record { starts = λ s z. x.starts s (record { regs = λ r lo hi. z.regs r lo hi ∙ k.reset r (h.regs r lo hi) }) }
 
-  replies_back : (q : PortRegs) (s : State) (r : Bool) (w : ℕ) → signal b q.reply ≡ signal a q.reply → signal b q.word ≡ signal a q.word → Replies (signal b q.reply) (signal b q.word) s r w → Replies (signal a q.reply) (signal a q.word) s r w
+  replies_back : (q : PortRegs) (s : State) (r : Bool) (w : ℕ) → signal b q.reply ≡ signal a q.reply
+      → signal b q.word ≡ signal a q.word → Replies (signal b q.reply) (signal b q.word) s r w
+      → Replies (signal a q.reply) (signal a q.word) s r w
   replies_back q s r w e f x = record {
     reply = ap (λ (g : Signal). g.value s) (sym e) ∙ x.reply;
     word = λ on. ap (λ (g : Signal). g.value s) (sym f) ∙ x.word on;
   }
 
-  laws_keep : (p : Pipe) (m : ℕ) (r : Reading) (q : PortRegs) → IsPort a p m r q → AnswerLaw (stands q) (length (places p r)) (signal b q.reply) (signal b q.word) (answer_signals b q)
+  laws_keep : (p : Pipe) (m : ℕ) (r : Reading) (q : PortRegs) → IsPort a p m r q
+      → AnswerLaw (stands q) (length (places p r)) (signal b q.reply) (signal b q.word) (answer_signals b q)
   laws_keep p m r q x =
       let e = k.kept q.reply x.placed.reply_there in
       let f = k.kept q.word x.word_there in

@@ -53,12 +53,17 @@ law_kept stands n o a b f k x = record { next = λ s t y d st dr pr nx. x.next s
 
 -- ---- one step
 
-module _ (a b c : Circuit) (p : Pipe) (es : List StageEnd) (qs : List (Option PortRegs)) (m : ℕ) (r : Reading) (q : PortRegs) (x : PortStep) (is : reading p m ≡ Some r) (at : some_at qs m ≡ Some q) (port : IsPort a p m r q) (grows : Extends a b)
-    (asked : AreNetsOf b x.asked (length (places p r)) (asked_into p (ends_in a es) (moves_in a es) m r)) (moves : AreNetsOf b x.moves (length (places p r)) (λ i. moves_in a es (place_at p r i))) (removed : AreNetsOf b x.removed (length (places p r)) (λ i. kills_in a es (place_at p r i)))
+module _ (a b c : Circuit) (p : Pipe) (es : List StageEnd) (qs : List (Option PortRegs)) (m : ℕ) (r : Reading)
+    (q : PortRegs) (x : PortStep) (is : reading p m ≡ Some r) (at : some_at qs m ≡ Some q) (port : IsPort a p m r q)
+    (grows : Extends a b)
+    (asked : AreNetsOf b x.asked (length (places p r)) (asked_into p (ends_in a es) (moves_in a es) m r))
+    (moves : AreNetsOf b x.moves (length (places p r)) (λ i. moves_in a es (place_at p r i)))
+    (removed : AreNetsOf b x.removed (length (places p r)) (λ i. kills_in a es (place_at p r i)))
     (law : StepLaw (stands q) (port_places q) (own q) c (step_signals b q x)) where
   here : StepLaw (stands q) (length (places p r)) (own q) c (port_signals a p es m r q)
   here =
-      law_as (stands q) (length (places p r)) (own q) c (step_signals b q x) (port_signals a p es m r q) (grows.kept q.reply port.placed.reply_there) moves.same removed.same asked.same
+      law_as (stands q) (length (places p r)) (own q) c (step_signals b q x) (port_signals a p es m r q)
+      (grows.kept q.reply port.placed.reply_there) moves.same removed.same asked.same
       (subst (λ n. StepLaw (stands q) n (own q) c (step_signals b q x)) port.count law)
 
   pub some_stepped : IsPortStepped a c p es qs m
@@ -93,10 +98,12 @@ signals_same a b f es m r q k h x =
 module _ (a : Circuit) (f : Form) (es : List StageEnd) (qs : List (Option PortRegs)) (stand : StandPorts a f.pipe qs) (ends : AreEnds a f es) where
   -- a step is that by the signals at first
   pub stepped_as : (b c : Circuit) (m : ℕ) → Keeps a b → IsPortStepped b c f.pipe es qs m → IsPortStepped a c f.pipe es qs m
-  stepped_as b c m k x r q e g = subst (StepLaw (stands q) (length (places f.pipe r)) (own q) c) (signals_same a b f es m r q k ends (stand.each m r q e g)) (x r q e g)
+  stepped_as b c m k x r q e g =
+      subst (StepLaw (stands q) (length (places f.pipe r)) (own q) c) (signals_same a b f es m r q k ends (stand.each m r q e g)) (x r q e g)
 
   -- and stays while a later port makes its own
-  pub stepped_kept : (b c : Circuit) (j m : ℕ) → j < m → m < length f.pipe.mems → Keeps a b → ExtendsBut (own_at own qs m) b c → IsPortStepped a b f.pipe es qs j → IsPortStepped a c f.pipe es qs j
+  pub stepped_kept : (b c : Circuit) (j m : ℕ) → j < m → m < length f.pipe.mems → Keeps a b
+      → ExtendsBut (own_at own qs m) b c → IsPortStepped a b f.pipe es qs j → IsPortStepped a c f.pipe es qs j
   stepped_kept b c j m l low k d x r q e g =
       let it = stand.each j r q e g in
       let kept : OwnKept (own q) b c = record {
@@ -107,7 +114,9 @@ module _ (a : Circuit) (f : Form) (es : List StageEnd) (qs : List (Option PortRe
       } in
       law_kept (stands q) (length (places f.pipe r)) (own q) b c (port_signals a f.pipe es j r q) kept (x r q e g)
 
-  pub stepped_more : (b c : Circuit) (m : ℕ) → m < length f.pipe.mems → Keeps a b → ExtendsBut (own_at own qs m) b c → IsPortStepped b c f.pipe es qs m → ((j : ℕ) → j < m → IsPortStepped a b f.pipe es qs j) → (j : ℕ) → j < m + 1 → IsPortStepped a c f.pipe es qs j
+  pub stepped_more : (b c : Circuit) (m : ℕ) → m < length f.pipe.mems → Keeps a b → ExtendsBut (own_at own qs m) b c
+      → IsPortStepped b c f.pipe es qs m → ((j : ℕ) → j < m → IsPortStepped a b f.pipe es qs j) → (j : ℕ) → j < m + 1
+      → IsPortStepped a c f.pipe es qs j
   stepped_more b c m low k d x h =
       below_more (λ j. IsPortStepped a c f.pipe es qs j) m (λ j l. stepped_kept b c j m l low k d (h j l)) (stepped_as b c m k x)
 

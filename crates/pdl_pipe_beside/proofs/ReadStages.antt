@@ -51,7 +51,8 @@ read_stands : (m : ℕ) (ss : List Stmt) (r : Reading) → reading_in m ss ≡ S
 read_stands m [] r e h = absurd (cc e)
 read_stands m (s ∷ ss) r e h = at (bound_by m s.op) refl (sym (reading_next m s ss) ∙ e) (read_stands m ss r)
   where
-    at : (o : Option ℕ) → bound_by m s.op ≡ o → found_or o s.stage (reading_in m ss) ≡ Some r → (reading_in m ss ≡ Some r → none_of is_fetch (in_stage r.stage ss) ≡ true → ⊥) → ⊥
+    at : (o : Option ℕ) → bound_by m s.op ≡ o → found_or o s.stage (reading_in m ss) ≡ Some r
+        → (reading_in m ss ≡ Some r → none_of is_fetch (in_stage r.stage ss) ≡ true → ⊥) → ⊥
     at None b f later = later f (none_later r.stage s ss h)
     at (Some x) b f later =
         let one : (Some s.stage) ≡ (Some r.stage) = cc f in

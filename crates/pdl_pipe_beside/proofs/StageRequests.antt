@@ -51,7 +51,8 @@ address_value m w moves [] s = refl
 address_value m w moves (q ∷ qs) s = at (q.mem == m) (address_value m w moves qs s)
   where
     at : (b : Bool) → (address_from m moves (const_signal w 0) qs).value s ≡ (asked_address m moves qs).value s
-        → (if b then mux_signal (both moves q.on) q.addr (address_from m moves (const_signal w 0) qs) else address_from m moves (const_signal w 0) qs).value s ≡ (if b then mux_signal (both moves q.on) q.addr (asked_address m moves qs) else asked_address m moves qs).value s
+        → (if b then mux_signal (both moves q.on) q.addr (address_from m moves (const_signal w 0) qs) else address_from m moves (const_signal w 0) qs).value s
+        ≡ (if b then mux_signal (both moves q.on) q.addr (asked_address m moves qs) else asked_address m moves qs).value s
     at true e = ap (λ v. words.mux ((both moves q.on).value s) (q.addr.value s) v) e
     at false e = e
 
@@ -76,12 +77,18 @@ end_addresses c f e m w depth h = addresses_are c f.pipe m w depth e.ended.now.a
 -- requests stay
 pub asks_same : (a b : Circuit) (m w : ℕ) (qs : List AskNet) → Keeps a b → Each (IsAddressNet a m w) qs
     → map (ask_in b) qs ≡ map (ask_in a) qs
-asks_same a b m w qs k h = map_each (ask_in b) (ask_in a) (IsAddressNet a m w) (λ q x. ap₂ (λ f g. record { mem = q.mem; var = q.var; on = f; addr = g }) (k.kept q.on x.on_there) (k.kept q.addr x.addr_there)) qs h
+asks_same a b m w qs k h =
+    map_each (ask_in b) (ask_in a) (IsAddressNet a m w)
+    (λ q x. ap₂ (λ f g. record { mem = q.mem; var = q.var; on = f; addr = g }) (k.kept q.on x.on_there) (k.kept q.addr x.addr_there)) qs h
 
 -- ---- one request
 
-module _ (a c : Circuit) (p : Pipe) (es : List StageEnd) (m w : ℕ) (r : Reading) (e : StageEnd) (x : RequestNets) (is : reading p m ≡ Some r) (low : r.stage < length es) (at : e ≡ slice_index_or es r.stage e)
-    (enable : Means c x.enable (asks_memory m (signal a e.moves) (map (ask_in a) e.ended.now.asks))) (enable_one : (signal c x.enable).width ≡ 1) (addr : Means c x.addr (address_from m (signal a e.moves) (const_signal w 0) (map (ask_in a) e.ended.now.asks))) (wide : (signal c x.addr).width ≡ w) (depth : 2 ^ w ≡ (mem_at p m).depth) where
+module _ (a c : Circuit) (p : Pipe) (es : List StageEnd) (m w : ℕ) (r : Reading) (e : StageEnd) (x : RequestNets)
+    (is : reading p m ≡ Some r) (low : r.stage < length es) (at : e ≡ slice_index_or es r.stage e)
+    (enable : Means c x.enable (asks_memory m (signal a e.moves) (map (ask_in a) e.ended.now.asks)))
+    (enable_one : (signal c x.enable).width ≡ 1)
+    (addr : Means c x.addr (address_from m (signal a e.moves) (const_signal w 0) (map (ask_in a) e.ended.now.asks)))
+    (wide : (signal c x.addr).width ≡ w) (depth : 2 ^ w ≡ (mem_at p m).depth) where
   moves_is : signal a e.moves ≡ moves_in a es r.stage
   moves_is = move_at a es r.stage e low at
 
@@ -126,7 +133,9 @@ request_as : (a b c : Circuit) (f : Form) (es : List StageEnd) (m : ℕ) (x : Re
     → IsRequest b c f.pipe es m x → IsRequest a c f.pipe es m x
 request_as a b c f es m x k ends h =
     let p = f.pipe in
-    let same = ap₂ (λ vs ms. request_of (λ j. slice_index_or vs j no_view) (λ j. signal_at ms j) m (reading p m)) (views_same a b k f es ends) (moves_same a b k f es ends) in
+    let same =
+    ap₂ (λ vs ms. request_of (λ j. slice_index_or vs j no_view) (λ j. signal_at ms j) m (reading p m))
+    (views_same a b k f es ends) (moves_same a b k f es ends) in
     record {
       enable_there = h.enable_there;
       enable_one = h.enable_one;
@@ -146,6 +155,7 @@ requests_more a b c f es xs o n k l ends new h =
     record {
       count = length-append xs (o ∷ []) ∙ ap (λ i. i + 1) h.count;
       each = below_more (λ m. P m (some_at (xs ++ o ∷ []) m)) n
-          (λ m lt. subst (P m) (sym (some_before xs o m (omega (arith, lt, h.count)))) (record { some = (h.each m lt).some; asks = λ x e. request_kept a b c f.pipe es m x l ((h.each m lt).asks x e) }))
+          (λ m lt. subst (P m) (sym (some_before xs o m (omega (arith, lt, h.count))))
+          (record { some = (h.each m lt).some; asks = λ x e. request_kept a b c f.pipe es m x l ((h.each m lt).asks x e) }))
           (subst (P n) (sym (some_last xs o n h.count)) here);
     }

@@ -53,7 +53,8 @@ order_empty c (Some r) = signal c r.empty
 abbrev pub sides_in : Circuit → List (Option PortRegs) → (ℕ → Inputs) → (ℕ → Signal) → List (Option OrderRegs)
     → (ℕ → Signal) → (ℕ → ℕ → Signal) → Sides
 sides_in c qs ins frees rs clear tails = record {
-  port = λ m. record { stands = port_stands (some_at qs m); reply = (ins m).reply; word = (ins m).word; answers = port_answers c (some_at qs m); free = frees m };
+  port =
+      λ m. record { stands = port_stands (some_at qs m); reply = (ins m).reply; word = (ins m).word; answers = port_answers c (some_at qs m); free = frees m };
   order = λ f. record { stands = order_stands (some_at rs f); first = order_first c (some_at rs f); empty = order_empty c (some_at rs f) };
   clear = clear;
   tails = tails;
@@ -61,7 +62,9 @@ sides_in c qs ins frees rs clear tails = record {
 
 -- each port is free as this says
 abbrev pub AreFree : Circuit → Pipe → (ℕ → Signal) → List (Option PortRegs) → (ℕ → Signal) → Type 0
-AreFree c p moves qs frees = (m : ℕ) (r : Reading) (q : PortRegs) → reading p m ≡ Some r → some_at qs m ≡ Some q → FreeLaw (port_places.stands q) (length (places p r)) (signal c q.reply) (λ i. moves (place_at p r i)) (frees m)
+AreFree c p moves qs frees =
+    (m : ℕ) (r : Reading) (q : PortRegs) → reading p m ≡ Some r → some_at qs m ≡ Some q
+    → FreeLaw (port_places.stands q) (length (places p r)) (signal c q.reply) (λ i. moves (place_at p r i)) (frees m)
 
 -- the stages of a law are these
 pub record AreStagesOf (c : Circuit) (p : Pipe) (es : List StageEnd) (squash : Net) (vs : ℕ → View) (gates : Gates) (moves : ℕ → Signal) : Type 0 where

@@ -18,7 +18,22 @@ view_of w = record { valid = zero_bit; kept = λ x. no_signal; tickets = λ m. n
 
 -- one that does nothing
 abbrev pub no_view : View
-no_view = view_of (walk_of (record { vars = []; held = []; ready = one; reserves = []; puts = []; lettings = []; births = []; asks = []; guess = []; fails = zero_bit; barrier = zero_bit }))
+no_view =
+    view_of
+    (walk_of
+    (record {
+      vars = [];
+      held = [];
+      ready = one;
+      reserves = [];
+      puts = [];
+      lettings = [];
+      births = [];
+      asks = [];
+      guess = [];
+      fails = zero_bit;
+      barrier = zero_bit;
+    }))
 
 -- a stage by its nets in a circuit, of which only what it does is known
 abbrev pub view_in : Circuit → StageEnd → View

@@ -45,7 +45,8 @@ port_signals c p es m r q = record {
 
 -- the port of a memory, where it has one, keeps its law in a later circuit
 abbrev pub IsPortStepped : Circuit → Circuit → Pipe → List StageEnd → List (Option PortRegs) → ℕ → Type 0
-IsPortStepped a c p es qs m = (r : Reading) (q : PortRegs) → reading p m ≡ Some r → some_at qs m ≡ Some q → StepLaw (stands q) (length (places p r)) (own q) c (port_signals a p es m r q)
+IsPortStepped a c p es qs m =
+    (r : Reading) (q : PortRegs) → reading p m ≡ Some r → some_at qs m ≡ Some q → StepLaw (stands q) (length (places p r)) (own q) c (port_signals a p es m r q)
 
 -- ---- orders
 
@@ -63,4 +64,5 @@ order_signals c p es squash f = order_step p (ends_in c es) (gates_in c es squas
 
 -- the order of a fork, where it has one, keeps its law in a later circuit
 abbrev pub IsOrderStepped : Circuit → Circuit → Pipe → List StageEnd → Net → List (Option OrderRegs) → ℕ → Type 0
-IsOrderStepped a c p es squash rs f = (r : OrderRegs) → some_at rs f ≡ Some r → order_laws.StepLaw (order_words.stands r) (branch_stages p f) (order_laws.own r) c (order_signals a p es squash f)
+IsOrderStepped a c p es squash rs f =
+    (r : OrderRegs) → some_at rs f ≡ Some r → order_laws.StepLaw (order_words.stands r) (branch_stages p f) (order_laws.own r) c (order_signals a p es squash f)

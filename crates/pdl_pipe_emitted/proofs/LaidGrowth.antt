@@ -107,7 +107,8 @@ module _ {T : Type 0} (l : Members T) (n : Nets T) (em : Emission l n) where
       at None e = inr (omega arith)
       at (Some q) e = let to = em.layout.ports_to m q low e in let over = em.layout.order.1 in inr (omega (arith, to, over, from))
 
-  after_order : (r : ℕ) → em.high ≤ r → (k : ℕ) → k < length p.stages → Outside (parts.own_at order_laws.own n.orders k).from (parts.own_at order_laws.own n.orders k).to r
+  after_order : (r : ℕ) → em.high ≤ r → (k : ℕ) → k < length p.stages
+      → Outside (parts.own_at order_laws.own n.orders k).from (parts.own_at order_laws.own n.orders k).to r
   after_order r from k low = at (some_at n.orders k) refl
     where
       at : (o : Option OrderRegs) → some_at n.orders k ≡ o → Outside (parts.own_of order_laws.own o).from (parts.own_of order_laws.own o).to r
@@ -115,7 +116,8 @@ module _ {T : Type 0} (l : Members T) (n : Nets T) (em : Emission l n) where
       at (Some q) e = let to = em.layout.orders_to k q low e in inr (omega (arith, to, from))
 
   after_lock : (r : ℕ) → em.high ≤ r → (m : ℕ) → m < length p.mems → Outside (own_of (some_at n.locks m)).from (own_of (some_at n.locks m)).to r
-  after_lock r from m low = let to = em.layout.locks_to m low in let under = em.layout.order.0 in let over = em.layout.order.1 in inr (omega (arith, to, under, over, from))
+  after_lock r from m low = let to = em.layout.locks_to m low in let under = em.layout.order.0 in
+      let over = em.layout.order.1 in inr (omega (arith, to, under, over, from))
 
   -- a stage's register takes next what it took once it was connected
   pub stage_nexts : (r : ℕ) → em.high ≤ r → r < length em.a.regs → next_signal em.d r ≡ next_signal em.e r

@@ -23,13 +23,16 @@ module _ {T : Type 0} (l : Members T) (n : Nets T) (em : Emission l n) where
     -- the line was made, and its registers were left alone since
     pub made_line : IsLineMade em.a em.c em.d n.line (next_signals em.a n.locks) (answers_in em.a n.line.shared.now.ports.now) (locks_of l n em)
     made_line =
-        line_made em.a em.c em.e em.d n.line (next_signals em.a n.locks) (answers_in em.a n.line.shared.now.ports.now) (locks_of l n em) em.high (length em.a.regs)
+        line_made em.a em.c em.e em.d n.line (next_signals em.a n.locks) (answers_in em.a n.line.shared.now.ports.now)
+        (locks_of l n em) em.high (length em.a.regs)
         em.layout.staged em.layout.apart (keeps_ac l n em) em.line (keeps_ce l n em) em.takes (keeps_ed l n em) well (stage_nexts l n em)
 
     pub begins_made : IsStart (line_pipe n.line) em.d (views_of l n em)
-    begins_made = is_start em.a em.c em.d n.line (next_signals em.a n.locks) (answers_in em.a n.line.shared.now.ports.now) (locks_of l n em) em.can.begins made_line
+    begins_made =
+        is_start em.a em.c em.d n.line (next_signals em.a n.locks) (answers_in em.a n.line.shared.now.ports.now) (locks_of l n em) em.can.begins made_line
 
-    pub stage_made : (k : ℕ) → k < length (line_pipe n.line).stages → Same em.d (moves_of l n em k) (moves_where (line_pipe n.line) (views_of l n em) (gates_of l n em).gate (moves_of l n em) k)
+    pub stage_made : (k : ℕ) → k < length (line_pipe n.line).stages
+        → Same em.d (moves_of l n em k) (moves_where (line_pipe n.line) (views_of l n em) (gates_of l n em).gate (moves_of l n em) k)
         → IsStage (line_pipe n.line) (locks_of l n em) em.d (views_of l n em) (gates_of l n em) (moves_of l n em) k
     stage_made k low leaves =
         is_stage em.a em.c em.d n.line (next_signals em.a n.locks) (answers_in em.a n.line.shared.now.ports.now) (locks_of l n em) em.can.begins made_line

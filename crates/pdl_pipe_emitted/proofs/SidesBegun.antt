@@ -91,11 +91,13 @@ module _ {T : Type 0} (l : Members T) (n : Nets T) (em : Emission l n) where
           ∙ sym (ap (with_answer p (answers_in em.d ports) k x) ends.1)
 
   -- each variable of a stage is as it was kept, with this cycle's answer
-  pub begun_is : (k x : ℕ) → k < length p.stages → Same em.d ((views_of l n em k).begun.vars x) (with_answer p (answers_in em.d ports) k x ((views_of l n em k).kept x))
+  pub begun_is : (k x : ℕ) → k < length p.stages
+      → Same em.d ((views_of l n em k).begun.vars x) (with_answer p (answers_in em.d ports) k x ((views_of l n em k).kept x))
   begun_is k x low =
       let count = em.layout.count in
       let l' : k < length n.line.stages.now = omega (arith, low, count) in
       let some = some_stage n.line.stages.now k l' in
       let s = some.0 in
-      subst (λ (u : View). Same em.d (u.begun.vars x) (with_answer p (answers_in em.d ports) k x (u.kept x))) (sym (view_at em.c n.line.stages.now k s l' some.1))
+      subst (λ (u : View). Same em.d (u.begun.vars x) (with_answer p (answers_in em.d ports) k x (u.kept x)))
+      (sym (view_at em.c n.line.stages.now k s l' some.1))
       (λ t suits. ap (λ (f : Signal). f.value t) (begun_now k x s (made_now k s l' some.1)))

@@ -104,7 +104,8 @@ module _ {T : Type 0} (l : Members T) (n : Nets T) (em : Emission l n) where
     opens_are : opens_by (frees k) (vs k).ended.asks ≡ ports_open sides (vs k).ended.asks
     opens_are =
         opens_as (frees k) sides (vs k).ended.asks
-        (each_weaker (AsksOf p k) (λ (q : Ask). (sides.port q.mem).free ≡ frees k q.mem) (λ q is. ap (λ o. free_of l n em o q.mem) is) (vs k).ended.asks asks_are)
+        (each_weaker (AsksOf p k) (λ (q : Ask). (sides.port q.mem).free ≡ frees k q.mem)
+        (λ q is. ap (λ o. free_of l n em o q.mem) is) (vs k).ended.asks asks_are)
 
     -- ---- gates
 
@@ -119,4 +120,5 @@ module _ {T : Type 0} (l : Members T) (n : Nets T) (em : Emission l n) where
         let here = answers_keep em.a em.b (keeps_ab l n em) p ports em.layout.shared.ports in
         ap₂ (λ (f g : Signal). both f (both squash (both g (both barrier (way_on (stage_at p k).next (turn_in em.b p n.orders k) w)))))
         (sym (all_answered_same em.b em.d (keeps_bd l n em) p ports k (length p.mems) 0 here)) opens_are
-        ∙ ap (λ (turns : ℕ → Signal). both answered (both squash (both (ports_open sides w.asks) (both barrier (way_on (stage_at p k).next turns w))))) (fun_ext (turn_is k))
+        ∙ ap (λ (turns : ℕ → Signal). both answered (both squash (both (ports_open sides w.asks) (both barrier (way_on (stage_at p k).next turns w)))))
+        (fun_ext (turn_is k))

@@ -71,7 +71,8 @@ module _ (s : State) where
   where_low p vs gate moves k low =
       let way = way_on (stage_at p k).next (free vs moves) (vs k).ended in
       both_low (vs k).valid (both (vs k).ended.ready (both (gate k) way))
-      (both_low (vs k).ended.ready (both (gate k) way) (both_low (gate k) way (way_low (stage_at p k).next (free vs moves) (vs k).ended (free_low vs moves low))))
+      (both_low (vs k).ended.ready (both (gate k) way)
+      (both_low (gate k) way (way_low (stage_at p k).next (free vs moves) (vs k).ended (free_low vs moves low))))
 
 module _ {T : Type 0} (l : Members T) (n : Nets T) (em : Emission l n) (well : IsWell em.d) where
   abbrev p : Pipe
@@ -91,7 +92,8 @@ module _ {T : Type 0} (l : Members T) (n : Nets T) (em : Emission l n) (well : I
   allowed k = moves_where p vs gates.gate moves k
 
   moves_low : (s : State) → Suits em.d s → (k : ℕ) → (moves k).value s < 2
-  moves_low s suits k = subst (λ (f : Signal). f.value s < 2) (moves_same em.c em.d n.line (keeps_cd l n em) em.line k) (at (cases_lt k (length n.line.moves.now)))
+  moves_low s suits k =
+      subst (λ (f : Signal). f.value s < 2) (moves_same em.c em.d n.line (keeps_cd l n em) em.line k) (at (cases_lt k (length n.line.moves.now)))
     where
       at : (k < length n.line.moves.now) ⊎ (length n.line.moves.now ≤ k) → (line_moves em.d n.line k).value s < 2
       at (inl low) =

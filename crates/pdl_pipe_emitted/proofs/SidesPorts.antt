@@ -128,7 +128,12 @@ module _ {T : Type 0} (l : Members T) (n : Nets T) (em : Emission l n) where
         answers = subst (λ (i : Inputs). port_laws.AnswerLaw stands k i.reply i.word (port_answers em.d (some_at ports m))) e h.answers;
         free = subst (λ (i : Inputs). FreeLaw stands k i.reply (λ j. moves (place_at p r j)) (frees m)) e h.free;
         step = subst (λ (i : Inputs). port_laws.StepLaw stands k (own_at port_laws.own ports m) em.d
-            (record { reply = i.reply; moves = λ j. moves (place_at p r j); removed = λ j. gates.kill (place_at p r j); asked = asked_into p vs moves m r })) e h.step;
+            (record {
+              reply = i.reply;
+              moves = λ j. moves (place_at p r j);
+              removed = λ j. gates.kill (place_at p r j);
+              asked = asked_into p vs moves m r;
+            })) e h.step;
       }
 
   -- ---- orders

@@ -93,7 +93,8 @@ module _ {T : Type 0} (l : Members T) (n : Nets T) (em : Emission l n) where
   -- a lock's ticket has its bits and tells its state
   ticket_law : (m : ℕ) (o : Option (MemLock T)) → some_at n.locks m ≡ o → m < length p.mems → is_some o ≡ true
       → ((of_lock (λ x. signal em.a x.regs.ticket) zero_bit o).width ≡ of_lock (λ x. l.tickets x.lock) 1 o)
-      × TicketLaw (of_lock (λ x. l.stands x.lock x.regs) (λ s y. Unit {0}) o) (of_lock (λ x. l.tickets x.lock) 1 o) (of_lock (λ x. signal em.a x.regs.ticket) zero_bit o)
+      × TicketLaw (of_lock (λ x. l.stands x.lock x.regs) (λ s y. Unit {0}) o) (of_lock (λ x. l.tickets x.lock) 1 o)
+      (of_lock (λ x. signal em.a x.regs.ticket) zero_bit o)
   ticket_law m None at low e = absurd (false≢true e)
   ticket_law m (Some x) at low e = ((em.layout.locked.locks m x low at).ticket_wide, (em.layout.lawful.laws m x low at).ticket)
 

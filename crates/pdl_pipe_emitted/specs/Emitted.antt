@@ -80,7 +80,8 @@ abbrev pub inputs_of : Pipe → ℕ → Inputs
 inputs_of p m = record { reply = input_signal 1 (2 * reply_place p m); word = input_signal (mem_at p m).width (2 * reply_place p m + 1) }
 
 -- inputs, memories with their locks, ports, orders and stages stand in a circuit; the registers of the locks are below `low`, those of the ports from there up to `mid`, those of the orders up to `high`, and those of the stages from there on
-pub record IsLayout {T : Type 0} (l : Members T) (a : Circuit) (x : StageLine) (locks : List (Option (MemLock T))) (forks : List (Option OrderRegs)) (low mid high : ℕ) : Type 0 where
+pub record IsLayout {T : Type 0} (l : Members T) (a : Circuit) (x : StageLine) (locks : List (Option (MemLock T)))
+    (forks : List (Option OrderRegs)) (low mid high : ℕ) : Type 0 where
   pub shared : IsShared a (line_form x) x.shared.now
   pub next : signals_in a x.shared.now.next ≡ next_signals a locks
   pub staged : AreStaged a (line_form x) (next_signals a locks) (answers_in a x.shared.now.ports.now) (locks_in l (line_pipe x) a locks) x.stages.now
@@ -164,7 +165,8 @@ pub record Emission {T : Type 0} (l : Members T) (n : Nets T) : Type 0 where
   pub to_ports : ExtendsParts (own_at port_laws.own n.line.shared.now.ports.now) (length (line_pipe n.line).mems) f g
   pub orders_stepped : (k : ℕ) → k < length (line_pipe n.line).stages → IsOrderStepped g h (line_pipe n.line) n.ends n.moves.squash n.orders k
   pub to_orders : ExtendsParts (own_at order_laws.own n.orders) (length (line_pipe n.line).stages) g h
-  pub stepped : AreStepped l i (line_pipe n.line) (steps_in h (line_pipe n.line) n.deeds n.moves.squash n.tails.cut) n.locks n.commits (length (line_pipe n.line).mems)
+  pub stepped : AreStepped l i (line_pipe n.line)
+      (steps_in h (line_pipe n.line) n.deeds n.moves.squash n.tails.cut) n.locks n.commits (length (line_pipe n.line).mems)
   pub to_locks : ExtendsLocks n.locks (length (line_pipe n.line).mems) h i
   -- and nothing changes after that
   pub keeps : Keeps i d
@@ -193,12 +195,16 @@ module _ {T : Type 0} (l : Members T) (n : Nets T) (em : Emission l n) where
   clear_of k = signal_at (signals_in em.b n.moves.clear.items) k
 
   abbrev pub sides_of : Sides
-  sides_of = sides_in em.d n.line.shared.now.ports.now (inputs_of (line_pipe n.line)) (λ m. free_of (reading (line_pipe n.line) m) m) n.orders clear_of (tails_in em.f n.tails)
+  sides_of =
+      sides_in em.d n.line.shared.now.ports.now (inputs_of (line_pipe n.line))
+      (λ m. free_of (reading (line_pipe n.line) m) m) n.orders clear_of (tails_in em.f n.tails)
 
   -- gates by what stands beside the stages
   abbrev pub gates_of : Gates
   gates_of = record {
-    gate = λ k. gate_where (line_pipe n.line) views_of (record { gate = λ j. one; kill = λ j. zero_bit; squash = signal em.b n.moves.squash; tail = λ m. zero_bit }) sides_of k;
+    gate =
+        λ k. gate_where (line_pipe n.line) views_of
+        (record { gate = λ j. one; kill = λ j. zero_bit; squash = signal em.b n.moves.squash; tail = λ m. zero_bit }) sides_of k;
     kill = line_kills em.c n.line;
     squash = signal em.b n.moves.squash;
     tail = λ m. signal_at (signals_in em.f n.tails.cut) m;

@@ -25,7 +25,9 @@ module _ (gs : List r_guard.FlatGuard) (i : ℕ) (d : r_guard.FlatGuard) (l : i 
   pub guards_left : (ws : List ℕ) → AreGuards ws (guards_view (drop i gs)) → AreGuards ws (guards_view (drop (i + 1) gs))
   guards_left ws h = (subst (λ (xs : List Guard). AreGuards ws xs) guards_split h).2
 
-  pub taken_next : (fs : List Signal) (f g : Signal) (whole : Signal) → g ≡ both f (literal (get_or gs i d).first (signal_at fs (get_or gs i d).var)) → taken_from fs f (guards_view (drop i gs)) ≡ whole → taken_from fs g (guards_view (drop (i + 1) gs)) ≡ whole
+  pub taken_next : (fs : List Signal) (f g : Signal) (whole : Signal)
+      → g ≡ both f (literal (get_or gs i d).first (signal_at fs (get_or gs i d).var))
+      → taken_from fs f (guards_view (drop i gs)) ≡ whole → taken_from fs g (guards_view (drop (i + 1) gs)) ≡ whole
   taken_next fs f g whole e h = ap (λ x. taken_from fs x (guards_view (drop (i + 1) gs))) e ∙ sym (ap (taken_from fs f) guards_split) ∙ h
 
 module _ (es : List r_expr.FlatExpr) (i : ℕ) (d : r_expr.FlatExpr) (l : i < length es) (is : d ≡ get_or es i d) where
@@ -35,7 +37,8 @@ module _ (es : List r_expr.FlatExpr) (i : ℕ) (d : r_expr.FlatExpr) (l : i < le
   pub typed_left : (ws : List ℕ) → AreTyped ws (exprs_view (drop i es)) → AreTyped ws (expr_view d ∷ exprs_view (drop (i + 1) es))
   typed_left ws h = subst (λ (xs : List Expr). AreTyped ws xs) exprs_split h
 
-  pub values_next : (a b : Circuit) (fs : List Signal) (xs ys : List Net) (x : Net) (whole : List Signal) → Extends a b → NetsThere a xs → Means b x (value_signal fs (expr_view d)) → ys ≡ xs ++ x ∷ []
+  pub values_next : (a b : Circuit) (fs : List Signal) (xs ys : List Net) (x : Net) (whole : List Signal) → Extends a b
+      → NetsThere a xs → Means b x (value_signal fs (expr_view d)) → ys ≡ xs ++ x ∷ []
       → signals_in a xs ++ value_signals fs (exprs_view (drop i es)) ≡ whole → signals_in b ys ++ value_signals fs (exprs_view (drop (i + 1) es)) ≡ whole
   values_next a b fs xs ys x whole e t m q h =
       let rest = value_signals fs (exprs_view (drop (i + 1) es)) in

@@ -37,7 +37,9 @@ signal_bounded s fs h (Not width a) t =
     let p = signal_bounded s fs h a t.0 in
     record { low = p.low; high = p.high; fits = complement_below (value_signal fs a).width ((value_signal fs a).value s) }
 signal_bounded s fs h (Binary op width a b) t =
-    op_bounded s op (value_signal fs a) (value_signal fs b) (value_width fs a t.0 ∙ t.2 ∙ sym (value_width fs b t.1 ∙ t.3)) (signal_bounded s fs h a t.0) (signal_bounded s fs h b t.1)
+    op_bounded s op (value_signal fs a) (value_signal fs b)
+    (value_width fs a t.0 ∙ t.2 ∙ sym (value_width fs b t.1 ∙ t.3)) (signal_bounded s fs h a t.0)
+    (signal_bounded s fs h b t.1)
 signal_bounded s fs h (Cat a width b) t =
     let p = signal_bounded s fs h a t.0 in
     let q = signal_bounded s fs h b t.1 in
@@ -67,7 +69,9 @@ signal_bounded s fs h (Choose c a b) t =
     record {
       low = p.low;
       high = p.high;
-      fits = mux_below (value_signal fs a).width ((value_signal fs c).value s) ((value_signal fs a).value s) ((value_signal fs b).value s) p.fits (as_wide ((value_signal fs b).value s) (value_signal fs b).width (value_signal fs a).width e q.fits);
+      fits =
+          mux_below (value_signal fs a).width ((value_signal fs c).value s) ((value_signal fs a).value s)
+          ((value_signal fs b).value s) p.fits (as_wide ((value_signal fs b).value s) (value_signal fs b).width (value_signal fs a).width e q.fits);
     }
 
 -- VALUES
@@ -91,7 +95,8 @@ signal_value s fs h (Binary op width a b) t =
     ∙ rw (value_width fs a t.0 ∙ t.2, signal_value s fs h a t.0, signal_value s fs h b t.1) refl
 signal_value s fs h (Cat a width b) t = rw (value_width fs b t.1 ∙ t.2, signal_value s fs h a t.0, signal_value s fs h b t.1) refl
 signal_value s fs h (LessSigned width a b) t =
-    lts_value s (value_signal fs a) (value_signal fs b) width (value_of a (values_in s fs)) (value_of b (values_in s fs)) (value_width fs a t.0 ∙ t.2) (value_width fs b t.1 ∙ t.3)
+    lts_value s (value_signal fs a) (value_signal fs b) width (value_of a (values_in s fs))
+    (value_of b (values_in s fs)) (value_width fs a t.0 ∙ t.2) (value_width fs b t.1 ∙ t.3)
     (signal_value s fs h a t.0) (signal_value s fs h b t.1)
 signal_value s fs h (ZeroExtend wide a) t = zext_value wide (value_signal fs a) s ∙ ap words.zext (signal_value s fs h a t.0)
 signal_value s fs h (SignExtend width wide a) t =

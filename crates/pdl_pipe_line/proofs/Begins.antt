@@ -18,8 +18,10 @@ goes_there (flat.Goes to) q e = (replicate 0 0, ap Some (eqb-true to q e))
 goes_there (flat.Forks x first second) q e = at (first == q) refl e
   where
     at : (b : Bool) → (first == q) ≡ b → (b || (second == q)) ≡ true → (env : List ℕ) × (goes_to (flat.Forks x first second) env ≡ Some q)
-    at true h k = (replicate (suc x) 1, ap (λ n. Some (if n == 1 then first else second)) (get_or-replicate (suc x) x 1 0 (omega arith)) ∙ ap Some (eqb-true first q h))
-    at false h k = (replicate (suc x) 0, ap (λ n. Some (if n == 1 then first else second)) (get_or-replicate (suc x) x 0 0 (omega arith)) ∙ ap Some (eqb-true second q k))
+    at true h k =
+        (replicate (suc x) 1, ap (λ n. Some (if n == 1 then first else second)) (get_or-replicate (suc x) x 1 0 (omega arith)) ∙ ap Some (eqb-true first q h))
+    at false h k =
+        (replicate (suc x) 0, ap (λ n. Some (if n == 1 then first else second)) (get_or-replicate (suc x) x 0 0 (omega arith)) ∙ ap Some (eqb-true second q k))
 
 -- where threads go to later stages, stages lead to later ones
 pub leads_up : (p : Pipe) → LeadsOn p → (j q : ℕ)

@@ -49,7 +49,8 @@ module _ (f : Form) (nexts : List Signal) (answers : ℕ → ℕ → AnswerSigna
     pub made_views_same : views_in b ss ≡ views_in a ss
     made_views_same =
         ap (λ vs k. get_or vs k no_view)
-        (map_each (view_in b) (view_in a) (λ s. view_in b s ≡ view_in a s) (λ s h. h) ss (each_stage (λ s. view_in b s ≡ view_in a s) ss (λ k s l is. view_same a b f nexts k s e (stage_is a k s (all k s l is)))))
+        (map_each (view_in b) (view_in a) (λ s. view_in b s ≡ view_in a s)
+        (λ s h. h) ss (each_stage (λ s. view_in b s ≡ view_in a s) ss (λ k s l is. view_same a b f nexts k s e (stage_is a k s (all k s l is)))))
 
     -- and are as they were made
     pub made_keep : AreStaged b f nexts answers ls ss
@@ -118,7 +119,8 @@ line_made a c e d x nexts answers ls low high staged apart ac line ce takes ed w
 
 -- ---- a made line looks the same in all its circuits
 
-module _ (a c d : Circuit) (x : StageLine) (nexts : List Signal) (answers : ℕ → ℕ → AnswerSignals) (ls : Locks) (made : IsLineMade a c d x nexts answers ls) where
+module _ (a c d : Circuit) (x : StageLine) (nexts : List Signal) (answers : ℕ → ℕ → AnswerSignals) (ls : Locks)
+    (made : IsLineMade a c d x nexts answers ls) where
   pub views_before : line_views c x ≡ line_views a x
   views_before = made_views_same (line_form x) nexts answers ls x.stages.now a c made.before made.staged
 

@@ -80,7 +80,8 @@ module _ (p : Pipe) (vs : ℕ → View) (moves : ℕ → Signal) where
       → AllBring (comer_item i) 0 (new_from vs moves n k)
   new_bring i f zero k h short = tt
   new_bring i f (suc n) k h short =
-      bring_append (comer_item i) 0 (map (new_by (moves k)) (vs k).ended.births) (new_from vs moves n (suc k)) (calls_bring p i f (moves k) (vs k).ended.births h (short k (omega arith) (omega arith)))
+      bring_append (comer_item i) 0 (map (new_by (moves k)) (vs k).ended.births) (new_from vs moves n (suc k))
+      (calls_bring p i f (moves k) (vs k).ended.births h (short k (omega arith) (omega arith)))
       (new_bring i f n (suc k) h (λ j m q. short j (omega (arith, m)) (omega (arith, q))))
 
   -- into stage 0 new threads alone come
@@ -89,7 +90,8 @@ module _ (p : Pipe) (vs : ℕ → View) (moves : ℕ → Signal) where
   zero_stays c short i f h =
       let const = zero_const p i f h in
       subst (λ os. Becomes c f (first_coming (comer_item i) os f)) (none_left p vs moves (length p.stages) refl)
-      (constant_stays c (comer_item i) const.0 0 f (new_from vs moves (length p.stages) 0) const.1 (new_bring i f (length p.stages) 0 h (λ j a b. short j (omega (arith, b)))))
+      (constant_stays c (comer_item i) const.0 0 f (new_from vs moves (length p.stages) 0) const.1
+      (new_bring i f (length p.stages) 0 h (λ j a b. short j (omega (arith, b)))))
 
   -- ---- threads out of other stages
 
@@ -110,7 +112,8 @@ module _ (p : Pipe) (vs : ℕ → View) (moves : ℕ → Signal) where
   common_stays c k i f h =
       let const = h.constant in
       subst (λ os. Becomes c f (first_coming (comer_item i) os f)) (after_first p vs moves (suc k) (ne_eqb (suc k) 0 (λ e. omega (arith, e))))
-      (constant_stays c (comer_item i) const.0 const.1 f (map (out_of p vs moves (suc k)) (ways p (suc k))) const.2 (ways_bring (suc k) (ways p (suc k)) i const.0 const.1 f const.2 h.same))
+      (constant_stays c (comer_item i) const.0 const.1 f (map (out_of p vs moves (suc k)) (ways p (suc k))) const.2
+      (ways_bring (suc k) (ways p (suc k)) i const.0 const.1 f const.2 h.same))
 
   pub settled_stays : (c : Circuit) → ((j : ℕ) → j < length p.stages → AreShort (length p.start) (vs j).ended.births) → (k : ℕ) (i : Item) (f : Signal)
       → IsSettled p vs k i f → Becomes c f (first_coming (comer_item i) (comers p vs moves k) f)
@@ -119,7 +122,8 @@ module _ (p : Pipe) (vs : ℕ → View) (moves : ℕ → Signal) where
 
   -- ---- items that all come with alike
 
-  way_alike : (q j : ℕ) (i i' : Item) → ended_item (vs j) i ≡ ended_item (vs j) i' → comer_item i (out_of p vs moves q j) ≡ comer_item i' (out_of p vs moves q j)
+  way_alike : (q j : ℕ) (i i' : Item) → ended_item (vs j) i ≡ ended_item (vs j) i'
+      → comer_item i (out_of p vs moves q j) ≡ comer_item i' (out_of p vs moves q j)
   way_alike q j i i' e = comer_ends q j i ∙ e ∙ sym (comer_ends q j i')
     where
       comer_ends : (q j : ℕ) (i : Item) → comer_item i (out_of p vs moves q j) ≡ ended_item (vs j) i
@@ -138,7 +142,8 @@ module _ (p : Pipe) (vs : ℕ → View) (moves : ℕ → Signal) where
       → first_coming (comer_item i) (comers p vs moves k) f ≡ first_coming (comer_item i') (comers p vs moves k) f
   arrives_alike zero i i' f l h = absurd (omega (arith, l))
   arrives_alike (suc k) i i' f l h =
-      subst (λ os. first_coming (comer_item i) os f ≡ first_coming (comer_item i') os f) (after_first p vs moves (suc k) (ne_eqb (suc k) 0 (λ e. omega (arith, e))))
+      subst (λ os. first_coming (comer_item i) os f ≡ first_coming (comer_item i') os f)
+      (after_first p vs moves (suc k) (ne_eqb (suc k) 0 (λ e. omega (arith, e))))
       (ways_alike (suc k) (ways p (suc k)) i i' f h)
 
 -- ---- answers
@@ -159,7 +164,8 @@ settled_unanswered p begins us zero (Ticket m) f h = refl
 settled_unanswered p begins us zero (Guess i) f h = refl
 settled_unanswered p begins us (suc k) i f h = h.unanswered
 
-module _ (c : Circuit) (f : Form) (nexts : List Signal) (answers : ℕ → ℕ → AnswerSignals) (k : ℕ) (s : StageNets) (there : IsThereBegun c f nexts s) (answered : HasAnswered c f answers k s) where
+module _ (c : Circuit) (f : Form) (nexts : List Signal) (answers : ℕ → ℕ → AnswerSignals) (k : ℕ) (s : StageNets)
+    (there : IsThereBegun c f nexts s) (answered : HasAnswered c f answers k s) where
   variable_unanswered : (x : ℕ) → gets_answer f.pipe k x ≡ false → signal_at (signals_in c s.begun) x ≡ signal_at (signals_in c s.vars) x
   variable_unanswered x e = at (cases_lt x (length f.widths))
     where
@@ -170,7 +176,8 @@ module _ (c : Circuit) (f : Form) (nexts : List Signal) (answers : ℕ → ℕ �
           let n' = ap length there.begun_wide in
           let m = length_widths (signals_in c s.vars) in
           let m' = ap length there.vars_wide in
-          get_or_past (signals_in c s.begun) x no_signal (omega (arith, high, n, n')) ∙ sym (get_or_past (signals_in c s.vars) x no_signal (omega (arith, high, m, m')))
+          get_or_past (signals_in c s.begun) x no_signal (omega (arith, high, n, n'))
+          ∙ sym (get_or_past (signals_in c s.vars) x no_signal (omega (arith, high, m, m')))
 
   -- so it is held as it was kept
   pub held_as_kept : (i : Item) → is_answered f.pipe k i ≡ false → held_item (view_in c s) i ≡ kept_item (view_in c s) i

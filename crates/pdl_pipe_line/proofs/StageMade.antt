@@ -66,7 +66,8 @@ own_guess p k i l e = ap₂ (λ a b. a && b) e (le-leb (suc i) (length p.start) 
 
 -- ---- a stage
 
-module _ (a c d : Circuit) (x : StageLine) (nexts : List Signal) (answers : ℕ → ℕ → AnswerSignals) (ls : Locks) (begins : BeginsFirst (line_pipe x)) (made : IsLineMade a c d x nexts answers ls) where
+module _ (a c d : Circuit) (x : StageLine) (nexts : List Signal) (answers : ℕ → ℕ → AnswerSignals) (ls : Locks)
+    (begins : BeginsFirst (line_pipe x)) (made : IsLineMade a c d x nexts answers ls) where
   staged : AreStaged c (line_form x) nexts answers ls x.stages.now
   staged = made_keep (line_form x) nexts answers ls x.stages.now a c made.before made.staged
 
@@ -85,7 +86,8 @@ module _ (a c d : Circuit) (x : StageLine) (nexts : List Signal) (answers : ℕ 
     st = staged k s low is
 
     -- what the register of an item holds where no thread comes
-    module _ (i : Item) (j : ℕ) (l : j < length s.regs.items) (same : item_at s.regs.items j ≡ i) (reg : kept_item (view_in c s) i ≡ reg_signal (item_width (line_form x) nexts i) (reg_of s.regs j)) where
+    module _ (i : Item) (j : ℕ) (l : j < length s.regs.items) (same : item_at s.regs.items j ≡ i)
+        (reg : kept_item (view_in c s) i ≡ reg_signal (item_width (line_form x) nexts i) (reg_of s.regs j)) where
       reg_now : signal c (RegNet (reg_of s.regs j)) ≡ reg_signal (item_width (line_form x) nexts i) (reg_of s.regs j)
       reg_now = (st.registers.kept j l).same ∙ ap (λ y. reg_signal (item_width (line_form x) nexts y) (reg_of s.regs j)) same
 
@@ -101,12 +103,16 @@ module _ (a c d : Circuit) (x : StageLine) (nexts : List Signal) (answers : ℕ 
       takes : ValueAs (next_signal d (reg_of s.regs j)) (arriving c x k (Some i) (held_item (view_in c s) i))
       takes =
           subst (λ g. ValueAs (next_signal d (reg_of s.regs j)) (arriving c x k (Some i) g)) kept_is
-          (subst (λ (y : Item). ValueAs (next_signal d (reg_of s.regs j)) (arriving c x k (Some y) (kept_signal c s j y))) same ((made.takes k s low is).kept j l))
+          (subst
+          (λ (y : Item). ValueAs (next_signal d (reg_of s.regs j)) (arriving c x k (Some y) (kept_signal c s j y))) same
+          ((made.takes k s low is).kept j l))
 
       reg_next : Becomes d (kept_item (view_in c s) i) (arriving c x k (Some i) (held_item (view_in c s) i))
       reg_next =
           subst (λ (g : Signal). Becomes d g (arriving c x k (Some i) (held_item (view_in c s) i))) (sym reg)
-          (becomes_next d (item_width (line_form x) nexts i) (reg_of s.regs j) (arriving c x k (Some i) (held_item (view_in c s) i)) (made.after.has_reg (reg_of s.regs j) (st.registers.kept j l).has) takes)
+          (becomes_next d (item_width (line_form x) nexts i) (reg_of s.regs j)
+          (arriving c x k (Some i) (held_item (view_in c s) i))
+          (made.after.has_reg (reg_of s.regs j) (st.registers.kept j l).has) takes)
 
     -- what an item becomes: what the comers bring, else what the stage holds
     abbrev Goes : Item → Type 0
@@ -115,7 +121,8 @@ module _ (a c d : Circuit) (x : StageLine) (nexts : List Signal) (answers : ℕ 
     settled_next : (i : Item) → IsSettled (line_pipe x) (line_views c x) k i (kept_item (view_in c s) i) → Goes i
     settled_next i h =
         let un = settled_unanswered (line_pipe x) begins (line_views c x) k i (kept_item (view_in c s) i) h in
-        subst (λ (g : Signal). Becomes d (kept_item (view_in c s) i) (arriving c x k (Some i) g)) (sym (held_as_kept c (line_form x) nexts answers k s st.nets st.answered i un))
+        subst (λ (g : Signal). Becomes d (kept_item (view_in c s) i) (arriving c x k (Some i) g))
+        (sym (held_as_kept c (line_form x) nexts answers k s st.nets st.answered i un))
         (settled_stays (line_pipe x) (line_views c x) (line_moves c x) d short k i (kept_item (view_in c s) i) h)
 
     begun_next : (i : Item) → IsBegunBy (line_form x) nexts s.regs i (kept_item (view_in c s) i) (IsSettled (line_pipe x) (line_views c x) k i) → Goes i
@@ -127,11 +134,14 @@ module _ (a c d : Circuit) (x : StageLine) (nexts : List Signal) (answers : ℕ 
     alike_next i h =
         let y = h.x in
         let twin = h.twin in
-        let held : held_item (view_in c s) (Var y) ≡ kept_item (view_in c s) (Guess i) = held_as_kept c (line_form x) nexts answers k s st.nets st.answered (Var y) twin.unanswered ∙ sym h.is in
-        let comes = arrives_alike (line_pipe x) (line_views c x) (line_moves c x) k (Guess i) (Var y) (held_item (view_in c s) (Guess i)) twin.later twin.same in
+        let held : held_item (view_in c s) (Var y) ≡ kept_item (view_in c s) (Guess i) =
+        held_as_kept c (line_form x) nexts answers k s st.nets st.answered (Var y) twin.unanswered ∙ sym h.is in
+        let comes =
+        arrives_alike (line_pipe x) (line_views c x) (line_moves c x) k (Guess i) (Var y) (held_item (view_in c s) (Guess i)) twin.later twin.same in
         subst (λ (g : Signal). Becomes d (kept_item (view_in c s) (Guess i)) g) (sym comes)
         (subst (λ (g : Signal). Becomes d (kept_item (view_in c s) (Guess i)) (arriving c x k (Some (Var y)) g)) held
-        (subst (λ (g : Signal). Becomes d g (arriving c x k (Some (Var y)) (held_item (view_in c s) (Var y)))) (sym h.is) (begun_next (Var y) (st.kept (Var y) twin.needed))))
+        (subst (λ (g : Signal). Becomes d g (arriving c x k (Some (Var y)) (held_item (view_in c s) (Var y))))
+        (sym h.is) (begun_next (Var y) (st.kept (Var y) twin.needed))))
 
     -- each item that is needed becomes so
     item_next : (i : Item) → is_needed (line_pipe x) k i ≡ true → Goes i
@@ -140,14 +150,18 @@ module _ (a c d : Circuit) (x : StageLine) (nexts : List Signal) (answers : ℕ 
     item_next (Ticket m) need = begun_next (Ticket m) (st.kept (Ticket m) need)
     item_next (Guess i) need = by (st.kept (Guess i) need)
       where
-        by : IsBegunBy (line_form x) nexts s.regs (Guess i) (kept_item (view_in c s) (Guess i)) (IsSpared (line_pipe x) (line_views c x) k (signals_in c s.vars) (Guess i)) → Goes (Guess i)
+        by : IsBegunBy (line_form x) nexts s.regs (Guess i) (kept_item (view_in c s) (Guess i))
+            (IsSpared (line_pipe x) (line_views c x) k (signals_in c s.vars) (Guess i))
+            → Goes (Guess i)
         by (inl h) = reg_next (Guess i) h.0 h.1 h.2 h.3
         by (inr (inl h)) = settled_next (Guess i) h
         by (inr (inr h)) = alike_next i h
 
     -- whether it holds a thread becomes whether one comes, else whether its own stays
     valid_next : Becomes d (reg_signal 1 s.regs.valid) (arriving c x k None (staying c x k s))
-    valid_next = becomes_next d 1 s.regs.valid (arriving c x k None (staying c x k s)) (made.after.has_reg s.regs.valid st.registers.valid.has) (made.takes k s low is).valid
+    valid_next =
+        becomes_next d 1 s.regs.valid (arriving c x k None (staying c x k s))
+        (made.after.has_reg s.regs.valid st.registers.valid.has) (made.takes k s low is).valid
 
     guess_count : length (signals_in c s.guess) ≡ length (line_pipe x).start
     guess_count =
@@ -160,17 +174,30 @@ module _ (a c d : Circuit) (x : StageLine) (nexts : List Signal) (answers : ℕ 
     here : line_views c x k ≡ view_in c s
     here = view_at c x.stages.now k s low is
 
-    module _ (gates : Gates) (next_is : AreNextTickets (line_pipe x) ls nexts) (kill : gates.kill k ≡ line_kills c x k) (leaves : Same d (line_moves c x k) (moves_where (line_pipe x) (line_views c x) gates.gate (line_moves c x) k)) where
+    module _ (gates : Gates) (next_is : AreNextTickets (line_pipe x) ls nexts) (kill : gates.kill k ≡ line_kills c x k)
+        (leaves : Same d (line_moves c x k) (moves_where (line_pipe x) (line_views c x) gates.gate (line_moves c x) k)) where
       stage_made : IsStage (line_pipe x) ls d (line_views c x) gates (line_moves c x) k
       stage_made = record {
-        rows = subst (λ (u : View). AreRows d (line_pipe x) ls u.tickets (in_stage k (line_pipe x).stmts) u.begun u.ended) (sym here) (st.rows d made.after made.well);
-        fresh = subst (λ (u : View). IsFresh u.begun) (sym here) (record { ready = refl; reserves = refl; puts = refl; lettings = refl; births = refl; asks = refl; fails = refl; barrier = refl });
+        rows =
+            subst (λ (u : View). AreRows d (line_pipe x) ls u.tickets (in_stage k (line_pipe x).stmts) u.begun u.ended)
+            (sym here) (st.rows d made.after made.well);
+        fresh =
+            subst (λ (u : View). IsFresh u.begun) (sym here)
+            (record { ready = refl; reserves = refl; puts = refl; lettings = refl; births = refl; asks = refl; fails = refl; barrier = refl });
         leaves = leaves;
-        valid_start = subst (λ (u : View). StartsAs d u.valid (if k == 0 then 1 else 0)) (sym here) (starts_at c d made.after 1 s.regs.valid _ st.registers.valid);
-        valid = subst (λ (u : View). Becomes d u.valid (arriving c x k None (mux_signal (line_moves c x k) zero_bit (mux_signal (gates.kill k) zero_bit u.valid)))) (sym here)
-            (subst (λ (g : Signal). Becomes d (reg_signal 1 s.regs.valid) (arriving c x k None (mux_signal (line_moves c x k) zero_bit (mux_signal g zero_bit (reg_signal 1 s.regs.valid))))) (sym kill) valid_next);
+        valid_start =
+            subst (λ (u : View). StartsAs d u.valid (if k == 0 then 1 else 0)) (sym here) (starts_at c d made.after 1 s.regs.valid _ st.registers.valid);
+        valid =
+            subst (λ (u : View). Becomes d u.valid (arriving c x k None (mux_signal (line_moves c x k) zero_bit (mux_signal (gates.kill k) zero_bit u.valid))))
+            (sym here)
+            (subst
+            (λ (g : Signal). Becomes d (reg_signal 1 s.regs.valid)
+            (arriving c x k None (mux_signal (line_moves c x k) zero_bit (mux_signal g zero_bit (reg_signal 1 s.regs.valid)))))
+            (sym kill) valid_next);
         vars = λ y need. subst (λ (u : View). Becomes d (u.kept y) (arriving c x k (Some (Var y)) (u.begun.vars y))) (sym here) (item_next (Var y) need);
-        held = λ m v need. subst (λ (u : View). Becomes d (u.begun.held m v) (arriving c x k (Some (Held m v)) (u.begun.held m v))) (sym here) (item_next (Held m v) need);
+        held =
+            λ m v need. subst (λ (u : View). Becomes d (u.begun.held m v) (arriving c x k (Some (Held m v)) (u.begun.held m v)))
+            (sym here) (item_next (Held m v) need);
         guess_long = subst (λ (u : View). length u.begun.guess ≡ length (line_pipe x).start) (sym here) guess_count;
         guess = λ i l need.
             subst (λ (u : View). Becomes d (signal_at u.begun.guess i) (arriving c x k (Some (Guess i)) (signal_at u.begun.guess i))) (sym here)

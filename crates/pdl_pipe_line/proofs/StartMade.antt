@@ -30,7 +30,8 @@ use Rattle.pdl_pipe_line.proofs.StageMade.{starts_at}
 starts_zero : (d : Circuit) (p : Pipe) (i : Item) (g : Signal) → IsZero p i g → StartsAs d g (first_value p 0 i)
 starts_zero d p (Var x) g h =
     let const = h.1 in
-    subst (λ (y : Signal). StartsAs d y (slice_index p.start x)) (sym const.1) (subst (StartsAs d (const_signal const.0 0)) (sym (get_or_past p.start x 0 h.0)) (starts_const d const.0 0))
+    subst (λ (y : Signal). StartsAs d y (slice_index p.start x)) (sym const.1)
+    (subst (StartsAs d (const_signal const.0 0)) (sym (get_or_past p.start x 0 h.0)) (starts_const d const.0 0))
 starts_zero d p (Held m v) g h = subst (λ (y : Signal). StartsAs d y 0) (sym h) (starts_const d 1 0)
 starts_zero d p (Ticket m) g h = subst (λ (y : Signal). StartsAs d y 0) (sym h) (starts_const d 1 0)
 starts_zero d p (Guess i) g h = subst (λ (y : Signal). StartsAs d y 0) (sym h.1) (starts_const d h.0 0)
@@ -43,13 +44,15 @@ first_settled p us vars (Ticket m) g h = h
 first_settled p us vars (Guess i) g (inl h) = h
 first_settled p us vars (Guess i) g (inr h) = let l = h.twin.later in absurd (omega (arith, l))
 
-module _ (c d : Circuit) (f : Form) (nexts : List Signal) (answers : ℕ → ℕ → AnswerSignals) (ls : Locks) (ss : List StageNets) (keeps : Keeps c d) (s : StageNets) (st : IsStaged c f nexts answers ls ss 0 s) where
+module _ (c d : Circuit) (f : Form) (nexts : List Signal) (answers : ℕ → ℕ → AnswerSignals) (ls : Locks)
+    (ss : List StageNets) (keeps : Keeps c d) (s : StageNets) (st : IsStaged c f nexts answers ls ss 0 s) where
   starts_item : (i : Item) → is_needed f.pipe 0 i ≡ true → StartsAs d (kept_item (view_in c s) i) (first_value f.pipe 0 i)
   starts_item i need = by (st.kept i need)
     where
       by : IsBegunBy f nexts s.regs i (kept_item (view_in c s) i) (IsSpared f.pipe (views_in c ss) 0 (signals_in c s.vars) i)
           → StartsAs d (kept_item (view_in c s) i) (first_value f.pipe 0 i)
-      by (inr h) = starts_zero d f.pipe i (kept_item (view_in c s) i) (first_settled f.pipe (views_in c ss) (signals_in c s.vars) i (kept_item (view_in c s) i) h)
+      by (inr h) =
+          starts_zero d f.pipe i (kept_item (view_in c s) i) (first_settled f.pipe (views_in c ss) (signals_in c s.vars) i (kept_item (view_in c s) i) h)
       by (inl h) =
           let j = h.0 in
           let l : j < length s.regs.items = h.1 in
@@ -57,7 +60,8 @@ module _ (c d : Circuit) (f : Form) (nexts : List Signal) (answers : ℕ → ℕ
           let reg : kept_item (view_in c s) i ≡ reg_signal (item_width f nexts i) (reg_of s.regs j) = h.3 in
           subst (λ (y : Signal). StartsAs d y (first_value f.pipe 0 i)) (sym reg)
           (subst (λ (y : Item). StartsAs d (reg_signal (item_width f nexts y) (reg_of s.regs j)) (first_value f.pipe 0 y)) same
-          (starts_at c d keeps (item_width f nexts (item_at s.regs.items j)) (reg_of s.regs j) (first_value f.pipe 0 (item_at s.regs.items j)) (st.registers.kept j l)))
+          (starts_at c d keeps (item_width f nexts (item_at s.regs.items j)) (reg_of s.regs j)
+          (first_value f.pipe 0 (item_at s.regs.items j)) (st.registers.kept j l)))
 
 -- a line that was made starts as the law of the netlist asks, where threads begin in the first stage
 pub is_start : (a c d : Circuit) (x : StageLine) (nexts : List Signal) (answers : ℕ → ℕ → AnswerSignals) (ls : Locks)
@@ -73,6 +77,9 @@ is_start a c d x nexts answers ls begins made =
     record {
       long = begins.params;
       vars = λ y need. subst (λ (u : View). StartsAs d (u.kept y) (slice_index (start_env p p.start) y)) (sym here)
-          (subst (StartsAs d (kept_item (view_in c s) (Var y))) (sym (padded_at p.start (p.vars - length p.start) y)) (starts_item c d (line_form x) nexts answers ls ss made.after s st (Var y) need));
-      held = λ m v need. subst (λ (u : View). StartsAs d (u.begun.held m v) 0) (sym here) (starts_item c d (line_form x) nexts answers ls ss made.after s st (Held m v) need);
+          (subst (StartsAs d (kept_item (view_in c s) (Var y))) (sym (padded_at p.start (p.vars - length p.start) y))
+          (starts_item c d (line_form x) nexts answers ls ss made.after s st (Var y) need));
+      held =
+          λ m v need. subst (λ (u : View). StartsAs d (u.begun.held m v) 0) (sym here)
+          (starts_item c d (line_form x) nexts answers ls ss made.after s st (Held m v) need);
     }

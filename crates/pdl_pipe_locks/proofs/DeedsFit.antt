@@ -72,13 +72,17 @@ all_reserves_fit : (m bits : ℕ) (vs : ℕ → View) (moves : ℕ → Signal) (
     → ((j : ℕ) → Each (ReserveFits bits) (reserves_to m (moves j) (vs j).ended.reserves))
     → Each (ReserveFits bits) (all_reserves m vs moves n k)
 all_reserves_fit m bits vs moves zero k h = tt
-all_reserves_fit m bits vs moves (suc n) k h = each_append (ReserveFits bits) (all_reserves m vs moves n (suc k)) (reserves_to m (moves k) (vs k).ended.reserves) (all_reserves_fit m bits vs moves n (suc k) h) (h k)
+all_reserves_fit m bits vs moves (suc n) k h =
+    each_append (ReserveFits bits) (all_reserves m vs moves n (suc k)) (reserves_to m (moves k) (vs k).ended.reserves)
+    (all_reserves_fit m bits vs moves n (suc k) h) (h k)
 
 all_puts_fit : (m width tickets : ℕ) (vs : ℕ → View) (moves : ℕ → Signal) (n k : ℕ)
     → ((j : ℕ) → Each (WriteFits width tickets) (puts_to m (moves j) ((vs j).tickets m) (vs j).ended.puts))
     → Each (WriteFits width tickets) (all_puts m vs moves n k)
 all_puts_fit m width tickets vs moves zero k h = tt
-all_puts_fit m width tickets vs moves (suc n) k h = each_append (WriteFits width tickets) (all_puts m vs moves n (suc k)) (puts_to m (moves k) ((vs k).tickets m) (vs k).ended.puts) (all_puts_fit m width tickets vs moves n (suc k) h) (h k)
+all_puts_fit m width tickets vs moves (suc n) k h =
+    each_append (WriteFits width tickets) (all_puts m vs moves n (suc k))
+    (puts_to m (moves k) ((vs k).tickets m) (vs k).ended.puts) (all_puts_fit m width tickets vs moves n (suc k) h) (h k)
 
 -- what holds of each stage, and of one that does nothing, holds at each number
 views_have : (c : Circuit) (P : View → Type 0) (ds : List StageDeeds) (k : ℕ)
@@ -103,23 +107,35 @@ module _ {T : Type 0} (l : Members T) (c : Circuit) (p : Pipe) (ws : List ℕ) (
   all_given m [] low h = tt
   all_given m (d ∷ ds) low h = (given_of m d low h.0, all_given m ds low h.1)
 
-  views_reserve : (m bits : ℕ) (f : Signal) (ds : List StageDeeds) → 2 ^ bits ≡ (mem_at p m).depth → Each (IsDeed l c p ws xs) ds → Each (λ d. Each (ReserveFits bits) (reserves_to m f (view_in c d).ended.reserves)) ds
+  views_reserve : (m bits : ℕ) (f : Signal) (ds : List StageDeeds) → 2 ^ bits ≡ (mem_at p m).depth
+      → Each (IsDeed l c p ws xs) ds
+      → Each (λ d. Each (ReserveFits bits) (reserves_to m f (view_in c d).ended.reserves)) ds
   views_reserve m bits f [] e h = tt
-  views_reserve m bits f (d ∷ ds) e h = (reserves_fit p m bits f (map (reservation_in c) d.ended.now.reserves) e h.0.walk.sized.reserves, views_reserve m bits f ds e h.1)
+  views_reserve m bits f (d ∷ ds) e h =
+      (reserves_fit p m bits f (map (reservation_in c) d.ended.now.reserves) e h.0.walk.sized.reserves, views_reserve m bits f ds e h.1)
 
   views_put : (m : ℕ) (x : MemLock T) (f : Signal) (ds : List StageDeeds) → m < length xs → some_at xs m ≡ Some x → Each (IsDeed l c p ws xs) ds
       → Each (λ d. Each (WriteFits (mem_at p m).width (l.tickets x.lock)) (puts_to m f ((view_in c d).tickets m) (view_in c d).ended.puts)) ds
   views_put m x f [] low e h = tt
-  views_put m x f (d ∷ ds) low e h = (puts_fit p m (l.tickets x.lock) f ((view_in c d).tickets m) (map (put_in c) d.ended.now.puts) (h.0.tickets.wide m x low e) h.0.walk.sized.puts, views_put m x f ds low e h.1)
+  views_put m x f (d ∷ ds) low e h = (
+    puts_fit p m (l.tickets x.lock) f ((view_in c d).tickets m) (map (put_in c) d.ended.now.puts) (h.0.tickets.wide m x low e) h.0.walk.sized.puts,
+    views_put m x f ds low e h.1,
+  )
 
-  pub signals_fit : (m : ℕ) (x : MemLock T) (ds : List StageDeeds) → m < length xs → some_at xs m ≡ Some x → IsLockIn l c (comb_place p m) (mem_at p m) x → Each (IsDeed l c p ws xs) ds → (squash : Net) (tails : List Net) → AreSquashNets l c xs squash tails
+  pub signals_fit : (m : ℕ) (x : MemLock T) (ds : List StageDeeds) → m < length xs → some_at xs m ≡ Some x
+      → IsLockIn l c (comb_place p m) (mem_at p m) x → Each (IsDeed l c p ws xs) ds → (squash : Net) (tails : List Net)
+      → AreSquashNets l c xs squash tails
       → SignalsFit x.regs.bits x.regs.width (l.tickets x.lock) (signals_of c ds m (signal c squash) (tickets_in c tails m))
   signals_fit m x ds low e i h squash tails s = record {
     reserves = all_reserves_fit m x.regs.bits (views_in c ds) (moves_in c ds) (length ds) 0
-        (λ j. views_have c (λ v. Each (ReserveFits x.regs.bits) (reserves_to m (moves_in c ds j) v.ended.reserves)) ds j tt (views_reserve m x.regs.bits (moves_in c ds j) ds i.bits h));
+        (λ j. views_have c
+        (λ v. Each (ReserveFits x.regs.bits) (reserves_to m (moves_in c ds j) v.ended.reserves)) ds j tt
+        (views_reserve m x.regs.bits (moves_in c ds j) ds i.bits h));
     writes = subst (λ w. Each (WriteFits w (l.tickets x.lock)) (all_puts m (views_in c ds) (moves_in c ds) (length ds) 0)) (sym i.wide)
         (all_puts_fit m (mem_at p m).width (l.tickets x.lock) (views_in c ds) (moves_in c ds) (length ds) 0
-        (λ j. views_have c (λ v. Each (WriteFits (mem_at p m).width (l.tickets x.lock)) (puts_to m (moves_in c ds j) (v.tickets m) v.ended.puts)) ds j tt (views_put m x (moves_in c ds j) ds low e h)));
+        (λ j. views_have c
+        (λ v. Each (WriteFits (mem_at p m).width (l.tickets x.lock)) (puts_to m (moves_in c ds j) (v.tickets m) v.ended.puts)) ds j tt
+        (views_put m x (moves_in c ds j) ds low e h)));
     release = released_one m (views_in c ds) (moves_in c ds) (length ds) 0;
     release2 = refl;
     squash = s.one;

@@ -43,19 +43,26 @@ step_is s p ds squash tails vs gates goes m count low of beside =
     let reserves = same_reserves m (views_in s ds) vs (moves_in s ds) goes n 0 moves (λ j u. ap (λ (w : Walk). w.reserves) (ended j u)) in
     let puts = same_puts m (views_in s ds) vs (moves_in s ds) goes n 0 moves tickets (λ j u. ap (λ (w : Walk). w.puts) (ended j u)) in
     let release = same_released m (views_in s ds) vs (moves_in s ds) goes n 0 moves (λ j u. ap (λ (w : Walk). w.lettings) (ended j u)) in
-    let F = λ (r : List ReserveSignal) (w : List TicketSignal) (x y z : Signal). (let f : StepSignals = record { reserves = r; writes = w; release = x; release2 = zero_bit; squash = y; tail = z } in f) in
+    let F =
+    λ (r : List ReserveSignal) (w : List TicketSignal)
+    (x y z : Signal). (let f : StepSignals = record { reserves = r; writes = w; release = x; release2 = zero_bit; squash = y; tail = z } in f) in
     let f = steps_in s p ds squash tails m in
     let g = step_of p vs gates goes m in
-    let same : F f.reserves f.writes f.release f.squash f.tail ≡ F g.reserves g.writes g.release g.squash g.tail = cc (reserves, puts, release, sym beside.squash, sym (beside.tail m low)) in
+    let same : F f.reserves f.writes f.release f.squash f.tail ≡ F g.reserves g.writes g.release g.squash g.tail =
+    cc (reserves, puts, release, sym beside.squash, sym (beside.tail m low)) in
     same
 
 -- the locks' signals as they are in the circuit a, their steps begun in s and made in b, and the whole netlist c
-module _ {T : Type 0} (l : Members T) (stays : Stays l) (p : Pipe) (xs : List (Option (MemLock T))) (ds : List StageDeeds) (squash : Net) (tails : List Net) (ns : List (Option LockNets)) (vs : ℕ → View) (gates : Gates) (goes : ℕ → Signal) (a s b c : Circuit)
-    (locked : AreLocked l a p xs) (lawful : AreLawful l a p xs) (count : length ds ≡ length p.stages) (of : AreOf s ds vs goes) (beside : AreGatesOf s p squash tails gates)
+module _ {T : Type 0} (l : Members T) (stays : Stays l) (p : Pipe) (xs : List (Option (MemLock T)))
+    (ds : List StageDeeds) (squash : Net) (tails : List Net) (ns : List (Option LockNets)) (vs : ℕ → View)
+    (gates : Gates) (goes : ℕ → Signal) (a s b c : Circuit)
+    (locked : AreLocked l a p xs) (lawful : AreLawful l a p xs) (count : length ds ≡ length p.stages)
+    (of : AreOf s ds vs goes) (beside : AreGatesOf s p squash tails gates)
     (stepped : AreStepped l b p (steps_in s p ds squash tails) xs ns (length p.mems))
     (whole : Keeps a c) (after : Keeps b c) (m : ℕ) (low : m < length p.mems) (kept : OwnKept (own_of (some_at xs m)) b c) where
   -- the laws of its nets
-  goes_on_of : (x : MemLock T) (n : LockNets) → some_at xs m ≡ Some x → some_at ns m ≡ Some n → GoesOn p (locks_in l p a xs) c vs gates goes (own_of (some_at xs m)) (commits_in c ns m) m
+  goes_on_of : (x : MemLock T) (n : LockNets) → some_at xs m ≡ Some x → some_at ns m ≡ Some n
+      → GoesOn p (locks_in l p a xs) c vs gates goes (own_of (some_at xs m)) (commits_in c ns m) m
   goes_on_of x n e q =
       let ls = locks_in l p a xs in
       let it = (locked_kept l a c p xs whole stays locked).locks m x low e in
@@ -66,17 +73,21 @@ module _ {T : Type 0} (l : Members T) (stays : Stays l) (p : Pipe) (xs : List (O
       let size : l.size x.lock ≡ ls.size m = ap (of_lock (λ (y : MemLock T). l.size y.lock) 1) (sym e) in
       let bits : l.tickets x.lock ≡ ls.bits m = ap (of_lock (λ (y : MemLock T). l.tickets y.lock) 1) (sym e) in
       let kind : l.kind x.lock ≡ ls.kind m = ap (kind_in l) (sym e) in
-      let room : signal c x.regs.room ≡ ls.room m = whole.kept x.regs.room (locked.locks m x low e).room_there ∙ ap (of_lock (λ (y : MemLock T). signal a y.regs.room) zero_bit) (sym e) in
-      let ticket : signal c x.regs.ticket ≡ ls.ticket m = whole.kept x.regs.ticket (locked.locks m x low e).ticket_there ∙ ap (of_lock (λ (y : MemLock T). signal a y.regs.ticket) zero_bit) (sym e) in
+      let room : signal c x.regs.room ≡ ls.room m =
+      whole.kept x.regs.room (locked.locks m x low e).room_there ∙ ap (of_lock (λ (y : MemLock T). signal a y.regs.room) zero_bit) (sym e) in
+      let ticket : signal c x.regs.ticket ≡ ls.ticket m =
+      whole.kept x.regs.ticket (locked.locks m x low e).ticket_there ∙ ap (of_lock (λ (y : MemLock T). signal a y.regs.ticket) zero_bit) (sym e) in
       let commit : commit_of c (Some n) ≡ commits_in c ns m = ap (commit_of c) (sym q) in
       let f = steps_in s p ds squash tails m in
       let same : f ≡ step_of p vs gates goes m = step_is s p ds squash tails vs gates goes m count low of beside in
       let own_kept : OwnKept (own x.regs) b c = subst (λ (o : Own). OwnKept o b c) (sym own_is) kept in
       let step = (stepped_kept l b c (mem_at p m) f x n after own_kept ((stepped.each m low).lock x n e q)).law in
-      let S1 : (State → LockState → Type 0) → Type 0 = λ st. StepLaw st (l.size x.lock) (l.tickets x.lock) (own x.regs) c f (signal c n.commit) (signal c n.addr) (signal c n.value) in
+      let S1 : (State → LockState → Type 0) → Type 0 =
+      λ st. StepLaw st (l.size x.lock) (l.tickets x.lock) (own x.regs) c f (signal c n.commit) (signal c n.addr) (signal c n.value) in
       let S2 : ℕ → Type 0 = λ k. StepLaw (ls.stands m) k (l.tickets x.lock) (own x.regs) c f (signal c n.commit) (signal c n.addr) (signal c n.value) in
       let S3 : ℕ → Type 0 = λ k. StepLaw (ls.stands m) (ls.size m) k (own x.regs) c f (signal c n.commit) (signal c n.addr) (signal c n.value) in
-      let S4 : StepSignals → Type 0 = λ g. StepLaw (ls.stands m) (ls.size m) (ls.bits m) (own x.regs) c g (signal c n.commit) (signal c n.addr) (signal c n.value) in
+      let S4 : StepSignals → Type 0 =
+      λ g. StepLaw (ls.stands m) (ls.size m) (ls.bits m) (own x.regs) c g (signal c n.commit) (signal c n.addr) (signal c n.value) in
       let S5 : Commit → Type 0 = λ y. StepLaw (ls.stands m) (ls.size m) (ls.bits m) (own x.regs) c (step_of p vs gates goes m) y.enable y.addr y.value in
       let R1 : (State → LockState → Type 0) → Type 0 = λ st. RoomLaw st (l.size x.lock) (signal c x.regs.room) in
       let R2 : ℕ → Type 0 = λ k. RoomLaw (ls.stands m) k (signal c x.regs.room) in
@@ -101,7 +112,8 @@ module _ {T : Type 0} (l : Members T) (stays : Stays l) (p : Pipe) (xs : List (O
       goes_on_of x n e q
 
   -- it stands for the lock at its start where its registers have their reset values, and its array, where it has one, the image
-  starts_of : (x : MemLock T) → some_at xs m ≡ Some x → (t : State) (image : List ℕ) → IsReset c (own_of (some_at xs m)).from (own_of (some_at xs m)).to t → length image ≡ (mem_at p m).depth
+  starts_of : (x : MemLock T) → some_at xs m ≡ Some x → (t : State) (image : List ℕ)
+      → IsReset c (own_of (some_at xs m)).from (own_of (some_at xs m)).to t → length image ≡ (mem_at p m).depth
       → ((mem_at p m).delayed ≡ false → HasImage ((locks_in l p a xs).kind m) (Some (comb_place p m)) t image) → (locks_in l p a xs).stands m t (start image)
   starts_of x e t image reset long words =
       let ls = locks_in l p a xs in
@@ -110,11 +122,14 @@ module _ {T : Type 0} (l : Members T) (stays : Stays l) (p : Pipe) (xs : List (O
       let stands : l.stands x.lock x.regs ≡ ls.stands m = ap (of_lock (λ (y : MemLock T). l.stands y.lock y.regs) (λ s y. Unit {0})) (sym e) in
       let kind : l.kind x.lock ≡ ls.kind m = ap (kind_in l) (sym e) in
       let reset_here : IsReset c (first_reg x.regs) (end_reg x.regs) t = subst (λ (o : Own). IsReset c o.from o.to t) (ap own_of e) reset in
-      let image_here : HasImage (l.kind x.lock) x.regs.array t image = image_place (mem_at p m) (comb_place p m) x.regs.array it.array (l.kind x.lock) t image (λ u. subst (λ k. HasImage k (Some (comb_place p m)) t image) (sym kind) (words u)) in
+      let image_here : HasImage (l.kind x.lock) x.regs.array t image =
+      image_place (mem_at p m)
+      (comb_place p m) x.regs.array it.array (l.kind x.lock) t image (λ u. subst (λ k. HasImage k (Some (comb_place p m)) t image) (sym kind) (words u)) in
       let P : (State → LockState → Type 0) → Type 0 = λ st. st t (start image) in
       subst P stands (law.start.starts t image reset_here (long ∙ sym it.bits) image_here)
 
-  pub starts : is_locked p m ≡ true → (t : State) (image : List ℕ) → IsReset c (own_of (some_at xs m)).from (own_of (some_at xs m)).to t → length image ≡ (mem_at p m).depth
+  pub starts : is_locked p m ≡ true → (t : State) (image : List ℕ)
+      → IsReset c (own_of (some_at xs m)).from (own_of (some_at xs m)).to t → length image ≡ (mem_at p m).depth
       → ((mem_at p m).delayed ≡ false → HasImage ((locks_in l p a xs).kind m) (Some (comb_place p m)) t image) → (locks_in l p a xs).stands m t (start image)
   starts h = let (x, e) = some_of (some_at xs m) (locked.locked m low ∙ h) in starts_of x e
 
@@ -129,11 +144,17 @@ module _ {T : Type 0} (l : Members T) (stays : Stays l) (p : Pipe) (xs : List (O
   stepped_here =
       let own_kept : (x : MemLock T) → some_at xs m ≡ Some x → OwnKept (own x.regs) b c = λ x e. subst (λ (o : Own). OwnKept o b c) (ap own_of e) kept in
       let f = steps_in s p ds squash tails m in
-      subst (λ (g : StepSignals). IsSteppedMemory l c (mem_at p m) g (some_at xs m) (some_at ns m)) (step_is s p ds squash tails vs gates goes m count low of beside)
-      (record { has = (stepped.each m low).has; lock = λ x n e q. stepped_kept l b c (mem_at p m) f x n after (own_kept x e) ((stepped.each m low).lock x n e q) })
+      subst (λ (g : StepSignals). IsSteppedMemory l c (mem_at p m) g (some_at xs m) (some_at ns m))
+      (step_is s p ds squash tails vs gates goes m count low of beside)
+      (record {
+        has = (stepped.each m low).has;
+        lock = λ x n e q. stepped_kept l b c (mem_at p m) f x n after (own_kept x e) ((stepped.each m low).lock x n e q);
+      })
 
   -- what the memory commits has the memory's widths
-  fits_of : (x : MemLock T) (n : LockNets) → some_at xs m ≡ Some x → some_at ns m ≡ Some n → ((commits_in c ns m).enable.width ≡ 1) × (2 ^ (commits_in c ns m).addr.width ≡ (mem_at p m).depth) × ((commits_in c ns m).value.width ≡ (mem_at p m).width)
+  fits_of : (x : MemLock T) (n : LockNets) → some_at xs m ≡ Some x → some_at ns m ≡ Some n
+      → ((commits_in c ns m).enable.width ≡ 1) × (2 ^ (commits_in c ns m).addr.width ≡ (mem_at p m).depth)
+      × ((commits_in c ns m).value.width ≡ (mem_at p m).width)
   fits_of x n e q =
       let it = (stepped.each m low).lock x n e q in
       let P : Commit → Type 0 = λ y. (y.enable.width ≡ 1) × (2 ^ y.addr.width ≡ (mem_at p m).depth) × (y.value.width ≡ (mem_at p m).width) in
@@ -143,7 +164,9 @@ module _ {T : Type 0} (l : Members T) (stays : Stays l) (p : Pipe) (xs : List (O
       let here : P (commit_of c (Some n)) = (one, reach, wide) in
       subst P (ap (commit_of c) (sym q)) here
 
-  pub commit_fits : is_locked p m ≡ true → ((commits_in c ns m).enable.width ≡ 1) × (2 ^ (commits_in c ns m).addr.width ≡ (mem_at p m).depth) × ((commits_in c ns m).value.width ≡ (mem_at p m).width)
+  pub commit_fits : is_locked p m ≡ true
+      → ((commits_in c ns m).enable.width ≡ 1) × (2 ^ (commits_in c ns m).addr.width ≡ (mem_at p m).depth)
+      × ((commits_in c ns m).value.width ≡ (mem_at p m).width)
   commit_fits h =
       let (x, e) = some_of (some_at xs m) (locked.locked m low ∙ h) in
       let (n, q) = some_of (some_at ns m) ((stepped.each m low).has ∙ locked.locked m low ∙ h) in
@@ -158,7 +181,8 @@ module _ {T : Type 0} (l : Members T) (stays : Stays l) (p : Pipe) (xs : List (O
 
 -- ---- what the steps leave as it was
 
-module _ {T : Type 0} (l : Members T) (a : Circuit) (p : Pipe) (xs : List (Option (MemLock T))) (locked : AreLocked l a p xs) (lawful : AreLawful l a p xs) where
+module _ {T : Type 0} (l : Members T) (a : Circuit) (p : Pipe) (xs : List (Option (MemLock T)))
+    (locked : AreLocked l a p xs) (lawful : AreLawful l a p xs) where
   -- the registers of each lock end where those of its circuit end, at the latest
   pub locks_end : (m : ℕ) → m < length p.mems → (own_of (some_at xs m)).to ≤ length a.regs
   locks_end m low = at (some_at xs m) refl
@@ -172,8 +196,11 @@ module _ {T : Type 0} (l : Members T) (a : Circuit) (p : Pipe) (xs : List (Optio
   nexts_after b c k x h low = x.nexts k h (λ m u. let d = locks_end m u in inr (omega (arith, d, low)))
 
   -- nothing writes the array of a memory without lock
-  pub plain_unwritten : (b c : Circuit) (m : ℕ) → Keeps a b → ExtendsLocks xs (length p.mems) b c → (mem_at p m).delayed ≡ false → write_signals b (comb_place p m) ≡ [] → m < length p.mems → is_locked p m ≡ false → write_signals c (comb_place p m) ≡ []
-  plain_unwritten b c m k x once e low h = x.writes (comb_place p m) (k.has_array (comb_place p m) (locked.has_array m low once)) (λ j u. outside j u (some_at xs j) refl) ∙ e
+  pub plain_unwritten : (b c : Circuit) (m : ℕ) → Keeps a b → ExtendsLocks xs (length p.mems) b c
+      → (mem_at p m).delayed ≡ false → write_signals b (comb_place p m) ≡ [] → m < length p.mems → is_locked p m ≡ false
+      → write_signals c (comb_place p m) ≡ []
+  plain_unwritten b c m k x once e low h =
+      x.writes (comb_place p m) (k.has_array (comb_place p m) (locked.has_array m low once)) (λ j u. outside j u (some_at xs j) refl) ∙ e
     where
       outside : (j : ℕ) → j < length p.mems → (o : Option (MemLock T)) → some_at xs j ≡ o → Outside (own_of o).first (own_of o).last (comb_place p m)
       outside j u None f = inr (omega arith)
@@ -183,12 +210,14 @@ module _ {T : Type 0} (l : Members T) (a : Circuit) (p : Pipe) (xs : List (Optio
             | inl lt ↦ inl (place_below p m j lt (omega (arith, u)) once)
             | inr ge ↦ elim (cases_lt j m) [
               | inl lt ↦ inr (let n = place_below p j m lt (omega (arith, low)) v in omega (arith, n))
-              | inr le ↦ let same : j ≡ m = omega (arith, ge, le) in absurd (false≢true (sym h ∙ sym (locked.locked m low) ∙ ap is_some (ap (some_at xs) (sym same) ∙ f)))
+              | inr le ↦ let same : j ≡ m = omega (arith, ge, le) in
+                  absurd (false≢true (sym h ∙ sym (locked.locked m low) ∙ ap is_some (ap (some_at xs) (sym same) ∙ f)))
             ]
           ])
 
   -- a lock stays as it is while only registers after those of the locks change
-  pub own_after : (m : ℕ) (b c : Circuit) (o : Own) → m < length p.mems → Keeps a b → ExtendsBut o b c → length a.regs ≤ o.from → o.last ≤ o.first → OwnKept (own_of (some_at xs m)) b c
+  pub own_after : (m : ℕ) (b c : Circuit) (o : Own) → m < length p.mems → Keeps a b → ExtendsBut o b c
+      → length a.regs ≤ o.from → o.last ≤ o.first → OwnKept (own_of (some_at xs m)) b c
   own_after m b c o low k x from none = at (some_at xs m) refl
     where
       at : (y : Option (MemLock T)) → some_at xs m ≡ y → OwnKept (own_of y) b c

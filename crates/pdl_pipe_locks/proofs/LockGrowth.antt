@@ -55,7 +55,8 @@ pub lawful_kept : (stands : State → LockState → Type 0) (kind : LockKind) (s
 lawful_kept stands kind size tickets a b r k room ticket x = record {
   some = x.some;
   regs = λ n lo hi. k.has_reg n (x.regs n lo hi);
-  start = record { starts = λ s image z long words. x.start.starts s image (record { regs = λ n lo hi. z.regs n lo hi ∙ k.reset n (x.regs n lo hi) }) long words };
+  start =
+      record { starts = λ s image z long words. x.start.starts s image (record { regs = λ n lo hi. z.regs n lo hi ∙ k.reset n (x.regs n lo hi) }) long words };
   places = x.places;
   room = subst (λ f. RoomLaw stands size f) (sym (k.kept r.room room)) x.room;
   ticket = subst (λ f. TicketLaw stands tickets f) (sym (k.kept r.ticket ticket)) x.ticket;
@@ -89,7 +90,9 @@ locked_kept l a b p xs k stays h = record {
 pub laws_kept : {T : Type 0} (l : Members T) (a b : Circuit) (p : Pipe) (xs : List (Option (MemLock T))) → Keeps a b
     → AreLocked l a p xs → AreLawful l a p xs → AreLawful l b p xs
 laws_kept l a b p xs k h x = record {
-  laws = λ m y low e. lawful_kept (l.stands y.lock y.regs) (l.kind y.lock) (l.size y.lock) (l.tickets y.lock) a b y.regs k (h.locks m y low e).room_there (h.locks m y low e).ticket_there (x.laws m y low e);
+  laws =
+      λ m y low e. lawful_kept (l.stands y.lock y.regs) (l.kind y.lock) (l.size y.lock)
+      (l.tickets y.lock) a b y.regs k (h.locks m y low e).room_there (h.locks m y low e).ticket_there (x.laws m y low e);
   kinds = x.kinds;
   deep = λ m y low once e. k.depth (comb_place p m) (h.has_array m low once) ∙ x.deep m y low once e;
   apart = x.apart;
@@ -129,7 +132,8 @@ deeds_kept l a b p ws xs ds k h = record { count = h.count; each = each_deed_kep
 view_kept : {T : Type 0} (l : Members T) (a b : Circuit) (p : Pipe) (ws : List ℕ) (xs : List (Option (MemLock T))) (d : StageDeeds)
     → Keeps a b → IsDeed l a p ws xs d → view_in b d ≡ view_in a d
 view_kept l a b p ws xs d k h =
-    ap₂ (λ (fs : List Signal) (w : Parts). view_with (λ m. signal_at fs m) (walk_of w)) (signals_keep a b d.tickets.now k h.tickets.there) (parts_keep a b k d.ended.now h.walk.there)
+    ap₂ (λ (fs : List Signal) (w : Parts). view_with (λ m. signal_at fs m) (walk_of w))
+    (signals_keep a b d.tickets.now k h.tickets.there) (parts_keep a b k d.ended.now h.walk.there)
 
 views_kept : {T : Type 0} (l : Members T) (a b : Circuit) (p : Pipe) (ws : List ℕ) (xs : List (Option (MemLock T))) (ds : List StageDeeds)
     → Keeps a b → Each (IsDeed l a p ws xs) ds → map (view_in b) ds ≡ map (view_in a) ds
@@ -173,7 +177,8 @@ step_same l a b p ws xs ds x ts m k d s =
     let n = length p.stages in
     let vs = views_kept l a b p ws xs ds k d.each in
     let fs = moves_kept l a b p ws xs ds k d.each in
-    ap₂ (λ us gs. step_by n m us gs (signal b x) (signals_in b ts)) vs fs ∙ ap₂ (step_by n m (map (view_in a) ds) (map (move_in a) ds)) (k.kept x s.there) (signals_keep a b ts k s.tails.there)
+    ap₂ (λ us gs. step_by n m us gs (signal b x) (signals_in b ts)) vs fs
+    ∙ ap₂ (step_by n m (map (view_in a) ds) (map (move_in a) ds)) (k.kept x s.there) (signals_keep a b ts k s.tails.there)
 
 -- and those of a lock's ports
 pub signals_are : {T : Type 0} (l : Members T) (c : Circuit) (p : Pipe) (ws : List ℕ) (xs : List (Option (MemLock T)))

@@ -85,7 +85,9 @@ stepped_kept l a b mem f y n k w x =
     let g = k.kept n.addr x.addr_there in
     let h = k.kept n.value x.value_there in
     record {
-      law = law_kept (l.stands y.lock y.regs) (l.size y.lock) (l.tickets y.lock) (own y.regs) a b f (signal a n.commit) (signal a n.addr) (signal a n.value) (signal b n.commit) (signal b n.addr) (signal b n.value) w e g h x.law;
+      law =
+          law_kept (l.stands y.lock y.regs) (l.size y.lock) (l.tickets y.lock) (own y.regs) a b f (signal a n.commit)
+          (signal a n.addr) (signal a n.value) (signal b n.commit) (signal b n.addr) (signal b n.value) w e g h x.law;
       hides = hides_kept (l.kind y.lock) (own y.regs) a b f w x.hides;
       commit_there = k.there n.commit x.commit_there;
       commit_one = ap (λ (q : Signal). q.width) e ∙ x.commit_one;
@@ -123,23 +125,29 @@ locks_wider xs m n a b h x = record {
   shapes = x.shapes;
 }
 
-module _ {T : Type 0} (l : Members T) (a : Circuit) (p : Pipe) (xs : List (Option (MemLock T))) (locked : AreLocked l a p xs) (lawful : AreLawful l a p xs) where
+module _ {T : Type 0} (l : Members T) (a : Circuit) (p : Pipe) (xs : List (Option (MemLock T)))
+    (locked : AreLocked l a p xs) (lawful : AreLawful l a p xs) where
   -- the registers of an earlier lock are not those of a later one, nor is its array
-  regs_apart : (j m : ℕ) (x : MemLock T) (k : ℕ) → j < m → m < length p.mems → some_at xs j ≡ Some x → first_reg x.regs ≤ k → k < end_reg x.regs → Outside (own_of (some_at xs m)).from (own_of (some_at xs m)).to k
+  regs_apart : (j m : ℕ) (x : MemLock T) (k : ℕ) → j < m → m < length p.mems → some_at xs j ≡ Some x
+      → first_reg x.regs ≤ k → k < end_reg x.regs → Outside (own_of (some_at xs m)).from (own_of (some_at xs m)).to k
   regs_apart j m x k h low e lo hi = at (some_at xs m) refl
     where
       at : (o : Option (MemLock T)) → some_at xs m ≡ o → Outside (own_of o).from (own_of o).to k
       at None f = inr (omega arith)
       at (Some y) f = let d = lawful.apart j m x y h low e f in inl (omega (arith, hi, d))
 
-  array_apart : (j m : ℕ) → j < m → m < length p.mems → (mem_at p j).delayed ≡ false → Outside (own_of (some_at xs m)).first (own_of (some_at xs m)).last (comb_place p j)
+  array_apart : (j m : ℕ) → j < m → m < length p.mems → (mem_at p j).delayed ≡ false
+      → Outside (own_of (some_at xs m)).first (own_of (some_at xs m)).last (comb_place p j)
   array_apart j m h low once = at (some_at xs m) refl
     where
       at : (o : Option (MemLock T)) → some_at xs m ≡ o → Outside (own_of o).first (own_of o).last (comb_place p j)
       at None f = inr (omega arith)
-      at (Some y) f = outside_place (mem_at p m) (comb_place p m) y.regs.array (locked.locks m y low f).array (comb_place p j) (λ u. inl (place_below p j m h (omega (arith, low)) once))
+      at (Some y) f =
+          outside_place (mem_at p m) (comb_place p m) y.regs.array (locked.locks m y low f).array (comb_place p j)
+          (λ u. inl (place_below p j m h (omega (arith, low)) once))
 
-  pub own_apart : (j m : ℕ) (x : MemLock T) (b c : Circuit) → j < m → m < length p.mems → some_at xs j ≡ Some x → Keeps a b → ExtendsBut (own_of (some_at xs m)) b c → OwnKept (own x.regs) b c
+  pub own_apart : (j m : ℕ) (x : MemLock T) (b c : Circuit) → j < m → m < length p.mems → some_at xs j ≡ Some x
+      → Keeps a b → ExtendsBut (own_of (some_at xs m)) b c → OwnKept (own x.regs) b c
   own_apart j m x b c h low e k d =
       let under : j < length p.mems = omega (arith, h, low) in
       let it = locked.locks j x under e in
@@ -148,14 +156,17 @@ module _ {T : Type 0} (l : Members T) (a : Circuit) (p : Pipe) (xs : List (Optio
       record {
         has_reg = λ n lo hi. d.has_reg n (k.has_reg n (law.regs n lo hi));
         nexts = λ n lo hi. d.nexts n (k.has_reg n (law.regs n lo hi)) (regs_apart j m x n h low e lo hi);
-        has_array = λ n lo hi. let q = is n lo hi in subst (HasArray c) (sym q.1) (d.has_array (comb_place p j) (k.has_array (comb_place p j) (locked.has_array j under q.0)));
+        has_array = λ n lo hi. let q = is n lo hi in
+            subst (HasArray c) (sym q.1) (d.has_array (comb_place p j) (k.has_array (comb_place p j) (locked.has_array j under q.0)));
         writes = λ n lo hi.
             let q = is n lo hi in
-            subst (λ i. write_signals c i ≡ write_signals b i) (sym q.1) (d.writes (comb_place p j) (k.has_array (comb_place p j) (locked.has_array j under q.0)) (array_apart j m h low q.0));
+            subst (λ i. write_signals c i ≡ write_signals b i) (sym q.1)
+            (d.writes (comb_place p j) (k.has_array (comb_place p j) (locked.has_array j under q.0)) (array_apart j m h low q.0));
       }
 
   -- an earlier step stays
-  earlier : (j m : ℕ) (b c : Circuit) (f : StepSignals) (n : Option LockNets) → j < m → m < length p.mems → Keeps a b → ExtendsBut (own_of (some_at xs m)) b c → IsSteppedMemory l b (mem_at p j) f (some_at xs j) n
+  earlier : (j m : ℕ) (b c : Circuit) (f : StepSignals) (n : Option LockNets) → j < m → m < length p.mems → Keeps a b
+      → ExtendsBut (own_of (some_at xs m)) b c → IsSteppedMemory l b (mem_at p j) f (some_at xs j) n
       → IsSteppedMemory l c (mem_at p j) f (some_at xs j) n
   earlier j m b c f n h low k d y = record {
     has = y.has;
@@ -165,7 +176,8 @@ module _ {T : Type 0} (l : Members T) (a : Circuit) (p : Pipe) (xs : List (Optio
   pub stepped_none : (f : ℕ → StepSignals) → AreStepped l a p f xs [] 0
   stepped_none f = record { count = refl; each = λ m h. absurd (omega (arith, h)) }
 
-  pub stepped_more : (m : ℕ) (b c : Circuit) (f : ℕ → StepSignals) (g : StepSignals) (ns : List (Option LockNets)) (n : Option LockNets) → m < length p.mems → g ≡ f m → Keeps a b → ExtendsBut (own_of (some_at xs m)) b c
+  pub stepped_more : (m : ℕ) (b c : Circuit) (f : ℕ → StepSignals) (g : StepSignals) (ns : List (Option LockNets)) (n : Option LockNets)
+      → m < length p.mems → g ≡ f m → Keeps a b → ExtendsBut (own_of (some_at xs m)) b c
       → IsSteppedMemory l c (mem_at p m) g (some_at xs m) n → AreStepped l b p f xs ns m → AreStepped l c p f xs (ns ++ n ∷ []) (m + 1)
   stepped_more m b c f g ns n low e k d z w =
       let P = λ (j : ℕ) (q : Option LockNets). IsSteppedMemory l c (mem_at p j) (f j) (some_at xs j) q in
@@ -177,10 +189,13 @@ module _ {T : Type 0} (l : Members T) (a : Circuit) (p : Pipe) (xs : List (Optio
       }
 
   -- nothing writes the array of the next lock yet
-  pub still_unwritten : (m : ℕ) (b : Circuit) → m < length p.mems → (mem_at p m).delayed ≡ false → ExtendsLocks xs m a b → write_signals a (comb_place p m) ≡ [] → write_signals b (comb_place p m) ≡ []
+  pub still_unwritten : (m : ℕ) (b : Circuit) → m < length p.mems → (mem_at p m).delayed ≡ false → ExtendsLocks xs m a b
+      → write_signals a (comb_place p m) ≡ [] → write_signals b (comb_place p m) ≡ []
   still_unwritten m b low once x e = x.writes (comb_place p m) (locked.has_array m low once) (λ j h. outside j h (some_at xs j) refl) ∙ e
     where
       outside : (j : ℕ) → j < m → (o : Option (MemLock T)) → some_at xs j ≡ o → Outside (own_of o).first (own_of o).last (comb_place p m)
       outside j h None f = inr (omega arith)
       outside j h (Some y) f =
-          outside_place (mem_at p j) (comb_place p j) y.regs.array (locked.locks j y (omega (arith, h, low)) f).array (comb_place p m) (λ u. inr (let l = place_below p j m h (omega (arith, low)) u in omega (arith, l)))
+          outside_place (mem_at p j)
+          (comb_place p j) y.regs.array (locked.locks j y (omega (arith, h, low)) f).array (comb_place p m)
+          (λ u. inr (let l = place_below p j m h (omega (arith, low)) u in omega (arith, l)))

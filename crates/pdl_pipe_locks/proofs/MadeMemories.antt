@@ -68,7 +68,8 @@ pub served_at : {T : Type 0} (suits : T → MemInfo → Type 0) (l : Members T) 
     → AreSuited suits l f ls → i < length f.pipe.mems → name ≡ get_or f.names i [] → mem ≡ mem_at f.pipe i
     → o ≡ some_at ls i → AreServed suits l name mem o
 served_at {T} suits l f ls i name mem o s low a b e =
-    let here : AreServed suits l (get_or f.names i []) (mem_at f.pipe i) (some_at ls i) = record { locked = s.locked i low; lock = λ y q. record { suited = s.suited i y low q; kind = s.kinds i y low q } } in
+    let here : AreServed suits l (get_or f.names i []) (mem_at f.pipe i) (some_at ls i) =
+    record { locked = s.locked i low; lock = λ y q. record { suited = s.suited i y low q; kind = s.kinds i y low q } } in
     let P : List ℕ → Type 0 = λ x. AreServed suits l x (mem_at f.pipe i) (some_at ls i) in
     let Q : Mem → Type 0 = λ x. AreServed suits l name x (some_at ls i) in
     subst (λ (x : Option T). AreServed suits l name mem x) (sym e) (subst Q (sym b) (subst P (sym a) here))
@@ -139,9 +140,12 @@ made_lock_kept l stays a b c i mem x k h = record {
   above = h.above;
 }
 
-module _ {T : Type 0} (l : Members T) (stays : Stays l) (a b c : Circuit) (names : List (List ℕ)) (p : Pipe) (xs : List (Option (MemLock T))) (i : ℕ) (name : List ℕ) (mem : Mem) (o : Option (MemLock T))
+module _ {T : Type 0} (l : Members T) (stays : Stays l) (a b c : Circuit) (names : List (List ℕ)) (p : Pipe)
+    (xs : List (Option (MemLock T))) (i : ℕ) (name : List ℕ) (mem : Mem) (o : Option (MemLock T))
     (low : i < length p.mems) (named : i < length names) (name_at : name ≡ get_or names i []) (at_mem : mem ≡ mem_at p i)
-    (grows : ExtendsArrays b c (arrays_in name mem)) (free : mem.delayed ≡ false → write_signals c (length b.arrays) ≡ []) (new : IsNewMemory l b c mem o) (h : AreMadeTo l a b names p xs i) where
+    (grows : ExtendsArrays b c (arrays_in name mem))
+    (free : mem.delayed ≡ false → write_signals c (length b.arrays) ≡ []) (new : IsNewMemory l b c mem o)
+    (h : AreMadeTo l a b names p xs i) where
   keeps : Keeps b c
   keeps = arrays_keeps b c (arrays_in name mem) grows
 
@@ -182,7 +186,8 @@ module _ {T : Type 0} (l : Members T) (stays : Stays l) (a b c : Circuit) (names
   memory_here : IsMadeMemory l a c (comb_place p i) (mem_at p i) (some_at (xs ++ o ∷ []) i)
   memory_here =
       let P : Mem → Type 0 = λ x. IsMadeMemory l a c (comb_place p i) x o in
-      subst (λ (x : Option (MemLock T)). IsMadeMemory l a c (comb_place p i) (mem_at p i) x) (sym here) (subst P at_mem (record { array = array_here; locked = new.locked; lock = lock_here }))
+      subst (λ (x : Option (MemLock T)). IsMadeMemory l a c (comb_place p i) (mem_at p i) x) (sym here)
+      (subst P at_mem (record { array = array_here; locked = new.locked; lock = lock_here }))
 
   array_before : (k : ℕ) (x : Mem) → IsMadeArray b k x → IsMadeArray c k x
   array_before k x y = record {
@@ -196,7 +201,11 @@ module _ {T : Type 0} (l : Members T) (stays : Stays l) (a b c : Circuit) (names
   memory_before m k =
       let x = h.each m k in
       subst (λ (y : Option (MemLock T)). IsMadeMemory l a c (comb_place p m) (mem_at p m) y) (sym (before m k))
-      (record { array = λ e. array_before (comb_place p m) (mem_at p m) (x.array e); locked = x.locked; lock = λ y e. made_lock_kept l stays a b c (comb_place p m) (mem_at p m) y keeps (x.lock y e) })
+      (record {
+        array = λ e. array_before (comb_place p m) (mem_at p m) (x.array e);
+        locked = x.locked;
+        lock = λ y e. made_lock_kept l stays a b c (comb_place p m) (mem_at p m) y keeps (x.lock y e);
+      })
 
   apart_here : (m : ℕ) (x y : MemLock T) → m < i → some_at (xs ++ o ∷ []) m ≡ Some x → some_at (xs ++ o ∷ []) i ≡ Some y → end_reg x.regs ≤ first_reg y.regs
   apart_here m x y k e f =
@@ -208,18 +217,22 @@ module _ {T : Type 0} (l : Members T) (stays : Stays l) (a b c : Circuit) (names
   pub made_more : AreMadeTo l a c names p (xs ++ o ∷ []) (i + 1)
   made_more = record {
     count = length-append xs (o ∷ []) ∙ ap (λ n. n + 1) h.count;
-    arrays = let n = array_more b c (arrays_in name mem) grows in let k = place_more p i name low in let e = ap (λ (x : Mem). length (arrays_in name x)) at_mem in omega (arith, n, k, e, h.arrays);
+    arrays = let n = array_more b c (arrays_in name mem) grows in let k = place_more p i name low in
+        let e = ap (λ (x : Mem). length (arrays_in name x)) at_mem in omega (arith, n, k, e, h.arrays);
     added = h.added ++ arrays_in name mem;
     extends = arrays_trans a b c h.added (arrays_in name mem) h.extends grows;
     whole = whole_here;
     each = below_more (λ m. IsMadeMemory l a c (comb_place p m) (mem_at p m) (some_at (xs ++ o ∷ []) m)) i memory_before memory_here;
-    apart = below_more (λ n. (m : ℕ) (x y : MemLock T) → m < n → some_at (xs ++ o ∷ []) m ≡ Some x → some_at (xs ++ o ∷ []) n ≡ Some y → end_reg x.regs ≤ first_reg y.regs) i
+    apart =
+        below_more
+        (λ n. (m : ℕ) (x y : MemLock T) → m < n → some_at (xs ++ o ∷ []) m ≡ Some x → some_at (xs ++ o ∷ []) n ≡ Some y → end_reg x.regs ≤ first_reg y.regs) i
         (λ n k m x y q e f. h.apart n k m x y q (sym (before m (omega (arith, q, k))) ∙ e) (sym (before n k) ∙ f)) (λ m x y k e f. apart_here m x y k e f);
   }
 
 -- ---- all memories
 
-module _ {T : Type 0} (l : Members T) (a c : Circuit) (names : List (List ℕ)) (p : Pipe) (xs : List (Option (MemLock T))) (i : ℕ) (named : length names ≡ length p.mems) (all : i ≡ length p.mems)
+module _ {T : Type 0} (l : Members T) (a c : Circuit) (names : List (List ℕ)) (p : Pipe)
+    (xs : List (Option (MemLock T))) (i : ℕ) (named : length names ≡ length p.mems) (all : i ≡ length p.mems)
     (h : AreMadeTo l a c names p xs i) where
   added_all : h.added ≡ shapes_in names p.mems
   added_all =
@@ -247,7 +260,10 @@ module _ {T : Type 0} (l : Members T) (a c : Circuit) (names : List (List ℕ)) 
   all_lawful = record {
     laws = λ m x k e. ((made m k).lock x e).laws;
     kinds = λ m x k e. ((made m k).lock x e).kind;
-    deep = λ m x k once e. ((made m k).array once).deep ∙ ap (λ y. words_in y (mem_at p m).depth) ((made m k).lock x e).kind ∙ words_are (l.kind x.lock) (l.size x.lock) (mem_at p m).depth;
+    deep =
+        λ m x k once e. ((made m k).array once).deep
+        ∙ ap (λ y. words_in y (mem_at p m).depth) ((made m k).lock x e).kind
+        ∙ words_are (l.kind x.lock) (l.size x.lock) (mem_at p m).depth;
     apart = λ m n x y q k e f. h.apart n (omega (arith, k, all)) m x y q e f;
   }
 

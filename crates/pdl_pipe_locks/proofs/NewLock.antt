@@ -44,7 +44,9 @@ depth_by_shape c m d h = sym (ap (λ (s : Shape). s.depth) (get_or-map shape_of 
 
 -- the arrays that a memory's lock takes are those of the memory
 pub arrays_are : (k : LockKind) (n : ℕ) (name : List ℕ) (m : Mem) → m.lock ≡ as_lock k n → arrays_of k (info_of name m) ≡ arrays_in name m
-arrays_are k n name m h = ap (λ d. if m.delayed then [] else record { name = name; width = m.width; depth = d } ∷ []) (sym (words_are k n m.depth) ∙ ap (λ x. words_in x m.depth) (sym h))
+arrays_are k n name m h =
+    ap (λ d. if m.delayed then [] else record { name = name; width = m.width; depth = d } ∷ [])
+    (sym (words_are k n m.depth) ∙ ap (λ x. words_in x m.depth) (sym h))
 
 -- a memory that answers at once has one array, of its shape
 pub one_array : (name : List ℕ) (m : Mem) → m.delayed ≡ false → arrays_in name m ≡ shape_in name m ∷ []
@@ -120,4 +122,5 @@ new_lock l old new name mem x kind grows w d a placed f nets start places room t
 pub new_unwritten : (old new : Circuit) (name : List ℕ) (mem : Mem) (r : LockRegs)
     → mem.delayed ≡ false → ExtendsArrays old new (arrays_in name mem) → is_some r.array ≡ not mem.delayed
     → IsFragment old new r → HasNoPorts r.array new → write_signals new (length old.arrays) ≡ []
-new_unwritten old new name mem r comb grows a f h = subst (λ a. HasNoPorts a new) (some_place mem (length old.arrays) r.array (new_array old new name mem r a grows f) comb) h
+new_unwritten old new name mem r comb grows a f h =
+    subst (λ a. HasNoPorts a new) (some_place mem (length old.arrays) r.array (new_array old new name mem r a grows f) comb) h

@@ -64,7 +64,9 @@ module _ (a b : Circuit) (k : Keeps a b) where
   given_reserves rs g = each_weaker (IsGivenReserve a) (IsGivenReserve b) given_reserve rs g
 
   pub reservations_same : (rs : List ReserveNet) → Each (IsGivenReserve a) rs → map (reservation_in b) rs ≡ map (reservation_in a) rs
-  reservations_same rs g = map_each (reservation_in b) (reservation_in a) (IsGivenReserve a) (λ r t. ap₂ (λ f h. record { mem = r.mem; on = f; addr = h }) (k.kept r.on t.on) (k.kept r.addr t.addr)) rs g
+  reservations_same rs g =
+      map_each (reservation_in b) (reservation_in a) (IsGivenReserve a)
+      (λ r t. ap₂ (λ f h. record { mem = r.mem; on = f; addr = h }) (k.kept r.on t.on) (k.kept r.addr t.addr)) rs g
 
   given_put : (x : PutNet) → IsGivenPut a x → IsGivenPut b x
   given_put x g = record { on = k.there x.on g.on; one = ap (λ (f : Signal). f.width) (k.kept x.on g.on) ∙ g.one; value = k.there x.value g.value }
@@ -73,7 +75,9 @@ module _ (a b : Circuit) (k : Keeps a b) where
   given_puts xs g = each_weaker (IsGivenPut a) (IsGivenPut b) given_put xs g
 
   pub puts_same : (xs : List PutNet) → Each (IsGivenPut a) xs → map (put_in b) xs ≡ map (put_in a) xs
-  puts_same xs g = map_each (put_in b) (put_in a) (IsGivenPut a) (λ x t. ap₂ (λ f h. record { mem = x.mem; on = f; value = h }) (k.kept x.on t.on) (k.kept x.value t.value)) xs g
+  puts_same xs g =
+      map_each (put_in b) (put_in a) (IsGivenPut a)
+      (λ x t. ap₂ (λ f h. record { mem = x.mem; on = f; value = h }) (k.kept x.on t.on) (k.kept x.value t.value)) xs g
 
   given_letting : (x : LettingNet) → IsGivenLetting a x → IsGivenLetting b x
   given_letting x g = record { on = k.there x.on g.on; one = ap (λ (f : Signal). f.width) (k.kept x.on g.on) ∙ g.one }
@@ -93,9 +97,12 @@ pub adds_one : (a b : Circuit) (ps : List ReservePort) (x y : Net) (f g : Signal
 adds_one a b ps x y f g e t m h q =
     let k = extends_keeps a b e in
     record {
-      there = each_push (IsThereReserve b) ps (record { enable = x; kind = W; addr = y }) (reserves_kept a b k ps t) (record { kind = refl; enable = m.there; addr = e.there y h });
+      there =
+          each_push (IsThereReserve b) ps (record { enable = x; kind = W; addr = y }) (reserves_kept a b k ps t)
+          (record { kind = refl; enable = m.there; addr = e.there y h });
       same = map-append (reserve_signal b) ps (record { enable = x; kind = W; addr = y } ∷ [])
-          ∙ ap₂ (λ (fs gs : List ReserveSignal). fs ++ gs) (reserves_same a b k ps t) (ap₂ (λ u v. record { enable = u; addr = v } ∷ []) m.same (e.kept y h ∙ q));
+          ∙ ap₂ (λ (fs gs : List ReserveSignal). fs ++ gs) (reserves_same a b k ps t)
+          (ap₂ (λ u v. record { enable = u; addr = v } ∷ []) m.same (e.kept y h ∙ q));
     }
 
 -- one after another
@@ -103,7 +110,9 @@ reserves_split : (m : ℕ) (f : Signal) (r : Reservation) (rs : List Reservation
     → reserves_to m f (r ∷ rs) ≡ reserves_to m f (r ∷ []) ++ reserves_to m f rs
 reserves_split m f r rs = at (r.mem == m)
   where
-    at : (b : Bool) → (if b then record { enable = both f r.on; addr = r.addr } ∷ reserves_to m f rs else reserves_to m f rs) ≡ (if b then record { enable = both f r.on; addr = r.addr } ∷ [] else []) ++ reserves_to m f rs
+    at : (b : Bool)
+        → (if b then record { enable = both f r.on; addr = r.addr } ∷ reserves_to m f rs else reserves_to m f rs)
+        ≡ (if b then record { enable = both f r.on; addr = r.addr } ∷ [] else []) ++ reserves_to m f rs
     at true = refl
     at false = refl
 
@@ -116,7 +125,9 @@ pub adds_write : (a b : Circuit) (ps : List TicketWrite) (x y z : Net) (f g h : 
 adds_write a b ps x y z f g h e t m u p v q =
     let k = extends_keeps a b e in
     record {
-      there = each_push (IsThereWrite b) ps (record { enable = x; ticket = y; value = z }) (writes_kept a b k ps t) (record { enable = m.there; ticket = e.there y u; value = e.there z v });
+      there =
+          each_push (IsThereWrite b) ps (record { enable = x; ticket = y; value = z }) (writes_kept a b k ps t)
+          (record { enable = m.there; ticket = e.there y u; value = e.there z v });
       same = map-append (ticket_signal b) ps (record { enable = x; ticket = y; value = z } ∷ [])
           ∙ ap₂ (λ (fs gs : List TicketSignal). fs ++ gs) (writes_same a b k ps t) (cc (m.same, e.kept y u ∙ p, e.kept z v ∙ q));
     }
@@ -124,7 +135,9 @@ adds_write a b ps x y z f g h e t m u p v q =
 puts_split : (m : ℕ) (f t : Signal) (x : Put) (xs : List Put) → puts_to m f t (x ∷ xs) ≡ puts_to m f t (x ∷ []) ++ puts_to m f t xs
 puts_split m f t x xs = at (x.mem == m)
   where
-    at : (b : Bool) → (if b then record { enable = both f x.on; ticket = t; value = x.value } ∷ puts_to m f t xs else puts_to m f t xs) ≡ (if b then record { enable = both f x.on; ticket = t; value = x.value } ∷ [] else []) ++ puts_to m f t xs
+    at : (b : Bool)
+        → (if b then record { enable = both f x.on; ticket = t; value = x.value } ∷ puts_to m f t xs else puts_to m f t xs)
+        ≡ (if b then record { enable = both f x.on; ticket = t; value = x.value } ∷ [] else []) ++ puts_to m f t xs
     at true = refl
     at false = refl
 
@@ -132,11 +145,13 @@ puts_split m f t x xs = at (x.mem == m)
 
 pub record ReservesUpTo (a b : Circuit) (ps qs : List ReservePort) (m : ℕ) (moves : Net) (rs : List ReserveNet) (i : ℕ) : Type 0 where
   pub there : Each (IsThereReserve b) qs
-  pub same : map (reserve_signal b) qs ++ reserves_to m (signal a moves) (map (reservation_in a) (drop i rs)) ≡ map (reserve_signal a) ps ++ reserves_to m (signal a moves) (map (reservation_in a) rs)
+  pub same : map (reserve_signal b) qs ++ reserves_to m (signal a moves) (map (reservation_in a) (drop i rs))
+      ≡ map (reserve_signal a) ps ++ reserves_to m (signal a moves) (map (reservation_in a) rs)
 
 pub record WritesUpTo (a b : Circuit) (ps qs : List TicketWrite) (m : ℕ) (moves ticket : Net) (xs : List PutNet) (i : ℕ) : Type 0 where
   pub there : Each (IsThereWrite b) qs
-  pub same : map (ticket_signal b) qs ++ puts_to m (signal a moves) (signal a ticket) (map (put_in a) (drop i xs)) ≡ map (ticket_signal a) ps ++ puts_to m (signal a moves) (signal a ticket) (map (put_in a) xs)
+  pub same : map (ticket_signal b) qs ++ puts_to m (signal a moves) (signal a ticket) (map (put_in a) (drop i xs))
+      ≡ map (ticket_signal a) ps ++ puts_to m (signal a moves) (signal a ticket) (map (put_in a) xs)
 
 -- with the ports of one reservation more, those of the first i + 1 of a stage are added
 pub reserves_step : (a b c : Circuit) (ps qs us : List ReservePort) (m : ℕ) (moves : Net) (rs : List ReserveNet) (i : ℕ) (d r : ReserveNet)
@@ -148,8 +163,10 @@ reserves_step a b c ps qs us m moves rs i d r k t l e g h x =
     let f = signal a moves in
     let back = map (reservation_in a) (drop (i + 1) rs) in
     let same : reserves_to m (signal b moves) (reservation_in b r ∷ []) ≡ reserves_to m f (reservation_in a r ∷ []) =
-    ap₂ (λ u (v : Reservation). reserves_to m u (v ∷ [])) (k.kept moves t) (ap₂ (λ u v. record { mem = r.mem; on = u; addr = v }) (k.kept r.on g.on) (k.kept r.addr g.addr)) in
-    let split : map (reservation_in a) (drop i rs) ≡ reservation_in a r ∷ back = ap (map (reservation_in a)) (drop_more rs i d l) ∙ ap (λ (y : ReserveNet). reservation_in a y ∷ back) (sym e) in
+    ap₂ (λ u (v : Reservation). reserves_to m u (v ∷ [])) (k.kept moves t)
+    (ap₂ (λ u v. record { mem = r.mem; on = u; addr = v }) (k.kept r.on g.on) (k.kept r.addr g.addr)) in
+    let split : map (reservation_in a) (drop i rs) ≡ reservation_in a r ∷ back =
+    ap (map (reservation_in a)) (drop_more rs i d l) ∙ ap (λ (y : ReserveNet). reservation_in a y ∷ back) (sym e) in
     let front = map (reserve_signal b) qs in
     record {
       there = x.there;
@@ -188,7 +205,10 @@ pub reserves_end : (a b : Circuit) (ps qs : List ReservePort) (m : ℕ) (moves :
     → AddsReserves a b ps qs (reserves_to m (signal a moves) (map (reservation_in a) rs))
 reserves_end a b ps qs m moves rs i l h = record {
   there = h.there;
-  same = sym (append-nil (map (reserve_signal b) qs)) ∙ sym (ap (λ (xs : List ReserveNet). map (reserve_signal b) qs ++ reserves_to m (signal a moves) (map (reservation_in a) xs)) (drop_all i rs l)) ∙ h.same;
+  same =
+      sym (append-nil (map (reserve_signal b) qs))
+      ∙ sym (ap (λ (xs : List ReserveNet). map (reserve_signal b) qs ++ reserves_to m (signal a moves) (map (reservation_in a) xs)) (drop_all i rs l))
+      ∙ h.same;
 }
 
 -- past its last one the ports of all writes of a stage are added
@@ -197,5 +217,8 @@ pub writes_end : (a b : Circuit) (ps qs : List TicketWrite) (m : ℕ) (moves tic
     → AddsWrites a b ps qs (puts_to m (signal a moves) (signal a ticket) (map (put_in a) xs))
 writes_end a b ps qs m moves ticket xs i l h = record {
   there = h.there;
-  same = sym (append-nil (map (ticket_signal b) qs)) ∙ sym (ap (λ (ys : List PutNet). map (ticket_signal b) qs ++ puts_to m (signal a moves) (signal a ticket) (map (put_in a) ys)) (drop_all i xs l)) ∙ h.same;
+  same =
+      sym (append-nil (map (ticket_signal b) qs))
+      ∙ sym (ap (λ (ys : List PutNet). map (ticket_signal b) qs ++ puts_to m (signal a moves) (signal a ticket) (map (put_in a) ys)) (drop_all i xs l))
+      ∙ h.same;
 }

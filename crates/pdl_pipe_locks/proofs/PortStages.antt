@@ -61,7 +61,8 @@ given_all a b k m (d ∷ ds) g = (given_kept a b k m d g.0, given_all a b k m ds
 
 reserves_next : (m : ℕ) (vs : ℕ → View) (moves : ℕ → Signal) (n i k : ℕ) → i < n → k ≡ n - 1 - i
     → all_reserves m vs moves (i + 1) (n - (i + 1)) ≡ all_reserves m vs moves i (n - i) ++ reserves_to m (moves k) (vs k).ended.reserves
-reserves_next m vs moves n i k l e = let f = one_further (all_reserves m vs moves) n i k l e in f.0 ∙ ap (λ xs. xs ++ reserves_to m (moves k) (vs k).ended.reserves) f.1
+reserves_next m vs moves n i k l e = let f = one_further (all_reserves m vs moves) n i k l e in
+    f.0 ∙ ap (λ xs. xs ++ reserves_to m (moves k) (vs k).ended.reserves) f.1
 
 -- the reservation ports of the last i + 1 stages, where those of the last i are made
 pub reserves_more : (a b c : Circuit) (m : ℕ) (ds : List StageDeeds) (i : ℕ) (d : StageDeeds) (ps qs : List ReservePort)
@@ -89,7 +90,8 @@ reserves_more a b c m ds i d ps qs k l e g h x =
 
 puts_next : (m : ℕ) (vs : ℕ → View) (moves : ℕ → Signal) (n i k : ℕ) → i < n → k ≡ n - 1 - i
     → all_puts m vs moves (i + 1) (n - (i + 1)) ≡ all_puts m vs moves i (n - i) ++ puts_to m (moves k) ((vs k).tickets m) (vs k).ended.puts
-puts_next m vs moves n i k l e = let f = one_further (all_puts m vs moves) n i k l e in f.0 ∙ ap (λ xs. xs ++ puts_to m (moves k) ((vs k).tickets m) (vs k).ended.puts) f.1
+puts_next m vs moves n i k l e = let f = one_further (all_puts m vs moves) n i k l e in
+    f.0 ∙ ap (λ xs. xs ++ puts_to m (moves k) ((vs k).tickets m) (vs k).ended.puts) f.1
 
 -- the net of a ticket
 pub ticket_there : (c : Circuit) (m : ℕ) (d : StageDeeds) (t : Net) → t ≡ get_or d.tickets.now m t → IsGiven c m d → IsThere c t
@@ -113,7 +115,9 @@ writes_more a b c m ds i d t ps qs k l e u g h x =
     let puts : map (put_in b) d.ended.now.puts ≡ (views_in a ds j).ended.puts =
     puts_same a b k d.ended.now.puts given.puts ∙ sym (ap (λ (v : View). v.ended.puts) view) in
     let F = λ (f g : Signal) (ys : List Put). puts_to m f g ys in
-    let same : F (signal b d.moves) (signal b t) (map (put_in b) d.ended.now.puts) ≡ F (moves_in a ds j) ((views_in a ds j).tickets m) (views_in a ds j).ended.puts = cc (moves, ticket, puts) in
+    let same : F (signal b d.moves) (signal b t) (map (put_in b) d.ended.now.puts)
+    ≡ F (moves_in a ds j) ((views_in a ds j).tickets m) (views_in a ds j).ended.puts =
+    cc (moves, ticket, puts) in
     record {
       there = x.there;
       same = x.same
@@ -129,7 +133,9 @@ pub same_reserves : (m : ℕ) (vs us : ℕ → View) (f g : ℕ → Signal) (n k
     → all_reserves m vs f n k ≡ all_reserves m us g n k
 same_reserves m vs us f g zero k h r = refl
 same_reserves m vs us f g (suc n) k h r =
-    ap₂ (λ (xs ys : List ReserveSignal). xs ++ ys) (same_reserves m vs us f g n (suc k) (λ j l. h j (omega (arith, l))) (λ j l. r j (omega (arith, l)))) (ap₂ (reserves_to m) (h k (omega arith)) (r k (omega arith)))
+    ap₂ (λ (xs ys : List ReserveSignal). xs ++ ys)
+    (same_reserves m vs us f g n (suc k) (λ j l. h j (omega (arith, l))) (λ j l. r j (omega (arith, l))))
+    (ap₂ (reserves_to m) (h k (omega arith)) (r k (omega arith)))
 
 -- stages that have the same tickets and writes and move alike write alike at a memory's lock
 pub same_puts : (m : ℕ) (vs us : ℕ → View) (f g : ℕ → Signal) (n k : ℕ)
@@ -138,8 +144,10 @@ pub same_puts : (m : ℕ) (vs us : ℕ → View) (f g : ℕ → Signal) (n k : �
 same_puts m vs us f g zero k h t r = refl
 same_puts m vs us f g (suc n) k h t r =
     let F = λ (x y : Signal) (ys : List Put). puts_to m x y ys in
-    let here : F (f k) ((vs k).tickets m) (vs k).ended.puts ≡ F (g k) ((us k).tickets m) (us k).ended.puts = cc (h k (omega arith), t k (omega arith), r k (omega arith)) in
-    ap₂ (λ (xs ys : List TicketSignal). xs ++ ys) (same_puts m vs us f g n (suc k) (λ j l. h j (omega (arith, l))) (λ j l. t j (omega (arith, l))) (λ j l. r j (omega (arith, l)))) here
+    let here : F (f k) ((vs k).tickets m) (vs k).ended.puts ≡ F (g k) ((us k).tickets m) (us k).ended.puts =
+    cc (h k (omega arith), t k (omega arith), r k (omega arith)) in
+    ap₂ (λ (xs ys : List TicketSignal). xs ++ ys)
+    (same_puts m vs us f g n (suc k) (λ j l. h j (omega (arith, l))) (λ j l. t j (omega (arith, l))) (λ j l. r j (omega (arith, l)))) here
 
 -- stages that have the same releases and move alike release a memory alike
 pub same_released : (m : ℕ) (vs us : ℕ → View) (f g : ℕ → Signal) (n k : ℕ)
@@ -149,7 +157,8 @@ same_released m vs us f g zero k h r = refl
 same_released m vs us f g (suc n) k h r =
     let F = λ (x : Signal) (ys : List Letting) (z : Signal). release_moves m x ys z in
     let rest = same_released m vs us f g n (suc k) (λ j l. h j (omega (arith, l))) (λ j l. r j (omega (arith, l))) in
-    let here : F (f k) (vs k).ended.lettings (release_signal m vs f n (suc k)) ≡ F (g k) (us k).ended.lettings (release_signal m us g n (suc k)) = cc (h k (omega arith), r k (omega arith), rest) in
+    let here : F (f k) (vs k).ended.lettings (release_signal m vs f n (suc k)) ≡ F (g k) (us k).ended.lettings (release_signal m us g n (suc k)) =
+    cc (h k (omega arith), r k (omega arith), rest) in
     here
 
 module _ (a b : Circuit) (k : Keeps a b) (m : ℕ) where
@@ -173,8 +182,13 @@ module _ (a b : Circuit) (k : Keeps a b) (m : ℕ) where
   kept_lettings (d ∷ ds) zero g = lettings_same a b k d.ended.now.lettings g.0.lettings
   kept_lettings (d ∷ ds) (suc j) g = kept_lettings ds j g.1
 
-  pub all_puts_kept : (ds : List StageDeeds) (n : ℕ) → Each (IsGiven a m) ds → all_puts m (views_in b ds) (moves_in b ds) n 0 ≡ all_puts m (views_in a ds) (moves_in a ds) n 0
-  all_puts_kept ds n g = same_puts m (views_in b ds) (views_in a ds) (moves_in b ds) (moves_in a ds) n 0 (λ j l. kept_moves ds j g) (λ j l. kept_tickets ds j g) (λ j l. kept_puts ds j g)
+  pub all_puts_kept : (ds : List StageDeeds) (n : ℕ) → Each (IsGiven a m) ds
+      → all_puts m (views_in b ds) (moves_in b ds) n 0 ≡ all_puts m (views_in a ds) (moves_in a ds) n 0
+  all_puts_kept ds n g =
+      same_puts m (views_in b ds) (views_in a ds) (moves_in b ds) (moves_in a ds) n 0 (λ j l. kept_moves ds j g)
+      (λ j l. kept_tickets ds j g) (λ j l. kept_puts ds j g)
 
-  pub released_kept : (ds : List StageDeeds) (n : ℕ) → Each (IsGiven a m) ds → release_signal m (views_in b ds) (moves_in b ds) n 0 ≡ release_signal m (views_in a ds) (moves_in a ds) n 0
-  released_kept ds n g = same_released m (views_in b ds) (views_in a ds) (moves_in b ds) (moves_in a ds) n 0 (λ j l. kept_moves ds j g) (λ j l. kept_lettings ds j g)
+  pub released_kept : (ds : List StageDeeds) (n : ℕ) → Each (IsGiven a m) ds
+      → release_signal m (views_in b ds) (moves_in b ds) n 0 ≡ release_signal m (views_in a ds) (moves_in a ds) n 0
+  released_kept ds n g =
+      same_released m (views_in b ds) (views_in a ds) (moves_in b ds) (moves_in a ds) n 0 (λ j l. kept_moves ds j g) (λ j l. kept_lettings ds j g)

@@ -38,8 +38,12 @@ ports_there c p f h = record {
 pub ports_mean : (c : Circuit) (p : LockPorts) (f : StepSignals) → ArePorts c p f → step_signals c p ≡ f
 unfolding step_signals
 ports_mean c p f h =
-    let F = λ (r : List ReserveSignal) (w : List TicketSignal) (x u y z : Signal). (let s : StepSignals = record { reserves = r; writes = w; release = x; release2 = u; squash = y; tail = z } in s) in
-    let same : F (map (reserve_signal c) p.reserves) (map (ticket_signal c) p.writes) (signal c p.release) (signal c p.release2) (signal c p.squash) (signal c p.tail) ≡ F f.reserves f.writes f.release f.release2 f.squash f.tail =
+    let F =
+    λ (r : List ReserveSignal) (w : List TicketSignal)
+    (x u y z : Signal). (let s : StepSignals = record { reserves = r; writes = w; release = x; release2 = u; squash = y; tail = z } in s) in
+    let same : F (map (reserve_signal c) p.reserves) (map (ticket_signal c) p.writes) (signal c p.release)
+    (signal c p.release2) (signal c p.squash) (signal c p.tail)
+    ≡ F f.reserves f.writes f.release f.release2 f.squash f.tail =
     cc (h.reserves.same, h.writes.same, h.release.same, h.release2.same, h.squash.same, h.tail.same) in
     same
 
@@ -70,10 +74,14 @@ ports_fit c bits width tickets p f h w = record {
     kind k q l e = (each_at (IsThereReserve c) p.reserves k q l (sym e) h.reserves.there).kind
 
     reserve : (k : ℕ) (q : ReservePort) → k < length p.reserves → get_or p.reserves k q ≡ q → ReserveFits bits (reserve_signal c q)
-    reserve k q l e = each_at (λ (q : ReservePort). ReserveFits bits (reserve_signal c q)) p.reserves k q l (sym e) (of_map (reserve_signal c) (ReserveFits bits) p.reserves (subst (Each (ReserveFits bits)) (sym h.reserves.same) w.reserves))
+    reserve k q l e =
+        each_at (λ (q : ReservePort). ReserveFits bits (reserve_signal c q)) p.reserves k q l (sym e)
+        (of_map (reserve_signal c) (ReserveFits bits) p.reserves (subst (Each (ReserveFits bits)) (sym h.reserves.same) w.reserves))
 
     write : (k : ℕ) (q : TicketWrite) → k < length p.writes → get_or p.writes k q ≡ q → WriteFits width tickets (ticket_signal c q)
-    write k q l e = each_at (λ (q : TicketWrite). WriteFits width tickets (ticket_signal c q)) p.writes k q l (sym e) (of_map (ticket_signal c) (WriteFits width tickets) p.writes (subst (Each (WriteFits width tickets)) (sym h.writes.same) w.writes))
+    write k q l e =
+        each_at (λ (q : TicketWrite). WriteFits width tickets (ticket_signal c q)) p.writes k q l (sym e)
+        (of_map (ticket_signal c) (WriteFits width tickets) p.writes (subst (Each (WriteFits width tickets)) (sym h.writes.same) w.writes))
 
 -- nothing writes a lock's array while its ports are made
 pub unwritten_still : (o : Option ℕ) (a b : Circuit) → Extends a b → ((i : ℕ) → o ≡ Some i → HasArray a i) → HasNoPorts o a → HasNoPorts o b

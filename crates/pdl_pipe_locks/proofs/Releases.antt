@@ -24,14 +24,17 @@ lets_split : (m : ℕ) (f : Signal) (x : Letting) (xs : List Letting) (rest : Si
     → release_moves m f (x ∷ xs) rest ≡ release_moves m f (x ∷ []) (release_moves m f xs rest)
 lets_split m f x xs rest = at (x.mem == m)
   where
-    at : (b : Bool) → (if b then mux_signal (both f x.on) one (release_moves m f xs rest) else release_moves m f xs rest) ≡ (if b then mux_signal (both f x.on) one (release_moves m f xs rest) else release_moves m f xs rest)
+    at : (b : Bool)
+        → (if b then mux_signal (both f x.on) one (release_moves m f xs rest) else release_moves m f xs rest)
+        ≡ (if b then mux_signal (both f x.on) one (release_moves m f xs rest) else release_moves m f xs rest)
     at b = refl
 
 pub lets_one : (m : ℕ) (f : Signal) (xs : List Letting) (rest : Signal) → rest.width ≡ 1 → (release_moves m f xs rest).width ≡ 1
 lets_one m f [] rest w = w
 lets_one m f (x ∷ xs) rest w = at (x.mem == m) (lets_one m f xs rest w)
   where
-    at : (b : Bool) → (release_moves m f xs rest).width ≡ 1 → (if b then mux_signal (both f x.on) one (release_moves m f xs rest) else release_moves m f xs rest).width ≡ 1
+    at : (b : Bool) → (release_moves m f xs rest).width ≡ 1
+        → (if b then mux_signal (both f x.on) one (release_moves m f xs rest) else release_moves m f xs rest).width ≡ 1
     at true h = refl
     at false h = h
 
@@ -44,12 +47,17 @@ released_one m vs moves (suc n) k = lets_one m (moves k) (vs k).ended.lettings (
 
 pub lets_begin : (a : Circuit) (m : ℕ) (f : Signal) (xs : List LettingNet) (rest : Net) → IsThere a rest
     → Means a rest (release_moves m f (map (letting_in a) (drop (length xs - 0) xs)) (signal a rest))
-lets_begin a m f xs rest t = record { there = t; same = sym (ap (λ (ys : List LettingNet). release_moves m f (map (letting_in a) ys) (signal a rest)) (drop_all (length xs - 0) xs (omega arith))) }
+lets_begin a m f xs rest t =
+    record {
+      there = t;
+      same = sym (ap (λ (ys : List LettingNet). release_moves m f (map (letting_in a) ys) (signal a rest)) (drop_all (length xs - 0) xs (omega arith)));
+    }
 
 pub lets_end : (a b : Circuit) (m : ℕ) (f : Signal) (xs : List LettingNet) (i : ℕ) (net : Net) (rest : Signal)
     → length xs ≤ i → Means b net (release_moves m f (map (letting_in a) (drop (length xs - i) xs)) rest)
     → Means b net (release_moves m f (map (letting_in a) xs) rest)
-lets_end a b m f xs i net rest l h = let z : length xs - i ≡ 0 = omega (arith, l) in subst (λ k. Means b net (release_moves m f (map (letting_in a) (drop k xs)) rest)) z h
+lets_end a b m f xs i net rest l h = let z : length xs - i ≡ 0 = omega (arith, l) in
+    subst (λ k. Means b net (release_moves m f (map (letting_in a) (drop k xs)) rest)) z h
 
 pub lets_more : (a b c : Circuit) (m : ℕ) (f g : Signal) (xs : List LettingNet) (i : ℕ) (x : LettingNet) (net y : Net) (rest : Signal)
     → Keeps a b → i < length xs → x ≡ get_or xs (length xs - 1 - i) x → Each (IsGivenLetting a) xs → g ≡ f
@@ -65,14 +73,17 @@ lets_more a b c m f g xs i x net y rest k l e given q h z =
     let before : n - i ≡ j + 1 = omega (arith, l) in
     let now : j ≡ n - (i + 1) = omega (arith, l) in
     let one_more : release_moves m f (letting_in a x ∷ map (letting_in a) (drop (j + 1) xs)) rest ≡ release_moves m f (map (letting_in a) (drop j xs)) rest =
-    ap (λ (w : LettingNet). release_moves m f (letting_in a w ∷ map (letting_in a) (drop (j + 1) xs)) rest) e ∙ sym (ap (λ (ys : List LettingNet). release_moves m f (map (letting_in a) ys) rest) (drop_more xs j x low)) in
+    ap (λ (w : LettingNet). release_moves m f (letting_in a w ∷ map (letting_in a) (drop (j + 1) xs)) rest) e
+    ∙ sym (ap (λ (ys : List LettingNet). release_moves m f (map (letting_in a) ys) rest) (drop_more xs j x low)) in
     let letting : letting_in b x ≡ letting_in a x = ap (λ (u : Signal). record { mem = x.mem; on = u }) (k.kept x.on it.on) in
     let after : signal b net ≡ back = h.same ∙ ap (λ i. release_moves m f (map (letting_in a) (drop i xs)) rest) before in
     let F = λ (u : Signal) (w : Letting) (v : Signal). release_moves m u (w ∷ []) v in
     let same : F g (letting_in b x) (signal b net) ≡ F f (letting_in a x) back = cc (q, letting, after) in
     record {
       there = z.there;
-      same = z.same ∙ same ∙ sym (lets_split m f (letting_in a x) (map (letting_in a) (drop (j + 1) xs)) rest) ∙ one_more ∙ ap (λ i. release_moves m f (map (letting_in a) (drop i xs)) rest) now;
+      same =
+          z.same ∙ same ∙ sym (lets_split m f (letting_in a x) (map (letting_in a) (drop (j + 1) xs)) rest) ∙ one_more
+          ∙ ap (λ i. release_moves m f (map (letting_in a) (drop i xs)) rest) now;
     }
 
 -- ---- all stages
@@ -98,5 +109,7 @@ released_more a b c m ds i d net y k l e g h z =
     let lettings : map (letting_in b) d.ended.now.lettings ≡ (views_in a ds j).ended.lettings =
     lettings_same a b k d.ended.now.lettings given.lettings ∙ sym (ap (λ (v : View). v.ended.lettings) (view_is a ds j d low e)) in
     let F = λ (u : Signal) (ws : List Letting) (v : Signal). release_moves m u ws v in
-    let same : F (signal b d.moves) (map (letting_in b) d.ended.now.lettings) (signal b net) ≡ F (moves_in a ds j) (views_in a ds j).ended.lettings (release_signal m (views_in a ds) (moves_in a ds) i (n - i)) = cc (moves, lettings, h.same) in
+    let same : F (signal b d.moves) (map (letting_in b) d.ended.now.lettings) (signal b net)
+    ≡ F (moves_in a ds j) (views_in a ds j).ended.lettings (release_signal m (views_in a ds) (moves_in a ds) i (n - i)) =
+    cc (moves, lettings, h.same) in
     record { there = z.there; same = z.same ∙ same ∙ sym (released_next m (views_in a ds) (moves_in a ds) n i j l refl) }

@@ -19,7 +19,20 @@ use Rattle.pdl_word.specs.Each.{Each}
 
 -- a walk that does nothing
 abbrev pub no_parts : Parts
-no_parts = record { vars = []; held = []; ready = one; reserves = []; puts = []; lettings = []; births = []; asks = []; guess = []; fails = zero_bit; barrier = zero_bit }
+no_parts =
+    record {
+      vars = [];
+      held = [];
+      ready = one;
+      reserves = [];
+      puts = [];
+      lettings = [];
+      births = [];
+      asks = [];
+      guess = [];
+      fails = zero_bit;
+      barrier = zero_bit;
+    }
 
 -- a stage of which only its tickets and what it does are known
 abbrev pub view_with : (ℕ → Signal) → Walk → View

@@ -30,7 +30,8 @@ IsLawfulLock l c x = IsLawful (l.stands x.lock x.regs) (l.kind x.lock) (l.size x
 pub record AreLawful {T : Type 0} (l : Members T) (c : Circuit) (p : Pipe) (xs : List (Option (MemLock T))) : Type 0 where
   pub laws : (m : ℕ) (x : MemLock T) → m < length p.mems → some_at xs m ≡ Some x → IsLawfulLock l c x
   pub kinds : (m : ℕ) (x : MemLock T) → m < length p.mems → some_at xs m ≡ Some x → (mem_at p m).lock ≡ as_lock (l.kind x.lock) (l.size x.lock)
-  pub deep : (m : ℕ) (x : MemLock T) → m < length p.mems → (mem_at p m).delayed ≡ false → some_at xs m ≡ Some x → array_depth c (comb_place p m) ≡ words_of (l.kind x.lock) (mem_at p m).depth
+  pub deep : (m : ℕ) (x : MemLock T) → m < length p.mems → (mem_at p m).delayed ≡ false → some_at xs m ≡ Some x
+      → array_depth c (comb_place p m) ≡ words_of (l.kind x.lock) (mem_at p m).depth
   pub apart : (m n : ℕ) (x y : MemLock T) → m < n → n < length p.mems → some_at xs m ≡ Some x → some_at xs n ≡ Some y → end_reg x.regs ≤ first_reg y.regs
 
 -- the locks' registers are above those of a circuit

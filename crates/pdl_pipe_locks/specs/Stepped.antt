@@ -24,12 +24,14 @@ pub record IsStepped {T : Type 0} (l : Members T) (c : Circuit) (mem : Mem) (f :
   pub value_wide : (signal c n.value).width ≡ mem.width
 
 -- one memory: it has commit nets where it has a lock
-pub record IsSteppedMemory {T : Type 0} (l : Members T) (c : Circuit) (mem : Mem) (f : StepSignals) (x : Option (MemLock T)) (n : Option LockNets) : Type 0 where
+pub record IsSteppedMemory {T : Type 0} (l : Members T) (c : Circuit) (mem : Mem) (f : StepSignals)
+    (x : Option (MemLock T)) (n : Option LockNets) : Type 0 where
   pub has : is_some n ≡ is_some x
   pub lock : (y : MemLock T) (z : LockNets) → x ≡ Some y → n ≡ Some z → IsStepped l c mem f y z
 
 -- the first i memories
-pub record AreStepped {T : Type 0} (l : Members T) (c : Circuit) (p : Pipe) (f : ℕ → StepSignals) (xs : List (Option (MemLock T))) (ns : List (Option LockNets)) (i : ℕ) : Type 0 where
+pub record AreStepped {T : Type 0} (l : Members T) (c : Circuit) (p : Pipe) (f : ℕ → StepSignals)
+    (xs : List (Option (MemLock T))) (ns : List (Option LockNets)) (i : ℕ) : Type 0 where
   pub count : length ns ≡ i
   pub each : (m : ℕ) → m < i → IsSteppedMemory l c (mem_at p m) (f m) (some_at xs m) (some_at ns m)
 
@@ -43,8 +45,12 @@ own_of (Some x) = own x.regs
 -- only the registers and the arrays of some of the first i locks have changed what they take next
 pub record ExtendsLocks {T : Type 0} (xs : List (Option (MemLock T))) (i : ℕ) (old new : Circuit) : Type 0 where
   pub keeps : Keeps old new
-  pub nexts : (k : ℕ) → HasReg old k → ((m : ℕ) → m < i → Outside (own_of (some_at xs m)).from (own_of (some_at xs m)).to k) → next_signal new k ≡ next_signal old k
-  pub writes : (n : ℕ) → HasArray old n → ((m : ℕ) → m < i → Outside (own_of (some_at xs m)).first (own_of (some_at xs m)).last n) → write_signals new n ≡ write_signals old n
+  pub nexts : (k : ℕ) → HasReg old k
+      → ((m : ℕ) → m < i → Outside (own_of (some_at xs m)).from (own_of (some_at xs m)).to k)
+      → next_signal new k ≡ next_signal old k
+  pub writes : (n : ℕ) → HasArray old n
+      → ((m : ℕ) → m < i → Outside (own_of (some_at xs m)).first (own_of (some_at xs m)).last n)
+      → write_signals new n ≡ write_signals old n
   pub ports : new.ports ≡ old.ports
   pub shapes : shapes_of new ≡ shapes_of old
 

@@ -82,19 +82,28 @@ controls_keep a b p y e h = record {
 
 -- ---- a stage that is asked
 
-module _ (a b : Circuit) (e : Keeps a b) (x : StageLine) (y : Controls) (line : IsLineIn a x) (inside : LeadsInside (line_pipe x)) (h : IsControlled a (line_pipe x) y) where
+module _ (a b : Circuit) (e : Keeps a b) (x : StageLine) (y : Controls) (line : IsLineIn a x)
+    (inside : LeadsInside (line_pipe x)) (h : IsControlled a (line_pipe x) y) where
   -- by a gate that was made, and moves as they were then
   pub moved_so : (c : Circuit) (f : Keeps b c) (frees : List Net) (gate moves : Net) (k : ℕ) → k < length (line_pipe x).stages → Each (IsBit a) frees
       → IsBitFor b gate (gate_by (line_pipe x) (line_views a x) (signs_by a x y) (signal_at (signals_in a frees)) k)
-      → IsBitFor c moves (moves_where (line_pipe x) (line_views b x) (λ j. signal b gate) (line_moves b x) k) → IsMovedBy c x (signs_by c x y) (signal_at (signals_in c frees)) (line_moves c x) k (signal c moves)
+      → IsBitFor c moves (moves_where (line_pipe x) (line_views b x) (λ j. signal b gate) (line_moves b x) k)
+      → IsMovedBy c x (signs_by c x y) (signal_at (signals_in c frees)) (line_moves c x) k (signal c moves)
   moved_so c f frees gate moves k low fs g m s =
       let lb = line_keep a b x e line in
       let ac = keeps_trans a b c e f in
       m.on s
-      ∙ gate_as (line_pipe x) (line_views b x) (λ j. signal b gate) (λ j. gate_by (line_pipe x) (line_views a x) (signs_by a x y) (signal_at (signals_in a frees)) k) (line_moves b x) k g.on s
-      ∙ ap₂ (λ (vs : ℕ → View) (ms : ℕ → Signal). is_on (moves_where (line_pipe x) vs (λ j. gate_by (line_pipe x) (line_views a x) (signs_by a x y) (signal_at (signals_in a frees)) k) ms k) s) (sym (views_same b c x f lb)) (sym (all_moves_same b c x f lb))
+      ∙ gate_as (line_pipe x) (line_views b x) (λ j. signal b gate)
+      (λ j. gate_by (line_pipe x) (line_views a x) (signs_by a x y) (signal_at (signals_in a frees)) k)
+      (line_moves b x) k g.on s
+      ∙ ap₂
+      (λ (vs : ℕ → View)
+      (ms : ℕ → Signal). is_on
+      (moves_where (line_pipe x) vs (λ j. gate_by (line_pipe x) (line_views a x) (signs_by a x y) (signal_at (signals_in a frees)) k) ms k) s)
+      (sym (views_same b c x f lb)) (sym (all_moves_same b c x f lb))
       ∙ ap (λ (i : Signal). is_on (moves_where (line_pipe x) (line_views c x) (λ j. i) (line_moves c x) k) s)
-      (sym (gate_same a c ac x y line inside h (signal_at (signals_in a frees)) k low) ∙ ap (λ fs. gate_by (line_pipe x) (line_views c x) (signs_by c x y) (signal_at fs) k) (sym (signals_keep a c frees ac (bits_there a frees fs))))
+      (sym (gate_same a c ac x y line inside h (signal_at (signals_in a frees)) k low)
+      ∙ ap (λ fs. gate_by (line_pipe x) (line_views c x) (signs_by c x y) (signal_at fs) k) (sym (signals_keep a c frees ac (bits_there a frees fs))))
 
 -- ---- one stage more
 
@@ -111,18 +120,24 @@ frees_bits c [] k h = tt
 frees_bits c (fs ∷ xs) zero h = h.0
 frees_bits c (fs ∷ xs) (suc k) h = frees_bits c xs k h.1
 
-module _ (a b : Circuit) (e : Keeps a b) (x : StageLine) (y : Controls) (line : IsLineIn a x) (inside : LeadsInside (line_pipe x)) (stand : StandPorts a (line_pipe x) x.shared.now.ports.now) (h : IsControlled a (line_pipe x) y) where
-  pub all_passed_keep : (nets : List Net) (opens : List (Seq Net)) (low : ℕ) → ArePassed a x (signs_by a x y) nets opens low → ArePassed b x (signs_by b x y) nets opens low
+module _ (a b : Circuit) (e : Keeps a b) (x : StageLine) (y : Controls) (line : IsLineIn a x)
+    (inside : LeadsInside (line_pipe x)) (stand : StandPorts a (line_pipe x) x.shared.now.ports.now)
+    (h : IsControlled a (line_pipe x) y) where
+  pub all_passed_keep : (nets : List Net) (opens : List (Seq Net)) (low : ℕ)
+      → ArePassed a x (signs_by a x y) nets opens low → ArePassed b x (signs_by b x y) nets opens low
   all_passed_keep nets opens low it = record {
     moves_count = it.moves_count;
     moves = bits_keep a b nets e it.moves;
     frees_count = it.frees_count;
     frees = all_keep a b e opens it.frees;
     each = λ k l m.
-        passed_keep a b e x line stand (signs_by a x y) (signs_by b x y) nets (frees_at opens k) k (λ fs. gate_same a b e x y line inside h fs k m) it.moves (frees_bits a opens k it.frees) (it.each k l m);
+        passed_keep a b e x line stand (signs_by a x y)
+        (signs_by b x y) nets (frees_at opens k) k (λ fs. gate_same a b e x y line inside h fs k m) it.moves (frees_bits a opens k it.frees)
+        (it.each k l m);
   }
 
-  pub passed_more : (nets : List Net) (opens : List (Seq Net)) (k : ℕ) (one : Passage) (z : StageLine) → z.moves.now ≡ nets → k < length (line_pipe x).stages → ArePassed a x (signs_by a x y) nets opens (k + 1)
+  pub passed_more : (nets : List Net) (opens : List (Seq Net)) (k : ℕ) (one : Passage) (z : StageLine)
+      → z.moves.now ≡ nets → k < length (line_pipe x).stages → ArePassed a x (signs_by a x y) nets opens (k + 1)
       → IsBit b one.moves → HaveFree b (record z { pipe = x.pipe; shared = x.shared; stages = x.stages }) k one.frees (length (line_pipe x).mems)
       → IsMovedBy b x (signs_by b x y) (signal_at (signals_in b one.frees)) (line_moves b z) k (signal b one.moves)
       → ArePassed b x (signs_by b x y) (slice_set nets k one.moves) (slice_set opens k one.frees) k
@@ -139,18 +154,24 @@ module _ (a b : Circuit) (e : Keeps a b) (x : StageLine) (y : Controls) (line : 
       w : StageLine
       w = record z { pipe = x.pipe; shared = x.shared; stages = x.stages }
 
-      at : (j : ℕ) → k ≤ j → j < length (line_pipe x).stages → (k < j) ⊎ (j ≤ k) → IsPassed b x (signs_by b x y) (slice_set nets k one.moves) (frees_at (slice_set opens k one.frees) j) j
+      at : (j : ℕ) → k ≤ j → j < length (line_pipe x).stages → (k < j) ⊎ (j ≤ k)
+          → IsPassed b x (signs_by b x y) (slice_set nets k one.moves) (frees_at (slice_set opens k one.frees) j) j
       at j l m (inl q) =
           let n = it.moves_count in
           subst (λ fs. IsPassed b x (signs_by b x y) (slice_set nets k one.moves) fs j) (sym (frees_other opens k j one.frees (λ f. omega (arith, q, f))))
-          (passed_set x inside j m b (signs_by b x y) nets (frees_at opens j) k one.moves q (omega (arith, q, m, n)) ((all_passed_keep nets opens (k + 1) it).each j (omega (arith, q)) m))
+          (passed_set x inside j m b (signs_by b x y) nets (frees_at opens j) k one.moves q (omega (arith, q, m, n))
+          ((all_passed_keep nets opens (k + 1) it).each j (omega (arith, q)) m))
       at j l m (inr q) =
           let f : k ≡ j = omega (arith, l, q) in
           let n = it.moves_count in
           let c = it.frees_count in
-          let here = passed_new w inside k low b (signs_by b x y) nets one.frees one.moves (omega (arith, low, n)) free (λ i. ap (λ ns. signal_at (signals_in b ns) i) same) is in
+          let here =
+          passed_new w inside k low b (signs_by b x y) nets one.frees one.moves (omega (arith, low, n)) free
+          (λ i. ap (λ ns. signal_at (signals_in b ns) i) same) is in
           subst (λ i. IsPassed b x (signs_by b x y) (slice_set nets k one.moves) (frees_at (slice_set opens k one.frees) i) i) f
-          (subst (λ fs. IsPassed b x (signs_by b x y) (slice_set nets k one.moves) fs k) (sym (get_or-set_same opens k one.frees [] (omega (arith, low, c)))) (record { moves = here.moves; free = here.free }))
+          (subst (λ fs. IsPassed b x (signs_by b x y) (slice_set nets k one.moves) fs k)
+          (sym (get_or-set_same opens k one.frees [] (omega (arith, low, c))))
+          (record { moves = here.moves; free = here.free }))
 
 -- ---- lists of one net, and lists that are filled up
 
@@ -202,7 +223,9 @@ squash_as v va vb ma mb fa fb qa qb ra rb ca cb valid moves fails squash removed
   clears = λ s held m f d k n e l. ap (λ (g : Signal). g.value s) (sym (clear k l)) ∙ law.clears s held m f (drives s held m f d) k n e l;
 }
   where
-    drives : (s : State) (held : ℕ → Bool) (m f : Bool) → Drives (record { valid = vb; stage = v; moves = mb; fails = fb }) s held m f → Drives (record { valid = va; stage = v; moves = ma; fails = fa }) s held m f
+    drives : (s : State) (held : ℕ → Bool) (m f : Bool)
+        → Drives (record { valid = vb; stage = v; moves = mb; fails = fb }) s held m f
+        → Drives (record { valid = va; stage = v; moves = ma; fails = fa }) s held m f
     drives s held m f d = record {
       valid = λ k l. ap (λ (g : Signal). g.value s) (valid k l) ∙ d.valid k l;
       moves = ap (λ (g : Signal). g.value s) moves ∙ d.moves;
@@ -218,8 +241,10 @@ valid_net c x xs line h k l =
     let some = some_stage x.stages.now k low in
     let s = some.0 in
     let now = line.stages k s low some.1 in
-    let net = h.each k s l some.1 in
-    (subst (IsThere c) (sym net) now.registers.valid.there, ap (signal c) net ∙ now.registers.valid.same ∙ sym (ap (λ (v : View). v.valid) (view_at c x.stages.now k s low some.1)))
+    let net = h.each k s l some.1 in (
+      subst (IsThere c) (sym net) now.registers.valid.there,
+      ap (signal c) net ∙ now.registers.valid.same ∙ sym (ap (λ (v : View). v.valid) (view_at c x.stages.now k s low some.1)),
+    )
 
 -- the nets that tell whether stages hold threads have 1 bit each
 pub valid_bits : (c : Circuit) (x : StageLine) (xs : List Net) → IsLineIn c x → HasValids x xs → AreSquashBits c xs (length xs)
@@ -244,10 +269,15 @@ late_free : (v k : ℕ) → v ≤ k → nat_lt k v ≡ false
 late_free v k l = lt-leb (suc k) v (omega (arith, l))
 
 unsquashed_late : (o : Option ℕ) (v k : ℕ) → o ≡ Some v → v ≤ k → (f g : Signal) → unsquashed o k f ≡ unsquashed o k g
-unsquashed_late o v k e l f g = ap (λ p. unsquashed p k f) e ∙ ap (λ b. if b then mux_signal f zero_bit one else one) (late_free v k l) ∙ ap (λ b. if b then mux_signal g zero_bit one else one) (sym (late_free v k l)) ∙ ap (λ p. unsquashed p k g) (sym e)
+unsquashed_late o v k e l f g =
+    ap (λ p. unsquashed p k f) e ∙ ap (λ b. if b then mux_signal f zero_bit one else one) (late_free v k l)
+    ∙ ap (λ b. if b then mux_signal g zero_bit one else one) (sym (late_free v k l))
+    ∙ ap (λ p. unsquashed p k g) (sym e)
 
 barrier_late : (o : Option ℕ) (v k : ℕ) → o ≡ Some v → v ≤ k → (h f g : Signal) → barrier_open o k h f ≡ barrier_open o k h g
-barrier_late o v k e l h f g = ap (λ p. barrier_open p k h f) e ∙ ap (λ b. if b then if_on h f else one) (late_free v k l) ∙ ap (λ b. if b then if_on h g else one) (sym (late_free v k l)) ∙ ap (λ p. barrier_open p k h g) (sym e)
+barrier_late o v k e l h f g =
+    ap (λ p. barrier_open p k h f) e ∙ ap (λ b. if b then if_on h f else one) (late_free v k l)
+    ∙ ap (λ b. if b then if_on h g else one) (sym (late_free v k l)) ∙ ap (λ p. barrier_open p k h g) (sym e)
 
 gate_late : (p : Pipe) (vs : ℕ → View) (answers : ℕ → ℕ → AnswerSignals) (turns : ℕ → ℕ → Signal) (f g : Signal)
     (c d : ℕ → Signal) (frees : ℕ → Signal) (v k : ℕ)
@@ -255,7 +285,9 @@ gate_late : (p : Pipe) (vs : ℕ → View) (answers : ℕ → ℕ → AnswerSign
     → gate_by p vs (record { answers = answers; turns = turns; squash = f; clear = c }) frees k
     ≡ gate_by p vs (record { answers = answers; turns = turns; squash = g; clear = d }) frees k
 gate_late p vs answers turns f g c d frees v k e l =
-    ap₂ (λ h i. both (all_answered p answers k (length p.mems) 0) (both h (both (opens_by frees (vs k).ended.asks) (both i (way_on (stage_at p k).next (turns k) (vs k).ended)))))
+    ap₂
+    (λ h i. both (all_answered p answers k (length p.mems) 0)
+    (both h (both (opens_by frees (vs k).ended.asks) (both i (way_on (stage_at p k).next (turns k) (vs k).ended)))))
     (unsquashed_late (verify_stage p.stmts) v k e l f g) (barrier_late (verify_stage p.stmts) v k e l (vs k).ended.barrier (c k) (d k))
 
 -- from the stage that verifies on, threads move alike by any squash and any clear stages
@@ -274,7 +306,9 @@ passed_late b x orders f g c d nets opens v e it = record {
         moves = λ s.
             h.moves s
             ∙ ap (λ (i : Signal). is_on (moves_where (line_pipe x) (line_views b x) (λ j. i) (signal_at (signals_in b nets)) k) s)
-            (gate_late (line_pipe x) (line_views b x) (answers_in b x.shared.now.ports.now) (turn_in b (line_pipe x) orders) (signal b f) (signal b g) (λ j. signal_at (signals_in b c) j) (λ j. signal_at (signals_in b d) j) (signal_at (signals_in b (frees_at opens k))) v k e l);
+            (gate_late (line_pipe x) (line_views b x) (answers_in b x.shared.now.ports.now)
+            (turn_in b (line_pipe x) orders) (signal b f) (signal b g) (λ j. signal_at (signals_in b c) j)
+            (λ j. signal_at (signals_in b d) j) (signal_at (signals_in b (frees_at opens k))) v k e l);
         free = h.free;
       };
 }
@@ -292,7 +326,9 @@ gate_none : (p : Pipe) (vs : ℕ → View) (answers : ℕ → ℕ → AnswerSign
     → gate_by p vs (record { answers = answers; turns = turns; squash = f; clear = c }) frees k
     ≡ gate_by p vs (record { answers = answers; turns = turns; squash = g; clear = d }) frees k
 gate_none p vs answers turns f g c d frees k e =
-    ap₂ (λ h i. both (all_answered p answers k (length p.mems) 0) (both h (both (opens_by frees (vs k).ended.asks) (both i (way_on (stage_at p k).next (turns k) (vs k).ended)))))
+    ap₂
+    (λ h i. both (all_answered p answers k (length p.mems) 0)
+    (both h (both (opens_by frees (vs k).ended.asks) (both i (way_on (stage_at p k).next (turns k) (vs k).ended)))))
     (unsquashed_none (verify_stage p.stmts) k e f g) (barrier_none (verify_stage p.stmts) k e (vs k).ended.barrier (c k) (d k))
 
 -- in a pipe without a stage that verifies, threads move alike by any clear stages
@@ -311,7 +347,9 @@ passed_certain b x orders f c d nets opens low e it = record {
         moves = λ s.
             h.moves s
             ∙ ap (λ (i : Signal). is_on (moves_where (line_pipe x) (line_views b x) (λ j. i) (signal_at (signals_in b nets)) k) s)
-            (gate_none (line_pipe x) (line_views b x) (answers_in b x.shared.now.ports.now) (turn_in b (line_pipe x) orders) (signal b f) (signal b f) (λ j. signal_at (signals_in b c) j) (λ j. signal_at (signals_in b d) j) (signal_at (signals_in b (frees_at opens k))) k e);
+            (gate_none (line_pipe x) (line_views b x) (answers_in b x.shared.now.ports.now)
+            (turn_in b (line_pipe x) orders) (signal b f) (signal b f) (λ j. signal_at (signals_in b c) j)
+            (λ j. signal_at (signals_in b d) j) (signal_at (signals_in b (frees_at opens k))) k e);
         free = h.free;
       };
 }

@@ -49,9 +49,15 @@ place_low a x line inside k low i l =
     let m = line.moves_count in
     omega (arith, q, n, m)
 
-module _ (a b : Circuit) (e : Keeps a b) (x : StageLine) (line : IsLineIn a x) (inside : LeadsInside (line_pipe x)) (stand : StandPorts a (line_pipe x) x.shared.now.ports.now) (k : ℕ) (low : k < length (line_pipe x).stages) where
-  pub made_free : (m : ℕ) (port : PortRegs) (net : Net) → some_at x.shared.now.ports.now m ≡ Some port → port_laws.places port ≡ length (places_of (stage_at (line_pipe x) k).next) → IsThere b net → (signal b net).width ≡ 1
-      → FreeLaw (stands port) (port_laws.places port) (signal a port.reply) (λ i. port_laws.signal_at a x.moves.now (slice_index (places_of (stage_at (line_pipe x) k).next) i)) (signal b net) → HasFree b x k m net
+module _ (a b : Circuit) (e : Keeps a b) (x : StageLine) (line : IsLineIn a x) (inside : LeadsInside (line_pipe x))
+    (stand : StandPorts a (line_pipe x) x.shared.now.ports.now) (k : ℕ) (low : k < length (line_pipe x).stages) where
+  pub made_free : (m : ℕ) (port : PortRegs) (net : Net) → some_at x.shared.now.ports.now m ≡ Some port
+      → port_laws.places port ≡ length (places_of (stage_at (line_pipe x) k).next) → IsThere b net
+      → (signal b net).width ≡ 1
+      → FreeLaw (stands port) (port_laws.places port) (signal a port.reply)
+      (λ i. port_laws.signal_at a x.moves.now (slice_index (places_of (stage_at (line_pipe x) k).next) i))
+      (signal b net)
+      → HasFree b x k m net
   made_free m port net some count there one law = record {
     bit = (there, one);
     free = λ r q is at found.
@@ -59,14 +65,27 @@ module _ (a b : Circuit) (e : Keeps a b) (x : StageLine) (line : IsLineIn a x) (
         let y : port ≡ q = cc same in
         let reply = sym (e.kept port.reply (stand.each m r port is some).placed.reply_there) in
         let n : port_laws.places port ≡ length (places (line_pipe x) r) = count ∙ ap (λ j. length (places_of (stage_at (line_pipe x) j).next)) (sym at) in
-        let moves : (i : ℕ) → i < length (places (line_pipe x) r) → port_laws.signal_at a x.moves.now (slice_index (places_of (stage_at (line_pipe x) k).next) i) ≡ line_moves b x (place_at (line_pipe x) r i) = λ i l.
+        let moves : (i : ℕ) → i < length (places (line_pipe x) r)
+        → port_laws.signal_at a x.moves.now (slice_index (places_of (stage_at (line_pipe x) k).next) i) ≡ line_moves b x (place_at (line_pipe x) r i) =
+        λ i l.
         net_signal a x.moves.now (slice_index (places_of (stage_at (line_pipe x) k).next) i) (place_low a x line inside k low i (omega (arith, l, n, count)))
         ∙ ap (λ (f : ℕ → Signal). f (slice_index (places_of (stage_at (line_pipe x) k).next) i)) (sym (all_moves_same a b x e line))
         ∙ ap (λ j. line_moves b x (slice_index (places_of (stage_at (line_pipe x) j).next) i)) (sym at) in
-        let mine = free_as (stands port) (length (places (line_pipe x) r)) (signal b port.reply) (λ i. port_laws.signal_at a x.moves.now (slice_index (places_of (stage_at (line_pipe x) k).next) i)) (λ i. line_moves b x (place_at (line_pipe x) r i)) (signal b net) moves
-        (subst (λ (f : Signal). FreeLaw (stands port) (length (places (line_pipe x) r)) f (λ i. port_laws.signal_at a x.moves.now (slice_index (places_of (stage_at (line_pipe x) k).next) i)) (signal b net)) reply
-        (subst (λ j. FreeLaw (stands port) j (signal a port.reply) (λ i. port_laws.signal_at a x.moves.now (slice_index (places_of (stage_at (line_pipe x) k).next) i)) (signal b net)) n law)) in
-        subst (λ (z : PortRegs). FreeLaw (stands z) (length (places (line_pipe x) r)) (signal b z.reply) (λ i. line_moves b x (place_at (line_pipe x) r i)) (signal b net)) y mine;
+        let mine =
+        free_as (stands port) (length (places (line_pipe x) r)) (signal b port.reply)
+        (λ i. port_laws.signal_at a x.moves.now (slice_index (places_of (stage_at (line_pipe x) k).next) i))
+        (λ i. line_moves b x (place_at (line_pipe x) r i)) (signal b net) moves
+        (subst
+        (λ (f : Signal). FreeLaw (stands port)
+        (length (places (line_pipe x) r)) f (λ i. port_laws.signal_at a x.moves.now (slice_index (places_of (stage_at (line_pipe x) k).next) i))
+        (signal b net)) reply
+        (subst
+        (λ j. FreeLaw (stands port) j (signal a port.reply)
+        (λ i. port_laws.signal_at a x.moves.now (slice_index (places_of (stage_at (line_pipe x) k).next) i))
+        (signal b net)) n law)) in
+        subst
+        (λ (z : PortRegs). FreeLaw (stands z) (length (places (line_pipe x) r)) (signal b z.reply)
+        (λ i. line_moves b x (place_at (line_pipe x) r i)) (signal b net)) y mine;
   }
 
   -- what is free stays so
@@ -76,7 +95,9 @@ module _ (a b : Circuit) (e : Keeps a b) (x : StageLine) (line : IsLineIn a x) (
     bits = bits_keep a b nets e h.bits;
     free = λ i l.
         subst (λ (f : Signal). IsFreeBy b x (line_moves b x) k i f) (sym (ap (λ fs. signal_at fs i) (keeps nets h.bits)))
-        (subst (λ (ms : ℕ → Signal). IsFreeBy b x ms k i (signal_at (signals_in a nets) i)) (sym (all_moves_same a b x e line)) (free_keep a b e x line stand (line_moves a x) k i (signal_at (signals_in a nets) i) (h.free i l)));
+        (subst (λ (ms : ℕ → Signal). IsFreeBy b x ms k i (signal_at (signals_in a nets) i))
+        (sym (all_moves_same a b x e line))
+        (free_keep a b e x line stand (line_moves a x) k i (signal_at (signals_in a nets) i) (h.free i l)));
   }
     where
       keeps : (xs : List Net) → Each (IsBit a) xs → signals_in b xs ≡ signals_in a xs
@@ -93,7 +114,10 @@ free_more c x k nets n net h new = record {
 }
   where
     at : (m : ℕ) → m < n + 1 → (m < n) ⊎ (n ≤ m) → IsFreeBy c x (line_moves c x) k m (signal_at (signals_in c (nets ++ net ∷ [])) m)
-    at m l (inl q) = subst (λ (f : Signal). IsFreeBy c x (line_moves c x) k m f) (sym (signal_old c nets net m (let e = h.count in omega (arith, q, e)))) (h.free m q)
+    at m l (inl q) =
+        subst (λ (f : Signal). IsFreeBy c x (line_moves c x) k m f) (sym (signal_old c nets net m (let e = h.count in omega (arith, q, e)))) (h.free m q)
     at m l (inr q) =
         let e : n ≡ m = omega (arith, l, q) in
-        subst (λ (f : Signal). IsFreeBy c x (line_moves c x) k m f) (sym (signal_new c nets net m (let d = h.count in omega (arith, e, d)))) (subst (λ j. IsFreeBy c x (line_moves c x) k j (signal c net)) e new.free)
+        subst (λ (f : Signal). IsFreeBy c x (line_moves c x) k m f)
+        (sym (signal_new c nets net m (let d = h.count in omega (arith, e, d))))
+        (subst (λ j. IsFreeBy c x (line_moves c x) k j (signal c net)) e new.free)

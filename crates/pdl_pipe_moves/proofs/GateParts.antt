@@ -60,14 +60,16 @@ both_after a b c x y z f g e h k r = record {
 -- ---- while the circuit grows
 
 module _ (a b : Circuit) (e : Keeps a b) where
-  pub answered_same : (p : Pipe) (ports : List (Option PortRegs)) (k n m : ℕ) → HasAnswers a p ports → all_answered p (answers_in b ports) k n m ≡ all_answered p (answers_in a ports) k n m
+  pub answered_same : (p : Pipe) (ports : List (Option PortRegs)) (k n m : ℕ) → HasAnswers a p ports
+      → all_answered p (answers_in b ports) k n m ≡ all_answered p (answers_in a ports) k n m
   answered_same p ports k zero m h = refl
   answered_same p ports k (suc n) m h = ap₂ both (memory_answered_same a b e p ports k m h) (answered_same p ports k n (suc m) h)
 
   -- requests of which the conditions are there
   pub asks_same : (qs : List AskNet) → Each (λ (x : AskNet). IsThere a x.on × IsThere a x.addr) qs → map (ask_in b) qs ≡ map (ask_in a) qs
   asks_same [] h = refl
-  asks_same (q ∷ qs) h = ap₂ (λ x xs. x ∷ xs) (ap₂ (λ f g. record { mem = q.mem; var = q.var; on = f; addr = g }) (e.kept q.on h.0.0) (e.kept q.addr h.0.1)) (asks_same qs h.1)
+  asks_same (q ∷ qs) h =
+      ap₂ (λ x xs. x ∷ xs) (ap₂ (λ f g. record { mem = q.mem; var = q.var; on = f; addr = g }) (e.kept q.on h.0.0) (e.kept q.addr h.0.1)) (asks_same qs h.1)
 
   -- the way on asks for turns into stages of the pipe alone
   pub turns_way : (p : Pipe) (rs : List (Option OrderRegs)) (k : ℕ) (w : Walk) → LeadsInside p → k < length p.stages → HasTurns a p rs
@@ -78,7 +80,9 @@ module _ (a b : Circuit) (e : Keeps a b) where
       at flat.Ends is = refl
       at (flat.Goes to) is = turn_same a b e p rs k to (straight_low p inside k low to is) h
       at (flat.Forks x first second) is =
-          ap₂ (λ f g. mux_signal (w.vars x) f g) (turn_same a b e p rs k first (first_low p inside k low x first second is) h) (turn_same a b e p rs k second (second_low p inside k low x first second is) h)
+          ap₂ (λ f g. mux_signal (w.vars x) f g)
+          (turn_same a b e p rs k first (first_low p inside k low x first second is) h)
+          (turn_same a b e p rs k second (second_low p inside k low x first second is) h)
 
 -- ---- requests
 

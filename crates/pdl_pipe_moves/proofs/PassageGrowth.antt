@@ -36,7 +36,9 @@ use Rattle.pdl_pipe_moves.specs.Passed.{IsFreeBy, HaveFree, IsMovedBy, IsPassed}
 way_as : (n : Next) (f g : ℕ → Signal) (w : Walk) → ((q : ℕ) → leads_to n q ≡ true → f q ≡ g q) → way_on n f w ≡ way_on n g w
 way_as flat.Ends f g w h = refl
 way_as (flat.Goes to) f g w h = h to (eq-eqb to to refl)
-way_as (flat.Forks x first second) f g w h = ap₂ (λ a b. mux_signal (w.vars x) a b) (h first (left (second == first) (eq-eqb first first refl))) (h second (right (first == second) (eq-eqb second second refl)))
+way_as (flat.Forks x first second) f g w h =
+    ap₂ (λ a b. mux_signal (w.vars x) a b) (h first (left (second == first) (eq-eqb first first refl)))
+    (h second (right (first == second) (eq-eqb second second refl)))
   where
     left : {a : Bool} (b : Bool) → a ≡ true → (a || b) ≡ true
     left b e = ap (λ c. c || b) e
@@ -50,12 +52,14 @@ pub moves_as : (p : Pipe) (vs : ℕ → View) (gate moves others : ℕ → Signa
     → ((q : ℕ) → leads_to (stage_at p k).next q ≡ true → moves q ≡ others q)
     → moves_where p vs gate moves k ≡ moves_where p vs gate others k
 moves_as p vs gate moves others k h =
-    ap (λ f. both (vs k).valid (both (vs k).ended.ready (both (gate k) f))) (way_as (stage_at p k).next (free vs moves) (free vs others) (vs k).ended (λ q l. ap (λ f. mux_signal (vs q).valid f one) (h q l)))
+    ap (λ f. both (vs k).valid (both (vs k).ended.ready (both (gate k) f)))
+    (way_as (stage_at p k).next (free vs moves) (free vs others) (vs k).ended (λ q l. ap (λ f. mux_signal (vs q).valid f one) (h q l)))
 
 -- and a port is free by those of its places
 pub free_as : (stands : State → PortState → Type 0) (n : ℕ) (reply : Signal) (moves others : ℕ → Signal) (free : Signal)
     → ((i : ℕ) → i < n → moves i ≡ others i) → FreeLaw stands n reply moves free → FreeLaw stands n reply others free
-free_as stands n reply moves others free h law = record { holds = λ s x r on is q each. law.holds s x r on is q (λ k l. ap (λ (f : Signal). f.value s) (h k l) ∙ each k l) }
+free_as stands n reply moves others free h law =
+    record { holds = λ s x r on is q each. law.holds s x r on is q (λ k l. ap (λ (f : Signal). f.value s) (h k l) ∙ each k l) }
 
 -- a stage leads to each of its places
 pub place_leads : (n : Next) (i : ℕ) → i < length (places_of n) → leads_to n (slice_index (places_of n) i) ≡ true
@@ -74,8 +78,11 @@ free_by : (c : Circuit) (x : StageLine) (moves others : ℕ → Signal) (k m : �
     → ((q : ℕ) → leads_to (stage_at (line_pipe x) k).next q ≡ true → moves q ≡ others q) → IsFreeBy c x moves k m f
     → IsFreeBy c x others k m f
 free_by c x moves others k m f h law r q is at some =
-    free_as (stands q) (length (places (line_pipe x) r)) (signal c q.reply) (λ i. moves (place_at (line_pipe x) r i)) (λ i. others (place_at (line_pipe x) r i)) f
-    (λ i l. h (place_at (line_pipe x) r i) (subst (λ j. leads_to (stage_at (line_pipe x) j).next (place_at (line_pipe x) r i) ≡ true) at (place_leads (stage_at (line_pipe x) r.stage).next i l))) (law r q is at some)
+    free_as (stands q) (length (places (line_pipe x) r)) (signal c q.reply) (λ i. moves (place_at (line_pipe x) r i))
+    (λ i. others (place_at (line_pipe x) r i)) f
+    (λ i l. h (place_at (line_pipe x) r i)
+    (subst (λ j. leads_to (stage_at (line_pipe x) j).next (place_at (line_pipe x) r i) ≡ true) at (place_leads (stage_at (line_pipe x) r.stage).next i l)))
+    (law r q is at some)
 
 -- ---- lists of nets
 
@@ -87,7 +94,9 @@ set_signals c (y ∷ ys) (suc k) x = ap (λ fs. signal c y ∷ fs) (set_signals 
 pub set_here : (c : Circuit) (xs : List Net) (k : ℕ) (x : Net) → k < length xs → signal_at (signals_in c (slice_set xs k x)) k ≡ signal c x
 set_here c xs k x l =
     let n = length_signals c xs in
-    ap (λ fs. signal_at fs k) (set_signals c xs k x) ∙ signal_set (signals_in c xs) k (signal c x) k (omega (arith, l, n)) ∙ ap (λ b. if b then signal c x else signal_at (signals_in c xs) k) (eq-eqb k k refl)
+    ap (λ fs. signal_at fs k) (set_signals c xs k x)
+    ∙ signal_set (signals_in c xs) k (signal c x) k (omega (arith, l, n))
+    ∙ ap (λ b. if b then signal c x else signal_at (signals_in c xs) k) (eq-eqb k k refl)
 
 pub set_later : (c : Circuit) (xs : List Net) (k : ℕ) (x : Net) (q : ℕ)
     → k < length xs → k < q → signal_at (signals_in c (slice_set xs k x)) q ≡ signal_at (signals_in c xs) q
@@ -118,28 +127,41 @@ gate_as p vs g h moves k e =
 -- ---- one stage
 
 module _ (x : StageLine) (inside : LeadsInside (line_pipe x)) (k : ℕ) (low : k < length (line_pipe x).stages) where
-  pub moved_as : (c : Circuit) (g : Signs) (frees moves others : ℕ → Signal) (f : Signal) → ((q : ℕ) → k < q → moves q ≡ others q) → IsMovedBy c x g frees moves k f → IsMovedBy c x g frees others k f
+  pub moved_as : (c : Circuit) (g : Signs) (frees moves others : ℕ → Signal) (f : Signal)
+      → ((q : ℕ) → k < q → moves q ≡ others q) → IsMovedBy c x g frees moves k f → IsMovedBy c x g frees others k f
   moved_as c g frees moves others f h is s =
-      is s ∙ ap (λ (i : Signal). is_on i s) (moves_as (line_pipe x) (line_views c x) (λ j. gate_by (line_pipe x) (line_views c x) g frees k) moves others k (λ q l. h q (inside k q low l).0))
+      is s
+      ∙ ap (λ (i : Signal). is_on i s)
+      (moves_as (line_pipe x) (line_views c x) (λ j. gate_by (line_pipe x) (line_views c x) g frees k) moves others k (λ q l. h q (inside k q low l).0))
 
-  pub frees_as : (c : Circuit) (moves others : ℕ → Signal) (m : ℕ) (f : Signal) → ((q : ℕ) → k < q → moves q ≡ others q) → IsFreeBy c x moves k m f → IsFreeBy c x others k m f
+  pub frees_as : (c : Circuit) (moves others : ℕ → Signal) (m : ℕ) (f : Signal) → ((q : ℕ) → k < q → moves q ≡ others q)
+      → IsFreeBy c x moves k m f → IsFreeBy c x others k m f
   frees_as c moves others m f h is = free_by c x moves others k m f (λ q l. h q (inside k q low l).0) is
 
   -- what was found of it, where another stage before it is asked
-  pub passed_set : (c : Circuit) (g : Signs) (moves frees : List Net) (j : ℕ) (net : Net) → j < k → j < length moves → IsPassed c x g moves frees k → IsPassed c x g (slice_set moves j net) frees k
+  pub passed_set : (c : Circuit) (g : Signs) (moves frees : List Net) (j : ℕ) (net : Net) → j < k → j < length moves
+      → IsPassed c x g moves frees k → IsPassed c x g (slice_set moves j net) frees k
   passed_set c g moves frees j net l m h =
-      let later : (q : ℕ) → k < q → signal_at (signals_in c moves) q ≡ signal_at (signals_in c (slice_set moves j net)) q = λ q n. sym (set_later c moves j net q m (omega (arith, l, n))) in
+      let later : (q : ℕ) → k < q → signal_at (signals_in c moves) q ≡ signal_at (signals_in c (slice_set moves j net)) q =
+      λ q n. sym (set_later c moves j net q m (omega (arith, l, n))) in
       record {
-        moves = subst (IsMovedBy c x g (signal_at (signals_in c frees)) (signal_at (signals_in c (slice_set moves j net))) k) (sym (set_later c moves j net k m l))
-            (moved_as c g (signal_at (signals_in c frees)) (signal_at (signals_in c moves)) (signal_at (signals_in c (slice_set moves j net))) (signal_at (signals_in c moves) k) later h.moves);
-        free = λ i q. frees_as c (signal_at (signals_in c moves)) (signal_at (signals_in c (slice_set moves j net))) i (signal_at (signals_in c frees) i) later (h.free i q);
+        moves =
+            subst (IsMovedBy c x g (signal_at (signals_in c frees)) (signal_at (signals_in c (slice_set moves j net))) k) (sym (set_later c moves j net k m l))
+            (moved_as c g (signal_at (signals_in c frees)) (signal_at (signals_in c moves))
+            (signal_at (signals_in c (slice_set moves j net))) (signal_at (signals_in c moves) k) later h.moves);
+        free =
+            λ i q. frees_as c (signal_at (signals_in c moves))
+            (signal_at (signals_in c (slice_set moves j net))) i (signal_at (signals_in c frees) i) later (h.free i q);
       }
 
   -- what is found of it now
-  pub passed_new : (c : Circuit) (g : Signs) (moves frees : List Net) (net : Net) → k < length moves → HaveFree c x k frees (length (line_pipe x).mems) → ((q : ℕ) → line_moves c x q ≡ signal_at (signals_in c moves) q)
+  pub passed_new : (c : Circuit) (g : Signs) (moves frees : List Net) (net : Net) → k < length moves
+      → HaveFree c x k frees (length (line_pipe x).mems)
+      → ((q : ℕ) → line_moves c x q ≡ signal_at (signals_in c moves) q)
       → IsMovedBy c x g (signal_at (signals_in c frees)) (line_moves c x) k (signal c net) → IsPassed c x g (slice_set moves k net) frees k
   passed_new c g moves frees net m free same is =
-      let later : (q : ℕ) → k < q → line_moves c x q ≡ signal_at (signals_in c (slice_set moves k net)) q = λ q n. same q ∙ sym (set_later c moves k net q m n) in
+      let later : (q : ℕ) → k < q → line_moves c x q ≡ signal_at (signals_in c (slice_set moves k net)) q =
+      λ q n. same q ∙ sym (set_later c moves k net q m n) in
       record {
         moves = subst (IsMovedBy c x g (signal_at (signals_in c frees)) (signal_at (signals_in c (slice_set moves k net))) k) (sym (set_here c moves k net m))
             (moved_as c g (signal_at (signals_in c frees)) (line_moves c x) (signal_at (signals_in c (slice_set moves k net))) (signal c net) later is);
@@ -149,25 +171,36 @@ module _ (x : StageLine) (inside : LeadsInside (line_pipe x)) (k : ℕ) (low : k
 -- ---- while the circuit grows
 
 module _ (a b : Circuit) (e : Keeps a b) (x : StageLine) (line : IsLineIn a x) where
-  pub free_keep : (stand : StandPorts a (line_pipe x) x.shared.now.ports.now) (moves : ℕ → Signal) (k m : ℕ) (f : Signal) → IsFreeBy a x moves k m f → IsFreeBy b x moves k m f
+  pub free_keep : (stand : StandPorts a (line_pipe x) x.shared.now.ports.now) (moves : ℕ → Signal) (k m : ℕ) (f : Signal)
+      → IsFreeBy a x moves k m f → IsFreeBy b x moves k m f
   free_keep stand moves k m f h r q is at some =
-      subst (λ (g : Signal). FreeLaw (stands q) (length (places (line_pipe x) r)) g (λ i. moves (place_at (line_pipe x) r i)) f) (sym (e.kept q.reply (stand.each m r q is some).placed.reply_there)) (h r q is at some)
+      subst (λ (g : Signal). FreeLaw (stands q) (length (places (line_pipe x) r)) g (λ i. moves (place_at (line_pipe x) r i)) f)
+      (sym (e.kept q.reply (stand.each m r q is some).placed.reply_there)) (h r q is at some)
 
-  pub moved_keep : (g h : Signs) (frees moves : ℕ → Signal) (k : ℕ) (f : Signal) → ((fs : ℕ → Signal) → gate_by (line_pipe x) (line_views b x) h fs k ≡ gate_by (line_pipe x) (line_views a x) g fs k) → IsMovedBy a x g frees moves k f → IsMovedBy b x h frees moves k f
+  pub moved_keep : (g h : Signs) (frees moves : ℕ → Signal) (k : ℕ) (f : Signal)
+      → ((fs : ℕ → Signal) → gate_by (line_pipe x) (line_views b x) h fs k ≡ gate_by (line_pipe x) (line_views a x) g fs k)
+      → IsMovedBy a x g frees moves k f → IsMovedBy b x h frees moves k f
   moved_keep g h frees moves k f same is s =
       is s
-      ∙ ap (λ (vs : ℕ → View). is_on (moves_where (line_pipe x) vs (λ j. gate_by (line_pipe x) (line_views a x) g frees k) moves k) s) (sym (views_same a b x e line))
+      ∙ ap (λ (vs : ℕ → View). is_on (moves_where (line_pipe x) vs (λ j. gate_by (line_pipe x) (line_views a x) g frees k) moves k) s)
+      (sym (views_same a b x e line))
       ∙ ap (λ (i : Signal). is_on (moves_where (line_pipe x) (line_views b x) (λ j. i) moves k) s) (sym (same frees))
 
-  pub passed_keep : (stand : StandPorts a (line_pipe x) x.shared.now.ports.now) (g h : Signs) (moves frees : List Net) (k : ℕ) → ((fs : ℕ → Signal) → gate_by (line_pipe x) (line_views b x) h fs k ≡ gate_by (line_pipe x) (line_views a x) g fs k)
+  pub passed_keep : (stand : StandPorts a (line_pipe x) x.shared.now.ports.now) (g h : Signs) (moves frees : List Net) (k : ℕ)
+      → ((fs : ℕ → Signal) → gate_by (line_pipe x) (line_views b x) h fs k ≡ gate_by (line_pipe x) (line_views a x) g fs k)
       → Each (IsBit a) moves → Each (IsBit a) frees → IsPassed a x g moves frees k → IsPassed b x h moves frees k
   passed_keep stand g h moves frees k same ms fs is =
       let m = signals_keep a b moves e (bits_there a moves ms) in
       let f = signals_keep a b frees e (bits_there a frees fs) in
       record {
         moves = λ s.
-            ap (λ ss. is_on (signal_at ss k) s) m ∙ moved_keep g h (signal_at (signals_in a frees)) (signal_at (signals_in a moves)) k (signal_at (signals_in a moves) k) same is.moves s
-            ∙ ap₂ (λ ms fs. is_on (moves_where (line_pipe x) (line_views b x) (λ j. gate_by (line_pipe x) (line_views b x) h (signal_at fs) k) (signal_at ms) k) s) (sym m) (sym f);
+            ap (λ ss. is_on (signal_at ss k) s) m
+            ∙ moved_keep g h (signal_at (signals_in a frees)) (signal_at (signals_in a moves)) k (signal_at (signals_in a moves) k) same is.moves s
+            ∙ ap₂
+            (λ ms fs. is_on
+            (moves_where (line_pipe x) (line_views b x) (λ j. gate_by (line_pipe x) (line_views b x) h (signal_at fs) k) (signal_at ms) k) s)
+            (sym m) (sym f);
         free = λ i l. subst (λ ss. IsFreeBy b x (signal_at ss) k i (signal_at (signals_in b frees) i)) (sym m)
-            (subst (λ ss. IsFreeBy b x (signal_at (signals_in a moves)) k i (signal_at ss i)) (sym f) (free_keep stand (signal_at (signals_in a moves)) k i (signal_at (signals_in a frees) i) (is.free i l)));
+            (subst (λ ss. IsFreeBy b x (signal_at (signals_in a moves)) k i (signal_at ss i)) (sym f)
+            (free_keep stand (signal_at (signals_in a moves)) k i (signal_at (signals_in a frees) i) (is.free i l)));
       }

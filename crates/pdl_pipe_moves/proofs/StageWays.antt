@@ -15,4 +15,5 @@ module _ (p : Pipe) (h : LeadsInside p) (k : ℕ) (low : k < length p.stages) wh
   first_low x first second e = (h k first low (ap (λ (n : Next). leads_to n first) e ∙ or_left (first == first) (second == first) (eq-eqb first first refl))).1
 
   pub second_low : (x first second : ℕ) → (stage_at p k).next ≡ flat.Forks x first second → second < length p.stages
-  second_low x first second e = (h k second low (ap (λ (n : Next). leads_to n second) e ∙ or_right (first == second) (second == second) (eq-eqb second second refl))).1
+  second_low x first second e =
+      (h k second low (ap (λ (n : Next). leads_to n second) e ∙ or_right (first == second) (second == second) (eq-eqb second second refl))).1

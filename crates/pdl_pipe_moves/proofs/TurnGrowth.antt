@@ -28,7 +28,8 @@ module _ (a b : Circuit) (e : Keeps a b) where
   pub turns_keep : (p : Pipe) (rs : List (Option OrderRegs)) → HasTurns a p rs → HasTurns b p rs
   turns_keep p rs h = λ q f l is. ((h q f l is).0, there_keep (some_at rs f) (h q f l is).1)
 
-  by_same : (o : Option OrderRegs) (from : Option Branch) → IsOrderThere a o → turn_by (order_first b o) (order_empty b o) from ≡ turn_by (order_first a o) (order_empty a o) from
+  by_same : (o : Option OrderRegs) (from : Option Branch) → IsOrderThere a o
+      → turn_by (order_first b o) (order_empty b o) from ≡ turn_by (order_first a o) (order_empty a o) from
   by_same None from h = refl
   by_same (Some r) from h = ap₂ (λ f g. turn_by f g from) (e.kept r.first h.first_there) (e.kept r.empty h.empty_there)
 
@@ -44,4 +45,5 @@ mux_on c f g s = ap (λ n. n == 1) (mux_by s c f g) ∙ at_bit (is_on c s) (f.va
 
 -- choices by one condition between bits that are 1 together are 1 together
 pub mux_as : (c d f g h k : Signal) → c ≡ d → IsOnAs f h → IsOnAs g k → IsOnAs (mux_signal c f g) (mux_signal d h k)
-mux_as c d f g h k e x y s = ap (λ w. is_on (mux_signal w f g) s) e ∙ mux_on d f g s ∙ ap₂ (λ (u v : Bool). if is_on d s then u else v) (x s) (y s) ∙ sym (mux_on d h k s)
+mux_as c d f g h k e x y s =
+    ap (λ w. is_on (mux_signal w f g) s) e ∙ mux_on d f g s ∙ ap₂ (λ (u v : Bool). if is_on d s then u else v) (x s) (y s) ∙ sym (mux_on d h k s)

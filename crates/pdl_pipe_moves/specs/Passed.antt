@@ -115,6 +115,9 @@ pub record AreMoved (c : Circuit) (x : StageLine) (orders : List (Option OrderRe
   pub kills : Each (IsBit c) z.kills.items
   pub clear_count : length z.clear.items ≡ length (line_pipe x).stages
   pub clear : Each (IsBit c) z.clear.items
-  pub law : (v : ℕ) → verify_stage (line_pipe x).stmts ≡ Some v → SquashLaw (squash_of (line_views c x) (signal_at (signals_in c z.moves.items)) v) (signal c z.squash) (signal_at (signals_in c z.kills.items)) (signal_at (signals_in c z.clear.items))
+  pub law : (v : ℕ) → verify_stage (line_pipe x).stmts ≡ Some v
+      → SquashLaw (squash_of (line_views c x) (signal_at (signals_in c z.moves.items)) v) (signal c z.squash)
+      (signal_at (signals_in c z.kills.items)) (signal_at (signals_in c z.clear.items))
   pub never : verify_stage (line_pipe x).stmts ≡ None → signal c z.squash ≡ zero_bit
-  pub spared : (k : ℕ) → k < length (line_pipe x).stages → ((v : ℕ) → verify_stage (line_pipe x).stmts ≡ Some v → v ≤ k) → signal_at (signals_in c z.kills.items) k ≡ zero_bit
+  pub spared : (k : ℕ) → k < length (line_pipe x).stages → ((v : ℕ) → verify_stage (line_pipe x).stmts ≡ Some v → v ≤ k)
+      → signal_at (signals_in c z.kills.items) k ≡ zero_bit

@@ -37,18 +37,25 @@ pub both_one : (f : Signal) (s : State) → is_on f s ≡ is_on (both f one) s
 both_one f s = sym (ap (λ n. n == 1) (mux_by s f one zero_bit ∙ ap₂ (λ a b. if is_on f s then a else b) (one_is s) (zero_is s)) ∙ bit_on (is_on f s))
 
 both_zero : (f : Signal) (s : State) → is_on zero_bit s ≡ is_on (both f zero_bit) s
-both_zero f s = ap (λ n. n == 1) (zero_is s) ∙ sym (ap (λ n. n == 1) (mux_by s f zero_bit zero_bit ∙ ap₂ (λ a b. if is_on f s then a else b) (zero_is s) (zero_is s)) ∙ none_on (is_on f s))
+both_zero f s =
+    ap (λ n. n == 1) (zero_is s)
+    ∙ sym (ap (λ n. n == 1) (mux_by s f zero_bit zero_bit ∙ ap₂ (λ a b. if is_on f s then a else b) (zero_is s) (zero_is s)) ∙ none_on (is_on f s))
 
 module _ (p : Pipe) (vs : ℕ → View) (moves : ℕ → Signal) (q j : ℕ) where
   -- a thread that moves out of a stage which leads to this one alone comes here
   pub straight : (to : ℕ) → (stage_at p j).next ≡ flat.Goes to → (to == q) ≡ true → (s : State) → is_on (moves j) s ≡ is_on (out_of p vs moves q j).comes s
   straight to e here s =
-      both_one (moves j) s ∙ sym (ap (λ (f : Signal). is_on (both (moves j) f) s) (ap (λ (n : Next). branch n q (vs j).ended) e ∙ ap (λ (b : Bool). if b then one else zero_bit) here))
+      both_one (moves j) s
+      ∙ sym
+      (ap (λ (f : Signal). is_on (both (moves j) f) s) (ap (λ (n : Next). branch n q (vs j).ended) e ∙ ap (λ (b : Bool). if b then one else zero_bit) here))
 
   -- out of another one none does
   pub elsewhere : (to : ℕ) → (stage_at p j).next ≡ flat.Goes to → (to == q) ≡ false → (s : State) → is_on zero_bit s ≡ is_on (out_of p vs moves q j).comes s
   elsewhere to e there s =
-      both_zero (moves j) s ∙ sym (ap (λ (f : Signal). is_on (both (moves j) f) s) (ap (λ (n : Next). branch n q (vs j).ended) e ∙ ap (λ (b : Bool). if b then one else zero_bit) there))
+      both_zero (moves j) s
+      ∙ sym
+      (ap (λ (f : Signal). is_on (both (moves j) f) s)
+      (ap (λ (n : Next). branch n q (vs j).ended) e ∙ ap (λ (b : Bool). if b then one else zero_bit) there))
 
   pub nowhere : (stage_at p j).next ≡ flat.Ends → (s : State) → is_on zero_bit s ≡ is_on (out_of p vs moves q j).comes s
   nowhere e s = both_zero (moves j) s ∙ sym (ap (λ (f : Signal). is_on (both (moves j) f) s) (ap (λ (n : Next). branch n q (vs j).ended) e))
@@ -69,7 +76,8 @@ pub arrivals_keep : (a c : Circuit) (p : Pipe) (vs : ℕ → View) (moves : ℕ 
 arrivals_keep a c p vs moves q [] [] e h = tt
 arrivals_keep a c p vs moves q [] (x ∷ xs) e h = absurd h
 arrivals_keep a c p vs moves q (j ∷ js) [] e h = absurd h
-arrivals_keep a c p vs moves q (j ∷ js) (x ∷ xs) e h = let here = h.0 in (record { from = here.from; comes = comes_keep a c p vs moves q j x.comes e here.comes }, arrivals_keep a c p vs moves q js xs e h.1)
+arrivals_keep a c p vs moves q (j ∷ js) (x ∷ xs) e h = let here = h.0 in
+    (record { from = here.from; comes = comes_keep a c p vs moves q j x.comes e here.comes }, arrivals_keep a c p vs moves q js xs e h.1)
 
 -- with a thread that may come out of one stage more there is one for each of these stages
 pub arrivals_push : (c : Circuit) (p : Pipe) (vs : ℕ → View) (moves : ℕ → Signal) (q : ℕ) (js : List ℕ)

@@ -80,7 +80,8 @@ way_more p vs moves q js what k comes value net y rest l is on brings h = λ s.
     let j = slice_index js k in
     let o = out_of p vs moves q j in
     let later = from_way p vs moves q js what (k + 1) rest in
-    let next : from_way p vs moves q js what k rest ≡ mux_signal o.comes (brought_signal what o) later = ap (λ ks. first_coming (brought_signal what) (map (out_of p vs moves q) ks) rest) (drop_more js k 0 l) in
+    let next : from_way p vs moves q js what k rest ≡ mux_signal o.comes (brought_signal what o) later =
+    ap (λ ks. first_coming (brought_signal what) (map (out_of p vs moves q) ks) rest) (drop_more js k 0 l) in
     ap (λ (f : Signal). f.value s) is
     ∙ mux_by s comes value net
     ∙ ap₂ (λ (b : Bool) n. if b then value.value s else n) (on s) (h s)

@@ -79,7 +79,10 @@ set_more a b c s nets i net low count there fits is new x h =
     record {
       extends = but_trans own a b c h.extends (but_one b c s.regs.valid (end_of s.regs) (s.regs.valid + i) (omega arith) (omega (arith, low, count)) x);
       set = up_to (λ j. next_signal c (s.regs.valid + j) ≡ signal_at (signals_in a nets) j) i
-          (λ j l. x.nexts (s.regs.valid + j) (e.has_reg (s.regs.valid + j) (has_low a (s.regs.valid + j) (fits j (omega (arith, l, low))).0)) (inl (omega (arith, l))) ∙ h.set j l)
+          (λ j l. x.nexts (s.regs.valid + j)
+          (e.has_reg (s.regs.valid + j) (has_low a (s.regs.valid + j) (fits j (omega (arith, l, low))).0))
+          (inl (omega (arith, l)))
+          ∙ h.set j l)
           (new ∙ is ∙ ap (λ fs. signal_at fs i) (signals_keep a b nets e there));
     }
 
@@ -113,7 +116,9 @@ pub first_more : (a b c : Circuit) (x : StageLine) (xs : List (Seq Net)) (new : 
 first_more a b c x xs new n e keeps old here k s nets l is at =
     up_to (λ j. (t : StageNets) (ys : Seq Net) → IsAt x.stages.now j t → get_or (xs ++ new ∷ []) j ys ≡ ys → AreNexts a c x j t ys) n
     (λ j q t ys it z. nexts_keep a b c x j t ys keeps (old j t ys q it (sym (get_or_append_left xs (new ∷ []) ys j (omega (arith, q, e))) ∙ z)))
-    (λ t ys it z. subst (AreNexts a c x n t) (sym (get_or-append_seam xs new [] ys) ∙ ap (λ j. get_or (xs ++ new ∷ []) j ys) (sym e) ∙ z) (here t it)) k l s nets is at
+    (λ t ys it z. subst (AreNexts a c x n t)
+    (sym (get_or-append_seam xs new [] ys) ∙ ap (λ j. get_or (xs ++ new ∷ []) j ys) (sym e) ∙ z)
+    (here t it)) k l s nets is at
 
 -- ---- registers fit their nets
 
@@ -123,12 +128,14 @@ pub fits_regs : (a b : Circuit) (x : StageLine) (k : ℕ) (s : StageNets) (nets 
     → FitsRegs b s nets
 unfolding HasReg
 fits_regs a b x k s nets nexts e now h zero l = let q = now.registers.valid in
-    subst (λ r. (r < length b.regs) × ((signal_at (signals_in b nets) 0).width ≡ reg_width b r)) (let z : s.regs.valid ≡ s.regs.valid + 0 = omega arith in z) (q.has, h.valid_wide ∙ sym q.width)
+    subst (λ r. (r < length b.regs) × ((signal_at (signals_in b nets) 0).width ≡ reg_width b r))
+    (let z : s.regs.valid ≡ s.regs.valid + 0 = omega arith in z) (q.has, h.valid_wide ∙ sym q.width)
 fits_regs a b x k s nets nexts e now h (suc i) l =
     let n = h.count in
     let low : i < length s.regs.items = omega (arith, l, n) in
     let q = now.registers.kept i low in
-    subst (λ r. (r < length b.regs) × ((signal_at (signals_in b nets) (suc i)).width ≡ reg_width b r)) (let z : reg_of s.regs i ≡ s.regs.valid + suc i = omega arith in z)
+    subst (λ r. (r < length b.regs) × ((signal_at (signals_in b nets) (suc i)).width ≡ reg_width b r))
+    (let z : reg_of s.regs i ≡ s.regs.valid + suc i = omega arith in z)
     (q.has, h.kept_wide i low ∙ ap (λ fs. Rattle.pdl_pipe_registers.specs.Items.item_width (line_form x) fs (item_at s.regs.items i)) (sym e) ∙ sym q.width)
 
 -- so they take what they should
@@ -137,8 +144,13 @@ pub takes_now : (a b d : Circuit) (x : StageLine) (k : ℕ) (s : StageNets) (net
 takes_now a b d x k s nets h set =
     let n = h.count in
     record {
-      valid = λ z. ap (λ (f : Signal). f.value z) (ap (next_signal d) (let y : s.regs.valid ≡ s.regs.valid + 0 = omega arith in y) ∙ set 0 (omega (arith, n))) ∙ h.valid z;
-      kept = λ i l z. ap (λ (f : Signal). f.value z) (ap (next_signal d) (let y : reg_of s.regs i ≡ s.regs.valid + suc i = omega arith in y) ∙ set (suc i) (omega (arith, n, l))) ∙ h.kept i l z;
+      valid =
+          λ z. ap (λ (f : Signal). f.value z) (ap (next_signal d) (let y : s.regs.valid ≡ s.regs.valid + 0 = omega arith in y) ∙ set 0 (omega (arith, n)))
+          ∙ h.valid z;
+      kept =
+          λ i l z. ap (λ (f : Signal). f.value z)
+          (ap (next_signal d) (let y : reg_of s.regs i ≡ s.regs.valid + suc i = omega arith in y) ∙ set (suc i) (omega (arith, n, l)))
+          ∙ h.kept i l z;
     }
 
 -- and still do where others are told
@@ -168,7 +180,8 @@ connected_more a b d x n t nexts l is apart now e new h = record {
       (but_more b d low (length a.regs) t.regs.valid (end_of t.regs) (at.from n t l is) (at.to n t l is) e);
   takes = λ k s q at.
       up_to (λ j. (u : StageNets) → IsAt x.stages.now j u → TakesNext a d x j u) n
-      (λ j m u it. takes_keep a b d x j u nexts t.regs.valid (end_of t.regs) (now j u (omega (arith, m, l)) it) (apart.apart j n u t m l it is) e (h.takes j u m it))
+      (λ j m u it. takes_keep a b d x j u nexts t.regs.valid (end_of t.regs) (now j u (omega (arith, m, l)) it)
+      (apart.apart j n u t m l it is) e (h.takes j u m it))
       (λ u it. subst (TakesNext a d x n) (at_same x.stages.now n t u l is it) new) k q s at;
 }
 
@@ -201,10 +214,13 @@ nexts_as a b c x k s nets e line now h =
       there = h.there;
       count = h.count;
       valid_wide = h.valid_wide;
-      valid = λ z. h.valid z ∙ ap (λ (g : Signal). g.value z) (arriving_same a b x e line k None (staying b x k s) ∙ ap (arriving a x k None) (staying_same a b x e line k s));
+      valid =
+          λ z. h.valid z
+          ∙ ap (λ (g : Signal). g.value z) (arriving_same a b x e line k None (staying b x k s) ∙ ap (arriving a x k None) (staying_same a b x e line k s));
       kept_wide = λ i l. h.kept_wide i l ∙ ap (λ fs. item_width f fs (item_at s.regs.items i)) (next_keep a b f x.shared.now e line.shared);
       kept = λ i l z.
           h.kept i l z
           ∙ ap (λ (g : Signal). g.value z)
-          (arriving_same a b x e line k (Some (item_at s.regs.items i)) (kept_signal b s i (item_at s.regs.items i)) ∙ ap (arriving a x k (Some (item_at s.regs.items i))) (kept_signal_keep a b f nexts k s i (item_at s.regs.items i) e l now));
+          (arriving_same a b x e line k (Some (item_at s.regs.items i)) (kept_signal b s i (item_at s.regs.items i))
+          ∙ ap (arriving a x k (Some (item_at s.regs.items i))) (kept_signal_keep a b f nexts k s i (item_at s.regs.items i) e l now));
     }

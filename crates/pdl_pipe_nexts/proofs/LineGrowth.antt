@@ -65,7 +65,8 @@ line_keep a b x e h = record {
   shared = shared_keep a b (line_form x) x.shared.now e h.shared;
   count = h.count;
   stages = λ k s l is.
-      subst (λ fs. IsStageNow b (line_form x) fs k s) (sym (next_keep a b (line_form x) x.shared.now e h.shared)) (stage_keep a b (line_form x) (signals_in a x.shared.now.next) k s e (h.stages k s l is));
+      subst (λ fs. IsStageNow b (line_form x) fs k s) (sym (next_keep a b (line_form x) x.shared.now e h.shared))
+      (stage_keep a b (line_form x) (signals_in a x.shared.now.next) k s e (h.stages k s l is));
   moves_count = h.moves_count;
   moves = bits_keep a b e x.moves.now h.moves;
   kills_count = h.kills_count;
@@ -81,7 +82,9 @@ module _ (a b : Circuit) (x : StageLine) (e : Keeps a b) (h : IsLineIn a x) wher
       let some = some_stage x.stages.now j l in
       let s = some.0 in
       let now = h.stages j s l some.1 in
-      ap (λ (v : View). v.ended) (view_at b x.stages.now j s l some.1) ∙ ap walk_of (parts_keep a b e s.end now.walk.there) ∙ sym (ap (λ (v : View). v.ended) (view_at a x.stages.now j s l some.1))
+      ap (λ (v : View). v.ended) (view_at b x.stages.now j s l some.1)
+      ∙ ap walk_of (parts_keep a b e s.end now.walk.there)
+      ∙ sym (ap (λ (v : View). v.ended) (view_at a x.stages.now j s l some.1))
 
   -- and keeps its tickets
   pub tickets_same : (j : ℕ) → j < length x.stages.now → (line_views b x j).tickets ≡ (line_views a x j).tickets
@@ -89,7 +92,9 @@ module _ (a b : Circuit) (x : StageLine) (e : Keeps a b) (h : IsLineIn a x) wher
       let some = some_stage x.stages.now j l in
       let s = some.0 in
       let now = h.stages j s l some.1 in
-      ap (λ (v : View). v.tickets) (view_at b x.stages.now j s l some.1) ∙ ap (λ fs m. signal_at fs m) (signals_keep a b s.tickets e now.nets.tickets) ∙ sym (ap (λ (v : View). v.tickets) (view_at a x.stages.now j s l some.1))
+      ap (λ (v : View). v.tickets) (view_at b x.stages.now j s l some.1)
+      ∙ ap (λ fs m. signal_at fs m) (signals_keep a b s.tickets e now.nets.tickets)
+      ∙ sym (ap (λ (v : View). v.tickets) (view_at a x.stages.now j s l some.1))
 
   pub moves_same : (j : ℕ) → line_moves b x j ≡ line_moves a x j
   moves_same j = ap (λ fs. signal_at fs j) (signals_keep a b x.moves.now e (bits_there a x.moves.now h.moves))
@@ -105,28 +110,35 @@ map_same f g [] h = refl
 map_same f g (s ∷ ss) h = ap₂ (λ y ys. y ∷ ys) (h 0 s (omega arith) refl) (map_same f g ss (λ k t l is. h (suc k) t (omega (arith, l)) is))
 
 abbrev view_from : ℕ → List Signal → List Signal → Parts → Parts → View
-view_from r vars tickets begun ended = record { valid = reg_signal 1 r; kept = λ x. signal_at vars x; tickets = λ m. signal_at tickets m; begun = walk_of begun; ended = walk_of ended }
+view_from r vars tickets begun ended =
+    record { valid = reg_signal 1 r; kept = λ x. signal_at vars x; tickets = λ m. signal_at tickets m; begun = walk_of begun; ended = walk_of ended }
 
 -- a stage of a line has the same view in a circuit that keeps its nets
 pub view_same : (a b : Circuit) (f : Form) (nexts : List Signal) (k : ℕ) (s : StageNets) → Keeps a b
     → IsStageNow a f nexts k s → view_in b s ≡ view_in a s
 view_same a b f nexts k s e h =
-    ap₂ (λ (vars tickets : List Signal). view_from s.regs.valid vars tickets (begun_parts b s) (parts_in b s.end)) (signals_keep a b s.vars e h.nets.vars) (signals_keep a b s.tickets e h.nets.tickets)
-    ∙ ap₂ (λ (begun ended : Parts). view_from s.regs.valid (signals_in a s.vars) (signals_in a s.tickets) begun ended) (begun_parts_keep a b e f nexts s h.nets) (parts_keep a b e s.end h.walk.there)
+    ap₂ (λ (vars tickets : List Signal). view_from s.regs.valid vars tickets (begun_parts b s) (parts_in b s.end))
+    (signals_keep a b s.vars e h.nets.vars) (signals_keep a b s.tickets e h.nets.tickets)
+    ∙ ap₂ (λ (begun ended : Parts). view_from s.regs.valid (signals_in a s.vars) (signals_in a s.tickets) begun ended)
+    (begun_parts_keep a b e f nexts s h.nets) (parts_keep a b e s.end h.walk.there)
 
 module _ (a b : Circuit) (x : StageLine) (e : Keeps a b) (h : IsLineIn a x) where
   pub views_same : line_views b x ≡ line_views a x
-  views_same = ap (λ vs k. get_or vs k no_view) (map_same (view_in b) (view_in a) x.stages.now (λ k s l is. view_same a b (line_form x) (signals_in a x.shared.now.next) k s e (h.stages k s l is)))
+  views_same =
+      ap (λ vs k. get_or vs k no_view)
+      (map_same (view_in b) (view_in a) x.stages.now (λ k s l is. view_same a b (line_form x) (signals_in a x.shared.now.next) k s e (h.stages k s l is)))
 
   pub all_moves_same : line_moves b x ≡ line_moves a x
   all_moves_same = ap (λ fs k. signal_at fs k) (signals_keep a b x.moves.now e (bits_there a x.moves.now h.moves))
 
   -- so what arrives is what did
   pub arriving_same : (k : ℕ) (what : Option Item) (rest : Signal) → arriving b x k what rest ≡ arriving a x k what rest
-  arriving_same k what rest = ap₂ (λ (vs : ℕ → View) (ms : ℕ → Signal). first_coming (brought_signal what) (comers (line_pipe x) vs ms k) rest) views_same all_moves_same
+  arriving_same k what rest =
+      ap₂ (λ (vs : ℕ → View) (ms : ℕ → Signal). first_coming (brought_signal what) (comers (line_pipe x) vs ms k) rest) views_same all_moves_same
 
   pub staying_same : (k : ℕ) (s : StageNets) → staying b x k s ≡ staying a x k s
-  staying_same k s = ap₂ (λ (f g : Signal). mux_signal f zero_bit (mux_signal g zero_bit (reg_signal 1 s.regs.valid))) (moves_same a b x e h k) (kills_same a b x e h k)
+  staying_same k s =
+      ap₂ (λ (f g : Signal). mux_signal f zero_bit (mux_signal g zero_bit (reg_signal 1 s.regs.valid))) (moves_same a b x e h k) (kills_same a b x e h k)
 
 -- one stage stands at a number
 pub at_same : (ss : List StageNets) (k : ℕ) (s t : StageNets) → k < length ss → IsAt ss k s → IsAt ss k t → s ≡ t

@@ -90,8 +90,10 @@ pub record NextsSoFar (a c : Circuit) (x : StageLine) (k : ℕ) (s : StageNets) 
   pub count : length nets ≡ suc i
   pub valid_wide : (signal_at (signals_in c nets) 0).width ≡ 1
   pub valid : ValueAs (signal_at (signals_in c nets) 0) (arriving a x k None (staying a x k s))
-  pub kept_wide : (j : ℕ) → j < i → (signal_at (signals_in c nets) (suc j)).width ≡ item_width (line_form x) (signals_in a x.shared.now.next) (item_at s.regs.items j)
-  pub kept : (j : ℕ) → j < i → ValueAs (signal_at (signals_in c nets) (suc j)) (arriving a x k (Some (item_at s.regs.items j)) (kept_signal a s j (item_at s.regs.items j)))
+  pub kept_wide : (j : ℕ) → j < i
+      → (signal_at (signals_in c nets) (suc j)).width ≡ item_width (line_form x) (signals_in a x.shared.now.next) (item_at s.regs.items j)
+  pub kept : (j : ℕ) → j < i
+      → ValueAs (signal_at (signals_in c nets) (suc j)) (arriving a x k (Some (item_at s.regs.items j)) (kept_signal a s j (item_at s.regs.items j)))
 
 -- whether it holds a thread
 pub nexts_first : (a b c : Circuit) (x : StageLine) (k : ℕ) (s : StageNets) (stays valid : Net) → Keeps a b
@@ -101,7 +103,9 @@ nexts_first a b c x k s stays valid e line there wide rest h = record {
   there = (there, tt);
   count = refl;
   valid_wide = wide;
-  valid = λ z. h z ∙ ap (λ (f : Signal). f.value z) (arriving_same a b x e line k None (signal b stays) ∙ ap (arriving a x k None) (rest ∙ staying_same a b x e line k s));
+  valid =
+      λ z. h z
+      ∙ ap (λ (f : Signal). f.value z) (arriving_same a b x e line k None (signal b stays) ∙ ap (arriving a x k None) (rest ∙ staying_same a b x e line k s));
   kept_wide = λ j l. absurd (omega (arith, l));
   kept = λ j l. absurd (omega (arith, l));
 }
@@ -120,7 +124,8 @@ nexts_more a b c x k s nets i rest net ab bc line now low is there wide h so =
     let same = signals_keep b c nets bc so.there in
     let kept = is ∙ kept_signal_keep a b f nexts k s i item ab low now in
     let n = so.count in
-    let old : (j : ℕ) → j < length nets → signal_at (signals_in c (nets ++ net ∷ [])) j ≡ signal_at (signals_in b nets) j = λ j l. signal_old c nets net j l ∙ ap (λ fs. signal_at fs j) same in
+    let old : (j : ℕ) → j < length nets → signal_at (signals_in c (nets ++ net ∷ [])) j ≡ signal_at (signals_in b nets) j =
+    λ j l. signal_old c nets net j l ∙ ap (λ fs. signal_at fs j) same in
     let new : signal_at (signals_in c (nets ++ net ∷ [])) (suc i) ≡ signal c net = signal_new c nets net (suc i) (sym so.count) in
     record {
       there = net_more c nets net (there_keeps b c nets bc so.there) there;
@@ -130,9 +135,13 @@ nexts_more a b c x k s nets i rest net ab bc line now low is there wide h so =
       kept_wide = up_to (λ j. (signal_at (signals_in c (nets ++ net ∷ [])) (suc j)).width ≡ item_width f nexts (item_at s.regs.items j)) i
           (λ j l. ap (λ (g : Signal). g.width) (old (suc j) (omega (arith, n, l))) ∙ so.kept_wide j l)
           (ap (λ (g : Signal). g.width) new ∙ wide ∙ ap (λ (g : Signal). g.width) kept ∙ kept_wide a f nexts k s now i low line.params);
-      kept = up_to (λ j. ValueAs (signal_at (signals_in c (nets ++ net ∷ [])) (suc j)) (arriving a x k (Some (item_at s.regs.items j)) (kept_signal a s j (item_at s.regs.items j)))) i
+      kept =
+          up_to
+          (λ j. ValueAs (signal_at (signals_in c (nets ++ net ∷ [])) (suc j))
+          (arriving a x k (Some (item_at s.regs.items j)) (kept_signal a s j (item_at s.regs.items j)))) i
           (λ j l z. ap (λ (g : Signal). g.value z) (old (suc j) (omega (arith, n, l))) ∙ so.kept j l z)
-          (λ z. ap (λ (g : Signal). g.value z) new ∙ h z ∙ ap (λ (g : Signal). g.value z) (arriving_same a b x ab line k (Some item) (signal b rest) ∙ ap (arriving a x k (Some item)) kept));
+          (λ z. ap (λ (g : Signal). g.value z) new ∙ h z
+          ∙ ap (λ (g : Signal). g.value z) (arriving_same a b x ab line k (Some item) (signal b rest) ∙ ap (arriving a x k (Some item)) kept));
     }
 
 -- all of them

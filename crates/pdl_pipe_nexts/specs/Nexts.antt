@@ -44,13 +44,16 @@ pub record AreNexts (a c : Circuit) (x : StageLine) (k : ℕ) (s : StageNets) (n
   pub count : length nets ≡ suc (length s.regs.items)
   pub valid_wide : (signal_at (signals_in c nets) 0).width ≡ 1
   pub valid : ValueAs (signal_at (signals_in c nets) 0) (arriving a x k None (staying a x k s))
-  pub kept_wide : (i : ℕ) → i < length s.regs.items → (signal_at (signals_in c nets) (suc i)).width ≡ item_width (line_form x) (signals_in a x.shared.now.next) (item_at s.regs.items i)
-  pub kept : (i : ℕ) → i < length s.regs.items → ValueAs (signal_at (signals_in c nets) (suc i)) (arriving a x k (Some (item_at s.regs.items i)) (kept_signal a s i (item_at s.regs.items i)))
+  pub kept_wide : (i : ℕ) → i < length s.regs.items
+      → (signal_at (signals_in c nets) (suc i)).width ≡ item_width (line_form x) (signals_in a x.shared.now.next) (item_at s.regs.items i)
+  pub kept : (i : ℕ) → i < length s.regs.items
+      → ValueAs (signal_at (signals_in c nets) (suc i)) (arriving a x k (Some (item_at s.regs.items i)) (kept_signal a s i (item_at s.regs.items i)))
 
 -- the registers of stage k take it, by the nets as they stood in circuit a
 pub record TakesNext (a c : Circuit) (x : StageLine) (k : ℕ) (s : StageNets) : Type 0 where
   pub valid : ValueAs (next_signal c s.regs.valid) (arriving a x k None (staying a x k s))
-  pub kept : (i : ℕ) → i < length s.regs.items → ValueAs (next_signal c (reg_of s.regs i)) (arriving a x k (Some (item_at s.regs.items i)) (kept_signal a s i (item_at s.regs.items i)))
+  pub kept : (i : ℕ) → i < length s.regs.items
+      → ValueAs (next_signal c (reg_of s.regs i)) (arriving a x k (Some (item_at s.regs.items i)) (kept_signal a s i (item_at s.regs.items i)))
 
 -- the i-th item of a stage has its register, or is a variable of it
 abbrev pub IsKeptNow : Circuit → StageNets → ℕ → Item → Type 0

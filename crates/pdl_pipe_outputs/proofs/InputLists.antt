@@ -50,12 +50,18 @@ ports_trans a b c front back x y = record {
 -- the number of inputs with those of more ports
 pub inputs_more : (a b : Circuit) (added : List Port)
     → b.ports ≡ a.ports ++ added → length (inputs_of b) ≡ length (inputs_of a) + length (filter_map port_input added)
-inputs_more a b added e = ap (λ ps. length (filter_map port_input ps)) e ∙ ap length (filter_map-append port_input a.ports added) ∙ length-append (inputs_of a) (filter_map port_input added)
+inputs_more a b added e =
+    ap (λ ps. length (filter_map port_input ps)) e ∙ ap length (filter_map-append port_input a.ports added)
+    ∙ length-append (inputs_of a) (filter_map port_input added)
 
 -- the two inputs of a delayed memory
-module _ (a b d : Circuit) (m : r_mem.FlatMem) (x y : List ℕ) (first : x ≡ codes "p_" ++ m.name) (second : y ≡ codes "pd_" ++ m.name) (one : ExtendsPorts a b (input_port x 1 ∷ [])) (two : ExtendsPorts b d (input_port y m.width ∷ [])) where
+module _ (a b d : Circuit) (m : r_mem.FlatMem) (x y : List ℕ) (first : x ≡ codes "p_" ++ m.name)
+    (second : y ≡ codes "pd_" ++ m.name) (one : ExtendsPorts a b (input_port x 1 ∷ []))
+    (two : ExtendsPorts b d (input_port y m.width ∷ [])) where
   pub pair_added : ExtendsPorts a d (reply_pair m)
-  pair_added = subst (ExtendsPorts a d) (ap₂ (λ (p q : List ℕ). input_port p 1 ∷ input_port q m.width ∷ []) first second) (ports_trans a b d (input_port x 1 ∷ []) (input_port y m.width ∷ []) one two)
+  pair_added =
+      subst (ExtendsPorts a d) (ap₂ (λ (p q : List ℕ). input_port p 1 ∷ input_port q m.width ∷ []) first second)
+      (ports_trans a b d (input_port x 1 ∷ []) (input_port y m.width ∷ []) one two)
 
   pub reply_means : (i : Net) (f : Signal) → Means b i f → Means d i f
   reply_means i f h = means_keeps b d i f (ports_keeps b d (input_port y m.width ∷ []) two) h
@@ -77,7 +83,8 @@ ports_as : (k : ℕ) (ms : List r_mem.FlatMem) (names : ℕ → List ℕ)
 ports_as k [] names h = refl
 ports_as k (m ∷ ms) names h =
     let e : m.name ≡ names k = sym (h 0 k (omega arith) (omega arith)) in
-    ap₂ (λ (ps qs : List Port). ps ++ qs) (ap (λ (x : List ℕ). if m.delayed then input_port (codes "p_" ++ x) 1 ∷ input_port (codes "pd_" ++ x) m.width ∷ [] else []) e)
+    ap₂ (λ (ps qs : List Port). ps ++ qs)
+    (ap (λ (x : List ℕ). if m.delayed then input_port (codes "p_" ++ x) 1 ∷ input_port (codes "pd_" ++ x) m.width ∷ [] else []) e)
     (ports_as (suc k) ms names (λ i j u l. h (suc i) j (omega (arith, u)) (omega (arith, l))))
 
 -- all of them, with the names of the memories
@@ -88,7 +95,8 @@ ports_all f ms i names same named past told =
     let count = name_count f.names f.pipe ms named same in
     let many = mem_count f.pipe ms same in
     ap (flat_map mem_ports) (take_all i ms past)
-    ∙ ports_as 0 ms names (λ i j e l. ap names (omega (arith, e)) ∙ told i (omega (arith, l, count, many)) ∙ ap (λ (xs : List (List ℕ)). get_or xs i []) (sym named))
+    ∙ ports_as 0 ms names
+    (λ i j e l. ap names (omega (arith, e)) ∙ told i (omega (arith, l, count, many)) ∙ ap (λ (xs : List (List ℕ)). get_or xs i []) (sym named))
     ∙ ap (reply_ports names 0) same
 
 -- ---- what comes from the memories
@@ -141,6 +149,8 @@ pub replies_more : (a b : Circuit) (p : Pipe) (xs : List (Option PortInput)) (o 
 replies_more a b p xs o n k new h = record {
   count = length-append xs (o ∷ []) ∙ ap (λ i. i + 1) h.count;
   each = below_more (λ m. IsReplyOf b (mem_at p m) (2 * reply_place p m) (some_at (xs ++ o ∷ []) m)) n
-      (λ m l. subst (IsReplyOf b (mem_at p m) (2 * reply_place p m)) (sym (some_before xs o m (omega (arith, l, h.count)))) (reply_kept a b (mem_at p m) (2 * reply_place p m) (some_at xs m) k (h.each m l)))
+      (λ m l. subst (IsReplyOf b (mem_at p m) (2 * reply_place p m))
+      (sym (some_before xs o m (omega (arith, l, h.count))))
+      (reply_kept a b (mem_at p m) (2 * reply_place p m) (some_at xs m) k (h.each m l)))
       (subst (IsReplyOf b (mem_at p n) (2 * reply_place p n)) (sym (some_last xs o n h.count)) new);
 }

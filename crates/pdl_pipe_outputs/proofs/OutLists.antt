@@ -41,8 +41,11 @@ stages_show : (c : Circuit) (k : ℕ) (ss : List ShownNets) (vs : ℕ → View) 
     → shown_by c (stages_outs k ss) ≡ stages_shown vs moves (length ss) k
 stages_show c k [] vs moves v m = refl
 stages_show c k (s ∷ ss) vs moves v m =
-    let rest = stages_show c (suc k) ss vs moves (λ i j e l. v (suc i) j (omega (arith, e)) (omega (arith, l))) (λ i j e l. m (suc i) j (omega (arith, e)) (omega (arith, l))) in
-    ap₂ (λ f g. shown_signal (codes "v_" ++ decimal k) f ∷ shown_signal (codes "g_" ++ decimal k) g ∷ shown_by c (stages_outs (suc k) ss)) (sym (v 0 k (omega arith) (omega arith))) (sym (m 0 k (omega arith) (omega arith)))
+    let rest =
+    stages_show c (suc k) ss vs moves (λ i j e l. v (suc i) j (omega (arith, e)) (omega (arith, l)))
+    (λ i j e l. m (suc i) j (omega (arith, e)) (omega (arith, l))) in
+    ap₂ (λ f g. shown_signal (codes "v_" ++ decimal k) f ∷ shown_signal (codes "g_" ++ decimal k) g ∷ shown_by c (stages_outs (suc k) ss))
+    (sym (v 0 k (omega arith) (omega arith))) (sym (m 0 k (omega arith) (omega arith)))
     ∙ ap (λ (fs : List Shown). shown_signal (codes "v_" ++ decimal k) (vs k).valid ∷ shown_signal (codes "g_" ++ decimal k) (moves k) ∷ fs) rest
 
 -- ---- what the memories commit
@@ -62,7 +65,8 @@ commits_there : (c : Circuit) (names : List (List ℕ)) (ns : List (Option LockN
     → ((i : ℕ) → i < length ns → IsThereCommit c (get_or ns i None)) → OutsThere c (commits_outs names ns)
 commits_there c [] ns t = tt
 commits_there c (a ∷ names) [] t = tt
-commits_there c (a ∷ names) (n ∷ ns) t = outs_more c (commit_outs a n) (commits_outs names ns) (one_there c a n (t 0 (omega arith))) (commits_there c names ns (λ i l. t (suc i) (omega (arith, l))))
+commits_there c (a ∷ names) (n ∷ ns) t =
+    outs_more c (commit_outs a n) (commits_outs names ns) (one_there c a n (t 0 (omega arith))) (commits_there c names ns (λ i l. t (suc i) (omega (arith, l))))
 
 commits_show : (c : Circuit) (k : ℕ) (names : List (List ℕ)) (ms : List Mem) (ns : List (Option LockNets))
     (name : ℕ → List ℕ) (commits : ℕ → Commit)
@@ -81,7 +85,9 @@ commits_show c k (x ∷ names) (m ∷ ms) (n ∷ ns) name commits a b e f g =
     shown_more c (commit_outs x n) (commits_outs names ns)
     ∙ ap₂ (λ (fs gs : List Shown). fs ++ gs)
     (one_shows c x n (has_lock m.lock) (g 0 (omega arith)) ∙ ap₂ (λ y z. if has_lock m.lock then commit_shown y z else []) h q)
-    (commits_show c (suc k) names ms ns name commits (omega (arith, a)) (omega (arith, b)) (λ i j u l. e (suc i) j (omega (arith, u)) (omega (arith, l))) (λ i j u. f (suc i) j (omega (arith, u))) (λ i l. g (suc i) (omega (arith, l))))
+    (commits_show c (suc k) names ms ns name commits (omega (arith, a)) (omega (arith, b))
+    (λ i j u l. e (suc i) j (omega (arith, u)) (omega (arith, l))) (λ i j u. f (suc i) j (omega (arith, u)))
+    (λ i l. g (suc i) (omega (arith, l))))
 
 -- ---- what is asked of the delayed memories
 
@@ -100,7 +106,9 @@ requests_there : (c : Circuit) (names : List (List ℕ)) (rs : List (Option Requ
     → ((i : ℕ) → i < length rs → IsThereRequest c (get_or rs i None)) → OutsThere c (requests_outs names rs)
 requests_there c [] rs t = tt
 requests_there c (a ∷ names) [] t = tt
-requests_there c (a ∷ names) (r ∷ rs) t = outs_more c (request_outs a r) (requests_outs names rs) (request_there c a r (t 0 (omega arith))) (requests_there c names rs (λ i l. t (suc i) (omega (arith, l))))
+requests_there c (a ∷ names) (r ∷ rs) t =
+    outs_more c (request_outs a r) (requests_outs names rs) (request_there c a r (t 0 (omega arith)))
+    (requests_there c names rs (λ i l. t (suc i) (omega (arith, l))))
 
 requests_show : (c : Circuit) (k : ℕ) (names : List (List ℕ)) (ms : List Mem) (rs : List (Option RequestNets))
     (name : ℕ → List ℕ) (asks : ℕ → Request)
@@ -119,7 +127,9 @@ requests_show c k (x ∷ names) (m ∷ ms) (r ∷ rs) name asks a b e f g =
     shown_more c (request_outs x r) (requests_outs names rs)
     ∙ ap₂ (λ (fs gs : List Shown). fs ++ gs)
     (request_shows c x r m.delayed (g 0 (omega arith)) ∙ ap₂ (λ y z. if m.delayed then request_shown y z else []) h q)
-    (requests_show c (suc k) names ms rs name asks (omega (arith, a)) (omega (arith, b)) (λ i j u l. e (suc i) j (omega (arith, u)) (omega (arith, l))) (λ i j u. f (suc i) j (omega (arith, u))) (λ i l. g (suc i) (omega (arith, l))))
+    (requests_show c (suc k) names ms rs name asks (omega (arith, a)) (omega (arith, b))
+    (λ i j u l. e (suc i) j (omega (arith, u)) (omega (arith, l))) (λ i j u. f (suc i) j (omega (arith, u)))
+    (λ i l. g (suc i) (omega (arith, l))))
 
 -- ---- the last stage
 
@@ -147,8 +157,10 @@ module _ (c : Circuit) (p : Pipe) (names : List (List ℕ)) (ss : List ShownNets
 
   pub all_there : OutsThere c (all_outs names ss ns rs squash)
   all_there =
-      outs_more c ((stages_outs 0 ss ++ commits_outs names ns) ++ requests_outs names rs) (out (codes "ended") (last_moves ss squash) ∷ out (codes "squash") squash ∷ [])
-      (outs_more c (stages_outs 0 ss ++ commits_outs names ns) (requests_outs names rs) (outs_more c (stages_outs 0 ss) (commits_outs names ns) (stages_there c 0 ss told.stages) mems_there) asks_there)
+      outs_more c ((stages_outs 0 ss ++ commits_outs names ns) ++ requests_outs names rs)
+      (out (codes "ended") (last_moves ss squash) ∷ out (codes "squash") squash ∷ [])
+      (outs_more c (stages_outs 0 ss ++ commits_outs names ns) (requests_outs names rs)
+      (outs_more c (stages_outs 0 ss) (commits_outs names ns) (stages_there c 0 ss told.stages) mems_there) asks_there)
       (last_there c ss squash told.squash told.stages, (told.squash, tt))
 
   module _ (vs : ℕ → View) (gates : Gates) (moves : ℕ → Signal) (name : ℕ → List ℕ) (h : AreOf c ss squash names vs gates moves name) where
@@ -164,14 +176,18 @@ module _ (c : Circuit) (p : Pipe) (names : List (List ℕ)) (ss : List ShownNets
         ∙ ap (λ k. stages_shown vs moves k 0) count
 
     mems_show : shown_by c (commits_outs names ns) ≡ commits_shown name (commits_in c ns) 0 p.mems
-    mems_show = commits_show c 0 names p.mems ns name (commits_in c ns) named told.commits.count named_as (λ i j e. ap (commits_in c ns) (omega (arith, e))) told.commits.locked
+    mems_show =
+        commits_show c 0 names p.mems ns name (commits_in c ns) named told.commits.count named_as
+        (λ i j e. ap (commits_in c ns) (omega (arith, e))) told.commits.locked
 
     asks_show : shown_by c (requests_outs names rs) ≡ requests_shown name (asks_in c rs) 0 p.mems
-    asks_show = requests_show c 0 names p.mems rs name (asks_in c rs) named told.asks.count named_as (λ i j e. ap (asks_in c rs) (omega (arith, e))) told.asks.delayed
+    asks_show =
+        requests_show c 0 names p.mems rs name (asks_in c rs) named told.asks.count named_as (λ i j e. ap (asks_in c rs) (omega (arith, e))) told.asks.delayed
 
     last_show : shown_by c (out (codes "ended") (last_moves ss squash) ∷ out (codes "squash") squash ∷ []) ≡ last_shown
     last_show =
-        let last : signal c (last_moves ss squash) ≡ moves (length p.stages - 1) = last_means c ss squash some ∙ sym (h.moves (length ss - 1) (omega (arith, some))) ∙ ap (λ k. moves (k - 1)) count in
+        let last : signal c (last_moves ss squash) ≡ moves (length p.stages - 1) =
+        last_means c ss squash some ∙ sym (h.moves (length ss - 1) (omega (arith, some))) ∙ ap (λ k. moves (k - 1)) count in
         ap₂ (λ f g. shown_signal (codes "ended") f ∷ shown_signal (codes "squash") g ∷ []) last (sym h.squash)
 
     pub all_show : shown_by c (all_outs names ss ns rs squash) ≡ whole_shown p name (commits_in c ns) (asks_in c rs) vs gates moves

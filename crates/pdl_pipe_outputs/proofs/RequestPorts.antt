@@ -35,7 +35,9 @@ are_asked a c p es rs h = record {
 
 -- ports that were made of what comes from the memories that are read take it as the law says
 module _ (a c : Circuit) (p : Pipe) (ins xs : List (Option PortInput)) (qs : List (Option PortRegs)) (low high : ℕ)
-    (replies : AreReplies c p ins (length p.mems)) (delayed : AreReadDelayed p) (read : AreWhereRead p ins xs (length ins)) (ports : AreParts port_own (has_port a p xs) low high qs (length p.mems)) where
+    (replies : AreReplies c p ins (length p.mems)) (delayed : AreReadDelayed p)
+    (read : AreWhereRead p ins xs (length ins))
+    (ports : AreParts port_own (has_port a p xs) low high qs (length p.mems)) where
   module _ (m : ℕ) (q : PortRegs) (here : some_at qs m ≡ Some q) where
     within : m < length p.mems
     within = elim (cases_lt m (length p.mems)) [ inl l ↦ l | inr l ↦ absurd (none (sym (get_or_past qs m None (omega (arith, l, ports.count))) ∙ here)) ]
@@ -47,14 +49,21 @@ module _ (a c : Circuit) (p : Pipe) (ins xs : List (Option PortInput)) (qs : Lis
     reading_is = at (reading p m) refl
       where
         at : (o : Option Reading) → reading p m ≡ o → (r : Reading) × (reading p m ≡ Some r)
-        at None e = absurd (let f : true ≡ false = sym (ap (λ (o : Option PortRegs). is_some o) here) ∙ (ports.each m within).some ∙ ap (λ (o : Option Reading). is_some o) e in cc)
+        at None e =
+            absurd
+            (let f : true ≡ false = sym (ap (λ (o : Option PortRegs). is_some o) here) ∙ (ports.each m within).some
+            ∙ ap (λ (o : Option Reading). is_some o) e in
+            cc)
         at (Some r) e = (r, e)
 
     input_is : (i : PortInput) × (some_at ins m ≡ Some i)
     input_is = at (some_at ins m) refl
       where
         at : (o : Option PortInput) → some_at ins m ≡ o → (i : PortInput) × (some_at ins m ≡ Some i)
-        at None e = absurd (let f : false ≡ true = sym (ap (λ (o : Option PortInput). is_some o) e) ∙ (replies.each m within).some ∙ (delayed m reading_is.0 reading_is.1).1 in cc)
+        at None e =
+            absurd
+            (let f : false ≡ true = sym (ap (λ (o : Option PortInput). is_some o) e) ∙ (replies.each m within).some ∙ (delayed m reading_is.0 reading_is.1).1 in
+            cc)
         at (Some i) e = (i, e)
 
     taken_is : some_at xs m ≡ Some input_is.0

@@ -78,7 +78,8 @@ abbrev pub AreNames : List (List ℕ) → (ℕ → List ℕ) → Type 0
 AreNames told name = (m : ℕ) → m < length told → name m ≡ slice_index_or told m []
 
 -- the stages, the net of squashes and the memories' names are those of a netlist
-pub record AreOf (c : Circuit) (ss : List ShownNets) (x : Net) (told : List (List ℕ)) (vs : ℕ → View) (gates : Gates) (goes : ℕ → Signal) (name : ℕ → List ℕ) : Type 0 where
+pub record AreOf (c : Circuit) (ss : List ShownNets) (x : Net) (told : List (List ℕ)) (vs : ℕ → View) (gates : Gates)
+    (goes : ℕ → Signal) (name : ℕ → List ℕ) : Type 0 where
   pub valid : (k : ℕ) → k < length ss → (vs k).valid ≡ valid_in c ss k
   pub moves : (k : ℕ) → k < length ss → goes k ≡ moves_in c ss k
   pub squash : gates.squash ≡ signal c x

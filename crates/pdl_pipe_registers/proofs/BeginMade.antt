@@ -94,7 +94,8 @@ goes_low p k m e = lock_there p m (and_parts (is_locked p m) (nat_le (suc (reser
 
 -- ---- by what is shared, as it stood when the stage began
 
-module _ (a : Circuit) (f : Form) (x : Earlier) (s : Shared) (shared : IsShared a f s) (earlier : IsEarlier a f (signals_in a s.next) x) (b : Circuit) (e : Keeps a b) where
+module _ (a : Circuit) (f : Form) (x : Earlier) (s : Shared) (shared : IsShared a f s)
+    (earlier : IsEarlier a f (signals_in a s.next) x) (b : Circuit) (e : Keeps a b) where
   nexts_same : signals_in b s.next ≡ signals_in a s.next
   nexts_same = next_keep a b f s e shared
 
@@ -107,40 +108,60 @@ module _ (a : Circuit) (f : Form) (x : Earlier) (s : Shared) (shared : IsShared 
   ends : (i : Item) (j : ℕ) → j < earlier_count x → ended_item (earlier_views a x j) i ≡ ended_item (earlier_views b x j) i
   ends i j l = sym (ends_same a b f (signals_in a s.next) x.stages.now i e earlier.ended j l)
 
-  begun_from : (c : Circuit) (r : StageRegs) (item : ℕ → Item) (needed : ℕ → Bool) (S T : ℕ → Signal → Type 0) (ws : List ℕ) (xs : List Net) → ((i : ℕ) (g : Signal) → S i g → T i g) → AreBegun c f (signals_in b s.next) r item needed S ws xs → AreBegun c f (signals_in a s.next) r item needed T ws xs
+  begun_from : (c : Circuit) (r : StageRegs) (item : ℕ → Item) (needed : ℕ → Bool) (S T : ℕ → Signal → Type 0) (ws : List ℕ) (xs : List Net)
+      → ((i : ℕ) (g : Signal) → S i g → T i g) → AreBegun c f (signals_in b s.next) r item needed S ws xs
+      → AreBegun c f (signals_in a s.next) r item needed T ws xs
   begun_from c r item needed S T ws xs weaker h =
       let now = subst (λ fs. AreBegun c f fs r item needed S ws xs) nexts_same h in
       record {
         there = now.there;
         wide = now.wide;
-        begun = λ i l need. by_weaker f (signals_in a s.next) r (item i) (signal_at (signals_in c xs) i) (S i) (T i) (λ z. weaker i (signal_at (signals_in c xs) i) z) (now.begun i l need);
+        begun =
+            λ i l need. by_weaker f (signals_in a s.next) r (item i) (signal_at (signals_in c xs) i) (S i) (T i)
+            (λ z. weaker i (signal_at (signals_in c xs) i) z) (now.begun i l need);
       }
 
-  pub vars_from : (c : Circuit) (r : StageRegs) (needed : ℕ → Bool) (ws : List ℕ) (xs : List Net) → AreBegun c f (signals_in b s.next) r Var needed (λ y. IsSettledAfter b f x (Var y)) ws xs → AreBegun c f (signals_in a s.next) r Var needed (λ y. IsSettledAfter a f x (Var y)) ws xs
+  pub vars_from : (c : Circuit) (r : StageRegs) (needed : ℕ → Bool) (ws : List ℕ) (xs : List Net)
+      → AreBegun c f (signals_in b s.next) r Var needed (λ y. IsSettledAfter b f x (Var y)) ws xs
+      → AreBegun c f (signals_in a s.next) r Var needed (λ y. IsSettledAfter a f x (Var y)) ws xs
   vars_from c r needed ws xs h =
-      begun_from c r Var needed (λ y. IsSettledAfter b f x (Var y)) (λ y. IsSettledAfter a f x (Var y)) ws xs (λ y g z. settled_as f.pipe (earlier_views b x) (earlier_views a x) (earlier_count x) (Var y) g (ends (Var y)) z) h
+      begun_from c r Var needed (λ y. IsSettledAfter b f x (Var y))
+      (λ y. IsSettledAfter a f x (Var y)) ws xs
+      (λ y g z. settled_as f.pipe (earlier_views b x) (earlier_views a x) (earlier_count x) (Var y) g (ends (Var y)) z) h
 
   -- where the variables have the same signals in another circuit
-  pub guess_from : (c d : Circuit) (r : StageRegs) (needed : ℕ → Bool) (ws : List ℕ) (vars xs : List Net) → signals_in d vars ≡ signals_in b vars → AreBegun c f (signals_in b s.next) r Guess needed (λ i. IsSparedAfter b f x vars (Guess i)) ws xs
+  pub guess_from : (c d : Circuit) (r : StageRegs) (needed : ℕ → Bool) (ws : List ℕ) (vars xs : List Net)
+      → signals_in d vars ≡ signals_in b vars
+      → AreBegun c f (signals_in b s.next) r Guess needed (λ i. IsSparedAfter b f x vars (Guess i)) ws xs
       → AreBegun c f (signals_in a s.next) r Guess needed (λ i. IsSpared f.pipe (earlier_views a x) (earlier_count x) (signals_in d vars) (Guess i)) ws xs
   guess_from c d r needed ws vars xs same h =
-      begun_from c r Guess needed (λ i. IsSparedAfter b f x vars (Guess i)) (λ i. IsSpared f.pipe (earlier_views a x) (earlier_count x) (signals_in d vars) (Guess i)) ws xs
+      begun_from c r Guess needed (λ i. IsSparedAfter b f x vars (Guess i))
+      (λ i. IsSpared f.pipe (earlier_views a x) (earlier_count x) (signals_in d vars) (Guess i)) ws xs
       (λ i g z. spared_as f.pipe (earlier_views b x) (earlier_views a x) (earlier_count x) (signals_in b vars) (signals_in d vars) (Guess i) g ends same z) h
 
-  pub helds_from : (c : Circuit) (r : StageRegs) (hs : List HeldNet) → AreHeldBegun c f (signals_in b s.next) (earlier_views b x) (earlier_count x) r hs → AreHeldBegun c f (signals_in a s.next) (earlier_views a x) (earlier_count x) r hs
+  pub helds_from : (c : Circuit) (r : StageRegs) (hs : List HeldNet)
+      → AreHeldBegun c f (signals_in b s.next) (earlier_views b x) (earlier_count x) r hs
+      → AreHeldBegun c f (signals_in a s.next) (earlier_views a x) (earlier_count x) r hs
   helds_from c r hs h =
-      helds_as c f (signals_in a s.next) (earlier_views b x) (earlier_views a x) (earlier_count x) r hs (λ m v j l. ends (Held m v) j l) (subst (λ fs. AreHeldBegun c f fs (earlier_views b x) (earlier_count x) r hs) nexts_same h)
+      helds_as c f (signals_in a s.next) (earlier_views b x) (earlier_views a x)
+      (earlier_count x) r hs (λ m v j l. ends (Held m v) j l)
+      (subst (λ fs. AreHeldBegun c f fs (earlier_views b x) (earlier_count x) r hs) nexts_same h)
 
-  pub all_held_from : (hs : List HeldNet) → Each (λ j. HasAllHeld f.pipe (earlier_count x) (earlier_views b x j) hs) x.ways.now → Each (λ j. HasAllHeld f.pipe (earlier_count x) (earlier_views a x j) hs) (ways f.pipe (earlier_count x))
+  pub all_held_from : (hs : List HeldNet)
+      → Each (λ j. HasAllHeld f.pipe (earlier_count x) (earlier_views b x j) hs) x.ways.now
+      → Each (λ j. HasAllHeld f.pipe (earlier_count x) (earlier_views a x j) hs) (ways f.pipe (earlier_count x))
   all_held_from hs h = subst (Each (λ j. HasAllHeld f.pipe (earlier_count x) (earlier_views a x j) hs)) earlier.ways (now x.ways.now earlier.low h)
     where
-      now : (js : List ℕ) → Each (λ j. j < earlier_count x) js → Each (λ j. HasAllHeld f.pipe (earlier_count x) (earlier_views b x j) hs) js → Each (λ j. HasAllHeld f.pipe (earlier_count x) (earlier_views a x j) hs) js
+      now : (js : List ℕ) → Each (λ j. j < earlier_count x) js
+          → Each (λ j. HasAllHeld f.pipe (earlier_count x) (earlier_views b x j) hs) js
+          → Each (λ j. HasAllHeld f.pipe (earlier_count x) (earlier_views a x j) hs) js
       now [] l q = tt
       now (j ∷ js) l q = (λ m v need un. ends (Held m v) j l.0 ∙ q.0 m v need un, now js l.1 q.1)
 
 -- ---- the stage
 
-pub record HasParts (c : Circuit) (f : Form) (nexts : List Signal) (answers : ℕ → ℕ → AnswerSignals) (us : ℕ → View) (k : ℕ) (bits : Bits) (s : StageNets) : Type 0 where
+pub record HasParts (c : Circuit) (f : Form) (nexts : List Signal) (answers : ℕ → ℕ → AnswerSignals) (us : ℕ → View)
+    (k : ℕ) (bits : Bits) (s : StageNets) : Type 0 where
   pub frame : IsFrame c f nexts k s.regs
   pub own : AreOwn f k s.regs
   pub vars : AreBegun c f nexts s.regs Var (lives_from f.pipe k) (λ x. IsSettled f.pipe us k (Var x)) f.widths s.vars
@@ -153,7 +174,8 @@ pub record HasParts (c : Circuit) (f : Form) (nexts : List Signal) (answers : �
   pub bits_are : AreBits c bits
   pub fresh : IsFresh bits s.begun s.held s.guess s.end
 
-module _ (c : Circuit) (f : Form) (nexts : List Signal) (answers : ℕ → ℕ → AnswerSignals) (us : ℕ → View) (k : ℕ) (bits : Bits) (s : StageNets) (h : HasParts c f nexts answers us k bits s) where
+module _ (c : Circuit) (f : Form) (nexts : List Signal) (answers : ℕ → ℕ → AnswerSignals) (us : ℕ → View) (k : ℕ)
+    (bits : Bits) (s : StageNets) (h : HasParts c f nexts answers us k bits s) where
   abbrev fresh : IsFresh bits s.begun s.held s.guess s.end
   fresh = h.fresh
 
@@ -219,16 +241,21 @@ module _ (c : Circuit) (f : Form) (nexts : List Signal) (answers : ℕ → ℕ �
     guess_wide = h.guess.wide;
   }
 
-  module _ (typed : IsTypedForm f) (count : length nexts ≡ length f.pipe.mems) (past : (x j : ℕ) → length f.widths ≤ x → j < k → ended_item (us j) (Var x) ≡ no_signal) where
-    by_var : (x : ℕ) → is_needed f.pipe k (Var x) ≡ true → ((leb (suc x) (length f.widths) ≡ true) × (suc x ≤ length f.widths)) ⊎ ((leb (suc x) (length f.widths) ≡ false) × (length f.widths < suc x))
+  module _ (typed : IsTypedForm f) (count : length nexts ≡ length f.pipe.mems)
+      (past : (x j : ℕ) → length f.widths ≤ x → j < k → ended_item (us j) (Var x) ≡ no_signal) where
+    by_var : (x : ℕ) → is_needed f.pipe k (Var x) ≡ true
+        → ((leb (suc x) (length f.widths) ≡ true) × (suc x ≤ length f.widths)) ⊎ ((leb (suc x) (length f.widths) ≡ false) × (length f.widths < suc x))
         → IsBegunBy f nexts s.regs (Var x) (signal_at (signals_in c s.vars) x) (IsSettled f.pipe us k (Var x))
     by_var x need (inl q) = let r = q.1 in h.vars.begun x (omega (arith, r)) need
     by_var x need (inr q) =
         let r = q.1 in
         let l : length f.widths ≤ x = omega (arith, r) in
-        inr (subst (IsSettled f.pipe us k (Var x)) (sym (past_all (signals_in c s.vars) f.widths x h.vars.wide l)) (past_settled f us k x typed l (λ j low. past x j l low)))
+        inr
+        (subst (IsSettled f.pipe us k (Var x)) (sym (past_all (signals_in c s.vars) f.widths x h.vars.wide l))
+        (past_settled f us k x typed l (λ j low. past x j l low)))
 
-    by_held : (m a : ℕ) (b : Bool) → is_listed s.held m a ≡ b → held_from f.pipe k m a ≡ true → IsBegunBy f nexts s.regs (Held m a) (held_of (map (held_in c) s.held) m a) (IsSettled f.pipe us k (Held m a))
+    by_held : (m a : ℕ) (b : Bool) → is_listed s.held m a ≡ b → held_from f.pipe k m a ≡ true
+        → IsBegunBy f nexts s.regs (Held m a) (held_of (map (held_in c) s.held) m a) (IsSettled f.pipe us k (Held m a))
     by_held m a true e need = h.held.begun m a e
     by_held m a false e need = inr (subst (IsSettled f.pipe us k (Held m a)) (sym (held_none c s.held m a e)) (unlisted f.pipe us k m a s.held need e h.all))
 

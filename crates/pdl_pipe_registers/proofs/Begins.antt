@@ -113,7 +113,10 @@ pub settled_as : (p : Pipe) (us vs : ℕ → View) (k : ℕ) (i : Item) (g : Sig
 settled_as p us vs zero i g same h = h
 settled_as p us vs (suc k) i g same h = record {
   constant = h.constant;
-  same = each_both (λ j. ended_item (vs j) i ≡ ended_item (us j) i) (λ j. ended_item (us j) i ≡ g) (λ j. ended_item (vs j) i ≡ g) (ways p (suc k)) (λ j e f. e ∙ f) (each_way p (suc k) (λ j. ended_item (vs j) i ≡ ended_item (us j) i) same) h.same;
+  same =
+      each_both (λ j. ended_item (vs j) i ≡ ended_item (us j) i) (λ j. ended_item (us j) i ≡ g)
+      (λ j. ended_item (vs j) i ≡ g) (ways p (suc k)) (λ j e f. e ∙ f)
+      (each_way p (suc k) (λ j. ended_item (vs j) i ≡ ended_item (us j) i) same) h.same;
   unanswered = h.unanswered;
 }
 
@@ -129,7 +132,9 @@ pub begin_as : (c : Circuit) (f : Form) (nexts : List Signal) (k : ℕ) (needed 
     → ((g : Signal) → S g → Settled g) → MayBegin c f nexts k needed r t i net S
     → MayBegin c f nexts k needed r t i net Settled
 begin_as c f nexts k needed r t i net S Settled weaker h = record {
-  may = may_as c r t i (item_width f nexts i) (first_value f.pipe k i) net (λ g. needed ≡ true → S g) (λ g. needed ≡ true → Settled g) (λ g q e. weaker g (q e)) h.may;
+  may =
+      may_as c r t i (item_width f nexts i) (first_value f.pipe k i) net (λ g. needed ≡ true → S g)
+      (λ g. needed ≡ true → Settled g) (λ g q e. weaker g (q e)) h.may;
   own = h.own;
 }
 
@@ -139,7 +144,10 @@ twin_as : (p : Pipe) (us vs : ℕ → View) (k i x : ℕ)
 twin_as p us vs k i x same h = record {
   later = h.later;
   some = h.some;
-  same = each_both (λ j. j < k) (λ j. ended_item (us j) (Guess i) ≡ ended_item (us j) (Var x)) (λ j. ended_item (vs j) (Guess i) ≡ ended_item (vs j) (Var x)) (ways p k) (λ j l e. same (Guess i) j l ∙ e ∙ sym (same (Var x) j l)) (each_way p k (λ j. j < k) (λ j l. l)) h.same;
+  same =
+      each_both (λ j. j < k) (λ j. ended_item (us j) (Guess i) ≡ ended_item (us j) (Var x))
+      (λ j. ended_item (vs j) (Guess i) ≡ ended_item (vs j) (Var x)) (ways p k)
+      (λ j l e. same (Guess i) j l ∙ e ∙ sym (same (Var x) j l)) (each_way p k (λ j. j < k) (λ j l. l)) h.same;
   needed = h.needed;
   unanswered = h.unanswered;
 }
@@ -152,7 +160,8 @@ spared_as p us vs k fs gs (Var x) g same e h = settled_as p us vs k (Var x) g (s
 spared_as p us vs k fs gs (Held m a) g same e h = settled_as p us vs k (Held m a) g (same (Held m a)) h
 spared_as p us vs k fs gs (Ticket m) g same e h = settled_as p us vs k (Ticket m) g (same (Ticket m)) h
 spared_as p us vs k fs gs (Guess i) g same e (inl h) = inl (settled_as p us vs k (Guess i) g (same (Guess i)) h)
-spared_as p us vs k fs gs (Guess i) g same e (inr h) = inr record { x = h.x; twin = twin_as p us vs k i h.x same h.twin; is = h.is ∙ ap (λ l. signal_at l h.x) (sym e) }
+spared_as p us vs k fs gs (Guess i) g same e (inr h) =
+    inr record { x = h.x; twin = twin_as p us vs k i h.x same h.twin; is = h.is ∙ ap (λ l. signal_at l h.x) (sym e) }
 
 -- what is settled needs none
 settled_spared : (p : Pipe) (us : ℕ → View) (k : ℕ) (fs : List Signal) (i : Item) (g : Signal) → IsSettled p us k i g
@@ -195,7 +204,8 @@ pub record HasNets (c : Circuit) (ws : List ℕ) (xs : List Net) : Type 0 where
 pub nets_long : (c : Circuit) (ws : List ℕ) (xs : List Net) → widths_of (signals_in c xs) ≡ ws → length xs ≡ length ws
 nets_long c ws xs e = sym (length_signals c xs) ∙ sym (length_widths (signals_in c xs)) ∙ ap length e
 
-module _ (b c : Circuit) (e : Keeps b c) (ws : List ℕ) (i : ℕ) (xs : List Net) (net : Net) (low : i < length ws) (there : NetsThere b xs) (wide : widths_of (signals_in b xs) ≡ take i ws) where
+module _ (b c : Circuit) (e : Keeps b c) (ws : List ℕ) (i : ℕ) (xs : List Net) (net : Net) (low : i < length ws)
+    (there : NetsThere b xs) (wide : widths_of (signals_in b xs) ≡ take i ws) where
   pub push_count : length xs ≡ i
   push_count = let n = nets_long b (take i ws) xs wide in let m = length-take i ws in omega (arith, n, m, low)
 
@@ -219,7 +229,8 @@ module _ (b c : Circuit) (e : Keeps b c) (ws : List ℕ) (i : ℕ) (xs : List Ne
 
 module _ (f : Form) (nexts : List Signal) (item : ℕ → Item) (needed : ℕ → Bool) (S : ℕ → Signal → Type 0) (ws : List ℕ) where
   -- they stay
-  pub begun_keep : (b c : Circuit) (r t : StageRegs) (xs : List Net) → Keeps b c → IsLonger r t → AreBegun b f nexts r item needed S ws xs → AreBegun c f nexts t item needed S ws xs
+  pub begun_keep : (b c : Circuit) (r t : StageRegs) (xs : List Net) → Keeps b c → IsLonger r t
+      → AreBegun b f nexts r item needed S ws xs → AreBegun c f nexts t item needed S ws xs
   begun_keep b c r t xs e l h =
       let same = signals_keep b c xs e h.there in
       record {
@@ -234,34 +245,39 @@ module _ (f : Form) (nexts : List Signal) (k : ℕ) (item : ℕ → Item) (neede
   begun_none c r = record { there = tt; wide = refl; begun = λ i low. absurd (omega (arith, low)) }
 
   -- one more
-  pub begun_more : (b c : Circuit) (r t : StageRegs) (i : ℕ) (xs : List Net) (net : Net) → i < length ws → Extends b c → MayBegin c f nexts k (needed i) r t (item i) net (S i) → item_width f nexts (item i) ≡ slice_index ws i
+  pub begun_more : (b c : Circuit) (r t : StageRegs) (i : ℕ) (xs : List Net) (net : Net) → i < length ws → Extends b c
+      → MayBegin c f nexts k (needed i) r t (item i) net (S i) → item_width f nexts (item i) ≡ slice_index ws i
       → AreBegun b f nexts r item needed S (take i ws) xs → AreBegun c f nexts t item needed S (take (i + 1) ws) (xs ++ net ∷ [])
   begun_more b c r t i xs net low bc may wide h =
       let e = extends_keeps b c bc in
       let W = item_width f nexts (item i) in
       let V = first_value f.pipe k (item i) in
       let N = λ (g : Signal). needed i ≡ true → S i g in
-      let nets = push_nets b c e ws i xs net low h.there h.wide (may_there c r t (item i) W V net N may.may) (may_wide c r t (item i) W V net N may.may ∙ wide) in
+      let nets =
+      push_nets b c e ws i xs net low h.there h.wide (may_there c r t (item i) W V net N may.may) (may_wide c r t (item i) W V net N may.may ∙ wide) in
       record {
         there = nets.there;
         wide = nets.wide;
         begun = λ y l need. up_to (λ y. needed y ≡ true → IsBegunBy f nexts t (item y) (signal_at (signals_in c (xs ++ net ∷ [])) y) (S y)) i
             (λ y q n. by_longer f nexts r t (item y) _ (S y) (longer_may c r t (item i) W V net N may.may)
-            (subst (λ g. IsBegunBy f nexts r (item y) g (S y)) (sym (push_old b c e ws i xs net low h.there h.wide y q)) (h.begun y (let m = length-take i ws in omega (arith, q, m, low)) n)))
+            (subst (λ g. IsBegunBy f nexts r (item y) g (S y)) (sym (push_old b c e ws i xs net low h.there h.wide y q))
+            (h.begun y (let m = length-take i ws in omega (arith, q, m, low)) n)))
             (λ n. subst (λ g. IsBegunBy f nexts t (item i) g (S i)) (sym (push_new b c e ws i xs net low h.there h.wide))
             (by_weaker f nexts t (item i) (signal c net) N (S i) (λ q. q n) (by_new f nexts c r t (item i) V net N may.may)))
             y (let m = length-take (i + 1) ws in omega (arith, l, m, low)) need;
       }
 
 -- the first of them, with the registers
-pub record SoFar (a c : Circuit) (f : Form) (nexts : List Signal) (k : ℕ) (r0 r : StageRegs) (item : ℕ → Item) (needed : ℕ → Bool) (Settled : ℕ → Signal → Type 0) (ws : List ℕ) (xs : List Net) : Type 0 where
+pub record SoFar (a c : Circuit) (f : Form) (nexts : List Signal) (k : ℕ) (r0 r : StageRegs) (item : ℕ → Item)
+    (needed : ℕ → Bool) (Settled : ℕ → Signal → Type 0) (ws : List ℕ) (xs : List Net) : Type 0 where
   pub extends : Extends a c
   pub frame : IsFrame c f nexts k r
   pub own : AreOwn f k r
   pub longer : IsLonger r0 r
   pub begun : AreBegun c f nexts r item needed Settled ws xs
 
-module _ (a : Circuit) (f : Form) (nexts : List Signal) (k : ℕ) (r0 : StageRegs) (item : ℕ → Item) (needed : ℕ → Bool) (S : ℕ → Signal → Type 0) (ws : List ℕ) where
+module _ (a : Circuit) (f : Form) (nexts : List Signal) (k : ℕ) (r0 : StageRegs) (item : ℕ → Item) (needed : ℕ → Bool)
+    (S : ℕ → Signal → Type 0) (ws : List ℕ) where
   pub sofar_none : IsFrame a f nexts k r0 → AreOwn f k r0 → Extends a a → SoFar a a f nexts k r0 r0 item needed S (take 0 ws) []
   sofar_none frame own none = record {
     extends = none;
@@ -271,7 +287,9 @@ module _ (a : Circuit) (f : Form) (nexts : List Signal) (k : ℕ) (r0 : StageReg
     begun = begun_none f nexts k item needed S ws a r0;
   }
 
-  pub sofar_more : (b c : Circuit) (r t : StageRegs) (i : ℕ) (xs : List Net) (net : Net) → i < length ws → Extends b c → MayBegin c f nexts k (needed i) r t (item i) net (S i) → end_of t ≡ length c.regs → item_width f nexts (item i) ≡ slice_index ws i
+  pub sofar_more : (b c : Circuit) (r t : StageRegs) (i : ℕ) (xs : List Net) (net : Net) → i < length ws → Extends b c
+      → MayBegin c f nexts k (needed i) r t (item i) net (S i) → end_of t ≡ length c.regs
+      → item_width f nexts (item i) ≡ slice_index ws i
       → SoFar a b f nexts k r0 r item needed S (take i ws) xs → SoFar a c f nexts k r0 t item needed S (take (i + 1) ws) (xs ++ net ∷ [])
   sofar_more b c r t i xs net low bc may last wide h =
       let W = item_width f nexts (item i) in

@@ -48,7 +48,8 @@ held_old : (c : Circuit) (xs : List HeldNet) (h : HeldNet) (m v : ℕ)
 held_old c [] h m v e = absurd (false≢true e)
 held_old c (x ∷ xs) h m v e = at (is_it x m v) e (λ q. held_old c xs h m v q)
   where
-    at : (b : Bool) → (b || is_listed xs m v) ≡ true → (is_listed xs m v ≡ true → held_of (map (held_in c) (xs ++ h ∷ [])) m v ≡ held_of (map (held_in c) xs) m v)
+    at : (b : Bool) → (b || is_listed xs m v) ≡ true
+        → (is_listed xs m v ≡ true → held_of (map (held_in c) (xs ++ h ∷ [])) m v ≡ held_of (map (held_in c) xs) m v)
         → (if b then signal c x.net else held_of (map (held_in c) (xs ++ h ∷ [])) m v) ≡ (if b then signal c x.net else held_of (map (held_in c) xs) m v)
     at true q f = refl
     at false q f = f q
@@ -58,7 +59,9 @@ held_new : (c : Circuit) (xs : List HeldNet) (h : HeldNet) (m v : ℕ)
 held_new c [] h m v e i = ap (λ b. if b then signal c h.net else zero_bit) i
 held_new c (x ∷ xs) h m v e i = at (is_it x m v) e (λ q. held_new c xs h m v q i)
   where
-    at : (b : Bool) → (b || is_listed xs m v) ≡ false → (is_listed xs m v ≡ false → held_of (map (held_in c) (xs ++ h ∷ [])) m v ≡ signal c h.net) → (if b then signal c x.net else held_of (map (held_in c) (xs ++ h ∷ [])) m v) ≡ signal c h.net
+    at : (b : Bool) → (b || is_listed xs m v) ≡ false
+        → (is_listed xs m v ≡ false → held_of (map (held_in c) (xs ++ h ∷ [])) m v ≡ signal c h.net)
+        → (if b then signal c x.net else held_of (map (held_in c) (xs ++ h ∷ [])) m v) ≡ signal c h.net
     at true q f = absurd (false≢true (sym q))
     at false q f = f q
 
@@ -67,7 +70,9 @@ pub held_none : (c : Circuit) (xs : List HeldNet) (m v : ℕ) → is_listed xs m
 held_none c [] m v e = refl
 held_none c (x ∷ xs) m v e = at (is_it x m v) e (λ q. held_none c xs m v q)
   where
-    at : (b : Bool) → (b || is_listed xs m v) ≡ false → (is_listed xs m v ≡ false → held_of (map (held_in c) xs) m v ≡ zero_bit) → (if b then signal c x.net else held_of (map (held_in c) xs) m v) ≡ zero_bit
+    at : (b : Bool) → (b || is_listed xs m v) ≡ false
+        → (is_listed xs m v ≡ false → held_of (map (held_in c) xs) m v ≡ zero_bit)
+        → (if b then signal c x.net else held_of (map (held_in c) xs) m v) ≡ zero_bit
     at true q f = absurd (false≢true (sym q))
     at false q f = f q
 
@@ -82,7 +87,9 @@ or_cases false b e = inr (refl, e)
 
 module _ (f : Form) (nexts : List Signal) (us : ℕ → View) (k : ℕ) (b c : Circuit) (e : Keeps b c) (hs : List HeldNet) where
   held_now : Each (λ (h : HeldNet). IsThere b h.net) hs → (m v : ℕ) → held_of (map (held_in c) hs) m v ≡ held_of (map (held_in b) hs) m v
-  held_now there m v = ap (λ xs. held_of xs m v) (map_each (held_in c) (held_in b) (λ x. IsThere b x.net) (λ x t. ap (λ g. record { mem = x.mem; var = x.var; signal = g }) (e.kept x.net t)) hs there)
+  held_now there m v =
+      ap (λ xs. held_of xs m v)
+      (map_each (held_in c) (held_in b) (λ x. IsThere b x.net) (λ x t. ap (λ g. record { mem = x.mem; var = x.var; signal = g }) (e.kept x.net t)) hs there)
 
   there_now : Each (λ (h : HeldNet). IsThere b h.net) hs → Each (λ (h : HeldNet). IsThere c h.net) hs
   there_now t = each_weaker (λ (x : HeldNet). IsThere b x.net) (λ x. IsThere c x.net) (λ x q. e.there x.net q) hs t
@@ -108,12 +115,19 @@ pub adds_as : (c : Circuit) (f : Form) (nexts : List Signal) (us vs : ℕ → Vi
     → AddsHeld c f nexts us k m v r hs t xs → AddsHeld c f nexts vs k m v r hs t xs
 adds_as c f nexts us vs k m v r t hs xs same (inl q) = inl q
 adds_as c f nexts us vs k m v r t hs xs same (inr q) =
-    inr (q.0, may_as c r t (Held m v) 1 0 q.0 (IsSettled f.pipe us k (Held m v)) (IsSettled f.pipe vs k (Held m v)) (λ g z. settled_as f.pipe us vs k (Held m v) g same z) q.1, q.2, q.3)
+    inr (
+      q.0,
+      may_as c r t (Held m v) 1 0 q.0 (IsSettled f.pipe us k (Held m v)) (IsSettled f.pipe vs k (Held m v))
+          (λ g z. settled_as f.pipe us vs k (Held m v) g same z) q.1,
+      q.2,
+      q.3,
+    )
 
 -- ---- one more
 
 -- locations with their registers, and what they were
-pub record HeldsSoFar (a c : Circuit) (f : Form) (nexts : List Signal) (us : ℕ → View) (k : ℕ) (r0 : StageRegs) (hs0 : List HeldNet) (r : StageRegs) (hs : List HeldNet) : Type 0 where
+pub record HeldsSoFar (a c : Circuit) (f : Form) (nexts : List Signal) (us : ℕ → View) (k : ℕ) (r0 : StageRegs)
+    (hs0 : List HeldNet) (r : StageRegs) (hs : List HeldNet) : Type 0 where
   pub extends : Extends a c
   pub frame : IsFrame c f nexts k r
   pub own : AreOwn f k r
@@ -130,14 +144,20 @@ own_held : (f : Form) (k m v : ℕ) → 0 < k → IsOwn f k (Held m v)
 own_held f Rattle.std.proofs.Common.zero m v l = absurd (omega (arith, l))
 own_held f (Rattle.std.proofs.Common.suc k) m v l = tt
 
-module _ (a b c : Circuit) (f : Form) (nexts : List Signal) (us : ℕ → View) (k : ℕ) (r0 : StageRegs) (hs0 : List HeldNet) (r t : StageRegs) (hs xs : List HeldNet) (m0 v0 : ℕ) (after : 0 < k) (bc : Extends b c) (last : end_of t ≡ length c.regs)
+module _ (a b c : Circuit) (f : Form) (nexts : List Signal) (us : ℕ → View) (k : ℕ) (r0 : StageRegs)
+    (hs0 : List HeldNet) (r t : StageRegs) (hs xs : List HeldNet) (m0 v0 : ℕ) (after : 0 < k) (bc : Extends b c)
+    (last : end_of t ≡ length c.regs)
     (so : HeldsSoFar a b f nexts us k r0 hs0 r hs) where
   same_case : (t ≡ r) × (xs ≡ hs) × (held_from f.pipe k m0 v0 ≡ true → is_listed hs m0 v0 ≡ true) → HeldsSoFar a c f nexts us k r0 hs0 t xs
   same_case q =
       let e = extends_keeps b c bc in
       subst (λ (u : StageRegs). HeldsSoFar a c f nexts us k r0 hs0 u xs) (sym q.0) (subst (HeldsSoFar a c f nexts us k r0 hs0 r) (sym q.1) record {
         extends = extends_trans a b c so.extends bc;
-        frame = record { last = ap end_of (sym q.0) ∙ last; registers = Rattle.pdl_pipe_registers.proofs.RegisterGrowth.registers_keep b c f nexts k r e so.frame.registers };
+        frame =
+            record {
+              last = ap end_of (sym q.0) ∙ last;
+              registers = Rattle.pdl_pipe_registers.proofs.RegisterGrowth.registers_keep b c f nexts k r e so.frame.registers;
+            };
         own = so.own;
         longer = so.longer;
         begun = helds_keep f nexts us k b c r r hs e (longer_none r) so.begun;
@@ -154,15 +174,19 @@ module _ (a b c : Circuit) (f : Form) (nexts : List Signal) (us : ℕ → View) 
     old : AreHeldBegun c f nexts us k t hs
     old = helds_keep f nexts us k b c r t hs (extends_keeps b c bc) (longer_may c r t (Held m0 v0) 1 0 net (IsSettled f.pipe us k (Held m0 v0)) may) so.begun
 
-    here : (m v : ℕ) → is_listed hs m v ≡ false → is_it y m v ≡ true → IsBegunBy f nexts t (Held m v) (held_of (map (held_in c) (hs ++ y ∷ [])) m v) (IsSettled f.pipe us k (Held m v))
+    here : (m v : ℕ) → is_listed hs m v ≡ false → is_it y m v ≡ true
+        → IsBegunBy f nexts t (Held m v) (held_of (map (held_in c) (hs ++ y ∷ [])) m v) (IsSettled f.pipe us k (Held m v))
     here m v un q =
         let i = is_it_same y m v q in
-        let begun : IsBegunBy f nexts t (Held m0 v0) (signal c net) (IsSettled f.pipe us k (Held m0 v0)) = by_new f nexts c r t (Held m0 v0) 0 net (IsSettled f.pipe us k (Held m0 v0)) may in
+        let begun : IsBegunBy f nexts t (Held m0 v0) (signal c net) (IsSettled f.pipe us k (Held m0 v0)) =
+        by_new f nexts c r t (Held m0 v0) 0 net (IsSettled f.pipe us k (Held m0 v0)) may in
         let at_mv : IsBegunBy f nexts t (Held m v) (signal c net) (IsSettled f.pipe us k (Held m v)) =
-        subst (λ n. IsBegunBy f nexts t (Held m n) (signal c net) (IsSettled f.pipe us k (Held m n))) i.1 (subst (λ n. IsBegunBy f nexts t (Held n v0) (signal c net) (IsSettled f.pipe us k (Held n v0))) i.0 begun) in
+        subst (λ n. IsBegunBy f nexts t (Held m n) (signal c net) (IsSettled f.pipe us k (Held m n))) i.1
+        (subst (λ n. IsBegunBy f nexts t (Held n v0) (signal c net) (IsSettled f.pipe us k (Held n v0))) i.0 begun) in
         subst (λ g. IsBegunBy f nexts t (Held m v) g (IsSettled f.pipe us k (Held m v))) (sym (held_new c hs y m v un q)) at_mv
 
-    by : (m v : ℕ) → (is_listed hs m v ≡ true) ⊎ ((is_listed hs m v ≡ false) × (is_it y m v ≡ true)) → IsBegunBy f nexts t (Held m v) (held_of (map (held_in c) (hs ++ y ∷ [])) m v) (IsSettled f.pipe us k (Held m v))
+    by : (m v : ℕ) → (is_listed hs m v ≡ true) ⊎ ((is_listed hs m v ≡ false) × (is_it y m v ≡ true))
+        → IsBegunBy f nexts t (Held m v) (held_of (map (held_in c) (hs ++ y ∷ [])) m v) (IsSettled f.pipe us k (Held m v))
     by m v (inl q) = subst (λ g. IsBegunBy f nexts t (Held m v) g (IsSettled f.pipe us k (Held m v))) (sym (held_old c hs y m v q)) (old.begun m v q)
     by m v (inr q) = here m v q.0 q.1
 
@@ -174,13 +198,15 @@ module _ (a b c : Circuit) (f : Form) (nexts : List Signal) (us : ℕ → View) 
       longer = longer_trans r0 r t so.longer (longer_may c r t (Held m0 v0) 1 0 net (IsSettled f.pipe us k (Held m0 v0)) may);
       begun = record {
         there = each_push (λ (x : HeldNet). IsThere c x.net) hs y old.there (may_there c r t (Held m0 v0) 1 0 net (IsSettled f.pipe us k (Held m0 v0)) may);
-        one = each_push (λ (x : HeldNet). (signal c x.net).width ≡ 1) hs y old.one (may_wide c r t (Held m0 v0) 1 0 net (IsSettled f.pipe us k (Held m0 v0)) may);
+        one =
+            each_push (λ (x : HeldNet). (signal c x.net).width ≡ 1) hs y old.one (may_wide c r t (Held m0 v0) 1 0 net (IsSettled f.pipe us k (Held m0 v0)) may);
         begun = λ m v q. by m v (or_cases (is_listed hs m v) (is_it y m v) (sym (listed_more hs y m v) ∙ q));
       };
       still = λ m v q. listed_more hs y m v ∙ or_left (is_listed hs m v) (is_it y m v) (so.still m v q);
     }
       where
-        may_zero : (n : ℕ) → 0 < n → MayAdd c r t (Held m0 v0) 1 0 net (IsSettled f.pipe us k (Held m0 v0)) → MayAdd c r t (Held m0 v0) 1 0 net (IsSettled f.pipe us k (Held m0 v0))
+        may_zero : (n : ℕ) → 0 < n → MayAdd c r t (Held m0 v0) 1 0 net (IsSettled f.pipe us k (Held m0 v0))
+            → MayAdd c r t (Held m0 v0) 1 0 net (IsSettled f.pipe us k (Held m0 v0))
         may_zero n l q = q
 
   -- either way
@@ -193,12 +219,16 @@ module _ (a b c : Circuit) (f : Form) (nexts : List Signal) (us : ℕ → View) 
   helds_listed (inl q) need = subst (λ l. is_listed l m0 v0 ≡ true) (sym q.1) (q.2 need)
   helds_listed (inr q) need =
       subst (λ l. is_listed l m0 v0 ≡ true) (sym q.2)
-      (listed_more hs (record { mem = m0; var = v0; net = q.0 }) m0 v0 ∙ or_right (is_listed hs m0 v0) ((m0 == m0) && (v0 == v0)) (Rattle.std.proofs.Common.ap₂ (λ x z. x && z) (Rattle.std.proofs.Common.eq-eqb m0 m0 refl) (Rattle.std.proofs.Common.eq-eqb v0 v0 refl)))
+      (listed_more hs (record { mem = m0; var = v0; net = q.0 }) m0 v0
+      ∙ or_right (is_listed hs m0 v0) ((m0 == m0) && (v0 == v0))
+      (Rattle.std.proofs.Common.ap₂ (λ x z. x && z) (Rattle.std.proofs.Common.eq-eqb m0 m0 refl) (Rattle.std.proofs.Common.eq-eqb v0 v0 refl)))
 
   -- and what was listed still is
   pub helds_still : AddsHeld c f nexts us k m0 v0 r hs t xs → AreStillListed hs xs
   helds_still (inl q) m v h = subst (λ l. is_listed l m v ≡ true) (sym q.1) h
-  helds_still (inr q) m v h = subst (λ l. is_listed l m v ≡ true) (sym q.2) (listed_more hs (record { mem = m0; var = v0; net = q.0 }) m v ∙ or_left (is_listed hs m v) ((m0 == m) && (v0 == v)) h)
+  helds_still (inr q) m v h =
+      subst (λ l. is_listed l m v ≡ true) (sym q.2)
+      (listed_more hs (record { mem = m0; var = v0; net = q.0 }) m v ∙ or_left (is_listed hs m v) ((m0 == m) && (v0 == v)) h)
 
 -- ---- all that a stage ends with
 
@@ -216,7 +246,9 @@ seen_more f k items hs xs h still new seen m v need q = at (or_cases (is_listed 
     at (inl z) = still m v (seen m v need z)
     at (inr z) =
         let i = is_it_same h m v z.1 in
-        subst (λ n. is_listed xs m n ≡ true) i.1 (subst (λ n. is_listed xs n h.var ≡ true) i.0 (new (subst (λ n. held_from f.pipe k n h.var ≡ true) (sym i.0) (subst (λ n. held_from f.pipe k m n ≡ true) (sym i.1) need))))
+        subst (λ n. is_listed xs m n ≡ true) i.1
+        (subst (λ n. is_listed xs n h.var ≡ true) i.0
+        (new (subst (λ n. held_from f.pipe k n h.var ≡ true) (sym i.0) (subst (λ n. held_from f.pipe k m n ≡ true) (sym i.1) need))))
 
 -- so what isn't listed isn't held there
 pub all_seen : (c : Circuit) (f : Form) (k : ℕ) (items hs : List HeldNet) (m v : ℕ) → AreSeen f k items hs
@@ -243,7 +275,9 @@ pub helds_as : (c : Circuit) (f : Form) (nexts : List Signal) (us vs : ℕ → V
 helds_as c f nexts us vs k r hs same h = record {
   there = h.there;
   one = h.one;
-  begun = λ m v q. by_weaker f nexts r (Held m v) _ (IsSettled f.pipe us k (Held m v)) (IsSettled f.pipe vs k (Held m v)) (λ z. settled_as f.pipe us vs k (Held m v) (held_of (map (held_in c) hs) m v) (same m v) z) (h.begun m v q);
+  begun =
+      λ m v q. by_weaker f nexts r (Held m v) _ (IsSettled f.pipe us k (Held m v)) (IsSettled f.pipe vs k (Held m v))
+      (λ z. settled_as f.pipe us vs k (Held m v) (held_of (map (held_in c) hs) m v) (same m v) z) (h.begun m v q);
 }
 
 helds_none : (c : Circuit) (f : Form) (nexts : List Signal) (us : ℕ → View) (k : ℕ) (r : StageRegs) → AreHeldBegun c f nexts us k r []

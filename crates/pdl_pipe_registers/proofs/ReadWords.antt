@@ -24,12 +24,17 @@ reads_in : (f : Form) (m : ℕ) (r : Reading) (xs : List Stmt) → AreTypedStmts
 reads_in f m r [] t is = absurd (cc is)
 reads_in f m r (x ∷ xs) t is = by x.op t.0.1 is (reads_in f m r xs t.1)
   where
-    this : (y n : ℕ) → y < length f.widths → slice_index f.widths y ≡ (mem_at f.pipe n).width → (reading_in m xs ≡ Some r → ReadsWord f m r) → (b : Bool) → (n == m) ≡ b
+    this : (y n : ℕ) → y < length f.widths → slice_index f.widths y ≡ (mem_at f.pipe n).width
+        → (reading_in m xs ≡ Some r → ReadsWord f m r) → (b : Bool) → (n == m) ≡ b
         → (if b then Some (record { stage = x.stage; var = y }) else reading_in m xs) ≡ Some r → ReadsWord f m r
     this y n w wide go false e h = go h
-    this y n w wide go true e h = subst (ReadsWord f m) (some_is (record { stage = x.stage; var = y }) r h) record { low = w; wide = ap (λ i. (mem_at f.pipe i).width) (sym (eqb-true n m e)) ∙ sym wide }
+    this y n w wide go true e h =
+        subst (ReadsWord f m)
+        (some_is (record { stage = x.stage; var = y }) r h) record { low = w; wide = ap (λ i. (mem_at f.pipe i).width) (sym (eqb-true n m e)) ∙ sym wide }
 
-    by : (o : Op) → IsTypedOp f o → on_delayed_read (λ y n a. if n == m then Some (record { stage = x.stage; var = y }) else reading_in m xs) (reading_in m xs) o ≡ Some r → (reading_in m xs ≡ Some r → ReadsWord f m r) → ReadsWord f m r
+    by : (o : Op) → IsTypedOp f o
+        → on_delayed_read (λ y n a. if n == m then Some (record { stage = x.stage; var = y }) else reading_in m xs) (reading_in m xs) o ≡ Some r
+        → (reading_in m xs ≡ Some r → ReadsWord f m r) → ReadsWord f m r
     by (DelayedRead y n a) q h go = this y n q.0 q.2 go (n == m) refl h
     by _ q h go = go h
 

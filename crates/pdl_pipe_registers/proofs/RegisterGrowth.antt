@@ -53,7 +53,8 @@ module _ (f : Form) (nexts : List Signal) (k : ℕ) where
   frame_kept : (a b : Circuit) (r : StageRegs) → Extends a b → end_of r ≡ length b.regs → IsFrame a f nexts k r → IsFrame b f nexts k r
   frame_kept a b r x last h = record { last = last; registers = registers_keep a b f nexts k r (extends_keeps a b x) h.registers }
 
-  frame_more : (a b : Circuit) (r : StageRegs) (i : Item) → Extends a b → IsRegister b (end_of r) (item_width f nexts i) (first_value f.pipe k i) → end_of (with_item r i) ≡ length b.regs
+  frame_more : (a b : Circuit) (r : StageRegs) (i : Item) → Extends a b
+      → IsRegister b (end_of r) (item_width f nexts i) (first_value f.pipe k i) → end_of (with_item r i) ≡ length b.regs
       → IsFrame a f nexts k r → IsFrame b f nexts k (with_item r i)
   frame_more a b r i x new last h = record {
     last = last;
@@ -64,7 +65,10 @@ module _ (f : Form) (nexts : List Signal) (k : ℕ) where
   }
     where
       old : (j : ℕ) → j < length r.items → IsKeptIn f nexts k b r (r.items ++ i ∷ []) j
-      old j l = subst (λ (y : Item). IsRegister b (reg_of r j) (item_width f nexts y) (first_value f.pipe k y)) (sym (item_old r.items i j l)) (register_keep a b (reg_of r j) _ _ (extends_keeps a b x) (h.registers.kept j l))
+      old j l =
+          subst (λ (y : Item). IsRegister b (reg_of r j) (item_width f nexts y) (first_value f.pipe k y))
+          (sym (item_old r.items i j l))
+          (register_keep a b (reg_of r j) _ _ (extends_keeps a b x) (h.registers.kept j l))
 
       here : IsKeptIn f nexts k b r (r.items ++ i ∷ []) (length r.items)
       here = subst (λ (y : Item). IsRegister b (end_of r) (item_width f nexts y) (first_value f.pipe k y)) (sym (item_new r.items i)) new
@@ -73,9 +77,11 @@ module _ (f : Form) (nexts : List Signal) (k : ℕ) where
       all = up_to (IsKeptIn f nexts k b r (r.items ++ i ∷ [])) (length r.items) old here
 
   -- whether one is added or none
-  pub frame_may : (a b : Circuit) (r t : StageRegs) (i : Item) (net : Net) (Settled : Signal → Type 0) → Extends a b → MayAdd b r t i (item_width f nexts i) (first_value f.pipe k i) net Settled → end_of t ≡ length b.regs
+  pub frame_may : (a b : Circuit) (r t : StageRegs) (i : Item) (net : Net) (Settled : Signal → Type 0) → Extends a b
+      → MayAdd b r t i (item_width f nexts i) (first_value f.pipe k i) net Settled → end_of t ≡ length b.regs
       → IsFrame a f nexts k r → IsFrame b f nexts k t
-  frame_may a b r t i net Settled x (inl m) last h = subst (IsFrame b f nexts k) (sym m.regs) (frame_more a b r i x m.register (ap end_of (sym m.regs) ∙ last) h)
+  frame_may a b r t i net Settled x (inl m) last h =
+      subst (IsFrame b f nexts k) (sym m.regs) (frame_more a b r i x m.register (ap end_of (sym m.regs) ∙ last) h)
   frame_may a b r t i net Settled x (inr m) last h = subst (IsFrame b f nexts k) (sym m.regs) (frame_kept a b r x (ap end_of (sym m.regs) ∙ last) h)
 
 -- ---- what they may keep
@@ -87,7 +93,9 @@ own_more c f k i r t w v net S may (inl e) h = subst (AreOwn f k) (sym e) h
 own_more c f k i r t w v net S (inr m) (inr o) h = subst (AreOwn f k) (sym m.regs) h
 own_more c f k i r t w v net S (inl m) (inr o) h =
     subst (AreOwn f k) (sym m.regs)
-    (λ j l. up_to (λ n. IsOwn f k (item_at (r.items ++ i ∷ []) n)) (length r.items) (λ n q. subst (IsOwn f k) (sym (item_old r.items i n q)) (h n q)) (subst (IsOwn f k) (sym (item_new r.items i)) o) j
+    (λ j l. up_to (λ n. IsOwn f k (item_at (r.items ++ i ∷ []) n)) (length r.items)
+    (λ n q. subst (IsOwn f k) (sym (item_old r.items i n q)) (h n q))
+    (subst (IsOwn f k) (sym (item_new r.items i)) o) j
     (let e = count_new r.items i in omega (arith, l, e)))
 
 -- ---- longer and longer
@@ -106,7 +114,8 @@ longer_trans r s t h k = record {
 -- where one register may have been added, a stage's registers begin with those it had
 pub longer_may : (c : Circuit) (r t : StageRegs) (i : Item) (w v : ℕ) (net : Net) (S : Signal → Type 0)
     → MayAdd c r t i w v net S → IsLonger r t
-longer_may c r t i w v net S (inl m) = subst (IsLonger r) (sym m.regs) record { valid = Rattle.std.proofs.Common.refl; items = (i ∷ [], Rattle.std.proofs.Common.refl) }
+longer_may c r t i w v net S (inl m) =
+    subst (IsLonger r) (sym m.regs) record { valid = Rattle.std.proofs.Common.refl; items = (i ∷ [], Rattle.std.proofs.Common.refl) }
 longer_may c r t i w v net S (inr m) = subst (IsLonger r) (sym m.regs) (longer_none r)
 
 -- ---- items
@@ -121,16 +130,23 @@ module _ (f : Form) (nexts : List Signal) where
       let same : item_at r.items j ≡ i = q.2 in
       let more = h.items.0 in
       let long : length t.items ≡ length r.items + length more = ap length h.items.1 ∙ length-append r.items more in
-      inl (j, omega (arith, low, long), ap (λ xs. item_at xs j) h.items.1 ∙ get_or_append_left r.items more (Var 0) j low ∙ same, q.3 ∙ ap (λ n. reg_signal (item_width f nexts i) (suc (n + j))) (sym h.valid))
+      inl (
+        j,
+        omega (arith, low, long),
+        ap (λ xs. item_at xs j) h.items.1 ∙ get_or_append_left r.items more (Var 0) j low ∙ same,
+        q.3 ∙ ap (λ n. reg_signal (item_width f nexts i) (suc (n + j))) (sym h.valid),
+      )
 
   -- and the one that was added, or not, is so
-  pub by_new : (c : Circuit) (r t : StageRegs) (i : Item) (v : ℕ) (net : Net) (Settled : Signal → Type 0) → MayAdd c r t i (item_width f nexts i) v net Settled → IsBegunBy f nexts t i (signal c net) Settled
+  pub by_new : (c : Circuit) (r t : StageRegs) (i : Item) (v : ℕ) (net : Net) (Settled : Signal → Type 0)
+      → MayAdd c r t i (item_width f nexts i) v net Settled → IsBegunBy f nexts t i (signal c net) Settled
   by_new c r t i v net Settled (inr m) = inr m.settled
   by_new c r t i v net Settled (inl m) =
       subst (λ (u : StageRegs). IsBegunBy f nexts u i (signal c net) Settled) (sym m.regs)
       (inl (length r.items, (let e = count_new r.items i in omega (arith, e)), item_new r.items i, ap (signal c) m.net_is ∙ m.register.same))
 
-  pub by_weaker : (r : StageRegs) (i : Item) (g : Signal) (S Settled : Signal → Type 0) → (S g → Settled g) → IsBegunBy f nexts r i g S → IsBegunBy f nexts r i g Settled
+  pub by_weaker : (r : StageRegs) (i : Item) (g : Signal) (S Settled : Signal → Type 0) → (S g → Settled g)
+      → IsBegunBy f nexts r i g S → IsBegunBy f nexts r i g Settled
   by_weaker r i g S Settled k (inl h) = inl h
   by_weaker r i g S Settled k (inr h) = inr (k h)
 

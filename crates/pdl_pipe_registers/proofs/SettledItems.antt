@@ -44,14 +44,16 @@ pub ended_width : (c : Circuit) (f : Form) (nexts : List Signal) (s : StageNets)
 ended_width c f nexts s (Var x) h l = var_width f.pipe f.widths (parts_in c s.end) x h.walk.sized
 ended_width c f nexts s (Held m a) h l = held_width (parts_in c s.end).held m a h.walk.sized.held
 ended_width c f nexts s (Ticket m) h l = sym (width_at (signals_in c s.tickets) m) ∙ ap (λ ws. slice_index ws m) h.tickets_wide ∙ width_at nexts m
-ended_width c f nexts s (Guess i) h l = sym (width_at (signals_in c s.end.guess) i) ∙ ap (λ ws. slice_index ws i) h.walk.sized.guess ∙ take_index (length f.pipe.start) i f.widths l
+ended_width c f nexts s (Guess i) h l =
+    sym (width_at (signals_in c s.end.guess) i) ∙ ap (λ ws. slice_index ws i) h.walk.sized.guess ∙ take_index (length f.pipe.start) i f.widths l
 
 coming_width : (c : Circuit) (f : Form) (nexts : List Signal) (x : Earlier) (j : ℕ) (i : Item) → IsEarlier c f nexts x
     → j < earlier_count x → IsItem f i → (ended_item (earlier_views c x j) i).width ≡ item_width f nexts i
 coming_width c f nexts x j i h l item =
     let some = some_stage x.stages.now j l in
     let s = some.0 in
-    ap (λ (v : View). (ended_item v i).width) (view_at c x.stages.now j s l some.1) ∙ ended_width c f nexts s i (each_at (IsEnded c f nexts) x.stages.now j s l some.1 h.ended) item
+    ap (λ (v : View). (ended_item v i).width) (view_at c x.stages.now j s l some.1)
+    ∙ ended_width c f nexts s i (each_at (IsEnded c f nexts) x.stages.now j s l some.1 h.ended) item
 
 -- a net with which all stages that lead here end for an item has the item's width
 pub common_width : (c : Circuit) (f : Form) (nexts : List Signal) (x : Earlier) (i : Item) (net : Net)

@@ -61,7 +61,8 @@ module _ (c d : Circuit) (e : Keeps c d) where
       let e3 = signals_keep c d s.guess e h.guess in
       cc (e1, e2, e3)
 
-  kept_item_keep : (f : Form) (nexts : List Signal) (s : StageNets) (i : Item) → IsThereBegun c f nexts s → kept_item (view_in d s) i ≡ kept_item (view_in c s) i
+  kept_item_keep : (f : Form) (nexts : List Signal) (s : StageNets) (i : Item) → IsThereBegun c f nexts s
+      → kept_item (view_in d s) i ≡ kept_item (view_in c s) i
   kept_item_keep f nexts s (Var x) h = ap (λ fs. signal_at fs x) (signals_keep c d s.vars e h.vars)
   kept_item_keep f nexts s (Held m v) h = ap (λ (w : Walk). w.held m v) (ap walk_of (begun_parts_keep f nexts s h))
   kept_item_keep f nexts s (Ticket m) h = ap (λ fs. signal_at fs m) (signals_keep c d s.tickets e h.tickets)
@@ -70,28 +71,40 @@ module _ (c d : Circuit) (e : Keeps c d) where
   next_keep : (p : Pipe) (nexts : List Signal) (k : ℕ) (s : StageNets) → NetsThere c s.tickets → HasTickets c p nexts k s → HasTickets d p nexts k s
   next_keep p nexts k s t h = λ m l q. ap (λ fs. signal_at fs m) (signals_keep c d s.tickets e t) ∙ h m l q
 
-  answered_keep : (f : Form) (nexts : List Signal) (answers : ℕ → ℕ → AnswerSignals) (k : ℕ) (s : StageNets) → IsThereBegun c f nexts s → HasAnswered c f answers k s → HasAnswered d f answers k s
+  answered_keep : (f : Form) (nexts : List Signal) (answers : ℕ → ℕ → AnswerSignals) (k : ℕ) (s : StageNets)
+      → IsThereBegun c f nexts s → HasAnswered c f answers k s → HasAnswered d f answers k s
   answered_keep f nexts answers k s t h = λ x l.
-      ap (λ fs. signal_at fs x) (signals_keep c d s.begun e t.begun) ∙ h x l ∙ ap (λ fs. with_answer f.pipe answers k x (signal_at fs x)) (sym (signals_keep c d s.vars e t.vars))
+      ap (λ fs. signal_at fs x) (signals_keep c d s.begun e t.begun) ∙ h x l
+      ∙ ap (λ fs. with_answer f.pipe answers k x (signal_at fs x)) (sym (signals_keep c d s.vars e t.vars))
 
   -- what it needs no register for, by the views of the stages before it, as they stood in an earlier circuit
-  kept_keep : (a : Circuit) (f : Form) (nexts : List Signal) (ss : List StageNets) (k : ℕ) (s t : StageNets) → Keeps a d → AreEnded a f nexts ss → k ≤ length ss → ((i : Item) → kept_item (view_in d t) i ≡ kept_item (view_in c s) i) → signals_in d t.vars ≡ signals_in c s.vars → t.regs ≡ s.regs
+  kept_keep : (a : Circuit) (f : Form) (nexts : List Signal) (ss : List StageNets) (k : ℕ) (s t : StageNets) → Keeps a d
+      → AreEnded a f nexts ss → k ≤ length ss → ((i : Item) → kept_item (view_in d t) i ≡ kept_item (view_in c s) i)
+      → signals_in d t.vars ≡ signals_in c s.vars → t.regs ≡ s.regs
       → HasKept c f nexts (views_in a ss) k s → HasKept d f nexts (views_in d ss) k t
   kept_keep a f nexts ss k s t ad ends low same vars regs h = λ i need.
       let S = IsSpared f.pipe (views_in d ss) k (signals_in d t.vars) i in
       subst (λ g. IsBegunBy f nexts t.regs i g S) (sym (same i))
       (subst (λ r. IsBegunBy f nexts r i (kept_item (view_in c s) i) S) (sym regs)
       (by_weaker f nexts s.regs i (kept_item (view_in c s) i) (IsSpared f.pipe (views_in a ss) k (signals_in c s.vars) i) S
-      (λ z. spared_as f.pipe (views_in a ss) (views_in d ss) k (signals_in c s.vars) (signals_in d t.vars) i (kept_item (view_in c s) i) (λ y j l. ends_same a d f nexts ss y ad ends j (omega (arith, l, low))) vars z) (h i need)))
+      (λ z. spared_as f.pipe (views_in a ss) (views_in d ss) k (signals_in c s.vars)
+      (signals_in d t.vars) i (kept_item (view_in c s) i)
+      (λ y j l. ends_same a d f nexts ss y ad ends j (omega (arith, l, low))) vars z)
+      (h i need)))
 
   rows_keep : (f : Form) (nexts : List Signal) (ls : Locks) (xs : List Stmt) (s : StageNets) → IsThereBegun c f nexts s → IsWalk c f.pipe f.widths s.end
-      → AreSteps c f.pipe ls (tickets_in c s.tickets) xs (view_in c s).begun (walk_in c s.end) → (z : Circuit) → Keeps d z → IsWell z → AreRows z f.pipe ls (tickets_in d s.tickets) xs (view_in d s).begun (walk_in d s.end)
+      → AreSteps c f.pipe ls (tickets_in c s.tickets) xs (view_in c s).begun (walk_in c s.end) → (z : Circuit)
+      → Keeps d z → IsWell z → AreRows z f.pipe ls (tickets_in d s.tickets) xs (view_in d s).begun (walk_in d s.end)
   rows_keep f nexts ls xs s h w steps z k well =
-      subst (λ (fs : List Signal). AreRows z f.pipe ls (λ m. signal_at fs m) xs (view_in d s).begun (walk_in d s.end)) (sym (signals_keep c d s.tickets e h.tickets))
+      subst (λ (fs : List Signal). AreRows z f.pipe ls (λ m. signal_at fs m) xs (view_in d s).begun (walk_in d s.end))
+      (sym (signals_keep c d s.tickets e h.tickets))
       (subst (λ (q : Parts). AreRows z f.pipe ls (tickets_in c s.tickets) xs (walk_of q) (walk_in d s.end)) (sym (begun_parts_keep f nexts s h))
-      (subst (λ (q : Parts). AreRows z f.pipe ls (tickets_in c s.tickets) xs (view_in c s).begun (walk_of q)) (sym (parts_keep c d e s.end w.there)) (steps z (keeps_trans c d z e k) well)))
+      (subst (λ (q : Parts). AreRows z f.pipe ls (tickets_in c s.tickets) xs (view_in c s).begun (walk_of q))
+      (sym (parts_keep c d e s.end w.there)) (steps z (keeps_trans c d z e k) well)))
 
-  pub staged_keep : (f : Form) (nexts : List Signal) (answers : ℕ → ℕ → AnswerSignals) (ls : Locks) (ss : List StageNets) (k : ℕ) (s : StageNets) → AreEnded c f nexts ss → k ≤ length ss → IsStaged c f nexts answers ls ss k s → IsStaged d f nexts answers ls ss k s
+  pub staged_keep : (f : Form) (nexts : List Signal) (answers : ℕ → ℕ → AnswerSignals) (ls : Locks) (ss : List StageNets) (k : ℕ) (s : StageNets)
+      → AreEnded c f nexts ss → k ≤ length ss → IsStaged c f nexts answers ls ss k s
+      → IsStaged d f nexts answers ls ss k s
   staged_keep f nexts answers ls ss k s ends low h = record {
     registers = registers_keep c d f nexts k s.regs e h.registers;
     own = h.own;
@@ -109,7 +122,9 @@ module _ (c d : Circuit) (e : Keeps c d) where
 abbrev with_end : StageNets → StageNets → StageNets
 with_end s t = record s { end = t.end }
 
-module _ (a c d : Circuit) (ad : Keeps a d) (e : Keeps c d) (f : Form) (nexts : List Signal) (answers : ℕ → ℕ → AnswerSignals) (ls : Locks) (ss : List StageNets) (k : ℕ) (s t : StageNets) (ends : AreEnded a f nexts ss) (low : k ≤ length ss) (is : t ≡ with_end s t)
+module _ (a c d : Circuit) (ad : Keeps a d) (e : Keeps c d) (f : Form) (nexts : List Signal)
+    (answers : ℕ → ℕ → AnswerSignals) (ls : Locks) (ss : List StageNets) (k : ℕ) (s t : StageNets)
+    (ends : AreEnded a f nexts ss) (low : k ≤ length ss) (is : t ≡ with_end s t)
     (h : IsBegun c f nexts answers (views_in a ss) k s) where
   kept_at : (i : Item) → kept_item (view_in d (with_end s t)) i ≡ kept_item (view_in c s) i
   kept_at (Var x) = ap (λ fs. signal_at fs x) (signals_keep c d s.vars e h.nets.vars)
@@ -118,7 +133,9 @@ module _ (a c d : Circuit) (ad : Keeps a d) (e : Keeps c d) (f : Form) (nexts : 
   kept_at (Guess i) = ap (λ fs. signal_at fs i) (signals_keep c d s.guess e h.nets.guess)
 
   -- with its rows
-  pub staged_made : IsWalk d f.pipe f.widths t.end → AreSteps d f.pipe ls (tickets_in c s.tickets) (in_stage k f.pipe.stmts) (walk_in c s.end) (walk_in d t.end) → IsStaged d f nexts answers ls ss k t
+  pub staged_made : IsWalk d f.pipe f.widths t.end
+      → AreSteps d f.pipe ls (tickets_in c s.tickets) (in_stage k f.pipe.stmts) (walk_in c s.end) (walk_in d t.end)
+      → IsStaged d f nexts answers ls ss k t
   staged_made walk steps =
       subst (IsStaged d f nexts answers ls ss k) (sym is) record {
         registers = registers_keep c d f nexts k s.regs e h.frame.registers;
@@ -139,8 +156,10 @@ module _ (a c d : Circuit) (ad : Keeps a d) (e : Keeps c d) (f : Form) (nexts : 
         kept = kept_keep c d e a f nexts ss k s (with_end s t) ad ends low kept_at (signals_keep c d s.vars e h.nets.vars) refl h.kept;
         answered = answered_keep c d e f nexts answers k s h.nets h.answered;
         rows = λ z q well.
-            subst (λ (fs : List Signal). AreRows z f.pipe ls (λ m. signal_at fs m) (in_stage k f.pipe.stmts) (walk_of (begun_parts d s)) (walk_in d t.end)) (sym (signals_keep c d s.tickets e h.nets.tickets))
-            (subst (λ (w : Walk). AreRows z f.pipe ls (tickets_in c s.tickets) (in_stage k f.pipe.stmts) w (walk_in d t.end)) (h.walk ∙ sym (ap walk_of (begun_parts_keep c d e f nexts s h.nets))) (steps z q well));
+            subst (λ (fs : List Signal). AreRows z f.pipe ls (λ m. signal_at fs m) (in_stage k f.pipe.stmts) (walk_of (begun_parts d s)) (walk_in d t.end))
+            (sym (signals_keep c d s.tickets e h.nets.tickets))
+            (subst (λ (w : Walk). AreRows z f.pipe ls (tickets_in c s.tickets) (in_stage k f.pipe.stmts) w (walk_in d t.end))
+            (h.walk ∙ sym (ap walk_of (begun_parts_keep c d e f nexts s h.nets))) (steps z q well));
         walk = walk;
       }
 
@@ -148,7 +167,8 @@ module _ (a c d : Circuit) (ad : Keeps a d) (e : Keeps c d) (f : Form) (nexts : 
 
 view_front : (c : Circuit) (ss : List StageNets) (t : StageNets) (j : ℕ) → j < length ss → views_in c (ss ++ t ∷ []) j ≡ views_in c ss j
 view_front c ss t j l =
-    ap (λ vs. get_or vs j no_view) (map-append (view_in c) ss (t ∷ [])) ∙ get_or_append_left (map (view_in c) ss) (view_in c t ∷ []) no_view j (let n = length-map ss (view_in c) in omega (arith, l, n))
+    ap (λ vs. get_or vs j no_view) (map-append (view_in c) ss (t ∷ []))
+    ∙ get_or_append_left (map (view_in c) ss) (view_in c t ∷ []) no_view j (let n = length-map ss (view_in c) in omega (arith, l, n))
 
 staged_front : (c : Circuit) (f : Form) (nexts : List Signal) (answers : ℕ → ℕ → AnswerSignals) (ls : Locks)
     (ss : List StageNets) (t : StageNets) (k : ℕ) (s : StageNets)
@@ -159,8 +179,12 @@ staged_front c f nexts answers ls ss t k s l h = record {
   nets = h.nets;
   tickets = h.tickets;
   kept = λ i need.
-      by_weaker f nexts s.regs i _ (IsSpared f.pipe (views_in c ss) k (signals_in c s.vars) i) (IsSpared f.pipe (views_in c (ss ++ t ∷ [])) k (signals_in c s.vars) i)
-      (λ z. spared_as f.pipe (views_in c ss) (views_in c (ss ++ t ∷ [])) k (signals_in c s.vars) (signals_in c s.vars) i (kept_item (view_in c s) i) (λ y j q. ap (λ v. ended_item v y) (view_front c ss t j (omega (arith, q, l)))) refl z) (h.kept i need);
+      by_weaker f nexts s.regs i _ (IsSpared f.pipe (views_in c ss) k (signals_in c s.vars) i)
+      (IsSpared f.pipe (views_in c (ss ++ t ∷ [])) k (signals_in c s.vars) i)
+      (λ z. spared_as f.pipe (views_in c ss) (views_in c (ss ++ t ∷ [])) k (signals_in c s.vars)
+      (signals_in c s.vars) i (kept_item (view_in c s) i)
+      (λ y j q. ap (λ v. ended_item v y) (view_front c ss t j (omega (arith, q, l)))) refl z)
+      (h.kept i need);
   answered = h.answered;
   rows = h.rows;
   walk = h.walk;
@@ -182,7 +206,8 @@ pub all_staged : (c d : Circuit) (f : Form) (nexts : List Signal) (answers : ℕ
     → IsStaged d f nexts answers ls ss (length ss) t → AreStaged d f nexts answers ls (ss ++ t ∷ [])
 all_staged c d f nexts answers ls ss t e ends h new =
     at_more (IsStaged d f nexts answers ls (ss ++ t ∷ [])) ss t
-    (λ k s l is. staged_front d f nexts answers ls ss t k s (omega (arith, l)) (staged_keep c d e f nexts answers ls ss k s ends (omega (arith, l)) (h k s l is)))
+    (λ k s l is. staged_front d f nexts answers ls ss t k s (omega (arith, l))
+    (staged_keep c d e f nexts answers ls ss k s ends (omega (arith, l)) (h k s l is)))
     (staged_front d f nexts answers ls ss t (length ss) t (omega arith) new)
 
 -- ---- by the answers as they stood before

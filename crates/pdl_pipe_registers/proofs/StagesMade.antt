@@ -38,7 +38,8 @@ apart_more low mid high ss t l place last h = record {
 }
 
 -- the first i stages
-pub record StagesSoFar (a c : Circuit) (f : Form) (nexts : List Signal) (answers : ℕ → ℕ → AnswerSignals) (ls : Locks) (x : Shared) (ss : List StageNets) (i : ℕ) : Type 0 where
+pub record StagesSoFar (a c : Circuit) (f : Form) (nexts : List Signal) (answers : ℕ → ℕ → AnswerSignals) (ls : Locks)
+    (x : Shared) (ss : List StageNets) (i : ℕ) : Type 0 where
   pub extends : Extends a c
   pub shared : IsShared c f x
   pub next : signals_in c x.next ≡ nexts
@@ -74,6 +75,8 @@ stages_more a c d f nexts answers ls x ss i t cd new place last h =
       next = signals_keep c d x.next e h.shared.next_there ∙ h.next;
       count = length-append ss (t ∷ []) ∙ ap (λ n. n + 1) h.count;
       staged = all_staged c d f nexts answers ls ss t e h.ended h.staged new;
-      ended = each_push (IsEnded d f nexts) ss t (ends_keep c d f nexts ss e h.ended) record { walk = new.walk; tickets = new.nets.tickets; tickets_wide = new.nets.tickets_wide };
+      ended =
+          each_push (IsEnded d f nexts) ss t
+          (ends_keep c d f nexts ss e h.ended) record { walk = new.walk; tickets = new.nets.tickets; tickets_wide = new.nets.tickets_wide };
       apart = apart_more (length a.regs) (length c.regs) (length d.regs) ss t (regs_grow a c (extends_keeps a c h.extends)) place last h.apart;
     }

@@ -17,7 +17,9 @@ use Rattle.pdl_pipe_registers.specs.Begun.{ticket_net}
 use Rattle.pdl_pipe_registers.specs.Staged.{next_signals}
 
 module _ {T : Type 0} (l : Members T) (b : Circuit) (p : Pipe) (none : Net) (zero_is : Means b none zero_bit) where
-  there_from : (xs : List (Option (MemLock T))) → ((m : ℕ) (x : MemLock T) → m < length xs → some_at xs m ≡ Some x → IsThere b x.regs.ticket) → NetsThere b (map (ticket_net none) xs)
+  there_from : (xs : List (Option (MemLock T)))
+      → ((m : ℕ) (x : MemLock T) → m < length xs → some_at xs m ≡ Some x → IsThere b x.regs.ticket)
+      → NetsThere b (map (ticket_net none) xs)
   there_from [] h = tt
   there_from (None ∷ xs) h = (zero_is.there, there_from xs (λ m x q e. h (suc m) x (omega (arith, q)) e))
   there_from (Some y ∷ xs) h = (h 0 y (omega arith) refl, there_from xs (λ m x q e. h (suc m) x (omega (arith, q)) e))
@@ -39,21 +41,27 @@ pub tickets_fit : {T : Type 0} (l : Members T) (a b : Circuit) (p : Pipe) (xs : 
     → AreTickets l b xs ts
 tickets_fit l a b p xs ts h there wide = record {
   there = there;
-  count = sym (length_signals b ts) ∙ sym (length_widths (signals_in b ts)) ∙ ap length wide ∙ length_widths (next_signals a xs) ∙ length-map xs (of_lock (λ x. signal a x.regs.ticket) zero_bit);
+  count =
+      sym (length_signals b ts) ∙ sym (length_widths (signals_in b ts)) ∙ ap length wide
+      ∙ length_widths (next_signals a xs) ∙ length-map xs (of_lock (λ x. signal a x.regs.ticket) zero_bit);
   wide = λ m x low e.
       sym (width_at (signals_in b ts) m)
       ∙ ap (λ ws. slice_index ws m) wide
       ∙ width_at (next_signals a xs) m
-      ∙ ap (λ (f : Signal). f.width) (get_or-map (of_lock (λ y. signal a y.regs.ticket) zero_bit) xs m None no_signal low ∙ ap (of_lock (λ y. signal a y.regs.ticket) zero_bit) e)
+      ∙ ap (λ (f : Signal). f.width)
+      (get_or-map (of_lock (λ y. signal a y.regs.ticket) zero_bit) xs m None no_signal low ∙ ap (of_lock (λ y. signal a y.regs.ticket) zero_bit) e)
       ∙ (h.locks m x (let n = h.count in omega (arith, low, n)) e).ticket_wide;
 }
 
 -- they stay while the circuit grows
 module _ {T : Type 0} (l : Members T) (a b : Circuit) (e : Keeps a b) where
-  same_from : (xs : List (Option (MemLock T))) → ((m : ℕ) (x : MemLock T) → m < length xs → some_at xs m ≡ Some x → IsThere a x.regs.ticket) → next_signals b xs ≡ next_signals a xs
+  same_from : (xs : List (Option (MemLock T)))
+      → ((m : ℕ) (x : MemLock T) → m < length xs → some_at xs m ≡ Some x → IsThere a x.regs.ticket)
+      → next_signals b xs ≡ next_signals a xs
   same_from [] h = refl
   same_from (None ∷ xs) h = ap (λ fs. zero_bit ∷ fs) (same_from xs (λ m x q s. h (suc m) x (omega (arith, q)) s))
-  same_from (Some y ∷ xs) h = ap₂ (λ (f : Signal) fs. f ∷ fs) (e.kept y.regs.ticket (h 0 y (omega arith) refl)) (same_from xs (λ m x q s. h (suc m) x (omega (arith, q)) s))
+  same_from (Some y ∷ xs) h =
+      ap₂ (λ (f : Signal) fs. f ∷ fs) (e.kept y.regs.ticket (h 0 y (omega arith) refl)) (same_from xs (λ m x q s. h (suc m) x (omega (arith, q)) s))
 
   pub next_same : (p : Pipe) (xs : List (Option (MemLock T))) → AreLocked l a p xs → next_signals b xs ≡ next_signals a xs
   next_same p xs h = same_from xs (λ m x q s. (h.locks m x (let n = h.count in omega (arith, q, n)) s).ticket_there)

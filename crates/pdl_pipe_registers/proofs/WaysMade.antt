@@ -18,7 +18,9 @@ module _ (p : Pipe) (q j : ℕ) (low : j < q) where
       ap (λ k. ways_from p q k j) n ∙ ap (λ k. if leads_to (stage_at p j).next q then j ∷ ways_from p q (q - (j + 1)) k else ways_from p q (q - (j + 1)) k) s
 
   pub one_leads : (xs : List ℕ) → leads_to (stage_at p j).next q ≡ true → (xs ++ j ∷ []) ++ ways_left p q (j + 1) ≡ xs ++ ways_left p q j
-  one_leads xs h = append_assoc xs (j ∷ []) (ways_left p q (j + 1)) ∙ ap (λ ys. xs ++ ys) (sym (next_left ∙ ap (λ b. if b then j ∷ ways_left p q (j + 1) else ways_left p q (j + 1)) h))
+  one_leads xs h =
+      append_assoc xs (j ∷ []) (ways_left p q (j + 1))
+      ∙ ap (λ ys. xs ++ ys) (sym (next_left ∙ ap (λ b. if b then j ∷ ways_left p q (j + 1) else ways_left p q (j + 1)) h))
 
   pub none_leads : leads_to (stage_at p j).next q ≡ false → ways_left p q (j + 1) ≡ ways_left p q j
   none_leads h = sym (next_left ∙ ap (λ b. if b then j ∷ ways_left p q (j + 1) else ways_left p q (j + 1)) h)

@@ -114,7 +114,8 @@ abbrev pub MayAdd : Circuit → StageRegs → StageRegs → Item → ℕ → ℕ
 MayAdd c r r' i w v net Settled = Adds c r r' i w v net ⊎ Leaves c r r' w net Settled
 
 -- for an item of stage k that is needed where this is true: a register that it may have, or none and the signal is so
-pub record MayBegin (c : Circuit) (f : Form) (nexts : List Signal) (k : ℕ) (needed : Bool) (r r' : StageRegs) (i : Item) (net : Net) (Settled : Signal → Type 0) : Type 0 where
+pub record MayBegin (c : Circuit) (f : Form) (nexts : List Signal) (k : ℕ) (needed : Bool) (r r' : StageRegs) (i : Item)
+    (net : Net) (Settled : Signal → Type 0) : Type 0 where
   pub may : MayAdd c r r' i (item_width f nexts i) (first_value f.pipe k i) net (λ g. needed ≡ true → Settled g)
   pub own : (r' ≡ r) ⊎ IsOwn f k i
 
@@ -136,7 +137,8 @@ abbrev pub IsSparedAfter : Circuit → Form → Earlier → List Net → Item �
 IsSparedAfter c f x vars i g = IsSpared f.pipe (earlier_views c x) (earlier_count x) (signals_in c vars) i g
 
 -- nets of these widths, one for each item of a kind; those that are needed are registers, or their signals are so
-pub record AreBegun (c : Circuit) (f : Form) (nexts : List Signal) (r : StageRegs) (item : ℕ → Item) (needed : ℕ → Bool) (Settled : ℕ → Signal → Type 0) (ws : List ℕ) (xs : List Net) : Type 0 where
+pub record AreBegun (c : Circuit) (f : Form) (nexts : List Signal) (r : StageRegs) (item : ℕ → Item) (needed : ℕ → Bool)
+    (Settled : ℕ → Signal → Type 0) (ws : List ℕ) (xs : List Net) : Type 0 where
   pub there : NetsThere c xs
   pub wide : widths_of (signals_in c xs) ≡ ws
   pub begun : (i : ℕ) → i < length ws → needed i ≡ true → IsBegunBy f nexts r (item i) (signal_at (signals_in c xs) i) (Settled i)
@@ -159,7 +161,8 @@ HasAllHeld p k u hs = (m v : ℕ) → held_from p k m v ≡ true → is_listed h
 abbrev pub AddsHeld : Circuit → Form → List Signal → (ℕ → View) → ℕ → ℕ → ℕ → StageRegs → List HeldNet → StageRegs → List HeldNet → Type 0
 AddsHeld c f nexts us k m v r hs r' hs' =
     ((r' ≡ r) × (hs' ≡ hs) × (held_from f.pipe k m v ≡ true → is_listed hs m v ≡ true))
-    ⊎ ((net : Net) × MayAdd c r r' (Held m v) 1 0 net (IsSettled f.pipe us k (Held m v)) × (hs' ≡ hs ++ record { mem = m; var = v; net = net } ∷ []) × (is_listed hs m v ≡ false))
+    ⊎ ((net : Net) × MayAdd c r r' (Held m v) 1 0 net (IsSettled f.pipe us k (Held m v))
+    × (hs' ≡ hs ++ record { mem = m; var = v; net = net } ∷ []) × (is_listed hs m v ≡ false))
 
 -- where a thread has no ticket of its own it is the next one
 abbrev pub AreNextTickets : Circuit → Pipe → List Signal → ℕ → List Net → Type 0

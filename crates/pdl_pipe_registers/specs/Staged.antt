@@ -16,7 +16,8 @@ use Rattle.pdl_pipe_registers.specs.declared.nets.StageNets.{StageNets}
 use Rattle.pdl_pipe_registers.specs.Stages.{end_of, HasRegisters, AreOwn, IsThereBegun, HasTickets, HasKept, HasAnswered, view_in, views_in, IsAt}
 
 -- stage k of these, with its rows
-pub record IsStaged (c : Circuit) (f : Form) (nexts : List Signal) (answers : ℕ → ℕ → AnswerSignals) (ls : Locks) (ss : List StageNets) (k : ℕ) (s : StageNets) : Type 0 where
+pub record IsStaged (c : Circuit) (f : Form) (nexts : List Signal) (answers : ℕ → ℕ → AnswerSignals) (ls : Locks)
+    (ss : List StageNets) (k : ℕ) (s : StageNets) : Type 0 where
   pub registers : HasRegisters c f nexts k s.regs
   pub own : AreOwn f k s.regs
   pub nets : IsThereBegun c f nexts s

@@ -59,7 +59,21 @@ view_in c s =
     }
 
 abbrev pub no_walk : Walk
-no_walk = walk_of (record { vars = []; held = []; ready = one; reserves = []; puts = []; lettings = []; births = []; asks = []; guess = []; fails = zero_bit; barrier = zero_bit })
+no_walk =
+    walk_of
+    (record {
+      vars = [];
+      held = [];
+      ready = one;
+      reserves = [];
+      puts = [];
+      lettings = [];
+      births = [];
+      asks = [];
+      guess = [];
+      fails = zero_bit;
+      barrier = zero_bit;
+    })
 
 -- a stage that holds no thread and does nothing
 abbrev pub no_view : View

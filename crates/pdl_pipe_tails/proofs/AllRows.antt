@@ -35,14 +35,18 @@ have_rows a c x fresh rows n m count e line after low h k l =
     record {
       there = row.there;
       low = under;
-      wide = (row.each m under).wide ∙ sym (ap (λ fs. (signal_at fs m).width) (next_keep a c (line_form x) x.shared.now e line.shared)) ∙ sym (after.after m low).wide;
+      wide =
+          (row.each m under).wide
+          ∙ sym (ap (λ fs. (signal_at fs m).width) (next_keep a c (line_form x) x.shared.now e line.shared))
+          ∙ sym (after.after m low).wide;
     }
 
 -- a tail is the same in a later circuit, and in a longer list
 tail_same : (c d : Circuit) (rows others : List (Seq Net)) (last : List Net) (j m : ℕ) → Keeps c d
     → NetsThere c (get_or rows j []) → get_or others j last ≡ get_or rows j []
     → tail_in d others last j m ≡ tail_in c rows [] j m
-tail_same c d rows others last j m e there same = ap (λ (row : List Net). signal_at (signals_in d row) m) same ∙ ap (λ fs. signal_at fs m) (signals_keep c d (get_or rows j []) e there)
+tail_same c d rows others last j m e there same =
+    ap (λ (row : List Net). signal_at (signals_in d row) m) same ∙ ap (λ fs. signal_at fs m) (signals_keep c d (get_or rows j []) e there)
 
 -- the tails of the first n stages are the same in a circuit that grew, by lists that begin alike
 pub tails_same : (a c d : Circuit) (x : StageLine) (rows others : List (Seq Net)) (last : List Net) (n : ℕ) → Keeps c d
@@ -55,7 +59,8 @@ row_later : (a c d : Circuit) (x : StageLine) (rows others : List (Seq Net)) (la
     → AreStageTails a d x (tail_in d others last) k (get_or others k last)
 row_later a c d x rows others last n e h same k l =
     subst (AreStageTails a d x (tail_in d others last) k) (sym (same k l))
-    (stage_as a d x (tail_in c rows []) (tail_in d others last) k (get_or rows k []) (λ j m low q. sym (tails_same a c d x rows others last n (extends_keeps c d e) h same j m (omega (arith, low, l))))
+    (stage_as a d x (tail_in c rows []) (tail_in d others last) k (get_or rows k [])
+    (λ j m low q. sym (tails_same a c d x rows others last n (extends_keeps c d e) h same j m (omega (arith, low, l))))
     (stage_keep a c d x (tail_in c rows []) k (get_or rows k []) e (h k l)))
 
 -- the nets of the first n stages are the same in a list with those of one stage more

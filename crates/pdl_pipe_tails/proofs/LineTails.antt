@@ -65,13 +65,16 @@ holds_after : (a : Circuit) (x : StageLine) (ls : Locks) (m n : ℕ) (g : Signal
 holds_after a x ls m n g s y next count after stand =
     let f = signal_at (signals_in a x.shared.now.next) m in
     let w : f.width ≡ ls.bits m = ap (λ (h : Signal). h.width) next.ticket ∙ next.wide in
-    let now : f.value s ≡ next_ticket y % 2 ^ f.width = ap (λ (h : Signal). h.value s) next.ticket ∙ next.law.holds s y stand ∙ ap (λ i. next_ticket y % 2 ^ i) (sym w) in
+    let now : f.value s ≡ next_ticket y % 2 ^ f.width =
+    ap (λ (h : Signal). h.value s) next.ticket ∙ next.law.holds s y stand ∙ ap (λ i. next_ticket y % 2 ^ i) (sym w) in
     after.holds s (next_ticket y) now
     ∙ ap₂ (λ i j. (next_ticket y + length (asked_addresses s (all_reserves m (line_views a x) (line_moves a x) j 0))) % 2 ^ i) w count
 
 -- ---- all of it
 
-module _ (a c d : Circuit) (x : StageLine) (t : TailNets) (v : ℕ) (ls : Locks) (line : IsLineIn a x) (made : AreTails a c x t v) (keeps : Keeps c d) (on : GoOn a c d) (next : (m : ℕ) → is_locked (line_pipe x) m ≡ true → IsNextOf a x ls m) where
+module _ (a c d : Circuit) (x : StageLine) (t : TailNets) (v : ℕ) (ls : Locks) (line : IsLineIn a x)
+    (made : AreTails a c x t v) (keeps : Keeps c d) (on : GoOn a c d)
+    (next : (m : ℕ) → is_locked (line_pipe x) m ≡ true → IsNextOf a x ls m) where
   abbrev p : Pipe
   p = line_pipe x
 
@@ -94,21 +97,31 @@ module _ (a c d : Circuit) (x : StageLine) (t : TailNets) (v : ℕ) (ls : Locks)
 
   first_is : (k m : ℕ) → is_locked p m ≡ true → k ≤ v → k ≤ reserve_stage p m → (s : State) (y : LockState) → ls.stands m s y
       → holds_ticket (ls.bits m) (tails k m) s (next_ticket y + length (asked_addresses s (all_reserves m vs moves (length p.stages) 0)))
-  first_is k m locked high low s y stand = holds_after a x ls m (length p.stages) (tails k m) s y (next m locked) line.count ((tail_is k m locked high).first (not_past (is_locked p m) (reserve_stage p m) k low)) stand
+  first_is k m locked high low s y stand =
+      holds_after a x ls m (length p.stages)
+      (tails k m) s y (next m locked) line.count ((tail_is k m locked high).first (not_past (is_locked p m) (reserve_stage p m) k low)) stand
 
-  carried_is : (k m : ℕ) → is_locked p m ≡ true → k ≤ v → reserve_stage p m < k → Becomes d (tails k m) (first_coming (λ (o : Comer). o.tickets m) (comers p (with_tickets vs tails) moves k) (tails k m))
+  carried_is : (k m : ℕ) → is_locked p m ≡ true → k ≤ v → reserve_stage p m < k
+      → Becomes d (tails k m) (first_coming (λ (o : Comer). o.tickets m) (comers p (with_tickets vs tails) moves k) (tails k m))
   carried_is k m locked high low =
       let g = tails k m in
-      let coming = ap (λ os. first_coming (λ (o : Comer). o.tickets m) os g) (after_first p (with_tickets vs tails) moves k (not_first k (omega (arith, low)))) in
-      subst (Becomes d g) coming (carried_becomes a c d g (coming_tail p vs moves tails k m g) keeps on ((tail_is k m locked high).carried (past (is_locked p m) (reserve_stage p m) k locked low)))
+      let coming =
+      ap (λ os. first_coming (λ (o : Comer). o.tickets m) os g) (after_first p (with_tickets vs tails) moves k (not_first k (omega (arith, low)))) in
+      subst (Becomes d g) coming
+      (carried_becomes a c d g (coming_tail p vs moves tails k m g) keeps on
+      ((tail_is k m locked high).carried (past (is_locked p m) (reserve_stage p m) k locked low)))
 
   cut_is : (m : ℕ) → tails v m ≡ signal_at (signals_in c t.cut) m
   cut_is m = let count = made.count in ap (λ (row : List Net). signal_at (signals_in c row) m) (get_or_past t.before.items v t.cut (omega (arith, count)))
 
   -- in each later circuit that lets their registers go on, the nets that were made are the tails of the line's threads
-  pub has_tails : (gates : Gates) (sides : Sides) → sides.tails ≡ tails → ((m : ℕ) → gates.tail m ≡ signal_at (signals_in c t.cut) m) → HasTails p ls d vs gates moves sides v
+  pub has_tails : (gates : Gates) (sides : Sides) → sides.tails ≡ tails
+      → ((m : ℕ) → gates.tail m ≡ signal_at (signals_in c t.cut) m) → HasTails p ls d vs gates moves sides v
   has_tails gates sides is cut = record {
     first = λ k m locked high low s suits y stand. ap (λ (f : ℕ → ℕ → Signal). (f k m).value s) is ∙ first_is k m locked high low s y stand;
-    carried = λ k m locked high low. subst (λ (f : ℕ → ℕ → Signal). Becomes d (f k m) (first_coming (λ (o : Comer). o.tickets m) (comers p (with_tickets vs f) moves k) (f k m))) (sym is) (carried_is k m locked high low);
+    carried =
+        λ k m locked high low. subst
+        (λ (f : ℕ → ℕ → Signal). Becomes d (f k m) (first_coming (λ (o : Comer). o.tickets m) (comers p (with_tickets vs f) moves k) (f k m)))
+        (sym is) (carried_is k m locked high low);
     tail = λ m locked s suits. ap (λ (f : Signal). f.value s) (cut m ∙ sym (cut_is m) ∙ ap (λ (f : ℕ → ℕ → Signal). f v m) (sym is));
   }

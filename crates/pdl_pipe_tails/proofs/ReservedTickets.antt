@@ -37,7 +37,8 @@ reserves_append m moves [] ys = refl
 reserves_append m moves (x ∷ xs) ys = at (x.mem == m) (reserves_append m moves xs ys)
   where
     at : (b : Bool) → reserves_to m moves (xs ++ ys) ≡ reserves_to m moves xs ++ reserves_to m moves ys
-        → (if b then record { enable = both moves x.on; addr = x.addr } ∷ reserves_to m moves (xs ++ ys) else reserves_to m moves (xs ++ ys)) ≡ (if b then record { enable = both moves x.on; addr = x.addr } ∷ reserves_to m moves xs else reserves_to m moves xs) ++ reserves_to m moves ys
+        → (if b then record { enable = both moves x.on; addr = x.addr } ∷ reserves_to m moves (xs ++ ys) else reserves_to m moves (xs ++ ys))
+        ≡ (if b then record { enable = both moves x.on; addr = x.addr } ∷ reserves_to m moves xs else reserves_to m moves xs) ++ reserves_to m moves ys
     at true e = ap (λ rs. record { enable = both moves x.on; addr = x.addr } ∷ rs) e
     at false e = e
 
@@ -74,7 +75,9 @@ after_then f g h xs ys a b = record {
       let two = length (asked_addresses s ys) in
       let here = subst (λ w. g.value s ≡ (t + one) % 2 ^ w) (sym a.wide) (a.holds s t e) in
       let there = subst (λ w. h.value s ≡ (t + one + two) % 2 ^ w) a.wide (b.holds s (t + one) here) in
-      there ∙ ap (λ n. n % 2 ^ f.width) (let n = asked_count s xs ys in let z : t + one + two ≡ t + length (asked_addresses s (xs ++ ys)) = omega (arith, n) in z);
+      there
+      ∙ ap (λ n. n % 2 ^ f.width)
+      (let n = asked_count s xs ys in let z : t + one + two ≡ t + length (asked_addresses s (xs ++ ys)) = omega (arith, n) in z);
 }
 
 more_value : (w v t : ℕ) → v ≡ t % 2 ^ w → words.add w v 1 ≡ (t + 1) % 2 ^ w
@@ -97,11 +100,14 @@ after_one on f addr = record {
 -- after a reservation of this memory, by a thread that moves, the ticket is the one after it
 pub after_own : (m : ℕ) (moves f : Signal) (r : Reservation)
     → r.mem ≡ m → IsAfter f (one_more (both moves r.on) f) (reserves_to m moves (r ∷ []))
-after_own m moves f r e = subst (λ b. IsAfter f (one_more (both moves r.on) f) (if b then record { enable = both moves r.on; addr = r.addr } ∷ [] else [])) (sym (eq-eqb r.mem m e)) (after_one (both moves r.on) f r.addr)
+after_own m moves f r e =
+    subst (λ b. IsAfter f (one_more (both moves r.on) f) (if b then record { enable = both moves r.on; addr = r.addr } ∷ [] else []))
+    (sym (eq-eqb r.mem m e)) (after_one (both moves r.on) f r.addr)
 
 -- after a reservation of another memory the ticket is what it was
 pub after_other : (m : ℕ) (moves f : Signal) (r : Reservation) → r.mem ≢ m → IsAfter f f (reserves_to m moves (r ∷ []))
-after_other m moves f r ne = subst (λ b. IsAfter f f (if b then record { enable = both moves r.on; addr = r.addr } ∷ [] else [])) (sym (ne_eqb r.mem m ne)) (after_none f)
+after_other m moves f r ne =
+    subst (λ b. IsAfter f f (if b then record { enable = both moves r.on; addr = r.addr } ∷ [] else [])) (sym (ne_eqb r.mem m ne)) (after_none f)
 
 -- ---- the reservations of a stage
 
@@ -131,10 +137,16 @@ pub stage_more : (a b d : Circuit) (m : ℕ) (moves : Net) (f g h : Signal) (rs 
 stage_more a b d m moves f g h rs i r e t each low old new =
     let it = get_or rs i r in
     let own = each_get (IsReserve a) rs i r low each in
-    let now = subst (λ (q : Reservation). IsAfter g h (reserves_to m (signal a moves) (q ∷ []))) (reservation_keep a b it e own) (subst (λ u. IsAfter g h (reserves_to m u (reservation_in b it ∷ []))) (e.kept moves t) new) in
+    let now =
+    subst (λ (q : Reservation). IsAfter g h (reserves_to m (signal a moves) (q ∷ [])))
+    (reservation_keep a b it e own)
+    (subst (λ u. IsAfter g h (reserves_to m u (reservation_in b it ∷ []))) (e.kept moves t) new) in
     let both_of = after_then f g h _ _ old now in
     let split = ap (map (reservation_in a)) (take_more rs i r low) ∙ map-append (reservation_in a) (take i rs) (it ∷ []) in
-    subst (IsAfter f h) (sym (ap (reserves_to m (signal a moves)) split ∙ reserves_append m (signal a moves) (map (reservation_in a) (take i rs)) (reservation_in a it ∷ []))) both_of
+    subst (IsAfter f h)
+    (sym
+    (ap (reserves_to m (signal a moves)) split
+    ∙ reserves_append m (signal a moves) (map (reservation_in a) (take i rs)) (reservation_in a it ∷ []))) both_of
 
 -- ---- those of all stages
 

@@ -35,16 +35,22 @@ use Rattle.pdl_pipe_tails.proofs.TailRegisters.{tail_keep, brought_keep, carried
 -- a ticket after all reservations is so as well by the line's nets as they stood in an earlier circuit
 pub after_from : (a b : Circuit) (x : StageLine) (m : ℕ) (g : Signal) → Keeps a b → IsLineIn a x → IsAfterAll b x m g → IsAfterAll a x m g
 after_from a b x m g e line h =
-    subst (λ vs. IsAfter (signal_at (signals_in a x.shared.now.next) m) g (all_reserves m vs (line_moves a x) (length x.stages.now) 0)) (views_same a b x e line)
-    (subst (λ ms. IsAfter (signal_at (signals_in a x.shared.now.next) m) g (all_reserves m (line_views b x) ms (length x.stages.now) 0)) (all_moves_same a b x e line)
-    (subst (λ fs. IsAfter (signal_at fs m) g (all_reserves m (line_views b x) (line_moves b x) (length x.stages.now) 0)) (next_keep a b (line_form x) x.shared.now e line.shared) h))
+    subst (λ vs. IsAfter (signal_at (signals_in a x.shared.now.next) m) g (all_reserves m vs (line_moves a x) (length x.stages.now) 0))
+    (views_same a b x e line)
+    (subst (λ ms. IsAfter (signal_at (signals_in a x.shared.now.next) m) g (all_reserves m (line_views b x) ms (length x.stages.now) 0))
+    (all_moves_same a b x e line)
+    (subst (λ fs. IsAfter (signal_at fs m) g (all_reserves m (line_views b x) (line_moves b x) (length x.stages.now) 0))
+    (next_keep a b (line_form x) x.shared.now e line.shared) h))
 
 -- and as it is later
 after_now : (a b : Circuit) (x : StageLine) (m : ℕ) (g : Signal) → Keeps a b → IsLineIn a x → IsAfterAll a x m g → IsAfterAll b x m g
 after_now a b x m g e line h =
-    subst (λ fs. IsAfter (signal_at fs m) g (all_reserves m (line_views b x) (line_moves b x) (length x.stages.now) 0)) (sym (next_keep a b (line_form x) x.shared.now e line.shared))
-    (subst (λ ms. IsAfter (signal_at (signals_in a x.shared.now.next) m) g (all_reserves m (line_views b x) ms (length x.stages.now) 0)) (sym (all_moves_same a b x e line))
-    (subst (λ vs. IsAfter (signal_at (signals_in a x.shared.now.next) m) g (all_reserves m vs (line_moves a x) (length x.stages.now) 0)) (sym (views_same a b x e line)) h))
+    subst (λ fs. IsAfter (signal_at fs m) g (all_reserves m (line_views b x) (line_moves b x) (length x.stages.now) 0))
+    (sym (next_keep a b (line_form x) x.shared.now e line.shared))
+    (subst (λ ms. IsAfter (signal_at (signals_in a x.shared.now.next) m) g (all_reserves m (line_views b x) ms (length x.stages.now) 0))
+    (sym (all_moves_same a b x e line))
+    (subst (λ vs. IsAfter (signal_at (signals_in a x.shared.now.next) m) g (all_reserves m vs (line_moves a x) (length x.stages.now) 0))
+    (sym (views_same a b x e line)) h))
 
 -- the tickets of all memories after all reservations stay so by the line's nets in a later circuit
 pub all_now : (a b c : Circuit) (x : StageLine) (nets : List Net) → Keeps a c → Keeps b c → IsLineIn a x
@@ -52,7 +58,9 @@ pub all_now : (a b c : Circuit) (x : StageLine) (nets : List Net) → Keeps a c 
 all_now a b c x nets ac bc line h = record {
   there = there_keeps b c nets bc h.there;
   count = h.count;
-  after = λ m l. after_now a c x m (signal_at (signals_in c nets) m) ac line (subst (IsAfterAll a x m) (sym (ap (λ fs. signal_at fs m) (signals_keep b c nets bc h.there))) (h.after m l));
+  after =
+      λ m l. after_now a c x m (signal_at (signals_in c nets) m) ac line
+      (subst (IsAfterAll a x m) (sym (ap (λ fs. signal_at fs m) (signals_keep b c nets bc h.there))) (h.after m l));
 }
 
 -- ---- who comes out of earlier stages
@@ -63,7 +71,8 @@ pub arrivals_coming : (c : Circuit) (p : Pipe) (vs : ℕ → View) (moves : ℕ 
 arrivals_coming c p vs moves q n [] [] low h = tt
 arrivals_coming c p vs moves q n [] (y ∷ ys) low h = absurd h
 arrivals_coming c p vs moves q n (j ∷ js) [] low h = absurd h
-arrivals_coming c p vs moves q n (j ∷ js) (y ∷ ys) low h = (((h.0.comes.there, h.0.comes.one), subst (λ i. i < n) (sym h.0.from) low.0), arrivals_coming c p vs moves q n js ys low.1 h.1)
+arrivals_coming c p vs moves q n (j ∷ js) (y ∷ ys) low h =
+    (((h.0.comes.there, h.0.comes.one), subst (λ i. i < n) (sym h.0.from) low.0), arrivals_coming c p vs moves q n js ys low.1 h.1)
 
 -- what they bring is what the threads bring that come
 brought_is : (c : Circuit) (p : Pipe) (vs : ℕ → View) (moves : ℕ → Signal) (q : ℕ) (tails : ℕ → ℕ → Signal)
@@ -90,7 +99,8 @@ coming_same : (p : Pipe) (vs : ℕ → View) (moves : ℕ → Signal) (q m : ℕ
     → first_coming (λ (o : Comer). o.tickets m) (map (out_of p (with_tickets vs tails) moves q) js) rest
     ≡ first_coming (λ (o : Comer). o.tickets m) (map (out_of p (with_tickets vs others) moves q) js) rest
 coming_same p vs moves q m tails others rest [] h = refl
-coming_same p vs moves q m tails others rest (j ∷ js) h = ap₂ (mux_signal (out_of p vs moves q j).comes) h.0 (coming_same p vs moves q m tails others rest js h.1)
+coming_same p vs moves q m tails others rest (j ∷ js) h =
+    ap₂ (mux_signal (out_of p vs moves q j).comes) h.0 (coming_same p vs moves q m tails others rest js h.1)
 
 -- ---- one memory's tail
 
@@ -111,7 +121,10 @@ tail_from a b c p fresh before ys k m w g e there low rows h =
     record {
       wide = h.wide ∙ ap (λ (f : Signal). f.width) same;
       first = λ own. h.first own ∙ same;
-      carried = λ own. carried_as c (length a.regs) (length b.regs) g (brought_tail b before m ys g) (brought_tail a before m ys g) (regs_grow a b e) (λ s. ap (λ (f : Signal). f.value s) (brought_keep a b m w before ys g e low rows)) (h.carried own);
+      carried =
+          λ own. carried_as c (length a.regs) (length b.regs) g (brought_tail b before m ys g)
+          (brought_tail a before m ys g) (regs_grow a b e)
+          (λ s. ap (λ (f : Signal). f.value s) (brought_keep a b m w before ys g e low rows)) (h.carried own);
     }
 
 -- with the tail of one memory more, the first m + 1 have theirs in a stage
@@ -124,7 +137,9 @@ pub tails_more : (a b d : Circuit) (p : Pipe) (fresh : List Net) (before : List 
 tails_more a b d p fresh before ys k xs m new e there n old here =
     let same = signals_keep b d xs (extends_keeps b d e) there in
     up_to (λ i. IsTail a d p fresh before ys k i (signal_at (signals_in d (xs ++ new ∷ [])) i)) m
-    (λ i l. subst (IsTail a d p fresh before ys k i) (sym (signal_old d xs new i (omega (arith, l, n)) ∙ ap (λ fs. signal_at fs i) same)) (tail_stays a b d p fresh before ys k i (signal_at (signals_in b xs) i) e (old i l)))
+    (λ i l. subst (IsTail a d p fresh before ys k i)
+    (sym (signal_old d xs new i (omega (arith, l, n)) ∙ ap (λ fs. signal_at fs i) same))
+    (tail_stays a b d p fresh before ys k i (signal_at (signals_in b xs) i) e (old i l)))
     (subst (IsTail a d p fresh before ys k m) (sym (signal_new d xs new m (sym n))) here)
 
 -- ---- the tails of a stage, by signals
@@ -147,7 +162,9 @@ stage_tail_is a b c x fresh before ys k m w tails g e after low rows count come 
       first = λ own. subst (IsAfterAll a x m) (sym (h.first own ∙ kept)) (after.after m low);
       carried = λ own.
           carried_as c (length a.regs) (length b.regs) g (brought_tail b before m ys g) (coming_tail p vs moves tails k m g) (regs_grow a b e)
-          (λ s. brought_is b p vs moves k tails before m g s (λ j l. same j (omega (arith, l, count)) ∙ sym (tail_keep a b m w before j e l rows)) (ways p k) ys come coming) (h.carried own);
+          (λ s. brought_is b p vs moves k tails before m g s (λ j l. same j (omega (arith, l, count)) ∙ sym (tail_keep a b m w before j e l rows))
+          (ways p k) ys come coming)
+          (h.carried own);
     }
 
 -- the tails of a stage stay while the circuit grows
@@ -184,8 +201,12 @@ stage_as a c x tails others k nets same h = record {
         wide = it.wide;
         first = it.first;
         carried = λ own.
-            carried_as c (length a.regs) (length a.regs) g (coming_tail p (line_views a x) (line_moves a x) tails k m g) (coming_tail p (line_views a x) (line_moves a x) others k m g) (omega arith)
-            (λ s. ap (λ (f : Signal). f.value s) (coming_same p (line_views a x) (line_moves a x) k m tails others g (ways p k) (each_way p k (λ j. tails j m ≡ others j m) (λ j low. same j m low l)))) (it.carried own);
+            carried_as c (length a.regs) (length a.regs) g (coming_tail p (line_views a x) (line_moves a x) tails k m g)
+            (coming_tail p (line_views a x) (line_moves a x) others k m g) (omega arith)
+            (λ s. ap (λ (f : Signal). f.value s)
+            (coming_same p (line_views a x) (line_moves a x) k m tails others g (ways p k)
+            (each_way p k (λ j. tails j m ≡ others j m) (λ j low. same j m low l))))
+            (it.carried own);
       };
 }
 
@@ -203,7 +224,9 @@ stage_from a b c x tails k nets e line h = record {
         wide = it.wide ∙ ap (λ fs. (signal_at fs m).width) (next_keep a b (line_form x) x.shared.now e line.shared);
         first = λ own. after_from a b x m g e line (it.first own);
         carried = λ own.
-            carried_as c (length a.regs) (length b.regs) g (coming_tail p (line_views b x) (line_moves b x) tails k m g) (coming_tail p (line_views a x) (line_moves a x) tails k m g) (regs_grow a b e)
-            (λ s. ap₂ (λ (vs : ℕ → View) (ms : ℕ → Signal). (coming_tail p vs ms tails k m g).value s) (views_same a b x e line) (all_moves_same a b x e line)) (it.carried own);
+            carried_as c (length a.regs) (length b.regs) g (coming_tail p (line_views b x) (line_moves b x) tails k m g)
+            (coming_tail p (line_views a x) (line_moves a x) tails k m g) (regs_grow a b e)
+            (λ s. ap₂ (λ (vs : ℕ → View) (ms : ℕ → Signal). (coming_tail p vs ms tails k m g).value s) (views_same a b x e line) (all_moves_same a b x e line))
+            (it.carried own);
       };
 }

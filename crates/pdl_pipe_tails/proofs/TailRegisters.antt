@@ -27,7 +27,8 @@ coming_keep a b n (y ∷ ys) e h =
 -- the i-th thread that may come has a net of 1 bit, and comes out of one of the first n stages
 pub coming_nth : (c : Circuit) (n : ℕ) (ys : List Arrival) (i : ℕ) (y : Arrival)
     → i < length ys → y ≡ get_or ys i y → AreComing c n ys → IsBit c y.comes × (y.from < n)
-coming_nth c n ys i y l e h = subst (λ (z : Arrival). IsBit c z.comes × (z.from < n)) (sym e) (each_get (λ (z : Arrival). IsBit c z.comes × (z.from < n)) ys i y l h)
+coming_nth c n ys i y l e h =
+    subst (λ (z : Arrival). IsBit c z.comes × (z.from < n)) (sym e) (each_get (λ (z : Arrival). IsBit c z.comes × (z.from < n)) ys i y l h)
 
 -- the tail of a memory in stage k is the same in a circuit that keeps its net
 pub tail_keep : (a b : Circuit) (m w : ℕ) (rows : List (Seq Net)) (k : ℕ) → Keeps a b

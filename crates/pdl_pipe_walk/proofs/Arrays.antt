@@ -24,7 +24,8 @@ counted : (ms : List r_mem.FlatMem) (n : ℕ)
     ≡ fold (λ (a : ℕ) (x : Mem). a + (if (if x.delayed then false else true) then 1 else 0)) n (mems_view ms)
 counted [] n = refl
 counted (x ∷ xs) n =
-    ap (λ (b : Bool). fold (λ (a : ℕ) (x : r_mem.FlatMem). a + (if not x.delayed then 1 else 0)) (n + (if b then 1 else 0)) xs) (turned x.delayed) ∙ counted xs (n + (if (if x.delayed then false else true) then 1 else 0))
+    ap (λ (b : Bool). fold (λ (a : ℕ) (x : r_mem.FlatMem). a + (if not x.delayed then 1 else 0)) (n + (if b then 1 else 0)) xs) (turned x.delayed)
+    ∙ counted xs (n + (if (if x.delayed then false else true) then 1 else 0))
 
 -- memories that answer at once, of the program's and of the pipe's
 pub count_same : (ms : List r_mem.FlatMem) (m : ℕ)

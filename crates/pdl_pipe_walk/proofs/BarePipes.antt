@@ -26,16 +26,19 @@ use Rattle.pdl_word.specs.Each.{Each}
 pub call_walked : (f : Form) (k : ℕ) (xs : List Stmt)
     → xs ≡ record { stage = k; guards = []; op = Call [] } ∷ [] → f.pipe.start ≡ [] → AreWalked f xs
 call_walked f k xs e s =
-    let none : AreArguments f.widths (take (length f.pipe.start) f.widths) [] = subst (λ (l : List ℕ). AreArguments f.widths (take (length l) f.widths) []) (sym s) tt in
+    let none : AreArguments f.widths (take (length f.pipe.start) f.widths) [] =
+    subst (λ (l : List ℕ). AreArguments f.widths (take (length l) f.widths) []) (sym s) tt in
     subst (AreWalked f) (sym e) (((tt, none), tt), tt)
 
 -- a guess without arguments, which is verified, and a barrier
 pub guess_walked : (f : Form) (xs : List Stmt)
     → xs
-    ≡ record { stage = 0; guards = []; op = SpecCall [] } ∷ record { stage = 0; guards = []; op = Verify [] } ∷ record { stage = 0; guards = []; op = SpecBarrier } ∷ []
+    ≡ record { stage = 0; guards = []; op = SpecCall [] } ∷ record { stage = 0; guards = []; op = Verify [] }
+    ∷ record { stage = 0; guards = []; op = SpecBarrier } ∷ []
     → f.pipe.start ≡ [] → AreWalked f xs
 guess_walked f xs e s =
-    let none : AreArguments f.widths (take (length f.pipe.start) f.widths) [] = subst (λ (l : List ℕ). AreArguments f.widths (take (length l) f.widths) []) (sym s) tt in
+    let none : AreArguments f.widths (take (length f.pipe.start) f.widths) [] =
+    subst (λ (l : List ℕ). AreArguments f.widths (take (length l) f.widths) []) (sym s) tt in
     subst (AreWalked f) (sym e) (((tt, none), tt), (((tt, none), tt), (((tt, tt), tt), tt)))
 
 -- no memories

@@ -45,7 +45,9 @@ module _ (a b : Circuit) (e : Extends a b) (p : Pipe) (ws : List ℕ) (w : WalkN
 
     pub set_walk : f.width ≡ slice_index ws x → IsWalk b p ws new
     set_walk k = record {
-      there = there_rest b w new there rest (subst (λ (l : List Net). NetsThere b l) (sym e1) (there_set b w.vars.items x n there.vars m.there)) (subst (λ l. Each (λ (y : HeldNet). IsThere b y.net) l.items) (sym e2) there.held)
+      there =
+          there_rest b w new there rest (subst (λ (l : List Net). NetsThere b l) (sym e1) (there_set b w.vars.items x n there.vars m.there))
+          (subst (λ l. Each (λ (y : HeldNet). IsThere b y.net) l.items) (sym e2) there.held)
           (subst (λ l. Each (λ (y : BirthNet). IsThere b y.on × NetsThere b y.args) l.items) (sym e3) there.births);
       sized = as_sized p ws (parts_in b new) (with_var x on f (parts_in a w)) set_parts (sized_var p ws (parts_in a w) h.sized x on f k);
     }
@@ -57,67 +59,202 @@ module _ (a b : Circuit) (e : Extends a b) (p : Pipe) (ws : List ℕ) (w : WalkN
 
     pub wait_walk : f.width ≡ 1 → IsWalk b p ws (record w { ready = n })
     wait_walk k = record {
-      there = record { vars = there.vars; held = there.held; ready = t; reserves = there.reserves; puts = there.puts; lettings = there.lettings; births = there.births; asks = there.asks; guess = there.guess; fails = there.fails; barrier = there.barrier };
-      sized = as_sized p ws (parts_in b (record w { ready = n })) (record (parts_in a w) { ready = both (parts_in a w).ready (if_on on f) }) wait_parts (sized_ready p ws (parts_in a w) h.sized on f k);
+      there =
+          record {
+            vars = there.vars;
+            held = there.held;
+            ready = t;
+            reserves = there.reserves;
+            puts = there.puts;
+            lettings = there.lettings;
+            births = there.births;
+            asks = there.asks;
+            guess = there.guess;
+            fails = there.fails;
+            barrier = there.barrier;
+          };
+      sized =
+          as_sized p ws (parts_in b (record w { ready = n }))
+          (record (parts_in a w) { ready = both (parts_in a w).ready (if_on on f) }) wait_parts (sized_ready p ws (parts_in a w) h.sized on f k);
     }
 
   -- another net of whether a verify fails, or of a barrier, and other nets of the guess
   module _ (n : Net) (f : Signal) (t : IsThere b n) (s : signal b n ≡ f) (k : f.width ≡ 1) where
     pub fails_walk : IsWalk b p ws (record w { fails = n })
     fails_walk = record {
-      there = record { vars = there.vars; held = there.held; ready = there.ready; reserves = there.reserves; puts = there.puts; lettings = there.lettings; births = there.births; asks = there.asks; guess = there.guess; fails = t; barrier = there.barrier };
-      sized = as_sized p ws (parts_in b (record w { fails = n })) (record (parts_in a w) { fails = f }) (fails_parts a b (extends_keeps a b e) w h.there n f s) (sized_fails p ws (parts_in a w) h.sized f k);
+      there =
+          record {
+            vars = there.vars;
+            held = there.held;
+            ready = there.ready;
+            reserves = there.reserves;
+            puts = there.puts;
+            lettings = there.lettings;
+            births = there.births;
+            asks = there.asks;
+            guess = there.guess;
+            fails = t;
+            barrier = there.barrier;
+          };
+      sized =
+          as_sized p ws (parts_in b (record w { fails = n })) (record (parts_in a w) { fails = f })
+          (fails_parts a b (extends_keeps a b e) w h.there n f s) (sized_fails p ws (parts_in a w) h.sized f k);
     }
 
     pub barrier_walk : IsWalk b p ws (record w { barrier = n })
     barrier_walk = record {
-      there = record { vars = there.vars; held = there.held; ready = there.ready; reserves = there.reserves; puts = there.puts; lettings = there.lettings; births = there.births; asks = there.asks; guess = there.guess; fails = there.fails; barrier = t };
-      sized = as_sized p ws (parts_in b (record w { barrier = n })) (record (parts_in a w) { barrier = f }) (barrier_parts a b (extends_keeps a b e) w h.there n f s) (sized_barrier p ws (parts_in a w) h.sized f k);
+      there =
+          record {
+            vars = there.vars;
+            held = there.held;
+            ready = there.ready;
+            reserves = there.reserves;
+            puts = there.puts;
+            lettings = there.lettings;
+            births = there.births;
+            asks = there.asks;
+            guess = there.guess;
+            fails = there.fails;
+            barrier = t;
+          };
+      sized =
+          as_sized p ws (parts_in b (record w { barrier = n })) (record (parts_in a w) { barrier = f })
+          (barrier_parts a b (extends_keeps a b e) w h.there n f s) (sized_barrier p ws (parts_in a w) h.sized f k);
     }
 
-  pub guess_walk : (ns : List Net) (fs : List Signal) → NetsThere b ns → signals_in b ns ≡ fs → widths_of fs ≡ take (length p.start) ws → IsWalk b p ws (record w { guess = ns })
+  pub guess_walk : (ns : List Net) (fs : List Signal) → NetsThere b ns → signals_in b ns ≡ fs
+      → widths_of fs ≡ take (length p.start) ws → IsWalk b p ws (record w { guess = ns })
   guess_walk ns fs t s k = record {
-    there = record { vars = there.vars; held = there.held; ready = there.ready; reserves = there.reserves; puts = there.puts; lettings = there.lettings; births = there.births; asks = there.asks; guess = t; fails = there.fails; barrier = there.barrier };
-    sized = as_sized p ws (parts_in b (record w { guess = ns })) (record (parts_in a w) { guess = fs }) (guess_parts a b (extends_keeps a b e) w h.there ns fs s) (sized_guess p ws (parts_in a w) h.sized fs k);
+    there =
+        record {
+          vars = there.vars;
+          held = there.held;
+          ready = there.ready;
+          reserves = there.reserves;
+          puts = there.puts;
+          lettings = there.lettings;
+          births = there.births;
+          asks = there.asks;
+          guess = t;
+          fails = there.fails;
+          barrier = there.barrier;
+        };
+    sized =
+        as_sized p ws (parts_in b (record w { guess = ns })) (record (parts_in a w) { guess = fs })
+        (guess_parts a b (extends_keeps a b e) w h.there ns fs s) (sized_guess p ws (parts_in a w) h.sized fs k);
   }
 
   -- one more held location
   module _ (new : WalkNets) (mem var : ℕ) (n : Net) (on bit : Signal) (m : Means b n (mux_signal on bit (held_of (parts_in a w).held mem var)))
-      (e1 : new.held.items ≡ record { mem = mem; var = var; net = n } ∷ w.held.items) (e2 : new.vars ≡ w.vars) (e3 : new.births ≡ w.births) (rest : SameRest w new) where
+      (e1 : new.held.items ≡ record { mem = mem; var = var; net = n } ∷ w.held.items) (e2 : new.vars ≡ w.vars)
+      (e3 : new.births ≡ w.births) (rest : SameRest w new) where
     pub hold_parts : parts_in b new ≡ with_held mem var on bit (parts_in a w)
     hold_parts = held_parts a b (extends_keeps a b e) w h.there new mem var n (mux_signal on bit (held_of (parts_in a w).held mem var)) m.same e1 e2 e3 rest
 
     pub hold_walk : bit.width ≡ 1 → IsWalk b p ws new
     hold_walk k = record {
-      there = there_rest b w new there rest (subst (λ l. NetsThere b l.items) (sym e2) there.vars) (subst (λ (l : List HeldNet). Each (λ (y : HeldNet). IsThere b y.net) l) (sym e1) (m.there, there.held))
+      there =
+          there_rest b w new there rest (subst (λ l. NetsThere b l.items) (sym e2) there.vars)
+          (subst (λ (l : List HeldNet). Each (λ (y : HeldNet). IsThere b y.net) l) (sym e1) (m.there, there.held))
           (subst (λ l. Each (λ (y : BirthNet). IsThere b y.on × NetsThere b y.args) l.items) (sym e3) there.births);
       sized = as_sized p ws (parts_in b new) (with_held mem var on bit (parts_in a w)) hold_parts (sized_held p ws (parts_in a w) h.sized mem var on bit k);
     }
 
 -- one more of each kind, in the same circuit
 module _ (b : Circuit) (p : Pipe) (ws : List ℕ) (w : WalkNets) (h : IsWalk b p ws w) where
-  pub put_walk : (m : ℕ) (on value : Net) → IsThere b on → IsThere b value → m < length p.mems → (signal b on).width ≡ 1 → (signal b value).width ≡ (mem_at p m).width → IsWalk b p ws (record w { puts = w.puts ++ record { mem = m; on = on; value = value } ∷ [] })
+  pub put_walk : (m : ℕ) (on value : Net) → IsThere b on → IsThere b value → m < length p.mems → (signal b on).width ≡ 1
+      → (signal b value).width ≡ (mem_at p m).width
+      → IsWalk b p ws (record w { puts = w.puts ++ record { mem = m; on = on; value = value } ∷ [] })
   put_walk m on value t u l o k = let n : PutNet = record { mem = m; on = on; value = value } in let s = h.there in record {
-    there = record { vars = s.vars; held = s.held; ready = s.ready; reserves = s.reserves; lettings = s.lettings; births = s.births; asks = s.asks; guess = s.guess; fails = s.fails; barrier = s.barrier; puts = each_push (λ (y : PutNet). IsThere b y.on × IsThere b y.value) w.puts n s.puts (t, u) };
-    sized = as_sized p ws (parts_in b (record w { puts = w.puts ++ n ∷ [] })) (with_put m (signal b on) (signal b value) (parts_in b w)) (put_parts b w n) (sized_put p ws (parts_in b w) h.sized m (signal b on) (signal b value) l o k);
+    there =
+        record {
+          vars = s.vars;
+          held = s.held;
+          ready = s.ready;
+          reserves = s.reserves;
+          lettings = s.lettings;
+          births = s.births;
+          asks = s.asks;
+          guess = s.guess;
+          fails = s.fails;
+          barrier = s.barrier;
+          puts = each_push (λ (y : PutNet). IsThere b y.on × IsThere b y.value) w.puts n s.puts (t, u);
+        };
+    sized =
+        as_sized p ws (parts_in b (record w { puts = w.puts ++ n ∷ [] }))
+        (with_put m (signal b on) (signal b value) (parts_in b w)) (put_parts b w n)
+        (sized_put p ws (parts_in b w) h.sized m (signal b on) (signal b value) l o k);
   }
 
-  pub reserve_walk : (m : ℕ) (on addr : Net) → IsThere b on → IsThere b addr → m < length p.mems → (signal b on).width ≡ 1 → 2 ^ (signal b addr).width ≡ (mem_at p m).depth → IsWalk b p ws (record w { reserves = w.reserves ++ record { mem = m; on = on; addr = addr } ∷ [] })
+  pub reserve_walk : (m : ℕ) (on addr : Net) → IsThere b on → IsThere b addr → m < length p.mems
+      → (signal b on).width ≡ 1 → 2 ^ (signal b addr).width ≡ (mem_at p m).depth
+      → IsWalk b p ws (record w { reserves = w.reserves ++ record { mem = m; on = on; addr = addr } ∷ [] })
   reserve_walk m on addr t u l o k = let n : ReserveNet = record { mem = m; on = on; addr = addr } in let s = h.there in record {
-    there = record { vars = s.vars; held = s.held; ready = s.ready; puts = s.puts; lettings = s.lettings; births = s.births; asks = s.asks; guess = s.guess; fails = s.fails; barrier = s.barrier; reserves = each_push (λ (y : ReserveNet). IsThere b y.on × IsThere b y.addr) w.reserves n s.reserves (t, u) };
-    sized = as_sized p ws (parts_in b (record w { reserves = w.reserves ++ n ∷ [] })) (record (parts_in b w) { reserves = (parts_in b w).reserves ++ reservation_in b n ∷ [] }) (reserve_parts b w n) (sized_reserve p ws (parts_in b w) h.sized m (signal b on) (signal b addr) l o k);
+    there =
+        record {
+          vars = s.vars;
+          held = s.held;
+          ready = s.ready;
+          puts = s.puts;
+          lettings = s.lettings;
+          births = s.births;
+          asks = s.asks;
+          guess = s.guess;
+          fails = s.fails;
+          barrier = s.barrier;
+          reserves = each_push (λ (y : ReserveNet). IsThere b y.on × IsThere b y.addr) w.reserves n s.reserves (t, u);
+        };
+    sized =
+        as_sized p ws (parts_in b (record w { reserves = w.reserves ++ n ∷ [] }))
+        (record (parts_in b w) { reserves = (parts_in b w).reserves ++ reservation_in b n ∷ [] }) (reserve_parts b w n)
+        (sized_reserve p ws (parts_in b w) h.sized m (signal b on) (signal b addr) l o k);
   }
 
-  pub letting_walk : (m : ℕ) (on : Net) → IsThere b on → (signal b on).width ≡ 1 → IsWalk b p ws (record w { lettings = w.lettings ++ record { mem = m; on = on } ∷ [] })
+  pub letting_walk : (m : ℕ) (on : Net) → IsThere b on → (signal b on).width ≡ 1
+      → IsWalk b p ws (record w { lettings = w.lettings ++ record { mem = m; on = on } ∷ [] })
   letting_walk m on t o = let n : LettingNet = record { mem = m; on = on } in let s = h.there in record {
-    there = record { vars = s.vars; held = s.held; ready = s.ready; reserves = s.reserves; puts = s.puts; births = s.births; asks = s.asks; guess = s.guess; fails = s.fails; barrier = s.barrier; lettings = each_push (λ (y : LettingNet). IsThere b y.on) w.lettings n s.lettings t };
-    sized = as_sized p ws (parts_in b (record w { lettings = w.lettings ++ n ∷ [] })) (record (parts_in b w) { lettings = (parts_in b w).lettings ++ letting_in b n ∷ [] }) (letting_parts b w n) (sized_letting p ws (parts_in b w) h.sized m (signal b on) o);
+    there =
+        record {
+          vars = s.vars;
+          held = s.held;
+          ready = s.ready;
+          reserves = s.reserves;
+          puts = s.puts;
+          births = s.births;
+          asks = s.asks;
+          guess = s.guess;
+          fails = s.fails;
+          barrier = s.barrier;
+          lettings = each_push (λ (y : LettingNet). IsThere b y.on) w.lettings n s.lettings t;
+        };
+    sized =
+        as_sized p ws (parts_in b (record w { lettings = w.lettings ++ n ∷ [] }))
+        (record (parts_in b w) { lettings = (parts_in b w).lettings ++ letting_in b n ∷ [] }) (letting_parts b w n)
+        (sized_letting p ws (parts_in b w) h.sized m (signal b on) o);
   }
 
-  pub ask_walk : (m x : ℕ) (on addr : Net) → IsThere b on → IsThere b addr → m < length p.mems → (signal b on).width ≡ 1 → 2 ^ (signal b addr).width ≡ (mem_at p m).depth → IsWalk b p ws (record w { asks = w.asks ++ record { mem = m; var = x; on = on; addr = addr } ∷ [] })
+  pub ask_walk : (m x : ℕ) (on addr : Net) → IsThere b on → IsThere b addr → m < length p.mems → (signal b on).width ≡ 1
+      → 2 ^ (signal b addr).width ≡ (mem_at p m).depth
+      → IsWalk b p ws (record w { asks = w.asks ++ record { mem = m; var = x; on = on; addr = addr } ∷ [] })
   ask_walk m x on addr t u l o k = let n : AskNet = record { mem = m; var = x; on = on; addr = addr } in let s = h.there in record {
-    there = record { vars = s.vars; held = s.held; ready = s.ready; reserves = s.reserves; puts = s.puts; lettings = s.lettings; births = s.births; guess = s.guess; fails = s.fails; barrier = s.barrier; asks = each_push (λ (y : AskNet). IsThere b y.on × IsThere b y.addr) w.asks n s.asks (t, u) };
-    sized = as_sized p ws (parts_in b (record w { asks = w.asks ++ n ∷ [] })) (record (parts_in b w) { asks = (parts_in b w).asks ++ ask_in b n ∷ [] }) (ask_parts b w n) (sized_ask p ws (parts_in b w) h.sized m x (signal b on) (signal b addr) l o k);
+    there =
+        record {
+          vars = s.vars;
+          held = s.held;
+          ready = s.ready;
+          reserves = s.reserves;
+          puts = s.puts;
+          lettings = s.lettings;
+          births = s.births;
+          guess = s.guess;
+          fails = s.fails;
+          barrier = s.barrier;
+          asks = each_push (λ (y : AskNet). IsThere b y.on × IsThere b y.addr) w.asks n s.asks (t, u);
+        };
+    sized =
+        as_sized p ws (parts_in b (record w { asks = w.asks ++ n ∷ [] }))
+        (record (parts_in b w) { asks = (parts_in b w).asks ++ ask_in b n ∷ [] }) (ask_parts b w n)
+        (sized_ask p ws (parts_in b w) h.sized m x (signal b on) (signal b addr) l o k);
   }
 
 -- ---- what equal parts make of equal changes
@@ -153,9 +290,13 @@ birth_made b (Ok x) p ws w new on args h t o u k e1 e2 e3 rest =
     let same = birth_parts b w new (record { on = on; args = args }) e1 e2 e3 rest in
     let s = h.there in (
       record {
-        there = there_rest b w new s rest (subst (λ l. NetsThere b l.items) (sym e2) s.vars) (subst (λ l. Each (λ (y : HeldNet). IsThere b y.net) l.items) (sym e3) s.held)
+        there =
+            there_rest b w new s rest (subst (λ l. NetsThere b l.items) (sym e2) s.vars)
+            (subst (λ l. Each (λ (y : HeldNet). IsThere b y.net) l.items) (sym e3) s.held)
             (subst (λ (l : List BirthNet). Each (λ (y : BirthNet). IsThere b y.on × NetsThere b y.args) l) (sym e1) ((t, u), s.births));
-        sized = as_sized p ws (parts_in b new) (with_call (signal b on) (signals_in b args) (parts_in b w)) same (sized_call p ws (parts_in b w) h.sized (signal b on) (signals_in b args) o k);
+        sized =
+            as_sized p ws (parts_in b new)
+            (with_call (signal b on) (signals_in b args) (parts_in b w)) same (sized_call p ws (parts_in b w) h.sized (signal b on) (signals_in b args) o k);
       },
       same,
     )
@@ -175,7 +316,8 @@ pub release_same : (m a : ℕ) (o o' z : Signal) (lets lets' : Signal) (q q' : P
     → record (with_held m a o z q) { lettings = q.lettings ++ record { mem = m; on = lets } ∷ [] }
     ≡ record (with_held m a o' z q') { lettings = q'.lettings ++ record { mem = m; on = lets' } ∷ [] }
 release_same m a o o' z lets lets' q q' e l h =
-    ap (λ i. record (with_held m a i z q) { lettings = q.lettings ++ record { mem = m; on = lets } ∷ [] }) e ∙ ap₂ (λ i (k : Parts). record (with_held m a o' z k) { lettings = k.lettings ++ record { mem = m; on = i } ∷ [] }) l h
+    ap (λ i. record (with_held m a i z q) { lettings = q.lettings ++ record { mem = m; on = lets } ∷ [] }) e
+    ∙ ap₂ (λ i (k : Parts). record (with_held m a o' z k) { lettings = k.lettings ++ record { mem = m; on = i } ∷ [] }) l h
 
 -- a held location, a wait for room and one more reservation make a reserve
 pub reserve_made : (m a : ℕ) (q3 q2 q1 q0 : Parts) (o1 o2 o3 on r room bit addr : Signal)
@@ -189,4 +331,5 @@ pub ask_made : (m x a : ℕ) (q q' : Parts) (o o' f : Signal)
     → q ≡ q' → o ≡ o' → f ≡ signal_at q'.vars a
     → record q { asks = q.asks ++ record { mem = m; var = x; on = o; addr = f } ∷ [] } ≡ with_ask m x a o' q'
 ask_made m x a q q' o o' f e g k =
-    ap (λ (r : Parts). record r { asks = r.asks ++ record { mem = m; var = x; on = o; addr = f } ∷ [] }) e ∙ ap₂ (λ i j. record q' { asks = q'.asks ++ record { mem = m; var = x; on = i; addr = j } ∷ [] }) g k
+    ap (λ (r : Parts). record r { asks = r.asks ++ record { mem = m; var = x; on = o; addr = f } ∷ [] }) e
+    ∙ ap₂ (λ i j. record q' { asks = q'.asks ++ record { mem = m; var = x; on = i; addr = j } ∷ [] }) g k

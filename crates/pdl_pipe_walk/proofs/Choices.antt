@@ -49,7 +49,8 @@ pub choices_more : (on : Signal) (fs gs : List Signal) (i : ℕ) (done : List Si
     → i < length fs → length fs ≡ length gs → done ≡ take i (choices on fs gs)
     → f ≡ mux_signal on (signal_at fs i) (signal_at gs i) → done ++ f ∷ [] ≡ take (i + 1) (choices on fs gs)
 choices_more on fs gs i done f l e h k =
-    ap₂ (λ ds g. ds ++ g ∷ []) h (k ∙ sym (choice_at on fs gs i l e)) ∙ sym (take_more (choices on fs gs) i no_signal (let n = choices_length on fs gs e in omega (arith, l, e, n)))
+    ap₂ (λ ds g. ds ++ g ∷ []) h (k ∙ sym (choice_at on fs gs i l e))
+    ∙ sym (take_more (choices on fs gs) i no_signal (let n = choices_length on fs gs e in omega (arith, l, e, n)))
 
 module _ (s : State) (on : Signal) where
   -- where the condition is 1 the first ones, else the second ones

@@ -57,9 +57,12 @@ taken_more s fs w same bounds (g ∷ gs) h f x e =
     let g_signal = signal_at fs g.var in
     let one : g_signal.width ≡ 1 = sym (width_at fs g.var) ∙ h.1 in
     let low : g.var < length fs = omega (arith, h.0, length_widths fs) in
-    let now = both_at s f (literal g.first g_signal) x (takes_branch g.first (g_signal.value s)) e (λ u. literal_value s g.first g_signal one (bounds g.var low)) in
+    let now =
+    both_at s f (literal g.first g_signal) x (takes_branch g.first (g_signal.value s)) e (λ u. literal_value s g.first g_signal one (bounds g.var low)) in
     taken_more s fs w same bounds gs h.2 (conditions.both f (literal g.first g_signal)) (x && takes_branch g.first (g_signal.value s)) now
-    ∙ ap bit (and_assoc x (takes_branch g.first (g_signal.value s)) (taken_in gs w s) ∙ ap (λ (h : Signal). x && (takes_branch g.first (h.value s) && taken_in gs w s)) (sym (same g.var)))
+    ∙ ap bit
+    (and_assoc x (takes_branch g.first (g_signal.value s)) (taken_in gs w s)
+    ∙ ap (λ (h : Signal). x && (takes_branch g.first (h.value s) && taken_in gs w s)) (sym (same g.var)))
 
 -- the condition of guards says whether they are taken
 pub taken_value : (s : State) (fs : List Signal) (w : Walk)

@@ -22,12 +22,14 @@ use Rattle.pdl_pipe_walk.proofs.Choices.{same_length, choices_length, choices_on
 use Rattle.pdl_pipe_walk.proofs.MadeSteps.{HasNets, is_on, bounded_in}
 use Rattle.pdl_pipe_walk.proofs.Values.{have_values}
 
-module _ (c : Circuit) (p : Pipe) (ws : List ℕ) (ls : Locks) (tickets : ℕ → Signal) (gs : List Guard) (w : Parts) (nets : HasNets c w.vars) (sized : IsSized p ws w) (vars : p.vars ≡ length ws) (guards : AreGuards ws gs) where
+module _ (c : Circuit) (p : Pipe) (ws : List ℕ) (ls : Locks) (tickets : ℕ → Signal) (gs : List Guard) (w : Parts)
+    (nets : HasNets c w.vars) (sized : IsSized p ws w) (vars : p.vars ≡ length ws) (guards : AreGuards ws gs) where
   -- a row that brings no signal of its own
   abbrev plain : Row
   plain = record { on = taken_signal w.vars gs; value = no_signal; args = []; guess = [] }
 
-  pub ask_step : (x m a : ℕ) (w' : Parts) → w' ≡ with_ask m x a (taken_signal w.vars gs) w → IsStep c p ls tickets gs (flat.DelayedRead x m a) (walk_of w) (walk_of w')
+  pub ask_step : (x m a : ℕ) (w' : Parts) → w' ≡ with_ask m x a (taken_signal w.vars gs) w
+      → IsStep c p ls tickets gs (flat.DelayedRead x m a) (walk_of w) (walk_of w')
   ask_step x m a w' h = record { row = plain; on = is_on c p ws ls tickets gs w nets sized vars guards; does = λ d k well. tt; next = ap walk_of h }
 
   pub check_step : IsStep c p ls tickets gs flat.SpecCheck (walk_of w) (walk_of w)
@@ -41,9 +43,12 @@ module _ (c : Circuit) (p : Pipe) (ws : List ℕ) (ls : Locks) (tickets : ℕ �
     args_few = let n = length-map es (value_signal w.vars) in omega (arith, few, vars, n)
 
     args_have : (d : Circuit) → Keeps c d → IsWell d → (s : State) → Suits d s → HaveValues es (walk_of w) (value_signals w.vars es) s
-    args_have d k well s suits = have_values s w.vars (walk_of w) (λ y. refl) (bounded_in c p ws ls tickets gs w nets sized vars guards d k well s suits) es (subst (λ l. AreTyped l es) (sym sized.vars) typed)
+    args_have d k well s suits =
+        have_values s w.vars (walk_of w) (λ y. refl)
+        (bounded_in c p ws ls tickets gs w nets sized vars guards d k well s suits) es (subst (λ l. AreTyped l es) (sym sized.vars) typed)
 
-    pub guess_step : (w' : Parts) → w' ≡ with_guess (taken_signal w.vars gs) (value_signals w.vars es) w → IsStep c p ls tickets gs (flat.SpecCall es) (walk_of w) (walk_of w')
+    pub guess_step : (w' : Parts) → w' ≡ with_guess (taken_signal w.vars gs) (value_signals w.vars es) w
+        → IsStep c p ls tickets gs (flat.SpecCall es) (walk_of w) (walk_of w')
     guess_step w' h =
         let fs = value_signals w.vars es in
         let o = taken_signal w.vars gs in
@@ -62,7 +67,8 @@ module _ (c : Circuit) (p : Pipe) (ws : List ℕ) (ls : Locks) (tickets : ℕ �
           next = ap walk_of h;
         }
 
-    pub verify_step : (w' : Parts) → w' ≡ with_verify (taken_signal w.vars gs) (value_signals w.vars es) w → IsStep c p ls tickets gs (flat.Verify es) (walk_of w) (walk_of w')
+    pub verify_step : (w' : Parts) → w' ≡ with_verify (taken_signal w.vars gs) (value_signals w.vars es) w
+        → IsStep c p ls tickets gs (flat.Verify es) (walk_of w) (walk_of w')
     verify_step w' h =
         let fs = value_signals w.vars es in
         let same = same_length fs w.guess wide in

@@ -33,7 +33,9 @@ some_low [] m x e = absurd (none e)
 some_low (y ∷ ys) zero x e = omega arith
 some_low (y ∷ ys) (suc m) x e = let l = some_low ys m x e in omega (arith, l)
 
-module _ {T : Type 0} (l : Members T) (a b : Circuit) (e : Keeps a b) (stays : (t : T) (a b : Circuit) (r : LockRegs) → Keeps a b → l.placed t a r → l.placed t b r) (p : Pipe) (xs : List (Option (MemLock T))) (h : AreLocked l a p xs) where
+module _ {T : Type 0} (l : Members T) (a b : Circuit) (e : Keeps a b)
+    (stays : (t : T) (a b : Circuit) (r : LockRegs) → Keeps a b → l.placed t a r → l.placed t b r) (p : Pipe)
+    (xs : List (Option (MemLock T))) (h : AreLocked l a p xs) where
   lock_keep : (i : ℕ) (mem : Mem) (x : MemLock T) → IsLockIn l a i mem x → IsLockIn l b i mem x
   lock_keep i mem x k = record {
     is_placed = stays x.lock a b x.regs e k.is_placed;
@@ -56,7 +58,10 @@ module _ {T : Type 0} (l : Members T) (a b : Circuit) (e : Keeps a b) (stays : (
     depth = λ m low u once. e.depth (comb_place p m) (h.has_array m low once) ∙ h.depth m low u once;
   }
 
-  same_net : (f : MemLock T → Net) → ((m : ℕ) (x : MemLock T) → m < length p.mems → some_at xs m ≡ Some x → IsThere a (f x)) → (m : ℕ) (o : Option (MemLock T)) → some_at xs m ≡ o → of_lock (λ x. signal b (f x)) zero_bit o ≡ of_lock (λ x. signal a (f x)) zero_bit o
+  same_net : (f : MemLock T → Net)
+      → ((m : ℕ) (x : MemLock T) → m < length p.mems → some_at xs m ≡ Some x → IsThere a (f x))
+      → (m : ℕ) (o : Option (MemLock T)) → some_at xs m ≡ o
+      → of_lock (λ x. signal b (f x)) zero_bit o ≡ of_lock (λ x. signal a (f x)) zero_bit o
   same_net f t m None s = refl
   same_net f t m (Some x) s = e.kept (f x) (t m x (let low = some_low xs m x s in omega (arith, low, h.count)) s)
 
@@ -83,13 +88,20 @@ held_on : (c : Circuit) (x : Bits) (y : Net) → AreBits c x → y ≡ x.one →
 held_on c x y b e s = ap (λ n. n == 1) (ap (λ (f : Signal). f.value s) (ap (signal c) e ∙ b.one.same) ∙ one_is s)
 
 module _ (ls : Locks) (m : ℕ) (addr ticket : Signal) where
-  pub looked_off : (c : Circuit) (x : Bits) (y : Net) → AreBits c x → y ≡ x.zero → (f : Signal) (v : Option Signal) → LookLaw (ls.stands m) (ls.kind m) (ls.bits m) look_kind.R addr ticket f v → IsLooked ls m (signal c y) addr ticket f
+  pub looked_off : (c : Circuit) (x : Bits) (y : Net) → AreBits c x → y ≡ x.zero → (f : Signal) (v : Option Signal)
+      → LookLaw (ls.stands m) (ls.kind m) (ls.bits m) look_kind.R addr ticket f v
+      → IsLooked ls m (signal c y) addr ticket f
   looked_off c x y b e f v law s = block_one ls m addr ticket f (signal c y) v false s law (held_off c x y b e s)
 
-  pub looked_on : (c : Circuit) (x : Bits) (y : Net) → AreBits c x → y ≡ x.one → (f : Signal) (v : Option Signal) → LookLaw (ls.stands m) (ls.kind m) (ls.bits m) look_kind.W addr ticket f v → IsLooked ls m (signal c y) addr ticket f
+  pub looked_on : (c : Circuit) (x : Bits) (y : Net) → AreBits c x → y ≡ x.one → (f : Signal) (v : Option Signal)
+      → LookLaw (ls.stands m) (ls.kind m) (ls.bits m) look_kind.W addr ticket f v
+      → IsLooked ls m (signal c y) addr ticket f
   looked_on c x y b e f v law s = block_one ls m addr ticket f (signal c y) v true s law (held_on c x y b e s)
 
-  pub looked_either : (held f g : Signal) (v u : Option Signal) → LookLaw (ls.stands m) (ls.kind m) (ls.bits m) look_kind.W addr ticket f v → LookLaw (ls.stands m) (ls.kind m) (ls.bits m) look_kind.R addr ticket g u → IsLooked ls m held addr ticket (mux_signal held f g)
+  pub looked_either : (held f g : Signal) (v u : Option Signal)
+      → LookLaw (ls.stands m) (ls.kind m) (ls.bits m) look_kind.W addr ticket f v
+      → LookLaw (ls.stands m) (ls.kind m) (ls.bits m) look_kind.R addr ticket g u
+      → IsLooked ls m held addr ticket (mux_signal held f g)
   looked_either held f g v u write read s = block_two ls m addr ticket f g held v u s write read
 
 -- the word of a memory without lock
@@ -113,8 +125,10 @@ looked_join ls m a b2 b3 d held addr ticket f g x v u e k th ta tt' tg read writ
     let P : Signal → Signal → Type 0 = λ y t. LookLaw (ls.stands m) (ls.kind m) (ls.bits m) look_kind.W y t (signal b3 f) v in
     let now = subst (λ t. P (signal a addr) t) (e.kept ticket tt') (subst (λ y. P y (signal b2 ticket)) (e.kept addr ta) write) in
     let held_same = k.kept held (e.there held th) ∙ e.kept held th in
-    let same : signal d x ≡ mux_signal (signal a held) (signal b3 f) (signal b2 g) = means.same ∙ ap₂ (λ h j. mux_signal h (signal b3 f) j) held_same (k.kept g tg) in
-    subst (λ h. IsLooked ls m (signal a held) (signal a addr) (signal a ticket) h) (sym same) (looked_either ls m (signal a addr) (signal a ticket) (signal a held) (signal b3 f) (signal b2 g) v u now read)
+    let same : signal d x ≡ mux_signal (signal a held) (signal b3 f) (signal b2 g) =
+    means.same ∙ ap₂ (λ h j. mux_signal h (signal b3 f) j) held_same (k.kept g tg) in
+    subst (λ h. IsLooked ls m (signal a held) (signal a addr) (signal a ticket) h) (sym same)
+    (looked_either ls m (signal a addr) (signal a ticket) (signal a held) (signal b3 f) (signal b2 g) v u now read)
 
 -- whether a location is ready, by equal signals for its being held, its address and the ticket
 pub looked_as : (ls : Locks) (m : ℕ) (h h' addr addr' ticket ticket' f : Signal)
@@ -127,7 +141,8 @@ pub word_as : (p : Pipe) (ls : Locks) (m : ℕ) (addr addr' ticket ticket' f : S
     → addr ≡ addr' → ticket ≡ ticket' → IsWordSignal p ls m addr ticket f → IsWordSignal p ls m addr' ticket' f
 word_as p ls m addr addr' ticket ticket' f g k l = subst (λ t. IsWordSignal p ls m addr' t f) k (subst (λ y. IsWordSignal p ls m y ticket f) g l)
 
-module _ {T : Type 0} (l : Members T) (c : Circuit) (p : Pipe) (xs : List (Option (MemLock T))) (h : AreLocked l c p xs) (m : ℕ) (low : m < length p.mems) (locked : is_locked p m ≡ true) where
+module _ {T : Type 0} (l : Members T) (c : Circuit) (p : Pipe) (xs : List (Option (MemLock T))) (h : AreLocked l c p xs)
+    (m : ℕ) (low : m < length p.mems) (locked : is_locked p m ≡ true) where
   -- a ticket has the bits of its lock's
   pub ticket_bits : (ts : List Net) → AreTickets l c xs ts → (signal_at (signals_in c ts) m).width ≡ (locks_in l p c xs).bits m
   ticket_bits ts t = by (some_at xs m) refl

@@ -58,7 +58,8 @@ changed x f fs y = if y == x then f else signal_at fs y
 set_walk : (x : ℕ) (f : Signal) (w : Parts) → x < length w.vars → signal_at (slice_set w.vars x f) ≡ changed x f w.vars
 set_walk x f w l = fun_ext (λ y. signal_set w.vars x f y l)
 
-module _ (c : Circuit) (p : Pipe) (ws : List ℕ) (ls : Locks) (tickets : ℕ → Signal) (gs : List Guard) (w : Parts) (nets : HasNets c w.vars) (sized : IsSized p ws w) (vars : p.vars ≡ length ws) (guards : AreGuards ws gs) where
+module _ (c : Circuit) (p : Pipe) (ws : List ℕ) (ls : Locks) (tickets : ℕ → Signal) (gs : List Guard) (w : Parts)
+    (nets : HasNets c w.vars) (sized : IsSized p ws w) (vars : p.vars ≡ length ws) (guards : AreGuards ws gs) where
   pub bounded_in : (d : Circuit) → Keeps c d → IsWell d → (s : State) → Suits d s → AreBounded s w.vars
   bounded_in d k well s suits = are_bounded c d w.vars nets k well s suits
 
@@ -70,7 +71,8 @@ module _ (c : Circuit) (p : Pipe) (ws : List ℕ) (ls : Locks) (tickets : ℕ �
   is_on d k well s suits = taken_value s w.vars (walk_of w) (λ x. refl) (bounded_in d k well s suits) gs guarded
 
   -- a choice by the condition where it is 1, and where it is not
-  chosen : (d : Circuit) → Keeps c d → IsWell d → (f g : Signal) (s : State) → Suits d s → taken_in gs (walk_of w) s ≡ true → (mux_signal (taken_signal w.vars gs) f g).value s ≡ f.value s
+  chosen : (d : Circuit) → Keeps c d → IsWell d → (f g : Signal) (s : State) → Suits d s
+      → taken_in gs (walk_of w) s ≡ true → (mux_signal (taken_signal w.vars gs) f g).value s ≡ f.value s
   chosen d k well f g s suits t = mux_at s (taken_signal w.vars gs) f g true (is_on d k well s suits ∙ ap bit t)
 
   other : (d : Circuit) → Keeps c d → IsWell d → (f g : Signal) → WhereNot d gs (walk_of w) (λ s. (mux_signal (taken_signal w.vars gs) f g).value s ≡ g.value s)
@@ -85,7 +87,9 @@ module _ (c : Circuit) (p : Pipe) (ws : List ℕ) (ls : Locks) (tickets : ℕ �
 
   -- ---- each kind of statement
 
-  pub bind_step : (x : ℕ) (e : Expr) (w' : Parts) → x < length ws → IsTyped ws e → w' ≡ with_var x (taken_signal w.vars gs) (value_signal w.vars e) w → IsStep c p ls tickets gs (flat.Bind x e) (walk_of w) (walk_of w')
+  pub bind_step : (x : ℕ) (e : Expr) (w' : Parts) → x < length ws → IsTyped ws e
+      → w' ≡ with_var x (taken_signal w.vars gs) (value_signal w.vars e) w
+      → IsStep c p ls tickets gs (flat.Bind x e) (walk_of w) (walk_of w')
   bind_step x e w' l t h =
       let f = value_signal w.vars e in
       let on = taken_signal w.vars gs in
@@ -95,13 +99,18 @@ module _ (c : Circuit) (p : Pipe) (ws : List ℕ) (ls : Locks) (tickets : ℕ �
         on = is_on;
         does = λ d k well. (
           omega (arith, l, vars),
-          (λ s suits u env agree. chosen d k well f (signal_at w.vars x) s suits u ∙ has_value s w.vars (walk_of w) (λ y. refl) (bounded_in d k well s suits) e typed env agree),
+          (λ s suits u env agree. chosen d k well f (signal_at w.vars x) s suits u
+              ∙ has_value s w.vars (walk_of w) (λ y. refl) (bounded_in d k well s suits) e typed env agree),
           other d k well f (signal_at w.vars x),
         );
-        next = ap walk_of h ∙ ap (λ v. record (walk_of w) { vars = v }) (set_walk x (mux_signal on f (signal_at w.vars x)) w (omega (arith, l, var_count p ws w sized)));
+        next =
+            ap walk_of h
+            ∙ ap (λ v. record (walk_of w) { vars = v }) (set_walk x (mux_signal on f (signal_at w.vars x)) w (omega (arith, l, var_count p ws w sized)));
       }
 
-  pub write_step : (m a : ℕ) (e : Expr) (w' : Parts) → IsTyped ws e → w' ≡ with_put m (taken_signal w.vars gs) (value_signal w.vars e) w → IsStep c p ls tickets gs (flat.Write m a e) (walk_of w) (walk_of w')
+  pub write_step : (m a : ℕ) (e : Expr) (w' : Parts) → IsTyped ws e
+      → w' ≡ with_put m (taken_signal w.vars gs) (value_signal w.vars e) w
+      → IsStep c p ls tickets gs (flat.Write m a e) (walk_of w) (walk_of w')
   write_step m a e w' t h =
       let typed = subst (λ l. IsTyped l e) (sym sized.vars) t in
       record {
@@ -111,17 +120,24 @@ module _ (c : Circuit) (p : Pipe) (ws : List ℕ) (ls : Locks) (tickets : ℕ �
         next = ap walk_of h;
       }
 
-  pub call_step : (es : List Expr) (w' : Parts) → length es ≤ length ws → AreTyped ws es → w' ≡ with_call (taken_signal w.vars gs) (value_signals w.vars es) w → IsStep c p ls tickets gs (flat.Call es) (walk_of w) (walk_of w')
+  pub call_step : (es : List Expr) (w' : Parts) → length es ≤ length ws → AreTyped ws es
+      → w' ≡ with_call (taken_signal w.vars gs) (value_signals w.vars es) w
+      → IsStep c p ls tickets gs (flat.Call es) (walk_of w) (walk_of w')
   call_step es w' l t h =
       let typed = subst (λ l. AreTyped l es) (sym sized.vars) t in
       record {
         row = record { on = taken_signal w.vars gs; value = no_signal; args = value_signals w.vars es; guess = [] };
         on = is_on;
-        does = λ d k well. (omega (arith, l, vars, Rattle.std.proofs.lemmas.List.length-map es (value_signal w.vars)), (λ s suits u. have_values s w.vars (walk_of w) (λ y. refl) (bounded_in d k well s suits) es typed));
+        does =
+            λ d k well. (
+              omega (arith, l, vars, Rattle.std.proofs.lemmas.List.length-map es (value_signal w.vars)),
+              (λ s suits u. have_values s w.vars (walk_of w) (λ y. refl) (bounded_in d k well s suits) es typed),
+            );
         next = ap walk_of h;
       }
 
-  pub release_step : (m a : ℕ) (w' : Parts) → w' ≡ with_release m a (taken_signal w.vars gs) w → IsStep c p ls tickets gs (flat.Release m a) (walk_of w) (walk_of w')
+  pub release_step : (m a : ℕ) (w' : Parts) → w' ≡ with_release m a (taken_signal w.vars gs) w
+      → IsStep c p ls tickets gs (flat.Release m a) (walk_of w) (walk_of w')
   release_step m a w' h = record {
     row = record { on = taken_signal w.vars gs; value = no_signal; args = []; guess = [] };
     on = is_on;
@@ -137,7 +153,9 @@ module _ (c : Circuit) (p : Pipe) (ws : List ℕ) (ls : Locks) (tickets : ℕ �
     next = refl;
   }
 
-  pub reserve_step : (m a : ℕ) (w' : Parts) → IsLocation p ws m a → is_locked p m ≡ true → w' ≡ with_reserve m a (taken_signal w.vars gs) (ls.room m) w → IsStep c p ls tickets gs (flat.ReserveWrite m a) (walk_of w) (walk_of w')
+  pub reserve_step : (m a : ℕ) (w' : Parts) → IsLocation p ws m a → is_locked p m ≡ true
+      → w' ≡ with_reserve m a (taken_signal w.vars gs) (ls.room m) w
+      → IsStep c p ls tickets gs (flat.ReserveWrite m a) (walk_of w) (walk_of w')
   reserve_step m a w' at locked h = record {
     row = record { on = taken_signal w.vars gs; value = no_signal; args = []; guess = [] };
     on = is_on;
@@ -145,7 +163,9 @@ module _ (c : Circuit) (p : Pipe) (ws : List ℕ) (ls : Locks) (tickets : ℕ �
     next = ap walk_of h;
   }
 
-  pub block_step : (m a : ℕ) (w' : Parts) → is_locked p m ≡ true → IsBlocked ls tickets (taken_signal w.vars gs) m a w w' → IsStep c p ls tickets gs (flat.Block m a) (walk_of w) (walk_of w')
+  pub block_step : (m a : ℕ) (w' : Parts) → is_locked p m ≡ true
+      → IsBlocked ls tickets (taken_signal w.vars gs) m a w w'
+      → IsStep c p ls tickets gs (flat.Block m a) (walk_of w) (walk_of w')
   block_step m a w' locked h = record {
     row = record { on = taken_signal w.vars gs; value = h.look; args = []; guess = [] };
     on = is_on;
@@ -153,7 +173,9 @@ module _ (c : Circuit) (p : Pipe) (ws : List ℕ) (ls : Locks) (tickets : ℕ �
     next = ap walk_of h.next;
   }
 
-  word_is : (m a : ℕ) (f : Signal) → (ls.array m ≡ comb_place p m) → IsLocation p ws m a → IsWordSignal p ls m (signal_at w.vars a) (tickets m) f → (d : Circuit) → Keeps c d → IsWell d → (s : State) → Suits d s → IsWord p ls m (signal_at w.vars a) (tickets m) f s
+  word_is : (m a : ℕ) (f : Signal) → (ls.array m ≡ comb_place p m) → IsLocation p ws m a
+      → IsWordSignal p ls m (signal_at w.vars a) (tickets m) f → (d : Circuit) → Keeps c d → IsWell d → (s : State)
+      → Suits d s → IsWord p ls m (signal_at w.vars a) (tickets m) f s
   unfolding read_value
   word_is m a f array at h d k well s suits = by (is_locked p m) refl
     where
@@ -161,7 +183,8 @@ module _ (c : Circuit) (p : Pipe) (ws : List ℕ) (ls : Locks) (tickets : ℕ �
       by true e = word_locked p ls m (signal_at w.vars a) (tickets m) h.ready f s e (h.looked e) (reach m a at) (fits d k well a at.var s suits)
       by false e =
           word_plain p ls m (signal_at w.vars a) (tickets m) f s e
-          (ap (λ (g : Signal). g.value s) (h.plain e) ∙ ap (λ n. slice_index (slice_index_or s.arrays n []) ((signal_at w.vars a).value s)) (sym array)) (reach m a at) (fits d k well a at.var s suits)
+          (ap (λ (g : Signal). g.value s) (h.plain e) ∙ ap (λ n. slice_index (slice_index_or s.arrays n []) ((signal_at w.vars a).value s)) (sym array))
+          (reach m a at) (fits d k well a at.var s suits)
 
   -- the same word by a signal of the same value
   same_word : (m : ℕ) (addr ticket f g : Signal) (s : State) → g.value s ≡ f.value s → IsWord p ls m addr ticket f s → IsWord p ls m addr ticket g s
@@ -171,7 +194,9 @@ module _ (c : Circuit) (p : Pipe) (ws : List ℕ) (ls : Locks) (tickets : ℕ �
     locked = λ u x t stands covered holds looked. e ∙ h.locked u x t stands covered holds looked;
   }
 
-  pub read_step : (x m a : ℕ) (w' : Parts) → ls.array m ≡ comb_place p m → x < length ws → IsLocation p ws m a → IsRead p ls tickets (taken_signal w.vars gs) x m a w w' → IsStep c p ls tickets gs (flat.CombRead x m a) (walk_of w) (walk_of w')
+  pub read_step : (x m a : ℕ) (w' : Parts) → ls.array m ≡ comb_place p m → x < length ws → IsLocation p ws m a
+      → IsRead p ls tickets (taken_signal w.vars gs) x m a w w'
+      → IsStep c p ls tickets gs (flat.CombRead x m a) (walk_of w) (walk_of w')
   read_step x m a w' array l at h =
       let f = h.word in
       let on = taken_signal w.vars gs in
@@ -181,7 +206,9 @@ module _ (c : Circuit) (p : Pipe) (ws : List ℕ) (ls : Locks) (tickets : ℕ �
         on = is_on;
         does = λ d k well. (
           omega (arith, l, vars),
-          (λ s suits u. same_word m (signal_at w.vars a) (tickets m) f (mux_signal on f old) s (chosen d k well f old s suits u) (word_is m a f array at h.is_word d k well s suits)),
+          (λ s suits u. same_word m (signal_at w.vars a)
+              (tickets m) f (mux_signal on f old) s (chosen d k well f old s suits u)
+              (word_is m a f array at h.is_word d k well s suits)),
           other d k well f old,
         );
         next = ap walk_of h.next ∙ ap (λ v. record (walk_of w) { vars = v }) (set_walk x (mux_signal on f old) w (omega (arith, l, var_count p ws w sized)));

@@ -34,37 +34,67 @@ bits_keep a b x e t = record {
 
 module _ (a b : Circuit) (e : Keeps a b) where
   pub held_keep : (hs : List HeldNet) → Each (λ (h : HeldNet). IsThere a h.net) hs → map (held_in b) hs ≡ map (held_in a) hs
-  held_keep hs t = map_each (held_in b) (held_in a) (λ h. IsThere a h.net) (λ h k. ap (λ f. record { mem = h.mem; var = h.var; signal = f }) (e.kept h.net k)) hs t
+  held_keep hs t =
+      map_each (held_in b) (held_in a) (λ h. IsThere a h.net) (λ h k. ap (λ f. record { mem = h.mem; var = h.var; signal = f }) (e.kept h.net k)) hs t
 
-  reserves_keep : (rs : List ReserveNet) → Each (λ (r : ReserveNet). IsThere a r.on × IsThere a r.addr) rs → map (reservation_in b) rs ≡ map (reservation_in a) rs
-  reserves_keep rs t = map_each (reservation_in b) (reservation_in a) (λ r. IsThere a r.on × IsThere a r.addr) (λ r k. ap₂ (λ f g. record { mem = r.mem; on = f; addr = g }) (e.kept r.on k.0) (e.kept r.addr k.1)) rs t
+  reserves_keep : (rs : List ReserveNet) → Each (λ (r : ReserveNet). IsThere a r.on × IsThere a r.addr) rs
+      → map (reservation_in b) rs ≡ map (reservation_in a) rs
+  reserves_keep rs t =
+      map_each (reservation_in b) (reservation_in a) (λ r. IsThere a r.on × IsThere a r.addr)
+      (λ r k. ap₂ (λ f g. record { mem = r.mem; on = f; addr = g }) (e.kept r.on k.0) (e.kept r.addr k.1)) rs t
 
   puts_keep : (xs : List PutNet) → Each (λ (x : PutNet). IsThere a x.on × IsThere a x.value) xs → map (put_in b) xs ≡ map (put_in a) xs
-  puts_keep xs t = map_each (put_in b) (put_in a) (λ x. IsThere a x.on × IsThere a x.value) (λ x k. ap₂ (λ f g. record { mem = x.mem; on = f; value = g }) (e.kept x.on k.0) (e.kept x.value k.1)) xs t
+  puts_keep xs t =
+      map_each (put_in b) (put_in a) (λ x. IsThere a x.on × IsThere a x.value)
+      (λ x k. ap₂ (λ f g. record { mem = x.mem; on = f; value = g }) (e.kept x.on k.0) (e.kept x.value k.1)) xs t
 
   lettings_keep : (xs : List LettingNet) → Each (λ (x : LettingNet). IsThere a x.on) xs → map (letting_in b) xs ≡ map (letting_in a) xs
   lettings_keep xs t = map_each (letting_in b) (letting_in a) (λ x. IsThere a x.on) (λ x k. ap (λ f. record { mem = x.mem; on = f }) (e.kept x.on k)) xs t
 
   births_keep : (xs : List BirthNet) → Each (λ (x : BirthNet). IsThere a x.on × NetsThere a x.args) xs → map (birth_in b) xs ≡ map (birth_in a) xs
-  births_keep xs t = map_each (birth_in b) (birth_in a) (λ x. IsThere a x.on × NetsThere a x.args) (λ x k. ap₂ (λ f fs. record { on = f; args = fs }) (e.kept x.on k.0) (signals_keep a b x.args e k.1)) xs t
+  births_keep xs t =
+      map_each (birth_in b) (birth_in a) (λ x. IsThere a x.on × NetsThere a x.args)
+      (λ x k. ap₂ (λ f fs. record { on = f; args = fs }) (e.kept x.on k.0) (signals_keep a b x.args e k.1)) xs t
 
   asks_keep : (xs : List AskNet) → Each (λ (x : AskNet). IsThere a x.on × IsThere a x.addr) xs → map (ask_in b) xs ≡ map (ask_in a) xs
-  asks_keep xs t = map_each (ask_in b) (ask_in a) (λ x. IsThere a x.on × IsThere a x.addr) (λ x k. ap₂ (λ f g. record { mem = x.mem; var = x.var; on = f; addr = g }) (e.kept x.on k.0) (e.kept x.addr k.1)) xs t
+  asks_keep xs t =
+      map_each (ask_in b) (ask_in a) (λ x. IsThere a x.on × IsThere a x.addr)
+      (λ x k. ap₂ (λ f g. record { mem = x.mem; var = x.var; on = f; addr = g }) (e.kept x.on k.0) (e.kept x.addr k.1)) xs t
 
   pub parts_keep : (w : WalkNets) → IsThereWalk a w → parts_in b w ≡ parts_in a w
   parts_keep w t =
-      cc (signals_keep a b w.vars.items e t.vars, held_keep w.held.items t.held, e.kept w.ready t.ready, reserves_keep w.reserves t.reserves, puts_keep w.puts t.puts, lettings_keep w.lettings t.lettings, births_keep w.births.items t.births, asks_keep w.asks t.asks, signals_keep a b w.guess e t.guess, e.kept w.fails t.fails, e.kept w.barrier t.barrier)
+      cc (
+        signals_keep a b w.vars.items e t.vars,
+        held_keep w.held.items t.held,
+        e.kept w.ready t.ready,
+        reserves_keep w.reserves t.reserves,
+        puts_keep w.puts t.puts,
+        lettings_keep w.lettings t.lettings,
+        births_keep w.births.items t.births,
+        asks_keep w.asks t.asks,
+        signals_keep a b w.guess e t.guess,
+        e.kept w.fails t.fails,
+        e.kept w.barrier t.barrier,
+      )
 
   pub there_walk : (w : WalkNets) → IsThereWalk a w → IsThereWalk b w
   there_walk w t = record {
     vars = there_keeps a b w.vars.items e t.vars;
     held = each_weaker (λ (h : HeldNet). IsThere a h.net) (λ h. IsThere b h.net) (λ h k. e.there h.net k) w.held.items t.held;
     ready = e.there w.ready t.ready;
-    reserves = each_weaker (λ (r : ReserveNet). IsThere a r.on × IsThere a r.addr) (λ r. IsThere b r.on × IsThere b r.addr) (λ r k. (e.there r.on k.0, e.there r.addr k.1)) w.reserves t.reserves;
-    puts = each_weaker (λ (x : PutNet). IsThere a x.on × IsThere a x.value) (λ x. IsThere b x.on × IsThere b x.value) (λ x k. (e.there x.on k.0, e.there x.value k.1)) w.puts t.puts;
+    reserves =
+        each_weaker (λ (r : ReserveNet). IsThere a r.on × IsThere a r.addr) (λ r. IsThere b r.on × IsThere b r.addr)
+        (λ r k. (e.there r.on k.0, e.there r.addr k.1)) w.reserves t.reserves;
+    puts =
+        each_weaker (λ (x : PutNet). IsThere a x.on × IsThere a x.value) (λ x. IsThere b x.on × IsThere b x.value)
+        (λ x k. (e.there x.on k.0, e.there x.value k.1)) w.puts t.puts;
     lettings = each_weaker (λ (x : LettingNet). IsThere a x.on) (λ x. IsThere b x.on) (λ x k. e.there x.on k) w.lettings t.lettings;
-    births = each_weaker (λ (x : BirthNet). IsThere a x.on × NetsThere a x.args) (λ x. IsThere b x.on × NetsThere b x.args) (λ x k. (e.there x.on k.0, there_keeps a b x.args e k.1)) w.births.items t.births;
-    asks = each_weaker (λ (x : AskNet). IsThere a x.on × IsThere a x.addr) (λ x. IsThere b x.on × IsThere b x.addr) (λ x k. (e.there x.on k.0, e.there x.addr k.1)) w.asks t.asks;
+    births =
+        each_weaker (λ (x : BirthNet). IsThere a x.on × NetsThere a x.args) (λ x. IsThere b x.on × NetsThere b x.args)
+        (λ x k. (e.there x.on k.0, there_keeps a b x.args e k.1)) w.births.items t.births;
+    asks =
+        each_weaker (λ (x : AskNet). IsThere a x.on × IsThere a x.addr) (λ x. IsThere b x.on × IsThere b x.addr)
+        (λ x k. (e.there x.on k.0, e.there x.addr k.1)) w.asks t.asks;
     guess = there_keeps a b w.guess e t.guess;
     fails = e.there w.fails t.fails;
     barrier = e.there w.barrier t.barrier;
@@ -85,7 +115,8 @@ pub held_means : (c : Circuit) (x : Bits) → AreBits c x → (hs : List HeldNet
     → Each (λ (h : HeldNet). IsThere c h.net) hs → Means c (held_net hs x.zero m a) (held_of (map (held_in c) hs) m a)
 held_means c x bits [] m a t = bits.zero
 held_means c x bits (h ∷ hs) m a t =
-    held_step c ((h.mem == m) && (h.var == a)) h.net (held_net hs x.zero m a) (signal c h.net) (held_of (map (held_in c) hs) m a) (record { there = t.0; same = refl }) (held_means c x bits hs m a t.1)
+    held_step c ((h.mem == m) && (h.var == a)) h.net (held_net hs x.zero m a) (signal c h.net)
+    (held_of (map (held_in c) hs) m a) (record { there = t.0; same = refl }) (held_means c x bits hs m a t.1)
 
 width_step : (b : Bool) (f g : Signal) → f.width ≡ 1 → g.width ≡ 1 → (if b then f else g).width ≡ 1
 width_step true f g h k = h

@@ -42,7 +42,8 @@ rows_push d p ls tickets (y ∷ ys) x w v u r e i h = (e.0, e.1, rows_push d p l
 pub steps_push : (c b : Circuit) (p : Pipe) (ls : Locks) (tickets : ℕ → Signal) (xs : List Stmt) (x : Stmt) (w v u : Walk)
     → Keeps c b → AreSteps c p ls tickets xs w v → IsStep b p ls tickets x.guards x.op v u
     → AreSteps b p ls tickets (xs ++ x ∷ []) w u
-steps_push c b p ls tickets xs x w v u e h s d k well = rows_push d p ls tickets xs x w v u s.row (h d (keeps_trans c b d e k) well) (record { on = s.on d k well; op = s.does d k well }) s.next
+steps_push c b p ls tickets xs x w v u e h s d k well =
+    rows_push d p ls tickets xs x w v u s.row (h d (keeps_trans c b d e k) well) (record { on = s.on d k well; op = s.does d k well }) s.next
 
 module _ (rows : List ℕ) (i : ℕ) (l : i < length rows) (f : Form) (xs : List Stmt) where
   pub rows_split : AreWalkedRows f xs (drop i rows) → AreWalkedRows f xs (get_or rows i 0 ∷ drop (i + 1) rows)
@@ -54,7 +55,8 @@ module _ (rows : List ℕ) (i : ℕ) (l : i < length rows) (f : Form) (xs : List
 -- the statements of these numbers
 pub rows_walked : (f : Form) (xs : List Stmt) (rows : List ℕ) → AreWalked f xs
     → ((j : ℕ) → j < length rows → slice_index rows j < length xs) → AreWalkedRows f xs rows
-rows_walked f xs rows h low = each_by (λ (i : ℕ). (i < length xs) × IsWalked f (stmt_at xs i)) rows 0 (λ j l. (low j l, each_at (IsWalked f) xs (slice_index rows j) _ (low j l) h))
+rows_walked f xs rows h low =
+    each_by (λ (i : ℕ). (i < length xs) × IsWalked f (stmt_at xs i)) rows 0 (λ j l. (low j l, each_at (IsWalked f) xs (slice_index rows j) _ (low j l) h))
 
 -- the k-th statement of the pipe is one of the program's as well
 pub row_low : (ss : List r_stmt.FlatStmt) (k : ℕ) → k < length (stmts_view ss) → k < length ss

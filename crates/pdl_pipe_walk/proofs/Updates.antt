@@ -35,7 +35,19 @@ same_rest : (b : Circuit) (w new : WalkNets) (vars : List Signal) (held : List H
     → map (birth_in b) new.births.items ≡ births → SameRest w new
     → parts_in b new ≡ record (parts_in b w) { vars = vars; held = held; births = births }
 same_rest b w new vars held births e1 e2 e3 r =
-    cc (e1, e2, e3, ap (signal b) r.ready, ap (map (reservation_in b)) r.reserves, ap (map (put_in b)) r.puts, ap (map (letting_in b)) r.lettings, ap (map (ask_in b)) r.asks, ap (signals_in b) r.guess, ap (signal b) r.fails, ap (signal b) r.barrier)
+    cc (
+      e1,
+      e2,
+      e3,
+      ap (signal b) r.ready,
+      ap (map (reservation_in b)) r.reserves,
+      ap (map (put_in b)) r.puts,
+      ap (map (letting_in b)) r.lettings,
+      ap (map (ask_in b)) r.asks,
+      ap (signals_in b) r.guess,
+      ap (signal b) r.fails,
+      ap (signal b) r.barrier,
+    )
 
 -- its nets are there
 pub there_rest : (b : Circuit) (w new : WalkNets) → IsThereWalk b w → SameRest w new → NetsThere b new.vars.items
@@ -60,21 +72,27 @@ module _ (a b : Circuit) (e : Keeps a b) (w : WalkNets) (t : IsThereWalk a w) wh
   kept : parts_in b w ≡ parts_in a w
   kept = parts_keep a b e w t
 
-  pub vars_parts : (new : WalkNets) (x : ℕ) (n : Net) (f : Signal) → signal b n ≡ f → new.vars.items ≡ slice_set w.vars.items x n → new.held ≡ w.held → new.births ≡ w.births → SameRest w new
+  pub vars_parts : (new : WalkNets) (x : ℕ) (n : Net) (f : Signal) → signal b n ≡ f
+      → new.vars.items ≡ slice_set w.vars.items x n → new.held ≡ w.held → new.births ≡ w.births → SameRest w new
       → parts_in b new ≡ record (parts_in a w) { vars = slice_set (signals_in a w.vars.items) x f }
   vars_parts new x n f m v h k r =
       same_rest b w new (slice_set (signals_in b w.vars.items) x f) (parts_in b w).held (parts_in b w).births
-      (ap (signals_in b) v ∙ map-set (signal b) w.vars.items x n ∙ ap (λ g. slice_set (signals_in b w.vars.items) x g) m) (ap (λ h. map (held_in b) h.items) h) (ap (λ h. map (birth_in b) h.items) k) r
+      (ap (signals_in b) v ∙ map-set (signal b) w.vars.items x n ∙ ap (λ g. slice_set (signals_in b w.vars.items) x g) m)
+      (ap (λ h. map (held_in b) h.items) h) (ap (λ h. map (birth_in b) h.items) k) r
       ∙ ap (λ (q : Parts). record q { vars = slice_set q.vars x f }) kept
 
   pub ready_parts : (n : Net) (f : Signal) → signal b n ≡ f → parts_in b (record w { ready = n }) ≡ record (parts_in a w) { ready = f }
   ready_parts n f m = ap₂ (λ (q : Parts) g. record q { ready = g }) kept m
 
-  pub held_parts : (new : WalkNets) (m v : ℕ) (n : Net) (f : Signal) → signal b n ≡ f → new.held.items ≡ record { mem = m; var = v; net = n } ∷ w.held.items → new.vars ≡ w.vars → new.births ≡ w.births → SameRest w new
+  pub held_parts : (new : WalkNets) (m v : ℕ) (n : Net) (f : Signal) → signal b n ≡ f
+      → new.held.items ≡ record { mem = m; var = v; net = n } ∷ w.held.items → new.vars ≡ w.vars → new.births ≡ w.births
+      → SameRest w new
       → parts_in b new ≡ record (parts_in a w) { held = record { mem = m; var = v; signal = f } ∷ (parts_in a w).held }
   held_parts new m v n f s h h1 h2 r =
       same_rest b w new (parts_in b w).vars (record { mem = m; var = v; signal = f } ∷ (parts_in b w).held) (parts_in b w).births
-      (ap (λ h. signals_in b h.items) h1) (ap (map (held_in b)) h ∙ ap (λ g. record { mem = m; var = v; signal = g } ∷ (parts_in b w).held) s) (ap (λ h. map (birth_in b) h.items) h2) r
+      (ap (λ h. signals_in b h.items) h1)
+      (ap (map (held_in b)) h ∙ ap (λ g. record { mem = m; var = v; signal = g } ∷ (parts_in b w).held) s)
+      (ap (λ h. map (birth_in b) h.items) h2) r
       ∙ ap (λ (q : Parts). record q { held = record { mem = m; var = v; signal = f } ∷ q.held }) kept
 
   pub fails_parts : (n : Net) (f : Signal) → signal b n ≡ f → parts_in b (record w { fails = n }) ≡ record (parts_in a w) { fails = f }
@@ -88,13 +106,15 @@ module _ (a b : Circuit) (e : Keeps a b) (w : WalkNets) (t : IsThereWalk a w) wh
 
 -- in the same circuit, with one more of each kind
 module _ (b : Circuit) (w : WalkNets) where
-  pub reserve_parts : (n : ReserveNet) → parts_in b (record w { reserves = w.reserves ++ n ∷ [] }) ≡ record (parts_in b w) { reserves = (parts_in b w).reserves ++ reservation_in b n ∷ [] }
+  pub reserve_parts : (n : ReserveNet)
+      → parts_in b (record w { reserves = w.reserves ++ n ∷ [] }) ≡ record (parts_in b w) { reserves = (parts_in b w).reserves ++ reservation_in b n ∷ [] }
   reserve_parts n = ap (λ l. record (parts_in b w) { reserves = l }) (map-append (reservation_in b) w.reserves (n ∷ []))
 
   pub put_parts : (n : PutNet) → parts_in b (record w { puts = w.puts ++ n ∷ [] }) ≡ record (parts_in b w) { puts = (parts_in b w).puts ++ put_in b n ∷ [] }
   put_parts n = ap (λ l. record (parts_in b w) { puts = l }) (map-append (put_in b) w.puts (n ∷ []))
 
-  pub letting_parts : (n : LettingNet) → parts_in b (record w { lettings = w.lettings ++ n ∷ [] }) ≡ record (parts_in b w) { lettings = (parts_in b w).lettings ++ letting_in b n ∷ [] }
+  pub letting_parts : (n : LettingNet)
+      → parts_in b (record w { lettings = w.lettings ++ n ∷ [] }) ≡ record (parts_in b w) { lettings = (parts_in b w).lettings ++ letting_in b n ∷ [] }
   letting_parts n = ap (λ l. record (parts_in b w) { lettings = l }) (map-append (letting_in b) w.lettings (n ∷ []))
 
   pub ask_parts : (n : AskNet) → parts_in b (record w { asks = w.asks ++ n ∷ [] }) ≡ record (parts_in b w) { asks = (parts_in b w).asks ++ ask_in b n ∷ [] }
@@ -103,7 +123,8 @@ module _ (b : Circuit) (w : WalkNets) where
   pub birth_parts : (new : WalkNets) (n : BirthNet) → new.births.items ≡ n ∷ w.births.items → new.vars ≡ w.vars → new.held ≡ w.held → SameRest w new
       → parts_in b new ≡ record (parts_in b w) { births = birth_in b n ∷ (parts_in b w).births }
   birth_parts new n h h1 h2 r =
-      same_rest b w new (parts_in b w).vars (parts_in b w).held (birth_in b n ∷ (parts_in b w).births) (ap (λ h. signals_in b h.items) h1) (ap (λ h. map (held_in b) h.items) h2) (ap (map (birth_in b)) h) r
+      same_rest b w new (parts_in b w).vars (parts_in b w).held (birth_in b n ∷ (parts_in b w).births)
+      (ap (λ h. signals_in b h.items) h1) (ap (λ h. map (held_in b) h.items) h2) (ap (map (birth_in b)) h) r
 
 -- ---- widths after a change
 
@@ -124,10 +145,36 @@ module _ (p : Pipe) (ws : List ℕ) (w : Parts) (s : IsSized p ws w) where
   }
 
   pub sized_ready : (on f : Signal) → f.width ≡ 1 → IsSized p ws (record w { ready = both w.ready (if_on on f) })
-  sized_ready on f e = record { vars = s.vars; held = s.held; ready = e; reserves = s.reserves; puts = s.puts; lettings = s.lettings; births = s.births; asks = s.asks; guess = s.guess; fails = s.fails; barrier = s.barrier }
+  sized_ready on f e =
+      record {
+        vars = s.vars;
+        held = s.held;
+        ready = e;
+        reserves = s.reserves;
+        puts = s.puts;
+        lettings = s.lettings;
+        births = s.births;
+        asks = s.asks;
+        guess = s.guess;
+        fails = s.fails;
+        barrier = s.barrier;
+      }
 
   pub sized_held : (m a : ℕ) (on bit : Signal) → bit.width ≡ 1 → IsSized p ws (with_held m a on bit w)
-  sized_held m a on bit e = record { vars = s.vars; held = (e, s.held); ready = s.ready; reserves = s.reserves; puts = s.puts; lettings = s.lettings; births = s.births; asks = s.asks; guess = s.guess; fails = s.fails; barrier = s.barrier }
+  sized_held m a on bit e =
+      record {
+        vars = s.vars;
+        held = (e, s.held);
+        ready = s.ready;
+        reserves = s.reserves;
+        puts = s.puts;
+        lettings = s.lettings;
+        births = s.births;
+        asks = s.asks;
+        guess = s.guess;
+        fails = s.fails;
+        barrier = s.barrier;
+      }
 
   pub sized_put : (m : ℕ) (on f : Signal) → m < length p.mems → on.width ≡ 1 → f.width ≡ (mem_at p m).width → IsSized p ws (with_put m on f w)
   sized_put m on f l o e = record {
@@ -144,7 +191,8 @@ module _ (p : Pipe) (ws : List ℕ) (w : Parts) (s : IsSized p ws w) where
     puts = each_push (IsSizedPut p) w.puts (record { mem = m; on = on; value = f }) s.puts (l, o, e);
   }
 
-  pub sized_reserve : (m : ℕ) (on f : Signal) → m < length p.mems → on.width ≡ 1 → 2 ^ f.width ≡ (mem_at p m).depth → IsSized p ws (record w { reserves = w.reserves ++ record { mem = m; on = on; addr = f } ∷ [] })
+  pub sized_reserve : (m : ℕ) (on f : Signal) → m < length p.mems → on.width ≡ 1 → 2 ^ f.width ≡ (mem_at p m).depth
+      → IsSized p ws (record w { reserves = w.reserves ++ record { mem = m; on = on; addr = f } ∷ [] })
   sized_reserve m on f l o e = record {
     vars = s.vars;
     held = s.held;
@@ -174,7 +222,8 @@ module _ (p : Pipe) (ws : List ℕ) (w : Parts) (s : IsSized p ws w) where
     lettings = each_push (λ (x : Letting). x.on.width ≡ 1) w.lettings (record { mem = m; on = on }) s.lettings o;
   }
 
-  pub sized_ask : (m x : ℕ) (on f : Signal) → m < length p.mems → on.width ≡ 1 → 2 ^ f.width ≡ (mem_at p m).depth → IsSized p ws (record w { asks = w.asks ++ record { mem = m; var = x; on = on; addr = f } ∷ [] })
+  pub sized_ask : (m x : ℕ) (on f : Signal) → m < length p.mems → on.width ≡ 1 → 2 ^ f.width ≡ (mem_at p m).depth
+      → IsSized p ws (record w { asks = w.asks ++ record { mem = m; var = x; on = on; addr = f } ∷ [] })
   sized_ask m x on f l o e = record {
     vars = s.vars;
     held = s.held;
@@ -190,13 +239,65 @@ module _ (p : Pipe) (ws : List ℕ) (w : Parts) (s : IsSized p ws w) where
   }
 
   pub sized_fails : (f : Signal) → f.width ≡ 1 → IsSized p ws (record w { fails = f })
-  sized_fails f e = record { vars = s.vars; held = s.held; ready = s.ready; reserves = s.reserves; puts = s.puts; lettings = s.lettings; births = s.births; asks = s.asks; guess = s.guess; fails = e; barrier = s.barrier }
+  sized_fails f e =
+      record {
+        vars = s.vars;
+        held = s.held;
+        ready = s.ready;
+        reserves = s.reserves;
+        puts = s.puts;
+        lettings = s.lettings;
+        births = s.births;
+        asks = s.asks;
+        guess = s.guess;
+        fails = e;
+        barrier = s.barrier;
+      }
 
   pub sized_barrier : (f : Signal) → f.width ≡ 1 → IsSized p ws (record w { barrier = f })
-  sized_barrier f e = record { vars = s.vars; held = s.held; ready = s.ready; reserves = s.reserves; puts = s.puts; lettings = s.lettings; births = s.births; asks = s.asks; guess = s.guess; fails = s.fails; barrier = e }
+  sized_barrier f e =
+      record {
+        vars = s.vars;
+        held = s.held;
+        ready = s.ready;
+        reserves = s.reserves;
+        puts = s.puts;
+        lettings = s.lettings;
+        births = s.births;
+        asks = s.asks;
+        guess = s.guess;
+        fails = s.fails;
+        barrier = e;
+      }
 
   pub sized_guess : (fs : List Signal) → widths_of fs ≡ take (length p.start) ws → IsSized p ws (record w { guess = fs })
-  sized_guess fs e = record { vars = s.vars; held = s.held; ready = s.ready; reserves = s.reserves; puts = s.puts; lettings = s.lettings; births = s.births; asks = s.asks; guess = e; fails = s.fails; barrier = s.barrier }
+  sized_guess fs e =
+      record {
+        vars = s.vars;
+        held = s.held;
+        ready = s.ready;
+        reserves = s.reserves;
+        puts = s.puts;
+        lettings = s.lettings;
+        births = s.births;
+        asks = s.asks;
+        guess = e;
+        fails = s.fails;
+        barrier = s.barrier;
+      }
 
   pub sized_call : (on : Signal) (args : List Signal) → on.width ≡ 1 → widths_of args ≡ take (length p.start) ws → IsSized p ws (with_call on args w)
-  sized_call on args o k = record { vars = s.vars; held = s.held; ready = s.ready; reserves = s.reserves; puts = s.puts; lettings = s.lettings; births = ((o, k), s.births); asks = s.asks; guess = s.guess; fails = s.fails; barrier = s.barrier }
+  sized_call on args o k =
+      record {
+        vars = s.vars;
+        held = s.held;
+        ready = s.ready;
+        reserves = s.reserves;
+        puts = s.puts;
+        lettings = s.lettings;
+        births = ((o, k), s.births);
+        asks = s.asks;
+        guess = s.guess;
+        fails = s.fails;
+        barrier = s.barrier;
+      }

@@ -55,7 +55,8 @@ with_guess on args w = record (with_call on args w) { guess = choices on args w.
 
 -- a call with these arguments where they aren't those of the guess
 abbrev pub with_verify : Signal → List Signal → Parts → Parts
-with_verify on args w = record (with_call (both on (differ_signal args w.guess)) args w) { fails = mux_signal (both on (differ_signal args w.guess)) one w.fails }
+with_verify on args w =
+    record (with_call (both on (differ_signal args w.guess)) args w) { fails = mux_signal (both on (differ_signal args w.guess)) one w.fails }
 
 -- the thread waits for the barrier
 abbrev pub with_barrier : Signal → Parts → Parts

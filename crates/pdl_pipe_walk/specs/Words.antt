@@ -27,7 +27,8 @@ pub record IsWordSignal (p : Pipe) (ls : Locks) (m : ℕ) (addr ticket f : Signa
 
 -- whether a location is ready: for writing where it is held, else for reading
 abbrev pub IsLooked : Locks → ℕ → Signal → Signal → Signal → Signal → Type 0
-IsLooked ls m held addr ticket f = (s : State) → ThroughLock ls m ticket s (λ x t. f.value s ≡ bit (look_ready (ls.kind m) (look_of (is_on held s)) x t (addr.value s)))
+IsLooked ls m held addr ticket f =
+    (s : State) → ThroughLock ls m ticket s (λ x t. f.value s ≡ bit (look_ready (ls.kind m) (look_of (is_on held s)) x t (addr.value s)))
 
 -- a read: where its condition is 1 a variable becomes the word
 pub record IsRead (p : Pipe) (ls : Locks) (tickets : ℕ → Signal) (on : Signal) (x m a : ℕ) (w w' : Parts) : Type 0 where

@@ -11,7 +11,9 @@ asker_some : (on : ℕ → Bool) (n j : ℕ) → asker on n ≡ Some j → (j < 
 asker_some on zero j e = absurd (cc e)
 asker_some on (suc n) j e = more (asker on n) (on n) refl refl e (λ q. asker_some on n j q)
   where
-    more : (o : Option ℕ) (t : Bool) → asker on n ≡ o → on n ≡ t → (if is_some o then o else (if t then Some n else None)) ≡ Some j → (asker on n ≡ Some j → (j < n) × (on j ≡ true)) → (j < suc n) × (on j ≡ true)
+    more : (o : Option ℕ) (t : Bool) → asker on n ≡ o → on n ≡ t
+        → (if is_some o then o else (if t then Some n else None)) ≡ Some j
+        → (asker on n ≡ Some j → (j < n) × (on j ≡ true)) → (j < suc n) × (on j ≡ true)
     more (Some i) t p q h rest = let r = rest (p ∙ h) in (omega (arith, r.0), r.1)
     more None true p q h rest = let i : n ≡ j = cc h in let P : ℕ → Type 0 = λ k. on k ≡ true in (omega arith, subst P i q)
     more None false p q h rest = absurd (cc h)
@@ -21,10 +23,13 @@ pub asker_none : (on : ℕ → Bool) (n : ℕ) → asker on n ≡ None → (k : 
 asker_none on zero e k h = absurd (omega arith)
 asker_none on (suc n) e k h = more (asker on n) (on n) refl refl e (λ q l. asker_none on n q k l)
   where
-    more : (o : Option ℕ) (t : Bool) → asker on n ≡ o → on n ≡ t → (if is_some o then o else (if t then Some n else None)) ≡ None → (asker on n ≡ None → k < n → on k ≡ false) → on k ≡ false
+    more : (o : Option ℕ) (t : Bool) → asker on n ≡ o → on n ≡ t
+        → (if is_some o then o else (if t then Some n else None)) ≡ None → (asker on n ≡ None → k < n → on k ≡ false)
+        → on k ≡ false
     more (Some i) t p q r rest = absurd (cc r)
     more None true p q r rest = absurd (cc r)
-    more None false p q r rest = ⊎_elim (λ (l : k < n). rest p l) (λ (g : n ≤ k). let i : n ≡ k = omega arith in let P : ℕ → Type 0 = λ m. on m ≡ false in subst P i q) (cases_lt k n)
+    more None false p q r rest =
+        ⊎_elim (λ (l : k < n). rest p l) (λ (g : n ≤ k). let i : n ≡ k = omega arith in let P : ℕ → Type 0 = λ m. on m ≡ false in subst P i q) (cases_lt k n)
 
 -- the owner of a place
 owned_is : (q : PortState) (k : ℕ) → owns q k ≡ true → q ≡ Owned k
@@ -99,7 +104,8 @@ owns_after a q n k h one free = by_asker (asker a.asked n) refl
         let apart : j ≡ k → ⊥ = λ (i : j ≡ k). let P : ℕ → Type 0 = λ m. a.asked m ≡ true in let t : a.asked k ≡ true = subst P i e in absurd (cc (p, t)) in
         still_none (a.removed k) a.reply (owns q k) (freed q a.reply a.moves k (free j l e)) ∙ sym (ne_eqb j k apart)
 
-    by_asker : (o : Option ℕ) → asker a.asked n ≡ o → (if a.asked k then true else still (a.removed k) a.reply (owns q k)) ≡ owns (asked_request o (left_request a q)) k
+    by_asker : (o : Option ℕ) → asker a.asked n ≡ o
+        → (if a.asked k then true else still (a.removed k) a.reply (owns q k)) ≡ owns (asked_request o (left_request a q)) k
     by_asker None p = ap (λ t. if t then true else still (a.removed k) a.reply (owns q k)) (asker_none a.asked n p k h) ∙ left_owns a q k
     by_asker (Some j) p = let r = asker_some a.asked n j p in by_asked j r.0 r.1 (a.asked k) refl
 
@@ -117,13 +123,16 @@ answered_none t o e = ap (λ u. if u then false else o) e
 
 lost_answered : (a : PortAct) (q : PortState) (n : ℕ) → a.reply ≡ true → lost a q n ≡ false
 lost_answered a q zero e = answered_none a.reply (is_orphan q) e
-lost_answered a q (suc n) e = no_more (a.removed n) (if a.reply then false else owns q n) (lost a q n) (answered_none a.reply (owns q n) e) ∙ lost_answered a q n e
+lost_answered a q (suc n) e =
+    no_more (a.removed n) (if a.reply then false else owns q n) (lost a q n) (answered_none a.reply (owns q n) e) ∙ lost_answered a q n e
 
 -- no place below n owns the request
 lost_unowned : (a : PortAct) (q : PortState) (n : ℕ)
     → ((k : ℕ) → k < n → owns q k ≡ false) → lost a q n ≡ (if a.reply then false else is_orphan q)
 lost_unowned a q zero h = refl
-lost_unowned a q (suc n) h = no_more (a.removed n) (if a.reply then false else owns q n) (lost a q n) (if_false a.reply (owns q n) (h n (omega arith))) ∙ lost_unowned a q n (λ k l. h k (omega arith))
+lost_unowned a q (suc n) h =
+    no_more (a.removed n) (if a.reply then false else owns q n) (lost a q n) (if_false a.reply (owns q n) (h n (omega arith)))
+    ∙ lost_unowned a q n (λ k l. h k (omega arith))
 
 last_lost : (s r o x : Bool)
     → o ≡ true → x ≡ (if r then false else false)
@@ -136,9 +145,13 @@ last_lost false false o x e i = i
 lost_owned : (a : PortAct) (j n : ℕ) → j < n → lost a (Owned j) n ≡ (if a.reply then false else a.removed j)
 lost_owned a j zero h = absurd (omega arith)
 lost_owned a j (suc n) h = ⊎_elim
-    (λ (l : j < n). no_more (a.removed n) (if a.reply then false else (j == n)) (lost a (Owned j) n) (if_false a.reply (j == n) (ne_eqb j n (λ (i : j ≡ n). absurd (omega arith)))) ∙ lost_owned a j n l)
+    (λ (l : j < n). no_more (a.removed n) (if a.reply then false else (j == n)) (lost a (Owned j) n)
+    (if_false a.reply (j == n) (ne_eqb j n (λ (i : j ≡ n). absurd (omega arith))))
+    ∙ lost_owned a j n l)
     (λ (g : n ≤ j). let i : n ≡ j = omega arith in
-    last_lost (a.removed n) a.reply (j == n) (lost a (Owned j) n) (eq-eqb j n (sym i)) (lost_unowned a (Owned j) n (λ k l. ne_eqb j k (λ (o : j ≡ k). absurd (omega arith)))) ∙ ap (λ m. if a.reply then false else a.removed m) i)
+    last_lost (a.removed n) a.reply (j == n) (lost a (Owned j) n) (eq-eqb j n (sym i))
+    (lost_unowned a (Owned j) n (λ k l. ne_eqb j k (λ (o : j ≡ k). absurd (omega arith))))
+    ∙ ap (λ m. if a.reply then false else a.removed m) i)
     (cases_lt j n)
 
 -- where the port is free no orphan stays

@@ -56,8 +56,12 @@ start_law c l r = record {
 pub answer_law : (l : PortLayout) (reply word : Signal) (f : ℕ → AnswerSignals)
     → ((k : ℕ) → k < l.places → f k ≡ place_signals l reply word k) → AnswerLaw (Stands l) l.places reply word f
 answer_law l reply word f same = record {
-  answered = λ s x r w h p k i. ap (λ (g : AnswerSignals). g.answered.value s) (same k i) ∙ choose (owns_signal l k) reply (const_signal 1 1) s (owns x k) r true (owner_at l s x k h i) p.reply (one_at s);
-  given = λ s x r w h p k i. ap (λ (g : AnswerSignals). g.given.value s) (same k i) ∙ choose (owns_signal l k) reply (const_signal 1 0) s (owns x k) r false (owner_at l s x k h i) p.reply (zero_at s);
+  answered =
+      λ s x r w h p k i. ap (λ (g : AnswerSignals). g.answered.value s) (same k i)
+      ∙ choose (owns_signal l k) reply (const_signal 1 1) s (owns x k) r true (owner_at l s x k h i) p.reply (one_at s);
+  given =
+      λ s x r w h p k i. ap (λ (g : AnswerSignals). g.given.value s) (same k i)
+      ∙ choose (owns_signal l k) reply (const_signal 1 0) s (owns x k) r false (owner_at l s x k h i) p.reply (zero_at s);
   value = λ s x r w h p k i e. ap (λ (g : AnswerSignals). g.value.value s) (same k i) ∙ p.word (comes (owns x k) r e);
 }
   where
@@ -85,7 +89,9 @@ free_value l reply moves s x r on h e m (suc k) i =
 pub free_law : (l : PortLayout) (reply : Signal) (moves : ℕ → Signal) (free : Signal)
     → free ≡ free_signal l reply moves l.places → FreeLaw (Stands l) l.places reply moves free
 free_law l reply moves free same = record {
-  holds = λ s x r on h p m. ap (λ (g : Signal). g.value s) same ∙ free_value l reply moves s x r on h p m l.places (omega arith) ∙ ap bit (frees_is x r on l.places h.below);
+  holds =
+      λ s x r on h p m. ap (λ (g : Signal). g.value s) same
+      ∙ free_value l reply moves s x r on h p m l.places (omega arith) ∙ ap bit (frees_is x r on l.places h.below);
 }
 
 -- what the registers take next
@@ -97,18 +103,26 @@ owns_value : (l : PortLayout) (f : StepSignals) (s : State) (x : PortState) (a :
     → Drives l.places f s a → k < l.places
     → (next_owns l f k).value s ≡ bit (if a.asked k then true else still (a.removed k) a.reply (owns x k))
 owns_value l f s x a k h d i =
-    choose (f.asked k) (const_signal 1 1) (mux_signal (f.removed k) (const_signal 1 0) (open_signal l f k)) s (a.asked k) true (still (a.removed k) a.reply (owns x k)) (d.asked k i) (one_at s)
-    (choose (f.removed k) (const_signal 1 0) (open_signal l f k) s (a.removed k) false (if a.reply then false else owns x k) (d.removed k i) (zero_at s) (open_value l f s x a k h d i))
+    choose (f.asked k) (const_signal 1 1)
+    (mux_signal (f.removed k) (const_signal 1 0) (open_signal l f k)) s (a.asked k) true (still (a.removed k) a.reply (owns x k))
+    (d.asked k i) (one_at s)
+    (choose (f.removed k) (const_signal 1 0)
+    (open_signal l f k) s (a.removed k) false (if a.reply then false else owns x k) (d.removed k i) (zero_at s)
+    (open_value l f s x a k h d i))
 
 orphan_value : (l : PortLayout) (f : StepSignals) (s : State) (x : PortState) (a : PortAct) → Stands l s x
     → Drives l.places f s a → (n : ℕ) → n ≤ l.places → (orphan_signal l f n).value s ≡ bit (lost a x n)
 unfolding orphan_signal
-orphan_value l f s x a h d zero i = choose f.reply (const_signal 1 0) (reg_signal 1 l.from) s a.reply false (is_orphan x) d.reply (zero_at s) (orphan_at l s x h)
+orphan_value l f s x a h d zero i =
+    choose f.reply (const_signal 1 0) (reg_signal 1 l.from) s a.reply false (is_orphan x) d.reply (zero_at s) (orphan_at l s x h)
 orphan_value l f s x a h d (suc k) i =
     let before = orphan_value l f s x a h d k (omega arith) in
     let left = if (if a.reply then false else owns x k) then true else lost a x k in
-    choose (f.removed k) (mux_signal (open_signal l f k) (const_signal 1 1) (orphan_signal l f k)) (orphan_signal l f k) s (a.removed k) left (lost a x k) (d.removed k (omega arith))
-    (choose (open_signal l f k) (const_signal 1 1) (orphan_signal l f k) s (if a.reply then false else owns x k) true (lost a x k) (open_value l f s x a k h d (omega arith)) (one_at s) before)
+    choose (f.removed k) (mux_signal (open_signal l f k) (const_signal 1 1) (orphan_signal l f k))
+    (orphan_signal l f k) s (a.removed k) left (lost a x k) (d.removed k (omega arith))
+    (choose (open_signal l f k) (const_signal 1 1)
+    (orphan_signal l f k) s (if a.reply then false else owns x k) true (lost a x k)
+    (open_value l f s x a k h d (omega arith)) (one_at s) before)
     before
 
 -- the register of a fragment after a cycle
@@ -121,7 +135,11 @@ pub step_law : (c : Circuit) (l : PortLayout) (f : StepSignals) → NextPort c l
 step_law c l f p = record {
   next = λ s t x a h d u n. record {
     below = λ k e. below_after a x l.places k h.below e;
-    orphan = next_at c l s t l.from (orphan_signal l f l.places) n (omega arith) (omega arith) p.orphan ∙ orphan_value l f s x a h d l.places (omega arith) ∙ ap bit (orphan_after a x l.places h.below u.free);
-    owner = λ k i. next_at c l s t (owns_at l k) (next_owns l f k) n (omega arith) (omega arith) (p.places.owns k i) ∙ owns_value l f s x a k h d i ∙ ap bit (owns_after a x l.places k i u.one u.free);
+    orphan =
+        next_at c l s t l.from (orphan_signal l f l.places) n (omega arith) (omega arith) p.orphan
+        ∙ orphan_value l f s x a h d l.places (omega arith) ∙ ap bit (orphan_after a x l.places h.below u.free);
+    owner =
+        λ k i. next_at c l s t (owns_at l k) (next_owns l f k) n (omega arith) (omega arith) (p.places.owns k i)
+        ∙ owns_value l f s x a k h d i ∙ ap bit (owns_after a x l.places k i u.one u.free);
   };
 }

@@ -21,7 +21,9 @@ use Rattle.pdl_word.proofs.Numbers.{upto}
 pub numbers_more : (xs : List ℕ) (from n : ℕ)
     → length xs ≡ n → ((k : ℕ) → k < n → get_or xs k 0 ≡ from + k) → (k : ℕ) → k < n + 1
     → get_or (xs ++ (from + n) ∷ []) k 0 ≡ from + k
-numbers_more xs from n e h = upto (λ k. get_or (xs ++ (from + n) ∷ []) k 0 ≡ from + k) n (get_or_push xs (from + n) 0 n e) (λ k lt. get_or_append_left xs ((from + n) ∷ []) 0 k (omega (arith, e, lt)) ∙ h k lt)
+numbers_more xs from n e h =
+    upto (λ k. get_or (xs ++ (from + n) ∷ []) k 0 ≡ from + k) n (get_or_push xs (from + n) 0 n e)
+    (λ k lt. get_or_append_left xs ((from + n) ∷ []) 0 k (omega (arith, e, lt)) ∙ h k lt)
 
 -- a new register of an orphan is there for a port that has no place as yet
 pub places_none : (c : Circuit) (l : PortLayout) → IsNewReg c l.from 1 0 → HasPlaces c l 0
@@ -81,13 +83,20 @@ pub answers_more : (a b : Circuit) (l : PortLayout) (reply word : Signal) (xs : 
     → Means b x.given (given_signal l reply n) → Means b x.value word → AreAnswers b l reply word (xs ++ x ∷ []) (n + 1)
 answers_more a b l reply word xs x n h e p q r =
     let here : answer_in (xs ++ x ∷ []) n ≡ x = get_or_push xs x no_answer n h.count in
-    let before : (k : ℕ) → k < n → answer_in (xs ++ x ∷ []) k ≡ answer_in xs k = λ k lt. get_or_append_left xs (x ∷ []) no_answer k (omega (arith, h.count, lt)) in
+    let before : (k : ℕ) → k < n → answer_in (xs ++ x ∷ []) k ≡ answer_in xs k =
+    λ k lt. get_or_append_left xs (x ∷ []) no_answer k (omega (arith, h.count, lt)) in
     let P : ℕ → Answer → Type 0 = λ k y. Means b y.answered (answered_signal l reply k) in
     let Q : ℕ → Answer → Type 0 = λ k y. Means b y.given (given_signal l reply k) in
     let R : ℕ → Answer → Type 0 = λ k y. Means b y.value word in
     record {
       count = length-append xs (x ∷ []) ∙ omega (arith, h.count);
-      answered = upto (λ k. P k (answer_in (xs ++ x ∷ []) k)) n (subst (P n) (sym here) p) (λ k lt. subst (P k) (sym (before k lt)) (means_kept a b _ _ e (h.answered k lt)));
-      given = upto (λ k. Q k (answer_in (xs ++ x ∷ []) k)) n (subst (Q n) (sym here) q) (λ k lt. subst (Q k) (sym (before k lt)) (means_kept a b _ _ e (h.given k lt)));
-      value = upto (λ k. R k (answer_in (xs ++ x ∷ []) k)) n (subst (R n) (sym here) r) (λ k lt. subst (R k) (sym (before k lt)) (means_kept a b _ _ e (h.value k lt)));
+      answered =
+          upto (λ k. P k (answer_in (xs ++ x ∷ []) k)) n (subst (P n) (sym here) p)
+          (λ k lt. subst (P k) (sym (before k lt)) (means_kept a b _ _ e (h.answered k lt)));
+      given =
+          upto (λ k. Q k (answer_in (xs ++ x ∷ []) k)) n (subst (Q n) (sym here) q)
+          (λ k lt. subst (Q k) (sym (before k lt)) (means_kept a b _ _ e (h.given k lt)));
+      value =
+          upto (λ k. R k (answer_in (xs ++ x ∷ []) k)) n (subst (R n) (sym here) r)
+          (λ k lt. subst (R k) (sym (before k lt)) (means_kept a b _ _ e (h.value k lt)));
     }

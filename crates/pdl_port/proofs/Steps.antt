@@ -72,7 +72,9 @@ pub places_next : (a b c : Circuit) (l : PortLayout) (n : ℕ) (f : StepSignals)
     → k < n → HasPlaces a l n → NextPlaces a l f k → Extends a b → ExtendsBut (one_reg (owns_at l k)) b c
     → next_signal c (owns_at l k) ≡ next_owns l f k → NextPlaces c l f (k + 1)
 places_next a b c l n f k h x y e o p = record {
-  owns = upto (λ j. next_signal c (owns_at l j) ≡ next_owns l f j) k p (λ j lt. let g = x.has_owns j (omega arith) in o.nexts (owns_at l j) (e.has_reg _ g) (inl (omega arith)) ∙ e.nexts (owns_at l j) g ∙ y.owns j lt);
+  owns =
+      upto (λ j. next_signal c (owns_at l j) ≡ next_owns l f j) k p
+      (λ j lt. let g = x.has_owns j (omega arith) in o.nexts (owns_at l j) (e.has_reg _ g) (inl (omega arith)) ∙ e.nexts (owns_at l j) g ∙ y.owns j lt);
 }
 
 -- no place, so nothing to take
@@ -98,7 +100,10 @@ orphan_net a b m n d l r p k one nought orphan open_net left removed next h g i 
     let orphan_m = y.kept orphan w.there ∙ w.same in
     let made = q.same in
     let orphan_n = z.kept orphan (y.there orphan w.there) ∙ orphan_m in
-    let gone = z.kept (net_at p.removed k) (y.there _ (x.there _ (g.removed_there k i))) ∙ y.kept (net_at p.removed k) (x.there _ (g.removed_there k i)) ∙ x.kept (net_at p.removed k) (g.removed_there k i) in
+    let gone =
+    z.kept (net_at p.removed k) (y.there _ (x.there _ (g.removed_there k i)))
+    ∙ y.kept (net_at p.removed k) (x.there _ (g.removed_there k i))
+    ∙ x.kept (net_at p.removed k) (g.removed_there k i) in
     let named = ap (signal n) e in
     let more = orphan_more l (step_signals a r p) k in
     let last = t.same in

@@ -78,9 +78,12 @@ answer_signals c r k = record { answered = signal c (answer_at r k).answered; gi
 
 -- the nets of a place say whether its thread waits for no answer, whether the answer that comes now is for it, and that answer
 pub record AnswerLaw (stands : State → PortState → Type 0) (n : ℕ) (reply word : Signal) (f : ℕ → AnswerSignals) : Type 0 where
-  pub answered : (s : State) (x : PortState) (r : Bool) (w : ℕ) → stands s x → Replies reply word s r w → (k : ℕ) → k < n → (f k).answered.value s ≡ bit (is_answered x r k)
-  pub given : (s : State) (x : PortState) (r : Bool) (w : ℕ) → stands s x → Replies reply word s r w → (k : ℕ) → k < n → (f k).given.value s ≡ bit (is_given x r k)
-  pub value : (s : State) (x : PortState) (r : Bool) (w : ℕ) → stands s x → Replies reply word s r w → (k : ℕ) → k < n → is_given x r k ≡ true → (f k).value.value s ≡ w
+  pub answered : (s : State) (x : PortState) (r : Bool) (w : ℕ) → stands s x → Replies reply word s r w → (k : ℕ)
+      → k < n → (f k).answered.value s ≡ bit (is_answered x r k)
+  pub given : (s : State) (x : PortState) (r : Bool) (w : ℕ) → stands s x → Replies reply word s r w → (k : ℕ) → k < n
+      → (f k).given.value s ≡ bit (is_given x r k)
+  pub value : (s : State) (x : PortState) (r : Bool) (w : ℕ) → stands s x → Replies reply word s r w → (k : ℕ) → k < n
+      → is_given x r k ≡ true → (f k).value.value s ≡ w
 
 -- the k-th of some nets, and its signal
 abbrev pub net_at : List Net → ℕ → Net
@@ -102,7 +105,8 @@ AreBits n s f on = (k : ℕ) → k < n → (f k).value s ≡ bit (on k)
 
 -- the net of a port says whether it is free
 pub record FreeLaw (stands : State → PortState → Type 0) (n : ℕ) (reply : Signal) (moves : ℕ → Signal) (free : Signal) : Type 0 where
-  pub holds : (s : State) (x : PortState) (r : Bool) (on : ℕ → Bool) → stands s x → reply.value s ≡ bit r → AreBits n s moves on → free.value s ≡ bit (is_free x r on)
+  pub holds : (s : State) (x : PortState) (r : Bool) (on : ℕ → Bool) → stands s x → reply.value s ≡ bit r
+      → AreBits n s moves on → free.value s ≡ bit (is_free x r on)
 
 -- what the nets of a step mean
 pub record StepSignals : Type 0 where

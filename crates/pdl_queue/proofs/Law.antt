@@ -32,7 +32,10 @@ pub late_law : (c : Circuit) (l : RingLayout) (u : Kind) (a t : Signal) (v : Opt
     → t.width ≡ l.ticket → GivesWord c l a v
     → LateLookLaw (Stands l) Queue l.size l.ticket u a t (ready_signal l a t) (option_map (signal c) v)
 late_law c l u a t v z w g = record {
-  answers = λ two s x h e. free_looked l (content_signal l) s x a t (length x.entries) z h.entries (seeks_late l (content_signal l) s x t z h.entries w two e) ∙ ap (λ zs. bit (is_free zs (a.value s))) (all_older x);
+  answers =
+      λ two s x h e. free_looked l (content_signal l) s x a t (length x.entries) z h.entries (seeks_late l (content_signal l) s x t z h.entries w two e)
+      ∙ ap (λ zs. bit (is_free zs (a.value s))) (all_older x);
   gives = λ two f i s x h e fit ready.
-      word_given c l a v f s x.words g i h.words ∙ sym (ap or_zero (free_youngest (older x (next_ticket x + 1)) (a.value s) (Some (slice_index x.words (a.value s))) ready));
+      word_given c l a v f s x.words g i h.words
+      ∙ sym (ap or_zero (free_youngest (older x (next_ticket x + 1)) (a.value s) (Some (slice_index x.words (a.value s))) ready));
 }

@@ -22,7 +22,9 @@ asked_below s d [] h = tt
 asked_below s d (f ∷ fs) h =
     let rest = asked_below s d fs (λ k l e. h (suc k) (omega arith) e) in
     ⊎_elim
-    (λ (e : f.enable.value s ≡ 1). subst (AllBelow d) (sym (if_one (f.enable.value s) (f.addr.value s ∷ asked_addresses s fs) (asked_addresses s fs) e)) (h 0 (omega arith) e, rest))
+    (λ (e : f.enable.value s ≡ 1). subst (AllBelow d)
+    (sym (if_one (f.enable.value s) (f.addr.value s ∷ asked_addresses s fs) (asked_addresses s fs) e))
+    (h 0 (omega arith) e, rest))
     (λ (e : f.enable.value s ≢ 1). subst (AllBelow d) (sym (if_other (f.enable.value s) (f.addr.value s ∷ asked_addresses s fs) (asked_addresses s fs) e)) rest)
     (cases_eq (f.enable.value s) 1)
 
@@ -35,13 +37,15 @@ push_below d a xs h b k l =
     let len = length-append xs (fresh a ∷ []) in
     ⊎_elim
     (λ (i : k < length xs). let q = ap (λ (e : Entry). e.addr) (get_or_append_left xs (fresh a ∷ []) no_entry k i) in omega (arith, q, b k i))
-    (λ (i : length xs ≤ k). let e : length xs ≡ k = omega (arith, len) in let q = ap (λ (e : Entry). e.addr) (get_or_push xs (fresh a) no_entry k e) in omega (arith, q))
+    (λ (i : length xs ≤ k). let e : length xs ≡ k = omega (arith, len) in
+    let q = ap (λ (e : Entry). e.addr) (get_or_push xs (fresh a) no_entry k e) in omega (arith, q))
     (cases_lt k (length xs))
 
 appended_below : (d : ℕ) (ys : List ℕ) (xs : List Entry) → length ys ≤ 2 → AllBelow d ys → AreBelow d xs → AreBelow d (with_reserves ys xs)
 appended_below d [] xs two h b = subst (AreBelow d) (sym (append-nil xs)) b
 appended_below d (y ∷ []) xs two h b = push_below d y xs h.0 b
-appended_below d (y ∷ z ∷ []) xs two h b = subst (AreBelow d) (append_assoc xs (fresh y ∷ []) (fresh z ∷ [])) (push_below d z (xs ++ fresh y ∷ []) h.1.0 (push_below d y xs h.0 b))
+appended_below d (y ∷ z ∷ []) xs two h b =
+    subst (AreBelow d) (append_assoc xs (fresh y ∷ []) (fresh z ∷ [])) (push_below d z (xs ++ fresh y ∷ []) h.1.0 (push_below d y xs h.0 b))
 appended_below d (y ∷ z ∷ z' ∷ ys) xs two h b = absurd (omega (arith, two))
 
 set_below : (d i v : ℕ) (xs : List Entry) → AreBelow d xs → AreBelow d (set xs i (with_entry_value (entry_at xs i) v))
@@ -61,7 +65,8 @@ set_below d i v xs b k l =
 put_below : (d base : ℕ) (w : WriteAct) (xs : List Entry) → AreBelow d xs → AreBelow d (with_write base w xs)
 put_below d base w xs b =
     let e = set_below d (w.ticket - base) w.value xs b in
-    elim w.on as (λ t. AreBelow d (if t then set xs (w.ticket - base) (with_entry_value (entry_at xs (w.ticket - base)) w.value) else xs)) [ true ↦ e | false ↦ b ]
+    elim w.on as (λ t. AreBelow d (if t then set xs (w.ticket - base) (with_entry_value (entry_at xs (w.ticket - base)) w.value) else xs))
+    [ true ↦ e | false ↦ b ]
 
 written_below : (d base : ℕ) (ws : List WriteAct) (xs : List Entry) → AreBelow d xs → AreBelow d (with_writes base ws xs)
 written_below d base [] xs b = b
@@ -95,4 +100,6 @@ pub step_below : (d : ℕ) (x : LockState) (a : LockAct) → AreBelow d (filled_
 step_below d x a b =
     let c : AreBelow d (after_release a (filled_entries x a)) = left_below d a.release a.release2 (filled_entries x a) b in
     let taken = take_below d (a.tail - next_base x a) (after_release a (filled_entries x a)) c in
-    elim a.squash as (λ t. AreBelow d (if t then take (a.tail - next_base x a) (after_release a (filled_entries x a)) else after_release a (filled_entries x a))) [ true ↦ taken | false ↦ c ]
+    elim a.squash as
+    (λ t. AreBelow d (if t then take (a.tail - next_base x a) (after_release a (filled_entries x a)) else after_release a (filled_entries x a)))
+    [ true ↦ taken | false ↦ c ]

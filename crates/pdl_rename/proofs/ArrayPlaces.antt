@@ -22,7 +22,8 @@ writes-push s (q ∷ ps) p xs = writes-push s ps p (if q.enable.value s == 1 the
 pub length-writes : (s : State) (ps : List WriteSignal) (xs : List ℕ) → length (after_writes s ps xs) ≡ length xs
 length-writes s [] xs = refl
 length-writes s (p ∷ ps) xs = length-writes s ps (if p.enable.value s == 1 then set xs (p.addr.value s) (p.value.value s) else xs) ∙ ⊎_elim
-    (λ (e : p.enable.value s ≡ 1). ap length (if_one (p.enable.value s) (set xs (p.addr.value s) (p.value.value s)) xs e) ∙ length-set xs (p.addr.value s) (p.value.value s))
+    (λ (e : p.enable.value s ≡ 1). ap length (if_one (p.enable.value s) (set xs (p.addr.value s) (p.value.value s)) xs e)
+    ∙ length-set xs (p.addr.value s) (p.value.value s))
     (λ (e : p.enable.value s ≢ 1). ap length (if_other (p.enable.value s) (set xs (p.addr.value s) (p.value.value s)) xs e))
     (cases_eq (p.enable.value s) 1)
 

@@ -28,4 +28,6 @@ pub ruleset widths = (mapped_width, placed_width, found_width)
 pub mapped_is : (l : Layout) → IsRenaming l → (a : Signal) (s : State)
     → a.value s < l.depth → (mapped_place l a).value s ≡ word_place l s (a.value s)
 unfolding reg_value
-mapped_is l z a s h = selected_value (register_of (registers_of_map l)) a s l.slots.bits 0 ∙ ap (λ n. reg_of s (map_at l n)) (let e : a.value s % 2 ^ l.slots.bits ≡ a.value s = mod-eq_of_lt (omega (arith, z.depth, h)) in omega (arith, e))
+mapped_is l z a s h =
+    selected_value (register_of (registers_of_map l)) a s l.slots.bits 0
+    ∙ ap (λ n. reg_of s (map_at l n)) (let e : a.value s % 2 ^ l.slots.bits ≡ a.value s = mod-eq_of_lt (omega (arith, z.depth, h)) in omega (arith, e))

@@ -43,7 +43,8 @@ of_each l P z head tail addr has value map r lo hi =
     (λ (g : b + 2 + n ≤ r). ⊎_elim
     (λ (h : r < b + 2 + n + n). let k = r - (b + 2 + n) in let e : has_at l.slots k ≡ r = omega (arith, g) in subst P e (has k (omega (arith, g, h))))
     (λ (g2 : b + 2 + n + n ≤ r). ⊎_elim
-    (λ (h : r < b + 2 + 2 * n + n). let k = r - (b + 2 + 2 * n) in let e : value_at l.slots k ≡ r = omega (arith, g2) in subst P e (value k (omega (arith, g2, h))))
+    (λ (h : r < b + 2 + 2 * n + n). let k = r - (b + 2 + 2 * n) in let e : value_at l.slots k ≡ r = omega (arith, g2) in
+    subst P e (value k (omega (arith, g2, h))))
     (λ (g3 : b + 2 + 2 * n + n ≤ r). let k = r - l.map in let e : map_at l k ≡ r = omega (arith, g3, z) in subst P e (map k (omega (arith, g3, hi, z))))
     (cases_lt r (b + 2 + 2 * n + n)))
     (cases_lt r (b + 2 + n + n)))
@@ -107,7 +108,8 @@ module _ (l : Layout) (f : StepSignals) (s t : State) (z : IsRenaming l) (h : Sa
 
   first_addr_same : (first_addr l.slots f).value s ≡ (first_addr l.slots f).value t
   unfolding first_addr mux_value
-  first_addr_same = cc (push2_same (length f.reserves) (omega arith), before_same (length f.reserves) (omega arith), last_same (length f.reserves) (omega arith))
+  first_addr_same =
+      cc (push2_same (length f.reserves) (omega arith), before_same (length f.reserves) (omega arith), last_same (length f.reserves) (omega arith))
 
   second_addr_same : (second_addr l.slots f).value s ≡ (second_addr l.slots f).value t
   unfolding second_addr
@@ -131,7 +133,8 @@ module _ (l : Layout) (f : StepSignals) (s t : State) (z : IsRenaming l) (h : Sa
 
   slot_addr_same : (k : ℕ) → k < l.slots.size → (slot_addr l.slots f k).value s ≡ (slot_addr l.slots f k).value t
   unfolding slot_addr mux_value reg_value
-  slot_addr_same k lt = cc (takes_second_same k, takes_first_same k, first_addr_same, second_addr_same, reg_same (addr_at l.slots k) (omega arith) (omega (arith, lt)))
+  slot_addr_same k lt =
+      cc (takes_second_same k, takes_first_same k, first_addr_same, second_addr_same, reg_same (addr_at l.slots k) (omega arith) (omega (arith, lt)))
 
   -- ---- the writes
 
@@ -160,7 +163,9 @@ module _ (l : Layout) (f : StepSignals) (s t : State) (z : IsRenaming l) (h : Sa
 
   -- ---- the exchanges
 
-  selected_same : (g : ℕ → Signal) (d : Signal) (m : ℕ) → ((k : ℕ) → k < m → (g k).value s ≡ (g k).value t) → d.value s ≡ d.value t → (b from : ℕ) → from + 2 ^ b ≤ m → (selected_signal g d b from).value s ≡ (selected_signal g d b from).value t
+  selected_same : (g : ℕ → Signal) (d : Signal) (m : ℕ) → ((k : ℕ) → k < m → (g k).value s ≡ (g k).value t)
+      → d.value s ≡ d.value t → (b from : ℕ) → from + 2 ^ b ≤ m
+      → (selected_signal g d b from).value s ≡ (selected_signal g d b from).value t
   unfolding selected_signal mux_value slice_value
   selected_same g d m u e zero from le = u from (omega (arith, le))
   selected_same g d m u e (suc b) from le =
@@ -168,19 +173,25 @@ module _ (l : Layout) (f : StepSignals) (s t : State) (z : IsRenaming l) (h : Sa
       cc (e, selected_same g d m u e b (from + 2 ^ b) (omega (arith, le, p)), selected_same g d m u e b from (omega (arith, le, p)))
 
   slot_value_same : (k : ℕ) → k < l.slots.size → (slot_value l.slots f k).value s ≡ (slot_value l.slots f k).value t
-  slot_value_same k lt = ap (λ (g : Signal). g.value s) (content_place l.slots f k z.place) ∙ content_same k lt ∙ sym (ap (λ (g : Signal). g.value t) (content_place l.slots f k z.place))
+  slot_value_same k lt =
+      ap (λ (g : Signal). g.value s) (content_place l.slots f k z.place) ∙ content_same k lt
+      ∙ sym (ap (λ (g : Signal). g.value t) (content_place l.slots f k z.place))
 
   oldest_addr_same : (oldest_addr l.slots f).value s ≡ (oldest_addr l.slots f).value t
-  oldest_addr_same = selected_same (slot_addr l.slots f) (head_signal l.slots) l.slots.size slot_addr_same head_same (l.slots.ticket - 1) 0 (omega (arith, z.sized.power))
+  oldest_addr_same =
+      selected_same (slot_addr l.slots f) (head_signal l.slots) l.slots.size slot_addr_same head_same (l.slots.ticket - 1) 0 (omega (arith, z.sized.power))
 
   next_addr_same : (next_addr l.slots f).value s ≡ (next_addr l.slots f).value t
-  next_addr_same = selected_same (slot_addr l.slots f) (next_head l.slots) l.slots.size slot_addr_same next_same (l.slots.ticket - 1) 0 (omega (arith, z.sized.power))
+  next_addr_same =
+      selected_same (slot_addr l.slots f) (next_head l.slots) l.slots.size slot_addr_same next_same (l.slots.ticket - 1) 0 (omega (arith, z.sized.power))
 
   oldest_place_same : (oldest_place l f).value s ≡ (oldest_place l f).value t
-  oldest_place_same = selected_same (slot_value l.slots f) (head_signal l.slots) l.slots.size slot_value_same head_same (l.slots.ticket - 1) 0 (omega (arith, z.sized.power))
+  oldest_place_same =
+      selected_same (slot_value l.slots f) (head_signal l.slots) l.slots.size slot_value_same head_same (l.slots.ticket - 1) 0 (omega (arith, z.sized.power))
 
   next_place_of_same : (next_place_of l f).value s ≡ (next_place_of l f).value t
-  next_place_of_same = selected_same (slot_value l.slots f) (next_head l.slots) l.slots.size slot_value_same next_same (l.slots.ticket - 1) 0 (omega (arith, z.sized.power))
+  next_place_of_same =
+      selected_same (slot_value l.slots f) (next_head l.slots) l.slots.size slot_value_same next_same (l.slots.ticket - 1) 0 (omega (arith, z.sized.power))
 
   mapped_same : (g : Signal) → g.value s ≡ g.value t → (mapped_place l g).value s ≡ (mapped_place l g).value t
   mapped_same g e = selected_same (register_of (registers_of_map l)) g l.depth map_same e l.slots.bits 0 (omega (arith, z.depth))

@@ -61,7 +61,9 @@ module _ (l : Layout) (s : State) (x : LockState) (f : StepSignals) (a : LockAct
   on_is j lt e = bit_one (act_at a.writes j).on (sym (c.cycle.drives.on j lt) ∙ e)
 
   off_is : (j : ℕ) → j < length a.writes → (ticket_at f.writes j).enable.value s ≢ 1 → (act_at a.writes j).on ≡ false
-  off_is j lt e = ⊎_elim (λ (o : (act_at a.writes j).on ≡ true). absurd (e (c.cycle.drives.on j lt ∙ ap bit o))) (λ (o : (act_at a.writes j).on ≡ false). o) (cases_Bool (act_at a.writes j).on)
+  off_is j lt e =
+      ⊎_elim (λ (o : (act_at a.writes j).on ≡ true). absurd (e (c.cycle.drives.on j lt ∙ ap bit o)))
+      (λ (o : (act_at a.writes j).on ≡ false). o) (cases_Bool (act_at a.writes j).on)
 
   -- the slot of a write
   abbrev at : ℕ → ℕ
@@ -72,13 +74,16 @@ module _ (l : Layout) (s : State) (x : LockState) (f : StepSignals) (a : LockAct
 
   place_is : (j : ℕ) → j < length a.writes → (ticket_at f.writes j).enable.value s ≡ 1 → (place_of l f j).value s ≡ P (at j)
   unfolding reg_value
-  place_is j lt e = ticket_value l.slots c.cycle.sized (content_signal l.slots) (ticket_at f.writes j).ticket s (act_at a.writes j).ticket (c.cycle.drives.ticket j lt (on_is j lt e))
+  place_is j lt e =
+      ticket_value l.slots c.cycle.sized (content_signal l.slots)
+      (ticket_at f.writes j).ticket s (act_at a.writes j).ticket (c.cycle.drives.ticket j lt (on_is j lt e))
 
   -- the array after the first j write ports
   abbrev stored : ℕ → List ℕ
   stored j = after_writes s (place_writes l f j) (store_of l s)
 
-  stored_on : (j : ℕ) → (ticket_at f.writes j).enable.value s ≡ 1 → stored (suc j) ≡ set (stored j) ((place_of l f j).value s) ((ticket_at f.writes j).value.value s)
+  stored_on : (j : ℕ) → (ticket_at f.writes j).enable.value s ≡ 1
+      → stored (suc j) ≡ set (stored j) ((place_of l f j).value s) ((ticket_at f.writes j).value.value s)
   unfolding place_writes
   stored_on j e = writes-push s (place_writes l f j) (one_put l f j) (store_of l s) ∙ if_one ((ticket_at f.writes j).enable.value s) _ _ e
 
@@ -104,7 +109,8 @@ module _ (l : Layout) (s : State) (x : LockState) (f : StepSignals) (a : LockAct
       let e = written_value l.slots V s x f a c.cycle j lt (on_is j lt o) in
       ap (λ ws. slice_index ws (P k)) (stored_on j o)
       ∙ ⊎_elim
-      (λ (q : at j ≡ k). written_here (stored j) _ (P k) v (pl ∙ ap P q) (let r = length-writes s (place_writes l f j) (store_of l s) in omega (arith, r, c.stands.store, p.slots_in k h))
+      (λ (q : at j ≡ k). written_here (stored j) _ (P k) v (pl ∙ ap P q)
+      (let r = length-writes s (place_writes l f j) (store_of l s) in omega (arith, r, c.stands.store, p.slots_in k h))
       ∙ sym (mux_one (words.equal w k) v rest (eq_one w k (e ∙ q))))
       (λ (q : at j ≢ k). written_there (stored j) _ (P k) v (λ r. q (sym (p.slots_apart k (at j) h (at_below j) (r ∙ pl)))) ∙ ih
       ∙ sym (mux_zero (words.equal w k) v rest (eq_none w k (λ r. q (sym e ∙ r)))))
@@ -175,30 +181,38 @@ module _ (l : Layout) (s : State) (x : LockState) (f : StepSignals) (a : LockAct
   two_slots o = let q = ended.there_second xs (c.cycle.proper.done2 o) in let r = length_filled x a in omega (arith, q, r, c.cycle.proper.room)
 
   k1_other : a.release2 ≡ true → k1 ≢ k0
-  k1_other o e = let q = apart n x.base 1 0 (let w = two_slots o in omega (arith, w)) (omega (arith, c.cycle.sized.some)) (e ∙ ap (λ m. m % n) (let z : x.base ≡ x.base + 0 = omega arith in z)) in omega (arith, q)
+  k1_other o e = let q =
+      apart n x.base 1 0 (let w = two_slots o in omega (arith, w)) (omega (arith, c.cycle.sized.some))
+      (e ∙ ap (λ m. m % n) (let z : x.base ≡ x.base + 0 = omega arith in z)) in
+      omega (arith, q)
 
   -- their places
   slot_same : (k : ℕ) → (ring.slot_value l.slots f k).value s ≡ P k
   slot_same k = ap (λ (g : Signal). g.value s) (content_place l.slots f k c.renaming.place)
 
   place0 : (oldest_place l f).value s ≡ P k0
-  place0 = ticket_value l.slots c.cycle.sized (ring.slot_value l.slots f) (head_signal l.slots) s x.base (ended.head_value l.slots V s x f a c.cycle) ∙ slot_same k0
+  place0 =
+      ticket_value l.slots c.cycle.sized (ring.slot_value l.slots f) (head_signal l.slots) s x.base (ended.head_value l.slots V s x f a c.cycle) ∙ slot_same k0
 
   place1 : (next_place_of l f).value s ≡ P k1
-  place1 = ticket_value l.slots c.cycle.sized (ring.slot_value l.slots f) (next_head l.slots) s (x.base + 1) (ended.next_head_value l.slots V s x f a c.cycle) ∙ slot_same k1
+  place1 =
+      ticket_value l.slots c.cycle.sized (ring.slot_value l.slots f) (next_head l.slots) s (x.base + 1) (ended.next_head_value l.slots V s x f a c.cycle)
+      ∙ slot_same k1
 
   -- the slots that are released
   released0 : (freed_slot l f).value s ≡ (if a.release then k0 else n)
   unfolding mux_value const_value words.mux
   released0 =
       ap (λ t. if t then (slot_of l.slots (head_signal l.slots)).value s else n) (test_bit (f.release.value s) a.release c.cycle.drives.release)
-      ∙ ap (λ m. if a.release then m else n) (filled.slot_value l.slots c.cycle.sized (head_signal l.slots) s x.base (ended.head_value l.slots V s x f a c.cycle))
+      ∙ ap (λ m. if a.release then m else n)
+      (filled.slot_value l.slots c.cycle.sized (head_signal l.slots) s x.base (ended.head_value l.slots V s x f a c.cycle))
 
   released1 : (freed2_slot l f).value s ≡ (if a.release2 then k1 else n)
   unfolding mux_value const_value words.mux
   released1 =
       ap (λ t. if t then (slot_of l.slots (next_head l.slots)).value s else n) (test_bit (f.release2.value s) a.release2 c.cycle.drives.release2)
-      ∙ ap (λ m. if a.release2 then m else n) (filled.slot_value l.slots c.cycle.sized (next_head l.slots) s (x.base + 1) (ended.next_head_value l.slots V s x f a c.cycle))
+      ∙ ap (λ m. if a.release2 then m else n)
+      (filled.slot_value l.slots c.cycle.sized (next_head l.slots) s (x.base + 1) (ended.next_head_value l.slots V s x f a c.cycle))
 
   -- the places that become free
   freed0 : a.release ≡ true → (freed_place l f).value s ≡ M e0.addr
@@ -245,9 +259,11 @@ module _ (l : Layout) (s : State) (x : LockState) (f : StepSignals) (a : LockAct
       let r = c.cycle.proper.both o in
       let q0 = addr0 r in
       let q1 = addr1 o in
-      let m1 : (mapped_place l (next_addr l.slots f)).value s ≡ M e1.addr = mapped_is l c.renaming (next_addr l.slots f) s (let b = below1 o in omega (arith, q1, b)) ∙ ap M q1 in
+      let m1 : (mapped_place l (next_addr l.slots f)).value s ≡ M e1.addr =
+      mapped_is l c.renaming (next_addr l.slots f) s (let b = below1 o in omega (arith, q1, b)) ∙ ap M q1 in
       let p0 = place0 in
-      ap (λ m. words.mux m ((oldest_place l f).value s) ((mapped_place l (next_addr l.slots f)).value s)) (both_equal ((next_addr l.slots f).value s) e1.addr ((oldest_addr l.slots f).value s) e0.addr q1 q0)
+      ap (λ m. words.mux m ((oldest_place l f).value s) ((mapped_place l (next_addr l.slots f)).value s))
+      (both_equal ((next_addr l.slots f).value s) e1.addr ((oldest_addr l.slots f).value s) e0.addr q1 q0)
       ∙ ap (λ m. words.mux (words.equal e0.addr e1.addr) m ((mapped_place l (next_addr l.slots f)).value s)) p0
       ∙ ap (λ m. words.mux (words.equal e0.addr e1.addr) (P k0) m) m1
 
@@ -261,8 +277,11 @@ module _ (l : Layout) (s : State) (x : LockState) (f : StepSignals) (a : LockAct
   apart_left : AreApart l.depth n map_left places_left
   apart_left = by a.release a.release2 refl refl
     where
-      by : (t u : Bool) → a.release ≡ t → a.release2 ≡ u → AreApart l.depth n (λ b. if u then M2 b else if t then M1 b else M b) (λ k. if u then P2 k else if t then P1 k else P k)
-      by t true p q = exchanged_apart l.depth n e1.addr k1 M1 P1 M2 P2 k1_below (below1 q) (exchange2 q) (exchanged_apart l.depth n e0.addr k0 M P M1 P1 k0_below (below0 (c.cycle.proper.both q)) exchange1 c.stands.places)
+      by : (t u : Bool) → a.release ≡ t → a.release2 ≡ u
+          → AreApart l.depth n (λ b. if u then M2 b else if t then M1 b else M b) (λ k. if u then P2 k else if t then P1 k else P k)
+      by t true p q =
+          exchanged_apart l.depth n e1.addr k1 M1 P1 M2 P2 k1_below (below1 q) (exchange2 q)
+          (exchanged_apart l.depth n e0.addr k0 M P M1 P1 k0_below (below0 (c.cycle.proper.both q)) exchange1 c.stands.places)
       by true false p q = exchanged_apart l.depth n e0.addr k0 M P M1 P1 k0_below (below0 p) exchange1 c.stands.places
       by false false p q = c.stands.places
 
@@ -272,8 +291,10 @@ module _ (l : Layout) (s : State) (x : LockState) (f : StepSignals) (a : LockAct
       let low = ended.base_low a.release a.release2 x.base in
       let long = left_long l.slots V s x f a c.cycle in
       ⊎_elim
-      (λ (e : a.squash ≡ true). let q = long ∙ if_true a.squash a.tail (x.base + length x.entries + length a.reserves) e in omega (arith, q, low, c.cycle.proper.tail_to e, c.cycle.proper.room))
-      (λ (e : a.squash ≡ false). let q = long ∙ if_false a.squash a.tail (x.base + length x.entries + length a.reserves) e in omega (arith, q, low, c.cycle.proper.room))
+      (λ (e : a.squash ≡ true). let q = long ∙ if_true a.squash a.tail (x.base + length x.entries + length a.reserves) e in
+      omega (arith, q, low, c.cycle.proper.tail_to e, c.cycle.proper.room))
+      (λ (e : a.squash ≡ false). let q = long ∙ if_false a.squash a.tail (x.base + length x.entries + length a.reserves) e in
+      omega (arith, q, low, c.cycle.proper.room))
       (cases_Bool a.squash)
 
   k0_is : k0 ≡ (x.base + 0) % n
@@ -281,7 +302,8 @@ module _ (l : Layout) (s : State) (x : LockState) (f : StepSignals) (a : LockAct
 
   -- what is left keeps its place
   kept_place : (t u : Bool) (i : ℕ) → (u ≡ true → 2 + i < n) → (t ≡ true → 1 + i < n)
-      → (if u then P2 ((x.base + 2 + i) % n) else if t then P1 ((x.base + 1 + i) % n) else P ((x.base + i) % n)) ≡ (if u then P ((x.base + 2 + i) % n) else if t then P ((x.base + 1 + i) % n) else P ((x.base + i) % n))
+      → (if u then P2 ((x.base + 2 + i) % n) else if t then P1 ((x.base + 1 + i) % n) else P ((x.base + i) % n))
+      ≡ (if u then P ((x.base + 2 + i) % n) else if t then P ((x.base + 1 + i) % n) else P ((x.base + i) % n))
   kept_place t true i h g =
       let k = (x.base + 2 + i) % n in
       mux_zero (words.equal k1 k) (M1 e1.addr) (P1 k) (eq_none k1 k (slot_apart n x.base 2 i 1 (omega arith) (h refl)))
@@ -291,17 +313,24 @@ module _ (l : Layout) (s : State) (x : LockState) (f : StepSignals) (a : LockAct
       mux_zero (words.equal k0 k) (M e0.addr) (P k) (eq_none k0 k (λ r. slot_apart n x.base 1 i 0 (omega arith) (g refl) (sym k0_is ∙ r)))
   kept_place false false i h g = refl
 
-  spread : (t u : Bool) (i : ℕ) (F1 F2 F : ℕ → ℕ) → (if u then F2 (((if u then x.base + 2 else if t then x.base + 1 else x.base) + i) % n) else if t then F1 (((if u then x.base + 2 else if t then x.base + 1 else x.base) + i) % n) else F (((if u then x.base + 2 else if t then x.base + 1 else x.base) + i) % n)) ≡ (if u then F2 ((x.base + 2 + i) % n) else if t then F1 ((x.base + 1 + i) % n) else F ((x.base + i) % n))
+  spread : (t u : Bool) (i : ℕ) (F1 F2 F : ℕ → ℕ)
+      → (if u then F2 (((if u then x.base + 2 else if t then x.base + 1 else x.base) + i) % n) else if t
+      then F1 (((if u then x.base + 2 else if t then x.base + 1 else x.base) + i) % n)
+      else F (((if u then x.base + 2 else if t then x.base + 1 else x.base) + i) % n))
+      ≡ (if u then F2 ((x.base + 2 + i) % n) else if t then F1 ((x.base + 1 + i) % n) else F ((x.base + i) % n))
   spread t true i F1 F2 F = refl
   spread true false i F1 F2 F = refl
   spread false false i F1 F2 F = refl
 
-  gather : (t u : Bool) (i : ℕ) → (if u then P ((x.base + 2 + i) % n) else if t then P ((x.base + 1 + i) % n) else P ((x.base + i) % n)) ≡ P (((if u then x.base + 2 else if t then x.base + 1 else x.base) + i) % n)
+  gather : (t u : Bool) (i : ℕ)
+      → (if u then P ((x.base + 2 + i) % n) else if t then P ((x.base + 1 + i) % n) else P ((x.base + i) % n))
+      ≡ P (((if u then x.base + 2 else if t then x.base + 1 else x.base) + i) % n)
   gather t true i = refl
   gather true false i = refl
   gather false false i = refl
 
-  taken_out : (t u : Bool) (i : ℕ) → i + ((if u then x.base + 2 else if t then x.base + 1 else x.base) - x.base) < n → (u ≡ true → 2 + i < n) × ((u ≡ true → t ≡ true) → t ≡ true → 1 + i < n)
+  taken_out : (t u : Bool) (i : ℕ) → i + ((if u then x.base + 2 else if t then x.base + 1 else x.base) - x.base) < n
+      → (u ≡ true → 2 + i < n) × ((u ≡ true → t ≡ true) → t ≡ true → 1 + i < n)
   taken_out t true i h = ((λ e. omega (arith, h)), (λ b e. omega (arith, h)))
   taken_out true false i h = ((λ e. absurd (false≢true e)), (λ b e. omega (arith, h)))
   taken_out false false i h = ((λ e. absurd (false≢true e)), (λ b e. absurd (false≢true e)))
@@ -314,7 +343,10 @@ module _ (l : Layout) (s : State) (x : LockState) (f : StepSignals) (a : LockAct
   -- ---- the next state
 
   module _ (b : Circuit) (t : State) (next : NextRename b l f) (i : IsNext b (own_rename l) s t) where
-    place_next : (k : ℕ) → k < n → slot_place l t k ≡ words.mux (words.equal ((freed2_slot l f).value s) k) ((freed2_place l f).value s) (words.mux (words.equal ((freed_slot l f).value s) k) ((freed_place l f).value s) (P k))
+    place_next : (k : ℕ) → k < n
+        → slot_place l t k
+        ≡ words.mux (words.equal ((freed2_slot l f).value s) k) ((freed2_place l f).value s)
+        (words.mux (words.equal ((freed_slot l f).value s) k) ((freed_place l f).value s) (P k))
     unfolding mux_value bin_value const_value reg_value
     place_next k h = i.regs (value_at l.slots k) (omega arith) (omega (arith, h)) ∙ ap (λ (g : Signal). g.value s) (next.places.place k h)
 
@@ -326,7 +358,9 @@ module _ (l : Layout) (s : State) (x : LockState) (f : StepSignals) (a : LockAct
         none w y z e = mux_zero (words.equal w k) y z (eq_none w k (λ r. omega (arith, r, e, h)))
 
         by : (r q : Bool) → a.release ≡ r → a.release2 ≡ q
-            → words.mux (words.equal ((freed2_slot l f).value s) k) ((freed2_place l f).value s) (words.mux (words.equal ((freed_slot l f).value s) k) ((freed_place l f).value s) (P k)) ≡ (if q then P2 k else if r then P1 k else P k)
+            → words.mux (words.equal ((freed2_slot l f).value s) k) ((freed2_place l f).value s)
+            (words.mux (words.equal ((freed_slot l f).value s) k) ((freed_place l f).value s) (P k))
+            ≡ (if q then P2 k else if r then P1 k else P k)
         by r true e u =
             let both = c.cycle.proper.both u in
             let w1 = released1 ∙ if_true a.release2 k1 n u in
@@ -338,21 +372,30 @@ module _ (l : Layout) (s : State) (x : LockState) (f : StepSignals) (a : LockAct
             let w0 = released0 ∙ if_true a.release k0 n e in
             let v0 = freed0 e in
             none ((freed2_slot l f).value s) _ _ (released1 ∙ if_false a.release2 k1 n u) ∙ cc (w0, v0)
-        by false false e u = none ((freed2_slot l f).value s) _ _ (released1 ∙ if_false a.release2 k1 n u) ∙ none ((freed_slot l f).value s) _ _ (released0 ∙ if_false a.release k0 n e)
+        by false false e u =
+            none ((freed2_slot l f).value s) _ _ (released1 ∙ if_false a.release2 k1 n u)
+            ∙ none ((freed_slot l f).value s) _ _ (released0 ∙ if_false a.release k0 n e)
 
     word_next : (k : ℕ) → k < l.depth → word_place l t k
-        ≡ (if f.release2.value s == 1 then words.mux (words.equal ((next_addr l.slots f).value s) k) ((next_place_of l f).value s) (if f.release.value s == 1 then words.mux (words.equal ((oldest_addr l.slots f).value s) k) ((oldest_place l f).value s) (M k) else M k)
+        ≡ (if f.release2.value s == 1
+        then words.mux (words.equal ((next_addr l.slots f).value s) k) ((next_place_of l f).value s)
+        (if f.release.value s == 1 then words.mux (words.equal ((oldest_addr l.slots f).value s) k) ((oldest_place l f).value s) (M k) else M k)
         else (if f.release.value s == 1 then words.mux (words.equal ((oldest_addr l.slots f).value s) k) ((oldest_place l f).value s) (M k) else M k))
     unfolding mux_value bin_value const_value reg_value words.mux
-    word_next k h = i.regs (map_at l k) (let z = c.renaming.map in omega (arith, z)) (let z = c.renaming.map in omega (arith, z, h)) ∙ ap (λ (g : Signal). g.value s) (next.map.map k h)
+    word_next k h =
+        i.regs (map_at l k) (let z = c.renaming.map in omega (arith, z)) (let z = c.renaming.map in omega (arith, z, h))
+        ∙ ap (λ (g : Signal). g.value s) (next.map.map k h)
 
     -- and so is the place of each word
     words_are : (k : ℕ) → k < l.depth → word_place l t k ≡ map_left k
     words_are k h = word_next k h ∙ by a.release a.release2 refl refl
       where
         by : (r q : Bool) → a.release ≡ r → a.release2 ≡ q
-            → (if f.release2.value s == 1 then words.mux (words.equal ((next_addr l.slots f).value s) k) ((next_place_of l f).value s) (if f.release.value s == 1 then words.mux (words.equal ((oldest_addr l.slots f).value s) k) ((oldest_place l f).value s) (M k) else M k)
-            else (if f.release.value s == 1 then words.mux (words.equal ((oldest_addr l.slots f).value s) k) ((oldest_place l f).value s) (M k) else M k)) ≡ (if q then M2 k else if r then M1 k else M k)
+            → (if f.release2.value s == 1
+            then words.mux (words.equal ((next_addr l.slots f).value s) k) ((next_place_of l f).value s)
+            (if f.release.value s == 1 then words.mux (words.equal ((oldest_addr l.slots f).value s) k) ((oldest_place l f).value s) (M k) else M k)
+            else (if f.release.value s == 1 then words.mux (words.equal ((oldest_addr l.slots f).value s) k) ((oldest_place l f).value s) (M k) else M k))
+            ≡ (if q then M2 k else if r then M1 k else M k)
         by r true e u =
             let both = c.cycle.proper.both u in
             let t1 = c.cycle.drives.release2 ∙ ap bit u in
@@ -361,7 +404,9 @@ module _ (l : Layout) (s : State) (x : LockState) (f : StepSignals) (a : LockAct
             let q0 = addr0 both in
             let p1 = place1 in
             let p0 = place0 in
-            if_one (f.release2.value s) _ _ t1 ∙ ap (λ m. words.mux (words.equal ((next_addr l.slots f).value s) k) ((next_place_of l f).value s) m) (if_one (f.release.value s) _ _ t0) ∙ cc (q1, q0, p1, p0)
+            if_one (f.release2.value s) _ _ t1
+            ∙ ap (λ m. words.mux (words.equal ((next_addr l.slots f).value s) k) ((next_place_of l f).value s) m) (if_one (f.release.value s) _ _ t0)
+            ∙ cc (q1, q0, p1, p0)
         by true false e u =
             let t1 = c.cycle.drives.release2 ∙ ap bit u in
             let t0 = c.cycle.drives.release ∙ ap bit e in
@@ -378,7 +423,9 @@ module _ (l : Layout) (s : State) (x : LockState) (f : StepSignals) (a : LockAct
     store_next = i.arrays l.array (omega arith) (omega arith) ∙ ap (λ ps. after_writes s ps (store_of l s)) next.store ∙ ap stored (sym c.cycle.drives.count)
 
     filled_at : (k : ℕ) → k < n → slice_index (store_of l t) (P k) ≡ (after_fill l.slots f V k).value s
-    filled_at k h = ap (λ ws. slice_index ws (P k)) store_next ∙ slot_word k h (length a.writes) (omega arith) ∙ ap (λ m. (filled_value l.slots f (V k) k m).value s) c.cycle.drives.count
+    filled_at k h =
+        ap (λ ws. slice_index ws (P k)) store_next ∙ slot_word k h (length a.writes) (omega arith)
+        ∙ ap (λ m. (filled_value l.slots f (V k) k m).value s) c.cycle.drives.count
 
     unchanged_at : (k : ℕ) → k < l.depth → slice_index (store_of l t) (M k) ≡ slice_index x.words k
     unchanged_at k h = ap (λ ws. slice_index ws (M k)) store_next ∙ other_word k h (length a.writes) (omega arith) ∙ c.stands.words k h
@@ -394,10 +441,16 @@ module _ (l : Layout) (s : State) (x : LockState) (f : StepSignals) (a : LockAct
 
     -- the values of the two oldest pending writes are in their places
     value0 : a.release ≡ true → slice_index (store_of l t) (P k0) ≡ or_zero e0.value
-    value0 o = filled_at k0 k0_below ∙ sym (ticket_value l.slots c.cycle.sized (after_fill l.slots f V) (head_signal l.slots) s x.base (ended.head_value l.slots V s x f a c.cycle)) ∙ oldest_value_is l.slots V s x f a c.cycle o
+    value0 o =
+        filled_at k0 k0_below
+        ∙ sym (ticket_value l.slots c.cycle.sized (after_fill l.slots f V) (head_signal l.slots) s x.base (ended.head_value l.slots V s x f a c.cycle))
+        ∙ oldest_value_is l.slots V s x f a c.cycle o
 
     value1 : a.release2 ≡ true → slice_index (store_of l t) (P k1) ≡ or_zero e1.value
-    value1 o = filled_at k1 k1_below ∙ sym (ticket_value l.slots c.cycle.sized (after_fill l.slots f V) (next_head l.slots) s (x.base + 1) (ended.next_head_value l.slots V s x f a c.cycle)) ∙ next_value_is l.slots V s x f a c.cycle o
+    value1 o =
+        filled_at k1 k1_below
+        ∙ sym (ticket_value l.slots c.cycle.sized (after_fill l.slots f V) (next_head l.slots) s (x.base + 1) (ended.next_head_value l.slots V s x f a c.cycle))
+        ∙ next_value_is l.slots V s x f a c.cycle o
 
     -- the words after the first release
     words_one : a.release ≡ true → (k : ℕ) → k < l.depth → slice_index (store_of l t) (M1 k) ≡ slice_index (committed xs 0 x.words) k
@@ -414,7 +467,9 @@ module _ (l : Layout) (s : State) (x : LockState) (f : StepSignals) (a : LockAct
     words_two o k h = ⊎_elim
         (λ (e : e1.addr ≡ k).
         ap (slice_index (store_of l t)) (mux_one (words.equal e1.addr k) (P k1) (M1 k) (eq_one e1.addr k e)) ∙ value1 o
-        ∙ sym (written_here (committed xs 0 x.words) e1.addr k (or_zero e1.value) e (let w = c.stands.whole in let q = length-set x.words e0.addr (or_zero e0.value) in omega (arith, w, q, h))))
+        ∙ sym
+        (written_here (committed xs 0 x.words) e1.addr k (or_zero e1.value) e
+        (let w = c.stands.whole in let q = length-set x.words e0.addr (or_zero e0.value) in omega (arith, w, q, h))))
         (λ (e : e1.addr ≢ k).
         ap (slice_index (store_of l t)) (mux_zero (words.equal e1.addr k) (P k1) (M1 k) (eq_none e1.addr k e)) ∙ words_one (c.cycle.proper.both o) k h
         ∙ sym (written_there (committed xs 0 x.words) e1.addr k (or_zero e1.value) (λ r. e (sym r))))
@@ -423,7 +478,9 @@ module _ (l : Layout) (s : State) (x : LockState) (f : StepSignals) (a : LockAct
     words_next : (k : ℕ) → k < l.depth → slice_index (store_of l t) (word_place l t k) ≡ slice_index (committed_words a (filled_entries x a) x.words) k
     words_next k h = ap (slice_index (store_of l t)) (words_are k h) ∙ by a.release a.release2 refl refl
       where
-        by : (r q : Bool) → a.release ≡ r → a.release2 ≡ q → slice_index (store_of l t) (if q then M2 k else if r then M1 k else M k) ≡ slice_index (if q then committed xs 1 (committed xs 0 x.words) else if r then committed xs 0 x.words else x.words) k
+        by : (r q : Bool) → a.release ≡ r → a.release2 ≡ q
+            → slice_index (store_of l t) (if q then M2 k else if r then M1 k else M k)
+            ≡ slice_index (if q then committed xs 1 (committed xs 0 x.words) else if r then committed xs 0 x.words else x.words) k
         by r true e u = words_two u k h
         by true false e u = words_one e k h
         by false false e u = unchanged_at k h
@@ -438,7 +495,9 @@ module _ (l : Layout) (s : State) (x : LockState) (f : StepSignals) (a : LockAct
 
     pub stands_next : Stands l t (step x a)
     stands_next = record {
-      entries = entries_next l.slots V s x f a b (own_rename l) t c.cycle (record { from = omega arith; to = omega arith; addrs = next.addrs; bits = next.bits; ends = next.ends }) i values_stay;
+      entries =
+          entries_next l.slots V s x f a b (own_rename l) t c.cycle
+          (record { from = omega arith; to = omega arith; addrs = next.addrs; bits = next.bits; ends = next.ends }) i values_stay;
       below = step_below l.depth x a all_below;
       whole = length_committed ∙ c.stands.whole;
       store = ap length store_next ∙ length-writes s (place_writes l f (length a.writes)) (store_of l s) ∙ c.stands.store;
@@ -449,41 +508,63 @@ module _ (l : Layout) (s : State) (x : LockState) (f : StepSignals) (a : LockAct
   -- ---- the commits
 
   -- the word of a slot after the write ports is what its place gets
-  stored_is : (slot place : Signal) (k : ℕ) → slot.value s ≡ k → place.value s ≡ P k → (j : ℕ) → (stored_signal l f slot place j).value s ≡ (filled_value l.slots f (V k) k j).value s
+  stored_is : (slot place : Signal) (k : ℕ) → slot.value s ≡ k → place.value s ≡ P k → (j : ℕ)
+      → (stored_signal l f slot place j).value s ≡ (filled_value l.slots f (V k) k j).value s
   unfolding stored_signal filled_value mux_value bin_value const_value read_value
   stored_is slot place k e p zero = ap (slice_index (store_of l s)) p
   stored_is slot place k e p (suc j) =
       let rest = stored_is slot place k e p j in
-      ap (λ m. words.mux (words.equal ((written_slot l.slots f j).value s) m) ((ticket_at f.writes j).value.value s) ((stored_signal l f slot place j).value s)) e
+      ap
+      (λ m. words.mux (words.equal ((written_slot l.slots f j).value s) m) ((ticket_at f.writes j).value.value s)
+      ((stored_signal l f slot place j).value s)) e
       ∙ ap (λ m. words.mux (words.equal ((written_slot l.slots f j).value s) k) ((ticket_at f.writes j).value.value s) m) rest
 
   pub commit0 : a.release ≡ true → (oldest_value l f).value s ≡ or_zero e0.value
   commit0 o =
-      stored_is (slot_of l.slots (head_signal l.slots)) (oldest_place l f) k0 (filled.slot_value l.slots c.cycle.sized (head_signal l.slots) s x.base (ended.head_value l.slots V s x f a c.cycle)) place0 (length f.writes)
-      ∙ sym (ticket_value l.slots c.cycle.sized (after_fill l.slots f V) (head_signal l.slots) s x.base (ended.head_value l.slots V s x f a c.cycle)) ∙ oldest_value_is l.slots V s x f a c.cycle o
+      stored_is (slot_of l.slots (head_signal l.slots))
+      (oldest_place l f) k0
+      (filled.slot_value l.slots c.cycle.sized (head_signal l.slots) s x.base (ended.head_value l.slots V s x f a c.cycle)) place0
+      (length f.writes)
+      ∙ sym (ticket_value l.slots c.cycle.sized (after_fill l.slots f V) (head_signal l.slots) s x.base (ended.head_value l.slots V s x f a c.cycle))
+      ∙ oldest_value_is l.slots V s x f a c.cycle o
 
   pub commit1 : a.release2 ≡ true → (next_value l f).value s ≡ or_zero e1.value
   commit1 o =
-      stored_is (slot_of l.slots (next_head l.slots)) (next_place_of l f) k1 (filled.slot_value l.slots c.cycle.sized (next_head l.slots) s (x.base + 1) (ended.next_head_value l.slots V s x f a c.cycle)) place1 (length f.writes)
-      ∙ sym (ticket_value l.slots c.cycle.sized (after_fill l.slots f V) (next_head l.slots) s (x.base + 1) (ended.next_head_value l.slots V s x f a c.cycle)) ∙ next_value_is l.slots V s x f a c.cycle o
+      stored_is (slot_of l.slots (next_head l.slots))
+      (next_place_of l f) k1
+      (filled.slot_value l.slots c.cycle.sized (next_head l.slots) s (x.base + 1) (ended.next_head_value l.slots V s x f a c.cycle)) place1
+      (length f.writes)
+      ∙ sym (ticket_value l.slots c.cycle.sized (after_fill l.slots f V) (next_head l.slots) s (x.base + 1) (ended.next_head_value l.slots V s x f a c.cycle))
+      ∙ next_value_is l.slots V s x f a c.cycle o
 
 module _ (b : Circuit) (l : Layout) (f : StepSignals) (z : IsRenaming l) (w : TicketsFit l.slots.ticket f) (v : AddressesFit l.slots.bits f) where
   turn : (s : State) (x : LockState) (a : LockAct) → Stands l s x → Drives l.slots.ticket f s a → Proper l.slots.size x a → Turn l s x f a
   turn s x a h d p = record { renaming = z; stands = h; cycle = record { sized = z.sized; stands = h.entries; fit = w; drives = d; proper = p }; addresses = v }
 
-  pub step_law : NextRename b l f → StepLaw (Stands l) l.slots.size l.slots.ticket (own_rename l) b f f.release (mux_signal f.release (oldest_addr l.slots f) (const_signal l.slots.bits 0)) (mux_signal f.release (oldest_value l f) (const_signal l.slots.width 0))
+  pub step_law : NextRename b l f
+      → StepLaw (Stands l) l.slots.size l.slots.ticket (own_rename l) b f f.release (mux_signal f.release (oldest_addr l.slots f) (const_signal l.slots.bits 0))
+      (mux_signal f.release (oldest_value l f) (const_signal l.slots.width 0))
   unfolding mux_value const_value
   step_law n = record {
     commits = λ s x a h d p. d.release;
-    commits_addr = λ s x a h d p. let c = turn s x a h d p in by_release l.slots (placed_signal l) s x f a c.cycle ((oldest_addr l.slots f).value s) (entry_at (filled_entries x a) 0).addr (oldest_addr_is l.slots (placed_signal l) s x f a c.cycle);
-    commits_value = λ s x a h d p. let c = turn s x a h d p in by_release l.slots (placed_signal l) s x f a c.cycle ((oldest_value l f).value s) (or_zero (entry_at (filled_entries x a) 0).value) (commit0 l s x f a c);
+    commits_addr = λ s x a h d p. let c = turn s x a h d p in
+        by_release l.slots (placed_signal l) s x f a c.cycle ((oldest_addr l.slots f).value s)
+        (entry_at (filled_entries x a) 0).addr (oldest_addr_is l.slots (placed_signal l) s x f a c.cycle);
+    commits_value = λ s x a h d p. let c = turn s x a h d p in
+        by_release l.slots (placed_signal l) s x f a c.cycle ((oldest_value l f).value s)
+        (or_zero (entry_at (filled_entries x a) 0).value) (commit0 l s x f a c);
     next = λ s u x a h d p o. stands_next l s x f a (turn s x a h d p) b u n o;
   }
 
-  pub commit2_law : Commit2Law (Stands l) l.slots.size l.slots.ticket f f.release2 (mux_signal f.release2 (next_addr l.slots f) (const_signal l.slots.bits 0)) (mux_signal f.release2 (next_value l f) (const_signal l.slots.width 0))
+  pub commit2_law : Commit2Law (Stands l) l.slots.size l.slots.ticket f f.release2 (mux_signal f.release2 (next_addr l.slots f) (const_signal l.slots.bits 0))
+      (mux_signal f.release2 (next_value l f) (const_signal l.slots.width 0))
   unfolding mux_value const_value
   commit2_law = record {
     commits = λ s x a h d p. d.release2;
-    commits_addr = λ s x a h d p. let c = turn s x a h d p in by_release2 l.slots (placed_signal l) s x f a c.cycle ((next_addr l.slots f).value s) (entry_at (filled_entries x a) 1).addr (next_addr_is l.slots (placed_signal l) s x f a c.cycle);
-    commits_value = λ s x a h d p. let c = turn s x a h d p in by_release2 l.slots (placed_signal l) s x f a c.cycle ((next_value l f).value s) (or_zero (entry_at (filled_entries x a) 1).value) (commit1 l s x f a c);
+    commits_addr = λ s x a h d p. let c = turn s x a h d p in
+        by_release2 l.slots (placed_signal l) s x f a c.cycle ((next_addr l.slots f).value s)
+        (entry_at (filled_entries x a) 1).addr (next_addr_is l.slots (placed_signal l) s x f a c.cycle);
+    commits_value = λ s x a h d p. let c = turn s x a h d p in
+        by_release2 l.slots (placed_signal l) s x f a c.cycle ((next_value l f).value s)
+        (or_zero (entry_at (filled_entries x a) 1).value) (commit1 l s x f a c);
   }

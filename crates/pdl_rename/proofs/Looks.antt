@@ -24,7 +24,8 @@ use Rattle.pdl_rename.proofs.ChoiceWidths.{mapped_is}
 -- what the array has at a choice of two places
 read_mux : (ws : List ℕ) (c x y : ℕ) → slice_index ws (words.mux c x y) ≡ words.mux c (slice_index ws x) (slice_index ws y)
 unfolding words.mux
-read_mux ws c x y = elim (c == 1) as (λ (t : Bool). slice_index ws (if t then x else y) ≡ (if t then slice_index ws x else slice_index ws y)) [ true ↦ refl | false ↦ refl ]
+read_mux ws c x y =
+    elim (c == 1) as (λ (t : Bool). slice_index ws (if t then x else y) ≡ (if t then slice_index ws x else slice_index ws y)) [ true ↦ refl | false ↦ refl ]
 
 read_least : (l : Layout) (key : ℕ → Signal) (s : State) (b from : ℕ)
     → slice_index (store_of l s) ((least_of key (content_signal l.slots) b from).value s) ≡ (least_of key (placed_signal l) b from).value s
@@ -39,7 +40,8 @@ read_found : (l : Layout) (o a t : Signal) (s : State)
 unfolding mux_value read_value
 read_found l o a t s =
     read_mux (store_of l s) ((is_found l.slots a t).value s) _ _
-    ∙ ap (λ m. words.mux ((is_found l.slots a t).value s) m (slice_index (store_of l s) (o.value s))) (read_least l (key_at l.slots a (last_older l.slots t)) s (l.slots.ticket - 1) 0)
+    ∙ ap (λ m. words.mux ((is_found l.slots a t).value s) m (slice_index (store_of l s) (o.value s)))
+    (read_least l (key_at l.slots a (last_older l.slots t)) s (l.slots.ticket - 1) 0)
 
 word_is : (l : Layout) → IsRenaming l → (a : Signal) (s : State) (x : LockState) → Stands l s x
     → a.value s < l.depth
@@ -69,21 +71,29 @@ fits_in l z a s w fit = subst (λ d. a.value s < d) (ap (λ n. 2 ^ n) w ∙ sym 
 pub look_law : (l : Layout) (u : Kind) (a t : Signal) → IsRenaming l → a.width ≡ l.slots.bits → t.width ≡ l.slots.ticket
     → LookLaw (Stands l) Rename l.slots.ticket u a t (youngest_look u (youngest_ready l.slots a t)) (Some (found_word l a t))
 look_law l u a t z v w = record {
-  answers = λ s x n h k e. picks l u a t s x (n - x.base) z h.entries (seeks_covered l.slots (placed_signal l) s x t n z.sized h.entries w k e) ∙ ready_is u x n (a.value s);
+  answers =
+      λ s x n h k e. picks l u a t s x (n - x.base) z h.entries (seeks_covered l.slots (placed_signal l) s x t n z.sized h.entries w k e)
+      ∙ ready_is u x n (a.value s);
   gives = λ f q s x n h k e fit ready.
       ap (λ (g : Signal). g.value s) (sym (same_signal _ f q))
       ∙ read_found l (mapped_place l a) a t s
-      ∙ value_looked l.slots (placed_signal l) s x a t (n - x.base) z.sized h.entries (seeks_covered l.slots (placed_signal l) s x t n z.sized h.entries w k e) (read_signal l.slots.width l.array (mapped_place l a)) (word_is l z a s x h (fits_in l z a s v fit)) ready;
+      ∙ value_looked l.slots (placed_signal l) s x a t (n - x.base) z.sized h.entries (seeks_covered l.slots (placed_signal l) s x t n z.sized h.entries w k e)
+      (read_signal l.slots.width l.array (mapped_place l a)) (word_is l z a s x h (fits_in l z a s v fit)) ready;
 }
 
 pub late_law : (l : Layout) (u : Kind) (a t : Signal) → IsRenaming l
     → a.width ≡ l.slots.bits → t.width ≡ l.slots.ticket
     → LateLookLaw (Stands l) Rename l.slots.size l.slots.ticket u a t (youngest_look u (youngest_ready l.slots a t)) (Some (found_word l a t))
 late_law l u a t z v w = record {
-  answers = λ two s x h e. picks l u a t s x (length x.entries) z h.entries (seeks_late l.slots (placed_signal l) s x t z.sized h.entries w two e) ∙ ap (λ zs. ready_of u zs (a.value s)) (all_older x) ∙ ready_is u x (next_ticket x + 1) (a.value s);
+  answers =
+      λ two s x h e. picks l u a t s x (length x.entries) z h.entries (seeks_late l.slots (placed_signal l) s x t z.sized h.entries w two e)
+      ∙ ap (λ zs. ready_of u zs (a.value s)) (all_older x) ∙ ready_is u x (next_ticket x + 1) (a.value s);
   gives = λ two f q s x h e fit ready.
       ap (λ (g : Signal). g.value s) (sym (same_signal _ f q))
       ∙ read_found l (mapped_place l a) a t s
-      ∙ value_looked l.slots (placed_signal l) s x a t (length x.entries) z.sized h.entries (seeks_late l.slots (placed_signal l) s x t z.sized h.entries w two e) (read_signal l.slots.width l.array (mapped_place l a)) (word_is l z a s x h (fits_in l z a s v fit)) (ap (λ zs. is_some (youngest zs (a.value s) (Some 0))) (all_older x) ∙ ready)
+      ∙ value_looked l.slots (placed_signal l) s x a t (length x.entries) z.sized h.entries
+      (seeks_late l.slots (placed_signal l) s x t z.sized h.entries w two e)
+      (read_signal l.slots.width l.array (mapped_place l a)) (word_is l z a s x h (fits_in l z a s v fit))
+      (ap (λ zs. is_some (youngest zs (a.value s) (Some 0))) (all_older x) ∙ ready)
       ∙ ap (λ zs. or_zero (youngest zs (a.value s) (Some (slice_index x.words (a.value s))))) (all_older x);
 }

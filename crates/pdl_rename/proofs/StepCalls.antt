@@ -18,7 +18,8 @@ row_in_rename : (l : Layout) (from n : ℕ) (a b : Circuit)
     → l.slots.from ≤ from → from + n ≤ l.slots.from + (2 + 3 * l.slots.size + l.depth) → ExtendsBut (own_row from n) a b
     → ExtendsBut (own_rename l) a b
 row_in_rename l from n a b lo hi x = but_wider (own_row from n) (own_rename l) a b
-    (λ k o. ⊎_elim (λ (h : k < l.slots.from). inl (omega (arith, h, lo))) (λ (h : l.slots.from + (2 + 3 * l.slots.size + l.depth) ≤ k). inr (omega (arith, h, hi))) o)
+    (λ k o. ⊎_elim (λ (h : k < l.slots.from). inl (omega (arith, h, lo)))
+    (λ (h : l.slots.from + (2 + 3 * l.slots.size + l.depth) ≤ k). inr (omega (arith, h, hi))) o)
     (λ m o. inr (omega arith)) x
 
 -- a change of what the array alone takes next is one of what the whole lock takes next

@@ -28,7 +28,9 @@ still_law b l f r z listed t n = record {
       let P : ℕ → Type 0 = λ g. slice_index u.regs g ≡ slice_index s.regs g in
       let Q : List ℕ → Type 0 = λ gs. (j < length gs) → P (slice_index gs j) in
       subst Q (sym regs) (λ lt. either P (addr_at l.slots k) (has_at l.slots k)
-      (o.regs (addr_at l.slots k) (omega arith) (omega (arith, below)) ∙ ap (λ (g : Signal). g.value s) (n.addrs.addr k below) ∙ addr_still l.slots V s x f a c k below spared)
-      (o.regs (has_at l.slots k) (omega arith) (omega (arith, below)) ∙ ap (λ (g : Signal). g.value s) (n.bits.bit k below) ∙ bit_still l.slots V s x f a c k below spared)
+      (o.regs (addr_at l.slots k) (omega arith) (omega (arith, below))
+      ∙ ap (λ (g : Signal). g.value s) (n.addrs.addr k below) ∙ addr_still l.slots V s x f a c k below spared)
+      (o.regs (has_at l.slots k) (omega arith) (omega (arith, below))
+      ∙ ap (λ (g : Signal). g.value s) (n.bits.bit k below) ∙ bit_still l.slots V s x f a c k below spared)
       j lt) within;
 }

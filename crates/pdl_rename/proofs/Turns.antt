@@ -36,7 +36,11 @@ map_none c l f = record { map = λ k h. absurd (omega arith) }
 pub map_more : (a b : Circuit) (l : Layout) (f : StepSignals) (k : ℕ)
     → k < l.depth → HasMap a l l.depth → NextMap a l f k → ExtendsBut (own_reg (map_at l k)) a b
     → next_signal b (map_at l k) ≡ next_map l f k → NextMap b l f (k + 1)
-map_more a b l f k h s x y e = record { map = upto (λ j. next_signal b (map_at l j) ≡ next_map l f j) k e (λ j lt. y.nexts (map_at l j) (s.has_map j (omega (arith, lt, h))) (inl (omega (arith, lt))) ∙ x.map j lt) }
+map_more a b l f k h s x y e =
+    record {
+      map = upto (λ j. next_signal b (map_at l j) ≡ next_map l f j) k e
+          (λ j lt. y.nexts (map_at l j) (s.has_map j (omega (arith, lt, h))) (inl (omega (arith, lt))) ∙ x.map j lt);
+    }
 
 -- before the first turn no slot's place is told what it takes next
 pub places_none : (c : Circuit) (l : Layout) (f : StepSignals) → NextPlaces c l f 0
@@ -46,7 +50,11 @@ places_none c l f = record { place = λ k h. absurd (omega arith) }
 pub places_more : (a b : Circuit) (l : Layout) (f : StepSignals) (k : ℕ)
     → k < l.slots.size → HasSlots a l.slots → NextPlaces a l f k → ExtendsBut (own_reg (value_at l.slots k)) a b
     → next_signal b (value_at l.slots k) ≡ next_place l f k → NextPlaces b l f (k + 1)
-places_more a b l f k h s x y e = record { place = upto (λ j. next_signal b (value_at l.slots j) ≡ next_place l f j) k e (λ j lt. y.nexts (value_at l.slots j) (s.has_value j (omega (arith, lt, h))) (inl (omega (arith, lt))) ∙ x.place j lt) }
+places_more a b l f k h s x y e =
+    record {
+      place = upto (λ j. next_signal b (value_at l.slots j) ≡ next_place l f j) k e
+          (λ j lt. y.nexts (value_at l.slots j) (s.has_value j (omega (arith, lt, h))) (inl (omega (arith, lt))) ∙ x.place j lt);
+    }
 
 -- of no write ports the array has no ports
 pub puts_none : (l : Layout) (f : StepSignals) → place_writes l f 0 ≡ []

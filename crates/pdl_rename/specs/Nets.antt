@@ -97,15 +97,20 @@ freed2_place l f = mux_signal (bin_signal Eq (next_addr l.slots f) (oldest_addr 
 
 -- slot k's place takes what its release sets free
 abbrev pub next_place : Layout → StepSignals → ℕ → Signal
-next_place l f k = mux_signal (bin_signal Eq (freed2_slot l f) (const_signal l.slots.ticket k)) (freed2_place l f) (mux_signal (bin_signal Eq (freed_slot l f) (const_signal l.slots.ticket k)) (freed_place l f) (content_signal l.slots k))
+next_place l f k =
+    mux_signal (bin_signal Eq (freed2_slot l f) (const_signal l.slots.ticket k)) (freed2_place l f)
+    (mux_signal (bin_signal Eq (freed_slot l f) (const_signal l.slots.ticket k)) (freed_place l f) (content_signal l.slots k))
 
 -- the place of an address's word after the first release, and after the second
 abbrev pub first_map : Layout → StepSignals → ℕ → Signal
-first_map l f a = mux_signal f.release (mux_signal (bin_signal Eq (oldest_addr l.slots f) (const_signal l.slots.bits a)) (oldest_place l f) (map_signal l a)) (map_signal l a)
+first_map l f a =
+    mux_signal f.release (mux_signal (bin_signal Eq (oldest_addr l.slots f) (const_signal l.slots.bits a)) (oldest_place l f) (map_signal l a)) (map_signal l a)
 
 -- the place of an address's word after both releases
 abbrev pub next_map : Layout → StepSignals → ℕ → Signal
-next_map l f a = mux_signal f.release2 (mux_signal (bin_signal Eq (next_addr l.slots f) (const_signal l.slots.bits a)) (next_place_of l f) (first_map l f a)) (first_map l f a)
+next_map l f a =
+    mux_signal f.release2 (mux_signal (bin_signal Eq (next_addr l.slots f) (const_signal l.slots.bits a)) (next_place_of l f) (first_map l f a))
+    (first_map l f a)
 
 -- what the first n registers of the map take next, and the places of the first n slots
 pub record NextMap (c : Circuit) (l : Layout) (f : StepSignals) (n : ℕ) : Type 0 where

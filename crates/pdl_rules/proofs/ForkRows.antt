@@ -9,7 +9,9 @@ use Rattle.pdl_rules.proofs.Texts.{number, literal, constant, variable, slice, p
 -- the refusal of a short source with this body, which begins on line 3; m is a comb memory with a lock, t one without, d and q are delayed, q with a lock
 abbrev of_body : List Line → Option Refused
 of_body body =
-    refusal [] (whole (param "n" 4 ∷ []) (comb 2 "m" 8 4 (queue 4) ∷ comb 2 "t" 8 4 None ∷ slow 2 "d" 8 4 None ∷ slow 2 "q" 8 4 (queue 4) ∷ []) body (literal 4 0 ∷ []))
+    refusal []
+    (whole (param "n" 4 ∷ [])
+    (comb 2 "m" 8 4 (queue 4) ∷ comb 2 "t" 8 4 None ∷ slow 2 "d" 8 4 None ∷ slow 2 "q" 8 4 (queue 4) ∷ []) body (literal 4 0 ∷ []))
 
 abbrev at_line : Rule → ℕ → Option Refused
 at_line r k = Some (record { rule = r; line = k })

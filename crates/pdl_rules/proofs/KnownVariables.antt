@@ -27,7 +27,8 @@ width_more : (vs more : List Var) (x : List ℕ) → IsTrue (is_named vs x) → 
 width_more [] more x e = absurd (false≢true e)
 width_more (v ∷ vs) more x e = go (bytes_eq v.name x) e (width_more vs more x)
   where
-    go : (b : Bool) → (b || is_named vs x) ≡ true → (IsTrue (is_named vs x) → var_width (vs ++ more) x ≡ var_width vs x) → (if b then v.width else var_width (vs ++ more) x) ≡ (if b then v.width else var_width vs x)
+    go : (b : Bool) → (b || is_named vs x) ≡ true → (IsTrue (is_named vs x) → var_width (vs ++ more) x ≡ var_width vs x)
+        → (if b then v.width else var_width (vs ++ more) x) ≡ (if b then v.width else var_width vs x)
     go true e h = refl
     go false e h = h e
 
@@ -38,7 +39,9 @@ stays_more vs more x e = (named_more vs more x e, width_more vs more x e)
 stays_variable : (vs : List Var) (y : List ℕ) (w : ℕ) → Stays vs (with_variable vs y w)
 stays_variable vs y w x e = go (list_any (λ (v : Var). bytes_eq y v.name) vs)
   where
-    go : (b : Bool) → IsTrue (is_named (if b then vs else vs ++ record { name = y; width = w } ∷ []) x) × (var_width (if b then vs else vs ++ record { name = y; width = w } ∷ []) x ≡ var_width vs x)
+    go : (b : Bool)
+        → IsTrue (is_named (if b then vs else vs ++ record { name = y; width = w } ∷ []) x)
+        × (var_width (if b then vs else vs ++ record { name = y; width = w } ∷ []) x ≡ var_width vs x)
     go true = (e, refl)
     go false = stays_more vs (record { name = y; width = w } ∷ []) x e
 
@@ -99,7 +102,9 @@ pub known_more : (p : Pipe) (vs : List Var) (before : List Place) (d : Place) (x
     → breaks_n2 p before d ≡ false → AreKnown p vs before
     → AreKnown p (vs ++ record { name = x; width = w } ∷ []) (before ++ d ∷ [])
 known_more p vs before d x w variable name after unbroken k = record {
-  vars = fold_push (after_place p.mems) [] before d ∙ ap (λ us. after_place p.mems us d) k.vars ∙ after ∙ ap (λ b. if b then vs else vs ++ record { name = x; width = w } ∷ []) fresh;
+  vars =
+      fold_push (after_place p.mems) [] before d ∙ ap (λ us. after_place p.mems us d) k.vars ∙ after
+      ∙ ap (λ b. if b then vs else vs ++ record { name = x; width = w } ∷ []) fresh;
   named = λ y e. ⊎_elim
       (λ a. named_more vs _ y (k.named y a))
       (λ a. any_last (λ (v : Var). bytes_eq v.name y) vs _ (bytes_sym y x (sym (ap (is_some_and (bytes_eq y)) variable) ∙ a)))
@@ -114,7 +119,9 @@ known_more p vs before d x w variable name after unbroken k = record {
     free = sym (ap (is_some_and (is_taken_name p before)) name) ∙ unbroken
 
     fresh : list_any (λ (v : Var). bytes_eq x v.name) vs ≡ false
-    fresh = false_from_ne_true (list_any (λ (v : Var). bytes_eq x v.name) vs) (λ t. both_ways (list_any (takes_name x) before) (or_parts (bytes_eq x p.name.name) (list_any (takes_name x) before) free).1 (k.taken x t))
+    fresh =
+        false_from_ne_true (list_any (λ (v : Var). bytes_eq x v.name) vs)
+        (λ t. both_ways (list_any (takes_name x) before) (or_parts (bytes_eq x p.name.name) (list_any (takes_name x) before) free).1 (k.taken x t))
 
 -- all variables of the pipe keep the widths of those so far
 pub known_stay : (p : Pipe) (vs : List Var) (before later : List Place)
@@ -131,7 +138,8 @@ pub known_mems : (p : Pipe) (ms : List Mem) (vs : List Var) (before : List Place
     → AreKnown p vs (before ++ map Memory ms)
 known_mems p [] vs before k = subst (AreKnown p vs) (sym (append-nil before)) k
 known_mems p (m ∷ ms) vs before k =
-    subst (AreKnown p vs) (append_assoc before (Memory m ∷ []) (map Memory ms)) (known_mems p ms vs (before ++ Memory m ∷ []) (known_same p vs before (Memory m) refl refl k))
+    subst (AreKnown p vs) (append_assoc before (Memory m ∷ []) (map Memory ms))
+    (known_mems p ms vs (before ++ Memory m ∷ []) (known_same p vs before (Memory m) refl refl k))
 
 -- the name of a parameter is one of the names that the parameters' variables have
 pub params_named : (ps : List Param) (x : List ℕ)

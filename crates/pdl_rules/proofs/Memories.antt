@@ -85,7 +85,9 @@ deep (x ∷ ms) m all e =
     let parts = and_parts (has_depth x) (list_all has_depth ms) all in
     go (bytes_eq x.name.name m) e parts.0 (deep ms m parts.1)
   where
-    go : (b : Bool) → (b || is_memory ms m) ≡ true → has_depth x ≡ true → (IsTrue (is_memory ms m) → is_depth (mem_depth ms m) ≡ true) → is_depth (if b then x.depth.value else mem_depth ms m) ≡ true
+    go : (b : Bool) → (b || is_memory ms m) ≡ true → has_depth x ≡ true
+        → (IsTrue (is_memory ms m) → is_depth (mem_depth ms m) ≡ true)
+        → is_depth (if b then x.depth.value else mem_depth ms m) ≡ true
     go true some first others = first
     go false some first others = others some
 

@@ -171,7 +171,10 @@ read_after_write :
 read_after_write = refl
 
 two_writes :
-    of_pipe (pipe (address ∷ value ∷ bind "b" (slice "n" 3 2) ∷ written ++ reserve "m" "b" W ∷ block "m" "b" ∷ write "m" "b" (variable "v") ∷ release "m" "b" ∷ next ∷ []))
+    of_pipe
+    (pipe
+    (address ∷ value ∷ bind "b" (slice "n" 3 2) ∷ written
+    ++ reserve "m" "b" W ∷ block "m" "b" ∷ write "m" "b" (variable "v") ∷ release "m" "b" ∷ next ∷ []))
     ≡ at_line L4 10
 two_writes = refl
 
@@ -183,7 +186,8 @@ never_written : of_pipe (pipe (address ∷ reserve "m" "a" W ∷ block "m" "a" �
 never_written = refl
 
 written_twice :
-    of_pipe (pipe (address ∷ value ∷ reserve "m" "a" W ∷ block "m" "a" ∷ write "m" "a" (variable "v") ∷ write "m" "a" (variable "v") ∷ release "m" "a" ∷ next ∷ []))
+    of_pipe
+    (pipe (address ∷ value ∷ reserve "m" "a" W ∷ block "m" "a" ∷ write "m" "a" (variable "v") ∷ write "m" "a" (variable "v") ∷ release "m" "a" ∷ next ∷ []))
     ≡ at_line L6 9
 written_twice = refl
 
@@ -207,12 +211,18 @@ read_between :
 read_between = refl
 
 reserved_in_two_stages :
-    of_pipe (pipe (address ∷ bind "b" (slice "n" 3 2) ∷ reserve "m" "a" R ∷ separator ∷ reserve "m" "b" R ∷ block "m" "a" ∷ block "m" "b" ∷ release "m" "a" ∷ release "m" "b" ∷ next ∷ []))
+    of_pipe
+    (pipe
+    (address ∷ bind "b" (slice "n" 3 2) ∷ reserve "m" "a" R ∷ separator ∷ reserve "m" "b" R ∷ block "m" "a"
+    ∷ block "m" "b" ∷ release "m" "a" ∷ release "m" "b" ∷ next ∷ []))
     ≡ at_line L2 7
 reserved_in_two_stages = refl
 
 released_in_two_stages :
-    of_pipe (pipe (address ∷ bind "b" (slice "n" 3 2) ∷ reserve "m" "a" R ∷ reserve "m" "b" R ∷ block "m" "a" ∷ block "m" "b" ∷ release "m" "a" ∷ separator ∷ release "m" "b" ∷ next ∷ []))
+    of_pipe
+    (pipe
+    (address ∷ bind "b" (slice "n" 3 2) ∷ reserve "m" "a" R ∷ reserve "m" "b" R ∷ block "m" "a" ∷ block "m" "b"
+    ∷ release "m" "a" ∷ separator ∷ release "m" "b" ∷ next ∷ []))
     ≡ at_line L2 11
 released_in_two_stages = refl
 

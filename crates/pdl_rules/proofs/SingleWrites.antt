@@ -163,7 +163,8 @@ unique l a same (x ∷ xs) n e f = by_place (or_cases _ _ e) (or_cases _ _ f) (u
         let sum = count_cons (is_reserve_of W a.mem.name) x xs in
         omega arith
 
-    by_place : (reserves_to_write l x ≡ true) ⊎ (list_any (reserves_to_write l) xs ≡ true) → (reserves_to_write a x ≡ true) ⊎ (list_any (reserves_to_write a) xs ≡ true)
+    by_place : (reserves_to_write l x ≡ true) ⊎ (list_any (reserves_to_write l) xs ≡ true)
+        → (reserves_to_write a x ≡ true) ⊎ (list_any (reserves_to_write a) xs ≡ true)
         → (list_any (reserves_to_write l) xs ≡ true → list_any (reserves_to_write a) xs ≡ true → same_location l a ≡ true) → same_location l a ≡ true
     by_place (inl t) (inl u) rest = one_place l a x t u
     by_place (inl t) (inr u) rest = absurd (more (of_l x t) (any_weaker _ _ (reserves_mem a) xs u))
@@ -279,8 +280,10 @@ stays_held p l before (Statement (Release s at) bs) keeps stuck = go (same_locat
     go : (b : Bool) → same_location at l ≡ b → (if b then Released else Blocked W) ≡ Blocked W
     go true e =
         let here : hold_after at before ≡ Blocked W = held_alike at l e before ∙ stuck.holds in
-        let count : count_by (writes_location at) before ≡ count_by (writes_location l) before = ap (λ (f : Place → Bool). count_by f before) (fun_ext (writes_alike at l e)) in
-        let one : not (count_by (writes_location at) before == 1) ≡ false = ap (λ h. is_held_for W h && not (count_by (writes_location at) before == 1)) (sym here) ∙ keeps.l6 in
+        let count : count_by (writes_location at) before ≡ count_by (writes_location l) before =
+        ap (λ (f : Place → Bool). count_by f before) (fun_ext (writes_alike at l e)) in
+        let one : not (count_by (writes_location at) before == 1) ≡ false =
+        ap (λ h. is_held_for W h && not (count_by (writes_location at) before == 1)) (sym here) ∙ keeps.l6 in
         let is : count_by (writes_location at) before ≡ 1 = eqb-true _ 1 (not-false _ one) in
         let many : 2 ≤ count_by (writes_location l) before = stuck.many in
         absurd (omega arith)

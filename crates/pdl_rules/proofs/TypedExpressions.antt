@@ -66,7 +66,9 @@ equal_if : (m n : ℕ) → not (m == n) ≡ false → m ≡ n
 equal_if m n e = eqb-true m n (not-false _ e)
 
 -- variables so far, all variables, and a test of uses that no variable fails to have
-module _ (vs all : List Var) (early : Use → Bool) (knows : (x : List ℕ) → early (OfVariable x) ≡ false → IsTrue (is_named vs x)) (stays : (x : List ℕ) → IsTrue (is_named vs x) → var_width all x ≡ var_width vs x) where
+module _ (vs all : List Var) (early : Use → Bool)
+    (knows : (x : List ℕ) → early (OfVariable x) ≡ false → IsTrue (is_named vs x))
+    (stays : (x : List ℕ) → IsTrue (is_named vs x) → var_width all x ≡ var_width vs x) where
   pub typed : (e : Expr) → Fits early all (of_one e) → IsTyped vs e × (width_of all e ≡ width_of vs e)
   typed (Constant l) f =
       let width = width_is l.width f.literals in
@@ -113,8 +115,12 @@ module _ (vs all : List Var) (early : Use → Bool) (knows : (x : List ℕ) → 
   typed (Choose c a b) f =
       let arms = λ (test : Expr → Bool) (h : some_part test (Choose c a b) ≡ false). (or_parts (test (Choose c a b)) _ h).1 in
       let condition = typed c (fits_part early all _ (of_one c) (λ test h. (or_parts (some_part test c) _ (arms test h)).0) f) in
-      let left = typed a (fits_part early all _ (of_one a) (λ test h. (or_parts (some_part test a) (some_part test b) (or_parts (some_part test c) _ (arms test h)).1).0) f) in
-      let right = typed b (fits_part early all _ (of_one b) (λ test h. (or_parts (some_part test a) (some_part test b) (or_parts (some_part test c) _ (arms test h)).1).1) f) in
+      let left =
+      typed a
+      (fits_part early all _ (of_one a) (λ test h. (or_parts (some_part test a) (some_part test b) (or_parts (some_part test c) _ (arms test h)).1).0) f) in
+      let right =
+      typed b
+      (fits_part early all _ (of_one b) (λ test h. (or_parts (some_part test a) (some_part test b) (or_parts (some_part test c) _ (arms test h)).1).1) f) in
       let same = equal_if (width_of all a) (width_of all b) (or_parts _ _ f.widths).0 in
       let one = equal_if (width_of all c) 1 (or_parts _ _ f.choices).0 in
       ((condition.0, left.0, right.0, sym condition.1 ∙ one, sym left.1 ∙ same ∙ right.1), left.1)
@@ -130,7 +136,8 @@ module _ (vs all : List Var) (early : Use → Bool) (knows : (x : List ℕ) → 
       let parts = and_parts (nat_eq (width_of all x) a.width.value) _ e in (
         first.0,
         sym first.1 ∙ eqb-true _ _ parts.0,
-        arguments ps es (fits_part early all _ (λ test. list_any test es) (λ test h. (or_parts (some_part test x) (list_any (some_part test) es) h).1) f) parts.1,
+        arguments ps es
+            (fits_part early all _ (λ test. list_any test es) (λ test h. (or_parts (some_part test x) (list_any (some_part test) es) h).1) f) parts.1,
       )
 
 -- THE START

@@ -42,6 +42,7 @@ pub is_new_number : (g : Guard) (gs : List Guard) → nat_le (length gs) (number
 is_new_number g [] = refl
 is_new_number g (h ∷ gs) = at (same_guard g h) (is_new_number g gs)
   where
-    at : (b : Bool) → nat_le (length gs) (number_of g gs) ≡ not (is_among g gs) → nat_le (suc (length gs)) (if b then 0 else suc (number_of g gs)) ≡ not (b || is_among g gs)
+    at : (b : Bool) → nat_le (length gs) (number_of g gs) ≡ not (is_among g gs)
+        → nat_le (suc (length gs)) (if b then 0 else suc (number_of g gs)) ≡ not (b || is_among g gs)
     at true e = none_less (length gs)
     at false e = sym (less_more (length gs) (number_of g gs)) ∙ e

@@ -51,7 +51,8 @@ number_new [] x k q h = refl
 number_new (e ∷ es) x k q h = at (bytes_eq x e.0) h (λ m. number_new es x k q m)
   where
     at : (b : Bool) → is_some (cond b (Some e.1) (number_in es x)) ≡ false
-        → (is_some (number_in es x) ≡ false → number_in (insert_entry (pointwise nat_eq) es x k) q ≡ or_else (number_in es q) (if bytes_eq q x then Some k else None))
+        → (is_some (number_in es x) ≡ false
+        → number_in (insert_entry (pointwise nat_eq) es x k) q ≡ or_else (number_in es q) (if bytes_eq q x then Some k else None))
         → number_in (if b then (e.0, k) ∷ es else e ∷ insert_entry (pointwise nat_eq) es x k) q
         ≡ or_else (cond (bytes_eq q e.0) (Some e.1) (number_in es q)) (if bytes_eq q x then Some k else None)
     at true m go = cc
@@ -60,18 +61,23 @@ number_new (e ∷ es) x k q h = at (bytes_eq x e.0) h (λ m. number_new es x k q
 -- what a place defines is added
 added : (read : Place → Option (List ℕ)) (xs : List Place) (es : Entries) (y : Place) → AreFirst read xs es
     → AreFirst read (xs ++ y ∷ []) (with_name es (read y) (length xs))
-added read xs es y h q = with_one (read y) ∙ ap (λ f. or_else f (if is_some_and (bytes_eq q) (read y) then Some (length xs) else None)) (h q) ∙ sym (first_more (λ d. is_some_and (bytes_eq q) (read d)) xs y)
+added read xs es y h q =
+    with_one (read y) ∙ ap (λ f. or_else f (if is_some_and (bytes_eq q) (read y) then Some (length xs) else None)) (h q)
+    ∙ sym (first_more (λ d. is_some_and (bytes_eq q) (read d)) xs y)
   where
-    same : (x : List ℕ) (b : Bool) → bytes_eq q x ≡ b → is_some (number_in es x) ≡ true → number_in es q ≡ or_else (number_in es q) (if b then Some (length xs) else None)
+    same : (x : List ℕ) (b : Bool) → bytes_eq q x ≡ b → is_some (number_in es x) ≡ true
+        → number_in es q ≡ or_else (number_in es q) (if b then Some (length xs) else None)
     same x true e s = or_some _ _ (subst (λ n. is_some (number_in es n) ≡ true) (sym ((bytes_eq-Decides q x).0 e)) s)
     same x false e s = or_none _
 
     known : (x : List ℕ) (b : Bool) → is_some (number_in es x) ≡ b
-        → number_in (if b then es else insert_entry (pointwise nat_eq) es x (length xs)) q ≡ or_else (number_in es q) (if bytes_eq q x then Some (length xs) else None)
+        → number_in (if b then es else insert_entry (pointwise nat_eq) es x (length xs)) q
+        ≡ or_else (number_in es q) (if bytes_eq q x then Some (length xs) else None)
     known x true s = same x (bytes_eq q x) refl s
     known x false s = number_new es x (length xs) q s
 
-    with_one : (o : Option (List ℕ)) → number_in (with_name es o (length xs)) q ≡ or_else (number_in es q) (if is_some_and (bytes_eq q) o then Some (length xs) else None)
+    with_one : (o : Option (List ℕ))
+        → number_in (with_name es o (length xs)) q ≡ or_else (number_in es q) (if is_some_and (bytes_eq q) o then Some (length xs) else None)
     with_one None = or_none _
     with_one (Some x) = known x (is_some (number_in es x)) refl
 
@@ -165,7 +171,8 @@ pub first_taken : (test : Place → Bool) (xs : List Place) (d k : ℕ)
 first_taken test [] d zero e l = absurd (omega (arith, l))
 first_taken test [] d (suc k) e l = e
 first_taken test (x ∷ xs) d zero e l = absurd (omega (arith, l))
-first_taken test (x ∷ xs) zero (suc k) e l = ap (λ b. if b then Some 0 else option_map suc (first_where test (take k xs))) (zero_first (test x) (first_where test xs) e)
+first_taken test (x ∷ xs) zero (suc k) e l =
+    ap (λ b. if b then Some 0 else option_map suc (first_where test (take k xs))) (zero_first (test x) (first_where test xs) e)
 first_taken test (x ∷ xs) (suc d) (suc k) e l =
     let parts = later_first (test x) (first_where test xs) d e in
     ap (λ b. if b then Some 0 else option_map suc (first_where test (take k xs))) parts.0

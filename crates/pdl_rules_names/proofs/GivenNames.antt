@@ -25,7 +25,8 @@ any_filtered path (y ∷ ys) = at (on_path path y) (any_filtered path ys)
     both false r = refl
 
     at : (b : Bool) → list_any is_separator (filter (on_path path) ys) ≡ list_any (is_separator_on path) ys
-        → list_any is_separator (cond b (y ∷ filter (on_path path) ys) (filter (on_path path) ys)) ≡ ((is_separator y && b) || list_any (is_separator_on path) ys)
+        → list_any is_separator (cond b (y ∷ filter (on_path path) ys) (filter (on_path path) ys))
+        ≡ ((is_separator y && b) || list_any (is_separator_on path) ys)
     at true e = ap (λ r. is_separator y || r) e ∙ both (is_separator y) (list_any (is_separator_on path) ys)
     at false e = e ∙ neither (is_separator y) (list_any (is_separator_on path) ys)
 
@@ -35,7 +36,8 @@ no_given : (u : Use) (path : List Guard) (ys : List Place)
 no_given u path [] h = refl
 no_given u path (y ∷ ys) h = let parts = or_parts (defines_use u y) (list_any (defines_use u) ys) h in at (on_path path y) parts.0 (no_given u path ys parts.1)
   where
-    at : (b : Bool) → defines_use u y ≡ false → is_given (filter (on_path path) ys) u ≡ false → is_given (cond b (y ∷ filter (on_path path) ys) (filter (on_path path) ys)) u ≡ false
+    at : (b : Bool) → defines_use u y ≡ false → is_given (filter (on_path path) ys) u ≡ false
+        → is_given (cond b (y ∷ filter (on_path path) ys) (filter (on_path path) ys)) u ≡ false
     at true d e = ap₂ (λ a g. (a && (not (is_delayed y) || list_any is_separator (filter (on_path path) ys))) || g) d e
     at false d e = e
 
@@ -45,7 +47,8 @@ pub given_by : (u : Use) (path : List Guard) (ds : List Place) (d : ℕ) (x : Pl
     → list_any (defines_use u) (drop (suc d) ds) ≡ false → is_given (filter (on_path path) ds) u ≡ given_on path ds d x
 given_by u path [] d x f g n = absurd (none_some d f)
 given_by u path (y ∷ ys) zero x f g n =
-    at (on_path path y) (zero_first (defines_use u y) (first_where (defines_use u) ys) f) (no_given u path ys n) ∙ ap (given_on path (y ∷ ys) 0) (same_Some y x g)
+    at (on_path path y) (zero_first (defines_use u y) (first_where (defines_use u) ys) f) (no_given u path ys n)
+    ∙ ap (given_on path (y ∷ ys) 0) (same_Some y x g)
   where
     at : (b : Bool) → defines_use u y ≡ true → is_given (filter (on_path path) ys) u ≡ false
         → is_given (cond b (y ∷ filter (on_path path) ys) (filter (on_path path) ys)) u ≡ (b && (not (is_delayed y) || list_any (is_separator_on path) ys))

@@ -18,7 +18,8 @@ all_more : (t : Branch → Bool) (xs : List r_branch) (i : ℕ) (x : r_branch)
 all_more t [] i x l e k h = absurd (omega (arith, l))
 all_more t (y ∷ ys) zero x l e k h = and_from _ _ (ap (λ z. t (branch_view z)) (sym e) ∙ k) refl
 all_more t (y ∷ ys) (suc i) x l e k h =
-    let parts = and_parts (t (branch_view y)) (list_all t (map branch_view (take i ys))) h in and_from _ _ parts.0 (all_more t ys i x (omega (arith, l)) e k parts.1)
+    let parts = and_parts (t (branch_view y)) (list_all t (map branch_view (take i ys))) h in
+    and_from _ _ parts.0 (all_more t ys i x (omega (arith, l)) e k parts.1)
 
 -- one branch more that is the same in both
 pub one_branch : (path : List Guard) (outer inner : List r_branch) (i : ℕ) (a b : r_branch)

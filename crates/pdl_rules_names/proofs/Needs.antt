@@ -17,7 +17,8 @@ among_params : (v : List ℕ) (ps : List Param) (rest : List Place)
     ≡ comes_before (first_where (defines_use (OfVariable v)) (map Parameter ps ++ rest)) (length ps)
 among_params v [] rest = none_before (first_where (defines_use (OfVariable v)) rest)
 among_params v (a ∷ ps) rest =
-    before_step (bytes_eq v a.name.name) (first_where (defines_use (OfVariable v)) (map Parameter ps ++ rest)) (list_any (λ (b : Param). bytes_eq v b.name.name) ps) (length ps)
+    before_step (bytes_eq v a.name.name) (first_where (defines_use (OfVariable v)) (map Parameter ps ++ rest))
+    (list_any (λ (b : Param). bytes_eq v b.name.name) ps) (length ps)
     (among_params v ps rest)
 
 -- a parameter is defined first among the parameters
@@ -29,7 +30,8 @@ parameter_first p v =
     let ss = statements [] p.body in
     let ends = End p.end ∷ StartClause p.start ∷ [] in
     among_params v p.params (ms ++ (ss ++ ends))
-    ∙ ap (λ xs. comes_before (first_where (defines_use (OfVariable v)) xs) (length p.params)) (sym (append_assoc (ps ++ ms) ss ends ∙ append_assoc ps ms (ss ++ ends)))
+    ∙ ap (λ xs. comes_before (first_where (defines_use (OfVariable v)) xs) (length p.params))
+    (sym (append_assoc (ps ++ ms) ss ends ∙ append_assoc ps ms (ss ++ ends)))
 
 at_place : (p : Pipe) (xs : List Place) (k : ℕ) (u : Use) (x : Place)
     → slice_get xs k ≡ Some x → is_too_early p (take k xs) x u ≡ early_at p xs k u

@@ -65,7 +65,8 @@ some_named : (u : Use) (before : List Place)
     → list_any (defines_use u) before ≡ true
     → list_any (λ d. is_some_and (bytes_eq (name_used u)) (name_at d)) before ≡ true
 some_named u [] h = h
-some_named u (d ∷ ds) h = ⊎_elim (λ a. or_left _ _ (names_it u d a)) (λ b. or_right _ _ (some_named u ds b)) (or_cases (defines_use u d) (list_any (defines_use u) ds) h)
+some_named u (d ∷ ds) h =
+    ⊎_elim (λ a. or_left _ _ (names_it u d a)) (λ b. or_right _ _ (some_named u ds b)) (or_cases (defines_use u d) (list_any (defines_use u) ds) h)
 
 taken_twice : (p : Pipe) (u : Use) (before : List Place) (y : Place)
     → list_any (defines_use u) before ≡ true → defines_use u y ≡ true → breaks_n2 p before y ≡ true
@@ -83,7 +84,9 @@ once p u before [] e h = refl
 once p u before (y ∷ ys) e h =
     let parts = none_given (breaks_rule N2 p before y) (line_of y) (broken_line N2 p (before ++ y ∷ []) ys) e in
     let others = list_any-append (defines_use u) before (y ∷ []) ∙ or_left _ _ h in
-    ap₂ (λ a b. a || b) (false_from_ne_true _ (λ d. both_ways (breaks_n2 p before y) parts.0 (taken_twice p u before y h d))) (once p u (before ++ y ∷ []) ys parts.1 others)
+    ap₂ (λ a b. a || b)
+    (false_from_ne_true _ (λ d. both_ways (breaks_n2 p before y) parts.0 (taken_twice p u before y h d)))
+    (once p u (before ++ y ∷ []) ys parts.1 others)
 
 -- none after the first
 later_none : (p : Pipe) (u : Use) (before ds : List Place) (d : ℕ)

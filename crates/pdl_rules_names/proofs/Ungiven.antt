@@ -60,7 +60,8 @@ missing_on p xs k d u x y b h l e =
 -- what is defined before its use, and given on each path through that place, is given there
 pub missing_nowhere : (p : Pipe) (xs : List Place) (k d : ℕ) (u : Use) (x y : Place) → Known p xs k d u x y
     → d < k
-    → ((b : ℕ) → b < 2 ^ length (guards (places p)) → (on_path (path_of (guards (places p)) b) x && not (given_on (path_of (guards (places p)) b) (take k xs) d y)) ≡ false)
+    → ((b : ℕ) → b < 2 ^ length (guards (places p))
+    → (on_path (path_of (guards (places p)) b) x && not (given_on (path_of (guards (places p)) b) (take k xs) d y)) ≡ false)
     → false ≡ ungiven p xs k u x
 missing_nowhere p xs k d u x y h l none =
     let test : List Guard → Bool = λ c. on_path c x && not (is_given (filter (on_path c) (take k xs)) u) in

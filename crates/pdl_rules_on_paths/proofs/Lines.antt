@@ -44,7 +44,8 @@ line_some test before (x ∷ xs) zero l e others =
     ap (λ b. if b then Some (line_of x) else line_where test (before ++ x ∷ []) xs) (sym (ap (λ b. test b x) (append-nil before)) ∙ e)
 line_some test before (x ∷ xs) (suc k) l e others =
     first_fails test before xs x (others 0 (omega arith))
-    ∙ line_some test (before ++ x ∷ []) xs k (omega arith) (sym (moved test before xs x k) ∙ e) (λ j m. sym (moved test before xs x j) ∙ others (suc j) (omega arith))
+    ∙ line_some test (before ++ x ∷ []) xs k (omega arith) (sym (moved test before xs x k) ∙ e)
+    (λ j m. sym (moved test before xs x j) ∙ others (suc j) (omega arith))
 
 line_none : (test : List Place → Place → Bool) (before xs : List Place)
     → ((j : ℕ) → j < length xs → at_from test before xs j ≡ false) → line_where test before xs ≡ None

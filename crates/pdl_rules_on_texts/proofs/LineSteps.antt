@@ -11,7 +11,8 @@ line_more : (test : List Place → Place → Bool) (before xs : List Place) (y :
 line_more test before [] y = ap (λ b. if test b y then Some (line_of y) else None) (sym (append-nil before))
 line_more test before (x ∷ xs) y = at (test before x) (line_more test (before ++ x ∷ []) xs y)
   where
-    at : (b : Bool) → line_where test (before ++ x ∷ []) (xs ++ y ∷ []) ≡ noted_line (line_where test (before ++ x ∷ []) xs) (test ((before ++ x ∷ []) ++ xs) y) (line_of y)
+    at : (b : Bool)
+        → line_where test (before ++ x ∷ []) (xs ++ y ∷ []) ≡ noted_line (line_where test (before ++ x ∷ []) xs) (test ((before ++ x ∷ []) ++ xs) y) (line_of y)
         → (if b then Some (line_of x) else line_where test (before ++ x ∷ []) (xs ++ y ∷ []))
         ≡ noted_line (if b then Some (line_of x) else line_where test (before ++ x ∷ []) xs) (test (before ++ x ∷ xs) y) (line_of y)
     at true e = refl

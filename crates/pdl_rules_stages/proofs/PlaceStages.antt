@@ -38,7 +38,9 @@ stage_step begun found next last bs x rest true o e i j k =
     ∙ ap₂ (λ (a b : Bool). if a then stage_from (suc begun) (if b then suc begun else found) bs rest else stage_from begun found bs rest) (sym e) (sym i)
 stage_step begun found next last bs x rest false o e i j k =
     ap₂ (λ m n. stage_from m n bs rest) j k
-    ∙ ap (λ (a : Bool). if a then stage_from (suc begun) (if are_outer (branches_of x) bs then suc begun else found) bs rest else stage_from begun found bs rest) (sym e)
+    ∙ ap
+    (λ (a : Bool). if a then stage_from (suc begun) (if are_outer (branches_of x) bs then suc begun else found) bs rest else stage_from begun found bs rest)
+    (sym e)
 
 -- as many stages have begun after some places as after their rest, and 1 more if the first is a separator
 pub count_step : (x : Place) (rest : List Place) (s : Bool)
@@ -62,7 +64,8 @@ next_past path begun x rest e i =
 -- where the first place is no separator, the next stage on the path is that by the places after it
 pub next_other : (path : List Guard) (begun : ℕ) (x : Place) (rest : List Place)
     → is_separator x ≡ false → next_on path begun (x ∷ rest) ≡ next_on path begun rest
-next_other path begun x rest e = ap (λ (a : Bool). if a then (if on_path path x then suc begun else next_on path (suc begun) rest) else next_on path begun rest) e
+next_other path begun x rest e =
+    ap (λ (a : Bool). if a then (if on_path path x then suc begun else next_on path (suc begun) rest) else next_on path begun rest) e
 
 -- THE STAGES OF PLACES
 
@@ -71,12 +74,15 @@ pub that_append : (test : Place → Bool) (before xs ys : List Place)
     → stages_that test before (xs ++ ys) ≡ stages_that test before xs ++ stages_that test (before ++ xs) ys
 that_append test before [] ys = ap (λ b. stages_that test b ys) (sym (append-nil before))
 that_append test before (x ∷ xs) ys =
-    let rest = that_append test (before ++ x ∷ []) xs ys ∙ ap (λ b. stages_that test (before ++ x ∷ []) xs ++ stages_that test b ys) (append_assoc before (x ∷ []) xs) in
+    let rest =
+    that_append test (before ++ x ∷ []) xs ys
+    ∙ ap (λ b. stages_that test (before ++ x ∷ []) xs ++ stages_that test b ys) (append_assoc before (x ∷ []) xs) in
     at (test x) rest
   where
     at : (b : Bool) → stages_that test (before ++ x ∷ []) (xs ++ ys) ≡ stages_that test (before ++ x ∷ []) xs ++ stages_that test (before ++ x ∷ xs) ys
         → (if b then stage_of before x ∷ stages_that test (before ++ x ∷ []) (xs ++ ys) else stages_that test (before ++ x ∷ []) (xs ++ ys))
-        ≡ (if b then stage_of before x ∷ stages_that test (before ++ x ∷ []) xs else stages_that test (before ++ x ∷ []) xs) ++ stages_that test (before ++ x ∷ xs) ys
+        ≡ (if b then stage_of before x ∷ stages_that test (before ++ x ∷ []) xs else stages_that test (before ++ x ∷ []) xs)
+        ++ stages_that test (before ++ x ∷ xs) ys
     at true e = ap (λ ns. stage_of before x ∷ ns) e
     at false e = e
 
@@ -93,7 +99,8 @@ stages_more xs k x e = sym (ap stages_in (taken xs k x e) ∙ that_more each [] 
 -- the k-th of them
 nth_from : (front before later : List Place) (x : Place) (k : ℕ)
     → k ≡ length before → get_or (stages_that each front (before ++ x ∷ later)) k 0 ≡ stage_of (front ++ before) x
-nth_from front [] later x k e = ap (λ n. get_or (stage_of front x ∷ stages_that each (front ++ x ∷ []) later) n 0) e ∙ ap (λ b. stage_of b x) (sym (append-nil front))
+nth_from front [] later x k e =
+    ap (λ n. get_or (stage_of front x ∷ stages_that each (front ++ x ∷ []) later) n 0) e ∙ ap (λ b. stage_of b x) (sym (append-nil front))
 nth_from front (y ∷ before) later x k e =
     ap (λ n. get_or (stage_of front y ∷ stages_that each (front ++ y ∷ []) (before ++ x ∷ later)) n 0) e
     ∙ nth_from (front ++ y ∷ []) before later x (length before) refl
@@ -141,7 +148,8 @@ elsewhere_from test front (y ∷ before) later x e =
   where
     at : (b : Bool) → is_some_and (λ s. not (s == stage_of (front ++ y ∷ before) x)) (first_stage test (front ++ y ∷ []) (before ++ x ∷ later))
         ≡ is_some_and (λ s. not (s == stage_of (front ++ y ∷ before) x)) (first_stage test (front ++ y ∷ []) before)
-        → is_some_and (λ s. not (s == stage_of (front ++ y ∷ before) x)) (if b then Some (stage_of front y) else first_stage test (front ++ y ∷ []) (before ++ x ∷ later))
+        → is_some_and (λ s. not (s == stage_of (front ++ y ∷ before) x))
+        (if b then Some (stage_of front y) else first_stage test (front ++ y ∷ []) (before ++ x ∷ later))
         ≡ is_some_and (λ s. not (s == stage_of (front ++ y ∷ before) x)) (if b then Some (stage_of front y) else first_stage test (front ++ y ∷ []) before)
     at true h = refl
     at false h = h

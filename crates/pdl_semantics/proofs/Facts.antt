@@ -23,7 +23,8 @@ all_push test (y ∷ xs) x = ap (λ b. test y && b) (all_push test xs x) ∙ sym
 -- what is held before the first stage
 pub held_first : (path : List ℕ) (xs : List Stmt) (ls : List HeldLocation) → held_before 0 path xs ls ≡ ls
 held_first path [] ls = refl
-held_first path (x ∷ xs) ls = ap (λ b. held_before 0 path xs (if b && all_hold x.guards path then held_after x.op ls else ls)) (low x.stage) ∙ held_first path xs ls
+held_first path (x ∷ xs) ls =
+    ap (λ b. held_before 0 path xs (if b && all_hold x.guards path then held_after x.op ls else ls)) (low x.stage) ∙ held_first path xs ls
   where
     low : (n : ℕ) → nat_lt n 0 ≡ false
     low n = le-ltb n 0 (omega arith)

@@ -51,7 +51,8 @@ lines_from n ms (c ∷ cs) = cycle_lines n ms c.puts ++ lines_from (suc n) ms cs
 -- `end cycles C ended N waits W squashes Q`
 abbrev pub end_line : ℕ → ℕ → ℕ → ℕ → List ℕ
 end_line cycles ended waits squashes =
-    codes "end cycles " ++ decimal cycles ++ codes " ended " ++ decimal ended ++ codes " waits " ++ decimal waits ++ codes " squashes " ++ decimal squashes ++ codes "\n"
+    codes "end cycles " ++ decimal cycles ++ codes " ended " ++ decimal ended ++ codes " waits " ++ decimal waits
+    ++ codes " squashes " ++ decimal squashes ++ codes "\n"
 
 -- the text of a run: cycles are numbered from 1
 abbrev pub lines : List Column → List Cycle → List ℕ

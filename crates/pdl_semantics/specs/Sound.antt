@@ -256,7 +256,9 @@ same_sides _ _ = false
 
 -- point 1: the live threads are in order, and each fork's list has their branches
 abbrev pub in_order : Pipe → State → Bool
-in_order p st = all_pairs (λ older younger. nat_lt older.thread.number younger.thread.number && is_behind p older younger) (live st) && all_from (λ f. same_sides (fork_of st f) (sides_in p f (live st))) 0 p.stages
+in_order p st =
+    all_pairs (λ older younger. nat_lt older.thread.number younger.thread.number && is_behind p older younger) (live st)
+    && all_from (λ f. same_sides (fork_of st f) (sides_in p f (live st))) 0 p.stages
 
 -- 2. CHAIN. At least one thread lives; each but the youngest has made its successor, the youngest hasn't
 

@@ -18,16 +18,19 @@ no_params [] = refl
 no_params (a ∷ ps) = let one = count_cons is_memory (Parameter a) (map Parameter ps) in let rest = no_params ps in omega arith
 
 module _ (p : Pipe) (rules : KeepsRules p) where
-  few_from : (ms : List Mem) (before later : List Place) (k : ℕ) → places p ≡ before ++ (map Memory ms ++ later) → count_by is_memory before ≡ k → k ≤ 16 → k + length ms ≤ 16
+  few_from : (ms : List Mem) (before later : List Place) (k : ℕ) → places p ≡ before ++ (map Memory ms ++ later)
+      → count_by is_memory before ≡ k → k ≤ 16 → k + length ms ≤ 16
   few_from [] before later k e n h = omega arith
   few_from (m ∷ ms) before later k e n h =
       let not_full : count_by is_memory before ≢ 16 = eqb-false _ 16 (rules Z4 before (Memory m) _ e) in
       let one : count_by is_memory (before ++ Memory m ∷ []) ≡ k + 1 = count_push is_memory before (Memory m) ∙ ap (λ i. i + 1) n in
-      let rest : k + 1 + length ms ≤ 16 = few_from ms (before ++ Memory m ∷ []) later (k + 1) (e ∙ sym (append_assoc before (Memory m ∷ []) (map Memory ms ++ later))) one (omega arith) in
+      let rest : k + 1 + length ms ≤ 16 =
+      few_from ms (before ++ Memory m ∷ []) later (k + 1) (e ∙ sym (append_assoc before (Memory m ∷ []) (map Memory ms ++ later))) one (omega arith) in
       omega arith
 
   pub few_mems : length (mems_of p.mems) ≤ 16
   few_mems =
       let same = mems_length p.mems in
-      let few : 0 + length p.mems ≤ 16 = few_from p.mems (map Parameter p.params) (statements [] p.body ++ closing p) 0 (by_params p rules) (no_params p.params) (omega arith) in
+      let few : 0 + length p.mems ≤ 16 =
+      few_from p.mems (map Parameter p.params) (statements [] p.body ++ closing p) 0 (by_params p rules) (no_params p.params) (omega arith) in
       omega arith

@@ -16,7 +16,8 @@ typed_mem p [] m t h = absurd (omega arith)
 typed_mem p (x ∷ ms) zero t h = t.0
 typed_mem p (x ∷ ms) (suc m) t h = typed_mem p ms m t.1 (omega arith)
 
-module _ (f : Form) (typed : IsTypedForm f) (lists : List (List ℕ)) (s : IsShaped f.pipe lists) (r : Run) (k : AreFitting f r) (room : ℕ) (enough : length f.pipe.start ≤ room) where
+module _ (f : Form) (typed : IsTypedForm f) (lists : List (List ℕ)) (s : IsShaped f.pipe lists) (r : Run)
+    (k : AreFitting f r) (room : ℕ) (enough : length f.pipe.start ≤ room) where
   mem_there : (m : ℕ) → m < length f.pipe.mems → m < length lists
   mem_there m h = subst (λ n. m < n) (sym s.count) h
 
@@ -37,8 +38,12 @@ module _ (f : Form) (typed : IsTypedForm f) (lists : List (List ℕ)) (s : IsSha
   safe_op (CombRead x m a) t = (there_in f typed.wide r x k t.0, mem_there m t.1.memory)
   safe_op (DelayedRead x m a) t = (there_in f typed.wide r x k t.0, mem_there m t.1.memory)
   safe_op (Write m a e) t =
-      let deep : length (list_at lists m) ≡ (mem_at f.pipe m).depth = s.depth m t.0.memory in
-      (mem_there m t.0.memory, subst (λ n. slice_index r.env a < n) (sym deep) (within m a t.0.memory t.0.reach), small m a t.0.memory t.0.reach, safe f.widths r.env typed.wide k.values e t.1)
+      let deep : length (list_at lists m) ≡ (mem_at f.pipe m).depth = s.depth m t.0.memory in (
+        mem_there m t.0.memory,
+        subst (λ n. slice_index r.env a < n) (sym deep) (within m a t.0.memory t.0.reach),
+        small m a t.0.memory t.0.reach,
+        safe f.widths r.env typed.wide k.values e t.1,
+      )
   safe_op (ReserveRead m a) t = tt
   safe_op (ReserveWrite m a) t = tt
   safe_op (Block m a) t = tt

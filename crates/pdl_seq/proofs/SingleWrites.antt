@@ -83,6 +83,7 @@ at_most m (x ∷ xs) ph r h =
     let here = and_left _ _ h in
     let taken_here : all_hold x.guards r.env ≡ true = taken_none x.guards r.env (and_left _ _ here) in
     let one : count m (run_after x.op r) + left (next_phase m ph x.op) ≤ count m r + left ph = step m ph x.op r (and_right _ _ here) in
-    let rest : count m (run_all xs (run_after x.op r)) ≤ count m (run_after x.op r) + left (next_phase m ph x.op) = at_most m xs (next_phase m ph x.op) (run_after x.op r) (and_right _ _ h) in
+    let rest : count m (run_all xs (run_after x.op r)) ≤ count m (run_after x.op r) + left (next_phase m ph x.op) =
+    at_most m xs (next_phase m ph x.op) (run_after x.op r) (and_right _ _ h) in
     let both : count m (run_all xs (run_after x.op r)) ≤ count m r + left ph = omega arith in
     subst (λ b. count m (run_all xs (cond b (run_after x.op r) r)) ≤ count m r + left ph) (sym taken_here) both

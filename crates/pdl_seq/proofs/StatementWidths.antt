@@ -21,7 +21,8 @@ module _ (ws env : List ℕ) (x v : ℕ) (f : Fit ws env) (h : v < 2 ^ slice_ind
   set_below : (y : ℕ) (b : Bool) → (y == x) ≡ b → slice_index (slice_set env x v) y < 2 ^ slice_index ws y
   set_below y true e =
       let same : y ≡ x = eqb-true y x e in
-      subst (λ i. slice_index (slice_set env x v) i < 2 ^ slice_index ws i) (sym same) (subst (λ u. u < 2 ^ slice_index ws x) (sym (get_or-set_same env x v 0 there)) h)
+      subst (λ i. slice_index (slice_set env x v) i < 2 ^ slice_index ws i) (sym same)
+      (subst (λ u. u < 2 ^ slice_index ws x) (sym (get_or-set_same env x v 0 there)) h)
   set_below y false e =
       let other : y ≢ x = eqb-false y x e in
       subst (λ u. u < 2 ^ slice_index ws y) (sym (get_or-set_other env x y v 0 other)) (f.below y)
@@ -70,15 +71,19 @@ module _ (f : Form) where
 
     -- WORDS
 
-    module _ (arrays : Arrays) (h : (n b : ℕ) → n < length f.pipe.mems → word_at arrays n b < 2 ^ (mem_at f.pipe n).width) (m a v : ℕ) (small : v < 2 ^ (mem_at f.pipe m).width) where
+    module _ (arrays : Arrays)
+        (h : (n b : ℕ) → n < length f.pipe.mems → word_at arrays n b < 2 ^ (mem_at f.pipe n).width) (m a v : ℕ)
+        (small : v < 2 ^ (mem_at f.pipe m).width) where
       at_word : (b : ℕ) (t : Bool) → m < length f.pipe.mems → cond t v (arrays m b) < 2 ^ (mem_at f.pipe m).width
       at_word b true there = small
       at_word b false there = h m b there
 
-      at_mem : (n b : ℕ) (t : Bool) → (n == m) ≡ t → n < length f.pipe.mems → (if t then with_value (arrays m) a v else arrays n) b < 2 ^ (mem_at f.pipe n).width
+      at_mem : (n b : ℕ) (t : Bool) → (n == m) ≡ t → n < length f.pipe.mems
+          → (if t then with_value (arrays m) a v else arrays n) b < 2 ^ (mem_at f.pipe n).width
       at_mem n b true e there =
           let same : n ≡ m = eqb-true n m e in
-          subst (λ k. with_value (arrays m) a v b < 2 ^ (mem_at f.pipe k).width) (sym same) (at_word b (b == a) (subst (λ k. k < length f.pipe.mems) same there))
+          subst (λ k. with_value (arrays m) a v b < 2 ^ (mem_at f.pipe k).width) (sym same)
+          (at_word b (b == a) (subst (λ k. k < length f.pipe.mems) same there))
       at_mem n b false e there = h n b there
 
       words_set : (n b : ℕ) → n < length f.pipe.mems → word_at (with_word arrays m a v) n b < 2 ^ (mem_at f.pipe n).width
@@ -104,7 +109,8 @@ module _ (f : Form) where
           commits = k.commits;
         }
     fits_runs (CombRead x m a) r t k = record { words = k.words; values = read_fits r x m a k t.1.memory t.0 t.2; next_args = k.next_args; commits = k.commits }
-    fits_runs (DelayedRead x m a) r t k = record { words = k.words; values = read_fits r x m a k t.1.memory t.0 t.2; next_args = k.next_args; commits = k.commits }
+    fits_runs (DelayedRead x m a) r t k =
+        record { words = k.words; values = read_fits r x m a k t.1.memory t.0 t.2; next_args = k.next_args; commits = k.commits }
     fits_runs (Write m a e) r t k =
         let small : value_of e r.env < 2 ^ (mem_at f.pipe m).width = fits_in f.widths r.env wide k.values e _ t.1 t.2 in
         let within : slice_index r.env a < (mem_at f.pipe m).depth = subst (λ n. slice_index r.env a < n) t.0.reach (k.values.below a) in

@@ -38,7 +38,8 @@ counted_more : (c : Commit) (cs : List Commit) (n : ℕ) → c.mem < n → count
 counted_more c cs zero h = absurd (omega arith)
 counted_more c cs (suc n) h = at (c.mem == n) refl (counted_more c cs n)
   where
-    at : (b : Bool) → (c.mem == n) ≡ b → (c.mem < n → counted n (c ∷ cs) ≡ suc (counted n cs)) → length (of_mem n (c ∷ cs)) + counted n (c ∷ cs) ≡ suc (length (of_mem n cs) + counted n cs)
+    at : (b : Bool) → (c.mem == n) ≡ b → (c.mem < n → counted n (c ∷ cs) ≡ suc (counted n cs))
+        → length (of_mem n (c ∷ cs)) + counted n (c ∷ cs) ≡ suc (length (of_mem n cs) + counted n cs)
     at true e more =
         let same : c.mem ≡ n = eqb-true c.mem n e in
         let one = here c cs n true e in

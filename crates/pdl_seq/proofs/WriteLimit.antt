@@ -38,7 +38,8 @@ module _ (f : Form) where
   known_runs SpecCheck r t k = k
   known_runs SpecBarrier r t k = k
 
-  known_if : (b : Bool) (op : Op) (r : Run) → IsTypedOp f op → AreKnown (length f.pipe.mems) r.writes → AreKnown (length f.pipe.mems) (if b then run_after op r else r).writes
+  known_if : (b : Bool) (op : Op) (r : Run) → IsTypedOp f op → AreKnown (length f.pipe.mems) r.writes
+      → AreKnown (length f.pipe.mems) (if b then run_after op r else r).writes
   known_if true op r t k = known_runs op r t k
   known_if false op r t k = k
 
@@ -66,7 +67,8 @@ module _ (f : Form) where
 
     pub few : length (thread f.pipe arrays args).writes ≤ 16
     few =
-        let most : length (thread f.pipe arrays args).writes ≤ length f.pipe.mems = few_writes (length f.pipe.mems) _ (known_all f.pipe.stmts start run.typed.stmts tt) once in
+        let most : length (thread f.pipe arrays args).writes ≤ length f.pipe.mems =
+        few_writes (length f.pipe.mems) _ (known_all f.pipe.stmts start run.typed.stmts tt) once in
         let mems = run.few in
         omega arith
 

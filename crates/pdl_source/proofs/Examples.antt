@@ -26,7 +26,8 @@ stays c (t ∷ ts) = is_within (counts_after c t.kind) && stays (counts_after c 
 
 within_of : (c : LimitCounts) (ts : Row) → stays c ts ≡ true → AreWithin c ts
 within_of c [] e = tt
-within_of c (t ∷ ts) e = let h = and_parts (is_within (counts_after c t.kind)) (stays (counts_after c t.kind) ts) e in (h.0, within_of (counts_after c t.kind) ts h.1)
+within_of c (t ∷ ts) e = let h = and_parts (is_within (counts_after c t.kind)) (stays (counts_after c t.kind) ts) e in
+    (h.0, within_of (counts_after c t.kind) ts h.1)
 
 abbrev its_tree : (p : Pipe) × IsText two_alike p
 unfolding piece_at

@@ -42,11 +42,13 @@ placed bs (s ∷ ss) xs = with_inner bs s ++ placed bs ss xs
 placed_first : (bs : List Branch) (ss : List Stmt) (others : Stmts) (xs : List Place)
     → placed bs ss (statements bs others ++ xs) ≡ statements bs (prepend ss others) ++ xs
 placed_first bs [] others xs = refl
-placed_first bs (s ∷ ss) others xs = ap (λ l. with_inner bs s ++ l) (placed_first bs ss others xs) ∙ sym (append_assoc (with_inner bs s) (statements bs (prepend ss others)) xs)
+placed_first bs (s ∷ ss) others xs =
+    ap (λ l. with_inner bs s ++ l) (placed_first bs ss others xs) ∙ sym (append_assoc (with_inner bs s) (statements bs (prepend ss others)) xs)
 
 -- an `if` with what stands in it
 if_ordered : (bs : List Branch) (s : Span) (v : Expr) (first second : Stmts) (n : ℕ) (xs : List Place) → n ≤ s.start →
-    ((m : ℕ) → m ≤ suc s.start → (one two : List Branch) → Ordered m (statements one first ++ (statements two second ++ xs))) → Ordered n (with_inner bs (If s v first second) ++ xs)
+    ((m : ℕ) → m ≤ suc s.start → (one two : List Branch) → Ordered m (statements one first ++ (statements two second ++ xs)))
+    → Ordered n (with_inner bs (If s v first second) ++ xs)
 if_ordered bs s v first second n xs le h =
     let one : List Branch = bs ++ record { guard = guard_of s v; truth = true; inside = first } ∷ [] in
     let two : List Branch = bs ++ record { guard = guard_of s v; truth = false; inside = second } ∷ [] in
@@ -65,10 +67,12 @@ mutual
   item_ordered ss a r blocking bs xs f n h = (refl, f n (later 8 h))
   item_ordered ss a r releasing bs xs f n h = (refl, f n (later 8 h))
   item_ordered ss a r (branching {w = w} {e = e} v i) bs xs f n h =
-      if_ordered bs (across w.span e.span) _ _ Nil n xs (from h) (λ m low one two. items_ordered _ _ _ i one xs (λ k g. f k (later 1 g)) m (later 2 (after_full _ _ _ v m (later 1 (sooner m low (rest h))))))
+      if_ordered bs (across w.span e.span) _ _ Nil n xs (from h)
+      (λ m low one two. items_ordered _ _ _ i one xs (λ k g. f k (later 1 g)) m (later 2 (after_full _ _ _ v m (later 1 (sooner m low (rest h))))))
   item_ordered ss a r (choosing {w = w} {e = e} v i j) bs xs f n h =
       if_ordered bs (across w.span e.span) _ _ _ n xs (from h) (λ m low one two.
-      items_ordered _ _ _ i one _ (λ k g. items_ordered _ _ _ j two xs (λ l t. f l (later 1 t)) k (later 3 g)) m (later 2 (after_full _ _ _ v m (later 1 (sooner m low (rest h))))))
+      items_ordered _ _ _ i one _ (λ k g. items_ordered _ _ _ j two xs (λ l t. f l (later 1 t)) k (later 3 g)) m
+      (later 2 (after_full _ _ _ v m (later 1 (sooner m low (rest h))))))
   item_ordered ss a r (calling v) bs xs f n h = (refl, f n (later 1 (after_args _ _ _ _ v n (later 2 h))))
   item_ordered ss a r (verifying v) bs xs f n h = (refl, f n (later 1 (after_args _ _ _ _ v n (later 4 h))))
   item_ordered ss a r checking bs xs f n h = (refl, f n (later 4 h))

@@ -65,7 +65,9 @@ lettered : (n : ℕ) (xs : List Place) → Ordered n xs → list_any (defines_us
 lettered n [] h = refl
 lettered n (x ∷ xs) h = ap₂ (λ b c. b || c) h.0 (at (own_start x) h.1 (λ m i. lettered m xs i))
   where
-    at : (o : Option ℕ) → Next n o (λ m. Ordered m xs) → ((m : ℕ) → Ordered m xs → list_any (defines_use (OfVariable [])) xs ≡ false) → list_any (defines_use (OfVariable [])) xs ≡ false
+    at : (o : Option ℕ) → Next n o (λ m. Ordered m xs)
+        → ((m : ℕ) → Ordered m xs → list_any (defines_use (OfVariable [])) xs ≡ false)
+        → list_any (defines_use (OfVariable [])) xs ≡ false
     at None i go = go n i
     at (Some k) i go = go (suc k) i.1
 

@@ -49,8 +49,10 @@ making_append k s (op ∷ os) rest = making_append (next_making k (answered_op o
 -- how far the places before are
 abbrev pub Stood : Making → List Place → Type 0
 Stood Unmade before = (list_any is_call before ≡ false) × (list_any is_verify before ≡ false)
-Stood Guessed before = (list_any is_call before ≡ true) × (list_any is_verify before ≡ false) × (g : List ℕ) × (list_any (defines_use (OfGuess g)) before ≡ true)
-Stood Made before = (list_any is_call before ≡ true) × ((g : List ℕ) → list_any (defines_use (OfGuess g)) before ≡ true → list_any (is_verify_of g) before ≡ true)
+Stood Guessed before =
+    (list_any is_call before ≡ true) × (list_any is_verify before ≡ false) × (g : List ℕ) × (list_any (defines_use (OfGuess g)) before ≡ true)
+Stood Made before =
+    (list_any is_call before ≡ true) × ((g : List ℕ) → list_any (defines_use (OfGuess g)) before ≡ true → list_any (is_verify_of g) before ≡ true)
 
 -- a guess is made by a call, and verified by a verify
 pub guess_calls : (g : List ℕ) (x : Place) → defines_use (OfGuess g) x ≡ true → is_call x ≡ true
@@ -83,10 +85,12 @@ none_more test before x h e = list_any-append test before (x ∷ []) ∙ ap₂ (
 stood_next : (k : Making) (before : List Place) (x : Place)
     → is_call x ≡ false → is_verify x ≡ false → Stood k before → Stood k (before ++ x ∷ [])
 stood_next Unmade before x c v s = (none_more is_call before x s.0 c, none_more is_verify before x s.1 v)
-stood_next Guessed before x c v s = (any_front is_call before x s.0, none_more is_verify before x s.1 v, s.2, any_front (defines_use (OfGuess s.2)) before x s.3)
+stood_next Guessed before x c v s =
+    (any_front is_call before x s.0, none_more is_verify before x s.1 v, s.2, any_front (defines_use (OfGuess s.2)) before x s.3)
 stood_next Made before x c v s = (
   any_front is_call before x s.0,
-  (λ g e. ⊎_elim (λ t. any_front (is_verify_of g) before x (s.1 g t)) (λ t. absurd (both_ways _ c (guess_calls g x t))) (any_split (defines_use (OfGuess g)) before x e)),
+  (λ g e. ⊎_elim (λ t. any_front (is_verify_of g) before x (s.1 g t)) (λ t. absurd (both_ways _ c (guess_calls g x t)))
+      (any_split (defines_use (OfGuess g)) before x e)),
 )
 
 -- THE STATEMENTS
@@ -95,7 +99,8 @@ module _ (ms : List Mem) (v : Option ℕ) (before : List Place) (bs : List Branc
   abbrev Goes : Making → Stmt → List Flat.Op → Type 0
   Goes k t os = (making_oks v k s os ≡ true) × Stood (making_ops k os) (before ++ Statement t bs ∷ [])
 
-  still : (k : Making) (t : Stmt) → is_call (Statement t bs) ≡ false → is_verify (Statement t bs) ≡ false → Stood k before → (true ≡ true) × Stood k (before ++ Statement t bs ∷ [])
+  still : (k : Making) (t : Stmt) → is_call (Statement t bs) ≡ false → is_verify (Statement t bs) ≡ false
+      → Stood k before → (true ≡ true) × Stood k (before ++ Statement t bs ∷ [])
   still k t c w i = (refl, stood_next k before (Statement t bs) c w i)
 
   unmade : (k : Making) → Stood k before → list_any is_call before ≡ false → is_unmade k ≡ true
@@ -103,12 +108,14 @@ module _ (ms : List Mem) (v : Option ℕ) (before : List Place) (bs : List Branc
   unmade Guessed i e = absurd (both_ways _ e i.0)
   unmade Made i e = absurd (both_ways _ e i.0)
 
-  calls : (k : Making) (sp : Span) (args : List Expr) → Stood k before → list_any is_call before ≡ false → ((is_unmade k && true) ≡ true) × Stood Made (before ++ Statement (Call sp args) bs ∷ [])
+  calls : (k : Making) (sp : Span) (args : List Expr) → Stood k before → list_any is_call before ≡ false
+      → ((is_unmade k && true) ≡ true) × Stood Made (before ++ Statement (Call sp args) bs ∷ [])
   calls k sp args i e = (
     and_from _ _ (unmade k i e) refl,
     (
       any_last is_call before (Statement (Call sp args) bs) refl,
-      (λ g d. ⊎_elim (λ t. absurd (both_ways _ e (any_weaker _ _ (guess_calls g) before t))) (λ t. absurd (false≢true t)) (any_split (defines_use (OfGuess g)) before (Statement (Call sp args) bs) d)),
+      (λ g d. ⊎_elim (λ t. absurd (both_ways _ e (any_weaker _ _ (guess_calls g) before t)))
+          (λ t. absurd (false≢true t)) (any_split (defines_use (OfGuess g)) before (Statement (Call sp args) bs) d)),
     ),
   )
 
@@ -131,25 +138,30 @@ module _ (ms : List Mem) (v : Option ℕ) (before : List Place) (bs : List Branc
   )
 
   -- a verify of a guess before, that wasn't verified yet
-  module _ (sp : Span) (g : Ident) (args : List Expr) (there : list_any (defines_use (OfGuess g.name)) before ≡ true) (one : (n : List ℕ) → list_any (defines_use (OfGuess n)) before ≡ true → n ≡ g.name) (unverified : list_any (is_verify_of g.name) before ≡ false) where
+  module _ (sp : Span) (g : Ident) (args : List Expr) (there : list_any (defines_use (OfGuess g.name)) before ≡ true)
+      (one : (n : List ℕ) → list_any (defines_use (OfGuess n)) before ≡ true → n ≡ g.name)
+      (unverified : list_any (is_verify_of g.name) before ≡ false) where
     guessed : (k : Making) → Stood k before → is_guessed k ≡ true
     guessed Unmade i = absurd (both_ways _ i.0 (any_weaker _ _ (guess_calls g.name) before there))
     guessed Guessed i = refl
     guessed Made i = absurd (both_ways _ unverified (i.1 g.name there))
 
-    verified : (k : Making) → Stood k before → stands_at v s ≡ true → (((is_guessed k && stands_at v s) && true) ≡ true) × Stood Made (before ++ Statement (Verify sp g args) bs ∷ [])
+    verified : (k : Making) → Stood k before → stands_at v s ≡ true
+        → (((is_guessed k && stands_at v s) && true) ≡ true) × Stood Made (before ++ Statement (Verify sp g args) bs ∷ [])
     verified k i at = (
       and_from _ _ (and_from _ _ (guessed k i) at) refl,
       (
         any_front is_call before (Statement (Verify sp g args) bs) (any_weaker _ _ (guess_calls g.name) before there),
         (λ n d. ⊎_elim
-            (λ t. any_last (is_verify_of n) before (Statement (Verify sp g args) bs) (subst (λ m. bytes_eq g.name m ≡ true) (sym (one n t)) (bytes_refl g.name)))
+            (λ t. any_last (is_verify_of n) before (Statement (Verify sp g args) bs)
+            (subst (λ m. bytes_eq g.name m ≡ true) (sym (one n t)) (bytes_refl g.name)))
             (λ t. absurd (false≢true t))
             (any_split (defines_use (OfGuess n)) before (Statement (Verify sp g args) bs) d)),
       ),
     )
 
-  if_next : (k : Making) (t : Stmt) (e : Expr) → is_call (Statement t bs) ≡ false → is_verify (Statement t bs) ≡ false → Stood k before → Goes k t (PathStatements.if_ops vs e)
+  if_next : (k : Making) (t : Stmt) (e : Expr) → is_call (Statement t bs) ≡ false → is_verify (Statement t bs) ≡ false
+      → Stood k before → Goes k t (PathStatements.if_ops vs e)
   if_next k t (Variable y) c w i = still k t c w i
   if_next k t _ c w i = still k t c w i
 
@@ -157,7 +169,10 @@ module _ (ms : List Mem) (v : Option ℕ) (before : List Place) (bs : List Branc
   abbrev pub Asked : Stmt → Type 0
   Asked (Call sp args) = list_any is_call before ≡ false
   Asked (SpecCall sp g args) = (list_any is_call before ≡ false) × (stands_before v s ≡ true)
-  Asked (Verify sp g args) = (list_any (defines_use (OfGuess g.name)) before ≡ true) × ((n : List ℕ) → list_any (defines_use (OfGuess n)) before ≡ true → n ≡ g.name) × (list_any (is_verify_of g.name) before ≡ false) × (stands_at v s ≡ true)
+  Asked (Verify sp g args) =
+      (list_any (defines_use (OfGuess g.name)) before ≡ true)
+      × ((n : List ℕ) → list_any (defines_use (OfGuess n)) before ≡ true → n ≡ g.name)
+      × (list_any (is_verify_of g.name) before ≡ false) × (stands_at v s ≡ true)
   Asked _ = Unit {0}
 
   pub stood_by : (k : Making) (t : Stmt) → Asked t → Stood k before → Goes k t (ops_of ms vs t)

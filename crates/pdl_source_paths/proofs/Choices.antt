@@ -39,7 +39,9 @@ among_chosen v g (h ∷ gs) e = at (same_guard g h) refl (cases_Bool (is_among g
     rest true f i = ap (λ c. c || is_among g (chosen v gs)) f ∙ i
     rest false f i = i
 
-    at : (b : Bool) → same_guard g h ≡ b → ((is_among g gs ≡ true) ⊎ (is_among g gs ≡ false)) → (same_guard g h || is_among g gs) ≡ true → (is_among g gs ≡ true → is_among g (chosen v gs) ≡ v g) → is_among g (if v h then h ∷ chosen v gs else chosen v gs) ≡ v g
+    at : (b : Bool) → same_guard g h ≡ b → ((is_among g gs ≡ true) ⊎ (is_among g gs ≡ false))
+        → (same_guard g h || is_among g gs) ≡ true → (is_among g gs ≡ true → is_among g (chosen v gs) ≡ v g)
+        → is_among g (if v h then h ∷ chosen v gs else chosen v gs) ≡ v g
     at true f c i k = first (v g) refl f
     at false f c i k = rest (v h) f (k (⊎_elim (λ t. t) (λ t. absurd (both_ways (same_guard g h || is_among g gs) (ap₂ (λ a b. a || b) f t) i)) c))
 
@@ -55,7 +57,9 @@ by_choice test v (g ∷ gs) e =
     mapped [] = refl
     mapped (c ∷ cs) = ap (λ b. test (g ∷ c) || b) (mapped cs)
 
-    at : (b : Bool) → list_any test (choices gs) ≡ false → list_any (λ c. test (g ∷ c)) (choices gs) ≡ false → ((other : List Guard → Bool) → list_any other (choices gs) ≡ false → other (chosen v gs) ≡ false) → test (if b then g ∷ chosen v gs else chosen v gs) ≡ false
+    at : (b : Bool) → list_any test (choices gs) ≡ false → list_any (λ c. test (g ∷ c)) (choices gs) ≡ false
+        → ((other : List Guard → Bool) → list_any other (choices gs) ≡ false → other (chosen v gs) ≡ false)
+        → test (if b then g ∷ chosen v gs else chosen v gs) ≡ false
     at true f h k = k (λ c. test (g ∷ c)) h
     at false f h k = k test f
 
@@ -91,5 +95,7 @@ if_among s c when otherwise bs [] later gs = still_among (guard_of s c) later _ 
   where
     at : (b : Bool) → is_among (guard_of s c) gs ≡ b → is_among (guard_of s c) (if b then gs else gs ++ guard_of s c ∷ []) ≡ true
     at true e = e
-    at false e = list_any-append (same_guard (guard_of s c)) gs (guard_of s c ∷ []) ∙ or_right (is_among (guard_of s c) gs) _ (or_left _ false (guard_refl (guard_of s c)))
+    at false e =
+        list_any-append (same_guard (guard_of s c)) gs (guard_of s c ∷ [])
+        ∙ or_right (is_among (guard_of s c) gs) _ (or_left _ false (guard_refl (guard_of s c)))
 if_among s c when otherwise bs (x ∷ before) later gs = if_among s c when otherwise bs before later (with_guard gs x)

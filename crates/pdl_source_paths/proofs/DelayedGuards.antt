@@ -32,7 +32,8 @@ use Rattle.pdl_word.specs.Each.{Each}
 taken_in : (g : Flat.Guard) (outer inner : List Flat.Guard) (env : List ℕ)
     → all_hold (outer ++ g ∷ inner) env ≡ true → takes_branch g.first (slice_index env g.var) ≡ true
 taken_in g [] inner env h = (and_parts (takes_branch g.first (slice_index env g.var)) (all_hold inner env) h).0
-taken_in g (k ∷ outer) inner env h = taken_in g outer inner env (and_parts (takes_branch k.first (slice_index env k.var)) (all_hold (outer ++ g ∷ inner) env) h).1
+taken_in g (k ∷ outer) inner env h =
+    taken_in g outer inner env (and_parts (takes_branch k.first (slice_index env k.var)) (all_hold (outer ++ g ∷ inner) env) h).1
 
 -- the path comes to its stage
 pub visited : (p : Pipe) (t : Site) → Known p t → (env : List ℕ) → all_hold t.gs env ≡ true → visits_stage (flat p) env t.walk.stage ≡ true
@@ -46,7 +47,8 @@ visited p t h env tk = at h.fine.standing
     at (OnTrunk e) = ap (comes_by (flat p) env) e
     at (OnBranch c x a b forked here has inside) =
         ap (comes_by (flat p) env) here
-        ∙ side (stage_at (flat p) c.fork).next c.first x _ _ forked.next (taken_in (record { var = x; first = c.first }) has.0 has.1 env (ap (λ l. all_hold l env) (sym has.2) ∙ tk))
+        ∙ side (stage_at (flat p) c.fork).next c.first x _ _ forked.next
+        (taken_in (record { var = x; first = c.first }) has.0 has.1 env (ap (λ l. all_hold l env) (sym has.2) ∙ tk))
 
 -- STATEMENTS THAT A PATH PASSES OVER
 
@@ -54,7 +56,8 @@ each_low : (k : ℕ) (xs : List Flat.Stmt) → Each (λ y. y.stage < k) (before 
 each_low k [] = tt
 each_low k (x ∷ xs) = at (nat_lt x.stage k) refl (each_low k xs)
   where
-    at : (b : Bool) → nat_lt x.stage k ≡ b → Each (λ y. y.stage < k) (before k xs) → Each (λ y. y.stage < k) (cond b (record x { op = answered_op x.op } ∷ before k xs) (before k xs))
+    at : (b : Bool) → nat_lt x.stage k ≡ b → Each (λ y. y.stage < k) (before k xs)
+        → Each (λ y. y.stage < k) (cond b (record x { op = answered_op x.op } ∷ before k xs) (before k xs))
     at true e r = (ltb-true x.stage k e, r)
     at false e r = r
 
@@ -70,7 +73,8 @@ on_before env n k (x ∷ xs) h = at (all_hold x.guards env) refl h (on_before en
     at false e i go = ((λ f low. absurd (false≢true (sym e ∙ f))), go i)
     at true e i go = by (nat_lt x.stage n) refl i
       where
-        by : (c : Bool) → nat_lt x.stage n ≡ c → Each (λ y. y.stage < k) (cond c (record x { guards = []; op = answered_op x.op } ∷ before n (onpath env xs)) (before n (onpath env xs)))
+        by : (c : Bool) → nat_lt x.stage n ≡ c
+            → Each (λ y. y.stage < k) (cond c (record x { guards = []; op = answered_op x.op } ∷ before n (onpath env xs)) (before n (onpath env xs)))
             → Each (λ z. all_hold z.guards env ≡ true → z.stage < n → z.stage < k) (x ∷ xs)
         by true f j = ((λ g low. j.0), go j.1)
         by false f j = ((λ g low. absurd (both_ways (nat_lt x.stage n) f (lt-ltb x.stage n low))), go j)
@@ -100,27 +104,38 @@ path_before n env env' [] h = refl
 path_before n env env' (x ∷ xs) h = at (nat_lt x.stage n) refl (path_before n env env' xs h.1)
   where
     at : (b : Bool) → nat_lt x.stage n ≡ b → onpath env' (before n xs) ≡ onpath env (before n xs)
-        → onpath env' (cond b (record x { op = answered_op x.op } ∷ before n xs) (before n xs)) ≡ onpath env (cond b (record x { op = answered_op x.op } ∷ before n xs) (before n xs))
+        → onpath env' (cond b (record x { op = answered_op x.op } ∷ before n xs) (before n xs))
+        ≡ onpath env (cond b (record x { op = answered_op x.op } ∷ before n xs) (before n xs))
     at true e r = ap₂ (λ b l. cond b (record x { guards = []; op = answered_op x.op } ∷ l) l) (h.0 (ltb-true x.stage n e)) r
     at false e r = r
 
-module _ (p : Pipe) (rules : KeepsRules p) (apart : are_apart (places p) ≡ true) (named : list_any (defines_use (OfVariable [])) (places p) ≡ false) (s : ℕ) where
+module _ (p : Pipe) (rules : KeepsRules p) (apart : are_apart (places p) ≡ true)
+    (named : list_any (defines_use (OfVariable [])) (places p) ≡ false) (s : ℕ) where
   facts : StageFacts (flat p)
   facts = stage_facts p rules
 
   -- after stage s a path has nothing before its next stage
   abbrev Passed : Flat.Stmt → Type 0
-  Passed z = (low : s < length (flat p).stages) (env : List ℕ) → visits_stage (flat p) env s ≡ true → all_hold z.guards env ≡ true → z.stage < next_of (flat p) s env → z.stage < suc s
+  Passed z =
+      (low : s < length (flat p).stages) (env : List ℕ) → visits_stage (flat p) env s ≡ true
+      → all_hold z.guards env ≡ true → z.stage < next_of (flat p) s env → z.stage < suc s
 
   all_passed : Each Passed (flat p).stmts
   all_passed =
-      each_any (λ (low : s < length (flat p).stages) z. (env : List ℕ) → visits_stage (flat p) env s ≡ true → all_hold z.guards env ≡ true → z.stage < next_of (flat p) s env → z.stage < suc s) (flat p).stmts
-      (λ low. each_any (λ env z. visits_stage (flat p) env s ≡ true → all_hold z.guards env ≡ true → z.stage < next_of (flat p) s env → z.stage < suc s) (flat p).stmts
-      (λ env. each_any (λ (on : visits_stage (flat p) env s ≡ true) z. all_hold z.guards env ≡ true → z.stage < next_of (flat p) s env → z.stage < suc s) (flat p).stmts
-      (λ on. on_before env (next_of (flat p) s env) (suc s) (flat p).stmts (subst (Each (λ y. y.stage < suc s)) (sym (facts.skips env s low on)) (each_low (suc s) (onpath env (flat p).stmts))))))
+      each_any
+      (λ (low : s < length (flat p).stages) z. (env : List ℕ) → visits_stage (flat p) env s ≡ true
+      → all_hold z.guards env ≡ true → z.stage < next_of (flat p) s env → z.stage < suc s)
+      (flat p).stmts
+      (λ low. each_any (λ env z. visits_stage (flat p) env s ≡ true → all_hold z.guards env ≡ true → z.stage < next_of (flat p) s env → z.stage < suc s)
+      (flat p).stmts
+      (λ env. each_any (λ (on : visits_stage (flat p) env s ≡ true) z. all_hold z.guards env ≡ true → z.stage < next_of (flat p) s env → z.stage < suc s)
+      (flat p).stmts
+      (λ on. on_before env (next_of (flat p) s env) (suc s)
+      (flat p).stmts (subst (Each (λ y. y.stage < suc s)) (sym (facts.skips env s low on)) (each_low (suc s) (onpath env (flat p).stmts))))))
 
   -- so it has no guard there that the stage's delayed reads decide
-  clear : (t : Site) → Told p t → (op : Flat.Op) → op_of p.mems t.walk.vars t.stmt ≡ Some op → Passed (row_at t op) → (env : List ℕ) → all_hold t.gs env ≡ true → t.walk.stage < next_of (flat p) s env
+  clear : (t : Site) → Told p t → (op : Flat.Op) → op_of p.mems t.walk.vars t.stmt ≡ Some op → Passed (row_at t op)
+      → (env : List ℕ) → all_hold t.gs env ≡ true → t.walk.stage < next_of (flat p) s env
       → AllGuards (λ g. none_of (is_fetch_of g.var) (in_stage s (flat p).stmts) ≡ true) t.gs
   clear t h op e passed env tk low = guards_map (Guarded p t) (λ g. none_of (is_fetch_of g.var) (in_stage s (flat p).stmts) ≡ true) one t.gs h.guards
     where
@@ -128,15 +143,21 @@ module _ (p : Pipe) (rules : KeepsRules p) (apart : are_apart (places p) ≡ tru
       one g k =
           none_each (is_fetch_of g.var) (in_stage s (flat p).stmts)
           (each_in_stage (λ y. is_fetch_of g.var y.op ≡ false) s (flat p).stmts
-          (each_stmt p (λ y. y.stage ≡ s → is_fetch_of g.var y.op ≡ false) (all_map (Told p) (AtSite (λ y. y.stage ≡ s → is_fetch_of g.var y.op ≡ false) p.mems) (λ y j o f here. by y j o f here (is_fetch_of g.var o) refl) (sites_of p) (all_told p rules apart named))))
+          (each_stmt p (λ y. y.stage ≡ s → is_fetch_of g.var y.op ≡ false)
+          (all_map (Told p) (AtSite (λ y. y.stage ≡ s → is_fetch_of g.var y.op ≡ false) p.mems)
+          (λ y j o f here. by y j o f here (is_fetch_of g.var o) refl) (sites_of p)
+          (all_told p rules apart named))))
         where
-          by : (y : Site) → Told p y → (o : Flat.Op) → op_of p.mems y.walk.vars y.stmt ≡ Some o → y.walk.stage ≡ s → (b : Bool) → is_fetch_of g.var o ≡ b → b ≡ false
+          by : (y : Site) → Told p y → (o : Flat.Op) → op_of p.mems y.walk.vars y.stmt ≡ Some o → y.walk.stage ≡ s
+              → (b : Bool) → is_fetch_of g.var o ≡ b → b ≡ false
           by y j o f here false i = refl
           by y j o f here true i =
               let q = fetch_both g.var o i in
               let r = k.bound env (no_cut p.mems t.walk.vars t.stmt t.branches op e) tk y j.known (ap (from_op (binds_var g.var)) f ∙ q.0) in
               let earlier = r.2 (fetch_delayed p.mems y.walk.vars y.stmt y.branches o f q.1) in
-              let last = passed (subst (λ n. n < length (flat p).stages) here j.known.fine.inside) env (subst (λ n. visits_stage (flat p) env n ≡ true) here (visited p y j.known env r.1)) tk low in
+              let last =
+              passed (subst (λ n. n < length (flat p).stages) here j.known.fine.inside) env
+              (subst (λ n. visits_stage (flat p) env n ≡ true) here (visited p y j.known env r.1)) tk low in
               absurd (omega arith)
 
   -- the next stage hangs on none of them either
@@ -146,10 +167,12 @@ module _ (p : Pipe) (rules : KeepsRules p) (apart : are_apart (places p) ≡ tru
       at : (n : Flat.Next) → (stage_at (flat p) s).next ≡ n → goes_to (stage_at (flat p) s).next env' ≡ goes_to (stage_at (flat p) s).next env
       at Flat.Ends e = ap (λ n. goes_to n env') e ∙ sym (ap (λ n. goes_to n env) e)
       at (Flat.Goes to) e = ap (λ n. goes_to n env') e ∙ sym (ap (λ n. goes_to n env) e)
-      at (Flat.Forks x a b) e = ap (λ n. goes_to n env') e ∙ ap (λ v. Some (if v == 1 then a else b)) (d x (facts.fork_seen s x a b e)) ∙ sym (ap (λ n. goes_to n env) e)
+      at (Flat.Forks x a b) e =
+          ap (λ n. goes_to n env') e ∙ ap (λ v. Some (if v == 1 then a else b)) (d x (facts.fork_seen s x a b e)) ∙ sym (ap (λ n. goes_to n env) e)
 
   abbrev Alike : Flat.Stmt → Type 0
-  Alike z = (env env' : List ℕ) → DifferIn (in_stage s (flat p).stmts) env env' → z.stage < next_of (flat p) s env → all_hold z.guards env' ≡ all_hold z.guards env
+  Alike z =
+      (env env' : List ℕ) → DifferIn (in_stage s (flat p).stmts) env env' → z.stage < next_of (flat p) s env → all_hold z.guards env' ≡ all_hold z.guards env
 
   all_alike : Each Alike (flat p).stmts
   all_alike =
@@ -161,10 +184,13 @@ module _ (p : Pipe) (rules : KeepsRules p) (apart : are_apart (places p) ≡ tru
         where
           at : (a : Bool) → all_hold t.gs env ≡ a → (b : Bool) → all_hold t.gs env' ≡ b → all_hold t.gs env' ≡ all_hold t.gs env
           at true f b g = taken_alike (in_stage s (flat p).stmts) t.gs env env' (clear t h op e passed env f low) d
-          at false f true g = taken_alike (in_stage s (flat p).stmts) t.gs env env' (clear t h op e passed env' g (subst (λ n. t.walk.stage < n) (sym (next_same env env' d)) low)) d
+          at false f true g =
+              taken_alike (in_stage s (flat p).stmts) t.gs env env'
+              (clear t h op e passed env' g (subst (λ n. t.walk.stage < n) (sym (next_same env env' d)) low)) d
           at false f false g = g ∙ sym f
 
-  pub fetch_blind : (env env' : List ℕ) → DifferIn (in_stage s (flat p).stmts) env env' → onpath env' (before (next_of (flat p) s env) (flat p).stmts) ≡ onpath env (before (next_of (flat p) s env) (flat p).stmts)
+  pub fetch_blind : (env env' : List ℕ) → DifferIn (in_stage s (flat p).stmts) env env'
+      → onpath env' (before (next_of (flat p) s env) (flat p).stmts) ≡ onpath env (before (next_of (flat p) s env) (flat p).stmts)
   fetch_blind env env' d =
       path_before (next_of (flat p) s env) env env' (flat p).stmts
       (each_with Alike (λ z. z.stage < next_of (flat p) s env → all_hold z.guards env' ≡ all_hold z.guards env) (flat p).stmts all_alike (keep (flat p).stmts))

@@ -42,19 +42,28 @@ Pairs P (z ∷ ys) = Each (P z) ys × Pairs P ys
 -- each two sites with statements in one stage
 abbrev ByTwo : Pipe → ℕ → (Flat.Stmt → Flat.Stmt → Type 0) → Type 0
 ByTwo p s P =
-    (t u : Site) → Told p t → Told p u → Grown (vars_past p.mems t.walk.vars t.stmt) u.walk.vars → (op o : Flat.Op) → op_of p.mems t.walk.vars t.stmt ≡ Some op → op_of p.mems u.walk.vars u.stmt ≡ Some o
+    (t u : Site) → Told p t → Told p u → Grown (vars_past p.mems t.walk.vars t.stmt) u.walk.vars → (op o : Flat.Op)
+    → op_of p.mems t.walk.vars t.stmt ≡ Some op → op_of p.mems u.walk.vars u.stmt ≡ Some o
     → t.walk.stage ≡ s → u.walk.stage ≡ s → P (row_at t op) (row_at u o)
 
 module _ (p : Pipe) (s : ℕ) (P : Flat.Stmt → Flat.Stmt → Type 0) (two : ByTwo p s P) where
-  after : (t : Site) → Told p t → (op : Flat.Op) → op_of p.mems t.walk.vars t.stmt ≡ Some op → t.walk.stage ≡ s → (vs us : List Var) (ts : List Site) → Grown (vars_past p.mems t.walk.vars t.stmt) vs → Grows p.mems vs ts us → All (Told p) ts
+  after : (t : Site) → Told p t → (op : Flat.Op) → op_of p.mems t.walk.vars t.stmt ≡ Some op → t.walk.stage ≡ s
+      → (vs us : List Var) (ts : List Site) → Grown (vars_past p.mems t.walk.vars t.stmt) vs → Grows p.mems vs ts us
+      → All (Told p) ts
       → Each (P (row_at t op)) (in_stage s (owns p.mems ts))
   after t h op e here vs us [] g k l = tt
   after t h op e here vs us (u ∷ ts) g k l =
       let up = grown_more (vars_past p.mems t.walk.vars t.stmt) vs u.walk.vars g k.0 in
       subst (λ r. Each (P (row_at t op)) (in_stage s (r ++ owns p.mems ts))) (sym (own_is p.mems u.gs u.walk u.stmt))
-      (at (op_of p.mems u.walk.vars u.stmt) refl up (after t h op e here (vars_past p.mems u.walk.vars u.stmt) us ts (grown_more (vars_past p.mems t.walk.vars t.stmt) u.walk.vars (vars_past p.mems u.walk.vars u.stmt) up (past_grown p.mems u.walk.vars u.stmt)) k.1 l.1))
+      (at (op_of p.mems u.walk.vars u.stmt) refl up
+      (after t h op e here (vars_past p.mems u.walk.vars u.stmt) us ts
+      (grown_more (vars_past p.mems t.walk.vars t.stmt) u.walk.vars (vars_past p.mems u.walk.vars u.stmt) up
+      (past_grown p.mems u.walk.vars u.stmt)) k.1 l.1))
     where
-      at : (o : Option Flat.Op) → op_of p.mems u.walk.vars u.stmt ≡ o → Grown (vars_past p.mems t.walk.vars t.stmt) u.walk.vars → Each (P (row_at t op)) (in_stage s (owns p.mems ts)) → Each (P (row_at t op)) (in_stage s (rows_of u.gs u.walk o ++ owns p.mems ts))
+      at : (o : Option Flat.Op) → op_of p.mems u.walk.vars u.stmt ≡ o
+          → Grown (vars_past p.mems t.walk.vars t.stmt) u.walk.vars
+          → Each (P (row_at t op)) (in_stage s (owns p.mems ts))
+          → Each (P (row_at t op)) (in_stage s (rows_of u.gs u.walk o ++ owns p.mems ts))
       at None f up r = r
       at (Some o) f up r = by (u.walk.stage == s) refl
         where
@@ -68,12 +77,17 @@ module _ (p : Pipe) (s : ℕ) (P : Flat.Stmt → Flat.Stmt → Type 0) (two : By
       subst (λ r. Pairs P (in_stage s (r ++ owns p.mems ts))) (sym (own_is p.mems t.gs t.walk t.stmt))
       (at (op_of p.mems t.walk.vars t.stmt) refl (all_pairs (vars_past p.mems t.walk.vars t.stmt) us ts k.1 l.1))
     where
-      at : (o : Option Flat.Op) → op_of p.mems t.walk.vars t.stmt ≡ o → Pairs P (in_stage s (owns p.mems ts)) → Pairs P (in_stage s (rows_of t.gs t.walk o ++ owns p.mems ts))
+      at : (o : Option Flat.Op) → op_of p.mems t.walk.vars t.stmt ≡ o → Pairs P (in_stage s (owns p.mems ts))
+          → Pairs P (in_stage s (rows_of t.gs t.walk o ++ owns p.mems ts))
       at None e r = r
       at (Some op) e r = by (t.walk.stage == s) refl
         where
           by : (b : Bool) → (t.walk.stage == s) ≡ b → Pairs P (cond b (row_at t op ∷ in_stage s (owns p.mems ts)) (in_stage s (owns p.mems ts)))
-          by true i = (after t l.0 op e (eqb-true t.walk.stage s i) (vars_past p.mems t.walk.vars t.stmt) us ts (grown_same (vars_past p.mems t.walk.vars t.stmt)) k.1 l.1, r)
+          by true i = (
+            after t l.0 op e (eqb-true t.walk.stage s i)
+                (vars_past p.mems t.walk.vars t.stmt) us ts (grown_same (vars_past p.mems t.walk.vars t.stmt)) k.1 l.1,
+            r,
+          )
           by false i = r
 
 -- what a delayed read has after it
@@ -88,7 +102,8 @@ find_asked : (P : Flat.Guard → Type 0) (x : ℕ) (gs : List Flat.Guard) → Al
 find_asked P x [] h e = absurd (false≢true e)
 find_asked P x (g ∷ gs) h e = at (g.var == x) refl e (find_asked P x gs h.1)
   where
-    at : (b : Bool) → (g.var == x) ≡ b → (b || asks_for x gs) ≡ true → (asks_for x gs ≡ true → (k : Flat.Guard) × P k × (k.var ≡ x)) → (k : Flat.Guard) × P k × (k.var ≡ x)
+    at : (b : Bool) → (g.var == x) ≡ b → (b || asks_for x gs) ≡ true
+        → (asks_for x gs ≡ true → (k : Flat.Guard) × P k × (k.var ≡ x)) → (k : Flat.Guard) × P k × (k.var ≡ x)
     at true f i go = (g, h.0, eqb-true g.var x f)
     at false f i go = go i
 
@@ -106,7 +121,8 @@ fetch_grows ms t x m a e = (ForkVars.bound_last ms t.walk.vars t.stmt x (ap (fro
     at (Reserve sp l W) f = absurd (false≢true f)
     at _ f = absurd (false≢true f)
 
-module _ (p : Pipe) (rules : KeepsRules p) (apart : are_apart (places p) ≡ true) (named : list_any (defines_use (OfVariable [])) (places p) ≡ false) (s : ℕ) where
+module _ (p : Pipe) (rules : KeepsRules p) (apart : are_apart (places p) ≡ true)
+    (named : list_any (defines_use (OfVariable [])) (places p) ≡ false) (s : ℕ) where
   -- N3
   not_seen : ByTwo p s Unseen
   not_seen t u h k g op o e f here there x m a i = by (is_dead u.gs) refl
@@ -127,7 +143,9 @@ module _ (p : Pipe) (rules : KeepsRules p) (apart : are_apart (places p) ≡ tru
           asked false j = refl
           asked true j =
               let r = find_asked (Guarded p u) x u.gs k.guards j in
-              let b = (r.1.bound env.0 (no_cut p.mems u.walk.vars u.stmt u.branches o f) env.1 t h.known (ap (λ n. from_op (binds_var n) (op_of p.mems t.walk.vars t.stmt)) r.2 ∙ binds_it)).2 delayed in
+              let b =
+              (r.1.bound env.0 (no_cut p.mems u.walk.vars u.stmt u.branches o f) env.1 t h.known
+              (ap (λ n. from_op (binds_var n) (op_of p.mems t.walk.vars t.stmt)) r.2 ∙ binds_it)).2 delayed in
               absurd (omega arith)
 
           by_name : AtStmt u.walk.vars x u.stmt → ⊥
@@ -139,13 +157,20 @@ module _ (p : Pipe) (rules : KeepsRules p) (apart : are_apart (places p) ≡ tru
               let z = q.1 in
               omega arith
           by_name (inr j) =
-              let b = (used_here p rules named u t k.known k.settled h.known j.0 (early (is_too_early p u.front (place_of u) (OfVariable j.0)) refl) env.0 (no_cut p.mems u.walk.vars u.stmt u.branches o f) env.1
+              let b =
+              (used_here p rules named u t k.known k.settled h.known j.0
+              (early (is_too_early p u.front (place_of u) (OfVariable j.0)) refl) env.0
+              (no_cut p.mems u.walk.vars u.stmt u.branches o f) env.1
               (ap (λ n. from_op (binds_var n) (op_of p.mems t.walk.vars t.stmt)) j.1 ∙ binds_it)).2 delayed in
               omega arith
             where
               early : (b : Bool) → is_too_early p u.front (place_of u) (OfVariable j.0) ≡ b → b ≡ false
               early false q = refl
-              early true q = absurd (both_ways (some_use (is_too_early p u.front (place_of u)) (place_of u)) (rules N3 u.front (place_of u) k.known.fine.later k.known.fine.whole) (j.2 (is_too_early p u.front (place_of u)) u.branches q))
+              early true q =
+                  absurd
+                  (both_ways (some_use (is_too_early p u.front (place_of u)) (place_of u))
+                  (rules N3 u.front (place_of u) k.known.fine.later k.known.fine.whole)
+                  (j.2 (is_too_early p u.front (place_of u)) u.branches q))
 
           used : (b : Bool) → mentions_var x o ≡ b → not b ≡ true
           used false j = refl
@@ -177,17 +202,24 @@ module _ (p : Pipe) (rules : KeepsRules p) (apart : are_apart (places p) ≡ tru
           third : list_any (Forks.breaks_fetch_order n) u.front ≡ false
           third = stmt u.stmt refl r
             where
-              stmt : (z : Stmt) → u.stmt ≡ z → Forks.breaks_fetch_order n (Statement z u.branches) ≡ true → list_any (Forks.breaks_fetch_order n) u.front ≡ false
+              stmt : (z : Stmt) → u.stmt ≡ z → Forks.breaks_fetch_order n (Statement z u.branches) ≡ true
+                  → list_any (Forks.breaks_fetch_order n) u.front ≡ false
               stmt (DelayedRead sp y l) j c =
                   let name = bytes_same l.mem.name n c in
                   ap (λ v. list_any (Forks.breaks_fetch_order v) u.front) (sym name)
                   ∙ (or_parts (stage_in u.front u.branches == stage_after (places p)) (list_any (Forks.breaks_fetch_order l.mem.name) u.front)
-                  (ap (λ v. Forks.breaks_f3 p u.front (Statement v u.branches)) (sym j) ∙ rules F3 u.front (place_of u) k.known.fine.later k.known.fine.whole)).1
+                  (ap (λ v. Forks.breaks_f3 p u.front (Statement v u.branches)) (sym j)
+                  ∙ rules F3 u.front (place_of u) k.known.fine.later k.known.fine.whole)).1
               stmt _ j c = absurd (false≢true c)
 
           by : Order t u → ⊥
-          by (Before l j) = both_ways (list_any (Forks.breaks_fetch_order n) u.front) third (ap (list_any (Forks.breaks_fetch_order n)) j ∙ list_any-append (Forks.breaks_fetch_order n) t.front (place_of t ∷ l) ∙ or_right _ _ (or_left (Forks.breaks_fetch_order n (place_of t)) _ q))
-          by (Same j l) = let a = long p rules t h.known in let b = long p rules u k.known in let c = ap (λ v. length (names v)) j in let d = low.1 in omega arith
+          by (Before l j) =
+              both_ways (list_any (Forks.breaks_fetch_order n) u.front) third
+              (ap (list_any (Forks.breaks_fetch_order n)) j
+              ∙ list_any-append (Forks.breaks_fetch_order n) t.front (place_of t ∷ l)
+              ∙ or_right _ _ (or_left (Forks.breaks_fetch_order n (place_of t)) _ q))
+          by (Same j l) = let a = long p rules t h.known in let b = long p rules u k.known in
+              let c = ap (λ v. length (names v)) j in let d = low.1 in omega arith
           by (After l j) =
               let a = long p rules t h.known in
               let b = long p rules u k.known in
@@ -216,7 +248,9 @@ module _ (p : Pipe) (rules : KeepsRules p) (apart : are_apart (places p) ≡ tru
       at _ j = refl
 
   pairs_of : (P : Flat.Stmt → Flat.Stmt → Type 0) → ByTwo p s P → Pairs P (in_stage s (flat p).stmts)
-  pairs_of P two = subst (λ l. Pairs P (in_stage s l)) (sym (stmts_are p)) (all_pairs p s P two (params_of p.params) _ (sites_of p) (grows_all p) (all_told p rules apart named))
+  pairs_of P two =
+      subst (λ l. Pairs P (in_stage s l)) (sym (stmts_are p))
+      (all_pairs p s P two (params_of p.params) _ (sites_of p) (grows_all p) (all_told p rules apart named))
 
   unseen_pairs : (xs : List Flat.Stmt) → Pairs Unseen xs → is_unseen xs ≡ true
   unseen_pairs [] h = refl

@@ -54,28 +54,38 @@ abbrev Full : List Place → Type 0
 Full xs = stage_in xs [] ≡ cut xs
 
 full_none : (front more : List Place) → cut more ≡ 0 → Full front → Full (front ++ more)
-full_none front more e h = from_append 0 0 [] front more ∙ from_none (0 + cut front) (stage_in front []) [] more e ∙ h ∙ (let a = cut_append front more in let b : cut front ≡ cut (front ++ more) = omega arith in b)
+full_none front more e h =
+    from_append 0 0 [] front more ∙ from_none (0 + cut front) (stage_in front []) [] more e ∙ h
+    ∙ (let a = cut_append front more in let b : cut front ≡ cut (front ++ more) = omega arith in b)
 
 full_cut : (front : List Place) (sp : Span) → Full (front ++ Statement (Separator sp) [] ∷ [])
 full_cut front sp =
     from_append 0 0 [] front (Statement (Separator sp) [] ∷ [])
-    ∙ (let a = cut_append front (Statement (Separator sp) [] ∷ []) in let c : cut (Statement (Separator sp) [] ∷ []) ≡ 1 = refl in let b : suc (0 + cut front) ≡ cut (front ++ Statement (Separator sp) [] ∷ []) = omega arith in b)
+    ∙ (let a = cut_append front (Statement (Separator sp) [] ∷ []) in
+    let c : cut (Statement (Separator sp) [] ∷ []) ≡ 1 = refl in
+    let b : suc (0 + cut front) ≡ cut (front ++ Statement (Separator sp) [] ∷ []) = omega arith in b)
 
 full_body : (front : List Place) (ss : Stmts)
     → is_forked ss ≡ true → Full front ⊎ (begins_stage ss ≡ true) → Full (front ++ statements [] ss)
 full_body front Nil h (inl f) = subst Full (sym (append-nil front)) f
 full_body front Nil h (inr e) = absurd (false≢true e)
-full_body front (Cons (Separator sp) ss) h r = subst Full (append_assoc front (Statement (Separator sp) [] ∷ []) (statements [] ss)) (full_body (front ++ Statement (Separator sp) [] ∷ []) ss h (inl (full_cut front sp)))
+full_body front (Cons (Separator sp) ss) h r =
+    subst Full (append_assoc front (Statement (Separator sp) [] ∷ []) (statements [] ss))
+    (full_body (front ++ Statement (Separator sp) [] ∷ []) ss h (inl (full_cut front sp)))
 full_body front (Cons (If sp c when otherwise) ss) h (inr e) = absurd (false≢true e)
 full_body front (Cons (If sp c when otherwise) ss) h (inl f) =
     let parts = and_parts (fork_fits (is_whole when otherwise) when otherwise ss) (is_forked ss) h in
-    subst Full (append_assoc front (with_inner [] (If sp c when otherwise)) (statements [] ss)) (full_body (front ++ with_inner [] (If sp c when otherwise)) ss parts.1 (by (is_whole when otherwise) refl parts.0))
+    subst Full (append_assoc front (with_inner [] (If sp c when otherwise)) (statements [] ss))
+    (full_body (front ++ with_inner [] (If sp c when otherwise)) ss parts.1 (by (is_whole when otherwise) refl parts.0))
   where
-    by : (b : Bool) → is_whole when otherwise ≡ b → fork_fits b when otherwise ss ≡ true → Full (front ++ with_inner [] (If sp c when otherwise)) ⊎ (begins_stage ss ≡ true)
+    by : (b : Bool) → is_whole when otherwise ≡ b → fork_fits b when otherwise ss ≡ true
+        → Full (front ++ with_inner [] (If sp c when otherwise)) ⊎ (begins_stage ss ≡ true)
     by true e g = inl (full_none front (with_inner [] (If sp c when otherwise)) (cut_in [] (If sp c when otherwise) ∙ none_of_whole when otherwise e) f)
     by false e g = inr (and_parts (begins_stage ss) _ g).0
 full_body front (Cons s ss) h (inr e) = absurd (false≢true e)
-full_body front (Cons s ss) h (inl f) = subst Full (append_assoc front (with_inner [] s) (statements [] ss)) (full_body (front ++ with_inner [] s) ss h (inl (full_none front (with_inner [] s) refl f)))
+full_body front (Cons s ss) h (inl f) =
+    subst Full (append_assoc front (with_inner [] s) (statements [] ss))
+    (full_body (front ++ with_inner [] s) ss h (inl (full_none front (with_inner [] s) refl f)))
 
 full_places : (p : Pipe) → is_forked p.body ≡ true → Full (places p)
 full_places p h =
@@ -112,15 +122,19 @@ mono : (b f g : ℕ) (bs : List Branch) (xs : List Place) → f ≤ g → g ≤ 
 mono b f g bs [] h i = h
 mono b f g bs (x ∷ xs) h i = at (is_separator x) (λ n k l j m. mono n k l bs xs j m)
   where
-    turn : (o q : Bool) → are_outer (branches_of x) [] ≡ o → are_outer (branches_of x) bs ≡ q → ((if o then suc b else f) ≤ (if q then suc b else g)) × ((if q then suc b else g) ≤ suc b)
+    turn : (o q : Bool) → are_outer (branches_of x) [] ≡ o → are_outer (branches_of x) bs ≡ q
+        → ((if o then suc b else f) ≤ (if q then suc b else g)) × ((if q then suc b else g) ≤ suc b)
     turn true true e k = (omega arith, omega arith)
     turn true false e k = absurd (false≢true (sym k ∙ outer_all (branches_of x) bs e))
     turn false true e k = (omega arith, omega arith)
     turn false false e k = (h, omega arith)
 
     at : (d : Bool) → ((n k l : ℕ) → k ≤ l → l ≤ n → stage_from n k [] xs ≤ stage_from n l bs xs)
-        → (if d then stage_from (suc b) (if are_outer (branches_of x) [] then suc b else f) [] xs else stage_from b f [] xs) ≤ (if d then stage_from (suc b) (if are_outer (branches_of x) bs then suc b else g) bs xs else stage_from b g bs xs)
-    at true go = let r = turn (are_outer (branches_of x) []) (are_outer (branches_of x) bs) refl refl in go (suc b) (if are_outer (branches_of x) [] then suc b else f) (if are_outer (branches_of x) bs then suc b else g) r.0 r.1
+        → (if d
+        then stage_from (suc b) (if are_outer (branches_of x) [] then suc b else f) [] xs else stage_from b f [] xs) ≤ (if d
+        then stage_from (suc b) (if are_outer (branches_of x) bs then suc b else g) bs xs else stage_from b g bs xs)
+    at true go = let r = turn (are_outer (branches_of x) []) (are_outer (branches_of x) bs) refl refl in
+        go (suc b) (if are_outer (branches_of x) [] then suc b else f) (if are_outer (branches_of x) bs then suc b else g) r.0 r.1
     at false go = go b f g h i
 
 -- the next stage on a path is a later one, where a separator of the path stands after
@@ -148,7 +162,9 @@ module _ (p : Pipe) (rules : KeepsRules p) where
   at_end t h c e f =
       let last = full_places p (body_forked p rules) in
       let none : Cuts c (place_of t ∷ h.fine.later) ≡ false = ap₂ (λ a b. (a && on_path c (place_of t)) || b) e f in
-      let same : stage_in (places p) [] ≡ stage_in t.front [] = ap (λ l. stage_in l []) h.fine.whole ∙ from_append 0 0 [] t.front (place_of t ∷ h.fine.later) ∙ no_trunk c (0 + cut t.front) (stage_in t.front []) (place_of t ∷ h.fine.later) none in
+      let same : stage_in (places p) [] ≡ stage_in t.front [] =
+      ap (λ l. stage_in l []) h.fine.whole ∙ from_append 0 0 [] t.front (place_of t ∷ h.fine.later)
+      ∙ no_trunk c (0 + cut t.front) (stage_in t.front []) (place_of t ∷ h.fine.later) none in
       let low = mono 0 0 0 t.branches t.front (let z : 0 ≤ 0 = omega arith in z) (let z : 0 ≤ 0 = omega arith in z) in
       let staged : stage_in t.front t.branches ≡ t.walk.stage = h.fine.staged in
       let begun : t.walk.begun ≡ cut t.front = h.fine.here.begun in
@@ -162,37 +178,57 @@ module _ (p : Pipe) (rules : KeepsRules p) where
   -- the releases of a memory, by its name
   module _ (n : List ℕ) (there : is_memory p.mems n ≡ true) where
     none_front : list_any (releases_memory n) (front_of p) ≡ false
-    none_front = list_any-append (releases_memory n) (map Parameter p.params) (map Memory p.mems) ∙ ap₂ (λ a b. a || b) (any_params (releases_memory n) (λ a. refl) p.params) (any_mems (releases_memory n) (λ m. refl) p.mems)
+    none_front =
+        list_any-append (releases_memory n) (map Parameter p.params) (map Memory p.mems)
+        ∙ ap₂ (λ a b. a || b) (any_params (releases_memory n) (λ a. refl) p.params) (any_mems (releases_memory n) (λ m. refl) p.mems)
 
     -- without any it has none in the flat form
     no_release : All (λ t. releases_memory n (place_of t) ≡ false) (sites_of p) → commit_stage (flat p) (mem_of p.mems n) ≡ length (flat p).stages
     no_release h =
         ap (λ o. unwrap_or o (length (flat p).stages))
         (stage_at is_release (flat p).stmts (mem_of p.mems n) p.mems (mem_low p.mems n there)
-        ∙ first_none (is_release (mem_of p.mems n)) (flat p).stmts (ap (none_of (is_release (mem_of p.mems n))) (stmts_are p) ∙ none_sited (is_release (mem_of p.mems n)) p.mems (sites_of p) (each (sites_of p) (all_here p) h)))
+        ∙ first_none (is_release (mem_of p.mems n))
+        (flat p).stmts
+        (ap (none_of (is_release (mem_of p.mems n))) (stmts_are p)
+        ∙ none_sited (is_release (mem_of p.mems n)) p.mems (sites_of p) (each (sites_of p) (all_here p) h)))
       where
         of_stmt : (t : Site) → Here p t → releases_memory n (place_of t) ≡ false → some_op (is_release (mem_of p.mems n)) (ops p.mems t) ≡ false
-        of_stmt t k e = StatementTests.no_release p.mems (mem_of p.mems n) t.walk.vars t.stmt (λ sp at f. mem_is p.mems at.mem.name n (named sp at f) there ∙ ap (λ s. releases_memory n (Statement s t.branches)) (sym f) ∙ e)
+        of_stmt t k e =
+            StatementTests.no_release p.mems (mem_of p.mems n) t.walk.vars t.stmt
+            (λ sp at f. mem_is p.mems at.mem.name n (named sp at f) there ∙ ap (λ s. releases_memory n (Statement s t.branches)) (sym f) ∙ e)
           where
             named : (sp : Span) (at : Location) → t.stmt ≡ Release sp at → is_memory p.mems at.mem.name ≡ true
             named sp at f = (located p rules t k at (ap location_of f)).0
 
-        each : (ts : List Site) → All (Here p) ts → All (λ t. releases_memory n (place_of t) ≡ false) ts → All (λ t. some_op (is_release (mem_of p.mems n)) (ops p.mems t) ≡ false) ts
+        each : (ts : List Site) → All (Here p) ts → All (λ t. releases_memory n (place_of t) ≡ false) ts
+            → All (λ t. some_op (is_release (mem_of p.mems n)) (ops p.mems t) ≡ false) ts
         each [] a b = tt
         each (t ∷ ts) a b = (of_stmt t a.0 b.0, each ts a.1 b.1)
 
     none_of_places : (ts : List Site) → list_any (releases_memory n) (map place_of ts) ≡ false → All (λ t. releases_memory n (place_of t) ≡ false) ts
     none_of_places [] e = tt
-    none_of_places (t ∷ ts) e = let parts = or_parts (releases_memory n (place_of t)) (list_any (releases_memory n) (map place_of ts)) e in (parts.0, none_of_places ts parts.1)
+    none_of_places (t ∷ ts) e = let parts = or_parts (releases_memory n (place_of t)) (list_any (releases_memory n) (map place_of ts)) e in
+        (parts.0, none_of_places ts parts.1)
 
-    first : (first_stage (releases_memory n) [] (places p) ≡ Some (commit_stage (flat p) (mem_of p.mems n))) ⊎ (commit_stage (flat p) (mem_of p.mems n) ≡ length (flat p).stages)
+    first : (first_stage (releases_memory n) [] (places p) ≡ Some (commit_stage (flat p) (mem_of p.mems n)))
+        ⊎ (commit_stage (flat p) (mem_of p.mems n) ≡ length (flat p).stages)
     first =
-        at (first_sited (releases_memory n) (commit_stage (flat p) (mem_of p.mems n)) (front_of p) (closing p) (sites_of p) (all_in_text p) (all_staged p (body_forked p rules)) (named_release p rules n) (λ front. refl))
+        at
+        (first_sited (releases_memory n) (commit_stage (flat p) (mem_of p.mems n)) (front_of p) (closing p)
+        (sites_of p) (all_in_text p) (all_staged p (body_forked p rules)) (named_release p rules n)
+        (λ front. refl))
       where
-        at : ((first_stage (releases_memory n) (front_of p) (map place_of (sites_of p) ++ closing p) ≡ None) × (list_any (releases_memory n) (map place_of (sites_of p)) ≡ false)) ⊎ (first_stage (releases_memory n) (front_of p) (map place_of (sites_of p) ++ closing p) ≡ Some (commit_stage (flat p) (mem_of p.mems n)))
-            → (first_stage (releases_memory n) [] (places p) ≡ Some (commit_stage (flat p) (mem_of p.mems n))) ⊎ (commit_stage (flat p) (mem_of p.mems n) ≡ length (flat p).stages)
+        at :
+            ((first_stage (releases_memory n) (front_of p) (map place_of (sites_of p) ++ closing p) ≡ None)
+            × (list_any (releases_memory n) (map place_of (sites_of p)) ≡ false))
+            ⊎ (first_stage (releases_memory n) (front_of p) (map place_of (sites_of p) ++ closing p) ≡ Some (commit_stage (flat p) (mem_of p.mems n)))
+            → (first_stage (releases_memory n) [] (places p) ≡ Some (commit_stage (flat p) (mem_of p.mems n)))
+            ⊎ (commit_stage (flat p) (mem_of p.mems n) ≡ length (flat p).stages)
         at (inl r) = inr (no_release (none_of_places (sites_of p) r.1))
-        at (inr r) = inl (ap (first_stage (releases_memory n) []) (text_places p) ∙ first_skip (releases_memory n) [] (front_of p) (map place_of (sites_of p) ++ closing p) none_front ∙ r)
+        at (inr r) =
+            inl
+            (ap (first_stage (releases_memory n) []) (text_places p)
+            ∙ first_skip (releases_memory n) [] (front_of p) (map place_of (sites_of p) ++ closing p) none_front ∙ r)
 
     -- F5
     unlocked : is_locked p.mems n ≡ false → commit_stage (flat p) (mem_of p.mems n) ≡ length (flat p).stages
@@ -204,12 +240,15 @@ module _ (p : Pipe) (rules : KeepsRules p) where
             by : (b : Bool) → bytes_eq l.mem.name n ≡ b → b ≡ false
             by false g = refl
             by true g =
-                absurd (both_ways (not (is_locked p.mems l.mem.name)) (ap (λ x. Locks.breaks_f5 p (Statement x t.branches)) (sym f) ∙ rules F5 t.front (place_of t) h.later h.whole)
+                absurd
+                (both_ways (not (is_locked p.mems l.mem.name))
+                (ap (λ x. Locks.breaks_f5 p (Statement x t.branches)) (sym f) ∙ rules F5 t.front (place_of t) h.later h.whole)
                 (ap (λ m. not (is_locked p.mems m)) (bytes_same l.mem.name n g) ∙ ap not e))
         at t h _ f = refl
 
   -- L8
-  read_early : (t : Site) (h : Known p t) (sp : Span) (y : Ident) (l : Location) → t.stmt ≡ DelayedRead sp y l → (env : List ℕ) → all_hold t.gs env ≡ true → t.walk.stage < commit_stage (flat p) (mem_of p.mems l.mem.name)
+  read_early : (t : Site) (h : Known p t) (sp : Span) (y : Ident) (l : Location) → t.stmt ≡ DelayedRead sp y l
+      → (env : List ℕ) → all_hold t.gs env ≡ true → t.walk.stage < commit_stage (flat p) (mem_of p.mems l.mem.name)
   read_early t h sp y l e env tk = at (is_locked p.mems l.mem.name) refl (first l.mem.name there)
     where
       here : Here p t
@@ -239,16 +278,22 @@ module _ (p : Pipe) (rules : KeepsRules p) where
       later : t.walk.stage < next_on (way p env) (stage_after t.front) (places_after p t.front)
       later = by (next_up (way p env) (stage_after t.front) (places_after p t.front))
         where
-          by : (Cuts (way p env) (places_after p t.front) ≡ false) ⊎ (stage_after t.front < next_on (way p env) (stage_after t.front) (places_after p t.front)) → t.walk.stage < next_on (way p env) (stage_after t.front) (places_after p t.front)
-          by (inl f) = absurd (both_ways _ not_last (eq-eqb t.walk.stage (stage_after (places p)) (at_end t h (way p env) cut_none (ap (Cuts (way p env)) (sym after_is) ∙ f))))
+          by : (Cuts (way p env) (places_after p t.front) ≡ false) ⊎ (stage_after t.front < next_on (way p env) (stage_after t.front) (places_after p t.front))
+              → t.walk.stage < next_on (way p env) (stage_after t.front) (places_after p t.front)
+          by (inl f) =
+              absurd
+              (both_ways _ not_last (eq-eqb t.walk.stage (stage_after (places p)) (at_end t h (way p env) cut_none (ap (Cuts (way p env)) (sym after_is) ∙ f))))
           by (inr g) = let begun : t.walk.begun ≡ stage_after t.front = h.fine.here.begun in let low = h.low in omega arith
 
       bound : bound_late p (way p env) t.front (Statement (DelayedRead sp y l) t.branches) ≡ false
       bound =
           ap (λ s. bound_late p (way p env) t.front (Statement s t.branches)) (sym e) ∙ ap (λ b. b && bound_late p (way p env) t.front (place_of t)) (sym on)
-          ∙ by_choice (λ path. on_path path (place_of t) && bound_late p path t.front (place_of t)) (value p env) (guards (places p)) (rules L8 t.front (place_of t) h.fine.later h.fine.whole)
+          ∙ by_choice (λ path. on_path path (place_of t) && bound_late p path t.front (place_of t)) (value p env)
+          (guards (places p)) (rules L8 t.front (place_of t) h.fine.later h.fine.whole)
 
-      at : (b : Bool) → is_locked p.mems l.mem.name ≡ b → (first_stage (releases_memory l.mem.name) [] (places p) ≡ Some (commit_stage (flat p) (mem_of p.mems l.mem.name))) ⊎ (commit_stage (flat p) (mem_of p.mems l.mem.name) ≡ length (flat p).stages)
+      at : (b : Bool) → is_locked p.mems l.mem.name ≡ b
+          → (first_stage (releases_memory l.mem.name) [] (places p) ≡ Some (commit_stage (flat p) (mem_of p.mems l.mem.name)))
+          ⊎ (commit_stage (flat p) (mem_of p.mems l.mem.name) ≡ length (flat p).stages)
           → t.walk.stage < commit_stage (flat p) (mem_of p.mems l.mem.name)
       at false f r = let k = unlocked l.mem.name there f in let i = inside in omega arith
       at true f (inr r) = let i = inside in omega arith
@@ -283,7 +328,9 @@ module _ (p : Pipe) (rules : KeepsRules p) where
             at : (s : Stmt) → t.stmt ≡ s → op_of p.mems t.walk.vars t.stmt ≡ Some (Flat.DelayedRead x m a) → t.walk.stage < commit_stage (flat p) m
             at (DelayedRead sp y l) g i =
                 let env = some_path t.gs live in
-                subst (λ k. t.walk.stage < commit_stage (flat p) k) (ap (λ s. member (op_of p.mems t.walk.vars s)) (sym g) ∙ ap member i) (read_early t h.known sp y l g env.0 env.1)
+                subst (λ k. t.walk.stage < commit_stage (flat p) k)
+                (ap (λ s. member (op_of p.mems t.walk.vars s)) (sym g) ∙ ap member i)
+                (read_early t h.known sp y l g env.0 env.1)
             at (If sp (Variable v) when otherwise) g i = absurd (false≢true (sym (ap (λ s. from_op is_fetch (op_of p.mems t.walk.vars s)) g) ∙ wrong))
             at (If sp c when otherwise) g i = absurd (false≢true (sym (ap (λ s. from_op is_fetch (op_of p.mems t.walk.vars s)) g) ∙ wrong))
             at (Reserve sp l R) g i = absurd (false≢true (sym (ap (λ s. from_op is_fetch (op_of p.mems t.walk.vars s)) g) ∙ wrong))

@@ -58,7 +58,9 @@ free_each (g ∷ gs) xs h = and_from _ _ (first xs h) (free_each gs xs (rest xs 
   where
     first : (ys : List Stmt) → Each (λ y. (binds_var g.var y.op || binds_guard y.op gs) ≡ false) ys → none_of (binds_var g.var) ys ≡ true
     first [] k = refl
-    first (y ∷ ys) k = and_from (not (binds_var g.var y.op)) (none_of (binds_var g.var) ys) (ap not (or_parts (binds_var g.var y.op) (binds_guard y.op gs) k.0).0) (first ys k.1)
+    first (y ∷ ys) k =
+        and_from (not (binds_var g.var y.op)) (none_of (binds_var g.var) ys)
+        (ap not (or_parts (binds_var g.var y.op) (binds_guard y.op gs) k.0).0) (first ys k.1)
 
     rest : (ys : List Stmt) → Each (λ y. (binds_var g.var y.op || binds_guard y.op gs) ≡ false) ys → Each (λ y. binds_guard y.op gs ≡ false) ys
     rest [] k = tt
@@ -72,9 +74,11 @@ each_free [] xs h = none xs
     none (y ∷ ys) = (refl, none ys)
 each_free (g ∷ gs) xs h = let parts = and_parts (none_of (binds_var g.var) xs) (free_of gs xs) h in both xs parts.0 (each_free gs xs parts.1)
   where
-    both : (ys : List Stmt) → none_of (binds_var g.var) ys ≡ true → Each (λ y. binds_guard y.op gs ≡ false) ys → Each (λ y. (binds_var g.var y.op || binds_guard y.op gs) ≡ false) ys
+    both : (ys : List Stmt) → none_of (binds_var g.var) ys ≡ true → Each (λ y. binds_guard y.op gs ≡ false) ys
+        → Each (λ y. (binds_var g.var y.op || binds_guard y.op gs) ≡ false) ys
     both [] i k = tt
-    both (y ∷ ys) i k = let parts = and_parts (not (binds_var g.var y.op)) (none_of (binds_var g.var) ys) i in (ap₂ (λ a b. a || b) (not-true (binds_var g.var y.op) parts.0) k.0, both ys parts.1 k.1)
+    both (y ∷ ys) i k = let parts = and_parts (not (binds_var g.var y.op)) (none_of (binds_var g.var) ys) i in
+        (ap₂ (λ a b. a || b) (not-true (binds_var g.var y.op) parts.0) k.0, both ys parts.1 k.1)
 
 -- a delayed read that is answered at once binds the same guards' variables
 pub guard_looked : (op : Op) (gs : List Guard) → binds_guard (answered_op op) gs ≡ binds_guard op gs
@@ -101,14 +105,17 @@ fixed_append : (xs ys : List Stmt) → is_fixed xs ≡ true → is_fixed ys ≡ 
 fixed_append [] ys h i k = i
 fixed_append (x ∷ xs) ys h i k =
     let parts = and_parts (keeps_guards x.guards (x ∷ xs)) (is_fixed xs) h in
-    and_from _ _ (keeps_to (x ∷ (xs ++ ys)) x (λ e. let own = to_keeps (x ∷ xs) x parts.0 e in (own.0, each_append (λ y. binds_guard y.op x.guards ≡ false) xs ys own.1 (k.0 e))))
+    and_from _ _
+    (keeps_to (x ∷ (xs ++ ys)) x
+    (λ e. let own = to_keeps (x ∷ xs) x parts.0 e in (own.0, each_append (λ y. binds_guard y.op x.guards ≡ false) xs ys own.1 (k.0 e))))
     (fixed_append xs ys parts.1 i k.1)
 
 fixed_before : (s : ℕ) (xs : List Stmt) → is_fixed xs ≡ true → is_fixed (before s xs) ≡ true
 fixed_before s [] h = refl
 fixed_before s (x ∷ xs) h = let parts = and_parts (keeps_guards x.guards (x ∷ xs)) (is_fixed xs) h in at (nat_lt x.stage s) parts.0 (fixed_before s xs parts.1)
   where
-    at : (b : Bool) → keeps_guards x.guards (x ∷ xs) ≡ true → is_fixed (before s xs) ≡ true → is_fixed (cond b (record x { op = answered_op x.op } ∷ before s xs) (before s xs)) ≡ true
+    at : (b : Bool) → keeps_guards x.guards (x ∷ xs) ≡ true → is_fixed (before s xs) ≡ true
+        → is_fixed (cond b (record x { op = answered_op x.op } ∷ before s xs) (before s xs)) ≡ true
     at true k r =
         and_from _ _ (keeps_to (record x { op = answered_op x.op } ∷ before s xs) x (λ e.
         let own = to_keeps (x ∷ xs) x k e in (
@@ -121,9 +128,13 @@ fixed_from : (s : ℕ) (xs : List Stmt) → is_fixed xs ≡ true → is_fixed (s
 fixed_from s [] h = refl
 fixed_from s (x ∷ xs) h = let parts = and_parts (keeps_guards x.guards (x ∷ xs)) (is_fixed xs) h in at (nat_le s x.stage) parts.0 (fixed_from s xs parts.1)
   where
-    at : (b : Bool) → keeps_guards x.guards (x ∷ xs) ≡ true → is_fixed (stages_from s xs) ≡ true → is_fixed (cond b (x ∷ stages_from s xs) (stages_from s xs)) ≡ true
+    at : (b : Bool) → keeps_guards x.guards (x ∷ xs) ≡ true → is_fixed (stages_from s xs) ≡ true
+        → is_fixed (cond b (x ∷ stages_from s xs) (stages_from s xs)) ≡ true
     at true k r =
-        and_from _ _ (keeps_to (x ∷ stages_from s xs) x (λ e. let own = to_keeps (x ∷ xs) x k e in (own.0, each_from (λ y. binds_guard y.op x.guards ≡ false) (λ y. binds_guard y.op x.guards ≡ false) s (λ y f up. f) xs own.1))) r
+        and_from _ _
+        (keeps_to (x ∷ stages_from s xs) x
+        (λ e. let own = to_keeps (x ∷ xs) x k e in
+        (own.0, each_from (λ y. binds_guard y.op x.guards ≡ false) (λ y. binds_guard y.op x.guards ≡ false) s (λ y f up. f) xs own.1))) r
     at false k r = r
 
 -- no statement binds a guard's variable in a later stage
@@ -144,9 +155,15 @@ pub fixed_stages : (xs : List Stmt)
 fixed_stages xs h r s =
     fixed_append (before s xs) (in_stage s xs ++ stages_from (suc s) xs) (fixed_before s xs h)
     (fixed_append (in_stage s xs) (stages_from (suc s) xs) (fixed_stage s xs h) (fixed_from (suc s) xs h)
-    (each_stage (Keeps (stages_from (suc s) xs)) (Rests xs) s (λ z f here e. each_from (λ y. binds_guard y.op z.guards ≡ false) (λ y. binds_guard y.op z.guards ≡ true → y.stage ≤ z.stage) (suc s) (λ y g up. unbound y z g (omega arith)) xs (f e)) xs r))
+    (each_stage (Keeps (stages_from (suc s) xs))
+    (Rests xs) s
+    (λ z f here e. each_from (λ y. binds_guard y.op z.guards ≡ false)
+    (λ y. binds_guard y.op z.guards ≡ true → y.stage ≤ z.stage) (suc s)
+    (λ y g up. unbound y z g (omega arith)) xs (f e)) xs r))
     (each_before (Keeps (in_stage s xs ++ stages_from (suc s) xs)) (Rests xs) s
     (λ z f low e.
     each_append (λ y. binds_guard y.op z.guards ≡ false) (in_stage s xs) (stages_from (suc s) xs)
-    (each_stage (λ y. binds_guard y.op z.guards ≡ false) (λ y. binds_guard y.op z.guards ≡ true → y.stage ≤ z.stage) s (λ y g here. unbound y z g (omega arith)) xs (f e))
-    (each_from (λ y. binds_guard y.op z.guards ≡ false) (λ y. binds_guard y.op z.guards ≡ true → y.stage ≤ z.stage) (suc s) (λ y g up. unbound y z g (omega arith)) xs (f e))) xs r)
+    (each_stage (λ y. binds_guard y.op z.guards ≡ false)
+    (λ y. binds_guard y.op z.guards ≡ true → y.stage ≤ z.stage) s (λ y g here. unbound y z g (omega arith)) xs (f e))
+    (each_from (λ y. binds_guard y.op z.guards ≡ false) (λ y. binds_guard y.op z.guards ≡ true → y.stage ≤ z.stage)
+    (suc s) (λ y g up. unbound y z g (omega arith)) xs (f e))) xs r)

@@ -40,7 +40,8 @@ split_front : (xs ys hf later : List Place) (s : Stmt) (bs : List Branch)
     → list_all no_statement xs ≡ true → xs ++ ys ≡ hf ++ Statement s bs ∷ later
     → (more : List Place) × (hf ≡ xs ++ more)
 split_front [] ys hf later s bs h e = (hf, refl)
-split_front (x ∷ xs) ys [] later s bs h e = absurd (false≢true (sym (ap (λ l. no_statement (first_of x l)) e) ∙ (and_parts (no_statement x) (list_all no_statement xs) h).0))
+split_front (x ∷ xs) ys [] later s bs h e =
+    absurd (false≢true (sym (ap (λ l. no_statement (first_of x l)) e) ∙ (and_parts (no_statement x) (list_all no_statement xs) h).0))
 split_front (x ∷ xs) ys (y ∷ hf) later s bs h e =
     let rest = split_front xs ys hf later s bs (and_parts (no_statement x) (list_all no_statement xs) h).1 (ap rest_of e) in
     (rest.0, ap₂ (λ a l. a ∷ l) (sym (ap (first_of x) e)) rest.1)
@@ -53,7 +54,8 @@ none_params (a ∷ ps) ms = none_params ps ms
 -- a statement stands after the parameters and the memories
 pub after_of : (p : Pipe) (hf later : List Place) (s : Stmt) (bs : List Branch) → places p ≡ hf ++ Statement s bs ∷ later → After p hf
 after_of p hf later s bs e =
-    split_front (front_of p) (statements [] p.body ++ closing p) hf later s bs (none_params p.params p.mems) (sym (append_assoc (front_of p) (statements [] p.body) (closing p)) ∙ e)
+    split_front (front_of p) (statements [] p.body ++ closing p) hf later s bs (none_params p.params p.mems)
+    (sym (append_assoc (front_of p) (statements [] p.body) (closing p)) ∙ e)
 
 -- THE VALUES OF GUARDS
 
@@ -97,19 +99,23 @@ apart_before n (y ∷ before) later x h e =
     among : list_any (begins_at n) (before ++ x ∷ later) ≡ true
     among = list_any-append (begins_at n) before (x ∷ later) ∙ or_right (list_any (begins_at n) before) _ (or_left (begins_at n x) _ e)
 
-    at : (b : Bool) → begins_at n y ≡ b → is_new (own_start y) (before ++ x ∷ later) ≡ true → list_any (begins_at n) before ≡ false → (b || list_any (begins_at n) before) ≡ false
+    at : (b : Bool) → begins_at n y ≡ b → is_new (own_start y) (before ++ x ∷ later) ≡ true
+        → list_any (begins_at n) before ≡ false → (b || list_any (begins_at n) before) ≡ false
     at true f g i = absurd (false≢true (sym (ap not among) ∙ (sym (ap (λ o. is_new o (before ++ x ∷ later)) (starts_there n y f)) ∙ g)))
     at false f g i = i
 
 module _ (p : Pipe) (rules : KeepsRules p) (apart : are_apart (places p) ≡ true) (path : List ℕ) where
   -- the guard of each `if` has the value of its variable
-  agrees : (hf later : List Place) (w : Flatten.Position) (bs : List Branch) (s : Span) (c : Expr) (when otherwise : Stmts) → places p ≡ hf ++ Statement (If s c when otherwise) bs ∷ later → Named hf w
+  agrees : (hf later : List Place) (w : Flatten.Position) (bs : List Branch) (s : Span) (c : Expr) (when otherwise : Stmts)
+      → places p ≡ hf ++ Statement (If s c when otherwise) bs ∷ later → Named hf w
       → is_among (guard_of s c) (path_of p (value p path)) ≡ (slice_index path (Flatten.guard_of w.vars c) == 1)
   agrees hf later w bs s c when otherwise e named =
-      among_chosen (value p path) (guard_of s c) (guards (places p)) (subst (λ l. is_among (guard_of s c) (guards l) ≡ true) (sym e) (if_among s c when otherwise bs hf later []))
+      among_chosen (value p path) (guard_of s c) (guards (places p))
+      (subst (λ l. is_among (guard_of s c) (guards l) ≡ true) (sym e) (if_among s c when otherwise bs hf later []))
       ∙ at c refl
     where
-      own : (d : Expr) → c ≡ d → begins_at s.start (Statement (If s d when otherwise) bs) ≡ true → (slice_index path (own_at s.start (places p)) == 1) ≡ (slice_index path (length w.vars) == 1)
+      own : (d : Expr) → c ≡ d → begins_at s.start (Statement (If s d when otherwise) bs) ≡ true
+          → (slice_index path (own_at s.start (places p)) == 1) ≡ (slice_index path (length w.vars) == 1)
       own d same i =
           let e2 = subst (λ (x : Expr). places p ≡ hf ++ Statement (If s x when otherwise) bs ∷ later) same e in
           let none = apart_before s.start hf later (Statement (If s d when otherwise) bs) (subst (λ l. are_apart l ≡ true) e2 apart) i in
@@ -121,8 +127,11 @@ module _ (p : Pipe) (rules : KeepsRules p) (apart : are_apart (places p) ≡ tru
       shared x same =
           let e2 = subst (λ (d : Expr). places p ≡ hf ++ Statement (If s d when otherwise) bs ∷ later) same e in
           let early = is_too_early p hf (Statement (If s (Variable x) when otherwise) bs) in
-          let unused : some_use early (Statement (If s (Variable x) when otherwise) bs) ≡ false = rules N3 hf (Statement (If s (Variable x) when otherwise) bs) later e2 in
-          let there = known p hf w (Statement (If s (Variable x) when otherwise) bs) x.name (after_of p hf later (If s (Variable x) when otherwise) bs e2) named unused in
+          let unused : some_use early (Statement (If s (Variable x) when otherwise) bs) ≡ false =
+          rules N3 hf (Statement (If s (Variable x) when otherwise) bs) later e2 in
+          let there =
+          known p hf w (Statement (If s (Variable x) when otherwise) bs) x.name
+          (after_of p hf later (If s (Variable x) when otherwise) bs e2) named unused in
           ap (λ n. slice_index path n == 1)
           (ap (λ l. place_of l x.name) (ap names e2 ∙ names_append hf (Statement (If s (Variable x) when otherwise) bs ∷ later))
           ∙ in_stays (names hf) (names (Statement (If s (Variable x) when otherwise) bs ∷ later)) x.name (sym (named_is hf w x.name named) ∙ there)
@@ -144,12 +153,15 @@ module _ (p : Pipe) (rules : KeepsRules p) (apart : are_apart (places p) ≡ tru
   branch_alike true a b n e = sym e
   branch_alike false a b n e = ap not (sym e)
 
-  choices_alike : (front later : List Place) → places p ≡ front ++ later → (hs : List Choice) → AllChosen front hs → all_hold (map flat_guard hs) path ≡ list_all (is_taken (path_of p (value p path))) (map rule_branch hs)
+  choices_alike : (front later : List Place) → places p ≡ front ++ later → (hs : List Choice) → AllChosen front hs
+      → all_hold (map flat_guard hs) path ≡ list_all (is_taken (path_of p (value p path))) (map rule_branch hs)
   choices_alike front later e [] k = refl
   choices_alike front later e (h ∷ hs) k =
       ap₂ (λ a b. a && b)
-      (branch_alike h.truth (is_among (guard_of h.span h.condition) (path_of p (value p path))) true (slice_index path (Flatten.guard_of h.walk.vars h.condition))
-      (agrees h.front (k.0.0 ++ later) h.walk h.branches h.span h.condition h.when h.otherwise (e ∙ ap (λ l. l ++ later) k.0.1 ∙ append_assoc h.front (its_if h ∷ k.0.0) later) k.0.2))
+      (branch_alike h.truth (is_among (guard_of h.span h.condition) (path_of p (value p path))) true
+      (slice_index path (Flatten.guard_of h.walk.vars h.condition))
+      (agrees h.front (k.0.0 ++ later) h.walk h.branches h.span h.condition h.when h.otherwise
+      (e ∙ ap (λ l. l ++ later) k.0.1 ∙ append_assoc h.front (its_if h ∷ k.0.0) later) k.0.2))
       (choices_alike front later e hs k.1)
 
   site_alike : (t : Site) → Here p t → Alike path (path_of p (value p path)) t

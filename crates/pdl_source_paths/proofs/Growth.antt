@@ -61,27 +61,35 @@ guard_past (Variable x) w = refl
 guard_past _ w = refl
 
 mutual
-  grows_in : (ms : List Mem) (front : List Place) (w : Flatten.Position) (gs : List Flat.Guard) (bs : List Branch) (s : Stmt) → Grows ms w.vars (sites_in ms front w gs bs s) (past ms s w).vars
+  grows_in : (ms : List Mem) (front : List Place) (w : Flatten.Position) (gs : List Flat.Guard) (bs : List Branch) (s : Stmt)
+      → Grows ms w.vars (sites_in ms front w gs bs s) (past ms s w).vars
   grows_in ms front w gs bs (If sp c when otherwise) = (
     grown_same w.vars,
-    subst (λ vs. Grows ms vs (sites ms (front ++ Statement (If sp c when otherwise) bs ∷ []) (with_guard c w) (under gs w.vars c true) (bs ++ branch sp c true when ∷ []) when
-        ++ sites ms (front ++ Statement (If sp c when otherwise) bs ∷ statements (bs ++ branch sp c true when ∷ []) when) (at_otherwise ms c when w) (under gs w.vars c false) (bs ++ branch sp c false otherwise ∷ []) otherwise)
+    subst
+        (λ vs. Grows ms vs
+        (sites ms (front ++ Statement (If sp c when otherwise) bs ∷ []) (with_guard c w) (under gs w.vars c true) (bs ++ branch sp c true when ∷ []) when
+        ++ sites ms (front ++ Statement (If sp c when otherwise) bs ∷ statements (bs ++ branch sp c true when ∷ []) when)
+        (at_otherwise ms c when w) (under gs w.vars c false) (bs ++ branch sp c false otherwise ∷ []) otherwise)
         (past ms (If sp c when otherwise) w).vars) (guard_past c w)
         (grows_append ms (with_guard c w).vars (past_all ms when (with_guard c w)).vars (past ms (If sp c when otherwise) w).vars
         (sites ms (front ++ Statement (If sp c when otherwise) bs ∷ []) (with_guard c w) (under gs w.vars c true) (bs ++ branch sp c true when ∷ []) when)
-        (sites ms (front ++ Statement (If sp c when otherwise) bs ∷ statements (bs ++ branch sp c true when ∷ []) when) (at_otherwise ms c when w) (under gs w.vars c false) (bs ++ branch sp c false otherwise ∷ []) otherwise)
+        (sites ms (front ++ Statement (If sp c when otherwise) bs ∷ statements (bs ++ branch sp c true when ∷ []) when)
+        (at_otherwise ms c when w) (under gs w.vars c false) (bs ++ branch sp c false otherwise ∷ []) otherwise)
         (grows ms (front ++ Statement (If sp c when otherwise) bs ∷ []) (with_guard c w) (under gs w.vars c true) (bs ++ branch sp c true when ∷ []) when)
-        (grows ms (front ++ Statement (If sp c when otherwise) bs ∷ statements (bs ++ branch sp c true when ∷ []) when) (at_otherwise ms c when w) (under gs w.vars c false) (bs ++ branch sp c false otherwise ∷ []) otherwise)),
+        (grows ms (front ++ Statement (If sp c when otherwise) bs ∷ statements (bs ++ branch sp c true when ∷ []) when)
+        (at_otherwise ms c when w) (under gs w.vars c false) (bs ++ branch sp c false otherwise ∷ []) otherwise)),
   )
   grows_in ms front w gs bs (CombRead _ x from) = (grown_same w.vars, grown_same _)
   grows_in ms front w gs bs (Bind _ x e) = (grown_same w.vars, grown_same _)
   grows_in ms front w gs bs (DelayedRead _ x from) = (grown_same w.vars, grown_same _)
   grows_in ms front w gs bs _ = (grown_same w.vars, grown_same w.vars)
 
-  grows : (ms : List Mem) (front : List Place) (w : Flatten.Position) (gs : List Flat.Guard) (bs : List Branch) (ss : Stmts) → Grows ms w.vars (sites ms front w gs bs ss) (past_all ms ss w).vars
+  grows : (ms : List Mem) (front : List Place) (w : Flatten.Position) (gs : List Flat.Guard) (bs : List Branch) (ss : Stmts)
+      → Grows ms w.vars (sites ms front w gs bs ss) (past_all ms ss w).vars
   grows ms front w gs bs Nil = grown_same w.vars
   grows ms front w gs bs (Cons s ss) =
-      grows_append ms w.vars (past ms s w).vars (past_all ms ss (past ms s w)).vars (sites_in ms front w gs bs s) (sites ms (front ++ with_inner bs s) (past ms s w) gs bs ss)
+      grows_append ms w.vars (past ms s w).vars (past_all ms ss (past ms s w)).vars (sites_in ms front w gs bs s)
+      (sites ms (front ++ with_inner bs s) (past ms s w) gs bs ss)
       (grows_in ms front w gs bs s) (grows ms (front ++ with_inner bs s) (past ms s w) gs bs ss)
 
 -- along a source each site has the variables that the parameters and the sites before it bind
@@ -95,4 +103,6 @@ grows_on ms c vs us (t ∷ ts) h = at (on_path c (place_of t)) (grows_on ms c (v
   where
     at : (b : Bool) → Grows ms (vars_past ms t.walk.vars t.stmt) (on_sites c ts) us → Grows ms vs (if b then t ∷ on_sites c ts else on_sites c ts) us
     at true k = (h.0, k)
-    at false k = grows_from ms vs (vars_past ms t.walk.vars t.stmt) us (on_sites c ts) (grown_more vs t.walk.vars (vars_past ms t.walk.vars t.stmt) h.0 (past_grown ms t.walk.vars t.stmt)) k
+    at false k =
+        grows_from ms vs (vars_past ms t.walk.vars t.stmt) us (on_sites c ts)
+        (grown_more vs t.walk.vars (vars_past ms t.walk.vars t.stmt) h.0 (past_grown ms t.walk.vars t.stmt)) k

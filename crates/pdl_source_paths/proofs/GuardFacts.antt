@@ -60,7 +60,9 @@ find_guard : (P : Flat.Guard → Type 0) (op : Flat.Op) (gs : List Flat.Guard) �
 find_guard P op [] h e = absurd (false≢true e)
 find_guard P op (g ∷ gs) h e = at (binds_var g.var op) refl e (find_guard P op gs h.1)
   where
-    at : (b : Bool) → binds_var g.var op ≡ b → (b || binds_guard op gs) ≡ true → (binds_guard op gs ≡ true → (k : Flat.Guard) × P k × (binds_var k.var op ≡ true)) → (k : Flat.Guard) × P k × (binds_var k.var op ≡ true)
+    at : (b : Bool) → binds_var g.var op ≡ b → (b || binds_guard op gs) ≡ true
+        → (binds_guard op gs ≡ true → (k : Flat.Guard) × P k × (binds_var k.var op ≡ true))
+        → (k : Flat.Guard) × P k × (binds_var k.var op ≡ true)
     at true f i go = (g, h.0, f)
     at false f i go = go i
 
@@ -77,9 +79,12 @@ none_later ms i vs us [] h low = refl
 none_later ms i vs us (t ∷ ts) h low =
     let l = grown_long vs t.walk.vars h.0 in
     let m = grown_long t.walk.vars (vars_past ms t.walk.vars t.stmt) (past_grown ms t.walk.vars t.stmt) in
-    ap (λ l. none_of (binds_var i) (l ++ owns ms ts)) (own_is ms t.gs t.walk t.stmt) ∙ at (op_of ms t.walk.vars t.stmt) refl (let k : i < length t.walk.vars = omega arith in k) (none_later ms i (vars_past ms t.walk.vars t.stmt) us ts h.1 (omega arith))
+    ap (λ l. none_of (binds_var i) (l ++ owns ms ts)) (own_is ms t.gs t.walk t.stmt)
+    ∙ at (op_of ms t.walk.vars t.stmt) refl (let k : i < length t.walk.vars = omega arith in k)
+    (none_later ms i (vars_past ms t.walk.vars t.stmt) us ts h.1 (omega arith))
   where
-    at : (o : Option Flat.Op) → op_of ms t.walk.vars t.stmt ≡ o → i < length t.walk.vars → none_of (binds_var i) (owns ms ts) ≡ true → none_of (binds_var i) (rows_of t.gs t.walk o ++ owns ms ts) ≡ true
+    at : (o : Option Flat.Op) → op_of ms t.walk.vars t.stmt ≡ o → i < length t.walk.vars
+        → none_of (binds_var i) (owns ms ts) ≡ true → none_of (binds_var i) (rows_of t.gs t.walk o ++ owns ms ts) ≡ true
     at None e k r = r
     at (Some op) e k r = and_from (not (binds_var i op)) _ (by (binds_var i op) refl) r
       where
@@ -90,21 +95,28 @@ none_later ms i vs us (t ∷ ts) h low =
 module _ (p : Pipe) (rules : KeepsRules p) (apart : are_apart (places p) ≡ true) (named : list_any (defines_use (OfVariable [])) (places p) ≡ false) where
   pub all_told : All (Told p) (sites_of p)
   all_told =
-      all_both (Known p) (λ t. Settled p t × AllGuards (Guarded p t) t.gs) (Told p) (λ t h k. record { known = h; settled = k.0; guards = k.1 }) (sites_of p) (all_known p rules apart)
-      (all_both (Settled p) (λ t. AllGuards (Guarded p t) t.gs) (λ t. Settled p t × AllGuards (Guarded p t) t.gs) (λ t a b. (a, b)) (sites_of p) (all_settled p rules apart) (all_guarded p rules named apart))
+      all_both (Known p) (λ t. Settled p t × AllGuards (Guarded p t) t.gs) (Told p)
+      (λ t h k. record { known = h; settled = k.0; guards = k.1 }) (sites_of p) (all_known p rules apart)
+      (all_both (Settled p) (λ t. AllGuards (Guarded p t) t.gs) (λ t. Settled p t × AllGuards (Guarded p t) t.gs)
+      (λ t a b. (a, b)) (sites_of p) (all_settled p rules apart) (all_guarded p rules named apart))
 
   fixed_all : (vs us : List Var) (ts : List Site) → Grows p.mems vs ts us → All (Told p) ts → is_fixed (owns p.mems ts) ≡ true
   fixed_all vs us [] g h = refl
-  fixed_all vs us (t ∷ ts) g h = ap (λ l. is_fixed (l ++ owns p.mems ts)) (own_is p.mems t.gs t.walk t.stmt) ∙ at (op_of p.mems t.walk.vars t.stmt) (own_is p.mems t.gs t.walk t.stmt) (fixed_all (vars_past p.mems t.walk.vars t.stmt) us ts g.1 h.1)
+  fixed_all vs us (t ∷ ts) g h =
+      ap (λ l. is_fixed (l ++ owns p.mems ts)) (own_is p.mems t.gs t.walk t.stmt)
+      ∙ at (op_of p.mems t.walk.vars t.stmt) (own_is p.mems t.gs t.walk t.stmt) (fixed_all (vars_past p.mems t.walk.vars t.stmt) us ts g.1 h.1)
     where
       free : (gs : List Flat.Guard) → AllGuards (Guarded p t) gs → free_of gs (owns p.mems (t ∷ ts)) ≡ true
       free [] k = refl
       free (x ∷ gs) k = and_from _ _ (none_later p.mems x.var t.walk.vars us (t ∷ ts) (grown_same t.walk.vars, g.1) k.0.low) (free gs k.1)
 
-      at : (o : Option Flat.Op) → own p.mems t ≡ rows_of t.gs t.walk o → is_fixed (owns p.mems ts) ≡ true → is_fixed (rows_of t.gs t.walk o ++ owns p.mems ts) ≡ true
+      at : (o : Option Flat.Op) → own p.mems t ≡ rows_of t.gs t.walk o → is_fixed (owns p.mems ts) ≡ true
+          → is_fixed (rows_of t.gs t.walk o ++ owns p.mems ts) ≡ true
       at None e r = r
       at (Some op) e r =
-          and_from _ _ (or_right (is_dead t.gs) (free_of t.gs (row_at t op ∷ owns p.mems ts)) (ap (λ l. free_of t.gs (l ++ owns p.mems ts)) (sym e) ∙ free t.gs h.0.guards)) r
+          and_from _ _
+          (or_right (is_dead t.gs) (free_of t.gs (row_at t op ∷ owns p.mems ts))
+          (ap (λ l. free_of t.gs (l ++ owns p.mems ts)) (sym e) ∙ free t.gs h.0.guards)) r
 
   pub fixed_text : is_fixed (flat p).stmts ≡ true
   fixed_text = ap is_fixed (stmts_are p) ∙ fixed_all (params_of p.params) _ (sites_of p) (grows_all p) all_told
@@ -118,9 +130,11 @@ module _ (p : Pipe) (rules : KeepsRules p) (apart : are_apart (places p) ≡ tru
   pub all_late : Each (λ z. is_dead z.guards ≡ false → Each (Late z) (flat p).stmts) (flat p).stmts
   all_late =
       each_stmt p (λ z. is_dead z.guards ≡ false → Each (Late z) (flat p).stmts)
-      (all_map (Told p) (AtSite (λ z. is_dead z.guards ≡ false → Each (Late z) (flat p).stmts) p.mems) (λ t h op e live. one t h op e (some_path t.gs live)) (sites_of p) all_told)
+      (all_map (Told p) (AtSite (λ z. is_dead z.guards ≡ false → Each (Late z) (flat p).stmts) p.mems)
+      (λ t h op e live. one t h op e (some_path t.gs live)) (sites_of p) all_told)
     where
-      one : (t : Site) → Told p t → (op : Flat.Op) → op_of p.mems t.walk.vars t.stmt ≡ Some op → (env : List ℕ) × (Flat.all_hold t.gs env ≡ true) → Each (Late (row_at t op)) (flat p).stmts
+      one : (t : Site) → Told p t → (op : Flat.Op) → op_of p.mems t.walk.vars t.stmt ≡ Some op
+          → (env : List ℕ) × (Flat.all_hold t.gs env ≡ true) → Each (Late (row_at t op)) (flat p).stmts
       one t h op e env =
           each_stmt p (Late (row_at t op))
           (all_map (Told p) (AtSite (Late (row_at t op)) p.mems)
@@ -130,7 +144,11 @@ module _ (p : Pipe) (rules : KeepsRules p) (apart : are_apart (places p) ≡ tru
           (r.0, λ d. r.2 (fetch_delayed p.mems y.walk.vars y.stmt y.branches o f d))) (sites_of p) all_told)
 
   pub guards_late : list_all (λ z. is_dead z.guards || late_for z (flat p).stmts) (flat p).stmts ≡ true
-  guards_late = each_all (λ z. is_dead z.guards || late_for z (flat p).stmts) (flat p).stmts (each_weaker (λ z. is_dead z.guards ≡ false → Each (Late z) (flat p).stmts) (λ z. (is_dead z.guards || late_for z (flat p).stmts) ≡ true) one (flat p).stmts all_late)
+  guards_late =
+      each_all (λ z. is_dead z.guards || late_for z (flat p).stmts)
+      (flat p).stmts
+      (each_weaker (λ z. is_dead z.guards ≡ false → Each (Late z) (flat p).stmts)
+      (λ z. (is_dead z.guards || late_for z (flat p).stmts) ≡ true) one (flat p).stmts all_late)
     where
       defined : (y z : Flat.Stmt) → Late z y → (not (binds_guard y.op z.guards) || defined_by y.stage y.op z.stage) ≡ true
       defined y z h = at (binds_guard y.op z.guards) refl
@@ -155,4 +173,7 @@ module _ (p : Pipe) (rules : KeepsRules p) (apart : are_apart (places p) ≡ tru
           at false e = late z (flat p).stmts (h e)
 
   pub all_rest : Each (Rests (flat p).stmts) (flat p).stmts
-  all_rest = each_weaker (λ z. is_dead z.guards ≡ false → Each (Late z) (flat p).stmts) (Rests (flat p).stmts) (λ z h e. each_weaker (Late z) (λ y. binds_guard y.op z.guards ≡ true → y.stage ≤ z.stage) (λ y k b. (k b).0) (flat p).stmts (h e)) (flat p).stmts all_late
+  all_rest =
+      each_weaker (λ z. is_dead z.guards ≡ false → Each (Late z) (flat p).stmts) (Rests (flat p).stmts)
+      (λ z h e. each_weaker (Late z) (λ y. binds_guard y.op z.guards ≡ true → y.stage ≤ z.stage) (λ y k b. (k b).0) (flat p).stmts (h e))
+      (flat p).stmts all_late

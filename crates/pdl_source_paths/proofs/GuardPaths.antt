@@ -60,11 +60,14 @@ still_taken g (k ∷ gs) env low h t =
     alike false true e = absurd (false≢true (sym e))
     alike false false e = refl
 
-    at : (b : Bool) → (g.var == k.var) ≡ b → ((g.var == k.var) && (if g.first then not k.first else k.first)) ≡ false → takes_branch k.first (slice_index env k.var) ≡ true → takes_branch k.first (slice_index (slice_set env g.var (truth_of g.first)) k.var) ≡ true
+    at : (b : Bool) → (g.var == k.var) ≡ b → ((g.var == k.var) && (if g.first then not k.first else k.first)) ≡ false
+        → takes_branch k.first (slice_index env k.var) ≡ true
+        → takes_branch k.first (slice_index (slice_set env g.var (truth_of g.first)) k.var) ≡ true
     at true e f i =
         let same = alike g.first k.first (sym (ap (λ x. x && (if g.first then not k.first else k.first)) e) ∙ f) in
         takes_truth k.first (slice_index (slice_set env g.var (truth_of g.first)) k.var)
-        (ap (slice_index (slice_set env g.var (truth_of g.first))) (sym (eqb-true g.var k.var e)) ∙ get_or-set_same env g.var (truth_of g.first) 0 low ∙ ap truth_of same)
+        (ap (slice_index (slice_set env g.var (truth_of g.first))) (sym (eqb-true g.var k.var e))
+        ∙ get_or-set_same env g.var (truth_of g.first) 0 low ∙ ap truth_of same)
     at false e f i = ap (takes_branch k.first) (get_or-set_other env g.var k.var (truth_of g.first) 0 (λ j. eqb-false g.var k.var e (sym j))) ∙ i
 
 taken_for : (n : ℕ) (gs : List Guard) → above gs ≤ n → is_dead gs ≡ false → all_hold gs (values_for n gs) ≡ true
@@ -73,7 +76,8 @@ taken_for n (g ∷ gs) low h =
     let parts = or_parts (against g gs) (is_dead gs) h in
     let len = long n gs in
     and_from _ _
-    (takes_truth g.first (slice_index (slice_set (values_for n gs) g.var (truth_of g.first)) g.var) (get_or-set_same (values_for n gs) g.var (truth_of g.first) 0 (omega arith)))
+    (takes_truth g.first (slice_index (slice_set (values_for n gs) g.var (truth_of g.first)) g.var)
+    (get_or-set_same (values_for n gs) g.var (truth_of g.first) 0 (omega arith)))
     (still_taken g gs (values_for n gs) (omega arith) parts.0 (taken_for n gs (omega arith) parts.1))
 
 -- so they are taken on some path

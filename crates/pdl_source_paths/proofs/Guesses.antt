@@ -64,7 +64,8 @@ any_on : (f test : Place → Bool) (xs : List Place) → list_any (λ y. f y && 
 any_on f test [] = refl
 any_on f test (x ∷ xs) = at (f x) (any_on f test xs)
   where
-    at : (b : Bool) → list_any (λ y. f y && test y) xs ≡ list_any test (filter f xs) → ((b && test x) || list_any (λ y. f y && test y) xs) ≡ list_any test (cond b (x ∷ filter f xs) (filter f xs))
+    at : (b : Bool) → list_any (λ y. f y && test y) xs ≡ list_any test (filter f xs)
+        → ((b && test x) || list_any (λ y. f y && test y) xs) ≡ list_any test (cond b (x ∷ filter f xs) (filter f xs))
     at true h = ap (λ b. test x || b) h
     at false h = h
 
@@ -102,7 +103,9 @@ one_guess n g (x ∷ xs) few e f = by (or_cases (defines_use (OfGuess n) x) _ e)
         let sum = count_cons is_call x xs in
         omega arith
 
-    by : (defines_use (OfGuess n) x ≡ true) ⊎ (list_any (defines_use (OfGuess n)) xs ≡ true) → (defines_use (OfGuess g) x ≡ true) ⊎ (list_any (defines_use (OfGuess g)) xs ≡ true) → (list_any (defines_use (OfGuess n)) xs ≡ true → list_any (defines_use (OfGuess g)) xs ≡ true → n ≡ g) → n ≡ g
+    by : (defines_use (OfGuess n) x ≡ true) ⊎ (list_any (defines_use (OfGuess n)) xs ≡ true)
+        → (defines_use (OfGuess g) x ≡ true) ⊎ (list_any (defines_use (OfGuess g)) xs ≡ true)
+        → (list_any (defines_use (OfGuess n)) xs ≡ true → list_any (defines_use (OfGuess g)) xs ≡ true → n ≡ g) → n ≡ g
     by (inl a) (inl b) r = one_name n g x a b
     by (inl a) (inr b) r = absurd (more g (guess_calls n x a) b)
     by (inr a) (inl b) r = absurd (more n (guess_calls g x b) a)
@@ -111,11 +114,14 @@ one_guess n g (x ∷ xs) few e f = by (or_cases (defines_use (OfGuess n) x) _ e)
 -- a name that is given after some places is defined by one of them
 pub given_any : (u : Use) (xs : List Place) → is_given xs u ≡ true → list_any (defines_use u) xs ≡ true
 given_any u [] e = absurd (false≢true e)
-given_any u (x ∷ xs) e = ⊎_elim (λ a. or_left _ _ (and_parts (defines_use u x) _ a).0) (λ a. or_right (defines_use u x) _ (given_any u xs a)) (or_cases (defines_use u x && (not (is_delayed x) || list_any is_separator xs)) _ e)
+given_any u (x ∷ xs) e =
+    ⊎_elim (λ a. or_left _ _ (and_parts (defines_use u x) _ a).0) (λ a. or_right (defines_use u x) _ (given_any u xs a))
+    (or_cases (defines_use u x && (not (is_delayed x) || list_any is_separator xs)) _ e)
 
 -- THE RULES
 
-module _ (p : Pipe) (rules : KeepsRules p) (v : Guard → Bool) (staged : All Staged (sites_of p)) (verify_at : All (λ t. is_verify (place_of t) ≡ true → Stages.verify_stage (flat p).stmts ≡ Some t.walk.stage) (sites_of p)) where
+module _ (p : Pipe) (rules : KeepsRules p) (v : Guard → Bool) (staged : All Staged (sites_of p))
+    (verify_at : All (λ t. is_verify (place_of t) ≡ true → Stages.verify_stage (flat p).stmts ≡ Some t.walk.stage) (sites_of p)) where
   abbrev pub c : List Guard
   c = path_of p v
 
@@ -145,7 +151,9 @@ module _ (p : Pipe) (rules : KeepsRules p) (v : Guard → Bool) (staged : All St
   once_of s (w ∷ []) e = (w, refl, ltb-true s w e)
   once_of s (w ∷ x ∷ l) e = absurd (false≢true e)
 
-  verify_sites : (V : ℕ) (g : List ℕ) → ((t : Site) → o ≡ Some t.walk.stage → t.walk.stage ≡ V) → (ts : List Site) → All (λ t. is_verify (place_of t) ≡ true → o ≡ Some t.walk.stage) ts → All (λ t. verified_on g (place_of t) ≡ true → t.walk.stage ≡ V) ts
+  verify_sites : (V : ℕ) (g : List ℕ) → ((t : Site) → o ≡ Some t.walk.stage → t.walk.stage ≡ V) → (ts : List Site)
+      → All (λ t. is_verify (place_of t) ≡ true → o ≡ Some t.walk.stage) ts
+      → All (λ t. verified_on g (place_of t) ≡ true → t.walk.stage ≡ V) ts
   verify_sites V g f [] h = tt
   verify_sites V g f (t ∷ ts) h = ((λ e. f t (h.0 (one (place_of t) (and_parts (on_path c (place_of t)) _ e).1))), verify_sites V g f ts h.1)
     where
@@ -158,12 +166,16 @@ module _ (p : Pipe) (rules : KeepsRules p) (v : Guard → Bool) (staged : All St
       ap (stages_that (verified_on g) []) (text_places p)
       ∙ stages_past (verified_on g) [] (front_of p) (map place_of (sites_of p) ++ closing p) (none_front (verified_on g) (λ a. refl) (λ m. refl))
 
-  guess_before : (t : Site) → Here p t → Staged t → on_path c (place_of t) ≡ true → (sp : Span) (g : Ident) (args : List Expr) → t.stmt ≡ SpecCall sp g args → (stands_before o t.walk.stage ≡ true) × Once g.name
+  guess_before : (t : Site) → Here p t → Staged t → on_path c (place_of t) ≡ true
+      → (sp : Span) (g : Ident) (args : List Expr) → t.stmt ≡ SpecCall sp g args
+      → (stands_before o t.walk.stage ≡ true) × Once g.name
   guess_before t h st on sp g args e = (stands, sym (count_stages (verified_on g.name) [] (places p)) ∙ ap length one.1)
     where
       right : is_unverified p c t.front (Statement (SpecCall sp g args) t.branches) ≡ false
       right =
-          let r = by_choice (λ path. on_path path (place_of t) && is_unverified p path t.front (place_of t)) v (guards (places p)) (rules S2 t.front (place_of t) h.later h.whole) in
+          let r =
+          by_choice (λ path. on_path path (place_of t) && is_unverified p path t.front (place_of t)) v (guards (places p))
+          (rules S2 t.front (place_of t) h.later h.whole) in
           ap (λ s. is_unverified p c t.front (Statement s t.branches)) (sym e) ∙ ap (λ b. b && is_unverified p c t.front (place_of t)) (sym on) ∙ r
 
       one : (w : ℕ) × (verify_stages p c g.name ≡ w ∷ []) × (t.walk.stage < w)
@@ -171,7 +183,8 @@ module _ (p : Pipe) (rules : KeepsRules p) (v : Guard → Bool) (staged : All St
 
       is_v : (V : ℕ) → ((u : Site) → o ≡ Some u.walk.stage → u.walk.stage ≡ V) → one.0 ≡ V
       is_v V f =
-          each_sited (verified_on g.name) V (front_of p) (closing p) (sites_of p) (all_in_text p) staged (verify_sites V g.name f (sites_of p) verify_at) (λ front. refl) one.0 []
+          each_sited (verified_on g.name) V (front_of p) (closing p) (sites_of p)
+          (all_in_text p) staged (verify_sites V g.name f (sites_of p) verify_at) (λ front. refl) one.0 []
           (sym (stages_verified g.name) ∙ one.1)
 
       by : (x : Option ℕ) → o ≡ x → stands_before x t.walk.stage ≡ true
@@ -192,8 +205,13 @@ module _ (p : Pipe) (rules : KeepsRules p) (v : Guard → Bool) (staged : All St
     pub few : count_by is_call before ≤ 1
     pub once : (g : List ℕ) → list_any (defines_use (OfGuess g)) before ≡ true → Once g
 
-  called_next : (before : List Place) (t : Site) → Here p t → Staged t → filter (on_path c) t.front ≡ before → on_path c (place_of t) ≡ true → Called before → Called (before ++ place_of t ∷ [])
-  called_next before t h st same on k = record { few = few (is_call (place_of t)) refl; once = λ g e. ⊎_elim (k.once g) (here t.stmt refl g) (any_split (defines_use (OfGuess g)) before (place_of t) e) }
+  called_next : (before : List Place) (t : Site) → Here p t → Staged t → filter (on_path c) t.front ≡ before
+      → on_path c (place_of t) ≡ true → Called before → Called (before ++ place_of t ∷ [])
+  called_next before t h st same on k =
+      record {
+        few = few (is_call (place_of t)) refl;
+        once = λ g e. ⊎_elim (k.once g) (here t.stmt refl g) (any_split (defines_use (OfGuess g)) before (place_of t) e);
+      }
     where
       wrong : is_wrong_call before (place_of t) ≡ false
       wrong = subst (λ l. is_wrong_call l (place_of t) ≡ false) same (calls_right p rules v t.front h.later (place_of t) h.whole on)
@@ -229,15 +247,19 @@ module _ (p : Pipe) (rules : KeepsRules p) (v : Guard → Bool) (staged : All St
       here (SpecCheck _) i g e = absurd (false≢true e)
       here (SpecBarrier _) i g e = absurd (false≢true e)
 
-  asked_here : (before : List Place) (t : Site) → Here p t → Staged t → filter (on_path c) t.front ≡ before → on_path c (place_of t) ≡ true → (is_verify (place_of t) ≡ true → o ≡ Some t.walk.stage) → Called before
+  asked_here : (before : List Place) (t : Site) → Here p t → Staged t → filter (on_path c) t.front ≡ before
+      → on_path c (place_of t) ≡ true → (is_verify (place_of t) ≡ true → o ≡ Some t.walk.stage) → Called before
       → (s : Stmt) → t.stmt ≡ s → Asked p.mems o before t.branches t.walk.vars t.walk.stage s
   asked_here before t h st same on at k (Call sp args) e =
-      ap (λ x. is_wrong_call before (Statement x t.branches)) (sym e) ∙ subst (λ l. is_wrong_call l (place_of t) ≡ false) same (calls_right p rules v t.front h.later (place_of t) h.whole on)
+      ap (λ x. is_wrong_call before (Statement x t.branches)) (sym e)
+      ∙ subst (λ l. is_wrong_call l (place_of t) ≡ false) same (calls_right p rules v t.front h.later (place_of t) h.whole on)
   asked_here before t h st same on at k (SpecCall sp g args) e = (
-    ap (λ x. is_wrong_call before (Statement x t.branches)) (sym e) ∙ subst (λ l. is_wrong_call l (place_of t) ≡ false) same (calls_right p rules v t.front h.later (place_of t) h.whole on),
+    ap (λ x. is_wrong_call before (Statement x t.branches)) (sym e)
+        ∙ subst (λ l. is_wrong_call l (place_of t) ≡ false) same (calls_right p rules v t.front h.later (place_of t) h.whole on),
     (guess_before t h st on sp g args e).0,
   )
-  asked_here before t h st same on at k (Verify sp g args) e = (there, (λ n d. one_guess n g.name before k.few d there), unverified, ap (λ x. stands_at x t.walk.stage) is_v ∙ eq-eqb t.walk.stage t.walk.stage refl)
+  asked_here before t h st same on at k (Verify sp g args) e =
+      (there, (λ n d. one_guess n g.name before k.few d there), unverified, ap (λ x. stands_at x t.walk.stage) is_v ∙ eq-eqb t.walk.stage t.walk.stage refl)
     where
       early : Use → Bool
       early = is_too_early p t.front (place_of t)
@@ -245,12 +267,15 @@ module _ (p : Pipe) (rules : KeepsRules p) (v : Guard → Bool) (staged : All St
       used : early (OfGuess g.name) ≡ false
       used =
           sym (ap (in_verify early) e)
-          ∙ (or_parts (in_verify early t.stmt) (some_expr_of (some_part (reads_some early)) t.stmt) (or_parts (is_some_and (in_location early) (location_of t.stmt)) _ (rules N3 t.front (place_of t) h.later h.whole)).1).0
+          ∙ (or_parts (in_verify early t.stmt) (some_expr_of (some_part (reads_some early)) t.stmt)
+          (or_parts (is_some_and (in_location early) (location_of t.stmt)) _ (rules N3 t.front (place_of t) h.later h.whole)).1).0
 
       given : is_given before (OfGuess g.name) ≡ true
       given =
           subst (λ l. is_given l (OfGuess g.name) ≡ true) same
-          (not-false _ (unbroken_on (λ earlier. not (is_given earlier (OfGuess g.name))) p v t.front (place_of t) (or_parts (is_undefined t.front (OfGuess g.name)) _ used).1 on))
+          (not-false _
+          (unbroken_on (λ earlier. not (is_given earlier (OfGuess g.name))) p v t.front (place_of t)
+          (or_parts (is_undefined t.front (OfGuess g.name)) _ used).1 on))
 
       there : list_any (defines_use (OfGuess g.name)) before ≡ true
       there = given_any (OfGuess g.name) before given
@@ -262,7 +287,8 @@ module _ (p : Pipe) (rules : KeepsRules p) (v : Guard → Bool) (staged : All St
       here = and_from _ _ on (ap (λ x. is_verify_of g.name (Statement x t.branches)) e ∙ bytes_refl g.name)
 
       unverified : list_any (is_verify_of g.name) before ≡ false
-      unverified = ap (list_any (is_verify_of g.name)) (sym same) ∙ sym (any_on (on_path c) (is_verify_of g.name) t.front) ∙ false_from_ne_true _ (λ u. absurd (twice u))
+      unverified =
+          ap (list_any (is_verify_of g.name)) (sym same) ∙ sym (any_on (on_path c) (is_verify_of g.name) t.front) ∙ false_from_ne_true _ (λ u. absurd (twice u))
         where
           twice : list_any (verified_on g.name) t.front ≡ true → ⊥
           twice u =
@@ -292,18 +318,24 @@ module _ (p : Pipe) (rules : KeepsRules p) (v : Guard → Bool) (staged : All St
     pub stage : Staged t
     pub verify : is_verify (place_of t) ≡ true → o ≡ Some t.walk.stage
 
-  pub all_asked : (before : List Place) (ts : List Site) → OnPath c before ts → All Told ts → Called before → AllAsked p o before ts × Called (before ++ map place_of ts)
+  pub all_asked : (before : List Place) (ts : List Site) → OnPath c before ts → All Told ts → Called before
+      → AllAsked p o before ts × Called (before ++ map place_of ts)
   all_asked before [] on h k = (tt, subst Called (sym (append-nil before)) k)
   all_asked before (t ∷ ts) on h k =
       let next = called_next before t h.0.here h.0.stage on.0 on.1 k in
-      let rest = all_asked (before ++ place_of t ∷ []) ts on.2 h.1 next in
-      ((asked_here before t h.0.here h.0.stage on.0 on.1 h.0.verify k t.stmt refl, rest.0), subst Called (append_assoc before (place_of t ∷ []) (map place_of ts)) rest.1)
+      let rest = all_asked (before ++ place_of t ∷ []) ts on.2 h.1 next in (
+        (asked_here before t h.0.here h.0.stage on.0 on.1 h.0.verify k t.stmt refl, rest.0),
+        subst Called (append_assoc before (place_of t ∷ []) (map place_of ts)) rest.1,
+      )
 
   -- at the end each guess is verified on the path
-  pub verified_end : (before : List Place) → filter (on_path c) (places p) ≡ before ++ closing p → Called before → (g : List ℕ) → list_any (defines_use (OfGuess g)) before ≡ true → list_any (is_verify_of g) before ≡ true
+  pub verified_end : (before : List Place) → filter (on_path c) (places p) ≡ before ++ closing p → Called before
+      → (g : List ℕ) → list_any (defines_use (OfGuess g)) before ≡ true → list_any (is_verify_of g) before ≡ true
   verified_end before e k g d =
       ⊎_elim (λ a. a) (λ a. absurd (false≢true a))
-      (or_cases (list_any (is_verify_of g) before) (list_any (is_verify_of g) (closing p)) (sym (list_any-append (is_verify_of g) before (closing p)) ∙ ap (list_any (is_verify_of g)) (sym e) ∙ sym (any_on (on_path c) (is_verify_of g) (places p)) ∙ some (k.once g d)))
+      (or_cases (list_any (is_verify_of g) before) (list_any (is_verify_of g) (closing p))
+      (sym (list_any-append (is_verify_of g) before (closing p)) ∙ ap (list_any (is_verify_of g)) (sym e)
+      ∙ sym (any_on (on_path c) (is_verify_of g) (places p)) ∙ some (k.once g d)))
     where
       some : count_by (verified_on g) (places p) ≡ 1 → list_any (verified_on g) (places p) ≡ true
       some f = ⊎_elim (λ a. a) (λ a. absurd (let z = count_none (verified_on g) (places p) a in omega arith)) (cases_Bool (list_any (verified_on g) (places p)))
@@ -316,38 +348,57 @@ module _ (p : Pipe) (rules : KeepsRules p) (v : Guard → Bool) (staged : All St
     where
       by : (x : Option ℕ) → o ≡ x → stands_before x s ≡ true → is_before_verify p s ≡ true
       by None i f = absurd (false≢true f)
-      by (Some V) i f = ap (is_some_and (λ k. nat_lt s k)) (found (first_sited is_verify V (front_of p) (closing p) (sites_of p) (all_in_text p) staged (in_v (sites_of p) verify_at) (λ front. refl))) ∙ f
+      by (Some V) i f =
+          ap (is_some_and (λ k. nat_lt s k))
+          (found (first_sited is_verify V (front_of p) (closing p) (sites_of p) (all_in_text p) staged (in_v (sites_of p) verify_at) (λ front. refl)))
+          ∙ f
         where
           same : {n : ℕ} → Some V ≡ Some n → n ≡ V
           same z = cc z
 
-          in_v : (ts : List Site) → All (λ t. is_verify (place_of t) ≡ true → o ≡ Some t.walk.stage) ts → All (λ t. is_verify (place_of t) ≡ true → t.walk.stage ≡ V) ts
+          in_v : (ts : List Site) → All (λ t. is_verify (place_of t) ≡ true → o ≡ Some t.walk.stage) ts
+              → All (λ t. is_verify (place_of t) ≡ true → t.walk.stage ≡ V) ts
           in_v [] h = tt
           in_v (t ∷ ts) h = ((λ k. same (sym i ∙ h.0 k)), in_v ts h.1)
 
           skip : Speculation.verify_stage p ≡ first_stage is_verify (front_of p) (map place_of (sites_of p) ++ closing p)
-          skip = ap (first_stage is_verify []) (text_places p) ∙ first_skip is_verify [] (front_of p) (map place_of (sites_of p) ++ closing p) (none_front is_verify (λ a. refl) (λ m. refl))
+          skip =
+              ap (first_stage is_verify []) (text_places p)
+              ∙ first_skip is_verify [] (front_of p) (map place_of (sites_of p) ++ closing p) (none_front is_verify (λ a. refl) (λ m. refl))
 
           unverified : (ts : List Site) → list_any is_verify (map place_of ts) ≡ false → All (λ t. some_op Stages.is_verify (ops p.mems t) ≡ false) ts
           unverified [] h = tt
-          unverified (t ∷ ts) h = let parts = or_parts (is_verify (place_of t)) (list_any is_verify (map place_of ts)) h in (none t t.stmt refl parts.0, unverified ts parts.1)
+          unverified (t ∷ ts) h = let parts = or_parts (is_verify (place_of t)) (list_any is_verify (map place_of ts)) h in
+              (none t t.stmt refl parts.0, unverified ts parts.1)
             where
               none : (u : Site) (x : Stmt) → u.stmt ≡ x → is_verify (place_of u) ≡ false → some_op Stages.is_verify (ops p.mems u) ≡ false
-              none u x j h = ap (λ y. some_op Stages.is_verify (PathStatements.ops_of p.mems u.walk.vars y)) j ∙ of_stmt x (sym (ap (λ y. is_verify (Statement y u.branches)) j) ∙ h)
+              none u x j h =
+                  ap (λ y. some_op Stages.is_verify (PathStatements.ops_of p.mems u.walk.vars y)) j
+                  ∙ of_stmt x (sym (ap (λ y. is_verify (Statement y u.branches)) j) ∙ h)
                 where
                   of_if : (d : Expr) → some_op Stages.is_verify (PathStatements.if_ops u.walk.vars d) ≡ false
                   of_if (Variable y) = refl
                   of_if _ = refl
 
-                  of_stmt : (y : Stmt) → is_verify (Statement y u.branches) ≡ false → some_op Stages.is_verify (PathStatements.ops_of p.mems u.walk.vars y) ≡ false
+                  of_stmt : (y : Stmt) → is_verify (Statement y u.branches) ≡ false
+                      → some_op Stages.is_verify (PathStatements.ops_of p.mems u.walk.vars y) ≡ false
                   of_stmt (Verify sp g args) k = absurd (false≢true (sym k))
                   of_stmt (If sp d a b) k = of_if d
                   of_stmt (Reserve sp l R) k = refl
                   of_stmt (Reserve sp l W) k = refl
                   of_stmt _ k = refl
 
-          found : ((first_stage is_verify (front_of p) (map place_of (sites_of p) ++ closing p) ≡ None) × (list_any is_verify (map place_of (sites_of p)) ≡ false)) ⊎ (first_stage is_verify (front_of p) (map place_of (sites_of p) ++ closing p) ≡ Some V) → Speculation.verify_stage p ≡ Some V
-          found (inl r) = absurd (clash (sym (no_verify (flat p).stmts (ap (Scans.none_of Stages.is_verify) (stmts_are p) ∙ none_sited Stages.is_verify p.mems (sites_of p) (unverified (sites_of p) r.1))) ∙ i))
+          found :
+              ((first_stage is_verify (front_of p) (map place_of (sites_of p) ++ closing p) ≡ None) × (list_any is_verify (map place_of (sites_of p)) ≡ false))
+              ⊎ (first_stage is_verify (front_of p) (map place_of (sites_of p) ++ closing p) ≡ Some V)
+              → Speculation.verify_stage p ≡ Some V
+          found (inl r) =
+              absurd
+              (clash
+              (sym
+              (no_verify (flat p).stmts
+              (ap (Scans.none_of Stages.is_verify) (stmts_are p) ∙ none_sited Stages.is_verify p.mems (sites_of p) (unverified (sites_of p) r.1)))
+              ∙ i))
             where
               clash : None ≡ Some V → ⊥
               clash z = cc z
@@ -365,4 +416,5 @@ module _ (p : Pipe) (rules : KeepsRules p) (v : Guard → Bool) (staged : All St
       sure e =
           subst (λ l. releases_unsure l (place_of t) ≡ false) on.0
           (unbroken_on (λ earlier. releases_unsure earlier (place_of t)) p v t.front (place_of t)
-          (other (is_before_verify p (stage_of t.front (place_of t))) _ (ap (is_before_verify p) h.0.stage ∙ before_verify t.walk.stage e) (rules S4 t.front (place_of t) h.0.here.later h.0.here.whole)) on.1)
+          (other (is_before_verify p (stage_of t.front (place_of t))) _ (ap (is_before_verify p) h.0.stage ∙ before_verify t.walk.stage e)
+          (rules S4 t.front (place_of t) h.0.here.later h.0.here.whole)) on.1)

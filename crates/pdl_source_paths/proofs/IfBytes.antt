@@ -27,10 +27,13 @@ none_begins k n (x ∷ xs) low h = at (own_start x) refl h (λ m l i. none_begin
     none : None ≡ Some k → ⊥
     none z = cc z
 
-    at : (o : Option ℕ) → own_start x ≡ o → Next n o (λ m. Ascends m xs) → ((m : ℕ) → k < m → Ascends m xs → list_any (begins_at k) xs ≡ false) → (begins_at k x || list_any (begins_at k) xs) ≡ false
+    at : (o : Option ℕ) → own_start x ≡ o → Next n o (λ m. Ascends m xs)
+        → ((m : ℕ) → k < m → Ascends m xs → list_any (begins_at k) xs ≡ false)
+        → (begins_at k x || list_any (begins_at k) xs) ≡ false
     at None e i go = ap (λ b. b || list_any (begins_at k) xs) (other None e none (begins_at k x) refl) ∙ go n low i
     at (Some j) e i go =
-        ap (λ b. b || list_any (begins_at k) xs) (other (Some j) e (λ z. let u : j ≡ k = ap (λ o. unwrap_or o j) z in let v : n ≤ j = i.0 in omega arith) (begins_at k x) refl)
+        ap (λ b. b || list_any (begins_at k) xs)
+        (other (Some j) e (λ z. let u : j ≡ k = ap (λ o. unwrap_or o j) z in let v : n ≤ j = i.0 in omega arith) (begins_at k x) refl)
         ∙ go (suc j) (let v : n ≤ j = i.0 in omega arith) i.1
 
 -- where such `if`s begin at ascending bytes, no two of them begin at one byte

@@ -28,12 +28,18 @@ use Rattle.pdl_rules.proofs.EachPlace.{closing}
 -- each number below the count is a memory's
 pub at_number : (ms : List Mem) (i : ℕ) → AreDistinct ms → i < length ms → (m : List ℕ) × (is_memory ms m ≡ true) × (mem_of ms m ≡ i)
 at_number [] i d low = absurd (omega arith)
-at_number (x ∷ ms) zero d low = (x.name.name, or_left (bytes_eq x.name.name x.name.name) _ (bytes_refl x.name.name), ap (λ b. if b then 0 else suc (mem_of ms x.name.name)) (bytes_refl x.name.name))
+at_number (x ∷ ms) zero d low = (
+  x.name.name,
+  or_left (bytes_eq x.name.name x.name.name) _ (bytes_refl x.name.name),
+  ap (λ b. if b then 0 else suc (mem_of ms x.name.name)) (bytes_refl x.name.name),
+)
 at_number (x ∷ ms) (suc i) d low =
     let h = at_number ms i d.1 (omega arith) in (
       h.0,
       or_right (bytes_eq x.name.name h.0) _ h.1,
-      ap (λ b. if b then 0 else suc (mem_of ms h.0)) (false_from_ne_true _ (λ t. both_ways (is_memory ms x.name.name) d.0 (subst (λ n. is_memory ms n ≡ true) (sym (bytes_same x.name.name h.0 t)) h.1))) ∙ ap suc h.2,
+      ap (λ b. if b then 0 else suc (mem_of ms h.0))
+          (false_from_ne_true _ (λ t. both_ways (is_memory ms x.name.name) d.0 (subst (λ n. is_memory ms n ≡ true) (sym (bytes_same x.name.name h.0 t)) h.1)))
+          ∙ ap suc h.2,
     )
 
 -- the flat form has as many memories as the source
@@ -52,7 +58,8 @@ after_next p before m ms h = (h.0, h.1 ∙ sym (append_assoc before (Memory m �
 pub all_after : (p : Pipe) → After p (map Parameter p.params) p.mems
 all_after p = (
   statements [] p.body ++ closing p,
-  append_assoc (map Parameter p.params ++ map Memory p.mems) (statements [] p.body) (closing p) ∙ append_assoc (map Parameter p.params) (map Memory p.mems) (statements [] p.body ++ closing p),
+  append_assoc (map Parameter p.params ++ map Memory p.mems) (statements [] p.body) (closing p)
+      ∙ append_assoc (map Parameter p.params) (map Memory p.mems) (statements [] p.body ++ closing p),
 )
 
 not_again : (p : Pipe) → KeepsRules p → (n : List ℕ) (ms : List Mem) (before : List Place)
@@ -60,7 +67,8 @@ not_again : (p : Pipe) → KeepsRules p → (n : List ℕ) (ms : List Mem) (befo
     → is_memory ms n ≡ false
 not_again p rules n [] before h b = refl
 not_again p rules n (m ∷ ms) before h b =
-    let free = (or_parts (bytes_eq m.name.name p.name.name) (list_any (takes_name m.name.name) before) (rules N2 before (Memory m) (map Memory ms ++ b.0) b.1)).1 in
+    let free =
+    (or_parts (bytes_eq m.name.name p.name.name) (list_any (takes_name m.name.name) before) (rules N2 before (Memory m) (map Memory ms ++ b.0) b.1)).1 in
     or_from (bytes_eq m.name.name n) (is_memory ms n)
     (false_from_ne_true (bytes_eq m.name.name n) (λ e. both_ways (list_any (takes_name m.name.name) before) free (h m.name.name e)))
     (not_again p rules n ms (before ++ Memory m ∷ []) (λ x e. any_front (takes_name x) before (Memory m) (h x e)) (after_next p before m ms b))
@@ -115,8 +123,12 @@ rooms p rules (m ∷ ms) before zero b = room_lock m.lock size_of
   where
     size_of : (d : LockDecl) → m.lock ≡ Some d → is_size d.size.value ≡ true
     size_of d e =
-        let wrong = (or_parts (not (is_width m.width.value && is_depth m.depth.value)) (Parts.is_some_and (Limits.is_wrong_lock m) m.lock) (rules Z7 before (Memory m) (map Memory ms ++ b.0) b.1)).1 in
-        let h : not (is_size d.size.value && allows_lock m.depth.value m.delayed d.kind d.size.value) ≡ false = sym (ap (Parts.is_some_and (Limits.is_wrong_lock m)) e) ∙ wrong in
+        let wrong =
+        (or_parts (not (is_width m.width.value && is_depth m.depth.value))
+        (Parts.is_some_and (Limits.is_wrong_lock m) m.lock)
+        (rules Z7 before (Memory m) (map Memory ms ++ b.0) b.1)).1 in
+        let h : not (is_size d.size.value && allows_lock m.depth.value m.delayed d.kind d.size.value) ≡ false =
+        sym (ap (Parts.is_some_and (Limits.is_wrong_lock m)) e) ∙ wrong in
         (and_parts (is_size d.size.value) _ (not-false _ h)).0
 rooms p rules (m ∷ ms) before (suc i) b = rooms p rules ms (before ++ Memory m ∷ []) i (after_next p before m ms b)
 
@@ -136,7 +148,8 @@ stage_at test xs i ms low = first_index test xs 0 i ms low ∙ ap (λ n. first_s
 -- a kind of which there is no statement has no first stage
 pub first_none : (test : Flat.Op → Bool) (xs : List Flat.Stmt) → none_of test xs ≡ true → first_stage test xs ≡ None
 first_none test [] h = refl
-first_none test (x ∷ xs) h = at (test x.op) (and_parts (not (test x.op)) (none_of test xs) h).0 (first_none test xs (and_parts (not (test x.op)) (none_of test xs) h).1)
+first_none test (x ∷ xs) h =
+    at (test x.op) (and_parts (not (test x.op)) (none_of test xs) h).0 (first_none test xs (and_parts (not (test x.op)) (none_of test xs) h).1)
   where
     at : (b : Bool) → not b ≡ true → first_stage test xs ≡ None → (if b then Some x.stage else first_stage test xs) ≡ None
     at true e i = absurd (false≢true e)

@@ -30,7 +30,8 @@ pub in_same : (ys : List (List ℕ)) (a b : List ℕ) → is_in ys a ≡ true �
 in_same [] a b h k e = absurd (false≢true h)
 in_same (y ∷ ys) a b h k e = at (bytes_eq y a) refl (bytes_eq y b) refl h k e (in_same ys a b)
   where
-    at : (c : Bool) → bytes_eq y a ≡ c → (d : Bool) → bytes_eq y b ≡ d → (c || is_in ys a) ≡ true → (d || is_in ys b) ≡ true → cond c 0 (suc (place_of ys a)) ≡ cond d 0 (suc (place_of ys b))
+    at : (c : Bool) → bytes_eq y a ≡ c → (d : Bool) → bytes_eq y b ≡ d → (c || is_in ys a) ≡ true
+        → (d || is_in ys b) ≡ true → cond c 0 (suc (place_of ys a)) ≡ cond d 0 (suc (place_of ys b))
         → (is_in ys a ≡ true → is_in ys b ≡ true → place_of ys a ≡ place_of ys b → a ≡ b) → a ≡ b
     at true e true f h k g rest = sym (bytes_same y a e) ∙ bytes_same y b f
     at true e false f h k g rest = absurd (let i : 0 ≡ suc (place_of ys b) = g in omega arith)
@@ -42,7 +43,8 @@ pub in_stays : (ys zs : List (List ℕ)) (x : List ℕ) → is_in ys x ≡ true 
 in_stays [] zs x h = absurd (false≢true h)
 in_stays (y ∷ ys) zs x h = at (bytes_eq y x) h (in_stays ys zs x)
   where
-    at : (b : Bool) → (b || is_in ys x) ≡ true → (is_in ys x ≡ true → place_of (ys ++ zs) x ≡ place_of ys x) → cond b 0 (suc (place_of (ys ++ zs) x)) ≡ cond b 0 (suc (place_of ys x))
+    at : (b : Bool) → (b || is_in ys x) ≡ true → (is_in ys x ≡ true → place_of (ys ++ zs) x ≡ place_of ys x)
+        → cond b 0 (suc (place_of (ys ++ zs) x)) ≡ cond b 0 (suc (place_of ys x))
     at true e k = refl
     at false e k = ap suc (k e)
 
@@ -84,7 +86,8 @@ var_same vs a b h k e = in_same (told vs) a b (sym (var_place vs a).1 ∙ h) (sy
 -- the number of a variable that is there stays where variables are added after
 pub var_stays : (vs us : List Var) (x : List ℕ) → is_named vs x ≡ true → var_of (vs ++ us) x ≡ var_of vs x
 var_stays vs us x h =
-    (var_place (vs ++ us) x).0 ∙ ap (λ l. place_of l x) (told_append vs us) ∙ in_stays (told vs) (told us) x (sym (var_place vs x).1 ∙ h) ∙ sym (var_place vs x).0
+    (var_place (vs ++ us) x).0 ∙ ap (λ l. place_of l x) (told_append vs us)
+    ∙ in_stays (told vs) (told us) x (sym (var_place vs x).1 ∙ h) ∙ sym (var_place vs x).0
 
 -- the number of a memory that is there is below the count of memories
 pub mem_low : (ms : List Mem) (x : List ℕ) → is_memory ms x ≡ true → mem_of ms x < length ms

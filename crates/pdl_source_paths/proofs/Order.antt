@@ -38,7 +38,8 @@ rises_append : (k l end : ℕ) (xs ys : List Site) → Rises k xs l → Rises l 
 rises_append k l end [] ys h i = rises_from k l end ys h i
 rises_append k l end (x ∷ xs) ys h i = at (is_separator (place_of x)) h (λ n j. rises_append n l end xs ys j i)
   where
-    at : (b : Bool) → Next b k x.walk.stage (λ n. Rises n xs l) → ((n : ℕ) → Rises n xs l → Rises n (xs ++ ys) end) → Next b k x.walk.stage (λ n. Rises n (xs ++ ys) end)
+    at : (b : Bool) → Next b k x.walk.stage (λ n. Rises n xs l) → ((n : ℕ) → Rises n xs l → Rises n (xs ++ ys) end)
+        → Next b k x.walk.stage (λ n. Rises n (xs ++ ys) end)
     at true j f = f (suc k) j
     at false j f = (j.0, f x.walk.stage j.1)
 
@@ -46,7 +47,8 @@ on_append : (c : List Guard) (xs ys : List Site) → on_sites c (xs ++ ys) ≡ o
 on_append c [] ys = refl
 on_append c (x ∷ xs) ys = at (on_path c (place_of x)) (on_append c xs ys)
   where
-    at : (b : Bool) → on_sites c (xs ++ ys) ≡ on_sites c xs ++ on_sites c ys → cond b (x ∷ on_sites c (xs ++ ys)) (on_sites c (xs ++ ys)) ≡ cond b (x ∷ on_sites c xs) (on_sites c xs) ++ on_sites c ys
+    at : (b : Bool) → on_sites c (xs ++ ys) ≡ on_sites c xs ++ on_sites c ys
+        → cond b (x ∷ on_sites c (xs ++ ys)) (on_sites c (xs ++ ys)) ≡ cond b (x ∷ on_sites c xs) (on_sites c xs) ++ on_sites c ys
     at true e = ap (λ l. x ∷ l) e
     at false e = e
 
@@ -70,32 +72,45 @@ none_left a b h = (omega arith, omega arith)
 
 module _ (ms : List Mem) (c : List Guard) where
   mutual
-    flat_in : (front : List Place) (w : Flatten.Position) (gs : List Flat.Guard) (bs : List Branch) (s : Stmt) → separators_in s ≡ 0 → Rises w.stage (on_sites c (sites_in ms front w gs bs s)) w.stage
+    flat_in : (front : List Place) (w : Flatten.Position) (gs : List Flat.Guard) (bs : List Branch) (s : Stmt)
+        → separators_in s ≡ 0 → Rises w.stage (on_sites c (sites_in ms front w gs bs s)) w.stage
     flat_in front w gs bs (Separator sp) h = absurd (omega arith)
     flat_in front w gs bs (If sp e when otherwise) h =
         let none = none_left (separators when) (separators otherwise) h in
-        subst (λ l. Rises w.stage l w.stage) (sym (on_append c (Sites.site front w gs bs (If sp e when otherwise) ∷ []) (xs ++ ys) ∙ ap (λ l. on_sites c (Sites.site front w gs bs (If sp e when otherwise) ∷ []) ++ l) (on_append c xs ys)))
+        subst (λ l. Rises w.stage l w.stage)
+        (sym
+        (on_append c (Sites.site front w gs bs (If sp e when otherwise) ∷ []) (xs ++ ys)
+        ∙ ap (λ l. on_sites c (Sites.site front w gs bs (If sp e when otherwise) ∷ []) ++ l) (on_append c xs ys)))
         (rises_append w.stage w.stage w.stage (on_sites c (Sites.site front w gs bs (If sp e when otherwise) ∷ [])) (on_sites c xs ++ on_sites c ys)
         (one_on c w.stage w.stage (Sites.site front w gs bs (If sp e when otherwise)) (omega arith) refl refl)
         (rises_append w.stage w.stage w.stage (on_sites c xs) (on_sites c ys)
-        (subst (λ s. Rises s (on_sites c xs) s) (guard_stage e w) (flat_all (front ++ Statement (If sp e when otherwise) bs ∷ []) (with_guard e w) (under gs w.vars e true) (bs ++ branch sp e true when ∷ []) when none.0))
-        (flat_all (front ++ Statement (If sp e when otherwise) bs ∷ statements (bs ++ branch sp e true when ∷ []) when) (at_otherwise ms e when w) (under gs w.vars e false) (bs ++ branch sp e false otherwise ∷ []) otherwise none.1)))
+        (subst (λ s. Rises s (on_sites c xs) s) (guard_stage e w)
+        (flat_all (front ++ Statement (If sp e when otherwise) bs ∷ []) (with_guard e w) (under gs w.vars e true)
+        (bs ++ branch sp e true when ∷ []) when none.0))
+        (flat_all (front ++ Statement (If sp e when otherwise) bs ∷ statements (bs ++ branch sp e true when ∷ []) when)
+        (at_otherwise ms e when w) (under gs w.vars e false)
+        (bs ++ branch sp e false otherwise ∷ []) otherwise none.1)))
       where
         xs : List Site
         xs = sites ms (front ++ Statement (If sp e when otherwise) bs ∷ []) (with_guard e w) (under gs w.vars e true) (bs ++ branch sp e true when ∷ []) when
 
         ys : List Site
-        ys = sites ms (front ++ Statement (If sp e when otherwise) bs ∷ statements (bs ++ branch sp e true when ∷ []) when) (at_otherwise ms e when w) (under gs w.vars e false) (bs ++ branch sp e false otherwise ∷ []) otherwise
+        ys =
+            sites ms (front ++ Statement (If sp e when otherwise) bs ∷ statements (bs ++ branch sp e true when ∷ []) when)
+            (at_otherwise ms e when w) (under gs w.vars e false) (bs ++ branch sp e false otherwise ∷ []) otherwise
     flat_in front w gs bs s h = one_on c w.stage w.stage (Sites.site front w gs bs s) (omega arith) refl refl
 
-    flat_all : (front : List Place) (w : Flatten.Position) (gs : List Flat.Guard) (bs : List Branch) (ss : Stmts) → separators ss ≡ 0 → Rises w.stage (on_sites c (sites ms front w gs bs ss)) w.stage
+    flat_all : (front : List Place) (w : Flatten.Position) (gs : List Flat.Guard) (bs : List Branch) (ss : Stmts)
+        → separators ss ≡ 0 → Rises w.stage (on_sites c (sites ms front w gs bs ss)) w.stage
     flat_all front w gs bs Nil h = omega arith
     flat_all front w gs bs (Cons s ss) h =
         let none = none_left (separators_in s) (separators ss) h in
         subst (λ l. Rises w.stage l w.stage) (sym (on_append c (sites_in ms front w gs bs s) (sites ms (front ++ with_inner bs s) (past ms s w) gs bs ss)))
-        (rises_append w.stage w.stage w.stage (on_sites c (sites_in ms front w gs bs s)) (on_sites c (sites ms (front ++ with_inner bs s) (past ms s w) gs bs ss))
+        (rises_append w.stage w.stage w.stage (on_sites c (sites_in ms front w gs bs s))
+        (on_sites c (sites ms (front ++ with_inner bs s) (past ms s w) gs bs ss))
         (flat_in front w gs bs s none.0)
-        (subst (λ k. Rises k (on_sites c (sites ms (front ++ with_inner bs s) (past ms s w) gs bs ss)) k) (same s none.0) (flat_all (front ++ with_inner bs s) (past ms s w) gs bs ss none.1)))
+        (subst (λ k. Rises k (on_sites c (sites ms (front ++ with_inner bs s) (past ms s w) gs bs ss)) k)
+        (same s none.0) (flat_all (front ++ with_inner bs s) (past ms s w) gs bs ss none.1)))
       where
         same : (x : Stmt) → separators_in x ≡ 0 → (past ms x w).stage ≡ w.stage
         same (Separator sp) i = absurd (omega arith)
@@ -109,8 +124,10 @@ off : (ms : List Mem) (c : List Guard) (front : List Place) (w : Flatten.Positio
 off ms c front w gs bs ss h =
     none (sites ms front w gs bs ss)
     (holds_all ms (λ front w gs bs. list_all (is_taken c) bs ≡ false) (λ front w gs bs s i. i)
-    (λ front w gs bs sp e when otherwise i. list_all-append (is_taken c) bs (branch sp e true when ∷ []) ∙ ap (λ b. b && (is_taken c (branch sp e true when) && true)) i)
-    (λ front w gs bs sp e when otherwise i. list_all-append (is_taken c) bs (branch sp e false otherwise ∷ []) ∙ ap (λ b. b && (is_taken c (branch sp e false otherwise) && true)) i)
+    (λ front w gs bs sp e when otherwise i. list_all-append (is_taken c) bs (branch sp e true when ∷ [])
+    ∙ ap (λ b. b && (is_taken c (branch sp e true when) && true)) i)
+    (λ front w gs bs sp e when otherwise i. list_all-append (is_taken c) bs (branch sp e false otherwise ∷ [])
+    ∙ ap (λ b. b && (is_taken c (branch sp e false otherwise) && true)) i)
     front w gs bs ss h)
   where
     none : (ts : List Site) → All (λ t. list_all (is_taken c) t.branches ≡ false) ts → on_sites c ts ≡ []
@@ -126,14 +143,23 @@ one_off c sp e when otherwise bs = at (is_among (guard_of sp e) c) refl
     no_more true = refl
     no_more false = refl
 
-    at : (b : Bool) → is_among (guard_of sp e) c ≡ b → (list_all (is_taken c) (bs ++ branch sp e true when ∷ []) ≡ false) ⊎ (list_all (is_taken c) (bs ++ branch sp e false otherwise ∷ []) ≡ false)
-    at true h = inr (list_all-append (is_taken c) bs (branch sp e false otherwise ∷ []) ∙ ap (λ b. list_all (is_taken c) bs && (not b && true)) h ∙ no_more (list_all (is_taken c) bs))
-    at false h = inl (list_all-append (is_taken c) bs (branch sp e true when ∷ []) ∙ ap (λ b. list_all (is_taken c) bs && (b && true)) h ∙ no_more (list_all (is_taken c) bs))
+    at : (b : Bool) → is_among (guard_of sp e) c ≡ b
+        → (list_all (is_taken c) (bs ++ branch sp e true when ∷ []) ≡ false) ⊎ (list_all (is_taken c) (bs ++ branch sp e false otherwise ∷ []) ≡ false)
+    at true h =
+        inr
+        (list_all-append (is_taken c) bs (branch sp e false otherwise ∷ [])
+        ∙ ap (λ b. list_all (is_taken c) bs && (not b && true)) h ∙ no_more (list_all (is_taken c) bs))
+    at false h =
+        inl
+        (list_all-append (is_taken c) bs (branch sp e true when ∷ [])
+        ∙ ap (λ b. list_all (is_taken c) bs && (b && true)) h ∙ no_more (list_all (is_taken c) bs))
 
 module _ (ms : List Mem) (c : List Guard) where
   -- a statement that begins no stage, and others after it
-  flat_then : (k end : ℕ) (front : List Place) (w : Flatten.Position) (gs : List Flat.Guard) (bs : List Branch) (s : Stmt) (ss : Stmts) → separators_in s ≡ 0 → k ≤ w.stage
-      → Rises w.stage (on_sites c (sites ms (front ++ with_inner bs s) (past ms s w) gs bs ss)) end → Rises k (on_sites c (sites ms front w gs bs (Cons s ss))) end
+  flat_then : (k end : ℕ) (front : List Place) (w : Flatten.Position) (gs : List Flat.Guard) (bs : List Branch) (s : Stmt) (ss : Stmts)
+      → separators_in s ≡ 0 → k ≤ w.stage
+      → Rises w.stage (on_sites c (sites ms (front ++ with_inner bs s) (past ms s w) gs bs ss)) end
+      → Rises k (on_sites c (sites ms front w gs bs (Cons s ss))) end
   flat_then k end front w gs bs s ss h low rest =
       subst (λ l. Rises k l end) (sym (on_append c (sites_in ms front w gs bs s) (sites ms (front ++ with_inner bs s) (past ms s w) gs bs ss)))
       (rises_append k w.stage end (on_sites c (sites_in ms front w gs bs s)) (on_sites c (sites ms (front ++ with_inner bs s) (past ms s w) gs bs ss))
@@ -141,15 +167,22 @@ module _ (ms : List Mem) (c : List Guard) where
 
   -- a separator
   cut_then : (k end : ℕ) (front : List Place) (w : Flatten.Position) (gs : List Flat.Guard) (bs : List Branch) (sp : Span) (ss : Stmts)
-      → Rises (suc k) (on_sites c (sites ms (front ++ Statement (Separator sp) bs ∷ []) (past ms (Separator sp) w) gs bs ss)) end → Rises k (on_sites c (sites ms front w gs bs (Cons (Separator sp) ss))) end
+      → Rises (suc k) (on_sites c (sites ms (front ++ Statement (Separator sp) bs ∷ []) (past ms (Separator sp) w) gs bs ss)) end
+      → Rises k (on_sites c (sites ms front w gs bs (Cons (Separator sp) ss))) end
   cut_then k end front w gs bs sp ss rest = at (on_path c (Statement (Separator sp) bs))
     where
-      at : (b : Bool) → Rises k (if b then Sites.site front w gs bs (Separator sp) ∷ on_sites c (sites ms (front ++ Statement (Separator sp) bs ∷ []) (past ms (Separator sp) w) gs bs ss) else on_sites c (sites ms (front ++ Statement (Separator sp) bs ∷ []) (past ms (Separator sp) w) gs bs ss)) end
+      at : (b : Bool)
+          → Rises k
+          (if b
+          then Sites.site front w gs bs (Separator sp) ∷ on_sites c (sites ms (front ++ Statement (Separator sp) bs ∷ []) (past ms (Separator sp) w) gs bs ss)
+          else on_sites c (sites ms (front ++ Statement (Separator sp) bs ∷ []) (past ms (Separator sp) w) gs bs ss)) end
       at true = rest
-      at false = rises_from k (suc k) end (on_sites c (sites ms (front ++ Statement (Separator sp) bs ∷ []) (past ms (Separator sp) w) gs bs ss)) (omega arith) rest
+      at false =
+          rises_from k (suc k) end (on_sites c (sites ms (front ++ Statement (Separator sp) bs ∷ []) (past ms (Separator sp) w) gs bs ss)) (omega arith) rest
 
   -- statements that hold no fork
-  plain_rises : (k : ℕ) (front : List Place) (w : Flatten.Position) (gs : List Flat.Guard) (bs : List Branch) (ss : Stmts) → is_plain ss ≡ true → k ≤ w.stage → w.stage ≤ w.begun
+  plain_rises : (k : ℕ) (front : List Place) (w : Flatten.Position) (gs : List Flat.Guard) (bs : List Branch) (ss : Stmts)
+      → is_plain ss ≡ true → k ≤ w.stage → w.stage ≤ w.begun
       → Rises k (on_sites c (sites ms front w gs bs ss)) (past_all ms ss w).begun
   plain_rises k front w gs bs Nil h low up = omega arith
   plain_rises k front w gs bs (Cons (Separator sp) ss) h low up =
@@ -160,7 +193,9 @@ module _ (ms : List Mem) (c : List Guard) where
       let none = eqb-true (separators when + separators otherwise) 0 parts.0 in
       let f = past_begun ms (If sp e when otherwise) w in
       flat_then k (past_all ms ss (past ms (If sp e when otherwise) w)).begun front w gs bs (If sp e when otherwise) ss none low
-      (plain_rises w.stage (front ++ with_inner bs (If sp e when otherwise)) (past ms (If sp e when otherwise) w) gs bs ss parts.1 (let i : w.stage ≤ w.stage = omega arith in i) (omega arith))
+      (plain_rises w.stage (front ++ with_inner bs (If sp e when otherwise))
+      (past ms (If sp e when otherwise) w) gs bs ss parts.1 (let i : w.stage ≤ w.stage = omega arith in i)
+      (omega arith))
   plain_rises k front w gs bs (Cons s ss) h low up =
       flat_then k (past_all ms ss (past ms s w)).begun front w gs bs s ss refl low
       (plain_rises w.stage (front ++ with_inner bs s) (past ms s w) gs bs ss h (let i : w.stage ≤ w.stage = omega arith in i) up)
@@ -178,10 +213,14 @@ module _ (ms : List Mem) (c : List Guard) where
   low_stage k w ss (inr h) e = absurd (false≢true (sym e ∙ h.1))
 
   -- the branches of a fork
-  branch_rises : (front : List Place) (w : Flatten.Position) (gs : List Flat.Guard) (bs : List Branch) (sp : Span) (e : Expr) (when otherwise : Stmts) → is_plain when ≡ true → is_plain otherwise ≡ true → w.stage ≤ w.begun
+  branch_rises : (front : List Place) (w : Flatten.Position) (gs : List Flat.Guard) (bs : List Branch) (sp : Span) (e : Expr) (when otherwise : Stmts)
+      → is_plain when ≡ true → is_plain otherwise ≡ true → w.stage ≤ w.begun
       → Rises w.stage (on_sites c (sites_in ms front w gs bs (If sp e when otherwise))) (past ms (If sp e when otherwise) w).begun
   branch_rises front w gs bs sp e when otherwise h i up =
-      subst (λ l. Rises w.stage l end) (sym (on_append c (Sites.site front w gs bs (If sp e when otherwise) ∷ []) (xs ++ ys) ∙ ap (λ l. on_sites c (Sites.site front w gs bs (If sp e when otherwise) ∷ []) ++ l) (on_append c xs ys)))
+      subst (λ l. Rises w.stage l end)
+      (sym
+      (on_append c (Sites.site front w gs bs (If sp e when otherwise) ∷ []) (xs ++ ys)
+      ∙ ap (λ l. on_sites c (Sites.site front w gs bs (If sp e when otherwise) ∷ []) ++ l) (on_append c xs ys)))
       (rises_append w.stage w.stage end (on_sites c (Sites.site front w gs bs (If sp e when otherwise) ∷ [])) (on_sites c xs ++ on_sites c ys)
       (one_on c w.stage w.stage (Sites.site front w gs bs (If sp e when otherwise)) (omega arith) refl refl)
       (by (one_off c sp e when otherwise bs)))
@@ -190,7 +229,9 @@ module _ (ms : List Mem) (c : List Guard) where
       xs = sites ms (front ++ Statement (If sp e when otherwise) bs ∷ []) (with_guard e w) (under gs w.vars e true) (bs ++ branch sp e true when ∷ []) when
 
       ys : List Site
-      ys = sites ms (front ++ Statement (If sp e when otherwise) bs ∷ statements (bs ++ branch sp e true when ∷ []) when) (at_otherwise ms e when w) (under gs w.vars e false) (bs ++ branch sp e false otherwise ∷ []) otherwise
+      ys =
+          sites ms (front ++ Statement (If sp e when otherwise) bs ∷ statements (bs ++ branch sp e true when ∷ []) when)
+          (at_otherwise ms e when w) (under gs w.vars e false) (bs ++ branch sp e false otherwise ∷ []) otherwise
 
       end : ℕ
       end = (past ms (If sp e when otherwise) w).begun
@@ -199,31 +240,44 @@ module _ (ms : List Mem) (c : List Guard) where
       first =
           let f = guard_stage e w in
           let g = guard_begun e w in
-          plain_rises w.stage (front ++ Statement (If sp e when otherwise) bs ∷ []) (with_guard e w) (under gs w.vars e true) (bs ++ branch sp e true when ∷ []) when h (omega arith) (omega arith)
+          plain_rises w.stage (front ++ Statement (If sp e when otherwise) bs ∷ []) (with_guard e w)
+          (under gs w.vars e true) (bs ++ branch sp e true when ∷ []) when h (omega arith) (omega arith)
 
       second : Rises w.stage (on_sites c ys) end
       second =
           let f = past_all_begun ms when (with_guard e w) in
           let g = guard_begun e w in
-          plain_rises w.stage (front ++ Statement (If sp e when otherwise) bs ∷ statements (bs ++ branch sp e true when ∷ []) when) (at_otherwise ms e when w) (under gs w.vars e false) (bs ++ branch sp e false otherwise ∷ []) otherwise i (let j : w.stage ≤ w.stage = omega arith in j) (omega arith)
+          plain_rises w.stage (front ++ Statement (If sp e when otherwise) bs ∷ statements (bs ++ branch sp e true when ∷ []) when)
+          (at_otherwise ms e when w) (under gs w.vars e false)
+          (bs ++ branch sp e false otherwise ∷ []) otherwise i (let j : w.stage ≤ w.stage = omega arith in j)
+          (omega arith)
 
       high : (past_all ms when (with_guard e w)).begun ≤ end
       high = let f = past_all_begun ms otherwise (at_otherwise ms e when w) in omega arith
 
-      by : (list_all (is_taken c) (bs ++ branch sp e true when ∷ []) ≡ false) ⊎ (list_all (is_taken c) (bs ++ branch sp e false otherwise ∷ []) ≡ false) → Rises w.stage (on_sites c xs ++ on_sites c ys) end
+      by : (list_all (is_taken c) (bs ++ branch sp e true when ∷ []) ≡ false) ⊎ (list_all (is_taken c) (bs ++ branch sp e false otherwise ∷ []) ≡ false)
+          → Rises w.stage (on_sites c xs ++ on_sites c ys) end
       by (inl f) =
           subst (λ l. Rises w.stage (l ++ on_sites c ys) end)
-          (sym (off ms c (front ++ Statement (If sp e when otherwise) bs ∷ []) (with_guard e w) (under gs w.vars e true) (bs ++ branch sp e true when ∷ []) when f)) second
+          (sym
+          (off ms c (front ++ Statement (If sp e when otherwise) bs ∷ []) (with_guard e w) (under gs w.vars e true)
+          (bs ++ branch sp e true when ∷ []) when f)) second
       by (inr f) =
           rises_append w.stage (past_all ms when (with_guard e w)).begun end (on_sites c xs) (on_sites c ys) first
           (subst (λ l. Rises (past_all ms when (with_guard e w)).begun l end)
-          (sym (off ms c (front ++ Statement (If sp e when otherwise) bs ∷ statements (bs ++ branch sp e true when ∷ []) when) (at_otherwise ms e when w) (under gs w.vars e false) (bs ++ branch sp e false otherwise ∷ []) otherwise f)) high)
+          (sym
+          (off ms c (front ++ Statement (If sp e when otherwise) bs ∷ statements (bs ++ branch sp e true when ∷ []) when)
+          (at_otherwise ms e when w) (under gs w.vars e false)
+          (bs ++ branch sp e false otherwise ∷ []) otherwise f)) high)
 
-  body_rises : (k : ℕ) (front : List Place) (w : Flatten.Position) (ss : Stmts) → is_forked ss ≡ true → Ready k w ss → w.stage ≤ w.begun → Rises k (on_sites c (sites ms front w [] [] ss)) (past_all ms ss w).begun
+  body_rises : (k : ℕ) (front : List Place) (w : Flatten.Position) (ss : Stmts) → is_forked ss ≡ true → Ready k w ss
+      → w.stage ≤ w.begun → Rises k (on_sites c (sites ms front w [] [] ss)) (past_all ms ss w).begun
   body_rises k front w Nil h low up = low_begun k w Nil low up
   body_rises k front w (Cons (Separator sp) ss) h low up =
       cut_then k (past_all ms ss (past ms (Separator sp) w)).begun front w [] [] sp ss
-      (body_rises (suc k) (front ++ Statement (Separator sp) [] ∷ []) (past ms (Separator sp) w) ss h (inl (let i = low_begun k w (Cons (Separator sp) ss) low up in omega arith)) (omega arith))
+      (body_rises (suc k) (front ++ Statement (Separator sp) [] ∷ [])
+      (past ms (Separator sp) w) ss h (inl (let i = low_begun k w (Cons (Separator sp) ss) low up in omega arith))
+      (omega arith))
   body_rises k front w (Cons (If sp e when otherwise) ss) h low up =
       let parts = and_parts (fork_fits (is_whole when otherwise) when otherwise ss) (is_forked ss) h in
       let f = past_begun ms (If sp e when otherwise) w in
@@ -236,15 +290,21 @@ module _ (ms : List Mem) (c : List Guard) where
       rest : List Site
       rest = on_sites c (sites ms (front ++ with_inner [] (If sp e when otherwise)) w2 [] [] ss)
 
-      by : (b : Bool) → is_whole when otherwise ≡ b → fork_fits b when otherwise ss ≡ true → k ≤ w.stage → ((l : ℕ) → Ready l w2 ss → Rises l rest (past_all ms ss w2).begun)
+      by : (b : Bool) → is_whole when otherwise ≡ b → fork_fits b when otherwise ss ≡ true → k ≤ w.stage
+          → ((l : ℕ) → Ready l w2 ss → Rises l rest (past_all ms ss w2).begun)
           → Rises k (on_sites c (sites ms front w [] [] (Cons (If sp e when otherwise) ss))) (past_all ms ss w2).begun
-      by true i fits lo go = flat_then k (past_all ms ss w2).begun front w [] [] (If sp e when otherwise) ss (eqb-true (separators when + separators otherwise) 0 i) lo (go w.stage (inl (let j : w.stage ≤ w.stage = omega arith in j)))
+      by true i fits lo go =
+          flat_then k (past_all ms ss w2).begun front w [] []
+          (If sp e when otherwise) ss (eqb-true (separators when + separators otherwise) 0 i) lo
+          (go w.stage (inl (let j : w.stage ≤ w.stage = omega arith in j)))
       by false i fits lo go =
           let parts = and_parts (begins_stage ss) (is_plain when && is_plain otherwise) fits in
           let plain = and_parts (is_plain when) (is_plain otherwise) parts.1 in
-          subst (λ l. Rises k l (past_all ms ss w2).begun) (sym (on_append c (sites_in ms front w [] [] (If sp e when otherwise)) (sites ms (front ++ with_inner [] (If sp e when otherwise)) w2 [] [] ss)))
+          subst (λ l. Rises k l (past_all ms ss w2).begun)
+          (sym (on_append c (sites_in ms front w [] [] (If sp e when otherwise)) (sites ms (front ++ with_inner [] (If sp e when otherwise)) w2 [] [] ss)))
           (rises_append k w2.begun (past_all ms ss w2).begun (on_sites c (sites_in ms front w [] [] (If sp e when otherwise))) rest
-          (rises_from k w.stage w2.begun (on_sites c (sites_in ms front w [] [] (If sp e when otherwise))) lo (branch_rises front w [] [] sp e when otherwise plain.0 plain.1 up))
+          (rises_from k w.stage w2.begun (on_sites c (sites_in ms front w [] [] (If sp e when otherwise))) lo
+          (branch_rises front w [] [] sp e when otherwise plain.0 plain.1 up))
           (go w2.begun (inr ((let j : w2.begun ≤ w2.begun = omega arith in j), parts.0))))
   body_rises k front w (Cons s ss) h low up =
       flat_then k (past_all ms ss (past ms s w)).begun front w [] [] s ss refl (low_stage k w (Cons s ss) low refl)

@@ -70,7 +70,8 @@ order_along ms k end (t ∷ ts) r = at (cut_or ms t.walk.vars t.branches t.stmt)
     lower : (a b : ℕ) (xs : List Flat.Stmt) → a ≤ b → in_text_order b xs ≡ true → in_text_order a xs ≡ true
     lower a b xs h i = order_ops a b [] xs h i
 
-    at : ((is_separator (place_of t) ≡ true) × (ops_of ms t.walk.vars t.stmt ≡ [])) ⊎ (is_separator (place_of t) ≡ false) → Next (is_separator (place_of t)) k t.walk.stage (λ n. Rises n ts end)
+    at : ((is_separator (place_of t) ≡ true) × (ops_of ms t.walk.vars t.stmt ≡ [])) ⊎ (is_separator (place_of t) ≡ false)
+        → Next (is_separator (place_of t)) k t.walk.stage (λ n. Rises n ts end)
         → ((n : ℕ) → Rises n ts end → in_text_order n (seen ms ts) ≡ true) → in_text_order k (seen ms (t ∷ ts)) ≡ true
     at (inl e) h f =
         ap (λ os. in_text_order k (seen_ops t.walk.stage os ++ seen ms ts)) e.1
@@ -100,7 +101,9 @@ inside_ops n k (op ∷ os) h = and_from _ _ (lt-ltb k n h) (inside_ops n k os h)
 pub inside_along : (p : Pipe) (q : Flat.Pipe) (ts : List Site) → All (Known p q) ts
     → Flat.list_all (λ (x : Flat.Stmt). nat_lt x.stage (length q.stages)) (seen p.mems ts) ≡ true
 inside_along p q [] h = refl
-inside_along p q (t ∷ ts) h = list_append _ (seen_ops t.walk.stage (ops p.mems t)) (seen p.mems ts) (inside_ops (length q.stages) t.walk.stage (ops p.mems t) h.0.inside) (inside_along p q ts h.1)
+inside_along p q (t ∷ ts) h =
+    list_append _ (seen_ops t.walk.stage (ops p.mems t)) (seen p.mems ts)
+    (inside_ops (length q.stages) t.walk.stage (ops p.mems t) h.0.inside) (inside_along p q ts h.1)
 
 -- ALONG A PATH
 
@@ -119,29 +122,40 @@ AllSure v before [] = Unit {0}
 AllSure v before (t ∷ ts) = (stands_before v t.walk.stage ≡ true → releases_unsure before (place_of t) ≡ false) × AllSure v (before ++ place_of t ∷ []) ts
 
 module _ (p : Pipe) (q : Flat.Pipe) (lock_is : (m : List ℕ) → is_plain (mem_at q (mem_of p.mems m)).lock ≡ not (is_locked p.mems m)) where
-  since_next : (k : ℕ) (before : List Place) (t : Site) → Known p q t → k ≤ t.walk.stage → Since p q k before → Since p q t.walk.stage (before ++ place_of t ∷ [])
-  since_next k before t h low since m there e = ⊎_elim (λ a. let j = since m there a in omega arith) (λ a. here t.stmt refl a) (any_split (reserves_memory m) before (place_of t) e)
+  since_next : (k : ℕ) (before : List Place) (t : Site) → Known p q t → k ≤ t.walk.stage → Since p q k before
+      → Since p q t.walk.stage (before ++ place_of t ∷ [])
+  since_next k before t h low since m there e =
+      ⊎_elim (λ a. let j = since m there a in omega arith) (λ a. here t.stmt refl a) (any_split (reserves_memory m) before (place_of t) e)
     where
-      same : (n : List ℕ) → bytes_eq n m ≡ true → some_op (is_reserve (mem_of p.mems n)) (ops p.mems t) ≡ true → reserve_stage q (mem_of p.mems m) ≤ t.walk.stage
-      same n f g = let i = h.reserves (mem_of p.mems n) g in let j : reserve_stage q (mem_of p.mems n) ≡ reserve_stage q (mem_of p.mems m) = ap (λ l. reserve_stage q (mem_of p.mems l)) (bytes_same n m f) in omega arith
+      same : (n : List ℕ) → bytes_eq n m ≡ true → some_op (is_reserve (mem_of p.mems n)) (ops p.mems t) ≡ true
+          → reserve_stage q (mem_of p.mems m) ≤ t.walk.stage
+      same n f g = let i = h.reserves (mem_of p.mems n) g in
+          let j : reserve_stage q (mem_of p.mems n) ≡ reserve_stage q (mem_of p.mems m) = ap (λ l. reserve_stage q (mem_of p.mems l)) (bytes_same n m f) in
+          omega arith
 
       here : (s : Stmt) → t.stmt ≡ s → reserves_memory m (Statement s t.branches) ≡ true → reserve_stage q (mem_of p.mems m) ≤ t.walk.stage
-      here (Reserve sp at R) i f = same at.mem.name f (ap (λ x. some_op (is_reserve (mem_of p.mems at.mem.name)) (ops_of p.mems t.walk.vars x)) i ∙ or_left _ false (eq-eqb _ _ refl))
-      here (Reserve sp at W) i f = same at.mem.name f (ap (λ x. some_op (is_reserve (mem_of p.mems at.mem.name)) (ops_of p.mems t.walk.vars x)) i ∙ or_left _ false (eq-eqb _ _ refl))
+      here (Reserve sp at R) i f =
+          same at.mem.name f (ap (λ x. some_op (is_reserve (mem_of p.mems at.mem.name)) (ops_of p.mems t.walk.vars x)) i ∙ or_left _ false (eq-eqb _ _ refl))
+      here (Reserve sp at W) i f =
+          same at.mem.name f (ap (λ x. some_op (is_reserve (mem_of p.mems at.mem.name)) (ops_of p.mems t.walk.vars x)) i ∙ or_left _ false (eq-eqb _ _ refl))
       here _ i f = absurd (false≢true f)
 
   since_cut : (k : ℕ) (before : List Place) (t : Site) → is_separator (place_of t) ≡ true → Since p q k before → Since p q (suc k) (before ++ place_of t ∷ [])
-  since_cut k before t cut since m there e = ⊎_elim (λ a. let j = since m there a in omega arith) (λ a. absurd (here t.stmt cut a)) (any_split (reserves_memory m) before (place_of t) e)
+  since_cut k before t cut since m there e =
+      ⊎_elim (λ a. let j = since m there a in omega arith) (λ a. absurd (here t.stmt cut a)) (any_split (reserves_memory m) before (place_of t) e)
     where
       here : (s : Stmt) → is_separator (Statement s t.branches) ≡ true → reserves_memory m (Statement s t.branches) ≡ true → ⊥
       here (Separator sp) f g = absurd (false≢true g)
       here _ f g = absurd (false≢true f)
 
-  pub reads_along : (k end : ℕ) (vs us : List Var) (before : List Place) (c : Scan) (ts : List Site) → All (Known p q) ts → Grows p.mems vs ts us → Rises k ts end → Each (KeepsLocks p) before (map place_of ts ++ closing p)
+  pub reads_along : (k end : ℕ) (vs us : List Var) (before : List Place) (c : Scan) (ts : List Site)
+      → All (Known p q) ts → Grows p.mems vs ts us → Rises k ts end
+      → Each (KeepsLocks p) before (map place_of ts ++ closing p)
       → Since p q k before → Scanned p vs before c → reads_ok q c (seen p.mems ts) ≡ true
   reads_along k end vs us before c [] h g r each since i = refl
   reads_along k end vs us before c (t ∷ ts) h g r each since i =
-      at (cut_or p.mems t.walk.vars t.branches t.stmt) r (λ l d s j rise. reads_along l end (vars_past p.mems t.walk.vars t.stmt) us (before ++ place_of t ∷ []) d ts h.1 g.1 rise each.1 s j)
+      at (cut_or p.mems t.walk.vars t.branches t.stmt) r
+      (λ l d s j rise. reads_along l end (vars_past p.mems t.walk.vars t.stmt) us (before ++ place_of t ∷ []) d ts h.1 g.1 rise each.1 s j)
     where
       here : Scanned p t.walk.vars before c
       here = scanned_grown p vs t.walk.vars before c g.0 i
@@ -149,30 +163,44 @@ module _ (p : Pipe) (q : Flat.Pipe) (lock_is : (m : List ℕ) → is_plain (mem_
       next : Scanned p (vars_past p.mems t.walk.vars t.stmt) (before ++ place_of t ∷ []) (opens_ops (ops p.mems t) c)
       next = scanned_next p q lock_is t.walk.vars before c t.branches here t.stmt each.0 h.0.located
 
-      at : ((is_separator (place_of t) ≡ true) × (ops_of p.mems t.walk.vars t.stmt ≡ [])) ⊎ (is_separator (place_of t) ≡ false) → Next (is_separator (place_of t)) k t.walk.stage (λ n. Rises n ts end)
-          → ((l : ℕ) (d : Scan) → Since p q l (before ++ place_of t ∷ []) → Scanned p (vars_past p.mems t.walk.vars t.stmt) (before ++ place_of t ∷ []) d → Rises l ts end → reads_ok q d (seen p.mems ts) ≡ true)
+      at : ((is_separator (place_of t) ≡ true) × (ops_of p.mems t.walk.vars t.stmt ≡ [])) ⊎ (is_separator (place_of t) ≡ false)
+          → Next (is_separator (place_of t)) k t.walk.stage (λ n. Rises n ts end)
+          → ((l : ℕ) (d : Scan) → Since p q l (before ++ place_of t ∷ [])
+          → Scanned p (vars_past p.mems t.walk.vars t.stmt) (before ++ place_of t ∷ []) d → Rises l ts end
+          → reads_ok q d (seen p.mems ts) ≡ true)
           → reads_ok q c (seen_ops t.walk.stage (ops p.mems t) ++ seen p.mems ts) ≡ true
       at (inl e) rise f =
           ap (λ os. reads_ok q c (seen_ops t.walk.stage os ++ seen p.mems ts)) e.1
-          ∙ f (suc k) c (since_cut k before t e.0 since) (subst (λ os. Scanned p (vars_past p.mems t.walk.vars t.stmt) (before ++ place_of t ∷ []) (opens_ops os c)) e.1 next) (subst (λ b. Next b k t.walk.stage (λ n. Rises n ts end)) e.0 rise)
+          ∙ f (suc k) c (since_cut k before t e.0 since)
+          (subst (λ os. Scanned p (vars_past p.mems t.walk.vars t.stmt) (before ++ place_of t ∷ []) (opens_ops os c)) e.1 next)
+          (subst (λ b. Next b k t.walk.stage (λ n. Rises n ts end)) e.0 rise)
       at (inr e) rise f =
           let j = subst (λ b. Next b k t.walk.stage (λ n. Rises n ts end)) e rise in
-          let low : (m : List ℕ) → is_memory p.mems m ≡ true → list_any (reserves_memory m) before ≡ true → reserve_stage q (mem_of p.mems m) ≤ t.walk.stage = λ m there a. (let x = since m there a in let y = j.0 in omega arith) in
+          let low : (m : List ℕ) → is_memory p.mems m ≡ true → list_any (reserves_memory m) before ≡ true → reserve_stage q (mem_of p.mems m) ≤ t.walk.stage =
+          λ m there a. (let x = since m there a in let y = j.0 in omega arith) in
           reads_append q t.walk.stage c (ops p.mems t) (seen p.mems ts)
           (scan_ok p q lock_is t.walk.vars before c t.branches here t.walk.stage low t.stmt each.0 h.0.located h.0.late)
           (f t.walk.stage (opens_ops (ops p.mems t) c) (since_next k before t h.0 j.0 since) next j.1)
 
-  pub writes_along : (m : List ℕ) → is_memory p.mems m ≡ true → (vs us : List Var) (before : List Place) (ph : Phase) (ts : List Site) → All (Known p q) ts → Grows p.mems vs ts us → Each (KeepsLocks p) before (map place_of ts ++ closing p)
-      → AreBacked before → Stands vs before m ph → (phases_ok (mem_of p.mems m) ph (seen p.mems ts) ≡ true) × (is_over (phase_all (mem_of p.mems m) ph (seen p.mems ts)) ≡ true)
+  pub writes_along : (m : List ℕ) → is_memory p.mems m ≡ true
+      → (vs us : List Var) (before : List Place) (ph : Phase) (ts : List Site) → All (Known p q) ts
+      → Grows p.mems vs ts us → Each (KeepsLocks p) before (map place_of ts ++ closing p)
+      → AreBacked before → Stands vs before m ph
+      → (phases_ok (mem_of p.mems m) ph (seen p.mems ts) ≡ true) × (is_over (phase_all (mem_of p.mems m) ph (seen p.mems ts)) ≡ true)
   writes_along m there vs us before ph [] h g each b i = (refl, ends_over p m there [] vs before ph each.0 i)
   writes_along m there vs us before ph (t ∷ ts) h g each b i =
-      let here = stands_next p m there t.branches t.walk.vars before (map place_of ts) ph t.stmt h.0.located b each (stands_grown vs t.walk.vars before m ph g.0 i) in
-      let rest = writes_along m there (vars_past p.mems t.walk.vars t.stmt) us (before ++ place_of t ∷ []) (phase_ops (mem_of p.mems m) ph (ops p.mems t)) ts h.1 g.1 each.1 (backed_next p before (place_of t) each.0 b) here.1 in (
+      let here =
+      stands_next p m there t.branches t.walk.vars before (map place_of ts) ph t.stmt h.0.located b each (stands_grown vs t.walk.vars before m ph g.0 i) in
+      let rest =
+      writes_along m there (vars_past p.mems t.walk.vars t.stmt) us (before ++ place_of t ∷ [])
+      (phase_ops (mem_of p.mems m) ph (ops p.mems t)) ts h.1 g.1 each.1 (backed_next p before (place_of t) each.0 b) here.1 in (
         phases_append (mem_of p.mems m) t.walk.stage ph (ops p.mems t) (seen p.mems ts) here.0 rest.0,
         ap is_over (phase_append (mem_of p.mems m) t.walk.stage ph (ops p.mems t) (seen p.mems ts)) ∙ rest.1,
       )
 
-  pub makings_along : (v : Option ℕ) (before : List Place) (k : Making) (ts : List Site) → AllAsked p v before ts → Stood k before → (makings_ok v k (seen p.mems ts) ≡ true) × (j : Making) × (making_all k (seen p.mems ts) ≡ j) × Stood j (before ++ map place_of ts)
+  pub makings_along : (v : Option ℕ) (before : List Place) (k : Making) (ts : List Site) → AllAsked p v before ts
+      → Stood k before
+      → (makings_ok v k (seen p.mems ts) ≡ true) × (j : Making) × (making_all k (seen p.mems ts) ≡ j) × Stood j (before ++ map place_of ts)
   makings_along v before k [] a i = (refl, k, refl, subst (Stood k) (sym (append-nil before)) i)
   makings_along v before k (t ∷ ts) a i =
       let here = stood_by p.mems v before t.branches t.walk.vars t.walk.stage k t.stmt a.0 i in
@@ -183,12 +211,15 @@ module _ (p : Pipe) (q : Flat.Pipe) (lock_is : (m : List ℕ) → is_plain (mem_
         subst (Stood rest.1) (append_assoc before (place_of t ∷ []) (map place_of ts)) rest.3,
       )
 
-  pub sure_along : (v : Option ℕ) (vs us : List Var) (before : List Place) (c : Scan) (b : Bool) (ts : List Site) → All (Known p q) ts → Grows p.mems vs ts us → Each (KeepsLocks p) before (map place_of ts ++ closing p) → AllSure v before ts
+  pub sure_along : (v : Option ℕ) (vs us : List Var) (before : List Place) (c : Scan) (b : Bool) (ts : List Site)
+      → All (Known p q) ts → Grows p.mems vs ts us → Each (KeepsLocks p) before (map place_of ts ++ closing p)
+      → AllSure v before ts
       → Scanned p vs before c → list_any Speculation.is_barrier before ≡ b → all_sure v b c (seen p.mems ts) ≡ true
   sure_along v vs us before c b [] h g each s i e = refl
   sure_along v vs us before c b (t ∷ ts) h g each s i e =
       let here = scanned_grown p vs t.walk.vars before c g.0 i in
       let step = sure_by p v t.walk.vars before c t.branches t.walk.stage here b e t.stmt each.0 h.0.located s.0 in
       sures_append v b c t.walk.stage (ops p.mems t) (seen p.mems ts) step.0
-      (sure_along v (vars_past p.mems t.walk.vars t.stmt) us (before ++ place_of t ∷ []) (opens_ops (ops p.mems t) c) (barred_ops b (ops p.mems t)) ts h.1 g.1 each.1 s.1
+      (sure_along v (vars_past p.mems t.walk.vars t.stmt) us (before ++ place_of t ∷ []) (opens_ops (ops p.mems t) c)
+      (barred_ops b (ops p.mems t)) ts h.1 g.1 each.1 s.1
       (scanned_next p q lock_is t.walk.vars before c t.branches here t.stmt each.0 h.0.located) step.1)

@@ -77,7 +77,8 @@ onpath_append path [] ys = refl
 onpath_append path (x ∷ xs) ys = at (all_hold x.guards path) (onpath_append path xs ys)
   where
     at : (b : Bool) → onpath path (xs ++ ys) ≡ onpath path xs ++ onpath path ys
-        → cond b (record x { guards = [] } ∷ onpath path (xs ++ ys)) (onpath path (xs ++ ys)) ≡ cond b (record x { guards = [] } ∷ onpath path xs) (onpath path xs) ++ onpath path ys
+        → cond b (record x { guards = [] } ∷ onpath path (xs ++ ys)) (onpath path (xs ++ ys))
+        ≡ cond b (record x { guards = [] } ∷ onpath path xs) (onpath path xs) ++ onpath path ys
     at true e = ap (λ l. record x { guards = [] } ∷ l) e
     at false e = e
 
@@ -92,10 +93,14 @@ one_path : (path : List ℕ) (k : ℕ) (gs : List Flat.Guard) (b : Bool)
 one_path path k gs true e [] = refl
 one_path path k gs false e [] = refl
 one_path path k gs true e (op ∷ os) =
-    ap (λ b. cond b (record { stage = k; guards = []; op = answered_op op } ∷ onpath path (looked_all (stmts_at k gs os))) (onpath path (looked_all (stmts_at k gs os)))) e
+    ap
+    (λ b. cond b (record { stage = k; guards = []; op = answered_op op } ∷ onpath path (looked_all (stmts_at k gs os)))
+    (onpath path (looked_all (stmts_at k gs os)))) e
     ∙ ap (λ l. record { stage = k; guards = []; op = answered_op op } ∷ l) (one_path path k gs true e os)
 one_path path k gs false e (op ∷ os) =
-    ap (λ b. cond b (record { stage = k; guards = []; op = answered_op op } ∷ onpath path (looked_all (stmts_at k gs os))) (onpath path (looked_all (stmts_at k gs os)))) e
+    ap
+    (λ b. cond b (record { stage = k; guards = []; op = answered_op op } ∷ onpath path (looked_all (stmts_at k gs os)))
+    (onpath path (looked_all (stmts_at k gs os)))) e
     ∙ one_path path k gs false e os
 
 -- what stands on a path
@@ -105,7 +110,9 @@ path_is ms path c [] h = refl
 path_is ms path c (t ∷ ts) h =
     ap (onpath path) (looked_append (own ms t) (owns ms ts))
     ∙ onpath_append path (looked_all (own ms t)) (looked_all (owns ms ts))
-    ∙ ap₂ (λ k l. k ++ l) (ap (λ l. onpath path (looked_all l)) (own_is ms t.gs t.walk t.stmt) ∙ one_path path t.walk.stage t.gs (on_path c (place_of t)) h.0 (ops ms t)) (path_is ms path c ts h.1)
+    ∙ ap₂ (λ k l. k ++ l)
+    (ap (λ l. onpath path (looked_all l)) (own_is ms t.gs t.walk t.stmt) ∙ one_path path t.walk.stage t.gs (on_path c (place_of t)) h.0 (ops ms t))
+    (path_is ms path c ts h.1)
     ∙ at (on_path c (place_of t))
   where
     at : (b : Bool) → (if b then seen_ops t.walk.stage (ops ms t) else []) ++ seen ms (on_sites c ts) ≡ seen ms (if b then t ∷ on_sites c ts else on_sites c ts)

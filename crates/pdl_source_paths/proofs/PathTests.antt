@@ -66,13 +66,15 @@ backed_params : (p : Pipe) (ps : List Param) (before : List Place) → AreBacked
 backed_params p [] before b = subst AreBacked (sym (append-nil before)) b
 backed_params p (a ∷ ps) before b =
     subst AreBacked (append_assoc before (Parameter a ∷ []) (map Parameter ps))
-    (backed_params p ps (before ++ Parameter a ∷ []) (backed_next p before (Parameter a) (record { l1 = refl; l3 = refl; l4 = refl; l5 = refl; l6 = refl; l7 = refl }) b))
+    (backed_params p ps (before ++ Parameter a ∷ [])
+    (backed_next p before (Parameter a) (record { l1 = refl; l3 = refl; l4 = refl; l5 = refl; l6 = refl; l7 = refl }) b))
 
 backed_mems : (p : Pipe) (ms : List Mem) (before : List Place) → AreBacked before → AreBacked (before ++ map Memory ms)
 backed_mems p [] before b = subst AreBacked (sym (append-nil before)) b
 backed_mems p (m ∷ ms) before b =
     subst AreBacked (append_assoc before (Memory m ∷ []) (map Memory ms))
-    (backed_mems p ms (before ++ Memory m ∷ []) (backed_next p before (Memory m) (record { l1 = refl; l3 = refl; l4 = refl; l5 = refl; l6 = refl; l7 = refl }) b))
+    (backed_mems p ms (before ++ Memory m ∷ [])
+    (backed_next p before (Memory m) (record { l1 = refl; l3 = refl; l4 = refl; l5 = refl; l6 = refl; l7 = refl }) b))
 
 below_all : (test : ℕ → Bool) (n : ℕ) → ((m : ℕ) → m < n → test m ≡ true) → all_below test n ≡ true
 below_all test zero f = refl
@@ -88,10 +90,14 @@ module _ (p : Pipe) (rules : KeepsRules p) where
   -- KINDS IN THEIR STAGES
 
   reserve_home : (i : ℕ) → All (λ t. some_op (is_reserve i) (ops p.mems t) ≡ true → t.walk.stage ≡ reserve_stage q i) (sites_of p)
-  reserve_home i = all_sited (is_reserve i) (reserve_stage q i) p.mems (sites_of p) (ap (all_at (is_reserve i) (reserve_stage q i)) (sym (stmts_are p)) ∙ reserves_in p rules i)
+  reserve_home i =
+      all_sited (is_reserve i) (reserve_stage q i) p.mems (sites_of p)
+      (ap (all_at (is_reserve i) (reserve_stage q i)) (sym (stmts_are p)) ∙ reserves_in p rules i)
 
   release_home : (i : ℕ) → All (λ t. some_op (is_release i) (ops p.mems t) ≡ true → t.walk.stage ≡ commit_stage q i) (sites_of p)
-  release_home i = all_sited (is_release i) (commit_stage q i) p.mems (sites_of p) (ap (all_at (is_release i) (commit_stage q i)) (sym (stmts_are p)) ∙ releases_in p rules i)
+  release_home i =
+      all_sited (is_release i) (commit_stage q i) p.mems (sites_of p)
+      (ap (all_at (is_release i) (commit_stage q i)) (sym (stmts_are p)) ∙ releases_in p rules i)
 
   verify_home : All (λ t. Speculation.is_verify (place_of t) ≡ true → Stages.verify_stage (flat p).stmts ≡ Some t.walk.stage) (sites_of p)
   verify_home = at (Stages.verify_stage (flat p).stmts) refl
@@ -103,22 +109,30 @@ module _ (p : Pipe) (rules : KeepsRules p) where
           here (Verify sp g args) i f = ap (λ x. some_op Stages.is_verify (ops_of p.mems t.walk.vars x)) i
           here _ i f = absurd (false≢true f)
 
-      at : (o : Option ℕ) → Stages.verify_stage (flat p).stmts ≡ o → All (λ t. Speculation.is_verify (place_of t) ≡ true → Stages.verify_stage (flat p).stmts ≡ Some t.walk.stage) (sites_of p)
+      at : (o : Option ℕ) → Stages.verify_stage (flat p).stmts ≡ o
+          → All (λ t. Speculation.is_verify (place_of t) ≡ true → Stages.verify_stage (flat p).stmts ≡ Some t.walk.stage) (sites_of p)
       at (Some v) e =
-          all_map (λ t. some_op Stages.is_verify (ops p.mems t) ≡ true → t.walk.stage ≡ v) (λ t. Speculation.is_verify (place_of t) ≡ true → Stages.verify_stage (flat p).stmts ≡ Some t.walk.stage)
+          all_map (λ t. some_op Stages.is_verify (ops p.mems t) ≡ true → t.walk.stage ≡ v)
+          (λ t. Speculation.is_verify (place_of t) ≡ true → Stages.verify_stage (flat p).stmts ≡ Some t.walk.stage)
           (λ t h k. e ∙ ap Some (sym (h (does t k)))) (sites_of p)
           (all_sited Stages.is_verify v p.mems (sites_of p) (ap (all_at Stages.is_verify v) (sym (stmts_are p)) ∙ verifies_in p rules v e))
       at None e =
-          all_map (λ t. some_op Stages.is_verify (ops p.mems t) ≡ true → t.walk.stage ≡ suc t.walk.stage) (λ t. Speculation.is_verify (place_of t) ≡ true → Stages.verify_stage (flat p).stmts ≡ Some t.walk.stage)
-          (λ t h k. absurd (let z = h (does t k) in omega arith)) (sites_of p) (never (sites_of p) (ap (none_of Stages.is_verify) (sym (stmts_are p)) ∙ no_verifies (flat p).stmts e))
+          all_map (λ t. some_op Stages.is_verify (ops p.mems t) ≡ true → t.walk.stage ≡ suc t.walk.stage)
+          (λ t. Speculation.is_verify (place_of t) ≡ true → Stages.verify_stage (flat p).stmts ≡ Some t.walk.stage)
+          (λ t h k. absurd (let z = h (does t k) in omega arith)) (sites_of p)
+          (never (sites_of p) (ap (none_of Stages.is_verify) (sym (stmts_are p)) ∙ no_verifies (flat p).stmts e))
         where
           anywhere : (s : ℕ) (xs : List Flat.Stmt) → none_of Stages.is_verify xs ≡ true → all_at Stages.is_verify s xs ≡ true
           anywhere s [] h = refl
-          anywhere s (x ∷ xs) h = let parts = and_parts (not (Stages.is_verify x.op)) (none_of Stages.is_verify xs) h in and_from _ _ (or_left _ (x.stage == s) parts.0) (anywhere s xs parts.1)
+          anywhere s (x ∷ xs) h = let parts = and_parts (not (Stages.is_verify x.op)) (none_of Stages.is_verify xs) h in
+              and_from _ _ (or_left _ (x.stage == s) parts.0) (anywhere s xs parts.1)
 
-          never : (ts : List Site) → none_of Stages.is_verify (owns p.mems ts) ≡ true → All (λ t. some_op Stages.is_verify (ops p.mems t) ≡ true → t.walk.stage ≡ suc t.walk.stage) ts
+          never : (ts : List Site) → none_of Stages.is_verify (owns p.mems ts) ≡ true
+              → All (λ t. some_op Stages.is_verify (ops p.mems t) ≡ true → t.walk.stage ≡ suc t.walk.stage) ts
           never ts h =
-              all_both (λ t. some_op Stages.is_verify (ops p.mems t) ≡ true → t.walk.stage ≡ 0) (λ t. some_op Stages.is_verify (ops p.mems t) ≡ true → t.walk.stage ≡ 1) (λ t. some_op Stages.is_verify (ops p.mems t) ≡ true → t.walk.stage ≡ suc t.walk.stage)
+              all_both (λ t. some_op Stages.is_verify (ops p.mems t) ≡ true → t.walk.stage ≡ 0)
+              (λ t. some_op Stages.is_verify (ops p.mems t) ≡ true → t.walk.stage ≡ 1)
+              (λ t. some_op Stages.is_verify (ops p.mems t) ≡ true → t.walk.stage ≡ suc t.walk.stage)
               (λ t a b k. let i = a k in let j = b k in omega arith) ts
               (all_sited Stages.is_verify 0 p.mems ts (anywhere 0 (owns p.mems ts) h)) (all_sited Stages.is_verify 1 p.mems ts (anywhere 1 (owns p.mems ts) h))
 
@@ -134,7 +148,8 @@ module _ (p : Pipe) (rules : KeepsRules p) where
   plain_reserves : (i : ℕ) → is_plain (mem_at q i).lock ≡ true → All (λ t. some_op (is_reserve i) (ops p.mems t) ≡ false) (sites_of p)
   plain_reserves i plain =
       all_map (Here p) (λ t. some_op (is_reserve i) (ops p.mems t) ≡ false)
-      (λ t h. StatementTests.no_reserve p.mems i t.walk.vars t.stmt (λ sp at k e. unlocked i plain at.mem.name (at_stmt t h (Reserve sp at k) e))) (sites_of p) (all_here p)
+      (λ t h. StatementTests.no_reserve p.mems i t.walk.vars t.stmt (λ sp at k e. unlocked i plain at.mem.name (at_stmt t h (Reserve sp at k) e)))
+      (sites_of p) (all_here p)
     where
       at_stmt : (t : Site) → Here p t → (s : Stmt) → t.stmt ≡ s → Locks.breaks_f5 p (Statement s t.branches) ≡ false
       at_stmt t h s e = ap (λ x. Locks.breaks_f5 p (Statement x t.branches)) (sym e) ∙ rules F5 t.front (place_of t) h.later h.whole
@@ -142,7 +157,8 @@ module _ (p : Pipe) (rules : KeepsRules p) where
   plain_releases : (i : ℕ) → is_plain (mem_at q i).lock ≡ true → All (λ t. some_op (is_release i) (ops p.mems t) ≡ false) (sites_of p)
   plain_releases i plain =
       all_map (Here p) (λ t. some_op (is_release i) (ops p.mems t) ≡ false)
-      (λ t h. StatementTests.no_release p.mems i t.walk.vars t.stmt (λ sp at e. unlocked i plain at.mem.name (at_stmt t h (Release sp at) e))) (sites_of p) (all_here p)
+      (λ t h. StatementTests.no_release p.mems i t.walk.vars t.stmt (λ sp at e. unlocked i plain at.mem.name (at_stmt t h (Release sp at) e)))
+      (sites_of p) (all_here p)
     where
       at_stmt : (t : Site) → Here p t → (s : Stmt) → t.stmt ≡ s → Locks.breaks_f5 p (Statement s t.branches) ≡ false
       at_stmt t h s e = ap (λ x. Locks.breaks_f5 p (Statement x t.branches)) (sym e) ∙ rules F5 t.front (place_of t) h.later h.whole
@@ -150,14 +166,17 @@ module _ (p : Pipe) (rules : KeepsRules p) where
   -- the releases of a memory, by its name
   pub named_release : (m : List ℕ) → All (λ t. releases_memory m (place_of t) ≡ true → t.walk.stage ≡ commit_stage q (mem_of p.mems m)) (sites_of p)
   named_release m =
-      all_map (λ t. some_op (is_release (mem_of p.mems m)) (ops p.mems t) ≡ true → t.walk.stage ≡ commit_stage q (mem_of p.mems m)) (λ t. releases_memory m (place_of t) ≡ true → t.walk.stage ≡ commit_stage q (mem_of p.mems m))
+      all_map (λ t. some_op (is_release (mem_of p.mems m)) (ops p.mems t) ≡ true → t.walk.stage ≡ commit_stage q (mem_of p.mems m))
+      (λ t. releases_memory m (place_of t) ≡ true → t.walk.stage ≡ commit_stage q (mem_of p.mems m))
       (λ t h e. h (does t e)) (sites_of p) (release_home (mem_of p.mems m))
     where
       does : (t : Site) → releases_memory m (place_of t) ≡ true → some_op (is_release (mem_of p.mems m)) (ops p.mems t) ≡ true
       does t e = here t.stmt refl e
         where
           here : (s : Stmt) → t.stmt ≡ s → releases_memory m (Statement s t.branches) ≡ true → some_op (is_release (mem_of p.mems m)) (ops p.mems t) ≡ true
-          here (Release sp at) i f = ap (λ x. some_op (is_release (mem_of p.mems m)) (ops_of p.mems t.walk.vars x)) i ∙ or_left _ false (eq-eqb _ _ (ap (mem_of p.mems) (bytes_same at.mem.name m f)))
+          here (Release sp at) i f =
+              ap (λ x. some_op (is_release (mem_of p.mems m)) (ops_of p.mems t.walk.vars x)) i
+              ∙ or_left _ false (eq-eqb _ _ (ap (mem_of p.mems) (bytes_same at.mem.name m f)))
           here _ i f = absurd (false≢true f)
 
   -- A PATH
@@ -192,7 +211,8 @@ module _ (p : Pipe) (rules : KeepsRules p) where
     each : Each (KeepsLocks p) (front_of p) (map place_of ts ++ closing p)
     each = subst (λ l. Each (KeepsLocks p) l (map place_of ts ++ closing p)) front (keeps_all p rules v)
 
-    late : All (λ t. (at : Location) → reads_at t.stmt ≡ Some at → is_locked p.mems at.mem.name ≡ true → t.walk.stage ≤ commit_stage q (mem_of p.mems at.mem.name)) ts
+    late : All
+        (λ t. (at : Location) → reads_at t.stmt ≡ Some at → is_locked p.mems at.mem.name ≡ true → t.walk.stage ≤ commit_stage q (mem_of p.mems at.mem.name)) ts
     late =
         late_along p (λ m. commit_stage q (mem_of p.mems m)) 0 _ (front_of p) ts (all_rise p c (body_forked p rules)) each
         (λ m. all_on (λ t. releases_memory m (place_of t) ≡ true → t.walk.stage ≡ commit_stage q (mem_of p.mems m)) c (sites_of p) (named_release m))
@@ -200,18 +220,26 @@ module _ (p : Pipe) (rules : KeepsRules p) where
     known : All (Known p q) ts
     known =
         all_both (λ t. Both t × ((i : ℕ) → some_op (is_reserve i) (ops p.mems t) ≡ true → t.walk.stage ≡ reserve_stage q i))
-        (λ t. (at : Location) → reads_at t.stmt ≡ Some at → is_locked p.mems at.mem.name ≡ true → t.walk.stage ≤ commit_stage q (mem_of p.mems at.mem.name)) (Known p q)
+        (λ t. (at : Location) → reads_at t.stmt ≡ Some at → is_locked p.mems at.mem.name ≡ true → t.walk.stage ≤ commit_stage q (mem_of p.mems at.mem.name))
+        (Known p q)
         (λ t a d. record { located = located p rules t a.0.1; reserves = a.1; late = d; inside = a.0.0.inside }) ts
         (all_on (λ t. Both t × ((i : ℕ) → some_op (is_reserve i) (ops p.mems t) ≡ true → t.walk.stage ≡ reserve_stage q i)) c (sites_of p)
-        (all_both Both (λ t. (i : ℕ) → some_op (is_reserve i) (ops p.mems t) ≡ true → t.walk.stage ≡ reserve_stage q i) (λ t. Both t × ((i : ℕ) → some_op (is_reserve i) (ops p.mems t) ≡ true → t.walk.stage ≡ reserve_stage q i)) (λ t a b. (a, b)) (sites_of p) both
+        (all_both Both (λ t. (i : ℕ) → some_op (is_reserve i) (ops p.mems t) ≡ true → t.walk.stage ≡ reserve_stage q i)
+        (λ t. Both t × ((i : ℕ) → some_op (is_reserve i) (ops p.mems t) ≡ true → t.walk.stage ≡ reserve_stage q i))
+        (λ t a b. (a, b)) (sites_of p) both
         (StatementTests.all_numbers (λ i t. some_op (is_reserve i) (ops p.mems t) ≡ true → t.walk.stage ≡ reserve_stage q i) (sites_of p) reserve_home)))
         late
 
     told : All (Guesses.Told p rules v staged verify_home) ts
     told =
         all_on (Guesses.Told p rules v staged verify_home) c (sites_of p)
-        (all_both (λ t. Both t) (λ t. Staged t × (Speculation.is_verify (place_of t) ≡ true → Stages.verify_stage (flat p).stmts ≡ Some t.walk.stage)) (Guesses.Told p rules v staged verify_home) (λ t a b. record { here = a.1; stage = b.0; verify = b.1 }) (sites_of p) both
-        (all_both Staged (λ t. Speculation.is_verify (place_of t) ≡ true → Stages.verify_stage (flat p).stmts ≡ Some t.walk.stage) (λ t. Staged t × (Speculation.is_verify (place_of t) ≡ true → Stages.verify_stage (flat p).stmts ≡ Some t.walk.stage)) (λ t a b. (a, b)) (sites_of p) staged verify_home))
+        (all_both (λ t. Both t)
+        (λ t. Staged t × (Speculation.is_verify (place_of t) ≡ true → Stages.verify_stage (flat p).stmts ≡ Some t.walk.stage))
+        (Guesses.Told p rules v staged verify_home) (λ t a b. record { here = a.1; stage = b.0; verify = b.1 })
+        (sites_of p) both
+        (all_both Staged (λ t. Speculation.is_verify (place_of t) ≡ true → Stages.verify_stage (flat p).stmts ≡ Some t.walk.stage)
+        (λ t. Staged t × (Speculation.is_verify (place_of t) ≡ true → Stages.verify_stage (flat p).stmts ≡ Some t.walk.stage))
+        (λ t a b. (a, b)) (sites_of p) staged verify_home))
 
     -- THE LOCKS SO FAR
 
@@ -219,7 +247,10 @@ module _ (p : Pipe) (rules : KeepsRules p) where
     backed = backed_mems p p.mems (map Parameter p.params) (backed_params p p.params [] none_backed)
 
     scanned : ReadsKept.Scanned p (params_of p.params) (front_of p) no_scan
-    scanned = none_scanned p (params_of p.params) (front_of p) (λ l. none_front p (reserves_location l) (λ a. refl) (λ m. refl)) (λ l. none_front p (reserves_to_write l) (λ a. refl) (λ m. refl))
+    scanned =
+        none_scanned p (params_of p.params) (front_of p)
+        (λ l. none_front p (reserves_location l) (λ a. refl) (λ m. refl))
+        (λ l. none_front p (reserves_to_write l) (λ a. refl) (λ m. refl))
 
     called : Guesses.Called p rules v staged verify_home (front_of p)
     called = record {
@@ -231,38 +262,58 @@ module _ (p : Pipe) (rules : KeepsRules p) where
 
     reads_pass : reads_ok q no_scan (seen p.mems ts) ≡ true
     reads_pass =
-        reads_along p q lock_is 0 _ (params_of p.params) _ (front_of p) no_scan ts known (grows_on p.mems c (params_of p.params) _ (sites_of p) (grows_all p)) (all_rise p c (body_forked p rules)) each
+        reads_along p q lock_is 0 _ (params_of p.params) _ (front_of p) no_scan ts known (grows_on p.mems c (params_of p.params) _ (sites_of p) (grows_all p))
+        (all_rise p c (body_forked p rules)) each
         (λ m there e. absurd (both_ways _ (none_front p (reserves_memory m) (λ a. refl) (λ m. refl)) e)) scanned
 
     writes_pass : (i : ℕ) → i < length p.mems → (phases_ok i Fresh (seen p.mems ts) ≡ true) × (is_over (phase_all i Fresh (seen p.mems ts)) ≡ true)
     writes_pass i low =
         let n = at_number p.mems i (distinct p rules p.mems (map Parameter p.params) (all_after p)) low in
         subst (λ k. (phases_ok k Fresh (seen p.mems ts) ≡ true) × (is_over (phase_all k Fresh (seen p.mems ts)) ≡ true)) n.2
-        (writes_along p q lock_is n.0 n.1 (params_of p.params) _ (front_of p) Fresh ts known (grows_on p.mems c (params_of p.params) _ (sites_of p) (grows_all p)) each backed
+        (writes_along p q lock_is n.0 n.1 (params_of p.params) _ (front_of p) Fresh ts known
+        (grows_on p.mems c (params_of p.params) _ (sites_of p) (grows_all p)) each backed
         (none_front p (is_reserve_of W n.0) (λ a. refl) (λ m. refl), none_front p (is_write_of n.0) (λ a. refl) (λ m. refl)))
 
     plain_or : (m : ℕ) (b : Bool) → (is_plain (mem_at q m).lock ≡ true → b ≡ true) → (not (is_plain (mem_at q m).lock) || b) ≡ true
-    plain_or m b f = ⊎_elim (λ t. or_right (not (is_plain (mem_at q m).lock)) b (f t)) (λ t. or_left (not (is_plain (mem_at q m).lock)) b (ap not t)) (cases_Bool (is_plain (mem_at q m).lock))
+    plain_or m b f =
+        ⊎_elim (λ t. or_right (not (is_plain (mem_at q m).lock)) b (f t))
+        (λ t. or_left (not (is_plain (mem_at q m).lock)) b (ap not t)) (cases_Bool (is_plain (mem_at q m).lock))
 
     mem_pass : (i : ℕ) → i < length p.mems → mem_passes q (seen p.mems ts) i ≡ true
     mem_pass i low =
         and_from _ _ (writes_pass i low).0
         (and_from _ _ (writes_pass i low).1
-        (and_from _ _ (StatementTests.at_seen (is_reserve i) (StatementTests.reserve_blind i) (reserve_stage q i) p.mems ts (all_on (λ t. some_op (is_reserve i) (ops p.mems t) ≡ true → t.walk.stage ≡ reserve_stage q i) c (sites_of p) (reserve_home i)))
-        (and_from _ _ (StatementTests.at_seen (is_release i) (StatementTests.release_blind i) (commit_stage q i) p.mems ts (all_on (λ t. some_op (is_release i) (ops p.mems t) ≡ true → t.walk.stage ≡ commit_stage q i) c (sites_of p) (release_home i)))
-        (plain_or i _ (λ e. StatementTests.none_seen (is_release i) (StatementTests.release_blind i) p.mems ts (all_on (λ t. some_op (is_release i) (ops p.mems t) ≡ false) c (sites_of p) (plain_releases i e)))))))
+        (and_from _ _
+        (StatementTests.at_seen (is_reserve i) (StatementTests.reserve_blind i)
+        (reserve_stage q i) p.mems ts
+        (all_on (λ t. some_op (is_reserve i) (ops p.mems t) ≡ true → t.walk.stage ≡ reserve_stage q i) c (sites_of p) (reserve_home i)))
+        (and_from _ _
+        (StatementTests.at_seen (is_release i) (StatementTests.release_blind i)
+        (commit_stage q i) p.mems ts
+        (all_on (λ t. some_op (is_release i) (ops p.mems t) ≡ true → t.walk.stage ≡ commit_stage q i) c (sites_of p) (release_home i)))
+        (plain_or i _
+        (λ e. StatementTests.none_seen (is_release i)
+        (StatementTests.release_blind i) p.mems ts (all_on (λ t. some_op (is_release i) (ops p.mems t) ≡ false) c (sites_of p) (plain_releases i e)))))))
 
     abbrev o : Option ℕ
     o = Stages.verify_stage (flat p).stmts
 
     makings_pass : (makings_ok o Unmade (seen p.mems ts) ≡ true) × (is_made (making_all Unmade (seen p.mems ts)) ≡ true)
-    makings_pass = (makes.0, ap is_made makes.2 ∙ made_end makes.1 (front_of p ++ map place_of ts) makes.3 calls (verified_end p rules v staged verify_home (front_of p ++ map place_of ts) all_places asked.1))
+    makings_pass = (
+      makes.0,
+      ap is_made makes.2
+          ∙ made_end makes.1 (front_of p ++ map place_of ts) makes.3 calls
+          (verified_end p rules v staged verify_home (front_of p ++ map place_of ts) all_places asked.1),
+    )
       where
         asked : PathScans.AllAsked p o (front_of p) ts × Guesses.Called p rules v staged verify_home (front_of p ++ map place_of ts)
         asked = all_asked p rules v staged verify_home (front_of p) ts on told called
 
-        makes : (makings_ok o Unmade (seen p.mems ts) ≡ true) × (j : GuessScans.Making) × (making_all Unmade (seen p.mems ts) ≡ j) × Stood j (front_of p ++ map place_of ts)
-        makes = makings_along p q lock_is o (front_of p) Unmade ts asked.0 (none_front p is_call (λ a. refl) (λ m. refl), none_front p Speculation.is_verify (λ a. refl) (λ m. refl))
+        makes : (makings_ok o Unmade (seen p.mems ts) ≡ true) × (j : GuessScans.Making)
+            × (making_all Unmade (seen p.mems ts) ≡ j) × Stood j (front_of p ++ map place_of ts)
+        makes =
+            makings_along p q lock_is o (front_of p) Unmade ts asked.0
+            (none_front p is_call (λ a. refl) (λ m. refl), none_front p Speculation.is_verify (λ a. refl) (λ m. refl))
 
         text : filter (on_path c) (front_of p ++ statements [] p.body) ≡ front_of p ++ map place_of ts
         text = path_text p rules v ∙ ap (λ l. l ++ map place_of ts) front
@@ -270,20 +321,25 @@ module _ (p : Pipe) (rules : KeepsRules p) where
         calls : list_any is_call (front_of p ++ map place_of ts) ≡ true
         calls =
             not-false (list_any is_call (front_of p ++ map place_of ts))
-            (ap (λ l. is_wrong_call l (End p.end)) (sym text) ∙ calls_right p rules v (front_of p ++ statements [] p.body) (StartClause p.start ∷ []) (End p.end) refl refl)
+            (ap (λ l. is_wrong_call l (End p.end)) (sym text)
+            ∙ calls_right p rules v (front_of p ++ statements [] p.body) (StartClause p.start ∷ []) (End p.end) refl refl)
 
         all_places : filter (on_path c) (places p) ≡ (front_of p ++ map place_of ts) ++ closing p
         all_places = filter_append (on_path c) (front_of p ++ statements [] p.body) (closing p) ∙ ap (λ l. l ++ closing p) text
 
     sure_pass : all_sure o false no_scan (seen p.mems ts) ≡ true
     sure_pass =
-        sure_along p q lock_is o (params_of p.params) _ (front_of p) no_scan false ts known (grows_on p.mems c (params_of p.params) _ (sites_of p) (grows_all p)) each
+        sure_along p q lock_is o (params_of p.params) _ (front_of p) no_scan false ts known
+        (grows_on p.mems c (params_of p.params) _ (sites_of p) (grows_all p)) each
         (Guesses.all_sure p rules v staged verify_home (front_of p) ts on told) scanned (none_front p Speculation.is_barrier (λ a. refl) (λ m. refl))
 
     knows_pass : Flat.list_all (λ (x : Flat.Stmt). knows_memory (length q.mems) x.op) (seen p.mems ts) ≡ true
     knows_pass =
         subst (λ n. Flat.list_all (λ (x : Flat.Stmt). knows_memory n x.op) (seen p.mems ts) ≡ true) (sym (mems_length p.mems))
-        (StatementTests.all_seen (knows_memory (length p.mems)) p.mems ts (all_map (Known p q) (λ t. ops_all (λ op. knows_memory (length p.mems) (Alone.answered_op op)) (ops p.mems t) ≡ true) (λ t h. StatementTests.knows_all p.mems t.walk.vars t.stmt (λ at e. (h.located at e).0)) ts known))
+        (StatementTests.all_seen (knows_memory (length p.mems)) p.mems ts
+        (all_map (Known p q)
+        (λ t. ops_all (λ op. knows_memory (length p.mems) (Alone.answered_op op)) (ops p.mems t) ≡ true)
+        (λ t h. StatementTests.knows_all p.mems t.walk.vars t.stmt (λ at e. (h.located at e).0)) ts known))
 
     pub path_ok : path_passes q (onpath path q.stmts) ≡ true
     path_ok =
@@ -293,7 +349,9 @@ module _ (p : Pipe) (rules : KeepsRules p) where
         (and_from _ _ knows_pass
         (and_from _ _ reads_pass
         (and_from _ _ (below_all (mem_passes q (seen p.mems ts)) (length q.mems) (λ m low. mem_pass m (subst (λ n. m < n) (mems_length p.mems) low)))
-        (subst (λ w. (makings_ok w Unmade (seen p.mems ts) && (is_made (making_all Unmade (seen p.mems ts)) && all_sure w false no_scan (seen p.mems ts))) ≡ true) (sym (StatementTests.verify_looked (flat p).stmts))
+        (subst
+        (λ w. (makings_ok w Unmade (seen p.mems ts) && (is_made (making_all Unmade (seen p.mems ts)) && all_sure w false no_scan (seen p.mems ts))) ≡ true)
+        (sym (StatementTests.verify_looked (flat p).stmts))
         (and_from _ _ makings_pass.0 (and_from _ _ makings_pass.1 sure_pass))))))))
 
   -- ALL TESTS
@@ -305,8 +363,16 @@ module _ (p : Pipe) (rules : KeepsRules p) where
       (and_from _ _ (StatementTests.all_looked (is_release m) (StatementTests.release_blind m) (commit_stage q m) (flat p).stmts ∙ releases_in p rules m)
       (⊎_elim
       (λ t. or_right (not (is_plain (mem_at q m).lock)) _ (and_from _ _
-      (eq-eqb _ 0 (ap (λ o. unwrap_or o 0) (stage_at is_reserve (flat p).stmts m p.mems low ∙ first_none (is_reserve m) (flat p).stmts (ap (none_of (is_reserve m)) (stmts_are p) ∙ none_sited (is_reserve m) p.mems (sites_of p) (plain_reserves m t)))))
-      (eq-eqb _ (length q.stages) (ap (λ o. unwrap_or o (length q.stages)) (stage_at is_release (flat p).stmts m p.mems low ∙ first_none (is_release m) (flat p).stmts (ap (none_of (is_release m)) (stmts_are p) ∙ none_sited (is_release m) p.mems (sites_of p) (plain_releases m t)))))))
+      (eq-eqb _ 0
+      (ap (λ o. unwrap_or o 0)
+      (stage_at is_reserve (flat p).stmts m p.mems low
+      ∙ first_none (is_reserve m)
+      (flat p).stmts (ap (none_of (is_reserve m)) (stmts_are p) ∙ none_sited (is_reserve m) p.mems (sites_of p) (plain_reserves m t)))))
+      (eq-eqb _ (length q.stages)
+      (ap (λ o. unwrap_or o (length q.stages))
+      (stage_at is_release (flat p).stmts m p.mems low
+      ∙ first_none (is_release m)
+      (flat p).stmts (ap (none_of (is_release m)) (stmts_are p) ∙ none_sited (is_release m) p.mems (sites_of p) (plain_releases m t)))))))
       (λ t. or_left (not (is_plain (mem_at q m).lock)) _ (ap not t))
       (cases_Bool (is_plain (mem_at q m).lock)))))
 
@@ -328,11 +394,15 @@ module _ (p : Pipe) (rules : KeepsRules p) where
         subst (λ n. Flat.list_all (λ (x : Flat.Stmt). knows_memory n x.op) q.stmts ≡ true) (sym (mems_length p.mems))
         (ap (λ l. Flat.list_all (λ (x : Flat.Stmt). knows_memory (length p.mems) x.op) (looked_all l)) (stmts_are p)
         ∙ StatementTests.all_text (knows_memory (length p.mems)) p.mems (sites_of p)
-        (all_map (Here p) (λ t. ops_all (λ op. knows_memory (length p.mems) (Alone.answered_op op)) (ops p.mems t) ≡ true) (λ t h. StatementTests.knows_all p.mems t.walk.vars t.stmt (λ at e. (located p rules t h at e).0)) (sites_of p) (all_here p)));
+        (all_map (Here p)
+        (λ t. ops_all (λ op. knows_memory (length p.mems) (Alone.answered_op op)) (ops p.mems t) ≡ true)
+        (λ t h. StatementTests.knows_all p.mems t.walk.vars t.stmt (λ at e. (located p rules t h at e).0))
+        (sites_of p) (all_here p)));
     unfetched = StatementTests.unfetched (flat p).stmts;
     below =
         StatementTests.below_verify (length q.stages) (flat p).stmts
         (ap (Flat.list_all (λ (x : Flat.Stmt). nat_lt x.stage (length q.stages))) (stmts_are p)
-        ∙ StatementTests.inside_text (length q.stages) p.mems (sites_of p) (all_map (Fine p) (λ t. t.walk.stage < length q.stages) (λ t h. h.inside) (sites_of p) (all_fine p rules)));
+        ∙ StatementTests.inside_text (length q.stages) p.mems (sites_of p)
+        (all_map (Fine p) (λ t. t.walk.stage < length q.stages) (λ t h. h.inside) (sites_of p) (all_fine p rules)));
     paths = path_ok apart;
   }

@@ -39,7 +39,9 @@ looked_rest xs h =
     (each_weaker (Rests xs) (λ z. Rests (looked_all xs) (record z { op = answered_op z.op }))
     (λ z k e.
     looked_each (λ y. binds_guard y.op z.guards ≡ true → y.stage ≤ z.stage) xs
-    (each_weaker (λ y. binds_guard y.op z.guards ≡ true → y.stage ≤ z.stage) (λ y. binds_guard (answered_op y.op) z.guards ≡ true → y.stage ≤ z.stage) (λ y l b. l (sym (guard_looked y.op z.guards) ∙ b)) xs (k e))) xs h)
+    (each_weaker (λ y. binds_guard y.op z.guards ≡ true → y.stage ≤ z.stage)
+    (λ y. binds_guard (answered_op y.op) z.guards ≡ true → y.stage ≤ z.stage)
+    (λ y l b. l (sym (guard_looked y.op z.guards) ∙ b)) xs (k e))) xs h)
 
 -- a live delayed read of stage s stands before the releases
 abbrev Before : Flat.Pipe → ℕ → Flat.Stmt → Type 0
@@ -59,7 +61,9 @@ fetches_all : (p : Flat.Pipe) → Graph p → (fetch : ℕ → ℕ) (s : ℕ) (y
 fetches_all p g fetch s [] h k = tt
 fetches_all p g fetch s (y ∷ ys) h k = (one y.op y.guards h.0 k.0, fetches_all p g fetch s ys h.1 k.1)
   where
-    one : (op : Flat.Op) (gs : List Flat.Guard) → FoundIf p fetch s op → ((x m a : ℕ) → op ≡ Flat.DelayedRead x m a → is_dead gs ≡ false → (s < length p.stages) × (s < commit_stage p m)) → FetchIf p fetch s gs op
+    one : (op : Flat.Op) (gs : List Flat.Guard) → FoundIf p fetch s op
+        → ((x m a : ℕ) → op ≡ Flat.DelayedRead x m a → is_dead gs ≡ false → (s < length p.stages) × (s < commit_stage p m))
+        → FetchIf p fetch s gs op
     one (Flat.DelayedRead x m a) gs f e = (
       f,
       λ live. record { here = f.0; known = f.1; exact = f.2; early = λ env. let r = e x m a refl live in bound_early p g s m env r.0 r.1 },
@@ -70,7 +74,8 @@ module _ (p : Pipe) (rules : KeepsRules p) (apart : are_apart (places p) ≡ tru
   facts : StageFacts (flat p)
   facts = stage_facts p rules
 
-  before_all : (s : ℕ) (xs : List Flat.Stmt) → Each (λ y. nat_lt y.stage (length (flat p).stages) ≡ true) xs → Each (IsEarly p rules apart named) xs → Each (λ y. y.stage ≡ s → Before (flat p) s y) xs
+  before_all : (s : ℕ) (xs : List Flat.Stmt) → Each (λ y. nat_lt y.stage (length (flat p).stages) ≡ true) xs
+      → Each (IsEarly p rules apart named) xs → Each (λ y. y.stage ≡ s → Before (flat p) s y) xs
   before_all s [] h k = tt
   before_all s (y ∷ ys) h k = (
     (λ e x m a f live. let l = ltb-true y.stage (length (flat p).stages) h.0 in let i = k.0 x m a f live in (omega arith, omega arith)),
@@ -84,7 +89,9 @@ module _ (p : Pipe) (rules : KeepsRules p) (apart : are_apart (places p) ≡ tru
   sound = record {
     graph = facts.graph;
     branches = facts.branches;
-    pathwise = Passes.pathwise (at_once (flat p)) (parts p rules apart) fixed_once (fixed_stages (at_once (flat p)).stmts fixed_once (looked_rest (flat p).stmts (all_rest p rules apart named)));
+    pathwise =
+        Passes.pathwise (at_once (flat p))
+        (parts p rules apart) fixed_once (fixed_stages (at_once (flat p)).stmts fixed_once (looked_rest (flat p).stmts (all_rest p rules apart named)));
     trunk_holds = facts.trunk_holds;
     merged = facts.merged;
     unmerged = facts.unmerged;
@@ -101,7 +108,9 @@ module _ (p : Pipe) (rules : KeepsRules p) (apart : are_apart (places p) ≡ tru
     fetch = facts.fetch;
     fetch_ok = λ s.
         fetches_all (flat p) facts.graph facts.fetch s (in_stage s (flat p).stmts) (facts.found s)
-        (each_in_stage (Before (flat p) s) s (flat p).stmts (before_all s (flat p).stmts (each_of_all (λ y. nat_lt y.stage (length (flat p).stages)) (flat p).stmts facts.inside) (all_early p rules apart named)));
+        (each_in_stage (Before (flat p) s) s (flat p).stmts
+        (before_all s (flat p).stmts (each_of_all (λ y. nat_lt y.stage (length (flat p).stages)) (flat p).stmts facts.inside)
+        (all_early p rules apart named)));
     fetch_blind = fetch_blind p rules apart named;
     fetch_unseen = fetch_unseen p rules apart named;
     fetch_alone = fetch_alone p rules apart named;

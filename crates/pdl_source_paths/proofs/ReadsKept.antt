@@ -41,7 +41,8 @@ same_numbers ms vs a b h k e =
     let parts = and_parts (mem_of ms a.mem.name == mem_of ms b.mem.name) _ e in
     let m = mem_same ms a.mem.name b.mem.name h.0 k.0 (eqb-true _ _ parts.0) in
     let x = var_same vs a.address.name b.address.name h.1 k.1 (eqb-true _ _ parts.1) in
-    and_from _ _ (subst (λ n. bytes_eq a.mem.name n ≡ true) m (bytes_refl a.mem.name)) (subst (λ n. bytes_eq a.address.name n ≡ true) x (bytes_refl a.address.name))
+    and_from _ _ (subst (λ n. bytes_eq a.mem.name n ≡ true) m (bytes_refl a.mem.name))
+    (subst (λ n. bytes_eq a.address.name n ≡ true) x (bytes_refl a.address.name))
 
 -- and the same locations have the same numbers
 numbers_same : (ms : List Mem) (vs : List Var) (a b : Location) → same_location a b ≡ true
@@ -64,7 +65,8 @@ unreserved : (l : Location) (xs : List Place) (h : Hold)
     → is_unreleased h ≡ false → list_any (reserves_location l) xs ≡ false
     → is_unreleased (fold (after_place l) h xs) ≡ false
 unreserved l [] h e f = e
-unreserved l (x ∷ xs) h e f = let parts = or_parts (reserves_location l x) (list_any (reserves_location l) xs) f in unreserved l xs (after_place l h x) (here x parts.0) parts.1
+unreserved l (x ∷ xs) h e f = let parts = or_parts (reserves_location l x) (list_any (reserves_location l) xs) f in
+    unreserved l xs (after_place l h x) (here x parts.0) parts.1
   where
     still : (b : Bool) (g : Hold) → is_unreleased g ≡ false → is_unreleased h ≡ false → is_unreleased (if b then g else h) ≡ false
     still true g i j = i
@@ -111,7 +113,8 @@ var_high [] us x h = omega arith
 var_high (v ∷ vs) us x h =
     let parts = or_parts (bytes_eq v.name x) (is_named vs x) h in
     let i : length vs ≤ var_of (vs ++ us) x = var_high vs us x parts.1 in
-    subst (λ b. suc (length vs) ≤ (if b then 0 else suc (var_of (vs ++ us) x))) (sym parts.0) (let j : suc (length vs) ≤ suc (var_of (vs ++ us) x) = omega arith in j)
+    subst (λ b. suc (length vs) ≤ (if b then 0 else suc (var_of (vs ++ us) x))) (sym parts.0)
+    (let j : suc (length vs) ≤ suc (var_of (vs ++ us) x) = omega arith in j)
 
 -- THE SCAN
 
@@ -119,8 +122,11 @@ var_high (v ∷ vs) us x h =
 pub record Scanned (p : Pipe) (vs : List Var) (before : List Place) (c : Scan) : Type 0 where
   pub held_low : (x : ℕ) → length vs ≤ x → is_address c.held x ≡ false
   pub blocked_low : (x : ℕ) → length vs ≤ x → is_address c.blocked x ≡ false
-  pub held_is : (l : Location) → IsNamed p.mems vs l → has_location c.held (mem_of p.mems l.mem.name) (var_of vs l.address.name) ≡ true → list_any (reserves_to_write l) before ≡ true
-  pub blocked_is : (l : Location) → is_blocked_for R (hold_after l before) ≡ true → has_location c.blocked (mem_of p.mems l.mem.name) (var_of vs l.address.name) ≡ true
+  pub held_is : (l : Location) → IsNamed p.mems vs l
+      → has_location c.held (mem_of p.mems l.mem.name) (var_of vs l.address.name) ≡ true
+      → list_any (reserves_to_write l) before ≡ true
+  pub blocked_is : (l : Location) → is_blocked_for R (hold_after l before) ≡ true
+      → has_location c.blocked (mem_of p.mems l.mem.name) (var_of vs l.address.name) ≡ true
   pub kinds : (l : Location) → list_any (reserves_to_write l) before ≡ true → is_held_for R (hold_after l before) ≡ false
   pub named : (l : Location) → list_any (reserves_location l) before ≡ true → is_named vs l.address.name ≡ true
 
@@ -147,13 +153,19 @@ plain_next p vs us before x c same none nor k = record {
   held_low = λ y h. k.held_low y (longer y h);
   blocked_low = λ y h. k.blocked_low y (longer y h);
   held_is = λ l h e. ⊎_elim
-      (λ t. any_front (reserves_to_write l) before x (k.held_is l (h.0, t) (subst (λ n. has_location c.held (mem_of p.mems l.mem.name) n ≡ true) (var_stays vs us l.address.name t) e)))
+      (λ t. any_front (reserves_to_write l) before x
+      (k.held_is l (h.0, t) (subst (λ n. has_location c.held (mem_of p.mems l.mem.name) n ≡ true) (var_stays vs us l.address.name t) e)))
       (λ t. absurd (both_ways _ (k.held_low _ (var_high vs us l.address.name t)) (opened_uses c.held _ _ e)))
       (cases_Bool (is_named vs l.address.name));
   blocked_is = λ l e.
-      let e' : is_blocked_for R (hold_after l before) ≡ true = sym (ap (is_blocked_for R) (fold_push (after_place l) Nothing before x ∙ same l (hold_after l before))) ∙ e in
-      subst (λ n. has_location c.blocked (mem_of p.mems l.mem.name) n ≡ true) (sym (var_stays vs us l.address.name (k.named l (open_reserved l before (read_open _ e'))))) (k.blocked_is l e');
-  kinds = λ l e. ap (is_held_for R) (fold_push (after_place l) Nothing before x ∙ same l (hold_after l before)) ∙ k.kinds l (before_it (reserves_to_write l) (nor l) e);
+      let e' : is_blocked_for R (hold_after l before) ≡ true =
+      sym (ap (is_blocked_for R) (fold_push (after_place l) Nothing before x ∙ same l (hold_after l before))) ∙ e in
+      subst (λ n. has_location c.blocked (mem_of p.mems l.mem.name) n ≡ true)
+      (sym (var_stays vs us l.address.name (k.named l (open_reserved l before (read_open _ e')))))
+      (k.blocked_is l e');
+  kinds =
+      λ l e. ap (is_held_for R) (fold_push (after_place l) Nothing before x ∙ same l (hold_after l before))
+      ∙ k.kinds l (before_it (reserves_to_write l) (nor l) e);
   named = λ l e. more l.address.name (k.named l (before_it (reserves_location l) (none l) e));
 }
   where
@@ -175,7 +187,8 @@ same_next p vs before x c same none nor k = subst (λ us. Scanned p us (before +
 pub held_more : (l : Location) (before : List Place) (x : Place) → hold_after l (before ++ x ∷ []) ≡ after_place l (hold_after l before) x
 held_more l before x = fold_push (after_place l) Nothing before x
 
-module _ (p : Pipe) (vs : List Var) (before : List Place) (c : Scan) (s : Span) (at : Location) (bs : List Branch) (there : IsNamed p.mems vs at) (k : Scanned p vs before c) where
+module _ (p : Pipe) (vs : List Var) (before : List Place) (c : Scan) (s : Span) (at : Location) (bs : List Branch)
+    (there : IsNamed p.mems vs at) (k : Scanned p vs before c) where
   abbrev m0 : ℕ
   m0 = mem_of p.mems at.mem.name
 
@@ -183,28 +196,38 @@ module _ (p : Pipe) (vs : List Var) (before : List Place) (c : Scan) (s : Span) 
   name_of l e = subst (λ n. is_named vs n ≡ true) (bytes_same _ _ (and_parts (bytes_eq at.mem.name l.mem.name) _ e).1) there.1
 
   -- a location that was reserved to be written is not reserved again
-  not_again : (kind : Kind) → KeepsLocks p before (Statement (Reserve s at kind) bs) → (l : Location) → same_location at l ≡ true → list_any (reserves_to_write l) before ≡ true → ⊥
+  not_again : (kind : Kind) → KeepsLocks p before (Statement (Reserve s at kind) bs) → (l : Location)
+      → same_location at l ≡ true → list_any (reserves_to_write l) before ≡ true → ⊥
   not_again kind keeps l e r =
       both_ways _ keeps.l5 (ap (λ f. list_any f before) (fun_ext (reserves_alike at l e)) ∙ any_weaker _ _ (reserves_some l) before r)
 
   module _ (kind : Kind) (keeps : KeepsLocks p before (Statement (Reserve s at kind) bs)) where
-    kinds_reserve : (l : Location) → list_any (reserves_to_write l) (before ++ Statement (Reserve s at kind) bs ∷ []) ≡ true → is_held_for R (hold_after l (before ++ Statement (Reserve s at kind) bs ∷ [])) ≡ false
-    kinds_reserve l e = ap (is_held_for R) (held_more l before (Statement (Reserve s at kind) bs)) ∙ by (same_location at l) refl (any_split (reserves_to_write l) before (Statement (Reserve s at kind) bs) e)
+    kinds_reserve : (l : Location)
+        → list_any (reserves_to_write l) (before ++ Statement (Reserve s at kind) bs ∷ []) ≡ true
+        → is_held_for R (hold_after l (before ++ Statement (Reserve s at kind) bs ∷ [])) ≡ false
+    kinds_reserve l e =
+        ap (is_held_for R) (held_more l before (Statement (Reserve s at kind) bs))
+        ∙ by (same_location at l) refl (any_split (reserves_to_write l) before (Statement (Reserve s at kind) bs) e)
       where
         writes_kind : (j : Kind) → same_kind W j ≡ true → same_kind R j ≡ false
         writes_kind W h = refl
         writes_kind R h = absurd (false≢true h)
 
-        by : (b : Bool) → same_location at l ≡ b → (list_any (reserves_to_write l) before ≡ true) ⊎ ((same_kind W kind && same_location at l) ≡ true) → is_held_for R (if b then Reserved kind else hold_after l before) ≡ false
+        by : (b : Bool) → same_location at l ≡ b
+            → (list_any (reserves_to_write l) before ≡ true) ⊎ ((same_kind W kind && same_location at l) ≡ true)
+            → is_held_for R (if b then Reserved kind else hold_after l before) ≡ false
         by true f (inl t) = absurd (not_again kind keeps l f t)
         by true f (inr t) = writes_kind kind (and_parts (same_kind W kind) _ t).0
         by false f (inl t) = k.kinds l t
         by false f (inr t) = absurd (both_ways _ f (and_parts (same_kind W kind) _ t).1)
 
-    blocked_reserve : (l : Location) → is_blocked_for R (hold_after l (before ++ Statement (Reserve s at kind) bs ∷ [])) ≡ true → has_location c.blocked (mem_of p.mems l.mem.name) (var_of vs l.address.name) ≡ true
+    blocked_reserve : (l : Location)
+        → is_blocked_for R (hold_after l (before ++ Statement (Reserve s at kind) bs ∷ [])) ≡ true
+        → has_location c.blocked (mem_of p.mems l.mem.name) (var_of vs l.address.name) ≡ true
     blocked_reserve l e = by (same_location at l) (sym (ap (is_blocked_for R) (held_more l before (Statement (Reserve s at kind) bs))) ∙ e)
       where
-        by : (b : Bool) → is_blocked_for R (if b then Reserved kind else hold_after l before) ≡ true → has_location c.blocked (mem_of p.mems l.mem.name) (var_of vs l.address.name) ≡ true
+        by : (b : Bool) → is_blocked_for R (if b then Reserved kind else hold_after l before) ≡ true
+            → has_location c.blocked (mem_of p.mems l.mem.name) (var_of vs l.address.name) ≡ true
         by true f = absurd (false≢true f)
         by false f = k.blocked_is l f
 
@@ -221,12 +244,14 @@ module _ (p : Pipe) (vs : List Var) (before : List Place) (c : Scan) (s : Span) 
     named = named_reserve R keeps;
   }
 
-  low_front : (ls : List Alone.Location) → ((x : ℕ) → length vs ≤ x → is_address ls x ≡ false) → (x : ℕ) → length vs ≤ x → is_address (numbered p.mems vs at ∷ ls) x ≡ false
+  low_front : (ls : List Alone.Location) → ((x : ℕ) → length vs ≤ x → is_address ls x ≡ false) → (x : ℕ) → length vs ≤ x
+      → is_address (numbered p.mems vs at ∷ ls) x ≡ false
   low_front ls f x h =
       let i : var_of vs at.address.name < length vs = var_low vs at.address.name there.1 in
       ap₂ (λ a b. a || b) (ne_eqb (var_of vs at.address.name) x (λ e. absurd (omega arith))) (f x h)
 
-  write_next : KeepsLocks p before (Statement (Reserve s at W) bs) → Scanned p vs (before ++ Statement (Reserve s at W) bs ∷ []) (record { held = numbered p.mems vs at ∷ c.held; blocked = c.blocked })
+  write_next : KeepsLocks p before (Statement (Reserve s at W) bs)
+      → Scanned p vs (before ++ Statement (Reserve s at W) bs ∷ []) (record { held = numbered p.mems vs at ∷ c.held; blocked = c.blocked })
   write_next keeps = record {
     held_low = low_front c.held k.held_low;
     blocked_low = k.blocked_low;
@@ -240,15 +265,22 @@ module _ (p : Pipe) (vs : List Var) (before : List Place) (c : Scan) (s : Span) 
   }
 
   -- what a block and a release leave of the kinds
-  kinds_kept : (x : Place) (f : Hold → Hold) → ((l : Location) (h : Hold) → after_place l h x ≡ (if same_location at l then f h else h)) → ((h : Hold) → is_held_for R h ≡ false → is_held_for R (f h) ≡ false)
-      → ((l : Location) → reserves_to_write l x ≡ false) → (l : Location) → list_any (reserves_to_write l) (before ++ x ∷ []) ≡ true → is_held_for R (hold_after l (before ++ x ∷ [])) ≡ false
-  kinds_kept x f after keepf nor l e = ap (is_held_for R) (held_more l before x ∙ after l (hold_after l before)) ∙ by (same_location at l) (k.kinds l (⊎_elim (λ t. t) (λ t. absurd (both_ways _ (nor l) t)) (any_split (reserves_to_write l) before x e)))
+  kinds_kept : (x : Place) (f : Hold → Hold)
+      → ((l : Location) (h : Hold) → after_place l h x ≡ (if same_location at l then f h else h))
+      → ((h : Hold) → is_held_for R h ≡ false → is_held_for R (f h) ≡ false)
+      → ((l : Location) → reserves_to_write l x ≡ false) → (l : Location)
+      → list_any (reserves_to_write l) (before ++ x ∷ []) ≡ true
+      → is_held_for R (hold_after l (before ++ x ∷ [])) ≡ false
+  kinds_kept x f after keepf nor l e =
+      ap (is_held_for R) (held_more l before x ∙ after l (hold_after l before))
+      ∙ by (same_location at l) (k.kinds l (⊎_elim (λ t. t) (λ t. absurd (both_ways _ (nor l) t)) (any_split (reserves_to_write l) before x e)))
     where
       by : (b : Bool) → is_held_for R (hold_after l before) ≡ false → is_held_for R (if b then f (hold_after l before) else hold_after l before) ≡ false
       by true h = keepf (hold_after l before) h
       by false h = h
 
-  named_kept : (x : Place) → ((l : Location) → reserves_location l x ≡ false) → (l : Location) → list_any (reserves_location l) (before ++ x ∷ []) ≡ true → is_named vs l.address.name ≡ true
+  named_kept : (x : Place) → ((l : Location) → reserves_location l x ≡ false) → (l : Location)
+      → list_any (reserves_location l) (before ++ x ∷ []) ≡ true → is_named vs l.address.name ≡ true
   named_kept x none l e = k.named l (⊎_elim (λ t. t) (λ t. absurd (both_ways _ (none l) t)) (any_split (reserves_location l) before x e))
 
   release_next : Scanned p vs (before ++ Statement (Release s at) bs ∷ []) c
@@ -261,7 +293,8 @@ module _ (p : Pipe) (vs : List Var) (before : List Place) (c : Scan) (s : Span) 
     named = named_kept (Statement (Release s at) bs) (λ l. refl);
   }
     where
-      by : (l : Location) (b : Bool) → is_blocked_for R (if b then Released else hold_after l before) ≡ true → has_location c.blocked (mem_of p.mems l.mem.name) (var_of vs l.address.name) ≡ true
+      by : (l : Location) (b : Bool) → is_blocked_for R (if b then Released else hold_after l before) ≡ true
+          → has_location c.blocked (mem_of p.mems l.mem.name) (var_of vs l.address.name) ≡ true
       by l true f = absurd (false≢true f)
       by l false f = k.blocked_is l f
 
@@ -269,7 +302,8 @@ module _ (p : Pipe) (vs : List Var) (before : List Place) (c : Scan) (s : Span) 
   abbrev blocked_scan : Bool → Scan
   blocked_scan b = if b then c else record { held = c.held; blocked = numbered p.mems vs at ∷ c.blocked }
 
-  block_next : KeepsLocks p before (Statement (Block s at) bs) → Scanned p vs (before ++ Statement (Block s at) bs ∷ []) (blocked_scan (has_location c.held m0 (var_of vs at.address.name)))
+  block_next : KeepsLocks p before (Statement (Block s at) bs)
+      → Scanned p vs (before ++ Statement (Block s at) bs ∷ []) (blocked_scan (has_location c.held m0 (var_of vs at.address.name)))
   block_next keeps = at_once (has_location c.held m0 (var_of vs at.address.name)) refl
     where
       blocks : (h : Hold) → is_held_for R h ≡ false → is_held_for R (after_block h) ≡ false
@@ -285,16 +319,22 @@ module _ (p : Pipe) (vs : List Var) (before : List Place) (c : Scan) (s : Span) 
       reading (Blocked j) i e = absurd (false≢true i)
       reading Released i e = absurd (false≢true i)
 
-      more : (b : Bool) (l : Location) → has_location c.blocked (mem_of p.mems l.mem.name) (var_of vs l.address.name) ≡ true → has_location (blocked_scan b).blocked (mem_of p.mems l.mem.name) (var_of vs l.address.name) ≡ true
+      more : (b : Bool) (l : Location)
+          → has_location c.blocked (mem_of p.mems l.mem.name) (var_of vs l.address.name) ≡ true
+          → has_location (blocked_scan b).blocked (mem_of p.mems l.mem.name) (var_of vs l.address.name) ≡ true
       more true l e = e
       more false l e = or_right ((m0 == mem_of p.mems l.mem.name) && (var_of vs at.address.name == var_of vs l.address.name)) _ e
 
-      here : (b : Bool) → has_location c.held m0 (var_of vs at.address.name) ≡ b → (l : Location) → same_location at l ≡ true → is_blocked_for R (after_block (hold_after l before)) ≡ true → has_location (blocked_scan b).blocked (mem_of p.mems l.mem.name) (var_of vs l.address.name) ≡ true
+      here : (b : Bool) → has_location c.held m0 (var_of vs at.address.name) ≡ b → (l : Location)
+          → same_location at l ≡ true → is_blocked_for R (after_block (hold_after l before)) ≡ true
+          → has_location (blocked_scan b).blocked (mem_of p.mems l.mem.name) (var_of vs l.address.name) ≡ true
       here true e l f g =
           let same : hold_after at before ≡ hold_after l before = held_alike at l f before in
-          let r : is_held_for R (hold_after at before) ≡ true = reading (hold_after at before) (not-false _ keeps.l1) (ap (λ h. is_blocked_for R (after_block h)) same ∙ g) in
+          let r : is_held_for R (hold_after at before) ≡ true =
+          reading (hold_after at before) (not-false _ keeps.l1) (ap (λ h. is_blocked_for R (after_block h)) same ∙ g) in
           absurd (both_ways _ (k.kinds at (k.held_is at there e)) r)
-      here false e l f g = or_left ((m0 == mem_of p.mems l.mem.name) && (var_of vs at.address.name == var_of vs l.address.name)) _ (numbers_same p.mems vs at l f)
+      here false e l f g =
+          or_left ((m0 == mem_of p.mems l.mem.name) && (var_of vs at.address.name == var_of vs l.address.name)) _ (numbers_same p.mems vs at l f)
 
       at_once : (b : Bool) → has_location c.held m0 (var_of vs at.address.name) ≡ b → Scanned p vs (before ++ Statement (Block s at) bs ∷ []) (blocked_scan b)
       at_once b e = record {
@@ -314,11 +354,15 @@ module _ (p : Pipe) (vs : List Var) (before : List Place) (c : Scan) (s : Span) 
           low_blocked true x h = k.blocked_low x h
           low_blocked false x h = low_front c.blocked k.blocked_low x h
 
-          held_same : (b : Bool) (l : Location) → has_location (blocked_scan b).held (mem_of p.mems l.mem.name) (var_of vs l.address.name) ≡ true → has_location c.held (mem_of p.mems l.mem.name) (var_of vs l.address.name) ≡ true
+          held_same : (b : Bool) (l : Location)
+              → has_location (blocked_scan b).held (mem_of p.mems l.mem.name) (var_of vs l.address.name) ≡ true
+              → has_location c.held (mem_of p.mems l.mem.name) (var_of vs l.address.name) ≡ true
           held_same true l f = f
           held_same false l f = f
 
-          by : (l : Location) (d : Bool) → same_location at l ≡ d → is_blocked_for R (if d then after_block (hold_after l before) else hold_after l before) ≡ true → has_location (blocked_scan b).blocked (mem_of p.mems l.mem.name) (var_of vs l.address.name) ≡ true
+          by : (l : Location) (d : Bool) → same_location at l ≡ d
+              → is_blocked_for R (if d then after_block (hold_after l before) else hold_after l before) ≡ true
+              → has_location (blocked_scan b).blocked (mem_of p.mems l.mem.name) (var_of vs l.address.name) ≡ true
           by l true f g = here b e l f g
           by l false f g = more b l (k.blocked_is l g)
 
@@ -334,7 +378,9 @@ scanned_grown p vs us before c g k = subst (λ ws. Scanned p ws before c) (sym g
       (λ t. k.held_is l (h.0, t) (subst (λ n. has_location c.held (mem_of p.mems l.mem.name) n ≡ true) (var_stays vs g.0 l.address.name t) e))
       (λ t. absurd (both_ways _ (k.held_low _ (var_high vs g.0 l.address.name t)) (opened_uses c.held _ _ e)))
       (cases_Bool (is_named vs l.address.name));
-  blocked_is = λ l e. subst (λ n. has_location c.blocked (mem_of p.mems l.mem.name) n ≡ true) (sym (var_stays vs g.0 l.address.name (k.named l (open_reserved l before (read_open _ e))))) (k.blocked_is l e);
+  blocked_is =
+      λ l e. subst (λ n. has_location c.blocked (mem_of p.mems l.mem.name) n ≡ true)
+      (sym (var_stays vs g.0 l.address.name (k.named l (open_reserved l before (read_open _ e))))) (k.blocked_is l e);
   kinds = k.kinds;
   named = λ l e. list_any-append _ vs g.0 ∙ or_left (is_named vs l.address.name) _ (k.named l e);
 })
@@ -368,12 +414,15 @@ reads_at _ = None
 module _ (p : Pipe) (q : Flat.Pipe) (lock_is : (m : List ℕ) → is_plain (mem_at q (mem_of p.mems m)).lock ≡ not (is_locked p.mems m))
     (vs : List Var) (before : List Place) (c : Scan) (bs : List Branch) (i : Scanned p vs before c) where
   -- a statement with no location but that of a read
-  scanned_if : (e : Expr) (x : Place) → ((l : Location) (h : Hold) → after_place l h x ≡ h) → ((l : Location) → reserves_location l x ≡ false) → ((l : Location) → reserves_to_write l x ≡ false)
+  scanned_if : (e : Expr) (x : Place) → ((l : Location) (h : Hold) → after_place l h x ≡ h)
+      → ((l : Location) → reserves_location l x ≡ false) → ((l : Location) → reserves_to_write l x ≡ false)
       → (s : Span) → Scanned p (Growth.if_past vs e) (before ++ x ∷ []) (opens_ops (PathStatements.if_ops vs e) c)
   scanned_if (Variable y) x same none nor s = same_next p vs before x c same none nor i
   scanned_if _ x same none nor s = plain_next p vs _ before x c same none nor i
 
-  pub scanned_next : (s : Stmt) → KeepsLocks p before (Statement s bs) → ((at : Location) → location_of s ≡ Some at → IsNamed p.mems vs at) → Scanned p (vars_past p.mems vs s) (before ++ Statement s bs ∷ []) (opens_ops (ops_of p.mems vs s) c)
+  pub scanned_next : (s : Stmt) → KeepsLocks p before (Statement s bs)
+      → ((at : Location) → location_of s ≡ Some at → IsNamed p.mems vs at)
+      → Scanned p (vars_past p.mems vs s) (before ++ Statement s bs ∷ []) (opens_ops (ops_of p.mems vs s) c)
   scanned_next (Separator sp) k there = same_next p vs before (Statement (Separator sp) bs) c (λ l h. refl) (λ l. refl) (λ l. refl) i
   scanned_next (CombRead sp x at) k there = plain_next p vs _ before (Statement (CombRead sp x at) bs) c (λ l h. refl) (λ l. refl) (λ l. refl) i
   scanned_next (Bind sp x v) k there = plain_next p vs _ before (Statement (Bind sp x v) bs) c (λ l h. refl) (λ l. refl) (λ l. refl) i
@@ -395,12 +444,21 @@ module _ (p : Pipe) (q : Flat.Pipe) (lock_is : (m : List ℕ) → is_plain (mem_
     unbound : not (is_address c.blocked (length vs)) ≡ true
     unbound = ap not (i.blocked_low (length vs) (let l : length vs ≤ length vs = omega arith in l))
 
-    read_ok : (at : Location) → (is_locked p.mems at.mem.name && not (is_blocked_for R (hold_after at before))) ≡ false → (is_locked p.mems at.mem.name ≡ true → k ≤ commit_stage q (mem_of p.mems at.mem.name))
-        → (not (is_address c.blocked (length vs)) && (is_plain (mem_at q (mem_of p.mems at.mem.name)).lock || (has_location c.blocked (mem_of p.mems at.mem.name) (var_of vs at.address.name) && nat_le k (commit_stage q (mem_of p.mems at.mem.name)))) && true) ≡ true
+    read_ok : (at : Location) → (is_locked p.mems at.mem.name && not (is_blocked_for R (hold_after at before))) ≡ false
+        → (is_locked p.mems at.mem.name ≡ true → k ≤ commit_stage q (mem_of p.mems at.mem.name))
+        → (not (is_address c.blocked (length vs))
+        && (is_plain (mem_at q (mem_of p.mems at.mem.name)).lock
+        || (has_location c.blocked (mem_of p.mems at.mem.name) (var_of vs at.address.name) && nat_le k (commit_stage q (mem_of p.mems at.mem.name))))
+        && true)
+        ≡ true
     read_ok at l1 late = and_from _ _ (and_from _ _ unbound (by (is_locked p.mems at.mem.name) refl (lock_is at.mem.name) l1)) refl
       where
-        by : (b : Bool) → is_locked p.mems at.mem.name ≡ b → is_plain (mem_at q (mem_of p.mems at.mem.name)).lock ≡ not b → (b && not (is_blocked_for R (hold_after at before))) ≡ false
-            → (is_plain (mem_at q (mem_of p.mems at.mem.name)).lock || (has_location c.blocked (mem_of p.mems at.mem.name) (var_of vs at.address.name) && nat_le k (commit_stage q (mem_of p.mems at.mem.name)))) ≡ true
+        by : (b : Bool) → is_locked p.mems at.mem.name ≡ b
+            → is_plain (mem_at q (mem_of p.mems at.mem.name)).lock ≡ not b
+            → (b && not (is_blocked_for R (hold_after at before))) ≡ false
+            → (is_plain (mem_at q (mem_of p.mems at.mem.name)).lock
+            || (has_location c.blocked (mem_of p.mems at.mem.name) (var_of vs at.address.name) && nat_le k (commit_stage q (mem_of p.mems at.mem.name))))
+            ≡ true
         by false g e f = or_left _ _ e
         by true g e f = or_right _ _ (and_from _ _ (i.blocked_is at (not-false _ f)) (le-leb k _ (late g)))
 
@@ -409,7 +467,8 @@ module _ (p : Pipe) (q : Flat.Pipe) (lock_is : (m : List ℕ) → is_plain (mem_
     if_ok _ = and_from _ _ unbound refl
 
     pub scan_ok : (s : Stmt) → KeepsLocks p before (Statement s bs) → ((at : Location) → location_of s ≡ Some at → IsNamed p.mems vs at)
-        → ((at : Location) → reads_at s ≡ Some at → is_locked p.mems at.mem.name ≡ true → k ≤ commit_stage q (mem_of p.mems at.mem.name)) → ops_ok q k c (ops_of p.mems vs s) ≡ true
+        → ((at : Location) → reads_at s ≡ Some at → is_locked p.mems at.mem.name ≡ true → k ≤ commit_stage q (mem_of p.mems at.mem.name))
+        → ops_ok q k c (ops_of p.mems vs s) ≡ true
     scan_ok (CombRead sp x at) h there late = read_ok at h.l1 (late at refl)
     scan_ok (DelayedRead sp x at) h there late = read_ok at h.l1 (late at refl)
     scan_ok (Bind sp x v) h there late = and_from _ _ unbound refl

@@ -38,10 +38,13 @@ sures_append v b c s (op ∷ os) rest h i =
     let parts = and_parts (is_sure v b c s (answered_op op)) (sure_oks v (b || is_barrier (answered_op op)) (scan_after (answered_op op) c) s os) h in
     and_from _ _ parts.0 (sures_append v (b || is_barrier (answered_op op)) (scan_after (answered_op op) c) s os rest parts.1 i)
 
-module _ (p : Pipe) (v : Option ℕ) (vs : List Var) (before : List Place) (c : Scan) (bs : List Branch) (s : ℕ) (i : Scanned p vs before c) (b : Bool) (barred : list_any Speculation.is_barrier before ≡ b) where
-  release_sure : (sp : Span) (at : Location) → KeepsLocks p before (Statement (Release sp at) bs) → IsNamed p.mems vs at → (stands_before v s ≡ true → releases_unsure before (Statement (Release sp at) bs) ≡ false)
+module _ (p : Pipe) (v : Option ℕ) (vs : List Var) (before : List Place) (c : Scan) (bs : List Branch) (s : ℕ)
+    (i : Scanned p vs before c) (b : Bool) (barred : list_any Speculation.is_barrier before ≡ b) where
+  release_sure : (sp : Span) (at : Location) → KeepsLocks p before (Statement (Release sp at) bs) → IsNamed p.mems vs at
+      → (stands_before v s ≡ true → releases_unsure before (Statement (Release sp at) bs) ≡ false)
       → ((b || (not (has_location c.held (mem_of p.mems at.mem.name) (var_of vs at.address.name)) || not (stands_before v s))) && true) ≡ true
-  release_sure sp at k named asked = and_from _ _ (by b barred (has_location c.held (mem_of p.mems at.mem.name) (var_of vs at.address.name)) refl (stands_before v s) refl) refl
+  release_sure sp at k named asked =
+      and_from _ _ (by b barred (has_location c.held (mem_of p.mems at.mem.name) (var_of vs at.address.name)) refl (stands_before v s) refl) refl
     where
       write_held : (h : Hold) → is_blocked h ≡ true → is_held_for R h ≡ false → is_held_for W h ≡ true
       write_held Nothing e f = absurd (false≢true e)
@@ -50,7 +53,9 @@ module _ (p : Pipe) (v : Option ℕ) (vs : List Var) (before : List Place) (c : 
       write_held (Blocked R) e f = absurd (false≢true (sym f))
       write_held Released e f = absurd (false≢true e)
 
-      by : (x : Bool) → list_any Speculation.is_barrier before ≡ x → (o : Bool) → has_location c.held (mem_of p.mems at.mem.name) (var_of vs at.address.name) ≡ o → (w : Bool) → stands_before v s ≡ w → (x || (not o || not w)) ≡ true
+      by : (x : Bool) → list_any Speculation.is_barrier before ≡ x → (o : Bool)
+          → has_location c.held (mem_of p.mems at.mem.name) (var_of vs at.address.name) ≡ o → (w : Bool)
+          → stands_before v s ≡ w → (x || (not o || not w)) ≡ true
       by true e o f w g = refl
       by false e false f w g = refl
       by false e true f false g = refl
@@ -78,7 +83,9 @@ module _ (p : Pipe) (v : Option ℕ) (vs : List Var) (before : List Place) (c : 
   if_next t (Variable y) e = (refl, still (Statement t bs) e)
   if_next t _ e = (refl, still_bind (Statement t bs) e)
 
-  pub sure_by : (t : Stmt) → KeepsLocks p before (Statement t bs) → ((at : Location) → location_of t ≡ Some at → IsNamed p.mems vs at) → (stands_before v s ≡ true → releases_unsure before (Statement t bs) ≡ false) → Goes t (ops_of p.mems vs t)
+  pub sure_by : (t : Stmt) → KeepsLocks p before (Statement t bs)
+      → ((at : Location) → location_of t ≡ Some at → IsNamed p.mems vs at)
+      → (stands_before v s ≡ true → releases_unsure before (Statement t bs) ≡ false) → Goes t (ops_of p.mems vs t)
   sure_by (Separator sp) k h a = (refl, still (Statement (Separator sp) bs) refl)
   sure_by (CombRead sp x at) k h a = (refl, still_bind (Statement (CombRead sp x at) bs) refl)
   sure_by (Bind sp x e) k h a = (refl, still_bind (Statement (Bind sp x e) bs) refl)

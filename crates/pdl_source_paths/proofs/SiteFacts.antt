@@ -58,8 +58,12 @@ pub all_known : (p : Pipe) → KeepsRules p → are_apart (places p) ≡ true �
 all_known p rules apart =
     all_both (λ t. Fine p t × Variables.After p t.front) (λ t. (t.walk.stage ≤ t.walk.begun) × ((env : List ℕ) → Alike env (way p env) t)) (Known p)
     (λ t a b. record { fine = a.0; after = a.1; low = b.0; alike = b.1 }) (sites_of p)
-    (all_both (Fine p) (λ t. Variables.After p t.front) (λ t. Fine p t × Variables.After p t.front) (λ t a b. (a, b)) (sites_of p) (all_fine p rules) (all_after p))
-    (all_both (λ t. (t.walk.stage ≤ t.walk.begun) × ((m : List Place) × (t.front ≡ front_of p ++ m))) (λ t. (env : List ℕ) → Alike env (way p env) t) (λ t. (t.walk.stage ≤ t.walk.begun) × ((env : List ℕ) → Alike env (way p env) t)) (λ t a b. (a.0, b)) (sites_of p) (ForkVars.all_low p)
+    (all_both (Fine p) (λ t. Variables.After p t.front) (λ t. Fine p t × Variables.After p t.front) (λ t a b. (a, b))
+    (sites_of p) (all_fine p rules) (all_after p))
+    (all_both (λ t. (t.walk.stage ≤ t.walk.begun) × ((m : List Place) × (t.front ≡ front_of p ++ m)))
+    (λ t. (env : List ℕ) → Alike env (way p env) t)
+    (λ t. (t.walk.stage ≤ t.walk.begun) × ((env : List ℕ) → Alike env (way p env) t)) (λ t a b. (a.0, b))
+    (sites_of p) (ForkVars.all_low p)
     (all_any (λ env t. Alike env (way p env) t) (sites_of p) (all_alike p rules apart)))
 
 -- GIVEN
@@ -72,7 +76,9 @@ given_more u (d ∷ ds) ys e =
     (λ t.
     let parts = and_parts (defines_use u d) (not (is_delayed d) || list_any is_separator ds) t in
     or_left _ (is_given (ds ++ ys) u) (and_from (defines_use u d) (not (is_delayed d) || list_any is_separator (ds ++ ys)) parts.0
-    (⊎_elim (λ k. or_left (not (is_delayed d)) _ k) (λ k. or_right (not (is_delayed d)) _ (list_any-append is_separator ds ys ∙ or_left (list_any is_separator ds) _ k)) (or_cases (not (is_delayed d)) (list_any is_separator ds) parts.1))))
+    (⊎_elim (λ k. or_left (not (is_delayed d)) _ k)
+    (λ k. or_right (not (is_delayed d)) _ (list_any-append is_separator ds ys ∙ or_left (list_any is_separator ds) _ k))
+    (or_cases (not (is_delayed d)) (list_any is_separator ds) parts.1))))
     (λ t. or_right (defines_use u d && (not (is_delayed d) || list_any is_separator (ds ++ ys))) _ (given_more u ds ys t))
     (or_cases (defines_use u d && (not (is_delayed d) || list_any is_separator ds)) (is_given ds u) e)
 
@@ -97,7 +103,8 @@ use_gives u (d ∷ ds) x e =
     (or_cases (defines_use u d && (not (is_delayed d) || list_any is_separator (ds ++ x ∷ []))) (is_given (ds ++ x ∷ []) u) e)
   where
     again : (is_given ds u ≡ true) ⊎ (((is_separator x ≡ true) × (list_any (defines_use u) ds ≡ true)) ⊎ ((defines_use u x ≡ true) × (is_delayed x ≡ false)))
-        → (is_given (d ∷ ds) u ≡ true) ⊎ (((is_separator x ≡ true) × (list_any (defines_use u) (d ∷ ds) ≡ true)) ⊎ ((defines_use u x ≡ true) × (is_delayed x ≡ false)))
+        → (is_given (d ∷ ds) u ≡ true)
+        ⊎ (((is_separator x ≡ true) × (list_any (defines_use u) (d ∷ ds) ≡ true)) ⊎ ((defines_use u x ≡ true) × (is_delayed x ≡ false)))
     again (inl t) = inl (or_right (defines_use u d && (not (is_delayed d) || list_any is_separator ds)) _ t)
     again (inr (inl t)) = inr (inl (t.0, or_right (defines_use u d) _ t.1))
     again (inr (inr t)) = inr (inr t)
@@ -152,12 +159,14 @@ pub record Owner (p : Pipe) : Type 0 where
 -- where a path gives a name at this site, what defines it stands on the path, in a stage no later
 abbrev pub Settled : Pipe → Site → Type 0
 Settled p t =
-    (d : Defined p) → is_separator (place_of t) ≡ false → all_hold t.gs d.env ≡ true → is_given (filter (on_path (way p d.env)) t.front) (OfVariable d.name) ≡ true → Bounds d.env d.by t
+    (d : Defined p) → is_separator (place_of t) ≡ false → all_hold t.gs d.env ≡ true
+    → is_given (filter (on_path (way p d.env)) t.front) (OfVariable d.name) ≡ true → Bounds d.env d.by t
 
 -- an `if` on an expression that a path comes to before this site stands on it, in a stage no later
 abbrev pub Owned : Pipe → Site → Type 0
 Owned p t =
-    (d : Owner p) → is_separator (place_of t) ≡ false → all_hold t.gs d.env ≡ true → list_any (begins_at d.start) (filter (on_path (way p d.env)) t.front) ≡ true
+    (d : Owner p) → is_separator (place_of t) ≡ false → all_hold t.gs d.env ≡ true
+    → list_any (begins_at d.start) (filter (on_path (way p d.env)) t.front) ≡ true
     → (d.by.walk.stage ≤ t.walk.stage) × (all_hold d.by.gs d.env ≡ true)
 
 module _ (p : Pipe) (rules : KeepsRules p) where
@@ -167,12 +176,15 @@ module _ (p : Pipe) (rules : KeepsRules p) where
   pub same_stage : (x y : Site) → Known p x → Known p y → x.front ≡ y.front → place_of x ≡ place_of y → x.walk.stage ≡ y.walk.stage
   same_stage x y h k e f = sym h.fine.staged ∙ ap₂ stage_in e (ap branches_of f) ∙ k.fine.staged
 
-  not_before : (x y : Site) (n : List ℕ) (m : List Place) → Known p y → defines_use (OfVariable n) (place_of x) ≡ true → defines_use (OfVariable n) (place_of y) ≡ true → y.front ≡ x.front ++ place_of x ∷ m → ⊥
+  not_before : (x y : Site) (n : List ℕ) (m : List Place) → Known p y → defines_use (OfVariable n) (place_of x) ≡ true
+      → defines_use (OfVariable n) (place_of y) ≡ true → y.front ≡ x.front ++ place_of x ∷ m → ⊥
   not_before x y n m k e f g =
       both_ways (list_any (λ z. is_some_and (bytes_eq n) (name_at z)) y.front)
       (ForkVars.once_before p rules n y.front (place_of y) k.fine.later k.fine.whole (ForkVars.variable_name n (place_of y) f))
       (ap (list_any (λ z. is_some_and (bytes_eq n) (name_at z))) g ∙ list_any-append (λ z. is_some_and (bytes_eq n) (name_at z)) x.front (place_of x ∷ m)
-      ∙ or_right _ _ (or_left (is_some_and (bytes_eq n) (name_at (place_of x))) _ (ap (is_some_and (bytes_eq n)) (ForkVars.variable_name n (place_of x) e) ∙ bytes_refl n)))
+      ∙ or_right _ _
+      (or_left (is_some_and (bytes_eq n) (name_at (place_of x))) _
+      (ap (is_some_and (bytes_eq n)) (ForkVars.variable_name n (place_of x) e) ∙ bytes_refl n)))
 
   -- N2: a name is defined once
   once : (n : List ℕ) (x y : Site) → Known p x → Known p y → defines_use (OfVariable n) (place_of y) ≡ true → IsIt (defines_use (OfVariable n)) y x
@@ -187,7 +199,9 @@ module _ (p : Pipe) (rules : KeepsRules p) where
   none_front n y k f =
       (or_parts (list_any (defines_use (OfVariable n)) (front_of p)) (list_any (defines_use (OfVariable n)) k.after.0)
       (sym (list_any-append (defines_use (OfVariable n)) (front_of p) k.after.0) ∙ sym (ap (list_any (defines_use (OfVariable n))) k.after.1)
-      ∙ ForkVars.no_name p rules n y.front (ForkVars.once_before p rules n y.front (place_of y) k.fine.later k.fine.whole (ForkVars.variable_name n (place_of y) f)) (bytes_refl n))).0
+      ∙ ForkVars.no_name p rules n y.front
+      (ForkVars.once_before p rules n y.front (place_of y) k.fine.later k.fine.whole (ForkVars.variable_name n (place_of y) f))
+      (bytes_refl n))).0
 
   pub no_parameter : (n : List ℕ) (y : Site) → Known p y → defines_use (OfVariable n) (place_of y) ≡ true → is_parameter p n ≡ false
   no_parameter n y k f = at (is_parameter p n) refl
@@ -202,7 +216,8 @@ module _ (p : Pipe) (rules : KeepsRules p) where
   own_once : are_apart (places p) ≡ true → (n : ℕ) (x y : Site) → Known p x → Known p y → begins_at n (place_of y) ≡ true → IsIt (begins_at n) y x
   own_once apart n x y h k f e = at (order p x y h.fine k.fine)
     where
-      twice : (u w : Site) → (m : List Place) → Known p w → begins_at n (place_of u) ≡ true → begins_at n (place_of w) ≡ true → w.front ≡ u.front ++ place_of u ∷ m → ⊥
+      twice : (u w : Site) → (m : List Place) → Known p w → begins_at n (place_of u) ≡ true
+          → begins_at n (place_of w) ≡ true → w.front ≡ u.front ++ place_of u ∷ m → ⊥
       twice u w m j i l g =
           both_ways (list_any (begins_at n) w.front)
           (apart_before n w.front j.fine.later (place_of w) (subst (λ z. are_apart z ≡ true) j.fine.whole apart) l)
@@ -226,47 +241,99 @@ module _ (p : Pipe) (rules : KeepsRules p) where
 
   module _ (apart : are_apart (places p) ≡ true) where
     pub all_settled : All (Settled p) (sites_of p)
-    all_settled = all_any (λ (d : Defined p) t. is_separator (place_of t) ≡ false → all_hold t.gs d.env ≡ true → is_given (filter (on_path (way p d.env)) t.front) (OfVariable d.name) ≡ true → Bounds d.env d.by t) (sites_of p) one
+    all_settled =
+        all_any
+        (λ (d : Defined p) t. is_separator (place_of t) ≡ false → all_hold t.gs d.env ≡ true
+        → is_given (filter (on_path (way p d.env)) t.front) (OfVariable d.name) ≡ true → Bounds d.env d.by t)
+        (sites_of p) one
       where
-        one : (d : Defined p) → All (λ t. is_separator (place_of t) ≡ false → all_hold t.gs d.env ≡ true → is_given (filter (on_path (way p d.env)) t.front) (OfVariable d.name) ≡ true → Bounds d.env d.by t) (sites_of p)
+        one : (d : Defined p)
+            → All
+            (λ t. is_separator (place_of t) ≡ false → all_hold t.gs d.env ≡ true
+            → is_given (filter (on_path (way p d.env)) t.front) (OfVariable d.name) ≡ true → Bounds d.env d.by t)
+            (sites_of p)
         one d =
-            all_both (Known p) (λ t. on_path (way p d.env) (place_of t) ≡ true → is_separator (place_of t) ≡ false → Came (way p d.env) (defines_use (OfVariable d.name)) (λ l. is_given l (OfVariable d.name)) d.by t.walk.stage (filter (on_path (way p d.env)) t.front))
-            (λ t. is_separator (place_of t) ≡ false → all_hold t.gs d.env ≡ true → is_given (filter (on_path (way p d.env)) t.front) (OfVariable d.name) ≡ true → Bounds d.env d.by t)
+            all_both (Known p)
+            (λ t. on_path (way p d.env) (place_of t) ≡ true → is_separator (place_of t) ≡ false
+            → Came (way p d.env) (defines_use (OfVariable d.name))
+            (λ l. is_given l (OfVariable d.name)) d.by t.walk.stage (filter (on_path (way p d.env)) t.front))
+            (λ t. is_separator (place_of t) ≡ false → all_hold t.gs d.env ≡ true
+            → is_given (filter (on_path (way p d.env)) t.front) (OfVariable d.name) ≡ true → Bounds d.env d.by t)
             (λ t h k e f g.
             let came = k (sym (h.alike d.env) ∙ f) e in
             let r = came.0 (given_any (OfVariable d.name) (filter (on_path (way p d.env)) t.front) g) in
             (r.0, d.known.alike d.env ∙ r.1, came.1 g)) (sites_of p) (all_known p rules apart)
-            (off_path (λ t. is_separator (place_of t) ≡ false → Came (way p d.env) (defines_use (OfVariable d.name)) (λ l. is_given l (OfVariable d.name)) d.by t.walk.stage (filter (on_path (way p d.env)) t.front)) (way p d.env) (sites_of p)
-            (came_along (way p d.env) (defines_use (OfVariable d.name)) (λ l. is_given l (OfVariable d.name)) d.by (cuts_none d.name) (use_gives (OfVariable d.name)) 0 _ (filter (on_path (way p d.env)) (front_of p)) (on_sites (way p d.env) (sites_of p)) (all_rise p (way p d.env) (body_forked p rules)) (on_the_path (way p d.env) (front_of p) (sites_of p) (all_in_text p))
-            (all_on (IsIt (defines_use (OfVariable d.name)) d.by) (way p d.env) (sites_of p) (all_map (Known p) (IsIt (defines_use (OfVariable d.name)) d.by) (λ x h. once d.name x d.by h d.known d.it) (sites_of p) (all_known p rules apart)))
+            (off_path
+            (λ t. is_separator (place_of t) ≡ false
+            → Came (way p d.env) (defines_use (OfVariable d.name))
+            (λ l. is_given l (OfVariable d.name)) d.by t.walk.stage (filter (on_path (way p d.env)) t.front))
+            (way p d.env) (sites_of p)
+            (came_along (way p d.env) (defines_use (OfVariable d.name))
+            (λ l. is_given l (OfVariable d.name)) d.by (cuts_none d.name)
+            (use_gives (OfVariable d.name)) 0 _ (filter (on_path (way p d.env)) (front_of p))
+            (on_sites (way p d.env) (sites_of p)) (all_rise p (way p d.env) (body_forked p rules))
+            (on_the_path (way p d.env) (front_of p) (sites_of p) (all_in_text p))
+            (all_on (IsIt (defines_use (OfVariable d.name)) d.by) (way p d.env) (sites_of p)
+            (all_map (Known p) (IsIt (defines_use (OfVariable d.name)) d.by)
+            (λ x h. once d.name x d.by h d.known d.it) (sites_of p) (all_known p rules apart)))
             ((λ e. absurd (none e)), λ e f. absurd (none (given_any (OfVariable d.name) (filter (on_path (way p d.env)) (front_of p)) e)))))
           where
             none : list_any (defines_use (OfVariable d.name)) (filter (on_path (way p d.env)) (front_of p)) ≡ true → ⊥
-            none e = both_ways (list_any (defines_use (OfVariable d.name)) (front_of p)) (none_front d.name d.by d.known d.it) (some_filtered (defines_use (OfVariable d.name)) (on_path (way p d.env)) (front_of p) e)
+            none e =
+                both_ways (list_any (defines_use (OfVariable d.name)) (front_of p))
+                (none_front d.name d.by d.known d.it)
+                (some_filtered (defines_use (OfVariable d.name)) (on_path (way p d.env)) (front_of p) e)
 
     pub all_owned : All (Owned p) (sites_of p)
-    all_owned = all_any (λ (d : Owner p) t. is_separator (place_of t) ≡ false → all_hold t.gs d.env ≡ true → list_any (begins_at d.start) (filter (on_path (way p d.env)) t.front) ≡ true → (d.by.walk.stage ≤ t.walk.stage) × (all_hold d.by.gs d.env ≡ true)) (sites_of p) one
+    all_owned =
+        all_any
+        (λ (d : Owner p) t. is_separator (place_of t) ≡ false → all_hold t.gs d.env ≡ true
+        → list_any (begins_at d.start) (filter (on_path (way p d.env)) t.front) ≡ true
+        → (d.by.walk.stage ≤ t.walk.stage) × (all_hold d.by.gs d.env ≡ true))
+        (sites_of p) one
       where
-        one : (d : Owner p) → All (λ t. is_separator (place_of t) ≡ false → all_hold t.gs d.env ≡ true → list_any (begins_at d.start) (filter (on_path (way p d.env)) t.front) ≡ true → (d.by.walk.stage ≤ t.walk.stage) × (all_hold d.by.gs d.env ≡ true)) (sites_of p)
+        one : (d : Owner p)
+            → All
+            (λ t. is_separator (place_of t) ≡ false → all_hold t.gs d.env ≡ true
+            → list_any (begins_at d.start) (filter (on_path (way p d.env)) t.front) ≡ true
+            → (d.by.walk.stage ≤ t.walk.stage) × (all_hold d.by.gs d.env ≡ true))
+            (sites_of p)
         one d =
-            all_both (Known p) (λ t. on_path (way p d.env) (place_of t) ≡ true → is_separator (place_of t) ≡ false → Came (way p d.env) (begins_at d.start) (λ l. false) d.by t.walk.stage (filter (on_path (way p d.env)) t.front))
-            (λ t. is_separator (place_of t) ≡ false → all_hold t.gs d.env ≡ true → list_any (begins_at d.start) (filter (on_path (way p d.env)) t.front) ≡ true → (d.by.walk.stage ≤ t.walk.stage) × (all_hold d.by.gs d.env ≡ true))
+            all_both (Known p)
+            (λ t. on_path (way p d.env) (place_of t) ≡ true → is_separator (place_of t) ≡ false
+            → Came (way p d.env) (begins_at d.start) (λ l. false) d.by t.walk.stage (filter (on_path (way p d.env)) t.front))
+            (λ t. is_separator (place_of t) ≡ false → all_hold t.gs d.env ≡ true
+            → list_any (begins_at d.start) (filter (on_path (way p d.env)) t.front) ≡ true
+            → (d.by.walk.stage ≤ t.walk.stage) × (all_hold d.by.gs d.env ≡ true))
             (λ t h k e f g. let r = (k (sym (h.alike d.env) ∙ f) e).0 g in (r.0, d.known.alike d.env ∙ r.1)) (sites_of p) (all_known p rules apart)
-            (off_path (λ t. is_separator (place_of t) ≡ false → Came (way p d.env) (begins_at d.start) (λ l. false) d.by t.walk.stage (filter (on_path (way p d.env)) t.front)) (way p d.env) (sites_of p)
-            (came_along (way p d.env) (begins_at d.start) (λ l. false) d.by (cuts_own d.start) (λ earlier x e. absurd (false≢true e)) 0 _ (filter (on_path (way p d.env)) (front_of p)) (on_sites (way p d.env) (sites_of p)) (all_rise p (way p d.env) (body_forked p rules)) (on_the_path (way p d.env) (front_of p) (sites_of p) (all_in_text p))
-            (all_on (IsIt (begins_at d.start) d.by) (way p d.env) (sites_of p) (all_map (Known p) (IsIt (begins_at d.start) d.by) (λ x h. own_once apart d.start x d.by h d.known d.it) (sites_of p) (all_known p rules apart)))
+            (off_path
+            (λ t. is_separator (place_of t) ≡ false
+            → Came (way p d.env) (begins_at d.start) (λ l. false) d.by t.walk.stage (filter (on_path (way p d.env)) t.front))
+            (way p d.env) (sites_of p)
+            (came_along (way p d.env) (begins_at d.start) (λ l. false) d.by (cuts_own d.start)
+            (λ earlier x e. absurd (false≢true e)) 0 _ (filter (on_path (way p d.env)) (front_of p))
+            (on_sites (way p d.env) (sites_of p)) (all_rise p (way p d.env) (body_forked p rules))
+            (on_the_path (way p d.env) (front_of p) (sites_of p) (all_in_text p))
+            (all_on (IsIt (begins_at d.start) d.by) (way p d.env) (sites_of p)
+            (all_map (Known p) (IsIt (begins_at d.start) d.by) (λ x h. own_once apart d.start x d.by h d.known d.it)
+            (sites_of p) (all_known p rules apart)))
             ((λ e. absurd (none e)), λ e f. absurd (false≢true e))))
           where
             none : list_any (begins_at d.start) (filter (on_path (way p d.env)) (front_of p)) ≡ true → ⊥
-            none e = both_ways (list_any (begins_at d.start) (front_of p)) (none_own d.start) (some_filtered (begins_at d.start) (on_path (way p d.env)) (front_of p) e)
+            none e =
+                both_ways (list_any (begins_at d.start) (front_of p)) (none_own d.start)
+                (some_filtered (begins_at d.start) (on_path (way p d.env)) (front_of p) e)
 
   -- NUMBERS AND NAMES
 
   -- what binds the number of a name that stands before a site has the name, and stands before it
-  pub number_name : (t y : Site) → Known p t → Known p y → (n : List ℕ) → is_in (names t.front) n ≡ true → bytes_eq [] n ≡ false → from_op (binds_var (var_of t.walk.vars n)) (op_of p.mems y.walk.vars y.stmt) ≡ true → defines_use (OfVariable n) (place_of y) ≡ true
+  pub number_name : (t y : Site) → Known p t → Known p y → (n : List ℕ) → is_in (names t.front) n ≡ true
+      → bytes_eq [] n ≡ false → from_op (binds_var (var_of t.walk.vars n)) (op_of p.mems y.walk.vars y.stmt) ≡ true
+      → defines_use (OfVariable n) (place_of y) ≡ true
   number_name t y h k n there some e = at (order p y t k.fine h.fine)
     where
-      r : (m : List ℕ) × (names_by y.stmt ≡ m ∷ []) × ((o : List ℕ) → bytes_eq m o ≡ true → bytes_eq [] o ≡ false → defines_use (OfVariable o) (Statement y.stmt []) ≡ true)
+      r : (m : List ℕ) × (names_by y.stmt ≡ m ∷ [])
+          × ((o : List ℕ) → bytes_eq m o ≡ true → bytes_eq [] o ≡ false → defines_use (OfVariable o) (Statement y.stmt []) ≡ true)
       r = bound_name p.mems y.walk.vars y.stmt (var_of t.walk.vars n) e
 
       number : length y.walk.vars ≡ var_of t.walk.vars n

@@ -35,11 +35,13 @@ use Rattle.pdl_rules.proofs.EachPlace.{closing}
 
 pub record Guarded (p : Pipe) (t : Site) (g : Flat.Guard) : Type 0 where
   pub low : g.var < length t.walk.vars
-  pub bound : (env : List ℕ) → is_separator (place_of t) ≡ false → all_hold t.gs env ≡ true → (y : Site) → Known p y → from_op (binds_var g.var) (op_of p.mems y.walk.vars y.stmt) ≡ true → Bounds env y t
+  pub bound : (env : List ℕ) → is_separator (place_of t) ≡ false → all_hold t.gs env ≡ true → (y : Site) → Known p y
+      → from_op (binds_var g.var) (op_of p.mems y.walk.vars y.stmt) ≡ true → Bounds env y t
 
 module _ (p : Pipe) (rules : KeepsRules p) (named : list_any (defines_use (OfVariable [])) (places p) ≡ false) where
   -- a name that is used is not empty
-  some_name : (front later : List Place) (x : Place) (n : List ℕ) → places p ≡ front ++ x ∷ later → is_too_early p front x (OfVariable n) ≡ false → bytes_eq [] n ≡ false
+  some_name : (front later : List Place) (x : Place) (n : List ℕ) → places p ≡ front ++ x ∷ later
+      → is_too_early p front x (OfVariable n) ≡ false → bytes_eq [] n ≡ false
   some_name front later x n e h = at (bytes_eq [] n) refl
     where
       none : list_any (defines_use (OfVariable [])) (places p) ≡ true → ⊥
@@ -60,18 +62,24 @@ module _ (p : Pipe) (rules : KeepsRules p) (named : list_any (defines_use (OfVar
       before : is_undefined front (OfVariable n) ≡ false → [] ≡ n → list_any (defines_use (OfVariable [])) (places p) ≡ true
       before k f =
           ap (list_any test) e ∙ list_any-append test front (x ∷ later)
-          ∙ or_left (list_any test front) (list_any test (x ∷ later)) (ap (λ m. list_any (defines_use (OfVariable m)) front) f ∙ not-false (list_any (defines_use (OfVariable n)) front) k)
+          ∙ or_left (list_any test front) (list_any test (x ∷ later))
+          (ap (λ m. list_any (defines_use (OfVariable m)) front) f ∙ not-false (list_any (defines_use (OfVariable n)) front) k)
 
       at : (b : Bool) → bytes_eq [] n ≡ b → b ≡ false
       at false f = refl
       at true f =
           absurd (none (⊎_elim
           (λ k. param (ap (is_parameter p) (bytes_same [] n f) ∙ not-false (is_parameter p n) k))
-          (λ k. before (or_parts (is_undefined front (OfVariable n)) (on_some_path (λ earlier. not (is_given earlier (OfVariable n))) p front x) k).0 (bytes_same [] n f))
-          (and_cases (not (is_parameter p n)) (is_undefined front (OfVariable n) || on_some_path (λ earlier. not (is_given earlier (OfVariable n))) p front x) h)))
+          (λ k. before
+          (or_parts (is_undefined front (OfVariable n)) (on_some_path (λ earlier. not (is_given earlier (OfVariable n))) p front x) k).0
+          (bytes_same [] n f))
+          (and_cases (not (is_parameter p n))
+          (is_undefined front (OfVariable n) || on_some_path (λ earlier. not (is_given earlier (OfVariable n))) p front x) h)))
 
   -- what is no parameter is given on each path
-  given_at : (env : List ℕ) (front later : List Place) (x : Place) (n : List ℕ) → is_too_early p front x (OfVariable n) ≡ false → is_parameter p n ≡ false → on_path (way p env) x ≡ true → is_given (filter (on_path (way p env)) front) (OfVariable n) ≡ true
+  given_at : (env : List ℕ) (front later : List Place) (x : Place) (n : List ℕ)
+      → is_too_early p front x (OfVariable n) ≡ false → is_parameter p n ≡ false → on_path (way p env) x ≡ true
+      → is_given (filter (on_path (way p env)) front) (OfVariable n) ≡ true
   given_at env front later x n h k on =
       not-false (is_given (filter (on_path (way p env)) front) (OfVariable n))
       (unbroken_on (λ earlier. not (is_given earlier (OfVariable n))) p (value p env) front x
@@ -79,20 +87,26 @@ module _ (p : Pipe) (rules : KeepsRules p) (named : list_any (defines_use (OfVar
       (ap (λ b. not b && (is_undefined front (OfVariable n) || on_some_path (λ earlier. not (is_given earlier (OfVariable n))) p front x)) (sym k) ∙ h)).1 on)
 
   -- a use of a variable at a place no later than a site, on each path that leads through the site
-  used_by : (t y : Site) → Known p t → Settled p t → Known p y → (front more later : List Place) (x : Place) (n : List ℕ) → places p ≡ front ++ x ∷ later → t.front ≡ front ++ more → is_in (names t.front) n ≡ true → is_too_early p front x (OfVariable n) ≡ false
-      → (env : List ℕ) → is_separator (place_of t) ≡ false → all_hold t.gs env ≡ true → on_path (way p env) x ≡ true → from_op (binds_var (var_of t.walk.vars n)) (op_of p.mems y.walk.vars y.stmt) ≡ true → Bounds env y t
+  used_by : (t y : Site) → Known p t → Settled p t → Known p y
+      → (front more later : List Place) (x : Place) (n : List ℕ) → places p ≡ front ++ x ∷ later
+      → t.front ≡ front ++ more → is_in (names t.front) n ≡ true → is_too_early p front x (OfVariable n) ≡ false
+      → (env : List ℕ) → is_separator (place_of t) ≡ false → all_hold t.gs env ≡ true → on_path (way p env) x ≡ true
+      → from_op (binds_var (var_of t.walk.vars n)) (op_of p.mems y.walk.vars y.stmt) ≡ true → Bounds env y t
   used_by t y h s k front more later x n whole e there early env cut tk on b =
       let it = number_name p rules t y h k n there (some_name front later x n whole early) b in
       s (record { env = env; name = n; by = y; known = k; it = it }) cut tk
       (ap (λ l. is_given l (OfVariable n)) (ap (filter (on_path (way p env))) e ∙ filter_append (on_path (way p env)) front more)
-      ∙ given_more (OfVariable n) (filter (on_path (way p env)) front) (filter (on_path (way p env)) more) (given_at env front later x n early (no_parameter p rules n y k it) on))
+      ∙ given_more (OfVariable n) (filter (on_path (way p env)) front) (filter (on_path (way p env)) more)
+      (given_at env front later x n early (no_parameter p rules n y k it) on))
 
   -- of the site itself
   pub used_here : (t y : Site) → Known p t → Settled p t → Known p y → (n : List ℕ) → is_too_early p t.front (place_of t) (OfVariable n) ≡ false
-      → (env : List ℕ) → is_separator (place_of t) ≡ false → all_hold t.gs env ≡ true → from_op (binds_var (var_of t.walk.vars n)) (op_of p.mems y.walk.vars y.stmt) ≡ true → Bounds env y t
+      → (env : List ℕ) → is_separator (place_of t) ≡ false → all_hold t.gs env ≡ true
+      → from_op (binds_var (var_of t.walk.vars n)) (op_of p.mems y.walk.vars y.stmt) ≡ true → Bounds env y t
   used_here t y h s k n early env cut tk b =
       used_by t y h s k t.front [] h.fine.later (place_of t) n h.fine.whole (sym (append-nil t.front))
-      (sym (named_is t.front t.walk n h.fine.here.named) ∙ known p t.front t.walk (place_of t) n h.after h.fine.here.named early) early env cut tk (sym (h.alike env) ∙ tk) b
+      (sym (named_is t.front t.walk n h.fine.here.named) ∙ known p t.front t.walk (place_of t) n h.after h.fine.here.named early) early env cut tk
+      (sym (h.alike env) ∙ tk) b
 
   module _ (t : Site) (h : Known p t) (s : Settled p t) (o : Owned p t) (i : Choice) (c : Chosen t.front i) (apart : are_apart (places p) ≡ true) where
     whole : places p ≡ i.front ++ its_if i ∷ (c.0 ++ place_of t ∷ h.fine.later)
@@ -116,17 +130,25 @@ module _ (p : Pipe) (rules : KeepsRules p) (named : list_any (defines_use (OfVar
       early =
           let place = ap (λ d. Statement (If i.span d i.when i.otherwise) i.branches) e in
           ap (λ z. is_too_early p i.front z (OfVariable x.name)) place
-          ∙ rules N3 i.front (Statement (If i.span (Variable x) i.when i.otherwise) i.branches) (c.0 ++ place_of t ∷ h.fine.later) (whole ∙ ap (λ z. i.front ++ z ∷ (c.0 ++ place_of t ∷ h.fine.later)) place)
+          ∙ rules N3 i.front (Statement (If i.span (Variable x) i.when i.otherwise) i.branches)
+          (c.0 ++ place_of t ∷ h.fine.later)
+          (whole ∙ ap (λ z. i.front ++ z ∷ (c.0 ++ place_of t ∷ h.fine.later)) place)
 
       there_if : is_in (names i.front) x.name ≡ true
-      there_if = sym (named_is i.front i.walk x.name c.2) ∙ known p i.front i.walk (its_if i) x.name (after_of p i.front (c.0 ++ place_of t ∷ h.fine.later) (If i.span i.condition i.when i.otherwise) i.branches whole) c.2 early
+      there_if =
+          sym (named_is i.front i.walk x.name c.2)
+          ∙ known p i.front i.walk (its_if i) x.name
+          (after_of p i.front (c.0 ++ place_of t ∷ h.fine.later) (If i.span i.condition i.when i.otherwise) i.branches whole) c.2 early
 
       there : is_in (names t.front) x.name ≡ true
-      there = ap (λ l. is_in l x.name) (ap names c.1 ∙ names_append i.front (its_if i ∷ c.0)) ∙ list_any-append (λ z. bytes_eq z x.name) (names i.front) (names (its_if i ∷ c.0)) ∙ or_left _ _ there_if
+      there =
+          ap (λ l. is_in l x.name) (ap names c.1 ∙ names_append i.front (its_if i ∷ c.0))
+          ∙ list_any-append (λ z. bytes_eq z x.name) (names i.front) (names (its_if i ∷ c.0)) ∙ or_left _ _ there_if
 
       number : var_of t.walk.vars x.name ≡ var_of i.walk.vars x.name
       number =
-          (var_place t.walk.vars x.name).0 ∙ ap (λ l. Numbers.place_of l x.name) (sym (told_is t.walk.vars) ∙ h.fine.here.named ∙ ap names c.1 ∙ names_append i.front (its_if i ∷ c.0))
+          (var_place t.walk.vars x.name).0
+          ∙ ap (λ l. Numbers.place_of l x.name) (sym (told_is t.walk.vars) ∙ h.fine.here.named ∙ ap names c.1 ∙ names_append i.front (its_if i ∷ c.0))
           ∙ in_stays (names i.front) (names (its_if i ∷ c.0)) x.name there_if
           ∙ sym ((var_place i.walk.vars x.name).0 ∙ ap (λ l. Numbers.place_of l x.name) (sym (told_is i.walk.vars) ∙ c.2))
 
@@ -136,18 +158,22 @@ module _ (p : Pipe) (rules : KeepsRules p) (named : list_any (defines_use (OfVar
       shared : ((env : List ℕ) → all_hold t.gs env ≡ true → on_path (way p env) (its_if i) ≡ true) → Guarded p t (flat_guard i)
       shared on =
           record {
-            low = let a = long_here in let b = var_low i.walk.vars x.name (named_is i.front i.walk x.name c.2 ∙ there_if) in let d = long_if in let f = guard_is in omega arith;
+            low = let a = long_here in
+                let b = var_low i.walk.vars x.name (named_is i.front i.walk x.name c.2 ∙ there_if) in let d = long_if in
+                let f = guard_is in omega arith;
             bound = λ env cut tk y k b.
                 used_by t y h s k i.front (its_if i ∷ c.0) (c.0 ++ place_of t ∷ h.fine.later) (its_if i) x.name whole c.1 there early env cut tk (on env tk)
                 (ap (λ n. from_op (binds_var n) (op_of p.mems y.walk.vars y.stmt)) (number ∙ sym guard_is) ∙ b);
           }
 
     -- on an expression
-    module _ (is_own : (flat_guard i).var ≡ length i.walk.vars) (one : length (names_at (its_if i)) ≡ 1) (starts : begins_at i.span.start (its_if i) ≡ true) where
+    module _ (is_own : (flat_guard i).var ≡ length i.walk.vars) (one : length (names_at (its_if i)) ≡ 1)
+        (starts : begins_at i.span.start (its_if i) ≡ true) where
       own_place : (y : Site) → Known p y → from_op (binds_var (flat_guard i).var) (op_of p.mems y.walk.vars y.stmt) ≡ true → place_of y ≡ its_if i
       own_place y k b = at (cases_lt (length y.front) (length i.front)) (cases_lt (length i.front) (length y.front))
         where
-          r : (m : List ℕ) × (names_by y.stmt ≡ m ∷ []) × ((q : List ℕ) → bytes_eq m q ≡ true → bytes_eq [] q ≡ false → defines_use (OfVariable q) (Statement y.stmt []) ≡ true)
+          r : (m : List ℕ) × (names_by y.stmt ≡ m ∷ [])
+              × ((q : List ℕ) → bytes_eq m q ≡ true → bytes_eq [] q ≡ false → defines_use (OfVariable q) (Statement y.stmt []) ≡ true)
           r = bound_name p.mems y.walk.vars y.stmt (flat_guard i).var b
 
           number : length y.walk.vars ≡ length i.walk.vars
@@ -156,7 +182,8 @@ module _ (p : Pipe) (rules : KeepsRules p) (named : list_any (defines_use (OfVar
           both : y.front ++ place_of y ∷ k.fine.later ≡ i.front ++ its_if i ∷ (c.0 ++ place_of t ∷ h.fine.later)
           both = sym k.fine.whole ∙ whole
 
-          at : (length y.front < length i.front) ⊎ (length i.front ≤ length y.front) → (length i.front < length y.front) ⊎ (length y.front ≤ length i.front) → place_of y ≡ its_if i
+          at : (length y.front < length i.front) ⊎ (length i.front ≤ length y.front)
+              → (length i.front < length y.front) ⊎ (length y.front ≤ length i.front) → place_of y ≡ its_if i
           at (inl l) m =
               let q = before_is y.front i.front k.fine.later (c.0 ++ place_of t ∷ h.fine.later) (place_of y) (its_if i) both l in
               let a = long p rules y k in
@@ -185,7 +212,9 @@ module _ (p : Pipe) (rules : KeepsRules p) (named : list_any (defines_use (OfVar
       found env on =
           ap (list_any (begins_at i.span.start)) (ap (filter (on_path (way p env))) c.1 ∙ filter_append (on_path (way p env)) i.front (its_if i ∷ c.0))
           ∙ list_any-append (begins_at i.span.start) (filter (on_path (way p env)) i.front) (filter (on_path (way p env)) (its_if i ∷ c.0))
-          ∙ or_right _ _ (ap (λ b. list_any (begins_at i.span.start) (cond b (its_if i ∷ filter (on_path (way p env)) c.0) (filter (on_path (way p env)) c.0))) on ∙ or_left (begins_at i.span.start (its_if i)) _ starts)
+          ∙ or_right _ _
+          (ap (λ b. list_any (begins_at i.span.start) (cond b (its_if i ∷ filter (on_path (way p env)) c.0) (filter (on_path (way p env)) c.0))) on
+          ∙ or_left (begins_at i.span.start (its_if i)) _ starts)
 
       own : ((env : List ℕ) → all_hold t.gs env ≡ true → on_path (way p env) (its_if i) ≡ true) → Guarded p t (flat_guard i)
       own on =
@@ -193,7 +222,10 @@ module _ (p : Pipe) (rules : KeepsRules p) (named : list_any (defines_use (OfVar
             low = let a = long_here in let b = one in let d = long_if in let f = is_own in omega arith;
             bound = λ env cut tk y k b.
                 let e = own_place y k b in
-                let r = o (record { env = env; start = i.span.start; by = y; known = k; it = ap (begins_at i.span.start) e ∙ starts }) cut tk (found env (on env tk)) in (
+                let r =
+                o
+                (record { env = env; start = i.span.start; by = y; known = k; it = ap (begins_at i.span.start) e ∙ starts }) cut tk
+                (found env (on env tk)) in (
                   r.0,
                   r.1,
                   λ d. absurd (false≢true (sym (ap is_delayed e) ∙ d)),
@@ -206,8 +238,12 @@ module _ (p : Pipe) (rules : KeepsRules p) (named : list_any (defines_use (OfVar
         is_if : (d : Expr) → i.condition ≡ d → its_if i ≡ Statement (If i.span d i.when i.otherwise) i.branches
         is_if d e = ap (λ z. Statement (If i.span z i.when i.otherwise) i.branches) e
 
-        by : (d : Expr) → i.condition ≡ d → Flatten.guard_of i.walk.vars d ≡ length i.walk.vars → length (names_by (If i.span d i.when i.otherwise)) ≡ 1 → begins_at i.span.start (Statement (If i.span d i.when i.otherwise) i.branches) ≡ true → Guarded p t (flat_guard i)
-        by d e a b f = own (ap (Flatten.guard_of i.walk.vars) e ∙ a) (ap (λ z. length (names_at z)) (is_if d e) ∙ b) (ap (begins_at i.span.start) (is_if d e) ∙ f) on
+        by : (d : Expr) → i.condition ≡ d → Flatten.guard_of i.walk.vars d ≡ length i.walk.vars
+            → length (names_by (If i.span d i.when i.otherwise)) ≡ 1
+            → begins_at i.span.start (Statement (If i.span d i.when i.otherwise) i.branches) ≡ true
+            → Guarded p t (flat_guard i)
+        by d e a b f =
+            own (ap (Flatten.guard_of i.walk.vars) e ∙ a) (ap (λ z. length (names_at z)) (is_if d e) ∙ b) (ap (begins_at i.span.start) (is_if d e) ∙ f) on
 
         same : (i.span.start == i.span.start) ≡ true
         same = eq-eqb i.span.start i.span.start refl
@@ -226,11 +262,15 @@ module _ (p : Pipe) (rules : KeepsRules p) (named : list_any (defines_use (OfVar
 
   module _ (apart : are_apart (places p) ≡ true) where
     -- each guard of a site
-    guards_of : (t : Site) (h : Known p t) (s : Settled p t) (o : Owned p t) (bs : List Branch) (hs : List Choice) → Nested bs hs → AllChosen t.front hs → ((env : List ℕ) → all_hold t.gs env ≡ true → list_all (is_taken (way p env)) (bs ++ map rule_branch hs) ≡ true) → AllGuards (Guarded p t) (map flat_guard hs)
+    guards_of : (t : Site) (h : Known p t) (s : Settled p t) (o : Owned p t) (bs : List Branch) (hs : List Choice)
+        → Nested bs hs → AllChosen t.front hs
+        → ((env : List ℕ) → all_hold t.gs env ≡ true → list_all (is_taken (way p env)) (bs ++ map rule_branch hs) ≡ true)
+        → AllGuards (Guarded p t) (map flat_guard hs)
     guards_of t h s o bs [] n k on = tt
     guards_of t h s o bs (i ∷ hs) n k on = (
       guarded t h s o i k.0 apart
-          (λ env tk. ap (list_all (is_taken (way p env))) n.0 ∙ (and_parts (list_all (is_taken (way p env)) bs) _ (sym (list_all-append (is_taken (way p env)) bs (map rule_branch (i ∷ hs))) ∙ on env tk)).0),
+          (λ env tk. ap (list_all (is_taken (way p env))) n.0
+          ∙ (and_parts (list_all (is_taken (way p env)) bs) _ (sym (list_all-append (is_taken (way p env)) bs (map rule_branch (i ∷ hs))) ∙ on env tk)).0),
       guards_of t h s o (bs ++ rule_branch i ∷ []) hs n.1 k.1
           (λ env tk. ap (list_all (is_taken (way p env))) (append_assoc bs (rule_branch i ∷ []) (map rule_branch hs)) ∙ on env tk),
     )

@@ -58,7 +58,8 @@ below_text : (n : ℕ) (xs : List Flat.Stmt)
 below_text n [] h = refl
 below_text n (x ∷ xs) h = at (is_verify x.op) (and_parts (nat_lt x.stage n) (Flat.list_all (λ (x : Flat.Stmt). nat_lt x.stage n) xs) h) (below_text n xs)
   where
-    at : (b : Bool) → (nat_lt x.stage n ≡ true) × (Flat.list_all (λ (x : Flat.Stmt). nat_lt x.stage n) xs ≡ true) → (Flat.list_all (λ (x : Flat.Stmt). nat_lt x.stage n) xs ≡ true → is_below n (verify_stage xs) ≡ true)
+    at : (b : Bool) → (nat_lt x.stage n ≡ true) × (Flat.list_all (λ (x : Flat.Stmt). nat_lt x.stage n) xs ≡ true)
+        → (Flat.list_all (λ (x : Flat.Stmt). nat_lt x.stage n) xs ≡ true → is_below n (verify_stage xs) ≡ true)
         → is_below n (if b then Some x.stage else verify_stage xs) ≡ true
     at true p k = p.0
     at false p k = k p.1
@@ -72,7 +73,8 @@ ops_text : (test : Flat.Op → Bool) (k : ℕ) (gs : List Flat.Guard) (os : List
     → ops_all (λ op. test (answered_op op)) os ≡ true
     → Flat.list_all (λ (x : Flat.Stmt). test x.op) (looked_all (stmts_at k gs os)) ≡ true
 ops_text test k gs [] h = refl
-ops_text test k gs (op ∷ os) h = let parts = and_parts (test (answered_op op)) (ops_all (λ op. test (answered_op op)) os) h in and_from _ _ parts.0 (ops_text test k gs os parts.1)
+ops_text test k gs (op ∷ os) h = let parts = and_parts (test (answered_op op)) (ops_all (λ op. test (answered_op op)) os) h in
+    and_from _ _ parts.0 (ops_text test k gs os parts.1)
 
 pub all_text : (test : Flat.Op → Bool) (ms : List Mem) (ts : List Site)
     → All (λ t. ops_all (λ op. test (answered_op op)) (ops ms t) ≡ true) ts
@@ -81,7 +83,8 @@ all_text test ms [] h = refl
 all_text test ms (t ∷ ts) h =
     ap (Flat.list_all (λ (x : Flat.Stmt). test x.op)) (looked_append (own ms t) (owns ms ts))
     ∙ list_append (λ x. test x.op) (looked_all (own ms t)) (looked_all (owns ms ts))
-    (ap (λ l. Flat.list_all (λ (x : Flat.Stmt). test x.op) (looked_all l)) (own_is ms t.gs t.walk t.stmt) ∙ ops_text test t.walk.stage t.gs (ops ms t) h.0) (all_text test ms ts h.1)
+    (ap (λ l. Flat.list_all (λ (x : Flat.Stmt). test x.op) (looked_all l)) (own_is ms t.gs t.walk t.stmt) ∙ ops_text test t.walk.stage t.gs (ops ms t) h.0)
+    (all_text test ms ts h.1)
 
 inside_ops : (n k : ℕ) (gs : List Flat.Guard) (os : List Flat.Op)
     → k < n → Flat.list_all (λ (x : Flat.Stmt). nat_lt x.stage n) (stmts_at k gs os) ≡ true
@@ -93,7 +96,8 @@ pub inside_text : (n : ℕ) (ms : List Mem) (ts : List Site)
 inside_text n ms [] h = refl
 inside_text n ms (t ∷ ts) h =
     list_append (λ x. nat_lt x.stage n) (own ms t) (owns ms ts)
-    (ap (Flat.list_all (λ (x : Flat.Stmt). nat_lt x.stage n)) (own_is ms t.gs t.walk t.stmt) ∙ inside_ops n t.walk.stage t.gs (ops ms t) h.0) (inside_text n ms ts h.1)
+    (ap (Flat.list_all (λ (x : Flat.Stmt). nat_lt x.stage n)) (own_is ms t.gs t.walk t.stmt) ∙ inside_ops n t.walk.stage t.gs (ops ms t) h.0)
+    (inside_text n ms ts h.1)
 
 -- ON A PATH
 
@@ -101,24 +105,29 @@ seen_test : (test : Flat.Op → Bool) (k : ℕ) (os : List Flat.Op)
     → ops_all (λ op. test (answered_op op)) os ≡ true
     → Flat.list_all (λ (x : Flat.Stmt). test x.op) (seen_ops k os) ≡ true
 seen_test test k [] h = refl
-seen_test test k (op ∷ os) h = let parts = and_parts (test (answered_op op)) (ops_all (λ op. test (answered_op op)) os) h in and_from _ _ parts.0 (seen_test test k os parts.1)
+seen_test test k (op ∷ os) h = let parts = and_parts (test (answered_op op)) (ops_all (λ op. test (answered_op op)) os) h in
+    and_from _ _ parts.0 (seen_test test k os parts.1)
 
 -- each flat statement on a path passes a test that all operations of its sites pass
 pub all_seen : (test : Flat.Op → Bool) (ms : List Mem) (ts : List Site)
     → All (λ t. ops_all (λ op. test (answered_op op)) (ops ms t) ≡ true) ts
     → Flat.list_all (λ (x : Flat.Stmt). test x.op) (seen ms ts) ≡ true
 all_seen test ms [] h = refl
-all_seen test ms (t ∷ ts) h = list_append (λ x. test x.op) (seen_ops t.walk.stage (ops ms t)) (seen ms ts) (seen_test test t.walk.stage (ops ms t) h.0) (all_seen test ms ts h.1)
+all_seen test ms (t ∷ ts) h =
+    list_append (λ x. test x.op) (seen_ops t.walk.stage (ops ms t)) (seen ms ts) (seen_test test t.walk.stage (ops ms t) h.0) (all_seen test ms ts h.1)
 
 at_append : (test : Flat.Op → Bool) (s : ℕ) (xs ys : List Flat.Stmt)
     → all_at test s xs ≡ true → all_at test s ys ≡ true → all_at test s (xs ++ ys) ≡ true
 at_append test s [] ys h i = i
-at_append test s (x ∷ xs) ys h i = let parts = and_parts (not (test x.op) || (x.stage == s)) (all_at test s xs) h in and_from _ _ parts.0 (at_append test s xs ys parts.1 i)
+at_append test s (x ∷ xs) ys h i = let parts = and_parts (not (test x.op) || (x.stage == s)) (all_at test s xs) h in
+    and_from _ _ parts.0 (at_append test s xs ys parts.1 i)
 
 at_ops : (test : Flat.Op → Bool) → Blind test → (s k : ℕ) (os : List Flat.Op)
     → (some_op test os ≡ true → k ≡ s) → all_at test s (seen_ops k os) ≡ true
 at_ops test f s k [] h = refl
-at_ops test f s k (op ∷ os) h = and_from _ _ (at (test op) (f op) (λ e. h (or_left (test op) (some_op test os) e)) refl) (at_ops test f s k os (λ e. h (or_right (test op) (some_op test os) e)))
+at_ops test f s k (op ∷ os) h =
+    and_from _ _ (at (test op) (f op) (λ e. h (or_left (test op) (some_op test os) e)) refl)
+    (at_ops test f s k os (λ e. h (or_right (test op) (some_op test os) e)))
   where
     at : (b : Bool) → test (answered_op op) ≡ test op → (test op ≡ true → k ≡ s) → test op ≡ b → (not (test (answered_op op)) || (k == s)) ≡ true
     at true e i j = or_right (not (test (answered_op op))) _ (eq-eqb k s (i j))
@@ -127,7 +136,8 @@ at_ops test f s k (op ∷ os) h = and_from _ _ (at (test op) (f op) (λ e. h (or
 pub at_seen : (test : Flat.Op → Bool) → Blind test → (s : ℕ) (ms : List Mem) (ts : List Site)
     → All (λ t. some_op test (ops ms t) ≡ true → t.walk.stage ≡ s) ts → all_at test s (seen ms ts) ≡ true
 at_seen test f s ms [] h = refl
-at_seen test f s ms (t ∷ ts) h = at_append test s (seen_ops t.walk.stage (ops ms t)) (seen ms ts) (at_ops test f s t.walk.stage (ops ms t) h.0) (at_seen test f s ms ts h.1)
+at_seen test f s ms (t ∷ ts) h =
+    at_append test s (seen_ops t.walk.stage (ops ms t)) (seen ms ts) (at_ops test f s t.walk.stage (ops ms t) h.0) (at_seen test f s ms ts h.1)
 
 none_ops : (test : Flat.Op → Bool) → Blind test → (k : ℕ) (os : List Flat.Op)
     → some_op test os ≡ false → none_of test (seen_ops k os) ≡ true
@@ -137,7 +147,8 @@ none_ops test f k (op ∷ os) h = let parts = or_parts (test op) (some_op test o
 pub none_seen : (test : Flat.Op → Bool) → Blind test → (ms : List Mem) (ts : List Site)
     → All (λ t. some_op test (ops ms t) ≡ false) ts → none_of test (seen ms ts) ≡ true
 none_seen test f ms [] h = refl
-none_seen test f ms (t ∷ ts) h = none_append test (seen_ops t.walk.stage (ops ms t)) (seen ms ts) (none_ops test f t.walk.stage (ops ms t) h.0) (none_seen test f ms ts h.1)
+none_seen test f ms (t ∷ ts) h =
+    none_append test (seen_ops t.walk.stage (ops ms t)) (seen ms ts) (none_ops test f t.walk.stage (ops ms t) h.0) (none_seen test f ms ts h.1)
 
 -- KINDS OF STATEMENTS
 
@@ -170,7 +181,8 @@ knows_all ms vs s f = here s f
     low : (m : List ℕ) → is_memory ms m ≡ true → (nat_lt (mem_of ms m) (length ms) && true) ≡ true
     low m h = and_from _ _ (lt-ltb _ _ (mem_low ms m h)) refl
 
-    here : (t : Stmt) → ((at : Location) → location_of t ≡ Some at → is_memory ms at.mem.name ≡ true) → ops_all (λ op. knows_memory (length ms) (answered_op op)) (ops_of ms vs t) ≡ true
+    here : (t : Stmt) → ((at : Location) → location_of t ≡ Some at → is_memory ms at.mem.name ≡ true)
+        → ops_all (λ op. knows_memory (length ms) (answered_op op)) (ops_of ms vs t) ≡ true
     here (CombRead sp x at) g = low at.mem.name (g at refl)
     here (DelayedRead sp x at) g = low at.mem.name (g at refl)
     here (Write sp at v) g = low at.mem.name (g at refl)

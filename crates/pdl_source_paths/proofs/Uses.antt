@@ -44,10 +44,20 @@ in_expr vs x (ZeroExtend a n) h = wider vs x a (ZeroExtend a n) (λ test t. t) (
 in_expr vs x (SignExtend a n) h = wider vs x a (SignExtend a n) (λ test t. t) (in_expr vs x a h)
 in_expr vs x (Choose d a b) h =
     ⊎_elim
-    (λ t. wider vs x d (Choose d a b) (λ test k. or_left (some_part (reads_some test) d) (some_part (reads_some test) a || some_part (reads_some test) b) k) (in_expr vs x d t))
+    (λ t. wider vs x d (Choose d a b)
+    (λ test k. or_left (some_part (reads_some test) d) (some_part (reads_some test) a || some_part (reads_some test) b) k)
+    (in_expr vs x d t))
     (λ u. ⊎_elim
-    (λ t. wider vs x a (Choose d a b) (λ test k. or_right (some_part (reads_some test) d) (some_part (reads_some test) a || some_part (reads_some test) b) (or_left (some_part (reads_some test) a) (some_part (reads_some test) b) k)) (in_expr vs x a t))
-    (λ t. wider vs x b (Choose d a b) (λ test k. or_right (some_part (reads_some test) d) (some_part (reads_some test) a || some_part (reads_some test) b) (or_right (some_part (reads_some test) a) (some_part (reads_some test) b) k)) (in_expr vs x b t))
+    (λ t. wider vs x a (Choose d a b)
+    (λ test k. or_right (some_part (reads_some test) d)
+    (some_part (reads_some test) a || some_part (reads_some test) b)
+    (or_left (some_part (reads_some test) a) (some_part (reads_some test) b) k))
+    (in_expr vs x a t))
+    (λ t. wider vs x b (Choose d a b)
+    (λ test k. or_right (some_part (reads_some test) d)
+    (some_part (reads_some test) a || some_part (reads_some test) b)
+    (or_right (some_part (reads_some test) a) (some_part (reads_some test) b) k))
+    (in_expr vs x b t))
     (or_cases (uses_in x (flat_expr vs a)) (uses_in x (flat_expr vs b)) u))
     (or_cases (uses_in x (flat_expr vs d)) (uses_in x (flat_expr vs a) || uses_in x (flat_expr vs b)) h)
 
@@ -64,12 +74,15 @@ in_exprs vs x (e ∷ es) h =
 
 -- so at a statement: it binds the variable, or uses its name
 abbrev pub AtStmt : List Var → ℕ → Stmt → Type 0
-AtStmt vs x s = (length vs ≡ x) ⊎ ((n : List ℕ) × (var_of vs n ≡ x) × ((test : Use → Bool) (bs : List Branch) → test (OfVariable n) ≡ true → some_use test (Statement s bs) ≡ true))
+AtStmt vs x s =
+    (length vs ≡ x)
+    ⊎ ((n : List ℕ) × (var_of vs n ≡ x) × ((test : Use → Bool) (bs : List Branch) → test (OfVariable n) ≡ true → some_use test (Statement s bs) ≡ true))
 
 at_address : (test : Use → Bool) (l : Location) (b : Bool)
     → test (OfVariable l.address.name) ≡ true
     → ((test (OfMemory l.mem.name) || test (OfVariable l.address.name)) || b) ≡ true
-at_address test l b e = or_left (test (OfMemory l.mem.name) || test (OfVariable l.address.name)) b (or_right (test (OfMemory l.mem.name)) (test (OfVariable l.address.name)) e)
+at_address test l b e =
+    or_left (test (OfMemory l.mem.name) || test (OfVariable l.address.name)) b (or_right (test (OfMemory l.mem.name)) (test (OfVariable l.address.name)) e)
 
 bound_or : (vs : List Var) (x : ℕ) (s : Stmt) (b : Bool) → ((length vs == x) || b) ≡ true → (b ≡ true → AtStmt vs x s) → AtStmt vs x s
 bound_or vs x s b h f = ⊎_elim (λ t. inl (eqb-true (length vs) x t)) f (or_cases (length vs == x) b h)
@@ -77,22 +90,30 @@ bound_or vs x s b h f = ⊎_elim (λ t. inl (eqb-true (length vs) x t)) f (or_ca
 -- a variable that a flat statement has to do with is the one that it binds, or its place uses its name
 pub mention : (ms : List Mem) (vs : List Var) (s : Stmt) (x : ℕ) → from_op (mentions_var x) (op_of ms vs s) ≡ true → AtStmt vs x s
 mention ms vs (Separator sp) x h = absurd (false≢true h)
-mention ms vs (CombRead sp y l) x h = bound_or vs x (CombRead sp y l) (var_of vs l.address.name == x) h (λ t. inr (l.address.name, eqb-true (var_of vs l.address.name) x t, λ test bs e. at_address test l false e))
-mention ms vs (Bind sp y v) x h = bound_or vs x (Bind sp y v) (uses_in x (flat_expr vs v)) h (λ t. let r = in_expr vs x v t in inr (r.0, r.1, λ test bs e. r.2 test e))
+mention ms vs (CombRead sp y l) x h =
+    bound_or vs x (CombRead sp y l)
+    (var_of vs l.address.name == x) h (λ t. inr (l.address.name, eqb-true (var_of vs l.address.name) x t, λ test bs e. at_address test l false e))
+mention ms vs (Bind sp y v) x h =
+    bound_or vs x (Bind sp y v) (uses_in x (flat_expr vs v)) h (λ t. let r = in_expr vs x v t in inr (r.0, r.1, λ test bs e. r.2 test e))
 mention ms vs (SpecCall sp g args) x h = let r = in_exprs vs x args h in inr (r.0, r.1, λ test bs e. r.2 test e)
-mention ms vs (DelayedRead sp y l) x h = bound_or vs x (DelayedRead sp y l) (var_of vs l.address.name == x) h (λ t. inr (l.address.name, eqb-true (var_of vs l.address.name) x t, λ test bs e. at_address test l false e))
+mention ms vs (DelayedRead sp y l) x h =
+    bound_or vs x (DelayedRead sp y l)
+    (var_of vs l.address.name == x) h (λ t. inr (l.address.name, eqb-true (var_of vs l.address.name) x t, λ test bs e. at_address test l false e))
 mention ms vs (Write sp l v) x h =
     ⊎_elim
     (λ t. inr (l.address.name, eqb-true (var_of vs l.address.name) x t, λ test bs e. at_address test l (some_part (reads_some test) v) e))
-    (λ t. let r = in_expr vs x v t in inr (r.0, r.1, λ test bs e. or_right (test (OfMemory l.mem.name) || test (OfVariable l.address.name)) (some_part (reads_some test) v) (r.2 test e)))
+    (λ t. let r = in_expr vs x v t in
+    inr (r.0, r.1, λ test bs e. or_right (test (OfMemory l.mem.name) || test (OfVariable l.address.name)) (some_part (reads_some test) v) (r.2 test e)))
     (or_cases (var_of vs l.address.name == x) (uses_in x (flat_expr vs v)) h)
 mention ms vs (Reserve sp l R) x h = absurd (false≢true h)
 mention ms vs (Reserve sp l W) x h = inr (l.address.name, eqb-true (var_of vs l.address.name) x h, λ test bs e. at_address test l false e)
 mention ms vs (Block sp l) x h = inr (l.address.name, eqb-true (var_of vs l.address.name) x h, λ test bs e. at_address test l false e)
 mention ms vs (Release sp l) x h = absurd (false≢true h)
 mention ms vs (If sp (Variable y) when otherwise) x h = absurd (false≢true h)
-mention ms vs (If sp c when otherwise) x h = bound_or vs x (If sp c when otherwise) (uses_in x (flat_expr vs c)) h (λ t. let r = in_expr vs x c t in inr (r.0, r.1, λ test bs e. r.2 test e))
+mention ms vs (If sp c when otherwise) x h =
+    bound_or vs x (If sp c when otherwise) (uses_in x (flat_expr vs c)) h (λ t. let r = in_expr vs x c t in inr (r.0, r.1, λ test bs e. r.2 test e))
 mention ms vs (Call sp args) x h = let r = in_exprs vs x args h in inr (r.0, r.1, λ test bs e. r.2 test e)
-mention ms vs (Verify sp g args) x h = let r = in_exprs vs x args h in inr (r.0, r.1, λ test bs e. or_right (test (OfGuess g.name)) (list_any (some_part (reads_some test)) args) (r.2 test e))
+mention ms vs (Verify sp g args) x h = let r = in_exprs vs x args h in
+    inr (r.0, r.1, λ test bs e. or_right (test (OfGuess g.name)) (list_any (some_part (reads_some test)) args) (r.2 test e))
 mention ms vs (SpecCheck sp) x h = absurd (false≢true h)
 mention ms vs (SpecBarrier sp) x h = absurd (false≢true h)

@@ -87,8 +87,10 @@ pub known : (p : Pipe) (front : List Place) (w : Flatten.Position) (x : Place) (
 known p front w x n after named e =
     named_is front w n named
     ∙ ⊎_elim
-    (λ t. ap (λ l. is_in (names l) n) after.1 ∙ in_more (front_of p) after.0 (in_more (map Parameter p.params) (map Memory p.mems) (param_in n p.params (not-false (is_parameter p n) t))))
-    (λ t. defined_in n front (not-false _ (or_parts (is_undefined front (OfVariable n)) (on_some_path (λ earlier. not (is_given earlier (OfVariable n))) p front x) t).0))
+    (λ t. ap (λ l. is_in (names l) n) after.1
+    ∙ in_more (front_of p) after.0 (in_more (map Parameter p.params) (map Memory p.mems) (param_in n p.params (not-false (is_parameter p n) t))))
+    (λ t. defined_in n front
+    (not-false _ (or_parts (is_undefined front (OfVariable n)) (on_some_path (λ earlier. not (is_given earlier (OfVariable n))) p front x) t).0))
     (and_cases (not (is_parameter p n)) _ e)
   where
     in_more : (xs ys : List Place) → is_in (names xs) n ≡ true → is_in (names (xs ++ ys)) n ≡ true
@@ -99,13 +101,15 @@ known p front w x n after named e =
 mutual
   no_memory_in : (m : List ℕ) (bs : List Branch) (s : Stmt) → list_any (defines_use (OfMemory m)) (with_inner bs s) ≡ false
   no_memory_in m bs (If sp c when otherwise) =
-      list_any-append (defines_use (OfMemory m)) (statements (bs ++ branch sp c true when ∷ []) when) (statements (bs ++ branch sp c false otherwise ∷ []) otherwise)
+      list_any-append (defines_use (OfMemory m)) (statements (bs ++ branch sp c true when ∷ []) when)
+      (statements (bs ++ branch sp c false otherwise ∷ []) otherwise)
       ∙ ap₂ (λ a b. a || b) (no_memory m (bs ++ branch sp c true when ∷ []) when) (no_memory m (bs ++ branch sp c false otherwise ∷ []) otherwise)
   no_memory_in m bs _ = refl
 
   no_memory : (m : List ℕ) (bs : List Branch) (ss : Stmts) → list_any (defines_use (OfMemory m)) (statements bs ss) ≡ false
   no_memory m bs Nil = refl
-  no_memory m bs (Cons s ss) = list_any-append (defines_use (OfMemory m)) (with_inner bs s) (statements bs ss) ∙ ap₂ (λ a b. a || b) (no_memory_in m bs s) (no_memory m bs ss)
+  no_memory m bs (Cons s ss) =
+      list_any-append (defines_use (OfMemory m)) (with_inner bs s) (statements bs ss) ∙ ap₂ (λ a b. a || b) (no_memory_in m bs s) (no_memory m bs ss)
 
 among_mems : (m : List ℕ) (ms : List Mem) → list_any (defines_use (OfMemory m)) (map Memory ms) ≡ true → is_memory ms m ≡ true
 among_mems m [] e = absurd (false≢true e)
@@ -126,7 +130,9 @@ memory_there p m e = among_mems m p.mems (only (list_any test (map Memory p.mems
     shape =
         list_any-append test (map Parameter p.params ++ map Memory p.mems ++ statements [] p.body) (closing p)
         ∙ ap (λ b. b || false) (list_any-append test (map Parameter p.params ++ map Memory p.mems) (statements [] p.body)
-        ∙ ap₂ (λ a b. a || b) (list_any-append test (map Parameter p.params) (map Memory p.mems) ∙ ap (λ b. b || list_any test (map Memory p.mems)) (no_params m p.params)) (no_memory m [] p.body))
+        ∙ ap₂ (λ a b. a || b)
+        (list_any-append test (map Parameter p.params) (map Memory p.mems) ∙ ap (λ b. b || list_any test (map Memory p.mems)) (no_params m p.params))
+        (no_memory m [] p.body))
 
     only : (b : Bool) → ((b || false) || false) ≡ true → b ≡ true
     only true t = refl
@@ -157,7 +163,10 @@ all_here p = go (sites_of p) (all_stand p) (all_at p) (all_after p)
 pub located : (p : Pipe) → KeepsRules p → (t : Site) → Here p t → (at : Location)
     → location_of t.stmt ≡ Some at → IsNamed p.mems t.walk.vars at
 located p rules t h at e = (
-  memory_there p at.mem.name (or_parts (undefined (OfMemory at.mem.name)) (undefined (OfVariable at.address.name)) (at_location undefined (or_parts (names_another_pipe p (place_of t)) (some_use undefined (place_of t)) (rules N1 t.front (place_of t) h.later h.whole)).1)).0,
+  memory_there p at.mem.name
+      (or_parts (undefined (OfMemory at.mem.name)) (undefined (OfVariable at.address.name))
+      (at_location undefined
+      (or_parts (names_another_pipe p (place_of t)) (some_use undefined (place_of t)) (rules N1 t.front (place_of t) h.later h.whole)).1)).0,
   known p t.front t.walk (place_of t) at.address.name h.after h.at.named
       (or_parts (early (OfMemory at.mem.name)) (early (OfVariable at.address.name)) (at_location early (rules N3 t.front (place_of t) h.later h.whole))).1,
 )
@@ -169,4 +178,6 @@ located p rules t h at e = (
     early = is_too_early p t.front (place_of t)
 
     at_location : (test : Use → Bool) → some_use test (place_of t) ≡ false → in_location test at ≡ false
-    at_location test f = sym (ap (is_some_and (in_location test)) e) ∙ (or_parts (is_some_and (in_location test) (location_of t.stmt)) (in_verify test t.stmt || some_expr_of (some_part (reads_some test)) t.stmt) f).0
+    at_location test f =
+        sym (ap (is_some_and (in_location test)) e)
+        ∙ (or_parts (is_some_and (in_location test) (location_of t.stmt)) (in_verify test t.stmt || some_expr_of (some_part (reads_some test)) t.stmt) f).0

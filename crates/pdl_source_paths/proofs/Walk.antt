@@ -25,28 +25,41 @@ InText front (t ∷ ts) = (t.front ≡ front) × InText (front ++ place_of t ∷
 
 in_append : (front : List Place) (xs ys : List Site) → InText front xs → InText (front ++ map place_of xs) ys → InText front (xs ++ ys)
 in_append front [] ys h k = subst (λ l. InText l ys) (append-nil front) k
-in_append front (x ∷ xs) ys h k = (h.0, in_append (front ++ place_of x ∷ []) xs ys h.1 (subst (λ l. InText l ys) (sym (append_assoc front (place_of x ∷ []) (map place_of xs))) k))
+in_append front (x ∷ xs) ys h k =
+    (h.0, in_append (front ++ place_of x ∷ []) xs ys h.1 (subst (λ l. InText l ys) (sym (append_assoc front (place_of x ∷ []) (map place_of xs))) k))
 
 mutual
-  in_text_in : (ms : List Mem) (front : List Place) (w : Flatten.Position) (gs : List Flat.Guard) (bs : List Branch) (s : Stmt) → InText front (sites_in ms front w gs bs s)
+  in_text_in : (ms : List Mem) (front : List Place) (w : Flatten.Position) (gs : List Flat.Guard) (bs : List Branch) (s : Stmt)
+      → InText front (sites_in ms front w gs bs s)
   in_text_in ms front w gs bs (If sp c when otherwise) = (
     refl,
-    in_append (front ++ Statement (If sp c when otherwise) bs ∷ []) (sites ms (front ++ Statement (If sp c when otherwise) bs ∷ []) (with_guard c w) (under gs w.vars c true) (bs ++ branch sp c true when ∷ []) when)
-        (sites ms (front ++ Statement (If sp c when otherwise) bs ∷ statements (bs ++ branch sp c true when ∷ []) when) (at_otherwise ms c when w) (under gs w.vars c false) (bs ++ branch sp c false otherwise ∷ []) otherwise)
+    in_append (front ++ Statement (If sp c when otherwise) bs ∷ [])
+        (sites ms (front ++ Statement (If sp c when otherwise) bs ∷ []) (with_guard c w) (under gs w.vars c true) (bs ++ branch sp c true when ∷ []) when)
+        (sites ms (front ++ Statement (If sp c when otherwise) bs ∷ statements (bs ++ branch sp c true when ∷ []) when)
+        (at_otherwise ms c when w) (under gs w.vars c false) (bs ++ branch sp c false otherwise ∷ []) otherwise)
         (in_text ms (front ++ Statement (If sp c when otherwise) bs ∷ []) (with_guard c w) (under gs w.vars c true) (bs ++ branch sp c true when ∷ []) when)
-        (subst (λ l. InText l (sites ms (front ++ Statement (If sp c when otherwise) bs ∷ statements (bs ++ branch sp c true when ∷ []) when) (at_otherwise ms c when w) (under gs w.vars c false) (bs ++ branch sp c false otherwise ∷ []) otherwise))
+        (subst
+        (λ l. InText l
+        (sites ms (front ++ Statement (If sp c when otherwise) bs ∷ statements (bs ++ branch sp c true when ∷ []) when)
+        (at_otherwise ms c when w) (under gs w.vars c false) (bs ++ branch sp c false otherwise ∷ []) otherwise))
         (sym (append_assoc front (Statement (If sp c when otherwise) bs ∷ []) (statements (bs ++ branch sp c true when ∷ []) when))
-        ∙ ap (λ l. (front ++ Statement (If sp c when otherwise) bs ∷ []) ++ l) (sym (places_all ms (front ++ Statement (If sp c when otherwise) bs ∷ []) (with_guard c w) (under gs w.vars c true) (bs ++ branch sp c true when ∷ []) when)))
-        (in_text ms (front ++ Statement (If sp c when otherwise) bs ∷ statements (bs ++ branch sp c true when ∷ []) when) (at_otherwise ms c when w) (under gs w.vars c false) (bs ++ branch sp c false otherwise ∷ []) otherwise)),
+        ∙ ap (λ l. (front ++ Statement (If sp c when otherwise) bs ∷ []) ++ l)
+        (sym
+        (places_all ms (front ++ Statement (If sp c when otherwise) bs ∷ []) (with_guard c w)
+        (under gs w.vars c true) (bs ++ branch sp c true when ∷ []) when)))
+        (in_text ms (front ++ Statement (If sp c when otherwise) bs ∷ statements (bs ++ branch sp c true when ∷ []) when)
+        (at_otherwise ms c when w) (under gs w.vars c false) (bs ++ branch sp c false otherwise ∷ []) otherwise)),
   )
   in_text_in ms front w gs bs s = (refl, tt)
 
-  in_text : (ms : List Mem) (front : List Place) (w : Flatten.Position) (gs : List Flat.Guard) (bs : List Branch) (ss : Stmts) → InText front (sites ms front w gs bs ss)
+  in_text : (ms : List Mem) (front : List Place) (w : Flatten.Position) (gs : List Flat.Guard) (bs : List Branch) (ss : Stmts)
+      → InText front (sites ms front w gs bs ss)
   in_text ms front w gs bs Nil = tt
   in_text ms front w gs bs (Cons s ss) =
       in_append front (sites_in ms front w gs bs s) (sites ms (front ++ with_inner bs s) (past ms s w) gs bs ss)
       (in_text_in ms front w gs bs s)
-      (subst (λ l. InText (front ++ l) (sites ms (front ++ with_inner bs s) (past ms s w) gs bs ss)) (sym (places_in ms front w gs bs s)) (in_text ms (front ++ with_inner bs s) (past ms s w) gs bs ss))
+      (subst (λ l. InText (front ++ l) (sites ms (front ++ with_inner bs s) (past ms s w) gs bs ss))
+      (sym (places_in ms front w gs bs s)) (in_text ms (front ++ with_inner bs s) (past ms s w) gs bs ss))
 
 -- the front of each site of a source is what stands before it in the text
 pub all_in_text : (p : Pipe) → InText (front_of p) (sites_of p)
@@ -64,7 +77,8 @@ pub filter_append : (f : Place → Bool) (xs ys : List Place) → filter f (xs +
 filter_append f [] ys = refl
 filter_append f (x ∷ xs) ys = at (f x) (filter_append f xs ys)
   where
-    at : (b : Bool) → filter f (xs ++ ys) ≡ filter f xs ++ filter f ys → cond b (x ∷ filter f (xs ++ ys)) (filter f (xs ++ ys)) ≡ cond b (x ∷ filter f xs) (filter f xs) ++ filter f ys
+    at : (b : Bool) → filter f (xs ++ ys) ≡ filter f xs ++ filter f ys
+        → cond b (x ∷ filter f (xs ++ ys)) (filter f (xs ++ ys)) ≡ cond b (x ∷ filter f xs) (filter f xs) ++ filter f ys
     at true e = ap (λ l. x ∷ l) e
     at false e = e
 
@@ -74,21 +88,29 @@ pub on_the_path : (c : List Guard) (front : List Place) (ts : List Site) → InT
 on_the_path c front [] h = tt
 on_the_path c front (t ∷ ts) h = at (on_path c (place_of t)) refl (on_the_path c (front ++ place_of t ∷ []) ts h.1)
   where
-    at : (b : Bool) → on_path c (place_of t) ≡ b → OnPath c (filter (on_path c) (front ++ place_of t ∷ [])) (on_sites c ts) → OnPath c (filter (on_path c) front) (if b then t ∷ on_sites c ts else on_sites c ts)
+    at : (b : Bool) → on_path c (place_of t) ≡ b
+        → OnPath c (filter (on_path c) (front ++ place_of t ∷ [])) (on_sites c ts)
+        → OnPath c (filter (on_path c) front) (if b then t ∷ on_sites c ts else on_sites c ts)
     at true e k = (
       ap (filter (on_path c)) h.0,
       e,
-      subst (λ l. OnPath c l (on_sites c ts)) (filter_append (on_path c) front (place_of t ∷ []) ∙ ap (λ b. filter (on_path c) front ++ cond b (place_of t ∷ []) []) e) k,
+      subst (λ l. OnPath c l (on_sites c ts))
+          (filter_append (on_path c) front (place_of t ∷ []) ∙ ap (λ b. filter (on_path c) front ++ cond b (place_of t ∷ []) []) e) k,
     )
     at false e k =
-        subst (λ l. OnPath c l (on_sites c ts)) (filter_append (on_path c) front (place_of t ∷ []) ∙ ap (λ b. filter (on_path c) front ++ cond b (place_of t ∷ []) []) e ∙ append-nil (filter (on_path c) front)) k
+        subst (λ l. OnPath c l (on_sites c ts))
+        (filter_append (on_path c) front (place_of t ∷ [])
+        ∙ ap (λ b. filter (on_path c) front ++ cond b (place_of t ∷ []) []) e
+        ∙ append-nil (filter (on_path c) front)) k
 
 -- the places of the sites on a path are the places on it
 path_places : (c : List Guard) (ts : List Site) → filter (on_path c) (map place_of ts) ≡ map place_of (on_sites c ts)
 path_places c [] = refl
 path_places c (t ∷ ts) = at (on_path c (place_of t)) (path_places c ts)
   where
-    at : (b : Bool) → filter (on_path c) (map place_of ts) ≡ map place_of (on_sites c ts) → cond b (place_of t ∷ filter (on_path c) (map place_of ts)) (filter (on_path c) (map place_of ts)) ≡ map place_of (if b then t ∷ on_sites c ts else on_sites c ts)
+    at : (b : Bool) → filter (on_path c) (map place_of ts) ≡ map place_of (on_sites c ts)
+        → cond b (place_of t ∷ filter (on_path c) (map place_of ts)) (filter (on_path c) (map place_of ts))
+        ≡ map place_of (if b then t ∷ on_sites c ts else on_sites c ts)
     at true e = ap (λ l. place_of t ∷ l) e
     at false e = e
 
@@ -103,7 +125,9 @@ all_on P c (t ∷ ts) h = at (on_path c (place_of t)) (all_on P c ts h.1)
 
 -- the places of a source, by its sites
 pub text_places : (p : Pipe) → places p ≡ front_of p ++ (map place_of (sites_of p) ++ closing p)
-text_places p = append_assoc (front_of p) (statements [] p.body) (closing p) ∙ ap (λ l. front_of p ++ (l ++ closing p)) (sym (places_all p.mems (front_of p) (at_start p) [] [] p.body))
+text_places p =
+    append_assoc (front_of p) (statements [] p.body) (closing p)
+    ∙ ap (λ l. front_of p ++ (l ++ closing p)) (sym (places_all p.mems (front_of p) (at_start p) [] [] p.body))
 
 -- WHAT THE RULES SAY
 
@@ -123,15 +147,19 @@ module _ (p : Pipe) (rules : KeepsRules p) (v : Guard → Bool) where
   }
 
   -- calls
-  pub calls_right : (before later : List Place) (x : Place) → places p ≡ before ++ x ∷ later → on_path c x ≡ true → is_wrong_call (filter (on_path c) before) x ≡ false
+  pub calls_right : (before later : List Place) (x : Place) → places p ≡ before ++ x ∷ later → on_path c x ≡ true
+      → is_wrong_call (filter (on_path c) before) x ≡ false
   calls_right before later x e on = unbroken_on (λ earlier. is_wrong_call earlier x) p v before x (rules S1 before x later e) on
 
   -- of each site on the path, and after the last one
-  pub each_keeps : (earlier : List Place) (ts : List Site) → OnPath c earlier ts → All (Here p) ts → Each (KeepsLocks p) (earlier ++ map place_of ts) (closing p) → Each (KeepsLocks p) earlier (map place_of ts ++ closing p)
+  pub each_keeps : (earlier : List Place) (ts : List Site) → OnPath c earlier ts → All (Here p) ts
+      → Each (KeepsLocks p) (earlier ++ map place_of ts) (closing p)
+      → Each (KeepsLocks p) earlier (map place_of ts ++ closing p)
   each_keeps earlier [] on here end = subst (λ l. Each (KeepsLocks p) l (closing p)) (append-nil earlier) end
   each_keeps earlier (t ∷ ts) on here end = (
     subst (λ l. KeepsLocks p l (place_of t)) on.0 (keeps t.front here.0.later (place_of t) here.0.whole on.1),
-    each_keeps (earlier ++ place_of t ∷ []) ts on.2 here.1 (subst (λ l. Each (KeepsLocks p) l (closing p)) (sym (append_assoc earlier (place_of t ∷ []) (map place_of ts))) end),
+    each_keeps (earlier ++ place_of t ∷ []) ts on.2 here.1
+        (subst (λ l. Each (KeepsLocks p) l (closing p)) (sym (append_assoc earlier (place_of t ∷ []) (map place_of ts))) end),
   )
 
   -- the places before the end
@@ -141,7 +169,8 @@ module _ (p : Pipe) (rules : KeepsRules p) (v : Guard → Bool) where
   pub path_text : filter (on_path c) text ≡ filter (on_path c) (front_of p) ++ map place_of (on_sites c (sites_of p))
   path_text =
       filter_append (on_path c) (front_of p) (statements [] p.body)
-      ∙ ap (λ l. filter (on_path c) (front_of p) ++ l) (ap (filter (on_path c)) (sym (places_all p.mems (front_of p) (at_start p) [] [] p.body)) ∙ path_places c (sites_of p))
+      ∙ ap (λ l. filter (on_path c) (front_of p) ++ l)
+      (ap (filter (on_path c)) (sym (places_all p.mems (front_of p) (at_start p) [] [] p.body)) ∙ path_places c (sites_of p))
 
   pub ends : Each (KeepsLocks p) (filter (on_path c) text) (closing p)
   ends = (
@@ -160,4 +189,6 @@ module _ (p : Pipe) (rules : KeepsRules p) (v : Guard → Bool) where
   along = on_sites c (sites_of p)
 
   pub keeps_all : Each (KeepsLocks p) front (map place_of along ++ closing p)
-  keeps_all = each_keeps front along (on_the_path c (front_of p) (sites_of p) (all_in_text p)) (all_on (Here p) c (sites_of p) (all_here p)) (subst (λ l. Each (KeepsLocks p) l (closing p)) path_text ends)
+  keeps_all =
+      each_keeps front along (on_the_path c (front_of p) (sites_of p) (all_in_text p))
+      (all_on (Here p) c (sites_of p) (all_here p)) (subst (λ l. Each (KeepsLocks p) l (closing p)) path_text ends)

@@ -50,7 +50,9 @@ one_byte_unsound = (refl, refl)
 abbrev without_name : Pipe
 without_name =
     pipe 2 [] (bind "g" (slice "n" 0 0) ∷ call (variable "n")
-    ∷ if_else (variable "g") (separator ∷ if_else (slice "n" 1 1) [] [] ∷ []) (bind "" (slice "n" 0 0) ∷ if_else (variable "") (bind "y" (constant 1 1) ∷ []) [] ∷ []) ∷ separator ∷ [])
+    ∷ if_else (variable "g") (separator ∷ if_else (slice "n" 1 1) [] [] ∷ [])
+    (bind "" (slice "n" 0 0) ∷ if_else (variable "") (bind "y" (constant 1 1) ∷ []) [] ∷ [])
+    ∷ separator ∷ [])
 
 without_name_kept : (first_broken (limits ++ after_limits) without_name ≡ None) × (is_source without_name ≡ true)
 without_name_kept = (refl, refl)

@@ -29,14 +29,17 @@ mutual
   long_all : (bs cs : List Branch) (ss : Stmts) → length (statements bs ss) ≡ length (statements cs ss)
   long_all bs cs Nil = refl
   long_all bs cs (Cons s ss) =
-      length-append (with_inner bs s) (statements bs ss) ∙ ap₂ (λ a b. a + b) (long_in bs cs s) (long_all bs cs ss) ∙ sym (length-append (with_inner cs s) (statements cs ss))
+      length-append (with_inner bs s) (statements bs ss) ∙ ap₂ (λ a b. a + b) (long_in bs cs s) (long_all bs cs ss)
+      ∙ sym (length-append (with_inner cs s) (statements cs ss))
 
 -- what lies after a place
 pub after_is : (p : Pipe) (before : List Place) (x : Place) (later : List Place)
     → places p ≡ before ++ x ∷ later → places_after p before ≡ later
 after_is p before x later e =
     ap (λ l. drop (suc (length before)) l) (e ∙ sym (append_assoc before (x ∷ []) later))
-    ∙ ap (λ n. drop n ((before ++ x ∷ []) ++ later)) (let f = length-append before (x ∷ []) in let g : length (x ∷ []) ≡ 1 = refl in let h : suc (length before) ≡ length (before ++ x ∷ []) = omega arith in h)
+    ∙ ap (λ n. drop n ((before ++ x ∷ []) ++ later))
+    (let f = length-append before (x ∷ []) in let g : length (x ∷ []) ≡ 1 = refl in
+    let h : suc (length before) ≡ length (before ++ x ∷ []) = omega arith in h)
     ∙ drop-append_seam (before ++ x ∷ []) later
 
 drop_front : (xs ys : List Place) (n : ℕ) → n ≡ length xs → drop n (xs ++ ys) ≡ ys
@@ -77,23 +80,31 @@ starts (Cons s ss) rest e h = absurd (false≢true h)
 
 module _ (p : Pipe) (rules : KeepsRules p) where
   -- inside a branch no `if` is a fork
-  plain_branch : (ss : Stmts) (b : Branch) (bs : List Branch) (front tail : List Place) → places p ≡ front ++ (statements (b ∷ bs) ss ++ tail) → is_plain ss ≡ true
+  plain_branch : (ss : Stmts) (b : Branch) (bs : List Branch) (front tail : List Place)
+      → places p ≡ front ++ (statements (b ∷ bs) ss ++ tail) → is_plain ss ≡ true
   plain_branch Nil b bs front tail e = refl
   plain_branch (Cons (If sp c when otherwise) ss) b bs front tail e =
       let here = e ∙ ap (λ l. front ++ l) (append_assoc (with_inner (b ∷ bs) (If sp c when otherwise)) (statements (b ∷ bs) ss) tail) in
       and_from (is_whole when otherwise) (is_plain ss)
-      (no_fork_whole sp c when otherwise (both_false (is_fork (If sp c when otherwise)) true (rules F2 front (Statement (If sp c when otherwise) (b ∷ bs)) _ here) refl))
-      (plain_branch ss b bs (front ++ with_inner (b ∷ bs) (If sp c when otherwise)) tail (here ∙ sym (append_assoc front (with_inner (b ∷ bs) (If sp c when otherwise)) (statements (b ∷ bs) ss ++ tail))))
+      (no_fork_whole sp c when otherwise
+      (both_false (is_fork (If sp c when otherwise)) true (rules F2 front (Statement (If sp c when otherwise) (b ∷ bs)) _ here) refl))
+      (plain_branch ss b bs (front ++ with_inner (b ∷ bs) (If sp c when otherwise)) tail
+      (here ∙ sym (append_assoc front (with_inner (b ∷ bs) (If sp c when otherwise)) (statements (b ∷ bs) ss ++ tail))))
   plain_branch (Cons s ss) b bs front tail e =
       plain_branch ss b bs (front ++ Statement s (b ∷ bs) ∷ []) tail (e ∙ sym (append_assoc front (Statement s (b ∷ bs) ∷ []) (statements (b ∷ bs) ss ++ tail)))
 
-  fits : (sp : Span) (c : Expr) (when otherwise ss : Stmts) (front : List Place) → places p ≡ front ++ (statements [] (Cons (If sp c when otherwise) ss) ++ closing p)
+  fits : (sp : Span) (c : Expr) (when otherwise ss : Stmts) (front : List Place)
+      → places p ≡ front ++ (statements [] (Cons (If sp c when otherwise) ss) ++ closing p)
       → (w : Bool) → is_whole when otherwise ≡ w → fork_fits w when otherwise ss ≡ true
   fits sp c when otherwise ss front e true f = refl
   fits sp c when otherwise ss front e false f =
       let fork = whole_no_fork sp c when otherwise f in
       let here = e ∙ ap (λ l. front ++ l) (append_assoc (with_inner [] (If sp c when otherwise)) (statements [] ss) (closing p)) in
-      let there = here ∙ ap (λ l. front ++ Statement (If sp c when otherwise) [] ∷ l) (append_assoc (statements (branch sp c true when ∷ []) when) (statements (branch sp c false otherwise ∷ []) otherwise) (statements [] ss ++ closing p)) in
+      let there =
+      here
+      ∙ ap (λ l. front ++ Statement (If sp c when otherwise) [] ∷ l)
+      (append_assoc (statements (branch sp c true when ∷ []) when)
+      (statements (branch sp c false otherwise ∷ []) otherwise) (statements [] ss ++ closing p)) in
       let rule = other_false (is_fork (If sp c when otherwise)) _ (rules F2 front (Statement (If sp c when otherwise) []) _ here) fork in
       let follows : starts_with_separator (drop (places_in (when ∷ otherwise ∷ [])) (places_after p front)) ≡ true = not-false _ rule in
       let long = long_all [] (branch sp c true when ∷ []) when in
@@ -101,15 +112,25 @@ module _ (p : Pipe) (rules : KeepsRules p) where
       let sum = length-append (statements (branch sp c true when ∷ []) when) (statements (branch sp c false otherwise ∷ []) otherwise) in
       let same : drop (places_in (when ∷ otherwise ∷ [])) (places_after p front) ≡ statements [] ss ++ closing p =
       ap (drop (places_in (when ∷ otherwise ∷ []))) (after_is p front (Statement (If sp c when otherwise) []) _ here)
-      ∙ drop_front (statements (branch sp c true when ∷ []) when ++ statements (branch sp c false otherwise ∷ []) otherwise) (statements [] ss ++ closing p) (places_in (when ∷ otherwise ∷ [])) (omega arith)
+      ∙ drop_front (statements (branch sp c true when ∷ []) when ++ statements (branch sp c false otherwise ∷ []) otherwise)
+      (statements [] ss ++ closing p) (places_in (when ∷ otherwise ∷ [])) (omega arith)
       in
       and_from (begins_stage ss) (is_plain when && is_plain otherwise)
       (starts ss (closing p) refl (ap starts_with_separator (sym same) ∙ follows))
       (and_from (is_plain when) (is_plain otherwise)
-      (plain_branch when (branch sp c true when) [] (front ++ Statement (If sp c when otherwise) [] ∷ []) (statements (branch sp c false otherwise ∷ []) otherwise ++ (statements [] ss ++ closing p))
-      (there ∙ sym (append_assoc front (Statement (If sp c when otherwise) [] ∷ []) (statements (branch sp c true when ∷ []) when ++ (statements (branch sp c false otherwise ∷ []) otherwise ++ (statements [] ss ++ closing p))))))
-      (plain_branch otherwise (branch sp c false otherwise) [] (front ++ Statement (If sp c when otherwise) [] ∷ statements (branch sp c true when ∷ []) when) (statements [] ss ++ closing p)
-      (there ∙ sym (append_assoc front (Statement (If sp c when otherwise) [] ∷ statements (branch sp c true when ∷ []) when) (statements (branch sp c false otherwise ∷ []) otherwise ++ (statements [] ss ++ closing p))))))
+      (plain_branch when (branch sp c true when) [] (front ++ Statement (If sp c when otherwise) [] ∷ [])
+      (statements (branch sp c false otherwise ∷ []) otherwise ++ (statements [] ss ++ closing p))
+      (there
+      ∙ sym
+      (append_assoc front (Statement (If sp c when otherwise) [] ∷ [])
+      (statements (branch sp c true when ∷ []) when ++ (statements (branch sp c false otherwise ∷ []) otherwise ++ (statements [] ss ++ closing p))))))
+      (plain_branch otherwise (branch sp c false otherwise) []
+      (front ++ Statement (If sp c when otherwise) [] ∷ statements (branch sp c true when ∷ []) when)
+      (statements [] ss ++ closing p)
+      (there
+      ∙ sym
+      (append_assoc front (Statement (If sp c when otherwise) [] ∷ statements (branch sp c true when ∷ []) when)
+      (statements (branch sp c false otherwise ∷ []) otherwise ++ (statements [] ss ++ closing p))))))
 
   forked_body : (ss : Stmts) (front : List Place) → places p ≡ front ++ (statements [] ss ++ closing p) → is_forked ss ≡ true
   forked_body Nil front e = refl
@@ -117,8 +138,10 @@ module _ (p : Pipe) (rules : KeepsRules p) where
       and_from (fork_fits (is_whole when otherwise) when otherwise ss) (is_forked ss)
       (fits sp c when otherwise ss front e (is_whole when otherwise) refl)
       (forked_body ss (front ++ with_inner [] (If sp c when otherwise))
-      (e ∙ ap (λ l. front ++ l) (append_assoc (with_inner [] (If sp c when otherwise)) (statements [] ss) (closing p)) ∙ sym (append_assoc front (with_inner [] (If sp c when otherwise)) (statements [] ss ++ closing p))))
-  forked_body (Cons s ss) front e = forked_body ss (front ++ Statement s [] ∷ []) (e ∙ sym (append_assoc front (Statement s [] ∷ []) (statements [] ss ++ closing p)))
+      (e ∙ ap (λ l. front ++ l) (append_assoc (with_inner [] (If sp c when otherwise)) (statements [] ss) (closing p))
+      ∙ sym (append_assoc front (with_inner [] (If sp c when otherwise)) (statements [] ss ++ closing p))))
+  forked_body (Cons s ss) front e =
+      forked_body ss (front ++ Statement s [] ∷ []) (e ∙ sym (append_assoc front (Statement s [] ∷ []) (statements [] ss ++ closing p)))
 
   -- F2
   pub body_forked : is_forked p.body ≡ true
@@ -130,10 +153,13 @@ module _ (p : Pipe) (rules : KeepsRules p) where
 pub proper : (ms : List Mem) (ss : Stmts) (w : Flatten.Position) → Proper (shape ms ss w)
 proper ms Nil w = tt
 proper ms (Cons (Separator sp) ss) w = proper ms ss (past ms (Separator sp) w)
-proper ms (Cons (If sp c when otherwise) (Cons (Separator sq) ss)) w = at (is_whole when otherwise) refl (proper ms ss (past ms (Separator sq) (past ms (If sp c when otherwise) w)))
+proper ms (Cons (If sp c when otherwise) (Cons (Separator sq) ss)) w =
+    at (is_whole when otherwise) refl (proper ms ss (past ms (Separator sq) (past ms (If sp c when otherwise) w)))
   where
     at : (b : Bool) → is_whole when otherwise ≡ b → Proper (shape ms ss (past ms (Separator sq) (past ms (If sp c when otherwise) w)))
-        → Proper (cond b (Cut (shape ms ss (past ms (Separator sq) (past ms (If sp c when otherwise) w)))) (Fork (guard_of w.vars c) (separators when) (separators otherwise) (shape ms ss (past ms (Separator sq) (past ms (If sp c when otherwise) w)))))
+        → Proper
+        (cond b (Cut (shape ms ss (past ms (Separator sq) (past ms (If sp c when otherwise) w))))
+        (Fork (guard_of w.vars c) (separators when) (separators otherwise) (shape ms ss (past ms (Separator sq) (past ms (If sp c when otherwise) w)))))
     at true e h = h
     at false e h = (some (separators when + separators otherwise) e, h)
       where

@@ -36,7 +36,9 @@ module _ (p : Pipe) (rules : KeepsRules p) where
   found s =
       all_found (flat p) (Homes.fetch_at p rules) s (in_stage s (flat p).stmts)
       (each_in_stage (λ y. FoundIf (flat p) (Homes.fetch_at p rules) s y.op) s (flat p).stmts
-      (each_both (λ y. (x m a : ℕ) → y.op ≡ Flat.DelayedRead x m a → (Homes.fetch_at p rules m ≡ y.stage) × (m < length (flat p).mems)) (λ y. (x m a : ℕ) → y.op ≡ Flat.DelayedRead x m a → is_exact (mem_at (flat p) m).lock ≡ true) (λ y. y.stage ≡ s → FoundIf (flat p) (Homes.fetch_at p rules) s y.op)
+      (each_both (λ y. (x m a : ℕ) → y.op ≡ Flat.DelayedRead x m a → (Homes.fetch_at p rules m ≡ y.stage) × (m < length (flat p).mems))
+      (λ y. (x m a : ℕ) → y.op ≡ Flat.DelayedRead x m a → is_exact (mem_at (flat p) m).lock ≡ true)
+      (λ y. y.stage ≡ s → FoundIf (flat p) (Homes.fetch_at p rules) s y.op)
       (λ y h k e. found_if (flat p) (Homes.fetch_at p rules) s y.op (λ x m a f. ((h x m a f).0 ∙ e, (h x m a f).1, k x m a f)))
       (flat p).stmts (Homes.fetch_here p rules) (Homes.fetch_exact p rules)))
 

@@ -38,19 +38,24 @@ pub any_param : (x : List ℕ) (ps : List Param)
 any_param x [] e = e
 any_param x (a ∷ ps) e = at (bytes_eq x a.name.name) e (any_param x ps)
   where
-    at : (b : Bool) → (b || list_any (λ (a : Param). bytes_eq x a.name.name) ps) ≡ true → (list_any (λ (a : Param). bytes_eq x a.name.name) ps ≡ true → list_any (defines_use (OfVariable x)) (map Parameter ps) ≡ true) → (b || list_any (defines_use (OfVariable x)) (map Parameter ps)) ≡ true
+    at : (b : Bool) → (b || list_any (λ (a : Param). bytes_eq x a.name.name) ps) ≡ true
+        → (list_any (λ (a : Param). bytes_eq x a.name.name) ps ≡ true → list_any (defines_use (OfVariable x)) (map Parameter ps) ≡ true)
+        → (b || list_any (defines_use (OfVariable x)) (map Parameter ps)) ≡ true
     at true f k = refl
     at false f k = k f
 
 module _ (p : Pipe) (rules : KeepsRules p) where
   all_deep : All (Deep p) (sites_of p)
-  all_deep = all_both (Fine p) (λ t. (t.walk.stage ≤ t.walk.begun) × ((m : List Place) × (t.front ≡ front_of p ++ m))) (Deep p) (λ t h k. (h, k.0, k.1)) (sites_of p) (all_fine p rules) (ForkVars.all_low p)
+  all_deep =
+      all_both (Fine p) (λ t. (t.walk.stage ≤ t.walk.begun) × ((m : List Place) × (t.front ≡ front_of p ++ m))) (Deep p)
+      (λ t h k. (h, k.0, k.1)) (sites_of p) (all_fine p rules) (ForkVars.all_low p)
 
   -- the `if` of a fork
   fork_if : (s x a b : ℕ) → (stage_at (flat p) s).next ≡ Flat.Forks x a b → (u : Site) × ForkSite s x u × Deep p u
   fork_if s x a b e =
       pick (ForkSite s x) (Deep p) (sites_of p)
-      (fork_sites (flat p) p.mems 0 None (front_of p) (at_start p) p.body refl refl (body_forked p rules) (body_groups p (body_forked p rules)) s x (let z : 0 ≤ s = omega arith in z) (ap fork_var e))
+      (fork_sites (flat p) p.mems 0 None (front_of p) (at_start p) p.body refl refl (body_forked p rules)
+      (body_groups p (body_forked p rules)) s x (let z : 0 ≤ s = omega arith in z) (ap fork_var e))
       all_deep
 
   -- the place of that `if`
@@ -64,16 +69,25 @@ module _ (p : Pipe) (rules : KeepsRules p) where
       ∙ or_left _ _ (list_any-append (defines_use (OfVariable v)) (map Parameter p.params) (map Memory p.mems) ∙ or_left _ _ (any_param v p.params e))
 
   -- N3 at a fork on a plain variable
-  fork_rule : (s x : ℕ) (u : Site) → (f : ForkSite s x u) → Deep p u → (v : Ident) → f.condition ≡ Variable v → is_too_early p u.front (Statement (If f.span f.condition f.when f.otherwise) []) (OfVariable v.name) ≡ false
+  fork_rule : (s x : ℕ) (u : Site) → (f : ForkSite s x u) → Deep p u → (v : Ident) → f.condition ≡ Variable v
+      → is_too_early p u.front (Statement (If f.span f.condition f.when f.otherwise) []) (OfVariable v.name) ≡ false
   fork_rule s x u f d v e =
-      let rule = rules N3 u.front (Statement (If f.span (Variable v) f.when f.otherwise) []) d.0.later (d.0.whole ∙ ap (λ y. u.front ++ y ∷ d.0.later) (if_place s x u f ∙ ap (λ c. Statement (If f.span c f.when f.otherwise) []) e)) in
+      let rule =
+      rules N3 u.front (Statement (If f.span (Variable v) f.when f.otherwise) []) d.0.later
+      (d.0.whole ∙ ap (λ y. u.front ++ y ∷ d.0.later) (if_place s x u f ∙ ap (λ c. Statement (If f.span c f.when f.otherwise) []) e)) in
       ap (λ c. is_too_early p u.front (Statement (If f.span c f.when f.otherwise) []) (OfVariable v.name)) e ∙ rule
 
   -- so it is defined before
-  fork_defined : (s x : ℕ) (u : Site) → (f : ForkSite s x u) → Deep p u → (v : Ident) → f.condition ≡ Variable v → list_any (defines_use (OfVariable v.name)) u.front ≡ true
+  fork_defined : (s x : ℕ) (u : Site) → (f : ForkSite s x u) → Deep p u → (v : Ident) → f.condition ≡ Variable v
+      → list_any (defines_use (OfVariable v.name)) u.front ≡ true
   fork_defined s x u f d v e = at (is_parameter p v.name) refl (fork_rule s x u f d v e)
     where
-      at : (b : Bool) → is_parameter p v.name ≡ b → (not b && (is_undefined u.front (OfVariable v.name) || on_some_path (λ earlier. not (is_given earlier (OfVariable v.name))) p u.front (Statement (If f.span f.condition f.when f.otherwise) []))) ≡ false → list_any (defines_use (OfVariable v.name)) u.front ≡ true
+      at : (b : Bool) → is_parameter p v.name ≡ b
+          → (not b
+          && (is_undefined u.front (OfVariable v.name)
+          || on_some_path (λ earlier. not (is_given earlier (OfVariable v.name))) p u.front (Statement (If f.span f.condition f.when f.otherwise) [])))
+          ≡ false
+          → list_any (defines_use (OfVariable v.name)) u.front ≡ true
       at true g h = parameter_before u d v.name g
       at false g h = not-false _ (or_parts (is_undefined u.front (OfVariable v.name)) _ h).0
 
@@ -84,17 +98,22 @@ module _ (p : Pipe) (rules : KeepsRules p) where
   fork_low : (s x : ℕ) (u : Site) → ForkSite s x u → Deep p u → x < length (names u.front) + length (names_at (place_of u))
   fork_low s x u f d = at f.condition refl
     where
-      own : (c : Expr) → f.condition ≡ c → guard_of u.walk.vars c ≡ length u.walk.vars → length (names_by (If f.span c f.when f.otherwise)) ≡ 1 → x < length (names u.front) + length (names_at (place_of u))
+      own : (c : Expr) → f.condition ≡ c → guard_of u.walk.vars c ≡ length u.walk.vars
+          → length (names_by (If f.span c f.when f.otherwise)) ≡ 1
+          → x < length (names u.front) + length (names_at (place_of u))
       own c e g h =
           let a : x ≡ length u.walk.vars = sym f.var ∙ ap (guard_of u.walk.vars) e ∙ g in
-          let b : length (names_at (place_of u)) ≡ 1 = ap (λ y. length (names_at y)) (if_place s x u f ∙ ap (λ z. Statement (If f.span z f.when f.otherwise) []) e) ∙ h in
+          let b : length (names_at (place_of u)) ≡ 1 =
+          ap (λ y. length (names_at y)) (if_place s x u f ∙ ap (λ z. Statement (If f.span z f.when f.otherwise) []) e) ∙ h in
           let l = long_front u d in
           omega arith
 
       at : (c : Expr) → f.condition ≡ c → x < length (names u.front) + length (names_at (place_of u))
       at (Variable v) e =
           let a : x ≡ var_of u.walk.vars v.name = sym f.var ∙ ap (guard_of u.walk.vars) e in
-          let b = ForkVars.named_low u.walk.vars v.name (ap (list_any (bytes_eq v.name)) d.0.here.named ∙ ForkVars.defined_named v.name u.front (fork_defined s x u f d v e)) in
+          let b =
+          ForkVars.named_low u.walk.vars v.name
+          (ap (list_any (bytes_eq v.name)) d.0.here.named ∙ ForkVars.defined_named v.name u.front (fork_defined s x u f d v e)) in
           let l = long_front u d in
           omega arith
       at (Constant l) e = own (Constant l) e refl refl
@@ -126,7 +145,11 @@ module _ (p : Pipe) (rules : KeepsRules p) where
       let r = fork_if s x a b e in
       let low = fork_low s x r.0 r.1 r.2 in
       let split = names_split r.0.front (place_of r.0) r.2.0.later in
-      let all = sym (ForkVars.told_long (past_all p.mems p.body (at_start p)).vars) ∙ ap length (told_past_all p.mems [] p.body (at_start p) ∙ ap (λ l. l ++ names (statements [] p.body)) (at_front p).named ∙ sym (names_append (front_of p) (statements [] p.body))) in
+      let all =
+      sym (ForkVars.told_long (past_all p.mems p.body (at_start p)).vars)
+      ∙ ap length
+      (told_past_all p.mems [] p.body (at_start p) ∙ ap (λ l. l ++ names (statements [] p.body)) (at_front p).named
+      ∙ sym (names_append (front_of p) (statements [] p.body))) in
       let whole = ap (λ l. length (names l)) r.2.0.whole in
       let more = ap length (names_append (front_of p ++ statements [] p.body) (closing p)) in
       let sum = length-append (names (front_of p ++ statements [] p.body)) (names (closing p)) in
@@ -181,7 +204,8 @@ module _ (p : Pipe) (rules : KeepsRules p) where
   fork_bound s x a b e = ForkVars.none_from (binds_var x) (suc s) (flat p).stmts (bound_by s x a b e)
 
   -- a delayed read before the fork that binds its variable has a separator after it
-  fetched_before : (s x : ℕ) (u t : Site) → (f : ForkSite s x u) → Deep p u → Deep p t → (sp : Span) (y : Ident) (l : Location) → t.stmt ≡ DelayedRead sp y l → length t.walk.vars ≡ x
+  fetched_before : (s x : ℕ) (u t : Site) → (f : ForkSite s x u) → Deep p u → Deep p t
+      → (sp : Span) (y : Ident) (l : Location) → t.stmt ≡ DelayedRead sp y l → length t.walk.vars ≡ x
       → (m : List Place) → u.front ≡ t.front ++ place_of t ∷ m → list_any is_separator m ≡ true
   fetched_before s x u t f d h sp y l e n m g = at f.condition refl
     where
@@ -218,20 +242,38 @@ module _ (p : Pipe) (rules : KeepsRules p) where
       after : list_any (defines_use (OfVariable y.name)) m ≡ false
       after =
           ForkVars.once_after p rules y.name (t.front ++ place_of t ∷ []) m (place_of u ∷ d.0.later)
-          (d.0.whole ∙ ap (λ z. z ++ place_of u ∷ d.0.later) g ∙ append_assoc t.front (place_of t ∷ m) (place_of u ∷ d.0.later) ∙ sym (append_assoc t.front (place_of t ∷ []) (m ++ place_of u ∷ d.0.later)))
-          (list_any-append (λ z. is_some_and (bytes_eq y.name) (name_at z)) t.front (place_of t ∷ []) ∙ or_right _ _ (or_left (is_some_and (bytes_eq y.name) (name_at (place_of t))) false (ap (λ z. is_some_and (bytes_eq y.name) (name_at z)) read ∙ bytes_refl y.name)))
+          (d.0.whole ∙ ap (λ z. z ++ place_of u ∷ d.0.later) g
+          ∙ append_assoc t.front (place_of t ∷ m) (place_of u ∷ d.0.later)
+          ∙ sym (append_assoc t.front (place_of t ∷ []) (m ++ place_of u ∷ d.0.later)))
+          (list_any-append (λ z. is_some_and (bytes_eq y.name) (name_at z)) t.front (place_of t ∷ [])
+          ∙ or_right _ _
+          (or_left (is_some_and (bytes_eq y.name) (name_at (place_of t))) false
+          (ap (λ z. is_some_and (bytes_eq y.name) (name_at z)) read ∙ bytes_refl y.name)))
 
       named : (v : Ident) → f.condition ≡ Variable v → list_any is_separator m ≡ true
       named v i = turn (is_parameter p v.name) refl (fork_rule s x u f d v i)
         where
-          given : on_some_path (λ earlier. not (is_given earlier (OfVariable v.name))) p u.front (Statement (If f.span f.condition f.when f.otherwise) []) ≡ false → is_given (filter (on_path []) u.front) (OfVariable v.name) ≡ true
-          given k = not-false _ (ForkVars.empty_path (λ path. on_path path (Statement (If f.span f.condition f.when f.otherwise) []) && not (is_given (filter (on_path path) u.front) (OfVariable v.name))) (Places.guards (places p)) k)
+          given : on_some_path (λ earlier. not (is_given earlier (OfVariable v.name))) p u.front (Statement (If f.span f.condition f.when f.otherwise) [])
+              ≡ false
+              → is_given (filter (on_path []) u.front) (OfVariable v.name) ≡ true
+          given k =
+              not-false _
+              (ForkVars.empty_path
+              (λ path. on_path path (Statement (If f.span f.condition f.when f.otherwise) [])
+              && not (is_given (filter (on_path path) u.front) (OfVariable v.name)))
+              (Places.guards (places p)) k)
 
-          turn : (b : Bool) → is_parameter p v.name ≡ b → (not b && (is_undefined u.front (OfVariable v.name) || on_some_path (λ earlier. not (is_given earlier (OfVariable v.name))) p u.front (Statement (If f.span f.condition f.when f.otherwise) []))) ≡ false → list_any is_separator m ≡ true
+          turn : (b : Bool) → is_parameter p v.name ≡ b
+              → (not b
+              && (is_undefined u.front (OfVariable v.name)
+              || on_some_path (λ earlier. not (is_given earlier (OfVariable v.name))) p u.front (Statement (If f.span f.condition f.when f.otherwise) [])))
+              ≡ false
+              → list_any is_separator m ≡ true
           turn true j k = absurd (false≢true (sym none ∙ ap (λ z. list_any (defines_use (OfVariable z)) t.front) (same v i) ∙ parameter_before t h v.name j))
           turn false j k =
               ForkVars.given_after (OfVariable y.name) (on_path []) t.front (place_of t) m (ap is_delayed read) none after
-              (ap₂ (λ z o. is_given (filter (on_path []) z) (OfVariable o)) (sym g) (same v i) ∙ given (or_parts (is_undefined u.front (OfVariable v.name)) _ k).1)
+              (ap₂ (λ z o. is_given (filter (on_path []) z) (OfVariable o)) (sym g) (same v i)
+              ∙ given (or_parts (is_undefined u.front (OfVariable v.name)) _ k).1)
 
       at : (c : Expr) → f.condition ≡ c → list_any is_separator m ≡ true
       at (Variable v) i = named v i
@@ -246,7 +288,8 @@ module _ (p : Pipe) (rules : KeepsRules p) where
       at (Choose q r z) i = own (Choose q r z) i refl
 
   -- no delayed read of a fork's stage binds the fork's variable
-  fetched_not : (s x : ℕ) (u t : Site) → ForkSite s x u → Deep p u → Deep p t → (sp : Span) (y : Ident) (l : Location) → t.stmt ≡ DelayedRead sp y l → length t.walk.vars ≡ x → t.walk.stage ≡ s → Order t u → ⊥
+  fetched_not : (s x : ℕ) (u t : Site) → ForkSite s x u → Deep p u → Deep p t → (sp : Span) (y : Ident) (l : Location)
+      → t.stmt ≡ DelayedRead sp y l → length t.walk.vars ≡ x → t.walk.stage ≡ s → Order t u → ⊥
   fetched_not s x u t f d h sp y l e n i (Before m g) =
       let c = ap cut g in
       let k = cut_split t.front (place_of t) m in
@@ -267,11 +310,16 @@ module _ (p : Pipe) (rules : KeepsRules p) where
   pub fork_seen : (s x a b : ℕ) → (stage_at (flat p) s).next ≡ Flat.Forks x a b → none_of (is_fetch_of x) (in_stage s (flat p).stmts) ≡ true
   fork_seen s x a b e =
       none_each (is_fetch_of x) (in_stage s (flat p).stmts)
-      (each_in_stage (λ y. is_fetch_of x y.op ≡ false) s (flat p).stmts (each_stmt p (λ y. y.stage ≡ s → is_fetch_of x y.op ≡ false) (each_of (sites_of p) all_deep)))
+      (each_in_stage (λ y. is_fetch_of x y.op ≡ false) s (flat p).stmts
+      (each_stmt p (λ y. y.stage ≡ s → is_fetch_of x y.op ≡ false) (each_of (sites_of p) all_deep)))
     where
-      by : (t : Site) → Deep p t → t.walk.stage ≡ s → (z : Stmt) → t.stmt ≡ z → (b' : Bool) → from_op (is_fetch_of x) (op_of p.mems t.walk.vars z) ≡ b' → b' ≡ false
+      by : (t : Site) → Deep p t → t.walk.stage ≡ s → (z : Stmt) → t.stmt ≡ z → (b' : Bool)
+          → from_op (is_fetch_of x) (op_of p.mems t.walk.vars z) ≡ b' → b' ≡ false
       by t h i z k false f = refl
-      by t h i (DelayedRead sp y l) k true f = absurd (fetched_not s x (fork_if s x a b e).0 t (fork_if s x a b e).1 (fork_if s x a b e).2 h sp y l k (eqb-true (length t.walk.vars) x f) i (order p t (fork_if s x a b e).0 h.0 (fork_if s x a b e).2.0))
+      by t h i (DelayedRead sp y l) k true f =
+          absurd
+          (fetched_not s x (fork_if s x a b e).0 t (fork_if s x a b e).1 (fork_if s x a b e).2 h sp y l k
+          (eqb-true (length t.walk.vars) x f) i (order p t (fork_if s x a b e).0 h.0 (fork_if s x a b e).2.0))
       by t h i (Reserve sp l R) k true f = absurd (false≢true f)
       by t h i (Reserve sp l W) k true f = absurd (false≢true f)
       by t h i (If sp (Variable v) when otherwise) k true f = absurd (false≢true f)
@@ -280,4 +328,7 @@ module _ (p : Pipe) (rules : KeepsRules p) where
 
       each_of : (ts : List Site) → All (Deep p) ts → All (AtSite (λ y. y.stage ≡ s → is_fetch_of x y.op ≡ false) p.mems) ts
       each_of [] h = tt
-      each_of (t ∷ ts) h = ((λ op f i. sym (ap (from_op (is_fetch_of x)) f) ∙ by t h.0 i t.stmt refl (from_op (is_fetch_of x) (op_of p.mems t.walk.vars t.stmt)) refl), each_of ts h.1)
+      each_of (t ∷ ts) h = (
+        (λ op f i. sym (ap (from_op (is_fetch_of x)) f) ∙ by t h.0 i t.stmt refl (from_op (is_fetch_of x) (op_of p.mems t.walk.vars t.stmt)) refl),
+        each_of ts h.1,
+      )

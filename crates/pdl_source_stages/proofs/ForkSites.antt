@@ -70,38 +70,59 @@ fork_sites p ms k merges front w Nil e i h g s x low f = at (cases_lt k s)
     at (inl l) = none_one x (ap (λ (y : Flat.Stage). fork_var y.next) (sym (past_trunk p s (let z = g.1 in omega arith))) ∙ f)
     at (inr l) = none_one x (ap (λ (y : Flat.Stage). fork_var y.next) (sym g.0) ∙ ap (λ n. fork_var (stage_at p n).next) (let z : k ≡ s = omega arith in z) ∙ f)
 fork_sites p ms k merges front w (Cons (Separator sp) ss) e i h g s x low f =
-    inr (at (cases_lt k s) (λ l. fork_sites p ms (suc k) None (front ++ Statement (Separator sp) [] ∷ []) (past ms (Separator sp) w) ss refl (ap suc i) h g.1 s x l f))
+    inr
+    (at (cases_lt k s)
+    (λ l. fork_sites p ms (suc k) None (front ++ Statement (Separator sp) [] ∷ []) (past ms (Separator sp) w) ss refl (ap suc i) h g.1 s x l f))
   where
-    at : (k < s) ⊎ (s ≤ k) → (suc k ≤ s → Some_site (ForkSite s x) (sites ms (front ++ Statement (Separator sp) [] ∷ []) (past ms (Separator sp) w) [] [] ss)) → Some_site (ForkSite s x) (sites ms (front ++ Statement (Separator sp) [] ∷ []) (past ms (Separator sp) w) [] [] ss)
+    at : (k < s) ⊎ (s ≤ k)
+        → (suc k ≤ s → Some_site (ForkSite s x) (sites ms (front ++ Statement (Separator sp) [] ∷ []) (past ms (Separator sp) w) [] [] ss))
+        → Some_site (ForkSite s x) (sites ms (front ++ Statement (Separator sp) [] ∷ []) (past ms (Separator sp) w) [] [] ss)
     at (inl l) more = more (omega arith)
-    at (inr l) more = absurd (none_one x (ap (λ (y : Flat.Stage). fork_var y.next) (sym g.0) ∙ ap (λ n. fork_var (stage_at p n).next) (let z : k ≡ s = omega arith in z) ∙ f))
+    at (inr l) more =
+        absurd (none_one x (ap (λ (y : Flat.Stage). fork_var y.next) (sym g.0) ∙ ap (λ n. fork_var (stage_at p n).next) (let z : k ≡ s = omega arith in z) ∙ f))
 fork_sites p ms k merges front w (Cons (If sp c when otherwise) (Cons (Separator sq) ss)) e i h g s x low f =
     at (is_whole when otherwise) refl g
-    (λ j merge begun shapes l. fork_sites p ms j merge ((front ++ with_inner [] (If sp c when otherwise)) ++ Statement (Separator sq) [] ∷ []) (past ms (Separator sq) (past ms (If sp c when otherwise) w)) ss refl begun (and_parts (fork_fits (is_whole when otherwise) when otherwise (Cons (Separator sq) ss)) (is_forked ss) h).1 shapes s x l f)
+    (λ j merge begun shapes l. fork_sites p ms j merge ((front ++ with_inner [] (If sp c when otherwise)) ++ Statement (Separator sq) [] ∷ [])
+    (past ms (Separator sq) (past ms (If sp c when otherwise) w)) ss refl begun
+    (and_parts (fork_fits (is_whole when otherwise) when otherwise (Cons (Separator sq) ss)) (is_forked ss) h).1 shapes s x l f)
   where
     begun : (past ms (If sp c when otherwise) w).begun ≡ w.begun + (separators when + separators otherwise)
     begun = past_begun ms (If sp c when otherwise) w
 
-    after : Some_site (ForkSite s x) (sites ms ((front ++ with_inner [] (If sp c when otherwise)) ++ Statement (Separator sq) [] ∷ []) (past ms (Separator sq) (past ms (If sp c when otherwise) w)) [] [] ss) → Some_site (ForkSite s x) (sites ms front w [] [] (Cons (If sp c when otherwise) (Cons (Separator sq) ss)))
+    after : Some_site (ForkSite s x)
+        (sites ms ((front ++ with_inner [] (If sp c when otherwise)) ++ Statement (Separator sq) [] ∷ [])
+        (past ms (Separator sq) (past ms (If sp c when otherwise) w)) [] [] ss)
+        → Some_site (ForkSite s x) (sites ms front w [] [] (Cons (If sp c when otherwise) (Cons (Separator sq) ss)))
     after r = some_right (ForkSite s x) (sites_in ms front w [] [] (If sp c when otherwise)) _ (inr r)
 
     at : (b : Bool) → is_whole when otherwise ≡ b → Groups p k merges (either_shape ms sp c when otherwise sq ss w b)
-        → ((j : ℕ) (merge : Option ℕ) → suc (past ms (If sp c when otherwise) w).begun ≡ j → Groups p j merge (rest_shape ms sp c when otherwise sq ss w) → j ≤ s → Some_site (ForkSite s x) (sites ms ((front ++ with_inner [] (If sp c when otherwise)) ++ Statement (Separator sq) [] ∷ []) (past ms (Separator sq) (past ms (If sp c when otherwise) w)) [] [] ss))
+        → ((j : ℕ) (merge : Option ℕ) → suc (past ms (If sp c when otherwise) w).begun ≡ j
+        → Groups p j merge (rest_shape ms sp c when otherwise sq ss w) → j ≤ s
+        → Some_site (ForkSite s x)
+        (sites ms ((front ++ with_inner [] (If sp c when otherwise)) ++ Statement (Separator sq) [] ∷ [])
+        (past ms (Separator sq) (past ms (If sp c when otherwise) w)) [] [] ss))
         → Some_site (ForkSite s x) (sites ms front w [] [] (Cons (If sp c when otherwise) (Cons (Separator sq) ss)))
     at true whole g more = turn (cases_lt k s)
       where
         turn : (k < s) ⊎ (s ≤ k) → Some_site (ForkSite s x) (sites ms front w [] [] (Cons (If sp c when otherwise) (Cons (Separator sq) ss)))
         turn (inl l) = after (more (suc k) None (let none = none_of_whole when otherwise whole in let z = begun in omega arith) g.1 (omega arith))
-        turn (inr l) = absurd (none_one x (ap (λ (y : Flat.Stage). fork_var y.next) (sym g.0) ∙ ap (λ n. fork_var (stage_at p n).next) (let z : k ≡ s = omega arith in z) ∙ f))
+        turn (inr l) =
+            absurd
+            (none_one x (ap (λ (y : Flat.Stage). fork_var y.next) (sym g.0) ∙ ap (λ n. fork_var (stage_at p n).next) (let z : k ≡ s = omega arith in z) ∙ f))
     at false some g more = turn (cases_lt k s)
       where
         fork : Forked p k (guard_of w.vars c) (separators when) (separators otherwise)
         fork = group_fork p k merges (guard_of w.vars c) (separators when) (separators otherwise) (rest_shape ms sp c when otherwise sq ss w) g
 
-        later : k < s → (s < merge_at k (separators when) (separators otherwise)) ⊎ (merge_at k (separators when) (separators otherwise) ≤ s) → Some_site (ForkSite s x) (sites ms front w [] [] (Cons (If sp c when otherwise) (Cons (Separator sq) ss)))
+        later : k < s
+            → (s < merge_at k (separators when) (separators otherwise)) ⊎ (merge_at k (separators when) (separators otherwise) ≤ s)
+            → Some_site (ForkSite s x) (sites ms front w [] [] (Cons (If sp c when otherwise) (Cons (Separator sq) ss)))
         later l (inl m) =
             let r = between_in p k (guard_of w.vars c) (separators when) (separators otherwise) s fork l m in
-            absurd (none_one x (sym (leads_none _ _ r.2) ∙ ap (λ (y : Flat.Stage). fork_var y.next) (sym (fork.chain r.0 r.1 r.2 r.3)) ∙ ap (λ n. fork_var (stage_at p n).next) (sym r.4) ∙ f))
+            absurd
+            (none_one x
+            (sym (leads_none _ _ r.2) ∙ ap (λ (y : Flat.Stage). fork_var y.next) (sym (fork.chain r.0 r.1 r.2 r.3))
+            ∙ ap (λ n. fork_var (stage_at p n).next) (sym r.4) ∙ f))
         later l (inr m) = after (more (merge_at k (separators when) (separators otherwise)) (Some k) (let z = begun in omega arith) g.4 m)
 
         turn : (k < s) ⊎ (s ≤ k) → Some_site (ForkSite s x) (sites ms front w [] [] (Cons (If sp c when otherwise) (Cons (Separator sq) ss)))
@@ -124,7 +145,8 @@ fork_sites p ms k merges front w (Cons (If sp c when otherwise) ss) e i h g s x 
     let none = none_of_whole when otherwise (fitting when otherwise ss refl (is_whole when otherwise) parts.0) in
     let z = past_begun ms (If sp c when otherwise) w in
     some_right (ForkSite s x) (sites_in ms front w [] [] (If sp c when otherwise)) _
-    (fork_sites p ms k merges (front ++ with_inner [] (If sp c when otherwise)) (past ms (If sp c when otherwise) w) ss (omega arith) (omega arith) parts.1 g s x low f)
+    (fork_sites p ms k merges (front ++ with_inner [] (If sp c when otherwise))
+    (past ms (If sp c when otherwise) w) ss (omega arith) (omega arith) parts.1 g s x low f)
 fork_sites p ms k merges front w (Cons t ss) e i h g s x low f = inr (fork_sites p ms k merges (front ++ with_inner [] t) (past ms t w) ss e i h g s x low f)
 
 -- ORDER IN THE TEXT
@@ -174,7 +196,8 @@ order p t u h k = at (cases_lt (length t.front) (length u.front)) (cases_lt (len
     whole : t.front ++ place_of t ∷ h.later ≡ u.front ++ place_of u ∷ k.later
     whole = sym h.whole ∙ k.whole
 
-    at : (length t.front < length u.front) ⊎ (length u.front ≤ length t.front) → (length u.front < length t.front) ⊎ (length t.front ≤ length u.front) → Order t u
+    at : (length t.front < length u.front) ⊎ (length u.front ≤ length t.front)
+        → (length u.front < length t.front) ⊎ (length t.front ≤ length u.front) → Order t u
     at (inl l) m = let r = before_is t.front u.front h.later k.later (place_of t) (place_of u) whole l in Before r.0 r.1
     at (inr l) (inl m) = let r = before_is u.front t.front k.later h.later (place_of u) (place_of t) (sym whole) m in After r.0 r.1
     at (inr l) (inr m) = let r = same_is t.front u.front h.later k.later (place_of t) (place_of u) whole (omega arith) in Same r.0 r.1

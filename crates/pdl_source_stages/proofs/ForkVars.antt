@@ -26,21 +26,31 @@ use Rattle.pdl_word.specs.Each.{Each}
 
 low_past : (ms : List Mem) (s : Stmt) (w : Flatten.Position) → w.stage ≤ w.begun → (past ms s w).stage ≤ (past ms s w).begun
 low_past ms (Separator sp) w h = omega arith
-low_past ms (If sp c when otherwise) w h = let b = past_begun ms (If sp c when otherwise) w in let e : (past ms (If sp c when otherwise) w).stage ≡ w.stage = refl in omega arith
+low_past ms (If sp c when otherwise) w h = let b = past_begun ms (If sp c when otherwise) w in
+    let e : (past ms (If sp c when otherwise) w).stage ≡ w.stage = refl in omega arith
 low_past ms _ w h = h
 
 -- a site's stage has begun, and it stands after the parameters and memories
 pub all_low : (p : Pipe) → All (λ t. (t.walk.stage ≤ t.walk.begun) × ((m : List Place) × (t.front ≡ front_of p ++ m))) (sites_of p)
 all_low p =
     holds_all p.mems (λ front w gs bs. (w.stage ≤ w.begun) × ((m : List Place) × (front ≡ front_of p ++ m)))
-    (λ front w gs bs s h. (low_past p.mems s w h.0, (h.1.0 ++ with_inner bs s, ap (λ l. l ++ with_inner bs s) h.1.1 ∙ append_assoc (front_of p) h.1.0 (with_inner bs s))))
+    (λ front w gs bs s h.
+    (low_past p.mems s w h.0, (h.1.0 ++ with_inner bs s, ap (λ l. l ++ with_inner bs s) h.1.1 ∙ append_assoc (front_of p) h.1.0 (with_inner bs s))))
     (λ front w gs bs sp c when otherwise h. (
       (let b = guard_begun c w in let s = guard_stage c w in let l = h.0 in omega arith),
-      (h.1.0 ++ Statement (If sp c when otherwise) bs ∷ [], ap (λ l. l ++ Statement (If sp c when otherwise) bs ∷ []) h.1.1 ∙ append_assoc (front_of p) h.1.0 (Statement (If sp c when otherwise) bs ∷ [])),
+      (
+        h.1.0 ++ Statement (If sp c when otherwise) bs ∷ [],
+        ap (λ l. l ++ Statement (If sp c when otherwise) bs ∷ []) h.1.1 ∙ append_assoc (front_of p) h.1.0 (Statement (If sp c when otherwise) bs ∷ []),
+      ),
     ))
     (λ front w gs bs sp c when otherwise h. (
-      (let b = guard_begun c w in let d = past_all_begun p.mems when (with_guard c w) in let l = h.0 in let e : (at_otherwise p.mems c when w).stage ≡ w.stage = refl in omega arith),
-      (h.1.0 ++ Statement (If sp c when otherwise) bs ∷ statements (bs ++ branch sp c true when ∷ []) when, ap (λ l. l ++ Statement (If sp c when otherwise) bs ∷ statements (bs ++ branch sp c true when ∷ []) when) h.1.1 ∙ append_assoc (front_of p) h.1.0 (Statement (If sp c when otherwise) bs ∷ statements (bs ++ branch sp c true when ∷ []) when)),
+      (let b = guard_begun c w in let d = past_all_begun p.mems when (with_guard c w) in let l = h.0 in
+          let e : (at_otherwise p.mems c when w).stage ≡ w.stage = refl in omega arith),
+      (
+        h.1.0 ++ Statement (If sp c when otherwise) bs ∷ statements (bs ++ branch sp c true when ∷ []) when,
+        ap (λ l. l ++ Statement (If sp c when otherwise) bs ∷ statements (bs ++ branch sp c true when ∷ []) when) h.1.1
+            ∙ append_assoc (front_of p) h.1.0 (Statement (If sp c when otherwise) bs ∷ statements (bs ++ branch sp c true when ∷ []) when),
+      ),
     ))
     (front_of p) (at_start p) [] [] p.body ((let z : 0 ≤ 0 = omega arith in z), ([], sym (append-nil (front_of p))))
 
@@ -55,7 +65,9 @@ pub named_low : (vs : List Var) (x : List ℕ) → list_any (bytes_eq x) (told v
 named_low [] x e = absurd (false≢true e)
 named_low (v ∷ vs) x e = at (bytes_eq v.name x) refl (ap (λ b. b || list_any (bytes_eq x) (told vs)) (bytes_swap v.name x) ∙ e) (named_low vs x)
   where
-    at : (b : Bool) → bytes_eq v.name x ≡ b → (bytes_eq v.name x || list_any (bytes_eq x) (told vs)) ≡ true → (list_any (bytes_eq x) (told vs) ≡ true → var_of vs x < length vs) → (if b then 0 else suc (var_of vs x)) < suc (length vs)
+    at : (b : Bool) → bytes_eq v.name x ≡ b → (bytes_eq v.name x || list_any (bytes_eq x) (told vs)) ≡ true
+        → (list_any (bytes_eq x) (told vs) ≡ true → var_of vs x < length vs)
+        → (if b then 0 else suc (var_of vs x)) < suc (length vs)
     at true f g k = omega arith
     at false f g k = let l = k (ap (λ b. b || list_any (bytes_eq x) (told vs)) (sym f) ∙ g) in omega arith
 
@@ -79,7 +91,8 @@ named_at (v ∷ vs) x n (z ∷ xs) ys e f = at (bytes_eq v.name x) refl f (named
     tail [] = []
     tail (a ∷ l) = l
 
-    at : (b : Bool) → bytes_eq v.name x ≡ b → (if b then 0 else suc (var_of vs x)) ≡ suc (length xs) → (var_of vs x ≡ length xs → bytes_eq n x ≡ true) → bytes_eq n x ≡ true
+    at : (b : Bool) → bytes_eq v.name x ≡ b → (if b then 0 else suc (var_of vs x)) ≡ suc (length xs)
+        → (var_of vs x ≡ length xs → bytes_eq n x ≡ true) → bytes_eq n x ≡ true
     at true g h k = absurd (let z : 0 ≡ suc (length xs) = h in omega arith)
     at false g h k = k (let z : suc (var_of vs x) ≡ suc (length xs) = h in let y : var_of vs x ≡ length xs = omega arith in y)
 
@@ -99,7 +112,9 @@ defined_named x (d ∷ ds) e = list_any-append (bytes_eq x) (names_at d) (names 
     here (End s) f = absurd (false≢true f)
     here (StartClause s) f = absurd (false≢true f)
 
-    at : (b : Bool) → defines_use (OfVariable x) d ≡ b → (b || list_any (defines_use (OfVariable x)) ds) ≡ true → (list_any (defines_use (OfVariable x)) ds ≡ true → list_any (bytes_eq x) (names ds) ≡ true) → (list_any (bytes_eq x) (names_at d) || list_any (bytes_eq x) (names ds)) ≡ true
+    at : (b : Bool) → defines_use (OfVariable x) d ≡ b → (b || list_any (defines_use (OfVariable x)) ds) ≡ true
+        → (list_any (defines_use (OfVariable x)) ds ≡ true → list_any (bytes_eq x) (names ds) ≡ true)
+        → (list_any (bytes_eq x) (names_at d) || list_any (bytes_eq x) (names ds)) ≡ true
     at true f g k = or_left (list_any (bytes_eq x) (names_at d)) _ (here d f)
     at false f g k = or_right (list_any (bytes_eq x) (names_at d)) _ (k g)
 
@@ -154,7 +169,10 @@ pub given_after : (u : Use) (test : Place → Bool) (xs : List Place) (d : Place
 given_after u test [] d m e f g h = at (test d) h
   where
     at : (b : Bool) → is_given (cond b (d ∷ filter test m) (filter test m)) u ≡ true → list_any is_separator m ≡ true
-    at true k = some_filtered is_separator test m (by (defines_use u d) (list_any is_separator (filter test m)) (ap₂ (λ c i. (defines_use u d && (not c || list_any is_separator (filter test m))) || i) (sym e) (sym (none_given u test m g)) ∙ k))
+    at true k =
+        some_filtered is_separator test m
+        (by (defines_use u d) (list_any is_separator (filter test m))
+        (ap₂ (λ c i. (defines_use u d && (not c || list_any is_separator (filter test m))) || i) (sym e) (sym (none_given u test m g)) ∙ k))
       where
         by : (a b : Bool) → ((a && (false || b)) || false) ≡ true → b ≡ true
         by true true i = refl
@@ -166,8 +184,12 @@ given_after u test (x ∷ xs) d m e f g h = at (test x) h (given_after u test xs
     parts : (defines_use u x ≡ false) × (list_any (defines_use u) xs ≡ false)
     parts = or_parts (defines_use u x) (list_any (defines_use u) xs) f
 
-    at : (b : Bool) → is_given (cond b (x ∷ filter test (xs ++ d ∷ m)) (filter test (xs ++ d ∷ m))) u ≡ true → (is_given (filter test (xs ++ d ∷ m)) u ≡ true → list_any is_separator m ≡ true) → list_any is_separator m ≡ true
-    at true k more = more (sym (ap (λ c. (c && (not (is_delayed x) || list_any is_separator (filter test (xs ++ d ∷ m)))) || is_given (filter test (xs ++ d ∷ m)) u) parts.0) ∙ k)
+    at : (b : Bool) → is_given (cond b (x ∷ filter test (xs ++ d ∷ m)) (filter test (xs ++ d ∷ m))) u ≡ true
+        → (is_given (filter test (xs ++ d ∷ m)) u ≡ true → list_any is_separator m ≡ true)
+        → list_any is_separator m ≡ true
+    at true k more =
+        more
+        (sym (ap (λ c. (c && (not (is_delayed x) || list_any is_separator (filter test (xs ++ d ∷ m)))) || is_given (filter test (xs ++ d ∷ m)) u) parts.0) ∙ k)
     at false k more = more k
 
 pub some_cut : (xs : List Place) → list_any is_separator xs ≡ true → 0 < cut xs
@@ -191,28 +213,36 @@ variable_name x (StartClause s) e = absurd (false≢true e)
 
 -- N2: once a place has a name, no place after it defines it, nor does one before
 module _ (p : Pipe) (rules : KeepsRules p) (x : List ℕ) where
-  pub once_before : (before : List Place) (d : Place) (later : List Place) → places p ≡ before ++ d ∷ later → name_at d ≡ Some x → list_any (λ y. is_some_and (bytes_eq x) (name_at y)) before ≡ false
+  pub once_before : (before : List Place) (d : Place) (later : List Place) → places p ≡ before ++ d ∷ later
+      → name_at d ≡ Some x → list_any (λ y. is_some_and (bytes_eq x) (name_at y)) before ≡ false
   once_before before d later e f =
-      (or_parts (bytes_eq x p.name.name) (list_any (λ y. is_some_and (bytes_eq x) (name_at y)) before) (ap (is_some_and (is_taken_name p before)) (sym f) ∙ rules N2 before d later e)).1
+      (or_parts (bytes_eq x p.name.name) (list_any (λ y. is_some_and (bytes_eq x) (name_at y)) before)
+      (ap (is_some_and (is_taken_name p before)) (sym f) ∙ rules N2 before d later e)).1
 
-  pub once_after : (before m later : List Place) → places p ≡ before ++ (m ++ later) → list_any (λ y. is_some_and (bytes_eq x) (name_at y)) before ≡ true → list_any (defines_use (OfVariable x)) m ≡ false
+  pub once_after : (before m later : List Place) → places p ≡ before ++ (m ++ later)
+      → list_any (λ y. is_some_and (bytes_eq x) (name_at y)) before ≡ true
+      → list_any (defines_use (OfVariable x)) m ≡ false
   once_after before [] later e f = refl
   once_after before (d ∷ m) later e f =
       at (defines_use (OfVariable x) d) refl
-      (once_after (before ++ d ∷ []) m later (e ∙ sym (append_assoc before (d ∷ []) (m ++ later))) (list_any-append (λ y. is_some_and (bytes_eq x) (name_at y)) before (d ∷ []) ∙ or_left _ _ f))
+      (once_after (before ++ d ∷ []) m later (e ∙ sym (append_assoc before (d ∷ []) (m ++ later)))
+      (list_any-append (λ y. is_some_and (bytes_eq x) (name_at y)) before (d ∷ []) ∙ or_left _ _ f))
     where
-      at : (b : Bool) → defines_use (OfVariable x) d ≡ b → list_any (defines_use (OfVariable x)) m ≡ false → (b || list_any (defines_use (OfVariable x)) m) ≡ false
+      at : (b : Bool) → defines_use (OfVariable x) d ≡ b → list_any (defines_use (OfVariable x)) m ≡ false
+          → (b || list_any (defines_use (OfVariable x)) m) ≡ false
       at true g k = absurd (false≢true (sym (once_before before d (m ++ later) e (variable_name x d g)) ∙ f))
       at false g k = k
 
   -- what defines has the name
-  pub no_name : (ds : List Place) → list_any (λ y. is_some_and (bytes_eq x) (name_at y)) ds ≡ false → (text : bytes_eq x x ≡ true) → list_any (defines_use (OfVariable x)) ds ≡ false
+  pub no_name : (ds : List Place) → list_any (λ y. is_some_and (bytes_eq x) (name_at y)) ds ≡ false
+      → (text : bytes_eq x x ≡ true) → list_any (defines_use (OfVariable x)) ds ≡ false
   no_name [] e t = refl
   no_name (d ∷ ds) e t = at (defines_use (OfVariable x) d) refl (no_name ds parts.1 t)
     where
       parts : (is_some_and (bytes_eq x) (name_at d) ≡ false) × (list_any (λ y. is_some_and (bytes_eq x) (name_at y)) ds ≡ false)
       parts = or_parts (is_some_and (bytes_eq x) (name_at d)) _ e
 
-      at : (b : Bool) → defines_use (OfVariable x) d ≡ b → list_any (defines_use (OfVariable x)) ds ≡ false → (b || list_any (defines_use (OfVariable x)) ds) ≡ false
+      at : (b : Bool) → defines_use (OfVariable x) d ≡ b → list_any (defines_use (OfVariable x)) ds ≡ false
+          → (b || list_any (defines_use (OfVariable x)) ds) ≡ false
       at true g k = absurd (false≢true (sym parts.0 ∙ ap (is_some_and (bytes_eq x)) (variable_name x d g) ∙ t))
       at false g k = k

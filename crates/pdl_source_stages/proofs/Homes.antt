@@ -95,13 +95,17 @@ release_elsewhere p n rules t h f = at t.stmt refl f
 
 -- a kind of statement at a memory, each in the stage of the first
 each_memory : (p : Pipe) (op_test : ℕ → Flat.Op → Bool) (test : List ℕ → Place → Bool)
-    → ((t : Site) → Fine p t → (m : ℕ) (op : Flat.Op) → op_of p.mems t.walk.vars t.stmt ≡ Some op → op_test m op ≡ true → (n : List ℕ) × (is_known p.mems n ≡ true) × (mem_of p.mems n ≡ m) × (test n (place_of t) ≡ true))
-    → ((n : List ℕ) → is_known p.mems n ≡ true → All (λ t. test n (place_of t) ≡ true → Some t.walk.stage ≡ Flatten.first_stage (op_test (mem_of p.mems n)) (flat p).stmts) (sites_of p))
+    → ((t : Site) → Fine p t → (m : ℕ) (op : Flat.Op) → op_of p.mems t.walk.vars t.stmt ≡ Some op → op_test m op ≡ true
+    → (n : List ℕ) × (is_known p.mems n ≡ true) × (mem_of p.mems n ≡ m) × (test n (place_of t) ≡ true))
+    → ((n : List ℕ) → is_known p.mems n ≡ true
+    → All (λ t. test n (place_of t) ≡ true → Some t.walk.stage ≡ Flatten.first_stage (op_test (mem_of p.mems n)) (flat p).stmts) (sites_of p))
     → KeepsRules p
     → Each (λ y. (m : ℕ) → op_test m y.op ≡ true → (m < length p.mems) × (Some y.stage ≡ Flatten.first_stage (op_test m) (flat p).stmts)) (flat p).stmts
 each_memory p op_test test named same rules =
     each_stmt p (λ y. (m : ℕ) → op_test m y.op ≡ true → (m < length p.mems) × (Some y.stage ≡ Flatten.first_stage (op_test m) (flat p).stmts))
-    (all_both (Fine p) (λ t. (n : List ℕ) → is_known p.mems n ≡ true → test n (place_of t) ≡ true → Some t.walk.stage ≡ Flatten.first_stage (op_test (mem_of p.mems n)) (flat p).stmts)
+    (all_both (Fine p)
+    (λ t. (n : List ℕ) → is_known p.mems n ≡ true → test n (place_of t) ≡ true
+    → Some t.walk.stage ≡ Flatten.first_stage (op_test (mem_of p.mems n)) (flat p).stmts)
     (AtSite (λ y. (m : ℕ) → op_test m y.op ≡ true → (m < length p.mems) × (Some y.stage ≡ Flatten.first_stage (op_test m) (flat p).stmts)) p.mems)
     (λ t h k op e m f.
     let r = named t h m op e f in (
@@ -109,14 +113,21 @@ each_memory p op_test test named same rules =
       subst (λ i. Some t.walk.stage ≡ Flatten.first_stage (op_test i) (flat p).stmts) r.2 (k r.0 r.1 r.3),
     ))
     (sites_of p) (all_fine p rules)
-    (all_swap (λ n t. is_known p.mems n ≡ true → test n (place_of t) ≡ true → Some t.walk.stage ≡ Flatten.first_stage (op_test (mem_of p.mems n)) (flat p).stmts) (sites_of p) (λ n. push n)))
+    (all_swap
+    (λ n t. is_known p.mems n ≡ true → test n (place_of t) ≡ true → Some t.walk.stage ≡ Flatten.first_stage (op_test (mem_of p.mems n)) (flat p).stmts)
+    (sites_of p) (λ n. push n)))
   where
-    push_all : (n : List ℕ) (ts : List Site) → (is_known p.mems n ≡ true → All (λ t. test n (place_of t) ≡ true → Some t.walk.stage ≡ Flatten.first_stage (op_test (mem_of p.mems n)) (flat p).stmts) ts)
-        → All (λ t. is_known p.mems n ≡ true → test n (place_of t) ≡ true → Some t.walk.stage ≡ Flatten.first_stage (op_test (mem_of p.mems n)) (flat p).stmts) ts
+    push_all : (n : List ℕ) (ts : List Site)
+        → (is_known p.mems n ≡ true
+        → All (λ t. test n (place_of t) ≡ true → Some t.walk.stage ≡ Flatten.first_stage (op_test (mem_of p.mems n)) (flat p).stmts) ts)
+        → All
+        (λ t. is_known p.mems n ≡ true → test n (place_of t) ≡ true → Some t.walk.stage ≡ Flatten.first_stage (op_test (mem_of p.mems n)) (flat p).stmts) ts
     push_all n [] h = tt
     push_all n (t ∷ ts) h = ((λ k. (h k).0), push_all n ts (λ k. (h k).1))
 
-    push : (n : List ℕ) → All (λ t. is_known p.mems n ≡ true → test n (place_of t) ≡ true → Some t.walk.stage ≡ Flatten.first_stage (op_test (mem_of p.mems n)) (flat p).stmts) (sites_of p)
+    push : (n : List ℕ)
+        → All (λ t. is_known p.mems n ≡ true → test n (place_of t) ≡ true → Some t.walk.stage ≡ Flatten.first_stage (op_test (mem_of p.mems n)) (flat p).stmts)
+        (sites_of p)
     push n = push_all n (sites_of p) (same n)
 
 -- a delayed read of a memory
@@ -125,20 +136,26 @@ is_fetch_of m (Flat.DelayedRead x n a) = n == m
 is_fetch_of m _ = false
 
 module _ (p : Pipe) (rules : KeepsRules p) where
-  reserve_named : (t : Site) → Fine p t → (m : ℕ) (op : Flat.Op) → op_of p.mems t.walk.vars t.stmt ≡ Some op → is_reserve m op ≡ true → (n : List ℕ) × (is_known p.mems n ≡ true) × (mem_of p.mems n ≡ m) × (reserves_memory n (place_of t) ≡ true)
+  reserve_named : (t : Site) → Fine p t → (m : ℕ) (op : Flat.Op) → op_of p.mems t.walk.vars t.stmt ≡ Some op
+      → is_reserve m op ≡ true
+      → (n : List ℕ) × (is_known p.mems n ≡ true) × (mem_of p.mems n ≡ m) × (reserves_memory n (place_of t) ≡ true)
   reserve_named t h m op e f = at t.stmt refl (ap (from_op (is_reserve m)) e ∙ f)
     where
-      at : (s : Stmt) → t.stmt ≡ s → from_op (is_reserve m) (op_of p.mems t.walk.vars s) ≡ true → (n : List ℕ) × (is_known p.mems n ≡ true) × (mem_of p.mems n ≡ m) × (reserves_memory n (Statement s t.branches) ≡ true)
+      at : (s : Stmt) → t.stmt ≡ s → from_op (is_reserve m) (op_of p.mems t.walk.vars s) ≡ true
+          → (n : List ℕ) × (is_known p.mems n ≡ true) × (mem_of p.mems n ≡ m) × (reserves_memory n (Statement s t.branches) ≡ true)
       at (Reserve sp l R) i g = (l.mem.name, located p rules t h l (ap location_of i), eqb-true (mem_of p.mems l.mem.name) m g, bytes_refl l.mem.name)
       at (Reserve sp l W) i g = (l.mem.name, located p rules t h l (ap location_of i), eqb-true (mem_of p.mems l.mem.name) m g, bytes_refl l.mem.name)
       at (If sp (Variable x) when otherwise) i g = absurd (false≢true g)
       at (If sp c when otherwise) i g = absurd (false≢true g)
       at s i g = absurd (false≢true g)
 
-  release_named : (t : Site) → Fine p t → (m : ℕ) (op : Flat.Op) → op_of p.mems t.walk.vars t.stmt ≡ Some op → is_release m op ≡ true → (n : List ℕ) × (is_known p.mems n ≡ true) × (mem_of p.mems n ≡ m) × (releases_memory n (place_of t) ≡ true)
+  release_named : (t : Site) → Fine p t → (m : ℕ) (op : Flat.Op) → op_of p.mems t.walk.vars t.stmt ≡ Some op
+      → is_release m op ≡ true
+      → (n : List ℕ) × (is_known p.mems n ≡ true) × (mem_of p.mems n ≡ m) × (releases_memory n (place_of t) ≡ true)
   release_named t h m op e f = at t.stmt refl (ap (from_op (is_release m)) e ∙ f)
     where
-      at : (s : Stmt) → t.stmt ≡ s → from_op (is_release m) (op_of p.mems t.walk.vars s) ≡ true → (n : List ℕ) × (is_known p.mems n ≡ true) × (mem_of p.mems n ≡ m) × (releases_memory n (Statement s t.branches) ≡ true)
+      at : (s : Stmt) → t.stmt ≡ s → from_op (is_release m) (op_of p.mems t.walk.vars s) ≡ true
+          → (n : List ℕ) × (is_known p.mems n ≡ true) × (mem_of p.mems n ≡ m) × (releases_memory n (Statement s t.branches) ≡ true)
       at (Release sp l) i g = (l.mem.name, located p rules t h l (ap location_of i), eqb-true (mem_of p.mems l.mem.name) m g, bytes_refl l.mem.name)
       at (Reserve sp l R) i g = absurd (false≢true g)
       at (Reserve sp l W) i g = absurd (false≢true g)
@@ -147,31 +164,41 @@ module _ (p : Pipe) (rules : KeepsRules p) where
       at s i g = absurd (false≢true g)
 
   -- L2
-  each_reserve : Each (λ y. (m : ℕ) → is_reserve m y.op ≡ true → (m < length p.mems) × (Some y.stage ≡ Flatten.first_stage (is_reserve m) (flat p).stmts)) (flat p).stmts
+  each_reserve : Each (λ y. (m : ℕ) → is_reserve m y.op ≡ true → (m < length p.mems) × (Some y.stage ≡ Flatten.first_stage (is_reserve m) (flat p).stmts))
+      (flat p).stmts
   each_reserve =
       each_memory p is_reserve reserves_memory reserve_named
-      (λ n k. one_stage p rules (is_reserve (mem_of p.mems n)) (reserves_memory n) (λ a. refl) (λ m. refl) (reserve_alike p n k rules) (reserve_elsewhere p n rules)) rules
+      (λ n k. one_stage p rules (is_reserve (mem_of p.mems n)) (reserves_memory n) (λ a. refl) (λ m. refl)
+      (reserve_alike p n k rules) (reserve_elsewhere p n rules)) rules
 
-  each_release : Each (λ y. (m : ℕ) → is_release m y.op ≡ true → (m < length p.mems) × (Some y.stage ≡ Flatten.first_stage (is_release m) (flat p).stmts)) (flat p).stmts
+  each_release : Each (λ y. (m : ℕ) → is_release m y.op ≡ true → (m < length p.mems) × (Some y.stage ≡ Flatten.first_stage (is_release m) (flat p).stmts))
+      (flat p).stmts
   each_release =
       each_memory p is_release releases_memory release_named
-      (λ n k. one_stage p rules (is_release (mem_of p.mems n)) (releases_memory n) (λ a. refl) (λ m. refl) (release_alike p n k rules) (release_elsewhere p n rules)) rules
+      (λ n k. one_stage p rules (is_release (mem_of p.mems n)) (releases_memory n) (λ a. refl) (λ m. refl)
+      (release_alike p n k rules) (release_elsewhere p n rules)) rules
 
   -- the stage of the first is the memory's
-  stage_or : (test : ℕ → Flat.Op → Bool) (d m s : ℕ) → m < length p.mems → Some s ≡ Flatten.first_stage (test m) (flat p).stmts → s ≡ unwrap_or (slice_index_or (first_stages test (flat p).stmts 0 p.mems) m None) d
+  stage_or : (test : ℕ → Flat.Op → Bool) (d m s : ℕ) → m < length p.mems
+      → Some s ≡ Flatten.first_stage (test m) (flat p).stmts
+      → s ≡ unwrap_or (slice_index_or (first_stages test (flat p).stmts 0 p.mems) m None) d
   stage_or test d m s l e =
-      ap (λ o. unwrap_or o d) (e ∙ ap (λ i. Flatten.first_stage (test i) (flat p).stmts) (let z : m ≡ 0 + m = omega arith in z) ∙ sym (first_index test (flat p).stmts 0 m p.mems l))
+      ap (λ o. unwrap_or o d)
+      (e ∙ ap (λ i. Flatten.first_stage (test i) (flat p).stmts) (let z : m ≡ 0 + m = omega arith in z)
+      ∙ sym (first_index test (flat p).stmts 0 m p.mems l))
 
   pub reserves_in : (m : ℕ) → all_at (is_reserve m) (reserve_stage (flat p) m) (flat p).stmts ≡ true
   reserves_in m =
       all_at_each (is_reserve m) (reserve_stage (flat p) m) (flat p).stmts
-      (each_weaker (λ y. (i : ℕ) → is_reserve i y.op ≡ true → (i < length p.mems) × (Some y.stage ≡ Flatten.first_stage (is_reserve i) (flat p).stmts)) (λ y. is_reserve m y.op ≡ true → y.stage ≡ reserve_stage (flat p) m)
+      (each_weaker (λ y. (i : ℕ) → is_reserve i y.op ≡ true → (i < length p.mems) × (Some y.stage ≡ Flatten.first_stage (is_reserve i) (flat p).stmts))
+      (λ y. is_reserve m y.op ≡ true → y.stage ≡ reserve_stage (flat p) m)
       (λ y h e. let r = h m e in stage_or is_reserve 0 m y.stage r.0 r.1) (flat p).stmts each_reserve)
 
   pub releases_in : (m : ℕ) → all_at (is_release m) (commit_stage (flat p) m) (flat p).stmts ≡ true
   releases_in m =
       all_at_each (is_release m) (commit_stage (flat p) m) (flat p).stmts
-      (each_weaker (λ y. (i : ℕ) → is_release i y.op ≡ true → (i < length p.mems) × (Some y.stage ≡ Flatten.first_stage (is_release i) (flat p).stmts)) (λ y. is_release m y.op ≡ true → y.stage ≡ commit_stage (flat p) m)
+      (each_weaker (λ y. (i : ℕ) → is_release i y.op ≡ true → (i < length p.mems) × (Some y.stage ≡ Flatten.first_stage (is_release i) (flat p).stmts))
+      (λ y. is_release m y.op ≡ true → y.stage ≡ commit_stage (flat p) m)
       (λ y h e. let r = h m e in stage_or is_release (length (flat p).stages) m y.stage r.0 r.1) (flat p).stmts each_release)
 
   mems_long : (ms : List Mem) → length (mems_of ms) ≡ length ms
@@ -182,9 +209,12 @@ module _ (p : Pipe) (rules : KeepsRules p) where
   pub unreserved : (m : ℕ) → length (flat p).mems ≤ m → none_of (is_reserve m) (flat p).stmts ≡ true
   unreserved m l =
       none_each (is_reserve m) (flat p).stmts
-      (each_weaker (λ y. (i : ℕ) → is_reserve i y.op ≡ true → (i < length p.mems) × (Some y.stage ≡ Flatten.first_stage (is_reserve i) (flat p).stmts)) (λ y. is_reserve m y.op ≡ false) at (flat p).stmts each_reserve)
+      (each_weaker (λ y. (i : ℕ) → is_reserve i y.op ≡ true → (i < length p.mems) × (Some y.stage ≡ Flatten.first_stage (is_reserve i) (flat p).stmts))
+      (λ y. is_reserve m y.op ≡ false) at (flat p).stmts each_reserve)
     where
-      at : (y : Flat.Stmt) → ((i : ℕ) → is_reserve i y.op ≡ true → (i < length p.mems) × (Some y.stage ≡ Flatten.first_stage (is_reserve i) (flat p).stmts)) → is_reserve m y.op ≡ false
+      at : (y : Flat.Stmt)
+          → ((i : ℕ) → is_reserve i y.op ≡ true → (i < length p.mems) × (Some y.stage ≡ Flatten.first_stage (is_reserve i) (flat p).stmts))
+          → is_reserve m y.op ≡ false
       at y h = by (is_reserve m y.op) refl
         where
           by : (b : Bool) → is_reserve m y.op ≡ b → b ≡ false
@@ -195,7 +225,8 @@ module _ (p : Pipe) (rules : KeepsRules p) where
   unreleased m l =
       let z = mems_long p.mems in
       let k : length (mems_of p.mems) ≤ m = l in
-      let e : commit_stage (flat p) m ≡ length (flat p).stages = ap (λ o. unwrap_or o (length (flat p).stages)) (first_past is_release (flat p).stmts 0 m p.mems (omega arith)) in
+      let e : commit_stage (flat p) m ≡ length (flat p).stages =
+      ap (λ o. unwrap_or o (length (flat p).stages)) (first_past is_release (flat p).stmts 0 m p.mems (omega arith)) in
       omega arith
 
   -- S3
@@ -212,7 +243,8 @@ module _ (p : Pipe) (rules : KeepsRules p) where
   verify_elsewhere : (t : Site) → Fine p t → Speculation.is_verify (place_of t) ≡ true → is_elsewhere Speculation.is_verify t.front t.walk.stage ≡ false
   verify_elsewhere t h e =
       ap (is_elsewhere Speculation.is_verify t.front) (sym h.staged)
-      ∙ other (Speculation.is_verify (place_of t)) (is_elsewhere Speculation.is_verify t.front (stage_in t.front t.branches)) e (rules S3 t.front (place_of t) h.later h.whole)
+      ∙ other (Speculation.is_verify (place_of t))
+      (is_elsewhere Speculation.is_verify t.front (stage_in t.front t.branches)) e (rules S3 t.front (place_of t) h.later h.whole)
     where
       other : (a b : Bool) → a ≡ true → (a && b) ≡ false → b ≡ false
       other true b f g = g
@@ -221,7 +253,9 @@ module _ (p : Pipe) (rules : KeepsRules p) where
   each_verify : Each (λ y. is_verify y.op ≡ true → Some y.stage ≡ Flatten.first_stage is_verify (flat p).stmts) (flat p).stmts
   each_verify =
       each_stmt p (λ y. is_verify y.op ≡ true → Some y.stage ≡ Flatten.first_stage is_verify (flat p).stmts)
-      (all_both (Fine p) (λ t. Speculation.is_verify (place_of t) ≡ true → Some t.walk.stage ≡ Flatten.first_stage is_verify (flat p).stmts) (AtSite (λ y. is_verify y.op ≡ true → Some y.stage ≡ Flatten.first_stage is_verify (flat p).stmts) p.mems)
+      (all_both (Fine p)
+      (λ t. Speculation.is_verify (place_of t) ≡ true → Some t.walk.stage ≡ Flatten.first_stage is_verify (flat p).stmts)
+      (AtSite (λ y. is_verify y.op ≡ true → Some y.stage ≡ Flatten.first_stage is_verify (flat p).stmts) p.mems)
       (λ t h k op e f. k (sym (verify_alike t h) ∙ ap (from_op is_verify) e ∙ f))
       (sites_of p) (all_fine p rules)
       (one_stage p rules is_verify Speculation.is_verify (λ a. refl) (λ m. refl) verify_alike verify_elsewhere))
@@ -246,7 +280,8 @@ module _ (p : Pipe) (rules : KeepsRules p) where
       at (If sp c when otherwise) e = refl
       at s e = refl
 
-  fetch_elsewhere : (n : List ℕ) (t : Site) → Fine p t → breaks_fetch_order n (place_of t) ≡ true → is_elsewhere (breaks_fetch_order n) t.front t.walk.stage ≡ false
+  fetch_elsewhere : (n : List ℕ) (t : Site) → Fine p t → breaks_fetch_order n (place_of t) ≡ true
+      → is_elsewhere (breaks_fetch_order n) t.front t.walk.stage ≡ false
   fetch_elsewhere n t h f = at t.stmt refl f
     where
       at : (s : Stmt) → t.stmt ≡ s → breaks_fetch_order n (Statement s t.branches) ≡ true → is_elsewhere (breaks_fetch_order n) t.front t.walk.stage ≡ false
@@ -257,10 +292,13 @@ module _ (p : Pipe) (rules : KeepsRules p) where
           (rules F3 t.front (Statement (DelayedRead sp x l) t.branches) h.later (h.whole ∙ ap (λ s. t.front ++ Statement s t.branches ∷ h.later) e))).1)
       at s e g = absurd (false≢true g)
 
-  pub fetch_named : (t : Site) → Fine p t → (m : ℕ) (op : Flat.Op) → op_of p.mems t.walk.vars t.stmt ≡ Some op → is_fetch_of m op ≡ true → (n : List ℕ) × (is_known p.mems n ≡ true) × (mem_of p.mems n ≡ m) × (breaks_fetch_order n (place_of t) ≡ true)
+  pub fetch_named : (t : Site) → Fine p t → (m : ℕ) (op : Flat.Op) → op_of p.mems t.walk.vars t.stmt ≡ Some op
+      → is_fetch_of m op ≡ true
+      → (n : List ℕ) × (is_known p.mems n ≡ true) × (mem_of p.mems n ≡ m) × (breaks_fetch_order n (place_of t) ≡ true)
   fetch_named t h m op e f = at t.stmt refl (ap (from_op (is_fetch_of m)) e ∙ f)
     where
-      at : (s : Stmt) → t.stmt ≡ s → from_op (is_fetch_of m) (op_of p.mems t.walk.vars s) ≡ true → (n : List ℕ) × (is_known p.mems n ≡ true) × (mem_of p.mems n ≡ m) × (breaks_fetch_order n (Statement s t.branches) ≡ true)
+      at : (s : Stmt) → t.stmt ≡ s → from_op (is_fetch_of m) (op_of p.mems t.walk.vars s) ≡ true
+          → (n : List ℕ) × (is_known p.mems n ≡ true) × (mem_of p.mems n ≡ m) × (breaks_fetch_order n (Statement s t.branches) ≡ true)
       at (DelayedRead sp x l) i g = (l.mem.name, located p rules t h l (ap location_of i), eqb-true (mem_of p.mems l.mem.name) m g, bytes_refl l.mem.name)
       at (Reserve sp l R) i g = absurd (false≢true g)
       at (Reserve sp l W) i g = absurd (false≢true g)
@@ -268,7 +306,8 @@ module _ (p : Pipe) (rules : KeepsRules p) where
       at (If sp c when otherwise) i g = absurd (false≢true g)
       at s i g = absurd (false≢true g)
 
-  each_fetch : Each (λ y. (m : ℕ) → is_fetch_of m y.op ≡ true → (m < length p.mems) × (Some y.stage ≡ Flatten.first_stage (is_fetch_of m) (flat p).stmts)) (flat p).stmts
+  each_fetch : Each (λ y. (m : ℕ) → is_fetch_of m y.op ≡ true → (m < length p.mems) × (Some y.stage ≡ Flatten.first_stage (is_fetch_of m) (flat p).stmts))
+      (flat p).stmts
   each_fetch =
       each_memory p is_fetch_of breaks_fetch_order fetch_named
       (λ n k. one_stage p rules (is_fetch_of (mem_of p.mems n)) (breaks_fetch_order n) (λ a. refl) (λ m. refl) (fetch_alike n k) (fetch_elsewhere n)) rules
@@ -279,7 +318,8 @@ module _ (p : Pipe) (rules : KeepsRules p) where
 
   pub fetch_here : Each (λ y. (x m a : ℕ) → y.op ≡ Flat.DelayedRead x m a → (fetch_at m ≡ y.stage) × (m < length (flat p).mems)) (flat p).stmts
   fetch_here =
-      each_weaker (λ y. (m : ℕ) → is_fetch_of m y.op ≡ true → (m < length p.mems) × (Some y.stage ≡ Flatten.first_stage (is_fetch_of m) (flat p).stmts)) (λ y. (x m a : ℕ) → y.op ≡ Flat.DelayedRead x m a → (fetch_at m ≡ y.stage) × (m < length (flat p).mems))
+      each_weaker (λ y. (m : ℕ) → is_fetch_of m y.op ≡ true → (m < length p.mems) × (Some y.stage ≡ Flatten.first_stage (is_fetch_of m) (flat p).stmts))
+      (λ y. (x m a : ℕ) → y.op ≡ Flat.DelayedRead x m a → (fetch_at m ≡ y.stage) × (m < length (flat p).mems))
       (λ y h x m a e.
       let r = h m (ap (is_fetch_of m) e ∙ eq-eqb m m refl) in
       (ap (λ o. unwrap_or o 0) (sym r.1), subst (λ n. m < n) (sym (mems_long p.mems)) r.0))
@@ -287,7 +327,9 @@ module _ (p : Pipe) (rules : KeepsRules p) where
 
   -- F3: none in the last stage
   each_last : Each (λ y. is_fetch y.op ≡ true → suc y.stage ≡ length (flat p).stages → ⊥) (flat p).stmts
-  each_last = each_fine p rules (λ y. is_fetch y.op ≡ true → suc y.stage ≡ length (flat p).stages → ⊥) (λ t h op e f g. at t h t.stmt refl (ap (from_op is_fetch) e ∙ f) g)
+  each_last =
+      each_fine p rules (λ y. is_fetch y.op ≡ true → suc y.stage ≡ length (flat p).stages → ⊥)
+      (λ t h op e f g. at t h t.stmt refl (ap (from_op is_fetch) e ∙ f) g)
     where
       after : stage_after (places p) ≡ separators p.body
       after =
@@ -299,7 +341,8 @@ module _ (p : Pipe) (rules : KeepsRules p) where
           let f : cut (places p) ≡ separators p.body = omega arith in
           f
 
-      at : (t : Site) → Fine p t → (s : Stmt) → t.stmt ≡ s → from_op is_fetch (op_of p.mems t.walk.vars s) ≡ true → suc t.walk.stage ≡ length (flat p).stages → ⊥
+      at : (t : Site) → Fine p t → (s : Stmt) → t.stmt ≡ s → from_op is_fetch (op_of p.mems t.walk.vars s) ≡ true
+          → suc t.walk.stage ≡ length (flat p).stages → ⊥
       at t h (DelayedRead sp x l) e f g =
           let k = stage_count p (body_forked p rules) in
           let r = (or_parts (stage_in t.front t.branches == stage_after (places p)) (list_any (breaks_fetch_order l.mem.name) t.front)
@@ -317,7 +360,9 @@ module _ (p : Pipe) (rules : KeepsRules p) where
   pub fetch_inside : (s : ℕ) → suc s ≡ length (flat p).stages → none_of is_fetch (in_stage s (flat p).stmts) ≡ true
   fetch_inside s e =
       none_each is_fetch (in_stage s (flat p).stmts)
-      (each_in_stage (λ y. is_fetch y.op ≡ false) s (flat p).stmts (each_weaker (λ y. is_fetch y.op ≡ true → suc y.stage ≡ length (flat p).stages → ⊥) (λ y. y.stage ≡ s → is_fetch y.op ≡ false) at (flat p).stmts each_last))
+      (each_in_stage (λ y. is_fetch y.op ≡ false) s (flat p).stmts
+      (each_weaker (λ y. is_fetch y.op ≡ true → suc y.stage ≡ length (flat p).stages → ⊥)
+      (λ y. y.stage ≡ s → is_fetch y.op ≡ false) at (flat p).stmts each_last))
     where
       at : (y : Flat.Stmt) → (is_fetch y.op ≡ true → suc y.stage ≡ length (flat p).stages → ⊥) → y.stage ≡ s → is_fetch y.op ≡ false
       at y h f = by (is_fetch y.op) refl
@@ -327,12 +372,15 @@ module _ (p : Pipe) (rules : KeepsRules p) where
           by false g = refl
 
   -- Z7, F4: the lock of a delayed memory
-  sound_mems : (front : List Place) (ms : List Mem) (later : List Place) → places p ≡ front ++ (map Memory ms ++ later) → (n : List ℕ) → is_delayed_memory ms n ≡ true → is_exact (slice_index_or (mems_of ms) (mem_of ms n) plain_mem).lock ≡ true
+  sound_mems : (front : List Place) (ms : List Mem) (later : List Place) → places p ≡ front ++ (map Memory ms ++ later)
+      → (n : List ℕ) → is_delayed_memory ms n ≡ true
+      → is_exact (slice_index_or (mems_of ms) (mem_of ms n) plain_mem).lock ≡ true
   sound_mems front [] later e n h = absurd (false≢true h)
   sound_mems front (m ∷ ms) later e n h =
       at (bytes_eq m.name.name n) h (sound_mems (front ++ Memory m ∷ []) ms later (e ∙ sym (append_assoc front (Memory m ∷ []) (map Memory ms ++ later))) n)
     where
-      kind : (k : LockKind) (d s : ℕ) → allows_lock d true k s ≡ true → is_exact (flat_lock (Some (record { kind = k; size = record { value = s; span = m.name.span } }))) ≡ true
+      kind : (k : LockKind) (d s : ℕ) → allows_lock d true k s ≡ true
+          → is_exact (flat_lock (Some (record { kind = k; size = record { value = s; span = m.name.span } }))) ≡ true
       kind Queue d s i = refl
       kind Bypass d s i = absurd (false≢true i)
       kind Rename d s i = absurd (false≢true i)
@@ -344,21 +392,31 @@ module _ (p : Pipe) (rules : KeepsRules p) where
           (ap (λ b. allows_lock m.depth.value b l.kind l.size.value) (sym j)
           ∙ (and_parts (is_size l.size.value) (allows_lock m.depth.value m.delayed l.kind l.size.value) (not-false _ i)).1)
 
-      at : (b : Bool) → (if b then m.delayed else is_delayed_memory ms n) ≡ true → (is_delayed_memory ms n ≡ true → is_exact (slice_index_or (mems_of ms) (mem_of ms n) plain_mem).lock ≡ true)
+      at : (b : Bool) → (if b then m.delayed else is_delayed_memory ms n) ≡ true
+          → (is_delayed_memory ms n ≡ true → is_exact (slice_index_or (mems_of ms) (mem_of ms n) plain_mem).lock ≡ true)
           → is_exact (slice_index_or (mems_of (m ∷ ms)) (if b then 0 else suc (mem_of ms n)) plain_mem).lock ≡ true
-      at true i k = lock m.lock (or_parts (not (is_width m.width.value && is_depth m.depth.value)) (is_some_and (is_wrong_lock m) m.lock) (rules Z7 front (Memory m) (map Memory ms ++ later) e)).1 i
+      at true i k =
+          lock m.lock
+          (or_parts (not (is_width m.width.value && is_depth m.depth.value)) (is_some_and (is_wrong_lock m) m.lock)
+          (rules Z7 front (Memory m) (map Memory ms ++ later) e)).1 i
       at false i k = k i
 
   pub fetch_exact : Each (λ y. (x m a : ℕ) → y.op ≡ Flat.DelayedRead x m a → is_exact (mem_at (flat p) m).lock ≡ true) (flat p).stmts
-  fetch_exact = each_fine p rules (λ y. (x m a : ℕ) → y.op ≡ Flat.DelayedRead x m a → is_exact (mem_at (flat p) m).lock ≡ true) (λ t h op e x m a f. at t h t.stmt refl m (ap (from_op (is_fetch_of m)) (e ∙ ap Some f) ∙ eq-eqb m m refl))
+  fetch_exact =
+      each_fine p rules (λ y. (x m a : ℕ) → y.op ≡ Flat.DelayedRead x m a → is_exact (mem_at (flat p) m).lock ≡ true)
+      (λ t h op e x m a f. at t h t.stmt refl m (ap (from_op (is_fetch_of m)) (e ∙ ap Some f) ∙ eq-eqb m m refl))
     where
-      at : (t : Site) → Fine p t → (s : Stmt) → t.stmt ≡ s → (m : ℕ) → from_op (is_fetch_of m) (op_of p.mems t.walk.vars s) ≡ true → is_exact (mem_at (flat p) m).lock ≡ true
+      at : (t : Site) → Fine p t → (s : Stmt) → t.stmt ≡ s → (m : ℕ)
+          → from_op (is_fetch_of m) (op_of p.mems t.walk.vars s) ≡ true → is_exact (mem_at (flat p) m).lock ≡ true
       at t h (DelayedRead sp x l) e m f =
           subst (λ i. is_exact (mem_at (flat p) i).lock ≡ true) (eqb-true (mem_of p.mems l.mem.name) m f)
           (sound_mems (map Parameter p.params) p.mems (statements [] p.body ++ closing p)
-          (ap (λ l. l ++ closing p) (append_assoc (map Parameter p.params) (map Memory p.mems) (statements [] p.body)) ∙ append_assoc (map Parameter p.params) (map Memory p.mems ++ statements [] p.body) (closing p) ∙ ap (λ l. map Parameter p.params ++ l) (append_assoc (map Memory p.mems) (statements [] p.body) (closing p)))
+          (ap (λ l. l ++ closing p) (append_assoc (map Parameter p.params) (map Memory p.mems) (statements [] p.body))
+          ∙ append_assoc (map Parameter p.params) (map Memory p.mems ++ statements [] p.body) (closing p)
+          ∙ ap (λ l. map Parameter p.params ++ l) (append_assoc (map Memory p.mems) (statements [] p.body) (closing p)))
           l.mem.name
-          (not-false _ (rules F4 t.front (Statement (DelayedRead sp x l) t.branches) h.later (h.whole ∙ ap (λ s. t.front ++ Statement s t.branches ∷ h.later) e))))
+          (not-false _
+          (rules F4 t.front (Statement (DelayedRead sp x l) t.branches) h.later (h.whole ∙ ap (λ s. t.front ++ Statement s t.branches ∷ h.later) e))))
       at t h (Reserve sp l R) e m f = absurd (false≢true f)
       at t h (Reserve sp l W) e m f = absurd (false≢true f)
       at t h (If sp (Variable x) when otherwise) e m f = absurd (false≢true f)

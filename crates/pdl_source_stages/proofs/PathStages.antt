@@ -27,9 +27,12 @@ mutual
   none_begun_in : (env : List ℕ) (ms : List Mem) (s : Stmt) (w : Flatten.Position) → separators_in s ≡ 0 → begun_in env ms s w ≡ []
   none_begun_in env ms (Separator sp) w e = absurd (omega arith)
   none_begun_in env ms (If sp c when otherwise) w e =
-      at (slice_index env (guard_of w.vars c) == 1) (none_begun env ms when (with_guard c w) (omega arith)) (none_begun env ms otherwise (at_otherwise ms c when w) (omega arith))
+      at (slice_index env (guard_of w.vars c) == 1) (none_begun env ms when (with_guard c w) (omega arith))
+      (none_begun env ms otherwise (at_otherwise ms c when w) (omega arith))
     where
-      at : (b : Bool) → begun_by env ms when (with_guard c w) ≡ [] → begun_by env ms otherwise (at_otherwise ms c when w) ≡ [] → (if b then begun_by env ms when (with_guard c w) else begun_by env ms otherwise (at_otherwise ms c when w)) ≡ []
+      at : (b : Bool) → begun_by env ms when (with_guard c w) ≡ []
+          → begun_by env ms otherwise (at_otherwise ms c when w) ≡ []
+          → (if b then begun_by env ms when (with_guard c w) else begun_by env ms otherwise (at_otherwise ms c when w)) ≡ []
       at true f g = f
       at false f g = g
   none_begun_in env ms _ w e = refl
@@ -50,7 +53,8 @@ plain_begun env ms (Cons (If sp c when otherwise) ss) w h =
     let none = none_of_whole when otherwise parts.0 in
     let f = past_begun ms (If sp c when otherwise) w in
     ap₂ (λ a b. a ++ b) (none_begun_in env ms (If sp c when otherwise) w none) (plain_begun env ms ss (past ms (If sp c when otherwise) w) parts.1)
-    ∙ ap₂ up (let e : (past ms (If sp c when otherwise) w).begun ≡ w.begun = omega arith in e) (let e : separators ss ≡ separators_in (If sp c when otherwise) + separators ss = omega arith in e)
+    ∙ ap₂ up (let e : (past ms (If sp c when otherwise) w).begun ≡ w.begun = omega arith in e)
+    (let e : separators ss ≡ separators_in (If sp c when otherwise) + separators ss = omega arith in e)
 plain_begun env ms (Cons s ss) w h = plain_begun env ms ss (past ms s w) h ∙ ap (up w.begun) (let e : separators ss ≡ 0 + separators ss = omega arith in e)
 
 -- a thread goes through a branch to its merge
@@ -78,11 +82,16 @@ from_fork : (p : Flat.Pipe) (env : List ℕ) (k x a b : ℕ) → Forked p k x a 
     ++ visited_stages p env rest (merge_at k a b)
 from_fork p env k x a b fork first v fuel rest e =
     ap (onward (visited_stages p env fuel)) (ap (λ n. goes_to n env) fork.next ∙ at (slice_index env x == 1) first v)
-    ∙ ap (λ n. onward (visited_stages p env fuel) (goes_to (leads n (Flat.Goes (merge_at k a b)) (long a b first)) env)) (let z : start k a first ≡ start k a first + 0 = omega arith in z)
-    ∙ through p env (side k first) (merge_at k a b) (start k a first) (long a b first) (fork.chain first) 0 (long a b first) (let z : 0 + long a b first ≡ long a b first = omega arith in z) fuel rest e
+    ∙ ap (λ n. onward (visited_stages p env fuel) (goes_to (leads n (Flat.Goes (merge_at k a b)) (long a b first)) env))
+    (let z : start k a first ≡ start k a first + 0 = omega arith in z)
+    ∙ through p env (side k first) (merge_at k a b) (start k a first) (long a b first)
+    (fork.chain first) 0 (long a b first)
+    (let z : 0 + long a b first ≡ long a b first = omega arith in z) fuel rest e
     ∙ ap (λ n. up n (long a b first) ++ visited_stages p env rest (merge_at k a b)) (let z : start k a first + 0 ≡ start k a first = omega arith in z)
   where
-    at : (c f : Bool) → c ≡ f → Some (if c then entry (leads k (Flat.Goes (merge_at k a b)) a) else entry (leads (k + a) (Flat.Goes (merge_at k a b)) b)) ≡ goes_to (leads (start k a f) (Flat.Goes (merge_at k a b)) (long a b f)) env
+    at : (c f : Bool) → c ≡ f
+        → Some (if c then entry (leads k (Flat.Goes (merge_at k a b)) a) else entry (leads (k + a) (Flat.Goes (merge_at k a b)) b))
+        ≡ goes_to (leads (start k a f) (Flat.Goes (merge_at k a b)) (long a b f)) env
     at true true i = entry_goes k (merge_at k a b) a env
     at false false i = entry_goes (k + a) (merge_at k a b) b env
     at true false i = absurd (false≢true (sym i))
@@ -97,7 +106,9 @@ visits_from p env ms k merges w Nil i h g fuel l = ap (λ (y : Flat.Stage). k �
 visits_from p env ms k merges w (Cons (Separator sp) ss) i h g zero l = absurd (omega arith)
 visits_from p env ms k merges w (Cons (Separator sp) ss) i h g (suc fuel) l =
     ap (λ (y : Flat.Stage). k ∷ onward (visited_stages p env (suc fuel)) (goes_to y.next env)) g.0
-    ∙ ap (λ r. k ∷ r) (visits_from p env ms (suc k) None (past ms (Separator sp) w) ss (ap suc i) h g.1 fuel (omega arith) ∙ ap (λ n. suc n ∷ begun_by env ms ss (past ms (Separator sp) w)) (sym i))
+    ∙ ap (λ r. k ∷ r)
+    (visits_from p env ms (suc k) None (past ms (Separator sp) w) ss (ap suc i) h g.1 fuel (omega arith)
+    ∙ ap (λ n. suc n ∷ begun_by env ms ss (past ms (Separator sp) w)) (sym i))
 visits_from p env ms k merges w (Cons (If sp c when otherwise) (Cons (Separator sq) ss)) i h g fuel l =
     at (is_whole when otherwise) refl parts.0 g
     (λ j merge e shapes n m. visits_from p env ms j merge (past ms (Separator sq) (past ms (If sp c when otherwise) w)) ss e parts.1 shapes n m)
@@ -108,9 +119,15 @@ visits_from p env ms k merges w (Cons (If sp c when otherwise) (Cons (Separator 
     begun : (past ms (If sp c when otherwise) w).begun ≡ w.begun + (separators when + separators otherwise)
     begun = past_begun ms (If sp c when otherwise) w
 
-    at : (b : Bool) → is_whole when otherwise ≡ b → fork_fits b when otherwise (Cons (Separator sq) ss) ≡ true → Groups p k merges (either_shape ms sp c when otherwise sq ss w b)
-        → ((j : ℕ) (merge : Option ℕ) → suc (past ms (If sp c when otherwise) w).begun ≡ j → Groups p j merge (rest_shape ms sp c when otherwise sq ss w) → (n : ℕ) → separators ss ≤ n → visited_stages p env (suc n) j ≡ j ∷ begun_by env ms ss (past ms (Separator sq) (past ms (If sp c when otherwise) w)))
-        → visited_stages p env (suc fuel) k ≡ k ∷ (begun_in env ms (If sp c when otherwise) w ++ (suc (past ms (If sp c when otherwise) w).begun ∷ begun_by env ms ss (past ms (Separator sq) (past ms (If sp c when otherwise) w))))
+    at : (b : Bool) → is_whole when otherwise ≡ b → fork_fits b when otherwise (Cons (Separator sq) ss) ≡ true
+        → Groups p k merges (either_shape ms sp c when otherwise sq ss w b)
+        → ((j : ℕ) (merge : Option ℕ) → suc (past ms (If sp c when otherwise) w).begun ≡ j
+        → Groups p j merge (rest_shape ms sp c when otherwise sq ss w) → (n : ℕ) → separators ss ≤ n
+        → visited_stages p env (suc n) j ≡ j ∷ begun_by env ms ss (past ms (Separator sq) (past ms (If sp c when otherwise) w)))
+        → visited_stages p env (suc fuel) k
+        ≡ k
+        ∷ (begun_in env ms (If sp c when otherwise) w
+        ++ (suc (past ms (If sp c when otherwise) w).begun ∷ begun_by env ms ss (past ms (Separator sq) (past ms (If sp c when otherwise) w))))
     at true whole fits g more = turn fuel l
       where
         none : separators when + separators otherwise ≡ 0
@@ -119,14 +136,19 @@ visits_from p env ms k merges w (Cons (If sp c when otherwise) (Cons (Separator 
         here : suc k ≡ suc (past ms (If sp c when otherwise) w).begun
         here = let a = begun in let b = none in omega arith
 
-        turn : (n : ℕ) → separators (Cons (If sp c when otherwise) (Cons (Separator sq) ss)) ≤ n → visited_stages p env (suc n) k ≡ k ∷ (begun_in env ms (If sp c when otherwise) w ++ (suc (past ms (If sp c when otherwise) w).begun ∷ begun_by env ms ss (past ms (Separator sq) (past ms (If sp c when otherwise) w))))
+        turn : (n : ℕ) → separators (Cons (If sp c when otherwise) (Cons (Separator sq) ss)) ≤ n
+            → visited_stages p env (suc n) k
+            ≡ k
+            ∷ (begun_in env ms (If sp c when otherwise) w
+            ++ (suc (past ms (If sp c when otherwise) w).begun ∷ begun_by env ms ss (past ms (Separator sq) (past ms (If sp c when otherwise) w))))
         turn zero m = absurd (omega arith)
         turn (suc n) m =
             ap (λ (y : Flat.Stage). k ∷ onward (visited_stages p env (suc n)) (goes_to y.next env)) g.0
             ∙ ap (λ r. k ∷ r)
             (more (suc k) None (sym here) g.1 n (omega arith)
             ∙ ap (λ q. q ∷ begun_by env ms ss (past ms (Separator sq) (past ms (If sp c when otherwise) w))) here
-            ∙ ap (λ r. r ++ (suc (past ms (If sp c when otherwise) w).begun ∷ begun_by env ms ss (past ms (Separator sq) (past ms (If sp c when otherwise) w)))) (sym (none_begun_in env ms (If sp c when otherwise) w none)))
+            ∙ ap (λ r. r ++ (suc (past ms (If sp c when otherwise) w).begun ∷ begun_by env ms ss (past ms (Separator sq) (past ms (If sp c when otherwise) w))))
+            (sym (none_begun_in env ms (If sp c when otherwise) w none)))
     at false some fits g more = turn (slice_index env (guard_of w.vars c) == 1) refl
       where
         fork : Forked p k (guard_of w.vars c) (separators when) (separators otherwise)
@@ -138,11 +160,16 @@ visits_from p env ms k merges w (Cons (If sp c when otherwise) (Cons (Separator 
         merged : merge_at k (separators when) (separators otherwise) ≡ suc (past ms (If sp c when otherwise) w).begun
         merged = let a = begun in omega arith
 
-        rest : (n : ℕ) → suc (separators ss) ≤ n → visited_stages p env n (merge_at k (separators when) (separators otherwise)) ≡ suc (past ms (If sp c when otherwise) w).begun ∷ begun_by env ms ss (past ms (Separator sq) (past ms (If sp c when otherwise) w))
+        rest : (n : ℕ) → suc (separators ss) ≤ n
+            → visited_stages p env n (merge_at k (separators when) (separators otherwise))
+            ≡ suc (past ms (If sp c when otherwise) w).begun ∷ begun_by env ms ss (past ms (Separator sq) (past ms (If sp c when otherwise) w))
         rest zero m = absurd (omega arith)
-        rest (suc n) m = more (merge_at k (separators when) (separators otherwise)) (Some k) (sym merged) g.4 n (omega arith) ∙ ap (λ q. q ∷ begun_by env ms ss (past ms (Separator sq) (past ms (If sp c when otherwise) w))) merged
+        rest (suc n) m =
+            more (merge_at k (separators when) (separators otherwise)) (Some k) (sym merged) g.4 n (omega arith)
+            ∙ ap (λ q. q ∷ begun_by env ms ss (past ms (Separator sq) (past ms (If sp c when otherwise) w))) merged
 
-        side_begun : (first : Bool) → (slice_index env (guard_of w.vars c) == 1) ≡ first → begun_in env ms (If sp c when otherwise) w ≡ up (start k (separators when) first) (long (separators when) (separators otherwise) first)
+        side_begun : (first : Bool) → (slice_index env (guard_of w.vars c) == 1) ≡ first
+            → begun_in env ms (If sp c when otherwise) w ≡ up (start k (separators when) first) (long (separators when) (separators otherwise) first)
         side_begun true v =
             ap (λ b. if b then begun_by env ms when (with_guard c w) else begun_by env ms otherwise (at_otherwise ms c when w)) v
             ∙ plain_begun env ms when (with_guard c w) plain.0
@@ -150,17 +177,25 @@ visits_from p env ms k merges w (Cons (If sp c when otherwise) (Cons (Separator 
         side_begun false v =
             ap (λ b. if b then begun_by env ms when (with_guard c w) else begun_by env ms otherwise (at_otherwise ms c when w)) v
             ∙ plain_begun env ms otherwise (at_otherwise ms c when w) plain.1
-            ∙ ap (λ n. up n (separators otherwise)) (let a = guard_begun c w in let b = past_all_begun ms when (with_guard c w) in let z : (at_otherwise ms c when w).begun ≡ k + separators when = omega arith in z)
+            ∙ ap (λ n. up n (separators otherwise))
+            (let a = guard_begun c w in let b = past_all_begun ms when (with_guard c w) in
+            let z : (at_otherwise ms c when w).begun ≡ k + separators when = omega arith in z)
 
         low : (first : Bool) → long (separators when) (separators otherwise) first + suc (separators ss) ≤ fuel
         low true = omega arith
         low false = omega arith
 
-        turn : (first : Bool) → (slice_index env (guard_of w.vars c) == 1) ≡ first → visited_stages p env (suc fuel) k ≡ k ∷ (begun_in env ms (If sp c when otherwise) w ++ (suc (past ms (If sp c when otherwise) w).begun ∷ begun_by env ms ss (past ms (Separator sq) (past ms (If sp c when otherwise) w))))
+        turn : (first : Bool) → (slice_index env (guard_of w.vars c) == 1) ≡ first
+            → visited_stages p env (suc fuel) k
+            ≡ k
+            ∷ (begun_in env ms (If sp c when otherwise) w
+            ++ (suc (past ms (If sp c when otherwise) w).begun ∷ begun_by env ms ss (past ms (Separator sq) (past ms (If sp c when otherwise) w))))
         turn first v =
             let m = low first in
             ap (λ r. k ∷ r)
-            (from_fork p env k (guard_of w.vars c) (separators when) (separators otherwise) fork first v fuel (fuel - long (separators when) (separators otherwise) first) (omega arith)
+            (from_fork p env k (guard_of w.vars c) (separators when)
+            (separators otherwise) fork first v fuel (fuel - long (separators when) (separators otherwise) first)
+            (omega arith)
             ∙ ap₂ (λ a b. a ++ b) (sym (side_begun first v)) (rest (fuel - long (separators when) (separators otherwise) first) (omega arith)))
 visits_from p env ms k merges w (Cons (If sp c when otherwise) ss) i h g fuel l =
     let parts = and_parts (fork_fits (is_whole when otherwise) when otherwise ss) (is_forked ss) h in
@@ -175,4 +210,6 @@ pub visits_all : (p : Pipe) → KeepsRules p → (env : List ℕ)
     → visited_stages (flat p) env (length (flat p).stages) 0 ≡ 0 ∷ begun_by env p.mems p.body (at_start p)
 visits_all p rules env =
     ap (λ n. visited_stages (flat p) env n 0) (stage_count p (body_forked p rules))
-    ∙ visits_from (flat p) env p.mems 0 None (at_start p) p.body refl (body_forked p rules) (body_groups p (body_forked p rules)) (separators p.body) (let z : separators p.body ≤ separators p.body = omega arith in z)
+    ∙ visits_from (flat p) env p.mems 0 None (at_start p) p.body refl (body_forked p rules)
+    (body_groups p (body_forked p rules)) (separators p.body)
+    (let z : separators p.body ≤ separators p.body = omega arith in z)

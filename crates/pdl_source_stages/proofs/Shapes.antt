@@ -98,7 +98,8 @@ graph_plain ms branch exit (Cons (If sp c when otherwise) ss) w h =
     let f = past_begun ms (If sp c when otherwise) w in
     skipped (is_whole when otherwise) parts.0 (graph ms branch exit ss (past ms (If sp c when otherwise) w)) _
     ∙ graph_plain ms branch exit ss (past ms (If sp c when otherwise) w) parts.1
-    ∙ ap₂ (bunch branch exit) (let e : (past ms (If sp c when otherwise) w).begun ≡ w.begun = omega arith in e) (let e : separators ss ≡ separators_in (If sp c when otherwise) + separators ss = omega arith in e)
+    ∙ ap₂ (bunch branch exit) (let e : (past ms (If sp c when otherwise) w).begun ≡ w.begun = omega arith in e)
+    (let e : separators ss ≡ separators_in (If sp c when otherwise) + separators ss = omega arith in e)
   where
     skipped : (b : Bool) → b ≡ true → (g k : Flatten.Graph) → (if b then g else k) ≡ g
     skipped true e g k = refl
@@ -115,7 +116,8 @@ trunk k sh = record { next = leads_on k sh; later = after k sh }
 -- a fork's graph by the numbers that stand in it
 abbrev forked : ℕ → ℕ → ℕ → ℕ → ℕ → ℕ → ℕ → ℕ → Shape → Flatten.Graph
 forked x a b f m i j k r =
-    graph_with_fork f x (bunch (side f true) (Flat.Goes m) i a) (bunch (side f false) (Flat.Goes m) j b) (record { next = Flat.Goes (suc k); later = stage (leads_on (suc k) r) None None ∷ after (suc k) r })
+    graph_with_fork f x (bunch (side f true) (Flat.Goes m) i a) (bunch (side f false) (Flat.Goes m) j b)
+    (record { next = Flat.Goes (suc k); later = stage (leads_on (suc k) r) None None ∷ after (suc k) r })
 
 forked_is : (x a b f m i j k n : ℕ) (r : Shape)
     → f ≡ n → m ≡ suc (n + a + b) → i ≡ n → j ≡ n + a → k ≡ n + a + b
@@ -137,11 +139,22 @@ graph_trunk ms (Cons (If sp c when otherwise) (Cons (Separator sq) ss)) w e h =
     begun = past_begun ms (If sp c when otherwise) w
 
     at : (b : Bool) → is_whole when otherwise ≡ b → fork_fits b when otherwise (Cons (Separator sq) ss) ≡ true
-        → graph ms None Flat.Ends ss (past ms (Separator sq) (past ms (If sp c when otherwise) w)) ≡ trunk (suc (past ms (If sp c when otherwise) w).begun) (shape ms ss (past ms (Separator sq) (past ms (If sp c when otherwise) w)))
-        → (if b then graph ms None Flat.Ends (Cons (Separator sq) ss) (past ms (If sp c when otherwise) w) else graph_with_fork w.stage (guard_of w.vars c) (graph ms (side w.stage true) (Flat.Goes (suc (w.begun + separators when + separators otherwise))) when (with_guard c w)) (graph ms (side w.stage false) (Flat.Goes (suc (w.begun + separators when + separators otherwise))) otherwise (at_otherwise ms c when w)) (graph ms None Flat.Ends (Cons (Separator sq) ss) (past ms (If sp c when otherwise) w)))
-        ≡ trunk w.begun (cond b (Cut (shape ms ss (past ms (Separator sq) (past ms (If sp c when otherwise) w)))) (Fork (guard_of w.vars c) (separators when) (separators otherwise) (shape ms ss (past ms (Separator sq) (past ms (If sp c when otherwise) w)))))
+        → graph ms None Flat.Ends ss (past ms (Separator sq) (past ms (If sp c when otherwise) w))
+        ≡ trunk (suc (past ms (If sp c when otherwise) w).begun) (shape ms ss (past ms (Separator sq) (past ms (If sp c when otherwise) w)))
+        → (if b
+        then graph ms None Flat.Ends (Cons (Separator sq) ss) (past ms (If sp c when otherwise) w)
+        else graph_with_fork w.stage (guard_of w.vars c)
+        (graph ms (side w.stage true) (Flat.Goes (suc (w.begun + separators when + separators otherwise))) when (with_guard c w))
+        (graph ms (side w.stage false) (Flat.Goes (suc (w.begun + separators when + separators otherwise))) otherwise (at_otherwise ms c when w))
+        (graph ms None Flat.Ends (Cons (Separator sq) ss) (past ms (If sp c when otherwise) w)))
+        ≡ trunk w.begun
+        (cond b (Cut (shape ms ss (past ms (Separator sq) (past ms (If sp c when otherwise) w))))
+        (Fork (guard_of w.vars c) (separators when) (separators otherwise) (shape ms ss (past ms (Separator sq) (past ms (If sp c when otherwise) w)))))
     at true none fits ih =
-        ap (graph_with_stage None (past ms (If sp c when otherwise) w)) ih ∙ ap (λ n. trunk n (Cut (shape ms ss (past ms (Separator sq) (past ms (If sp c when otherwise) w))))) (let z : separators when + separators otherwise ≡ 0 = eqb-true _ _ none in let d = begun in let g : (past ms (If sp c when otherwise) w).begun ≡ w.begun = omega arith in g)
+        ap (graph_with_stage None (past ms (If sp c when otherwise) w)) ih
+        ∙ ap (λ n. trunk n (Cut (shape ms ss (past ms (Separator sq) (past ms (If sp c when otherwise) w)))))
+        (let z : separators when + separators otherwise ≡ 0 = eqb-true _ _ none in let d = begun in
+        let g : (past ms (If sp c when otherwise) w).begun ≡ w.begun = omega arith in g)
     at false some fits ih =
         let plain = and_parts (is_plain when) (is_plain otherwise) fits in
         let g1 = guard_begun c w in
@@ -150,8 +163,16 @@ graph_trunk ms (Cons (If sp c when otherwise) (Cons (Separator sq) ss)) w e h =
         ap₂ (λ u v. graph_with_fork w.stage (guard_of w.vars c) u v (graph ms None Flat.Ends (Cons (Separator sq) ss) (past ms (If sp c when otherwise) w)))
         (graph_plain ms (side w.stage true) (Flat.Goes (suc (w.begun + separators when + separators otherwise))) when (with_guard c w) plain.0)
         (graph_plain ms (side w.stage false) (Flat.Goes (suc (w.begun + separators when + separators otherwise))) otherwise (at_otherwise ms c when w) plain.1)
-        ∙ ap (λ u. graph_with_fork w.stage (guard_of w.vars c) (bunch (side w.stage true) (Flat.Goes (suc (w.begun + separators when + separators otherwise))) (with_guard c w).begun (separators when)) (bunch (side w.stage false) (Flat.Goes (suc (w.begun + separators when + separators otherwise))) (at_otherwise ms c when w).begun (separators otherwise)) (graph_with_stage None (past ms (If sp c when otherwise) w) u)) ih
-        ∙ forked_is (guard_of w.vars c) (separators when) (separators otherwise) w.stage (suc (w.begun + separators when + separators otherwise)) (with_guard c w).begun (at_otherwise ms c when w).begun (past ms (If sp c when otherwise) w).begun w.begun (shape ms ss (past ms (Separator sq) (past ms (If sp c when otherwise) w))) e refl g1
+        ∙ ap
+        (λ u. graph_with_fork w.stage (guard_of w.vars c)
+        (bunch (side w.stage true) (Flat.Goes (suc (w.begun + separators when + separators otherwise))) (with_guard c w).begun (separators when))
+        (bunch (side w.stage false) (Flat.Goes (suc (w.begun + separators when + separators otherwise)))
+        (at_otherwise ms c when w).begun (separators otherwise))
+        (graph_with_stage None (past ms (If sp c when otherwise) w) u)) ih
+        ∙ forked_is (guard_of w.vars c) (separators when)
+        (separators otherwise) w.stage (suc (w.begun + separators when + separators otherwise))
+        (with_guard c w).begun (at_otherwise ms c when w).begun (past ms (If sp c when otherwise) w).begun w.begun
+        (shape ms ss (past ms (Separator sq) (past ms (If sp c when otherwise) w))) e refl g1
         (let k : (at_otherwise ms c when w).begun ≡ w.begun + separators when = omega arith in k)
         (let k : (past ms (If sp c when otherwise) w).begun ≡ w.begun + separators when + separators otherwise = omega arith in k)
 graph_trunk ms (Cons (If sp c when otherwise) ss) w e h =

@@ -29,13 +29,16 @@ stages_from : (p : Flat.Pipe) (ms : List Mem) (k : ℕ) (merges : Option ℕ) (w
 stages_from p ms k merges w Nil i h g = let e = g.1 in omega arith
 stages_from p ms k merges w (Cons (Separator sp) ss) i h g = let f = stages_from p ms (suc k) None (past ms (Separator sp) w) ss (ap suc i) h g.1 in omega arith
 stages_from p ms k merges w (Cons (If sp c when otherwise) (Cons (Separator sq) ss)) i h g =
-    at (is_whole when otherwise) refl g (λ j merge e. stages_from p ms j merge (past ms (Separator sq) (past ms (If sp c when otherwise) w)) ss e (and_parts (fork_fits (is_whole when otherwise) when otherwise (Cons (Separator sq) ss)) (is_forked ss) h).1)
+    at (is_whole when otherwise) refl g
+    (λ j merge e. stages_from p ms j merge (past ms (Separator sq) (past ms (If sp c when otherwise) w)) ss e
+    (and_parts (fork_fits (is_whole when otherwise) when otherwise (Cons (Separator sq) ss)) (is_forked ss) h).1)
   where
     begun : (past ms (If sp c when otherwise) w).begun ≡ w.begun + (separators when + separators otherwise)
     begun = past_begun ms (If sp c when otherwise) w
 
     at : (b : Bool) → is_whole when otherwise ≡ b → Groups p k merges (either_shape ms sp c when otherwise sq ss w b)
-        → ((j : ℕ) (merge : Option ℕ) → suc (past ms (If sp c when otherwise) w).begun ≡ j → Groups p j merge (rest_shape ms sp c when otherwise sq ss w) → suc (j + separators ss) ≡ length p.stages)
+        → ((j : ℕ) (merge : Option ℕ) → suc (past ms (If sp c when otherwise) w).begun ≡ j
+        → Groups p j merge (rest_shape ms sp c when otherwise sq ss w) → suc (j + separators ss) ≡ length p.stages)
         → suc (k + separators (Cons (If sp c when otherwise) (Cons (Separator sq) ss))) ≡ length p.stages
     at true whole g more =
         let none = none_of_whole when otherwise whole in
@@ -77,10 +80,15 @@ inside_all p h =
 pub all_fine : (p : Pipe) → KeepsRules p → All (Fine p) (sites_of p)
 all_fine p rules =
     let forked = body_forked p rules in
-    all_both (λ t. (Stands (places p) t × At t.front t.walk t.gs t.branches) × (Standing (flat p) t × Staged t)) (λ t. t.walk.stage < length (flat p).stages) (Fine p)
+    all_both (λ t. (Stands (places p) t × At t.front t.walk t.gs t.branches) × (Standing (flat p) t × Staged t))
+    (λ t. t.walk.stage < length (flat p).stages) (Fine p)
     (λ t a i. record { later = a.0.0.0; whole = a.0.0.1; here = a.0.1; standing = a.1.0; staged = a.1.1; inside = i }) (sites_of p)
-    (all_both (λ t. Stands (places p) t × At t.front t.walk t.gs t.branches) (λ t. Standing (flat p) t × Staged t) (λ t. (Stands (places p) t × At t.front t.walk t.gs t.branches) × (Standing (flat p) t × Staged t)) (λ t a b. (a, b)) (sites_of p)
-    (all_both (Stands (places p)) (λ t. At t.front t.walk t.gs t.branches) (λ t. Stands (places p) t × At t.front t.walk t.gs t.branches) (λ t a b. (a, b)) (sites_of p) (all_stand p) (Walks.all_at p))
+    (all_both (λ t. Stands (places p) t × At t.front t.walk t.gs t.branches) (λ t. Standing (flat p) t × Staged t)
+    (λ t. (Stands (places p) t × At t.front t.walk t.gs t.branches) × (Standing (flat p) t × Staged t))
+    (λ t a b. (a, b)) (sites_of p)
+    (all_both (Stands (places p)) (λ t. At t.front t.walk t.gs t.branches)
+    (λ t. Stands (places p) t × At t.front t.walk t.gs t.branches) (λ t a b. (a, b)) (sites_of p) (all_stand p)
+    (Walks.all_at p))
     (all_both (Standing (flat p)) Staged (λ t. Standing (flat p) t × Staged t) (λ t a b. (a, b)) (sites_of p) (all_standing p forked) (all_staged p forked)))
     (inside_all p forked)
 
@@ -135,7 +143,10 @@ each_row P t (Some op) h = (h op refl, tt)
 
 each_owns : (P : Flat.Stmt → Type 0) (ms : List Mem) (ts : List Site) → All (AtSite P ms) ts → Each P (owns ms ts)
 each_owns P ms [] h = tt
-each_owns P ms (t ∷ ts) h = each_append P (own ms t) (owns ms ts) (subst (Each P) (sym (own_is ms t.gs t.walk t.stmt)) (each_row P t (op_of ms t.walk.vars t.stmt) h.0)) (each_owns P ms ts h.1)
+each_owns P ms (t ∷ ts) h =
+    each_append P (own ms t) (owns ms ts)
+    (subst (Each P) (sym (own_is ms t.gs t.walk t.stmt)) (each_row P t (op_of ms t.walk.vars t.stmt) h.0))
+    (each_owns P ms ts h.1)
 
 -- what holds of the flat statement of each site holds of each flat statement of the source
 pub each_stmt : (p : Pipe) (P : Flat.Stmt → Type 0) → All (AtSite P p.mems) (sites_of p) → Each P (flat p).stmts

@@ -26,9 +26,15 @@ mutual
       let b = guard_begun c w in
       let g = past_all_begun ms when (with_guard c w) in (
         here,
-        all_append (λ t. Good t.walk.stage) (sites ms (front ++ Statement (If sp c when otherwise) bs ∷ []) (with_guard c w) (under gs w.vars c true) (bs ++ branch sp c true when ∷ []) when) _
-            (stages_all Good ms (front ++ Statement (If sp c when otherwise) bs ∷ []) (with_guard c w) (under gs w.vars c true) (bs ++ branch sp c true when ∷ []) when (subst Good (sym (guard_stage c w)) here) (λ n low high. more n (omega arith) (omega arith)))
-            (stages_all Good ms (front ++ Statement (If sp c when otherwise) bs ∷ statements (bs ++ branch sp c true when ∷ []) when) (at_otherwise ms c when w) (under gs w.vars c false) (bs ++ branch sp c false otherwise ∷ []) otherwise here (λ n low high. more n (omega arith) (omega arith))),
+        all_append (λ t. Good t.walk.stage)
+            (sites ms (front ++ Statement (If sp c when otherwise) bs ∷ []) (with_guard c w) (under gs w.vars c true) (bs ++ branch sp c true when ∷ []) when) _
+            (stages_all Good ms (front ++ Statement (If sp c when otherwise) bs ∷ []) (with_guard c w)
+            (under gs w.vars c true)
+            (bs ++ branch sp c true when ∷ []) when (subst Good (sym (guard_stage c w)) here)
+            (λ n low high. more n (omega arith) (omega arith)))
+            (stages_all Good ms (front ++ Statement (If sp c when otherwise) bs ∷ statements (bs ++ branch sp c true when ∷ []) when)
+            (at_otherwise ms c when w) (under gs w.vars c false)
+            (bs ++ branch sp c false otherwise ∷ []) otherwise here (λ n low high. more n (omega arith) (omega arith))),
       )
   stages_in Good ms front w gs bs s here more = (here, tt)
 
@@ -39,9 +45,12 @@ mutual
       let b = past_begun ms s w in
       all_append (λ t. Good t.walk.stage) (sites_in ms front w gs bs s) _
       (stages_in Good ms front w gs bs s here (λ n low high. more n low (omega arith)))
-      (stages_all Good ms (front ++ with_inner bs s) (past ms s w) gs bs ss (stage_past Good ms w s here (λ n low high. more n low (omega arith))) (λ n low high. more n (omega arith) (omega arith)))
+      (stages_all Good ms (front ++ with_inner bs s)
+      (past ms s w) gs bs ss (stage_past Good ms w s here (λ n low high. more n low (omega arith)))
+      (λ n low high. more n (omega arith) (omega arith)))
 
-  stage_past : (Good : ℕ → Type 0) (ms : List Mem) (w : Flatten.Position) (s : Stmt) → Good w.stage → ((n : ℕ) → w.begun < n → n ≤ w.begun + separators_in s → Good n) → Good (past ms s w).stage
+  stage_past : (Good : ℕ → Type 0) (ms : List Mem) (w : Flatten.Position) (s : Stmt) → Good w.stage
+      → ((n : ℕ) → w.begun < n → n ≤ w.begun + separators_in s → Good n) → Good (past ms s w).stage
   stage_past Good ms w (Separator sp) here more = more (suc w.begun) (omega arith) (omega arith)
   stage_past Good ms w s here more = here
 
@@ -86,7 +95,8 @@ all_map P R f (t ∷ ts) h = (f t h.0, all_map P R f ts h.1)
 
 pub data Standing (p : Flat.Pipe) (t : Site) : Type 0 where
   OnTrunk : Trunk p t.walk.stage → Standing p t
-  OnBranch : (c : Flat.Branch) (x a b : ℕ) → Forked p c.fork x a b → In p c t.walk.stage → HasGuard (record { var = x; first = c.first }) t.gs → in_fork t.branches ≡ true → Standing p t
+  OnBranch : (c : Flat.Branch) (x a b : ℕ) → Forked p c.fork x a b → In p c t.walk.stage
+      → HasGuard (record { var = x; first = c.first }) t.gs → in_fork t.branches ≡ true → Standing p t
 
 -- a stage of one side of the fork, its own stage or one in the branch
 abbrev OnSide : Flat.Pipe → ℕ → ℕ → ℕ → Bool → ℕ → Type 0
@@ -115,7 +125,9 @@ branch_stands p f x a b first k ms front w gs bs ss here begun many g h = at (ca
   where
     at : (0 < separators ss) ⊎ (separators ss ≤ 0) → All (Standing p) (sites ms front w gs bs ss)
     at (inl l) =
-        all_both (λ t. OnSide p f a b first t.walk.stage) (λ t. HasGuard (record { var = x; first = first }) t.gs × (in_fork t.branches ≡ true)) (Standing p) (side_stands p f x a b first k) (sites ms front w gs bs ss)
+        all_both (λ t. OnSide p f a b first t.walk.stage)
+        (λ t. HasGuard (record { var = x; first = first }) t.gs × (in_fork t.branches ≡ true)) (Standing p)
+        (side_stands p f x a b first k) (sites ms front w gs bs ss)
         (stages_all (OnSide p f a b first) ms front w gs bs ss (inl here) (λ n low high. on_side p f a b first n (omega arith) (omega arith)))
         (guards_all ms (record { var = x; first = first }) front w gs bs ss g (h l))
     at (inr l) =
@@ -127,7 +139,8 @@ whole_stands : (p : Flat.Pipe) (ms : List Mem) (front : List Place) (w : Flatten
     (bs : List Branch) (s : Stmt)
     → Trunk p w.stage → separators_in s ≡ 0 → All (Standing p) (sites_in ms front w gs bs s)
 whole_stands p ms front w gs bs s here none =
-    all_map (λ t. Trunk p t.walk.stage) (Standing p) (λ t h. OnTrunk h) (sites_in ms front w gs bs s) (stages_in (Trunk p) ms front w gs bs s here (λ n low high. absurd (omega arith)))
+    all_map (λ t. Trunk p t.walk.stage) (Standing p) (λ t h. OnTrunk h) (sites_in ms front w gs bs s)
+    (stages_in (Trunk p) ms front w gs bs s here (λ n low high. absurd (omega arith)))
 
 -- a branch that begins a stage holds a separator
 holds_some : (sp : Span) (c : Expr) (truth : Bool) (ss : Stmts) → 0 < separators ss → in_fork (branch sp c truth ss ∷ []) ≡ true
@@ -147,9 +160,17 @@ fork_stands p k ms front w sp c when otherwise here begun fork =
     let g = past_all_begun ms when (with_guard c w) in
     let s = guard_stage c w in (
       OnTrunk (subst (Trunk p) (sym here) fork.trunk),
-      all_append (Standing p) (sites ms (front ++ Statement (If sp c when otherwise) [] ∷ []) (with_guard c w) (under [] w.vars c true) (branch sp c true when ∷ []) when) _
-          (branch_stands p k (guard_of w.vars c) (separators when) (separators otherwise) true fork ms (front ++ Statement (If sp c when otherwise) [] ∷ []) (with_guard c w) (under [] w.vars c true) (branch sp c true when ∷ []) when (s ∙ here) (b ∙ begun) refl ([], [], refl) (holds_some sp c true when))
-          (branch_stands p k (guard_of w.vars c) (separators when) (separators otherwise) false fork ms (front ++ Statement (If sp c when otherwise) [] ∷ statements (branch sp c true when ∷ []) when) (at_otherwise ms c when w) (under [] w.vars c false) (branch sp c false otherwise ∷ []) otherwise here (omega arith) refl ([], [], refl) (holds_some sp c false otherwise)),
+      all_append (Standing p)
+          (sites ms (front ++ Statement (If sp c when otherwise) [] ∷ []) (with_guard c w) (under [] w.vars c true) (branch sp c true when ∷ []) when) _
+          (branch_stands p k (guard_of w.vars c) (separators when)
+          (separators otherwise) true fork ms (front ++ Statement (If sp c when otherwise) [] ∷ []) (with_guard c w)
+          (under [] w.vars c true) (branch sp c true when ∷ []) when (s ∙ here) (b ∙ begun) refl ([], [], refl)
+          (holds_some sp c true when))
+          (branch_stands p k (guard_of w.vars c) (separators when)
+          (separators otherwise) false fork ms (front ++ Statement (If sp c when otherwise) [] ∷ statements (branch sp c true when ∷ []) when)
+          (at_otherwise ms c when w) (under [] w.vars c false)
+          (branch sp c false otherwise ∷ []) otherwise here (omega arith) refl ([], [], refl)
+          (holds_some sp c false otherwise)),
     )
 
 -- no separator stands in the branches of an `if` that begins no stage
@@ -167,7 +188,9 @@ rest_shape ms sp c when otherwise sq ss w = shape ms ss (past ms (Separator sq) 
 
 -- the shape from an `if` and the separator after it on: a fork, or a cut where the `if` begins no stage
 abbrev pub either_shape : List Mem → Span → Expr → Stmts → Stmts → Span → Stmts → Flatten.Position → Bool → Shape
-either_shape ms sp c when otherwise sq ss w b = cond b (Cut (rest_shape ms sp c when otherwise sq ss w)) (Fork (guard_of w.vars c) (separators when) (separators otherwise) (rest_shape ms sp c when otherwise sq ss w))
+either_shape ms sp c when otherwise sq ss w b =
+    cond b (Cut (rest_shape ms sp c when otherwise sq ss w))
+    (Fork (guard_of w.vars c) (separators when) (separators otherwise) (rest_shape ms sp c when otherwise sq ss w))
 
 -- each site of a body stands in a trunk stage, or in a branch stage under its guard, if its forks are in form
 pub stands : (p : Flat.Pipe) (ms : List Mem) (k : ℕ) (merges : Option ℕ) (front : List Place) (w : Flatten.Position) (ss : Stmts)
@@ -180,7 +203,8 @@ stands p ms k merges front w (Cons (Separator sp) ss) e i h g = (
 )
 stands p ms k merges front w (Cons (If sp c when otherwise) (Cons (Separator sq) ss)) e i h g =
     at (is_whole when otherwise) refl g
-    (λ j merge. stands p ms j merge ((front ++ with_inner [] (If sp c when otherwise)) ++ Statement (Separator sq) [] ∷ []) (past ms (Separator sq) (past ms (If sp c when otherwise) w)) ss refl)
+    (λ j merge. stands p ms j merge ((front ++ with_inner [] (If sp c when otherwise)) ++ Statement (Separator sq) [] ∷ [])
+    (past ms (Separator sq) (past ms (If sp c when otherwise) w)) ss refl)
   where
     begun : (past ms (If sp c when otherwise) w).begun ≡ w.begun + (separators when + separators otherwise)
     begun = past_begun ms (If sp c when otherwise) w
@@ -189,7 +213,11 @@ stands p ms k merges front w (Cons (If sp c when otherwise) (Cons (Separator sq)
     forked = (and_parts (fork_fits (is_whole when otherwise) when otherwise (Cons (Separator sq) ss)) (is_forked ss) h).1
 
     at : (b : Bool) → is_whole when otherwise ≡ b → Groups p k merges (either_shape ms sp c when otherwise sq ss w b)
-        → ((j : ℕ) (merge : Option ℕ) → suc (past ms (If sp c when otherwise) w).begun ≡ j → is_forked ss ≡ true → Groups p j merge (rest_shape ms sp c when otherwise sq ss w) → All (Standing p) (sites ms ((front ++ with_inner [] (If sp c when otherwise)) ++ Statement (Separator sq) [] ∷ []) (past ms (Separator sq) (past ms (If sp c when otherwise) w)) [] [] ss))
+        → ((j : ℕ) (merge : Option ℕ) → suc (past ms (If sp c when otherwise) w).begun ≡ j → is_forked ss ≡ true
+        → Groups p j merge (rest_shape ms sp c when otherwise sq ss w)
+        → All (Standing p)
+        (sites ms ((front ++ with_inner [] (If sp c when otherwise)) ++ Statement (Separator sq) [] ∷ [])
+        (past ms (Separator sq) (past ms (If sp c when otherwise) w)) [] [] ss))
         → All (Standing p) (sites ms front w [] [] (Cons (If sp c when otherwise) (Cons (Separator sq) ss)))
     at true whole g more =
         let none = none_of_whole when otherwise whole in
@@ -209,7 +237,8 @@ stands p ms k merges front w (Cons (If sp c when otherwise) ss) e i h g =
     let none = none_of_whole when otherwise (fitting when otherwise ss refl (is_whole when otherwise) parts.0) in
     let f = past_begun ms (If sp c when otherwise) w in
     all_append (Standing p) (sites_in ms front w [] [] (If sp c when otherwise)) _
-    (whole_stands p ms front w [] [] (If sp c when otherwise) (subst (Trunk p) (sym (e ∙ i)) (group_trunk p k merges (shape ms ss (past ms (If sp c when otherwise) w)) g)) none)
+    (whole_stands p ms front w [] [] (If sp c when otherwise)
+    (subst (Trunk p) (sym (e ∙ i)) (group_trunk p k merges (shape ms ss (past ms (If sp c when otherwise) w)) g)) none)
     (stands p ms k merges (front ++ with_inner [] (If sp c when otherwise)) (past ms (If sp c when otherwise) w) ss (omega arith) (omega arith) parts.1 g)
 stands p ms k merges front w (Cons s ss) e i h g = (
   OnTrunk (subst (Trunk p) (sym (e ∙ i)) (group_trunk p k merges (shape ms ss (past ms s w)) g)),

@@ -28,7 +28,8 @@ abbrev mutual
   sites_in ms front w gs bs (If sp c when otherwise) =
       site front w gs bs (If sp c when otherwise)
       ∷ (sites ms (front ++ Statement (If sp c when otherwise) bs ∷ []) (with_guard c w) (under gs w.vars c true) (bs ++ branch sp c true when ∷ []) when
-      ++ sites ms (front ++ Statement (If sp c when otherwise) bs ∷ statements (bs ++ branch sp c true when ∷ []) when) (at_otherwise ms c when w) (under gs w.vars c false) (bs ++ branch sp c false otherwise ∷ []) otherwise)
+      ++ sites ms (front ++ Statement (If sp c when otherwise) bs ∷ statements (bs ++ branch sp c true when ∷ []) when)
+      (at_otherwise ms c when w) (under gs w.vars c false) (bs ++ branch sp c false otherwise ∷ []) otherwise)
   sites_in ms front w gs bs s = site front w gs bs s ∷ []
 
   pub sites : List Mem → List Place → Flatten.Position → List Flat.Guard → List Branch → Stmts → List Site
@@ -55,16 +56,20 @@ map_append f (x ∷ xs) ys = ap (λ l. f x ∷ l) (map_append f xs ys)
 
 -- the sites are the statements' places, in text order
 mutual
-  pub places_in : (ms : List Mem) (front : List Place) (w : Flatten.Position) (gs : List Flat.Guard) (bs : List Branch) (s : Stmt) → map place_of (sites_in ms front w gs bs s) ≡ with_inner bs s
+  pub places_in : (ms : List Mem) (front : List Place) (w : Flatten.Position) (gs : List Flat.Guard) (bs : List Branch) (s : Stmt)
+      → map place_of (sites_in ms front w gs bs s) ≡ with_inner bs s
   places_in ms front w gs bs (If sp c when otherwise) =
       ap (λ l. Statement (If sp c when otherwise) bs ∷ l)
-      (map_append place_of (sites ms (front ++ Statement (If sp c when otherwise) bs ∷ []) (with_guard c w) (under gs w.vars c true) (bs ++ branch sp c true when ∷ []) when) _
+      (map_append place_of
+      (sites ms (front ++ Statement (If sp c when otherwise) bs ∷ []) (with_guard c w) (under gs w.vars c true) (bs ++ branch sp c true when ∷ []) when) _
       ∙ ap₂ (λ a b. a ++ b)
       (places_all ms (front ++ Statement (If sp c when otherwise) bs ∷ []) (with_guard c w) (under gs w.vars c true) (bs ++ branch sp c true when ∷ []) when)
-      (places_all ms (front ++ Statement (If sp c when otherwise) bs ∷ statements (bs ++ branch sp c true when ∷ []) when) (at_otherwise ms c when w) (under gs w.vars c false) (bs ++ branch sp c false otherwise ∷ []) otherwise))
+      (places_all ms (front ++ Statement (If sp c when otherwise) bs ∷ statements (bs ++ branch sp c true when ∷ []) when)
+      (at_otherwise ms c when w) (under gs w.vars c false) (bs ++ branch sp c false otherwise ∷ []) otherwise))
   places_in ms front w gs bs _ = refl
 
-  pub places_all : (ms : List Mem) (front : List Place) (w : Flatten.Position) (gs : List Flat.Guard) (bs : List Branch) (ss : Stmts) → map place_of (sites ms front w gs bs ss) ≡ statements bs ss
+  pub places_all : (ms : List Mem) (front : List Place) (w : Flatten.Position) (gs : List Flat.Guard) (bs : List Branch) (ss : Stmts)
+      → map place_of (sites ms front w gs bs ss) ≡ statements bs ss
   places_all ms front w gs bs Nil = refl
   places_all ms front w gs bs (Cons s ss) =
       map_append place_of (sites_in ms front w gs bs s) _
@@ -92,17 +97,23 @@ owns_append ms (x ∷ xs) ys = ap (λ l. own ms x ++ l) (owns_append ms xs ys) �
 
 -- the flat statements are those of the sites, in text order
 mutual
-  owns_in : (ms : List Mem) (front : List Place) (w : Flatten.Position) (gs : List Flat.Guard) (bs : List Branch) (s : Stmt) → owns ms (sites_in ms front w gs bs s) ≡ flat_stmt ms gs s w
+  owns_in : (ms : List Mem) (front : List Place) (w : Flatten.Position) (gs : List Flat.Guard) (bs : List Branch) (s : Stmt)
+      → owns ms (sites_in ms front w gs bs s) ≡ flat_stmt ms gs s w
   owns_in ms front w gs bs (If sp c when otherwise) =
       ap (λ l. binds_guard gs w c ++ l)
-      (owns_append ms (sites ms (front ++ Statement (If sp c when otherwise) bs ∷ []) (with_guard c w) (under gs w.vars c true) (bs ++ branch sp c true when ∷ []) when) _
+      (owns_append ms
+      (sites ms (front ++ Statement (If sp c when otherwise) bs ∷ []) (with_guard c w) (under gs w.vars c true) (bs ++ branch sp c true when ∷ []) when) _
       ∙ ap₂ (λ a b. a ++ b)
       (owns_all ms (front ++ Statement (If sp c when otherwise) bs ∷ []) (with_guard c w) (under gs w.vars c true) (bs ++ branch sp c true when ∷ []) when)
-      (owns_all ms (front ++ Statement (If sp c when otherwise) bs ∷ statements (bs ++ branch sp c true when ∷ []) when) (at_otherwise ms c when w) (under gs w.vars c false) (bs ++ branch sp c false otherwise ∷ []) otherwise))
-      ∙ sym (append_assoc (binds_guard gs w c) (flat_stmts ms (under gs w.vars c true) when (with_guard c w)) (flat_stmts ms (under gs w.vars c false) otherwise (at_otherwise ms c when w)))
+      (owns_all ms (front ++ Statement (If sp c when otherwise) bs ∷ statements (bs ++ branch sp c true when ∷ []) when)
+      (at_otherwise ms c when w) (under gs w.vars c false) (bs ++ branch sp c false otherwise ∷ []) otherwise))
+      ∙ sym
+      (append_assoc (binds_guard gs w c) (flat_stmts ms (under gs w.vars c true) when (with_guard c w))
+      (flat_stmts ms (under gs w.vars c false) otherwise (at_otherwise ms c when w)))
   owns_in ms front w gs bs s = append-nil (flat_stmt ms gs s w)
 
-  pub owns_all : (ms : List Mem) (front : List Place) (w : Flatten.Position) (gs : List Flat.Guard) (bs : List Branch) (ss : Stmts) → owns ms (sites ms front w gs bs ss) ≡ flat_stmts ms gs ss w
+  pub owns_all : (ms : List Mem) (front : List Place) (w : Flatten.Position) (gs : List Flat.Guard) (bs : List Branch) (ss : Stmts)
+      → owns ms (sites ms front w gs bs ss) ≡ flat_stmts ms gs ss w
   owns_all ms front w gs bs Nil = refl
   owns_all ms front w gs bs (Cons s ss) =
       owns_append ms (sites_in ms front w gs bs s) _
@@ -125,28 +136,43 @@ abbrev pub Stands : List Place → Site → Type 0
 Stands whole t = (later : List Place) × (whole ≡ t.front ++ place_of t ∷ later)
 
 mutual
-  stands_in : (whole : List Place) (ms : List Mem) (front : List Place) (w : Flatten.Position) (gs : List Flat.Guard) (bs : List Branch) (s : Stmt) (tail : List Place)
+  stands_in : (whole : List Place) (ms : List Mem) (front : List Place) (w : Flatten.Position) (gs : List Flat.Guard)
+      (bs : List Branch) (s : Stmt) (tail : List Place)
       → whole ≡ front ++ (with_inner bs s ++ tail) → All (Stands whole) (sites_in ms front w gs bs s)
   stands_in whole ms front w gs bs (If sp c when otherwise) tail e = (
     (_, e),
-    all_append (Stands whole) (sites ms (front ++ Statement (If sp c when otherwise) bs ∷ []) (with_guard c w) (under gs w.vars c true) (bs ++ branch sp c true when ∷ []) when) _
-        (stands_all whole ms (front ++ Statement (If sp c when otherwise) bs ∷ []) (with_guard c w) (under gs w.vars c true) (bs ++ branch sp c true when ∷ []) when (statements (bs ++ branch sp c false otherwise ∷ []) otherwise ++ tail)
-        (e ∙ ap (λ l. front ++ Statement (If sp c when otherwise) bs ∷ l) (append_assoc (statements (bs ++ branch sp c true when ∷ []) when) (statements (bs ++ branch sp c false otherwise ∷ []) otherwise) tail)
-        ∙ sym (append_assoc front (Statement (If sp c when otherwise) bs ∷ []) (statements (bs ++ branch sp c true when ∷ []) when ++ (statements (bs ++ branch sp c false otherwise ∷ []) otherwise ++ tail)))))
-        (stands_all whole ms (front ++ Statement (If sp c when otherwise) bs ∷ statements (bs ++ branch sp c true when ∷ []) when) (at_otherwise ms c when w) (under gs w.vars c false) (bs ++ branch sp c false otherwise ∷ []) otherwise tail
-        (e ∙ ap (λ l. front ++ Statement (If sp c when otherwise) bs ∷ l) (append_assoc (statements (bs ++ branch sp c true when ∷ []) when) (statements (bs ++ branch sp c false otherwise ∷ []) otherwise) tail)
-        ∙ sym (append_assoc front (Statement (If sp c when otherwise) bs ∷ statements (bs ++ branch sp c true when ∷ []) when) (statements (bs ++ branch sp c false otherwise ∷ []) otherwise ++ tail)))),
+    all_append (Stands whole)
+        (sites ms (front ++ Statement (If sp c when otherwise) bs ∷ []) (with_guard c w) (under gs w.vars c true) (bs ++ branch sp c true when ∷ []) when) _
+        (stands_all whole ms (front ++ Statement (If sp c when otherwise) bs ∷ []) (with_guard c w)
+        (under gs w.vars c true)
+        (bs ++ branch sp c true when ∷ []) when (statements (bs ++ branch sp c false otherwise ∷ []) otherwise ++ tail)
+        (e
+        ∙ ap (λ l. front ++ Statement (If sp c when otherwise) bs ∷ l)
+        (append_assoc (statements (bs ++ branch sp c true when ∷ []) when) (statements (bs ++ branch sp c false otherwise ∷ []) otherwise) tail)
+        ∙ sym
+        (append_assoc front (Statement (If sp c when otherwise) bs ∷ [])
+        (statements (bs ++ branch sp c true when ∷ []) when ++ (statements (bs ++ branch sp c false otherwise ∷ []) otherwise ++ tail)))))
+        (stands_all whole ms (front ++ Statement (If sp c when otherwise) bs ∷ statements (bs ++ branch sp c true when ∷ []) when)
+        (at_otherwise ms c when w) (under gs w.vars c false) (bs ++ branch sp c false otherwise ∷ []) otherwise tail
+        (e
+        ∙ ap (λ l. front ++ Statement (If sp c when otherwise) bs ∷ l)
+        (append_assoc (statements (bs ++ branch sp c true when ∷ []) when) (statements (bs ++ branch sp c false otherwise ∷ []) otherwise) tail)
+        ∙ sym
+        (append_assoc front (Statement (If sp c when otherwise) bs ∷ statements (bs ++ branch sp c true when ∷ []) when)
+        (statements (bs ++ branch sp c false otherwise ∷ []) otherwise ++ tail)))),
   )
   stands_in whole ms front w gs bs s tail e = ((tail, e), tt)
 
-  pub stands_all : (whole : List Place) (ms : List Mem) (front : List Place) (w : Flatten.Position) (gs : List Flat.Guard) (bs : List Branch) (ss : Stmts) (tail : List Place)
+  pub stands_all : (whole : List Place) (ms : List Mem) (front : List Place) (w : Flatten.Position)
+      (gs : List Flat.Guard) (bs : List Branch) (ss : Stmts) (tail : List Place)
       → whole ≡ front ++ (statements bs ss ++ tail) → All (Stands whole) (sites ms front w gs bs ss)
   stands_all whole ms front w gs bs Nil tail e = tt
   stands_all whole ms front w gs bs (Cons s ss) tail e =
       all_append (Stands whole) (sites_in ms front w gs bs s) _
       (stands_in whole ms front w gs bs s (statements bs ss ++ tail) (e ∙ ap (λ l. front ++ l) (append_assoc (with_inner bs s) (statements bs ss) tail)))
       (stands_all whole ms (front ++ with_inner bs s) (past ms s w) gs bs ss tail
-      (e ∙ ap (λ l. front ++ l) (append_assoc (with_inner bs s) (statements bs ss) tail) ∙ sym (append_assoc front (with_inner bs s) (statements bs ss ++ tail))))
+      (e ∙ ap (λ l. front ++ l) (append_assoc (with_inner bs s) (statements bs ss) tail)
+      ∙ sym (append_assoc front (with_inner bs s) (statements bs ss ++ tail))))
 
 -- THE WHOLE
 

@@ -83,11 +83,17 @@ pub groups : (p : Flat.Pipe) (k : ℕ) (merges : Option ℕ) (sh : Shape) → Pr
     → Rest p k (stage (leads_on k sh) None merges ∷ after k sh) → Groups p k merges sh
 groups p k merges Last proper h = (
   rest_head p k _ [] h,
-  let e = h.2 in let f = ap length h.1 in let g = length-append h.0 (stage Flat.Ends None merges ∷ []) in let i : length (stage Flat.Ends None merges ∷ []) ≡ 1 = refl in omega arith,
+  let e = h.2 in let f = ap length h.1 in let g = length-append h.0 (stage Flat.Ends None merges ∷ []) in
+      let i : length (stage Flat.Ends None merges ∷ []) ≡ 1 = refl in omega arith,
 )
 groups p k merges (Cut rest) proper h = (rest_head p k _ _ h, groups p (suc k) None rest proper (rest_tail p k _ _ h))
 groups p k merges (Fork x a b rest) proper h =
-    let tail = subst (λ l. Rest p (suc k) l) (append_assoc (row (side k true) (Flat.Goes (merge_at k a b)) k a) (row (side k false) (Flat.Goes (merge_at k a b)) (k + a) b) (stage (leads_on (merge_at k a b) rest) None (Some k) ∷ after (merge_at k a b) rest)) (rest_tail p k _ _ h) in
+    let tail =
+    subst (λ l. Rest p (suc k) l)
+    (append_assoc (row (side k true) (Flat.Goes (merge_at k a b)) k a)
+    (row (side k false) (Flat.Goes (merge_at k a b)) (k + a) b)
+    (stage (leads_on (merge_at k a b) rest) None (Some k) ∷ after (merge_at k a b) rest))
+    (rest_tail p k _ _ h) in
     let one = chain p (side k true) (Flat.Goes (merge_at k a b)) k a _ tail in
     let two = chain p (side k false) (Flat.Goes (merge_at k a b)) (k + a) b _ one.1 in
     (rest_head p k _ _ h, proper.0, one.0, two.0, groups p (merge_at k a b) (Some k) rest proper.1 two.1)
@@ -158,7 +164,9 @@ spot p k merges (Cut rest) g s low high = at (λ l. spot p (suc k) None rest g.1
     at after (inl l) = after (omega arith)
     at after (inr l) =
         subst (Spot p) (let f : k ≡ s = omega arith in f)
-        (Line (ap (λ (x : Flat.Stage). x.next) g.0) (ap (λ (x : Flat.Stage). x.branch) g.0) (group_trunk p (suc k) None rest g.1) (group_merge p (suc k) None rest g.1) (group_inside p (suc k) None rest g.1))
+        (Line (ap (λ (x : Flat.Stage). x.next) g.0) (ap (λ (x : Flat.Stage). x.branch) g.0)
+        (group_trunk p (suc k) None rest g.1) (group_merge p (suc k) None rest g.1)
+        (group_inside p (suc k) None rest g.1))
 spot p k merges (Fork x a b rest) g s low high = at (λ l. spot p (merge_at k a b) (Some k) rest g.4 s l high) (cases_lt k s)
   where
     third : (merge_at k a b ≤ s → Spot p s) → (k + a < s) → (merge_at k a b ≤ s) ⊎ (s < merge_at k a b) → Spot p s
@@ -192,7 +200,8 @@ between_in p f x a b r fork low high = at (cases_lt (f + a) r)
     here : (first : Bool) (d j : ℕ) → d + suc j ≡ long a b first → r ≡ suc (start f a first + d) → In p (record { fork = f; first = first }) r
     here first d j e i = ap (λ k. (stage_at p k).branch) i ∙ ap (λ (y : Flat.Stage). y.branch) (fork.chain first d j e)
 
-    at : (f + a < r) ⊎ (r ≤ f + a) → (first : Bool) × (d : ℕ) × (j : ℕ) × (d + suc j ≡ long a b first) × (r ≡ suc (start f a first + d)) × In p (record { fork = f; first = first }) r
+    at : (f + a < r) ⊎ (r ≤ f + a)
+        → (first : Bool) × (d : ℕ) × (j : ℕ) × (d + suc j ≡ long a b first) × (r ≡ suc (start f a first + d)) × In p (record { fork = f; first = first }) r
     at (inl l) =
         let e : (r - suc (f + a)) + suc (f + a + b - r) ≡ b = omega arith in
         let i : r ≡ suc (f + a + (r - suc (f + a))) = omega arith in
@@ -284,5 +293,6 @@ fork_same p f x a b y c d k l =
             let e : 0 + suc (d - 1) ≡ d = omega arith in
             let i : c + suc (a - suc c) ≡ a = omega arith in
             absurd (clash ((stage_at p (suc (f + c))).branch) (ap (λ (z : Flat.Stage). z.branch) (k.chain true c (a - suc c) i))
-            (subst (λ n. (stage_at p (suc n)).branch ≡ side f false) (let z : f + c + 0 ≡ f + c = omega arith in z) (ap (λ (z : Flat.Stage). z.branch) (l.chain false 0 (d - 1) e))))
+            (subst (λ n. (stage_at p (suc n)).branch ≡ side f false) (let z : f + c + 0 ≡ f + c = omega arith in z)
+            (ap (λ (z : Flat.Stage). z.branch) (l.chain false 0 (d - 1) e))))
         at (inr m) = m

@@ -23,7 +23,10 @@ truth_same false = refl
 -- what stands in more branches stands in these
 outer_more : (bs more : List Branch) → are_outer bs (bs ++ more) ≡ true
 outer_more [] more = refl
-outer_more (b ∷ bs) more = and_from (same_branch b b) (are_outer bs (bs ++ more)) (and_from (same_guard b.guard b.guard) (same_truth b.truth b.truth) (guard_refl b.guard) (truth_same b.truth)) (outer_more bs more)
+outer_more (b ∷ bs) more =
+    and_from (same_branch b b) (are_outer bs (bs ++ more))
+    (and_from (same_guard b.guard b.guard) (same_truth b.truth b.truth) (guard_refl b.guard) (truth_same b.truth))
+    (outer_more bs more)
 
 -- and not in the other branch of an `if`
 sides_differ : (sp : Span) (c : Expr) (when otherwise : Stmts) (xs more : List Branch)
@@ -44,37 +47,46 @@ from_append begun found bs (x ∷ xs) ys =
     at (is_separator x) refl (from_append (suc begun) (if are_outer (branches_of x) bs then suc begun else found) bs xs ys) (from_append begun found bs xs ys)
   where
     at : (b : Bool) → is_separator x ≡ b
-        → stage_from (suc begun) (if are_outer (branches_of x) bs then suc begun else found) bs (xs ++ ys) ≡ stage_from (suc begun + cut xs) (stage_from (suc begun) (if are_outer (branches_of x) bs then suc begun else found) bs xs) bs ys
+        → stage_from (suc begun) (if are_outer (branches_of x) bs then suc begun else found) bs (xs ++ ys)
+        ≡ stage_from (suc begun + cut xs) (stage_from (suc begun) (if are_outer (branches_of x) bs then suc begun else found) bs xs) bs ys
         → stage_from begun found bs (xs ++ ys) ≡ stage_from (begun + cut xs) (stage_from begun found bs xs) bs ys
         → (if b then stage_from (suc begun) (if are_outer (branches_of x) bs then suc begun else found) bs (xs ++ ys) else stage_from begun found bs (xs ++ ys))
-        ≡ stage_from (begun + cut (x ∷ xs)) (if b then stage_from (suc begun) (if are_outer (branches_of x) bs then suc begun else found) bs xs else stage_from begun found bs xs) bs ys
+        ≡ stage_from (begun + cut (x ∷ xs))
+        (if b then stage_from (suc begun) (if are_outer (branches_of x) bs then suc begun else found) bs xs else stage_from begun found bs xs) bs ys
     at true e h k =
         h ∙ ap (λ n. stage_from n (stage_from (suc begun) (if are_outer (branches_of x) bs then suc begun else found) bs xs) bs ys)
-        (let f = cut_append (x ∷ []) xs in let g : cut (x ∷ []) ≡ 1 = ap (λ b. 0 + cond b 1 0) e in let i : suc begun + cut xs ≡ begun + cut (x ∷ xs) = omega arith in i)
+        (let f = cut_append (x ∷ []) xs in let g : cut (x ∷ []) ≡ 1 = ap (λ b. 0 + cond b 1 0) e in
+        let i : suc begun + cut xs ≡ begun + cut (x ∷ xs) = omega arith in i)
     at false e h k =
         k ∙ ap (λ n. stage_from n (stage_from begun found bs xs) bs ys)
-        (let f = cut_append (x ∷ []) xs in let g : cut (x ∷ []) ≡ 0 = ap (λ b. 0 + cond b 1 0) e in let i : begun + cut xs ≡ begun + cut (x ∷ xs) = omega arith in i)
+        (let f = cut_append (x ∷ []) xs in let g : cut (x ∷ []) ≡ 0 = ap (λ b. 0 + cond b 1 0) e in
+        let i : begun + cut xs ≡ begun + cut (x ∷ xs) = omega arith in i)
 
 -- without a separator nothing new is found
 pub from_none : (begun found : ℕ) (bs : List Branch) (xs : List Place) → cut xs ≡ 0 → stage_from begun found bs xs ≡ found
 from_none begun found bs [] e = refl
 from_none begun found bs (x ∷ xs) e = at (is_separator x) refl (from_none begun found bs xs)
   where
-    at : (b : Bool) → is_separator x ≡ b → (cut xs ≡ 0 → stage_from begun found bs xs ≡ found) → (if b then stage_from (suc begun) (if are_outer (branches_of x) bs then suc begun else found) bs xs else stage_from begun found bs xs) ≡ found
+    at : (b : Bool) → is_separator x ≡ b → (cut xs ≡ 0 → stage_from begun found bs xs ≡ found)
+        → (if b then stage_from (suc begun) (if are_outer (branches_of x) bs then suc begun else found) bs xs else stage_from begun found bs xs) ≡ found
     at true f k = absurd (let g = cut_append (x ∷ []) xs in let h : cut (x ∷ []) ≡ 1 = ap (λ b. 0 + cond b 1 0) f in omega arith)
     at false f k = k (let g = cut_append (x ∷ []) xs in omega arith)
 
 -- nor where all separators stand in other branches
 mutual
-  skip_in : (begun found : ℕ) (cs : List Branch) (b : Branch) (bs : List Branch) (s : Stmt) → ((xs : List Branch) → are_outer (b ∷ xs) cs ≡ false) → stage_from begun found cs (with_inner (b ∷ bs) s) ≡ found
+  skip_in : (begun found : ℕ) (cs : List Branch) (b : Branch) (bs : List Branch) (s : Stmt)
+      → ((xs : List Branch) → are_outer (b ∷ xs) cs ≡ false) → stage_from begun found cs (with_inner (b ∷ bs) s) ≡ found
   skip_in begun found cs b bs (Separator sp) h = ap (λ c. if c then suc begun else found) (h bs)
   skip_in begun found cs b bs (If sp c when otherwise) h =
-      from_append begun found cs (statements (b ∷ (bs ++ branch sp c true when ∷ [])) when) (statements (b ∷ (bs ++ branch sp c false otherwise ∷ [])) otherwise)
+      from_append begun found cs (statements (b ∷ (bs ++ branch sp c true when ∷ [])) when)
+      (statements (b ∷ (bs ++ branch sp c false otherwise ∷ [])) otherwise)
       ∙ skip_all (begun + cut (statements (b ∷ (bs ++ branch sp c true when ∷ [])) when)) _ cs b (bs ++ branch sp c false otherwise ∷ []) otherwise h
       ∙ skip_all begun found cs b (bs ++ branch sp c true when ∷ []) when h
   skip_in begun found cs b bs _ h = refl
 
-  skip_all : (begun found : ℕ) (cs : List Branch) (b : Branch) (bs : List Branch) (ss : Stmts) → ((xs : List Branch) → are_outer (b ∷ xs) cs ≡ false) → stage_from begun found cs (statements (b ∷ bs) ss) ≡ found
+  skip_all : (begun found : ℕ) (cs : List Branch) (b : Branch) (bs : List Branch) (ss : Stmts)
+      → ((xs : List Branch) → are_outer (b ∷ xs) cs ≡ false)
+      → stage_from begun found cs (statements (b ∷ bs) ss) ≡ found
   skip_all begun found cs b bs Nil h = refl
   skip_all begun found cs b bs (Cons s ss) h =
       from_append begun found cs (with_inner (b ∷ bs) s) (statements (b ∷ bs) ss)
@@ -110,28 +122,39 @@ reads_cut front w bs sp b cs =
 
 -- statements that begin no stage
 mutual
-  none_in : (ms : List Mem) (front : List Place) (w : Flatten.Position) (gs : List Flat.Guard) (bs : List Branch) (s : Stmt) → separators_in s ≡ 0 → Reads front bs w.stage → All Staged (sites_in ms front w gs bs s)
+  none_in : (ms : List Mem) (front : List Place) (w : Flatten.Position) (gs : List Flat.Guard) (bs : List Branch) (s : Stmt)
+      → separators_in s ≡ 0 → Reads front bs w.stage → All Staged (sites_in ms front w gs bs s)
   none_in ms front w gs bs (If sp c when otherwise) e h =
       let g = cut_all (bs ++ branch sp c true when ∷ []) when in
       let i = cut_append (Statement (If sp c when otherwise) bs ∷ []) (statements (bs ++ branch sp c true when ∷ []) when) in
       let j : cut (Statement (If sp c when otherwise) bs ∷ []) ≡ 0 = refl in (
         reads_here front bs w.stage h,
-        all_append Staged (sites ms (front ++ Statement (If sp c when otherwise) bs ∷ []) (with_guard c w) (under gs w.vars c true) (bs ++ branch sp c true when ∷ []) when) _
-            (none_all ms (front ++ Statement (If sp c when otherwise) bs ∷ []) (with_guard c w) (under gs w.vars c true) (bs ++ branch sp c true when ∷ []) when (omega arith)
+        all_append Staged
+            (sites ms (front ++ Statement (If sp c when otherwise) bs ∷ []) (with_guard c w) (under gs w.vars c true) (bs ++ branch sp c true when ∷ []) when) _
+            (none_all ms (front ++ Statement (If sp c when otherwise) bs ∷ []) (with_guard c w) (under gs w.vars c true)
+            (bs ++ branch sp c true when ∷ []) when (omega arith)
             (subst (Reads (front ++ Statement (If sp c when otherwise) bs ∷ []) (bs ++ branch sp c true when ∷ [])) (sym (guard_stage c w))
-            (reads_inner (front ++ Statement (If sp c when otherwise) bs ∷ []) bs (branch sp c true when) w.stage (reads_none front (Statement (If sp c when otherwise) bs ∷ []) bs w.stage j h))))
-            (none_all ms (front ++ Statement (If sp c when otherwise) bs ∷ statements (bs ++ branch sp c true when ∷ []) when) (at_otherwise ms c when w) (under gs w.vars c false) (bs ++ branch sp c false otherwise ∷ []) otherwise (omega arith)
-            (reads_inner (front ++ Statement (If sp c when otherwise) bs ∷ statements (bs ++ branch sp c true when ∷ []) when) bs (branch sp c false otherwise) w.stage (reads_none front (Statement (If sp c when otherwise) bs ∷ statements (bs ++ branch sp c true when ∷ []) when) bs w.stage (omega arith) h))),
+            (reads_inner (front ++ Statement (If sp c when otherwise) bs ∷ []) bs (branch sp c true when) w.stage
+            (reads_none front (Statement (If sp c when otherwise) bs ∷ []) bs w.stage j h))))
+            (none_all ms (front ++ Statement (If sp c when otherwise) bs ∷ statements (bs ++ branch sp c true when ∷ []) when)
+            (at_otherwise ms c when w) (under gs w.vars c false)
+            (bs ++ branch sp c false otherwise ∷ []) otherwise (omega arith)
+            (reads_inner
+            (front ++ Statement (If sp c when otherwise) bs ∷ statements (bs ++ branch sp c true when ∷ []) when) bs
+            (branch sp c false otherwise) w.stage
+            (reads_none front (Statement (If sp c when otherwise) bs ∷ statements (bs ++ branch sp c true when ∷ []) when) bs w.stage (omega arith) h))),
       )
   none_in ms front w gs bs s e h = (reads_here front bs w.stage h, tt)
 
-  none_all : (ms : List Mem) (front : List Place) (w : Flatten.Position) (gs : List Flat.Guard) (bs : List Branch) (ss : Stmts) → separators ss ≡ 0 → Reads front bs w.stage → All Staged (sites ms front w gs bs ss)
+  none_all : (ms : List Mem) (front : List Place) (w : Flatten.Position) (gs : List Flat.Guard) (bs : List Branch) (ss : Stmts)
+      → separators ss ≡ 0 → Reads front bs w.stage → All Staged (sites ms front w gs bs ss)
   none_all ms front w gs bs Nil e h = tt
   none_all ms front w gs bs (Cons s ss) e h =
       let f = cut_in bs s in
       all_append Staged (sites_in ms front w gs bs s) _
       (none_in ms front w gs bs s (omega arith) h)
-      (none_all ms (front ++ with_inner bs s) (past ms s w) gs bs ss (omega arith) (subst (Reads (front ++ with_inner bs s) bs) (sym (none_past ms w s (omega arith))) (reads_none front (with_inner bs s) bs w.stage (omega arith) h)))
+      (none_all ms (front ++ with_inner bs s) (past ms s w) gs bs ss (omega arith)
+      (subst (Reads (front ++ with_inner bs s) bs) (sym (none_past ms w s (omega arith))) (reads_none front (with_inner bs s) bs w.stage (omega arith) h)))
 
   none_past : (ms : List Mem) (w : Flatten.Position) (s : Stmt) → separators_in s ≡ 0 → (past ms s w).stage ≡ w.stage
   none_past ms w (Separator sp) e = absurd (omega arith)
@@ -143,7 +166,8 @@ plain_staged : (ms : List Mem) (front : List Place) (w : Flatten.Position) (gs :
 plain_staged ms front w gs bs Nil h b r = tt
 plain_staged ms front w gs bs (Cons (Separator sp) ss) h b r = (
   reads_here front bs w.stage r,
-  plain_staged ms (front ++ Statement (Separator sp) bs ∷ []) (past ms (Separator sp) w) gs bs ss h (begun_passes ms front w bs (Separator sp) b) (reads_cut front w bs sp b),
+  plain_staged ms (front ++ Statement (Separator sp) bs ∷ [])
+      (past ms (Separator sp) w) gs bs ss h (begun_passes ms front w bs (Separator sp) b) (reads_cut front w bs sp b),
 )
 plain_staged ms front w gs bs (Cons (If sp c when otherwise) ss) h b r =
     let parts = and_parts (is_whole when otherwise) (is_plain ss) h in
@@ -151,7 +175,8 @@ plain_staged ms front w gs bs (Cons (If sp c when otherwise) ss) h b r =
     let f = cut_in bs (If sp c when otherwise) in
     all_append Staged (sites_in ms front w gs bs (If sp c when otherwise)) _
     (none_in ms front w gs bs (If sp c when otherwise) none r)
-    (plain_staged ms (front ++ with_inner bs (If sp c when otherwise)) (past ms (If sp c when otherwise) w) gs bs ss parts.1 (begun_passes ms front w bs (If sp c when otherwise) b)
+    (plain_staged ms (front ++ with_inner bs (If sp c when otherwise))
+    (past ms (If sp c when otherwise) w) gs bs ss parts.1 (begun_passes ms front w bs (If sp c when otherwise) b)
     (reads_none front (with_inner bs (If sp c when otherwise)) bs w.stage (omega arith) r))
 plain_staged ms front w gs bs (Cons s ss) h b r = (
   reads_here front bs w.stage r,
@@ -164,14 +189,20 @@ fork_staged : (ms : List Mem) (front : List Place) (w : Flatten.Position) (sp : 
     → All Staged (sites_in ms front w [] [] (If sp c when otherwise))
 fork_staged ms front w sp c when otherwise h k b r = (
   reads_here front [] w.stage r,
-  all_append Staged (sites ms (front ++ Statement (If sp c when otherwise) [] ∷ []) (with_guard c w) (under [] w.vars c true) (branch sp c true when ∷ []) when) _
-      (plain_staged ms (front ++ Statement (If sp c when otherwise) [] ∷ []) (with_guard c w) (under [] w.vars c true) (branch sp c true when ∷ []) when h (begun_first front w [] sp c when otherwise b)
+  all_append Staged
+      (sites ms (front ++ Statement (If sp c when otherwise) [] ∷ []) (with_guard c w) (under [] w.vars c true) (branch sp c true when ∷ []) when) _
+      (plain_staged ms (front ++ Statement (If sp c when otherwise) [] ∷ []) (with_guard c w) (under [] w.vars c true)
+      (branch sp c true when ∷ []) when h (begun_first front w [] sp c when otherwise b)
       (subst (Reads (front ++ Statement (If sp c when otherwise) [] ∷ []) (branch sp c true when ∷ [])) (sym (guard_stage c w)) first))
-      (plain_staged ms (front ++ Statement (If sp c when otherwise) [] ∷ statements (branch sp c true when ∷ []) when) (at_otherwise ms c when w) (under [] w.vars c false) (branch sp c false otherwise ∷ []) otherwise k (begun_second ms front w [] sp c when otherwise b) second),
+      (plain_staged ms (front ++ Statement (If sp c when otherwise) [] ∷ statements (branch sp c true when ∷ []) when)
+      (at_otherwise ms c when w) (under [] w.vars c false)
+      (branch sp c false otherwise ∷ []) otherwise k (begun_second ms front w [] sp c when otherwise b) second),
 )
   where
     first : Reads (front ++ Statement (If sp c when otherwise) [] ∷ []) (branch sp c true when ∷ []) w.stage
-    first = reads_inner (front ++ Statement (If sp c when otherwise) [] ∷ []) [] (branch sp c true when) w.stage (reads_none front (Statement (If sp c when otherwise) [] ∷ []) [] w.stage refl r)
+    first =
+        reads_inner (front ++ Statement (If sp c when otherwise) [] ∷ []) []
+        (branch sp c true when) w.stage (reads_none front (Statement (If sp c when otherwise) [] ∷ []) [] w.stage refl r)
 
     second : Reads (front ++ Statement (If sp c when otherwise) [] ∷ statements (branch sp c true when ∷ []) when) (branch sp c false otherwise ∷ []) w.stage
     second cs =
@@ -185,12 +216,14 @@ body_staged : (ms : List Mem) (front : List Place) (w : Flatten.Position) (ss : 
 body_staged ms front w Nil h b r = tt
 body_staged ms front w (Cons (Separator sp) ss) h b r = (
   reads_here front [] w.stage r,
-  body_staged ms (front ++ Statement (Separator sp) [] ∷ []) (past ms (Separator sp) w) ss h (begun_passes ms front w [] (Separator sp) b) (reads_cut front w [] sp b),
+  body_staged ms (front ++ Statement (Separator sp) [] ∷ [])
+      (past ms (Separator sp) w) ss h (begun_passes ms front w [] (Separator sp) b) (reads_cut front w [] sp b),
 )
 body_staged ms front w (Cons (If sp c when otherwise) (Cons (Separator sq) ss)) h b r =
     all_append Staged (sites_in ms front w [] [] (If sp c when otherwise)) _ (at (is_whole when otherwise) refl parts.0) (
       from_append 0 0 [] front (with_inner [] (If sp c when otherwise)) ∙ skipped ∙ r [],
-      body_staged ms ((front ++ with_inner [] (If sp c when otherwise)) ++ Statement (Separator sq) [] ∷ []) (past ms (Separator sq) (past ms (If sp c when otherwise) w)) ss parts.1
+      body_staged ms ((front ++ with_inner [] (If sp c when otherwise)) ++ Statement (Separator sq) [] ∷ [])
+          (past ms (Separator sq) (past ms (If sp c when otherwise) w)) ss parts.1
           (begun_passes ms (front ++ with_inner [] (If sp c when otherwise)) (past ms (If sp c when otherwise) w) [] (Separator sq) begun)
           (reads_cut (front ++ with_inner [] (If sp c when otherwise)) (past ms (If sp c when otherwise) w) [] sq begun),
     )
@@ -203,11 +236,13 @@ body_staged ms front w (Cons (If sp c when otherwise) (Cons (Separator sq) ss)) 
 
     skipped : stage_from (0 + cut front) (stage_from 0 0 [] front) [] (with_inner [] (If sp c when otherwise)) ≡ stage_from 0 0 [] front
     skipped =
-        from_append (0 + cut front) (stage_from 0 0 [] front) [] (statements (branch sp c true when ∷ []) when) (statements (branch sp c false otherwise ∷ []) otherwise)
+        from_append (0 + cut front) (stage_from 0 0 [] front) [] (statements (branch sp c true when ∷ []) when)
+        (statements (branch sp c false otherwise ∷ []) otherwise)
         ∙ skip_all (0 + cut front + cut (statements (branch sp c true when ∷ []) when)) _ [] (branch sp c false otherwise) [] otherwise (λ xs. refl)
         ∙ skip_all (0 + cut front) _ [] (branch sp c true when) [] when (λ xs. refl)
 
-    at : (w' : Bool) → is_whole when otherwise ≡ w' → fork_fits w' when otherwise (Cons (Separator sq) ss) ≡ true → All Staged (sites_in ms front w [] [] (If sp c when otherwise))
+    at : (w' : Bool) → is_whole when otherwise ≡ w' → fork_fits w' when otherwise (Cons (Separator sq) ss) ≡ true
+        → All Staged (sites_in ms front w [] [] (If sp c when otherwise))
     at true e f = none_in ms front w [] [] (If sp c when otherwise) (none_of_whole when otherwise e) r
     at false e f = let plain = and_parts (is_plain when) (is_plain otherwise) f in fork_staged ms front w sp c when otherwise plain.0 plain.1 b r
 body_staged ms front w (Cons (If sp c when otherwise) ss) h b r =
@@ -216,7 +251,8 @@ body_staged ms front w (Cons (If sp c when otherwise) ss) h b r =
     let f = cut_in [] (If sp c when otherwise) in
     all_append Staged (sites_in ms front w [] [] (If sp c when otherwise)) _
     (none_in ms front w [] [] (If sp c when otherwise) none r)
-    (body_staged ms (front ++ with_inner [] (If sp c when otherwise)) (past ms (If sp c when otherwise) w) ss parts.1 (begun_passes ms front w [] (If sp c when otherwise) b)
+    (body_staged ms (front ++ with_inner [] (If sp c when otherwise))
+    (past ms (If sp c when otherwise) w) ss parts.1 (begun_passes ms front w [] (If sp c when otherwise) b)
     (reads_none front (with_inner [] (If sp c when otherwise)) [] w.stage (omega arith) r))
 body_staged ms front w (Cons s ss) h b r = (
   reads_here front [] w.stage r,

@@ -41,14 +41,17 @@ merge_group p k merges Last i f g h low e = at (cases_lt k i)
         (r.0, r.1, r.2, r.3, sym same ∙ r.4)
 merge_group p k merges (Cut rest) i f g h low e = at (cases_lt k i) (λ l. merge_group p (suc k) None rest i f g.1 (λ z. absurd (none_some ℕ f None refl z)) l e)
   where
-    at : (k < i) ⊎ (i ≤ k) → (suc k ≤ i → (x : ℕ) × (a : ℕ) × (b : ℕ) × Forked p f x a b × (i ≡ merge_at f a b)) → (x : ℕ) × (a : ℕ) × (b : ℕ) × Forked p f x a b × (i ≡ merge_at f a b)
+    at : (k < i) ⊎ (i ≤ k) → (suc k ≤ i → (x : ℕ) × (a : ℕ) × (b : ℕ) × Forked p f x a b × (i ≡ merge_at f a b))
+        → (x : ℕ) × (a : ℕ) × (b : ℕ) × Forked p f x a b × (i ≡ merge_at f a b)
     at (inl l) more = more (omega arith)
     at (inr l) more =
         let same : k ≡ i = omega arith in
         let r = h (sym (group_merge p k merges (Cut rest) g) ∙ ap (λ n. (stage_at p n).merges) same ∙ e) in
         (r.0, r.1, r.2, r.3, sym same ∙ r.4)
 merge_group p k merges (Fork x a b rest) i f g h low e =
-    at (cases_lt k i) (λ l. merge_group p (merge_at k a b) (Some k) rest i f g.4 (λ z. (x, a, b, subst (λ n. Forked p n x a b) (number z) fork, ap (λ n. merge_at n a b) (number z))) l e)
+    at (cases_lt k i)
+    (λ l. merge_group p (merge_at k a b)
+    (Some k) rest i f g.4 (λ z. (x, a, b, subst (λ n. Forked p n x a b) (number z) fork, ap (λ n. merge_at n a b) (number z))) l e)
   where
     fork : Forked p k x a b
     fork = group_fork p k merges x a b rest g
@@ -61,11 +64,15 @@ merge_group p k merges (Fork x a b rest) i f g h low e =
         let r = between_in p k x a b i fork l m in
         none_some ℕ f (stage_at p i).merges (ap (λ n. (stage_at p n).merges) r.4 ∙ ap (λ (y : Flat.Stage). y.merges) (fork.chain r.0 r.1 r.2 r.3)) e
 
-    after : k < i → (i < merge_at k a b) ⊎ (merge_at k a b ≤ i) → (merge_at k a b ≤ i → (x : ℕ) × (a : ℕ) × (b : ℕ) × Forked p f x a b × (i ≡ merge_at f a b)) → (x : ℕ) × (a : ℕ) × (b : ℕ) × Forked p f x a b × (i ≡ merge_at f a b)
+    after : k < i → (i < merge_at k a b) ⊎ (merge_at k a b ≤ i)
+        → (merge_at k a b ≤ i → (x : ℕ) × (a : ℕ) × (b : ℕ) × Forked p f x a b × (i ≡ merge_at f a b))
+        → (x : ℕ) × (a : ℕ) × (b : ℕ) × Forked p f x a b × (i ≡ merge_at f a b)
     after l (inl m) more = absurd (inner l m)
     after l (inr m) more = more m
 
-    at : (k < i) ⊎ (i ≤ k) → (merge_at k a b ≤ i → (x : ℕ) × (a : ℕ) × (b : ℕ) × Forked p f x a b × (i ≡ merge_at f a b)) → (x : ℕ) × (a : ℕ) × (b : ℕ) × Forked p f x a b × (i ≡ merge_at f a b)
+    at : (k < i) ⊎ (i ≤ k)
+        → (merge_at k a b ≤ i → (x : ℕ) × (a : ℕ) × (b : ℕ) × Forked p f x a b × (i ≡ merge_at f a b))
+        → (x : ℕ) × (a : ℕ) × (b : ℕ) × Forked p f x a b × (i ≡ merge_at f a b)
     at (inl l) more = after l (cases_lt i (merge_at k a b)) more
     at (inr l) more =
         let same : k ≡ i = omega arith in
@@ -87,7 +94,9 @@ taken_some test d (suc n) [] h = absurd (false≢true h)
 taken_some test d zero (x ∷ xs) h = absurd (false≢true h)
 taken_some test d (suc n) (x ∷ xs) h = at (test x) refl h (taken_some test d n xs)
   where
-    at : (b : Bool) → test x ≡ b → (b || list_any test (take n xs)) ≡ true → (list_any test (take n xs) ≡ true → (i : ℕ) × (i < n) × (test (slice_index_or xs i d) ≡ true)) → (i : ℕ) × (i < suc n) × (test (slice_index_or (x ∷ xs) i d) ≡ true)
+    at : (b : Bool) → test x ≡ b → (b || list_any test (take n xs)) ≡ true
+        → (list_any test (take n xs) ≡ true → (i : ℕ) × (i < n) × (test (slice_index_or xs i d) ≡ true))
+        → (i : ℕ) × (i < suc n) × (test (slice_index_or (x ∷ xs) i d) ≡ true)
     at true e k more = (0, omega arith, e)
     at false e k more = let r = more k in (suc r.0, (let l = r.1 in omega arith), r.2)
 
@@ -111,7 +120,8 @@ pub first_index : (test : ℕ → Flat.Op → Bool) (ys : List Flat.Stmt) (k m :
     → m < length ms → slice_index_or (first_stages test ys k ms) m None ≡ first_stage (test (k + m)) ys
 first_index test ys k m [] l = absurd (omega arith)
 first_index test ys k zero (x ∷ ms) l = ap (λ n. first_stage (test n) ys) (let e : k ≡ k + 0 = omega arith in e)
-first_index test ys k (suc m) (x ∷ ms) l = first_index test ys (suc k) m ms (omega arith) ∙ ap (λ n. first_stage (test n) ys) (let e : suc k + m ≡ k + suc m = omega arith in e)
+first_index test ys k (suc m) (x ∷ ms) l =
+    first_index test ys (suc k) m ms (omega arith) ∙ ap (λ n. first_stage (test n) ys) (let e : suc k + m ≡ k + suc m = omega arith in e)
 
 -- no stage is listed for a memory past the last one
 pub first_past : (test : ℕ → Flat.Op → Bool) (ys : List Flat.Stmt) (k m : ℕ) (ms : List Mem)
@@ -157,14 +167,16 @@ before_same path a b [] l h = refl
 before_same path a b (y ∷ ys) l h = at (all_hold y.guards path) refl (before_same path a b ys l h.1)
   where
     here : (c d : Bool) → nat_lt y.stage b ≡ c → nat_lt y.stage a ≡ d → all_hold y.guards path ≡ true → before b (onpath path ys) ≡ before a (onpath path ys)
-        → (if c then record y { guards = []; op = answered_op y.op } ∷ before b (onpath path ys) else before b (onpath path ys)) ≡ (if d then record y { guards = []; op = answered_op y.op } ∷ before a (onpath path ys) else before a (onpath path ys))
+        → (if c then record y { guards = []; op = answered_op y.op } ∷ before b (onpath path ys) else before b (onpath path ys))
+        ≡ (if d then record y { guards = []; op = answered_op y.op } ∷ before a (onpath path ys) else before a (onpath path ys))
     here true true e f t k = ap (λ r. record y { guards = []; op = answered_op y.op } ∷ r) k
     here true false e f t k = absurd (h.0 t (ltb-false y.stage a f) (ltb-true y.stage b e))
     here false true e f t k = absurd (let i = ltb-true y.stage a f in let j = ltb-false y.stage b e in omega arith)
     here false false e f t k = k
 
     at : (t : Bool) → all_hold y.guards path ≡ t → before b (onpath path ys) ≡ before a (onpath path ys)
-        → before b (if t then record y { guards = [] } ∷ onpath path ys else onpath path ys) ≡ before a (if t then record y { guards = [] } ∷ onpath path ys else onpath path ys)
+        → before b (if t then record y { guards = [] } ∷ onpath path ys else onpath path ys)
+        ≡ before a (if t then record y { guards = [] } ∷ onpath path ys else onpath path ys)
     at true e k = here (nat_lt y.stage b) (nat_lt y.stage a) refl refl e k
     at false e k = k
 
@@ -190,7 +202,8 @@ module _ (p : Pipe) (rules : KeepsRules p) where
   pub trunk_holds : (s : ℕ) (c : Flat.Branch) → In (flat p) c s → none_of trunk_only (in_stage s (flat p).stmts) ≡ true
   trunk_holds s c i =
       none_each trunk_only (in_stage s (flat p).stmts)
-      (each_in_stage (λ y. trunk_only y.op ≡ false) s (flat p).stmts (each_weaker (λ y. trunk_only y.op ≡ true → Trunk (flat p) y.stage) (λ y. y.stage ≡ s → trunk_only y.op ≡ false) at (flat p).stmts each_trunk))
+      (each_in_stage (λ y. trunk_only y.op ≡ false) s (flat p).stmts
+      (each_weaker (λ y. trunk_only y.op ≡ true → Trunk (flat p) y.stage) (λ y. y.stage ≡ s → trunk_only y.op ≡ false) at (flat p).stmts each_trunk))
     where
       at : (y : Flat.Stmt) → (trunk_only y.op ≡ true → Trunk (flat p) y.stage) → y.stage ≡ s → trunk_only y.op ≡ false
       at y h e = by (trunk_only y.op) refl
@@ -200,10 +213,12 @@ module _ (p : Pipe) (rules : KeepsRules p) where
           by false f = refl
 
   -- the first statement of a kind that only the trunk holds
-  first_trunk : (test : Flat.Op → Bool) → ((op : Flat.Op) → test op ≡ true → trunk_only op ≡ true) → (s : ℕ) → first_stage test (flat p).stmts ≡ Some s → Trunk (flat p) s
+  first_trunk : (test : Flat.Op → Bool) → ((op : Flat.Op) → test op ≡ true → trunk_only op ≡ true) → (s : ℕ)
+      → first_stage test (flat p).stmts ≡ Some s → Trunk (flat p) s
   first_trunk test f s e =
       first_good (Trunk (flat p)) test (flat p).stmts s
-      (each_weaker (λ y. trunk_only y.op ≡ true → Trunk (flat p) y.stage) (λ y. test y.op ≡ true → Trunk (flat p) y.stage) (λ y h k. h (f y.op k)) (flat p).stmts each_trunk) e
+      (each_weaker (λ y. trunk_only y.op ≡ true → Trunk (flat p) y.stage)
+      (λ y. test y.op ≡ true → Trunk (flat p) y.stage) (λ y h k. h (f y.op k)) (flat p).stmts each_trunk) e
 
   some_stage : 0 < length (flat p).stages
   some_stage = group_inside (flat p) 0 None (body_shape p) (body_groups p (body_forked p rules))
@@ -211,7 +226,9 @@ module _ (p : Pipe) (rules : KeepsRules p) where
   trunk_start : Trunk (flat p) 0
   trunk_start = group_trunk (flat p) 0 None (body_shape p) (body_groups p (body_forked p rules))
 
-  trunk_or : (test : ℕ → Flat.Op → Bool) → ((m : ℕ) (op : Flat.Op) → test m op ≡ true → trunk_only op ≡ true) → (d m : ℕ) → Trunk (flat p) d → Trunk (flat p) (unwrap_or (slice_index_or (first_stages test (flat p).stmts 0 p.mems) m None) d)
+  trunk_or : (test : ℕ → Flat.Op → Bool) → ((m : ℕ) (op : Flat.Op) → test m op ≡ true → trunk_only op ≡ true)
+      → (d m : ℕ) → Trunk (flat p) d
+      → Trunk (flat p) (unwrap_or (slice_index_or (first_stages test (flat p).stmts 0 p.mems) m None) d)
   trunk_or test f d m t = at (cases_lt m (length p.mems))
     where
       by : (o : Option ℕ) → first_stage (test (0 + m)) (flat p).stmts ≡ o → Trunk (flat p) (unwrap_or o d)
@@ -219,13 +236,15 @@ module _ (p : Pipe) (rules : KeepsRules p) where
       by (Some s) e = first_trunk (test (0 + m)) (f (0 + m)) s e
 
       at : (m < length p.mems) ⊎ (length p.mems ≤ m) → Trunk (flat p) (unwrap_or (slice_index_or (first_stages test (flat p).stmts 0 p.mems) m None) d)
-      at (inl l) = subst (λ o. Trunk (flat p) (unwrap_or o d)) (sym (first_index test (flat p).stmts 0 m p.mems l)) (by (first_stage (test (0 + m)) (flat p).stmts) refl)
+      at (inl l) =
+          subst (λ o. Trunk (flat p) (unwrap_or o d)) (sym (first_index test (flat p).stmts 0 m p.mems l)) (by (first_stage (test (0 + m)) (flat p).stmts) refl)
       at (inr l) = subst (λ o. Trunk (flat p) (unwrap_or o d)) (sym (first_past test (flat p).stmts 0 m p.mems l)) t
 
   pub graph : Graph (flat p)
   graph =
       graph_of (flat p) at_spot some_stage trunk_start (λ m. trunk_or is_reserve reserve_trunk 0 m trunk_start)
-      (λ m. trunk_or is_release release_trunk (length (flat p).stages) m (ap (λ (y : Flat.Stage). y.branch) (past_trunk (flat p) (length (flat p).stages) (omega arith))))
+      (λ m. trunk_or is_release release_trunk (length (flat p).stages) m
+      (ap (λ (y : Flat.Stage). y.branch) (past_trunk (flat p) (length (flat p).stages) (omega arith))))
 
   pub branches : Branches (flat p)
   branches = branches_of (flat p) at_spot
@@ -240,7 +259,8 @@ module _ (p : Pipe) (rules : KeepsRules p) where
   pub verify_low : (v : ℕ) → verify_stage (flat p).stmts ≡ Some v → v < length (flat p).stages
   verify_low v e =
       first_good (λ n. n < length (flat p).stages) is_verify (flat p).stmts v
-      (each_weaker (λ y. y.stage < length (flat p).stages) (λ y. is_verify y.op ≡ true → y.stage < length (flat p).stages) (λ y h k. h) (flat p).stmts each_inside)
+      (each_weaker (λ y. y.stage < length (flat p).stages)
+      (λ y. is_verify y.op ≡ true → y.stage < length (flat p).stages) (λ y h k. h) (flat p).stmts each_inside)
       (sym (verify_first (flat p).stmts) ∙ e)
 
   -- a stage inside a fork
@@ -258,7 +278,9 @@ module _ (p : Pipe) (rules : KeepsRules p) where
   merged v f b e i m =
       let here = of_fork f b i in
       let some = taken_some (λ x. merges_fork x.merges f) last_stage (suc v) (flat p).stages m in
-      let it = merge_group (flat p) 0 None (body_shape p) some.0 f (body_groups p (body_forked p rules)) (λ z. absurd (none_some ℕ f None refl z)) (omega arith) (merges_some _ f some.2) in
+      let it =
+      merge_group (flat p) 0 None (body_shape p) some.0 f (body_groups p (body_forked p rules))
+      (λ z. absurd (none_some ℕ f None refl z)) (omega arith) (merges_some _ f some.2) in
       let same = fork_same (flat p) f here.0 here.1 here.2 it.0 it.1 it.2 here.3 it.3 in
       let at = it.4 in
       let l = some.1 in
@@ -277,7 +299,10 @@ module _ (p : Pipe) (rules : KeepsRules p) where
       late l (inl k) = let r = between_in (flat p) f here.0 here.1 here.2 v here.3 l k in not_trunk (flat p) _ v (verify_in_trunk v e) r.5
       late l (inr k) =
           let merge = here.3.merge in
-          false≢true (sym m ∙ some_taken (λ x. merges_fork x.merges f) last_stage (suc v) (merge_at f here.1 here.2) (flat p).stages (omega arith) here.3.inside (ap (λ o. merges_fork o f) merge ∙ eq-eqb f f refl))
+          false≢true
+          (sym m
+          ∙ some_taken (λ x. merges_fork x.merges f) last_stage (suc v) (merge_at f here.1 here.2)
+          (flat p).stages (omega arith) here.3.inside (ap (λ o. merges_fork o f) merge ∙ eq-eqb f f refl))
 
       at : (f < v) ⊎ (v ≤ f) → v ≤ f
       at (inl l) = absurd (late l (cases_lt v (merge_at f here.1 here.2)))
@@ -286,8 +311,11 @@ module _ (p : Pipe) (rules : KeepsRules p) where
   -- PATHS
 
   -- a statement of a path that stands in a branch is on the path's side
-  pub each_side : (path : List ℕ) → Each (λ y. all_hold y.guards path ≡ true → (c : Flat.Branch) → In (flat p) c y.stage → goes_by (flat p) c path ≡ true) (flat p).stmts
-  each_side path = each_fine p rules (λ y. all_hold y.guards path ≡ true → (c : Flat.Branch) → In (flat p) c y.stage → goes_by (flat p) c path ≡ true) (λ t h op e. at t h.standing)
+  pub each_side : (path : List ℕ)
+      → Each (λ y. all_hold y.guards path ≡ true → (c : Flat.Branch) → In (flat p) c y.stage → goes_by (flat p) c path ≡ true) (flat p).stmts
+  each_side path =
+      each_fine p rules (λ y. all_hold y.guards path ≡ true → (c : Flat.Branch) → In (flat p) c y.stage → goes_by (flat p) c path ≡ true)
+      (λ t h op e. at t h.standing)
     where
       side : (first : Bool) (v : ℕ) → takes_branch first v ≡ true → (if first then v == 1 else not (v == 1)) ≡ true
       side true v h = h
@@ -308,21 +336,26 @@ module _ (p : Pipe) (rules : KeepsRules p) where
       by false true e = absurd (false≢true e)
       by false false e = refl
 
-  pub skips : (path : List ℕ) (s : ℕ) → s < length (flat p).stages → visits_stage (flat p) path s ≡ true → before (next_of (flat p) s path) (onpath path (flat p).stmts) ≡ before (suc s) (onpath path (flat p).stmts)
+  pub skips : (path : List ℕ) (s : ℕ) → s < length (flat p).stages → visits_stage (flat p) path s ≡ true
+      → before (next_of (flat p) s path) (onpath path (flat p).stmts) ≡ before (suc s) (onpath path (flat p).stmts)
   skips path s low on = at (way (flat p) s path (at_spot s low))
     where
       near : next_of (flat p) s path ≡ suc s → before (next_of (flat p) s path) (onpath path (flat p).stmts) ≡ before (suc s) (onpath path (flat p).stmts)
       near e = ap (λ n. before n (onpath path (flat p).stmts)) e
 
-      far : (n f x a b : ℕ) (first : Bool) → Forked (flat p) f x a b → next_of (flat p) s path ≡ n → f ≤ s → suc s ≤ n → n ≤ merge_at f a b → (slice_index path x == 1) ≡ first
+      far : (n f x a b : ℕ) (first : Bool) → Forked (flat p) f x a b → next_of (flat p) s path ≡ n → f ≤ s → suc s ≤ n
+          → n ≤ merge_at f a b → (slice_index path x == 1) ≡ first
           → ((d j : ℕ) → d + suc j ≡ long a b first → suc s ≤ suc (start f a first + d) → suc (start f a first + d) < n → ⊥)
           → before (next_of (flat p) s path) (onpath path (flat p).stmts) ≡ before (suc s) (onpath path (flat p).stmts)
       far n f x a b first k e l m u v none =
           ap (λ i. before i (onpath path (flat p).stmts)) e
           ∙ before_same path (suc s) n (flat p).stmts m
-          (each_weaker (λ y. all_hold y.guards path ≡ true → (c : Flat.Branch) → In (flat p) c y.stage → goes_by (flat p) c path ≡ true) (λ y. all_hold y.guards path ≡ true → suc s ≤ y.stage → y.stage < n → ⊥) by (flat p).stmts (each_side path))
+          (each_weaker (λ y. all_hold y.guards path ≡ true → (c : Flat.Branch) → In (flat p) c y.stage → goes_by (flat p) c path ≡ true)
+          (λ y. all_hold y.guards path ≡ true → suc s ≤ y.stage → y.stage < n → ⊥) by (flat p).stmts (each_side path))
         where
-          by : (y : Flat.Stmt) → (all_hold y.guards path ≡ true → (c : Flat.Branch) → In (flat p) c y.stage → goes_by (flat p) c path ≡ true) → all_hold y.guards path ≡ true → suc s ≤ y.stage → y.stage < n → ⊥
+          by : (y : Flat.Stmt)
+              → (all_hold y.guards path ≡ true → (c : Flat.Branch) → In (flat p) c y.stage → goes_by (flat p) c path ≡ true)
+              → all_hold y.guards path ≡ true → suc s ≤ y.stage → y.stage < n → ⊥
           by y h t q r =
               let i = between_in (flat p) f x a b y.stage k (omega arith) (omega arith) in
               let same : i.0 ≡ first = sym (side_of (record { fork = f; first = i.0 }) path x a b k (h t _ i.5)) ∙ v in
@@ -335,16 +368,21 @@ module _ (p : Pipe) (rules : KeepsRules p) where
       at (Enters x a b first j k e v g) =
           let h = start_high s a b 0 j first (let w : 0 + suc j ≡ long a b first = omega arith in w) in
           let y = start_low s a first in
-          far (suc (start s a first)) s x a b first k (ap (stage_or (length (flat p).stages)) g) (omega arith) (omega arith) (omega arith) v (λ d i q r z. omega arith)
+          far (suc (start s a first)) s x a b first k (ap (stage_or (length (flat p).stages)) g) (omega arith)
+          (omega arith) (omega arith) v (λ d i q r z. omega arith)
       at (Skips x a b first k e v g) =
           far (merge_at s a b) s x a b first k (ap (stage_or (length (flat p).stages)) g) (omega arith) (omega arith) (omega arith) v (λ d i q r z. omega arith)
       at (Stays f x a b first d j k e i g) = near (ap (stage_or (length (flat p).stages)) g)
       at (Leaves f x a b first d k e i g) =
           let y = start_low f a first in
           let h = start_high f a b d 0 first (let w : d + suc 0 ≡ long a b first = omega arith in w) in
-          far (merge_at f a b) f x a b first k (ap (stage_or (length (flat p).stages)) g) (omega arith) (omega arith) (omega arith) (value f x a b first d k e i) (λ c j q r z. omega arith)
+          far (merge_at f a b) f x a b first k (ap (stage_or (length (flat p).stages)) g) (omega arith) (omega arith)
+          (omega arith) (value f x a b first d k e i) (λ c j q r z. omega arith)
         where
-          value : (f x a b : ℕ) (first : Bool) (d : ℕ) → Forked (flat p) f x a b → d + 1 ≡ long a b first → s ≡ suc (start f a first + d) → (slice_index path x == 1) ≡ first
+          value : (f x a b : ℕ) (first : Bool) (d : ℕ) → Forked (flat p) f x a b → d + 1 ≡ long a b first
+              → s ≡ suc (start f a first + d) → (slice_index path x == 1) ≡ first
           value f x a b first d k e i =
-              let inner : In (flat p) (record { fork = f; first = first }) s = ap (λ n. (stage_at (flat p) n).branch) i ∙ ap (λ (y : Flat.Stage). y.branch) (k.chain first d 0 (let w : d + suc 0 ≡ long a b first = omega arith in w)) in
+              let inner : In (flat p) (record { fork = f; first = first }) s =
+              ap (λ n. (stage_at (flat p) n).branch) i
+              ∙ ap (λ (y : Flat.Stage). y.branch) (k.chain first d 0 (let w : d + suc 0 ≡ long a b first = omega arith in w)) in
               side_of (record { fork = f; first = first }) path x a b k (ap (comes_by (flat p) path) (sym inner) ∙ on)

@@ -13,22 +13,32 @@ use Rattle.pdl_source_stages.proofs.Sites.{branch, sites_in, sites, sites_of, fr
 -- AN INVARIANT OF THE WALK
 
 module _ (ms : List Mem) (I : List Place → Flatten.Position → List Flat.Guard → List Branch → Type 0)
-    (passes : (front : List Place) (w : Flatten.Position) (gs : List Flat.Guard) (bs : List Branch) (s : Stmt) → I front w gs bs → I (front ++ with_inner bs s) (past ms s w) gs bs)
-    (first : (front : List Place) (w : Flatten.Position) (gs : List Flat.Guard) (bs : List Branch) (sp : Span) (c : Expr) (when otherwise : Stmts) → I front w gs bs
+    (passes : (front : List Place) (w : Flatten.Position) (gs : List Flat.Guard) (bs : List Branch) (s : Stmt)
+    → I front w gs bs → I (front ++ with_inner bs s) (past ms s w) gs bs)
+    (first : (front : List Place) (w : Flatten.Position) (gs : List Flat.Guard) (bs : List Branch) (sp : Span) (c : Expr) (when otherwise : Stmts)
+    → I front w gs bs
     → I (front ++ Statement (If sp c when otherwise) bs ∷ []) (with_guard c w) (under gs w.vars c true) (bs ++ branch sp c true when ∷ []))
-    (second : (front : List Place) (w : Flatten.Position) (gs : List Flat.Guard) (bs : List Branch) (sp : Span) (c : Expr) (when otherwise : Stmts) → I front w gs bs
-    → I (front ++ Statement (If sp c when otherwise) bs ∷ statements (bs ++ branch sp c true when ∷ []) when) (at_otherwise ms c when w) (under gs w.vars c false) (bs ++ branch sp c false otherwise ∷ [])) where
+    (second : (front : List Place) (w : Flatten.Position) (gs : List Flat.Guard) (bs : List Branch) (sp : Span) (c : Expr) (when otherwise : Stmts)
+    → I front w gs bs
+    → I (front ++ Statement (If sp c when otherwise) bs ∷ statements (bs ++ branch sp c true when ∷ []) when)
+    (at_otherwise ms c when w) (under gs w.vars c false) (bs ++ branch sp c false otherwise ∷ [])) where
   mutual
-    holds_in : (front : List Place) (w : Flatten.Position) (gs : List Flat.Guard) (bs : List Branch) (s : Stmt) → I front w gs bs → All (λ t. I t.front t.walk t.gs t.branches) (sites_in ms front w gs bs s)
+    holds_in : (front : List Place) (w : Flatten.Position) (gs : List Flat.Guard) (bs : List Branch) (s : Stmt)
+        → I front w gs bs → All (λ t. I t.front t.walk t.gs t.branches) (sites_in ms front w gs bs s)
     holds_in front w gs bs (If sp c when otherwise) h = (
       h,
-      all_append (λ t. I t.front t.walk t.gs t.branches) (sites ms (front ++ Statement (If sp c when otherwise) bs ∷ []) (with_guard c w) (under gs w.vars c true) (bs ++ branch sp c true when ∷ []) when) _
-          (holds_all (front ++ Statement (If sp c when otherwise) bs ∷ []) (with_guard c w) (under gs w.vars c true) (bs ++ branch sp c true when ∷ []) when (first front w gs bs sp c when otherwise h))
-          (holds_all (front ++ Statement (If sp c when otherwise) bs ∷ statements (bs ++ branch sp c true when ∷ []) when) (at_otherwise ms c when w) (under gs w.vars c false) (bs ++ branch sp c false otherwise ∷ []) otherwise (second front w gs bs sp c when otherwise h)),
+      all_append (λ t. I t.front t.walk t.gs t.branches)
+          (sites ms (front ++ Statement (If sp c when otherwise) bs ∷ []) (with_guard c w) (under gs w.vars c true) (bs ++ branch sp c true when ∷ []) when) _
+          (holds_all (front ++ Statement (If sp c when otherwise) bs ∷ []) (with_guard c w) (under gs w.vars c true)
+          (bs ++ branch sp c true when ∷ []) when (first front w gs bs sp c when otherwise h))
+          (holds_all (front ++ Statement (If sp c when otherwise) bs ∷ statements (bs ++ branch sp c true when ∷ []) when)
+          (at_otherwise ms c when w) (under gs w.vars c false)
+          (bs ++ branch sp c false otherwise ∷ []) otherwise (second front w gs bs sp c when otherwise h)),
     )
     holds_in front w gs bs s h = (h, tt)
 
-    pub holds_all : (front : List Place) (w : Flatten.Position) (gs : List Flat.Guard) (bs : List Branch) (ss : Stmts) → I front w gs bs → All (λ t. I t.front t.walk t.gs t.branches) (sites ms front w gs bs ss)
+    pub holds_all : (front : List Place) (w : Flatten.Position) (gs : List Flat.Guard) (bs : List Branch) (ss : Stmts)
+        → I front w gs bs → All (λ t. I t.front t.walk t.gs t.branches) (sites ms front w gs bs ss)
     holds_all front w gs bs Nil h = tt
     holds_all front w gs bs (Cons s ss) h =
         all_append (λ t. I t.front t.walk t.gs t.branches) (sites_in ms front w gs bs s) _
@@ -90,7 +100,9 @@ mutual
       let f = cut_append (statements (bs ++ branch sp c true when ∷ []) when) (statements (bs ++ branch sp c false otherwise ∷ []) otherwise) in
       let g = cut_all (bs ++ branch sp c true when ∷ []) when in
       let h = cut_all (bs ++ branch sp c false otherwise ∷ []) otherwise in
-      let i : cut (with_inner bs (If sp c when otherwise)) ≡ cut (statements (bs ++ branch sp c true when ∷ []) when ++ statements (bs ++ branch sp c false otherwise ∷ []) otherwise) = omega arith in
+      let i : cut (with_inner bs (If sp c when otherwise))
+      ≡ cut (statements (bs ++ branch sp c true when ∷ []) when ++ statements (bs ++ branch sp c false otherwise ∷ []) otherwise) =
+      omega arith in
       omega arith
   cut_in bs _ = refl
 
@@ -134,7 +146,9 @@ begun_second ms front w bs sp c when otherwise h =
     let d = past_all_begun ms when (with_guard c w) in
     let g = cut_append front (Statement (If sp c when otherwise) bs ∷ statements (bs ++ branch sp c true when ∷ []) when) in
     let i = cut_all (bs ++ branch sp c true when ∷ []) when in
-    let j : cut (Statement (If sp c when otherwise) bs ∷ statements (bs ++ branch sp c true when ∷ []) when) ≡ cut (statements (bs ++ branch sp c true when ∷ []) when) = omega arith in
+    let j : cut (Statement (If sp c when otherwise) bs ∷ statements (bs ++ branch sp c true when ∷ []) when)
+    ≡ cut (statements (bs ++ branch sp c true when ∷ []) when) =
+    omega arith in
     omega arith
 
 -- NAMES OF VARIABLES
@@ -186,13 +200,20 @@ mutual
   told_past ms bs (DelayedRead _ x from) w = told_append w.vars _
   told_past ms bs (If sp c when otherwise) w =
       told_past_all ms (bs ++ branch sp c false otherwise ∷ []) otherwise (back_in w.stage (past_all ms when (with_guard c w)))
-      ∙ ap (λ l. l ++ names (statements (bs ++ branch sp c false otherwise ∷ []) otherwise)) (told_past_all ms (bs ++ branch sp c true when ∷ []) when (with_guard c w) ∙ ap (λ l. l ++ names (statements (bs ++ branch sp c true when ∷ []) when)) (told_guard sp c when otherwise w))
-      ∙ append_assoc (told w.vars ++ names_by (If sp c when otherwise)) (names (statements (bs ++ branch sp c true when ∷ []) when)) (names (statements (bs ++ branch sp c false otherwise ∷ []) otherwise))
-      ∙ append_assoc (told w.vars) (names_by (If sp c when otherwise)) (names (statements (bs ++ branch sp c true when ∷ []) when) ++ names (statements (bs ++ branch sp c false otherwise ∷ []) otherwise))
-      ∙ ap (λ l. told w.vars ++ (names_by (If sp c when otherwise) ++ l)) (sym (names_append (statements (bs ++ branch sp c true when ∷ []) when) (statements (bs ++ branch sp c false otherwise ∷ []) otherwise)))
+      ∙ ap (λ l. l ++ names (statements (bs ++ branch sp c false otherwise ∷ []) otherwise))
+      (told_past_all ms (bs ++ branch sp c true when ∷ []) when (with_guard c w)
+      ∙ ap (λ l. l ++ names (statements (bs ++ branch sp c true when ∷ []) when)) (told_guard sp c when otherwise w))
+      ∙ append_assoc (told w.vars ++ names_by (If sp c when otherwise))
+      (names (statements (bs ++ branch sp c true when ∷ []) when))
+      (names (statements (bs ++ branch sp c false otherwise ∷ []) otherwise))
+      ∙ append_assoc (told w.vars) (names_by (If sp c when otherwise))
+      (names (statements (bs ++ branch sp c true when ∷ []) when) ++ names (statements (bs ++ branch sp c false otherwise ∷ []) otherwise))
+      ∙ ap (λ l. told w.vars ++ (names_by (If sp c when otherwise) ++ l))
+      (sym (names_append (statements (bs ++ branch sp c true when ∷ []) when) (statements (bs ++ branch sp c false otherwise ∷ []) otherwise)))
   told_past ms bs _ w = sym (append-nil (told w.vars))
 
-  pub told_past_all : (ms : List Mem) (bs : List Branch) (ss : Stmts) (w : Flatten.Position) → told (past_all ms ss w).vars ≡ told w.vars ++ names (statements bs ss)
+  pub told_past_all : (ms : List Mem) (bs : List Branch) (ss : Stmts) (w : Flatten.Position)
+      → told (past_all ms ss w).vars ≡ told w.vars ++ names (statements bs ss)
   told_past_all ms bs Nil w = sym (append-nil (told w.vars))
   told_past_all ms bs (Cons s ss) w =
       told_past_all ms bs ss (past ms s w)
@@ -287,7 +308,14 @@ chosen_push front [] x h k = (k, tt)
 chosen_push front (y ∷ ys) x h k = (h.0, chosen_push front ys x h.1 k)
 
 under_more : (front more : List Place) (gs : List Flat.Guard) (bs : List Branch) → Under front gs bs → Under (front ++ more) gs bs
-under_more front more gs bs u = record { choices = u.choices; guards_are = u.guards_are; branches_are = u.branches_are; chosen = chosen_more front more u.choices u.chosen; nested = u.nested }
+under_more front more gs bs u =
+    record {
+      choices = u.choices;
+      guards_are = u.guards_are;
+      branches_are = u.branches_are;
+      chosen = chosen_more front more u.choices u.chosen;
+      nested = u.nested;
+    }
 
 nested_push : (bs : List Branch) (hs : List Choice) (x : Choice) → Nested bs hs
     → x.branches ≡ bs ++ map rule_branch hs → Nested bs (hs ++ x ∷ [])
@@ -337,7 +365,8 @@ at_first front w gs bs sp c when otherwise h = record {
 at_second : (ms : List Mem) (front : List Place) (w : Flatten.Position) (gs : List Flat.Guard) (bs : List Branch)
     (sp : Span) (c : Expr) (when otherwise : Stmts)
     → At front w gs bs
-    → At (front ++ Statement (If sp c when otherwise) bs ∷ statements (bs ++ branch sp c true when ∷ []) when) (at_otherwise ms c when w) (under gs w.vars c false) (bs ++ branch sp c false otherwise ∷ [])
+    → At (front ++ Statement (If sp c when otherwise) bs ∷ statements (bs ++ branch sp c true when ∷ []) when)
+    (at_otherwise ms c when w) (under gs w.vars c false) (bs ++ branch sp c false otherwise ∷ [])
 at_second ms front w gs bs sp c when otherwise h = record {
   begun = begun_second ms front w bs sp c when otherwise h.begun;
   named = named_second ms front w bs sp c when otherwise h.named;
@@ -350,7 +379,11 @@ at_second ms front w gs bs sp c when otherwise h = record {
 
 -- before the statements
 front_named : (p : Pipe) → Named (front_of p) (at_start p)
-front_named p = of_params p.params ∙ sym (names_append (map Parameter p.params) (map Memory p.mems) ∙ ap (λ l. names (map Parameter p.params) ++ l) (of_mems p.mems) ∙ append-nil (names (map Parameter p.params)))
+front_named p =
+    of_params p.params
+    ∙ sym
+    (names_append (map Parameter p.params) (map Memory p.mems)
+    ∙ ap (λ l. names (map Parameter p.params) ++ l) (of_mems p.mems) ∙ append-nil (names (map Parameter p.params)))
   where
     of_params : (xs : List Param) → told (params_of xs) ≡ names (map Parameter xs)
     of_params [] = refl

@@ -11,35 +11,46 @@ use Rattle.pdl_source_stages.proofs.Spots.{merge_at, start, long, Forked, Spot, 
 -- a thread in stage s leaves the pipe, goes on in the trunk, enters a branch of a fork or passes over it, goes on in a branch, or leaves it for the merge
 pub data Way (p : Flat.Pipe) (s : ℕ) (env : List ℕ) : Type 0 where
   Ends : Trunk p s → suc s ≡ length p.stages → goes_to (stage_at p s).next env ≡ None → Way p s env
-  Steps : Trunk p s → Trunk p (suc s) → (stage_at p (suc s)).merges ≡ None → suc s < length p.stages → goes_to (stage_at p s).next env ≡ Some (suc s) → Way p s env
-  Enters : (x a b : ℕ) (first : Bool) (j : ℕ) → Forked p s x a b → long a b first ≡ suc j → (slice_index env x == 1) ≡ first → goes_to (stage_at p s).next env ≡ Some (suc (start s a first)) → Way p s env
-  Skips : (x a b : ℕ) (first : Bool) → Forked p s x a b → long a b first ≡ 0 → (slice_index env x == 1) ≡ first → goes_to (stage_at p s).next env ≡ Some (merge_at s a b) → Way p s env
-  Stays : (f x a b : ℕ) (first : Bool) (d j : ℕ) → Forked p f x a b → d + suc (suc j) ≡ long a b first → s ≡ suc (start f a first + d) → goes_to (stage_at p s).next env ≡ Some (suc s) → Way p s env
-  Leaves : (f x a b : ℕ) (first : Bool) (d : ℕ) → Forked p f x a b → d + 1 ≡ long a b first → s ≡ suc (start f a first + d) → goes_to (stage_at p s).next env ≡ Some (merge_at f a b) → Way p s env
+  Steps : Trunk p s → Trunk p (suc s) → (stage_at p (suc s)).merges ≡ None → suc s < length p.stages
+      → goes_to (stage_at p s).next env ≡ Some (suc s) → Way p s env
+  Enters : (x a b : ℕ) (first : Bool) (j : ℕ) → Forked p s x a b → long a b first ≡ suc j
+      → (slice_index env x == 1) ≡ first → goes_to (stage_at p s).next env ≡ Some (suc (start s a first)) → Way p s env
+  Skips : (x a b : ℕ) (first : Bool) → Forked p s x a b → long a b first ≡ 0 → (slice_index env x == 1) ≡ first
+      → goes_to (stage_at p s).next env ≡ Some (merge_at s a b) → Way p s env
+  Stays : (f x a b : ℕ) (first : Bool) (d j : ℕ) → Forked p f x a b → d + suc (suc j) ≡ long a b first
+      → s ≡ suc (start f a first + d) → goes_to (stage_at p s).next env ≡ Some (suc s) → Way p s env
+  Leaves : (f x a b : ℕ) (first : Bool) (d : ℕ) → Forked p f x a b → d + 1 ≡ long a b first
+      → s ≡ suc (start f a first + d) → goes_to (stage_at p s).next env ≡ Some (merge_at f a b) → Way p s env
 
 -- at a fork
 fork_way : (p : Flat.Pipe) (s : ℕ) (env : List ℕ) (x a b : ℕ) → Forked p s x a b → Way p s env
 fork_way p s env x a b k = at (slice_index env x == 1) refl
   where
-    by : (first : Bool) → (slice_index env x == 1) ≡ first → (n : ℕ) → long a b first ≡ n → goes_to (stage_at p s).next env ≡ Some (entry (leads (start s a first) (Flat.Goes (merge_at s a b)) n)) → Way p s env
+    by : (first : Bool) → (slice_index env x == 1) ≡ first → (n : ℕ) → long a b first ≡ n
+        → goes_to (stage_at p s).next env ≡ Some (entry (leads (start s a first) (Flat.Goes (merge_at s a b)) n))
+        → Way p s env
     by first v zero e g = Skips x a b first k e v g
     by first v (suc j) e g = Enters x a b first j k e v g
 
     at : (v : Bool) → (slice_index env x == 1) ≡ v → Way p s env
     at true e =
         by true e a refl
-        (ap (λ n. goes_to n env) k.next ∙ ap (λ v. Some (if v then entry (leads s (Flat.Goes (merge_at s a b)) a) else entry (leads (s + a) (Flat.Goes (merge_at s a b)) b))) e)
+        (ap (λ n. goes_to n env) k.next
+        ∙ ap (λ v. Some (if v then entry (leads s (Flat.Goes (merge_at s a b)) a) else entry (leads (s + a) (Flat.Goes (merge_at s a b)) b))) e)
     at false e =
         by false e b refl
-        (ap (λ n. goes_to n env) k.next ∙ ap (λ v. Some (if v then entry (leads s (Flat.Goes (merge_at s a b)) a) else entry (leads (s + a) (Flat.Goes (merge_at s a b)) b))) e)
+        (ap (λ n. goes_to n env) k.next
+        ∙ ap (λ v. Some (if v then entry (leads s (Flat.Goes (merge_at s a b)) a) else entry (leads (s + a) (Flat.Goes (merge_at s a b)) b))) e)
 
 -- in a branch
 inner_way : (p : Flat.Pipe) (s : ℕ) (env : List ℕ) (f x a b : ℕ) (first : Bool) (d j : ℕ) → Forked p f x a b
     → d + suc j ≡ long a b first → s ≡ suc (start f a first + d) → Way p s env
 inner_way p s env f x a b first d zero k e i =
-    Leaves f x a b first d k (let z = e in omega arith) i (ap (λ n. goes_to (stage_at p n).next env) i ∙ ap (λ (y : Flat.Stage). goes_to y.next env) (k.chain first d 0 e))
+    Leaves f x a b first d k (let z = e in omega arith) i
+    (ap (λ n. goes_to (stage_at p n).next env) i ∙ ap (λ (y : Flat.Stage). goes_to y.next env) (k.chain first d 0 e))
 inner_way p s env f x a b first d (suc j) k e i =
-    Stays f x a b first d j k e i (ap (λ n. goes_to (stage_at p n).next env) i ∙ ap (λ (y : Flat.Stage). goes_to y.next env) (k.chain first d (suc j) e) ∙ ap (λ n. Some (suc n)) (sym i))
+    Stays f x a b first d j k e i
+    (ap (λ n. goes_to (stage_at p n).next env) i ∙ ap (λ (y : Flat.Stage). goes_to y.next env) (k.chain first d (suc j) e) ∙ ap (λ n. Some (suc n)) (sym i))
 
 -- where a thread goes from a stage, by where the stage stands
 pub way : (p : Flat.Pipe) (s : ℕ) (env : List ℕ) → Spot p s → Way p s env
@@ -99,14 +110,18 @@ module _ (p : Flat.Pipe) (spots : (s : ℕ) → s < length p.stages → Spot p s
           let q = k.inside in
           (omega arith, omega arith)
 
-  leaves : (s : ℕ) (env : List ℕ) → s < length p.stages → goes_to (stage_at p s).next env ≡ (if nat_lt (next_of p s env) (length p.stages) then Some (next_of p s env) else None)
+  leaves : (s : ℕ) (env : List ℕ) → s < length p.stages
+      → goes_to (stage_at p s).next env ≡ (if nat_lt (next_of p s env) (length p.stages) then Some (next_of p s env) else None)
   leaves s env low = at (go s env low)
     where
-      some : (n : ℕ) → goes_to (stage_at p s).next env ≡ Some n → n < length p.stages → goes_to (stage_at p s).next env ≡ (if nat_lt (next_of p s env) (length p.stages) then Some (next_of p s env) else None)
+      some : (n : ℕ) → goes_to (stage_at p s).next env ≡ Some n → n < length p.stages
+          → goes_to (stage_at p s).next env ≡ (if nat_lt (next_of p s env) (length p.stages) then Some (next_of p s env) else None)
       some n g l =
-          g ∙ ap (λ c. if c then Some n else None) (sym (lt-ltb n (length p.stages) l)) ∙ ap (λ i. if nat_lt i (length p.stages) then Some i else None) (sym (to s env n g))
+          g ∙ ap (λ c. if c then Some n else None) (sym (lt-ltb n (length p.stages) l))
+          ∙ ap (λ i. if nat_lt i (length p.stages) then Some i else None) (sym (to s env n g))
 
-      none : goes_to (stage_at p s).next env ≡ None → goes_to (stage_at p s).next env ≡ (if nat_lt (next_of p s env) (length p.stages) then Some (next_of p s env) else None)
+      none : goes_to (stage_at p s).next env ≡ None
+          → goes_to (stage_at p s).next env ≡ (if nat_lt (next_of p s env) (length p.stages) then Some (next_of p s env) else None)
       none g = g ∙ past (nat_lt (next_of p s env) (length p.stages)) refl
         where
           past : (c : Bool) → nat_lt (next_of p s env) (length p.stages) ≡ c → None ≡ (if c then Some (next_of p s env) else None)
@@ -165,23 +180,27 @@ module _ (p : Flat.Pipe) (spots : (s : ℕ) → s < length p.stages → Spot p s
       at (Leaves f x a b first d k c i g) = absurd (let z = to s env _ g in let q = k.inside in omega arith)
 
   -- a stage after the start of a branch is no trunk stage
-  entered : (f x a b : ℕ) (first : Bool) (d j : ℕ) → Forked p f x a b → d + suc j ≡ long a b first → In p (record { fork = f; first = first }) (suc (start f a first + d))
+  entered : (f x a b : ℕ) (first : Bool) (d j : ℕ) → Forked p f x a b → d + suc j ≡ long a b first
+      → In p (record { fork = f; first = first }) (suc (start f a first + d))
   entered f x a b first d j k e = ap (λ (y : Flat.Stage). y.branch) (k.chain first d j e)
 
   -- the first stage of a branch
-  entered_first : (f x a b : ℕ) (first : Bool) (j : ℕ) → Forked p f x a b → long a b first ≡ suc j → In p (record { fork = f; first = first }) (suc (start f a first))
+  entered_first : (f x a b : ℕ) (first : Bool) (j : ℕ) → Forked p f x a b → long a b first ≡ suc j
+      → In p (record { fork = f; first = first }) (suc (start f a first))
   entered_first f x a b first j k e =
       subst (λ n. In p (record { fork = f; first = first }) (suc n)) (let w : start f a first + 0 ≡ start f a first = omega arith in w)
       (entered f x a b first 0 j k (let w : 0 + suc j ≡ long a b first = omega arith in w))
 
-  between : (s : ℕ) (env : List ℕ) (b : ℕ) → s < length p.stages → Trunk p (next_of p s env) → next_of p s env < length p.stages → Below p b s → b < next_of p s env
+  between : (s : ℕ) (env : List ℕ) (b : ℕ) → s < length p.stages → Trunk p (next_of p s env)
+      → next_of p s env < length p.stages → Below p b s → b < next_of p s env
       → (f : ℕ) × ((stage_at p (next_of p s env)).merges ≡ Some f) × (is_inside p f b ≡ true)
   between s env c low t high below under = at (go s env low)
     where
       self : (f : ℕ) → (f == f) ≡ true
       self f = eq-eqb f f refl
 
-      merged : (f x a b : ℕ) → Forked p f x a b → next_of p s env ≡ merge_at f a b → f < c → (g : ℕ) × ((stage_at p (next_of p s env)).merges ≡ Some g) × (is_inside p g c ≡ true)
+      merged : (f x a b : ℕ) → Forked p f x a b → next_of p s env ≡ merge_at f a b → f < c
+          → (g : ℕ) × ((stage_at p (next_of p s env)).merges ≡ Some g) × (is_inside p g c ≡ true)
       merged f x a b k e l =
           let h = between_in p f x a b c k l (omega arith) in
           (f, ap (λ n. (stage_at p n).merges) e ∙ k.merge, ap (λ o. is_branch_of o f) h.5 ∙ self f)
@@ -193,7 +212,10 @@ module _ (p : Flat.Pipe) (spots : (s : ℕ) → s < length p.stages → Spot p s
       at (Skips x a b first k e v g) = merged s x a b k (to s env _ g) (below s k.trunk (let i : s ≤ s = omega arith in i))
       at (Stays f x a b first d j k e i g) =
           let w : suc d + suc j ≡ long a b first = omega arith in
-          absurd (not_trunk p _ (suc (start f a first + suc d)) (subst (Trunk p) (let z = to s env _ g in let y : next_of p s env ≡ suc (start f a first + suc d) = omega arith in y) t) (entered f x a b first (suc d) j k w))
+          absurd
+          (not_trunk p _ (suc (start f a first + suc d))
+          (subst (Trunk p) (let z = to s env _ g in let y : next_of p s env ≡ suc (start f a first + suc d) = omega arith in y) t)
+          (entered f x a b first (suc d) j k w))
       at (Leaves f x a b first d k e i g) =
           let y = start_low f a first in
           merged f x a b k (to s env _ g) (below f k.trunk (omega arith))
@@ -230,7 +252,11 @@ module _ (p : Flat.Pipe) (spots : (s : ℕ) → s < length p.stages → Spot p s
   stays_in c s env low h = at (go s env low)
     where
       at : Way p s env → (s ≡ c.fork) ⊎ (In p c s × (next_of p s env ≡ suc s))
-      at (Ends t e g) = absurd (not_trunk p c (length p.stages) (ap (λ (y : Flat.Stage). y.branch) (past_trunk p (length p.stages) (let i : length p.stages ≤ length p.stages = omega arith in i))) (subst (In p c) (to_end s env g) h))
+      at (Ends t e g) =
+          absurd
+          (not_trunk p c (length p.stages)
+          (ap (λ (y : Flat.Stage). y.branch) (past_trunk p (length p.stages) (let i : length p.stages ≤ length p.stages = omega arith in i)))
+          (subst (In p c) (to_end s env g) h))
       at (Steps t u m l g) = absurd (not_trunk p c (suc s) u (subst (In p c) (to s env _ g) h))
       at (Enters x a b first j k e v g) = inl (one_branch _ c (suc (start s a first)) (entered_first s x a b first j k e) (subst (In p c) (to s env _ g) h)).0
       at (Skips x a b first k e v g) = absurd (not_trunk p c (merge_at s a b) k.merge_trunk (subst (In p c) (to s env _ g) h))
@@ -239,7 +265,11 @@ module _ (p : Flat.Pipe) (spots : (s : ℕ) → s < length p.stages → Spot p s
           let there : next_of p s env ≡ suc s = to s env _ g in
           let number : next_of p s env ≡ suc (start f a first + suc d) = omega arith in
           let same = one_branch c _ (suc (start f a first + suc d)) (subst (In p c) number h) (entered f x a b first (suc d) j k w) in
-          inr (subst (λ n. In p c n) (sym i) (entered f x a b first d (suc j) k e ∙ ap₂ (λ q r. Some (record { fork = q; first = r })) (sym same.0) (sym same.1)), there)
+          inr (
+            subst (λ n. In p c n) (sym i)
+                (entered f x a b first d (suc j) k e ∙ ap₂ (λ q r. Some (record { fork = q; first = r })) (sym same.0) (sym same.1)),
+            there,
+          )
       at (Leaves f x a b first d k e i g) = absurd (not_trunk p c (merge_at f a b) k.merge_trunk (subst (In p c) (to s env _ g) h))
 
   -- a stage in a branch is not its fork
@@ -254,7 +284,11 @@ module _ (p : Flat.Pipe) (spots : (s : ℕ) → s < length p.stages → Spot p s
       by false v e = ap not e
 
       at : Way p c.fork env → goes_by p c env ≡ true
-      at (Ends t e g) = absurd (not_trunk p c (length p.stages) (ap (λ (y : Flat.Stage). y.branch) (past_trunk p (length p.stages) (let i : length p.stages ≤ length p.stages = omega arith in i))) (subst (In p c) (to_end c.fork env g) h))
+      at (Ends t e g) =
+          absurd
+          (not_trunk p c (length p.stages)
+          (ap (λ (y : Flat.Stage). y.branch) (past_trunk p (length p.stages) (let i : length p.stages ≤ length p.stages = omega arith in i)))
+          (subst (In p c) (to_end c.fork env g) h))
       at (Steps t u m l g) = absurd (not_trunk p c (suc c.fork) u (subst (In p c) (to c.fork env _ g) h))
       at (Enters x a b first j k e v g) =
           let same = one_branch c _ (suc (start c.fork a first)) (subst (In p c) (to c.fork env _ g) h) (entered_first c.fork x a b first j k e) in
@@ -271,7 +305,8 @@ module _ (p : Flat.Pipe) (spots : (s : ℕ) → s < length p.stages → Spot p s
       at (Leaves f x a b first d k e i g) = absurd (not_trunk p c (merge_at f a b) k.merge_trunk (subst (In p c) (to c.fork env _ g) h))
 
   -- the branch stages of one fork
-  stands : (c : Flat.Branch) (x a b r : ℕ) → Forked p c.fork x a b → In p c r → (d : ℕ) × (j : ℕ) × (d + suc j ≡ long a b c.first) × (r ≡ suc (start c.fork a c.first + d))
+  stands : (c : Flat.Branch) (x a b r : ℕ) → Forked p c.fork x a b → In p c r
+      → (d : ℕ) × (j : ℕ) × (d + suc j ≡ long a b c.first) × (r ≡ suc (start c.fork a c.first + d))
   stands c x a b r k h =
       let i = inside_of p spots c r h in
       let same = fork_same p c.fork i.x i.a i.b x a b i.fork k in
@@ -281,7 +316,11 @@ module _ (p : Flat.Pipe) (spots : (s : ℕ) → s < length p.stages → Spot p s
   first_entered c env r low h hr = at (go c.fork env low)
     where
       at : Way p c.fork env → next_of p c.fork env ≤ r
-      at (Ends t e g) = absurd (not_trunk p c (length p.stages) (ap (λ (y : Flat.Stage). y.branch) (past_trunk p (length p.stages) (let i : length p.stages ≤ length p.stages = omega arith in i))) (subst (In p c) (to_end c.fork env g) h))
+      at (Ends t e g) =
+          absurd
+          (not_trunk p c (length p.stages)
+          (ap (λ (y : Flat.Stage). y.branch) (past_trunk p (length p.stages) (let i : length p.stages ≤ length p.stages = omega arith in i)))
+          (subst (In p c) (to_end c.fork env g) h))
       at (Steps t u m l g) = absurd (not_trunk p c (suc c.fork) u (subst (In p c) (to c.fork env _ g) h))
       at (Enters x a b first j k e v g) =
           let there = to c.fork env _ g in
@@ -312,12 +351,17 @@ module _ (p : Flat.Pipe) (spots : (s : ℕ) → s < length p.stages → Spot p s
     where
       at : Way p s env → Trunk p (next_of p s env) × (((s ≡ f) × Trunk p s) ⊎ ((c : Flat.Branch) × In p c s × (c.fork ≡ f) × ((b : ℕ) → In p c b → b ≤ s)))
       at (Ends t e g) =
-          absurd (no_merge (length p.stages) f (ap (λ (y : Flat.Stage). y.merges) (past_trunk p (length p.stages) (let i : length p.stages ≤ length p.stages = omega arith in i))) (ap (λ n. (stage_at p n).merges) (sym (to_end s env g)) ∙ h))
+          absurd
+          (no_merge (length p.stages) f
+          (ap (λ (y : Flat.Stage). y.merges) (past_trunk p (length p.stages) (let i : length p.stages ≤ length p.stages = omega arith in i)))
+          (ap (λ n. (stage_at p n).merges) (sym (to_end s env g)) ∙ h))
       at (Steps t u m l g) = absurd (no_merge (suc s) f m (ap (λ n. (stage_at p n).merges) (sym (to s env _ g)) ∙ h))
       at (Enters x a b first j k e v g) =
           let w : 0 + suc j ≡ long a b first = omega arith in
           let number : next_of p s env ≡ suc (start s a first + 0) = (let z = to s env _ g in omega arith) in
-          absurd (no_merge (suc (start s a first + 0)) f (ap (λ (y : Flat.Stage). y.merges) (k.chain first 0 j w)) (ap (λ n. (stage_at p n).merges) (sym number) ∙ h))
+          absurd
+          (no_merge (suc (start s a first + 0)) f (ap (λ (y : Flat.Stage). y.merges) (k.chain first 0 j w))
+          (ap (λ n. (stage_at p n).merges) (sym number) ∙ h))
       at (Skips x a b first k e v g) = (
         subst (Trunk p) (sym (to s env _ g)) k.merge_trunk,
         inl (fork_of_merge (stage_at p (merge_at s a b)).merges s f k.merge (ap (λ n. (stage_at p n).merges) (sym (to s env _ g)) ∙ h), k.trunk),
@@ -325,7 +369,9 @@ module _ (p : Flat.Pipe) (spots : (s : ℕ) → s < length p.stages → Spot p s
       at (Stays q x a b first d j k e i g) =
           let w : suc d + suc j ≡ long a b first = omega arith in
           let number : next_of p s env ≡ suc (start q a first + suc d) = (let z = to s env _ g in omega arith) in
-          absurd (no_merge (suc (start q a first + suc d)) f (ap (λ (y : Flat.Stage). y.merges) (k.chain first (suc d) j w)) (ap (λ n. (stage_at p n).merges) (sym number) ∙ h))
+          absurd
+          (no_merge (suc (start q a first + suc d)) f (ap (λ (y : Flat.Stage). y.merges) (k.chain first (suc d) j w))
+          (ap (λ n. (stage_at p n).merges) (sym number) ∙ h))
       at (Leaves q x a b first d k e i g) = (
         subst (Trunk p) (sym (to s env _ g)) k.merge_trunk,
         inr (

@@ -50,7 +50,8 @@ pub record StageFacts (p : Pipe) : Type 0 where
   pub unreserved : (m : ℕ) → length p.mems ≤ m → none_of (is_reserve m) p.stmts ≡ true
   pub unreleased : (m : ℕ) → length p.mems ≤ m → length p.stages ≤ commit_stage p m
   -- a path has no statement in the stages that it passes over
-  pub skips : (path : List ℕ) (s : ℕ) → s < length p.stages → visits_stage p path s ≡ true → before (next_of p s path) (onpath path p.stmts) ≡ before (suc s) (onpath path p.stmts)
+  pub skips : (path : List ℕ) (s : ℕ) → s < length p.stages → visits_stage p path s ≡ true
+      → before (next_of p s path) (onpath path p.stmts) ≡ before (suc s) (onpath path p.stmts)
   -- N2, N3: a fork's variable is bound before its stage ends, and read at once
   pub fork_bound : (s x a b : ℕ) → (stage_at p s).next ≡ Forks x a b → none_of (binds_var x) (stages_from (suc s) p.stmts) ≡ true
   pub fork_known : (s x a b : ℕ) → (stage_at p s).next ≡ Forks x a b → x < p.vars

@@ -40,7 +40,9 @@ module _ (vs : List Var) (test : Use → Bool) (named : (x : List ℕ) → test 
   expr_low (LessSigned a b) h y u = either _ _ _ _ (y < length vs) h u (λ i j. expr_low a i y j) (λ i j. expr_low b i y j)
   expr_low (ZeroExtend a n) h y u = expr_low a h y u
   expr_low (SignExtend a n) h y u = expr_low a h y u
-  expr_low (Choose c a b) h y u = either _ _ _ _ (y < length vs) h u (λ i j. expr_low c i y j) (λ i j. either _ _ _ _ (y < length vs) i j (λ k l. expr_low a k y l) (λ k l. expr_low b k y l))
+  expr_low (Choose c a b) h y u =
+      either _ _ _ _ (y < length vs) h u (λ i j. expr_low c i y j)
+      (λ i j. either _ _ _ _ (y < length vs) i j (λ k l. expr_low a k y l) (λ k l. expr_low b k y l))
 
   pub exprs_low : (es : List Expr) → list_any (some_part (reads_some test)) es ≡ false → (y : ℕ) → uses_any y (flat_exprs vs es) ≡ true → y < length vs
   exprs_low [] h y u = absurd (false≢true u)
@@ -110,44 +112,75 @@ module _ (vars k : ℕ) (ms : List Mem) (vs : List Var) (rest : List Flat.Stmt) 
   unused false f = refl
 
   module _ (v : Var) (room : length (vs ++ v ∷ []) ≤ vars) (go : Follows vars (length (vs ++ v ∷ [])) rest) where
-    bind_new : (e : Flat.Expr) → ((y : ℕ) → uses_in y e ≡ true → y < length vs) → Follows vars (length vs) (record { stage = k; guards = []; op = Flat.Bind (length vs) e } ∷ rest)
-    bind_new e f = binds_next vars (length vs) k (Flat.Bind (length vs) e) rest (let i = one_more v in omega arith) refl (unused (uses_in (length vs) e) (f (length vs))) (λ y h. low_or y (uses_in y e) (f y) h) (subst (λ n. Follows vars n rest) (one_more v) go)
+    bind_new : (e : Flat.Expr) → ((y : ℕ) → uses_in y e ≡ true → y < length vs)
+        → Follows vars (length vs) (record { stage = k; guards = []; op = Flat.Bind (length vs) e } ∷ rest)
+    bind_new e f =
+        binds_next vars (length vs) k (Flat.Bind (length vs) e) rest (let i = one_more v in omega arith) refl (unused (uses_in (length vs) e) (f (length vs)))
+        (λ y h. low_or y (uses_in y e) (f y) h) (subst (λ n. Follows vars n rest) (one_more v) go)
 
     read_new : (m a : ℕ) → a < length vs → Follows vars (length vs) (record { stage = k; guards = []; op = Flat.CombRead (length vs) m a } ∷ rest)
     read_new m a low =
-        binds_next vars (length vs) k (Flat.CombRead (length vs) m a) rest (let i = one_more v in omega arith) refl (ne_eqb a (length vs) (λ e. absurd (omega arith)))
+        binds_next vars (length vs) k (Flat.CombRead (length vs) m a) rest (let i = one_more v in omega arith) refl
+        (ne_eqb a (length vs) (λ e. absurd (omega arith)))
         (λ y h. low_or y (a == y) (λ e. subst (λ n. n < length vs) (eqb-true a y e) low) h) (subst (λ n. Follows vars n rest) (one_more v) go)
 
   low_var : (a y : ℕ) → a < length vs → (a == y) ≡ true → y < length vs
   low_var a y low e = subst (λ n. n < length vs) (eqb-true a y e) low
 
-  pub site_new : (s : Stmt) → Uses vs s → length (vars_past ms vs s) ≤ vars → Follows vars (length (vars_past ms vs s)) rest → Follows vars (length vs) (seen_ops k (ops_of ms vs s) ++ rest)
+  pub site_new : (s : Stmt) → Uses vs s → length (vars_past ms vs s) ≤ vars
+      → Follows vars (length (vars_past ms vs s)) rest → Follows vars (length vs) (seen_ops k (ops_of ms vs s) ++ rest)
   site_new (Separator sp) u room go = go
-  site_new (CombRead sp x from) u room go = read_new (record { name = x.name; width = mem_width ms from.mem.name }) room go (mem_of ms from.mem.name) (var_of vs from.address.name) (var_low vs from.address.name (u.address from refl))
-  site_new (Bind sp x e) u room go = bind_new (record { name = x.name; width = width_of vs e }) room go (flat_expr vs e) (expr_low vs u.test u.named e u.expressions)
-  site_new (SpecCall sp g args) u room go = uses_old vars (length vs) k (Flat.SpecCall (flat_exprs vs args)) rest refl refl (exprs_low vs u.test u.named args u.expressions) go
-  site_new (DelayedRead sp x from) u room go = read_new (record { name = x.name; width = mem_width ms from.mem.name }) room go (mem_of ms from.mem.name) (var_of vs from.address.name) (var_low vs from.address.name (u.address from refl))
-  site_new (Write sp to e) u room go = uses_old vars (length vs) k (Flat.Write (mem_of ms to.mem.name) (var_of vs to.address.name) (flat_expr vs e)) rest refl refl (λ y h. at y (or_cases (var_of vs to.address.name == y) (uses_in y (flat_expr vs e)) h)) go
+  site_new (CombRead sp x from) u room go =
+      read_new (record { name = x.name; width = mem_width ms from.mem.name }) room go (mem_of ms from.mem.name)
+      (var_of vs from.address.name) (var_low vs from.address.name (u.address from refl))
+  site_new (Bind sp x e) u room go =
+      bind_new (record { name = x.name; width = width_of vs e }) room go (flat_expr vs e) (expr_low vs u.test u.named e u.expressions)
+  site_new (SpecCall sp g args) u room go =
+      uses_old vars (length vs) k (Flat.SpecCall (flat_exprs vs args)) rest refl refl (exprs_low vs u.test u.named args u.expressions) go
+  site_new (DelayedRead sp x from) u room go =
+      read_new (record { name = x.name; width = mem_width ms from.mem.name }) room go (mem_of ms from.mem.name)
+      (var_of vs from.address.name) (var_low vs from.address.name (u.address from refl))
+  site_new (Write sp to e) u room go =
+      uses_old vars (length vs) k
+      (Flat.Write (mem_of ms to.mem.name) (var_of vs to.address.name) (flat_expr vs e)) rest refl refl
+      (λ y h. at y (or_cases (var_of vs to.address.name == y) (uses_in y (flat_expr vs e)) h)) go
     where
       at : (y : ℕ) → ((var_of vs to.address.name == y) ≡ true) ⊎ (uses_in y (flat_expr vs e) ≡ true) → y < length vs
       at y (inl i) = low_var (var_of vs to.address.name) y (var_low vs to.address.name (u.address to refl)) i
       at y (inr i) = expr_low vs u.test u.named e u.expressions y i
-  site_new (Reserve sp at R) u room go = uses_old vars (length vs) k (Flat.ReserveRead (mem_of ms at.mem.name) (var_of vs at.address.name)) rest refl refl (λ y h. absurd (false≢true h)) go
-  site_new (Reserve sp at W) u room go = uses_old vars (length vs) k (Flat.ReserveWrite (mem_of ms at.mem.name) (var_of vs at.address.name)) rest refl refl (λ y h. low_var (var_of vs at.address.name) y (var_low vs at.address.name (u.address at refl)) h) go
-  site_new (Block sp at) u room go = uses_old vars (length vs) k (Flat.Block (mem_of ms at.mem.name) (var_of vs at.address.name)) rest refl refl (λ y h. low_var (var_of vs at.address.name) y (var_low vs at.address.name (u.address at refl)) h) go
-  site_new (Release sp at) u room go = uses_old vars (length vs) k (Flat.Release (mem_of ms at.mem.name) (var_of vs at.address.name)) rest refl refl (λ y h. absurd (false≢true h)) go
+  site_new (Reserve sp at R) u room go =
+      uses_old vars (length vs) k (Flat.ReserveRead (mem_of ms at.mem.name) (var_of vs at.address.name)) rest refl refl (λ y h. absurd (false≢true h)) go
+  site_new (Reserve sp at W) u room go =
+      uses_old vars (length vs) k (Flat.ReserveWrite (mem_of ms at.mem.name) (var_of vs at.address.name)) rest refl refl
+      (λ y h. low_var (var_of vs at.address.name) y (var_low vs at.address.name (u.address at refl)) h) go
+  site_new (Block sp at) u room go =
+      uses_old vars (length vs) k (Flat.Block (mem_of ms at.mem.name) (var_of vs at.address.name)) rest refl refl
+      (λ y h. low_var (var_of vs at.address.name) y (var_low vs at.address.name (u.address at refl)) h) go
+  site_new (Release sp at) u room go =
+      uses_old vars (length vs) k (Flat.Release (mem_of ms at.mem.name) (var_of vs at.address.name)) rest refl refl (λ y h. absurd (false≢true h)) go
   site_new (If sp (Variable x) when otherwise) u room go = go
-  site_new (If sp (Constant l) when otherwise) u room go = bind_new (record { name = []; width = 1 }) room go (flat_expr vs (Constant l)) (expr_low vs u.test u.named (Constant l) u.expressions)
-  site_new (If sp (Slice x high low) when otherwise) u room go = bind_new (record { name = []; width = 1 }) room go (flat_expr vs (Slice x high low)) (expr_low vs u.test u.named (Slice x high low) u.expressions)
-  site_new (If sp (Not a) when otherwise) u room go = bind_new (record { name = []; width = 1 }) room go (flat_expr vs (Not a)) (expr_low vs u.test u.named (Not a) u.expressions)
-  site_new (If sp (Binary op a b) when otherwise) u room go = bind_new (record { name = []; width = 1 }) room go (flat_expr vs (Binary op a b)) (expr_low vs u.test u.named (Binary op a b) u.expressions)
-  site_new (If sp (Cat a b) when otherwise) u room go = bind_new (record { name = []; width = 1 }) room go (flat_expr vs (Cat a b)) (expr_low vs u.test u.named (Cat a b) u.expressions)
-  site_new (If sp (LessSigned a b) when otherwise) u room go = bind_new (record { name = []; width = 1 }) room go (flat_expr vs (LessSigned a b)) (expr_low vs u.test u.named (LessSigned a b) u.expressions)
-  site_new (If sp (ZeroExtend a n) when otherwise) u room go = bind_new (record { name = []; width = 1 }) room go (flat_expr vs (ZeroExtend a n)) (expr_low vs u.test u.named (ZeroExtend a n) u.expressions)
-  site_new (If sp (SignExtend a n) when otherwise) u room go = bind_new (record { name = []; width = 1 }) room go (flat_expr vs (SignExtend a n)) (expr_low vs u.test u.named (SignExtend a n) u.expressions)
-  site_new (If sp (Choose c a b) when otherwise) u room go = bind_new (record { name = []; width = 1 }) room go (flat_expr vs (Choose c a b)) (expr_low vs u.test u.named (Choose c a b) u.expressions)
-  site_new (Call sp args) u room go = uses_old vars (length vs) k (Flat.Call (flat_exprs vs args)) rest refl refl (exprs_low vs u.test u.named args u.expressions) go
-  site_new (Verify sp g args) u room go = uses_old vars (length vs) k (Flat.Verify (flat_exprs vs args)) rest refl refl (exprs_low vs u.test u.named args u.expressions) go
+  site_new (If sp (Constant l) when otherwise) u room go =
+      bind_new (record { name = []; width = 1 }) room go (flat_expr vs (Constant l)) (expr_low vs u.test u.named (Constant l) u.expressions)
+  site_new (If sp (Slice x high low) when otherwise) u room go =
+      bind_new (record { name = []; width = 1 }) room go (flat_expr vs (Slice x high low)) (expr_low vs u.test u.named (Slice x high low) u.expressions)
+  site_new (If sp (Not a) when otherwise) u room go =
+      bind_new (record { name = []; width = 1 }) room go (flat_expr vs (Not a)) (expr_low vs u.test u.named (Not a) u.expressions)
+  site_new (If sp (Binary op a b) when otherwise) u room go =
+      bind_new (record { name = []; width = 1 }) room go (flat_expr vs (Binary op a b)) (expr_low vs u.test u.named (Binary op a b) u.expressions)
+  site_new (If sp (Cat a b) when otherwise) u room go =
+      bind_new (record { name = []; width = 1 }) room go (flat_expr vs (Cat a b)) (expr_low vs u.test u.named (Cat a b) u.expressions)
+  site_new (If sp (LessSigned a b) when otherwise) u room go =
+      bind_new (record { name = []; width = 1 }) room go (flat_expr vs (LessSigned a b)) (expr_low vs u.test u.named (LessSigned a b) u.expressions)
+  site_new (If sp (ZeroExtend a n) when otherwise) u room go =
+      bind_new (record { name = []; width = 1 }) room go (flat_expr vs (ZeroExtend a n)) (expr_low vs u.test u.named (ZeroExtend a n) u.expressions)
+  site_new (If sp (SignExtend a n) when otherwise) u room go =
+      bind_new (record { name = []; width = 1 }) room go (flat_expr vs (SignExtend a n)) (expr_low vs u.test u.named (SignExtend a n) u.expressions)
+  site_new (If sp (Choose c a b) when otherwise) u room go =
+      bind_new (record { name = []; width = 1 }) room go (flat_expr vs (Choose c a b)) (expr_low vs u.test u.named (Choose c a b) u.expressions)
+  site_new (Call sp args) u room go =
+      uses_old vars (length vs) k (Flat.Call (flat_exprs vs args)) rest refl refl (exprs_low vs u.test u.named args u.expressions) go
+  site_new (Verify sp g args) u room go =
+      uses_old vars (length vs) k (Flat.Verify (flat_exprs vs args)) rest refl refl (exprs_low vs u.test u.named args u.expressions) go
   site_new (SpecCheck sp) u room go = uses_old vars (length vs) k (Flat.SpecCheck) rest refl refl (λ y h. absurd (false≢true h)) go
   site_new (SpecBarrier sp) u room go = uses_old vars (length vs) k (Flat.SpecBarrier) rest refl refl (λ y h. absurd (false≢true h)) go
 

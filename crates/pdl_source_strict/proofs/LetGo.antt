@@ -38,7 +38,8 @@ module _ (p : Pipe) (at : Location) where
   abbrev ReleasesIt : Stmt → Type 0
   ReleasesIt s = (sp : Span) × (l : Location) × (s ≡ Release sp l) × (same_location l at ≡ true)
 
-  open_or_released : (h : Hold) (s : Stmt) (bs : List Branch) → is_unreleased h ≡ true → (is_unreleased (after_place at h (Statement s bs)) ≡ true) ⊎ ReleasesIt s
+  open_or_released : (h : Hold) (s : Stmt) (bs : List Branch) → is_unreleased h ≡ true
+      → (is_unreleased (after_place at h (Statement s bs)) ≡ true) ⊎ ReleasesIt s
   open_or_released h (Reserve sp l k) bs e = inl (by (same_location l at))
     where
       by : (b : Bool) → is_unreleased (if b then Reserved k else h) ≡ true
@@ -64,35 +65,49 @@ module _ (p : Pipe) (at : Location) where
 
   -- its numbers
   same_names : (l : Location) → same_location l at ≡ true → (l.mem.name ≡ at.mem.name) × (l.address.name ≡ at.address.name)
-  same_names l e = let k = and_parts (bytes_eq l.mem.name at.mem.name) (bytes_eq l.address.name at.address.name) e in (bytes_same l.mem.name at.mem.name k.0, bytes_same l.address.name at.address.name k.1)
+  same_names l e = let k = and_parts (bytes_eq l.mem.name at.mem.name) (bytes_eq l.address.name at.address.name) e in
+      (bytes_same l.mem.name at.mem.name k.0, bytes_same l.address.name at.address.name k.1)
 
   grown_number : (vs ws : List Var) → is_named vs at.address.name ≡ true → Grown vs ws → var_of ws at.address.name ≡ var_of vs at.address.name
   grown_number vs ws n g = ap (λ l. var_of l at.address.name) g.1 ∙ var_stays vs g.0 at.address.name n
 
-  released_here : (ms : List Mem) (k : ℕ) (vs ws : List Var) (s : Stmt) (rest : List Flat.Stmt) → is_named vs at.address.name ≡ true → Grown vs ws → ReleasesIt s
+  released_here : (ms : List Mem) (k : ℕ) (vs ws : List Var) (s : Stmt) (rest : List Flat.Stmt)
+      → is_named vs at.address.name ≡ true → Grown vs ws → ReleasesIt s
       → releases_in (mem_of ms at.mem.name) (var_of vs at.address.name) (seen_ops k (ops_of ms ws s) ++ rest) ≡ true
   released_here ms k vs ws s rest n g r =
       let names = same_names r.1 r.3 in
       subst (λ s. releases_in (mem_of ms at.mem.name) (var_of vs at.address.name) (seen_ops k (ops_of ms ws s) ++ rest) ≡ true) (sym r.2)
-      (or_left _ _ (and_from _ _ (eq-eqb (mem_of ms r.1.mem.name) (mem_of ms at.mem.name) (ap (mem_of ms) names.0)) (eq-eqb (var_of ws r.1.address.name) (var_of vs at.address.name) (ap (var_of ws) names.1 ∙ grown_number vs ws n g))))
+      (or_left _ _
+      (and_from _ _ (eq-eqb (mem_of ms r.1.mem.name) (mem_of ms at.mem.name) (ap (mem_of ms) names.0))
+      (eq-eqb (var_of ws r.1.address.name) (var_of vs at.address.name) (ap (var_of ws) names.1 ∙ grown_number vs ws n g))))
 
   -- what is open is released in the end
-  released_after : (ms : List Mem) (vs ws us : List Var) (before : List Place) (ts : List Site) → is_named vs at.address.name ≡ true → Grown vs ws → Grows ms ws ts us → Each (KeepsLocks p) before (map place_of ts ++ closing p) → is_unreleased (hold_after at before) ≡ true
+  released_after : (ms : List Mem) (vs ws us : List Var) (before : List Place) (ts : List Site)
+      → is_named vs at.address.name ≡ true → Grown vs ws → Grows ms ws ts us
+      → Each (KeepsLocks p) before (map place_of ts ++ closing p) → is_unreleased (hold_after at before) ≡ true
       → releases_in (mem_of ms at.mem.name) (var_of vs at.address.name) (seen ms ts) ≡ true
   released_after ms vs ws us before [] n g gs each e = absurd (both_ways _ each.0.l7 (any_weaker _ _ (left_open before e) before (open_reserved at before e)))
   released_after ms vs ws us before (t ∷ ts) n g gs each e =
       by (open_or_released (hold_after at before) t.stmt t.branches e)
-      (λ f. released_after ms vs (vars_past ms t.walk.vars t.stmt) us (before ++ place_of t ∷ []) ts n (grown_more vs t.walk.vars (vars_past ms t.walk.vars t.stmt) (grown_more vs ws t.walk.vars g gs.0) (past_grown ms t.walk.vars t.stmt)) gs.1 each.1 (ap is_unreleased (held_more at before (place_of t)) ∙ f))
+      (λ f. released_after ms vs (vars_past ms t.walk.vars t.stmt) us (before ++ place_of t ∷ []) ts n
+      (grown_more vs t.walk.vars (vars_past ms t.walk.vars t.stmt) (grown_more vs ws t.walk.vars g gs.0) (past_grown ms t.walk.vars t.stmt)) gs.1 each.1
+      (ap is_unreleased (held_more at before (place_of t)) ∙ f))
     where
-      by : (is_unreleased (after_place at (hold_after at before) (place_of t)) ≡ true) ⊎ ReleasesIt t.stmt → (is_unreleased (after_place at (hold_after at before) (place_of t)) ≡ true → releases_in (mem_of ms at.mem.name) (var_of vs at.address.name) (seen ms ts) ≡ true)
+      by : (is_unreleased (after_place at (hold_after at before) (place_of t)) ≡ true) ⊎ ReleasesIt t.stmt
+          → (is_unreleased (after_place at (hold_after at before) (place_of t)) ≡ true
+          → releases_in (mem_of ms at.mem.name) (var_of vs at.address.name) (seen ms ts) ≡ true)
           → releases_in (mem_of ms at.mem.name) (var_of vs at.address.name) (seen_ops t.walk.stage (ops_of ms t.walk.vars t.stmt) ++ seen ms ts) ≡ true
       by (inl f) go = any_after (mem_of ms at.mem.name) (var_of vs at.address.name) (seen_ops t.walk.stage (ops_of ms t.walk.vars t.stmt)) (seen ms ts) (go f)
       by (inr f) go = released_here ms t.walk.stage vs t.walk.vars t.stmt (seen ms ts) n (grown_more vs ws t.walk.vars g gs.0) f
 
   -- a block leaves its location open
-  open_after : (before : List Place) (sp : Span) (bs : List Branch) → Locks.lacks_hold p before (Statement (Block sp at) bs) ≡ false → is_unreleased (hold_after at (before ++ Statement (Block sp at) bs ∷ [])) ≡ true
+  open_after : (before : List Place) (sp : Span) (bs : List Branch)
+      → Locks.lacks_hold p before (Statement (Block sp at) bs) ≡ false
+      → is_unreleased (hold_after at (before ++ Statement (Block sp at) bs ∷ [])) ≡ true
   open_after before sp bs h =
-      ap is_unreleased (held_more at before (Statement (Block sp at) bs)) ∙ ap (λ b. is_unreleased (if b then after_block (hold_after at before) else hold_after at before)) (and_from _ _ (bytes_refl at.mem.name) (bytes_refl at.address.name))
+      ap is_unreleased (held_more at before (Statement (Block sp at) bs))
+      ∙ ap (λ b. is_unreleased (if b then after_block (hold_after at before) else hold_after at before))
+      (and_from _ _ (bytes_refl at.mem.name) (bytes_refl at.address.name))
       ∙ by (hold_after at before) (not-false _ h)
     where
       by : (g : Hold) → is_reserved g ≡ true → is_unreleased (after_block g) ≡ true
@@ -109,12 +124,16 @@ pub sites_let_go : (p : Pipe) (ms : List Mem) (vs us : List Var) (before : List 
     → All (λ t. (at : Location) → location_of t.stmt ≡ Some at → is_named t.walk.vars at.address.name ≡ true) ts
     → all_let_go (seen ms ts) ≡ true
 sites_let_go p ms vs us before [] g each named = refl
-sites_let_go p ms vs us before (t ∷ ts) g each named = here t.stmt refl (sites_let_go p ms (vars_past ms t.walk.vars t.stmt) us (before ++ place_of t ∷ []) ts g.1 each.1 named.1)
+sites_let_go p ms vs us before (t ∷ ts) g each named =
+    here t.stmt refl (sites_let_go p ms (vars_past ms t.walk.vars t.stmt) us (before ++ place_of t ∷ []) ts g.1 each.1 named.1)
   where
-    block : (sp : Span) (at : Location) → t.stmt ≡ Block sp at → lets_go (Flat.Block (mem_of ms at.mem.name) (var_of t.walk.vars at.address.name)) (seen ms ts) ≡ true
+    block : (sp : Span) (at : Location) → t.stmt ≡ Block sp at
+        → lets_go (Flat.Block (mem_of ms at.mem.name) (var_of t.walk.vars at.address.name)) (seen ms ts) ≡ true
     block sp at e =
-        released_after p at ms t.walk.vars (vars_past ms t.walk.vars t.stmt) us (before ++ place_of t ∷ []) ts (named.0 at (ap location_of e)) (past_grown ms t.walk.vars t.stmt) g.1 each.1
-        (subst (λ s. is_unreleased (hold_after at (before ++ Statement s t.branches ∷ [])) ≡ true) (sym e) (open_after p at before sp t.branches (subst (λ s. Locks.lacks_hold p before (Statement s t.branches) ≡ false) e each.0.l1)))
+        released_after p at ms t.walk.vars (vars_past ms t.walk.vars t.stmt) us (before ++ place_of t ∷ []) ts (named.0 at (ap location_of e))
+        (past_grown ms t.walk.vars t.stmt) g.1 each.1
+        (subst (λ s. is_unreleased (hold_after at (before ++ Statement s t.branches ∷ [])) ≡ true) (sym e)
+        (open_after p at before sp t.branches (subst (λ s. Locks.lacks_hold p before (Statement s t.branches) ≡ false) e each.0.l1)))
 
     here : (s : Stmt) → t.stmt ≡ s → all_let_go (seen ms ts) ≡ true → all_let_go (seen_ops t.walk.stage (ops_of ms t.walk.vars s) ++ seen ms ts) ≡ true
     here (Block sp at) e rest = and_from _ _ (block sp at e) rest

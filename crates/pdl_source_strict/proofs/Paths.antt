@@ -63,7 +63,8 @@ new_looked : (vars : ℕ) (past : List Flat.Op) (xs : List Flat.Stmt) → all_ne
 new_looked vars past [] = refl
 new_looked vars past (x ∷ xs) =
     ap₂ (λ a b. a && b)
-    (ap₂ (λ o b. is_new vars (looked_ops past) o && not b) (bound_looked x.op) (own_looked x.op) ∙ ap (λ b. b && not (uses_own x.op)) (is_new_looked vars past (bound_by x.op)))
+    (ap₂ (λ o b. is_new vars (looked_ops past) o && not b) (bound_looked x.op) (own_looked x.op)
+    ∙ ap (λ b. b && not (uses_own x.op)) (is_new_looked vars past (bound_by x.op)))
     (new_looked vars (x.op ∷ past) xs)
 
 any_looked : (m a : ℕ) (xs : List Flat.Stmt)
@@ -100,7 +101,10 @@ module _ (p : Pipe) (rules : KeepsRules p) where
         address = λ at e. (located p rules t h at e).1;
         test = is_too_early p t.front (place_of t);
         named = λ x e. known p t.front t.walk (place_of t) x h.after h.at.named e;
-        expressions = (or_parts (in_verify (is_too_early p t.front (place_of t)) t.stmt) _ (or_parts (is_some_and (in_location (is_too_early p t.front (place_of t))) (location_of t.stmt)) _ (rules N3 t.front (place_of t) h.later h.whole)).1).1;
+        expressions =
+            (or_parts (in_verify (is_too_early p t.front (place_of t)) t.stmt) _
+            (or_parts (is_some_and (in_location (is_too_early p t.front (place_of t))) (location_of t.stmt)) _
+            (rules N3 t.front (place_of t) h.later h.whole)).1).1;
       }
 
   module _ (source : is_source p ≡ true) (path : List ℕ) where
@@ -108,21 +112,31 @@ module _ (p : Pipe) (rules : KeepsRules p) where
     ts = on_sites (path_of p (value p path)) (sites_of p)
 
     seen_is : looked_all (onpath path (flat p).stmts) ≡ seen p.mems ts
-    seen_is = sym (path_looked path (flat p).stmts) ∙ ap (λ l. onpath path (looked_all l)) (stmts_are p) ∙ path_is p.mems path (path_of p (value p path)) (sites_of p) (all_alike p rules source path)
+    seen_is =
+        sym (path_looked path (flat p).stmts) ∙ ap (λ l. onpath path (looked_all l)) (stmts_are p)
+        ∙ path_is p.mems path (path_of p (value p path)) (sites_of p) (all_alike p rules source path)
 
     uses : All (λ t. Uses t.walk.vars t.stmt) ts
-    uses = all_on (λ t. Uses t.walk.vars t.stmt) (path_of p (value p path)) (sites_of p) (all_map (Here p) (λ t. Uses t.walk.vars t.stmt) site_uses (sites_of p) (all_here p))
+    uses =
+        all_on (λ t. Uses t.walk.vars t.stmt) (path_of p (value p path)) (sites_of p)
+        (all_map (Here p) (λ t. Uses t.walk.vars t.stmt) site_uses (sites_of p) (all_here p))
 
     names : all_new (flat p).vars [] (onpath path (flat p).stmts) ≡ true
     names =
         sym (new_looked (flat p).vars [] (onpath path (flat p).stmts)) ∙ ap (all_new (flat p).vars []) seen_is
-        ∙ sites_new (flat p).vars p.mems (params_of p.params) (all_vars p) ts (grows_on p.mems (path_of p (value p path)) (params_of p.params) (all_vars p) (sites_of p) (grows_all p)) (le_refl (flat p).vars) uses [] (λ x h. absurd (false≢true h))
+        ∙ sites_new (flat p).vars p.mems (params_of p.params)
+        (all_vars p) ts (grows_on p.mems (path_of p (value p path)) (params_of p.params) (all_vars p) (sites_of p) (grows_all p))
+        (le_refl (flat p).vars) uses [] (λ x h. absurd (false≢true h))
 
     blocks : all_let_go (onpath path (flat p).stmts) ≡ true
     blocks =
         sym (let_looked (onpath path (flat p).stmts)) ∙ ap all_let_go seen_is
-        ∙ sites_let_go p p.mems (params_of p.params) (all_vars p) _ ts (grows_on p.mems (path_of p (value p path)) (params_of p.params) (all_vars p) (sites_of p) (grows_all p)) (keeps_all p rules (value p path))
-        (all_map (λ t. Uses t.walk.vars t.stmt) (λ t. (at : Location) → location_of t.stmt ≡ Some at → is_named t.walk.vars at.address.name ≡ true) (λ t u. u.address) ts uses)
+        ∙ sites_let_go p p.mems (params_of p.params)
+        (all_vars p) _ ts (grows_on p.mems (path_of p (value p path)) (params_of p.params) (all_vars p) (sites_of p) (grows_all p))
+        (keeps_all p rules (value p path))
+        (all_map (λ t. Uses t.walk.vars t.stmt)
+        (λ t. (at : Location) → location_of t.stmt ≡ Some at → is_named t.walk.vars at.address.name ≡ true)
+        (λ t u. u.address) ts uses)
 
   pub paths_strict : is_source p ≡ true → Strict (flat p)
   paths_strict source = record { names = names source; blocks = blocks source }

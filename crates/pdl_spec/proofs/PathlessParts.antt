@@ -29,7 +29,9 @@ pub sure_lines : (p : Pipe) (verified : Option ℕ)
 sure_lines p verified e =
     ap (λ v. line_where (on_some (breaks_sure v) (guards (places p))) [] (places p)) e
     ∙ same_lines (on_some (breaks_sure (verify_stage p)) (guards (places p))) (breaks_s4 p)
-    (λ before x. pulled (is_before (verify_stage p) (stage_of before x)) (λ path. on_path path x) (λ path. releases_unsure (filter (on_path path) before) x) (paths p)) [] (places p)
+    (λ before x. pulled (is_before (verify_stage p) (stage_of before x)) (λ path. on_path path x)
+    (λ path. releases_unsure (filter (on_path path) before) x) (paths p))
+    [] (places p)
     ∙ rule_lines S4 p [] (places p)
 
 -- the first line that breaks S5 is the same where a rule with the verifies' stage is asked path by path
@@ -40,6 +42,7 @@ checked_lines p verified e =
     ap (λ v. line_where (on_some (breaks_checked v) (guards (places p))) [] (places p)) e
     ∙ same_lines (on_some (breaks_checked (verify_stage p)) (guards (places p))) (breaks_s5 p)
     (λ before x.
-    pulled (needs_check x && is_before (verify_stage p) (stage_of before x)) (λ path. on_path path x) (λ path. not (is_checked path before (stage_of before x))) (paths p))
+    pulled (needs_check x && is_before (verify_stage p) (stage_of before x)) (λ path. on_path path x)
+    (λ path. not (is_checked path before (stage_of before x))) (paths p))
     [] (places p)
     ∙ rule_lines S5 p [] (places p)

@@ -31,7 +31,11 @@ pub second : (test : Place → Bool) (xs : List Place) (k : ℕ) (x : Place) (n 
 second test xs k x n got e h =
     sym (ap (λ ys. only (stages_that test [] ys)) (split xs k x got)
     ∙ ap only (that_append test [] (take k xs) (x ∷ drop (k + 1) xs))
-    ∙ ap₂ (λ ns b. only (ns ++ (if b then stage_of (take k xs) x ∷ stages_that test (take k xs ++ x ∷ []) (drop (k + 1) xs) else stages_that test (take k xs ++ x ∷ []) (drop (k + 1) xs)))) h e)
+    ∙ ap₂
+    (λ ns b. only
+    (ns
+    ++ (if b then stage_of (take k xs) x ∷ stages_that test (take k xs ++ x ∷ []) (drop (k + 1) xs)
+    else stages_that test (take k xs ++ x ∷ []) (drop (k + 1) xs)))) h e)
 
 -- the stage of the first place that passes a test is the only one up to that place
 pub first : (test : Place → Bool) (xs : List Place) (k : ℕ) (x : Place)

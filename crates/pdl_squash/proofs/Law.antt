@@ -23,7 +23,8 @@ removes : (f : SquashSignals) (s : State) (held : ℕ → Bool) (moves fails : B
     → k < f.stage → (removed_signal f k).value s ≡ bit (moves && fails && held k)
 unfolding const_value
 removes f s held moves fails d k h =
-    mux_at (squash_signal f) (f.valid k) (const_signal 1 0) s (moves && fails) (squashes f s held moves fails d) ∙ ap (λ n. if moves && fails then n else 0) (d.valid k (omega arith)) ∙ held_too (moves && fails) (held k)
+    mux_at (squash_signal f) (f.valid k) (const_signal 1 0) s (moves && fails) (squashes f s held moves fails d)
+    ∙ ap (λ n. if moves && fails then n else 0) (d.valid k (omega arith)) ∙ held_too (moves && fails) (held k)
 
 none_more : (x : Bool) (y : Bool) → (if x then 0 else bit y) ≡ bit (if x then false else y)
 none_more true y = refl
@@ -34,7 +35,9 @@ nones : (f : SquashSignals) (s : State) (held : ℕ → Bool) (moves fails : Boo
 unfolding const_value none_signal
 nones f s held moves fails d zero k h = refl
 nones f s held moves fails d (suc n) k h =
-    mux_at (f.valid k) (const_signal 1 0) (none_signal f n (k + 1)) s (held k) (d.valid k (omega arith)) ∙ ap (λ v. if held k then 0 else v) (nones f s held moves fails d n (k + 1) (omega arith)) ∙ none_more (held k) (none_held held n (k + 1))
+    mux_at (f.valid k) (const_signal 1 0) (none_signal f n (k + 1)) s (held k) (d.valid k (omega arith))
+    ∙ ap (λ v. if held k then 0 else v) (nones f s held moves fails d n (k + 1) (omega arith))
+    ∙ none_more (held k) (none_held held n (k + 1))
 
 clears : (f : SquashSignals) (s : State) (held : ℕ → Bool) (moves fails : Bool) → Drives f s held moves fails
     → (k n : ℕ) → k + 1 + n ≡ f.stage + 1 → k < f.stage → (clear_signal f k).value s ≡ bit (none_held held n (k + 1))

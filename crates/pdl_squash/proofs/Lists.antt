@@ -33,17 +33,21 @@ mean_push : (a b : Circuit) (nets : List Net) (x : Net) (n : ℕ) (f : ℕ → S
     → Means b x (f n) → MeanFrom b (nets ++ x ∷ []) 0 (n + 1) f
 mean_push a b nets x n f h e m =
     let here : net_at (nets ++ x ∷ []) n ≡ x = get_or_push nets x (Input 0) n h.count in
-    let before : (k : ℕ) → k < n → net_at (nets ++ x ∷ []) k ≡ net_at nets k = λ k l. get_or_append_left nets (x ∷ []) (Input 0) k (omega (arith, h.count, l)) in
+    let before : (k : ℕ) → k < n → net_at (nets ++ x ∷ []) k ≡ net_at nets k =
+    λ k l. get_or_append_left nets (x ∷ []) (Input 0) k (omega (arith, h.count, l)) in
     let There : Net → Type 0 = λ y. IsThere b y in
     record {
       count = length-append nets (x ∷ []) ∙ omega (arith, h.count);
       there = λ k lo hi. ⊎_elim
           (λ (l : k < n). subst There (sym (before k l)) (e.there (net_at nets k) (h.there k lo l)))
-          (λ (g : n ≤ k). let i : n ≡ k = omega arith in let P : ℕ → Type 0 = λ j. IsThere b (net_at (nets ++ x ∷ []) j) in subst P i (subst There (sym here) m.there))
+          (λ (g : n ≤ k). let i : n ≡ k = omega arith in
+          let P : ℕ → Type 0 = λ j. IsThere b (net_at (nets ++ x ∷ []) j) in
+          subst P i (subst There (sym here) m.there))
           (cases_lt k n);
       same = λ k lo hi. ⊎_elim
           (λ (l : k < n). ap (signal b) (before k l) ∙ e.kept (net_at nets k) (h.there k lo l) ∙ h.same k lo l)
-          (λ (g : n ≤ k). let i : n ≡ k = omega arith in let P : ℕ → Type 0 = λ j. signal_at b (nets ++ x ∷ []) j ≡ f j in subst P i (ap (signal b) here ∙ m.same))
+          (λ (g : n ≤ k). let i : n ≡ k = omega arith in
+          let P : ℕ → Type 0 = λ j. signal_at b (nets ++ x ∷ []) j ≡ f j in subst P i (ap (signal b) here ∙ m.same))
           (cases_lt k n);
     }
 
@@ -58,11 +62,15 @@ mean_set a b nets x k n f h e l m =
       count = length-set nets k x ∙ h.count;
       there = λ j lo hi. ⊎_elim
           (λ (g : k < j). subst There (sym (after j g)) (e.there (net_at nets j) (h.there j (omega arith) hi)))
-          (λ (g : j ≤ k). let i : k ≡ j = omega arith in let P : ℕ → Type 0 = λ q. IsThere b (net_at (slice_set nets k x) q) in subst P i (subst There (sym here) m.there))
+          (λ (g : j ≤ k). let i : k ≡ j = omega arith in
+          let P : ℕ → Type 0 = λ q. IsThere b (net_at (slice_set nets k x) q) in
+          subst P i (subst There (sym here) m.there))
           (cases_lt k j);
       same = λ j lo hi. ⊎_elim
           (λ (g : k < j). ap (signal b) (after j g) ∙ e.kept (net_at nets j) (h.there j (omega arith) hi) ∙ h.same j (omega arith) hi)
-          (λ (g : j ≤ k). let i : k ≡ j = omega arith in let P : ℕ → Type 0 = λ q. signal_at b (slice_set nets k x) q ≡ f q in subst P i (ap (signal b) here ∙ m.same))
+          (λ (g : j ≤ k). let i : k ≡ j = omega arith in
+          let P : ℕ → Type 0 = λ q. signal_at b (slice_set nets k x) q ≡ f q in
+          subst P i (ap (signal b) here ∙ m.same))
           (cases_lt k j);
     }
 

@@ -47,5 +47,7 @@ none_held held (suc n) k = if held k then false else none_held held n (k + 1)
 -- a squash happens where the thread moves and its guess fails; it removes the threads of all stages before; a stage is clear where none of the stages after it, up to the one that squashes, holds a thread
 pub record SquashLaw (f : SquashSignals) (squash : Signal) (removed clear : ℕ → Signal) : Type 0 where
   pub squashes : (s : State) (held : ℕ → Bool) (moves fails : Bool) → Drives f s held moves fails → squash.value s ≡ bit (moves && fails)
-  pub removes : (s : State) (held : ℕ → Bool) (moves fails : Bool) → Drives f s held moves fails → (k : ℕ) → k < f.stage → (removed k).value s ≡ bit (moves && fails && held k)
-  pub clears : (s : State) (held : ℕ → Bool) (moves fails : Bool) → Drives f s held moves fails → (k n : ℕ) → k + 1 + n ≡ f.stage + 1 → k < f.stage → (clear k).value s ≡ bit (none_held held n (k + 1))
+  pub removes : (s : State) (held : ℕ → Bool) (moves fails : Bool) → Drives f s held moves fails → (k : ℕ) → k < f.stage
+      → (removed k).value s ≡ bit (moves && fails && held k)
+  pub clears : (s : State) (held : ℕ → Bool) (moves fails : Bool) → Drives f s held moves fails → (k n : ℕ)
+      → k + 1 + n ≡ f.stage + 1 → k < f.stage → (clear k).value s ≡ bit (none_held held n (k + 1))

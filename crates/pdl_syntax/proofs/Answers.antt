@@ -44,7 +44,9 @@ pub parsed_only : (bytes : List ℕ) (x : Result r_pipe.Pipe ParseError) (p : Pi
 parsed_only bytes (Ok q) p h k = let i : broken_limit bytes p ≡ None = subst (λ x. broken_limit bytes x ≡ None) (one_tree bytes (pipe_view q) p h.0 k) h.1 in
     rw i (one_tree bytes (pipe_view q) p h.0 k)
 parsed_only bytes (Err (error.Grammar line)) p h k = absurd (apart bytes p line k h)
-parsed_only bytes (Err (error.Limit rule line)) p h k = let i : broken_limit bytes p ≡ Some (rule, line) = subst (λ x. broken_limit bytes x ≡ Some (rule, line)) (one_tree bytes h.0 p h.1 k) h.2 in rw i refl
+parsed_only bytes (Err (error.Limit rule line)) p h k = let i : broken_limit bytes p ≡ Some (rule, line) =
+    subst (λ x. broken_limit bytes x ≡ Some (rule, line)) (one_tree bytes h.0 p h.1 k) h.2 in
+    rw i refl
 parsed_only bytes (Err error.NoMemory) p h k = no_memory (parse_answer bytes p)
 
 pub parsed_exact : (bytes : List ℕ) (x : Result r_pipe.Pipe ParseError) (line : ℕ) → IsParsed bytes x

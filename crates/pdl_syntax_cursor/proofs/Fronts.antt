@@ -52,7 +52,8 @@ none_head c [] e = refl
 none_head c (u ∷ ts) e = cc
 
 -- the next two tokens
-pub place_head : (c : LimitCounts) (ts : Row) → begins_place (headed_row c ts) ≡ is_place (first_kind (headed_row c ts)) (seen_if (passed_if c (first_kind (next ts))) (first_kind (next ts)))
+pub place_head : (c : LimitCounts) (ts : Row)
+    → begins_place (headed_row c ts) ≡ is_place (first_kind (headed_row c ts)) (seen_if (passed_if c (first_kind (next ts))) (first_kind (next ts)))
     (seen_if (passed_if (passed_if c (first_kind (next ts))) (first_kind (next (next ts)))) (first_kind (next (next ts))))
 place_head c [] = refl
 place_head c (t ∷ []) = refl

@@ -131,10 +131,13 @@ at_once t ts s below is = record {
 -- where the automaton stops, what it took can be completed, and the next token stops it whatever follows
 pub where_it_stops : (ts : Row) (below : Stack) (left : Row) → run ts below ≡ Some left → Stops ts below left
 where_it_stops [] [] left e = cc
-where_it_stops [] (s ∷ below) left e = record { front = []; split = let k : [] ≡ left = cc in k; end = ending (s ∷ below); goes = all_end (s ∷ below); stuck = λ t more is others. cc }
+where_it_stops [] (s ∷ below) left e =
+    record { front = []; split = let k : [] ≡ left = cc in k; end = ending (s ∷ below); goes = all_end (s ∷ below); stuck = λ t more is others. cc }
 where_it_stops (t ∷ ts) [] left e = record { front = []; split = let k : t ∷ ts ≡ left = cc in k; end = []; goes = refl; stuck = λ u more is others. refl }
 where_it_stops (t ∷ ts) (s ∷ below) left e = go (act s t.kind) refl e (λ above. where_it_stops ts (above ++ below) left)
   where
-    go : (o : Option Stack) → act s t.kind ≡ o → run_after o below (run ts) (t ∷ ts) ≡ Some left → ((above : Stack) → run ts (above ++ below) ≡ Some left → Stops ts (above ++ below) left) → Stops (t ∷ ts) (s ∷ below) left
+    go : (o : Option Stack) → act s t.kind ≡ o → run_after o below (run ts) (t ∷ ts) ≡ Some left
+        → ((above : Stack) → run ts (above ++ below) ≡ Some left → Stops ts (above ++ below) left)
+        → Stops (t ∷ ts) (s ∷ below) left
     go None is e ih = let k : t ∷ ts ≡ left = cc in subst (λ x. Stops (t ∷ ts) (s ∷ below) x) k (at_once t ts s below is)
     go (Some above) is e ih = one_more t ts s above below left is (ih above e)

@@ -42,7 +42,9 @@ IsBranch ts v r = (x : List ℕ) × Items v.0 ts (at (word x v.1) mark.CloseBrac
 -- the tokens are the other branch, or none
 data IsOther (end : Span) : Row → Stmts × Span → Row → Type 0 where
   missing : {r : Row} → IsOther end r (Nil, end) r
-  present : {l q : Word} {x : List ℕ} {ss : Stmts} {s : Span} {d r : Row} → Items ss d (at (word x s) mark.CloseBrace ∷ r) → IsOther end (at l mark.Else ∷ at q mark.OpenBrace ∷ d) (ss, s) r
+  present : {l q : Word} {x : List ℕ} {ss : Stmts} {s : Span} {d r : Row}
+      → Items ss d (at (word x s) mark.CloseBrace ∷ r)
+      → IsOther end (at l mark.Else ∷ at q mark.OpenBrace ∷ d) (ss, s) r
 
 if_item : (w : Word) (c : Expr) (one other : Stmts × Span) (ts r1 r2 r3 : Row) → IsCondition ts c r1 → IsBranch r1 one r2 → IsOther one.1 r2 other r3 →
     Item (If (across w.span other.1) c one.0 other.0 ∷ []) (at w mark.If ∷ ts) r3
@@ -58,15 +60,21 @@ no_else (t ∷ ts) below e = go t.kind (word_of t) e
     go (kind.Mark mark.Else) w e = cc
     go _ w e = refl
 
-module _ (top n : ℕ) (inside : Parser Stmts) (good : (ts : Row) → length ts < n → length ts ≤ top → Good (λ ss r. Items ss ts r) (m.items ∷ []) (a mark.CloseBrace ∷ []) (inside ts) ts) where
+module _ (top n : ℕ) (inside : Parser Stmts)
+    (good : (ts : Row) → length ts < n → length ts ≤ top → Good (λ ss r. Items ss ts r) (m.items ∷ []) (a mark.CloseBrace ∷ []) (inside ts) ts) where
   pub branch_good : (ts : Row) → length ts < n → length ts ≤ top → Good (IsBranch ts) (m.items ∷ []) [] (branch inside ts) ts
   branch_good ts le le2 =
       then [] _ (good ts le le2) (λ ss r1 p1 _.
       then _ _ (take_good mark.CloseBrace r1) (λ e r2 p2 _.
       reads (p2.0, rw p2.1 at p1) (omega arith) (λ below. refl)))
 
-  otherwise_good : (end : Span) (ts : Row) → length ts < n → length ts ≤ top → Good (IsOther end ts) (else_items ∷ []) (m.items ∷ []) (otherwise inside end ts) ts
-  otherwise_good end ts le le2 = on_test (λ b. Good (IsOther end ts) (else_items ∷ []) (m.items ∷ []) (cond b (and_then (take mark.OpenBrace (next ts)) (λ _. branch inside)) (Ok ((Nil, end), ts))) ts) (is_mark mark.Else (first_kind ts))
+  otherwise_good : (end : Span) (ts : Row) → length ts < n → length ts ≤ top
+      → Good (IsOther end ts) (else_items ∷ []) (m.items ∷ []) (otherwise inside end ts) ts
+  otherwise_good end ts le le2 =
+      on_test
+      (λ b. Good (IsOther end ts) (else_items ∷ []) (m.items ∷ [])
+      (cond b (and_then (take mark.OpenBrace (next ts)) (λ _. branch inside)) (Ok ((Nil, end), ts))) ts)
+      (is_mark mark.Else (first_kind ts))
       (λ e. let s = begins mark.Else ts e in let k : length ts ≡ length (at s.w mark.Else ∷ s.more) = ap length s.is in
       subst (λ us. Good (IsOther end us) (else_items ∷ []) (m.items ∷ []) (and_then (take mark.OpenBrace (next us)) (λ _. branch inside)) us) (sym s.is)
       (step refl
@@ -75,7 +83,9 @@ module _ (top n : ℕ) (inside : Parser Stmts) (good : (ts : Row) → length ts 
       (λ e. reads missing (omega arith) (λ below. no_else ts below e))
 
   if_good : (w : Word) (ts : Row) → length ts < n → length ts ≤ top →
-      Good (λ s r. Item s (at w mark.If ∷ ts) r × (length r < length (at w mark.If ∷ ts))) (a mark.OpenRound ∷ operand round ∷ a mark.OpenBrace ∷ m.items ∷ else_items ∷ []) (m.items ∷ []) (if_of top inside w.span ts) ts
+      Good (λ s r. Item s (at w mark.If ∷ ts) r × (length r < length (at w mark.If ∷ ts)))
+      (a mark.OpenRound ∷ operand round ∷ a mark.OpenBrace ∷ m.items ∷ else_items ∷ []) (m.items ∷ [])
+      (if_of top inside w.span ts) ts
   if_good w ts le le2 =
       then _ _ (condition_good top ts le2) (λ c r1 p1 le3.
       then _ _ (branch_good r1 (omega arith) (omega arith)) (λ one r2 p2 le4.
@@ -84,7 +94,8 @@ module _ (top n : ℕ) (inside : Parser Stmts) (good : (ts : Row) → length ts 
 
   item_good : (ts : Row) → length ts ≤ n → length ts ≤ top → is_mark mark.CloseBrace (first_kind ts) ≡ false → Item_good (length ts) ts (item top inside ts) ts
   unfolding item
-  item_good ts le le2 f = on_test (λ b. Item_good (length ts) ts (cond b (if_of top inside (first_span ts) (next ts)) (plain top ts)) ts) (is_mark mark.If (first_kind ts))
+  item_good ts le le2 f =
+      on_test (λ b. Item_good (length ts) ts (cond b (if_of top inside (first_span ts) (next ts)) (plain top ts)) ts) (is_mark mark.If (first_kind ts))
       (λ e. let s = begins mark.If ts e in let k : length ts ≡ length (at s.w mark.If ∷ s.more) = ap length s.is in
       subst (λ us. Item_good (length us) us (if_of top inside (first_span us) (next us)) us) (sym s.is)
       (step refl (if_good s.w s.more (omega arith) (omega arith))))
@@ -105,7 +116,11 @@ items_good top (suc n) ts le le2 = go (items_good top n)
   where
     go : ((us : Row) → length us < n → length us ≤ top → Good (λ ss r. Items ss us r) (m.items ∷ []) (a mark.CloseBrace ∷ []) (items top n us) us) →
         Good (λ ss r. Items ss ts r) (m.items ∷ []) (a mark.CloseBrace ∷ []) (items top (suc n) ts) ts
-    go ih = on_test (λ b. Good (λ ss r. Items ss ts r) (m.items ∷ []) (a mark.CloseBrace ∷ []) (cond b (Ok (Nil, ts)) (and_then (item top (items top n) ts) (λ s. items top n >>= (λ ss. pure (prepend s ss))))) ts) (is_mark mark.CloseBrace (first_kind ts))
+    go ih =
+        on_test
+        (λ b. Good (λ ss r. Items ss ts r) (m.items ∷ []) (a mark.CloseBrace ∷ [])
+        (cond b (Ok (Nil, ts)) (and_then (item top (items top n) ts) (λ s. items top n >>= (λ ss. pure (prepend s ss))))) ts)
+        (is_mark mark.CloseBrace (first_kind ts))
         (λ e. reads none (omega arith) (λ below. brace_next ts below e))
         (λ e. then [] _ (item_good top n (items top n) ih ts (omega arith) le2 e) (λ s r1 p1 le1.
         then [] _ (ih r1 (let k = p1.1 in omega arith) (omega arith)) (λ ss r2 p2 _.

@@ -43,12 +43,17 @@ bounds_good ts =
     reads (record { c = word p2.0 c; d = word p4.0 d; x = p1.0; y = p3.0; is = rw (p1.1, p2.1, p3.1, p4.1) refl }) (omega arith) (λ below. refl)))))
 
 slice_good : (q : Closer) (x o : Word) (ts : Row)
-    → Good (λ e r. Level 0 e (on x kind.Name ∷ at o mark.OpenSquare ∷ ts) r) (a_number ∷ a mark.Colon ∷ a_number ∷ a mark.CloseSquare ∷ rest q ∷ []) (rest q ∷ []) (slice_of (ident x) ts) ts
+    → Good (λ e r. Level 0 e (on x kind.Name ∷ at o mark.OpenSquare ∷ ts) r)
+    (a_number ∷ a mark.Colon ∷ a_number ∷ a mark.CloseSquare ∷ rest q ∷ []) (rest q ∷ []) (slice_of (ident x) ts) ts
 slice_good q x o ts = then _ _ (bounds_good ts) (λ b r p _. reads (rw p.is sliced) (omega arith) (λ below. refl))
 
 name_operand : (q : Closer) (x : Word) (ts : Row)
     → Good (λ e r. Level 0 e (on x kind.Name ∷ ts) r) (slicing q ∷ []) (rest q ∷ []) (after_name (ident x) ts) ts
-name_operand q x ts = on_test (λ b. Good (λ e r. Level 0 e (on x kind.Name ∷ ts) r) (slicing q ∷ []) (rest q ∷ []) (cond b (slice_of (ident x) (next ts)) (Ok (Variable (ident x), ts))) ts) (is_mark mark.OpenSquare (first_kind ts))
+name_operand q x ts =
+    on_test
+    (λ b. Good (λ e r. Level 0 e (on x kind.Name ∷ ts) r) (slicing q ∷ []) (rest q ∷ [])
+    (cond b (slice_of (ident x) (next ts)) (Ok (Variable (ident x), ts))) ts)
+    (is_mark mark.OpenSquare (first_kind ts))
     (λ e. let s = begins mark.OpenSquare ts e in
     subst (λ us. Good (λ e r. Level 0 e (on x kind.Name ∷ us) r) (slicing q ∷ []) (rest q ∷ []) (slice_of (ident x) (next us)) us) (sym s.is)
     (step refl (slice_good q x s.w s.more)))
@@ -88,16 +93,19 @@ module _ (inner : Inner) (n : ℕ) (fine : Fine inner n) where
       then _ _ (take_good mark.Comma r2) (λ c r3 p3 le3.
       then _ _ (fine.all round r3 (omega arith)) (λ y r4 p4 le4.
       then _ _ (take_good mark.CloseRound r4) (λ d r5 p5 _.
-      reads (record { o = word p1.0 o; c = word p3.0 c; d = word p5.0 d; a = r1; b = r3; is = p1.1; first = rw p3.1 at p2; second = rw p5.1 at p4 }) (omega arith) (λ below. refl))))))
+      reads (record { o = word p1.0 o; c = word p3.0 c; d = word p5.0 d; a = r1; b = r3; is = p1.1; first = rw p3.1 at p2; second = rw p5.1 at p4 })
+      (omega arith) (λ below. refl))))))
 
-  sized_good : (ts : Row) → length ts < n → Good (IsSized ts) (a mark.OpenRound ∷ operand comma ∷ a_number ∷ a mark.CloseRound ∷ []) [] (reading.sized_expr inner.full ts) ts
+  sized_good : (ts : Row) → length ts < n
+      → Good (IsSized ts) (a mark.OpenRound ∷ operand comma ∷ a_number ∷ a mark.CloseRound ∷ []) [] (reading.sized_expr inner.full ts) ts
   sized_good ts le =
       then _ _ (take_good mark.OpenRound ts) (λ o r1 p1 le1.
       then _ _ (fine.all comma r1 (omega arith)) (λ e r2 p2 _.
       then _ _ (take_good mark.Comma r2) (λ c r3 p3 _.
       then _ _ (number_good r3) (λ m r4 p4 _.
       then _ _ (take_good mark.CloseRound r4) (λ d r5 p5 _.
-      reads (record { o = word p1.0 o; c = word p3.0 c; d = word p5.0 d; x = p4.0; a = r1; is = p1.1; first = rw (p3.1, p4.1, p5.1) at p2 }) (omega arith) (λ below. refl))))))
+      reads (record { o = word p1.0 o; c = word p3.0 c; d = word p5.0 d; x = p4.0; a = r1; is = p1.1; first = rw (p3.1, p4.1, p5.1) at p2 })
+      (omega arith) (λ below. refl))))))
 
   operand_at : (q : Closer) (k : TokenKind) (w : Word) (ts : Row) → length (on w k ∷ ts) ≤ n →
       Good (λ e r. Level 0 e (on w k ∷ ts) r) (operand q ∷ []) (rest q ∷ []) (operand_by inner (Some k) (on w k ∷ ts)) (on w k ∷ ts)
@@ -142,9 +150,11 @@ begins_operator : (n : ℕ) (op : BinaryOp) (ts : Row) → op_in n (first_kind t
 begins_operator n op [] e = cc
 begins_operator n op (t ∷ ts) e = go t.kind (word_of t) e
   where
-    tell : (p : BinaryOp) (m : Mark) (w : Word) (b : Bool) → operator_of m ≡ Some p → nat_eq (loose p) n ≡ b → cond b (Some p) None ≡ Some op → BeginsOperator n op (at w m ∷ ts)
+    tell : (p : BinaryOp) (m : Mark) (w : Word) (b : Bool) → operator_of m ≡ Some p → nat_eq (loose p) n ≡ b
+        → cond b (Some p) None ≡ Some op → BeginsOperator n op (at w m ∷ ts)
     tell p m w false i is e = cc
-    tell p m w true i is e = let k : p ≡ op = cc in record { w = w; m = m; more = ts; is = refl; means = i ∙ ap Some k; level = sym (eqb-true (loose p) n is) ∙ ap loose k }
+    tell p m w true i is e = let k : p ≡ op = cc in
+        record { w = w; m = m; more = ts; is = refl; means = i ∙ ap Some k; level = sym (eqb-true (loose p) n is) ∙ ap loose k }
 
     found : (o : Option BinaryOp) (m : Mark) (w : Word) → operator_of m ≡ o → op_by n o ≡ Some op → BeginsOperator n op (at w m ∷ ts)
     found None m w i e = cc
@@ -168,15 +178,22 @@ joined_at n op m w x y ts b r e i = rw e (joined i)
 takes_operator : (q : Closer) (m : Mark) (op : BinaryOp) → operator_of m ≡ Some op → act (rest q) (kind.Mark m) ≡ Some (operand q ∷ [])
 takes_operator q m op e = rw e refl
 
-module _ (q : Closer) (p : Parser Expr) (n : ℕ) (top : ℕ) (good : (ts : Row) → length ts ≤ top → Good (λ e r. Level n e ts r × Ends n r) (operand q ∷ []) (rest q ∷ []) (p ts) ts) where
-  chain_good : (m : ℕ) (x : Expr) (ts r : Row) → length r ≤ m → length r ≤ top → Level (suc n) x ts r → Ends n r → Good (λ e r2. Level (suc n) e ts r2 × Ends (suc n) r2) (rest q ∷ []) (rest q ∷ []) (chain p n m x r) r
+module _ (q : Closer) (p : Parser Expr) (n : ℕ) (top : ℕ)
+    (good : (ts : Row) → length ts ≤ top → Good (λ e r. Level n e ts r × Ends n r) (operand q ∷ []) (rest q ∷ []) (p ts) ts) where
+  chain_good : (m : ℕ) (x : Expr) (ts r : Row) → length r ≤ m → length r ≤ top → Level (suc n) x ts r → Ends n r
+      → Good (λ e r2. Level (suc n) e ts r2 × Ends (suc n) r2) (rest q ∷ []) (rest q ∷ []) (chain p n m x r) r
   unfolding chain
   chain_good zero x ts [] le le2 so end = reads (so, record { none = λ j b. refl }) (omega arith) (λ below. refl)
   chain_good zero x ts (t ∷ r) le le2 so end = absurd (omega arith)
-  chain_good (suc m) x ts r le le2 so end = on_option (λ o. Good (λ e r2. Level (suc n) e ts r2 × Ends (suc n) r2) (rest q ∷ []) (rest q ∷ []) (joined_expr p (chain p n m) x o r) r) (op_in n (first_kind r))
+  chain_good (suc m) x ts r le le2 so end =
+      on_option (λ o. Good (λ e r2. Level (suc n) e ts r2 × Ends (suc n) r2) (rest q ∷ []) (rest q ∷ []) (joined_expr p (chain p n m) x o r) r)
+      (op_in n (first_kind r))
       (λ e. reads (so, ends_more n r end e) (omega arith) (λ below. refl))
       (λ op e. let b = begins_operator n op r e in let k : length r ≡ length (at b.w b.m ∷ b.more) = ap length b.is in
-      subst (λ us. Good (λ e r2. Level (suc n) e ts r2 × Ends (suc n) r2) (rest q ∷ []) (rest q ∷ []) (and_then (p (next us)) (λ y. chain p n m (Binary op x y))) us) (sym b.is)
+      subst
+      (λ us. Good (λ e r2. Level (suc n) e ts r2 × Ends (suc n) r2) (rest q ∷ []) (rest q ∷ [])
+      (and_then (p (next us)) (λ y. chain p n m (Binary op x y))) us)
+      (sym b.is)
       (step (takes_operator q b.m op b.means) (then _ _ (good b.more (omega arith)) (λ y r1 p1 le1.
       chain_good m (Binary op x y) ts r1 (omega arith) (omega arith)
       (joined_at n op b.m b.w x y ts b.more r1 b.level b.means (rw b.is at so) p1.0) p1.1))))
@@ -226,14 +243,18 @@ takes_question : (q : Closer) → act (rest q) (kind.Mark mark.Question) ≡ Som
 takes_question q = refl
 
 module _ (inner : Inner) (top : ℕ) (fine : Fine inner top) where
-  level_good : (n : ℕ) (q : Closer) (ts : Row) → length ts ≤ top → Good (λ e r. Level n e ts r × Ends n r) (operand q ∷ []) (rest q ∷ []) (level (reading.operand inner) top n ts) ts
+  level_good : (n : ℕ) (q : Closer) (ts : Row) → length ts ≤ top
+      → Good (λ e r. Level n e ts r × Ends n r) (operand q ∷ []) (rest q ∷ []) (level (reading.operand inner) top n ts) ts
   unfolding level
   level_good zero q ts le = weaker (λ e r p _. (p, record { none = λ j b. absurd (omega arith) })) (operand_good inner top fine q ts le)
   level_good (suc n) q ts le = then [] _ (level_good n q ts le) (λ x r p le1.
       chain_good q (level (reading.operand inner) top n) n top (level_good n q) top x ts r (omega arith) (omega arith) (tighter p.0) p.1)
 
-  choose_good : (q : Closer) (c : Expr) (ts r : Row) → length r ≤ top → Level levels c ts r → Ends levels r → Good (λ e r2. Full e ts r2) (rest q ∷ []) (closing q ∷ []) (choose inner.full c r) r
-  choose_good q c ts r le so end = on_test (λ b. Good (λ e r2. Full e ts r2) (rest q ∷ []) (closing q ∷ []) (cond b (arms inner.full c (next r)) (Ok (c, r))) r) (is_mark mark.Question (first_kind r))
+  choose_good : (q : Closer) (c : Expr) (ts r : Row) → length r ≤ top → Level levels c ts r → Ends levels r
+      → Good (λ e r2. Full e ts r2) (rest q ∷ []) (closing q ∷ []) (choose inner.full c r) r
+  choose_good q c ts r le so end =
+      on_test (λ b. Good (λ e r2. Full e ts r2) (rest q ∷ []) (closing q ∷ []) (cond b (arms inner.full c (next r)) (Ok (c, r))) r)
+      (is_mark mark.Question (first_kind r))
       (λ e. let s = begins mark.Question r e in let k : length r ≡ length (at s.w mark.Question ∷ s.more) = ap length s.is in
       subst (λ us. Good (λ e r2. Full e ts r2) (rest q ∷ []) (closing q ∷ []) (arms inner.full c (next us)) us) (sym s.is)
       (step (takes_question q)
@@ -250,7 +271,11 @@ module _ (inner : Inner) (top : ℕ) (fine : Fine inner top) where
 fine_inside : (n : ℕ) → Fine (inside n) n
 unfolding inside
 fine_inside zero = record { one = λ q ts le. absurd (omega arith); all = λ q ts le. absurd (omega arith) }
-fine_inside (suc n) = record { one = λ q ts le. operand_good (inside n) n (fine_inside n) q ts (omega arith); all = λ q ts le. full_good (inside n) n (fine_inside n) q ts (omega arith) }
+fine_inside (suc n) =
+    record {
+      one = λ q ts le. operand_good (inside n) n (fine_inside n) q ts (omega arith);
+      all = λ q ts le. full_good (inside n) n (fine_inside n) q ts (omega arith);
+    }
 
 -- an expression up to its closer is read as the automaton takes it, and what is read is so
 pub expr_good : (n : ℕ) (q : Closer) (ts : Row) → length ts ≤ n → Good (λ e r. Full e ts r) (operand q ∷ []) (closing q ∷ []) (expr n ts) ts

@@ -40,32 +40,42 @@ more_step : (l : Listing) (t : Token) (us : Row) (b : Option Bool) (below : Stac
     → run (t ∷ us) (m.more l ∷ below) ≡ run_after (act_on l b) below (run us) (t ∷ us)
 more_step l t us b below e = ap (λ o. run_after (act_on l o) below (run us) (t ∷ us)) e
 
-module _ {A : Type 0} (P : A → Row → Row → Type 0) (p : Parser A) (l : Listing) (top : ℕ) (good : (ts : Row) → length ts ≤ top → Good (λ x r. P x ts r) (first_of l) (m.more l ∷ []) (p ts) ts) where
+module _ {A : Type 0} (P : A → Row → Row → Type 0) (p : Parser A) (l : Listing) (top : ℕ)
+    (good : (ts : Row) → length ts ≤ top → Good (λ x r. P x ts r) (first_of l) (m.more l ∷ []) (p ts) ts) where
   abbrev List_good : Row → Stack → Outcome (List A) → Row → Type 0
   List_good ts before o us = Good (λ xs r. Listed P (closer l) xs ts r) before [] o us
 
-  further_good : (x : A) (w : Word) (ts us : Row) {o : Outcome (List A)} → P x ts (at w mark.Comma ∷ us) → List_good us (first_of l) o us → List_good ts (first_of l) (and_then o (λ xs t. Ok (x ∷ xs, t))) us
+  further_good : (x : A) (w : Word) (ts us : Row) {o : Outcome (List A)} → P x ts (at w mark.Comma ∷ us)
+      → List_good us (first_of l) o us → List_good ts (first_of l) (and_then o (λ xs t. Ok (x ∷ xs, t))) us
   further_good x w ts us h (reads q le e) = reads (further h q) le e
   further_good x w ts us h (stops e) = stops e
 
   after_value : (n : ℕ) (ts : Row) → ((us : Row) → length us < n → length us ≤ top → List_good us (first_of l) (list_of p (closer l) n us) us) →
-      (x : A) (r : Row) → length r ≤ n → length r ≤ top → P x ts r → List_good ts (m.more l ∷ []) (listed_by (list_of p (closer l) n) x (goes_on (closer l) (first_kind r)) r) r
+      (x : A) (r : Row) → length r ≤ n → length r ≤ top → P x ts r
+      → List_good ts (m.more l ∷ []) (listed_by (list_of p (closer l) n) x (goes_on (closer l) (first_kind r)) r) r
   after_value n ts others x [] le le2 h = stops (λ below. refl)
-  after_value n ts others x (t ∷ us) le le2 h = on_option (λ o. List_good ts (m.more l ∷ []) (listed_by (list_of p (closer l) n) x o (t ∷ us)) (t ∷ us)) (goes_on (closer l) (Some t.kind))
+  after_value n ts others x (t ∷ us) le le2 h =
+      on_option (λ o. List_good ts (m.more l ∷ []) (listed_by (list_of p (closer l) n) x o (t ∷ us)) (t ∷ us)) (goes_on (closer l) (Some t.kind))
       (λ e. stops (λ below. more_step l t us None below e))
       follows
     where
-      follows : (b : Bool) → goes_on (closer l) (Some t.kind) ≡ Some b → List_good ts (m.more l ∷ []) (listed_by (list_of p (closer l) n) x (Some b) (t ∷ us)) (t ∷ us)
+      follows : (b : Bool) → goes_on (closer l) (Some t.kind) ≡ Some b
+          → List_good ts (m.more l ∷ []) (listed_by (list_of p (closer l) n) x (Some b) (t ∷ us)) (t ∷ us)
       follows true e = beyond (omega arith) (λ below. more_step l t us (Some true) below e)
-          (further_good x (word_of t) ts us (subst (λ k. P x ts (on (word_of t) k ∷ us)) (comma_comes (closer l) t.kind e) h) (others us (omega arith) (omega arith)))
-      follows false e = reads (last (subst (λ k. P x ts (on (word_of t) k ∷ us)) (closer_comes (closer l) t.kind e) h)) (omega arith) (λ below. more_step l t us (Some false) below e)
+          (further_good x (word_of t) ts us (subst (λ k. P x ts (on (word_of t) k ∷ us)) (comma_comes (closer l) t.kind e) h)
+          (others us (omega arith) (omega arith)))
+      follows false e =
+          reads (last (subst (λ k. P x ts (on (word_of t) k ∷ us)) (closer_comes (closer l) t.kind e) h)) (omega arith)
+          (λ below. more_step l t us (Some false) below e)
 
   pub listed_good : (n : ℕ) (ts : Row) → length ts < n → length ts ≤ top → List_good ts (first_of l) (list_of p (closer l) n ts) ts
   unfolding list_of
   listed_good zero ts le le2 = absurd (omega arith)
   listed_good (suc n) ts le le2 = go (good ts le2) (after_value n ts (listed_good n))
     where
-      go : {o : Outcome A} → Good (λ x r. P x ts r) (first_of l) (m.more l ∷ []) o ts → ((x : A) (r : Row) → length r ≤ n → length r ≤ top → P x ts r → List_good ts (m.more l ∷ []) (listed_by (list_of p (closer l) n) x (goes_on (closer l) (first_kind r)) r) r) →
+      go : {o : Outcome A} → Good (λ x r. P x ts r) (first_of l) (m.more l ∷ []) o ts
+          → ((x : A) (r : Row) → length r ≤ n → length r ≤ top → P x ts r
+          → List_good ts (m.more l ∷ []) (listed_by (list_of p (closer l) n) x (goes_on (closer l) (first_kind r)) r) r) →
           List_good ts (first_of l) (and_then o (λ x us. listed_by (list_of p (closer l) n) x (goes_on (closer l) (first_kind us)) us)) ts
       go (reads {v = x} {r = r} h le3 f) tail = beyond le3 f (tail x r (omega arith) (omega arith) h)
       go (stops f) tail = stops f
@@ -106,7 +116,8 @@ no_place [] below e f = refl
 no_place (t ∷ ts) below e f = first t.kind (word_of t) e f
   where
     third : (k : TokenKind) (x o y : Word) (us : Row) → begins_place (on x kind.Name ∷ at o mark.OpenSquare ∷ on y k ∷ us) ≡ false →
-        run (on x kind.Name ∷ at o mark.OpenSquare ∷ on y k ∷ us) (m.assigned ∷ below) ≡ run (on x kind.Name ∷ at o mark.OpenSquare ∷ on y k ∷ us) (operand semicolon ∷ below)
+        run (on x kind.Name ∷ at o mark.OpenSquare ∷ on y k ∷ us) (m.assigned ∷ below)
+        ≡ run (on x kind.Name ∷ at o mark.OpenSquare ∷ on y k ∷ us) (operand semicolon ∷ below)
     third kind.Name x o y us e = cc
     third _ x o y us e = refl
 
@@ -120,11 +131,13 @@ no_place (t ∷ ts) below e f = first t.kind (word_of t) e f
     second (kind.Mark mark.OpenSquare) x o us e = after us x o e
     second _ x o us e = refl
 
-    named_first : (us : Row) (x : Word) → begins_place (on x kind.Name ∷ us) ≡ false → run (on x kind.Name ∷ us) (m.assigned ∷ below) ≡ run (on x kind.Name ∷ us) (operand semicolon ∷ below)
+    named_first : (us : Row) (x : Word) → begins_place (on x kind.Name ∷ us) ≡ false
+        → run (on x kind.Name ∷ us) (m.assigned ∷ below) ≡ run (on x kind.Name ∷ us) (operand semicolon ∷ below)
     named_first [] x e = refl
     named_first (u ∷ us) x e = second u.kind x (word_of u) us e
 
-    first : (k : TokenKind) (x : Word) → begins_place (on x k ∷ ts) ≡ false → is_mark mark.SpecCall (Some k) ≡ false → run (on x k ∷ ts) (m.assigned ∷ below) ≡ run (on x k ∷ ts) (operand semicolon ∷ below)
+    first : (k : TokenKind) (x : Word) → begins_place (on x k ∷ ts) ≡ false → is_mark mark.SpecCall (Some k) ≡ false
+        → run (on x k ∷ ts) (m.assigned ∷ below) ≡ run (on x k ∷ ts) (operand semicolon ∷ below)
     first kind.Name x e f = named_first ts x e
     first (kind.Mark mark.SpecCall) x e f = cc
     first _ x e f = refl
@@ -182,7 +195,11 @@ args_end_good top ts le =
 computed_good : (top : ℕ) (x q : Word) (ts : Row)
     → length ts ≤ top → begins_place ts ≡ false
     → Good (λ s r. Item (s ∷ []) (on x kind.Name ∷ at q mark.Assign ∷ ts) r) (m.assigned ∷ []) [] (computed_stmt top (ident x) ts) ts
-computed_good top x q ts le e = on_test (λ b. Good (λ s r. Item (s ∷ []) (on x kind.Name ∷ at q mark.Assign ∷ ts) r) (m.assigned ∷ []) [] (cond b (guess_of top (ident x) (next ts)) (bind_of (expr top) (ident x) ts)) ts) (is_mark mark.SpecCall (first_kind ts))
+computed_good top x q ts le e =
+    on_test
+    (λ b. Good (λ s r. Item (s ∷ []) (on x kind.Name ∷ at q mark.Assign ∷ ts) r) (m.assigned ∷ []) []
+    (cond b (guess_of top (ident x) (next ts)) (bind_of (expr top) (ident x) ts)) ts)
+    (is_mark mark.SpecCall (first_kind ts))
     (λ f. let s = begins mark.SpecCall ts f in let k : length ts ≡ length (at s.w mark.SpecCall ∷ s.more) = ap length s.is in
     subst (λ us. Good (λ s r. Item (s ∷ []) (on x kind.Name ∷ at q mark.Assign ∷ us) r) (m.assigned ∷ []) [] (guess_of top (ident x) (next us)) us) (sym s.is)
     (step refl
@@ -196,7 +213,11 @@ computed_good top x q ts le e = on_test (λ b. Good (λ s r. Item (s ∷ []) (on
 assigned_good : (top : ℕ) (x q : Word) (ts : Row)
     → length ts ≤ top
     → Good (λ s r. Item (s ∷ []) (on x kind.Name ∷ at q mark.Assign ∷ ts) r) (m.assigned ∷ []) [] (assigned_stmt top (ident x) ts) ts
-assigned_good top x q ts le = on_test (λ b. Good (λ s r. Item (s ∷ []) (on x kind.Name ∷ at q mark.Assign ∷ ts) r) (m.assigned ∷ []) [] (cond b (read_of (ident x) ts) (computed_stmt top (ident x) ts)) ts) (begins_place ts)
+assigned_good top x q ts le =
+    on_test
+    (λ b. Good (λ s r. Item (s ∷ []) (on x kind.Name ∷ at q mark.Assign ∷ ts) r) (m.assigned ∷ []) []
+    (cond b (read_of (ident x) ts) (computed_stmt top (ident x) ts)) ts)
+    (begins_place ts)
     (λ e. instead (a_name ∷ a mark.OpenSquare ∷ a_name ∷ a mark.CloseSquare ∷ a mark.Semicolon ∷ []) (λ below. a_place ts below e)
     (then _ _ (place_end_good ts) (λ v r1 p1 _.
     reads (rw p1.is reading) (omega arith) (λ below. refl))))
@@ -223,7 +244,8 @@ unfolding named_stmt
 named_good top x [] le = stops (λ below. refl)
 named_good top x (t ∷ ts) le = go t.kind (word_of t) le
   where
-    go : (k : TokenKind) (q : Word) → length (on q k ∷ ts) ≤ top → Good (λ s r. Item (s ∷ []) (on x kind.Name ∷ on q k ∷ ts) r) (after_name ∷ []) [] (named_by top (ident x) (Some k) (on q k ∷ ts)) (on q k ∷ ts)
+    go : (k : TokenKind) (q : Word) → length (on q k ∷ ts) ≤ top
+        → Good (λ s r. Item (s ∷ []) (on x kind.Name ∷ on q k ∷ ts) r) (after_name ∷ []) [] (named_by top (ident x) (Some k) (on q k ∷ ts)) (on q k ∷ ts)
     go (kind.Mark mark.Assign) q le = step refl (assigned_good top x q ts (omega arith))
     go (kind.Mark mark.Arrow) q le = step refl
         (then _ _ (place_end_good ts) (λ v r1 p1 _.
@@ -275,7 +297,10 @@ record IsReserved (ts : Row) (v : Location × Kind × Span) (r : Row) : Type 0 w
   k : Word
   z : Word
   x : List ℕ
-  is : ts ≡ at p mark.OpenRound ∷ location_row (word v.0.mem.name v.0.mem.span) o (word v.0.address.name v.0.address.span) c (at q mark.Comma ∷ at k (mark_of v.1) ∷ at z mark.CloseRound ∷ at (word x v.2) mark.Semicolon ∷ r)
+  is : ts
+      ≡ at p mark.OpenRound
+      ∷ location_row (word v.0.mem.name v.0.mem.span) o (word v.0.address.name v.0.address.span) c
+      (at q mark.Comma ∷ at k (mark_of v.1) ∷ at z mark.CloseRound ∷ at (word x v.2) mark.Semicolon ∷ r)
 
 reserved_good : (ts : Row) → Good (IsReserved ts) (m.held_stack (a mark.Comma ∷ an_access ∷ [])) [] (reserved_location ts) ts
 unfolding reserved_location
@@ -283,7 +308,8 @@ reserved_good ts =
     then _ _ (take_good mark.OpenRound ts) (λ p r1 p1 _.
     then _ _ (place_good r1) (λ v r2 p2 _.
     then _ _ (purpose_good r2) (λ u r3 p3 _.
-    reads (record { p = word p1.0 p; o = p2.o; c = p2.c; q = p3.q; k = p3.k; z = p3.z; x = p3.x; is = rw (p1.1, p2.is, p3.is) refl }) (omega arith) (λ below. refl))))
+    reads (record { p = word p1.0 p; o = p2.o; c = p2.c; q = p3.q; k = p3.k; z = p3.z; x = p3.x; is = rw (p1.1, p2.is, p3.is) refl })
+    (omega arith) (λ below. refl))))
 
 -- the tokens are a location in brackets and a semicolon
 record IsHeld (ts : Row) (v : Location × Span) (r : Row) : Type 0 where
@@ -292,7 +318,9 @@ record IsHeld (ts : Row) (v : Location × Span) (r : Row) : Type 0 where
   c : Word
   z : Word
   x : List ℕ
-  is : ts ≡ at p mark.OpenRound ∷ location_row (word v.0.mem.name v.0.mem.span) o (word v.0.address.name v.0.address.span) c (at z mark.CloseRound ∷ at (word x v.1) mark.Semicolon ∷ r)
+  is : ts
+      ≡ at p mark.OpenRound
+      ∷ location_row (word v.0.mem.name v.0.mem.span) o (word v.0.address.name v.0.address.span) c (at z mark.CloseRound ∷ at (word x v.1) mark.Semicolon ∷ r)
 
 held_good : (ts : Row) → Good (IsHeld ts) (m.held_stack []) [] (held_location ts) ts
 unfolding held_location
@@ -328,7 +356,8 @@ alone_good (stops e) = stops e
 abbrev pub Item_good : ℕ → Row → Outcome (List Stmt) → Row → Type 0
 Item_good n ts o us = Good (λ s r. Item s ts r × (length r < n)) (m.items ∷ []) (m.items ∷ []) o us
 
-plain_at : (top : ℕ) (k : TokenKind) (w : Word) (ts : Row) → length (on w k ∷ ts) ≤ top → is_mark mark.CloseBrace (Some k) ≡ false → is_mark mark.If (Some k) ≡ false →
+plain_at : (top : ℕ) (k : TokenKind) (w : Word) (ts : Row) → length (on w k ∷ ts) ≤ top
+    → is_mark mark.CloseBrace (Some k) ≡ false → is_mark mark.If (Some k) ≡ false →
     Item_good (length (on w k ∷ ts)) (on w k ∷ ts) (plain_by top (Some k) (on w k ∷ ts)) (on w k ∷ ts)
 unfolding locking
 plain_at top kind.Name w ts le e f = step refl (under (m.items ∷ []) (alone_good (weaker (λ s r p le2. (p, omega arith)) (named_good top w ts (omega arith)))))

@@ -50,7 +50,9 @@ no_lock (t ∷ ts) below e = go t.kind (word_of t) e
     go _ w e = refl
 
 lock_of_good : (l : Word) (ts : Row)
-    → Good (λ x r. Lock x (at l mark.Lock ∷ ts) r) (a_lock_kind ∷ a mark.OpenRound ∷ a_number ∷ a mark.CloseRound ∷ more mems ∷ []) (more mems ∷ []) (lock_clause ts) ts
+    → Good (λ x r. Lock x (at l mark.Lock ∷ ts) r)
+    (a_lock_kind ∷ a mark.OpenRound ∷ a_number ∷ a mark.CloseRound ∷ more mems ∷ []) (more mems ∷ [])
+    (lock_clause ts) ts
 lock_of_good l ts =
     then _ _ (lock_kind_good ts) (λ _ r1 p1 _.
     then _ _ (take_good mark.OpenRound r1) (λ _ r2 p2 _.
@@ -60,7 +62,9 @@ lock_of_good l ts =
 
 lock_good : (ts : Row) → Good (λ x r. Lock x ts r) (locked ∷ []) (more mems ∷ []) (lock ts) ts
 unfolding lock
-lock_good ts = on_test (λ b. Good (λ x r. Lock x ts r) (locked ∷ []) (more mems ∷ []) (cond b (lock_clause (next ts)) (Ok (None, ts))) ts) (is_mark mark.Lock (first_kind ts))
+lock_good ts =
+    on_test (λ b. Good (λ x r. Lock x ts r) (locked ∷ []) (more mems ∷ []) (cond b (lock_clause (next ts)) (Ok (None, ts))) ts)
+    (is_mark mark.Lock (first_kind ts))
     (λ e. let s = begins mark.Lock ts e in
     subst (λ us. Good (λ x r. Lock x us r) (locked ∷ []) (more mems ∷ []) (lock_clause (next us)) us) (sym s.is) (step refl (lock_of_good s.w s.more)))
     (λ e. reads unlocked (omega arith) (λ below. no_lock ts below e))
@@ -82,7 +86,9 @@ record IsShape (ts : Row) (v : Number × Number × Bool × Option LockDecl) (r :
   lock : Lock v.3 a r
 
 shape_good : (ts : Row)
-    → Good (IsShape ts) (a mark.Colon ∷ a mark.Uint ∷ a mark.Less ∷ a_number ∷ a mark.Greater ∷ a mark.OpenSquare ∷ a_number ∷ a mark.CloseSquare ∷ a_pace ∷ locked ∷ []) (more mems ∷ []) (shape ts) ts
+    → Good (IsShape ts)
+    (a mark.Colon ∷ a mark.Uint ∷ a mark.Less ∷ a_number ∷ a mark.Greater ∷ a mark.OpenSquare ∷ a_number ∷ a mark.CloseSquare ∷ a_pace ∷ locked ∷ [])
+    (more mems ∷ []) (shape ts) ts
 unfolding shape
 shape_good ts =
     then _ _ (take_good mark.Colon ts) (λ c r2 p2 _.
@@ -92,7 +98,22 @@ shape_good ts =
     then _ _ (take_good mark.CloseSquare r5) (λ z r6 p6 _.
     then _ _ (pace_good r6) (λ k r7 p7 _.
     then [] _ (lock_good r7) (λ l r8 p8 _.
-    reads (record { c = word p2.0 c; u = p3.u; o = p3.o; x = p3.x; g = p3.g; p = word p4.0 p; y = p5.0; z = word p6.0 z; k = p7.0; a = r7; is = rw (p2.1, p3.is, p4.1, p5.1, p6.1, p7.1) refl; lock = p8 }) (omega arith) (λ below. refl))))))))
+    reads
+    (record {
+      c = word p2.0 c;
+      u = p3.u;
+      o = p3.o;
+      x = p3.x;
+      g = p3.g;
+      p = word p4.0 p;
+      y = p5.0;
+      z = word p6.0 z;
+      k = p7.0;
+      a = r7;
+      is = rw (p2.1, p3.is, p4.1, p5.1, p6.1, p7.1) refl;
+      lock = p8;
+    })
+    (omega arith) (λ below. refl))))))))
 
 mem_good : (ts : Row) → Good (λ x r. Memory x ts r) (first_of mems) (more mems ∷ []) (mem ts) ts
 unfolding mem
@@ -140,7 +161,8 @@ head_good n ts le =
     then _ _ (listed_good Parameter param params n (λ us h. param_good us) n r3 (omega arith) (omega arith)) (λ xs r4 p4 le4.
     then _ _ (take_good mark.OpenSquare r4) (λ p r5 p5 le5.
     then _ _ (listed_good Memory mem mems n (λ us h. mem_good us) n r5 (omega arith) (omega arith)) (λ ms r6 p6 le6.
-    reads (record { k = word p1.0 k; o = word p3.0 o; p = word p5.0 p; a = r3; b = r5; is = rw (p1.1, p2, p3.1) refl; params = rw p5.1 at p4; mems = p6 }) (omega arith) (λ below. refl)))))))
+    reads (record { k = word p1.0 k; o = word p3.0 o; p = word p5.0 p; a = r3; b = r5; is = rw (p1.1, p2, p3.1) refl; params = rw p5.1 at p4; mems = p6 })
+    (omega arith) (λ below. refl)))))))
 
 -- the tokens are a body in braces and a start clause
 record IsRest (ts : Row) (v : Stmts × Span × Start) (r : Row) : Type 0 where

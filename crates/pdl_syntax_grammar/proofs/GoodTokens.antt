@@ -17,7 +17,8 @@ use Rattle.pdl_syntax_grammar.specs.Reading as reading
 use Rattle.pdl_syntax_grammar.specs.Automaton.{Sym, a, a_name, a_number, a_literal, an_access, a_pace, a_lock_kind, Stack, act, run}
 
 pub data Good {A : Type 0} (P : A → Row → Type 0) (before after : Stack) : Outcome A → Row → Type 0 where
-  reads : {v : A} {r ts : Row} → P v r → length r ≤ length ts → ((below : Stack) → run ts (before ++ below) ≡ run r (after ++ below)) → Good P before after (Ok (v, r)) ts
+  reads : {v : A} {r ts : Row} → P v r → length r ≤ length ts
+      → ((below : Stack) → run ts (before ++ below) ≡ run r (after ++ below)) → Good P before after (Ok (v, r)) ts
   stops : {left ts : Row} → ((below : Stack) → run ts (before ++ below) ≡ Some left) → Good P before after (Err left) ts
 
 -- what was read before, and what the automaton did there
@@ -27,8 +28,12 @@ beyond le e (reads p le2 f) = reads p (omega arith) (λ below. e below ∙ f bel
 beyond le e (stops f) = stops (λ below. e below ∙ f below)
 
 -- one reader after another, where more is expected after the first
-pub then : {A B : Type 0} {P : A → Row → Type 0} {Q : B → Row → Type 0} {before middle after : Stack} (more : Stack) {o : Outcome A} (f : A → Parser B) {ts : Row} →
-    Good P before middle o ts → ((v : A) (r : Row) → P v r → length r ≤ length ts → Good Q (middle ++ more) after (f v r) r) → Good Q (before ++ more) after (and_then o f) ts
+pub
+    then : {A B : Type 0} {P : A → Row → Type 0} {Q : B → Row → Type 0} {before middle after : Stack} (more : Stack)
+    {o : Outcome A} (f : A → Parser B) {ts : Row} →
+    Good P before middle o ts
+    → ((v : A) (r : Row) → P v r → length r ≤ length ts → Good Q (middle ++ more) after (f v r) r)
+    → Good Q (before ++ more) after (and_then o f) ts
 then {before = b} {middle = m} more f (reads {v = v} {r = r} {ts = ts} p le e) h =
     beyond le (λ below. rw append_assoc (e (more ++ below) ∙ ap (run r) (sym (append_assoc m more below)))) (h v r p le)
 then {before = b} more f (stops e) h = stops (λ below. rw append_assoc (e (more ++ below)))
@@ -36,7 +41,8 @@ then {before = b} more f (stops e) h = stops (λ below. rw append_assoc (e (more
 -- with more expected after it
 pub under : {A : Type 0} {P : A → Row → Type 0} {before after : Stack} {o : Outcome A} {ts : Row} (more : Stack)
     → Good P before after o ts → Good P (before ++ more) (after ++ more) o ts
-under {before = b} {after = m} more (reads {r = r} p le e) = reads p le (λ below. rw append_assoc (e (more ++ below) ∙ ap (run r) (sym (append_assoc m more below))))
+under {before = b} {after = m} more (reads {r = r} p le e) =
+    reads p le (λ below. rw append_assoc (e (more ++ below) ∙ ap (run r) (sym (append_assoc m more below))))
 under {before = b} more (stops e) = stops (λ below. rw append_assoc (e (more ++ below)))
 
 -- a reader that is good for what it finds is good for whatever follows from that

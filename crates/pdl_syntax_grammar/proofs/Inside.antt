@@ -70,7 +70,8 @@ level_first p room ts o e = level_none p room 0 ts refl ∙ e
 
 -- the first operand of a level is refused
 pub level_fails_first : (p : Parser Expr) (room n : ℕ) (ts left : Row) → p ts ≡ Err left → level p room n ts ≡ Err left
-level_fails_first p room n ts left e = subst (λ m. level p room m ts ≡ Err left) (omega arith) (level_fails_above p room 0 n ts left (level_none p room 0 ts refl ∙ e))
+level_fails_first p room n ts left e =
+    subst (λ m. level p room m ts ≡ Err left) (omega arith) (level_fails_above p room 0 n ts left (level_none p room 0 ts refl ∙ e))
 
 -- the operators of a level below are refused
 pub level_fails_later : (p : Parser Expr) (room k n : ℕ) (ts rest left : Row) (e : Expr)
@@ -90,6 +91,7 @@ chain_more p n m k op x y ts rest count e r =
     subst (λ j. chain p n j x ts ≡ chain p n m (Binary op x y) rest) is (rw e (ap (λ (q : Outcome Expr). and_then q (λ z. chain p n m (Binary op x z))) r))
 
 -- a loop that reads operators goes on
-pub level_goes_on : (p : Parser Expr) (n m k : ℕ) (op : BinaryOp) (x y z : Expr) (ts rest : Row) (o : Outcome Expr) → k ≡ m + 1 → op_in n (first_kind ts) ≡ Some op → p (next ts) ≡ Ok (y, rest) → z ≡ Binary op x y →
+pub level_goes_on : (p : Parser Expr) (n m k : ℕ) (op : BinaryOp) (x y z : Expr) (ts rest : Row) (o : Outcome Expr)
+    → k ≡ m + 1 → op_in n (first_kind ts) ≡ Some op → p (next ts) ≡ Ok (y, rest) → z ≡ Binary op x y →
     o ≡ chain p n k x ts → o ≡ chain p n m z rest
 level_goes_on p n m k op x y z ts rest o count e r i j = j ∙ (chain_more p n m k op x y ts rest count e r ∙ ap (λ w. chain p n m w rest) (sym i))

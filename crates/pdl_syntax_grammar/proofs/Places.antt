@@ -33,7 +33,12 @@ from_fewer inside start line [] = omega arith
 from_fewer (suc k) start line (c ∷ cs) = let h = from_fewer k (start + 1) line cs in omega (arith, h)
 from_fewer zero start line (c ∷ cs) = let p = piece_at c (c ∷ cs) in
     let h = from_fewer (p.size - 1) (start + 1) (line_after c line) cs in
-    omega (arith, h, placed_one p start line (c ∷ cs), length-append (placed_token p start line (c ∷ cs)) (tokens_from (p.size - 1) (start + 1) (line_after c line) cs))
+    omega (
+      arith,
+      h,
+      placed_one p start line (c ∷ cs),
+      length-append (placed_token p start line (c ∷ cs)) (tokens_from (p.size - 1) (start + 1) (line_after c line) cs),
+    )
 
 enough : (bytes : List ℕ) (room : ℕ) → room ≡ length bytes + 1 → length (tokens bytes) < room
 enough bytes room e = let h = from_fewer 0 0 1 bytes in omega (arith, h, e)
@@ -51,12 +56,15 @@ line_is (t ∷ ts) last = refl
 
 place_of : (bytes : List ℕ) (left : Row) (line : ℕ) → IsOut (tokens bytes) left
     → line ≡ line_of left (last_line bytes) → IsOutOfPlace bytes line
-place_of bytes left line h place = record { front = h.front; after = h.after; split = h.split; place = place ∙ h.line (last_line bytes); begins = h.begins; bad = h.bad; no_text = h.no_text }
+place_of bytes left line h place =
+    record { front = h.front; after = h.after; split = h.split; place = place ∙ h.line (last_line bytes); begins = h.begins; bad = h.bad; no_text = h.no_text }
 
 -- the line where the reader stops is that of the first token out of place
-pub read_misplaced : (bytes : List ℕ) (room : ℕ) (left : Row) (line : ℕ) → room ≡ length bytes + 1 → parse room (marked_row at_start (tokens bytes)) ≡ Err left →
+pub read_misplaced : (bytes : List ℕ) (room : ℕ) (left : Row) (line : ℕ) → room ≡ length bytes + 1
+    → parse room (marked_row at_start (tokens bytes)) ≡ Err left →
     line ≡ line_at (first_line left) (last_line bytes) → IsOutOfPlace bytes line
-read_misplaced bytes room left line le e place = place_of bytes left line (text_refused room (tokens bytes) left (enough bytes room le) e) (place ∙ line_is left (last_line bytes))
+read_misplaced bytes room left line le e place =
+    place_of bytes left line (text_refused room (tokens bytes) left (enough bytes room le) e) (place ∙ line_is left (last_line bytes))
 
 -- ---- what the automaton tells
 
@@ -85,12 +93,19 @@ pub apart : (bytes : List ℕ) (p : Pipe) (line : ℕ) → IsText bytes p → Is
 apart bytes p line h k = k.no_text p h
 
 front_begins : (xs ys : Row) → Begins (xs ++ ys) → Begins xs
-front_begins xs ys b = record { more = ys ++ b.more; pipe = b.pipe; text = subst (λ x. Text b.pipe x []) (append_assoc xs ys b.more) b.text; within = front_within at_start xs ys b.within }
+front_begins xs ys b =
+    record {
+      more = ys ++ b.more;
+      pipe = b.pipe;
+      text = subst (λ x. Text b.pipe x []) (append_assoc xs ys b.more) b.text;
+      within = front_within at_start xs ys b.within;
+    }
 
 not_before : (bytes : List ℕ) (n m : ℕ) (h : IsOutOfPlace bytes n) (i : IsOutOfPlace bytes m) → length h.after < length i.after → ⊥
 not_before bytes n m h i le =
     let k = longer h.front h.after i.front i.after (sym h.split ∙ i.split) le in
-    i.bad k.t (k.more ++ h.after) k.after (front_begins (i.front ++ k.t ∷ []) k.more (subst Begins (k.front ∙ sym (append_assoc i.front (k.t ∷ []) k.more)) h.begins))
+    i.bad k.t (k.more ++ h.after) k.after
+    (front_begins (i.front ++ k.t ∷ []) k.more (subst Begins (k.front ∙ sym (append_assoc i.front (k.t ∷ []) k.more)) h.begins))
 
 -- the first token out of place stands on one line
 pub one_place : (bytes : List ℕ) (n m : ℕ) → IsOutOfPlace bytes n → IsOutOfPlace bytes m → n ≡ m

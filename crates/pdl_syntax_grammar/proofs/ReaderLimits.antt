@@ -79,7 +79,8 @@ split_marked : (front : Row) (c : LimitCounts) (ts left others : Row) (below : S
 split_marked [] c ts left others below w e r = record { after = ts; d = c; split = refl; rest = sym e; within = tt; fine = w; next = λ t h. h.0 }
 split_marked (u ∷ front) c [] left others below w e r = cc
 split_marked (u ∷ front) c (t ∷ ts) left others [] w e r = cc
-split_marked (u ∷ front) c (t ∷ ts) left others (s ∷ below) w e r = go (is_within (counts_after c t.kind)) refl (act s u.kind) refl r (λ above. split_marked front (counts_after c t.kind) ts left others (above ++ below))
+split_marked (u ∷ front) c (t ∷ ts) left others (s ∷ below) w e r =
+    go (is_within (counts_after c t.kind)) refl (act s u.kind) refl r (λ above. split_marked front (counts_after c t.kind) ts left others (above ++ below))
   where
     is : mark_token (counts_after c t.kind) t ∷ marked_row (counts_after c t.kind) ts ≡ u ∷ (front ++ left)
     is = let k : counts_passing c t.kind ≡ counts_after c t.kind = rw w refl in subst (λ x. mark_token x t ∷ marked_row x ts ≡ u ∷ (front ++ left)) k e
@@ -90,10 +91,15 @@ split_marked (u ∷ front) c (t ∷ ts) left others (s ∷ below) w e r = go (is
     tail : marked_row (counts_after c t.kind) ts ≡ front ++ left
     tail = let k = is in cc
 
-    go : (b : Bool) → is_within (counts_after c t.kind) ≡ b → (o : Option Stack) → act s u.kind ≡ o → run_after o below (run (front ++ others)) (u ∷ (front ++ others)) ≡ None →
-        ((above : Stack) → is_within (counts_after c t.kind) ≡ true → marked_row (counts_after c t.kind) ts ≡ front ++ left → run (front ++ others) (above ++ below) ≡ None → IsSplit (counts_after c t.kind) ts front left) → IsSplit c (t ∷ ts) (u ∷ front) left
+    go : (b : Bool) → is_within (counts_after c t.kind) ≡ b → (o : Option Stack) → act s u.kind ≡ o
+        → run_after o below (run (front ++ others)) (u ∷ (front ++ others)) ≡ None →
+        ((above : Stack) → is_within (counts_after c t.kind) ≡ true
+        → marked_row (counts_after c t.kind) ts ≡ front ++ left → run (front ++ others) (above ++ below) ≡ None
+        → IsSplit (counts_after c t.kind) ts front left)
+        → IsSplit c (t ∷ ts) (u ∷ front) left
     go false f None i r ih = cc
-    go false f (Some above) i r ih = let k : u.kind ≡ kind.Bad = sym (ap (λ x. x.kind) head) ∙ over_kind (counts_after c t.kind) t f in let j : Some above ≡ None = sym i ∙ (ap (act s) k ∙ act_bad s) in cc
+    go false f (Some above) i r ih = let k : u.kind ≡ kind.Bad = sym (ap (λ x. x.kind) head) ∙ over_kind (counts_after c t.kind) t f in
+        let j : Some above ≡ None = sym i ∙ (ap (act s) k ∙ act_bad s) in cc
     go true f None i r ih = cc
     go true f (Some above) i r ih = one_further c t u ts front left f (sym (same_token (counts_after c t.kind) t f) ∙ head) (ih above f tail r)
 
@@ -101,7 +107,9 @@ split_marked (u ∷ front) c (t ∷ ts) left others (s ∷ below) w e r = go (is
 pub unmarked : (c : LimitCounts) (ts : Row) → is_within c ≡ true → AreWithin c ts → marked_row c ts ≡ ts
 unmarked c [] w h = refl
 unmarked c (t ∷ ts) w h = let k : counts_passing c t.kind ≡ counts_after c t.kind = rw w refl in
-    rw k (ap (λ x. x ∷ marked_row (counts_after c t.kind) ts) (same_token (counts_after c t.kind) t h.0) ∙ ap (λ x. t ∷ x) (unmarked (counts_after c t.kind) ts h.0 h.1))
+    rw k
+    (ap (λ x. x ∷ marked_row (counts_after c t.kind) ts) (same_token (counts_after c t.kind) t h.0)
+    ∙ ap (λ x. t ∷ x) (unmarked (counts_after c t.kind) ts h.0 h.1))
 
 marked_length : (c : LimitCounts) (ts : Row) → length (marked_row c ts) ≡ length ts
 marked_length c [] = refl
@@ -145,12 +153,17 @@ out ts left h =
       split = s.split;
       line = λ last. ap (λ x. line_of x last) s.rest ∙ same_line s.d s.after last;
       begins = record { more = h.begins.0; pipe = h.begins.1; text = h.begins.2; within = s.within };
-      bad = λ t ts same b. h.bad t (marked_row (counts_after s.d t.kind) ts) (next_is s.d s.after left t ts s.fine s.rest same (s.next t b.within)) (b.more, b.pipe, b.text);
+      bad =
+          λ t ts same b. h.bad t (marked_row (counts_after s.d t.kind) ts)
+          (next_is s.d s.after left t ts s.fine s.rest same (s.next t b.within)) (b.more, b.pipe, b.text);
       no_text = λ p b. h.no_text p (subst (λ x. Text p x []) (sym (unmarked at_start ts refl b.within)) b.text);
     }
   where
-    next_is : (d : LimitCounts) (after left : Row) (t : Token) (us : Row) → is_within d ≡ true → left ≡ marked_row d after → after ≡ t ∷ us → is_within (counts_after d t.kind) ≡ true → left ≡ t ∷ marked_row (counts_after d t.kind) us
-    next_is d after left t us w e same f = e ∙ (ap (marked_row d) same ∙ rw w (ap (λ x. x ∷ marked_row (counts_after d t.kind) us) (same_token (counts_after d t.kind) t f)))
+    next_is : (d : LimitCounts) (after left : Row) (t : Token) (us : Row) → is_within d ≡ true
+        → left ≡ marked_row d after → after ≡ t ∷ us → is_within (counts_after d t.kind) ≡ true
+        → left ≡ t ∷ marked_row (counts_after d t.kind) us
+    next_is d after left t us w e same f =
+        e ∙ (ap (marked_row d) same ∙ rw w (ap (λ x. x ∷ marked_row (counts_after d t.kind) us) (same_token (counts_after d t.kind) t f)))
 
 -- tokens that the reader with the limits reads as a pipe are a spelling of it within the limits
 pub text_found : (room : ℕ) (ts : Row) (p : Pipe) → length ts < room → parse room (marked_row at_start ts) ≡ Ok p → Spells p ts

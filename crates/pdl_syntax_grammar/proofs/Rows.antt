@@ -34,7 +34,8 @@ items_end room zero ss ts h e = absurd (h refl)
 items_end room (suc n) ss ts h e = rw e (ap (λ x. Ok (x, ts)) (prepend_nil ss))
 
 -- one more item
-pub items_item : (room n m : ℕ) (ss s : List Stmt) (ts r : Row) → n ≡ m + 1 → is_mark mark.CloseBrace (first_kind ts) ≡ false → item room (items room m) ts ≡ Ok (s, r) →
+pub items_item : (room n m : ℕ) (ss s : List Stmt) (ts r : Row) → n ≡ m + 1
+    → is_mark mark.CloseBrace (first_kind ts) ≡ false → item room (items room m) ts ≡ Ok (s, r) →
     after_stmts ss (items room n ts) ≡ after_stmts (ss ++ s) (items room m r)
 unfolding items
 items_item room zero m ss s ts r c h e = absurd (omega arith)
@@ -48,7 +49,8 @@ items_item room (suc n) m ss s ts r c h e =
     go (Err n) = refl
 
 -- an item that is refused
-pub items_fails : (room n m : ℕ) (ss : List Stmt) (ts left : Row) → n ≡ m + 1 → is_mark mark.CloseBrace (first_kind ts) ≡ false → item room (items room m) ts ≡ Err left →
+pub items_fails : (room n m : ℕ) (ss : List Stmt) (ts left : Row) → n ≡ m + 1
+    → is_mark mark.CloseBrace (first_kind ts) ≡ false → item room (items room m) ts ≡ Err left →
     after_stmts ss (items room n ts) ≡ Err left
 unfolding items
 items_fails room zero m ss ts left c h e = absurd (omega arith)
@@ -70,7 +72,8 @@ unfolding list_of
 listed_of p close zero m xs x ts r c e = absurd (omega arith)
 listed_of p close (suc n) m xs x ts r c e = let is : m ≡ n = omega arith in rw is (rw e refl)
 
-pub listed_more : {A : Type 0} (p : Parser A) (close : Mark) (n m : ℕ) (xs : List A) (x : A) (ts r : Row) → n ≡ m + 1 → p ts ≡ Ok (x, r) → goes_on close (first_kind r) ≡ Some true →
+pub listed_more : {A : Type 0} (p : Parser A) (close : Mark) (n m : ℕ) (xs : List A) (x : A) (ts r : Row) → n ≡ m + 1
+    → p ts ≡ Ok (x, r) → goes_on close (first_kind r) ≡ Some true →
     after xs (list_of p close n ts) ≡ after (xs ++ x ∷ []) (list_of p close m (next r))
 listed_more {A = A} p close n m xs x ts r c e k = listed_of p close n m xs x ts r c e ∙ rw k (go (list_of p close m (next r)))
   where
@@ -78,11 +81,13 @@ listed_more {A = A} p close n m xs x ts r c e k = listed_of p close n m xs x ts 
     go (Ok p) = ap (λ y. Ok (y, p.1)) (sym (append_assoc xs (x ∷ []) p.0))
     go (Err n) = refl
 
-listed_last : {A : Type 0} (p : Parser A) (close : Mark) (n m : ℕ) (xs : List A) (x : A) (ts r : Row) → n ≡ m + 1 → p ts ≡ Ok (x, r) → goes_on close (first_kind r) ≡ Some false →
+listed_last : {A : Type 0} (p : Parser A) (close : Mark) (n m : ℕ) (xs : List A) (x : A) (ts r : Row) → n ≡ m + 1
+    → p ts ≡ Ok (x, r) → goes_on close (first_kind r) ≡ Some false →
     after xs (list_of p close n ts) ≡ Ok (xs ++ x ∷ [], next r)
 listed_last p close n m xs x ts r c e k = listed_of p close n m xs x ts r c e ∙ rw k refl
 
-listed_stuck : {A : Type 0} (p : Parser A) (close : Mark) (n m : ℕ) (xs : List A) (x : A) (ts r : Row) → n ≡ m + 1 → p ts ≡ Ok (x, r) → goes_on close (first_kind r) ≡ None →
+listed_stuck : {A : Type 0} (p : Parser A) (close : Mark) (n m : ℕ) (xs : List A) (x : A) (ts r : Row) → n ≡ m + 1
+    → p ts ≡ Ok (x, r) → goes_on close (first_kind r) ≡ None →
     after xs (list_of p close n ts) ≡ Err r
 listed_stuck p close n m xs x ts r c e k = listed_of p close n m xs x ts r c e ∙ rw k refl
 
@@ -104,15 +109,18 @@ module _ {A B : Type 0} (view : B → A) (p : Parser A) (close : Mark) where
   one_more : (done now : List B) (x : B) → now ≡ done ++ x ∷ [] → map view now ≡ map view done ++ view x ∷ []
   one_more done now x e = rw e (map-append view done (x ∷ []))
 
-  pub value_more : (n m : ℕ) (done now : List B) (x : B) (ts r left : Row) → n ≡ m + 1 → p ts ≡ Ok (view x, r) → goes_on close (first_kind r) ≡ Some true → now ≡ done ++ x ∷ [] → left ≡ next r →
+  pub value_more : (n m : ℕ) (done now : List B) (x : B) (ts r left : Row) → n ≡ m + 1 → p ts ≡ Ok (view x, r)
+      → goes_on close (first_kind r) ≡ Some true → now ≡ done ++ x ∷ [] → left ≡ next r →
       after (map view done) (list_of p close n ts) ≡ after (map view now) (list_of p close m left)
   value_more n m done now x ts r left c e k i j = rw (one_more done now x i, j) (listed_more p close n m (map view done) (view x) ts r c e k)
 
-  pub value_last : (n : ℕ) (done now : List B) (x : B) (ts r left : Row) → 1 ≤ n → p ts ≡ Ok (view x, r) → goes_on close (first_kind r) ≡ Some false → now ≡ done ++ x ∷ [] → left ≡ next r →
+  pub value_last : (n : ℕ) (done now : List B) (x : B) (ts r left : Row) → 1 ≤ n → p ts ≡ Ok (view x, r)
+      → goes_on close (first_kind r) ≡ Some false → now ≡ done ++ x ∷ [] → left ≡ next r →
       after (map view done) (list_of p close n ts) ≡ Ok (map view now, left)
   value_last n done now x ts r left c e k i j = rw (one_more done now x i, j) (listed_last p close n (n - 1) (map view done) (view x) ts r (omega arith) e k)
 
-  pub value_stuck : (n : ℕ) (done : List B) (x : B) (ts r : Row) → 1 ≤ n → p ts ≡ Ok (view x, r) → goes_on close (first_kind r) ≡ None → after (map view done) (list_of p close n ts) ≡ Err r
+  pub value_stuck : (n : ℕ) (done : List B) (x : B) (ts r : Row) → 1 ≤ n → p ts ≡ Ok (view x, r)
+      → goes_on close (first_kind r) ≡ None → after (map view done) (list_of p close n ts) ≡ Err r
   value_stuck n done x ts r c e k = listed_stuck p close n (n - 1) (map view done) (view x) ts r (omega arith) e k
 
   pub value_fails : (n : ℕ) (done : List B) (ts left : Row) → 1 ≤ n → p ts ≡ Err left → after (map view done) (list_of p close n ts) ≡ Err left

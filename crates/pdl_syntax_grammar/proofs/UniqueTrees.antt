@@ -144,7 +144,8 @@ begun : (p : Parser Expr) (room j : ℕ) (e : Expr) (ts r : Row)
 unfolding Reached level
 begun p room j e ts r le h = (room, le, rw h refl)
 
-gone_on : (p : Parser Expr) (room : ℕ) (m : Mark) (op : BinaryOp) (w : Word) (x y : Expr) (ts b r : Row) → operator_of m ≡ Some op → Reached p room (suc (loose op)) x ts (at w m ∷ b) →
+gone_on : (p : Parser Expr) (room : ℕ) (m : Mark) (op : BinaryOp) (w : Word) (x y : Expr) (ts b r : Row)
+    → operator_of m ≡ Some op → Reached p room (suc (loose op)) x ts (at w m ∷ b) →
     level p room (loose op) b ≡ Ok (y, r) → length r < length b → Reached p room (suc (loose op)) (Binary op x y) ts r
 unfolding Reached chain
 gone_on p room m op w x y ts b r i h e le = go h.0 h.1 h.2
@@ -167,10 +168,12 @@ mutual
   only_level (inverted h) (suc k) le f = rw (only_level h k (omega arith) f) refl
   only_level (catenated h i) zero le f = absurd (omega arith)
   only_level (catenated h i) (suc k) le f = let sh = shorter_full h in
-      rw (only_full h k (omega arith) (closed_mark _ mark.Comma _ refl refl refl)) (rw (only_full i k (omega arith) (closed_mark _ mark.CloseRound _ refl refl refl)) refl)
+      rw (only_full h k (omega arith) (closed_mark _ mark.Comma _ refl refl refl))
+      (rw (only_full i k (omega arith) (closed_mark _ mark.CloseRound _ refl refl refl)) refl)
   only_level (compared h i) zero le f = absurd (omega arith)
   only_level (compared h i) (suc k) le f = let sh = shorter_full h in
-      rw (only_full h k (omega arith) (closed_mark _ mark.Comma _ refl refl refl)) (rw (only_full i k (omega arith) (closed_mark _ mark.CloseRound _ refl refl refl)) refl)
+      rw (only_full h k (omega arith) (closed_mark _ mark.Comma _ refl refl refl))
+      (rw (only_full i k (omega arith) (closed_mark _ mark.CloseRound _ refl refl refl)) refl)
   only_level (extended h) zero le f = absurd (omega arith)
   only_level (extended h) (suc k) le f = rw (only_full h k (omega arith) (closed_mark _ mark.Comma _ refl refl refl)) refl
   only_level (sign_extended h) zero le f = absurd (omega arith)
@@ -180,10 +183,13 @@ mutual
       begun _ k n e a r (omega arith) (done _ k n e a r (only_level h k le (fewer n (pred n) r (omega arith) f)) f)
   only_level (joined {w = w} {m = m} {op = op} {x = x} {y = y} {a = a} {b = b} {r = r} i h j) k le f =
       let sh = shorter h in
-      gone_on _ k m op w x y a b r i (only_level h k le (after_operand w m op b i)) (done _ k (loose op) y b r (only_level j k (omega arith) (fewer (loose op) (pred (loose op)) r (omega arith) f)) f) (shorter j)
+      gone_on _ k m op w x y a b r i (only_level h k le (after_operand w m op b i))
+      (done _ k (loose op) y b r (only_level j k (omega arith) (fewer (loose op) (pred (loose op)) r (omega arith) f)) f)
+      (shorter j)
 
   only_full : {e : Expr} {ts r : Row} → Full e ts r → (k : ℕ) → length ts ≤ k → Closed r → expr k ts ≡ Ok (e, r)
-  only_full (whole {e = e} {a = a} {r = r} h) k le f = rw (done _ k levels e a r (only_level h k le (fewer levels (pred levels) r (omega arith) f.after)) f.after) (rw f.question refl)
+  only_full (whole {e = e} {a = a} {r = r} h) k le f =
+      rw (done _ k levels e a r (only_level h k le (fewer levels (pred levels) r (omega arith) f.after)) f.after) (rw f.question refl)
   only_full (chosen h i j) zero le f = let sh = shorter h in absurd (omega arith)
   only_full (chosen {q = q} {c = c} {a = a} {b = b} h i j) (suc k) le f =
       let sh = shorter h in let si = shorter_full i in let g = after_mark levels q mark.Question b refl refl in
@@ -200,10 +206,13 @@ module _ {A : Type 0} {P : A → Row → Row → Type 0} (p : Parser A) (close :
   unfolding list_of
   only_listed h zero le le2 = absurd (omega arith)
   only_listed (last h) (suc n) le le2 = rw (at_close _ _ _ _ h le2) (rw ends refl)
-  only_listed {ts = ts} {r = r} (further {x = x} {xs = xs} {b = b} h i) (suc n) le le2 = let sh = short _ _ _ h in rw (at_comma _ _ _ _ h le2) (rw (only_listed {xs = xs} {ts = b} {r = r} i n (omega arith) (omega arith)) refl)
+  only_listed {ts = ts} {r = r} (further {x = x} {xs = xs} {b = b} h i) (suc n) le le2 = let sh = short _ _ _ h in
+      rw (at_comma _ _ _ _ h le2) (rw (only_listed {xs = xs} {ts = b} {r = r} i n (omega arith) (omega arith)) refl)
 
 only_args : {es : List Expr} {ts r : Row} → Listed Full mark.CloseRound es ts r → (k : ℕ) → length ts < k → args k ts ≡ Ok (es, r)
-only_args h k le = only_listed (expr k) mark.CloseRound k full_shorter (λ x a b w f le2. only_full f k le2 (closed_mark _ mark.Comma _ refl refl refl)) (λ x a b w f le2. only_full f k le2 (closed_mark _ mark.CloseRound _ refl refl refl)) refl h k le (omega arith)
+only_args h k le =
+    only_listed (expr k) mark.CloseRound k full_shorter (λ x a b w f le2. only_full f k le2 (closed_mark _ mark.Comma _ refl refl refl))
+    (λ x a b w f le2. only_full f k le2 (closed_mark _ mark.CloseRound _ refl refl refl)) refl h k le (omega arith)
 
 -- ---- statements
 
@@ -267,10 +276,12 @@ no_else (more h i) f = not_else h
 mutual
   unfolding item items spec.plain spec.locking spec.named_stmt spec.reserved_location spec.held_location spec.ended spec.address spec.purpose spec.closed spec.bare spec.condition spec.place spec.index spec.take spec.name
 
-  only_item : {s : List Stmt} {ts r : Row} → Item s ts r → (k n : ℕ) → length ts ≤ k → length ts ≤ n → is_mark mark.Else (first_kind r) ≡ false → item k (items k n) ts ≡ Ok (s, r)
+  only_item : {s : List Stmt} {ts r : Row} → Item s ts r → (k n : ℕ) → length ts ≤ k → length ts ≤ n
+      → is_mark mark.Else (first_kind r) ≡ false → item k (items k n) ts ≡ Ok (s, r)
   only_item separating k n le le2 f = refl
   only_item reading k n le le2 f = refl
-  only_item (binding h) k n le le2 f = rw (no_place_full h refl) (rw (no_guess_full h) (rw (only_full h k (omega arith) (closed_mark _ mark.Semicolon _ refl refl refl)) refl))
+  only_item (binding h) k n le le2 f =
+      rw (no_place_full h refl) (rw (no_guess_full h) (rw (only_full h k (omega arith) (closed_mark _ mark.Semicolon _ refl refl refl)) refl))
   only_item (guessing h) k n le le2 f = rw (only_args h k (omega arith)) refl
   only_item fetching k n le le2 f = refl
   only_item (writing h) k n le le2 f = rw (only_full h k (omega arith) (closed_mark _ mark.Semicolon _ refl refl refl)) refl
@@ -283,13 +294,15 @@ mutual
       rw (only_full h k (omega arith) (closed_mark _ mark.CloseRound _ refl refl refl)) (rw (only_items i k n (omega arith) (omega arith) refl) (rw f refl))
   only_item (choosing h i j) k n le le2 f =
       let sh = shorter_full h in let si = shorter_items i in
-      rw (only_full h k (omega arith) (closed_mark _ mark.CloseRound _ refl refl refl)) (rw (only_items i k n (omega arith) (omega arith) refl) (rw (only_items j k n (omega arith) (omega arith) refl) refl))
+      rw (only_full h k (omega arith) (closed_mark _ mark.CloseRound _ refl refl refl))
+      (rw (only_items i k n (omega arith) (omega arith) refl) (rw (only_items j k n (omega arith) (omega arith) refl) refl))
   only_item (calling h) k n le le2 f = rw (only_args h k (omega arith)) refl
   only_item (verifying h) k n le le2 f = rw (only_args h k (omega arith)) refl
   only_item checking k n le le2 f = refl
   only_item barring k n le le2 f = refl
 
-  only_items : {ss : Stmts} {ts r : Row} → Items ss ts r → (k n : ℕ) → length ts ≤ k → length ts < n → is_mark mark.CloseBrace (first_kind r) ≡ true → items k n ts ≡ Ok (ss, r)
+  only_items : {ss : Stmts} {ts r : Row} → Items ss ts r → (k n : ℕ) → length ts ≤ k → length ts < n
+      → is_mark mark.CloseBrace (first_kind r) ≡ true → items k n ts ≡ Ok (ss, r)
   only_items h k zero le le2 f = absurd (omega arith)
   only_items none k (suc n) le le2 f = rw f refl
   only_items (more h i) k (suc n) le le2 f = let sh = shorter_item h in
@@ -327,14 +340,21 @@ only_given given = refl
 
 only_start : {x : Start} {ts r : Row} → Starting x ts r → (k : ℕ) → length ts ≤ k → spec.start k ts ≡ Ok (x, r)
 unfolding spec.start spec.name spec.take
-only_start (starting h) k le = rw (only_listed spec.literal mark.CloseRound k given_shorter (λ x a b w f le2. only_given f) (λ x a b w f le2. only_given f) refl h k (omega arith) (omega arith)) refl
+only_start (starting h) k le =
+    rw
+    (only_listed spec.literal mark.CloseRound k given_shorter (λ x a b w f le2. only_given f)
+    (λ x a b w f le2. only_given f) refl h k (omega arith) (omega arith)) refl
 
 -- tokens that begin with a text of a pipe are read as that pipe, where there is room for more than they are
 pub only_pipe : {p : Pipe} {ts r : Row} → Text p ts r → (n : ℕ) → length ts < n → pipe n ts ≡ Ok (p, r)
 unfolding pipe spec.pipe_head spec.pipe_rest spec.take spec.name
 only_pipe (text h i j s) n le =
     let sh = shorter_listed param_shorter h in let si = shorter_listed mem_shorter i in let sj = shorter_items j in
-    rw (only_listed spec.param mark.CloseRound n param_shorter (λ x a b w f le2. only_param f) (λ x a b w f le2. only_param f) refl h n (omega arith) (omega arith))
-    (rw (only_listed spec.mem mark.CloseSquare n mem_shorter (λ x a b w f le2. only_mem f refl) (λ x a b w f le2. only_mem f refl) refl i n (omega arith) (omega arith))
+    rw
+    (only_listed spec.param mark.CloseRound n param_shorter (λ x a b w f le2. only_param f)
+    (λ x a b w f le2. only_param f) refl h n (omega arith) (omega arith))
+    (rw
+    (only_listed spec.mem mark.CloseSquare n mem_shorter (λ x a b w f le2. only_mem f refl)
+    (λ x a b w f le2. only_mem f refl) refl i n (omega arith) (omega arith))
     (rw (only_items j n n (omega arith) (omega arith) refl)
     (rw (only_start s n (omega arith)) refl)))

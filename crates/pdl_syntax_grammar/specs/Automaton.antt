@@ -59,7 +59,8 @@ closer literals = mark.CloseRound
 -- what is expected of a value of a list and what follows it
 abbrev pub first_of : Listing → Stack
 first_of params = a_name ∷ a mark.Colon ∷ a mark.Uint ∷ a mark.Less ∷ a_number ∷ a mark.Greater ∷ more params ∷ []
-first_of mems = a_name ∷ a mark.Colon ∷ a mark.Uint ∷ a mark.Less ∷ a_number ∷ a mark.Greater ∷ a mark.OpenSquare ∷ a_number ∷ a mark.CloseSquare ∷ a_pace ∷ locked ∷ []
+first_of mems =
+    a_name ∷ a mark.Colon ∷ a mark.Uint ∷ a mark.Less ∷ a_number ∷ a mark.Greater ∷ a mark.OpenSquare ∷ a_number ∷ a mark.CloseSquare ∷ a_pace ∷ locked ∷ []
 first_of args = operand in_args ∷ []
 first_of literals = a_literal ∷ more literals ∷ []
 

@@ -109,7 +109,8 @@ mutual
     sign_extended : {z o c w d : Word} {n : ℕ} {e : Expr} {a r : Row} → Full e a (at c mark.Comma ∷ on w (kind.Number n) ∷ at d mark.CloseRound ∷ r) →
         Level 0 (SignExtend e (number w n)) (at z mark.SignExtend ∷ at o mark.OpenRound ∷ a) r
     tighter : {n : ℕ} {e : Expr} {a r : Row} → Level n e a r → Level (suc n) e a r
-    joined : {w : Word} {m : Mark} {op : BinaryOp} {x y : Expr} {a b r : Row} → operator_of m ≡ Some op → Level (suc (loose op)) x a (at w m ∷ b) → Level (loose op) y b r →
+    joined : {w : Word} {m : Mark} {op : BinaryOp} {x y : Expr} {a b r : Row} → operator_of m ≡ Some op
+        → Level (suc (loose op)) x a (at w m ∷ b) → Level (loose op) y b r →
         Level (suc (loose op)) (Binary op x y) a r
 
   -- an expression: no choice, or one, whose arms are expressions, so choices group to the right
@@ -145,25 +146,31 @@ mutual
     writing : {m o a c q e : Word} {v : Expr} {b r : Row} → Full v b (at e mark.Semicolon ∷ r) → Item (Write (across m.span e.span) (location m a) v ∷ [])
         (location_row m o a c (at q mark.Arrow ∷ b)) r
     reserving : {w p m o a c q k z e : Word} {access : Kind} {r : Row} → Item (Reserve (across w.span e.span) (location m a) access ∷ [])
-        (at w mark.Reserve ∷ at p mark.OpenRound ∷ location_row m o a c (at q mark.Comma ∷ at k (mark_of access) ∷ at z mark.CloseRound ∷ at e mark.Semicolon ∷ r)) r
+        (at w mark.Reserve ∷ at p mark.OpenRound
+        ∷ location_row m o a c (at q mark.Comma ∷ at k (mark_of access) ∷ at z mark.CloseRound ∷ at e mark.Semicolon ∷ r)) r
     acquiring : {w p m o a c q k z e : Word} {access : Kind} {r : Row} →
         Item (Reserve (across w.span e.span) (location m a) access ∷ Block (across w.span e.span) (location m a) ∷ [])
-        (at w mark.Acquire ∷ at p mark.OpenRound ∷ location_row m o a c (at q mark.Comma ∷ at k (mark_of access) ∷ at z mark.CloseRound ∷ at e mark.Semicolon ∷ r)) r
+        (at w mark.Acquire ∷ at p mark.OpenRound
+        ∷ location_row m o a c (at q mark.Comma ∷ at k (mark_of access) ∷ at z mark.CloseRound ∷ at e mark.Semicolon ∷ r)) r
     blocking : {w p m o a c z e : Word} {r : Row} → Item (Block (across w.span e.span) (location m a) ∷ [])
         (at w mark.Block ∷ at p mark.OpenRound ∷ location_row m o a c (at z mark.CloseRound ∷ at e mark.Semicolon ∷ r)) r
     releasing : {w p m o a c z e : Word} {r : Row} → Item (Release (across w.span e.span) (location m a) ∷ [])
         (at w mark.Release ∷ at p mark.OpenRound ∷ location_row m o a c (at z mark.CloseRound ∷ at e mark.Semicolon ∷ r)) r
-    branching : {w p z o e : Word} {v : Expr} {first : Stmts} {a b r : Row} → Full v a (at z mark.CloseRound ∷ at o mark.OpenBrace ∷ b) → Items first b (at e mark.CloseBrace ∷ r) →
+    branching : {w p z o e : Word} {v : Expr} {first : Stmts} {a b r : Row}
+        → Full v a (at z mark.CloseRound ∷ at o mark.OpenBrace ∷ b) → Items first b (at e mark.CloseBrace ∷ r) →
         Item (If (across w.span e.span) v first Nil ∷ []) (at w mark.If ∷ at p mark.OpenRound ∷ a) r
     choosing : {w p z o c l q e : Word} {v : Expr} {first second : Stmts} {a b d r : Row} → Full v a (at z mark.CloseRound ∷ at o mark.OpenBrace ∷ b) →
         Items first b (at c mark.CloseBrace ∷ at l mark.Else ∷ at q mark.OpenBrace ∷ d) → Items second d (at e mark.CloseBrace ∷ r) →
         Item (If (across w.span e.span) v first second ∷ []) (at w mark.If ∷ at p mark.OpenRound ∷ a) r
-    calling : {w p e : Word} {args : List Expr} {b r : Row} → Listed Full mark.CloseRound args b (at e mark.Semicolon ∷ r) → Item (Call (across w.span e.span) args ∷ [])
+    calling : {w p e : Word} {args : List Expr} {b r : Row}
+        → Listed Full mark.CloseRound args b (at e mark.Semicolon ∷ r) → Item (Call (across w.span e.span) args ∷ [])
         (at w mark.Call ∷ at p mark.OpenRound ∷ b) r
     verifying : {w p g c e : Word} {args : List Expr} {b r : Row} → Listed Full mark.CloseRound args b (at e mark.Semicolon ∷ r) →
         Item (Verify (across w.span e.span) (ident g) args ∷ []) (at w mark.Verify ∷ at p mark.OpenRound ∷ on g kind.Name ∷ at c mark.Comma ∷ b) r
-    checking : {w p z e : Word} {r : Row} → Item (SpecCheck (across w.span e.span) ∷ []) (at w mark.SpecCheck ∷ at p mark.OpenRound ∷ at z mark.CloseRound ∷ at e mark.Semicolon ∷ r) r
-    barring : {w p z e : Word} {r : Row} → Item (SpecBarrier (across w.span e.span) ∷ []) (at w mark.SpecBarrier ∷ at p mark.OpenRound ∷ at z mark.CloseRound ∷ at e mark.Semicolon ∷ r) r
+    checking : {w p z e : Word} {r : Row}
+        → Item (SpecCheck (across w.span e.span) ∷ []) (at w mark.SpecCheck ∷ at p mark.OpenRound ∷ at z mark.CloseRound ∷ at e mark.Semicolon ∷ r) r
+    barring : {w p z e : Word} {r : Row}
+        → Item (SpecBarrier (across w.span e.span) ∷ []) (at w mark.SpecBarrier ∷ at p mark.OpenRound ∷ at z mark.CloseRound ∷ at e mark.Semicolon ∷ r) r
 
   -- items one after another
   pub data Items : Stmts → Row → Row → Type 0 where
@@ -213,4 +220,5 @@ pub data Text : Pipe → Row → Row → Type 0 where
   text : {k x o p q e : Word} {params : List Param} {mems : List Mem} {body : Stmts} {start : Start} {a b c d r : Row} →
       Listed Parameter mark.CloseRound params a (at p mark.OpenSquare ∷ b) → Listed Memory mark.CloseSquare mems b (at q mark.OpenBrace ∷ c) →
       Items body c (at e mark.CloseBrace ∷ d) → Starting start d r →
-      Text (record { name = ident x; params = params; mems = mems; body = body; end = e.span; start = start }) (at k mark.Pipe ∷ on x kind.Name ∷ at o mark.OpenRound ∷ a) r
+      Text (record { name = ident x; params = params; mems = mems; body = body; end = e.span; start = start })
+      (at k mark.Pipe ∷ on x kind.Name ∷ at o mark.OpenRound ∷ a) r

@@ -9,7 +9,23 @@ use Rattle.pdl_syntax_cursor.specs.Looks.{is_mark, begins_place}
 use Rattle.pdl_syntax_tokens.specs.Tokens.{Row}
 use Rattle.pdl_syntax_grammar.specs.Grammar.{across, prepend}
 pub use Rattle.pdl_syntax_grammar.specs.ReadingExprs.{Outcome, Parser, and_then, ◌>>=◌, pure, refuse, name_by, number_by, first_literal, literal_by, access_by, goes_on, listed_by, slice_of, after_name, bracketed_expr, sized_expr, pair, Inner, inverted, catenated, compared, extended, sign_extended, operand_by, op_by, op_in, joined_expr, arms, choose, nothing_inside, expr, args}
-unfoldable pub use Rattle.pdl_syntax_grammar.specs.ReadingExprs.{take, name, number, literal, access, index, place, ended, list_of, bounds, operand, chain, level, full, inside}
+unfoldable pub use Rattle.pdl_syntax_grammar.specs.ReadingExprs.{
+  take,
+  name,
+  number,
+  literal,
+  access,
+  index,
+  place,
+  ended,
+  list_of,
+  bounds,
+  operand,
+  chain,
+  level,
+  full,
+  inside,
+}
 
 -- ---- statements
 
@@ -214,7 +230,8 @@ item room items = λ ts. cond (is_mark mark.If (first_kind ts)) (if_of room item
 
 -- by whether the closing brace comes
 abbrev pub items_by : ℕ → Parser Stmts → Parser Stmts
-items_by room items = λ ts. cond (is_mark mark.CloseBrace (first_kind ts)) (Ok (Nil, ts)) ((item room items >>= (λ s. items >>= (λ ss. pure (prepend s ss)))) ts)
+items_by room items =
+    λ ts. cond (is_mark mark.CloseBrace (first_kind ts)) (Ok (Nil, ts)) ((item room items >>= (λ s. items >>= (λ ss. pure (prepend s ss)))) ts)
 
 -- items up to a closing brace, at most n, each with fewer inside
 unfoldable pub items : ℕ → ℕ → Parser Stmts

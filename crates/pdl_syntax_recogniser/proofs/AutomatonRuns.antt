@@ -71,15 +71,19 @@ stuck (Some x) now h = absurd h
 -- ---- what the loop does
 
 -- after a token that is taken the run goes on with the tokens after it
-pub goes_on : (bytes : List ℕ) (ts : Row) (stack now : Stack) (k : TokenKind) → first_kind ts ≡ Some k → StepsTo (stack_after stack k) (Ok true) now → run ts stack ≡ run (marked_row at_start (tokens bytes)) whole →
+pub goes_on : (bytes : List ℕ) (ts : Row) (stack now : Stack) (k : TokenKind) → first_kind ts ≡ Some k
+    → StepsTo (stack_after stack k) (Ok true) now → run ts stack ≡ run (marked_row at_start (tokens bytes)) whole →
     run (next ts) now ≡ run (marked_row at_start (tokens bytes)) whole
 goes_on bytes ts stack now k e h i = sym (run_taken ts stack now k e (stepped (stack_after stack k) now h)) ∙ i
 
 -- the line of a token that isn't taken is that of the first token out of place
-pub refused_so : (bytes : List ℕ) (ts : Row) (stack now : Stack) (k : TokenKind) (line : Option ℕ) → first_kind ts ≡ Some k → StepsTo (stack_after stack k) (Ok false) now → run ts stack ≡ run (marked_row at_start (tokens bytes)) whole →
+pub refused_so : (bytes : List ℕ) (ts : Row) (stack now : Stack) (k : TokenKind) (line : Option ℕ)
+    → first_kind ts ≡ Some k → StepsTo (stack_after stack k) (Ok false) now
+    → run ts stack ≡ run (marked_row at_start (tokens bytes)) whole →
     line ≡ first_line ts → IsRecognised bytes (Ok line)
 refused_so bytes [] stack now k line e h i f = cc
-refused_so bytes (t ∷ ts) stack now k line e h i f = rw f (stopped_at bytes (t ∷ ts) t.span.line (sym i ∙ run_not (t ∷ ts) stack k e (stuck (stack_after stack k) now h)) refl)
+refused_so bytes (t ∷ ts) stack now k line e h i f =
+    rw f (stopped_at bytes (t ∷ ts) t.span.line (sym i ∙ run_not (t ∷ ts) stack k e (stuck (stack_after stack k) now h)) refl)
 
 -- where the tokens end and nothing is expected, they are a text of a pipe
 pub ended_so : (bytes : List ℕ) (ts : Row) (stack : Stack)

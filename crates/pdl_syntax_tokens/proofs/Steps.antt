@@ -57,7 +57,8 @@ number_sized c cs e =
     let n = prefix_len is_digit bytes in
     let after = drop n bytes in
     let i : length (take_while is_digit bytes) ≡ n = length-prefix_len is_digit bytes in
-    number_or_literal_sized (take_while is_digit bytes) (digits_after (codes "'d") is_digit after) (digits_after (codes "'h") is_hex after) (length bytes) (length after)
+    number_or_literal_sized (take_while is_digit bytes) (digits_after (codes "'d") is_digit after)
+    (digits_after (codes "'h") is_hex after) (length bytes) (length after)
     (let k = run_least is_digit c cs e in omega (arith, i, k))
     (let k = prefix_len-le-length is_digit bytes in omega (arith, i, k, length-drop n bytes))
     (after_within (codes "'d") is_digit after refl)
@@ -72,11 +73,17 @@ spelling_sized : (all : List Spelling) (bytes : List ℕ)
     → are_written all ≡ true → 1 ≤ length bytes → Sized (mark_or_bad (spelling_at all bytes)) (length bytes)
 unfolding are_written
 spelling_sized [] bytes e h = record { least = omega arith; most = h }
-spelling_sized (s ∷ rest) bytes e h = go (starts_with nat_eq bytes s.text) refl (spelling_sized rest bytes (and_parts (nat_le 1 (length s.text)) (are_written rest) e).1 h)
+spelling_sized (s ∷ rest) bytes e h =
+    go (starts_with nat_eq bytes s.text) refl (spelling_sized rest bytes (and_parts (nat_le 1 (length s.text)) (are_written rest) e).1 h)
   where
     go : (b : Bool) → starts_with nat_eq bytes s.text ≡ b → Sized (mark_or_bad (spelling_at rest bytes)) (length bytes) →
         Sized (mark_or_bad (cond b (Some s) (spelling_at rest bytes))) (length bytes)
-    go true is others = record { least = let k = (and_parts (nat_le 1 (length s.text)) (are_written rest) e).0 in grind (arith, nat_tests, k); most = prefix_fits bytes s.text is }
+    go true is others =
+        record {
+          least = let k = (and_parts (nat_le 1 (length s.text)) (are_written rest) e).0 in
+              grind (arith, nat_tests, k);
+          most = prefix_fits bytes s.text is;
+        }
     go false is others = others
 
 symbols_written : are_written symbols ≡ true
@@ -130,18 +137,23 @@ step_is : (bytes rest : List ℕ) (p : r.Piece) (start line start2 line2 : ℕ) 
     IsLineAfter bytes line line2 → tokens_from 0 start line bytes ≡ placed_token (piece_view p) start line bytes ++ tokens_from 0 start2 line2 rest
 step_is [] rest p start line start2 line2 h er es el = absurd h
 step_is (c ∷ cs) rest p start line start2 line2 h er es el =
-    let P : Piece → Type 0 = λ q. tokens_from 0 start line (c ∷ cs) ≡ placed_token q start line (c ∷ cs) ++ tokens_from 0 (start + q.size) (line_after c line) (drop q.size (c ∷ cs)) in
+    let P : Piece → Type 0 =
+    λ q. tokens_from 0 start line (c ∷ cs)
+    ≡ placed_token q start line (c ∷ cs) ++ tokens_from 0 (start + q.size) (line_after c line) (drop q.size (c ∷ cs)) in
     rw (er, es, el) (subst P (sym h) (one_piece c cs start line))
 
 -- where a piece at the front is blank, the tokens are those after it
-pub step_blank : (bytes rest : List ℕ) (p : r.Piece) (start line start2 line2 : ℕ) → IsFront bytes (Some p) → rest ≡ drop p.size bytes → start2 ≡ start + p.size →
+pub step_blank : (bytes rest : List ℕ) (p : r.Piece) (start line start2 line2 : ℕ) → IsFront bytes (Some p)
+    → rest ≡ drop p.size bytes → start2 ≡ start + p.size →
     IsLineAfter bytes line line2 → p.kind ≡ None → tokens_from 0 start2 line2 rest ≡ tokens_from 0 start line bytes
 step_blank bytes rest p start line start2 line2 h er es el e =
     let k = step_is bytes rest p start line start2 line2 h er es el in sym (k ∙ rw e refl)
 
 -- where a piece at the front is a token, the tokens are that one and those after it
-pub step_token : (bytes rest : List ℕ) (p : r.Piece) (k : TokenKind) (start line start2 line2 : ℕ) → IsFront bytes (Some p) → rest ≡ drop p.size bytes → start2 ≡ start + p.size →
+pub step_token : (bytes rest : List ℕ) (p : r.Piece) (k : TokenKind) (start line start2 line2 : ℕ)
+    → IsFront bytes (Some p) → rest ≡ drop p.size bytes → start2 ≡ start + p.size →
     IsLineAfter bytes line line2 → p.kind ≡ Some k →
-    record { kind = k; text = take p.size bytes; span = record { start = start; end = start2; line = line } } ∷ tokens_from 0 start2 line2 rest ≡ tokens_from 0 start line bytes
+    record { kind = k; text = take p.size bytes; span = record { start = start; end = start2; line = line } } ∷ tokens_from 0 start2 line2 rest
+    ≡ tokens_from 0 start line bytes
 step_token bytes rest p k start line start2 line2 h er es el e =
     let j = step_is bytes rest p start line start2 line2 h er es el in sym (j ∙ rw (e, es) refl)

@@ -141,4 +141,12 @@ start_view s = record { span = span_view s.span; name = ident_view s.name; args 
 
 -- the pipe that a value of the program stands for
 abbrev pub pipe_view : r_pipe.Pipe → Pipe
-pipe_view p = record { name = ident_view p.name; params = map param_view p.params; mems = map mem_view p.mems; body = stmts_view p.body; end = span_view p.end; start = start_view p.start }
+pipe_view p =
+    record {
+      name = ident_view p.name;
+      params = map param_view p.params;
+      mems = map mem_view p.mems;
+      body = stmts_view p.body;
+      end = span_view p.end;
+      start = start_view p.start;
+    }

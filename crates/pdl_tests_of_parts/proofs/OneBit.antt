@@ -25,7 +25,8 @@ upto : (P : Net → Type 0) (nets : List Net) (x : Net) (n : ℕ)
 upto P nets x n e last rest k l =
     ⊎_elim
     (λ (i : k < n). subst P (sym (get_or_append_left nets (x ∷ []) (Input 0) k (omega (arith, e, i)))) (rest k i))
-    (λ (i : n ≤ k). let j : n ≡ k = omega arith in let Q : ℕ → Type 0 = λ m. P (net_at (nets ++ x ∷ []) m) in subst Q j (subst P (sym (get_or_push nets x (Input 0) n e)) last))
+    (λ (i : n ≤ k). let j : n ≡ k = omega arith in let Q : ℕ → Type 0 = λ m. P (net_at (nets ++ x ∷ []) m) in
+    subst Q j (subst P (sym (get_or_push nets x (Input 0) n e)) last))
     (cases_lt k n)
 
 -- one net more

@@ -43,11 +43,14 @@ unfailed : (o : Around) (xs : List Stmt) (w : Work)
 unfailed o [] w h = refl
 unfailed o (x ∷ xs) w h = unfailed o xs (step o x w) (λ path. later path (all_hold x.guards path) (h path)) ∙ at (all_hold x.guards w.env) (h w.env)
   where
-    later : (path : List ℕ) (b : Bool) → none_of is_verify (cond b (record x { guards = [] } ∷ onpath path xs) (onpath path xs)) ≡ true → none_of is_verify (onpath path xs) ≡ true
+    later : (path : List ℕ) (b : Bool)
+        → none_of is_verify (cond b (record x { guards = [] } ∷ onpath path xs) (onpath path xs)) ≡ true
+        → none_of is_verify (onpath path xs) ≡ true
     later path true k = and_right (not (is_verify x.op)) _ k
     later path false k = k
 
-    at : (b : Bool) → none_of is_verify (cond b (record x { guards = [] } ∷ onpath w.env xs) (onpath w.env xs)) ≡ true → (cond b (work_after o x.op w) w).fails ≡ w.fails
+    at : (b : Bool) → none_of is_verify (cond b (record x { guards = [] } ∷ onpath w.env xs) (onpath w.env xs)) ≡ true
+        → (cond b (work_after o x.op w) w).fails ≡ w.fails
     at true k = Guesses.unfailed o (record x { guards = [] } ∷ []) w (ap (λ b. b && true) (and_left (not (is_verify x.op)) _ k))
     at false k = refl
 
@@ -69,7 +72,8 @@ unverified : (v : Option ℕ) (path : List ℕ) (xs : List Stmt) (k : Making)
 unverified v path [] k b g h = refl
 unverified v path (x ∷ xs) k b g h = at (all_hold x.guards path) h (λ j. unverified v path xs j b)
   where
-    at : (t : Bool) → makings_ok v k (cond t (record x { op = answered_op x.op; guards = [] } ∷ onpath path (looked_all xs)) (onpath path (looked_all xs))) ≡ true
+    at : (t : Bool)
+        → makings_ok v k (cond t (record x { op = answered_op x.op; guards = [] } ∷ onpath path (looked_all xs)) (onpath path (looked_all xs))) ≡ true
         → ((j : Making) → is_guessed j ≡ false → makings_ok v j (onpath path (looked_all xs)) ≡ true → none_of is_verify (onpath path xs) ≡ true)
         → none_of is_verify (cond t (record x { guards = [] } ∷ onpath path xs) (onpath path xs)) ≡ true
     at true m go =
@@ -112,7 +116,8 @@ all_first : (test : Op → Bool) (xs : List Stmt)
 all_first test [] i h = refl
 all_first test (x ∷ xs) i h = at (x.stage == 0) refl h (all_first test xs (and_right (nat_lt x.stage 1) _ i))
   where
-    at : (b : Bool) → (x.stage == 0) ≡ b → none_of test (cond b (x ∷ in_stage 0 xs) (in_stage 0 xs)) ≡ true → (none_of test (in_stage 0 xs) ≡ true → none_of test xs ≡ true) → (not (test x.op) && none_of test xs) ≡ true
+    at : (b : Bool) → (x.stage == 0) ≡ b → none_of test (cond b (x ∷ in_stage 0 xs) (in_stage 0 xs)) ≡ true
+        → (none_of test (in_stage 0 xs) ≡ true → none_of test xs ≡ true) → (not (test x.op) && none_of test xs) ≡ true
     at true e k go = ap₂ (λ c d. c && d) (and_left (not (test x.op)) _ k) (go (and_right (not (test x.op)) _ k))
     at false e k go = absurd (let low = ltb-true x.stage 1 (and_left (nat_lt x.stage 1) _ i) in eqb-false x.stage 0 e (omega (arith, low)))
 
@@ -160,7 +165,8 @@ module _ (p : Pipe) (sound : Sound p) (single : length p.stages ≡ 1) where
       (none_before _ (λ n e. let low = sound.pathwise.verify_inside n e in omega (arith, low, single))) refl (sound.pathwise.makings path)
 
   answered_here : none_of is_fetch p.stmts ≡ true
-  answered_here = all_first is_fetch p.stmts (subst (λ n. list_all (λ y. nat_lt y.stage n) p.stmts ≡ true) single sound.inside) (sound.fetch_inside 0 (sym single))
+  answered_here =
+      all_first is_fetch p.stmts (subst (λ n. list_all (λ y. nat_lt y.stage n) p.stmts ≡ true) single sound.inside) (sound.fetch_inside 0 (sym single))
 
   fails_none : (o : Around) (t : Thread) → (work_of_stage p o t).fails ≡ false
   fails_none o t =
@@ -170,10 +176,13 @@ module _ (p : Pipe) (sound : Sound p) (single : length p.stages ≡ 1) where
   asks_none : (o : Around) (t : Thread) → (work_of_stage p o t).asks ≡ []
   asks_none o t = unasked o (in_stage t.stage p.stmts) _ (none_stage is_fetch t.stage p.stmts answered_here)
 
-  none_fail : (st : State) (bits : List Bool) (older : List Act) (ts : List Thread) → list_any (λ (a : Act). a.moves && a.work.fails) (acts p st bits older ts) ≡ false
+  none_fail : (st : State) (bits : List Bool) (older : List Act) (ts : List Thread)
+      → list_any (λ (a : Act). a.moves && a.work.fails) (acts p st bits older ts) ≡ false
   none_fail st bits older [] = refl
   none_fail st bits older (t ∷ ts) =
-      ap₂ (λ c d. c || d) (ap (λ f. (act p st bits older t).moves && f) (fails_none (around p st bits older t.stage) (answered_thread p st bits t)) ∙ at (act p st bits older t).moves)
+      ap₂ (λ c d. c || d)
+      (ap (λ f. (act p st bits older t).moves && f) (fails_none (around p st bits older t.stage) (answered_thread p st bits t))
+      ∙ at (act p st bits older t).moves)
       (none_fail st bits (act p st bits older t ∷ older) ts)
     where
       at : (b : Bool) → (b && false) ≡ false
@@ -185,15 +194,20 @@ module _ (p : Pipe) (sound : Sound p) (single : length p.stages ≡ 1) where
   none_ask st bits older (t ∷ ts) = at (act p st bits older t).moves (none_ask st bits (act p st bits older t ∷ older) ts)
     where
       at : (b : Bool) → asks_of (acts p st bits (act p st bits older t ∷ older) ts) ≡ []
-          → cond b ((act p st bits older t).work.asks ++ asks_of (acts p st bits (act p st bits older t ∷ older) ts)) (asks_of (acts p st bits (act p st bits older t ∷ older) ts)) ≡ []
+          → cond b ((act p st bits older t).work.asks ++ asks_of (acts p st bits (act p st bits older t ∷ older) ts))
+          (asks_of (acts p st bits (act p st bits older t ∷ older) ts))
+          ≡ []
       at true h = ap₂ (λ c d. c ++ d) (asks_none (around p st bits older t.stage) (answered_thread p st bits t)) h
       at false h = h
 
   -- between cycles the commits are the writes of the threads that ended
-  even : (image : Arrays) (n : ℕ) (past : List Commit) (st : State) → Runs p (course p sound) image n past st → (m : ℕ) → of_mem m (writes_from p n image p.start) ≡ of_mem m past
+  even : (image : Arrays) (n : ℕ) (past : List Commit) (st : State) → Runs p (course p sound) image n past st → (m : ℕ)
+      → of_mem m (writes_from p n image p.start) ≡ of_mem m past
   even image n past st r m = at r.spots r.standing r.live
     where
-      at : (sps : List Spot) → Standing p (course p sound) st.asked (λ m. of_mem m past) (λ m. of_mem m (writes_from p n image p.start)) (λ m. []) (after_turns p image n).arrays (after_turns p image n).next (length p.stages ∷ []) sps
+      at : (sps : List Spot)
+          → Standing p (course p sound) st.asked (λ m. of_mem m past) (λ m. of_mem m (writes_from p n image p.start))
+          (λ m. []) (after_turns p image n).arrays (after_turns p image n).next (length p.stages ∷ []) sps
           → is_nil sps ≡ false → of_mem m (writes_from p n image p.start) ≡ of_mem m past
       at [] h l = absurd (cc l)
       at (sp ∷ sps) h l =
@@ -209,7 +223,8 @@ module _ (p : Pipe) (sound : Sound p) (single : length p.stages ≡ 1) where
       at (Some q) = omega arith
 
   -- the thread ends
-  ended_now : (image : Arrays) (n : ℕ) (past : List Commit) (st : State) (bits : List Bool) → Runs p (course p sound) image n past st → is_wait p st bits ≡ false → ends_one p (all_acts p st bits) ≡ true
+  ended_now : (image : Arrays) (n : ℕ) (past : List Commit) (st : State) (bits : List Bool)
+      → Runs p (course p sound) image n past st → is_wait p st bits ≡ false → ends_one p (all_acts p st bits) ≡ true
   ended_now image n past st bits r calm = at (ends_one p (all_acts p st bits)) refl
     where
       at : (b : Bool) → ends_one p (all_acts p st bits) ≡ b → ends_one p (all_acts p st bits) ≡ true
@@ -219,29 +234,39 @@ module _ (p : Pipe) (sound : Sound p) (single : length p.stages ≡ 1) where
           let next = leads p sound image _ _ (cycle p st bits) (runs_cycle p (course p sound) image n past st bits r) in
           let some : 0 < left p sound path (lead p sound (cycle p st bits).threads) = left_some p sound path (lead p sound (cycle p st bits).threads) next.0 in
           let less : 1 + left p sound path (lead p sound (cycle p st bits).threads) ≤ left p sound path (lead p sound st.threads) =
-          subst (λ w. cond w 0 1 + left p sound path (lead p sound (cycle p st bits).threads) ≤ left p sound path (lead p sound st.threads)) calm (cycle_left p sound image n past st bits r e) in
+          subst
+          (λ w. cond w 0 1 + left p sound path (lead p sound (cycle p st bits).threads) ≤ left p sound path (lead p sound st.threads)) calm
+          (cycle_left p sound image n past st bits r e) in
           let most = short path (lead p sound st.threads) in
           absurd (omega (arith, some, less, most))
 
   -- and its commits are the writes of its turn
-  commits_now : (image : Arrays) (n : ℕ) (past : List Commit) (st : State) (bits : List Bool) → Runs p (course p sound) image n past st → ends_one p (all_acts p st bits) ≡ true → (m : ℕ)
+  commits_now : (image : Arrays) (n : ℕ) (past : List Commit) (st : State) (bits : List Bool)
+      → Runs p (course p sound) image n past st → ends_one p (all_acts p st bits) ≡ true → (m : ℕ)
       → of_mem m (commits_of (all_acts p st bits)) ≡ of_mem m (thread p (after_turns p image n).arrays (after_turns p image n).next).writes
   commits_now image n past st bits r e m =
       same_rest (of_mem m past) _ _
       (sym (of_mem_append m past (commits_of (all_acts p st bits)))
-      ∙ sym (even image (suc n) (past ++ commits_of (all_acts p st bits)) (cycle p st bits) (subst (λ b. Runs p (course p sound) image (cond b (suc n) n) (past ++ commits_of (all_acts p st bits)) (cycle p st bits)) e (runs_cycle p (course p sound) image n past st bits r)) m)
+      ∙ sym
+      (even image (suc n) (past ++ commits_of (all_acts p st bits)) (cycle p st bits)
+      (subst
+      (λ b. Runs p (course p sound) image (cond b (suc n) n) (past ++ commits_of (all_acts p st bits)) (cycle p st bits)) e
+      (runs_cycle p (course p sound) image n past st bits r)) m)
       ∙ ap (of_mem m) (writes_more p n image p.start)
       ∙ of_mem_append m (writes_from p n image p.start) _
       ∙ ap (λ l. l ++ of_mem m (thread p (after_turns p image n).arrays (after_turns p image n).next).writes) (even image n past st r m))
 
-  from_here : (image : Arrays) (n : ℕ) (past : List Commit) (st : State) (schedule : List (List Bool)) → Runs p (course p sound) image n past st → st.asked ≡ nothing_asked p.mems
+  from_here : (image : Arrays) (n : ℕ) (past : List Commit) (st : State) (schedule : List (List Bool))
+      → Runs p (course p sound) image n past st → st.asked ≡ nothing_asked p.mems
       → AreWhole (turns_from p st schedule) (threads_from p (length schedule) (after_turns p image n).arrays (after_turns p image n).next)
   from_here image n past st [] r q = tt
   from_here image n past st (bits ∷ schedule) r q =
       let calm : is_wait p st bits ≡ false = ap (waits_from p bits 0) q ∙ none_waits p bits 0 p.mems in
       let e : ends_one p (all_acts p st bits) ≡ true = ended_now image n past st bits r calm in
       let next : Runs p (course p sound) image (suc n) (past ++ commits_of (all_acts p st bits)) (cycle p st bits) =
-      subst (λ b. Runs p (course p sound) image (cond b (suc n) n) (past ++ commits_of (all_acts p st bits)) (cycle p st bits)) e (runs_cycle p (course p sound) image n past st bits r) in (
+      subst
+      (λ b. Runs p (course p sound) image (cond b (suc n) n) (past ++ commits_of (all_acts p st bits)) (cycle p st bits)) e
+      (runs_cycle p (course p sound) image n past st bits r) in (
         record { commits = commits_now image n past st bits r e; ended = e; squash = none_fail st bits [] st.threads; wait = calm },
         from_here image (suc n) (past ++ commits_of (all_acts p st bits)) (cycle p st bits) schedule next
             (ap₂ (λ qs old. next_asks p bits qs 0 old) (none_ask st bits [] st.threads) q ∙ none_asked p bits 0 p.mems),
@@ -260,7 +285,8 @@ module _ (p : Pipe) (sound : Sound p) (single : length p.stages ≡ 1) where
   )
 
   pub whole_threads : (image : Arrays) (schedule : List (List Bool)) → AreThreads (Cycle.turns p image schedule) (threads p image (length schedule))
-  whole_threads image schedule = carried _ _ _ (whole_same p sound image schedule) (from_here image 0 [] (first p image) schedule (runs_first p (course p sound) image) refl)
+  whole_threads image schedule =
+      carried _ _ _ (whole_same p sound image schedule) (from_here image 0 [] (first p image) schedule (runs_first p (course p sound) image) refl)
 
 -- LINES
 
@@ -276,7 +302,8 @@ puts_same f ws k [] h = refl
 puts_same f ws k (m ∷ ms) h =
     ap₂ (λ a l. a ∷ l)
     (sym (puts_alike k (f k)) ∙ ap puts_of (subst (λ i. commit_shown i (f i) ≡ of_mem i ws) (let e : k + 0 ≡ k = omega arith in e) (h 0 (omega arith))))
-    (puts_same f ws (suc k) ms (λ j low. subst (λ i. commit_shown i (f i) ≡ of_mem i ws) (let e : k + suc j ≡ suc k + j = omega arith in e) (h (suc j) (omega arith))))
+    (puts_same f ws (suc k) ms
+    (λ j low. subst (λ i. commit_shown i (f i) ≡ of_mem i ws) (let e : k + suc j ≡ suc k + j = omega arith in e) (h (suc j) (omega arith))))
 
 -- a cycle that is a thread
 cycle_same : (p : Tree.Pipe) (st : Machine.State) (bits : List Bool) (ws : List Commit)
@@ -290,10 +317,17 @@ cycle_same p st bits ws h = λ i. record {
   squash = h.squash i;
 }
   where
-    each : (j : ℕ) → j < length (mems_of p.mems) → commit_shown (0 + j) (Cycle.port_write (Cycle.taken_out st (Moves.movers (Moves.all_acts (flat p) st bits)) (0 + j))) ≡ of_mem (0 + j) ws
+    each : (j : ℕ) → j < length (mems_of p.mems)
+        → commit_shown (0 + j) (Cycle.port_write (Cycle.taken_out st (Moves.movers (Moves.all_acts (flat p) st bits)) (0 + j))) ≡ of_mem (0 + j) ws
     each j low =
-        ap (commit_shown (0 + j)) (sym (at_mem (λ m. Cycle.port_write (Cycle.taken_out st (Moves.movers (Moves.all_acts (flat p) st bits)) m)) 0 (mems_of p.mems) j None low))
-        ∙ subst (λ k. commit_shown k (slice_index_or (for_mems (λ m. Cycle.port_write (Cycle.taken_out st (Moves.movers (Moves.all_acts (flat p) st bits)) m)) 0 (mems_of p.mems)) j None) ≡ of_mem k ws) (let e : j ≡ 0 + j = omega arith in e) (h.commits j)
+        ap (commit_shown (0 + j))
+        (sym (at_mem (λ m. Cycle.port_write (Cycle.taken_out st (Moves.movers (Moves.all_acts (flat p) st bits)) m)) 0 (mems_of p.mems) j None low))
+        ∙ subst
+        (λ k. commit_shown k
+        (slice_index_or
+        (for_mems (λ m. Cycle.port_write (Cycle.taken_out st (Moves.movers (Moves.all_acts (flat p) st bits)) m)) 0 (mems_of p.mems)) j None)
+        ≡ of_mem k ws)
+        (let e : j ≡ 0 + j = omega arith in e) (h.commits j)
 
 cycles_same : (p : Tree.Pipe) (st : Machine.State) (schedule : List (List Bool)) (tss : List (List Commit))
     → AreThreads (Cycle.turns_from (flat p) st schedule) tss
@@ -301,11 +335,13 @@ cycles_same : (p : Tree.Pipe) (st : Machine.State) (schedule : List (List Bool))
 cycles_same p st [] [] h = refl
 cycles_same p st [] (ws ∷ tss) h = absurd h
 cycles_same p st (bits ∷ schedule) [] h = absurd h
-cycles_same p st (bits ∷ schedule) (ws ∷ tss) h = ap₂ (λ c cs. c ∷ cs) (cycle_same p st bits ws h.0) (cycles_same p (Cycle.cycle (flat p) st bits) schedule tss h.1)
+cycles_same p st (bits ∷ schedule) (ws ∷ tss) h =
+    ap₂ (λ c cs. c ∷ cs) (cycle_same p st bits ws h.0) (cycles_same p (Cycle.cycle (flat p) st bits) schedule tss h.1)
 
 -- the machine prints the lines of the sequential run
 pub same_lines : (p : Tree.Pipe) → Sound (flat p)
     → length (flat p).stages ≡ 1 → (image : List (List ℕ)) (schedule : List (List Bool))
     → run_lines p image schedule ≡ sequential_lines p image (length schedule)
 same_lines p sound single image schedule =
-    ap (lines (columns p.mems)) (cycles_same p (Cycle.first (flat p) (arrays_of image)) schedule _ (whole_threads (flat p) sound single (arrays_of image) schedule))
+    ap (lines (columns p.mems))
+    (cycles_same p (Cycle.first (flat p) (arrays_of image)) schedule _ (whole_threads (flat p) sound single (arrays_of image) schedule))

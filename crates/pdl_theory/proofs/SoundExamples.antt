@@ -66,7 +66,10 @@ passed_by_sounds : passes_tests (flat passed_by) ≡ true
 passed_by_sounds = refl
 
 -- an `if` on a delayed read in its stage breaks a rule
-early_guard_fails : passes_tests (flat (pipe 2 (record (slow "d" 4 None) { width = number 1 } ∷ []) (delayed_read "x" "d" "n" ∷ call (plus (variable "n") (constant 2 1)) ∷ if_else (variable "x") (bind "y" (constant 1 1) ∷ []) [] ∷ separator ∷ [])))
+early_guard_fails : passes_tests
+    (flat
+    (pipe 2 (record (slow "d" 4 None) { width = number 1 } ∷ [])
+    (delayed_read "x" "d" "n" ∷ call (plus (variable "n") (constant 2 1)) ∷ if_else (variable "x") (bind "y" (constant 1 1) ∷ []) [] ∷ separator ∷ [])))
     ≡ false
 early_guard_fails = refl
 

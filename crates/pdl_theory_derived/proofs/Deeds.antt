@@ -22,7 +22,8 @@ pub places_without : (es : List Entry) (m a : ℕ) → places (without es m a) �
 places_without [] m a = refl
 places_without (e ∷ es) m a = at ((e.mem == m) && (e.var == a)) (places_without es m a)
   where
-    at : (b : Bool) → places (without es m a) ≡ let_go (places es) m a → places (cond b es (e ∷ without es m a)) ≡ cond b (places es) (record { mem = e.mem; var = e.var } ∷ let_go (places es) m a)
+    at : (b : Bool) → places (without es m a) ≡ let_go (places es) m a
+        → places (cond b es (e ∷ without es m a)) ≡ cond b (places es) (record { mem = e.mem; var = e.var } ∷ let_go (places es) m a)
     at true h = refl
     at false h = ap (λ l. record { mem = e.mem; var = e.var } ∷ l) h
 
@@ -31,7 +32,8 @@ pub places_filled : (es : List Entry) (m a v : ℕ) → places (with_entry_value
 places_filled [] m a v = refl
 places_filled (e ∷ es) m a v = at ((e.mem == m) && (e.var == a)) (places_filled es m a v)
   where
-    at : (b : Bool) → places (with_entry_value es m a v) ≡ places es → places (cond b (record e { value = Some v } ∷ es) (e ∷ with_entry_value es m a v)) ≡ record { mem = e.mem; var = e.var } ∷ places es
+    at : (b : Bool) → places (with_entry_value es m a v) ≡ places es
+        → places (cond b (record e { value = Some v } ∷ es) (e ∷ with_entry_value es m a v)) ≡ record { mem = e.mem; var = e.var } ∷ places es
     at true h = refl
     at false h = ap (λ l. record { mem = e.mem; var = e.var } ∷ l) h
 
@@ -85,7 +87,9 @@ module _ (o : Around) (read : ℕ → ℕ → ℕ) (block : Blocked → Bool) (r
   Fits (DelayedRead x m a) = (n : ℕ) → o.free m ≡ free (record { mem = m; var = x; address = n })
   Fits (ReserveWrite m a) = (n : ℕ) → o.room m ≡ room (record { mem = m; address = n })
   Fits (Block m a) =
-      (n : ℕ) → (o.can_write m n ≡ block (record { mem = m; address = n; writes = true })) × (o.can_read m n ≡ block (record { mem = m; address = n; writes = false }))
+      (n : ℕ)
+      → (o.can_write m n ≡ block (record { mem = m; address = n; writes = true }))
+      × (o.can_read m n ≡ block (record { mem = m; address = n; writes = false }))
   Fits (Bind x e) = Unit {0}
   Fits (Write m a e) = Unit {0}
   Fits (ReserveRead m a) = Unit {0}
@@ -103,12 +107,15 @@ module _ (o : Around) (read : ℕ → ℕ → ℕ) (block : Blocked → Bool) (r
   told : (d : Deeds) (es : List Entry) (cs : List Commit) → places es ≡ d.held → Told d (work_of d es cs)
   told d es cs h = record { held = h; is = refl }
 
-  block_fits : (b : Bool) (m n : ℕ) → ((o.can_write m n ≡ block (record { mem = m; address = n; writes = true })) × (o.can_read m n ≡ block (record { mem = m; address = n; writes = false })))
+  block_fits : (b : Bool) (m n : ℕ)
+      → ((o.can_write m n ≡ block (record { mem = m; address = n; writes = true }))
+      × (o.can_read m n ≡ block (record { mem = m; address = n; writes = false })))
       → cond b (o.can_write m n) (o.can_read m n) ≡ block (record { mem = m; address = n; writes = b })
   block_fits true m n h = h.0
   block_fits false m n h = h.1
 
-  told_op : (op : Op) (d : Deeds) (es : List Entry) (cs : List Commit) → places es ≡ d.held → Fits op → Told (Machine.deeds_after read op d) (work_after o op (work_of d es cs))
+  told_op : (op : Op) (d : Deeds) (es : List Entry) (cs : List Commit) → places es ≡ d.held → Fits op
+      → Told (Machine.deeds_after read op d) (work_after o op (work_of d es cs))
   told_op (Bind x e) d es cs h f = told _ es cs h
   told_op (CombRead x m a) d es cs h f = record { held = h; is = ap (λ v. work_of (record d { env = slice_set d.env x v }) es cs) (f (slice_index d.env a)) }
   told_op (DelayedRead x m a) d es cs h f = record {
@@ -119,7 +126,8 @@ module _ (o : Around) (read : ℕ → ℕ → ℕ) (block : Blocked → Bool) (r
       ready : (all_ready d && o.free m) ≡ all_ready (Machine.deeds_after read (DelayedRead x m a) d)
       ready =
           for_ask (list_all block d.blocks && list_all room d.reserves) (list_all free d.asks) (not d.barrier || o.clear) (o.free m)
-          ∙ ap (λ b. ((list_all block d.blocks && list_all room d.reserves) && b) && (not d.barrier || o.clear)) (ap (λ b. list_all free d.asks && b) (f (slice_index d.env a)) ∙ sym (all_more free d.asks _))
+          ∙ ap (λ b. ((list_all block d.blocks && list_all room d.reserves) && b) && (not d.barrier || o.clear))
+          (ap (λ b. list_all free d.asks && b) (f (slice_index d.env a)) ∙ sym (all_more free d.asks _))
   told_op (Write m a e) d es cs h f = record { held = places_filled es m a (value_of e d.env) ∙ h; is = refl }
   told_op (ReserveRead m a) d es cs h f = told _ es cs h
   told_op (ReserveWrite m a) d es cs h f = record {
@@ -130,13 +138,15 @@ module _ (o : Around) (read : ℕ → ℕ → ℕ) (block : Blocked → Bool) (r
       ready : (all_ready d && o.room m) ≡ all_ready (Machine.deeds_after read (ReserveWrite m a) d)
       ready =
           for_room (list_all block d.blocks) (list_all room d.reserves) (list_all free d.asks) (not d.barrier || o.clear) (o.room m)
-          ∙ ap (λ b. ((list_all block d.blocks && b) && list_all free d.asks) && (not d.barrier || o.clear)) (ap (λ b. list_all room d.reserves && b) (f (slice_index d.env a)) ∙ sym (all_more room d.reserves _))
+          ∙ ap (λ b. ((list_all block d.blocks && b) && list_all free d.asks) && (not d.barrier || o.clear))
+          (ap (λ b. list_all room d.reserves && b) (f (slice_index d.env a)) ∙ sym (all_more room d.reserves _))
   told_op (Block m a) d es cs h f = record { held = h; is = λ i. record (work_of d es cs) { ready = ready i } }
     where
       kind : has_entry es m a ≡ is_held d.held m a
       kind = sym (places_has es m a) ∙ ap (λ l. is_held l m a) h
 
-      ready : (all_ready d && cond (has_entry es m a) (o.can_write m (slice_index d.env a)) (o.can_read m (slice_index d.env a))) ≡ all_ready (Machine.deeds_after read (Block m a) d)
+      ready : (all_ready d && cond (has_entry es m a) (o.can_write m (slice_index d.env a)) (o.can_read m (slice_index d.env a)))
+          ≡ all_ready (Machine.deeds_after read (Block m a) d)
       ready =
           for_block (list_all block d.blocks) (list_all room d.reserves) (list_all free d.asks) (not d.barrier || o.clear) _
           ∙ ap (λ b. ((b && list_all room d.reserves) && list_all free d.asks) && (not d.barrier || o.clear))
@@ -148,17 +158,26 @@ module _ (o : Around) (read : ℕ → ℕ → ℕ) (block : Blocked → Bool) (r
   told_op (SpecCall args) d es cs h f = told _ es cs h
   told_op (Verify args) d es cs h f = at (same_args (values_of args d.env) d.guess)
     where
-      at : (b : Bool) → Told (cond b d (record d { child = Some (values_of args d.env); fails = true })) (cond b (work_of d es cs) (record (work_of d es cs) { child = Some (values_of args d.env); fails = true }))
+      at : (b : Bool)
+          → Told (cond b d (record d { child = Some (values_of args d.env); fails = true }))
+          (cond b (work_of d es cs) (record (work_of d es cs) { child = Some (values_of args d.env); fails = true }))
       at true = told d es cs h
       at false = told _ es cs h
   told_op SpecCheck d es cs h f = told _ es cs h
-  told_op SpecBarrier d es cs h f = record { held = h; is = λ i. record (work_of d es cs) { ready = clear_swap ((list_all block d.blocks && list_all room d.reserves) && list_all free d.asks) d.barrier o.clear i } }
+  told_op SpecBarrier d es cs h f =
+      record {
+        held = h;
+        is =
+            λ i. record (work_of d es cs) { ready = clear_swap ((list_all block d.blocks && list_all room d.reserves) && list_all free d.asks) d.barrier o.clear i };
+      }
 
-  pub told_step : (b : Bool) (op : Op) (d : Deeds) (es : List Entry) (cs : List Commit) → places es ≡ d.held → Fits op → Told (cond b (Machine.deeds_after read op d) d) (cond b (work_after o op (work_of d es cs)) (work_of d es cs))
+  pub told_step : (b : Bool) (op : Op) (d : Deeds) (es : List Entry) (cs : List Commit) → places es ≡ d.held → Fits op
+      → Told (cond b (Machine.deeds_after read op d) d) (cond b (work_after o op (work_of d es cs)) (work_of d es cs))
   told_step true op d es cs h f = told_op op d es cs h f
   told_step false op d es cs h f = told d es cs h
 
-  pub told_all : (xs : List Stmt) (d : Deeds) (es : List Entry) (cs : List Commit) → places es ≡ d.held → AllFit xs → Told (deeds_after_all read xs d) (do_all o xs (work_of d es cs))
+  pub told_all : (xs : List Stmt) (d : Deeds) (es : List Entry) (cs : List Commit) → places es ≡ d.held → AllFit xs
+      → Told (deeds_after_all read xs d) (do_all o xs (work_of d es cs))
   told_all [] d es cs h f = told d es cs h
   told_all (x ∷ xs) d es cs h f =
       let t = told_step (all_hold x.guards d.env) x.op d es cs h f.0 in

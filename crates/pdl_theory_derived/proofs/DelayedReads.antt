@@ -26,7 +26,9 @@ pub still_awaited : (p : Pipe) (bits : List Bool) (qs : List Ask) → still p bi
 still_awaited p bits [] = refl
 still_awaited p bits (q ∷ qs) = at (is_answered p bits q.mem) (still_awaited p bits qs)
   where
-    at : (b : Bool) → still p bits (awaited_of qs) ≡ awaited_of (still_asks p bits qs) → cond b (still p bits (awaited_of qs)) (record { mem = q.mem; var = q.var } ∷ still p bits (awaited_of qs)) ≡ awaited_of (cond b (still_asks p bits qs) (q ∷ still_asks p bits qs))
+    at : (b : Bool) → still p bits (awaited_of qs) ≡ awaited_of (still_asks p bits qs)
+        → cond b (still p bits (awaited_of qs)) (record { mem = q.mem; var = q.var } ∷ still p bits (awaited_of qs))
+        ≡ awaited_of (cond b (still_asks p bits qs) (q ∷ still_asks p bits qs))
     at true h = h
     at false h = ap (λ l. record { mem = q.mem; var = q.var } ∷ l) h
 
@@ -118,7 +120,9 @@ answers_set p st bits q w (r ∷ rs) env h =
     ap (with_answers p st bits (awaited_of rs)) (at (is_answered p bits r.mem))
     ∙ answers_set p st bits q w rs (if is_answered p bits r.mem then slice_set env r.var (word_of st.arrays r.mem (asked_at st r.mem)) else env) h.2
   where
-    at : (b : Bool) → cond b (slice_set (slice_set env q.var w) r.var (word_of st.arrays r.mem (asked_at st r.mem))) (slice_set env q.var w) ≡ slice_set (cond b (slice_set env r.var (word_of st.arrays r.mem (asked_at st r.mem))) env) q.var w
+    at : (b : Bool)
+        → cond b (slice_set (slice_set env q.var w) r.var (word_of st.arrays r.mem (asked_at st r.mem))) (slice_set env q.var w)
+        ≡ slice_set (cond b (slice_set env r.var (word_of st.arrays r.mem (asked_at st r.mem))) env) q.var w
     at true = set_comm env q.var r.var w (word_of st.arrays r.mem (asked_at st r.mem)) h.0
     at false = refl
 
@@ -140,9 +144,13 @@ answers_caught p st bits arrays (q ∷ qs) env a h =
     word = ap (word_of st.arrays q.mem) h.0.0 ∙ h.0.1
 
     at : (b : Bool)
-        → caught arrays (still_asks p bits qs) (with_answers p st bits (awaited_of qs) (slice_set env q.var (word_of st.arrays q.mem (asked_at st q.mem)))) ≡ caught arrays qs (slice_set env q.var (word_of st.arrays q.mem (asked_at st q.mem)))
-        → caught arrays (still_asks p bits qs) (with_answers p st bits (awaited_of qs) (slice_set env q.var (word_at arrays q.mem q.address))) ≡ caught arrays qs (slice_set env q.var (word_at arrays q.mem q.address))
-        → caught arrays (cond b (still_asks p bits qs) (q ∷ still_asks p bits qs)) (with_answers p st bits (awaited_of qs) (cond b (slice_set env q.var (word_of st.arrays q.mem (asked_at st q.mem))) env)) ≡ caught arrays qs (slice_set env q.var (word_at arrays q.mem q.address))
+        → caught arrays (still_asks p bits qs) (with_answers p st bits (awaited_of qs) (slice_set env q.var (word_of st.arrays q.mem (asked_at st q.mem))))
+        ≡ caught arrays qs (slice_set env q.var (word_of st.arrays q.mem (asked_at st q.mem)))
+        → caught arrays (still_asks p bits qs) (with_answers p st bits (awaited_of qs) (slice_set env q.var (word_at arrays q.mem q.address)))
+        ≡ caught arrays qs (slice_set env q.var (word_at arrays q.mem q.address))
+        → caught arrays (cond b (still_asks p bits qs) (q ∷ still_asks p bits qs))
+        (with_answers p st bits (awaited_of qs) (cond b (slice_set env q.var (word_of st.arrays q.mem (asked_at st q.mem))) env))
+        ≡ caught arrays qs (slice_set env q.var (word_at arrays q.mem q.address))
     at true f g = f ∙ ap (λ w. caught arrays qs (slice_set env q.var w)) word
     at false f g = ap (caught arrays (still_asks p bits qs)) (sym (answers_set p st bits q (word_at arrays q.mem q.address) qs env a.0)) ∙ g
 
@@ -198,7 +206,8 @@ pub all_out : (p : Pipe) (bits : List Bool) (all : List Ask) (olds : List (Optio
 all_out p bits all olds [] h f = tt
 all_out p bits all olds (q ∷ qs) h f = at (is_answered p bits q.mem) refl (all_out p bits all olds qs h.1 f.1)
   where
-    at : (b : Bool) → is_answered p bits q.mem ≡ b → AllAsks (Out (next_asks p bits all 0 olds)) (still_asks p bits qs) → AllAsks (Out (next_asks p bits all 0 olds)) (cond b (still_asks p bits qs) (q ∷ still_asks p bits qs))
+    at : (b : Bool) → is_answered p bits q.mem ≡ b → AllAsks (Out (next_asks p bits all 0 olds)) (still_asks p bits qs)
+        → AllAsks (Out (next_asks p bits all 0 olds)) (cond b (still_asks p bits qs) (q ∷ still_asks p bits qs))
     at true e k = k
     at false e k = (stays_out p bits all olds q h.0 e (f.0 e), k)
 
@@ -214,7 +223,8 @@ pub find_append : (qs rs : List Ask) (m : ℕ) → find_ask (qs ++ rs) m ≡ or_
 find_append [] rs m = refl
 find_append (q ∷ qs) rs m = at (q.mem == m) (find_append qs rs m)
   where
-    at : (b : Bool) → find_ask (qs ++ rs) m ≡ or_ask (find_ask qs m) (find_ask rs m) → cond b (Some q.address) (find_ask (qs ++ rs) m) ≡ or_ask (cond b (Some q.address) (find_ask qs m)) (find_ask rs m)
+    at : (b : Bool) → find_ask (qs ++ rs) m ≡ or_ask (find_ask qs m) (find_ask rs m)
+        → cond b (Some q.address) (find_ask (qs ++ rs) m) ≡ or_ask (cond b (Some q.address) (find_ask qs m)) (find_ask rs m)
     at true h = refl
     at false h = h
 
@@ -226,7 +236,8 @@ found (q ∷ qs) a = (
   later qs qs a.0 (found qs a.1),
 )
   where
-    later : (rs all : List Ask) → Avoids q rs → AllAsks (λ r. find_ask all r.mem ≡ Some r.address) rs → AllAsks (λ r. cond (q.mem == r.mem) (Some q.address) (find_ask all r.mem) ≡ Some r.address) rs
+    later : (rs all : List Ask) → Avoids q rs → AllAsks (λ r. find_ask all r.mem ≡ Some r.address) rs
+        → AllAsks (λ r. cond (q.mem == r.mem) (Some q.address) (find_ask all r.mem) ≡ Some r.address) rs
     later [] all h f = tt
     later (r ∷ rs) all h f = (ap (λ b. cond b (Some q.address) (find_ask all r.mem)) (ne_eqb q.mem r.mem h.1) ∙ f.0, later rs all h.2 f.1)
 
@@ -267,7 +278,9 @@ unasked o (x ∷ xs) w m h r = unasked o xs (step o x w) m h r ∙ at (all_hold 
 -- a port that older threads hold is held for all younger ones
 held_more : (p : Pipe) (st : State) (bits : List Bool) (a : Act) (older : List Act) (m : ℕ)
     → port_free p st bits older m ≡ false → port_free p st bits (a ∷ older) m ≡ false
-held_more p st bits a older m h = at (is_none (asked_at st m)) (is_answered p bits m) (not (awaits_mem a.before.awaits m) || a.moves) (list_all (λ o. not (awaits_mem o.before.awaits m) || o.moves) older) h
+held_more p st bits a older m h =
+    at (is_none (asked_at st m)) (is_answered p bits m) (not (awaits_mem a.before.awaits m) || a.moves)
+    (list_all (λ o. not (awaits_mem o.before.awaits m) || o.moves) older) h
   where
     at : (n b x y : Bool) → (n || (b && y)) ≡ false → (n || (b && (x && y))) ≡ false
     at true b x y k = absurd (cc k)
@@ -279,10 +292,14 @@ held_more p st bits a older m h = at (is_none (asked_at st m)) (is_answered p bi
 pub held_port : (p : Pipe) (st : State) (bits : List Bool) (older : List Act) (ts : List Thread) (m : ℕ)
     → port_free p st bits older m ≡ false → find_ask (asks_of (acts p st bits older ts)) m ≡ None
 held_port p st bits older [] m h = refl
-held_port p st bits older (t ∷ ts) m h = at (act p st bits older t).moves refl (held_port p st bits (act p st bits older t ∷ older) ts m (held_more p st bits (act p st bits older t) older m h))
+held_port p st bits older (t ∷ ts) m h =
+    at (act p st bits older t).moves refl (held_port p st bits (act p st bits older t ∷ older) ts m (held_more p st bits (act p st bits older t) older m h))
   where
     at : (b : Bool) → (act p st bits older t).moves ≡ b → find_ask (asks_of (acts p st bits (act p st bits older t ∷ older) ts)) m ≡ None
-        → find_ask (cond b ((act p st bits older t).work.asks ++ asks_of (acts p st bits (act p st bits older t ∷ older) ts)) (asks_of (acts p st bits (act p st bits older t ∷ older) ts))) m ≡ None
+        → find_ask
+        (cond b ((act p st bits older t).work.asks ++ asks_of (acts p st bits (act p st bits older t ∷ older) ts))
+        (asks_of (acts p st bits (act p st bits older t ∷ older) ts))) m
+        ≡ None
     at true e k =
         find_append (act p st bits older t).work.asks (asks_of (acts p st bits (act p st bits older t ∷ older) ts)) m
         ∙ ap₂ or_ask (unasked (around p st bits older t.stage) (in_stage t.stage p.stmts) _ m h (and_right _ _ (and_left _ _ (and_left _ _ e)))) k

@@ -30,7 +30,9 @@ youngest_older m k n a (e ∷ es) f h =
     ∙ at (e.mem == m)
     ∙ ap (λ r. cond ((e.mem == m) && (e.address == a)) (as_latest e.value) r) (youngest_older m k n a es f h)
   where
-    at : (b : Bool) → youngest (cond b (own k e ∷ []) []) n a (youngest (pend m k es) n a f) ≡ cond (b && (e.address == a)) (as_latest e.value) (youngest (pend m k es) n a f)
+    at : (b : Bool)
+        → youngest (cond b (own k e ∷ []) []) n a (youngest (pend m k es) n a f)
+        ≡ cond (b && (e.address == a)) (as_latest e.value) (youngest (pend m k es) n a f)
     at true = ap (λ c. cond (c && (e.address == a)) (as_latest e.value) (youngest (pend m k es) n a f)) h
     at false = refl
 
@@ -67,7 +69,9 @@ put_all_front : (m n : ℕ) (ws : List Machine.Written) (xs ys : List Pending) �
 put_all_front m n [] xs ys h = refl
 put_all_front m n (w ∷ ws) xs ys h = at (w.mem == m) (put_all_front m n ws xs (with_value_of n w.value ys) h) (put_all_front m n ws xs ys h)
   where
-    at : (b : Bool) → with_writes_of m n ws (xs ++ with_value_of n w.value ys) ≡ xs ++ with_writes_of m n ws (with_value_of n w.value ys) → with_writes_of m n ws (xs ++ ys) ≡ xs ++ with_writes_of m n ws ys
+    at : (b : Bool)
+        → with_writes_of m n ws (xs ++ with_value_of n w.value ys) ≡ xs ++ with_writes_of m n ws (with_value_of n w.value ys)
+        → with_writes_of m n ws (xs ++ ys) ≡ xs ++ with_writes_of m n ws ys
         → with_writes_of m n ws (cond b (with_value_of n w.value (xs ++ ys)) (xs ++ ys)) ≡ xs ++ with_writes_of m n ws (cond b (with_value_of n w.value ys) ys)
     at true f g = ap (with_writes_of m n ws) (put_append n w.value xs ys ∙ ap (λ l. l ++ with_value_of n w.value ys) (put_foreign n w.value xs h)) ∙ f
     at false f g = g
@@ -77,7 +81,9 @@ put_all_back : (m n : ℕ) (ws : List Machine.Written) (xs ys : List Pending) �
 put_all_back m n [] xs ys h = refl
 put_all_back m n (w ∷ ws) xs ys h = at (w.mem == m) (put_all_back m n ws (with_value_of n w.value xs) ys h) (put_all_back m n ws xs ys h)
   where
-    at : (b : Bool) → with_writes_of m n ws (with_value_of n w.value xs ++ ys) ≡ with_writes_of m n ws (with_value_of n w.value xs) ++ ys → with_writes_of m n ws (xs ++ ys) ≡ with_writes_of m n ws xs ++ ys
+    at : (b : Bool)
+        → with_writes_of m n ws (with_value_of n w.value xs ++ ys) ≡ with_writes_of m n ws (with_value_of n w.value xs) ++ ys
+        → with_writes_of m n ws (xs ++ ys) ≡ with_writes_of m n ws xs ++ ys
         → with_writes_of m n ws (cond b (with_value_of n w.value (xs ++ ys)) (xs ++ ys)) ≡ with_writes_of m n ws (cond b (with_value_of n w.value xs) xs) ++ ys
     at true f g = ap (with_writes_of m n ws) (put_append n w.value xs ys ∙ ap (λ l. with_value_of n w.value xs ++ l) (put_foreign n w.value ys h)) ∙ f
     at false f g = g
@@ -90,7 +96,9 @@ AllForeign (a ∷ ms) ys = Foreign a.thread.number ys × AllForeign ms ys
 filled_back : (m : ℕ) (ms : List Moves.Act) (xs ys : List Pending) → AllForeign ms ys
     → with_all_writes m ms (xs ++ ys) ≡ with_all_writes m ms xs ++ ys
 filled_back m [] xs ys h = refl
-filled_back m (a ∷ ms) xs ys h = ap (with_writes_of m a.thread.number a.does.writes) (filled_back m ms xs ys h.1) ∙ put_all_back m a.thread.number a.does.writes (with_all_writes m ms xs) ys h.0
+filled_back m (a ∷ ms) xs ys h =
+    ap (with_writes_of m a.thread.number a.does.writes) (filled_back m ms xs ys h.1)
+    ∙ put_all_back m a.thread.number a.does.writes (with_all_writes m ms xs) ys h.0
 
 -- movers that reserve nothing of m
 abbrev pub Reserveless : ℕ → List Moves.Act → Type 0
@@ -105,7 +113,8 @@ appended_none m (a ∷ ms) list h = ap₂ (λ x y. x ++ y) (appended_none m ms l
 pub appended_back : (m : ℕ) (ms : List Moves.Act) (xs ys : List Pending)
     → (ys ≡ []) ⊎ Reserveless m ms → with_reserves m ms (xs ++ ys) ≡ with_reserves m ms xs ++ ys
 appended_back m ms xs ys (inl e) =
-    ap (λ l. with_reserves m ms (xs ++ l)) e ∙ ap (with_reserves m ms) (append-nil xs) ∙ sym (append-nil (with_reserves m ms xs)) ∙ ap (λ l. with_reserves m ms xs ++ l) (sym e)
+    ap (λ l. with_reserves m ms (xs ++ l)) e ∙ ap (with_reserves m ms) (append-nil xs)
+    ∙ sym (append-nil (with_reserves m ms xs)) ∙ ap (λ l. with_reserves m ms xs ++ l) (sym e)
 appended_back m ms xs ys (inr h) = appended_none m ms (xs ++ ys) h ∙ ap (λ l. l ++ ys) (sym (appended_none m ms xs h))
 
 -- steps 1 and 2 of one more thread, the youngest
@@ -117,7 +126,9 @@ pub two_moved : (m : ℕ) (a : Moves.Act) (ms : List Moves.Act) (xs ys two : Lis
 two_moved m a ms xs ys two e f g h =
     ap (λ l. with_writes_of m a.thread.number a.does.writes (with_all_writes m ms l))
     (ap (λ l. l ++ new_entries m a.thread.number a.does.reserves) (appended_back m ms xs ys e) ∙ append_assoc (with_reserves m ms xs) ys _)
-    ∙ ap (with_writes_of m a.thread.number a.does.writes) (filled_back m ms (with_reserves m ms xs) (ys ++ new_entries m a.thread.number a.does.reserves) f ∙ ap (λ l. l ++ (ys ++ new_entries m a.thread.number a.does.reserves)) h)
+    ∙ ap (with_writes_of m a.thread.number a.does.writes)
+    (filled_back m ms (with_reserves m ms xs) (ys ++ new_entries m a.thread.number a.does.reserves) f
+    ∙ ap (λ l. l ++ (ys ++ new_entries m a.thread.number a.does.reserves)) h)
     ∙ put_all_front m a.thread.number a.does.writes two (ys ++ new_entries m a.thread.number a.does.reserves) g
 
 -- entries of no mover at the end of a lock's list stay there as movers reserve and write, if none reserves m

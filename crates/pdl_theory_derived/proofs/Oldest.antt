@@ -25,7 +25,8 @@ pick false x y h k = k
 ready_op : (o : Around) (op : Op) (w : Work) → AllTrue o → w.ready ≡ true → (work_after o op w).ready ≡ true
 ready_op o (DelayedRead x m a) w f h = and_from w.ready (o.free m) h (f.free m)
 ready_op o (ReserveWrite m a) w f h = and_from w.ready (o.room m) h (f.room m)
-ready_op o (Block m a) w f h = and_from w.ready _ h (pick (has_entry w.entries m a) _ _ (f.can_write m (slice_index w.env a)) (f.can_read m (slice_index w.env a)))
+ready_op o (Block m a) w f h =
+    and_from w.ready _ h (pick (has_entry w.entries m a) _ _ (f.can_write m (slice_index w.env a)) (f.can_read m (slice_index w.env a)))
 ready_op o (Verify args) w f h = at (same_args (values_of args w.env) w.guess)
   where
     at : (b : Bool) → (cond b w (record w { child = Some (values_of args w.env); fails = true })).ready ≡ true
@@ -52,13 +53,15 @@ answered_at : (p : Pipe) (bits : List Bool) (k : ℕ) (asked : List (Option ℕ)
     → is_answered p bits (k + j) ≡ true
 answered_at p bits k [] j h i = absurd (cc i)
 answered_at p bits k (None ∷ asked) zero h i = absurd (cc i)
-answered_at p bits k (None ∷ asked) (suc j) h i = subst (λ n. is_answered p bits n ≡ true) (suc-add k j ∙ sym (add-suc k j)) (answered_at p bits (suc k) asked j h i)
+answered_at p bits k (None ∷ asked) (suc j) h i =
+    subst (λ n. is_answered p bits n ≡ true) (suc-add k j ∙ sym (add-suc k j)) (answered_at p bits (suc k) asked j h i)
 answered_at p bits k (Some a ∷ asked) zero h i = subst (λ n. is_answered p bits n ≡ true) (omega arith) (bit (is_answered p bits k) h)
   where
     bit : (b : Bool) → (not b || waits_from p bits (suc k) asked) ≡ false → b ≡ true
     bit true g = refl
     bit false g = cc
-answered_at p bits k (Some a ∷ asked) (suc j) h i = subst (λ n. is_answered p bits n ≡ true) (suc-add k j ∙ sym (add-suc k j)) (answered_at p bits (suc k) asked j (rest (is_answered p bits k) h) i)
+answered_at p bits k (Some a ∷ asked) (suc j) h i =
+    subst (λ n. is_answered p bits n ≡ true) (suc-add k j ∙ sym (add-suc k j)) (answered_at p bits (suc k) asked j (rest (is_answered p bits k) h) i)
   where
     rest : (b : Bool) → (not b || waits_from p bits (suc k) asked) ≡ false → waits_from p bits (suc k) asked ≡ false
     rest true g = g

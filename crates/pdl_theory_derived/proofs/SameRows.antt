@@ -67,7 +67,8 @@ trunk_ports : all_true (both_agree one_stage (zeros ∷ []) (idle 6) ∷ both_ag
 unfolding add slice zext complement
 trunk_ports = refl
 
-guess_ports : all_true (both_agree (guess 1) (zeros ∷ []) (idle 12) ∷ both_agree (guess 2) (zeros ∷ []) (idle 12) ∷ both_agree (guess_reserved 2) (zeros ∷ []) (idle 12)
+guess_ports : all_true
+    (both_agree (guess 1) (zeros ∷ []) (idle 12) ∷ both_agree (guess 2) (zeros ∷ []) (idle 12) ∷ both_agree (guess_reserved 2) (zeros ∷ []) (idle 12)
     ∷ both_agree barrier (zeros ∷ []) (idle 6) ∷ both_agree far_barrier (zeros ∷ []) (idle 12) ∷ []) ≡ true
 unfolding add slice zext
 guess_ports = refl
@@ -96,17 +97,27 @@ derived_lines p image schedule = lines (columns p.mems) (derived_cycles (columns
 abbrev prints_alike : Tree.Pipe → List (List ℕ) → List (List Bool) → Bool
 prints_alike p image schedule = bytes_eq (derived_lines p image schedule) (run_lines p image schedule)
 
-trunk_lines : all_true (prints_alike one_stage (zeros ∷ []) (idle 17) ∷ prints_alike (count_queue 4) (zeros ∷ []) (idle 10) ∷ prints_alike (count_bypass 4) (zeros ∷ []) (idle 8) ∷ prints_alike (count_rename 4) (zeros ∷ []) (idle 8) ∷ prints_alike two_stages (zeros ∷ []) (idle 3) ∷ prints_alike (count_queue 1) (zeros ∷ []) (idle 8) ∷ prints_alike under_guard (zeros ∷ []) (idle 4) ∷ [])
+trunk_lines : all_true
+    (prints_alike one_stage (zeros ∷ []) (idle 17) ∷ prints_alike (count_queue 4) (zeros ∷ []) (idle 10)
+    ∷ prints_alike (count_bypass 4) (zeros ∷ []) (idle 8) ∷ prints_alike (count_rename 4) (zeros ∷ []) (idle 8)
+    ∷ prints_alike two_stages (zeros ∷ []) (idle 3) ∷ prints_alike (count_queue 1) (zeros ∷ []) (idle 8)
+    ∷ prints_alike under_guard (zeros ∷ []) (idle 4) ∷ [])
     ≡ true
 unfolding digits add slice zext
 trunk_lines = refl
 
-guess_lines : all_true (prints_alike (guess 1) (zeros ∷ []) (idle 5) ∷ prints_alike (guess 2) (zeros ∷ []) (idle 9) ∷ prints_alike (guess_reserved 2) (zeros ∷ []) (idle 9) ∷ prints_alike barrier (zeros ∷ []) (idle 3) ∷ [])
+guess_lines : all_true
+    (prints_alike (guess 1) (zeros ∷ []) (idle 5) ∷ prints_alike (guess 2) (zeros ∷ []) (idle 9)
+    ∷ prints_alike (guess_reserved 2) (zeros ∷ []) (idle 9) ∷ prints_alike barrier (zeros ∷ []) (idle 3) ∷ [])
     ≡ true
 unfolding digits add slice zext
 guess_lines = refl
 
-delayed_lines : all_true (prints_alike copy copied (bits (0 ∷ 0 ∷ 0 ∷ 1 ∷ 1 ∷ 1 ∷ [])) ∷ prints_alike copy_guessed copied (bits (1 ∷ 1 ∷ 0 ∷ 0 ∷ 1 ∷ 1 ∷ 1 ∷ [])) ∷ prints_alike copy_guessed copied (bits (1 ∷ 1 ∷ 0 ∷ 1 ∷ 1 ∷ 1 ∷ [])) ∷ prints_alike count_slow ((0 ∷ 0 ∷ []) ∷ []) (bits (1 ∷ 1 ∷ 1 ∷ 1 ∷ 1 ∷ 1 ∷ [])) ∷ [])
+delayed_lines : all_true
+    (prints_alike copy copied (bits (0 ∷ 0 ∷ 0 ∷ 1 ∷ 1 ∷ 1 ∷ []))
+    ∷ prints_alike copy_guessed copied (bits (1 ∷ 1 ∷ 0 ∷ 0 ∷ 1 ∷ 1 ∷ 1 ∷ []))
+    ∷ prints_alike copy_guessed copied (bits (1 ∷ 1 ∷ 0 ∷ 1 ∷ 1 ∷ 1 ∷ []))
+    ∷ prints_alike count_slow ((0 ∷ 0 ∷ []) ∷ []) (bits (1 ∷ 1 ∷ 1 ∷ 1 ∷ 1 ∷ 1 ∷ [])) ∷ [])
     ≡ true
 unfolding digits add slice zext
 delayed_lines = refl

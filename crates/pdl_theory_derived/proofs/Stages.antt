@@ -57,8 +57,11 @@ does_joined o (DelayedRead x m a) w v = λ i. record (joined w (work_after o (De
   ready = and_assoc w.ready v.ready (o.free m) i;
 }
 does_joined o (ReserveWrite m a) w v = λ i. record (joined w (work_after o (ReserveWrite m a) v)) { ready = and_assoc w.ready v.ready (o.room m) i }
-does_joined o (Block m a) w v = λ i. record (joined w (work_after o (Block m a) v)) { ready = and_assoc w.ready v.ready (if has_entry v.entries m a then o.can_write m (slice_index v.env a) else o.can_read m (slice_index v.env a)) i }
-does_joined o (Release m a) w v = λ i. record (joined w (work_after o (Release m a) v)) { commits = append_assoc w.commits v.commits (released_commits v.entries m a) i }
+does_joined o (Block m a) w v =
+    λ i. record (joined w (work_after o (Block m a) v))
+    { ready = and_assoc w.ready v.ready (if has_entry v.entries m a then o.can_write m (slice_index v.env a) else o.can_read m (slice_index v.env a)) i }
+does_joined o (Release m a) w v =
+    λ i. record (joined w (work_after o (Release m a) v)) { commits = append_assoc w.commits v.commits (released_commits v.entries m a) i }
 does_joined o (Verify args) w v = verified_joined (same_args (values_of args v.env) v.guess) (values_of args v.env) w v
 does_joined o SpecBarrier w v = λ i. record (joined w (work_after o SpecBarrier v)) { ready = and_assoc w.ready v.ready o.clear i }
 does_joined o _ w v = refl
@@ -132,7 +135,9 @@ does_same o arrays (DelayedRead x m a) w h r = absurd r
 does_same o arrays (ReserveWrite m a) w h r = λ i. record (work_after o (ReserveWrite m a) w) { ready = ready_same w.ready (o.room m) true h refl i }
 does_same o arrays (Block m a) w h r =
     λ i. record w {
-      ready = ready_same w.ready (if has_entry w.entries m a then o.can_write m (slice_index w.env a) else o.can_read m (slice_index w.env a)) (if has_entry w.entries m a then true else true) h (cond_same (has_entry w.entries m a)) i;
+      ready =
+          ready_same w.ready (if has_entry w.entries m a then o.can_write m (slice_index w.env a) else o.can_read m (slice_index w.env a))
+          (if has_entry w.entries m a then true else true) h (cond_same (has_entry w.entries m a)) i;
     }
 does_same o arrays SpecBarrier w h r = λ i. record w { ready = ready_same w.ready o.clear true h refl i }
 does_same o arrays _ w h r = refl

@@ -15,7 +15,8 @@ pub row_committed : (m : ℕ) (cs : List Commit) (arrays : Arrays) → row (afte
 row_committed m [] arrays = refl
 row_committed m (c ∷ cs) arrays = row_committed m cs (with_word arrays c.mem c.address c.value) ∙ at (c.mem == m) refl
   where
-    at : (b : Bool) → (c.mem == m) ≡ b → wrote (row (with_word arrays c.mem c.address c.value) m) (of_mem m cs) ≡ wrote (row arrays m) (cond b (c ∷ of_mem m cs) (of_mem m cs))
+    at : (b : Bool) → (c.mem == m) ≡ b
+        → wrote (row (with_word arrays c.mem c.address c.value) m) (of_mem m cs) ≡ wrote (row arrays m) (cond b (c ∷ of_mem m cs) (of_mem m cs))
     at true e = ap (λ w. wrote w (of_mem m cs)) (here (eqb-true c.mem m e))
       where
         here : c.mem ≡ m → row (with_word arrays c.mem c.address c.value) m ≡ with_value (row arrays m) c.address c.value

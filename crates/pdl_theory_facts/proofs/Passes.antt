@@ -33,7 +33,9 @@ pub record Parts (p : Pipe) : Type 0 where
 -- what is tested of a path's reads
 reads_of : (p : Pipe) (xs : List Stmt) → path_passes p xs ≡ true → reads_ok p no_scan xs ≡ true
 reads_of p xs ok =
-    and_left _ _ (and_right (list_all (λ x. knows_memory (length p.mems) x.op) xs) _ (and_right (list_all (λ x. nat_lt x.stage (length p.stages)) xs) _ (and_right (in_text_order 0 xs) _ ok)))
+    and_left _ _
+    (and_right (list_all (λ x. knows_memory (length p.mems) x.op) xs) _
+    (and_right (list_all (λ x. nat_lt x.stage (length p.stages)) xs) _ (and_right (in_text_order 0 xs) _ ok)))
 
 each_passes : (p : Pipe)
     → on_paths (guard_vars p.stmts) (path_passes p) p.stmts ≡ true → (path : List ℕ)
@@ -49,15 +51,22 @@ module _ (p : Pipe) (h : Parts p) where
 
   -- LOCKS
   lock_ok : (m : ℕ) → m < length p.mems → lock_passes p m ≡ true
-  lock_ok m low = below_at (lock_passes p) (length p.mems) m (and_right (nat_le (length p.releases_at) (length p.mems)) _ (and_right (nat_le (length p.reserves_at) (length p.mems)) _ locks_ok)) low
+  lock_ok m low =
+      below_at (lock_passes p)
+      (length p.mems) m (and_right (nat_le (length p.releases_at) (length p.mems)) _ (and_right (nat_le (length p.reserves_at) (length p.mems)) _ locks_ok)) low
 
   pub reserve_past : (m : ℕ) → length p.mems ≤ m → reserve_stage p m ≡ 0
-  reserve_past m past = ap (λ o. unwrap_or o 0) (past_end p.reserves_at m None (let i : length p.reserves_at ≤ length p.mems = leb-true _ _ (and_left (nat_le (length p.reserves_at) (length p.mems)) _ locks_ok) in omega arith))
+  reserve_past m past =
+      ap (λ o. unwrap_or o 0)
+      (past_end p.reserves_at m None
+      (let i : length p.reserves_at ≤ length p.mems = leb-true _ _ (and_left (nat_le (length p.reserves_at) (length p.mems)) _ locks_ok) in omega arith))
 
   pub commit_past : (m : ℕ) → length p.mems ≤ m → commit_stage p m ≡ length p.stages
   commit_past m past =
       ap (λ o. unwrap_or o (length p.stages)) (past_end p.releases_at m None
-      (let i : length p.releases_at ≤ length p.mems = leb-true _ _ (and_left (nat_le (length p.releases_at) (length p.mems)) _ (and_right (nat_le (length p.reserves_at) (length p.mems)) _ locks_ok)) in omega arith))
+      (let i : length p.releases_at ≤ length p.mems = leb-true _ _
+      (and_left (nat_le (length p.releases_at) (length p.mems)) _ (and_right (nat_le (length p.reserves_at) (length p.mems)) _ locks_ok)) in
+      omega arith))
 
   pub locks : (m : ℕ) → has_room (mem_at p m).lock 0 ≡ true
   locks m =
@@ -65,11 +74,17 @@ module _ (p : Pipe) (h : Parts p) where
       (λ past. ap (λ (x : Mem). has_room x.lock 0) (past_end p.mems m plain_mem past))
 
   -- the tests of a lock after the first one
-  lock_rest : (m : ℕ) → m < length p.mems → (all_at (is_reserve m) (reserve_stage p m) p.stmts && (all_at (is_release m) (commit_stage p m) p.stmts && (not (is_plain (mem_at p m).lock) || ((reserve_stage p m == 0) && (commit_stage p m == length p.stages))))) ≡ true
+  lock_rest : (m : ℕ) → m < length p.mems
+      → (all_at (is_reserve m) (reserve_stage p m) p.stmts
+      && (all_at (is_release m) (commit_stage p m) p.stmts
+      && (not (is_plain (mem_at p m).lock) || ((reserve_stage p m == 0) && (commit_stage p m == length p.stages)))))
+      ≡ true
   lock_rest m low = and_right (has_room (mem_at p m).lock 0) _ (lock_ok m low)
 
   plain_at : (m : ℕ) → m < length p.mems → is_plain (mem_at p m).lock ≡ true → ((reserve_stage p m == 0) && (commit_stage p m == length p.stages)) ≡ true
-  plain_at m low e = where_true (is_plain (mem_at p m).lock) _ (and_right (all_at (is_release m) (commit_stage p m) p.stmts) _ (and_right (all_at (is_reserve m) (reserve_stage p m) p.stmts) _ (lock_rest m low))) e
+  plain_at m low e =
+      where_true (is_plain (mem_at p m).lock) _
+      (and_right (all_at (is_release m) (commit_stage p m) p.stmts) _ (and_right (all_at (is_reserve m) (reserve_stage p m) p.stmts) _ (lock_rest m low))) e
 
   pub plain_from : (m : ℕ) → is_plain (mem_at p m).lock ≡ true → reserve_stage p m ≡ 0
   plain_from m e =
@@ -113,10 +128,21 @@ module _ (p : Pipe) (h : Parts p) where
     path_order : in_text_order 0 (onpath path p.stmts) ≡ true
     path_order = and_left _ _ ok
 
-    after_order : (list_all (λ x. nat_lt x.stage (length p.stages)) xs && (list_all (λ x. knows_memory (length p.mems) x.op) xs && (reads_ok p no_scan xs && (all_below (mem_passes p xs) (length p.mems) && (makings_ok (verify_stage p.stmts) Unmade xs && (is_made (making_all Unmade xs) && all_sure (verify_stage p.stmts) false no_scan xs)))))) ≡ true
+    after_order :
+        (list_all (λ x. nat_lt x.stage (length p.stages)) xs
+        && (list_all (λ x. knows_memory (length p.mems) x.op) xs
+        && (reads_ok p no_scan xs
+        && (all_below (mem_passes p xs) (length p.mems)
+        && (makings_ok (verify_stage p.stmts) Unmade xs && (is_made (making_all Unmade xs) && all_sure (verify_stage p.stmts) false no_scan xs))))))
+        ≡ true
     after_order = and_right (in_text_order 0 xs) _ ok
 
-    after_stages : (list_all (λ x. knows_memory (length p.mems) x.op) xs && (reads_ok p no_scan xs && (all_below (mem_passes p xs) (length p.mems) && (makings_ok (verify_stage p.stmts) Unmade xs && (is_made (making_all Unmade xs) && all_sure (verify_stage p.stmts) false no_scan xs))))) ≡ true
+    after_stages :
+        (list_all (λ x. knows_memory (length p.mems) x.op) xs
+        && (reads_ok p no_scan xs
+        && (all_below (mem_passes p xs) (length p.mems)
+        && (makings_ok (verify_stage p.stmts) Unmade xs && (is_made (making_all Unmade xs) && all_sure (verify_stage p.stmts) false no_scan xs)))))
+        ≡ true
     after_stages = and_right (list_all (λ x. nat_lt x.stage (length p.stages)) xs) _ after_order
 
     path_known : list_all (λ x. knows_memory (length p.mems) x.op) (onpath path p.stmts) ≡ true
@@ -125,7 +151,10 @@ module _ (p : Pipe) (h : Parts p) where
     path_reads : reads_ok p no_scan (onpath path p.stmts) ≡ true
     path_reads = reads_of p (onpath path p.stmts) ok
 
-    after_reads : (all_below (mem_passes p xs) (length p.mems) && (makings_ok (verify_stage p.stmts) Unmade xs && (is_made (making_all Unmade xs) && all_sure (verify_stage p.stmts) false no_scan xs))) ≡ true
+    after_reads :
+        (all_below (mem_passes p xs) (length p.mems)
+        && (makings_ok (verify_stage p.stmts) Unmade xs && (is_made (making_all Unmade xs) && all_sure (verify_stage p.stmts) false no_scan xs)))
+        ≡ true
     after_reads = and_right (reads_ok p no_scan xs) _ (and_right (list_all (λ x. knows_memory (length p.mems) x.op) xs) _ after_stages)
 
     path_unfetched : none_of is_fetch (onpath path p.stmts) ≡ true
@@ -150,7 +179,10 @@ module _ (p : Pipe) (h : Parts p) where
         (λ past. ap is_over (stays_fresh p m (length p.mems) no_scan (onpath path p.stmts) path_known path_reads past).1)
 
     -- a memory's tests after the phases
-    mem_rest : (m : ℕ) → m < length p.mems → (all_at (is_reserve m) (reserve_stage p m) xs && (all_at (is_release m) (commit_stage p m) xs && (not (is_plain (mem_at p m).lock) || none_of (is_release m) xs))) ≡ true
+    mem_rest : (m : ℕ) → m < length p.mems
+        → (all_at (is_reserve m) (reserve_stage p m) xs
+        && (all_at (is_release m) (commit_stage p m) xs && (not (is_plain (mem_at p m).lock) || none_of (is_release m) xs)))
+        ≡ true
     mem_rest m low = and_right (is_over (phase_all m Fresh xs)) _ (and_right (phases_ok m Fresh xs) _ (mem_ok m low))
 
     path_reserves : (m : ℕ) → all_at (is_reserve m) (reserve_stage p m) (onpath path p.stmts) ≡ true
@@ -168,7 +200,8 @@ module _ (p : Pipe) (h : Parts p) where
     path_plain : (m : ℕ) → is_plain (mem_at p m).lock ≡ true → none_of (is_release m) (onpath path p.stmts) ≡ true
     path_plain m e =
         by_bound (length p.mems) m (none_of (is_release m) (onpath path p.stmts) ≡ true)
-        (λ low. where_true (is_plain (mem_at p m).lock) _ (and_right (all_at (is_release m) (commit_stage p m) xs) _ (and_right (all_at (is_reserve m) (reserve_stage p m) xs) _ (mem_rest m low))) e)
+        (λ low. where_true (is_plain (mem_at p m).lock) _
+        (and_right (all_at (is_release m) (commit_stage p m) xs) _ (and_right (all_at (is_reserve m) (reserve_stage p m) xs) _ (mem_rest m low))) e)
         (λ past. no_release m _ (onpath path p.stmts) path_known past)
 
     after_mems : (makings_ok (verify_stage p.stmts) Unmade xs && (is_made (making_all Unmade xs) && all_sure (verify_stage p.stmts) false no_scan xs)) ≡ true
@@ -195,7 +228,9 @@ module _ (p : Pipe) (h : Parts p) where
           plain = path_plain;
           plain_from = plain_from;
           plain_to = plain_to;
-          reads = λ s. reads_first p no_scan (before s (onpath path p.stmts)) (stages_from s (onpath path p.stmts)) (subst (λ ys. reads_ok p no_scan ys ≡ true) (path_whole s) path_reads);
+          reads =
+              λ s. reads_first p no_scan (before s (onpath path p.stmts)) (stages_from s (onpath path p.stmts))
+              (subst (λ ys. reads_ok p no_scan ys ≡ true) (path_whole s) path_reads);
           phases = path_phases;
           over = path_over;
           reserves = path_reserves;
@@ -227,16 +262,34 @@ module _ (p : Pipe) (h : paths_pass p ≡ true) where
   text_ok : text_passes p ≡ true
   text_ok = and_left (text_passes p) _ after_locks
 
-  after_known : (none_of is_fetch p.stmts && (is_below (length p.stages) (verify_stage p.stmts) && (is_fixed p.stmts && (list_all (λ x. nat_lt x.stage (length p.stages)) p.stmts && all_below (λ s. is_fixed (before s p.stmts ++ (in_stage s p.stmts ++ stages_from (suc s) p.stmts))) (length p.stages))))) ≡ true
+  after_known :
+      (none_of is_fetch p.stmts
+      && (is_below (length p.stages) (verify_stage p.stmts)
+      && (is_fixed p.stmts
+      && (list_all (λ x. nat_lt x.stage (length p.stages)) p.stmts
+      && all_below (λ s. is_fixed (before s p.stmts ++ (in_stage s p.stmts ++ stages_from (suc s) p.stmts))) (length p.stages)))))
+      ≡ true
   after_known = and_right (list_all (λ x. knows_memory (length p.mems) x.op) p.stmts) _ text_ok
 
-  after_fetch : (is_below (length p.stages) (verify_stage p.stmts) && (is_fixed p.stmts && (list_all (λ x. nat_lt x.stage (length p.stages)) p.stmts && all_below (λ s. is_fixed (before s p.stmts ++ (in_stage s p.stmts ++ stages_from (suc s) p.stmts))) (length p.stages)))) ≡ true
+  after_fetch :
+      (is_below (length p.stages) (verify_stage p.stmts)
+      && (is_fixed p.stmts
+      && (list_all (λ x. nat_lt x.stage (length p.stages)) p.stmts
+      && all_below (λ s. is_fixed (before s p.stmts ++ (in_stage s p.stmts ++ stages_from (suc s) p.stmts))) (length p.stages))))
+      ≡ true
   after_fetch = and_right (none_of is_fetch p.stmts) _ after_known
 
-  after_below : (is_fixed p.stmts && (list_all (λ x. nat_lt x.stage (length p.stages)) p.stmts && all_below (λ s. is_fixed (before s p.stmts ++ (in_stage s p.stmts ++ stages_from (suc s) p.stmts))) (length p.stages))) ≡ true
+  after_below :
+      (is_fixed p.stmts
+      && (list_all (λ x. nat_lt x.stage (length p.stages)) p.stmts
+      && all_below (λ s. is_fixed (before s p.stmts ++ (in_stage s p.stmts ++ stages_from (suc s) p.stmts))) (length p.stages)))
+      ≡ true
   after_below = and_right (is_below (length p.stages) (verify_stage p.stmts)) _ after_fetch
 
-  after_fixed : (list_all (λ x. nat_lt x.stage (length p.stages)) p.stmts && all_below (λ s. is_fixed (before s p.stmts ++ (in_stage s p.stmts ++ stages_from (suc s) p.stmts))) (length p.stages)) ≡ true
+  after_fixed :
+      (list_all (λ x. nat_lt x.stage (length p.stages)) p.stmts
+      && all_below (λ s. is_fixed (before s p.stmts ++ (in_stage s p.stmts ++ stages_from (suc s) p.stmts))) (length p.stages))
+      ≡ true
   after_fixed = and_right (is_fixed p.stmts) _ after_below
 
   pub parts_paths : Parts p
@@ -251,7 +304,9 @@ module _ (p : Pipe) (h : paths_pass p ≡ true) where
       }
 
   -- past the last stage there is nothing more
-  none_left : (s : ℕ) (xs : List Stmt) → length p.stages ≤ s → list_all (λ x. nat_lt x.stage (length p.stages)) xs ≡ true → (in_stage s xs ≡ []) × (stages_from (suc s) xs ≡ [])
+  none_left : (s : ℕ) (xs : List Stmt) → length p.stages ≤ s
+      → list_all (λ x. nat_lt x.stage (length p.stages)) xs ≡ true
+      → (in_stage s xs ≡ []) × (stages_from (suc s) xs ≡ [])
   none_left s [] low k = (refl, refl)
   none_left s (x ∷ xs) low k =
       let i : x.stage < length p.stages = ltb-true _ _ (and_left (nat_lt x.stage (length p.stages)) _ k) in
@@ -264,21 +319,28 @@ module _ (p : Pipe) (h : paths_pass p ≡ true) where
       late true e i = absurd (let j : suc s ≤ x.stage = leb-true _ _ e in omega arith)
       late false e i = e
 
-  whole_before : (s : ℕ) (xs : List Stmt) → length p.stages ≤ s → list_all (λ x. nat_lt x.stage (length p.stages)) xs ≡ true → none_of is_fetch xs ≡ true → before s xs ≡ xs
+  whole_before : (s : ℕ) (xs : List Stmt) → length p.stages ≤ s
+      → list_all (λ x. nat_lt x.stage (length p.stages)) xs ≡ true → none_of is_fetch xs ≡ true → before s xs ≡ xs
   whole_before s xs low k f = whole s xs (longer xs k) f
     where
       longer : (ys : List Stmt) → list_all (λ x. nat_lt x.stage (length p.stages)) ys ≡ true → list_all (λ x. nat_lt x.stage s) ys ≡ true
       longer [] i = refl
       longer (y ∷ ys) i =
-          ap₂ (λ a b. a && b) (lt-ltb y.stage s (let j : y.stage < length p.stages = ltb-true _ _ (and_left (nat_lt y.stage (length p.stages)) _ i) in omega arith)) (longer ys (and_right (nat_lt y.stage (length p.stages)) _ i))
+          ap₂ (λ a b. a && b)
+          (lt-ltb y.stage s (let j : y.stage < length p.stages = ltb-true _ _ (and_left (nat_lt y.stage (length p.stages)) _ i) in omega arith))
+          (longer ys (and_right (nat_lt y.stage (length p.stages)) _ i))
 
   fixed_each : (s : ℕ) → is_fixed (before s p.stmts ++ (in_stage s p.stmts ++ stages_from (suc s) p.stmts)) ≡ true
   fixed_each s =
       by_bound (length p.stages) s _
-      (λ low. below_at (λ s. is_fixed (before s p.stmts ++ (in_stage s p.stmts ++ stages_from (suc s) p.stmts))) (length p.stages) s (and_right (list_all (λ x. nat_lt x.stage (length p.stages)) p.stmts) _ after_fixed) low)
+      (λ low. below_at (λ s. is_fixed (before s p.stmts ++ (in_stage s p.stmts ++ stages_from (suc s) p.stmts)))
+      (length p.stages) s (and_right (list_all (λ x. nat_lt x.stage (length p.stages)) p.stmts) _ after_fixed) low)
       (λ past.
       let n = none_left s p.stmts past (and_left (list_all (λ x. nat_lt x.stage (length p.stages)) p.stmts) _ after_fixed) in
-      ap₂ (λ k l. is_fixed (k ++ l)) (whole_before s p.stmts past (and_left (list_all (λ x. nat_lt x.stage (length p.stages)) p.stmts) _ after_fixed) (and_left (none_of is_fetch p.stmts) _ after_known)) (ap₂ (λ k l. k ++ l) n.0 n.1)
+      ap₂ (λ k l. is_fixed (k ++ l))
+      (whole_before s p.stmts past (and_left (list_all (λ x. nat_lt x.stage (length p.stages)) p.stmts) _ after_fixed)
+      (and_left (none_of is_fetch p.stmts) _ after_known))
+      (ap₂ (λ k l. k ++ l) n.0 n.1)
       ∙ ap is_fixed (append-nil p.stmts) ∙ and_left (is_fixed p.stmts) _ after_below)
 
   pub pathwise_paths : Pathwise p

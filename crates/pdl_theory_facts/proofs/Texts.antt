@@ -64,7 +64,8 @@ pieces s l [] h f = refl
 pieces s l (x ∷ xs) h f = at (nat_lt x.stage (suc s)) (nat_lt x.stage s) (x.stage == s) refl refl refl (pieces s x.stage xs (and_right _ _ h) (and_right _ _ f))
   where
     at : (a b c : Bool) → nat_lt x.stage (suc s) ≡ a → nat_lt x.stage s ≡ b → (x.stage == s) ≡ c → before (suc s) xs ≡ before s xs ++ in_stage s xs
-        → cond a (record x { op = answered_op x.op } ∷ before (suc s) xs) (before (suc s) xs) ≡ cond b (record x { op = answered_op x.op } ∷ before s xs) (before s xs) ++ cond c (x ∷ in_stage s xs) (in_stage s xs)
+        → cond a (record x { op = answered_op x.op } ∷ before (suc s) xs) (before (suc s) xs)
+        ≡ cond b (record x { op = answered_op x.op } ∷ before s xs) (before s xs) ++ cond c (x ∷ in_stage s xs) (in_stage s xs)
     at true true true e g i k = absurd (let j = eqb-true x.stage s i in let l : x.stage < s = ltb-true _ _ g in omega arith)
     at true true false e g i k = ap (λ ys. record x { op = answered_op x.op } ∷ ys) k
     at true false true e g i k =
@@ -84,10 +85,12 @@ pub ordered : (s l : ℕ) (xs : List Stmt) → in_text_order l xs ≡ true → n
 ordered s l [] h f = refl
 ordered s l (x ∷ xs) h f = at (nat_lt x.stage s) refl (ordered s x.stage xs (and_right _ _ h) (and_right _ _ f))
   where
-    at : (b : Bool) → nat_lt x.stage s ≡ b → xs ≡ before s xs ++ stages_from s xs → x ∷ xs ≡ cond b (record x { op = answered_op x.op } ∷ before s xs) (before s xs) ++ stages_from s (x ∷ xs)
+    at : (b : Bool) → nat_lt x.stage s ≡ b → xs ≡ before s xs ++ stages_from s xs
+        → x ∷ xs ≡ cond b (record x { op = answered_op x.op } ∷ before s xs) (before s xs) ++ stages_from s (x ∷ xs)
     at true e k =
         ap₂ (λ op ys. record x { op = op } ∷ ys) (sym (looked_same x.op (and_left _ _ f))) k
-        ∙ ap (λ c. record x { op = answered_op x.op } ∷ (before s xs ++ cond c (x ∷ stages_from s xs) (stages_from s xs))) (sym (lt-leb s x.stage (ltb-true _ _ e)))
+        ∙ ap (λ c. record x { op = answered_op x.op } ∷ (before s xs ++ cond c (x ∷ stages_from s xs) (stages_from s xs)))
+        (sym (lt-leb s x.stage (ltb-true _ _ e)))
     at false e k =
         let none : before s xs ≡ [] = none_before s x.stage xs (and_right _ _ h) (ltb-false _ _ e) in
         ap (λ ys. x ∷ ys) (k ∙ ap (λ ys. ys ++ stages_from s xs) none)
@@ -106,7 +109,8 @@ whole k (x ∷ xs) h f =
 -- the reads in a first part of statements are in order where those in all of them are
 pub reads_first : (p : Pipe) (c : Scan) (xs ys : List Stmt) → reads_ok p c (xs ++ ys) ≡ true → reads_ok p c xs ≡ true
 reads_first p c [] ys h = refl
-reads_first p c (x ∷ xs) ys h = and_from _ _ (and_left (no_guards x.guards && op_ok p x.stage c x.op) _ h) (reads_first p (scan_after x.op c) xs ys (and_right _ _ h))
+reads_first p c (x ∷ xs) ys h =
+    and_from _ _ (and_left (no_guards x.guards && op_ok p x.stage c x.op) _ h) (reads_first p (scan_after x.op c) xs ys (and_right _ _ h))
 
 -- no read is delayed in statements whose reads are in order
 pub no_fetch : (p : Pipe) (c : Scan) (xs : List Stmt) → reads_ok p c xs ≡ true → none_of is_fetch xs ≡ true
@@ -186,7 +190,8 @@ stays_fresh p m n c [] h k low = (refl, refl)
 stays_fresh p m n c (x ∷ xs) h k low =
     let ok = and_left (no_guards x.guards && op_ok p x.stage c x.op) _ k in
     let here = fresh_op p x.stage m n c x.op (and_left (knows_memory n x.op) _ h) (and_right (no_guards x.guards) _ ok) low in
-    let rest = stays_fresh p m n (scan_after x.op c) xs (and_right (knows_memory n x.op) _ h) (and_right (no_guards x.guards && op_ok p x.stage c x.op) _ k) low in (
+    let rest =
+    stays_fresh p m n (scan_after x.op c) xs (and_right (knows_memory n x.op) _ h) (and_right (no_guards x.guards && op_ok p x.stage c x.op) _ k) low in (
       and_from _ _ (and_from _ _ (and_left (no_guards x.guards) _ ok) here.0) (subst (λ ph. phases_ok m ph xs ≡ true) (sym here.1) rest.0),
       ap (λ ph. phase_all m ph xs) here.1 ∙ rest.1,
     )
@@ -216,11 +221,14 @@ taken_split g b (h ∷ hs) env e = at (h.var == g) refl (taken_split g b hs env 
     assoc false y z = refl
 
     at : (c : Bool) → (h.var == g) ≡ c → all_hold hs env ≡ (agrees_with g b hs && all_hold (without g hs) env)
-        → (takes_branch h.first (slice_index env h.var) && all_hold hs env) ≡ (((not c || alike h.first b) && agrees_with g b hs) && all_hold (cond c (without g hs) (h ∷ without g hs)) env)
+        → (takes_branch h.first (slice_index env h.var) && all_hold hs env)
+        ≡ (((not c || alike h.first b) && agrees_with g b hs) && all_hold (cond c (without g hs) (h ∷ without g hs)) env)
     at true i k =
         ap₂ (λ x y. x && y) (side_alike h.first b (slice_index env h.var) (ap (λ n. slice_index env n == 1) (eqb-true h.var g i) ∙ e)) k
         ∙ assoc (alike h.first b) (agrees_with g b hs) (all_hold (without g hs) env)
-    at false i k = ap (λ y. takes_branch h.first (slice_index env h.var) && y) k ∙ swap (takes_branch h.first (slice_index env h.var)) (agrees_with g b hs) (all_hold (without g hs) env)
+    at false i k =
+        ap (λ y. takes_branch h.first (slice_index env h.var) && y) k
+        ∙ swap (takes_branch h.first (slice_index env h.var)) (agrees_with g b hs) (all_hold (without g hs) env)
 
 chosen : (g : ℕ) (b : Bool) (xs : List Stmt) (env : List ℕ) → (slice_index env g == 1) ≡ b → onpath env xs ≡ onpath env (choose g b xs)
 chosen g b [] env e = refl
@@ -229,7 +237,8 @@ chosen g b (x ∷ xs) env e =
     ∙ at (agrees_with g b x.guards) (chosen g b xs env e)
   where
     at : (c : Bool) → onpath env xs ≡ onpath env (choose g b xs)
-        → cond (c && all_hold (without g x.guards) env) (record x { guards = [] } ∷ onpath env xs) (onpath env xs) ≡ onpath env (cond c (record x { guards = without g x.guards } ∷ choose g b xs) (choose g b xs))
+        → cond (c && all_hold (without g x.guards) env) (record x { guards = [] } ∷ onpath env xs) (onpath env xs)
+        ≡ onpath env (cond c (record x { guards = without g x.guards } ∷ choose g b xs) (choose g b xs))
     at true k = ap (λ ys. cond (all_hold (without g x.guards) env) (record x { guards = [] } ∷ ys) ys) k
     at false k = k
 
@@ -242,7 +251,8 @@ unguarded p c [] env h = refl
 unguarded p c (x ∷ xs) env h =
     let none : x.guards ≡ [] = no_guard x.guards (and_left (no_guards x.guards) _ (and_left (no_guards x.guards && op_ok p x.stage c x.op) _ h)) in
     ap (λ gs. cond (all_hold gs env) (record x { guards = [] } ∷ onpath env xs) (onpath env xs)) none
-    ∙ ap₂ (λ gs ys. record x { guards = gs } ∷ ys) (sym none) (unguarded p (scan_after x.op c) xs env (and_right (no_guards x.guards && op_ok p x.stage c x.op) _ h))
+    ∙ ap₂ (λ gs ys. record x { guards = gs } ∷ ys) (sym none)
+    (unguarded p (scan_after x.op c) xs env (and_right (no_guards x.guards && op_ok p x.stage c x.op) _ h))
 
 -- what holds on all paths that are tried holds on each path
 pub on_each_path : (p : Pipe) (c : Scan) (gs : List ℕ) (test : List Stmt → Bool) (xs : List Stmt) (env : List ℕ)
@@ -254,6 +264,7 @@ on_each_path p c (g ∷ gs) test xs env f h =
     (on_each_path p c gs test (choose g true xs) env f (and_left (on_paths gs test (choose g true xs)) _ h))
     (on_each_path p c gs test (choose g false xs) env f (and_right (on_paths gs test (choose g true xs)) _ h))
   where
-    at : (b : Bool) → (slice_index env g == 1) ≡ b → test (onpath env (choose g true xs)) ≡ true → test (onpath env (choose g false xs)) ≡ true → test (onpath env xs) ≡ true
+    at : (b : Bool) → (slice_index env g == 1) ≡ b → test (onpath env (choose g true xs)) ≡ true
+        → test (onpath env (choose g false xs)) ≡ true → test (onpath env xs) ≡ true
     at true e k l = subst (λ ys. test ys ≡ true) (sym (chosen g true xs env e)) k
     at false e k l = subst (λ ys. test ys ≡ true) (sym (chosen g false xs env e)) l

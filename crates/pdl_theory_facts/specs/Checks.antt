@@ -83,7 +83,9 @@ path_passes p xs =
     in_text_order 0 xs
     && (list_all (λ x. nat_lt x.stage (length p.stages)) xs
     && (list_all (λ x. knows_memory (length p.mems) x.op) xs
-    && (reads_ok p no_scan xs && (all_below (mem_passes p xs) (length p.mems) && (makings_ok (verify_stage p.stmts) Unmade xs && (is_made (making_all Unmade xs) && all_sure (verify_stage p.stmts) false no_scan xs))))))
+    && (reads_ok p no_scan xs
+    && (all_below (mem_passes p xs) (length p.mems)
+    && (makings_ok (verify_stage p.stmts) Unmade xs && (is_made (making_all Unmade xs) && all_sure (verify_stage p.stmts) false no_scan xs))))))
 
 -- THE TEXT
 
@@ -112,7 +114,8 @@ text_passes p =
     && (none_of is_fetch p.stmts
     && (is_below (length p.stages) (verify_stage p.stmts)
     && (is_fixed p.stmts
-    && (list_all (λ x. nat_lt x.stage (length p.stages)) p.stmts && all_below (λ s. is_fixed (before s p.stmts ++ (in_stage s p.stmts ++ stages_from (suc s) p.stmts))) (length p.stages)))))
+    && (list_all (λ x. nat_lt x.stage (length p.stages)) p.stmts
+    && all_below (λ s. is_fixed (before s p.stmts ++ (in_stage s p.stmts ++ stages_from (suc s) p.stmts))) (length p.stages)))))
 
 -- the locks, the text and the statements of each path pass their tests, and there is a stage
 abbrev pub paths_pass : Pipe → Bool

@@ -191,7 +191,8 @@ pub record Sound (p : Pipe) : Type 0 where
   -- N2, N3: the definition of a guard's variable stands before each use of a path, a delayed read's before the separator before it
   pub guards_late : list_all (λ z. is_dead z.guards || late_for z p.stmts) p.stmts ≡ true
   -- part C: a path has no statement in the stages that it passes over
-  pub skips : (path : List ℕ) (s : ℕ) → s < length p.stages → visits_stage p path s ≡ true → before (next_of p s path) (onpath path p.stmts) ≡ before (suc s) (onpath path p.stmts)
+  pub skips : (path : List ℕ) (s : ℕ) → s < length p.stages → visits_stage p path s ≡ true
+      → before (next_of p s path) (onpath path p.stmts) ≡ before (suc s) (onpath path p.stmts)
   -- N2, N3: a fork's variable is bound before its stage ends, and read at once
   pub fork_bound : (s x a b : ℕ) → (stage_at p s).next ≡ Forks x a b → none_of (binds_var x) (stages_from (suc s) p.stmts) ≡ true
   pub fork_known : (s x a b : ℕ) → (stage_at p s).next ≡ Forks x a b → x < p.vars
@@ -200,7 +201,8 @@ pub record Sound (p : Pipe) : Type 0 where
   pub fetch : ℕ → ℕ
   pub fetch_ok : (s : ℕ) → AllFetches p fetch s (in_stage s p.stmts)
   -- N3: what a stage reads delayed decides no guard on a path before the stage where it is bound
-  pub fetch_blind : (s : ℕ) (env env' : List ℕ) → DifferIn (in_stage s p.stmts) env env' → onpath env' (before (next_of p s env) p.stmts) ≡ onpath env (before (next_of p s env) p.stmts)
+  pub fetch_blind : (s : ℕ) (env env' : List ℕ) → DifferIn (in_stage s p.stmts) env env'
+      → onpath env' (before (next_of p s env) p.stmts) ≡ onpath env (before (next_of p s env) p.stmts)
   pub fetch_unseen : (s : ℕ) → is_unseen (in_stage s p.stmts) ≡ true
   pub fetch_alone : (s : ℕ) → fetch_apart (in_stage s p.stmts) ≡ true
   -- F3: none stands in the last stage

@@ -172,7 +172,8 @@ unfetched_guards ys (g ∷ gs) = if none_of (is_fetch_of g.var) ys then g ∷ un
 -- a path takes none of these statements that has another guard, whatever the values of those variables
 abbrev pub none_hangs : List ℕ → List Stmt → List Stmt → Bool
 none_hangs path ys [] = true
-none_hangs path ys (z ∷ zs) = (list_all (λ g. none_of (is_fetch_of g.var) ys) z.guards || not (all_hold (unfetched_guards ys z.guards) path)) && none_hangs path ys zs
+none_hangs path ys (z ∷ zs) =
+    (list_all (λ g. none_of (is_fetch_of g.var) ys) z.guards || not (all_hold (unfetched_guards ys z.guards) path)) && none_hangs path ys zs
 
 -- what a stage reads delayed decides no guard on this path before the path's next stage
 abbrev pub blind_passes : Pipe → List ℕ → Bool

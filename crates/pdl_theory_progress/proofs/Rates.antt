@@ -29,8 +29,10 @@ picked_most : (p : Pipe) (path : List ℕ) (xs e : List ℕ) → stages_on p (pi
 picked_most p path [] e = le_refl _
 picked_most p path (x ∷ xs) e = at (slice_index path x == 1) (picked_most p path xs (slice_set e x 0)) (picked_most p path xs (slice_set e x 1))
   where
-    at : (b : Bool) → stages_on p (picks path xs (slice_set e x 0)) (length p.stages) 0 ≤ longest p (slice_set e x 0) xs → stages_on p (picks path xs (slice_set e x 1)) (length p.stages) 0 ≤ longest p (slice_set e x 1) xs
-        → stages_on p (picks path xs (slice_set e x (if b then 1 else 0))) (length p.stages) 0 ≤ max (longest p (slice_set e x 0) xs) (longest p (slice_set e x 1) xs)
+    at : (b : Bool) → stages_on p (picks path xs (slice_set e x 0)) (length p.stages) 0 ≤ longest p (slice_set e x 0) xs
+        → stages_on p (picks path xs (slice_set e x 1)) (length p.stages) 0 ≤ longest p (slice_set e x 1) xs
+        → stages_on p (picks path xs (slice_set e x (if b then 1 else 0)))
+        (length p.stages) 0 ≤ max (longest p (slice_set e x 0) xs) (longest p (slice_set e x 1) xs)
     at true f g = omega arith
     at false f g = omega arith
 
@@ -56,7 +58,10 @@ unpicked path (y ∷ ys) e x h =
 pub picked : (path xs e : List ℕ) (x : ℕ)
     → x < length e → among x xs ≡ true → (slice_index (picks path xs e) x == 1) ≡ (slice_index path x == 1)
 picked path [] e x low h = absurd (cc h)
-picked path (y ∷ ys) e x low h = at (among x ys) refl (y == x) refl h (picked path ys (slice_set e y (if slice_index path y == 1 then 1 else 0)) x (subst (λ n. x < n) (sym (length-set e y (if slice_index path y == 1 then 1 else 0))) low))
+picked path (y ∷ ys) e x low h =
+    at (among x ys) refl (y == x) refl h
+    (picked path ys (slice_set e y (if slice_index path y == 1 then 1 else 0)) x
+    (subst (λ n. x < n) (sym (length-set e y (if slice_index path y == 1 then 1 else 0))) low))
   where
     bit : (b : Bool) → ((if b then 1 else 0) == 1) ≡ b
     bit true = refl
@@ -87,7 +92,10 @@ among_append x (z ∷ zs) ys = at (z == x) (among_append x zs ys)
 -- each fork's variable is a guard of a fork
 pub fork_among : (xs : List Stage) (s x a b : ℕ) → (slice_index_or xs s last_stage).next ≡ Forks x a b → among x (fork_guards xs) ≡ true
 fork_among [] s x a b e = absurd (cc e)
-fork_among (y ∷ ys) zero x a b e = among_append x (guard_of_fork y.next) (fork_guards ys) ∙ ap (λ n. among x (guard_of_fork n) || among x (fork_guards ys)) e ∙ ap (λ t. (t || false) || among x (fork_guards ys)) (same x)
+fork_among (y ∷ ys) zero x a b e =
+    among_append x (guard_of_fork y.next) (fork_guards ys)
+    ∙ ap (λ n. among x (guard_of_fork n) || among x (fork_guards ys)) e
+    ∙ ap (λ t. (t || false) || among x (fork_guards ys)) (same x)
   where
     same : (x : ℕ) → (x == x) ≡ true
     same x = at (x == x) refl
@@ -95,7 +103,8 @@ fork_among (y ∷ ys) zero x a b e = among_append x (guard_of_fork y.next) (fork
         at : (c : Bool) → (x == x) ≡ c → (x == x) ≡ true
         at true i = i
         at false i = absurd (eqb-false x x i refl)
-fork_among (y ∷ ys) (suc s) x a b e = among_append x (guard_of_fork y.next) (fork_guards ys) ∙ or_true (among x (guard_of_fork y.next)) (fork_among ys s x a b e)
+fork_among (y ∷ ys) (suc s) x a b e =
+    among_append x (guard_of_fork y.next) (fork_guards ys) ∙ or_true (among x (guard_of_fork y.next)) (fork_among ys s x a b e)
   where
     or_true : (c : Bool) {d : Bool} → d ≡ true → (c || d) ≡ true
     or_true true k = refl
@@ -108,7 +117,8 @@ same_way : (p : Pipe) (e path : List ℕ)
 same_way p e path f zero s = refl
 same_way p e path f (suc limit) s = ap suc (at (stage_at p s).next refl (same_way p e path f limit))
   where
-    at : (n : Next) → (stage_at p s).next ≡ n → ((q : ℕ) → stages_on p e limit q ≡ stages_on p path limit q) → onward (stages_on p e limit) (goes_to (stage_at p s).next e) ≡ onward (stages_on p path limit) (goes_to (stage_at p s).next path)
+    at : (n : Next) → (stage_at p s).next ≡ n → ((q : ℕ) → stages_on p e limit q ≡ stages_on p path limit q)
+        → onward (stages_on p e limit) (goes_to (stage_at p s).next e) ≡ onward (stages_on p path limit) (goes_to (stage_at p s).next path)
     at Ends i go = ap (λ n. onward (stages_on p e limit) (goes_to n e)) i ∙ sym (ap (λ n. onward (stages_on p path limit) (goes_to n path)) i)
     at (Goes to) i go = ap (λ n. onward (stages_on p e limit) (goes_to n e)) i ∙ go to ∙ sym (ap (λ n. onward (stages_on p path limit) (goes_to n path)) i)
     at (Forks x a b) i go =
@@ -128,7 +138,8 @@ module _ (p : Pipe) (acc : Sound p) where
       subst (λ n. n ≤ depth p) (same_way p (picks path (fork_guards p.stages) (start_env p [])) path agree (length p.stages) 0)
       (picked_most p path (fork_guards p.stages) (start_env p []))
     where
-      agree : (s x a b : ℕ) → (stage_at p s).next ≡ Forks x a b → (slice_index (picks path (fork_guards p.stages) (start_env p [])) x == 1) ≡ (slice_index path x == 1)
+      agree : (s x a b : ℕ) → (stage_at p s).next ≡ Forks x a b
+          → (slice_index (picks path (fork_guards p.stages) (start_env p [])) x == 1) ≡ (slice_index path x == 1)
       agree s x a b e =
           picked path (fork_guards p.stages) (start_env p []) x
           (let i : length {A = ℕ} (replicate (p.vars - 0) 0) ≡ p.vars - 0 = zeros (p.vars - 0) in let j = acc.fork_known s x a b e in omega arith)
@@ -144,13 +155,18 @@ module _ (p : Pipe) (acc : Sound p) where
   enough path zero b s low h k = absurd (omega arith)
   enough path (suc a) zero s low h k = absurd (omega arith)
   enough path (suc a) (suc b) s low h k =
-      ap suc (ap (onward (stages_on p path a)) (acc.graph.leaves s path low) ∙ at (nat_lt (next_of p s path) (length p.stages)) refl (λ n. enough path a b (next_of p s path) n) ∙ ap (onward (stages_on p path b)) (sym (acc.graph.leaves s path low)))
+      ap suc
+      (ap (onward (stages_on p path a)) (acc.graph.leaves s path low)
+      ∙ at (nat_lt (next_of p s path) (length p.stages)) refl (λ n. enough path a b (next_of p s path) n)
+      ∙ ap (onward (stages_on p path b)) (sym (acc.graph.leaves s path low)))
     where
       up : s < next_of p s path
       up = acc.graph.up s path low
 
       at : (c : Bool) → nat_lt (next_of p s path) (length p.stages) ≡ c
-          → (next_of p s path < length p.stages → length p.stages ≤ a + next_of p s path → length p.stages ≤ b + next_of p s path → stages_on p path a (next_of p s path) ≡ stages_on p path b (next_of p s path))
+          → (next_of p s path < length p.stages → length p.stages ≤ a + next_of p s path
+          → length p.stages ≤ b + next_of p s path
+          → stages_on p path a (next_of p s path) ≡ stages_on p path b (next_of p s path))
           → onward (stages_on p path a) (cond c (Some (next_of p s path)) None) ≡ onward (stages_on p path b) (cond c (Some (next_of p s path)) None)
       at true e go = go (ltb-true _ _ e) (let i = up in omega arith) (let i = up in omega arith)
       at false e go = refl
@@ -166,7 +182,8 @@ module _ (p : Pipe) (acc : Sound p) where
       at zero e = absurd (omega arith)
       at (suc k) e =
           ap suc (enough path (length p.stages) k (next_of p s path) inside (omega arith) (let i = up in omega arith))
-          ∙ ap (λ o. suc (onward (stages_on p path k) o)) (sym (acc.graph.leaves s path low ∙ ap (λ b. cond b (Some (next_of p s path)) None) (lt-ltb _ _ inside)))
+          ∙ ap (λ o. suc (onward (stages_on p path k) o))
+          (sym (acc.graph.leaves s path low ∙ ap (λ b. cond b (Some (next_of p s path)) None) (lt-ltb _ _ inside)))
           ∙ ap (λ n. stages_on p path n s) (sym e)
 
   pub left_some : (path : List ℕ) (s : ℕ) → s < length p.stages → 0 < left path s
@@ -181,7 +198,9 @@ module _ (p : Pipe) (acc : Sound p) where
   walk_left path zero low = le_refl _
   walk_left path (suc k) low = at (nat_lt (walk p path k) (length p.stages)) refl (walk_left path k)
     where
-      at : (b : Bool) → nat_lt (walk p path k) (length p.stages) ≡ b → (walk p path k < length p.stages → left path (walk p path k) ≤ left path 0) → left path (walk p path (suc k)) ≤ left path 0
+      at : (b : Bool) → nat_lt (walk p path k) (length p.stages) ≡ b
+          → (walk p path k < length p.stages → left path (walk p path k) ≤ left path 0)
+          → left path (walk p path (suc k)) ≤ left path 0
       at true e go = let i = go (ltb-true _ _ e) in let j = left_next path (walk p path k) (ltb-true _ _ e) low in omega arith
       at false e go = absurd (past (ltb-false _ _ e))
         where
@@ -195,10 +214,16 @@ module _ (p : Pipe) (acc : Sound p) where
               beyond (suc s) (x ∷ xs) h = beyond s xs (omega arith)
 
               stays : (s : ℕ) → length p.stages ≤ s → ⊥
-              stays s h = absurd (let i : next_of p (walk p path k) path ≡ length p.stages = ap (λ (x : Stage). stage_or (length p.stages) (goes_to x.next path)) (beyond (walk p path k) p.stages (ltb-false _ _ e)) in let j = low in omega arith)
+              stays s h =
+                  absurd
+                  (let i : next_of p (walk p path k) path
+                  ≡ length p.stages =
+                  ap (λ (x : Stage). stage_or (length p.stages) (goes_to x.next path)) (beyond (walk p path k) p.stages (ltb-false _ _ e)) in
+                  let j = low in omega arith)
 
   pub reached_left : (path : List ℕ) (s : ℕ) → s < length p.stages → Reached p path s → left path s ≤ depth p
-  reached_left path s low r = le_trans (subst (λ n. left path n ≤ left path 0) (sym r.1) (walk_left path r.0 (subst (λ n. n < length p.stages) r.1 low))) (path_most path)
+  reached_left path s low r =
+      le_trans (subst (λ n. left path n ≤ left path 0) (sym r.1) (walk_left path r.0 (subst (λ n. n < length p.stages) r.1 low))) (path_most path)
 
   -- A RUN
 
@@ -210,28 +235,39 @@ module _ (p : Pipe) (acc : Sound p) where
   lead (t ∷ ts) = t.stage
 
   -- the oldest thread stands where its turn comes to
-  pub leads : (image : Arrays) (n : ℕ) (past : List Commit) (st : State) → Runs p (course p acc) image n past st → (lead st.threads < length p.stages) × (left (turn_path image n) (lead st.threads) ≤ depth p)
+  pub leads : (image : Arrays) (n : ℕ) (past : List Commit) (st : State) → Runs p (course p acc) image n past st
+      → (lead st.threads < length p.stages) × (left (turn_path image n) (lead st.threads) ≤ depth p)
   leads image n past st r = at r.spots r.threads r.standing r.live
     where
       at : (sps : List Spot) → st.threads ≡ seats p (after_turns p image n).arrays (after_turns p image n).next sps ++ r.strays
-          → Standing p (course p acc) st.asked (λ m. of_mem m past) (λ m. of_mem m (writes_from p n image p.start)) (λ m. []) (after_turns p image n).arrays (after_turns p image n).next (length p.stages ∷ []) sps
+          → Standing p (course p acc) st.asked (λ m. of_mem m past) (λ m. of_mem m (writes_from p n image p.start))
+          (λ m. []) (after_turns p image n).arrays (after_turns p image n).next (length p.stages ∷ []) sps
           → is_nil sps ≡ false → (lead st.threads < length p.stages) × (left (turn_path image n) (lead st.threads) ≤ depth p)
       at [] e h l = absurd (cc l)
       at (sp ∷ sps) e h l =
           let low : sp.stage < length p.stages = low_end p (course p acc) sp.stage h.0.under in
-          subst (λ ts. (lead ts < length p.stages) × (left (turn_path image n) (lead ts) ≤ depth p)) (sym e) (low, reached_left (turn_path image n) sp.stage low (on_reached p acc (after_turns p image n).arrays (after_turns p image n).next sp.stage h.0.on))
+          subst (λ ts. (lead ts < length p.stages) × (left (turn_path image n) (lead ts) ≤ depth p)) (sym e) (
+            low,
+            reached_left (turn_path image n) sp.stage low (on_reached p acc (after_turns p image n).arrays (after_turns p image n).next sp.stage h.0.on),
+          )
 
   -- a cycle that no thread ends in takes the oldest one stage further, unless it is a wait
-  pub cycle_left : (image : Arrays) (n : ℕ) (past : List Commit) (st : State) (bits : List Bool) → Runs p (course p acc) image n past st → ends_one p (all_acts p st bits) ≡ false
+  pub cycle_left : (image : Arrays) (n : ℕ) (past : List Commit) (st : State) (bits : List Bool)
+      → Runs p (course p acc) image n past st → ends_one p (all_acts p st bits) ≡ false
       → (if is_wait p st bits then 0 else 1) + left (turn_path image n) (lead (cycle p st bits).threads) ≤ left (turn_path image n) (lead st.threads)
   cycle_left image n past st bits r none = at r.spots r.threads r.standing r.live
     where
       at : (sps : List Spot) → st.threads ≡ seats p (after_turns p image n).arrays (after_turns p image n).next sps ++ r.strays
-          → Standing p (course p acc) st.asked (λ m. of_mem m past) (λ m. of_mem m (writes_from p n image p.start)) (λ m. []) (after_turns p image n).arrays (after_turns p image n).next (length p.stages ∷ []) sps
-          → is_nil sps ≡ false → (if is_wait p st bits then 0 else 1) + left (turn_path image n) (lead (cycle p st bits).threads) ≤ left (turn_path image n) (lead st.threads)
+          → Standing p (course p acc) st.asked (λ m. of_mem m past) (λ m. of_mem m (writes_from p n image p.start))
+          (λ m. []) (after_turns p image n).arrays (after_turns p image n).next (length p.stages ∷ []) sps
+          → is_nil sps ≡ false
+          → (if is_wait p st bits then 0 else 1) + left (turn_path image n) (lead (cycle p st bits).threads) ≤ left (turn_path image n) (lead st.threads)
       at [] e h l = absurd (cc l)
       at (sp ∷ sps) e h l =
-          subst (λ ts. (if is_wait p st bits then 0 else 1) + left (turn_path image n) (lead (survivors p (acts p st bits [] ts))) ≤ left (turn_path image n) (lead ts)) (sym e)
+          subst
+          (λ ts. (if is_wait p st bits then 0 else 1) + left (turn_path image n)
+          (lead (survivors p (acts p st bits [] ts))) ≤ left (turn_path image n) (lead ts))
+          (sym e)
           (by (act p st bits [] t).moves refl)
         where
           t : Thread
@@ -241,9 +277,16 @@ module _ (p : Pipe) (acc : Sound p) where
           low = low_end p (course p acc) sp.stage h.0.under
 
           rest : List Act
-          rest = acts p st bits (act p st bits [] (seat p (after_turns p image n).arrays (after_turns p image n).next sp) ∷ []) (seats p (thread p (after_turns p image n).arrays (after_turns p image n).next).arrays (thread p (after_turns p image n).arrays (after_turns p image n).next).next sps ++ r.strays)
+          rest =
+              acts p st bits (act p st bits [] (seat p (after_turns p image n).arrays (after_turns p image n).next sp) ∷ [])
+              (seats p (thread p (after_turns p image n).arrays (after_turns p image n).next).arrays
+              (thread p (after_turns p image n).arrays (after_turns p image n).next).next sps
+              ++ r.strays)
 
-          unended : ((act p st bits [] (seat p (after_turns p image n).arrays (after_turns p image n).next sp)).moves && is_none (exit_of p (act p st bits [] (seat p (after_turns p image n).arrays (after_turns p image n).next sp)))) ≡ false
+          unended :
+              ((act p st bits [] (seat p (after_turns p image n).arrays (after_turns p image n).next sp)).moves
+              && is_none (exit_of p (act p st bits [] (seat p (after_turns p image n).arrays (after_turns p image n).next sp))))
+              ≡ false
           unended = first_false _ _ (subst (λ ts. ends_one p (acts p st bits [] ts) ≡ false) e none)
             where
               first_false : (a b : Bool) → (a || b) ≡ false → a ≡ false
@@ -254,8 +297,17 @@ module _ (p : Pipe) (acc : Sound p) where
           moves_on k = subst (λ ts. oldest_moves (acts p st bits [] ts) ≡ true) e (oldest_of p (course p acc) image n past st bits r k)
 
           by : (b : Bool) → (act p st bits [] (seat p (after_turns p image n).arrays (after_turns p image n).next sp)).moves ≡ b
-              → (if is_wait p st bits then 0 else 1) + left (turn_path image n) (lead (survivors p (act p st bits [] (seat p (after_turns p image n).arrays (after_turns p image n).next sp) ∷ rest))) ≤ left (turn_path image n) sp.stage
-          by false f = subst (λ c. (if is_wait p st bits then 0 else 1) + left (turn_path image n) (lead (cond c (moved_to (exit_of p a) a.work ++ (born_threads p a.work.child ++ (if a.work.fails then [] else survivors p rest))) (a.now ∷ survivors p rest))) ≤ left (turn_path image n) sp.stage) (sym f) (waits (is_wait p st bits) refl)
+              → (if is_wait p st bits then 0 else 1) + left (turn_path image n)
+              (lead (survivors p (act p st bits [] (seat p (after_turns p image n).arrays (after_turns p image n).next sp) ∷ rest))) ≤ left
+              (turn_path image n) sp.stage
+          by false f =
+              subst
+              (λ c. (if is_wait p st bits then 0 else 1) + left (turn_path image n)
+              (lead
+              (cond c (moved_to (exit_of p a) a.work ++ (born_threads p a.work.child ++ (if a.work.fails then [] else survivors p rest)))
+              (a.now ∷ survivors p rest))) ≤ left
+              (turn_path image n) sp.stage)
+              (sym f) (waits (is_wait p st bits) refl)
             where
               a : Act
               a = act p st bits [] (seat p (after_turns p image n).arrays (after_turns p image n).next sp)
@@ -264,31 +316,51 @@ module _ (p : Pipe) (acc : Sound p) where
               waits true i = omega arith
               waits false i = absurd (cc (sym f ∙ moves_on i))
           by true f =
-              subst (λ c. (if is_wait p st bits then 0 else 1) + left (turn_path image n) (lead (cond c (moved_to (exit_of p a) a.work ++ (born_threads p a.work.child ++ (if a.work.fails then [] else survivors p rest))) (a.now ∷ survivors p rest))) ≤ left (turn_path image n) sp.stage) (sym f)
-              (subst (λ o. (if is_wait p st bits then 0 else 1) + left (turn_path image n) (lead (moved_to o a.work ++ (born_threads p a.work.child ++ (if a.work.fails then [] else survivors p rest)))) ≤ left (turn_path image n) sp.stage) (sym exit)
+              subst
+              (λ c. (if is_wait p st bits then 0 else 1) + left (turn_path image n)
+              (lead
+              (cond c (moved_to (exit_of p a) a.work ++ (born_threads p a.work.child ++ (if a.work.fails then [] else survivors p rest)))
+              (a.now ∷ survivors p rest))) ≤ left
+              (turn_path image n) sp.stage)
+              (sym f)
+              (subst
+              (λ o. (if is_wait p st bits then 0 else 1) + left (turn_path image n)
+              (lead (moved_to o a.work ++ (born_threads p a.work.child ++ (if a.work.fails then [] else survivors p rest)))) ≤ left
+              (turn_path image n) sp.stage)
+              (sym exit)
               (less (is_wait p st bits)))
             where
               a : Act
               a = act p st bits [] (seat p (after_turns p image n).arrays (after_turns p image n).next sp)
 
-              same : next_of p sp.stage (act p st bits [] (seat p (after_turns p image n).arrays (after_turns p image n).next sp)).work.env ≡ next_of p sp.stage (turn_path image n)
+              same : next_of p sp.stage (act p st bits [] (seat p (after_turns p image n).arrays (after_turns p image n).next sp)).work.env
+                  ≡ next_of p sp.stage (turn_path image n)
               same =
                   ap (λ (w : Work). next_of p sp.stage w.env)
-                  (work_same p (course p acc) image st bits (λ m. of_mem m past) (λ m. []) [] (λ m. ap (λ k. k m) r.arrays ∙ row_committed m past image) r.known [] (λ m. []) (λ m. []) (λ m. []) (λ m. of_mem m (writes_from p n image p.start)) (λ m. None)
-                  (after_turns p image n).arrays (after_turns p image n).next (length p.stages ∷ []) (suc (length p.stages) ∷ []) sp (is_nil sps) (rows_at p (course p acc) image n) (behind_none p (course p acc)) h.0 f)
+                  (work_same p (course p acc) image st bits (λ m. of_mem m past) (λ m. []) []
+                  (λ m. ap (λ k. k m) r.arrays ∙ row_committed m past image) r.known [] (λ m. []) (λ m. [])
+                  (λ m. []) (λ m. of_mem m (writes_from p n image p.start)) (λ m. None)
+                  (after_turns p image n).arrays (after_turns p image n).next (length p.stages ∷ [])
+                  (suc (length p.stages) ∷ []) sp (is_nil sps) (rows_at p (course p acc) image n)
+                  (behind_none p (course p acc)) h.0 f)
                   ∙ StageFacts.path_next p acc (after_turns p image n).arrays (after_turns p image n).next sp.stage
 
-              leaving : exit_of p (act p st bits [] (seat p (after_turns p image n).arrays (after_turns p image n).next sp)) ≡ cond (nat_lt (next_of p sp.stage (turn_path image n)) (length p.stages)) (Some (next_of p sp.stage (turn_path image n))) None
+              leaving : exit_of p (act p st bits [] (seat p (after_turns p image n).arrays (after_turns p image n).next sp))
+                  ≡ cond (nat_lt (next_of p sp.stage (turn_path image n)) (length p.stages)) (Some (next_of p sp.stage (turn_path image n))) None
               leaving = acc.graph.leaves sp.stage _ low ∙ ap (λ k. cond (nat_lt k (length p.stages)) (Some k) None) same
 
               inside : next_of p sp.stage (turn_path image n) < length p.stages
               inside = here (nat_lt (next_of p sp.stage (turn_path image n)) (length p.stages)) refl
                 where
-                  here : (b : Bool) → nat_lt (next_of p sp.stage (turn_path image n)) (length p.stages) ≡ b → next_of p sp.stage (turn_path image n) < length p.stages
+                  here : (b : Bool) → nat_lt (next_of p sp.stage (turn_path image n)) (length p.stages) ≡ b
+                      → next_of p sp.stage (turn_path image n) < length p.stages
                   here true i = ltb-true _ _ i
-                  here false i = absurd (cc (sym (ap₂ (λ m o. m && is_none o) f (leaving ∙ ap (λ b. cond b (Some (next_of p sp.stage (turn_path image n))) None) i)) ∙ unended))
+                  here false i =
+                      absurd
+                      (cc (sym (ap₂ (λ m o. m && is_none o) f (leaving ∙ ap (λ b. cond b (Some (next_of p sp.stage (turn_path image n))) None) i)) ∙ unended))
 
-              exit : exit_of p (act p st bits [] (seat p (after_turns p image n).arrays (after_turns p image n).next sp)) ≡ Some (next_of p sp.stage (turn_path image n))
+              exit : exit_of p (act p st bits [] (seat p (after_turns p image n).arrays (after_turns p image n).next sp))
+                  ≡ Some (next_of p sp.stage (turn_path image n))
               exit = leaving ∙ ap (λ b. cond b (Some (next_of p sp.stage (turn_path image n))) None) (lt-ltb _ _ inside)
 
               less : (w : Bool) → (if w then 0 else 1) + left (turn_path image n) (next_of p sp.stage (turn_path image n)) ≤ left (turn_path image n) sp.stage
@@ -304,14 +376,18 @@ module _ (p : Pipe) (acc : Sound p) where
   sum_up false false c waits ended d l l' h i f k = let g : 1 + l' ≤ l = f refl in omega arith
 
   pub runs_pace : (image : Arrays) (n : ℕ) (past : List Commit) (st : State) (schedule : List (List Bool)) → Runs p (course p acc) image n past st
-      → suc (length schedule) ≤ waits_in (turns_from p st schedule) + (ended_in (turns_from p st schedule) * depth p + left (turn_path image n) (lead st.threads))
+      → suc (length schedule) ≤ waits_in (turns_from p st schedule) +
+      (ended_in (turns_from p st schedule) * depth p + left (turn_path image n) (lead st.threads))
   runs_pace image n past st [] r = let i = left_some (turn_path image n) (lead st.threads) (leads image n past st r).0 in omega arith
   runs_pace image n past st (bits ∷ schedule) r =
       sum_up (is_wait p st bits) (ends_one p (all_acts p st bits)) (length schedule) _ _ (depth p) (left (turn_path image n) (lead st.threads)) _
       (left_some (turn_path image n) (lead st.threads) (leads image n past st r).0)
       (leads image _ _ (cycle p st bits) (runs_cycle p (course p acc) image n past st bits r)).1
-      (λ e. subst (λ k. (if is_wait p st bits then 0 else 1) + left (turn_path image k) (lead (cycle p st bits).threads) ≤ left (turn_path image n) (lead st.threads)) (sym (ap (λ b. if b then suc n else n) e)) (cycle_left image n past st bits r e))
-      (runs_pace image (if ends_one p (all_acts p st bits) then suc n else n) (past ++ commits_of (all_acts p st bits)) (cycle p st bits) schedule (runs_cycle p (course p acc) image n past st bits r))
+      (λ e. subst
+      (λ k. (if is_wait p st bits then 0 else 1) + left (turn_path image k) (lead (cycle p st bits).threads) ≤ left (turn_path image n) (lead st.threads))
+      (sym (ap (λ b. if b then suc n else n) e)) (cycle_left image n past st bits r e))
+      (runs_pace image (if ends_one p (all_acts p st bits) then suc n else n) (past ++ commits_of (all_acts p st bits))
+      (cycle p st bits) schedule (runs_cycle p (course p acc) image n past st bits r))
 
   pub keeps_pace : (image : Arrays) (schedule : List (List Bool)) → KeepsPace p image schedule
   keeps_pace image schedule =
@@ -322,5 +398,6 @@ module _ (p : Pipe) (acc : Sound p) where
       let low = l.1 in
       let e = suc-mul (ended_in (turns p image schedule)) (depth p) in
       let deep : 0 < depth p = omega arith in
-      let less : (length schedule - waits_in (turns p image schedule)) / depth p < suc (ended_in (turns p image schedule)) = (div-lt_iff_lt-mul deep).1 (omega arith) in
+      let less : (length schedule - waits_in (turns p image schedule)) / depth p < suc (ended_in (turns p image schedule)) =
+      (div-lt_iff_lt-mul deep).1 (omega arith) in
       omega arith

@@ -26,9 +26,12 @@ or_more false k = k
 -- a test that all values of these guards pass is passed by those that a path gives them
 pub all_picks : (test : List ℕ → Bool) (path : List ℕ) (gs e : List ℕ) → all_paths gs test e ≡ true → test (picks path gs e) ≡ true
 all_picks test path [] e h = h
-all_picks test path (g ∷ gs) e h = at (slice_index path g == 1) (all_picks test path gs (slice_set e g 0) (and_left _ _ h)) (all_picks test path gs (slice_set e g 1) (and_right (all_paths gs test (slice_set e g 0)) _ h))
+all_picks test path (g ∷ gs) e h =
+    at (slice_index path g == 1) (all_picks test path gs (slice_set e g 0) (and_left _ _ h))
+    (all_picks test path gs (slice_set e g 1) (and_right (all_paths gs test (slice_set e g 0)) _ h))
   where
-    at : (b : Bool) → test (picks path gs (slice_set e g 0)) ≡ true → test (picks path gs (slice_set e g 1)) ≡ true → test (picks path gs (slice_set e g (if b then 1 else 0))) ≡ true
+    at : (b : Bool) → test (picks path gs (slice_set e g 0)) ≡ true → test (picks path gs (slice_set e g 1)) ≡ true
+        → test (picks path gs (slice_set e g (if b then 1 else 0))) ≡ true
     at true i j = j
     at false i j = i
 
@@ -48,19 +51,23 @@ pub path_agree : (gs : List ℕ) (e f : List ℕ) (xs : List Stmt) → Agree gs 
     → ((g : ℕ) → among g (guard_vars xs) ≡ true → among g gs ≡ true) → onpath e xs ≡ onpath f xs
 path_agree gs e f [] a i = refl
 path_agree gs e f (x ∷ xs) a i =
-    ap₂ (λ b l. cond b (record x { guards = [] } ∷ l) l) (taken_agree gs e f x.guards a (λ g k. i g (among_append g (vars_of x.guards) (guard_vars xs) ∙ ap (λ b. b || among g (guard_vars xs)) k)))
+    ap₂ (λ b l. cond b (record x { guards = [] } ∷ l) l)
+    (taken_agree gs e f x.guards a (λ g k. i g (among_append g (vars_of x.guards) (guard_vars xs) ∙ ap (λ b. b || among g (guard_vars xs)) k)))
     (path_agree gs e f xs a (λ g k. i g (among_append g (vars_of x.guards) (guard_vars xs) ∙ or_more (among g (vars_of x.guards)) k)))
 
 -- nothing stands between two stages
 pub between_none : (a b : ℕ) (xs : List Stmt) → a ≤ b → none_between a b xs ≡ true → before b xs ≡ before a xs
 between_none a b [] low h = refl
-between_none a b (x ∷ xs) low h = ap₂ (λ c l. cond c (record x { op = answered_op x.op } ∷ l) l) (at (nat_lt x.stage b) refl (nat_lt x.stage a) refl) (between_none a b xs low (and_right (not (nat_le a x.stage && nat_lt x.stage b)) _ h))
+between_none a b (x ∷ xs) low h =
+    ap₂ (λ c l. cond c (record x { op = answered_op x.op } ∷ l) l) (at (nat_lt x.stage b) refl (nat_lt x.stage a) refl)
+    (between_none a b xs low (and_right (not (nat_le a x.stage && nat_lt x.stage b)) _ h))
   where
     at : (c : Bool) → nat_lt x.stage b ≡ c → (d : Bool) → nat_lt x.stage a ≡ d → c ≡ d
     at true e true f = refl
     at false e false f = refl
     at false e true f = absurd (let i : b ≤ x.stage = ltb-false _ _ e in let j : x.stage < a = ltb-true _ _ f in omega arith)
-    at true e false f = absurd (cc (sym (ap₂ (λ u v. not (u && v)) (le-leb' a x.stage (ltb-false _ _ f)) e) ∙ and_left (not (nat_le a x.stage && nat_lt x.stage b)) _ h))
+    at true e false f =
+        absurd (cc (sym (ap₂ (λ u v. not (u && v)) (le-leb' a x.stage (ltb-false _ _ f)) e) ∙ and_left (not (nat_le a x.stage && nat_lt x.stage b)) _ h))
       where
         le-leb' : (m n : ℕ) → m ≤ n → nat_le m n ≡ true
         le-leb' m n k = by_bool (nat_le m n) (nat_le m n ≡ true) (λ i. i) (λ i. absurd (let j : n < m = leb-false _ _ i in omega arith))
@@ -95,13 +102,15 @@ taken_other ys [] env env' d = refl
 taken_other ys (g ∷ gs) env env' d = at (none_of (is_fetch_of g.var) ys) refl (taken_other ys gs env env' d)
   where
     at : (b : Bool) → none_of (is_fetch_of g.var) ys ≡ b → all_hold (unfetched_guards ys gs) env' ≡ all_hold (unfetched_guards ys gs) env
-        → all_hold (cond b (g ∷ unfetched_guards ys gs) (unfetched_guards ys gs)) env' ≡ all_hold (cond b (g ∷ unfetched_guards ys gs) (unfetched_guards ys gs)) env
+        → all_hold (cond b (g ∷ unfetched_guards ys gs) (unfetched_guards ys gs)) env'
+        ≡ all_hold (cond b (g ∷ unfetched_guards ys gs) (unfetched_guards ys gs)) env
     at true e r = ap₂ (λ k b. takes_branch g.first k && b) (d g.var e) r
     at false e r = r
 
 all_unfetched : (ys : List Stmt) (gs : List Guard) → list_all (λ g. none_of (is_fetch_of g.var) ys) gs ≡ true → unfetched_guards ys gs ≡ gs
 all_unfetched ys [] h = refl
-all_unfetched ys (g ∷ gs) h = ap₂ (λ b l. cond b (g ∷ l) l) (and_left (none_of (is_fetch_of g.var) ys) _ h) (all_unfetched ys gs (and_right (none_of (is_fetch_of g.var) ys) _ h))
+all_unfetched ys (g ∷ gs) h =
+    ap₂ (λ b l. cond b (g ∷ l) l) (and_left (none_of (is_fetch_of g.var) ys) _ h) (all_unfetched ys gs (and_right (none_of (is_fetch_of g.var) ys) _ h))
 
 taken_fewer : (ys : List Stmt) (gs : List Guard) (env : List ℕ) → all_hold gs env ≡ true → all_hold (unfetched_guards ys gs) env ≡ true
 taken_fewer ys [] env h = refl
@@ -118,7 +127,9 @@ fewer_among : (g : ℕ) (ys : List Stmt) (gs : List Guard) → among g (vars_of 
 fewer_among g ys [] h = h
 fewer_among g ys (x ∷ gs) h = at (none_of (is_fetch_of x.var) ys) h (fewer_among g ys gs)
   where
-    at : (b : Bool) → among g (vars_of (cond b (x ∷ unfetched_guards ys gs) (unfetched_guards ys gs))) ≡ true → (among g (vars_of (unfetched_guards ys gs)) ≡ true → among g (vars_of gs) ≡ true) → among g (vars_of (x ∷ gs)) ≡ true
+    at : (b : Bool) → among g (vars_of (cond b (x ∷ unfetched_guards ys gs) (unfetched_guards ys gs))) ≡ true
+        → (among g (vars_of (unfetched_guards ys gs)) ≡ true → among g (vars_of gs) ≡ true)
+        → among g (vars_of (x ∷ gs)) ≡ true
     at true k go = by_or (x.var == g) _ _ k (λ e. ap (λ b. b || among g (vars_of gs)) e) (λ e. or_more (x.var == g) (go e))
     at false k go = or_more (x.var == g) (go k)
 
@@ -129,11 +140,16 @@ pub hangs_none : (gs : List ℕ) (path env env' : List ℕ) (ys zs : List Stmt) 
 hangs_none gs path env env' ys [] a i d h = refl
 hangs_none gs path env env' ys (z ∷ zs) a i d h =
     ap₂ (λ b l. cond b (record z { guards = [] } ∷ l) l)
-    (by_or (list_all (λ g. none_of (is_fetch_of g.var) ys) z.guards) (not (all_hold (unfetched_guards ys z.guards) path)) _ (and_left _ (none_hangs path ys zs) h)
-    (λ e. sym (ap (λ l. all_hold l env') (all_unfetched ys z.guards e)) ∙ taken_other ys z.guards env env' d ∙ ap (λ l. all_hold l env) (all_unfetched ys z.guards e))
+    (by_or (list_all (λ g. none_of (is_fetch_of g.var) ys) z.guards)
+    (not (all_hold (unfetched_guards ys z.guards) path)) _ (and_left _ (none_hangs path ys zs) h)
+    (λ e. sym (ap (λ l. all_hold l env') (all_unfetched ys z.guards e)) ∙ taken_other ys z.guards env env' d
+    ∙ ap (λ l. all_hold l env) (all_unfetched ys z.guards e))
     (λ e.
     let off : all_hold (unfetched_guards ys z.guards) env ≡ false =
-    sym (taken_agree gs path env (unfetched_guards ys z.guards) a (λ g k. i g (among_append g (vars_of z.guards) (guard_vars zs) ∙ ap (λ b. b || among g (guard_vars zs)) (fewer_among g ys z.guards k)))) ∙ not-true _ e in
+    sym
+    (taken_agree gs path env (unfetched_guards ys z.guards) a
+    (λ g k. i g (among_append g (vars_of z.guards) (guard_vars zs) ∙ ap (λ b. b || among g (guard_vars zs)) (fewer_among g ys z.guards k))))
+    ∙ not-true _ e in
     not_taken ys z.guards env' (taken_other ys z.guards env env' d ∙ off) ∙ sym (not_taken ys z.guards env off)))
     (hangs_none gs path env env' ys zs a (λ g k. i g (among_append g (vars_of z.guards) (guard_vars zs) ∙ or_more (among g (vars_of z.guards)) k)) d
     (and_right (list_all (λ g. none_of (is_fetch_of g.var) ys) z.guards || not (all_hold (unfetched_guards ys z.guards) path)) _ h))
@@ -143,7 +159,10 @@ pub before_among : (n g : ℕ) (xs : List Stmt) → among g (guard_vars (before 
 before_among n g [] h = h
 before_among n g (x ∷ xs) h = at (nat_lt x.stage n) h (before_among n g xs)
   where
-    at : (b : Bool) → among g (guard_vars (cond b (record x { op = answered_op x.op } ∷ before n xs) (before n xs))) ≡ true → (among g (guard_vars (before n xs)) ≡ true → among g (guard_vars xs) ≡ true) → among g (guard_vars (x ∷ xs)) ≡ true
+    at : (b : Bool)
+        → among g (guard_vars (cond b (record x { op = answered_op x.op } ∷ before n xs) (before n xs))) ≡ true
+        → (among g (guard_vars (before n xs)) ≡ true → among g (guard_vars xs) ≡ true)
+        → among g (guard_vars (x ∷ xs)) ≡ true
     at true k go =
         among_append g (vars_of x.guards) (guard_vars xs)
         ∙ by_or (among g (vars_of x.guards)) (among g (guard_vars (before n xs))) _ (sym (among_append g (vars_of x.guards) (guard_vars (before n xs))) ∙ k)

@@ -68,15 +68,20 @@ module _ (p : Pipe) (acc : Course p) where
   under_start (b ∷ bs) s u = (fresh_under p acc.graph acc.branches b (u.0.below 0 acc.graph.trunk_start (omega arith)), under_start bs s u.1)
 
   -- what the next younger thread knows, where this one's stage becomes s'
-  behind_next : (older : List Act) (v v' : Marks) (d e : Writes) (asks more : ℕ → Option ℕ) (arrays : Arrays) (args : List ℕ) (ahead ahead' : List ℕ) (s s' : ℕ) (a : Act)
-      → Behind p acc older v v' d asks ahead ahead' → AllUnder p ahead s → a.before.stage ≡ s → a.before.entries ≡ (so_far p arrays args s).entries → Stepped p a.moves s s'
-      → ((m : ℕ) → Later m (marks p arrays args s m) (e m) (marks p arrays args s' m)) → ((m : ℕ) → s ≢ commit_stage p m → e m ≡ []) → ((m : ℕ) → is_some (more m) ≡ true → s ≡ acc.fetch m)
-      → Behind p acc (a ∷ older) (λ m. v m ++ marks p arrays args s m) (λ m. v' m ++ marks p arrays args s' m) (λ m. d m ++ e m) (λ m. or_ask (asks m) (more m)) (s ∷ ahead) (s' ∷ ahead')
+  behind_next : (older : List Act) (v v' : Marks) (d e : Writes) (asks more : ℕ → Option ℕ) (arrays : Arrays)
+      (args : List ℕ) (ahead ahead' : List ℕ) (s s' : ℕ) (a : Act)
+      → Behind p acc older v v' d asks ahead ahead' → AllUnder p ahead s → a.before.stage ≡ s
+      → a.before.entries ≡ (so_far p arrays args s).entries → Stepped p a.moves s s'
+      → ((m : ℕ) → Later m (marks p arrays args s m) (e m) (marks p arrays args s' m))
+      → ((m : ℕ) → s ≢ commit_stage p m → e m ≡ []) → ((m : ℕ) → is_some (more m) ≡ true → s ≡ acc.fetch m)
+      → Behind p acc (a ∷ older) (λ m. v m ++ marks p arrays args s m) (λ m. v' m ++ marks p arrays args s' m)
+      (λ m. d m ++ e m) (λ m. or_ask (asks m) (more m)) (s ∷ ahead) (s' ∷ ahead')
   behind_next older v v' d e asks more arrays args ahead ahead' s s' a b u is held stepped own quiet mine =
       record {
         fits = fits;
         split = λ m. later_more m (v m) (d m) (v' m) _ (e m) _ (b.split m) (own m) (quiet_or m (s == commit_stage p m) refl);
-        gone = λ m r k h. let low = k.0.below (commit_stage p m) (acc.graph.trunk_commit m) h in ap₂ (λ x y. x ++ y) (b.gone m s u (le_of_lt low)) (acc.marks_late arrays args s m low);
+        gone = λ m r k h. let low = k.0.below (commit_stage p m) (acc.graph.trunk_commit m) h in
+            ap₂ (λ x y. x ++ y) (b.gone m s u (le_of_lt low)) (acc.marks_late arrays args s m low);
         plain = λ m h. ap₂ (λ l k. l ++ k) (b.plain m h) (acc.marks_plain arrays args s m h);
         moves = (is, stepped, b.moves);
         asked = asked;
@@ -102,7 +107,8 @@ module _ (p : Pipe) (acc : Course p) where
           at (Some x) f g = b.asked m r k.1 (ap is_some f)
 
   -- the next threads' asks
-  pub asks_moved : (all : List Ask) (asks : ℕ → Option ℕ) (a : Act) (rest : List Act) → a.moves ≡ true → NowAsks all asks (a ∷ rest) → NowAsks all (λ m. or_ask (asks m) (find_ask a.work.asks m)) rest
+  pub asks_moved : (all : List Ask) (asks : ℕ → Option ℕ) (a : Act) (rest : List Act) → a.moves ≡ true
+      → NowAsks all asks (a ∷ rest) → NowAsks all (λ m. or_ask (asks m) (find_ask a.work.asks m)) rest
   asks_moved all asks a rest h now m =
       now m ∙ ap (λ k. or_ask (asks m) (find_ask (cond k (a.work.asks ++ asks_of rest) (asks_of rest)) m)) h
       ∙ ap (or_ask (asks m)) (find_append a.work.asks (asks_of rest) m) ∙ three (asks m) (find_ask a.work.asks m) (find_ask (asks_of rest) m)
@@ -111,9 +117,11 @@ module _ (p : Pipe) (acc : Course p) where
       three None y z = refl
       three (Some x) y z = refl
 
-  pub asks_stays : (all : List Ask) (asks : ℕ → Option ℕ) (a : Act) (rest : List Act) → a.moves ≡ false → NowAsks all asks (a ∷ rest) → NowAsks all (λ m. or_ask (asks m) None) rest
+  pub asks_stays : (all : List Ask) (asks : ℕ → Option ℕ) (a : Act) (rest : List Act) → a.moves ≡ false
+      → NowAsks all asks (a ∷ rest) → NowAsks all (λ m. or_ask (asks m) None) rest
   asks_stays all asks a rest h now m =
-      now m ∙ ap (λ k. or_ask (asks m) (find_ask (cond k (a.work.asks ++ asks_of rest) (asks_of rest)) m)) h ∙ ap (λ o. or_ask o (find_ask (asks_of rest) m)) (none (asks m))
+      now m ∙ ap (λ k. or_ask (asks m) (find_ask (cond k (a.work.asks ++ asks_of rest) (asks_of rest)) m)) h
+      ∙ ap (λ o. or_ask o (find_ask (asks_of rest) m)) (none (asks m))
     where
       none : (x : Option ℕ) → x ≡ or_ask x None
       none None = refl
@@ -134,7 +142,8 @@ module _ (p : Pipe) (acc : Course p) where
       linked = ap (λ (w : Work). right_guess w.child (thread p arrays args).next) (acc.start_so arrays args);
       waits = start_waits asked v arrays args;
     },
-    λ m. ap₂ (λ a b. a ++ b) (h m) (sym (acc.marks_start arrays args m)) ∙ append_assoc (past m) (strips m (v m)) _ ∙ ap (λ l. past m ++ l) (sym (strips_append m (v m) (marks p arrays args 0 m))),
+    λ m. ap₂ (λ a b. a ++ b) (h m) (sym (acc.marks_start arrays args m)) ∙ append_assoc (past m) (strips m (v m)) _
+        ∙ ap (λ l. past m ++ l) (sym (strips_append m (v m) (marks p arrays args 0 m))),
   )
 
   pub born_seat : (arrays : Arrays) (args : List ℕ) → fresh p args ≡ seat p arrays args (start_spot p args)
@@ -152,42 +161,60 @@ module _ (p : Pipe) (acc : Course p) where
       at false = refl
 
   -- where a thread stands after it moved
-  moved_seat : (arrays : Arrays) (args : List ℕ) (s : ℕ) → acc.on arrays args s → s < length p.stages → onward (next_at p arrays args s) (stage_work p arrays args s) ≡ seat p arrays args (moved_spot p arrays args s)
+  moved_seat : (arrays : Arrays) (args : List ℕ) (s : ℕ) → acc.on arrays args s → s < length p.stages
+      → onward (next_at p arrays args s) (stage_work p arrays args s) ≡ seat p arrays args (moved_spot p arrays args s)
   moved_seat arrays args s on low =
       let n = acc.next_so arrays args s on low in
-      ap₂ (λ es g. record { stage = next_at p arrays args s; env = (stage_work p arrays args s).env; entries = es; guess = g; awaits = awaited_of (stage_work p arrays args s).asks }) n.1 n.2
+      ap₂
+      (λ es g. record {
+        stage = next_at p arrays args s;
+        env = (stage_work p arrays args s).env;
+        entries = es;
+        guess = g;
+        awaits = awaited_of (stage_work p arrays args s).asks;
+      }) n.1 n.2
 
   pub moved_thread : (arrays : Arrays) (args : List ℕ) (s : ℕ) (w : Work) → acc.on arrays args s → s < length p.stages → w ≡ stage_work p arrays args s
-      → moved_to (goes_to (stage_at p s).next w.env) w ≡ cond (nat_lt (next_at p arrays args s) (length p.stages)) (seat p arrays args (moved_spot p arrays args s) ∷ []) []
+      → moved_to (goes_to (stage_at p s).next w.env) w
+      ≡ cond (nat_lt (next_at p arrays args s) (length p.stages)) (seat p arrays args (moved_spot p arrays args s) ∷ []) []
   moved_thread arrays args s w on low same =
       ap (λ (k : Work). moved_to (goes_to (stage_at p s).next k.env) k) same
       ∙ ap (λ o. moved_to o (stage_work p arrays args s)) (acc.graph.leaves s (stage_work p arrays args s).env low)
       ∙ at (nat_lt (next_at p arrays args s) (length p.stages))
     where
-      at : (b : Bool) → moved_to (cond b (Some (next_at p arrays args s)) None) (stage_work p arrays args s) ≡ cond b (seat p arrays args (moved_spot p arrays args s) ∷ []) []
+      at : (b : Bool)
+          → moved_to (cond b (Some (next_at p arrays args s)) None) (stage_work p arrays args s)
+          ≡ cond b (seat p arrays args (moved_spot p arrays args s) ∷ []) []
       at true = ap (λ t. t ∷ []) (moved_seat arrays args s on low)
       at false = refl
 
   pub rows_next : (image : Arrays) (w : Writes) (arrays : Arrays) (args : List ℕ) → RowsAt image w arrays
       → RowsAt image (λ m. w m ++ of_mem m (thread p arrays args).writes) (thread p arrays args).arrays
   rows_next image w arrays args rows m =
-      acc.row_after arrays args m ∙ ap (λ l. wrote l (of_mem m (thread p arrays args).writes)) (rows m) ∙ sym (wrote_append (w m) (of_mem m (thread p arrays args).writes) (row image m))
+      acc.row_after arrays args m ∙ ap (λ l. wrote l (of_mem m (thread p arrays args).writes)) (rows m)
+      ∙ sym (wrote_append (w m) (of_mem m (thread p arrays args).writes) (row image m))
 
   -- behind a thread in the pipe nobody is past the last stage
-  pub none_past : (asked : List (Option ℕ)) (past w : Writes) (v : Marks) (arrays : Arrays) (args : List ℕ) (s : ℕ) (ahead : List ℕ) (sps : List Spot) → s ≤ length p.stages → Standing p acc asked past w v arrays args (s ∷ ahead) sps → past_last p sps ≡ false
+  pub none_past : (asked : List (Option ℕ)) (past w : Writes) (v : Marks) (arrays : Arrays) (args : List ℕ) (s : ℕ) (ahead : List ℕ) (sps : List Spot)
+      → s ≤ length p.stages → Standing p acc asked past w v arrays args (s ∷ ahead) sps → past_last p sps ≡ false
   none_past asked past w v arrays args s ahead [] low k = refl
   none_past asked past w v arrays args s ahead (sp ∷ sps) low k = at (nat_lt sp.stage (length p.stages)) refl
     where
       at : (b : Bool) → nat_lt sp.stage (length p.stages) ≡ b → not (nat_lt sp.stage (length p.stages)) ≡ false
       at true e = ap not e
-      at false e = absurd (let i : length p.stages < s = k.0.under.0.below (length p.stages) (acc.graph.trunk_past (length p.stages) (le_refl _)) (ltb-false _ _ e) in omega arith)
+      at false e =
+          absurd
+          (let i : length p.stages < s = k.0.under.0.below (length p.stages) (acc.graph.trunk_past (length p.stages) (le_refl _)) (ltb-false _ _ e) in
+          omega arith)
 
 -- one thread in a cycle
-module _ (p : Pipe) (acc : Course p) (image : Arrays) (st : State) (bits : List Bool) (past past' : Writes) (all : List Ask) (rows : RowsAt image past st.arrays) (known : length st.asked ≡ length p.mems) where
+module _ (p : Pipe) (acc : Course p) (image : Arrays) (st : State) (bits : List Bool) (past past' : Writes)
+    (all : List Ask) (rows : RowsAt image past st.arrays) (known : length st.asked ≡ length p.mems) where
   abbrev pub asked' : List (Option ℕ)
   asked' = next_asks p bits all 0 st.asked
 
-  module _ (older : List Act) (v v' : Marks) (d w : Writes) (asks : ℕ → Option ℕ) (arrays : Arrays) (args : List ℕ) (ahead ahead' : List ℕ) (sp : Spot) (last : Bool)
+  module _ (older : List Act) (v v' : Marks) (d w : Writes) (asks : ℕ → Option ℕ) (arrays : Arrays) (args : List ℕ)
+      (ahead ahead' : List ℕ) (sp : Spot) (last : Bool)
       (rows' : RowsAt image w arrays) (b : Behind p acc older v v' d asks ahead ahead') (h : Here p acc st.asked past w v arrays args ahead sp last) where
     pub low_here : sp.stage < length p.stages
     low_here = all_low p acc.graph acc.branches older ahead ahead' sp.stage b.moves h.under
@@ -196,7 +223,8 @@ module _ (p : Pipe) (acc : Course p) (image : Arrays) (st : State) (bits : List 
     clean_later m a k = later_ready m a (mem_at p m).lock (v m) (d m) (v' m) (b.split m) k
 
     -- the head of the live threads after a cycle in which it stands
-    pub head_stands : (ts : List Thread) → (act p st bits older (seat p arrays args sp)).moves ≡ false → Now past past' d (act p st bits older (seat p arrays args sp) ∷ acts p st bits (act p st bits older (seat p arrays args sp) ∷ older) ts)
+    pub head_stands : (ts : List Thread) → (act p st bits older (seat p arrays args sp)).moves ≡ false
+        → Now past past' d (act p st bits older (seat p arrays args sp) ∷ acts p st bits (act p st bits older (seat p arrays args sp) ∷ older) ts)
         → NowAsks all asks (act p st bits older (seat p arrays args sp) ∷ acts p st bits (act p st bits older (seat p arrays args sp) ∷ older) ts)
         → ((m : ℕ) → sp.stage ≤ commit_stage p m → of_mem m (commits_of (acts p st bits (act p st bits older (seat p arrays args sp) ∷ older) ts)) ≡ [])
         → Here p acc (next_asks p bits all 0 st.asked) past' w v' arrays args ahead' (now_spot p st bits sp) last
@@ -204,16 +232,27 @@ module _ (p : Pipe) (acc : Course p) (image : Arrays) (st : State) (bits : List 
         record {
           under = all_grow p acc.graph acc.branches older ahead ahead' sp.stage b.moves h.under;
           on = h.on;
-          words = λ m c. words_step (w m) (past m) (past' m) (strips m (v m)) (d m) (strips m (v' m)) _ (h.words m c) (later_strips m (v m) (d m) (v' m) (b.split m)) (now m)
+          words =
+              λ m c. words_step (w m) (past m) (past' m) (strips m (v m)) (d m) (strips m (v' m)) _ (h.words m c)
+              (later_strips m (v m) (d m) (v' m) (b.split m)) (now m)
               (ap (λ k. of_mem m (cond k ((act p st bits older (seat p arrays args sp)).work.commits ++ commits_of rest) (commits_of rest))) stays ∙ quiet m c);
           clean = right_weaken p sp.stage sp.stage v v' _ _ (le_of_eq refl) (λ m x k. clean_later m x k) h.clean;
           linked = h.linked;
           waits =
               record {
-                gets = answers_caught p st bits arrays sp.asks sp.env h.waits.apart (words_right p acc image st past rows older v v' d w asks arrays args ahead ahead' sp last rows' b h) ∙ h.waits.gets;
+                gets =
+                    answers_caught p st bits arrays sp.asks sp.env h.waits.apart
+                    (words_right p acc image st past rows older v v' d w asks arrays args ahead ahead' sp last rows' b h)
+                    ∙ h.waits.gets;
                 apart = apart_still p bits sp.asks h.waits.apart;
-                out = all_out p bits all st.asked sp.asks h.waits.out (all_more (λ q. Out st.asked q × Sure p acc v sp.stage q) (λ q. is_answered p bits q.mem ≡ false → find_ask all q.mem ≡ None) sp.asks quiet_ask (all_both (Out st.asked) (Sure p acc v sp.stage) sp.asks h.waits.out h.waits.sure));
-                sure = all_still (Sure p acc v' sp.stage) p bits sp.asks (all_more (Sure p acc v sp.stage) (Sure p acc v' sp.stage) sp.asks sure_later h.waits.sure);
+                out =
+                    all_out p bits all st.asked sp.asks h.waits.out
+                    (all_more (λ q. Out st.asked q × Sure p acc v sp.stage q)
+                    (λ q. is_answered p bits q.mem ≡ false → find_ask all q.mem ≡ None) sp.asks quiet_ask
+                    (all_both (Out st.asked) (Sure p acc v sp.stage) sp.asks h.waits.out h.waits.sure));
+                sure =
+                    all_still (Sure p acc v' sp.stage) p bits sp.asks
+                    (all_more (Sure p acc v sp.stage) (Sure p acc v' sp.stage) sp.asks sure_later h.waits.sure);
               };
         }
       where
@@ -227,25 +266,37 @@ module _ (p : Pipe) (acc : Course p) (image : Arrays) (st : State) (bits : List 
         quiet_ask : (q : Ask) → Out st.asked q × Sure p acc v sp.stage q → is_answered p bits q.mem ≡ false → find_ask all q.mem ≡ None
         quiet_ask q k e =
             nowa q.mem
-            ∙ ap (λ t. or_ask (asks q.mem) (find_ask (cond t ((act p st bits older (seat p arrays args sp)).work.asks ++ asks_of rest) (asks_of rest)) q.mem)) stays
+            ∙ ap
+            (λ t. or_ask (asks q.mem)
+            (find_ask (cond t ((act p st bits older (seat p arrays args sp)).work.asks ++ asks_of rest) (asks_of rest)) q.mem)) stays
             ∙ ap₂ or_ask (no_older (asks q.mem) refl)
-            (held_port p st bits (act p st bits older (seat p arrays args sp) ∷ older) ts q.mem (λ i. is_none (k.0 i) || (e i && list_all (λ o. not (awaits_mem o.before.awaits q.mem) || o.moves) (act p st bits older (seat p arrays args sp) ∷ older))))
+            (held_port p st bits (act p st bits older (seat p arrays args sp) ∷ older) ts q.mem
+            (λ i. is_none (k.0 i)
+            || (e i && list_all (λ o. not (awaits_mem o.before.awaits q.mem) || o.moves) (act p st bits older (seat p arrays args sp) ∷ older))))
           where
             no_older : (o : Option ℕ) → asks q.mem ≡ o → asks q.mem ≡ None
             no_older None f = f
-            no_older (Some x) f = absurd (not_next p acc.graph acc.branches (acc.fetch q.mem) k.1.env k.1.low (subst (λ n. Under p (acc.fetch q.mem) n) k.1.next (b.asked q.mem sp.stage h.under (ap is_some f))))
+            no_older (Some x) f =
+                absurd
+                (not_next p acc.graph acc.branches (acc.fetch q.mem) k.1.env k.1.low
+                (subst (λ n. Under p (acc.fetch q.mem) n) k.1.next (b.asked q.mem sp.stage h.under (ap is_some f))))
 
     -- where it moves
     module _ (e : (act p st bits older (seat p arrays args sp)).moves ≡ true) where
       pub now_placed : answered_thread p st bits (seat p arrays args sp) ≡ thread_at p arrays args sp.stage
-      now_placed = whole_now p acc image st past rows bits older v v' d w asks arrays args ahead ahead' sp last rows' b h (moves_answered p st bits older (seat p arrays args sp) e)
+      now_placed =
+          whole_now p acc image st past rows bits older v v' d w asks arrays args ahead ahead' sp last rows' b h
+          (moves_answered p st bits older (seat p arrays args sp) e)
 
       alike_here : (work_of_stage p (around p st bits older sp.stage) (thread_at p arrays args sp.stage) ≡ stage_work p arrays args sp.stage)
           × Right p sp.stage (Clean p v) (blocked_at p arrays args (next_at p arrays args sp.stage)) (so_far p arrays args (next_at p arrays args sp.stage)).env
           × AllAsks (λ q. Clean p v q.mem q.address) (stage_work p arrays args sp.stage).asks
       alike_here =
-          acc.here_alike arrays args (around p st bits older sp.stage) sp.stage (Clean p v) h.on low_here (surrounds p acc image st past rows bits older v v' d w asks arrays args ahead ahead' sp last rows' b h) (plain_clean p v)
-          (subst (λ t. (work_of_stage p (around p st bits older sp.stage) t).ready ≡ true) now_placed (moves_ready p st bits older (seat p arrays args sp) e)) h.clean
+          acc.here_alike arrays args (around p st bits older sp.stage) sp.stage (Clean p v) h.on low_here
+          (surrounds p acc image st past rows bits older v v' d w asks arrays args ahead ahead' sp last rows' b h)
+          (plain_clean p v)
+          (subst (λ t. (work_of_stage p (around p st bits older sp.stage) t).ready ≡ true) now_placed
+          (moves_ready p st bits older (seat p arrays args sp) e)) h.clean
 
       pub work_same : (act p st bits older (seat p arrays args sp)).work ≡ stage_work p arrays args sp.stage
       work_same = ap (work_of_stage p (around p st bits older sp.stage)) now_placed ∙ alike_here.0
@@ -262,28 +313,48 @@ module _ (p : Pipe) (acc : Course p) (image : Arrays) (st : State) (bits : List 
       more : sp.stage < next_at p arrays args sp.stage
       more = acc.graph.up sp.stage (stage_work p arrays args sp.stage).env low_here
 
-      pub head_moves : (ts : List Thread) (last' : Bool) → Now past past' d (act p st bits older (seat p arrays args sp) ∷ acts p st bits (act p st bits older (seat p arrays args sp) ∷ older) ts)
+      pub head_moves : (ts : List Thread) (last' : Bool)
+          → Now past past' d (act p st bits older (seat p arrays args sp) ∷ acts p st bits (act p st bits older (seat p arrays args sp) ∷ older) ts)
           → NowAsks all asks (act p st bits older (seat p arrays args sp) ∷ acts p st bits (act p st bits older (seat p arrays args sp) ∷ older) ts)
           → ((m : ℕ) → sp.stage ≤ commit_stage p m → of_mem m (commits_of (acts p st bits (act p st bits older (seat p arrays args sp) ∷ older) ts)) ≡ [])
           → right_guess (so_far p arrays args (next_at p arrays args sp.stage)).child (thread p arrays args).next ≡ not last'
           → Here p acc (next_asks p bits all 0 st.asked) past' w v' arrays args ahead' (moved_spot p arrays args sp.stage) last'
       head_moves ts last' now nowa quiet linked =
           record {
-            under = subst (λ n. AllUnder p ahead' n) (ap (λ (k : Work). next_of p sp.stage k.env) work_same) (all_step p acc.graph acc.branches older ahead ahead' sp.stage (act p st bits older (seat p arrays args sp)).work.env b.moves h.under low_here can_go);
+            under =
+                subst (λ n. AllUnder p ahead' n) (ap (λ (k : Work). next_of p sp.stage k.env) work_same)
+                (all_step p acc.graph acc.branches older ahead ahead' sp.stage
+                (act p st bits older (seat p arrays args sp)).work.env b.moves h.under low_here can_go);
             on = acc.on_next arrays args sp.stage h.on low_here;
-            words = λ m c. words_step (w m) (past m) (past' m) (strips m (v m)) (d m) (strips m (v' m)) _ (h.words m (earlier m c)) (later_strips m (v m) (d m) (v' m) (b.split m)) (now m)
+            words =
+                λ m c. words_step (w m) (past m) (past' m) (strips m (v m)) (d m)
+                (strips m (v' m)) _ (h.words m (earlier m c)) (later_strips m (v m) (d m) (v' m) (b.split m)) (now m)
                 (ap (λ k. of_mem m (cond k ((act p st bits older (seat p arrays args sp)).work.commits ++ commits_of rest) (commits_of rest))) e
-                ∙ moved_quiet m true (act p st bits older (seat p arrays args sp)).work.commits (commits_of rest) (commits_quiet m (apart m c)) (quiet m (earlier m c)));
+                ∙ moved_quiet m true (act p st bits older (seat p arrays args sp)).work.commits (commits_of rest)
+                (commits_quiet m (apart m c)) (quiet m (earlier m c)));
             clean = right_weaken p sp.stage (next_at p arrays args sp.stage) v v' _ _ (le_of_lt more) (λ m x k. clean_later m x k) alike_here.1;
             linked = linked;
             waits =
                 record {
                   gets = (acc.next_so arrays args sp.stage h.on low_here).0;
                   apart = acc.asks_apart arrays args sp.stage h.on low_here;
-                  out = all_more (λ q. (find_ask (stage_work p arrays args sp.stage).asks q.mem ≡ Some q.address) × AskOk p acc.fetch sp.stage (next_at p arrays args sp.stage) q) (Out (next_asks p bits all 0 st.asked)) (stage_work p arrays args sp.stage).asks out_here
-                      (all_both (λ q. find_ask (stage_work p arrays args sp.stage).asks q.mem ≡ Some q.address) (AskOk p acc.fetch sp.stage (next_at p arrays args sp.stage)) (stage_work p arrays args sp.stage).asks (found (stage_work p arrays args sp.stage).asks (acc.asks_apart arrays args sp.stage h.on low_here)) (acc.asks_ok arrays args sp.stage h.on low_here));
-                  sure = all_more (λ q. Clean p v q.mem q.address × AskOk p acc.fetch sp.stage (next_at p arrays args sp.stage) q) (Sure p acc v' (next_at p arrays args sp.stage)) (stage_work p arrays args sp.stage).asks sure_here
-                      (all_both (λ q. Clean p v q.mem q.address) (AskOk p acc.fetch sp.stage (next_at p arrays args sp.stage)) (stage_work p arrays args sp.stage).asks alike_here.2 (acc.asks_ok arrays args sp.stage h.on low_here));
+                  out =
+                      all_more
+                      (λ q. (find_ask (stage_work p arrays args sp.stage).asks q.mem ≡ Some q.address)
+                      × AskOk p acc.fetch sp.stage (next_at p arrays args sp.stage) q)
+                      (Out (next_asks p bits all 0 st.asked)) (stage_work p arrays args sp.stage).asks out_here
+                      (all_both (λ q. find_ask (stage_work p arrays args sp.stage).asks q.mem ≡ Some q.address)
+                      (AskOk p acc.fetch sp.stage (next_at p arrays args sp.stage))
+                      (stage_work p arrays args sp.stage).asks
+                      (found (stage_work p arrays args sp.stage).asks (acc.asks_apart arrays args sp.stage h.on low_here))
+                      (acc.asks_ok arrays args sp.stage h.on low_here));
+                  sure =
+                      all_more (λ q. Clean p v q.mem q.address × AskOk p acc.fetch sp.stage (next_at p arrays args sp.stage) q)
+                      (Sure p acc v' (next_at p arrays args sp.stage))
+                      (stage_work p arrays args sp.stage).asks sure_here
+                      (all_both (λ q. Clean p v q.mem q.address)
+                      (AskOk p acc.fetch sp.stage (next_at p arrays args sp.stage))
+                      (stage_work p arrays args sp.stage).asks alike_here.2 (acc.asks_ok arrays args sp.stage h.on low_here));
                 };
           }
         where
@@ -296,7 +367,9 @@ module _ (p : Pipe) (acc : Course p) (image : Arrays) (st : State) (bits : List 
           apart : (m : ℕ) → next_at p arrays args sp.stage ≤ commit_stage p m → sp.stage ≢ commit_stage p m
           apart m i j = let k : sp.stage < commit_stage p m = lt_of_lt_of_le more i in omega arith
 
-          sure_here : (q : Ask) → Clean p v q.mem q.address × AskOk p acc.fetch sp.stage (next_at p arrays args sp.stage) q → Sure p acc v' (next_at p arrays args sp.stage) q
+          sure_here : (q : Ask)
+              → Clean p v q.mem q.address × AskOk p acc.fetch sp.stage (next_at p arrays args sp.stage) q
+              → Sure p acc v' (next_at p arrays args sp.stage) q
           sure_here q k = record {
             clean = clean_later q.mem q.address k.0;
             early = k.1.early;
@@ -306,12 +379,18 @@ module _ (p : Pipe) (acc : Course p) (image : Arrays) (st : State) (bits : List 
             next = ap (λ n. next_of p n (stage_work p arrays args sp.stage).env) (sym k.1.here);
           }
 
-          out_here : (q : Ask) → (find_ask (stage_work p arrays args sp.stage).asks q.mem ≡ Some q.address) × AskOk p acc.fetch sp.stage (next_at p arrays args sp.stage) q → Out (next_asks p bits all 0 st.asked) q
+          out_here : (q : Ask)
+              → (find_ask (stage_work p arrays args sp.stage).asks q.mem ≡ Some q.address) × AskOk p acc.fetch sp.stage (next_at p arrays args sp.stage) q
+              → Out (next_asks p bits all 0 st.asked) q
           out_here q k =
               new_out p bits all st.asked q (subst (λ n. q.mem < n) (sym known) k.1.known)
               (nowa q.mem
-              ∙ ap (λ t. or_ask (asks q.mem) (find_ask (cond t ((act p st bits older (seat p arrays args sp)).work.asks ++ asks_of rest) (asks_of rest)) q.mem)) e
-              ∙ ap (or_ask (asks q.mem)) (find_append (act p st bits older (seat p arrays args sp)).work.asks (asks_of rest) q.mem ∙ ap (λ o. or_ask o (find_ask (asks_of rest) q.mem)) (ap (λ (u : Work). find_ask u.asks q.mem) work_same ∙ k.0))
+              ∙ ap
+              (λ t. or_ask (asks q.mem)
+              (find_ask (cond t ((act p st bits older (seat p arrays args sp)).work.asks ++ asks_of rest) (asks_of rest)) q.mem)) e
+              ∙ ap (or_ask (asks q.mem))
+              (find_append (act p st bits older (seat p arrays args sp)).work.asks (asks_of rest) q.mem
+              ∙ ap (λ o. or_ask o (find_ask (asks_of rest) q.mem)) (ap (λ (u : Work). find_ask u.asks q.mem) work_same ∙ k.0))
               ∙ ap (λ o. or_ask o (Some q.address)) (no_older (asks q.mem) refl))
             where
               no_older : (o : Option ℕ) → asks q.mem ≡ o → asks q.mem ≡ None
@@ -319,21 +398,41 @@ module _ (p : Pipe) (acc : Course p) (image : Arrays) (st : State) (bits : List 
               no_older (Some x) f = absurd (not_self p acc sp.stage (subst (λ n. Under p n sp.stage) k.1.here (b.asked q.mem sp.stage h.under (ap is_some f))))
 
       -- what moves in a cycle behind it
-      pub behind_moved : ((m : ℕ) → Later m (marks p arrays args sp.stage m) (of_mem m (act p st bits older (seat p arrays args sp)).work.commits) (marks p arrays args (next_at p arrays args sp.stage) m))
-          × Behind p acc (act p st bits older (seat p arrays args sp) ∷ older) (λ m. v m ++ marks p arrays args sp.stage m) (λ m. v' m ++ marks p arrays args (next_at p arrays args sp.stage) m) (λ m. d m ++ of_mem m (act p st bits older (seat p arrays args sp)).work.commits)
-          (λ m. or_ask (asks m) (find_ask (act p st bits older (seat p arrays args sp)).work.asks m)) (sp.stage ∷ ahead) (next_at p arrays args sp.stage ∷ ahead')
+      pub behind_moved :
+          ((m : ℕ)
+          → Later m (marks p arrays args sp.stage m)
+          (of_mem m (act p st bits older (seat p arrays args sp)).work.commits)
+          (marks p arrays args (next_at p arrays args sp.stage) m))
+          × Behind p acc (act p st bits older (seat p arrays args sp) ∷ older)
+          (λ m. v m ++ marks p arrays args sp.stage m)
+          (λ m. v' m ++ marks p arrays args (next_at p arrays args sp.stage) m)
+          (λ m. d m ++ of_mem m (act p st bits older (seat p arrays args sp)).work.commits)
+          (λ m. or_ask (asks m) (find_ask (act p st bits older (seat p arrays args sp)).work.asks m)) (sp.stage ∷ ahead)
+          (next_at p arrays args sp.stage ∷ ahead')
       behind_moved = (
         step,
-        behind_next p acc older v v' d (λ m. of_mem m (act p st bits older (seat p arrays args sp)).work.commits) asks (λ m. find_ask (act p st bits older (seat p arrays args sp)).work.asks m) arrays args ahead ahead' sp.stage (next_at p arrays args sp.stage) (act p st bits older (seat p arrays args sp)) b h.under refl refl
+        behind_next p acc older v v' d (λ m. of_mem m (act p st bits older (seat p arrays args sp)).work.commits) asks
+            (λ m. find_ask (act p st bits older (seat p arrays args sp)).work.asks m) arrays args ahead ahead' sp.stage
+            (next_at p arrays args sp.stage)
+            (act p st bits older (seat p arrays args sp)) b h.under refl refl
             (inr ((stage_work p arrays args sp.stage).env, e, refl, low_here)) step commits_quiet asks_here,
       )
         where
-          step : (m : ℕ) → Later m (marks p arrays args sp.stage m) (of_mem m (act p st bits older (seat p arrays args sp)).work.commits) (marks p arrays args (next_at p arrays args sp.stage) m)
-          step m = subst (λ (k : Work). Later m (marks p arrays args sp.stage m) (of_mem m k.commits) (marks p arrays args (next_at p arrays args sp.stage) m)) (sym work_same) (acc.marks_step arrays args sp.stage m h.on low_here)
+          step : (m : ℕ)
+              → Later m (marks p arrays args sp.stage m)
+              (of_mem m (act p st bits older (seat p arrays args sp)).work.commits)
+              (marks p arrays args (next_at p arrays args sp.stage) m)
+          step m =
+              subst (λ (k : Work). Later m (marks p arrays args sp.stage m) (of_mem m k.commits) (marks p arrays args (next_at p arrays args sp.stage) m))
+              (sym work_same) (acc.marks_step arrays args sp.stage m h.on low_here)
 
     -- and behind one that stands
     pub behind_stands : (act p st bits older (seat p arrays args sp)).moves ≡ false
-        → Behind p acc (act p st bits older (seat p arrays args sp) ∷ older) (λ m. v m ++ marks p arrays args sp.stage m) (λ m. v' m ++ marks p arrays args sp.stage m) (λ m. d m ++ []) (λ m. or_ask (asks m) None) (sp.stage ∷ ahead) (sp.stage ∷ ahead')
+        → Behind p acc (act p st bits older (seat p arrays args sp) ∷ older)
+        (λ m. v m ++ marks p arrays args sp.stage m) (λ m. v' m ++ marks p arrays args sp.stage m) (λ m. d m ++ [])
+        (λ m. or_ask (asks m) None) (sp.stage ∷ ahead) (sp.stage ∷ ahead')
     behind_stands e =
-        behind_next p acc older v v' d (λ m. []) asks (λ m. None) arrays args ahead ahead' sp.stage sp.stage (act p st bits older (seat p arrays args sp)) b h.under refl refl (inl (low_here, e, refl))
-        (λ m. record { front = []; rest = marks p arrays args sp.stage m; whole = refl; commits = refl; raised = raised_refl (marks p arrays args sp.stage m) }) (λ m k. refl) (λ m k. absurd (clash k))
+        behind_next p acc older v v' d (λ m. []) asks (λ m. None) arrays args ahead ahead' sp.stage sp.stage
+        (act p st bits older (seat p arrays args sp)) b h.under refl refl (inl (low_here, e, refl))
+        (λ m. record { front = []; rest = marks p arrays args sp.stage m; whole = refl; commits = refl; raised = raised_refl (marks p arrays args sp.stage m) })
+        (λ m k. refl) (λ m k. absurd (clash k))

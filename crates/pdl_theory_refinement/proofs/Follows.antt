@@ -35,7 +35,8 @@ pub record Runs (p : Pipe) (acc : Course p) (image : Arrays) (n : ℕ) (past : L
   pub threads : st.threads ≡ seats p (after_turns p image n).arrays (after_turns p image n).next spots ++ strays
   pub tail : Tail p acc.stray acc.made (after_turns p image n).arrays (after_turns p image n).next spots strays
   pub arrays : st.arrays ≡ after_commits image past
-  pub standing : Standing p acc st.asked (λ m. of_mem m past) (λ m. of_mem m (writes_from p n image p.start)) (λ m. []) (after_turns p image n).arrays (after_turns p image n).next (length p.stages ∷ []) spots
+  pub standing : Standing p acc st.asked (λ m. of_mem m past) (λ m. of_mem m (writes_from p n image p.start)) (λ m. [])
+      (after_turns p image n).arrays (after_turns p image n).next (length p.stages ∷ []) spots
   pub live : is_nil spots ≡ false
   pub known : length st.asked ≡ length p.mems
 
@@ -60,27 +61,36 @@ module _ (p : Pipe) (acc : Course p) where
       clash k = cc
 
   -- threads behind all of some stages are behind others
-  weaker : (asked : List (Option ℕ)) (past w : Writes) (v : Marks) (arrays : Arrays) (args : List ℕ) (ahead ahead2 : List ℕ) (sps : List Spot) → ((s : ℕ) → AllUnder p ahead s → AllUnder p ahead2 s)
+  weaker : (asked : List (Option ℕ)) (past w : Writes) (v : Marks) (arrays : Arrays) (args : List ℕ) (ahead ahead2 : List ℕ) (sps : List Spot)
+      → ((s : ℕ) → AllUnder p ahead s → AllUnder p ahead2 s)
       → Standing p acc asked past w v arrays args ahead sps → Standing p acc asked past w v arrays args ahead2 sps
   weaker asked past w v arrays args ahead ahead2 [] f h = h
   weaker asked past w v arrays args ahead ahead2 (sp ∷ sps) f h = (
     record { under = f sp.stage h.0.under; on = h.0.on; words = h.0.words; clean = h.0.clean; linked = h.0.linked; waits = h.0.waits },
-    weaker asked past (λ n. w n ++ of_mem n (thread p arrays args).writes) (λ n. v n ++ marks p arrays args sp.stage n) (thread p arrays args).arrays (thread p arrays args).next (sp.stage ∷ ahead) (sp.stage ∷ ahead2) sps (λ s u. (u.0, f s u.1)) h.1,
+    weaker asked past (λ n. w n ++ of_mem n (thread p arrays args).writes) (λ n. v n ++ marks p arrays args sp.stage n)
+        (thread p arrays args).arrays (thread p arrays args).next (sp.stage ∷ ahead)
+        (sp.stage ∷ ahead2) sps (λ s u. (u.0, f s u.1)) h.1,
   )
 
-  shown_seats : (asked : List (Option ℕ)) (past w : Writes) (v : Marks) (arrays : Arrays) (args : List ℕ) (ahead : List ℕ) (sps : List Spot) → ((s : ℕ) → AllUnder p ahead s → s < length p.stages)
+  shown_seats : (asked : List (Option ℕ)) (past w : Writes) (v : Marks) (arrays : Arrays) (args : List ℕ) (ahead : List ℕ) (sps : List Spot)
+      → ((s : ℕ) → AllUnder p ahead s → s < length p.stages)
       → Standing p acc asked past w v arrays args ahead sps → shown p arrays args sps ≡ seats p arrays args sps
   shown_seats asked past w v arrays args ahead [] f h = refl
   shown_seats asked past w v arrays args ahead (sp ∷ sps) f h =
       ap₂ (λ b xs. cond b (seat p arrays args sp ∷ []) [] ++ xs) (lt-ltb sp.stage (length p.stages) (f sp.stage h.0.under))
-      (shown_seats asked past (λ n. w n ++ of_mem n (thread p arrays args).writes) (λ n. v n ++ marks p arrays args sp.stage n) (thread p arrays args).arrays (thread p arrays args).next (sp.stage ∷ ahead) sps (λ s u. f s u.1) h.1)
+      (shown_seats asked past (λ n. w n ++ of_mem n (thread p arrays args).writes)
+      (λ n. v n ++ marks p arrays args sp.stage n)
+      (thread p arrays args).arrays (thread p arrays args).next (sp.stage ∷ ahead) sps (λ s u. f s u.1) h.1)
 
   pub low_end : (s : ℕ) → AllUnder p (length p.stages ∷ []) s → s < length p.stages
   low_end s u = at (nat_lt s (length p.stages)) refl
     where
       at : (b : Bool) → nat_lt s (length p.stages) ≡ b → s < length p.stages
       at true e = ltb-true _ _ e
-      at false e = absurd (let i : length p.stages < length p.stages = u.0.below (length p.stages) (acc.graph.trunk_past (length p.stages) (le_refl _)) (ltb-false _ _ e) in omega arith)
+      at false e =
+          absurd
+          (let i : length p.stages < length p.stages = u.0.below (length p.stages) (acc.graph.trunk_past (length p.stages) (le_refl _)) (ltb-false _ _ e) in
+          omega arith)
 
   -- the sequential array at a turn
   pub rows_at : (image : Arrays) (n : ℕ) → RowsAt image (λ m. of_mem m (writes_from p n image p.start)) (after_turns p image n).arrays
@@ -91,18 +101,29 @@ module _ (p : Pipe) (acc : Course p) where
 
   -- the next threads where the oldest ends
   dropped : (asked : List (Option ℕ)) (past : Writes) (image : Arrays) (n : ℕ) (sp : Spot) (sps : List Spot) → sp.stage ≡ length p.stages
-      → Standing p acc asked past (λ m. of_mem m (writes_from p n image p.start)) (λ m. []) (after_turns p image n).arrays (after_turns p image n).next (suc (length p.stages) ∷ []) (sp ∷ sps)
-      → Standing p acc asked past (λ m. of_mem m (writes_from p (suc n) image p.start)) (λ m. []) (after_turns p image (suc n)).arrays (after_turns p image (suc n)).next (length p.stages ∷ []) sps
+      → Standing p acc asked past (λ m. of_mem m (writes_from p n image p.start)) (λ m. [])
+      (after_turns p image n).arrays (after_turns p image n).next (suc (length p.stages) ∷ []) (sp ∷ sps)
+      → Standing p acc asked past (λ m. of_mem m (writes_from p (suc n) image p.start)) (λ m. [])
+      (after_turns p image (suc n)).arrays (after_turns p image (suc n)).next (length p.stages ∷ []) sps
   dropped asked past image n sp sps e h =
-      subst (λ v. Standing p acc asked past (λ m. of_mem m (writes_from p (suc n) image p.start)) v (after_turns p image (suc n)).arrays (after_turns p image (suc n)).next (length p.stages ∷ []) sps)
-      (λ i m. (ap (λ s. marks p (after_turns p image n).arrays (after_turns p image n).next s m) e ∙ acc.marks_end (after_turns p image n).arrays (after_turns p image n).next m) i)
-      (subst (λ w. Standing p acc asked past w (λ m. [] ++ marks p (after_turns p image n).arrays (after_turns p image n).next sp.stage m) (after_turns p image (suc n)).arrays (after_turns p image (suc n)).next (length p.stages ∷ []) sps)
+      subst
+      (λ v. Standing p acc asked past (λ m. of_mem m (writes_from p (suc n) image p.start)) v
+      (after_turns p image (suc n)).arrays (after_turns p image (suc n)).next (length p.stages ∷ []) sps)
+      (λ i m.
+      (ap (λ s. marks p (after_turns p image n).arrays (after_turns p image n).next s m) e
+      ∙ acc.marks_end (after_turns p image n).arrays (after_turns p image n).next m) i)
+      (subst
+      (λ w. Standing p acc asked past w (λ m. [] ++ marks p (after_turns p image n).arrays (after_turns p image n).next sp.stage m)
+      (after_turns p image (suc n)).arrays (after_turns p image (suc n)).next (length p.stages ∷ []) sps)
       (λ i m. (sym (of_mem_append m (writes_from p n image p.start) _) ∙ ap (of_mem m) (sym (writes_more p n image p.start))) i)
-      (weaker asked past _ _ (after_turns p image (suc n)).arrays (after_turns p image (suc n)).next (sp.stage ∷ suc (length p.stages) ∷ []) (length p.stages ∷ []) sps (λ s u. (subst (λ b. Under p b s) e u.0, tt)) h.1))
+      (weaker asked past _ _ (after_turns p image (suc n)).arrays (after_turns p image (suc n)).next (sp.stage ∷ suc (length p.stages) ∷ [])
+      (length p.stages ∷ []) sps (λ s u. (subst (λ b. Under p b s) e u.0, tt)) h.1))
 
-  dropped_live : (asked : List (Option ℕ)) (past w : Writes) (v : Marks) (arrays : Arrays) (args : List ℕ) (ahead : List ℕ) (sp : Spot) (sps : List Spot) → sp.stage ≡ length p.stages
+  dropped_live : (asked : List (Option ℕ)) (past w : Writes) (v : Marks) (arrays : Arrays) (args : List ℕ) (ahead : List ℕ) (sp : Spot) (sps : List Spot)
+      → sp.stage ≡ length p.stages
       → Standing p acc asked past w v arrays args ahead (sp ∷ sps) → is_nil sps ≡ false
-  dropped_live asked past w v arrays args ahead sp sps e h = at (is_nil sps) (sym (acc.child_end arrays args) ∙ ap (λ s. right_guess (so_far p arrays args s).child (thread p arrays args).next) (sym e) ∙ h.0.linked)
+  dropped_live asked past w v arrays args ahead sp sps e h =
+      at (is_nil sps) (sym (acc.child_end arrays args) ∙ ap (λ s. right_guess (so_far p arrays args s).child (thread p arrays args).next) (sym e) ∙ h.0.linked)
     where
       at : (b : Bool) → true ≡ not b → b ≡ false
       at true f = absurd (cc f)
@@ -127,13 +148,19 @@ module _ (p : Pipe) (acc : Course p) where
   -- the state after a cycle, by what its threads did
   runs_after : (image : Arrays) (n : ℕ) (past : List Commit) (st' : State) (these : List Act)
       → st'.threads ≡ survivors p these → st'.arrays ≡ after_commits image (past ++ commits_of these) → length st'.asked ≡ length p.mems
-      → Turned p acc st'.asked (λ m. of_mem m (past ++ commits_of these)) (λ m. of_mem m (writes_from p n image p.start)) (λ m. []) (after_turns p image n).arrays (after_turns p image n).next (length p.stages ∷ []) (suc (length p.stages) ∷ []) these
+      → Turned p acc st'.asked (λ m. of_mem m (past ++ commits_of these))
+      (λ m. of_mem m (writes_from p n image p.start)) (λ m. [])
+      (after_turns p image n).arrays (after_turns p image n).next (length p.stages ∷ [])
+      (suc (length p.stages) ∷ []) these
       → Runs p acc image (if ends_one p these then suc n else n) (past ++ commits_of these) st'
   runs_after image n past st' these e f known t = at t.spots t.strays t.threads t.standing t.tail t.some t.ended
     where
       at : (sps : List Spot) (strays : List Thread) → survivors p these ≡ shown p (after_turns p image n).arrays (after_turns p image n).next sps ++ strays
-          → Standing p acc st'.asked (λ m. of_mem m (past ++ commits_of these)) (λ m. of_mem m (writes_from p n image p.start)) (λ m. []) (after_turns p image n).arrays (after_turns p image n).next (suc (length p.stages) ∷ []) sps
-          → Tail p acc.stray acc.made (after_turns p image n).arrays (after_turns p image n).next sps strays → is_nil sps ≡ false → ends_one p these ≡ past_last p sps
+          → Standing p acc st'.asked (λ m. of_mem m (past ++ commits_of these))
+          (λ m. of_mem m (writes_from p n image p.start)) (λ m. [])
+          (after_turns p image n).arrays (after_turns p image n).next (suc (length p.stages) ∷ []) sps
+          → Tail p acc.stray acc.made (after_turns p image n).arrays (after_turns p image n).next sps strays
+          → is_nil sps ≡ false → ends_one p these ≡ past_last p sps
           → Runs p acc image (if ends_one p these then suc n else n) (past ++ commits_of these) st'
       at [] strays g h t k l = absurd (cc k)
       at (sp ∷ sps) strays g h t k l = by_last (nat_lt sp.stage (length p.stages)) refl
@@ -141,31 +168,52 @@ module _ (p : Pipe) (acc : Course p) where
           by_last : (b : Bool) → nat_lt sp.stage (length p.stages) ≡ b → Runs p acc image (if ends_one p these then suc n else n) (past ++ commits_of these) st'
           by_last true i =
               let low : sp.stage < length p.stages = ltb-true _ _ i in
-              let rest : Standing p acc st'.asked (λ m. of_mem m (past ++ commits_of these)) _ _ (after_turns p image (suc n)).arrays (after_turns p image (suc n)).next (sp.stage ∷ length p.stages ∷ []) sps =
-              weaker st'.asked (λ m. of_mem m (past ++ commits_of these)) _ _ (after_turns p image (suc n)).arrays (after_turns p image (suc n)).next (sp.stage ∷ suc (length p.stages) ∷ []) (sp.stage ∷ length p.stages ∷ []) sps (λ s u. (u.0, (under_end sp.stage s (le_of_lt low) u.0, tt))) h.1 in
-              let here : Here p acc st'.asked (λ m. of_mem m (past ++ commits_of these)) (λ m. of_mem m (writes_from p n image p.start)) (λ m. []) (after_turns p image n).arrays (after_turns p image n).next (length p.stages ∷ []) sp (is_nil sps) =
+              let rest : Standing p acc st'.asked (λ m. of_mem m (past ++ commits_of these)) _ _
+              (after_turns p image (suc n)).arrays (after_turns p image (suc n)).next
+              (sp.stage ∷ length p.stages ∷ []) sps =
+              weaker st'.asked (λ m. of_mem m (past ++ commits_of these)) _ _ (after_turns p image (suc n)).arrays
+              (after_turns p image (suc n)).next (sp.stage ∷ suc (length p.stages) ∷ [])
+              (sp.stage ∷ length p.stages ∷ []) sps (λ s u. (u.0, (under_end sp.stage s (le_of_lt low) u.0, tt))) h.1 in
+              let here : Here p acc st'.asked (λ m. of_mem m (past ++ commits_of these))
+              (λ m. of_mem m (writes_from p n image p.start)) (λ m. [])
+              (after_turns p image n).arrays (after_turns p image n).next (length p.stages ∷ []) sp (is_nil sps) =
               record { under = (under_low sp.stage low, tt); on = h.0.on; words = h.0.words; clean = h.0.clean; linked = h.0.linked; waits = h.0.waits } in
               subst (λ c. Runs p acc image (cond c (suc n) n) (past ++ commits_of these) st') (sym (l ∙ ap not i))
               (record {
                 spots = sp ∷ sps;
                 strays = strays;
                 tail = t;
-                threads = e ∙ g ∙ ap (λ l. l ++ strays) (shown_seats st'.asked (λ m. of_mem m (past ++ commits_of these)) _ _ (after_turns p image n).arrays (after_turns p image n).next (length p.stages ∷ []) (sp ∷ sps) low_end (here, rest));
+                threads =
+                    e ∙ g
+                    ∙ ap (λ l. l ++ strays)
+                    (shown_seats st'.asked (λ m. of_mem m (past ++ commits_of these)) _ _ (after_turns p image n).arrays
+                    (after_turns p image n).next (length p.stages ∷ [])
+                    (sp ∷ sps) low_end (here, rest));
                 arrays = f;
                 standing = (here, rest);
                 live = refl;
                 known = known;
               })
           by_last false i =
-              let past_it : sp.stage ≡ length p.stages = exact (ltb-false _ _ i) (h.0.under.0.below sp.stage (acc.graph.trunk_past sp.stage (ltb-false _ _ i)) (le_refl sp.stage)) in
+              let past_it : sp.stage ≡ length p.stages =
+              exact (ltb-false _ _ i) (h.0.under.0.below sp.stage (acc.graph.trunk_past sp.stage (ltb-false _ _ i)) (le_refl sp.stage)) in
               let h'' = dropped st'.asked (λ m. of_mem m (past ++ commits_of these)) image n sp sps past_it h in
               subst (λ c. Runs p acc image (cond c (suc n) n) (past ++ commits_of these) st') (sym (l ∙ ap not i))
               (record {
                 spots = sps;
                 strays = strays;
                 tail = dropped_tail _ _ sp sps strays (dropped_live st'.asked (λ m. of_mem m (past ++ commits_of these)) _ _ _ _ _ sp sps past_it h) t;
-                threads = e ∙ g ∙ ap (λ b. (cond b (seat p (after_turns p image n).arrays (after_turns p image n).next sp ∷ []) [] ++ shown p (after_turns p image (suc n)).arrays (after_turns p image (suc n)).next sps) ++ strays) i
-                    ∙ ap (λ l. l ++ strays) (shown_seats st'.asked (λ m. of_mem m (past ++ commits_of these)) _ _ (after_turns p image (suc n)).arrays (after_turns p image (suc n)).next (length p.stages ∷ []) sps low_end h'');
+                threads =
+                    e ∙ g
+                    ∙ ap
+                    (λ b.
+                    (cond b (seat p (after_turns p image n).arrays (after_turns p image n).next sp ∷ []) []
+                    ++ shown p (after_turns p image (suc n)).arrays (after_turns p image (suc n)).next sps)
+                    ++ strays) i
+                    ∙ ap (λ l. l ++ strays)
+                    (shown_seats st'.asked (λ m. of_mem m (past ++ commits_of these)) _ _
+                    (after_turns p image (suc n)).arrays (after_turns p image (suc n)).next
+                    (length p.stages ∷ []) sps low_end h'');
                 arrays = f;
                 standing = h'';
                 live = dropped_live st'.asked (λ m. of_mem m (past ++ commits_of these)) _ _ _ _ _ sp sps past_it h;
@@ -177,27 +225,45 @@ module _ (p : Pipe) (acc : Course p) where
 
   -- a cycle
   pub runs_cycle : (image : Arrays) (n : ℕ) (past : List Commit) (st : State) (bits : List Bool) → Runs p acc image n past st
-      → Runs p acc image (if ends_one p (all_acts p st bits) then suc n else n) (past ++ commits_of (all_acts p st bits)) (after_acts p st bits (all_acts p st bits))
+      → Runs p acc image (if ends_one p (all_acts p st bits) then suc n else n)
+      (past ++ commits_of (all_acts p st bits)) (after_acts p st bits (all_acts p st bits))
   runs_cycle image n past st bits r =
       runs_after image n past (after_acts p st bits (all_acts p st bits)) (all_acts p st bits) refl
       (ap (λ l. after_commits l (commits_of (all_acts p st bits))) r.arrays ∙ sym (committed_append past (commits_of (all_acts p st bits)) image))
       (requests_length p bits (asks_of (all_acts p st bits)) 0 st.asked ∙ r.known)
-      (subst (λ ts. Turned p acc (next_asks p bits (asks_of (acts p st bits [] ts)) 0 st.asked) (λ m. of_mem m (past ++ commits_of (acts p st bits [] ts))) (λ m. of_mem m (writes_from p n image p.start)) (λ m. []) (after_turns p image n).arrays (after_turns p image n).next (length p.stages ∷ []) (suc (length p.stages) ∷ []) (acts p st bits [] ts)) (sym r.threads)
-      (turned p acc image st bits (λ m. of_mem m past) (λ m. of_mem m (past ++ commits_of (acts p st bits [] (seats p (after_turns p image n).arrays (after_turns p image n).next r.spots ++ r.strays)))) (asks_of (acts p st bits [] (seats p (after_turns p image n).arrays (after_turns p image n).next r.spots ++ r.strays)))
+      (subst
+      (λ ts. Turned p acc (next_asks p bits (asks_of (acts p st bits [] ts)) 0 st.asked)
+      (λ m. of_mem m (past ++ commits_of (acts p st bits [] ts))) (λ m. of_mem m (writes_from p n image p.start))
+      (λ m. []) (after_turns p image n).arrays (after_turns p image n).next (length p.stages ∷ [])
+      (suc (length p.stages) ∷ []) (acts p st bits [] ts))
+      (sym r.threads)
+      (turned p acc image st bits (λ m. of_mem m past)
+      (λ m. of_mem m (past ++ commits_of (acts p st bits [] (seats p (after_turns p image n).arrays (after_turns p image n).next r.spots ++ r.strays))))
+      (asks_of (acts p st bits [] (seats p (after_turns p image n).arrays (after_turns p image n).next r.spots ++ r.strays)))
       (λ m. ap (λ l. row l m) r.arrays ∙ row_committed m past image) r.known
-      [] (λ m. []) (λ m. []) (λ m. []) (λ m. of_mem m (writes_from p n image p.start)) (λ m. None) (after_turns p image n).arrays (after_turns p image n).next (length p.stages ∷ []) (suc (length p.stages) ∷ []) r.spots r.strays
+      [] (λ m. []) (λ m. []) (λ m. []) (λ m. of_mem m (writes_from p n image p.start)) (λ m. None)
+      (after_turns p image n).arrays (after_turns p image n).next (length p.stages ∷ [])
+      (suc (length p.stages) ∷ []) r.spots r.strays
       (rows_at image n) behind_none r.standing r.tail r.live (λ m. of_mem_append m past _) (λ m. refl)))
 
   -- a run
   pub runs_run : (image : Arrays) (n : ℕ) (past : List Commit) (st : State) (schedule : List (List Bool)) → Runs p acc image n past st
       → Runs p acc image (n + ended_in (turns_from p st schedule)) (past ++ all_commits (turns_from p st schedule)) (state_after p st schedule)
-  runs_run image n past st [] r = subst (λ k. Runs p acc image k (past ++ []) st) (sym (add-zero n)) (subst (λ l. Runs p acc image n l st) (sym (append-nil past)) r)
+  runs_run image n past st [] r =
+      subst (λ k. Runs p acc image k (past ++ []) st) (sym (add-zero n)) (subst (λ l. Runs p acc image n l st) (sym (append-nil past)) r)
   runs_run image n past st (bits ∷ schedule) r =
-      subst (λ l. Runs p acc image (n + ended_in (turns_from p st (bits ∷ schedule))) l (state_after p st (bits ∷ schedule))) (append_assoc past (commits_of (all_acts p st bits)) _)
-      (subst (λ k. Runs p acc image k ((past ++ commits_of (all_acts p st bits)) ++ all_commits (turns_from p (cycle p st bits) schedule)) (state_after p st (bits ∷ schedule))) (count (ends_one p (all_acts p st bits)))
-      (runs_run image (if ends_one p (all_acts p st bits) then suc n else n) (past ++ commits_of (all_acts p st bits)) (cycle p st bits) schedule (runs_cycle image n past st bits r)))
+      subst (λ l. Runs p acc image (n + ended_in (turns_from p st (bits ∷ schedule))) l (state_after p st (bits ∷ schedule)))
+      (append_assoc past (commits_of (all_acts p st bits)) _)
+      (subst
+      (λ k. Runs p acc image k ((past ++ commits_of (all_acts p st bits)) ++ all_commits (turns_from p (cycle p st bits) schedule))
+      (state_after p st (bits ∷ schedule)))
+      (count (ends_one p (all_acts p st bits)))
+      (runs_run image (if ends_one p (all_acts p st bits) then suc n else n) (past ++ commits_of (all_acts p st bits))
+      (cycle p st bits) schedule (runs_cycle image n past st bits r)))
     where
-      count : (b : Bool) → (cond b (suc n) n) + ended_in (turns_from p (cycle p st bits) schedule) ≡ n + cond b (suc (ended_in (turns_from p (cycle p st bits) schedule))) (ended_in (turns_from p (cycle p st bits) schedule))
+      count : (b : Bool)
+          → (cond b (suc n) n) + ended_in (turns_from p (cycle p st bits) schedule)
+          ≡ n + cond b (suc (ended_in (turns_from p (cycle p st bits) schedule))) (ended_in (turns_from p (cycle p st bits) schedule))
       count true = omega arith
       count false = refl
 
@@ -213,32 +279,47 @@ module _ (p : Pipe) (acc : Course p) where
         tail = subst (λ c. Last p acc.stray acc.made 0 c []) (sym (ap (λ (w : Work). w.child) (acc.start_so image p.start))) refl;
         threads = ap (λ t. t ∷ []) (born_seat p acc image p.start);
         arrays = refl;
-        standing = born_standing p acc (nothing_asked p.mems) (λ m. []) (λ m. []) (λ m. []) image p.start (length p.stages ∷ []) (under_low 0 acc.graph.some_stage, tt) (λ m. refl);
+        standing =
+            born_standing p acc (nothing_asked p.mems) (λ m. []) (λ m. [])
+            (λ m. []) image p.start (length p.stages ∷ []) (under_low 0 acc.graph.some_stage, tt) (λ m. refl);
         live = refl;
         known = none_length p.mems;
       }
 
-  pub run_of : (image : Arrays) (schedule : List (List Bool)) → Runs p acc image (ended_in (turns p image schedule)) (all_commits (turns p image schedule)) (state_after p (first p image) schedule)
-  run_of image schedule = subst (λ n. Runs p acc image n (all_commits (turns p image schedule)) (state_after p (first p image) schedule)) (zero-add (ended_in (turns p image schedule))) (runs_run image 0 [] (first p image) schedule (runs_first image))
+  pub run_of : (image : Arrays) (schedule : List (List Bool))
+      → Runs p acc image (ended_in (turns p image schedule)) (all_commits (turns p image schedule)) (state_after p (first p image) schedule)
+  run_of image schedule =
+      subst (λ n. Runs p acc image n (all_commits (turns p image schedule)) (state_after p (first p image) schedule))
+      (zero-add (ended_in (turns p image schedule))) (runs_run image 0 [] (first p image) schedule (runs_first image))
 
   -- REFINEMENT
 
   -- all turns' writes are the commits with what is undone
-  total : (m : ℕ) (asked : List (Option ℕ)) (past w : Writes) (v : Marks) (arrays : Arrays) (args : List ℕ) (ahead : List ℕ) (sps : List Spot) → Standing p acc asked past w v arrays args ahead sps
+  total : (m : ℕ) (asked : List (Option ℕ)) (past w : Writes) (v : Marks) (arrays : Arrays) (args : List ℕ) (ahead : List ℕ) (sps : List Spot)
+      → Standing p acc asked past w v arrays args ahead sps
       → (rest : List Commit) × (past m ++ rest ≡ w m ++ of_mem m (writes_from p (length sps) arrays args))
   total m asked past w v arrays args ahead [] h = (strips m (v m), sym (append-nil (w m) ∙ h m))
   total m asked past w v arrays args ahead (sp ∷ sps) h =
-      let k = total m asked past (λ n. w n ++ of_mem n (thread p arrays args).writes) (λ n. v n ++ marks p arrays args sp.stage n) (thread p arrays args).arrays (thread p arrays args).next (sp.stage ∷ ahead) sps h.1 in
+      let k =
+      total m asked past (λ n. w n ++ of_mem n (thread p arrays args).writes)
+      (λ n. v n ++ marks p arrays args sp.stage n)
+      (thread p arrays args).arrays (thread p arrays args).next (sp.stage ∷ ahead) sps h.1 in
       (k.0, k.1 ∙ append_assoc (w m) (of_mem m (thread p arrays args).writes) _ ∙ ap (λ l. w m ++ l) (sym (of_mem_append m (thread p arrays args).writes _)))
 
   -- the writes before a turn are among the commits where no older thread has an undone write
-  begun : (m : ℕ) (asked : List (Option ℕ)) (past w : Writes) (v : Marks) (arrays : Arrays) (args : List ℕ) (ahead : List ℕ) (sps : List Spot) → v m ≡ [] → Standing p acc asked past w v arrays args ahead sps
+  begun : (m : ℕ) (asked : List (Option ℕ)) (past w : Writes) (v : Marks) (arrays : Arrays) (args : List ℕ) (ahead : List ℕ) (sps : List Spot)
+      → v m ≡ [] → Standing p acc asked past w v arrays args ahead sps
       → (rest : List Commit) × (w m ++ rest ≡ past m)
   begun m asked past w v arrays args ahead [] e h = ([], append-nil (w m) ∙ h m ∙ ap (λ l. past m ++ strips m l) e ∙ append-nil (past m))
   begun m asked past w v arrays args ahead (sp ∷ sps) e h =
-      at (nat_lt (commit_stage p m) sp.stage) refl (λ f. begun m asked past (λ n. w n ++ of_mem n (thread p arrays args).writes) (λ n. v n ++ marks p arrays args sp.stage n) (thread p arrays args).arrays (thread p arrays args).next (sp.stage ∷ ahead) sps f h.1)
+      at (nat_lt (commit_stage p m) sp.stage) refl
+      (λ f. begun m asked past (λ n. w n ++ of_mem n (thread p arrays args).writes)
+      (λ n. v n ++ marks p arrays args sp.stage n)
+      (thread p arrays args).arrays (thread p arrays args).next (sp.stage ∷ ahead) sps f h.1)
     where
-      at : (b : Bool) → nat_lt (commit_stage p m) sp.stage ≡ b → (v m ++ marks p arrays args sp.stage m ≡ [] → (rest : List Commit) × ((w m ++ of_mem m (thread p arrays args).writes) ++ rest ≡ past m)) → (rest : List Commit) × (w m ++ rest ≡ past m)
+      at : (b : Bool) → nat_lt (commit_stage p m) sp.stage ≡ b
+          → (v m ++ marks p arrays args sp.stage m ≡ [] → (rest : List Commit) × ((w m ++ of_mem m (thread p arrays args).writes) ++ rest ≡ past m))
+          → (rest : List Commit) × (w m ++ rest ≡ past m)
       at true f k =
           let r = k (ap₂ (λ l c. l ++ c) e (acc.marks_late arrays args sp.stage m (ltb-true _ _ f))) in
           (of_mem m (thread p arrays args).writes ++ r.0, sym (append_assoc (w m) (of_mem m (thread p arrays args).writes) r.0) ∙ r.1)
@@ -249,35 +330,52 @@ module _ (p : Pipe) (acc : Course p) where
   stages_of [] = []
   stages_of (sp ∷ sps) = sp.stage ∷ stages_of sps
 
-  apart_from : (b : ℕ) (asked : List (Option ℕ)) (past w : Writes) (v : Marks) (arrays : Arrays) (args : List ℕ) (ahead : List ℕ) (sps : List Spot) → ((s : ℕ) → AllUnder p ahead s → Under p b s)
+  apart_from : (b : ℕ) (asked : List (Option ℕ)) (past w : Writes) (v : Marks) (arrays : Arrays) (args : List ℕ) (ahead : List ℕ) (sps : List Spot)
+      → ((s : ℕ) → AllUnder p ahead s → Under p b s)
       → Standing p acc asked past w v arrays args ahead sps → AllByRecursion (λ y. eqb b y ≡ false) (stages_of sps)
   apart_from b asked past w v arrays args ahead [] f h = tt
   apart_from b asked past w v arrays args ahead (sp ∷ sps) f h = (
     ne_eqb b sp.stage (λ e. not_self p acc sp.stage (subst (λ n. Under p n sp.stage) e (f sp.stage h.0.under))),
-    apart_from b asked past (λ n. w n ++ of_mem n (thread p arrays args).writes) (λ n. v n ++ marks p arrays args sp.stage n) (thread p arrays args).arrays (thread p arrays args).next (sp.stage ∷ ahead) sps (λ s u. f s u.1) h.1,
+    apart_from b asked past (λ n. w n ++ of_mem n (thread p arrays args).writes)
+        (λ n. v n ++ marks p arrays args sp.stage n)
+        (thread p arrays args).arrays (thread p arrays args).next (sp.stage ∷ ahead) sps (λ s u. f s u.1) h.1,
   )
 
-  distinct : (asked : List (Option ℕ)) (past w : Writes) (v : Marks) (arrays : Arrays) (args : List ℕ) (ahead : List ℕ) (sps : List Spot) → Standing p acc asked past w v arrays args ahead sps → IsDistinct eqb (stages_of sps)
+  distinct : (asked : List (Option ℕ)) (past w : Writes) (v : Marks) (arrays : Arrays) (args : List ℕ) (ahead : List ℕ) (sps : List Spot)
+      → Standing p acc asked past w v arrays args ahead sps → IsDistinct eqb (stages_of sps)
   unfolding IsDistinct
   distinct asked past w v arrays args ahead [] h = tt
   distinct asked past w v arrays args ahead (sp ∷ sps) h = (
-    apart_from sp.stage asked past (λ n. w n ++ of_mem n (thread p arrays args).writes) (λ n. v n ++ marks p arrays args sp.stage n) (thread p arrays args).arrays (thread p arrays args).next (sp.stage ∷ ahead) sps (λ s u. u.0) h.1,
-    distinct asked past (λ n. w n ++ of_mem n (thread p arrays args).writes) (λ n. v n ++ marks p arrays args sp.stage n) (thread p arrays args).arrays (thread p arrays args).next (sp.stage ∷ ahead) sps h.1,
+    apart_from sp.stage asked past (λ n. w n ++ of_mem n (thread p arrays args).writes)
+        (λ n. v n ++ marks p arrays args sp.stage n)
+        (thread p arrays args).arrays (thread p arrays args).next (sp.stage ∷ ahead) sps (λ s u. u.0) h.1,
+    distinct asked past (λ n. w n ++ of_mem n (thread p arrays args).writes)
+        (λ n. v n ++ marks p arrays args sp.stage n)
+        (thread p arrays args).arrays (thread p arrays args).next (sp.stage ∷ ahead) sps h.1,
   )
 
-  low_ones : (asked : List (Option ℕ)) (past w : Writes) (v : Marks) (arrays : Arrays) (args : List ℕ) (ahead : List ℕ) (sps : List Spot) → ((s : ℕ) → AllUnder p ahead s → s < length p.stages)
+  low_ones : (asked : List (Option ℕ)) (past w : Writes) (v : Marks) (arrays : Arrays) (args : List ℕ) (ahead : List ℕ) (sps : List Spot)
+      → ((s : ℕ) → AllUnder p ahead s → s < length p.stages)
       → Standing p acc asked past w v arrays args ahead sps → (q : ℕ) → list_any (eqb q) (stages_of sps) ≡ true → q < length p.stages
   low_ones asked past w v arrays args ahead [] f h q k = absurd (cc k)
-  low_ones asked past w v arrays args ahead (sp ∷ sps) f h q k = at (eqb q sp.stage) refl k (low_ones asked past (λ n. w n ++ of_mem n (thread p arrays args).writes) (λ n. v n ++ marks p arrays args sp.stage n) (thread p arrays args).arrays (thread p arrays args).next (sp.stage ∷ ahead) sps (λ s u. f s u.1) h.1 q)
+  low_ones asked past w v arrays args ahead (sp ∷ sps) f h q k =
+      at (eqb q sp.stage) refl k
+      (low_ones asked past (λ n. w n ++ of_mem n (thread p arrays args).writes)
+      (λ n. v n ++ marks p arrays args sp.stage n)
+      (thread p arrays args).arrays (thread p arrays args).next (sp.stage ∷ ahead) sps (λ s u. f s u.1) h.1 q)
     where
-      at : (b : Bool) → eqb q sp.stage ≡ b → (b || list_any (eqb q) (stages_of sps)) ≡ true → (list_any (eqb q) (stages_of sps) ≡ true → q < length p.stages) → q < length p.stages
+      at : (b : Bool) → eqb q sp.stage ≡ b → (b || list_any (eqb q) (stages_of sps)) ≡ true
+          → (list_any (eqb q) (stages_of sps) ≡ true → q < length p.stages) → q < length p.stages
       at true e i g = subst (λ n. n < length p.stages) (sym (eqb-true q sp.stage e)) (f sp.stage h.0.under)
       at false e i g = g i
 
-  few : (asked : List (Option ℕ)) (past w : Writes) (v : Marks) (arrays : Arrays) (args : List ℕ) (sps : List Spot) → Standing p acc asked past w v arrays args (length p.stages ∷ []) sps → length sps ≤ length p.stages
+  few : (asked : List (Option ℕ)) (past w : Writes) (v : Marks) (arrays : Arrays) (args : List ℕ) (sps : List Spot)
+      → Standing p acc asked past w v arrays args (length p.stages ∷ []) sps → length sps ≤ length p.stages
   few asked past w v arrays args sps h =
       subst (λ n. n ≤ length p.stages) (same sps)
-      (length-le_from_distinct_below (stages_of sps) (length p.stages) (distinct asked past w v arrays args (length p.stages ∷ []) sps h) (low_ones asked past w v arrays args (length p.stages ∷ []) sps low_end h))
+      (length-le_from_distinct_below (stages_of sps) (length p.stages)
+      (distinct asked past w v arrays args (length p.stages ∷ []) sps h)
+      (low_ones asked past w v arrays args (length p.stages ∷ []) sps low_end h))
     where
       same : (sps : List Spot) → length (stages_of sps) ≡ length sps
       same [] = refl
@@ -287,11 +385,21 @@ module _ (p : Pipe) (acc : Course p) where
       → IsPrefix (seqwrites p image m n) (of_mem m past) × IsPrefix (of_mem m past) (seqwrites p image m (n + k))
   run_refines image n past st m k r h = (
     begun m st.asked (λ j. of_mem j past) (λ j. of_mem j (writes_from p n image p.start)) (λ m. []) _ _ (length p.stages ∷ []) r.spots refl r.standing,
-    (t.0 ++ l.0, sym (append_assoc (of_mem m past) t.0 l.0) ∙ ap (λ x. x ++ l.0) (t.1 ∙ sym (of_mem_append m (writes_from p n image p.start) _) ∙ ap (of_mem m) (sym (writes_add p n (length r.spots) image p.start))) ∙ l.1),
+    (
+      t.0 ++ l.0,
+      sym (append_assoc (of_mem m past) t.0 l.0)
+          ∙ ap (λ x. x ++ l.0)
+          (t.1 ∙ sym (of_mem_append m (writes_from p n image p.start) _) ∙ ap (of_mem m) (sym (writes_add p n (length r.spots) image p.start)))
+          ∙ l.1,
+    ),
   )
     where
-      t : (rest : List Commit) × (of_mem m past ++ rest ≡ of_mem m (writes_from p n image p.start) ++ of_mem m (writes_from p (length r.spots) (after_turns p image n).arrays (after_turns p image n).next))
-      t = total m st.asked (λ j. of_mem j past) (λ j. of_mem j (writes_from p n image p.start)) (λ m. []) (after_turns p image n).arrays (after_turns p image n).next (length p.stages ∷ []) r.spots r.standing
+      t : (rest : List Commit)
+          × (of_mem m past ++ rest
+          ≡ of_mem m (writes_from p n image p.start) ++ of_mem m (writes_from p (length r.spots) (after_turns p image n).arrays (after_turns p image n).next))
+      t =
+          total m st.asked (λ j. of_mem j past) (λ j. of_mem j (writes_from p n image p.start)) (λ m. [])
+          (after_turns p image n).arrays (after_turns p image n).next (length p.stages ∷ []) r.spots r.standing
 
       l : (rest : List Commit) × (of_mem m (writes_from p (n + length r.spots) image p.start) ++ rest ≡ of_mem m (writes_from p (n + k) image p.start))
       l = longer p m n (length r.spots) k image p.start h
@@ -323,13 +431,17 @@ module _ (p : Pipe) (acc : Course p) where
   asked_all asked (q ∷ qs) h = (ap is_some h.0, asked_all asked qs h.1)
 
   -- the oldest thread of a state that a run comes to moves, unless the cycle is a wait
-  pub oldest_of : (image : Arrays) (n : ℕ) (past : List Commit) (st : State) (bits : List Bool) (r : Runs p acc image n past st) → is_wait p st bits ≡ false → oldest_moves (all_acts p st bits) ≡ true
+  pub oldest_of : (image : Arrays) (n : ℕ) (past : List Commit) (st : State) (bits : List Bool) (r : Runs p acc image n past st)
+      → is_wait p st bits ≡ false → oldest_moves (all_acts p st bits) ≡ true
   oldest_of image n past st bits r k = subst (λ ts. oldest_moves (acts p st bits [] ts) ≡ true) (sym r.threads) (at r.spots r.standing r.live)
     where
-      at : (sps : List Spot) → Standing p acc st.asked (λ m. of_mem m past) (λ m. of_mem m (writes_from p n image p.start)) (λ m. []) (after_turns p image n).arrays (after_turns p image n).next (length p.stages ∷ []) sps
+      at : (sps : List Spot)
+          → Standing p acc st.asked (λ m. of_mem m past) (λ m. of_mem m (writes_from p n image p.start)) (λ m. [])
+          (after_turns p image n).arrays (after_turns p image n).next (length p.stages ∷ []) sps
           → is_nil sps ≡ false → oldest_moves (acts p st bits [] (seats p (after_turns p image n).arrays (after_turns p image n).next sps ++ r.strays)) ≡ true
       at [] h l = absurd (cc l)
-      at (sp ∷ sps) h l = oldest p st bits (seat p (after_turns p image n).arrays (after_turns p image n).next sp) acc.locks (asked_all st.asked sp.asks h.0.waits.out) k
+      at (sp ∷ sps) h l =
+          oldest p st bits (seat p (after_turns p image n).arrays (after_turns p image n).next sp) acc.locks (asked_all st.asked sp.asks h.0.waits.out) k
 
   pub advances : (image : Arrays) (schedule : List (List Bool)) (bits : List Bool) → Advances p image schedule bits
   advances image schedule bits k = oldest_of image _ _ (state_after p (first p image) schedule) bits (run_of image schedule) k

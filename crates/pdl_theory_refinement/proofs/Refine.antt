@@ -14,7 +14,8 @@ writes_more p (suc k) arrays args =
     let h = turn_front p k arrays args in
     ap (λ l. (thread p arrays args).writes ++ l) (writes_more p k (thread p arrays args).arrays (thread p arrays args).next)
     ∙ sym (append_assoc (thread p arrays args).writes (writes_from p k (thread p arrays args).arrays (thread p arrays args).next) _)
-    ∙ ap₂ (λ a g. ((thread p arrays args).writes ++ writes_from p k (thread p arrays args).arrays (thread p arrays args).next) ++ (thread p a g).writes) (sym h.0) (sym h.1)
+    ∙ ap₂ (λ a g. ((thread p arrays args).writes ++ writes_from p k (thread p arrays args).arrays (thread p arrays args).next) ++ (thread p a g).writes)
+    (sym h.0) (sym h.1)
 
 -- the writes of k + j turns are those of k turns and then those of the j turns after them
 pub writes_add : (p : Pipe) (k j : ℕ) (arrays : Arrays) (args : List ℕ)
@@ -33,7 +34,9 @@ pub longer : (p : Pipe) (m n j k : ℕ) (image : Arrays) (args : List ℕ)
     → (rest : List Commit) × (of_mem m (writes_from p (n + j) image args) ++ rest ≡ of_mem m (writes_from p (n + k) image args))
 longer p m n j k image args h = (
   of_mem m (writes_from p (k - j) (turn_at p image args (n + j)).arrays (turn_at p image args (n + j)).next),
-  sym (of_mem_append m (writes_from p (n + j) image args) _) ∙ ap (of_mem m) (sym (writes_add p (n + j) (k - j) image args)) ∙ ap (λ i. of_mem m (writes_from p i image args)) same,
+  sym (of_mem_append m (writes_from p (n + j) image args) _)
+      ∙ ap (of_mem m) (sym (writes_add p (n + j) (k - j) image args))
+      ∙ ap (λ i. of_mem m (writes_from p i image args)) same,
 )
   where
     same : (n + j) + (k - j) ≡ n + k

@@ -90,7 +90,8 @@ pub record Waits (p : Pipe) (acc : Course p) (asked : List (Option ℕ)) (v : Ma
   pub sure : AllAsks (Sure p acc v sp.stage) sp.asks
 
 -- the thread of a turn on a spot, behind older ones in these stages: w has the sequential writes before the turn, past the commits so far, v the older threads' undone writes
-pub record Here (p : Pipe) (acc : Course p) (asked : List (Option ℕ)) (past w : Writes) (v : Marks) (arrays : Arrays) (args : List ℕ) (ahead : List ℕ) (sp : Spot) (last : Bool) : Type 0 where
+pub record Here (p : Pipe) (acc : Course p) (asked : List (Option ℕ)) (past w : Writes) (v : Marks) (arrays : Arrays)
+    (args : List ℕ) (ahead : List ℕ) (sp : Spot) (last : Bool) : Type 0 where
   pub under : AllUnder p ahead sp.stage
   pub on : acc.on arrays args sp.stage
   pub words : (m : ℕ) → sp.stage ≤ commit_stage p m → w m ≡ past m ++ strips m (v m)
@@ -103,7 +104,9 @@ abbrev pub Standing : (p : Pipe) → Course p → List (Option ℕ) → Writes �
 Standing p acc asked past w v arrays args ahead [] = (m : ℕ) → w m ≡ past m ++ strips m (v m)
 Standing p acc asked past w v arrays args ahead (sp ∷ sps) =
     Here p acc asked past w v arrays args ahead sp (is_nil sps)
-    × Standing p acc asked past (λ m. w m ++ of_mem m (thread p arrays args).writes) (λ m. v m ++ marks p arrays args sp.stage m) (thread p arrays args).arrays (thread p arrays args).next (sp.stage ∷ ahead) sps
+    × Standing p acc asked past (λ m. w m ++ of_mem m (thread p arrays args).writes)
+    (λ m. v m ++ marks p arrays args sp.stage m)
+    (thread p arrays args).arrays (thread p arrays args).next (sp.stage ∷ ahead) sps
 
 -- what is known of the older threads: v is what they have undone at the start, d what they commit, v' what they have undone at the end, and what they ask for
 pub record Behind (p : Pipe) (acc : Course p) (older : List Act) (v v' : Marks) (d : Writes) (asks : ℕ → Option ℕ) (ahead ahead' : List ℕ) : Type 0 where
@@ -120,14 +123,22 @@ plain_clean p v m a h = plain_ready (mem_at p m).lock _ h
 
 module _ (p : Pipe) (acc : Course p) (image : Arrays) (st : State) (past : Writes) (rows : RowsAt image past st.arrays) where
   -- where a read at an address is ready, the word that it finds is the turn's
-  found_right : (older : List Act) (v v' : Marks) (d w : Writes) (asks : ℕ → Option ℕ) (arrays : Arrays) (args : List ℕ) (ahead ahead' : List ℕ) (sp : Spot) (last : Bool) → RowsAt image w arrays → Behind p acc older v v' d asks ahead ahead' → Here p acc st.asked past w v arrays args ahead sp last
+  found_right : (older : List Act) (v v' : Marks) (d w : Writes) (asks : ℕ → Option ℕ) (arrays : Arrays) (args : List ℕ)
+      (ahead ahead' : List ℕ) (sp : Spot) (last : Bool)
+      → RowsAt image w arrays → Behind p acc older v v' d asks ahead ahead'
+      → Here p acc st.asked past w v arrays args ahead sp last
       → (m a : ℕ) → sp.stage ≤ commit_stage p m → Clean p v m a → value_or (seen a (v m) Nothing) (word_at st.arrays m a) ≡ word_at arrays m a
   found_right older v v' d w asks arrays args ahead ahead' sp last rows' b h m a c k =
       ready_value m a (mem_at p m).lock (v m) (row st.arrays m) (b.plain m) k
-      ∙ ap (λ (l : Array). l a) (ap (λ l. wrote l (strips m (v m))) (rows m) ∙ sym (wrote_append (past m) (strips m (v m)) (row image m)) ∙ ap (wrote (row image m)) (sym (h.words m c)) ∙ sym (rows' m))
+      ∙ ap (λ (l : Array). l a)
+      (ap (λ l. wrote l (strips m (v m))) (rows m) ∙ sym (wrote_append (past m) (strips m (v m)) (row image m))
+      ∙ ap (wrote (row image m)) (sym (h.words m c)) ∙ sym (rows' m))
 
   -- the surroundings of a thread are right for its turn
-  pub surrounds : (bits : List Bool) (older : List Act) (v v' : Marks) (d w : Writes) (asks : ℕ → Option ℕ) (arrays : Arrays) (args : List ℕ) (ahead ahead' : List ℕ) (sp : Spot) (last : Bool) → RowsAt image w arrays → Behind p acc older v v' d asks ahead ahead' → Here p acc st.asked past w v arrays args ahead sp last
+  pub surrounds : (bits : List Bool) (older : List Act) (v v' : Marks) (d w : Writes) (asks : ℕ → Option ℕ)
+      (arrays : Arrays) (args : List ℕ) (ahead ahead' : List ℕ) (sp : Spot) (last : Bool)
+      → RowsAt image w arrays → Behind p acc older v v' d asks ahead ahead'
+      → Here p acc st.asked past w v arrays args ahead sp last
       → Surrounds p (around p st bits older sp.stage) arrays sp.stage (Clean p v)
   surrounds bits older v v' d w asks arrays args ahead ahead' sp last rows' b h =
       record {
@@ -145,27 +156,44 @@ module _ (p : Pipe) (acc : Course p) (image : Arrays) (st : State) (past : Write
       late : (m : ℕ) → is_plain (mem_at p m).lock ≡ true → sp.stage ≤ commit_stage p m
       late m k = let e : commit_stage p m ≡ length p.stages = acc.plain_to m k in let i : sp.stage < length p.stages = low in omega arith
 
-      right : (m a : ℕ) → reserve_stage p m ≤ sp.stage → sp.stage ≤ commit_stage p m → Clean p v m a → value_or (latest (befores older) m a) (word_at st.arrays m a) ≡ word_at arrays m a
-      right m a f c k = ap (λ l. value_or l (word_at st.arrays m a)) (b.fits m a sp.stage h.under f) ∙ found_right older v v' d w asks arrays args ahead ahead' sp last rows' b h m a c k
+      right : (m a : ℕ) → reserve_stage p m ≤ sp.stage → sp.stage ≤ commit_stage p m → Clean p v m a
+          → value_or (latest (befores older) m a) (word_at st.arrays m a) ≡ word_at arrays m a
+      right m a f c k =
+          ap (λ l. value_or l (word_at st.arrays m a)) (b.fits m a sp.stage h.under f)
+          ∙ found_right older v v' d w asks arrays args ahead ahead' sp last rows' b h m a c k
 
   -- and so are its answers
-  pub words_right : (older : List Act) (v v' : Marks) (d w : Writes) (asks : ℕ → Option ℕ) (arrays : Arrays) (args : List ℕ) (ahead ahead' : List ℕ) (sp : Spot) (last : Bool) → RowsAt image w arrays → Behind p acc older v v' d asks ahead ahead' → Here p acc st.asked past w v arrays args ahead sp last
+  pub words_right : (older : List Act) (v v' : Marks) (d w : Writes) (asks : ℕ → Option ℕ) (arrays : Arrays)
+      (args : List ℕ) (ahead ahead' : List ℕ) (sp : Spot) (last : Bool)
+      → RowsAt image w arrays → Behind p acc older v v' d asks ahead ahead'
+      → Here p acc st.asked past w v arrays args ahead sp last
       → AllAsks (RightWord st arrays) sp.asks
   words_right older v v' d w asks arrays args ahead ahead' sp last rows' b h =
-      all_more (λ q. Out st.asked q × Sure p acc v sp.stage q) (RightWord st arrays) sp.asks one (all_both (Out st.asked) (Sure p acc v sp.stage) sp.asks h.waits.out h.waits.sure)
+      all_more (λ q. Out st.asked q × Sure p acc v sp.stage q)
+      (RightWord st arrays) sp.asks one (all_both (Out st.asked) (Sure p acc v sp.stage) sp.asks h.waits.out h.waits.sure)
     where
       one : (q : Ask) → Out st.asked q × Sure p acc v sp.stage q → RightWord st arrays q
       one q k =
-          let none : seen q.address (v q.mem) Nothing ≡ Nothing = exact_none (mem_at p q.mem).lock (seen q.address (v q.mem) Nothing) k.1.exact (λ e. ap (λ l. seen q.address l Nothing) (b.plain q.mem e)) k.1.clean in
-          (k.0, ap (λ l. value_or l (word_at st.arrays q.mem q.address)) (sym none) ∙ found_right older v v' d w asks arrays args ahead ahead' sp last rows' b h q.mem q.address k.1.early k.1.clean)
+          let none : seen q.address (v q.mem) Nothing ≡ Nothing =
+          exact_none (mem_at p q.mem).lock (seen q.address (v q.mem) Nothing) k.1.exact
+          (λ e. ap (λ l. seen q.address l Nothing) (b.plain q.mem e)) k.1.clean in (
+            k.0,
+            ap (λ l. value_or l (word_at st.arrays q.mem q.address)) (sym none)
+                ∙ found_right older v v' d w asks arrays args ahead ahead' sp last rows' b h q.mem q.address k.1.early k.1.clean,
+          )
 
   -- a thread with all answers is on its turn
-  pub whole_now : (bits : List Bool) (older : List Act) (v v' : Marks) (d w : Writes) (asks : ℕ → Option ℕ) (arrays : Arrays) (args : List ℕ) (ahead ahead' : List ℕ) (sp : Spot) (last : Bool) → RowsAt image w arrays → Behind p acc older v v' d asks ahead ahead' → Here p acc st.asked past w v arrays args ahead sp last
-      → is_empty (answered_thread p st bits (seat p arrays args sp)).awaits ≡ true → answered_thread p st bits (seat p arrays args sp) ≡ thread_at p arrays args sp.stage
+  pub whole_now : (bits : List Bool) (older : List Act) (v v' : Marks) (d w : Writes) (asks : ℕ → Option ℕ)
+      (arrays : Arrays) (args : List ℕ) (ahead ahead' : List ℕ) (sp : Spot) (last : Bool)
+      → RowsAt image w arrays → Behind p acc older v v' d asks ahead ahead'
+      → Here p acc st.asked past w v arrays args ahead sp last
+      → is_empty (answered_thread p st bits (seat p arrays args sp)).awaits ≡ true
+      → answered_thread p st bits (seat p arrays args sp) ≡ thread_at p arrays args sp.stage
   whole_now bits older v v' d w asks arrays args ahead ahead' sp last rows' b h e =
       let none : still_asks p bits sp.asks ≡ [] = none_awaited (still_asks p bits sp.asks) (ap is_empty (sym (still_awaited p bits sp.asks)) ∙ e) in
       let right = answers_caught p st bits arrays sp.asks sp.env h.waits.apart (words_right older v v' d w asks arrays args ahead ahead' sp last rows' b h) in
-      let env : with_answers p st bits (awaited_of sp.asks) sp.env ≡ (so_far p arrays args sp.stage).env = ap (λ l. caught arrays l (with_answers p st bits (awaited_of sp.asks) sp.env)) (sym none) ∙ right ∙ h.waits.gets in
+      let env : with_answers p st bits (awaited_of sp.asks) sp.env ≡ (so_far p arrays args sp.stage).env =
+      ap (λ l. caught arrays l (with_answers p st bits (awaited_of sp.asks) sp.env)) (sym none) ∙ right ∙ h.waits.gets in
       now_seat p st bits arrays args sp
       ∙ ap₂ (λ x l. record {
         stage = sp.stage;

@@ -41,7 +41,10 @@ stray_stands p f a rest bound' none stays s low made r =
     }
   where
     survive : survivors p (a ∷ rest) ≡ a.now ∷ survivors p rest
-    survive = ap (λ b. cond b (moved_to (exit_of p a) a.work ++ (born_threads p a.work.child ++ (if a.work.fails then [] else survivors p rest))) (a.now ∷ survivors p rest)) stays
+    survive =
+        ap
+        (λ b. cond b (moved_to (exit_of p a) a.work ++ (born_threads p a.work.child ++ (if a.work.fails then [] else survivors p rest)))
+        (a.now ∷ survivors p rest)) stays
 
 -- one that moves
 stray_moves : (p : Pipe) (f : Course p) (t : Thread) (a : Act) (rest : List Act) (bound' n : ℕ) (none : Bool)
@@ -51,15 +54,21 @@ stray_moves : (p : Pipe) (f : Course p) (t : Thread) (a : Act) (rest : List Act)
 stray_moves p f t a rest bound' n none goes h out is more low made r =
     record {
       commits = ap (λ b. cond b (a.work.commits ++ commits_of rest) (commits_of rest)) goes ∙ ap₂ (λ x y. x ++ y) h.commits r.commits;
-      strays = subst (λ l. Strays p f.stray f.made bound' l) (sym survive)
-          (subst (λ k. f.stray (onward k a.work)) (sym is) h.goes_on, low, subst (λ k. f.made (onward k a.work) ≡ (f.made t || is_some a.work.child)) (sym is) h.made_next ∙ linked a.work.child refl none refl, behind a.work.child refl none refl);
+      strays = subst (λ l. Strays p f.stray f.made bound' l) (sym survive) (
+        subst (λ k. f.stray (onward k a.work)) (sym is) h.goes_on,
+        low,
+        subst (λ k. f.made (onward k a.work) ≡ (f.made t || is_some a.work.child)) (sym is) h.made_next ∙ linked a.work.child refl none refl,
+        behind a.work.child refl none refl,
+      );
       ended = ap (λ b. (b && is_none (exit_of p a)) || list_any (λ o. o.moves && is_none (exit_of p o)) rest) goes ∙ ap₂ (λ x y. is_none x || y) out r.ended;
       same = ap nobody survive;
     }
   where
     survive : survivors p (a ∷ rest) ≡ onward n a.work ∷ (born_threads p a.work.child ++ survivors p rest)
     survive =
-        ap (λ b. cond b (moved_to (exit_of p a) a.work ++ (born_threads p a.work.child ++ (if a.work.fails then [] else survivors p rest))) (a.now ∷ survivors p rest)) goes
+        ap
+        (λ b. cond b (moved_to (exit_of p a) a.work ++ (born_threads p a.work.child ++ (if a.work.fails then [] else survivors p rest)))
+        (a.now ∷ survivors p rest)) goes
         ∙ ap (λ x. moved_to x a.work ++ (born_threads p a.work.child ++ (if a.work.fails then [] else survivors p rest))) out
         ∙ ap (λ b. onward n a.work ∷ (born_threads p a.work.child ++ cond b [] (survivors p rest))) h.fails
 
@@ -73,8 +82,11 @@ stray_moves p f t a rest bound' n none goes h out is more low made r =
         clash : None ≡ Some x → ⊥
         clash i = cc
 
-    linked : (c : Option (List ℕ)) → a.work.child ≡ c → (b : Bool) → none ≡ b → (f.made t || is_some a.work.child) ≡ not (nobody (born_threads p a.work.child ++ survivors p rest))
-    linked None e b g = ap (λ c. f.made t || is_some c) e ∙ or_none (f.made t) ∙ made ∙ ap not (sym r.same) ∙ ap (λ c. not (nobody (born_threads p c ++ survivors p rest))) (sym e)
+    linked : (c : Option (List ℕ)) → a.work.child ≡ c → (b : Bool) → none ≡ b
+        → (f.made t || is_some a.work.child) ≡ not (nobody (born_threads p a.work.child ++ survivors p rest))
+    linked None e b g =
+        ap (λ c. f.made t || is_some c) e ∙ or_none (f.made t) ∙ made ∙ ap not (sym r.same)
+        ∙ ap (λ c. not (nobody (born_threads p c ++ survivors p rest))) (sym e)
       where
         or_none : (x : Bool) → (x || false) ≡ x
         or_none true = refl
@@ -88,8 +100,12 @@ stray_moves p f t a rest bound' n none goes h out is more low made r =
     behind : (c : Option (List ℕ)) → a.work.child ≡ c → (b : Bool) → none ≡ b → Strays p f.stray f.made n (born_threads p a.work.child ++ survivors p rest)
     behind None e b g = subst (λ c. Strays p f.stray f.made n (born_threads p c ++ survivors p rest)) (sym e) r.strays
     behind (Some x) e b g =
-        subst (λ c. Strays p f.stray f.made n (born_threads p c ++ survivors p rest)) (sym e)
-        ((h.born x e).0, begins, (h.born x e).1 ∙ ap not (sym (r.same ∙ alone' x e b g)), subst (λ l. Strays p f.stray f.made 0 l) (sym (empty (survivors p rest) (r.same ∙ alone' x e b g))) tt)
+        subst (λ c. Strays p f.stray f.made n (born_threads p c ++ survivors p rest)) (sym e) (
+          (h.born x e).0,
+          begins,
+          (h.born x e).1 ∙ ap not (sym (r.same ∙ alone' x e b g)),
+          subst (λ l. Strays p f.stray f.made 0 l) (sym (empty (survivors p rest) (r.same ∙ alone' x e b g))) tt,
+        )
       where
         empty : (l : List Thread) → nobody l ≡ true → l ≡ []
         empty [] i = refl
@@ -116,18 +132,31 @@ strays_cycle p f vis st bits older bound bound' (t ∷ ts) h s =
     (λ e.
     let ready : (work_of_stage p (around p st bits older t.stage) (answered_thread p st bits t)).ready ≡ true = and_right _ _ (and_left _ _ (and_left _ _ e)) in
     let done : (answered_thread p st bits t).awaits ≡ [] = none_left _ (and_right _ _ (and_left _ _ e)) in
-    let clear : Trunk p t.stage → barrier_clear (verify_stage p.stmts) t.stage (befores older) ≡ false = λ k. subst (λ o. barrier_clear o t.stage (befores older) ≡ false) (sym vis) (h.unclear t.stage (s.1 t.stage k (le_refl t.stage)) k) in
-    let strayed : Strayed p f.stray f.made (answered_thread p st bits t) (work_of_stage p (around p st bits older t.stage) (answered_thread p st bits t)) = f.stray_step (around p st bits older t.stage) (answered_thread p st bits t) now.0 done deep clear ready in
+    let clear : Trunk p t.stage → barrier_clear (verify_stage p.stmts) t.stage (befores older) ≡ false =
+    λ k. subst (λ o. barrier_clear o t.stage (befores older) ≡ false) (sym vis) (h.unclear t.stage (s.1 t.stage k (le_refl t.stage)) k) in
+    let strayed : Strayed p f.stray f.made (answered_thread p st bits t) (work_of_stage p (around p st bits older t.stage) (answered_thread p st bits t)) =
+    f.stray_step (around p st bits older t.stage) (answered_thread p st bits t) now.0 done deep clear ready in
     let up : t.stage < next_of p t.stage (act p st bits older t).work.env = f.graph.up t.stage _ low in
-    let in_pipe : next_of p t.stage (act p st bits older t).work.env < length p.stages = inner (f.graph.jump t.stage (act p st bits older t).work.env f.v low f.trunk_v deep) in
-    let below : Below p bound' (next_of p t.stage (act p st bits older t).work.env) = step_below p f.graph older bound bound' t.stage (act p st bits older t).work.env h.grows (omega arith) (λ k. absurd (omega arith)) h.enter s.1 low (and_right _ _ e) in
-    stray_moves p f (answered_thread p st bits t) (act p st bits older t) (acts p st bits (act p st bits older t ∷ older) ts) bound' (next_of p t.stage (act p st bits older t).work.env) (nobody ts) e strayed
-    (f.graph.leaves t.stage (act p st bits older t).work.env low ∙ ap (λ c. cond c (Some (next_of p t.stage (act p st bits older t).work.env)) None) (lt-ltb _ _ in_pipe)) refl (omega arith) below (now.1 ∙ s.2)
+    let in_pipe : next_of p t.stage (act p st bits older t).work.env < length p.stages =
+    inner (f.graph.jump t.stage (act p st bits older t).work.env f.v low f.trunk_v deep) in
+    let below : Below p bound' (next_of p t.stage (act p st bits older t).work.env) =
+    step_below p f.graph older bound bound' t.stage (act p st bits older t).work.env h.grows (omega arith)
+    (λ k. absurd (omega arith)) h.enter s.1 low (and_right _ _ e) in
+    stray_moves p f (answered_thread p st bits t) (act p st bits older t)
+    (acts p st bits (act p st bits older t ∷ older) ts) bound' (next_of p t.stage (act p st bits older t).work.env)
+    (nobody ts) e strayed
+    (f.graph.leaves t.stage (act p st bits older t).work.env low
+    ∙ ap (λ c. cond c (Some (next_of p t.stage (act p st bits older t).work.env)) None) (lt-ltb _ _ in_pipe)) refl
+    (omega arith) below (now.1 ∙ s.2)
     (strays_cycle p f vis st bits (act p st bits older t ∷ older) t.stage (next_of p t.stage (act p st bits older t).work.env) ts
-    (ahead_next p f.v older bound bound' t.stage (next_of p t.stage (act p st bits older t).work.env) (act p st bits older t) h (le_of_lt deep) s.1 (le_of_lt up) refl (λ k. up)) s.3))
-    (λ e. stray_stands p f (act p st bits older t) (acts p st bits (act p st bits older t ∷ older) ts) bound' (nobody ts) e now.0 (λ r k l. lt_of_lt_of_le (s.1 r k l) h.grows) (now.1 ∙ s.2)
+    (ahead_next p f.v older bound bound' t.stage (next_of p t.stage (act p st bits older t).work.env)
+    (act p st bits older t) h (le_of_lt deep) s.1 (le_of_lt up) refl (λ k. up)) s.3))
+    (λ e. stray_stands p f (act p st bits older t)
+    (acts p st bits (act p st bits older t ∷ older) ts) bound' (nobody ts) e now.0 (λ r k l. lt_of_lt_of_le (s.1 r k l) h.grows)
+    (now.1 ∙ s.2)
     (strays_cycle p f vis st bits (act p st bits older t ∷ older) t.stage t.stage ts
-    (ahead_next p f.v older bound bound' t.stage t.stage (act p st bits older t) h (le_of_lt deep) s.1 (le_refl t.stage) refl (λ k. absurd (clash (sym e ∙ k)))) s.3))
+    (ahead_next p f.v older bound bound' t.stage t.stage (act p st bits older t) h (le_of_lt deep) s.1
+    (le_refl t.stage) refl (λ k. absurd (clash (sym e ∙ k)))) s.3))
   where
     clash : false ≡ true → ⊥
     clash k = cc

@@ -43,7 +43,9 @@ early_first : (s : ℕ) (xs : List Stmt) (z : Stmt) (zs : List Stmt) → before 
 early_first s [] z zs h = absurd (cc h)
 early_first s (x ∷ xs) z zs h = at (nat_lt x.stage s) refl h (early_first s xs z zs)
   where
-    at : (b : Bool) → nat_lt x.stage s ≡ b → cond b (record x { op = answered_op x.op } ∷ before s xs) (before s xs) ≡ z ∷ zs → (before s xs ≡ z ∷ zs → z.stage < s) → z.stage < s
+    at : (b : Bool) → nat_lt x.stage s ≡ b
+        → cond b (record x { op = answered_op x.op } ∷ before s xs) (before s xs) ≡ z ∷ zs
+        → (before s xs ≡ z ∷ zs → z.stage < s) → z.stage < s
     at true e i f = subst (λ n. n < s) (cons_head i) (ltb-true _ _ e)
     at false e i f = f i
 
@@ -54,8 +56,10 @@ order_looked : (s : ℕ) (xs : List Stmt)
 order_looked s [] h = refl
 order_looked s (x ∷ xs) h = at (nat_lt x.stage s) refl (nat_le s x.stage) refl h (order_looked s xs)
   where
-    two : (l : List Stmt) → before s (looked_all xs) ≡ l → looked_all (x ∷ xs) ≡ l ++ (record x { op = answered_op x.op } ∷ stages_from s (looked_all xs)) → s ≤ x.stage
-        → (looked_all xs ≡ before s (looked_all xs) ++ stages_from s (looked_all xs) → xs ≡ stages_before s xs ++ stages_from s xs) → x ∷ xs ≡ stages_before s xs ++ (x ∷ stages_from s xs)
+    two : (l : List Stmt) → before s (looked_all xs) ≡ l
+        → looked_all (x ∷ xs) ≡ l ++ (record x { op = answered_op x.op } ∷ stages_from s (looked_all xs)) → s ≤ x.stage
+        → (looked_all xs ≡ before s (looked_all xs) ++ stages_from s (looked_all xs) → xs ≡ stages_before s xs ++ stages_from s xs)
+        → x ∷ xs ≡ stages_before s xs ++ (x ∷ stages_from s xs)
     two [] e k low f =
         let r = f (tail_same k ∙ ap (λ l. l ++ stages_from s (looked_all xs)) (sym e)) in
         let none : stages_before s xs ≡ [] = no_early xs e in
@@ -65,13 +69,18 @@ order_looked s (x ∷ xs) h = at (nat_lt x.stage s) refl (nat_le s x.stage) refl
         no_early [] i = refl
         no_early (y ∷ ys) i = by (nat_lt y.stage s) i (no_early ys)
           where
-            by : (b : Bool) → cond b (record y { op = answered_op (answered_op y.op) } ∷ before s (looked_all ys)) (before s (looked_all ys)) ≡ [] → (before s (looked_all ys) ≡ [] → stages_before s ys ≡ []) → cond b (y ∷ stages_before s ys) (stages_before s ys) ≡ []
+            by : (b : Bool)
+                → cond b (record y { op = answered_op (answered_op y.op) } ∷ before s (looked_all ys)) (before s (looked_all ys)) ≡ []
+                → (before s (looked_all ys) ≡ [] → stages_before s ys ≡ [])
+                → cond b (y ∷ stages_before s ys) (stages_before s ys) ≡ []
             by true j g = absurd (cc j)
             by false j g = g j
     two (z ∷ zs) e k low f = absurd (let i : z.stage < s = early_first s (looked_all xs) z zs e in let j : x.stage ≡ z.stage = cons_head k in omega arith)
 
     at : (b : Bool) → nat_lt x.stage s ≡ b → (c : Bool) → nat_le s x.stage ≡ c
-        → looked_all (x ∷ xs) ≡ cond b (record x { op = answered_op (answered_op x.op) } ∷ before s (looked_all xs)) (before s (looked_all xs)) ++ cond c (record x { op = answered_op x.op } ∷ stages_from s (looked_all xs)) (stages_from s (looked_all xs))
+        → looked_all (x ∷ xs)
+        ≡ cond b (record x { op = answered_op (answered_op x.op) } ∷ before s (looked_all xs)) (before s (looked_all xs))
+        ++ cond c (record x { op = answered_op x.op } ∷ stages_from s (looked_all xs)) (stages_from s (looked_all xs))
         → (looked_all xs ≡ before s (looked_all xs) ++ stages_from s (looked_all xs) → xs ≡ stages_before s xs ++ stages_from s xs)
         → x ∷ xs ≡ cond b (x ∷ stages_before s xs) (stages_before s xs) ++ cond c (x ∷ stages_from s xs) (stages_from s xs)
     at true d true e k f = absurd (let i = ltb-true _ _ d in let j = leb-true _ _ e in omega arith)
@@ -85,7 +94,8 @@ fewer s q [] low = le_refl _
 fewer s q (x ∷ xs) low = at (nat_lt x.stage s) refl (nat_lt x.stage q) refl (fewer s q xs low)
   where
     at : (b : Bool) → nat_lt x.stage s ≡ b → (c : Bool) → nat_lt x.stage q ≡ c → length (before s xs) ≤ length (before q xs)
-        → length (cond b (record x { op = answered_op x.op } ∷ before s xs) (before s xs)) ≤ length (cond c (record x { op = answered_op x.op } ∷ before q xs) (before q xs))
+        → length (cond b (record x { op = answered_op x.op } ∷ before s xs) (before s xs)) ≤ length
+        (cond c (record x { op = answered_op x.op } ∷ before q xs) (before q xs))
     at true d true e r = omega arith
     at true d false e r = absurd (let i = ltb-true _ _ d in let j = ltb-false _ _ e in omega arith)
     at false d true e r = omega arith
@@ -98,15 +108,20 @@ apart_stages path s q [] low h = tt
 apart_stages path s q (x ∷ xs) low h = at (all_hold x.guards path) refl h (apart_stages path s q xs low)
   where
     here : (b : Bool) → nat_lt x.stage q ≡ b → (c : Bool) → nat_lt x.stage (suc s) ≡ c
-        → cond b (record x { guards = []; op = answered_op x.op } ∷ before q (onpath path xs)) (before q (onpath path xs)) ≡ cond c (record x { guards = []; op = answered_op x.op } ∷ before (suc s) (onpath path xs)) (before (suc s) (onpath path xs))
+        → cond b (record x { guards = []; op = answered_op x.op } ∷ before q (onpath path xs)) (before q (onpath path xs))
+        ≡ cond c (record x { guards = []; op = answered_op x.op } ∷ before (suc s) (onpath path xs)) (before (suc s) (onpath path xs))
         → ((x.stage ≤ s) ⊎ (q ≤ x.stage)) × (before q (onpath path xs) ≡ before (suc s) (onpath path xs))
     here true d true e k = (inl (let i : x.stage < suc s = ltb-true _ _ e in omega arith), tail_same k)
     here true d false e k =
-        absurd (let i : suc (length (before q (onpath path xs))) ≡ length (before (suc s) (onpath path xs)) = ap length k in let j = fewer (suc s) q (onpath path xs) low in omega arith)
+        absurd
+        (let i : suc (length (before q (onpath path xs))) ≡ length (before (suc s) (onpath path xs)) = ap length k in
+        let j = fewer (suc s) q (onpath path xs) low in omega arith)
     here false d true e k = absurd (let i = ltb-false _ _ d in let j : x.stage < suc s = ltb-true _ _ e in omega arith)
     here false d false e k = (inr (ltb-false _ _ d), k)
 
-    at : (b : Bool) → all_hold x.guards path ≡ b → before q (cond b (record x { guards = [] } ∷ onpath path xs) (onpath path xs)) ≡ before (suc s) (cond b (record x { guards = [] } ∷ onpath path xs) (onpath path xs))
+    at : (b : Bool) → all_hold x.guards path ≡ b
+        → before q (cond b (record x { guards = [] } ∷ onpath path xs) (onpath path xs))
+        ≡ before (suc s) (cond b (record x { guards = [] } ∷ onpath path xs) (onpath path xs))
         → (before q (onpath path xs) ≡ before (suc s) (onpath path xs) → AllOf (λ z. all_hold z.guards path ≡ true → (z.stage ≤ s) ⊎ (q ≤ z.stage)) xs)
         → (all_hold x.guards path ≡ true → (x.stage ≤ s) ⊎ (q ≤ x.stage)) × AllOf (λ z. all_hold z.guards path ≡ true → (z.stage ≤ s) ⊎ (q ≤ z.stage)) xs
     at true t k go = let r = here (nat_lt x.stage q) refl (nat_lt x.stage (suc s)) refl k in ((λ u. r.0), go r.1)
@@ -117,7 +132,10 @@ apart_stages path s q (x ∷ xs) low h = at (all_hold x.guards path) refl h (apa
 late_each : (z : Stmt) (ys : List Stmt)
     → late_for z ys ≡ true → AllOf (λ y. binds_guard y.op z.guards ≡ true → DefinedBy y.stage y.op z.stage) ys
 late_each z [] h = tt
-late_each z (y ∷ ys) h = (one (binds_guard y.op z.guards) (and_left (not (binds_guard y.op z.guards) || defined_by y.stage y.op z.stage) _ h), late_each z ys (and_right (not (binds_guard y.op z.guards) || defined_by y.stage y.op z.stage) _ h))
+late_each z (y ∷ ys) h = (
+  one (binds_guard y.op z.guards) (and_left (not (binds_guard y.op z.guards) || defined_by y.stage y.op z.stage) _ h),
+  late_each z ys (and_right (not (binds_guard y.op z.guards) || defined_by y.stage y.op z.stage) _ h),
+)
   where
     fetch_late : (f : Bool) → (not f || nat_lt y.stage z.stage) ≡ true → f ≡ true → y.stage < z.stage
     fetch_late true k e = ltb-true _ _ k
@@ -138,8 +156,11 @@ fork_each x s (y ∷ ys) h k = at (nat_le (suc s) y.stage) refl (y.stage == s) r
     fetch_of (DelayedRead z m a) e b = b
     fetch_of _ e b = absurd (clash e)
 
-    at : (b : Bool) → nat_le (suc s) y.stage ≡ b → (c : Bool) → (y.stage == s) ≡ c → none_of (binds_var x) (cond b (y ∷ stages_from (suc s) ys) (stages_from (suc s) ys)) ≡ true → none_of (is_fetch_of x) (cond c (y ∷ in_stage s ys) (in_stage s ys)) ≡ true
-        → (none_of (binds_var x) (stages_from (suc s) ys) ≡ true → none_of (is_fetch_of x) (in_stage s ys) ≡ true → AllOf (λ y. binds_var x y.op ≡ true → DefinedBy y.stage y.op s) ys)
+    at : (b : Bool) → nat_le (suc s) y.stage ≡ b → (c : Bool) → (y.stage == s) ≡ c
+        → none_of (binds_var x) (cond b (y ∷ stages_from (suc s) ys) (stages_from (suc s) ys)) ≡ true
+        → none_of (is_fetch_of x) (cond c (y ∷ in_stage s ys) (in_stage s ys)) ≡ true
+        → (none_of (binds_var x) (stages_from (suc s) ys) ≡ true → none_of (is_fetch_of x) (in_stage s ys) ≡ true
+        → AllOf (λ y. binds_var x y.op ≡ true → DefinedBy y.stage y.op s) ys)
         → (binds_var x y.op ≡ true → DefinedBy y.stage y.op s) × AllOf (λ y. binds_var x y.op ≡ true → DefinedBy y.stage y.op s) ys
     at true d true e i j go = absurd (let u : suc s ≤ y.stage = leb-true _ _ d in let v = eqb-true _ _ e in omega arith)
     at true d false e i j go = ((λ b. absurd (clash (sym (ap not b) ∙ and_left (not (binds_var x y.op)) _ i))), go (and_right (not (binds_var x y.op)) _ i) j)
@@ -164,7 +185,9 @@ use_looked m ph _ = refl
 
 uses_looked : (m : ℕ) (ph : Phase) (xs : List Stmt) → uses_ok m ph (looked_all xs) ≡ uses_ok m ph xs
 uses_looked m ph [] = refl
-uses_looked m ph (x ∷ xs) = ap₂ (λ b q. b && uses_ok m q (looked_all xs)) (use_looked m ph x.op) (phase_looked m ph x.op) ∙ ap (λ b. use_ok m ph x.op && b) (uses_looked m (next_phase m ph x.op) xs)
+uses_looked m ph (x ∷ xs) =
+    ap₂ (λ b q. b && uses_ok m q (looked_all xs)) (use_looked m ph x.op) (phase_looked m ph x.op)
+    ∙ ap (λ b. use_ok m ph x.op && b) (uses_looked m (next_phase m ph x.op) xs)
 
 -- the phase of m's write after statements stays the same where delayed reads are answered at once
 pub phases_looked : (m : ℕ) (ph : Phase) (xs : List Stmt) → phase_all m ph (looked_all xs) ≡ phase_all m ph xs
@@ -178,7 +201,8 @@ call_looked b _ = (refl, refl)
 calls_looked : (b : Bool) (xs : List Stmt) → calls_ok b (looked_all xs) ≡ calls_ok b xs
 calls_looked b [] = refl
 calls_looked b (x ∷ xs) =
-    ap₂ (λ c d. c && calls_ok (b || d) (looked_all xs)) (call_looked b x.op).0 (call_looked b x.op).1 ∙ ap (λ d. call_ok b x.op && d) (calls_looked (b || is_call x.op) xs)
+    ap₂ (λ c d. c && calls_ok (b || d) (looked_all xs)) (call_looked b x.op).0 (call_looked b x.op).1
+    ∙ ap (λ d. call_ok b x.op && d) (calls_looked (b || is_call x.op) xs)
 
 -- DELAYED READS
 
@@ -188,7 +212,9 @@ from_mem m _ h R go = absurd (clash h)
 
 like_none : (x m : ℕ) (ys : List Stmt) → none_like x m ys ≡ true → none_of (is_delayed_read m) ys ≡ true
 like_none x m [] h = refl
-like_none x m (y ∷ ys) h = ap₂ (λ a b. a && b) (one y.op (and_left (Rattle.pdl_theory_facts.specs.Facts.fetches_no x m y.op) _ h)) (like_none x m ys (and_right (Rattle.pdl_theory_facts.specs.Facts.fetches_no x m y.op) _ h))
+like_none x m (y ∷ ys) h =
+    ap₂ (λ a b. a && b) (one y.op (and_left (Rattle.pdl_theory_facts.specs.Facts.fetches_no x m y.op) _ h))
+    (like_none x m ys (and_right (Rattle.pdl_theory_facts.specs.Facts.fetches_no x m y.op) _ h))
   where
     one : (op : Op) → Rattle.pdl_theory_facts.specs.Facts.fetches_no x m op ≡ true → not (is_delayed_read m op) ≡ true
     one (DelayedRead z n a) k = ap not (ne_eqb n m (λ e. clash (sym (ap not (eq-eqb m n (sym e))) ∙ and_right (not (x == z)) _ k)))
@@ -201,11 +227,13 @@ one_there : (m s : ℕ) (xs : List Stmt)
 one_there m s [] h k = refl
 one_there m s (x ∷ xs) h k = at (is_delayed_read m x.op) refl (one_there m s xs h.1)
   where
-    none_else : (ys : List Stmt) → AllOf (λ y. is_delayed_read m y.op ≡ true → y.stage ≡ s) ys → none_of (is_delayed_read m) (in_stage s ys) ≡ true → none_of (is_delayed_read m) ys ≡ true
+    none_else : (ys : List Stmt) → AllOf (λ y. is_delayed_read m y.op ≡ true → y.stage ≡ s) ys
+        → none_of (is_delayed_read m) (in_stage s ys) ≡ true → none_of (is_delayed_read m) ys ≡ true
     none_else [] i j = refl
     none_else (y ∷ ys) i j = by (is_delayed_read m y.op) refl (y.stage == s) refl j (none_else ys i.1)
       where
-        by : (b : Bool) → is_delayed_read m y.op ≡ b → (c : Bool) → (y.stage == s) ≡ c → none_of (is_delayed_read m) (cond c (y ∷ in_stage s ys) (in_stage s ys)) ≡ true
+        by : (b : Bool) → is_delayed_read m y.op ≡ b → (c : Bool) → (y.stage == s) ≡ c
+            → none_of (is_delayed_read m) (cond c (y ∷ in_stage s ys) (in_stage s ys)) ≡ true
             → (none_of (is_delayed_read m) (in_stage s ys) ≡ true → none_of (is_delayed_read m) ys ≡ true) → none_of (is_delayed_read m) (y ∷ ys) ≡ true
         by true d true e u go = absurd (clash (sym (ap not d) ∙ and_left (not (is_delayed_read m y.op)) _ u))
         by true d false e u go = absurd (eqb-false _ _ e (i.0 d))
@@ -222,17 +250,26 @@ one_there m s (x ∷ xs) h k = at (is_delayed_read m x.op) refl (one_there m s x
     others : is_delayed_read m x.op ≡ true → none_of (is_delayed_read m) xs ≡ true
     others f =
         let here : x.stage ≡ s = h.0 f in
-        let k' : fetch_apart (x ∷ in_stage s xs) ≡ true = subst (λ b. fetch_apart (cond b (x ∷ in_stage s xs) (in_stage s xs)) ≡ true) (eq-eqb x.stage s here) k in
-        from_mem m x.op f _ (λ y n a e i. none_else xs h.1 (subst (λ o. none_of (is_delayed_read o) (in_stage s xs) ≡ true) i (like_none y n (in_stage s xs) (subst (λ op. alone_op op (in_stage s xs) ≡ true) e (and_left (alone_op x.op (in_stage s xs)) _ k')))))
+        let k' : fetch_apart (x ∷ in_stage s xs) ≡ true =
+        subst (λ b. fetch_apart (cond b (x ∷ in_stage s xs) (in_stage s xs)) ≡ true) (eq-eqb x.stage s here) k in
+        from_mem m x.op f _
+        (λ y n a e i. none_else xs h.1
+        (subst (λ o. none_of (is_delayed_read o) (in_stage s xs) ≡ true) i
+        (like_none y n (in_stage s xs) (subst (λ op. alone_op op (in_stage s xs) ≡ true) e (and_left (alone_op x.op (in_stage s xs)) _ k')))))
 
-    at : (b : Bool) → is_delayed_read m x.op ≡ b → (fetch_apart (in_stage s xs) ≡ true → at_most_one (is_delayed_read m) xs ≡ true) → at_most_one (is_delayed_read m) (x ∷ xs) ≡ true
+    at : (b : Bool) → is_delayed_read m x.op ≡ b
+        → (fetch_apart (in_stage s xs) ≡ true → at_most_one (is_delayed_read m) xs ≡ true)
+        → at_most_one (is_delayed_read m) (x ∷ xs) ≡ true
     at true e go = ap (λ b. cond b (none_of (is_delayed_read m) xs) (at_most_one (is_delayed_read m) xs)) e ∙ others e
     at false e go = ap (λ b. cond b (none_of (is_delayed_read m) xs) (at_most_one (is_delayed_read m) xs)) e ∙ go rest
 
 -- what holds of each statement of each stage holds of all
 each_stage : (P : Stmt → Type 0) (xs : List Stmt) → ((s : ℕ) → AllOf P (in_stage s xs)) → AllOf P xs
 each_stage P [] h = tt
-each_stage P (x ∷ xs) h = ((subst (λ b. AllOf P (cond b (x ∷ in_stage x.stage xs) (in_stage x.stage xs))) (eq-eqb x.stage x.stage refl) (h x.stage)).0, each_stage P xs (λ s. rest s (x.stage == s) (h s)))
+each_stage P (x ∷ xs) h = (
+  (subst (λ b. AllOf P (cond b (x ∷ in_stage x.stage xs) (in_stage x.stage xs))) (eq-eqb x.stage x.stage refl) (h x.stage)).0,
+  each_stage P xs (λ s. rest s (x.stage == s) (h s)),
+)
   where
     rest : (s : ℕ) (b : Bool) → AllOf P (cond b (x ∷ in_stage s xs) (in_stage s xs)) → AllOf P (in_stage s xs)
     rest s true k = k.1
@@ -258,14 +295,16 @@ module _ (p : Pipe) (acc : Sound p) where
   next_up : (s q : ℕ) → Leads p s q → (s < q) × (q < length p.stages)
   next_up s q l = let n = led s q l.0 l.2 l.1 in (subst (λ m. s < m) n.0 (acc.graph.up s l.0 l.2), n.1)
 
-  between_of : (s q b : ℕ) → Leads p s q → Trunk p q → ((r : ℕ) → Trunk p r → r ≤ s → r < b) → b < q → (f : ℕ) × ((stage_at p q).merges ≡ Some f) × (is_inside p f b ≡ true)
+  between_of : (s q b : ℕ) → Leads p s q → Trunk p q → ((r : ℕ) → Trunk p r → r ≤ s → r < b) → b < q
+      → (f : ℕ) × ((stage_at p q).merges ≡ Some f) × (is_inside p f b ≡ true)
   between_of s q b l t h i =
       let n = led s q l.0 l.2 l.1 in
       subst (λ m. (f : ℕ) × ((stage_at p m).merges ≡ Some f) × (is_inside p f b ≡ true)) n.0
       (acc.graph.between s l.0 b l.2 (subst (Trunk p) (sym n.0) t) (subst (λ m. m < length p.stages) (sym n.0) n.1) h (subst (λ m. b < m) (sym n.0) i))
 
   stays_of : (s q : ℕ) (x : Branch) → Leads p s q → In p x q → (s ≡ x.fork) ⊎ (In p x s × (q ≡ suc s))
-  stays_of s q x l e = let n = led s q l.0 l.2 l.1 in subst (λ m. (s ≡ x.fork) ⊎ (In p x s × (m ≡ suc s))) n.0 (acc.branches.stays_in x s l.0 l.2 (subst (In p x) (sym n.0) e))
+  stays_of s q x l e = let n = led s q l.0 l.2 l.1 in
+      subst (λ m. (s ≡ x.fork) ⊎ (In p x s × (m ≡ suc s))) n.0 (acc.branches.stays_in x s l.0 l.2 (subst (In p x) (sym n.0) e))
 
   into_of : (s q : ℕ) (x : Branch) → Leads p s q → In p x q → (In p x s) ⊎ ((s ≡ x.fork) × Trunk p s)
   into_of s q x l e = by (stays_of s q x l e)
@@ -295,7 +334,11 @@ module _ (p : Pipe) (acc : Sound p) where
     where
       by : (o : Option Branch) → (stage_at p q).branch ≡ o → (In p x q) ⊎ ((stage_at p q).merges ≡ Some x.fork)
       by None t =
-          let k = between_of s q s l t (λ r u low. by_bool (r == s) (r < s) (λ i. absurd (not_both s x e (subst (Trunk p) (eqb-true r s i) u))) (λ i. let j = eqb-false r s i in omega arith)) (next_up s q l).0 in
+          let k =
+          between_of s q s l t
+          (λ r u low. by_bool (r == s) (r < s) (λ i. absurd (not_both s x e (subst (Trunk p) (eqb-true r s i) u)))
+          (λ i. let j = eqb-false r s i in omega arith))
+          (next_up s q l).0 in
           inr (k.1 ∙ ap Some (sym (eqb-true x.fork k.0 (ap (λ o. is_branch_of o k.0) (sym e) ∙ k.2))))
       by (Some y) i = from_y (into_of s q y l i)
         where
@@ -326,7 +369,8 @@ module _ (p : Pipe) (acc : Sound p) where
 
   -- PATHS
 
-  arrives_at : (path : List ℕ) (s q : ℕ) → s < length p.stages → goes_to (stage_at p s).next path ≡ Some q → visits_stage p path s ≡ true → visits_stage p path q ≡ true
+  arrives_at : (path : List ℕ) (s q : ℕ) → s < length p.stages → goes_to (stage_at p s).next path ≡ Some q
+      → visits_stage p path s ≡ true → visits_stage p path q ≡ true
   arrives_at path s q low e on = at (stage_at p q).branch refl
     where
       at : (o : Option Branch) → (stage_at p q).branch ≡ o → visits_stage p path q ≡ true
@@ -344,20 +388,25 @@ module _ (p : Pipe) (acc : Sound p) where
       order_looked s (onpath path p.stmts) (subst (λ l. l ≡ before s l ++ stages_from s l) (path_looked path p.stmts) ((acc.pathwise.paths path).ordered s))
       ∙ ap₂ (λ a b. a ++ b) (before_path path s p.stmts) (from_path path s p.stmts)
 
-  stages_on : (path : List ℕ) (s : ℕ) → s < length p.stages → visits_stage p path s ≡ true → AllOf (λ z. all_hold z.guards path ≡ true → (z.stage ≤ s) ⊎ (next_of p s path ≤ z.stage)) p.stmts
+  stages_on : (path : List ℕ) (s : ℕ) → s < length p.stages → visits_stage p path s ≡ true
+      → AllOf (λ z. all_hold z.guards path ≡ true → (z.stage ≤ s) ⊎ (next_of p s path ≤ z.stage)) p.stmts
   stages_on path s low on = apart_stages path s (next_of p s path) p.stmts (acc.graph.up s path low) (acc.skips path s low on)
 
-  late_on : (path : List ℕ) → AllOf (λ z. all_hold z.guards path ≡ true → AllOf (λ y. binds_guard y.op z.guards ≡ true → DefinedBy y.stage y.op z.stage) p.stmts) p.stmts
+  late_on : (path : List ℕ)
+      → AllOf (λ z. all_hold z.guards path ≡ true → AllOf (λ y. binds_guard y.op z.guards ≡ true → DefinedBy y.stage y.op z.stage) p.stmts) p.stmts
   late_on path =
       all_map (λ z h t. by_or (is_dead z.guards) _ _ h (λ d. absurd (clash (sym (dead_none z.guards path d) ∙ t))) (λ k. late_each z p.stmts k)) p.stmts
       (all_of (λ z. is_dead z.guards || late_for z p.stmts) p.stmts acc.guards_late)
 
   -- DELAYED READS
 
-  fetch_ok_at : (s : ℕ) (ys : List Stmt) → AllFetches p acc.fetch s ys → AllOf (λ y. (m : ℕ) → is_delayed_read m y.op ≡ true → (acc.fetch m ≡ s) × (m < length p.mems)) ys
+  fetch_ok_at : (s : ℕ) (ys : List Stmt) → AllFetches p acc.fetch s ys
+      → AllOf (λ y. (m : ℕ) → is_delayed_read m y.op ≡ true → (acc.fetch m ≡ s) × (m < length p.mems)) ys
   fetch_ok_at s [] h = tt
   fetch_ok_at s (y ∷ ys) h = (
-    (λ m f. from_mem m y.op f _ (λ x n a e i. let k : Found p acc.fetch s n = (subst (λ op. FetchIf p acc.fetch s y.guards op) e h.0).0 in subst (λ o. (acc.fetch o ≡ s) × (o < length p.mems)) i (k.0, k.1))),
+    (λ m f. from_mem m y.op f _
+        (λ x n a e i. let k : Found p acc.fetch s n = (subst (λ op. FetchIf p acc.fetch s y.guards op) e h.0).0 in
+        subst (λ o. (acc.fetch o ≡ s) × (o < length p.mems)) i (k.0, k.1))),
     fetch_ok_at s ys h.1,
   )
 
@@ -376,7 +425,8 @@ module _ (p : Pipe) (acc : Sound p) where
   fetched : AllOf (λ y. (m : ℕ) → is_delayed_read m y.op ≡ true → (acc.fetch m ≡ y.stage) × (m < length p.mems)) p.stmts
   fetched =
       each_stage _ p.stmts
-      (λ s. both_of (λ y f e. λ m i. subst (λ r. (acc.fetch m ≡ r) × (m < length p.mems)) (sym e) (f m i)) (in_stage s p.stmts) (fetch_ok_at s (in_stage s p.stmts) (acc.fetch_ok s)) (in_same s p.stmts))
+      (λ s. both_of (λ y f e. λ m i. subst (λ r. (acc.fetch m ≡ r) × (m < length p.mems)) (sym e) (f m i))
+      (in_stage s p.stmts) (fetch_ok_at s (in_stage s p.stmts) (acc.fetch_ok s)) (in_same s p.stmts))
 
   -- the facts of the simulation
   pub flow_rules : FlowRules p
@@ -396,12 +446,20 @@ module _ (p : Pipe) (acc : Sound p) where
         arrives = arrives_at;
         guards_late = late_on;
         forks_late = λ s x a b e. fork_each x s p.stmts (acc.fork_bound s x a b e) (acc.fork_seen s x a b e);
-        uses = λ path m. sym (uses_looked m Fresh (onpath path p.stmts)) ∙ uses_of m Fresh (looked_all (onpath path p.stmts)) (subst (λ l. Rattle.pdl_theory_facts.specs.Scans.phases_ok m Fresh l ≡ true) (path_looked path p.stmts) ((acc.pathwise.paths path).phases m));
-        over = λ path m. ap is_over (sym (phases_looked m Fresh (onpath path p.stmts)) ∙ ap (phase_all m Fresh) (sym (path_looked path p.stmts))) ∙ (acc.pathwise.paths path).over m;
+        uses =
+            λ path m. sym (uses_looked m Fresh (onpath path p.stmts))
+            ∙ uses_of m Fresh (looked_all (onpath path p.stmts))
+            (subst (λ l. Rattle.pdl_theory_facts.specs.Scans.phases_ok m Fresh l ≡ true) (path_looked path p.stmts) ((acc.pathwise.paths path).phases m));
+        over =
+            λ path m. ap is_over (sym (phases_looked m Fresh (onpath path p.stmts)) ∙ ap (phase_all m Fresh) (sym (path_looked path p.stmts)))
+            ∙ (acc.pathwise.paths path).over m;
         unreserved = acc.unreserved;
         unreleased = acc.unreleased;
         unfetched = λ m past. none_all (is_delayed_read m) p.stmts (all_map (λ y f e. let k = (f m e).1 in absurd (omega arith)) p.stmts fetched);
-        calls = λ path. sym (calls_looked false (onpath path p.stmts)) ∙ ap (calls_ok false) (sym (path_looked path p.stmts)) ∙ calls_of (verify_stage (at_once p).stmts) Unmade (onpath path (at_once p).stmts) (acc.pathwise.makings path);
+        calls =
+            λ path. sym (calls_looked false (onpath path p.stmts))
+            ∙ ap (calls_ok false) (sym (path_looked path p.stmts))
+            ∙ calls_of (verify_stage (at_once p).stmts) Unmade (onpath path (at_once p).stmts) (acc.pathwise.makings path);
         one_fetch = λ m. one_there m (acc.fetch m) p.stmts (all_map (λ y f e. sym (f m e).0) p.stmts fetched) (acc.fetch_alone (acc.fetch m));
         fetch_inside = acc.fetch_inside;
       }

@@ -41,23 +41,42 @@ put_swap n v k w [] h = refl
 put_swap n v k w (e ∷ es) h = ap₂ (λ a l. a ∷ l) (at (e.thread == n) refl (e.thread == k) refl) (put_swap n v k w es h)
   where
     at : (b : Bool) → (e.thread == n) ≡ b → (c : Bool) → (e.thread == k) ≡ c
-        → (if (if e.thread == k then record e { value = Some w } else e).thread == n then record (if e.thread == k then record e { value = Some w } else e) { value = Some v } else (if e.thread == k then record e { value = Some w } else e))
-        ≡ (if (if e.thread == n then record e { value = Some v } else e).thread == k then record (if e.thread == n then record e { value = Some v } else e) { value = Some w } else (if e.thread == n then record e { value = Some v } else e))
+        → (if (if e.thread == k then record e { value = Some w } else e).thread == n
+        then record (if e.thread == k then record e { value = Some w } else e) { value = Some v }
+        else (if e.thread == k then record e { value = Some w } else e))
+        ≡ (if (if e.thread == n then record e { value = Some v } else e).thread == k
+        then record (if e.thread == n then record e { value = Some v } else e) { value = Some w }
+        else (if e.thread == n then record e { value = Some v } else e))
     at true i true j = absurd (h (sym (eqb-true _ _ i) ∙ eqb-true _ _ j))
     at true i false j =
-        (λ u. if (cond (j u) (record e { value = Some w }) e).thread == n then record (cond (j u) (record e { value = Some w }) e) { value = Some v } else (cond (j u) (record e { value = Some w }) e))
+        (λ u. if (cond (j u) (record e { value = Some w }) e).thread == n
+        then record (cond (j u) (record e { value = Some w }) e) { value = Some v }
+        else (cond (j u) (record e { value = Some w }) e))
         ∙ ap (λ b. cond b (record e { value = Some v }) e) i
-        ∙ sym ((λ u. if (cond (i u) (record e { value = Some v }) e).thread == k then record (cond (i u) (record e { value = Some v }) e) { value = Some w } else (cond (i u) (record e { value = Some v }) e))
+        ∙ sym
+        ((λ u. if (cond (i u) (record e { value = Some v }) e).thread == k
+        then record (cond (i u) (record e { value = Some v }) e) { value = Some w }
+        else (cond (i u) (record e { value = Some v }) e))
         ∙ ap (λ b. cond b (record e { value = Some w }) (record e { value = Some v })) j)
     at false i true j =
-        (λ u. if (cond (j u) (record e { value = Some w }) e).thread == n then record (cond (j u) (record e { value = Some w }) e) { value = Some v } else (cond (j u) (record e { value = Some w }) e))
+        (λ u. if (cond (j u) (record e { value = Some w }) e).thread == n
+        then record (cond (j u) (record e { value = Some w }) e) { value = Some v }
+        else (cond (j u) (record e { value = Some w }) e))
         ∙ ap (λ b. cond b (record e { value = Some v }) (record e { value = Some w })) i
-        ∙ sym ((λ u. if (cond (i u) (record e { value = Some v }) e).thread == k then record (cond (i u) (record e { value = Some v }) e) { value = Some w } else (cond (i u) (record e { value = Some v }) e))
+        ∙ sym
+        ((λ u. if (cond (i u) (record e { value = Some v }) e).thread == k
+        then record (cond (i u) (record e { value = Some v }) e) { value = Some w }
+        else (cond (i u) (record e { value = Some v }) e))
         ∙ ap (λ b. cond b (record e { value = Some w }) e) j)
     at false i false j =
-        (λ u. if (cond (j u) (record e { value = Some w }) e).thread == n then record (cond (j u) (record e { value = Some w }) e) { value = Some v } else (cond (j u) (record e { value = Some w }) e))
+        (λ u. if (cond (j u) (record e { value = Some w }) e).thread == n
+        then record (cond (j u) (record e { value = Some w }) e) { value = Some v }
+        else (cond (j u) (record e { value = Some w }) e))
         ∙ ap (λ b. cond b (record e { value = Some v }) e) i
-        ∙ sym ((λ u. if (cond (i u) (record e { value = Some v }) e).thread == k then record (cond (i u) (record e { value = Some v }) e) { value = Some w } else (cond (i u) (record e { value = Some v }) e))
+        ∙ sym
+        ((λ u. if (cond (i u) (record e { value = Some v }) e).thread == k
+        then record (cond (i u) (record e { value = Some v }) e) { value = Some w }
+        else (cond (i u) (record e { value = Some v }) e))
         ∙ ap (λ b. cond b (record e { value = Some w }) e) j)
 
 put_all_put : (m n k w : ℕ) (ws : List Machine.Written) (xs : List Pending)
@@ -65,7 +84,10 @@ put_all_put : (m n k w : ℕ) (ws : List Machine.Written) (xs : List Pending)
 put_all_put m n k w [] xs h = refl
 put_all_put m n k w (x ∷ ws) xs h = at (x.mem == m) (λ ys. put_all_put m n k w ws ys h)
   where
-    at : (b : Bool) → ((ys : List Pending) → with_writes_of m n ws (with_value_of k w ys) ≡ with_value_of k w (with_writes_of m n ws ys)) → with_writes_of m n ws (cond b (with_value_of n x.value (with_value_of k w xs)) (with_value_of k w xs)) ≡ with_value_of k w (with_writes_of m n ws (cond b (with_value_of n x.value xs) xs))
+    at : (b : Bool)
+        → ((ys : List Pending) → with_writes_of m n ws (with_value_of k w ys) ≡ with_value_of k w (with_writes_of m n ws ys))
+        → with_writes_of m n ws (cond b (with_value_of n x.value (with_value_of k w xs)) (with_value_of k w xs))
+        ≡ with_value_of k w (with_writes_of m n ws (cond b (with_value_of n x.value xs) xs))
     at true f = ap (with_writes_of m n ws) (put_swap n x.value k w xs h) ∙ f (with_value_of n x.value xs)
     at false f = f xs
 
@@ -74,7 +96,10 @@ put_all_swap : (m n k : ℕ) (ws vs : List Machine.Written) (xs : List Pending)
 put_all_swap m n k ws [] xs h = refl
 put_all_swap m n k ws (v ∷ vs) xs h = at (v.mem == m) (λ ys. put_all_swap m n k ws vs ys h)
   where
-    at : (b : Bool) → ((ys : List Pending) → with_writes_of m n ws (with_writes_of m k vs ys) ≡ with_writes_of m k vs (with_writes_of m n ws ys)) → with_writes_of m n ws (with_writes_of m k vs (cond b (with_value_of k v.value xs) xs)) ≡ with_writes_of m k vs (cond b (with_value_of k v.value (with_writes_of m n ws xs)) (with_writes_of m n ws xs))
+    at : (b : Bool)
+        → ((ys : List Pending) → with_writes_of m n ws (with_writes_of m k vs ys) ≡ with_writes_of m k vs (with_writes_of m n ws ys))
+        → with_writes_of m n ws (with_writes_of m k vs (cond b (with_value_of k v.value xs) xs))
+        ≡ with_writes_of m k vs (cond b (with_value_of k v.value (with_writes_of m n ws xs)) (with_writes_of m n ws xs))
     at true f = f (with_value_of k v.value xs) ∙ ap (with_writes_of m k vs) (put_all_put m n k v.value ws xs h)
     at false f = f xs
 
@@ -86,7 +111,9 @@ asked_none m n (q ∷ qs) old h = at (q.mem == m) h (asked_none m n qs old)
     clash : Some q.address ≡ None → ⊥
     clash i = cc
 
-    at : (b : Bool) → (if b then Some q.address else find_ask qs m) ≡ None → (find_ask qs m ≡ None → asked_of m n qs old ≡ old) → (if b then Machine.Owned n q.address else asked_of m n qs old) ≡ old
+    at : (b : Bool) → (if b then Some q.address else find_ask qs m) ≡ None
+        → (find_ask qs m ≡ None → asked_of m n qs old ≡ old)
+        → (if b then Machine.Owned n q.address else asked_of m n qs old) ≡ old
     at true i f = absurd (clash i)
     at false i f = f i
 
@@ -97,7 +124,9 @@ address_none m (q ∷ qs) rest h = at (q.mem == m) h (address_none m qs rest)
     clash : Some q.address ≡ None → ⊥
     clash i = cc
 
-    at : (b : Bool) → (if b then Some q.address else find_ask qs m) ≡ None → (find_ask qs m ≡ None → address_of m qs rest ≡ rest) → (if b then Some q.address else address_of m qs rest) ≡ rest
+    at : (b : Bool) → (if b then Some q.address else find_ask qs m) ≡ None
+        → (find_ask qs m ≡ None → address_of m qs rest ≡ rest)
+        → (if b then Some q.address else address_of m qs rest) ≡ rest
     at true i f = absurd (clash i)
     at false i f = f i
 
@@ -159,12 +188,17 @@ module _ (p : Pipe) (flows : Flows p) (st : State) (d : Derived.State) (bits : L
       at (Some x) e = (x, e)
 
   younger_branch : (x y : Pair) → Swap x y → (b : Branch) × ((stage_at p x.live.thread.stage).branch ≡ Some b)
-  younger_branch x y s = in_branch x.live.thread.stage (λ e. let i : x.live.thread.stage < y.live.thread.stage = s.behind.trunk x.live.thread.stage e (le_refl _) in let j = s.low in absurd (omega arith))
+  younger_branch x y s =
+      in_branch x.live.thread.stage
+      (λ e. let i : x.live.thread.stage < y.live.thread.stage = s.behind.trunk x.live.thread.stage e (le_refl _) in let j = s.low in absurd (omega arith))
 
   older_branch : (x y : Pair) → Swap x y → (b : Branch) × ((stage_at p y.live.thread.stage).branch ≡ Some b)
-  older_branch x y s = in_branch y.live.thread.stage (λ e. let i : y.live.thread.stage < y.live.thread.stage = s.behind.trunk y.live.thread.stage e s.low in absurd (omega arith))
+  older_branch x y s =
+      in_branch y.live.thread.stage
+      (λ e. let i : y.live.thread.stage < y.live.thread.stage = s.behind.trunk y.live.thread.stage e s.low in absurd (omega arith))
 
-  plain_here : (l : Live) (b : Branch) → (stage_at p l.thread.stage).branch ≡ Some b → ((deeds_of p st bits l).reserves ≡ []) × ((deeds_of p st bits l).child ≡ None) × ((deeds_of p st bits l).fails ≡ false)
+  plain_here : (l : Live) (b : Branch) → (stage_at p l.thread.stage).branch ≡ Some b
+      → ((deeds_of p st bits l).reserves ≡ []) × ((deeds_of p st bits l).child ≡ None) × ((deeds_of p st bits l).fails ≡ false)
   plain_here l b e = plain_all (word_for st l.number) (in_stage l.thread.stage p.stmts) (record {
     env = Machine.with_kept (with_answers p st bits (seat l)).kept l.env;
     guess = l.thread.guess;
@@ -183,12 +217,16 @@ module _ (p : Pipe) (flows : Flows p) (st : State) (d : Derived.State) (bits : L
   abbrev pub Commutes : (Z : Type 0) → (Moves.Act → Z → Z) → Type 0
   Commutes Z step = (x y : Pair) → Swap x y → (z : Z) → step (act_of y) (step (act_of x) z) ≡ step (act_of x) (step (act_of y) z)
 
-  fold_place : (Z : Type 0) (f : List Moves.Act → Z) (step : Moves.Act → Z → Z) → ((a : Moves.Act) (rest : List Moves.Act) → f (a ∷ rest) ≡ step a (f rest)) → Commutes Z step → (x : Pair) (ys : List Pair)
-      → EachPair (λ y. y.live.thread.stage ≤ x.live.thread.stage → Swap x y) ys → f (acts_of p flows st d bits arrays (place x ys)) ≡ step (act_of x) (f (acts_of p flows st d bits arrays ys))
+  fold_place : (Z : Type 0) (f : List Moves.Act → Z) (step : Moves.Act → Z → Z)
+      → ((a : Moves.Act) (rest : List Moves.Act) → f (a ∷ rest) ≡ step a (f rest)) → Commutes Z step
+      → (x : Pair) (ys : List Pair)
+      → EachPair (λ y. y.live.thread.stage ≤ x.live.thread.stage → Swap x y) ys
+      → f (acts_of p flows st d bits arrays (place x ys)) ≡ step (act_of x) (f (acts_of p flows st d bits arrays ys))
   fold_place Z f step more commutes x [] s = more _ _
   fold_place Z f step more commutes x (y ∷ ys) s = at (nat_lt x.live.thread.stage y.live.thread.stage) refl (fold_place Z f step more commutes x ys s.1)
     where
-      at : (b : Bool) → nat_lt x.live.thread.stage y.live.thread.stage ≡ b → f (acts_of p flows st d bits arrays (place x ys)) ≡ step (act_of x) (f (acts_of p flows st d bits arrays ys))
+      at : (b : Bool) → nat_lt x.live.thread.stage y.live.thread.stage ≡ b
+          → f (acts_of p flows st d bits arrays (place x ys)) ≡ step (act_of x) (f (acts_of p flows st d bits arrays ys))
           → f (acts_of p flows st d bits arrays (cond b (x ∷ y ∷ ys) (y ∷ place x ys))) ≡ step (act_of x) (f (acts_of p flows st d bits arrays (y ∷ ys)))
       at true e h = more _ _
       at false e h =
@@ -200,11 +238,14 @@ module _ (p : Pipe) (flows : Flows p) (st : State) (d : Derived.State) (bits : L
   Swaps (l ∷ ls) = EachPair (λ y. y.live.thread.stage ≤ l.thread.stage → Swap (record { live = l; older = ls }) y) (pairs ls) × Swaps ls
 
   -- a step that commutes gives the same in both orders
-  pub same_fold : (Z : Type 0) (f : List Moves.Act → Z) (step : Moves.Act → Z → Z) → ((a : Moves.Act) (rest : List Moves.Act) → f (a ∷ rest) ≡ step a (f rest)) → Commutes Z step → (ls : List Live) → Swaps ls
+  pub same_fold : (Z : Type 0) (f : List Moves.Act → Z) (step : Moves.Act → Z → Z)
+      → ((a : Moves.Act) (rest : List Moves.Act) → f (a ∷ rest) ≡ step a (f rest)) → Commutes Z step → (ls : List Live)
+      → Swaps ls
       → f (acts_of p flows st d bits arrays (sorted ls)) ≡ f (lacts p st d bits ls)
   same_fold Z f step more commutes [] s = refl
   same_fold Z f step more commutes (l ∷ ls) s =
-      fold_place Z f step more commutes (record { live = l; older = ls }) (sorted ls) (sorted_each (λ y. y.live.thread.stage ≤ l.thread.stage → Swap (record { live = l; older = ls }) y) ls s.0)
+      fold_place Z f step more commutes (record { live = l; older = ls }) (sorted ls)
+      (sorted_each (λ y. y.live.thread.stage ≤ l.thread.stage → Swap (record { live = l; older = ls }) y) ls s.0)
       ∙ ap (step (lact p st d bits ls l)) (same_fold Z f step more commutes ls s.1) ∙ sym (more (lact p st d bits ls l) (lacts p st d bits ls))
 
   -- a step over those that move
@@ -214,17 +255,23 @@ module _ (p : Pipe) (flows : Flows p) (st : State) (d : Derived.State) (bits : L
   moves_commute : (Z : Type 0) (step : Moves.Act → Z → Z) → Commutes Z step → Commutes Z (if_moves Z step)
   moves_commute Z step c x y s z = at (act_of y).moves (act_of x).moves
     where
-      at : (b e : Bool) → cond b (step (act_of y) (cond e (step (act_of x) z) z)) (cond e (step (act_of x) z) z) ≡ cond e (step (act_of x) (cond b (step (act_of y) z) z)) (cond b (step (act_of y) z) z)
+      at : (b e : Bool)
+          → cond b (step (act_of y) (cond e (step (act_of x) z) z)) (cond e (step (act_of x) z) z)
+          ≡ cond e (step (act_of x) (cond b (step (act_of y) z) z)) (cond b (step (act_of y) z) z)
       at true true = c x y s z
       at true false = refl
       at false true = refl
       at false false = refl
 
-  pub same_movers : (Z : Type 0) (f : List Moves.Act → Z) (step : Moves.Act → Z → Z) → ((a : Moves.Act) (rest : List Moves.Act) → f (a ∷ rest) ≡ step a (f rest)) → Commutes Z step → (ls : List Live) → Swaps ls
+  pub same_movers : (Z : Type 0) (f : List Moves.Act → Z) (step : Moves.Act → Z → Z)
+      → ((a : Moves.Act) (rest : List Moves.Act) → f (a ∷ rest) ≡ step a (f rest)) → Commutes Z step → (ls : List Live)
+      → Swaps ls
       → f (movers (acts_of p flows st d bits arrays (sorted ls))) ≡ f (movers (lacts p st d bits ls))
-  same_movers Z f step more commutes ls s = same_fold Z (λ rest. f (movers rest)) (if_moves Z step) (λ a rest. one a rest a.moves) (moves_commute Z step commutes) ls s
+  same_movers Z f step more commutes ls s =
+      same_fold Z (λ rest. f (movers rest)) (if_moves Z step) (λ a rest. one a rest a.moves) (moves_commute Z step commutes) ls s
     where
-      one : (a : Moves.Act) (rest : List Moves.Act) (b : Bool) → f (cond b (a ∷ movers rest) (movers rest)) ≡ cond b (step a (f (movers rest))) (f (movers rest))
+      one : (a : Moves.Act) (rest : List Moves.Act) (b : Bool)
+          → f (cond b (a ∷ movers rest) (movers rest)) ≡ cond b (step a (f (movers rest))) (f (movers rest))
       one a rest true = more a (movers rest)
       one a rest false = refl
 
@@ -233,21 +280,26 @@ module _ (p : Pipe) (flows : Flows p) (st : State) (d : Derived.State) (bits : L
   none_new : (m n : ℕ) (l : Live) (b : Branch) → (stage_at p l.thread.stage).branch ≡ Some b → new_entries m n (deeds_of p st bits l).reserves ≡ []
   none_new m n l b e = ap (new_entries m n) (plain_here l b e).0
 
-  same_appended : (m : ℕ) (list : List Pending) (ls : List Live) → Swaps ls → with_reserves m (movers (acts_of p flows st d bits arrays (sorted ls))) list ≡ with_reserves m (movers (lacts p st d bits ls)) list
+  same_appended : (m : ℕ) (list : List Pending) (ls : List Live) → Swaps ls
+      → with_reserves m (movers (acts_of p flows st d bits arrays (sorted ls))) list ≡ with_reserves m (movers (lacts p st d bits ls)) list
   same_appended m list = same_movers (List Pending) (λ ms. with_reserves m ms list) (λ a z. z ++ new_entries m a.thread.number a.does.reserves) (λ a rest. refl)
       (λ x y s z.
       let bx = younger_branch x y s in let by = older_branch x y s in
       ap₂ (λ a b. (z ++ a) ++ b) (none_new m x.live.number x.live bx.0 bx.1) (none_new m y.live.number y.live by.0 by.1)
       ∙ sym (ap₂ (λ a b. (z ++ b) ++ a) (none_new m x.live.number x.live bx.0 bx.1) (none_new m y.live.number y.live by.0 by.1)))
 
-  same_filled : (m : ℕ) (list : List Pending) (ls : List Live) → Swaps ls → with_all_writes m (movers (acts_of p flows st d bits arrays (sorted ls))) list ≡ with_all_writes m (movers (lacts p st d bits ls)) list
+  same_filled : (m : ℕ) (list : List Pending) (ls : List Live) → Swaps ls
+      → with_all_writes m (movers (acts_of p flows st d bits arrays (sorted ls))) list ≡ with_all_writes m (movers (lacts p st d bits ls)) list
   same_filled m list = same_movers (List Pending) (λ ms. with_all_writes m ms list) (λ a z. with_writes_of m a.thread.number a.does.writes z) (λ a rest. refl)
-      (λ x y s z. put_all_swap m y.live.number x.live.number (deeds_of p st bits y.live).writes (deeds_of p st bits x.live).writes z (λ e. let i = s.numbers in absurd (omega arith)))
+      (λ x y s z. put_all_swap m y.live.number x.live.number (deeds_of p st bits y.live).writes
+      (deeds_of p st bits x.live).writes z (λ e. let i = s.numbers in absurd (omega arith)))
 
-  pub same_any : (test : Moves.Act → Bool) (ls : List Live) → Swaps ls → list_any test (movers (acts_of p flows st d bits arrays (sorted ls))) ≡ list_any test (movers (lacts p st d bits ls))
+  pub same_any : (test : Moves.Act → Bool) (ls : List Live) → Swaps ls
+      → list_any test (movers (acts_of p flows st d bits arrays (sorted ls))) ≡ list_any test (movers (lacts p st d bits ls))
   same_any test = same_movers Bool (list_any test) (λ a z. test a || z) (λ a rest. refl) (λ x y s z. or_swap (test (act_of y)) (test (act_of x)) z)
 
-  pub same_any_all : (test : Moves.Act → Bool) (ls : List Live) → Swaps ls → list_any test (acts_of p flows st d bits arrays (sorted ls)) ≡ list_any test (lacts p st d bits ls)
+  pub same_any_all : (test : Moves.Act → Bool) (ls : List Live) → Swaps ls
+      → list_any test (acts_of p flows st d bits arrays (sorted ls)) ≡ list_any test (lacts p st d bits ls)
   same_any_all test = same_fold Bool (list_any test) (λ a z. test a || z) (λ a rest. refl) (λ x y s z. or_swap (test (act_of y)) (test (act_of x)) z)
 
   pub same_child : (ls : List Live) → Swaps ls → child_of (movers (acts_of p flows st d bits arrays (sorted ls))) ≡ child_of (movers (lacts p st d bits ls))
@@ -262,7 +314,9 @@ module _ (p : Pipe) (flows : Flows p) (st : State) (d : Derived.State) (bits : L
       (λ x y s z.
       let bx = younger_branch x y s in let by = older_branch x y s in
       ap₂ (λ a b. if b then Some y.live.number else (if a then Some x.live.number else z)) (plain_here x.live bx.0 bx.1).2 (plain_here y.live by.0 by.1).2
-      ∙ sym (ap₂ (λ a b. if a then Some x.live.number else (if b then Some y.live.number else z)) (plain_here x.live bx.0 bx.1).2 (plain_here y.live by.0 by.1).2))
+      ∙ sym
+      (ap₂ (λ a b. if a then Some x.live.number else (if b then Some y.live.number else z))
+      (plain_here x.live bx.0 bx.1).2 (plain_here y.live by.0 by.1).2))
 
   -- at most one of two asks for m
   one_asks : (m : ℕ) (x y : Pair) → Swap x y → (find_ask (deeds_of p st bits x.live).asks m ≡ None) ⊎ (find_ask (deeds_of p st bits y.live).asks m ≡ None)
@@ -274,40 +328,56 @@ module _ (p : Pipe) (flows : Flows p) (st : State) (d : Derived.State) (bits : L
       works_y : (deeds_of p st bits y.live).asks ≡ (work_of_live p d bits y.older y.live).asks
       works_y = asks_are p flows st d bits arrays y.older y.live s.known_y
 
-      at : (a : Option ℕ) → find_ask (deeds_of p st bits x.live).asks m ≡ a → (b : Option ℕ) → find_ask (deeds_of p st bits y.live).asks m ≡ b → (find_ask (deeds_of p st bits x.live).asks m ≡ None) ⊎ (find_ask (deeds_of p st bits y.live).asks m ≡ None)
+      at : (a : Option ℕ) → find_ask (deeds_of p st bits x.live).asks m ≡ a → (b : Option ℕ)
+          → find_ask (deeds_of p st bits y.live).asks m ≡ b
+          → (find_ask (deeds_of p st bits x.live).asks m ≡ None) ⊎ (find_ask (deeds_of p st bits y.live).asks m ≡ None)
       at None e b f = inl e
       at (Some a) e None f = inr f
       at (Some a) e (Some b) f =
-          absurd (let same : x.live.thread.stage ≡ y.live.thread.stage = one_stage (is_delayed_read m) p.stmts x.live.thread.stage y.live.thread.stage (flows.one_fetch m)
+          absurd
+          (let same : x.live.thread.stage
+          ≡ y.live.thread.stage = one_stage (is_delayed_read m) p.stmts x.live.thread.stage y.live.thread.stage (flows.one_fetch m)
           (asks_at p flows st d bits arrays x.older x.live s.known_x m a (ap (λ q. find_ask q m) (sym works_x) ∙ e))
           (asks_at p flows st d bits arrays y.older y.live s.known_y m b (ap (λ q. find_ask q m) (sym works_y) ∙ f)) in
           let less : x.live.thread.stage < y.live.thread.stage = s.behind.branch (ap (λ n. (stage_at p n).branch) same) in omega arith)
 
-  pub same_asked : (m : ℕ) (old : Request) (ls : List Live) → Swaps ls → asked_by m (movers (acts_of p flows st d bits arrays (sorted ls))) old ≡ asked_by m (movers (lacts p st d bits ls)) old
-  same_asked m old = same_movers Request (λ ms. asked_by m ms old) (λ a z. asked_of m a.thread.number a.does.asks z) (λ a rest. refl) (λ x y s z. at x y z (one_asks m x y s))
+  pub same_asked : (m : ℕ) (old : Request) (ls : List Live) → Swaps ls
+      → asked_by m (movers (acts_of p flows st d bits arrays (sorted ls))) old ≡ asked_by m (movers (lacts p st d bits ls)) old
+  same_asked m old =
+      same_movers Request (λ ms. asked_by m ms old) (λ a z. asked_of m a.thread.number a.does.asks z) (λ a rest. refl) (λ x y s z. at x y z (one_asks m x y s))
     where
       at : (x y : Pair) (z : Request) → (find_ask (deeds_of p st bits x.live).asks m ≡ None) ⊎ (find_ask (deeds_of p st bits y.live).asks m ≡ None)
-          → asked_of m y.live.number (deeds_of p st bits y.live).asks (asked_of m x.live.number (deeds_of p st bits x.live).asks z) ≡ asked_of m x.live.number (deeds_of p st bits x.live).asks (asked_of m y.live.number (deeds_of p st bits y.live).asks z)
-      at x y z (inl e) = ap (asked_of m y.live.number (deeds_of p st bits y.live).asks) (asked_none m x.live.number _ z e) ∙ sym (asked_none m x.live.number _ _ e)
-      at x y z (inr e) = asked_none m y.live.number _ _ e ∙ ap (asked_of m x.live.number (deeds_of p st bits x.live).asks) (sym (asked_none m y.live.number _ z e))
+          → asked_of m y.live.number (deeds_of p st bits y.live).asks (asked_of m x.live.number (deeds_of p st bits x.live).asks z)
+          ≡ asked_of m x.live.number (deeds_of p st bits x.live).asks (asked_of m y.live.number (deeds_of p st bits y.live).asks z)
+      at x y z (inl e) =
+          ap (asked_of m y.live.number (deeds_of p st bits y.live).asks) (asked_none m x.live.number _ z e) ∙ sym (asked_none m x.live.number _ _ e)
+      at x y z (inr e) =
+          asked_none m y.live.number _ _ e ∙ ap (asked_of m x.live.number (deeds_of p st bits x.live).asks) (sym (asked_none m y.live.number _ z e))
 
-  pub same_shown : (m : ℕ) (ls : List Live) → Swaps ls → asked_in (movers (acts_of p flows st d bits arrays (sorted ls))) m ≡ asked_in (movers (lacts p st d bits ls)) m
+  pub same_shown : (m : ℕ) (ls : List Live) → Swaps ls
+      → asked_in (movers (acts_of p flows st d bits arrays (sorted ls))) m ≡ asked_in (movers (lacts p st d bits ls)) m
   same_shown m = same_movers (Option ℕ) (λ ms. asked_in ms m) (λ a z. address_of m a.does.asks z) (λ a rest. refl) (λ x y s z. at x y z (one_asks m x y s))
     where
       at : (x y : Pair) (z : Option ℕ) → (find_ask (deeds_of p st bits x.live).asks m ≡ None) ⊎ (find_ask (deeds_of p st bits y.live).asks m ≡ None)
-          → address_of m (deeds_of p st bits y.live).asks (address_of m (deeds_of p st bits x.live).asks z) ≡ address_of m (deeds_of p st bits x.live).asks (address_of m (deeds_of p st bits y.live).asks z)
+          → address_of m (deeds_of p st bits y.live).asks (address_of m (deeds_of p st bits x.live).asks z)
+          ≡ address_of m (deeds_of p st bits x.live).asks (address_of m (deeds_of p st bits y.live).asks z)
       at x y z (inl e) = ap (address_of m (deeds_of p st bits y.live).asks) (address_none m _ z e) ∙ sym (address_none m _ _ e)
       at x y z (inr e) = address_none m _ _ e ∙ ap (address_of m (deeds_of p st bits x.live).asks) (sym (address_none m _ z e))
 
-  pub same_stands : (q : ℕ) (ls : List Live) → Swaps ls → next_thread p q (acts_of p flows st d bits arrays (sorted ls)) ≡ next_thread p q (lacts p st d bits ls)
-  same_stands q = same_fold (Option Machine.Thread) (next_thread p q) (λ a z. or_then (coming_thread p q a) z) (λ a rest. refl) (λ x y s z. or_then_swap (coming_thread p q (act_of y)) (coming_thread p q (act_of x)) z (turn (s.apart q)))
+  pub same_stands : (q : ℕ) (ls : List Live) → Swaps ls
+      → next_thread p q (acts_of p flows st d bits arrays (sorted ls)) ≡ next_thread p q (lacts p st d bits ls)
+  same_stands q =
+      same_fold (Option Machine.Thread) (next_thread p q) (λ a z. or_then (coming_thread p q a) z) (λ a rest. refl)
+      (λ x y s z. or_then_swap (coming_thread p q (act_of y)) (coming_thread p q (act_of x)) z (turn (s.apart q)))
     where
       turn : {A B : Type 0} → A ⊎ B → B ⊎ A
       turn (inl a) = inr a
       turn (inr b) = inl b
 
   -- nobody enters a fork from one of its branches
-  not_entering : (f : ℕ) (l : Live) (b : Branch) → (stage_at p l.thread.stage).branch ≡ Some b → l.thread.stage < length p.stages → (if l.thread.stage == f then goes_into p f (next_stage p l.thread.stage (deeds_of p st bits l)) else []) ≡ []
+  not_entering : (f : ℕ) (l : Live) (b : Branch) → (stage_at p l.thread.stage).branch ≡ Some b
+      → l.thread.stage < length p.stages
+      → (if l.thread.stage == f then goes_into p f (next_stage p l.thread.stage (deeds_of p st bits l)) else []) ≡ []
   not_entering f l b e low = at (l.thread.stage == f) refl (next_stage p l.thread.stage (deeds_of p st bits l)) refl
     where
       into : (q : ℕ) (c : Branch) → Leads p l.thread.stage q → (stage_at p q).branch ≡ Some c → c.fork ≡ l.thread.stage → ⊥
@@ -325,45 +395,69 @@ module _ (p : Pipe) (flows : Flows p) (st : State) (d : Derived.State) (bits : L
           by true k = absurd (into q c leads i (eqb-true _ _ k ∙ sym j))
           by false k = refl
 
-      at : (t : Bool) → (l.thread.stage == f) ≡ t → (r : Option ℕ) → next_stage p l.thread.stage (deeds_of p st bits l) ≡ r → (if t then goes_into p f r else []) ≡ []
+      at : (t : Bool) → (l.thread.stage == f) ≡ t → (r : Option ℕ)
+          → next_stage p l.thread.stage (deeds_of p st bits l) ≡ r → (if t then goes_into p f r else []) ≡ []
       at false i r j = refl
       at true i None j = refl
       at true i (Some q) j = side q (stage_at p q).branch ((deeds_of p st bits l).env, j, low) refl (eqb-true _ _ i)
 
-  pub same_entered : (f : ℕ) (ls : List Live) → Swaps ls → entered_branches p f (movers (acts_of p flows st d bits arrays (sorted ls))) ≡ entered_branches p f (movers (lacts p st d bits ls))
-  same_entered f = same_movers (List Bool) (entered_branches p f) (λ a z. z ++ (if a.stage == f then goes_into p f (next_stage p a.stage a.does) else [])) (λ a rest. refl)
+  pub same_entered : (f : ℕ) (ls : List Live) → Swaps ls
+      → entered_branches p f (movers (acts_of p flows st d bits arrays (sorted ls))) ≡ entered_branches p f (movers (lacts p st d bits ls))
+  same_entered f =
+      same_movers (List Bool) (entered_branches p f) (λ a z. z ++ (if a.stage == f then goes_into p f (next_stage p a.stage a.does) else [])) (λ a rest. refl)
       (λ x y s z.
       let bx = younger_branch x y s in let by = older_branch x y s in
-      ap₂ (λ a b. (z ++ a) ++ b) (not_entering f x.live bx.0 bx.1 s.known_x.seated.keeps_on.inside) (not_entering f y.live by.0 by.1 s.known_y.seated.keeps_on.inside)
-      ∙ sym (ap₂ (λ a b. (z ++ b) ++ a) (not_entering f x.live bx.0 bx.1 s.known_x.seated.keeps_on.inside) (not_entering f y.live by.0 by.1 s.known_y.seated.keeps_on.inside)))
+      ap₂ (λ a b. (z ++ a) ++ b) (not_entering f x.live bx.0 bx.1 s.known_x.seated.keeps_on.inside)
+      (not_entering f y.live by.0 by.1 s.known_y.seated.keeps_on.inside)
+      ∙ sym
+      (ap₂ (λ a b. (z ++ b) ++ a) (not_entering f x.live bx.0 bx.1 s.known_x.seated.keeps_on.inside)
+      (not_entering f y.live by.0 by.1 s.known_y.seated.keeps_on.inside)))
 
   -- what is taken out of a lock, and the list that stays
-  same_two : (m : ℕ) (ls : List Live) → Swaps ls → list_two st (movers (acts_of p flows st d bits arrays (sorted ls))) m ≡ list_two st (movers (lacts p st d bits ls)) m
-  same_two m ls s = same_filled m (with_reserves m (movers (acts_of p flows st d bits arrays (sorted ls))) (lock_of st m)) ls s ∙ ap (with_all_writes m (movers (lacts p st d bits ls))) (same_appended m (lock_of st m) ls s)
+  same_two : (m : ℕ) (ls : List Live) → Swaps ls
+      → list_two st (movers (acts_of p flows st d bits arrays (sorted ls))) m ≡ list_two st (movers (lacts p st d bits ls)) m
+  same_two m ls s =
+      same_filled m (with_reserves m (movers (acts_of p flows st d bits arrays (sorted ls))) (lock_of st m)) ls s
+      ∙ ap (with_all_writes m (movers (lacts p st d bits ls))) (same_appended m (lock_of st m) ls s)
 
-  same_releases : (m : ℕ) (ls : List Live) → Swaps ls → has_release m (movers (acts_of p flows st d bits arrays (sorted ls))) ≡ has_release m (movers (lacts p st d bits ls))
+  same_releases : (m : ℕ) (ls : List Live) → Swaps ls
+      → has_release m (movers (acts_of p flows st d bits arrays (sorted ls))) ≡ has_release m (movers (lacts p st d bits ls))
   same_releases m = same_any (λ a. list_any (λ n. n == m) a.does.releases)
 
-  pub same_taken : (m : ℕ) (ls : List Live) → Swaps ls → taken_out st (movers (acts_of p flows st d bits arrays (sorted ls))) m ≡ taken_out st (movers (lacts p st d bits ls)) m
+  pub same_taken : (m : ℕ) (ls : List Live) → Swaps ls
+      → taken_out st (movers (acts_of p flows st d bits arrays (sorted ls))) m ≡ taken_out st (movers (lacts p st d bits ls)) m
   same_taken m ls s = ap₂ (λ b l. if b then Cycle.oldest l else None) (same_releases m ls s) (same_two m ls s)
 
-  same_three : (m : ℕ) (ls : List Live) → Swaps ls → Cycle.list_three st (movers (acts_of p flows st d bits arrays (sorted ls))) m ≡ Cycle.list_three st (movers (lacts p st d bits ls)) m
+  same_three : (m : ℕ) (ls : List Live) → Swaps ls
+      → Cycle.list_three st (movers (acts_of p flows st d bits arrays (sorted ls))) m ≡ Cycle.list_three st (movers (lacts p st d bits ls)) m
   same_three m ls s = ap₂ (λ b l. if b then Cycle.but_oldest l else l) (same_releases m ls s) (same_two m ls s)
 
-  same_commits : (ms ns : List Moves.Act) → ((m : ℕ) → taken_out st ms m ≡ taken_out st ns m) → (k : ℕ) (xs : List Mem) (arrays : Arrays) → with_commits st ms k xs arrays ≡ with_commits st ns k xs arrays
+  same_commits : (ms ns : List Moves.Act) → ((m : ℕ) → taken_out st ms m ≡ taken_out st ns m)
+      → (k : ℕ) (xs : List Mem) (arrays : Arrays) → with_commits st ms k xs arrays ≡ with_commits st ns k xs arrays
   same_commits ms ns h k [] arrays = refl
-  same_commits ms ns h k (x ∷ xs) arrays = same_commits ms ns h (suc k) xs (with_commit arrays k (taken_out st ms k)) ∙ ap (λ o. with_commits st ns (suc k) xs (with_commit arrays k o)) (h k)
+  same_commits ms ns h k (x ∷ xs) arrays =
+      same_commits ms ns h (suc k) xs (with_commit arrays k (taken_out st ms k)) ∙ ap (λ o. with_commits st ns (suc k) xs (with_commit arrays k o)) (h k)
 
   -- THE CYCLE
 
   pub same_after : (ls : List Live) → Swaps ls
-      → Cycle.after_acts p st bits (acts_of p flows st d bits arrays (sorted ls)) ≡ Cycle.after_these p st bits (lacts p st d bits ls) (movers (lacts p st d bits ls)) (squasher (movers (lacts p st d bits ls)))
+      → Cycle.after_acts p st bits (acts_of p flows st d bits arrays (sorted ls))
+      ≡ Cycle.after_these p st bits (lacts p st d bits ls) (movers (lacts p st d bits ls)) (squasher (movers (lacts p st d bits ls)))
   same_after ls s = λ i. record {
-    stages = for_stages (λ q. Cycle.or_then (if q == 0 then Cycle.born_thread p st.next (same_child ls s i) else None) (Cycle.if_kept (same_squasher ls s i) (same_stands q ls s i))) 0 p.stages;
+    stages =
+        for_stages
+        (λ q. Cycle.or_then (if q == 0 then Cycle.born_thread p st.next (same_child ls s i) else None)
+        (Cycle.if_kept (same_squasher ls s i) (same_stands q ls s i))) 0 p.stages;
     arrays = same_commits (movers (acts_of p flows st d bits arrays (sorted ls))) (movers (lacts p st d bits ls)) (λ m. same_taken m ls s) 0 p.mems st.arrays i;
     locks = for_mems (λ m. Cycle.entries_left (same_squasher ls s i) (same_three m ls s i)) 0 p.mems;
-    forks = for_stages (λ f. Cycle.branches_left p (same_squasher ls s i) f ((if same_any (λ a. is_branch_of (stage_at p a.stage).branch f && goes_out p f (next_stage p a.stage a.does)) ls s i then Cycle.but_first (fork_of st f) else fork_of st f) ++ same_entered f ls s i)) 0 p.stages;
-    requests = for_mems (λ m. Cycle.request_left (same_squasher ls s i) (same_asked m (if is_answered p bits m then NoRequest else request_of st m) ls s i)) 0 p.mems;
+    forks =
+        for_stages
+        (λ f. Cycle.branches_left p (same_squasher ls s i) f
+        ((if same_any (λ a. is_branch_of (stage_at p a.stage).branch f && goes_out p f (next_stage p a.stage a.does)) ls s i
+        then Cycle.but_first (fork_of st f) else fork_of st f)
+        ++ same_entered f ls s i)) 0 p.stages;
+    requests =
+        for_mems (λ m. Cycle.request_left (same_squasher ls s i) (same_asked m (if is_answered p bits m then NoRequest else request_of st m) ls s i)) 0 p.mems;
     next = if is_some (same_child ls s i) then suc st.next else st.next;
   }
 
@@ -385,11 +479,15 @@ module _ (p : Pipe) (flows : Flows p) (st : State) (d : Derived.State) (bits : L
   find_none s q (x ∷ xs) h e = at (x.thread.stage == q) refl (find_none s q xs h.1 e)
     where
       at : (b : Bool) → (x.thread.stage == q) ≡ b → find q xs ≡ None → cond b (Some (seat x)) (find q xs) ≡ None
-      at true i r = absurd (let same : s ≡ x.thread.stage = e ∙ sym (eqb-true _ _ i) in let less : s < x.thread.stage = h.0.branch (ap (λ n. (stage_at p n).branch) same) in omega arith)
+      at true i r =
+          absurd
+          (let same : s ≡ x.thread.stage = e ∙ sym (eqb-true _ _ i) in
+          let less : s < x.thread.stage = h.0.branch (ap (λ n. (stage_at p n).branch) same) in omega arith)
       at false i r = r
 
   -- two threads come to two stages
-  apart_all : (l : Live) (ls : List Live) → Known p flows st d bits arrays ls l → AllKnown p flows st d bits arrays ls → Each (λ k. Behind p l.thread.stage k.thread.stage) ls
+  apart_all : (l : Live) (ls : List Live) → Known p flows st d bits arrays ls l → AllKnown p flows st d bits arrays ls
+      → Each (λ k. Behind p l.thread.stage k.thread.stage) ls
       → EachPair (λ y. (q : ℕ) → (coming_thread p q (lact p st d bits ls l) ≡ None) ⊎ (coming_thread p q (lact p st d bits y.older y.live) ≡ None)) (pairs ls)
   apart_all l ls k ks b = at (did p d bits ls l).moves refl
     where
@@ -397,32 +495,54 @@ module _ (p : Pipe) (flows : Flows p) (st : State) (d : Derived.State) (bits : L
       known_pairs [] h = tt
       known_pairs (x ∷ xs) h = (h.0, known_pairs xs h.1)
 
-      target : (s : ℕ) → ((q : ℕ) → (q ≡ s → ⊥) → coming_thread p q (lact p st d bits ls l) ≡ None) → EachPair (λ y. Each (λ k. Behind p s k.thread.stage) (next_live p st d bits y.older y.live)) (pairs ls)
-          → EachPair (λ y. (q : ℕ) → (coming_thread p q (lact p st d bits ls l) ≡ None) ⊎ (coming_thread p q (lact p st d bits y.older y.live) ≡ None)) (pairs ls)
+      target : (s : ℕ) → ((q : ℕ) → (q ≡ s → ⊥) → coming_thread p q (lact p st d bits ls l) ≡ None)
+          → EachPair (λ y. Each (λ k. Behind p s k.thread.stage) (next_live p st d bits y.older y.live)) (pairs ls)
+          → EachPair (λ y. (q : ℕ) → (coming_thread p q (lact p st d bits ls l) ≡ None) ⊎ (coming_thread p q (lact p st d bits y.older y.live) ≡ None))
+          (pairs ls)
       target s none h = pair_both (λ y f k q. by y f k q (q == s) refl) (pairs ls) h (known_pairs ls ks)
         where
-          by : (y : Pair) → Each (λ k. Behind p s k.thread.stage) (next_live p st d bits y.older y.live) → Known p flows st d bits arrays y.older y.live → (q : ℕ) (c : Bool) → (q == s) ≡ c → (coming_thread p q (lact p st d bits ls l) ≡ None) ⊎ (coming_thread p q (lact p st d bits y.older y.live) ≡ None)
-          by y f k q true e = inr (comes_is p flows st d bits arrays y.older y.live q k ∙ find_none s q (next_live p st d bits y.older y.live) f (sym (eqb-true _ _ e)))
+          by : (y : Pair) → Each (λ k. Behind p s k.thread.stage) (next_live p st d bits y.older y.live)
+              → Known p flows st d bits arrays y.older y.live → (q : ℕ) (c : Bool) → (q == s) ≡ c
+              → (coming_thread p q (lact p st d bits ls l) ≡ None) ⊎ (coming_thread p q (lact p st d bits y.older y.live) ≡ None)
+          by y f k q true e =
+              inr (comes_is p flows st d bits arrays y.older y.live q k ∙ find_none s q (next_live p st d bits y.older y.live) f (sym (eqb-true _ _ e)))
           by y f k q false e = inl (none q (eqb-false _ _ e))
 
       stays_none : (did p d bits ls l).moves ≡ false → (q : ℕ) → (q ≡ l.thread.stage → ⊥) → coming_thread p q (lact p st d bits ls l) ≡ None
-      stays_none e q n = ap (λ c. if c then (if Cycle.is_stage q (next_stage p l.thread.stage (deeds_of p st bits l)) then Some (Cycle.thread_after (lact p st d bits ls l)) else None) else (if l.thread.stage == q then Some (with_answers p st bits (seat l)) else None)) e ∙ off (l.thread.stage == q) refl
+      stays_none e q n =
+          ap
+          (λ c. if c
+          then (if Cycle.is_stage q (next_stage p l.thread.stage (deeds_of p st bits l)) then Some (Cycle.thread_after (lact p st d bits ls l)) else None)
+          else (if l.thread.stage == q then Some (with_answers p st bits (seat l)) else None)) e
+          ∙ off (l.thread.stage == q) refl
         where
           off : (c : Bool) → (l.thread.stage == q) ≡ c → (if c then Some (with_answers p st bits (seat l)) else None) ≡ None
           off true i = absurd (n (sym (eqb-true _ _ i)))
           off false i = refl
 
-      moves_none : (did p d bits ls l).moves ≡ true → (r : Option ℕ) → next_stage p l.thread.stage (deeds_of p st bits l) ≡ r → (q : ℕ) → (Cycle.is_stage q r ≡ false) → coming_thread p q (lact p st d bits ls l) ≡ None
+      moves_none : (did p d bits ls l).moves ≡ true → (r : Option ℕ)
+          → next_stage p l.thread.stage (deeds_of p st bits l) ≡ r → (q : ℕ) → (Cycle.is_stage q r ≡ false)
+          → coming_thread p q (lact p st d bits ls l) ≡ None
       moves_none e r i q f =
-          ap (λ c. if c then (if Cycle.is_stage q (next_stage p l.thread.stage (deeds_of p st bits l)) then Some (Cycle.thread_after (lact p st d bits ls l)) else None) else (if l.thread.stage == q then Some (with_answers p st bits (seat l)) else None)) e
+          ap
+          (λ c. if c
+          then (if Cycle.is_stage q (next_stage p l.thread.stage (deeds_of p st bits l))
+          then Some (Cycle.thread_after (lact p st d bits ls l)) else None)
+          else (if l.thread.stage == q then Some (with_answers p st bits (seat l)) else None)) e
           ∙ ap (λ c. if c then Some (Cycle.thread_after (lact p st d bits ls l)) else None) (ap (Cycle.is_stage q) i ∙ f)
 
-      out : (did p d bits ls l).moves ≡ true → (r : Option ℕ) → goes_to (stage_at p l.thread.stage).next (work_of_live p d bits ls l).env ≡ r → EachPair (λ y. (q : ℕ) → (coming_thread p q (lact p st d bits ls l) ≡ None) ⊎ (coming_thread p q (lact p st d bits y.older y.live) ≡ None)) (pairs ls)
+      out : (did p d bits ls l).moves ≡ true → (r : Option ℕ)
+          → goes_to (stage_at p l.thread.stage).next (work_of_live p d bits ls l).env ≡ r
+          → EachPair (λ y. (q : ℕ) → (coming_thread p q (lact p st d bits ls l) ≡ None) ⊎ (coming_thread p q (lact p st d bits y.older y.live) ≡ None))
+          (pairs ls)
       out e None i = pair_map (λ y f q. inl (moves_none e None (same_next ∙ i) q refl)) (pairs ls) (known_pairs ls ks)
         where
           same_next : next_stage p l.thread.stage (deeds_of p st bits l) ≡ goes_to (stage_at p l.thread.stage).next (work_of_live p d bits ls l).env
           same_next = ap (λ (w : Work). goes_to (stage_at p l.thread.stage).next w.env) (sym (told_here p flows st d bits arrays ls l k).is)
-      out e (Some s) i = target s (λ q n. moves_none e (Some s) (same_next ∙ i) q (off q n)) (become_move p flows st d bits arrays l.thread.stage s (leads_of p flows st d bits arrays ls l k s i) ls ks b (subst (λ r. Derived.can_enter p (dacts p d bits ls) r ≡ true) i (enters_here p flows st d bits arrays ls l e)))
+      out e (Some s) i =
+          target s (λ q n. moves_none e (Some s) (same_next ∙ i) q (off q n))
+          (become_move p flows st d bits arrays l.thread.stage s (leads_of p flows st d bits arrays ls l k s i) ls ks b
+          (subst (λ r. Derived.can_enter p (dacts p d bits ls) r ≡ true) i (enters_here p flows st d bits arrays ls l e)))
         where
           same_next : next_stage p l.thread.stage (deeds_of p st bits l) ≡ goes_to (stage_at p l.thread.stage).next (work_of_live p d bits ls l).env
           same_next = ap (λ (w : Work). goes_to (stage_at p l.thread.stage).next w.env) (sym (told_here p flows st d bits arrays ls l k).is)
@@ -434,7 +554,9 @@ module _ (p : Pipe) (flows : Flows p) (st : State) (d : Derived.State) (bits : L
               by true j = absurd (n (sym (eqb-true _ _ j)))
               by false j = j
 
-      at : (c : Bool) → (did p d bits ls l).moves ≡ c → EachPair (λ y. (q : ℕ) → (coming_thread p q (lact p st d bits ls l) ≡ None) ⊎ (coming_thread p q (lact p st d bits y.older y.live) ≡ None)) (pairs ls)
+      at : (c : Bool) → (did p d bits ls l).moves ≡ c
+          → EachPair (λ y. (q : ℕ) → (coming_thread p q (lact p st d bits ls l) ≡ None) ⊎ (coming_thread p q (lact p st d bits y.older y.live) ≡ None))
+          (pairs ls)
       at true e = out e (goes_to (stage_at p l.thread.stage).next (work_of_live p d bits ls l).env) refl
       at false e = target l.thread.stage (stays_none e) (become_stay p flows st d bits arrays l.thread.stage ls ks b)
 
@@ -446,7 +568,8 @@ module _ (p : Pipe) (flows : Flows p) (st : State) (d : Derived.State) (bits : L
     swaps_all l.number ls k.1 o.1 f.1,
   )
     where
-      three : (xs : List Live) → AllKnown p flows st d bits arrays xs → Each (λ k. k.number < l.number) xs → Each (λ k. Behind p l.thread.stage k.thread.stage) xs
+      three : (xs : List Live) → AllKnown p flows st d bits arrays xs → Each (λ k. k.number < l.number) xs
+          → Each (λ k. Behind p l.thread.stage k.thread.stage) xs
           → EachPair (λ y. Known p flows st d bits arrays y.older y.live × (y.live.number < l.number) × Behind p l.thread.stage y.live.thread.stage) (pairs xs)
       three [] k f o = tt
       three (x ∷ xs) k f o = ((k.0, f.0, o.0), three xs k.1 f.1 o.1)

@@ -38,7 +38,8 @@ pub commits_same : (p : Pipe) (m : ℕ) (ts : List Cycle.Turn) (us : List Derive
 commits_same p m [] [] h = refl
 commits_same p m [] (u ∷ us) h = absurd h
 commits_same p m (t ∷ ts) [] h = absurd h
-commits_same p m (t ∷ ts) (u ∷ us) h = ap₂ (λ a b. a ++ b) (h.0.commits m) (commits_same p m ts us h.1) ∙ sym (of_mem_append m u.ports.commits (Derived.all_commits us))
+commits_same p m (t ∷ ts) (u ∷ us) h =
+    ap₂ (λ a b. a ++ b) (h.0.commits m) (commits_same p m ts us h.1) ∙ sym (of_mem_append m u.ports.commits (Derived.all_commits us))
 
 pub waits_same : (p : Pipe) (ts : List Cycle.Turn) (us : List Derived.Turn) → SameTurns p ts us → Cycle.waits_in ts ≡ Derived.waits_in us
 waits_same p [] [] h = refl
@@ -66,7 +67,8 @@ older_swap x y None h = ap (λ c. if c then x else y) (not_less _ _ h) ∙ sym (
 older_swap x y (Some b) h = at (nat_lt b.thread.number x.thread.number) refl (nat_lt b.thread.number y.thread.number) refl
   where
     at : (c : Bool) → nat_lt b.thread.number x.thread.number ≡ c → (e : Bool) → nat_lt b.thread.number y.thread.number ≡ e
-        → older_of y (Some (if nat_lt b.thread.number x.thread.number then b else x)) ≡ older_of x (Some (if nat_lt b.thread.number y.thread.number then b else y))
+        → older_of y (Some (if nat_lt b.thread.number x.thread.number then b else x))
+        ≡ older_of x (Some (if nat_lt b.thread.number y.thread.number then b else y))
     at true i true j =
         ap (λ c. older_of y (Some (if c then b else x))) i ∙ ap (λ c. if c then b else y) j
         ∙ sym (ap (λ c. older_of x (Some (if c then b else y))) j ∙ ap (λ c. if c then b else x) i)
@@ -81,7 +83,10 @@ older_swap x y (Some b) h = at (nat_lt b.thread.number x.thread.number) refl (na
 module _ (p : Pipe) (flows : Flows p) where
   module _ (st : State) (d : Derived.State) (bits : List Bool) (ls : List Live) (sim : Sim p st d ls) where
     same_oldest : oldest_act (acts_of p flows st d bits sim.arrays (sorted ls)) ≡ oldest_act (lacts p st d bits ls)
-    same_oldest = same_fold p flows st d bits sim.arrays (Option Moves.Act) oldest_act (λ a z. Some (older_of a z)) (λ a rest. refl) (λ x y s z. ap Some (older_swap (lact p st d bits x.older x.live) (lact p st d bits y.older y.live) z s.numbers)) ls
+    same_oldest =
+        same_fold p flows st d bits sim.arrays (Option Moves.Act) oldest_act (λ a z. Some (older_of a z))
+        (λ a rest. refl)
+        (λ x y s z. ap Some (older_swap (lact p st d bits x.older x.live) (lact p st d bits y.older y.live) z s.numbers)) ls
         (swaps_all p flows st d bits sim.arrays st.next ls (known p flows st d bits ls sim) sim.ordered sim.falls)
 
     oldest_more : (xs : List Derived.Act) (y z : Derived.Act) → oldest_moves ((xs ++ y ∷ []) ++ z ∷ []) ≡ oldest_moves (xs ++ y ∷ [])
@@ -96,7 +101,8 @@ module _ (p : Pipe) (flows : Flows p) where
     lowest n l (k ∷ ks) f =
         let rest = lowest l.number k ks f.1 in
         let b : Moves.Act = older_of (lact p st d bits ks k) (oldest_act (lacts p st d bits ks)) in
-        let e : (if nat_lt b.thread.number l.number then b else lact p st d bits (k ∷ ks) l) ≡ b = ap (λ c. cond c b (lact p st d bits (k ∷ ks) l)) (lt-ltb _ _ rest.1) in (
+        let e : (if nat_lt b.thread.number l.number then b else lact p st d bits (k ∷ ks) l) ≡ b =
+        ap (λ c. cond c b (lact p st d bits (k ∷ ks) l)) (lt-ltb _ _ rest.1) in (
           ap (λ (a : Moves.Act). a.moves) e ∙ rest.0 ∙ sym (oldest_more (rev (dacts p d bits ks)) _ _),
           subst (λ (a : Moves.Act). a.thread.number < n) (sym e) (let i = rest.1 in let j = f.0 in omega arith),
         )
@@ -114,16 +120,20 @@ module _ (p : Pipe) (flows : Flows p) where
   -- THE THEOREMS
 
   pub run_same : (image : Arrays) (schedule : List (List Bool))
-      → SameTurns p (Cycle.turns p image schedule) (Derived.turns p image schedule) × ((ls : List Live) × Sim p (Cycle.state_after p (Cycle.first p image) schedule) (Derived.state_after p (Derived.first p image) schedule) ls)
+      → SameTurns p (Cycle.turns p image schedule) (Derived.turns p image schedule)
+      × ((ls : List Live) × Sim p (Cycle.state_after p (Cycle.first p image) schedule) (Derived.state_after p (Derived.first p image) schedule) ls)
   run_same image schedule = runs_same p flows (Cycle.first p image) (Derived.first p image) schedule (first_live p flows ∷ []) (first_sim p flows image)
 
   -- Pipeline refinement, where nobody writes a memory without lock
-  pub carries_refines : (image : Arrays) (schedule : List (List Bool)) → Alone.Refines p image schedule → ((m n : ℕ) → (mem_at p m).lock ≡ Plain → seqwrites p image m n ≡ []) → Promises.Refines p image schedule
+  pub carries_refines : (image : Arrays) (schedule : List (List Bool)) → Alone.Refines p image schedule
+      → ((m n : ℕ) → (mem_at p m).lock ≡ Plain → seqwrites p image m n ≡ []) → Promises.Refines p image schedule
   carries_refines image schedule r unwritten =
       let both = run_same image schedule in
-      let prefix : (m : ℕ) → IsPrefix (commits m (Cycle.turns p image schedule)) (seqwrites p image m (Cycle.ended_in (Cycle.turns p image schedule) + length p.stages)) =
+      let prefix : (m : ℕ)
+      → IsPrefix (commits m (Cycle.turns p image schedule)) (seqwrites p image m (Cycle.ended_in (Cycle.turns p image schedule) + length p.stages)) =
       λ m. subst (λ c. IsPrefix c (seqwrites p image m (Cycle.ended_in (Cycle.turns p image schedule) + length p.stages))) (sym (commits_same p m _ _ both.0))
-      (subst (λ n. IsPrefix (Derived.commits m (Derived.turns p image schedule)) (seqwrites p image m (n + length p.stages))) (sym (ended_same p _ _ both.0)) (r.prefix m)) in
+      (subst (λ n. IsPrefix (Derived.commits m (Derived.turns p image schedule)) (seqwrites p image m (n + length p.stages)))
+      (sym (ended_same p _ _ both.0)) (r.prefix m)) in
       record {
         whole = λ m. subst (λ c. IsPrefix (seqwrites p image m (Cycle.ended_in (Cycle.turns p image schedule))) c) (sym (commits_same p m _ _ both.0))
             (subst (λ n. IsPrefix (seqwrites p image m n) (Derived.commits m (Derived.turns p image schedule))) (sym (ended_same p _ _ both.0)) (r.whole m));
@@ -134,7 +144,8 @@ module _ (p : Pipe) (flows : Flows p) where
       }
 
   -- Progress
-  pub carries_advances : (image : Arrays) (schedule : List (List Bool)) (bits : List Bool) → Alone.Advances p image schedule bits → Promises.Advances p image schedule bits
+  pub carries_advances : (image : Arrays) (schedule : List (List Bool)) (bits : List Bool)
+      → Alone.Advances p image schedule bits → Promises.Advances p image schedule bits
   carries_advances image schedule bits advances k =
       let both = run_same image schedule in
       let st : State = Cycle.state_after p (Cycle.first p image) schedule in
@@ -142,7 +153,9 @@ module _ (p : Pipe) (flows : Flows p) where
       oldest_same st d bits both.1.0 both.1.1 ∙ advances (sym (turn_same p flows st d bits both.1.0 both.1.1).wait ∙ k)
 
   -- and its bound
-  pub carries_pace : (image : Arrays) (schedule : List (List Bool)) → (length schedule - Derived.waits_in (Derived.turns p image schedule)) / depth p ≤ Derived.ended_in (Derived.turns p image schedule) → KeepsPace p image schedule
+  pub carries_pace : (image : Arrays) (schedule : List (List Bool))
+      → (length schedule - Derived.waits_in (Derived.turns p image schedule)) / depth p ≤ Derived.ended_in (Derived.turns p image schedule)
+      → KeepsPace p image schedule
   carries_pace image schedule pace =
       let both = run_same image schedule in
       subst (λ n. (length schedule - n) / depth p ≤ Cycle.ended_in (Cycle.turns p image schedule)) (sym (waits_same p _ _ both.0))

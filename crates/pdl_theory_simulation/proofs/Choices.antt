@@ -93,7 +93,9 @@ one_stage test (x ∷ xs) j k h f g = at (test x.op) refl h (λ i. one_stage tes
         by true i = ap (λ t. not t && none_of test (in_stage s xs)) (sym e) ∙ i
         by false i = i
 
-    at : (b : Bool) → test x.op ≡ b → (if b then none_of test xs else at_most_one test xs) ≡ true → (at_most_one test xs ≡ true → none_of test (in_stage j xs) ≡ false → none_of test (in_stage k xs) ≡ false → j ≡ k) → j ≡ k
+    at : (b : Bool) → test x.op ≡ b → (if b then none_of test xs else at_most_one test xs) ≡ true
+        → (at_most_one test xs ≡ true → none_of test (in_stage j xs) ≡ false → none_of test (in_stage k xs) ≡ false → j ≡ k)
+        → j ≡ k
     at true e n r = sym (mine j n f) ∙ mine k n g
     at false e n r = r n (skip j e f) (skip k e g)
 
@@ -118,7 +120,8 @@ module _ (p : Pipe) (flows : Flows p) (st : State) (d : Derived.State) (bits : L
   waits_are n [] o = refl
   waits_are n (r ∷ rs) o = ap₂ (λ x l. cond (is_some x) [] (r ∷ []) ++ l) (answer_is n r.mem o.0.0 o.0.1) (waits_are n rs o.1) ∙ at (is_answered p bits r.mem)
     where
-      at : (b : Bool) → cond (is_some (cond b (Some (word_at st.arrays r.mem o.0.0)) None)) [] (r ∷ []) ++ still p bits rs ≡ cond b (still p bits rs) (r ∷ still p bits rs)
+      at : (b : Bool)
+          → cond (is_some (cond b (Some (word_at st.arrays r.mem o.0.0)) None)) [] (r ∷ []) ++ still p bits rs ≡ cond b (still p bits rs) (r ∷ still p bits rs)
       at true = refl
       at false = refl
 
@@ -126,7 +129,8 @@ module _ (p : Pipe) (flows : Flows p) (st : State) (d : Derived.State) (bits : L
     asked_is : (n m a : ℕ) → request_of st m ≡ Owned n a → asked_at d m ≡ Some a
     asked_is n m a e = (subst (λ q. Matched q (asked_at d m) m all) e (matched m)).0
 
-    values_are : (n : ℕ) (rs : List Awaited) (env : List ℕ) → AllOwned st n rs → with_kept (Machine.answered_reads p st bits n rs) env ≡ Derived.with_answers p d bits rs env
+    values_are : (n : ℕ) (rs : List Awaited) (env : List ℕ) → AllOwned st n rs
+        → with_kept (Machine.answered_reads p st bits n rs) env ≡ Derived.with_answers p d bits rs env
     values_are n [] env o = refl
     values_are n (r ∷ rs) env o =
         ap (λ x. with_kept (kept_answer r.var x ++ Machine.answered_reads p st bits n rs) env) (answer_is n r.mem o.0.0 o.0.1)
@@ -143,12 +147,16 @@ module _ (p : Pipe) (flows : Flows p) (st : State) (d : Derived.State) (bits : L
 
     -- a thread's values with its answers
     pub env_is : (l : Live) → Seated p st l → with_kept (with_answers p st bits (seat l)).kept l.env ≡ (now_of p d bits l).env
-    env_is l s = kept_append l.kept _ l.env ∙ ap (with_kept (Machine.answered_reads p st bits l.number l.thread.awaits)) s.kept_in ∙ values_are l.number l.thread.awaits l.thread.env s.owned
+    env_is l s =
+        kept_append l.kept _ l.env
+        ∙ ap (with_kept (Machine.answered_reads p st bits l.number l.thread.awaits)) s.kept_in
+        ∙ values_are l.number l.thread.awaits l.thread.env s.owned
 
     -- PORTS
 
     -- nobody awaits what is nobody's
-    none_awaits : (m : ℕ) (ls : List Live) → Each (Seated p st) ls → ((n : ℕ) → OwnedBy st n m → ⊥) → list_all (λ (o : Derived.Act). not (awaits_mem o.before.awaits m) || o.moves) (dacts p d bits ls) ≡ true
+    none_awaits : (m : ℕ) (ls : List Live) → Each (Seated p st) ls → ((n : ℕ) → OwnedBy st n m → ⊥)
+        → list_all (λ (o : Derived.Act). not (awaits_mem o.before.awaits m) || o.moves) (dacts p d bits ls) ≡ true
     none_awaits m [] s f = refl
     none_awaits m (l ∷ ls) s f = ap₂ (λ b c. (not b || (did p d bits ls l).moves) && c) (none (awaits_mem l.thread.awaits m) refl) (none_awaits m ls s.1 f)
       where
@@ -157,25 +165,38 @@ module _ (p : Pipe) (flows : Flows p) (st : State) (d : Derived.State) (bits : L
         none false e = e
 
     -- numbers of older threads are others
-    no_number : (n bound : ℕ) (ls : List Live) → Falls bound ls → bound ≤ n → list_any (λ (o : Moves.Act). (o.thread.number == n) && o.moves) (lacts p st d bits ls) ≡ false
+    no_number : (n bound : ℕ) (ls : List Live) → Falls bound ls → bound ≤ n
+        → list_any (λ (o : Moves.Act). (o.thread.number == n) && o.moves) (lacts p st d bits ls) ≡ false
     no_number n bound [] f h = refl
-    no_number n bound (l ∷ ls) f h = ap₂ (λ b c. (b && (did p d bits ls l).moves) || c) (ne_eqb l.number n (λ e. absurd (let i = f.0 in omega arith))) (no_number n l.number ls f.1 (let i = f.0 in omega arith))
+    no_number n bound (l ∷ ls) f h =
+        ap₂ (λ b c. (b && (did p d bits ls l).moves) || c)
+        (ne_eqb l.number n (λ e. absurd (let i = f.0 in omega arith)))
+        (no_number n l.number ls f.1 (let i = f.0 in omega arith))
 
     no_owner : (n m bound : ℕ) (ls : List Live) → Falls bound ls → bound ≤ n → has_owner n m ls ≡ false
     no_owner n m bound [] f h = refl
-    no_owner n m bound (l ∷ ls) f h = ap₂ (λ b c. (b && awaits_mem l.thread.awaits m) || c) (ne_eqb l.number n (λ e. absurd (let i = f.0 in omega arith))) (no_owner n m l.number ls f.1 (let i = f.0 in omega arith))
+    no_owner n m bound (l ∷ ls) f h =
+        ap₂ (λ b c. (b && awaits_mem l.thread.awaits m) || c)
+        (ne_eqb l.number n (λ e. absurd (let i = f.0 in omega arith)))
+        (no_owner n m l.number ls f.1 (let i = f.0 in omega arith))
 
-    all_others : (n m bound : ℕ) (ls : List Live) → Falls bound ls → bound ≤ n → Each (λ k. awaits_mem k.thread.awaits m ≡ true → k.number ≡ n) ls → list_all (λ (o : Derived.Act). not (awaits_mem o.before.awaits m) || o.moves) (dacts p d bits ls) ≡ true
+    all_others : (n m bound : ℕ) (ls : List Live) → Falls bound ls → bound ≤ n
+        → Each (λ k. awaits_mem k.thread.awaits m ≡ true → k.number ≡ n) ls
+        → list_all (λ (o : Derived.Act). not (awaits_mem o.before.awaits m) || o.moves) (dacts p d bits ls) ≡ true
     all_others n m bound [] f h o = refl
-    all_others n m bound (l ∷ ls) f h o = ap₂ (λ b c. (not b || (did p d bits ls l).moves) && c) (none (awaits_mem l.thread.awaits m) refl) (all_others n m l.number ls f.1 (let i = f.0 in omega arith) o.1)
+    all_others n m bound (l ∷ ls) f h o =
+        ap₂ (λ b c. (not b || (did p d bits ls l).moves) && c) (none (awaits_mem l.thread.awaits m) refl)
+        (all_others n m l.number ls f.1 (let i = f.0 in omega arith) o.1)
       where
         none : (b : Bool) → awaits_mem l.thread.awaits m ≡ b → awaits_mem l.thread.awaits m ≡ false
         none true e = absurd (let i = o.0 e in let j = f.0 in omega arith)
         none false e = e
 
     -- the owner moves
-    owner_moves : (n m bound : ℕ) (ls : List Live) → Falls bound ls → Each (λ k. awaits_mem k.thread.awaits m ≡ true → k.number ≡ n) ls → has_owner n m ls ≡ true
-        → list_any (λ (o : Moves.Act). (o.thread.number == n) && o.moves) (lacts p st d bits ls) ≡ list_all (λ (o : Derived.Act). not (awaits_mem o.before.awaits m) || o.moves) (dacts p d bits ls)
+    owner_moves : (n m bound : ℕ) (ls : List Live) → Falls bound ls
+        → Each (λ k. awaits_mem k.thread.awaits m ≡ true → k.number ≡ n) ls → has_owner n m ls ≡ true
+        → list_any (λ (o : Moves.Act). (o.thread.number == n) && o.moves) (lacts p st d bits ls)
+        ≡ list_all (λ (o : Derived.Act). not (awaits_mem o.before.awaits m) || o.moves) (dacts p d bits ls)
     owner_moves n m bound [] f o h = absurd (cc h)
     owner_moves n m bound (l ∷ ls) f o h = at (l.number == n) refl (awaits_mem l.thread.awaits m) refl h (λ i. owner_moves n m l.number ls f.1 o.1 i)
       where
@@ -187,9 +208,12 @@ module _ (p : Pipe) (flows : Flows p) (st : State) (d : Derived.State) (bits : L
         one false = refl
 
         at : (b : Bool) → (l.number == n) ≡ b → (c : Bool) → awaits_mem l.thread.awaits m ≡ c → ((b && c) || has_owner n m ls) ≡ true
-            → (has_owner n m ls ≡ true → list_any (λ (o : Moves.Act). (o.thread.number == n) && o.moves) (lacts p st d bits ls) ≡ list_all (λ (o : Derived.Act). not (awaits_mem o.before.awaits m) || o.moves) (dacts p d bits ls))
+            → (has_owner n m ls ≡ true
+            → list_any (λ (o : Moves.Act). (o.thread.number == n) && o.moves) (lacts p st d bits ls)
+            ≡ list_all (λ (o : Derived.Act). not (awaits_mem o.before.awaits m) || o.moves) (dacts p d bits ls))
             → (((l.number == n) && (did p d bits ls l).moves) || list_any (λ (o : Moves.Act). (o.thread.number == n) && o.moves) (lacts p st d bits ls))
-            ≡ ((not (awaits_mem l.thread.awaits m) || (did p d bits ls l).moves) && list_all (λ (o : Derived.Act). not (awaits_mem o.before.awaits m) || o.moves) (dacts p d bits ls))
+            ≡ ((not (awaits_mem l.thread.awaits m) || (did p d bits ls l).moves)
+            && list_all (λ (o : Derived.Act). not (awaits_mem o.before.awaits m) || o.moves) (dacts p d bits ls))
         at true e true g k r =
             ap₂ (λ x y. (x && (did p d bits ls l).moves) || y) e (no_number n l.number ls f.1 (let i = eqb-true _ _ e in omega arith))
             ∙ one (did p d bits ls l).moves
@@ -199,10 +223,14 @@ module _ (p : Pipe) (flows : Flows p) (st : State) (d : Derived.State) (bits : L
         at false e false g k r =
             ap (λ x. (x && (did p d bits ls l).moves) || list_any (λ (o : Moves.Act). (o.thread.number == n) && o.moves) (lacts p st d bits ls)) e
             ∙ r k
-            ∙ sym (ap (λ x. (not x || (did p d bits ls l).moves) && list_all (λ (o : Derived.Act). not (awaits_mem o.before.awaits m) || o.moves) (dacts p d bits ls)) g)
+            ∙ sym
+            (ap
+            (λ x. (not x || (did p d bits ls l).moves)
+            && list_all (λ (o : Derived.Act). not (awaits_mem o.before.awaits m) || o.moves) (dacts p d bits ls)) g)
 
     -- who awaits an owned request is its owner
-    owners : (n m a : ℕ) → request_of st m ≡ Owned n a → (ls : List Live) → Each (Seated p st) ls → Each (λ k. awaits_mem k.thread.awaits m ≡ true → k.number ≡ n) ls
+    owners : (n m a : ℕ) → request_of st m ≡ Owned n a → (ls : List Live) → Each (Seated p st) ls
+        → Each (λ k. awaits_mem k.thread.awaits m ≡ true → k.number ≡ n) ls
     owners n m a e [] s = tt
     owners n m a e (l ∷ ls) s = ((λ h. same (owned_of st l.number m l.thread.awaits s.0.owned h)), owners n m a e ls s.1)
       where
@@ -217,14 +245,26 @@ module _ (p : Pipe) (flows : Flows p) (st : State) (d : Derived.State) (bits : L
         older : Bool
         older = list_all (λ (o : Derived.Act). not (awaits_mem o.before.awaits m) || o.moves) (dacts p d bits ls)
 
-        at : (q : Request) → request_of st m ≡ q → Matched q (asked_at d m) m all → is_free q (is_answered p bits m) (lacts p st d bits ls) ≡ (is_none (asked_at d m) || (is_answered p bits m && list_all (λ (o : Derived.Act). not (awaits_mem o.before.awaits m) || o.moves) (dacts p d bits ls)))
-        at NoRequest e k = sym (ap (λ o. is_none o || (is_answered p bits m && list_all (λ (o : Derived.Act). not (awaits_mem o.before.awaits m) || o.moves) (dacts p d bits ls))) k)
+        at : (q : Request) → request_of st m ≡ q → Matched q (asked_at d m) m all
+            → is_free q (is_answered p bits m) (lacts p st d bits ls)
+            ≡ (is_none (asked_at d m)
+            || (is_answered p bits m && list_all (λ (o : Derived.Act). not (awaits_mem o.before.awaits m) || o.moves) (dacts p d bits ls)))
+        at NoRequest e k =
+            sym
+            (ap
+            (λ o. is_none o || (is_answered p bits m && list_all (λ (o : Derived.Act). not (awaits_mem o.before.awaits m) || o.moves) (dacts p d bits ls))) k)
         at (Owned n a) e k =
             ap (λ x. is_answered p bits m && x) (owner_moves n m bound ls f (owners n m a e ls s) (h n a e))
-            ∙ sym (ap (λ o. is_none o || (is_answered p bits m && list_all (λ (o : Derived.Act). not (awaits_mem o.before.awaits m) || o.moves) (dacts p d bits ls))) k.0)
+            ∙ sym
+            (ap
+            (λ o. is_none o
+            || (is_answered p bits m && list_all (λ (o : Derived.Act). not (awaits_mem o.before.awaits m) || o.moves) (dacts p d bits ls))) k.0)
         at (Orphan a) e k =
             sym (and_true (is_answered p bits m)) ∙ ap (λ x. is_answered p bits m && x) (sym (none_awaits m ls s (λ n o. clash (sym e ∙ o.1))))
-            ∙ sym (ap (λ o. is_none o || (is_answered p bits m && list_all (λ (o : Derived.Act). not (awaits_mem o.before.awaits m) || o.moves) (dacts p d bits ls))) k)
+            ∙ sym
+            (ap
+            (λ o. is_none o
+            || (is_answered p bits m && list_all (λ (o : Derived.Act). not (awaits_mem o.before.awaits m) || o.moves) (dacts p d bits ls))) k)
           where
             clash : {n a' : ℕ} → Orphan a ≡ Owned n a' → ⊥
             clash i = cc
@@ -267,12 +307,17 @@ module _ (p : Pipe) (flows : Flows p) (st : State) (d : Derived.State) (bits : L
   fits ls l k (Block m a) f = λ n. (ap (Locks.write_ready (mem_at p m).lock) (sym (k.older m n)), ap (Locks.read_ready (mem_at p m).lock) (sym (k.older m n)))
   fits ls l k _ f = tt
 
-  fit_from : (ls : List Live) (l : Live) → Known ls l → (xs : List Stmt) → ((m : ℕ) → all_at (is_reserve m) (reserve_stage p m) xs ≡ true) → FitsAll ls l (in_stage l.thread.stage xs)
+  fit_from : (ls : List Live) (l : Live) → Known ls l → (xs : List Stmt)
+      → ((m : ℕ) → all_at (is_reserve m) (reserve_stage p m) xs ≡ true) → FitsAll ls l (in_stage l.thread.stage xs)
   fit_from ls l k [] f = tt
   fit_from ls l k (x ∷ xs) f = at (x.stage == l.thread.stage) refl (fit_from ls l k xs (λ m. and_right _ _ (f m)))
     where
-      at : (b : Bool) → (x.stage == l.thread.stage) ≡ b → FitsAll ls l (in_stage l.thread.stage xs) → FitsAll ls l (cond b (x ∷ in_stage l.thread.stage xs) (in_stage l.thread.stage xs))
-      at true e r = (fits ls l k x.op (λ m i. sym (eqb-true _ _ e) ∙ eqb-true _ _ (subst (λ t. (not t || (x.stage == reserve_stage p m)) ≡ true) i (and_left _ _ (f m)))), r)
+      at : (b : Bool) → (x.stage == l.thread.stage) ≡ b → FitsAll ls l (in_stage l.thread.stage xs)
+          → FitsAll ls l (cond b (x ∷ in_stage l.thread.stage xs) (in_stage l.thread.stage xs))
+      at true e r = (
+        fits ls l k x.op (λ m i. sym (eqb-true _ _ e) ∙ eqb-true _ _ (subst (λ t. (not t || (x.stage == reserve_stage p m)) ≡ true) i (and_left _ _ (f m)))),
+        r,
+      )
       at false e r = r
 
   pub fit_all : (ls : List Live) (l : Live) → Known ls l → FitsAll ls l (in_stage l.thread.stage p.stmts)
@@ -282,7 +327,9 @@ module _ (p : Pipe) (flows : Flows p) (st : State) (d : Derived.State) (bits : L
   pub keeps_now : (l : Live) → Seated p st l → Keeps p l.env (now_of p d bits l)
   keeps_now l s = keeps_answered p d bits l.env l.thread s.keeps_on
 
-  deeds_are : (ls : List Live) (l : Live) (k : Known ls l) → deeds_of p st bits l ≡ deeds_after_all (word_for st l.number) (in_stage l.thread.stage p.stmts) (start_deeds p flows l.env (now_of p d bits l) (keeps_now l k.seated))
+  deeds_are : (ls : List Live) (l : Live) (k : Known ls l)
+      → deeds_of p st bits l
+      ≡ deeds_after_all (word_for st l.number) (in_stage l.thread.stage p.stmts) (start_deeds p flows l.env (now_of p d bits l) (keeps_now l k.seated))
   deeds_are ls l k = λ i. deeds_after_all (word_for st l.number) (in_stage l.thread.stage p.stmts) (record {
     env = k.values i;
     guess = l.thread.guess;
@@ -302,37 +349,52 @@ module _ (p : Pipe) (flows : Flows p) (st : State) (d : Derived.State) (bits : L
       subst (λ e. Same_deeds ls l e (work_of_live p d bits ls l)) (sym (deeds_are ls l k))
       (told_all (around p d bits (dacts p d bits ls) l.thread.stage) (word_for st l.number) (λ b. block_ready p st l.number b)
       (λ r. has_room (mem_at p r.mem).lock (length (lock_of st r.mem))) (λ q. port_free p d bits (dacts p d bits ls) q.mem)
-      (in_stage l.thread.stage p.stmts) (start_deeds p flows l.env (now_of p d bits l) (keeps_now l k.seated)) l.thread.entries [] k.seated.keeps_on.held (fit_all ls l k))
+      (in_stage l.thread.stage p.stmts)
+      (start_deeds p flows l.env (now_of p d bits l) (keeps_now l k.seated)) l.thread.entries [] k.seated.keeps_on.held (fit_all ls l k))
 
   -- what its stage does to its entries of m
-  pub worked_here : (ls : List Live) (l : Live) (k : Known ls l) (m : ℕ) → Worked m l.number (pend m l.number l.thread.entries) (deeds_of p st bits l) (work_of_live p d bits ls l)
+  pub worked_here : (ls : List Live) (l : Live) (k : Known ls l) (m : ℕ)
+      → Worked m l.number (pend m l.number l.thread.entries) (deeds_of p st bits l) (work_of_live p d bits ls l)
   worked_here ls l k m =
       subst (λ e. Worked m l.number (pend m l.number l.thread.entries) e (work_of_live p d bits ls l)) (sym (deeds_are ls l k))
-      (stage_worked p flows l.env (now_of p d bits l) (keeps_now l k.seated) (around p d bits (dacts p d bits ls) l.thread.stage) (word_for st l.number) (λ b. block_ready p st l.number b)
+      (stage_worked p flows l.env (now_of p d bits l) (keeps_now l k.seated)
+      (around p d bits (dacts p d bits ls) l.thread.stage) (word_for st l.number) (λ b. block_ready p st l.number b)
       (λ r. has_room (mem_at p r.mem).lock (length (lock_of st r.mem))) (λ q. port_free p d bits (dacts p d bits ls) q.mem) (fit_all ls l k) m l.number)
 
-  pub ends_here : (ls : List Live) (l : Live) (k : Known ls l) (m : ℕ) → next_of p l.thread.stage (work_of_live p d bits ls l).env ≡ length p.stages → entries_of m (work_of_live p d bits ls l).entries ≡ []
+  pub ends_here : (ls : List Live) (l : Live) (k : Known ls l) (m : ℕ)
+      → next_of p l.thread.stage (work_of_live p d bits ls l).env ≡ length p.stages
+      → entries_of m (work_of_live p d bits ls l).entries ≡ []
   ends_here ls l k m =
-      ends_empty p flows l.env (now_of p d bits l) (keeps_now l k.seated) (around p d bits (dacts p d bits ls) l.thread.stage) (word_for st l.number) (λ b. block_ready p st l.number b)
+      ends_empty p flows l.env (now_of p d bits l) (keeps_now l k.seated)
+      (around p d bits (dacts p d bits ls) l.thread.stage) (word_for st l.number) (λ b. block_ready p st l.number b)
       (λ r. has_room (mem_at p r.mem).lock (length (lock_of st r.mem))) (λ q. port_free p d bits (dacts p d bits ls) q.mem) (fit_all ls l k) m l.number
 
-  pub late_here : (ls : List Live) (l : Live) (k : Known ls l) (m : ℕ) → commit_stage p m < next_of p l.thread.stage (work_of_live p d bits ls l).env → entries_of m (work_of_live p d bits ls l).entries ≡ []
+  pub late_here : (ls : List Live) (l : Live) (k : Known ls l) (m : ℕ)
+      → commit_stage p m < next_of p l.thread.stage (work_of_live p d bits ls l).env
+      → entries_of m (work_of_live p d bits ls l).entries ≡ []
   late_here ls l k m =
-      late_empty p flows l.env (now_of p d bits l) (keeps_now l k.seated) (around p d bits (dacts p d bits ls) l.thread.stage) (word_for st l.number) (λ b. block_ready p st l.number b)
+      late_empty p flows l.env (now_of p d bits l) (keeps_now l k.seated)
+      (around p d bits (dacts p d bits ls) l.thread.stage) (word_for st l.number) (λ b. block_ready p st l.number b)
       (λ r. has_room (mem_at p r.mem).lock (length (lock_of st r.mem))) (λ q. port_free p d bits (dacts p d bits ls) q.mem) (fit_all ls l k) m l.number
 
   -- a memory that it asks for is read in its stage
   pub asks_here : (ls : List Live) (l : Live) → Known ls l → AsksFrom (in_stage l.thread.stage p.stmts) (deeds_of p st bits l).asks
   asks_here ls l k =
       subst (λ (w : Work). AsksFrom (in_stage l.thread.stage p.stmts) w.asks) (told_here ls l k).is
-      (asks_from (in_stage l.thread.stage p.stmts) (around p d bits (dacts p d bits ls) l.thread.stage) (in_stage l.thread.stage p.stmts) (start_of (now_of p d bits l)) (λ m h. h) tt)
+      (asks_from (in_stage l.thread.stage p.stmts) (around p d bits (dacts p d bits ls) l.thread.stage)
+      (in_stage l.thread.stage p.stmts) (start_of (now_of p d bits l)) (λ m h. h) tt)
 
   -- what the acts of the later stages say, as the derived machine's acts of the older threads say it
   pub record Tells (ls : List Live) (l : Live) (later : List Moves.Act) : Type 0 where
     pub fails : Moves.no_failure later ≡ list_all (λ (o : Derived.Act). not (o.moves && o.work.fails)) (dacts p d bits ls)
-    pub port : (m : ℕ) → none_of (is_delayed_read m) (in_stage l.thread.stage p.stmts) ≡ false → is_free (request_of st m) (is_answered p bits m) later ≡ port_free p d bits (dacts p d bits ls) m
-    pub clear : Moves.barrier_clear p later (deeds_of p st bits l) ≡ (not (deeds_of p st bits l).barrier || (around p d bits (dacts p d bits ls) l.thread.stage).clear)
-    pub enters : (Moves.can_enter (next_stage p l.thread.stage (deeds_of p st bits l)) later && Moves.merges_well p st l.thread.stage (next_stage p l.thread.stage (deeds_of p st bits l))) ≡ Derived.can_enter p (dacts p d bits ls) (next_stage p l.thread.stage (deeds_of p st bits l))
+    pub port : (m : ℕ) → none_of (is_delayed_read m) (in_stage l.thread.stage p.stmts) ≡ false
+        → is_free (request_of st m) (is_answered p bits m) later ≡ port_free p d bits (dacts p d bits ls) m
+    pub clear : Moves.barrier_clear p later (deeds_of p st bits l)
+        ≡ (not (deeds_of p st bits l).barrier || (around p d bits (dacts p d bits ls) l.thread.stage).clear)
+    pub enters :
+        (Moves.can_enter (next_stage p l.thread.stage (deeds_of p st bits l)) later
+        && Moves.merges_well p st l.thread.stage (next_stage p l.thread.stage (deeds_of p st bits l)))
+        ≡ Derived.can_enter p (dacts p d bits ls) (next_stage p l.thread.stage (deeds_of p st bits l))
 
   -- the eight conditions
   join : (n b r w f c e g : Bool) → (((((((n && b) && r) && w) && f) && c) && e) && g) ≡ (((n && (((b && r) && f) && c)) && w) && (e && g))
@@ -354,11 +416,36 @@ module _ (p : Pipe) (flows : Flows p) (st : State) (d : Derived.State) (bits : L
   moves_are : (ls : List Live) (l : Live) (later : List Moves.Act) → Known ls l → Tells ls l later
       → Moves.may_move p st bits later l.thread.stage (with_answers p st bits (seat l)) (deeds_of p st bits l) ≡ (did p d bits ls l).moves
   moves_are ls l later k t =
-      (λ i. (((((((t.fails i && Moves.blocks_ready p st l.number (deeds_of p st bits l)) && Moves.have_room p st (deeds_of p st bits l)) && Moves.is_empty (k.waits i)) && ports_are ls l later t (deeds_of p st bits l).asks (asks_here ls l k) i) && t.clear i) && Moves.can_enter (next_stage p l.thread.stage (deeds_of p st bits l)) later) && Moves.merges_well p st l.thread.stage (next_stage p l.thread.stage (deeds_of p st bits l))))
-      ∙ join (list_all (λ (o : Derived.Act). not (o.moves && o.work.fails)) (dacts p d bits ls)) (Moves.blocks_ready p st l.number (deeds_of p st bits l)) (Moves.have_room p st (deeds_of p st bits l)) (Moves.is_empty (still p bits l.thread.awaits)) (list_all (λ q. port_free p d bits (dacts p d bits ls) q.mem) (deeds_of p st bits l).asks) (not (deeds_of p st bits l).barrier || (around p d bits (dacts p d bits ls) l.thread.stage).clear) (Moves.can_enter (next_stage p l.thread.stage (deeds_of p st bits l)) later) (Moves.merges_well p st l.thread.stage (next_stage p l.thread.stage (deeds_of p st bits l)))
-      ∙ ap (λ x. ((list_all (λ (o : Derived.Act). not (o.moves && o.work.fails)) (dacts p d bits ls) && (((Moves.blocks_ready p st l.number (deeds_of p st bits l) && Moves.have_room p st (deeds_of p st bits l)) && list_all (λ q. port_free p d bits (dacts p d bits ls) q.mem) (deeds_of p st bits l).asks) && (not (deeds_of p st bits l).barrier || (around p d bits (dacts p d bits ls) l.thread.stage).clear))) && Moves.is_empty (still p bits l.thread.awaits)) && x) t.enters
-      ∙ ap (λ (v : Work). ((list_all (λ (o : Derived.Act). not (o.moves && o.work.fails)) (dacts p d bits ls) && v.ready) && Moves.is_empty (still p bits l.thread.awaits)) && Derived.can_enter p (dacts p d bits ls) (goes_to (stage_at p l.thread.stage).next v.env)) (sym (told_here ls l k).is)
+      (λ i.
+      (((((((t.fails i && Moves.blocks_ready p st l.number (deeds_of p st bits l)) && Moves.have_room p st (deeds_of p st bits l))
+      && Moves.is_empty (k.waits i))
+      && ports_are ls l later t (deeds_of p st bits l).asks (asks_here ls l k) i)
+      && t.clear i)
+      && Moves.can_enter (next_stage p l.thread.stage (deeds_of p st bits l)) later)
+      && Moves.merges_well p st l.thread.stage (next_stage p l.thread.stage (deeds_of p st bits l))))
+      ∙ join (list_all (λ (o : Derived.Act). not (o.moves && o.work.fails)) (dacts p d bits ls))
+      (Moves.blocks_ready p st l.number (deeds_of p st bits l)) (Moves.have_room p st (deeds_of p st bits l))
+      (Moves.is_empty (still p bits l.thread.awaits))
+      (list_all (λ q. port_free p d bits (dacts p d bits ls) q.mem) (deeds_of p st bits l).asks)
+      (not (deeds_of p st bits l).barrier || (around p d bits (dacts p d bits ls) l.thread.stage).clear)
+      (Moves.can_enter (next_stage p l.thread.stage (deeds_of p st bits l)) later)
+      (Moves.merges_well p st l.thread.stage (next_stage p l.thread.stage (deeds_of p st bits l)))
+      ∙ ap
+      (λ x.
+      ((list_all (λ (o : Derived.Act). not (o.moves && o.work.fails)) (dacts p d bits ls)
+      && (((Moves.blocks_ready p st l.number (deeds_of p st bits l) && Moves.have_room p st (deeds_of p st bits l))
+      && list_all (λ q. port_free p d bits (dacts p d bits ls) q.mem) (deeds_of p st bits l).asks)
+      && (not (deeds_of p st bits l).barrier || (around p d bits (dacts p d bits ls) l.thread.stage).clear)))
+      && Moves.is_empty (still p bits l.thread.awaits))
+      && x) t.enters
+      ∙ ap
+      (λ (v : Work).
+      ((list_all (λ (o : Derived.Act). not (o.moves && o.work.fails)) (dacts p d bits ls) && v.ready) && Moves.is_empty (still p bits l.thread.awaits))
+      && Derived.can_enter p (dacts p d bits ls) (goes_to (stage_at p l.thread.stage).next v.env))
+      (sym (told_here ls l k).is)
 
   -- the stated act is the one that the derived machine decides
-  pub act_is : (ls : List Live) (l : Live) (later : List Moves.Act) → Known ls l → Tells ls l later → Moves.act p st bits later l.thread.stage (with_answers p st bits (seat l)) ≡ lact p st d bits ls l
-  act_is ls l later k t = λ i. record { stage = l.thread.stage; thread = with_answers p st bits (seat l); does = deeds_of p st bits l; moves = moves_are ls l later k t i }
+  pub act_is : (ls : List Live) (l : Live) (later : List Moves.Act) → Known ls l → Tells ls l later
+      → Moves.act p st bits later l.thread.stage (with_answers p st bits (seat l)) ≡ lact p st d bits ls l
+  act_is ls l later k t =
+      λ i. record { stage = l.thread.stage; thread = with_answers p st bits (seat l); does = deeds_of p st bits l; moves = moves_are ls l later k t i }

@@ -76,13 +76,16 @@ pub record Ways (p : Pipe) : Type 0 where
   pub trunk_start : (stage_at p 0).branch ≡ None
   -- a next stage has a greater number, and only the last stage, a trunk stage, has none
   pub up : (s q : ℕ) → Leads p s q → (s < q) × (q < length p.stages)
-  pub last : (s : ℕ) (path : List ℕ) → s < length p.stages → goes_to (stage_at p s).next path ≡ None → (suc s ≡ length p.stages) × ((stage_at p s).branch ≡ None)
+  pub last : (s : ℕ) (path : List ℕ) → s < length p.stages → goes_to (stage_at p s).next path ≡ None
+      → (suc s ≡ length p.stages) × ((stage_at p s).branch ≡ None)
   -- no trunk stage is passed over
   pub jump : (s q r : ℕ) → Leads p s q → (stage_at p r).branch ≡ None → s < r → r ≤ q → r ≡ q
   -- what stands between the trunk stages that were reached and the next trunk stage q stands inside the fork that q merges
-  pub between : (s q b : ℕ) → Leads p s q → (stage_at p q).branch ≡ None → Below p s b → b < q → (f : ℕ) × ((stage_at p q).merges ≡ Some f) × (is_inside p f b ≡ true)
+  pub between : (s q b : ℕ) → Leads p s q → (stage_at p q).branch ≡ None → Below p s b → b < q
+      → (f : ℕ) × ((stage_at p q).merges ≡ Some f) × (is_inside p f b ≡ true)
   -- into a branch a thread comes from the same branch or from the fork, and passes over no stage of it
-  pub into : (s q : ℕ) (x : Branch) → Leads p s q → (stage_at p q).branch ≡ Some x → ((stage_at p s).branch ≡ Some x) ⊎ ((s ≡ x.fork) × ((stage_at p s).branch ≡ None))
+  pub into : (s q : ℕ) (x : Branch) → Leads p s q → (stage_at p q).branch ≡ Some x
+      → ((stage_at p s).branch ≡ Some x) ⊎ ((s ≡ x.fork) × ((stage_at p s).branch ≡ None))
   pub next_in : (s q b : ℕ) (x : Branch) → Leads p s q → (stage_at p q).branch ≡ Some x → (stage_at p b).branch ≡ Some x → s < b → q ≤ b
   -- out of a branch it comes into the merge
   pub out_of : (s q : ℕ) (x : Branch) → Leads p s q → (stage_at p s).branch ≡ Some x → ((stage_at p q).branch ≡ Some x) ⊎ ((stage_at p q).merges ≡ Some x.fork)
@@ -90,7 +93,9 @@ pub record Ways (p : Pipe) : Type 0 where
   pub fork_below : (s : ℕ) (x : Branch) → (stage_at p s).branch ≡ Some x → (x.fork < s) × ((stage_at p x.fork).branch ≡ None)
   -- into a merge, a trunk stage, a thread comes straight from the fork or from the last stage of a branch
   pub merge : (s q f : ℕ) → Leads p s q → (stage_at p q).merges ≡ Some f
-      → ((stage_at p q).branch ≡ None) × (((s ≡ f) × ((stage_at p s).branch ≡ None)) ⊎ ((x : Branch) × ((stage_at p s).branch ≡ Some x) × (x.fork ≡ f) × ((b : ℕ) → (stage_at p b).branch ≡ Some x → b ≤ s)))
+      → ((stage_at p q).branch ≡ None)
+      × (((s ≡ f) × ((stage_at p s).branch ≡ None))
+      ⊎ ((x : Branch) × ((stage_at p s).branch ≡ Some x) × (x.fork ≡ f) × ((b : ℕ) → (stage_at p b).branch ≡ Some x → b ≤ s)))
   -- a fork whose merge is no later than the verifies' stage v is wholly before v, any other is not before v
   pub merged : (v f b : ℕ) → verify_stage p.stmts ≡ Some v → is_inside p f b ≡ true → merges_by p f (Some v) ≡ true → b < v
   pub unmerged : (v f b : ℕ) → verify_stage p.stmts ≡ Some v → is_inside p f b ≡ true → merges_by p f (Some v) ≡ false → v ≤ f
@@ -110,17 +115,21 @@ pub record Flows (p : Pipe) : Type 0 where
   pub fixed_guards : is_fixed p.stmts ≡ true
   -- a path's statements stand in the order of their stages, and those before its next stage are those up to its stage
   pub first_piece : (path : List ℕ) → onpath path (stages_before 0 p.stmts) ≡ []
-  pub next_piece : (path : List ℕ) (s : ℕ) → s < length p.stages → visits_stage p path s ≡ true → onpath path (stages_before (next_of p s path) p.stmts) ≡ onpath path (stages_before s p.stmts) ++ onpath path (in_stage s p.stmts)
+  pub next_piece : (path : List ℕ) (s : ℕ) → s < length p.stages → visits_stage p path s ≡ true
+      → onpath path (stages_before (next_of p s path) p.stmts) ≡ onpath path (stages_before s p.stmts) ++ onpath path (in_stage s p.stmts)
   pub all_pieces : (path : List ℕ) (s : ℕ) → onpath path p.stmts ≡ onpath path (stages_before s p.stmts) ++ onpath path (stages_from s p.stmts)
   pub whole : (path : List ℕ) → onpath path (stages_before (length p.stages) p.stmts) ≡ onpath path p.stmts
   -- the next stage of a path stands on it
-  pub arrives : (path : List ℕ) (s q : ℕ) → s < length p.stages → goes_to (stage_at p s).next path ≡ Some q → visits_stage p path s ≡ true → visits_stage p path q ≡ true
+  pub arrives : (path : List ℕ) (s q : ℕ) → s < length p.stages → goes_to (stage_at p s).next path ≡ Some q
+      → visits_stage p path s ≡ true → visits_stage p path q ≡ true
   -- N2, N3: what a path's statements of stage s bind at once is no guard of an earlier stage's statement, nor of the fork around s, so values that differ in these alone take the same earlier statements
   pub steady : (s : ℕ) (env env' : List ℕ) → visits_stage p env s ≡ true → SameBut sets (onpath env' (in_stage s p.stmts)) env env'
       → (onpath env (stages_before s p.stmts) ≡ onpath env' (stages_before s p.stmts)) × (visits_stage p env s ≡ visits_stage p env' s)
   -- N2, N3: a delayed read's variable is used after the next separator on the path, so it is no guard in its own stage either, nor that of the next stage's fork
-  pub settled : (s : ℕ) (env env' : List ℕ) → s < length p.stages → visits_stage p env' s ≡ true → SameBut is_fetch_of (onpath env' (in_stage s p.stmts)) env env'
-      → (onpath env (stages_before (next_of p s env') p.stmts) ≡ onpath env' (stages_before (next_of p s env') p.stmts)) × (visits_stage p env (next_of p s env') ≡ visits_stage p env' (next_of p s env'))
+  pub settled : (s : ℕ) (env env' : List ℕ) → s < length p.stages → visits_stage p env' s ≡ true
+      → SameBut is_fetch_of (onpath env' (in_stage s p.stmts)) env env'
+      → (onpath env (stages_before (next_of p s env') p.stmts) ≡ onpath env' (stages_before (next_of p s env') p.stmts))
+      × (visits_stage p env (next_of p s env') ≡ visits_stage p env' (next_of p s env'))
   -- L1, L4, L5, L6: on each path at most one write reservation of a memory, one write through it, and no release before it
   pub uses : (path : List ℕ) (m : ℕ) → uses_ok m Fresh (onpath path p.stmts) ≡ true
   -- L6, L7: it is written and released in the end
@@ -162,10 +171,13 @@ pub record FlowRules (p : Pipe) : Type 0 where
   pub inside : AllOf (λ z. z.stage < length p.stages) p.stmts
   pub order : (path : List ℕ) (s : ℕ) → onpath path p.stmts ≡ onpath path (stages_before s p.stmts) ++ onpath path (stages_from s p.stmts)
   -- between a stage of a path and its next one the path has no statement, and the next stage stands on the path
-  pub on_stages : (path : List ℕ) (s : ℕ) → s < length p.stages → visits_stage p path s ≡ true → AllOf (λ z. all_hold z.guards path ≡ true → (z.stage ≤ s) ⊎ (next_of p s path ≤ z.stage)) p.stmts
-  pub arrives : (path : List ℕ) (s q : ℕ) → s < length p.stages → goes_to (stage_at p s).next path ≡ Some q → visits_stage p path s ≡ true → visits_stage p path q ≡ true
+  pub on_stages : (path : List ℕ) (s : ℕ) → s < length p.stages → visits_stage p path s ≡ true
+      → AllOf (λ z. all_hold z.guards path ≡ true → (z.stage ≤ s) ⊎ (next_of p s path ≤ z.stage)) p.stmts
+  pub arrives : (path : List ℕ) (s q : ℕ) → s < length p.stages → goes_to (stage_at p s).next path ≡ Some q
+      → visits_stage p path s ≡ true → visits_stage p path q ≡ true
   -- N2, N3: the definition of a guard's variable stands before each use of a path, a delayed read's before the separator before it
-  pub guards_late : (path : List ℕ) → AllOf (λ z. all_hold z.guards path ≡ true → AllOf (λ y. binds_guard y.op z.guards ≡ true → DefinedBy y.stage y.op z.stage) p.stmts) p.stmts
+  pub guards_late : (path : List ℕ)
+      → AllOf (λ z. all_hold z.guards path ≡ true → AllOf (λ y. binds_guard y.op z.guards ≡ true → DefinedBy y.stage y.op z.stage) p.stmts) p.stmts
   -- and that of a fork's guard before the fork
   pub forks_late : (s x a b : ℕ) → (stage_at p s).next ≡ Forks x a b → AllOf (λ y. binds_var x y.op ≡ true → DefinedBy y.stage y.op s) p.stmts
   -- L1, L4 to L7

@@ -30,7 +30,8 @@ pub find_append : (q : ℕ) (xs ys : List Live) → find q (xs ++ ys) ≡ or_the
 find_append q [] ys = refl
 find_append q (x ∷ xs) ys = at (x.thread.stage == q) (find_append q xs ys)
   where
-    at : (b : Bool) → find q (xs ++ ys) ≡ or_then (find q xs) (find q ys) → cond b (Some (seat x)) (find q (xs ++ ys)) ≡ or_then (cond b (Some (seat x)) (find q xs)) (find q ys)
+    at : (b : Bool) → find q (xs ++ ys) ≡ or_then (find q xs) (find q ys)
+        → cond b (Some (seat x)) (find q (xs ++ ys)) ≡ or_then (cond b (Some (seat x)) (find q xs)) (find q ys)
     at true h = refl
     at false h = h
 
@@ -74,7 +75,8 @@ survivors_more p (a ∷ xs) b = at a.moves a.work.fails (survivors_more p xs b)
     rest : List Derived.Thread
     rest = if list_any (λ (o : Derived.Act). o.moves && o.work.fails) xs then [] else survivors p (b ∷ [])
 
-    at : (c f : Bool) → survivors p (xs ++ b ∷ []) ≡ survivors p xs ++ (if list_any (λ (o : Derived.Act). o.moves && o.work.fails) xs then [] else survivors p (b ∷ []))
+    at : (c f : Bool)
+        → survivors p (xs ++ b ∷ []) ≡ survivors p xs ++ (if list_any (λ (o : Derived.Act). o.moves && o.work.fails) xs then [] else survivors p (b ∷ []))
         → cond c (moved_to (exit_of p a) a.work ++ (born_threads p a.work.child ++ cond f [] (survivors p (xs ++ b ∷ [])))) (a.now ∷ survivors p (xs ++ b ∷ []))
         ≡ cond c (moved_to (exit_of p a) a.work ++ (born_threads p a.work.child ++ cond f [] (survivors p xs))) (a.now ∷ survivors p xs)
         ++ (if (c && f) || list_any (λ (o : Derived.Act). o.moves && o.work.fails) xs then [] else survivors p (b ∷ []))
@@ -101,8 +103,12 @@ module _ (p : Pipe) (flows : Flows p) (st : State) (d : Derived.State) (bits : L
   -- THE NEW THREAD
 
   -- what a thread's stage makes
-  pub childed_here : (ls : List Live) (l : Live) → Known p flows st d bits arrays ls l → Childed (has_made p l.env l.thread.stage) (has_made p (work_of_live p d bits ls l).env (next_of p l.thread.stage (work_of_live p d bits ls l).env)) (work_of_live p d bits ls l)
-  childed_here ls l k = stage_child p flows l.env (now_of p d bits l) (keeps_now p flows st d bits arrays l k.seated) (around p d bits (dacts p d bits ls) l.thread.stage)
+  pub childed_here : (ls : List Live) (l : Live) → Known p flows st d bits arrays ls l
+      → Childed (has_made p l.env l.thread.stage)
+      (has_made p (work_of_live p d bits ls l).env (next_of p l.thread.stage (work_of_live p d bits ls l).env))
+      (work_of_live p d bits ls l)
+  childed_here ls l k =
+      stage_child p flows l.env (now_of p d bits l) (keeps_now p flows st d bits arrays l k.seated) (around p d bits (dacts p d bits ls) l.thread.stage)
 
   -- each has made its successor
   abbrev pub Made : List Live → Type 0
@@ -123,7 +129,8 @@ module _ (p : Pipe) (flows : Flows p) (st : State) (d : Derived.State) (bits : L
   child_is (l ∷ ls) k = at (did p d bits ls l).moves (child_is ls k.1)
     where
       at : (b : Bool) → child_of (movers (lacts p st d bits ls)) ≡ made ls
-          → child_of (cond b (lact p st d bits ls l ∷ movers (lacts p st d bits ls)) (movers (lacts p st d bits ls))) ≡ cond b (if is_some (work_of_live p d bits ls l).child then (work_of_live p d bits ls l).child else made ls) (made ls)
+          → child_of (cond b (lact p st d bits ls l ∷ movers (lacts p st d bits ls)) (movers (lacts p st d bits ls)))
+          ≡ cond b (if is_some (work_of_live p d bits ls l).child then (work_of_live p d bits ls l).child else made ls) (made ls)
       at true e = ap₂ (λ c r. if is_some c then c else r) (ap (λ (w : Work). w.child) (sym (told_here p flows st d bits arrays ls l k.0).is)) e
       at false e = e
 
@@ -142,7 +149,9 @@ module _ (p : Pipe) (flows : Flows p) (st : State) (d : Derived.State) (bits : L
           by c g = g
 
   -- one thread
-  one_survives : (ls : List Live) (l : Live) → survivors p (did p d bits ls l ∷ []) ≡ threads_of (next_live p st d bits ls l) ++ born_threads p (if (did p d bits ls l).moves then (work_of_live p d bits ls l).child else None)
+  one_survives : (ls : List Live) (l : Live)
+      → survivors p (did p d bits ls l ∷ [])
+      ≡ threads_of (next_live p st d bits ls l) ++ born_threads p (if (did p d bits ls l).moves then (work_of_live p d bits ls l).child else None)
   one_survives ls l = at (did p d bits ls l).moves
     where
       w : Work
@@ -156,9 +165,18 @@ module _ (p : Pipe) (flows : Flows p) (st : State) (d : Derived.State) (bits : L
       none true = refl
       none false = refl
 
-      at : (b : Bool) → cond b (moved_to (exit_of p (did p d bits ls l)) (work_of_live p d bits ls l) ++ (born_threads p (work_of_live p d bits ls l).child ++ (if (work_of_live p d bits ls l).fails then [] else survivors p []))) (now_of p d bits l ∷ [])
-          ≡ threads_of (cond b (moved_live (goes_to (stage_at p l.thread.stage).next (work_of_live p d bits ls l).env) l (work_of_live p d bits ls l)) (stood p st d bits l ∷ [])) ++ born_threads p (cond b (work_of_live p d bits ls l).child None)
-      at true = ap₂ (λ x y. x ++ y) (out (exit_of p (did p d bits ls l))) (ap (λ x. born_threads p (work_of_live p d bits ls l).child ++ x) (none (work_of_live p d bits ls l).fails) ∙ append-nil _)
+      at : (b : Bool)
+          → cond b
+          (moved_to (exit_of p (did p d bits ls l)) (work_of_live p d bits ls l)
+          ++ (born_threads p (work_of_live p d bits ls l).child ++ (if (work_of_live p d bits ls l).fails then [] else survivors p [])))
+          (now_of p d bits l ∷ [])
+          ≡ threads_of
+          (cond b (moved_live (goes_to (stage_at p l.thread.stage).next (work_of_live p d bits ls l).env) l (work_of_live p d bits ls l))
+          (stood p st d bits l ∷ []))
+          ++ born_threads p (cond b (work_of_live p d bits ls l).child None)
+      at true =
+          ap₂ (λ x y. x ++ y) (out (exit_of p (did p d bits ls l)))
+          (ap (λ x. born_threads p (work_of_live p d bits ls l).child ++ x) (none (work_of_live p d bits ls l).fails) ∙ append-nil _)
       at false = refl
 
   abbrev pub lives_next : List Live → List Live
@@ -171,8 +189,14 @@ module _ (p : Pipe) (flows : Flows p) (st : State) (d : Derived.State) (bits : L
       out None = refl
       out (Some q) = refl
 
-      at : (b : Bool) → rev (threads_of (cond b (moved_live (goes_to (stage_at p l.thread.stage).next (work_of_live p d bits ls l).env) l (work_of_live p d bits ls l)) (stood p st d bits l ∷ [])))
-          ≡ threads_of (cond b (moved_live (goes_to (stage_at p l.thread.stage).next (work_of_live p d bits ls l).env) l (work_of_live p d bits ls l)) (stood p st d bits l ∷ []))
+      at : (b : Bool)
+          → rev
+          (threads_of
+          (cond b (moved_live (goes_to (stage_at p l.thread.stage).next (work_of_live p d bits ls l).env) l (work_of_live p d bits ls l))
+          (stood p st d bits l ∷ [])))
+          ≡ threads_of
+          (cond b (moved_live (goes_to (stage_at p l.thread.stage).next (work_of_live p d bits ls l).env) l (work_of_live p d bits ls l))
+          (stood p st d bits l ∷ []))
       at true = out (goes_to (stage_at p l.thread.stage).next (work_of_live p d bits ls l).env)
       at false = refl
 
@@ -182,14 +206,19 @@ module _ (p : Pipe) (flows : Flows p) (st : State) (d : Derived.State) (bits : L
 
   -- a list of lives with a new one, oldest first
   back_lives : (c : Option (List ℕ)) (xs : List Live) → rev (threads_of (born_live p st.next c ++ xs)) ≡ rev (threads_of xs) ++ born_threads p c
-  back_lives c xs = ap rev (threads_append (born_live p st.next c) xs) ∙ rev_append (threads_of (born_live p st.next c)) (threads_of xs) ∙ ap (λ l. rev (threads_of xs) ++ l) (rev_born c)
+  back_lives c xs =
+      ap rev (threads_append (born_live p st.next c) xs)
+      ∙ rev_append (threads_of (born_live p st.next c)) (threads_of xs)
+      ∙ ap (λ l. rev (threads_of xs) ++ l) (rev_born c)
 
   -- the derived machine's live threads
-  pub survive : (ls : List Live) → AllKnown p flows st d bits arrays ls → MadeBehind ls → survivors p (rev (dacts p d bits ls)) ≡ rev (threads_of (lives_next ls))
+  pub survive : (ls : List Live) → AllKnown p flows st d bits arrays ls → MadeBehind ls
+      → survivors p (rev (dacts p d bits ls)) ≡ rev (threads_of (lives_next ls))
   survive [] k m = refl
   survive (l ∷ ls) k m =
       survivors_more p (rev (dacts p d bits ls)) (did p d bits ls l)
-      ∙ ap₂ (λ f x. x ++ (if f then [] else survivors p (did p d bits ls l ∷ []))) (any_rev (λ (o : Derived.Act). o.moves && o.work.fails) (dacts p d bits ls)) (survive ls k.1 (behind ls m))
+      ∙ ap₂ (λ f x. x ++ (if f then [] else survivors p (did p d bits ls l ∷ [])))
+      (any_rev (λ (o : Derived.Act). o.moves && o.work.fails) (dacts p d bits ls)) (survive ls k.1 (behind ls m))
       ∙ at (fell p d bits ls) refl
       ∙ sym (back_lives (made (l ∷ ls)) (go_on p st d bits (l ∷ ls)))
     where
@@ -198,15 +227,26 @@ module _ (p : Pipe) (flows : Flows p) (st : State) (d : Derived.State) (bits : L
       behind (k ∷ ks) h = h.1
 
       at : (f : Bool) → fell p d bits ls ≡ f → rev (threads_of (lives_next ls)) ++ (if f then [] else survivors p (did p d bits ls l ∷ []))
-          ≡ rev (threads_of ((if f then [] else next_live p st d bits ls l) ++ go_on p st d bits ls)) ++ born_threads p (if (did p d bits ls l).moves then (if is_some (work_of_live p d bits ls l).child then (work_of_live p d bits ls l).child else made ls) else made ls)
+          ≡ rev (threads_of ((if f then [] else next_live p st d bits ls l) ++ go_on p st d bits ls))
+          ++ born_threads p
+          (if (did p d bits ls l).moves
+          then (if is_some (work_of_live p d bits ls l).child then (work_of_live p d bits ls l).child else made ls)
+          else made ls)
       at true e =
           append-nil _ ∙ back_lives (made ls) (go_on p st d bits ls)
-          ∙ ap (λ b. rev (threads_of (go_on p st d bits ls)) ++ born_threads p (if b then (if is_some (work_of_live p d bits ls l).child then (work_of_live p d bits ls l).child else made ls) else made ls)) (sym (stuck_here ls l e))
+          ∙ ap
+          (λ b. rev (threads_of (go_on p st d bits ls))
+          ++ born_threads p (if b then (if is_some (work_of_live p d bits ls l).child then (work_of_live p d bits ls l).child else made ls) else made ls))
+          (sym (stuck_here ls l e))
       at false e =
-          ap₂ (λ x y. x ++ y) (back_lives (made ls) (go_on p st d bits ls) ∙ ap (λ c. rev (threads_of (go_on p st d bits ls)) ++ born_threads p c) none ∙ append-nil _) (one_survives ls l)
+          ap₂ (λ x y. x ++ y)
+          (back_lives (made ls) (go_on p st d bits ls) ∙ ap (λ c. rev (threads_of (go_on p st d bits ls)) ++ born_threads p c) none ∙ append-nil _)
+          (one_survives ls l)
           ∙ sym (append_assoc (rev (threads_of (go_on p st d bits ls))) (threads_of (next_live p st d bits ls l)) _)
           ∙ ap₂ (λ x c. x ++ born_threads p c)
-          (ap (λ x. rev (threads_of (go_on p st d bits ls)) ++ x) (sym (rev_next ls l)) ∙ sym (rev_append (threads_of (next_live p st d bits ls l)) (threads_of (go_on p st d bits ls))) ∙ ap rev (sym (threads_append (next_live p st d bits ls l) (go_on p st d bits ls))))
+          (ap (λ x. rev (threads_of (go_on p st d bits ls)) ++ x) (sym (rev_next ls l))
+          ∙ sym (rev_append (threads_of (next_live p st d bits ls l)) (threads_of (go_on p st d bits ls)))
+          ∙ ap rev (sym (threads_append (next_live p st d bits ls l) (go_on p st d bits ls))))
           (mine (did p d bits ls l).moves)
         where
           none : made ls ≡ None
@@ -216,8 +256,12 @@ module _ (p : Pipe) (flows : Flows p) (st : State) (d : Derived.State) (bits : L
           some None = refl
           some (Some x) = refl
 
-          mine : (b : Bool) → cond b (work_of_live p d bits ls l).child None ≡ cond b (if is_some (work_of_live p d bits ls l).child then (work_of_live p d bits ls l).child else made ls) (made ls)
-          mine true = some (work_of_live p d bits ls l).child ∙ ap (λ r. if is_some (work_of_live p d bits ls l).child then (work_of_live p d bits ls l).child else r) (sym none)
+          mine : (b : Bool)
+              → cond b (work_of_live p d bits ls l).child None
+              ≡ cond b (if is_some (work_of_live p d bits ls l).child then (work_of_live p d bits ls l).child else made ls) (made ls)
+          mine true =
+              some (work_of_live p d bits ls l).child
+              ∙ ap (λ r. if is_some (work_of_live p d bits ls l).child then (work_of_live p d bits ls l).child else r) (sym none)
           mine false = sym none
 
   -- THE SQUASHER
@@ -226,37 +270,46 @@ module _ (p : Pipe) (flows : Flows p) (st : State) (d : Derived.State) (bits : L
   fails_is ls l k = ap (λ (w : Work). w.fails) (sym (told_here p flows st d bits arrays ls l k).is)
 
   squash_is : (ls : List Live) → AllKnown p flows st d bits arrays ls → (l : Live) → Known p flows st d bits arrays ls l
-      → squasher (movers (lacts p st d bits (l ∷ ls))) ≡ (if (did p d bits ls l).moves && (work_of_live p d bits ls l).fails then Some l.number else squasher (movers (lacts p st d bits ls)))
+      → squasher (movers (lacts p st d bits (l ∷ ls)))
+      ≡ (if (did p d bits ls l).moves && (work_of_live p d bits ls l).fails then Some l.number else squasher (movers (lacts p st d bits ls)))
   squash_is ls k l h = at (did p d bits ls l).moves
     where
-      at : (b : Bool) → squasher (cond b (lact p st d bits ls l ∷ movers (lacts p st d bits ls)) (movers (lacts p st d bits ls))) ≡ (if b && (work_of_live p d bits ls l).fails then Some l.number else squasher (movers (lacts p st d bits ls)))
+      at : (b : Bool)
+          → squasher (cond b (lact p st d bits ls l ∷ movers (lacts p st d bits ls)) (movers (lacts p st d bits ls)))
+          ≡ (if b && (work_of_live p d bits ls l).fails then Some l.number else squasher (movers (lacts p st d bits ls)))
       at true = ap (λ f. if f then Some l.number else squasher (movers (lacts p st d bits ls))) (fails_is ls l h)
       at false = refl
 
   -- its number, if there is one
-  squash_low : (n : ℕ) (ls : List Live) → AllKnown p flows st d bits arrays ls → Falls n ls → fell p d bits ls ≡ true → (k : ℕ) × (squasher (movers (lacts p st d bits ls)) ≡ Some k) × (k < n)
+  squash_low : (n : ℕ) (ls : List Live) → AllKnown p flows st d bits arrays ls → Falls n ls → fell p d bits ls ≡ true
+      → (k : ℕ) × (squasher (movers (lacts p st d bits ls)) ≡ Some k) × (k < n)
   squash_low n [] k f h = absurd (cc h)
   squash_low n (l ∷ ls) k f h = at ((did p d bits ls l).moves && (work_of_live p d bits ls l).fails) refl h (λ i. squash_low l.number ls k.1 f.1 i)
     where
-      is : squasher (movers (lacts p st d bits (l ∷ ls))) ≡ (if (did p d bits ls l).moves && (work_of_live p d bits ls l).fails then Some l.number else squasher (movers (lacts p st d bits ls)))
+      is : squasher (movers (lacts p st d bits (l ∷ ls)))
+          ≡ (if (did p d bits ls l).moves && (work_of_live p d bits ls l).fails then Some l.number else squasher (movers (lacts p st d bits ls)))
       is = squash_is ls k.1 l k.0
 
       at : (b : Bool) → ((did p d bits ls l).moves && (work_of_live p d bits ls l).fails) ≡ b → (b || fell p d bits ls) ≡ true
           → (fell p d bits ls ≡ true → (k : ℕ) × (squasher (movers (lacts p st d bits ls)) ≡ Some k) × (k < l.number))
           → (k : ℕ) × (squasher (movers (lacts p st d bits (l ∷ ls))) ≡ Some k) × (k < n)
       at true e g r = (l.number, is ∙ ap (λ b. if b then Some l.number else squasher (movers (lacts p st d bits ls))) e, f.0)
-      at false e g r = let s = r g in (s.0, is ∙ ap (λ b. if b then Some l.number else squasher (movers (lacts p st d bits ls))) e ∙ s.1, (let i = s.2 in let j = f.0 in omega arith))
+      at false e g r = let s = r g in
+          (s.0, is ∙ ap (λ b. if b then Some l.number else squasher (movers (lacts p st d bits ls))) e ∙ s.1, (let i = s.2 in let j = f.0 in omega arith))
 
   squash_none : (ls : List Live) → AllKnown p flows st d bits arrays ls → fell p d bits ls ≡ false → squasher (movers (lacts p st d bits ls)) ≡ None
   squash_none [] k h = refl
   squash_none (l ∷ ls) k h = squash_is ls k.1 l k.0 ∙ at ((did p d bits ls l).moves && (work_of_live p d bits ls l).fails) h (squash_none ls k.1)
     where
-      at : (b : Bool) → (b || fell p d bits ls) ≡ false → (fell p d bits ls ≡ false → squasher (movers (lacts p st d bits ls)) ≡ None) → (if b then Some l.number else squasher (movers (lacts p st d bits ls))) ≡ None
+      at : (b : Bool) → (b || fell p d bits ls) ≡ false
+          → (fell p d bits ls ≡ false → squasher (movers (lacts p st d bits ls)) ≡ None)
+          → (if b then Some l.number else squasher (movers (lacts p st d bits ls))) ≡ None
       at true g r = absurd (cc g)
       at false g r = r g
 
   -- both machines have a squash, or none
-  pub squashes : (n : ℕ) (ls : List Live) → AllKnown p flows st d bits arrays ls → Falls n ls → is_some (squasher (movers (lacts p st d bits ls))) ≡ fell p d bits ls
+  pub squashes : (n : ℕ) (ls : List Live) → AllKnown p flows st d bits arrays ls → Falls n ls
+      → is_some (squasher (movers (lacts p st d bits ls))) ≡ fell p d bits ls
   squashes n ls k f = at (fell p d bits ls) refl
     where
       at : (b : Bool) → fell p d bits ls ≡ b → is_some (squasher (movers (lacts p st d bits ls))) ≡ b
@@ -266,7 +319,8 @@ module _ (p : Pipe) (flows : Flows p) (st : State) (d : Derived.State) (bits : L
   -- without a failing verify all of them stay
   agrees_all : (sq : Option ℕ) (ls : List Live) → Each (λ l. is_kept sq l.number ≡ true) ls → fell p d bits ls ≡ false → Agrees p d bits sq ls
   agrees_all sq [] s f = tt
-  agrees_all sq (l ∷ ls) s f = let rest = second ((did p d bits ls l).moves && (work_of_live p d bits ls l).fails) f in (s.0 ∙ ap not (sym rest), agrees_all sq ls s.1 rest)
+  agrees_all sq (l ∷ ls) s f = let rest = second ((did p d bits ls l).moves && (work_of_live p d bits ls l).fails) f in
+      (s.0 ∙ ap not (sym rest), agrees_all sq ls s.1 rest)
     where
       second : (b : Bool) → (b || fell p d bits ls) ≡ false → fell p d bits ls ≡ false
       second true g = absurd (cc g)
@@ -291,10 +345,12 @@ module _ (p : Pipe) (flows : Flows p) (st : State) (d : Derived.State) (bits : L
   agrees n [] k f = tt
   agrees n (l ∷ ls) k f = at (fell p d bits ls) refl ((did p d bits ls l).moves && (work_of_live p d bits ls l).fails) refl (agrees l.number ls k.1 f.1)
     where
-      is : squasher (movers (lacts p st d bits (l ∷ ls))) ≡ (if (did p d bits ls l).moves && (work_of_live p d bits ls l).fails then Some l.number else squasher (movers (lacts p st d bits ls)))
+      is : squasher (movers (lacts p st d bits (l ∷ ls)))
+          ≡ (if (did p d bits ls l).moves && (work_of_live p d bits ls l).fails then Some l.number else squasher (movers (lacts p st d bits ls)))
       is = squash_is ls k.1 l k.0
 
-      by : (b : Bool) → ((did p d bits ls l).moves && (work_of_live p d bits ls l).fails) ≡ b → squasher (movers (lacts p st d bits (l ∷ ls))) ≡ (if b then Some l.number else squasher (movers (lacts p st d bits ls)))
+      by : (b : Bool) → ((did p d bits ls l).moves && (work_of_live p d bits ls l).fails) ≡ b
+          → squasher (movers (lacts p st d bits (l ∷ ls))) ≡ (if b then Some l.number else squasher (movers (lacts p st d bits ls)))
       by b e = is ∙ ap (λ c. if c then Some l.number else squasher (movers (lacts p st d bits ls))) e
 
       beyond : (j : ℕ) → j < l.number → nat_le l.number j ≡ false
@@ -311,26 +367,50 @@ module _ (p : Pipe) (flows : Flows p) (st : State) (d : Derived.State) (bits : L
           go true e = e
           go false e = absurd (let i = leb-false _ _ e in omega arith)
 
-      at : (g : Bool) → fell p d bits ls ≡ g → (b : Bool) → ((did p d bits ls l).moves && (work_of_live p d bits ls l).fails) ≡ b → Agrees p d bits (squasher (movers (lacts p st d bits ls))) ls
+      at : (g : Bool) → fell p d bits ls ≡ g → (b : Bool)
+          → ((did p d bits ls l).moves && (work_of_live p d bits ls l).fails) ≡ b
+          → Agrees p d bits (squasher (movers (lacts p st d bits ls))) ls
           → Agrees p d bits (squasher (movers (lacts p st d bits (l ∷ ls)))) (l ∷ ls)
       at true g true e r = absurd (cc (sym e ∙ ap (λ b. b && (work_of_live p d bits ls l).fails) (stuck_here ls l g)))
       at true g false e r =
           let low = squash_low l.number ls k.1 f.1 g in
           subst (λ s. Agrees p d bits s (l ∷ ls)) (sym (by false e)) (ap (λ s. is_kept s l.number) low.1 ∙ beyond low.0 low.2 ∙ ap not (sym g), r)
-      at false g true e r = subst (λ s. Agrees p d bits s (l ∷ ls)) (sym (by true e)) (same ∙ ap not (sym g), agrees_all (Some l.number) ls (older_stay l.number ls f.1) g)
-      at false g false e r = subst (λ s. Agrees p d bits s (l ∷ ls)) (sym (by false e ∙ squash_none ls k.1 g)) (ap not (sym g), agrees_all None ls (each_stays ls) g)
+      at false g true e r =
+          subst (λ s. Agrees p d bits s (l ∷ ls)) (sym (by true e)) (same ∙ ap not (sym g), agrees_all (Some l.number) ls (older_stay l.number ls f.1) g)
+      at false g false e r =
+          subst (λ s. Agrees p d bits s (l ∷ ls)) (sym (by false e ∙ squash_none ls k.1 g)) (ap not (sym g), agrees_all None ls (each_stays ls) g)
 
   -- THE STAGES
 
   -- where one thread comes
-  pub comes_is : (ls : List Live) (l : Live) (q : ℕ) → Known p flows st d bits arrays ls l → coming_thread p q (lact p st d bits ls l) ≡ find q (next_live p st d bits ls l)
+  pub comes_is : (ls : List Live) (l : Live) (q : ℕ) → Known p flows st d bits arrays ls l
+      → coming_thread p q (lact p st d bits ls l) ≡ find q (next_live p st d bits ls l)
   comes_is ls l q k = at (did p d bits ls l).moves
     where
-      there : (r : Option ℕ) → cond (Cycle.is_stage q r) (Some (Cycle.thread_after (lact p st d bits ls l))) None ≡ find q (moved_live r l (work_of_live p d bits ls l))
+      there : (r : Option ℕ)
+          → cond (Cycle.is_stage q r) (Some (Cycle.thread_after (lact p st d bits ls l))) None ≡ find q (moved_live r l (work_of_live p d bits ls l))
       there None = refl
-      there (Some s) = λ i. cond (s == q) (Some (record { number = l.number; env = (sym (told_here p flows st d bits arrays ls l k).is i).env; guess = (sym (told_here p flows st d bits arrays ls l k).is i).guess; awaits = awaited_of (sym (told_here p flows st d bits arrays ls l k).is i).asks; kept = [] })) None
+      there (Some s) =
+          λ i. cond (s == q)
+          (Some
+          (record {
+            number = l.number;
+            env = (sym (told_here p flows st d bits arrays ls l k).is i).env;
+            guess = (sym (told_here p flows st d bits arrays ls l k).is i).guess;
+            awaits = awaited_of (sym (told_here p flows st d bits arrays ls l k).is i).asks;
+            kept = [];
+          })) None
 
-      at : (b : Bool) → cond b (cond (Cycle.is_stage q (next_stage p l.thread.stage (deeds_of p st bits l))) (Some (Cycle.thread_after (lact p st d bits ls l))) None) (cond (l.thread.stage == q) (Some (with_answers p st bits (seat l))) None)
-          ≡ find q (cond b (moved_live (goes_to (stage_at p l.thread.stage).next (work_of_live p d bits ls l).env) l (work_of_live p d bits ls l)) (stood p st d bits l ∷ []))
-      at true = there (next_stage p l.thread.stage (deeds_of p st bits l)) ∙ ap (λ (v : Work). find q (moved_live (goes_to (stage_at p l.thread.stage).next v.env) l (work_of_live p d bits ls l))) (sym (told_here p flows st d bits arrays ls l k).is)
-      at false = λ i. cond (l.thread.stage == q) (Some (record { number = l.number; env = l.env; guess = l.thread.guess; awaits = k.waits i; kept = (with_answers p st bits (seat l)).kept })) None
+      at : (b : Bool)
+          → cond b (cond (Cycle.is_stage q (next_stage p l.thread.stage (deeds_of p st bits l))) (Some (Cycle.thread_after (lact p st d bits ls l))) None)
+          (cond (l.thread.stage == q) (Some (with_answers p st bits (seat l))) None)
+          ≡ find q
+          (cond b (moved_live (goes_to (stage_at p l.thread.stage).next (work_of_live p d bits ls l).env) l (work_of_live p d bits ls l))
+          (stood p st d bits l ∷ []))
+      at true =
+          there (next_stage p l.thread.stage (deeds_of p st bits l))
+          ∙ ap (λ (v : Work). find q (moved_live (goes_to (stage_at p l.thread.stage).next v.env) l (work_of_live p d bits ls l)))
+          (sym (told_here p flows st d bits arrays ls l k).is)
+      at false =
+          λ i. cond (l.thread.stage == q)
+          (Some (record { number = l.number; env = l.env; guess = l.thread.guess; awaits = k.waits i; kept = (with_answers p st bits (seat l)).kept })) None

@@ -70,7 +70,8 @@ left_append : (sq : Option ℕ) (xs ys : List Pending) → entries_left sq (xs +
 left_append sq [] ys = refl
 left_append sq (x ∷ xs) ys = at (is_kept sq x.thread) (left_append sq xs ys)
   where
-    at : (b : Bool) → entries_left sq (xs ++ ys) ≡ entries_left sq xs ++ entries_left sq ys → cond b (x ∷ entries_left sq (xs ++ ys)) (entries_left sq (xs ++ ys)) ≡ cond b (x ∷ entries_left sq xs) (entries_left sq xs) ++ entries_left sq ys
+    at : (b : Bool) → entries_left sq (xs ++ ys) ≡ entries_left sq xs ++ entries_left sq ys
+        → cond b (x ∷ entries_left sq (xs ++ ys)) (entries_left sq (xs ++ ys)) ≡ cond b (x ∷ entries_left sq xs) (entries_left sq xs) ++ entries_left sq ys
     at true h = ap (λ l. x ∷ l) h
     at false h = h
 
@@ -82,7 +83,8 @@ left_pend sq m n [] = at (is_kept sq n)
     at false = refl
 left_pend sq m n (e ∷ es) = left_append sq (pend m n es) _ ∙ at (is_kept sq n) refl (e.mem == m) (left_pend sq m n es)
   where
-    at : (b : Bool) → is_kept sq n ≡ b → (c : Bool) → entries_left sq (pend m n es) ≡ cond b (pend m n es) [] → entries_left sq (pend m n es) ++ entries_left sq (cond c (own n e ∷ []) []) ≡ cond b (pend m n es ++ cond c (own n e ∷ []) []) []
+    at : (b : Bool) → is_kept sq n ≡ b → (c : Bool) → entries_left sq (pend m n es) ≡ cond b (pend m n es) []
+        → entries_left sq (pend m n es) ++ entries_left sq (cond c (own n e ∷ []) []) ≡ cond b (pend m n es ++ cond c (own n e ∷ []) []) []
     at true g true h = ap₂ (λ x y. x ++ y) h (ap (λ b. cond b (own n e ∷ []) []) g)
     at true g false h = ap (λ x. x ++ []) h
     at false g true h = ap₂ (λ x y. x ++ y) h (ap (λ b. cond b (own n e ∷ []) []) g)
@@ -98,7 +100,8 @@ module _ (p : Pipe) (flows : Flows p) (st : State) (d : Derived.State) (bits : L
 
   -- a thread's entries after steps 1 and 2, and all of them after these steps and after step 3
   abbrev pub part : ℕ → Live → List Pending
-  part m l = with_writes_of m l.number (deeds_of p st bits l).writes (pend m l.number l.thread.entries ++ new_entries m l.number (deeds_of p st bits l).reserves)
+  part m l =
+      with_writes_of m l.number (deeds_of p st bits l).writes (pend m l.number l.thread.entries ++ new_entries m l.number (deeds_of p st bits l).reserves)
 
   abbrev pub two : ℕ → List Live → List Pending
   two m [] = []
@@ -106,9 +109,11 @@ module _ (p : Pipe) (flows : Flows p) (st : State) (d : Derived.State) (bits : L
 
   abbrev pub three : ℕ → List Live → List Pending
   three m [] = []
-  three m (l ∷ ls) = three m ls ++ (if (did p d bits ls l).moves then pend m l.number (work_of_live p d bits ls l).entries else pend m l.number l.thread.entries)
+  three m (l ∷ ls) =
+      three m ls ++ (if (did p d bits ls l).moves then pend m l.number (work_of_live p d bits ls l).entries else pend m l.number l.thread.entries)
 
-  past_of : (r : ℕ) (l : Live) (ls : List Live) → (stage_at p r).branch ≡ None → Each (λ k. Behind p l.thread.stage k.thread.stage) ls → r ≤ l.thread.stage → Past r ls
+  past_of : (r : ℕ) (l : Live) (ls : List Live) → (stage_at p r).branch ≡ None
+      → Each (λ k. Behind p l.thread.stage k.thread.stage) ls → r ≤ l.thread.stage → Past r ls
   past_of r l ls t b h = each_map (λ k i. i.trunk r t h) ls b
 
   -- a thread moves on
@@ -121,9 +126,12 @@ module _ (p : Pipe) (flows : Flows p) (st : State) (d : Derived.State) (bits : L
 
   -- a thread reserves m in one stage, and releases it in one stage
   quiet_new : (l : Live) (m : ℕ) → l.thread.stage ≢ reserve_stage p m → new_entries m l.number (deeds_of p st bits l).reserves ≡ []
-  quiet_new l m h = quiet_reserves m l.number (word_for st l.number) (in_stage l.thread.stage p.stmts) _ (none_in_stage (is_reserve m) (reserve_stage p m) l.thread.stage p.stmts (flows.reserves m) h) refl
+  quiet_new l m h =
+      quiet_reserves m l.number (word_for st l.number)
+      (in_stage l.thread.stage p.stmts) _ (none_in_stage (is_reserve m) (reserve_stage p m) l.thread.stage p.stmts (flows.reserves m) h) refl
 
-  pub release_here : (ls : List Live) (l : Live) (k : Known p flows st d bits arrays ls l) (m : ℕ) → list_any (λ j. j == m) (deeds_of p st bits l).releases ≡ true → l.thread.stage ≡ commit_stage p m
+  pub release_here : (ls : List Live) (l : Live) (k : Known p flows st d bits arrays ls l) (m : ℕ)
+      → list_any (λ j. j == m) (deeds_of p st bits l).releases ≡ true → l.thread.stage ≡ commit_stage p m
   release_here ls l k m h = at (l.thread.stage == commit_stage p m) refl
     where
       w : Worked m l.number (pend m l.number l.thread.entries) (deeds_of p st bits l) (work_of_live p d bits ls l)
@@ -137,25 +145,31 @@ module _ (p : Pipe) (flows : Flows p) (st : State) (d : Derived.State) (bits : L
       at false e =
           let f = w.full h in
           absurd (clash f.0 (sym (w.commits ∙ ap₂ (λ b l. released m (cond b (oldest l) None)) h f.1)
-          ∙ quiet m (around p d bits (dacts p d bits ls) l.thread.stage) (in_stage l.thread.stage p.stmts) (start_of (now_of p d bits l)) (none_in_stage (is_release m) (commit_stage p m) l.thread.stage p.stmts (flows.releases m) (eqb-false _ _ e))))
+          ∙ quiet m (around p d bits (dacts p d bits ls) l.thread.stage) (in_stage l.thread.stage p.stmts)
+          (start_of (now_of p d bits l))
+          (none_in_stage (is_release m) (commit_stage p m) l.thread.stage p.stmts (flows.releases m) (eqb-false _ _ e))))
 
   reserveless : (m : ℕ) (ls : List Live) → Past (reserve_stage p m) ls → Reserveless m (ms ls)
   reserveless m [] r = tt
   reserveless m (l ∷ ls) r = at (did p d bits ls l).moves (quiet_new l m (λ e. absurd (let k = r.0 in omega arith))) (reserveless m ls r.1)
     where
-      at : (b : Bool) → new_entries m l.number (deeds_of p st bits l).reserves ≡ [] → Reserveless m (ms ls) → Reserveless m (cond b (lact p st d bits ls l ∷ ms ls) (ms ls))
+      at : (b : Bool) → new_entries m l.number (deeds_of p st bits l).reserves ≡ [] → Reserveless m (ms ls)
+          → Reserveless m (cond b (lact p st d bits ls l ∷ ms ls) (ms ls))
       at true f g = (f, g)
       at false f g = g
 
   foreign_two : (m n : ℕ) (ls : List Live) → Falls n ls → Foreign n (two m ls)
   foreign_two m n [] f = tt
-  foreign_two m n (l ∷ ls) f = foreign_append n (two m ls) _ (foreign_two m n ls (falls_up l.number n ls (let i = f.0 in omega arith) f.1)) (at (did p d bits ls l).moves)
+  foreign_two m n (l ∷ ls) f =
+      foreign_append n (two m ls) _ (foreign_two m n ls (falls_up l.number n ls (let i = f.0 in omega arith) f.1)) (at (did p d bits ls l).moves)
     where
       other : l.number ≢ n
       other e = let h = f.0 in absurd (omega arith)
 
       at : (b : Bool) → Foreign n (cond b (part m l) (pend m l.number l.thread.entries))
-      at true = foreign_put_all n m l.number (deeds_of p st bits l).writes _ (foreign_append n _ _ (foreign_pend n m l.number l.thread.entries other) (foreign_new n m l.number (deeds_of p st bits l).reserves other))
+      at true =
+          foreign_put_all n m l.number (deeds_of p st bits l).writes _
+          (foreign_append n _ _ (foreign_pend n m l.number l.thread.entries other) (foreign_new n m l.number (deeds_of p st bits l).reserves other))
       at false = foreign_pend n m l.number l.thread.entries other
 
   -- older threads' numbers are others
@@ -168,7 +182,8 @@ module _ (p : Pipe) (flows : Flows p) (st : State) (d : Derived.State) (bits : L
       at false g i = i
 
   -- steps 1 and 2
-  pub two_is : (m n : ℕ) (ls : List Live) → Each (Seated p st) ls → Ordered p ls → Falls n ls → with_all_writes m (ms ls) (with_reserves m (ms ls) (pends m ls)) ≡ two m ls
+  pub two_is : (m n : ℕ) (ls : List Live) → Each (Seated p st) ls → Ordered p ls → Falls n ls
+      → with_all_writes m (ms ls) (with_reserves m (ms ls) (pends m ls)) ≡ two m ls
   two_is m n [] s o f = refl
   two_is m n (l ∷ ls) s o f = at (did p d bits ls l).moves (two_is m l.number ls s.1 o.1 f.1)
     where
@@ -177,7 +192,10 @@ module _ (p : Pipe) (flows : Flows p) (st : State) (d : Derived.State) (bits : L
         where
           by : (b : Bool) → nat_le (reserve_stage p m) l.thread.stage ≡ b → (pend m l.number l.thread.entries ≡ []) ⊎ Reserveless m (ms ls)
           by true e = inr (reserveless m ls (past_of (reserve_stage p m) l ls (flows.trunk_reserve m) o.0 (leb-true _ _ e)))
-          by false e = inl (pend_own m l.number l.thread.entries ∙ ap (pend m l.number) (early p flows l.env l.thread s.0.keeps_on m (let k = leb-false _ _ e in omega arith)))
+          by false e =
+              inl
+              (pend_own m l.number l.thread.entries
+              ∙ ap (pend m l.number) (early p flows l.env l.thread s.0.keeps_on m (let k = leb-false _ _ e in omega arith)))
 
       mine : (k : ℕ) → k < l.number → Foreign k (pend m l.number l.thread.entries)
       mine k h = foreign_pend k m l.number l.thread.entries (λ e. absurd (omega arith))
@@ -186,7 +204,8 @@ module _ (p : Pipe) (flows : Flows p) (st : State) (d : Derived.State) (bits : L
       news k h = foreign_new k m l.number (deeds_of p st bits l).reserves (λ e. absurd (omega arith))
 
       at : (b : Bool) → with_all_writes m (ms ls) (with_reserves m (ms ls) (pends m ls)) ≡ two m ls
-          → with_all_writes m (cond b (lact p st d bits ls l ∷ ms ls) (ms ls)) (with_reserves m (cond b (lact p st d bits ls l ∷ ms ls) (ms ls)) (pends m (l ∷ ls)))
+          → with_all_writes m (cond b (lact p st d bits ls l ∷ ms ls) (ms ls))
+          (with_reserves m (cond b (lact p st d bits ls l ∷ ms ls) (ms ls)) (pends m (l ∷ ls)))
           ≡ two m ls ++ cond b (part m l) (pend m l.number l.thread.entries)
       at true h =
           two_moved m (lact p st d bits ls l) (ms ls) (pends m ls) (pend m l.number l.thread.entries) (two m ls) side
@@ -199,11 +218,13 @@ module _ (p : Pipe) (flows : Flows p) (st : State) (d : Derived.State) (bits : L
   abbrev pub takes : ℕ → Live → Bool
   takes m l = list_any (λ k. k == m) (deeds_of p st bits l).releases
 
-  commits_next : (m : ℕ) (ls : List Live) (l : Live) → commits_here m (l ∷ ls) ≡ commits_here m ls ++ of_mem m (if (did p d bits ls l).moves then (work_of_live p d bits ls l).commits else [])
+  commits_next : (m : ℕ) (ls : List Live) (l : Live)
+      → commits_here m (l ∷ ls) ≡ commits_here m ls ++ of_mem m (if (did p d bits ls l).moves then (work_of_live p d bits ls l).commits else [])
   commits_next m ls l = ap (of_mem m) (commits_more (rev (dacts p d bits ls)) (did p d bits ls l)) ∙ of_mem_append m (commits_of (rev (dacts p d bits ls))) _
 
   -- past the stage of its releases nobody has an entry of m
-  gone : (m : ℕ) (ls : List Live) → AllKnown p flows st d bits arrays ls → Past (commit_stage p m) ls → Still (has_release m (ms ls)) (two m ls) (three m ls) (commits_here m ls)
+  gone : (m : ℕ) (ls : List Live) → AllKnown p flows st d bits arrays ls → Past (commit_stage p m) ls
+      → Still (has_release m (ms ls)) (two m ls) (three m ls) (commits_here m ls)
   gone m [] k c = (refl, refl, refl, refl)
   gone m (l ∷ ls) k c = at (did p d bits ls l).moves (commits_next m ls l) (gone m ls k.1 c.1)
     where
@@ -224,11 +245,16 @@ module _ (p : Pipe) (flows : Flows p) (st : State) (d : Derived.State) (bits : L
       empty =
           sym (w.after ∙ ap (λ b. cond b (but_oldest (part m l)) (part m l)) keeps)
           ∙ pend_own m l.number (work_of_live p d bits ls l).entries
-          ∙ ap (pend m l.number) (late_here p flows st d bits arrays ls l k.0 m (let i = c.0 in let j = next_up l.thread.stage (work_of_live p d bits ls l).env k.0.seated.keeps_on.inside in omega arith))
+          ∙ ap (pend m l.number)
+          (late_here p flows st d bits arrays ls l k.0 m
+          (let i = c.0 in let j = next_up l.thread.stage (work_of_live p d bits ls l).env k.0.seated.keeps_on.inside in omega arith))
 
       at : (b : Bool) → commits_here m (l ∷ ls) ≡ commits_here m ls ++ of_mem m (cond b (work_of_live p d bits ls l).commits [])
           → Still (has_release m (ms ls)) (two m ls) (three m ls) (commits_here m ls)
-          → Still (has_release m (cond b (lact p st d bits ls l ∷ ms ls) (ms ls))) (two m ls ++ cond b (part m l) (pend m l.number l.thread.entries)) (three m ls ++ cond b (pend m l.number (work_of_live p d bits ls l).entries) (pend m l.number l.thread.entries)) (commits_here m (l ∷ ls))
+          → Still (has_release m (cond b (lact p st d bits ls l ∷ ms ls) (ms ls)))
+          (two m ls ++ cond b (part m l) (pend m l.number l.thread.entries))
+          (three m ls ++ cond b (pend m l.number (work_of_live p d bits ls l).entries) (pend m l.number l.thread.entries))
+          (commits_here m (l ∷ ls))
       at true e s = (
         ap₂ (λ x y. x || y) keeps s.0,
         ap₂ (λ x y. x ++ y) s.1 empty,
@@ -238,7 +264,8 @@ module _ (p : Pipe) (flows : Flows p) (st : State) (d : Derived.State) (bits : L
       at false e s = (s.0, ap₂ (λ x y. x ++ y) s.1 none, ap₂ (λ x y. x ++ y) s.2 none, e ∙ append-nil _ ∙ s.3)
 
   -- step 3
-  pub three_is : (m : ℕ) (ls : List Live) → AllKnown p flows st d bits arrays ls → Ordered p ls → Out m (has_release m (ms ls)) (two m ls) (three m ls) (commits_here m ls)
+  pub three_is : (m : ℕ) (ls : List Live) → AllKnown p flows st d bits arrays ls → Ordered p ls
+      → Out m (has_release m (ms ls)) (two m ls) (three m ls) (commits_here m ls)
   three_is m [] k o = record { left = refl; full = λ i. absurd (cc i); shows = refl }
   three_is m (l ∷ ls) k o = at (did p d bits ls l).moves (commits_next m ls l) (three_is m ls k.1 o.1)
     where
@@ -247,14 +274,22 @@ module _ (p : Pipe) (flows : Flows p) (st : State) (d : Derived.State) (bits : L
 
       at : (b : Bool) → commits_here m (l ∷ ls) ≡ commits_here m ls ++ of_mem m (cond b (work_of_live p d bits ls l).commits [])
           → Out m (has_release m (ms ls)) (two m ls) (three m ls) (commits_here m ls)
-          → Out m (has_release m (cond b (lact p st d bits ls l ∷ ms ls) (ms ls))) (two m ls ++ cond b (part m l) (pend m l.number l.thread.entries)) (three m ls ++ cond b (pend m l.number (work_of_live p d bits ls l).entries) (pend m l.number l.thread.entries)) (commits_here m (l ∷ ls))
+          → Out m (has_release m (cond b (lact p st d bits ls l ∷ ms ls) (ms ls)))
+          (two m ls ++ cond b (part m l) (pend m l.number l.thread.entries))
+          (three m ls ++ cond b (pend m l.number (work_of_live p d bits ls l).entries) (pend m l.number l.thread.entries))
+          (commits_here m (l ∷ ls))
       at true e s =
-          subst (λ c. Out m (takes m l || has_release m (ms ls)) (two m ls ++ part m l) (three m ls ++ pend m l.number (work_of_live p d bits ls l).entries) c) (sym e)
-          (out_more m (has_release m (ms ls)) (takes m l) (two m ls) (three m ls) (part m l) (pend m l.number (work_of_live p d bits ls l).entries) (commits_here m ls) (of_mem m (work_of_live p d bits ls l).commits) s w.after w.full w.commits
+          subst (λ c. Out m (takes m l || has_release m (ms ls)) (two m ls ++ part m l) (three m ls ++ pend m l.number (work_of_live p d bits ls l).entries) c)
+          (sym e)
+          (out_more m (has_release m (ms ls)) (takes m l) (two m ls) (three m ls) (part m l)
+          (pend m l.number (work_of_live p d bits ls l).entries) (commits_here m ls)
+          (of_mem m (work_of_live p d bits ls l).commits) s w.after w.full w.commits
           (λ i. gone m ls k.1 (past_of (commit_stage p m) l ls (flows.trunk_commit m) o.0 (let j = release_here ls l k.0 m i in omega arith))))
       at false e s =
           subst (λ c. Out m (has_release m (ms ls)) (two m ls ++ pend m l.number l.thread.entries) (three m ls ++ pend m l.number l.thread.entries) c) (sym e)
-          (out_more m (has_release m (ms ls)) false (two m ls) (three m ls) (pend m l.number l.thread.entries) (pend m l.number l.thread.entries) (commits_here m ls) [] s refl (λ i. absurd (cc i)) refl (λ i. absurd (cc i)))
+          (out_more m (has_release m (ms ls)) false (two m ls) (three m ls) (pend m l.number l.thread.entries)
+          (pend m l.number l.thread.entries) (commits_here m ls)
+          [] s refl (λ i. absurd (cc i)) refl (λ i. absurd (cc i)))
 
   -- no memory that isn't there is released
   pub unreleased : (m : ℕ) (ls : List Live) → AllKnown p flows st d bits arrays ls → length p.stages ≤ commit_stage p m → has_release m (ms ls) ≡ false
@@ -271,33 +306,47 @@ module _ (p : Pipe) (flows : Flows p) (st : State) (d : Derived.State) (bits : L
 
   -- what step 3 leaves are the entries of the threads that live on
   pends_live : (m : ℕ) (ls : List Live) (l : Live) → Known p flows st d bits arrays ls l
-      → pends m (next_live p st d bits ls l) ≡ (if (did p d bits ls l).moves then pend m l.number (work_of_live p d bits ls l).entries else pend m l.number l.thread.entries)
+      → pends m (next_live p st d bits ls l)
+      ≡ (if (did p d bits ls l).moves then pend m l.number (work_of_live p d bits ls l).entries else pend m l.number l.thread.entries)
   pends_live m ls l k = at (did p d bits ls l).moves
     where
       w : Work
       w = work_of_live p d bits ls l
 
-      out : (r : Option ℕ) → goes_to (stage_at p l.thread.stage).next (work_of_live p d bits ls l).env ≡ r → pends m (moved_live r l (work_of_live p d bits ls l)) ≡ pend m l.number (work_of_live p d bits ls l).entries
+      out : (r : Option ℕ) → goes_to (stage_at p l.thread.stage).next (work_of_live p d bits ls l).env ≡ r
+          → pends m (moved_live r l (work_of_live p d bits ls l)) ≡ pend m l.number (work_of_live p d bits ls l).entries
       out None e = sym (pend_own m l.number _ ∙ ap (pend m l.number) (ends_here p flows st d bits arrays ls l k m (ap (stage_or (length p.stages)) e)))
       out (Some q) e = refl
 
-      at : (b : Bool) → pends m (cond b (moved_live (goes_to (stage_at p l.thread.stage).next (work_of_live p d bits ls l).env) l (work_of_live p d bits ls l)) (stood p st d bits l ∷ []))
+      at : (b : Bool)
+          → pends m
+          (cond b (moved_live (goes_to (stage_at p l.thread.stage).next (work_of_live p d bits ls l).env) l (work_of_live p d bits ls l))
+          (stood p st d bits l ∷ []))
           ≡ cond b (pend m l.number (work_of_live p d bits ls l).entries) (pend m l.number l.thread.entries)
       at true = out (goes_to (stage_at p l.thread.stage).next (work_of_live p d bits ls l).env) refl
       at false = refl
 
   -- a squash drops the entries of those that it removes
-  pub pends_on : (m : ℕ) (sq : Option ℕ) (ls : List Live) → AllKnown p flows st d bits arrays ls → Agrees p d bits sq ls → entries_left sq (three m ls) ≡ pends m (go_on p st d bits ls)
+  pub pends_on : (m : ℕ) (sq : Option ℕ) (ls : List Live) → AllKnown p flows st d bits arrays ls → Agrees p d bits sq ls
+      → entries_left sq (three m ls) ≡ pends m (go_on p st d bits ls)
   pends_on m sq [] k g = refl
   pends_on m sq (l ∷ ls) k g =
       left_append sq (three m ls) _
-      ∙ ap₂ (λ x y. x ++ y) (pends_on m sq ls k.1 g.1) (mine (did p d bits ls l).moves ∙ ap (λ b. cond b (if (did p d bits ls l).moves then pend m l.number (work_of_live p d bits ls l).entries else pend m l.number l.thread.entries) []) g.0 ∙ drop (fell p d bits ls))
+      ∙ ap₂ (λ x y. x ++ y) (pends_on m sq ls k.1 g.1)
+      (mine (did p d bits ls l).moves
+      ∙ ap
+      (λ b. cond b (if (did p d bits ls l).moves then pend m l.number (work_of_live p d bits ls l).entries else pend m l.number l.thread.entries) []) g.0
+      ∙ drop (fell p d bits ls))
       ∙ sym (pends_append m (if fell p d bits ls then [] else next_live p st d bits ls l) (go_on p st d bits ls))
     where
-      mine : (b : Bool) → entries_left sq (cond b (pend m l.number (work_of_live p d bits ls l).entries) (pend m l.number l.thread.entries)) ≡ cond (is_kept sq l.number) (cond b (pend m l.number (work_of_live p d bits ls l).entries) (pend m l.number l.thread.entries)) []
+      mine : (b : Bool)
+          → entries_left sq (cond b (pend m l.number (work_of_live p d bits ls l).entries) (pend m l.number l.thread.entries))
+          ≡ cond (is_kept sq l.number) (cond b (pend m l.number (work_of_live p d bits ls l).entries) (pend m l.number l.thread.entries)) []
       mine true = left_pend sq m l.number (work_of_live p d bits ls l).entries
       mine false = left_pend sq m l.number l.thread.entries
 
-      drop : (f : Bool) → cond (not f) (if (did p d bits ls l).moves then pend m l.number (work_of_live p d bits ls l).entries else pend m l.number l.thread.entries) [] ≡ pends m (cond f [] (next_live p st d bits ls l))
+      drop : (f : Bool)
+          → cond (not f) (if (did p d bits ls l).moves then pend m l.number (work_of_live p d bits ls l).entries else pend m l.number l.thread.entries) []
+          ≡ pends m (cond f [] (next_live p st d bits ls l))
       drop true = refl
       drop false = sym (pends_live m ls l k.0)

@@ -27,7 +27,10 @@ foreign_pend k m n (e ∷ es) h = foreign_append k (pend m n es) _ (foreign_pend
 -- no entry for a reservation of another thread is thread k's
 pub foreign_new : (k m n : ℕ) (rs : List Machine.Reserved) → n ≢ k → Foreign k (new_entries m n rs)
 foreign_new k m n [] h = tt
-foreign_new k m n (r ∷ rs) h = foreign_append k _ (new_entries m n rs) (foreign_if k n (r.mem == m) (record { thread = n; address = r.address; value = None }) h refl) (foreign_new k m n rs h)
+foreign_new k m n (r ∷ rs) h =
+    foreign_append k _ (new_entries m n rs)
+    (foreign_if k n (r.mem == m) (record { thread = n; address = r.address; value = None }) h refl)
+    (foreign_new k m n rs h)
 
 foreign_put : (k n v : ℕ) (xs : List Pending) → Foreign k xs → Foreign k (with_value_of n v xs)
 foreign_put k n v [] f = tt
@@ -57,7 +60,8 @@ commits_more [] b = at b.moves
 commits_more (x ∷ xs) b = at x.moves (commits_more xs b)
   where
     at : (c : Bool) → commits_of (xs ++ b ∷ []) ≡ commits_of xs ++ (if b.moves then b.work.commits else [])
-        → cond c (x.work.commits ++ commits_of (xs ++ b ∷ [])) (commits_of (xs ++ b ∷ [])) ≡ cond c (x.work.commits ++ commits_of xs) (commits_of xs) ++ (if b.moves then b.work.commits else [])
+        → cond c (x.work.commits ++ commits_of (xs ++ b ∷ [])) (commits_of (xs ++ b ∷ []))
+        ≡ cond c (x.work.commits ++ commits_of xs) (commits_of xs) ++ (if b.moves then b.work.commits else [])
     at true h = ap (λ l. x.work.commits ++ l) h ∙ sym (append_assoc x.work.commits (commits_of xs) _)
     at false h = h
 

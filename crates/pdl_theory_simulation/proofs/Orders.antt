@@ -118,7 +118,8 @@ module _ (p : Pipe) (flows : Flows p) (st : State) (d : Derived.State) (bits : L
   all_acts_of test (x ∷ xs) = ap (λ b. test (lact p st d bits x.older x.live) && b) (all_acts_of test xs)
 
   -- a branch's stage fails no verify and has no barrier
-  pub plain_branch : (l : Live) (x : Branch) → (stage_at p l.thread.stage).branch ≡ Some x → ((deeds_of p st bits l).fails ≡ false) × ((deeds_of p st bits l).barrier ≡ false)
+  pub plain_branch : (l : Live) (x : Branch) → (stage_at p l.thread.stage).branch ≡ Some x
+      → ((deeds_of p st bits l).fails ≡ false) × ((deeds_of p st bits l).barrier ≡ false)
   plain_branch l x e = fails_none (Machine.word_for st l.number) (in_stage l.thread.stage p.stmts) (record {
     env = Machine.with_kept (with_answers p st bits (seat l)).kept l.env;
     guess = l.thread.guess;
@@ -137,7 +138,8 @@ module _ (p : Pipe) (flows : Flows p) (st : State) (d : Derived.State) (bits : L
   known_pairs [] k = tt
   known_pairs (l ∷ ls) k = (k.0, known_pairs ls k.1)
 
-  older_known : (ys : List Live) (l : Live) (older : List Live) → AllKnown p flows st d bits arrays (ys ++ l ∷ older) → AllKnown p flows st d bits arrays (l ∷ older)
+  older_known : (ys : List Live) (l : Live) (older : List Live) → AllKnown p flows st d bits arrays (ys ++ l ∷ older)
+      → AllKnown p flows st d bits arrays (l ∷ older)
   older_known [] l older k = k
   older_known (y ∷ ys) l older k = older_known ys l older k.1
 
@@ -153,7 +155,9 @@ module _ (p : Pipe) (flows : Flows p) (st : State) (d : Derived.State) (bits : L
         seated = s.0;
         waits = waits_are p flows st d bits arrays l.number l.thread.awaits s.0.owned;
         values = env_is p flows st d bits arrays all matched l s.0;
-        older = λ m a. seen m a l.number f.0 (le-ltb l.number l.number (le_refl l.number)) ∙ youngest_all m l.number a ls f.1 ∙ ap (λ ts. latest ts m a) (sym (befores_are p d bits ls));
+        older =
+            λ m a. seen m a l.number f.0 (le-ltb l.number l.number (le_refl l.number))
+            ∙ youngest_all m l.number a ls f.1 ∙ ap (λ ts. latest ts m a) (sym (befores_are p d bits ls));
         room = λ m e. ap (λ ts. pending ts m) (befores_are p d bits ls) ∙ sym (ap length (whole m (mine m e) (omega arith)) ∙ length_pends m ls);
       },
       known_all l.number ls s.1 o.1 f.1
@@ -169,19 +173,30 @@ module _ (p : Pipe) (flows : Flows p) (st : State) (d : Derived.State) (bits : L
           where
             by : (c : Bool) → nat_le l.thread.stage (reserve_stage p m) ≡ c → l.thread.stage ≤ reserve_stage p m
             by true e = leb-true _ _ e
-            by false e = absurd (let i : reserve_stage p m < reserve_stage p m = b.trunk (reserve_stage p m) (flows.trunk_reserve m) (let j = leb-false _ _ e in omega arith) in omega arith)
+            by false e =
+                absurd
+                (let i : reserve_stage p m < reserve_stage p m = b.trunk (reserve_stage p m) (flows.trunk_reserve m) (let j = leb-false _ _ e in omega arith) in
+                omega arith)
 
         seen : (m a k : ℕ) → k < n → nat_lt l.number k ≡ false → youngest (lock_of st m) k a Nothing ≡ youngest (pends m ls) k a Nothing
-        seen m a k i j = g m a k i ∙ youngest_append (pends m ls) (pend m l.number l.thread.entries) k a Nothing ∙ youngest_other m l.number k a l.thread.entries _ j
+        seen m a k i j =
+            g m a k i ∙ youngest_append (pends m ls) (pend m l.number l.thread.entries) k a Nothing ∙ youngest_other m l.number k a l.thread.entries _ j
 
         whole : (m : ℕ) → someone (reserve_stage p m) (l ∷ ls) ≡ true → l.thread.stage ≤ reserve_stage p m → lock_of st m ≡ pends m ls
-        whole m i j = h m i ∙ ap (λ x. pends m ls ++ x) (pend_own m l.number l.thread.entries ∙ ap (pend m l.number) (early p flows l.env l.thread s.0.keeps_on m j)) ∙ append-nil (pends m ls)
+        whole m i j =
+            h m i
+            ∙ ap (λ x. pends m ls ++ x) (pend_own m l.number l.thread.entries ∙ ap (pend m l.number) (early p flows l.env l.thread s.0.keeps_on m j))
+            ∙ append-nil (pends m ls)
 
-    no_failure : (ls : List Live) → AllKnown p flows st d bits arrays ls → Moves.no_failure (lacts p st d bits ls) ≡ list_all (λ (o : Derived.Act). not (o.moves && o.work.fails)) (dacts p d bits ls)
+    no_failure : (ls : List Live) → AllKnown p flows st d bits arrays ls
+        → Moves.no_failure (lacts p st d bits ls) ≡ list_all (λ (o : Derived.Act). not (o.moves && o.work.fails)) (dacts p d bits ls)
     no_failure [] k = refl
-    no_failure (l ∷ ls) k = ap₂ (λ x y. not ((did p d bits ls l).moves && x) && y) (sym (ap (λ (w : Work). w.fails) (told_here p flows st d bits arrays ls l k.0).is)) (no_failure ls k.1)
+    no_failure (l ∷ ls) k =
+        ap₂ (λ x y. not ((did p d bits ls l).moves && x) && y)
+        (sym (ap (λ (w : Work). w.fails) (told_here p flows st d bits arrays ls l k.0).is)) (no_failure ls k.1)
 
-    clear_is : (v s : ℕ) (ls : List Live) → Each (λ k. s < k.thread.stage) ls → Moves.none_up_to (Some v) (lacts p st d bits ls) ≡ Derived.barrier_clear (Some v) s (befores (dacts p d bits ls))
+    clear_is : (v s : ℕ) (ls : List Live) → Each (λ k. s < k.thread.stage) ls
+        → Moves.none_up_to (Some v) (lacts p st d bits ls) ≡ Derived.barrier_clear (Some v) s (befores (dacts p d bits ls))
     clear_is v s [] b = refl
     clear_is v s (l ∷ ls) b = ap₂ (λ x y. (x || nat_lt v l.thread.stage) && y) (sym (off (nat_le l.thread.stage s) refl)) (clear_is v s ls b.1)
       where
@@ -189,7 +204,9 @@ module _ (p : Pipe) (flows : Flows p) (st : State) (d : Derived.State) (bits : L
         off true e = absurd (let i = leb-true _ _ e in let j = b.0 in omega arith)
         off false e = e
 
-    enters : (q : ℕ) (ls : List Live) → list_all (λ (o : Moves.Act). not (o.stage == q) || o.moves) (lacts p st d bits ls) ≡ list_all (λ (o : Derived.Act). not (o.before.stage == q) || o.moves) (dacts p d bits ls)
+    enters : (q : ℕ) (ls : List Live)
+        → list_all (λ (o : Moves.Act). not (o.stage == q) || o.moves) (lacts p st d bits ls)
+        ≡ list_all (λ (o : Derived.Act). not (o.before.stage == q) || o.moves) (dacts p d bits ls)
     enters q [] = refl
     enters q (l ∷ ls) = ap (λ y. (not (l.thread.stage == q) || (did p d bits ls l).moves) && y) (enters q ls)
 
@@ -200,20 +217,27 @@ module _ (p : Pipe) (flows : Flows p) (st : State) (d : Derived.State) (bits : L
       where
         none : (b : ℕ) (ks : List Live) → Falls b ks → b ≤ n → has_owner n m ks ≡ false
         none b [] f i = refl
-        none b (k ∷ ks) f i = ap₂ (λ c e. (c && awaits_mem k.thread.awaits m) || e) (ne_eqb k.number n (λ e. absurd (let j = f.0 in omega arith))) (none k.number ks f.1 (let j = f.0 in omega arith))
+        none b (k ∷ ks) f i =
+            ap₂ (λ c e. (c && awaits_mem k.thread.awaits m) || e)
+            (ne_eqb k.number n (λ e. absurd (let j = f.0 in omega arith)))
+            (none k.number ks f.1 (let j = f.0 in omega arith))
 
         others : (b : ℕ) (ks : List Live) → Falls b ks → b ≤ n → Each (λ k. k.number ≡ n → awaits_mem k.thread.awaits m ≡ true) ks
         others b [] f i = tt
         others b (k ∷ ks) f i = ((λ e. absurd (let j = f.0 in omega arith)), others k.number ks f.1 (let j = f.0 in omega arith))
 
-        at : (b : Bool) → (l.number == n) ≡ b → (c : Bool) → awaits_mem l.thread.awaits m ≡ c → ((b && c) || has_owner n m ls) ≡ true → (has_owner n m ls ≡ true → Each (λ k. k.number ≡ n → awaits_mem k.thread.awaits m ≡ true) ls)
+        at : (b : Bool) → (l.number == n) ≡ b → (c : Bool) → awaits_mem l.thread.awaits m ≡ c
+            → ((b && c) || has_owner n m ls) ≡ true
+            → (has_owner n m ls ≡ true → Each (λ k. k.number ≡ n → awaits_mem k.thread.awaits m ≡ true) ls)
             → Each (λ k. k.number ≡ n → awaits_mem k.thread.awaits m ≡ true) (l ∷ ls)
         at true e true g i r = ((λ j. g), others l.number ls f.1 (let j = eqb-true _ _ e in omega arith))
         at true e false g i r = absurd (cc (sym (none l.number ls f.1 (let j = eqb-true _ _ e in omega arith)) ∙ i))
         at false e c g i r = ((λ j. absurd (eqb-false _ _ e j)), r i)
 
-    module _ (bound : ℕ) (seated : Each (Seated p st) all) (ordered : Ordered p all) (falls : Falls bound all) (known : AllKnown p flows st d bits arrays all) (forks : (f : ℕ) → fork_of st f ≡ sides p f all) where
-      module _ (ys : List Live) (l : Live) (older : List Live) (is : all ≡ ys ++ l ∷ older) (later : List Pair) (hi : ℕ) (rises : Rises (suc l.thread.stage) hi (lives_of later))
+    module _ (bound : ℕ) (seated : Each (Seated p st) all) (ordered : Ordered p all) (falls : Falls bound all)
+        (known : AllKnown p flows st d bits arrays all) (forks : (f : ℕ) → fork_of st f ≡ sides p f all) where
+      module _ (ys : List Live) (l : Live) (older : List Live) (is : all ≡ ys ++ l ∷ older) (later : List Pair) (hi : ℕ)
+          (rises : Rises (suc l.thread.stage) hi (lives_of later))
           (up : (A : Pair → Type 0) → EachPair A (pairs all) → EachPair A later)
           (down : (A : Pair → Type 0) → EachPair A later → EachPair (λ y. suc l.thread.stage ≤ y.live.thread.stage → A y) (pairs all)) where
         mine : AllKnown p flows st d bits arrays (l ∷ older)
@@ -230,7 +254,10 @@ module _ (p : Pipe) (flows : Flows p) (st : State) (d : Derived.State) (bits : L
 
         -- a test of the acts of later stages is one of the older threads' acts
         tested : (test : Moves.Act → Bool)
-            → EachPair (λ y. (Behind p y.live.thread.stage l.thread.stage → l.thread.stage < y.live.thread.stage → test (lact p st d bits y.older y.live) ≡ true) × (Behind p l.thread.stage y.live.thread.stage → y.live.thread.stage ≤ l.thread.stage → test (lact p st d bits y.older y.live) ≡ true)) (pairs all)
+            → EachPair
+            (λ y. (Behind p y.live.thread.stage l.thread.stage → l.thread.stage < y.live.thread.stage → test (lact p st d bits y.older y.live) ≡ true)
+            × (Behind p l.thread.stage y.live.thread.stage → y.live.thread.stage ≤ l.thread.stage → test (lact p st d bits y.older y.live) ≡ true))
+            (pairs all)
             → list_all test (acts_of later) ≡ list_all test (lacts p st d bits older)
         tested test spec =
             all_acts_of test later
@@ -246,7 +273,16 @@ module _ (p : Pipe) (flows : Flows p) (st : State) (d : Derived.State) (bits : L
             at (Some x) e = some x e
 
         fails_same : Moves.no_failure (acts_of later) ≡ list_all (λ (o : Derived.Act). not (o.moves && o.work.fails)) (dacts p d bits older)
-        fails_same = tested (λ o. not (o.moves && o.does.fails)) (pair_map (λ y k. ((λ b i. branch_if _ y.live.thread.stage (λ e. clash (b.trunk y.live.thread.stage e (le_refl _)) i) (λ x e. calm (did p d bits y.older y.live).moves (plain_branch y.live x e).0)), (λ b i. branch_if _ y.live.thread.stage (λ e. irreflexive (b.trunk y.live.thread.stage e i)) (λ x e. calm (did p d bits y.older y.live).moves (plain_branch y.live x e).0)))) (pairs all) (known_pairs all known))
+        fails_same =
+            tested (λ o. not (o.moves && o.does.fails))
+            (pair_map
+            (λ y k. (
+              (λ b i. branch_if _ y.live.thread.stage (λ e. clash (b.trunk y.live.thread.stage e (le_refl _)) i)
+                  (λ x e. calm (did p d bits y.older y.live).moves (plain_branch y.live x e).0)),
+              (λ b i. branch_if _ y.live.thread.stage (λ e. irreflexive (b.trunk y.live.thread.stage e i))
+                  (λ x e. calm (did p d bits y.older y.live).moves (plain_branch y.live x e).0)),
+            ))
+            (pairs all) (known_pairs all known))
             ∙ no_failure older mine.1
           where
             clash : {s q : ℕ} → s < q → q < s → ⊥
@@ -260,7 +296,9 @@ module _ (p : Pipe) (flows : Flows p) (st : State) (d : Derived.State) (bits : L
             calm false e = refl
 
         -- the thread in the stage of m's delayed read is younger than the owner of a request to m
-        not_owner : (n m : ℕ) → none_of (is_delayed_read m) (in_stage l.thread.stage p.stmts) ≡ false → (y : Live) → Seated p st y → (Leads p l.thread.stage y.thread.stage → ⊥) → ((y.number == n) && awaits_mem y.thread.awaits m) ≡ false
+        not_owner : (n m : ℕ) → none_of (is_delayed_read m) (in_stage l.thread.stage p.stmts) ≡ false → (y : Live)
+            → Seated p st y → (Leads p l.thread.stage y.thread.stage → ⊥)
+            → ((y.number == n) && awaits_mem y.thread.awaits m) ≡ false
         not_owner n m g y seat_y away = at (y.number == n) (awaits_mem y.thread.awaits m) refl
           where
             at : (b c : Bool) → awaits_mem y.thread.awaits m ≡ c → (b && c) ≡ false
@@ -277,12 +315,22 @@ module _ (p : Pipe) (flows : Flows p) (st : State) (d : Derived.State) (bits : L
             self : Leads p l.thread.stage l.thread.stage → ⊥
             self k = let i = (flows.graph.up l.thread.stage l.thread.stage k).0 in omega arith
 
-            first : (zs : List Live) → Each (λ y. Behind p y.thread.stage l.thread.stage) zs → Each (Seated p st) (zs ++ l ∷ older) → has_owner n m (zs ++ l ∷ older) ≡ true → has_owner n m older ≡ true
+            first : (zs : List Live) → Each (λ y. Behind p y.thread.stage l.thread.stage) zs
+                → Each (Seated p st) (zs ++ l ∷ older) → has_owner n m (zs ++ l ∷ older) ≡ true
+                → has_owner n m older ≡ true
             first [] b s i = ap (λ c. c || has_owner n m older) (sym (not_owner n m g l s.0 self)) ∙ i
-            first (z ∷ zs) b s i = first zs b.1 s.1 (ap (λ c. c || has_owner n m (zs ++ l ∷ older)) (sym (not_owner n m g z s.0 (λ k. not_behind p flows.graph l.thread.stage z.thread.stage k b.0))) ∙ i)
+            first (z ∷ zs) b s i =
+                first zs b.1 s.1
+                (ap (λ c. c || has_owner n m (zs ++ l ∷ older))
+                (sym (not_owner n m g z s.0 (λ k. not_behind p flows.graph l.thread.stage z.thread.stage k b.0)))
+                ∙ i)
 
-        port_same : (m : ℕ) → none_of (is_delayed_read m) (in_stage l.thread.stage p.stmts) ≡ false → is_free (request_of st m) (is_answered p bits m) (acts_of later) ≡ port_free p d bits (dacts p d bits older) m
-        port_same m g = at (request_of st m) refl ∙ port_is p flows st d bits arrays all matched m l.number older older_seated (older_falls bound ys l older (subst (λ x. Falls bound x) is falls)) (λ n a e. owner_older n m g (owned n a e))
+        port_same : (m : ℕ) → none_of (is_delayed_read m) (in_stage l.thread.stage p.stmts) ≡ false
+            → is_free (request_of st m) (is_answered p bits m) (acts_of later) ≡ port_free p d bits (dacts p d bits older) m
+        port_same m g =
+            at (request_of st m) refl
+            ∙ port_is p flows st d bits arrays all matched m l.number older older_seated (older_falls bound ys l older (subst (λ x. Falls bound x) is falls))
+            (λ n a e. owner_older n m g (owned n a e))
           where
             owned : (n a : ℕ) → request_of st m ≡ Owned n a → has_owner n m all ≡ true
             owned n a e = (subst (λ q. Matched q (asked_at d m) m all) e (matched m)).1
@@ -291,45 +339,72 @@ module _ (p : Pipe) (flows : Flows p) (st : State) (d : Derived.State) (bits : L
             off true c n = absurd (n refl)
             off false c n = refl
 
-            at : (q : Request) → request_of st m ≡ q → is_free (request_of st m) (is_answered p bits m) (acts_of later) ≡ is_free (request_of st m) (is_answered p bits m) (lacts p st d bits older)
-            at NoRequest e = ap (λ q. is_free q (is_answered p bits m) (acts_of later)) e ∙ sym (ap (λ q. is_free q (is_answered p bits m) (lacts p st d bits older)) e)
-            at (Orphan a) e = ap (λ q. is_free q (is_answered p bits m) (acts_of later)) e ∙ sym (ap (λ q. is_free q (is_answered p bits m) (lacts p st d bits older)) e)
+            at : (q : Request) → request_of st m ≡ q
+                → is_free (request_of st m) (is_answered p bits m) (acts_of later) ≡ is_free (request_of st m) (is_answered p bits m) (lacts p st d bits older)
+            at NoRequest e =
+                ap (λ q. is_free q (is_answered p bits m) (acts_of later)) e ∙ sym (ap (λ q. is_free q (is_answered p bits m) (lacts p st d bits older)) e)
+            at (Orphan a) e =
+                ap (λ q. is_free q (is_answered p bits m) (acts_of later)) e ∙ sym (ap (λ q. is_free q (is_answered p bits m) (lacts p st d bits older)) e)
             at (Owned n a) e =
                 ap (λ q. is_free q (is_answered p bits m) (acts_of later)) e
                 ∙ ap (λ x. is_answered p bits m && x)
                 (any_not (λ (o : Moves.Act). (o.thread.number == n) && o.moves) (acts_of later)
                 ∙ ap not (tested (λ o. not ((o.thread.number == n) && o.moves))
-                (pair_both (λ y w s. ((λ b i. off _ _ (λ j. not_behind p flows.graph l.thread.stage y.live.thread.stage (leads y.live s (w (eqb-true _ _ j))) b)), (λ b i. off _ _ (λ j. let u = (flows.graph.up l.thread.stage y.live.thread.stage (leads y.live s (w (eqb-true _ _ j)))).0 in omega arith))))
-                (pairs all) (pairs_each (λ k. k.number ≡ n → awaits_mem k.thread.awaits m ≡ true) all (awaiting n m bound all falls (owned n a e))) (pairs_each (Seated p st) all seated)))
+                (pair_both
+                (λ y w s. (
+                  (λ b i. off _ _ (λ j. not_behind p flows.graph l.thread.stage y.live.thread.stage (leads y.live s (w (eqb-true _ _ j))) b)),
+                  (λ b i. off _ _ (λ j. let u = (flows.graph.up l.thread.stage y.live.thread.stage (leads y.live s (w (eqb-true _ _ j)))).0 in omega arith)),
+                ))
+                (pairs all)
+                (pairs_each (λ k. k.number ≡ n → awaits_mem k.thread.awaits m ≡ true) all (awaiting n m bound all falls (owned n a e)))
+                (pairs_each (Seated p st) all seated)))
                 ∙ sym (any_not (λ (o : Moves.Act). (o.thread.number == n) && o.moves) (lacts p st d bits older)))
                 ∙ sym (ap (λ q. is_free q (is_answered p bits m) (lacts p st d bits older)) e)
               where
                 leads : (y : Live) → Seated p st y → awaits_mem y.thread.awaits m ≡ true → Leads p l.thread.stage y.thread.stage
-                leads y s w = let k = fetched_of p y.thread.stage m y.thread.awaits s.keeps_on.fetched w in subst (λ s. Leads p s y.thread.stage) (one_stage (is_delayed_read m) p.stmts k.0 l.thread.stage (flows.one_fetch m) k.2 g) k.1
+                leads y s w = let k = fetched_of p y.thread.stage m y.thread.awaits s.keeps_on.fetched w in
+                    subst (λ s. Leads p s y.thread.stage) (one_stage (is_delayed_read m) p.stmts k.0 l.thread.stage (flows.one_fetch m) k.2 g) k.1
 
-        clear_same : Moves.barrier_clear p (acts_of later) (deeds_of p st bits l) ≡ (not (deeds_of p st bits l).barrier || Derived.barrier_clear (verify_stage p.stmts) l.thread.stage (befores (dacts p d bits older)))
+        clear_same : Moves.barrier_clear p (acts_of later) (deeds_of p st bits l)
+            ≡ (not (deeds_of p st bits l).barrier || Derived.barrier_clear (verify_stage p.stmts) l.thread.stage (befores (dacts p d bits older)))
         clear_same = at (stage_at p l.thread.stage).branch refl
           where
             clash : {s q : ℕ} → s < q → s < s → ⊥
             clash i j = omega arith
 
-            trunk : (v : Option ℕ) → (stage_at p l.thread.stage).branch ≡ None → Moves.none_up_to v (acts_of later) ≡ Derived.barrier_clear v l.thread.stage (befores (dacts p d bits older))
+            trunk : (v : Option ℕ) → (stage_at p l.thread.stage).branch ≡ None
+                → Moves.none_up_to v (acts_of later) ≡ Derived.barrier_clear v l.thread.stage (befores (dacts p d bits older))
             trunk None e = refl
             trunk (Some v) e =
                 tested (λ o. nat_lt v o.stage)
-                (pair_map (λ y k. ((λ b i. absurd (clash i (b.trunk l.thread.stage e (let j = i in omega arith)))), (λ b i. absurd (let j : l.thread.stage < y.live.thread.stage = b.trunk l.thread.stage e (le_refl _) in omega arith)))) (pairs all) (known_pairs all known))
+                (pair_map
+                (λ y k. (
+                  (λ b i. absurd (clash i (b.trunk l.thread.stage e (let j = i in omega arith)))),
+                  (λ b i. absurd (let j : l.thread.stage < y.live.thread.stage = b.trunk l.thread.stage e (le_refl _) in omega arith)),
+                ))
+                (pairs all) (known_pairs all known))
                 ∙ clear_is v l.thread.stage older (each_map (λ k b. b.trunk l.thread.stage e (le_refl _)) older behind)
 
-            at : (b : Option Branch) → (stage_at p l.thread.stage).branch ≡ b → Moves.barrier_clear p (acts_of later) (deeds_of p st bits l) ≡ (not (deeds_of p st bits l).barrier || Derived.barrier_clear (verify_stage p.stmts) l.thread.stage (befores (dacts p d bits older)))
+            at : (b : Option Branch) → (stage_at p l.thread.stage).branch ≡ b
+                → Moves.barrier_clear p (acts_of later) (deeds_of p st bits l)
+                ≡ (not (deeds_of p st bits l).barrier || Derived.barrier_clear (verify_stage p.stmts) l.thread.stage (befores (dacts p d bits older)))
             at None e = ap (λ x. not (deeds_of p st bits l).barrier || x) (trunk (verify_stage p.stmts) e)
             at (Some x) e =
                 ap (λ b. not b || Moves.none_up_to (verify_stage p.stmts) (acts_of later)) (plain_branch l x e).1
                 ∙ sym (ap (λ b. not b || Derived.barrier_clear (verify_stage p.stmts) l.thread.stage (befores (dacts p d bits older))) (plain_branch l x e).1)
 
-        enters_same : (q : ℕ) → Leads p l.thread.stage q → list_all (λ (o : Moves.Act). not (o.stage == q) || o.moves) (acts_of later) ≡ list_all (λ (o : Derived.Act). not (o.before.stage == q) || o.moves) (dacts p d bits older)
+        enters_same : (q : ℕ) → Leads p l.thread.stage q
+            → list_all (λ (o : Moves.Act). not (o.stage == q) || o.moves) (acts_of later)
+            ≡ list_all (λ (o : Derived.Act). not (o.before.stage == q) || o.moves) (dacts p d bits older)
         enters_same q leads =
             tested (λ o. not (o.stage == q) || o.moves)
-            (pair_map (λ y k. ((λ b i. off (y.live.thread.stage == q) _ (λ j. not_behind p flows.graph l.thread.stage q leads (subst (λ n. Behind p n l.thread.stage) (eqb-true _ _ j) b))), (λ b i. off (y.live.thread.stage == q) _ (λ j. let u = (flows.graph.up l.thread.stage q leads).0 in let v = eqb-true _ _ j in omega arith)))) (pairs all) (known_pairs all known))
+            (pair_map
+            (λ y k. (
+              (λ b i. off (y.live.thread.stage == q) _
+                  (λ j. not_behind p flows.graph l.thread.stage q leads (subst (λ n. Behind p n l.thread.stage) (eqb-true _ _ j) b))),
+              (λ b i. off (y.live.thread.stage == q) _ (λ j. let u = (flows.graph.up l.thread.stage q leads).0 in let v = eqb-true _ _ j in omega arith)),
+            ))
+            (pairs all) (known_pairs all known))
             ∙ enters q older
           where
             off : (b c : Bool) → (b ≡ true → ⊥) → (not b || c) ≡ true
@@ -340,17 +415,23 @@ module _ (p : Pipe) (flows : Flows p) (st : State) (d : Derived.State) (bits : L
         lists : (f : ℕ) → fork_of st f ≡ (sides p f older ++ side_in f (stage_at p l.thread.stage).branch) ++ sides p f ys
         lists f = forks f ∙ ap (sides p f) is ∙ sides_append p f ys (l ∷ older)
 
-        merge_same : (q : ℕ) → Leads p l.thread.stage q → Moves.merges_well p st l.thread.stage (Some q) ≡ Derived.fork_clear p (dacts p d bits older) (stage_at p q).merges
+        merge_same : (q : ℕ) → Leads p l.thread.stage q
+            → Moves.merges_well p st l.thread.stage (Some q) ≡ Derived.fork_clear p (dacts p d bits older) (stage_at p q).merges
         merge_same q leads = at (stage_at p q).merges refl
           where
-            at : (m : Option ℕ) → (stage_at p q).merges ≡ m → Moves.may_merge st m (stage_at p l.thread.stage).branch ≡ Derived.fork_clear p (dacts p d bits older) m
+            at : (m : Option ℕ) → (stage_at p q).merges ≡ m
+                → Moves.may_merge st m (stage_at p l.thread.stage).branch ≡ Derived.fork_clear p (dacts p d bits older) m
             at None e = refl
             at (Some f) e = by (flows.graph.merge l.thread.stage q f leads e).1
               where
-                straight : l.thread.stage ≡ f → (stage_at p l.thread.stage).branch ≡ None → Moves.may_merge st (Some f) (stage_at p l.thread.stage).branch ≡ Derived.fork_clear p (dacts p d bits older) (Some f)
+                straight : l.thread.stage ≡ f → (stage_at p l.thread.stage).branch ≡ None
+                    → Moves.may_merge st (Some f) (stage_at p l.thread.stage).branch ≡ Derived.fork_clear p (dacts p d bits older) (Some f)
                 straight i j =
                     ap (Moves.may_merge st (Some f)) j
-                    ∙ ap is_nobody (lists f ∙ ap₂ (λ a b. (sides p f older ++ side_in f a) ++ b) j (sides_none p f ys (each_map (λ y b. outside y b) ys young)) ∙ append-nil _ ∙ append-nil _)
+                    ∙ ap is_nobody
+                    (lists f
+                    ∙ ap₂ (λ a b. (sides p f older ++ side_in f a) ++ b) j (sides_none p f ys (each_map (λ y b. outside y b) ys young))
+                    ∙ append-nil _ ∙ append-nil _)
                     ∙ sides_nobody p d bits f older
                   where
                     outside : (y : Live) → Behind p y.thread.stage l.thread.stage → is_inside p f y.thread.stage ≡ false
@@ -367,10 +448,15 @@ module _ (p : Pipe) (flows : Flows p) (st : State) (d : Derived.State) (bits : L
                                 let less : l.thread.stage < l.thread.stage = b.trunk l.thread.stage j (omega arith) in omega arith)
                             other false h = h
 
-                through : (x : Branch) → (stage_at p l.thread.stage).branch ≡ Some x → x.fork ≡ f → ((b : ℕ) → (stage_at p b).branch ≡ Some x → b ≤ l.thread.stage) → Moves.may_merge st (Some f) (stage_at p l.thread.stage).branch ≡ Derived.fork_clear p (dacts p d bits older) (Some f)
+                through : (x : Branch) → (stage_at p l.thread.stage).branch ≡ Some x → x.fork ≡ f
+                    → ((b : ℕ) → (stage_at p b).branch ≡ Some x → b ≤ l.thread.stage)
+                    → Moves.may_merge st (Some f) (stage_at p l.thread.stage).branch ≡ Derived.fork_clear p (dacts p d bits older) (Some f)
                 through x j i top =
                     ap (Moves.may_merge st (Some f)) j
-                    ∙ ap (is_first x.first) (lists f ∙ ap (λ a. (sides p f older ++ side_in f a) ++ sides p f ys) j ∙ ap (λ c. (sides p f older ++ cond c (x.first ∷ []) []) ++ sides p f ys) (eq-eqb _ _ i) ∙ append_assoc (sides p f older) (x.first ∷ []) (sides p f ys))
+                    ∙ ap (is_first x.first)
+                    (lists f ∙ ap (λ a. (sides p f older ++ side_in f a) ++ sides p f ys) j
+                    ∙ ap (λ c. (sides p f older ++ cond c (x.first ∷ []) []) ++ sides p f ys) (eq-eqb _ _ i)
+                    ∙ append_assoc (sides p f older) (x.first ∷ []) (sides p f ys))
                     ∙ first_other x.first (sides p f older) (sides p f ys) (others older behind)
                     ∙ sides_nobody p d bits f older
                   where
@@ -380,7 +466,8 @@ module _ (p : Pipe) (flows : Flows p) (st : State) (d : Derived.State) (bits : L
                     flip false true n = refl
                     flip false false n = absurd (n refl)
 
-                    side : (k : Live) → Behind p l.thread.stage k.thread.stage → (c : Option Branch) → (stage_at p k.thread.stage).branch ≡ c → AllAre (not x.first) (side_in f c)
+                    side : (k : Live) → Behind p l.thread.stage k.thread.stage → (c : Option Branch)
+                        → (stage_at p k.thread.stage).branch ≡ c → AllAre (not x.first) (side_in f c)
                     side k b None g = tt
                     side k b (Some z) g = inner (z.fork == f) refl
                       where
@@ -398,12 +485,15 @@ module _ (p : Pipe) (flows : Flows p) (st : State) (d : Derived.State) (bits : L
                     others [] b = tt
                     others (k ∷ ks) b = are_append (not x.first) (sides p f ks) _ (others ks b.1) (side k b.0 (stage_at p k.thread.stage).branch refl)
 
-                by : ((l.thread.stage ≡ f) × ((stage_at p l.thread.stage).branch ≡ None)) ⊎ ((x : Branch) × ((stage_at p l.thread.stage).branch ≡ Some x) × (x.fork ≡ f) × ((b : ℕ) → (stage_at p b).branch ≡ Some x → b ≤ l.thread.stage))
+                by : ((l.thread.stage ≡ f) × ((stage_at p l.thread.stage).branch ≡ None))
+                    ⊎ ((x : Branch) × ((stage_at p l.thread.stage).branch ≡ Some x) × (x.fork ≡ f)
+                    × ((b : ℕ) → (stage_at p b).branch ≡ Some x → b ≤ l.thread.stage))
                     → Moves.may_merge st (Some f) (stage_at p l.thread.stage).branch ≡ Derived.fork_clear p (dacts p d bits older) (Some f)
                 by (inl h) = straight h.0 h.1
                 by (inr h) = through h.0 h.1 h.2 h.3
 
-        entered_same : (r : Option ℕ) → next_stage p l.thread.stage (deeds_of p st bits l) ≡ r → (Moves.can_enter r (acts_of later) && Moves.merges_well p st l.thread.stage r) ≡ Derived.can_enter p (dacts p d bits older) r
+        entered_same : (r : Option ℕ) → next_stage p l.thread.stage (deeds_of p st bits l) ≡ r
+            → (Moves.can_enter r (acts_of later) && Moves.merges_well p st l.thread.stage r) ≡ Derived.can_enter p (dacts p d bits older) r
         entered_same None e = refl
         entered_same (Some q) e =
             let leads : Leads p l.thread.stage q = ((deeds_of p st bits l).env, e, mine.0.seated.keeps_on.inside) in
@@ -432,7 +522,8 @@ module _ (p : Pipe) (flows : Flows p) (st : State) (d : Derived.State) (bits : L
           → sacts p st bits (lives_of xs) ≡ acts_of xs
       acts_from lo hi [] r up down = refl
       acts_from lo hi (x ∷ xs) r up down =
-          ap (λ later. Moves.act p st bits later x.live.thread.stage (with_answers p st bits (seat x.live)) ∷ later) (acts_from (suc x.live.thread.stage) hi xs r.2 (λ A h. (up A h).1) below)
+          ap (λ later. Moves.act p st bits later x.live.thread.stage (with_answers p st bits (seat x.live)) ∷ later)
+          (acts_from (suc x.live.thread.stage) hi xs r.2 (λ A h. (up A h).1) below)
           ∙ ap (λ a. a ∷ acts_of xs) (act_same seen.0 x.live x.older seen.1 xs hi r.2 (λ A h. (up A h).1) below)
         where
           seen : (ys : List Live) × (all ≡ ys ++ x.live ∷ x.older)

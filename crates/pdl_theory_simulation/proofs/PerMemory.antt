@@ -32,7 +32,9 @@ mems_same f g k (x ∷ xs) h = ap₂ (λ a l. a ∷ l) (h k) (mems_same f g (suc
 wrote_shown : (words : Array) (m : ℕ) (o : Option Pending) (arrays : Arrays)
     → words ≡ arrays m → with_commit arrays m o m ≡ wrote words (released m o)
 wrote_shown words m None arrays h = sym h
-wrote_shown words m (Some e) arrays h = ap (λ b. cond b (with_value (arrays m) e.address (commit_value e.value)) (arrays m)) (eq-eqb m m refl) ∙ ap (λ w. with_value w e.address (commit_value e.value)) (sym h)
+wrote_shown words m (Some e) arrays h =
+    ap (λ b. cond b (with_value (arrays m) e.address (commit_value e.value)) (arrays m)) (eq-eqb m m refl)
+    ∙ ap (λ w. with_value w e.address (commit_value e.value)) (sym h)
 
 -- a commit to m leaves the words of other memories as they are
 pub other_commit : (m n : ℕ) (o : Option Pending) (arrays : Arrays) → (n == m) ≡ false → with_commit arrays m o n ≡ arrays n
@@ -43,7 +45,9 @@ other_commit m n (Some e) arrays h = ap (λ b. cond b (with_value (arrays m) e.a
 pub before_commits : (st : State) (ms : List Act) (k n : ℕ) (xs : List Mem) (arrays : Arrays)
     → n < k → with_commits st ms k xs arrays n ≡ arrays n
 before_commits st ms k n [] arrays h = refl
-before_commits st ms k n (x ∷ xs) arrays h = before_commits st ms (suc k) n xs (with_commit arrays k (taken_out st ms k)) (omega arith) ∙ other_commit k n (taken_out st ms k) arrays (ne_eqb n k (λ e. absurd (omega arith)))
+before_commits st ms k n (x ∷ xs) arrays h =
+    before_commits st ms (suc k) n xs (with_commit arrays k (taken_out st ms k)) (omega arith)
+    ∙ other_commit k n (taken_out st ms k) arrays (ne_eqb n k (λ e. absurd (omega arith)))
 
 -- after the commits to the memories from k on each of these has what it releases in its words
 pub row_commits : (st : State) (ms : List Act) (k n : ℕ) (xs : List Mem) (arrays : Arrays)
@@ -51,7 +55,10 @@ pub row_commits : (st : State) (ms : List Act) (k n : ℕ) (xs : List Mem) (arra
 row_commits st ms k n [] arrays h i = absurd (omega arith)
 row_commits st ms k n (x ∷ xs) arrays h i = at (n == k) refl (λ j. row_commits st ms (suc k) n xs (with_commit arrays k (taken_out st ms k)) j (omega arith))
   where
-    at : (b : Bool) → (n == k) ≡ b → (k < n → with_commits st ms (suc k) xs (with_commit arrays k (taken_out st ms k)) n ≡ wrote (with_commit arrays k (taken_out st ms k) n) (released n (taken_out st ms n)))
+    at : (b : Bool) → (n == k) ≡ b
+        → (k < n
+        → with_commits st ms (suc k) xs (with_commit arrays k (taken_out st ms k)) n
+        ≡ wrote (with_commit arrays k (taken_out st ms k) n) (released n (taken_out st ms n)))
         → with_commits st ms (suc k) xs (with_commit arrays k (taken_out st ms k)) n ≡ wrote (arrays n) (released n (taken_out st ms n))
     at true e f =
         let same : n ≡ k = eqb-true n k e in
@@ -65,4 +72,6 @@ row_commits st ms k n (x ∷ xs) arrays h i = at (n == k) refl (λ j. row_commit
 pub past_commits : (st : State) (ms : List Act) (k n : ℕ) (xs : List Mem) (arrays : Arrays)
     → k + length xs ≤ n → with_commits st ms k xs arrays n ≡ arrays n
 past_commits st ms k n [] arrays h = refl
-past_commits st ms k n (x ∷ xs) arrays h = past_commits st ms (suc k) n xs (with_commit arrays k (taken_out st ms k)) (omega arith) ∙ other_commit k n (taken_out st ms k) arrays (ne_eqb n k (λ e. absurd (omega arith)))
+past_commits st ms k n (x ∷ xs) arrays h =
+    past_commits st ms (suc k) n xs (with_commit arrays k (taken_out st ms k)) (omega arith)
+    ∙ other_commit k n (taken_out st ms k) arrays (ne_eqb n k (λ e. absurd (omega arith)))

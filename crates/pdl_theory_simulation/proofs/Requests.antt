@@ -73,7 +73,8 @@ asks_more [] b = at b.moves
 asks_more (x ∷ xs) b = at x.moves (asks_more xs b)
   where
     at : (c : Bool) → asks_of (xs ++ b ∷ []) ≡ asks_of xs ++ (if b.moves then b.work.asks else [])
-        → cond c (x.work.asks ++ asks_of (xs ++ b ∷ [])) (asks_of (xs ++ b ∷ [])) ≡ cond c (x.work.asks ++ asks_of xs) (asks_of xs) ++ (if b.moves then b.work.asks else [])
+        → cond c (x.work.asks ++ asks_of (xs ++ b ∷ [])) (asks_of (xs ++ b ∷ []))
+        ≡ cond c (x.work.asks ++ asks_of xs) (asks_of xs) ++ (if b.moves then b.work.asks else [])
     at true h = ap (λ l. x.work.asks ++ l) h ∙ sym (append_assoc x.work.asks (asks_of xs) _)
     at false h = h
 
@@ -82,7 +83,8 @@ awaits_found : (qs : List Ask) (m : ℕ) → awaits_mem (awaited_of qs) m ≡ is
 awaits_found [] m = refl
 awaits_found (q ∷ qs) m = at (q.mem == m) (awaits_found qs m)
   where
-    at : (b : Bool) → awaits_mem (awaited_of qs) m ≡ is_some (find_ask qs m) → (b || awaits_mem (awaited_of qs) m) ≡ is_some (if b then Some q.address else find_ask qs m)
+    at : (b : Bool) → awaits_mem (awaited_of qs) m ≡ is_some (find_ask qs m)
+        → (b || awaits_mem (awaited_of qs) m) ≡ is_some (if b then Some q.address else find_ask qs m)
     at true h = refl
     at false h = h
 
@@ -94,7 +96,8 @@ found_from xs [] m a h e = absurd (clash e)
     clash i = cc
 found_from xs (q ∷ qs) m a h e = at (q.mem == m) refl e (λ i. found_from xs qs m a h.1 i)
   where
-    at : (b : Bool) → (q.mem == m) ≡ b → (if b then Some q.address else find_ask qs m) ≡ Some a → (find_ask qs m ≡ Some a → none_of (is_delayed_read m) xs ≡ false) → none_of (is_delayed_read m) xs ≡ false
+    at : (b : Bool) → (q.mem == m) ≡ b → (if b then Some q.address else find_ask qs m) ≡ Some a
+        → (find_ask qs m ≡ Some a → none_of (is_delayed_read m) xs ≡ false) → none_of (is_delayed_read m) xs ≡ false
     at true e i f = subst (λ n. none_of (is_delayed_read n) xs ≡ false) (eqb-true q.mem m e) h.0
     at false e i f = f i
 
@@ -111,7 +114,9 @@ found_test test (q ∷ qs) m a h e = at (q.mem == m) refl e (λ i. found_test te
 
 owner_append : (n m : ℕ) (xs ys : List Live) → has_owner n m (xs ++ ys) ≡ (has_owner n m xs || has_owner n m ys)
 owner_append n m [] ys = refl
-owner_append n m (x ∷ xs) ys = ap (λ b. ((x.number == n) && awaits_mem x.thread.awaits m) || b) (owner_append n m xs ys) ∙ assoc ((x.number == n) && awaits_mem x.thread.awaits m) (has_owner n m xs) (has_owner n m ys)
+owner_append n m (x ∷ xs) ys =
+    ap (λ b. ((x.number == n) && awaits_mem x.thread.awaits m) || b) (owner_append n m xs ys)
+    ∙ assoc ((x.number == n) && awaits_mem x.thread.awaits m) (has_owner n m xs) (has_owner n m ys)
   where
     assoc : (a b c : Bool) → (a || (b || c)) ≡ ((a || b) || c)
     assoc true b c = refl
@@ -138,8 +143,12 @@ still_awaits : (p : Pipe) (bits : List Bool) (rs : List Awaited) (m : ℕ)
 still_awaits p bits [] m h e = absurd (cc h)
 still_awaits p bits (r ∷ rs) m h e = at (r.mem == m) refl h (λ i. still_awaits p bits rs m i e)
   where
-    at : (b : Bool) → (r.mem == m) ≡ b → (b || awaits_mem rs m) ≡ true → (awaits_mem rs m ≡ true → awaits_mem (still p bits rs) m ≡ true) → awaits_mem (if is_answered p bits r.mem then still p bits rs else r ∷ still p bits rs) m ≡ true
-    at true g i f = ap (λ c. awaits_mem (cond c (still p bits rs) (r ∷ still p bits rs)) m) (ap (is_answered p bits) (eqb-true _ _ g) ∙ e) ∙ ap (λ c. c || awaits_mem (still p bits rs) m) g
+    at : (b : Bool) → (r.mem == m) ≡ b → (b || awaits_mem rs m) ≡ true
+        → (awaits_mem rs m ≡ true → awaits_mem (still p bits rs) m ≡ true)
+        → awaits_mem (if is_answered p bits r.mem then still p bits rs else r ∷ still p bits rs) m ≡ true
+    at true g i f =
+        ap (λ c. awaits_mem (cond c (still p bits rs) (r ∷ still p bits rs)) m) (ap (is_answered p bits) (eqb-true _ _ g) ∙ e)
+        ∙ ap (λ c. c || awaits_mem (still p bits rs) m) g
     at false g i f = by (is_answered p bits r.mem)
       where
         or_true : (b : Bool) → (b || true) ≡ true
@@ -159,12 +168,14 @@ module _ (p : Pipe) (flows : Flows p) (st : State) (d : Derived.State) (bits : L
   pub asks_are : (ls : List Live) (l : Live) → Known p flows st d bits arrays ls l → (deeds_of p st bits l).asks ≡ (work_of_live p d bits ls l).asks
   asks_are ls l k = ap (λ (w : Work). w.asks) (sym (told_here p flows st d bits arrays ls l k).is)
 
-  pub asked_is : (m : ℕ) (old : Request) (ls : List Live) → AllKnown p flows st d bits arrays ls → asked_by m (movers (lacts p st d bits ls)) old ≡ owned_by (asking ls m) old
+  pub asked_is : (m : ℕ) (old : Request) (ls : List Live) → AllKnown p flows st d bits arrays ls
+      → asked_by m (movers (lacts p st d bits ls)) old ≡ owned_by (asking ls m) old
   asked_is m old [] k = refl
   asked_is m old (l ∷ ls) k = at (did p d bits ls l).moves (asked_is m old ls k.1)
     where
       at : (b : Bool) → asked_by m (movers (lacts p st d bits ls)) old ≡ owned_by (asking ls m) old
-          → asked_by m (cond b (lact p st d bits ls l ∷ movers (lacts p st d bits ls)) (movers (lacts p st d bits ls))) old ≡ owned_by (cond b (first_of (find_ask (work_of_live p d bits ls l).asks m) l.number (asking ls m)) (asking ls m)) old
+          → asked_by m (cond b (lact p st d bits ls l ∷ movers (lacts p st d bits ls)) (movers (lacts p st d bits ls))) old
+          ≡ owned_by (cond b (first_of (find_ask (work_of_live p d bits ls l).asks m) l.number (asking ls m)) (asking ls m)) old
       at true h = ap₂ (λ q r. asked_of m l.number q r) (asks_are ls l k.0) h ∙ asked_first m l.number (work_of_live p d bits ls l).asks (asking ls m) old
       at false h = h
 
@@ -173,15 +184,22 @@ module _ (p : Pipe) (flows : Flows p) (st : State) (d : Derived.State) (bits : L
   shown_is m (l ∷ ls) k = at (did p d bits ls l).moves (shown_is m ls k.1)
     where
       at : (b : Bool) → asked_in (movers (lacts p st d bits ls)) m ≡ address_for (asking ls m)
-          → asked_in (cond b (lact p st d bits ls l ∷ movers (lacts p st d bits ls)) (movers (lacts p st d bits ls))) m ≡ address_for (cond b (first_of (find_ask (work_of_live p d bits ls l).asks m) l.number (asking ls m)) (asking ls m))
+          → asked_in (cond b (lact p st d bits ls l ∷ movers (lacts p st d bits ls)) (movers (lacts p st d bits ls))) m
+          ≡ address_for (cond b (first_of (find_ask (work_of_live p d bits ls l).asks m) l.number (asking ls m)) (asking ls m))
       at true h = ap₂ (λ q r. address_of m q r) (asks_are ls l k.0) h ∙ address_first m l.number (work_of_live p d bits ls l).asks (asking ls m)
       at false h = h
 
   -- a thread that asks for m stands in the stage of its delayed read
-  pub asks_at : (ls : List Live) (l : Live) → Known p flows st d bits arrays ls l → (m a : ℕ) → find_ask (work_of_live p d bits ls l).asks m ≡ Some a → none_of (is_delayed_read m) (in_stage l.thread.stage p.stmts) ≡ false
-  asks_at ls l k m a e = found_from (in_stage l.thread.stage p.stmts) (work_of_live p d bits ls l).asks m a (subst (λ q. AsksFrom (in_stage l.thread.stage p.stmts) q) (asks_are ls l k) (asks_here p flows st d bits arrays ls l k)) e
+  pub asks_at : (ls : List Live) (l : Live) → Known p flows st d bits arrays ls l → (m a : ℕ)
+      → find_ask (work_of_live p d bits ls l).asks m ≡ Some a
+      → none_of (is_delayed_read m) (in_stage l.thread.stage p.stmts) ≡ false
+  asks_at ls l k m a e =
+      found_from (in_stage l.thread.stage p.stmts)
+      (work_of_live p d bits ls l).asks m a
+      (subst (λ q. AsksFrom (in_stage l.thread.stage p.stmts) q) (asks_are ls l k) (asks_here p flows st d bits arrays ls l k)) e
 
-  asking_at : (m : ℕ) (a : Asker) (ls : List Live) → AllKnown p flows st d bits arrays ls → asking ls m ≡ Some a → (s : ℕ) × (none_of (is_delayed_read m) (in_stage s p.stmts) ≡ false) × (someone s ls ≡ true)
+  asking_at : (m : ℕ) (a : Asker) (ls : List Live) → AllKnown p flows st d bits arrays ls → asking ls m ≡ Some a
+      → (s : ℕ) × (none_of (is_delayed_read m) (in_stage s p.stmts) ≡ false) × (someone s ls ≡ true)
   asking_at m a [] k e = absurd (clash e)
     where
       clash : None ≡ Some a → ⊥
@@ -192,7 +210,8 @@ module _ (p : Pipe) (flows : Flows p) (st : State) (d : Derived.State) (bits : L
       or_true true = refl
       or_true false = refl
 
-      later : (s : ℕ) × (none_of (is_delayed_read m) (in_stage s p.stmts) ≡ false) × (someone s ls ≡ true) → (s : ℕ) × (none_of (is_delayed_read m) (in_stage s p.stmts) ≡ false) × (someone s (l ∷ ls) ≡ true)
+      later : (s : ℕ) × (none_of (is_delayed_read m) (in_stage s p.stmts) ≡ false) × (someone s ls ≡ true)
+          → (s : ℕ) × (none_of (is_delayed_read m) (in_stage s p.stmts) ≡ false) × (someone s (l ∷ ls) ≡ true)
       later h = (h.0, h.1, ap (λ b. (l.thread.stage == h.0) || b) h.2 ∙ or_true (l.thread.stage == h.0))
 
       at : (b : Bool) (o : Option ℕ) → find_ask (work_of_live p d bits ls l).asks m ≡ o → cond b (first_of o l.number (asking ls m)) (asking ls m) ≡ Some a
@@ -203,7 +222,8 @@ module _ (p : Pipe) (flows : Flows p) (st : State) (d : Derived.State) (bits : L
       at false o g i f = f i
 
   -- younger ones ask for another memory
-  pub one_asks : (m : ℕ) (a : Asker) (l : Live) (ls : List Live) → AllKnown p flows st d bits arrays (l ∷ ls) → Ordered p (l ∷ ls) → asking ls m ≡ Some a → find_ask (work_of_live p d bits ls l).asks m ≡ None
+  pub one_asks : (m : ℕ) (a : Asker) (l : Live) (ls : List Live) → AllKnown p flows st d bits arrays (l ∷ ls)
+      → Ordered p (l ∷ ls) → asking ls m ≡ Some a → find_ask (work_of_live p d bits ls l).asks m ≡ None
   one_asks m a l ls k o e = at (find_ask (work_of_live p d bits ls l).asks m) refl
     where
       at : (r : Option ℕ) → find_ask (work_of_live p d bits ls l).asks m ≡ r → find_ask (work_of_live p d bits ls l).asks m ≡ None
@@ -214,7 +234,8 @@ module _ (p : Pipe) (flows : Flows p) (st : State) (d : Derived.State) (bits : L
           let behind : Behind p l.thread.stage h.0 = behind_someone p l.thread.stage h.0 ls o.0 h.2 in
           let less : l.thread.stage < h.0 = behind.branch (ap (λ n. (stage_at p n).branch) same) in omega arith)
 
-  pub finds_is : (m : ℕ) (ls : List Live) → AllKnown p flows st d bits arrays ls → Ordered p ls → find_ask (asks_of (rev (dacts p d bits ls))) m ≡ address_for (asking ls m)
+  pub finds_is : (m : ℕ) (ls : List Live) → AllKnown p flows st d bits arrays ls → Ordered p ls
+      → find_ask (asks_of (rev (dacts p d bits ls))) m ≡ address_for (asking ls m)
   unfolding or_ask
   finds_is m [] k o = refl
   finds_is m (l ∷ ls) k o =
@@ -227,7 +248,8 @@ module _ (p : Pipe) (flows : Flows p) (st : State) (d : Derived.State) (bits : L
       mine (Some x) = refl
 
       at : (b : Bool) (r : Option Asker) → asking ls m ≡ r → ((a : Asker) → asking ls m ≡ Some a → find_ask (work_of_live p d bits ls l).asks m ≡ None)
-          → or_ask (address_for r) (find_ask (if b then (work_of_live p d bits ls l).asks else []) m) ≡ address_for (cond b (first_of (find_ask (work_of_live p d bits ls l).asks m) l.number r) r)
+          → or_ask (address_for r) (find_ask (if b then (work_of_live p d bits ls l).asks else []) m)
+          ≡ address_for (cond b (first_of (find_ask (work_of_live p d bits ls l).asks m) l.number r) r)
       at true None e f = mine (find_ask (work_of_live p d bits ls l).asks m)
       at true (Some a) e f = ap (λ x. address_for (first_of x l.number (Some a))) (sym (f a e))
       at false None e f = refl
@@ -235,41 +257,60 @@ module _ (p : Pipe) (flows : Flows p) (st : State) (d : Derived.State) (bits : L
 
   -- THE ASKER
 
-  ports_were_free : (ls : List Live) (l : Live) → Known p flows st d bits arrays ls l → (did p d bits ls l).moves ≡ true → list_all (λ q. port_free p d bits (dacts p d bits ls) q.mem) (deeds_of p st bits l).asks ≡ true
+  ports_were_free : (ls : List Live) (l : Live) → Known p flows st d bits arrays ls l → (did p d bits ls l).moves ≡ true
+      → list_all (λ q. port_free p d bits (dacts p d bits ls) q.mem) (deeds_of p st bits l).asks ≡ true
   ports_were_free ls l k i =
       let ready : (work_of_live p d bits ls l).ready ≡ true = and_right _ _ (and_left _ _ (and_left _ _ i)) in
-      let all : ((((list_all (λ b. block_ready p st l.number b) (deeds_of p st bits l).blocks && list_all (λ r. has_room (mem_at p r.mem).lock (length (lock_of st r.mem))) (deeds_of p st bits l).reserves)) && list_all (λ q. port_free p d bits (dacts p d bits ls) q.mem) (deeds_of p st bits l).asks) && (not (deeds_of p st bits l).barrier || (around p d bits (dacts p d bits ls) l.thread.stage).clear)) ≡ true =
+      let all :
+      ((((list_all (λ b. block_ready p st l.number b) (deeds_of p st bits l).blocks
+      && list_all (λ r. has_room (mem_at p r.mem).lock (length (lock_of st r.mem))) (deeds_of p st bits l).reserves))
+      && list_all (λ q. port_free p d bits (dacts p d bits ls) q.mem) (deeds_of p st bits l).asks)
+      && (not (deeds_of p st bits l).barrier || (around p d bits (dacts p d bits ls) l.thread.stage).clear))
+      ≡ true =
       ap (λ (w : Work). w.ready) (sym (told_here p flows st d bits arrays ls l k).is) ∙ ready in
       and_right _ _ (and_left _ _ all)
 
   -- whose port is free
-  pub port_was_free : (m a : ℕ) (k : Asker) (ls : List Live) → AllKnown p flows st d bits arrays ls → asking ls m ≡ Some k → asked_at d m ≡ Some a → is_answered p bits m ≡ true
+  pub port_was_free : (m a : ℕ) (k : Asker) (ls : List Live) → AllKnown p flows st d bits arrays ls
+      → asking ls m ≡ Some k → asked_at d m ≡ Some a → is_answered p bits m ≡ true
   port_was_free m a k [] h e g = absurd (clash e)
     where
       clash : None ≡ Some k → ⊥
       clash i = cc
-  port_was_free m a k (l ∷ ls) h e g = at (did p d bits ls l).moves refl (find_ask (work_of_live p d bits ls l).asks m) refl e (λ i. port_was_free m a k ls h.1 i g)
+  port_was_free m a k (l ∷ ls) h e g =
+      at (did p d bits ls l).moves refl (find_ask (work_of_live p d bits ls l).asks m) refl e (λ i. port_was_free m a k ls h.1 i g)
     where
       answered_now : (x : ℕ) → find_ask (work_of_live p d bits ls l).asks m ≡ Some x → (did p d bits ls l).moves ≡ true → is_answered p bits m ≡ true
       answered_now x f i =
-          and_left (is_answered p bits m) _ (subst (λ o. (is_none o || (is_answered p bits m && list_all (λ (o : Derived.Act). not (awaits_mem o.before.awaits m) || o.moves) (dacts p d bits ls))) ≡ true) g
-          (found_test (port_free p d bits (dacts p d bits ls)) (work_of_live p d bits ls l).asks m x (subst (λ q. list_all (λ q. port_free p d bits (dacts p d bits ls) q.mem) q ≡ true) (asks_are ls l h.0) (ports_were_free ls l h.0 i)) f))
+          and_left (is_answered p bits m) _
+          (subst
+          (λ o. (is_none o || (is_answered p bits m && list_all (λ (o : Derived.Act). not (awaits_mem o.before.awaits m) || o.moves) (dacts p d bits ls)))
+          ≡ true) g
+          (found_test (port_free p d bits (dacts p d bits ls))
+          (work_of_live p d bits ls l).asks m x
+          (subst (λ q. list_all (λ q. port_free p d bits (dacts p d bits ls) q.mem) q ≡ true) (asks_are ls l h.0) (ports_were_free ls l h.0 i)) f))
 
-      at : (b : Bool) → (did p d bits ls l).moves ≡ b → (o : Option ℕ) → find_ask (work_of_live p d bits ls l).asks m ≡ o → cond b (first_of o l.number (asking ls m)) (asking ls m) ≡ Some k
+      at : (b : Bool) → (did p d bits ls l).moves ≡ b → (o : Option ℕ)
+          → find_ask (work_of_live p d bits ls l).asks m ≡ o
+          → cond b (first_of o l.number (asking ls m)) (asking ls m) ≡ Some k
           → (asking ls m ≡ Some k → is_answered p bits m ≡ true) → is_answered p bits m ≡ true
       at true i (Some x) f j r = answered_now x f i
       at true i None f j r = r j
       at false i o f j r = r j
 
   -- who lives on and awaits m
-  pub asker_lives : (m : ℕ) (a : Asker) (sq : Option ℕ) (ls : List Live) → AllKnown p flows st d bits arrays ls → Agrees p d bits sq ls → asking ls m ≡ Some a → (is_kept sq a.number ≡ true) × (has_owner a.number m (go_on p st d bits ls) ≡ true)
+  pub asker_lives : (m : ℕ) (a : Asker) (sq : Option ℕ) (ls : List Live) → AllKnown p flows st d bits arrays ls
+      → Agrees p d bits sq ls → asking ls m ≡ Some a
+      → (is_kept sq a.number ≡ true) × (has_owner a.number m (go_on p st d bits ls) ≡ true)
   asker_lives m a sq [] k g e = absurd (clash e)
     where
       clash : None ≡ Some a → ⊥
       clash i = cc
-  asker_lives m a sq (l ∷ ls) k g e = at (did p d bits ls l).moves refl (find_ask (work_of_live p d bits ls l).asks m) refl e (λ i. later (asker_lives m a sq ls k.1 g.1 i))
+  asker_lives m a sq (l ∷ ls) k g e =
+      at (did p d bits ls l).moves refl (find_ask (work_of_live p d bits ls l).asks m) refl e (λ i. later (asker_lives m a sq ls k.1 g.1 i))
     where
-      later : (is_kept sq a.number ≡ true) × (has_owner a.number m (go_on p st d bits ls) ≡ true) → (is_kept sq a.number ≡ true) × (has_owner a.number m (go_on p st d bits (l ∷ ls)) ≡ true)
+      later : (is_kept sq a.number ≡ true) × (has_owner a.number m (go_on p st d bits ls) ≡ true)
+          → (is_kept sq a.number ≡ true) × (has_owner a.number m (go_on p st d bits (l ∷ ls)) ≡ true)
       later h = (h.0, owner_behind a.number m (if fell p d bits ls then [] else next_live p st d bits ls l) (go_on p st d bits ls) h.1)
 
       stands_firm : (did p d bits ls l).moves ≡ true → fell p d bits ls ≡ false
@@ -282,22 +323,36 @@ module _ (p : Pipe) (flows : Flows p) (st : State) (d : Derived.State) (bits : L
       number_is : (x : ℕ) → Some (record { number = l.number; address = x }) ≡ Some a → l.number ≡ a.number
       number_is x i = cc
 
-      goes : (x : ℕ) → find_ask (work_of_live p d bits ls l).asks m ≡ Some x → (r : Option ℕ) → goes_to (stage_at p l.thread.stage).next (work_of_live p d bits ls l).env ≡ r → has_owner l.number m (moved_live r l (work_of_live p d bits ls l)) ≡ true
+      goes : (x : ℕ) → find_ask (work_of_live p d bits ls l).asks m ≡ Some x → (r : Option ℕ)
+          → goes_to (stage_at p l.thread.stage).next (work_of_live p d bits ls l).env ≡ r
+          → has_owner l.number m (moved_live r l (work_of_live p d bits ls l)) ≡ true
       goes x f None i =
-          absurd (cc (sym (asks_at ls l k.0 m x f) ∙ none_fetches m (in_stage l.thread.stage p.stmts) (flows.fetch_inside l.thread.stage (flows.graph.last l.thread.stage (work_of_live p d bits ls l).env k.0.seated.keeps_on.inside i).0)))
+          absurd
+          (cc
+          (sym (asks_at ls l k.0 m x f)
+          ∙ none_fetches m (in_stage l.thread.stage p.stmts)
+          (flows.fetch_inside l.thread.stage (flows.graph.last l.thread.stage (work_of_live p d bits ls l).env k.0.seated.keeps_on.inside i).0)))
       goes x f (Some q) i = ap₂ (λ b c. (b && c) || false) (eq-eqb _ _ refl) (awaits_found (work_of_live p d bits ls l).asks m ∙ ap is_some f)
 
-      mine : (x : ℕ) → find_ask (work_of_live p d bits ls l).asks m ≡ Some x → (did p d bits ls l).moves ≡ true → l.number ≡ a.number → (is_kept sq a.number ≡ true) × (has_owner a.number m (go_on p st d bits (l ∷ ls)) ≡ true)
+      mine : (x : ℕ) → find_ask (work_of_live p d bits ls l).asks m ≡ Some x → (did p d bits ls l).moves ≡ true
+          → l.number ≡ a.number
+          → (is_kept sq a.number ≡ true) × (has_owner a.number m (go_on p st d bits (l ∷ ls)) ≡ true)
       mine x f i j = (
         ap (is_kept sq) (sym j) ∙ g.0 ∙ ap not (stands_firm i),
         ap (λ b. has_owner a.number m ((if b then [] else next_live p st d bits ls l) ++ go_on p st d bits ls)) (stands_firm i)
             ∙ owner_append a.number m (next_live p st d bits ls l) (go_on p st d bits ls)
             ∙ ap (λ b. b || has_owner a.number m (go_on p st d bits ls))
             (subst (λ n. has_owner n m (next_live p st d bits ls l) ≡ true) j
-            (ap (λ b. has_owner l.number m (cond b (moved_live (goes_to (stage_at p l.thread.stage).next (work_of_live p d bits ls l).env) l (work_of_live p d bits ls l)) (stood p st d bits l ∷ []))) i ∙ goes x f (goes_to (stage_at p l.thread.stage).next (work_of_live p d bits ls l).env) refl)),
+            (ap
+            (λ b. has_owner l.number m
+            (cond b (moved_live (goes_to (stage_at p l.thread.stage).next (work_of_live p d bits ls l).env) l (work_of_live p d bits ls l))
+            (stood p st d bits l ∷ []))) i
+            ∙ goes x f (goes_to (stage_at p l.thread.stage).next (work_of_live p d bits ls l).env) refl)),
       )
 
-      at : (b : Bool) → (did p d bits ls l).moves ≡ b → (o : Option ℕ) → find_ask (work_of_live p d bits ls l).asks m ≡ o → cond b (first_of o l.number (asking ls m)) (asking ls m) ≡ Some a
+      at : (b : Bool) → (did p d bits ls l).moves ≡ b → (o : Option ℕ)
+          → find_ask (work_of_live p d bits ls l).asks m ≡ o
+          → cond b (first_of o l.number (asking ls m)) (asking ls m) ≡ Some a
           → (asking ls m ≡ Some a → (is_kept sq a.number ≡ true) × (has_owner a.number m (go_on p st d bits (l ∷ ls)) ≡ true))
           → (is_kept sq a.number ≡ true) × (has_owner a.number m (go_on p st d bits (l ∷ ls)) ≡ true)
       at true i (Some x) f j r = mine x f i (number_is x j)
@@ -317,7 +372,9 @@ module _ (p : Pipe) (flows : Flows p) (st : State) (d : Derived.State) (bits : L
       at false i = i
 
   -- an owner whose request isn't answered lives on where no squash removes it
-  pub owner_stays : (n m : ℕ) (sq : Option ℕ) (ls : List Live) → AllKnown p flows st d bits arrays ls → Agrees p d bits sq ls → has_owner n m ls ≡ true → is_answered p bits m ≡ false → is_kept sq n ≡ true → has_owner n m (go_on p st d bits ls) ≡ true
+  pub owner_stays : (n m : ℕ) (sq : Option ℕ) (ls : List Live) → AllKnown p flows st d bits arrays ls
+      → Agrees p d bits sq ls → has_owner n m ls ≡ true → is_answered p bits m ≡ false → is_kept sq n ≡ true
+      → has_owner n m (go_on p st d bits ls) ≡ true
   owner_stays n m sq [] k g h e s = absurd (cc h)
   owner_stays n m sq (l ∷ ls) k g h e s = at (l.number == n) refl (awaits_mem l.thread.awaits m) refl h (λ i. owner_stays n m sq ls k.1 g.1 i e s)
     where
@@ -330,10 +387,19 @@ module _ (p : Pipe) (flows : Flows p) (st : State) (d : Derived.State) (bits : L
 
       mine : l.number ≡ n → awaits_mem l.thread.awaits m ≡ true → has_owner n m (go_on p st d bits (l ∷ ls)) ≡ true
       mine i j =
-          ap₂ (λ f b. has_owner n m ((if f then [] else cond b (moved_live (goes_to (stage_at p l.thread.stage).next (work_of_live p d bits ls l).env) l (work_of_live p d bits ls l)) (stood p st d bits l ∷ [])) ++ go_on p st d bits ls)) (firm i (fell p d bits ls) refl) (waits_stand ls l m j e)
+          ap₂
+          (λ f b. has_owner n m
+          ((if f then []
+          else cond b (moved_live (goes_to (stage_at p l.thread.stage).next (work_of_live p d bits ls l).env) l (work_of_live p d bits ls l))
+          (stood p st d bits l ∷ []))
+          ++ go_on p st d bits ls))
+          (firm i (fell p d bits ls) refl) (waits_stand ls l m j e)
           ∙ ap₂ (λ b c. (b && c) || has_owner n m (go_on p st d bits ls)) (eq-eqb _ _ i) (still_awaits p bits l.thread.awaits m j e)
 
-      at : (b : Bool) → (l.number == n) ≡ b → (c : Bool) → awaits_mem l.thread.awaits m ≡ c → ((b && c) || has_owner n m ls) ≡ true → (has_owner n m ls ≡ true → has_owner n m (go_on p st d bits ls) ≡ true) → has_owner n m (go_on p st d bits (l ∷ ls)) ≡ true
+      at : (b : Bool) → (l.number == n) ≡ b → (c : Bool) → awaits_mem l.thread.awaits m ≡ c
+          → ((b && c) || has_owner n m ls) ≡ true
+          → (has_owner n m ls ≡ true → has_owner n m (go_on p st d bits ls) ≡ true)
+          → has_owner n m (go_on p st d bits (l ∷ ls)) ≡ true
       at true i true j q r = mine (eqb-true _ _ i) j
       at true i false j q r = later (r q)
       at false i c j q r = later (r q)
@@ -346,11 +412,13 @@ module _ (p : Pipe) (flows : Flows p) (st : State) (d : Derived.State) (bits : L
   abbrev pub asked_now : List Live → ℕ → Option ℕ
   asked_now ls m = next_ask (address_for (asking ls m)) (is_answered p bits m) (asked_at d m)
 
-  pub matched_next : (m n : ℕ) (c : Option (List ℕ)) (sq : Option ℕ) (ls : List Live) → AllKnown p flows st d bits arrays ls → Agrees p d bits sq ls → Matched (request_of st m) (asked_at d m) m ls
+  pub matched_next : (m n : ℕ) (c : Option (List ℕ)) (sq : Option ℕ) (ls : List Live)
+      → AllKnown p flows st d bits arrays ls → Agrees p d bits sq ls → Matched (request_of st m) (asked_at d m) m ls
       → Matched (request_now sq ls m) (asked_now ls m) m (born_live p n c ++ go_on p st d bits ls)
   matched_next m n c sq ls k g h = at (asking ls m) refl
     where
-      old : (q : Request) → request_of st m ≡ q → Matched q (asked_at d m) m ls → is_answered p bits m ≡ false → Matched (request_left sq q) (asked_at d m) m (born_live p n c ++ go_on p st d bits ls)
+      old : (q : Request) → request_of st m ≡ q → Matched q (asked_at d m) m ls → is_answered p bits m ≡ false
+          → Matched (request_left sq q) (asked_at d m) m (born_live p n c ++ go_on p st d bits ls)
       old NoRequest e h i = h
       old (Orphan a) e h i = h
       old (Owned w a) e h i = by (is_kept sq w) refl
@@ -359,13 +427,17 @@ module _ (p : Pipe) (flows : Flows p) (st : State) (d : Derived.State) (bits : L
           by true j = (h.0, owner_behind w m (born_live p n c) (go_on p st d bits ls) (owner_stays w m sq ls k g h.1 i j))
           by false j = h.0
 
-      at : (r : Option Asker) → asking ls m ≡ r → Matched (request_left sq (owned_by r (if is_answered p bits m then NoRequest else request_of st m))) (next_ask (address_for r) (is_answered p bits m) (asked_at d m)) m (born_live p n c ++ go_on p st d bits ls)
+      at : (r : Option Asker) → asking ls m ≡ r
+          → Matched (request_left sq (owned_by r (if is_answered p bits m then NoRequest else request_of st m)))
+          (next_ask (address_for r) (is_answered p bits m) (asked_at d m)) m (born_live p n c ++ go_on p st d bits ls)
       at (Some a) e =
           let l = asker_lives m a sq ls k g e in
           subst (λ b. Matched (if b then Owned a.number a.address else Orphan a.address) (Some a.address) m (born_live p n c ++ go_on p st d bits ls)) (sym l.0)
           (refl, owner_behind a.number m (born_live p n c) (go_on p st d bits ls) l.1)
       at None e = by (is_answered p bits m) refl
         where
-          by : (b : Bool) → is_answered p bits m ≡ b → Matched (request_left sq (if b then NoRequest else request_of st m)) (if b then None else asked_at d m) m (born_live p n c ++ go_on p st d bits ls)
+          by : (b : Bool) → is_answered p bits m ≡ b
+              → Matched (request_left sq (if b then NoRequest else request_of st m))
+              (if b then None else asked_at d m) m (born_live p n c ++ go_on p st d bits ls)
           by true i = refl
           by false i = old (request_of st m) refl h i

@@ -59,8 +59,11 @@ before_path path s [] = refl
 before_path path s (x ∷ xs) = at (all_hold x.guards path) refl (nat_lt x.stage s) refl (before_path path s xs)
   where
     at : (b : Bool) → all_hold x.guards path ≡ b → (c : Bool) → nat_lt x.stage s ≡ c → stages_before s (onpath path xs) ≡ onpath path (stages_before s xs)
-        → stages_before s (cond b (record x { guards = [] } ∷ onpath path xs) (onpath path xs)) ≡ onpath path (cond c (x ∷ stages_before s xs) (stages_before s xs))
-    at true e true f r = ap₂ (λ t l. cond t (record x { guards = [] } ∷ l) l) f r ∙ sym (ap (λ t. cond t (record x { guards = [] } ∷ onpath path (stages_before s xs)) (onpath path (stages_before s xs))) e)
+        → stages_before s (cond b (record x { guards = [] } ∷ onpath path xs) (onpath path xs))
+        ≡ onpath path (cond c (x ∷ stages_before s xs) (stages_before s xs))
+    at true e true f r =
+        ap₂ (λ t l. cond t (record x { guards = [] } ∷ l) l) f r
+        ∙ sym (ap (λ t. cond t (record x { guards = [] } ∷ onpath path (stages_before s xs)) (onpath path (stages_before s xs))) e)
     at true e false f r = ap₂ (λ t l. cond t (record x { guards = [] } ∷ l) l) f r
     at false e true f r = r ∙ sym (ap (λ t. cond t (record x { guards = [] } ∷ onpath path (stages_before s xs)) (onpath path (stages_before s xs))) e)
     at false e false f r = r
@@ -72,7 +75,9 @@ from_path path s (x ∷ xs) = at (all_hold x.guards path) refl (nat_le s x.stage
   where
     at : (b : Bool) → all_hold x.guards path ≡ b → (c : Bool) → nat_le s x.stage ≡ c → stages_from s (onpath path xs) ≡ onpath path (stages_from s xs)
         → stages_from s (cond b (record x { guards = [] } ∷ onpath path xs) (onpath path xs)) ≡ onpath path (cond c (x ∷ stages_from s xs) (stages_from s xs))
-    at true e true f r = ap₂ (λ t l. cond t (record x { guards = [] } ∷ l) l) f r ∙ sym (ap (λ t. cond t (record x { guards = [] } ∷ onpath path (stages_from s xs)) (onpath path (stages_from s xs))) e)
+    at true e true f r =
+        ap₂ (λ t l. cond t (record x { guards = [] } ∷ l) l) f r
+        ∙ sym (ap (λ t. cond t (record x { guards = [] } ∷ onpath path (stages_from s xs)) (onpath path (stages_from s xs))) e)
     at true e false f r = ap₂ (λ t l. cond t (record x { guards = [] } ∷ l) l) f r
     at false e true f r = r ∙ sym (ap (λ t. cond t (record x { guards = [] } ∷ onpath path (stages_from s xs)) (onpath path (stages_from s xs))) e)
     at false e false f r = r
@@ -81,7 +86,8 @@ before_append : (s : ℕ) (xs ys : List Stmt) → stages_before s (xs ++ ys) ≡
 before_append s [] ys = refl
 before_append s (x ∷ xs) ys = at (nat_lt x.stage s) (before_append s xs ys)
   where
-    at : (b : Bool) → stages_before s (xs ++ ys) ≡ stages_before s xs ++ stages_before s ys → cond b (x ∷ stages_before s (xs ++ ys)) (stages_before s (xs ++ ys)) ≡ cond b (x ∷ stages_before s xs) (stages_before s xs) ++ stages_before s ys
+    at : (b : Bool) → stages_before s (xs ++ ys) ≡ stages_before s xs ++ stages_before s ys
+        → cond b (x ∷ stages_before s (xs ++ ys)) (stages_before s (xs ++ ys)) ≡ cond b (x ∷ stages_before s xs) (stages_before s xs) ++ stages_before s ys
     at true r = ap (λ l. x ∷ l) r
     at false r = r
 
@@ -89,7 +95,8 @@ before_next : (s : ℕ) (xs : List Stmt) → stages_before (suc s) (stages_befor
 before_next s [] = refl
 before_next s (x ∷ xs) = at (nat_lt x.stage s) refl (before_next s xs)
   where
-    at : (b : Bool) → nat_lt x.stage s ≡ b → stages_before (suc s) (stages_before s xs) ≡ stages_before s xs → stages_before (suc s) (cond b (x ∷ stages_before s xs) (stages_before s xs)) ≡ cond b (x ∷ stages_before s xs) (stages_before s xs)
+    at : (b : Bool) → nat_lt x.stage s ≡ b → stages_before (suc s) (stages_before s xs) ≡ stages_before s xs
+        → stages_before (suc s) (cond b (x ∷ stages_before s xs) (stages_before s xs)) ≡ cond b (x ∷ stages_before s xs) (stages_before s xs)
     at true e r = ap₂ (λ t l. cond t (x ∷ l) l) (lt-ltb x.stage (suc s) (let i = ltb-true _ _ e in omega arith)) r
     at false e r = r
 
@@ -168,7 +175,8 @@ same_before : (env env' : List ℕ) (s : ℕ) (xs : List Stmt)
 same_before env env' s [] h = refl
 same_before env env' s (x ∷ xs) h = at (nat_lt x.stage s) refl (same_before env env' s xs h.1)
   where
-    at : (b : Bool) → nat_lt x.stage s ≡ b → onpath env (stages_before s xs) ≡ onpath env' (stages_before s xs) → onpath env (cond b (x ∷ stages_before s xs) (stages_before s xs)) ≡ onpath env' (cond b (x ∷ stages_before s xs) (stages_before s xs))
+    at : (b : Bool) → nat_lt x.stage s ≡ b → onpath env (stages_before s xs) ≡ onpath env' (stages_before s xs)
+        → onpath env (cond b (x ∷ stages_before s xs) (stages_before s xs)) ≡ onpath env' (cond b (x ∷ stages_before s xs) (stages_before s xs))
     at true e r = ap₂ (λ b l. cond b (record x { guards = [] } ∷ l) l) (h.0 (ltb-true _ _ e)) r
     at false e r = r
 
@@ -176,28 +184,41 @@ module _ (p : Pipe) (rules : FlowRules p) where
   steady_rule : (s : ℕ) (env env' : List ℕ) → visits_stage p env s ≡ true → SameBut sets (onpath env' (in_stage s p.stmts)) env env'
       → (onpath env (stages_before s p.stmts) ≡ onpath env' (stages_before s p.stmts)) × (visits_stage p env s ≡ visits_stage p env' s)
   steady_rule s env env' b h = (
-    same_before env env' s p.stmts (all_both (λ z f g. λ low. same_bools (all_hold z.guards env) (all_hold z.guards env') (λ e. agree z low (f e)) (λ e. agree z low (g e))) p.stmts (rules.guards_late env) (rules.guards_late env')),
+    same_before env env' s p.stmts
+        (all_both
+        (λ z f g. λ low. same_bools (all_hold z.guards env) (all_hold z.guards env') (λ e. agree z low (f e)) (λ e. agree z low (g e))) p.stmts
+        (rules.guards_late env)
+        (rules.guards_late env')),
     branch_same (stage_at p s).branch refl,
   )
     where
       keeps : (g : ℕ) → AllOf (λ y. binds_var g y.op ≡ true → y.stage ≡ s → ⊥) p.stmts → slice_index env g ≡ slice_index env' g
       keeps g k = h g (none_onpath (sets g) env' (in_stage s p.stmts) (none_in (sets g) s p.stmts (all_map (λ y f. λ e. f (set_binds g y.op e)) p.stmts k)))
 
-      agree : (z : Stmt) → z.stage < s → AllOf (λ y. binds_guard y.op z.guards ≡ true → DefinedBy y.stage y.op z.stage) p.stmts → all_hold z.guards env ≡ all_hold z.guards env'
+      agree : (z : Stmt) → z.stage < s
+          → AllOf (λ y. binds_guard y.op z.guards ≡ true → DefinedBy y.stage y.op z.stage) p.stmts
+          → all_hold z.guards env ≡ all_hold z.guards env'
       agree z low k = taken_agree env env' z.guards (λ g i. keeps g (all_map (λ y f. λ e j. let d = (f (i y.op e)).0 in absurd (omega arith)) p.stmts k))
 
       -- the fork around it stands before it
       fork_same : (x : Branch) → (stage_at p s).branch ≡ Some x → (n : Next) → (stage_at p x.fork).next ≡ n → on_side n x.first env ≡ on_side n x.first env'
       fork_same x e Ends f = refl
       fork_same x e (Goes to) f = refl
-      fork_same x e (Forks v a c) f = ap (takes_branch x.first) (keeps v (all_map (λ y g. λ i j. let d = (g i).0 in let u = (rules.graph.fork_below s x e).0 in absurd (omega arith)) p.stmts (rules.forks_late x.fork v a c f)))
+      fork_same x e (Forks v a c) f =
+          ap (takes_branch x.first)
+          (keeps v
+          (all_map
+          (λ y g. λ i j. let d = (g i).0 in let u = (rules.graph.fork_below s x e).0 in absurd (omega arith)) p.stmts
+          (rules.forks_late x.fork v a c f)))
 
       branch_same : (c : Option Branch) → (stage_at p s).branch ≡ c → visits_stage p env s ≡ visits_stage p env' s
       branch_same None e = ap (λ c. comes_by p env c) e ∙ sym (ap (λ c. comes_by p env' c) e)
       branch_same (Some x) e = ap (λ c. comes_by p env c) e ∙ fork_same x e (stage_at p x.fork).next refl ∙ sym (ap (λ c. comes_by p env' c) e)
 
-  settled_rule : (s : ℕ) (env env' : List ℕ) → s < length p.stages → visits_stage p env' s ≡ true → SameBut is_fetch_of (onpath env' (in_stage s p.stmts)) env env'
-      → (onpath env (stages_before (next_of p s env') p.stmts) ≡ onpath env' (stages_before (next_of p s env') p.stmts)) × (visits_stage p env (next_of p s env') ≡ visits_stage p env' (next_of p s env'))
+  settled_rule : (s : ℕ) (env env' : List ℕ) → s < length p.stages → visits_stage p env' s ≡ true
+      → SameBut is_fetch_of (onpath env' (in_stage s p.stmts)) env env'
+      → (onpath env (stages_before (next_of p s env') p.stmts) ≡ onpath env' (stages_before (next_of p s env') p.stmts))
+      × (visits_stage p env (next_of p s env') ≡ visits_stage p env' (next_of p s env'))
   settled_rule s env env' low b h = (
     same_before env env' (next_of p s env') p.stmts
         (all_both (λ z f g. λ i. same_bools (all_hold z.guards env) (all_hold z.guards env') (f i) (g i)) p.stmts one two),
@@ -205,9 +226,14 @@ module _ (p : Pipe) (rules : FlowRules p) where
   )
     where
       keeps : (g : ℕ) → AllOf (λ y. binds_var g y.op ≡ true → is_fetch y.op ≡ true → y.stage ≡ s → ⊥) p.stmts → slice_index env g ≡ slice_index env' g
-      keeps g k = h g (none_onpath (is_fetch_of g) env' (in_stage s p.stmts) (none_in (is_fetch_of g) s p.stmts (all_map (λ y f. λ e. f (fetch_binds g y.op e).0 (fetch_binds g y.op e).1) p.stmts k)))
+      keeps g k =
+          h g
+          (none_onpath (is_fetch_of g) env' (in_stage s p.stmts)
+          (none_in (is_fetch_of g) s p.stmts (all_map (λ y f. λ e. f (fetch_binds g y.op e).0 (fetch_binds g y.op e).1) p.stmts k)))
 
-      agree : (z : Stmt) (path : List ℕ) → next_of p s path ≡ next_of p s env' → z.stage < next_of p s env' → AllOf (λ y. binds_guard y.op z.guards ≡ true → DefinedBy y.stage y.op z.stage) p.stmts → (z.stage ≤ s) ⊎ (next_of p s path ≤ z.stage) → all_hold z.guards env ≡ all_hold z.guards env'
+      agree : (z : Stmt) (path : List ℕ) → next_of p s path ≡ next_of p s env' → z.stage < next_of p s env'
+          → AllOf (λ y. binds_guard y.op z.guards ≡ true → DefinedBy y.stage y.op z.stage) p.stmts
+          → (z.stage ≤ s) ⊎ (next_of p s path ≤ z.stage) → all_hold z.guards env ≡ all_hold z.guards env'
       agree z path same i k w = taken_agree env env' z.guards (λ g j. keeps g (all_map (λ y f. λ e u v. absurd (apart y ((f (j y.op e)).1 u) v w)) p.stmts k))
         where
           apart : (y : Stmt) → y.stage < z.stage → y.stage ≡ s → (z.stage ≤ s) ⊎ (next_of p s path ≤ z.stage) → ⊥
@@ -245,18 +271,24 @@ module _ (p : Pipe) (rules : FlowRules p) where
           ∙ sym (ap (λ m. stage_or (length p.stages) (goes_to m env')) e)
 
       one : AllOf (λ z. z.stage < next_of p s env' → all_hold z.guards env ≡ true → all_hold z.guards env ≡ all_hold z.guards env') p.stmts
-      one = all_both (λ z k l. λ i e. agree z env (next_same (stage_at p s).next refl) i (k e) (l e)) p.stmts (rules.guards_late env) (rules.on_stages env s low (branch_at s (le_refl s) ∙ b))
+      one =
+          all_both (λ z k l. λ i e. agree z env (next_same (stage_at p s).next refl) i (k e) (l e)) p.stmts (rules.guards_late env)
+          (rules.on_stages env s low (branch_at s (le_refl s) ∙ b))
 
       two : AllOf (λ z. z.stage < next_of p s env' → all_hold z.guards env' ≡ true → all_hold z.guards env ≡ all_hold z.guards env') p.stmts
       two = all_both (λ z k l. λ i e. agree z env' refl i (k e) (l e)) p.stmts (rules.guards_late env') (rules.on_stages env' s low b)
 
       next_branch : (r : Option ℕ) → goes_to (stage_at p s).next env' ≡ r → visits_stage p env (next_of p s env') ≡ visits_stage p env' (next_of p s env')
-      next_branch None e = subst (λ n. visits_stage p env n ≡ visits_stage p env' n) (sym (ap (stage_or (length p.stages)) e)) (past (stage_at p (length p.stages)).branch refl)
+      next_branch None e =
+          subst (λ n. visits_stage p env n ≡ visits_stage p env' n) (sym (ap (stage_or (length p.stages)) e)) (past (stage_at p (length p.stages)).branch refl)
         where
           past : (c : Option Branch) → (stage_at p (length p.stages)).branch ≡ c → visits_stage p env (length p.stages) ≡ visits_stage p env' (length p.stages)
           past None i = branch_none (length p.stages) i
-          past (Some x) i = branch_some (length p.stages) x i (let u = (rules.graph.fork_below (length p.stages) x i).0 in let v = (rules.graph.last s env' low e).0 in omega arith)
-      next_branch (Some q) e = subst (λ n. visits_stage p env n ≡ visits_stage p env' n) (sym (ap (stage_or (length p.stages)) e)) (by (stage_at p q).branch refl)
+          past (Some x) i =
+              branch_some (length p.stages) x i
+              (let u = (rules.graph.fork_below (length p.stages) x i).0 in let v = (rules.graph.last s env' low e).0 in omega arith)
+      next_branch (Some q) e =
+          subst (λ n. visits_stage p env n ≡ visits_stage p env' n) (sym (ap (stage_or (length p.stages)) e)) (by (stage_at p q).branch refl)
         where
           by : (c : Option Branch) → (stage_at p q).branch ≡ c → visits_stage p env q ≡ visits_stage p env' q
           by None i = branch_none q i
@@ -267,7 +299,8 @@ module _ (p : Pipe) (rules : FlowRules p) where
               from (inr j) = let u = j.0 in omega arith
 
   -- the statements up to the next stage
-  next_rule : (path : List ℕ) (s : ℕ) → s < length p.stages → visits_stage p path s ≡ true → onpath path (stages_before (next_of p s path) p.stmts) ≡ onpath path (stages_before s p.stmts) ++ onpath path (in_stage s p.stmts)
+  next_rule : (path : List ℕ) (s : ℕ) → s < length p.stages → visits_stage p path s ≡ true
+      → onpath path (stages_before (next_of p s path) p.stmts) ≡ onpath path (stages_before s p.stmts) ++ onpath path (in_stage s p.stmts)
   next_rule path s low b = up_to path s (next_of p s path) p.stmts (up (goes_to (stage_at p s).next path) refl) (rules.on_stages path s low b) ∙ pieces
     where
       whole : onpath path p.stmts ≡ stages_before s (onpath path p.stmts) ++ stages_from s (onpath path p.stmts)
@@ -275,8 +308,10 @@ module _ (p : Pipe) (rules : FlowRules p) where
 
       pieces : onpath path (stages_before (suc s) p.stmts) ≡ onpath path (stages_before s p.stmts) ++ onpath path (in_stage s p.stmts)
       pieces =
-          sym (before_path path (suc s) p.stmts) ∙ ap (stages_before (suc s)) whole ∙ before_append (suc s) (stages_before s (onpath path p.stmts)) (stages_from s (onpath path p.stmts))
-          ∙ ap₂ (λ a b. a ++ b) (before_next s (onpath path p.stmts) ∙ before_path path s p.stmts) (from_next s (onpath path p.stmts) ∙ stage_path path s p.stmts)
+          sym (before_path path (suc s) p.stmts) ∙ ap (stages_before (suc s)) whole
+          ∙ before_append (suc s) (stages_before s (onpath path p.stmts)) (stages_from s (onpath path p.stmts))
+          ∙ ap₂ (λ a b. a ++ b) (before_next s (onpath path p.stmts) ∙ before_path path s p.stmts)
+          (from_next s (onpath path p.stmts) ∙ stage_path path s p.stmts)
 
       up : (r : Option ℕ) → goes_to (stage_at p s).next path ≡ r → s < next_of p s path
       up None e = subst (λ n. s < n) (sym (ap (stage_or (length p.stages)) e)) low

@@ -146,8 +146,10 @@ acts_slots p st bits [] s (l ∷ ls) r = absurd (let h = r.0 in let k = r.1 in o
 acts_slots p st bits (x ∷ xs) s [] r = acts_slots p st bits xs (suc s) [] tt
 acts_slots p st bits (x ∷ xs) s (l ∷ ls) r =
     at (l.thread.stage == s) refl
-    (λ e. acts_slots p st bits xs (suc s) ls (subst (λ n. Rises (suc n) (suc s + length xs) ls) e (rises_hi (suc l.thread.stage) _ _ ls (add-suc s (length xs) ∙ sym (suc-add s (length xs))) r.2)))
-    (λ e. acts_slots p st bits xs (suc s) (l ∷ ls) (rises_hi (suc s) _ _ (l ∷ ls) (add-suc s (length xs) ∙ sym (suc-add s (length xs))) (rises_from s (suc s) _ (l ∷ ls) r e refl)))
+    (λ e. acts_slots p st bits xs (suc s) ls
+    (subst (λ n. Rises (suc n) (suc s + length xs) ls) e (rises_hi (suc l.thread.stage) _ _ ls (add-suc s (length xs) ∙ sym (suc-add s (length xs))) r.2)))
+    (λ e. acts_slots p st bits xs (suc s) (l ∷ ls)
+    (rises_hi (suc s) _ _ (l ∷ ls) (add-suc s (length xs) ∙ sym (suc-add s (length xs))) (rises_from s (suc s) _ (l ∷ ls) r e refl)))
   where
     at : (b : Bool) → (l.thread.stage == s) ≡ b
         → (l.thread.stage ≡ s → Moves.acts p st bits (suc s) (for_stages (λ q. find q ls) (suc s) xs) ≡ sacts p st bits ls)
@@ -155,11 +157,14 @@ acts_slots p st bits (x ∷ xs) s (l ∷ ls) r =
         → Moves.acts p st bits s (find s (l ∷ ls) ∷ for_stages (λ q. find q (l ∷ ls)) (suc s) xs) ≡ sacts p st bits (l ∷ ls)
     at true e here later =
         ap₂ (λ b stages. Moves.acts p st bits s (cond b (Some (seat l)) (find s ls) ∷ stages)) e
-        (stages_same _ _ (suc s) xs (λ q k. ap (λ b. cond b (Some (seat l)) (find q ls)) (ne_eqb l.thread.stage q (λ i. absurd (let j = eqb-true l.thread.stage s e in omega arith)))))
-        ∙ ap₂ (λ n older. Moves.act p st bits older n (with_answers p st bits (seat l)) ∷ older) (sym (eqb-true l.thread.stage s e)) (here (eqb-true l.thread.stage s e))
+        (stages_same _ _ (suc s) xs
+        (λ q k. ap (λ b. cond b (Some (seat l)) (find q ls)) (ne_eqb l.thread.stage q (λ i. absurd (let j = eqb-true l.thread.stage s e in omega arith)))))
+        ∙ ap₂ (λ n older. Moves.act p st bits older n (with_answers p st bits (seat l)) ∷ older)
+        (sym (eqb-true l.thread.stage s e)) (here (eqb-true l.thread.stage s e))
     at false e here later =
         let none : find s (l ∷ ls) ≡ None =
-        ap (λ b. cond b (Some (seat l)) (find s ls)) e ∙ find_none (suc l.thread.stage) _ s ls r.2 (let j = r.0 in let k = eqb-false l.thread.stage s e in omega arith) in
+        ap (λ b. cond b (Some (seat l)) (find s ls)) e
+        ∙ find_none (suc l.thread.stage) _ s ls r.2 (let j = r.0 in let k = eqb-false l.thread.stage s e in omega arith) in
         ap (λ o. Moves.acts p st bits s (o ∷ for_stages (λ q. find q (l ∷ ls)) (suc s) xs)) none ∙ later none
 
 abbrev onto : {X : Type 0} → List X → List X → List X
@@ -212,7 +217,9 @@ youngest_all m n a (l ∷ ls) h =
 -- a lock's list is as long as writes of its threads are pending
 pub length_pends : (m : ℕ) (ls : List Live) → length (pends m ls) ≡ pending (threads_of ls) m
 length_pends m [] = refl
-length_pends m (l ∷ ls) = length-append (pends m ls) _ ∙ ap₂ (λ a b. a + b) (length_pends m ls) (length_pend m l.number l.thread.entries) ∙ flip (pending (threads_of ls) m) (count_in l.thread.entries m)
+length_pends m (l ∷ ls) =
+    length-append (pends m ls) _ ∙ ap₂ (λ a b. a + b) (length_pends m ls) (length_pend m l.number l.thread.entries)
+    ∙ flip (pending (threads_of ls) m) (count_in l.thread.entries m)
   where
     flip : (a b : ℕ) → a + b ≡ b + a
     flip a b = omega arith

@@ -112,7 +112,8 @@ pub stays_fresh : (m : ℕ) (xs : List Stmt) → uses_ok m Fresh xs ≡ true →
 stays_fresh m [] h k = refl
 stays_fresh m (x ∷ xs) h k =
     ap (λ q. phase_all m q xs) (same x.op (and_left _ _ h) (and_left _ _ k))
-    ∙ stays_fresh m xs (subst (λ q. uses_ok m q xs ≡ true) (same x.op (and_left _ _ h) (and_left _ _ k)) (and_right (use_ok m Fresh x.op) _ h)) (and_right _ _ k)
+    ∙ stays_fresh m xs (subst (λ q. uses_ok m q xs ≡ true) (same x.op (and_left _ _ h) (and_left _ _ k)) (and_right (use_ok m Fresh x.op) _ h))
+    (and_right _ _ k)
   where
     same : (op : Op) → use_ok m Fresh op ≡ true → not (is_reserve m op) ≡ true → next_phase m Fresh op ≡ Fresh
     same (Write n a e) u r = by (n == m) u
@@ -179,10 +180,14 @@ pub held_path : (s : ℕ) (path : List ℕ) (xs : List Stmt) (ls : List HeldLoca
 held_path s path [] ls = refl
 held_path s path (x ∷ xs) ls = at (nat_lt x.stage s) (all_hold x.guards path) refl (held_path s path xs ls) (held_path s path xs (held_after x.op ls))
   where
-    at : (c b : Bool) → all_hold x.guards path ≡ b → held_before s path xs ls ≡ held_ops (onpath path (stages_before s xs)) ls → held_before s path xs (held_after x.op ls) ≡ held_ops (onpath path (stages_before s xs)) (held_after x.op ls)
+    at : (c b : Bool) → all_hold x.guards path ≡ b
+        → held_before s path xs ls ≡ held_ops (onpath path (stages_before s xs)) ls
+        → held_before s path xs (held_after x.op ls) ≡ held_ops (onpath path (stages_before s xs)) (held_after x.op ls)
         → held_before s path xs (if c && b then held_after x.op ls else ls) ≡ held_ops (onpath path (cond c (x ∷ stages_before s xs) (stages_before s xs))) ls
-    at true true e f g = g ∙ sym (ap (λ b. held_ops (cond b (record x { guards = [] } ∷ onpath path (stages_before s xs)) (onpath path (stages_before s xs))) ls) e)
-    at true false e f g = f ∙ sym (ap (λ b. held_ops (cond b (record x { guards = [] } ∷ onpath path (stages_before s xs)) (onpath path (stages_before s xs))) ls) e)
+    at true true e f g =
+        g ∙ sym (ap (λ b. held_ops (cond b (record x { guards = [] } ∷ onpath path (stages_before s xs)) (onpath path (stages_before s xs))) ls) e)
+    at true false e f g =
+        f ∙ sym (ap (λ b. held_ops (cond b (record x { guards = [] } ∷ onpath path (stages_before s xs)) (onpath path (stages_before s xs))) ls) e)
     at false b e f g = f
 
 held_op : (o : Around) (op : Op) (w : Work) → places (work_after o op w).entries ≡ held_after op (places w.entries)
@@ -201,7 +206,9 @@ pub held_work : (path : List ℕ) (o : Around) (xs : List Stmt) (w : Work) → F
 held_work path o [] w f = refl
 held_work path o (x ∷ xs) w f = held_work path o xs (step o x w) f.1 ∙ at (all_hold x.guards w.env) (all_hold x.guards path) f.0
   where
-    at : (b c : Bool) → b ≡ c → held_ops (onpath path xs) (places (cond b (work_after o x.op w) w).entries) ≡ held_ops (cond c (record x { guards = [] } ∷ onpath path xs) (onpath path xs)) (places w.entries)
+    at : (b c : Bool) → b ≡ c
+        → held_ops (onpath path xs) (places (cond b (work_after o x.op w) w).entries)
+        ≡ held_ops (cond c (record x { guards = [] } ∷ onpath path xs) (onpath path xs)) (places w.entries)
     at true true e = ap (held_ops (onpath path xs)) (held_op o x.op w)
     at true false e = absurd (cc e)
     at false true e = absurd (cc e)

@@ -34,37 +34,60 @@ module _ (o : Around) (read : ℕ → ℕ → ℕ) (block : Blocked → Bool) (r
       → Here o read block room free m n start (next_phase m ph op) (Machine.deeds_after read op d) (work_after o op (work_of o read block room free d es cs))
   step_op (Write j a e) ph d es cs h k g = step_write m n j a (value_of e d.env) ph es (of_mem m cs) _ d.writes _ (j == m) refl k g
   step_op (ReserveWrite j a) ph d es cs h k g = step_reserve m n j a (slice_index d.env a) ph es (of_mem m cs) start d.reserves d.writes _ (j == m) refl k g
-  step_op (Release j a) ph d es cs h k g = step_release m n j a ph es cs _ d.writes d.releases (is_held d.held j a) (ap (λ l. is_held l j a) (sym h) ∙ places_has es j a) (j == m) refl k g
+  step_op (Release j a) ph d es cs h k g =
+      step_release m n j a ph es cs _ d.writes d.releases (is_held d.held j a) (ap (λ l. is_held l j a) (sym h) ∙ places_has es j a) (j == m) refl k g
   step_op (Verify args) ph d es cs h k g = at (same_args (values_of args d.env) d.guess)
     where
-      at : (b : Bool) → Here o read block room free m n start ph (cond b d (record d { child = Some (values_of args d.env); fails = true })) (cond b (work_of o read block room free d es cs) (record (work_of o read block room free d es cs) { child = Some (values_of args d.env); fails = true }))
+      at : (b : Bool)
+          → Here o read block room free m n start ph (cond b d (record d { child = Some (values_of args d.env); fails = true }))
+          (cond b (work_of o read block room free d es cs)
+          (record (work_of o read block room free d es cs) { child = Some (values_of args d.env); fails = true }))
       at true = g
       at false = g
   step_op _ ph d es cs h k g = g
 
   step_if : (b : Bool) (op : Op) (ph : Phase) (d : Deeds) (es : List Entry) (cs : List Commit) → places es ≡ d.held → (b ≡ true → use_ok m ph op ≡ true)
       → Here o read block room free m n start ph d (work_of o read block room free d es cs)
-      → Here o read block room free m n start (cond b (next_phase m ph op) ph) (cond b (Machine.deeds_after read op d) d) (cond b (work_after o op (work_of o read block room free d es cs)) (work_of o read block room free d es cs))
+      → Here o read block room free m n start (cond b (next_phase m ph op) ph)
+      (cond b (Machine.deeds_after read op d) d)
+      (cond b (work_after o op (work_of o read block room free d es cs)) (work_of o read block room free d es cs))
   step_if true op ph d es cs h k g = step_op op ph d es cs h (k refl) g
   step_if false op ph d es cs h k g = g
 
   -- the statements of a stage
-  steps_all : (path : List ℕ) (xs : List Stmt) (ph : Phase) (d : Deeds) (es : List Entry) (cs : List Commit) → places es ≡ d.held → AllFit o read block room free xs
-      → Fixed path o xs (work_of o read block room free d es cs) → uses_ok m ph (onpath path xs) ≡ true → Here o read block room free m n start ph d (work_of o read block room free d es cs)
-      → Here o read block room free m n start (phase_all m ph (onpath path xs)) (deeds_after_all read xs d) (do_all o xs (work_of o read block room free d es cs))
+  steps_all : (path : List ℕ) (xs : List Stmt) (ph : Phase) (d : Deeds) (es : List Entry) (cs : List Commit)
+      → places es ≡ d.held → AllFit o read block room free xs
+      → Fixed path o xs (work_of o read block room free d es cs) → uses_ok m ph (onpath path xs) ≡ true
+      → Here o read block room free m n start ph d (work_of o read block room free d es cs)
+      → Here o read block room free m n start (phase_all m ph (onpath path xs)) (deeds_after_all read xs d)
+      (do_all o xs (work_of o read block room free d es cs))
   steps_all path [] ph d es cs h f q k g = g
   steps_all path (x ∷ xs) ph d es cs h f q k g =
       let t = told_step o read block room free (all_hold x.guards d.env) x.op d es cs h f.0 in
       let w' : Work = cond (all_hold x.guards d.env) (work_after o x.op (work_of o read block room free d es cs)) (work_of o read block room free d es cs) in
       let ok = allowed (all_hold x.guards d.env) (all_hold x.guards path) q.0 k in
-      let r = steps_all path xs (cond (all_hold x.guards d.env) (next_phase m ph x.op) ph) (if all_hold x.guards d.env then Machine.deeds_after read x.op d else d) w'.entries w'.commits t.held f.1
+      let r =
+      steps_all path xs (cond (all_hold x.guards d.env) (next_phase m ph x.op) ph)
+      (if all_hold x.guards d.env then Machine.deeds_after read x.op d else d) w'.entries w'.commits t.held f.1
       (subst (λ w. Fixed path o xs w) t.is q.1) ok.1
-      (subst (λ w. Here o read block room free m n start (cond (all_hold x.guards d.env) (next_phase m ph x.op) ph) (if all_hold x.guards d.env then Machine.deeds_after read x.op d else d) w) t.is (step_if (all_hold x.guards d.env) x.op ph d es cs h ok.0 g)) in
-      subst (λ u. Here o read block room free m n start u (deeds_after_all read xs (if all_hold x.guards d.env then Machine.deeds_after read x.op d else d)) (do_all o xs w')) ok.2
-      (subst (λ w. Here o read block room free m n start (phase_all m (cond (all_hold x.guards d.env) (next_phase m ph x.op) ph) (onpath path xs)) (deeds_after_all read xs (if all_hold x.guards d.env then Machine.deeds_after read x.op d else d)) (do_all o xs w)) (sym t.is) r)
+      (subst
+      (λ w. Here o read block room free m n start (cond (all_hold x.guards d.env) (next_phase m ph x.op) ph)
+      (if all_hold x.guards d.env then Machine.deeds_after read x.op d else d) w) t.is
+      (step_if (all_hold x.guards d.env) x.op ph d es cs h ok.0 g)) in
+      subst
+      (λ u. Here o read block room free m n start u (deeds_after_all read xs (if all_hold x.guards d.env then Machine.deeds_after read x.op d else d))
+      (do_all o xs w')) ok.2
+      (subst
+      (λ w. Here o read block room free m n start (phase_all m (cond (all_hold x.guards d.env) (next_phase m ph x.op) ph) (onpath path xs))
+      (deeds_after_all read xs (if all_hold x.guards d.env then Machine.deeds_after read x.op d else d))
+      (do_all o xs w))
+      (sym t.is) r)
     where
       allowed : (b c : Bool) → b ≡ c → uses_ok m ph (cond c (record x { guards = [] } ∷ onpath path xs) (onpath path xs)) ≡ true
-          → (b ≡ true → use_ok m ph x.op ≡ true) × (uses_ok m (cond b (next_phase m ph x.op) ph) (onpath path xs) ≡ true) × (phase_all m (cond b (next_phase m ph x.op) ph) (onpath path xs) ≡ phase_all m ph (cond c (record x { guards = [] } ∷ onpath path xs) (onpath path xs)))
+          → (b ≡ true → use_ok m ph x.op ≡ true)
+          × (uses_ok m (cond b (next_phase m ph x.op) ph) (onpath path xs) ≡ true)
+          × (phase_all m (cond b (next_phase m ph x.op) ph) (onpath path xs)
+          ≡ phase_all m ph (cond c (record x { guards = [] } ∷ onpath path xs) (onpath path xs)))
       allowed true true e k = ((λ _. and_left _ _ k), and_right (use_ok m ph x.op) _ k, refl)
       allowed true false e k = absurd (cc e)
       allowed false true e k = absurd (cc e)
@@ -94,7 +117,8 @@ only_sets path o [] w f g h = refl
 only_sets path o (x ∷ xs) w f g h = at (all_hold x.guards w.env) (all_hold x.guards path) f.0 h (λ k. only_sets path o xs (step o x w) f.1 g k)
   where
     at : (b c : Bool) → b ≡ c → none_of (sets g) (cond c (record x { guards = [] } ∷ onpath path xs) (onpath path xs)) ≡ true
-        → (none_of (sets g) (onpath path xs) ≡ true → slice_index (cond b (work_after o x.op w) w).env g ≡ slice_index (do_all o xs (cond b (work_after o x.op w) w)).env g)
+        → (none_of (sets g) (onpath path xs) ≡ true
+        → slice_index (cond b (work_after o x.op w) w).env g ≡ slice_index (do_all o xs (cond b (work_after o x.op w) w)).env g)
         → slice_index w.env g ≡ slice_index (do_all o xs (cond b (work_after o x.op w) w)).env g
     at true true e k r = op_sets g o x.op w (and_left _ _ k) ∙ r (and_right (not (sets g x.op)) _ k)
     at true false e k r = absurd (cc e)
@@ -121,7 +145,8 @@ op_asks g o (DelayedRead x m a) w h = more w.asks
     more (q ∷ qs) = ap (λ b. (q.var == g) || b) (more qs)
 op_asks g o (Verify args) w h = at (same_args (values_of args w.env) w.guess)
   where
-    at : (b : Bool) → awaits_var (awaited_of (cond b w (record w { child = Some (values_of args w.env); fails = true })).asks) g ≡ awaits_var (awaited_of w.asks) g
+    at : (b : Bool)
+        → awaits_var (awaited_of (cond b w (record w { child = Some (values_of args w.env); fails = true })).asks) g ≡ awaits_var (awaited_of w.asks) g
     at true = refl
     at false = refl
 op_asks g o _ w h = refl
@@ -133,7 +158,8 @@ only_asks path o [] w f g h = refl
 only_asks path o (x ∷ xs) w f g h = at (all_hold x.guards w.env) (all_hold x.guards path) f.0 h (λ k. only_asks path o xs (step o x w) f.1 g k)
   where
     at : (b c : Bool) → b ≡ c → none_of (is_fetch_of g) (cond c (record x { guards = [] } ∷ onpath path xs) (onpath path xs)) ≡ true
-        → (none_of (is_fetch_of g) (onpath path xs) ≡ true → awaits_var (awaited_of (do_all o xs (cond b (work_after o x.op w) w)).asks) g ≡ awaits_var (awaited_of (cond b (work_after o x.op w) w).asks) g)
+        → (none_of (is_fetch_of g) (onpath path xs) ≡ true
+        → awaits_var (awaited_of (do_all o xs (cond b (work_after o x.op w) w)).asks) g ≡ awaits_var (awaited_of (cond b (work_after o x.op w) w).asks) g)
         → awaits_var (awaited_of (do_all o xs (cond b (work_after o x.op w) w)).asks) g ≡ awaits_var (awaited_of w.asks) g
     at true true e k r = r (and_right (not (is_fetch_of g x.op)) _ k) ∙ op_asks g o x.op w (and_left _ _ k)
     at true false e k r = absurd (cc e)
@@ -206,7 +232,8 @@ made_op been c o (Call args) w h k = fresh_call c (and_left (not (c && true)) _ 
         clash i = cc
 made_op been c o (SpecCall args) w h k = fresh_call c (and_left (not (c && true)) _ h) k
   where
-    fresh_call : (c : Bool) → not (c && true) ≡ true → Childed been c w → Childed been (c || true) (record w { child = Some (values_of args w.env); guess = values_of args w.env })
+    fresh_call : (c : Bool) → not (c && true) ≡ true → Childed been c w
+        → Childed been (c || true) (record w { child = Some (values_of args w.env); guess = values_of args w.env })
     fresh_call true h k = absurd (cc h)
     fresh_call false h k = record {
       since = λ e. refl;
@@ -219,7 +246,8 @@ made_op been c o (SpecCall args) w h k = fresh_call c (and_left (not (c && true)
         clash i = cc
 made_op been c o (Verify args) w h k = at c (and_right (not (c && false)) _ h) k (same_args (values_of args w.env) w.guess)
   where
-    at : (c : Bool) → (c || not true) ≡ true → Childed been c w → (b : Bool) → Childed been (c || false) (cond b w (record w { child = Some (values_of args w.env); fails = true }))
+    at : (c : Bool) → (c || not true) ≡ true → Childed been c w → (b : Bool)
+        → Childed been (c || false) (cond b w (record w { child = Some (values_of args w.env); fails = true }))
     at false h k b = absurd (cc h)
     at true h k true = k
     at true h k false = record { since = λ e. refl; called_it = λ e. refl; no_second = λ e f. absurd (clash f); squashes = λ e. refl }
@@ -238,7 +266,8 @@ made_all been c path o (x ∷ xs) w f h k =
     at (all_hold x.guards w.env) (all_hold x.guards path) f.0 h (λ c' w' f' h' k'. made_all been c' path o xs w' f' h' k') f.1
   where
     at : (b d : Bool) → b ≡ d → calls_ok c (cond d (record x { guards = [] } ∷ onpath path xs) (onpath path xs)) ≡ true
-        → ((c' : Bool) (w' : Work) → Fixed path o xs w' → calls_ok c' (onpath path xs) ≡ true → Childed been c' w' → Childed been (called c' (onpath path xs)) (do_all o xs w'))
+        → ((c' : Bool) (w' : Work) → Fixed path o xs w' → calls_ok c' (onpath path xs) ≡ true → Childed been c' w'
+        → Childed been (called c' (onpath path xs)) (do_all o xs w'))
         → Fixed path o xs (cond b (work_after o x.op w) w)
         → Childed been (called c (cond d (record x { guards = [] } ∷ onpath path xs) (onpath path xs))) (do_all o xs (cond b (work_after o x.op w) w))
     at true true e i r g = r (c || is_call x.op) (work_after o x.op w) g (and_right (call_ok c x.op) _ i) (made_op been c o x.op w (and_left _ _ i) k)
@@ -291,7 +320,8 @@ pub record Keeps (p : Pipe) (env : List ℕ) (t : Derived.Thread) : Type 0 where
   pub held : places t.entries ≡ held_before t.stage env p.stmts []
   pub shape : (m : ℕ) → Shape m (phase_all m Fresh (on_way p env t.stage)) (entries_of m t.entries)
   pub reached : visits_stage p env t.stage ≡ true
-  pub path : (env' : List ℕ) → Unlike t.awaits t.env env' → (on_way p env' t.stage ≡ on_way p env t.stage) × (visits_stage p env' t.stage ≡ visits_stage p env t.stage)
+  pub path : (env' : List ℕ) → Unlike t.awaits t.env env'
+      → (on_way p env' t.stage ≡ on_way p env t.stage) × (visits_stage p env' t.stage ≡ visits_stage p env t.stage)
   pub fetched : AllFetched p t.stage t.awaits
 
 -- whether it made its successor
@@ -304,7 +334,9 @@ still_less : (p : Pipe) (bits : List Bool) (rs : List Awaited) (g : ℕ) → awa
 still_less p bits [] g h = refl
 still_less p bits (r ∷ rs) g h = at (r.var == g) refl h (λ k. still_less p bits rs g k)
   where
-    at : (b : Bool) → (r.var == g) ≡ b → (b || awaits_var rs g) ≡ false → (awaits_var rs g ≡ false → awaits_var (still p bits rs) g ≡ false) → awaits_var (if is_answered p bits r.mem then still p bits rs else r ∷ still p bits rs) g ≡ false
+    at : (b : Bool) → (r.var == g) ≡ b → (b || awaits_var rs g) ≡ false
+        → (awaits_var rs g ≡ false → awaits_var (still p bits rs) g ≡ false)
+        → awaits_var (if is_answered p bits r.mem then still p bits rs else r ∷ still p bits rs) g ≡ false
     at true e k f = absurd (cc k)
     at false e k f = by (is_answered p bits r.mem)
       where
@@ -320,7 +352,8 @@ answers_only p d bits (r ∷ rs) env g h = at (r.var == g) refl h (λ e k. answe
     word : ℕ
     word = Derived.word_of d.arrays r.mem (Derived.asked_at d r.mem)
 
-    at : (b : Bool) → (r.var == g) ≡ b → (b || awaits_var rs g) ≡ false → ((e : List ℕ) → awaits_var rs g ≡ false → slice_index (with_answers p d bits rs e) g ≡ slice_index e g)
+    at : (b : Bool) → (r.var == g) ≡ b → (b || awaits_var rs g) ≡ false
+        → ((e : List ℕ) → awaits_var rs g ≡ false → slice_index (with_answers p d bits rs e) g ≡ slice_index e g)
         → slice_index (with_answers p d bits rs (if is_answered p bits r.mem then slice_set env r.var word else env)) g ≡ slice_index env g
     at true e k f = absurd (cc k)
     at false e k f = f _ k ∙ by (is_answered p bits r.mem)
@@ -380,8 +413,12 @@ module _ (p : Pipe) (flows : Flows p) (env : List ℕ) (t : Derived.Thread) (k :
   pub fixed_here : (o : Around) → Fixed (work_of_stage p o t).env o (in_stage t.stage p.stmts) (start_of t)
   fixed_here o = fixed_to (work_of_stage p o t).env o (in_stage t.stage p.stmts) (start_of t) (fixed_stage t.stage p.stmts flows.fixed_guards) refl
 
-  steady_here : (o : Around) → (on_way p t.env t.stage ≡ on_way p (work_of_stage p o t).env t.stage) × (visits_stage p t.env t.stage ≡ visits_stage p (work_of_stage p o t).env t.stage)
-  steady_here o = flows.steady t.stage t.env (work_of_stage p o t).env (way.1 ∙ k.reached) (only_sets (work_of_stage p o t).env o (in_stage t.stage p.stmts) (start_of t) (fixed_here o))
+  steady_here : (o : Around)
+      → (on_way p t.env t.stage ≡ on_way p (work_of_stage p o t).env t.stage)
+      × (visits_stage p t.env t.stage ≡ visits_stage p (work_of_stage p o t).env t.stage)
+  steady_here o =
+      flows.steady t.stage t.env (work_of_stage p o t).env (way.1 ∙ k.reached)
+      (only_sets (work_of_stage p o t).env o (in_stage t.stage p.stmts) (start_of t) (fixed_here o))
 
   -- its way so far is that of its values at the end of the stage
   pub way_on : (o : Around) → on_way p (work_of_stage p o t).env t.stage ≡ on_way p env t.stage
@@ -390,17 +427,26 @@ module _ (p : Pipe) (flows : Flows p) (env : List ℕ) (t : Derived.Thread) (k :
   reached_on : (o : Around) → visits_stage p (work_of_stage p o t).env t.stage ≡ true
   reached_on o = sym (steady_here o).1 ∙ way.1 ∙ k.reached
 
-  pub way_next : (o : Around) → on_way p (work_of_stage p o t).env (next_of p t.stage (work_of_stage p o t).env) ≡ on_way p env t.stage ++ onpath (work_of_stage p o t).env (in_stage t.stage p.stmts)
-  way_next o = flows.next_piece (work_of_stage p o t).env t.stage k.inside (reached_on o) ∙ ap (λ l. l ++ onpath (work_of_stage p o t).env (in_stage t.stage p.stmts)) (way_on o)
+  pub way_next : (o : Around)
+      → on_way p (work_of_stage p o t).env (next_of p t.stage (work_of_stage p o t).env)
+      ≡ on_way p env t.stage ++ onpath (work_of_stage p o t).env (in_stage t.stage p.stmts)
+  way_next o =
+      flows.next_piece (work_of_stage p o t).env t.stage k.inside (reached_on o)
+      ∙ ap (λ l. l ++ onpath (work_of_stage p o t).env (in_stage t.stage p.stmts)) (way_on o)
 
   -- the lock of m
   uses_way : (path : List ℕ) (s m : ℕ) → uses_ok m Fresh (on_way p path s) ≡ true
-  uses_way path s m = uses_front m (on_way p path s) (onpath path (stages_from s p.stmts)) Fresh (subst (λ l. uses_ok m Fresh l ≡ true) (flows.all_pieces path s) (flows.uses path m))
+  uses_way path s m =
+      uses_front m (on_way p path s)
+      (onpath path (stages_from s p.stmts)) Fresh (subst (λ l. uses_ok m Fresh l ≡ true) (flows.all_pieces path s) (flows.uses path m))
 
   over_at : (path : List ℕ) (s m : ℕ) → commit_stage p m < s → is_over (phase_all m Fresh (on_way p path s)) ≡ true
   over_at path s m h =
-      over_early m (onpath path (stages_from s p.stmts)) _ (none_onpath (is_release m) path (stages_from s p.stmts) (none_from (is_release m) (commit_stage p m) s p.stmts (flows.releases m) h))
-      (subst (λ q. is_over q ≡ true) (ap (phase_all m Fresh) (flows.all_pieces path s) ∙ phase_append m (on_way p path s) (onpath path (stages_from s p.stmts)) Fresh) (flows.over path m))
+      over_early m (onpath path (stages_from s p.stmts)) _
+      (none_onpath (is_release m) path (stages_from s p.stmts) (none_from (is_release m) (commit_stage p m) s p.stmts (flows.releases m) h))
+      (subst (λ q. is_over q ≡ true)
+      (ap (phase_all m Fresh) (flows.all_pieces path s) ∙ phase_append m (on_way p path s) (onpath path (stages_from s p.stmts)) Fresh)
+      (flows.over path m))
 
   over_end : (path : List ℕ) (s m : ℕ) → s ≡ length p.stages → is_over (phase_all m Fresh (on_way p path s)) ≡ true
   over_end path s m e = subst (λ q. is_over q ≡ true) (ap (phase_all m Fresh) (sym (ap (on_way p path) e ∙ flows.whole path))) (flows.over path m)
@@ -410,7 +456,9 @@ module _ (p : Pipe) (flows : Flows p) (env : List ℕ) (t : Derived.Thread) (k :
 
   -- it has no entry of m before the stage of the reserves and after that of the releases
   pub early : (m : ℕ) → t.stage ≤ reserve_stage p m → entries_of m t.entries ≡ []
-  early m h = no_entry m (none_onpath (is_reserve m) env (stages_before t.stage p.stmts) (none_till (is_reserve m) (reserve_stage p m) t.stage p.stmts (flows.reserves m) h))
+  early m h =
+      no_entry m
+      (none_onpath (is_reserve m) env (stages_before t.stage p.stmts) (none_till (is_reserve m) (reserve_stage p m) t.stage p.stmts (flows.reserves m) h))
 
   pub unknown : (m : ℕ) → length p.mems ≤ m → entries_of m t.entries ≡ []
   unknown m h = no_entry m (none_onpath (is_reserve m) env (stages_before t.stage p.stmts) (none_before (is_reserve m) t.stage p.stmts (flows.unreserved m h)))
@@ -419,19 +467,26 @@ module _ (p : Pipe) (flows : Flows p) (env : List ℕ) (t : Derived.Thread) (k :
   late m h = shape_over m _ _ (over_at env t.stage m h) (k.shape m)
 
   -- its work on the entries of m
-  module _ (o : Around) (read : ℕ → ℕ → ℕ) (block : Blocked → Bool) (room : Reserved → Bool) (free : Ask → Bool) (fit : AllFit o read block room free (in_stage t.stage p.stmts)) (m n : ℕ) where
-    here : Here o read block room free m n (pend m n t.entries) (phase_all m Fresh (on_way p (work_of_stage p o t).env (next_of p t.stage (work_of_stage p o t).env))) (deeds_after_all read (in_stage t.stage p.stmts) start_deeds) (work_of_stage p o t)
+  module _ (o : Around) (read : ℕ → ℕ → ℕ) (block : Blocked → Bool) (room : Reserved → Bool) (free : Ask → Bool)
+      (fit : AllFit o read block room free (in_stage t.stage p.stmts)) (m n : ℕ) where
+    here : Here o read block room free m n (pend m n t.entries)
+        (phase_all m Fresh (on_way p (work_of_stage p o t).env (next_of p t.stage (work_of_stage p o t).env)))
+        (deeds_after_all read (in_stage t.stage p.stmts) start_deeds) (work_of_stage p o t)
     here =
         subst (λ q. Here o read block room free m n (pend m n t.entries) q (deeds_after_all read (in_stage t.stage p.stmts) start_deeds) (work_of_stage p o t))
         (sym (ap (phase_all m Fresh) (way_next o) ∙ phase_append m (on_way p env t.stage) _ Fresh))
-        (steps_all o read block room free m n (pend m n t.entries) (work_of_stage p o t).env (in_stage t.stage p.stmts) (phase_all m Fresh (on_way p env t.stage)) start_deeds t.entries [] k.held fit (fixed_here o)
-        (uses_back m (on_way p env t.stage) (onpath (work_of_stage p o t).env (in_stage t.stage p.stmts)) Fresh (subst (λ l. uses_ok m Fresh l ≡ true) (way_next o) (uses_way (work_of_stage p o t).env (next_of p t.stage (work_of_stage p o t).env) m)))
+        (steps_all o read block room free m n (pend m n t.entries) (work_of_stage p o t).env (in_stage t.stage p.stmts)
+        (phase_all m Fresh (on_way p env t.stage)) start_deeds t.entries [] k.held fit (fixed_here o)
+        (uses_back m (on_way p env t.stage)
+        (onpath (work_of_stage p o t).env (in_stage t.stage p.stmts)) Fresh
+        (subst (λ l. uses_ok m Fresh l ≡ true) (way_next o) (uses_way (work_of_stage p o t).env (next_of p t.stage (work_of_stage p o t).env) m)))
         (shape_start m n _ t.entries (k.shape m)))
 
     pub stage_worked : Worked m n (pend m n t.entries) (deeds_after_all read (in_stage t.stage p.stmts) start_deeds) (work_of_stage p o t)
     stage_worked = worked m n _ _ _ _ here
 
-    stage_shape : Shape m (phase_all m Fresh (on_way p (work_of_stage p o t).env (next_of p t.stage (work_of_stage p o t).env))) (entries_of m (work_of_stage p o t).entries)
+    stage_shape : Shape m (phase_all m Fresh (on_way p (work_of_stage p o t).env (next_of p t.stage (work_of_stage p o t).env)))
+        (entries_of m (work_of_stage p o t).entries)
     stage_shape = shape_end m n _ _ _ _ _ _ here
 
     pub ends_empty : next_of p t.stage (work_of_stage p o t).env ≡ length p.stages → entries_of m (work_of_stage p o t).entries ≡ []
@@ -441,12 +496,17 @@ module _ (p : Pipe) (flows : Flows p) (env : List ℕ) (t : Derived.Thread) (k :
     late_empty e = shape_over m _ _ (over_at _ _ m e) stage_shape
 
   -- its successor
-  pub stage_child : (o : Around) → Childed (has_made p env t.stage) (has_made p (work_of_stage p o t).env (next_of p t.stage (work_of_stage p o t).env)) (work_of_stage p o t)
+  pub stage_child : (o : Around)
+      → Childed (has_made p env t.stage) (has_made p (work_of_stage p o t).env (next_of p t.stage (work_of_stage p o t).env)) (work_of_stage p o t)
   stage_child o =
-      subst (λ c. Childed (has_made p env t.stage) c (work_of_stage p o t)) (sym (ap (called false) (way_next o) ∙ called_append false (on_way p env t.stage) _))
+      subst (λ c. Childed (has_made p env t.stage) c (work_of_stage p o t))
+      (sym (ap (called false) (way_next o) ∙ called_append false (on_way p env t.stage) _))
       (made_all (has_made p env t.stage) (has_made p env t.stage) (work_of_stage p o t).env o (in_stage t.stage p.stmts) (start_of t) (fixed_here o)
       (calls_back false (on_way p env t.stage) _ (subst (λ l. calls_ok false l ≡ true) (way_next o)
-      (calls_front false (on_way p (work_of_stage p o t).env (next_of p t.stage (work_of_stage p o t).env)) _ (subst (λ l. calls_ok false l ≡ true) (flows.all_pieces (work_of_stage p o t).env (next_of p t.stage (work_of_stage p o t).env)) (flows.calls (work_of_stage p o t).env)))))
+      (calls_front false (on_way p (work_of_stage p o t).env (next_of p t.stage (work_of_stage p o t).env)) _
+      (subst (λ l. calls_ok false l ≡ true)
+      (flows.all_pieces (work_of_stage p o t).env (next_of p t.stage (work_of_stage p o t).env))
+      (flows.calls (work_of_stage p o t).env)))))
       (record { since = λ e. e; called_it = λ e. absurd (clash e); no_second = λ e f. refl; squashes = λ e. absurd (clash e) }))
     where
       clash : false ≡ true → ⊥
@@ -457,20 +517,46 @@ module _ (p : Pipe) (flows : Flows p) (env : List ℕ) (t : Derived.Thread) (k :
   fetched_asks s q l (x ∷ qs) h = ((s, l, h.0), fetched_asks s q l qs h.1)
 
   -- it keeps to its way in the next stage
-  pub keeps_next : (o : Around) (read : ℕ → ℕ → ℕ) (block : Blocked → Bool) (room : Reserved → Bool) (free : Ask → Bool) → AllFit o read block room free (in_stage t.stage p.stmts) → (q : ℕ) → goes_to (stage_at p t.stage).next (work_of_stage p o t).env ≡ Some q
-      → Keeps p (work_of_stage p o t).env (record { stage = q; env = (work_of_stage p o t).env; entries = (work_of_stage p o t).entries; guess = (work_of_stage p o t).guess; awaits = awaited_of (work_of_stage p o t).asks })
+  pub keeps_next : (o : Around) (read : ℕ → ℕ → ℕ) (block : Blocked → Bool) (room : Reserved → Bool) (free : Ask → Bool)
+      → AllFit o read block room free (in_stage t.stage p.stmts) → (q : ℕ)
+      → goes_to (stage_at p t.stage).next (work_of_stage p o t).env ≡ Some q
+      → Keeps p (work_of_stage p o t).env
+      (record {
+        stage = q;
+        env = (work_of_stage p o t).env;
+        entries = (work_of_stage p o t).entries;
+        guess = (work_of_stage p o t).guess;
+        awaits = awaited_of (work_of_stage p o t).asks;
+      })
   keeps_next o read block room free fit q goes =
-      subst (λ n. Keeps p (work_of_stage p o t).env (record { stage = n; env = (work_of_stage p o t).env; entries = (work_of_stage p o t).entries; guess = (work_of_stage p o t).guess; awaits = awaited_of (work_of_stage p o t).asks })) is
+      subst
+      (λ n. Keeps p (work_of_stage p o t).env
+      (record {
+        stage = n;
+        env = (work_of_stage p o t).env;
+        entries = (work_of_stage p o t).entries;
+        guess = (work_of_stage p o t).guess;
+        awaits = awaited_of (work_of_stage p o t).asks;
+      })) is
       (record {
         inside = subst (λ n. n < length p.stages) (sym is) (flows.graph.up t.stage q leads).1;
         held =
             held_work (work_of_stage p o t).env o (in_stage t.stage p.stmts) (start_of t) (fixed_here o)
             ∙ ap (held_ops (onpath (work_of_stage p o t).env (in_stage t.stage p.stmts))) (k.held ∙ held_path t.stage env p.stmts [])
-            ∙ sym (held_path (next_of p t.stage (work_of_stage p o t).env) (work_of_stage p o t).env p.stmts [] ∙ ap (λ l. held_ops l []) (way_next o) ∙ held_append (on_way p env t.stage) _ []);
+            ∙ sym
+            (held_path (next_of p t.stage (work_of_stage p o t).env) (work_of_stage p o t).env p.stmts []
+            ∙ ap (λ l. held_ops l []) (way_next o) ∙ held_append (on_way p env t.stage) _ []);
         shape = λ m. stage_shape o read block room free fit m 0;
-        reached = subst (λ n. visits_stage p (work_of_stage p o t).env n ≡ true) (sym is) (flows.arrives (work_of_stage p o t).env t.stage q k.inside goes (reached_on o));
-        path = λ env' u. flows.settled t.stage env' (work_of_stage p o t).env k.inside (reached_on o) (λ g h. sym (u g (only_asks (work_of_stage p o t).env o (in_stage t.stage p.stmts) (start_of t) (fixed_here o) g h)));
-        fetched = fetched_asks t.stage (next_of p t.stage (work_of_stage p o t).env) (subst (λ n. Leads p t.stage n) (sym is) leads) (work_of_stage p o t).asks (asks_from (in_stage t.stage p.stmts) o (in_stage t.stage p.stmts) (start_of t) (λ m h. h) tt);
+        reached =
+            subst (λ n. visits_stage p (work_of_stage p o t).env n ≡ true) (sym is)
+            (flows.arrives (work_of_stage p o t).env t.stage q k.inside goes (reached_on o));
+        path =
+            λ env' u. flows.settled t.stage env' (work_of_stage p o t).env k.inside (reached_on o)
+            (λ g h. sym (u g (only_asks (work_of_stage p o t).env o (in_stage t.stage p.stmts) (start_of t) (fixed_here o) g h)));
+        fetched =
+            fetched_asks t.stage (next_of p t.stage (work_of_stage p o t).env)
+            (subst (λ n. Leads p t.stage n) (sym is) leads)
+            (work_of_stage p o t).asks (asks_from (in_stage t.stage p.stmts) o (in_stage t.stage p.stmts) (start_of t) (λ m h. h) tt);
       })
     where
       is : next_of p t.stage (work_of_stage p o t).env ≡ q

@@ -46,7 +46,8 @@ sides p f (l ∷ ls) = sides p f ls ++ side_in f (stage_at p l.thread.stage).bra
 -- the branches inside a fork of two lists of threads are those of the second and then those of the first
 pub sides_append : (p : Pipe) (f : ℕ) (xs ys : List Live) → sides p f (xs ++ ys) ≡ sides p f ys ++ sides p f xs
 sides_append p f [] ys = sym (append-nil (sides p f ys))
-sides_append p f (x ∷ xs) ys = ap (λ l. l ++ side_in f (stage_at p x.thread.stage).branch) (sides_append p f xs ys) ∙ append_assoc (sides p f ys) (sides p f xs) _
+sides_append p f (x ∷ xs) ys =
+    ap (λ l. l ++ side_in f (stage_at p x.thread.stage).branch) (sides_append p f xs ys) ∙ append_assoc (sides p f ys) (sides p f xs) _
 
 -- THE THREADS BY THEIR STAGES
 
@@ -127,12 +128,15 @@ find_place : (q : ℕ) (x : Pair) (ys : List Pair)
 find_place q x [] h = refl
 find_place q x (y ∷ ys) h = at (nat_lt x.live.thread.stage y.live.thread.stage) (find_place q x ys h.1)
   where
-    swap : (b c : Bool) → (y.live.thread.stage == q) ≡ b → (x.live.thread.stage == q) ≡ c → cond b (Some (seat y.live)) (cond c (Some (seat x.live)) (find q (lives_of ys))) ≡ cond c (Some (seat x.live)) (cond b (Some (seat y.live)) (find q (lives_of ys)))
+    swap : (b c : Bool) → (y.live.thread.stage == q) ≡ b → (x.live.thread.stage == q) ≡ c
+        → cond b (Some (seat y.live)) (cond c (Some (seat x.live)) (find q (lives_of ys)))
+        ≡ cond c (Some (seat x.live)) (cond b (Some (seat y.live)) (find q (lives_of ys)))
     swap true true e f = absurd (h.0 (eqb-true _ _ e ∙ sym (eqb-true _ _ f)))
     swap true false e f = refl
     swap false c e f = refl
 
-    at : (b : Bool) → find q (lives_of (place x ys)) ≡ find q (x.live ∷ lives_of ys) → find q (lives_of (cond b (x ∷ y ∷ ys) (y ∷ place x ys))) ≡ find q (x.live ∷ y.live ∷ lives_of ys)
+    at : (b : Bool) → find q (lives_of (place x ys)) ≡ find q (x.live ∷ lives_of ys)
+        → find q (lives_of (cond b (x ∷ y ∷ ys) (y ∷ place x ys))) ≡ find q (x.live ∷ y.live ∷ lives_of ys)
     at true r = refl
     at false r = ap (λ t. cond (y.live.thread.stage == q) (Some (seat y.live)) t) r ∙ swap (y.live.thread.stage == q) (x.live.thread.stage == q) refl refl
 
@@ -143,7 +147,9 @@ rises_place : (lo hi : ℕ) (x : Pair) (ys : List Pair)
 rises_place lo hi x [] a b h r = (a, b, tt)
 rises_place lo hi x (y ∷ ys) a b h r = at (nat_lt x.live.thread.stage y.live.thread.stage) refl (λ i. rises_place (suc y.live.thread.stage) hi x ys i b h.1 r.2)
   where
-    at : (c : Bool) → nat_lt x.live.thread.stage y.live.thread.stage ≡ c → (suc y.live.thread.stage ≤ x.live.thread.stage → Rises (suc y.live.thread.stage) hi (lives_of (place x ys))) → Rises lo hi (lives_of (cond c (x ∷ y ∷ ys) (y ∷ place x ys)))
+    at : (c : Bool) → nat_lt x.live.thread.stage y.live.thread.stage ≡ c
+        → (suc y.live.thread.stage ≤ x.live.thread.stage → Rises (suc y.live.thread.stage) hi (lives_of (place x ys)))
+        → Rises lo hi (lives_of (cond c (x ∷ y ∷ ys) (y ∷ place x ys)))
     at true e f = (a, b, (ltb-true _ _ e, r.1, r.2))
     at false e f = (r.0, r.1, f (more (ltb-false _ _ e) (λ i. h.0 i)))
       where
@@ -156,7 +162,9 @@ apart_of p s b h e = let i : s < b = h.branch (ap (λ n. (stage_at p n).branch) 
 
 aparts : (p : Pipe) (l : Live) (ls : List Live) → Each (λ k. Behind p l.thread.stage k.thread.stage) ls
     → EachPair (λ y. y.live.thread.stage ≡ l.thread.stage → ⊥) (sorted ls)
-aparts p l ls h = sorted_each (λ y. y.live.thread.stage ≡ l.thread.stage → ⊥) ls (pairs_each (λ k. k.thread.stage ≡ l.thread.stage → ⊥) ls (each_map (λ k b. apart_of p l.thread.stage k.thread.stage b) ls h))
+aparts p l ls h =
+    sorted_each (λ y. y.live.thread.stage ≡ l.thread.stage → ⊥) ls
+    (pairs_each (λ k. k.thread.stage ≡ l.thread.stage → ⊥) ls (each_map (λ k b. apart_of p l.thread.stage k.thread.stage b) ls h))
 
 -- who stands in a stage is the same, by stages or by age, where each thread stands behind all older ones
 pub find_sorted : (p : Pipe) (q : ℕ) (ls : List Live) → Ordered p ls → find q (lives_of (sorted ls)) ≡ find q ls
@@ -169,7 +177,8 @@ find_sorted p q (l ∷ ls) o =
 pub rises_sorted : (p : Pipe) (hi : ℕ) (ls : List Live)
     → Each (λ k. k.thread.stage < hi) ls → Ordered p ls → Rises 0 hi (lives_of (sorted ls))
 rises_sorted p hi [] h o = tt
-rises_sorted p hi (l ∷ ls) h o = rises_place 0 hi (record { live = l; older = ls }) (sorted ls) (omega arith) h.0 (aparts p l ls o.0) (rises_sorted p hi ls h.1 o.1)
+rises_sorted p hi (l ∷ ls) h o =
+    rises_place 0 hi (record { live = l; older = ls }) (sorted ls) (omega arith) h.0 (aparts p l ls o.0) (rises_sorted p hi ls h.1 o.1)
 
 -- STATEMENTS OF BRANCHES
 
@@ -234,24 +243,41 @@ view_behind p (y ∷ ys) l older o = view_behind p ys l older o.1
 
 rises_each : (lo hi : ℕ) (xs : List Pair) → Rises lo hi (lives_of xs) → EachPair (λ x. lo ≤ x.live.thread.stage) xs
 rises_each lo hi [] r = tt
-rises_each lo hi (x ∷ xs) r = (r.0, pair_map (λ y h. let i = r.0 in let j : suc x.live.thread.stage ≤ y.live.thread.stage = h in omega arith) xs (rises_each (suc x.live.thread.stage) hi xs r.2))
+rises_each lo hi (x ∷ xs) r = (
+  r.0,
+  pair_map (λ y h. let i = r.0 in let j : suc x.live.thread.stage ≤ y.live.thread.stage = h in omega arith) xs
+      (rises_each (suc x.live.thread.stage) hi xs r.2),
+)
 
 -- the same test of the threads in later stages and of the older ones: a younger one in a later stage, and an older one in an earlier stage, pass it
 pub later_older : (p : Pipe) (h : Pair → Bool) (all ys : List Live) (l : Live) (older : List Live) (later : List Pair) (hi : ℕ)
     → all ≡ ys ++ l ∷ older → Ordered p all → Rises (suc l.thread.stage) hi (lives_of later)
     → ((A : Pair → Type 0) → EachPair A (pairs all) → EachPair A later)
     → ((A : Pair → Type 0) → EachPair A later → EachPair (λ y. suc l.thread.stage ≤ y.live.thread.stage → A y) (pairs all))
-    → EachPair (λ y. (Behind p y.live.thread.stage l.thread.stage → l.thread.stage < y.live.thread.stage → h y ≡ true) × (Behind p l.thread.stage y.live.thread.stage → y.live.thread.stage ≤ l.thread.stage → h y ≡ true)) (pairs all)
+    → EachPair
+    (λ y. (Behind p y.live.thread.stage l.thread.stage → l.thread.stage < y.live.thread.stage → h y ≡ true)
+    × (Behind p l.thread.stage y.live.thread.stage → y.live.thread.stage ≤ l.thread.stage → h y ≡ true))
+    (pairs all)
     → all_pairs h later ≡ all_pairs h (pairs older)
 later_older p h all ys l older later hi is o r up down spec = same_bools _ _ forth back
   where
     o' : Ordered p (ys ++ l ∷ older)
     o' = subst (λ x. Ordered p x) is o
 
-    spec' : EachPair (λ y. (Behind p y.live.thread.stage l.thread.stage → l.thread.stage < y.live.thread.stage → h y ≡ true) × (Behind p l.thread.stage y.live.thread.stage → y.live.thread.stage ≤ l.thread.stage → h y ≡ true)) (pairs (ys ++ l ∷ older))
-    spec' = subst (λ x. EachPair (λ y. (Behind p y.live.thread.stage l.thread.stage → l.thread.stage < y.live.thread.stage → h y ≡ true) × (Behind p l.thread.stage y.live.thread.stage → y.live.thread.stage ≤ l.thread.stage → h y ≡ true)) (pairs x)) is spec
+    spec' : EachPair
+        (λ y. (Behind p y.live.thread.stage l.thread.stage → l.thread.stage < y.live.thread.stage → h y ≡ true)
+        × (Behind p l.thread.stage y.live.thread.stage → y.live.thread.stage ≤ l.thread.stage → h y ≡ true))
+        (pairs (ys ++ l ∷ older))
+    spec' =
+        subst
+        (λ x. EachPair
+        (λ y. (Behind p y.live.thread.stage l.thread.stage → l.thread.stage < y.live.thread.stage → h y ≡ true)
+        × (Behind p l.thread.stage y.live.thread.stage → y.live.thread.stage ≤ l.thread.stage → h y ≡ true))
+        (pairs x)) is spec
 
-    by : (y : Pair) (b : Bool) → nat_le y.live.thread.stage l.thread.stage ≡ b → (suc l.thread.stage ≤ y.live.thread.stage → h y ≡ true) → (y.live.thread.stage ≤ l.thread.stage → h y ≡ true) → h y ≡ true
+    by : (y : Pair) (b : Bool) → nat_le y.live.thread.stage l.thread.stage ≡ b
+        → (suc l.thread.stage ≤ y.live.thread.stage → h y ≡ true) → (y.live.thread.stage ≤ l.thread.stage → h y ≡ true)
+        → h y ≡ true
     by y true e f g = g (leb-true _ _ e)
     by y false e f g = f (leb-false _ _ e)
 
@@ -259,13 +285,17 @@ later_older p h all ys l older later hi is o r up down spec = same_bools _ _ for
     forth e =
         true_pairs h (pairs older)
         (pair_both (λ y f g. by y (nat_le y.live.thread.stage l.thread.stage) refl f g) (pairs older)
-        (view_older (λ y. suc l.thread.stage ≤ y.live.thread.stage → h y ≡ true) ys l older (subst (λ x. EachPair (λ y. suc l.thread.stage ≤ y.live.thread.stage → h y ≡ true) (pairs x)) is (down (λ y. h y ≡ true) (pairs_true h later e))))
+        (view_older (λ y. suc l.thread.stage ≤ y.live.thread.stage → h y ≡ true) ys l older
+        (subst (λ x. EachPair (λ y. suc l.thread.stage ≤ y.live.thread.stage → h y ≡ true) (pairs x)) is (down (λ y. h y ≡ true) (pairs_true h later e))))
         (pair_both (λ y f b. f.1 b) (pairs older) (view_older _ ys l older spec') (view_behind p ys l older o')))
 
     back : all_pairs h (pairs older) ≡ true → all_pairs h later ≡ true
     back e =
         true_pairs h later
         (pair_both (λ y f g. f g) later
-        (up (λ y. suc l.thread.stage ≤ y.live.thread.stage → h y ≡ true) (subst (λ x. EachPair (λ y. suc l.thread.stage ≤ y.live.thread.stage → h y ≡ true) (pairs x)) (sym is)
-        (view_all p (λ y. suc l.thread.stage ≤ y.live.thread.stage → h y ≡ true) ys l older o' (pair_map (λ y f. λ b i. f.0 b i) (pairs (ys ++ l ∷ older)) spec') (λ i. absurd (omega arith)) (pair_map (λ y g. λ i. g) (pairs older) (pairs_true h (pairs older) e)))))
+        (up (λ y. suc l.thread.stage ≤ y.live.thread.stage → h y ≡ true)
+        (subst (λ x. EachPair (λ y. suc l.thread.stage ≤ y.live.thread.stage → h y ≡ true) (pairs x)) (sym is)
+        (view_all p (λ y. suc l.thread.stage ≤ y.live.thread.stage → h y ≡ true) ys l older o'
+        (pair_map (λ y f. λ b i. f.0 b i) (pairs (ys ++ l ∷ older)) spec')
+        (λ i. absurd (omega arith)) (pair_map (λ y g. λ i. g) (pairs older) (pairs_true h (pairs older) e)))))
         (rises_each (suc l.thread.stage) hi later r))

@@ -25,7 +25,10 @@ use Rattle.pdl_word.proofs.Each.{each_append}
 -- nobody stands in stage q where all stand before it
 none_found : (p : Pipe) (q : ℕ) (ls : List Live) → Each (λ k. Behind p q k.thread.stage) ls → find q ls ≡ None
 none_found p q [] h = refl
-none_found p q (l ∷ ls) h = ap (λ b. cond b (Some (seat l)) (find q ls)) (ne_eqb l.thread.stage q (λ e. absurd (let i : q < l.thread.stage = h.0.branch (ap (λ n. (stage_at p n).branch) (sym e)) in omega arith))) ∙ none_found p q ls h.1
+none_found p q (l ∷ ls) h =
+    ap (λ b. cond b (Some (seat l)) (find q ls))
+    (ne_eqb l.thread.stage q (λ e. absurd (let i : q < l.thread.stage = h.0.branch (ap (λ n. (stage_at p n).branch) (sym e)) in omega arith)))
+    ∙ none_found p q ls h.1
 
 -- ORDER, AS THREADS MOVE
 
@@ -39,14 +42,17 @@ module _ (p : Pipe) (g : Ways p) where
 
       from_branch : (x : Branch) → (stage_at p s).branch ≡ Some x → ((stage_at p b).branch ≡ Some x) ⊎ ((b ≡ x.fork) × ((stage_at p b).branch ≡ None)) → s < b'
       from_branch x e (inl i) = let j : s < b = h.branch (e ∙ sym i) in let u = up in omega arith
-      from_branch x e (inr i) = absurd (let below : x.fork < s = (g.fork_below s x e).0 in let same = i.0 in let less : b < b = h.trunk b i.1 (let k = below in omega arith) in omega arith)
+      from_branch x e (inr i) =
+          absurd
+          (let below : x.fork < s = (g.fork_below s x e).0 in let same = i.0 in let less : b < b = h.trunk b i.1 (let k = below in omega arith) in omega arith)
 
       at : (c : Option Branch) → (stage_at p s).branch ≡ c → (stage_at p s).branch ≡ (stage_at p b').branch → s < b'
       at None e i = let j : s < b = h.trunk s e (le_refl s) in let u = up in omega arith
       at (Some x) e i = from_branch x e (g.into b b' x l (sym i ∙ e))
 
   -- the younger one moves on: not into the stage of an older one that stands, nor past one inside the fork that it merges
-  behind_trunk : (s s' b : ℕ) → Leads p s s' → Behind p s b → ((f : ℕ) → (stage_at p s').merges ≡ Some f → is_inside p f b ≡ false) → (stage_at p s').branch ≡ None → s' ≤ b
+  behind_trunk : (s s' b : ℕ) → Leads p s s' → Behind p s b
+      → ((f : ℕ) → (stage_at p s').merges ≡ Some f → is_inside p f b ≡ false) → (stage_at p s').branch ≡ None → s' ≤ b
   behind_trunk s s' b l h clear t = at (nat_lt b s') refl
     where
       at : (c : Bool) → nat_lt b s' ≡ c → s' ≤ b
@@ -60,7 +66,8 @@ module _ (p : Pipe) (g : Ways p) where
       low (inl i) = h.branch (i ∙ sym f)
       low (inr i) = h.trunk s i.1 (le_refl s)
 
-  pub behind_moved : (s s' b : ℕ) → Leads p s s' → Behind p s b → ((f : ℕ) → (stage_at p s').merges ≡ Some f → is_inside p f b ≡ false) → (s' ≡ b → ⊥) → Behind p s' b
+  pub behind_moved : (s s' b : ℕ) → Leads p s s' → Behind p s b
+      → ((f : ℕ) → (stage_at p s').merges ≡ Some f → is_inside p f b ≡ false) → (s' ≡ b → ⊥) → Behind p s' b
   behind_moved s s' b l h clear other = record { trunk = λ r t i. low r t (nat_le r s) refl i; branch = λ e. at (stage_at p s').branch refl e }
     where
       strict : s' ≤ b → s' < b
@@ -81,7 +88,8 @@ module _ (p : Pipe) (g : Ways p) where
       at (Some x) e i = strict (behind_branch s s' b x l h e (sym i ∙ e))
 
   -- both move on
-  pub behind_both : (s s' b b' : ℕ) → Leads p s s' → Leads p b b' → Behind p s b → ((f : ℕ) → (stage_at p s').merges ≡ Some f → is_inside p f b ≡ false) → Behind p s' b'
+  pub behind_both : (s s' b b' : ℕ) → Leads p s s' → Leads p b b' → Behind p s b
+      → ((f : ℕ) → (stage_at p s').merges ≡ Some f → is_inside p f b ≡ false) → Behind p s' b'
   behind_both s s' b b' l m h clear = record { trunk = λ r t i. low r t (nat_le r s) refl i; branch = λ e. at (stage_at p s').branch refl e }
     where
       up : b < b'
@@ -93,12 +101,14 @@ module _ (p : Pipe) (g : Ways p) where
           let same : r ≡ s' = g.jump s s' r l t (leb-false _ _ e) i in
           let goes : s' ≤ b = behind_trunk s s' b l h clear (subst (λ n. (stage_at p n).branch ≡ None) same t) in let u = up in omega arith
 
-      inside : (x : Branch) → (stage_at p s').branch ≡ Some x → (stage_at p b').branch ≡ Some x → ((stage_at p b).branch ≡ Some x) ⊎ ((b ≡ x.fork) × ((stage_at p b).branch ≡ None)) → s' < b'
+      inside : (x : Branch) → (stage_at p s').branch ≡ Some x → (stage_at p b').branch ≡ Some x
+          → ((stage_at p b).branch ≡ Some x) ⊎ ((b ≡ x.fork) × ((stage_at p b).branch ≡ None)) → s' < b'
       inside x e f (inl i) = let j : s' ≤ b = behind_branch s s' b x l h e i in let u = up in omega arith
       inside x e f (inr i) = absurd (from (g.into s s' x l e))
         where
           from : ((stage_at p s).branch ≡ Some x) ⊎ ((s ≡ x.fork) × ((stage_at p s).branch ≡ None)) → ⊥
-          from (inl j) = let below : x.fork < s = (g.fork_below s x j).0 in let same = i.0 in let less : b < b = h.trunk b i.1 (omega arith) in absurd (omega arith)
+          from (inl j) = let below : x.fork < s = (g.fork_below s x j).0 in let same = i.0 in
+              let less : b < b = h.trunk b i.1 (omega arith) in absurd (omega arith)
           from (inr j) = let same = i.0 in let also = j.0 in let less : s < b = h.trunk s j.1 (le_refl s) in absurd (omega arith)
 
       at : (c : Option Branch) → (stage_at p s').branch ≡ c → (stage_at p s').branch ≡ (stage_at p b').branch → s' < b'
@@ -110,15 +120,22 @@ module _ (p : Pipe) (flows : Flows p) where
     -- what holds of a thread where it stands and where it goes, holds of it after the cycle
     pub each_next : (A : Live → Type 0) (ls : List Live) (l : Live) → Known p flows st d bits arrays ls l
         → ((did p d bits ls l).moves ≡ false → A (stood p st d bits l))
-        → ((did p d bits ls l).moves ≡ true → (q : ℕ) → goes_to (stage_at p l.thread.stage).next (work_of_live p d bits ls l).env ≡ Some q → A (moved_one q l (work_of_live p d bits ls l)))
+        → ((did p d bits ls l).moves ≡ true → (q : ℕ)
+        → goes_to (stage_at p l.thread.stage).next (work_of_live p d bits ls l).env ≡ Some q
+        → A (moved_one q l (work_of_live p d bits ls l)))
         → Each A (next_live p st d bits ls l)
     each_next A ls l k f g = at (did p d bits ls l).moves refl
       where
-        out : (did p d bits ls l).moves ≡ true → (r : Option ℕ) → goes_to (stage_at p l.thread.stage).next (work_of_live p d bits ls l).env ≡ r → Each A (moved_live r l (work_of_live p d bits ls l))
+        out : (did p d bits ls l).moves ≡ true → (r : Option ℕ)
+            → goes_to (stage_at p l.thread.stage).next (work_of_live p d bits ls l).env ≡ r
+            → Each A (moved_live r l (work_of_live p d bits ls l))
         out e None i = tt
         out e (Some q) i = (g e q i, tt)
 
-        at : (b : Bool) → (did p d bits ls l).moves ≡ b → Each A (cond b (moved_live (goes_to (stage_at p l.thread.stage).next (work_of_live p d bits ls l).env) l (work_of_live p d bits ls l)) (stood p st d bits l ∷ []))
+        at : (b : Bool) → (did p d bits ls l).moves ≡ b
+            → Each A
+            (cond b (moved_live (goes_to (stage_at p l.thread.stage).next (work_of_live p d bits ls l).env) l (work_of_live p d bits ls l))
+            (stood p st d bits l ∷ []))
         at true e = out e (goes_to (stage_at p l.thread.stage).next (work_of_live p d bits ls l).env) refl
         at false e = (f e, tt)
 
@@ -129,7 +146,8 @@ module _ (p : Pipe) (flows : Flows p) where
 
     -- ORDER
 
-    pub leads_of : (ls : List Live) (l : Live) → Known p flows st d bits arrays ls l → (q : ℕ) → goes_to (stage_at p l.thread.stage).next (work_of_live p d bits ls l).env ≡ Some q → Leads p l.thread.stage q
+    pub leads_of : (ls : List Live) (l : Live) → Known p flows st d bits arrays ls l → (q : ℕ)
+        → goes_to (stage_at p l.thread.stage).next (work_of_live p d bits ls l).env ≡ Some q → Leads p l.thread.stage q
     leads_of ls l k q i = ((work_of_live p d bits ls l).env, i, k.seated.keeps_on.inside)
 
     -- what each thread becomes
@@ -141,18 +159,21 @@ module _ (p : Pipe) (flows : Flows p) where
     becomes_on A (l ∷ ls) h = each_on A (fell p d bits ls) (next_live p st d bits ls l) (go_on p st d bits ls) h.0 (becomes_on A ls h.1)
 
     -- behind one that stays
-    pub become_stay : (s : ℕ) (ls : List Live) → AllKnown p flows st d bits arrays ls → Each (λ k. Behind p s k.thread.stage) ls → Becomes (λ k. Behind p s k.thread.stage) ls
+    pub become_stay : (s : ℕ) (ls : List Live) → AllKnown p flows st d bits arrays ls
+        → Each (λ k. Behind p s k.thread.stage) ls → Becomes (λ k. Behind p s k.thread.stage) ls
     become_stay s [] k h = tt
     become_stay s (l ∷ ls) k h = (
       each_next (λ k. Behind p s k.thread.stage) ls l k.0 (λ e. h.0) (λ e q i. behind_later p flows.graph s l.thread.stage q (leads_of ls l k.0 q i) h.0),
       become_stay s ls k.1 h.1,
     )
 
-    pub behind_stay : (s : ℕ) (ls : List Live) → AllKnown p flows st d bits arrays ls → Each (λ k. Behind p s k.thread.stage) ls → Each (λ k. Behind p s k.thread.stage) (go_on p st d bits ls)
+    pub behind_stay : (s : ℕ) (ls : List Live) → AllKnown p flows st d bits arrays ls
+        → Each (λ k. Behind p s k.thread.stage) ls → Each (λ k. Behind p s k.thread.stage) (go_on p st d bits ls)
     behind_stay s ls k h = becomes_on (λ k. Behind p s k.thread.stage) ls (become_stay s ls k h)
 
     -- behind one that moves
-    pub become_move : (s s' : ℕ) → Leads p s s' → (ls : List Live) → AllKnown p flows st d bits arrays ls → Each (λ k. Behind p s k.thread.stage) ls → Derived.can_enter p (dacts p d bits ls) (Some s') ≡ true
+    pub become_move : (s s' : ℕ) → Leads p s s' → (ls : List Live) → AllKnown p flows st d bits arrays ls
+        → Each (λ k. Behind p s k.thread.stage) ls → Derived.can_enter p (dacts p d bits ls) (Some s') ≡ true
         → Becomes (λ k. Behind p s' k.thread.stage) ls
     become_move s s' m [] k h e = tt
     become_move s s' m (l ∷ ls) k h e = (
@@ -172,27 +193,36 @@ module _ (p : Pipe) (flows : Flows p) where
         fork_part = fork_of_enter (did p d bits ls l ∷ dacts p d bits ls) e
           where
             fork_of_enter : (os : List Derived.Act) → Derived.can_enter p os (Some s') ≡ true → Derived.fork_clear p os (stage_at p s').merges ≡ true
-            fork_of_enter os f = and_right (list_all (λ (o : Derived.Act). not (o.before.stage == s') || o.moves) os) (Derived.fork_clear p os (stage_at p s').merges) f
+            fork_of_enter os f =
+                and_right (list_all (λ (o : Derived.Act). not (o.before.stage == s') || o.moves) os) (Derived.fork_clear p os (stage_at p s').merges) f
 
         clear : (f : ℕ) → (stage_at p s').merges ≡ Some f → is_inside p f l.thread.stage ≡ false
-        clear f i = off (is_inside p f l.thread.stage) (and_left _ _ (subst (λ r. Derived.fork_clear p (did p d bits ls l ∷ dacts p d bits ls) r ≡ true) i fork_part))
+        clear f i =
+            off (is_inside p f l.thread.stage) (and_left _ _ (subst (λ r. Derived.fork_clear p (did p d bits ls l ∷ dacts p d bits ls) r ≡ true) i fork_part))
           where
             off : (b : Bool) → not b ≡ true → b ≡ false
             off true u = absurd (cc u)
             off false u = refl
 
         rest : Derived.can_enter p (dacts p d bits ls) (Some s') ≡ true
-        rest = ap₂ (λ a b. a && b) (and_right (not (l.thread.stage == s') || (did p d bits ls l).moves) (list_all (λ (o : Derived.Act). not (o.before.stage == s') || o.moves) (dacts p d bits ls)) (and_left _ _ e)) (tail (stage_at p s').merges fork_part)
+        rest =
+            ap₂ (λ a b. a && b)
+            (and_right (not (l.thread.stage == s') || (did p d bits ls l).moves)
+            (list_all (λ (o : Derived.Act). not (o.before.stage == s') || o.moves) (dacts p d bits ls))
+            (and_left _ _ e))
+            (tail (stage_at p s').merges fork_part)
           where
             tail : (r : Option ℕ) → Derived.fork_clear p (did p d bits ls l ∷ dacts p d bits ls) r ≡ true → Derived.fork_clear p (dacts p d bits ls) r ≡ true
             tail None f = refl
             tail (Some f) g = and_right _ _ g
 
-    behind_move : (s s' : ℕ) → Leads p s s' → (ls : List Live) → AllKnown p flows st d bits arrays ls → Each (λ k. Behind p s k.thread.stage) ls → Derived.can_enter p (dacts p d bits ls) (Some s') ≡ true
+    behind_move : (s s' : ℕ) → Leads p s s' → (ls : List Live) → AllKnown p flows st d bits arrays ls
+        → Each (λ k. Behind p s k.thread.stage) ls → Derived.can_enter p (dacts p d bits ls) (Some s') ≡ true
         → Each (λ k. Behind p s' k.thread.stage) (go_on p st d bits ls)
     behind_move s s' m ls k h e = becomes_on (λ k. Behind p s' k.thread.stage) ls (become_move s s' m ls k h e)
 
-    pub enters_here : (ls : List Live) (l : Live) → (did p d bits ls l).moves ≡ true → Derived.can_enter p (dacts p d bits ls) (goes_to (stage_at p l.thread.stage).next (work_of_live p d bits ls l).env) ≡ true
+    pub enters_here : (ls : List Live) (l : Live) → (did p d bits ls l).moves ≡ true
+        → Derived.can_enter p (dacts p d bits ls) (goes_to (stage_at p l.thread.stage).next (work_of_live p d bits ls l).env) ≡ true
     enters_here ls l e = and_right _ _ e
 
     -- the threads that live on stand in age order
@@ -200,18 +230,31 @@ module _ (p : Pipe) (flows : Flows p) where
     ordered_on [] k o = tt
     ordered_on (l ∷ ls) k o = at (fell p d bits ls) (did p d bits ls l).moves refl (ordered_on ls k.1 o.1)
       where
-        out : (did p d bits ls l).moves ≡ true → (r : Option ℕ) → goes_to (stage_at p l.thread.stage).next (work_of_live p d bits ls l).env ≡ r → Ordered p (go_on p st d bits ls) → Ordered p (moved_live r l (work_of_live p d bits ls l) ++ go_on p st d bits ls)
+        out : (did p d bits ls l).moves ≡ true → (r : Option ℕ)
+            → goes_to (stage_at p l.thread.stage).next (work_of_live p d bits ls l).env ≡ r
+            → Ordered p (go_on p st d bits ls)
+            → Ordered p (moved_live r l (work_of_live p d bits ls l) ++ go_on p st d bits ls)
         out e None i r = r
-        out e (Some q) i r = (behind_move l.thread.stage q (leads_of ls l k.0 q i) ls k.1 o.0 (subst (λ r. Derived.can_enter p (dacts p d bits ls) r ≡ true) i (enters_here ls l e)), r)
+        out e (Some q) i r = (
+          behind_move l.thread.stage q (leads_of ls l k.0 q i) ls k.1 o.0
+              (subst (λ r. Derived.can_enter p (dacts p d bits ls) r ≡ true) i (enters_here ls l e)),
+          r,
+        )
 
         at : (f b : Bool) → (did p d bits ls l).moves ≡ b → Ordered p (go_on p st d bits ls)
-            → Ordered p ((if f then [] else cond b (moved_live (goes_to (stage_at p l.thread.stage).next (work_of_live p d bits ls l).env) l (work_of_live p d bits ls l)) (stood p st d bits l ∷ [])) ++ go_on p st d bits ls)
+            → Ordered p
+            ((if f then []
+            else cond b (moved_live (goes_to (stage_at p l.thread.stage).next (work_of_live p d bits ls l).env) l (work_of_live p d bits ls l))
+            (stood p st d bits l ∷ []))
+            ++ go_on p st d bits ls)
         at true b e r = r
         at false true e r = out e (goes_to (stage_at p l.thread.stage).next (work_of_live p d bits ls l).env) refl r
         at false false e r = (behind_stay l.thread.stage ls k.1 o.0, r)
 
     -- a new thread finds stage 0 empty
-    pub born_alone : (ls : List Live) → AllKnown p flows st d bits arrays ls → Ordered p ls → MadeBehind p flows st d bits arrays ls → (x : List ℕ) → made p flows st d bits arrays ls ≡ Some x → Each (λ k. 0 < k.thread.stage) (go_on p st d bits ls)
+    pub born_alone : (ls : List Live) → AllKnown p flows st d bits arrays ls → Ordered p ls
+        → MadeBehind p flows st d bits arrays ls → (x : List ℕ) → made p flows st d bits arrays ls ≡ Some x
+        → Each (λ k. 0 < k.thread.stage) (go_on p st d bits ls)
     born_alone [] k o m x e = tt
     born_alone (l ∷ ls) k o m x e = at (fell p d bits ls) refl
       where
@@ -225,7 +268,16 @@ module _ (p : Pipe) (flows : Flows p) where
         at true g = deep
         at false g =
             each_append (λ k. 0 < k.thread.stage) (next_live p st d bits ls l) (go_on p st d bits ls)
-            (each_next (λ k. 0 < k.thread.stage) ls l k.0 (λ i. absurd (clash (sym none ∙ sym (ap (λ b. if b then (if is_some (work_of_live p d bits ls l).child then (work_of_live p d bits ls l).child else made p flows st d bits arrays ls) else made p flows st d bits arrays ls) i) ∙ e)))
+            (each_next (λ k. 0 < k.thread.stage) ls l k.0
+            (λ i. absurd
+            (clash
+            (sym none
+            ∙ sym
+            (ap
+            (λ b. if b
+            then (if is_some (work_of_live p d bits ls l).child then (work_of_live p d bits ls l).child else made p flows st d bits arrays ls)
+            else made p flows st d bits arrays ls) i)
+            ∙ e)))
             (λ i q j. let u = (flows.graph.up l.thread.stage q (leads_of ls l k.0 q j)).0 in omega arith)) deep
           where
             none : made p flows st d bits arrays ls ≡ None
@@ -234,7 +286,8 @@ module _ (p : Pipe) (flows : Flows p) where
     behind_zero : (b : ℕ) → 0 < b → Behind p 0 b
     behind_zero b h = record { trunk = λ r t i. omega arith; branch = λ e. h }
 
-    pub ordered_next : (ls : List Live) → AllKnown p flows st d bits arrays ls → Ordered p ls → MadeBehind p flows st d bits arrays ls → Ordered p (lives_next p flows st d bits arrays ls)
+    pub ordered_next : (ls : List Live) → AllKnown p flows st d bits arrays ls → Ordered p ls
+        → MadeBehind p flows st d bits arrays ls → Ordered p (lives_next p flows st d bits arrays ls)
     ordered_next ls k o m = at (made p flows st d bits arrays ls) refl
       where
         at : (c : Option (List ℕ)) → made p flows st d bits arrays ls ≡ c → Ordered p (born_live p st.next c ++ go_on p st d bits ls)
@@ -252,12 +305,17 @@ module _ (p : Pipe) (flows : Flows p) where
         out (Some q) g = (f.0, g)
 
         at : (c b : Bool) → Falls l.number (go_on p st d bits ls)
-            → Falls n ((if c then [] else cond b (moved_live (goes_to (stage_at p l.thread.stage).next (work_of_live p d bits ls l).env) l (work_of_live p d bits ls l)) (stood p st d bits l ∷ [])) ++ go_on p st d bits ls)
+            → Falls n
+            ((if c then []
+            else cond b (moved_live (goes_to (stage_at p l.thread.stage).next (work_of_live p d bits ls l).env) l (work_of_live p d bits ls l))
+            (stood p st d bits l ∷ []))
+            ++ go_on p st d bits ls)
         at true b g = falls_up l.number n (go_on p st d bits ls) (let i = f.0 in omega arith) g
         at false true g = out _ g
         at false false g = (f.0, g)
 
-    pub falls_next : (ls : List Live) → Falls st.next ls → Falls (if is_some (made p flows st d bits arrays ls) then suc st.next else st.next) (lives_next p flows st d bits arrays ls)
+    pub falls_next : (ls : List Live) → Falls st.next ls
+        → Falls (if is_some (made p flows st d bits arrays ls) then suc st.next else st.next) (lives_next p flows st d bits arrays ls)
     falls_next ls f = at (made p flows st d bits arrays ls)
       where
         at : (c : Option (List ℕ)) → Falls (if is_some c then suc st.next else st.next) (born_live p st.next c ++ go_on p st d bits ls)
@@ -266,18 +324,24 @@ module _ (p : Pipe) (flows : Flows p) where
 
     -- SUCCESSORS
 
-    has_next : (ls : List Live) (l : Live) → Known p flows st d bits arrays ls l → (q : ℕ) → goes_to (stage_at p l.thread.stage).next (work_of_live p d bits ls l).env ≡ Some q → has_made p (work_of_live p d bits ls l).env (next_of p l.thread.stage (work_of_live p d bits ls l).env) ≡ true → has_made p (work_of_live p d bits ls l).env q ≡ true
+    has_next : (ls : List Live) (l : Live) → Known p flows st d bits arrays ls l → (q : ℕ)
+        → goes_to (stage_at p l.thread.stage).next (work_of_live p d bits ls l).env ≡ Some q
+        → has_made p (work_of_live p d bits ls l).env (next_of p l.thread.stage (work_of_live p d bits ls l).env) ≡ true
+        → has_made p (work_of_live p d bits ls l).env q ≡ true
     has_next ls l k q i h = subst (λ n. has_made p (work_of_live p d bits ls l).env n ≡ true) (ap (stage_or (length p.stages)) i) h
 
     made_on : (ls : List Live) → AllKnown p flows st d bits arrays ls → Made p flows st d bits arrays ls → Made p flows st d bits arrays (go_on p st d bits ls)
     made_on [] k m = tt
     made_on (l ∷ ls) k m =
         each_on (λ l. has_made p l.env l.thread.stage ≡ true) (fell p d bits ls) (next_live p st d bits ls l) (go_on p st d bits ls)
-        (each_next (λ l. has_made p l.env l.thread.stage ≡ true) ls l k.0 (λ e. m.0) (λ e q i. has_next ls l k.0 q i ((childed_here p flows st d bits arrays ls l k.0).since m.0)))
+        (each_next (λ l. has_made p l.env l.thread.stage ≡ true) ls l k.0 (λ e. m.0)
+        (λ e q i. has_next ls l k.0 q i ((childed_here p flows st d bits arrays ls l k.0).since m.0)))
         (made_on ls k.1 m.1)
 
     -- the one with the new thread has made it
-    made_born : (ls : List Live) → AllKnown p flows st d bits arrays ls → MadeBehind p flows st d bits arrays ls → (x : List ℕ) → made p flows st d bits arrays ls ≡ Some x → Made p flows st d bits arrays (go_on p st d bits ls)
+    made_born : (ls : List Live) → AllKnown p flows st d bits arrays ls → MadeBehind p flows st d bits arrays ls
+        → (x : List ℕ) → made p flows st d bits arrays ls ≡ Some x
+        → Made p flows st d bits arrays (go_on p st d bits ls)
     made_born [] k m x e = tt
     made_born (l ∷ ls) k m x e = at (fell p d bits ls) refl
       where
@@ -293,23 +357,39 @@ module _ (p : Pipe) (flows : Flows p) where
         at false g =
             each_append (λ l. has_made p l.env l.thread.stage ≡ true) (next_live p st d bits ls l) (go_on p st d bits ls)
             (each_next (λ l. has_made p l.env l.thread.stage ≡ true) ls l k.0
-            (λ i. absurd (clash (sym none ∙ sym (ap (λ b. if b then (if is_some (work_of_live p d bits ls l).child then (work_of_live p d bits ls l).child else made p flows st d bits arrays ls) else made p flows st d bits arrays ls) i) ∙ e)))
+            (λ i. absurd
+            (clash
+            (sym none
+            ∙ sym
+            (ap
+            (λ b. if b
+            then (if is_some (work_of_live p d bits ls l).child then (work_of_live p d bits ls l).child else made p flows st d bits arrays ls)
+            else made p flows st d bits arrays ls) i)
+            ∙ e)))
             (λ i q j. has_next ls l k.0 q j ((childed_here p flows st d bits arrays ls l k.0).called_it
-            (is_it (work_of_live p d bits ls l).child (made p flows st d bits arrays ls) none (sym (ap (λ b. if b then (if is_some (work_of_live p d bits ls l).child then (work_of_live p d bits ls l).child else made p flows st d bits arrays ls) else made p flows st d bits arrays ls) i) ∙ e)))))
+            (is_it (work_of_live p d bits ls l).child (made p flows st d bits arrays ls) none
+            (sym
+            (ap
+            (λ b. if b
+            then (if is_some (work_of_live p d bits ls l).child then (work_of_live p d bits ls l).child else made p flows st d bits arrays ls)
+            else made p flows st d bits arrays ls) i)
+            ∙ e)))))
             (made_on ls k.1 m)
           where
             none : made p flows st d bits arrays ls ≡ None
             none = made_none p flows st d bits arrays ls k.1 m g
 
     -- each but the youngest has made its successor
-    pub made_next : (ls : List Live) → AllKnown p flows st d bits arrays ls → MadeBehind p flows st d bits arrays ls → MadeBehind p flows st d bits arrays (lives_next p flows st d bits arrays ls)
+    pub made_next : (ls : List Live) → AllKnown p flows st d bits arrays ls → MadeBehind p flows st d bits arrays ls
+        → MadeBehind p flows st d bits arrays (lives_next p flows st d bits arrays ls)
     made_next ls k m = at (made p flows st d bits arrays ls) refl
       where
         tail_of : (xs : List Live) → Made p flows st d bits arrays xs → MadeBehind p flows st d bits arrays xs
         tail_of [] h = tt
         tail_of (x ∷ xs) h = h.1
 
-        behind : (ks : List Live) → AllKnown p flows st d bits arrays ks → MadeBehind p flows st d bits arrays ks → MadeBehind p flows st d bits arrays (go_on p st d bits ks)
+        behind : (ks : List Live) → AllKnown p flows st d bits arrays ks → MadeBehind p flows st d bits arrays ks
+            → MadeBehind p flows st d bits arrays (go_on p st d bits ks)
         behind [] k m = tt
         behind (l ∷ ks) k m = by (fell p d bits ks) (did p d bits ks l).moves
           where
@@ -320,7 +400,12 @@ module _ (p : Pipe) (flows : Flows p) where
             out None = tail_of (go_on p st d bits ks) rest
             out (Some q) = rest
 
-            by : (f b : Bool) → MadeBehind p flows st d bits arrays ((if f then [] else cond b (moved_live (goes_to (stage_at p l.thread.stage).next (work_of_live p d bits ks l).env) l (work_of_live p d bits ks l)) (stood p st d bits l ∷ [])) ++ go_on p st d bits ks)
+            by : (f b : Bool)
+                → MadeBehind p flows st d bits arrays
+                ((if f then []
+                else cond b (moved_live (goes_to (stage_at p l.thread.stage).next (work_of_live p d bits ks l).env) l (work_of_live p d bits ks l))
+                (stood p st d bits l ∷ []))
+                ++ go_on p st d bits ks)
             by true b = tail_of (go_on p st d bits ks) rest
             by false true = out (goes_to (stage_at p l.thread.stage).next (work_of_live p d bits ks l).env)
             by false false = rest
@@ -341,10 +426,15 @@ module _ (p : Pipe) (flows : Flows p) where
         (each_next OnWay ls l k.0 (λ e. (keeps_now p flows st d bits arrays l k.0.seated, k.0.values)) (λ e q i. (keeps_moved q i, refl)))
         (ways_on ls k.1)
       where
-        keeps_moved : (q : ℕ) → goes_to (stage_at p l.thread.stage).next (work_of_live p d bits ls l).env ≡ Some q → Keeps p (work_of_live p d bits ls l).env (moved_one q l (work_of_live p d bits ls l)).thread
+        keeps_moved : (q : ℕ) → goes_to (stage_at p l.thread.stage).next (work_of_live p d bits ls l).env ≡ Some q
+            → Keeps p (work_of_live p d bits ls l).env (moved_one q l (work_of_live p d bits ls l)).thread
         keeps_moved q i =
-            keeps_next p flows l.env (now_of p d bits l) (keeps_now p flows st d bits arrays l k.0.seated) (around p d bits (dacts p d bits ls) l.thread.stage) (Machine.word_for st l.number) (λ b. block_ready p st l.number b)
-            (λ r. has_room (mem_at p r.mem).lock (length (Machine.lock_of st r.mem))) (λ q. Derived.port_free p d bits (dacts p d bits ls) q.mem) (fit_all p flows st d bits arrays ls l k.0) q i
+            keeps_next p flows l.env (now_of p d bits l) (keeps_now p flows st d bits arrays l k.0.seated)
+            (around p d bits (dacts p d bits ls) l.thread.stage) (Machine.word_for st l.number)
+            (λ b. block_ready p st l.number b)
+            (λ r. has_room (mem_at p r.mem).lock (length (Machine.lock_of st r.mem)))
+            (λ q. Derived.port_free p d bits (dacts p d bits ls) q.mem)
+            (fit_all p flows st d bits arrays ls l k.0) q i
 
     pub ways_next : (ls : List Live) → AllKnown p flows st d bits arrays ls → Each OnWay (lives_next p flows st d bits arrays ls)
     ways_next ls k = at (made p flows st d bits arrays ls)
@@ -355,7 +445,8 @@ module _ (p : Pipe) (flows : Flows p) where
 
     -- THE STAGES
 
-    stands_left : (sq : Option ℕ) (q : ℕ) (ls : List Live) → AllKnown p flows st d bits arrays ls → Ordered p ls → Agrees p d bits sq ls → if_kept sq (next_thread p q (lacts p st d bits ls)) ≡ find q (go_on p st d bits ls)
+    stands_left : (sq : Option ℕ) (q : ℕ) (ls : List Live) → AllKnown p flows st d bits arrays ls → Ordered p ls
+        → Agrees p d bits sq ls → if_kept sq (next_thread p q (lacts p st d bits ls)) ≡ find q (go_on p st d bits ls)
     stands_left sq q [] k o g = refl
     stands_left sq q (l ∷ ls) k o g =
         ap (λ t. if_kept sq (or_then t (next_thread p q (lacts p st d bits ls)))) (comes_is p flows st d bits arrays ls l q k.0)
@@ -367,11 +458,14 @@ module _ (p : Pipe) (flows : Flows p) where
         hit : (t : Machine.Thread) (r : Option Machine.Thread) → t.number ≡ l.number → is_kept sq l.number ≡ true → if_kept sq (Some t) ≡ or_then (Some t) r
         hit t r e h = ap (λ b. if b then Some t else None) (ap (is_kept sq) e ∙ h)
 
-        one : (x : Live) → x.number ≡ l.number → is_kept sq l.number ≡ true → if_kept sq (next_thread p q (lacts p st d bits ls)) ≡ find q (go_on p st d bits ls)
+        one : (x : Live) → x.number ≡ l.number → is_kept sq l.number ≡ true
+            → if_kept sq (next_thread p q (lacts p st d bits ls)) ≡ find q (go_on p st d bits ls)
             → if_kept sq (or_then (find q (x ∷ [])) (next_thread p q (lacts p st d bits ls))) ≡ find q (x ∷ go_on p st d bits ls)
         one x e h r = by (x.thread.stage == q)
           where
-            by : (b : Bool) → if_kept sq (or_then (cond b (Some (seat x)) None) (next_thread p q (lacts p st d bits ls))) ≡ cond b (Some (seat x)) (find q (go_on p st d bits ls))
+            by : (b : Bool)
+                → if_kept sq (or_then (cond b (Some (seat x)) None) (next_thread p q (lacts p st d bits ls)))
+                ≡ cond b (Some (seat x)) (find q (go_on p st d bits ls))
             by true = hit (seat x) None e h
             by false = r
 
@@ -380,18 +474,35 @@ module _ (p : Pipe) (flows : Flows p) where
             → if_kept sq (or_then (find q (stood p st d bits l ∷ [])) (next_thread p q (lacts p st d bits ls))) ≡ find q (go_on p st d bits ls)
         removed h r = by (l.thread.stage == q) refl
           where
-            by : (b : Bool) → (l.thread.stage == q) ≡ b → if_kept sq (or_then (cond b (Some (seat (stood p st d bits l))) None) (next_thread p q (lacts p st d bits ls))) ≡ find q (go_on p st d bits ls)
-            by true e = ap (λ b. if b then Some (seat (stood p st d bits l)) else None) h ∙ sym (none_found p q (go_on p st d bits ls) (subst (λ n. Each (λ k. Behind p n k.thread.stage) (go_on p st d bits ls)) (eqb-true _ _ e) (behind_stay l.thread.stage ls k.1 o.0)))
+            by : (b : Bool) → (l.thread.stage == q) ≡ b
+                → if_kept sq (or_then (cond b (Some (seat (stood p st d bits l))) None) (next_thread p q (lacts p st d bits ls)))
+                ≡ find q (go_on p st d bits ls)
+            by true e =
+                ap (λ b. if b then Some (seat (stood p st d bits l)) else None) h
+                ∙ sym
+                (none_found p q (go_on p st d bits ls)
+                (subst (λ n. Each (λ k. Behind p n k.thread.stage) (go_on p st d bits ls)) (eqb-true _ _ e) (behind_stay l.thread.stage ls k.1 o.0)))
             by false e = r
 
         out : (r : Option ℕ) → is_kept sq l.number ≡ true → if_kept sq (next_thread p q (lacts p st d bits ls)) ≡ find q (go_on p st d bits ls)
-            → if_kept sq (or_then (find q (moved_live r l (work_of_live p d bits ls l))) (next_thread p q (lacts p st d bits ls))) ≡ find q (moved_live r l (work_of_live p d bits ls l) ++ go_on p st d bits ls)
+            → if_kept sq (or_then (find q (moved_live r l (work_of_live p d bits ls l))) (next_thread p q (lacts p st d bits ls)))
+            ≡ find q (moved_live r l (work_of_live p d bits ls l) ++ go_on p st d bits ls)
         out None h r = r
         out (Some s) h r = one (moved_one s l (work_of_live p d bits ls l)) refl h r
 
-        at : (f : Bool) → fell p d bits ls ≡ f → (b : Bool) → (did p d bits ls l).moves ≡ b → if_kept sq (next_thread p q (lacts p st d bits ls)) ≡ find q (go_on p st d bits ls)
-            → if_kept sq (or_then (find q (cond b (moved_live (goes_to (stage_at p l.thread.stage).next (work_of_live p d bits ls l).env) l (work_of_live p d bits ls l)) (stood p st d bits l ∷ []))) (next_thread p q (lacts p st d bits ls)))
-            ≡ find q ((if f then [] else cond b (moved_live (goes_to (stage_at p l.thread.stage).next (work_of_live p d bits ls l).env) l (work_of_live p d bits ls l)) (stood p st d bits l ∷ [])) ++ go_on p st d bits ls)
+        at : (f : Bool) → fell p d bits ls ≡ f → (b : Bool) → (did p d bits ls l).moves ≡ b
+            → if_kept sq (next_thread p q (lacts p st d bits ls)) ≡ find q (go_on p st d bits ls)
+            → if_kept sq
+            (or_then
+            (find q
+            (cond b (moved_live (goes_to (stage_at p l.thread.stage).next (work_of_live p d bits ls l).env) l (work_of_live p d bits ls l))
+            (stood p st d bits l ∷ [])))
+            (next_thread p q (lacts p st d bits ls)))
+            ≡ find q
+            ((if f then []
+            else cond b (moved_live (goes_to (stage_at p l.thread.stage).next (work_of_live p d bits ls l).env) l (work_of_live p d bits ls l))
+            (stood p st d bits l ∷ []))
+            ++ go_on p st d bits ls)
         at true e true i r = absurd (cc (sym i ∙ stuck_here p flows st d bits arrays ls l e))
         at true e false i r = removed (g.0 ∙ ap not e) r
         at false e true i r = out (goes_to (stage_at p l.thread.stage).next (work_of_live p d bits ls l).env) (g.0 ∙ ap not e) r
@@ -416,7 +527,9 @@ module _ (p : Pipe) (flows : Flows p) where
 
     -- a stage after the cycle
     pub stage_is : (sq : Option ℕ) (q : ℕ) (ls : List Live) → AllKnown p flows st d bits arrays ls → Ordered p ls → Agrees p d bits sq ls
-        → or_then (if q == 0 then Cycle.born_thread p st.next (made p flows st d bits arrays ls) else None) (if_kept sq (next_thread p q (lacts p st d bits ls))) ≡ find q (lives_next p flows st d bits arrays ls)
+        → or_then (if q == 0 then Cycle.born_thread p st.next (made p flows st d bits arrays ls) else None)
+        (if_kept sq (next_thread p q (lacts p st d bits ls)))
+        ≡ find q (lives_next p flows st d bits arrays ls)
     stage_is sq q ls k o g =
         ap₂ or_then (newborn q st.next (made p flows st d bits arrays ls)) (stands_left sq q ls k o g)
         ∙ sym (find_append q (born_live p st.next (made p flows st d bits arrays ls)) (go_on p st d bits ls))

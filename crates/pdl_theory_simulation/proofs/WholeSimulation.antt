@@ -61,7 +61,10 @@ module _ (p : Pipe) (flows : Flows p) where
 
   module _ (st : State) (d : Derived.State) (bits : List Bool) (ls : List Live) (sim : Sim p st d ls) where
     pub known : AllKnown p flows st d bits sim.arrays ls
-    known = known_all p flows st d bits sim.arrays ls sim.matched st.next ls sim.seated sim.ordered sim.falls (λ m a k i. ap (λ q. Machine.youngest q k a Locks.Nothing) (sim.locks m)) (λ m i. sim.locks m)
+    known =
+        known_all p flows st d bits sim.arrays ls sim.matched st.next ls sim.seated sim.ordered sim.falls
+        (λ m a k i. ap (λ q. Machine.youngest q k a Locks.Nothing) (sim.locks m))
+        (λ m i. sim.locks m)
 
     inside_all : (ks : List Live) → Each (Seated p st) ks → Each (λ k. k.thread.stage < length p.stages) ks
     inside_all ks s = each_map (λ k h. h.keeps_on.inside) ks s
@@ -69,14 +72,22 @@ module _ (p : Pipe) (flows : Flows p) where
     pub acts_are : Moves.all_acts p st bits ≡ acts_of p flows st d bits sim.arrays (sorted ls)
     acts_are =
         ap (Moves.acts p st bits 0) (sim.stages ∙ stages_same _ _ 0 p.stages (λ q i. sym (find_sorted p q ls sim.ordered)))
-        ∙ acts_slots p st bits p.stages 0 (lives_of (sorted ls)) (subst (λ h. Rises 0 h (lives_of (sorted ls))) (sym (zero-add (length p.stages))) (rises_sorted p (length p.stages) ls (inside_all ls sim.seated) sim.ordered))
-        ∙ acts_sorted p flows st d bits sim.arrays ls sim.matched st.next sim.seated sim.ordered sim.falls known sim.forks (length p.stages) (inside_all ls sim.seated)
+        ∙ acts_slots p st bits p.stages 0 (lives_of (sorted ls))
+        (subst (λ h. Rises 0 h (lives_of (sorted ls))) (sym (zero-add (length p.stages)))
+        (rises_sorted p (length p.stages) ls (inside_all ls sim.seated) sim.ordered))
+        ∙ acts_sorted p flows st d bits sim.arrays ls sim.matched st.next sim.seated sim.ordered sim.falls known sim.forks (length p.stages)
+        (inside_all ls sim.seated)
 
-    pub after_is : Cycle.cycle p st bits ≡ Cycle.after_these p st bits (lacts p st d bits ls) (movers (lacts p st d bits ls)) (squasher (movers (lacts p st d bits ls)))
-    after_is = ap (Cycle.after_acts p st bits) acts_are ∙ same_after p flows st d bits sim.arrays ls (swaps_all p flows st d bits sim.arrays st.next ls known sim.ordered sim.falls)
+    pub after_is : Cycle.cycle p st bits
+        ≡ Cycle.after_these p st bits (lacts p st d bits ls) (movers (lacts p st d bits ls)) (squasher (movers (lacts p st d bits ls)))
+    after_is =
+        ap (Cycle.after_acts p st bits) acts_are
+        ∙ same_after p flows st d bits sim.arrays ls (swaps_all p flows st d bits sim.arrays st.next ls known sim.ordered sim.falls)
 
     pub ports_are : Cycle.ports p st (Moves.all_acts p st bits) ≡ Cycle.ports p st (lacts p st d bits ls)
-    ports_are = ap (Cycle.ports p st) acts_are ∙ same_ports p flows st d bits sim.arrays ls (swaps_all p flows st d bits sim.arrays st.next ls known sim.ordered sim.falls)
+    ports_are =
+        ap (Cycle.ports p st) acts_are
+        ∙ same_ports p flows st d bits sim.arrays ls (swaps_all p flows st d bits sim.arrays st.next ls known sim.ordered sim.falls)
 
     pub derived_acts_are : Derived.all_acts p d bits ≡ rev (dacts p d bits ls)
     derived_acts_are = ap (Derived.acts p d bits []) sim.threads ∙ acts_back p d bits ls
@@ -87,9 +98,13 @@ module _ (p : Pipe) (flows : Flows p) where
     -- THE LOCKS
 
     list_is : (m : ℕ) → list_two st (movers (lacts p st d bits ls)) m ≡ two p flows st d bits sim.arrays m ls
-    list_is m = ap (λ l. Cycle.with_all_writes m (movers (lacts p st d bits ls)) (Cycle.with_reserves m (movers (lacts p st d bits ls)) l)) (sim.locks m) ∙ two_is p flows st d bits sim.arrays m st.next ls sim.seated sim.ordered sim.falls
+    list_is m =
+        ap (λ l. Cycle.with_all_writes m (movers (lacts p st d bits ls)) (Cycle.with_reserves m (movers (lacts p st d bits ls)) l)) (sim.locks m)
+        ∙ two_is p flows st d bits sim.arrays m st.next ls sim.seated sim.ordered sim.falls
 
-    out : (m : ℕ) → Out m (has_release m (movers (lacts p st d bits ls))) (two p flows st d bits sim.arrays m ls) (three p flows st d bits sim.arrays m ls) (commits_here p flows st d bits sim.arrays m ls)
+    out : (m : ℕ)
+        → Out m (has_release m (movers (lacts p st d bits ls))) (two p flows st d bits sim.arrays m ls)
+        (three p flows st d bits sim.arrays m ls) (commits_here p flows st d bits sim.arrays m ls)
     out m = three_is p flows st d bits sim.arrays m ls known sim.ordered
 
     list_next : (m : ℕ) → list_three st (movers (lacts p st d bits ls)) m ≡ three p flows st d bits sim.arrays m ls
@@ -99,7 +114,9 @@ module _ (p : Pipe) (flows : Flows p) where
     commits_are m = (out m).shows ∙ ap (λ l. released m (cond (has_release m (movers (lacts p st d bits ls))) (oldest l) None)) (sym (list_is m))
 
     pub never : (m : ℕ) → length p.mems ≤ m → taken_out st (movers (lacts p st d bits ls)) m ≡ None
-    never m i = ap (λ b. cond b (oldest (list_two st (movers (lacts p st d bits ls)) m)) None) (unreleased p flows st d bits sim.arrays m ls known (flows.unreleased m i))
+    never m i =
+        ap (λ b. cond b (oldest (list_two st (movers (lacts p st d bits ls)) m)) None)
+        (unreleased p flows st d bits sim.arrays m ls known (flows.unreleased m i))
 
     arrays_next : with_commits st (movers (lacts p st d bits ls)) 0 p.mems st.arrays ≡ after_commits d.arrays (commits_of (rev (dacts p d bits ls)))
     arrays_next = λ i n. each n i
@@ -107,7 +124,8 @@ module _ (p : Pipe) (flows : Flows p) where
         each : (n : ℕ) → with_commits st (movers (lacts p st d bits ls)) 0 p.mems st.arrays n ≡ after_commits d.arrays (commits_of (rev (dacts p d bits ls))) n
         each n = at (nat_lt n (length p.mems)) refl
           where
-            at : (b : Bool) → nat_lt n (length p.mems) ≡ b → with_commits st (movers (lacts p st d bits ls)) 0 p.mems st.arrays n ≡ after_commits d.arrays (commits_of (rev (dacts p d bits ls))) n
+            at : (b : Bool) → nat_lt n (length p.mems) ≡ b
+                → with_commits st (movers (lacts p st d bits ls)) 0 p.mems st.arrays n ≡ after_commits d.arrays (commits_of (rev (dacts p d bits ls))) n
             at true e =
                 row_commits st (movers (lacts p st d bits ls)) 0 n p.mems st.arrays (omega arith) (let i = ltb-true _ _ e in omega arith)
                 ∙ ap₂ (λ (a : Arrays) c. wrote (a n) c) sim.arrays (sym (commits_are n)) ∙ sym (row_committed n (commits_of (rev (dacts p d bits ls))) d.arrays)
@@ -119,98 +137,152 @@ module _ (p : Pipe) (flows : Flows p) where
 
     -- THE NEXT STATES
 
-    no_entries : (m : ℕ) → length p.mems ≤ m → (ks : List Live) → Each (λ k. Keeps p k.env k.thread × (with_kept k.kept k.env ≡ k.thread.env)) ks → pends m ks ≡ []
+    no_entries : (m : ℕ) → length p.mems ≤ m → (ks : List Live)
+        → Each (λ k. Keeps p k.env k.thread × (with_kept k.kept k.env ≡ k.thread.env)) ks → pends m ks ≡ []
     no_entries m i [] o = refl
-    no_entries m i (k ∷ ks) o = ap₂ (λ x y. x ++ y) (no_entries m i ks o.1) (pend_own m k.number k.thread.entries ∙ ap (pend m k.number) (unknown p flows k.env k.thread o.0.0 m i))
+    no_entries m i (k ∷ ks) o =
+        ap₂ (λ x y. x ++ y) (no_entries m i ks o.1) (pend_own m k.number k.thread.entries ∙ ap (pend m k.number) (unknown p flows k.env k.thread o.0.0 m i))
 
     pends_born : (m : ℕ) (c : Option (List ℕ)) → pends m (born_live p st.next c) ≡ []
     pends_born m None = refl
     pends_born m (Some x) = refl
 
-    locks_next : (m : ℕ) → lock_of (Cycle.after_these p st bits (lacts p st d bits ls) (movers (lacts p st d bits ls)) (squasher (movers (lacts p st d bits ls)))) m ≡ pends m (lives_next p flows st d bits sim.arrays ls)
+    locks_next : (m : ℕ)
+        → lock_of (Cycle.after_these p st bits (lacts p st d bits ls) (movers (lacts p st d bits ls)) (squasher (movers (lacts p st d bits ls)))) m
+        ≡ pends m (lives_next p flows st d bits sim.arrays ls)
     locks_next m = at (nat_lt m (length p.mems)) refl
       where
-        at : (b : Bool) → nat_lt m (length p.mems) ≡ b → lock_of (Cycle.after_these p st bits (lacts p st d bits ls) (movers (lacts p st d bits ls)) (squasher (movers (lacts p st d bits ls)))) m ≡ pends m (lives_next p flows st d bits sim.arrays ls)
+        at : (b : Bool) → nat_lt m (length p.mems) ≡ b
+            → lock_of (Cycle.after_these p st bits (lacts p st d bits ls) (movers (lacts p st d bits ls)) (squasher (movers (lacts p st d bits ls)))) m
+            ≡ pends m (lives_next p flows st d bits sim.arrays ls)
         at true e =
-            at_mem (λ j. entries_left (squasher (movers (lacts p st d bits ls))) (list_three st (movers (lacts p st d bits ls)) j)) 0 p.mems m [] (ltb-true _ _ e)
+            at_mem (λ j. entries_left (squasher (movers (lacts p st d bits ls))) (list_three st (movers (lacts p st d bits ls)) j)) 0 p.mems m []
+            (ltb-true _ _ e)
             ∙ ap (λ j. entries_left (squasher (movers (lacts p st d bits ls))) (list_three st (movers (lacts p st d bits ls)) j)) (zero-add m)
             ∙ ap (entries_left (squasher (movers (lacts p st d bits ls)))) (list_next m)
             ∙ pends_on p flows st d bits sim.arrays m (squasher (movers (lacts p st d bits ls))) ls known fit
             ∙ sym (append-nil _) ∙ ap (λ x. pends m (go_on p st d bits ls) ++ x) (sym (pends_born m (made p flows st d bits sim.arrays ls)))
             ∙ sym (pends_append m (born_live p st.next (made p flows st d bits sim.arrays ls)) (go_on p st d bits ls))
-        at false e = past_mems _ 0 p.mems m [] (ltb-false _ _ e) ∙ sym (no_entries m (ltb-false _ _ e) (lives_next p flows st d bits sim.arrays ls) (ways_next p flows st d bits sim.arrays ls known))
+        at false e =
+            past_mems _ 0 p.mems m [] (ltb-false _ _ e)
+            ∙ sym (no_entries m (ltb-false _ _ e) (lives_next p flows st d bits sim.arrays ls) (ways_next p flows st d bits sim.arrays ls known))
 
     -- THE REQUESTS
 
-    request_is : (m : ℕ) → request_left (squasher (movers (lacts p st d bits ls))) (request_next p st bits (movers (lacts p st d bits ls)) m) ≡ request_now p flows st d bits sim.arrays (squasher (movers (lacts p st d bits ls))) ls m
-    request_is m = ap (request_left (squasher (movers (lacts p st d bits ls)))) (asked_is p flows st d bits sim.arrays m (if is_answered p bits m then NoRequest else request_of st m) ls known)
+    request_is : (m : ℕ)
+        → request_left (squasher (movers (lacts p st d bits ls))) (request_next p st bits (movers (lacts p st d bits ls)) m)
+        ≡ request_now p flows st d bits sim.arrays (squasher (movers (lacts p st d bits ls))) ls m
+    request_is m =
+        ap (request_left (squasher (movers (lacts p st d bits ls))))
+        (asked_is p flows st d bits sim.arrays m (if is_answered p bits m then NoRequest else request_of st m) ls known)
 
-    requests_are : (Cycle.after_these p st bits (lacts p st d bits ls) (movers (lacts p st d bits ls)) (squasher (movers (lacts p st d bits ls)))).requests ≡ for_mems (request_now p flows st d bits sim.arrays (squasher (movers (lacts p st d bits ls))) ls) 0 p.mems
+    requests_are : (Cycle.after_these p st bits (lacts p st d bits ls) (movers (lacts p st d bits ls)) (squasher (movers (lacts p st d bits ls)))).requests
+        ≡ for_mems (request_now p flows st d bits sim.arrays (squasher (movers (lacts p st d bits ls))) ls) 0 p.mems
     requests_are = mems_same _ _ 0 p.mems request_is
 
     asked_are : (Derived.after_acts p d bits (rev (dacts p d bits ls))).asked ≡ for_mems (asked_now p flows st d bits sim.arrays ls) 0 p.mems
     asked_are =
         ap (next_asks p bits (asks_of (rev (dacts p d bits ls))) 0) sim.asked ∙ asks_mems p bits (asks_of (rev (dacts p d bits ls))) (asked_at d) 0 p.mems
-        ∙ mems_same _ _ 0 p.mems (λ m. ap (λ q. next_ask q (is_answered p bits m) (asked_at d m)) (finds_is p flows st d bits sim.arrays m ls known sim.ordered))
+        ∙ mems_same _ _ 0 p.mems
+        (λ m. ap (λ q. next_ask q (is_answered p bits m) (asked_at d m)) (finds_is p flows st d bits sim.arrays m ls known sim.ordered))
 
-    pub request_at : (m : ℕ) → m < length p.mems → request_of (Cycle.after_these p st bits (lacts p st d bits ls) (movers (lacts p st d bits ls)) (squasher (movers (lacts p st d bits ls)))) m ≡ request_now p flows st d bits sim.arrays (squasher (movers (lacts p st d bits ls))) ls m
-    request_at m h = ap (λ l. slice_index_or l m NoRequest) requests_are ∙ at_mem _ 0 p.mems m NoRequest h ∙ ap (request_now p flows st d bits sim.arrays (squasher (movers (lacts p st d bits ls))) ls) (zero-add m)
+    pub request_at : (m : ℕ) → m < length p.mems
+        → request_of (Cycle.after_these p st bits (lacts p st d bits ls) (movers (lacts p st d bits ls)) (squasher (movers (lacts p st d bits ls)))) m
+        ≡ request_now p flows st d bits sim.arrays (squasher (movers (lacts p st d bits ls))) ls m
+    request_at m h =
+        ap (λ l. slice_index_or l m NoRequest) requests_are ∙ at_mem _ 0 p.mems m NoRequest h
+        ∙ ap (request_now p flows st d bits sim.arrays (squasher (movers (lacts p st d bits ls))) ls) (zero-add m)
 
-    pub asked_next : (m : ℕ) → m < length p.mems → asked_at (Derived.after_acts p d bits (rev (dacts p d bits ls))) m ≡ asked_now p flows st d bits sim.arrays ls m
+    pub asked_next : (m : ℕ) → m < length p.mems
+        → asked_at (Derived.after_acts p d bits (rev (dacts p d bits ls))) m ≡ asked_now p flows st d bits sim.arrays ls m
     asked_next m h = ap (λ l. slice_index_or l m None) asked_are ∙ at_mem _ 0 p.mems m None h ∙ ap (asked_now p flows st d bits sim.arrays ls) (zero-add m)
 
-    matched_after : (m : ℕ) → Matched (request_of (Cycle.after_these p st bits (lacts p st d bits ls) (movers (lacts p st d bits ls)) (squasher (movers (lacts p st d bits ls)))) m) (asked_at (Derived.after_acts p d bits (rev (dacts p d bits ls))) m) m (lives_next p flows st d bits sim.arrays ls)
+    matched_after : (m : ℕ)
+        → Matched (request_of (Cycle.after_these p st bits (lacts p st d bits ls) (movers (lacts p st d bits ls)) (squasher (movers (lacts p st d bits ls)))) m)
+        (asked_at (Derived.after_acts p d bits (rev (dacts p d bits ls))) m) m (lives_next p flows st d bits sim.arrays ls)
     matched_after m = at (nat_lt m (length p.mems)) refl
       where
         at : (b : Bool) → nat_lt m (length p.mems) ≡ b
-            → Matched (request_of (Cycle.after_these p st bits (lacts p st d bits ls) (movers (lacts p st d bits ls)) (squasher (movers (lacts p st d bits ls)))) m) (asked_at (Derived.after_acts p d bits (rev (dacts p d bits ls))) m) m (lives_next p flows st d bits sim.arrays ls)
+            → Matched
+            (request_of (Cycle.after_these p st bits (lacts p st d bits ls) (movers (lacts p st d bits ls)) (squasher (movers (lacts p st d bits ls)))) m)
+            (asked_at (Derived.after_acts p d bits (rev (dacts p d bits ls))) m) m (lives_next p flows st d bits sim.arrays ls)
         at true e =
-            subst (λ q. Matched q (asked_at (Derived.after_acts p d bits (rev (dacts p d bits ls))) m) m (lives_next p flows st d bits sim.arrays ls)) (sym (request_at m (ltb-true _ _ e)))
-            (subst (λ o. Matched (request_now p flows st d bits sim.arrays (squasher (movers (lacts p st d bits ls))) ls m) o m (lives_next p flows st d bits sim.arrays ls)) (sym (asked_next m (ltb-true _ _ e)))
-            (matched_next p flows st d bits sim.arrays m st.next (made p flows st d bits sim.arrays ls) (squasher (movers (lacts p st d bits ls))) ls known fit (sim.matched m)))
+            subst (λ q. Matched q (asked_at (Derived.after_acts p d bits (rev (dacts p d bits ls))) m) m (lives_next p flows st d bits sim.arrays ls))
+            (sym (request_at m (ltb-true _ _ e)))
+            (subst
+            (λ o. Matched
+            (request_now p flows st d bits sim.arrays (squasher (movers (lacts p st d bits ls))) ls m) o m
+            (lives_next p flows st d bits sim.arrays ls))
+            (sym (asked_next m (ltb-true _ _ e)))
+            (matched_next p flows st d bits sim.arrays m st.next (made p flows st d bits sim.arrays ls)
+            (squasher (movers (lacts p st d bits ls))) ls known fit (sim.matched m)))
         at false e =
-            subst (λ q. Matched q (asked_at (Derived.after_acts p d bits (rev (dacts p d bits ls))) m) m (lives_next p flows st d bits sim.arrays ls)) (sym (past_mems _ 0 p.mems m NoRequest (ltb-false _ _ e)))
+            subst (λ q. Matched q (asked_at (Derived.after_acts p d bits (rev (dacts p d bits ls))) m) m (lives_next p flows st d bits sim.arrays ls))
+            (sym (past_mems _ 0 p.mems m NoRequest (ltb-false _ _ e)))
             (ap (λ l. slice_index_or l m None) asked_are ∙ past_mems _ 0 p.mems m None (ltb-false _ _ e))
 
-    nobody_asks : (l : Live) (m : ℕ) → OwnedBy st l.number m → is_answered p bits m ≡ false → (x : Option Asker) → asking p flows st d bits sim.arrays ls m ≡ x → asking p flows st d bits sim.arrays ls m ≡ None
+    nobody_asks : (l : Live) (m : ℕ) → OwnedBy st l.number m → is_answered p bits m ≡ false → (x : Option Asker)
+        → asking p flows st d bits sim.arrays ls m ≡ x → asking p flows st d bits sim.arrays ls m ≡ None
     nobody_asks l m o i None e = e
-    nobody_asks l m o i (Some a) e = absurd (cc (sym i ∙ port_was_free p flows st d bits sim.arrays m o.0 a ls known e (subst (λ q. Matched q (asked_at d m) m ls) o.1 (sim.matched m)).0))
+    nobody_asks l m o i (Some a) e =
+        absurd (cc (sym i ∙ port_was_free p flows st d bits sim.arrays m o.0 a ls known e (subst (λ q. Matched q (asked_at d m) m ls) o.1 (sim.matched m)).0))
 
     -- a request that is not answered stays its owner's
-    pub request_stays : (l : Live) → is_kept (squasher (movers (lacts p st d bits ls))) l.number ≡ true → (m : ℕ) (o : OwnedBy st l.number m) → Fetched p l.thread.stage m → is_answered p bits m ≡ false
-        → request_of (Cycle.after_these p st bits (lacts p st d bits ls) (movers (lacts p st d bits ls)) (squasher (movers (lacts p st d bits ls)))) m ≡ Owned l.number o.0
+    pub request_stays : (l : Live) → is_kept (squasher (movers (lacts p st d bits ls))) l.number ≡ true
+        → (m : ℕ) (o : OwnedBy st l.number m) → Fetched p l.thread.stage m → is_answered p bits m ≡ false
+        → request_of (Cycle.after_these p st bits (lacts p st d bits ls) (movers (lacts p st d bits ls)) (squasher (movers (lacts p st d bits ls)))) m
+        ≡ Owned l.number o.0
     request_stays l s m o f e =
         request_at m (fetch_low m f.0 f.2)
-        ∙ ap₂ (λ k b. request_left (squasher (movers (lacts p st d bits ls))) (owned_by k (if b then NoRequest else request_of st m))) (nobody_asks l m o e (asking p flows st d bits sim.arrays ls m) refl) e
+        ∙ ap₂ (λ k b. request_left (squasher (movers (lacts p st d bits ls))) (owned_by k (if b then NoRequest else request_of st m)))
+        (nobody_asks l m o e (asking p flows st d bits sim.arrays ls m) refl) e
         ∙ ap (request_left (squasher (movers (lacts p st d bits ls)))) o.1
         ∙ ap (λ b. if b then Owned l.number o.0 else Orphan o.0) s
 
     -- and one that is made is its maker's
-    pub request_made : (l : Live) → is_kept (squasher (movers (lacts p st d bits ls))) l.number ≡ true → (m a : ℕ) → m < length p.mems → asking p flows st d bits sim.arrays ls m ≡ Some (record { number = l.number; address = a })
-        → request_of (Cycle.after_these p st bits (lacts p st d bits ls) (movers (lacts p st d bits ls)) (squasher (movers (lacts p st d bits ls)))) m ≡ Owned l.number a
+    pub request_made : (l : Live) → is_kept (squasher (movers (lacts p st d bits ls))) l.number ≡ true → (m a : ℕ)
+        → m < length p.mems
+        → asking p flows st d bits sim.arrays ls m ≡ Some (record { number = l.number; address = a })
+        → request_of (Cycle.after_these p st bits (lacts p st d bits ls) (movers (lacts p st d bits ls)) (squasher (movers (lacts p st d bits ls)))) m
+        ≡ Owned l.number a
     request_made l s m a low e =
         request_at m low
         ∙ ap (λ k. request_left (squasher (movers (lacts p st d bits ls))) (owned_by k (if is_answered p bits m then NoRequest else request_of st m))) e
         ∙ ap (λ b. if b then Owned l.number a else Orphan a) s
 
     -- an awaited read has its own request
-    owned_stood : (l : Live) → is_kept (squasher (movers (lacts p st d bits ls))) l.number ≡ true → (rs : List Awaited) → AllOwned st l.number rs → AllFetched p l.thread.stage rs
-        → AllOwned (Cycle.after_these p st bits (lacts p st d bits ls) (movers (lacts p st d bits ls)) (squasher (movers (lacts p st d bits ls)))) l.number (still p bits rs)
+    owned_stood : (l : Live) → is_kept (squasher (movers (lacts p st d bits ls))) l.number ≡ true → (rs : List Awaited)
+        → AllOwned st l.number rs → AllFetched p l.thread.stage rs
+        → AllOwned
+        (Cycle.after_these p st bits (lacts p st d bits ls) (movers (lacts p st d bits ls)) (squasher (movers (lacts p st d bits ls)))) l.number
+        (still p bits rs)
     owned_stood l s [] o f = tt
     owned_stood l s (r ∷ rs) o f = at (is_answered p bits r.mem) refl (owned_stood l s rs o.1 f.1)
       where
-        nobody : (x : Option Asker) → asking p flows st d bits sim.arrays ls r.mem ≡ x → is_answered p bits r.mem ≡ false → asking p flows st d bits sim.arrays ls r.mem ≡ None
+        nobody : (x : Option Asker) → asking p flows st d bits sim.arrays ls r.mem ≡ x
+            → is_answered p bits r.mem ≡ false → asking p flows st d bits sim.arrays ls r.mem ≡ None
         nobody None e i = e
-        nobody (Some a) e i = absurd (cc (sym i ∙ port_was_free p flows st d bits sim.arrays r.mem o.0.0 a ls known e (subst (λ q. Matched q (asked_at d r.mem) r.mem ls) o.0.1 (sim.matched r.mem)).0))
+        nobody (Some a) e i =
+            absurd
+            (cc
+            (sym i
+            ∙ port_was_free p flows st d bits sim.arrays r.mem o.0.0 a ls known e
+            (subst (λ q. Matched q (asked_at d r.mem) r.mem ls) o.0.1 (sim.matched r.mem)).0))
 
-        at : (b : Bool) → is_answered p bits r.mem ≡ b → AllOwned (Cycle.after_these p st bits (lacts p st d bits ls) (movers (lacts p st d bits ls)) (squasher (movers (lacts p st d bits ls)))) l.number (still p bits rs)
-            → AllOwned (Cycle.after_these p st bits (lacts p st d bits ls) (movers (lacts p st d bits ls)) (squasher (movers (lacts p st d bits ls)))) l.number (cond b (still p bits rs) (r ∷ still p bits rs))
+        at : (b : Bool) → is_answered p bits r.mem ≡ b
+            → AllOwned
+            (Cycle.after_these p st bits (lacts p st d bits ls) (movers (lacts p st d bits ls)) (squasher (movers (lacts p st d bits ls)))) l.number
+            (still p bits rs)
+            → AllOwned
+            (Cycle.after_these p st bits (lacts p st d bits ls) (movers (lacts p st d bits ls)) (squasher (movers (lacts p st d bits ls)))) l.number
+            (cond b (still p bits rs) (r ∷ still p bits rs))
         at true e h = h
         at false e h = (
           (
             o.0.0,
             request_at r.mem (fetch_low r.mem f.0.0 f.0.2)
-                ∙ ap₂ (λ k b. request_left (squasher (movers (lacts p st d bits ls))) (owned_by k (if b then NoRequest else request_of st r.mem))) (nobody (asking p flows st d bits sim.arrays ls r.mem) refl e) e
+                ∙ ap₂ (λ k b. request_left (squasher (movers (lacts p st d bits ls))) (owned_by k (if b then NoRequest else request_of st r.mem)))
+                (nobody (asking p flows st d bits sim.arrays ls r.mem) refl e) e
                 ∙ ap (request_left (squasher (movers (lacts p st d bits ls)))) o.0.1
                 ∙ ap (λ b. if b then Owned l.number o.0.0 else Orphan o.0.0) s,
           ),
@@ -218,9 +290,12 @@ module _ (p : Pipe) (flows : Flows p) where
         )
 
     -- an ask has its own request
-    owned_moved : (l : Live) → is_kept (squasher (movers (lacts p st d bits ls))) l.number ≡ true → (all : List Ask) → ((m a : ℕ) → find_ask all m ≡ Some a → asking p flows st d bits sim.arrays ls m ≡ Some (record { number = l.number; address = a }))
+    owned_moved : (l : Live) → is_kept (squasher (movers (lacts p st d bits ls))) l.number ≡ true → (all : List Ask)
+        → ((m a : ℕ) → find_ask all m ≡ Some a → asking p flows st d bits sim.arrays ls m ≡ Some (record { number = l.number; address = a }))
         → (qs : List Ask) → AsksFrom (in_stage l.thread.stage p.stmts) qs → ((m : ℕ) → is_some (find_ask qs m) ≡ true → is_some (find_ask all m) ≡ true)
-        → AllOwned (Cycle.after_these p st bits (lacts p st d bits ls) (movers (lacts p st d bits ls)) (squasher (movers (lacts p st d bits ls)))) l.number (awaited_of qs)
+        → AllOwned
+        (Cycle.after_these p st bits (lacts p st d bits ls) (movers (lacts p st d bits ls)) (squasher (movers (lacts p st d bits ls)))) l.number
+        (awaited_of qs)
     owned_moved l s all g [] f i = tt
     owned_moved l s all g (q ∷ qs) f i = (own (find_ask all q.mem) refl (i q.mem here), owned_moved l s all g qs f.1 (λ m h. i m (more m (q.mem == m) h)))
       where
@@ -231,51 +306,94 @@ module _ (p : Pipe) (flows : Flows p) where
         more m true h = refl
         more m false h = h
 
-        own : (x : Option ℕ) → find_ask all q.mem ≡ x → is_some x ≡ true → OwnedBy (Cycle.after_these p st bits (lacts p st d bits ls) (movers (lacts p st d bits ls)) (squasher (movers (lacts p st d bits ls)))) l.number q.mem
+        own : (x : Option ℕ) → find_ask all q.mem ≡ x → is_some x ≡ true
+            → OwnedBy
+            (Cycle.after_these p st bits (lacts p st d bits ls) (movers (lacts p st d bits ls)) (squasher (movers (lacts p st d bits ls)))) l.number q.mem
         own None e h = absurd (cc h)
         own (Some a) e h = (
           a,
           request_at q.mem (fetch_low q.mem l.thread.stage f.0)
-              ∙ ap (λ k. request_left (squasher (movers (lacts p st d bits ls))) (owned_by k (if is_answered p bits q.mem then NoRequest else request_of st q.mem))) (g q.mem a e)
+              ∙ ap
+              (λ k. request_left (squasher (movers (lacts p st d bits ls)))
+              (owned_by k (if is_answered p bits q.mem then NoRequest else request_of st q.mem)))
+              (g q.mem a e)
               ∙ ap (λ b. if b then Owned l.number a else Orphan a) s,
         )
 
     -- each thread that lives on owns its requests
     owned_on : (ks : List Live) → AllKnown p flows st d bits sim.arrays ks → Ordered p ks → Agrees p d bits (squasher (movers (lacts p st d bits ls))) ks
         → ((m : ℕ) (a : Asker) → asking p flows st d bits sim.arrays ks m ≡ Some a → asking p flows st d bits sim.arrays ls m ≡ Some a)
-        → Each (λ k. AllOwned (Cycle.after_these p st bits (lacts p st d bits ls) (movers (lacts p st d bits ls)) (squasher (movers (lacts p st d bits ls)))) k.number k.thread.awaits) (go_on p st d bits ks)
+        → Each
+        (λ k. AllOwned
+        (Cycle.after_these p st bits (lacts p st d bits ls) (movers (lacts p st d bits ls))
+        (squasher (movers (lacts p st d bits ls)))) k.number k.thread.awaits)
+        (go_on p st d bits ks)
     owned_on [] k o g h = tt
     owned_on (l ∷ ks) k o g h = at (fell p d bits ks) refl (owned_on ks k.1 o.1 g.1 (λ m a e. h m a (older m a e (did p d bits ks l).moves)))
       where
-        older : (m : ℕ) (a : Asker) → asking p flows st d bits sim.arrays ks m ≡ Some a → (b : Bool) → cond b (first_of (find_ask (work_of_live p d bits ks l).asks m) l.number (asking p flows st d bits sim.arrays ks m)) (asking p flows st d bits sim.arrays ks m) ≡ Some a
+        older : (m : ℕ) (a : Asker) → asking p flows st d bits sim.arrays ks m ≡ Some a → (b : Bool)
+            → cond b (first_of (find_ask (work_of_live p d bits ks l).asks m) l.number (asking p flows st d bits sim.arrays ks m))
+            (asking p flows st d bits sim.arrays ks m)
+            ≡ Some a
         older m a e true = ap (λ x. first_of x l.number (asking p flows st d bits sim.arrays ks m)) (one_asks p flows st d bits sim.arrays m a l ks k o e) ∙ e
         older m a e false = e
 
-        mine : (did p d bits ks l).moves ≡ true → (m a : ℕ) → find_ask (work_of_live p d bits ks l).asks m ≡ Some a → asking p flows st d bits sim.arrays (l ∷ ks) m ≡ Some (record { number = l.number; address = a })
+        mine : (did p d bits ks l).moves ≡ true → (m a : ℕ) → find_ask (work_of_live p d bits ks l).asks m ≡ Some a
+            → asking p flows st d bits sim.arrays (l ∷ ks) m ≡ Some (record { number = l.number; address = a })
         mine i m a e = ap₂ (λ b x. cond b (first_of x l.number (asking p flows st d bits sim.arrays ks m)) (asking p flows st d bits sim.arrays ks m)) i e
 
         from_stage : AsksFrom (in_stage l.thread.stage p.stmts) (work_of_live p d bits ks l).asks
-        from_stage = subst (λ (w : Work). AsksFrom (in_stage l.thread.stage p.stmts) w.asks) (sym (told_here p flows st d bits sim.arrays ks l k.0).is) (asks_here p flows st d bits sim.arrays ks l k.0)
+        from_stage =
+            subst (λ (w : Work). AsksFrom (in_stage l.thread.stage p.stmts) w.asks)
+            (sym (told_here p flows st d bits sim.arrays ks l k.0).is) (asks_here p flows st d bits sim.arrays ks l k.0)
 
         at : (f : Bool) → fell p d bits ks ≡ f
-            → Each (λ k. AllOwned (Cycle.after_these p st bits (lacts p st d bits ls) (movers (lacts p st d bits ls)) (squasher (movers (lacts p st d bits ls)))) k.number k.thread.awaits) (go_on p st d bits ks)
-            → Each (λ k. AllOwned (Cycle.after_these p st bits (lacts p st d bits ls) (movers (lacts p st d bits ls)) (squasher (movers (lacts p st d bits ls)))) k.number k.thread.awaits) ((if f then [] else next_live p st d bits ks l) ++ go_on p st d bits ks)
+            → Each
+            (λ k. AllOwned
+            (Cycle.after_these p st bits (lacts p st d bits ls) (movers (lacts p st d bits ls))
+            (squasher (movers (lacts p st d bits ls)))) k.number k.thread.awaits)
+            (go_on p st d bits ks)
+            → Each
+            (λ k. AllOwned
+            (Cycle.after_these p st bits (lacts p st d bits ls) (movers (lacts p st d bits ls))
+            (squasher (movers (lacts p st d bits ls)))) k.number k.thread.awaits)
+            ((if f then [] else next_live p st d bits ks l) ++ go_on p st d bits ks)
         at true e r = r
         at false e r =
-            each_append (λ k. AllOwned (Cycle.after_these p st bits (lacts p st d bits ls) (movers (lacts p st d bits ls)) (squasher (movers (lacts p st d bits ls)))) k.number k.thread.awaits) (next_live p st d bits ks l) (go_on p st d bits ks)
-            (each_next p flows st d bits sim.arrays (λ k. AllOwned (Cycle.after_these p st bits (lacts p st d bits ls) (movers (lacts p st d bits ls)) (squasher (movers (lacts p st d bits ls)))) k.number k.thread.awaits) ks l k.0
+            each_append
+            (λ k. AllOwned
+            (Cycle.after_these p st bits (lacts p st d bits ls) (movers (lacts p st d bits ls))
+            (squasher (movers (lacts p st d bits ls)))) k.number k.thread.awaits)
+            (next_live p st d bits ks l) (go_on p st d bits ks)
+            (each_next p flows st d bits sim.arrays
+            (λ k. AllOwned
+            (Cycle.after_these p st bits (lacts p st d bits ls) (movers (lacts p st d bits ls))
+            (squasher (movers (lacts p st d bits ls)))) k.number k.thread.awaits) ks l k.0
             (λ i. owned_stood l (g.0 ∙ ap not e) l.thread.awaits k.0.seated.owned k.0.seated.keeps_on.fetched)
-            (λ i q j. owned_moved l (g.0 ∙ ap not e) (work_of_live p d bits ks l).asks (λ m a u. h m _ (mine i m a u)) (work_of_live p d bits ks l).asks from_stage (λ m u. u)))
+            (λ i q j. owned_moved l (g.0 ∙ ap not e) (work_of_live p d bits ks l).asks (λ m a u. h m _ (mine i m a u))
+            (work_of_live p d bits ks l).asks from_stage (λ m u. u)))
             r
 
-    seated_next : Each (Seated p (Cycle.after_these p st bits (lacts p st d bits ls) (movers (lacts p st d bits ls)) (squasher (movers (lacts p st d bits ls))))) (lives_next p flows st d bits sim.arrays ls)
-    seated_next = both (lives_next p flows st d bits sim.arrays ls) (ways_next p flows st d bits sim.arrays ls known) (owned (made p flows st d bits sim.arrays ls))
+    seated_next : Each
+        (Seated p (Cycle.after_these p st bits (lacts p st d bits ls) (movers (lacts p st d bits ls)) (squasher (movers (lacts p st d bits ls)))))
+        (lives_next p flows st d bits sim.arrays ls)
+    seated_next =
+        both (lives_next p flows st d bits sim.arrays ls) (ways_next p flows st d bits sim.arrays ls known) (owned (made p flows st d bits sim.arrays ls))
       where
-        owned : (c : Option (List ℕ)) → Each (λ k. AllOwned (Cycle.after_these p st bits (lacts p st d bits ls) (movers (lacts p st d bits ls)) (squasher (movers (lacts p st d bits ls)))) k.number k.thread.awaits) (born_live p st.next c ++ go_on p st d bits ls)
+        owned : (c : Option (List ℕ))
+            → Each
+            (λ k. AllOwned
+            (Cycle.after_these p st bits (lacts p st d bits ls) (movers (lacts p st d bits ls))
+            (squasher (movers (lacts p st d bits ls)))) k.number k.thread.awaits)
+            (born_live p st.next c ++ go_on p st d bits ls)
         owned None = owned_on ls known sim.ordered fit (λ m a e. e)
         owned (Some x) = (tt, owned_on ls known sim.ordered fit (λ m a e. e))
 
-        both : (ks : List Live) → Each (λ k. Keeps p k.env k.thread × (with_kept k.kept k.env ≡ k.thread.env)) ks → Each (λ k. AllOwned (Cycle.after_these p st bits (lacts p st d bits ls) (movers (lacts p st d bits ls)) (squasher (movers (lacts p st d bits ls)))) k.number k.thread.awaits) ks
+        both : (ks : List Live) → Each (λ k. Keeps p k.env k.thread × (with_kept k.kept k.env ≡ k.thread.env)) ks
+            → Each
+            (λ k. AllOwned
+            (Cycle.after_these p st bits (lacts p st d bits ls) (movers (lacts p st d bits ls))
+            (squasher (movers (lacts p st d bits ls)))) k.number k.thread.awaits) ks
             → Each (Seated p (Cycle.after_these p st bits (lacts p st d bits ls) (movers (lacts p st d bits ls)) (squasher (movers (lacts p st d bits ls))))) ks
         both [] w o = tt
         both (k ∷ ks) w o = (record { keeps_on = w.0.0; kept_in = w.0.1; owned = o.0 }, both ks w.1 o.1)
@@ -291,7 +409,8 @@ module _ (p : Pipe) (flows : Flows p) where
     past_stages g k (x ∷ xs) zero none h = absurd (omega arith)
     past_stages g k (x ∷ xs) (suc i) none h = past_stages g (suc k) xs i none (omega arith)
 
-    none_inside : (f : ℕ) → length p.stages ≤ f → (ks : List Live) → Each (λ k. Keeps p k.env k.thread × (with_kept k.kept k.env ≡ k.thread.env)) ks → sides p f ks ≡ []
+    none_inside : (f : ℕ) → length p.stages ≤ f → (ks : List Live)
+        → Each (λ k. Keeps p k.env k.thread × (with_kept k.kept k.env ≡ k.thread.env)) ks → sides p f ks ≡ []
     none_inside f h ks o = sides_none p f ks (each_map (λ k w. outside k.thread.stage (w.0.inside)) ks o)
       where
         outside : (s : ℕ) → s < length p.stages → is_inside p f s ≡ false
@@ -305,27 +424,50 @@ module _ (p : Pipe) (flows : Flows p) where
                 by true i = absurd (let same = eqb-true _ _ i in let below : x.fork < s = (flows.graph.fork_below s x e).0 in omega arith)
                 by false i = i
 
-    forks_next : (f : ℕ) → fork_of (Cycle.after_these p st bits (lacts p st d bits ls) (movers (lacts p st d bits ls)) (squasher (movers (lacts p st d bits ls)))) f ≡ sides p f (lives_next p flows st d bits sim.arrays ls)
+    forks_next : (f : ℕ)
+        → fork_of (Cycle.after_these p st bits (lacts p st d bits ls) (movers (lacts p st d bits ls)) (squasher (movers (lacts p st d bits ls)))) f
+        ≡ sides p f (lives_next p flows st d bits sim.arrays ls)
     forks_next f = at (nat_lt f (length p.stages)) refl
       where
-        at : (b : Bool) → nat_lt f (length p.stages) ≡ b → fork_of (Cycle.after_these p st bits (lacts p st d bits ls) (movers (lacts p st d bits ls)) (squasher (movers (lacts p st d bits ls)))) f ≡ sides p f (lives_next p flows st d bits sim.arrays ls)
+        at : (b : Bool) → nat_lt f (length p.stages) ≡ b
+            → fork_of (Cycle.after_these p st bits (lacts p st d bits ls) (movers (lacts p st d bits ls)) (squasher (movers (lacts p st d bits ls)))) f
+            ≡ sides p f (lives_next p flows st d bits sim.arrays ls)
         at true e =
-            at_stage (λ j. Cycle.branches_left p (squasher (movers (lacts p st d bits ls))) j (Cycle.fork_next p st (movers (lacts p st d bits ls)) j)) 0 p.stages f [] (ltb-true _ _ e)
+            at_stage
+            (λ j. Cycle.branches_left p (squasher (movers (lacts p st d bits ls))) j
+            (Cycle.fork_next p st (movers (lacts p st d bits ls)) j)) 0 p.stages f []
+            (ltb-true _ _ e)
             ∙ ap (λ j. Cycle.branches_left p (squasher (movers (lacts p st d bits ls))) j (Cycle.fork_next p st (movers (lacts p st d bits ls)) j)) (zero-add f)
-            ∙ ap (λ l. Cycle.branches_left p (squasher (movers (lacts p st d bits ls))) f ((if Cycle.has_left p f (movers (lacts p st d bits ls)) then Cycle.but_first l else l) ++ Cycle.entered_branches p f (movers (lacts p st d bits ls)))) (sim.forks f)
-            ∙ fork_next p flows st d bits sim.arrays f st.next (made p flows st d bits sim.arrays ls) (squasher (movers (lacts p st d bits ls))) ls known sim.ordered (squashes p flows st d bits sim.arrays st.next ls known sim.falls)
-        at false e = past_stages _ 0 p.stages f [] (ltb-false _ _ e) ∙ sym (none_inside f (ltb-false _ _ e) (lives_next p flows st d bits sim.arrays ls) (ways_next p flows st d bits sim.arrays ls known))
+            ∙ ap
+            (λ l. Cycle.branches_left p (squasher (movers (lacts p st d bits ls))) f
+            ((if Cycle.has_left p f (movers (lacts p st d bits ls)) then Cycle.but_first l else l)
+            ++ Cycle.entered_branches p f (movers (lacts p st d bits ls))))
+            (sim.forks f)
+            ∙ fork_next p flows st d bits sim.arrays f st.next (made p flows st d bits sim.arrays ls)
+            (squasher (movers (lacts p st d bits ls))) ls known sim.ordered (squashes p flows st d bits sim.arrays st.next ls known sim.falls)
+        at false e =
+            past_stages _ 0 p.stages f [] (ltb-false _ _ e)
+            ∙ sym (none_inside f (ltb-false _ _ e) (lives_next p flows st d bits sim.arrays ls) (ways_next p flows st d bits sim.arrays ls known))
 
     -- the next states belong together
-    next_sim : Sim p (Cycle.after_these p st bits (lacts p st d bits ls) (movers (lacts p st d bits ls)) (squasher (movers (lacts p st d bits ls)))) (Derived.after_acts p d bits (rev (dacts p d bits ls))) (lives_next p flows st d bits sim.arrays ls)
+    next_sim : Sim p (Cycle.after_these p st bits (lacts p st d bits ls) (movers (lacts p st d bits ls)) (squasher (movers (lacts p st d bits ls))))
+        (Derived.after_acts p d bits (rev (dacts p d bits ls))) (lives_next p flows st d bits sim.arrays ls)
     next_sim =
         record {
           arrays = arrays_next;
           threads = survive p flows st d bits sim.arrays ls known sim.have_made;
-          stages = stages_same _ _ 0 p.stages (λ q i. ap (λ c. Cycle.or_then (if q == 0 then Cycle.born_thread p st.next c else None) (Cycle.if_kept (squasher (movers (lacts p st d bits ls))) (Cycle.next_thread p q (lacts p st d bits ls)))) (child_is p flows st d bits sim.arrays ls known)
+          stages =
+              stages_same _ _ 0 p.stages
+              (λ q i. ap
+              (λ c. Cycle.or_then (if q == 0 then Cycle.born_thread p st.next c else None)
+              (Cycle.if_kept (squasher (movers (lacts p st d bits ls))) (Cycle.next_thread p q (lacts p st d bits ls))))
+              (child_is p flows st d bits sim.arrays ls known)
               ∙ stage_is p flows st d bits sim.arrays (squasher (movers (lacts p st d bits ls))) q ls known sim.ordered fit);
           locks = locks_next;
-          falls = subst (λ c. Falls (if is_some c then suc st.next else st.next) (lives_next p flows st d bits sim.arrays ls)) (sym (child_is p flows st d bits sim.arrays ls known)) (falls_next p flows st d bits sim.arrays ls sim.falls);
+          falls =
+              subst (λ c. Falls (if is_some c then suc st.next else st.next) (lives_next p flows st d bits sim.arrays ls))
+              (sym (child_is p flows st d bits sim.arrays ls known))
+              (falls_next p flows st d bits sim.arrays ls sim.falls);
           ordered = ordered_next p flows st d bits sim.arrays ls known sim.ordered sim.have_made;
           seated = seated_next;
           have_made = made_next p flows st d bits sim.arrays ls known sim.have_made;
@@ -338,7 +480,10 @@ module _ (p : Pipe) (flows : Flows p) where
     pub cycle_sim : Sim p (Cycle.cycle p st bits) (Derived.cycle p d bits) (lives_next p flows st d bits sim.arrays ls)
     cycle_sim =
         subst (λ s. Sim p s (Derived.cycle p d bits) (lives_next p flows st d bits sim.arrays ls)) (sym after_is)
-        (subst (λ these. Sim p (Cycle.after_these p st bits (lacts p st d bits ls) (movers (lacts p st d bits ls)) (squasher (movers (lacts p st d bits ls)))) (Derived.after_acts p d bits these) (lives_next p flows st d bits sim.arrays ls)) (sym derived_acts_are) next_sim)
+        (subst
+        (λ these. Sim p (Cycle.after_these p st bits (lacts p st d bits ls) (movers (lacts p st d bits ls)) (squasher (movers (lacts p st d bits ls))))
+        (Derived.after_acts p d bits these) (lives_next p flows st d bits sim.arrays ls))
+        (sym derived_acts_are) next_sim)
 
     -- THE PORTS
 
@@ -346,7 +491,8 @@ module _ (p : Pipe) (flows : Flows p) where
     any_movers test [] = refl
     any_movers test (x ∷ xs) = at x.moves (any_movers test xs)
       where
-        at : (b : Bool) → list_any test (movers xs) ≡ list_any (λ a. a.moves && test a) xs → list_any test (cond b (x ∷ movers xs) (movers xs)) ≡ ((b && test x) || list_any (λ a. a.moves && test a) xs)
+        at : (b : Bool) → list_any test (movers xs) ≡ list_any (λ a. a.moves && test a) xs
+            → list_any test (cond b (x ∷ movers xs) (movers xs)) ≡ ((b && test x) || list_any (λ a. a.moves && test a) xs)
         at true h = ap (λ b. test x || b) h
         at false h = h
 
@@ -356,7 +502,9 @@ module _ (p : Pipe) (flows : Flows p) where
     any_pair one other [] k f = refl
     any_pair one other (l ∷ ks) k f = ap₂ (λ a b. a || b) (f ks l k.0) (any_pair one other ks k.1 f)
 
-    flags : (f : ℕ → Bool) (these : List Derived.Act) (test : Derived.Act → Bool) (s : ℕ) (xs : List Stage) → ((q : ℕ) → f q ≡ list_any (λ a. (a.before.stage == q) && test a) these) → for_stages f s xs ≡ stage_flags these test s xs
+    flags : (f : ℕ → Bool) (these : List Derived.Act) (test : Derived.Act → Bool) (s : ℕ) (xs : List Stage)
+        → ((q : ℕ) → f q ≡ list_any (λ a. (a.before.stage == q) && test a) these)
+        → for_stages f s xs ≡ stage_flags these test s xs
     flags f these test s [] h = refl
     flags f these test s (x ∷ xs) h = ap₂ (λ a l. a ∷ l) (h s) (flags f these test (suc s) xs h)
 
@@ -370,12 +518,17 @@ module _ (p : Pipe) (flows : Flows p) where
     and_comm false false = refl
 
     -- both waits ask the same of each memory
-    waits_are : (f : ℕ → Request) (g : ℕ → Option ℕ) → ((m : ℕ) → Cycle.is_outstanding (f m) ≡ is_some (g m)) → (k : ℕ) (xs : List Mem) → Cycle.waits_from p bits k (for_mems f k xs) ≡ Derived.waits_from p bits k (for_mems g k xs)
+    waits_are : (f : ℕ → Request) (g : ℕ → Option ℕ) → ((m : ℕ) → Cycle.is_outstanding (f m) ≡ is_some (g m))
+        → (k : ℕ) (xs : List Mem)
+        → Cycle.waits_from p bits k (for_mems f k xs) ≡ Derived.waits_from p bits k (for_mems g k xs)
     waits_are f g h k [] = refl
     waits_are f g h k (x ∷ xs) = at (g k) (ap₂ (λ a b. (a && not (is_answered p bits k)) || b) (h k) (waits_are f g h (suc k) xs))
       where
-        at : (o : Option ℕ) → ((Cycle.is_outstanding (f k) && not (is_answered p bits k)) || Cycle.waits_from p bits (suc k) (for_mems f (suc k) xs)) ≡ ((is_some o && not (is_answered p bits k)) || Derived.waits_from p bits (suc k) (for_mems g (suc k) xs))
-            → ((Cycle.is_outstanding (f k) && not (is_answered p bits k)) || Cycle.waits_from p bits (suc k) (for_mems f (suc k) xs)) ≡ Derived.waits_from p bits k (o ∷ for_mems g (suc k) xs)
+        at : (o : Option ℕ)
+            → ((Cycle.is_outstanding (f k) && not (is_answered p bits k)) || Cycle.waits_from p bits (suc k) (for_mems f (suc k) xs))
+            ≡ ((is_some o && not (is_answered p bits k)) || Derived.waits_from p bits (suc k) (for_mems g (suc k) xs))
+            → ((Cycle.is_outstanding (f k) && not (is_answered p bits k)) || Cycle.waits_from p bits (suc k) (for_mems f (suc k) xs))
+            ≡ Derived.waits_from p bits k (o ∷ for_mems g (suc k) xs)
         at None e = e
         at (Some a) e = e
 
@@ -387,31 +540,60 @@ module _ (p : Pipe) (flows : Flows p) where
         at (Owned n a) h = ap is_some (sym h.0)
         at (Orphan a) h = ap is_some (sym h)
 
-    pub turn_same : SameTurn p (record { ports = Cycle.ports p st (Moves.all_acts p st bits); wait = Cycle.is_wait p st bits }) (record { ports = Derived.ports_of p (Derived.all_acts p d bits); wait = Derived.is_wait p d bits })
+    pub turn_same : SameTurn p (record { ports = Cycle.ports p st (Moves.all_acts p st bits); wait = Cycle.is_wait p st bits })
+        (record { ports = Derived.ports_of p (Derived.all_acts p d bits); wait = Derived.is_wait p d bits })
     turn_same =
-        subst (λ ports. SameTurn p (record { ports = ports; wait = Cycle.is_wait p st bits }) (record { ports = Derived.ports_of p (Derived.all_acts p d bits); wait = Derived.is_wait p d bits })) (sym ports_are)
-        (subst (λ bs. SameTurn p (record { ports = Cycle.ports p st (lacts p st d bits ls); wait = Cycle.is_wait p st bits }) (record { ports = Derived.ports_of p bs; wait = Derived.is_wait p d bits })) (sym derived_acts_are)
+        subst
+        (λ ports. SameTurn p (record { ports = ports; wait = Cycle.is_wait p st bits })
+        (record { ports = Derived.ports_of p (Derived.all_acts p d bits); wait = Derived.is_wait p d bits }))
+        (sym ports_are)
+        (subst
+        (λ bs. SameTurn p (record { ports = Cycle.ports p st (lacts p st d bits ls); wait = Cycle.is_wait p st bits })
+        (record { ports = Derived.ports_of p bs; wait = Derived.is_wait p d bits }))
+        (sym derived_acts_are)
         (record {
-          valid = flags _ (rev (dacts p d bits ls)) _ 0 p.stages (λ q. any_pair (λ a. a.stage == q) (λ a. (a.before.stage == q) && true) ls known (λ ks l k. and_true (l.thread.stage == q)) ∙ sym (any_rev _ (dacts p d bits ls)));
-          moves = flags _ (rev (dacts p d bits ls)) _ 0 p.stages (λ q. any_movers (λ a. a.stage == q) (lacts p st d bits ls) ∙ any_pair (λ a. a.moves && (a.stage == q)) (λ a. (a.before.stage == q) && a.moves) ls known (λ ks l k. and_comm _ (l.thread.stage == q)) ∙ sym (any_rev _ (dacts p d bits ls)));
+          valid =
+              flags _ (rev (dacts p d bits ls)) _ 0 p.stages
+              (λ q. any_pair (λ a. a.stage == q) (λ a. (a.before.stage == q) && true) ls known (λ ks l k. and_true (l.thread.stage == q))
+              ∙ sym (any_rev _ (dacts p d bits ls)));
+          moves =
+              flags _ (rev (dacts p d bits ls)) _ 0 p.stages
+              (λ q. any_movers (λ a. a.stage == q) (lacts p st d bits ls)
+              ∙ any_pair (λ a. a.moves && (a.stage == q)) (λ a. (a.before.stage == q) && a.moves) ls known (λ ks l k. and_comm _ (l.thread.stage == q))
+              ∙ sym (any_rev _ (dacts p d bits ls)));
           commits = commits_shown;
-          requests = mems_same _ _ 0 p.mems (λ m. shown_is p flows st d bits sim.arrays m ls known ∙ sym (finds_is p flows st d bits sim.arrays m ls known sim.ordered));
+          requests =
+              mems_same _ _ 0 p.mems
+              (λ m. shown_is p flows st d bits sim.arrays m ls known ∙ sym (finds_is p flows st d bits sim.arrays m ls known sim.ordered));
           ended = any_movers (λ a. is_none (next_stage p a.stage a.does)) (lacts p st d bits ls)
-              ∙ any_pair (λ a. a.moves && is_none (next_stage p a.stage a.does)) (λ a. a.moves && is_none (Derived.exit_of p a)) ls known (λ ks l k. ap (λ (w : Work). (did p d bits ks l).moves && is_none (goes_to (stage_at p l.thread.stage).next w.env)) (sym (told_here p flows st d bits sim.arrays ks l k).is))
+              ∙ any_pair (λ a. a.moves && is_none (next_stage p a.stage a.does))
+              (λ a. a.moves && is_none (Derived.exit_of p a)) ls known
+              (λ ks l k. ap (λ (w : Work). (did p d bits ks l).moves && is_none (goes_to (stage_at p l.thread.stage).next w.env))
+              (sym (told_here p flows st d bits sim.arrays ks l k).is))
               ∙ sym (any_rev _ (dacts p d bits ls));
           squash = squashes p flows st d bits sim.arrays st.next ls known sim.falls ∙ sym (any_rev _ (dacts p d bits ls));
-          wait = ap (Cycle.waits_from p bits 0) sim.requests ∙ waits_are (request_of st) (asked_at d) outstanding 0 p.mems ∙ ap (Derived.waits_from p bits 0) (sym sim.asked);
+          wait =
+              ap (Cycle.waits_from p bits 0) sim.requests ∙ waits_are (request_of st) (asked_at d) outstanding 0 p.mems
+              ∙ ap (Derived.waits_from p bits 0) (sym sim.asked);
         }))
       where
-        commits_shown : (m : ℕ) → commit_shown m (slice_index_or (for_mems (λ j. port_write (taken_out st (movers (lacts p st d bits ls)) j)) 0 p.mems) m None) ≡ of_mem m (commits_of (rev (dacts p d bits ls)))
+        commits_shown : (m : ℕ)
+            → commit_shown m (slice_index_or (for_mems (λ j. port_write (taken_out st (movers (lacts p st d bits ls)) j)) 0 p.mems) m None)
+            ≡ of_mem m (commits_of (rev (dacts p d bits ls)))
         commits_shown m = at (nat_lt m (length p.mems)) refl
           where
-            at : (b : Bool) → nat_lt m (length p.mems) ≡ b → commit_shown m (slice_index_or (for_mems (λ j. port_write (taken_out st (movers (lacts p st d bits ls)) j)) 0 p.mems) m None) ≡ of_mem m (commits_of (rev (dacts p d bits ls)))
+            at : (b : Bool) → nat_lt m (length p.mems) ≡ b
+                → commit_shown m (slice_index_or (for_mems (λ j. port_write (taken_out st (movers (lacts p st d bits ls)) j)) 0 p.mems) m None)
+                ≡ of_mem m (commits_of (rev (dacts p d bits ls)))
             at true e =
-                ap (commit_shown m) (at_mem (λ j. port_write (taken_out st (movers (lacts p st d bits ls)) j)) 0 p.mems m None (ltb-true _ _ e) ∙ ap (λ j. port_write (taken_out st (movers (lacts p st d bits ls)) j)) (zero-add m))
+                ap (commit_shown m)
+                (at_mem (λ j. port_write (taken_out st (movers (lacts p st d bits ls)) j)) 0 p.mems m None (ltb-true _ _ e)
+                ∙ ap (λ j. port_write (taken_out st (movers (lacts p st d bits ls)) j)) (zero-add m))
                 ∙ sym (commits_are m)
             at false e =
-                ap (commit_shown m) (past_mems (λ j. port_write (taken_out st (movers (lacts p st d bits ls)) j)) 0 p.mems m None (ltb-false _ _ e) ∙ ap port_write (sym (never m (ltb-false _ _ e))))
+                ap (commit_shown m)
+                (past_mems (λ j. port_write (taken_out st (movers (lacts p st d bits ls)) j)) 0 p.mems m None (ltb-false _ _ e)
+                ∙ ap port_write (sym (never m (ltb-false _ _ e))))
                 ∙ sym (commits_are m)
 
   -- RUNS
@@ -472,10 +654,12 @@ module _ (p : Pipe) (flows : Flows p) where
 
   -- a run of both, and the live threads at its end
   pub runs_same : (st : State) (d : Derived.State) (schedule : List (List Bool)) (ls : List Live) → Sim p st d ls
-      → SameTurns p (Cycle.turns_from p st schedule) (Derived.turns_from p d schedule) × ((ks : List Live) × Sim p (Cycle.state_after p st schedule) (Derived.state_after p d schedule) ks)
+      → SameTurns p (Cycle.turns_from p st schedule) (Derived.turns_from p d schedule)
+      × ((ks : List Live) × Sim p (Cycle.state_after p st schedule) (Derived.state_after p d schedule) ks)
   runs_same st d [] ls sim = (tt, (ls, sim))
   runs_same st d (bits ∷ schedule) ls sim =
-      let rest = runs_same (Cycle.cycle p st bits) (Derived.cycle p d bits) schedule (lives_next p flows st d bits sim.arrays ls) (cycle_sim st d bits ls sim) in
+      let rest =
+      runs_same (Cycle.cycle p st bits) (Derived.cycle p d bits) schedule (lives_next p flows st d bits sim.arrays ls) (cycle_sim st d bits ls sim) in
       ((turn_same st d bits ls sim, rest.0), rest.1)
 
   -- the simulation

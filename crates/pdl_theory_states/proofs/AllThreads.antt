@@ -32,18 +32,26 @@ module _ (p : Pipe) (sound : Sound p) (st : State) (d : Derived.State) (ls : Lis
   live_here = live_is p st st.next ls sim.stages (each_map (λ k h. h.keeps_on.inside) ls sim.seated) sim.ordered sim.falls
 
   -- 1.
-  order_pairs : (ks : List Live) (n : ℕ) → Ordered p ks → Falls n ks → Along (Lasting p st) ks → Pairwise (λ k l. (nat_lt k.number l.number && Sound.is_behind p (told k) (told l)) ≡ true) ks
+  order_pairs : (ks : List Live) (n : ℕ) → Ordered p ks → Falls n ks → Along (Lasting p st) ks
+      → Pairwise (λ k l. (nat_lt k.number l.number && Sound.is_behind p (told k) (told l)) ≡ true) ks
   order_pairs [] n o f a = tt
   order_pairs (l ∷ ks) n o f a = (each ks o.0 (falls_each l.number ks f.1) a.1, order_pairs ks l.number o.1 f.1 a.1)
     where
-      each : (js : List Live) → Each (λ k. Behind p l.thread.stage k.thread.stage) js → Each (λ k. k.number < l.number) js → Along (Lasting p st) js → Each (λ k. (nat_lt k.number l.number && Sound.is_behind p (told k) (told l)) ≡ true) js
+      each : (js : List Live) → Each (λ k. Behind p l.thread.stage k.thread.stage) js
+          → Each (λ k. k.number < l.number) js → Along (Lasting p st) js
+          → Each (λ k. (nat_lt k.number l.number && Sound.is_behind p (told k) (told l)) ≡ true) js
       each [] b g c = tt
-      each (j ∷ js) b g c = (both_true (lt-ltb _ _ g.0) (behind_is p (sound_flows p sound).graph (told j) (told l) j.env l.env c.0.local.trail a.0.local.trail c.0.local.walked a.0.local.walked b.0), each js b.1 g.1 c.1)
+      each (j ∷ js) b g c = (
+        both_true (lt-ltb _ _ g.0)
+            (behind_is p (sound_flows p sound).graph (told j) (told l) j.env l.env c.0.local.trail a.0.local.trail c.0.local.walked a.0.local.walked b.0),
+        each js b.1 g.1 c.1,
+      )
 
   pub order_point : in_order p st ≡ true
   order_point =
       both_true
-      (ap (all_pairs (λ older younger. nat_lt older.thread.number younger.thread.number && Sound.is_behind p older younger)) live_here ∙ pairs_all _ ls (order_pairs ls st.next sim.ordered sim.falls whole.along))
+      (ap (all_pairs (λ older younger. nat_lt older.thread.number younger.thread.number && Sound.is_behind p older younger)) live_here
+      ∙ pairs_all _ ls (order_pairs ls st.next sim.ordered sim.falls whole.along))
       (from_all _ 0 p.stages (λ f. ap₂ Sound.same_sides (sim.forks f) (ap (Sound.sides_in p f) live_here ∙ sides_are p f ls) ∙ sides_same (sides p f ls)))
 
   -- 2.
@@ -55,7 +63,8 @@ module _ (p : Pipe) (sound : Sound p) (st : State) (d : Derived.State) (ls : Lis
       at (l ∷ ks) h y f = chain p l ks h y
 
   -- 6.
-  certain_pairs : (v : ℕ) → verify_stage p.stmts ≡ Some v → (ks : List Live) → Ordered p ks → Along (Lasting p st) ks → Pairwise (λ k l. certain_after p (Some v) (told k) (told l) ≡ true) ks
+  certain_pairs : (v : ℕ) → verify_stage p.stmts ≡ Some v → (ks : List Live) → Ordered p ks → Along (Lasting p st) ks
+      → Pairwise (λ k l. certain_after p (Some v) (told k) (told l) ≡ true) ks
   certain_pairs v e [] o a = tt
   certain_pairs v e (l ∷ ks) o a = (by (nat_lt v l.thread.stage) refl (has_done is_barrier p (told l)) refl, certain_pairs v e ks o.1 a.1)
     where
@@ -69,11 +78,13 @@ module _ (p : Pipe) (sound : Sound p) (st : State) (d : Derived.State) (ls : Lis
       holds : Each (λ k. v < k.thread.stage) ks → Each (λ k. certain_after p (Some v) (told k) (told l) ≡ true) ks
       holds h = each_map (λ k i. or_right (not (nat_lt v l.thread.stage || has_done is_barrier p (told l))) _ (lt-ltb _ _ i)) ks h
 
-      every : (js : List Live) → nat_lt v l.thread.stage ≡ false → has_done is_barrier p (told l) ≡ false → Each (λ k. certain_after p (Some v) (told k) (told l) ≡ true) js
+      every : (js : List Live) → nat_lt v l.thread.stage ≡ false → has_done is_barrier p (told l) ≡ false
+          → Each (λ k. certain_after p (Some v) (told k) (told l) ≡ true) js
       every [] i j = tt
       every (k ∷ js) i j = (ap₂ (λ a b. not (a || b) || nat_lt v k.thread.stage) i j, every js i j)
 
-      by : (b : Bool) → nat_lt v l.thread.stage ≡ b → (c : Bool) → has_done is_barrier p (told l) ≡ c → Each (λ k. certain_after p (Some v) (told k) (told l) ≡ true) ks
+      by : (b : Bool) → nat_lt v l.thread.stage ≡ b → (c : Bool) → has_done is_barrier p (told l) ≡ c
+          → Each (λ k. certain_after p (Some v) (told k) (told l) ≡ true) ks
       by true i c j = holds (each_map (λ k h. h.trunk v trunk (le_of_lt (ltb-true _ _ i))) ks o.0)
       by false i true j = holds (a.0.certain v e (any_onto is_barrier barred (λ op ops. refl) (on_way p l.env l.thread.stage) [] j))
       by false i false j = every ks i j
@@ -106,11 +117,13 @@ module _ (p : Pipe) (sound : Sound p) (st : State) (d : Derived.State) (ls : Lis
     where
       at : (m : ℕ) (r : Request) → Matched r (Derived.asked_at d m) m ls → Sound.has_owner st m r ≡ true
       at m NoRequest h = refl
-      at m (Owned n a) h = ap (list_any (λ (l : Sound.Live). (l.thread.number == n) && list_any (λ r. r.mem == m) l.thread.awaits)) live_here ∙ owner_any n m ls h.1
+      at m (Owned n a) h =
+          ap (list_any (λ (l : Sound.Live). (l.thread.number == n) && list_any (λ r. r.mem == m) l.thread.awaits)) live_here ∙ owner_any n m ls h.1
       at m (Orphan a) h = refl
 
   -- 9.
-  each_block : (ks : List Live) → AllKnown p (sound_flows p sound) st d [] sim.arrays ks → Along (Lasting p st) ks → Each (λ l. list_all (λ (x : Stmt). stays_ready p st (told l) x.op) (past_stmts p (told l)) ≡ true) ks
+  each_block : (ks : List Live) → AllKnown p (sound_flows p sound) st d [] sim.arrays ks → Along (Lasting p st) ks
+      → Each (λ l. list_all (λ (x : Stmt). stays_ready p st (told l) x.op) (past_stmts p (told l)) ≡ true) ks
   each_block [] k a = tt
   each_block (l ∷ ks) k a = (
     blocks_point p st l ks k.0.seated.keeps_on.held (λ m x. k.0.older m x ∙ ap (λ ts. latest ts m x) (befores_are p d [] ks)) a.0.blocks,
@@ -118,10 +131,14 @@ module _ (p : Pipe) (sound : Sound p) (st : State) (d : Derived.State) (ls : Lis
   )
 
   pub ready_point : list_all (λ l. list_all (λ (x : Stmt). stays_ready p st l x.op) (past_stmts p l)) (live st) ≡ true
-  ready_point = ap (list_all (λ l. list_all (λ (x : Stmt). stays_ready p st l x.op) (past_stmts p l))) live_here ∙ all_each _ ls (each_block ls (known p (sound_flows p sound) st d [] ls sim) whole.along)
+  ready_point =
+      ap (list_all (λ l. list_all (λ (x : Stmt). stays_ready p st l x.op) (past_stmts p l))) live_here
+      ∙ all_each _ ls (each_block ls (known p (sound_flows p sound) st d [] ls sim) whole.along)
 
   -- and the path
-  each_path : (ks : List Live) → Each (Seated p st) ks → Along (Lasting p st) ks → Each (λ k. k.number < st.next) ks → ((m : ℕ) (test : Pending → Bool) → list_any test (pends m ks) ≡ true → list_any test (lock_of st m) ≡ true) → Each (λ l. on_path p st (told l) ≡ true) ks
+  each_path : (ks : List Live) → Each (Seated p st) ks → Along (Lasting p st) ks → Each (λ k. k.number < st.next) ks
+      → ((m : ℕ) (test : Pending → Bool) → list_any test (pends m ks) ≡ true → list_any test (lock_of st m) ≡ true)
+      → Each (λ l. on_path p st (told l) ≡ true) ks
   each_path [] s a n f = tt
   each_path (l ∷ ks) s a n f = (
     path_point p sound st l s.0 a.0.local n.0 (λ m test h. f m test (any_append test (pends m ks) (pend m l.number l.thread.entries) h)),
@@ -129,4 +146,6 @@ module _ (p : Pipe) (sound : Sound p) (st : State) (d : Derived.State) (ls : Lis
   )
 
   pub paths_point : list_all (on_path p st) (live st) ≡ true
-  paths_point = ap (list_all (on_path p st)) live_here ∙ all_each (on_path p st) ls (each_path ls sim.seated whole.along (falls_each st.next ls sim.falls) (λ m test h. ap (list_any test) (sim.locks m) ∙ h))
+  paths_point =
+      ap (list_all (on_path p st)) live_here
+      ∙ all_each (on_path p st) ls (each_path ls sim.seated whole.along (falls_each st.next ls sim.falls) (λ m test h. ap (list_any test) (sim.locks m) ∙ h))

@@ -67,19 +67,26 @@ module _ (p : Pipe) (sound : Sound p) (strict : Strict p) (image : Arrays) (sche
   pub owners : IsTrue (all_from (λ m. has_owner (state_after p (first p image) schedule) m (request_of (state_after p (first p image) schedule) m)) 0 p.mems)
   owners = true_is _ (owners_point p sound _ _ _ sim_here whole_here)
 
-  pub blocks : IsTrue (list_all (λ l. list_all (λ (x : Stmt). stays_ready p (state_after p (first p image) schedule) l x.op) (past_stmts p l)) (live (state_after p (first p image) schedule)))
+  pub blocks : IsTrue
+      (list_all (λ l. list_all (λ (x : Stmt). stays_ready p (state_after p (first p image) schedule) l x.op) (past_stmts p l))
+      (live (state_after p (first p image) schedule)))
   blocks = true_is _ (ready_point p sound _ _ _ sim_here whole_here)
 
   pub paths : IsTrue (list_all (on_path p (state_after p (first p image) schedule)) (live (state_after p (first p image) schedule)))
   paths = true_is _ (paths_point p sound _ _ _ sim_here whole_here)
 
-  pub pending : IsTrue (all_from (λ m. same_args (Sound.owners (lock_of (state_after p (first p image) schedule) m)) (Sound.holders p m (live (state_after p (first p image) schedule)))) 0 p.mems)
+  pub pending : IsTrue
+      (all_from
+      (λ m. same_args (Sound.owners (lock_of (state_after p (first p image) schedule) m))
+      (Sound.holders p m (live (state_after p (first p image) schedule)))) 0 p.mems)
   pending = true_is _ (holders_point p sound _ _ _ sim_here whole_here)
 
-  pub runs_here : Follows.Runs p (course p sound) image (Derived.ended_in (Derived.turns p image schedule)) (Derived.all_commits (Derived.turns p image schedule)) (Derived.state_after p (Derived.first p image) schedule)
+  pub runs_here : Follows.Runs p (course p sound) image (Derived.ended_in (Derived.turns p image schedule))
+      (Derived.all_commits (Derived.turns p image schedule)) (Derived.state_after p (Derived.first p image) schedule)
   runs_here = Follows.run_of p (course p sound) image schedule
 
-  some_seat : (arrays : Arrays) (args : List ℕ) (strays : List Derived.Thread) (sps : List Spot) → seats p arrays args sps ++ strays ≡ [] → is_nil sps ≡ false → ⊥
+  some_seat : (arrays : Arrays) (args : List ℕ) (strays : List Derived.Thread) (sps : List Spot)
+      → seats p arrays args sps ++ strays ≡ [] → is_nil sps ≡ false → ⊥
   some_seat arrays args strays [] h k = cc k
   some_seat arrays args strays (sp ∷ sps) h k = cc h
 
@@ -101,13 +108,29 @@ module _ (p : Pipe) (sound : Sound p) (strict : Strict p) (image : Arrays) (sche
   rows_now : RowsAt image (λ m. of_mem m (Derived.all_commits (Derived.turns p image schedule))) (Derived.state_after p (Derived.first p image) schedule).arrays
   rows_now m = ap (λ l. row l m) runs_here.arrays ∙ row_committed m (Derived.all_commits (Derived.turns p image schedule)) image
 
-  all_good : AllGood p sound image (state_after p (first p image) schedule) (Derived.state_after p (Derived.first p image) schedule) sim_here.arrays (λ m. of_mem m (Derived.all_commits (Derived.turns p image schedule))) rows_now (reached p sound strict image schedule).0 sim_here.matched
-      (followers_of p (after_turns p image (Derived.ended_in (Derived.turns p image schedule))).arrays (after_turns p image (Derived.ended_in (Derived.turns p image schedule))).next (tells (rev (reached p sound strict image schedule).0)))
+  all_good : AllGood p sound image (state_after p (first p image) schedule)
+      (Derived.state_after p (Derived.first p image) schedule) sim_here.arrays
+      (λ m. of_mem m (Derived.all_commits (Derived.turns p image schedule))) rows_now
+      (reached p sound strict image schedule).0 sim_here.matched
+      (followers_of p (after_turns p image (Derived.ended_in (Derived.turns p image schedule))).arrays
+      (after_turns p image (Derived.ended_in (Derived.turns p image schedule))).next
+      (tells (rev (reached p sound strict image schedule).0)))
   all_good =
-      walk p sound image (state_after p (first p image) schedule) (Derived.state_after p (Derived.first p image) schedule) sim_here.arrays (λ m. of_mem m (Derived.all_commits (Derived.turns p image schedule))) rows_now (reached p sound strict image schedule).0 sim_here.matched
-      (λ m. of_mem m (writes_from p (Derived.ended_in (Derived.turns p image schedule)) image p.start)) (λ m. []) (after_turns p image (Derived.ended_in (Derived.turns p image schedule))).arrays (after_turns p image (Derived.ended_in (Derived.turns p image schedule))).next (length p.stages ∷ [])
-      (rev (reached p sound strict image schedule).0) runs_here.spots runs_here.strays (Follows.rows_at p (course p sound) image (Derived.ended_in (Derived.turns p image schedule))) (λ m h. refl) runs_here.standing runs_here.tail
-      (sym (threads_back (reached p sound strict image schedule).0) ∙ sym sim_here.threads ∙ runs_here.threads) (each_back (Seated p (state_after p (first p image) schedule)) (reached p sound strict image schedule).0 sim_here.seated) (each_back (Mine p (state_after p (first p image) schedule)) (reached p sound strict image schedule).0 (each_mine p (state_after p (first p image) schedule) (reached p sound strict image schedule).0 sim_here.falls whole_here.along sim_here.locks))
+      walk p sound image (state_after p (first p image) schedule)
+      (Derived.state_after p (Derived.first p image) schedule) sim_here.arrays
+      (λ m. of_mem m (Derived.all_commits (Derived.turns p image schedule))) rows_now
+      (reached p sound strict image schedule).0 sim_here.matched
+      (λ m. of_mem m (writes_from p (Derived.ended_in (Derived.turns p image schedule)) image p.start)) (λ m. [])
+      (after_turns p image (Derived.ended_in (Derived.turns p image schedule))).arrays
+      (after_turns p image (Derived.ended_in (Derived.turns p image schedule))).next (length p.stages ∷ [])
+      (rev (reached p sound strict image schedule).0) runs_here.spots runs_here.strays
+      (Follows.rows_at p (course p sound) image (Derived.ended_in (Derived.turns p image schedule)))
+      (λ m h. refl) runs_here.standing runs_here.tail
+      (sym (threads_back (reached p sound strict image schedule).0) ∙ sym sim_here.threads ∙ runs_here.threads)
+      (each_back (Seated p (state_after p (first p image) schedule)) (reached p sound strict image schedule).0 sim_here.seated)
+      (each_back (Mine p (state_after p (first p image) schedule))
+      (reached p sound strict image schedule).0
+      (each_mine p (state_after p (first p image) schedule) (reached p sound strict image schedule).0 sim_here.falls whole_here.along sim_here.locks))
 
   -- how many threads have ended
   same : Cycle.ended_in (Cycle.turns p image schedule) ≡ Derived.ended_in (Derived.turns p image schedule)
@@ -117,61 +140,103 @@ module _ (p : Pipe) (sound : Sound p) (strict : Strict p) (image : Arrays) (sche
   lives_are = live_here p sound _ _ _ sim_here whole_here ∙ oldest_tells (reached p sound strict image schedule).0
 
   followers_here : followers p image (Cycle.ended_in (Cycle.turns p image schedule)) (state_after p (first p image) schedule)
-      ≡ followers_of p (after_turns p image (Derived.ended_in (Derived.turns p image schedule))).arrays (after_turns p image (Derived.ended_in (Derived.turns p image schedule))).next (tells (rev (reached p sound strict image schedule).0))
+      ≡ followers_of p (after_turns p image (Derived.ended_in (Derived.turns p image schedule))).arrays
+      (after_turns p image (Derived.ended_in (Derived.turns p image schedule))).next
+      (tells (rev (reached p sound strict image schedule).0))
   followers_here = λ i. followers_of p (after_turns p image (same i)).arrays (after_turns p image (same i)).next (lives_are i)
 
   strays_here : strays p image (Cycle.ended_in (Cycle.turns p image schedule)) (state_after p (first p image) schedule)
-      ≡ strays_of p (after_turns p image (Derived.ended_in (Derived.turns p image schedule))).arrays (after_turns p image (Derived.ended_in (Derived.turns p image schedule))).next (tells (rev (reached p sound strict image schedule).0))
+      ≡ strays_of p (after_turns p image (Derived.ended_in (Derived.turns p image schedule))).arrays
+      (after_turns p image (Derived.ended_in (Derived.turns p image schedule))).next
+      (tells (rev (reached p sound strict image schedule).0))
   strays_here = λ i. strays_of p (after_turns p image (same i)).arrays (after_turns p image (same i)).next (lives_are i)
 
   -- what each follower passes, all pass
   all_follow : (test : Follower → Bool)
-      → ((f : Follower) → Good p sound image (state_after p (first p image) schedule) (Derived.state_after p (Derived.first p image) schedule) sim_here.arrays (λ m. of_mem m (Derived.all_commits (Derived.turns p image schedule))) rows_now (reached p sound strict image schedule).0 sim_here.matched f → test f ≡ true)
+      → ((f : Follower)
+      → Good p sound image (state_after p (first p image) schedule)
+      (Derived.state_after p (Derived.first p image) schedule) sim_here.arrays
+      (λ m. of_mem m (Derived.all_commits (Derived.turns p image schedule))) rows_now
+      (reached p sound strict image schedule).0 sim_here.matched f
+      → test f ≡ true)
       → list_all test (followers p image (Cycle.ended_in (Cycle.turns p image schedule)) (state_after p (first p image) schedule)) ≡ true
   all_follow test g =
       ap (list_all test) followers_here
-      ∙ good_all p sound image (state_after p (first p image) schedule) (Derived.state_after p (Derived.first p image) schedule) sim_here.arrays (λ m. of_mem m (Derived.all_commits (Derived.turns p image schedule))) rows_now (reached p sound strict image schedule).0 sim_here.matched test g _ all_good
+      ∙ good_all p sound image (state_after p (first p image) schedule)
+      (Derived.state_after p (Derived.first p image) schedule) sim_here.arrays
+      (λ m. of_mem m (Derived.all_commits (Derived.turns p image schedule))) rows_now
+      (reached p sound strict image schedule).0 sim_here.matched test g _ all_good
 
   -- 3.
-  pub values : IsTrue (list_all (follows_values p (state_after p (first p image) schedule)) (followers p image (Cycle.ended_in (Cycle.turns p image schedule)) (state_after p (first p image) schedule)))
+  pub values : IsTrue
+      (list_all (follows_values p (state_after p (first p image) schedule))
+      (followers p image (Cycle.ended_in (Cycle.turns p image schedule)) (state_after p (first p image) schedule)))
   values = true_is _ (all_follow (follows_values p (state_after p (first p image) schedule))
       (λ f g. ap₂ (λ a b. a && b)
-      (values_good p sound image (state_after p (first p image) schedule) (Derived.state_after p (Derived.first p image) schedule) sim_here.arrays (λ m. of_mem m (Derived.all_commits (Derived.turns p image schedule))) rows_now (reached p sound strict image schedule).0 sim_here.matched f g)
-      (asks_good p sound image (state_after p (first p image) schedule) (Derived.state_after p (Derived.first p image) schedule) sim_here.arrays (λ m. of_mem m (Derived.all_commits (Derived.turns p image schedule))) rows_now (reached p sound strict image schedule).0 sim_here.matched f g)))
+      (values_good p sound image (state_after p (first p image) schedule)
+      (Derived.state_after p (Derived.first p image) schedule) sim_here.arrays
+      (λ m. of_mem m (Derived.all_commits (Derived.turns p image schedule))) rows_now
+      (reached p sound strict image schedule).0 sim_here.matched f g)
+      (asks_good p sound image (state_after p (first p image) schedule)
+      (Derived.state_after p (Derived.first p image) schedule) sim_here.arrays
+      (λ m. of_mem m (Derived.all_commits (Derived.turns p image schedule))) rows_now
+      (reached p sound strict image schedule).0 sim_here.matched f g)))
 
   -- 4.
   pub entries : IsTrue (all_from (pending_right p image (Cycle.ended_in (Cycle.turns p image schedule)) (state_after p (first p image) schedule)) 0 p.mems)
   entries = true_is _ (from_all _ 0 p.mems (λ m. ap₂ (λ a b. a && b) (holders_same p sound _ _ _ sim_here whole_here m)
       (all_follow (right_entries p (state_after p (first p image) schedule) m)
-      (right_good p sound image (state_after p (first p image) schedule) (Derived.state_after p (Derived.first p image) schedule) sim_here.arrays (λ m. of_mem m (Derived.all_commits (Derived.turns p image schedule))) rows_now (reached p sound strict image schedule).0 sim_here.matched m))))
+      (right_good p sound image (state_after p (first p image) schedule)
+      (Derived.state_after p (Derived.first p image) schedule) sim_here.arrays
+      (λ m. of_mem m (Derived.all_commits (Derived.turns p image schedule))) rows_now
+      (reached p sound strict image schedule).0 sim_here.matched m))))
 
   -- TURN BY TURN
 
   seated_back : Each (Seated p (state_after p (first p image) schedule)) (rev (reached p sound strict image schedule).0)
   seated_back = each_back (Seated p (state_after p (first p image) schedule)) (reached p sound strict image schedule).0 sim_here.seated
 
-  seats_here : threads_of (rev (reached p sound strict image schedule).0) ≡ seats p (after_turns p image (Derived.ended_in (Derived.turns p image schedule))).arrays (after_turns p image (Derived.ended_in (Derived.turns p image schedule))).next runs_here.spots ++ runs_here.strays
+  seats_here : threads_of (rev (reached p sound strict image schedule).0)
+      ≡ seats p (after_turns p image (Derived.ended_in (Derived.turns p image schedule))).arrays
+      (after_turns p image (Derived.ended_in (Derived.turns p image schedule))).next runs_here.spots
+      ++ runs_here.strays
   seats_here = sym (threads_back (reached p sound strict image schedule).0) ∙ sym sim_here.threads ∙ runs_here.threads
 
-  parted_here : (followers_of p (after_turns p image (Derived.ended_in (Derived.turns p image schedule))).arrays (after_turns p image (Derived.ended_in (Derived.turns p image schedule))).next (tells (rev (reached p sound strict image schedule).0))
-      ≡ lined p (after_turns p image (Derived.ended_in (Derived.turns p image schedule))).arrays (after_turns p image (Derived.ended_in (Derived.turns p image schedule))).next (rev (reached p sound strict image schedule).0) runs_here.spots)
-      × (strays_of p (after_turns p image (Derived.ended_in (Derived.turns p image schedule))).arrays (after_turns p image (Derived.ended_in (Derived.turns p image schedule))).next (tells (rev (reached p sound strict image schedule).0)) ≡ tells (behind (rev (reached p sound strict image schedule).0) runs_here.spots))
+  parted_here :
+      (followers_of p (after_turns p image (Derived.ended_in (Derived.turns p image schedule))).arrays
+      (after_turns p image (Derived.ended_in (Derived.turns p image schedule))).next
+      (tells (rev (reached p sound strict image schedule).0))
+      ≡ lined p (after_turns p image (Derived.ended_in (Derived.turns p image schedule))).arrays
+      (after_turns p image (Derived.ended_in (Derived.turns p image schedule))).next
+      (rev (reached p sound strict image schedule).0) runs_here.spots)
+      × (strays_of p (after_turns p image (Derived.ended_in (Derived.turns p image schedule))).arrays
+      (after_turns p image (Derived.ended_in (Derived.turns p image schedule))).next
+      (tells (rev (reached p sound strict image schedule).0))
+      ≡ tells (behind (rev (reached p sound strict image schedule).0) runs_here.spots))
   parted_here = parted p sound _ _ _ _ _ _ _ _ _ runs_here.spots runs_here.strays runs_here.standing runs_here.tail seats_here seated_back
 
   certain_back : all_pairs (certain_after p (verify_stage p.stmts)) (tells (rev (reached p sound strict image schedule).0)) ≡ true
   certain_back = ap (all_pairs (certain_after p (verify_stage p.stmts))) (sym lives_are) ∙ certain_point p sound _ _ _ sim_here whole_here
 
   -- 5.
-  commits_are : (m : ℕ) → seqwrites p image m (Cycle.ended_in (Cycle.turns p image schedule)) ++ released_by m p (followers p image (Cycle.ended_in (Cycle.turns p image schedule)) (state_after p (first p image) schedule)) ≡ of_mem m (Derived.all_commits (Derived.turns p image schedule))
+  commits_are : (m : ℕ)
+      → seqwrites p image m (Cycle.ended_in (Cycle.turns p image schedule))
+      ++ released_by m p (followers p image (Cycle.ended_in (Cycle.turns p image schedule)) (state_after p (first p image) schedule))
+      ≡ of_mem m (Derived.all_commits (Derived.turns p image schedule))
   commits_are m =
       ap₂ (λ n fs. seqwrites p image m n ++ released_by m p fs) same (followers_here ∙ parted_here.0)
       ∙ past_is p sound _ _ _ m _ _ _ _ _ _ runs_here.spots runs_here.strays runs_here.standing seats_here seated_back refl
 
   word_right : (m a : ℕ) → (word_at (state_after p (first p image) schedule).arrays m a
-      == wrote (row image m) (seqwrites p image m (Cycle.ended_in (Cycle.turns p image schedule)) ++ released_by m p (followers p image (Cycle.ended_in (Cycle.turns p image schedule)) (state_after p (first p image) schedule))) a) ≡ true
+      == wrote (row image m)
+      (seqwrites p image m (Cycle.ended_in (Cycle.turns p image schedule))
+      ++ released_by m p (followers p image (Cycle.ended_in (Cycle.turns p image schedule)) (state_after p (first p image) schedule))) a)
+      ≡ true
   word_right m a = eq-eqb _ _ (ap (λ l. word_at l m a) sim_here.arrays ∙ ap (λ (l : Array). l a) (rows_now m ∙ ap (wrote (row image m)) (sym (commits_are m))))
 
-  none_astray : (m : ℕ) → list_all (λ l. not (has_released m p l)) (strays p image (Cycle.ended_in (Cycle.turns p image schedule)) (state_after p (first p image) schedule)) ≡ true
+  none_astray : (m : ℕ)
+      → list_all (λ l. not (has_released m p l)) (strays p image (Cycle.ended_in (Cycle.turns p image schedule)) (state_after p (first p image) schedule))
+      ≡ true
   none_astray m =
       ap (list_all (λ l. not (has_released m p l))) (strays_here ∙ parted_here.1)
       ∙ strays_good p sound _ _ _ m _ _ _ _ _ _ runs_here.spots runs_here.strays runs_here.standing runs_here.tail seats_here seated_back certain_back
@@ -180,7 +245,8 @@ module _ (p : Pipe) (sound : Sound p) (strict : Strict p) (image : Arrays) (sche
   below_all test zero f = refl
   below_all test (suc n) f = ap₂ (λ a b. a && b) (below_all test n f) (f n)
 
-  arrays_from : (m : ℕ) (xs : List Mem) → arrays_right p image (Cycle.ended_in (Cycle.turns p image schedule)) (state_after p (first p image) schedule) m xs ≡ true
+  arrays_from : (m : ℕ) (xs : List Mem)
+      → arrays_right p image (Cycle.ended_in (Cycle.turns p image schedule)) (state_after p (first p image) schedule) m xs ≡ true
   arrays_from m [] = refl
   arrays_from m (x ∷ xs) = ap₂ (λ a b. a && b) (ap₂ (λ a b. a && b) (below_all _ x.depth (word_right m)) (none_astray m)) (arrays_from (suc m) xs)
 
@@ -188,7 +254,10 @@ module _ (p : Pipe) (sound : Sound p) (strict : Strict p) (image : Arrays) (sche
   arrays = true_is _ (arrays_from 0 p.mems)
 
   -- 8.
-  pub looks : IsTrue (all_from (λ m. all_pairs (λ older younger. not (still_looks m p older && has_released m p younger.live)) (followers p image (Cycle.ended_in (Cycle.turns p image schedule)) (state_after p (first p image) schedule))) 0 p.mems)
+  pub looks : IsTrue
+      (all_from
+      (λ m. all_pairs (λ older younger. not (still_looks m p older && has_released m p younger.live))
+      (followers p image (Cycle.ended_in (Cycle.turns p image schedule)) (state_after p (first p image) schedule))) 0 p.mems)
   looks = true_is _ (from_all _ 0 p.mems (λ m.
       ap (all_pairs (λ older younger. not (still_looks m p older && has_released m p younger.live))) (followers_here ∙ parted_here.0)
       ∙ pairs_good p sound _ _ _ strict m _ _ _ _ _ _ runs_here.spots runs_here.strays runs_here.standing seats_here seated_back))
@@ -199,4 +268,5 @@ module _ (p : Pipe) (sound : Sound p) (strict : Strict p) (image : Arrays) (sche
   both {a} {b} h k = true_is _ (ap₂ (λ a b. a && b) (is_true a h) (is_true b k))
 
   pub sound_state : IsTrue (is_sound p image (Cycle.ended_in (Cycle.turns p image schedule)) (state_after p (first p image) schedule))
-  sound_state = both (both (both (both (both (both (both (both (both (both order chain_here) values) entries) arrays) certain) requests) owners) looks) blocks) paths
+  sound_state =
+      both (both (both (both (both (both (both (both (both (both order chain_here) values) entries) arrays) certain) requests) owners) looks) blocks) paths

@@ -82,7 +82,9 @@ not_awaited : (g : ℕ) (qs : List Ask) → awaits_var (awaited_of qs) g ≡ fal
 not_awaited g [] h = tt
 not_awaited g (q ∷ qs) h = at (q.var == g) refl h (λ k. not_awaited g qs k)
   where
-    at : (b : Bool) → (q.var == g) ≡ b → (b || awaits_var (awaited_of qs) g) ≡ false → (awaits_var (awaited_of qs) g ≡ false → AllAsks (λ q. not (q.var == g) ≡ true) qs) → (not (q.var == g) ≡ true) × AllAsks (λ q. not (q.var == g) ≡ true) qs
+    at : (b : Bool) → (q.var == g) ≡ b → (b || awaits_var (awaited_of qs) g) ≡ false
+        → (awaits_var (awaited_of qs) g ≡ false → AllAsks (λ q. not (q.var == g) ≡ true) qs)
+        → (not (q.var == g) ≡ true) × AllAsks (λ q. not (q.var == g) ≡ true) qs
     at true e k f = absurd (cc k)
     at false e k f = (ap not e, f k)
 
@@ -91,7 +93,9 @@ words_are : (st : State) (arrays : Arrays) (qs : List Ask) (env : List ℕ)
     → AllAsks (λ q. word_at st.arrays q.mem (request_address (request_of st q.mem)) ≡ word_at arrays q.mem q.address) qs
     → with_kept (awaited_words st (awaited_of qs)) env ≡ caught arrays qs env
 words_are st arrays [] env h = refl
-words_are st arrays (q ∷ qs) env h = words_are st arrays qs (slice_set env q.var (word_at st.arrays q.mem (request_address (request_of st q.mem)))) h.1 ∙ ap (λ v. caught arrays qs (slice_set env q.var v)) h.0
+words_are st arrays (q ∷ qs) env h =
+    words_are st arrays qs (slice_set env q.var (word_at st.arrays q.mem (request_address (request_of st q.mem)))) h.1
+    ∙ ap (λ v. caught arrays qs (slice_set env q.var v)) h.0
 
 -- what later answers don't touch
 words_kept : (st : State) (P : ℕ → Type 0) (rs : List Awaited) → AllAwaited (λ r. P r.var) rs → AllKept (λ k. P k.var) (awaited_words st rs)
@@ -142,7 +146,8 @@ pend_all m n test (e ∷ es) h = all_append test (pend m n es) _ (pend_all m n t
 module _ (p : Pipe) (st : State) (l : Live) (mine : Mine p st l) where
   answered_other : (a : ℕ) → AllAsks (λ q. (a == q.var) ≡ false) mine.local.asks → slice_index (once_answered st (seat l)) a ≡ slice_index l.env a
   answered_other a h =
-      kept_other a (awaited_words st l.thread.awaits) (with_kept l.kept l.env) (words_kept st (λ x. a ≢ x) l.thread.awaits (awaited_map (λ r i. apart r.var (any_ask_map (λ q j. j.0) mine.local.asks i)) l.thread.awaits mine.owns))
+      kept_other a (awaited_words st l.thread.awaits) (with_kept l.kept l.env)
+      (words_kept st (λ x. a ≢ x) l.thread.awaits (awaited_map (λ r i. apart r.var (any_ask_map (λ q j. j.0) mine.local.asks i)) l.thread.awaits mine.owns))
       ∙ kept_other a l.kept l.env (kept_map (λ k i. apart k.var i) l.kept mine.local.kept_in)
     where
       apart : (x : ℕ) → AnyAsk (λ q. q.var ≡ x) mine.local.asks → a ≢ x
@@ -151,21 +156,32 @@ module _ (p : Pipe) (st : State) (l : Live) (mine : Mine p st l) where
           λ e. eqb-false a q.0.var q.1 (e ∙ sym q.2)
 
   -- each read that it awaits is one that it has asked for
-  asked_right : (env : List ℕ) → once_answered st (seat l) ≡ env → list_all (λ r. has_done (has_asked env r.var r.mem (request_address (request_of st r.mem))) p (told l)) l.thread.awaits ≡ true
+  asked_right : (env : List ℕ) → once_answered st (seat l) ≡ env
+      → list_all (λ r. has_done (has_asked env r.var r.mem (request_address (request_of st r.mem))) p (told l)) l.thread.awaits ≡ true
   asked_right env same = awaited_all _ l.thread.awaits (awaited_map one l.thread.awaits mine.owns)
     where
-      one : (r : Awaited) → AnyAsk (λ q. (q.var ≡ r.var) × (q.mem ≡ r.mem) × (request_of st r.mem ≡ Owned l.number q.address)) mine.local.asks → has_done (has_asked env r.var r.mem (request_address (request_of st r.mem))) p (told l) ≡ true
+      one : (r : Awaited)
+          → AnyAsk (λ q. (q.var ≡ r.var) × (q.mem ≡ r.mem) × (request_of st r.mem ≡ Owned l.number q.address)) mine.local.asks
+          → has_done (has_asked env r.var r.mem (request_address (request_of st r.mem))) p (told l) ≡ true
       one r h =
-          let q = any_of (AskedBy l.env (past_of p l.env l.thread.stage)) (λ q. (q.var ≡ r.var) × (q.mem ≡ r.mem) × (request_of st r.mem ≡ Owned l.number q.address)) mine.local.asks mine.local.asked h in
+          let q =
+          any_of (AskedBy l.env (past_of p l.env l.thread.stage))
+          (λ q. (q.var ≡ r.var) × (q.mem ≡ r.mem) × (request_of st r.mem ≡ Owned l.number q.address)) mine.local.asks mine.local.asked h in
           passed (has_asked env r.var r.mem (request_address (request_of st r.mem))) (on_way p l.env l.thread.stage)
-          (any_both (is_it q.0 q.2) (past_of p l.env l.thread.stage) (all_ops (λ x op. touches x op ≡ false) mine.local.asks (past_of p l.env l.thread.stage) mine.local.unused) q.1)
+          (any_both (is_it q.0 q.2) (past_of p l.env l.thread.stage)
+          (all_ops (λ x op. touches x op ≡ false) mine.local.asks (past_of p l.env l.thread.stage) mine.local.unused) q.1)
         where
-          is_it : (q : Ask) → (q.var ≡ r.var) × (q.mem ≡ r.mem) × (request_of st r.mem ≡ Owned l.number q.address) → (op : Op) → AllAsks (λ k. touches k.var op ≡ false) mine.local.asks → (a : ℕ) × (op ≡ DelayedRead q.var q.mem a) × (slice_index l.env a ≡ q.address)
+          is_it : (q : Ask) → (q.var ≡ r.var) × (q.mem ≡ r.mem) × (request_of st r.mem ≡ Owned l.number q.address)
+              → (op : Op) → AllAsks (λ k. touches k.var op ≡ false) mine.local.asks
+              → (a : ℕ) × (op ≡ DelayedRead q.var q.mem a) × (slice_index l.env a ≡ q.address)
               → has_asked env r.var r.mem (request_address (request_of st r.mem)) op ≡ true
           is_it q e op u k =
               ap (has_asked env r.var r.mem (request_address (request_of st r.mem))) k.1
               ∙ (λ i. (eq-eqb q.var r.var e.0 i) && (eq-eqb q.mem r.mem e.1 i) && (slice_index env k.0 == request_address (e.2 i)))
-              ∙ eq-eqb (slice_index env k.0) q.address (ap (λ v. slice_index v k.0) (sym same) ∙ answered_other k.0 (subst (λ o. AllAsks (λ j. touches j.var o ≡ false) mine.local.asks) k.1 u) ∙ k.2)
+              ∙ eq-eqb (slice_index env k.0) q.address
+              (ap (λ v. slice_index v k.0) (sym same)
+              ∙ answered_other k.0 (subst (λ o. AllAsks (λ j. touches j.var o ≡ false) mine.local.asks) k.1 u)
+              ∙ k.2)
 
 -- equal lists of threads have the same first thread
 pub cons_head : {x y : Derived.Thread} {xs ys : List Derived.Thread} → x ∷ xs ≡ y ∷ ys → x ≡ y
@@ -182,7 +198,9 @@ no_lives (o ∷ os) h = absurd (cc h)
 
 module _ (p : Pipe) (sound : Sound p) (st : State) where
   -- its way is its turn's
-  pub way_of : (arrays : Arrays) (args : List ℕ) (l : Live) (sp : Spot) → l.thread ≡ Spots.seat p arrays args sp → Seated p st l → caught arrays sp.asks sp.env ≡ (so_far p arrays args sp.stage).env → on_way p l.env l.thread.stage ≡ on_way p (thread (at_once p) arrays args).env l.thread.stage
+  pub way_of : (arrays : Arrays) (args : List ℕ) (l : Live) (sp : Spot) → l.thread ≡ Spots.seat p arrays args sp
+      → Seated p st l → caught arrays sp.asks sp.env ≡ (so_far p arrays args sp.stage).env
+      → on_way p l.env l.thread.stage ≡ on_way p (thread (at_once p) arrays args).env l.thread.stage
   way_of arrays args l sp e seated gets =
       sym (seated.keeps_on.path (so_far p arrays args l.thread.stage).env (λ g h. ap (λ (t : Derived.Thread). slice_index t.env g) e
       ∙ sym (caught_other arrays g sp.asks sp.env (not_awaited g sp.asks (ap (λ (t : Derived.Thread). awaits_var t.awaits g) (sym e) ∙ h)))
@@ -190,15 +208,23 @@ module _ (p : Pipe) (sound : Sound p) (st : State) where
       ∙ turn_way p sound arrays args l.thread.stage
 
   -- the youngest on its turn has guessed wrong where others follow
-  pub wrong_of : (arrays : Arrays) (args : List ℕ) (l : Live) (sp : Spot) → l.thread ≡ Spots.seat p arrays args sp → Seated p st l → caught arrays sp.asks sp.env ≡ (so_far p arrays args sp.stage).env → (b : Bool) → right_guess (so_far p arrays args sp.stage).child (thread p arrays args).next ≡ not b → is_some (so_far p arrays args sp.stage).child ≡ true
+  pub wrong_of : (arrays : Arrays) (args : List ℕ) (l : Live) (sp : Spot) → l.thread ≡ Spots.seat p arrays args sp
+      → Seated p st l → caught arrays sp.asks sp.env ≡ (so_far p arrays args sp.stage).env → (b : Bool)
+      → right_guess (so_far p arrays args sp.stage).child (thread p arrays args).next ≡ not b
+      → is_some (so_far p arrays args sp.stage).child ≡ true
       → guessed_wrong p (thread p arrays args).next (told l) ≡ b
   wrong_of arrays args l sp e seated gets b linked made =
-      ap₂ (λ xs g. (list_any (λ (x : Stmt). is_spec_call x.op) xs && not (list_any (λ (x : Stmt). is_verify x.op) xs)) && not (same_args g (thread p arrays args).next))
-      (way_of arrays args l sp e seated gets ∙ ap (λ (t : Derived.Thread). on_way p (thread (at_once p) arrays args).env t.stage) e) (ap (λ (t : Derived.Thread). t.guess) e)
+      ap₂
+      (λ xs g. (list_any (λ (x : Stmt). is_spec_call x.op) xs && not (list_any (λ (x : Stmt). is_verify x.op) xs))
+      && not (same_args g (thread p arrays args).next))
+      (way_of arrays args l sp e seated gets ∙ ap (λ (t : Derived.Thread). on_way p (thread (at_once p) arrays args).env t.stage) e)
+      (ap (λ (t : Derived.Thread). t.guess) e)
       ∙ ap (λ c. c && not (same_args (so_far p arrays args sp.stage).guess (thread p arrays args).next)) (sym (turn_guess p sound arrays args sp.stage))
       ∙ turn_wrong p sound arrays args sp.stage b linked made
 
-module _ (p : Pipe) (sound : Sound p) (image : Arrays) (st : State) (d : Derived.State) (arrays_same : st.arrays ≡ d.arrays) (past : Writes) (rows : RowsAt image past d.arrays) (all : List Live) (matched : (m : ℕ) → Matched (request_of st m) (asked_at d m) m all) where
+module _ (p : Pipe) (sound : Sound p) (image : Arrays) (st : State) (d : Derived.State)
+    (arrays_same : st.arrays ≡ d.arrays) (past : Writes) (rows : RowsAt image past d.arrays) (all : List Live)
+    (matched : (m : ℕ) → Matched (request_of st m) (asked_at d m) m all) where
   -- a thread on its turn
   pub record Good (f : Follower) : Type 0 where
     pub l : Live
@@ -220,49 +246,99 @@ module _ (p : Pipe) (sound : Sound p) (image : Arrays) (st : State) (d : Derived
   AllGood (f ∷ fs) = Good f × AllGood fs
 
   -- all of them
-  pub walk : (w : Writes) (v : Marks) (arrays : Arrays) (args : List ℕ) (ahead : List ℕ) (os : List Live) (sps : List Spot) (strays : List Derived.Thread) → RowsAt image w arrays → ((m : ℕ) → is_plain (mem_at p m).lock ≡ true → v m ≡ [])
-      → Standing p (course p sound) d.asked past w v arrays args ahead sps → Tail p (course p sound).stray (course p sound).made arrays args sps strays → threads_of os ≡ seats p arrays args sps ++ strays → Each (Seated p st) os → Each (Mine p st) os → AllGood (followers_of p arrays args (tells os))
-  walk w v arrays args ahead os [] strays rows_now plain h t e s mine = subst (λ ks. AllGood (followers_of p arrays args (tells ks))) (sym (no_lives os (e ∙ t))) tt
+  pub walk : (w : Writes) (v : Marks) (arrays : Arrays) (args : List ℕ) (ahead : List ℕ) (os : List Live) (sps : List Spot) (strays : List Derived.Thread)
+      → RowsAt image w arrays → ((m : ℕ) → is_plain (mem_at p m).lock ≡ true → v m ≡ [])
+      → Standing p (course p sound) d.asked past w v arrays args ahead sps
+      → Tail p (course p sound).stray (course p sound).made arrays args sps strays
+      → threads_of os ≡ seats p arrays args sps ++ strays → Each (Seated p st) os → Each (Mine p st) os
+      → AllGood (followers_of p arrays args (tells os))
+  walk w v arrays args ahead os [] strays rows_now plain h t e s mine =
+      subst (λ ks. AllGood (followers_of p arrays args (tells ks))) (sym (no_lives os (e ∙ t))) tt
   walk w v arrays args ahead [] (sp ∷ sps) strays rows_now plain h t e s mine = tt
   walk w v arrays args ahead (o ∷ os) (sp ∷ []) strays rows_now plain h t e s mine =
       (good, at (so_far p arrays args sp.stage).child refl t)
     where
       good : Good (record { live = told o; arrays = arrays; args = args })
-      good = record { l = o; is = refl; seated = s.0; mine = mine.0; sp = sp; thread = cons_head e; w = w; v = v; ahead = ahead; last = true; rows_now = rows_now; plain = plain; here = h.0 }
+      good =
+          record {
+            l = o;
+            is = refl;
+            seated = s.0;
+            mine = mine.0;
+            sp = sp;
+            thread = cons_head e;
+            w = w;
+            v = v;
+            ahead = ahead;
+            last = true;
+            rows_now = rows_now;
+            plain = plain;
+            here = h.0;
+          }
 
       none : (b : Bool) → os ≡ [] → AllGood (if b then [] else followers_of p (thread p arrays args).arrays (thread p arrays args).next (tells os))
       none true i = tt
       none false i = subst (λ ks. AllGood (followers_of p (thread p arrays args).arrays (thread p arrays args).next (tells ks))) (sym i) tt
 
       at : (c : Option (List ℕ)) → (so_far p arrays args sp.stage).child ≡ c → Last p (course p sound).stray (course p sound).made sp.stage c strays
-          → AllGood (if guessed_wrong p (thread p arrays args).next (told o) then [] else followers_of p (thread p arrays args).arrays (thread p arrays args).next (tells os))
+          → AllGood
+          (if guessed_wrong p (thread p arrays args).next (told o) then []
+          else followers_of p (thread p arrays args).arrays (thread p arrays args).next (tells os))
       at None i k = none (guessed_wrong p (thread p arrays args).next (told o)) (no_lives os (cons_tail e ∙ k))
-      at (Some x) i k = subst (λ b. AllGood (if b then [] else followers_of p (thread p arrays args).arrays (thread p arrays args).next (tells os))) (sym (wrong_of p sound st arrays args o sp (cons_head e) s.0 h.0.waits.gets true h.0.linked (ap is_some i))) tt
+      at (Some x) i k =
+          subst (λ b. AllGood (if b then [] else followers_of p (thread p arrays args).arrays (thread p arrays args).next (tells os)))
+          (sym (wrong_of p sound st arrays args o sp (cons_head e) s.0 h.0.waits.gets true h.0.linked (ap is_some i))) tt
   walk w v arrays args ahead (o ∷ os) (sp ∷ sp' ∷ sps) strays rows_now plain h t e s mine = (
-    record { l = o; is = refl; seated = s.0; mine = mine.0; sp = sp; thread = cons_head e; w = w; v = v; ahead = ahead; last = false; rows_now = rows_now; plain = plain; here = h.0 },
+    record {
+      l = o;
+      is = refl;
+      seated = s.0;
+      mine = mine.0;
+      sp = sp;
+      thread = cons_head e;
+      w = w;
+      v = v;
+      ahead = ahead;
+      last = false;
+      rows_now = rows_now;
+      plain = plain;
+      here = h.0;
+    },
     either (guessed_wrong p (thread p arrays args).next (told o))
-        (walk (λ m. w m ++ of_mem m (thread p arrays args).writes) (λ m. v m ++ marks p arrays args sp.stage m) (thread p arrays args).arrays (thread p arrays args).next (sp.stage ∷ ahead) os (sp' ∷ sps) strays (rows_next p (course p sound) image w arrays args rows_now)
+        (walk (λ m. w m ++ of_mem m (thread p arrays args).writes) (λ m. v m ++ marks p arrays args sp.stage m)
+        (thread p arrays args).arrays (thread p arrays args).next (sp.stage ∷ ahead) os (sp' ∷ sps) strays
+        (rows_next p (course p sound) image w arrays args rows_now)
         (λ m i. ap₂ (λ a b. a ++ b) (plain m i) ((course p sound).marks_plain arrays args sp.stage m i)) h.1 t (cons_tail e) s.1 mine.1),
   )
     where
-      either : (b : Bool) → AllGood (followers_of p (thread p arrays args).arrays (thread p arrays args).next (tells os)) → AllGood (if b then [] else followers_of p (thread p arrays args).arrays (thread p arrays args).next (tells os))
+      either : (b : Bool)
+          → AllGood (followers_of p (thread p arrays args).arrays (thread p arrays args).next (tells os))
+          → AllGood (if b then [] else followers_of p (thread p arrays args).arrays (thread p arrays args).next (tells os))
       either true k = tt
       either false k = k
 
   -- 3. its values
 
-  module _ (w : Writes) (v : Marks) (arrays : Arrays) (rows_now : RowsAt image w arrays) (plain : (m : ℕ) → is_plain (mem_at p m).lock ≡ true → v m ≡ []) (s : ℕ) (words : (m : ℕ) → s ≤ Stages.commit_stage p m → w m ≡ past m ++ strips m (v m)) where
-    answer_right : (n : ℕ) (q : Ask) → OwnedBy st n q.mem → asked_at d q.mem ≡ Some q.address → Sure p (course p sound) v s q → word_at st.arrays q.mem (request_address (request_of st q.mem)) ≡ word_at arrays q.mem q.address
+  module _ (w : Writes) (v : Marks) (arrays : Arrays) (rows_now : RowsAt image w arrays)
+      (plain : (m : ℕ) → is_plain (mem_at p m).lock ≡ true → v m ≡ []) (s : ℕ)
+      (words : (m : ℕ) → s ≤ Stages.commit_stage p m → w m ≡ past m ++ strips m (v m)) where
+    answer_right : (n : ℕ) (q : Ask) → OwnedBy st n q.mem → asked_at d q.mem ≡ Some q.address
+        → Sure p (course p sound) v s q
+        → word_at st.arrays q.mem (request_address (request_of st q.mem)) ≡ word_at arrays q.mem q.address
     answer_right n q own out sure =
         ap (λ r. word_at st.arrays q.mem (request_address r)) own.1
         ∙ ap (word_at st.arrays q.mem) (same (sym (matches q.mem own.0 own.1) ∙ out))
         ∙ ap (λ l. word_at l q.mem q.address) arrays_same
         ∙ ap (λ l. value_or l (word_at d.arrays q.mem q.address)) (sym none)
         ∙ ready_value q.mem q.address (mem_at p q.mem).lock (v q.mem) (row d.arrays q.mem) (plain q.mem) sure.clean
-        ∙ ap (λ (l : Array). l q.address) (ap (λ l. wrote l (strips q.mem (v q.mem))) (rows q.mem) ∙ sym (wrote_append (past q.mem) (strips q.mem (v q.mem)) (row image q.mem)) ∙ ap (wrote (row image q.mem)) (sym (words q.mem sure.early)) ∙ sym (rows_now q.mem))
+        ∙ ap (λ (l : Array). l q.address)
+        (ap (λ l. wrote l (strips q.mem (v q.mem))) (rows q.mem)
+        ∙ sym (wrote_append (past q.mem) (strips q.mem (v q.mem)) (row image q.mem))
+        ∙ ap (wrote (row image q.mem)) (sym (words q.mem sure.early)) ∙ sym (rows_now q.mem))
       where
         none : seen q.address (v q.mem) Nothing ≡ Nothing
-        none = exact_none (mem_at p q.mem).lock (seen q.address (v q.mem) Nothing) sure.exact (λ e. ap (λ l. seen q.address l Nothing) (plain q.mem e)) sure.clean
+        none =
+            exact_none (mem_at p q.mem).lock (seen q.address (v q.mem) Nothing) sure.exact (λ e. ap (λ l. seen q.address l Nothing) (plain q.mem e)) sure.clean
 
         matches : (m a : ℕ) → request_of st m ≡ Owned n a → asked_at d m ≡ Some a
         matches m a e = (subst (λ r. Matched r (asked_at d m) m all) e (matched m)).0
@@ -270,24 +346,34 @@ module _ (p : Pipe) (sound : Sound p) (image : Arrays) (st : State) (d : Derived
         same : {a b : ℕ} → Some a ≡ Some b → a ≡ b
         same h = cc
 
-    answers_right : (n : ℕ) (qs : List Ask) → AllOwned st n (awaited_of qs) → AllAsks (λ q. asked_at d q.mem ≡ Some q.address) qs → AllAsks (Sure p (course p sound) v s) qs → AllAsks (λ q. word_at st.arrays q.mem (request_address (request_of st q.mem)) ≡ word_at arrays q.mem q.address) qs
+    answers_right : (n : ℕ) (qs : List Ask) → AllOwned st n (awaited_of qs)
+        → AllAsks (λ q. asked_at d q.mem ≡ Some q.address) qs → AllAsks (Sure p (course p sound) v s) qs
+        → AllAsks (λ q. word_at st.arrays q.mem (request_address (request_of st q.mem)) ≡ word_at arrays q.mem q.address) qs
     answers_right n [] o a b = tt
     answers_right n (q ∷ qs) o a b = (answer_right n q o.0 a.0 b.0, answers_right n qs o.1 a.1 b.1)
 
   pub values_are : (f : Follower) → Good f → once_answered st f.live.thread ≡ (turn_so_far p f).env
   values_are f g =
-      ap (λ (x : Sound.Live). once_answered st x.thread) g.is ∙ ap (with_kept (awaited_words st g.l.thread.awaits)) g.seated.kept_in ∙ ap (λ (t : Derived.Thread). with_kept (awaited_words st t.awaits) t.env) g.thread
-      ∙ words_are st f.arrays g.sp.asks g.sp.env (answers_right g.w g.v f.arrays g.rows_now g.plain g.sp.stage g.here.words g.l.number g.sp.asks (subst (λ rs. AllOwned st g.l.number rs) (ap (λ (t : Derived.Thread). t.awaits) g.thread) g.seated.owned) g.here.waits.out g.here.waits.sure)
+      ap (λ (x : Sound.Live). once_answered st x.thread) g.is
+      ∙ ap (with_kept (awaited_words st g.l.thread.awaits)) g.seated.kept_in
+      ∙ ap (λ (t : Derived.Thread). with_kept (awaited_words st t.awaits) t.env) g.thread
+      ∙ words_are st f.arrays g.sp.asks g.sp.env
+      (answers_right g.w g.v f.arrays g.rows_now g.plain g.sp.stage g.here.words g.l.number g.sp.asks
+      (subst (λ rs. AllOwned st g.l.number rs) (ap (λ (t : Derived.Thread). t.awaits) g.thread) g.seated.owned) g.here.waits.out g.here.waits.sure)
       ∙ g.here.waits.gets ∙ turn_env p sound f.arrays f.args g.sp.stage
-      ∙ ap (λ s. (Sequential.run_all (Sound.stages_before s p.stmts) (TurnPath.start_run p f.arrays f.args)).env) (ap (λ (t : Derived.Thread). t.stage) (sym g.thread) ∙ ap (λ (x : Sound.Live). x.stage) (sym g.is))
+      ∙ ap (λ s. (Sequential.run_all (Sound.stages_before s p.stmts) (TurnPath.start_run p f.arrays f.args)).env)
+      (ap (λ (t : Derived.Thread). t.stage) (sym g.thread) ∙ ap (λ (x : Sound.Live). x.stage) (sym g.is))
 
   pub values_good : (f : Follower) → Good f → same_args (once_answered st f.live.thread) (turn_so_far p f).env ≡ true
   values_good f g = ap (λ l. same_args l (turn_so_far p f).env) (values_are f g) ∙ same_args_refl (turn_so_far p f).env
 
   -- and the addresses that it awaits
-  pub asks_good : (f : Follower) → Good f → list_all (λ r. has_done (has_asked (turn_so_far p f).env r.var r.mem (request_address (request_of st r.mem))) p f.live) f.live.thread.awaits ≡ true
+  pub asks_good : (f : Follower) → Good f
+      → list_all (λ r. has_done (has_asked (turn_so_far p f).env r.var r.mem (request_address (request_of st r.mem))) p f.live) f.live.thread.awaits ≡ true
   asks_good f g =
-      ap (λ (x : Sound.Live). list_all (λ r. has_done (has_asked (turn_so_far p f).env r.var r.mem (request_address (request_of st r.mem))) p x) x.thread.awaits) g.is
+      ap
+      (λ (x : Sound.Live). list_all
+      (λ r. has_done (has_asked (turn_so_far p f).env r.var r.mem (request_address (request_of st r.mem))) p x) x.thread.awaits) g.is
       ∙ asked_right p st g.l g.mine (turn_so_far p f).env (ap (λ (x : Sound.Live). once_answered st x.thread) (sym g.is) ∙ values_are f g)
 
   -- 4. its pending writes
@@ -297,7 +383,8 @@ module _ (p : Pipe) (sound : Sound p) (image : Arrays) (st : State) (d : Derived
       ap (λ (x : Sound.Live). list_all (of_thread x.thread.number (is_right_entry (has_done (is_write m) p x) (turn_writes m p f))) (lock_of st m)) g.is
       ∙ g.mine.listed m (is_right_entry (has_done (is_write m) p (told g.l)) (turn_writes m p f))
       (ap (list_all (is_right_entry (has_done (is_write m) p (told g.l)) (turn_writes m p f))) (pend_own m g.l.number g.l.thread.entries)
-      ∙ pend_all m g.l.number (is_right_entry (has_done (is_write m) p (told g.l)) (turn_writes m p f)) (entries_of m g.l.thread.entries) (at (nat_lt (reserve_stage p m) g.sp.stage) refl))
+      ∙ pend_all m g.l.number (is_right_entry (has_done (is_write m) p (told g.l)) (turn_writes m p f))
+      (entries_of m g.l.thread.entries) (at (nat_lt (reserve_stage p m) g.sp.stage) refl))
     where
       here : g.l.thread.stage ≡ g.sp.stage
       here = ap (λ (t : Derived.Thread). t.stage) g.thread
@@ -305,12 +392,22 @@ module _ (p : Pipe) (sound : Sound p) (image : Arrays) (st : State) (d : Derived
       way : on_way p g.l.env g.l.thread.stage ≡ on_way p (thread (at_once p) f.arrays f.args).env g.sp.stage
       way = way_of p sound st f.arrays f.args g.l g.sp g.thread g.seated g.here.waits.gets ∙ ap (on_way p (thread (at_once p) f.arrays f.args).env) here
 
-      at : (b : Bool) → nat_lt (reserve_stage p m) g.sp.stage ≡ b → AllEntries (λ e. is_right_entry (has_done (is_write m) p (told g.l)) (turn_writes m p f) (own g.l.number e) ≡ true) (entries_of m g.l.thread.entries)
+      at : (b : Bool) → nat_lt (reserve_stage p m) g.sp.stage ≡ b
+          → AllEntries (λ e. is_right_entry (has_done (is_write m) p (told g.l)) (turn_writes m p f) (own g.l.number e) ≡ true)
+          (entries_of m g.l.thread.entries)
       at true e =
-          subst (λ (t : Derived.Thread). AllEntries (λ e. is_right_entry (has_done (is_write m) p (told g.l)) (turn_writes m p f) (own g.l.number e) ≡ true) (entries_of m t.entries)) (sym g.thread)
-          (subst (λ xs. AllEntries (λ e. is_right_entry (list_any (λ (x : Stmt). is_write m x.op) xs) (turn_writes m p f) (own g.l.number e) ≡ true) (entries_of m (so_far p f.arrays f.args g.sp.stage).entries)) (sym way)
+          subst
+          (λ (t : Derived.Thread). AllEntries (λ e. is_right_entry (has_done (is_write m) p (told g.l)) (turn_writes m p f) (own g.l.number e) ≡ true)
+          (entries_of m t.entries))
+          (sym g.thread)
+          (subst
+          (λ xs. AllEntries (λ e. is_right_entry (list_any (λ (x : Stmt). is_write m x.op) xs) (turn_writes m p f) (own g.l.number e) ≡ true)
+          (entries_of m (so_far p f.arrays f.args g.sp.stage).entries))
+          (sym way)
           (turn_entries p sound f.arrays f.args g.sp.stage m g.l.number (ltb-true _ _ e)))
-      at false e = subst (λ es. AllEntries (λ e. is_right_entry (has_done (is_write m) p (told g.l)) (turn_writes m p f) (own g.l.number e) ≡ true) es) (sym (early p (sound_flows p sound) g.l.env g.l.thread g.seated.keeps_on m (subst (λ s. s ≤ reserve_stage p m) (sym here) (ltb-false _ _ e)))) tt
+      at false e =
+          subst (λ es. AllEntries (λ e. is_right_entry (has_done (is_write m) p (told g.l)) (turn_writes m p f) (own g.l.number e) ≡ true) es)
+          (sym (early p (sound_flows p sound) g.l.env g.l.thread g.seated.keeps_on m (subst (λ s. s ≤ reserve_stage p m) (sym here) (ltb-false _ _ e)))) tt
 
   -- a test that each of them passes
   pub good_all : (test : Follower → Bool) → ((f : Follower) → Good f → test f ≡ true) → (fs : List Follower) → AllGood fs → list_all test fs ≡ true

@@ -26,13 +26,16 @@ held_snoc : (m n : ℕ) (hs : List HeldLocation) → held_of m n hs ++ n ∷ [] 
 held_snoc m n [] = refl
 held_snoc m n (h ∷ hs) = at (h.mem == m) (held_snoc m n hs)
   where
-    at : (b : Bool) → held_of m n hs ++ n ∷ [] ≡ n ∷ held_of m n hs → cond b (n ∷ held_of m n hs) (held_of m n hs) ++ n ∷ [] ≡ n ∷ cond b (n ∷ held_of m n hs) (held_of m n hs)
+    at : (b : Bool) → held_of m n hs ++ n ∷ [] ≡ n ∷ held_of m n hs
+        → cond b (n ∷ held_of m n hs) (held_of m n hs) ++ n ∷ [] ≡ n ∷ cond b (n ∷ held_of m n hs) (held_of m n hs)
     at true e = ap (λ l. n ∷ l) e
     at false e = e
 
 own_held : (m n : ℕ) (es : List Entry) → owners (pend m n es) ≡ held_of m n (places es)
 own_held m n [] = refl
-own_held m n (e ∷ es) = owners_append (pend m n es) (cond (e.mem == m) (own n e ∷ []) []) ∙ ap (λ l. l ++ owners (cond (e.mem == m) (own n e ∷ []) [])) (own_held m n es) ∙ at (e.mem == m)
+own_held m n (e ∷ es) =
+    owners_append (pend m n es) (cond (e.mem == m) (own n e ∷ []) [])
+    ∙ ap (λ l. l ++ owners (cond (e.mem == m) (own n e ∷ []) [])) (own_held m n es) ∙ at (e.mem == m)
   where
     at : (b : Bool) → held_of m n (places es) ++ owners (cond b (own n e ∷ []) []) ≡ cond b (n ∷ held_of m n (places es)) (held_of m n (places es))
     at true = held_snoc m n (places es)
@@ -41,7 +44,9 @@ own_held m n (e ∷ es) = owners_append (pend m n es) (cond (e.mem == m) (own n 
 holders_snoc : (p : Pipe) (m : ℕ) (xs : List Sound.Live) (l : Sound.Live)
     → holders p m (xs ++ l ∷ []) ≡ holders p m xs ++ held_of m l.thread.number (held_places p l)
 holders_snoc p m [] l = append-nil (held_of m l.thread.number (held_places p l))
-holders_snoc p m (x ∷ xs) l = ap (λ k. held_of m x.thread.number (held_places p x) ++ k) (holders_snoc p m xs l) ∙ sym (append_assoc (held_of m x.thread.number (held_places p x)) (holders p m xs) (held_of m l.thread.number (held_places p l)))
+holders_snoc p m (x ∷ xs) l =
+    ap (λ k. held_of m x.thread.number (held_places p x) ++ k) (holders_snoc p m xs l)
+    ∙ sym (append_assoc (held_of m x.thread.number (held_places p x)) (holders p m xs) (held_of m l.thread.number (held_places p l)))
 
 owners_are : (p : Pipe) (m : ℕ) (ls : List Live)
     → Each (λ l. places l.thread.entries ≡ held_places p (told l)) ls
@@ -54,7 +59,10 @@ owners_are p m (l ∷ ls) h =
 
 module _ (p : Pipe) (sound : Sound p) (st : State) (d : Derived.State) (ls : List Live) (sim : Sim p st d ls) (whole : Whole p st ls) where
   pub holders_same : (m : ℕ) → same_args (owners (lock_of st m)) (holders p m (live st)) ≡ true
-  holders_same m = ap₂ same_args (ap owners (sim.locks m) ∙ owners_are p m ls (each_map (λ l s. s.keeps_on.held) ls sim.seated)) (ap (holders p m) (live_here p sound st d ls sim whole)) ∙ same_args_refl (holders p m (oldest_first ls))
+  holders_same m =
+      ap₂ same_args (ap owners (sim.locks m) ∙ owners_are p m ls (each_map (λ l s. s.keeps_on.held) ls sim.seated))
+      (ap (holders p m) (live_here p sound st d ls sim whole))
+      ∙ same_args_refl (holders p m (oldest_first ls))
 
   pub holders_point : all_from (λ m. same_args (owners (lock_of st m)) (holders p m (live st))) 0 p.mems ≡ true
   holders_point = from_all _ 0 p.mems holders_same

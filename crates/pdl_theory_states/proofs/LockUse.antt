@@ -25,19 +25,25 @@ use Rattle.pdl_theory_simulation.proofs.SimulatedStates.{Sim}
 
 module _ (p : Pipe) (sound : Sound p) (st : State) (d : Derived.State) (bits : List Bool) (ls : List Live) (sim : Sim p st d ls) (m : ℕ) where
   pub list_ordered : AreOrdered 0 (lock_of st m)
-  list_ordered = subst (AreOrdered 0) (sym (sim.locks m)) (within_ordered 0 st.next (pends m ls) (within_pends p (sound_flows p sound) st m st.next ls sim.seated sim.falls))
+  list_ordered =
+      subst (AreOrdered 0) (sym (sim.locks m))
+      (within_ordered 0 st.next (pends m ls) (within_pends p (sound_flows p sound) st m st.next ls sim.seated sim.falls))
 
   -- what holds of each thread, in the order of the stages
-  acts_each : (P : Act → Type 0) (xs : List Pair) → EachPair (λ x. P (lact p st d bits x.older x.live)) xs → AllActs P (acts_of p (sound_flows p sound) st d bits sim.arrays xs)
+  acts_each : (P : Act → Type 0) (xs : List Pair) → EachPair (λ x. P (lact p st d bits x.older x.live)) xs
+      → AllActs P (acts_of p (sound_flows p sound) st d bits sim.arrays xs)
   acts_each P [] h = tt
   acts_each P (x ∷ xs) h = (h.0, acts_each P xs h.1)
 
   pub all_each : (P : Act → Type 0) → EachPair (λ x. P (lact p st d bits x.older x.live)) (pairs ls) → AllActs P (all_acts p st bits)
-  all_each P h = subst (AllActs P) (sym (acts_are p (sound_flows p sound) st d bits ls sim)) (acts_each P (sorted ls) (sorted_each (λ x. P (lact p st d bits x.older x.live)) ls h))
+  all_each P h =
+      subst (AllActs P) (sym (acts_are p (sound_flows p sound) st d bits ls sim))
+      (acts_each P (sorted ls) (sorted_each (λ x. P (lact p st d bits x.older x.live)) ls h))
 
   pub finds_older : AllActs (FindsOlder st m (reserve_stage p m)) (all_acts p st bits)
   finds_older = all_each (FindsOlder st m (reserve_stage p m))
-      (pair_map (λ x h i. ap (count_older x.live.number) (sim.locks m) ∙ h i ∙ ap length (sym (sim.locks m))) (pairs ls) (all_older p (sound_flows p sound) st m st.next ls sim.seated sim.ordered sim.falls))
+      (pair_map (λ x h i. ap (count_older x.live.number) (sim.locks m) ∙ h i ∙ ap length (sym (sim.locks m))) (pairs ls)
+      (all_older p (sound_flows p sound) st m st.next ls sim.seated sim.ordered sim.falls))
 
   -- A CYCLE
 
@@ -52,9 +58,16 @@ module _ (p : Pipe) (sound : Sound p) (st : State) (d : Derived.State) (bits : L
 
   pub reserves : Reserves p st bits m
   reserves = record {
-    one = subst (λ n. n ≤ 1) (sym (ap (λ these. reserved_count m (movers these)) (acts_are p (sound_flows p sound) st d bits ls sim) ∙ same_reserved p (sound_flows p sound) st d bits sim.arrays m ls swaps))
+    one =
+        subst (λ n. n ≤ 1)
+        (sym
+        (ap (λ these. reserved_count m (movers these)) (acts_are p (sound_flows p sound) st d bits ls sim)
+        ∙ same_reserved p (sound_flows p sound) st d bits sim.arrays m ls swaps))
         (one_reserved p (sound_flows p sound) st d bits sim.arrays m ls (known p (sound_flows p sound) st d bits ls sim) sim.ordered);
-    ordered = subst (AreOrdered 0) (sym with_new_is) (within_ordered 0 st.next _ (within_new p (sound_flows p sound) st d bits sim.arrays m st.next ls (known p (sound_flows p sound) st d bits ls sim) sim.ordered sim.falls));
+    ordered =
+        subst (AreOrdered 0) (sym with_new_is)
+        (within_ordered 0 st.next _
+        (within_new p (sound_flows p sound) st d bits sim.arrays m st.next ls (known p (sound_flows p sound) st d bits ls sim) sim.ordered sim.falls));
   }
 
   pub places : AllActs (KeepsPlace p st bits m) (all_acts p st bits)
@@ -73,7 +86,9 @@ module _ (p : Pipe) (sound : Sound p) (st : State) (d : Derived.State) (bits : L
     where
       calm : has_release m (moving p st bits) ≡ false → (a : Act) → ShiftsPlace p st bits m a
       calm e a i j =
-          let f : count_older a.thread.number (with_release p st bits m) ≡ count_older a.thread.number (with_new p st bits m) = ap (λ b. count_older a.thread.number (cond b (but_oldest (list_two st (moving p st bits) m)) (list_two st (moving p st bits) m))) e ∙ count_filled a.thread.number m (moving p st bits) (with_new p st bits m) in
+          let f : count_older a.thread.number (with_release p st bits m) ≡ count_older a.thread.number (with_new p st bits m) =
+          ap (λ b. count_older a.thread.number (cond b (but_oldest (list_two st (moving p st bits) m)) (list_two st (moving p st bits) m))) e
+          ∙ count_filled a.thread.number m (moving p st bits) (with_new p st bits m) in
           let g : bit (has_release m (moving p st bits)) ≡ 0 = ap bit e in
           omega arith
 
@@ -81,12 +96,16 @@ module _ (p : Pipe) (sound : Sound p) (st : State) (d : Derived.State) (bits : L
       every [] f = tt
       every (a ∷ these) f = (f a, every these f)
 
-      one : has_release m (moving p st bits) ≡ true → (x : Pending) (xs : List Pending) → with_reserves m (movers (lacts p st d bits ls)) (pends m ls) ≡ x ∷ xs → (a : Act) → x.thread < a.thread.number
+      one : has_release m (moving p st bits) ≡ true → (x : Pending) (xs : List Pending)
+          → with_reserves m (movers (lacts p st d bits ls)) (pends m ls) ≡ x ∷ xs → (a : Act)
+          → x.thread < a.thread.number
           → count_older a.thread.number (with_release p st bits m) + bit (has_release m (moving p st bits)) ≡ count_older a.thread.number (with_new p st bits m)
       one e x xs i a low =
           let is : with_new p st bits m ≡ x ∷ xs = with_new_is ∙ i in
-          let f : count_older a.thread.number (with_release p st bits m) ≡ count_older a.thread.number (but_oldest (with_all_writes m (moving p st bits) (x ∷ xs))) =
-          ap (λ b. count_older a.thread.number (cond b (but_oldest (list_two st (moving p st bits) m)) (list_two st (moving p st bits) m))) e ∙ ap (λ l. count_older a.thread.number (but_oldest (with_all_writes m (moving p st bits) l))) is in
+          let f : count_older a.thread.number (with_release p st bits m)
+          ≡ count_older a.thread.number (but_oldest (with_all_writes m (moving p st bits) (x ∷ xs))) =
+          ap (λ b. count_older a.thread.number (cond b (but_oldest (list_two st (moving p st bits) m)) (list_two st (moving p st bits) m))) e
+          ∙ ap (λ l. count_older a.thread.number (but_oldest (with_all_writes m (moving p st bits) l))) is in
           let g : bit (has_release m (moving p st bits)) ≡ 1 = ap bit e in
           let h = count_released a.thread.number m (moving p st bits) x xs low in
           let k : count_older a.thread.number (with_new p st bits m) ≡ count_older a.thread.number (x ∷ xs) = ap (count_older a.thread.number) is in
@@ -95,23 +114,34 @@ module _ (p : Pipe) (sound : Sound p) (st : State) (d : Derived.State) (bits : L
       at : (b : Bool) → has_release m (moving p st bits) ≡ b → AllActs (ShiftsPlace p st bits m) (all_acts p st bits)
       at false e = every (all_acts p st bits) (calm e)
       at true e =
-          let s = some_pending p (sound_flows p sound) st d bits sim.arrays m st.next ls sim.seated (known p (sound_flows p sound) st d bits ls sim) sim.ordered sim.falls (sym releases_are ∙ e) in
+          let s =
+          some_pending p (sound_flows p sound) st d bits sim.arrays m st.next ls sim.seated
+          (known p (sound_flows p sound) st d bits ls sim) sim.ordered sim.falls (sym releases_are ∙ e) in
           all_each (ShiftsPlace p st bits m)
           (pair_map (λ x h i j. one e s.0 s.1 s.2 (lact p st d bits x.older x.live) (h (i, j) s.0 s.1 s.2)) (pairs ls)
-          (older_released p (sound_flows p sound) st d bits sim.arrays m st.next ls sim.seated (known p (sound_flows p sound) st d bits ls sim) sim.ordered sim.falls (sym releases_are ∙ e)))
+          (older_released p (sound_flows p sound) st d bits sim.arrays m st.next ls sim.seated
+          (known p (sound_flows p sound) st d bits ls sim) sim.ordered sim.falls (sym releases_are ∙ e)))
 
 module _ (p : Pipe) (sound : Sound p) (strict : Strict p) (image : Arrays) (schedule : List (List Bool)) where
   pub ordered_here : (m : ℕ) → AreOrdered 0 (lock_of (state_after p (first p image) schedule) m)
-  ordered_here m = let r = reached p sound strict image schedule in list_ordered p sound (state_after p (first p image) schedule) (Derived.state_after p (Derived.first p image) schedule) [] r.0 r.1 m
+  ordered_here m = let r = reached p sound strict image schedule in
+      list_ordered p sound (state_after p (first p image) schedule) (Derived.state_after p (Derived.first p image) schedule) [] r.0 r.1 m
 
-  pub older_here : (bits : List Bool) (m : ℕ) → AllActs (FindsOlder (state_after p (first p image) schedule) m (reserve_stage p m)) (all_acts p (state_after p (first p image) schedule) bits)
-  older_here bits m = let r = reached p sound strict image schedule in finds_older p sound (state_after p (first p image) schedule) (Derived.state_after p (Derived.first p image) schedule) bits r.0 r.1 m
+  pub older_here : (bits : List Bool) (m : ℕ)
+      → AllActs (FindsOlder (state_after p (first p image) schedule) m (reserve_stage p m)) (all_acts p (state_after p (first p image) schedule) bits)
+  older_here bits m = let r = reached p sound strict image schedule in
+      finds_older p sound (state_after p (first p image) schedule) (Derived.state_after p (Derived.first p image) schedule) bits r.0 r.1 m
 
   pub reserves_here : (bits : List Bool) (m : ℕ) → Reserves p (state_after p (first p image) schedule) bits m
-  reserves_here bits m = let r = reached p sound strict image schedule in reserves p sound (state_after p (first p image) schedule) (Derived.state_after p (Derived.first p image) schedule) bits r.0 r.1 m
+  reserves_here bits m = let r = reached p sound strict image schedule in
+      reserves p sound (state_after p (first p image) schedule) (Derived.state_after p (Derived.first p image) schedule) bits r.0 r.1 m
 
-  pub places_here : (bits : List Bool) (m : ℕ) → AllActs (KeepsPlace p (state_after p (first p image) schedule) bits m) (all_acts p (state_after p (first p image) schedule) bits)
-  places_here bits m = let r = reached p sound strict image schedule in places p sound (state_after p (first p image) schedule) (Derived.state_after p (Derived.first p image) schedule) bits r.0 r.1 m
+  pub places_here : (bits : List Bool) (m : ℕ)
+      → AllActs (KeepsPlace p (state_after p (first p image) schedule) bits m) (all_acts p (state_after p (first p image) schedule) bits)
+  places_here bits m = let r = reached p sound strict image schedule in
+      places p sound (state_after p (first p image) schedule) (Derived.state_after p (Derived.first p image) schedule) bits r.0 r.1 m
 
-  pub shifts_here : (bits : List Bool) (m : ℕ) → AllActs (ShiftsPlace p (state_after p (first p image) schedule) bits m) (all_acts p (state_after p (first p image) schedule) bits)
-  shifts_here bits m = let r = reached p sound strict image schedule in shifts p sound (state_after p (first p image) schedule) (Derived.state_after p (Derived.first p image) schedule) bits r.0 r.1 m
+  pub shifts_here : (bits : List Bool) (m : ℕ)
+      → AllActs (ShiftsPlace p (state_after p (first p image) schedule) bits m) (all_acts p (state_after p (first p image) schedule) bits)
+  shifts_here bits m = let r = reached p sound strict image schedule in
+      shifts p sound (state_after p (first p image) schedule) (Derived.state_after p (Derived.first p image) schedule) bits r.0 r.1 m

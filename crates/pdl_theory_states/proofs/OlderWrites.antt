@@ -76,15 +76,19 @@ fades_op : (m : ℕ) (start : List Entry) (o : Around) (op : Op) (w : Work)
     → Fades start (entries_of m (work_after o op w).entries)
 fades_op m start o (Write n a e) w r h =
     by_memory n m (Fades start (entries_of m (with_entry_value w.entries n a (value_of e w.env))))
-    (λ i. subst (λ j. Fades start (entries_of m (with_entry_value w.entries j a (value_of e w.env)))) (sym i) (subst (λ l. Fades start l) (sym (entries_of-filled w.entries m a (value_of e w.env))) (fades_filled m a (value_of e w.env) start (entries_of m w.entries) h)))
+    (λ i. subst (λ j. Fades start (entries_of m (with_entry_value w.entries j a (value_of e w.env)))) (sym i)
+    (subst (λ l. Fades start l) (sym (entries_of-filled w.entries m a (value_of e w.env)))
+    (fades_filled m a (value_of e w.env) start (entries_of m w.entries) h)))
     (λ i. subst (λ l. Fades start l) (sym (filled_other w.entries m n a (value_of e w.env) i)) h)
 fades_op m start o (Release n a) w r h =
     by_memory n m (Fades start (entries_of m (without w.entries n a)))
-    (λ i. subst (λ j. Fades start (entries_of m (without w.entries j a))) (sym i) (subst (λ l. Fades start l) (sym (without_own w.entries m a)) (fades_without m a start (entries_of m w.entries) h)))
+    (λ i. subst (λ j. Fades start (entries_of m (without w.entries j a))) (sym i)
+    (subst (λ l. Fades start l) (sym (without_own w.entries m a)) (fades_without m a start (entries_of m w.entries) h)))
     (λ i. subst (λ l. Fades start l) (sym (without_other w.entries m n a i)) h)
 fades_op m start o (ReserveWrite n a) w r h = at (n == m) r
   where
-    at : (b : Bool) → not b ≡ true → Fades start (cond b (record { mem = n; var = a; address = slice_index w.env a; value = None } ∷ entries_of m w.entries) (entries_of m w.entries))
+    at : (b : Bool) → not b ≡ true
+        → Fades start (cond b (record { mem = n; var = a; address = slice_index w.env a; value = None } ∷ entries_of m w.entries) (entries_of m w.entries))
     at true i = absurd (cc i)
     at false i = h
 fades_op m start o (Verify args) w r h = at (same_args (values_of args w.env) w.guess)
@@ -126,12 +130,15 @@ lost_op : (m : ℕ) (o : Around) (op : Op) (w : Work)
     → entries_of m w.entries ≡ []
 lost_op m o (Write n a e) w r q h =
     by_memory n m (entries_of m w.entries ≡ [])
-    (λ i. filled_some m a (value_of e w.env) (entries_of m w.entries) (sym (entries_of-filled w.entries m a (value_of e w.env)) ∙ ap (λ j. entries_of m (with_entry_value w.entries j a (value_of e w.env))) (sym i) ∙ h))
+    (λ i. filled_some m a (value_of e w.env) (entries_of m w.entries)
+    (sym (entries_of-filled w.entries m a (value_of e w.env)) ∙ ap (λ j. entries_of m (with_entry_value w.entries j a (value_of e w.env))) (sym i) ∙ h))
     (λ i. sym (filled_other w.entries m n a (value_of e w.env) i) ∙ h)
 lost_op m o (Release n a) w r q h = sym (without_other w.entries m n a (off_case n m q)) ∙ h
 lost_op m o (ReserveWrite n a) w r q h = at (n == m) r h
   where
-    at : (b : Bool) → not b ≡ true → cond b (record { mem = n; var = a; address = slice_index w.env a; value = None } ∷ entries_of m w.entries) (entries_of m w.entries) ≡ [] → entries_of m w.entries ≡ []
+    at : (b : Bool) → not b ≡ true
+        → cond b (record { mem = n; var = a; address = slice_index w.env a; value = None } ∷ entries_of m w.entries) (entries_of m w.entries) ≡ []
+        → entries_of m w.entries ≡ []
     at true i k = absurd (cc i)
     at false i k = k
 lost_op m o (Verify args) w r q h = at (same_args (values_of args w.env) w.guess) h
@@ -153,7 +160,8 @@ lost_all : (m : ℕ) (o : Around) (xs : List Stmt) (w : Work)
     → none_of (is_reserve m) xs ≡ true → none_of (is_release m) xs ≡ true → entries_of m (do_all o xs w).entries ≡ []
     → entries_of m w.entries ≡ []
 lost_all m o [] w r q h = h
-lost_all m o (x ∷ xs) w r q h = at (all_hold x.guards w.env) (lost_all m o xs (step o x w) (and_right (not (is_reserve m x.op)) _ r) (and_right (not (is_release m x.op)) _ q) h)
+lost_all m o (x ∷ xs) w r q h =
+    at (all_hold x.guards w.env) (lost_all m o xs (step o x w) (and_right (not (is_reserve m x.op)) _ r) (and_right (not (is_release m x.op)) _ q) h)
   where
     at : (b : Bool) → entries_of m (cond b (work_after o x.op w) w).entries ≡ [] → entries_of m w.entries ≡ []
     at true k = lost_op m o x.op w (and_left _ _ r) (and_left _ _ q) k
@@ -184,25 +192,34 @@ calm_same : (m a : ℕ) (es : List Entry) (r r' : Latest) → Calm r r' → Calm
 calm_same m a [] r r' c = c
 calm_same m a (e ∷ es) r r' c = at ((e.mem == m) && (e.address == a)) (calm_same m a es r r' c)
   where
-    at : (b : Bool) → Calm (latest_in es m a r) (latest_in es m a r') → Calm (cond b (as_latest e.value) (latest_in es m a r)) (cond b (as_latest e.value) (latest_in es m a r'))
+    at : (b : Bool) → Calm (latest_in es m a r) (latest_in es m a r')
+        → Calm (cond b (as_latest e.value) (latest_in es m a r)) (cond b (as_latest e.value) (latest_in es m a r'))
     at true h = ((λ i. i), (λ i. i))
     at false h = h
 
 none_latest : (m a : ℕ) (ks : List Live) → Each (λ k. entries_of m k.thread.entries ≡ []) ks → latest (threads_of ks) m a ≡ Nothing
 none_latest m a [] h = refl
-none_latest m a (k ∷ ks) h = latest_own k.thread.entries m a (latest (threads_of ks) m a) ∙ ap (λ l. latest_in l m a (latest (threads_of ks) m a)) h.0 ∙ none_latest m a ks h.1
+none_latest m a (k ∷ ks) h =
+    latest_own k.thread.entries m a (latest (threads_of ks) m a) ∙ ap (λ l. latest_in l m a (latest (threads_of ks) m a)) h.0 ∙ none_latest m a ks h.1
 
 module _ (p : Pipe) (flows : Flows p) (st : State) (d : Derived.State) (bits : List Bool) (arrays : st.arrays ≡ d.arrays) where
   -- behind those that are past the releases nothing is pending
-  late_next : (m a s : ℕ) (ks : List Live) → AllKnown p flows st d bits arrays ks → Each (λ k. Behind p s k.thread.stage) ks → commit_stage p m ≤ s → latest (threads_of (go_on p st d bits ks)) m a ≡ Nothing
-  late_next m a s ks k b low = none_latest m a (go_on p st d bits ks) (both (go_on p st d bits ks) (ways_on p flows st d bits arrays ks k) (behind_stay p flows st d bits arrays s ks k b))
+  late_next : (m a s : ℕ) (ks : List Live) → AllKnown p flows st d bits arrays ks
+      → Each (λ k. Behind p s k.thread.stage) ks → commit_stage p m ≤ s
+      → latest (threads_of (go_on p st d bits ks)) m a ≡ Nothing
+  late_next m a s ks k b low =
+      none_latest m a (go_on p st d bits ks)
+      (both (go_on p st d bits ks) (ways_on p flows st d bits arrays ks k) (behind_stay p flows st d bits arrays s ks k b))
     where
-      both : (ls : List Live) → Each (ThreadPlaces.OnWay p flows st d bits arrays) ls → Each (λ k. Behind p s k.thread.stage) ls → Each (λ k. entries_of m k.thread.entries ≡ []) ls
+      both : (ls : List Live) → Each (ThreadPlaces.OnWay p flows st d bits arrays) ls
+          → Each (λ k. Behind p s k.thread.stage) ls → Each (λ k. entries_of m k.thread.entries ≡ []) ls
       both [] w i = tt
       both (l ∷ ls) w i = (late p flows l.env l.thread w.0.0 m (i.0.trunk (commit_stage p m) (flows.trunk_commit m) low), both ls w.1 i.1)
 
   -- as the older threads go on
-  pub calm_next : (m a : ℕ) (ks : List Live) → AllKnown p flows st d bits arrays ks → Ordered p ks → Each (λ k. reserve_stage p m < k.thread.stage) ks → fell p d bits ks ≡ false → Calm (latest (threads_of ks) m a) (latest (threads_of (go_on p st d bits ks)) m a)
+  pub calm_next : (m a : ℕ) (ks : List Live) → AllKnown p flows st d bits arrays ks → Ordered p ks
+      → Each (λ k. reserve_stage p m < k.thread.stage) ks → fell p d bits ks ≡ false
+      → Calm (latest (threads_of ks) m a) (latest (threads_of (go_on p st d bits ks)) m a)
   calm_next m a [] k o h f = ((λ i. i), (λ i. i))
   calm_next m a (l ∷ ks) k o h f = at (fell p d bits ks) refl (did p d bits ks l).moves f (λ g. calm_next m a ks k.1 o.1 h.1 g)
     where
@@ -213,24 +230,39 @@ module _ (p : Pipe) (flows : Flows p) (st : State) (d : Derived.State) (bits : L
       kept = none_in_stage (is_reserve m) (reserve_stage p m) l.thread.stage p.stmts (flows.reserves m) (λ e. absurd (let i = h.0 in omega arith))
 
       fades : Fades (entries_of m l.thread.entries) (entries_of m (work_of_live p d bits ks l).entries)
-      fades = fades_all m (entries_of m l.thread.entries) (around p d bits (dacts p d bits ks) l.thread.stage) (in_stage l.thread.stage p.stmts) (start_of (now_of p d bits l)) kept (fades_shape m _ (entries_of m l.thread.entries) (k.0.seated.keeps_on.shape m))
+      fades =
+          fades_all m (entries_of m l.thread.entries) (around p d bits (dacts p d bits ks) l.thread.stage)
+          (in_stage l.thread.stage p.stmts)
+          (start_of (now_of p d bits l)) kept (fades_shape m _ (entries_of m l.thread.entries) (k.0.seated.keeps_on.shape m))
 
-      gone : entries_of m (work_of_live p d bits ks l).entries ≡ [] → (entries_of m l.thread.entries ≡ []) ⊎ (latest (threads_of (go_on p st d bits ks)) m a ≡ Nothing)
+      gone : entries_of m (work_of_live p d bits ks l).entries ≡ []
+          → (entries_of m l.thread.entries ≡ []) ⊎ (latest (threads_of (go_on p st d bits ks)) m a ≡ Nothing)
       gone e = by_memory l.thread.stage (commit_stage p m) ((entries_of m l.thread.entries ≡ []) ⊎ (latest (threads_of (go_on p st d bits ks)) m a ≡ Nothing))
           (λ i. inr (late_next m a l.thread.stage ks k.1 o.0 (let j = i in omega arith)))
-          (λ i. inl (lost_all m (around p d bits (dacts p d bits ks) l.thread.stage) (in_stage l.thread.stage p.stmts) (start_of (now_of p d bits l)) kept (none_in_stage (is_release m) (commit_stage p m) l.thread.stage p.stmts (flows.releases m) i) e))
+          (λ i. inl
+          (lost_all m (around p d bits (dacts p d bits ks) l.thread.stage) (in_stage l.thread.stage p.stmts)
+          (start_of (now_of p d bits l)) kept (none_in_stage (is_release m) (commit_stage p m) l.thread.stage p.stmts (flows.releases m) i) e))
 
-      own : Calm (latest (threads_of ks) m a) (latest (threads_of (go_on p st d bits ks)) m a) → Calm (latest_in l.thread.entries m a (latest (threads_of ks) m a)) (latest_in (work_of_live p d bits ks l).entries m a (latest (threads_of (go_on p st d bits ks)) m a))
+      own : Calm (latest (threads_of ks) m a) (latest (threads_of (go_on p st d bits ks)) m a)
+          → Calm (latest_in l.thread.entries m a (latest (threads_of ks) m a))
+          (latest_in (work_of_live p d bits ks l).entries m a (latest (threads_of (go_on p st d bits ks)) m a))
       own c =
-          subst (λ x. Calm x (latest_in (work_of_live p d bits ks l).entries m a (latest (threads_of (go_on p st d bits ks)) m a))) (sym (latest_own l.thread.entries m a _))
-          (subst (λ x. Calm (latest_in (entries_of m l.thread.entries) m a (latest (threads_of ks) m a)) x) (sym (latest_own (work_of_live p d bits ks l).entries m a _))
-          (calm_fades m a (entries_of m l.thread.entries) (entries_of m (work_of_live p d bits ks l).entries) (latest (threads_of ks) m a) (latest (threads_of (go_on p st d bits ks)) m a) fades c gone))
+          subst (λ x. Calm x (latest_in (work_of_live p d bits ks l).entries m a (latest (threads_of (go_on p st d bits ks)) m a)))
+          (sym (latest_own l.thread.entries m a _))
+          (subst (λ x. Calm (latest_in (entries_of m l.thread.entries) m a (latest (threads_of ks) m a)) x)
+          (sym (latest_own (work_of_live p d bits ks l).entries m a _))
+          (calm_fades m a (entries_of m l.thread.entries) (entries_of m (work_of_live p d bits ks l).entries)
+          (latest (threads_of ks) m a) (latest (threads_of (go_on p st d bits ks)) m a) fades c gone))
 
-      out : (r : Option ℕ) → goes_to (stage_at p l.thread.stage).next (work_of_live p d bits ks l).env ≡ r → Calm (latest (threads_of ks) m a) (latest (threads_of (go_on p st d bits ks)) m a)
-          → Calm (latest_in l.thread.entries m a (latest (threads_of ks) m a)) (latest (threads_of (moved_live r l (work_of_live p d bits ks l) ++ go_on p st d bits ks)) m a)
+      out : (r : Option ℕ) → goes_to (stage_at p l.thread.stage).next (work_of_live p d bits ks l).env ≡ r
+          → Calm (latest (threads_of ks) m a) (latest (threads_of (go_on p st d bits ks)) m a)
+          → Calm (latest_in l.thread.entries m a (latest (threads_of ks) m a))
+          (latest (threads_of (moved_live r l (work_of_live p d bits ks l) ++ go_on p st d bits ks)) m a)
       out None e c =
           subst (λ x. Calm (latest_in l.thread.entries m a (latest (threads_of ks) m a)) x)
-          (latest_own (work_of_live p d bits ks l).entries m a _ ∙ ap (λ es. latest_in es m a (latest (threads_of (go_on p st d bits ks)) m a)) (ends_here p flows st d bits arrays ks l k.0 m (ap (stage_or (length p.stages)) e)))
+          (latest_own (work_of_live p d bits ks l).entries m a _
+          ∙ ap (λ es. latest_in es m a (latest (threads_of (go_on p st d bits ks)) m a))
+          (ends_here p flows st d bits arrays ks l k.0 m (ap (stage_or (length p.stages)) e)))
           (own c)
       out (Some q) e c = own c
 
@@ -239,9 +271,16 @@ module _ (p : Pipe) (flows : Flows p) (st : State) (d : Derived.State) (bits : L
       second true false g = g
       second false c g = g
 
-      at : (g : Bool) → fell p d bits ks ≡ g → (b : Bool) → ((b && (work_of_live p d bits ks l).fails) || fell p d bits ks) ≡ false → (fell p d bits ks ≡ false → Calm (latest (threads_of ks) m a) (latest (threads_of (go_on p st d bits ks)) m a))
+      at : (g : Bool) → fell p d bits ks ≡ g → (b : Bool)
+          → ((b && (work_of_live p d bits ks l).fails) || fell p d bits ks) ≡ false
+          → (fell p d bits ks ≡ false → Calm (latest (threads_of ks) m a) (latest (threads_of (go_on p st d bits ks)) m a))
           → Calm (latest_in l.thread.entries m a (latest (threads_of ks) m a))
-          (latest (threads_of ((if g then [] else cond b (moved_live (goes_to (stage_at p l.thread.stage).next (work_of_live p d bits ks l).env) l (work_of_live p d bits ks l)) (stood p st d bits l ∷ [])) ++ go_on p st d bits ks)) m a)
+          (latest
+          (threads_of
+          ((if g then []
+          else cond b (moved_live (goes_to (stage_at p l.thread.stage).next (work_of_live p d bits ks l).env) l (work_of_live p d bits ks l))
+          (stood p st d bits l ∷ []))
+          ++ go_on p st d bits ks)) m a)
       at true e b i c = absurd (cc (sym (second b (work_of_live p d bits ks l).fails i) ∙ e))
       at false e true i c = out (goes_to (stage_at p l.thread.stage).next (work_of_live p d bits ks l).env) refl (c e)
       at false e false i c = calm_same m a l.thread.entries (latest (threads_of ks) m a) (latest (threads_of (go_on p st d bits ks)) m a) (c e)

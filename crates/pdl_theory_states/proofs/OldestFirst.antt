@@ -51,8 +51,10 @@ from_slots [] s (l ∷ ls) r = absurd (let h = r.0 in let k = r.1 in omega arith
 from_slots (x ∷ xs) s [] r = from_slots xs (suc s) [] tt
 from_slots (x ∷ xs) s (l ∷ ls) r =
     at (l.thread.stage == s) refl
-    (λ e. from_slots xs (suc s) ls (subst (λ n. Rises (suc n) (suc s + length xs) ls) e (rises_hi (suc l.thread.stage) _ _ ls (add-suc s (length xs) ∙ sym (suc-add s (length xs))) r.2)))
-    (λ e. from_slots xs (suc s) (l ∷ ls) (rises_hi (suc s) _ _ (l ∷ ls) (add-suc s (length xs) ∙ sym (suc-add s (length xs))) (rises_from s (suc s) _ (l ∷ ls) r e refl)))
+    (λ e. from_slots xs (suc s) ls
+    (subst (λ n. Rises (suc n) (suc s + length xs) ls) e (rises_hi (suc l.thread.stage) _ _ ls (add-suc s (length xs) ∙ sym (suc-add s (length xs))) r.2)))
+    (λ e. from_slots xs (suc s) (l ∷ ls)
+    (rises_hi (suc s) _ _ (l ∷ ls) (add-suc s (length xs) ∙ sym (suc-add s (length xs))) (rises_from s (suc s) _ (l ∷ ls) r e refl)))
   where
     at : (b : Bool) → (l.thread.stage == s) ≡ b
         → (l.thread.stage ≡ s → live_from (suc s) (for_stages (λ q. find q ls) (suc s) xs) ≡ by_number ls)
@@ -60,11 +62,13 @@ from_slots (x ∷ xs) s (l ∷ ls) r =
         → live_from s (find s (l ∷ ls) ∷ for_stages (λ q. find q (l ∷ ls)) (suc s) xs) ≡ by_number (l ∷ ls)
     at true e here later =
         ap₂ (λ b stages. live_from s (cond b (Some (seat l)) (find s ls) ∷ stages)) e
-        (stages_same _ _ (suc s) xs (λ q k. ap (λ b. cond b (Some (seat l)) (find q ls)) (ne_eqb l.thread.stage q (λ i. absurd (let j = eqb-true l.thread.stage s e in omega arith)))))
+        (stages_same _ _ (suc s) xs
+        (λ q k. ap (λ b. cond b (Some (seat l)) (find q ls)) (ne_eqb l.thread.stage q (λ i. absurd (let j = eqb-true l.thread.stage s e in omega arith)))))
         ∙ ap₂ (λ n rest. put_in (record { stage = n; thread = seat l }) rest) (sym (eqb-true l.thread.stage s e)) (here (eqb-true l.thread.stage s e))
     at false e here later =
         let none : find s (l ∷ ls) ≡ None =
-        ap (λ b. cond b (Some (seat l)) (find s ls)) e ∙ find_none (suc l.thread.stage) _ s ls r.2 (let j = r.0 in let k = eqb-false l.thread.stage s e in omega arith) in
+        ap (λ b. cond b (Some (seat l)) (find s ls)) e
+        ∙ find_none (suc l.thread.stage) _ s ls r.2 (let j = r.0 in let k = eqb-false l.thread.stage s e in omega arith) in
         ap (λ o. live_from s (o ∷ for_stages (λ q. find q (l ∷ ls)) (suc s) xs)) none ∙ later none
 
 -- two threads may be put in in either order
@@ -89,13 +93,20 @@ swap a b (k ∷ ks) h = at (nat_lt (number a) (number k)) refl (nat_lt (number b
         at false e = e
 
     at : (c : Bool) → nat_lt (number a) (number k) ≡ c → (d : Bool) → nat_lt (number b) (number k) ≡ d → put_in a (put_in b ks) ≡ put_in b (put_in a ks)
-        → put_in a (cond (nat_lt (number b) (number k)) (b ∷ k ∷ ks) (k ∷ put_in b ks)) ≡ put_in b (cond (nat_lt (number a) (number k)) (a ∷ k ∷ ks) (k ∷ put_in a ks))
+        → put_in a (cond (nat_lt (number b) (number k)) (b ∷ k ∷ ks) (k ∷ put_in b ks))
+        ≡ put_in b (cond (nat_lt (number a) (number k)) (a ∷ k ∷ ks) (k ∷ put_in a ks))
     at true e true f r =
         ap (λ c. put_in a (cond c (b ∷ k ∷ ks) (k ∷ put_in b ks))) f ∙ ap (λ c. cond c (a ∷ b ∷ k ∷ ks) (b ∷ put_in a (k ∷ ks))) (lt-ltb _ _ h)
-        ∙ sym (ap (λ c. put_in b (cond c (a ∷ k ∷ ks) (k ∷ put_in a ks))) e ∙ ap (λ c. cond c (b ∷ a ∷ k ∷ ks) (a ∷ put_in b (k ∷ ks))) (not_less _ _ h) ∙ ap (λ c. a ∷ cond c (b ∷ k ∷ ks) (k ∷ put_in b ks)) f)
+        ∙ sym
+        (ap (λ c. put_in b (cond c (a ∷ k ∷ ks) (k ∷ put_in a ks))) e
+        ∙ ap (λ c. cond c (b ∷ a ∷ k ∷ ks) (a ∷ put_in b (k ∷ ks))) (not_less _ _ h)
+        ∙ ap (λ c. a ∷ cond c (b ∷ k ∷ ks) (k ∷ put_in b ks)) f)
     at true e false f r =
         ap (λ c. put_in a (cond c (b ∷ k ∷ ks) (k ∷ put_in b ks))) f ∙ ap (λ c. cond c (a ∷ k ∷ put_in b ks) (k ∷ put_in a (put_in b ks))) e
-        ∙ sym (ap (λ c. put_in b (cond c (a ∷ k ∷ ks) (k ∷ put_in a ks))) e ∙ ap (λ c. cond c (b ∷ a ∷ k ∷ ks) (a ∷ put_in b (k ∷ ks))) (not_less _ _ h) ∙ ap (λ c. a ∷ cond c (b ∷ k ∷ ks) (k ∷ put_in b ks)) f)
+        ∙ sym
+        (ap (λ c. put_in b (cond c (a ∷ k ∷ ks) (k ∷ put_in a ks))) e
+        ∙ ap (λ c. cond c (b ∷ a ∷ k ∷ ks) (a ∷ put_in b (k ∷ ks))) (not_less _ _ h)
+        ∙ ap (λ c. a ∷ cond c (b ∷ k ∷ ks) (k ∷ put_in b ks)) f)
     at false e true f r = absurd (let i = ltb-false _ _ e in let j = ltb-true _ _ f in omega arith)
     at false e false f r =
         ap (λ c. put_in a (cond c (b ∷ k ∷ ks) (k ∷ put_in b ks))) f ∙ ap (λ c. cond c (a ∷ k ∷ put_in b ks) (k ∷ put_in a (put_in b ks))) e
@@ -117,14 +128,16 @@ put_last : (l : Sound.Live) (zs : List Sound.Live) → AllLive (λ z. number z <
 put_last l [] h = refl
 put_last l (z ∷ zs) h = at (nat_lt (number l) (number z)) refl (put_last l zs h.1)
   where
-    at : (b : Bool) → nat_lt (number l) (number z) ≡ b → put_in l zs ≡ zs ++ l ∷ [] → cond (nat_lt (number l) (number z)) (l ∷ z ∷ zs) (z ∷ put_in l zs) ≡ z ∷ zs ++ l ∷ []
+    at : (b : Bool) → nat_lt (number l) (number z) ≡ b → put_in l zs ≡ zs ++ l ∷ []
+        → cond (nat_lt (number l) (number z)) (l ∷ z ∷ zs) (z ∷ put_in l zs) ≡ z ∷ zs ++ l ∷ []
     at true e r = absurd (let i = ltb-true _ _ e in let j = h.0 in omega arith)
     at false e r = ap (λ c. cond c (l ∷ z ∷ zs) (z ∷ put_in l zs)) e ∙ ap (λ k. z ∷ k) r
 
 by_sorted : (n : ℕ) (ls : List Live) → Falls n ls → by_number (lives_of (sorted ls)) ≡ oldest_first ls
 by_sorted n [] f = refl
 by_sorted n (l ∷ ls) f =
-    by_place (record { live = l; older = ls }) (sorted ls) (sorted_each (λ y. y.live.number < l.number) ls (pairs_each (λ k. k.number < l.number) ls (falls_each l.number ls f.1)))
+    by_place (record { live = l; older = ls }) (sorted ls)
+    (sorted_each (λ y. y.live.number < l.number) ls (pairs_each (λ k. k.number < l.number) ls (falls_each l.number ls f.1)))
     ∙ ap (put_in (told l)) (by_sorted l.number ls f.1)
     ∙ put_last (told l) (oldest_first ls) (live_each (λ z. number z < l.number) ls (falls_each l.number ls f.1))
 
@@ -134,7 +147,8 @@ pub live_is : (p : Pipe) (st : State) (n : ℕ) (ls : List Live)
     → Ordered p ls → Falls n ls → live st ≡ oldest_first ls
 live_is p st n ls e low o f =
     ap (live_from 0) (e ∙ stages_same _ _ 0 p.stages (λ q i. sym (find_sorted p q ls o)))
-    ∙ from_slots p.stages 0 (lives_of (sorted ls)) (subst (λ h. Rises 0 h (lives_of (sorted ls))) (sym (zero-add (length p.stages))) (rises_sorted p (length p.stages) ls low o))
+    ∙ from_slots p.stages 0 (lives_of (sorted ls))
+    (subst (λ h. Rises 0 h (lives_of (sorted ls))) (sym (zero-add (length p.stages))) (rises_sorted p (length p.stages) ls low o))
     ∙ by_sorted n ls f
 
 -- TESTS OF ALL OF THEM
@@ -159,7 +173,8 @@ pairs_snoc : {X : Type 0} → (test : X → X → Bool) (xs : List X) (x : X)
     → all_pairs test xs ≡ true → list_all (λ y. test y x) xs ≡ true → all_pairs test (xs ++ x ∷ []) ≡ true
 pairs_snoc test [] x h k = refl
 pairs_snoc test (y ∷ xs) x h k =
-    ap₂ (λ a b. a && b) (all_snoc (test y) xs x (and_left _ _ h) (and_left _ _ k)) (pairs_snoc test xs x (and_right (list_all (test y) xs) _ h) (and_right (test y x) _ k))
+    ap₂ (λ a b. a && b) (all_snoc (test y) xs x (and_left _ _ h) (and_left _ _ k))
+    (pairs_snoc test xs x (and_right (list_all (test y) xs) _ h) (and_right (test y x) _ k))
 
 -- a test of each older and younger live thread passes for each two of the list, oldest first
 pub pairs_all : (test : Sound.Live → Sound.Live → Bool) (ls : List Live)

@@ -18,7 +18,8 @@ of_thread n test e = not (e.thread == n) || test e
 pub record Mine (p : Pipe) (st : State) (l : Live) : Type 0 where
   pub local : Local p l.env l.kept l.thread
   pub owns : Owns st l.number local.asks l.thread.awaits
-  pub listed : (m : ℕ) (test : Pending → Bool) → list_all test (pend m l.number l.thread.entries) ≡ true → list_all (of_thread l.number test) (lock_of st m) ≡ true
+  pub listed : (m : ℕ) (test : Pending → Bool) → list_all test (pend m l.number l.thread.entries) ≡ true
+      → list_all (of_thread l.number test) (lock_of st m) ≡ true
 
 -- where all elements of two lists pass a test, all of both lists joined do
 pub all_append : {X : Type 0} → (test : X → Bool) (xs ys : List X)
@@ -51,15 +52,20 @@ older_others m n test (k ∷ ks) f =
 
 module _ (p : Pipe) (st : State) where
   mine_of : (bound : ℕ) (ks : List Live) → Falls bound ks → Along (Lasting p st) ks
-      → ((m n : ℕ) (test : Pending → Bool) → n < bound → list_all (of_thread n test) (pends m ks) ≡ true → list_all (of_thread n test) (lock_of st m) ≡ true) → Each (Mine p st) ks
+      → ((m n : ℕ) (test : Pending → Bool) → n < bound → list_all (of_thread n test) (pends m ks) ≡ true → list_all (of_thread n test) (lock_of st m) ≡ true)
+      → Each (Mine p st) ks
   mine_of bound [] f a g = tt
   mine_of bound (l ∷ ks) f a g = (
     record {
       local = a.0.local;
       owns = a.0.owns;
-      listed = λ m test h. g m l.number test f.0 (all_append (of_thread l.number test) (pends m ks) _ (older_others m l.number test ks f.1) (all_own l.number test _ h));
+      listed =
+          λ m test h. g m l.number test f.0
+          (all_append (of_thread l.number test) (pends m ks) _ (older_others m l.number test ks f.1) (all_own l.number test _ h));
     },
-    mine_of l.number ks f.1 a.1 (λ m n test i h. g m n test (let j = f.0 in omega arith) (all_append (of_thread n test) (pends m ks) _ h (others m n l.number test l.thread.entries (λ e. absurd (let j = i in omega arith))))),
+    mine_of l.number ks f.1 a.1
+        (λ m n test i h. g m n test (let j = f.0 in omega arith)
+        (all_append (of_thread n test) (pends m ks) _ h (others m n l.number test l.thread.entries (λ e. absurd (let j = i in omega arith))))),
   )
 
   pub each_mine : (ls : List Live) → Falls st.next ls → Along (Lasting p st) ls → ((m : ℕ) → lock_of st m ≡ pends m ls) → Each (Mine p st) ls

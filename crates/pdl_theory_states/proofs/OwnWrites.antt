@@ -28,7 +28,8 @@ own_short m Done es h = subst (λ l. length l ≤ 1) (sym h) (omega arith)
 -- a thread has no more pending writes of one memory than entries in all
 pub pend_short : (m n : ℕ) (es : List Entry) → length (pend m n es) ≤ length es
 pend_short m n [] = omega arith
-pend_short m n (e ∷ es) = let i = length-append (pend m n es) (cond (e.mem == m) (own n e ∷ []) []) in let j = at (e.mem == m) in let k = pend_short m n es in omega arith
+pend_short m n (e ∷ es) = let i = length-append (pend m n es) (cond (e.mem == m) (own n e ∷ []) []) in
+    let j = at (e.mem == m) in let k = pend_short m n es in omega arith
   where
     at : (b : Bool) → length (cond b (own n e ∷ []) []) ≤ 1
     at true = omega arith
@@ -47,15 +48,21 @@ module _ (p : Pipe) (flows : Flows p) (st : State) where
 
   pub within_pends : (m n : ℕ) (ls : List Live) → Each (Seated p st) ls → Falls n ls → Within 0 n (pends m ls)
   within_pends m n [] s f = omega arith
-  within_pends m n (l ∷ ls) s f = within_append 0 l.number n (pends m ls) _ (within_pends m l.number ls s.1 f.1) (within_one l.number n l.number _ (le_refl l.number) f.0 (of_pend m l.number l.thread.entries) (one_pending m l s.0))
+  within_pends m n (l ∷ ls) s f =
+      within_append 0 l.number n (pends m ls) _ (within_pends m l.number ls s.1 f.1)
+      (within_one l.number n l.number _ (le_refl l.number) f.0 (of_pend m l.number l.thread.entries) (one_pending m l s.0))
 
   -- a thread up to the stage of the reserves finds all pending writes older
-  pub all_older : (m n : ℕ) (ls : List Live) → Each (Seated p st) ls → Ordered p ls → Falls n ls → EachPair (λ x. x.live.thread.stage ≤ reserve_stage p m → count_older x.live.number (pends m ls) ≡ length (pends m ls)) (pairs ls)
+  pub all_older : (m n : ℕ) (ls : List Live) → Each (Seated p st) ls → Ordered p ls → Falls n ls
+      → EachPair (λ x. x.live.thread.stage ≤ reserve_stage p m → count_older x.live.number (pends m ls) ≡ length (pends m ls)) (pairs ls)
   all_older m n [] s o f = tt
   all_older m n (l ∷ ls) s o f = (
-    (λ h. ap (λ l'. count_older l.number (pends m ls ++ l')) (none_pending m l s.0 h) ∙ ap (count_older l.number) (append-nil (pends m ls)) ∙ within_count 0 l.number l.number (pends m ls) (within_pends m l.number ls s.1 f.1) (le_refl l.number)
+    (λ h. ap (λ l'. count_older l.number (pends m ls ++ l')) (none_pending m l s.0 h)
+        ∙ ap (count_older l.number) (append-nil (pends m ls))
+        ∙ within_count 0 l.number l.number (pends m ls) (within_pends m l.number ls s.1 f.1) (le_refl l.number)
         ∙ ap length (sym (append-nil (pends m ls)) ∙ ap (λ l'. pends m ls ++ l') (sym (none_pending m l s.0 h)))),
-    pair_both (λ x b g h. at x h (none_pending m l s.0 (low x b h)) (g h)) (pairs ls) (pairs_each (λ k. Behind p l.thread.stage k.thread.stage) ls o.0) (all_older m l.number ls s.1 o.1 f.1),
+    pair_both (λ x b g h. at x h (none_pending m l s.0 (low x b h)) (g h)) (pairs ls)
+        (pairs_each (λ k. Behind p l.thread.stage k.thread.stage) ls o.0) (all_older m l.number ls s.1 o.1 f.1),
   )
     where
       low : (x : Pair) → Behind p l.thread.stage x.live.thread.stage → x.live.thread.stage ≤ reserve_stage p m → l.thread.stage ≤ reserve_stage p m
@@ -63,7 +70,15 @@ module _ (p : Pipe) (flows : Flows p) (st : State) where
         where
           by : (t : Bool) → nat_le l.thread.stage (reserve_stage p m) ≡ t → l.thread.stage ≤ reserve_stage p m
           by true e = leb-true _ _ e
-          by false e = absurd (let i : reserve_stage p m < x.live.thread.stage = b.trunk (reserve_stage p m) (flows.trunk_reserve m) (let j = leb-false _ _ e in omega arith) in omega arith)
+          by false e =
+              absurd
+              (let i : reserve_stage p m < x.live.thread.stage = b.trunk (reserve_stage p m) (flows.trunk_reserve m) (let j = leb-false _ _ e in omega arith) in
+              omega arith)
 
-      at : (x : Pair) → x.live.thread.stage ≤ reserve_stage p m → pend m l.number l.thread.entries ≡ [] → count_older x.live.number (pends m ls) ≡ length (pends m ls) → count_older x.live.number (pends m ls ++ pend m l.number l.thread.entries) ≡ length (pends m ls ++ pend m l.number l.thread.entries)
-      at x h e g = ap (λ l'. count_older x.live.number (pends m ls ++ l')) e ∙ ap (count_older x.live.number) (append-nil (pends m ls)) ∙ g ∙ ap length (sym (append-nil (pends m ls)) ∙ ap (λ l'. pends m ls ++ l') (sym e))
+      at : (x : Pair) → x.live.thread.stage ≤ reserve_stage p m → pend m l.number l.thread.entries ≡ []
+          → count_older x.live.number (pends m ls) ≡ length (pends m ls)
+          → count_older x.live.number (pends m ls ++ pend m l.number l.thread.entries) ≡ length (pends m ls ++ pend m l.number l.thread.entries)
+      at x h e g =
+          ap (λ l'. count_older x.live.number (pends m ls ++ l')) e
+          ∙ ap (count_older x.live.number) (append-nil (pends m ls)) ∙ g
+          ∙ ap length (sym (append-nil (pends m ls)) ∙ ap (λ l'. pends m ls ++ l') (sym e))

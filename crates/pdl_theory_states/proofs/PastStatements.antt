@@ -82,9 +82,12 @@ value_agree (Constant w v) env env' f = refl
 value_agree (Variable x) env env' f = f x (eq-eqb x x refl)
 value_agree (Slice x high low) env env' f = ap (Words.slice high low) (f x (eq-eqb x x refl))
 value_agree (Not w a) env env' f = ap (Words.complement w) (value_agree a env env' f)
-value_agree (Binary op w a b) env env' f = ap₂ (operator_value op w) (value_agree a env env' (λ g h. f g (or_left _ _ h))) (value_agree b env env' (λ g h. f g (or_right (uses_in g a) _ h)))
-value_agree (Cat a w b) env env' f = ap₂ (Words.cat w) (value_agree a env env' (λ g h. f g (or_left _ _ h))) (value_agree b env env' (λ g h. f g (or_right (uses_in g a) _ h)))
-value_agree (LessSigned w a b) env env' f = ap₂ (Words.lts w) (value_agree a env env' (λ g h. f g (or_left _ _ h))) (value_agree b env env' (λ g h. f g (or_right (uses_in g a) _ h)))
+value_agree (Binary op w a b) env env' f =
+    ap₂ (operator_value op w) (value_agree a env env' (λ g h. f g (or_left _ _ h))) (value_agree b env env' (λ g h. f g (or_right (uses_in g a) _ h)))
+value_agree (Cat a w b) env env' f =
+    ap₂ (Words.cat w) (value_agree a env env' (λ g h. f g (or_left _ _ h))) (value_agree b env env' (λ g h. f g (or_right (uses_in g a) _ h)))
+value_agree (LessSigned w a b) env env' f =
+    ap₂ (Words.lts w) (value_agree a env env' (λ g h. f g (or_left _ _ h))) (value_agree b env env' (λ g h. f g (or_right (uses_in g a) _ h)))
 value_agree (ZeroExtend wide a) env env' f = ap Words.zext (value_agree a env env' f)
 value_agree (SignExtend w wide a) env env' f = ap (Words.sext w wide) (value_agree a env env' f)
 value_agree (Choose c a b) env env' f =
@@ -96,7 +99,8 @@ value_agree (Choose c a b) env env' f =
 values_agree : (es : List Expr) (env env' : List ℕ)
     → ((g : ℕ) → uses_any g es ≡ true → slice_index env g ≡ slice_index env' g) → values_of es env ≡ values_of es env'
 values_agree [] env env' f = refl
-values_agree (e ∷ es) env env' f = ap₂ (λ a l. a ∷ l) (value_agree e env env' (λ g h. f g (or_left _ _ h))) (values_agree es env env' (λ g h. f g (or_right (uses_in g e) _ h)))
+values_agree (e ∷ es) env env' f =
+    ap₂ (λ a l. a ∷ l) (value_agree e env env' (λ g h. f g (or_left _ _ h))) (values_agree es env env' (λ g h. f g (or_right (uses_in g e) _ h)))
 
 -- what a statement gave
 abbrev pub Done : List ℕ → List ℕ → Op → Type 0
@@ -203,7 +207,8 @@ is_released m a (op ∷ ops) = is_release_at m a op || is_released m a ops
 -- a block's location was released, or the block is ready
 abbrev pub BlockOk : Around → List ℕ → List Entry → List Op → Op → Type 0
 BlockOk o env es past op =
-    on_block (λ m a. (is_released m a past ≡ true) ⊎ (cond (has_entry es m a) (o.can_write m (slice_index env a)) (o.can_read m (slice_index env a)) ≡ true)) (Unit {0}) op
+    on_block (λ m a. (is_released m a past ≡ true) ⊎ (cond (has_entry es m a) (o.can_write m (slice_index env a)) (o.can_read m (slice_index env a)) ≡ true))
+    (Unit {0}) op
 
 pub record Past (o : Around) (vars : ℕ) (past : List Op) (w : Work) : Type 0 where
   pub long : vars ≤ length w.env
@@ -217,7 +222,8 @@ pub record Past (o : Around) (vars : ℕ) (past : List Op) (w : Work) : Type 0 w
 pub placed_set : (x v : ℕ) (env : List ℕ) (past : List Op) (es : List Entry)
     → touched x past ≡ false → AllPlaced env past es → AllPlaced (slice_set env x v) past es
 placed_set x v env past [] h k = tt
-placed_set x v env past (e ∷ es) h k = (k.0 ∙ sym (get_or-set_other env x e.var v 0 (λ i. untrue (sym h ∙ ap (λ n. touched n past) (sym i) ∙ k.1))), k.1, placed_set x v env past es h k.2)
+placed_set x v env past (e ∷ es) h k =
+    (k.0 ∙ sym (get_or-set_other env x e.var v 0 (λ i. untrue (sym h ∙ ap (λ n. touched n past) (sym i) ∙ k.1))), k.1, placed_set x v env past es h k.2)
 
 asked_set : (x v : ℕ) (env : List ℕ) (past : List Op) (q : Ask)
     → AllOps (λ op. touches x op ≡ false) past → AskedBy env past q → AskedBy (slice_set env x v) past q
@@ -227,7 +233,8 @@ asked_set x v env past q h k = any_both (λ op t i. (i.0, i.1, sym (set_agrees x
 pub block_set : (o : Around) (x v : ℕ) (env : List ℕ) (es : List Entry) (past : List Op) (op : Op)
     → touches x op ≡ false → BlockOk o env es past op → BlockOk o (slice_set env x v) es past op
 block_set o x v env es past (Block m a) t (inl h) = inl h
-block_set o x v env es past (Block m a) t (inr h) = inr (ap (λ n. cond (has_entry es m a) (o.can_write m n) (o.can_read m n)) (sym (set_agrees x v (Block m a) env t a (eq-eqb a a refl))) ∙ h)
+block_set o x v env es past (Block m a) t (inr h) =
+    inr (ap (λ n. cond (has_entry es m a) (o.can_write m n) (o.can_read m n)) (sym (set_agrees x v (Block m a) env t a (eq-eqb a a refl))) ∙ h)
 block_set o x v env es past (Bind y e) t h = tt
 block_set o x v env es past (CombRead y m a) t h = tt
 block_set o x v env es past (DelayedRead y m a) t h = tt
@@ -244,12 +251,17 @@ block_set o x v env es past SpecBarrier t h = tt
 -- the same with more pending writes, or fewer, where each location that is none any more is released
 pub block_more : (o : Around) (env : List ℕ) (es es' : List Entry) (past past' : List Op) (op : Op)
     → ((m a : ℕ) → is_released m a past ≡ true → is_released m a past' ≡ true)
-    → ((m a : ℕ) → (is_released m a past' ≡ true) ⊎ (cond (has_entry es m a) (o.can_write m (slice_index env a)) (o.can_read m (slice_index env a)) ≡ true → cond (has_entry es' m a) (o.can_write m (slice_index env a)) (o.can_read m (slice_index env a)) ≡ true))
+    → ((m a : ℕ)
+    → (is_released m a past' ≡ true)
+    ⊎ (cond (has_entry es m a) (o.can_write m (slice_index env a)) (o.can_read m (slice_index env a)) ≡ true
+    → cond (has_entry es' m a) (o.can_write m (slice_index env a)) (o.can_read m (slice_index env a)) ≡ true))
     → BlockOk o env es past op → BlockOk o env es' past' op
 block_more o env es es' past past' (Block m a) f g (inl h) = inl (f m a h)
 block_more o env es es' past past' (Block m a) f g (inr h) = at (g m a)
   where
-    at : (is_released m a past' ≡ true) ⊎ (cond (has_entry es m a) (o.can_write m (slice_index env a)) (o.can_read m (slice_index env a)) ≡ true → cond (has_entry es' m a) (o.can_write m (slice_index env a)) (o.can_read m (slice_index env a)) ≡ true)
+    at : (is_released m a past' ≡ true)
+        ⊎ (cond (has_entry es m a) (o.can_write m (slice_index env a)) (o.can_read m (slice_index env a)) ≡ true
+        → cond (has_entry es' m a) (o.can_write m (slice_index env a)) (o.can_read m (slice_index env a)) ≡ true)
         → (is_released m a past' ≡ true) ⊎ (cond (has_entry es' m a) (o.can_write m (slice_index env a)) (o.can_read m (slice_index env a)) ≡ true)
     at (inl k) = inl k
     at (inr k) = inr (k h)
@@ -276,7 +288,8 @@ placed_filled : (env : List ℕ) (past : List Op) (es : List Entry) (m a v : ℕ
 placed_filled env past [] m a v h = tt
 placed_filled env past (e ∷ es) m a v h = at ((e.mem == m) && (e.var == a)) (placed_filled env past es m a v h.2)
   where
-    at : (b : Bool) → AllPlaced env past (with_entry_value es m a v) → AllPlaced env past (cond b (record e { value = Some v } ∷ es) (e ∷ with_entry_value es m a v))
+    at : (b : Bool) → AllPlaced env past (with_entry_value es m a v)
+        → AllPlaced env past (cond b (record e { value = Some v } ∷ es) (e ∷ with_entry_value es m a v))
     at true k = h
     at false k = (h.0, h.1, k)
 
@@ -293,8 +306,10 @@ has_without : (es : List Entry) (n b m a : ℕ) → ((n == m) && (b == a)) ≡ f
 has_without [] n b m a h = refl
 has_without (e ∷ es) n b m a h = at ((e.mem == n) && (e.var == b)) refl (has_without es n b m a h)
   where
-    at : (t : Bool) → ((e.mem == n) && (e.var == b)) ≡ t → has_entry (without es n b) m a ≡ has_entry es m a → has_entry (cond t es (e ∷ without es n b)) m a ≡ (((e.mem == m) && (e.var == a)) || has_entry es m a)
-    at true i k = ap (λ t. t || has_entry es m a) (sym ((λ j. (eqb-true e.mem n (and_left _ _ i) j == m) && (eqb-true e.var b (and_right (e.mem == n) _ i) j == a)) ∙ h))
+    at : (t : Bool) → ((e.mem == n) && (e.var == b)) ≡ t → has_entry (without es n b) m a ≡ has_entry es m a
+        → has_entry (cond t es (e ∷ without es n b)) m a ≡ (((e.mem == m) && (e.var == a)) || has_entry es m a)
+    at true i k =
+        ap (λ t. t || has_entry es m a) (sym ((λ j. (eqb-true e.mem n (and_left _ _ i) j == m) && (eqb-true e.var b (and_right (e.mem == n) _ i) j == a)) ∙ h))
     at false i k = ap (λ t. ((e.mem == m) && (e.var == a)) || t) k
 
 -- A STATEMENT
@@ -304,12 +319,18 @@ abbrev pub Kind : Around → Type 0
 Kind o = (m a : ℕ) → o.can_read m a ≡ true → o.can_write m a ≡ true
 
 module _ (o : Around) (vars : ℕ) (kind : Kind o) where
-  blocks_set : (x v : ℕ) (w : Work) (op : Op) (past : List Op) → AllOps (λ op. touches x op ≡ false) past → AllOps (BlockOk o w.env w.entries past) past → ((m a : ℕ) → is_release_at m a op ≡ false) → AllOps (BlockOk o (slice_set w.env x v) w.entries (op ∷ past)) past
+  blocks_set : (x v : ℕ) (w : Work) (op : Op) (past : List Op) → AllOps (λ op. touches x op ≡ false) past
+      → AllOps (BlockOk o w.env w.entries past) past → ((m a : ℕ) → is_release_at m a op ≡ false)
+      → AllOps (BlockOk o (slice_set w.env x v) w.entries (op ∷ past)) past
   blocks_set x v w op past t h r =
-      ops_both (λ o' t' b. block_more o (slice_set w.env x v) w.entries w.entries past (op ∷ past) o' (λ m a i. or_right (is_release_at m a op) _ i) (λ m a. inr (λ i. i)) (block_set o x v w.env w.entries past o' t' b)) past t h
+      ops_both
+      (λ o' t' b. block_more o (slice_set w.env x v) w.entries w.entries past (op ∷ past) o' (λ m a i. or_right (is_release_at m a op) _ i)
+      (λ m a. inr (λ i. i)) (block_set o x v w.env w.entries past o' t' b)) past t h
 
   -- a statement that binds a variable
-  bind_step : (x v : ℕ) (op : Op) (past : List Op) (w : Work) → is_new vars past (Some x) ≡ true → AllAsks (λ q. mentions_var q.var op ≡ false) w.asks → (Done (slice_set w.env x v) w.guess op) → BlockOk o (slice_set w.env x v) w.entries (op ∷ past) op → ((m a : ℕ) → is_release_at m a op ≡ false)
+  bind_step : (x v : ℕ) (op : Op) (past : List Op) (w : Work) → is_new vars past (Some x) ≡ true
+      → AllAsks (λ q. mentions_var q.var op ≡ false) w.asks → (Done (slice_set w.env x v) w.guess op)
+      → BlockOk o (slice_set w.env x v) w.entries (op ∷ past) op → ((m a : ℕ) → is_release_at m a op ≡ false)
       → Past o vars past w → Past o vars (op ∷ past) (record w { env = slice_set w.env x v })
   bind_step x v op past w new silent mine block quiet h =
       let none : is_mentioned x past ≡ false = not-true _ (and_right (nat_lt x vars) _ new) in
@@ -319,13 +340,21 @@ module _ (o : Around) (vars : ℕ) (kind : Kind o) where
         done = (mine, ops_both (λ o' t' d. done_agrees w.env (slice_set w.env x v) w.guess o' (set_agrees x v o' w.env t') d) past t h.done);
         placed = placed_more (slice_set w.env x v) past op w.entries (placed_set x v w.env past w.entries (none_touched x past t) h.placed);
         asked = all_more (AskedBy w.env past) (AskedBy (slice_set w.env x v) (op ∷ past)) w.asks (λ q k. inr (asked_set x v w.env past q t k)) h.asked;
-        unused = all_more (λ q. (mentions_var q.var op ≡ false) × AllOps (λ o'. touches q.var o' ≡ false) past) (λ q. AllOps (λ o'. touches q.var o' ≡ false) (op ∷ past)) w.asks (λ q k. (mention_touch q.var op k.0, k.1)) (all_both (λ q. mentions_var q.var op ≡ false) (λ q. AllOps (λ o'. touches q.var o' ≡ false) past) w.asks silent h.unused);
+        unused =
+            all_more (λ q. (mentions_var q.var op ≡ false) × AllOps (λ o'. touches q.var o' ≡ false) past)
+            (λ q. AllOps (λ o'. touches q.var o' ≡ false) (op ∷ past)) w.asks (λ q k. (mention_touch q.var op k.0, k.1))
+            (all_both (λ q. mentions_var q.var op ≡ false) (λ q. AllOps (λ o'. touches q.var o' ≡ false) past) w.asks silent h.unused);
         blocks = (block, blocks_set x v w op past t h.blocks quiet);
       }
 
   -- one that only changes what is pending
-  pend_step : (op : Op) (past : List Op) (w : Work) (es : List Entry) → AllAsks (λ q. mentions_var q.var op ≡ false) w.asks → Done w.env w.guess op → AllPlaced w.env (op ∷ past) es → BlockOk o w.env es (op ∷ past) op
-      → ((m a : ℕ) → (is_released m a (op ∷ past) ≡ true) ⊎ (cond (has_entry w.entries m a) (o.can_write m (slice_index w.env a)) (o.can_read m (slice_index w.env a)) ≡ true → cond (has_entry es m a) (o.can_write m (slice_index w.env a)) (o.can_read m (slice_index w.env a)) ≡ true))
+  pend_step : (op : Op) (past : List Op) (w : Work) (es : List Entry)
+      → AllAsks (λ q. mentions_var q.var op ≡ false) w.asks → Done w.env w.guess op → AllPlaced w.env (op ∷ past) es
+      → BlockOk o w.env es (op ∷ past) op
+      → ((m a : ℕ)
+      → (is_released m a (op ∷ past) ≡ true)
+      ⊎ (cond (has_entry w.entries m a) (o.can_write m (slice_index w.env a)) (o.can_read m (slice_index w.env a)) ≡ true
+      → cond (has_entry es m a) (o.can_write m (slice_index w.env a)) (o.can_read m (slice_index w.env a)) ≡ true))
       → Past o vars past w → Past o vars (op ∷ past) (record w { entries = es })
   pend_step op past w es silent mine placed block kept h =
       record {
@@ -333,15 +362,23 @@ module _ (o : Around) (vars : ℕ) (kind : Kind o) where
         done = (mine, h.done);
         placed = placed;
         asked = all_more (AskedBy w.env past) (AskedBy w.env (op ∷ past)) w.asks (λ q k. inr k) h.asked;
-        unused = all_more (λ q. (mentions_var q.var op ≡ false) × AllOps (λ o'. touches q.var o' ≡ false) past) (λ q. AllOps (λ o'. touches q.var o' ≡ false) (op ∷ past)) w.asks (λ q k. (mention_touch q.var op k.0, k.1)) (all_both (λ q. mentions_var q.var op ≡ false) (λ q. AllOps (λ o'. touches q.var o' ≡ false) past) w.asks silent h.unused);
-        blocks = (block, ops_map (λ o' b. block_more o w.env w.entries es past (op ∷ past) o' (λ m a i. or_right (is_release_at m a op) _ i) kept b) past h.blocks);
+        unused =
+            all_more (λ q. (mentions_var q.var op ≡ false) × AllOps (λ o'. touches q.var o' ≡ false) past)
+            (λ q. AllOps (λ o'. touches q.var o' ≡ false) (op ∷ past)) w.asks (λ q k. (mention_touch q.var op k.0, k.1))
+            (all_both (λ q. mentions_var q.var op ≡ false) (λ q. AllOps (λ o'. touches q.var o' ≡ false) past) w.asks silent h.unused);
+        blocks =
+            (block, ops_map (λ o' b. block_more o w.env w.entries es past (op ∷ past) o' (λ m a i. or_right (is_release_at m a op) _ i) kept b) past h.blocks);
       }
 
   -- one that leaves all that as it is
-  still_step : (op : Op) (past : List Op) (w : Work) → AllAsks (λ q. mentions_var q.var op ≡ false) w.asks → Done w.env w.guess op → BlockOk o w.env w.entries (op ∷ past) op → Past o vars past w → Past o vars (op ∷ past) w
-  still_step op past w silent mine block h = pend_step op past w w.entries silent mine (placed_more w.env past op w.entries h.placed) block (λ m a. inr (λ i. i)) h
+  still_step : (op : Op) (past : List Op) (w : Work) → AllAsks (λ q. mentions_var q.var op ≡ false) w.asks
+      → Done w.env w.guess op → BlockOk o w.env w.entries (op ∷ past) op → Past o vars past w
+      → Past o vars (op ∷ past) w
+  still_step op past w silent mine block h =
+      pend_step op past w w.entries silent mine (placed_more w.env past op w.entries h.placed) block (λ m a. inr (λ i. i)) h
 
-  fetch_step : (x m a : ℕ) (past : List Op) (w : Work) (free : Bool) → is_new vars past (Some x) ≡ true → (a == x) ≡ false → AllAsks (λ q. mentions_var q.var (DelayedRead x m a) ≡ false) w.asks → Past o vars past w
+  fetch_step : (x m a : ℕ) (past : List Op) (w : Work) (free : Bool) → is_new vars past (Some x) ≡ true
+      → (a == x) ≡ false → AllAsks (λ q. mentions_var q.var (DelayedRead x m a) ≡ false) w.asks → Past o vars past w
       → Past o vars (DelayedRead x m a ∷ past) (record w { asks = w.asks ++ record { mem = m; var = x; address = slice_index w.env a } ∷ []; ready = free })
   fetch_step x m a past w free new own silent h =
       let g = still_step (DelayedRead x m a) past w silent tt tt h in
@@ -349,26 +386,40 @@ module _ (o : Around) (vars : ℕ) (kind : Kind o) where
         long = g.long;
         done = g.done;
         placed = g.placed;
-        asked = all_snoc (AskedBy w.env (DelayedRead x m a ∷ past)) w.asks (record { mem = m; var = x; address = slice_index w.env a }) g.asked (inl (a, refl, refl));
-        unused = all_snoc (λ q. AllOps (λ o'. touches q.var o' ≡ false) (DelayedRead x m a ∷ past)) w.asks (record { mem = m; var = x; address = slice_index w.env a }) g.unused (own, untouched x past (not-true _ (and_right (nat_lt x vars) _ new)));
+        asked =
+            all_snoc (AskedBy w.env (DelayedRead x m a ∷ past)) w.asks
+            (record { mem = m; var = x; address = slice_index w.env a }) g.asked (inl (a, refl, refl));
+        unused =
+            all_snoc (λ q. AllOps (λ o'. touches q.var o' ≡ false) (DelayedRead x m a ∷ past)) w.asks
+            (record { mem = m; var = x; address = slice_index w.env a }) g.unused
+            (own, untouched x past (not-true _ (and_right (nat_lt x vars) _ new)));
         blocks = g.blocks;
       }
 
-  call_step : (args : List Expr) (past : List Op) (w : Work) → AllAsks (λ q. mentions_var q.var (SpecCall args) ≡ false) w.asks → AllOps (λ op. is_call op ≡ false) past → Past o vars past w
+  call_step : (args : List Expr) (past : List Op) (w : Work)
+      → AllAsks (λ q. mentions_var q.var (SpecCall args) ≡ false) w.asks → AllOps (λ op. is_call op ≡ false) past
+      → Past o vars past w
       → Past o vars (SpecCall args ∷ past) (record w { child = Some (values_of args w.env); guess = values_of args w.env })
   call_step args past w silent none h =
-      let g = still_step SpecCheck past w (all_more (λ q. mentions_var q.var (SpecCall args) ≡ false) (λ q. mentions_var q.var SpecCheck ≡ false) w.asks (λ q k. refl) silent) tt tt h in
+      let g =
+      still_step SpecCheck past w
+      (all_more (λ q. mentions_var q.var (SpecCall args) ≡ false) (λ q. mentions_var q.var SpecCheck ≡ false) w.asks (λ q k. refl) silent) tt tt h in
       record {
         long = h.long;
         done = (refl, ops_both (λ op n d. done_guess w.env w.guess (values_of args w.env) op n d) past none h.done);
         placed = placed_more w.env past (SpecCall args) w.entries h.placed;
         asked = all_more (AskedBy w.env past) (AskedBy w.env (SpecCall args ∷ past)) w.asks (λ q k. inr k) h.asked;
-        unused = all_more (λ q. (mentions_var q.var (SpecCall args) ≡ false) × AllOps (λ o'. touches q.var o' ≡ false) past) (λ q. AllOps (λ o'. touches q.var o' ≡ false) (SpecCall args ∷ past)) w.asks (λ q k. (k.0, k.1)) (all_both (λ q. mentions_var q.var (SpecCall args) ≡ false) (λ q. AllOps (λ o'. touches q.var o' ≡ false) past) w.asks silent h.unused);
-        blocks = (tt, ops_map (λ o' b. block_more o w.env w.entries w.entries past (SpecCall args ∷ past) o' (λ m a i. i) (λ m a. inr (λ i. i)) b) past h.blocks);
+        unused =
+            all_more (λ q. (mentions_var q.var (SpecCall args) ≡ false) × AllOps (λ o'. touches q.var o' ≡ false) past)
+            (λ q. AllOps (λ o'. touches q.var o' ≡ false) (SpecCall args ∷ past)) w.asks (λ q k. (k.0, k.1))
+            (all_both (λ q. mentions_var q.var (SpecCall args) ≡ false) (λ q. AllOps (λ o'. touches q.var o' ≡ false) past) w.asks silent h.unused);
+        blocks =
+            (tt, ops_map (λ o' b. block_more o w.env w.entries w.entries past (SpecCall args ∷ past) o' (λ m a i. i) (λ m a. inr (λ i. i)) b) past h.blocks);
       }
 
   -- only these fields matter
-  same_past : (past : List Op) (w v : Work) → w.env ≡ v.env → w.guess ≡ v.guess → w.entries ≡ v.entries → w.asks ≡ v.asks → Past o vars past w → Past o vars past v
+  same_past : (past : List Op) (w v : Work) → w.env ≡ v.env → w.guess ≡ v.guess → w.entries ≡ v.entries
+      → w.asks ≡ v.asks → Past o vars past w → Past o vars past v
   same_past past w v e g s a h =
       record {
         long = subst (λ (l : List ℕ). vars ≤ length l) e h.long;
@@ -379,61 +430,88 @@ module _ (o : Around) (vars : ℕ) (kind : Kind o) where
         blocks = subst (λ l. AllOps (BlockOk o v.env l past) past) s (subst (λ l. AllOps (BlockOk o l w.entries past) past) e h.blocks);
       }
 
-  pub past_step : (op : Op) (past : List Op) (w : Work) → is_new vars past (bound_by op) ≡ true → not (uses_own op) ≡ true → AllAsks (λ q. mentions_var q.var op ≡ false) w.asks → (is_call op ≡ true → AllOps (λ op. is_call op ≡ false) past) → (work_after o op w).ready ≡ true
+  pub past_step : (op : Op) (past : List Op) (w : Work) → is_new vars past (bound_by op) ≡ true
+      → not (uses_own op) ≡ true → AllAsks (λ q. mentions_var q.var op ≡ false) w.asks
+      → (is_call op ≡ true → AllOps (λ op. is_call op ≡ false) past) → (work_after o op w).ready ≡ true
       → Past o vars past w → Past o vars (op ∷ past) (work_after o op w)
   past_step (Bind x e) past w new own silent calls ready h = bind_step x (value_of e w.env) (Bind x e) past w new silent here tt (λ m a. refl) h
     where
       here : slice_index (slice_set w.env x (value_of e w.env)) x ≡ value_of e (slice_set w.env x (value_of e w.env))
       here =
           get_or-set_same w.env x (value_of e w.env) 0 (low (ltb-true _ _ (and_left _ _ new)) h.long)
-          ∙ value_agree e w.env (slice_set w.env x (value_of e w.env)) (λ g k. sym (get_or-set_other w.env x g (value_of e w.env) 0 (λ i. untrue (sym (not-true _ own) ∙ ap (λ n. uses_in n e) (sym i) ∙ k))))
+          ∙ value_agree e w.env (slice_set w.env x (value_of e w.env))
+          (λ g k. sym (get_or-set_other w.env x g (value_of e w.env) 0 (λ i. untrue (sym (not-true _ own) ∙ ap (λ n. uses_in n e) (sym i) ∙ k))))
         where
           low : x < vars → vars ≤ length w.env → x < length w.env
           low i j = omega arith
-  past_step (CombRead x m a) past w new own silent calls ready h = bind_step x (o.read m (slice_index w.env a)) (CombRead x m a) past w new silent tt tt (λ m a. refl) h
+  past_step (CombRead x m a) past w new own silent calls ready h =
+      bind_step x (o.read m (slice_index w.env a)) (CombRead x m a) past w new silent tt tt (λ m a. refl) h
   past_step (DelayedRead x m a) past w new own silent calls ready h = fetch_step x m a past w (w.ready && o.free m) new (not-true _ own) silent h
   past_step (Write m a e) past w new own silent calls ready h =
-      pend_step (Write m a e) past w (with_entry_value w.entries m a (value_of e w.env)) silent tt (placed_more w.env past (Write m a e) (with_entry_value w.entries m a (value_of e w.env)) (placed_filled w.env past w.entries m a (value_of e w.env) h.placed)) tt
-      (λ n b. inr (λ i. ap (λ t. cond t (o.can_write n (slice_index w.env b)) (o.can_read n (slice_index w.env b))) (has_filled w.entries m a (value_of e w.env) n b) ∙ i)) h
+      pend_step (Write m a e) past w (with_entry_value w.entries m a (value_of e w.env)) silent tt
+      (placed_more w.env past (Write m a e) (with_entry_value w.entries m a (value_of e w.env))
+      (placed_filled w.env past w.entries m a (value_of e w.env) h.placed)) tt
+      (λ n b. inr
+      (λ i. ap (λ t. cond t (o.can_write n (slice_index w.env b)) (o.can_read n (slice_index w.env b))) (has_filled w.entries m a (value_of e w.env) n b)
+      ∙ i)) h
   past_step (ReserveRead m a) past w new own silent calls ready h = still_step (ReserveRead m a) past w silent tt tt h
   past_step (ReserveWrite m a) past w new own silent calls ready h =
-      same_past (ReserveWrite m a ∷ past) (record w { entries = record { mem = m; var = a; address = slice_index w.env a; value = None } ∷ w.entries }) (work_after o (ReserveWrite m a) w) refl refl refl refl
+      same_past (ReserveWrite m a ∷ past)
+      (record w { entries = record { mem = m; var = a; address = slice_index w.env a; value = None } ∷ w.entries })
+      (work_after o (ReserveWrite m a) w) refl refl refl refl
       (pend_step (ReserveWrite m a) past w (record { mem = m; var = a; address = slice_index w.env a; value = None } ∷ w.entries) silent tt
-      (refl, or_left _ _ (eq-eqb a a refl), placed_more w.env past (ReserveWrite m a) w.entries h.placed) tt (λ n b. inr (λ i. more n b ((m == n) && (a == b)) i)) h)
+      (refl, or_left _ _ (eq-eqb a a refl), placed_more w.env past (ReserveWrite m a) w.entries h.placed) tt
+      (λ n b. inr (λ i. more n b ((m == n) && (a == b)) i)) h)
     where
-      more : (n b : ℕ) (t : Bool) → cond (has_entry w.entries n b) (o.can_write n (slice_index w.env b)) (o.can_read n (slice_index w.env b)) ≡ true → cond (t || has_entry w.entries n b) (o.can_write n (slice_index w.env b)) (o.can_read n (slice_index w.env b)) ≡ true
+      more : (n b : ℕ) (t : Bool)
+          → cond (has_entry w.entries n b) (o.can_write n (slice_index w.env b)) (o.can_read n (slice_index w.env b)) ≡ true
+          → cond (t || has_entry w.entries n b) (o.can_write n (slice_index w.env b)) (o.can_read n (slice_index w.env b)) ≡ true
       more n b false i = i
       more n b true i = at (has_entry w.entries n b) i
         where
-          at : (c : Bool) → cond c (o.can_write n (slice_index w.env b)) (o.can_read n (slice_index w.env b)) ≡ true → o.can_write n (slice_index w.env b) ≡ true
+          at : (c : Bool) → cond c (o.can_write n (slice_index w.env b)) (o.can_read n (slice_index w.env b)) ≡ true
+              → o.can_write n (slice_index w.env b) ≡ true
           at true j = j
           at false j = kind n (slice_index w.env b) j
   past_step (Block m a) past w new own silent calls ready h =
-      same_past (Block m a ∷ past) w (work_after o (Block m a) w) refl refl refl refl (still_step (Block m a) past w silent tt (inr (and_right w.ready _ ready)) h)
+      same_past (Block m a ∷ past) w (work_after o (Block m a) w) refl refl refl refl
+      (still_step (Block m a) past w silent tt (inr (and_right w.ready _ ready)) h)
   past_step (Release m a) past w new own silent calls ready h =
       same_past (Release m a ∷ past) (record w { entries = without w.entries m a }) (work_after o (Release m a) w) refl refl refl refl
-      (pend_step (Release m a) past w (without w.entries m a) silent tt (placed_more w.env past (Release m a) (without w.entries m a) (placed_without w.env past w.entries m a h.placed)) tt (λ n b. at n b ((m == n) && (a == b)) refl) h)
+      (pend_step (Release m a) past w (without w.entries m a) silent tt
+      (placed_more w.env past (Release m a) (without w.entries m a) (placed_without w.env past w.entries m a h.placed)) tt
+      (λ n b. at n b ((m == n) && (a == b)) refl) h)
     where
       at : (n b : ℕ) (t : Bool) → ((m == n) && (a == b)) ≡ t
-          → ((((m == n) && (a == b)) || is_released n b past) ≡ true) ⊎ (cond (has_entry w.entries n b) (o.can_write n (slice_index w.env b)) (o.can_read n (slice_index w.env b)) ≡ true → cond (has_entry (without w.entries m a) n b) (o.can_write n (slice_index w.env b)) (o.can_read n (slice_index w.env b)) ≡ true)
+          → ((((m == n) && (a == b)) || is_released n b past) ≡ true)
+          ⊎ (cond (has_entry w.entries n b) (o.can_write n (slice_index w.env b)) (o.can_read n (slice_index w.env b)) ≡ true
+          → cond (has_entry (without w.entries m a) n b) (o.can_write n (slice_index w.env b)) (o.can_read n (slice_index w.env b)) ≡ true)
       at n b true e = inl (or_left _ _ e)
-      at n b false e = inr (λ i. ap (λ t. cond t (o.can_write n (slice_index w.env b)) (o.can_read n (slice_index w.env b))) (has_without w.entries m a n b e) ∙ i)
-  past_step (Call args) past w new own silent calls ready h = same_past (Call args ∷ past) w (work_after o (Call args) w) refl refl refl refl (still_step (Call args) past w silent tt tt h)
+      at n b false e =
+          inr (λ i. ap (λ t. cond t (o.can_write n (slice_index w.env b)) (o.can_read n (slice_index w.env b))) (has_without w.entries m a n b e) ∙ i)
+  past_step (Call args) past w new own silent calls ready h =
+      same_past (Call args ∷ past) w (work_after o (Call args) w) refl refl refl refl (still_step (Call args) past w silent tt tt h)
   past_step (SpecCall args) past w new own silent calls ready h = call_step args past w silent (calls refl) h
   past_step (Verify args) past w new own silent calls ready h = at (same_args (values_of args w.env) w.guess)
     where
       at : (b : Bool) → Past o vars (Verify args ∷ past) (cond b w (record w { child = Some (values_of args w.env); fails = true }))
       at true = still_step (Verify args) past w silent tt tt h
-      at false = same_past (Verify args ∷ past) w (record w { child = Some (values_of args w.env); fails = true }) refl refl refl refl (still_step (Verify args) past w silent tt tt h)
+      at false =
+          same_past (Verify args ∷ past) w
+          (record w { child = Some (values_of args w.env); fails = true }) refl refl refl refl
+          (still_step (Verify args) past w silent tt tt h)
   past_step SpecCheck past w new own silent calls ready h = still_step SpecCheck past w silent tt tt h
-  past_step SpecBarrier past w new own silent calls ready h = same_past (SpecBarrier ∷ past) w (work_after o SpecBarrier w) refl refl refl refl (still_step SpecBarrier past w silent tt tt h)
+  past_step SpecBarrier past w new own silent calls ready h =
+      same_past (SpecBarrier ∷ past) w (work_after o SpecBarrier w) refl refl refl refl (still_step SpecBarrier past w silent tt tt h)
 
   -- THE STATEMENTS OF A STAGE
 
   abbrev pub Uncalled : Bool → List Op → Type 0
   Uncalled c past = c ≡ false → AllOps (λ op. is_call op ≡ false) past
 
-  asks_silent : (op : Op) (w : Work) (ys : List Stmt) → unseen_op op ys ≡ true → AllAsks (λ q. silent_on q.var ys ≡ true) w.asks → AllAsks (λ q. silent_on q.var ys ≡ true) (work_after o op w).asks
+  asks_silent : (op : Op) (w : Work) (ys : List Stmt) → unseen_op op ys ≡ true
+      → AllAsks (λ q. silent_on q.var ys ≡ true) w.asks
+      → AllAsks (λ q. silent_on q.var ys ≡ true) (work_after o op w).asks
   asks_silent (DelayedRead x m a) w ys u h = all_snoc (λ q. silent_on q.var ys ≡ true) w.asks (record { mem = m; var = x; address = slice_index w.env a }) h u
   asks_silent (Verify args) w ys u h = at (same_args (values_of args w.env) w.guess)
     where
@@ -456,30 +534,50 @@ module _ (o : Around) (vars : ℕ) (kind : Kind o) where
   call_flag true op past k u i = untrue (sym (ap (λ b. not (true && b)) i) ∙ and_left (not (true && is_call op)) _ k)
   call_flag false op past k u i = u refl
 
-  pub past_all : (path : List ℕ) (c : Bool) (xs : List Stmt) (past : List Op) (w : Work) → Fixed path o xs w → all_new vars past (onpath path xs) ≡ true → calls_ok c (onpath path xs) ≡ true → Uncalled c past → is_unseen xs ≡ true → AllAsks (λ q. silent_on q.var xs ≡ true) w.asks → (do_all o xs w).ready ≡ true
+  pub past_all : (path : List ℕ) (c : Bool) (xs : List Stmt) (past : List Op) (w : Work) → Fixed path o xs w
+      → all_new vars past (onpath path xs) ≡ true → calls_ok c (onpath path xs) ≡ true → Uncalled c past
+      → is_unseen xs ≡ true → AllAsks (λ q. silent_on q.var xs ≡ true) w.asks → (do_all o xs w).ready ≡ true
       → Past o vars past w → Past o vars (onto (onpath path xs) past) (do_all o xs w)
   past_all path c [] past w f new calls none u silent ready h = h
   past_all path c (y ∷ ys) past w f new calls none u silent ready h =
       at (all_hold y.guards w.env) refl (all_hold y.guards path) f.0 (is_dead y.guards) refl new calls ready f.1
-      (λ c' past' w' f' new' calls' none' silent' ready' h'. past_all path c' ys past' w' f' new' calls' none' (and_right (unseen_op y.op ys) _ u) silent' ready' h')
+      (λ c' past' w' f' new' calls' none' silent' ready' h'. past_all path c' ys past' w' f' new' calls' none'
+      (and_right (unseen_op y.op ys) _ u) silent' ready' h')
     where
       rest : AllAsks (λ q. silent_on q.var ys ≡ true) w.asks
-      rest = all_more (λ q. silent_on q.var (y ∷ ys) ≡ true) (λ q. silent_on q.var ys ≡ true) w.asks (λ q k. and_right (is_dead y.guards || (not (asks_for q.var y.guards) && not (mentions_var q.var y.op))) _ k) silent
+      rest =
+          all_more (λ q. silent_on q.var (y ∷ ys) ≡ true)
+          (λ q. silent_on q.var ys ≡ true) w.asks
+          (λ q k. and_right (is_dead y.guards || (not (asks_for q.var y.guards) && not (mentions_var q.var y.op))) _ k) silent
 
       quiet : is_dead y.guards ≡ false → AllAsks (λ q. mentions_var q.var y.op ≡ false) w.asks
-      quiet e = all_more (λ q. silent_on q.var (y ∷ ys) ≡ true) (λ q. mentions_var q.var y.op ≡ false) w.asks (λ q k. not-true _ (and_right (not (asks_for q.var y.guards)) _ (subst (λ d. (d || (not (asks_for q.var y.guards) && not (mentions_var q.var y.op))) ≡ true) e (and_left _ _ k)))) silent
+      quiet e =
+          all_more (λ q. silent_on q.var (y ∷ ys) ≡ true)
+          (λ q. mentions_var q.var y.op ≡ false) w.asks
+          (λ q k. not-true _
+          (and_right (not (asks_for q.var y.guards)) _
+          (subst (λ d. (d || (not (asks_for q.var y.guards) && not (mentions_var q.var y.op))) ≡ true) e (and_left _ _ k)))) silent
 
       flags : (op : Op) → Uncalled c past → Uncalled (c || is_call op) (op ∷ past)
       flags op n i = let k = or_parts c (is_call op) i in (k.1, n k.0)
 
-      at : (b : Bool) → all_hold y.guards w.env ≡ b → (d : Bool) → b ≡ d → (e : Bool) → is_dead y.guards ≡ e → all_new vars past (cond d (record y { guards = [] } ∷ onpath path ys) (onpath path ys)) ≡ true → calls_ok c (cond d (record y { guards = [] } ∷ onpath path ys) (onpath path ys)) ≡ true
+      at : (b : Bool) → all_hold y.guards w.env ≡ b → (d : Bool) → b ≡ d → (e : Bool) → is_dead y.guards ≡ e
+          → all_new vars past (cond d (record y { guards = [] } ∷ onpath path ys) (onpath path ys)) ≡ true
+          → calls_ok c (cond d (record y { guards = [] } ∷ onpath path ys) (onpath path ys)) ≡ true
           → (do_all o ys (cond b (work_after o y.op w) w)).ready ≡ true → Fixed path o ys (cond b (work_after o y.op w) w)
-          → ((c' : Bool) (past' : List Op) (w' : Work) → Fixed path o ys w' → all_new vars past' (onpath path ys) ≡ true → calls_ok c' (onpath path ys) ≡ true → Uncalled c' past' → AllAsks (λ q. silent_on q.var ys ≡ true) w'.asks → (do_all o ys w').ready ≡ true → Past o vars past' w' → Past o vars (onto (onpath path ys) past') (do_all o ys w'))
+          → ((c' : Bool) (past' : List Op) (w' : Work) → Fixed path o ys w' → all_new vars past' (onpath path ys) ≡ true
+          → calls_ok c' (onpath path ys) ≡ true → Uncalled c' past'
+          → AllAsks (λ q. silent_on q.var ys ≡ true) w'.asks → (do_all o ys w').ready ≡ true → Past o vars past' w'
+          → Past o vars (onto (onpath path ys) past') (do_all o ys w'))
           → Past o vars (onto (cond d (record y { guards = [] } ∷ onpath path ys) (onpath path ys)) past) (do_all o ys (cond b (work_after o y.op w) w))
       at true i true j true k n l r g go = untrue (sym (dead_none y.guards w.env k) ∙ i)
       at true i true j false k n l r g go =
-          go (c || is_call y.op) (y.op ∷ past) (work_after o y.op w) g (and_right (is_new vars past (bound_by y.op) && not (uses_own y.op)) _ n) (and_right (call_ok c y.op) _ l) (flags y.op none) (asks_silent y.op w ys (and_left _ _ u) rest) r
-          (past_step y.op past w (and_left _ _ (and_left _ _ n)) (and_right (is_new vars past (bound_by y.op)) _ (and_left _ _ n)) (quiet k) (call_flag c y.op past (and_left _ _ l) none) (was_ready o ys (work_after o y.op w) r) h)
+          go (c || is_call y.op) (y.op ∷ past)
+          (work_after o y.op w) g (and_right (is_new vars past (bound_by y.op) && not (uses_own y.op)) _ n)
+          (and_right (call_ok c y.op) _ l) (flags y.op none) (asks_silent y.op w ys (and_left _ _ u) rest) r
+          (past_step y.op past w (and_left _ _ (and_left _ _ n))
+          (and_right (is_new vars past (bound_by y.op)) _ (and_left _ _ n)) (quiet k)
+          (call_flag c y.op past (and_left _ _ l) none) (was_ready o ys (work_after o y.op w) r) h)
       at true i false j e k n l r g go = absurd (cc j)
       at false i true j e k n l r g go = absurd (cc j)
       at false i false j e k n l r g go = go c past w g n l none rest r h

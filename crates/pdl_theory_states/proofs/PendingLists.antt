@@ -13,7 +13,8 @@ pub count_append : (t : ℕ) (xs ys : List Pending) → count_older t (xs ++ ys)
 count_append t [] ys = omega arith
 count_append t (x ∷ xs) ys = at (nat_lt x.thread t) (count_append t xs ys)
   where
-    at : (b : Bool) → count_older t (xs ++ ys) ≡ count_older t xs + count_older t ys → cond b (suc (count_older t (xs ++ ys))) (count_older t (xs ++ ys)) ≡ cond b (suc (count_older t xs)) (count_older t xs) + count_older t ys
+    at : (b : Bool) → count_older t (xs ++ ys) ≡ count_older t xs + count_older t ys
+        → cond b (suc (count_older t (xs ++ ys))) (count_older t (xs ++ ys)) ≡ cond b (suc (count_older t xs)) (count_older t xs) + count_older t ys
     at true h = omega arith
     at false h = h
 
@@ -57,7 +58,8 @@ of_new m n (r ∷ rs) = of_append n _ (new_entries m n rs) (of_if n (r.mem == m)
 -- among pending writes of thread k there is none of a thread older than t, where t is at most k
 pub none_older : (t k : ℕ) (xs : List Pending) → AllOf k xs → t ≤ k → count_older t xs ≡ 0
 none_older t k [] f h = refl
-none_older t k (x ∷ xs) f h = ap (λ b. cond b (suc (count_older t xs)) (count_older t xs)) (le-ltb x.thread t (let e = f.0 in omega arith)) ∙ none_older t k xs f.1 h
+none_older t k (x ∷ xs) f h =
+    ap (λ b. cond b (suc (count_older t xs)) (count_older t xs)) (le-ltb x.thread t (let e = f.0 in omega arith)) ∙ none_older t k xs f.1 h
 
 -- in the order of their threads, each once, from a on and below b
 abbrev pub Within : ℕ → ℕ → List Pending → Type 0

@@ -47,7 +47,9 @@ any_onto test some f (x ∷ xs) past h = at (test x.op) refl h (λ k. any_onto t
     keep [] ops k = k
     keep (y ∷ ys) ops k = keep ys (y.op ∷ ops) (f y.op ops ∙ or_right (test y.op) _ k)
 
-    at : (b : Bool) → test x.op ≡ b → (b || list_any (λ (x : Stmt). test x.op) xs) ≡ true → (list_any (λ (x : Stmt). test x.op) xs ≡ true → some (onto xs (x.op ∷ past)) ≡ true) → some (onto xs (x.op ∷ past)) ≡ true
+    at : (b : Bool) → test x.op ≡ b → (b || list_any (λ (x : Stmt). test x.op) xs) ≡ true
+        → (list_any (λ (x : Stmt). test x.op) xs ≡ true → some (onto xs (x.op ∷ past)) ≡ true)
+        → some (onto xs (x.op ∷ past)) ≡ true
     at true e k g = keep xs (x.op ∷ past) (f x.op past ∙ or_left (test x.op) _ e)
     at false e k g = g k
 
@@ -62,7 +64,8 @@ onto_any test some f (x ∷ xs) past h = at (onto_any test some f xs (x.op ∷ p
     by true e k = inl (or_left (test x.op) _ e)
     by false e k = inr (sym (ap (λ b. b || some past) e) ∙ k)
 
-    at : (list_any (λ (x : Stmt). test x.op) xs ≡ true) ⊎ (some (x.op ∷ past) ≡ true) → (list_any (λ (x : Stmt). test x.op) (x ∷ xs) ≡ true) ⊎ (some past ≡ true)
+    at : (list_any (λ (x : Stmt). test x.op) xs ≡ true) ⊎ (some (x.op ∷ past) ≡ true)
+        → (list_any (λ (x : Stmt). test x.op) (x ∷ xs) ≡ true) ⊎ (some past ≡ true)
     at (inl k) = inl (or_right (test x.op) _ k)
     at (inr k) = by (test x.op) refl (sym (f x.op past) ∙ k)
 
@@ -101,7 +104,8 @@ linked_snoc p (x ∷ y ∷ xs) l h k = both_true h.0 (linked_snoc p (y ∷ xs) l
 -- live threads are linked where each but the youngest has made its successor, and the youngest none
 pub chain : (p : Pipe) (l : Live) (ls : List Live) → HaveMade p (l ∷ ls)
     → has_made p l.env l.thread.stage ≡ false → are_linked p (oldest_first (l ∷ ls)) ≡ true
-chain p l ls h k = linked_snoc p (oldest_first ls) (told l) (live_each (λ x. has_done Sound.is_call p x ≡ true) ls (each_map (λ j e. made_is p j ∙ e) ls h)) (made_is p l ∙ k)
+chain p l ls h k =
+    linked_snoc p (oldest_first ls) (told l) (live_each (λ x. has_done Sound.is_call p x ≡ true) ls (each_map (λ j e. made_is p j ∙ e) ls h)) (made_is p l ∙ k)
 
 -- OF EACH THREAD
 
@@ -125,7 +129,9 @@ owners_all st n (r ∷ rs) h = both_true (ap (is_owner n) h.0.1 ∙ eq-eqb n n r
 pub asks_point : (p : Pipe) (st : State) (l : Live) → Seated p st l → Local p l.env l.kept l.thread → asks_right p st (told l) ≡ true
 asks_point p st l seated loc =
     ap₂ (λ a b. a && b) (both_true
-    (stmts_all _ (on_way p l.env l.thread.stage) (stmts_map (λ z f. imply (here p l.env l.thread.stage z) _ (λ i. held_op l.kept l.thread.awaits l.number l.env l.thread.guess z.op (f i))) (on_way p l.env l.thread.stage) loc.held))
+    (stmts_all _ (on_way p l.env l.thread.stage)
+    (stmts_map (λ z f. imply (here p l.env l.thread.stage z) _ (λ i. held_op l.kept l.thread.awaits l.number l.env l.thread.guess z.op (f i)))
+    (on_way p l.env l.thread.stage) loc.held))
     (owners_all st l.number l.thread.awaits seated.owned))
     (eq-eqb _ _ (loc.total ∙ count_is (λ (x : Stmt). here p l.env l.thread.stage x && is_fetch x.op) (on_way p l.env l.thread.stage)))
 
@@ -138,7 +144,9 @@ any_snoc : {X : Type 0} → (test : X → Bool) (xs : List X) (x : X)
 any_snoc test [] x h = or_left (test x) _ h
 any_snoc test (y ∷ xs) x h = at (test y) h (λ k. any_snoc test xs x k)
   where
-    at : (b : Bool) → ((b || list_any test xs) || test x) ≡ true → ((list_any test xs || test x) ≡ true → list_any test (xs ++ x ∷ []) ≡ true) → (b || list_any test (xs ++ x ∷ [])) ≡ true
+    at : (b : Bool) → ((b || list_any test xs) || test x) ≡ true
+        → ((list_any test xs || test x) ≡ true → list_any test (xs ++ x ∷ []) ≡ true)
+        → (b || list_any test (xs ++ x ∷ [])) ≡ true
     at true k f = refl
     at false k f = f k
 
@@ -150,18 +158,31 @@ owner_any n m [] h = absurd (cc h)
 owner_any n m (l ∷ ls) h = any_snoc _ (oldest_first ls) (told l) (at ((l.number == n) && awaits_mem l.thread.awaits m) refl h (λ k. owner_any n m ls k))
   where
     at : (b : Bool) → ((l.number == n) && awaits_mem l.thread.awaits m) ≡ b → (b || Choices.has_owner n m ls) ≡ true
-        → (Choices.has_owner n m ls ≡ true → list_any (λ (l : Sound.Live). (l.thread.number == n) && list_any (λ r. r.mem == m) l.thread.awaits) (oldest_first ls) ≡ true)
-        → (list_any (λ (l : Sound.Live). (l.thread.number == n) && list_any (λ r. r.mem == m) l.thread.awaits) (oldest_first ls) || ((l.number == n) && list_any (λ r. r.mem == m) l.thread.awaits)) ≡ true
-    at true e k f = or_right (list_any (λ (l : Sound.Live). (l.thread.number == n) && list_any (λ r. r.mem == m) l.thread.awaits) (oldest_first ls)) _ (ap (λ b. (l.number == n) && b) (sym (awaits_any m l.thread.awaits)) ∙ e)
+        → (Choices.has_owner n m ls ≡ true
+        → list_any (λ (l : Sound.Live). (l.thread.number == n) && list_any (λ r. r.mem == m) l.thread.awaits) (oldest_first ls) ≡ true)
+        → (list_any (λ (l : Sound.Live). (l.thread.number == n) && list_any (λ r. r.mem == m) l.thread.awaits) (oldest_first ls)
+        || ((l.number == n) && list_any (λ r. r.mem == m) l.thread.awaits))
+        ≡ true
+    at true e k f =
+        or_right
+        (list_any (λ (l : Sound.Live). (l.thread.number == n) && list_any (λ r. r.mem == m) l.thread.awaits) (oldest_first ls)) _
+        (ap (λ b. (l.number == n) && b) (sym (awaits_any m l.thread.awaits)) ∙ e)
     at false e k f = or_left _ _ (f k)
 
 -- 9. BLOCKS
 
-module _ (p : Pipe) (st : State) (l : Live) (older : List Live) (held : places l.thread.entries ≡ held_before l.thread.stage l.env p.stmts []) (ahead : (m a : ℕ) → older_write st l.number m a ≡ latest (threads_of older) m a) where
-  block_now : (m a : ℕ) → cond (has_entry l.thread.entries m a) (write_ready (mem_at p m).lock (latest (threads_of older) m (slice_index l.env a))) (read_ready (mem_at p m).lock (latest (threads_of older) m (slice_index l.env a))) ≡ true
+module _ (p : Pipe) (st : State) (l : Live) (older : List Live)
+    (held : places l.thread.entries ≡ held_before l.thread.stage l.env p.stmts [])
+    (ahead : (m a : ℕ) → older_write st l.number m a ≡ latest (threads_of older) m a) where
+  block_now : (m a : ℕ)
+      → cond (has_entry l.thread.entries m a)
+      (write_ready (mem_at p m).lock (latest (threads_of older) m (slice_index l.env a)))
+      (read_ready (mem_at p m).lock (latest (threads_of older) m (slice_index l.env a)))
+      ≡ true
       → block_ready p st l.number (record { mem = m; address = slice_index l.env a; writes = is_held (held_places p (told l)) m a }) ≡ true
   block_now m a h =
-      (λ i. cond (kinds i) (write_ready (mem_at p m).lock (ahead m (slice_index l.env a) i)) (read_ready (mem_at p m).lock (ahead m (slice_index l.env a) i))) ∙ h
+      (λ i. cond (kinds i) (write_ready (mem_at p m).lock (ahead m (slice_index l.env a) i)) (read_ready (mem_at p m).lock (ahead m (slice_index l.env a) i)))
+      ∙ h
     where
       kinds : is_held (held_places p (told l)) m a ≡ has_entry l.thread.entries m a
       kinds = ap (λ ps. is_held ps m a) (sym held) ∙ places_has l.thread.entries m a
@@ -182,8 +203,12 @@ module _ (p : Pipe) (st : State) (l : Live) (older : List Live) (held : places l
   block_op SpecCheck h = refl
   block_op SpecBarrier h = refl
 
-  pub blocks_point : AllOps (BlockOk (look_at p (threads_of older)) l.env l.thread.entries (past_of p l.env l.thread.stage)) (past_of p l.env l.thread.stage) → list_all (λ (x : Stmt). stays_ready p st (told l) x.op) (on_way p l.env l.thread.stage) ≡ true
-  blocks_point h = stmts_all _ (on_way p l.env l.thread.stage) (stmts_map (λ z b. block_op z.op b) (on_way p l.env l.thread.stage) (stmts_ops (BlockOk (look_at p (threads_of older)) l.env l.thread.entries (past_of p l.env l.thread.stage)) (on_way p l.env l.thread.stage) [] h).0)
+  pub blocks_point : AllOps (BlockOk (look_at p (threads_of older)) l.env l.thread.entries (past_of p l.env l.thread.stage)) (past_of p l.env l.thread.stage)
+      → list_all (λ (x : Stmt). stays_ready p st (told l) x.op) (on_way p l.env l.thread.stage) ≡ true
+  blocks_point h =
+      stmts_all _ (on_way p l.env l.thread.stage)
+      (stmts_map (λ z b. block_op z.op b) (on_way p l.env l.thread.stage)
+      (stmts_ops (BlockOk (look_at p (threads_of older)) l.env l.thread.entries (past_of p l.env l.thread.stage)) (on_way p l.env l.thread.stage) [] h).0)
 
 -- BESIDE: THE PATH
 
@@ -221,10 +246,18 @@ own_places n env past (e ∷ es) h test f =
         ∙ ap₂ (λ a b. (a && b) || false) (eq-eqb n n refl) (eq-eqb _ _ h.0)
 
 module _ (p : Pipe) (sound : Sound p) where
-  pub path_point : (st : State) (l : Live) → Seated p st l → Local p l.env l.kept l.thread → l.number < st.next → ((m : ℕ) (test : Pending → Bool) → list_any test (pend m l.number l.thread.entries) ≡ true → list_any test (lock_of st m) ≡ true) → on_path p st (told l) ≡ true
+  pub path_point : (st : State) (l : Live) → Seated p st l → Local p l.env l.kept l.thread → l.number < st.next
+      → ((m : ℕ) (test : Pending → Bool) → list_any test (pend m l.number l.thread.entries) ≡ true → list_any test (lock_of st m) ≡ true)
+      → on_path p st (told l) ≡ true
   path_point st l seated loc low locks =
       both_true (both_true (both_true
-      (trail_comes p (sound_flows p sound).graph l.env l.thread.stage l.thread.stage (length p.stages) 1 loc.trail loc.walked (or_left (l.thread.stage == l.thread.stage) _ (eq-eqb _ _ refl)) (let i = seated.keeps_on.inside in omega arith))
-      (stmts_all _ (on_way p l.env l.thread.stage) (stmts_map (λ z d. done_op st l z.op d) (on_way p l.env l.thread.stage) (stmts_ops (Done l.env l.thread.guess) (on_way p l.env l.thread.stage) [] loc.done).0)))
-      (subst (λ hs. list_all (right_place st (told l)) hs ≡ true) seated.keeps_on.held (own_places l.number l.env (past_of p l.env l.thread.stage) l.thread.entries loc.placed (right_place st (told l)) (λ h k. locks h.mem (places_test l.number l.env h) k))))
+      (trail_comes p (sound_flows p sound).graph l.env l.thread.stage l.thread.stage
+      (length p.stages) 1 loc.trail loc.walked (or_left (l.thread.stage == l.thread.stage) _ (eq-eqb _ _ refl))
+      (let i = seated.keeps_on.inside in omega arith))
+      (stmts_all _ (on_way p l.env l.thread.stage)
+      (stmts_map (λ z d. done_op st l z.op d) (on_way p l.env l.thread.stage)
+      (stmts_ops (Done l.env l.thread.guess) (on_way p l.env l.thread.stage) [] loc.done).0)))
+      (subst (λ hs. list_all (right_place st (told l)) hs ≡ true) seated.keeps_on.held
+      (own_places l.number l.env (past_of p l.env l.thread.stage) l.thread.entries loc.placed (right_place st (told l))
+      (λ h k. locks h.mem (places_test l.number l.env h) k))))
       (lt-ltb _ _ low)

@@ -56,7 +56,9 @@ unmade_all : (xs : List Stmt) → calls_ok false xs ≡ true → called false xs
 unmade_all [] h k = refl
 unmade_all (x ∷ xs) h k = at (is_call x.op) refl h k (λ i j. unmade_all xs i j)
   where
-    at : (b : Bool) → is_call x.op ≡ b → (call_ok false x.op && calls_ok b xs) ≡ true → called b xs ≡ false → (calls_ok false xs ≡ true → called false xs ≡ false → making_all Unmade xs ≡ Unmade) → making_all (next_making Unmade x.op) xs ≡ Unmade
+    at : (b : Bool) → is_call x.op ≡ b → (call_ok false x.op && calls_ok b xs) ≡ true → called b xs ≡ false
+        → (calls_ok false xs ≡ true → called false xs ≡ false → making_all Unmade xs ≡ Unmade)
+        → making_all (next_making Unmade x.op) xs ≡ Unmade
     at true e i j f = absurd (cc (sym (stays_called xs) ∙ j))
     at false e i j f = ap (λ k. making_all k xs) (unmade_op x.op (and_left _ _ i) e) ∙ f (and_right (call_ok false x.op) _ i) j
 
@@ -66,19 +68,25 @@ module _ (p : Pipe) (sound : Sound p) (strict : Strict p) where
   called_end path = at (called false (onpath path p.stmts)) refl
     where
       unmade : making_all Unmade (onpath path p.stmts) ≡ Unmade → ⊥
-      unmade e = cc (sym (ap is_made e) ∙ ap is_made (sym (making_looked Unmade (onpath path p.stmts))) ∙ ap (λ l. is_made (making_all Unmade l)) (sym (path_looked path p.stmts)) ∙ sound.pathwise.made path)
+      unmade e =
+          cc
+          (sym (ap is_made e) ∙ ap is_made (sym (making_looked Unmade (onpath path p.stmts)))
+          ∙ ap (λ l. is_made (making_all Unmade l)) (sym (path_looked path p.stmts)) ∙ sound.pathwise.made path)
 
       at : (b : Bool) → called false (onpath path p.stmts) ≡ b → called false (onpath path p.stmts) ≡ true
       at true e = e
       at false e = absurd (unmade (unmade_all (onpath path p.stmts) ((sound_flows p sound).calls path) e))
 
-  fresh_lasting : (st : State) (n : ℕ) (args : List ℕ) (older : List Live) → Lasting p st (record { number = n; thread = fresh p args; env = (fresh p args).env; kept = [] }) older
+  fresh_lasting : (st : State) (n : ℕ) (args : List ℕ) (older : List Live)
+      → Lasting p st (record { number = n; thread = fresh p args; env = (fresh p args).env; kept = [] }) older
   fresh_lasting st n args older =
       record {
         local = local_fresh p (sound_flows p sound) args;
         owns = tt;
         certain = λ v e h. absurd (cc (sym (ap (λ l. barred (onto l [])) ((sound_flows p sound).first_piece (start_env p args))) ∙ h));
-        blocks = subst (λ l. AllOps (BlockOk (look_at p (threads_of older)) (start_env p args) [] (onto l [])) (onto l [])) (sym ((sound_flows p sound).first_piece (start_env p args))) tt;
+        blocks =
+            subst (λ l. AllOps (BlockOk (look_at p (threads_of older)) (start_env p args) [] (onto l [])) (onto l []))
+            (sym ((sound_flows p sound).first_piece (start_env p args))) tt;
       }
 
   fresh_young : (args : List ℕ) → has_made p (start_env p args) 0 ≡ false
@@ -86,41 +94,71 @@ module _ (p : Pipe) (sound : Sound p) (strict : Strict p) where
 
   module _ (st : State) (d : Derived.State) (bits : List Bool) (ls : List Live) (sim : Sim p st d ls) where
     -- the threads that live on
-    along_on : (ks : List Live) → AllKnown p (sound_flows p sound) st d bits sim.arrays ks → Ordered p ks → Agrees p d bits (squasher (movers (lacts p st d bits ls))) ks
-        → ((m : ℕ) (a : Asker) → asking p (sound_flows p sound) st d bits sim.arrays ks m ≡ Some a → asking p (sound_flows p sound) st d bits sim.arrays ls m ≡ Some a)
-        → Along (Lasting p st) ks → Along (Lasting p (Cycle.after_these p st bits (lacts p st d bits ls) (movers (lacts p st d bits ls)) (squasher (movers (lacts p st d bits ls))))) (go_on p st d bits ks)
+    along_on : (ks : List Live) → AllKnown p (sound_flows p sound) st d bits sim.arrays ks → Ordered p ks
+        → Agrees p d bits (squasher (movers (lacts p st d bits ls))) ks
+        → ((m : ℕ) (a : Asker) → asking p (sound_flows p sound) st d bits sim.arrays ks m ≡ Some a
+        → asking p (sound_flows p sound) st d bits sim.arrays ls m ≡ Some a)
+        → Along (Lasting p st) ks
+        → Along (Lasting p (Cycle.after_these p st bits (lacts p st d bits ls) (movers (lacts p st d bits ls)) (squasher (movers (lacts p st d bits ls)))))
+        (go_on p st d bits ks)
     along_on [] k o g h a = tt
-    along_on (l ∷ ks) k o g h a = at (fell p d bits ks) refl (did p d bits ks l).moves refl (along_on ks k.1 o.1 g.1 (λ m x e. h m x (older m x e (did p d bits ks l).moves)) a.1)
+    along_on (l ∷ ks) k o g h a =
+        at (fell p d bits ks) refl (did p d bits ks l).moves refl (along_on ks k.1 o.1 g.1 (λ m x e. h m x (older m x e (did p d bits ks l).moves)) a.1)
       where
-        older : (m : ℕ) (x : Asker) → asking p (sound_flows p sound) st d bits sim.arrays ks m ≡ Some x → (b : Bool) → cond b (first_of (find_ask (work_of_live p d bits ks l).asks m) l.number (asking p (sound_flows p sound) st d bits sim.arrays ks m)) (asking p (sound_flows p sound) st d bits sim.arrays ks m) ≡ Some x
-        older m x e true = ap (λ y. first_of y l.number (asking p (sound_flows p sound) st d bits sim.arrays ks m)) (one_asks p (sound_flows p sound) st d bits sim.arrays m x l ks k o e) ∙ e
+        older : (m : ℕ) (x : Asker) → asking p (sound_flows p sound) st d bits sim.arrays ks m ≡ Some x → (b : Bool)
+            → cond b (first_of (find_ask (work_of_live p d bits ks l).asks m) l.number (asking p (sound_flows p sound) st d bits sim.arrays ks m))
+            (asking p (sound_flows p sound) st d bits sim.arrays ks m)
+            ≡ Some x
+        older m x e true =
+            ap (λ y. first_of y l.number (asking p (sound_flows p sound) st d bits sim.arrays ks m))
+            (one_asks p (sound_flows p sound) st d bits sim.arrays m x l ks k o e)
+            ∙ e
         older m x e false = e
 
-        mine : (did p d bits ks l).moves ≡ true → (m x : ℕ) → find_ask (work_of_live p d bits ks l).asks m ≡ Some x → asking p (sound_flows p sound) st d bits sim.arrays (l ∷ ks) m ≡ Some (record { number = l.number; address = x })
-        mine i m x e = ap₂ (λ b y. cond b (first_of y l.number (asking p (sound_flows p sound) st d bits sim.arrays ks m)) (asking p (sound_flows p sound) st d bits sim.arrays ks m)) i e
+        mine : (did p d bits ks l).moves ≡ true → (m x : ℕ) → find_ask (work_of_live p d bits ks l).asks m ≡ Some x
+            → asking p (sound_flows p sound) st d bits sim.arrays (l ∷ ks) m ≡ Some (record { number = l.number; address = x })
+        mine i m x e =
+            ap₂
+            (λ b y. cond b (first_of y l.number (asking p (sound_flows p sound) st d bits sim.arrays ks m))
+            (asking p (sound_flows p sound) st d bits sim.arrays ks m)) i e
 
         P : Live → List Live → Type 0
         P = Lasting p (Cycle.after_these p st bits (lacts p st d bits ls) (movers (lacts p st d bits ls)) (squasher (movers (lacts p st d bits ls))))
 
-        out : fell p d bits ks ≡ false → (did p d bits ks l).moves ≡ true → (r : Option ℕ) → goes_to (stage_at p l.thread.stage).next (work_of_live p d bits ks l).env ≡ r
-            → Along (Lasting p (Cycle.after_these p st bits (lacts p st d bits ls) (movers (lacts p st d bits ls)) (squasher (movers (lacts p st d bits ls))))) (go_on p st d bits ks)
-            → Along (Lasting p (Cycle.after_these p st bits (lacts p st d bits ls) (movers (lacts p st d bits ls)) (squasher (movers (lacts p st d bits ls))))) (moved_live r l (work_of_live p d bits ks l) ++ go_on p st d bits ks)
+        out : fell p d bits ks ≡ false → (did p d bits ks l).moves ≡ true → (r : Option ℕ)
+            → goes_to (stage_at p l.thread.stage).next (work_of_live p d bits ks l).env ≡ r
+            → Along (Lasting p (Cycle.after_these p st bits (lacts p st d bits ls) (movers (lacts p st d bits ls)) (squasher (movers (lacts p st d bits ls)))))
+            (go_on p st d bits ks)
+            → Along (Lasting p (Cycle.after_these p st bits (lacts p st d bits ls) (movers (lacts p st d bits ls)) (squasher (movers (lacts p st d bits ls)))))
+            (moved_live r l (work_of_live p d bits ks l) ++ go_on p st d bits ks)
         out f i None e r = r
-        out f i (Some q) e r = (lasting_moved p sound strict st d bits ls sim ks l k.0 k.1 o.1 o.0 f (g.0 ∙ ap not f) a.0 i (λ m x u. h m _ (mine i m x u)) q e, r)
+        out f i (Some q) e r =
+            (lasting_moved p sound strict st d bits ls sim ks l k.0 k.1 o.1 o.0 f (g.0 ∙ ap not f) a.0 i (λ m x u. h m _ (mine i m x u)) q e, r)
 
         at : (f : Bool) → fell p d bits ks ≡ f → (b : Bool) → (did p d bits ks l).moves ≡ b
-            → Along (Lasting p (Cycle.after_these p st bits (lacts p st d bits ls) (movers (lacts p st d bits ls)) (squasher (movers (lacts p st d bits ls))))) (go_on p st d bits ks)
             → Along (Lasting p (Cycle.after_these p st bits (lacts p st d bits ls) (movers (lacts p st d bits ls)) (squasher (movers (lacts p st d bits ls)))))
-            ((if f then [] else cond b (moved_live (goes_to (stage_at p l.thread.stage).next (work_of_live p d bits ks l).env) l (work_of_live p d bits ks l)) (stood p st d bits l ∷ [])) ++ go_on p st d bits ks)
+            (go_on p st d bits ks)
+            → Along (Lasting p (Cycle.after_these p st bits (lacts p st d bits ls) (movers (lacts p st d bits ls)) (squasher (movers (lacts p st d bits ls)))))
+            ((if f then []
+            else cond b (moved_live (goes_to (stage_at p l.thread.stage).next (work_of_live p d bits ks l).env) l (work_of_live p d bits ks l))
+            (stood p st d bits l ∷ []))
+            ++ go_on p st d bits ks)
         at true e b i r = r
         at false e true i r = out e i (goes_to (stage_at p l.thread.stage).next (work_of_live p d bits ks l).env) refl r
         at false e false i r = (lasting_stood p sound strict st d bits ls sim ks l k.0 k.1 o.1 o.0 e (g.0 ∙ ap not e) a.0, r)
 
-    along_next : Along (Lasting p st) ls → Along (Lasting p (Cycle.after_these p st bits (lacts p st d bits ls) (movers (lacts p st d bits ls)) (squasher (movers (lacts p st d bits ls))))) (lives_next p (sound_flows p sound) st d bits sim.arrays ls)
-    along_next a = at (made p (sound_flows p sound) st d bits sim.arrays ls) (along_on ls (known p (sound_flows p sound) st d bits ls sim) sim.ordered (fit p (sound_flows p sound) st d bits ls sim) (λ m x e. e) a)
+    along_next : Along (Lasting p st) ls
+        → Along (Lasting p (Cycle.after_these p st bits (lacts p st d bits ls) (movers (lacts p st d bits ls)) (squasher (movers (lacts p st d bits ls)))))
+        (lives_next p (sound_flows p sound) st d bits sim.arrays ls)
+    along_next a =
+        at (made p (sound_flows p sound) st d bits sim.arrays ls)
+        (along_on ls (known p (sound_flows p sound) st d bits ls sim) sim.ordered (fit p (sound_flows p sound) st d bits ls sim) (λ m x e. e) a)
       where
-        at : (c : Option (List ℕ)) → Along (Lasting p (Cycle.after_these p st bits (lacts p st d bits ls) (movers (lacts p st d bits ls)) (squasher (movers (lacts p st d bits ls))))) (go_on p st d bits ls)
-            → Along (Lasting p (Cycle.after_these p st bits (lacts p st d bits ls) (movers (lacts p st d bits ls)) (squasher (movers (lacts p st d bits ls))))) (born_live p st.next c ++ go_on p st d bits ls)
+        at : (c : Option (List ℕ))
+            → Along (Lasting p (Cycle.after_these p st bits (lacts p st d bits ls) (movers (lacts p st d bits ls)) (squasher (movers (lacts p st d bits ls)))))
+            (go_on p st d bits ls)
+            → Along (Lasting p (Cycle.after_these p st bits (lacts p st d bits ls) (movers (lacts p st d bits ls)) (squasher (movers (lacts p st d bits ls)))))
+            (born_live p st.next c ++ go_on p st d bits ls)
         at None r = r
         at (Some x) r = (fresh_lasting _ st.next x (go_on p st d bits ls), r)
 
@@ -131,40 +169,71 @@ module _ (p : Pipe) (sound : Sound p) (strict : Strict p) where
     none_is (Some x) r h = absurd (cc h)
 
     -- a squash makes a thread
-    fell_made : (ks : List Live) → AllKnown p (sound_flows p sound) st d bits sim.arrays ks → fell p d bits ks ≡ true → made p (sound_flows p sound) st d bits sim.arrays ks ≡ None → ⊥
+    fell_made : (ks : List Live) → AllKnown p (sound_flows p sound) st d bits sim.arrays ks → fell p d bits ks ≡ true
+        → made p (sound_flows p sound) st d bits sim.arrays ks ≡ None → ⊥
     fell_made [] k f e = cc f
     fell_made (l ∷ ks) k f e = at (did p d bits ks l).moves (work_of_live p d bits ks l).fails refl f e (λ i j. fell_made ks k.1 i j)
       where
-        at : (b c : Bool) → (work_of_live p d bits ks l).fails ≡ c → ((b && c) || fell p d bits ks) ≡ true → cond b (if is_some (work_of_live p d bits ks l).child then (work_of_live p d bits ks l).child else made p (sound_flows p sound) st d bits sim.arrays ks) (made p (sound_flows p sound) st d bits sim.arrays ks) ≡ None
+        at : (b c : Bool) → (work_of_live p d bits ks l).fails ≡ c → ((b && c) || fell p d bits ks) ≡ true
+            → cond b
+            (if is_some (work_of_live p d bits ks l).child then (work_of_live p d bits ks l).child else made p (sound_flows p sound) st d bits sim.arrays ks)
+            (made p (sound_flows p sound) st d bits sim.arrays ks)
+            ≡ None
             → (fell p d bits ks ≡ true → made p (sound_flows p sound) st d bits sim.arrays ks ≡ None → ⊥) → ⊥
         at true true u i j g = cc (sym (ap is_some (none_is _ _ j).0) ∙ (childed_here p (sound_flows p sound) st d bits sim.arrays ks l k.0).squashes u)
         at true false u i j g = g i (none_is (work_of_live p d bits ks l).child _ j).1
         at false c u i j g = g i j
 
     -- a stage that makes nobody leaves it so
-    unmade_next : (ks : List Live) (l : Live) → Known p (sound_flows p sound) st d bits sim.arrays ks l → has_made p l.env l.thread.stage ≡ false → (work_of_live p d bits ks l).child ≡ None
+    unmade_next : (ks : List Live) (l : Live) → Known p (sound_flows p sound) st d bits sim.arrays ks l
+        → has_made p l.env l.thread.stage ≡ false → (work_of_live p d bits ks l).child ≡ None
         → has_made p (work_of_live p d bits ks l).env (next_of p l.thread.stage (work_of_live p d bits ks l).env) ≡ false
     unmade_next ks l k y c =
         let keeps = keeps_now p (sound_flows p sound) st d bits sim.arrays l k.seated in
         ap (called false) (way_next p (sound_flows p sound) l.env (now_of p d bits l) keeps (around p d bits (dacts p d bits ks) l.thread.stage))
         ∙ called_append false (on_way p l.env l.thread.stage) _
         ∙ ap (λ b. called b (onpath (work_of_live p d bits ks l).env (in_stage l.thread.stage p.stmts))) y
-        ∙ childless (work_of_live p d bits ks l).env (around p d bits (dacts p d bits ks) l.thread.stage) (in_stage l.thread.stage p.stmts) (start_of (now_of p d bits l)) (fixed_here p (sound_flows p sound) l.env (now_of p d bits l) keeps (around p d bits (dacts p d bits ks) l.thread.stage)) c
+        ∙ childless (work_of_live p d bits ks l).env (around p d bits (dacts p d bits ks) l.thread.stage)
+        (in_stage l.thread.stage p.stmts) (start_of (now_of p d bits l))
+        (fixed_here p (sound_flows p sound) l.env (now_of p d bits l) keeps (around p d bits (dacts p d bits ks) l.thread.stage)) c
 
-    young_on : (ks : List Live) → AllKnown p (sound_flows p sound) st d bits sim.arrays ks → made p (sound_flows p sound) st d bits sim.arrays ks ≡ None → Youngest p ks → Youngest p (go_on p st d bits ks)
+    young_on : (ks : List Live) → AllKnown p (sound_flows p sound) st d bits sim.arrays ks
+        → made p (sound_flows p sound) st d bits sim.arrays ks ≡ None → Youngest p ks
+        → Youngest p (go_on p st d bits ks)
     young_on [] k e y = tt
     young_on (l ∷ ks) k e y = at (fell p d bits ks) refl (did p d bits ks l).moves e
       where
-        later : (b : Bool) → cond b (if is_some (work_of_live p d bits ks l).child then (work_of_live p d bits ks l).child else made p (sound_flows p sound) st d bits sim.arrays ks) (made p (sound_flows p sound) st d bits sim.arrays ks) ≡ None → made p (sound_flows p sound) st d bits sim.arrays ks ≡ None
+        later : (b : Bool)
+            → cond b
+            (if is_some (work_of_live p d bits ks l).child then (work_of_live p d bits ks l).child else made p (sound_flows p sound) st d bits sim.arrays ks)
+            (made p (sound_flows p sound) st d bits sim.arrays ks)
+            ≡ None
+            → made p (sound_flows p sound) st d bits sim.arrays ks ≡ None
         later true i = (none_is (work_of_live p d bits ks l).child _ i).1
         later false i = i
 
-        out : (work_of_live p d bits ks l).child ≡ None → (r : Option ℕ) → goes_to (stage_at p l.thread.stage).next (work_of_live p d bits ks l).env ≡ r → Youngest p (moved_live r l (work_of_live p d bits ks l) ++ go_on p st d bits ks)
-        out c None i = absurd (cc (sym (called_end (work_of_live p d bits ks l).env) ∙ ap (called false) (sym ((sound_flows p sound).whole (work_of_live p d bits ks l).env)) ∙ ap (has_made p (work_of_live p d bits ks l).env) (sym (ap (stage_or (length p.stages)) i)) ∙ unmade_next ks l k.0 y c))
+        out : (work_of_live p d bits ks l).child ≡ None → (r : Option ℕ)
+            → goes_to (stage_at p l.thread.stage).next (work_of_live p d bits ks l).env ≡ r
+            → Youngest p (moved_live r l (work_of_live p d bits ks l) ++ go_on p st d bits ks)
+        out c None i =
+            absurd
+            (cc
+            (sym (called_end (work_of_live p d bits ks l).env)
+            ∙ ap (called false) (sym ((sound_flows p sound).whole (work_of_live p d bits ks l).env))
+            ∙ ap (has_made p (work_of_live p d bits ks l).env) (sym (ap (stage_or (length p.stages)) i))
+            ∙ unmade_next ks l k.0 y c))
         out c (Some q) i = ap (has_made p (work_of_live p d bits ks l).env) (sym (ap (stage_or (length p.stages)) i)) ∙ unmade_next ks l k.0 y c
 
-        at : (f : Bool) → fell p d bits ks ≡ f → (b : Bool) → cond b (if is_some (work_of_live p d bits ks l).child then (work_of_live p d bits ks l).child else made p (sound_flows p sound) st d bits sim.arrays ks) (made p (sound_flows p sound) st d bits sim.arrays ks) ≡ None
-            → Youngest p ((if f then [] else cond b (moved_live (goes_to (stage_at p l.thread.stage).next (work_of_live p d bits ks l).env) l (work_of_live p d bits ks l)) (stood p st d bits l ∷ [])) ++ go_on p st d bits ks)
+        at : (f : Bool) → fell p d bits ks ≡ f → (b : Bool)
+            → cond b
+            (if is_some (work_of_live p d bits ks l).child then (work_of_live p d bits ks l).child else made p (sound_flows p sound) st d bits sim.arrays ks)
+            (made p (sound_flows p sound) st d bits sim.arrays ks)
+            ≡ None
+            → Youngest p
+            ((if f then []
+            else cond b (moved_live (goes_to (stage_at p l.thread.stage).next (work_of_live p d bits ks l).env) l (work_of_live p d bits ks l))
+            (stood p st d bits l ∷ []))
+            ++ go_on p st d bits ks)
         at true f b i = absurd (fell_made ks k.1 f (later b i))
         at false f true i = out (none_is _ _ i).0 (goes_to (stage_at p l.thread.stage).next (work_of_live p d bits ks l).env) refl
         at false f false i = y
@@ -178,15 +247,25 @@ module _ (p : Pipe) (sound : Sound p) (strict : Strict p) where
 
     whole_next : Whole p st ls → Whole p (cycle p st bits) (lives_next p (sound_flows p sound) st d bits sim.arrays ls)
     whole_next w = record {
-      along = subst (λ s. Along (Lasting p s) (lives_next p (sound_flows p sound) st d bits sim.arrays ls)) (sym (after_is p (sound_flows p sound) st d bits ls sim)) (along_next w.along);
+      along =
+          subst (λ s. Along (Lasting p s) (lives_next p (sound_flows p sound) st d bits sim.arrays ls))
+          (sym (after_is p (sound_flows p sound) st d bits ls sim)) (along_next w.along);
       youngest = young_next w.youngest;
     }
 
-  whole_run : (st : State) (d : Derived.State) (schedule : List (List Bool)) (ls : List Live) → Sim p st d ls → Whole p st ls → (ks : List Live) × Sim p (state_after p st schedule) (Derived.state_after p d schedule) ks × Whole p (state_after p st schedule) ks
+  whole_run : (st : State) (d : Derived.State) (schedule : List (List Bool)) (ls : List Live) → Sim p st d ls
+      → Whole p st ls
+      → (ks : List Live) × Sim p (state_after p st schedule) (Derived.state_after p d schedule) ks × Whole p (state_after p st schedule) ks
   whole_run st d [] ls sim w = (ls, sim, w)
-  whole_run st d (bits ∷ schedule) ls sim w = whole_run (cycle p st bits) (Derived.cycle p d bits) schedule (lives_next p (sound_flows p sound) st d bits sim.arrays ls) (cycle_sim p (sound_flows p sound) st d bits ls sim) (whole_next st d bits ls sim w)
+  whole_run st d (bits ∷ schedule) ls sim w =
+      whole_run (cycle p st bits)
+      (Derived.cycle p d bits) schedule (lives_next p (sound_flows p sound) st d bits sim.arrays ls)
+      (cycle_sim p (sound_flows p sound) st d bits ls sim) (whole_next st d bits ls sim w)
 
-  pub reached : (image : Arrays) (schedule : List (List Bool)) → (ks : List Live) × Sim p (state_after p (first p image) schedule) (Derived.state_after p (Derived.first p image) schedule) ks × Whole p (state_after p (first p image) schedule) ks
+  pub reached : (image : Arrays) (schedule : List (List Bool))
+      → (ks : List Live)
+      × Sim p (state_after p (first p image) schedule) (Derived.state_after p (Derived.first p image) schedule) ks
+      × Whole p (state_after p (first p image) schedule) ks
   reached image schedule =
       whole_run (first p image) (Derived.first p image) schedule (first_live p (sound_flows p sound) ∷ []) (first_sim p (sound_flows p sound) image)
       (record { along = (fresh_lasting (first p image) 1 p.start [], tt); youngest = fresh_young p.start })

@@ -105,7 +105,9 @@ reserved_used : (m : ℕ) (ph : Phase) (xs : List Stmt)
 reserved_used m ph [] h = absurd (cc h)
 reserved_used m ph (x ∷ xs) h = at (is_write_reserve m x.op) refl h (reserved_used m (next_phase m ph x.op) xs)
   where
-    at : (b : Bool) → is_write_reserve m x.op ≡ b → (b || list_any (λ (x : Stmt). is_write_reserve m x.op) xs) ≡ true → (list_any (λ (x : Stmt). is_write_reserve m x.op) xs ≡ true → is_fresh (phase_all m (next_phase m ph x.op) xs) ≡ false) → is_fresh (phase_all m (next_phase m ph x.op) xs) ≡ false
+    at : (b : Bool) → is_write_reserve m x.op ≡ b → (b || list_any (λ (x : Stmt). is_write_reserve m x.op) xs) ≡ true
+        → (list_any (λ (x : Stmt). is_write_reserve m x.op) xs ≡ true → is_fresh (phase_all m (next_phase m ph x.op) xs) ≡ false)
+        → is_fresh (phase_all m (next_phase m ph x.op) xs) ≡ false
     at true e k f = used_all m (next_phase m ph x.op) xs (reserve_op m ph x.op e)
     at false e k f = f k
 
@@ -130,7 +132,9 @@ unused_all : (m : ℕ) (xs : List Stmt)
 unused_all m [] u r = refl
 unused_all m (x ∷ xs) u r = at (is_write_reserve m x.op) refl r (unused_all m xs)
   where
-    at : (b : Bool) → is_write_reserve m x.op ≡ b → (b || list_any (λ (x : Stmt). is_write_reserve m x.op) xs) ≡ false → (uses_ok m Fresh xs ≡ true → list_any (λ (x : Stmt). is_write_reserve m x.op) xs ≡ false → phase_all m Fresh xs ≡ Fresh) → phase_all m (next_phase m Fresh x.op) xs ≡ Fresh
+    at : (b : Bool) → is_write_reserve m x.op ≡ b → (b || list_any (λ (x : Stmt). is_write_reserve m x.op) xs) ≡ false
+        → (uses_ok m Fresh xs ≡ true → list_any (λ (x : Stmt). is_write_reserve m x.op) xs ≡ false → phase_all m Fresh xs ≡ Fresh)
+        → phase_all m (next_phase m Fresh x.op) xs ≡ Fresh
     at true e k f = absurd (cc k)
     at false e k f =
         let same : next_phase m Fresh x.op ≡ Fresh = unused_op m x.op (and_left _ _ u) e in
@@ -142,7 +146,9 @@ no_place : (m : ℕ) (es : List Entry) → list_any (λ (h : HeldLocation). h.me
 no_place m [] h = refl
 no_place m (e ∷ es) h = at (e.mem == m) h (no_place m es)
   where
-    at : (b : Bool) → (b || list_any (λ (h : HeldLocation). h.mem == m) (places es)) ≡ false → (list_any (λ (h : HeldLocation). h.mem == m) (places es) ≡ false → entries_of m es ≡ []) → cond b (e ∷ entries_of m es) (entries_of m es) ≡ []
+    at : (b : Bool) → (b || list_any (λ (h : HeldLocation). h.mem == m) (places es)) ≡ false
+        → (list_any (λ (h : HeldLocation). h.mem == m) (places es) ≡ false → entries_of m es ≡ [])
+        → cond b (e ∷ entries_of m es) (entries_of m es) ≡ []
     at true k f = absurd (cc k)
     at false k f = f k
 
@@ -150,7 +156,9 @@ no_entry : (m : ℕ) (es : List Entry) → entries_of m es ≡ [] → list_any (
 no_entry m [] h = refl
 no_entry m (e ∷ es) h = at (e.mem == m) h (no_entry m es)
   where
-    at : (b : Bool) → cond b (e ∷ entries_of m es) (entries_of m es) ≡ [] → (entries_of m es ≡ [] → list_any (λ (h : HeldLocation). h.mem == m) (places es) ≡ false) → (b || list_any (λ (h : HeldLocation). h.mem == m) (places es)) ≡ false
+    at : (b : Bool) → cond b (e ∷ entries_of m es) (entries_of m es) ≡ []
+        → (entries_of m es ≡ [] → list_any (λ (h : HeldLocation). h.mem == m) (places es) ≡ false)
+        → (b || list_any (λ (h : HeldLocation). h.mem == m) (places es)) ≡ false
     at true k f = absurd (cc k)
     at false k f = f k
 
@@ -171,18 +179,27 @@ done_empty m Done es s h = s
 module _ (p : Pipe) (sound : Sound p) (st : State) (l : Live) (seated : Seated p st l) (m : ℕ) where
   released_done : has_released m p (told l) ≡ true → is_done (phase_all m Fresh (on_way p l.env l.thread.stage)) ≡ true
   released_done h =
-      used_done m (phase_all m Fresh (on_way p l.env l.thread.stage)) (entries_of m l.thread.entries) (seated.keeps_on.shape m) (reserved_used m Fresh (on_way p l.env l.thread.stage) (and_left _ _ h))
-      (no_place m l.thread.entries (ap (list_any (λ (h : HeldLocation). h.mem == m)) seated.keeps_on.held ∙ not-true _ (and_right (list_any (λ (x : Stmt). is_write_reserve m x.op) (on_way p l.env l.thread.stage)) _ h)))
+      used_done m (phase_all m Fresh (on_way p l.env l.thread.stage)) (entries_of m l.thread.entries)
+      (seated.keeps_on.shape m) (reserved_used m Fresh (on_way p l.env l.thread.stage) (and_left _ _ h))
+      (no_place m l.thread.entries
+      (ap (list_any (λ (h : HeldLocation). h.mem == m)) seated.keeps_on.held
+      ∙ not-true _ (and_right (list_any (λ (x : Stmt). is_write_reserve m x.op) (on_way p l.env l.thread.stage)) _ h)))
 
   pub done_released : is_done (phase_all m Fresh (on_way p l.env l.thread.stage)) ≡ true → has_released m p (told l) ≡ true
   done_released h =
       ap₂ (λ a b. a && not b) (reserved (list_any (λ (x : Stmt). is_write_reserve m x.op) (on_way p l.env l.thread.stage)) refl)
-      (ap (list_any (λ (h : HeldLocation). h.mem == m)) (sym seated.keeps_on.held) ∙ no_entry m l.thread.entries (done_empty m (phase_all m Fresh (on_way p l.env l.thread.stage)) (entries_of m l.thread.entries) (seated.keeps_on.shape m) h))
+      (ap (list_any (λ (h : HeldLocation). h.mem == m)) (sym seated.keeps_on.held)
+      ∙ no_entry m l.thread.entries
+      (done_empty m (phase_all m Fresh (on_way p l.env l.thread.stage)) (entries_of m l.thread.entries) (seated.keeps_on.shape m) h))
     where
       uses : uses_ok m Fresh (on_way p l.env l.thread.stage) ≡ true
-      uses = uses_front m (on_way p l.env l.thread.stage) (onpath l.env (stages_from l.thread.stage p.stmts)) Fresh (subst (λ xs. uses_ok m Fresh xs ≡ true) ((sound_flows p sound).all_pieces l.env l.thread.stage) ((sound_flows p sound).uses l.env m))
+      uses =
+          uses_front m (on_way p l.env l.thread.stage)
+          (onpath l.env (stages_from l.thread.stage p.stmts)) Fresh
+          (subst (λ xs. uses_ok m Fresh xs ≡ true) ((sound_flows p sound).all_pieces l.env l.thread.stage) ((sound_flows p sound).uses l.env m))
 
-      reserved : (b : Bool) → list_any (λ (x : Stmt). is_write_reserve m x.op) (on_way p l.env l.thread.stage) ≡ b → list_any (λ (x : Stmt). is_write_reserve m x.op) (on_way p l.env l.thread.stage) ≡ true
+      reserved : (b : Bool) → list_any (λ (x : Stmt). is_write_reserve m x.op) (on_way p l.env l.thread.stage) ≡ b
+          → list_any (λ (x : Stmt). is_write_reserve m x.op) (on_way p l.env l.thread.stage) ≡ true
       reserved true e = e
       reserved false e = absurd (cc (sym h ∙ ap is_done (unused_all m (on_way p l.env l.thread.stage) uses e)))
 
@@ -192,7 +209,13 @@ module _ (p : Pipe) (sound : Sound p) (st : State) (l : Live) (seated : Seated p
     where
       at : (b : Bool) → nat_lt (commit_stage p m) l.thread.stage ≡ b → commit_stage p m < l.thread.stage
       at true e = ltb-true _ _ e
-      at false e = absurd (cc (sym (released_done h) ∙ never_done m Fresh (on_way p l.env l.thread.stage) (none_onpath (is_release m) l.env (stages_before l.thread.stage p.stmts) (none_till (is_release m) (commit_stage p m) l.thread.stage p.stmts ((sound_flows p sound).releases m) (ltb-false _ _ e))) refl))
+      at false e =
+          absurd
+          (cc
+          (sym (released_done h)
+          ∙ never_done m Fresh (on_way p l.env l.thread.stage)
+          (none_onpath (is_release m) l.env (stages_before l.thread.stage p.stmts)
+          (none_till (is_release m) (commit_stage p m) l.thread.stage p.stmts ((sound_flows p sound).releases m) (ltb-false _ _ e))) refl))
 
   pub not_released : is_done (phase_all m Fresh (on_way p l.env l.thread.stage)) ≡ false → has_released m p (told l) ≡ false
   not_released h = at (has_released m p (told l)) refl
@@ -212,12 +235,17 @@ pending_none m Done env es cs ws t h = absurd (cc h)
 
 module _ (p : Pipe) (sound : Sound p) (arrays : Arrays) (args : List ℕ) where
   -- past the releases it has none undone
-  pub turn_kept : (s m : ℕ) → commit_stage p m < s → is_done (phase_all m Fresh (on_way p (thread (at_once p) arrays args).env s)) ≡ false → of_mem m (thread p arrays args).writes ≡ []
+  pub turn_kept : (s m : ℕ) → commit_stage p m < s
+      → is_done (phase_all m Fresh (on_way p (thread (at_once p) arrays args).env s)) ≡ false
+      → of_mem m (thread p arrays args).writes ≡ []
   turn_kept s m late h =
       ap (λ (r : Run). of_mem m r.writes) (whole p sound arrays args)
       ∙ sym (TurnPath.commits_late (along (thread (at_once p) arrays args).env (at_once p)) (acc p sound arrays args) arrays args s m late)
-      ∙ pending_none m (phase_all m Fresh (before s (onpath (thread (at_once p) arrays args).env (looked_all p.stmts)))) _ _ _ _ ((TurnPath.related_at (along (thread (at_once p) arrays args).env (at_once p)) (acc p sound arrays args) arrays args s).tied m)
-      (ap (λ xs. is_done (phase_all m Fresh xs)) (way_looked p (thread (at_once p) arrays args).env s) ∙ ap is_done (phases_looked m Fresh (on_way p (thread (at_once p) arrays args).env s)) ∙ h)
+      ∙ pending_none m
+      (phase_all m Fresh (before s (onpath (thread (at_once p) arrays args).env (looked_all p.stmts)))) _ _ _ _
+      ((TurnPath.related_at (along (thread (at_once p) arrays args).env (at_once p)) (acc p sound arrays args) arrays args s).tied m)
+      (ap (λ xs. is_done (phase_all m Fresh xs)) (way_looked p (thread (at_once p) arrays args).env s)
+      ∙ ap is_done (phases_looked m Fresh (on_way p (thread (at_once p) arrays args).env s)) ∙ h)
 
 -- A THREAD AFTER A WRONG GUESS
 
@@ -297,9 +325,13 @@ pub sure_done : (m v : ℕ) (c : Scan) (ph : Phase) (xs : List Stmt)
 sure_done m v c ph [] k u b low o d = d
 sure_done m v c ph (x ∷ xs) k u b low o d =
     let one = sure_op m v x.stage c ph x.op (and_right (no_guards x.guards) _ (and_left _ _ k)) (and_left _ _ u) low.0 o d in
-    at (is_barrier x.op) refl b (and_right (is_sure (Some v) false c x.stage x.op) _ u) (λ i j. sure_done m v (scan_after x.op c) (next_phase m ph x.op) xs (and_right (no_guards x.guards && phase_ok m ph x.op) _ k) i j low.1 one.0 one.1)
+    at (is_barrier x.op) refl b (and_right (is_sure (Some v) false c x.stage x.op) _ u)
+    (λ i j. sure_done m v (scan_after x.op c) (next_phase m ph x.op) xs (and_right (no_guards x.guards && phase_ok m ph x.op) _ k) i j low.1 one.0 one.1)
   where
-    at : (t : Bool) → is_barrier x.op ≡ t → some_barrier t xs ≡ false → all_sure (Some v) (is_barrier x.op) (scan_after x.op c) xs ≡ true → (all_sure (Some v) false (scan_after x.op c) xs ≡ true → some_barrier false xs ≡ false → is_done (phase_all m (next_phase m ph x.op) xs) ≡ false) → is_done (phase_all m (next_phase m ph x.op) xs) ≡ false
+    at : (t : Bool) → is_barrier x.op ≡ t → some_barrier t xs ≡ false
+        → all_sure (Some v) (is_barrier x.op) (scan_after x.op c) xs ≡ true
+        → (all_sure (Some v) false (scan_after x.op c) xs ≡ true → some_barrier false xs ≡ false → is_done (phase_all m (next_phase m ph x.op) xs) ≡ false)
+        → is_done (phase_all m (next_phase m ph x.op) xs) ≡ false
     at true e j i f = absurd (cc (sym (barred_stays xs) ∙ j))
     at false e j i f = f (subst (λ t. all_sure (Some v) t (scan_after x.op c) xs ≡ true) e i) j
 
@@ -308,11 +340,13 @@ pub low_stages : (path : List ℕ) (s : ℕ) (xs : List Stmt) → AllStmts (λ x
 low_stages path s [] = tt
 low_stages path s (x ∷ xs) = at (nat_lt x.stage s) refl (low_stages path s xs)
   where
-    by : (c : Bool) → x.stage < s → AllStmts (λ x. x.stage < s) (onpath path (stages_before s xs)) → AllStmts (λ x. x.stage < s) (cond c (record x { guards = [] } ∷ onpath path (stages_before s xs)) (onpath path (stages_before s xs)))
+    by : (c : Bool) → x.stage < s → AllStmts (λ x. x.stage < s) (onpath path (stages_before s xs))
+        → AllStmts (λ x. x.stage < s) (cond c (record x { guards = [] } ∷ onpath path (stages_before s xs)) (onpath path (stages_before s xs)))
     by true i h = (i, h)
     by false i h = h
 
-    at : (b : Bool) → nat_lt x.stage s ≡ b → AllStmts (λ x. x.stage < s) (onpath path (stages_before s xs)) → AllStmts (λ x. x.stage < s) (onpath path (cond b (x ∷ stages_before s xs) (stages_before s xs)))
+    at : (b : Bool) → nat_lt x.stage s ≡ b → AllStmts (λ x. x.stage < s) (onpath path (stages_before s xs))
+        → AllStmts (λ x. x.stage < s) (onpath path (cond b (x ∷ stages_before s xs) (stages_before s xs)))
     at true e h = by (all_hold x.guards path) (ltb-true _ _ e) h
     at false e h = h
 
@@ -341,7 +375,9 @@ pub unbarred : (xs : List Stmt) → list_any (λ (x : Stmt). Sound.is_barrier x.
 unbarred [] h = refl
 unbarred (x ∷ xs) h = ap (λ b. some_barrier b (looked_all xs)) (barrier_looked x.op) ∙ at (Sound.is_barrier x.op) h (unbarred xs)
   where
-    at : (b : Bool) → (b || list_any (λ (x : Stmt). Sound.is_barrier x.op) xs) ≡ false → (list_any (λ (x : Stmt). Sound.is_barrier x.op) xs ≡ false → some_barrier false (looked_all xs) ≡ false) → some_barrier b (looked_all xs) ≡ false
+    at : (b : Bool) → (b || list_any (λ (x : Stmt). Sound.is_barrier x.op) xs) ≡ false
+        → (list_any (λ (x : Stmt). Sound.is_barrier x.op) xs ≡ false → some_barrier false (looked_all xs) ≡ false)
+        → some_barrier b (looked_all xs) ≡ false
     at true i f = absurd (cc i)
     at false i f = f i
 
@@ -351,13 +387,17 @@ pub early_unreleased : (p : Pipe) (sound : Sound p) (st : State) (l : Live) → 
     → list_any (λ (x : Stmt). Sound.is_barrier x.op) (on_way p l.env l.thread.stage) ≡ false → (m : ℕ)
     → has_released m p (told l) ≡ false
 early_unreleased p sound st l seated v verifies low clear m = not_released p sound st l seated m
-    (ap is_done (sym (phases_looked m Fresh (on_way p l.env l.thread.stage))) ∙ ap (λ xs. is_done (phase_all m Fresh xs)) (sym (way_looked p l.env l.thread.stage))
+    (ap is_done (sym (phases_looked m Fresh (on_way p l.env l.thread.stage)))
+    ∙ ap (λ xs. is_done (phase_all m Fresh xs)) (sym (way_looked p l.env l.thread.stage))
     ∙ sure_done m v no_scan Fresh (before l.thread.stage (onpath l.env (looked_all p.stmts)))
     (TurnPath.ok_before (along l.env (at_once p)) (sound.pathwise.paths l.env) (λ k a. 0) [] l.thread.stage m)
     (subst (λ o. all_sure o false no_scan (before l.thread.stage (onpath l.env (looked_all p.stmts))) ≡ true) (verify_looked p.stmts ∙ verifies)
-    (sure_first (verify_stage (looked_all p.stmts)) false no_scan (before l.thread.stage (onpath l.env (looked_all p.stmts))) (stages_from l.thread.stage (onpath l.env (looked_all p.stmts)))
-    (subst (λ xs. all_sure (verify_stage (looked_all p.stmts)) false no_scan xs ≡ true) ((sound.pathwise.paths l.env).ordered l.thread.stage) (sound.pathwise.sure l.env))))
+    (sure_first (verify_stage (looked_all p.stmts)) false no_scan (before l.thread.stage (onpath l.env (looked_all p.stmts)))
+    (stages_from l.thread.stage (onpath l.env (looked_all p.stmts)))
+    (subst (λ xs. all_sure (verify_stage (looked_all p.stmts)) false no_scan xs ≡ true)
+    ((sound.pathwise.paths l.env).ordered l.thread.stage) (sound.pathwise.sure l.env))))
     (ap (some_barrier false) (way_looked p l.env l.thread.stage) ∙ unbarred (on_way p l.env l.thread.stage) clear)
     (subst (AllStmts (λ x. nat_lt x.stage v ≡ true)) (sym (way_looked p l.env l.thread.stage))
-    (stages_looked (λ s. nat_lt s v ≡ true) (on_way p l.env l.thread.stage) (stmts_map (λ z i. lt-ltb _ _ (let k = i in let j = low in omega arith)) (on_way p l.env l.thread.stage) (low_stages l.env l.thread.stage p.stmts))))
+    (stages_looked (λ s. nat_lt s v ≡ true) (on_way p l.env l.thread.stage)
+    (stmts_map (λ z i. lt-ltb _ _ (let k = i in let j = low in omega arith)) (on_way p l.env l.thread.stage) (low_stages l.env l.thread.stage p.stmts))))
     tt refl)

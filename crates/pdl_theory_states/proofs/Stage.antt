@@ -38,7 +38,8 @@ pub barred_onto : (xs : List Stmt) (past : List Op) → barred (onto xs past) �
 barred_onto [] past h = inr h
 barred_onto (x ∷ xs) past h = at (is_barrier x.op) refl (barred_onto xs (x.op ∷ past) h)
   where
-    at : (b : Bool) → is_barrier x.op ≡ b → (some_barrier xs ≡ true) ⊎ ((is_barrier x.op || barred past) ≡ true) → ((is_barrier x.op || some_barrier xs) ≡ true) ⊎ (barred past ≡ true)
+    at : (b : Bool) → is_barrier x.op ≡ b → (some_barrier xs ≡ true) ⊎ ((is_barrier x.op || barred past) ≡ true)
+        → ((is_barrier x.op || some_barrier xs) ≡ true) ⊎ (barred past ≡ true)
     at true e k = inl (ap (λ b. b || some_barrier xs) e)
     at false e (inl k) = inl (ap (λ b. b || some_barrier xs) e ∙ k)
     at false e (inr k) = inr (sym (ap (λ b. b || barred past) e) ∙ k)
@@ -64,11 +65,16 @@ pub clear_all : (path : List ℕ) (o : Around) (xs : List Stmt) (w : Work) → F
 clear_all path o [] w f h r = absurd (cc h)
 clear_all path o (x ∷ xs) w f h r = at (all_hold x.guards w.env) (all_hold x.guards path) f.0 h r (λ k l. clear_all path o xs (step o x w) f.1 k l)
   where
-    by : (is_barrier x.op ≡ true) ⊎ (some_barrier (onpath path xs) ≡ true) → (do_all o xs (work_after o x.op w)).ready ≡ true → (some_barrier (onpath path xs) ≡ true → (do_all o xs (work_after o x.op w)).ready ≡ true → o.clear ≡ true) → o.clear ≡ true
+    by : (is_barrier x.op ≡ true) ⊎ (some_barrier (onpath path xs) ≡ true)
+        → (do_all o xs (work_after o x.op w)).ready ≡ true
+        → (some_barrier (onpath path xs) ≡ true → (do_all o xs (work_after o x.op w)).ready ≡ true → o.clear ≡ true)
+        → o.clear ≡ true
     by (inl i) k g = clear_op o x.op w i (was_ready o xs (work_after o x.op w) k)
     by (inr i) k g = g i k
 
-    at : (b c : Bool) → b ≡ c → some_barrier (cond c (record x { guards = [] } ∷ onpath path xs) (onpath path xs)) ≡ true → (do_all o xs (cond b (work_after o x.op w) w)).ready ≡ true
+    at : (b c : Bool) → b ≡ c
+        → some_barrier (cond c (record x { guards = [] } ∷ onpath path xs) (onpath path xs)) ≡ true
+        → (do_all o xs (cond b (work_after o x.op w) w)).ready ≡ true
         → (some_barrier (onpath path xs) ≡ true → (do_all o xs (cond b (work_after o x.op w) w)).ready ≡ true → o.clear ≡ true) → o.clear ≡ true
     at true true e k l g = by (or_cases (is_barrier x.op) _ k) l g
     at true false e k l g = absurd (cc e)
@@ -91,12 +97,15 @@ look_at p ts =
 
 -- a block stays ready, or released, in surroundings in which its location is as ready as before
 pub block_like : (o o' : Around) (env : List ℕ) (es : List Entry) (past : List Op) (op : Op)
-    → ((m a : ℕ) → op ≡ Block m a → (o.can_read m (slice_index env a) ≡ true → o'.can_read m (slice_index env a) ≡ true) × (o.can_write m (slice_index env a) ≡ true → o'.can_write m (slice_index env a) ≡ true))
+    → ((m a : ℕ) → op ≡ Block m a
+    → (o.can_read m (slice_index env a) ≡ true → o'.can_read m (slice_index env a) ≡ true)
+    × (o.can_write m (slice_index env a) ≡ true → o'.can_write m (slice_index env a) ≡ true))
     → BlockOk o env es past op → BlockOk o' env es past op
 block_like o o' env es past (Block m a) f (inl h) = inl h
 block_like o o' env es past (Block m a) f (inr h) = inr (at (has_entry es m a) h)
   where
-    at : (b : Bool) → cond b (o.can_write m (slice_index env a)) (o.can_read m (slice_index env a)) ≡ true → cond b (o'.can_write m (slice_index env a)) (o'.can_read m (slice_index env a)) ≡ true
+    at : (b : Bool) → cond b (o.can_write m (slice_index env a)) (o.can_read m (slice_index env a)) ≡ true
+        → cond b (o'.can_write m (slice_index env a)) (o'.can_read m (slice_index env a)) ≡ true
     at true k = (f m a refl).1 k
     at false k = (f m a refl).0 k
 block_like o o' env es past (Bind x e) f h = tt
@@ -117,7 +126,8 @@ pub kept_blocks : (o : Around) (es : List Entry) (past ops : List Op) (kept : Li
     → AllKept (λ k. AllOps (λ op. touches k.var op ≡ false) ops) kept → AllOps (BlockOk o env es past) ops
     → AllOps (BlockOk o (with_kept kept env) es past) ops
 kept_blocks o es past ops [] env u h = h
-kept_blocks o es past ops (k ∷ kept) env u h = kept_blocks o es past ops kept (slice_set env k.var k.word) u.1 (ops_both (λ op t b. block_set o k.var k.word env es past op t b) ops u.0 h)
+kept_blocks o es past ops (k ∷ kept) env u h =
+    kept_blocks o es past ops kept (slice_set env k.var k.word) u.1 (ops_both (λ op t b. block_set o k.var k.word env es past op t b) ops u.0 h)
 
 -- a block stands no earlier than the reserves
 abbrev pub LowBlock : Pipe → ℕ → Op → Type 0
@@ -132,14 +142,18 @@ low_all : (p q : Pipe)
     → ((m : ℕ) → reserve_stage q m ≡ reserve_stage p m) → (c : Scan) (xs : List Stmt)
     → reads_ok q c (looked_all xs) ≡ true → AllStmts (λ z. LowBlock p z.stage z.op) xs
 low_all p q f c [] h = tt
-low_all p q f c (x ∷ xs) h = (low_op p q f x.stage c x.op (and_right (no_guards x.guards) _ (and_left _ _ h)), low_all p q f (scan_after (answered_op x.op) c) xs (and_right (no_guards x.guards && op_ok q x.stage c (answered_op x.op)) _ h))
+low_all p q f c (x ∷ xs) h = (
+  low_op p q f x.stage c x.op (and_right (no_guards x.guards) _ (and_left _ _ h)),
+  low_all p q f (scan_after (answered_op x.op) c) xs (and_right (no_guards x.guards && op_ok q x.stage c (answered_op x.op)) _ h),
+)
 
 -- the statements before stage s are those of the earlier stages with delayed reads answered at once
 pub before_stages : (s : ℕ) (xs : List Stmt) → before s xs ≡ looked_all (stages_before s xs)
 before_stages s [] = refl
 before_stages s (x ∷ xs) = at (nat_lt x.stage s) (before_stages s xs)
   where
-    at : (b : Bool) → before s xs ≡ looked_all (stages_before s xs) → cond b (look x ∷ before s xs) (before s xs) ≡ looked_all (cond b (x ∷ stages_before s xs) (stages_before s xs))
+    at : (b : Bool) → before s xs ≡ looked_all (stages_before s xs)
+        → cond b (look x ∷ before s xs) (before s xs) ≡ looked_all (cond b (x ∷ stages_before s xs) (stages_before s xs))
     at true h = ap (λ l. look x ∷ l) h
     at false h = h
 
@@ -151,7 +165,9 @@ way_looked p path s =
 
 -- each block before stage s on a path stands no earlier than its memory's reserves
 pub low_blocks : (p : Pipe) → Sound p → (path : List ℕ) (s : ℕ) → AllStmts (λ z. LowBlock p z.stage z.op) (on_way p path s)
-low_blocks p sound path s = low_all p (along path (at_once p)) (λ m. refl) no_scan (on_way p path s) (subst (λ l. reads_ok (along path (at_once p)) no_scan l ≡ true) (way_looked p path s) ((sound.pathwise.paths path).reads s))
+low_blocks p sound path s =
+    low_all p (along path (at_once p)) (λ m. refl) no_scan (on_way p path s)
+    (subst (λ l. reads_ok (along path (at_once p)) no_scan l ≡ true) (way_looked p path s) ((sound.pathwise.paths path).reads s))
 
 -- CALLS
 
@@ -206,11 +222,13 @@ childless path o (x ∷ xs) w f h = at (all_hold x.guards w.env) (all_hold x.gua
     clash : (c : Option (List ℕ)) → c ≡ None → is_some c ≡ true → ⊥
     clash c e k = cc (sym k ∙ ap is_some e)
 
-    by : (b : Bool) → is_call x.op ≡ b → (do_all o xs (work_after o x.op w)).child ≡ None → called false (onpath path xs) ≡ false → called b (onpath path xs) ≡ false
+    by : (b : Bool) → is_call x.op ≡ b → (do_all o xs (work_after o x.op w)).child ≡ None
+        → called false (onpath path xs) ≡ false → called b (onpath path xs) ≡ false
     by true e k g = absurd (clash (do_all o xs (work_after o x.op w)).child k (child_stays o xs (work_after o x.op w) (call_child o x.op w e)))
     by false e k g = g
 
-    at : (b c : Bool) → b ≡ c → (do_all o xs (cond b (work_after o x.op w) w)).child ≡ None → ((do_all o xs (cond b (work_after o x.op w) w)).child ≡ None → called false (onpath path xs) ≡ false)
+    at : (b c : Bool) → b ≡ c → (do_all o xs (cond b (work_after o x.op w) w)).child ≡ None
+        → ((do_all o xs (cond b (work_after o x.op w) w)).child ≡ None → called false (onpath path xs) ≡ false)
         → called false (cond c (record x { guards = [] } ∷ onpath path xs) (onpath path xs)) ≡ false
     at true true e k g = by (is_call x.op) refl k (g k)
     at true false e k g = absurd (cc e)

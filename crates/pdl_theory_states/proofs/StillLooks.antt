@@ -29,17 +29,20 @@ let_go_behind (x ∷ xs) ys h = let_go_behind xs ys (and_right (lets_go x.op (xs
 reads_behind : (q : Pipe) (c : Scan) (xs ys : List Stmt)
     → reads_ok q c (looked_all (xs ++ ys)) ≡ true → (c' : Scan) × (reads_ok q c' (looked_all ys) ≡ true)
 reads_behind q c [] ys h = (c, h)
-reads_behind q c (x ∷ xs) ys h = reads_behind q (scan_after (answered_op x.op) c) xs ys (and_right (no_guards x.guards && op_ok q x.stage c (answered_op x.op)) _ h)
+reads_behind q c (x ∷ xs) ys h =
+    reads_behind q (scan_after (answered_op x.op) c) xs ys (and_right (no_guards x.guards && op_ok q x.stage c (answered_op x.op)) _ h)
 
 late_stages : (path : List ℕ) (s : ℕ) (xs : List Stmt) → AllStmts (λ x. s ≤ x.stage) (onpath path (stages_from s xs))
 late_stages path s [] = tt
 late_stages path s (x ∷ xs) = at (nat_le s x.stage) refl (late_stages path s xs)
   where
-    by : (c : Bool) → s ≤ x.stage → AllStmts (λ x. s ≤ x.stage) (onpath path (stages_from s xs)) → AllStmts (λ x. s ≤ x.stage) (cond c (record x { guards = [] } ∷ onpath path (stages_from s xs)) (onpath path (stages_from s xs)))
+    by : (c : Bool) → s ≤ x.stage → AllStmts (λ x. s ≤ x.stage) (onpath path (stages_from s xs))
+        → AllStmts (λ x. s ≤ x.stage) (cond c (record x { guards = [] } ∷ onpath path (stages_from s xs)) (onpath path (stages_from s xs)))
     by true i h = (i, h)
     by false i h = h
 
-    at : (b : Bool) → nat_le s x.stage ≡ b → AllStmts (λ x. s ≤ x.stage) (onpath path (stages_from s xs)) → AllStmts (λ x. s ≤ x.stage) (onpath path (cond b (x ∷ stages_from s xs) (stages_from s xs)))
+    at : (b : Bool) → nat_le s x.stage ≡ b → AllStmts (λ x. s ≤ x.stage) (onpath path (stages_from s xs))
+        → AllStmts (λ x. s ≤ x.stage) (onpath path (cond b (x ∷ stages_from s xs) (stages_from s xs)))
     at true e h = by (all_hold x.guards path) (leb-true _ _ e) h
     at false e h = h
 
@@ -66,7 +69,8 @@ release_none m a (x ∷ xs) h k = at (is_release_at m a x.op) refl k (λ i. rele
     clash SpecCheck i j = cc j
     clash SpecBarrier i j = cc j
 
-    at : (b : Bool) → is_release_at m a x.op ≡ b → (b || list_any (λ (z : Stmt). is_release_at m a z.op) xs) ≡ true → (list_any (λ (z : Stmt). is_release_at m a z.op) xs ≡ true → ⊥) → ⊥
+    at : (b : Bool) → is_release_at m a x.op ≡ b → (b || list_any (λ (z : Stmt). is_release_at m a z.op) xs) ≡ true
+        → (list_any (λ (z : Stmt). is_release_at m a z.op) xs ≡ true → ⊥) → ⊥
     at true e i f = clash x.op (and_left _ _ h) e
     at false e i f = f i
 
@@ -77,9 +81,11 @@ module _ (p q : Pipe) (m s : ℕ) (late : commit_stage q m < s) (locked : is_pla
     where
       at : (b : Bool) → b ≡ false → (b || (has_location c.blocked m a && nat_le r (commit_stage q m))) ≡ true → ⊥
       at true e k = cc e
-      at false e k = let i : r ≤ commit_stage q m = leb-true r (commit_stage q m) (and_right (has_location c.blocked m a) (nat_le r (commit_stage q m)) k) in let j = late in omega arith
+      at false e k = let i : r ≤ commit_stage q m = leb-true r (commit_stage q m) (and_right (has_location c.blocked m a) (nat_le r (commit_stage q m)) k) in
+          let j = late in omega arith
 
-  no_look : (r : ℕ) (c : Scan) (op : Op) (ys : List Stmt) → s ≤ r → op_ok q r c (answered_op op) ≡ true → lets_go op ys ≡ true → none_of (is_release m) ys ≡ true → looks_at m op ≡ true → ⊥
+  no_look : (r : ℕ) (c : Scan) (op : Op) (ys : List Stmt) → s ≤ r → op_ok q r c (answered_op op) ≡ true
+      → lets_go op ys ≡ true → none_of (is_release m) ys ≡ true → looks_at m op ≡ true → ⊥
   no_look r c (Block n a) ys low h g f k = release_none m a ys f (subst (λ i. list_any (λ (z : Stmt). is_release_at i a z.op) ys ≡ true) (eqb-true n m k) g)
   no_look r c (CombRead x n a) ys low h g f k = no_read r c x a low (subst (λ i. op_ok q r c (CombRead x i a) ≡ true) (eqb-true n m k) h)
   no_look r c (DelayedRead x n a) ys low h g f k = no_read r c x a low (subst (λ i. op_ok q r c (CombRead x i a) ≡ true) (eqb-true n m k) h)
@@ -94,24 +100,33 @@ module _ (p q : Pipe) (m s : ℕ) (late : commit_stage q m < s) (locked : is_pla
   no_look r c SpecCheck ys low h g f k = cc k
   no_look r c SpecBarrier ys low h g f k = cc k
 
-  no_looks : (c : Scan) (xs : List Stmt) → AllStmts (λ x. s ≤ x.stage) xs → reads_ok q c (looked_all xs) ≡ true → all_let_go xs ≡ true → none_of (is_release m) xs ≡ true → list_any (λ (x : Stmt). looks_at m x.op) xs ≡ true → ⊥
+  no_looks : (c : Scan) (xs : List Stmt) → AllStmts (λ x. s ≤ x.stage) xs → reads_ok q c (looked_all xs) ≡ true
+      → all_let_go xs ≡ true → none_of (is_release m) xs ≡ true → list_any (λ (x : Stmt). looks_at m x.op) xs ≡ true → ⊥
   no_looks c [] low h g f k = cc k
   no_looks c (x ∷ xs) low h g f k =
-      at (looks_at m x.op) refl k (λ i. no_looks (scan_after (answered_op x.op) c) xs low.1 (and_right (no_guards x.guards && op_ok q x.stage c (answered_op x.op)) _ h) (and_right (lets_go x.op xs) _ g) (and_right (not (is_release m x.op)) _ f) i)
+      at (looks_at m x.op) refl k
+      (λ i. no_looks (scan_after (answered_op x.op) c) xs low.1 (and_right (no_guards x.guards && op_ok q x.stage c (answered_op x.op)) _ h)
+      (and_right (lets_go x.op xs) _ g) (and_right (not (is_release m x.op)) _ f) i)
     where
-      at : (b : Bool) → looks_at m x.op ≡ b → (b || list_any (λ (x : Stmt). looks_at m x.op) xs) ≡ true → (list_any (λ (x : Stmt). looks_at m x.op) xs ≡ true → ⊥) → ⊥
-      at true e i go = no_look x.stage c x.op xs low.0 (and_right (no_guards x.guards) _ (and_left _ _ h)) (and_left _ _ g) (and_right (not (is_release m x.op)) _ f) e
+      at : (b : Bool) → looks_at m x.op ≡ b → (b || list_any (λ (x : Stmt). looks_at m x.op) xs) ≡ true
+          → (list_any (λ (x : Stmt). looks_at m x.op) xs ≡ true → ⊥) → ⊥
+      at true e i go =
+          no_look x.stage c x.op xs low.0 (and_right (no_guards x.guards) _ (and_left _ _ h)) (and_left _ _ g) (and_right (not (is_release m x.op)) _ f) e
       at false e i go = go i
 
 module _ (p : Pipe) (sound : Sound p) where
-  pub looks_early : Strict p → (path : List ℕ) (s m : ℕ) → s < length p.stages → list_any (λ (x : Stmt). looks_at m x.op) (onpath path (stages_from s p.stmts)) ≡ true → s ≤ commit_stage p m
+  pub looks_early : Strict p → (path : List ℕ) (s m : ℕ) → s < length p.stages
+      → list_any (λ (x : Stmt). looks_at m x.op) (onpath path (stages_from s p.stmts)) ≡ true → s ≤ commit_stage p m
   looks_early strict path s m low h = at (nat_lt (commit_stage p m) s) refl
     where
       pieces : onpath path p.stmts ≡ on_way p path s ++ onpath path (stages_from s p.stmts)
       pieces = (sound_flows p sound).all_pieces path s
 
       reads : reads_ok (along path (at_once p)) no_scan (looked_all (on_way p path s ++ onpath path (stages_from s p.stmts))) ≡ true
-      reads = subst (λ xs. reads_ok (along path (at_once p)) no_scan xs ≡ true) ((sound.pathwise.paths path).whole ∙ path_looked path p.stmts ∙ ap looked_all pieces) ((sound.pathwise.paths path).reads (length p.stages))
+      reads =
+          subst (λ xs. reads_ok (along path (at_once p)) no_scan xs ≡ true)
+          ((sound.pathwise.paths path).whole ∙ path_looked path p.stmts ∙ ap looked_all pieces)
+          ((sound.pathwise.paths path).reads (length p.stages))
 
       at : (b : Bool) → nat_lt (commit_stage p m) s ≡ b → s ≤ commit_stage p m
       at false e = ltb-false _ _ e
@@ -126,7 +141,8 @@ module _ (p : Pipe) (sound : Sound p) where
               let r = reads_behind (along path (at_once p)) no_scan (on_way p path s) (onpath path (stages_from s p.stmts)) reads in
               no_looks p (along path (at_once p)) m s late i r.0 (onpath path (stages_from s p.stmts)) (late_stages path s p.stmts) r.1
               (let_go_behind (on_way p path s) (onpath path (stages_from s p.stmts)) (subst (λ xs. all_let_go xs ≡ true) pieces (strict.blocks path)))
-              (none_onpath (is_release m) path (stages_from s p.stmts) (none_from (is_release m) (commit_stage p m) s p.stmts ((sound_flows p sound).releases m) late)) h
+              (none_onpath (is_release m) path (stages_from s p.stmts)
+              (none_from (is_release m) (commit_stage p m) s p.stmts ((sound_flows p sound).releases m) late)) h
 
   -- READS TO BIND
 
@@ -138,7 +154,9 @@ module _ (p : Pipe) (sound : Sound p) where
   each_fetch [] h = tt
   each_fetch (x ∷ xs) h = (first (x.stage == x.stage) (eq-eqb x.stage x.stage refl) (h x.stage), each_fetch xs (λ s. rest s (x.stage == s) (h s)))
     where
-      first : (b : Bool) → b ≡ true → AllFetches p sound.fetch x.stage (cond b (x ∷ in_stage x.stage xs) (in_stage x.stage xs)) → FetchIf p sound.fetch x.stage x.guards x.op
+      first : (b : Bool) → b ≡ true
+          → AllFetches p sound.fetch x.stage (cond b (x ∷ in_stage x.stage xs) (in_stage x.stage xs))
+          → FetchIf p sound.fetch x.stage x.guards x.op
       first true e k = k.0
       first false e k = absurd (cc e)
 
@@ -146,22 +164,26 @@ module _ (p : Pipe) (sound : Sound p) where
       rest s true k = k.1
       rest s false k = k
 
-  way_fetch : (path : List ℕ) (s : ℕ) (xs : List Stmt) → AllStmts (λ y. FetchIf p sound.fetch y.stage y.guards y.op) xs → AllStmts Fetched (onpath path (stages_before s xs))
+  way_fetch : (path : List ℕ) (s : ℕ) (xs : List Stmt) → AllStmts (λ y. FetchIf p sound.fetch y.stage y.guards y.op) xs
+      → AllStmts Fetched (onpath path (stages_before s xs))
   way_fetch path s [] h = tt
   way_fetch path s (x ∷ xs) h = at (nat_lt x.stage s) (way_fetch path s xs h.1)
     where
       one : all_hold x.guards path ≡ true → Fetched (record x { guards = [] })
       one e y n a i = (subst (λ op. FetchIf p sound.fetch x.stage x.guards op) i h.0).1 (alive x.guards path e)
 
-      by : (c : Bool) → all_hold x.guards path ≡ c → AllStmts Fetched (onpath path (stages_before s xs)) → AllStmts Fetched (cond c (record x { guards = [] } ∷ onpath path (stages_before s xs)) (onpath path (stages_before s xs)))
+      by : (c : Bool) → all_hold x.guards path ≡ c → AllStmts Fetched (onpath path (stages_before s xs))
+          → AllStmts Fetched (cond c (record x { guards = [] } ∷ onpath path (stages_before s xs)) (onpath path (stages_before s xs)))
       by true e k = (one e, k)
       by false e k = k
 
-      at : (b : Bool) → AllStmts Fetched (onpath path (stages_before s xs)) → AllStmts Fetched (onpath path (cond b (x ∷ stages_before s xs) (stages_before s xs)))
+      at : (b : Bool) → AllStmts Fetched (onpath path (stages_before s xs))
+          → AllStmts Fetched (onpath path (cond b (x ∷ stages_before s xs) (stages_before s xs)))
       at true k = by (all_hold x.guards path) refl k
       at false k = k
 
-  bind_early : (env : List ℕ) (s m : ℕ) (xs : List Stmt) → AllStmts Fetched xs → list_any (λ x. here p env s x && is_delayed_read m x.op) xs ≡ true → s ≤ commit_stage p m
+  bind_early : (env : List ℕ) (s m : ℕ) (xs : List Stmt) → AllStmts Fetched xs
+      → list_any (λ x. here p env s x && is_delayed_read m x.op) xs ≡ true → s ≤ commit_stage p m
   bind_early env s m [] f h = absurd (cc h)
   bind_early env s m (x ∷ xs) f h = at (here p env s x && is_delayed_read m x.op) refl h (bind_early env s m xs f.1)
     where
@@ -170,7 +192,9 @@ module _ (p : Pipe) (sound : Sound p) where
       leads (Some q) i = eqb-true q s i
 
       one : (op : Op) → x.op ≡ op → here p env s x ≡ true → is_delayed_read m op ≡ true → s ≤ commit_stage p m
-      one (DelayedRead y n a) e i j = subst (λ k. s ≤ commit_stage p k) (eqb-true n m j) (subst (λ k. k ≤ commit_stage p n) (leads (goes_to (stage_at p x.stage).next env) i) ((f.0 y n a e).early env))
+      one (DelayedRead y n a) e i j =
+          subst (λ k. s ≤ commit_stage p k) (eqb-true n m j)
+          (subst (λ k. k ≤ commit_stage p n) (leads (goes_to (stage_at p x.stage).next env) i) ((f.0 y n a e).early env))
       one (Bind y e') e i j = absurd (cc j)
       one (CombRead y n a) e i j = absurd (cc j)
       one (Write n a e') e i j = absurd (cc j)
@@ -184,7 +208,10 @@ module _ (p : Pipe) (sound : Sound p) where
       one SpecCheck e i j = absurd (cc j)
       one SpecBarrier e i j = absurd (cc j)
 
-      at : (b : Bool) → (here p env s x && is_delayed_read m x.op) ≡ b → (b || list_any (λ x. here p env s x && is_delayed_read m x.op) xs) ≡ true → (list_any (λ x. here p env s x && is_delayed_read m x.op) xs ≡ true → s ≤ commit_stage p m) → s ≤ commit_stage p m
+      at : (b : Bool) → (here p env s x && is_delayed_read m x.op) ≡ b
+          → (b || list_any (λ x. here p env s x && is_delayed_read m x.op) xs) ≡ true
+          → (list_any (λ x. here p env s x && is_delayed_read m x.op) xs ≡ true → s ≤ commit_stage p m)
+          → s ≤ commit_stage p m
       at true e i go = one x.op refl (and_left _ _ e) (and_right (here p env s x) _ e)
       at false e i go = go i
 

@@ -80,7 +80,8 @@ not_barred (x ∷ xs) path h k = at (all_hold x.guards path) k (λ i. not_barred
     first true c f i = absurd (f refl)
     first false c f i = i
 
-    at : (b : Bool) → some_barrier (if b then record x { guards = [] } ∷ onpath path xs else onpath path xs) ≡ true → (some_barrier (onpath path xs) ≡ true → ⊥) → ⊥
+    at : (b : Bool) → some_barrier (if b then record x { guards = [] } ∷ onpath path xs else onpath path xs) ≡ true
+        → (some_barrier (onpath path xs) ≡ true → ⊥) → ⊥
     at true i f = f (first (is_barrier x.op) (some_barrier (onpath path xs)) (λ e. no x.op (and_left _ _ h) e) i)
     at false i f = f i
 
@@ -90,17 +91,22 @@ module _ (p : Pipe) (sound : Sound p) (strict : Strict p) where
 
   -- the blocks of a thread's past stand no later than some stage
   low_past : (env : List ℕ) (s n : ℕ) → AllStmts (λ z. z.stage ≤ n) (on_way p env s) → AllOps (LowBlock p n) (past_of p env s)
-  low_past env s n h = ops_stmts (LowBlock p n) (on_way p env s) [] (stmts_both (λ z low i m a e. let k = low m a e in (let j = i in omega arith)) (on_way p env s) (low_blocks p sound env s) h) tt
+  low_past env s n h =
+      ops_stmts (LowBlock p n) (on_way p env s) []
+      (stmts_both (λ z low i m a e. let k = low m a e in (let j = i in omega arith)) (on_way p env s) (low_blocks p sound env s) h) tt
 
   -- the older threads are past the reserves
-  past_reserve : (s m : ℕ) (ls : List Live) → Each (λ k. Behind p s k.thread.stage) ls → reserve_stage p m ≤ s → Each (λ k. reserve_stage p m < k.thread.stage) ls
+  past_reserve : (s m : ℕ) (ls : List Live) → Each (λ k. Behind p s k.thread.stage) ls → reserve_stage p m ≤ s
+      → Each (λ k. reserve_stage p m < k.thread.stage) ls
   past_reserve s m ls b h = each_map (λ k i. i.trunk (reserve_stage p m) ((sound_flows p sound).trunk_reserve m) h) ls b
 
   module _ (st : State) (d : Derived.State) (bits : List Bool) (ls : List Live) (sim : Sim p st d ls) where
     abbrev pub next : State
     next = Cycle.after_these p st bits (lacts p st d bits ls) (movers (lacts p st d bits ls)) (squasher (movers (lacts p st d bits ls)))
 
-    module _ (ks : List Live) (l : Live) (k : Known p (sound_flows p sound) st d bits sim.arrays ks l) (older : AllKnown p (sound_flows p sound) st d bits sim.arrays ks) (ordered : Ordered p ks) (behind : Each (λ k. Behind p l.thread.stage k.thread.stage) ks)
+    module _ (ks : List Live) (l : Live) (k : Known p (sound_flows p sound) st d bits sim.arrays ks l)
+        (older : AllKnown p (sound_flows p sound) st d bits sim.arrays ks) (ordered : Ordered p ks)
+        (behind : Each (λ k. Behind p l.thread.stage k.thread.stage) ks)
         (calm : fell p d bits ks ≡ false) (stays_on : is_kept (squasher (movers (lacts p st d bits ls))) l.number ≡ true) (h : Lasting p st l ks) where
       abbrev pub o : Around
       o = around p d bits (dacts p d bits ks) l.thread.stage
@@ -109,21 +115,29 @@ module _ (p : Pipe) (sound : Sound p) (strict : Strict p) where
       kind m a i = read_write (mem_at p m).lock (latest (befores (dacts p d bits ks)) m a) i
 
       -- the older threads go on beyond V
-      beyond : (v : ℕ) → (js : List Live) → AllKnown p (sound_flows p sound) st d bits sim.arrays js → Each (λ k. v < k.thread.stage) js → Each (λ k. v < k.thread.stage) (go_on p st d bits js)
+      beyond : (v : ℕ) → (js : List Live) → AllKnown p (sound_flows p sound) st d bits sim.arrays js
+          → Each (λ k. v < k.thread.stage) js → Each (λ k. v < k.thread.stage) (go_on p st d bits js)
       beyond v [] kn e = tt
       beyond v (j ∷ js) kn e = at (fell p d bits js) (beyond v js kn.1 e.1)
         where
-          at : (f : Bool) → Each (λ k. v < k.thread.stage) (go_on p st d bits js) → Each (λ k. v < k.thread.stage) ((if f then [] else next_live p st d bits js j) ++ go_on p st d bits js)
+          at : (f : Bool) → Each (λ k. v < k.thread.stage) (go_on p st d bits js)
+              → Each (λ k. v < k.thread.stage) ((if f then [] else next_live p st d bits js j) ++ go_on p st d bits js)
           at true r = r
           at false r = each_append (λ k. v < k.thread.stage) (next_live p st d bits js j) (go_on p st d bits js)
-              (each_next p (sound_flows p sound) st d bits sim.arrays (λ k. v < k.thread.stage) js j kn.0 (λ i. e.0) (λ i q g. let u = ((sound_flows p sound).graph.up j.thread.stage q (leads_of p (sound_flows p sound) st d bits sim.arrays js j kn.0 q g)).0 in let w = e.0 in omega arith)) r
+              (each_next p (sound_flows p sound) st d bits sim.arrays (λ k. v < k.thread.stage) js j kn.0 (λ i. e.0)
+              (λ i q g. let u = ((sound_flows p sound).graph.up j.thread.stage q (leads_of p (sound_flows p sound) st d bits sim.arrays js j kn.0 q g)).0 in
+              let w = e.0 in omega arith)) r
 
       -- what is ready for it stays so
       calm_block : (env : List ℕ) (op : Op) → LowBlock p l.thread.stage op → (m a : ℕ) → op ≡ Block m a
-          → (read_ready (mem_at p m).lock (latest (threads_of ks) m (slice_index env a)) ≡ true → read_ready (mem_at p m).lock (latest (threads_of (go_on p st d bits ks)) m (slice_index env a)) ≡ true)
-          × (write_ready (mem_at p m).lock (latest (threads_of ks) m (slice_index env a)) ≡ true → write_ready (mem_at p m).lock (latest (threads_of (go_on p st d bits ks)) m (slice_index env a)) ≡ true)
+          → (read_ready (mem_at p m).lock (latest (threads_of ks) m (slice_index env a)) ≡ true
+          → read_ready (mem_at p m).lock (latest (threads_of (go_on p st d bits ks)) m (slice_index env a)) ≡ true)
+          × (write_ready (mem_at p m).lock (latest (threads_of ks) m (slice_index env a)) ≡ true
+          → write_ready (mem_at p m).lock (latest (threads_of (go_on p st d bits ks)) m (slice_index env a)) ≡ true)
       calm_block env op low m a e =
-          let c = calm_next p (sound_flows p sound) st d bits sim.arrays m (slice_index env a) ks older ordered (past_reserve l.thread.stage m ks behind (low m a e)) calm in
+          let c =
+          calm_next p (sound_flows p sound) st d bits sim.arrays m (slice_index env a) ks older ordered
+          (past_reserve l.thread.stage m ks behind (low m a e)) calm in
           ((λ i. calm_read (mem_at p m).lock _ _ c i), (λ i. calm_write (mem_at p m).lock _ _ c i))
 
       -- THE THREAD STANDS
@@ -138,68 +152,147 @@ module _ (p : Pipe) (sound : Sound p) (strict : Strict p) where
       unfolding now_local
       now_asks = answered_asks p st bits l.number l.env l.kept l.thread (now_of p d bits l).env (still p bits l.thread.awaits) k.waits h.local asks_known
 
-      owns_still : (rs : List Awaited) → AllFetched p l.thread.stage rs → Owns st l.number h.local.asks rs → Owns (Cycle.after_these p st bits (lacts p st d bits ls) (movers (lacts p st d bits ls)) (squasher (movers (lacts p st d bits ls)))) l.number h.local.asks (still p bits rs)
+      owns_still : (rs : List Awaited) → AllFetched p l.thread.stage rs → Owns st l.number h.local.asks rs
+          → Owns
+          (Cycle.after_these p st bits (lacts p st d bits ls) (movers (lacts p st d bits ls)) (squasher (movers (lacts p st d bits ls)))) l.number h.local.asks
+          (still p bits rs)
       owns_still [] f i = tt
       owns_still (r ∷ rs) f i = at (is_answered p bits r.mem) refl (owns_still rs f.1 i.1)
         where
-          at : (b : Bool) → is_answered p bits r.mem ≡ b → Owns (Cycle.after_these p st bits (lacts p st d bits ls) (movers (lacts p st d bits ls)) (squasher (movers (lacts p st d bits ls)))) l.number h.local.asks (still p bits rs)
-              → Owns (Cycle.after_these p st bits (lacts p st d bits ls) (movers (lacts p st d bits ls)) (squasher (movers (lacts p st d bits ls)))) l.number h.local.asks (cond b (still p bits rs) (r ∷ still p bits rs))
+          at : (b : Bool) → is_answered p bits r.mem ≡ b
+              → Owns
+              (Cycle.after_these p st bits (lacts p st d bits ls) (movers (lacts p st d bits ls))
+              (squasher (movers (lacts p st d bits ls)))) l.number h.local.asks
+              (still p bits rs)
+              → Owns
+              (Cycle.after_these p st bits (lacts p st d bits ls) (movers (lacts p st d bits ls))
+              (squasher (movers (lacts p st d bits ls)))) l.number h.local.asks
+              (cond b (still p bits rs) (r ∷ still p bits rs))
           at true e g = g
-          at false e g = (any_ask_map (λ q j. (j.0, j.1, request_stays p (sound_flows p sound) st d bits ls sim l stays_on r.mem (q.address, j.2) f.0 e)) h.local.asks i.0, g)
+          at false e g = (
+            any_ask_map (λ q j. (j.0, j.1, request_stays p (sound_flows p sound) st d bits ls sim l stays_on r.mem (q.address, j.2) f.0 e)) h.local.asks i.0,
+            g,
+          )
 
       low_here : AllOps (LowBlock p l.thread.stage) (past_of p l.env l.thread.stage)
-      low_here = low_past l.env l.thread.stage l.thread.stage (stmts_map (λ z i. let u = among_low p (sound_flows p sound).graph l.env l.thread.stage h.local.trail h.local.walked z.stage i in omega arith) (on_way p l.env l.thread.stage) h.local.among)
+      low_here =
+          low_past l.env l.thread.stage l.thread.stage
+          (stmts_map (λ z i. let u = among_low p (sound_flows p sound).graph l.env l.thread.stage h.local.trail h.local.walked z.stage i in omega arith)
+          (on_way p l.env l.thread.stage) h.local.among)
 
-      pub lasting_stood : Lasting p (Cycle.after_these p st bits (lacts p st d bits ls) (movers (lacts p st d bits ls)) (squasher (movers (lacts p st d bits ls)))) (stood p st d bits l) (go_on p st d bits ks)
+      pub lasting_stood : Lasting p
+          (Cycle.after_these p st bits (lacts p st d bits ls) (movers (lacts p st d bits ls)) (squasher (movers (lacts p st d bits ls))))
+          (stood p st d bits l) (go_on p st d bits ks)
       lasting_stood =
           record {
             local = now_local;
-            owns = subst (λ qs. Owns (Cycle.after_these p st bits (lacts p st d bits ls) (movers (lacts p st d bits ls)) (squasher (movers (lacts p st d bits ls)))) l.number qs (still p bits l.thread.awaits)) (sym now_asks) (owns_still l.thread.awaits k.seated.keeps_on.fetched h.owns);
+            owns =
+                subst
+                (λ qs. Owns
+                (Cycle.after_these p st bits (lacts p st d bits ls) (movers (lacts p st d bits ls)) (squasher (movers (lacts p st d bits ls)))) l.number qs
+                (still p bits l.thread.awaits))
+                (sym now_asks) (owns_still l.thread.awaits k.seated.keeps_on.fetched h.owns);
             certain = λ v e i. beyond v ks older (h.certain v e i);
-            blocks = ops_both (λ op low b. block_like (look_at p (threads_of ks)) (look_at p (threads_of (go_on p st d bits ks))) l.env l.thread.entries (past_of p l.env l.thread.stage) op (λ m a e. calm_block l.env op low m a e) b) (past_of p l.env l.thread.stage) low_here h.blocks;
+            blocks =
+                ops_both
+                (λ op low b. block_like (look_at p (threads_of ks))
+                (look_at p (threads_of (go_on p st d bits ks))) l.env l.thread.entries
+                (past_of p l.env l.thread.stage) op (λ m a e. calm_block l.env op low m a e) b)
+                (past_of p l.env l.thread.stage) low_here h.blocks;
           }
 
       -- THE THREAD MOVES
 
-      module _ (moves : (did p d bits ks l).moves ≡ true) (asked : (m a : ℕ) → find_ask (work_of_live p d bits ks l).asks m ≡ Some a → asking p (sound_flows p sound) st d bits sim.arrays ls m ≡ Some (record { number = l.number; address = a })) where
+      module _ (moves : (did p d bits ks l).moves ≡ true)
+          (asked : (m a : ℕ) → find_ask (work_of_live p d bits ks l).asks m ≡ Some a
+          → asking p (sound_flows p sound) st d bits sim.arrays ls m ≡ Some (record { number = l.number; address = a })) where
         ready : (work_of_live p d bits ks l).ready ≡ true
         ready = and_right _ _ (and_left _ _ (and_left _ _ moves))
 
         now_keeps : Keeps p l.env (now_of p d bits l)
         now_keeps = keeps_now p (sound_flows p sound) st d bits sim.arrays l k.seated
 
-        block_start : AllOps (BlockOk (around p d bits (dacts p d bits ks) l.thread.stage) (now_of p d bits l).env l.thread.entries (past_of p l.env l.thread.stage)) (past_of p l.env l.thread.stage)
+        block_start : AllOps
+            (BlockOk (around p d bits (dacts p d bits ks) l.thread.stage) (now_of p d bits l).env l.thread.entries (past_of p l.env l.thread.stage))
+            (past_of p l.env l.thread.stage)
         block_start =
-            subst (λ e. AllOps (BlockOk (around p d bits (dacts p d bits ks) l.thread.stage) e l.thread.entries (past_of p l.env l.thread.stage)) (past_of p l.env l.thread.stage)) k.values
-            (kept_blocks (around p d bits (dacts p d bits ks) l.thread.stage) l.thread.entries (past_of p l.env l.thread.stage) (past_of p l.env l.thread.stage) (l.kept ++ Machine.answered_reads p st bits l.number l.thread.awaits) l.env (kept_unused p l.env (l.kept ++ Machine.answered_reads p st bits l.number l.thread.awaits) (now_of p d bits l) now_local)
-            (ops_map (λ op b. block_like (look_at p (threads_of ks)) (around p d bits (dacts p d bits ks) l.thread.stage) l.env l.thread.entries (past_of p l.env l.thread.stage) op
-            (λ m a e. ((λ i. subst (λ ts. read_ready (mem_at p m).lock (latest ts m (slice_index l.env a)) ≡ true) (sym (befores_are p d bits ks)) i), (λ i. subst (λ ts. write_ready (mem_at p m).lock (latest ts m (slice_index l.env a)) ≡ true) (sym (befores_are p d bits ks)) i))) b) (past_of p l.env l.thread.stage) h.blocks))
+            subst
+            (λ e. AllOps (BlockOk (around p d bits (dacts p d bits ks) l.thread.stage) e l.thread.entries (past_of p l.env l.thread.stage))
+            (past_of p l.env l.thread.stage)) k.values
+            (kept_blocks (around p d bits (dacts p d bits ks) l.thread.stage) l.thread.entries (past_of p l.env l.thread.stage)
+            (past_of p l.env l.thread.stage)
+            (l.kept ++ Machine.answered_reads p st bits l.number l.thread.awaits) l.env
+            (kept_unused p l.env (l.kept ++ Machine.answered_reads p st bits l.number l.thread.awaits) (now_of p d bits l) now_local)
+            (ops_map
+            (λ op b. block_like (look_at p (threads_of ks))
+            (around p d bits (dacts p d bits ks) l.thread.stage) l.env l.thread.entries (past_of p l.env l.thread.stage) op
+            (λ m a e. (
+              (λ i. subst (λ ts. read_ready (mem_at p m).lock (latest ts m (slice_index l.env a)) ≡ true) (sym (befores_are p d bits ks)) i),
+              (λ i. subst (λ ts. write_ready (mem_at p m).lock (latest ts m (slice_index l.env a)) ≡ true) (sym (befores_are p d bits ks)) i),
+            )) b)
+            (past_of p l.env l.thread.stage) h.blocks))
 
-        ended : Past (around p d bits (dacts p d bits ks) l.thread.stage) p.vars (onto (onpath (work_of_live p d bits ks l).env (in_stage l.thread.stage p.stmts)) (past_of p l.env l.thread.stage)) (work_of_live p d bits ks l)
-        ended = past_end p (sound_flows p sound) sound strict (around p d bits (dacts p d bits ks) l.thread.stage) kind l.env (l.kept ++ Machine.answered_reads p st bits l.number l.thread.awaits) (now_of p d bits l) now_keeps k.values now_local ready block_start
+        ended : Past (around p d bits (dacts p d bits ks) l.thread.stage) p.vars
+            (onto (onpath (work_of_live p d bits ks l).env (in_stage l.thread.stage p.stmts)) (past_of p l.env l.thread.stage))
+            (work_of_live p d bits ks l)
+        ended =
+            past_end p (sound_flows p sound) sound strict
+            (around p d bits (dacts p d bits ks) l.thread.stage) kind l.env
+            (l.kept ++ Machine.answered_reads p st bits l.number l.thread.awaits)
+            (now_of p d bits l) now_keeps k.values now_local ready block_start
 
-        own_requests : AllAsks (λ q. request_of (Cycle.after_these p st bits (lacts p st d bits ls) (movers (lacts p st d bits ls)) (squasher (movers (lacts p st d bits ls)))) q.mem ≡ Owned l.number q.address) (work_of_live p d bits ks l).asks
-        own_requests = each (work_of_live p d bits ks l).asks (found (work_of_live p d bits ks l).asks (apart_asks (around p d bits (dacts p d bits ks) l.thread.stage) (in_stage l.thread.stage p.stmts) (start_of (now_of p d bits l)) (sound.fetch_alone l.thread.stage) tt tt)) from_stage
+        own_requests : AllAsks
+            (λ q. request_of
+            (Cycle.after_these p st bits (lacts p st d bits ls) (movers (lacts p st d bits ls)) (squasher (movers (lacts p st d bits ls)))) q.mem
+            ≡ Owned l.number q.address)
+            (work_of_live p d bits ks l).asks
+        own_requests =
+            each (work_of_live p d bits ks l).asks
+            (found (work_of_live p d bits ks l).asks
+            (apart_asks (around p d bits (dacts p d bits ks) l.thread.stage) (in_stage l.thread.stage p.stmts)
+            (start_of (now_of p d bits l)) (sound.fetch_alone l.thread.stage) tt tt)) from_stage
           where
             from_stage : AsksFrom (in_stage l.thread.stage p.stmts) (work_of_live p d bits ks l).asks
-            from_stage = subst (λ (w : Work). AsksFrom (in_stage l.thread.stage p.stmts) w.asks) (sym (told_here p (sound_flows p sound) st d bits sim.arrays ks l k).is) (asks_here p (sound_flows p sound) st d bits sim.arrays ks l k)
+            from_stage =
+                subst (λ (w : Work). AsksFrom (in_stage l.thread.stage p.stmts) w.asks)
+                (sym (told_here p (sound_flows p sound) st d bits sim.arrays ks l k).is)
+                (asks_here p (sound_flows p sound) st d bits sim.arrays ks l k)
 
-            each : (qs : List Ask) → AllAsks (λ q. find_ask (work_of_live p d bits ks l).asks q.mem ≡ Some q.address) qs → AsksFrom (in_stage l.thread.stage p.stmts) qs
-                → AllAsks (λ q. request_of (Cycle.after_these p st bits (lacts p st d bits ls) (movers (lacts p st d bits ls)) (squasher (movers (lacts p st d bits ls)))) q.mem ≡ Owned l.number q.address) qs
+            each : (qs : List Ask) → AllAsks (λ q. find_ask (work_of_live p d bits ks l).asks q.mem ≡ Some q.address) qs
+                → AsksFrom (in_stage l.thread.stage p.stmts) qs
+                → AllAsks
+                (λ q. request_of
+                (Cycle.after_these p st bits (lacts p st d bits ls) (movers (lacts p st d bits ls)) (squasher (movers (lacts p st d bits ls)))) q.mem
+                ≡ Owned l.number q.address) qs
             each [] f a = tt
-            each (q ∷ qs) f a = (request_made p (sound_flows p sound) st d bits ls sim l stays_on q.mem q.address (fetch_low p (sound_flows p sound) q.mem l.thread.stage a.0) (asked q.mem q.address f.0), each qs f.1 a.1)
+            each (q ∷ qs) f a = (
+              request_made p (sound_flows p sound) st d bits ls sim l stays_on q.mem q.address (fetch_low p (sound_flows p sound) q.mem l.thread.stage a.0)
+                  (asked q.mem q.address f.0),
+              each qs f.1 a.1,
+            )
 
         -- a barrier found nobody before V
-        past_barrier : (v : ℕ) → verify_stage p.stmts ≡ Some v → some_barrier (onpath (work_of_live p d bits ks l).env (in_stage l.thread.stage p.stmts)) ≡ true → Each (λ j. v < j.thread.stage) ks
+        past_barrier : (v : ℕ) → verify_stage p.stmts ≡ Some v
+            → some_barrier (onpath (work_of_live p d bits ks l).env (in_stage l.thread.stage p.stmts)) ≡ true
+            → Each (λ j. v < j.thread.stage) ks
         past_barrier v e b = at (stage_at p l.thread.stage).branch refl
           where
             clear : Derived.barrier_clear (Some v) l.thread.stage (threads_of ks) ≡ true
-            clear = subst (λ ts. Derived.barrier_clear (Some v) l.thread.stage ts ≡ true) (befores_are p d bits ks) (subst (λ r. Derived.barrier_clear r l.thread.stage (befores (dacts p d bits ks)) ≡ true) e
-                (clear_all (work_of_live p d bits ks l).env (around p d bits (dacts p d bits ks) l.thread.stage) (in_stage l.thread.stage p.stmts) (start_of (now_of p d bits l)) (fixed_here p (sound_flows p sound) l.env (now_of p d bits l) now_keeps (around p d bits (dacts p d bits ks) l.thread.stage)) b ready))
+            clear =
+                subst (λ ts. Derived.barrier_clear (Some v) l.thread.stage ts ≡ true) (befores_are p d bits ks)
+                (subst (λ r. Derived.barrier_clear r l.thread.stage (befores (dacts p d bits ks)) ≡ true) e
+                (clear_all (work_of_live p d bits ks l).env (around p d bits (dacts p d bits ks) l.thread.stage)
+                (in_stage l.thread.stage p.stmts) (start_of (now_of p d bits l))
+                (fixed_here p (sound_flows p sound) l.env (now_of p d bits l) now_keeps (around p d bits (dacts p d bits ks) l.thread.stage)) b ready))
 
-            each : (js : List Live) → Each (λ j. l.thread.stage < j.thread.stage) js → Derived.barrier_clear (Some v) l.thread.stage (threads_of js) ≡ true → Each (λ j. v < j.thread.stage) js
+            each : (js : List Live) → Each (λ j. l.thread.stage < j.thread.stage) js
+                → Derived.barrier_clear (Some v) l.thread.stage (threads_of js) ≡ true
+                → Each (λ j. v < j.thread.stage) js
             each [] s c = tt
-            each (j ∷ js) s c = (one (nat_le j.thread.stage l.thread.stage) refl (and_left _ _ c), each js s.1 (and_right (nat_le j.thread.stage l.thread.stage || nat_lt v j.thread.stage) _ c))
+            each (j ∷ js) s c = (
+              one (nat_le j.thread.stage l.thread.stage) refl (and_left _ _ c),
+              each js s.1 (and_right (nat_le j.thread.stage l.thread.stage || nat_lt v j.thread.stage) _ c),
+            )
               where
                 one : (t : Bool) → nat_le j.thread.stage l.thread.stage ≡ t → (t || nat_lt v j.thread.stage) ≡ true → v < j.thread.stage
                 one true i u = absurd (let w = leb-true _ _ i in let y = s.0 in omega arith)
@@ -207,40 +300,93 @@ module _ (p : Pipe) (sound : Sound p) (strict : Strict p) where
 
             at : (c : Option Branch) → (stage_at p l.thread.stage).branch ≡ c → Each (λ j. v < j.thread.stage) ks
             at None i = each ks (each_map (λ j g. g.trunk l.thread.stage i (le_refl l.thread.stage)) ks behind) clear
-            at (Some x) i = absurd (not_barred (in_stage l.thread.stage p.stmts) (work_of_live p d bits ks l).env ((sound_flows p sound).branches l.thread.stage x i) b)
+            at (Some x) i =
+                absurd (not_barred (in_stage l.thread.stage p.stmts) (work_of_live p d bits ks l).env ((sound_flows p sound).branches l.thread.stage x i) b)
 
-        abbrev moved_local : (q : ℕ) → goes_to (stage_at p l.thread.stage).next (work_of_live p d bits ks l).env ≡ Some q → Local p (work_of_live p d bits ks l).env [] (moved_one q l (work_of_live p d bits ks l)).thread
-        moved_local q goes = local_moved p (sound_flows p sound) sound strict (around p d bits (dacts p d bits ks) l.thread.stage) kind l.env (l.kept ++ Machine.answered_reads p st bits l.number l.thread.awaits) (now_of p d bits l) now_keeps k.values now_local ready q goes block_start
+        abbrev moved_local : (q : ℕ)
+            → goes_to (stage_at p l.thread.stage).next (work_of_live p d bits ks l).env ≡ Some q
+            → Local p (work_of_live p d bits ks l).env [] (moved_one q l (work_of_live p d bits ks l)).thread
+        moved_local q goes =
+            local_moved p (sound_flows p sound) sound strict
+            (around p d bits (dacts p d bits ks) l.thread.stage) kind l.env
+            (l.kept ++ Machine.answered_reads p st bits l.number l.thread.awaits)
+            (now_of p d bits l) now_keeps k.values now_local ready q goes block_start
 
-        trail_moved : (q : ℕ) (goes : goes_to (stage_at p l.thread.stage).next (work_of_live p d bits ks l).env ≡ Some q) → (moved_local q goes).trail ≡ l.thread.stage ∷ now_local.trail
-        trail_moved q goes = moved_trail p (sound_flows p sound) sound strict (around p d bits (dacts p d bits ks) l.thread.stage) kind l.env (l.kept ++ Machine.answered_reads p st bits l.number l.thread.awaits) (now_of p d bits l) now_keeps k.values now_local ready q goes block_start
+        trail_moved : (q : ℕ) (goes : goes_to (stage_at p l.thread.stage).next (work_of_live p d bits ks l).env ≡ Some q)
+            → (moved_local q goes).trail ≡ l.thread.stage ∷ now_local.trail
+        trail_moved q goes =
+            moved_trail p (sound_flows p sound) sound strict
+            (around p d bits (dacts p d bits ks) l.thread.stage) kind l.env
+            (l.kept ++ Machine.answered_reads p st bits l.number l.thread.awaits)
+            (now_of p d bits l) now_keeps k.values now_local ready q goes block_start
 
         pub lasting_moved : (q : ℕ) → goes_to (stage_at p l.thread.stage).next (work_of_live p d bits ks l).env ≡ Some q
-            → Lasting p (Cycle.after_these p st bits (lacts p st d bits ls) (movers (lacts p st d bits ls)) (squasher (movers (lacts p st d bits ls)))) (moved_one q l (work_of_live p d bits ks l)) (go_on p st d bits ks)
+            → Lasting p (Cycle.after_these p st bits (lacts p st d bits ls) (movers (lacts p st d bits ls)) (squasher (movers (lacts p st d bits ls))))
+            (moved_one q l (work_of_live p d bits ks l)) (go_on p st d bits ks)
         lasting_moved q goes =
             record {
               local = moved_local q goes;
-              owns = subst (λ qs. Owns (Cycle.after_these p st bits (lacts p st d bits ls) (movers (lacts p st d bits ls)) (squasher (movers (lacts p st d bits ls)))) l.number qs (awaited_of (work_of_live p d bits ks l).asks)) (sym (moved_asks p (sound_flows p sound) sound strict (around p d bits (dacts p d bits ks) l.thread.stage) kind l.env (l.kept ++ Machine.answered_reads p st bits l.number l.thread.awaits) (now_of p d bits l) now_keeps k.values now_local ready q goes block_start))
-                  (owns_made (Cycle.after_these p st bits (lacts p st d bits ls) (movers (lacts p st d bits ls)) (squasher (movers (lacts p st d bits ls)))) l.number (work_of_live p d bits ks l).asks own_requests);
-              certain = λ v e i. beyond v ks older (before v e (barred_onto (onpath (work_of_live p d bits ks l).env (in_stage l.thread.stage p.stmts)) (past_of p l.env l.thread.stage) (subst (λ ops. barred ops ≡ true) is_past i)));
-              blocks = subst (λ ops. AllOps (BlockOk (look_at p (threads_of (go_on p st d bits ks))) (work_of_live p d bits ks l).env (work_of_live p d bits ks l).entries ops) ops) (sym is_past)
-                  (ops_both (λ op low b. block_like (around p d bits (dacts p d bits ks) l.thread.stage) (look_at p (threads_of (go_on p st d bits ks))) (work_of_live p d bits ks l).env (work_of_live p d bits ks l).entries (onto (onpath (work_of_live p d bits ks l).env (in_stage l.thread.stage p.stmts)) (past_of p l.env l.thread.stage)) op
+              owns =
+                  subst
+                  (λ qs. Owns
+                  (Cycle.after_these p st bits (lacts p st d bits ls) (movers (lacts p st d bits ls)) (squasher (movers (lacts p st d bits ls)))) l.number qs
+                  (awaited_of (work_of_live p d bits ks l).asks))
+                  (sym
+                  (moved_asks p (sound_flows p sound) sound strict
+                  (around p d bits (dacts p d bits ks) l.thread.stage) kind l.env
+                  (l.kept ++ Machine.answered_reads p st bits l.number l.thread.awaits)
+                  (now_of p d bits l) now_keeps k.values now_local ready q goes block_start))
+                  (owns_made
+                  (Cycle.after_these p st bits (lacts p st d bits ls) (movers (lacts p st d bits ls)) (squasher (movers (lacts p st d bits ls)))) l.number
+                  (work_of_live p d bits ks l).asks own_requests);
+              certain =
+                  λ v e i. beyond v ks older
+                  (before v e
+                  (barred_onto (onpath (work_of_live p d bits ks l).env (in_stage l.thread.stage p.stmts))
+                  (past_of p l.env l.thread.stage) (subst (λ ops. barred ops ≡ true) is_past i)));
+              blocks =
+                  subst
+                  (λ ops. AllOps
+                  (BlockOk (look_at p (threads_of (go_on p st d bits ks))) (work_of_live p d bits ks l).env (work_of_live p d bits ks l).entries ops) ops)
+                  (sym is_past)
+                  (ops_both
+                  (λ op low b. block_like (around p d bits (dacts p d bits ks) l.thread.stage)
+                  (look_at p (threads_of (go_on p st d bits ks)))
+                  (work_of_live p d bits ks l).env (work_of_live p d bits ks l).entries
+                  (onto (onpath (work_of_live p d bits ks l).env (in_stage l.thread.stage p.stmts)) (past_of p l.env l.thread.stage)) op
                   (λ m a e. let c = calm_block (work_of_live p d bits ks l).env op low m a e in (
-                    (λ i. c.0 (subst (λ ts. read_ready (mem_at p m).lock (latest ts m (slice_index (work_of_live p d bits ks l).env a)) ≡ true) (befores_are p d bits ks) i)),
-                    (λ i. c.1 (subst (λ ts. write_ready (mem_at p m).lock (latest ts m (slice_index (work_of_live p d bits ks l).env a)) ≡ true) (befores_are p d bits ks) i)),
+                    (λ i. c.0
+                        (subst (λ ts. read_ready (mem_at p m).lock (latest ts m (slice_index (work_of_live p d bits ks l).env a)) ≡ true)
+                        (befores_are p d bits ks) i)),
+                    (λ i. c.1
+                        (subst (λ ts. write_ready (mem_at p m).lock (latest ts m (slice_index (work_of_live p d bits ks l).env a)) ≡ true)
+                        (befores_are p d bits ks) i)),
                   )) b)
                   (onto (onpath (work_of_live p d bits ks l).env (in_stage l.thread.stage p.stmts)) (past_of p l.env l.thread.stage)) low_end ended.blocks);
             }
           where
-            is_past : past_of p (work_of_live p d bits ks l).env q ≡ onto (onpath (work_of_live p d bits ks l).env (in_stage l.thread.stage p.stmts)) (past_of p l.env l.thread.stage)
-            is_past = past_q p (sound_flows p sound) sound strict (around p d bits (dacts p d bits ks) l.thread.stage) kind l.env (l.kept ++ Machine.answered_reads p st bits l.number l.thread.awaits) (now_of p d bits l) now_keeps k.values now_local ready q goes
+            is_past : past_of p (work_of_live p d bits ks l).env q
+                ≡ onto (onpath (work_of_live p d bits ks l).env (in_stage l.thread.stage p.stmts)) (past_of p l.env l.thread.stage)
+            is_past =
+                past_q p (sound_flows p sound) sound strict
+                (around p d bits (dacts p d bits ks) l.thread.stage) kind l.env
+                (l.kept ++ Machine.answered_reads p st bits l.number l.thread.awaits)
+                (now_of p d bits l) now_keeps k.values now_local ready q goes
 
-            before : (v : ℕ) → verify_stage p.stmts ≡ Some v → (some_barrier (onpath (work_of_live p d bits ks l).env (in_stage l.thread.stage p.stmts)) ≡ true) ⊎ (barred (past_of p l.env l.thread.stage) ≡ true) → Each (λ j. v < j.thread.stage) ks
+            before : (v : ℕ) → verify_stage p.stmts ≡ Some v
+                → (some_barrier (onpath (work_of_live p d bits ks l).env (in_stage l.thread.stage p.stmts)) ≡ true)
+                ⊎ (barred (past_of p l.env l.thread.stage) ≡ true)
+                → Each (λ j. v < j.thread.stage) ks
             before v e (inl i) = past_barrier v e i
             before v e (inr i) = h.certain v e i
 
-            low_end : AllOps (LowBlock p l.thread.stage) (onto (onpath (work_of_live p d bits ks l).env (in_stage l.thread.stage p.stmts)) (past_of p l.env l.thread.stage))
-            low_end = subst (λ ops. AllOps (LowBlock p l.thread.stage) ops) is_past (low_past (work_of_live p d bits ks l).env q l.thread.stage (stmts_map (λ z i. at z.stage (subst (λ t. Among z.stage t) (trail_moved q goes) i)) (on_way p (work_of_live p d bits ks l).env q) (moved_local q goes).among))
+            low_end : AllOps (LowBlock p l.thread.stage)
+                (onto (onpath (work_of_live p d bits ks l).env (in_stage l.thread.stage p.stmts)) (past_of p l.env l.thread.stage))
+            low_end =
+                subst (λ ops. AllOps (LowBlock p l.thread.stage) ops) is_past
+                (low_past (work_of_live p d bits ks l).env q l.thread.stage
+                (stmts_map (λ z i. at z.stage (subst (λ t. Among z.stage t) (trail_moved q goes) i))
+                (on_way p (work_of_live p d bits ks l).env q) (moved_local q goes).among))
               where
                 at : (s : ℕ) → Among s (l.thread.stage ∷ now_local.trail) → s ≤ l.thread.stage
                 at s (inl e) = let i = e in omega arith

@@ -66,7 +66,9 @@ asks_are : (path : List ℕ) (o : Around) (xs : List Stmt) (w : Work) → Fixed 
 asks_are path o [] w f = sym (append-nil _)
 asks_are path o (x ∷ xs) w f = asks_are path o xs (step o x w) f.1 ∙ at (all_hold x.guards w.env) (all_hold x.guards path) f.0
   where
-    at : (b c : Bool) → b ≡ c → awaited_of (cond b (work_after o x.op w) w).asks ++ fetches_of (onpath path xs) ≡ awaited_of w.asks ++ fetches_of (cond c (record x { guards = [] } ∷ onpath path xs) (onpath path xs))
+    at : (b c : Bool) → b ≡ c
+        → awaited_of (cond b (work_after o x.op w) w).asks ++ fetches_of (onpath path xs)
+        ≡ awaited_of w.asks ++ fetches_of (cond c (record x { guards = [] } ∷ onpath path xs) (onpath path xs))
     at true true e = ap (λ l. l ++ fetches_of (onpath path xs)) (asks_op o x.op w) ∙ append_assoc (awaited_of w.asks) (fetch_of x.op) _
     at true false e = absurd (cc e)
     at false true e = absurd (cc e)
@@ -117,7 +119,9 @@ any_front test (x ∷ xs) ys h = at (test x) h (λ k. any_front test xs ys k)
 fetches_in : (xs : List Stmt) → AllStmts (λ z. HeldOp [] (fetches_of xs) z.op) xs
 fetches_in [] = tt
 fetches_in (y ∷ ys) = (
-  (λ x m a e. any_front (λ (r : Awaited). (r.var == x) && (r.mem == m)) (fetch_of y.op) (fetches_of ys) (ap (λ op. list_any (λ (r : Awaited). (r.var == x) && (r.mem == m)) (fetch_of op)) e ∙ ap₂ (λ a b. (a && b) || false) (eq-eqb x x refl) (eq-eqb m m refl))),
+  (λ x m a e. any_front (λ (r : Awaited). (r.var == x) && (r.mem == m)) (fetch_of y.op) (fetches_of ys)
+      (ap (λ op. list_any (λ (r : Awaited). (r.var == x) && (r.mem == m)) (fetch_of op)) e
+      ∙ ap₂ (λ a b. (a && b) || false) (eq-eqb x x refl) (eq-eqb m m refl))),
   stmts_map (λ z h x m a e. any_append (λ (r : Awaited). (r.var == x) && (r.mem == m)) (fetch_of y.op) (fetches_of ys) (h x m a e)) ys (fetches_in ys),
 )
 
@@ -136,7 +140,8 @@ count_append : (test : Stmt → Bool) (xs ys : List Stmt) → count test (xs ++ 
 count_append test [] ys = omega arith
 count_append test (x ∷ xs) ys = at (test x) (count_append test xs ys)
   where
-    at : (b : Bool) → count test (xs ++ ys) ≡ count test xs + count test ys → cond b (1 + count test (xs ++ ys)) (count test (xs ++ ys)) ≡ cond b (1 + count test xs) (count test xs) + count test ys
+    at : (b : Bool) → count test (xs ++ ys) ≡ count test xs + count test ys
+        → cond b (1 + count test (xs ++ ys)) (count test (xs ++ ys)) ≡ cond b (1 + count test xs) (count test xs) + count test ys
     at true h = omega arith
     at false h = h
 
@@ -152,7 +157,8 @@ count_fetch : (xs : List Stmt) → length (fetches_of xs) ≡ count (λ (x : Stm
 count_fetch [] = refl
 count_fetch (x ∷ xs) = length-append (fetch_of x.op) (fetches_of xs) ∙ ap₂ (λ a b. a + b) (fetch_one x.op) (count_fetch xs) ∙ at (is_fetch x.op)
   where
-    at : (b : Bool) → cond b 1 0 + count (λ (x : Stmt). is_fetch x.op) xs ≡ cond b (1 + count (λ (x : Stmt). is_fetch x.op) xs) (count (λ (x : Stmt). is_fetch x.op) xs)
+    at : (b : Bool)
+        → cond b 1 0 + count (λ (x : Stmt). is_fetch x.op) xs ≡ cond b (1 + count (λ (x : Stmt). is_fetch x.op) xs) (count (λ (x : Stmt). is_fetch x.op) xs)
     at true = refl
     at false = omega arith
 
@@ -215,7 +221,9 @@ kept_more P (x ∷ xs) ys h k = (h.0, kept_more P xs ys h.1 k)
 module _ (p : Pipe) (st : State) (bits : List Bool) (n : ℕ) where
   answers_kept : (P : ℕ → Type 0) (rs : List Awaited) → AllAwaited (λ r. P r.var) rs → AllKept (λ k. P k.var) (Machine.answered_reads p st bits n rs)
   answers_kept P [] h = tt
-  answers_kept P (r ∷ rs) h = kept_more (λ k. P k.var) (kept_answer r.var (answer_for p st bits n r.mem)) (Machine.answered_reads p st bits n rs) (at (answer_for p st bits n r.mem)) (answers_kept P rs h.1)
+  answers_kept P (r ∷ rs) h =
+      kept_more (λ k. P k.var) (kept_answer r.var (answer_for p st bits n r.mem))
+      (Machine.answered_reads p st bits n rs) (at (answer_for p st bits n r.mem)) (answers_kept P rs h.1)
     where
       at : (x : Option ℕ) → AllKept (λ k. P k.var) (kept_answer r.var x)
       at None = tt
@@ -226,11 +234,14 @@ module _ (p : Pipe) (st : State) (bits : List Bool) (n : ℕ) where
   answers_count (r ∷ rs) = at (answer_for p st bits n r.mem) (answers_count rs)
     where
       at : (x : Option ℕ) → length (unanswered_reads p st bits n rs) + length (Machine.answered_reads p st bits n rs) ≡ length rs
-          → length ((if is_some x then [] else r ∷ []) ++ unanswered_reads p st bits n rs) + length (kept_answer r.var x ++ Machine.answered_reads p st bits n rs) ≡ suc (length rs)
+          → length ((if is_some x then [] else r ∷ []) ++ unanswered_reads p st bits n rs) + length
+          (kept_answer r.var x ++ Machine.answered_reads p st bits n rs)
+          ≡ suc (length rs)
       at None h = omega arith
       at (Some v) h = omega arith
 
-  answers_share : (x m : ℕ) (rs : List Awaited) → list_any (λ r. (r.var == x) && (r.mem == m)) rs ≡ true → held_in (Machine.answered_reads p st bits n rs) (unanswered_reads p st bits n rs) x m ≡ true
+  answers_share : (x m : ℕ) (rs : List Awaited) → list_any (λ r. (r.var == x) && (r.mem == m)) rs ≡ true
+      → held_in (Machine.answered_reads p st bits n rs) (unanswered_reads p st bits n rs) x m ≡ true
   answers_share x m [] h = absurd (cc h)
   answers_share x m (r ∷ rs) h = at (answer_for p st bits n r.mem) ((r.var == x) && (r.mem == m)) refl h (λ k. answers_share x m rs k)
     where
@@ -248,24 +259,49 @@ module _ (p : Pipe) (st : State) (bits : List Bool) (n : ℕ) where
       or_in true b = refl
       or_in false b = refl
 
-      at : (o : Option ℕ) (b : Bool) → ((r.var == x) && (r.mem == m)) ≡ b → (b || list_any (λ r. (r.var == x) && (r.mem == m)) rs) ≡ true → (list_any (λ r. (r.var == x) && (r.mem == m)) rs ≡ true → held_in (Machine.answered_reads p st bits n rs) (unanswered_reads p st bits n rs) x m ≡ true)
-          → held_in (kept_answer r.var o ++ Machine.answered_reads p st bits n rs) ((if is_some o then [] else r ∷ []) ++ unanswered_reads p st bits n rs) x m ≡ true
-      at None true e h f = ap (λ c. list_any (λ k. k.var == x) (Machine.answered_reads p st bits n rs) || (c || list_any (λ r. (r.var == x) && (r.mem == m)) (unanswered_reads p st bits n rs))) e ∙ or_in (list_any (λ k. k.var == x) (Machine.answered_reads p st bits n rs)) (list_any (λ r. (r.var == x) && (r.mem == m)) (unanswered_reads p st bits n rs))
-      at None false e h f = last (list_any (λ k. k.var == x) (Machine.answered_reads p st bits n rs)) (list_any (λ r. (r.var == x) && (r.mem == m)) (unanswered_reads p st bits n rs)) ((r.var == x) && (r.mem == m)) (f h)
-      at (Some v) true e h f = ap (λ c. (c || list_any (λ k. k.var == x) (Machine.answered_reads p st bits n rs)) || list_any (λ r. (r.var == x) && (r.mem == m)) (unanswered_reads p st bits n rs)) (and_left _ _ e)
-      at (Some v) false e h f = first (list_any (λ k. k.var == x) (Machine.answered_reads p st bits n rs)) (list_any (λ r. (r.var == x) && (r.mem == m)) (unanswered_reads p st bits n rs)) (r.var == x) (f h)
+      at : (o : Option ℕ) (b : Bool) → ((r.var == x) && (r.mem == m)) ≡ b
+          → (b || list_any (λ r. (r.var == x) && (r.mem == m)) rs) ≡ true
+          → (list_any (λ r. (r.var == x) && (r.mem == m)) rs ≡ true
+          → held_in (Machine.answered_reads p st bits n rs) (unanswered_reads p st bits n rs) x m ≡ true)
+          → held_in (kept_answer r.var o ++ Machine.answered_reads p st bits n rs) ((if is_some o then [] else r ∷ []) ++ unanswered_reads p st bits n rs) x m
+          ≡ true
+      at None true e h f =
+          ap
+          (λ c. list_any (λ k. k.var == x) (Machine.answered_reads p st bits n rs)
+          || (c || list_any (λ r. (r.var == x) && (r.mem == m)) (unanswered_reads p st bits n rs))) e
+          ∙ or_in (list_any (λ k. k.var == x) (Machine.answered_reads p st bits n rs))
+          (list_any (λ r. (r.var == x) && (r.mem == m)) (unanswered_reads p st bits n rs))
+      at None false e h f =
+          last (list_any (λ k. k.var == x) (Machine.answered_reads p st bits n rs))
+          (list_any (λ r. (r.var == x) && (r.mem == m)) (unanswered_reads p st bits n rs))
+          ((r.var == x) && (r.mem == m)) (f h)
+      at (Some v) true e h f =
+          ap
+          (λ c. (c || list_any (λ k. k.var == x) (Machine.answered_reads p st bits n rs))
+          || list_any (λ r. (r.var == x) && (r.mem == m)) (unanswered_reads p st bits n rs))
+          (and_left _ _ e)
+      at (Some v) false e h f =
+          first (list_any (λ k. k.var == x) (Machine.answered_reads p st bits n rs))
+          (list_any (λ r. (r.var == x) && (r.mem == m)) (unanswered_reads p st bits n rs)) (r.var == x) (f h)
 
-  held_more : (kept : List Kept) (rs : List Awaited) (x m : ℕ) → held_in kept rs x m ≡ true → held_in (kept ++ Machine.answered_reads p st bits n rs) (unanswered_reads p st bits n rs) x m ≡ true
+  held_more : (kept : List Kept) (rs : List Awaited) (x m : ℕ) → held_in kept rs x m ≡ true
+      → held_in (kept ++ Machine.answered_reads p st bits n rs) (unanswered_reads p st bits n rs) x m ≡ true
   held_more [] rs x m h = answers_share x m rs h
   held_more (k ∷ kept) rs x m h = at (k.var == x) h (λ i. held_more kept rs x m i)
     where
-      at : (b : Bool) → ((b || list_any (λ k. k.var == x) kept) || list_any (λ r. (r.var == x) && (r.mem == m)) rs) ≡ true → (held_in kept rs x m ≡ true → held_in (kept ++ Machine.answered_reads p st bits n rs) (unanswered_reads p st bits n rs) x m ≡ true)
-          → ((b || list_any (λ k. k.var == x) (kept ++ Machine.answered_reads p st bits n rs)) || list_any (λ r. (r.var == x) && (r.mem == m)) (unanswered_reads p st bits n rs)) ≡ true
+      at : (b : Bool)
+          → ((b || list_any (λ k. k.var == x) kept) || list_any (λ r. (r.var == x) && (r.mem == m)) rs) ≡ true
+          → (held_in kept rs x m ≡ true → held_in (kept ++ Machine.answered_reads p st bits n rs) (unanswered_reads p st bits n rs) x m ≡ true)
+          → ((b || list_any (λ k. k.var == x) (kept ++ Machine.answered_reads p st bits n rs))
+          || list_any (λ r. (r.var == x) && (r.mem == m)) (unanswered_reads p st bits n rs))
+          ≡ true
       at true i f = refl
       at false i f = f i
 
   -- as answers come
-  pub local_answered : (env : List ℕ) (kept : List Kept) (t : Derived.Thread) (values : List ℕ) (rs : List Awaited) → unanswered_reads p st bits n t.awaits ≡ rs → (loc : Local p env kept t) → AllAwaited (λ r. AnyAsk (λ q. q.var ≡ r.var) loc.asks) t.awaits
+  pub local_answered : (env : List ℕ) (kept : List Kept) (t : Derived.Thread) (values : List ℕ) (rs : List Awaited)
+      → unanswered_reads p st bits n t.awaits ≡ rs → (loc : Local p env kept t)
+      → AllAwaited (λ r. AnyAsk (λ q. q.var ≡ r.var) loc.asks) t.awaits
       → Local p env (kept ++ Machine.answered_reads p st bits n t.awaits) (record t { env = values; awaits = rs })
   local_answered env kept t values rs e loc h =
       record {
@@ -279,15 +315,28 @@ module _ (p : Pipe) (st : State) (bits : List Bool) (n : ℕ) where
         asked = loc.asked;
         unused = loc.unused;
         steady = loc.steady;
-        kept_in = kept_more (λ k. AnyAsk (λ q. q.var ≡ k.var) loc.asks) kept (Machine.answered_reads p st bits n t.awaits) loc.kept_in (answers_kept (λ v. AnyAsk (λ q. q.var ≡ v) loc.asks) t.awaits h);
-        held = stmts_map (λ z f i x m a j. subst (λ l. held_in (kept ++ Machine.answered_reads p st bits n t.awaits) l x m ≡ true) e (held_more kept t.awaits x m (f i x m a j))) (on_way p env t.stage) loc.held;
-        total = ap (λ l. length l + length (kept ++ Machine.answered_reads p st bits n t.awaits)) (sym e) ∙ ap (λ k. length (unanswered_reads p st bits n t.awaits) + k) (length-append kept (Machine.answered_reads p st bits n t.awaits)) ∙ flip (length (unanswered_reads p st bits n t.awaits)) (length kept) (length (Machine.answered_reads p st bits n t.awaits)) ∙ ap (λ k. k + length kept) (answers_count t.awaits) ∙ loc.total;
+        kept_in =
+            kept_more (λ k. AnyAsk (λ q. q.var ≡ k.var) loc.asks) kept
+            (Machine.answered_reads p st bits n t.awaits) loc.kept_in
+            (answers_kept (λ v. AnyAsk (λ q. q.var ≡ v) loc.asks) t.awaits h);
+        held =
+            stmts_map
+            (λ z f i x m a j. subst (λ l. held_in (kept ++ Machine.answered_reads p st bits n t.awaits) l x m ≡ true) e
+            (held_more kept t.awaits x m (f i x m a j)))
+            (on_way p env t.stage) loc.held;
+        total =
+            ap (λ l. length l + length (kept ++ Machine.answered_reads p st bits n t.awaits)) (sym e)
+            ∙ ap (λ k. length (unanswered_reads p st bits n t.awaits) + k) (length-append kept (Machine.answered_reads p st bits n t.awaits))
+            ∙ flip (length (unanswered_reads p st bits n t.awaits)) (length kept) (length (Machine.answered_reads p st bits n t.awaits))
+            ∙ ap (λ k. k + length kept) (answers_count t.awaits) ∙ loc.total;
       }
     where
       flip : (a b c : ℕ) → a + (b + c) ≡ (a + c) + b
       flip a b c = omega arith
 
-  pub answered_asks : (env : List ℕ) (kept : List Kept) (t : Derived.Thread) (values : List ℕ) (rs : List Awaited) → (e : unanswered_reads p st bits n t.awaits ≡ rs) → (loc : Local p env kept t) → (h : AllAwaited (λ r. AnyAsk (λ q. q.var ≡ r.var) loc.asks) t.awaits)
+  pub answered_asks : (env : List ℕ) (kept : List Kept) (t : Derived.Thread) (values : List ℕ) (rs : List Awaited)
+      → (e : unanswered_reads p st bits n t.awaits ≡ rs) → (loc : Local p env kept t)
+      → (h : AllAwaited (λ r. AnyAsk (λ q. q.var ≡ r.var) loc.asks) t.awaits)
       → (local_answered env kept t values rs e loc h).asks ≡ loc.asks
   unfolding local_answered
   answered_asks env kept t values rs e loc h = refl
@@ -339,13 +388,15 @@ kept_done : (guess : List ℕ) (past : List Op) (kept : List Kept) (env : List �
     → AllOps (Done (with_kept kept env) guess) past
 kept_done guess past [] env u h = h
 kept_done guess past (k ∷ kept) env u h =
-    kept_done guess past kept (slice_set env k.var k.word) u.1 (ops_both (λ op t d. done_agrees env (slice_set env k.var k.word) guess op (set_agrees k.var k.word op env t) d) past u.0 h)
+    kept_done guess past kept (slice_set env k.var k.word) u.1
+    (ops_both (λ op t d. done_agrees env (slice_set env k.var k.word) guess op (set_agrees k.var k.word op env t) d) past u.0 h)
 
 kept_placed : (past : List Op) (es : List Entry) (kept : List Kept) (env : List ℕ)
     → AllKept (λ k. AllOps (λ op. touches k.var op ≡ false) past) kept → AllPlaced env past es
     → AllPlaced (with_kept kept env) past es
 kept_placed past es [] env u h = h
-kept_placed past es (k ∷ kept) env u h = kept_placed past es kept (slice_set env k.var k.word) u.1 (placed_set k.var k.word env past es (none_touched k.var past u.0) h)
+kept_placed past es (k ∷ kept) env u h =
+    kept_placed past es kept (slice_set env k.var k.word) u.1 (placed_set k.var k.word env past es (none_touched k.var past u.0) h)
 
 kept_long : (n : ℕ) (kept : List Kept) (env : List ℕ) → n ≤ length env → n ≤ length (with_kept kept env)
 kept_long n [] env h = h
@@ -365,13 +416,21 @@ kept_map f (k ∷ ks) h = (f k h.0, kept_map f ks h.1)
 -- kept answers are for variables on which nothing hangs
 pub kept_unused : (p : Pipe) (env : List ℕ) (kept : List Kept) (t : Derived.Thread) → (loc : Local p env kept t)
     → AllKept (λ k. AllOps (λ op. touches k.var op ≡ false) (past_of p env t.stage)) kept
-kept_unused p env kept t loc = kept_map (λ k i. let a = any_of (λ q. AllOps (λ op. touches q.var op ≡ false) (past_of p env t.stage)) (λ q. q.var ≡ k.var) loc.asks loc.unused i in subst (λ v. AllOps (λ op. touches v op ≡ false) (past_of p env t.stage)) a.2 a.1) kept loc.kept_in
+kept_unused p env kept t loc =
+    kept_map
+    (λ k i. let a = any_of (λ q. AllOps (λ op. touches q.var op ≡ false) (past_of p env t.stage)) (λ q. q.var ≡ k.var) loc.asks loc.unused i in
+    subst (λ v. AllOps (λ op. touches v op ≡ false) (past_of p env t.stage)) a.2 a.1) kept loc.kept_in
 
 kept_steady : (p : Pipe) (env : List ℕ) (kept : List Kept) (t : Derived.Thread) → (loc : Local p env kept t)
     → AllKept (λ k. Steady p loc.trail k.var) kept
-kept_steady p env kept t loc = kept_map (λ k i. let a = any_of (λ q. Steady p loc.trail q.var) (λ q. q.var ≡ k.var) loc.asks loc.steady i in subst (λ v. Steady p loc.trail v) a.2 a.1) kept loc.kept_in
+kept_steady p env kept t loc =
+    kept_map
+    (λ k i. let a = any_of (λ q. Steady p loc.trail q.var) (λ q. q.var ≡ k.var) loc.asks loc.steady i in
+    subst (λ v. Steady p loc.trail v) a.2 a.1) kept loc.kept_in
 
-module _ (p : Pipe) (flows : Flows p) (sound : Sound p) (strict : Strict p) (o : Around) (kind : Kind o) (env : List ℕ) (kept : List Kept) (t : Derived.Thread) (kept_answer : Keeps p env t) (values : with_kept kept env ≡ t.env) (loc : Local p env kept t) (ready : (work_of_stage p o t).ready ≡ true) where
+module _ (p : Pipe) (flows : Flows p) (sound : Sound p) (strict : Strict p) (o : Around) (kind : Kind o) (env : List ℕ)
+    (kept : List Kept) (t : Derived.Thread) (kept_answer : Keeps p env t) (values : with_kept kept env ≡ t.env)
+    (loc : Local p env kept t) (ready : (work_of_stage p o t).ready ≡ true) where
   abbrev pub mine : List Stmt
   mine = onpath (work_of_stage p o t).env (in_stage t.stage p.stmts)
 
@@ -380,22 +439,39 @@ module _ (p : Pipe) (flows : Flows p) (sound : Sound p) (strict : Strict p) (o :
   past_start blocks =
       record {
         long = subst (λ (l : List ℕ). p.vars ≤ length l) values (kept_long p.vars kept env loc.long);
-        done = subst (λ l. AllOps (Done l t.guess) (past_of p env t.stage)) values (kept_done t.guess (past_of p env t.stage) kept env (kept_unused p env kept t loc) loc.done);
-        placed = subst (λ l. AllPlaced l (past_of p env t.stage) t.entries) values (kept_placed (past_of p env t.stage) t.entries kept env (kept_unused p env kept t loc) loc.placed);
+        done =
+            subst (λ l. AllOps (Done l t.guess) (past_of p env t.stage)) values
+            (kept_done t.guess (past_of p env t.stage) kept env (kept_unused p env kept t loc) loc.done);
+        placed =
+            subst (λ l. AllPlaced l (past_of p env t.stage) t.entries) values
+            (kept_placed (past_of p env t.stage) t.entries kept env (kept_unused p env kept t loc) loc.placed);
         asked = tt;
         unused = tt;
         blocks = blocks;
       }
 
-  whole_way : onpath (work_of_stage p o t).env p.stmts ≡ (on_way p env t.stage ++ onpath (work_of_stage p o t).env (in_stage t.stage p.stmts)) ++ onpath (work_of_stage p o t).env (stages_from (next_of p t.stage (work_of_stage p o t).env) p.stmts)
-  whole_way = flows.all_pieces (work_of_stage p o t).env (next_of p t.stage (work_of_stage p o t).env) ∙ ap (λ l. l ++ onpath (work_of_stage p o t).env (stages_from (next_of p t.stage (work_of_stage p o t).env) p.stmts)) (way_next p flows env t kept_answer o)
+  whole_way : onpath (work_of_stage p o t).env p.stmts
+      ≡ (on_way p env t.stage ++ onpath (work_of_stage p o t).env (in_stage t.stage p.stmts))
+      ++ onpath (work_of_stage p o t).env (stages_from (next_of p t.stage (work_of_stage p o t).env) p.stmts)
+  whole_way =
+      flows.all_pieces (work_of_stage p o t).env (next_of p t.stage (work_of_stage p o t).env)
+      ∙ ap (λ l. l ++ onpath (work_of_stage p o t).env (stages_from (next_of p t.stage (work_of_stage p o t).env) p.stmts))
+      (way_next p flows env t kept_answer o)
 
   -- and at its end
-  pub past_end : AllOps (BlockOk o t.env t.entries (past_of p env t.stage)) (past_of p env t.stage) → Past o p.vars (onto (onpath (work_of_stage p o t).env (in_stage t.stage p.stmts)) (past_of p env t.stage)) (work_of_stage p o t)
+  pub past_end : AllOps (BlockOk o t.env t.entries (past_of p env t.stage)) (past_of p env t.stage)
+      → Past o p.vars (onto (onpath (work_of_stage p o t).env (in_stage t.stage p.stmts)) (past_of p env t.stage)) (work_of_stage p o t)
   past_end blocks =
-      past_all o p.vars kind (work_of_stage p o t).env (called false (on_way p env t.stage)) (in_stage t.stage p.stmts) (past_of p env t.stage) (start_of t) (fixed_here p flows env t kept_answer o)
-      (all_new_append p.vars (on_way p env t.stage) (onpath (work_of_stage p o t).env (in_stage t.stage p.stmts)) [] (all_new_front p.vars (on_way p env t.stage ++ onpath (work_of_stage p o t).env (in_stage t.stage p.stmts)) (onpath (work_of_stage p o t).env (stages_from (next_of p t.stage (work_of_stage p o t).env) p.stmts)) [] (subst (λ l. all_new p.vars [] l ≡ true) whole_way (strict.names (work_of_stage p o t).env))))
-      (calls_back false (on_way p env t.stage) (onpath (work_of_stage p o t).env (in_stage t.stage p.stmts)) (calls_front false (on_way p env t.stage ++ onpath (work_of_stage p o t).env (in_stage t.stage p.stmts)) (onpath (work_of_stage p o t).env (stages_from (next_of p t.stage (work_of_stage p o t).env) p.stmts)) (subst (λ l. calls_ok false l ≡ true) whole_way (flows.calls (work_of_stage p o t).env))))
+      past_all o p.vars kind (work_of_stage p o t).env (called false (on_way p env t.stage)) (in_stage t.stage p.stmts)
+      (past_of p env t.stage) (start_of t) (fixed_here p flows env t kept_answer o)
+      (all_new_append p.vars (on_way p env t.stage) (onpath (work_of_stage p o t).env (in_stage t.stage p.stmts)) []
+      (all_new_front p.vars (on_way p env t.stage ++ onpath (work_of_stage p o t).env (in_stage t.stage p.stmts))
+      (onpath (work_of_stage p o t).env (stages_from (next_of p t.stage (work_of_stage p o t).env) p.stmts)) []
+      (subst (λ l. all_new p.vars [] l ≡ true) whole_way (strict.names (work_of_stage p o t).env))))
+      (calls_back false (on_way p env t.stage) (onpath (work_of_stage p o t).env (in_stage t.stage p.stmts))
+      (calls_front false (on_way p env t.stage ++ onpath (work_of_stage p o t).env (in_stage t.stage p.stmts))
+      (onpath (work_of_stage p o t).env (stages_from (next_of p t.stage (work_of_stage p o t).env) p.stmts))
+      (subst (λ l. calls_ok false l ≡ true) whole_way (flows.calls (work_of_stage p o t).env))))
       (λ e. uncalled false (on_way p env t.stage) [] e (λ i. tt)) (sound.fetch_unseen t.stage) tt ready (past_start blocks)
 
   -- the forks' variables keep their values
@@ -403,7 +479,9 @@ module _ (p : Pipe) (flows : Flows p) (sound : Sound p) (strict : Strict p) (o :
   steady_values r i z a b e =
       sym (kept_other z kept env (kept_map (λ k s. s r i z a b e) kept (kept_steady p env kept t loc)))
       ∙ ap (λ l. slice_index l z) values
-      ∙ sym (all_stays z o (in_stage t.stage p.stmts) (start_of t) (none_stage_from (binds_var z) (suc r) t.stage p.stmts (among_low p flows.graph env t.stage loc.trail loc.walked r i) (sound.fork_bound r z a b e)))
+      ∙ sym
+      (all_stays z o (in_stage t.stage p.stmts) (start_of t)
+      (none_stage_from (binds_var z) (suc r) t.stage p.stmts (among_low p flows.graph env t.stage loc.trail loc.walked r i) (sound.fork_bound r z a b e)))
 
   -- what the stage asks for steers no fork
   steady_asks : AllAsks (λ q. Steady p (t.stage ∷ loc.trail) q.var) (work_of_stage p o t).asks
@@ -414,14 +492,18 @@ module _ (p : Pipe) (flows : Flows p) (sound : Sound p) (strict : Strict p) (o :
       (λ a. all_flip (λ b q. (stage_at p r).next ≡ Forks z a b → z ≢ q.var) (work_of_stage p o t).asks
       (λ b. all_flip (λ e q. z ≢ q.var) (work_of_stage p o t).asks
       (λ e. all_more (λ q. not (q.var == z) ≡ true) (λ q. z ≢ q.var) (work_of_stage p o t).asks (λ q k j. absurd (differ q.var z k (sym j)))
-      (asks_each (λ y m. not (y == z) ≡ true) o (in_stage t.stage p.stmts) (start_of t) (not_fetched z (in_stage t.stage p.stmts) (unfetched r i z a b e)) tt)))))))
+      (asks_each (λ y m. not (y == z) ≡ true) o (in_stage t.stage p.stmts) (start_of t)
+      (not_fetched z (in_stage t.stage p.stmts) (unfetched r i z a b e)) tt)))))))
     where
       differ : (x z : ℕ) → not (x == z) ≡ true → x ≡ z → ⊥
       differ x z k j = cc (sym (ap not (eq-eqb x z j)) ∙ k)
 
-      unfetched : (r : ℕ) → Among r (t.stage ∷ loc.trail) → (z a b : ℕ) → (stage_at p r).next ≡ Forks z a b → none_of (is_fetch_of z) (in_stage t.stage p.stmts) ≡ true
+      unfetched : (r : ℕ) → Among r (t.stage ∷ loc.trail) → (z a b : ℕ) → (stage_at p r).next ≡ Forks z a b
+          → none_of (is_fetch_of z) (in_stage t.stage p.stmts) ≡ true
       unfetched r (inl i) z a b e = sound.fork_seen t.stage z a b (ap (λ n. (stage_at p n).next) (sym i) ∙ e)
-      unfetched r (inr i) z a b e = fetch_binds z (in_stage t.stage p.stmts) (none_stage_from (binds_var z) (suc r) t.stage p.stmts (among_low p flows.graph env t.stage loc.trail loc.walked r i) (sound.fork_bound r z a b e))
+      unfetched r (inr i) z a b e =
+          fetch_binds z (in_stage t.stage p.stmts)
+          (none_stage_from (binds_var z) (suc r) t.stage p.stmts (among_low p flows.graph env t.stage loc.trail loc.walked r i) (sound.fork_bound r z a b e))
 
   -- the requests of the stage are its delayed reads
   asks_here : awaited_of (work_of_stage p o t).asks ≡ fetches_of (onpath (work_of_stage p o t).env (in_stage t.stage p.stmts))
@@ -452,11 +534,19 @@ module _ (p : Pipe) (flows : Flows p) (sound : Sound p) (strict : Strict p) (o :
     is_here : (z : Stmt) → z.stage ≡ t.stage → here p (work_of_stage p o t).env q z ≡ true
     is_here z e = ap (λ k. one_of (λ k. k == q) (goes_to (stage_at p k).next (work_of_stage p o t).env)) e ∙ ap (one_of (λ k. k == q)) goes ∙ eq-eqb q q refl
 
-    held_awaited : (z : Op) → HeldOp [] (fetches_of (onpath (work_of_stage p o t).env (in_stage t.stage p.stmts))) z → HeldOp [] (awaited_of (work_of_stage p o t).asks) z
+    held_awaited : (z : Op) → HeldOp [] (fetches_of (onpath (work_of_stage p o t).env (in_stage t.stage p.stmts))) z
+        → HeldOp [] (awaited_of (work_of_stage p o t).asks) z
     held_awaited z h x m a e = ap (λ l. held_in [] l x m) asks_here ∙ h x m a e
 
     pub local_moved : AllOps (BlockOk o t.env t.entries (past_of p env t.stage)) (past_of p env t.stage)
-        → Local p (work_of_stage p o t).env [] (record { stage = q; env = (work_of_stage p o t).env; entries = (work_of_stage p o t).entries; guess = (work_of_stage p o t).guess; awaits = awaited_of (work_of_stage p o t).asks })
+        → Local p (work_of_stage p o t).env []
+        (record {
+          stage = q;
+          env = (work_of_stage p o t).env;
+          entries = (work_of_stage p o t).entries;
+          guess = (work_of_stage p o t).guess;
+          awaits = awaited_of (work_of_stage p o t).asks;
+        })
     local_moved blocks =
         let e = past_end blocks in
         record {
@@ -464,7 +554,11 @@ module _ (p : Pipe) (flows : Flows p) (sound : Sound p) (strict : Strict p) (o :
           trail = t.stage ∷ loc.trail;
           walked = new_trail;
           among = subst (λ l. AllStmts (λ z. Among z.stage (t.stage ∷ loc.trail)) l) (sym way_q)
-              (stmts_append (λ z. Among z.stage (t.stage ∷ loc.trail)) (on_way p env t.stage) (onpath (work_of_stage p o t).env (in_stage t.stage p.stmts)) (stmts_map (λ z i. inr i) (on_way p env t.stage) loc.among) (stmts_map (λ z i. inl i) (onpath (work_of_stage p o t).env (in_stage t.stage p.stmts)) (stage_stmts (work_of_stage p o t).env t.stage p.stmts)));
+              (stmts_append (λ z. Among z.stage (t.stage ∷ loc.trail)) (on_way p env t.stage)
+              (onpath (work_of_stage p o t).env (in_stage t.stage p.stmts))
+              (stmts_map (λ z i. inr i) (on_way p env t.stage) loc.among)
+              (stmts_map (λ z i. inl i) (onpath (work_of_stage p o t).env (in_stage t.stage p.stmts))
+              (stage_stmts (work_of_stage p o t).env t.stage p.stmts)));
           done = subst (λ l. AllOps (Done (work_of_stage p o t).env (work_of_stage p o t).guess) l) (sym past_q) e.done;
           placed = subst (λ l. AllPlaced (work_of_stage p o t).env l (work_of_stage p o t).entries) (sym past_q) e.placed;
           asks = (work_of_stage p o t).asks;
@@ -473,23 +567,34 @@ module _ (p : Pipe) (flows : Flows p) (sound : Sound p) (strict : Strict p) (o :
           steady = steady_asks;
           kept_in = tt;
           held = subst (λ l. AllStmts (λ z. here p (work_of_stage p o t).env q z ≡ true → HeldOp [] (awaited_of (work_of_stage p o t).asks) z.op) l) (sym way_q)
-              (stmts_append (λ z. here p (work_of_stage p o t).env q z ≡ true → HeldOp [] (awaited_of (work_of_stage p o t).asks) z.op) (on_way p env t.stage) (onpath (work_of_stage p o t).env (in_stage t.stage p.stmts))
+              (stmts_append (λ z. here p (work_of_stage p o t).env q z ≡ true → HeldOp [] (awaited_of (work_of_stage p o t).asks) z.op)
+              (on_way p env t.stage) (onpath (work_of_stage p o t).env (in_stage t.stage p.stmts))
               (stmts_map (λ z i h. absurd (cc (sym (not_here z i) ∙ h))) (on_way p env t.stage) loc.among)
-              (stmts_map (λ z f h. held_awaited z.op f) (onpath (work_of_stage p o t).env (in_stage t.stage p.stmts)) (fetches_in (onpath (work_of_stage p o t).env (in_stage t.stage p.stmts)))));
+              (stmts_map (λ z f h. held_awaited z.op f) (onpath (work_of_stage p o t).env (in_stage t.stage p.stmts))
+              (fetches_in (onpath (work_of_stage p o t).env (in_stage t.stage p.stmts)))));
           total =
-              add-zero (length (awaited_of (work_of_stage p o t).asks)) ∙ ap length asks_here ∙ count_fetch (onpath (work_of_stage p o t).env (in_stage t.stage p.stmts))
+              add-zero (length (awaited_of (work_of_stage p o t).asks)) ∙ ap length asks_here
+              ∙ count_fetch (onpath (work_of_stage p o t).env (in_stage t.stage p.stmts))
               ∙ sym (ap (count (λ (x : Stmt). here p (work_of_stage p o t).env q x && is_fetch x.op)) way_q
-              ∙ count_append (λ (x : Stmt). here p (work_of_stage p o t).env q x && is_fetch x.op) (on_way p env t.stage) (onpath (work_of_stage p o t).env (in_stage t.stage p.stmts))
+              ∙ count_append (λ (x : Stmt). here p (work_of_stage p o t).env q x && is_fetch x.op)
+              (on_way p env t.stage) (onpath (work_of_stage p o t).env (in_stage t.stage p.stmts))
               ∙ ap₂ (λ a b. a + b)
-              (count_none (λ (x : Stmt). here p (work_of_stage p o t).env q x && is_fetch x.op) (on_way p env t.stage) (stmts_map (λ z i. ap (λ b. b && is_fetch z.op) (not_here z i)) (on_way p env t.stage) loc.among))
-              (count_same (λ (x : Stmt). here p (work_of_stage p o t).env q x && is_fetch x.op) (λ (x : Stmt). is_fetch x.op) (onpath (work_of_stage p o t).env (in_stage t.stage p.stmts)) (stmts_map (λ z i. ap (λ b. b && is_fetch z.op) (is_here z i)) (onpath (work_of_stage p o t).env (in_stage t.stage p.stmts)) (stage_stmts (work_of_stage p o t).env t.stage p.stmts)))
+              (count_none (λ (x : Stmt). here p (work_of_stage p o t).env q x && is_fetch x.op) (on_way p env t.stage)
+              (stmts_map (λ z i. ap (λ b. b && is_fetch z.op) (not_here z i)) (on_way p env t.stage) loc.among))
+              (count_same (λ (x : Stmt). here p (work_of_stage p o t).env q x && is_fetch x.op)
+              (λ (x : Stmt). is_fetch x.op) (onpath (work_of_stage p o t).env (in_stage t.stage p.stmts))
+              (stmts_map (λ z i. ap (λ b. b && is_fetch z.op) (is_here z i))
+              (onpath (work_of_stage p o t).env (in_stage t.stage p.stmts))
+              (stage_stmts (work_of_stage p o t).env t.stage p.stmts)))
               ∙ zero-add (count (λ (x : Stmt). is_fetch x.op) (onpath (work_of_stage p o t).env (in_stage t.stage p.stmts))));
         }
 
-    pub moved_asks : (blocks : AllOps (BlockOk o t.env t.entries (past_of p env t.stage)) (past_of p env t.stage)) → (local_moved blocks).asks ≡ (work_of_stage p o t).asks
+    pub moved_asks : (blocks : AllOps (BlockOk o t.env t.entries (past_of p env t.stage)) (past_of p env t.stage))
+        → (local_moved blocks).asks ≡ (work_of_stage p o t).asks
     unfolding local_moved
     moved_asks blocks = refl
 
-    pub moved_trail : (blocks : AllOps (BlockOk o t.env t.entries (past_of p env t.stage)) (past_of p env t.stage)) → (local_moved blocks).trail ≡ t.stage ∷ loc.trail
+    pub moved_trail : (blocks : AllOps (BlockOk o t.env t.entries (past_of p env t.stage)) (past_of p env t.stage))
+        → (local_moved blocks).trail ≡ t.stage ∷ loc.trail
     unfolding local_moved
     moved_trail blocks = refl

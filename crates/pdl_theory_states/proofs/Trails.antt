@@ -44,7 +44,8 @@ pub stage_stmts : (path : List ℕ) (s : ℕ) (xs : List Stmt) → AllStmts (λ 
 stage_stmts path s [] = tt
 stage_stmts path s (x ∷ xs) = at (x.stage == s) refl (all_hold x.guards path) (stage_stmts path s xs)
   where
-    at : (b : Bool) → (x.stage == s) ≡ b → (c : Bool) → AllStmts (λ y. y.stage ≡ s) (onpath path (in_stage s xs)) → AllStmts (λ y. y.stage ≡ s) (onpath path (cond b (x ∷ in_stage s xs) (in_stage s xs)))
+    at : (b : Bool) → (x.stage == s) ≡ b → (c : Bool) → AllStmts (λ y. y.stage ≡ s) (onpath path (in_stage s xs))
+        → AllStmts (λ y. y.stage ≡ s) (onpath path (cond b (x ∷ in_stage s xs) (in_stage s xs)))
     at true e c k = by (all_hold x.guards path)
       where
         by : (c : Bool) → AllStmts (λ y. y.stage ≡ s) (cond c (record x { guards = [] } ∷ onpath path (in_stage s xs)) (onpath path (in_stage s xs)))
@@ -79,7 +80,8 @@ pub trail_same : (p : Pipe) (env env' : List ℕ) (s : ℕ) (trail : List ℕ)
     → ((r : ℕ) → Among r trail → (z a b : ℕ) → (stage_at p r).next ≡ Forks z a b → slice_index env z ≡ slice_index env' z)
     → Trail p env s trail → Trail p env' s trail
 trail_same p env env' s [] f h = h
-trail_same p env env' s (r ∷ rs) f h = (sym (goes_same (stage_at p r).next env env' (f r (inl refl))) ∙ h.0, h.1, trail_same p env env' r rs (λ q i. f q (inr i)) h.2)
+trail_same p env env' s (r ∷ rs) f h =
+    (sym (goes_same (stage_at p r).next env env' (f r (inl refl))) ∙ h.0, h.1, trail_same p env env' r rs (λ q i. f q (inr i)) h.2)
 
 module _ (p : Pipe) (g : Ways p) where
   trail_up : (env : List ℕ) (s r : ℕ) → goes_to (stage_at p r).next env ≡ Some s → r < length p.stages → r < s
@@ -92,7 +94,8 @@ module _ (p : Pipe) (g : Ways p) where
   among_low env s (r ∷ rs) h q (inr i) = let u = trail_up env s r h.0 h.1 in let v = among_low env r rs h.2 q i in omega arith
 
   -- and lead no further
-  pub among_next : (env : List ℕ) (s : ℕ) (trail : List ℕ) → Trail p env s trail → (q : ℕ) → Among q trail → (n : ℕ) × (goes_to (stage_at p q).next env ≡ Some n) × (n ≤ s)
+  pub among_next : (env : List ℕ) (s : ℕ) (trail : List ℕ) → Trail p env s trail → (q : ℕ) → Among q trail
+      → (n : ℕ) × (goes_to (stage_at p q).next env ≡ Some n) × (n ≤ s)
   among_next env s [] h q i = absurd i
   among_next env s (r ∷ rs) h q (inl i) = (s, ap (λ k. goes_to (stage_at p k).next env) i ∙ h.0, omega arith)
   among_next env s (r ∷ rs) h q (inr i) = let k = among_next env r rs h.2 q i in let u = trail_up env s r h.0 h.1 in (k.0, k.1, (let j = k.2 in omega arith))
@@ -107,7 +110,8 @@ module _ (p : Pipe) (g : Ways p) where
   comes_more env end (suc k) zero s low h = absurd (omega arith)
   comes_more env end (suc k) (suc n) s low h = comes_or (s == end) _ _ (on (goes_to (stage_at p s).next env) (λ q. comes_more env end k n q (omega arith))) h
     where
-      on : (r : Option ℕ) → ((q : ℕ) → comes_to p env end k q ≡ true → comes_to p env end n q ≡ true) → one_of (comes_to p env end k) r ≡ true → one_of (comes_to p env end n) r ≡ true
+      on : (r : Option ℕ) → ((q : ℕ) → comes_to p env end k q ≡ true → comes_to p env end n q ≡ true)
+          → one_of (comes_to p env end k) r ≡ true → one_of (comes_to p env end n) r ≡ true
       on None f h = h
       on (Some q) f h = f q h
 
@@ -119,6 +123,8 @@ module _ (p : Pipe) (g : Ways p) where
       at false = ap (one_of (comes_to p env end k)) e ∙ h
 
   -- a trail leads from stage 0
-  pub trail_comes : (env : List ℕ) (end s n k : ℕ) (trail : List ℕ) → Trail p env s trail → comes_to p env end k s ≡ true → s + k ≤ n → comes_to p env end n 0 ≡ true
+  pub trail_comes : (env : List ℕ) (end s n k : ℕ) (trail : List ℕ) → Trail p env s trail
+      → comes_to p env end k s ≡ true → s + k ≤ n → comes_to p env end n 0 ≡ true
   trail_comes env end s n k [] h c low = comes_more env end k n 0 (omega arith) (subst (λ q. comes_to p env end k q ≡ true) h c)
-  trail_comes env end s n k (r ∷ rs) h c low = trail_comes env end r n (suc k) rs h.2 (comes_back env end s r k h.0 c) (let u = trail_up env s r h.0 h.1 in omega arith)
+  trail_comes env end s n k (r ∷ rs) h c low =
+      trail_comes env end r n (suc k) rs h.2 (comes_back env end s r k h.0 c) (let u = trail_up env s r h.0 h.1 in omega arith)

@@ -50,12 +50,20 @@ follow : (path : List ℕ) (arrays : Arrays) (xs : List Stmt) (ph : ℕ → Phas
     → (do_all (alone arrays) xs w).env ≡ (run_all xs r).env
 follow path arrays [] ph w r f ok rel = rel.env
 follow path arrays (x ∷ xs) ph w r f ok rel =
-    at (all_hold x.guards w.env) (all_hold x.guards r.env) (ap (all_hold x.guards) rel.env) (all_hold x.guards path) f.0 ok f.1 (λ ph' w' r' f' ok' rel'. follow path arrays xs ph' w' r' f' ok' rel')
+    at (all_hold x.guards w.env) (all_hold x.guards r.env) (ap (all_hold x.guards) rel.env)
+    (all_hold x.guards path) f.0 ok f.1 (λ ph' w' r' f' ok' rel'. follow path arrays xs ph' w' r' f' ok' rel')
   where
-    at : (b c : Bool) → b ≡ c → (d : Bool) → b ≡ d → ((n : ℕ) → phases_ok n (ph n) (cond d (record x { guards = [] } ∷ onpath path xs) (onpath path xs)) ≡ true) → Fixed path (alone arrays) xs (cond b (work_after (alone arrays) x.op w) w)
-        → ((ph' : ℕ → Phase) (w' : Work) (r' : Run) → Fixed path (alone arrays) xs w' → ((n : ℕ) → phases_ok n (ph' n) (onpath path xs) ≡ true) → Related arrays ph' w' r' → (do_all (alone arrays) xs w').env ≡ (run_all xs r').env)
+    at : (b c : Bool) → b ≡ c → (d : Bool) → b ≡ d
+        → ((n : ℕ) → phases_ok n (ph n) (cond d (record x { guards = [] } ∷ onpath path xs) (onpath path xs)) ≡ true)
+        → Fixed path (alone arrays) xs (cond b (work_after (alone arrays) x.op w) w)
+        → ((ph' : ℕ → Phase) (w' : Work) (r' : Run) → Fixed path (alone arrays) xs w'
+        → ((n : ℕ) → phases_ok n (ph' n) (onpath path xs) ≡ true) → Related arrays ph' w' r'
+        → (do_all (alone arrays) xs w').env ≡ (run_all xs r').env)
         → (do_all (alone arrays) xs (cond b (work_after (alone arrays) x.op w) w)).env ≡ (run_all xs (cond c (run_after x.op r) r)).env
-    at true true e true i k g go = go (λ n. next_phase n (ph n) x.op) (work_after (alone arrays) x.op w) (run_after x.op r) g (λ n. and_right (true && phase_ok n (ph n) x.op) _ (k n)) (related_step arrays ph x.op w r (λ n. and_right true _ (and_left _ _ (k n))) rel)
+    at true true e true i k g go =
+        go (λ n. next_phase n (ph n) x.op) (work_after (alone arrays) x.op w)
+        (run_after x.op r) g (λ n. and_right (true && phase_ok n (ph n) x.op) _ (k n))
+        (related_step arrays ph x.op w r (λ n. and_right true _ (and_left _ _ (k n))) rel)
     at true true e false i k g go = absurd (cc i)
     at true false e d i k g go = absurd (cc e)
     at false true e d i k g go = absurd (cc e)
@@ -83,8 +91,11 @@ right_one m n (Held x) env es cs ws ds t f g =
         first : {ys : List ℕ} → slice_index env x ∷ [] ≡ d.address ∷ ys → slice_index env x ≡ d.address
         first i = cc
 right_one m n (Written x) env es cs ws ds t f g =
-    subst (λ l. AllEntries (λ e. is_right_entry true ds (own n e) ≡ true) l) (sym t.2)
-    (subst (λ l. is_right_entry true l (own n (entry m x t.0 (Some t.1))) ≡ true) (sym (g refl ∙ t.4)) (ap₂ (λ a b. a && b) (eq-eqb t.0 t.0 refl) (eq-eqb t.1 t.1 refl)), tt)
+    subst (λ l. AllEntries (λ e. is_right_entry true ds (own n e) ≡ true) l) (sym t.2) (
+      subst (λ l. is_right_entry true l (own n (entry m x t.0 (Some t.1))) ≡ true) (sym (g refl ∙ t.4))
+          (ap₂ (λ a b. a && b) (eq-eqb t.0 t.0 refl) (eq-eqb t.1 t.1 refl)),
+      tt,
+    )
 right_one m n Done env es cs ws ds t f g = subst (λ l. AllEntries (λ e. is_right_entry true ds (own n e) ≡ true) l) (sym t.0) tt
 
 -- a phase is settled just where there was a write
@@ -221,9 +232,12 @@ guess_op v k s _ h = same (is_guessed k)
 after_check : (v : Option ℕ) (k : Making) (xs : List Stmt)
     → makings_ok v k xs ≡ true → is_guessed k ≡ false → is_unmade k ≡ false → (specs xs ≡ false) × (checks xs ≡ false)
 after_check v k [] h g u = (refl, refl)
-after_check v k (x ∷ xs) h g u = at k x.op g u (and_left _ _ h) (λ e. after_check v k xs (subst (λ j. makings_ok v j xs ≡ true) e (and_right (making_ok v k x.stage x.op) _ h)) g u)
+after_check v k (x ∷ xs) h g u =
+    at k x.op g u (and_left _ _ h) (λ e. after_check v k xs (subst (λ j. makings_ok v j xs ≡ true) e (and_right (making_ok v k x.stage x.op) _ h)) g u)
   where
-    at : (k : Making) (op : Op) → is_guessed k ≡ false → is_unmade k ≡ false → making_ok v k x.stage op ≡ true → (next_making k op ≡ k → (specs xs ≡ false) × (checks xs ≡ false)) → ((is_spec_call op || specs xs) ≡ false) × ((is_verify op || checks xs) ≡ false)
+    at : (k : Making) (op : Op) → is_guessed k ≡ false → is_unmade k ≡ false → making_ok v k x.stage op ≡ true
+        → (next_making k op ≡ k → (specs xs ≡ false) × (checks xs ≡ false))
+        → ((is_spec_call op || specs xs) ≡ false) × ((is_verify op || checks xs) ≡ false)
     at Unmade op g u i f = absurd (cc u)
     at Guessed op g u i f = absurd (cc g)
     at Made (Call args) g u i f = absurd (cc i)
@@ -263,7 +277,9 @@ guess_all v k (x ∷ xs) h =
     made SpecCheck e = absurd (cc e)
     made SpecBarrier e = absurd (cc e)
 
-    at : (b : Bool) → is_verify x.op ≡ b → ((is_guessed (next_making k x.op) || specs xs) && not (checks xs)) ≡ ((is_guessed k || (is_spec_call x.op || specs xs)) && not (is_verify x.op || checks xs))
+    at : (b : Bool) → is_verify x.op ≡ b
+        → ((is_guessed (next_making k x.op) || specs xs) && not (checks xs))
+        ≡ ((is_guessed k || (is_spec_call x.op || specs xs)) && not (is_verify x.op || checks xs))
     at true e =
         let m : next_making k x.op ≡ Made = made x.op e in
         let none = after_check v Made xs (subst (λ j. makings_ok v j xs ≡ true) m (and_right (making_ok v k x.stage x.op) _ h)) refl refl in
@@ -292,46 +308,91 @@ module _ (p : Pipe) (sound : Sound p) (arrays : Arrays) (args : List ℕ) where
   -- its way
   pub turn_way : (s : ℕ) → on_way p (so_far p arrays args s).env s ≡ on_way p (thread (at_once p) arrays args).env s
   turn_way s =
-      way_same (so_far p arrays args s).env (thread (at_once p) arrays args).env (stages_before s p.stmts) (in_stage s (looked_all p.stmts) ++ stages_from (suc s) (looked_all p.stmts))
-      (subst (λ l. is_fixed (l ++ (in_stage s (looked_all p.stmts) ++ stages_from (suc s) (looked_all p.stmts))) ≡ true) (before_looked s p.stmts ∙ before_stages s p.stmts) (sound.pathwise.fixed_by s))
-      (λ g k. sym (ap (λ (w : Work). slice_index w.env g) (so s) ∙ Turns.value_kept (at_once p) sound.pathwise arrays args s g (Turns.none_parts (binds_var g) s (looked_all p.stmts) k)))
+      way_same (so_far p arrays args s).env (thread (at_once p) arrays args).env (stages_before s p.stmts)
+      (in_stage s (looked_all p.stmts) ++ stages_from (suc s) (looked_all p.stmts))
+      (subst (λ l. is_fixed (l ++ (in_stage s (looked_all p.stmts) ++ stages_from (suc s) (looked_all p.stmts))) ≡ true)
+      (before_looked s p.stmts ∙ before_stages s p.stmts) (sound.pathwise.fixed_by s))
+      (λ g k. sym
+      (ap (λ (w : Work). slice_index w.env g) (so s)
+      ∙ Turns.value_kept (at_once p) sound.pathwise arrays args s g (Turns.none_parts (binds_var g) s (looked_all p.stmts) k)))
 
   -- its values
   pub turn_env : (s : ℕ) → (so_far p arrays args s).env ≡ (run_all (stages_before s p.stmts) (TurnPath.start_run p arrays args)).env
   turn_env s =
       follow (thread (at_once p) arrays args).env arrays (before s p.stmts) (λ m. Fresh) (start_work p args) (TurnPath.start_run p arrays args)
-      (subst (λ l. Fixed (thread (at_once p) arrays args).env (alone arrays) l (start_work p args)) (before_looked s p.stmts) (Turns.fixed_before (at_once p) sound.pathwise arrays args s))
-      (λ n. subst (λ l. phases_ok n Fresh l ≡ true) (before_path (thread (at_once p) arrays args).env s (looked_all p.stmts) ∙ ap (onpath (thread (at_once p) arrays args).env) (before_looked s p.stmts)) (TurnPath.ok_before (along (thread (at_once p) arrays args).env (at_once p)) acc arrays args s n))
+      (subst (λ l. Fixed (thread (at_once p) arrays args).env (alone arrays) l (start_work p args))
+      (before_looked s p.stmts) (Turns.fixed_before (at_once p) sound.pathwise arrays args s))
+      (λ n. subst (λ l. phases_ok n Fresh l ≡ true)
+      (before_path (thread (at_once p) arrays args).env s (looked_all p.stmts) ∙ ap (onpath (thread (at_once p) arrays args).env) (before_looked s p.stmts))
+      (TurnPath.ok_before (along (thread (at_once p) arrays args).env (at_once p)) acc arrays args s n))
       (TurnPath.start_related (along (thread (at_once p) arrays args).env (at_once p)) acc arrays args)
-      ∙ ap (λ l. (run_all l (TurnPath.start_run p arrays args)).env) (before_stages s p.stmts) ∙ ap (λ (r : Run). r.env) (run_looked (stages_before s p.stmts) (TurnPath.start_run p arrays args))
+      ∙ ap (λ l. (run_all l (TurnPath.start_run p arrays args)).env) (before_stages s p.stmts)
+      ∙ ap (λ (r : Run). r.env) (run_looked (stages_before s p.stmts) (TurnPath.start_run p arrays args))
 
   -- its pending writes
-  pub turn_entries : (s m n : ℕ) → reserve_stage p m < s → AllEntries (λ e. is_right_entry (list_any (λ (x : Stmt). is_write m x.op) (on_way p (thread (at_once p) arrays args).env s)) (of_mem m (thread p arrays args).writes) (own n e) ≡ true) (entries_of m (so_far p arrays args s).entries)
+  pub turn_entries : (s m n : ℕ) → reserve_stage p m < s
+      → AllEntries
+      (λ e. is_right_entry (list_any (λ (x : Stmt). is_write m x.op) (on_way p (thread (at_once p) arrays args).env s))
+      (of_mem m (thread p arrays args).writes) (own n e)
+      ≡ true)
+      (entries_of m (so_far p arrays args s).entries)
   turn_entries s m n h =
-      subst (λ b. AllEntries (λ e. is_right_entry b (of_mem m (thread p arrays args).writes) (own n e) ≡ true) (entries_of m (so_far p arrays args s).entries)) written
-      (subst (λ (w : Work). AllEntries (λ e. is_right_entry (is_settled (phase_all m Fresh (before s (onpath (thread (at_once p) arrays args).env (looked_all p.stmts))))) (of_mem m (thread p arrays args).writes) (own n e) ≡ true) (entries_of m w.entries)) (sym (so s))
-      (subst (λ (r : Run). AllEntries (λ e. is_right_entry (is_settled (phase_all m Fresh (before s (onpath (thread (at_once p) arrays args).env (looked_all p.stmts))))) (of_mem m r.writes) (own n e) ≡ true) (entries_of m (so_far (along (thread (at_once p) arrays args).env (at_once p)) arrays args s).entries)) (sym whole)
-      (right_one m n (phase_all m Fresh (before s (onpath (thread (at_once p) arrays args).env (looked_all p.stmts)))) (so_far (along (thread (at_once p) arrays args).env (at_once p)) arrays args s).env _ _ _ _
-      ((TurnPath.related_at (along (thread (at_once p) arrays args).env (at_once p)) acc arrays args s).tied m) (TurnPath.all_places (along (thread (at_once p) arrays args).env (at_once p)) acc arrays args s m h) (settled_whole (along (thread (at_once p) arrays args).env (at_once p)) acc arrays args s m))))
+      subst
+      (λ b. AllEntries (λ e. is_right_entry b (of_mem m (thread p arrays args).writes) (own n e) ≡ true)
+      (entries_of m (so_far p arrays args s).entries)) written
+      (subst
+      (λ (w : Work). AllEntries
+      (λ e. is_right_entry (is_settled (phase_all m Fresh (before s (onpath (thread (at_once p) arrays args).env (looked_all p.stmts)))))
+      (of_mem m (thread p arrays args).writes) (own n e)
+      ≡ true)
+      (entries_of m w.entries))
+      (sym (so s))
+      (subst
+      (λ (r : Run). AllEntries
+      (λ e. is_right_entry (is_settled (phase_all m Fresh (before s (onpath (thread (at_once p) arrays args).env (looked_all p.stmts)))))
+      (of_mem m r.writes) (own n e)
+      ≡ true)
+      (entries_of m (so_far (along (thread (at_once p) arrays args).env (at_once p)) arrays args s).entries))
+      (sym whole)
+      (right_one m n (phase_all m Fresh (before s (onpath (thread (at_once p) arrays args).env (looked_all p.stmts))))
+      (so_far (along (thread (at_once p) arrays args).env (at_once p)) arrays args s).env _ _ _ _
+      ((TurnPath.related_at (along (thread (at_once p) arrays args).env (at_once p)) acc arrays args s).tied m)
+      (TurnPath.all_places (along (thread (at_once p) arrays args).env (at_once p)) acc arrays args s m h)
+      (settled_whole (along (thread (at_once p) arrays args).env (at_once p)) acc arrays args s m))))
     where
-      written : is_settled (phase_all m Fresh (before s (onpath (thread (at_once p) arrays args).env (looked_all p.stmts)))) ≡ list_any (λ (x : Stmt). is_write m x.op) (on_way p (thread (at_once p) arrays args).env s)
+      written : is_settled (phase_all m Fresh (before s (onpath (thread (at_once p) arrays args).env (looked_all p.stmts))))
+          ≡ list_any (λ (x : Stmt). is_write m x.op) (on_way p (thread (at_once p) arrays args).env s)
       written =
-          settled_all m Fresh (before s (onpath (thread (at_once p) arrays args).env (looked_all p.stmts))) (TurnPath.ok_before (along (thread (at_once p) arrays args).env (at_once p)) acc arrays args s m)
+          settled_all m Fresh (before s (onpath (thread (at_once p) arrays args).env (looked_all p.stmts)))
+          (TurnPath.ok_before (along (thread (at_once p) arrays args).env (at_once p)) acc arrays args s m)
           ∙ ap (list_any (λ (x : Stmt). is_write m x.op)) (way_looked p (thread (at_once p) arrays args).env s)
           ∙ any_looked (is_write m) (write_looked m) (on_way p (thread (at_once p) arrays args).env s)
 
   -- its guess
-  pub turn_guess : (s : ℕ) → is_guessed (making_all Unmade (before s (onpath (thread (at_once p) arrays args).env (looked_all p.stmts)))) ≡ (list_any (λ (x : Stmt). is_spec_call x.op) (on_way p (thread (at_once p) arrays args).env s) && not (list_any (λ (x : Stmt). is_verify x.op) (on_way p (thread (at_once p) arrays args).env s)))
+  pub turn_guess : (s : ℕ)
+      → is_guessed (making_all Unmade (before s (onpath (thread (at_once p) arrays args).env (looked_all p.stmts))))
+      ≡ (list_any (λ (x : Stmt). is_spec_call x.op) (on_way p (thread (at_once p) arrays args).env s)
+      && not (list_any (λ (x : Stmt). is_verify x.op) (on_way p (thread (at_once p) arrays args).env s)))
   turn_guess s =
-      guess_all (verify_stage (looked_all p.stmts)) Unmade (before s (onpath (thread (at_once p) arrays args).env (looked_all p.stmts))) (Makes.makings_before (at_once p) sound.pathwise (thread (at_once p) arrays args).env arrays args s)
-      ∙ ap (λ l. list_any (λ (x : Stmt). is_spec_call x.op) l && not (list_any (λ (x : Stmt). is_verify x.op) l)) (way_looked p (thread (at_once p) arrays args).env s)
-      ∙ ap₂ (λ a b. a && not b) (any_looked is_spec_call spec_looked (on_way p (thread (at_once p) arrays args).env s)) (any_looked is_verify verify_same (on_way p (thread (at_once p) arrays args).env s))
+      guess_all (verify_stage (looked_all p.stmts)) Unmade (before s (onpath (thread (at_once p) arrays args).env (looked_all p.stmts)))
+      (Makes.makings_before (at_once p) sound.pathwise (thread (at_once p) arrays args).env arrays args s)
+      ∙ ap (λ l. list_any (λ (x : Stmt). is_spec_call x.op) l && not (list_any (λ (x : Stmt). is_verify x.op) l))
+      (way_looked p (thread (at_once p) arrays args).env s)
+      ∙ ap₂ (λ a b. a && not b) (any_looked is_spec_call spec_looked (on_way p (thread (at_once p) arrays args).env s))
+      (any_looked is_verify verify_same (on_way p (thread (at_once p) arrays args).env s))
 
   -- it is wrong where a thread was made with other arguments
-  pub turn_wrong : (s : ℕ) (b : Bool) → (right_guess (so_far p arrays args s).child (thread p arrays args).next ≡ not b) → is_some (so_far p arrays args s).child ≡ true
-      → (is_guessed (making_all Unmade (before s (onpath (thread (at_once p) arrays args).env (looked_all p.stmts)))) && not (same_args (so_far p arrays args s).guess (thread p arrays args).next)) ≡ b
+  pub turn_wrong : (s : ℕ) (b : Bool) → (right_guess (so_far p arrays args s).child (thread p arrays args).next ≡ not b)
+      → is_some (so_far p arrays args s).child ≡ true
+      → (is_guessed (making_all Unmade (before s (onpath (thread (at_once p) arrays args).env (looked_all p.stmts))))
+      && not (same_args (so_far p arrays args s).guess (thread p arrays args).next))
+      ≡ b
   turn_wrong s b h made = at (making_all Unmade (before s (onpath (thread (at_once p) arrays args).env (looked_all p.stmts)))) refl
-      (subst (λ (w : Work). Calls (making_all Unmade (before s (onpath (thread (at_once p) arrays args).env (looked_all p.stmts)))) w.child w.guess (TurnPath.run_at (along (thread (at_once p) arrays args).env (at_once p)) arrays args s).next) (sym (so s)) (Makes.calls_at (at_once p) sound.pathwise (thread (at_once p) arrays args).env arrays args s))
+      (subst
+      (λ (w : Work). Calls
+      (making_all Unmade (before s (onpath (thread (at_once p) arrays args).env (looked_all p.stmts)))) w.child w.guess
+      (TurnPath.run_at (along (thread (at_once p) arrays args).env (at_once p)) arrays args s).next)
+      (sym (so s)) (Makes.calls_at (at_once p) sound.pathwise (thread (at_once p) arrays args).env arrays args s))
     where
       flip : (c : Bool) → c ≡ not b → not c ≡ b
       flip true i = by b i
@@ -345,10 +406,19 @@ module _ (p : Pipe) (sound : Sound p) (arrays : Arrays) (args : List ℕ) where
           by true j = refl
           by false j = absurd (cc j)
 
-      at : (k : Making) → making_all Unmade (before s (onpath (thread (at_once p) arrays args).env (looked_all p.stmts))) ≡ k → Calls k (so_far p arrays args s).child (so_far p arrays args s).guess (TurnPath.run_at (along (thread (at_once p) arrays args).env (at_once p)) arrays args s).next
+      at : (k : Making)
+          → making_all Unmade (before s (onpath (thread (at_once p) arrays args).env (looked_all p.stmts))) ≡ k
+          → Calls k (so_far p arrays args s).child (so_far p arrays args s).guess
+          (TurnPath.run_at (along (thread (at_once p) arrays args).env (at_once p)) arrays args s).next
           → (is_guessed k && not (same_args (so_far p arrays args s).guess (thread p arrays args).next)) ≡ b
       at Unmade e c = absurd (cc (sym (ap is_some c) ∙ made))
-      at Guessed e c = flip (same_args (so_far p arrays args s).guess (thread p arrays args).next) (ap (λ x. right_guess x (thread p arrays args).next) (sym c) ∙ h)
+      at Guessed e c =
+          flip (same_args (so_far p arrays args s).guess (thread p arrays args).next) (ap (λ x. right_guess x (thread p arrays args).next) (sym c) ∙ h)
       at Made e c =
           flip true (sym (same_args_refl (thread p arrays args).next)
-          ∙ ap (λ x. right_guess x (thread p arrays args).next) (sym (ap (λ (w : Work). w.child) (so s) ∙ Makes.made_child (at_once p) sound.pathwise (thread (at_once p) arrays args).env arrays args s e ∙ ap (λ (r : Run). Some r.next) (sym whole))) ∙ h)
+          ∙ ap (λ x. right_guess x (thread p arrays args).next)
+          (sym
+          (ap (λ (w : Work). w.child) (so s)
+          ∙ Makes.made_child (at_once p) sound.pathwise (thread (at_once p) arrays args).env arrays args s e
+          ∙ ap (λ (r : Run). Some r.next) (sym whole)))
+          ∙ h)

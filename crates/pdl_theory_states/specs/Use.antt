@@ -83,4 +83,5 @@ ShiftsPlace p st bits m a =
 abbrev pub ShiftsTail : Pipe → State → List Bool → ℕ → Act → Type 0
 ShiftsTail p st bits m a =
     (v : ℕ) → verify_stage p.stmts ≡ Some v → a.stage ≤ v
-    → count_older (suc a.thread.number) (with_release p st bits m) + bit (has_release m (moving p st bits)) ≡ count_older (suc a.thread.number) (with_new p st bits m)
+    → count_older (suc a.thread.number) (with_release p st bits m) + bit (has_release m (moving p st bits))
+    ≡ count_older (suc a.thread.number) (with_new p st bits m)

@@ -22,7 +22,9 @@ barred_append b (x ∷ xs) ys = barred_append (b || is_barrier x.op) xs ys
 -- where the releases of joined statements are certain, those of the first ones are
 pub sure_first : (v : Option ℕ) (b : Bool) (c : Scan) (xs ys : List Stmt) → all_sure v b c (xs ++ ys) ≡ true → all_sure v b c xs ≡ true
 sure_first v b c [] ys h = refl
-sure_first v b c (x ∷ xs) ys h = ap₂ (λ a d. a && d) (and_left (is_sure v b c x.stage x.op) _ h) (sure_first v (b || is_barrier x.op) (scan_after x.op c) xs ys (and_right (is_sure v b c x.stage x.op) _ h))
+sure_first v b c (x ∷ xs) ys h =
+    ap₂ (λ a d. a && d) (and_left (is_sure v b c x.stage x.op) _ h)
+    (sure_first v (b || is_barrier x.op) (scan_after x.op c) xs ys (and_right (is_sure v b c x.stage x.op) _ h))
 
 -- where the releases of joined statements are certain, those of the second ones are, after the first
 pub sure_second : (v : Option ℕ) (b : Bool) (c : Scan) (xs ys : List Stmt)

@@ -36,7 +36,8 @@ Later q ys = EachFetch (λ x m. (x ≢ q.var) × (m ≢ q.mem)) ys
 
 later_like : (x m : ℕ) (q : Ask) (ys : List Stmt) → q.var ≡ x → q.mem ≡ m → none_like x m ys ≡ true → Later q ys
 later_like x m q [] e f h = tt
-later_like x m q (y ∷ ys) e f h = ((λ d z n a i. one z n (ap (fetches_no x m) (sym i) ∙ and_left (fetches_no x m y.op) _ h)), later_like x m q ys e f (and_right (fetches_no x m y.op) _ h))
+later_like x m q (y ∷ ys) e f h =
+    ((λ d z n a i. one z n (ap (fetches_no x m) (sym i) ∙ and_left (fetches_no x m y.op) _ h)), later_like x m q ys e f (and_right (fetches_no x m y.op) _ h))
   where
     differ : (a b : ℕ) → not (a == b) ≡ true → b ≢ a
     differ a b k i = at (a == b) refl k
@@ -53,12 +54,17 @@ apart_op : (o : Around) (op : Op) (ys : List Stmt) (w : Work)
     → AllAsks (λ q. ((x m a : ℕ) → op ≡ DelayedRead x m a → (x ≢ q.var) × (m ≢ q.mem)) × Later q ys) w.asks
     → Apart (work_after o op w).asks × AllAsks (λ q. Later q ys) (work_after o op w).asks
 apart_op o (DelayedRead x m a) ys w h p l = (
-  apart_snoc w.asks (record { mem = m; var = x; address = slice_index w.env a }) p (all_more _ (λ r. (r.var ≢ x) × (r.mem ≢ m)) w.asks (λ q k. ((λ i. (k.0 x m a refl).0 (sym i)), (λ i. (k.0 x m a refl).1 (sym i)))) l),
-  all_snoc (λ q. Later q ys) w.asks (record { mem = m; var = x; address = slice_index w.env a }) (all_more _ (λ q. Later q ys) w.asks (λ q k. k.1) l) (later_like x m (record { mem = m; var = x; address = slice_index w.env a }) ys refl refl h),
+  apart_snoc w.asks (record { mem = m; var = x; address = slice_index w.env a }) p
+      (all_more _ (λ r. (r.var ≢ x) × (r.mem ≢ m)) w.asks (λ q k. ((λ i. (k.0 x m a refl).0 (sym i)), (λ i. (k.0 x m a refl).1 (sym i)))) l),
+  all_snoc (λ q. Later q ys) w.asks (record { mem = m; var = x; address = slice_index w.env a })
+      (all_more _ (λ q. Later q ys) w.asks (λ q k. k.1) l)
+      (later_like x m (record { mem = m; var = x; address = slice_index w.env a }) ys refl refl h),
 )
 apart_op o (Verify args) ys w h p l = at (same_args (values_of args w.env) w.guess)
   where
-    at : (b : Bool) → Apart (cond b w (record w { child = Some (values_of args w.env); fails = true })).asks × AllAsks (λ q. Later q ys) (cond b w (record w { child = Some (values_of args w.env); fails = true })).asks
+    at : (b : Bool)
+        → Apart (cond b w (record w { child = Some (values_of args w.env); fails = true })).asks
+        × AllAsks (λ q. Later q ys) (cond b w (record w { child = Some (values_of args w.env); fails = true })).asks
     at true = (p, all_more _ (λ q. Later q ys) w.asks (λ q k. k.1) l)
     at false = (p, all_more _ (λ q. Later q ys) w.asks (λ q k. k.1) l)
 apart_op o _ ys w h p l = (p, all_more _ (λ q. Later q ys) w.asks (λ q k. k.1) l)
@@ -70,8 +76,12 @@ apart_asks o [] w h p l = p
 apart_asks o (y ∷ ys) w h p l =
     let s = at (all_hold y.guards w.env) refl in apart_asks o ys (step o y w) (and_right (alone_op y.op ys) _ h) s.0 s.1
   where
-    at : (b : Bool) → all_hold y.guards w.env ≡ b → Apart (cond b (work_after o y.op w) w).asks × AllAsks (λ q. Later q ys) (cond b (work_after o y.op w) w).asks
-    at true e = apart_op o y.op ys w (and_left _ _ h) p (all_more _ (λ q. ((x m a : ℕ) → y.op ≡ DelayedRead x m a → (x ≢ q.var) × (m ≢ q.mem)) × Later q ys) w.asks (λ q k. (k.0 (alive y.guards w.env e), k.1)) l)
+    at : (b : Bool) → all_hold y.guards w.env ≡ b
+        → Apart (cond b (work_after o y.op w) w).asks × AllAsks (λ q. Later q ys) (cond b (work_after o y.op w) w).asks
+    at true e =
+        apart_op o y.op ys w (and_left _ _ h) p
+        (all_more _ (λ q. ((x m a : ℕ) → y.op ≡ DelayedRead x m a → (x ≢ q.var) × (m ≢ q.mem)) × Later q ys) w.asks
+        (λ q k. (k.0 (alive y.guards w.env e), k.1)) l)
     at false e = (p, all_more _ (λ q. Later q ys) w.asks (λ q k. k.1) l)
 
 -- what is known of a request that is found
@@ -93,7 +103,8 @@ trunk_none : (test : Op → Bool)
     → ((op : Op) → not (trunk_only op) ≡ true → not (test op) ≡ true) → (xs : List Stmt) → none_of trunk_only xs ≡ true
     → none_of test xs ≡ true
 trunk_none test f [] h = refl
-trunk_none test f (x ∷ xs) h = ap₂ (λ a b. a && b) (f x.op (and_left (not (trunk_only x.op)) _ h)) (trunk_none test f xs (and_right (not (trunk_only x.op)) _ h))
+trunk_none test f (x ∷ xs) h =
+    ap₂ (λ a b. a && b) (f x.op (and_left (not (trunk_only x.op)) _ h)) (trunk_none test f xs (and_right (not (trunk_only x.op)) _ h))
 
 no_barrier : (op : Op) → not (trunk_only op) ≡ true → not (is_barrier op) ≡ true
 no_barrier SpecBarrier h = absurd (cc h)
@@ -120,7 +131,10 @@ verify_here (x ∷ xs) v e h = at (is_verify x.op) refl e (λ i. verify_here xs 
 
     at : (b : Bool) → is_verify x.op ≡ b → cond b (Some x.stage) (verify_stage xs) ≡ Some v → (verify_stage xs ≡ Some v → ⊥) → ⊥
     at true f i g =
-        clash (sym (ap not f) ∙ and_left (not (is_verify x.op)) _ (subst (λ b. none_of is_verify (cond b (x ∷ in_stage v xs) (in_stage v xs)) ≡ true) (eq-eqb x.stage v (same i)) h))
+        clash
+        (sym (ap not f)
+        ∙ and_left (not (is_verify x.op)) _
+        (subst (λ b. none_of is_verify (cond b (x ∷ in_stage v xs) (in_stage v xs)) ≡ true) (eq-eqb x.stage v (same i)) h))
     at false f i g = g i
 
 -- the stages that a path comes to one after another, and whether it comes to this one
@@ -161,27 +175,39 @@ module _ (p : Pipe) (acc : Sound p) where
     whole = sym (StageFacts.same_thread p acc arrays args) ∙ Turns.thread_path (at_once p) acc.pathwise arrays args
 
     child_here : (s : ℕ) → (stage_work p arrays args s).child ≡ (stage_work (along (thread (at_once p) arrays args).env (at_once p)) arrays args s).child
-    child_here s = ap (λ (w : Work). w.child) (sym (StageFacts.same_stage p acc arrays args s)) ∙ ap (λ (w : Work). w.child) (Turns.works_path (at_once p) acc.pathwise arrays args s)
+    child_here s =
+        ap (λ (w : Work). w.child) (sym (StageFacts.same_stage p acc arrays args s))
+        ∙ ap (λ (w : Work). w.child) (Turns.works_path (at_once p) acc.pathwise arrays args s)
 
     fails_here : (s : ℕ) → (stage_work p arrays args s).fails ≡ (stage_work (along (thread (at_once p) arrays args).env (at_once p)) arrays args s).fails
-    fails_here s = ap (λ (w : Work). w.fails) (sym (StageFacts.same_stage p acc arrays args s)) ∙ ap (λ (w : Work). w.fails) (Turns.works_path (at_once p) acc.pathwise arrays args s)
+    fails_here s =
+        ap (λ (w : Work). w.fails) (sym (StageFacts.same_stage p acc arrays args s))
+        ∙ ap (λ (w : Work). w.fails) (Turns.works_path (at_once p) acc.pathwise arrays args s)
 
     moved_here : (s : ℕ) (c : Option (List ℕ)) (f : Bool)
-        → ((stage_work (along (thread (at_once p) arrays args).env (at_once p)) arrays args s).child ≡ c) × ((stage_work (along (thread (at_once p) arrays args).env (at_once p)) arrays args s).fails ≡ f)
+        → ((stage_work (along (thread (at_once p) arrays args).env (at_once p)) arrays args s).child ≡ c)
+        × ((stage_work (along (thread (at_once p) arrays args).env (at_once p)) arrays args s).fails ≡ f)
         → ((stage_work p arrays args s).child ≡ c) × ((stage_work p arrays args s).fails ≡ f)
     moved_here s c f h = (child_here s ∙ h.0, fails_here s ∙ h.1)
 
     child_end : right_guess (so_far p arrays args (length p.stages)).child (thread p arrays args).next ≡ true
     child_end =
         ap₂ (λ (w : Work) (r : Run). right_guess w.child r.next) (so (length p.stages)) whole
-        ∙ ap (λ c. right_guess c (thread (along (thread (at_once p) arrays args).env (at_once p)) arrays args).next) (Makes.child_in_end (at_once p) acc.pathwise (thread (at_once p) arrays args).env arrays args)
+        ∙ ap (λ c. right_guess c (thread (along (thread (at_once p) arrays args).env (at_once p)) arrays args).next)
+        (Makes.child_in_end (at_once p) acc.pathwise (thread (at_once p) arrays args).env arrays args)
         ∙ same_args_refl (thread (along (thread (at_once p) arrays args).env (at_once p)) arrays args).next
 
     not_yet : (s : ℕ) → (so_far p arrays args s).child ≡ None → (stage_work p arrays args s).fails ≡ false
-    not_yet s h = fails_here s ∙ Makes.not_yet (at_once p) acc.pathwise (thread (at_once p) arrays args).env arrays args (alone arrays) s (ap (λ (w : Work). w.child) (sym (so s)) ∙ h)
+    not_yet s h =
+        fails_here s
+        ∙ Makes.not_yet (at_once p) acc.pathwise (thread (at_once p) arrays args).env arrays args (alone arrays) s (ap (λ (w : Work). w.child) (sym (so s)) ∙ h)
 
-    right_stays : (s : ℕ) → right_guess (so_far p arrays args s).child (thread p arrays args).next ≡ true → ((stage_work p arrays args s).child ≡ None) × ((stage_work p arrays args s).fails ≡ false)
-    right_stays s h = moved_here s None false (Makes.right_stays (at_once p) acc.pathwise (thread (at_once p) arrays args).env arrays args s (ap₂ (λ (w : Work) (r : Run). right_guess w.child r.next) (sym (so s)) (sym whole) ∙ h))
+    right_stays : (s : ℕ) → right_guess (so_far p arrays args s).child (thread p arrays args).next ≡ true
+        → ((stage_work p arrays args s).child ≡ None) × ((stage_work p arrays args s).fails ≡ false)
+    right_stays s h =
+        moved_here s None false
+        (Makes.right_stays (at_once p) acc.pathwise (thread (at_once p) arrays args).env arrays args s
+        (ap₂ (λ (w : Work) (r : Run). right_guess w.child r.next) (sym (so s)) (sym whole) ∙ h))
 
     -- a wrong guess, along the path
     module _ (s : ℕ) (x : List ℕ) (e : (so_far p arrays args s).child ≡ Some x) (h : same_args x (thread p arrays args).next ≡ false) where
@@ -192,7 +218,9 @@ module _ (p : Pipe) (acc : Sound p) where
       wrong_here = ap (λ (r : Run). same_args x r.next) (sym whole) ∙ h
 
       inside : (v : ℕ) × (verify_stage (looked_all p.stmts) ≡ Some v) × (s ≤ v)
-      inside = Makes.guess_inside (at_once p) acc.pathwise (thread (at_once p) arrays args).env arrays args s (Makes.wrong_made (at_once p) acc.pathwise (thread (at_once p) arrays args).env arrays args s x made_here wrong_here)
+      inside =
+          Makes.guess_inside (at_once p) acc.pathwise (thread (at_once p) arrays args).env arrays args s
+          (Makes.wrong_made (at_once p) acc.pathwise (thread (at_once p) arrays args).env arrays args s x made_here wrong_here)
 
       there : verify_stage p.stmts ≡ Some inside.0
       there = sym (verify_looked p.stmts) ∙ inside.1
@@ -205,15 +233,25 @@ module _ (p : Pipe) (acc : Sound p) where
           moved_here s None false (Makes.no_second (at_once p) acc.pathwise (thread (at_once p) arrays args).env arrays args (alone arrays) s x made_here
           (ap (λ o. stands_at o s) inside.1 ∙ ne_eqb s inside.0 (λ i. absurd (let j : s < inside.0 = subst (λ o. s < v_of o) there low in omega arith))))
 
-      wrong_at : s ≡ v_of (verify_stage p.stmts) → ((stage_work p arrays args s).child ≡ Some (thread p arrays args).next) × ((stage_work p arrays args s).fails ≡ true)
+      wrong_at : s ≡ v_of (verify_stage p.stmts)
+          → ((stage_work p arrays args s).child ≡ Some (thread p arrays args).next) × ((stage_work p arrays args s).fails ≡ true)
       wrong_at i =
-          let w = moved_here s (Some (thread (along (thread (at_once p) arrays args).env (at_once p)) arrays args).next) true (Makes.wrong_at (at_once p) acc.pathwise (thread (at_once p) arrays args).env arrays args s x made_here wrong_here (verify_looked p.stmts ∙ wrong_made.1 ∙ ap Some (sym i))) in
+          let w =
+          moved_here s
+          (Some (thread (along (thread (at_once p) arrays args).env (at_once p)) arrays args).next) true
+          (Makes.wrong_at (at_once p) acc.pathwise
+          (thread (at_once p) arrays args).env arrays args s x made_here wrong_here
+          (verify_looked p.stmts ∙ wrong_made.1 ∙ ap Some (sym i))) in
           (w.0 ∙ ap (λ (r : Run). Some r.next) (sym whole), w.1)
 
     fetched : (o : Around) (t : Thread) → AllAsks (λ q. FetchOk p acc.fetch t.stage q.var q.mem) (work_of_stage p o t).asks
-    fetched o t = asks_each (λ x m. FetchOk p acc.fetch t.stage x m) o (in_stage t.stage p.stmts) _ (fetch_each p acc.fetch t.stage (in_stage t.stage p.stmts) (acc.fetch_ok t.stage)) tt
+    fetched o t =
+        asks_each (λ x m. FetchOk p acc.fetch t.stage x m) o (in_stage t.stage p.stmts) _
+        (fetch_each p acc.fetch t.stage (in_stage t.stage p.stmts) (acc.fetch_ok t.stage)) tt
 
-  roams_step : (o : Around) (t : Thread) → Roams p t → t.awaits ≡ [] → t.stage < v_of (verify_stage p.stmts) → (Trunk p t.stage → o.clear ≡ false) → (work_of_stage p o t).ready ≡ true → Strayed p (Roams p) (has_made p) t (work_of_stage p o t)
+  roams_step : (o : Around) (t : Thread) → Roams p t → t.awaits ≡ [] → t.stage < v_of (verify_stage p.stmts)
+      → (Trunk p t.stage → o.clear ≡ false) → (work_of_stage p o t).ready ≡ true
+      → Strayed p (Roams p) (has_made p) t (work_of_stage p o t)
   roams_step o t r done low clear ready = at (verify_stage p.stmts) refl
     where
       below_last : v_of (verify_stage p.stmts) < length p.stages → t.stage < v_of (verify_stage p.stmts) → t.stage < length p.stages
@@ -221,13 +259,20 @@ module _ (p : Pipe) (acc : Sound p) where
 
       barred : (b : Option Branch) → (stage_at p t.stage).branch ≡ b → Barred o (onpath (work_of_stage p o t).env (in_stage t.stage p.stmts))
       barred None e = inr (clear e)
-      barred (Some c) e = inl (none_onpath is_barrier (work_of_stage p o t).env (in_stage t.stage p.stmts) (trunk_none is_barrier no_barrier (in_stage t.stage p.stmts) (acc.trunk_holds t.stage c e)))
+      barred (Some c) e =
+          inl
+          (none_onpath is_barrier (work_of_stage p o t).env (in_stage t.stage p.stmts)
+          (trunk_none is_barrier no_barrier (in_stage t.stage p.stmts) (acc.trunk_holds t.stage c e)))
 
       at : (v : Option ℕ) → verify_stage p.stmts ≡ v → Strayed p (Roams p) (has_made p) t (work_of_stage p o t)
       at None e = absurd (let i : t.stage < 0 = subst (λ v. t.stage < v_of v) e low in omega arith)
       at (Some v) e =
           let i : t.stage < v = subst (λ o. t.stage < v_of o) e low in
-          let h = roam_step p acc o t r (below_last (v_low (verify_stage p.stmts) refl) low) (ap (λ o. stands_before o t.stage) e ∙ lt-ltb _ _ i) (ap (λ o. stands_at o t.stage) e ∙ ne_eqb t.stage v (λ j. absurd (omega arith))) (barred (stage_at p t.stage).branch refl) ready in
+          let h =
+          roam_step p acc o t r (below_last (v_low (verify_stage p.stmts) refl) low)
+          (ap (λ o. stands_before o t.stage) e ∙ lt-ltb _ _ i)
+          (ap (λ o. stands_at o t.stage) e ∙ ne_eqb t.stage v (λ j. absurd (omega arith)))
+          (barred (stage_at p t.stage).branch refl) ready in
           record { fails = h.2; commits = h.0; goes_on = h.1; once = h.3; born = λ x k. fresh_roams p acc x; made_next = h.4 }
 
   pub course : Course p
@@ -240,17 +285,33 @@ module _ (p : Pipe) (acc : Sound p) where
         plain_to = (acc.pathwise.paths []).plain_to;
         on = λ arrays args s. (visits_stage p (thread (at_once p) arrays args).env s ≡ true) × Reached p (thread (at_once p) arrays args).env s;
         on_start = λ arrays args. (StageFacts.on_start p acc arrays args, (0, refl));
-        on_next = λ arrays args s on low. (StageFacts.on_next p acc arrays args s on.0 low, (suc on.1.0, StageFacts.path_next p acc arrays args s ∙ ap (λ n. next_of p n (thread (at_once p) arrays args).env) on.1.1));
+        on_next =
+            λ arrays args s on low. (
+              StageFacts.on_next p acc arrays args s on.0 low,
+              (suc on.1.0, StageFacts.path_next p acc arrays args s ∙ ap (λ n. next_of p n (thread (at_once p) arrays args).env) on.1.1),
+            );
         start_so = λ arrays args. ap (λ l. do_all (alone arrays) l (start_work p args)) no_start;
-        start_blocked = λ arrays args. ap (λ l. (scan_after_all l no_scan).blocked) (before_path (thread p arrays args).env 0 p.stmts ∙ ap (onpath (thread p arrays args).env) no_start);
+        start_blocked =
+            λ arrays args. ap (λ l. (scan_after_all l no_scan).blocked)
+            (before_path (thread p arrays args).env 0 p.stmts ∙ ap (onpath (thread p arrays args).env) no_start);
         here_alike = λ arrays args o s clean on low f plain ready r. StageFacts.here_alike p acc arrays args o s clean on.0 low f plain ready r;
         next_so = λ arrays args s on low. StageFacts.next_values p acc arrays args s on.0 low;
         fetch = acc.fetch;
-        asks_at = λ o t m h. sym (found_one (λ n. acc.fetch n ≡ t.stage) (work_of_stage p o t).asks m (all_more _ (λ q. acc.fetch q.mem ≡ t.stage) (work_of_stage p o t).asks (λ q k. k.here) (fetched (λ n a. 0) [] o t)) h);
-        asks_ok = λ arrays args s on low. all_more _ (AskOk p acc.fetch s (next_at p arrays args s)) (stage_work p arrays args s).asks (λ q k. record { here = k.here; known = k.known; exact = k.exact; early = k.early (stage_work p arrays args s).env }) (fetched arrays args (alone arrays) (thread_at p arrays args s));
+        asks_at =
+            λ o t m h. sym
+            (found_one (λ n. acc.fetch n ≡ t.stage)
+            (work_of_stage p o t).asks m
+            (all_more _ (λ q. acc.fetch q.mem ≡ t.stage) (work_of_stage p o t).asks (λ q k. k.here) (fetched (λ n a. 0) [] o t)) h);
+        asks_ok =
+            λ arrays args s on low. all_more _ (AskOk p acc.fetch s (next_at p arrays args s))
+            (stage_work p arrays args s).asks
+            (λ q k. record { here = k.here; known = k.known; exact = k.exact; early = k.early (stage_work p arrays args s).env })
+            (fetched arrays args (alone arrays) (thread_at p arrays args s));
         asks_apart = λ arrays args s on low. apart_asks (alone arrays) (in_stage s p.stmts) _ (acc.fetch_alone s) tt tt;
         row_after = λ arrays args m. StageFacts.row_after p acc arrays args m;
-        quiet_at = λ o t m h. quiet m o (in_stage t.stage p.stmts) _ (none_in_stage (is_release m) (commit_stage p m) t.stage p.stmts (sym (all_at_looked m (commit_stage p m) p.stmts) ∙ acc.pathwise.releases m) h);
+        quiet_at =
+            λ o t m h. quiet m o (in_stage t.stage p.stmts) _
+            (none_in_stage (is_release m) (commit_stage p m) t.stage p.stmts (sym (all_at_looked m (commit_stage p m) p.stmts) ∙ acc.pathwise.releases m) h);
         marks_start = λ arrays args m. StageFacts.marks_start p acc arrays args m;
         marks_step = λ arrays args s m on low. StageFacts.marks_step p acc arrays args s m on.0 low;
         marks_seen = λ arrays args s m a rest h. StageFacts.marks_seen p acc arrays args s m a rest h;

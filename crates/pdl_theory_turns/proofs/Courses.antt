@@ -56,7 +56,8 @@ pub record Course (p : Pipe) : Type 1 where
   pub here_alike : (arrays : Arrays) (args : List ℕ) (o : Around) (s : ℕ) (clean : ℕ → ℕ → Type 0)
       → on arrays args s → s < length p.stages → Surrounds p o arrays s clean → ((m a : ℕ) → is_plain (mem_at p m).lock ≡ true → clean m a)
       → (work_of_stage p o (thread_at p arrays args s)).ready ≡ true → Right p s clean (blocked_at p arrays args s) (so_far p arrays args s).env
-      → (work_of_stage p o (thread_at p arrays args s) ≡ stage_work p arrays args s) × Right p s clean (blocked_at p arrays args (next_at p arrays args s)) (so_far p arrays args (next_at p arrays args s)).env
+      → (work_of_stage p o (thread_at p arrays args s) ≡ stage_work p arrays args s)
+      × Right p s clean (blocked_at p arrays args (next_at p arrays args s)) (so_far p arrays args (next_at p arrays args s)).env
       × AllAsks (λ q. clean q.mem q.address) (stage_work p arrays args s).asks
   pub next_so : (arrays : Arrays) (args : List ℕ) (s : ℕ) → on arrays args s → s < length p.stages
       → (caught arrays (stage_work p arrays args s).asks (stage_work p arrays args s).env ≡ (so_far p arrays args (next_at p arrays args s)).env)
@@ -65,14 +66,18 @@ pub record Course (p : Pipe) : Type 1 where
   -- its delayed reads; fetch m is the stage of those of m
   pub fetch : ℕ → ℕ
   pub asks_at : (o : Around) (t : Thread) (m : ℕ) → is_some (find_ask (work_of_stage p o t).asks m) ≡ true → t.stage ≡ fetch m
-  pub asks_ok : (arrays : Arrays) (args : List ℕ) (s : ℕ) → on arrays args s → s < length p.stages → AllAsks (AskOk p fetch s (next_at p arrays args s)) (stage_work p arrays args s).asks
+  pub asks_ok : (arrays : Arrays) (args : List ℕ) (s : ℕ) → on arrays args s → s < length p.stages
+      → AllAsks (AskOk p fetch s (next_at p arrays args s)) (stage_work p arrays args s).asks
   pub asks_apart : (arrays : Arrays) (args : List ℕ) (s : ℕ) → on arrays args s → s < length p.stages → Apart (stage_work p arrays args s).asks
   -- its writes
-  pub row_after : (arrays : Arrays) (args : List ℕ) (m : ℕ) → row (thread p arrays args).arrays m ≡ wrote (row arrays m) (of_mem m (thread p arrays args).writes)
+  pub row_after : (arrays : Arrays) (args : List ℕ) (m : ℕ)
+      → row (thread p arrays args).arrays m ≡ wrote (row arrays m) (of_mem m (thread p arrays args).writes)
   pub quiet_at : (o : Around) (t : Thread) (m : ℕ) → t.stage ≢ commit_stage p m → of_mem m (work_of_stage p o t).commits ≡ []
   pub marks_start : (arrays : Arrays) (args : List ℕ) (m : ℕ) → strips m (marks p arrays args 0 m) ≡ of_mem m (thread p arrays args).writes
-  pub marks_step : (arrays : Arrays) (args : List ℕ) (s m : ℕ) → on arrays args s → s < length p.stages → Later m (marks p arrays args s m) (of_mem m (stage_work p arrays args s).commits) (marks p arrays args (next_at p arrays args s) m)
-  pub marks_seen : (arrays : Arrays) (args : List ℕ) (s m a : ℕ) (rest : Latest) → reserve_stage p m < s → latest_in (so_far p arrays args s).entries m a rest ≡ seen a (marks p arrays args s m) rest
+  pub marks_step : (arrays : Arrays) (args : List ℕ) (s m : ℕ) → on arrays args s → s < length p.stages
+      → Later m (marks p arrays args s m) (of_mem m (stage_work p arrays args s).commits) (marks p arrays args (next_at p arrays args s) m)
+  pub marks_seen : (arrays : Arrays) (args : List ℕ) (s m a : ℕ) (rest : Latest) → reserve_stage p m < s
+      → latest_in (so_far p arrays args s).entries m a rest ≡ seen a (marks p arrays args s m) rest
   pub marks_plain : (arrays : Arrays) (args : List ℕ) (s m : ℕ) → is_plain (mem_at p m).lock ≡ true → marks p arrays args s m ≡ []
   pub marks_late : (arrays : Arrays) (args : List ℕ) (s m : ℕ) → commit_stage p m < s → marks p arrays args s m ≡ []
   pub marks_end : (arrays : Arrays) (args : List ℕ) (m : ℕ) → marks p arrays args (length p.stages) m ≡ []
@@ -80,19 +85,28 @@ pub record Course (p : Pipe) : Type 1 where
   pub v : ℕ
   pub v_inside : v < length p.stages
   pub trunk_v : Trunk p v
-  pub child_next : (arrays : Arrays) (args : List ℕ) (s : ℕ) → on arrays args s → s < length p.stages → (so_far p arrays args (next_at p arrays args s)).child ≡ or_else (stage_work p arrays args s).child (so_far p arrays args s).child
+  pub child_next : (arrays : Arrays) (args : List ℕ) (s : ℕ) → on arrays args s → s < length p.stages
+      → (so_far p arrays args (next_at p arrays args s)).child ≡ or_else (stage_work p arrays args s).child (so_far p arrays args s).child
   pub child_end : (arrays : Arrays) (args : List ℕ) → right_guess (so_far p arrays args (length p.stages)).child (thread p arrays args).next ≡ true
-  pub not_yet : (arrays : Arrays) (args : List ℕ) (s : ℕ) → on arrays args s → s < length p.stages → (so_far p arrays args s).child ≡ None → (stage_work p arrays args s).fails ≡ false
-  pub right_stays : (arrays : Arrays) (args : List ℕ) (s : ℕ) → on arrays args s → s < length p.stages → right_guess (so_far p arrays args s).child (thread p arrays args).next ≡ true
+  pub not_yet : (arrays : Arrays) (args : List ℕ) (s : ℕ) → on arrays args s → s < length p.stages
+      → (so_far p arrays args s).child ≡ None → (stage_work p arrays args s).fails ≡ false
+  pub right_stays : (arrays : Arrays) (args : List ℕ) (s : ℕ) → on arrays args s → s < length p.stages
+      → right_guess (so_far p arrays args s).child (thread p arrays args).next ≡ true
       → ((stage_work p arrays args s).child ≡ None) × ((stage_work p arrays args s).fails ≡ false)
-  pub wrong_made : (arrays : Arrays) (args : List ℕ) (s : ℕ) (x : List ℕ) → (so_far p arrays args s).child ≡ Some x → same_args x (thread p arrays args).next ≡ false → (s ≤ v) × (verify_stage p.stmts ≡ Some v)
-  pub wrong_before : (arrays : Arrays) (args : List ℕ) (s : ℕ) (x : List ℕ) → on arrays args s → (so_far p arrays args s).child ≡ Some x → same_args x (thread p arrays args).next ≡ false → s < v
+  pub wrong_made : (arrays : Arrays) (args : List ℕ) (s : ℕ) (x : List ℕ) → (so_far p arrays args s).child ≡ Some x
+      → same_args x (thread p arrays args).next ≡ false → (s ≤ v) × (verify_stage p.stmts ≡ Some v)
+  pub wrong_before : (arrays : Arrays) (args : List ℕ) (s : ℕ) (x : List ℕ) → on arrays args s
+      → (so_far p arrays args s).child ≡ Some x → same_args x (thread p arrays args).next ≡ false → s < v
       → ((stage_work p arrays args s).child ≡ None) × ((stage_work p arrays args s).fails ≡ false)
-  pub wrong_at : (arrays : Arrays) (args : List ℕ) (s : ℕ) (x : List ℕ) → on arrays args s → (so_far p arrays args s).child ≡ Some x → same_args x (thread p arrays args).next ≡ false → s ≡ v
+  pub wrong_at : (arrays : Arrays) (args : List ℕ) (s : ℕ) (x : List ℕ) → on arrays args s
+      → (so_far p arrays args s).child ≡ Some x → same_args x (thread p arrays args).next ≡ false → s ≡ v
       → ((stage_work p arrays args s).child ≡ Some (thread p arrays args).next) × ((stage_work p arrays args s).fails ≡ true)
   -- a thread after a wrong guess, which has passed no barrier
   pub stray : Thread → Type 0
   pub made : Thread → Bool
   pub stray_fresh : (args : List ℕ) → stray (fresh p args) × (made (fresh p args) ≡ false)
-  pub stray_answered : (st : State) (bits : List Bool) (t : Thread) → stray t → stray (answered_thread p st bits t) × (made (answered_thread p st bits t) ≡ made t)
-  pub stray_step : (o : Around) (t : Thread) → stray t → t.awaits ≡ [] → t.stage < v → (Trunk p t.stage → o.clear ≡ false) → (work_of_stage p o t).ready ≡ true → Strayed p stray made t (work_of_stage p o t)
+  pub stray_answered : (st : State) (bits : List Bool) (t : Thread) → stray t
+      → stray (answered_thread p st bits t) × (made (answered_thread p st bits t) ≡ made t)
+  pub stray_step : (o : Around) (t : Thread) → stray t → t.awaits ≡ [] → t.stage < v
+      → (Trunk p t.stage → o.clear ≡ false) → (work_of_stage p o t).ready ≡ true
+      → Strayed p stray made t (work_of_stage p o t)

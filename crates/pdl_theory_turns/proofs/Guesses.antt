@@ -36,7 +36,8 @@ making_append k (x ∷ xs) ys = making_append (next_making k x.op) xs ys
 -- where joined statements call, guess and verify by the rules, the first ones do
 pub makings_first : (v : Option ℕ) (k : Making) (xs ys : List Stmt) → makings_ok v k (xs ++ ys) ≡ true → makings_ok v k xs ≡ true
 makings_first v k [] ys h = refl
-makings_first v k (x ∷ xs) ys h = ap₂ (λ a b. a && b) (and_left (making_ok v k x.stage x.op) _ h) (makings_first v (next_making k x.op) xs ys (and_right (making_ok v k x.stage x.op) _ h))
+makings_first v k (x ∷ xs) ys h =
+    ap₂ (λ a b. a && b) (and_left (making_ok v k x.stage x.op) _ h) (makings_first v (next_making k x.op) xs ys (and_right (making_ok v k x.stage x.op) _ h))
 
 -- where joined statements call, guess and verify by the rules, the second ones do, after the first
 pub makings_second : (v : Option ℕ) (k : Making) (xs ys : List Stmt)
@@ -52,7 +53,8 @@ verify_op v k s _ h = refl
 -- where statements keep the rules on guesses, each verify stands in stage V
 pub verify_at : (v : ℕ) (k : Making) (xs : List Stmt) → makings_ok (Some v) k xs ≡ true → all_at is_verify v xs ≡ true
 verify_at v k [] h = refl
-verify_at v k (x ∷ xs) h = ap₂ (λ a b. a && b) (verify_op v k x.stage x.op (and_left _ _ h)) (verify_at v (next_making k x.op) xs (and_right (making_ok (Some v) k x.stage x.op) _ h))
+verify_at v k (x ∷ xs) h =
+    ap₂ (λ a b. a && b) (verify_op v k x.stage x.op (and_left _ _ h)) (verify_at v (next_making k x.op) xs (and_right (making_ok (Some v) k x.stage x.op) _ h))
 
 -- without V there is no guess
 unguessed_op : (k : Making) (s : ℕ) (op : Op) → making_ok None k s op ≡ true → is_guessed k ≡ false → is_guessed (next_making k op) ≡ false
@@ -98,7 +100,8 @@ pub unverified : (v : Option ℕ) (k : Making) (s : ℕ) (xs : List Stmt) → Al
 unverified v k s [] a h e = refl
 unverified v k s (x ∷ xs) a h e =
     let here : making_ok v k s x.op ≡ true = subst (λ n. making_ok v k n x.op ≡ true) a.0 (and_left _ _ h) in
-    ap₂ (λ b c. b && c) (unverified_op v k s x.op here e) (unverified v (next_making k x.op) s xs a.1 (and_right (making_ok v k x.stage x.op) _ h) (elsewhere_next v k s x.op here e))
+    ap₂ (λ b c. b && c) (unverified_op v k s x.op here e)
+    (unverified v (next_making k x.op) s xs a.1 (and_right (making_ok v k x.stage x.op) _ h) (elsewhere_next v k s x.op here e))
 
 made_next : (v : Option ℕ) (s : ℕ) (op : Op) → making_ok v Made s op ≡ true → (not (is_verify op) ≡ true) × (next_making Made op ≡ Made)
 made_next v s (Call args) h = absurd (cc h)
@@ -144,7 +147,9 @@ pub settled : (o : Around) (v : Option ℕ) (k : Making) (xs : List Stmt) (w : W
 settled o v k [] w u h n = ((refl, refl, refl), refl)
 settled o v k (x ∷ xs) w u h n =
     let here = settled_op o v k x.stage x.op w u (and_left _ _ h) (and_left _ _ n) in
-    let rest = settled o v k xs (step o x w) u (subst (λ j. makings_ok v j xs ≡ true) here.1 (and_right (making_ok v k x.stage x.op) _ h)) (and_right (not (is_verify x.op)) _ n) in
+    let rest =
+    settled o v k xs (step o x w) u (subst (λ j. makings_ok v j xs ≡ true) here.1 (and_right (making_ok v k x.stage x.op) _ h))
+    (and_right (not (is_verify x.op)) _ n) in
     let one = kept_step (all_hold x.guards w.env) (work_after o x.op w) w here.0 in
     ((rest.0.0 ∙ one.0, rest.0.1 ∙ one.1, rest.0.2 ∙ one.2), ap (λ j. making_all j xs) here.1 ∙ rest.1)
 
@@ -163,8 +168,14 @@ pub run_settled : (v : Option ℕ) (k : Making) (xs : List Stmt) (r : Run)
     → is_unmade k ≡ false → makings_ok v k xs ≡ true → none_of is_verify xs ≡ true → (run_all xs r).next ≡ r.next
 run_settled v k [] r u h n = refl
 run_settled v k (x ∷ xs) r u h n =
-    let here = settled_op (alone r.arrays) v k x.stage x.op (record { env = []; entries = []; guess = []; asks = []; commits = []; child = None; fails = false; ready = true }) u (and_left _ _ h) (and_left _ _ n) in
-    run_settled v k xs (if all_hold x.guards r.env then run_after x.op r else r) u (subst (λ j. makings_ok v j xs ≡ true) here.1 (and_right (making_ok v k x.stage x.op) _ h)) (and_right (not (is_verify x.op)) _ n)
+    let here =
+    settled_op (alone r.arrays) v k x.stage x.op
+    (record { env = []; entries = []; guess = []; asks = []; commits = []; child = None; fails = false; ready = true }) u
+    (and_left _ _ h)
+    (and_left _ _ n) in
+    run_settled v k xs (if all_hold x.guards r.env then run_after x.op r else r) u
+    (subst (λ j. makings_ok v j xs ≡ true) here.1 (and_right (making_ok v k x.stage x.op) _ h))
+    (and_right (not (is_verify x.op)) _ n)
     ∙ at (all_hold x.guards r.env)
   where
     at : (b : Bool) → (cond b (run_after x.op r) r).next ≡ r.next
@@ -221,7 +232,8 @@ begins o v (x ∷ xs) w e h n g =
     none_left : none_of is_verify xs ≡ true
     none_left = and_right (not (is_verify x.op)) _ n
 
-    after : (k : Making) → next_making Unmade x.op ≡ k → is_unmade k ≡ false → is_unmade (making_all k xs) ≡ not (is_some (do_all o xs (work_after o x.op w)).child)
+    after : (k : Making) → next_making Unmade x.op ≡ k → is_unmade k ≡ false
+        → is_unmade (making_all k xs) ≡ not (is_some (do_all o xs (work_after o x.op w)).child)
     after k f u =
         let s = settled o v k xs (work_after o x.op w) u (subst (λ j. makings_ok v j xs ≡ true) f rest) none_left in
         ap is_unmade s.1 ∙ u ∙ sym u ∙ ap is_unmade (sym f) ∙ one ∙ ap (λ c. not (is_some c)) (sym s.0.0)
@@ -231,10 +243,12 @@ begins o v (x ∷ xs) w e h n g =
     none (Some y) i = absurd (cc i)
 
     at : (k : Making) → next_making Unmade x.op ≡ k
-        → ((work_after o x.op w).child ≡ None → makings_ok v Unmade xs ≡ true → is_unmade (making_all Unmade xs) ≡ not (is_some (do_all o xs (work_after o x.op w)).child))
+        → ((work_after o x.op w).child ≡ None → makings_ok v Unmade xs ≡ true
+        → is_unmade (making_all Unmade xs) ≡ not (is_some (do_all o xs (work_after o x.op w)).child))
         → is_unmade (making_all (next_making Unmade x.op) xs) ≡ not (is_some (do_all o xs (work_after o x.op w)).child)
     at Unmade f go =
-        ap (λ j. is_unmade (making_all j xs)) f ∙ go (none (work_after o x.op w).child (ap is_unmade (sym f) ∙ one)) (subst (λ j. makings_ok v j xs ≡ true) f rest)
+        ap (λ j. is_unmade (making_all j xs)) f
+        ∙ go (none (work_after o x.op w).child (ap is_unmade (sym f) ∙ one)) (subst (λ j. makings_ok v j xs ≡ true) f rest)
     at Guessed f go = ap (λ j. is_unmade (making_all j xs)) f ∙ after Guessed f refl
     at Made f go = ap (λ j. is_unmade (making_all j xs)) f ∙ after Made f refl
 
@@ -253,7 +267,8 @@ calls_op o v k s (Call args) w r h e c = ap (λ l. Some (values_of args l)) e
 calls_op o v k s (SpecCall args) w r h e c = refl
 calls_op o v k s (Verify args) w r h e c = by k c (and_left _ _ h)
   where
-    at : (b : Bool) → same_args (values_of args w.env) w.guess ≡ b → w.child ≡ Some w.guess → (cond b w (record w { child = Some (values_of args w.env); fails = true })).child ≡ Some (values_of args r.env)
+    at : (b : Bool) → same_args (values_of args w.env) w.guess ≡ b → w.child ≡ Some w.guess
+        → (cond b w (record w { child = Some (values_of args w.env); fails = true })).child ≡ Some (values_of args r.env)
     at true i c = c ∙ ap Some (sym (same_args_eq _ _ i)) ∙ ap (λ l. Some (values_of args l)) e
     at false i c = ap (λ l. Some (values_of args l)) e
 
@@ -270,9 +285,17 @@ pub calls_all : (arrays : Arrays) (v : Option ℕ) (xs : List Stmt) (ph : ℕ �
     → Calls (making_all k xs) (do_all (alone arrays) xs w).child (do_all (alone arrays) xs w).guess (run_all xs r).next
 calls_all arrays v [] ph k w r ok h rel c = c
 calls_all arrays v (x ∷ xs) ph k w r ok h rel c =
-    subst (λ (u : Work). Calls (making_all (next_making k x.op) xs) (do_all (alone arrays) xs u).child (do_all (alone arrays) xs u).guess (run_all xs (cond (all_hold x.guards r.env) (run_after x.op r) r)).next) (sym (step_free (alone arrays) x w free))
-    (subst (λ (u : Run). Calls (making_all (next_making k x.op) xs) (do_all (alone arrays) xs (work_after (alone arrays) x.op w)).child (do_all (alone arrays) xs (work_after (alone arrays) x.op w)).guess (run_all xs u).next) (sym (ap (λ b. cond b (run_after x.op r) r) (taken_none x.guards r.env free)))
-    (calls_all arrays v xs (next_phases ph x.op) (next_making k x.op) (work_after (alone arrays) x.op w) (run_after x.op r) (λ m. and_right _ _ (ok m)) (and_right (making_ok v k x.stage x.op) _ h)
+    subst
+    (λ (u : Work). Calls (making_all (next_making k x.op) xs)
+    (do_all (alone arrays) xs u).child (do_all (alone arrays) xs u).guess (run_all xs (cond (all_hold x.guards r.env) (run_after x.op r) r)).next)
+    (sym (step_free (alone arrays) x w free))
+    (subst
+    (λ (u : Run). Calls (making_all (next_making k x.op) xs)
+    (do_all (alone arrays) xs (work_after (alone arrays) x.op w)).child
+    (do_all (alone arrays) xs (work_after (alone arrays) x.op w)).guess (run_all xs u).next)
+    (sym (ap (λ b. cond b (run_after x.op r) r) (taken_none x.guards r.env free)))
+    (calls_all arrays v xs (next_phases ph x.op) (next_making k x.op) (work_after (alone arrays) x.op w)
+    (run_after x.op r) (λ m. and_right _ _ (ok m)) (and_right (making_ok v k x.stage x.op) _ h)
     (related_step arrays ph x.op w r (λ m. and_right _ _ (and_left _ _ (ok m))) rel)
     (calls_op (alone arrays) v k x.stage x.op w r (and_left _ _ h) rel.env c)))
   where
@@ -303,7 +326,9 @@ along_all arrays (x ∷ xs) ph w r ok rel = (
   rel.env,
   subst (λ (u : Work). Along arrays xs u (if all_hold x.guards r.env then run_after x.op r else r)) (sym (step_free (alone arrays) x w free))
       (subst (λ (u : Run). Along arrays xs (work_after (alone arrays) x.op w) u) (sym (ap (λ b. cond b (run_after x.op r) r) (taken_none x.guards r.env free)))
-      (along_all arrays xs (next_phases ph x.op) (work_after (alone arrays) x.op w) (run_after x.op r) (λ m. and_right _ _ (ok m)) (related_step arrays ph x.op w r (λ m. and_right _ _ (and_left _ _ (ok m))) rel))),
+      (along_all arrays xs (next_phases ph x.op) (work_after (alone arrays) x.op w) (run_after x.op r)
+      (λ m. and_right _ _ (ok m))
+      (related_step arrays ph x.op w r (λ m. and_right _ _ (and_left _ _ (ok m))) rel))),
 )
   where
     free : no_guards x.guards ≡ true
@@ -314,7 +339,9 @@ pub along_joined : (arrays : Arrays) (xs : List Stmt) (w v : Work) (r : Run) →
 along_joined arrays [] w v r h = h
 along_joined arrays (x ∷ xs) w v r h = (
   h.0,
-  along_joined arrays xs w (step (alone arrays) x v) (if all_hold x.guards r.env then run_after x.op r else r) (subst (λ u. Along arrays xs u (if all_hold x.guards r.env then run_after x.op r else r)) (step_joined (all_hold x.guards v.env) (alone arrays) x.op w v) h.1),
+  along_joined arrays xs w (step (alone arrays) x v) (if all_hold x.guards r.env then run_after x.op r else r)
+      (subst (λ u. Along arrays xs u (if all_hold x.guards r.env then run_after x.op r else r))
+      (step_joined (all_hold x.guards v.env) (alone arrays) x.op w v) h.1),
 )
 
 along_free : (arrays : Arrays) (x : Stmt) (xs : List Stmt) (w : Work) (r : Run)
@@ -330,34 +357,48 @@ pub verified_all : (arrays : Arrays) (v : Option ℕ) (xs : List Stmt) (w : Work
     → Verified (making_all Guessed xs) (do_all (alone arrays) xs w) w (run_all xs r).next
 verified_all arrays v [] w r g h rel = (refl, refl, refl)
 verified_all arrays v (x ∷ xs) w r g h rel =
-    subst (λ (u : Work). Verified (making_all (next_making Guessed x.op) xs) (do_all (alone arrays) xs u) w (run_all xs (cond (all_hold x.guards r.env) (run_after x.op r) r)).next) (sym (step_free (alone arrays) x w free))
-    (subst (λ (u : Run). Verified (making_all (next_making Guessed x.op) xs) (do_all (alone arrays) xs (work_after (alone arrays) x.op w)) w (run_all xs u).next) (sym (ap (λ b. cond b (run_after x.op r) r) (taken_none x.guards r.env free)))
-    (by x.op (and_left _ _ h) (and_right (making_ok v Guessed x.stage x.op) _ h) (λ h'. verified_all arrays v xs (work_after (alone arrays) x.op w) (run_after x.op r) (and_right (no_guards x.guards) _ g) h' (along_free arrays x xs w r free rel))))
+    subst
+    (λ (u : Work). Verified (making_all (next_making Guessed x.op) xs)
+    (do_all (alone arrays) xs u) w (run_all xs (cond (all_hold x.guards r.env) (run_after x.op r) r)).next)
+    (sym (step_free (alone arrays) x w free))
+    (subst
+    (λ (u : Run). Verified (making_all (next_making Guessed x.op) xs) (do_all (alone arrays) xs (work_after (alone arrays) x.op w)) w (run_all xs u).next)
+    (sym (ap (λ b. cond b (run_after x.op r) r) (taken_none x.guards r.env free)))
+    (by x.op (and_left _ _ h) (and_right (making_ok v Guessed x.stage x.op) _ h)
+    (λ h'. verified_all arrays v xs (work_after (alone arrays) x.op w) (run_after x.op r)
+    (and_right (no_guards x.guards) _ g) h' (along_free arrays x xs w r free rel))))
   where
     free : no_guards x.guards ≡ true
     free = and_left _ _ g
 
     plain : (op : Op) → making_ok v Guessed x.stage op ≡ true → makings_ok v (next_making Guessed op) xs ≡ true
-        → (makings_ok v Guessed xs ≡ true → Verified (making_all Guessed xs) (do_all (alone arrays) xs (work_after (alone arrays) op w)) (work_after (alone arrays) op w) (run_all xs (run_after op r)).next)
-        → not (is_verify op) ≡ true → Verified (making_all (next_making Guessed op) xs) (do_all (alone arrays) xs (work_after (alone arrays) op w)) w (run_all xs (run_after op r)).next
+        → (makings_ok v Guessed xs ≡ true
+        → Verified (making_all Guessed xs) (do_all (alone arrays) xs (work_after (alone arrays) op w))
+        (work_after (alone arrays) op w) (run_all xs (run_after op r)).next)
+        → not (is_verify op) ≡ true
+        → Verified (making_all (next_making Guessed op) xs) (do_all (alone arrays) xs (work_after (alone arrays) op w)) w (run_all xs (run_after op r)).next
     plain op i rest go n =
         let s = settled_op (alone arrays) v Guessed x.stage op w refl i n in
         subst (λ k. Verified (making_all k xs) (do_all (alone arrays) xs (work_after (alone arrays) op w)) w (run_all xs (run_after op r)).next) (sym s.1)
         (verified_kept (making_all Guessed xs) _ (work_after (alone arrays) op w) w _ s.0 (go (subst (λ k. makings_ok v k xs ≡ true) s.1 rest)))
 
     at : (args : List Expr) (b : Bool) → same_args (values_of args w.env) w.guess ≡ b
-        → ((cond b w (record w { child = Some (values_of args w.env); fails = true })).child ≡ cond b w.child (Some (values_of args w.env))) × ((cond b w (record w { child = Some (values_of args w.env); fails = true })).fails ≡ cond b w.fails true)
+        → ((cond b w (record w { child = Some (values_of args w.env); fails = true })).child ≡ cond b w.child (Some (values_of args w.env)))
+        × ((cond b w (record w { child = Some (values_of args w.env); fails = true })).fails ≡ cond b w.fails true)
     at args true e = (refl, refl)
     at args false e = (refl, refl)
 
     by : (op : Op) → making_ok v Guessed x.stage op ≡ true → makings_ok v (next_making Guessed op) xs ≡ true
-        → (makings_ok v Guessed xs ≡ true → Verified (making_all Guessed xs) (do_all (alone arrays) xs (work_after (alone arrays) op w)) (work_after (alone arrays) op w) (run_all xs (run_after op r)).next)
+        → (makings_ok v Guessed xs ≡ true
+        → Verified (making_all Guessed xs) (do_all (alone arrays) xs (work_after (alone arrays) op w))
+        (work_after (alone arrays) op w) (run_all xs (run_after op r)).next)
         → Verified (making_all (next_making Guessed op) xs) (do_all (alone arrays) xs (work_after (alone arrays) op w)) w (run_all xs (run_after op r)).next
     by (Verify args) i rest go =
         let none = unverified_made v xs rest in
         let s = settled (alone arrays) v Made xs (work_after (alone arrays) (Verify args) w) refl rest none in
         let one = at args (same_args (values_of args w.env) w.guess) refl in
-        let n : (run_all xs (run_after (Verify args) r)).next ≡ values_of args w.env = run_settled v Made xs (run_after (Verify args) r) refl rest none ∙ ap (values_of args) (sym rel.0) in
+        let n : (run_all xs (run_after (Verify args) r)).next ≡ values_of args w.env =
+        run_settled v Made xs (run_after (Verify args) r) refl rest none ∙ ap (values_of args) (sym rel.0) in
         subst (λ k. Verified k (do_all (alone arrays) xs (work_after (alone arrays) (Verify args) w)) w (run_all xs (run_after (Verify args) r)).next) (sym s.1)
         (subst (λ l. Verified Made (do_all (alone arrays) xs (work_after (alone arrays) (Verify args) w)) w l) (sym n) (s.0.0 ∙ one.0, s.0.1 ∙ one.1))
     by op i rest go = plain op i rest go refl

@@ -46,9 +46,11 @@ value_unused x v (Constant w n) env h = refl
 value_unused x v (Variable y) env h = other env x v y h
 value_unused x v (Slice y high low) env h = ap (Words.slice high low) (other env x v y h)
 value_unused x v (Not w a) env h = ap (Words.complement w) (value_unused x v a env h)
-value_unused x v (Binary op w a b) env h = let n = not_or (uses_in x a) (uses_in x b) h in ap₂ (operator_value op w) (value_unused x v a env n.0) (value_unused x v b env n.1)
+value_unused x v (Binary op w a b) env h = let n = not_or (uses_in x a) (uses_in x b) h in
+    ap₂ (operator_value op w) (value_unused x v a env n.0) (value_unused x v b env n.1)
 value_unused x v (Cat a w b) env h = let n = not_or (uses_in x a) (uses_in x b) h in ap₂ (Words.cat w) (value_unused x v a env n.0) (value_unused x v b env n.1)
-value_unused x v (LessSigned w a b) env h = let n = not_or (uses_in x a) (uses_in x b) h in ap₂ (Words.lts w) (value_unused x v a env n.0) (value_unused x v b env n.1)
+value_unused x v (LessSigned w a b) env h = let n = not_or (uses_in x a) (uses_in x b) h in
+    ap₂ (Words.lts w) (value_unused x v a env n.0) (value_unused x v b env n.1)
 value_unused x v (ZeroExtend wide a) env h = ap Words.zext (value_unused x v a env h)
 value_unused x v (SignExtend w wide a) env h = ap (Words.sext w wide) (value_unused x v a env h)
 value_unused x v (Choose c a b) env h =
@@ -58,13 +60,15 @@ value_unused x v (Choose c a b) env h =
 
 values_unused : (x v : ℕ) (es : List Expr) (env : List ℕ) → not (uses_any x es) ≡ true → values_of es (slice_set env x v) ≡ values_of es env
 values_unused x v [] env h = refl
-values_unused x v (e ∷ es) env h = let n = not_or (uses_in x e) (uses_any x es) h in ap₂ (λ a l. a ∷ l) (value_unused x v e env n.0) (values_unused x v es env n.1)
+values_unused x v (e ∷ es) env h = let n = not_or (uses_in x e) (uses_any x es) h in
+    ap₂ (λ a l. a ∷ l) (value_unused x v e env n.0) (values_unused x v es env n.1)
 
 -- GUARDS
 
 taken_unused : (x v : ℕ) (gs : List Guard) (env : List ℕ) → not (asks_for x gs) ≡ true → all_hold gs (slice_set env x v) ≡ all_hold gs env
 taken_unused x v [] env h = refl
-taken_unused x v (g ∷ gs) env h = let n = not_or (g.var == x) (asks_for x gs) h in ap₂ (λ k b. takes_branch g.first k && b) (other env x v g.var n.0) (taken_unused x v gs env n.1)
+taken_unused x v (g ∷ gs) env h = let n = not_or (g.var == x) (asks_for x gs) h in
+    ap₂ (λ k b. takes_branch g.first k && b) (other env x v g.var n.0) (taken_unused x v gs env n.1)
 
 -- STATEMENTS THAT HAVE NOTHING TO DO WITH A VARIABLE
 
@@ -77,16 +81,23 @@ does_set : (arrays : Arrays) (x v : ℕ) (op : Op) (w : Work)
     → work_after (alone arrays) (answered_op op) (with_set w x v) ≡ with_set (work_after (alone arrays) (answered_op op) w) x v
 does_set arrays x v (Bind y e) w h =
     let n = not_or (y == x) (uses_in x e) h in
-    ap (λ l. record w { env = l }) (ap (λ k. slice_set (slice_set w.env x v) y k) (value_unused x v e w.env n.1) ∙ set_comm w.env x y v (value_of e w.env) (apart x y n.0))
+    ap (λ l. record w { env = l })
+    (ap (λ k. slice_set (slice_set w.env x v) y k) (value_unused x v e w.env n.1) ∙ set_comm w.env x y v (value_of e w.env) (apart x y n.0))
 does_set arrays x v (CombRead y m a) w h =
     let n = not_or (y == x) (a == x) h in
-    ap (λ l. record w { env = l }) (ap (λ k. slice_set (slice_set w.env x v) y (word_at arrays m k)) (other w.env x v a n.1) ∙ set_comm w.env x y v (word_at arrays m (slice_index w.env a)) (apart x y n.0))
+    ap (λ l. record w { env = l })
+    (ap (λ k. slice_set (slice_set w.env x v) y (word_at arrays m k)) (other w.env x v a n.1)
+    ∙ set_comm w.env x y v (word_at arrays m (slice_index w.env a)) (apart x y n.0))
 does_set arrays x v (DelayedRead y m a) w h =
     let n = not_or (y == x) (a == x) h in
-    ap (λ l. record w { env = l }) (ap (λ k. slice_set (slice_set w.env x v) y (word_at arrays m k)) (other w.env x v a n.1) ∙ set_comm w.env x y v (word_at arrays m (slice_index w.env a)) (apart x y n.0))
-does_set arrays x v (Write m a e) w h = let n = not_or (a == x) (uses_in x e) h in ap (λ k. record (with_set w x v) { entries = with_entry_value w.entries m a k }) (value_unused x v e w.env n.1)
+    ap (λ l. record w { env = l })
+    (ap (λ k. slice_set (slice_set w.env x v) y (word_at arrays m k)) (other w.env x v a n.1)
+    ∙ set_comm w.env x y v (word_at arrays m (slice_index w.env a)) (apart x y n.0))
+does_set arrays x v (Write m a e) w h = let n = not_or (a == x) (uses_in x e) h in
+    ap (λ k. record (with_set w x v) { entries = with_entry_value w.entries m a k }) (value_unused x v e w.env n.1)
 does_set arrays x v (ReserveWrite m a) w h =
-    ap (λ k. record (with_set w x v) { entries = record { mem = m; var = a; address = k; value = None } ∷ w.entries; ready = w.ready && true }) (other w.env x v a h)
+    ap (λ k. record (with_set w x v) { entries = record { mem = m; var = a; address = k; value = None } ∷ w.entries; ready = w.ready && true })
+    (other w.env x v a h)
 does_set arrays x v (Block m a) w h = refl
 does_set arrays x v (Call args) w h = ap (λ k. record (with_set w x v) { child = Some k }) (values_unused x v args w.env h)
 does_set arrays x v (SpecCall args) w h = ap (λ k. record (with_set w x v) { child = Some k; guess = k }) (values_unused x v args w.env h)
@@ -94,7 +105,9 @@ does_set arrays x v (Verify args) w h =
     ap (λ k. cond (same_args k w.guess) (with_set w x v) (record (with_set w x v) { child = Some k; fails = true })) (values_unused x v args w.env h)
     ∙ at (same_args (values_of args w.env) w.guess)
   where
-    at : (b : Bool) → cond b (with_set w x v) (record (with_set w x v) { child = Some (values_of args w.env); fails = true }) ≡ with_set (cond b w (record w { child = Some (values_of args w.env); fails = true })) x v
+    at : (b : Bool)
+        → cond b (with_set w x v) (record (with_set w x v) { child = Some (values_of args w.env); fails = true })
+        ≡ with_set (cond b w (record w { child = Some (values_of args w.env); fails = true })) x v
     at true = refl
     at false = refl
 does_set arrays x v _ w h = refl
@@ -108,10 +121,14 @@ step_set : (arrays : Arrays) (x v : ℕ) (y : Stmt) (w : Work)
     → step (alone arrays) (look y) (with_set w x v) ≡ with_set (step (alone arrays) (look y) w) x v
 step_set arrays x v y w h =
     by_or (is_dead y.guards) _ _ h
-    (λ d. ap (λ b. cond b (work_after (alone arrays) (answered_op y.op) (with_set w x v)) (with_set w x v)) (dead_none y.guards (slice_set w.env x v) d) ∙ sym (ap (λ b. with_set (cond b (work_after (alone arrays) (answered_op y.op) w) w) x v) (dead_none y.guards w.env d)))
-    (λ s. ap (λ b. cond b (work_after (alone arrays) (answered_op y.op) (with_set w x v)) (with_set w x v)) (taken_unused x v y.guards w.env (and_left _ _ s)) ∙ at (all_hold y.guards w.env) (and_right (not (asks_for x y.guards)) _ s))
+    (λ d. ap (λ b. cond b (work_after (alone arrays) (answered_op y.op) (with_set w x v)) (with_set w x v)) (dead_none y.guards (slice_set w.env x v) d)
+    ∙ sym (ap (λ b. with_set (cond b (work_after (alone arrays) (answered_op y.op) w) w) x v) (dead_none y.guards w.env d)))
+    (λ s. ap (λ b. cond b (work_after (alone arrays) (answered_op y.op) (with_set w x v)) (with_set w x v)) (taken_unused x v y.guards w.env (and_left _ _ s))
+    ∙ at (all_hold y.guards w.env) (and_right (not (asks_for x y.guards)) _ s))
   where
-    at : (b : Bool) → not (mentions_var x y.op) ≡ true → cond b (work_after (alone arrays) (answered_op y.op) (with_set w x v)) (with_set w x v) ≡ with_set (cond b (work_after (alone arrays) (answered_op y.op) w) w) x v
+    at : (b : Bool) → not (mentions_var x y.op) ≡ true
+        → cond b (work_after (alone arrays) (answered_op y.op) (with_set w x v)) (with_set w x v)
+        ≡ with_set (cond b (work_after (alone arrays) (answered_op y.op) w) w) x v
     at true k = does_set arrays x v y.op w k
     at false k = refl
 
@@ -120,7 +137,8 @@ pub set_later : (arrays : Arrays) (x v : ℕ) (ys : List Stmt) (w : Work)
     → do_all (alone arrays) (looked_all ys) (with_set w x v) ≡ with_set (do_all (alone arrays) (looked_all ys) w) x v
 set_later arrays x v [] w h = refl
 set_later arrays x v (y ∷ ys) w h =
-    ap (do_all (alone arrays) (looked_all ys)) (step_set arrays x v y w (and_left (is_dead y.guards || (not (asks_for x y.guards) && not (mentions_var x y.op))) _ h))
+    ap (do_all (alone arrays) (looked_all ys))
+    (step_set arrays x v y w (and_left (is_dead y.guards || (not (asks_for x y.guards) && not (mentions_var x y.op))) _ h))
     ∙ set_later arrays x v ys (step (alone arrays) (look y) w) (and_right (is_dead y.guards || (not (asks_for x y.guards) && not (mentions_var x y.op))) _ h)
 
 -- ASKING AND LOOKING
@@ -146,13 +164,15 @@ joined_asks qs v = λ i. record v { asks = qs ++ v.asks; child = or_none v.child
 -- what a work's request was before stands before those of more statements
 asks_more : (o : Around) (ys : List Stmt) (w : Work) (q : Ask)
     → do_all o ys (record w { asks = q ∷ [] }) ≡ record (do_all o ys (clear w)) { asks = q ∷ (do_all o ys (clear w)).asks }
-asks_more o ys w q = ap (do_all o ys) (sym (joined_asks (q ∷ []) (clear w))) ∙ do_all_joined o ys (asking (q ∷ [])) (clear w) ∙ joined_asks (q ∷ []) (do_all o ys (clear w))
+asks_more o ys w q =
+    ap (do_all o ys) (sym (joined_asks (q ∷ []) (clear w))) ∙ do_all_joined o ys (asking (q ∷ [])) (clear w) ∙ joined_asks (q ∷ []) (do_all o ys (clear w))
 
 -- statements that have nothing to do with a variable don't ask for it
 unasked_op : (x : ℕ) (o : Around) (op : Op) (w : Work)
     → not (mentions_var x op) ≡ true → AllAsks (λ q. q.var ≢ x) w.asks
     → AllAsks (λ q. q.var ≢ x) (work_after o op w).asks
-unasked_op x o (DelayedRead y m a) w h k = all_snoc (λ q. q.var ≢ x) w.asks (record { mem = m; var = y; address = slice_index w.env a }) k (λ e. apart x y (not_or (y == x) (a == x) h).0 (sym e))
+unasked_op x o (DelayedRead y m a) w h k =
+    all_snoc (λ q. q.var ≢ x) w.asks (record { mem = m; var = y; address = slice_index w.env a }) k (λ e. apart x y (not_or (y == x) (a == x) h).0 (sym e))
 unasked_op x o (Verify args) w h k = at (same_args (values_of args w.env) w.guess)
   where
     at : (b : Bool) → AllAsks (λ q. q.var ≢ x) (cond b w (record w { child = Some (values_of args w.env); fails = true })).asks
@@ -164,7 +184,9 @@ unasked_by : (x : ℕ) (o : Around) (ys : List Stmt) (w : Work)
     → silent_on x ys ≡ true → AllAsks (λ q. q.var ≢ x) w.asks → AllAsks (λ q. q.var ≢ x) (do_all o ys w).asks
 unasked_by x o [] w h k = k
 unasked_by x o (y ∷ ys) w h k =
-    unasked_by x o ys (step o y w) (and_right (is_dead y.guards || (not (asks_for x y.guards) && not (mentions_var x y.op))) _ h) (at (all_hold y.guards w.env) refl)
+    unasked_by x o ys (step o y w)
+    (and_right (is_dead y.guards || (not (asks_for x y.guards) && not (mentions_var x y.op))) _ h)
+    (at (all_hold y.guards w.env) refl)
   where
     at : (b : Bool) → all_hold y.guards w.env ≡ b → AllAsks (λ q. q.var ≢ x) (cond b (work_after o y.op w) w).asks
     at true t =
@@ -179,7 +201,9 @@ pub keeps_clear : (o : Around) (op : Op) (w : Work)
 keeps_clear o (DelayedRead x m a) w h = absurd (cc h)
 keeps_clear o (Verify args) w h = (refl, at (same_args (values_of args w.env) w.guess))
   where
-    at : (b : Bool) → cond b (clear w) (record (clear w) { child = Some (values_of args w.env); fails = true }) ≡ clear (cond b (clear w) (record (clear w) { child = Some (values_of args w.env); fails = true }))
+    at : (b : Bool)
+        → cond b (clear w) (record (clear w) { child = Some (values_of args w.env); fails = true })
+        ≡ clear (cond b (clear w) (record (clear w) { child = Some (values_of args w.env); fails = true }))
     at true = refl
     at false = refl
 keeps_clear o _ w h = (refl, refl)
@@ -192,13 +216,19 @@ raw_step : (arrays : Arrays) (y : Op) (ys : List Stmt) (w : Work)
     ≡ answered_now arrays (do_all (alone arrays) ys (work_after (alone arrays) y (clear w)))
 raw_step arrays y ys w h false e go =
     let k = keeps_clear (alone arrays) y w e in
-    ap (λ op. do_all (alone arrays) (looked_all ys) (work_after (alone arrays) op (clear w))) k.0 ∙ ap (do_all (alone arrays) (looked_all ys)) k.1 ∙ go (work_after (alone arrays) y (clear w)) ∙ ap (λ v. answered_now arrays (do_all (alone arrays) ys v)) (sym k.1)
+    ap (λ op. do_all (alone arrays) (looked_all ys) (work_after (alone arrays) op (clear w))) k.0
+    ∙ ap (do_all (alone arrays) (looked_all ys)) k.1 ∙ go (work_after (alone arrays) y (clear w))
+    ∙ ap (λ v. answered_now arrays (do_all (alone arrays) ys v)) (sym k.1)
 raw_step arrays (DelayedRead x m a) ys w h true e go =
     set_later arrays x (word_at arrays m (slice_index w.env a)) ys (clear w) h
     ∙ ap (λ v. with_set v x (word_at arrays m (slice_index w.env a))) (go w)
-    ∙ sym (ap (answered_now arrays) (ap (λ r. do_all (alone arrays) ys (record w { asks = record { mem = m; var = x; address = slice_index w.env a } ∷ []; ready = r })) (and-true w.ready) ∙ asks_more (alone arrays) ys w (record { mem = m; var = x; address = slice_index w.env a }))
+    ∙ sym
+    (ap (answered_now arrays)
+    (ap (λ r. do_all (alone arrays) ys (record w { asks = record { mem = m; var = x; address = slice_index w.env a } ∷ []; ready = r })) (and-true w.ready)
+    ∙ asks_more (alone arrays) ys w (record { mem = m; var = x; address = slice_index w.env a }))
     ∙ ap (λ l. record (do_all (alone arrays) ys (clear w)) { env = l; asks = [] })
-    (caught_set arrays x (word_at arrays m (slice_index w.env a)) (do_all (alone arrays) ys (clear w)).asks (do_all (alone arrays) ys (clear w)).env (unasked_by x (alone arrays) ys (clear w) h tt)))
+    (caught_set arrays x (word_at arrays m (slice_index w.env a))
+    (do_all (alone arrays) ys (clear w)).asks (do_all (alone arrays) ys (clear w)).env (unasked_by x (alone arrays) ys (clear w) h tt)))
 raw_step arrays (Bind x e) ys w h true f go = absurd (cc f)
 raw_step arrays (CombRead x m a) ys w h true f go = absurd (cc f)
 raw_step arrays (Write m a e) ys w h true f go = absurd (cc f)
@@ -220,7 +250,8 @@ raw_looked arrays [] w h = refl
 raw_looked arrays (y ∷ ys) w h = at (all_hold y.guards w.env) (λ v. raw_looked arrays ys v (and_right (unseen_op y.op ys) _ h))
   where
     at : (b : Bool) → ((v : Work) → do_all (alone arrays) (looked_all ys) (clear v) ≡ answered_now arrays (do_all (alone arrays) ys (clear v)))
-        → do_all (alone arrays) (looked_all ys) (cond b (work_after (alone arrays) (answered_op y.op) (clear w)) (clear w)) ≡ answered_now arrays (do_all (alone arrays) ys (cond b (work_after (alone arrays) y.op (clear w)) (clear w)))
+        → do_all (alone arrays) (looked_all ys) (cond b (work_after (alone arrays) (answered_op y.op) (clear w)) (clear w))
+        ≡ answered_now arrays (do_all (alone arrays) ys (cond b (work_after (alone arrays) y.op (clear w)) (clear w)))
     at true go = raw_step arrays y.op ys w (and_left _ _ h) (is_fetch y.op) refl go
     at false go = go w
 
@@ -260,7 +291,9 @@ fixed_set : (path : List ℕ) (arrays : Arrays) (x v : ℕ) (ys : List Stmt) (w 
     → Fixed path (alone arrays) (looked_all ys) w
 fixed_set path arrays x v [] w h f = tt
 fixed_set path arrays x v (y ∷ ys) w h f = (
-  by_or (is_dead y.guards) _ _ here (λ d. dead_none y.guards w.env d ∙ sym (dead_none y.guards (slice_set w.env x v) d)) (λ s. sym (taken_unused x v y.guards w.env (and_left _ _ s))) ∙ f.0,
+  by_or (is_dead y.guards) _ _ here (λ d. dead_none y.guards w.env d ∙ sym (dead_none y.guards (slice_set w.env x v) d))
+      (λ s. sym (taken_unused x v y.guards w.env (and_left _ _ s)))
+      ∙ f.0,
   fixed_set path arrays x v ys (step (alone arrays) (look y) w) (and_right (is_dead y.guards || (not (asks_for x y.guards) && not (mentions_var x y.op))) _ h)
       (subst (λ u. Fixed path (alone arrays) (looked_all ys) u) (step_set arrays x v y w here) f.1),
 )
@@ -273,9 +306,11 @@ fixed_op : (path : List ℕ) (arrays : Arrays) (y : Op) (ys : List Stmt) (w : Wo
     → unseen_op y ys ≡ true → (f : Bool) → is_fetch y ≡ f
     → Fixed path (alone arrays) (looked_all ys) (work_after (alone arrays) (answered_op y) w)
     → Fixed path (alone arrays) (looked_all ys) (work_after (alone arrays) y w)
-fixed_op path arrays y ys w h false e g = subst (λ op. Fixed path (alone arrays) (looked_all ys) (work_after (alone arrays) op w)) (keeps_clear (alone arrays) y w e).0 g
+fixed_op path arrays y ys w h false e g =
+    subst (λ op. Fixed path (alone arrays) (looked_all ys) (work_after (alone arrays) op w)) (keeps_clear (alone arrays) y w e).0 g
 fixed_op path arrays (DelayedRead x m a) ys w h true e g =
-    fixed_env path (alone arrays) (looked_all ys) w (work_after (alone arrays) (DelayedRead x m a) w) refl (fixed_set path arrays x (word_at arrays m (slice_index w.env a)) ys w h g)
+    fixed_env path (alone arrays)
+    (looked_all ys) w (work_after (alone arrays) (DelayedRead x m a) w) refl (fixed_set path arrays x (word_at arrays m (slice_index w.env a)) ys w h g)
 fixed_op path arrays (Bind x e) ys w h true f g = absurd (cc f)
 fixed_op path arrays (CombRead x m a) ys w h true f g = absurd (cc f)
 fixed_op path arrays (Write m a e) ys w h true f g = absurd (cc f)
@@ -298,7 +333,9 @@ fixed_raw path arrays (y ∷ ys) w h f = (
   fixed_raw path arrays ys (step (alone arrays) y w) (and_right (unseen_op y.op ys) _ h) (at (all_hold y.guards w.env) f.1),
 )
   where
-    at : (b : Bool) → Fixed path (alone arrays) (looked_all ys) (cond b (work_after (alone arrays) (answered_op y.op) w) w) → Fixed path (alone arrays) (looked_all ys) (cond b (work_after (alone arrays) y.op w) w)
+    at : (b : Bool)
+        → Fixed path (alone arrays) (looked_all ys) (cond b (work_after (alone arrays) (answered_op y.op) w) w)
+        → Fixed path (alone arrays) (looked_all ys) (cond b (work_after (alone arrays) y.op w) w)
     at true g = fixed_op path arrays y.op ys w (and_left _ _ h) (is_fetch y.op) refl g
     at false g = g
 
@@ -319,7 +356,8 @@ pub stage_looked : (s : ℕ) (xs : List Stmt) → in_stage s (looked_all xs) ≡
 stage_looked s [] = refl
 stage_looked s (x ∷ xs) = at (x.stage == s) (stage_looked s xs)
   where
-    at : (b : Bool) → in_stage s (looked_all xs) ≡ looked_all (in_stage s xs) → cond b (look x ∷ in_stage s (looked_all xs)) (in_stage s (looked_all xs)) ≡ looked_all (cond b (x ∷ in_stage s xs) (in_stage s xs))
+    at : (b : Bool) → in_stage s (looked_all xs) ≡ looked_all (in_stage s xs)
+        → cond b (look x ∷ in_stage s (looked_all xs)) (in_stage s (looked_all xs)) ≡ looked_all (cond b (x ∷ in_stage s xs) (in_stage s xs))
     at true h = ap (λ l. look x ∷ l) h
     at false h = h
 
@@ -328,7 +366,9 @@ pub path_looked : (path : List ℕ) (xs : List Stmt) → onpath path (looked_all
 path_looked path [] = refl
 path_looked path (x ∷ xs) = at (all_hold x.guards path) (path_looked path xs)
   where
-    at : (b : Bool) → onpath path (looked_all xs) ≡ looked_all (onpath path xs) → cond b (record (look x) { guards = [] } ∷ onpath path (looked_all xs)) (onpath path (looked_all xs)) ≡ looked_all (cond b (record x { guards = [] } ∷ onpath path xs) (onpath path xs))
+    at : (b : Bool) → onpath path (looked_all xs) ≡ looked_all (onpath path xs)
+        → cond b (record (look x) { guards = [] } ∷ onpath path (looked_all xs)) (onpath path (looked_all xs))
+        ≡ looked_all (cond b (record x { guards = [] } ∷ onpath path xs) (onpath path xs))
     at true h = ap (λ l. record (look x) { guards = [] } ∷ l) h
     at false h = h
 

@@ -110,7 +110,9 @@ later_more m ks d ks' xs e xs' l k (inl h) =
       rest = l.rest ++ xs;
       whole = ap (λ a. a ++ xs) l.whole ∙ append_assoc l.front l.rest xs;
       commits = l.commits ∙ sym (append-nil d) ∙ ap (λ a. d ++ a) (sym h);
-      raised = raised_append l.rest ks' xs xs' l.raised (subst (λ a. Raised a xs') (sym (k.whole ∙ ap (λ a. a ++ k.rest) (no_strips m k.front (k.commits ∙ h)))) k.raised);
+      raised =
+          raised_append l.rest ks' xs xs' l.raised
+          (subst (λ a. Raised a xs') (sym (k.whole ∙ ap (λ a. a ++ k.rest) (no_strips m k.front (k.commits ∙ h)))) k.raised);
     }
 later_more m ks d ks' xs e xs' l k (inr h) =
     let n = no_parts l.front l.rest (sym l.whole ∙ h) in
@@ -148,7 +150,9 @@ pub later_ready : (m a : ℕ) (k : Lock) (ks : List Mark) (gone : List Commit) (
     → read_ready k (seen a ks Nothing) ≡ true → read_ready k (seen a js Nothing) ≡ true
 later_ready m a k ks gone js l h =
     calm_read k (seen a ks Nothing) (seen a js Nothing)
-    (subst (λ x. Calm x (seen a js Nothing)) (sym (ap (λ x. seen a x Nothing) l.whole ∙ seen_append a l.front l.rest Nothing)) (calm_raised a l.rest js _ Nothing l.raised (calm_nothing _ Nothing refl)))
+    (subst (λ x. Calm x (seen a js Nothing))
+    (sym (ap (λ x. seen a x Nothing) l.whole ∙ seen_append a l.front l.rest Nothing))
+    (calm_raised a l.rest js _ Nothing l.raised (calm_nothing _ Nothing refl)))
     h
 
 -- what marks give of a word, where it is not still to come, is the word after their writes
@@ -162,7 +166,9 @@ seen_value m a (k ∷ ks) rest words base h f = seen_value m a ks _ (with_value 
     here true e = refl
     here false e = absurd (cc e)
 
-    at : (b : Bool) → (k.address == a) ≡ b → (c : Bool) → (a == k.address) ≡ c → is_coming (cond b (mark_latest k) rest) ≡ false → value_or (cond b (mark_latest k) rest) base ≡ cond c k.value (words a)
+    at : (b : Bool) → (k.address == a) ≡ b → (c : Bool) → (a == k.address) ≡ c
+        → is_coming (cond b (mark_latest k) rest) ≡ false
+        → value_or (cond b (mark_latest k) rest) base ≡ cond c k.value (words a)
     at true e true g = here k.known
     at true e false g = absurd (eqb-false _ _ g (sym (eqb-true _ _ e)))
     at false e true g = absurd (eqb-false _ _ e (sym (eqb-true _ _ g)))
@@ -190,6 +196,7 @@ pub strips_marked : (m : ℕ) (b : Bool) (cs : List Commit) → strips m (marked
 strips_marked m b [] = refl
 strips_marked m b (c ∷ cs) = at (c.mem == m) refl (strips_marked m b cs)
   where
-    at : (t : Bool) → (c.mem == m) ≡ t → strips m (marked b (of_mem m cs)) ≡ of_mem m cs → strips m (marked b (cond t (c ∷ of_mem m cs) (of_mem m cs))) ≡ cond t (c ∷ of_mem m cs) (of_mem m cs)
+    at : (t : Bool) → (c.mem == m) ≡ t → strips m (marked b (of_mem m cs)) ≡ of_mem m cs
+        → strips m (marked b (cond t (c ∷ of_mem m cs) (of_mem m cs))) ≡ cond t (c ∷ of_mem m cs) (of_mem m cs)
     at true e h = λ i. record { mem = sym (eqb-true c.mem m e) i; address = c.address; value = c.value } ∷ h i
     at false e h = h

@@ -31,5 +31,7 @@ fixed_stage s [] h = refl
 fixed_stage s (x ∷ xs) h = at (x.stage == s) refl (fixed_stage s xs (and_right _ _ h))
   where
     at : (b : Bool) → (x.stage == s) ≡ b → is_fixed (in_stage s xs) ≡ true → is_fixed (cond b (x ∷ in_stage s xs) (in_stage s xs)) ≡ true
-    at true e k = ap₂ (λ a b. a && b) (subst (λ b. keeps_guards x.guards (cond b (x ∷ in_stage s xs) (in_stage s xs)) ≡ true) e (keeps_stage s x.guards (x ∷ xs) (and_left _ _ h))) k
+    at true e k =
+        ap₂ (λ a b. a && b)
+        (subst (λ b. keeps_guards x.guards (cond b (x ∷ in_stage s xs) (in_stage s xs)) ≡ true) e (keeps_stage s x.guards (x ∷ xs) (and_left _ _ h))) k
     at false e k = k

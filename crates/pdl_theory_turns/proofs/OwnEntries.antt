@@ -20,7 +20,8 @@ pub pend_own : (m n : ℕ) (es : List Entry) → pend m n es ≡ pend m n (entri
 pend_own m n [] = refl
 pend_own m n (e ∷ es) = at (e.mem == m) refl (pend_own m n es)
   where
-    at : (b : Bool) → (e.mem == m) ≡ b → pend m n es ≡ pend m n (entries_of m es) → pend m n es ++ cond b (own n e ∷ []) [] ≡ pend m n (cond b (e ∷ entries_of m es) (entries_of m es))
+    at : (b : Bool) → (e.mem == m) ≡ b → pend m n es ≡ pend m n (entries_of m es)
+        → pend m n es ++ cond b (own n e ∷ []) [] ≡ pend m n (cond b (e ∷ entries_of m es) (entries_of m es))
     at true f h = ap₂ (λ l b. l ++ cond b (own n e ∷ []) []) h (sym f)
     at false f h = append-nil _ ∙ h
 
@@ -30,9 +31,13 @@ pend_one m n x a v = ap (λ b. cond b (own n (entry m x a v) ∷ []) []) (eq-eqb
 
 -- a stage's work on a thread's entries of m, of which start are those before it
 pub record Worked (m n : ℕ) (start : List Pending) (d : Deeds) (w : Work) : Type 0 where
-  pub after : pend m n w.entries ≡ (if list_any (λ k. k == m) d.releases then but_oldest (with_writes_of m n d.writes (start ++ new_entries m n d.reserves)) else with_writes_of m n d.writes (start ++ new_entries m n d.reserves))
+  pub after : pend m n w.entries
+      ≡ (if list_any (λ k. k == m) d.releases
+      then but_oldest (with_writes_of m n d.writes (start ++ new_entries m n d.reserves))
+      else with_writes_of m n d.writes (start ++ new_entries m n d.reserves))
   pub full : list_any (λ k. k == m) d.releases ≡ true → (x : Pending) × (with_writes_of m n d.writes (start ++ new_entries m n d.reserves) ≡ x ∷ [])
-  pub commits : of_mem m w.commits ≡ released m (if list_any (λ k. k == m) d.releases then oldest (with_writes_of m n d.writes (start ++ new_entries m n d.reserves)) else None)
+  pub commits : of_mem m w.commits
+      ≡ released m (if list_any (λ k. k == m) d.releases then oldest (with_writes_of m n d.writes (start ++ new_entries m n d.reserves)) else None)
 
 -- where a thread's entries follow its phase, the stage has done its work on those of memory m
 pub worked : (m n : ℕ) (start : List Pending) (d : Deeds) (w : Work) (ph : Phase)
@@ -40,9 +45,15 @@ pub worked : (m n : ℕ) (start : List Pending) (d : Deeds) (w : Work) (ph : Pha
     → Worked m n start d w
 worked m n start d w ph g = at ph g
   where
-    stays : with_writes_of m n d.writes (start ++ new_entries m n d.reserves) ≡ pend m n w.entries → list_any (λ k. k == m) d.releases ≡ false → of_mem m w.commits ≡ [] → Worked m n start d w
+    stays : with_writes_of m n d.writes (start ++ new_entries m n d.reserves) ≡ pend m n w.entries
+        → list_any (λ k. k == m) d.releases ≡ false → of_mem m w.commits ≡ [] → Worked m n start d w
     stays e f h = record {
-      after = sym e ∙ ap (λ b. cond b (but_oldest (with_writes_of m n d.writes (start ++ new_entries m n d.reserves))) (with_writes_of m n d.writes (start ++ new_entries m n d.reserves))) (sym f);
+      after =
+          sym e
+          ∙ ap
+          (λ b. cond b (but_oldest (with_writes_of m n d.writes (start ++ new_entries m n d.reserves)))
+          (with_writes_of m n d.writes (start ++ new_entries m n d.reserves)))
+          (sym f);
       full = λ i. absurd (clash (sym f ∙ i));
       commits = h ∙ ap (λ b. released m (cond b (oldest (with_writes_of m n d.writes (start ++ new_entries m n d.reserves))) None)) (sym f);
     }
@@ -50,13 +61,16 @@ worked m n start d w ph g = at ph g
         clash : false ≡ true → ⊥
         clash k = cc
 
-    at : (q : Phase) → Staged m n q (entries_of m w.entries) (of_mem m w.commits) (start ++ new_entries m n d.reserves) d.writes (list_any (λ k. k == m) d.releases) → Worked m n start d w
+    at : (q : Phase)
+        → Staged m n q (entries_of m w.entries) (of_mem m w.commits) (start ++ new_entries m n d.reserves) d.writes (list_any (λ k. k == m) d.releases)
+        → Worked m n start d w
     at Fresh g = stays (ap (with_writes_of m n d.writes) g.2 ∙ g.3 [] ∙ sym (pend_own m n w.entries ∙ ap (pend m n) g.0)) g.4 g.1
     at (Held x) g = stays (g.3 ∙ sym (pend_own m n w.entries ∙ ap (pend m n) g.1 ∙ pend_one m n x g.0 None)) g.4 g.2
     at (Written x) g = stays (g.4 ∙ sym (pend_own m n w.entries ∙ ap (pend m n) g.2 ∙ pend_one m n x g.0 (Some g.1))) g.5 g.3
     at Done g = by g.1
       where
-        by : Gone m n (of_mem m w.commits) (with_writes_of m n d.writes (start ++ new_entries m n d.reserves)) (list_any (λ k. k == m) d.releases) → Worked m n start d w
+        by : Gone m n (of_mem m w.commits) (with_writes_of m n d.writes (start ++ new_entries m n d.reserves)) (list_any (λ k. k == m) d.releases)
+            → Worked m n start d w
         by (inl h) = stays (h.1 ∙ sym (pend_own m n w.entries ∙ ap (pend m n) g.0)) h.2 h.0
         by (inr h) = record {
           after = pend_own m n w.entries ∙ ap (pend m n) g.0 ∙ ap₂ (λ b l. cond b (but_oldest l) l) (sym h.4) (sym h.3);
@@ -100,7 +114,8 @@ pub fixed_to : (path : List ℕ) (o : Around) (xs ys : List Stmt) (w : Work) →
     → ((g : ℕ) → none_of (binds_var g) ys ≡ true → slice_index path g ≡ slice_index (do_all o xs w).env g) → Fixed path o xs w
 fixed_to path o [] ys w h e = tt
 fixed_to path o (x ∷ xs) ys w h e = (
-  taken_stays x.guards ((x ∷ xs) ++ ys) w.env path (and_left _ _ h) (λ g k. e g (none_second (binds_var g) (x ∷ xs) ys k) ∙ all_stays g o (x ∷ xs) w (none_first (binds_var g) (x ∷ xs) ys k)),
+  taken_stays x.guards ((x ∷ xs) ++ ys) w.env path (and_left _ _ h)
+      (λ g k. e g (none_second (binds_var g) (x ∷ xs) ys k) ∙ all_stays g o (x ∷ xs) w (none_first (binds_var g) (x ∷ xs) ys k)),
   fixed_to path o xs ys (step o x w) (and_right _ _ h) e,
 )
 
@@ -108,7 +123,9 @@ fixed_to path o (x ∷ xs) ys w h e = (
 quiet_op : (m n : ℕ) (read : ℕ → ℕ → ℕ) (op : Op) (d : Deeds)
     → not (is_reserve m op) ≡ true → new_entries m n d.reserves ≡ []
     → new_entries m n (Machine.deeds_after read op d).reserves ≡ []
-quiet_op m n read (ReserveWrite j a) d h k = new_more m n d.reserves (record { mem = j; address = slice_index d.env a }) ∙ ap₂ (λ l b. l ++ cond b (own n (entry m 0 (slice_index d.env a) None) ∷ []) []) k (off (j == m) h)
+quiet_op m n read (ReserveWrite j a) d h k =
+    new_more m n d.reserves (record { mem = j; address = slice_index d.env a })
+    ∙ ap₂ (λ l b. l ++ cond b (own n (entry m 0 (slice_index d.env a) None) ∷ []) []) k (off (j == m) h)
   where
     off : (b : Bool) → not b ≡ true → b ≡ false
     off true q = absurd (cc q)
@@ -125,7 +142,8 @@ pub quiet_reserves : (m n : ℕ) (read : ℕ → ℕ → ℕ) (xs : List Stmt) (
     → none_of (is_reserve m) xs ≡ true → new_entries m n d.reserves ≡ []
     → new_entries m n (deeds_after_all read xs d).reserves ≡ []
 quiet_reserves m n read [] d h k = k
-quiet_reserves m n read (x ∷ xs) d h k = quiet_reserves m n read xs (if all_hold x.guards d.env then Machine.deeds_after read x.op d else d) (and_right _ _ h) (at (all_hold x.guards d.env))
+quiet_reserves m n read (x ∷ xs) d h k =
+    quiet_reserves m n read xs (if all_hold x.guards d.env then Machine.deeds_after read x.op d else d) (and_right _ _ h) (at (all_hold x.guards d.env))
   where
     at : (b : Bool) → new_entries m n (cond b (Machine.deeds_after read x.op d) d).reserves ≡ []
     at true = quiet_op m n read x.op d (and_left _ _ h) k

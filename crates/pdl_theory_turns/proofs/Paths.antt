@@ -84,11 +84,14 @@ against_none g (k ∷ ks) env h t = at ((g.var == k.var) && (if g.first then not
     none true c e = e
     none false c e = refl
 
-    at : (b : Bool) → ((g.var == k.var) && (if g.first then not k.first else k.first)) ≡ b → (b || against g ks) ≡ true → (against g ks ≡ true → takes_branch g.first (slice_index env g.var) ≡ true → all_hold ks env ≡ false)
+    at : (b : Bool) → ((g.var == k.var) && (if g.first then not k.first else k.first)) ≡ b → (b || against g ks) ≡ true
+        → (against g ks ≡ true → takes_branch g.first (slice_index env g.var) ≡ true → all_hold ks env ≡ false)
         → (takes_branch k.first (slice_index env k.var) && all_hold ks env) ≡ false
     at true e i f =
         let same : g.var ≡ k.var = eqb-true _ _ (and_left (g.var == k.var) _ e) in
-        ap (λ b. b && all_hold ks env) (opposite g.first k.first (slice_index env k.var) (and_right (g.var == k.var) _ e) (subst (λ n. takes_branch g.first (slice_index env n) ≡ true) same t))
+        ap (λ b. b && all_hold ks env)
+        (opposite g.first k.first (slice_index env k.var) (and_right (g.var == k.var) _ e)
+        (subst (λ n. takes_branch g.first (slice_index env n) ≡ true) same t))
     at false e i f = none _ _ (f i t)
 
 -- guards that contradict one another never hold
@@ -96,7 +99,9 @@ pub dead_none : (gs : List Guard) (env : List ℕ) → is_dead gs ≡ true → a
 dead_none [] env h = absurd (cc h)
 dead_none (g ∷ gs) env h = at (against g gs) refl h (takes_branch g.first (slice_index env g.var)) refl (dead_none gs env)
   where
-    at : (b : Bool) → against g gs ≡ b → (b || is_dead gs) ≡ true → (t : Bool) → takes_branch g.first (slice_index env g.var) ≡ t → (is_dead gs ≡ true → all_hold gs env ≡ false) → (takes_branch g.first (slice_index env g.var) && all_hold gs env) ≡ false
+    at : (b : Bool) → against g gs ≡ b → (b || is_dead gs) ≡ true → (t : Bool)
+        → takes_branch g.first (slice_index env g.var) ≡ t → (is_dead gs ≡ true → all_hold gs env ≡ false)
+        → (takes_branch g.first (slice_index env g.var) && all_hold gs env) ≡ false
     at b e i false k f = ap (λ t. t && all_hold gs env) k
     at true e i true k f = ap (λ t. t && all_hold gs env) k ∙ against_none g gs env e k
     at false e i true k f = ap (λ t. t && all_hold gs env) k ∙ f i
@@ -128,7 +133,8 @@ run_path path (x ∷ xs) r h e =
     ∙ at (all_hold x.guards r.env) (all_hold x.guards path)
     (taken_stays x.guards (x ∷ xs) r.env path (and_left _ _ h) (λ g k. ap (λ l. slice_index l g) (sym e) ∙ run_stays g (x ∷ xs) r k))
   where
-    at : (b c : Bool) → b ≡ c → run_all (onpath path xs) (cond b (run_after x.op r) r) ≡ run_all (cond c (record x { guards = [] } ∷ onpath path xs) (onpath path xs)) r
+    at : (b c : Bool) → b ≡ c
+        → run_all (onpath path xs) (cond b (run_after x.op r) r) ≡ run_all (cond c (record x { guards = [] } ∷ onpath path xs) (onpath path xs)) r
     at true true i = refl
     at true false i = absurd (cc i)
     at false true i = absurd (cc i)
@@ -144,7 +150,8 @@ step_path : (path : List ℕ) (o : Around) (x : Stmt) (xs : List Stmt) (w : Work
     → do_all o (onpath path xs) (step o x w) ≡ do_all o (onpath path (x ∷ xs)) w
 step_path path o x xs w e = at (all_hold x.guards w.env) (all_hold x.guards path) e
   where
-    at : (b c : Bool) → b ≡ c → do_all o (onpath path xs) (cond b (work_after o x.op w) w) ≡ do_all o (cond c (record x { guards = [] } ∷ onpath path xs) (onpath path xs)) w
+    at : (b c : Bool) → b ≡ c
+        → do_all o (onpath path xs) (cond b (work_after o x.op w) w) ≡ do_all o (cond c (record x { guards = [] } ∷ onpath path xs) (onpath path xs)) w
     at true true i = refl
     at true false i = absurd (cc i)
     at false true i = absurd (cc i)
@@ -157,7 +164,10 @@ pub fixed_path_to : (path : List ℕ) (o : Around) (xs ys : List Stmt) (w : Work
     → Fixed path o xs w
 fixed_path_to path o [] ys w h e = tt
 fixed_path_to path o (x ∷ xs) ys w h e =
-    let same : all_hold x.guards w.env ≡ all_hold x.guards path = taken_stays x.guards ((x ∷ xs) ++ ys) w.env path (and_left _ _ h) (λ g k. sym (e g (none_behind (binds_var g) (x ∷ xs) ys k)) ∙ all_stays g o (onpath path (x ∷ xs)) w (none_onpath (binds_var g) path (x ∷ xs) (none_front (binds_var g) (x ∷ xs) ys k))) in
+    let same : all_hold x.guards w.env ≡ all_hold x.guards path =
+    taken_stays x.guards ((x ∷ xs) ++ ys) w.env path (and_left _ _ h)
+    (λ g k. sym (e g (none_behind (binds_var g) (x ∷ xs) ys k))
+    ∙ all_stays g o (onpath path (x ∷ xs)) w (none_onpath (binds_var g) path (x ∷ xs) (none_front (binds_var g) (x ∷ xs) ys k))) in
     (same, fixed_path_to path o xs ys (step o x w) (and_right _ _ h) (λ g k. ap (λ (v : Work). slice_index v.env g) (step_path path o x xs w same) ∙ e g k))
   where
     none_behind : (test : Op → Bool) (us vs : List Stmt) → none_of test (us ++ vs) ≡ true → none_of test vs ≡ true
@@ -179,12 +189,16 @@ before_path path s [] = refl
 before_path path s (x ∷ xs) = at (all_hold x.guards path) refl (nat_lt x.stage s) refl (before_path path s xs)
   where
     at : (b : Bool) → all_hold x.guards path ≡ b → (c : Bool) → nat_lt x.stage s ≡ c → before s (onpath path xs) ≡ onpath path (before s xs)
-        → before s (cond b (record x { guards = [] } ∷ onpath path xs) (onpath path xs)) ≡ onpath path (cond c (record x { op = answered_op x.op } ∷ before s xs) (before s xs))
+        → before s (cond b (record x { guards = [] } ∷ onpath path xs) (onpath path xs))
+        ≡ onpath path (cond c (record x { op = answered_op x.op } ∷ before s xs) (before s xs))
     at true e true f h =
-        ap (λ t. cond t (record { stage = x.stage; guards = []; op = answered_op x.op } ∷ before s (onpath path xs)) (before s (onpath path xs))) f ∙ ap (λ l. record { stage = x.stage; guards = []; op = answered_op x.op } ∷ l) h
+        ap (λ t. cond t (record { stage = x.stage; guards = []; op = answered_op x.op } ∷ before s (onpath path xs)) (before s (onpath path xs))) f
+        ∙ ap (λ l. record { stage = x.stage; guards = []; op = answered_op x.op } ∷ l) h
         ∙ sym (ap (λ t. cond t (record { stage = x.stage; guards = []; op = answered_op x.op } ∷ onpath path (before s xs)) (onpath path (before s xs))) e)
-    at true e false f h = ap (λ t. cond t (record { stage = x.stage; guards = []; op = answered_op x.op } ∷ before s (onpath path xs)) (before s (onpath path xs))) f ∙ h
-    at false e true f h = h ∙ sym (ap (λ t. cond t (record { stage = x.stage; guards = []; op = answered_op x.op } ∷ onpath path (before s xs)) (onpath path (before s xs))) e)
+    at true e false f h =
+        ap (λ t. cond t (record { stage = x.stage; guards = []; op = answered_op x.op } ∷ before s (onpath path xs)) (before s (onpath path xs))) f ∙ h
+    at false e true f h =
+        h ∙ sym (ap (λ t. cond t (record { stage = x.stage; guards = []; op = answered_op x.op } ∷ onpath path (before s xs)) (onpath path (before s xs))) e)
     at false e false f h = h
 
 -- the statements of a stage, of those on a path, are those on the path, of the stage

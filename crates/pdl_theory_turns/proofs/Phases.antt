@@ -75,7 +75,9 @@ tied_release m a (Written x) env es cs ws h t = at (x == a) refl
         gone : x ≡ a → (without es m a ≡ []) × (cs ++ released_commits es m a ≡ ws)
         gone f = (
           ap (λ l. without l m a) (t.2 ∙ ap (λ y. entry m y t.0 (Some t.1) ∷ []) f) ∙ without_one m a t.0 (Some t.1),
-          ap (λ l. l ++ released_commits es m a) t.3 ∙ ap (λ l. released_commits l m a) (t.2 ∙ ap (λ y. entry m y t.0 (Some t.1) ∷ []) f) ∙ released_one m a t.0 t.1 ∙ sym t.4,
+          ap (λ l. l ++ released_commits es m a) t.3
+              ∙ ap (λ l. released_commits l m a) (t.2 ∙ ap (λ y. entry m y t.0 (Some t.1) ∷ []) f)
+              ∙ released_one m a t.0 t.1 ∙ sym t.4,
         )
     at false e = (
       t.0,

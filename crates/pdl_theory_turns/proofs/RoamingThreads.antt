@@ -53,10 +53,14 @@ answers_other : (p : Pipe) (st : State) (bits : List Bool) (x : ℕ) (rs : List 
     → awaits_var x rs ≡ false → slice_index (with_answers p st bits rs env) x ≡ slice_index env x
 answers_other p st bits x [] env h = refl
 answers_other p st bits x (r ∷ rs) env h =
-    answers_other p st bits x rs (if is_answered p bits r.mem then slice_set env r.var (word_of st.arrays r.mem (asked_at st r.mem)) else env) (or_parts (r.var == x) (awaits_var x rs) h).1 ∙ at (is_answered p bits r.mem)
+    answers_other p st bits x rs (if is_answered p bits r.mem then slice_set env r.var (word_of st.arrays r.mem (asked_at st r.mem)) else env)
+    (or_parts (r.var == x) (awaits_var x rs) h).1
+    ∙ at (is_answered p bits r.mem)
   where
     at : (b : Bool) → slice_index (if b then slice_set env r.var (word_of st.arrays r.mem (asked_at st r.mem)) else env) x ≡ slice_index env x
-    at true = get_or-set_other env r.var x (word_of st.arrays r.mem (asked_at st r.mem)) 0 (λ e. eqb-false r.var x (or_parts (r.var == x) (awaits_var x rs) h).0 (sym e))
+    at true =
+        get_or-set_other env r.var x (word_of st.arrays r.mem (asked_at st r.mem)) 0
+        (λ e. eqb-false r.var x (or_parts (r.var == x) (awaits_var x rs) h).0 (sym e))
     at false = refl
 
 still_awaits : (p : Pipe) (bits : List Bool) (x : ℕ) (rs : List Awaited) → awaits_var x rs ≡ false → awaits_var x (still p bits rs) ≡ false
@@ -89,7 +93,13 @@ not_asked x (q ∷ qs) h = ap₂ (λ a b. a || b) (not-true (q.var == x) h.0) (n
 module _ (p : Pipe) (acc : Sound p) where
   pub fresh_roams : (args : List ℕ) → Roams p (fresh p args) × (has_made p (fresh p args) ≡ false)
   fresh_roams args = (
-    record { covers = λ m a h. absurd (cc h); barred = ap (λ l. some_barrier false (onpath (fresh p args).env l)) none; blind = λ env' f. ap (onpath env') none ∙ sym (ap (onpath (fresh p args).env) none); on = ap (comes_by p (fresh p args).env) acc.graph.trunk_start; aside = tt },
+    record {
+      covers = λ m a h. absurd (cc h);
+      barred = ap (λ l. some_barrier false (onpath (fresh p args).env l)) none;
+      blind = λ env' f. ap (onpath env') none ∙ sym (ap (onpath (fresh p args).env) none);
+      on = ap (comes_by p (fresh p args).env) acc.graph.trunk_start;
+      aside = tt;
+    },
     ap (λ l. not (is_unmade (making_all Unmade (onpath (fresh p args).env l)))) none,
   )
     where
@@ -100,20 +110,34 @@ module _ (p : Pipe) (acc : Sound p) where
     fixed_both : is_fixed (before t.stage p.stmts ++ in_stage t.stage p.stmts) ≡ true
     fixed_both =
         sym (fixed_looked (before t.stage p.stmts ++ in_stage t.stage p.stmts))
-        ∙ ap is_fixed (looked_append (before t.stage p.stmts) (in_stage t.stage p.stmts) ∙ ap₂ (λ k l. k ++ l) (looked_before t.stage p.stmts ∙ sym (before_looked t.stage p.stmts)) (sym (stage_looked t.stage p.stmts)))
-        ∙ fixed_front (before t.stage (looked_all p.stmts) ++ in_stage t.stage (looked_all p.stmts)) (stages_from (suc t.stage) (looked_all p.stmts)) (subst (λ l. is_fixed l ≡ true) (sym (append_assoc (before t.stage (looked_all p.stmts)) (in_stage t.stage (looked_all p.stmts)) (stages_from (suc t.stage) (looked_all p.stmts)))) (acc.pathwise.fixed_by t.stage))
+        ∙ ap is_fixed
+        (looked_append (before t.stage p.stmts) (in_stage t.stage p.stmts)
+        ∙ ap₂ (λ k l. k ++ l) (looked_before t.stage p.stmts ∙ sym (before_looked t.stage p.stmts)) (sym (stage_looked t.stage p.stmts)))
+        ∙ fixed_front (before t.stage (looked_all p.stmts) ++ in_stage t.stage (looked_all p.stmts))
+        (stages_from (suc t.stage) (looked_all p.stmts))
+        (subst (λ l. is_fixed l ≡ true)
+        (sym (append_assoc (before t.stage (looked_all p.stmts)) (in_stage t.stage (looked_all p.stmts)) (stages_from (suc t.stage) (looked_all p.stmts))))
+        (acc.pathwise.fixed_by t.stage))
 
     -- its stage's statements are those of the path that it is seen to take when the stage is done
-    along_path : work_of_stage p o t ≡ do_all o (onpath (work_of_stage p o t).env (in_stage t.stage p.stmts)) (record { env = t.env; entries = t.entries; guess = t.guess; asks = []; commits = []; child = None; fails = false; ready = true })
+    along_path : work_of_stage p o t
+        ≡ do_all o (onpath (work_of_stage p o t).env (in_stage t.stage p.stmts))
+        (record { env = t.env; entries = t.entries; guess = t.guess; asks = []; commits = []; child = None; fails = false; ready = true })
     along_path =
         fixed_all (work_of_stage p o t).env o (in_stage t.stage p.stmts) _
-        (fixed_to (work_of_stage p o t).env o (in_stage t.stage p.stmts) [] _ (subst (λ l. is_fixed l ≡ true) (sym (append-nil (in_stage t.stage p.stmts))) (fixed_second (before t.stage p.stmts) (in_stage t.stage p.stmts) fixed_both)) (λ g k. refl))
+        (fixed_to (work_of_stage p o t).env o (in_stage t.stage p.stmts)
+        [] _
+        (subst (λ l. is_fixed l ≡ true) (sym (append-nil (in_stage t.stage p.stmts)))
+        (fixed_second (before t.stage p.stmts) (in_stage t.stage p.stmts) fixed_both))
+        (λ g k. refl))
 
     -- and what it did before is on that path
     same_before : onpath (work_of_stage p o t).env (before t.stage p.stmts) ≡ onpath t.env (before t.stage p.stmts)
     same_before = same_path (before t.stage p.stmts) (in_stage t.stage p.stmts) fixed_both (λ g k. all_stays g o (in_stage t.stage p.stmts) _ k)
       where
-        same_path : (xs ys : List Stmt) → is_fixed (xs ++ ys) ≡ true → ((g : ℕ) → none_of (binds_var g) ys ≡ true → slice_index (work_of_stage p o t).env g ≡ slice_index t.env g) → onpath (work_of_stage p o t).env xs ≡ onpath t.env xs
+        same_path : (xs ys : List Stmt) → is_fixed (xs ++ ys) ≡ true
+            → ((g : ℕ) → none_of (binds_var g) ys ≡ true → slice_index (work_of_stage p o t).env g ≡ slice_index t.env g)
+            → onpath (work_of_stage p o t).env xs ≡ onpath t.env xs
         same_path [] ys h f = refl
         same_path (x ∷ xs) ys h f =
             ap₂ (λ b l. cond b (record x { guards = [] } ∷ l) l)
@@ -124,23 +148,37 @@ module _ (p : Pipe) (acc : Sound p) where
     before_on : (s : ℕ) → before s (onpath (work_of_stage p o t).env (looked_all p.stmts)) ≡ onpath (work_of_stage p o t).env (before s p.stmts)
     before_on s = before_path (work_of_stage p o t).env s (looked_all p.stmts) ∙ ap (onpath (work_of_stage p o t).env) (before_looked s p.stmts)
 
-    stage_on : in_stage t.stage (onpath (work_of_stage p o t).env (looked_all p.stmts)) ≡ looked_all (onpath (work_of_stage p o t).env (in_stage t.stage p.stmts))
-    stage_on = stage_path (work_of_stage p o t).env t.stage (looked_all p.stmts) ∙ ap (onpath (work_of_stage p o t).env) (stage_looked t.stage p.stmts) ∙ path_looked (work_of_stage p o t).env (in_stage t.stage p.stmts)
+    stage_on : in_stage t.stage (onpath (work_of_stage p o t).env (looked_all p.stmts))
+        ≡ looked_all (onpath (work_of_stage p o t).env (in_stage t.stage p.stmts))
+    stage_on =
+        stage_path (work_of_stage p o t).env t.stage (looked_all p.stmts)
+        ∙ ap (onpath (work_of_stage p o t).env) (stage_looked t.stage p.stmts)
+        ∙ path_looked (work_of_stage p o t).env (in_stage t.stage p.stmts)
 
-    piece_on : onpath (work_of_stage p o t).env (before (suc t.stage) p.stmts) ≡ onpath (work_of_stage p o t).env (before t.stage p.stmts) ++ looked_all (onpath (work_of_stage p o t).env (in_stage t.stage p.stmts))
+    piece_on : onpath (work_of_stage p o t).env (before (suc t.stage) p.stmts)
+        ≡ onpath (work_of_stage p o t).env (before t.stage p.stmts) ++ looked_all (onpath (work_of_stage p o t).env (in_stage t.stage p.stmts))
     piece_on = sym (before_on (suc t.stage)) ∙ (acc.pathwise.paths (work_of_stage p o t).env).pieces t.stage ∙ ap₂ (λ k l. k ++ l) (before_on t.stage) stage_on
 
     -- its stage in the scans of the path
     vis : verify_stage (looked_all p.stmts) ≡ verify_stage p.stmts
     vis = verify_looked p.stmts
 
-    sure_stage : all_sure (verify_stage p.stmts) (some_barrier false (onpath (work_of_stage p o t).env (before t.stage p.stmts))) (scan_after_all (onpath (work_of_stage p o t).env (before t.stage p.stmts)) no_scan) (onpath (work_of_stage p o t).env (in_stage t.stage p.stmts)) ≡ true
+    sure_stage : all_sure (verify_stage p.stmts)
+        (some_barrier false (onpath (work_of_stage p o t).env (before t.stage p.stmts)))
+        (scan_after_all (onpath (work_of_stage p o t).env (before t.stage p.stmts)) no_scan)
+        (onpath (work_of_stage p o t).env (in_stage t.stage p.stmts))
+        ≡ true
     sure_stage =
         sym (sure_looked (verify_stage p.stmts) _ _ (onpath (work_of_stage p o t).env (in_stage t.stage p.stmts)))
-        ∙ sure_second (verify_stage p.stmts) false no_scan (onpath (work_of_stage p o t).env (before t.stage p.stmts)) (looked_all (onpath (work_of_stage p o t).env (in_stage t.stage p.stmts)))
+        ∙ sure_second (verify_stage p.stmts) false no_scan (onpath (work_of_stage p o t).env (before t.stage p.stmts))
+        (looked_all (onpath (work_of_stage p o t).env (in_stage t.stage p.stmts)))
         (subst (λ l. all_sure (verify_stage p.stmts) false no_scan l ≡ true) (before_on (suc t.stage) ∙ piece_on)
-        (sure_first (verify_stage p.stmts) false no_scan (before (suc t.stage) (onpath (work_of_stage p o t).env (looked_all p.stmts))) (stages_from (suc t.stage) (onpath (work_of_stage p o t).env (looked_all p.stmts)))
-        (subst (λ l. all_sure (verify_stage p.stmts) false no_scan l ≡ true) ((acc.pathwise.paths (work_of_stage p o t).env).ordered (suc t.stage)) (subst (λ v. all_sure v false no_scan (onpath (work_of_stage p o t).env (looked_all p.stmts)) ≡ true) vis (acc.pathwise.sure (work_of_stage p o t).env)))))
+        (sure_first (verify_stage p.stmts) false no_scan (before (suc t.stage) (onpath (work_of_stage p o t).env (looked_all p.stmts)))
+        (stages_from (suc t.stage) (onpath (work_of_stage p o t).env (looked_all p.stmts)))
+        (subst (λ l. all_sure (verify_stage p.stmts) false no_scan l ≡ true)
+        ((acc.pathwise.paths (work_of_stage p o t).env).ordered (suc t.stage))
+        (subst (λ v. all_sure v false no_scan (onpath (work_of_stage p o t).env (looked_all p.stmts)) ≡ true) vis
+        (acc.pathwise.sure (work_of_stage p o t).env)))))
 
     free_stage : unguarded (onpath (work_of_stage p o t).env (in_stage t.stage p.stmts)) ≡ true
     free_stage = free_path (in_stage t.stage p.stmts)
@@ -149,14 +187,19 @@ module _ (p : Pipe) (acc : Sound p) where
         free_path [] = refl
         free_path (x ∷ xs) = at (all_hold x.guards (work_of_stage p o t).env) (free_path xs)
           where
-            at : (b : Bool) → unguarded (onpath (work_of_stage p o t).env xs) ≡ true → unguarded (cond b (record x { guards = [] } ∷ onpath (work_of_stage p o t).env xs) (onpath (work_of_stage p o t).env xs)) ≡ true
+            at : (b : Bool) → unguarded (onpath (work_of_stage p o t).env xs) ≡ true
+                → unguarded (cond b (record x { guards = [] } ∷ onpath (work_of_stage p o t).env xs) (onpath (work_of_stage p o t).env xs)) ≡ true
             at true h = h
             at false h = h
 
     in_here : AllIn t.stage (onpath (work_of_stage p o t).env (in_stage t.stage p.stmts))
-    in_here = subst (λ l. AllIn t.stage l) (stage_path (work_of_stage p o t).env t.stage p.stmts) (in_stage_all t.stage (onpath (work_of_stage p o t).env p.stmts))
+    in_here =
+        subst (λ l. AllIn t.stage l) (stage_path (work_of_stage p o t).env t.stage p.stmts) (in_stage_all t.stage (onpath (work_of_stage p o t).env p.stmts))
 
-    ok_here : makings_ok (verify_stage p.stmts) (making_all Unmade (onpath (work_of_stage p o t).env (before t.stage p.stmts))) (onpath (work_of_stage p o t).env (in_stage t.stage p.stmts)) ≡ true
+    ok_here : makings_ok (verify_stage p.stmts)
+        (making_all Unmade (onpath (work_of_stage p o t).env (before t.stage p.stmts)))
+        (onpath (work_of_stage p o t).env (in_stage t.stage p.stmts))
+        ≡ true
     ok_here =
         sym (ok_looked (verify_stage p.stmts) _ (onpath (work_of_stage p o t).env (in_stage t.stage p.stmts)))
         ∙ (λ i. makings_ok (sym vis i) (making_all Unmade (sym (before_on t.stage) i)) (sym stage_on i))
@@ -165,7 +208,11 @@ module _ (p : Pipe) (acc : Sound p) where
     -- a stage before V makes at most one thread
     makes_one : stands_at (verify_stage p.stmts) t.stage ≡ false
         → ((work_of_stage p o t).fails ≡ false) × (has_made p t ≡ true → (work_of_stage p o t).child ≡ None)
-        × (not (is_unmade (making_all (making_all Unmade (onpath (work_of_stage p o t).env (before t.stage p.stmts))) (onpath (work_of_stage p o t).env (in_stage t.stage p.stmts)))) ≡ (has_made p t || is_some (work_of_stage p o t).child))
+        × (not
+        (is_unmade
+        (making_all (making_all Unmade (onpath (work_of_stage p o t).env (before t.stage p.stmts)))
+        (onpath (work_of_stage p o t).env (in_stage t.stage p.stmts))))
+        ≡ (has_made p t || is_some (work_of_stage p o t).child))
     makes_one e = by (making_all Unmade (onpath (work_of_stage p o t).env (before t.stage p.stmts))) refl
       where
         none : none_of is_verify (onpath (work_of_stage p o t).env (in_stage t.stage p.stmts)) ≡ true
@@ -183,23 +230,38 @@ module _ (p : Pipe) (acc : Sound p) where
 
         later : (k : Making) → making_all Unmade (onpath (work_of_stage p o t).env (before t.stage p.stmts)) ≡ k → is_unmade k ≡ false
             → ((work_of_stage p o t).fails ≡ false) × (has_made p t ≡ true → (work_of_stage p o t).child ≡ None)
-            × (not (is_unmade (making_all (making_all Unmade (onpath (work_of_stage p o t).env (before t.stage p.stmts))) (onpath (work_of_stage p o t).env (in_stage t.stage p.stmts)))) ≡ (has_made p t || is_some (work_of_stage p o t).child))
+            × (not
+            (is_unmade
+            (making_all (making_all Unmade (onpath (work_of_stage p o t).env (before t.stage p.stmts)))
+            (onpath (work_of_stage p o t).env (in_stage t.stage p.stmts))))
+            ≡ (has_made p t || is_some (work_of_stage p o t).child))
         later k i u =
-            let s = settled o (verify_stage p.stmts) k (onpath (work_of_stage p o t).env (in_stage t.stage p.stmts)) (record { env = t.env; entries = t.entries; guess = t.guess; asks = []; commits = []; child = None; fails = false; ready = true }) u
+            let s =
+            settled o (verify_stage p.stmts) k (onpath (work_of_stage p o t).env (in_stage t.stage p.stmts))
+            (record { env = t.env; entries = t.entries; guess = t.guess; asks = []; commits = []; child = None; fails = false; ready = true }) u
             (subst (λ j. makings_ok (verify_stage p.stmts) j (onpath (work_of_stage p o t).env (in_stage t.stage p.stmts)) ≡ true) i ok_here) none in (
               fails,
               (λ _. ap (λ (w : Work). w.child) along_path ∙ s.0.0),
-              ap (λ j. not (is_unmade j)) (ap (λ j. making_all j (onpath (work_of_stage p o t).env (in_stage t.stage p.stmts))) i ∙ s.1) ∙ ap not u ∙ sym (ap (λ b. b || is_some (work_of_stage p o t).child) (had k i ∙ ap not u)),
+              ap (λ j. not (is_unmade j)) (ap (λ j. making_all j (onpath (work_of_stage p o t).env (in_stage t.stage p.stmts))) i ∙ s.1)
+                  ∙ ap not u ∙ sym (ap (λ b. b || is_some (work_of_stage p o t).child) (had k i ∙ ap not u)),
             )
 
         by : (k : Making) → making_all Unmade (onpath (work_of_stage p o t).env (before t.stage p.stmts)) ≡ k
             → ((work_of_stage p o t).fails ≡ false) × (has_made p t ≡ true → (work_of_stage p o t).child ≡ None)
-            × (not (is_unmade (making_all (making_all Unmade (onpath (work_of_stage p o t).env (before t.stage p.stmts))) (onpath (work_of_stage p o t).env (in_stage t.stage p.stmts)))) ≡ (has_made p t || is_some (work_of_stage p o t).child))
+            × (not
+            (is_unmade
+            (making_all (making_all Unmade (onpath (work_of_stage p o t).env (before t.stage p.stmts)))
+            (onpath (work_of_stage p o t).env (in_stage t.stage p.stmts))))
+            ≡ (has_made p t || is_some (work_of_stage p o t).child))
         by Unmade i = (
           fails,
           (λ h. absurd (clash (sym (had Unmade i) ∙ h))),
           ap (λ j. not (is_unmade (making_all j (onpath (work_of_stage p o t).env (in_stage t.stage p.stmts))))) i
-              ∙ flip _ _ (begins o (verify_stage p.stmts) (onpath (work_of_stage p o t).env (in_stage t.stage p.stmts)) (record { env = t.env; entries = t.entries; guess = t.guess; asks = []; commits = []; child = None; fails = false; ready = true }) refl (subst (λ j. makings_ok (verify_stage p.stmts) j (onpath (work_of_stage p o t).env (in_stage t.stage p.stmts)) ≡ true) i ok_here) none free_stage)
+              ∙ flip _ _
+              (begins o (verify_stage p.stmts) (onpath (work_of_stage p o t).env (in_stage t.stage p.stmts))
+              (record { env = t.env; entries = t.entries; guess = t.guess; asks = []; commits = []; child = None; fails = false; ready = true }) refl
+              (subst
+              (λ j. makings_ok (verify_stage p.stmts) j (onpath (work_of_stage p o t).env (in_stage t.stage p.stmts)) ≡ true) i ok_here) none free_stage)
               ∙ ap (λ (w : Work). is_some w.child) (sym along_path) ∙ ap (λ b. b || is_some (work_of_stage p o t).child) (sym (had Unmade i)),
         )
         by Guessed i = later Guessed i refl
@@ -213,26 +275,37 @@ module _ (p : Pipe) (acc : Sound p) where
         at None e = ap (comes_by p (work_of_stage p o t).env) e
         at (Some c) e =
             ap (comes_by p (work_of_stage p o t).env) e
-            ∙ side_same (stage_at p c.fork).next c.first (work_of_stage p o t).env t.env (λ z a b f. all_stays z o (in_stage t.stage p.stmts) _ (none_stage_from (binds_var z) (suc c.fork) t.stage p.stmts (acc.branches.fork_trunk c t.stage e).1 (acc.fork_bound c.fork z a b f)))
+            ∙ side_same (stage_at p c.fork).next c.first (work_of_stage p o t).env t.env
+            (λ z a b f. all_stays z o (in_stage t.stage p.stmts) _
+            (none_stage_from (binds_var z) (suc c.fork) t.stage p.stmts (acc.branches.fork_trunk c t.stage e).1 (acc.fork_bound c.fork z a b f)))
             ∙ ap (comes_by p t.env) (sym e) ∙ h
 
     -- its next stage is on its path
-    on_then : visits_stage p (work_of_stage p o t).env t.stage ≡ true → t.stage < length p.stages → visits_stage p (work_of_stage p o t).env (next_of p t.stage (work_of_stage p o t).env) ≡ true
+    on_then : visits_stage p (work_of_stage p o t).env t.stage ≡ true → t.stage < length p.stages
+        → visits_stage p (work_of_stage p o t).env (next_of p t.stage (work_of_stage p o t).env) ≡ true
     on_then h low = at (stage_at p (next_of p t.stage (work_of_stage p o t).env)).branch refl
       where
-        at : (b : Option Branch) → (stage_at p (next_of p t.stage (work_of_stage p o t).env)).branch ≡ b → comes_by p (work_of_stage p o t).env (stage_at p (next_of p t.stage (work_of_stage p o t).env)).branch ≡ true
+        at : (b : Option Branch) → (stage_at p (next_of p t.stage (work_of_stage p o t).env)).branch ≡ b
+            → comes_by p (work_of_stage p o t).env (stage_at p (next_of p t.stage (work_of_stage p o t).env)).branch ≡ true
         at None e = ap (comes_by p (work_of_stage p o t).env) e
         at (Some c) e = ap (comes_by p (work_of_stage p o t).env) e ∙ by (acc.branches.stays_in c t.stage (work_of_stage p o t).env low e)
           where
-            by : (t.stage ≡ c.fork) ⊎ (In p c t.stage × (next_of p t.stage (work_of_stage p o t).env ≡ suc t.stage)) → goes_by p c (work_of_stage p o t).env ≡ true
-            by (inl f) = acc.branches.side c (work_of_stage p o t).env (subst (λ n. n < length p.stages) f low) (subst (λ n. In p c (next_of p n (work_of_stage p o t).env)) f e)
+            by : (t.stage ≡ c.fork) ⊎ (In p c t.stage × (next_of p t.stage (work_of_stage p o t).env ≡ suc t.stage))
+                → goes_by p c (work_of_stage p o t).env ≡ true
+            by (inl f) =
+                acc.branches.side c (work_of_stage p o t).env (subst (λ n. n < length p.stages) f low)
+                (subst (λ n. In p c (next_of p n (work_of_stage p o t).env)) f e)
             by (inr f) = ap (comes_by p (work_of_stage p o t).env) (sym f.0) ∙ h
 
     -- what it awaits there is no fork's variable
     aside_then : t.stage < length p.stages → AllAsks (λ q. Aside p (next_of p t.stage (work_of_stage p o t).env) q.var) (work_of_stage p o t).asks
-    aside_then low = flip (work_of_stage p o t).asks (λ c e. asks_each (λ x m. steers p c x ≡ false) o (in_stage t.stage p.stmts) _ (none_steers c e (stage_at p c.fork).next refl) tt)
+    aside_then low =
+        flip (work_of_stage p o t).asks
+        (λ c e. asks_each (λ x m. steers p c x ≡ false) o (in_stage t.stage p.stmts) _ (none_steers c e (stage_at p c.fork).next refl) tt)
       where
-        flip : (qs : List Ask) → ((c : Branch) → In p c (next_of p t.stage (work_of_stage p o t).env) → AllAsks (λ q. steers p c q.var ≡ false) qs) → AllAsks (λ q. Aside p (next_of p t.stage (work_of_stage p o t).env) q.var) qs
+        flip : (qs : List Ask)
+            → ((c : Branch) → In p c (next_of p t.stage (work_of_stage p o t).env) → AllAsks (λ q. steers p c q.var ≡ false) qs)
+            → AllAsks (λ q. Aside p (next_of p t.stage (work_of_stage p o t).env) q.var) qs
         flip [] h = tt
         flip (q ∷ qs) h = ((λ c e. (h c e).0), flip qs (λ c e. (h c e).1))
 
@@ -250,51 +323,104 @@ module _ (p : Pipe) (acc : Sound p) where
                     at true l = absurd (cc l)
                     at false l = refl
 
-        unfetched : (c : Branch) (z a b : ℕ) → In p c (next_of p t.stage (work_of_stage p o t).env) → (stage_at p c.fork).next ≡ Forks z a b → none_of (is_fetch_of z) (in_stage t.stage p.stmts) ≡ true
+        unfetched : (c : Branch) (z a b : ℕ) → In p c (next_of p t.stage (work_of_stage p o t).env)
+            → (stage_at p c.fork).next ≡ Forks z a b → none_of (is_fetch_of z) (in_stage t.stage p.stmts) ≡ true
         unfetched c z a b e f = by (acc.branches.stays_in c t.stage (work_of_stage p o t).env low e)
           where
-            by : (t.stage ≡ c.fork) ⊎ (In p c t.stage × (next_of p t.stage (work_of_stage p o t).env ≡ suc t.stage)) → none_of (is_fetch_of z) (in_stage t.stage p.stmts) ≡ true
+            by : (t.stage ≡ c.fork) ⊎ (In p c t.stage × (next_of p t.stage (work_of_stage p o t).env ≡ suc t.stage))
+                → none_of (is_fetch_of z) (in_stage t.stage p.stmts) ≡ true
             by (inl g) = subst (λ n. none_of (is_fetch_of z) (in_stage n p.stmts) ≡ true) (sym g) (acc.fork_seen c.fork z a b f)
-            by (inr g) = fetch_binds z (in_stage t.stage p.stmts) (none_stage_from (binds_var z) (suc c.fork) t.stage p.stmts (acc.branches.fork_trunk c t.stage g.0).1 (acc.fork_bound c.fork z a b f))
+            by (inr g) =
+                fetch_binds z (in_stage t.stage p.stmts)
+                (none_stage_from (binds_var z) (suc c.fork) t.stage p.stmts (acc.branches.fork_trunk c t.stage g.0).1 (acc.fork_bound c.fork z a b f))
 
         each : (P : ℕ → ℕ → Type 0) (ys : List Stmt) → ((x m : ℕ) → P x m) → EachFetch P ys
         each P [] f = tt
         each P (y ∷ ys) f = ((λ d x m a e. f x m), each P ys f)
 
-        none_steers : (c : Branch) → In p c (next_of p t.stage (work_of_stage p o t).env) → (n : Next) → (stage_at p c.fork).next ≡ n → EachFetch (λ x m. steers p c x ≡ false) (in_stage t.stage p.stmts)
+        none_steers : (c : Branch) → In p c (next_of p t.stage (work_of_stage p o t).env) → (n : Next)
+            → (stage_at p c.fork).next ≡ n → EachFetch (λ x m. steers p c x ≡ false) (in_stage t.stage p.stmts)
         none_steers c e Ends f = each (λ x m. steers p c x ≡ false) (in_stage t.stage p.stmts) (λ x m. ap (λ n. steers_by n x) f)
         none_steers c e (Goes to) f = each (λ x m. steers p c x ≡ false) (in_stage t.stage p.stmts) (λ x m. ap (λ n. steers_by n x) f)
-        none_steers c e (Forks z a b) f = subst (λ n. EachFetch (λ x m. steers_by n x ≡ false) (in_stage t.stage p.stmts)) (sym f) (turned z (in_stage t.stage p.stmts) (not_fetched z (in_stage t.stage p.stmts) (unfetched c z a b e f)))
+        none_steers c e (Forks z a b) f =
+            subst (λ n. EachFetch (λ x m. steers_by n x ≡ false) (in_stage t.stage p.stmts)) (sym f)
+            (turned z (in_stage t.stage p.stmts) (not_fetched z (in_stage t.stage p.stmts) (unfetched c z a b e f)))
 
     -- a roaming thread's stage before V, where a barrier would not be clear
-    pub roam_step : Roams p t → t.stage < length p.stages → stands_before (verify_stage p.stmts) t.stage ≡ true → stands_at (verify_stage p.stmts) t.stage ≡ false → Barred o (onpath (work_of_stage p o t).env (in_stage t.stage p.stmts)) → (work_of_stage p o t).ready ≡ true
-        → ((work_of_stage p o t).commits ≡ []) × Roams p (onward (next_of p t.stage (work_of_stage p o t).env) (work_of_stage p o t)) × ((work_of_stage p o t).fails ≡ false) × (has_made p t ≡ true → (work_of_stage p o t).child ≡ None)
+    pub roam_step : Roams p t → t.stage < length p.stages → stands_before (verify_stage p.stmts) t.stage ≡ true
+        → stands_at (verify_stage p.stmts) t.stage ≡ false
+        → Barred o (onpath (work_of_stage p o t).env (in_stage t.stage p.stmts)) → (work_of_stage p o t).ready ≡ true
+        → ((work_of_stage p o t).commits ≡ [])
+        × Roams p (onward (next_of p t.stage (work_of_stage p o t).env) (work_of_stage p o t))
+        × ((work_of_stage p o t).fails ≡ false) × (has_made p t ≡ true → (work_of_stage p o t).child ≡ None)
         × (has_made p (onward (next_of p t.stage (work_of_stage p o t).env) (work_of_stage p o t)) ≡ (has_made p t || is_some (work_of_stage p o t).child))
     roam_step st inside low apart clear ready =
         let on_path : visits_stage p (work_of_stage p o t).env t.stage ≡ true = on_now st.on in
-        let skip : onpath (work_of_stage p o t).env (before (next_of p t.stage (work_of_stage p o t).env) p.stmts) ≡ onpath (work_of_stage p o t).env (before (suc t.stage) p.stmts) =
-        sym (before_path (work_of_stage p o t).env (next_of p t.stage (work_of_stage p o t).env) p.stmts) ∙ acc.skips (work_of_stage p o t).env t.stage inside on_path ∙ before_path (work_of_stage p o t).env (suc t.stage) p.stmts in
+        let skip : onpath (work_of_stage p o t).env (before (next_of p t.stage (work_of_stage p o t).env) p.stmts)
+        ≡ onpath (work_of_stage p o t).env (before (suc t.stage) p.stmts) =
+        sym (before_path (work_of_stage p o t).env (next_of p t.stage (work_of_stage p o t).env) p.stmts)
+        ∙ acc.skips (work_of_stage p o t).env t.stage inside on_path
+        ∙ before_path (work_of_stage p o t).env (suc t.stage) p.stmts in
         let piece = skip ∙ piece_on in
-        let unbarred : some_barrier false (onpath (work_of_stage p o t).env (before t.stage p.stmts)) ≡ false = ap (some_barrier false) same_before ∙ st.barred in
-        let cover : Covers (scan_after_all (onpath (work_of_stage p o t).env (before t.stage p.stmts)) no_scan).held t.entries = subst (λ l. Covers (scan_after_all l no_scan).held t.entries) (sym same_before) st.covers in
-        let h = roam_all (verify_stage p.stmts) o (scan_after_all (onpath (work_of_stage p o t).env (before t.stage p.stmts)) no_scan) t.stage (onpath (work_of_stage p o t).env (in_stage t.stage p.stmts))
-        (record { env = t.env; entries = t.entries; guess = t.guess; asks = []; commits = []; child = None; fails = false; ready = true }) free_stage in_here clear low
-        (subst (λ b. all_sure (verify_stage p.stmts) b (scan_after_all (onpath (work_of_stage p o t).env (before t.stage p.stmts)) no_scan) (onpath (work_of_stage p o t).env (in_stage t.stage p.stmts)) ≡ true) unbarred sure_stage) cover (ap (λ (w : Work). w.ready) (sym along_path) ∙ ready) in
+        let unbarred : some_barrier false (onpath (work_of_stage p o t).env (before t.stage p.stmts)) ≡ false =
+        ap (some_barrier false) same_before ∙ st.barred in
+        let cover : Covers (scan_after_all (onpath (work_of_stage p o t).env (before t.stage p.stmts)) no_scan).held t.entries =
+        subst (λ l. Covers (scan_after_all l no_scan).held t.entries) (sym same_before) st.covers in
+        let h =
+        roam_all (verify_stage p.stmts) o
+        (scan_after_all (onpath (work_of_stage p o t).env (before t.stage p.stmts)) no_scan) t.stage
+        (onpath (work_of_stage p o t).env (in_stage t.stage p.stmts))
+        (record {
+          env = t.env;
+          entries = t.entries;
+          guess = t.guess;
+          asks = [];
+          commits = [];
+          child = None;
+          fails = false;
+          ready = true;
+        }) free_stage in_here clear low
+        (subst
+        (λ b. all_sure (verify_stage p.stmts) b (scan_after_all (onpath (work_of_stage p o t).env (before t.stage p.stmts)) no_scan)
+        (onpath (work_of_stage p o t).env (in_stage t.stage p.stmts))
+        ≡ true) unbarred sure_stage) cover
+        (ap (λ (w : Work). w.ready) (sym along_path) ∙ ready) in
         let m = makes_one apart in
-        let opened_now : scan_after_all (onpath (work_of_stage p o t).env (before (next_of p t.stage (work_of_stage p o t).env) p.stmts)) no_scan ≡ scan_after_all (onpath (work_of_stage p o t).env (in_stage t.stage p.stmts)) (scan_after_all (onpath (work_of_stage p o t).env (before t.stage p.stmts)) no_scan) =
-        ap (λ l. scan_after_all l no_scan) piece ∙ TurnPath.opens_append (onpath (work_of_stage p o t).env (before t.stage p.stmts)) (looked_all (onpath (work_of_stage p o t).env (in_stage t.stage p.stmts))) no_scan ∙ opens_looked (onpath (work_of_stage p o t).env (in_stage t.stage p.stmts)) _ in (
+        let opened_now : scan_after_all (onpath (work_of_stage p o t).env (before (next_of p t.stage (work_of_stage p o t).env) p.stmts)) no_scan
+        ≡ scan_after_all (onpath (work_of_stage p o t).env (in_stage t.stage p.stmts))
+        (scan_after_all (onpath (work_of_stage p o t).env (before t.stage p.stmts)) no_scan) =
+        ap (λ l. scan_after_all l no_scan) piece
+        ∙ TurnPath.opens_append (onpath (work_of_stage p o t).env (before t.stage p.stmts))
+        (looked_all (onpath (work_of_stage p o t).env (in_stage t.stage p.stmts))) no_scan
+        ∙ opens_looked (onpath (work_of_stage p o t).env (in_stage t.stage p.stmts)) _ in (
           ap (λ (w : Work). w.commits) along_path ∙ h.0,
           record {
             covers = subst (λ (c : Scan). Covers c.held (work_of_stage p o t).entries) (sym opened_now)
-                (subst (λ (w : Work). Covers (scan_after_all (onpath (work_of_stage p o t).env (in_stage t.stage p.stmts)) (scan_after_all (onpath (work_of_stage p o t).env (before t.stage p.stmts)) no_scan)).held w.entries) (sym along_path) h.2);
-            barred = ap (some_barrier false) piece ∙ barred_append false (onpath (work_of_stage p o t).env (before t.stage p.stmts)) (looked_all (onpath (work_of_stage p o t).env (in_stage t.stage p.stmts)))
-                ∙ ap (λ b. some_barrier b (looked_all (onpath (work_of_stage p o t).env (in_stage t.stage p.stmts)))) unbarred ∙ barred_looked false (onpath (work_of_stage p o t).env (in_stage t.stage p.stmts)) ∙ h.1;
-            blind = λ env' f. acc.fetch_blind t.stage (work_of_stage p o t).env env' (λ x h. f x (not_asked x (work_of_stage p o t).asks (asks_each (λ y m. not (y == x) ≡ true) o (in_stage t.stage p.stmts) _ (not_fetched x (in_stage t.stage p.stmts) h) tt)));
+                (subst
+                (λ (w : Work). Covers
+                (scan_after_all (onpath (work_of_stage p o t).env (in_stage t.stage p.stmts))
+                (scan_after_all (onpath (work_of_stage p o t).env (before t.stage p.stmts)) no_scan)).held w.entries)
+                (sym along_path) h.2);
+            barred =
+                ap (some_barrier false) piece
+                ∙ barred_append false (onpath (work_of_stage p o t).env (before t.stage p.stmts))
+                (looked_all (onpath (work_of_stage p o t).env (in_stage t.stage p.stmts)))
+                ∙ ap (λ b. some_barrier b (looked_all (onpath (work_of_stage p o t).env (in_stage t.stage p.stmts)))) unbarred
+                ∙ barred_looked false (onpath (work_of_stage p o t).env (in_stage t.stage p.stmts)) ∙ h.1;
+            blind =
+                λ env' f. acc.fetch_blind t.stage (work_of_stage p o t).env env'
+                (λ x h. f x
+                (not_asked x (work_of_stage p o t).asks
+                (asks_each (λ y m. not (y == x) ≡ true) o (in_stage t.stage p.stmts) _ (not_fetched x (in_stage t.stage p.stmts) h) tt)));
             on = on_then on_path inside;
             aside = aside_asks p (next_of p t.stage (work_of_stage p o t).env) (work_of_stage p o t).asks (aside_then inside);
           },
           m.0,
           m.1,
           ap (λ l. not (is_unmade (making_all Unmade l))) piece
-              ∙ ap (λ j. not (is_unmade j)) (making_append Unmade (onpath (work_of_stage p o t).env (before t.stage p.stmts)) (looked_all (onpath (work_of_stage p o t).env (in_stage t.stage p.stmts))) ∙ making_looked _ (onpath (work_of_stage p o t).env (in_stage t.stage p.stmts))) ∙ m.2,
+              ∙ ap (λ j. not (is_unmade j))
+              (making_append Unmade (onpath (work_of_stage p o t).env (before t.stage p.stmts))
+              (looked_all (onpath (work_of_stage p o t).env (in_stage t.stage p.stmts)))
+              ∙ making_looked _ (onpath (work_of_stage p o t).env (in_stage t.stage p.stmts)))
+              ∙ m.2,
         )

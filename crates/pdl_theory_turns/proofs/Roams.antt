@@ -44,7 +44,9 @@ ok_looked_op v k s _ = refl
 -- statements keep the rules on guesses just where they do with delayed reads answered at once
 pub ok_looked : (v : Option ℕ) (k : Making) (xs : List Stmt) → makings_ok v k (looked_all xs) ≡ makings_ok v k xs
 ok_looked v k [] = refl
-ok_looked v k (x ∷ xs) = ap₂ (λ b j. b && makings_ok v j (looked_all xs)) (ok_looked_op v k x.stage x.op) (making_looked_op k x.op) ∙ ap (λ b. making_ok v k x.stage x.op && b) (ok_looked v (next_making k x.op) xs)
+ok_looked v k (x ∷ xs) =
+    ap₂ (λ b j. b && makings_ok v j (looked_all xs)) (ok_looked_op v k x.stage x.op) (making_looked_op k x.op)
+    ∙ ap (λ b. making_ok v k x.stage x.op && b) (ok_looked v (next_making k x.op) xs)
 
 opens_looked_op : (op : Op) (c : Scan) → scan_after (answered_op op) c ≡ scan_after op c
 opens_looked_op (DelayedRead x m a) c = refl
@@ -98,7 +100,8 @@ pub looked_before : (s : ℕ) (xs : List Stmt) → looked_all (before s xs) ≡ 
 looked_before s [] = refl
 looked_before s (x ∷ xs) = at (nat_lt x.stage s) (looked_before s xs)
   where
-    at : (b : Bool) → looked_all (before s xs) ≡ before s xs → looked_all (cond b (look x ∷ before s xs) (before s xs)) ≡ cond b (look x ∷ before s xs) (before s xs)
+    at : (b : Bool) → looked_all (before s xs) ≡ before s xs
+        → looked_all (cond b (look x ∷ before s xs) (before s xs)) ≡ cond b (look x ∷ before s xs) (before s xs)
     at true h = ap₂ (λ op l. record x { op = op } ∷ l) (looked_twice x.op) h
     at false h = h
 
@@ -122,7 +125,8 @@ roam_op : (v : Option ℕ) (o : Around) (c : Scan) (s : ℕ) (op : Op) (w : Work
     → (not (is_barrier op) ≡ true) ⊎ (o.clear ≡ false) → stands_before v s ≡ true → is_sure v false c s op ≡ true
     → Covers c.held w.entries → (work_after o op w).ready ≡ true
     → ((work_after o op w).commits ≡ w.commits) × (is_barrier op ≡ false)
-roam_op v o c s (Release m a) w clear low sure cover ready = (ap (λ l. w.commits ++ l) (unreleased w.entries m a (unheld (has_entry w.entries m a) refl)) ∙ append-nil w.commits, refl)
+roam_op v o c s (Release m a) w clear low sure cover ready =
+    (ap (λ l. w.commits ++ l) (unreleased w.entries m a (unheld (has_entry w.entries m a) refl)) ∙ append-nil w.commits, refl)
   where
     unopened : has_location c.held m a ≡ false
     unopened = by (has_location c.held m a) (stands_before v s) sure low
@@ -162,7 +166,10 @@ roam_all v o c s (x ∷ xs) w g a clear low sure cover ready =
     let free : no_guards x.guards ≡ true = and_left _ _ g in
     let goes : step o x w ≡ work_after o x.op w = step_free o x w free in
     let ready' : (do_all o xs (work_after o x.op w)).ready ≡ true = subst (λ u. (do_all o xs u).ready ≡ true) goes ready in
-    let one = roam_op v o c s x.op w (first_barred o x xs clear) low (subst (λ n. is_sure v false c n x.op ≡ true) a.0 (and_left (is_sure v false c x.stage x.op) _ sure)) cover (was_ready o xs (work_after o x.op w) ready') in
+    let one =
+    roam_op v o c s x.op w (first_barred o x xs clear) low
+    (subst (λ n. is_sure v false c n x.op ≡ true) a.0 (and_left (is_sure v false c x.stage x.op) _ sure)) cover
+    (was_ready o xs (work_after o x.op w) ready') in
     let rest = roam_all v o (scan_after x.op c) s xs (work_after o x.op w) (and_right (no_guards x.guards) _ g) a.1 (rest_barred o x xs clear) low
     (subst (λ b. all_sure v b (scan_after x.op c) xs ≡ true) one.1 (and_right (is_sure v false c x.stage x.op) _ sure)) (covers_op o c x.op w cover) ready' in (
       ap (λ (u : Work). (do_all o xs u).commits) goes ∙ rest.0 ∙ one.0,
@@ -217,7 +224,8 @@ pub visits_answers : (p : Pipe) (st : State) (bits : List Bool) (s : ℕ) (rs : 
     → AllAside p s rs → visits_stage p (with_answers p st bits rs env) s ≡ visits_stage p env s
 visits_answers p st bits s [] env h = refl
 visits_answers p st bits s (r ∷ rs) env h =
-    visits_answers p st bits s rs (if is_answered p bits r.mem then slice_set env r.var (word_of st.arrays r.mem (asked_at st r.mem)) else env) h.1 ∙ at (is_answered p bits r.mem)
+    visits_answers p st bits s rs (if is_answered p bits r.mem then slice_set env r.var (word_of st.arrays r.mem (asked_at st r.mem)) else env) h.1
+    ∙ at (is_answered p bits r.mem)
   where
     at : (b : Bool) → visits_stage p (if b then slice_set env r.var (word_of st.arrays r.mem (asked_at st r.mem)) else env) s ≡ visits_stage p env s
     at true = visits_set p s r.var (word_of st.arrays r.mem (asked_at st r.mem)) env h.0
@@ -243,7 +251,9 @@ pub none_stage_from : (test : Op → Bool) (k s : ℕ) (xs : List Stmt)
 none_stage_from test k s [] low h = refl
 none_stage_from test k s (x ∷ xs) low h = at (x.stage == s) refl (nat_le k x.stage) refl h (none_stage_from test k s xs low)
   where
-    at : (b : Bool) → (x.stage == s) ≡ b → (c : Bool) → nat_le k x.stage ≡ c → none_of test (cond c (x ∷ stages_from k xs) (stages_from k xs)) ≡ true → (none_of test (stages_from k xs) ≡ true → none_of test (in_stage s xs) ≡ true)
+    at : (b : Bool) → (x.stage == s) ≡ b → (c : Bool) → nat_le k x.stage ≡ c
+        → none_of test (cond c (x ∷ stages_from k xs) (stages_from k xs)) ≡ true
+        → (none_of test (stages_from k xs) ≡ true → none_of test (in_stage s xs) ≡ true)
         → none_of test (cond b (x ∷ in_stage s xs) (in_stage s xs)) ≡ true
     at true e true f i g = ap₂ (λ a d. a && d) (and_left (not (test x.op)) _ i) (g (and_right (not (test x.op)) _ i))
     at true e false f i g = absurd (late (eqb-true x.stage s e) (leb-false k x.stage f))

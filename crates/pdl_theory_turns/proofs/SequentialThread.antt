@@ -42,7 +42,8 @@ reads_same arrays ph w r x n a rel ok =
     ∙ ap (λ (l : Array). l (slice_index r.env a)) (sym same_row)
   where
     may : may_read (ph n) ≡ true
-    may = let h : (not (n == n) || may_read (ph n)) ≡ true = and_right (not (holds_location (ph n) x)) _ (ok n) in subst (λ b. (not b || may_read (ph n)) ≡ true) (eq-eqb n n refl) h
+    may = let h : (not (n == n) || may_read (ph n)) ≡ true = and_right (not (holds_location (ph n) x)) _ (ok n) in
+        subst (λ b. (not b || may_read (ph n)) ≡ true) (eq-eqb n n refl) h
 
     same_row : row r.arrays n ≡ row arrays n
     same_row = ap (λ l. row l n) rel.arrays_now ∙ row_committed n r.writes arrays ∙ ap (wrote (row arrays n)) (unwritten n (ph n) w.env _ _ _ may (rel.tied n))
@@ -56,7 +57,8 @@ tied_write_any : (m n a v : ℕ) (ph : Phase) (env : List ℕ) (es : List Entry)
 tied_write_any m n a v ph env es cs ws true e h t =
     tied_moved m (Written a) env _ _ _ _ _ _
     (ap (λ k. entries_of m (with_entry_value es k a v)) (eqb-true n m e) ∙ entries_of-filled es m a v) refl
-    (of_mem_append m ws _ ∙ ap (λ l. of_mem m ws ++ l) (one_of m n (slice_index env a) v true e ∙ ap (λ k. write_of k (slice_index env a) v ∷ []) (eqb-true n m e)))
+    (of_mem_append m ws _
+    ∙ ap (λ l. of_mem m ws ++ l) (one_of m n (slice_index env a) v true e ∙ ap (λ k. write_of k (slice_index env a) v ∷ []) (eqb-true n m e)))
     (tied_write m a v ph env (entries_of m es) cs (of_mem m ws) h t)
 tied_write_any m n a v ph env es cs ws false e h t =
     tied_moved m ph env _ _ _ _ _ _ (filled_other es m n a v (eqb-false n m e)) refl
@@ -67,7 +69,8 @@ tied_reserve_any : (m n a : ℕ) (ph : Phase) (env : List ℕ) (es : List Entry)
     → Tied m (cond b (Held a) ph) env (entries_of m (entry n a (slice_index env a) None ∷ es)) cs ws
 tied_reserve_any m n a ph env es cs ws true e h t =
     tied_moved m (Held a) env _ _ _ _ _ _
-    (ap (λ c. cond c (entry n a (slice_index env a) None ∷ entries_of m es) (entries_of m es)) e ∙ ap (λ k. entry k a (slice_index env a) None ∷ entries_of m es) (eqb-true n m e))
+    (ap (λ c. cond c (entry n a (slice_index env a) None ∷ entries_of m es) (entries_of m es)) e
+    ∙ ap (λ k. entry k a (slice_index env a) None ∷ entries_of m es) (eqb-true n m e))
     refl refl (tied_reserve m a ph env (entries_of m es) cs ws h t)
 tied_reserve_any m n a ph env es cs ws false e h t =
     tied_moved m ph env _ _ _ _ _ _ (ap (λ c. cond c (entry n a (slice_index env a) None ∷ entries_of m es) (entries_of m es)) e) refl refl t
@@ -106,7 +109,10 @@ related_step arrays ph (Write n a e) w r ok rel =
     record {
       env = rel.env;
       arrays_now = ap (λ l. with_word l n (slice_index r.env a) (value_of e r.env)) rel.arrays_now ∙ sym (committed_append r.writes _ arrays);
-      tied = λ m. subst (λ v. Tied m (cond (n == m) (Written a) (ph m)) w.env (entries_of m (with_entry_value w.entries n a (value_of e w.env))) (of_mem m w.commits) (of_mem m (r.writes ++ write_of n (slice_index v a) (value_of e v) ∷ []))) rel.env
+      tied =
+          λ m. subst
+          (λ v. Tied m (cond (n == m) (Written a) (ph m)) w.env (entries_of m (with_entry_value w.entries n a (value_of e w.env)))
+          (of_mem m w.commits) (of_mem m (r.writes ++ write_of n (slice_index v a) (value_of e v) ∷ []))) rel.env
           (tied_write_any m n a (value_of e w.env) (ph m) w.env w.entries (of_mem m w.commits) r.writes (n == m) refl (ok m) (rel.tied m));
     }
 related_step arrays ph (ReserveWrite n a) w r ok rel =
@@ -141,8 +147,12 @@ pub related_all : (arrays : Arrays) (xs : List Stmt) (ph : ℕ → Phase) (w : W
     → Related arrays (λ m. phase_all m (ph m) xs) (do_all (alone arrays) xs w) (run_all xs r)
 related_all arrays [] ph w r ok rel = rel
 related_all arrays (x ∷ xs) ph w r ok rel =
-    subst (λ v. Related arrays (λ m. phase_all m (next_phase m (ph m) x.op) xs) (do_all (alone arrays) xs v) (run_all xs (cond (all_hold x.guards r.env) (run_after x.op r) r))) (sym (goes w.env (work_after (alone arrays) x.op w) w))
-    (subst (λ v. Related arrays (λ m. phase_all m (next_phase m (ph m) x.op) xs) (do_all (alone arrays) xs (work_after (alone arrays) x.op w)) (run_all xs v)) (sym (goes' r.env (run_after x.op r) r))
+    subst
+    (λ v. Related arrays (λ m. phase_all m (next_phase m (ph m) x.op) xs) (do_all (alone arrays) xs v)
+    (run_all xs (cond (all_hold x.guards r.env) (run_after x.op r) r)))
+    (sym (goes w.env (work_after (alone arrays) x.op w) w))
+    (subst (λ v. Related arrays (λ m. phase_all m (next_phase m (ph m) x.op) xs) (do_all (alone arrays) xs (work_after (alone arrays) x.op w)) (run_all xs v))
+    (sym (goes' r.env (run_after x.op r) r))
     (related_all arrays xs (next_phases ph x.op) (work_after (alone arrays) x.op w) (run_after x.op r) (λ m. and_right _ _ (ok m))
     (related_step arrays ph x.op w r (λ m. and_right _ _ (and_left _ _ (ok m))) rel)))
   where

@@ -46,7 +46,8 @@ from_looked : (s : ℕ) (xs : List Stmt) → stages_from s (looked_all xs) ≡ l
 from_looked s [] = refl
 from_looked s (x ∷ xs) = at (nat_le s x.stage) (from_looked s xs)
   where
-    at : (b : Bool) → stages_from s (looked_all xs) ≡ looked_all (stages_from s xs) → cond b (look x ∷ stages_from s (looked_all xs)) (stages_from s (looked_all xs)) ≡ looked_all (cond b (x ∷ stages_from s xs) (stages_from s xs))
+    at : (b : Bool) → stages_from s (looked_all xs) ≡ looked_all (stages_from s xs)
+        → cond b (look x ∷ stages_from s (looked_all xs)) (stages_from s (looked_all xs)) ≡ looked_all (cond b (x ∷ stages_from s xs) (stages_from s xs))
     at true h = ap (λ l. look x ∷ l) h
     at false h = h
 
@@ -93,7 +94,10 @@ fetch_each p fetch s (y ∷ ys) h = ((λ d x m a e. (subst (λ op. FetchIf p fet
 -- where no statement reads x with delay, each delayed read is into another variable
 pub not_fetched : (x : ℕ) (ys : List Stmt) → none_of (is_fetch_of x) ys ≡ true → EachFetch (λ y m. not (y == x) ≡ true) ys
 not_fetched x [] h = tt
-not_fetched x (y ∷ ys) h = ((λ d z m a e. ap (λ op. not (is_fetch_of x op)) (sym e) ∙ and_left (not (is_fetch_of x y.op)) _ h), not_fetched x ys (and_right (not (is_fetch_of x y.op)) _ h))
+not_fetched x (y ∷ ys) h = (
+  (λ d z m a e. ap (λ op. not (is_fetch_of x op)) (sym e) ∙ and_left (not (is_fetch_of x y.op)) _ h),
+  not_fetched x ys (and_right (not (is_fetch_of x y.op)) _ h),
+)
 
 -- a variable that no answer is for
 pub caught_other : (arrays : Arrays) (x : ℕ) (qs : List Ask) (env : List ℕ)
@@ -127,26 +131,37 @@ module _ (p : Pipe) (acc : Sound p) (arrays : Arrays) (args : List ℕ) where
   -- THE WAY OF A TURN
 
   -- a fork's variable has its value of the path
-  fork_value : (s x a b : ℕ) → (stage_at p s).next ≡ Forks x a b → slice_index (stage_work p arrays args s).env x ≡ slice_index (thread (at_once p) arrays args).env x
+  fork_value : (s x a b : ℕ) → (stage_at p s).next ≡ Forks x a b
+      → slice_index (stage_work p arrays args s).env x ≡ slice_index (thread (at_once p) arrays args).env x
   fork_value s x a b e =
-      sym (caught_other arrays x (stage_work p arrays args s).asks (stage_work p arrays args s).env (asks_each (λ y m. not (y == x) ≡ true) (alone arrays) (in_stage s p.stmts) (reset (so_far p arrays args s)) (not_fetched x (in_stage s p.stmts) (acc.fork_seen s x a b e)) tt))
+      sym
+      (caught_other arrays x (stage_work p arrays args s).asks (stage_work p arrays args s).env
+      (asks_each (λ y m. not (y == x) ≡ true) (alone arrays) (in_stage s p.stmts)
+      (reset (so_far p arrays args s)) (not_fetched x (in_stage s p.stmts) (acc.fork_seen s x a b e)) tt))
       ∙ ap (λ (w : Work). slice_index w.env x) (sym (same_stage s))
       ∙ ap (λ (t : Thread). slice_index t.env x) (sym (Turns.placed_next (at_once p) acc.pathwise arrays args s))
       ∙ ap (λ (w : Work). slice_index w.env x) (Turns.so_path (at_once p) acc.pathwise arrays args (suc s))
-      ∙ sym (all_stays x (alone arrays) (stages_from (suc s) (onpath path (looked_all p.stmts))) (so_far (along (thread (at_once p) arrays args).env (at_once p)) arrays args (suc s)) rest)
-      ∙ ap (λ (w : Work). slice_index w.env x) (sym (TurnPath.rest_of (along (thread (at_once p) arrays args).env (at_once p)) (acc.pathwise.paths path) arrays args (suc s)))
-      ∙ ap (λ l. slice_index l x) ((TurnPath.related_whole (along (thread (at_once p) arrays args).env (at_once p)) (acc.pathwise.paths path) arrays args).env ∙ ap (λ (r : Run). r.env) (sym (Turns.thread_path (at_once p) acc.pathwise arrays args)))
+      ∙ sym
+      (all_stays x (alone arrays) (stages_from (suc s) (onpath path (looked_all p.stmts)))
+      (so_far (along (thread (at_once p) arrays args).env (at_once p)) arrays args (suc s)) rest)
+      ∙ ap (λ (w : Work). slice_index w.env x)
+      (sym (TurnPath.rest_of (along (thread (at_once p) arrays args).env (at_once p)) (acc.pathwise.paths path) arrays args (suc s)))
+      ∙ ap (λ l. slice_index l x)
+      ((TurnPath.related_whole (along (thread (at_once p) arrays args).env (at_once p)) (acc.pathwise.paths path) arrays args).env
+      ∙ ap (λ (r : Run). r.env) (sym (Turns.thread_path (at_once p) acc.pathwise arrays args)))
     where
       rest : none_of (binds_var x) (stages_from (suc s) (onpath (thread (at_once p) arrays args).env (looked_all p.stmts))) ≡ true
       rest =
           none_from_path (binds_var x) (thread (at_once p) arrays args).env (suc s) (looked_all p.stmts)
-          (ap (none_of (binds_var x)) (from_looked (suc s) p.stmts) ∙ none_looked (binds_var x) (binds_looked x) (stages_from (suc s) p.stmts) ∙ acc.fork_bound s x a b e)
+          (ap (none_of (binds_var x)) (from_looked (suc s) p.stmts)
+          ∙ none_looked (binds_var x) (binds_looked x) (stages_from (suc s) p.stmts) ∙ acc.fork_bound s x a b e)
 
   -- so it goes on as its path tells
   pub path_next : (s : ℕ) → next_at p arrays args s ≡ next_of p s (thread (at_once p) arrays args).env
   path_next s = ap (stage_or (length p.stages)) (at (stage_at p s).next refl)
     where
-      at : (n : Next) → (stage_at p s).next ≡ n → goes_to (stage_at p s).next (stage_work p arrays args s).env ≡ goes_to (stage_at p s).next (thread (at_once p) arrays args).env
+      at : (n : Next) → (stage_at p s).next ≡ n
+          → goes_to (stage_at p s).next (stage_work p arrays args s).env ≡ goes_to (stage_at p s).next (thread (at_once p) arrays args).env
       at Ends e = ap (λ n. goes_to n (stage_work p arrays args s).env) e ∙ sym (ap (λ n. goes_to n (thread (at_once p) arrays args).env) e)
       at (Goes to) e = ap (λ n. goes_to n (stage_work p arrays args s).env) e ∙ sym (ap (λ n. goes_to n (thread (at_once p) arrays args).env) e)
       at (Forks x a b) e =
@@ -157,29 +172,38 @@ module _ (p : Pipe) (acc : Sound p) (arrays : Arrays) (args : List ℕ) where
   pub on_start : visits_stage p (thread (at_once p) arrays args).env 0 ≡ true
   on_start = ap (comes_by p (thread (at_once p) arrays args).env) acc.graph.trunk_start
 
-  pub on_next : (s : ℕ) → visits_stage p (thread (at_once p) arrays args).env s ≡ true → s < length p.stages → visits_stage p (thread (at_once p) arrays args).env (next_at p arrays args s) ≡ true
-  on_next s on low = ap (visits_stage p (thread (at_once p) arrays args).env) (path_next s) ∙ at (stage_at p (next_of p s (thread (at_once p) arrays args).env)).branch refl
+  pub on_next : (s : ℕ) → visits_stage p (thread (at_once p) arrays args).env s ≡ true → s < length p.stages
+      → visits_stage p (thread (at_once p) arrays args).env (next_at p arrays args s) ≡ true
+  on_next s on low =
+      ap (visits_stage p (thread (at_once p) arrays args).env) (path_next s) ∙ at (stage_at p (next_of p s (thread (at_once p) arrays args).env)).branch refl
     where
-      at : (o : Option Branch) → (stage_at p (next_of p s (thread (at_once p) arrays args).env)).branch ≡ o → comes_by p (thread (at_once p) arrays args).env (stage_at p (next_of p s (thread (at_once p) arrays args).env)).branch ≡ true
+      at : (o : Option Branch) → (stage_at p (next_of p s (thread (at_once p) arrays args).env)).branch ≡ o
+          → comes_by p (thread (at_once p) arrays args).env (stage_at p (next_of p s (thread (at_once p) arrays args).env)).branch ≡ true
       at None e = ap (comes_by p (thread (at_once p) arrays args).env) e
       at (Some c) e = ap (comes_by p (thread (at_once p) arrays args).env) e ∙ by (acc.branches.stays_in c s (thread (at_once p) arrays args).env low e)
         where
           by : (s ≡ c.fork) ⊎ (In p c s × (next_of p s (thread (at_once p) arrays args).env ≡ suc s)) → goes_by p c (thread (at_once p) arrays args).env ≡ true
-          by (inl f) = acc.branches.side c (thread (at_once p) arrays args).env (subst (λ n. n < length p.stages) f low) (subst (λ n. In p c (next_of p n (thread (at_once p) arrays args).env)) f e)
+          by (inl f) =
+              acc.branches.side c (thread (at_once p) arrays args).env (subst (λ n. n < length p.stages) f low)
+              (subst (λ n. In p c (next_of p n (thread (at_once p) arrays args).env)) f e)
           by (inr f) = ap (comes_by p (thread (at_once p) arrays args).env) (sym f.0) ∙ on
 
   -- nothing of its path stands in the stages that it passes over
   path_skips : (s : ℕ) → visits_stage p (thread (at_once p) arrays args).env s ≡ true → s < length p.stages
-      → before (next_at p arrays args s) (onpath (thread (at_once p) arrays args).env p.stmts) ≡ before (suc s) (onpath (thread (at_once p) arrays args).env p.stmts)
-  path_skips s on low = ap (λ n. before n (onpath (thread (at_once p) arrays args).env p.stmts)) (path_next s) ∙ acc.skips (thread (at_once p) arrays args).env s low on
+      → before (next_at p arrays args s) (onpath (thread (at_once p) arrays args).env p.stmts)
+      ≡ before (suc s) (onpath (thread (at_once p) arrays args).env p.stmts)
+  path_skips s on low =
+      ap (λ n. before n (onpath (thread (at_once p) arrays args).env p.stmts)) (path_next s) ∙ acc.skips (thread (at_once p) arrays args).env s low on
 
   -- what it did by a stage, along its path
   so_on : (s : ℕ) → so_far p arrays args s ≡ do_all (alone arrays) (before s (onpath (thread (at_once p) arrays args).env p.stmts)) (start_work p args)
   so_on s =
       sym (same_so s) ∙ Turns.so_path (at_once p) acc.pathwise arrays args s
-      ∙ ap (λ l. do_all (alone arrays) l (start_work p args)) (ap (before s) (path_looked (thread (at_once p) arrays args).env p.stmts) ∙ before_looked s (onpath (thread (at_once p) arrays args).env p.stmts))
+      ∙ ap (λ l. do_all (alone arrays) l (start_work p args))
+      (ap (before s) (path_looked (thread (at_once p) arrays args).env p.stmts) ∙ before_looked s (onpath (thread (at_once p) arrays args).env p.stmts))
 
-  pub so_next : (s : ℕ) → visits_stage p (thread (at_once p) arrays args).env s ≡ true → s < length p.stages → so_far p arrays args (next_at p arrays args s) ≡ so_far p arrays args (suc s)
+  pub so_next : (s : ℕ) → visits_stage p (thread (at_once p) arrays args).env s ≡ true → s < length p.stages
+      → so_far p arrays args (next_at p arrays args s) ≡ so_far p arrays args (suc s)
   so_next s on low = so_on (next_at p arrays args s) ∙ ap (λ l. do_all (alone arrays) l (start_work p args)) (path_skips s on low) ∙ sym (so_on (suc s))
 
   -- its stage's work goes into what it did
@@ -195,7 +219,8 @@ module _ (p : Pipe) (acc : Sound p) (arrays : Arrays) (args : List ℕ) where
         ap (λ (w : Work). w.guess) (sym (same_stage s)) ∙ ap (λ (t : Thread). t.guess) (sym e) ∙ ap (λ (w : Work). w.guess) so,
       )
 
-  pub child_next : (s : ℕ) → visits_stage p (thread (at_once p) arrays args).env s ≡ true → s < length p.stages → (so_far p arrays args (next_at p arrays args s)).child ≡ or_else (stage_work p arrays args s).child (so_far p arrays args s).child
+  pub child_next : (s : ℕ) → visits_stage p (thread (at_once p) arrays args).env s ≡ true → s < length p.stages
+      → (so_far p arrays args (next_at p arrays args s)).child ≡ or_else (stage_work p arrays args s).child (so_far p arrays args s).child
   child_next s on low =
       ap (λ (w : Work). w.child) (so_next s on low ∙ sym (same_so (suc s)))
       ∙ Turns.child_next (at_once p) acc.pathwise arrays args s
@@ -206,50 +231,103 @@ module _ (p : Pipe) (acc : Sound p) (arrays : Arrays) (args : List ℕ) where
   same_blocked : (s : ℕ) → blocked_at p arrays args s ≡ (scan_after_all (before s (onpath (thread (at_once p) arrays args).env p.stmts)) no_scan).blocked
   same_blocked s = ap (λ (r : Run). (scan_after_all (before s (onpath r.env p.stmts)) no_scan).blocked) (sym same_thread)
 
-  scan_same : (s : ℕ) → scan_after_all (before s (onpath (thread (at_once p) arrays args).env (looked_all p.stmts))) no_scan ≡ scan_after_all (before s (onpath (thread (at_once p) arrays args).env p.stmts)) no_scan
-  scan_same s = ap (λ l. scan_after_all l no_scan) (ap (before s) (path_looked (thread (at_once p) arrays args).env p.stmts) ∙ before_looked s (onpath (thread (at_once p) arrays args).env p.stmts))
+  scan_same : (s : ℕ)
+      → scan_after_all (before s (onpath (thread (at_once p) arrays args).env (looked_all p.stmts))) no_scan
+      ≡ scan_after_all (before s (onpath (thread (at_once p) arrays args).env p.stmts)) no_scan
+  scan_same s =
+      ap (λ l. scan_after_all l no_scan)
+      (ap (before s) (path_looked (thread (at_once p) arrays args).env p.stmts) ∙ before_looked s (onpath (thread (at_once p) arrays args).env p.stmts))
 
-  stage_here : (s : ℕ) → in_stage s (onpath (thread (at_once p) arrays args).env (looked_all p.stmts)) ≡ onpath (thread (at_once p) arrays args).env (looked_all (in_stage s p.stmts))
-  stage_here s = stage_path (thread (at_once p) arrays args).env s (looked_all p.stmts) ∙ ap (onpath (thread (at_once p) arrays args).env) (stage_looked s p.stmts)
+  stage_here : (s : ℕ)
+      → in_stage s (onpath (thread (at_once p) arrays args).env (looked_all p.stmts))
+      ≡ onpath (thread (at_once p) arrays args).env (looked_all (in_stage s p.stmts))
+  stage_here s =
+      stage_path (thread (at_once p) arrays args).env s (looked_all p.stmts) ∙ ap (onpath (thread (at_once p) arrays args).env) (stage_looked s p.stmts)
 
-  pub here_alike : (o : Around) (s : ℕ) (clean : ℕ → ℕ → Type 0) → visits_stage p (thread (at_once p) arrays args).env s ≡ true → s < length p.stages → Surrounds p o arrays s clean → ((m a : ℕ) → is_plain (mem_at p m).lock ≡ true → clean m a)
+  pub here_alike : (o : Around) (s : ℕ) (clean : ℕ → ℕ → Type 0)
+      → visits_stage p (thread (at_once p) arrays args).env s ≡ true → s < length p.stages
+      → Surrounds p o arrays s clean → ((m a : ℕ) → is_plain (mem_at p m).lock ≡ true → clean m a)
       → (work_of_stage p o (thread_at p arrays args s)).ready ≡ true → Right p s clean (blocked_at p arrays args s) (so_far p arrays args s).env
-      → (work_of_stage p o (thread_at p arrays args s) ≡ stage_work p arrays args s) × Right p s clean (blocked_at p arrays args (next_at p arrays args s)) (so_far p arrays args (next_at p arrays args s)).env
+      → (work_of_stage p o (thread_at p arrays args s) ≡ stage_work p arrays args s)
+      × Right p s clean (blocked_at p arrays args (next_at p arrays args s)) (so_far p arrays args (next_at p arrays args s)).env
       × AllAsks (λ q. clean q.mem q.address) (stage_work p arrays args s).asks
   here_alike o s clean on low f plain ready r =
       let c0 = scan_after_all (before s (onpath (thread (at_once p) arrays args).env p.stmts)) no_scan in
-      let reads : reads_ok p (scan_after_all (before s (onpath (thread (at_once p) arrays args).env p.stmts)) no_scan) (onpath (thread (at_once p) arrays args).env (looked_all (in_stage s p.stmts))) ≡ true =
+      let reads : reads_ok p (scan_after_all (before s (onpath (thread (at_once p) arrays args).env p.stmts)) no_scan)
+      (onpath (thread (at_once p) arrays args).env (looked_all (in_stage s p.stmts)))
+      ≡ true =
       subst (λ l. reads_ok p (scan_after_all (before s (onpath (thread (at_once p) arrays args).env p.stmts)) no_scan) l ≡ true) (stage_here s)
       (subst (λ c. reads_ok p c (in_stage s (onpath (thread (at_once p) arrays args).env (looked_all p.stmts))) ≡ true) (scan_same s)
       (TurnPath.reads_here (along (thread (at_once p) arrays args).env (at_once p)) (acc.pathwise.paths (thread (at_once p) arrays args).env) arrays args s)) in
-      let covers : (m a : ℕ) → has_entry (so_far p arrays args s).entries m a ≡ true → has_location (scan_after_all (before s (onpath (thread (at_once p) arrays args).env p.stmts)) no_scan).held m a ≡ true =
-      subst (λ (w : Work). (m a : ℕ) → has_entry w.entries m a ≡ true → has_location (scan_after_all (before s (onpath (thread (at_once p) arrays args).env p.stmts)) no_scan).held m a ≡ true) (sym (Turns.so_path (at_once p) acc.pathwise arrays args s) ∙ same_so s)
-      (subst (λ c. (m a : ℕ) → has_entry (so_far (along (thread (at_once p) arrays args).env (at_once p)) arrays args s).entries m a ≡ true → has_location c.held m a ≡ true) (scan_same s)
-      (covers_all (along (thread (at_once p) arrays args).env (at_once p)) (alone arrays) no_scan (before s (onpath (thread (at_once p) arrays args).env (looked_all p.stmts))) (start_work p args) ((acc.pathwise.paths (thread (at_once p) arrays args).env).reads s) (λ m a h. h))) in
+      let covers : (m a : ℕ) → has_entry (so_far p arrays args s).entries m a ≡ true
+      → has_location (scan_after_all (before s (onpath (thread (at_once p) arrays args).env p.stmts)) no_scan).held m a ≡ true =
+      subst
+      (λ (w : Work). (m a : ℕ) → has_entry w.entries m a ≡ true
+      → has_location (scan_after_all (before s (onpath (thread (at_once p) arrays args).env p.stmts)) no_scan).held m a ≡ true)
+      (sym (Turns.so_path (at_once p) acc.pathwise arrays args s) ∙ same_so s)
+      (subst
+      (λ c. (m a : ℕ)
+      → has_entry (so_far (along (thread (at_once p) arrays args).env (at_once p)) arrays args s).entries m a ≡ true
+      → has_location c.held m a ≡ true)
+      (scan_same s)
+      (covers_all (along (thread (at_once p) arrays args).env (at_once p))
+      (alone arrays) no_scan (before s (onpath (thread (at_once p) arrays args).env (looked_all p.stmts)))
+      (start_work p args) ((acc.pathwise.paths (thread (at_once p) arrays args).env).reads s) (λ m a h. h))) in
       let fixed : Fixed (thread (at_once p) arrays args).env (alone arrays) (in_stage s p.stmts) (reset (so_far p arrays args s)) =
       fixed_raw (thread (at_once p) arrays args).env arrays (in_stage s p.stmts) (reset (so_far p arrays args s)) (acc.fetch_unseen s)
       (subst (λ l. Fixed (thread (at_once p) arrays args).env (alone arrays) l (reset (so_far p arrays args s))) (stage_looked s p.stmts)
-      (subst (λ (w : Work). Fixed (thread (at_once p) arrays args).env (alone arrays) (in_stage s (looked_all p.stmts)) (reset w)) (same_so s) (Turns.fixed_stage (at_once p) acc.pathwise arrays args s))) in
-      let h = alike_asking p o arrays s clean f plain (thread (at_once p) arrays args).env (scan_after_all (before s (onpath (thread (at_once p) arrays args).env p.stmts)) no_scan) (in_stage s p.stmts) (reset (so_far p arrays args s)) (in_stage_all s p.stmts) fixed (acc.fetch_unseen s) reads covers ready
+      (subst (λ (w : Work). Fixed (thread (at_once p) arrays args).env (alone arrays) (in_stage s (looked_all p.stmts)) (reset w))
+      (same_so s) (Turns.fixed_stage (at_once p) acc.pathwise arrays args s))) in
+      let h =
+      alike_asking p o arrays s clean f plain (thread (at_once p) arrays args).env
+      (scan_after_all (before s (onpath (thread (at_once p) arrays args).env p.stmts)) no_scan)
+      (in_stage s p.stmts) (reset (so_far p arrays args s))
+      (in_stage_all s p.stmts) fixed (acc.fetch_unseen s) reads covers ready
       (subst (λ l. Right p s clean l (so_far p arrays args s).env) (same_blocked s) r) tt in
-      let next : scan_after_all (onpath (thread (at_once p) arrays args).env (looked_all (in_stage s p.stmts))) (scan_after_all (before s (onpath (thread (at_once p) arrays args).env p.stmts)) no_scan) ≡ scan_after_all (before (suc s) (onpath (thread (at_once p) arrays args).env p.stmts)) no_scan =
-      sym (ap₂ (λ l c. scan_after_all l c) (ap (onpath (thread (at_once p) arrays args).env) (stage_looked s p.stmts)) (scan_same s)) ∙ sym (Turns.blocked_next (at_once p) acc.pathwise arrays args s) ∙ scan_same (suc s) in
-      let known : AllAsks (Known clean (scan_after_all (before (suc s) (onpath (thread (at_once p) arrays args).env p.stmts)) no_scan) []) (stage_work p arrays args s).asks =
-      subst (λ c. AllAsks (Known clean c []) (stage_work p arrays args s).asks) next (subst (λ (w : Work). AllAsks (Known clean (scan_after_all (onpath (thread (at_once p) arrays args).env (looked_all (in_stage s p.stmts))) (scan_after_all (before s (onpath (thread (at_once p) arrays args).env p.stmts)) no_scan)) []) w.asks) h.0 h.2) in
-      let right : Right p s clean (scan_after_all (before (suc s) (onpath (thread (at_once p) arrays args).env p.stmts)) no_scan).blocked (stage_work p arrays args s).env =
-      subst (λ c. Right p s clean c.blocked (stage_work p arrays args s).env) next (subst (λ (w : Work). Right p s clean (scan_after_all (onpath (thread (at_once p) arrays args).env (looked_all (in_stage s p.stmts))) (scan_after_all (before s (onpath (thread (at_once p) arrays args).env p.stmts)) no_scan)).blocked w.env) h.0 h.1) in (
+      let next : scan_after_all (onpath (thread (at_once p) arrays args).env (looked_all (in_stage s p.stmts)))
+      (scan_after_all (before s (onpath (thread (at_once p) arrays args).env p.stmts)) no_scan)
+      ≡ scan_after_all (before (suc s) (onpath (thread (at_once p) arrays args).env p.stmts)) no_scan =
+      sym (ap₂ (λ l c. scan_after_all l c) (ap (onpath (thread (at_once p) arrays args).env) (stage_looked s p.stmts)) (scan_same s))
+      ∙ sym (Turns.blocked_next (at_once p) acc.pathwise arrays args s) ∙ scan_same (suc s) in
+      let known : AllAsks (Known clean (scan_after_all (before (suc s) (onpath (thread (at_once p) arrays args).env p.stmts)) no_scan) [])
+      (stage_work p arrays args s).asks =
+      subst (λ c. AllAsks (Known clean c []) (stage_work p arrays args s).asks) next
+      (subst
+      (λ (w : Work). AllAsks
+      (Known clean
+      (scan_after_all (onpath (thread (at_once p) arrays args).env (looked_all (in_stage s p.stmts)))
+      (scan_after_all (before s (onpath (thread (at_once p) arrays args).env p.stmts)) no_scan))
+      []) w.asks) h.0 h.2) in
+      let right : Right p s clean
+      (scan_after_all (before (suc s) (onpath (thread (at_once p) arrays args).env p.stmts)) no_scan).blocked
+      (stage_work p arrays args s).env =
+      subst (λ c. Right p s clean c.blocked (stage_work p arrays args s).env) next
+      (subst
+      (λ (w : Work). Right p s clean
+      (scan_after_all (onpath (thread (at_once p) arrays args).env (looked_all (in_stage s p.stmts)))
+      (scan_after_all (before s (onpath (thread (at_once p) arrays args).env p.stmts)) no_scan)).blocked w.env) h.0 h.1) in (
         h.0,
-        subst (λ l. Right p s clean l (so_far p arrays args (next_at p arrays args s)).env) (sym (same_blocked (next_at p arrays args s) ∙ ap (λ l. (scan_after_all l no_scan).blocked) (path_skips s on low)))
-            (subst (λ e. Right p s clean (scan_after_all (before (suc s) (onpath (thread (at_once p) arrays args).env p.stmts)) no_scan).blocked e) (next_values s on low).0
-            (right_caught p o arrays s clean f plain (scan_after_all (before (suc s) (onpath (thread (at_once p) arrays args).env p.stmts)) no_scan).blocked (stage_work p arrays args s).asks (stage_work p arrays args s).env
-            (all_more (Known clean (scan_after_all (before (suc s) (onpath (thread (at_once p) arrays args).env p.stmts)) no_scan) []) _ (stage_work p arrays args s).asks (λ q k. k.1) known) right)),
-        all_more (Known clean (scan_after_all (before (suc s) (onpath (thread (at_once p) arrays args).env p.stmts)) no_scan) []) _ (stage_work p arrays args s).asks (λ q k. k.0) known,
+        subst (λ l. Right p s clean l (so_far p arrays args (next_at p arrays args s)).env)
+            (sym (same_blocked (next_at p arrays args s) ∙ ap (λ l. (scan_after_all l no_scan).blocked) (path_skips s on low)))
+            (subst (λ e. Right p s clean (scan_after_all (before (suc s) (onpath (thread (at_once p) arrays args).env p.stmts)) no_scan).blocked e)
+            (next_values s on low).0
+            (right_caught p o arrays s clean f plain
+            (scan_after_all (before (suc s) (onpath (thread (at_once p) arrays args).env p.stmts)) no_scan).blocked
+            (stage_work p arrays args s).asks (stage_work p arrays args s).env
+            (all_more
+            (Known clean (scan_after_all (before (suc s) (onpath (thread (at_once p) arrays args).env p.stmts)) no_scan) []) _
+            (stage_work p arrays args s).asks (λ q k. k.1) known) right)),
+        all_more
+            (Known clean (scan_after_all (before (suc s) (onpath (thread (at_once p) arrays args).env p.stmts)) no_scan) []) _
+            (stage_work p arrays args s).asks (λ q k. k.0) known,
       )
 
   -- WRITES
 
   same_marks : (s m : ℕ) → marks (at_once p) arrays args s m ≡ marks p arrays args s m
-  same_marks s m = ap₂ (λ (w : Work) (r : Run). cond (nat_lt (commit_stage p m) s) [] (marked (has_value (entries_of m w.entries)) (of_mem m r.writes))) (same_so s) same_thread
+  same_marks s m =
+      ap₂ (λ (w : Work) (r : Run). cond (nat_lt (commit_stage p m) s) [] (marked (has_value (entries_of m w.entries)) (of_mem m r.writes)))
+      (same_so s) same_thread
 
   late_next : (s m : ℕ) → s < length p.stages → nat_lt (commit_stage p m) (next_at p arrays args s) ≡ nat_lt (commit_stage p m) (suc s)
   late_next s m low = at (nat_lt (commit_stage p m) (suc s)) refl (nat_lt (commit_stage p m) (next_at p arrays args s)) refl
@@ -259,8 +337,15 @@ module _ (p : Pipe) (acc : Sound p) (arrays : Arrays) (args : List ℕ) where
 
       at : (b : Bool) → nat_lt (commit_stage p m) (suc s) ≡ b → (d : Bool) → nat_lt (commit_stage p m) (next_at p arrays args s) ≡ d → d ≡ b
       at true e true f = refl
-      at true e false f = absurd (let i : commit_stage p m < suc s = ltb-true _ _ e in let j : next_at p arrays args s ≤ commit_stage p m = ltb-false _ _ f in let k = up in omega arith)
-      at false e true f = absurd (jumped (acc.graph.jump s (stage_work p arrays args s).env (commit_stage p m) low (acc.graph.trunk_commit m) (ltb-false _ _ e) (below (ltb-true _ _ f))) (ltb-true _ _ f))
+      at true e false f =
+          absurd
+          (let i : commit_stage p m < suc s = ltb-true _ _ e in
+          let j : next_at p arrays args s ≤ commit_stage p m = ltb-false _ _ f in let k = up in omega arith)
+      at false e true f =
+          absurd
+          (jumped
+          (acc.graph.jump s (stage_work p arrays args s).env (commit_stage p m) low (acc.graph.trunk_commit m) (ltb-false _ _ e) (below (ltb-true _ _ f)))
+          (ltb-true _ _ f))
         where
           below : commit_stage p m < next_at p arrays args s → commit_stage p m ≤ next_at p arrays args s
           below k = omega arith
@@ -269,17 +354,25 @@ module _ (p : Pipe) (acc : Sound p) (arrays : Arrays) (args : List ℕ) where
           jumped i j = omega arith
       at false e false f = refl
 
-  marks_next : (s m : ℕ) → visits_stage p (thread (at_once p) arrays args).env s ≡ true → s < length p.stages → marks p arrays args (next_at p arrays args s) m ≡ marks p arrays args (suc s) m
-  marks_next s m on low = ap₂ (λ b (w : Work). cond b [] (marked (has_value (entries_of m w.entries)) (of_mem m (thread p arrays args).writes))) (late_next s m low) (so_next s on low)
+  marks_next : (s m : ℕ) → visits_stage p (thread (at_once p) arrays args).env s ≡ true → s < length p.stages
+      → marks p arrays args (next_at p arrays args s) m ≡ marks p arrays args (suc s) m
+  marks_next s m on low =
+      ap₂ (λ b (w : Work). cond b [] (marked (has_value (entries_of m w.entries)) (of_mem m (thread p arrays args).writes)))
+      (late_next s m low) (so_next s on low)
 
-  pub marks_step : (s m : ℕ) → visits_stage p (thread (at_once p) arrays args).env s ≡ true → s < length p.stages → Later m (marks p arrays args s m) (of_mem m (stage_work p arrays args s).commits) (marks p arrays args (next_at p arrays args s) m)
+  pub marks_step : (s m : ℕ) → visits_stage p (thread (at_once p) arrays args).env s ≡ true → s < length p.stages
+      → Later m (marks p arrays args s m) (of_mem m (stage_work p arrays args s).commits) (marks p arrays args (next_at p arrays args s) m)
   marks_step s m on low =
       subst (λ k. Later m (marks p arrays args s m) (of_mem m (stage_work p arrays args s).commits) k) (same_marks (suc s) m ∙ sym (marks_next s m on low))
       (subst (λ k. Later m k (of_mem m (stage_work p arrays args s).commits) (marks (at_once p) arrays args (suc s) m)) (same_marks s m)
-      (subst (λ (w : Work). Later m (marks (at_once p) arrays args s m) (of_mem m w.commits) (marks (at_once p) arrays args (suc s) m)) (same_stage s) (Turns.marks_step (at_once p) acc.pathwise arrays args s m)))
+      (subst (λ (w : Work). Later m (marks (at_once p) arrays args s m) (of_mem m w.commits) (marks (at_once p) arrays args (suc s) m))
+      (same_stage s) (Turns.marks_step (at_once p) acc.pathwise arrays args s m)))
 
-  pub marks_seen : (s m a : ℕ) (rest : Latest) → reserve_stage p m < s → latest_in (so_far p arrays args s).entries m a rest ≡ seen a (marks p arrays args s m) rest
-  marks_seen s m a rest h = ap (λ (w : Work). latest_in w.entries m a rest) (sym (same_so s)) ∙ Turns.marks_seen (at_once p) acc.pathwise arrays args s m a rest h ∙ ap (λ k. seen a k rest) (same_marks s m)
+  pub marks_seen : (s m a : ℕ) (rest : Latest) → reserve_stage p m < s
+      → latest_in (so_far p arrays args s).entries m a rest ≡ seen a (marks p arrays args s m) rest
+  marks_seen s m a rest h =
+      ap (λ (w : Work). latest_in w.entries m a rest) (sym (same_so s))
+      ∙ Turns.marks_seen (at_once p) acc.pathwise arrays args s m a rest h ∙ ap (λ k. seen a k rest) (same_marks s m)
 
   pub marks_plain : (s m : ℕ) → is_plain (mem_at p m).lock ≡ true → marks p arrays args s m ≡ []
   marks_plain s m h = sym (same_marks s m) ∙ Turns.marks_plain (at_once p) acc.pathwise arrays args s m h
@@ -291,7 +384,9 @@ module _ (p : Pipe) (acc : Sound p) (arrays : Arrays) (args : List ℕ) where
   marks_end m = sym (same_marks (length p.stages) m) ∙ Turns.marks_end (at_once p) acc.pathwise arrays args m
 
   pub marks_start : (m : ℕ) → strips m (marks p arrays args 0 m) ≡ of_mem m (thread p arrays args).writes
-  marks_start m = ap (strips m) (sym (same_marks 0 m)) ∙ Turns.marks_start (at_once p) acc.pathwise arrays args m ∙ ap (λ (r : Run). of_mem m r.writes) same_thread
+  marks_start m =
+      ap (strips m) (sym (same_marks 0 m)) ∙ Turns.marks_start (at_once p) acc.pathwise arrays args m ∙ ap (λ (r : Run). of_mem m r.writes) same_thread
 
   pub row_after : (m : ℕ) → row (thread p arrays args).arrays m ≡ wrote (row arrays m) (of_mem m (thread p arrays args).writes)
-  row_after m = subst (λ (r : Run). row r.arrays m ≡ wrote (row arrays m) (of_mem m r.writes)) same_thread (Turns.row_after (at_once p) acc.pathwise arrays args m)
+  row_after m =
+      subst (λ (r : Run). row r.arrays m ≡ wrote (row arrays m) (of_mem m r.writes)) same_thread (Turns.row_after (at_once p) acc.pathwise arrays args m)

@@ -79,39 +79,65 @@ pub record One (p : Pipe) (o : Around) (arrays : Arrays) (s : ℕ) (clean : ℕ 
   pub right : Right p s clean (scan_after (answered_op op) c).blocked (work_after o op w).env
   pub asks : AllAsks (Known clean (scan_after (answered_op op) c) ys) (work_after o op w).asks
 
-module _ (p : Pipe) (o : Around) (arrays : Arrays) (s : ℕ) (clean : ℕ → ℕ → Type 0) (f : Surrounds p o arrays s clean) (plain : (m a : ℕ) → is_plain (mem_at p m).lock ≡ true → clean m a) where
+module _ (p : Pipe) (o : Around) (arrays : Arrays) (s : ℕ) (clean : ℕ → ℕ → Type 0) (f : Surrounds p o arrays s clean)
+    (plain : (m a : ℕ) → is_plain (mem_at p m).lock ≡ true → clean m a) where
   -- a delayed read
-  one_fetch : (c : Scan) (x m a : ℕ) (ys : List Stmt) (w : Work) → op_ok p s c (CombRead x m a) ≡ true → silent_on x ys ≡ true → Covers c.held w.entries → (w.ready && o.free m) ≡ true → Right p s clean c.blocked w.env
+  one_fetch : (c : Scan) (x m a : ℕ) (ys : List Stmt) (w : Work) → op_ok p s c (CombRead x m a) ≡ true
+      → silent_on x ys ≡ true → Covers c.held w.entries → (w.ready && o.free m) ≡ true → Right p s clean c.blocked w.env
       → AllAsks (Known clean c ys) w.asks → One p o arrays s clean c (DelayedRead x m a) ys w
   one_fetch c x m a ys w ok silent cover ready right asks =
       record {
-        same = ap (λ r. record w { asks = w.asks ++ record { mem = m; var = x; address = slice_index w.env a } ∷ []; ready = r }) (ready ∙ sym (ap (λ b. b && true) (and_left w.ready (o.free m) ready)));
+        same =
+            ap (λ r. record w { asks = w.asks ++ record { mem = m; var = x; address = slice_index w.env a } ∷ []; ready = r })
+            (ready ∙ sym (ap (λ b. b && true) (and_left w.ready (o.free m) ready)));
         covers = cover;
         right = right;
-        asks = all_snoc (Known clean c ys) w.asks _ asks (at (is_plain (mem_at p m).lock) refl (has_location c.blocked m a) refl (nat_le s (commit_stage p m)) refl (and_right (not (is_address c.blocked x)) _ ok), and_left _ _ ok, silent);
+        asks =
+            all_snoc (Known clean c ys) w.asks _ asks (
+              at (is_plain (mem_at p m).lock) refl (has_location c.blocked m a) refl (nat_le s (commit_stage p m)) refl
+                  (and_right (not (is_address c.blocked x)) _ ok),
+              and_left _ _ ok,
+              silent,
+            );
       }
     where
-      at : (b : Bool) → is_plain (mem_at p m).lock ≡ b → (d : Bool) → has_location c.blocked m a ≡ d → (e : Bool) → nat_le s (commit_stage p m) ≡ e → (b || (d && e)) ≡ true → clean m (slice_index w.env a)
+      at : (b : Bool) → is_plain (mem_at p m).lock ≡ b → (d : Bool) → has_location c.blocked m a ≡ d → (e : Bool)
+          → nat_le s (commit_stage p m) ≡ e → (b || (d && e)) ≡ true → clean m (slice_index w.env a)
       at true i d j e k t = plain m (slice_index w.env a) i
       at false i true j true k t = (right_at p s clean c.blocked w.env m a j (leb-true s (commit_stage p m) k) right).1
       at false i true j false k t = absurd (cc t)
       at false i false j e k t = absurd (cc t)
 
-  one : (c : Scan) (y : Stmt) (ys : List Stmt) (w : Work) → all_hold y.guards w.env ≡ true → op_ok p s c (answered_op y.op) ≡ true → unseen_op y.op ys ≡ true → Covers c.held w.entries → (work_after o y.op w).ready ≡ true → Right p s clean c.blocked w.env
+  one : (c : Scan) (y : Stmt) (ys : List Stmt) (w : Work) → all_hold y.guards w.env ≡ true
+      → op_ok p s c (answered_op y.op) ≡ true → unseen_op y.op ys ≡ true → Covers c.held w.entries
+      → (work_after o y.op w).ready ≡ true → Right p s clean c.blocked w.env
       → AllAsks (Known clean c (y ∷ ys)) w.asks → One p o arrays s clean c y.op ys w
-  one c y ys w t ok un cover ready right asks = by y.op (is_fetch y.op) refl ok un ready (all_more (Known clean c (y ∷ ys)) _ w.asks (λ q k. (k.0, k.1, k.2)) asks)
+  one c y ys w t ok un cover ready right asks =
+      by y.op (is_fetch y.op) refl ok un ready (all_more (Known clean c (y ∷ ys)) _ w.asks (λ q k. (k.0, k.1, k.2)) asks)
     where
-      by : (op : Op) (b : Bool) → is_fetch op ≡ b → op_ok p s c (answered_op op) ≡ true → unseen_op op ys ≡ true → (work_after o op w).ready ≡ true → AllAsks (λ q. clean q.mem q.address × (not (is_address c.blocked q.var) ≡ true) × (silent_on q.var (record y { op = op } ∷ ys) ≡ true)) w.asks → One p o arrays s clean c op ys w
-      by (DelayedRead x m a) b e ok' un' r k = one_fetch c x m a ys w ok' un' cover r right (all_more _ (Known clean c ys) w.asks (λ q g. (g.0, g.1, silent_rest (record y { op = DelayedRead x m a }) ys q.var g.2)) k)
+      by : (op : Op) (b : Bool) → is_fetch op ≡ b → op_ok p s c (answered_op op) ≡ true → unseen_op op ys ≡ true
+          → (work_after o op w).ready ≡ true
+          → AllAsks (λ q. clean q.mem q.address × (not (is_address c.blocked q.var) ≡ true) × (silent_on q.var (record y { op = op } ∷ ys) ≡ true)) w.asks
+          → One p o arrays s clean c op ys w
+      by (DelayedRead x m a) b e ok' un' r k =
+          one_fetch c x m a ys w ok' un' cover r right
+          (all_more _ (Known clean c ys) w.asks (λ q g. (g.0, g.1, silent_rest (record y { op = DelayedRead x m a }) ys q.var g.2)) k)
       by op false e ok' un' r k =
           let l : answered_op op ≡ op = (keeps_clear o op w e).0 in
           let here : op_ok p s c op ≡ true = subst (λ q. op_ok p s c q ≡ true) l ok' in
           record {
             same = does_same o arrays op w r (reads_right p o arrays s clean c op w.env f here right);
             covers = subst (λ q. Covers (scan_after q c).held (work_after o op w).entries) (sym l) (covers_op o c op w cover);
-            right = subst (λ q. Right p s clean (scan_after q c).blocked (work_after o op w).env) (sym l) (right_after p o arrays s clean c op w f cover here r right);
+            right =
+                subst (λ q. Right p s clean (scan_after q c).blocked (work_after o op w).env) (sym l)
+                (right_after p o arrays s clean c op w f cover here r right);
             asks = subst (λ qs. AllAsks (Known clean (scan_after (answered_op op) c) ys) qs) (sym (asks_same o op w e))
-                (all_more _ (Known clean (scan_after (answered_op op) c) ys) w.asks (λ q g. (g.0, opens_unused op c q.var (unmentioned (record y { op = op }) ys w.env q.var t g.2) g.1, silent_rest (record y { op = op }) ys q.var g.2)) k);
+                (all_more _ (Known clean (scan_after (answered_op op) c) ys) w.asks
+                (λ q g. (
+                  g.0,
+                  opens_unused op c q.var (unmentioned (record y { op = op }) ys w.env q.var t g.2) g.1,
+                  silent_rest (record y { op = op }) ys q.var g.2,
+                )) k);
           }
       by (Bind x e) true i ok' un' r k = absurd (cc i)
       by (CombRead x m a) true i ok' un' r k = absurd (cc i)
@@ -127,33 +153,47 @@ module _ (p : Pipe) (o : Around) (arrays : Arrays) (s : ℕ) (clean : ℕ → �
       by SpecBarrier true i ok' un' r k = absurd (cc i)
 
   -- with all conditions true, a stage does what it does alone, and leaves the blocked locations right
-  pub alike_asking : (path : List ℕ) (c : Scan) (xs : List Stmt) (w : Work) → AllIn s xs → Fixed path (alone arrays) xs w → is_unseen xs ≡ true → reads_ok p c (onpath path (looked_all xs)) ≡ true → Covers c.held w.entries → (do_all o xs w).ready ≡ true → Right p s clean c.blocked w.env
+  pub alike_asking : (path : List ℕ) (c : Scan) (xs : List Stmt) (w : Work) → AllIn s xs
+      → Fixed path (alone arrays) xs w → is_unseen xs ≡ true → reads_ok p c (onpath path (looked_all xs)) ≡ true
+      → Covers c.held w.entries → (do_all o xs w).ready ≡ true → Right p s clean c.blocked w.env
       → AllAsks (Known clean c xs) w.asks
-      → (do_all o xs w ≡ do_all (alone arrays) xs w) × Right p s clean (scan_after_all (onpath path (looked_all xs)) c).blocked (do_all o xs w).env × AllAsks (Known clean (scan_after_all (onpath path (looked_all xs)) c) []) (do_all o xs w).asks
+      → (do_all o xs w ≡ do_all (alone arrays) xs w)
+      × Right p s clean (scan_after_all (onpath path (looked_all xs)) c).blocked (do_all o xs w).env
+      × AllAsks (Known clean (scan_after_all (onpath path (looked_all xs)) c) []) (do_all o xs w).asks
   alike_asking path c [] w a q u h g k r asks = (refl, r, asks)
   alike_asking path c (x ∷ xs) w a q u h g k r asks =
       by_bool (all_hold x.guards w.env) _
       (λ e.
       let goes : step o x w ≡ work_after o x.op w = ap (λ b. cond b (work_after o x.op w) w) e in
       let goes_alone : step (alone arrays) x w ≡ work_after (alone arrays) x.op w = ap (λ b. cond b (work_after (alone arrays) x.op w) w) e in
-      let on : onpath path (looked_all (x ∷ xs)) ≡ record (look x) { guards = [] } ∷ onpath path (looked_all xs) = ap (λ b. cond b (record (look x) { guards = [] } ∷ onpath path (looked_all xs)) (onpath path (looked_all xs))) (sym q.0 ∙ e) in
+      let on : onpath path (looked_all (x ∷ xs)) ≡ record (look x) { guards = [] } ∷ onpath path (looked_all xs) =
+      ap (λ b. cond b (record (look x) { guards = [] } ∷ onpath path (looked_all xs)) (onpath path (looked_all xs))) (sym q.0 ∙ e) in
       let h1 : reads_ok p c (record (look x) { guards = [] } ∷ onpath path (looked_all xs)) ≡ true = subst (λ l. reads_ok p c l ≡ true) on h in
-      let here : op_ok p s c (answered_op x.op) ≡ true = subst (λ n. op_ok p n c (answered_op x.op) ≡ true) a.0 (and_left (op_ok p x.stage c (answered_op x.op)) _ h1) in
+      let here : op_ok p s c (answered_op x.op) ≡ true =
+      subst (λ n. op_ok p n c (answered_op x.op) ≡ true) a.0 (and_left (op_ok p x.stage c (answered_op x.op)) _ h1) in
       let k' : (do_all o xs (work_after o x.op w)).ready ≡ true = subst (λ v. (do_all o xs v).ready ≡ true) goes k in
       let step_one : One p o arrays s clean c x.op xs w = one c x xs w e here (and_left _ _ u) g (was_ready o xs (work_after o x.op w) k') r asks in
       let q' : Fixed path (alone arrays) xs (work_after o x.op w) = subst (λ v. Fixed path (alone arrays) xs v) (goes_alone ∙ sym step_one.same) q.1 in
-      let rest = alike_asking path (scan_after (answered_op x.op) c) xs (work_after o x.op w) a.1 q' (and_right (unseen_op x.op xs) _ u) (and_right (op_ok p x.stage c (answered_op x.op)) _ h1) step_one.covers k' step_one.right step_one.asks in (
+      let rest =
+      alike_asking path (scan_after (answered_op x.op) c) xs (work_after o x.op w) a.1 q' (and_right (unseen_op x.op xs) _ u)
+      (and_right (op_ok p x.stage c (answered_op x.op)) _ h1) step_one.covers k' step_one.right step_one.asks in (
         ap (do_all o xs) goes ∙ rest.0 ∙ ap (do_all (alone arrays) xs) (step_one.same ∙ sym goes_alone),
         subst (λ l. Right p s clean (scan_after_all l c).blocked (do_all o (x ∷ xs) w).env) (sym on)
-            (subst (λ v. Right p s clean (scan_after_all (onpath path (looked_all xs)) (scan_after (answered_op x.op) c)).blocked (do_all o xs v).env) (sym goes) rest.1),
+            (subst (λ v. Right p s clean (scan_after_all (onpath path (looked_all xs)) (scan_after (answered_op x.op) c)).blocked (do_all o xs v).env)
+            (sym goes) rest.1),
         subst (λ l. AllAsks (Known clean (scan_after_all l c) []) (do_all o (x ∷ xs) w).asks) (sym on)
-            (subst (λ v. AllAsks (Known clean (scan_after_all (onpath path (looked_all xs)) (scan_after (answered_op x.op) c)) []) (do_all o xs v).asks) (sym goes) rest.2),
+            (subst (λ v. AllAsks (Known clean (scan_after_all (onpath path (looked_all xs)) (scan_after (answered_op x.op) c)) []) (do_all o xs v).asks)
+            (sym goes) rest.2),
       ))
       (λ e.
       let goes : step o x w ≡ w = ap (λ b. cond b (work_after o x.op w) w) e in
       let goes_alone : step (alone arrays) x w ≡ w = ap (λ b. cond b (work_after (alone arrays) x.op w) w) e in
-      let on : onpath path (looked_all (x ∷ xs)) ≡ onpath path (looked_all xs) = ap (λ b. cond b (record (look x) { guards = [] } ∷ onpath path (looked_all xs)) (onpath path (looked_all xs))) (sym q.0 ∙ e) in
-      let rest = alike_asking path c xs w a.1 (subst (λ v. Fixed path (alone arrays) xs v) goes_alone q.1) (and_right (unseen_op x.op xs) _ u) (subst (λ l. reads_ok p c l ≡ true) on h) g (subst (λ v. (do_all o xs v).ready ≡ true) goes k) r
+      let on : onpath path (looked_all (x ∷ xs)) ≡ onpath path (looked_all xs) =
+      ap (λ b. cond b (record (look x) { guards = [] } ∷ onpath path (looked_all xs)) (onpath path (looked_all xs))) (sym q.0 ∙ e) in
+      let rest =
+      alike_asking path c xs w a.1 (subst (λ v. Fixed path (alone arrays) xs v) goes_alone q.1)
+      (and_right (unseen_op x.op xs) _ u)
+      (subst (λ l. reads_ok p c l ≡ true) on h) g (subst (λ v. (do_all o xs v).ready ≡ true) goes k) r
       (all_more (Known clean c (x ∷ xs)) (Known clean c xs) w.asks (λ q' d. (d.0, d.1, silent_rest x xs q'.var d.2)) asks) in (
         ap (do_all o xs) goes ∙ rest.0 ∙ ap (do_all (alone arrays) xs) (sym goes_alone),
         subst (λ l. Right p s clean (scan_after_all l c).blocked (do_all o (x ∷ xs) w).env) (sym on)
@@ -163,6 +203,9 @@ module _ (p : Pipe) (o : Around) (arrays : Arrays) (s : ℕ) (clean : ℕ → �
       ))
 
   -- the blocked locations stay right when the answers come
-  pub right_caught : (ls : List Location) (qs : List Ask) (env : List ℕ) → AllAsks (λ q. not (is_address ls q.var) ≡ true) qs → Right p s clean ls env → Right p s clean ls (caught arrays qs env)
+  pub right_caught : (ls : List Location) (qs : List Ask) (env : List ℕ)
+      → AllAsks (λ q. not (is_address ls q.var) ≡ true) qs → Right p s clean ls env
+      → Right p s clean ls (caught arrays qs env)
   right_caught ls [] env h r = r
-  right_caught ls (q ∷ qs) env h r = right_caught ls qs (slice_set env q.var (word_at arrays q.mem q.address)) h.1 (right_set p s clean ls env q.var (word_at arrays q.mem q.address) h.0 r)
+  right_caught ls (q ∷ qs) env h r =
+      right_caught ls qs (slice_set env q.var (word_at arrays q.mem q.address)) h.1 (right_set p s clean ls env q.var (word_at arrays q.mem q.address) h.0 r)

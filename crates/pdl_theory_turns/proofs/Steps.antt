@@ -42,8 +42,10 @@ staged_moved : (m n : ℕ) (ph : Phase) (es es' : List Entry) (cs cs' : List Com
     → rel' ≡ rel → Staged m n ph es cs new ws rel → Staged m n ph es' cs' new' ws' rel'
 staged_moved m n Fresh es es' cs cs' new new' ws ws' rel rel' p q r s t g = (p ∙ g.0, q ∙ g.1, r ∙ g.2, (λ l. s l ∙ g.3 l), t ∙ g.4)
 staged_moved m n (Held x) es es' cs cs' new new' ws ws' rel rel' p q r s t g = (g.0, p ∙ g.1, q ∙ g.2, s new' ∙ ap (with_writes_of m n ws) r ∙ g.3, t ∙ g.4)
-staged_moved m n (Written x) es es' cs cs' new new' ws ws' rel rel' p q r s t g = (g.0, g.1, p ∙ g.2, q ∙ g.3, s new' ∙ ap (with_writes_of m n ws) r ∙ g.4, t ∙ g.5)
-staged_moved m n Done es es' cs cs' new new' ws ws' rel rel' p q r s t g = (p ∙ g.0, gone_moved m n cs cs' _ _ rel rel' q (s new' ∙ ap (with_writes_of m n ws) r) t g.1)
+staged_moved m n (Written x) es es' cs cs' new new' ws ws' rel rel' p q r s t g =
+    (g.0, g.1, p ∙ g.2, q ∙ g.3, s new' ∙ ap (with_writes_of m n ws) r ∙ g.4, t ∙ g.5)
+staged_moved m n Done es es' cs cs' new new' ws ws' rel rel' p q r s t g =
+    (p ∙ g.0, gone_moved m n cs cs' _ _ rel rel' q (s new' ∙ ap (with_writes_of m n ws) r) t g.1)
 
 put_all_more : (m n : ℕ) (ws : List Machine.Written) (w : Machine.Written) (l : List Pending)
     → with_writes_of m n (ws ++ w ∷ []) l ≡ cond (w.mem == m) (with_value_of n w.value (with_writes_of m n ws l)) (with_writes_of m n ws l)
@@ -75,8 +77,10 @@ without_none : (es : List Entry) (m a : ℕ) → has_entry es m a ≡ false → 
 without_none [] m a h = (refl, refl)
 without_none (e ∷ es) m a h = at ((e.mem == m) && (e.var == a)) refl h (λ k. without_none es m a k)
   where
-    at : (b : Bool) → ((e.mem == m) && (e.var == a)) ≡ b → (b || has_entry es m a) ≡ false → (has_entry es m a ≡ false → (without es m a ≡ es) × (released_commits es m a ≡ []))
-        → (cond b es (e ∷ without es m a) ≡ e ∷ es) × (cond b (record { mem = m; address = e.address; value = commit_value e.value } ∷ []) (released_commits es m a) ≡ [])
+    at : (b : Bool) → ((e.mem == m) && (e.var == a)) ≡ b → (b || has_entry es m a) ≡ false
+        → (has_entry es m a ≡ false → (without es m a ≡ es) × (released_commits es m a ≡ []))
+        → (cond b es (e ∷ without es m a) ≡ e ∷ es)
+        × (cond b (record { mem = m; address = e.address; value = commit_value e.value } ∷ []) (released_commits es m a) ≡ [])
     at true e h k = absurd (cc h)
     at false _ h k = (ap (λ l. e ∷ l) (k h).0, (k h).1)
 
@@ -90,14 +94,19 @@ pub step_write : (m n k a v : ℕ) (ph : Phase) (es : List Entry) (cs : List Com
     → Staged m n (cond b (Written a) ph) (entries_of m (Derived.with_entry_value es k a v)) cs new (ws ++ record { mem = k; value = v } ∷ []) rel
 step_write m n k a v ph es cs new ws rel false e h g =
     staged_moved m n ph _ _ _ _ _ _ ws _ _ _ (filled_other es m k a v (eqb-false k m e)) refl refl
-    (λ l. put_all_more m n ws (record { mem = k; value = v }) l ∙ ap (λ c. cond c (with_value_of n v (with_writes_of m n ws l)) (with_writes_of m n ws l)) e) refl g
+    (λ l. put_all_more m n ws (record { mem = k; value = v }) l
+    ∙ ap (λ c. cond c (with_value_of n v (with_writes_of m n ws l)) (with_writes_of m n ws l)) e) refl g
 step_write m n k a v Fresh es cs new ws rel true e h g = absurd (cc h)
 step_write m n k a v (Held x) es cs new ws rel true e h g = (
   g.0,
   v,
-  ap (λ j. entries_of m (Derived.with_entry_value es j a v)) (eqb-true k m e) ∙ entries_of-filled es m a v ∙ ap (λ l. Derived.with_entry_value l m a v) (g.1 ∙ ap (λ y. entry m y g.0 None ∷ []) (eqb-true x a h)) ∙ filled_one m a g.0 v None,
+  ap (λ j. entries_of m (Derived.with_entry_value es j a v)) (eqb-true k m e) ∙ entries_of-filled es m a v
+      ∙ ap (λ l. Derived.with_entry_value l m a v) (g.1 ∙ ap (λ y. entry m y g.0 None ∷ []) (eqb-true x a h))
+      ∙ filled_one m a g.0 v None,
   g.2,
-  put_all_more m n ws (record { mem = k; value = v }) new ∙ ap (λ c. cond c (with_value_of n v (with_writes_of m n ws new)) (with_writes_of m n ws new)) e ∙ ap (with_value_of n v) g.3
+  put_all_more m n ws (record { mem = k; value = v }) new
+      ∙ ap (λ c. cond c (with_value_of n v (with_writes_of m n ws new)) (with_writes_of m n ws new)) e
+      ∙ ap (with_value_of n v) g.3
       ∙ ap (λ c. cond c (own n (entry m a g.0 (Some v))) (own n (entry m x g.0 None)) ∷ []) (eq-eqb n n refl),
   g.4,
 )
@@ -112,13 +121,17 @@ pub step_reserve : (m n k a y : ℕ) (ph : Phase) (es : List Entry) (cs : List C
     → Staged m n (cond b (Held a) ph) (entries_of m (entry k a y None ∷ es)) cs (start ++ new_entries m n (rs ++ record { mem = k; address = y } ∷ [])) ws rel
 step_reserve m n k a y ph es cs start rs ws rel false e h g =
     staged_moved m n ph _ _ _ _ _ _ ws ws _ _ (ap (λ c. cond c (entry k a y None ∷ entries_of m es) (entries_of m es)) e) refl
-    (ap (λ l. start ++ l) (new_more m n rs _ ∙ ap (λ c. new_entries m n rs ++ cond c (record { thread = n; address = y; value = None } ∷ []) []) e ∙ append-nil _)) (λ l. refl) refl g
+    (ap (λ l. start ++ l)
+    (new_more m n rs _ ∙ ap (λ c. new_entries m n rs ++ cond c (record { thread = n; address = y; value = None } ∷ []) []) e ∙ append-nil _))
+    (λ l. refl) refl g
 step_reserve m n k a y Fresh es cs start rs ws rel true e h g = (
   y,
   ap (λ c. cond c (entry k a y None ∷ entries_of m es) (entries_of m es)) e ∙ ap₂ (λ j l. entry j a y None ∷ l) (eqb-true k m e) g.0,
   g.1,
-  ap (λ l. with_writes_of m n ws (start ++ l)) (new_more m n rs _ ∙ ap (λ c. new_entries m n rs ++ cond c (record { thread = n; address = y; value = None } ∷ []) []) e)
-      ∙ ap (with_writes_of m n ws) (sym (append_assoc start (new_entries m n rs) _) ∙ ap (λ l. l ++ record { thread = n; address = y; value = None } ∷ []) g.2) ∙ g.3 _,
+  ap (λ l. with_writes_of m n ws (start ++ l))
+      (new_more m n rs _ ∙ ap (λ c. new_entries m n rs ++ cond c (record { thread = n; address = y; value = None } ∷ []) []) e)
+      ∙ ap (with_writes_of m n ws) (sym (append_assoc start (new_entries m n rs) _) ∙ ap (λ l. l ++ record { thread = n; address = y; value = None } ∷ []) g.2)
+      ∙ g.3 _,
   g.4,
 )
 step_reserve m n k a y (Held x) es cs start rs ws rel true e h g = absurd (cc h)
@@ -144,7 +157,8 @@ pub step_release : (m n k a : ℕ) (ph : Phase) (es : List Entry) (cs : List Com
     (ws : List Machine.Written) (rs : List ℕ) (held : Bool)
     → held ≡ has_entry es k a → (b : Bool) → (k == m) ≡ b → (not b || not (holds_location ph a)) ≡ true
     → Staged m n ph (entries_of m es) (of_mem m cs) new ws (list_any (λ j. j == m) rs)
-    → Staged m n (cond b (after_release ph a) ph) (entries_of m (without es k a)) (of_mem m (cs ++ released_commits es k a)) new ws (list_any (λ j. j == m) (rs ++ cond held (k ∷ []) []))
+    → Staged m n (cond b (after_release ph a) ph) (entries_of m (without es k a))
+    (of_mem m (cs ++ released_commits es k a)) new ws (list_any (λ j. j == m) (rs ++ cond held (k ∷ []) []))
 step_release m n k a ph es cs new ws rs held i false e h g =
     step_none m n k a ph es cs new ws rs held (without_other es m k a (eqb-false k m e)) (released_other es m k a (eqb-false k m e)) (off held (k == m) e) g
   where
@@ -164,7 +178,8 @@ step_release m n k a ph es cs new ws rs held i true e h g = at ph h g
         step_none m n k a q es cs new ws rs held (ap (entries_of m) w.0) (ap (of_mem m) w.1) (ap (λ c. c && (k == m)) (i ∙ z)) g
 
     at : (q : Phase) → not (holds_location q a) ≡ true → Staged m n q (entries_of m es) (of_mem m cs) new ws (list_any (λ j. j == m) rs)
-        → Staged m n (after_release q a) (entries_of m (without es k a)) (of_mem m (cs ++ released_commits es k a)) new ws (list_any (λ j. j == m) (rs ++ cond held (k ∷ []) []))
+        → Staged m n (after_release q a) (entries_of m (without es k a))
+        (of_mem m (cs ++ released_commits es k a)) new ws (list_any (λ j. j == m) (rs ++ cond held (k ∷ []) []))
     at Fresh h g = none Fresh (ap (λ l. has_entry l m a) g.0) g
     at (Held x) h g = none (Held x) (ap (λ l. has_entry l m a) g.1 ∙ apart_false x a m None g.0 (off (x == a) h)) g
       where
@@ -173,16 +188,22 @@ step_release m n k a ph es cs new ws rs held i true e h g = at ph h g
         off false q = refl
     at (Written x) h g = by (x == a) refl
       where
-        by : (b : Bool) → (x == a) ≡ b → Staged m n (cond b Done (Written x)) (entries_of m (without es k a)) (of_mem m (cs ++ released_commits es k a)) new ws (list_any (λ j. j == m) (rs ++ cond held (k ∷ []) []))
+        by : (b : Bool) → (x == a) ≡ b
+            → Staged m n (cond b Done (Written x)) (entries_of m (without es k a))
+            (of_mem m (cs ++ released_commits es k a)) new ws (list_any (λ j. j == m) (rs ++ cond held (k ∷ []) []))
         by false f = none (Written x) (ap (λ l. has_entry l m a) g.2 ∙ apart_false x a m (Some g.1) g.0 f) g
         by true f =
             let one : entries_of m es ≡ entry m a g.0 (Some g.1) ∷ [] = g.2 ∙ ap (λ y. entry m y g.0 (Some g.1) ∷ []) (eqb-true x a f) in
-            let is : has_entry es k a ≡ true = ap (λ j. has_entry es j a) same ∙ has_own es m a ∙ ap (λ l. has_entry l m a) one ∙ ap₂ (λ b c. (b && c) || false) (eq-eqb m m refl) (eq-eqb a a refl) in (
+            let is : has_entry es k a ≡ true =
+            ap (λ j. has_entry es j a) same ∙ has_own es m a ∙ ap (λ l. has_entry l m a) one
+            ∙ ap₂ (λ b c. (b && c) || false) (eq-eqb m m refl) (eq-eqb a a refl) in (
               ap (λ j. entries_of m (without es j a)) same ∙ without_own es m a ∙ ap (λ l. without l m a) one ∙ without_one m a g.0 (Some g.1),
               inr (
                 g.0,
                 g.1,
-                of_mem_append m cs _ ∙ ap₂ (λ c d. c ++ d) g.3 (ap (λ j. of_mem m (released_commits es j a)) same ∙ released_own es m a ∙ ap (λ l. released_commits l m a) one ∙ released_one m a g.0 g.1),
+                of_mem_append m cs _
+                    ∙ ap₂ (λ c d. c ++ d) g.3
+                    (ap (λ j. of_mem m (released_commits es j a)) same ∙ released_own es m a ∙ ap (λ l. released_commits l m a) one ∙ released_one m a g.0 g.1),
                 g.4,
                 any_more (λ j. j == m) rs _ ∙ ap₂ (λ c t. c || list_any (λ j. j == m) (cond t (k ∷ []) [])) g.5 (i ∙ is) ∙ ap (λ c. c || false) e,
               ),

@@ -10,7 +10,8 @@ use Rattle.pdl_theory_turns.proofs.TurnFacts.{Graph, Below, Trunk, next_of}
 -- what is known of the older threads of a stray one
 pub record Ahead (p : Pipe) (v : ℕ) (older : List Act) (bound bound' : ℕ) : Type 0 where
   pub low : bound ≤ v
-  pub enter : (q : ℕ) → can_enter p older (Some q) ≡ true → (bound ≡ q → bound < bound') × ((f : ℕ) → (stage_at p q).merges ≡ Some f → is_inside p f bound ≡ false)
+  pub enter : (q : ℕ) → can_enter p older (Some q) ≡ true
+      → (bound ≡ q → bound < bound') × ((f : ℕ) → (stage_at p q).merges ≡ Some f → is_inside p f bound ≡ false)
   pub grows : bound ≤ bound'
   pub unclear : (s : ℕ) → s < bound → Trunk p s → barrier_clear (Some v) s (befores older) ≡ false
 
@@ -21,14 +22,22 @@ pub enter_next : (p : Pipe) (older : List Act) (a : Act) (s s' : ℕ)
 enter_next p older a s s' is moved q h = (first, second)
   where
     tests : ((not (a.before.stage == q) || a.moves) && list_all (λ o. not (o.before.stage == q) || o.moves) older) ≡ true
-    tests = and_left ((not (a.before.stage == q) || a.moves) && list_all (λ o. not (o.before.stage == q) || o.moves) older) (fork_clear p (a ∷ older) (stage_at p q).merges) h
+    tests =
+        and_left ((not (a.before.stage == q) || a.moves) && list_all (λ o. not (o.before.stage == q) || o.moves) older)
+        (fork_clear p (a ∷ older) (stage_at p q).merges) h
 
     first : s ≡ q → s < s'
-    first e = moved (subst (λ t. (not t || a.moves) ≡ true) (ap (λ n. n == q) (is ∙ e) ∙ eq-eqb q q refl) (and_left (not (a.before.stage == q) || a.moves) (list_all (λ o. not (o.before.stage == q) || o.moves) older) tests))
+    first e =
+        moved
+        (subst (λ t. (not t || a.moves) ≡ true) (ap (λ n. n == q) (is ∙ e) ∙ eq-eqb q q refl)
+        (and_left (not (a.before.stage == q) || a.moves) (list_all (λ o. not (o.before.stage == q) || o.moves) older) tests))
 
     second : (f : ℕ) → (stage_at p q).merges ≡ Some f → is_inside p f s ≡ false
     second f e =
-        let k : (not (is_inside p f a.before.stage) && list_all (λ o. not (is_inside p f o.before.stage)) older) ≡ true = subst (λ m. fork_clear p (a ∷ older) m ≡ true) e (and_right ((not (a.before.stage == q) || a.moves) && list_all (λ o. not (o.before.stage == q) || o.moves) older) (fork_clear p (a ∷ older) (stage_at p q).merges) h) in
+        let k : (not (is_inside p f a.before.stage) && list_all (λ o. not (is_inside p f o.before.stage)) older) ≡ true =
+        subst (λ m. fork_clear p (a ∷ older) m ≡ true) e
+        (and_right ((not (a.before.stage == q) || a.moves) && list_all (λ o. not (o.before.stage == q) || o.moves) older)
+        (fork_clear p (a ∷ older) (stage_at p q).merges) h) in
         subst (λ n. is_inside p f n ≡ false) is (flip (is_inside p f a.before.stage) (and_left (not (is_inside p f a.before.stage)) _ k))
       where
         flip : (b : Bool) → not b ≡ true → b ≡ false

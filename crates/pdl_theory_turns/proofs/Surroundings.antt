@@ -88,7 +88,8 @@ pub has_filled : (es : List Entry) (n b v m a : ℕ) → has_entry (with_entry_v
 has_filled [] n b v m a = refl
 has_filled (e ∷ es) n b v m a = at ((e.mem == n) && (e.var == b)) (has_filled es n b v m a)
   where
-    at : (t : Bool) → has_entry (with_entry_value es n b v) m a ≡ has_entry es m a → has_entry (cond t (record e { value = Some v } ∷ es) (e ∷ with_entry_value es n b v)) m a ≡ (((e.mem == m) && (e.var == a)) || has_entry es m a)
+    at : (t : Bool) → has_entry (with_entry_value es n b v) m a ≡ has_entry es m a
+        → has_entry (cond t (record e { value = Some v } ∷ es) (e ∷ with_entry_value es n b v)) m a ≡ (((e.mem == m) && (e.var == a)) || has_entry es m a)
     at true h = refl
     at false h = ap (λ t. ((e.mem == m) && (e.var == a)) || t) h
 
@@ -96,7 +97,9 @@ has_without : (es : List Entry) (n b m a : ℕ) → has_entry (without es n b) m
 has_without [] n b m a h = h
 has_without (e ∷ es) n b m a h = at ((e.mem == n) && (e.var == b)) h (has_without es n b m a)
   where
-    at : (t : Bool) → has_entry (cond t es (e ∷ without es n b)) m a ≡ true → (has_entry (without es n b) m a ≡ true → has_entry es m a ≡ true) → (((e.mem == m) && (e.var == a)) || has_entry es m a) ≡ true
+    at : (t : Bool) → has_entry (cond t es (e ∷ without es n b)) m a ≡ true
+        → (has_entry (without es n b) m a ≡ true → has_entry es m a ≡ true)
+        → (((e.mem == m) && (e.var == a)) || has_entry es m a) ≡ true
     at true k f = or_more _ _ k
     at false k f = or_map ((e.mem == m) && (e.var == a)) _ _ f k
 
@@ -126,7 +129,8 @@ block_right : (p : Pipe) (o : Around) (arrays : Arrays) (s : ℕ) (clean : ℕ �
     → Right p s clean c.blocked w.env → Right p s clean (scan_after (Block m a) c).blocked w.env
 block_right p o arrays s clean c m a w f k low h r = at (has_entry w.entries m a) refl (has_location c.held m a) refl h
   where
-    at : (b : Bool) → has_entry w.entries m a ≡ b → (d : Bool) → has_location c.held m a ≡ d → cond b (o.can_write m (slice_index w.env a)) (o.can_read m (slice_index w.env a)) ≡ true
+    at : (b : Bool) → has_entry w.entries m a ≡ b → (d : Bool) → has_location c.held m a ≡ d
+        → cond b (o.can_write m (slice_index w.env a)) (o.can_read m (slice_index w.env a)) ≡ true
         → Right p s clean (cond d c (record { held = c.held; blocked = location m a ∷ c.blocked })).blocked w.env
     at b e true g i = r
     at true e false g i = absurd (cc (sym g ∙ k m a e))
@@ -137,9 +141,11 @@ pub right_after : (p : Pipe) (o : Around) (arrays : Arrays) (s : ℕ) (clean : �
     → Surrounds p o arrays s clean → Covers c.held w.entries → op_ok p s c op ≡ true → (work_after o op w).ready ≡ true
     → Right p s clean c.blocked w.env → Right p s clean (scan_after op c).blocked (work_after o op w).env
 right_after p o arrays s clean c (Bind x e) w f g h k r = right_set p s clean c.blocked w.env x (value_of e w.env) h r
-right_after p o arrays s clean c (CombRead x m a) w f g h k r = right_set p s clean c.blocked w.env x (o.read m (slice_index w.env a)) (and_left (not (is_address c.blocked x)) _ h) r
+right_after p o arrays s clean c (CombRead x m a) w f g h k r =
+    right_set p s clean c.blocked w.env x (o.read m (slice_index w.env a)) (and_left (not (is_address c.blocked x)) _ h) r
 right_after p o arrays s clean c (DelayedRead x m a) w f g h k r = absurd (cc h)
-right_after p o arrays s clean c (Block m a) w f g h k r = block_right p o arrays s clean c m a w f g (leb-true (reserve_stage p m) s h) (and_right w.ready _ k) r
+right_after p o arrays s clean c (Block m a) w f g h k r =
+    block_right p o arrays s clean c m a w f g (leb-true (reserve_stage p m) s h) (and_right w.ready _ k) r
 right_after p o arrays s clean c (Verify args) w f g h k r = at (same_args (values_of args w.env) w.guess)
   where
     at : (b : Bool) → Right p s clean c.blocked (cond b w (record w { child = Some (values_of args w.env); fails = true })).env
@@ -171,5 +177,6 @@ pub covers_all : (p : Pipe) (o : Around) (c : Scan) (xs : List Stmt) (w : Work)
     → reads_ok p c xs ≡ true → Covers c.held w.entries → Covers (scan_after_all xs c).held (do_all o xs w).entries
 covers_all p o c [] w h f = f
 covers_all p o c (x ∷ xs) w h f =
-    subst (λ v. Covers (scan_after_all xs (scan_after x.op c)).held (do_all o xs v).entries) (sym (ap (λ b. cond b (work_after o x.op w) w) (taken_none x.guards w.env (and_left _ _ (and_left _ _ h)))))
+    subst (λ v. Covers (scan_after_all xs (scan_after x.op c)).held (do_all o xs v).entries)
+    (sym (ap (λ b. cond b (work_after o x.op w) w) (taken_none x.guards w.env (and_left _ _ (and_left _ _ h)))))
     (covers_all p o (scan_after x.op c) xs (work_after o x.op w) (and_right _ _ h) (covers_op o c x.op w f))

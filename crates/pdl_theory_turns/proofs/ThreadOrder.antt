@@ -102,14 +102,18 @@ module _ (p : Pipe) (g : Graph p) (br : Branches p) where
           at true i = absurd (irrefl b b' (sym e) ((enter (next_of p s env) (entered (in_pipe c j))).0 (eqb-true _ _ i)))
           at false i = let x = eqb-false _ _ i in omega arith
 
-      behind : (c : Branch) → In p c b' → In p c (next_of p s env) → (s ≡ c.fork) ⊎ (In p c s × (next_of p s env ≡ suc s)) → Stepped p moves b b' → next_of p s env < b'
+      behind : (c : Branch) → In p c b' → In p c (next_of p s env)
+          → (s ≡ c.fork) ⊎ (In p c s × (next_of p s env ≡ suc s)) → Stepped p moves b b' → next_of p s env < b'
       behind c i j (inl e) (inl k) =
-          let n : next_of p s env ≤ b = subst (λ f. next_of p f env ≤ b) (sym e) (br.entry c env b (subst (λ f. f < length p.stages) e low) (subst (λ f. In p c (next_of p f env)) e j) (subst (λ m. In p c m) k.2 i)) in
+          let n : next_of p s env ≤ b =
+          subst (λ f. next_of p f env ≤ b) (sym e)
+          (br.entry c env b (subst (λ f. f < length p.stages) e low) (subst (λ f. In p c (next_of p f env)) e j) (subst (λ m. In p c m) k.2 i)) in
           strict c j k.2 n
       behind c i j (inl e) (inr k) = at (br.stays_in c b k.0 k.3 (subst (λ m. In p c m) k.2 i))
         where
           first_here : In p c b → next_of p s env ≤ b
-          first_here l = subst (λ f. next_of p f env ≤ b) (sym e) (br.entry c env b (subst (λ f. f < length p.stages) e low) (subst (λ f. In p c (next_of p f env)) e j) l)
+          first_here l =
+              subst (λ f. next_of p f env ≤ b) (sym e) (br.entry c env b (subst (λ f. f < length p.stages) e low) (subst (λ f. In p c (next_of p f env)) e j) l)
 
           at : (b ≡ c.fork) ⊎ (In p c b × (next_of p b k.0 ≡ suc b)) → next_of p s env < b'
           at (inl f) =
@@ -183,7 +187,8 @@ module _ (p : Pipe) (g : Graph p) (br : Branches p) where
   moved_on o b b' (inr k) h = subst (λ n. b < n) (sym k.2) (g.up b k.0 k.3)
 
   -- and where it moves
-  pub all_step : (os : List Act) (bs bs' : List ℕ) (s : ℕ) (env : List ℕ) → Moves p os bs bs' → AllUnder p bs s → s < length p.stages → can_enter p os (goes_to (stage_at p s).next env) ≡ true → AllUnder p bs' (next_of p s env)
+  pub all_step : (os : List Act) (bs bs' : List ℕ) (s : ℕ) (env : List ℕ) → Moves p os bs bs' → AllUnder p bs s
+      → s < length p.stages → can_enter p os (goes_to (stage_at p s).next env) ≡ true → AllUnder p bs' (next_of p s env)
   all_step [] [] bs' s env m u low h = absurd m
   all_step [] (b ∷ []) [] s env m u low h = absurd m
   all_step [] (b ∷ []) (b' ∷ []) s env m u low h = (subst (λ n. Under p n (next_of p s env)) (sym m.1) (end_step s env low), tt)

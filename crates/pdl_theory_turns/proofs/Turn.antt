@@ -20,7 +20,8 @@ use Rattle.pdl_semantics.specs.Sound.{stages_from}
 -- statements without a release of m commit nothing of m
 quiet_op : (m : ℕ) (o : Around) (op : Op) (w : Work)
     → not (is_release m op) ≡ true → of_mem m (work_after o op w).commits ≡ of_mem m w.commits
-quiet_op m o (Release n a) w h = of_mem_append m w.commits _ ∙ ap (λ l. of_mem m w.commits ++ l) (released_other w.entries m n a apart) ∙ append-nil (of_mem m w.commits)
+quiet_op m o (Release n a) w h =
+    of_mem_append m w.commits _ ∙ ap (λ l. of_mem m w.commits ++ l) (released_other w.entries m n a apart) ∙ append-nil (of_mem m w.commits)
   where
     apart : n ≢ m
     apart e = grind (arith, eqb_tells)
@@ -98,7 +99,8 @@ filled_addresses (e ∷ es) m a v = grind (arith, eqb_tells, filled_addresses es
 
 spots_release : (m a : ℕ) (ph : Phase) (env : List ℕ) (es : List Entry) (cs ws : List Commit)
     → not (holds_location ph a) ≡ true → Tied m ph env es cs ws → spots (without es m a) (cs ++ released_commits es m a) ≡ spots es cs
-spots_release m a Fresh env es cs ws h t = ap (λ l. spots (without l m a) (cs ++ released_commits l m a)) t.0 ∙ ap places (append-nil cs) ∙ ap (λ l. spots l cs) (sym t.0)
+spots_release m a Fresh env es cs ws h t =
+    ap (λ l. spots (without l m a) (cs ++ released_commits l m a)) t.0 ∙ ap places (append-nil cs) ∙ ap (λ l. spots l cs) (sym t.0)
 spots_release m a (Held x) env es cs ws h t =
     ap (λ l. spots (without l m a) (cs ++ released_commits l m a)) t.0
     ∙ ap₂ (λ l k. spots l (cs ++ k)) (without_no m x a (slice_index env x) None apart) (released_no m x a (slice_index env x) None apart)
@@ -121,7 +123,8 @@ spots_release m a (Written x) env es cs ws h t = at (x == a) refl
         ap (λ l. spots (without l m a) (cs ++ released_commits l m a)) t.2
         ∙ ap₂ (λ l k. spots l (cs ++ k)) (without_no m x a t.0 (Some t.1) (eqb-false x a e)) (released_no m x a t.0 (Some t.1) (eqb-false x a e))
         ∙ ap (λ l. spots (entry m x t.0 (Some t.1) ∷ []) l) (append-nil cs) ∙ ap (λ l. spots l cs) (sym t.2)
-spots_release m a Done env es cs ws h t = ap (λ l. spots (without l m a) (cs ++ released_commits l m a)) t.0 ∙ ap places (append-nil cs) ∙ ap (λ l. spots l cs) (sym t.0)
+spots_release m a Done env es cs ws h t =
+    ap (λ l. spots (without l m a) (cs ++ released_commits l m a)) t.0 ∙ ap places (append-nil cs) ∙ ap (λ l. spots l cs) (sym t.0)
 
 -- a statement that the phases allow and that is no reserve leaves the addresses written to memory m as they are
 pub spots_op : (arrays : Arrays) (m : ℕ) (ph : ℕ → Phase) (op : Op) (w : Work) (r : Run)
@@ -130,26 +133,40 @@ pub spots_op : (arrays : Arrays) (m : ℕ) (ph : ℕ → Phase) (op : Op) (w : W
     ≡ spots (entries_of m w.entries) (of_mem m w.commits)
 spots_op arrays m ph (Write n a e) w r h ok rel = at (n == m) refl
   where
-    at : (b : Bool) → (n == m) ≡ b → spots (entries_of m (with_entry_value w.entries n a (value_of e w.env))) (of_mem m w.commits) ≡ spots (entries_of m w.entries) (of_mem m w.commits)
-    at true f = ap (λ k. spots (entries_of m (with_entry_value w.entries k a (value_of e w.env))) (of_mem m w.commits)) (eqb-true n m f) ∙ ap (λ l. spots l (of_mem m w.commits)) (entries_of-filled w.entries m a _) ∙ ap (λ l. l ++ places (of_mem m w.commits)) (filled_addresses (entries_of m w.entries) m a _)
+    at : (b : Bool) → (n == m) ≡ b
+        → spots (entries_of m (with_entry_value w.entries n a (value_of e w.env))) (of_mem m w.commits) ≡ spots (entries_of m w.entries) (of_mem m w.commits)
+    at true f =
+        ap (λ k. spots (entries_of m (with_entry_value w.entries k a (value_of e w.env))) (of_mem m w.commits)) (eqb-true n m f)
+        ∙ ap (λ l. spots l (of_mem m w.commits)) (entries_of-filled w.entries m a _)
+        ∙ ap (λ l. l ++ places (of_mem m w.commits)) (filled_addresses (entries_of m w.entries) m a _)
     at false f = ap (λ l. spots l (of_mem m w.commits)) (filled_other w.entries m n a _ (eqb-false n m f))
-spots_op arrays m ph (ReserveWrite n a) w r h ok rel = ap (λ c. spots (cond c (entry n a (slice_index w.env a) None ∷ entries_of m w.entries) (entries_of m w.entries)) (of_mem m w.commits)) (apart (n == m) refl h)
+spots_op arrays m ph (ReserveWrite n a) w r h ok rel =
+    ap (λ c. spots (cond c (entry n a (slice_index w.env a) None ∷ entries_of m w.entries) (entries_of m w.entries)) (of_mem m w.commits))
+    (apart (n == m) refl h)
   where
     apart : (b : Bool) → (n == m) ≡ b → not b ≡ true → (n == m) ≡ false
     apart true e q = cc
     apart false e q = e
 spots_op arrays m ph (Release n a) w r h ok rel = at (n == m) refl
   where
-    at : (b : Bool) → (n == m) ≡ b → spots (entries_of m (without w.entries n a)) (of_mem m (w.commits ++ released_commits w.entries n a)) ≡ spots (entries_of m w.entries) (of_mem m w.commits)
+    at : (b : Bool) → (n == m) ≡ b
+        → spots (entries_of m (without w.entries n a)) (of_mem m (w.commits ++ released_commits w.entries n a))
+        ≡ spots (entries_of m w.entries) (of_mem m w.commits)
     at true f =
         ap (λ k. spots (entries_of m (without w.entries k a)) (of_mem m (w.commits ++ released_commits w.entries k a))) (eqb-true n m f)
         ∙ ap₂ spots (without_own w.entries m a) (of_mem_append m w.commits _ ∙ ap (λ l. of_mem m w.commits ++ l) (released_own w.entries m a))
         ∙ spots_release m a (ph m) w.env _ _ _ (subst (λ b. (not b || not (holds_location (ph m) a)) ≡ true) f (ok m)) (rel.tied m)
     at false f =
-        ap₂ spots (without_other w.entries m n a (eqb-false n m f)) (of_mem_append m w.commits _ ∙ ap (λ l. of_mem m w.commits ++ l) (released_other w.entries m n a (eqb-false n m f)) ∙ append-nil (of_mem m w.commits))
+        ap₂ spots (without_other w.entries m n a (eqb-false n m f))
+        (of_mem_append m w.commits _
+        ∙ ap (λ l. of_mem m w.commits ++ l) (released_other w.entries m n a (eqb-false n m f))
+        ∙ append-nil (of_mem m w.commits))
 spots_op arrays m ph (Verify args) w r h ok rel = at (same_args (values_of args w.env) w.guess)
   where
-    at : (b : Bool) → spots (entries_of m (cond b w (record w { child = Some (values_of args w.env); fails = true })).entries) (of_mem m (cond b w (record w { child = Some (values_of args w.env); fails = true })).commits) ≡ spots (entries_of m w.entries) (of_mem m w.commits)
+    at : (b : Bool)
+        → spots (entries_of m (cond b w (record w { child = Some (values_of args w.env); fails = true })).entries)
+        (of_mem m (cond b w (record w { child = Some (values_of args w.env); fails = true })).commits)
+        ≡ spots (entries_of m w.entries) (of_mem m w.commits)
     at true = refl
     at false = refl
 spots_op arrays m ph _ w r h ok rel = refl

@@ -32,7 +32,8 @@ spots_all : (arrays : Arrays) (m : ℕ) (xs : List Stmt) (ph : ℕ → Phase) (w
 spots_all arrays m [] ph w r h ok rel = refl
 spots_all arrays m (x ∷ xs) ph w r h ok rel =
     ap (λ v. spots (entries_of m (do_all (alone arrays) xs v).entries) (of_mem m (do_all (alone arrays) xs v).commits)) goes
-    ∙ spots_all arrays m xs (next_phases ph x.op) (work_after (alone arrays) x.op w) (run_after x.op r) (and_right _ _ h) (λ n. and_right _ _ (ok n)) (related_step arrays ph x.op w r here rel)
+    ∙ spots_all arrays m xs (next_phases ph x.op) (work_after (alone arrays) x.op w) (run_after x.op r)
+    (and_right _ _ h) (λ n. and_right _ _ (ok n)) (related_step arrays ph x.op w r here rel)
     ∙ spots_op arrays m ph x.op w r (and_left _ _ h) here rel
   where
     here : Ok ph x.op
@@ -129,15 +130,21 @@ module _ (p : Pipe) (acc : Accepted p) (arrays : Arrays) (args : List ℕ) where
 
   -- the rest of the thread stages_from stage s on
   pub rest_of : (s : ℕ) → do_all (alone arrays) p.stmts (start_work p args) ≡ do_all (alone arrays) (stages_from s p.stmts) (so_far p arrays args s)
-  rest_of s = ap (λ l. do_all (alone arrays) l (start_work p args)) (acc.ordered s) ∙ do_all_append (alone arrays) (before s p.stmts) (stages_from s p.stmts) (start_work p args)
+  rest_of s =
+      ap (λ l. do_all (alone arrays) l (start_work p args)) (acc.ordered s)
+      ∙ do_all_append (alone arrays) (before s p.stmts) (stages_from s p.stmts) (start_work p args)
 
   -- in the end nothing of m is pending, and the commits are the writes
-  pub at_end : (m : ℕ) → (entries_of m (do_all (alone arrays) p.stmts (start_work p args)).entries ≡ []) × (of_mem m (do_all (alone arrays) p.stmts (start_work p args)).commits ≡ of_mem m (thread p arrays args).writes)
+  pub at_end : (m : ℕ)
+      → (entries_of m (do_all (alone arrays) p.stmts (start_work p args)).entries ≡ [])
+      × (of_mem m (do_all (alone arrays) p.stmts (start_work p args)).commits ≡ of_mem m (thread p arrays args).writes)
   at_end m = finished m (phase_all m Fresh p.stmts) (acc.over m) _ _ _ _ (related_whole.tied m)
 
   -- the commits of m: none up to its stage, all after it
   pub commits_early : (s m : ℕ) → s ≤ commit_stage p m → of_mem m (so_far p arrays args s).commits ≡ []
-  commits_early s m h = quiet m (alone arrays) (before s p.stmts) (start_work p args) (none_before (is_release m) (commit_stage p m) s p.stmts (release_looked m) (acc.releases m) h)
+  commits_early s m h =
+      quiet m (alone arrays) (before s p.stmts) (start_work p args)
+      (none_before (is_release m) (commit_stage p m) s p.stmts (release_looked m) (acc.releases m) h)
 
   pub commits_late : (s m : ℕ) → commit_stage p m < s → of_mem m (so_far p arrays args s).commits ≡ of_mem m (thread p arrays args).writes
   commits_late s m h =
@@ -151,7 +158,8 @@ module _ (p : Pipe) (acc : Accepted p) (arrays : Arrays) (args : List ℕ) where
   quiet_at o t m h = quiet m o (in_stage t.stage p.stmts) _ (none_in_stage (is_release m) (commit_stage p m) t.stage p.stmts (acc.releases m) h)
 
   -- a stage's commits of m are what is no longer undone behind it
-  pub undone_step : (s m : ℕ) → undone p arrays args s m ≡ of_mem m (work_of_stage p (alone arrays) (thread_at p arrays args s)).commits ++ undone p arrays args (suc s) m
+  pub undone_step : (s m : ℕ)
+      → undone p arrays args s m ≡ of_mem m (work_of_stage p (alone arrays) (thread_at p arrays args s)).commits ++ undone p arrays args (suc s) m
   undone_step s m = undone_split (commit_stage p m) s (of_mem m (thread p arrays args).writes) _ (quiet_at (alone arrays) (thread_at p arrays args s) m) here
     where
       here : s ≡ commit_stage p m → of_mem m (work_of_stage p (alone arrays) (thread_at p arrays args s)).commits ≡ of_mem m (thread p arrays args).writes
@@ -162,9 +170,13 @@ module _ (p : Pipe) (acc : Accepted p) (arrays : Arrays) (args : List ℕ) where
           ∙ commits_late (suc s) m (le_of_eq (ap suc (sym e)))
 
   -- past the reserves, the pending addresses are those of the undone writes
-  pub all_places : (s m : ℕ) → reserve_stage p m < s → spots (entries_of m (so_far p arrays args s).entries) (of_mem m (so_far p arrays args s).commits) ≡ places (of_mem m (thread p arrays args).writes)
+  pub all_places : (s m : ℕ) → reserve_stage p m < s
+      → spots (entries_of m (so_far p arrays args s).entries) (of_mem m (so_far p arrays args s).commits) ≡ places (of_mem m (thread p arrays args).writes)
   all_places s m h =
-      sym (spots_all arrays m (stages_from s p.stmts) (λ n. phase_all n Fresh (before s p.stmts)) (so_far p arrays args s) (run_at p arrays args s) (none_from (is_reserve m) (reserve_stage p m) s p.stmts (acc.reserves m) h) (ok_from s) (related_at s))
+      sym
+      (spots_all arrays m (stages_from s p.stmts) (λ n. phase_all n Fresh (before s p.stmts))
+      (so_far p arrays args s) (run_at p arrays args s)
+      (none_from (is_reserve m) (reserve_stage p m) s p.stmts (acc.reserves m) h) (ok_from s) (related_at s))
       ∙ ap (λ (w : Work). spots (entries_of m w.entries) (of_mem m w.commits)) (sym (rest_of s))
       ∙ ap₂ spots (at_end m).0 (at_end m).1
 

@@ -39,8 +39,10 @@ none_parts test s xs h = both xs (none_first test (in_stage s xs) (stages_from (
     both (y ∷ ys) h k = at (y.stage == s) refl (nat_le (suc s) y.stage) refl (nat_le s y.stage) refl h k (both ys)
       where
         at : (b : Bool) → (y.stage == s) ≡ b → (c : Bool) → nat_le (suc s) y.stage ≡ c → (d : Bool) → nat_le s y.stage ≡ d
-            → none_of test (cond b (y ∷ in_stage s ys) (in_stage s ys)) ≡ true → none_of test (cond c (y ∷ stages_from (suc s) ys) (stages_from (suc s) ys)) ≡ true
-            → (none_of test (in_stage s ys) ≡ true → none_of test (stages_from (suc s) ys) ≡ true → none_of test (stages_from s ys) ≡ true) → none_of test (cond d (y ∷ stages_from s ys) (stages_from s ys)) ≡ true
+            → none_of test (cond b (y ∷ in_stage s ys) (in_stage s ys)) ≡ true
+            → none_of test (cond c (y ∷ stages_from (suc s) ys) (stages_from (suc s) ys)) ≡ true
+            → (none_of test (in_stage s ys) ≡ true → none_of test (stages_from (suc s) ys) ≡ true → none_of test (stages_from s ys) ≡ true)
+            → none_of test (cond d (y ∷ stages_from s ys) (stages_from s ys)) ≡ true
         at true e true f d g i j go = absurd (let x : y.stage ≡ s = eqb-true _ _ e in let z : suc s ≤ y.stage = leb-true _ _ f in omega arith)
         at true e false f true g i j go = ap₂ (λ a b. a && b) (and_left (not (test y.op)) _ i) (go (and_right (not (test y.op)) _ i) j)
         at true e false f false g i j go = absurd (let x : y.stage ≡ s = eqb-true _ _ e in let z : y.stage < s = leb-false _ _ g in omega arith)
@@ -58,9 +60,13 @@ pub none_from_path : (test : Op → Bool) (path : List ℕ) (s : ℕ) (xs : List
 none_from_path test path s [] h = refl
 none_from_path test path s (x ∷ xs) h = at (nat_le s x.stage) refl (all_hold x.guards path) h (none_from_path test path s xs)
   where
-    at : (b : Bool) → nat_le s x.stage ≡ b → (c : Bool) → none_of test (cond b (x ∷ stages_from s xs) (stages_from s xs)) ≡ true → (none_of test (stages_from s xs) ≡ true → none_of test (stages_from s (onpath path xs)) ≡ true)
+    at : (b : Bool) → nat_le s x.stage ≡ b → (c : Bool)
+        → none_of test (cond b (x ∷ stages_from s xs) (stages_from s xs)) ≡ true
+        → (none_of test (stages_from s xs) ≡ true → none_of test (stages_from s (onpath path xs)) ≡ true)
         → none_of test (stages_from s (cond c (record x { guards = [] } ∷ onpath path xs) (onpath path xs))) ≡ true
-    at true e true k f = ap (λ b. none_of test (cond b (record x { guards = [] } ∷ stages_from s (onpath path xs)) (stages_from s (onpath path xs)))) e ∙ ap₂ (λ a d. a && d) (and_left (not (test x.op)) _ k) (f (and_right (not (test x.op)) _ k))
+    at true e true k f =
+        ap (λ b. none_of test (cond b (record x { guards = [] } ∷ stages_from s (onpath path xs)) (stages_from s (onpath path xs)))) e
+        ∙ ap₂ (λ a d. a && d) (and_left (not (test x.op)) _ k) (f (and_right (not (test x.op)) _ k))
     at false e true k f = ap (λ b. none_of test (cond b (record x { guards = [] } ∷ stages_from s (onpath path xs)) (stages_from s (onpath path xs)))) e ∙ f k
     at true e false k f = f (and_right (not (test x.op)) _ k)
     at false e false k f = f k
@@ -76,16 +82,23 @@ module _ (p : Pipe) (acc : Pathwise p) (arrays : Arrays) (args : List ℕ) where
   thread_path = run_path (thread p arrays args).env p.stmts (TurnPath.start_run p arrays args) acc.fixed_guards refl
 
   -- a variable that is bound no more has its value of the path
-  pub value_kept : (s g : ℕ) → none_of (binds_var g) (stages_from s p.stmts) ≡ true → slice_index (so_far (along (thread p arrays args).env p) arrays args s).env g ≡ slice_index (thread p arrays args).env g
+  pub value_kept : (s g : ℕ) → none_of (binds_var g) (stages_from s p.stmts) ≡ true
+      → slice_index (so_far (along (thread p arrays args).env p) arrays args s).env g ≡ slice_index (thread p arrays args).env g
   value_kept s g h =
-      sym (all_stays g (alone arrays) (stages_from s (onpath (thread p arrays args).env p.stmts)) (so_far (along (thread p arrays args).env p) arrays args s) (none_from_path (binds_var g) (thread p arrays args).env s p.stmts h))
+      sym
+      (all_stays g (alone arrays) (stages_from s (onpath (thread p arrays args).env p.stmts))
+      (so_far (along (thread p arrays args).env p) arrays args s)
+      (none_from_path (binds_var g) (thread p arrays args).env s p.stmts h))
       ∙ ap (λ (w : Work). slice_index w.env g) (sym (TurnPath.rest_of (along (thread p arrays args).env p) accq arrays args s))
-      ∙ ap (λ l. slice_index l g) ((TurnPath.related_whole (along (thread p arrays args).env p) accq arrays args).env ∙ ap (λ (r : Run). r.env) (sym thread_path))
+      ∙ ap (λ l. slice_index l g)
+      ((TurnPath.related_whole (along (thread p arrays args).env p) accq arrays args).env ∙ ap (λ (r : Run). r.env) (sym thread_path))
 
   pub fixed_before : (s : ℕ) → Fixed (thread p arrays args).env (alone arrays) (before s p.stmts) (start_work p args)
   fixed_before s =
-      fixed_path_to (thread p arrays args).env (alone arrays) (before s p.stmts) (in_stage s p.stmts ++ stages_from (suc s) p.stmts) (start_work p args) (acc.fixed_by s)
-      (λ g k. ap (λ l. slice_index (do_all (alone arrays) l (start_work p args)).env g) (sym (before_path (thread p arrays args).env s p.stmts)) ∙ value_kept s g (none_parts (binds_var g) s p.stmts k))
+      fixed_path_to (thread p arrays args).env (alone arrays) (before s p.stmts)
+      (in_stage s p.stmts ++ stages_from (suc s) p.stmts) (start_work p args) (acc.fixed_by s)
+      (λ g k. ap (λ l. slice_index (do_all (alone arrays) l (start_work p args)).env g) (sym (before_path (thread p arrays args).env s p.stmts))
+      ∙ value_kept s g (none_parts (binds_var g) s p.stmts k))
 
   pub so_path : (s : ℕ) → so_far p arrays args s ≡ so_far (along (thread p arrays args).env p) arrays args s
   so_path s =
@@ -94,26 +107,42 @@ module _ (p : Pipe) (acc : Pathwise p) (arrays : Arrays) (args : List ℕ) where
 
   pub fixed_stage : (s : ℕ) → Fixed (thread p arrays args).env (alone arrays) (in_stage s p.stmts) (reset (so_far p arrays args s))
   fixed_stage s =
-      fixed_path_to (thread p arrays args).env (alone arrays) (in_stage s p.stmts) (stages_from (suc s) p.stmts) (reset (so_far p arrays args s)) (fixed_second (before s p.stmts) (in_stage s p.stmts ++ stages_from (suc s) p.stmts) (acc.fixed_by s))
+      fixed_path_to (thread p arrays args).env (alone arrays) (in_stage s p.stmts) (stages_from (suc s) p.stmts)
+      (reset (so_far p arrays args s))
+      (fixed_second (before s p.stmts) (in_stage s p.stmts ++ stages_from (suc s) p.stmts) (acc.fixed_by s))
       (λ g k. (λ i. slice_index (do_all (alone arrays) (sym (stage_path (thread p arrays args).env s p.stmts) i) (reset (so_path s i))).env g)
       ∙ ap (λ (w : Work). slice_index w.env g) (sym (next_piece (along (thread p arrays args).env p) arrays args s (accq.pieces s))) ∙ value_kept (suc s) g k)
 
-  pub works_path : (s : ℕ) → work_of_stage p (alone arrays) (thread_at p arrays args s) ≡ work_of_stage (along (thread p arrays args).env p) (alone arrays) (thread_at (along (thread p arrays args).env p) arrays args s)
+  pub works_path : (s : ℕ)
+      → work_of_stage p (alone arrays) (thread_at p arrays args s)
+      ≡ work_of_stage (along (thread p arrays args).env p) (alone arrays) (thread_at (along (thread p arrays args).env p) arrays args s)
   works_path s =
       fixed_all (thread p arrays args).env (alone arrays) (in_stage s p.stmts) (reset (so_far p arrays args s)) (fixed_stage s)
       ∙ ap₂ (λ l (w : Work). do_all (alone arrays) l (reset w)) (sym (stage_path (thread p arrays args).env s p.stmts)) (so_path s)
 
   marks_path : (s m : ℕ) → marks p arrays args s m ≡ marks (along (thread p arrays args).env p) arrays args s m
-  marks_path s m = ap₂ (λ (w : Work) (r : Run). cond (nat_lt (commit_stage p m) s) [] (marked (has_value (entries_of m w.entries)) (of_mem m r.writes))) (so_path s) thread_path
+  marks_path s m =
+      ap₂ (λ (w : Work) (r : Run). cond (nat_lt (commit_stage p m) s) [] (marked (has_value (entries_of m w.entries)) (of_mem m r.writes)))
+      (so_path s) thread_path
 
-  pub marks_seen : (s m a : ℕ) (rest : Latest) → reserve_stage p m < s → latest_in (so_far p arrays args s).entries m a rest ≡ seen a (marks p arrays args s m) rest
-  marks_seen s m a rest h = ap (λ (w : Work). latest_in w.entries m a rest) (so_path s) ∙ UndoneWrites.marks_seen _ accq arrays args s m a rest h ∙ ap (λ l. seen a l rest) (sym (marks_path s m))
+  pub marks_seen : (s m a : ℕ) (rest : Latest) → reserve_stage p m < s
+      → latest_in (so_far p arrays args s).entries m a rest ≡ seen a (marks p arrays args s m) rest
+  marks_seen s m a rest h =
+      ap (λ (w : Work). latest_in w.entries m a rest) (so_path s)
+      ∙ UndoneWrites.marks_seen _ accq arrays args s m a rest h ∙ ap (λ l. seen a l rest) (sym (marks_path s m))
 
-  pub marks_step : (s m : ℕ) → Later m (marks p arrays args s m) (of_mem m (work_of_stage p (alone arrays) (thread_at p arrays args s)).commits) (marks p arrays args (suc s) m)
+  pub marks_step : (s m : ℕ)
+      → Later m (marks p arrays args s m) (of_mem m (work_of_stage p (alone arrays) (thread_at p arrays args s)).commits) (marks p arrays args (suc s) m)
   marks_step s m =
-      subst (λ k. Later m k (of_mem m (work_of_stage p (alone arrays) (thread_at p arrays args s)).commits) (marks p arrays args (suc s) m)) (sym (marks_path s m))
-      (subst (λ (w : Work). Later m (marks (along (thread p arrays args).env p) arrays args s m) (of_mem m w.commits) (marks p arrays args (suc s) m)) (sym (works_path s))
-      (subst (λ k. Later m (marks (along (thread p arrays args).env p) arrays args s m) (of_mem m (work_of_stage (along (thread p arrays args).env p) (alone arrays) (thread_at (along (thread p arrays args).env p) arrays args s)).commits) k) (sym (marks_path (suc s) m))
+      subst (λ k. Later m k (of_mem m (work_of_stage p (alone arrays) (thread_at p arrays args s)).commits) (marks p arrays args (suc s) m))
+      (sym (marks_path s m))
+      (subst (λ (w : Work). Later m (marks (along (thread p arrays args).env p) arrays args s m) (of_mem m w.commits) (marks p arrays args (suc s) m))
+      (sym (works_path s))
+      (subst
+      (λ k. Later m (marks (along (thread p arrays args).env p) arrays args s m)
+      (of_mem m
+      (work_of_stage (along (thread p arrays args).env p) (alone arrays) (thread_at (along (thread p arrays args).env p) arrays args s)).commits) k)
+      (sym (marks_path (suc s) m))
       (UndoneWrites.marks_step (along (thread p arrays args).env p) accq arrays args s m)))
 
   pub marks_plain : (s m : ℕ) → is_plain (mem_at p m).lock ≡ true → marks p arrays args s m ≡ []
@@ -132,20 +161,30 @@ module _ (p : Pipe) (acc : Pathwise p) (arrays : Arrays) (args : List ℕ) where
       ∙ ap (λ (r : Run). of_mem m r.writes) (sym thread_path)
 
   pub row_after : (m : ℕ) → row (thread p arrays args).arrays m ≡ wrote (row arrays m) (of_mem m (thread p arrays args).writes)
-  row_after m = ap (λ (r : Run). row r.arrays m) thread_path ∙ TurnPath.row_after _ accq arrays args m ∙ ap (λ (r : Run). wrote (row arrays m) (of_mem m r.writes)) (sym thread_path)
+  row_after m =
+      ap (λ (r : Run). row r.arrays m) thread_path ∙ TurnPath.row_after _ accq arrays args m
+      ∙ ap (λ (r : Run). wrote (row arrays m) (of_mem m r.writes)) (sym thread_path)
 
   -- its stage's work is a piece of the whole thread's
   pub piece : (s : ℕ) → so_far p arrays args (suc s) ≡ joined (so_far p arrays args s) (work_of_stage p (alone arrays) (thread_at p arrays args s))
   piece s = so_path (suc s) ∙ next_piece (along (thread p arrays args).env p) arrays args s (accq.pieces s) ∙ ap₂ joined (sym (so_path s)) (sym (works_path s))
 
-  pub placed_next : (s : ℕ) → thread_at p arrays args (suc s) ≡ (let w = work_of_stage p (alone arrays) (thread_at p arrays args s) in record { stage = suc s; env = w.env; entries = w.entries; guess = w.guess; awaits = [] })
+  pub placed_next : (s : ℕ)
+      → thread_at p arrays args (suc s)
+      ≡ (let w = work_of_stage p (alone arrays) (thread_at p arrays args s) in
+      record { stage = suc s; env = w.env; entries = w.entries; guess = w.guess; awaits = [] })
   placed_next s = ap (λ (w : Work). record { stage = suc s; env = w.env; entries = w.entries; guess = w.guess; awaits = [] }) (piece s)
 
-  pub child_next : (s : ℕ) → (so_far p arrays args (suc s)).child ≡ or_else (work_of_stage p (alone arrays) (thread_at p arrays args s)).child (so_far p arrays args s).child
+  pub child_next : (s : ℕ)
+      → (so_far p arrays args (suc s)).child ≡ or_else (work_of_stage p (alone arrays) (thread_at p arrays args s)).child (so_far p arrays args s).child
   child_next s = ap (λ (w : Work). w.child) (piece s)
 
   -- the locations that it has blocked for reading before stage s
-  pub blocked_next : (s : ℕ) → scan_after_all (before (suc s) (onpath (thread p arrays args).env p.stmts)) no_scan ≡ scan_after_all (onpath (thread p arrays args).env (in_stage s p.stmts)) (scan_after_all (before s (onpath (thread p arrays args).env p.stmts)) no_scan)
+  pub blocked_next : (s : ℕ)
+      → scan_after_all (before (suc s) (onpath (thread p arrays args).env p.stmts)) no_scan
+      ≡ scan_after_all (onpath (thread p arrays args).env (in_stage s p.stmts)) (scan_after_all (before s (onpath (thread p arrays args).env p.stmts)) no_scan)
   blocked_next s =
-      ap (λ l. scan_after_all l no_scan) (accq.pieces s) ∙ TurnPath.opens_append (before s (onpath (thread p arrays args).env p.stmts)) (in_stage s (onpath (thread p arrays args).env p.stmts)) no_scan
-      ∙ ap (λ l. scan_after_all l (scan_after_all (before s (onpath (thread p arrays args).env p.stmts)) no_scan)) (stage_path (thread p arrays args).env s p.stmts)
+      ap (λ l. scan_after_all l no_scan) (accq.pieces s)
+      ∙ TurnPath.opens_append (before s (onpath (thread p arrays args).env p.stmts)) (in_stage s (onpath (thread p arrays args).env p.stmts)) no_scan
+      ∙ ap (λ l. scan_after_all l (scan_after_all (before s (onpath (thread p arrays args).env p.stmts)) no_scan))
+      (stage_path (thread p arrays args).env s p.stmts)

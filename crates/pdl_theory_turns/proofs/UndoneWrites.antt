@@ -54,7 +54,12 @@ settled_op m ph (Write n a e) r h k = at (n == m) refl h
   where
     at : (b : Bool) → (n == m) ≡ b → (not b || holds_location ph a) ≡ true → Settled m (cond b (Written a) ph) (run_after (Write n a e) r) r
     at true i g = absurd (settled_write ph a k g)
-    at false i g = (k, of_mem_append m r.writes (write_of n (slice_index r.env a) (value_of e r.env) ∷ []) ∙ ap (λ b. of_mem m r.writes ++ cond b (write_of n (slice_index r.env a) (value_of e r.env) ∷ []) []) i ∙ append-nil (of_mem m r.writes))
+    at false i g = (
+      k,
+      of_mem_append m r.writes (write_of n (slice_index r.env a) (value_of e r.env) ∷ [])
+          ∙ ap (λ b. of_mem m r.writes ++ cond b (write_of n (slice_index r.env a) (value_of e r.env) ∷ []) []) i
+          ∙ append-nil (of_mem m r.writes),
+    )
 settled_op m ph (ReserveWrite n a) r h k = at (n == m) refl h
   where
     at : (b : Bool) → (n == m) ≡ b → (not b || is_fresh ph) ≡ true → Settled m (cond b (Held a) ph) r r
@@ -72,7 +77,8 @@ pub settled_all : (m : ℕ) (xs : List Stmt) (ph : Phase) (r : Run)
 settled_all m [] ph r h k = (k, refl)
 settled_all m (x ∷ xs) ph r h k =
     let q = settled_op m ph x.op r (and_right _ _ (and_left _ _ h)) k in
-    let goes : (if all_hold x.guards r.env then run_after x.op r else r) ≡ run_after x.op r = ap (λ b. cond b (run_after x.op r) r) (taken_none x.guards r.env (and_left _ _ (and_left _ _ h))) in
+    let goes : (if all_hold x.guards r.env then run_after x.op r else r) ≡ run_after x.op r =
+    ap (λ b. cond b (run_after x.op r) r) (taken_none x.guards r.env (and_left _ _ (and_left _ _ h))) in
     let t = settled_all m xs (next_phase m ph x.op) (run_after x.op r) (and_right _ _ h) q.0 in
     (t.0, ap (λ v. of_mem m (run_all xs v).writes) goes ∙ t.1 ∙ q.1)
 
@@ -101,13 +107,15 @@ pending_one : (m a : ℕ) (rest : Latest) (es : List Entry) (cs ws ds : List Com
     → latest_in es m a rest ≡ seen a (marked (has_value es) ds) rest
 pending_one m a rest es cs ws ds Fresh env t e f g = none es cs ds t.0 e f
   where
-    none : (es : List Entry) (cs ds : List Commit) → es ≡ [] → cs ≡ [] → addresses es ++ places cs ≡ places ds → latest_in es m a rest ≡ seen a (marked (has_value es) ds) rest
+    none : (es : List Entry) (cs ds : List Commit) → es ≡ [] → cs ≡ [] → addresses es ++ places cs ≡ places ds
+        → latest_in es m a rest ≡ seen a (marked (has_value es) ds) rest
     none [] cs ds i j k = ap (λ l. seen a (marked false l) rest) (sym (no_places ds (sym k ∙ ap places j)))
     none (x ∷ es) cs ds i j k = absurd (cc i)
 pending_one m a rest es cs ws ds (Held x) env t e f g =
     subst (λ l. latest_in l m a rest ≡ seen a (marked (has_value l) ds) rest) (sym t.0) (held ds (sym (ap₂ (λ l k. addresses l ++ places k) t.0 e) ∙ f))
   where
-    held : (ds : List Commit) → slice_index env x ∷ [] ≡ places ds → latest_in (entry m x (slice_index env x) None ∷ []) m a rest ≡ seen a (marked false ds) rest
+    held : (ds : List Commit) → slice_index env x ∷ [] ≡ places ds
+        → latest_in (entry m x (slice_index env x) None ∷ []) m a rest ≡ seen a (marked false ds) rest
     held [] h = absurd (cc h)
     held (d ∷ []) h = ap₂ (λ b c. cond (b && (c == a)) Coming rest) (eq-eqb m m refl) (first h)
       where
@@ -141,7 +149,8 @@ later_split : (m c s : ℕ) (b b' : Bool) (ws xs : List Commit)
     → Later m (cond (nat_lt c s) [] (marked b ws)) xs (cond (nat_lt c (suc s)) [] (marked b' ws))
 later_split m c s b b' ws xs own e f g = at (nat_lt c s) refl (nat_lt c (suc s)) refl e
   where
-    at : (t : Bool) → nat_lt c s ≡ t → (r : Bool) → nat_lt c (suc s) ≡ r → cond t [] ws ≡ xs ++ cond r [] ws → Later m (cond t [] (marked b ws)) xs (cond r [] (marked b' ws))
+    at : (t : Bool) → nat_lt c s ≡ t → (r : Bool) → nat_lt c (suc s) ≡ r → cond t [] ws ≡ xs ++ cond r [] ws
+        → Later m (cond t [] (marked b ws)) xs (cond r [] (marked b' ws))
     at true i true j k = record { front = []; rest = []; whole = refl; commits = sym (f (apart (ltb-true c s i))); raised = tt }
       where
         apart : c < s → s ≢ c
@@ -151,14 +160,22 @@ later_split m c s b b' ws xs own e f g = at (nat_lt c s) refl (nat_lt c (suc s))
         clash : c < s → suc s ≤ c → ⊥
         clash u v = omega arith
     at false i true j k = record { front = marked b ws; rest = []; whole = sym (append-nil (marked b ws)); commits = own ∙ k ∙ append-nil xs; raised = tt }
-    at false i false j k = record { front = []; rest = marked b ws; whole = refl; commits = sym (f (apart (ltb-false c (suc s) j))); raised = raised_marked b b' ws (g (ltb-false c (suc s) j)) }
+    at false i false j k =
+        record {
+          front = [];
+          rest = marked b ws;
+          whole = refl;
+          commits = sym (f (apart (ltb-false c (suc s) j)));
+          raised = raised_marked b b' ws (g (ltb-false c (suc s) j));
+        }
       where
         apart : suc s ≤ c → s ≢ c
         apart u v = omega arith
 
 module _ (p : Pipe) (acc : Accepted p) (arrays : Arrays) (args : List ℕ) where
   -- a write that is made by stage s is the turn's
-  pub settled_whole : (s m : ℕ) → is_settled (phase_all m Fresh (before s p.stmts)) ≡ true → of_mem m (thread p arrays args).writes ≡ of_mem m (run_at p arrays args s).writes
+  pub settled_whole : (s m : ℕ) → is_settled (phase_all m Fresh (before s p.stmts)) ≡ true
+      → of_mem m (thread p arrays args).writes ≡ of_mem m (run_at p arrays args s).writes
   settled_whole s m h =
       ap (λ l. of_mem m (run_all l (start_run p arrays args)).writes) (acc.ordered s)
       ∙ ap (λ (r : Run). of_mem m r.writes) (run_append (before s p.stmts) (stages_from s p.stmts) (start_run p arrays args))
@@ -168,47 +185,73 @@ module _ (p : Pipe) (acc : Accepted p) (arrays : Arrays) (args : List ℕ) where
   settled_next s m h =
       subst (λ ph. is_settled ph ≡ true) (sym (ap (phase_all m Fresh) (acc.pieces s) ∙ phase_append m (before s p.stmts) (in_stage s p.stmts) Fresh))
       (settled_all m (in_stage s p.stmts) (phase_all m Fresh (before s p.stmts)) (run_at p arrays args s)
-      (phases_second m (before s p.stmts) (in_stage s p.stmts) Fresh (subst (λ l. phases_ok m Fresh l ≡ true) (acc.pieces s) (ok_before p acc arrays args (suc s) m))) h).0
+      (phases_second m (before s p.stmts)
+      (in_stage s p.stmts) Fresh (subst (λ l. phases_ok m Fresh l ≡ true) (acc.pieces s) (ok_before p acc arrays args (suc s) m))) h).0
 
-  pub marks_seen : (s m a : ℕ) (rest : Latest) → reserve_stage p m < s → latest_in (so_far p arrays args s).entries m a rest ≡ seen a (marks p arrays args s m) rest
+  pub marks_seen : (s m a : ℕ) (rest : Latest) → reserve_stage p m < s
+      → latest_in (so_far p arrays args s).entries m a rest ≡ seen a (marks p arrays args s m) rest
   marks_seen s m a rest h = latest_own (so_far p arrays args s).entries m a rest ∙ at (nat_lt (commit_stage p m) s) refl
     where
-      at : (b : Bool) → nat_lt (commit_stage p m) s ≡ b → latest_in (entries_of m (so_far p arrays args s).entries) m a rest ≡ seen a (cond b [] (marked (has_value (entries_of m (so_far p arrays args s).entries)) (of_mem m (thread p arrays args).writes))) rest
-      at true e = ap (λ l. latest_in l m a rest) (no_more _ _ (ap (λ l. addresses (entries_of m (so_far p arrays args s).entries) ++ places l) (sym (commits_late p acc arrays args s m (ltb-true _ _ e))) ∙ all_places p acc arrays args s m h))
+      at : (b : Bool) → nat_lt (commit_stage p m) s ≡ b
+          → latest_in (entries_of m (so_far p arrays args s).entries) m a rest
+          ≡ seen a (cond b [] (marked (has_value (entries_of m (so_far p arrays args s).entries)) (of_mem m (thread p arrays args).writes))) rest
+      at true e =
+          ap (λ l. latest_in l m a rest)
+          (no_more _ _
+          (ap (λ l. addresses (entries_of m (so_far p arrays args s).entries) ++ places l) (sym (commits_late p acc arrays args s m (ltb-true _ _ e)))
+          ∙ all_places p acc arrays args s m h))
       at false e =
-          pending_one m a rest _ (of_mem m (so_far p arrays args s).commits) (of_mem m (run_at p arrays args s).writes) (of_mem m (thread p arrays args).writes) (phase_all m Fresh (before s p.stmts)) (so_far p arrays args s).env
-          ((related_at p acc arrays args s).tied m) (commits_early p acc arrays args s m (ltb-false _ _ e)) (all_places p acc arrays args s m h) (settled_whole s m)
+          pending_one m a rest _ (of_mem m (so_far p arrays args s).commits) (of_mem m (run_at p arrays args s).writes)
+          (of_mem m (thread p arrays args).writes) (phase_all m Fresh (before s p.stmts))
+          (so_far p arrays args s).env
+          ((related_at p acc arrays args s).tied m) (commits_early p acc arrays args s m (ltb-false _ _ e))
+          (all_places p acc arrays args s m h) (settled_whole s m)
 
   pub marks_strips : (s m : ℕ) → strips m (marks p arrays args s m) ≡ undone p arrays args s m
   marks_strips s m = at (nat_lt (commit_stage p m) s)
     where
-      at : (b : Bool) → strips m (cond b [] (marked (has_value (entries_of m (so_far p arrays args s).entries)) (of_mem m (thread p arrays args).writes))) ≡ cond b [] (of_mem m (thread p arrays args).writes)
+      at : (b : Bool)
+          → strips m (cond b [] (marked (has_value (entries_of m (so_far p arrays args s).entries)) (of_mem m (thread p arrays args).writes)))
+          ≡ cond b [] (of_mem m (thread p arrays args).writes)
       at true = refl
       at false = strips_marked m _ (thread p arrays args).writes
 
-  pub marks_step : (s m : ℕ) → Later m (marks p arrays args s m) (of_mem m (work_of_stage p (alone arrays) (thread_at p arrays args s)).commits) (marks p arrays args (suc s) m)
+  pub marks_step : (s m : ℕ)
+      → Later m (marks p arrays args s m) (of_mem m (work_of_stage p (alone arrays) (thread_at p arrays args s)).commits) (marks p arrays args (suc s) m)
   marks_step s m =
-      later_split m (commit_stage p m) s (has_value (entries_of m (so_far p arrays args s).entries)) (has_value (entries_of m (so_far p arrays args (suc s)).entries)) (of_mem m (thread p arrays args).writes) _
-      (strips_marked m _ (thread p arrays args).writes) (undone_step p acc arrays args s m) (quiet_at p acc arrays args (alone arrays) (thread_at p arrays args s) m) raise
+      later_split m (commit_stage p m) s (has_value (entries_of m (so_far p arrays args s).entries))
+      (has_value (entries_of m (so_far p arrays args (suc s)).entries)) (of_mem m (thread p arrays args).writes) _
+      (strips_marked m _ (thread p arrays args).writes) (undone_step p acc arrays args s m)
+      (quiet_at p acc arrays args (alone arrays) (thread_at p arrays args s) m) raise
     where
-      raise : suc s ≤ commit_stage p m → has_value (entries_of m (so_far p arrays args s).entries) ≡ true → has_value (entries_of m (so_far p arrays args (suc s)).entries) ≡ true
+      raise : suc s ≤ commit_stage p m → has_value (entries_of m (so_far p arrays args s).entries) ≡ true
+          → has_value (entries_of m (so_far p arrays args (suc s)).entries) ≡ true
       raise h k =
-          let now = value_written m (phase_all m Fresh (before s p.stmts)) (so_far p arrays args s).env _ _ (of_mem m (run_at p arrays args s).writes) ((related_at p acc arrays args s).tied m) k in
+          let now =
+          value_written m (phase_all m Fresh (before s p.stmts))
+          (so_far p arrays args s).env _ _ (of_mem m (run_at p arrays args s).writes)
+          ((related_at p acc arrays args s).tied m) k in
           let then_settled : is_settled (phase_all m Fresh (before (suc s) p.stmts)) ≡ true = settled_next s m now.0 in
-          written_value m (phase_all m Fresh (before (suc s) p.stmts)) (so_far p arrays args (suc s)).env _ _ (of_mem m (run_at p arrays args (suc s)).writes) ((related_at p acc arrays args (suc s)).tied m) then_settled
+          written_value m (phase_all m Fresh (before (suc s) p.stmts))
+          (so_far p arrays args (suc s)).env _ _ (of_mem m (run_at p arrays args (suc s)).writes)
+          ((related_at p acc arrays args (suc s)).tied m) then_settled
           (commits_early p acc arrays args (suc s) m h)
           (λ e. now.1 (sym (settled_whole s m now.0) ∙ settled_whole (suc s) m then_settled ∙ e))
 
   -- a memory without lock has no marks, and neither has one past its releases
   pub marks_plain : (s m : ℕ) → is_plain (mem_at p m).lock ≡ true → marks p arrays args s m ≡ []
-  marks_plain s m h = ap (λ l. cond (nat_lt (commit_stage p m) s) [] (marked (has_value (entries_of m (so_far p arrays args s).entries)) l)) (plain_writes p acc arrays args m h) ∙ none (nat_lt (commit_stage p m) s)
+  marks_plain s m h =
+      ap (λ l. cond (nat_lt (commit_stage p m) s) [] (marked (has_value (entries_of m (so_far p arrays args s).entries)) l))
+      (plain_writes p acc arrays args m h)
+      ∙ none (nat_lt (commit_stage p m) s)
     where
       none : (b : Bool) → cond {A = List Mark} b [] [] ≡ []
       none true = refl
       none false = refl
 
   pub marks_late : (s m : ℕ) → commit_stage p m < s → marks p arrays args s m ≡ []
-  marks_late s m h = ap (λ b. cond b [] (marked (has_value (entries_of m (so_far p arrays args s).entries)) (of_mem m (thread p arrays args).writes))) (lt-ltb _ _ h)
+  marks_late s m h =
+      ap (λ b. cond b [] (marked (has_value (entries_of m (so_far p arrays args s).entries)) (of_mem m (thread p arrays args).writes))) (lt-ltb _ _ h)
 
   pub marks_end : (m : ℕ) → marks p arrays args (length p.stages) m ≡ []
   marks_end m = no_strips m _ (marks_strips (length p.stages) m ∙ undone_in_end p acc arrays args m)

@@ -46,7 +46,8 @@ in_choice test c a b h =
 -- what is asked of an expression: no use fails, all slices and extensions are in range, and all literals have widths
 module _ (vs all : List Var) (early : Use → Bool) (knows : (x : List ℕ) → early (OfVariable x) ≡ false → IsTrue (is_named vs x))
     (stays : (x : List ℕ) → IsTrue (is_named vs x) → var_width all x ≡ var_width vs x) (narrow : (x : List ℕ) → var_width vs x ≤ 64) where
-  pub expr_narrow : (e : Expr) → some_part (reads_some early) e ≡ false → some_part (is_out_of_range all) e ≡ false → some_part (of_constant is_wrong_literal) e ≡ false → width_of vs e ≤ 64
+  pub expr_narrow : (e : Expr) → some_part (reads_some early) e ≡ false → some_part (is_out_of_range all) e ≡ false
+      → some_part (of_constant is_wrong_literal) e ≡ false → width_of vs e ≤ 64
   expr_narrow (Constant l) u r w = (width_is l.width w).1
   expr_narrow (Variable x) u r w = narrow x.name
   expr_narrow (Slice x high low) u r w =
@@ -57,9 +58,13 @@ module _ (vs all : List Var) (early : Use → Bool) (knows : (x : List ℕ) → 
       slice_narrow high.value low.value (var_width all x.name) parts.0 below (omega (arith, same, most))
   expr_narrow (Not a) u r w = expr_narrow a (in_not (reads_some early) a u) (in_not (is_out_of_range all) a r) (in_not (of_constant is_wrong_literal) a w)
   expr_narrow (Binary op a b) u r w =
-      op_narrow op (width_of vs a) (expr_narrow a (in_binary (reads_some early) op a b u) (in_binary (is_out_of_range all) op a b r) (in_binary (of_constant is_wrong_literal) op a b w))
+      op_narrow op (width_of vs a)
+      (expr_narrow a (in_binary (reads_some early) op a b u) (in_binary (is_out_of_range all) op a b r) (in_binary (of_constant is_wrong_literal) op a b w))
   expr_narrow (Cat a b) u r w = cat_narrow (width_of vs a + width_of vs b)
   expr_narrow (LessSigned a b) u r w = omega arith
-  expr_narrow (ZeroExtend a n) u r w = extension_narrow (width_of all a) n.value (or_parts (is_no_extension (width_of all a) n.value) (some_part (is_out_of_range all) a) r).0
-  expr_narrow (SignExtend a n) u r w = extension_narrow (width_of all a) n.value (or_parts (is_no_extension (width_of all a) n.value) (some_part (is_out_of_range all) a) r).0
-  expr_narrow (Choose c a b) u r w = expr_narrow a (in_choice (reads_some early) c a b u) (in_choice (is_out_of_range all) c a b r) (in_choice (of_constant is_wrong_literal) c a b w)
+  expr_narrow (ZeroExtend a n) u r w =
+      extension_narrow (width_of all a) n.value (or_parts (is_no_extension (width_of all a) n.value) (some_part (is_out_of_range all) a) r).0
+  expr_narrow (SignExtend a n) u r w =
+      extension_narrow (width_of all a) n.value (or_parts (is_no_extension (width_of all a) n.value) (some_part (is_out_of_range all) a) r).0
+  expr_narrow (Choose c a b) u r w =
+      expr_narrow a (in_choice (reads_some early) c a b u) (in_choice (is_out_of_range all) c a b r) (in_choice (of_constant is_wrong_literal) c a b w)

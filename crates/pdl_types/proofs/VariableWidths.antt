@@ -79,7 +79,8 @@ wide_enough m e = (width_is m.width.value (ap not (and_parts (is_width m.width.v
 mem_narrow : (ms : List Mem) (m : List ℕ) → list_any breaks_z7 (map Memory ms) ≡ false → mem_width ms m ≤ 64
 mem_narrow [] m e = omega arith
 mem_narrow (x ∷ xs) m e =
-    let parts = or_parts (breaks_z7 (Memory x)) (list_any breaks_z7 (map Memory xs)) e in at (bytes_eq x.name.name m) (wide_enough x parts.0) (mem_narrow xs m parts.1)
+    let parts = or_parts (breaks_z7 (Memory x)) (list_any breaks_z7 (map Memory xs)) e in
+    at (bytes_eq x.name.name m) (wide_enough x parts.0) (mem_narrow xs m parts.1)
   where
     at : (b : Bool) → x.width.value ≤ 64 → mem_width xs m ≤ 64 → (if b then x.width.value else mem_width xs m) ≤ 64
     at true a c = a
@@ -140,21 +141,28 @@ bound : (p : Pipe) (vs : List Var) (before : List Place) (s : Span) (x : Ident) 
     → AreThere p before → AreKnown p vs before → AreNarrow vs → width_of vs e ≤ 64
 bound p vs before s x e bs ys split k there known h =
     let y = Statement (Bind s x e) bs in
-    expr_narrow vs (variables p) (is_too_early p before y) (knows p vs before y there known) (λ z n. (known_stay p vs before (y ∷ ys) split known z n).1) (narrow_width vs h) e
+    expr_narrow vs (variables p) (is_too_early p before y) (knows p vs before y there known)
+    (λ z n. (known_stay p vs before (y ∷ ys) split known z n).1) (narrow_width vs h) e
     (here N3 p before y ys k.n3) (or_parts _ _ (here W2 p before y ys k.w2)).1 (here Z7 p before y ys k.z7)
 
 one_place : (p : Pipe) (before : List Place) (y : Place) (ys : List Place) (vs : List Var)
     → places p ≡ before ++ y ∷ ys → KeepsWidths p before (y ∷ ys) → ((m : List ℕ) → mem_width p.mems m ≤ 64)
     → AreThere p before → AreKnown p vs before → AreNarrow vs → Next p vs before y
 one_place p before (Parameter a) ys vs split k ms there known h =
-    more p vs before (Parameter a) a.name.name a.width.value refl refl refl (here N2 p before (Parameter a) ys k.n2) (width_is a.width.value (here Z7 p before (Parameter a) ys k.z7)).1 known h
+    more p vs before (Parameter a) a.name.name a.width.value refl refl refl (here N2 p before (Parameter a) ys k.n2)
+    (width_is a.width.value (here Z7 p before (Parameter a) ys k.z7)).1 known h
 one_place p before (Memory m) ys vs split k ms there known h = same p vs before (Memory m) refl refl known h
 one_place p before (Statement (CombRead s x at) bs) ys vs split k ms there known h =
-    more p vs before (Statement (CombRead s x at) bs) x.name (mem_width p.mems at.mem.name) refl refl refl (here N2 p before (Statement (CombRead s x at) bs) ys k.n2) (ms at.mem.name) known h
+    more p vs before (Statement (CombRead s x at) bs) x.name (mem_width p.mems at.mem.name) refl refl refl
+    (here N2 p before (Statement (CombRead s x at) bs) ys k.n2)
+    (ms at.mem.name) known h
 one_place p before (Statement (DelayedRead s x at) bs) ys vs split k ms there known h =
-    more p vs before (Statement (DelayedRead s x at) bs) x.name (mem_width p.mems at.mem.name) refl refl refl (here N2 p before (Statement (DelayedRead s x at) bs) ys k.n2) (ms at.mem.name) known h
+    more p vs before (Statement (DelayedRead s x at) bs) x.name (mem_width p.mems at.mem.name) refl refl refl
+    (here N2 p before (Statement (DelayedRead s x at) bs) ys k.n2)
+    (ms at.mem.name) known h
 one_place p before (Statement (Bind s x e) bs) ys vs split k ms there known h =
-    more p vs before (Statement (Bind s x e) bs) x.name (width_of vs e) refl refl refl (here N2 p before (Statement (Bind s x e) bs) ys k.n2) (bound p vs before s x e bs ys split k there known h) known h
+    more p vs before (Statement (Bind s x e) bs) x.name (width_of vs e) refl refl refl (here N2 p before (Statement (Bind s x e) bs) ys k.n2)
+    (bound p vs before s x e bs ys split k there known h) known h
 one_place p before (Statement (Separator s) bs) ys vs split k ms there known h = same p vs before _ refl refl known h
 one_place p before (Statement (SpecCall s g args) bs) ys vs split k ms there known h = same p vs before _ refl refl known h
 one_place p before (Statement (Write s at e) bs) ys vs split k ms there known h = same p vs before _ refl refl known h
@@ -181,11 +189,13 @@ after_params p [] before vs split k ms there known h = h
 after_params p (y ∷ ys) before vs split k ms there known h =
     let n = one_place p before y ys vs split k ms there known h in
     subst (λ us. AreNarrow (fold (after_place p.mems) us ys)) (sym n.is)
-    (after_params p ys (before ++ y ∷ []) n.vars (split ∙ sym (append_assoc before (y ∷ []) ys)) (after p before y ys k) ms (still_there p before y there) n.known n.narrow)
+    (after_params p ys (before ++ y ∷ []) n.vars (split ∙ sym (append_assoc before (y ∷ []) ys))
+    (after p before y ys k) ms (still_there p before y there) n.known n.narrow)
 
 -- parameters that are defined before, or are among those to come
 abbrev WillBe : Pipe → List Place → List Param → Type 0
-WillBe p before ps = (x : List ℕ) → is_parameter p x ≡ true → (list_any (defines_use (OfVariable x)) before || list_any (λ (a : Param). bytes_eq x a.name.name) ps) ≡ true
+WillBe p before ps =
+    (x : List ℕ) → is_parameter p x ≡ true → (list_any (defines_use (OfVariable x)) before || list_any (λ (a : Param). bytes_eq x a.name.name) ps) ≡ true
 
 next_param : (p : Pipe) (before : List Place) (a : Param) (ps : List Param) → WillBe p before (a ∷ ps)
     → WillBe p (before ++ Parameter a ∷ []) ps
@@ -214,9 +224,12 @@ from_params p [] rest before vs split k ms there known h = after_params p rest b
 from_params p (a ∷ ps) rest before vs split k ms there known h =
     let y = Parameter a in
     let ys = map Parameter ps ++ rest in
-    let n = more p vs before y a.name.name a.width.value refl refl refl (here N2 p before y ys k.n2) (width_is a.width.value (here Z7 p before y ys k.z7)).1 known h in
+    let n =
+    more p vs before y a.name.name a.width.value refl refl refl (here N2 p before y ys k.n2)
+    (width_is a.width.value (here Z7 p before y ys k.z7)).1 known h in
     subst (λ us. AreNarrow (fold (after_place p.mems) us ys)) (sym n.is)
-    (from_params p ps rest (before ++ y ∷ []) n.vars (split ∙ sym (append_assoc before (y ∷ []) ys)) (after p before y ys k) ms (next_param p before a ps there) n.known n.narrow)
+    (from_params p ps rest (before ++ y ∷ []) n.vars (split ∙ sym (append_assoc before (y ∷ []) ys))
+    (after p before y ys k) ms (next_param p before a ps there) n.known n.narrow)
 
 -- a pipe that keeps the rules that widths rest on has variables of at most 64 bits
 pub variables_narrow : (p : Pipe) → KeepsWidths p [] (places p) → are_narrow (variables p) ≡ true

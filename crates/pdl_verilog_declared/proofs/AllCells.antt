@@ -81,17 +81,29 @@ term_text : (inputs : List (List ℕ)) (arrays : List Array) (line at high : ℕ
 term_text inputs arrays line at high name rest before f (made.Const w v) h k = const_term line at high name rest before f w v h.0 h.1 h.2 k
 term_text inputs arrays line at high name rest before f (made.Not a) h k = not_term line at high name rest before f (net inputs a) h k
 term_text inputs arrays line at high name rest before f (made.Bin op a b) h k =
-    subst (λ z. CompletesTerm line z before at high name f) (sym (bin_split (net inputs a) (operator op) (net inputs b) (codes ";\n" ++ rest))) (bin_term line at high name rest before f op (net inputs a) (net inputs b) h.0 h.1 k)
+    subst (λ z. CompletesTerm line z before at high name f)
+    (sym (bin_split (net inputs a) (operator op) (net inputs b) (codes ";\n" ++ rest)))
+    (bin_term line at high name rest before f op (net inputs a) (net inputs b) h.0 h.1 k)
 term_text inputs arrays line at high name rest before f (made.Mux x a b) h k =
-    subst (λ z. CompletesTerm line z before at high name f) (sym (mux_split (net inputs x) (net inputs a) (net inputs b) (codes ";\n" ++ rest))) (mux_term line at high name rest before f (net inputs x) (net inputs a) (net inputs b) h.0 h.1 h.2 k)
+    subst (λ z. CompletesTerm line z before at high name f)
+    (sym (mux_split (net inputs x) (net inputs a) (net inputs b) (codes ";\n" ++ rest)))
+    (mux_term line at high name rest before f (net inputs x) (net inputs a) (net inputs b) h.0 h.1 h.2 k)
 term_text inputs arrays line at high name rest before f (made.Slice a hi lo) h k =
-    subst (λ z. CompletesTerm line z before at high name f) (sym (slice_split (net inputs a) (decimal hi) (decimal lo) (codes ";\n" ++ rest))) (slice_term line at high name rest before f (net inputs a) hi lo h.0 h.1 h.2 k)
+    subst (λ z. CompletesTerm line z before at high name f)
+    (sym (slice_split (net inputs a) (decimal hi) (decimal lo) (codes ";\n" ++ rest)))
+    (slice_term line at high name rest before f (net inputs a) hi lo h.0 h.1 h.2 k)
 term_text inputs arrays line at high name rest before f (made.Cat a b) h k =
-    subst (λ z. CompletesTerm line z before at high name f) (sym (cat_split (net inputs a) (net inputs b) (codes ";\n" ++ rest))) (cat_term line at high name rest before f (net inputs a) (net inputs b) h.0 h.1 k)
+    subst (λ z. CompletesTerm line z before at high name f)
+    (sym (cat_split (net inputs a) (net inputs b) (codes ";\n" ++ rest)))
+    (cat_term line at high name rest before f (net inputs a) (net inputs b) h.0 h.1 k)
 term_text inputs arrays line at high name rest before f (made.Rep n a) h k =
-    subst (λ z. CompletesTerm line z before at high name f) (sym (rep_split (decimal n) (net inputs a) (codes ";\n" ++ rest))) (rep_term line at high name rest before f n (net inputs a) h.0 h.1 k)
+    subst (λ z. CompletesTerm line z before at high name f)
+    (sym (rep_split (decimal n) (net inputs a) (codes ";\n" ++ rest)))
+    (rep_term line at high name rest before f n (net inputs a) h.0 h.1 k)
 term_text inputs arrays line at high name rest before f (made.Read m a) h k =
-    subst (λ z. CompletesTerm line z before at high name f) (sym (read_split (array arrays m) (net inputs a) (codes ";\n" ++ rest))) (read_term line at high name rest before f (memory_name arrays m) (net inputs a) h.0 h.1 k)
+    subst (λ z. CompletesTerm line z before at high name f)
+    (sym (read_split (array arrays m) (net inputs a) (codes ";\n" ++ rest)))
+    (read_term line at high name rest before f (memory_name arrays m) (net inputs a) h.0 h.1 k)
 
 -- ---- one cell
 
@@ -101,8 +113,12 @@ eleven : (a b c d e k f g t h r : List ℕ)
 eleven a b c d e k f g t h r = simp append_assoc
 
 cell_split : (k w : ℕ) (tm rest : List ℕ) → (wire k w ++ (codes ";\nassign n" ++ decimal k ++ codes " = " ++ tm ++ codes ";\n")) ++ rest
-    ≡ codes "wire " ++ (codes "[" ++ (decimal (w - 1) ++ (codes ":0]" ++ (codes " n" ++ (decimal k ++ (codes ";\nassign n" ++ (decimal k ++ (codes " = " ++ (tm ++ (codes ";\n" ++ rest))))))))))
-cell_split k w tm rest = eleven (codes "wire ") (codes "[") (decimal (w - 1)) (codes ":0]") (codes " n") (decimal k) (codes ";\nassign n") (codes " = ") tm (codes ";\n") rest
+    ≡ codes "wire "
+    ++ (codes "["
+    ++ (decimal (w - 1)
+    ++ (codes ":0]" ++ (codes " n" ++ (decimal k ++ (codes ";\nassign n" ++ (decimal k ++ (codes " = " ++ (tm ++ (codes ";\n" ++ rest))))))))))
+cell_split k w tm rest =
+    eleven (codes "wire ") (codes "[") (decimal (w - 1)) (codes ":0]") (codes " n") (decimal k) (codes ";\nassign n") (codes " = ") tm (codes ";\n") rest
 
 one_cell : (inputs : List (List ℕ)) (arrays : List Array) (p : Part) (line k w : ℕ) (g : Cell) (rest : List ℕ) (before f : File)
     → MayCompute p → k < 2 ^ 64 → IsWidth w → IsCellText inputs arrays g
@@ -112,16 +128,19 @@ one_cell inputs arrays p line k w g rest before f m l wide h later =
     let tm = term inputs arrays g in
     let name = codes "n" ++ decimal k in
     let after = codes " " ++ (name ++ (codes ";\nassign " ++ (name ++ (codes " = " ++ (tm ++ (codes ";\n" ++ rest)))))) in
-    let split : cell inputs arrays k w g ++ rest ≡ codes "wire " ++ (range w ++ after) = cell_split k w tm rest ∙ ap (λ z. codes "wire " ++ z) (sym (range_split w after)) in
+    let split : cell inputs arrays k w g ++ rest ≡ codes "wire " ++ (range w ++ after) =
+    cell_split k w tm rest ∙ ap (λ z. codes "wire " ++ z) (sym (range_split w after)) in
     subst (λ z. CompletesFile p line z before f) (sym split)
-    (cell_head p line k w (tm ++ (codes ";\n" ++ rest)) before f m.cell l wide (term_text inputs arrays (line + 1) (line + 1) (w - 1) name rest before f g h later))
+    (cell_head p line k w (tm ++ (codes ";\n" ++ rest)) before f m.cell l wide
+    (term_text inputs arrays (line + 1) (line + 1) (w - 1) name rest before f g h later))
 
 -- ---- all cells
 
 -- what the lines of cells declare, from a line and the k-th cell on
 abbrev pub cell_decls : List (List ℕ) → List Array → (ℕ → ℕ) → ℕ → ℕ → List Cell → List CellDecl
 cell_decls inputs arrays width line k [] = []
-cell_decls inputs arrays width line k (g ∷ gs) = cell_decl (line + 1) (width k - 1) (codes "n" ++ decimal k) (term_of inputs arrays g) ∷ cell_decls inputs arrays width ((line + 1) + 1) (suc k) gs
+cell_decls inputs arrays width line k (g ∷ gs) =
+    cell_decl (line + 1) (width k - 1) (codes "n" ++ decimal k) (term_of inputs arrays g) ∷ cell_decls inputs arrays width ((line + 1) + 1) (suc k) gs
 
 -- the line after cells
 abbrev pub cells_end : ℕ → List Cell → ℕ
@@ -150,7 +169,10 @@ cell_lines inputs arrays width (g ∷ gs) p line k rest before f m l h later =
     let decl = cell_decl (line + 1) (width k - 1) (codes "n" ++ decimal k) (term_of inputs arrays g) in
     let decls = cell_decls inputs arrays width ((line + 1) + 1) (suc k) gs in
     let one = add_cell before decl in
-    let same : add_cells before (decl ∷ decls) ≡ add_cells one decls = ap (λ gs. record before { cells = gs }) (sym (append_assoc before.cells (decl ∷ []) decls)) in
-    let more_cells = cell_lines inputs arrays width gs part.Cells ((line + 1) + 1) (suc k) rest one f at_cells (omega arith) h.2 (λ q d. subst (λ z. CompletesFile q (cells_end ((line + 1) + 1) gs) rest z f) same (later q d)) in
+    let same : add_cells before (decl ∷ decls) ≡ add_cells one decls =
+    ap (λ gs. record before { cells = gs }) (sym (append_assoc before.cells (decl ∷ []) decls)) in
+    let more_cells =
+    cell_lines inputs arrays width gs part.Cells ((line + 1) + 1)
+    (suc k) rest one f at_cells (omega arith) h.2 (λ q d. subst (λ z. CompletesFile q (cells_end ((line + 1) + 1) gs) rest z f) same (later q d)) in
     subst (λ z. CompletesFile p line z before f) (sym (append_assoc (cell inputs arrays k (width k) g) (cells inputs arrays width (suc k) gs) rest))
     (one_cell inputs arrays p line k (width k) g (cells inputs arrays width (suc k) gs ++ rest) before f m (omega arith) h.0 h.1 more_cells)

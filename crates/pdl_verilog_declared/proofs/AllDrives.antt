@@ -67,7 +67,8 @@ one_output inputs In name p line rest before f m w n h later =
     let same : add_outputs before [] ≡ before = ap (λ gs. record before { outputs = gs }) (append-nil before.outputs) in
     subst (λ z. CompletesFile p line rest z f) same (later p m)
 one_output inputs (Out x) name p line rest before f m w n h later =
-    subst (λ z. CompletesFile p line z before f) (sym (output_split name (net inputs x) rest)) (output_line line rest before f p name (net inputs x) m.output w n h (later part.Outputs at_outputs))
+    subst (λ z. CompletesFile p line z before f) (sym (output_split name (net inputs x) rest))
+    (output_line line rest before f p name (net inputs x) m.output w n h (later part.Outputs at_outputs))
 
 -- the lines of outputs, where one may stand, complete the file that what is left completes with them
 pub output_lines : (inputs : List (List ℕ)) (ps : List Port) (p : Part) (line : ℕ) (rest : List ℕ) (before f : File)
@@ -81,8 +82,12 @@ output_lines inputs (o ∷ ps) p line rest before f m h later =
     let mine = driven_by inputs line o.dir o.name in
     let others = output_decls inputs (next_line line o.dir) ps in
     let one = add_outputs before mine in
-    let same : add_outputs before (mine ++ others) ≡ add_outputs one others = ap (λ gs. record before { outputs = gs }) (sym (append_assoc before.outputs mine others)) in
-    let after = λ (q : Part) (d : MayDrive q). output_lines inputs ps q (next_line line o.dir) rest one f d h.3 (λ r b. subst (λ z. CompletesFile r (outputs_end (next_line line o.dir) ps) rest z f) same (later r b)) in
+    let same : add_outputs before (mine ++ others) ≡ add_outputs one others =
+    ap (λ gs. record before { outputs = gs }) (sym (append_assoc before.outputs mine others)) in
+    let after =
+    λ (q : Part)
+    (d : MayDrive q). output_lines inputs ps q (next_line line o.dir) rest one f d h.3
+    (λ r b. subst (λ z. CompletesFile r (outputs_end (next_line line o.dir) ps) rest z f) same (later r b)) in
     subst (λ z. CompletesFile p line z before f) (sym (append_assoc (output inputs o) (flat_map (output inputs) ps) rest))
     (one_output inputs o.dir o.name p line (flat_map (output inputs) ps ++ rest) before f m h.0 h.1 h.2 after)
 
@@ -132,9 +137,18 @@ block_lines inputs (x ∷ xs) p line r rest before f m l h later =
     let decl = block_decl inputs line r x in
     let decls = block_decls inputs (line + 1) (suc r) xs in
     let one = add_blocks before (decl ∷ []) in
-    let same : add_blocks before (decl ∷ decls) ≡ add_blocks one decls = ap (λ gs. record before { reg_blocks = gs }) (sym (append_assoc before.reg_blocks (decl ∷ []) decls)) in
-    let more_blocks = block_lines inputs xs part.Blocks (line + 1) (suc r) rest one f at_blocks (omega arith) h.1 (λ q b. subst (λ z. CompletesFile q (blocks_end (line + 1) xs) rest z f) same (later q b)) in
+    let same : add_blocks before (decl ∷ decls) ≡ add_blocks one decls =
+    ap (λ gs. record before { reg_blocks = gs }) (sym (append_assoc before.reg_blocks (decl ∷ []) decls)) in
+    let more_blocks =
+    block_lines inputs xs part.Blocks (line + 1)
+    (suc r) rest one f at_blocks (omega arith) h.1 (λ q b. subst (λ z. CompletesFile q (blocks_end (line + 1) xs) rest z f) same (later q b)) in
     let others = blocks inputs (suc r) xs ++ rest in
-    let split : blocks inputs r (x ∷ xs) ++ rest ≡ always ++ (codes " " ++ ((codes "r" ++ decimal r) ++ (codes " <= rst ? " ++ (constant x.width x.reset ++ (codes " : " ++ (net inputs x.next ++ (codes ";\n" ++ others))))))) =
+    let split : blocks inputs r (x ∷ xs) ++ rest
+    ≡ always
+    ++ (codes " "
+    ++ ((codes "r" ++ decimal r)
+    ++ (codes " <= rst ? " ++ (constant x.width x.reset ++ (codes " : " ++ (net inputs x.next ++ (codes ";\n" ++ others))))))) =
     append_assoc (block inputs r x) (blocks inputs (suc r) xs) rest ∙ block_split always (decimal r) (constant x.width x.reset) (net inputs x.next) others in
-    subst (λ z. CompletesFile p line z before f) (sym split) (block_line line others before f p r x.width x.reset (net inputs x.next) m.block (omega arith) h.0.width.low h.0.width.high h.0.reset h.0.next more_blocks)
+    subst (λ z. CompletesFile p line z before f) (sym split)
+    (block_line line others before f p r x.width x.reset (net inputs x.next) m.block
+    (omega arith) h.0.width.low h.0.width.high h.0.reset h.0.next more_blocks)

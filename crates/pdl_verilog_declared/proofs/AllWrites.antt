@@ -28,7 +28,8 @@ AreWriteTexts inputs [] = Unit {0}
 AreWriteTexts inputs (p ∷ ps) = IsWriteText inputs p × AreWriteTexts inputs ps
 
 abbrev pub write_decl : List (List ℕ) → List ℕ → ℕ → WritePort → WriteDecl
-write_decl inputs name line p = record { line = line; enable = net inputs p.enable; array = codes "a_" ++ name; addr = net inputs p.addr; value = net inputs p.value }
+write_decl inputs name line p =
+    record { line = line; enable = net inputs p.enable; array = codes "a_" ++ name; addr = net inputs p.addr; value = net inputs p.value }
 
 -- what the writes of a block declare, from a line on
 abbrev pub write_decls : List (List ℕ) → List ℕ → ℕ → List WritePort → List WriteDecl
@@ -77,7 +78,9 @@ later_writes inputs name (p ∷ ps) line at rest ws before f n h k =
     let decl = write_decl inputs name line p in
     let decls = write_decls inputs name (line + 1) ps in
     let same : ws ++ decl ∷ decls ≡ (ws ++ decl ∷ []) ++ decls = sym (append_assoc ws (decl ∷ []) decls) in
-    let others = later_writes inputs name ps (line + 1) at rest (ws ++ decl ∷ []) before f n h.1 (subst (λ z. CompletesBlock part.Writes (writes_end (line + 1) ps) rest before z at f) same k) in
+    let others =
+    later_writes inputs name ps (line + 1) at rest (ws ++ decl ∷ []) before f n h.1
+    (subst (λ z. CompletesBlock part.Writes (writes_end (line + 1) ps) rest before z at f) same k) in
     subst (λ z. CompletesBlock part.Writes line z before ws at f) (sym (append_assoc (write inputs name p) (flat_map (write inputs name) ps) rest))
     (one_write inputs name p part.Writes line at (flat_map (write inputs name) ps ++ rest) ws before f written_chosen n h.0 others)
 
@@ -139,7 +142,9 @@ Ends p = chosen p (codes "endmodule") ≡ Some rule.Ending
 
 -- how a block begins at a part
 abbrev Begins : Part → Type 0
-Begins p = (line : ℕ) (rest : List ℕ) (before f : File) → CompletesBlock part.FirstWrite (line + 1) rest before [] line f → CompletesFile p line (always ++ (codes " begin\n" ++ rest)) before f
+Begins p =
+    (line : ℕ) (rest : List ℕ) (before f : File) → CompletesBlock part.FirstWrite (line + 1) rest before [] line f
+    → CompletesFile p line (always ++ (codes " begin\n" ++ rest)) before f
 
 ending_later : Ends part.ArrayBlocks
 unfolding chosen
@@ -148,7 +153,8 @@ ending_later = refl
 all_blocks : (inputs : List (List ℕ)) (xs : List Array) (p : Part) (line : ℕ) (before f : File) → Ends p → Begins p
     → AreBlockTexts inputs xs → f ≡ add_array_blocks before (array_blocks_decls inputs line xs)
     → CompletesFile p line (flat_map (block_of inputs) xs ++ codes "endmodule\n") before f
-all_blocks inputs [] p line before f e b h same = subst (λ z. CompletesFile p line (codes "endmodule\n") before z) (sym (same ∙ no_blocks before)) (last_line p line before e)
+all_blocks inputs [] p line before f e b h same =
+    subst (λ z. CompletesFile p line (codes "endmodule\n") before z) (sym (same ∙ no_blocks before)) (last_line p line before e)
 all_blocks inputs (a ∷ xs) p line before f e b h same =
     subst (λ z. CompletesFile p line z before f) (sym (append_assoc (block_of inputs a) (flat_map (block_of inputs) xs) (codes "endmodule\n")))
     (by_writes (λ q n g c d i. all_blocks inputs xs q n g f c d h.1 i) a.writes h.0.writes same)
@@ -157,7 +163,8 @@ all_blocks inputs (a ∷ xs) p line before f e b h same =
     rest = flat_map (block_of inputs) xs ++ codes "endmodule\n"
 
     by_writes : ((q : Part) (n : ℕ) (g : File) → Ends q → Begins q → f ≡ add_array_blocks g (array_blocks_decls inputs n xs) → CompletesFile q n rest g f)
-        → (ws : List WritePort) → AreWriteTexts inputs ws → f ≡ add_array_blocks before (array_block_decls inputs a.name line ws ++ array_blocks_decls inputs (array_block_end line ws) xs)
+        → (ws : List WritePort) → AreWriteTexts inputs ws
+        → f ≡ add_array_blocks before (array_block_decls inputs a.name line ws ++ array_blocks_decls inputs (array_block_end line ws) xs)
         → CompletesFile p line (array_block inputs a.name ws ++ rest) before f
     by_writes others [] w i = others p line before e b i
     by_writes others (x ∷ ws) w i =
@@ -167,7 +174,8 @@ all_blocks inputs (a ∷ xs) p line before f e b h same =
         let moved : f ≡ add_array_blocks one later = i ∙ ap (λ gs. record before { array_blocks = gs }) (sym (append_assoc before.array_blocks mine later)) in
         let after = others part.ArrayBlocks (array_block_end line (x ∷ ws)) one ending_later (λ n r g u k. later_block n r g u k) moved in
         subst (λ z. CompletesFile p line z before f) (sym (block_split always (flat_map (write inputs a.name) (x ∷ ws)) rest))
-        (b line (flat_map (write inputs a.name) (x ∷ ws) ++ (codes "end\n" ++ rest)) before f (block_inside inputs a.name x ws line rest before f h.0.named w after))
+        (b line (flat_map (write inputs a.name) (x ∷ ws) ++ (codes "end\n" ++ rest)) before f
+        (block_inside inputs a.name x ws line rest before f h.0.named w after))
 
 -- the same where registers may still be driven
 pub all_blocks_at : (inputs : List (List ℕ)) (xs : List Array) (p : Part) (line : ℕ) (before f : File) → MayBlock p

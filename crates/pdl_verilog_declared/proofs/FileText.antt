@@ -32,8 +32,10 @@ unfolding piece_at module_word
 module_first name y line = refl
 
 clock_first : (x : List ℕ) (line : ℕ) → tokens_from 0 line (clock_and_reset ++ x)
-    ≡ token (codes "(") line ∷ token (codes "input") line ∷ token (codes "wire") line ∷ token (codes "clk") line ∷ token (codes ",") line ∷ token (codes "input") line ∷ token (codes "wire") line
-    ∷ token (codes "[") line ∷ token (codes "0") line ∷ token (codes ":") line ∷ token (codes "0") line ∷ token (codes "]") line ∷ tokens_from 0 line (codes "rst" ++ x)
+    ≡ token (codes "(") line ∷ token (codes "input") line ∷ token (codes "wire") line ∷ token (codes "clk") line
+    ∷ token (codes ",") line ∷ token (codes "input") line ∷ token (codes "wire") line
+    ∷ token (codes "[") line ∷ token (codes "0") line ∷ token (codes ":") line ∷ token (codes "0") line
+    ∷ token (codes "]") line ∷ tokens_from 0 line (codes "rst" ++ x)
 unfolding piece_at clock_and_reset
 clock_first x line = refl
 
@@ -51,7 +53,8 @@ opened_file name = record no_file { line = 1; name = name; reset_line = 1; reset
 
 opening_row : List ℕ → Row
 opening_row name =
-    token (codes "pdl_" ++ name) 1 ∷ token (codes "(") 1 ∷ token (codes "input") 1 ∷ token (codes "wire") 1 ∷ token (codes "clk") 1 ∷ token (codes ",") 1 ∷ token (codes "input") 1 ∷ token (codes "wire") 1
+    token (codes "pdl_" ++ name) 1 ∷ token (codes "(") 1 ∷ token (codes "input") 1 ∷ token (codes "wire") 1
+    ∷ token (codes "clk") 1 ∷ token (codes ",") 1 ∷ token (codes "input") 1 ∷ token (codes "wire") 1
     ∷ token (codes "[") 1 ∷ token (codes "0") 1 ∷ token (codes ":") 1 ∷ token (codes "0") 1 ∷ token (codes "]") 1 ∷ token (codes "rst") 1 ∷ []
 
 opening_file : (name : List ℕ) → (opened no_draft (token (codes "module") 1 ∷ opening_row name)).file ≡ opened_file name
@@ -60,7 +63,11 @@ opening_file name = refl
 
 opening_fits : (name : List ℕ) → is_name name ≡ true → AllFit (fields rule.Opening) (token (codes "module") 1 ∷ opening_row name)
 unfolding number_of opening_row
-opening_fits name h = more refl (more h (more refl (more refl (more refl (more refl (more refl (more refl (more refl (more refl (more refl (more refl (more refl (more refl (more refl none))))))))))))))
+opening_fits name h =
+    more refl
+    (more h
+    (more refl
+    (more refl (more refl (more refl (more refl (more refl (more refl (more refl (more refl (more refl (more refl (more refl (more refl none))))))))))))))
 
 opening_lexed : (name x : List ℕ)
     → is_name name ≡ true → prefix_len is_word x ≡ 0
@@ -69,16 +76,22 @@ unfolding opening_row
 opening_lexed name x h e =
     let rst : IsWordText (codes "rst") = record { some = omega arith; all = refl } in
     module_first name (clock_and_reset ++ x) 1
-    ∙ (ap (λ z. token (codes "module") 1 ∷ z) (word_token (codes "pdl_" ++ name) (clock_and_reset ++ x) 1 (after_prefix (codes "pdl_") name refl (name_word name h)) (clock_apart x))
+    ∙ (ap (λ z. token (codes "module") 1 ∷ z)
+    (word_token (codes "pdl_" ++ name) (clock_and_reset ++ x) 1 (after_prefix (codes "pdl_") name refl (name_word name h)) (clock_apart x))
     ∙ (ap (λ z. token (codes "module") 1 ∷ token (codes "pdl_" ++ name) 1 ∷ z) (clock_first x 1)
-    ∙ ap (λ z. token (codes "module") 1 ∷ token (codes "pdl_" ++ name) 1 ∷ token (codes "(") 1 ∷ token (codes "input") 1 ∷ token (codes "wire") 1 ∷ token (codes "clk") 1 ∷ token (codes ",") 1 ∷ token (codes "input") 1 ∷ token (codes "wire") 1 ∷ token (codes "[") 1 ∷ token (codes "0") 1 ∷ token (codes ":") 1 ∷ token (codes "0") 1 ∷ token (codes "]") 1 ∷ z)
+    ∙ ap
+    (λ z. token (codes "module") 1 ∷ token (codes "pdl_" ++ name) 1 ∷ token (codes "(") 1 ∷ token (codes "input") 1
+    ∷ token (codes "wire") 1 ∷ token (codes "clk") 1 ∷ token (codes ",") 1 ∷ token (codes "input") 1
+    ∷ token (codes "wire") 1 ∷ token (codes "[") 1 ∷ token (codes "0") 1 ∷ token (codes ":") 1 ∷ token (codes "0") 1
+    ∷ token (codes "]") 1 ∷ z)
     (word_token (codes "rst") x 1 rst e)))
 
 opening_text : (name x : List ℕ) (f : File)
     → is_name name ≡ true → prefix_len is_word x ≡ 0 → CompletesFile part.Ports 1 x (opened_file name) f
     → Completes part.Start 1 (module_word ++ (name ++ (clock_and_reset ++ x))) no_draft f
 opening_text name x f h e k =
-    one_rule part.Start rule.Opening 1 1 (module_word ++ (name ++ (clock_and_reset ++ x))) x (token (codes "module") 1) (opening_row name) no_draft f start_chosen (opening_fits name h) (opening_lexed name x h e)
+    one_rule part.Start rule.Opening 1 1 (module_word ++ (name ++ (clock_and_reset ++ x))) x (token (codes "module") 1)
+    (opening_row name) no_draft f start_chosen (opening_fits name h) (opening_lexed name x h e)
     (k (opened no_draft (token (codes "module") 1 ∷ opening_row name)) (opening_file name) refl)
 
 -- ---- arrays, after registers
@@ -95,9 +108,11 @@ first_arrays line (a ∷ xs) rest before f h k =
     let decl = array_decl line a in
     let decls = array_decls (line + 1) xs in
     let one = add_array before decl in
-    let same : add_arrays before (decl ∷ decls) ≡ add_arrays one decls = ap (λ gs. record before { arrays = gs }) (sym (append_assoc before.arrays (decl ∷ []) decls)) in
+    let same : add_arrays before (decl ∷ decls) ≡ add_arrays one decls =
+    ap (λ gs. record before { arrays = gs }) (sym (append_assoc before.arrays (decl ∷ []) decls)) in
     let moved : CompletesFile part.Arrays ((line + 1) + length xs) rest (add_arrays one decls) f =
-    subst (λ z. CompletesFile part.Arrays z rest (add_arrays one decls) f) n (subst (λ z. CompletesFile part.Arrays (line + length (a ∷ xs)) rest z f) same (k part.Arrays at_arrays)) in
+    subst (λ z. CompletesFile part.Arrays z rest (add_arrays one decls) f) n
+    (subst (λ z. CompletesFile part.Arrays (line + length (a ∷ xs)) rest z f) same (k part.Arrays at_arrays)) in
     subst (λ z. CompletesFile part.Regs line z before f) (sym (append_assoc (array_line a) (flat_map array_line xs) rest))
     (first_array line a (flat_map array_line xs ++ rest) before f h.0 (later_arrays (line + 1) xs rest one f h.1 moved))
 
@@ -203,7 +218,8 @@ text_is : (n : Netlist) → verilog n ≡ module_word ++ (n.name ++ (clock_and_r
 unfolding verilog head
 text_is n =
     let inputs = input_names n.ports in
-    whole_split module_word n.name clock_and_reset (flat_map port n.ports) (regs 0 n.regs) (flat_map array_line n.arrays) (cells inputs n.arrays (cell_width n) 0 n.cells)
+    whole_split module_word n.name clock_and_reset (flat_map port n.ports) (regs 0 n.regs)
+    (flat_map array_line n.arrays) (cells inputs n.arrays (cell_width n) 0 n.cells)
     (flat_map (output inputs) n.ports) (blocks inputs 0 n.regs) (flat_map (block_of inputs) n.arrays) (codes "endmodule\n")
 
 -- what is written of a netlist that can be written is the text of the file that it declares

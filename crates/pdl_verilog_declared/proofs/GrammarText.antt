@@ -101,20 +101,24 @@ module _ (n : Netlist) (h : IsWellFormed n) (names : HasNames n) (few_regs : len
 
   arrays_named : Each IsArrayNamed n.arrays
   arrays_named =
-      each_weaker (λ a. IsInfoName (info_of a)) IsArrayNamed (λ a e. subst (λ z. is_name z ≡ true) (told_name a (find (λ m. bytes_eq m.name a.name) locked)) e) n.arrays
+      each_weaker (λ a. IsInfoName (info_of a)) IsArrayNamed
+      (λ a e. subst (λ z. is_name z ≡ true) (told_name a (find (λ m. bytes_eq m.name a.name) locked)) e) n.arrays
       (each_unmapped IsInfoName info_of n.arrays (each_back IsInfoName (map delayed_info delayed) (map info_of n.arrays) infos_named))
 
   kept_named : (m : PortMem) → IsKept delayed n.arrays m → IsMemName m
   kept_named m (inl k) = subst IsMemName k.2 (all_from_each IsMemName delayed delayed_named k.0 m k.1)
   kept_named m (inr k) =
       subst (λ z. is_name z ≡ true) k.2
-      (all_from_each (λ z. is_name z ≡ true) (map (λ (a : Array). a.name) n.arrays) (each_mapped (λ z. is_name z ≡ true) (λ (a : Array). a.name) n.arrays arrays_named) k.0 m.name k.1)
+      (all_from_each (λ z. is_name z ≡ true) (map (λ (a : Array). a.name) n.arrays)
+      (each_mapped (λ z. is_name z ≡ true) (λ (a : Array). a.name) n.arrays arrays_named) k.0 m.name k.1)
 
   locked_named : Each IsMemName locked
   locked_named = each_weaker (IsKept delayed n.arrays) IsMemName kept_named locked (each_from_all (IsKept delayed n.arrays) locked h.pipe.kept)
 
   heads : Each (λ p. IsHeadText (head_of p)) n.ports
-  heads = each_unmapped IsHeadText head_of n.ports (subst (Each IsHeadText) (sym h.pipe.ports) (pipe_texts h.pipe.stages delayed locked h.pipe.many delayed_named locked_named))
+  heads =
+      each_unmapped IsHeadText head_of n.ports
+      (subst (Each IsHeadText) (sym h.pipe.ports) (pipe_texts h.pipe.stages delayed locked h.pipe.many delayed_named locked_named))
 
   -- ---- nets
 
@@ -152,7 +156,9 @@ module _ (n : Netlist) (h : IsWellFormed n) (names : HasNames n) (few_regs : len
       (omega arith, net_text k l a f.0)
   fit_text k l (made.Read m a) f = (all_from_each IsArrayNamed n.arrays arrays_named m _ f.0, net_text k l a f.1)
 
-  cells_from : (gs : List Cell) (k : ℕ) → ((j : ℕ) → j < length gs → IsWidth (cell_width n (k + j)) × IsCellText inputs n.arrays (get_or gs j no_cell)) → AreCellTexts inputs n.arrays (cell_width n) k gs
+  cells_from : (gs : List Cell) (k : ℕ)
+      → ((j : ℕ) → j < length gs → IsWidth (cell_width n (k + j)) × IsCellText inputs n.arrays (get_or gs j no_cell))
+      → AreCellTexts inputs n.arrays (cell_width n) k gs
   cells_from [] k f = tt
   cells_from (g ∷ gs) k f =
       let z : k + 0 ≡ k = omega arith in
@@ -215,7 +221,8 @@ module _ (n : Netlist) (h : IsWellFormed n) (names : HasNames n) (few_regs : len
 
   write_texts : (a : Array) (ps : List WritePort) → Each (IsWellWrite c a) ps → AreWriteTexts inputs ps
   write_texts a [] w = tt
-  write_texts a (p ∷ ps) w = (record { enable = text_there p.enable w.0.enable; addr = text_there p.addr w.0.addr; value = text_there p.value w.0.value }, write_texts a ps w.1)
+  write_texts a (p ∷ ps) w =
+      (record { enable = text_there p.enable w.0.enable; addr = text_there p.addr w.0.addr; value = text_there p.value w.0.value }, write_texts a ps w.1)
 
   block_texts : (xs : List Array) → Each IsArrayNamed xs → Each (IsWellArray c) xs → AreBlockTexts inputs xs
   block_texts [] t w = tt

@@ -24,19 +24,29 @@ all_from_each P (x ∷ xs) h (suc k) d l = all_from_each P xs h.1 k d (omega ari
 
 memory_output : (t : List ℕ) → is_memory_output t ≡ true → is_port t ≡ true
 unfolding is_port
-memory_output t h = or_right (bytes_eq t (codes "ended") || bytes_eq t (codes "squash") || is_stage_port (codes "v_") t || is_stage_port (codes "g_") t || is_input t) (is_memory_output t) h
+memory_output t h =
+    or_right (bytes_eq t (codes "ended") || bytes_eq t (codes "squash") || is_stage_port (codes "v_") t || is_stage_port (codes "g_") t || is_input t)
+    (is_memory_output t) h
 
 input_port : (t : List ℕ) → is_input t ≡ true → is_port t ≡ true
 unfolding is_port
-input_port t h = or_left _ (is_memory_output t) (or_right (bytes_eq t (codes "ended") || bytes_eq t (codes "squash") || is_stage_port (codes "v_") t || is_stage_port (codes "g_") t) (is_input t) h)
+input_port t h =
+    or_left _ (is_memory_output t)
+    (or_right (bytes_eq t (codes "ended") || bytes_eq t (codes "squash") || is_stage_port (codes "v_") t || is_stage_port (codes "g_") t) (is_input t) h)
 
 moves_port : (t : List ℕ) → is_stage_port (codes "g_") t ≡ true → is_port t ≡ true
 unfolding is_port
-moves_port t h = or_left _ (is_memory_output t) (or_left _ (is_input t) (or_right (bytes_eq t (codes "ended") || bytes_eq t (codes "squash") || is_stage_port (codes "v_") t) (is_stage_port (codes "g_") t) h))
+moves_port t h =
+    or_left _ (is_memory_output t)
+    (or_left _ (is_input t)
+    (or_right (bytes_eq t (codes "ended") || bytes_eq t (codes "squash") || is_stage_port (codes "v_") t) (is_stage_port (codes "g_") t) h))
 
 valid_port : (t : List ℕ) → is_stage_port (codes "v_") t ≡ true → is_port t ≡ true
 unfolding is_port
-valid_port t h = or_left _ (is_memory_output t) (or_left _ (is_input t) (or_left _ (is_stage_port (codes "g_") t) (or_right (bytes_eq t (codes "ended") || bytes_eq t (codes "squash")) (is_stage_port (codes "v_") t) h)))
+valid_port t h =
+    or_left _ (is_memory_output t)
+    (or_left _ (is_input t)
+    (or_left _ (is_stage_port (codes "g_") t) (or_right (bytes_eq t (codes "ended") || bytes_eq t (codes "squash")) (is_stage_port (codes "v_") t) h)))
 
 ended_port : is_port (codes "ended") ≡ true
 unfolding is_port
@@ -47,16 +57,24 @@ unfolding is_port
 squash_port = refl
 
 c_port : (t : List ℕ) → is_named (codes "c_") t ≡ true → is_memory_output t ≡ true
-c_port t h = or_left _ (is_named (codes "qa_") t) (or_left _ (is_named (codes "q_") t) (or_left _ (is_named (codes "cd_") t) (or_left (is_named (codes "c_") t) (is_named (codes "ca_") t) h)))
+c_port t h =
+    or_left _ (is_named (codes "qa_") t)
+    (or_left _ (is_named (codes "q_") t) (or_left _ (is_named (codes "cd_") t) (or_left (is_named (codes "c_") t) (is_named (codes "ca_") t) h)))
 
 ca_port : (t : List ℕ) → is_named (codes "ca_") t ≡ true → is_memory_output t ≡ true
-ca_port t h = or_left _ (is_named (codes "qa_") t) (or_left _ (is_named (codes "q_") t) (or_left _ (is_named (codes "cd_") t) (or_right (is_named (codes "c_") t) (is_named (codes "ca_") t) h)))
+ca_port t h =
+    or_left _ (is_named (codes "qa_") t)
+    (or_left _ (is_named (codes "q_") t) (or_left _ (is_named (codes "cd_") t) (or_right (is_named (codes "c_") t) (is_named (codes "ca_") t) h)))
 
 cd_port : (t : List ℕ) → is_named (codes "cd_") t ≡ true → is_memory_output t ≡ true
-cd_port t h = or_left _ (is_named (codes "qa_") t) (or_left _ (is_named (codes "q_") t) (or_right (is_named (codes "c_") t || is_named (codes "ca_") t) (is_named (codes "cd_") t) h))
+cd_port t h =
+    or_left _ (is_named (codes "qa_") t)
+    (or_left _ (is_named (codes "q_") t) (or_right (is_named (codes "c_") t || is_named (codes "ca_") t) (is_named (codes "cd_") t) h))
 
 q_port : (t : List ℕ) → is_named (codes "q_") t ≡ true → is_memory_output t ≡ true
-q_port t h = or_left _ (is_named (codes "qa_") t) (or_right (is_named (codes "c_") t || is_named (codes "ca_") t || is_named (codes "cd_") t) (is_named (codes "q_") t) h)
+q_port t h =
+    or_left _ (is_named (codes "qa_") t)
+    (or_right (is_named (codes "c_") t || is_named (codes "ca_") t || is_named (codes "cd_") t) (is_named (codes "q_") t) h)
 
 qa_port : (t : List ℕ) → is_named (codes "qa_") t ≡ true → is_memory_output t ≡ true
 qa_port t h = or_right (is_named (codes "c_") t || is_named (codes "ca_") t || is_named (codes "cd_") t || is_named (codes "q_") t) (is_named (codes "qa_") t) h
@@ -139,8 +157,10 @@ stages_texts from (suc n) l = (stage_texts from (omega arith), stages_texts (fro
 
 last_texts : Each IsHeadText (output (codes "ended") 1 ∷ output (codes "squash") 1 ∷ [])
 last_texts =
-    let one : IsHeadText (output (codes "ended") 1) = record { word = record { some = omega arith; all = refl }; named = ended_port; operand = λ e. untrue e } in
-    let two : IsHeadText (output (codes "squash") 1) = record { word = record { some = omega arith; all = refl }; named = squash_port; operand = λ e. untrue e } in
+    let one : IsHeadText (output (codes "ended") 1) =
+    record { word = record { some = omega arith; all = refl }; named = ended_port; operand = λ e. untrue e } in
+    let two : IsHeadText (output (codes "squash") 1) =
+    record { word = record { some = omega arith; all = refl }; named = squash_port; operand = λ e. untrue e } in
     (one, (two, tt))
 
 -- the ports of a pipe of at most 64 stages, with memories named in PDL, are ports that a text may have

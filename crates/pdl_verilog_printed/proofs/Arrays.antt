@@ -63,10 +63,13 @@ module _ (line : ℕ) (a : Array) (rest : List ℕ) (before f : File) (h : IsArr
       flat ∙ ap (λ z. codes "reg " ++ z) (sym (range_split a.width middle))
 
   abbrev row : Row
-  row = token (codes "[") line ∷ token (codes "0") line ∷ token (codes ":") line ∷ token (decimal (a.depth - 1)) line ∷ token (codes "]") line ∷ token (codes ";") line ∷ []
+  row =
+      token (codes "[") line ∷ token (codes "0") line ∷ token (codes ":") line ∷ token (decimal (a.depth - 1)) line
+      ∷ token (codes "]") line ∷ token (codes ";") line ∷ []
 
   range_lexed : tokens_from 0 line text ≡ token (codes "reg") line ∷ range_row line a.width [] ++ tokens_from 0 line middle
-  range_lexed = let most : a.width ≤ 64 = h.width.high in reg_start (range a.width ++ middle) line ∙ ap (λ z. token (codes "reg") line ∷ z) (range_tokens a.width line middle most)
+  range_lexed = let most : a.width ≤ 64 = h.width.high in
+      reg_start (range a.width ++ middle) line ∙ ap (λ z. token (codes "reg") line ∷ z) (range_tokens a.width line middle most)
 
   name_lexed : tokens_from 0 line middle ≡ token name line ∷ row ++ tokens_from 0 (line + 1) rest
   name_lexed =
@@ -76,7 +79,8 @@ module _ (line : ℕ) (a : Array) (rest : List ℕ) (before f : File) (h : IsArr
       space_first (name ++ (codes " [0:" ++ (depth ++ last))) line
       ∙ (word_token name (codes " [0:" ++ (depth ++ last)) line (after_prefix (codes "a_") a.name refl (name_word a.name h.named)) refl
       ∙ (ap (λ z. t0 ∷ z) (depth_first (depth ++ last) line)
-      ∙ (ap (λ z. t0 ∷ token (codes "[") line ∷ token (codes "0") line ∷ token (codes ":") line ∷ z) (word_token depth last line (decimal_word (a.depth - 1) (omega arith)) refl)
+      ∙ (ap (λ z. t0 ∷ token (codes "[") line ∷ token (codes "0") line ∷ token (codes ":") line ∷ z)
+      (word_token depth last line (decimal_word (a.depth - 1) (omega arith)) refl)
       ∙ ap (λ z. t0 ∷ token (codes "[") line ∷ token (codes "0") line ∷ token (codes ":") line ∷ token depth line ∷ z) (square_last rest line))))
 
   small_high : a.width - 1 < 1000000
@@ -99,7 +103,8 @@ module _ (line : ℕ) (a : Array) (rest : List ℕ) (before f : File) (h : IsArr
       let F : File → ℕ → ℕ → File = λ g n m. add_array g (record { line = line; name = name; high = n; last = m }) in
       let n = unwrap_or (number_of (decimal (a.width - 1))) 0 in
       let m = unwrap_or (number_of (decimal (a.depth - 1))) 0 in
-      ap (λ (g : File). F g n m) e ∙ (ap (λ k. F before k m) (high_back (a.width - 1) small_high) ∙ ap (λ k. F before (a.width - 1) k) (high_back (a.depth - 1) small_last))
+      ap (λ (g : File). F g n m) e
+      ∙ (ap (λ k. F before k m) (high_back (a.width - 1) small_high) ∙ ap (λ k. F before (a.width - 1) k) (high_back (a.depth - 1) small_last))
 
   first_chosen : chosen part.Regs (codes "reg") ≡ Some rule.RegRange
   unfolding chosen
@@ -118,16 +123,20 @@ module _ (line : ℕ) (a : Array) (rest : List ℕ) (before f : File) (h : IsArr
   named_chosen = cond-true _ _ _ h.named
 
   -- the first array, after the registers
-  pub first_array : CompletesFile part.Arrays (line + 1) rest (add_array before (array_decl line a)) f → CompletesFile part.Regs line (array_line a ++ rest) before f
+  pub first_array : CompletesFile part.Arrays (line + 1) rest (add_array before (array_decl line a)) f
+      → CompletesFile part.Regs line (array_line a ++ rest) before f
   first_array k = subst (λ z. CompletesFile part.Regs line z before f) (sym text_is) (λ d e v.
       one_rule part.Regs rule.RegRange line line text middle (token (codes "reg") line) (range_row line a.width []) d f first_chosen range_fits range_lexed
-      (one_rule part.Declared rule.ArrayDeclared line (line + 1) middle rest (token name line) row (ranged d) f declared_chosen name_fits name_lexed (k _ (added d e) v)))
+      (one_rule part.Declared rule.ArrayDeclared line (line + 1) middle rest (token name line) row
+      (ranged d) f declared_chosen name_fits name_lexed (k _ (added d e) v)))
 
   -- an array after another
-  pub later_array : CompletesFile part.Arrays (line + 1) rest (add_array before (array_decl line a)) f → CompletesFile part.Arrays line (array_line a ++ rest) before f
+  pub later_array : CompletesFile part.Arrays (line + 1) rest (add_array before (array_decl line a)) f
+      → CompletesFile part.Arrays line (array_line a ++ rest) before f
   later_array k = subst (λ z. CompletesFile part.Arrays line z before f) (sym text_is) (λ d e v.
       one_rule part.Arrays rule.ArrayRange line line text middle (token (codes "reg") line) (range_row line a.width []) d f later_chosen range_fits range_lexed
-      (one_rule part.LaterArray rule.ArrayDeclared line (line + 1) middle rest (token name line) row (ranged d) f named_chosen name_fits name_lexed (k _ (added d e) v)))
+      (one_rule part.LaterArray rule.ArrayDeclared line (line + 1) middle rest (token name line) row
+      (ranged d) f named_chosen name_fits name_lexed (k _ (added d e) v)))
 
 -- ---- all arrays
 
@@ -154,11 +163,14 @@ later_arrays line [] rest before f h k =
     let same : add_arrays before [] ≡ before = ap (λ gs. record before { arrays = gs }) (append-nil before.arrays) in
     subst (λ z. CompletesFile part.Arrays z rest before f) n (subst (λ z. CompletesFile part.Arrays (line + 0) rest z f) same k)
 later_arrays line (a ∷ xs) rest before f h k =
-    let split : flat_map array_line (a ∷ xs) ++ rest ≡ array_line a ++ (flat_map array_line xs ++ rest) = append_assoc (array_line a) (flat_map array_line xs) rest in
+    let split : flat_map array_line (a ∷ xs) ++ rest ≡ array_line a ++ (flat_map array_line xs ++ rest) =
+    append_assoc (array_line a) (flat_map array_line xs) rest in
     let n : line + length (a ∷ xs) ≡ (line + 1) + length xs = omega arith in
     let one = add_array before (array_decl line a) in
     let same : add_arrays before (array_decls line (a ∷ xs)) ≡ add_arrays one (array_decls (line + 1) xs) =
     ap (λ gs. record before { arrays = gs }) (sym (append_assoc before.arrays (array_decl line a ∷ []) (array_decls (line + 1) xs))) in
     let moved : CompletesFile part.Arrays ((line + 1) + length xs) rest (add_arrays one (array_decls (line + 1) xs)) f =
-    subst (λ z. CompletesFile part.Arrays z rest (add_arrays one (array_decls (line + 1) xs)) f) n (subst (λ z. CompletesFile part.Arrays (line + length (a ∷ xs)) rest z f) same k) in
-    subst (λ z. CompletesFile part.Arrays line z before f) (sym split) (later_array line a (flat_map array_line xs ++ rest) before f h.0 (later_arrays (line + 1) xs rest one f h.1 moved))
+    subst (λ z. CompletesFile part.Arrays z rest (add_arrays one (array_decls (line + 1) xs)) f) n
+    (subst (λ z. CompletesFile part.Arrays (line + length (a ∷ xs)) rest z f) same k) in
+    subst (λ z. CompletesFile part.Arrays line z before f) (sym split)
+    (later_array line a (flat_map array_line xs ++ rest) before f h.0 (later_arrays (line + 1) xs rest one f h.1 moved))

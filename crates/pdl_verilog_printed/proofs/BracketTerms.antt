@@ -68,7 +68,8 @@ module _ (line at high : ℕ) (name rest : List ℕ) (before f : File) where
       let inner = codes ":" ++ (decimal l ++ last) in
       let later = codes "[" ++ (decimal h ++ inner) in
       let row : Row = token (decimal h) line ∷ token (codes ":") line ∷ token (decimal l) line ∷ token (codes "]") line ∷ token (codes ";") line ∷ [] in
-      let fit : AllFit (fields rule.SliceTerm) (token (codes "[") line ∷ row) = more refl (more (number_fits h p) (more refl (more (number_fits l q) (more refl (more refl none))))) in
+      let fit : AllFit (fields rule.SliceTerm) (token (codes "[") line ∷ row) =
+      more refl (more (number_fits h p) (more refl (more (number_fits l q) (more refl (more refl none))))) in
       let one = with_operand d (token a line ∷ []) in
       let same : term a rule.SliceTerm (token (codes "[") line ∷ row) ≡ t.Slice a h l =
       ap (λ n. t.Slice a n (unwrap_or (number_of (decimal l)) 0)) (high_back h p) ∙ ap (λ n. t.Slice a h n) (high_back l q) in
@@ -76,11 +77,14 @@ module _ (line at high : ℕ) (name rest : List ℕ) (before f : File) where
       slice_first (decimal h ++ inner)
       ∙ (ap (λ z. token (codes "[") line ∷ z) (word_token (decimal h) inner line (decimal_word h (omega arith)) refl)
       ∙ (ap (λ z. token (codes "[") line ∷ token (decimal h) line ∷ z) (colon_first (decimal l ++ last))
-      ∙ (ap (λ z. token (codes "[") line ∷ token (decimal h) line ∷ token (codes ":") line ∷ z) (word_token (decimal l) last line (decimal_word l (omega arith)) refl)
+      ∙ (ap (λ z. token (codes "[") line ∷ token (decimal h) line ∷ token (codes ":") line ∷ z)
+      (word_token (decimal l) last line (decimal_word l (omega arith)) refl)
       ∙ ap (λ z. token (codes "[") line ∷ token (decimal h) line ∷ token (codes ":") line ∷ token (decimal l) line ∷ z) (square_last rest)))) in
       terms.first_operand line at high name rest before f a later d o (word_token a later line o.word refl)
       (one_rule part.AfterOperand rule.SliceTerm line (line + 1) later rest (token (codes "[") line) row one f slice_chosen fit lexed
-      (k _ (cell_added one before at high name rule.SliceTerm (token (codes "[") line ∷ row) (t.Slice a h l) (terms.with_first line at high name rest before f d a e) same) e.writes))
+      (k _
+      (cell_added one before at high name rule.SliceTerm (token (codes "[") line ∷ row) (t.Slice a h l)
+      (terms.with_first line at high name rest before f d a e) same) e.writes))
 
   -- ---- `{ id , id }`
 
@@ -96,7 +100,8 @@ module _ (line at high : ℕ) (name rest : List ℕ) (before f : File) where
   unfolding piece_at
   brace_last x = refl
 
-  braces_last : (x : List ℕ) → tokens_from 0 line (codes "}};\n" ++ x) ≡ token (codes "}") line ∷ token (codes "}") line ∷ token (codes ";") line ∷ tokens_from 0 (line + 1) x
+  braces_last : (x : List ℕ)
+      → tokens_from 0 line (codes "}};\n" ++ x) ≡ token (codes "}") line ∷ token (codes "}") line ∷ token (codes ";") line ∷ tokens_from 0 (line + 1) x
   unfolding piece_at
   braces_last x = refl
 
@@ -105,9 +110,12 @@ module _ (line at high : ℕ) (name rest : List ℕ) (before f : File) where
   brace_chosen = refl
 
   opened_term : (d : Draft) (more_text : List ℕ) → Completes part.Braced line more_text d f → Completes part.Term line (codes "{" ++ more_text) d f
-  opened_term d more_text k = one_rule part.Term rule.OpenTerm line line (codes "{" ++ more_text) more_text (token (codes "{") line) [] d f brace_chosen (more refl none) (brace_first more_text) k
+  opened_term d more_text k =
+      one_rule part.Term rule.OpenTerm line line (codes "{" ++ more_text) more_text (token (codes "{") line)
+      [] d f brace_chosen (more refl none) (brace_first more_text) k
 
-  pub cat_term : (a b : List ℕ) → IsOperandText a → IsOperandText b → Continues (t.Cat a b) → CompletesTerm line (codes "{" ++ (a ++ (codes ", " ++ (b ++ (codes "};\n" ++ rest))))) before at high name f
+  pub cat_term : (a b : List ℕ) → IsOperandText a → IsOperandText b → Continues (t.Cat a b)
+      → CompletesTerm line (codes "{" ++ (a ++ (codes ", " ++ (b ++ (codes "};\n" ++ rest))))) before at high name f
   cat_term a b o p k d h =
       let last = codes "};\n" ++ rest in
       let middle = codes ", " ++ (b ++ last) in
@@ -128,12 +136,14 @@ module _ (line at high : ℕ) (name rest : List ℕ) (before f : File) where
   unfolding chosen
   number_chosen x h k = cond-false _ _ _ h ∙ cond-true _ _ _ k
 
-  pub rep_term : (n : ℕ) (a : List ℕ) → n < 1000000 → IsOperandText a → Continues (t.Rep n a) → CompletesTerm line (codes "{" ++ (decimal n ++ (codes "{" ++ (a ++ (codes "}};\n" ++ rest))))) before at high name f
+  pub rep_term : (n : ℕ) (a : List ℕ) → n < 1000000 → IsOperandText a → Continues (t.Rep n a)
+      → CompletesTerm line (codes "{" ++ (decimal n ++ (codes "{" ++ (a ++ (codes "}};\n" ++ rest))))) before at high name f
   rep_term n a l o k d h =
       let last = codes "}};\n" ++ rest in
       let middle = codes "{" ++ (a ++ last) in
       let row : Row = token (codes "{") line ∷ token a line ∷ token (codes "}") line ∷ token (codes "}") line ∷ token (codes ";") line ∷ [] in
-      let fit : AllFit (fields rule.RepTerm) (token (decimal n) line ∷ row) = more (number_fits n l) (more refl (more o.operand (more refl (more refl (more refl none))))) in
+      let fit : AllFit (fields rule.RepTerm) (token (decimal n) line ∷ row) =
+      more (number_fits n l) (more refl (more o.operand (more refl (more refl (more refl none))))) in
       let other : is_operand (decimal n) ≡ false = no_operand (decimal n) (decimal_nonempty n (omega arith)) (decimal_bytes n (omega arith)) in
       let same : term d.operand rule.RepTerm (token (decimal n) line ∷ row) ≡ t.Rep n a = ap (λ m. t.Rep m a) (high_back n l) in
       let lexed : tokens_from 0 line (decimal n ++ middle) ≡ token (decimal n) line ∷ row ++ tokens_from 0 (line + 1) rest =
@@ -142,7 +152,8 @@ module _ (line at high : ℕ) (name rest : List ℕ) (before f : File) where
       ∙ (ap (λ z. token (decimal n) line ∷ token (codes "{") line ∷ z) (word_token a last line o.word refl)
       ∙ ap (λ z. token (decimal n) line ∷ token (codes "{") line ∷ token a line ∷ z) (braces_last rest))) in
       opened_term d (decimal n ++ middle)
-      (one_rule part.Braced rule.RepTerm line (line + 1) (decimal n ++ middle) rest (token (decimal n) line) row d f (number_chosen (decimal n) other (number_fits n l)) fit lexed
+      (one_rule part.Braced rule.RepTerm line (line + 1)
+      (decimal n ++ middle) rest (token (decimal n) line) row d f (number_chosen (decimal n) other (number_fits n l)) fit lexed
       (k _ (cell_added d before at high name rule.RepTerm (token (decimal n) line ∷ row) (t.Rep n a) h same) h.writes))
 
   -- ---- `a_id [ id ]`
@@ -151,7 +162,8 @@ module _ (line at high : ℕ) (name rest : List ℕ) (before f : File) where
   unfolding chosen constant_of number_of is_operand
   array_chosen x h = cond-true _ _ _ h
 
-  pub read_term : (m a : List ℕ) → is_name m ≡ true → IsOperandText a → Continues (t.Read (codes "a_" ++ m) a) → CompletesTerm line ((codes "a_" ++ m) ++ (codes "[" ++ (a ++ (codes "];\n" ++ rest)))) before at high name f
+  pub read_term : (m a : List ℕ) → is_name m ≡ true → IsOperandText a → Continues (t.Read (codes "a_" ++ m) a)
+      → CompletesTerm line ((codes "a_" ++ m) ++ (codes "[" ++ (a ++ (codes "];\n" ++ rest)))) before at high name f
   read_term m a e o k d h =
       let array = codes "a_" ++ m in
       let last = codes "];\n" ++ rest in

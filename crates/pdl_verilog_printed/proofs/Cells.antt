@@ -32,7 +32,9 @@ equals_first x line = refl
 pub cell_head : (p : Part) (line k w : ℕ) (x : List ℕ) (before f : File)
     → chosen p (codes "wire") ≡ Some rule.CellHead → k < 2 ^ 64 → IsWidth w
     → CompletesTerm (line + 1) x before (line + 1) (w - 1) (codes "n" ++ decimal k) f
-    → CompletesFile p line (codes "wire " ++ (range w ++ (codes " " ++ ((codes "n" ++ decimal k) ++ (codes ";\nassign " ++ ((codes "n" ++ decimal k) ++ (codes " = " ++ x))))))) before f
+    → CompletesFile p line
+    (codes "wire "
+    ++ (range w ++ (codes " " ++ ((codes "n" ++ decimal k) ++ (codes ";\nassign " ++ ((codes "n" ++ decimal k) ++ (codes " = " ++ x))))))) before f
 cell_head p line k w x before f c l wide later d file writes =
     let name = codes "n" ++ decimal k in
     let t0 = token (codes "wire") line in
@@ -44,7 +46,10 @@ cell_head p line k w x before f c l wide later d file writes =
     let end : Row = token name line ∷ token (codes ";") line ∷ token (codes "assign") (line + 1) ∷ token name (line + 1) ∷ token (codes "=") (line + 1) ∷ [] in
     let row : Row = range_row line w end in
     let fit : AllFit (fields rule.CellHead) (t0 ∷ row) =
-    more refl (more refl (more (number_fits (w - 1) small) (more refl (more refl (more refl (more (decimals_are k l) (more refl (more refl (more (decimals_are k l) (more refl none)))))))))) in
+    more refl
+    (more refl
+    (more (number_fits (w - 1) small)
+    (more refl (more refl (more refl (more (decimals_are k l) (more refl (more refl (more (decimals_are k l) (more refl none)))))))))) in
     let named : tokens_from 0 line (codes " " ++ (name ++ middle)) ≡ end ++ tokens_from 0 (line + 1) x =
     space_first (name ++ middle) line
     ∙ (word_token name middle line (cell_text k l).word refl

@@ -22,7 +22,8 @@ use Rattle.pdl_verilog_printed.proofs.RuleSteps.{CompletesFile, one_rule}
 
 -- the tokens of `[w-1:0]`
 abbrev pub range_row : ℕ → ℕ → Row → Row
-range_row line w later = token (codes "[") line ∷ token (decimal (w - 1)) line ∷ token (codes ":") line ∷ token (codes "0") line ∷ token (codes "]") line ∷ later
+range_row line w later =
+    token (codes "[") line ∷ token (decimal (w - 1)) line ∷ token (codes ":") line ∷ token (codes "0") line ∷ token (codes "]") line ∷ later
 
 range_end : (x : List ℕ) (line : ℕ)
     → tokens_from 0 line (codes ":0]"
@@ -94,9 +95,11 @@ reg_line p line r x rest before f c l w k d same writes =
     let most : x.width ≤ 64 = w.high in
     let row = range_row line x.width [] in
     let first : tokens_from 0 line (reg r x ++ rest) ≡ token (codes "reg") line ∷ row ++ tokens_from 0 line middle =
-    ap (tokens_from 0 line) split ∙ (reg_start (range x.width ++ middle) line ∙ ap (λ z. token (codes "reg") line ∷ z) (range_tokens x.width line middle most)) in
+    ap (tokens_from 0 line) split
+    ∙ (reg_start (range x.width ++ middle) line ∙ ap (λ z. token (codes "reg") line ∷ z) (range_tokens x.width line middle most)) in
     let small : x.width - 1 < 1000000 = omega arith in
-    let fit : AllFit (fields rule.RegRange) (token (codes "reg") line ∷ row) = more refl (more refl (more (number_fits (x.width - 1) small) (more refl (more refl (more refl none))))) in
+    let fit : AllFit (fields rule.RegRange) (token (codes "reg") line ∷ row) =
+    more refl (more refl (more (number_fits (x.width - 1) small) (more refl (more refl (more refl none))))) in
     let named : AllFit (fields rule.RegDeclared) (token name line ∷ token (codes ";") line ∷ []) = more (decimals_are r l) (more refl none) in
     let one = with_range d (token (codes "reg") line ∷ row) in
     let two = with_reg one (token name line ∷ token (codes ";") line ∷ []) in
@@ -104,7 +107,9 @@ reg_line p line r x rest before f c l w k d same writes =
     ap (λ (g : File). add_reg g (record { line = line; name = name; high = unwrap_or (number_of (decimal (x.width - 1))) 0 })) same
     ∙ ap (λ n. add_reg before (record { line = line; name = name; high = n })) (high_back (x.width - 1) small) in
     one_rule p rule.RegRange line line (reg r x ++ rest) middle (token (codes "reg") line) row d f c fit first
-    (one_rule part.Declared rule.RegDeclared line (line + 1) middle rest (token name line) (token (codes ";") line ∷ []) one f (reg_chosen (decimal r) (decimals_are r l)) named (reg_named r line rest l) (k two file writes))
+    (one_rule part.Declared rule.RegDeclared line (line + 1) middle rest (token name line)
+    (token (codes ";") line ∷ []) one f (reg_chosen (decimal r) (decimals_are r l)) named (reg_named r line rest l)
+    (k two file writes))
 
 -- those from the r-th on
 abbrev pub reg_decls : ℕ → ℕ → List Reg → List RegDecl
@@ -140,6 +145,8 @@ reg_lines line r (x ∷ xs) rest before f l w k =
     let same : add_regs before (reg_decls line r (x ∷ xs)) ≡ add_regs one (reg_decls (line + 1) (suc r) xs) =
     ap (λ gs. record before { regs = gs }) (sym (append_assoc before.regs (reg_decl line r x ∷ []) (reg_decls (line + 1) (suc r) xs))) in
     let moved : CompletesFile part.Regs ((line + 1) + length xs) rest (add_regs one (reg_decls (line + 1) (suc r) xs)) f =
-    subst (λ z. CompletesFile part.Regs z rest (add_regs one (reg_decls (line + 1) (suc r) xs)) f) n (subst (λ z. CompletesFile part.Regs (line + length (x ∷ xs)) rest z f) same k) in
+    subst (λ z. CompletesFile part.Regs z rest (add_regs one (reg_decls (line + 1) (suc r) xs)) f) n
+    (subst (λ z. CompletesFile part.Regs (line + length (x ∷ xs)) rest z f) same k) in
     let later = reg_lines (line + 1) (suc r) xs rest one f (omega arith) w.1 moved in
-    subst (λ z. CompletesFile part.Regs line z before f) (sym split) (reg_line part.Regs line r x (regs (suc r) xs ++ rest) before f reg_first (omega arith) w.0 later)
+    subst (λ z. CompletesFile part.Regs line z before f) (sym split)
+    (reg_line part.Regs line r x (regs (suc r) xs ++ rest) before f reg_first (omega arith) w.0 later)

@@ -38,7 +38,8 @@ module _ (line : ℕ) (rest : List ℕ) (before f : File) where
 
   -- `assign port = id ;`, at a part where it may stand
   pub output_line : (p : Part) (name a : List ℕ) → chosen p (codes "assign") ≡ Some rule.OutputDriven → IsWordText name → is_port name ≡ true → IsOperandText a
-      → CompletesFile part.Outputs (line + 1) rest (add_output before (output_decl line name a)) f → CompletesFile p line (codes "assign " ++ (name ++ (codes " = " ++ (a ++ (codes ";\n" ++ rest))))) before f
+      → CompletesFile part.Outputs (line + 1) rest (add_output before (output_decl line name a)) f
+      → CompletesFile p line (codes "assign " ++ (name ++ (codes " = " ++ (a ++ (codes ";\n" ++ rest))))) before f
   output_line p name a c w named o k d e v =
       let last = codes ";\n" ++ rest in
       let middle = codes " = " ++ (a ++ last) in
@@ -66,14 +67,16 @@ module _ (line : ℕ) (rest : List ℕ) (before f : File) where
   abbrev pub always_row : Row
   always_row = token (codes "@") line ∷ token (codes "(") line ∷ token (codes "posedge") line ∷ token (codes "clk") line ∷ token (codes ")") line ∷ []
 
-  pub always_tokens : (x : List ℕ) → tokens_from 0 line (always ++ (codes " " ++ x)) ≡ token (codes "always") line ∷ always_row ++ tokens_from 0 line (codes " " ++ x)
+  pub always_tokens : (x : List ℕ)
+      → tokens_from 0 line (always ++ (codes " " ++ x)) ≡ token (codes "always") line ∷ always_row ++ tokens_from 0 line (codes " " ++ x)
   unfolding piece_at always
   always_tokens x = refl
 
   pub always_fits : AllFit (fields rule.BlockHead) (token (codes "always") line ∷ always_row)
   always_fits = more refl (more refl (more refl (more refl (more refl (more refl none)))))
 
-  takes_first : (x : List ℕ) → tokens_from 0 line (codes " <= rst ? " ++ x) ≡ token (codes "<=") line ∷ token (codes "rst") line ∷ token (codes "?") line ∷ tokens_from 0 line x
+  takes_first : (x : List ℕ)
+      → tokens_from 0 line (codes " <= rst ? " ++ x) ≡ token (codes "<=") line ∷ token (codes "rst") line ∷ token (codes "?") line ∷ tokens_from 0 line x
   unfolding piece_at
   takes_first x = refl
 
@@ -86,9 +89,12 @@ module _ (line : ℕ) (rest : List ℕ) (before f : File) where
   reg_chosen x h = cond-true _ _ _ h
 
   -- `always @(posedge clk) r_id <= rst ? const : id ;`, at a part where it may stand
-  pub block_line : (p : Part) (r w v : ℕ) (a : List ℕ) → chosen p (codes "always") ≡ Some rule.BlockHead → r < 2 ^ 64 → 1 ≤ w → w ≤ 64 → v < 2 ^ w → IsOperandText a
+  pub block_line : (p : Part) (r w v : ℕ) (a : List ℕ) → chosen p (codes "always") ≡ Some rule.BlockHead → r < 2 ^ 64
+      → 1 ≤ w → w ≤ 64 → v < 2 ^ w → IsOperandText a
       → CompletesFile part.Blocks (line + 1) rest (add_block before (reg_block r w v a)) f
-      → CompletesFile p line (always ++ (codes " " ++ ((codes "r" ++ decimal r) ++ (codes " <= rst ? " ++ (constant w v ++ (codes " : " ++ (a ++ (codes ";\n" ++ rest)))))))) before f
+      → CompletesFile p line
+      (always
+      ++ (codes " " ++ ((codes "r" ++ decimal r) ++ (codes " <= rst ? " ++ (constant w v ++ (codes " : " ++ (a ++ (codes ";\n" ++ rest)))))))) before f
   block_line p r w v a c l low high small o k d e writes =
       let name = codes "r" ++ decimal r in
       let const = constant w v in
@@ -98,17 +104,28 @@ module _ (line : ℕ) (rest : List ℕ) (before f : File) where
       let back = constant_back w v low high small in
       let some : is_some (constant_of const) ≡ true = ap is_some back in
       let one = with_block d (token (codes "always") line ∷ always_row) in
-      let row : Row = token (codes "<=") line ∷ token (codes "rst") line ∷ token (codes "?") line ∷ token const line ∷ token (codes ":") line ∷ token a line ∷ token (codes ";") line ∷ [] in
-      let fit : AllFit (fields rule.RegDriven) (token name line ∷ row) = more (decimals_are r l) (more refl (more refl (more refl (more some (more refl (more o.operand (more refl none))))))) in
+      let row : Row =
+      token (codes "<=") line ∷ token (codes "rst") line ∷ token (codes "?") line ∷ token const line
+      ∷ token (codes ":") line ∷ token a line ∷ token (codes ";") line ∷ [] in
+      let fit : AllFit (fields rule.RegDriven) (token name line ∷ row) =
+      more (decimals_are r l) (more refl (more refl (more refl (more some (more refl (more o.operand (more refl none))))))) in
       let lexed : tokens_from 0 line (codes " " ++ (name ++ middle)) ≡ token name line ∷ row ++ tokens_from 0 (line + 1) rest =
       space_first (name ++ middle) line
       ∙ (word_token name middle line (reg_text r l).word refl
       ∙ (ap (λ z. token name line ∷ z) (takes_first (const ++ inner))
-      ∙ (ap (λ z. token name line ∷ token (codes "<=") line ∷ token (codes "rst") line ∷ token (codes "?") line ∷ z) (word_token const inner line (constant_word w v (omega arith)) refl)
-      ∙ (ap (λ z. token name line ∷ token (codes "<=") line ∷ token (codes "rst") line ∷ token (codes "?") line ∷ token const line ∷ z) (colon_first (a ++ last))
-      ∙ (ap (λ z. token name line ∷ token (codes "<=") line ∷ token (codes "rst") line ∷ token (codes "?") line ∷ token const line ∷ token (codes ":") line ∷ z) (word_token a last line o.word refl)
-      ∙ ap (λ z. token name line ∷ token (codes "<=") line ∷ token (codes "rst") line ∷ token (codes "?") line ∷ token const line ∷ token (codes ":") line ∷ token a line ∷ z) (line_end rest line)))))) in
+      ∙ (ap (λ z. token name line ∷ token (codes "<=") line ∷ token (codes "rst") line ∷ token (codes "?") line ∷ z)
+      (word_token const inner line (constant_word w v (omega arith)) refl)
+      ∙ (ap (λ z. token name line ∷ token (codes "<=") line ∷ token (codes "rst") line ∷ token (codes "?") line ∷ token const line ∷ z)
+      (colon_first (a ++ last))
+      ∙ (ap (λ z. token name line ∷ token (codes "<=") line ∷ token (codes "rst") line ∷ token (codes "?") line ∷ token const line ∷ token (codes ":") line ∷ z)
+      (word_token a last line o.word refl)
+      ∙ ap
+      (λ z. token name line ∷ token (codes "<=") line ∷ token (codes "rst") line ∷ token (codes "?") line
+      ∷ token const line ∷ token (codes ":") line ∷ token a line ∷ z)
+      (line_end rest line)))))) in
       let B : File → Option Constant → File = λ g z. let n = unwrap_or z (record { width = 0; value = 0 }) in add_block g (reg_block r n.width n.value a) in
-      one_rule p rule.BlockHead line line (always ++ (codes " " ++ (name ++ middle))) (codes " " ++ (name ++ middle)) (token (codes "always") line) always_row d f c always_fits (always_tokens (name ++ middle))
-      (one_rule part.Block rule.RegDriven line (line + 1) (codes " " ++ (name ++ middle)) rest (token name line) row one f (reg_chosen (decimal r) (decimals_are r l)) fit lexed
+      one_rule p rule.BlockHead line line (always ++ (codes " " ++ (name ++ middle))) (codes " " ++ (name ++ middle))
+      (token (codes "always") line) always_row d f c always_fits (always_tokens (name ++ middle))
+      (one_rule part.Block rule.RegDriven line (line + 1)
+      (codes " " ++ (name ++ middle)) rest (token name line) row one f (reg_chosen (decimal r) (decimals_are r l)) fit lexed
       (k _ (ap (λ (g : File). B g (constant_of const)) e ∙ ap (λ (z : Option Constant). B before z) back) writes))

@@ -79,7 +79,8 @@ abbrev rule_of : Dir → VerilogRule
 rule_of In = rule.InputPort
 rule_of (Out n) = rule.OutputPort
 
-module _ (line : ℕ) (name x : List ℕ) (w : ℕ) (before f : File) (small : w ≤ 64) (o : IsWordText name) (named : is_port name ≡ true) (apart : prefix_len is_word x ≡ 0) where
+module _ (line : ℕ) (name x : List ℕ) (w : ℕ) (before f : File) (small : w ≤ 64) (o : IsWordText name)
+    (named : is_port name ≡ true) (apart : prefix_len is_word x ≡ 0) where
   abbrev after_word : List ℕ
   after_word = range w ++ (codes " " ++ (name ++ x))
 
@@ -88,7 +89,8 @@ module _ (line : ℕ) (name x : List ℕ) (w : ℕ) (before f : File) (small : w
   after_comma In = codes " input wire " ++ after_word
   after_comma (Out n) = codes " output wire " ++ after_word
 
-  after_lexed : (d : Dir) → tokens_from 0 line (after_comma d) ≡ token (word_of d) line ∷ token (codes "wire") line ∷ range_row line w (token name line ∷ tokens_from 0 line x)
+  after_lexed : (d : Dir)
+      → tokens_from 0 line (after_comma d) ≡ token (word_of d) line ∷ token (codes "wire") line ∷ range_row line w (token name line ∷ tokens_from 0 line x)
   unfolding piece_at
   after_lexed In = ap (λ z. token (codes "input") line ∷ token (codes "wire") line ∷ z) (name_tokens line w name x small o apart)
   after_lexed (Out n) = ap (λ z. token (codes "output") line ∷ token (codes "wire") line ∷ z) (name_tokens line w name x small o apart)
@@ -107,22 +109,32 @@ module _ (line : ℕ) (name x : List ℕ) (w : ℕ) (before f : File) (small : w
   number = number_fits (w - 1) (omega arith)
 
   added : (d : Draft) (i : Bool) → d.file ≡ before
-      → (with_port d i (token (codes "input") line ∷ token (codes "wire") line ∷ range_row line w (token name line ∷ []))).file ≡ add_port before (record { line = line; name = name; high = w - 1; input = i })
+      → (with_port d i (token (codes "input") line ∷ token (codes "wire") line ∷ range_row line w (token name line ∷ []))).file
+      ≡ add_port before (record { line = line; name = name; high = w - 1; input = i })
   added d i e =
       ap (λ (g : File). add_port g (record { line = line; name = name; high = unwrap_or (number_of (decimal (w - 1))) 0; input = i })) e
       ∙ ap (λ n. add_port before (record { line = line; name = name; high = n; input = i })) (high_back (w - 1) (omega arith))
 
-  pub port_text : (d : Dir) → CompletesFile part.Ports line x (add_port before (record { line = line; name = name; high = w - 1; input = is_input d })) f → CompletesFile part.Ports line (direction d ++ after_word) before f
+  pub port_text : (d : Dir)
+      → CompletesFile part.Ports line x (add_port before (record { line = line; name = name; high = w - 1; input = is_input d })) f
+      → CompletesFile part.Ports line (direction d ++ after_word) before f
   port_text In k d e v =
       let ts : Row = token (codes "wire") line ∷ range_row line w (token name line ∷ []) in
-      let fit : AllFit (fields rule.InputPort) (token (codes "input") line ∷ ts) = more refl (more refl (more refl (more number (more refl (more refl (more refl (more named none))))))) in
-      one_rule part.Ports rule.NextPort line line (direction In ++ after_word) (after_comma In) (token (codes ",") line) [] d f comma_chosen (more refl none) (comma_lexed In)
-      (one_rule part.Direction rule.InputPort line line (after_comma In) x (token (codes "input") line) ts d f (dir_chosen In) fit (after_lexed In) (k _ (added d true e) v))
+      let fit : AllFit (fields rule.InputPort) (token (codes "input") line ∷ ts) =
+      more refl (more refl (more refl (more number (more refl (more refl (more refl (more named none))))))) in
+      one_rule part.Ports rule.NextPort line line (direction In ++ after_word) (after_comma In) (token (codes ",") line)
+      [] d f comma_chosen (more refl none) (comma_lexed In)
+      (one_rule part.Direction rule.InputPort line line (after_comma In) x (token (codes "input") line) ts d f (dir_chosen In) fit (after_lexed In)
+      (k _ (added d true e) v))
   port_text (Out n) k d e v =
       let ts : Row = token (codes "wire") line ∷ range_row line w (token name line ∷ []) in
-      let fit : AllFit (fields rule.OutputPort) (token (codes "output") line ∷ ts) = more refl (more refl (more refl (more number (more refl (more refl (more refl (more named none))))))) in
-      one_rule part.Ports rule.NextPort line line (direction (Out n) ++ after_word) (after_comma (Out n)) (token (codes ",") line) [] d f comma_chosen (more refl none) (comma_lexed (Out n))
-      (one_rule part.Direction rule.OutputPort line line (after_comma (Out n)) x (token (codes "output") line) ts d f (dir_chosen (Out n)) fit (after_lexed (Out n)) (k _ (added d false e) v))
+      let fit : AllFit (fields rule.OutputPort) (token (codes "output") line ∷ ts) =
+      more refl (more refl (more refl (more number (more refl (more refl (more refl (more named none))))))) in
+      one_rule part.Ports rule.NextPort line line (direction (Out n) ++ after_word) (after_comma (Out n))
+      (token (codes ",") line) [] d f comma_chosen (more refl none) (comma_lexed (Out n))
+      (one_rule part.Direction rule.OutputPort line line (after_comma (Out n)) x (token (codes "output") line) ts d f
+      (dir_chosen (Out n)) fit (after_lexed (Out n))
+      (k _ (added d false e) v))
 
 -- ---- all ports
 
@@ -150,7 +162,8 @@ pub port_texts : (line : ℕ) (ps : List Port) (rest : List ℕ) (before f : Fil
     → CompletesFile part.Ports line (flat_map port ps ++ closing rest) before f
 port_texts line [] rest before f h k = λ d e v.
     let same : add_ports before [] ≡ before = ap (λ gs. record before { ports = gs }) (append-nil before.ports) in
-    one_rule part.Ports rule.Closing line (line + 1) (closing rest) rest (token (codes ")") line) (token (codes ";") line ∷ []) d f closing_chosen (more refl (more refl none)) (closing_tokens rest line)
+    one_rule part.Ports rule.Closing line (line + 1) (closing rest) rest (token (codes ")") line)
+    (token (codes ";") line ∷ []) d f closing_chosen (more refl (more refl none)) (closing_tokens rest line)
     (k d (e ∙ sym same) v)
 port_texts line (p ∷ ps) rest before f h k =
     let x = flat_map port ps ++ closing rest in

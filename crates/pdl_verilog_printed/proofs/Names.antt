@@ -28,7 +28,10 @@ form_word [] h = absurd (cc)
 form_word (c ∷ cs) h =
     let p = and_parts (is_lower c) _ h in
     let q = and_parts _ (list_all is_name_byte cs) p.1 in
-    record { some = omega arith; all = and_from (is_word c) (list_all is_word cs) (lower_is_word c p.0) (all_weaker is_name_byte is_word name_byte_word cs q.1) }
+    record {
+      some = omega arith;
+      all = and_from (is_word c) (list_all is_word cs) (lower_is_word c p.0) (all_weaker is_name_byte is_word name_byte_word cs q.1);
+    }
 
 -- a name of PDL is a word
 pub name_word : (x : List ℕ) → is_name x ≡ true → IsWordText x
@@ -49,7 +52,9 @@ after_prefix p x e h = record {
 -- a constant of fewer than 2^64 bits is written as a word
 pub constant_word : (w v : ℕ) → w < 2 ^ 64 → IsWordText (constant w v)
 constant_word w v h = record {
-  some = (let l = length-append (decimal w ++ codes "'h") (hex ((w + 3) / 4) v) in let m = length-append (decimal w) (codes "'h") in let k = decimal_nonempty w h in omega arith);
+  some =
+      (let l = length-append (decimal w ++ codes "'h") (hex ((w + 3) / 4) v) in
+      let m = length-append (decimal w) (codes "'h") in let k = decimal_nonempty w h in omega arith);
   all = constant_words w v h;
 }
 
@@ -72,11 +77,15 @@ cell_is_operand x h = or_left _ (is_input (codes "n" ++ x)) (or_left (is_cell (c
 
 p_is_operand : (x : List ℕ) → is_name x ≡ true → is_operand (codes "p_" ++ x) ≡ true
 unfolding is_operand
-p_is_operand x h = or_right (is_cell (codes "p_" ++ x) || is_reg (codes "p_" ++ x)) (is_input (codes "p_" ++ x)) (or_left (is_named (codes "p_") (codes "p_" ++ x)) (is_named (codes "pd_") (codes "p_" ++ x)) h)
+p_is_operand x h =
+    or_right (is_cell (codes "p_" ++ x) || is_reg (codes "p_" ++ x)) (is_input (codes "p_" ++ x))
+    (or_left (is_named (codes "p_") (codes "p_" ++ x)) (is_named (codes "pd_") (codes "p_" ++ x)) h)
 
 pd_is_operand : (x : List ℕ) → is_name x ≡ true → is_operand (codes "pd_" ++ x) ≡ true
 unfolding is_operand
-pd_is_operand x h = or_right (is_cell (codes "pd_" ++ x) || is_reg (codes "pd_" ++ x)) (is_input (codes "pd_" ++ x)) (or_right (is_named (codes "p_") (codes "pd_" ++ x)) (is_named (codes "pd_") (codes "pd_" ++ x)) h)
+pd_is_operand x h =
+    or_right (is_cell (codes "pd_" ++ x) || is_reg (codes "pd_" ++ x)) (is_input (codes "pd_" ++ x))
+    (or_right (is_named (codes "p_") (codes "pd_" ++ x)) (is_named (codes "pd_") (codes "pd_" ++ x)) h)
 
 -- the rule at a term whose first word is an operand that begins with a letter
 term_r : (x : List ℕ) → is_operand (codes "r" ++ x) ≡ true → chosen part.Term (codes "r" ++ x) ≡ Some rule.FirstOperand

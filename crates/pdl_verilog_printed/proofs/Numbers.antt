@@ -39,7 +39,9 @@ pub run_before : {X : Type 0} (p : X → Bool) (w rest : List X)
 run_before p [] rest h e = e
 run_before p (x ∷ xs) rest h e = at_test (p x) h (run_before p xs rest)
   where
-    at_test : (b : Bool) → (b && list_all p xs) ≡ true → (list_all p xs ≡ true → prefix_len p rest ≡ 0 → prefix_len p (xs ++ rest) ≡ length xs) → cond b (1 + prefix_len p (xs ++ rest)) 0 ≡ suc (length xs)
+    at_test : (b : Bool) → (b && list_all p xs) ≡ true
+        → (list_all p xs ≡ true → prefix_len p rest ≡ 0 → prefix_len p (xs ++ rest) ≡ length xs)
+        → cond b (1 + prefix_len p (xs ++ rest)) 0 ≡ suc (length xs)
     at_test true k more = let i = more k e in omega arith
     at_test false k more = absurd (cc)
 

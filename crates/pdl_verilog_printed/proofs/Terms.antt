@@ -64,7 +64,8 @@ module _ (line at high : ℕ) (name rest : List ℕ) (before f : File) where
 
   -- ---- `const`
 
-  const_tokens : (w v : ℕ) → w ≤ 64 → tokens_from 0 line (constant w v ++ (codes ";\n" ++ rest)) ≡ token (constant w v) line ∷ token (codes ";") line ∷ tokens_from 0 (line + 1) rest
+  const_tokens : (w v : ℕ) → w ≤ 64
+      → tokens_from 0 line (constant w v ++ (codes ";\n" ++ rest)) ≡ token (constant w v) line ∷ token (codes ";") line ∷ tokens_from 0 (line + 1) rest
   const_tokens w v h =
       word_token (constant w v) (codes ";\n" ++ rest) line (constant_word w v (omega arith)) refl ∙ ap (λ z. token (constant w v) line ∷ z) (line_end rest line)
 
@@ -72,14 +73,17 @@ module _ (line at high : ℕ) (name rest : List ℕ) (before f : File) where
   unfolding chosen
   const_chosen x h = cond-true _ _ _ h
 
-  pub const_term : (w v : ℕ) → 1 ≤ w → w ≤ 64 → v < 2 ^ w → Continues (t.Const w v) → CompletesTerm line (constant w v ++ (codes ";\n" ++ rest)) before at high name f
+  pub const_term : (w v : ℕ) → 1 ≤ w → w ≤ 64 → v < 2 ^ w → Continues (t.Const w v)
+      → CompletesTerm line (constant w v ++ (codes ";\n" ++ rest)) before at high name f
   const_term w v low most small k d h =
       let back = constant_back w v low most small in
       let some : is_some (constant_of (constant w v)) ≡ true = ap is_some back in
       let row : Row = token (codes ";") line ∷ [] in
       let fit : AllFit (fields rule.ConstTerm) (token (constant w v) line ∷ row) = more some (more refl none) in
-      let same : term d.operand rule.ConstTerm (token (constant w v) line ∷ row) ≡ t.Const w v = ap (λ (o : Option Constant). let c = unwrap_or o (record { width = 0; value = 0 }) in t.Const c.width c.value) back in
-      one_rule part.Term rule.ConstTerm line (line + 1) (constant w v ++ (codes ";\n" ++ rest)) rest (token (constant w v) line) row d f (const_chosen (constant w v) some) fit (const_tokens w v most)
+      let same : term d.operand rule.ConstTerm (token (constant w v) line ∷ row) ≡ t.Const w v =
+      ap (λ (o : Option Constant). let c = unwrap_or o (record { width = 0; value = 0 }) in t.Const c.width c.value) back in
+      one_rule part.Term rule.ConstTerm line (line + 1)
+      (constant w v ++ (codes ";\n" ++ rest)) rest (token (constant w v) line) row d f (const_chosen (constant w v) some) fit (const_tokens w v most)
       (k _ (cell_added d before at high name rule.ConstTerm (token (constant w v) line ∷ row) (t.Const w v) h same) h.writes)
 
   -- ---- `~id`
@@ -110,11 +114,13 @@ module _ (line at high : ℕ) (name rest : List ℕ) (before f : File) where
 
   pub first_operand : (a more_text : List ℕ) (d : Draft) → IsOperandText a → tokens_from 0 line (a ++ more_text) ≡ token a line ∷ tokens_from 0 line more_text
       → Completes part.AfterOperand line more_text (with_operand d (token a line ∷ [])) f → Completes part.Term line (a ++ more_text) d f
-  first_operand a more_text d o e k = one_rule part.Term rule.FirstOperand line line (a ++ more_text) more_text (token a line) [] d f o.begins (more o.operand none) e k
+  first_operand a more_text d o e k =
+      one_rule part.Term rule.FirstOperand line line (a ++ more_text) more_text (token a line) [] d f o.begins (more o.operand none) e k
 
   -- ---- `id op id`
 
-  operator_tokens : (o : BinOp) (x : List ℕ) → tokens_from 0 line (codes " " ++ (operator o ++ (codes " " ++ x))) ≡ token (operator o) line ∷ tokens_from 0 line x
+  operator_tokens : (o : BinOp) (x : List ℕ)
+      → tokens_from 0 line (codes " " ++ (operator o ++ (codes " " ++ x))) ≡ token (operator o) line ∷ tokens_from 0 line x
   unfolding piece_at
   operator_tokens op.Add x = refl
   operator_tokens op.Sub x = refl
@@ -132,7 +138,8 @@ module _ (line at high : ℕ) (name rest : List ℕ) (before f : File) where
   unfolding chosen
   operator_chosen x h = cond-true _ _ _ h
 
-  pub bin_term : (o : BinOp) (a b : List ℕ) → IsOperandText a → IsOperandText b → Continues (t.Bin o a b) → CompletesTerm line (a ++ (codes " " ++ (operator o ++ (codes " " ++ (b ++ (codes ";\n" ++ rest)))))) before at high name f
+  pub bin_term : (o : BinOp) (a b : List ℕ) → IsOperandText a → IsOperandText b → Continues (t.Bin o a b)
+      → CompletesTerm line (a ++ (codes " " ++ (operator o ++ (codes " " ++ (b ++ (codes ";\n" ++ rest)))))) before at high name f
   bin_term o a b p q k d h =
       let back = operator_back o in
       let some : is_some (operator_of (operator o)) ≡ true = ap is_some back in
@@ -163,7 +170,8 @@ module _ (line at high : ℕ) (name rest : List ℕ) (before f : File) where
   unfolding chosen operator_of
   mux_chosen = refl
 
-  pub mux_term : (x a b : List ℕ) → IsOperandText x → IsOperandText a → IsOperandText b → Continues (t.Mux x a b) → CompletesTerm line (x ++ (codes " ? " ++ (a ++ (codes " : " ++ (b ++ (codes ";\n" ++ rest)))))) before at high name f
+  pub mux_term : (x a b : List ℕ) → IsOperandText x → IsOperandText a → IsOperandText b → Continues (t.Mux x a b)
+      → CompletesTerm line (x ++ (codes " ? " ++ (a ++ (codes " : " ++ (b ++ (codes ";\n" ++ rest)))))) before at high name f
   mux_term x a b o p q k d h =
       let last = codes " : " ++ (b ++ (codes ";\n" ++ rest)) in
       let later = codes " ? " ++ (a ++ last) in

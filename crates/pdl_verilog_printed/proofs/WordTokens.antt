@@ -47,7 +47,8 @@ word_token (c ∷ w) rest line h e =
     let text : take (length (c ∷ w)) ((c ∷ w) ++ rest) ≡ c ∷ w = take-append_seam (c ∷ w) rest in
     let end : eqb c 10 ≡ false = (or_parts (eqb c 32 || eqb c 9 || eqb c 13) (eqb c 10) (word_not_blank c k.0)).1 in
     let after : line ≡ line_after c line = sym (ap (λ b. cond b (line + 1) line) end) in
-    sym (step_token ((c ∷ w) ++ rest) rest p line line (word_piece c w rest h.all e) (sym same) after refl) ∙ ap (λ t. token t line ∷ tokens_from 0 line rest) text
+    sym (step_token ((c ∷ w) ++ rest) rest p line line (word_piece c w rest h.all e) (sym same) after refl)
+    ∙ ap (λ t. token t line ∷ tokens_from 0 line rest) text
 
 -- ---- as they stand in a line
 

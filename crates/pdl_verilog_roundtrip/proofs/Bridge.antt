@@ -96,7 +96,10 @@ writes_same : (inputs : List (List ℕ)) (name : List ℕ) (lines : ℕ → ℕ)
     → writing.write_decls inputs name (at + k) ps ≡ write_decls lines inputs (codes "a_" ++ name) k ps
 writes_same inputs name lines at k [] h = refl
 writes_same inputs name lines at k (p ∷ ps) h =
-    ap (λ l. record { line = l; enable = net inputs p.enable; array = codes "a_" ++ name; addr = net inputs p.addr; value = net inputs p.value } ∷ writing.write_decls inputs name ((at + k) + 1) ps) (sym (h k))
+    ap
+    (λ l. record { line = l; enable = net inputs p.enable; array = codes "a_" ++ name; addr = net inputs p.addr; value = net inputs p.value }
+    ∷ writing.write_decls inputs name ((at + k) + 1) ps)
+    (sym (h k))
     ∙ ap (λ z. record { line = lines k; enable = net inputs p.enable; array = codes "a_" ++ name; addr = net inputs p.addr; value = net inputs p.value } ∷ z)
     (ap (λ l. writing.write_decls inputs name l ps) (next_place at k) ∙ writes_same inputs name lines at (suc k) ps h)
 
@@ -121,7 +124,8 @@ array_blocks_same lines inputs line b [] h = refl
 array_blocks_same lines inputs line b (a ∷ xs) h = go (λ l k e. array_blocks_same lines inputs l k xs e) a.writes h
   where
     go : ((l k : ℕ) → AreLines lines k (writing.array_blocks_decls inputs l xs) → writing.array_blocks_decls inputs l xs ≡ array_blocks lines inputs k xs)
-        → (ps : List WritePort) → AreLines lines b (writing.array_block_decls inputs a.name line ps ++ writing.array_blocks_decls inputs (writing.array_block_end line ps) xs)
+        → (ps : List WritePort)
+        → AreLines lines b (writing.array_block_decls inputs a.name line ps ++ writing.array_blocks_decls inputs (writing.array_block_end line ps) xs)
         → writing.array_block_decls inputs a.name line ps ++ writing.array_blocks_decls inputs (writing.array_block_end line ps) xs
         ≡ onto_block lines inputs b (array_name a) ps (λ j. array_blocks lines inputs j xs)
     go more [] e = more line b e
@@ -170,10 +174,23 @@ zero_first i = omega arith
 abbrev file_with : Netlist → List PortDecl → List RegDecl → List ArrayDecl → List CellDecl → List OutputDecl
     → List RegBlock → List ArrayBlock → File
 file_with n ps rs xs gs os bs ws =
-    record { line = 1; name = n.name; reset_line = 1; reset_high = 0; ports = ps; regs = rs; arrays = xs; cells = gs; outputs = os; reg_blocks = bs; array_blocks = ws }
+    record {
+      line = 1;
+      name = n.name;
+      reset_line = 1;
+      reset_high = 0;
+      ports = ps;
+      regs = rs;
+      arrays = xs;
+      cells = gs;
+      outputs = os;
+      reg_blocks = bs;
+      array_blocks = ws;
+    }
 
 same_with : (n : Netlist)
-    {ps qs : List PortDecl} {rs rs' : List RegDecl} {xs xs' : List ArrayDecl} {gs gs' : List CellDecl} {os os' : List OutputDecl} {bs bs' : List RegBlock} {ws ws' : List ArrayBlock}
+    {ps qs : List PortDecl} {rs rs' : List RegDecl} {xs xs' : List ArrayDecl} {gs gs' : List CellDecl}
+    {os os' : List OutputDecl} {bs bs' : List RegBlock} {ws ws' : List ArrayBlock}
     → ps ≡ qs → rs ≡ rs' → xs ≡ xs' → gs ≡ gs' → os ≡ os' → bs ≡ bs' → ws ≡ ws'
     → file_with n ps rs xs gs os bs ws ≡ file_with n qs rs' xs' gs' os' bs' ws'
 same_with n e1 e2 e3 e4 e5 e6 e7 = rw (e1, e2, e3, e4, e5, e6, e7) refl
@@ -184,8 +201,12 @@ same_file n =
     let inputs = input_names n.ports in
     let rs = ap (λ l. declaring.reg_decls l 0 n.regs) (no_more (regs_at n)) ∙ regs_same (regs_at n) 0 n.regs in
     let xs = ap (λ l. arrays.array_decls l n.arrays) (no_more (arrays_at n)) ∙ arrays_same (arrays_at n) 0 n.arrays in
-    let gs = ap (λ l. cells.cell_decls inputs n.arrays (cell_width n) l 0 n.cells) (no_more (cells_at n)) ∙ cells_same inputs n.arrays (cell_width n) (cells_at n) 0 n.cells in
+    let gs =
+    ap (λ l. cells.cell_decls inputs n.arrays (cell_width n) l 0 n.cells) (no_more (cells_at n))
+    ∙ cells_same inputs n.arrays (cell_width n) (cells_at n) 0 n.cells in
     let os = ap (λ l. drives.output_decls inputs l n.ports) (no_more (outputs_at n)) ∙ outputs_same inputs (outputs_at n) 0 n.ports in
     let bs = ap (λ l. drives.block_decls inputs l 0 n.regs) (no_more (blocks_at n)) ∙ blocks_same inputs (blocks_at n) 0 n.regs in
-    let ws = array_blocks_same (lines_of n) inputs (writes_at n) 0 n.arrays (record { blocks = λ i. ap (λ z. (get_or (written_blocks n) z no_block).line) (zero_first i); writes = λ i j. refl }) in
+    let ws =
+    array_blocks_same (lines_of n) inputs (writes_at n) 0 n.arrays
+    (record { blocks = λ i. ap (λ z. (get_or (written_blocks n) z no_block).line) (zero_first i); writes = λ i j. refl }) in
     same_with n (ports_same n.ports) rs xs gs os bs ws

@@ -50,7 +50,8 @@ ports_at k zero i (p ∷ ps) z e l = go p.dir (ports_below i (suc k) ps (omega a
         cond-true (eqb k i) (record { port = k; net = x } ∷ rest) rest (eq-eqb k i s) ∙ (λ q. record { port = s q; net = x } ∷ h q)
 ports_at k (suc j) i (p ∷ ps) z e l = go p.dir (ports_at (suc k) j i ps z (omega arith) (omega arith))
   where
-    go : (d : Dir) → of_port i (output_drives (suc k) ps) ≡ onto_output i (get_or ps j z).dir [] → of_port i (onto_output k d (output_drives (suc k) ps)) ≡ onto_output i (get_or ps j z).dir []
+    go : (d : Dir) → of_port i (output_drives (suc k) ps) ≡ onto_output i (get_or ps j z).dir []
+        → of_port i (onto_output k d (output_drives (suc k) ps)) ≡ onto_output i (get_or ps j z).dir []
     go In h = h
     go (Out x) h =
         let rest = of_port i (output_drives (suc k) ps) in
@@ -67,7 +68,8 @@ pub driver_kept : (i : ℕ) (x : Net) (drives : List OutputDrive) → driver i x
 driver_kept i x [] = refl
 driver_kept i x (o ∷ os) = go (eqb o.port i) refl (λ y. driver_kept i y os)
   where
-    go : (b : Bool) → eqb o.port i ≡ b → ((y : Net) → driver i y os ≡ driver i y (of_port i os)) → driver i (cond b o.net x) os ≡ driver i x (cond b (o ∷ of_port i os) (of_port i os))
+    go : (b : Bool) → eqb o.port i ≡ b → ((y : Net) → driver i y os ≡ driver i y (of_port i os))
+        → driver i (cond b o.net x) os ≡ driver i x (cond b (o ∷ of_port i os) (of_port i os))
     go true e h = h o.net ∙ ap (λ b. driver i (cond b o.net x) (of_port i os)) (sym e)
     go false e h = h x
 
@@ -105,7 +107,8 @@ pub driven_kept : (i : ℕ) (x : Reg) (drives : List RegDrive) → driven i x dr
 driven_kept i x [] = refl
 driven_kept i x (d ∷ ds) = go (eqb d.reg i) refl (λ y. driven_kept i y ds)
   where
-    go : (b : Bool) → eqb d.reg i ≡ b → ((y : Reg) → driven i y ds ≡ driven i y (of_reg i ds)) → driven i (cond b (given x d) x) ds ≡ driven i x (cond b (d ∷ of_reg i ds) (of_reg i ds))
+    go : (b : Bool) → eqb d.reg i ≡ b → ((y : Reg) → driven i y ds ≡ driven i y (of_reg i ds))
+        → driven i (cond b (given x d) x) ds ≡ driven i x (cond b (d ∷ of_reg i ds) (of_reg i ds))
     go true e h = h (given x d) ∙ ap (λ b. driven i (cond b (given x d) x) (of_reg i ds)) (sym e)
     go false e h = h x
 
@@ -121,7 +124,10 @@ writes_below i m (a ∷ xs) l = go a.writes (writes_below i (suc m) xs (omega ar
   where
     go : (ps : List WritePort) → writes i (block_writes (suc m) xs) ≡ [] → writes i (onto_writes m ps (block_writes (suc m) xs)) ≡ []
     go [] h = h
-    go (p ∷ ps) h = cond-false (eqb m i) (map (λ (w : ArrayWrite). w.port) (map (written_to m) (p ∷ ps))) (writes i (block_writes (suc m) xs)) (ne_eqb m i (λ e. omega arith)) ∙ h
+    go (p ∷ ps) h =
+        cond-false (eqb m i) (map (λ (w : ArrayWrite). w.port) (map (written_to m) (p ∷ ps)))
+        (writes i (block_writes (suc m) xs)) (ne_eqb m i (λ e. omega arith))
+        ∙ h
 
 -- the writes of the j-th of these arrays are those of its block
 pub writes_at : (m j i : ℕ) (xs : List Array) (z : Array)
@@ -133,9 +139,14 @@ writes_at m zero i (a ∷ xs) z e l = go a.writes (writes_below i (suc m) xs (om
     go [] h = h
     go (p ∷ ps) h =
         let s : m ≡ i = omega arith in
-        cond-true (eqb m i) (map (λ (w : ArrayWrite). w.port) (map (written_to m) (p ∷ ps))) (writes i (block_writes (suc m) xs)) (eq-eqb m i s) ∙ ports_written m (p ∷ ps)
+        cond-true (eqb m i) (map (λ (w : ArrayWrite). w.port) (map (written_to m) (p ∷ ps))) (writes i (block_writes (suc m) xs)) (eq-eqb m i s)
+        ∙ ports_written m (p ∷ ps)
 writes_at m (suc j) i (a ∷ xs) z e l = go a.writes (writes_at (suc m) j i xs z (omega arith) (omega arith))
   where
-    go : (ps : List WritePort) → writes i (block_writes (suc m) xs) ≡ (get_or xs j z).writes → writes i (onto_writes m ps (block_writes (suc m) xs)) ≡ (get_or xs j z).writes
+    go : (ps : List WritePort) → writes i (block_writes (suc m) xs) ≡ (get_or xs j z).writes
+        → writes i (onto_writes m ps (block_writes (suc m) xs)) ≡ (get_or xs j z).writes
     go [] h = h
-    go (p ∷ ps) h = cond-false (eqb m i) (map (λ (w : ArrayWrite). w.port) (map (written_to m) (p ∷ ps))) (writes i (block_writes (suc m) xs)) (ne_eqb m i (λ q. omega arith)) ∙ h
+    go (p ∷ ps) h =
+        cond-false (eqb m i) (map (λ (w : ArrayWrite). w.port) (map (written_to m) (p ∷ ps)))
+        (writes i (block_writes (suc m) xs)) (ne_eqb m i (λ q. omega arith))
+        ∙ h

@@ -39,7 +39,9 @@ input_apart : (ps : List Port) (x : List ℕ) (i : ℕ) → All (λ a. x ≢ a) 
 input_apart [] x i h l = absurd (omega arith)
 input_apart (p ∷ ps) x i h l = go (λ j m. input_apart ps x j (λ k d o. h (suc k) d (omega arith)) m) p.dir i l
   where
-    go : ((j : ℕ) → j < count ps → x ≢ name_at ps j) → (d : Dir) (i : ℕ) → i < length (cons_option (input_with d p.width) (filter_map port_input ps)) → x ≢ get_or (input_name d p.name ++ input_names ps) i []
+    go : ((j : ℕ) → j < count ps → x ≢ name_at ps j) → (d : Dir) (i : ℕ)
+        → i < length (cons_option (input_with d p.width) (filter_map port_input ps))
+        → x ≢ get_or (input_name d p.name ++ input_names ps) i []
     go more In zero m = h 0 [] (omega arith)
     go more In (suc j) m = more j (omega arith)
     go more (Out y) j m = more j m
@@ -58,16 +60,22 @@ pub input_placed : (line : ℕ) (ps : List Port) (i j k : ℕ) → AllPairs (λ 
     → net_at (port_nets j (decls line ps)) (place (names ps) (name_at ps i)) ≡ Some (Input k)
 input_placed line [] i j k h l e = absurd (omega arith)
 input_placed line (p ∷ ps) i j k h l e =
-    go (λ m o b q. input_placed line ps m o k (λ s t d u v. h (suc s) (suc t) d (omega arith) (omega arith)) b q) (λ t d u. h 0 (suc t) d (omega arith) (omega arith)) p.dir i l e
+    go (λ m o b q. input_placed line ps m o k (λ s t d u v. h (suc s) (suc t) d (omega arith) (omega arith)) b q)
+    (λ t d u. h 0 (suc t) d (omega arith) (omega arith)) p.dir i l e
   where
-    go : ((m o : ℕ) → m < count ps → o + m ≡ k → net_at (port_nets o (decls line ps)) (place (names ps) (name_at ps m)) ≡ Some (Input k)) → All (λ a. p.name ≢ a) (names ps) → (d : Dir) (i : ℕ) → i < length (cons_option (input_with d p.width) (filter_map port_input ps)) → j + i ≡ k
-        → net_at (cond (is_input d) (Some (Input j) ∷ port_nets (suc j) (decls line ps)) (None ∷ port_nets j (decls line ps))) (place (p.name ∷ names ps) (get_or (input_name d p.name ++ input_names ps) i [])) ≡ Some (Input k)
+    go : ((m o : ℕ) → m < count ps → o + m ≡ k → net_at (port_nets o (decls line ps)) (place (names ps) (name_at ps m)) ≡ Some (Input k))
+        → All (λ a. p.name ≢ a) (names ps) → (d : Dir) (i : ℕ)
+        → i < length (cons_option (input_with d p.width) (filter_map port_input ps)) → j + i ≡ k
+        → net_at (cond (is_input d) (Some (Input j) ∷ port_nets (suc j) (decls line ps)) (None ∷ port_nets j (decls line ps)))
+        (place (p.name ∷ names ps) (get_or (input_name d p.name ++ input_names ps) i []))
+        ≡ Some (Input k)
     go more apart In zero b q =
         let same : j ≡ k = omega arith in
         ap (net_at (Some (Input j) ∷ port_nets (suc j) (decls line ps))) (place_first p.name (names ps) p.name refl) ∙ ap (λ z. Some (Input z)) same
     go more apart In (suc m) b q =
         let l : m < count ps = omega arith in
-        past_first (Some (Input j)) (port_nets (suc j) (decls line ps)) p.name (names ps) (name_at ps m) (λ z. input_apart ps p.name m apart l (sym z)) ∙ more m (suc j) l (omega arith)
+        past_first (Some (Input j)) (port_nets (suc j) (decls line ps)) p.name (names ps) (name_at ps m) (λ z. input_apart ps p.name m apart l (sym z))
+        ∙ more m (suc j) l (omega arith)
     go more apart (Out y) m b q =
         past_first None (port_nets j (decls line ps)) p.name (names ps) (name_at ps m) (λ z. input_apart ps p.name m apart b (sym z)) ∙ more m j b q
 
@@ -93,17 +101,21 @@ pipe_marked s d l =
     let hc : Each IsMarked c = each_flat IsMarked commit_ports (λ m. ((λ e. untrue e), ((λ e. untrue e), ((λ e. untrue e), tt)))) l in
     let hr : Each IsMarked r = each_flat IsMarked request_ports (λ m. ((λ e. untrue e), ((λ e. untrue e), tt))) d in
     let hl : Each IsMarked last = ((λ e. untrue e), ((λ e. untrue e), tt)) in
-    each_append IsMarked (((a ++ b) ++ c) ++ r) last (each_append IsMarked ((a ++ b) ++ c) r (each_append IsMarked (a ++ b) c (each_append IsMarked a b ha hb) hc) hr) hl
+    each_append IsMarked (((a ++ b) ++ c) ++ r) last
+    (each_append IsMarked ((a ++ b) ++ c) r (each_append IsMarked (a ++ b) c (each_append IsMarked a b ha hb) hc) hr) hl
 
 input_marked : (ps : List Port) (i : ℕ) → Each (λ p. IsMarked (head_of p)) ps → i < count ps → Begins 112 (name_at ps i)
 input_marked [] i h l = absurd (omega arith)
 input_marked (p ∷ ps) i h l = go (λ j m. input_marked ps j h.1 m) p.dir h.0 i l
   where
-    go : ((j : ℕ) → j < count ps → Begins 112 (name_at ps j)) → (d : Dir) → (is_input d ≡ true → Begins 112 p.name) → (i : ℕ) → i < length (cons_option (input_with d p.width) (filter_map port_input ps)) → Begins 112 (get_or (input_name d p.name ++ input_names ps) i [])
+    go : ((j : ℕ) → j < count ps → Begins 112 (name_at ps j)) → (d : Dir) → (is_input d ≡ true → Begins 112 p.name)
+        → (i : ℕ) → i < length (cons_option (input_with d p.width) (filter_map port_input ps))
+        → Begins 112 (get_or (input_name d p.name ++ input_names ps) i [])
     go more In k zero m = k refl
     go more In k (suc j) m = more j (omega arith)
     go more (Out y) k j m = more j m
 
 -- the inputs of a pipe have names that begin with `p`
 pub input_begins : (n : Netlist) → IsPipe n → (i : ℕ) → i < count n.ports → Begins 112 (name_at n.ports i)
-input_begins n h i l = input_marked n.ports i (each_unmapped IsMarked head_of n.ports (subst (Each IsMarked) (sym h.ports) (pipe_marked h.stages h.delayed h.locked))) l
+input_begins n h i l =
+    input_marked n.ports i (each_unmapped IsMarked head_of n.ports (subst (Each IsMarked) (sym h.ports) (pipe_marked h.stages h.delayed h.locked))) l

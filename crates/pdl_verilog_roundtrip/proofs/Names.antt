@@ -35,7 +35,8 @@ apart_new name xs d i h l =
     let m = length-take i xs in
     let o = length-map xs name in
     let b : j < i = omega arith in
-    let e : get_or (map name (take i xs)) j z ≡ get_or (map name xs) j z = ap (λ ys. get_or ys j z) (sym (take-map name i xs)) ∙ get_or-take i (map name xs) j z b in
+    let e : get_or (map name (take i xs)) j z ≡ get_or (map name xs) j z =
+    ap (λ ys. get_or ys j z) (sym (take-map name i xs)) ∙ get_or-take i (map name xs) j z b in
     λ q. h j i z b (omega arith) (sym e ∙ (q ∙ sym (get_or-map name xs i d z l)))))
 
 -- ---- names by number
@@ -62,7 +63,8 @@ numbered_apart f m apart k n h = λ i j d l o q.
 -- the names of declared registers, of which there are at most 2^64, are apart
 pub regs_apart : (at : ℕ → ℕ) (xs : List Reg)
     → length xs ≤ 2 ^ 64 → AllPairs (λ a b. a ≢ b) (map (λ (d : RegDecl). d.name) (reg_decls at 0 xs))
-regs_apart at xs h = subst (AllPairs (λ (a b : List ℕ). a ≢ b)) (sym (reg_names at 0 xs)) (numbered_apart reg_name (2 ^ 64) reg_names_apart 0 (length xs) (omega arith))
+regs_apart at xs h =
+    subst (AllPairs (λ (a b : List ℕ). a ≢ b)) (sym (reg_names at 0 xs)) (numbered_apart reg_name (2 ^ 64) reg_names_apart 0 (length xs) (omega arith))
 
 cell_names : (at : ℕ → ℕ) (inputs : List (List ℕ)) (arrays : List Array) (width : ℕ → ℕ) (k : ℕ) (gs : List Cell)
     → map (λ (d : CellDecl). d.name) (cell_decls at inputs arrays width k gs) ≡ numbered cell_name k (length gs)
@@ -73,7 +75,9 @@ cell_names at inputs arrays width k (g ∷ gs) = ap (λ z. cell_name k ∷ z) (c
 pub cells_apart : (at : ℕ → ℕ) (inputs : List (List ℕ)) (arrays : List Array) (width : ℕ → ℕ) (gs : List Cell)
     → length gs ≤ 2 ^ 64
     → AllPairs (λ a b. a ≢ b) (map (λ (d : CellDecl). d.name) (cell_decls at inputs arrays width 0 gs))
-cells_apart at inputs arrays width gs h = subst (AllPairs (λ (a b : List ℕ). a ≢ b)) (sym (cell_names at inputs arrays width 0 gs)) (numbered_apart cell_name (2 ^ 64) cell_names_apart 0 (length gs) (omega arith))
+cells_apart at inputs arrays width gs h =
+    subst (AllPairs (λ (a b : List ℕ). a ≢ b)) (sym (cell_names at inputs arrays width 0 gs))
+    (numbered_apart cell_name (2 ^ 64) cell_names_apart 0 (length gs) (omega arith))
 
 -- ---- ports and arrays
 
@@ -92,7 +96,9 @@ prefixed_apart prefix ns h = λ i j d l m q.
     let n = length-map ns (after_prefix prefix) in
     let b : j < length ns = omega arith in
     let a : i < length ns = omega arith in
-    h i j d l b (append_cancel_left prefix (get_or ns i d) (get_or ns j d) (sym (get_or-map (after_prefix prefix) ns i d d a) ∙ (q ∙ get_or-map (after_prefix prefix) ns j d d b)))
+    h i j d l b
+    (append_cancel_left prefix (get_or ns i d) (get_or ns j d)
+    (sym (get_or-map (after_prefix prefix) ns i d d a) ∙ (q ∙ get_or-map (after_prefix prefix) ns j d d b)))
 
 array_names : (at : ℕ → ℕ) (m : ℕ) (xs : List Array)
     → map (λ (d : ArrayDecl). d.name) (array_decls at m xs) ≡ map (after_prefix (codes "a_")) (map (λ (a : Array). a.name) xs)

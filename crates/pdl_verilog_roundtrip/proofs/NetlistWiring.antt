@@ -68,7 +68,8 @@ module _ (lines : Lines) (n : Netlist) (h : IsWellFormed n) (few : IsCounted n) 
   cell_read k l (made.Const w v) t = ap (λ z. Some (made.Const z v)) (small_same w t.1)
   cell_read k l (made.Not a) t = one_found made.Not (net_of f k (net inputs a)) a (net_named lines n h few k l a t)
   cell_read k l (made.Bin op a b) t =
-      two_found (made.Bin op) (net_of f k (net inputs a)) (net_of f k (net inputs b)) a b (net_named lines n h few k l a t.0) (net_named lines n h few k l b t.1)
+      two_found (made.Bin op) (net_of f k (net inputs a))
+      (net_of f k (net inputs b)) a b (net_named lines n h few k l a t.0) (net_named lines n h few k l b t.1)
   cell_read k l (made.Mux x a b) t =
       three_found made.Mux (net_of f k (net inputs x)) (net_of f k (net inputs a)) (net_of f k (net inputs b)) x a b
       (net_named lines n h few k l x t.0) (net_named lines n h few k l a t.1) (net_named lines n h few k l b t.2)
@@ -82,9 +83,11 @@ module _ (lines : Lines) (n : Netlist) (h : IsWellFormed n) (few : IsCounted n) 
       two_found made.Cat (net_of f k (net inputs a)) (net_of f k (net inputs b)) a b (net_named lines n h few k l a t.0) (net_named lines n h few k l b t.1)
   cell_read k l (made.Rep m a) t =
       let w = net_wide c h.well a (there_within c k a l t.0) in
-      one_found (made.Rep (small m)) (net_of f k (net inputs a)) a (net_named lines n h few k l a t.0) ∙ ap (λ z. Some (made.Rep z a)) (small_same m (few_times m (signal c a).width w.low t.2))
+      one_found (made.Rep (small m)) (net_of f k (net inputs a)) a (net_named lines n h few k l a t.0)
+      ∙ ap (λ z. Some (made.Rep z a)) (small_same m (few_times m (signal c a).width w.low t.2))
   cell_read k l (made.Read m a) t =
-      two_found made.Read (array_place f (array n.arrays m)) (net_of f k (net inputs a)) m a (array_found lines n h few m t.0) (net_named lines n h few k l a t.1)
+      two_found made.Read (array_place f (array n.arrays m))
+      (net_of f k (net inputs a)) m a (array_found lines n h few m t.0) (net_named lines n h few k l a t.1)
 
   cell_at_read : (i j : ℕ) → 0 + i ≡ j → i < length n.cells → cell_of f j (term inputs n.arrays (get_or n.cells i no_cell)) ≡ Some (get_or n.cells i no_cell)
   cell_at_read i j e l =
@@ -106,8 +109,10 @@ module _ (lines : Lines) (n : Netlist) (h : IsWellFormed n) (few : IsCounted n) 
       let m = length-map n.ports name in
       let b : j < length ns = omega arith in
       let own : get_or ns j [] ≡ p.name = get_mapped name n.ports j [] p l ∙ ap name (get_or_from_slice_get n.ports j p p e) in
-      let at : port_place f p.name ≡ Some j = ap (λ z. place z p.name) (port_names lines.ports n.ports) ∙ (ap (place ns) (sym own) ∙ place_at ns j [] h.port_names b) in
-      let decl : slice_get f.ports j ≡ Some (port_decl lines.ports p) = slice_get-map (port_decl lines.ports) n.ports j ∙ ap (option_map (port_decl lines.ports)) e in
+      let at : port_place f p.name ≡ Some j =
+      ap (λ z. place z p.name) (port_names lines.ports n.ports) ∙ (ap (place ns) (sym own) ∙ place_at ns j [] h.port_names b) in
+      let decl : slice_get f.ports j ≡ Some (port_decl lines.ports p) =
+      slice_get-map (port_decl lines.ports) n.ports j ∙ ap (option_map (port_decl lines.ports)) e in
       ap (output_at f.ports) at ∙ (ap (λ o. output_port o j) decl ∙ ap (λ t. cond t None (Some j)) out)
 
   output_read : (j o : ℕ) (p : Port) → 0 + j ≡ o → slice_get n.ports j ≡ Some p → IsOutput f (length n.cells) inputs o p.name p.dir
@@ -153,6 +158,8 @@ wired lines n h few =
     let file = declared lines n in
     let names = input_names n.ports in
     let all = length n.cells in
-    wired_so file file all n.cells (output_drives 0 n.ports) (reg_drives 0 n.regs) (block_writes 0 n.arrays) refl (sym (length_cells lines.cells names n.arrays (cell_width n) 0 n.cells))
-    (cells_found file lines.cells names n.arrays (cell_width n) 0 n.cells (cell_at_read lines n h few)) (outputs_found file all names lines.outputs 0 0 n.ports (output_read lines n h few))
+    wired_so file file all n.cells (output_drives 0 n.ports) (reg_drives 0 n.regs)
+    (block_writes 0 n.arrays) refl (sym (length_cells lines.cells names n.arrays (cell_width n) 0 n.cells))
+    (cells_found file lines.cells names n.arrays (cell_width n) 0 n.cells (cell_at_read lines n h few))
+    (outputs_found file all names lines.outputs 0 0 n.ports (output_read lines n h few))
     (regs_found file all names lines.blocks 0 n.regs (register_read lines n h few)) (blocks_found file all names lines 0 0 n.arrays (array_read lines n h few))

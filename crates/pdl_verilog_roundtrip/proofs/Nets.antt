@@ -67,7 +67,8 @@ module _ (lines : Lines) (n : Netlist) (h : IsWellFormed n) (few : IsCounted n) 
   cell_found : (k j : ℕ) → k ≤ length n.cells → j < k → cell_place f k (cell_name j) ≡ Some j
   cell_found k j l m =
       let b : 0 + k ≤ 2 ^ 64 = omega (arith, few.cells) in
-      ap (λ z. place z (cell_name j)) (cell_names lines.cells inputs n.arrays (cell_width n) 0 n.cells k l) ∙ place_numbered cell_name (2 ^ 64) cells_apart 0 k j j b m (omega arith)
+      ap (λ z. place z (cell_name j)) (cell_names lines.cells inputs n.arrays (cell_width n) 0 n.cells k l)
+      ∙ place_numbered cell_name (2 ^ 64) cells_apart 0 k j j b m (omega arith)
 
   no_cell : (k b : ℕ) (x : List ℕ) → k ≤ length n.cells → Begins b x → 110 ≢ b → cell_place f k x ≡ None
   no_cell k b x l i ne =

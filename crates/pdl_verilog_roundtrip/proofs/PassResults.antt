@@ -80,7 +80,9 @@ module _ (f : File) (k : ℕ) (inputs : List (List ℕ)) where
   IsOutput m name In = Unit {0}
   IsOutput m name (Out x) = (output_of f name ≡ Some m) × IsNet x
 
-  pub outputs_found : (at : ℕ → ℕ) (i m : ℕ) (ps : List Port) → ((j o : ℕ) (p : Port) → m + j ≡ o → slice_get ps j ≡ Some p → IsOutput o p.name p.dir) → all_outputs f k (output_decls at inputs i ps) ≡ Ok (output_drives m ps)
+  pub outputs_found : (at : ℕ → ℕ) (i m : ℕ) (ps : List Port)
+      → ((j o : ℕ) (p : Port) → m + j ≡ o → slice_get ps j ≡ Some p → IsOutput o p.name p.dir)
+      → all_outputs f k (output_decls at inputs i ps) ≡ Ok (output_drives m ps)
   outputs_found at i m [] h = refl
   outputs_found at i m (p ∷ ps) h = go p.dir (h 0 m p (omega arith) refl) (λ b. outputs_found at b (suc m) ps (λ j o q e l. h (suc j) o q (omega arith) l))
     where
@@ -103,14 +105,17 @@ module _ (f : File) (k : ℕ) (inputs : List (List ℕ)) where
     pub width : x.width ≤ 64
     pub next : IsNet x.next
 
-  pub regs_found : (at : ℕ → ℕ) (r : ℕ) (xs : List Reg) → ((i j : ℕ) (x : Reg) → r + i ≡ j → slice_get xs i ≡ Some x → IsRegister j x) → all_regs f k (reg_blocks at inputs r xs) ≡ Ok (reg_drives r xs)
+  pub regs_found : (at : ℕ → ℕ) (r : ℕ) (xs : List Reg)
+      → ((i j : ℕ) (x : Reg) → r + i ≡ j → slice_get xs i ≡ Some x → IsRegister j x)
+      → all_regs f k (reg_blocks at inputs r xs) ≡ Ok (reg_drives r xs)
   regs_found at r [] h = refl
   regs_found at r (x ∷ xs) h =
       let own = h 0 r x (omega arith) refl in
       let more = regs_found at (suc r) xs (λ i j y e l. h (suc i) j y (omega arith) l) in
       let make = reg_drive (small x.width) x.reset in
       let found = two_found make (reg_place f (reg_name r)) (net_of f k (net inputs x.next)) r x.next own.name own.next in
-      line_more (with_two make (reg_place f (reg_name r)) (net_of f k (net inputs x.next))) (at r) (all_regs f k (reg_blocks at inputs (suc r) xs)) (reg_drive x.width x.reset r x.next) (reg_drives (suc r) xs)
+      line_more (with_two make (reg_place f (reg_name r)) (net_of f k (net inputs x.next))) (at r)
+      (all_regs f k (reg_blocks at inputs (suc r) xs)) (reg_drive x.width x.reset r x.next) (reg_drives (suc r) xs)
       (found ∙ ap (λ w. Some (reg_drive w x.reset r x.next)) (small_same x.width own.width)) more
 
   -- ---- arrays
@@ -124,28 +129,37 @@ module _ (f : File) (k : ℕ) (inputs : List (List ℕ)) where
     pub addr : IsNet p.addr
     pub value : IsNet p.value
 
-  writes_found : (at : ℕ → ℕ) (name : List ℕ) (m j : ℕ) (ps : List WritePort) → array_place f name ≡ Some m → ((i : ℕ) (p : WritePort) → slice_get ps i ≡ Some p → IsWrite p) → writes_of f k (write_decls at inputs name j ps) ≡ Ok (map (written_to m) ps)
+  writes_found : (at : ℕ → ℕ) (name : List ℕ) (m j : ℕ) (ps : List WritePort) → array_place f name ≡ Some m
+      → ((i : ℕ) (p : WritePort) → slice_get ps i ≡ Some p → IsWrite p)
+      → writes_of f k (write_decls at inputs name j ps) ≡ Ok (map (written_to m) ps)
   writes_found at name m j [] e h = refl
   writes_found at name m j (p ∷ ps) e h =
       let own = h 0 p refl in
       let more = writes_found at name m (suc j) ps e (λ i q l. h (suc i) q l) in
       let d : WriteDecl = record { line = at j; enable = net inputs p.enable; array = name; addr = net inputs p.addr; value = net inputs p.value } in
       line_more (wired_array f k d (array_place f name)) (at j) (writes_of f k (write_decls at inputs name (suc j) ps)) (written_to m p) (map (written_to m) ps)
-      (ap (wired_array f k d) e ∙ three_found (array_write m) (net_of f k d.enable) (net_of f k d.addr) (net_of f k d.value) p.enable p.addr p.value own.enable own.addr own.value) more
+      (ap (wired_array f k d) e
+      ∙ three_found (array_write m) (net_of f k d.enable) (net_of f k d.addr)
+      (net_of f k d.value) p.enable p.addr p.value own.enable own.addr own.value) more
 
   -- the name of an array stands for it, and those of what is written for these nets
   pub record IsArray (m : ℕ) (a : Array) : Type 0 where
     pub name : array_place f (array_name a) ≡ Some m
     pub writes : (i : ℕ) (p : WritePort) → slice_get a.writes i ≡ Some p → IsWrite p
 
-  pub blocks_found : (lines : Lines) (b m : ℕ) (xs : List Array) → ((i j : ℕ) (a : Array) → m + i ≡ j → slice_get xs i ≡ Some a → IsArray j a) → blocks_of f k (array_blocks lines inputs b xs) ≡ Ok (block_writes m xs)
+  pub blocks_found : (lines : Lines) (b m : ℕ) (xs : List Array)
+      → ((i j : ℕ) (a : Array) → m + i ≡ j → slice_get xs i ≡ Some a → IsArray j a)
+      → blocks_of f k (array_blocks lines inputs b xs) ≡ Ok (block_writes m xs)
   blocks_found lines b m [] h = refl
   blocks_found lines b m (a ∷ rest) h =
       let own = h 0 m a (omega arith) refl in
       go own.name a.writes own.writes (λ c. blocks_found lines c (suc m) rest (λ i j x e l. h (suc i) j x (omega arith) l))
     where
-      go : array_place f (array_name a) ≡ Some m → (ps : List WritePort) → ((i : ℕ) (p : WritePort) → slice_get ps i ≡ Some p → IsWrite p) → ((c : ℕ) → blocks_of f k (array_blocks lines inputs c rest) ≡ Ok (block_writes (suc m) rest))
-          → blocks_of f k (text.onto_block lines inputs b (array_name a) ps (λ j. array_blocks lines inputs j rest)) ≡ Ok (onto_writes m ps (block_writes (suc m) rest))
+      go : array_place f (array_name a) ≡ Some m → (ps : List WritePort)
+          → ((i : ℕ) (p : WritePort) → slice_get ps i ≡ Some p → IsWrite p)
+          → ((c : ℕ) → blocks_of f k (array_blocks lines inputs c rest) ≡ Ok (block_writes (suc m) rest))
+          → blocks_of f k (text.onto_block lines inputs b (array_name a) ps (λ j. array_blocks lines inputs j rest))
+          ≡ Ok (onto_writes m ps (block_writes (suc m) rest))
       go e [] w more = more b
       go e (p ∷ ps) w more =
           ap (λ z. onto_block z (blocks_of f k (array_blocks lines inputs (suc b) rest))) (writes_found (lines.writes b) (array_name a) m 0 (p ∷ ps) e w)

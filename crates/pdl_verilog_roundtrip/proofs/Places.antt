@@ -36,7 +36,8 @@ place_mapped g back [] x = refl
 place_mapped g back (y ∷ ys) x =
     ap (λ o. cond (bytes_eq (g x) (g y)) (Some 0) (shifted o)) (place_mapped g back ys x)
     ∙ ap (λ b. cond b (Some 0) (shifted (place ys x)))
-    (same_bools (bytes_eq (g x) (g y)) (bytes_eq x y) (λ e. same_bytes x y (back x y (bytes_same (g x) (g y) e))) (λ e. same_bytes (g x) (g y) (ap g (bytes_same x y e))))
+    (same_bools (bytes_eq (g x) (g y)) (bytes_eq x y) (λ e. same_bytes x y (back x y (bytes_same (g x) (g y) e)))
+    (λ e. same_bytes (g x) (g y) (ap g (bytes_same x y e))))
 
 -- ---- kinds of names
 

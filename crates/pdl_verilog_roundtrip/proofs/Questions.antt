@@ -23,7 +23,8 @@ turns_right ask before [] d h = refl
 turns_right ask before (x ∷ xs) d h =
     right_then (ask before x).right (first_wrong (in_turn ask (before ++ x ∷ []) xs)) (ask before x).line
     (ap (λ z. (ask z x).right) (sym (append-nil before)) ∙ h 0 (omega arith))
-    (turns_right ask (before ++ x ∷ []) xs d (λ i l. ap (λ z. (ask z (get_or xs i d)).right) (append_assoc before (x ∷ []) (take i xs)) ∙ h (suc i) (omega arith)))
+    (turns_right ask (before ++ x ∷ []) xs d
+    (λ i l. ap (λ z. (ask z (get_or xs i d)).right) (append_assoc before (x ∷ []) (take i xs)) ∙ h (suc i) (omega arith)))
 
 -- ---- each element
 

@@ -84,7 +84,10 @@ unfolding built
 again lines n h =
     let c = circuit_of n in
     let w = h.well in
-    let ps = ports_back lines.ports 0 (output_drives 0 n.ports) n.ports (port_wide c n.ports (well_ports c w)) (λ j i e l. ports_at 0 j i n.ports no_port e l) in
+    let ps =
+    ports_back lines.ports 0 (output_drives 0 n.ports) n.ports (port_wide c n.ports (well_ports c w)) (λ j i e l. ports_at 0 j i n.ports no_port e l) in
     let rs = regs_back lines.regs 0 (reg_drives 0 n.regs) n.regs (reg_wide c n.regs (well_regs c w)) (λ j i e l. regs_at 0 j i n.regs no_reg e l) in
-    let qs = arrays_back lines.arrays 0 (block_writes 0 n.arrays) n.arrays (all_sized c n.arrays (well_arrays c w)) (λ j i e l. writes_at 0 j i n.arrays no_array e l) in
+    let qs =
+    arrays_back lines.arrays 0 (block_writes 0 n.arrays) n.arrays (all_sized c n.arrays (well_arrays c w))
+    (λ j i e l. writes_at 0 j i n.arrays no_array e l) in
     λ q. record { name = n.name; ports = ps q; regs = rs q; arrays = qs q; cells = n.cells; mems = n.mems }

@@ -70,11 +70,14 @@ depth_right d h =
 
 ports_right : (line : ℕ) (ps : List Port) → Each (λ p. IsWidth p.width) ps → first_wrong (map asked_port (map (port_decl line) ps)) ≡ None
 ports_right line [] h = refl
-ports_right line (p ∷ ps) h = right_then (is_width (bits (p.width - 1))) (first_wrong (map asked_port (map (port_decl line) ps))) line (range_right p.width h.0) (ports_right line ps h.1)
+ports_right line (p ∷ ps) h =
+    right_then (is_width (bits (p.width - 1))) (first_wrong (map asked_port (map (port_decl line) ps))) line (range_right p.width h.0) (ports_right line ps h.1)
 
 regs_right : (at : ℕ → ℕ) (r : ℕ) (xs : List Reg) → Each (λ x. IsWidth x.width) xs → first_wrong (map asked_reg (reg_decls at r xs)) ≡ None
 regs_right at r [] h = refl
-regs_right at r (x ∷ xs) h = right_then (is_width (bits (x.width - 1))) (first_wrong (map asked_reg (reg_decls at (suc r) xs))) (at r) (range_right x.width h.0) (regs_right at (suc r) xs h.1)
+regs_right at r (x ∷ xs) h =
+    right_then (is_width (bits (x.width - 1))) (first_wrong (map asked_reg (reg_decls at (suc r) xs))) (at r)
+    (range_right x.width h.0) (regs_right at (suc r) xs h.1)
 
 -- a last address of so many words is right
 last_right : (d : ℕ) → IsDepth d → is_depth (d - 1 + 1) ≡ true
@@ -104,7 +107,8 @@ module _ (c : Circuit) (t : Widths) (tb : IsTable c t) where
   -- ---- cells
 
   -- a cell that fits is right at the width of its signal
-  cell_right : (There : Net → Type 0) → ((x : Net) → There x → IsThere c x) → (g : Cell) (w : ℕ) → FitsIn c There (signal c) g → (cell_signal c (signal c) g).width ≡ w → fits_cell t g w ≡ true
+  cell_right : (There : Net → Type 0) → ((x : Net) → There x → IsThere c x) → (g : Cell) (w : ℕ)
+      → FitsIn c There (signal c) g → (cell_signal c (signal c) g).width ≡ w → fits_cell t g w ≡ true
   cell_right There is_there (Const own v) w f e = and_from (eqb own w) (fits v own) (eq-eqb own w e) (fits_right v own (record { low = f.0; high = f.1 }) f.2)
   cell_right There is_there (Not a) w f e = has_bits a w (is_there a f) e
   cell_right There is_there (Bin op a b) w f e =
@@ -112,7 +116,8 @@ module _ (c : Circuit) (t : Widths) (tb : IsTable c t) where
       (eq-eqb (bin_width op (table_width a)) w (ap (bin_width op) (net_is c t tb a (is_there a f.0)) ∙ e))
   cell_right There is_there (Mux x a b) w f e =
       and_from (eqb (table_width x) 1) (eqb (table_width a) (table_width b) && eqb (table_width a) w) (has_bits x 1 (is_there x f.0) f.3)
-      (and_from (eqb (table_width a) (table_width b)) (eqb (table_width a) w) (same_widths a b (is_there a f.1) (is_there b f.2) f.4) (has_bits a w (is_there a f.1) e))
+      (and_from (eqb (table_width a) (table_width b)) (eqb (table_width a) w)
+      (same_widths a b (is_there a f.1) (is_there b f.2) f.4) (has_bits a w (is_there a f.1) e))
   cell_right There is_there (Slice a high low) w f e =
       let i : low ≤ high = f.1 in
       let j : high < (signal c a).width = f.2 in
@@ -122,8 +127,11 @@ module _ (c : Circuit) (t : Widths) (tb : IsTable c t) where
       let r : high - low + 1 ≡ w = omega arith in
       and_from (leb low high) (ltb high (table_width a) && eqb (high - low + 1) w) (le-leb low high i)
       (and_from (ltb high (table_width a)) (eqb (high - low + 1) w) (lt-ltb high (table_width a) k) (eq-eqb (high - low + 1) w r))
-  cell_right There is_there (Cat a b) w f e = eq-eqb (table_width a + table_width b) w (ap (λ z. z + table_width b) (net_is c t tb a (is_there a f.0)) ∙ (ap (λ z. (signal c a).width + z) (net_is c t tb b (is_there b f.1)) ∙ e))
-  cell_right There is_there (Rep k a) w f e = and_from (leb 1 k) (eqb (k * table_width a) w) (le-leb 1 k f.1) (eq-eqb (k * table_width a) w (ap (λ z. k * z) (net_is c t tb a (is_there a f.0)) ∙ e))
+  cell_right There is_there (Cat a b) w f e =
+      eq-eqb (table_width a + table_width b) w
+      (ap (λ z. z + table_width b) (net_is c t tb a (is_there a f.0)) ∙ (ap (λ z. (signal c a).width + z) (net_is c t tb b (is_there b f.1)) ∙ e))
+  cell_right There is_there (Rep k a) w f e =
+      and_from (leb 1 k) (eqb (k * table_width a) w) (le-leb 1 k f.1) (eq-eqb (k * table_width a) w (ap (λ z. k * z) (net_is c t tb a (is_there a f.0)) ∙ e))
   cell_right There is_there (Read m a) w f e =
       and_from (eqb (2 ^ table_width a) (get_or t.depths m 0)) (eqb (get_or t.words m 0) w)
       (eq-eqb (2 ^ table_width a) (get_or t.depths m 0) (ap (λ z. 2 ^ z) (net_is c t tb a (is_there a f.1)) ∙ (f.2 ∙ sym (depth_is c t tb m f.0))))
@@ -136,49 +144,66 @@ module _ (c : Circuit) (t : Widths) (tb : IsTable c t) where
   decl_right : (w : ℕ) (g : Cell) → IsRight w g → (is_width (bits (w - 1)) && fits_cell t g (bits (w - 1))) ≡ true
   decl_right w g h = ap (λ z. is_width z && fits_cell t g z) (bits_back w h.0) ∙ and_from (is_width w) (fits_cell t g w) (width_right w h.0) h.1
 
-  cells_right : (at : ℕ → ℕ) (inputs : List (List ℕ)) (arrays : List Array) (width : ℕ → ℕ) (k : ℕ) (gs : List Cell) → ((j i : ℕ) → k + j ≡ i → j < length gs → IsRight (width i) (get_or gs j no_cell))
+  cells_right : (at : ℕ → ℕ) (inputs : List (List ℕ)) (arrays : List Array) (width : ℕ → ℕ) (k : ℕ) (gs : List Cell)
+      → ((j i : ℕ) → k + j ≡ i → j < length gs → IsRight (width i) (get_or gs j no_cell))
       → first_wrong (both (asked_cell t) (cell_decls at inputs arrays width k gs) gs) ≡ None
   cells_right at inputs arrays width k [] h = refl
   cells_right at inputs arrays width k (g ∷ gs) h =
-      right_then (is_width (bits (width k - 1)) && fits_cell t g (bits (width k - 1))) (first_wrong (both (asked_cell t) (cell_decls at inputs arrays width (suc k) gs) gs)) (at k)
+      right_then (is_width (bits (width k - 1)) && fits_cell t g (bits (width k - 1)))
+      (first_wrong (both (asked_cell t) (cell_decls at inputs arrays width (suc k) gs) gs)) (at k)
       (decl_right (width k) g (h 0 k (omega arith) (omega arith)))
       (cells_right at inputs arrays width (suc k) gs (λ j i e l. h (suc j) i (omega arith) (omega arith)))
 
   -- each cell is right at its width
   each_cell : CellsWell c → (k : ℕ) → k < length c.cells → IsRight (signal c (CellNet k)).width (cell_at c k)
   each_cell w k l =
-      let n : k ≤ length c.cells = omega arith in
-      (w.widths k l, cell_right (IsThereAt c k) (λ x h. there_within c k x n h) (cell_at c k) (signal c (CellNet k)).width (fits_now c w k (cell_at c k) l refl) (sym (width_is c w k l)))
+      let n : k ≤ length c.cells = omega arith in (
+        w.widths k l,
+        cell_right (IsThereAt c k) (λ x h. there_within c k x n h) (cell_at c k)
+            (signal c (CellNet k)).width (fits_now c w k (cell_at c k) l refl) (sym (width_is c w k l)),
+      )
 
   -- ---- outputs
 
-  outputs_right : (at : ℕ → ℕ) (inputs : List (List ℕ)) (i k : ℕ) (ps : List Port) → GoesOn t.ports k (map (λ p. p.width) ps) → Each (IsWellPort c) ps → first_wrong (both (asked_output t) (output_decls at inputs i ps) (output_drives k ps)) ≡ None
+  outputs_right : (at : ℕ → ℕ) (inputs : List (List ℕ)) (i k : ℕ) (ps : List Port)
+      → GoesOn t.ports k (map (λ p. p.width) ps) → Each (IsWellPort c) ps
+      → first_wrong (both (asked_output t) (output_decls at inputs i ps) (output_drives k ps)) ≡ None
   outputs_right at inputs i k [] h w = refl
-  outputs_right at inputs i k (p ∷ ps) h w = go (λ m. outputs_right at inputs m (suc k) ps (goes_on_later t.ports k p.width (map (λ p. p.width) ps) h) w.1) p.dir w.0.driven
+  outputs_right at inputs i k (p ∷ ps) h w =
+      go (λ m. outputs_right at inputs m (suc k) ps (goes_on_later t.ports k p.width (map (λ p. p.width) ps) h) w.1) p.dir w.0.driven
     where
       go : ((m : ℕ) → first_wrong (both (asked_output t) (output_decls at inputs m ps) (output_drives (suc k) ps)) ≡ None) → (d : Dir) → IsDriven c p.width d
-          → first_wrong (both (asked_output t) (onto_drive at inputs i p.name d (λ j. output_decls at inputs j ps)) (onto_output k d (output_drives (suc k) ps))) ≡ None
+          → first_wrong
+          (both (asked_output t) (onto_drive at inputs i p.name d (λ j. output_decls at inputs j ps)) (onto_output k d (output_drives (suc k) ps)))
+          ≡ None
       go more In q = more i
       go more (Out x) q =
-          right_then (eqb (table_width x) (get_or t.ports k 0)) (first_wrong (both (asked_output t) (output_decls at inputs (suc i) ps) (output_drives (suc k) ps))) (at i)
+          right_then (eqb (table_width x) (get_or t.ports k 0))
+          (first_wrong (both (asked_output t) (output_decls at inputs (suc i) ps) (output_drives (suc k) ps)))
+          (at i)
           (has_bits x (get_or t.ports k 0) q.0 (q.1 ∙ sym (goes_on_here t.ports k p.width (map (λ p. p.width) ps) h)))
           (more (suc i))
 
   -- ---- registers
 
-  blocks_right : (at : ℕ → ℕ) (inputs : List (List ℕ)) (r : ℕ) (xs : List Reg) → GoesOn t.regs r (map (λ x. x.width) xs) → Each (IsWellReg c) xs → first_wrong (both (asked_block t) (reg_blocks at inputs r xs) (reg_drives r xs)) ≡ None
+  blocks_right : (at : ℕ → ℕ) (inputs : List (List ℕ)) (r : ℕ) (xs : List Reg) → GoesOn t.regs r (map (λ x. x.width) xs)
+      → Each (IsWellReg c) xs → first_wrong (both (asked_block t) (reg_blocks at inputs r xs) (reg_drives r xs)) ≡ None
   blocks_right at inputs r [] h w = refl
   blocks_right at inputs r (x ∷ xs) h w =
       let k = w.0 in
       let own : eqb x.width (get_or t.regs r 0) ≡ true = eq-eqb x.width (get_or t.regs r 0) (sym (goes_on_here t.regs r x.width (map (λ x. x.width) xs) h)) in
       let reset : fits x.reset x.width ≡ true = fits_right x.reset x.width (record { low = k.low; high = k.high }) k.reset in
-      right_then (eqb x.width (get_or t.regs r 0) && (fits x.reset x.width && eqb (table_width x.next) x.width)) (first_wrong (both (asked_block t) (reg_blocks at inputs (suc r) xs) (reg_drives (suc r) xs))) (at r)
-      (and_from (eqb x.width (get_or t.regs r 0)) (fits x.reset x.width && eqb (table_width x.next) x.width) own (and_from (fits x.reset x.width) (eqb (table_width x.next) x.width) reset (has_bits x.next x.width k.next k.width)))
+      right_then (eqb x.width (get_or t.regs r 0) && (fits x.reset x.width && eqb (table_width x.next) x.width))
+      (first_wrong (both (asked_block t) (reg_blocks at inputs (suc r) xs) (reg_drives (suc r) xs))) (at r)
+      (and_from (eqb x.width (get_or t.regs r 0))
+      (fits x.reset x.width && eqb (table_width x.next) x.width) own
+      (and_from (fits x.reset x.width) (eqb (table_width x.next) x.width) reset (has_bits x.next x.width k.next k.width)))
       (blocks_right at inputs (suc r) xs (goes_on_later t.regs r x.width (map (λ x. x.width) xs) h) w.1)
 
   -- ---- arrays
 
-  write_right : (m : ℕ) (a : Array) → get_or t.words m 0 ≡ a.width → get_or t.depths m 0 ≡ a.depth → (p : WritePort) → IsWellWrite c a p → fits_write t (written_to m p) ≡ true
+  write_right : (m : ℕ) (a : Array) → get_or t.words m 0 ≡ a.width → get_or t.depths m 0 ≡ a.depth → (p : WritePort)
+      → IsWellWrite c a p → fits_write t (written_to m p) ≡ true
   write_right m a e d p k =
       let depth = get_or t.depths m 0 in
       let word = get_or t.words m 0 in
@@ -187,25 +212,36 @@ module _ (c : Circuit) (t : Widths) (tb : IsTable c t) where
       (eq-eqb (2 ^ table_width p.addr) depth (ap (λ z. 2 ^ z) (net_is c t tb p.addr k.addr) ∙ (k.reach ∙ sym d)))
       (has_bits p.value word k.value (k.width ∙ sym e)))
 
-  block_right : (at : ℕ → ℕ) (inputs : List (List ℕ)) (name : List ℕ) (j m : ℕ) (ps : List WritePort) → Each (λ p. fits_write t (written_to m p) ≡ true) ps → first_wrong (both (asked_write t) (write_decls at inputs name j ps) (map (written_to m) ps)) ≡ None
+  block_right : (at : ℕ → ℕ) (inputs : List (List ℕ)) (name : List ℕ) (j m : ℕ) (ps : List WritePort)
+      → Each (λ p. fits_write t (written_to m p) ≡ true) ps
+      → first_wrong (both (asked_write t) (write_decls at inputs name j ps) (map (written_to m) ps)) ≡ None
   block_right at inputs name j m [] h = refl
   block_right at inputs name j m (p ∷ ps) h =
-      right_then (fits_write t (written_to m p)) (first_wrong (both (asked_write t) (write_decls at inputs name (suc j) ps) (map (written_to m) ps))) (at j) h.0 (block_right at inputs name (suc j) m ps h.1)
+      right_then (fits_write t (written_to m p))
+      (first_wrong (both (asked_write t) (write_decls at inputs name (suc j) ps) (map (written_to m) ps)))
+      (at j) h.0 (block_right at inputs name (suc j) m ps h.1)
 
-  writes_right : (lines : Lines) (inputs : List (List ℕ)) (b m : ℕ) (xs : List Array) → GoesOn t.words m (map (λ a. a.width) xs) → GoesOn t.depths m (map (λ a. a.depth) xs) → Each (IsWellArray c) xs
+  writes_right : (lines : Lines) (inputs : List (List ℕ)) (b m : ℕ) (xs : List Array)
+      → GoesOn t.words m (map (λ a. a.width) xs) → GoesOn t.depths m (map (λ a. a.depth) xs) → Each (IsWellArray c) xs
       → first_wrong (asked_writes t (array_blocks lines inputs b xs) (block_writes m xs)) ≡ None
   writes_right lines inputs b m [] h k w = refl
   writes_right lines inputs b m (a ∷ xs) h k w =
-      go (λ z. writes_right lines inputs z (suc m) xs (goes_on_later t.words m a.width (map (λ a. a.width) xs) h) (goes_on_later t.depths m a.depth (map (λ a. a.depth) xs) k) w.1) a.writes
+      go
+      (λ z. writes_right lines inputs z (suc m) xs (goes_on_later t.words m a.width (map (λ a. a.width) xs) h)
+      (goes_on_later t.depths m a.depth (map (λ a. a.depth) xs) k) w.1) a.writes
       (each_so (IsWellWrite c a) (λ p. fits_write t (written_to m p) ≡ true) a.writes
       (write_right m a (goes_on_here t.words m a.width (map (λ a. a.width) xs) h) (goes_on_here t.depths m a.depth (map (λ a. a.depth) xs) k))
       (each_from_get (IsWellWrite c a) a.writes w.0.writes))
     where
-      go : ((z : ℕ) → first_wrong (asked_writes t (array_blocks lines inputs z xs) (block_writes (suc m) xs)) ≡ None) → (ps : List WritePort) → Each (λ p. fits_write t (written_to m p) ≡ true) ps
-          → first_wrong (asked_writes t (onto_block lines inputs b (array_name a) ps (λ j. array_blocks lines inputs j xs)) (onto_writes m ps (block_writes (suc m) xs))) ≡ None
+      go : ((z : ℕ) → first_wrong (asked_writes t (array_blocks lines inputs z xs) (block_writes (suc m) xs)) ≡ None)
+          → (ps : List WritePort) → Each (λ p. fits_write t (written_to m p) ≡ true) ps
+          → first_wrong
+          (asked_writes t (onto_block lines inputs b (array_name a) ps (λ j. array_blocks lines inputs j xs)) (onto_writes m ps (block_writes (suc m) xs)))
+          ≡ None
       go more [] q = more b
       go more (p ∷ ps) q =
-          append_right (both (asked_write t) (write_decls (lines.writes b) inputs (array_name a) 0 (p ∷ ps)) (map (written_to m) (p ∷ ps))) (asked_writes t (array_blocks lines inputs (suc b) xs) (block_writes (suc m) xs))
+          append_right (both (asked_write t) (write_decls (lines.writes b) inputs (array_name a) 0 (p ∷ ps)) (map (written_to m) (p ∷ ps)))
+          (asked_writes t (array_blocks lines inputs (suc b) xs) (block_writes (suc m) xs))
           (block_right (lines.writes b) inputs (array_name a) 0 m (p ∷ ps) q) (more (suc b))
 
 -- what a well formed netlist's text declares breaks V3 nowhere
@@ -227,10 +263,17 @@ right lines n h =
     let bs = both (asked_block t) f.reg_blocks (reg_drives 0 n.regs) in
     let os = both (asked_output t) f.outputs (output_drives 0 n.ports) in
     let cs = both (asked_cell t) f.cells n.cells in
-    let head = append_right (map asked_port f.ports) (rs ++ qs) (ports_right lines.ports n.ports (port_wide c n.ports ps)) (append_right rs qs (regs_right lines.regs 0 n.regs (reg_wide c n.regs xs)) (arrays_right lines.arrays 0 n.arrays (all_sized c n.arrays ys))) in
-    let last = writes_right c t tb lines names 0 0 n.arrays (goes_on_all t.words (map (λ a. a.width) n.arrays) tb.words) (goes_on_all t.depths (map (λ a. a.depth) n.arrays) tb.depths) ys in
+    let head =
+    append_right (map asked_port f.ports) (rs ++ qs) (ports_right lines.ports n.ports (port_wide c n.ports ps))
+    (append_right rs qs (regs_right lines.regs 0 n.regs (reg_wide c n.regs xs)) (arrays_right lines.arrays 0 n.arrays (all_sized c n.arrays ys))) in
+    let last =
+    writes_right c t tb lines names 0 0 n.arrays (goes_on_all t.words (map (λ a. a.width) n.arrays) tb.words)
+    (goes_on_all t.depths (map (λ a. a.depth) n.arrays) tb.depths) ys in
     let blocks = blocks_right c t tb lines.blocks names 0 n.regs (goes_on_all t.regs (map (λ r. r.width) n.regs) tb.regs) xs in
     let outs = outputs_right c t tb lines.outputs names 0 0 n.ports (goes_on_all t.ports (map (λ p. p.width) n.ports) tb.ports) ps in
     let here : (k : ℕ) → k < length n.cells → IsRight c t tb (cell_width n k) (get_or n.cells k no_cell) = λ k l. each_cell c t tb (cells_well c w) k l in
-    let cells = cells_right c t tb lines.cells names n.arrays (cell_width n) 0 n.cells (λ j i e l. let s : j ≡ i = omega arith in subst (λ z. IsRight c t tb (cell_width n z) (get_or n.cells j no_cell)) s (here j l)) in
-    append_right (declared_questions f) (cs ++ (os ++ (bs ++ ws))) head (append_right cs (os ++ (bs ++ ws)) cells (append_right os (bs ++ ws) outs (append_right bs ws blocks last)))
+    let cells =
+    cells_right c t tb lines.cells names n.arrays (cell_width n) 0 n.cells
+    (λ j i e l. let s : j ≡ i = omega arith in subst (λ z. IsRight c t tb (cell_width n z) (get_or n.cells j no_cell)) s (here j l)) in
+    append_right (declared_questions f)
+    (cs ++ (os ++ (bs ++ ws))) head (append_right cs (os ++ (bs ++ ws)) cells (append_right os (bs ++ ws) outs (append_right bs ws blocks last)))

@@ -42,7 +42,8 @@ module _ (line : ℕ) (ps : List Port) where
   abbrev driven_ports : List OutputDrive
   driven_ports = output_drives 0 ps
 
-  port_driven : (i : ℕ) → i < length ps → ((get_or declared_ports i no_port_decl).input || eqb (drives_of_port driven_ports (length (take i declared_ports))) 1) ≡ true
+  port_driven : (i : ℕ) → i < length ps
+      → ((get_or declared_ports i no_port_decl).input || eqb (drives_of_port driven_ports (length (take i declared_ports))) 1) ≡ true
   port_driven i l =
       let p = get_or ps i no_port in
       let m = length-map ps (port_decl line) in
@@ -56,7 +57,8 @@ module _ (line : ℕ) (ps : List Port) where
       turns_right (port_once driven_ports) [] declared_ports no_port_decl (λ i l.
       let m = length-map ps (port_decl line) in
       let d = get_or declared_ports i no_port_decl in
-      and_from (is_new (map (λ (q : PortDecl). q.name) (take i declared_ports)) d.name) (d.input || eqb (drives_of_port driven_ports (length (take i declared_ports))) 1)
+      and_from (is_new (map (λ (q : PortDecl). q.name) (take i declared_ports)) d.name)
+      (d.input || eqb (drives_of_port driven_ports (length (take i declared_ports))) 1)
       (apart_new (λ (q : PortDecl). q.name) declared_ports no_port_decl i (ports_apart line ps h) l) (port_driven i (omega arith)))
 
 length_reg_decls : (at : ℕ → ℕ) (r : ℕ) (xs : List Reg) → length (reg_decls at r xs) ≡ length xs
@@ -75,7 +77,8 @@ module _ (at : ℕ → ℕ) (xs : List Reg) where
       let m = length_reg_decls at 0 xs in
       let n : length (take i declared_regs) ≡ i = length-take-le i declared_regs (omega arith) in
       ap (λ z. eqb (drives_of_reg driven_regs z) 1) n
-      ∙ eq-eqb (drives_of_reg driven_regs i) 1 (sym (length-filter (λ (b : RegDrive). eqb b.reg i) driven_regs) ∙ ap length (regs_at 0 i i xs no_reg (omega arith) l))
+      ∙ eq-eqb (drives_of_reg driven_regs i) 1
+      (sym (length-filter (λ (b : RegDrive). eqb b.reg i) driven_regs) ∙ ap length (regs_at 0 i i xs no_reg (omega arith) l))
 
   regs_once : length xs ≤ 2 ^ 64 → first_wrong (in_turn (reg_once driven_regs) [] declared_regs) ≡ None
   regs_once h =
@@ -87,7 +90,9 @@ module _ (at : ℕ → ℕ) (xs : List Reg) where
 
 arrays_once : (at : ℕ → ℕ) (xs : List Array) → AllPairs (λ a b. a ≢ b) (map (λ (a : Array). a.name) xs)
     → first_wrong (in_turn array_once [] (array_decls at 0 xs)) ≡ None
-arrays_once at xs h = turns_right array_once [] (array_decls at 0 xs) no_array_decl (λ i l. apart_new (λ (q : ArrayDecl). q.name) (array_decls at 0 xs) no_array_decl i (arrays_apart at xs h) l)
+arrays_once at xs h =
+    turns_right array_once []
+    (array_decls at 0 xs) no_array_decl (λ i l. apart_new (λ (q : ArrayDecl). q.name) (array_decls at 0 xs) no_array_decl i (arrays_apart at xs h) l)
 
 cells_once : (ds : List CellDecl) → AllPairs (λ a b. a ≢ b) (map (λ (d : CellDecl). d.name) ds)
     → first_wrong (in_turn cell_once [] ds) ≡ None
@@ -114,15 +119,22 @@ no_owner m (k ∷ ks) h = let l : k < m = h.0 in or_from (eqb m k) (list_any (λ
 writes_once : (at : ℕ → ℕ) (inputs : List (List ℕ)) (name : List ℕ) (j m : ℕ) (ps : List WritePort)
     → first_wrong (both (write_once m) (write_decls at inputs name j ps) (map (written_to m) ps)) ≡ None
 writes_once at inputs name j m [] = refl
-writes_once at inputs name j m (p ∷ ps) = right_then (eqb m m) (first_wrong (both (write_once m) (write_decls at inputs name (suc j) ps) (map (written_to m) ps))) (at j) (eqb_self m) (writes_once at inputs name (suc j) m ps)
+writes_once at inputs name j m (p ∷ ps) =
+    right_then (eqb m m)
+    (first_wrong (both (write_once m) (write_decls at inputs name (suc j) ps) (map (written_to m) ps))) (at j)
+    (eqb_self m) (writes_once at inputs name (suc j) m ps)
 
 each_block_once : (lines : Lines) (inputs : List (List ℕ)) (before : List ℕ) (b m : ℕ) (xs : List Array)
     → AreBefore m before → first_wrong (blocks_once before (array_blocks lines inputs b xs) (block_writes m xs)) ≡ None
 each_block_once lines inputs before b m [] h = refl
 each_block_once lines inputs before b m (a ∷ xs) h = go (λ ks z k. each_block_once lines inputs ks z (suc m) xs k) a.writes
   where
-    go : ((ks : List ℕ) (z : ℕ) → AreBefore (suc m) ks → first_wrong (blocks_once ks (array_blocks lines inputs z xs) (block_writes (suc m) xs)) ≡ None) → (ps : List WritePort)
-        → first_wrong (blocks_once before (onto_block lines inputs b (array_name a) ps (λ j. array_blocks lines inputs j xs)) (onto_writes m ps (block_writes (suc m) xs))) ≡ None
+    go : ((ks : List ℕ) (z : ℕ) → AreBefore (suc m) ks → first_wrong (blocks_once ks (array_blocks lines inputs z xs) (block_writes (suc m) xs)) ≡ None)
+        → (ps : List WritePort)
+        → first_wrong
+        (blocks_once before (onto_block lines inputs b (array_name a) ps (λ j. array_blocks lines inputs j xs))
+        (onto_writes m ps (block_writes (suc m) xs)))
+        ≡ None
     go more [] = more before b (still_before m before h)
     go more (p ∷ ps) =
         let inside = both (write_once m) (write_decls (lines.writes b) inputs (array_name a) 0 (p ∷ ps)) (map (written_to m) (p ∷ ps)) in
@@ -148,5 +160,6 @@ once lines n h k =
     append_right (declared_once f w) bs
     (append_right ps (rs ++ (qs ++ cs)) (ports_once lines.ports n.ports h.port_names)
     (append_right rs (qs ++ cs) (regs_once lines.regs n.regs few_regs)
-    (append_right qs cs (arrays_once lines.arrays n.arrays h.array_names) (cells_once f.cells (cells_apart lines.cells names n.arrays (cell_width n) n.cells few_cells)))))
+    (append_right qs cs (arrays_once lines.arrays n.arrays h.array_names)
+    (cells_once f.cells (cells_apart lines.cells names n.arrays (cell_width n) n.cells few_cells)))))
     (each_block_once lines names [] 0 0 n.arrays tt)

@@ -55,7 +55,8 @@ some_named : (test : Mem → Bool) (ms : List Mem) → HaveNames ms → AllByRec
 some_named test [] h = tt
 some_named test (m ∷ ms) h = at (test m) (some_named test ms h.1)
   where
-    at : (b : Bool) → AllByRecursion IsTold (map info_of (filter test ms)) → AllByRecursion IsTold (map info_of (if b then m ∷ filter test ms else filter test ms))
+    at : (b : Bool) → AllByRecursion IsTold (map info_of (filter test ms))
+        → AllByRecursion IsTold (map info_of (if b then m ∷ filter test ms else filter test ms))
     at true g = (h.0, g)
     at false g = g
 
@@ -69,7 +70,9 @@ names source p n t f =
     let h = whole_named p (tokens source) [] t.text (tokens_named 0 0 1 source) in
     record {
       netlist = ap is_name f.name ∙ h.0;
-      mems = All-from_recursion IsTold n.mems (subst (AllByRecursion IsTold) (sym f.mems) (both_named _ _ (some_named is_delayed p.mems h.1) (some_named is_comb p.mems h.1)));
+      mems =
+          All-from_recursion IsTold n.mems
+          (subst (AllByRecursion IsTold) (sym f.mems) (both_named _ _ (some_named is_delayed p.mems h.1) (some_named is_comb p.mems h.1)));
     }
 
 -- what is written of a netlist that follows a source's pipe reads as it

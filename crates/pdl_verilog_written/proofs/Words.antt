@@ -30,10 +30,29 @@ is_none [] t e = tt
 is_none (s ∷ ss) t e = let p = none_if (pointwise nat_eq t s.text) s (spelling_of ss t) e in (p.0, is_none ss t p.1)
 
 no_statement : (t : List ℕ) → IsNone keywords t → is_statement_keyword t ≡ false
-no_statement t h = or_false (or_false (or_false (or_false (or_false (or_false (or_false (or_false (or_false (or_false (or_false (or_false (or_false (or_false h.1.1.1.1.1.1.1.1.1.0 h.1.1.1.1.1.1.1.1.1.1.0) h.1.1.1.1.1.1.1.1.1.1.1.0) h.1.1.1.1.1.1.1.1.1.1.1.1.0) h.1.1.1.1.1.1.1.1.1.1.1.1.1.0) h.1.1.1.1.1.1.1.1.1.1.1.1.1.1.0) h.1.1.1.1.1.1.1.1.1.1.1.1.1.1.1.0) h.1.1.1.1.1.1.1.1.1.1.1.1.1.1.1.1.0) h.1.1.1.1.1.1.1.1.1.1.1.1.1.1.1.1.1.0) h.1.1.1.1.1.1.1.1.1.1.1.1.1.1.1.1.1.1.0) h.1.1.1.1.1.1.1.1.1.1.1.1.1.1.1.1.1.1.1.0) h.1.1.1.1.1.1.1.1.1.1.1.1.1.1.1.1.1.1.1.1.0) h.1.1.1.1.1.1.1.1.1.1.1.1.1.1.1.1.1.1.1.1.1.0) h.1.1.1.1.1.1.1.1.1.1.1.1.1.1.1.1.1.1.1.1.1.1.0) h.1.1.1.1.1.1.1.1.1.1.1.1.1.1.1.1.1.1.1.1.1.1.1.0
+no_statement t h =
+    or_false
+    (or_false
+    (or_false
+    (or_false
+    (or_false
+    (or_false
+    (or_false
+    (or_false
+    (or_false
+    (or_false
+    (or_false
+    (or_false
+    (or_false
+    (or_false h.1.1.1.1.1.1.1.1.1.0 h.1.1.1.1.1.1.1.1.1.1.0) h.1.1.1.1.1.1.1.1.1.1.1.0) h.1.1.1.1.1.1.1.1.1.1.1.1.0) h.1.1.1.1.1.1.1.1.1.1.1.1.1.0) h.1.1.1.1.1.1.1.1.1.1.1.1.1.1.0) h.1.1.1.1.1.1.1.1.1.1.1.1.1.1.1.0) h.1.1.1.1.1.1.1.1.1.1.1.1.1.1.1.1.0) h.1.1.1.1.1.1.1.1.1.1.1.1.1.1.1.1.1.0) h.1.1.1.1.1.1.1.1.1.1.1.1.1.1.1.1.1.1.0) h.1.1.1.1.1.1.1.1.1.1.1.1.1.1.1.1.1.1.1.0) h.1.1.1.1.1.1.1.1.1.1.1.1.1.1.1.1.1.1.1.1.0) h.1.1.1.1.1.1.1.1.1.1.1.1.1.1.1.1.1.1.1.1.1.0) h.1.1.1.1.1.1.1.1.1.1.1.1.1.1.1.1.1.1.1.1.1.1.0) h.1.1.1.1.1.1.1.1.1.1.1.1.1.1.1.1.1.1.1.1.1.1.1.0
 
 no_declaration : (t : List ℕ) → IsNone keywords t → is_declaration_keyword t ≡ false
-no_declaration t h = or_false (or_false (or_false (or_false (or_false (or_false (or_false (or_false h.0 h.1.0) h.1.1.0) h.1.1.1.0) h.1.1.1.1.0) h.1.1.1.1.1.0) h.1.1.1.1.1.1.0) h.1.1.1.1.1.1.1.0) h.1.1.1.1.1.1.1.1.0
+no_declaration t h =
+    or_false
+    (or_false
+    (or_false
+    (or_false
+    (or_false (or_false (or_false (or_false h.0 h.1.0) h.1.1.0) h.1.1.1.0) h.1.1.1.1.0) h.1.1.1.1.1.0) h.1.1.1.1.1.1.0) h.1.1.1.1.1.1.1.0) h.1.1.1.1.1.1.1.1.0
 
 name_byte : (c : ℕ) → is_word c ≡ is_name_byte c
 name_byte c = go (is_lower c) (is_digit c) (c == 95)
@@ -50,8 +69,11 @@ all_taken : (cs : List ℕ) → list_all is_name_byte (take_while is_word cs) �
 all_taken [] = refl
 all_taken (c ∷ cs) = go (is_word c) refl (all_taken cs)
   where
-    go : (b : Bool) → is_word c ≡ b → list_all is_name_byte (take_while is_word cs) ≡ true → list_all is_name_byte (take (cond b (1 + prefix_len is_word cs) 0) (c ∷ cs)) ≡ true
-    go true e h = ap (list_all is_name_byte) (front true (prefix_len is_word cs) c cs refl) ∙ and_from (is_name_byte c) (list_all is_name_byte (take_while is_word cs)) (sym (name_byte c) ∙ e) h
+    go : (b : Bool) → is_word c ≡ b → list_all is_name_byte (take_while is_word cs) ≡ true
+        → list_all is_name_byte (take (cond b (1 + prefix_len is_word cs) 0) (c ∷ cs)) ≡ true
+    go true e h =
+        ap (list_all is_name_byte) (front true (prefix_len is_word cs) c cs refl)
+        ∙ and_from (is_name_byte c) (list_all is_name_byte (take_while is_word cs)) (sym (name_byte c) ∙ e) h
     go false e h = refl
 
 taken_front : (c : ℕ) (cs : List ℕ) → is_lower c ≡ true → take_while is_word (c ∷ cs) ≡ c ∷ take_while is_word cs
@@ -68,7 +90,8 @@ form_of : (c : ℕ) (cs : List ℕ)
     → is_lower c ≡ true → suc (length (take_while is_word cs)) ≤ 32 → has_name_form (c ∷ take_while is_word cs) ≡ true
 form_of c cs e h =
     and_from (is_lower c) (nat_lt (length (take_while is_word cs)) 32 && list_all is_name_byte (take_while is_word cs)) e
-    (and_from (nat_lt (length (take_while is_word cs)) 32) (list_all is_name_byte (take_while is_word cs)) (lt-ltb (length (take_while is_word cs)) 32 (omega (arith, h))) (all_taken cs))
+    (and_from (nat_lt (length (take_while is_word cs)) 32) (list_all is_name_byte (take_while is_word cs))
+    (lt-ltb (length (take_while is_word cs)) 32 (omega (arith, h))) (all_taken cs))
 
 no_spelling : (o : Option Spelling) → keyword_or_name o ≡ kind.Name → o ≡ None
 no_spelling None e = refl

@@ -74,7 +74,8 @@ short c There at (Read m a) f = tt
 -- each constant among the cells of a netlist in which all fits has at most 64 bits
 pub short_cell : (n : Netlist) (xs : List Cell) (k : ℕ) → IsWell (circuit_of n)
     → k < length n.cells → xs ≡ n.cells → spec.IsShort (get_or xs k no_cell)
-short_cell n xs k w h e = short (circuit_of n) (IsThereAt (circuit_of n) k) (signal (circuit_of n)) (get_or xs k no_cell) (fits_read (circuit_of n) xs k k w h e refl)
+short_cell n xs k w h e =
+    short (circuit_of n) (IsThereAt (circuit_of n) k) (signal (circuit_of n)) (get_or xs k no_cell) (fits_read (circuit_of n) xs k k w h e refl)
 
 -- each cell of a netlist in which all fits has at least 1 bit
 pub wide_cell : (n : Netlist) (ws : List ℕ) (k : ℕ) → IsWell (circuit_of n) → HasWidths (circuit_of n) ws

@@ -79,6 +79,7 @@ apart_rests xs h p = λ i j d l m q.
     let blank : ArrayDecl = record { line = 0; name = []; high = 0; last = 0 } in
     let x = get_or xs i blank in
     let y = get_or xs j blank in
-    let e : drop 2 x.name ≡ drop 2 y.name = sym (get_mapped (λ (a : ArrayDecl). drop 2 a.name) xs i d blank a) ∙ (q ∙ get_mapped (λ (a : ArrayDecl). drop 2 a.name) xs j d blank b) in
+    let e : drop 2 x.name ≡ drop 2 y.name =
+    sym (get_mapped (λ (a : ArrayDecl). drop 2 a.name) xs i d blank a) ∙ (q ∙ get_mapped (λ (a : ArrayDecl). drop 2 a.name) xs j d blank b) in
     let s : x.name ≡ y.name = same_rest x.name y.name (each_get IsNamed xs i blank h a) (each_get IsNamed xs j blank h b) e in
     p i j d l (omega arith) (get_mapped (λ (a : ArrayDecl). a.name) xs i d blank a ∙ (s ∙ sym (get_mapped (λ (a : ArrayDecl). a.name) xs j d blank b)))

@@ -28,7 +28,8 @@ record HasWidth (c : Circuit) (There : Net → Type 0) (at : Net → Signal) (g 
   fit : FitsIn c There at g
   width : (cell_signal c at g).width ≡ w
 
-module _ (c : Circuit) (f : File) (h : Has c f) (There : Net → Type 0) (at : Net → Signal) (wide : (x : Net) → There x → (at x).width ≡ net_width (widths_of f) x) where
+module _ (c : Circuit) (f : File) (h : Has c f) (There : Net → Type 0) (at : Net → Signal)
+    (wide : (x : Net) → There x → (at x).width ≡ net_width (widths_of f) x) where
   abbrev declared_width : Net → ℕ
   declared_width x = net_width (widths_of f) x
 
@@ -49,7 +50,13 @@ module _ (c : Circuit) (f : File) (h : Has c f) (There : Net → Type 0) (at : N
       let p = and_parts (eqb (declared_width x) 1) (eqb (declared_width a) (declared_width b) && eqb (declared_width a) w) e in
       let q = and_parts (eqb (declared_width a) (declared_width b)) (eqb (declared_width a) w) p.1 in
       record {
-        fit = (n.0, n.1, n.2, wide x n.0 ∙ eqb-true (declared_width x) 1 p.0, wide a n.1 ∙ (eqb-true (declared_width a) (declared_width b) q.0 ∙ sym (wide b n.2)));
+        fit = (
+          n.0,
+          n.1,
+          n.2,
+          wide x n.0 ∙ eqb-true (declared_width x) 1 p.0,
+          wide a n.1 ∙ (eqb-true (declared_width a) (declared_width b) q.0 ∙ sym (wide b n.2)),
+        );
         width = wide a n.1 ∙ eqb-true (declared_width a) w q.1;
       }
   cell_fits (made.Slice a high low) w n l m e =
@@ -111,7 +118,8 @@ wide_more : (f : File) (done : List Signal) (x : Signal) → AreWide f done
     → x.width ≡ get_or (widths_of f).cells (length done) 0 → AreWide f (done ++ x ∷ [])
 wide_more f done x w e = λ j l. go j l (cases_lt j (length done))
   where
-    go : (j : ℕ) → j < length (done ++ x ∷ []) → (j < length done) ⊎ (length done ≤ j) → (get_or (done ++ x ∷ []) j no_signal).width ≡ get_or (widths_of f).cells j 0
+    go : (j : ℕ) → j < length (done ++ x ∷ []) → (j < length done) ⊎ (length done ≤ j)
+        → (get_or (done ++ x ∷ []) j no_signal).width ≡ get_or (widths_of f).cells j 0
     go j l (inl k) = ap (λ (z : Signal). z.width) (get_or_append_left done (x ∷ []) no_signal j k) ∙ w j k
     go j l (inr k) =
         let n = length_push done x in
@@ -142,7 +150,9 @@ all_wide c f h (d ∷ ds) gs done at e r w =
     let one = cell_fits c f h (IsThereAt c (length done)) (look c done) (look_wide c f h done w) g wd (cell_there c f h (length done) d g o.2) v.0 v.1 p.1 in
     let x = cell_signal c (look c done) g in
     let l : suc (length done) ≡ length (done ++ x ∷ []) = (let q = length_push done x in omega arith) in
-    let more = all_wide c f h ds o.1 (done ++ x ∷ []) (subst (λ z. drop z f.cells ≡ ds) l n.1) (subst (λ z. cells_from f z ds ≡ Ok o.1) l o.3) u.1 (wide_more f done x w (one.width ∙ sym n.0)) in
+    let more =
+    all_wide c f h ds o.1 (done ++ x ∷ []) (subst (λ z. drop z f.cells ≡ ds) l n.1)
+    (subst (λ z. cells_from f z ds ≡ Ok o.1) l o.3) u.1 (wide_more f done x w (one.width ∙ sym n.0)) in
     subst (λ z. AllWide c f z done) o.4 (record { fit = (one.fit, more.fit); wide = more.wide })
 
 none_wide : (f : File) → AreWide f []

@@ -90,7 +90,8 @@ length_arrays blocks m (a ∷ rest) = ap suc (length_arrays blocks (suc m) rest)
 pub many_arrays : (f : File) (w : Wiring) → 16 < length f.arrays → (ms : List MemInfo) → IsPipe (with_mems (built f w) ms) → ⊥
 unfolding built
 many_arrays f w h ms p =
-    let i : length ms ≡ length p.delayed + length (arrays w.blocks 0 f.arrays) = ap length p.mems ∙ length_mems p.delayed p.locked (arrays w.blocks 0 f.arrays) in
+    let i : length ms ≡ length p.delayed + length (arrays w.blocks 0 f.arrays) =
+    ap length p.mems ∙ length_mems p.delayed p.locked (arrays w.blocks 0 f.arrays) in
     let j = length_arrays w.blocks 0 f.arrays in
     let k : length ms ≤ 16 = p.count in
     omega (arith, i, j, k)

@@ -31,7 +31,9 @@ no_drives n = fill_by_all (λ i. Input 0) (replicate n (Input 0)) n (Input 0) (l
 
 -- one `assign` more
 driver_set : (n : ℕ) (ds : List OutputDrive) (d : OutputDrive) → set (drivers n ds) d.port d.net ≡ drivers n (ds ++ d ∷ [])
-driver_set n ds d = fill_by_all (λ i. driver i (Input 0) (ds ++ d ∷ [])) (set (drivers n ds) d.port d.net) n (Input 0) (length-set (drivers n ds) d.port d.net ∙ length_drivers n ds) (λ k h. go k h (cases_eq d.port k))
+driver_set n ds d =
+    fill_by_all (λ i. driver i (Input 0) (ds ++ d ∷ [])) (set (drivers n ds) d.port d.net) n (Input 0)
+    (length-set (drivers n ds) d.port d.net ∙ length_drivers n ds) (λ k h. go k h (cases_eq d.port k))
   where
     go : (k : ℕ) → k < n → (d.port ≡ k) ⊎ (d.port ≡ k → ⊥) → get_or (set (drivers n ds) d.port d.net) k (Input 0) ≡ driver k (Input 0) (ds ++ d ∷ [])
     go k h (inl e) =
@@ -120,7 +122,8 @@ reg_set decls ds d y =
     same_lists _ _ (length-set (regs ds 0 decls) d.reg _ ∙ (l ∙ sym (length_regs (ds ++ d ∷ []) decls)))
     (λ k x h. let n = length-set (regs ds 0 decls) d.reg (given (get_or (regs ds 0 decls) d.reg y) d) in go k x (omega arith) (cases_eq d.reg k))
   where
-    go : (k : ℕ) (x : Reg) → k < length decls → (d.reg ≡ k) ⊎ (d.reg ≡ k → ⊥) → get_or (set (regs ds 0 decls) d.reg (given (get_or (regs ds 0 decls) d.reg y) d)) k x ≡ get_or (regs (ds ++ d ∷ []) 0 decls) k x
+    go : (k : ℕ) (x : Reg) → k < length decls → (d.reg ≡ k) ⊎ (d.reg ≡ k → ⊥)
+        → get_or (set (regs ds 0 decls) d.reg (given (get_or (regs ds 0 decls) d.reg y) d)) k x ≡ get_or (regs (ds ++ d ∷ []) 0 decls) k x
     go k x h (inl e) =
         let z : RegDecl = record { line = 0; name = []; high = 0 } in
         let l = length_regs ds decls in
@@ -130,13 +133,17 @@ reg_set decls ds d y =
         ∙ (get_or-set_same (regs ds 0 decls) d.reg (given (get_or (regs ds 0 decls) d.reg y) d) x b
         ∙ (ap (λ j. given (get_or (regs ds 0 decls) j y) d) e
         ∙ (ap (λ q. given q d) (get_regs_from ds 0 k k decls y z h (omega arith))
-        ∙ sym (get_regs_from (ds ++ d ∷ []) 0 k k decls x z h (omega arith) ∙ (driven_push k u ds d ∙ ap (λ b. cond b (given (driven k u ds) d) (driven k u ds)) (eq-eqb d.reg k e))))))
+        ∙ sym
+        (get_regs_from (ds ++ d ∷ []) 0 k k decls x z h (omega arith)
+        ∙ (driven_push k u ds d ∙ ap (λ b. cond b (given (driven k u ds) d) (driven k u ds)) (eq-eqb d.reg k e))))))
     go k x h (inr e) =
         let z : RegDecl = record { line = 0; name = []; high = 0 } in
         let u = undriven (get_or decls k z) in
         get_or-set_other (regs ds 0 decls) d.reg k (given (get_or (regs ds 0 decls) d.reg y) d) x (λ q. e (sym q))
         ∙ (get_regs_from ds 0 k k decls x z h (omega arith)
-        ∙ sym (get_regs_from (ds ++ d ∷ []) 0 k k decls x z h (omega arith) ∙ (driven_push k u ds d ∙ ap (λ b. cond b (given (driven k u ds) d) (driven k u ds)) (ne_eqb d.reg k e))))
+        ∙ sym
+        (get_regs_from (ds ++ d ∷ []) 0 k k decls x z h (omega arith)
+        ∙ (driven_push k u ds d ∙ ap (λ b. cond b (given (driven k u ds) d) (driven k u ds)) (ne_eqb d.reg k e))))
 
 pub regs_more : (decls : List RegDecl) (i : ℕ) (ds : List RegDrive) (d : RegDrive) (y : Reg)
     → i < length ds
@@ -149,6 +156,10 @@ pub regs_same : (decls : List RegDecl) (i : ℕ) (ds : List RegDrive) (d : RegDr
 regs_same decls i ds d h k =
     let y : Reg = record { width = 0; reset = 0; next = Input 0 } in
     let l = length_regs (take i ds) decls in
-    sym (set_past (regs (take i ds) 0 decls) (get_or ds i d).reg (given (get_or (regs (take i ds) 0 decls) (get_or ds i d).reg y) (get_or ds i d)) (omega arith)) ∙ regs_more decls i ds d y h
+    sym
+    (set_past (regs (take i ds) 0 decls)
+    (get_or ds i d).reg (given (get_or (regs (take i ds) 0 decls) (get_or ds i d).reg y) (get_or ds i d))
+    (omega arith))
+    ∙ regs_more decls i ds d y h
 
 pub ruleset defining = (length_regs, no_blocks, regs_more, regs_same)

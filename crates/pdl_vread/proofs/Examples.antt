@@ -39,11 +39,19 @@ sample = record {
   name = codes "p";
   reset_line = 1;
   reset_high = 0;
-  ports = shown (codes "v_0") 0 ∷ shown (codes "g_0") 0 ∷ shown (codes "c_m") 0 ∷ shown (codes "ca_m") 1 ∷ shown (codes "cd_m") 7 ∷ shown (codes "ended") 0 ∷ shown (codes "squash") 0 ∷ [];
+  ports =
+      shown (codes "v_0") 0 ∷ shown (codes "g_0") 0 ∷ shown (codes "c_m") 0 ∷ shown (codes "ca_m") 1
+      ∷ shown (codes "cd_m") 7 ∷ shown (codes "ended") 0 ∷ shown (codes "squash") 0 ∷ [];
   regs = record { line = 2; name = codes "r7"; high = 1 } ∷ [];
   arrays = record { line = 3; name = codes "a_m"; high = 7; last = 3 } ∷ [];
-  cells = cell 4 (codes "n5") 0 (t.Const 1 1) ∷ cell 5 (codes "n2") 1 (t.Bin Add (codes "r7") (codes "r7")) ∷ cell 6 (codes "n9") 7 (t.Read (codes "a_m") (codes "n2")) ∷ [];
-  outputs = assigned 7 (codes "squash") (codes "n5") ∷ assigned 8 (codes "v_0") (codes "n5") ∷ assigned 9 (codes "g_0") (codes "n5") ∷ assigned 10 (codes "c_m") (codes "n5") ∷ assigned 11 (codes "ca_m") (codes "r7") ∷ assigned 12 (codes "cd_m") (codes "n9") ∷ assigned 13 (codes "ended") (codes "n5") ∷ [];
+  cells =
+      cell 4 (codes "n5") 0 (t.Const 1 1) ∷ cell 5 (codes "n2") 1 (t.Bin Add (codes "r7") (codes "r7"))
+      ∷ cell 6 (codes "n9") 7 (t.Read (codes "a_m") (codes "n2")) ∷ [];
+  outputs =
+      assigned 7 (codes "squash") (codes "n5") ∷ assigned 8 (codes "v_0") (codes "n5")
+      ∷ assigned 9 (codes "g_0") (codes "n5") ∷ assigned 10 (codes "c_m") (codes "n5")
+      ∷ assigned 11 (codes "ca_m") (codes "r7") ∷ assigned 12 (codes "cd_m") (codes "n9")
+      ∷ assigned 13 (codes "ended") (codes "n5") ∷ [];
   reg_blocks = record { line = 14; reg = codes "r7"; width = 2; reset = 3; source = codes "n2" } ∷ [];
   array_blocks = record { line = 15; writes = record { line = 16; enable = codes "n5"; array = codes "a_m"; addr = codes "r7"; value = codes "n9" } ∷ [] } ∷ [];
 }
@@ -51,7 +59,10 @@ sample = record {
 abbrev nets : Wiring
 nets = record {
   cells = c.Const 1 1 ∷ c.Bin Add (RegNet 0) (RegNet 0) ∷ c.Read 0 (CellNet 1) ∷ [];
-  outputs = record { port = 6; net = CellNet 0 } ∷ record { port = 0; net = CellNet 0 } ∷ record { port = 1; net = CellNet 0 } ∷ record { port = 2; net = CellNet 0 } ∷ record { port = 3; net = RegNet 0 } ∷ record { port = 4; net = CellNet 2 } ∷ record { port = 5; net = CellNet 0 } ∷ [];
+  outputs =
+      record { port = 6; net = CellNet 0 } ∷ record { port = 0; net = CellNet 0 } ∷ record { port = 1; net = CellNet 0 }
+      ∷ record { port = 2; net = CellNet 0 } ∷ record { port = 3; net = RegNet 0 }
+      ∷ record { port = 4; net = CellNet 2 } ∷ record { port = 5; net = CellNet 0 } ∷ [];
   regs = record { reg = 0; width = 2; reset = 3; net = CellNet 1 } ∷ [];
   blocks = (record { array = 0; port = record { enable = CellNet 0; addr = RegNet 0; value = CellNet 2 } } ∷ []) ∷ [];
 }
@@ -100,7 +111,11 @@ read = record { wiring = nets; wired = record { names = wired; widths = wide; on
 -- ---- a broken rule, and its line
 
 -- the second cell takes a net that stands after it
-unnamed : FileBreaks (record sample { cells = cell 4 (codes "n5") 0 (t.Const 1 1) ∷ cell 5 (codes "n2") 1 (t.Not (codes "n9")) ∷ cell 6 (codes "n9") 7 (t.Read (codes "a_m") (codes "n2")) ∷ [] }) V2 5
+unnamed : FileBreaks
+    (record sample {
+      cells = cell 4 (codes "n5") 0 (t.Const 1 1) ∷ cell 5 (codes "n2") 1 (t.Not (codes "n9"))
+          ∷ cell 6 (codes "n9") 7 (t.Read (codes "a_m") (codes "n2")) ∷ [];
+    }) V2 5
 unfolding wiring net_of
 unnamed = refl
 
@@ -115,7 +130,8 @@ unfolding once_line
 undriven = refl
 
 -- an output that is driven twice, before an array that is declared twice
-driven_twice : once_line (record sample { arrays = record { line = 3; name = codes "a_m"; high = 7; last = 3 } ∷ record { line = 3; name = codes "a_m"; high = 7; last = 3 } ∷ [] })
+driven_twice : once_line
+    (record sample { arrays = record { line = 3; name = codes "a_m"; high = 7; last = 3 } ∷ record { line = 3; name = codes "a_m"; high = 7; last = 3 } ∷ [] })
     (record nets { outputs = record { port = 0; net = CellNet 0 } ∷ nets.outputs }) ≡ Some 1
 unfolding once_line
 driven_twice = refl

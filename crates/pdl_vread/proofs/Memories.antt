@@ -74,7 +74,8 @@ info_wide : (a : Array) (locked : List PortMem)
 info_wide a [] h w = w
 info_wide a (m ∷ ms) h w = at_test (info_wide a ms (λ k d l. h (suc k) d (omega arith)) w) (bytes_eq m.name a.name) refl
   where
-    at_test : IsWide (told ms a).width → (b : Bool) → bytes_eq m.name a.name ≡ b → IsWide (comb_info a (cond b (Some m) (find (λ m. bytes_eq m.name a.name) ms))).width
+    at_test : IsWide (told ms a).width → (b : Bool) → bytes_eq m.name a.name ≡ b
+        → IsWide (comb_info a (cond b (Some m) (find (λ m. bytes_eq m.name a.name) ms))).width
     at_test rest true e = subst IsWide (h 0 m (omega arith) ((bytes_eq-Decides m.name a.name).0 e)) w
     at_test rest false e = rest
 
@@ -98,7 +99,9 @@ module _ (n : Netlist) (h : IsWellFormed n) where
 
   -- the ports after the replies
   abbrev later : List Head
-  later = flat_map stage_ports (range_with_len 0 h.pipe.stages) ++ (flat_map commit_ports locked ++ (flat_map request_ports delayed ++ (output (codes "ended") 1 ∷ output (codes "squash") 1 ∷ [])))
+  later =
+      flat_map stage_ports (range_with_len 0 h.pipe.stages)
+      ++ (flat_map commit_ports locked ++ (flat_map request_ports delayed ++ (output (codes "ended") 1 ∷ output (codes "squash") 1 ∷ [])))
 
   abbrev ports : List Head
   ports = pipe_ports h.pipe.stages delayed locked
@@ -125,7 +128,8 @@ module _ (n : Netlist) (h : IsWellFormed n) where
       let mem : PortMem = record { name = []; width = 0; bits = 0 } in
       let a : i < length delayed = omega arith in
       let b : j < length n.arrays = omega arith in
-      (h.pipe.arrays j no_array b).inside i mem a (sym (get_mapped (λ (m : PortMem). m.name) delayed i d mem a) ∙ (q ∙ get_mapped (λ (a : Array). a.name) n.arrays j e no_array b))
+      (h.pipe.arrays j no_array b).inside i mem a
+      (sym (get_mapped (λ (m : PortMem). m.name) delayed i d mem a) ∙ (q ∙ get_mapped (λ (a : Array). a.name) n.arrays j e no_array b))
 
   -- their names differ
   pub mems_differ : AllPairs (λ a b. a.name ≢ b.name) n.mems
@@ -151,11 +155,13 @@ module _ (n : Netlist) (h : IsWellFormed n) where
       let w = h.well.arrays k l in
       let p = h.pipe.arrays k no_array l in
       info_wide_at k d l (info_wide (get_or n.arrays k no_array) locked p.width (w.low, w.high)) in
-      subst (All (λ (m : MemInfo). IsWide m.width)) (sym h.pipe.mems) (All-append (λ (m : MemInfo). IsWide m.width) (map delayed_info delayed) (map (told locked) n.arrays)
+      subst (All (λ (m : MemInfo). IsWide m.width)) (sym h.pipe.mems)
+      (All-append (λ (m : MemInfo). IsWide m.width) (map delayed_info delayed) (map (told locked) n.arrays)
       (All-map (λ (m : MemInfo). IsWide m.width) delayed_info delayed front)
       (All-map (λ (m : MemInfo). IsWide m.width) (told locked) n.arrays back))
     where
-      info_wide_at : (k : ℕ) (d : Array) → k < length n.arrays → IsWide (told locked (get_or n.arrays k no_array)).width → IsWide (told locked (get_or n.arrays k d)).width
+      info_wide_at : (k : ℕ) (d : Array) → k < length n.arrays → IsWide (told locked (get_or n.arrays k no_array)).width
+          → IsWide (told locked (get_or n.arrays k d)).width
       info_wide_at k d l w = subst (λ a. IsWide (told locked a).width) (get_or_default n.arrays k no_array d l) w
 
 -- ---- of what is read

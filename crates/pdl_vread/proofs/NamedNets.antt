@@ -57,7 +57,10 @@ port_net_there : (ps : List PortDecl) (i k : ℕ) (x : Net)
 port_net_there [] i k x h = absurd (cc)
 port_net_there (p ∷ ps) i k x h = go (λ j n e. port_net_there ps j n x e) p.input k h
   where
-    go : ((j n : ℕ) → get_or (port_nets j ps) n None ≡ Some x → IsInput j (length (filter_map input_width ps)) x) → (b : Bool) (k : ℕ) → get_or (cond b (Some (Input i) ∷ port_nets (suc i) ps) (None ∷ port_nets i ps)) k None ≡ Some x → IsInput i (length (cons_option (cond b (Some (bits p.high)) None) (filter_map input_width ps))) x
+    go : ((j n : ℕ) → get_or (port_nets j ps) n None ≡ Some x → IsInput j (length (filter_map input_width ps)) x)
+        → (b : Bool) (k : ℕ)
+        → get_or (cond b (Some (Input i) ∷ port_nets (suc i) ps) (None ∷ port_nets i ps)) k None ≡ Some x
+        → IsInput i (length (cons_option (cond b (Some (bits p.high)) None) (filter_map input_width ps))) x
     go more true zero e = record { slot = i; same = cc; low = omega arith; high = omega arith }
     go more true (suc k) e =
         let q = more (suc i) k e in

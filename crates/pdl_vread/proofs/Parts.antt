@@ -36,7 +36,8 @@ each_right find line ask P step (a ∷ xs) ys e r =
 -- ---- in turn
 
 module _ {A : Type 0} (ask : List A → A → Asked) where
-  turn_from : (before xs : List A) (i : ℕ) (d : A) → first_wrong (in_turn ask before xs) ≡ None → i < length xs → (ask (before ++ take i xs) (get_or xs i d)).right ≡ true
+  turn_from : (before xs : List A) (i : ℕ) (d : A) → first_wrong (in_turn ask before xs) ≡ None → i < length xs
+      → (ask (before ++ take i xs) (get_or xs i d)).right ≡ true
   turn_from before [] i d h l = absurd (omega arith)
   turn_from before (x ∷ xs) zero d h l =
       let u = right_both (ask before x).right (first_wrong (in_turn ask (before ++ x ∷ []) xs)) (ask before x).line h in
@@ -56,7 +57,9 @@ place_none (y ∷ ys) x i d h l = go (λ j k m. place_none ys x j d k m) (bytes_
     tail None e = refl
     tail (Some j) e = absurd (cc)
 
-    go : ((j : ℕ) → is_some (place ys x) ≡ false → j < length ys → get_or ys j d ≢ x) → (b : Bool) → bytes_eq x y ≡ b → (o : Option ℕ) → place ys x ≡ o → is_some (cond b (Some 0) (shifted o)) ≡ false → (i : ℕ) → i < suc (length ys) → get_or (y ∷ ys) i d ≢ x
+    go : ((j : ℕ) → is_some (place ys x) ≡ false → j < length ys → get_or ys j d ≢ x) → (b : Bool) → bytes_eq x y ≡ b
+        → (o : Option ℕ) → place ys x ≡ o → is_some (cond b (Some 0) (shifted o)) ≡ false → (i : ℕ)
+        → i < suc (length ys) → get_or (y ∷ ys) i d ≢ x
     go more true q o p e i l = absurd (cc)
     go more false q o p e zero l = λ k. let s : bytes_eq x y ≡ true = (bytes_eq-Decides x y).1 (sym k) in absurd (cc)
     go more false q o p e (suc j) l = more j (ap is_some p ∙ tail o e) (omega arith)
@@ -88,9 +91,12 @@ pub record WiringParts (f : File) (w : Wiring) : Type 0 where
 -- the wiring of a file is that of its cells, of its outputs, of its registers and of its blocks
 pub wiring_parts : (f : File) (w : Wiring) → wiring f ≡ Ok w → WiringParts f w
 unfolding wiring
-wiring_parts f w h = go (cells_from f 0 f.cells) (all_outputs f (length f.cells) f.outputs) (all_regs f (length f.cells) f.reg_blocks) (blocks_of f (length f.cells) f.array_blocks) refl refl refl refl h
+wiring_parts f w h =
+    go (cells_from f 0 f.cells) (all_outputs f (length f.cells) f.outputs) (all_regs f (length f.cells) f.reg_blocks)
+    (blocks_of f (length f.cells) f.array_blocks) refl refl refl refl h
   where
-    go : (a : Result (List Cell) ℕ) (b : Result (List OutputDrive) ℕ) (d : Result (List RegDrive) ℕ) (e : Result (List (List ArrayWrite)) ℕ) → cells_from f 0 f.cells ≡ a → all_outputs f (length f.cells) f.outputs ≡ b
+    go : (a : Result (List Cell) ℕ) (b : Result (List OutputDrive) ℕ) (d : Result (List RegDrive) ℕ) (e : Result (List (List ArrayWrite)) ℕ)
+        → cells_from f 0 f.cells ≡ a → all_outputs f (length f.cells) f.outputs ≡ b
         → all_regs f (length f.cells) f.reg_blocks ≡ d → blocks_of f (length f.cells) f.array_blocks ≡ e → with_parts a b d e ≡ Ok w → WiringParts f w
     go (Ok cs) (Ok os) (Ok rs) (Ok bs) p q r s i =
         let v : Wiring = record { cells = cs; outputs = os; regs = rs; blocks = bs } in
@@ -149,12 +155,15 @@ each_write f k P step (d ∷ ds) bs before e r o =
     let i = onto_block_inv (writes_of f k d.writes) (blocks_of f k ds) bs e in
     let ws = i.0 in
     let mine = λ (b : ArrayWrite). b.array ≡ owner ws in
-    let r1 : first_wrong (asked_writes (widths_of f) (d ∷ ds) (ws ∷ i.1)) ≡ None = subst (λ z. first_wrong (asked_writes (widths_of f) (d ∷ ds) z) ≡ None) (sym i.4) r in
+    let r1 : first_wrong (asked_writes (widths_of f) (d ∷ ds) (ws ∷ i.1)) ≡ None =
+    subst (λ z. first_wrong (asked_writes (widths_of f) (d ∷ ds) z) ≡ None) (sym i.4) r in
     let o1 : first_wrong (blocks_once before (d ∷ ds) (ws ∷ i.1)) ≡ None = subst (λ z. first_wrong (blocks_once before (d ∷ ds) z) ≡ None) (sym i.4) o in
     let p = right_parts (both (asked_write (widths_of f)) d.writes ws) (asked_writes (widths_of f) ds i.1) r1 in
     let own = both (write_once (owner ws)) d.writes ws in
     let q = right_both _ (first_wrong (own ++ blocks_once (before ++ owner ws ∷ []) ds i.1)) d.line o1 in
     let s = right_parts own (blocks_once (before ++ owner ws ∷ []) ds i.1) q.1 in
     let good : Each P ws = each_right (wired_write f k) (λ (x : WriteDecl). x.line) (asked_write (widths_of f)) P step d.writes ws i.2 p.0 in
-    let owned : Each mine ws = each_right (wired_write f k) (λ (x : WriteDecl). x.line) (write_once (owner ws)) mine (λ x b _ y. eqb-true b.array (owner ws) y) d.writes ws i.2 s.0 in
-    subst (Each (λ ws. Each (λ b. P b × (b.array ≡ owner ws)) ws)) i.4 (both_parts P mine ws good owned, each_write f k P step ds i.1 (before ++ owner ws ∷ []) i.3 p.1 s.1)
+    let owned : Each mine ws =
+    each_right (wired_write f k) (λ (x : WriteDecl). x.line) (write_once (owner ws)) mine (λ x b _ y. eqb-true b.array (owner ws) y) d.writes ws i.2 s.0 in
+    subst (Each (λ ws. Each (λ b. P b × (b.array ≡ owner ws)) ws)) i.4
+    (both_parts P mine ws good owned, each_write f k P step ds i.1 (before ++ owner ws ∷ []) i.3 p.1 s.1)

@@ -74,4 +74,9 @@ depth_is d h =
     let high : d ≤ 131072 = leb-true d 131072 q.0 in
     let e : ones d ≡ 1 = eqb-true (ones d) 1 q.1 in
     let r = one_bit 18 d (omega arith) e in
-    record { bits = r.bits; low = bits_low r.bits (subst (λ z. 2 ≤ z) r.same low); high = bits_high r.bits (subst (λ z. z ≤ 131072) r.same high); power = r.same }
+    record {
+      bits = r.bits;
+      low = bits_low r.bits (subst (λ z. 2 ≤ z) r.same low);
+      high = bits_high r.bits (subst (λ z. z ≤ 131072) r.same high);
+      power = r.same;
+    }

@@ -165,14 +165,21 @@ module _ (f : File) (w : Wiring) (k : KeepsRules f w) where
       record { there = t; width = k.cells.wide o.net t ∙ eqb-true (net_width (widths_of f) o.net) (get_or (widths_of f).ports o.port 0) r }
 
   good_outputs : Each GoodOutput w.outputs
-  good_outputs = each_right (wired_output f (length f.cells)) (λ d. d.line) (asked_output (widths_of f)) GoodOutput good_output f.outputs w.outputs k.wired.outputs k.widths.outputs
+  good_outputs =
+      each_right (wired_output f (length f.cells)) (λ d. d.line)
+      (asked_output (widths_of f)) GoodOutput good_output f.outputs w.outputs k.wired.outputs k.widths.outputs
 
-  drives_to : (i : ℕ) (Q : Net → Type 0) → ((o : OutputDrive) → GoodOutput o → o.port ≡ i → Q o.net) → (os : List OutputDrive) (x : Net) → Each GoodOutput os → Q x ⊎ (1 ≤ length (filter (λ o. eqb o.port i) os)) → Q (driver i x os)
+  drives_to : (i : ℕ) (Q : Net → Type 0) → ((o : OutputDrive) → GoodOutput o → o.port ≡ i → Q o.net)
+      → (os : List OutputDrive) (x : Net) → Each GoodOutput os → Q x ⊎ (1 ≤ length (filter (λ o. eqb o.port i) os))
+      → Q (driver i x os)
   drives_to i Q step [] x h (inl q) = q
   drives_to i Q step [] x h (inr l) = absurd (omega arith)
   drives_to i Q step (o ∷ os) x h s = go (λ y k. drives_to i Q step os y h.1 k) (eqb o.port i) refl s
     where
-      go : ((y : Net) → Q y ⊎ (1 ≤ length (filter (λ o. eqb o.port i) os)) → Q (driver i y os)) → (b : Bool) → eqb o.port i ≡ b → Q x ⊎ (1 ≤ length (cond b (o ∷ filter (λ o. eqb o.port i) os) (filter (λ o. eqb o.port i) os))) → Q (driver i (cond b o.net x) os)
+      go : ((y : Net) → Q y ⊎ (1 ≤ length (filter (λ o. eqb o.port i) os)) → Q (driver i y os)) → (b : Bool)
+          → eqb o.port i ≡ b
+          → Q x ⊎ (1 ≤ length (cond b (o ∷ filter (λ o. eqb o.port i) os) (filter (λ o. eqb o.port i) os)))
+          → Q (driver i (cond b o.net x) os)
       go more true e s = more o.net (inl (step o h.0 (eqb-true o.port i e)))
       go more false e k = more x k
 
@@ -192,26 +199,41 @@ module _ (f : File) (w : Wiring) (k : KeepsRules f w) where
   well_port i d l e = record { low = wd.0; high = wd.1; driven = go d.input refl }
     where
       wd : (1 ≤ bits d.high) × (bits d.high ≤ 64)
-      wd = subst (λ (z : PortDecl). (1 ≤ bits z.high) × (bits z.high ≤ 64)) (sym e) (is_width_parts _ (map_right asked_port f.ports k.widths.ports i no_port_decl l))
+      wd =
+          subst (λ (z : PortDecl). (1 ≤ bits z.high) × (bits z.high ≤ 64)) (sym e)
+          (is_width_parts _ (map_right asked_port f.ports k.widths.ports i no_port_decl l))
 
       step : (o : OutputDrive) → GoodOutput o → o.port ≡ i → IsThere c o.net × ((signal c o.net).width ≡ bits d.high)
-      step o h q = (h.there, h.width ∙ (ap (λ z. get_or (widths_of f).ports z 0) q ∙ (number_at (λ (p : PortDecl). bits p.high) f.ports i no_port_decl l ∙ ap (λ (z : PortDecl). bits z.high) (sym e))))
+      step o h q = (
+        h.there,
+        h.width
+            ∙ (ap (λ z. get_or (widths_of f).ports z 0) q
+            ∙ (number_at (λ (p : PortDecl). bits p.high) f.ports i no_port_decl l ∙ ap (λ (z : PortDecl). bits z.high) (sym e))),
+      )
 
       go : (b : Bool) → d.input ≡ b → IsDriven c (bits d.high) (cond b In (Out (driver i (Input 0) w.outputs)))
       go true q = tt
-      go false q = drives_to i (λ x. IsThere c x × ((signal c x).width ≡ bits d.high)) step w.outputs (Input 0) good_outputs (inr (once_driven i l (ap (λ (z : PortDecl). z.input) (sym e) ∙ q)))
+      go false q =
+          drives_to i (λ x. IsThere c x × ((signal c x).width ≡ bits d.high)) step w.outputs (Input 0) good_outputs
+          (inr (once_driven i l (ap (λ (z : PortDecl). z.input) (sym e) ∙ q)))
 
-  well_ports_from : (ps : List PortDecl) (r i : ℕ) (p : Port) → ((j : ℕ) (d : PortDecl) → j < length ps → d ≡ get_or ps j no_port_decl → IsWellPort c (port d (driver (r + j) (Input 0) w.outputs))) → slice_get (ports w.outputs r ps) i ≡ Some p → IsWellPort c p
+  well_ports_from : (ps : List PortDecl) (r i : ℕ) (p : Port)
+      → ((j : ℕ) (d : PortDecl) → j < length ps → d ≡ get_or ps j no_port_decl → IsWellPort c (port d (driver (r + j) (Input 0) w.outputs)))
+      → slice_get (ports w.outputs r ps) i ≡ Some p → IsWellPort c p
   well_ports_from [] r i p h e = absurd (cc)
   well_ports_from (d ∷ ds) r zero p h e =
       let q : port d (driver r (Input 0) w.outputs) ≡ p = cc in
       let z : r + 0 ≡ r = omega arith in
       subst (IsWellPort c) q (subst (λ n. IsWellPort c (port d (driver n (Input 0) w.outputs))) z (h 0 d (omega arith) refl))
   well_ports_from (d ∷ ds) r (suc i) p h e =
-      well_ports_from ds (suc r) i p (λ j x l q. let z : r + suc j ≡ suc r + j = omega arith in subst (λ n. IsWellPort c (port x (driver n (Input 0) w.outputs))) z (h (suc j) x (omega arith) q)) e
+      well_ports_from ds (suc r) i p
+      (λ j x l q. let z : r + suc j ≡ suc r + j = omega arith in
+      subst (λ n. IsWellPort c (port x (driver n (Input 0) w.outputs))) z (h (suc j) x (omega arith) q)) e
 
   well_ports : (i : ℕ) (p : Port) → slice_get c.ports i ≡ Some p → IsWellPort c p
-  well_ports i p e = well_ports_from f.ports 0 i p (λ j d l q. let z : j ≡ 0 + j = omega arith in subst (λ n. IsWellPort c (port d (driver n (Input 0) w.outputs))) z (well_port j d l q)) e
+  well_ports i p e =
+      well_ports_from f.ports 0 i p
+      (λ j d l q. let z : j ≡ 0 + j = omega arith in subst (λ n. IsWellPort c (port d (driver n (Input 0) w.outputs))) z (well_port j d l q)) e
 
   -- ---- registers
 
@@ -237,7 +259,8 @@ module _ (f : File) (w : Wiring) (k : KeepsRules f w) where
       }
 
   good_regs : Each GoodReg w.regs
-  good_regs = each_right (wired_reg f (length f.cells)) (λ d. d.line) (asked_block (widths_of f)) GoodReg good_reg f.reg_blocks w.regs k.wired.regs k.widths.blocks
+  good_regs =
+      each_right (wired_reg f (length f.cells)) (λ d. d.line) (asked_block (widths_of f)) GoodReg good_reg f.reg_blocks w.regs k.wired.regs k.widths.blocks
 
   well_given : (x : Reg) (b : RegDrive) → (1 ≤ x.width) × (x.width ≤ 64) → GoodReg b → b.width ≡ x.width → IsWellReg c (given x b)
   well_given x b wd g e = record {
@@ -248,12 +271,17 @@ module _ (f : File) (w : Wiring) (k : KeepsRules f w) where
     width = g.net ∙ e;
   }
 
-  drives_reg : (r wide : ℕ) → (1 ≤ wide) × (wide ≤ 64) → wide ≡ get_or (widths_of f).regs r 0 → (ds : List RegDrive) (x : Reg) → x.width ≡ wide → Each GoodReg ds → IsWellReg c x ⊎ (1 ≤ length (filter (λ b. eqb b.reg r) ds)) → IsWellReg c (driven r x ds)
+  drives_reg : (r wide : ℕ) → (1 ≤ wide) × (wide ≤ 64) → wide ≡ get_or (widths_of f).regs r 0
+      → (ds : List RegDrive) (x : Reg) → x.width ≡ wide → Each GoodReg ds
+      → IsWellReg c x ⊎ (1 ≤ length (filter (λ b. eqb b.reg r) ds)) → IsWellReg c (driven r x ds)
   drives_reg r wide wd same [] x e h (inl q) = q
   drives_reg r wide wd same [] x e h (inr l) = absurd (omega arith)
   drives_reg r wide wd same (d ∷ ds) x e h s = go (λ y q k. drives_reg r wide wd same ds y q h.1 k) (eqb d.reg r) refl s
     where
-      go : ((y : Reg) → y.width ≡ wide → IsWellReg c y ⊎ (1 ≤ length (filter (λ b. eqb b.reg r) ds)) → IsWellReg c (driven r y ds)) → (b : Bool) → eqb d.reg r ≡ b → IsWellReg c x ⊎ (1 ≤ length (cond b (d ∷ filter (λ b. eqb b.reg r) ds) (filter (λ b. eqb b.reg r) ds))) → IsWellReg c (driven r (cond b (given x d) x) ds)
+      go : ((y : Reg) → y.width ≡ wide → IsWellReg c y ⊎ (1 ≤ length (filter (λ b. eqb b.reg r) ds)) → IsWellReg c (driven r y ds))
+          → (b : Bool) → eqb d.reg r ≡ b
+          → IsWellReg c x ⊎ (1 ≤ length (cond b (d ∷ filter (λ b. eqb b.reg r) ds) (filter (λ b. eqb b.reg r) ds)))
+          → IsWellReg c (driven r (cond b (given x d) x) ds)
       go more true q s =
           let n : d.reg ≡ r = eqb-true d.reg r q in
           let m : d.width ≡ x.width = h.0.width ∙ (ap (λ z. get_or (widths_of f).regs z 0) n ∙ (sym same ∙ sym e)) in
@@ -277,7 +305,9 @@ module _ (f : File) (w : Wiring) (k : KeepsRules f w) where
       let n : r < length f.regs = omega (arith, l, length_regs w.regs f.regs) in
       let d = get_or f.regs r no_decl in
       let wd = is_width_parts (bits d.high) (map_right asked_reg f.regs k.widths.regs r no_decl n) in
-      subst (IsWellReg c) (sym (reg_is f w r n)) (drives_reg r (bits d.high) wd (sym (number_at (λ (z : RegDecl). bits z.high) f.regs r no_decl n)) w.regs (undriven d) refl good_regs (inr (reg_driven r n)))
+      subst (IsWellReg c) (sym (reg_is f w r n))
+      (drives_reg r (bits d.high) wd (sym (number_at (λ (z : RegDecl). bits z.high) f.regs r no_decl n)) w.regs
+      (undriven d) refl good_regs (inr (reg_driven r n)))
 
   -- ---- arrays
 
@@ -289,13 +319,16 @@ module _ (f : File) (w : Wiring) (k : KeepsRules f w) where
     reach : 2 ^ (signal c b.port.addr).width ≡ get_or (widths_of f).depths b.array 0
     width : (signal c b.port.value).width ≡ get_or (widths_of f).words b.array 0
 
-  nets_there : (m : ℕ) (d : WriteDecl) (b : ArrayWrite) → wired_port f (length f.cells) m d ≡ Some b → IsThere c b.port.enable × IsThere c b.port.addr × IsThere c b.port.value
+  nets_there : (m : ℕ) (d : WriteDecl) (b : ArrayWrite) → wired_port f (length f.cells) m d ≡ Some b
+      → IsThere c b.port.enable × IsThere c b.port.addr × IsThere c b.port.value
   nets_there m d b e =
       let n = length f.cells in
       let i = three_inv _ (net_of f n d.enable) (net_of f n d.addr) (net_of f n d.value) b e in
-      subst (λ (z : ArrayWrite). IsThere c z.port.enable × IsThere c z.port.addr × IsThere c z.port.value) i.6 (is_there d.enable i.0 i.3, is_there d.addr i.1 i.4, is_there d.value i.2 i.5)
+      subst (λ (z : ArrayWrite). IsThere c z.port.enable × IsThere c z.port.addr × IsThere c z.port.value) i.6
+      (is_there d.enable i.0 i.3, is_there d.addr i.1 i.4, is_there d.value i.2 i.5)
 
-  found_array : (d : WriteDecl) (b : ArrayWrite) (o : Option ℕ) → wired_array f (length f.cells) d o ≡ Some b → IsThere c b.port.enable × IsThere c b.port.addr × IsThere c b.port.value
+  found_array : (d : WriteDecl) (b : ArrayWrite) (o : Option ℕ) → wired_array f (length f.cells) d o ≡ Some b
+      → IsThere c b.port.enable × IsThere c b.port.addr × IsThere c b.port.value
   found_array d b None e = absurd (cc)
   found_array d b (Some m) e = nets_there m d b e
 
@@ -319,7 +352,9 @@ module _ (f : File) (w : Wiring) (k : KeepsRules f w) where
   good_writes : Each (λ ws. Each (λ b. GoodWrite b × (b.array ≡ owner ws)) ws) w.blocks
   good_writes = each_write f (length f.cells) GoodWrite good_write f.array_blocks w.blocks [] k.wired.blocks k.widths.writes k.once.blocks
 
-  well_writes : (m : ℕ) (a : Array) → a.depth ≡ get_or (widths_of f).depths m 0 → a.width ≡ get_or (widths_of f).words m 0 → (bs : List (List ArrayWrite)) → Each (λ ws. Each (λ b. GoodWrite b × (b.array ≡ owner ws)) ws) bs → Each (IsWellWrite c a) (writes m bs)
+  well_writes : (m : ℕ) (a : Array) → a.depth ≡ get_or (widths_of f).depths m 0
+      → a.width ≡ get_or (widths_of f).words m 0 → (bs : List (List ArrayWrite))
+      → Each (λ ws. Each (λ b. GoodWrite b × (b.array ≡ owner ws)) ws) bs → Each (IsWellWrite c a) (writes m bs)
   well_writes m a d v [] h = tt
   well_writes m a d v (ws ∷ more) h = go (well_writes m a d v more h.1) (eqb (owner ws) m) refl
     where
@@ -388,12 +423,20 @@ reads_well bytes n h =
     let w = h.netlist.wiring in
     let k = keeps_rules f w h.netlist.wired in
     let e : circuit_of n ≡ circuit f w = circuit_built f w n h.netlist.same in
-    let ps = names_apart (λ (p : PortDecl). p.name) f.ports no_port_decl (λ i l. (and_parts (is_new (map (λ q. q.name) (take i f.ports)) (get_or f.ports i no_port_decl).name) _ (turn_at (port_once w.outputs) f.ports i no_port_decl k.once.ports l)).0) in
+    let ps =
+    names_apart (λ (p : PortDecl). p.name) f.ports no_port_decl
+    (λ i l.
+    (and_parts (is_new (map (λ q. q.name) (take i f.ports)) (get_or f.ports i no_port_decl).name) _
+    (turn_at (port_once w.outputs) f.ports i no_port_decl k.once.ports l)).0) in
     let qs = names_apart (λ (a : ArrayDecl). a.name) f.arrays no_array_decl (λ i l. turn_at array_once f.arrays i no_array_decl k.once.arrays l) in
     record {
       well = subst IsWell (sym e) (well f w k);
-      port_names = subst (AllPairs (λ (a b : List ℕ). a ≢ b)) (sym (ap (λ (c : Circuit). map (λ p. p.name) c.ports) e ∙ port_names f w k w.outputs 0 f.ports)) ps;
-      array_names = subst (AllPairs (λ (a b : List ℕ). a ≢ b)) (sym (ap (λ (c : Circuit). map (λ a. a.name) c.arrays) e ∙ array_names f w k w.blocks 0 f.arrays)) (apart_rests f.arrays (file_named bytes f h.text) qs);
+      port_names =
+          subst (AllPairs (λ (a b : List ℕ). a ≢ b)) (sym (ap (λ (c : Circuit). map (λ p. p.name) c.ports) e ∙ port_names f w k w.outputs 0 f.ports)) ps;
+      array_names =
+          subst (AllPairs (λ (a b : List ℕ). a ≢ b))
+          (sym (ap (λ (c : Circuit). map (λ a. a.name) c.arrays) e ∙ array_names f w k w.blocks 0 f.arrays))
+          (apart_rests f.arrays (file_named bytes f h.text) qs);
       pipe = h.netlist.pipe;
     }
 

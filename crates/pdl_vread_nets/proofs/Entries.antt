@@ -36,7 +36,8 @@ place_more : (names : List (List ℕ)) (x y : List ℕ)
 place_more [] x y = refl
 place_more (n ∷ ns) x y =
     ap (λ o. cond (bytes_eq y n) (Some 0) (shifted o)) (place_more ns x y)
-    ∙ (ap (λ o. cond (bytes_eq y n) (Some 0) o) (shifted_later (place ns y) (cond (bytes_eq y x) (Some (length ns)) None) ∙ ap (later (shifted (place ns y))) (shifted_cond (bytes_eq y x) (length ns)))
+    ∙ (ap (λ o. cond (bytes_eq y n) (Some 0) o)
+    (shifted_later (place ns y) (cond (bytes_eq y x) (Some (length ns)) None) ∙ ap (later (shifted (place ns y))) (shifted_cond (bytes_eq y x) (length ns)))
     ∙ first_later (bytes_eq y n) (shifted (place ns y)) (cond (bytes_eq y x) (Some (suc (length ns))) None))
 
 there : (o q : Option ℕ) → is_some o ≡ true → later o q ≡ o
@@ -93,7 +94,10 @@ pub added_new : (old new : r.Places) (names : List (List ℕ)) (x : List ℕ) �
     → new.count ≡ old.count + 1 → AreFirsts (names ++ x ∷ []) new
 added_new old new names x h s u f = record {
   count = count_more names x old.count new.count h.count f;
-  firsts = λ y. u.0 y ∙ (ap (λ n. cond (same x y) (Some n) (get same old.firsts y)) h.count ∙ (ap (λ o. cond (same x y) (Some (length names)) o) (h.firsts y) ∙ sym (more_new names x y (subst (λ o. is_some o ≡ false) (h.firsts x) s))));
+  firsts =
+      λ y. u.0 y
+      ∙ (ap (λ n. cond (same x y) (Some n) (get same old.firsts y)) h.count
+      ∙ (ap (λ o. cond (same x y) (Some (length names)) o) (h.firsts y) ∙ sym (more_new names x y (subst (λ o. is_some o ≡ false) (h.firsts x) s))));
 }
 
 -- a looked-up value is there just where what it stands for is

@@ -26,7 +26,9 @@ wired_so f g k cs os rs bs e h a b c d =
     let b2 = moved (λ x n. spec.all_outputs x n f.outputs ≡ Ok os) f g k e h b in
     let c2 = moved (λ x n. spec.all_regs x n f.reg_blocks ≡ Ok rs) f g k e h c in
     let d2 = moved (λ x n. spec.blocks_of x n f.array_blocks ≡ Ok bs) f g k e h d in
-    ap (λ x. spec.with_parts x (spec.all_outputs f (length f.cells) f.outputs) (spec.all_regs f (length f.cells) f.reg_blocks) (spec.blocks_of f (length f.cells) f.array_blocks)) a
+    ap
+    (λ x. spec.with_parts x (spec.all_outputs f (length f.cells) f.outputs)
+    (spec.all_regs f (length f.cells) f.reg_blocks) (spec.blocks_of f (length f.cells) f.array_blocks)) a
     ∙ (ap (λ x. spec.with_parts (Ok cs) x (spec.all_regs f (length f.cells) f.reg_blocks) (spec.blocks_of f (length f.cells) f.array_blocks)) b2
     ∙ (ap (λ x. spec.with_parts (Ok cs) (Ok os) x (spec.blocks_of f (length f.cells) f.array_blocks)) c2
     ∙ ap (λ x. spec.with_parts (Ok cs) (Ok os) (Ok rs) x) d2))
@@ -35,7 +37,10 @@ wired_so f g k cs os rs bs e h a b c d =
 pub cells_stop : (f g : File) (e : PassStop) → g ≡ f → spec.Gives (spec.cells_from g 0 f.cells) (Err e) → spec.Gives (spec.wiring f) (Err e)
 unfolding wiring
 cells_stop f g (stop.Broken line) i h =
-    ap (λ x. spec.with_parts x (spec.all_outputs f (length f.cells) f.outputs) (spec.all_regs f (length f.cells) f.reg_blocks) (spec.blocks_of f (length f.cells) f.array_blocks)) (subst (λ x. spec.cells_from x 0 f.cells ≡ Err line) i h)
+    ap
+    (λ x. spec.with_parts x (spec.all_outputs f (length f.cells) f.outputs)
+    (spec.all_regs f (length f.cells) f.reg_blocks) (spec.blocks_of f (length f.cells) f.array_blocks))
+    (subst (λ x. spec.cells_from x 0 f.cells ≡ Err line) i h)
 cells_stop f g stop.NoMemory i h = tt
 
 -- where the pass over outputs stops, after that over cells, the wiring of the file does
@@ -44,8 +49,11 @@ pub outputs_stop : (f g : File) (k : ℕ) (cs : List Cell) (e : PassStop)
     → spec.Gives (spec.all_outputs g k f.outputs) (Err e) → spec.Gives (spec.wiring f) (Err e)
 unfolding wiring
 outputs_stop f g k cs (stop.Broken line) i j a h =
-    ap (λ x. spec.with_parts x (spec.all_outputs f (length f.cells) f.outputs) (spec.all_regs f (length f.cells) f.reg_blocks) (spec.blocks_of f (length f.cells) f.array_blocks)) a
-    ∙ ap (λ x. spec.with_parts (Ok cs) x (spec.all_regs f (length f.cells) f.reg_blocks) (spec.blocks_of f (length f.cells) f.array_blocks)) (moved (λ x n. spec.all_outputs x n f.outputs ≡ Err line) f g k i j h)
+    ap
+    (λ x. spec.with_parts x (spec.all_outputs f (length f.cells) f.outputs)
+    (spec.all_regs f (length f.cells) f.reg_blocks) (spec.blocks_of f (length f.cells) f.array_blocks)) a
+    ∙ ap (λ x. spec.with_parts (Ok cs) x (spec.all_regs f (length f.cells) f.reg_blocks) (spec.blocks_of f (length f.cells) f.array_blocks))
+    (moved (λ x n. spec.all_outputs x n f.outputs ≡ Err line) f g k i j h)
 outputs_stop f g k cs stop.NoMemory i j a h = tt
 
 -- where the pass over registers stops, after that over outputs, the wiring of the file does
@@ -54,9 +62,13 @@ pub regs_stop : (f g : File) (k : ℕ) (cs : List Cell) (os : List OutputDrive) 
     → spec.Gives (spec.all_regs g k f.reg_blocks) (Err e) → spec.Gives (spec.wiring f) (Err e)
 unfolding wiring
 regs_stop f g k cs os (stop.Broken line) i j a b h =
-    ap (λ x. spec.with_parts x (spec.all_outputs f (length f.cells) f.outputs) (spec.all_regs f (length f.cells) f.reg_blocks) (spec.blocks_of f (length f.cells) f.array_blocks)) a
-    ∙ (ap (λ x. spec.with_parts (Ok cs) x (spec.all_regs f (length f.cells) f.reg_blocks) (spec.blocks_of f (length f.cells) f.array_blocks)) (moved (λ x n. spec.all_outputs x n f.outputs ≡ Ok os) f g k i j b)
-    ∙ ap (λ x. spec.with_parts (Ok cs) (Ok os) x (spec.blocks_of f (length f.cells) f.array_blocks)) (moved (λ x n. spec.all_regs x n f.reg_blocks ≡ Err line) f g k i j h))
+    ap
+    (λ x. spec.with_parts x (spec.all_outputs f (length f.cells) f.outputs)
+    (spec.all_regs f (length f.cells) f.reg_blocks) (spec.blocks_of f (length f.cells) f.array_blocks)) a
+    ∙ (ap (λ x. spec.with_parts (Ok cs) x (spec.all_regs f (length f.cells) f.reg_blocks) (spec.blocks_of f (length f.cells) f.array_blocks))
+    (moved (λ x n. spec.all_outputs x n f.outputs ≡ Ok os) f g k i j b)
+    ∙ ap (λ x. spec.with_parts (Ok cs) (Ok os) x (spec.blocks_of f (length f.cells) f.array_blocks))
+    (moved (λ x n. spec.all_regs x n f.reg_blocks ≡ Err line) f g k i j h))
 regs_stop f g k cs os stop.NoMemory i j a b h = tt
 
 -- where the pass over blocks of arrays stops, after that over registers, the wiring of the file does
@@ -66,9 +78,13 @@ pub blocks_stop : (f g : File) (k : ℕ) (cs : List Cell) (os : List OutputDrive
     → spec.Gives (spec.wiring f) (Err e)
 unfolding wiring
 blocks_stop f g k cs os rs (stop.Broken line) i j a b c h =
-    ap (λ x. spec.with_parts x (spec.all_outputs f (length f.cells) f.outputs) (spec.all_regs f (length f.cells) f.reg_blocks) (spec.blocks_of f (length f.cells) f.array_blocks)) a
-    ∙ (ap (λ x. spec.with_parts (Ok cs) x (spec.all_regs f (length f.cells) f.reg_blocks) (spec.blocks_of f (length f.cells) f.array_blocks)) (moved (λ x n. spec.all_outputs x n f.outputs ≡ Ok os) f g k i j b)
-    ∙ (ap (λ x. spec.with_parts (Ok cs) (Ok os) x (spec.blocks_of f (length f.cells) f.array_blocks)) (moved (λ x n. spec.all_regs x n f.reg_blocks ≡ Ok rs) f g k i j c)
+    ap
+    (λ x. spec.with_parts x (spec.all_outputs f (length f.cells) f.outputs)
+    (spec.all_regs f (length f.cells) f.reg_blocks) (spec.blocks_of f (length f.cells) f.array_blocks)) a
+    ∙ (ap (λ x. spec.with_parts (Ok cs) x (spec.all_regs f (length f.cells) f.reg_blocks) (spec.blocks_of f (length f.cells) f.array_blocks))
+    (moved (λ x n. spec.all_outputs x n f.outputs ≡ Ok os) f g k i j b)
+    ∙ (ap (λ x. spec.with_parts (Ok cs) (Ok os) x (spec.blocks_of f (length f.cells) f.array_blocks))
+    (moved (λ x n. spec.all_regs x n f.reg_blocks ≡ Ok rs) f g k i j c)
     ∙ ap (λ x. spec.with_parts (Ok cs) (Ok os) (Ok rs) x) (moved (λ x n. spec.blocks_of x n f.array_blocks ≡ Err line) f g k i j h)))
 blocks_stop f g k cs os rs stop.NoMemory i j a b c h = tt
 

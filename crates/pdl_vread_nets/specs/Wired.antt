@@ -137,7 +137,8 @@ wired_reg f k b = with_two (λ r n. record { reg = r; width = small b.width; res
 
 -- a write to array m, if the names of its operands stand for nets
 abbrev pub wired_port : File → ℕ → ℕ → WriteDecl → Option ArrayWrite
-wired_port f k m d = with_three (λ e a v. record { array = m; port = record { enable = e; addr = a; value = v } }) (net_of f k d.enable) (net_of f k d.addr) (net_of f k d.value)
+wired_port f k m d =
+    with_three (λ e a v. record { array = m; port = record { enable = e; addr = a; value = v } }) (net_of f k d.enable) (net_of f k d.addr) (net_of f k d.value)
 
 -- a write to an array, if that is there and the names of the operands stand for nets
 abbrev pub wired_array : File → ℕ → WriteDecl → Option ℕ → Option ArrayWrite
@@ -200,7 +201,9 @@ with_parts (Ok cs) (Ok os) (Ok rs) (Ok bs) = Ok (record { cells = cs; outputs = 
 
 -- the nets that all names stand for, or the line of the first place where a name stands for nothing of its kind: V2
 unfoldable pub wiring : File → Result Wiring ℕ
-wiring f = with_parts (cells_from f 0 f.cells) (all_outputs f (length f.cells) f.outputs) (all_regs f (length f.cells) f.reg_blocks) (blocks_of f (length f.cells) f.array_blocks)
+wiring f =
+    with_parts (cells_from f 0 f.cells) (all_outputs f (length f.cells) f.outputs)
+    (all_regs f (length f.cells) f.reg_blocks) (blocks_of f (length f.cells) f.array_blocks)
 
 -- ---- what passes answer
 

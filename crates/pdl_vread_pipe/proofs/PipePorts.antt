@@ -19,7 +19,8 @@ module _ {X : Type 0} (F : Head → Option X) where
   -- part by part
   of_parts : (s : ℕ) (d l : List PortMem)
       → filter_map F (pipe_ports s d l)
-      ≡ (((flat_map (λ m. filter_map F (reply_ports m)) d ++ flat_map (λ k. filter_map F (stage_ports k)) (range_with_len 0 s)) ++ flat_map (λ m. filter_map F (commit_ports m)) l)
+      ≡ (((flat_map (λ m. filter_map F (reply_ports m)) d ++ flat_map (λ k. filter_map F (stage_ports k)) (range_with_len 0 s))
+      ++ flat_map (λ m. filter_map F (commit_ports m)) l)
       ++ flat_map (λ m. filter_map F (request_ports m)) d)
       ++ filter_map F last_ports
   of_parts s d l =
@@ -33,7 +34,9 @@ module _ {X : Type 0} (F : Head → Option X) where
       let gb = flat_map (λ k. filter_map F (stage_ports k)) r in
       let gc = flat_map (λ m. filter_map F (commit_ports m)) l in
       filter_map-append F (((a ++ b) ++ c) ++ e) last_ports
-      ∙ (ap (λ t. t ++ z) (filter_map-append F ((a ++ b) ++ c) e ∙ ap (λ t. t ++ filter_map F e) (filter_map-append F (a ++ b) c ∙ ap (λ t. t ++ filter_map F c) (filter_map-append F a b)))
+      ∙ (ap (λ t. t ++ z)
+      (filter_map-append F ((a ++ b) ++ c) e
+      ∙ ap (λ t. t ++ filter_map F e) (filter_map-append F (a ++ b) c ∙ ap (λ t. t ++ filter_map F c) (filter_map-append F a b)))
       ∙ (ap (λ t. (((t ++ filter_map F b) ++ filter_map F c) ++ filter_map F e) ++ z) (of_flat reply_ports d)
       ∙ (ap (λ t. (((ga ++ t) ++ filter_map F c) ++ filter_map F e) ++ z) (of_flat stage_ports r)
       ∙ (ap (λ t. (((ga ++ gb) ++ t) ++ filter_map F e) ++ z) (of_flat commit_ports l) ∙ ap (λ t. (((ga ++ gb) ++ gc) ++ t) ++ z) (of_flat request_ports d)))))
@@ -48,43 +51,62 @@ module _ {X : Type 0} (a b c e t : List X) where
   first_alone ha hb hc he =
       ap (λ z. (((z ++ b) ++ c) ++ e) ++ []) ha
       ∙ (ap (λ z. (((t ++ z) ++ c) ++ e) ++ []) hb
-      ∙ (ap (λ z. (((t ++ []) ++ z) ++ e) ++ []) hc ∙ (ap (λ z. (((t ++ []) ++ []) ++ z) ++ []) he ∙ (append-nil (((t ++ []) ++ []) ++ []) ∙ (append-nil ((t ++ []) ++ []) ∙ (append-nil (t ++ []) ∙ append-nil t))))))
+      ∙ (ap (λ z. (((t ++ []) ++ z) ++ e) ++ []) hc
+      ∙ (ap (λ z. (((t ++ []) ++ []) ++ z) ++ []) he
+      ∙ (append-nil (((t ++ []) ++ []) ++ []) ∙ (append-nil ((t ++ []) ++ []) ∙ (append-nil (t ++ []) ∙ append-nil t))))))
 
   second_alone : a ≡ [] → b ≡ t → c ≡ [] → e ≡ [] → (((a ++ b) ++ c) ++ e) ++ [] ≡ t
   second_alone ha hb hc he =
       ap (λ z. (((z ++ b) ++ c) ++ e) ++ []) ha
-      ∙ (ap (λ z. ((z ++ c) ++ e) ++ []) hb ∙ (ap (λ z. ((t ++ z) ++ e) ++ []) hc ∙ (ap (λ z. ((t ++ []) ++ z) ++ []) he ∙ (append-nil ((t ++ []) ++ []) ∙ (append-nil (t ++ []) ∙ append-nil t)))))
+      ∙ (ap (λ z. ((z ++ c) ++ e) ++ []) hb
+      ∙ (ap (λ z. ((t ++ z) ++ e) ++ []) hc
+      ∙ (ap (λ z. ((t ++ []) ++ z) ++ []) he ∙ (append-nil ((t ++ []) ++ []) ∙ (append-nil (t ++ []) ∙ append-nil t)))))
 
   third_alone : a ≡ [] → b ≡ [] → c ≡ t → e ≡ [] → (((a ++ b) ++ c) ++ e) ++ [] ≡ t
   third_alone ha hb hc he =
-      ap (λ z. (((z ++ b) ++ c) ++ e) ++ []) ha ∙ (ap (λ z. ((z ++ c) ++ e) ++ []) hb ∙ (ap (λ z. (z ++ e) ++ []) hc ∙ (ap (λ z. (t ++ z) ++ []) he ∙ (append-nil (t ++ []) ∙ append-nil t))))
+      ap (λ z. (((z ++ b) ++ c) ++ e) ++ []) ha
+      ∙ (ap (λ z. ((z ++ c) ++ e) ++ []) hb ∙ (ap (λ z. (z ++ e) ++ []) hc ∙ (ap (λ z. (t ++ z) ++ []) he ∙ (append-nil (t ++ []) ∙ append-nil t))))
 
   fourth_alone : a ≡ [] → b ≡ [] → c ≡ [] → e ≡ t → (((a ++ b) ++ c) ++ e) ++ [] ≡ t
-  fourth_alone ha hb hc he = ap (λ z. (((z ++ b) ++ c) ++ e) ++ []) ha ∙ (ap (λ z. ((z ++ c) ++ e) ++ []) hb ∙ (ap (λ z. (z ++ e) ++ []) hc ∙ (ap (λ z. z ++ []) he ∙ append-nil t)))
+  fourth_alone ha hb hc he =
+      ap (λ z. (((z ++ b) ++ c) ++ e) ++ []) ha ∙ (ap (λ z. ((z ++ c) ++ e) ++ []) hb ∙ (ap (λ z. (z ++ e) ++ []) hc ∙ (ap (λ z. z ++ []) he ∙ append-nil t)))
 
 abbrev stage_range : ℕ → List ℕ
 stage_range s = range_with_len 0 s
 
 delayed_names : (s : ℕ) (d l : List PortMem) → names (codes "p_") (pipe_ports s d l) ≡ map (λ m. m.name) d
-delayed_names s d l = of_parts (λ h. strip (codes "p_") h.name) s d l ∙ first_alone _ _ _ _ _ (flat_map_single (λ (m : PortMem). m.name) d) (nothing (stage_range s)) (nothing l) (nothing d)
+delayed_names s d l =
+    of_parts (λ h. strip (codes "p_") h.name) s d l
+    ∙ first_alone _ _ _ _ _ (flat_map_single (λ (m : PortMem). m.name) d) (nothing (stage_range s)) (nothing l) (nothing d)
 
 delayed_words : (s : ℕ) (d l : List PortMem) → widths (codes "pd_") (pipe_ports s d l) ≡ map (λ m. m.width) d
-delayed_words s d l = of_parts (λ h. option_map (λ _. h.width) (strip (codes "pd_") h.name)) s d l ∙ first_alone _ _ _ _ _ (flat_map_single (λ (m : PortMem). m.width) d) (nothing (stage_range s)) (nothing l) (nothing d)
+delayed_words s d l =
+    of_parts (λ h. option_map (λ _. h.width) (strip (codes "pd_") h.name)) s d l
+    ∙ first_alone _ _ _ _ _ (flat_map_single (λ (m : PortMem). m.width) d) (nothing (stage_range s)) (nothing l) (nothing d)
 
 delayed_bits : (s : ℕ) (d l : List PortMem) → widths (codes "qa_") (pipe_ports s d l) ≡ map (λ m. m.bits) d
-delayed_bits s d l = of_parts (λ h. option_map (λ _. h.width) (strip (codes "qa_") h.name)) s d l ∙ fourth_alone _ _ _ _ _ (nothing d) (nothing (stage_range s)) (nothing l) (flat_map_single (λ (m : PortMem). m.bits) d)
+delayed_bits s d l =
+    of_parts (λ h. option_map (λ _. h.width) (strip (codes "qa_") h.name)) s d l
+    ∙ fourth_alone _ _ _ _ _ (nothing d) (nothing (stage_range s)) (nothing l) (flat_map_single (λ (m : PortMem). m.bits) d)
 
 locked_names : (s : ℕ) (d l : List PortMem) → names (codes "c_") (pipe_ports s d l) ≡ map (λ m. m.name) l
-locked_names s d l = of_parts (λ h. strip (codes "c_") h.name) s d l ∙ third_alone _ _ _ _ _ (nothing d) (nothing (stage_range s)) (flat_map_single (λ (m : PortMem). m.name) l) (nothing d)
+locked_names s d l =
+    of_parts (λ h. strip (codes "c_") h.name) s d l
+    ∙ third_alone _ _ _ _ _ (nothing d) (nothing (stage_range s)) (flat_map_single (λ (m : PortMem). m.name) l) (nothing d)
 
 locked_words : (s : ℕ) (d l : List PortMem) → widths (codes "cd_") (pipe_ports s d l) ≡ map (λ m. m.width) l
-locked_words s d l = of_parts (λ h. option_map (λ _. h.width) (strip (codes "cd_") h.name)) s d l ∙ third_alone _ _ _ _ _ (nothing d) (nothing (stage_range s)) (flat_map_single (λ (m : PortMem). m.width) l) (nothing d)
+locked_words s d l =
+    of_parts (λ h. option_map (λ _. h.width) (strip (codes "cd_") h.name)) s d l
+    ∙ third_alone _ _ _ _ _ (nothing d) (nothing (stage_range s)) (flat_map_single (λ (m : PortMem). m.width) l) (nothing d)
 
 locked_bits : (s : ℕ) (d l : List PortMem) → widths (codes "ca_") (pipe_ports s d l) ≡ map (λ m. m.bits) l
-locked_bits s d l = of_parts (λ h. option_map (λ _. h.width) (strip (codes "ca_") h.name)) s d l ∙ third_alone _ _ _ _ _ (nothing d) (nothing (stage_range s)) (flat_map_single (λ (m : PortMem). m.bits) l) (nothing d)
+locked_bits s d l =
+    of_parts (λ h. option_map (λ _. h.width) (strip (codes "ca_") h.name)) s d l
+    ∙ third_alone _ _ _ _ _ (nothing d) (nothing (stage_range s)) (flat_map_single (λ (m : PortMem). m.bits) l) (nothing d)
 
 stage_names : (s : ℕ) (d l : List PortMem) → names (codes "v_") (pipe_ports s d l) ≡ map decimal (stage_range s)
-stage_names s d l = of_parts (λ h. strip (codes "v_") h.name) s d l ∙ second_alone _ _ _ _ _ (nothing d) (flat_map_single decimal (stage_range s)) (nothing l) (nothing d)
+stage_names s d l =
+    of_parts (λ h. strip (codes "v_") h.name) s d l ∙ second_alone _ _ _ _ _ (nothing d) (flat_map_single decimal (stage_range s)) (nothing l) (nothing d)
 
 at_front : (k : ℕ) (ws : List ℕ) (w : ℕ) (rest : List ℕ) → drop k ws ≡ w ∷ rest → (get_or ws k 0 ≡ w) × (drop (suc k) ws ≡ rest)
 at_front k ws w rest h =
@@ -108,12 +130,14 @@ again (m ∷ ms) k ws bs h g =
 delayed_told : (s : ℕ) (d l : List PortMem) → mems (codes "p_") (codes "pd_") (codes "qa_") (pipe_ports s d l) ≡ d
 delayed_told s d l =
     let hs = pipe_ports s d l in
-    ap (λ z. mems_from 0 z (widths (codes "pd_") hs) (widths (codes "qa_") hs)) (delayed_names s d l) ∙ again d 0 (widths (codes "pd_") hs) (widths (codes "qa_") hs) (delayed_words s d l) (delayed_bits s d l)
+    ap (λ z. mems_from 0 z (widths (codes "pd_") hs) (widths (codes "qa_") hs)) (delayed_names s d l)
+    ∙ again d 0 (widths (codes "pd_") hs) (widths (codes "qa_") hs) (delayed_words s d l) (delayed_bits s d l)
 
 locked_told : (s : ℕ) (d l : List PortMem) → mems (codes "c_") (codes "cd_") (codes "ca_") (pipe_ports s d l) ≡ l
 locked_told s d l =
     let hs = pipe_ports s d l in
-    ap (λ z. mems_from 0 z (widths (codes "cd_") hs) (widths (codes "ca_") hs)) (locked_names s d l) ∙ again l 0 (widths (codes "cd_") hs) (widths (codes "ca_") hs) (locked_words s d l) (locked_bits s d l)
+    ap (λ z. mems_from 0 z (widths (codes "cd_") hs) (widths (codes "ca_") hs)) (locked_names s d l)
+    ∙ again l 0 (widths (codes "cd_") hs) (widths (codes "ca_") hs) (locked_words s d l) (locked_bits s d l)
 
 -- the ports of a pipe tell its stages and memories
 pub told_of : (s : ℕ) (d l : List PortMem) → told (pipe_ports s d l) ≡ record { stages = s; delayed = d; locked = l }

@@ -53,7 +53,8 @@ same_is e h k =
     let make : List ℕ → ℕ → Bool → Head = λ n w i. record { name = n; width = w; input = i } in
     let a = and_parts (bytes_eq h.name e.name) _ k in
     let b = and_parts (eqb h.width e.width) _ a.1 in
-    ap (λ n. make n h.width h.input) (bytes_same h.name e.name a.0) ∙ (ap (λ w. make e.name w h.input) (eqb-true h.width e.width b.0) ∙ ap (λ i. make e.name e.width i) (flag e.input h.input b.1))
+    ap (λ n. make n h.width h.input) (bytes_same h.name e.name a.0)
+    ∙ (ap (λ w. make e.name w h.input) (eqb-true h.width e.width b.0) ∙ ap (λ i. make e.name e.width i) (flag e.input h.input b.1))
 
 same_self : (e : Head) → same e e ≡ true
 same_self e = and_from _ _ (same_bytes e.name e.name refl) (and_from _ _ (eq-eqb e.width e.width refl) (flag_same e.input))
@@ -84,7 +85,8 @@ sizes_are : (d l : PortMem) → d.name ≡ l.name → spec.same_sizes d l ≡ tr
 sizes_are d l e h =
     let make : List ℕ → ℕ → ℕ → PortMem = λ n w b. record { name = n; width = w; bits = b } in
     let a = and_parts (eqb d.width l.width) (eqb d.bits l.bits) h in
-    ap (λ n. make n d.width d.bits) e ∙ (ap (λ w. make l.name w d.bits) (eqb-true d.width l.width a.0) ∙ ap (λ b. make l.name l.width b) (eqb-true d.bits l.bits a.1))
+    ap (λ n. make n d.width d.bits) e
+    ∙ (ap (λ w. make l.name w d.bits) (eqb-true d.width l.width a.0) ∙ ap (λ b. make l.name l.width b) (eqb-true d.bits l.bits a.1))
 
 sizes_same : (d l : PortMem) → d ≡ l → spec.same_sizes d l ≡ true
 sizes_same d l e = and_from _ _ (eq-eqb d.width l.width (ap (λ m. m.width) e)) (eq-eqb d.bits l.bits (ap (λ m. m.bits) e))
@@ -99,7 +101,11 @@ agree_is delayed locked h d l c k e =
 is_agree : (delayed locked : List PortMem)
     → ((d l : PortMem) → Contains delayed d → Contains locked l → d.name ≡ l.name → d ≡ l)
     → list_all (spec.all_agree locked) delayed ≡ true
-is_agree delayed locked h = each_element (spec.all_agree locked) delayed (λ d c. each_element (spec.agrees d) locked (λ l k. cond_both (bytes_eq d.name l.name) (spec.same_sizes d l) true (λ b. b ≡ true) (λ e. sizes_same d l (h d l c k (bytes_same d.name l.name e))) (λ e. refl)))
+is_agree delayed locked h =
+    each_element (spec.all_agree locked) delayed
+    (λ d c. each_element (spec.agrees d) locked
+    (λ l k. cond_both (bytes_eq d.name l.name) (spec.same_sizes d l) true (λ b. b ≡ true)
+    (λ e. sizes_same d l (h d l c k (bytes_same d.name l.name e))) (λ e. refl)))
 
 -- ---- arrays
 
@@ -132,7 +138,8 @@ lock_is : (a : Array) (m : PortMem)
     → spec.fits_lock a m ≡ true → m.name ≡ a.name
     → (a.width ≡ m.width) × ((a.depth ≡ 2 ^ m.bits) ⊎ (a.depth ≡ 2 * 2 ^ m.bits))
 lock_is a m h e =
-    let k : eqb a.width m.width && spec.has_depth m.bits a.depth ≡ true = ap (λ b. cond b (eqb a.width m.width && spec.has_depth m.bits a.depth) true) (sym (same_bytes m.name a.name e)) ∙ h in
+    let k : eqb a.width m.width && spec.has_depth m.bits a.depth ≡ true =
+    ap (λ b. cond b (eqb a.width m.width && spec.has_depth m.bits a.depth) true) (sym (same_bytes m.name a.name e)) ∙ h in
     let p = and_parts (eqb a.width m.width) (spec.has_depth m.bits a.depth) k in
     (eqb-true a.width m.width p.0, depth_is m.bits a.depth p.1)
 
@@ -178,7 +185,8 @@ array_is delayed locked a h =
 is_array : (delayed locked : List PortMem) (a : Array) → IsPipeArray delayed locked a → spec.is_array delayed locked a ≡ true
 is_array delayed locked a p =
     and_from _ _ (not_from_false _ (named_none a.name delayed p.inside))
-    (and_from _ _ (list_all-from_AllPass (spec.fits_lock a) locked (λ k d l. is_lock a (get_or locked k d) (p.width k d l) (p.depth k d l))) (is_unlocked a locked p.unlocked))
+    (and_from _ _ (list_all-from_AllPass (spec.fits_lock a) locked (λ k d l. is_lock a (get_or locked k d) (p.width k d l) (p.depth k d l)))
+    (is_unlocked a locked p.unlocked))
 
 -- ---- what is kept
 
@@ -227,7 +235,8 @@ is_kept delayed arrays m (inr c) = or_right _ _ (array_found arrays m.name c)
 pub length_mems : (d l : List PortMem) (arrays : List Array) → length (mems_of d l arrays) ≡ length d + length arrays
 length_mems d l arrays =
     let info : Array → MemInfo = λ a. comb_info a (spec.find_named a.name l) in
-    length-append (map delayed_info d) (map info arrays) ∙ (ap (λ k. k + length (map info arrays)) (length-map d delayed_info) ∙ ap (λ k. length d + k) (length-map arrays info))
+    length-append (map delayed_info d) (map info arrays)
+    ∙ (ap (λ k. k + length (map info arrays)) (length-map d delayed_info) ∙ ap (λ k. length d + k) (length-map arrays info))
 
 passed : (n : Netlist) (s : Shape) → spec.is_pipe n s ≡ true → IsPipe (with_mems n (mems_of s.delayed s.locked n.arrays))
 passed n s h =
@@ -266,14 +275,17 @@ passes n ms p =
     (and_from _ _ (all_from spec.has_address IsAddress is_address p.delayed p.delayed_addresses)
     (and_from _ _ (all_from spec.has_address IsAddress is_address p.locked p.locked_addresses)
     (and_from _ _ (is_agree p.delayed p.locked p.agree)
-    (and_from _ _ (all_from (spec.is_array p.delayed p.locked) (IsPipeArray p.delayed p.locked) (is_array p.delayed p.locked) n.arrays p.arrays) (all_from (spec.is_kept p.delayed n.arrays) (IsKept p.delayed n.arrays) (is_kept p.delayed n.arrays) p.locked p.kept))))))
+    (and_from _ _ (all_from (spec.is_array p.delayed p.locked) (IsPipeArray p.delayed p.locked) (is_array p.delayed p.locked) n.arrays p.arrays)
+    (all_from (spec.is_kept p.delayed n.arrays) (IsKept p.delayed n.arrays) (is_kept p.delayed n.arrays) p.locked p.kept))))))
 
 -- a netlist is a pipe's with the memories that it is judged to have
 pub is_pipe_of : (n : Netlist) (ms : List MemInfo) → judged n ≡ Some ms → IsPipe (with_mems n ms)
 unfolding judged
 is_pipe_of n ms h = go (spec.is_pipe n (told (heads n.ports))) refl h
   where
-    go : (b : Bool) → spec.is_pipe n (told (heads n.ports)) ≡ b → cond b (Some (mems_of (told (heads n.ports)).delayed (told (heads n.ports)).locked n.arrays)) None ≡ Some ms → IsPipe (with_mems n ms)
+    go : (b : Bool) → spec.is_pipe n (told (heads n.ports)) ≡ b
+        → cond b (Some (mems_of (told (heads n.ports)).delayed (told (heads n.ports)).locked n.arrays)) None ≡ Some ms
+        → IsPipe (with_mems n ms)
     go true k e =
         let i : mems_of (told (heads n.ports)).delayed (told (heads n.ports)).locked n.arrays ≡ ms = cc in
         subst (λ x. IsPipe (with_mems n x)) i (passed n (told (heads n.ports)) k)

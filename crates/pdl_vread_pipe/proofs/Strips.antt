@@ -41,7 +41,8 @@ stripped_as p s (Some x) h = sym (ap (strip p) h ∙ strip_of p x.now)
 
 -- what is left of a name after a prefix
 pub stripped : (s p : List ℕ) (r : Option (Bor (List ℕ)))
-    → MatchOption r (pointwise nat_eq (take (length p) s) p ≡ false) (λ x. (pointwise nat_eq (take (length p) s) p ≡ true) × (x.now ≡ drop (length p) s) × (length x.now + length p ≡ length s))
+    → MatchOption r (pointwise nat_eq (take (length p) s) p ≡ false)
+    (λ x. (pointwise nat_eq (take (length p) s) p ≡ true) × (x.now ≡ drop (length p) s) × (length x.now + length p ≡ length s))
     → option_copied r ≡ strip p s
 stripped s p r h = stripped_as p s r (strip_prefix_is Decides-eqb s p r h)
 
@@ -93,7 +94,8 @@ after_both [] fs hs ls h = let i : ls ≡ hs = cc in ap (after fs) i
 after_both (e ∷ es) fs [] ls h = cc
 after_both (e ∷ es) fs (x ∷ xs) ls h = go (same e x) (after_both es fs xs ls) h
   where
-    go : (b : Bool) → (Some ls ≡ after es xs → after fs ls ≡ after (es ++ fs) xs) → Some ls ≡ cond b (after es xs) None → after fs ls ≡ cond b (after (es ++ fs) xs) None
+    go : (b : Bool) → (Some ls ≡ after es xs → after fs ls ≡ after (es ++ fs) xs) → Some ls ≡ cond b (after es xs) None
+        → after fs ls ≡ cond b (after (es ++ fs) xs) None
     go true i h = i h
     go false i h = cc
 
@@ -111,13 +113,18 @@ module _ {A : Type 0} (f : A → List Head) where
   one_more : (xs : List A) (i : ℕ) (d : A) → i < length xs → flat_map f (drop i xs) ≡ f (get_or xs i d) ++ flat_map f (drop (i + 1) xs)
   one_more xs i d l = ap (flat_map f) (drop_more xs i d l)
 
-  pub flat_more : (xs : List A) (i : ℕ) (d : A) (hs ls : List Head) (whole : Option (List Head)) → i < length xs → Some ls ≡ after (f (get_or xs i d)) hs → after (flat_map f (drop i xs)) hs ≡ whole → after (flat_map f (drop (i + 1) xs)) ls ≡ whole
-  flat_more xs i d hs ls whole l e h = after_both (f (get_or xs i d)) (flat_map f (drop (i + 1) xs)) hs ls e ∙ (ap (λ z. after z hs) (sym (one_more xs i d l)) ∙ h)
+  pub flat_more : (xs : List A) (i : ℕ) (d : A) (hs ls : List Head) (whole : Option (List Head)) → i < length xs
+      → Some ls ≡ after (f (get_or xs i d)) hs → after (flat_map f (drop i xs)) hs ≡ whole
+      → after (flat_map f (drop (i + 1) xs)) ls ≡ whole
+  flat_more xs i d hs ls whole l e h =
+      after_both (f (get_or xs i d)) (flat_map f (drop (i + 1) xs)) hs ls e ∙ (ap (λ z. after z hs) (sym (one_more xs i d l)) ∙ h)
 
-  pub flat_stop : (xs : List A) (i : ℕ) (d : A) (hs : List Head) (whole : Option (List Head)) → i < length xs → None ≡ after (f (get_or xs i d)) hs → after (flat_map f (drop i xs)) hs ≡ whole → None ≡ whole
+  pub flat_stop : (xs : List A) (i : ℕ) (d : A) (hs : List Head) (whole : Option (List Head)) → i < length xs
+      → None ≡ after (f (get_or xs i d)) hs → after (flat_map f (drop i xs)) hs ≡ whole → None ≡ whole
   flat_stop xs i d hs whole l e h = after_stop (f (get_or xs i d)) (flat_map f (drop (i + 1) xs)) hs e ∙ (ap (λ z. after z hs) (sym (one_more xs i d l)) ∙ h)
 
-  pub flat_end : (xs : List A) (i : ℕ) (hs : List Head) (whole : Option (List Head)) → length xs ≤ i → after (flat_map f (drop i xs)) hs ≡ whole → Some hs ≡ whole
+  pub flat_end : (xs : List A) (i : ℕ) (hs : List Head) (whole : Option (List Head)) → length xs ≤ i
+      → after (flat_map f (drop i xs)) hs ≡ whole → Some hs ≡ whole
   flat_end xs i hs whole l h = ap (λ z. after (flat_map f z) hs) (sym (drop_all i xs l)) ∙ h
 
 -- ---- stages
@@ -134,13 +141,15 @@ stage_one k n h = ap (flat_map stage_ports) (range_more k n h)
 pub stage_more : (k n : ℕ) (hs ls : List Head) (whole : Option (List Head))
     → k < n → Some ls ≡ after (stage_ports k) hs → after (flat_map stage_ports (range_with_len k (n - k))) hs ≡ whole
     → after (flat_map stage_ports (range_with_len (k + 1) (n - (k + 1)))) ls ≡ whole
-stage_more k n hs ls whole l e h = after_both (stage_ports k) (flat_map stage_ports (range_with_len (k + 1) (n - (k + 1)))) hs ls e ∙ (ap (λ z. after z hs) (sym (stage_one k n l)) ∙ h)
+stage_more k n hs ls whole l e h =
+    after_both (stage_ports k) (flat_map stage_ports (range_with_len (k + 1) (n - (k + 1)))) hs ls e ∙ (ap (λ z. after z hs) (sym (stage_one k n l)) ∙ h)
 
 -- where the ports don't begin with those of stage k, they don't with those of the stages from it on
 pub stage_stop : (k n : ℕ) (hs : List Head) (whole : Option (List Head))
     → k < n → None ≡ after (stage_ports k) hs → after (flat_map stage_ports (range_with_len k (n - k))) hs ≡ whole
     → None ≡ whole
-stage_stop k n hs whole l e h = after_stop (stage_ports k) (flat_map stage_ports (range_with_len (k + 1) (n - (k + 1)))) hs e ∙ (ap (λ z. after z hs) (sym (stage_one k n l)) ∙ h)
+stage_stop k n hs whole l e h =
+    after_stop (stage_ports k) (flat_map stage_ports (range_with_len (k + 1) (n - (k + 1)))) hs e ∙ (ap (λ z. after z hs) (sym (stage_one k n l)) ∙ h)
 
 pub ruleset all_of_them = (flat_more, flat_stop, flat_end)
 

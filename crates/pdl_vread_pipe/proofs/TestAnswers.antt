@@ -43,6 +43,7 @@ short_delayed n s h = short_all s.delayed (and_parts (list_all spec.has_address 
 
 -- the memories with locks of a netlist that passes the tests have short addresses
 pub short_locked : (n : Netlist) (s : Shape) → spec.is_pipe n s ≡ true → All spec.IsShort s.locked
-short_locked n s h = short_all s.locked (and_parts (list_all spec.has_address s.locked) _ (and_parts (list_all spec.has_address s.delayed) _ (mems_pass n s h)).1).0
+short_locked n s h =
+    short_all s.locked (and_parts (list_all spec.has_address s.locked) _ (and_parts (list_all spec.has_address s.delayed) _ (mems_pass n s h)).1).0
 
 pub ruleset judging = (taken, refused, short_delayed, short_locked)

@@ -51,7 +51,8 @@ is_unwritten (w ∷ ws) = false
 -- an array is one of a memory that isn't delayed
 abbrev pub is_array : List PortMem → List PortMem → Array → Bool
 is_array delayed locked a =
-    not (list_any (is_named a.name) delayed) && (list_all (fits_lock a) locked && (list_any (is_named a.name) locked || (nat_le a.depth 65536 && is_unwritten a.writes)))
+    not (list_any (is_named a.name) delayed)
+    && (list_all (fits_lock a) locked && (list_any (is_named a.name) locked || (nat_le a.depth 65536 && is_unwritten a.writes)))
 
 -- two memories have the same name and the same sizes
 abbrev pub same_mem : PortMem → PortMem → Bool
@@ -81,7 +82,10 @@ has_counts s arrays = nat_le 1 s.stages && (nat_le s.stages 64 && nat_le (length
 
 -- the memories of the shape, and the arrays
 abbrev pub has_mems : Shape → List Array → Bool
-has_mems s arrays = list_all has_address s.delayed && (list_all has_address s.locked && (list_all (all_agree s.locked) s.delayed && (list_all (is_array s.delayed s.locked) arrays && list_all (is_kept s.delayed arrays) s.locked)))
+has_mems s arrays =
+    list_all has_address s.delayed
+    && (list_all has_address s.locked
+    && (list_all (all_agree s.locked) s.delayed && (list_all (is_array s.delayed s.locked) arrays && list_all (is_kept s.delayed arrays) s.locked)))
 
 abbrev pub is_pipe : Netlist → Shape → Bool
 is_pipe n s = has_counts s n.arrays && (has_ports (heads n.ports) s && has_mems s n.arrays)

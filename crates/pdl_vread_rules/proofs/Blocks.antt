@@ -15,7 +15,8 @@ pub rest_first : (xs ys : List Asked) → first_wrong xs ≡ None → first_wron
 rest_first [] ys h = refl
 rest_first (a ∷ xs) ys h = go a.right (rest_first xs ys) h
   where
-    go : (b : Bool) → (first_wrong xs ≡ None → first_wrong (xs ++ ys) ≡ first_wrong ys) → cond b (first_wrong xs) (Some a.line) ≡ None → cond b (first_wrong (xs ++ ys)) (Some a.line) ≡ first_wrong ys
+    go : (b : Bool) → (first_wrong xs ≡ None → first_wrong (xs ++ ys) ≡ first_wrong ys)
+        → cond b (first_wrong xs) (Some a.line) ≡ None → cond b (first_wrong (xs ++ ys)) (Some a.line) ≡ first_wrong ys
     go true i k = i k
     go false i k = cc
 
@@ -32,23 +33,33 @@ module _ (t : Widths) where
   no_more [] = refl
   no_more (b ∷ bs) = refl
 
-  pub block_more : (bs : List ArrayBlock) (more : List (List ArrayWrite)) (i j : ℕ) (b : ArrayBlock) (ws : List ArrayWrite) (whole : Option ℕ) → i < length bs → i < length more → j ≡ i + 1
-      → first_wrong (block (get_or bs i b) (get_or more i ws)) ≡ None → first_wrong (asked_writes t (drop i bs) (drop i more)) ≡ whole → first_wrong (asked_writes t (drop j bs) (drop j more)) ≡ whole
+  pub block_more : (bs : List ArrayBlock) (more : List (List ArrayWrite)) (i j : ℕ) (b : ArrayBlock) (ws : List ArrayWrite) (whole : Option ℕ)
+      → i < length bs → i < length more → j ≡ i + 1
+      → first_wrong (block (get_or bs i b) (get_or more i ws)) ≡ None
+      → first_wrong (asked_writes t (drop i bs) (drop i more)) ≡ whole
+      → first_wrong (asked_writes t (drop j bs) (drop j more)) ≡ whole
   block_more bs more i j b ws whole h k m r w =
       ap (λ n. first_wrong (asked_writes t (drop n bs) (drop n more))) m
-      ∙ (sym (rest_first (block (get_or bs i b) (get_or more i ws)) (asked_writes t (drop (i + 1) bs) (drop (i + 1) more)) r) ∙ (ap first_wrong (sym (one_block bs more i b ws h k)) ∙ w))
+      ∙ (sym (rest_first (block (get_or bs i b) (get_or more i ws)) (asked_writes t (drop (i + 1) bs) (drop (i + 1) more)) r)
+      ∙ (ap first_wrong (sym (one_block bs more i b ws h k)) ∙ w))
 
-  pub block_stop : (bs : List ArrayBlock) (more : List (List ArrayWrite)) (i : ℕ) (b : ArrayBlock) (ws : List ArrayWrite) (whole : Option ℕ) (e : PassStop) → i < length bs → i < length more
-      → Tells (first_wrong (block (get_or bs i b) (get_or more i ws))) (Err e) → first_wrong (asked_writes t (drop i bs) (drop i more)) ≡ whole → Tells whole (Err e)
+  pub block_stop : (bs : List ArrayBlock) (more : List (List ArrayWrite)) (i : ℕ) (b : ArrayBlock) (ws : List ArrayWrite) (whole : Option ℕ) (e : PassStop)
+      → i < length bs → i < length more
+      → Tells (first_wrong (block (get_or bs i b) (get_or more i ws))) (Err e)
+      → first_wrong (asked_writes t (drop i bs) (drop i more)) ≡ whole → Tells whole (Err e)
   block_stop bs more i b ws whole e h k r w =
       subst (λ z. Tells z (Err e)) (sym (ap first_wrong (one_block bs more i b ws h k)) ∙ w)
       (front_tells (block (get_or bs i b) (get_or more i ws)) (asked_writes t (drop (i + 1) bs) (drop (i + 1) more)) e r)
 
-  pub block_stop_at : (bs : List ArrayBlock) (more : List (List ArrayWrite)) (i : ℕ) (b : ArrayBlock) (ws : List ArrayWrite) (whole : Option ℕ) (e : PassStop) → i < length bs → i < length more
-      → (told : Option ℕ) → told ≡ first_wrong (block (get_or bs i b) (get_or more i ws)) → Tells told (Err e) → first_wrong (asked_writes t (drop i bs) (drop i more)) ≡ whole → Tells whole (Err e)
+  pub block_stop_at : (bs : List ArrayBlock) (more : List (List ArrayWrite)) (i : ℕ) (b : ArrayBlock) (ws : List ArrayWrite) (whole : Option ℕ) (e : PassStop)
+      → i < length bs → i < length more
+      → (told : Option ℕ) → told ≡ first_wrong (block (get_or bs i b) (get_or more i ws)) → Tells told (Err e)
+      → first_wrong (asked_writes t (drop i bs) (drop i more)) ≡ whole → Tells whole (Err e)
   block_stop_at bs more i b ws whole e h k told m r w = block_stop bs more i b ws whole e h k (subst (λ z. Tells z (Err e)) m r) w
 
-  pub block_end : (bs : List ArrayBlock) (more : List (List ArrayWrite)) (i : ℕ) (whole : Option ℕ) → i ≡ min (length bs) (length more) → first_wrong (asked_writes t (drop i bs) (drop i more)) ≡ whole → whole ≡ None
+  pub block_end : (bs : List ArrayBlock) (more : List (List ArrayWrite)) (i : ℕ) (whole : Option ℕ)
+      → i ≡ min (length bs) (length more) → first_wrong (asked_writes t (drop i bs) (drop i more)) ≡ whole
+      → whole ≡ None
   block_end bs more i whole e w = sym w ∙ ap first_wrong (go (cases_lt (length more) (length bs)))
     where
       go : (length more < length bs) ⊎ (length bs ≤ length more) → asked_writes t (drop i bs) (drop i more) ≡ []

@@ -72,7 +72,9 @@ line_of f = told f (wiring f)
 -- ---- rows
 
 -- an input is driven by none, and an array may have no block
-all_once : line_of (file (input 2 ∷ output 3 ∷ []) (reg 4 ∷ []) (array 5 (codes "a_m") ∷ array 6 (codes "a_k") ∷ []) (cell 7 ∷ []) (assign 8 ∷ []) (drive 9 ∷ []) (block 10 (write 11 (codes "a_m") ∷ write 12 (codes "a_m") ∷ []) ∷ []))
+all_once : line_of
+    (file (input 2 ∷ output 3 ∷ []) (reg 4 ∷ []) (array 5 (codes "a_m") ∷ array 6 (codes "a_k") ∷ []) (cell 7 ∷ [])
+    (assign 8 ∷ []) (drive 9 ∷ []) (block 10 (write 11 (codes "a_m") ∷ write 12 (codes "a_m") ∷ []) ∷ []))
     ≡ None
 unfolding once_line wiring net_of
 all_once = refl
@@ -125,13 +127,17 @@ unfolding once_line wiring net_of
 wire_twice = refl
 
 -- the second block, and not its write to another array
-two_blocks : line_of (file [] [] (array 5 (codes "a_m") ∷ array 6 (codes "a_k") ∷ []) (cell 7 ∷ []) [] [] (block 10 (write 11 (codes "a_m") ∷ []) ∷ block 12 (write 13 (codes "a_m") ∷ write 14 (codes "a_k") ∷ []) ∷ []))
+two_blocks : line_of
+    (file [] [] (array 5 (codes "a_m") ∷ array 6 (codes "a_k") ∷ []) (cell 7 ∷ []) [] []
+    (block 10 (write 11 (codes "a_m") ∷ []) ∷ block 12 (write 13 (codes "a_m") ∷ write 14 (codes "a_k") ∷ []) ∷ []))
     ≡ Some 12
 unfolding once_line wiring net_of
 two_blocks = refl
 
 -- a block is that of the array which its first write names
-two_arrays : line_of (file [] [] (array 5 (codes "a_m") ∷ array 6 (codes "a_k") ∷ []) (cell 7 ∷ []) [] [] (block 10 (write 11 (codes "a_k") ∷ write 12 (codes "a_m") ∷ write 13 (codes "a_m") ∷ []) ∷ block 14 (write 15 (codes "a_m") ∷ []) ∷ []))
+two_arrays : line_of
+    (file [] [] (array 5 (codes "a_m") ∷ array 6 (codes "a_k") ∷ []) (cell 7 ∷ []) [] []
+    (block 10 (write 11 (codes "a_k") ∷ write 12 (codes "a_m") ∷ write 13 (codes "a_m") ∷ []) ∷ block 14 (write 15 (codes "a_m") ∷ []) ∷ []))
     ≡ Some 12
 unfolding once_line wiring net_of
 two_arrays = refl

@@ -50,21 +50,33 @@ added before after ws m e r h =
 pub same_inside : (b : ArrayBlock) (ws : List ArrayWrite) (m : ℕ) (xs : List WriteDecl) (ys : List ArrayWrite)
     → m ≡ owner ws → xs ≡ b.writes → ys ≡ ws → first_wrong (both (write_once m) xs ys) ≡ first_wrong (inside b ws)
 same_inside b ws m xs ys e f g =
-    ap (λ z. first_wrong (both (write_once z) xs ys)) e ∙ (ap (λ z. first_wrong (both (write_once (owner ws)) z ys)) f ∙ ap (λ z. first_wrong (both (write_once (owner ws)) b.writes z)) g)
+    ap (λ z. first_wrong (both (write_once z) xs ys)) e
+    ∙ (ap (λ z. first_wrong (both (write_once (owner ws)) z ys)) f ∙ ap (λ z. first_wrong (both (write_once (owner ws)) b.writes z)) g)
 
 module _ (bs : List ArrayBlock) (more : List (List ArrayWrite)) (i : ℕ) (b : ArrayBlock) (ws : List ArrayWrite) (before : List ℕ) (whole : Option ℕ)
     (h : i < length bs) (k : i < length more) (is : b ≡ get_or bs i b) (are : ws ≡ get_or more i ws)
     (w : first_wrong (blocks_once before (drop i bs) (drop i more)) ≡ whole) where
-  one_block : whole ≡ cond (not (has_owner before ws)) (first_wrong (inside b ws ++ blocks_once (before ++ owner ws ∷ []) (drop (i + 1) bs) (drop (i + 1) more))) (Some b.line)
-  one_block = sym w ∙ (ap (λ z. first_wrong (blocks_once before z (drop i more))) (drop_next bs i b h is) ∙ ap (λ z. first_wrong (blocks_once before (b ∷ drop (i + 1) bs) z)) (drop_next more i ws k are))
+  one_block : whole
+      ≡ cond (not (has_owner before ws))
+      (first_wrong (inside b ws ++ blocks_once (before ++ owner ws ∷ []) (drop (i + 1) bs) (drop (i + 1) more)))
+      (Some b.line)
+  one_block =
+      sym w
+      ∙ (ap (λ z. first_wrong (blocks_once before z (drop i more))) (drop_next bs i b h is)
+      ∙ ap (λ z. first_wrong (blocks_once before (b ∷ drop (i + 1) bs) z)) (drop_next more i ws k are))
 
   pub second_block : has_owner before ws ≡ true → whole ≡ Some b.line
-  second_block r = one_block ∙ ap (λ z. cond (not z) (first_wrong (inside b ws ++ blocks_once (before ++ owner ws ∷ []) (drop (i + 1) bs) (drop (i + 1) more))) (Some b.line)) r
+  second_block r =
+      one_block
+      ∙ ap (λ z. cond (not z) (first_wrong (inside b ws ++ blocks_once (before ++ owner ws ∷ []) (drop (i + 1) bs) (drop (i + 1) more))) (Some b.line)) r
 
   first_block : has_owner before ws ≡ false → whole ≡ first_wrong (inside b ws ++ blocks_once (before ++ owner ws ∷ []) (drop (i + 1) bs) (drop (i + 1) more))
-  first_block r = one_block ∙ ap (λ z. cond (not z) (first_wrong (inside b ws ++ blocks_once (before ++ owner ws ∷ []) (drop (i + 1) bs) (drop (i + 1) more))) (Some b.line)) r
+  first_block r =
+      one_block
+      ∙ ap (λ z. cond (not z) (first_wrong (inside b ws ++ blocks_once (before ++ owner ws ∷ []) (drop (i + 1) bs) (drop (i + 1) more))) (Some b.line)) r
 
-  pub blocks_more : (j : ℕ) (after : List ℕ) → j ≡ i + 1 → after ≡ before ++ owner ws ∷ [] → has_owner before ws ≡ false → first_wrong (inside b ws) ≡ None → first_wrong (blocks_once after (drop j bs) (drop j more)) ≡ whole
+  pub blocks_more : (j : ℕ) (after : List ℕ) → j ≡ i + 1 → after ≡ before ++ owner ws ∷ [] → has_owner before ws ≡ false
+      → first_wrong (inside b ws) ≡ None → first_wrong (blocks_once after (drop j bs) (drop j more)) ≡ whole
   blocks_more j after m a r n =
       ap (λ z. first_wrong (blocks_once z (drop j bs) (drop j more))) a
       ∙ (ap (λ z. first_wrong (blocks_once (before ++ owner ws ∷ []) (drop z bs) (drop z more))) m

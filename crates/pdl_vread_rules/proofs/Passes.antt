@@ -15,7 +15,8 @@ pub rest_tells : (xs ys : List Asked) (r : Result (Unit {0}) PassStop)
 rest_tells [] ys r h t = t
 rest_tells (a ∷ xs) ys r h t = go a.right (rest_tells xs ys r) h
   where
-    go : (b : Bool) → (first_wrong xs ≡ None → Tells (first_wrong ys) r → Tells (first_wrong (xs ++ ys)) r) → cond b (first_wrong xs) (Some a.line) ≡ None → Tells (cond b (first_wrong (xs ++ ys)) (Some a.line)) r
+    go : (b : Bool) → (first_wrong xs ≡ None → Tells (first_wrong ys) r → Tells (first_wrong (xs ++ ys)) r)
+        → cond b (first_wrong xs) (Some a.line) ≡ None → Tells (cond b (first_wrong (xs ++ ys)) (Some a.line)) r
     go true i k = i k t
     go false i k = cc
 
@@ -23,7 +24,8 @@ front_line : (xs ys : List Asked) (line : ℕ) → first_wrong xs ≡ Some line 
 front_line [] ys line h = cc
 front_line (a ∷ xs) ys line h = go a.right (front_line xs ys line) h
   where
-    go : (b : Bool) → (first_wrong xs ≡ Some line → first_wrong (xs ++ ys) ≡ Some line) → cond b (first_wrong xs) (Some a.line) ≡ Some line → cond b (first_wrong (xs ++ ys)) (Some a.line) ≡ Some line
+    go : (b : Bool) → (first_wrong xs ≡ Some line → first_wrong (xs ++ ys) ≡ Some line)
+        → cond b (first_wrong xs) (Some a.line) ≡ Some line → cond b (first_wrong (xs ++ ys)) (Some a.line) ≡ Some line
     go true i k = i k
     go false i k = k
 
@@ -35,7 +37,8 @@ front_tells xs ys stop.NoMemory h = tt
 pub ruleset two_parts = (rest_tells, front_tells)
 
 module _ {A B : Type 0} (ask : A → B → Asked) where
-  both_more : (xs : List A) (ys : List B) (i : ℕ) (x : A) (y : B) → i < length xs → i < length ys → both ask (drop i xs) (drop i ys) ≡ ask (get_or xs i x) (get_or ys i y) ∷ both ask (drop (i + 1) xs) (drop (i + 1) ys)
+  both_more : (xs : List A) (ys : List B) (i : ℕ) (x : A) (y : B) → i < length xs → i < length ys
+      → both ask (drop i xs) (drop i ys) ≡ ask (get_or xs i x) (get_or ys i y) ∷ both ask (drop (i + 1) xs) (drop (i + 1) ys)
   both_more xs ys i x y h k =
       ap (λ z. both ask z (drop i ys)) (drop_more xs i x h) ∙ ap (λ z. both ask (get_or xs i x ∷ drop (i + 1) xs) z) (drop_more ys i y k)
 
@@ -50,7 +53,8 @@ module _ {A B : Type 0} (ask : A → B → Asked) where
       go (inl h) = ap (both ask (drop i xs)) (drop_all i ys (omega arith)) ∙ no_seconds (drop i xs)
       go (inr h) = ap (λ z. both ask z (drop i ys)) (drop_all i xs (omega arith))
 
-  pub pair_more : (xs : List A) (ys : List B) (i j : ℕ) (x : A) (y : B) (whole : Option ℕ) → i < length xs → i < length ys → j ≡ i + 1 → (ask (get_or xs i x) (get_or ys i y)).right ≡ true
+  pub pair_more : (xs : List A) (ys : List B) (i j : ℕ) (x : A) (y : B) (whole : Option ℕ) → i < length xs
+      → i < length ys → j ≡ i + 1 → (ask (get_or xs i x) (get_or ys i y)).right ≡ true
       → first_wrong (both ask (drop i xs) (drop i ys)) ≡ whole → first_wrong (both ask (drop j xs) (drop j ys)) ≡ whole
   pair_more xs ys i j x y whole h k m r w =
       let a = ask (get_or xs i x) (get_or ys i y) in
@@ -58,14 +62,17 @@ module _ {A B : Type 0} (ask : A → B → Asked) where
       ap (λ n. first_wrong (both ask (drop n xs) (drop n ys))) m
       ∙ (sym (ap (λ b. cond b (first_wrong rest) (Some a.line)) r) ∙ (ap first_wrong (sym (both_more xs ys i x y h k)) ∙ w))
 
-  pub pair_stop : (xs : List A) (ys : List B) (i line : ℕ) (x : A) (y : B) (whole : Option ℕ) → i < length xs → i < length ys → (ask (get_or xs i x) (get_or ys i y)).right ≡ false → line ≡ (ask (get_or xs i x) (get_or ys i y)).line
+  pub pair_stop : (xs : List A) (ys : List B) (i line : ℕ) (x : A) (y : B) (whole : Option ℕ) → i < length xs
+      → i < length ys → (ask (get_or xs i x) (get_or ys i y)).right ≡ false
+      → line ≡ (ask (get_or xs i x) (get_or ys i y)).line
       → first_wrong (both ask (drop i xs) (drop i ys)) ≡ whole → whole ≡ Some line
   pair_stop xs ys i line x y whole h k r m w =
       let a = ask (get_or xs i x) (get_or ys i y) in
       let rest = both ask (drop (i + 1) xs) (drop (i + 1) ys) in
       sym w ∙ (ap first_wrong (both_more xs ys i x y h k) ∙ (ap (λ b. cond b (first_wrong rest) (Some a.line)) r ∙ ap Some (sym m)))
 
-  pub pair_end : (xs : List A) (ys : List B) (i : ℕ) (whole : Option ℕ) → i ≡ min (length xs) (length ys) → first_wrong (both ask (drop i xs) (drop i ys)) ≡ whole → whole ≡ None
+  pub pair_end : (xs : List A) (ys : List B) (i : ℕ) (whole : Option ℕ) → i ≡ min (length xs) (length ys)
+      → first_wrong (both ask (drop i xs) (drop i ys)) ≡ whole → whole ≡ None
   pair_end xs ys i whole e w = sym w ∙ ap first_wrong (both_end xs ys i e)
 
 pub ruleset pairs = (pair_more, pair_stop, pair_end)

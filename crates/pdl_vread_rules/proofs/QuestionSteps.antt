@@ -9,7 +9,8 @@ use Rattle.pdl_vread_nets.specs.declared.wiring.RegDrive.{RegDrive}
 use Rattle.pdl_vread_rules.specs.Once.{in_turn, is_new, output_drives, reg_drives, port_once, reg_once}
 
 module _ {A : Type 0} (ask : List A → A → Asked) where
-  one_turn : (xs : List A) (i : ℕ) (x : A) → i < length xs → in_turn ask (take i xs) (drop i xs) ≡ ask (take i xs) (get_or xs i x) ∷ in_turn ask (take (i + 1) xs) (drop (i + 1) xs)
+  one_turn : (xs : List A) (i : ℕ) (x : A) → i < length xs
+      → in_turn ask (take i xs) (drop i xs) ≡ ask (take i xs) (get_or xs i x) ∷ in_turn ask (take (i + 1) xs) (drop (i + 1) xs)
   one_turn xs i x h =
       ap (in_turn ask (take i xs)) (drop_more xs i x h) ∙ ap (λ z. ask (take i xs) (get_or xs i x) ∷ in_turn ask z (drop (i + 1) xs)) (sym (take_more xs i x h))
 
@@ -21,7 +22,8 @@ module _ {A : Type 0} (ask : List A → A → Asked) where
       ap (λ n. first_wrong (in_turn ask (take n xs) (drop n xs))) m
       ∙ (sym (ap (λ b. cond b (first_wrong rest) (Some a.line)) r) ∙ (ap first_wrong (sym (one_turn xs i x h)) ∙ w))
 
-  pub turn_stop : (xs : List A) (i line : ℕ) (x : A) (whole : Option ℕ) → i < length xs → (ask (take i xs) (get_or xs i x)).right ≡ false → line ≡ (ask (take i xs) (get_or xs i x)).line
+  pub turn_stop : (xs : List A) (i line : ℕ) (x : A) (whole : Option ℕ) → i < length xs
+      → (ask (take i xs) (get_or xs i x)).right ≡ false → line ≡ (ask (take i xs) (get_or xs i x)).line
       → first_wrong (in_turn ask (take i xs) (drop i xs)) ≡ whole → whole ≡ Some line
   turn_stop xs i line x whole h r m w =
       let a = ask (take i xs) (get_or xs i x) in

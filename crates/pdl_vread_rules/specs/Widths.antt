@@ -93,7 +93,9 @@ fits_reg t r = r.width == net_width t (RegNet r.reg) && (fits r.reset r.width &&
 
 -- a write has 1 bit, the bits of an address and the array's width
 abbrev pub fits_write : Widths → ArrayWrite → Bool
-fits_write t w = net_width t w.port.enable == 1 && (reaches (net_width t w.port.addr) (slice_index t.depths w.array) && net_width t w.port.value == slice_index t.words w.array)
+fits_write t w =
+    net_width t w.port.enable == 1
+    && (reaches (net_width t w.port.addr) (slice_index t.depths w.array) && net_width t w.port.value == slice_index t.words w.array)
 
 -- ---- in the order of the text
 
@@ -137,7 +139,9 @@ declared_questions f = asked f.reset_line (bits f.reset_high == 1) ∷ (map aske
 
 -- what it asks of cells, `assign`s and blocks: each width and constant is right
 abbrev pub driven_questions : File → Widths → Wiring → List Asked
-driven_questions f t w = both (asked_cell t) f.cells w.cells ++ (both (asked_output t) f.outputs w.outputs ++ (both (asked_block t) f.reg_blocks w.regs ++ asked_writes t f.array_blocks w.blocks))
+driven_questions f t w =
+    both (asked_cell t) f.cells w.cells
+    ++ (both (asked_output t) f.outputs w.outputs ++ (both (asked_block t) f.reg_blocks w.regs ++ asked_writes t f.array_blocks w.blocks))
 
 -- the line of the first place that breaks V3
 unfoldable pub width_line : File → Wiring → Option ℕ

@@ -135,6 +135,9 @@ rest part rule t ts done later e parts a =
     record {
       row = examples later ++ k.row;
       rules = record { rule = rule; found = t ∷ (ts ++ examples later) } ∷ k.rules;
-      derives = subst (λ x. Derives part (t ∷ x) (record { rule = rule; found = t ∷ (ts ++ examples later) } ∷ k.rules)) (append_assoc ts (examples later) k.row)
-          (goes e (subst (λ x. AllFit x (t ∷ (ts ++ examples later))) (sym parts) (both_fit done later (t ∷ ts) (examples later) a (examples_fit later))) k.derives);
+      derives =
+          subst (λ x. Derives part (t ∷ x) (record { rule = rule; found = t ∷ (ts ++ examples later) } ∷ k.rules)) (append_assoc ts (examples later) k.row)
+          (goes e
+          (subst (λ x. AllFit x (t ∷ (ts ++ examples later))) (sym parts)
+          (both_fit done later (t ∷ ts) (examples later) a (examples_fit later))) k.derives);
     }

@@ -32,9 +32,11 @@ lead_on : (done : List Taken) (part : Part) (left : Row) (rs : List Taken) → L
 lead_on [] p.Start left rs here d = d
 lead_on _ _ left rs (further {done = done} {part = part} t l c) d =
     let k : Derives part (t.found ++ left) (t ∷ rs) =
-    subst (λ x. Derives part (x ++ left) (record { rule = t.rule; found = x } ∷ rs)) (sym c.found) (goes c.chosen (subst (AllFit (fields t.rule)) c.found c.fit) d) in
+    subst (λ x. Derives part (x ++ left) (record { rule = t.rule; found = x } ∷ rs)) (sym c.found)
+    (goes c.chosen (subst (AllFit (fields t.rule)) c.found c.fit) d) in
     let i = lead_on done part (t.found ++ left) (t ∷ rs) l k in
-    let a : all_found done ++ (t.found ++ left) ≡ all_found (done ++ t ∷ []) ++ left = sym (append_assoc (all_found done) t.found left) ∙ ap (λ x. x ++ left) (sym (all_found_more done t)) in
+    let a : all_found done ++ (t.found ++ left) ≡ all_found (done ++ t ∷ []) ++ left =
+    sym (append_assoc (all_found done) t.found left) ∙ ap (λ x. x ++ left) (sym (all_found_more done t)) in
     let b : done ++ t ∷ rs ≡ (done ++ t ∷ []) ++ rs = sym (append_assoc done (t ∷ []) rs) in
     subst (λ x. Derives p.Start (all_found (done ++ t ∷ []) ++ left) x) b (subst (λ x. Derives p.Start x (done ++ t ∷ rs)) a i)
 
@@ -71,7 +73,8 @@ cancel : (done : List Taken) (part : Part) (left : Row) (rs : List Taken) → Le
     → Derives p.Start (all_found done ++ left) rs → Onward done part left rs
 cancel [] p.Start left rs here d = record { more = rs; derives = d; rules = refl }
 cancel _ _ left rs (further {done = done} {part = part} t l c) d =
-    let a : all_found (done ++ t ∷ []) ++ left ≡ all_found done ++ (t.found ++ left) = ap (λ x. x ++ left) (all_found_more done t) ∙ append_assoc (all_found done) t.found left in
+    let a : all_found (done ++ t ∷ []) ++ left ≡ all_found done ++ (t.found ++ left) =
+    ap (λ x. x ++ left) (all_found_more done t) ∙ append_assoc (all_found done) t.found left in
     let k = cancel done part (t.found ++ left) rs l (subst (λ x. Derives p.Start x rs) a d) in
     let o = come_off part t left k.more (t.found ++ left) c refl k.derives in
     record {
@@ -158,7 +161,8 @@ stuck_no part front left others rs (inside {rule = rule} {old = old} e s) l d =
     let b = first_of rule part old front left e s in
     go part b.token b.more b.front b.chosen (front ++ others) rs refl d
   where
-    go : (w : Part) (t : Token) (ts : Row) → front ≡ t ∷ ts → chosen w t.text ≡ Some rule → (all : Row) (rs : List Taken) → all ≡ front ++ others → Derives w all rs → ⊥
+    go : (w : Part) (t : Token) (ts : Row) → front ≡ t ∷ ts → chosen w t.text ≡ Some rule
+        → (all : Row) (rs : List Taken) → all ≡ front ++ others → Derives w all rs → ⊥
     go _ t ts f c _ _ q finished = let k : [] ≡ t ∷ (ts ++ others) = subst (λ x. [] ≡ x ++ others) f q in cc
     go w t ts f c _ _ q (goes {rule = rule2} {t = u} {ts = us} {rest = later} h a d) =
         let k : u ∷ (us ++ later) ≡ t ∷ (ts ++ others) = subst (λ x. u ∷ (us ++ later) ≡ x ++ others) f q in
@@ -192,7 +196,9 @@ misplaced bytes new line h e =
       begins = record {
         more = k.row;
         rules = h.rules ++ k.rules;
-        derives = subst (λ x. Derives p.Start x (h.rules ++ k.rules)) (sym (append_assoc (all_found h.rules) h.front k.row)) (lead_on h.rules h.part (h.front ++ k.row) k.rules h.leads k.derives);
+        derives =
+            subst (λ x. Derives p.Start x (h.rules ++ k.rules)) (sym (append_assoc (all_found h.rules) h.front k.row))
+            (lead_on h.rules h.part (h.front ++ k.row) k.rules h.leads k.derives);
       };
       bad = λ t more is b.
           let a : (front ++ t ∷ []) ++ b.more ≡ all_found h.rules ++ (h.front ++ t ∷ b.more) =
@@ -226,7 +232,9 @@ after_all bytes t ts line d h e = record {
   place = e;
   begins = record { more = []; rules = h.rules ++ []; derives = lead_on h.rules p.Finished [] [] h.leads finished };
   bad = λ u more is b.
-      let o = cancel h.rules p.Finished (u ∷ b.more) b.rules h.leads (subst (λ x. Derives p.Start x b.rules) (append_assoc (all_found h.rules) (u ∷ []) b.more) b.derives) in
+      let o =
+      cancel h.rules p.Finished (u ∷ b.more) b.rules h.leads
+      (subst (λ x. Derives p.Start x b.rules) (append_assoc (all_found h.rules) (u ∷ []) b.more) b.derives) in
       none_finished u b.more o.more o.derives;
   no_text = λ f g.
       let o = cancel h.rules p.Finished (t ∷ ts) g.rules h.leads (subst (λ x. Derives p.Start x g.rules) h.split g.derives) in
@@ -283,7 +291,8 @@ front_begins xs ys b = record { more = ys ++ b.more; rules = b.rules; derives = 
 not_before : (bytes : List ℕ) (n m : ℕ) (h : IsOutOfPlace bytes n) (i : IsOutOfPlace bytes m) → length h.after < length i.after → ⊥
 not_before bytes n m h i le =
     let k = longer h.front h.after i.front i.after (sym h.split ∙ i.split) le in
-    i.bad k.t (k.more ++ h.after) k.after (front_begins (i.front ++ k.t ∷ []) k.more (subst Begins (k.front ∙ sym (append_assoc i.front (k.t ∷ []) k.more)) h.begins))
+    i.bad k.t (k.more ++ h.after) k.after
+    (front_begins (i.front ++ k.t ∷ []) k.more (subst Begins (k.front ∙ sym (append_assoc i.front (k.t ∷ []) k.more)) h.begins))
 
 one_place : (bytes : List ℕ) (n m : ℕ) → IsOutOfPlace bytes n → IsOutOfPlace bytes m → n ≡ m
 one_place bytes n m h i =

@@ -28,7 +28,8 @@ found_begins : (rs : List VerilogRule) (t : List ℕ) (r : VerilogRule) → firs
 found_begins [] t r e = cc
 found_begins (s ∷ rs) t r e = go (begins_with s t) refl e (found_begins rs t r)
   where
-    go : (b : Bool) → begins_with s t ≡ b → cond b (Some s) (first_with rs t) ≡ Some r → (first_with rs t ≡ Some r → begins_with r t ≡ true) → begins_with r t ≡ true
+    go : (b : Bool) → begins_with s t ≡ b → cond b (Some s) (first_with rs t) ≡ Some r
+        → (first_with rs t ≡ Some r → begins_with r t ≡ true) → begins_with r t ≡ true
     go true is e f = let k : s ≡ r = cc in subst (λ x. begins_with x t ≡ true) k is
     go false is e f = f e
 
@@ -82,7 +83,10 @@ one_more_rule old mid found new part rule d h e f =
     record {
       rules = h.rules ++ t ∷ [];
       leads = further t h.leads (comes part rule mid found new e f);
-      split = h.split ∙ (ap (λ x. all_found h.rules ++ x) f.split ∙ (sym (append_assoc (all_found h.rules) found new) ∙ ap (λ x. x ++ new) (sym (all_found_more h.rules t))));
+      split =
+          h.split
+          ∙ (ap (λ x. all_found h.rules ++ x) f.split
+          ∙ (sym (append_assoc (all_found h.rules) found new) ∙ ap (λ x. x ++ new) (sym (all_found_more h.rules t))));
       draft = ap (λ x. taken x rule found) h.draft ∙ sym (all_taken_more no_draft h.rules t);
     }
 
@@ -172,4 +176,11 @@ pub stopped_so : (old mid new : Row) (part : Part) (d e : Draft) (stop : ReaderS
     → is_finished part ≡ false → TakesRule part mid new d e (Err stop) → TakesRules old new e (Err stop)
 stopped_so old mid new part d e stop.NoMemory h n s = tt
 stopped_so old mid new part d e stop.Misplaced h n s =
-    record { rules = h.rules; part = part; leads = h.leads; front = s.front; split = h.split ∙ ap (λ x. all_found h.rules ++ x) s.split; stuck = s.stuck (not_finished part n) }
+    record {
+      rules = h.rules;
+      part = part;
+      leads = h.leads;
+      front = s.front;
+      split = h.split ∙ ap (λ x. all_found h.rules ++ x) s.split;
+      stuck = s.stuck (not_finished part n);
+    }

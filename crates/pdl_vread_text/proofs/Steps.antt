@@ -25,7 +25,8 @@ either_fits false b n m f g e = g e
 
 pair_fits : (bytes : List ℕ) → begins_pair bytes ≡ true → 2 ≤ length bytes
 pair_fits bytes e =
-    let f : (s : List ℕ) → length s ≡ 2 → starts_with nat_eq bytes s ≡ true → 2 ≤ length bytes = λ s l h. let k = prefix_fits bytes s h in omega (arith, k, l) in
+    let f : (s : List ℕ) → length s ≡ 2 → starts_with nat_eq bytes s ≡ true → 2 ≤ length bytes = λ s l h. let k = prefix_fits bytes s h in
+    omega (arith, k, l) in
     either_fits _ _ 2 (length bytes) (f (codes "==") refl) (either_fits _ _ 2 (length bytes) (f (codes "!=") refl)
     (either_fits _ _ 2 (length bytes) (f (codes "<=") refl) (either_fits _ _ 2 (length bytes) (f (codes "<<") refl) (f (codes ">>") refl)))) e
 

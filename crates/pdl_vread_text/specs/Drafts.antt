@@ -40,7 +40,20 @@ operator_at ts i = unwrap_or (operator_of (text_at ts i)) Add
 
 -- a file that declares nothing
 abbrev pub no_file : File
-no_file = record { line = 0; name = []; reset_line = 0; reset_high = 0; ports = []; regs = []; arrays = []; cells = []; outputs = []; reg_blocks = []; array_blocks = [] }
+no_file =
+    record {
+      line = 0;
+      name = [];
+      reset_line = 0;
+      reset_high = 0;
+      ports = [];
+      regs = [];
+      arrays = [];
+      cells = [];
+      outputs = [];
+      reg_blocks = [];
+      array_blocks = [];
+    }
 
 -- a draft from which nothing was read
 abbrev pub no_draft : Draft
@@ -52,7 +65,8 @@ opened d ts = record d { file = record d.file { line = line_at ts 0; name = drop
 
 -- `input wire [ num : 0 ] port`, or `output` in the place of `input`
 abbrev pub with_port : Draft → Bool → Row → Draft
-with_port d input ts = record d { file = record d.file { ports = d.file.ports ++ record { line = line_at ts 0; name = text_at ts 7; high = number_at ts 3; input = input } ∷ [] } }
+with_port d input ts =
+    record d { file = record d.file { ports = d.file.ports ++ record { line = line_at ts 0; name = text_at ts 7; high = number_at ts 3; input = input } ∷ [] } }
 
 -- `reg [ num : 0 ]`
 abbrev pub with_range : Draft → Row → Draft
@@ -64,7 +78,8 @@ with_reg d ts = record d { file = record d.file { regs = d.file.regs ++ record {
 
 -- `a_id [ 0 : num ] ;`
 abbrev pub with_array : Draft → Row → Draft
-with_array d ts = record d { file = record d.file { arrays = d.file.arrays ++ record { line = d.line; name = text_at ts 0; high = d.high; last = number_at ts 4 } ∷ [] } }
+with_array d ts =
+    record d { file = record d.file { arrays = d.file.arrays ++ record { line = d.line; name = text_at ts 0; high = d.high; last = number_at ts 4 } ∷ [] } }
 
 -- `wire [ num : 0 ] n_id ; assign n_id =`
 abbrev pub with_head : Draft → Row → Draft
@@ -87,11 +102,18 @@ term first _ ts = Const (constant_at ts 0).width (constant_at ts 0).value
 
 -- a draft whose file has one cell more: that of its head, with the term of a rule
 abbrev pub with_cell : Draft → VerilogRule → Row → Draft
-with_cell d rule ts = record d { file = record d.file { cells = d.file.cells ++ record { line = d.line; name = d.name; high = d.high; target = d.target; term = term d.operand rule ts } ∷ [] } }
+with_cell d rule ts =
+    record d {
+      file = record d.file {
+        cells = d.file.cells
+            ++ record { line = d.line; name = d.name; high = d.high; target = d.target; term = term d.operand rule ts } ∷ [];
+      };
+    }
 
 -- `assign port = id ;`
 abbrev pub with_output : Draft → Row → Draft
-with_output d ts = record d { file = record d.file { outputs = d.file.outputs ++ record { line = line_at ts 0; port = text_at ts 1; source = text_at ts 3 } ∷ [] } }
+with_output d ts =
+    record d { file = record d.file { outputs = d.file.outputs ++ record { line = line_at ts 0; port = text_at ts 1; source = text_at ts 3 } ∷ [] } }
 
 -- `always @ ( posedge clk )`
 abbrev pub with_block : Draft → Row → Draft
@@ -99,11 +121,21 @@ with_block d ts = record d { line = line_at ts 0 }
 
 -- `r_id <= rst ? const : id ;`
 abbrev pub with_reg_block : Draft → Row → Draft
-with_reg_block d ts = record d { file = record d.file { reg_blocks = d.file.reg_blocks ++ record { line = d.line; reg = text_at ts 0; width = (constant_at ts 4).width; reset = (constant_at ts 4).value; source = text_at ts 6 } ∷ [] } }
+with_reg_block d ts =
+    record d {
+      file = record d.file {
+        reg_blocks = d.file.reg_blocks
+            ++ record { line = d.line; reg = text_at ts 0; width = (constant_at ts 4).width; reset = (constant_at ts 4).value; source = text_at ts 6 } ∷ [];
+      };
+    }
 
 -- `if ( id ) a_id [ id ] <= id ;`
 abbrev pub with_write : Draft → Row → Draft
-with_write d ts = record d { writes = d.writes ++ record { line = line_at ts 0; enable = text_at ts 2; array = text_at ts 4; addr = text_at ts 6; value = text_at ts 9 } ∷ [] }
+with_write d ts =
+    record d {
+      writes = d.writes
+          ++ record { line = line_at ts 0; enable = text_at ts 2; array = text_at ts 4; addr = text_at ts 6; value = text_at ts 9 } ∷ [];
+    }
 
 -- `end`
 abbrev pub with_array_block : Draft → Draft

@@ -126,7 +126,8 @@ fields r.BlockHead = f.Always ∷ f.At ∷ f.OpenRound ∷ f.Posedge ∷ f.Clock
 fields r.RegDriven = f.RegName ∷ f.Takes ∷ f.Reset ∷ f.Question ∷ f.Constant ∷ f.Colon ∷ f.Operand ∷ f.Semicolon ∷ []
 fields r.ArrayBegin = f.Begin ∷ []
 fields r.ArrayHead = f.Always ∷ f.At ∷ f.OpenRound ∷ f.Posedge ∷ f.Clock ∷ f.CloseRound ∷ f.Begin ∷ []
-fields r.Written = f.If ∷ f.OpenRound ∷ f.Operand ∷ f.CloseRound ∷ f.ArrayName ∷ f.OpenSquare ∷ f.Operand ∷ f.CloseSquare ∷ f.Takes ∷ f.Operand ∷ f.Semicolon ∷ []
+fields r.Written =
+    f.If ∷ f.OpenRound ∷ f.Operand ∷ f.CloseRound ∷ f.ArrayName ∷ f.OpenSquare ∷ f.Operand ∷ f.CloseSquare ∷ f.Takes ∷ f.Operand ∷ f.Semicolon ∷ []
 fields r.ArrayEnd = f.End ∷ []
 fields r.Ending = f.EndModule ∷ []
 

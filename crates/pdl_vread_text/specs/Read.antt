@@ -83,7 +83,8 @@ all_found done = flat_map (λ t. t.found) done
 -- the tokens after a part begin no rule that comes there, or begin one, up to a token that isn't what is asked then
 pub data IsStuck : Part → Row → Row → Type 0 where
   nothing : {part : Part} {left : Row} → part ≢ Finished → chosen_at part left ≡ None → IsStuck part [] left
-  inside : {part : Part} {rule : VerilogRule} {old front left : Row} → chosen_at part old ≡ Some rule → Stopped (fields rule) old front left → IsStuck part front left
+  inside : {part : Part} {rule : VerilogRule} {old front left : Row} → chosen_at part old ≡ Some rule
+      → Stopped (fields rule) old front left → IsStuck part front left
 
 -- the rule that comes at a part was taken
 pub record IsTaken (part : Part) (old new : Row) (d e : Draft) (after : Part) : Type 0 where

@@ -59,7 +59,8 @@ abbrev pub is_statement_keyword : List ℕ → Bool
 is_statement_keyword t =
     bytes_eq t (codes "if") || bytes_eq t (codes "else") || bytes_eq t (codes "call") || bytes_eq t (codes "spec_call") || bytes_eq t (codes "verify")
     || bytes_eq t (codes "spec_check") || bytes_eq t (codes "spec_barrier") || bytes_eq t (codes "reserve") || bytes_eq t (codes "acquire")
-    || bytes_eq t (codes "block") || bytes_eq t (codes "release") || bytes_eq t (codes "cat") || bytes_eq t (codes "zext") || bytes_eq t (codes "sext") || bytes_eq t (codes "lts")
+    || bytes_eq t (codes "block") || bytes_eq t (codes "release") || bytes_eq t (codes "cat")
+    || bytes_eq t (codes "zext") || bytes_eq t (codes "sext") || bytes_eq t (codes "lts")
 
 -- of these the words for branches, calls and speculation
 abbrev pub is_flow_keyword : List ℕ → Bool
@@ -113,7 +114,9 @@ is_memory_output t = is_named (codes "c_") t || is_named (codes "ca_") t || is_n
 
 -- the name of a port, the clock and the reset apart
 unfoldable pub is_port : List ℕ → Bool
-is_port t = bytes_eq t (codes "ended") || bytes_eq t (codes "squash") || is_stage_port (codes "v_") t || is_stage_port (codes "g_") t || is_input t || is_memory_output t
+is_port t =
+    bytes_eq t (codes "ended") || bytes_eq t (codes "squash") || is_stage_port (codes "v_") t
+    || is_stage_port (codes "g_") t || is_input t || is_memory_output t
 
 -- the name of a register
 abbrev pub is_reg : List ℕ → Bool

@@ -104,7 +104,8 @@ pub moments_lines : (ports : List WavePort) (ms : List Moment) → Each (CanTell
     → Each (λ line. is_line line ≡ true) (flat_map (moment_lines ports) ms)
 moments_lines ports [] h = tt
 moments_lines ports (m ∷ ms) h =
-    each_append _ (moment_lines ports m) (flat_map (moment_lines ports) ms) (time_is_line m.time h.0.counted, changes_lines ports m.changes) (moments_lines ports ms h.1)
+    each_append _ (moment_lines ports m) (flat_map (moment_lines ports) ms)
+    (time_is_line m.time h.0.counted, changes_lines ports m.changes) (moments_lines ports ms h.1)
 
 -- ---- what is told
 
@@ -128,7 +129,8 @@ told_changes ports (x ∷ xs) rest t h e =
 
 -- the moments, and last a time without changes
 pub told_moments : (ports : List WavePort) (ms : List Moment) (last : ℕ) → Each (CanTell ports) ms →
-    told_by ports (flat_map (read_moment ports) ms ++ Time last ∷ Nothing ∷ []) ≡ Some (record { changes = []; moments = ms ++ record { time = last; changes = [] } ∷ [] })
+    told_by ports (flat_map (read_moment ports) ms ++ Time last ∷ Nothing ∷ [])
+    ≡ Some (record { changes = []; moments = ms ++ record { time = last; changes = [] } ∷ [] })
 told_moments ports [] last h = refl
 told_moments ports (m ∷ ms) last h =
     let more = flat_map (read_moment ports) ms in

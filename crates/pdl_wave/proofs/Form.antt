@@ -18,7 +18,8 @@ use Rattle.pdl_wave.proofs.Values.{or_none, got, now_by_changes, none_before, va
 ordered_from : (i j : ℕ) (before vs : List ℕ) → i ≤ j → are_ordered i (changes j before vs) ≡ true
 ordered_from i j before [] l = refl
 ordered_from i j before (v ∷ vs) l =
-    cond_both (differs (slice_get before j) v) (record { port = j; value = v } ∷ changes (suc j) before vs) (changes (suc j) before vs) (λ xs. are_ordered i xs ≡ true)
+    cond_both (differs (slice_get before j) v) (record { port = j; value = v } ∷ changes (suc j) before vs)
+    (changes (suc j) before vs) (λ xs. are_ordered i xs ≡ true)
     (λ h. and_from _ _ (le-leb i j l) (ordered_from (suc j) (suc j) before vs (omega arith)))
     (λ h. ordered_from i (suc j) before vs (omega arith))
 
@@ -29,7 +30,8 @@ new_from was j before [] h = refl
 new_from was j before (v ∷ vs) h =
     let rest = new_from was (suc j) before vs (λ i l. h i (omega (arith, l))) in
     let here : was j ≡ slice_get before j = h j (omega arith) in
-    cond_both (differs (slice_get before j) v) (record { port = j; value = v } ∷ changes (suc j) before vs) (changes (suc j) before vs) (λ xs. list_all (λ (x : Change). differs (was x.port) x.value) xs ≡ true)
+    cond_both (differs (slice_get before j) v) (record { port = j; value = v } ∷ changes (suc j) before vs)
+    (changes (suc j) before vs) (λ xs. list_all (λ (x : Change). differs (was x.port) x.value) xs ≡ true)
     (λ d. and_from _ _ (ap (λ o. differs o v) here ∙ d) rest)
     (λ d. rest)
 
@@ -44,9 +46,12 @@ each_change : (Q : ℕ → ℕ → Type 0) (j : ℕ) (before vs : List ℕ)
     → Each (λ (x : Change). Q x.port x.value) (changes j before vs)
 each_change Q j before [] h = tt
 each_change Q j before (v ∷ vs) h =
-    let rest = each_change Q (suc j) before vs (λ i l. let e : j + suc i ≡ suc j + i = omega arith in subst (λ (k : ℕ). Q k (get_or vs i 0)) e (h (suc i) (omega (arith, l)))) in
+    let rest =
+    each_change Q (suc j) before vs
+    (λ i l. let e : j + suc i ≡ suc j + i = omega arith in subst (λ (k : ℕ). Q k (get_or vs i 0)) e (h (suc i) (omega (arith, l)))) in
     let e : j + 0 ≡ j = omega arith in
-    cond_both (differs (slice_get before j) v) (record { port = j; value = v } ∷ changes (suc j) before vs) (changes (suc j) before vs) (λ xs. Each (λ (x : Change). Q x.port x.value) xs)
+    cond_both (differs (slice_get before j) v) (record { port = j; value = v } ∷ changes (suc j) before vs)
+    (changes (suc j) before vs) (λ xs. Each (λ (x : Change). Q x.port x.value) xs)
     (λ d. (subst (λ (k : ℕ). Q k v) e (h 0 (omega arith)), rest))
     (λ d. rest)
 
@@ -147,8 +152,10 @@ run_values (now ∷ rest) n zero i h l m =
 run_values (now ∷ rest) n (suc c) i h l m =
     let inside : i < length now = omega (arith, h.0, m) in
     let e : suc c + 1 ≡ 2 + c = omega arith in
-    let first : (if nat_le 1 (2 + c) then taken i (changes 0 [] now) else None) ≡ taken i (changes 0 [] now) = cond-true _ _ _ (le-leb 1 (2 + c) (omega arith)) in
-    let value : taken i (changes 0 [] now) ≡ slice_get now i = sym (or_none (taken i (changes 0 [] now))) ∙ now_by_changes i [] now inside ∙ sym (got now i inside) in
+    let first : (if nat_le 1 (2 + c) then taken i (changes 0 [] now) else None) ≡ taken i (changes 0 [] now) =
+    cond-true _ _ _ (le-leb 1 (2 + c) (omega arith)) in
+    let value : taken i (changes 0 [] now) ≡ slice_get now i =
+    sym (or_none (taken i (changes 0 [] now))) ∙ now_by_changes i [] now inside ∙ sym (got now i inside) in
     ap (λ t. value_in (run_moments (now ∷ rest)) t i) e
     ∙ ap (option_or (value_in (moments 2 now rest) (2 + c) i)) (first ∙ value)
     ∙ values_from rest n 2 now c i h.1 (omega (arith, l)) m

@@ -37,11 +37,15 @@ pub upscope_line : (name : List ℕ) (ports : List WavePort) (k : ℕ)
 upscope_line name ports k low e =
     let n = declarations_length 0 ports in
     let at : k - 2 - length ports ≡ 0 = omega (arith, e) in
-    ap (λ x. get_or (header name ports) x []) (after_two k low) ∙ (get_or-append_right (declarations 0 ports) (upscope ∷ enddefinitions ∷ []) (length ports) (k - 2) [] n (omega (arith, e)) ∙ ap (λ j. get_or (upscope ∷ enddefinitions ∷ []) j []) at)
+    ap (λ x. get_or (header name ports) x []) (after_two k low)
+    ∙ (get_or-append_right (declarations 0 ports) (upscope ∷ enddefinitions ∷ []) (length ports) (k - 2) [] n (omega (arith, e))
+    ∙ ap (λ j. get_or (upscope ∷ enddefinitions ∷ []) j []) at)
 
 -- the last line of a header ends the declarations
 pub last_line : (name : List ℕ) (ports : List WavePort) (k : ℕ) → k ≡ length ports + 3 → get_or (header name ports) k [] ≡ enddefinitions
 last_line name ports k e =
     let n = declarations_length 0 ports in
     let at : k - 2 - length ports ≡ 1 = omega (arith, e) in
-    ap (λ x. get_or (header name ports) x []) (after_two k (omega (arith, e))) ∙ (get_or-append_right (declarations 0 ports) (upscope ∷ enddefinitions ∷ []) (length ports) (k - 2) [] n (omega (arith, e)) ∙ ap (λ j. get_or (upscope ∷ enddefinitions ∷ []) j []) at)
+    ap (λ x. get_or (header name ports) x []) (after_two k (omega (arith, e)))
+    ∙ (get_or-append_right (declarations 0 ports) (upscope ∷ enddefinitions ∷ []) (length ports) (k - 2) [] n (omega (arith, e))
+    ∙ ap (λ j. get_or (upscope ∷ enddefinitions ∷ []) j []) at)

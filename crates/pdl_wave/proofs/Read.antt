@@ -71,7 +71,8 @@ pub read_declaration : (i : ℕ) (p : WavePort)
     → p.width ≤ 128 → is_word p.name ≡ true → of_line (declaration i p) ≡ Var p.width (code i) p.name
 read_declaration i p l h =
     let width : p.width < 2 ^ 64 = omega arith in
-    let cut : slice_split (λ c. c == 32) (decimal p.width ++ (codes " " ++ (code i ++ (codes " " ++ (p.name ++ codes " $end"))))) ≡ decimal p.width ∷ code i ∷ p.name ∷ codes "$end" ∷ [] =
+    let cut : slice_split (λ c. c == 32) (decimal p.width ++ (codes " " ++ (code i ++ (codes " " ++ (p.name ++ codes " $end")))))
+    ≡ decimal p.width ∷ code i ∷ p.name ∷ codes "$end" ∷ [] =
     cut_word (decimal p.width) (code i ++ (codes " " ++ (p.name ++ codes " $end"))) (decimal_word p.width width)
     ∙ ap (λ ws. decimal p.width ∷ ws) (cut_word (code i) (p.name ++ codes " $end") (code_word i) ∙ ap (λ ws. code i ∷ ws) (cut_word p.name (codes "$end") h)) in
     ap of_line (regroup (codes "$var wire ") (decimal p.width) (codes " ") (code i) p.name (codes " $end"))

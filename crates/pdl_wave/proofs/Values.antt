@@ -32,7 +32,8 @@ taken_before i j before [] l = refl
 taken_before i j before (v ∷ vs) l =
     let rest = taken_before i (suc j) before vs (omega arith) in
     let other : (j == i) ≡ false = ne_eqb j i (λ e. omega (arith, e, l)) in
-    cond_both (differs (slice_get before j) v) (record { port = j; value = v } ∷ changes (suc j) before vs) (changes (suc j) before vs) (λ xs. taken i xs ≡ None)
+    cond_both (differs (slice_get before j) v) (record { port = j; value = v } ∷ changes (suc j) before vs)
+    (changes (suc j) before vs) (λ xs. taken i xs ≡ None)
     (λ h. cond-false _ _ _ other ∙ rest) (λ h. rest)
 
 -- of two values that don't differ the one before is the one now
@@ -48,7 +49,8 @@ value_now j zero before (v ∷ vs) l =
     let e : j + 0 ≡ j = omega arith in
     let none = taken_before j (suc j) before vs (omega arith) in
     ap (λ k. option_or (taken k (changes j before (v ∷ vs))) (slice_get before k)) e
-    ∙ cond_both (differs (slice_get before j) v) (record { port = j; value = v } ∷ changes (suc j) before vs) (changes (suc j) before vs) (λ xs. option_or (taken j xs) (slice_get before j) ≡ Some v)
+    ∙ cond_both (differs (slice_get before j) v) (record { port = j; value = v } ∷ changes (suc j) before vs)
+    (changes (suc j) before vs) (λ xs. option_or (taken j xs) (slice_get before j) ≡ Some v)
     (λ h. ap (λ o. option_or o (slice_get before j)) (cond-true _ _ _ (eq-eqb j j refl)))
     (λ h. ap (λ o. option_or o (slice_get before j)) none ∙ same_value (slice_get before j) v h)
 value_now j (suc i) before (v ∷ vs) l =
@@ -56,7 +58,9 @@ value_now j (suc i) before (v ∷ vs) l =
     let later : option_or (taken (j + suc i) (changes (suc j) before vs)) (slice_get before (j + suc i)) ≡ Some (get_or vs i 0) =
     ap (λ k. option_or (taken k (changes (suc j) before vs)) (slice_get before k)) (sym e) ∙ value_now (suc j) i before vs (omega (arith, l)) in
     let other : (j == j + suc i) ≡ false = ne_eqb j (j + suc i) (λ same. omega (arith, same)) in
-    cond_both (differs (slice_get before j) v) (record { port = j; value = v } ∷ changes (suc j) before vs) (changes (suc j) before vs) (λ xs. option_or (taken (j + suc i) xs) (slice_get before (j + suc i)) ≡ Some (get_or vs i 0))
+    cond_both (differs (slice_get before j) v) (record { port = j; value = v } ∷ changes (suc j) before vs)
+    (changes (suc j) before vs)
+    (λ xs. option_or (taken (j + suc i) xs) (slice_get before (j + suc i)) ≡ Some (get_or vs i 0))
     (λ h. ap (λ o. option_or o (slice_get before (j + suc i))) (cond-false _ _ _ other) ∙ later)
     (λ h. later)
 

@@ -38,7 +38,9 @@ header_read : (name : List ℕ) (ports : List WavePort)
     → map of_line (header name ports) ≡ Timescale ∷ Scope name ∷ (read_ports 0 ports ++ Upscope ∷ EndDefinitions ∷ [])
 header_read name ports named each =
     ap (λ line. Timescale ∷ line ∷ map of_line (declarations 0 ports ++ upscope ∷ enddefinitions ∷ [])) (read_scope name named)
-    ∙ ap (λ more. Timescale ∷ Scope name ∷ more) (map-append of_line (declarations 0 ports) (upscope ∷ enddefinitions ∷ []) ∙ ap (λ more. more ++ Upscope ∷ EndDefinitions ∷ []) (ports_read 0 ports each))
+    ∙ ap (λ more. Timescale ∷ Scope name ∷ more)
+    (map-append of_line (declarations 0 ports) (upscope ∷ enddefinitions ∷ [])
+    ∙ ap (λ more. more ++ Upscope ∷ EndDefinitions ∷ []) (ports_read 0 ports each))
 
 body_read : (ports : List WavePort) (rows : List (List ℕ)) → Each (CanTell ports) (run_moments rows) → length rows + 1 < 2 ^ 64 →
     map of_line (flat_map (moment_lines ports) (run_moments rows) ++ (time_text (length rows + 1) ∷ [] ++ [] ∷ [])) ≡ read_body ports rows
@@ -56,7 +58,8 @@ lines_read name ports rows h =
     ap (map of_line) (cut_lines (dump_lines name ports rows) (lines_cut name ports rows h) ∙ regroup (header name ports) moments end ([] ∷ []))
     ∙ map-append of_line (header name ports) (moments ++ (end ++ [] ∷ []))
     ∙ ap (λ more. more ++ map of_line (moments ++ (end ++ [] ∷ []))) (header_read name ports h.named h.declared)
-    ∙ ap (λ more. Timescale ∷ Scope name ∷ (read_ports 0 ports ++ Upscope ∷ EndDefinitions ∷ [] ++ more)) (body_read ports rows (can_tell ports rows h.fits h.counted) h.counted)
+    ∙ ap (λ more. Timescale ∷ Scope name ∷ (read_ports 0 ports ++ Upscope ∷ EndDefinitions ∷ [] ++ more))
+    (body_read ports rows (can_tell ports rows h.fits h.counted) h.counted)
     ∙ ap (λ more. Timescale ∷ Scope name ∷ more) (append_assoc (read_ports 0 ports) (Upscope ∷ EndDefinitions ∷ []) (read_body ports rows))
 
 -- ---- what they say
@@ -69,7 +72,8 @@ in_form : (name : List ℕ) (ports : List WavePort) (rows : List (List ℕ)) →
     is_form (length ports) (record { changes = []; moments = all_moments rows }) ≡ true
 in_form name ports rows h lengths =
     and_from _ _ (lt-ltb (length ports) 8930 h.few)
-    (and_from (begin (length ports) (all_moments rows)) (list_all (are_new (all_moments rows)) (all_moments rows)) (begins rows (length ports) lengths) (all_new rows (length ports) lengths))
+    (and_from (begin (length ports) (all_moments rows)) (list_all (are_new (all_moments rows)) (all_moments rows))
+    (begins rows (length ports) lengths) (all_new rows (length ports) lengths))
 
 row_lengths : (ports : List WavePort) (rows : List (List ℕ)) → Each (IsRow ports) rows → Each (λ row. length row ≡ length ports) rows
 row_lengths ports rows h = each_weaker (IsRow ports) (λ row. length row ≡ length ports) (row_length ports) rows h
@@ -80,7 +84,8 @@ unfolding wave
 wave_is name ports rows h =
     let head : Header = record { name = name; ports = ports; rest = read_body ports rows } in
     ap (λ lines. wave_of (header_of lines)) (lines_read name ports rows h)
-    ∙ ap (λ d. wave_of (option_map (λ (d : Declared). record { name = name; ports = d.ports; rest = d.rest }) d)) (declared_back 0 ports (read_body ports rows) h.declared)
+    ∙ ap (λ d. wave_of (option_map (λ (d : Declared). record { name = name; ports = d.ports; rest = d.rest }) d))
+    (declared_back 0 ports (read_body ports rows) h.declared)
     ∙ ap (wave_with head) (told_moments ports (run_moments rows) (length rows + 1) (can_tell ports rows h.fits h.counted))
     ∙ cond-true _ _ _ (in_form name ports rows h (row_lengths ports rows h.fits))
 

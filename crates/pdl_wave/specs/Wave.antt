@@ -105,7 +105,8 @@ declares i width word = nat_le 1 width && (nat_le width 128 && bytes_eq (code i)
 
 -- the ports from the i-th on, up to the end of the header
 abbrev pub declared : ℕ → List DumpLine → Option Declared
-declared i (Var width word name ∷ more) = if declares i width word then option_map (with_port (record { name = name; width = width })) (declared (suc i) more) else None
+declared i (Var width word name ∷ more) =
+    if declares i width word then option_map (with_port (record { name = name; width = width })) (declared (suc i) more) else None
 declared i (Upscope ∷ EndDefinitions ∷ rest) = Some (record { ports = []; rest = rest })
 declared i _ = None
 
@@ -206,7 +207,8 @@ last_time time (m ∷ later) = last_time m.time later
 -- the last time is the one after the last cycle
 abbrev pub wave_with : Header → Option Told → Option Wave
 wave_with h None = None
-wave_with h (Some t) = if is_form (length h.ports) t then Some (record { name = h.name; ports = h.ports; cycles = last_time 0 t.moments - 1; moments = t.moments }) else None
+wave_with h (Some t) =
+    if is_form (length h.ports) t then Some (record { name = h.name; ports = h.ports; cycles = last_time 0 t.moments - 1; moments = t.moments }) else None
 
 -- what a dump says by its header, and none where that is missing
 abbrev pub wave_of : Option Header → Option Wave

@@ -40,7 +40,10 @@ form_word (c ∷ cs) h =
 -- a name of PDL is a word of a dump, of at most 32 bytes
 pub name_word : (t : List ℕ) → is_name t ≡ true → IsShortWord 32 t
 unfolding is_name
-name_word t h = form_word t (and_parts (has_name_form t) (not (is_statement_keyword t)) (and_parts (has_name_form t && not (is_statement_keyword t)) (not (is_declaration_keyword t)) h).0).0
+name_word t h =
+    form_word t
+    (and_parts (has_name_form t) (not (is_statement_keyword t))
+    (and_parts (has_name_form t && not (is_statement_keyword t)) (not (is_declaration_keyword t)) h).0).0
 
 -- a word after another
 pub prefixed : (m k : ℕ) (a b : List ℕ) → IsShortWord m a → IsShortWord k b → IsShortWord (m + k) (a ++ b)

@@ -35,7 +35,8 @@ words_by : (ps : List Port) → Each HasWord (map head_of ps) → Each (λ (p : 
 words_by [] h = tt
 words_by (p ∷ ps) h = one p.dir h.0 (words_by ps h.1)
   where
-    one : (d : Dir) → IsShortWord 64 p.name → Each (λ (q : WavePort). IsShortWord 64 q.name) (filter_map wave_port ps) → Each (λ (q : WavePort). IsShortWord 64 q.name) (cons_option (wave_with d p.name p.width) (filter_map wave_port ps))
+    one : (d : Dir) → IsShortWord 64 p.name → Each (λ (q : WavePort). IsShortWord 64 q.name) (filter_map wave_port ps)
+        → Each (λ (q : WavePort). IsShortWord 64 q.name) (cons_option (wave_with d p.name p.width) (filter_map wave_port ps))
     one In w rest = rest
     one (Out x) w rest = (w, rest)
 
@@ -43,7 +44,8 @@ few_by : (ps : List Port) → length (filter_map wave_port ps) ≤ length ps
 few_by [] = omega arith
 few_by (p ∷ ps) = one p.dir (few_by ps)
   where
-    one : (d : Dir) → length (filter_map wave_port ps) ≤ length ps → length (cons_option (wave_with d p.name p.width) (filter_map wave_port ps)) ≤ suc (length ps)
+    one : (d : Dir) → length (filter_map wave_port ps) ≤ length ps
+        → length (cons_option (wave_with d p.name p.width) (filter_map wave_port ps)) ≤ suc (length ps)
     one In l = omega (arith, l)
     one (Out x) l = omega (arith, l)
 
@@ -61,8 +63,10 @@ stage_word a k h l = longer (3 + 2) 64 (a ++ decimal k) (omega arith) (prefixed 
 stages_from : (k n : ℕ) → k + n ≤ 64 → Each HasWord (flat_map stage_ports (range_with_len k n))
 stages_from k zero l = tt
 stages_from k (suc n) l =
-    let low : k < 64 = omega arith in
-    (stage_word (codes "v_") k (prefix_word (codes "v_") refl (omega arith)) low, (stage_word (codes "g_") k (prefix_word (codes "g_") refl (omega arith)) low, stages_from (k + 1) n (omega arith)))
+    let low : k < 64 = omega arith in (
+      stage_word (codes "v_") k (prefix_word (codes "v_") refl (omega arith)) low,
+      (stage_word (codes "g_") k (prefix_word (codes "g_") refl (omega arith)) low, stages_from (k + 1) n (omega arith)),
+    )
 
 stages_count : (k n : ℕ) → length (flat_map stage_ports (range_with_len k n)) ≡ 2 * n
 stages_count k zero = refl
@@ -92,7 +96,9 @@ both_named : (ms : List Mem) → Each IsNamed (delayed_of ms) → Each IsNamed (
 both_named [] h k = tt
 both_named (m ∷ ms) h k = at m.delayed (λ a b. both_named ms a b) h k
   where
-    at : (b : Bool) → (Each IsNamed (delayed_of ms) → Each IsNamed (comb_of ms) → Each IsNamed ms) → Each IsNamed (if b then m ∷ delayed_of ms else delayed_of ms) → Each IsNamed (if not b then m ∷ comb_of ms else comb_of ms) → Each IsNamed (m ∷ ms)
+    at : (b : Bool) → (Each IsNamed (delayed_of ms) → Each IsNamed (comb_of ms) → Each IsNamed ms)
+        → Each IsNamed (if b then m ∷ delayed_of ms else delayed_of ms)
+        → Each IsNamed (if not b then m ∷ comb_of ms else comb_of ms) → Each IsNamed (m ∷ ms)
     at true rest h k = (h.0, rest h.1 k)
     at false rest h k = (k.0, rest h k.1)
 
@@ -111,7 +117,8 @@ commits_words : (ms : List Mem) → Each (λ (m : Mem). is_name m.name.name ≡ 
 commits_words [] h = tt
 commits_words (m ∷ ms) h = one m.lock (commits_words ms h.1)
   where
-    one : (l : Option LockDecl) → Each HasWord (flat_map commit_ports (locked_of ms)) → Each HasWord (flat_map commit_ports ((if is_some l then port_mem m ∷ [] else []) ++ locked_of ms))
+    one : (l : Option LockDecl) → Each HasWord (flat_map commit_ports (locked_of ms))
+        → Each HasWord (flat_map commit_ports ((if is_some l then port_mem m ∷ [] else []) ++ locked_of ms))
     one None rest = rest
     one (Some l) rest = (
       mem_word (codes "c_") m.name.name (prefix_word (codes "c_") refl (omega arith)) h.0,
@@ -125,7 +132,8 @@ commits_count : (ms : List Mem) → length (flat_map commit_ports (locked_of ms)
 commits_count [] = omega arith
 commits_count (m ∷ ms) = one m.lock (commits_count ms)
   where
-    one : (l : Option LockDecl) → length (flat_map commit_ports (locked_of ms)) ≤ 3 * length ms → length (flat_map commit_ports ((if is_some l then port_mem m ∷ [] else []) ++ locked_of ms)) ≤ 3 * suc (length ms)
+    one : (l : Option LockDecl) → length (flat_map commit_ports (locked_of ms)) ≤ 3 * length ms
+        → length (flat_map commit_ports ((if is_some l then port_mem m ∷ [] else []) ++ locked_of ms)) ≤ 3 * suc (length ms)
     one None l = omega (arith, l)
     one (Some x) l = omega (arith, l)
 
@@ -173,7 +181,9 @@ pipe_words stages ms few named =
     let last = output (codes "ended") 1 ∷ output (codes "squash") 1 ∷ [] in
     each_append HasWord (replies ++ front ++ commits ++ requests) last
     (each_append HasWord (replies ++ front ++ commits) requests
-    (each_append HasWord (replies ++ front) commits (each_append HasWord replies front (replies_words (delayed_of ms) named.0) (stages_from 0 stages (omega (arith, few)))) (commits_words ms named.1))
+    (each_append HasWord (replies ++ front) commits
+    (each_append HasWord replies front (replies_words (delayed_of ms) named.0) (stages_from 0 stages (omega (arith, few))))
+    (commits_words ms named.1))
     (requests_words (delayed_of ms) named.0))
     (ended_word, (squash_word, tt))
 

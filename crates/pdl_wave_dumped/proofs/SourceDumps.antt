@@ -57,7 +57,8 @@ module _ (source : List ℕ) (p : Pipe) (n : Netlist) (t : IsText source p) (kep
     few = let m = few_ports in omega (arith, m);
   }
 
-  ports_well : (ps : List WavePort) → Each (λ (q : WavePort). IsShortWord 64 q.name) ps → All (λ (q : WavePort). (1 ≤ q.width) × (q.width ≤ 64)) ps → Each IsPort ps
+  ports_well : (ps : List WavePort) → Each (λ (q : WavePort). IsShortWord 64 q.name) ps
+      → All (λ (q : WavePort). (1 ≤ q.width) × (q.width ≤ 64)) ps → Each IsPort ps
   ports_well [] h w = tt
   ports_well (q ∷ qs) h w =
       let here = w 0 q (omega arith) in
@@ -69,7 +70,8 @@ module _ (source : List ℕ) (p : Pipe) (n : Netlist) (t : IsText source p) (kep
   rows_fit h (bits ∷ schedule) fit = (fit_row n h bits fit, rows_fit (next n h bits) schedule (fit_next n h bits fit))
 
   -- each of its runs can be dumped, and the dump says it
-  pub says : (image : List (List ℕ)) (schedule : List ℕ) → IsImage n.mems image → length schedule ≤ 1000000 → IsWaveOf (run_dump n image schedule) n.name (wave_ports n) (rows_of (nports n image schedule))
+  pub says : (image : List (List ℕ)) (schedule : List ℕ) → IsImage n.mems image → length schedule ≤ 1000000
+      → IsWaveOf (run_dump n image schedule) n.name (wave_ports n) (rows_of (nports n image schedule))
   says image schedule i few_cycles =
       let m = few_ports in
       let count = rows_length n (start n image) schedule in

@@ -98,7 +98,8 @@ are_hex_digits w v low high =
     let parts = div-add-mod (w + 3) 4 in
     let left = mod-lt (w + 3) {m = 4} (omega arith) in
     and_from _ _ (hex_all (is_digit_of 16) sixteen_value ((w + 3) / 4) v)
-    (and_from _ _ (le-leb 1 (length (hex ((w + 3) / 4) v)) (omega (arith, n, parts, left, low))) (le-leb (length (hex ((w + 3) / 4) v)) 16 (omega (arith, n, parts, left, high))))
+    (and_from _ _ (le-leb 1 (length (hex ((w + 3) / 4) v)) (omega (arith, n, parts, left, low)))
+    (le-leb (length (hex ((w + 3) / 4) v)) 16 (omega (arith, n, parts, left, high))))
 
 -- a word of w bits is the value of its hexadecimal digits, one for each four bits
 pub hex_value : (w v : ℕ) → v < 2 ^ w → digits_value 16 (hex ((w + 3) / 4) v) ≡ v

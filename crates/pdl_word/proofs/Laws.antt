@@ -120,7 +120,8 @@ part_of_low x n k j h =
     let i = n - k in
     let e : i + k ≡ n = omega arith in
     let P : ℕ → Type 0 = λ m. x % 2 ^ m / 2 ^ k ≡ x / 2 ^ k % 2 ^ i in
-    let cut : x % 2 ^ n / 2 ^ k ≡ x / 2 ^ k % 2 ^ i = subst P e (ap (λ y. y / 2 ^ k) (mod-pow-add x i k) ∙ div-mul-add (x / 2 ^ k % 2 ^ i) (2 ^ k) (x % 2 ^ k) (mod_below x (2 ^ k) (pow_pos k))) in
+    let cut : x % 2 ^ n / 2 ^ k ≡ x / 2 ^ k % 2 ^ i =
+    subst P e (ap (λ y. y / 2 ^ k) (mod-pow-add x i k) ∙ div-mul-add (x / 2 ^ k % 2 ^ i) (2 ^ k) (x % 2 ^ k) (mod_below x (2 ^ k) (pow_pos k))) in
     let f : i - j + j ≡ i = omega arith in
     let Q : ℕ → Type 0 = λ m. x / 2 ^ k % 2 ^ m % 2 ^ j ≡ x / 2 ^ k % 2 ^ j in
     ap (λ y. y % 2 ^ j) cut ∙ subst Q f (mod-mod-pow (x / 2 ^ k) (i - j) j)

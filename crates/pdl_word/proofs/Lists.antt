@@ -30,7 +30,10 @@ take_few (suc n) (x ∷ xs) = let rest = take_few n xs in omega arith
 
 -- at each place of a list of zeros, and past its end, 0 is read
 pub zeros_at : (n i : ℕ) → slice_index (replicate n 0) i ≡ 0
-zeros_at n i = ⊎_elim (λ (lt : i < n). get_or-replicate n i 0 0 lt) (λ (ge : n ≤ i). get_or_past (replicate n 0) i 0 (let e = length-replicate {A = ℕ} n 0 in omega (arith, e))) (cases_lt i n)
+zeros_at n i =
+    ⊎_elim (λ (lt : i < n). get_or-replicate n i 0 0 lt)
+    (λ (ge : n ≤ i). get_or_past (replicate n 0) i 0 (let e = length-replicate {A = ℕ} n 0 in omega (arith, e)))
+    (cases_lt i n)
 
 -- a vector that is given as many items has these
 pub items_written : {X : Type 0} (v : Vec X Global) (ws : List X) → length ws ≡ length v.items → (with_items v ws).items ≡ ws
@@ -75,7 +78,8 @@ pub some_filtered : {X : Type 0} (f p : X → Bool) (xs : List X) → list_any f
 some_filtered f p [] e = e
 some_filtered f p (x ∷ xs) e = at (p x) e (some_filtered f p xs)
   where
-    at : (b : Bool) → list_any f (cond b (x ∷ filter p xs) (filter p xs)) ≡ true → (list_any f (filter p xs) ≡ true → list_any f xs ≡ true) → (f x || list_any f xs) ≡ true
+    at : (b : Bool) → list_any f (cond b (x ∷ filter p xs) (filter p xs)) ≡ true
+        → (list_any f (filter p xs) ≡ true → list_any f xs ≡ true) → (f x || list_any f xs) ≡ true
     at true i k = or_map (f x) (list_any f (filter p xs)) (list_any f xs) k i
     at false i k = or_right (f x) (list_any f xs) (k i)
 

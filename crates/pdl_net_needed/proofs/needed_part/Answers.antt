@@ -5,7 +5,9 @@ use Rattle.pdl_net_needed.proofs.PrunedFacts.{all_pruned, all_well, all_show, al
 use Rattle.pdl_net_needed.proofs.needed_part.Goals as goal
 
 pub returns-clause-pruned : goal.returns-clause-pruned
-returns-clause-pruned c = all_pruned c.args.net.now c.in_ok-kept.kept c.pruned_netlist.result (subst (KeepsNeeded (circuit_of c.args.net.now)) (sym c.in_ok-kept.ensures) c.in_ok-marks.ensures) c.pruned_netlist.ensures
+returns-clause-pruned c =
+    all_pruned c.args.net.now c.in_ok-kept.kept c.pruned_netlist.result
+    (subst (KeepsNeeded (circuit_of c.args.net.now)) (sym c.in_ok-kept.ensures) c.in_ok-marks.ensures) c.pruned_netlist.ensures
 
 pub returns-clause-well : goal.returns-clause-well
 returns-clause-well c = all_well c.args.net.now c.pruned_netlist.result c.requires (returns-clause-pruned c)

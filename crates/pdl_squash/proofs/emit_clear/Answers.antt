@@ -19,7 +19,12 @@ loop-n-init c =
       zero = means_kept b d _ _ c.in_ok-none.ensures.extends c.in_ok-zero.ensures.means;
       none = record { there = m.there; same = m.same ∙ sym (none_none f _) };
       one = ap (λ (g : Signal). g.width) m.same;
-      clear = record { count = omega (arith, c.in_ok-clear.clear.ok.0, c.in_ok-clear.ensures.len); there = λ k lo hi. absurd (omega arith); same = λ k lo hi. absurd (omega arith) };
+      clear =
+          record {
+            count = omega (arith, c.in_ok-clear.clear.ok.0, c.in_ok-clear.ensures.len);
+            there = λ k lo hi. absurd (omega arith);
+            same = λ k lo hi. absurd (omega arith);
+          };
     }
 
 pub loop-n-preserved : goal.loop-n-preserved
@@ -34,7 +39,8 @@ loop-n-preserved c =
     let x = c.in_ok-none-2.none in
     let e = c.in_ok-none-2.ensures.extends in
     let valid : signal b c.net-valid.result ≡ f.valid (p.stage - n) =
-    ap (signal b) c.net-valid.ensures ∙ i.extends.kept (net_at p.valid (p.stage - n)) (c.requires.valid.there (p.stage - n) (omega (arith, c.requires.stage))) in
+    ap (signal b) c.net-valid.ensures
+    ∙ i.extends.kept (net_at p.valid (p.stage - n)) (c.requires.valid.there (p.stage - n) (omega (arith, c.requires.stage))) in
     let m = none_net b d f n c.net-valid.result c.in_ok-zero.zero c.loop-n.none x c.loop-n-test.true valid i.zero i.none c.in_ok-none-2.ensures.means in
     let j : p.stage - n ≡ p.stage - (n + 1) + 1 = omega arith in
     let P : ℕ → Type 0 = λ q. Means d x (none_signal f (n + 1) q) in

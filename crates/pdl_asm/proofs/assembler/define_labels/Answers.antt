@@ -17,10 +17,12 @@ loop-rest-preserved c =
     record {
       room = omega (arith, c.split_line.ensures.shorter);
       near = subst (IsNear (length c.args.text.now - length c.split_line.result.1.now)) (sym z)
-          (near_later (length c.args.text.now - length c.loop-rest.rest.now + 1) _ _ (c.after_line-place.ensures.near _ c.loop-rest.invariant.near) (omega (arith, c.split_line.ensures.shorter, c.loop-rest.invariant.room)));
+          (near_later (length c.args.text.now - length c.loop-rest.rest.now + 1) _ _ (c.after_line-place.ensures.near _ c.loop-rest.invariant.near)
+          (omega (arith, c.split_line.ensures.shorter, c.loop-rest.invariant.room)));
       labels = labels_more _ _ _ _ _ _ _ e c.in_ok-define_label.ensures c.loop-rest.invariant.labels;
     }
 
 pub returns : goal.returns
 returns c =
-    ap (fold with_line c.loop-rest.labels) (sym (none_left_of c.args.table.now _ c.loop-rest.rest.now (eqb-true _ 0 (sym c.loop-rest-test.ensures)))) ∙ c.loop-rest.invariant.labels
+    ap (fold with_line c.loop-rest.labels) (sym (none_left_of c.args.table.now _ c.loop-rest.rest.now (eqb-true _ 0 (sym c.loop-rest-test.ensures))))
+    ∙ c.loop-rest.invariant.labels

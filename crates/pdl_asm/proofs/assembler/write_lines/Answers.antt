@@ -35,9 +35,12 @@ loop-rest-preserved c =
     record {
       room = omega (arith, c.split_line.ensures.shorter);
       near = subst (IsNear (length c.args.text.now - length c.split_line.result.1.now)) (sym z)
-          (near_later (length c.args.text.now - length c.loop-rest.rest.now + 1) _ _ (c.after_line-place.ensures.near _ c.loop-rest.invariant.near) (omega (arith, c.split_line.ensures.shorter, c.loop-rest.invariant.room)));
+          (near_later (length c.args.text.now - length c.loop-rest.rest.now + 1) _ _ (c.after_line-place.ensures.near _ c.loop-rest.invariant.near)
+          (omega (arith, c.split_line.ensures.shorter, c.loop-rest.invariant.room)));
       count = omega (arith, c.split_line.ensures.shorter);
-      few = omega (arith, c.split_line.ensures.shorter, c.loop-rest.invariant.few, defined_few c.loop-rest.before c.in_ok-line.line, c.defined_after-before.ensures);
+      few =
+          omega
+          (arith, c.split_line.ensures.shorter, c.loop-rest.invariant.few, defined_few c.loop-rest.before c.in_ok-line.line, c.defined_after-before.ensures);
       taken =
           let f = subst P e c.loop-rest.invariant.taken in
           taken_more t ls all _ c.loop-rest.number place c.in_ok-line.line (take c.loop-rest.before ls) _ c.loop-rest.words _ f
@@ -60,9 +63,12 @@ loop-rest-preserved-in-Ok c =
     record {
       room = omega (arith, c.split_line.ensures.shorter);
       near = subst (IsNear (length c.args.text.now - length c.split_line.result.1.now)) (sym z)
-          (near_later (length c.args.text.now - length c.loop-rest.rest.now + 1) _ _ (c.after_line-place.ensures.near _ c.loop-rest.invariant.near) (omega (arith, c.split_line.ensures.shorter, c.loop-rest.invariant.room)));
+          (near_later (length c.args.text.now - length c.loop-rest.rest.now + 1) _ _ (c.after_line-place.ensures.near _ c.loop-rest.invariant.near)
+          (omega (arith, c.split_line.ensures.shorter, c.loop-rest.invariant.room)));
       count = omega (arith, c.split_line.ensures.shorter);
-      few = omega (arith, c.split_line.ensures.shorter, c.loop-rest.invariant.few, defined_few c.loop-rest.before c.in_ok-line.line, c.defined_after-before.ensures);
+      few =
+          omega
+          (arith, c.split_line.ensures.shorter, c.loop-rest.invariant.few, defined_few c.loop-rest.before c.in_ok-line.line, c.defined_after-before.ensures);
       taken =
           let f = subst P e c.loop-rest.invariant.taken in
           taken_more t ls all _ c.loop-rest.number place c.in_ok-line.line (take c.loop-rest.before ls) _ c.loop-rest.words _ f
@@ -85,9 +91,12 @@ loop-rest-preserved-in-Ok-2 c =
     record {
       room = omega (arith, c.split_line.ensures.shorter);
       near = subst (IsNear (length c.args.text.now - length c.split_line.result.1.now)) (sym z)
-          (near_later (length c.args.text.now - length c.loop-rest.rest.now + 1) _ _ (c.after_line-place.ensures.near _ c.loop-rest.invariant.near) (omega (arith, c.split_line.ensures.shorter, c.loop-rest.invariant.room)));
+          (near_later (length c.args.text.now - length c.loop-rest.rest.now + 1) _ _ (c.after_line-place.ensures.near _ c.loop-rest.invariant.near)
+          (omega (arith, c.split_line.ensures.shorter, c.loop-rest.invariant.room)));
       count = omega (arith, c.split_line.ensures.shorter);
-      few = omega (arith, c.split_line.ensures.shorter, c.loop-rest.invariant.few, defined_few c.loop-rest.before c.in_ok-line.line, c.defined_after-before.ensures);
+      few =
+          omega
+          (arith, c.split_line.ensures.shorter, c.loop-rest.invariant.few, defined_few c.loop-rest.before c.in_ok-line.line, c.defined_after-before.ensures);
       taken =
           let f = subst P e c.loop-rest.invariant.taken in
           taken_more t ls all _ c.loop-rest.number place c.in_ok-line.line (take c.loop-rest.before ls) _ c.loop-rest.words _ f
@@ -110,9 +119,12 @@ loop-rest-preserved-in-Ok-3 c =
     record {
       room = omega (arith, c.split_line.ensures.shorter);
       near = subst (IsNear (length c.args.text.now - length c.split_line.result.1.now)) (sym z)
-          (near_later (length c.args.text.now - length c.loop-rest.rest.now + 1) _ _ (c.after_line-place.ensures.near _ c.loop-rest.invariant.near) (omega (arith, c.split_line.ensures.shorter, c.loop-rest.invariant.room)));
+          (near_later (length c.args.text.now - length c.loop-rest.rest.now + 1) _ _ (c.after_line-place.ensures.near _ c.loop-rest.invariant.near)
+          (omega (arith, c.split_line.ensures.shorter, c.loop-rest.invariant.room)));
       count = omega (arith, c.split_line.ensures.shorter);
-      few = omega (arith, c.split_line.ensures.shorter, c.loop-rest.invariant.few, defined_few c.loop-rest.before c.in_ok-line.line, c.defined_after-before.ensures);
+      few =
+          omega
+          (arith, c.split_line.ensures.shorter, c.loop-rest.invariant.few, defined_few c.loop-rest.before c.in_ok-line.line, c.defined_after-before.ensures);
       taken =
           let f = subst P e c.loop-rest.invariant.taken in
           taken_more t ls all _ c.loop-rest.number place c.in_ok-line.line (take c.loop-rest.before ls) _ c.loop-rest.words _ f
@@ -128,7 +140,9 @@ returns-in-Err c =
     let all = lines_from t (pos 0) (lines c.args.text.now) in
     let later = lines c.split_line.result.1.now in
     let place = cast_signed w128 c.loop-rest.place-bits in
-    let e = placed_first t place _ c.split_line.result.0.now later (lines c.loop-rest.rest.now) c.in_ok-line.line c.split_line.ensures.value c.in_ok-line.ensures refl in
+    let e =
+    placed_first t place _ c.split_line.result.0.now later
+    (lines c.loop-rest.rest.now) c.in_ok-line.line c.split_line.ensures.value c.in_ok-line.ensures refl in
     let P : List Placed → Type 0 = λ r. Taken t ls all c.loop-rest.number r (take c.loop-rest.before ls) c.loop-rest.words in
     refused_first t ls all _ c.loop-rest.number place c.in_ok-line.line (take c.loop-rest.before ls) c.loop-rest.words _
     (subst P e c.loop-rest.invariant.taken) c.in-Err.ensures.refused

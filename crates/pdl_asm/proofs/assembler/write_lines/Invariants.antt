@@ -12,7 +12,8 @@ invariant-loop-rest l = record {
   near : IsNear (length l.text - length l.rest) l.place;
   count : l.number + length l.rest ≤ length l.text + 1;
   few : l.before + length l.rest ≤ length l.text;
-  taken : Taken l.table l.labels (lines_from l.table (pos 0) (lines l.text)) l.number (lines_from l.table l.place (lines l.rest)) (take l.before l.labels) l.words;
+  taken : Taken l.table l.labels (lines_from l.table (pos 0) (lines l.text)) l.number (lines_from l.table l.place (lines l.rest))
+      (take l.before l.labels) l.words;
 }
 
 abbrev pub decreases-loop-rest : goal.decreases-loop-rest

@@ -12,8 +12,10 @@ loop-rest-init c =
 
 pub loop-rest-preserved : goal.loop-rest-preserved
 loop-rest-preserved c =
-    let inv = subst (λ r. Read c.loop-rest.operands (operands_in (parts_after (option_copied r))) (operands_of c.args.text.now)) c.in-Some.is c.loop-rest.invariant in
-    read_more c.loop-rest.operands c.add.new.operands c.in-Some-2.operand c.split_part.result.0.now _ _ (operands_of c.args.text.now) c.in_ok-add-in-Some-2.ensures
+    let inv =
+    subst (λ r. Read c.loop-rest.operands (operands_in (parts_after (option_copied r))) (operands_of c.args.text.now)) c.in-Some.is c.loop-rest.invariant in
+    read_more c.loop-rest.operands c.add.new.operands c.in-Some-2.operand c.split_part.result.0.now _ _
+    (operands_of c.args.text.now) c.in_ok-add-in-Some-2.ensures
     (ap operand_of (sym c.without_blanks.ensures) ∙ sym c.in_ok-operand.ensures ∙ c.in-Some-2.is) c.split_part.ensures.parts inv
 
 pub returns : goal.returns

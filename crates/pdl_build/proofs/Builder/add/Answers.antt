@@ -23,13 +23,18 @@ invariant_of-self-in-Ok c =
     record {
       well = rw c.in-Ok.ensures.ok (well_cell k g c.self.invariant.well f);
       folded = rw c.in-Ok.ensures.ok (folded_pushed b.cells g c.self.invariant.folded (subst H (sym c.self.view_is) c.requires.folded));
-      extents = rw (c.in-Ok.ensures.ok, c.in_ok-push.ensures.items) (extents_cell k g b.input_widths.items b.extents.items (record { width = c.cell_width-width.result; is_below = c.cell_below-is_below.result }) c.self.invariant.well f c.self.invariant.extents (record { width = e; below = low }));
+      extents =
+          rw (c.in-Ok.ensures.ok, c.in_ok-push.ensures.items)
+          (extents_cell k g b.input_widths.items b.extents.items
+          (record { width = c.cell_width-width.result; is_below = c.cell_below-is_below.result }) c.self.invariant.well f c.self.invariant.extents
+          (record { width = e; below = low }));
     }
 
 pub returns-in-Ok-clause-means : goal.returns-in-Ok-clause-means
 returns-in-Ok-clause-means c =
     let P : Circuit → Type 0 = λ v. Fits v c.args.cell in
-    rw (c.in-Ok.ensures.ok, ← c.self.view_is, c.len-at.ensures) (means_cell (circuit_of_parts c.self.inside) c.args.cell c.self.invariant.well (subst P (sym c.self.view_is) c.requires.fits))
+    rw (c.in-Ok.ensures.ok, ← c.self.view_is, c.len-at.ensures)
+    (means_cell (circuit_of_parts c.self.inside) c.args.cell c.self.invariant.well (subst P (sym c.self.view_is) c.requires.fits))
 
 pub returns-in-Ok-clause-extends : goal.returns-in-Ok-clause-extends
 returns-in-Ok-clause-extends c =

@@ -20,4 +20,6 @@ returns-then-is_cut c = λ e. let v = c.args.self.now in
 
 pub returns-then-is_below-2 : goal.returns-then-is_below-2
 returns-then-is_below-2 c = λ e. let v = c.args.self.now in
-    both c.args.op (signal v c.args.a) (signal v c.args.b) c.requires.widths (c.is_below-else-is_cut.ensures c.if-is_below-2.true) (c.is_below-then-is_below-2.ensures e)
+    both c.args.op (signal v c.args.a)
+    (signal v c.args.b) c.requires.widths (c.is_below-else-is_cut.ensures c.if-is_below-2.true)
+    (c.is_below-then-is_below-2.ensures e)

@@ -23,7 +23,9 @@ returns-then-is_below c = λ e.
     let v = c.args.self.now in
     let F : Cell → Type 0 = λ g. Fits v g in
     let f = subst F c.in-Mux.is c.requires in
-    rw c.in-Mux.is (chosen (signal v c.in-Mux.field-0) (signal v c.in-Mux.a) (signal v c.in-Mux.b) f.4 (c.is_below.ensures c.if-is_below.true) (c.is_below-then-is_below.ensures e))
+    rw c.in-Mux.is
+    (chosen (signal v c.in-Mux.field-0) (signal v c.in-Mux.a)
+    (signal v c.in-Mux.b) f.4 (c.is_below.ensures c.if-is_below.true) (c.is_below-then-is_below.ensures e))
 
 pub returns-in-Slice : goal.returns-in-Slice
 returns-in-Slice c = λ e. rw c.in-Slice.is (part c.in-Slice.high c.in-Slice.low (signal c.args.self.now c.in-Slice.a))

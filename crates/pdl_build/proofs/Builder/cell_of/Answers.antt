@@ -18,13 +18,16 @@ returns-in-Cell-clause-fits c =
     let k = circuit_of_parts c.self.inside in
     let low = cell_there k c.args.self.now c.args.net c.in-Cell.k c.self.view_is c.in-Cell.is c.requires in
     let P : Circuit → Type 0 = λ v. Fits v c.at.result in
-    subst P c.self.view_is (known_fits k c.in-Cell.k c.at.result c.self.invariant.well low (get_or_from_slice_get k.cells c.in-Cell.k c.at.result (Const 0 0) c.at.ensures))
+    subst P c.self.view_is
+    (known_fits k c.in-Cell.k c.at.result c.self.invariant.well low (get_or_from_slice_get k.cells c.in-Cell.k c.at.result (Const 0 0) c.at.ensures))
 
 pub returns-in-Cell-clause-same : goal.returns-in-Cell-clause-same
 returns-in-Cell-clause-same c =
     let k = circuit_of_parts c.self.inside in
     let low = cell_there k c.args.self.now c.args.net c.in-Cell.k c.self.view_is c.in-Cell.is c.requires in
-    let m = means_equal k c.in-Cell.k c.at.result (Const 0 0) c.self.invariant.well low (get_or_from_slice_get k.cells c.in-Cell.k c.at.result (Const 0 0) c.at.ensures) in
+    let m =
+    means_equal k c.in-Cell.k c.at.result (Const 0 0) c.self.invariant.well low
+    (get_or_from_slice_get k.cells c.in-Cell.k c.at.result (Const 0 0) c.at.ensures) in
     let P : Circuit → Type 0 = λ v. signal v c.args.net ≡ cell_signal v (signal v) c.at.result in
     subst P c.self.view_is (ap (signal k) c.in-Cell.is ∙ m.same)
 
@@ -32,4 +35,5 @@ pub returns-in-Cell-clause-constant : goal.returns-in-Cell-clause-constant
 returns-in-Cell-clause-constant c =
     let k = circuit_of_parts c.self.inside in
     let P : Circuit → Type 0 = λ v. is_constant v.cells c.args.net ≡ is_const c.at.result in
-    subst P c.self.view_is (ap (is_constant k.cells) c.in-Cell.is ∙ ap is_const (get_or_from_slice_get k.cells c.in-Cell.k c.at.result (Const 0 0) c.at.ensures))
+    subst P c.self.view_is
+    (ap (is_constant k.cells) c.in-Cell.is ∙ ap is_const (get_or_from_slice_get k.cells c.in-Cell.k c.at.result (Const 0 0) c.at.ensures))

@@ -48,4 +48,6 @@ returns-clause-extends c =
     let H : Circuit → Type 0 = λ v. HasReg v c.args.reg in
     let h = subst H (sym c.self.view_is) c.requires.has in
     let Q : Circuit → Type 0 = λ v. ExtendsBut (one_reg c.args.reg) k v in
-    rw (← c.self.view_is) (subst Q (sym (next_same k c.args.reg c.args.net c.index_mut.result.now h c.index_mut.ensures.value)) (extends_next k c.args.reg c.args.net h c.self.invariant.well))
+    rw (← c.self.view_is)
+    (subst Q (sym (next_same k c.args.reg c.args.net c.index_mut.result.now h c.index_mut.ensures.value))
+    (extends_next k c.args.reg c.args.net h c.self.invariant.well))

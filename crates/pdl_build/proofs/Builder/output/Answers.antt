@@ -24,7 +24,9 @@ invariant_of-self-2 c =
     let e = c.width-width.ensures.value ∙ ap (λ (v : Circuit). (signal v c.args.net).width) (sym c.self.view_is) in
     record {
       well = rw (c.in_ok-push_port.ensures.ok, e) (well_output k c.args.name.now c.args.net c.self.invariant.well t z.low z.high);
-      extents = rw (c.in_ok-push_port.ensures.ok, e) (extents_output k c.args.name.now c.args.net b.input_widths.items b.extents.items c.self.invariant.well c.self.invariant.extents);
+      extents =
+          rw (c.in_ok-push_port.ensures.ok, e)
+          (extents_output k c.args.name.now c.args.net b.input_widths.items b.extents.items c.self.invariant.well c.self.invariant.extents);
       folded = c.self.invariant.folded;
     }
 

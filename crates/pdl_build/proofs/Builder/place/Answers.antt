@@ -12,4 +12,6 @@ returns-in-Some-clause-means c =
     let k = circuit_of_parts c.self.inside in
     let at = c.in-Some.at in
     let P : Circuit → Type 0 = λ v. Means v (CellNet at) (cell_signal v (signal v) c.args.cell) in
-    subst P c.self.view_is (means_equal k at c.args.cell c.args.cell c.self.invariant.well (slice_get_within k.cells at c.args.cell c.in-Some.ensures.found) (get_or_from_slice_get k.cells at c.args.cell c.args.cell c.in-Some.ensures.found))
+    subst P c.self.view_is
+    (means_equal k at c.args.cell c.args.cell c.self.invariant.well (slice_get_within k.cells at c.args.cell c.in-Some.ensures.found)
+    (get_or_from_slice_get k.cells at c.args.cell c.args.cell c.in-Some.ensures.found))

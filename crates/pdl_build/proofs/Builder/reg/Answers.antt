@@ -7,8 +7,12 @@ invariant_of-self-2 c =
     let b = c.self.inside in
     let k = circuit_of_parts b in
     record {
-      well = rw (c.in_ok-push.ensures.items, c.len-at.ensures, b.regs.ok.0) (well_reg k c.args.width c.args.reset c.self.invariant.well c.requires.low c.requires.high c.requires.fits);
-      extents = rw (c.in_ok-push.ensures.items, c.len-at.ensures, b.regs.ok.0) (extents_reg k c.args.width c.args.reset b.input_widths.items b.extents.items c.self.invariant.well c.self.invariant.extents);
+      well =
+          rw (c.in_ok-push.ensures.items, c.len-at.ensures, b.regs.ok.0)
+          (well_reg k c.args.width c.args.reset c.self.invariant.well c.requires.low c.requires.high c.requires.fits);
+      extents =
+          rw (c.in_ok-push.ensures.items, c.len-at.ensures, b.regs.ok.0)
+          (extents_reg k c.args.width c.args.reset b.input_widths.items b.extents.items c.self.invariant.well c.self.invariant.extents);
       folded = c.self.invariant.folded;
     }
 
@@ -18,4 +22,5 @@ returns-clause-has c =
 
 pub returns-clause-extends : goal.returns-clause-extends
 returns-clause-extends c =
-    rw (c.in_ok-push.ensures.items, ← c.self.view_is, c.len-at.ensures, c.self.inside.regs.ok.0) (extends_reg (circuit_of_parts c.self.inside) c.args.width c.args.reset c.self.invariant.well)
+    rw (c.in_ok-push.ensures.items, ← c.self.view_is, c.len-at.ensures, c.self.inside.regs.ok.0)
+    (extends_reg (circuit_of_parts c.self.inside) c.args.width c.args.reset c.self.invariant.well)

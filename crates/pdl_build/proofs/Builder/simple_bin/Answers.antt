@@ -29,7 +29,8 @@ returns-in-Number c =
     let g = subst P c.in-Number.is c.rule.ensures in
     let w = c.bin_width-width.ensures ∙ ap (bin_width c.args.op) c.width.ensures.value in
     let L : ℕ → Type 0 = λ n. c.in-Number.value < 2 ^ n in (
-      number_fits c.args.self.now c.args.op c.bin_width-width.result c.in-Number.value c.width.result c.bin_width-width.ensures c.width.ensures.low c.width.ensures.high (subst L (ap (bin_width c.args.op) (sym c.width.ensures.value)) (g at_rest).0),
+      number_fits c.args.self.now c.args.op c.bin_width-width.result c.in-Number.value c.width.result c.bin_width-width.ensures c.width.ensures.low c.width.ensures.high
+          (subst L (ap (bin_width c.args.op) (sym c.width.ensures.value)) (g at_rest).0),
       number_same c.args.op a b c.bin_width-width.result c.in-Number.value w g,
     )
 

@@ -11,5 +11,8 @@ returns-in-Some-Not c =
     let F : Cell → Type 0 = λ g. Fits v g in
     record {
       there = subst F c.in-Some-Not.field-0-is c.in-Some-Not.ensures.fits;
-      same = not_twice (signal v c.args.a) (signal v c.in-Some-Not.x) (c.in-Some-Not.ensures.same ∙ ap (cell_signal v (signal v)) c.in-Some-Not.field-0-is) (c.is_below.ensures c.if-is_below.true);
+      same =
+          not_twice (signal v c.args.a) (signal v c.in-Some-Not.x)
+          (c.in-Some-Not.ensures.same ∙ ap (cell_signal v (signal v)) c.in-Some-Not.field-0-is)
+          (c.is_below.ensures c.if-is_below.true);
     }

@@ -12,7 +12,10 @@ returns-then-is_below c =
     let e = c.width.ensures.value in
     record {
       there = c.requires.there;
-      same = whole_same a c.args.high c.args.low (omega (arith, c.if-low-eq0.true)) (omega (arith, c.if-high-width.true, e)) (omega (arith, c.width.ensures.low, e)) (c.is_below.ensures c.if-is_below.true);
+      same =
+          whole_same a c.args.high c.args.low (omega (arith, c.if-low-eq0.true))
+          (omega (arith, c.if-high-width.true, e)) (omega (arith, c.width.ensures.low, e))
+          (c.is_below.ensures c.if-is_below.true);
     }
 
 pub returns-in-Some-Slice : goal.returns-in-Some-Slice

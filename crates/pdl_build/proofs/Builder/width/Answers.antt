@@ -13,7 +13,9 @@ use Rattle.pdl_build.proofs.Builder.width.Goals as goal
 pub index-requires : goal.index-requires
 index-requires c =
     let b = c.self.inside in
-    rw b.input_widths.ok.0 (input_in (circuit_of_parts b) c.args.self.now b.input_widths.items b.extents.items c.args.net c.in-Input.i c.self.invariant.extents c.self.view_is c.in-Input.is c.requires)
+    rw b.input_widths.ok.0
+    (input_in
+    (circuit_of_parts b) c.args.self.now b.input_widths.items b.extents.items c.args.net c.in-Input.i c.self.invariant.extents c.self.view_is c.in-Input.is c.requires)
 
 pub index-requires-in-Reg : goal.index-requires-in-Reg
 index-requires-in-Reg c =
@@ -23,7 +25,9 @@ index-requires-in-Reg c =
 pub index-requires-in-Cell : goal.index-requires-in-Cell
 index-requires-in-Cell c =
     let b = c.self.inside in
-    rw b.extents.ok.0 (cell_in (circuit_of_parts b) c.args.self.now b.input_widths.items b.extents.items c.args.net c.in-Cell.k c.self.invariant.extents c.self.view_is c.in-Cell.is c.requires)
+    rw b.extents.ok.0
+    (cell_in
+    (circuit_of_parts b) c.args.self.now b.input_widths.items b.extents.items c.args.net c.in-Cell.k c.self.invariant.extents c.self.view_is c.in-Cell.is c.requires)
 
 pub returns-in-Input-clause-value : goal.returns-in-Input-clause-value
 returns-in-Input-clause-value c =
@@ -57,24 +61,48 @@ has_width c v x w e t = wide v (subst IsWell e w) x t
 
 pub returns-in-Input-clause-low : goal.returns-in-Input-clause-low
 returns-in-Input-clause-low c =
-    omega (arith, (has_width (circuit_of_parts c.self.inside) c.args.self.now c.args.net c.self.invariant.well c.self.view_is c.requires).low, returns-in-Input-clause-value c)
+    omega (
+      arith,
+      (has_width (circuit_of_parts c.self.inside) c.args.self.now c.args.net c.self.invariant.well c.self.view_is c.requires).low,
+      returns-in-Input-clause-value c,
+    )
 
 pub returns-in-Input-clause-high : goal.returns-in-Input-clause-high
 returns-in-Input-clause-high c =
-    omega (arith, (has_width (circuit_of_parts c.self.inside) c.args.self.now c.args.net c.self.invariant.well c.self.view_is c.requires).high, returns-in-Input-clause-value c)
+    omega (
+      arith,
+      (has_width (circuit_of_parts c.self.inside) c.args.self.now c.args.net c.self.invariant.well c.self.view_is c.requires).high,
+      returns-in-Input-clause-value c,
+    )
 
 pub returns-in-Reg-clause-low : goal.returns-in-Reg-clause-low
 returns-in-Reg-clause-low c =
-    omega (arith, (has_width (circuit_of_parts c.self.inside) c.args.self.now c.args.net c.self.invariant.well c.self.view_is c.requires).low, returns-in-Reg-clause-value c)
+    omega (
+      arith,
+      (has_width (circuit_of_parts c.self.inside) c.args.self.now c.args.net c.self.invariant.well c.self.view_is c.requires).low,
+      returns-in-Reg-clause-value c,
+    )
 
 pub returns-in-Reg-clause-high : goal.returns-in-Reg-clause-high
 returns-in-Reg-clause-high c =
-    omega (arith, (has_width (circuit_of_parts c.self.inside) c.args.self.now c.args.net c.self.invariant.well c.self.view_is c.requires).high, returns-in-Reg-clause-value c)
+    omega (
+      arith,
+      (has_width (circuit_of_parts c.self.inside) c.args.self.now c.args.net c.self.invariant.well c.self.view_is c.requires).high,
+      returns-in-Reg-clause-value c,
+    )
 
 pub returns-in-Cell-clause-low : goal.returns-in-Cell-clause-low
 returns-in-Cell-clause-low c =
-    omega (arith, (has_width (circuit_of_parts c.self.inside) c.args.self.now c.args.net c.self.invariant.well c.self.view_is c.requires).low, returns-in-Cell-clause-value c)
+    omega (
+      arith,
+      (has_width (circuit_of_parts c.self.inside) c.args.self.now c.args.net c.self.invariant.well c.self.view_is c.requires).low,
+      returns-in-Cell-clause-value c,
+    )
 
 pub returns-in-Cell-clause-high : goal.returns-in-Cell-clause-high
 returns-in-Cell-clause-high c =
-    omega (arith, (has_width (circuit_of_parts c.self.inside) c.args.self.now c.args.net c.self.invariant.well c.self.view_is c.requires).high, returns-in-Cell-clause-value c)
+    omega (
+      arith,
+      (has_width (circuit_of_parts c.self.inside) c.args.self.now c.args.net c.self.invariant.well c.self.view_is c.requires).high,
+      returns-in-Cell-clause-value c,
+    )

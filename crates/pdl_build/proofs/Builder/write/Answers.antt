@@ -24,12 +24,16 @@ invariant_of-self-2 c =
     let F : Circuit → Type 0 = λ v. IsWellWrite v (array_at v c.args.array) p in
     let e = sym c.self.view_is in
     let h = subst H e c.requires.has in
-    let f = subst F e (well_port_write c.args.self.now c.args.array p c.requires.enable_there c.requires.addr_there c.requires.value_there c.requires.enable_one c.requires.addr_reach c.requires.value_width) in
+    let f =
+    subst F e
+    (well_port_write c.args.self.now c.args.array p c.requires.enable_there c.requires.addr_there c.requires.value_there c.requires.enable_one c.requires.addr_reach c.requires.value_width) in
     let same = write_same k c.args.array p c.index_mut-written.result.now h c.index_mut-written.ensures.value in
     let D : Circuit → Type 0 = λ v. HaveExtents v b.input_widths.items b.extents.items in
     record {
       well = rw c.in_ok-push.ensures.ok (subst IsWell (sym same) (well_write k c.args.array p h f c.self.invariant.well));
-      extents = rw c.in_ok-push.ensures.ok (subst D (sym same) (extents_write k c.args.array p b.input_widths.items b.extents.items h c.self.invariant.well c.self.invariant.extents));
+      extents =
+          rw c.in_ok-push.ensures.ok
+          (subst D (sym same) (extents_write k c.args.array p b.input_widths.items b.extents.items h c.self.invariant.well c.self.invariant.extents));
       folded = c.self.invariant.folded;
     }
 
@@ -38,7 +42,9 @@ returns-clause-place c =
     let k = circuit_of_parts c.self.inside in
     let H : Circuit → Type 0 = λ v. HasArray v c.args.array in
     let h = has_array_below k c.args.array (subst H (sym c.self.view_is) c.requires.has) in
-    c.len-at.ensures ∙ ap (λ (a : Array). length a.writes) (c.index_mut-written.ensures.value ∙ get_or_default c.self.inside.arrays.items c.args.array c.index_mut-written.result.now no_array h)
+    c.len-at.ensures
+    ∙ ap (λ (a : Array). length a.writes)
+    (c.index_mut-written.ensures.value ∙ get_or_default c.self.inside.arrays.items c.args.array c.index_mut-written.result.now no_array h)
     ∙ ap (λ (v : Circuit). length (array_at v c.args.array).writes) c.self.view_is
 
 pub returns-clause-writes : goal.returns-clause-writes
@@ -49,9 +55,13 @@ returns-clause-writes c =
     let F : Circuit → Type 0 = λ v. IsWellWrite v (array_at v c.args.array) p in
     let e = sym c.self.view_is in
     let h = subst H e c.requires.has in
-    let f = subst F e (well_port_write c.args.self.now c.args.array p c.requires.enable_there c.requires.addr_there c.requires.value_there c.requires.enable_one c.requires.addr_reach c.requires.value_width) in
+    let f =
+    subst F e
+    (well_port_write c.args.self.now c.args.array p c.requires.enable_there c.requires.addr_there c.requires.value_there c.requires.enable_one c.requires.addr_reach c.requires.value_width) in
     let same = write_same k c.args.array p c.index_mut-written.result.now h c.index_mut-written.ensures.value in
-    rw c.in_ok-push.ensures.ok (ap (λ v. write_signals v c.args.array) same ∙ writes_more k c.args.array p h f c.self.invariant.well ∙ ap (λ v. write_signals v c.args.array ++ write_signal v p ∷ []) c.self.view_is)
+    rw c.in_ok-push.ensures.ok
+    (ap (λ v. write_signals v c.args.array) same ∙ writes_more k c.args.array p h f c.self.invariant.well
+    ∙ ap (λ v. write_signals v c.args.array ++ write_signal v p ∷ []) c.self.view_is)
 
 pub returns-clause-extends : goal.returns-clause-extends
 returns-clause-extends c =

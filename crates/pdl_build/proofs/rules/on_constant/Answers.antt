@@ -25,22 +25,27 @@ pub returns-in-Xor : goal.returns-in-Xor
 returns-in-Xor c = λ x h. let v : c.args.value ≡ 0 = omega (arith, c.if-value-eq0-3.true) in rw (c.in-Xor.is, v) (refl, xor_zero x)
 
 pub returns-in-Add : goal.returns-in-Add
-returns-in-Add c = λ x h. let v : c.args.value ≡ 0 = omega (arith, c.if-value-eq0-4.true) in rw (c.in-Add.is, v) (refl, add_zero c.args.width x (h c.if-below-3.true))
+returns-in-Add c = λ x h. let v : c.args.value ≡ 0 = omega (arith, c.if-value-eq0-4.true) in
+    rw (c.in-Add.is, v) (refl, add_zero c.args.width x (h c.if-below-3.true))
 
 pub returns-in-Sub : goal.returns-in-Sub
-returns-in-Sub c = λ x h. let v : c.args.value ≡ 0 = omega (arith, c.if-value-eq0-5.true) in rw (c.in-Sub.is, v) (refl, sub_zero c.args.width x (h c.if-below-4.true))
+returns-in-Sub c = λ x h. let v : c.args.value ≡ 0 = omega (arith, c.if-value-eq0-5.true) in
+    rw (c.in-Sub.is, v) (refl, sub_zero c.args.width x (h c.if-below-4.true))
 
 pub returns-in-Shl : goal.returns-in-Shl
-returns-in-Shl c = λ x h. let v : c.args.value ≡ 0 = omega (arith, c.if-value-eq0-6.true) in rw (c.in-Shl.is, v) (refl, shl_zero c.args.width x c.requires.low (h c.if-below-5.true))
+returns-in-Shl c = λ x h. let v : c.args.value ≡ 0 = omega (arith, c.if-value-eq0-6.true) in
+    rw (c.in-Shl.is, v) (refl, shl_zero c.args.width x c.requires.low (h c.if-below-5.true))
 
 pub returns-in-Shl-2 : goal.returns-in-Shl-2
-returns-in-Shl-2 c = λ x h. rw c.in-Shl.is (pow_pos c.args.width, shl_past c.args.width x c.args.value (omega (arith, c.if-value-bits.true, c.from-bits.ensures)))
+returns-in-Shl-2 c =
+    λ x h. rw c.in-Shl.is (pow_pos c.args.width, shl_past c.args.width x c.args.value (omega (arith, c.if-value-bits.true, c.from-bits.ensures)))
 
 pub returns-in-Shr : goal.returns-in-Shr
 returns-in-Shr c = λ x h. let v : c.args.value ≡ 0 = omega (arith, c.if-value-eq0-7.true) in rw (c.in-Shr.is, v) (refl, shr_zero c.args.width x c.requires.low)
 
 pub returns-in-Shr-2 : goal.returns-in-Shr-2
-returns-in-Shr-2 c = λ x h. rw c.in-Shr.is (pow_pos c.args.width, shr_past c.args.width x c.args.value (omega (arith, c.if-value-bits-2.true, c.from-bits.ensures)))
+returns-in-Shr-2 c =
+    λ x h. rw c.in-Shr.is (pow_pos c.args.width, shr_past c.args.width x c.args.value (omega (arith, c.if-value-bits-2.true, c.from-bits.ensures)))
 
 pub returns-in-Eq : goal.returns-in-Eq
 returns-in-Eq c = λ x h.

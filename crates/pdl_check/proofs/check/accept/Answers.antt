@@ -40,7 +40,8 @@ new-typed-requires c =
 pub invariant_of-result : goal.invariant_of-result
 invariant_of-result c =
     let e : c.new-typed.result.pipe ≡ c.args.pipe = c.new-typed.ensures in
-    let at : (P : tree.Pipe → Type 0) → P (pipe_view c.args.pipe) → P (pipe_view c.new-typed.result.pipe) = λ P h. subst (λ (q : r_pipe.Pipe). P (pipe_view q)) (sym e) h in
+    let at : (P : tree.Pipe → Type 0) → P (pipe_view c.args.pipe) → P (pipe_view c.new-typed.result.pipe) =
+    λ P h. subst (λ (q : r_pipe.Pipe). P (pipe_view q)) (sym e) h in
     record {
       source = at (λ p. IsTrue (is_source p)) c.requires.source;
       letters = at (λ p. IsTrue (is_named p)) c.requires.letters;

@@ -5,4 +5,5 @@ use Rattle.pdl_cli_commands.proofs.built.build.Goals as goal
 pub returns-clause-ok : goal.returns-clause-ok
 returns-clause-ok g c =
     let a = c.in_ok-accepted.ensures.ok in
-    IfOk-weaker c.in_memory-text.result _ _ (λ t f. f (g.F.Files.holds c.args.files.now) c.args.source.now a.0 a.1 a.2) (made_so c.text_of.result c.in_memory-text.result _ c.in_memory-text.ensures.ok c.text_of.ensures)
+    IfOk-weaker c.in_memory-text.result _ _ (λ t f. f (g.F.Files.holds c.args.files.now) c.args.source.now a.0 a.1 a.2)
+    (made_so c.text_of.result c.in_memory-text.result _ c.in_memory-text.ensures.ok c.text_of.ensures)

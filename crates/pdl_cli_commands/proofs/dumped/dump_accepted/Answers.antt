@@ -7,7 +7,8 @@ dump_netlist-requires-clause-well g c = c.in-Ok.ensures.follows.well_formed
 
 pub dump_netlist-requires-clause-dumpable : goal.dump_netlist-requires-clause-dumpable
 dump_netlist-requires-clause-dumpable g c =
-    dumpable c.requires.accepted.0 (pipe_view c.args.accepted.now.typed.pipe) c.in-Ok.netlist c.requires.accepted.1.text c.args.accepted.now.kept c.in-Ok.ensures.follows
+    dumpable c.requires.accepted.0
+    (pipe_view c.args.accepted.now.typed.pipe) c.in-Ok.netlist c.requires.accepted.1.text c.args.accepted.now.kept c.in-Ok.ensures.follows
 
 pub returns-in-Ok-clause-explained : goal.returns-in-Ok-clause-explained
 returns-in-Ok-clause-explained g c = λ source b given taken.

@@ -14,4 +14,6 @@ run-requires-clause-two g c = two_outputs c.args.netlist.now c.requires.well.pip
 pub returns-clause-text : goal.returns-clause-text
 returns-clause-text g c =
     let text = run_text c.args.netlist.now c.args.start.now.image (schedule c.args.start.now.delays c.args.cycles) in
-    streamed (λ t. t ≡ text) text (g.O.Sink.written c.args.out.now) (g.O.Sink.written c.run.new.sink) (g.O.Sink.faults c.args.out.now) (g.O.Sink.faults c.run.new.sink) c.run.result c.in_text.result c.in_text.ensures refl c.run.ensures.text
+    streamed (λ t. t ≡ text) text (g.O.Sink.written c.args.out.now) (g.O.Sink.written c.run.new.sink)
+    (g.O.Sink.faults c.args.out.now)
+    (g.O.Sink.faults c.run.new.sink) c.run.result c.in_text.result c.in_text.ensures refl c.run.ensures.text

@@ -15,8 +15,12 @@ returns-in-Ok-clause-explained g c =
     let after = g.F.Files.holds c.accept.new.files in
     let source = c.args.source.now in
     let given = subst (λ o. Gives o source a.0) (sym c.accept.ensures.held) a.1 in
-    explained_before holds after (g.F.Files.faults c.args.files.now) (g.F.Files.faults c.accept.new.files) (g.F.Files.faults c.run_accepted_in_turn.new.files) (g.O.Sink.written c.args.out.now) (g.O.Sink.written c.run_accepted_in_turn.new.out) (g.O.Sink.faults c.args.out.now) (g.O.Sink.faults c.run_accepted_in_turn.new.out)
-    (seq source c.args.image.now c.args.threads) c.run_accepted_in_turn.result c.accept.ensures.held c.accept.ensures.later (c.run_accepted_in_turn.ensures.explained source a.0 given a.2)
+    explained_before holds after (g.F.Files.faults c.args.files.now) (g.F.Files.faults c.accept.new.files)
+    (g.F.Files.faults c.run_accepted_in_turn.new.files) (g.O.Sink.written c.args.out.now)
+    (g.O.Sink.written c.run_accepted_in_turn.new.out) (g.O.Sink.faults c.args.out.now)
+    (g.O.Sink.faults c.run_accepted_in_turn.new.out)
+    (seq source c.args.image.now c.args.threads) c.run_accepted_in_turn.result c.accept.ensures.held c.accept.ensures.later
+    (c.run_accepted_in_turn.ensures.explained source a.0 given a.2)
 
 pub returns-in-Err-clause-explained : goal.returns-in-Err-clause-explained
 returns-in-Err-clause-explained g c =
@@ -25,5 +29,7 @@ returns-in-Err-clause-explained g c =
     let now = g.F.Files.faults c.accept.new.files in
     let source = c.args.source.now in
     let command = seq source c.args.image.now c.args.threads in
-    silent command (seen_of holds before now (g.O.Sink.written c.args.out.now) (g.O.Sink.written c.args.out.now) (g.O.Sink.faults c.args.out.now) (g.O.Sink.faults c.args.out.now)) c.in-Err.failure
+    silent command
+    (seen_of holds before now (g.O.Sink.written c.args.out.now) (g.O.Sink.written c.args.out.now)
+    (g.O.Sink.faults c.args.out.now) (g.O.Sink.faults c.args.out.now)) c.in-Err.failure
     (source_fails holds before now source command (λ rule line w. inl w) c.in-Err.failure c.in-Err.ensures.err) refl

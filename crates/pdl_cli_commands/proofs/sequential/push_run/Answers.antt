@@ -27,4 +27,5 @@ returns-clause-bytes g c = λ image h.
     let text : front ++ c.as_bytes.result.now ≡ front ++ codes "end threads " ++ decimal c.args.threads ++ codes "\n" =
     ap (λ l. front ++ l) (c.as_bytes.ensures.bytes ∙ c.threads_line-line.ensures) ∙ last_line front c.args.threads in
     subst (λ l. Passes o b c.push.result (c.args.lines.now ++ l) c.push.new.self) text
-    (both_on o a b c.args.lines.now front c.as_bytes.result.now c.push_threads.new.lines c.push.new.self (c.in_ok-push_threads.ensures.bytes image h) c.push.result c.push.ensures.bytes)
+    (both_on o a b c.args.lines.now front c.as_bytes.result.now c.push_threads.new.lines c.push.new.self
+    (c.in_ok-push_threads.ensures.bytes image h) c.push.result c.push.ensures.bytes)

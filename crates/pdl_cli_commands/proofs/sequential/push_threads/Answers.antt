@@ -28,8 +28,12 @@ returns-in_err-push_writes-clause-bytes g c = λ image h.
     let threads = c.args.threads in
     let ws = c.writes.result.now in
     let same = ap (λ q. (form q).pipe) (c.next_thread.ensures.pipe ∙ i.pipe) in
-    let e = told_piece cs run image p done ws (c.next_thread.ensures.run image (i.run image h)) (c.next_thread.ensures.streams ∙ i.streams) same (c.next_thread.ensures.count ∙ ap (λ n. n + 1) i.count) c.writes.ensures.writes in
-    let prefix = thread_off o a b c.args.lines.now c.loop-done.lines (flat_map (write_line cs) ws) (texts cs p words done) (texts cs p words (done + 1)) e (i.passed image h) c.in_err-push_writes.ensures.bytes in
+    let e =
+    told_piece cs run image p done ws (c.next_thread.ensures.run image (i.run image h))
+    (c.next_thread.ensures.streams ∙ i.streams) same (c.next_thread.ensures.count ∙ ap (λ n. n + 1) i.count) c.writes.ensures.writes in
+    let prefix =
+    thread_off o a b c.args.lines.now c.loop-done.lines (flat_map (write_line cs) ws) (texts cs p words done)
+    (texts cs p words (done + 1)) e (i.passed image h) c.in_err-push_writes.ensures.bytes in
     let left : threads ≡ (threads - (done + 1)) + (done + 1) = omega (arith, c.loop-done-test.true) in
     faulted c.from_residual.result o b (c.args.lines.now ++ texts cs p words threads) c.push_writes.new.lines c.from_residual.ensures.0
     (prefix_grows o b c.args.lines.now cs p words (done + 1) (threads - (done + 1)) threads left prefix)
@@ -53,8 +57,10 @@ loop-done-preserved g c =
       run = λ image h. c.next_thread.ensures.run image (i.run image h);
       passed =
           λ image h.
-          thread_on o a b c.args.lines.now c.loop-done.lines (flat_map (write_line cs) ws) (texts cs p (arrays_of image) done) (texts cs p (arrays_of image) (done + 1))
-          (told_piece cs run image p done ws (c.next_thread.ensures.run image (i.run image h)) streams same count c.writes.ensures.writes) (i.passed image h) c.push_writes.new.lines c.in_ok-push_writes.ensures.bytes;
+          thread_on o a b c.args.lines.now c.loop-done.lines (flat_map (write_line cs) ws)
+          (texts cs p (arrays_of image) done) (texts cs p (arrays_of image) (done + 1))
+          (told_piece cs run image p done ws (c.next_thread.ensures.run image (i.run image h)) streams same count c.writes.ensures.writes)
+          (i.passed image h) c.push_writes.new.lines c.in_ok-push_writes.ensures.bytes;
       pipe = pipe;
       count = count;
       room = c.next_thread.ensures.threads ∙ i.room;

@@ -12,7 +12,8 @@ abbrev pub invariant-loop-done : goal.invariant-loop-done
 invariant-loop-done g l = record {
   run : (image : List (List ℕ)) → HasRun l.fn.run image → HasRun l.run image;
   passed : (image : List (List ℕ)) → HasRun l.fn.run image
-      → HasPassed (g.O.Sink.written l.fn.out) (g.O.Sink.written l.out) (l.fn.lines ++ texts (map column_of l.mems) (form l.fn.run.pipe).pipe (arrays_of image) l._done) l.lines;
+      → HasPassed (g.O.Sink.written l.fn.out) (g.O.Sink.written l.out)
+      (l.fn.lines ++ texts (map column_of l.mems) (form l.fn.run.pipe).pipe (arrays_of image) l._done) l.lines;
   pipe : l.run.pipe ≡ l.fn.run.pipe;
   count : l.run.run ≡ l._done;
   room : l.run.threads ≡ 2 ^ 32 - 1;

@@ -12,5 +12,8 @@ returns-clause-bytes g c =
     let m = c.index-mems-write in
     let same : c.as_bytes.result.now ≡ write_line (map column_of c.args.mems.now) w =
     c.as_bytes.ensures.bytes ∙ c.commit_line-line.ensures
-    ∙ ap₂ (λ a column. put_line w.thread column (record { address = a; value = w.value })) c.from-address.ensures (sym (column_is c.args.mems.now w.mem m.result c.requires.there m.is)) in
-    subst (λ l. Passes (g.O.Sink.written c.args.out.now) (g.O.Sink.written c.push.new.sink) c.push.result (c.args.lines.now ++ l) c.push.new.self) same c.push.ensures.bytes
+    ∙ ap₂ (λ a column. put_line w.thread column (record { address = a; value = w.value })) c.from-address.ensures
+    (sym (column_is c.args.mems.now w.mem m.result c.requires.there m.is)) in
+    subst
+    (λ l. Passes (g.O.Sink.written c.args.out.now)
+    (g.O.Sink.written c.push.new.sink) c.push.result (c.args.lines.now ++ l) c.push.new.self) same c.push.ensures.bytes

@@ -32,7 +32,9 @@ loop-write-preserved g c =
     let rest = flat_map line (drop i ws) in
     let e = ap (flat_map line) (drop_more ws i _ c.loop-write-test.true) in
     record {
-      way = step_on o a b all rest c.loop-write.lines _ (flat_map line (drop (i + 1) ws)) e c.loop-write.invariant.way c.push_write.new.lines c.in_ok-push_write.ensures.bytes;
+      way =
+          step_on o a b all rest c.loop-write.lines _
+          (flat_map line (drop (i + 1) ws)) e c.loop-write.invariant.way c.push_write.new.lines c.in_ok-push_write.ensures.bytes;
       later = omega (arith, c.loop-write.invariant.later, c.push_write.ensures.cause.later);
     }
 

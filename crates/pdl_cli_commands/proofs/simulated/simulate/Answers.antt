@@ -20,13 +20,19 @@ returns-in-Ok-clause-explained g c =
     let after = g.F.Files.holds c.netlist_of_file.new.files in
     let v = c.args.netlist.now in
     let held = subst (λ o. HoldsNetlist o v c.in-Ok.read) (sym c.netlist_of_file.ensures.held) c.in-Ok.ensures.ok in
-    explained_before holds after (g.F.Files.faults c.args.files.now) (g.F.Files.faults c.netlist_of_file.new.files) (g.F.Files.faults c.run_netlist.new.files) (g.O.Sink.written c.args.out.now) (g.O.Sink.written c.run_netlist.new.out) (g.O.Sink.faults c.args.out.now) (g.O.Sink.faults c.run_netlist.new.out)
-    (sim v c.args.image.now c.args.cycles (text_of c.args.delays)) c.run_netlist.result c.netlist_of_file.ensures.held c.netlist_of_file.ensures.later (c.run_netlist.ensures.netlist v held)
+    explained_before holds after (g.F.Files.faults c.args.files.now) (g.F.Files.faults c.netlist_of_file.new.files)
+    (g.F.Files.faults c.run_netlist.new.files) (g.O.Sink.written c.args.out.now)
+    (g.O.Sink.written c.run_netlist.new.out) (g.O.Sink.faults c.args.out.now)
+    (g.O.Sink.faults c.run_netlist.new.out)
+    (sim v c.args.image.now c.args.cycles (text_of c.args.delays)) c.run_netlist.result c.netlist_of_file.ensures.held c.netlist_of_file.ensures.later
+    (c.run_netlist.ensures.netlist v held)
 
 pub returns-in-Err-clause-explained : goal.returns-in-Err-clause-explained
 returns-in-Err-clause-explained g c =
     let holds = g.F.Files.holds c.args.files.now in
     let before = g.F.Files.faults c.args.files.now in
     let now = g.F.Files.faults c.netlist_of_file.new.files in
-    silent (sim c.args.netlist.now c.args.image.now c.args.cycles (text_of c.args.delays)) (seen_of holds before now (g.O.Sink.written c.args.out.now) (g.O.Sink.written c.args.out.now) (g.O.Sink.faults c.args.out.now) (g.O.Sink.faults c.args.out.now)) c.in-Err.failure
+    silent (sim c.args.netlist.now c.args.image.now c.args.cycles (text_of c.args.delays))
+    (seen_of holds before now (g.O.Sink.written c.args.out.now) (g.O.Sink.written c.args.out.now)
+    (g.O.Sink.faults c.args.out.now) (g.O.Sink.faults c.args.out.now)) c.in-Err.failure
     (netlist_fails holds before now c.args.netlist.now c.args.image.now c.args.cycles (text_of c.args.delays) c.in-Err.failure c.in-Err.ensures.err) refl

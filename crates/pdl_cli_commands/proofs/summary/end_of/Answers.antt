@@ -12,10 +12,12 @@ use Rattle.pdl_cli_commands.proofs.RunSummaries.{is_image, is_summary}
 use Rattle.pdl_cli_commands.proofs.summary.end_of.Goals as goal
 
 pub image_of-requires-clause-low : goal.image_of-requires-clause-low
-image_of-requires-clause-low c = subst (All (λ m. 1 ≤ m.width)) (sym c.as_slice.ensures) (λ k d l. (mems_wide c.in_ok-netlist.netlist c.in_ok-netlist.ensures.follows.well_formed k d l).0)
+image_of-requires-clause-low c =
+    subst (All (λ m. 1 ≤ m.width)) (sym c.as_slice.ensures) (λ k d l. (mems_wide c.in_ok-netlist.netlist c.in_ok-netlist.ensures.follows.well_formed k d l).0)
 
 pub image_of-requires-clause-high : goal.image_of-requires-clause-high
-image_of-requires-clause-high c = subst (All (λ m. m.width ≤ 64)) (sym c.as_slice.ensures) (λ k d l. (mems_wide c.in_ok-netlist.netlist c.in_ok-netlist.ensures.follows.well_formed k d l).1)
+image_of-requires-clause-high c =
+    subst (All (λ m. m.width ≤ 64)) (sym c.as_slice.ensures) (λ k d l. (mems_wide c.in_ok-netlist.netlist c.in_ok-netlist.ensures.follows.well_formed k d l).1)
 
 pub count-requires-clause-well : goal.count-requires-clause-well
 count-requires-clause-well c = c.in_ok-netlist.ensures.follows.well_formed
@@ -35,4 +37,7 @@ returns c =
     let filled : c.in_ok-image.image ≡ image_of c.args.words.now n.netlist.mems = c.in_ok-image.ensures ∙ ap (image_of c.args.words.now) c.as_slice.ensures in
     is_summary (pipe_view c.args.accepted.now.typed.pipe) n.netlist c.args.words.now c.in_ok-image.image c.args.cycles c.in_ok-counts.counts c.end_line.result
     n.ensures.follows filled
-    (c.in_ok-counts.ensures ∙ ap (λ rows. counts_of (map (cycle_of n.netlist) (nports n.netlist c.in_ok-image.image (schedule rows c.args.cycles)))) c.none-delays.ensures) c.end_line.ensures
+    (c.in_ok-counts.ensures
+    ∙ ap
+    (λ rows. counts_of
+    (map (cycle_of n.netlist) (nports n.netlist c.in_ok-image.image (schedule rows c.args.cycles)))) c.none-delays.ensures) c.end_line.ensures

@@ -8,4 +8,6 @@ use Rattle.pdl_cli_commands.proofs.viewed.print_view.Goals as goal
 pub returns-clause-text : goal.returns-clause-text
 returns-clause-text g c =
     let text = view_text (pipe_view c.args.accepted.now.typed.pipe) c.args.start.now.image (schedule c.args.start.now.delays c.args.cycles) in
-    streamed (λ t. t ≡ text) text (g.O.Sink.written c.args.out.now) (g.O.Sink.written c.view.new.sink) (g.O.Sink.faults c.args.out.now) (g.O.Sink.faults c.view.new.sink) c.view.result c.in_text.result c.in_text.ensures refl c.view.ensures.text
+    streamed (λ t. t ≡ text) text (g.O.Sink.written c.args.out.now) (g.O.Sink.written c.view.new.sink)
+    (g.O.Sink.faults c.args.out.now)
+    (g.O.Sink.faults c.view.new.sink) c.view.result c.in_text.result c.in_text.ensures refl c.view.ensures.text

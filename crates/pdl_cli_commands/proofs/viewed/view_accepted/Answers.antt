@@ -19,12 +19,23 @@ returns-in-Ok-clause-explained g c = λ source b given accepted.
     let start = c.in-Ok.start in
     let begun = c.in-Ok.ensures.ok in
     let p = pipe_view c.args.accepted.now.typed.pipe in
-    streamed_explains (view source image' cycles delays) (seen_of holds (g.F.Files.faults c.args.files.now) (g.F.Files.faults c.start_of.new.files) (g.O.Sink.written c.args.out.now) (g.O.Sink.written c.print_view.new.out) (g.O.Sink.faults c.args.out.now) (g.O.Sink.faults c.print_view.new.out)) c.print_view.result
+    streamed_explains (view source image' cycles delays)
+    (seen_of holds (g.F.Files.faults c.args.files.now) (g.F.Files.faults c.start_of.new.files)
+    (g.O.Sink.written c.args.out.now) (g.O.Sink.written c.print_view.new.out) (g.O.Sink.faults c.args.out.now)
+    (g.O.Sink.faults c.print_view.new.out)) c.print_view.result
     (λ t. t ≡ view_lines p start.image (replies_in (flat p) (schedule start.delays cycles)))
     (λ t is. record {
       pipe = p;
       words = start.image;
-      loaded = record { source_text = b; source_given = given; accepted = accepted; image_text = begun.image_text; image_given = begun.image_given; taken = begun.taken };
+      loaded =
+          record {
+            source_text = b;
+            source_given = given;
+            accepted = accepted;
+            image_text = begun.image_text;
+            image_given = begun.image_given;
+            taken = begun.taken;
+          };
       schedule = schedule start.delays cycles;
       replies = begun.replies cycles;
       lines = is;
@@ -36,5 +47,8 @@ returns-in-Err-clause-explained g c = λ source b given accepted.
     let before = g.F.Files.faults c.args.files.now in
     let now = g.F.Files.faults c.start_of.new.files in
     let command = view source c.args.image.now c.args.cycles (text_of c.args.delays) in
-    silent command (seen_of holds before now (g.O.Sink.written c.args.out.now) (g.O.Sink.written c.args.out.now) (g.O.Sink.faults c.args.out.now) (g.O.Sink.faults c.args.out.now)) c.in-Err.failure
-    (pipe_start_fails holds before now source b c.args.image.now (text_of c.args.delays) (pipe_view c.args.accepted.now.typed.pipe) given accepted command (λ rule line w. w) c.in-Err.failure c.in-Err.ensures.err) refl
+    silent command
+    (seen_of holds before now (g.O.Sink.written c.args.out.now) (g.O.Sink.written c.args.out.now)
+    (g.O.Sink.faults c.args.out.now) (g.O.Sink.faults c.args.out.now)) c.in-Err.failure
+    (pipe_start_fails holds before now source b c.args.image.now (text_of c.args.delays)
+    (pipe_view c.args.accepted.now.typed.pipe) given accepted command (λ rule line w. w) c.in-Err.failure c.in-Err.ensures.err) refl

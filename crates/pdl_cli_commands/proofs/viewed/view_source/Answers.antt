@@ -16,8 +16,12 @@ returns-in-Ok-clause-explained g c =
     let after = g.F.Files.holds c.accept.new.files in
     let source = c.args.source.now in
     let given = subst (λ o. Gives o source a.0) (sym c.accept.ensures.held) a.1 in
-    explained_before holds after (g.F.Files.faults c.args.files.now) (g.F.Files.faults c.accept.new.files) (g.F.Files.faults c.view_accepted.new.files) (g.O.Sink.written c.args.out.now) (g.O.Sink.written c.view_accepted.new.out) (g.O.Sink.faults c.args.out.now) (g.O.Sink.faults c.view_accepted.new.out)
-    (view source c.args.image.now c.args.cycles (text_of c.args.delays)) c.view_accepted.result c.accept.ensures.held c.accept.ensures.later (c.view_accepted.ensures.explained source a.0 given a.2)
+    explained_before holds after (g.F.Files.faults c.args.files.now) (g.F.Files.faults c.accept.new.files)
+    (g.F.Files.faults c.view_accepted.new.files) (g.O.Sink.written c.args.out.now)
+    (g.O.Sink.written c.view_accepted.new.out) (g.O.Sink.faults c.args.out.now)
+    (g.O.Sink.faults c.view_accepted.new.out)
+    (view source c.args.image.now c.args.cycles (text_of c.args.delays)) c.view_accepted.result c.accept.ensures.held c.accept.ensures.later
+    (c.view_accepted.ensures.explained source a.0 given a.2)
 
 pub returns-in-Err-clause-explained : goal.returns-in-Err-clause-explained
 returns-in-Err-clause-explained g c =
@@ -26,5 +30,7 @@ returns-in-Err-clause-explained g c =
     let now = g.F.Files.faults c.accept.new.files in
     let source = c.args.source.now in
     let command = view source c.args.image.now c.args.cycles (text_of c.args.delays) in
-    silent command (seen_of holds before now (g.O.Sink.written c.args.out.now) (g.O.Sink.written c.args.out.now) (g.O.Sink.faults c.args.out.now) (g.O.Sink.faults c.args.out.now)) c.in-Err.failure
+    silent command
+    (seen_of holds before now (g.O.Sink.written c.args.out.now) (g.O.Sink.written c.args.out.now)
+    (g.O.Sink.faults c.args.out.now) (g.O.Sink.faults c.args.out.now)) c.in-Err.failure
     (source_fails holds before now source command (λ rule line w. inl (inl w)) c.in-Err.failure c.in-Err.ensures.err) refl

@@ -7,4 +7,5 @@ use Rattle.pdl_form.proofs.rows.reserve_stages.Given as goal
 -- those so far and the rest are all
 abbrev pub invariant-loop-m : goal.invariant-loop-m
 invariant-loop-m l =
-    l.all.items ++ stage_of_each stages.is_reserve (stmts_view l.stmts) l.m (mems_view (drop l.m l.mems)) ≡ stage_of_each stages.is_reserve (stmts_view l.stmts) 0 (mems_view l.mems)
+    l.all.items ++ stage_of_each stages.is_reserve (stmts_view l.stmts) l.m (mems_view (drop l.m l.mems))
+    ≡ stage_of_each stages.is_reserve (stmts_view l.stmts) 0 (mems_view l.mems)

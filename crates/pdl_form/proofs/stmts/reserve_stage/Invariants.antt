@@ -6,4 +6,5 @@ use Rattle.pdl_form.proofs.stmts.reserve_stage.Given as goal
 
 -- none before is one
 abbrev pub invariant-loop-stmt : goal.invariant-loop-stmt
-invariant-loop-stmt l = first_stage (stages.is_reserve l.mem) (stmts_view (drop l.stmt-index l.stmts)) ≡ first_stage (stages.is_reserve l.mem) (stmts_view l.stmts)
+invariant-loop-stmt l =
+    first_stage (stages.is_reserve l.mem) (stmts_view (drop l.stmt-index l.stmts)) ≡ first_stage (stages.is_reserve l.mem) (stmts_view l.stmts)

@@ -42,12 +42,16 @@ statement-returns-in_ok-second-in-If-clause-graph t c = λ rest.
     c.in_ok-first-in-If.ensures.place
     ∙ ap (λ j. spec.back_in j (spec.past_all ms when (place_of c.enter.new.walk))) c.in_ok-choice-in-If.ensures.stage
     ∙ ap (λ p. spec.back_in c.args.walk.now.stage (spec.past_all ms when p)) c.in_ok-choice-in-If.ensures.place in
-    let begun : c.enter.new.walk.begun ≡ c.args.walk.now.begun = ap (λ (p : spec.Position). p.begun) c.in_ok-choice-in-If.ensures.place ∙ guard_begun cond at' in
+    let begun : c.enter.new.walk.begun ≡ c.args.walk.now.begun =
+    ap (λ (p : spec.Position). p.begun) c.in_ok-choice-in-If.ensures.place ∙ guard_begun cond at' in
     let stage : c.leave.new.walk.stage ≡ k = ap (λ (p : spec.Position). p.stage) (c.leave.ensures.place ∙ c.in_ok-second-in-If.ensures.place) in
     ap (λ j. closed_stages j c.leave.result (stages_view c.leave.new.walk.stages.items) rest) stage
     ∙ ap (λ r. closed_stages k r (stages_view c.leave.new.walk.stages.items) rest) c.leave.ensures.value
-    ∙ ap (λ xs. closed_stages k (if c.branch-alloc-in-If.new.walk.begun == c.in_ok-choice-in-If.choice.begun then c.args.forked else true) xs rest) c.leave.ensures.stages
-    ∙ if_closed ms (branch_view c.args.round.now.branch) (tree.span_view c.in-If.span) cond when other at' k c.in_ok-choice-in-If.choice.begun c.in_ok-choice-in-If.choice.merge c.in_ok-choice-in-If.choice.var
+    ∙ ap
+    (λ xs. closed_stages k
+    (if c.branch-alloc-in-If.new.walk.begun == c.in_ok-choice-in-If.choice.begun then c.args.forked else true) xs rest) c.leave.ensures.stages
+    ∙ if_closed ms (branch_view c.args.round.now.branch)
+    (tree.span_view c.in-If.span) cond when other at' k c.in_ok-choice-in-If.choice.begun c.in_ok-choice-in-If.choice.merge c.in_ok-choice-in-If.choice.var
     c.in_ok-first-in-If.first c.in_ok-second-in-If.second c.branch-alloc-in-If.new.walk.begun
     (stages_view c.args.walk.now.stages.items) (stages_view c.branch-alloc.new.walk.stages.items) (stages_view c.branch-alloc-in-If.new.walk.stages.items)
     (next_view c.in_ok-choice-in-If.choice.before) (place_of c.enter.new.walk) (place_of c.branch-alloc.new.walk)

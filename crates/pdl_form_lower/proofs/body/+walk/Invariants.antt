@@ -18,7 +18,8 @@ invariant-statements-loop-s l =
       place : spec.past_all ms rest here ≡ spec.past_all ms (tree.stmts_view l.ss) begin;
       stmts : stmts_view l.walk.stmts.items ++ spec.flat_stmts ms gs rest here ≡ stmts_view l.fn.walk.stmts.items ++ spec.flat_stmts ms gs
           (tree.stmts_view l.ss) begin;
-      graph : closed_stages l.walk.stage l.forked (stages_view l.walk.stages.items) (spec.graph ms (branch_view l.round.branch) (next_view l.round.exit) rest here)
+      graph : closed_stages l.walk.stage l.forked (stages_view l.walk.stages.items)
+          (spec.graph ms (branch_view l.round.branch) (next_view l.round.exit) rest here)
           ≡ closed_stages l.fn.walk.stage false (stages_view l.fn.walk.stages.items)
           (spec.graph ms (branch_view l.round.branch) (next_view l.round.exit) (tree.stmts_view l.ss) begin);
       whole : IsWhole l.walk;

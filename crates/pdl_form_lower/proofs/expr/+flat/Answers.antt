@@ -66,5 +66,6 @@ flat_expr-returns-in-Choose-clause-form t c =
     subst (λ x. IfOk c.choice_with.result (λ r. expr_view r.e ≡ spec.flat_expr c.args.vars.now x))
     (sym (ap tree_view c.in-Choose.is ∙ seen_choose c.in-Choose.c c.in-Choose.a c.in-Choose.b
     ∙ ap (λ x. Tree.Choose (tree_view x) (tree_view c.in-Choose.a) (tree_view c.in-Choose.b)) (sym c.get-in-Choose.ensures)
-    ∙ ap₂ (λ x y. Tree.Choose (tree_view c.get-in-Choose.result.now) (tree_view x) (tree_view y)) (sym c.get-in-Choose-2.ensures) (sym c.get-in-Choose-3.ensures)))
+    ∙ ap₂ (λ x y. Tree.Choose (tree_view c.get-in-Choose.result.now) (tree_view x) (tree_view y))
+    (sym c.get-in-Choose-2.ensures) (sym c.get-in-Choose-3.ensures)))
     (c.choice_with.ensures.form _ _ c.flat_operand-c.ensures.form c.flat_operand-a-in-Choose.ensures.form)

@@ -17,7 +17,8 @@ loop-address-preserved c =
     let n = c.args.n in
     let i = c.loop-address._address in
     let more : i + 2 ≡ suc (i + 1) = omega arith in
-    let now : c.next-x-in-loop-address.result ≡ number n (i + 2) = c.next-x-in-loop-address.ensures.value ∙ ap next c.loop-address.invariant.number ∙ sym (number_more n (i + 1) (i + 2) more) in
+    let now : c.next-x-in-loop-address.result ≡ number n (i + 2) =
+    c.next-x-in-loop-address.ensures.value ∙ ap next c.loop-address.invariant.number ∙ sym (number_more n (i + 1) (i + 2) more) in
     let same : i + 1 + 1 ≡ i + 2 = omega arith in
     record {
       number = now ∙ ap (number n) (sym same);

@@ -11,6 +11,9 @@ loop-done-preserved g c =
     let k = c.loop-done.done in
     record {
       within = omega (arith, c.in_ok-taken.ensures.bound, length-take (length p - k) (drop k p), length-drop k p);
-      told = c.in_ok-taken.ensures.bytes ∙ ap (with_bytes (take c.in_ok-taken.taken (take (length p - k) (drop k p)))) i.told ∙ told_on (g.S.Sink.written c.args.sink.now) p k c.in_ok-taken.taken i.within;
+      told =
+          c.in_ok-taken.ensures.bytes
+          ∙ ap (with_bytes (take c.in_ok-taken.taken (take (length p - k) (drop k p)))) i.told
+          ∙ told_on (g.S.Sink.written c.args.sink.now) p k c.in_ok-taken.taken i.within;
       later = omega (arith, i.later, c.write.ensures.cause.later);
     }

@@ -16,7 +16,9 @@ use Rattle.pdl_lock_kinds.proofs.kinds.locks_of.Goals as goal
 pub returns-clause-asked : goal.returns-clause-asked
 returns-clause-asked c =
     let ms = c.mems-mems.result.now in
-    sym (append-nil c.loop-m.locks.items) ∙ sym (ap (λ (xs : List r_mem.FlatMem). c.loop-m.locks.items ++ locks_asked (mems_view xs)) (drop_all c.loop-m.m-index ms c.loop-m-test.false)) ∙ c.loop-m.invariant ∙ ap locks_asked c.mems-mems.ensures.mems
+    sym (append-nil c.loop-m.locks.items)
+    ∙ sym (ap (λ (xs : List r_mem.FlatMem). c.loop-m.locks.items ++ locks_asked (mems_view xs)) (drop_all c.loop-m.m-index ms c.loop-m-test.false))
+    ∙ c.loop-m.invariant ∙ ap locks_asked c.mems-mems.ensures.mems
 
 pub returns-clause-suited : goal.returns-clause-suited
 returns-clause-suited c =
@@ -24,5 +26,8 @@ returns-clause-suited c =
     let f = form c.args.pipe.now in
     let l : Members AnyLock = record { placed = any_placed; stands = any_stands; kind = any_kind; size = any_size; tickets = any_tickets } in
     let asked : c.loop-m.locks.items ≡ locks_asked f.pipe.mems =
-    sym (append-nil c.loop-m.locks.items) ∙ sym (ap (λ (xs : List r_mem.FlatMem). c.loop-m.locks.items ++ locks_asked (mems_view xs)) (drop_all c.loop-m.m-index ms c.loop-m-test.false)) ∙ c.loop-m.invariant ∙ ap locks_asked c.mems-mems.ensures.mems in
-    subst (λ (xs : List (Option AnyLock)). AreSuited any_suits l f xs) (sym asked) (are_suited l f refl refl c.requires.mems c.requires.in_time c.requires.sizes)
+    sym (append-nil c.loop-m.locks.items)
+    ∙ sym (ap (λ (xs : List r_mem.FlatMem). c.loop-m.locks.items ++ locks_asked (mems_view xs)) (drop_all c.loop-m.m-index ms c.loop-m-test.false))
+    ∙ c.loop-m.invariant ∙ ap locks_asked c.mems-mems.ensures.mems in
+    subst (λ (xs : List (Option AnyLock)). AreSuited any_suits l f xs) (sym asked)
+    (are_suited l f refl refl c.requires.mems c.requires.in_time c.requires.sizes)

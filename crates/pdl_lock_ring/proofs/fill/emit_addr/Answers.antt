@@ -23,4 +23,6 @@ returns-clause-means c =
     let e = r.given.slots in
     let old = x1.kept (Reg (addr_at l k)) (e.addr_there k c.requires.slot_in) ∙ e.addr k c.requires.slot_in in
     let kept = c.in_ok-kept.ensures.means.same ∙ same_mux _ _ _ _ _ _ c.in_ok-first.ensures.first.same (later_is a b1 c.args.t.first _ x1 r.first) old in
-    means_as c.mux-2.new.self _ _ _ c.in_ok-addr.ensures.means (same_mux _ _ _ _ _ _ (later_is b1 b2 _ _ x2 c.in_ok-first.ensures.second) (later_is a b2 c.args.t.second _ x12 r.second) kept ∙ sym (slot_addr_is l f k))
+    means_as c.mux-2.new.self _ _ _ c.in_ok-addr.ensures.means
+    (same_mux _ _ _ _ _ _ (later_is b1 b2 _ _ x2 c.in_ok-first.ensures.second) (later_is a b2 c.args.t.second _ x12 r.second) kept
+    ∙ sym (slot_addr_is l f k))

@@ -13,7 +13,8 @@ emit_match-requires-clause-given c = ports_kept c.args.b.now c.loop-j.b c.args.l
 
 pub loop-j-preserved : goal.loop-j-preserved
 loop-j-preserved c =
-    let e : step_signals c.loop-j.b c.args.p.now ≡ step_signals c.args.b.now c.args.p.now = same_signals c.args.b.now c.loop-j.b c.args.p.now c.requires.ready.given.ports (extends_keeps c.args.b.now c.loop-j.b c.loop-j.invariant.extends) in
+    let e : step_signals c.loop-j.b c.args.p.now ≡ step_signals c.args.b.now c.args.p.now =
+    same_signals c.args.b.now c.loop-j.b c.args.p.now c.requires.ready.given.ports (extends_keeps c.args.b.now c.loop-j.b c.loop-j.invariant.extends) in
     record {
       extends = grind arith;
       one = grind arith;

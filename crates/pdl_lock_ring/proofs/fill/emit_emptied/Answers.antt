@@ -27,4 +27,5 @@ returns-clause-means c =
     let old = x12.kept (Reg (has_at l k)) (e.has_there k c.requires.slot_in) ∙ e.holds k c.requires.slot_in in
     let zero = c.in_ok-zero.ensures.means in
     let kept = c.in_ok-kept.ensures.means.same ∙ same_mux _ _ _ _ _ _ (later_is b1 b2 _ _ x2 c.in_ok-first.ensures.first) zero.same old in
-    means_as c.mux-2.new.self _ _ _ c.in_ok-bit.ensures.means (same_mux _ _ _ _ _ _ (later_is b1 b3 _ _ x23 c.in_ok-first.ensures.second) (later_is b2 b3 _ _ x3 zero) kept ∙ sym (bit_none l f k))
+    means_as c.mux-2.new.self _ _ _ c.in_ok-bit.ensures.means
+    (same_mux _ _ _ _ _ _ (later_is b1 b3 _ _ x23 c.in_ok-first.ensures.second) (later_is b2 b3 _ _ x3 zero) kept ∙ sym (bit_none l f k))

@@ -13,8 +13,13 @@ use Rattle.pdl_lock_ring.proofs.slot.+emit_picked.Goals as goal
 
 pub emit_picked-requires : goal.emit_picked-requires
 emit_picked-requires t c =
-    let h = halved c.args.bits c.if-bits-eq0.false in
-    (search rules, (c.requires.ready, (c.requires.number_there, (omega (arith, c.requires.number_width), (omega (arith, c.requires.bits), omega (arith, c.requires.within, h))))))
+    let h = halved c.args.bits c.if-bits-eq0.false in (
+      search rules,
+      (
+        c.requires.ready,
+        (c.requires.number_there, (omega (arith, c.requires.number_width), (omega (arith, c.requires.bits), omega (arith, c.requires.within, h)))),
+      ),
+    )
 
 pub emit_picked-requires-2 : goal.emit_picked-requires-2
 emit_picked-requires-2 t c =
@@ -24,8 +29,16 @@ emit_picked-requires-2 t c =
     let n = c.args.number in
     let x = c.in_ok-low.ensures.extends in
     let h = halved c.args.bits c.if-bits-eq0.false in
-    let e : (signal b n).width ≡ (signal a n).width = ap (λ (g : Signal). g.width) (x.kept n c.requires.number_there) in
-    (search rules, (ready_kept a b l c.args.p.now c.args.t c.requires.ready x, (x.there n c.requires.number_there, (omega (arith, e, c.requires.number_width), (omega (arith, c.requires.bits), omega (arith, c.requires.within, h, c.power-half.ensures))))))
+    let e : (signal b n).width ≡ (signal a n).width = ap (λ (g : Signal). g.width) (x.kept n c.requires.number_there) in (
+      search rules,
+      (
+        ready_kept a b l c.args.p.now c.args.t c.requires.ready x,
+        (
+          x.there n c.requires.number_there,
+          (omega (arith, e, c.requires.number_width), (omega (arith, c.requires.bits), omega (arith, c.requires.within, h, c.power-half.ensures))),
+        ),
+      ),
+    )
 
 pub returns-clause-addr : goal.returns-clause-addr
 returns-clause-addr t c =
@@ -45,12 +58,19 @@ returns-clause-addr t c =
     let x12 : Extends a b2 = extends_trans a b1 b2 x1 x2 in
     let x23 : Extends b1 b3 = extends_trans b1 b2 b3 x2 x3 in
     let s : step_signals b1 p ≡ step_signals a p = same_signals a b1 p c.requires.ready.given.ports (extends_keeps a b1 x1) in
-    let bit : signal b3 c.in_ok-bit.bit ≡ slice_signal top top (signal a n) = c.in_ok-bit.ensures.means.same ∙ ap (slice_signal top top) (x12.kept n c.requires.number_there) in
-    let low : signal b3 c.in_ok-low.low.addr ≡ selected_signal f (signal a n) top c.args.from = x23.kept _ c.in_ok-low.ensures.addr.there ∙ c.in_ok-low.ensures.addr.same in
-    let high : signal b3 c.in_ok-high.high.addr ≡ selected_signal f (signal a n) top (c.args.from + 2 ^ top) = x3.kept _ c.in_ok-high.ensures.addr.there ∙ c.in_ok-high.ensures.addr.same
-    ∙ ap (λ (g : StepSignals). selected_signal (slot_addr l g) (signal b1 n) top (c.args.from + c.power-half.result)) s ∙ ap (λ d. selected_signal f d top (c.args.from + c.power-half.result)) (x1.kept n c.requires.number_there) ∙ ap (λ m. selected_signal f (signal a n) top (c.args.from + m)) c.power-half.ensures in
+    let bit : signal b3 c.in_ok-bit.bit ≡ slice_signal top top (signal a n) =
+    c.in_ok-bit.ensures.means.same ∙ ap (slice_signal top top) (x12.kept n c.requires.number_there) in
+    let low : signal b3 c.in_ok-low.low.addr ≡ selected_signal f (signal a n) top c.args.from =
+    x23.kept _ c.in_ok-low.ensures.addr.there ∙ c.in_ok-low.ensures.addr.same in
+    let high : signal b3 c.in_ok-high.high.addr ≡ selected_signal f (signal a n) top (c.args.from + 2 ^ top) =
+    x3.kept _ c.in_ok-high.ensures.addr.there ∙ c.in_ok-high.ensures.addr.same
+    ∙ ap (λ (g : StepSignals). selected_signal (slot_addr l g) (signal b1 n) top (c.args.from + c.power-half.result)) s
+    ∙ ap (λ d. selected_signal f d top (c.args.from + c.power-half.result)) (x1.kept n c.requires.number_there)
+    ∙ ap (λ m. selected_signal f (signal a n) top (c.args.from + m)) c.power-half.ensures in
     let z = c.in_ok-content.ensures.extends in
-    let e = means_as b4 _ _ _ c.in_ok-addr.ensures.means (same_mux _ _ _ _ _ _ bit high low ∙ sym (selected_more f (signal a n) c.args.bits c.args.from c.if-bits-eq0.false)) in
+    let e =
+    means_as b4 _ _ _ c.in_ok-addr.ensures.means
+    (same_mux _ _ _ _ _ _ bit high low ∙ sym (selected_more f (signal a n) c.args.bits c.args.from c.if-bits-eq0.false)) in
     record { there = z.there _ e.there; same = z.kept _ e.there ∙ e.same }
 
 pub returns-clause-content : goal.returns-clause-content
@@ -73,8 +93,14 @@ returns-clause-content t c =
     let x34 : Extends b2 b4 = extends_trans b2 b3 b4 x3 x4 in
     let x24 : Extends b1 b4 = extends_trans b1 b2 b4 x2 x34 in
     let s : step_signals b1 p ≡ step_signals a p = same_signals a b1 p c.requires.ready.given.ports (extends_keeps a b1 x1) in
-    let bit : signal b4 c.in_ok-bit.bit ≡ slice_signal top top (signal a n) = x4.kept _ c.in_ok-bit.ensures.means.there ∙ c.in_ok-bit.ensures.means.same ∙ ap (slice_signal top top) (x12.kept n c.requires.number_there) in
-    let low : signal b4 c.in_ok-low.low.content ≡ selected_signal f (signal a n) top c.args.from = x24.kept _ c.in_ok-low.ensures.content.there ∙ c.in_ok-low.ensures.content.same in
-    let high : signal b4 c.in_ok-high.high.content ≡ selected_signal f (signal a n) top (c.args.from + 2 ^ top) = x34.kept _ c.in_ok-high.ensures.content.there ∙ c.in_ok-high.ensures.content.same
-    ∙ ap (λ (g : StepSignals). selected_signal (slot_value l g) (signal b1 n) top (c.args.from + c.power-half.result)) s ∙ ap (λ d. selected_signal f d top (c.args.from + c.power-half.result)) (x1.kept n c.requires.number_there) ∙ ap (λ m. selected_signal f (signal a n) top (c.args.from + m)) c.power-half.ensures in
-    means_as c.mux-2.new.self _ _ _ c.in_ok-content.ensures.means (same_mux _ _ _ _ _ _ bit high low ∙ sym (selected_more f (signal a n) c.args.bits c.args.from c.if-bits-eq0.false))
+    let bit : signal b4 c.in_ok-bit.bit ≡ slice_signal top top (signal a n) =
+    x4.kept _ c.in_ok-bit.ensures.means.there ∙ c.in_ok-bit.ensures.means.same ∙ ap (slice_signal top top) (x12.kept n c.requires.number_there) in
+    let low : signal b4 c.in_ok-low.low.content ≡ selected_signal f (signal a n) top c.args.from =
+    x24.kept _ c.in_ok-low.ensures.content.there ∙ c.in_ok-low.ensures.content.same in
+    let high : signal b4 c.in_ok-high.high.content ≡ selected_signal f (signal a n) top (c.args.from + 2 ^ top) =
+    x34.kept _ c.in_ok-high.ensures.content.there ∙ c.in_ok-high.ensures.content.same
+    ∙ ap (λ (g : StepSignals). selected_signal (slot_value l g) (signal b1 n) top (c.args.from + c.power-half.result)) s
+    ∙ ap (λ d. selected_signal f d top (c.args.from + c.power-half.result)) (x1.kept n c.requires.number_there)
+    ∙ ap (λ m. selected_signal f (signal a n) top (c.args.from + m)) c.power-half.ensures in
+    means_as c.mux-2.new.self _ _ _ c.in_ok-content.ensures.means
+    (same_mux _ _ _ _ _ _ bit high low ∙ sym (selected_more f (signal a n) c.args.bits c.args.from c.if-bits-eq0.false))

@@ -15,7 +15,8 @@ loop-k-init c = record {
 }
 
 pub emit_next_addr-requires-clause-ready : goal.emit_next_addr-requires-clause-ready
-emit_next_addr-requires-clause-ready c = ready_kept_but (own_addrs c.args.l) c.args.b.now c.loop-k.b c.args.l c.args.p.now c.args.t c.requires.ready c.loop-k.invariant.extends
+emit_next_addr-requires-clause-ready c =
+    ready_kept_but (own_addrs c.args.l) c.args.b.now c.loop-k.b c.args.l c.args.p.now c.args.t c.requires.ready c.loop-k.invariant.extends
 
 pub loop-k-preserved : goal.loop-k-preserved
 loop-k-preserved c =
@@ -31,5 +32,8 @@ loop-k-preserved c =
     let lt : k < l.size = omega arith in
     record {
       extends = but_trans (own_addrs l) a b d x (reg_in_row (l.from + 2) l.size (addr_at l k) b d (omega arith) (omega (arith, lt)) y);
-      next = addrs_more b d l (step_signals a p) k lt (slots_kept_but (own_addrs l) a b l c.requires.ready.given.slots x) c.loop-k.invariant.next y (c.in_ok-emit_next_addr.ensures.next ∙ ap (λ (g : StepSignals). slot_addr l g k) s);
+      next =
+          addrs_more b d l (step_signals a p) k lt
+          (slots_kept_but (own_addrs l) a b l c.requires.ready.given.slots x) c.loop-k.invariant.next y
+          (c.in_ok-emit_next_addr.ensures.next ∙ ap (λ (g : StepSignals). slot_addr l g k) s);
     }

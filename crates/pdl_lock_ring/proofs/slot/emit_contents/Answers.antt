@@ -15,7 +15,8 @@ loop-k-init c = record {
 }
 
 pub emit_next_content-requires-clause-given : goal.emit_next_content-requires-clause-given
-emit_next_content-requires-clause-given c = ports_kept_but (own_contents c.args.l) c.args.b.now c.loop-k.b c.args.l c.args.p.now c.requires.given c.loop-k.invariant.extends
+emit_next_content-requires-clause-given c =
+    ports_kept_but (own_contents c.args.l) c.args.b.now c.loop-k.b c.args.l c.args.p.now c.requires.given c.loop-k.invariant.extends
 
 pub loop-k-preserved : goal.loop-k-preserved
 loop-k-preserved c =
@@ -31,5 +32,8 @@ loop-k-preserved c =
     let lt : k < l.size = omega arith in
     record {
       extends = but_trans (own_contents l) a b d x (reg_in_row (l.from + 2 + 2 * l.size) l.size (value_at l k) b d (omega arith) (omega (arith, lt)) y);
-      next = contents_more b d l (step_signals a p) k lt (slots_kept_but (own_contents l) a b l c.requires.given.slots x) c.loop-k.invariant.next y (c.in_ok-emit_next_content.ensures.next ∙ ap (λ (g : StepSignals). slot_value l g k) s);
+      next =
+          contents_more b d l (step_signals a p) k lt
+          (slots_kept_but (own_contents l) a b l c.requires.given.slots x) c.loop-k.invariant.next y
+          (c.in_ok-emit_next_content.ensures.next ∙ ap (λ (g : StepSignals). slot_value l g k) s);
     }

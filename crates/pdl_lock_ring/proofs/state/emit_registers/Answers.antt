@@ -27,9 +27,13 @@ returns-clause-slots c =
     let x25 : Extends b2 d = extends_trans b2 b3 d x3 x45 in
     let x15 : Extends b1 d = extends_trans b1 b2 d x2 x25 in
     let e1 : c.in_ok-reg.field-0 ≡ l.from = c.in_ok-reg.ensures.place ∙ sym c.requires.from in
-    let e2 : c.in_ok-reg-2.field-0 ≡ l.from + 1 = c.in_ok-reg-2.ensures.place ∙ ap (λ (g : Circuit). length g.regs) c.in_ok-reg.ensures.exact ∙ length-append a.regs _ ∙ ap (λ n. n + 1) (sym c.requires.from) in
-    let addrs : HasRow b3 (row_of l (l.from + 2) l.bits) l.size = subst (λ (r : Registers). HasRow b3 r r.count) c.row-addrs.ensures c.in_ok-emit_row.ensures.row in
-    let bits : HasRow b4 (row_of l (l.from + 2 + l.size) 1) l.size = subst (λ (r : Registers). HasRow b4 r r.count) c.row-bits.ensures c.in_ok-emit_row-2.ensures.row in
+    let e2 : c.in_ok-reg-2.field-0 ≡ l.from + 1 =
+    c.in_ok-reg-2.ensures.place ∙ ap (λ (g : Circuit). length g.regs) c.in_ok-reg.ensures.exact
+    ∙ length-append a.regs _ ∙ ap (λ n. n + 1) (sym c.requires.from) in
+    let addrs : HasRow b3 (row_of l (l.from + 2) l.bits) l.size =
+    subst (λ (r : Registers). HasRow b3 r r.count) c.row-addrs.ensures c.in_ok-emit_row.ensures.row in
+    let bits : HasRow b4 (row_of l (l.from + 2 + l.size) 1) l.size =
+    subst (λ (r : Registers). HasRow b4 r r.count) c.row-bits.ensures c.in_ok-emit_row-2.ensures.row in
     slots_made d l
     (subst (λ r. IsNewReg d r l.ticket 0) e1 (new_kept b1 d c.in_ok-reg.field-0 l.ticket 0 c.in_ok-reg.ensures.has x15))
     (subst (λ r. IsNewReg d r l.ticket 0) e2 (new_kept b2 d c.in_ok-reg-2.field-0 l.ticket 0 c.in_ok-reg-2.ensures.has x25))

@@ -32,7 +32,8 @@ returns-clause-fragment c =
     let d = c.emit_regs.new.b in
     let r = c.in_ok-r.r in
     let g = c.in_ok-r.ensures in
-    is_fragment c.args.b.now b d l.from (2 + 3 * l.size) c.args.mem.now r (omega arith) g.regs e.layout.place (e.count ∙ omega arith) (subst (IsMemArray c.args.b.now b c.args.mem.now) (sym g.array) e.array) g.extends
+    is_fragment c.args.b.now b d l.from (2 + 3 * l.size) c.args.mem.now r (omega arith) g.regs e.layout.place (e.count ∙ omega arith)
+    (subst (IsMemArray c.args.b.now b c.args.mem.now) (sym g.array) e.array) g.extends
 
 pub returns-clause-nets : goal.returns-clause-nets
 returns-clause-nets c =
@@ -70,7 +71,8 @@ returns-clause-start c =
     let g = c.in_ok-r.ensures in
     let same = layout_is q c.args.mem.now _ l r e.layout g.regs g.width g.bits g.array in
     let R : RingLayout → Type 0 = λ y. AreReset d y 0 in
-    start_law q d r (are_placed q c.args.mem.now _ d l r e.layout same g.regs g.slots e.sized (slots_kept b d l e.slots g.extends)) (subst R (sym same) (reset_kept b d l 0 e.slots e.reset g.extends))
+    start_law q d r (are_placed q c.args.mem.now _ d l r e.layout same g.regs g.slots e.sized (slots_kept b d l e.slots g.extends))
+    (subst R (sym same) (reset_kept b d l 0 e.slots e.reset g.extends))
 
 pub returns-clause-room : goal.returns-clause-room
 returns-clause-room c =

@@ -29,7 +29,10 @@ emit_slots-requires c =
     let b1 = c.emit_taken.new.b in
     let b2 = c.emit_oldest.new.b in
     let b3 = c.emit_commits.new.b in
-    record { ready = ready_kept b1 b3 c.args.l c.args.p.now c.in_ok-taken.taken c.in_ok-taken.ensures.ready (extends_trans b1 b2 b3 c.in_ok-oldest.ensures.extends c.in_ok-nets.ensures.extends) }
+    record {
+      ready = ready_kept b1 b3 c.args.l c.args.p.now c.in_ok-taken.taken c.in_ok-taken.ensures.ready
+          (extends_trans b1 b2 b3 c.in_ok-oldest.ensures.extends c.in_ok-nets.ensures.extends);
+    }
 
 -- the circuits after the first three calls
 pub emit_contents-requires : goal.emit_contents-requires
@@ -41,7 +44,8 @@ emit_contents-requires c =
     let b4 = c.emit_slots.new.b in
     let l = c.args.l in
     let p = c.args.p.now in
-    let x : Extends a b3 = extends_trans a b1 b3 c.in_ok-taken.ensures.extends (extends_trans b1 b2 b3 c.in_ok-oldest.ensures.extends c.in_ok-nets.ensures.extends) in
+    let x : Extends a b3 =
+    extends_trans a b1 b3 c.in_ok-taken.ensures.extends (extends_trans b1 b2 b3 c.in_ok-oldest.ensures.extends c.in_ok-nets.ensures.extends) in
     record { given = ports_kept_but (own_slots l) b3 b4 l p (ports_kept a b3 l p c.requires.given x) c.in_ok-emit_slots.ensures.extends }
 
 pub emit_ends-requires : goal.emit_ends-requires
@@ -55,7 +59,10 @@ emit_ends-requires c =
     let p = c.args.p.now in
     let t = c.in_ok-taken.taken in
     let r3 = ready_kept b1 b3 l p t c.in_ok-taken.ensures.ready (extends_trans b1 b2 b3 c.in_ok-oldest.ensures.extends c.in_ok-nets.ensures.extends) in
-    record { ready = ready_kept_but (own_contents l) b4 b5 l p t (ready_kept_but (own_slots l) b3 b4 l p t r3 c.in_ok-emit_slots.ensures.extends) c.in_ok-emit_contents.ensures.extends }
+    record {
+      ready = ready_kept_but (own_contents l) b4 b5 l p t
+          (ready_kept_but (own_slots l) b3 b4 l p t r3 c.in_ok-emit_slots.ensures.extends) c.in_ok-emit_contents.ensures.extends;
+    }
 
 pub emit_writes-requires : goal.emit_writes-requires
 emit_writes-requires c =
@@ -68,7 +75,8 @@ emit_writes-requires c =
     let b6 = c.emit_ends.new.b in
     let l = c.args.l in
     let p = c.args.p.now in
-    let x : Extends a b3 = extends_trans a b1 b3 c.in_ok-taken.ensures.extends (extends_trans b1 b2 b3 c.in_ok-oldest.ensures.extends c.in_ok-nets.ensures.extends) in
+    let x : Extends a b3 =
+    extends_trans a b1 b3 c.in_ok-taken.ensures.extends (extends_trans b1 b2 b3 c.in_ok-oldest.ensures.extends c.in_ok-nets.ensures.extends) in
     let y4 = c.in_ok-emit_slots.ensures.extends in
     let y5 = c.in_ok-emit_contents.ensures.extends in
     let y6 = c.in_ok-emit_ends.ensures.extends in
@@ -76,14 +84,21 @@ emit_writes-requires c =
     let h4 = ports_kept_but (own_slots l) b3 b4 l p h3 y4 in
     let h5 = ports_kept_but (own_contents l) b4 b5 l p h4 y5 in
     let h6 = ports_kept_but (own_ends l) b5 b6 l p h5 y6 in
-    let k26 : Keeps b2 b6 = keeps_trans b2 b3 b6 (extends_keeps b2 b3 c.in_ok-nets.ensures.extends) (keeps_trans b3 b4 b6 (but_keeps (own_slots l) b3 b4 y4) (keeps_trans b4 b5 b6 (but_keeps (own_contents l) b4 b5 y5) (but_keeps (own_ends l) b5 b6 y6))) in
+    let k26 : Keeps b2 b6 =
+    keeps_trans b2 b3 b6 (extends_keeps b2 b3 c.in_ok-nets.ensures.extends)
+    (keeps_trans b3 b4 b6 (but_keeps (own_slots l) b3 b4 y4)
+    (keeps_trans b4 b5 b6 (but_keeps (own_contents l) b4 b5 y5) (but_keeps (own_ends l) b5 b6 y6))) in
     let h1 = ports_kept a b1 l p c.requires.given c.in_ok-taken.ensures.extends in
     let k16 : Keeps b1 b6 = keeps_trans b1 b2 b6 (extends_keeps b1 b2 c.in_ok-oldest.ensures.extends) k26 in
     let s : step_signals b6 p ≡ step_signals b1 p = same_signals b1 b6 p h1.ports k16 in
     record {
       given = h6;
       same = c.requires.same;
-      empty = no_ports_kept (own_ends l) b5 b6 l.array refl h5.slots.has_array (no_ports_kept (own_contents l) b4 b5 l.array refl h4.slots.has_array (no_ports_kept (own_slots l) b3 b4 l.array refl h3.slots.has_array (no_ports_extended a b3 l.array c.requires.given.slots.has_array c.requires.empty x) y4) y5) y6;
+      empty =
+          no_ports_kept (own_ends l) b5 b6 l.array refl h5.slots.has_array
+          (no_ports_kept (own_contents l) b4 b5 l.array refl h4.slots.has_array
+          (no_ports_kept (own_slots l) b3 b4 l.array refl h3.slots.has_array
+          (no_ports_extended a b3 l.array c.requires.given.slots.has_array c.requires.empty x) y4) y5) y6;
       oldest = oldest_later b2 b6 l (step_signals b1 p) (step_signals b6 p) c.in_ok-oldest.oldest (sym s) k26 c.in_ok-oldest.ensures.oldest;
     }
 
@@ -118,7 +133,10 @@ returns c =
     let k4 : Keeps a b4 = keeps_trans a b3 b4 k3 (but_keeps (own_slots l) b3 b4 y4) in
     let k5 : Keeps a b5 = keeps_trans a b4 b5 k4 (but_keeps (own_contents l) b4 b5 y5) in
     let k6 : Keeps a b6 = keeps_trans a b5 b6 k5 (but_keeps (own_ends l) b5 b6 y6) in
-    let k37 : Keeps b3 b7 = keeps_trans b3 b4 b7 (but_keeps (own_slots l) b3 b4 y4) (keeps_trans b4 b5 b7 (but_keeps (own_contents l) b4 b5 y5) (keeps_trans b5 b6 b7 (but_keeps (own_ends l) b5 b6 y6) (but_keeps (own_array l) b6 b7 y7))) in
+    let k37 : Keeps b3 b7 =
+    keeps_trans b3 b4 b7 (but_keeps (own_slots l) b3 b4 y4)
+    (keeps_trans b4 b5 b7 (but_keeps (own_contents l) b4 b5 y5)
+    (keeps_trans b5 b6 b7 (but_keeps (own_ends l) b5 b6 y6) (but_keeps (own_array l) b6 b7 y7))) in
     let s1 : step_signals b1 p ≡ f = same_signals a b1 p c.requires.given.ports (extends_keeps a b1 x1) in
     let s2 : step_signals b2 p ≡ f = same_signals a b2 p c.requires.given.ports k2 in
     let s3 : step_signals b3 p ≡ f = same_signals a b3 p c.requires.given.ports k3 in
@@ -135,7 +153,11 @@ returns c =
     let bits6 = bits_kept (own_ends l) b5 b6 l f l.size (omega arith) (λ k lt. inr (omega arith)) h5.slots bits5 y6 in
     let contents6 = contents_kept (own_ends l) b5 b6 l f l.size (omega arith) (λ k lt. inr (omega arith)) h5.slots contents5 y6 in
     let o = c.in_ok-oldest.oldest in
-    let old6 = oldest_later b2 b6 l (step_signals b1 p) f o s1 (keeps_trans b2 b3 b6 (extends_keeps b2 b3 x3) (keeps_trans b3 b4 b6 (but_keeps (own_slots l) b3 b4 y4) (keeps_trans b4 b5 b6 (but_keeps (own_contents l) b4 b5 y5) (but_keeps (own_ends l) b5 b6 y6)))) c.in_ok-oldest.ensures.oldest in
+    let old6 =
+    oldest_later b2 b6 l (step_signals b1 p) f o s1
+    (keeps_trans b2 b3 b6 (extends_keeps b2 b3 x3)
+    (keeps_trans b3 b4 b6 (but_keeps (own_slots l) b3 b4 y4)
+    (keeps_trans b4 b5 b6 (but_keeps (own_contents l) b4 b5 y5) (but_keeps (own_ends l) b5 b6 y6)))) c.in_ok-oldest.ensures.oldest in
     let r : (step_signals b6 p).release ≡ f.release = ap (λ (g : StepSignals). g.release) s6 in
     let r2 : (step_signals b6 p).release2 ≡ f.release2 = ap (λ (g : StepSignals). g.release2) s6 in
     record {
@@ -144,9 +166,13 @@ returns c =
         bits = bits_kept (own_array l) b6 b7 l f l.size (omega arith) (λ k lt. inr (omega arith)) h6.slots bits6 y7;
         contents = contents_kept (own_array l) b6 b7 l f l.size (omega arith) (λ k lt. inr (omega arith)) h6.slots contents6 y7;
         ends = ends_kept (own_array l) b6 b7 l f (inr (omega arith)) (inr (omega arith)) h6.slots ends6 y7;
-        array = subst (WritesArray b7 l) (same_two _ _ _ _ _ _ f.release (oldest_addr l f) (oldest_value l f) f.release2 (next_addr l f) (next_value l f) r old6.addr.same old6.content.same r2 old6.addr2.same old6.content2.same) c.in_ok-emit_writes.ensures.write;
+        array =
+            subst (WritesArray b7 l)
+            (same_two _ _ _ _ _ _ f.release (oldest_addr l f) (oldest_value l f) f.release2 (next_addr l f)
+            (next_value l f) r old6.addr.same old6.content.same r2 old6.addr2.same old6.content2.same) c.in_ok-emit_writes.ensures.write;
       };
-      commits = subst (λ g. AreCommits b7 l g c.in_ok-nets.nets) s2 (commits_keep b3 b7 l (step_signals b2 p) c.in_ok-nets.nets c.in_ok-nets.ensures.commits k37);
+      commits =
+          subst (λ g. AreCommits b7 l g c.in_ok-nets.nets) s2 (commits_keep b3 b7 l (step_signals b2 p) c.in_ok-nets.nets c.in_ok-nets.ensures.commits k37);
       extends = but_trans (own_all l) a b6 b7 (ends_in_all l a b5 b6 (slots_in_all l a b3 b4 b5 x y4 y5) y6) (array_in_all l b6 b7 y7);
     }
 
@@ -158,8 +184,10 @@ returns-in_err-emit_ends-clause-extends c =
     let b3 = c.emit_commits.new.b in
     let b4 = c.emit_slots.new.b in
     let b5 = c.emit_contents.new.b in
-    let x : Extends a b3 = extends_trans a b1 b3 c.in_ok-taken.ensures.extends (extends_trans b1 b2 b3 c.in_ok-oldest.ensures.extends c.in_ok-nets.ensures.extends) in
-    ends_in_all c.args.l a b5 c.emit_ends.new.b (slots_in_all c.args.l a b3 b4 b5 x c.in_ok-emit_slots.ensures.extends c.in_ok-emit_contents.ensures.extends) c.in_err-emit_ends.ensures.extends
+    let x : Extends a b3 =
+    extends_trans a b1 b3 c.in_ok-taken.ensures.extends (extends_trans b1 b2 b3 c.in_ok-oldest.ensures.extends c.in_ok-nets.ensures.extends) in
+    ends_in_all c.args.l a b5 c.emit_ends.new.b
+    (slots_in_all c.args.l a b3 b4 b5 x c.in_ok-emit_slots.ensures.extends c.in_ok-emit_contents.ensures.extends) c.in_err-emit_ends.ensures.extends
 
 pub returns-in_err-emit_writes-clause-extends : goal.returns-in_err-emit_writes-clause-extends
 returns-in_err-emit_writes-clause-extends c =
@@ -172,6 +200,9 @@ returns-in_err-emit_writes-clause-extends c =
     let b6 = c.emit_ends.new.b in
     let b7 = c.emit_writes.new.b in
     let l = c.args.l in
-    let x : Extends a b3 = extends_trans a b1 b3 c.in_ok-taken.ensures.extends (extends_trans b1 b2 b3 c.in_ok-oldest.ensures.extends c.in_ok-nets.ensures.extends) in
-    let y = ends_in_all l a b5 b6 (slots_in_all l a b3 b4 b5 x c.in_ok-emit_slots.ensures.extends c.in_ok-emit_contents.ensures.extends) c.in_ok-emit_ends.ensures.extends in
+    let x : Extends a b3 =
+    extends_trans a b1 b3 c.in_ok-taken.ensures.extends (extends_trans b1 b2 b3 c.in_ok-oldest.ensures.extends c.in_ok-nets.ensures.extends) in
+    let y =
+    ends_in_all l a b5 b6
+    (slots_in_all l a b3 b4 b5 x c.in_ok-emit_slots.ensures.extends c.in_ok-emit_contents.ensures.extends) c.in_ok-emit_ends.ensures.extends in
     but_trans (own_all l) a b6 b7 y (array_in_all l b6 b7 c.in_err-emit_writes.ensures.extends)

@@ -34,11 +34,25 @@ returns-clause-commits c =
     let value : Means b2 c.in_ok-addr.value gv = record { there = x2.there _ e1.value.there; same = later_is b1 b2 _ _ x2 e1.value } in
     record {
       commit = record { there = x12.there p.release h.release; same = x12.kept p.release h.release ∙ sym r };
-      addr = means_as b2 _ ga _ addr (same_mux (signal a p.release) (signal a c.args.o.first.addr) (const_signal l.bits 0) f.release (oldest_addr l f) (const_signal l.bits 0) (sym r) o.addr.same refl);
-      value = means_as b2 _ gv _ value (same_mux (signal a p.release) (signal a c.args.o.first.content) (const_signal l.width 0) f.release (oldest_value l f) (const_signal l.width 0) (sym r) o.content.same refl);
+      addr =
+          means_as b2 _ ga _ addr
+          (same_mux (signal a p.release) (signal a c.args.o.first.addr)
+          (const_signal l.bits 0) f.release (oldest_addr l f) (const_signal l.bits 0) (sym r) o.addr.same refl);
+      value =
+          means_as b2 _ gv _ value
+          (same_mux (signal a p.release) (signal a c.args.o.first.content)
+          (const_signal l.width 0) f.release (oldest_value l f) (const_signal l.width 0) (sym r) o.content.same refl);
       commit2 = record { there = x12.there p.release2 h.release2; same = x12.kept p.release2 h.release2 ∙ sym (release2_is a p) };
-      addr2 = means_as b2 _ ga2 _ e2.addr (same_mux (signal b1 p.release2) (signal b1 c.args.o.second.addr) (const_signal l.bits 0) f.release2 (next_addr l f) (const_signal l.bits 0) r2 (later_is a b1 _ _ x1 o.addr2) refl);
-      value2 = means_as b2 _ gv2 _ e2.value (same_mux (signal b1 p.release2) (signal b1 c.args.o.second.content) (const_signal l.width 0) f.release2 (next_value l f) (const_signal l.width 0) r2 (later_is a b1 _ _ x1 o.content2) refl);
+      addr2 =
+          means_as b2 _ ga2 _ e2.addr
+          (same_mux (signal b1 p.release2) (signal b1 c.args.o.second.addr)
+          (const_signal l.bits 0) f.release2 (next_addr l f)
+          (const_signal l.bits 0) r2 (later_is a b1 _ _ x1 o.addr2) refl);
+      value2 =
+          means_as b2 _ gv2 _ e2.value
+          (same_mux (signal b1 p.release2) (signal b1 c.args.o.second.content)
+          (const_signal l.width 0) f.release2 (next_value l f)
+          (const_signal l.width 0) r2 (later_is a b1 _ _ x1 o.content2) refl);
       addr_wide = ap (λ (g : Signal). g.width) addr.same ∙ o.addr_wide;
       value_wide = ap (λ (g : Signal). g.width) value.same ∙ o.content_wide ∙ c.requires.same;
       addr2_wide = ap (λ (g : Signal). g.width) e2.addr.same ∙ ap (λ (g : Signal). g.width) (x1.kept _ o.addr2.there) ∙ o.addr2_wide;

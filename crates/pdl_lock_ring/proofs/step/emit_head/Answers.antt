@@ -27,6 +27,11 @@ returns-clause-means c =
     let x23 : Extends b1 b3 = extends_trans b1 b2 b3 x2 x3 in
     let x13 : Extends a b3 = extends_trans a b1 b3 x1 x23 in
     let x14 : Extends a b4 = extends_trans a b3 b4 x13 x4 in
-    let after : signal b4 c.in_ok-after.after ≡ _ = later_is b3 b4 _ _ x4 c.in_ok-after.ensures.means ∙ same_bin _ _ _ _ _ (later_is b1 b2 _ _ x2 next) c.in_ok-one.ensures.means.same in
-    let kept : signal b4 c.in_ok-kept.kept ≡ _ = c.in_ok-kept.ensures.means.same ∙ same_mux _ _ _ _ _ _ (x13.kept p.release h.ports.release ∙ sym (release_is a p)) (later_is b1 b3 _ _ x23 next) (x13.kept (Reg l.from) h.slots.head_there ∙ h.slots.head) in
-    means_as c.mux-2.new.self _ _ _ c.in_ok-head.ensures.means (same_mux _ _ _ _ _ _ (x14.kept p.release2 h.ports.release2 ∙ sym (release2_is a p)) after kept ∙ sym (head_is l f))
+    let after : signal b4 c.in_ok-after.after ≡ _ =
+    later_is b3 b4 _ _ x4 c.in_ok-after.ensures.means ∙ same_bin _ _ _ _ _ (later_is b1 b2 _ _ x2 next) c.in_ok-one.ensures.means.same in
+    let kept : signal b4 c.in_ok-kept.kept ≡ _ =
+    c.in_ok-kept.ensures.means.same
+    ∙ same_mux _ _ _ _ _ _ (x13.kept p.release h.ports.release ∙ sym (release_is a p)) (later_is b1 b3 _ _ x23 next)
+    (x13.kept (Reg l.from) h.slots.head_there ∙ h.slots.head) in
+    means_as c.mux-2.new.self _ _ _ c.in_ok-head.ensures.means
+    (same_mux _ _ _ _ _ _ (x14.kept p.release2 h.ports.release2 ∙ sym (release2_is a p)) after kept ∙ sym (head_is l f))

@@ -22,7 +22,8 @@ emit_all-requires c =
     let H : RingLayout → Type 0 = λ y. HasPorts c.args.b.now y c.args.p.now in
     let E : RingLayout → Type 0 = λ y. HasNoPorts y.array c.args.b.now in
     let S : RingLayout → Type 0 = λ y. y.kept ≡ y.width in
-    let given : HasPorts c.args.b.now l c.args.p.now = record { sized = c.requires.placed.sized; slots = c.requires.placed.slots; ports = c.requires.ports; fit = c.requires.fit } in
+    let given : HasPorts c.args.b.now l c.args.p.now =
+    record { sized = c.requires.placed.sized; slots = c.requires.placed.slots; ports = c.requires.ports; fit = c.requires.fit } in
     record {
       given = subst H (sym c.of-l.ensures) given;
       same = subst S (sym c.of-l.ensures) refl;
@@ -62,7 +63,9 @@ returns-clause-law c =
     let N : RingLayout → Type 0 = λ y. NextValues b y f in
     let C : RingLayout → Type 0 = λ y. AreCommits b y f n in
     let e = subst C c.of-l.ensures c.in_ok-nets.ensures.commits in
-    let law = step_law b l f refl c.requires.placed.sized (tickets_fit a r.bits r.width l.ticket p c.requires.fit) (subst N c.of-l.ensures c.in_ok-nets.ensures.next) in
+    let law =
+    step_law b l f refl c.requires.placed.sized (tickets_fit a r.bits r.width l.ticket p c.requires.fit)
+    (subst N c.of-l.ensures c.in_ok-nets.ensures.next) in
     let A0 = mux_signal f.release (oldest_addr l f) (const_signal l.bits 0) in
     let V0 = mux_signal f.release (oldest_value l f) (const_signal l.width 0) in
     let O : Own → Type 0 = λ o. StepLaw (Stands l) q (ticket_bits q) o b f f.release A0 V0 in
@@ -84,7 +87,9 @@ returns-clause-law2 c =
     let N : RingLayout → Type 0 = λ y. NextValues b y f in
     let C : RingLayout → Type 0 = λ y. AreCommits b y f n in
     let e = subst C c.of-l.ensures c.in_ok-nets.ensures.commits in
-    let law = commit2_law b l f refl c.requires.placed.sized (tickets_fit a r.bits r.width l.ticket p c.requires.fit) (subst N c.of-l.ensures c.in_ok-nets.ensures.next) in
+    let law =
+    commit2_law b l f refl c.requires.placed.sized (tickets_fit a r.bits r.width l.ticket p c.requires.fit)
+    (subst N c.of-l.ensures c.in_ok-nets.ensures.next) in
     let V0 = mux_signal f.release2 (next_value l f) (const_signal l.width 0) in
     let K : Signal → Type 0 = λ g. Commit2Law (Stands l) q (ticket_bits q) f g (mux_signal f.release2 (next_addr l f) (const_signal l.bits 0)) V0 in
     let A : Signal → Type 0 = λ g. Commit2Law (Stands l) q (ticket_bits q) f (signal b n.commit2) g V0 in
@@ -102,4 +107,6 @@ returns-clause-still c =
     let f = step_signals a p in
     let N : RingLayout → Type 0 = λ y. NextValues b y f in
     let O : Own → Type 0 = λ o. StillLaw (Stands l) q (ticket_bits q) o b f r in
-    subst O (own_is q a r c.requires.placed) (still_law b l f r refl c.requires.placed.listed c.requires.placed.sized (tickets_fit a r.bits r.width l.ticket p c.requires.fit) (subst N c.of-l.ensures c.in_ok-nets.ensures.next))
+    subst O (own_is q a r c.requires.placed)
+    (still_law b l f r refl c.requires.placed.listed c.requires.placed.sized (tickets_fit a r.bits r.width l.ticket p c.requires.fit)
+    (subst N c.of-l.ensures c.in_ok-nets.ensures.next))

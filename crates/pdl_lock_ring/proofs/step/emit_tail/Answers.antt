@@ -17,7 +17,8 @@ mux-requires-clause-one c =
     let b2 = c.constant.new.self in
     let b3 = c.bin.new.self in
     let f = step_signals a c.args.p.now in
-    let x : Extends a b3 = extends_trans a b1 b3 c.in_ok-next.ensures.extends (extends_trans b1 b2 b3 c.in_ok-one.ensures.extends c.in_ok-after.ensures.extends) in
+    let x : Extends a b3 =
+    extends_trans a b1 b3 c.in_ok-next.ensures.extends (extends_trans b1 b2 b3 c.in_ok-one.ensures.extends c.in_ok-after.ensures.extends) in
     ap (λ (g : Signal). g.width) (later_is a b3 _ _ x c.requires.ready.one) ∙ push_width f (length f.reserves)
 
 pub mux-requires-2-clause-one : goal.mux-requires-2-clause-one
@@ -28,7 +29,8 @@ mux-requires-2-clause-one c =
     let b3 = c.bin.new.self in
     let b4 = c.mux.new.self in
     let f = step_signals a c.args.p.now in
-    let x3 : Extends a b3 = extends_trans a b1 b3 c.in_ok-next.ensures.extends (extends_trans b1 b2 b3 c.in_ok-one.ensures.extends c.in_ok-after.ensures.extends) in
+    let x3 : Extends a b3 =
+    extends_trans a b1 b3 c.in_ok-next.ensures.extends (extends_trans b1 b2 b3 c.in_ok-one.ensures.extends c.in_ok-after.ensures.extends) in
     let x : Extends a b4 = extends_trans a b3 b4 x3 c.in_ok-kept.ensures.extends in
     ap (λ (g : Signal). g.width) (later_is a b4 _ _ x c.requires.ready.two) ∙ push2_width f (length f.reserves)
 
@@ -55,7 +57,12 @@ returns-clause-means c =
     let x13 : Extends a b3 = extends_trans a b1 b3 x1 x23 in
     let x14 : Extends a b4 = extends_trans a b3 b4 x13 x4 in
     let x15 : Extends a b5 = extends_trans a b4 b5 x14 x5 in
-    let after : signal b4 c.in_ok-after.after ≡ _ = later_is b3 b4 _ _ x4 c.in_ok-after.ensures.means ∙ same_bin _ _ _ _ _ (later_is b1 b2 _ _ x2 next) c.in_ok-one.ensures.means.same in
-    let kept : signal b4 c.in_ok-kept.kept ≡ _ = c.in_ok-kept.ensures.means.same ∙ same_mux _ _ _ _ _ _ (later_is a b3 _ _ x13 r.one) (later_is b1 b3 _ _ x23 next) (x13.kept (Reg (l.from + 1)) h.slots.tail_there ∙ h.slots.tail) in
+    let after : signal b4 c.in_ok-after.after ≡ _ =
+    later_is b3 b4 _ _ x4 c.in_ok-after.ensures.means ∙ same_bin _ _ _ _ _ (later_is b1 b2 _ _ x2 next) c.in_ok-one.ensures.means.same in
+    let kept : signal b4 c.in_ok-kept.kept ≡ _ =
+    c.in_ok-kept.ensures.means.same
+    ∙ same_mux _ _ _ _ _ _ (later_is a b3 _ _ x13 r.one) (later_is b1 b3 _ _ x23 next) (x13.kept (Reg (l.from + 1)) h.slots.tail_there ∙ h.slots.tail) in
     let pushed : signal b5 c.in_ok-pushed.pushed ≡ _ = c.in_ok-pushed.ensures.means.same ∙ same_mux _ _ _ _ _ _ (later_is a b4 _ _ x14 r.two) after kept in
-    means_as c.mux-3.new.self _ _ _ c.in_ok-tail.ensures.means (same_mux _ _ _ _ _ _ (x15.kept p.squash h.ports.squash ∙ sym (squash_is a p)) (x15.kept p.tail h.ports.tail ∙ sym (tail_is a p)) pushed ∙ sym (tail_after_is l f))
+    means_as c.mux-3.new.self _ _ _ c.in_ok-tail.ensures.means
+    (same_mux _ _ _ _ _ _ (x15.kept p.squash h.ports.squash ∙ sym (squash_is a p)) (x15.kept p.tail h.ports.tail ∙ sym (tail_is a p)) pushed
+    ∙ sym (tail_after_is l f))

@@ -68,18 +68,24 @@ returns-clause-asked c =
     let there = h.ports.ask k q c.requires.within at in
     let on : Means b2 c.by_kind-enable.result z.enable =
     means_as b2 _ (enabled_reserve q.kind (signal b2 q.enable)) _
-    (subst (λ n. Means b2 n (enabled_reserve q.kind (signal b2 q.enable))) (sym c.by_kind-enable.ensures) (taken_means b2 q.kind c.in_ok-zero.zero q.enable c.in_ok-zero.ensures.means (x02.there _ there)))
+    (subst (λ n. Means b2 n (enabled_reserve q.kind (signal b2 q.enable))) (sym c.by_kind-enable.ensures)
+    (taken_means b2 q.kind c.in_ok-zero.zero q.enable c.in_ok-zero.ensures.means (x02.there _ there)))
     (ap (enabled_reserve q.kind) (x02.kept _ there) ∙ ap (λ (g : ReserveSignal). g.enable) (sym r)) in
     let addr : signal b4 q.addr ≡ z.addr = x04.kept _ (h.ports.addr k q c.requires.within at) ∙ ap (λ (g : ReserveSignal). g.addr) (sym r) in
     let two = means_as b3 _ _ _ c.in_ok-two.ensures.means (same_mux _ _ _ _ _ _ on.same (x02.kept _ y.one.there) (x02.kept _ y.two.there)) in
-    let one = means_as b4 _ _ _ c.in_ok-one-2.ensures.means (same_mux _ _ _ _ _ _ (later_is b2 b3 _ _ x23 on) (later_is b1 b3 _ _ x13 c.in_ok-one.ensures.means) (x03.kept _ y.one.there)) in
+    let one =
+    means_as b4 _ _ _ c.in_ok-one-2.ensures.means
+    (same_mux _ _ _ _ _ _ (later_is b2 b3 _ _ x23 on) (later_is b1 b3 _ _ x13 c.in_ok-one.ensures.means) (x03.kept _ y.one.there)) in
     let last = means_as b5 _ _ _ c.in_ok-last.ensures.means (same_mux _ _ _ _ _ _ (later_is b2 b4 _ _ x24 on) addr (x04.kept _ y.last.there)) in
-    let before = means_as b6 _ _ _ c.in_ok-before.ensures.means (same_mux _ _ _ _ _ _ (later_is b2 b5 _ _ x25 on) (x05.kept _ y.last.there) (x05.kept _ y.before.there)) in
+    let before =
+    means_as b6 _ _ _ c.in_ok-before.ensures.means
+    (same_mux _ _ _ _ _ _ (later_is b2 b5 _ _ x25 on) (x05.kept _ y.last.there) (x05.kept _ y.before.there)) in
     record {
       one = record { there = x46.there _ one.there; same = later_is b4 b6 _ _ x46 one };
       two = record { there = x36.there _ two.there; same = later_is b3 b6 _ _ x36 two };
       last = record { there = x56.there _ last.there; same = later_is b5 b6 _ _ x56 last };
       before = before;
-      last_wide = ap (λ (g : Signal). g.width) (later_is b5 b6 _ _ x56 last) ∙ ap (λ (g : ReserveSignal). g.addr.width) r ∙ h.fit.addr_width k q c.requires.within at;
+      last_wide =
+          ap (λ (g : Signal). g.width) (later_is b5 b6 _ _ x56 last) ∙ ap (λ (g : ReserveSignal). g.addr.width) r ∙ h.fit.addr_width k q c.requires.within at;
       before_wide = ap (λ (g : Signal). g.width) before.same ∙ y.last_wide;
     }

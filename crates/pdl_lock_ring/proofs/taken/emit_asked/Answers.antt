@@ -15,7 +15,9 @@ loop-k-init c =
     let y = c.in_ok-none.ensures.extends in
     record {
       extends = extends_trans a b d c.in_ok-zero.ensures.extends y;
-      asked = asked_none d c.args.l (step_signals a c.args.p.now) c.in_ok-zero.zero c.in_ok-none.none (means_kept b d _ _ y c.in_ok-zero.ensures.means) c.in_ok-none.ensures.means;
+      asked =
+          asked_none d c.args.l (step_signals a c.args.p.now) c.in_ok-zero.zero c.in_ok-none.none
+          (means_kept b d _ _ y c.in_ok-zero.ensures.means) c.in_ok-none.ensures.means;
     }
 
 pub emit_ask-requires-clause-given : goal.emit_ask-requires-clause-given

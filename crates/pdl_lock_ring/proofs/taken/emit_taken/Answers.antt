@@ -71,24 +71,37 @@ returns-clause-ready c =
     let two : signal b1 k.two ≡ pushes2 f = y.two.same ∙ ap (push2_signal f) (sym e) in
     let last : signal b1 k.last ≡ last_addr l.bits f n = y.last.same ∙ ap (last_addr l.bits f) (sym e) in
     let before : signal b1 k.before ≡ before_addr l.bits f n = y.before.same ∙ ap (before_addr l.bits f) (sym e) in
-    let first : signal b2 c.in_ok-first.first ≡ first_addr l f = c.in_ok-first.ensures.means.same ∙ same_mux _ _ _ _ _ _ two before last ∙ sym (first_addr_is l f) in
+    let first : signal b2 c.in_ok-first.first ≡ first_addr l f =
+    c.in_ok-first.ensures.means.same ∙ same_mux _ _ _ _ _ _ two before last ∙ sym (first_addr_is l f) in
     let none = const_signal l.ticket l.size in
     let first_slot_same : signal b4 c.in_ok-first_slot.first_slot ≡ first_slot l f =
     c.in_ok-first_slot.ensures.means.same
-    ∙ same_mux (signal b3 k.one) (slot_of l (signal b3 (Reg (l.from + 1)))) none (pushes f) (slot_of l (tail_signal l)) none (x13.kept _ y.one.there ∙ one) (ap (slot_of l) (x03.kept _ h.slots.tail_there ∙ h.slots.tail)) refl
+    ∙ same_mux (signal b3 k.one) (slot_of l (signal b3 (Reg (l.from + 1)))) none (pushes f)
+    (slot_of l (tail_signal l)) none (x13.kept _ y.one.there ∙ one)
+    (ap (slot_of l) (x03.kept _ h.slots.tail_there ∙ h.slots.tail)) refl
     ∙ sym (first_slot_is l f) in
     let second_slot_same : signal b5 c.in_ok-second_slot.second_slot ≡ second_slot l f =
     c.in_ok-second_slot.ensures.means.same
-    ∙ same_mux (signal b4 k.two) (slot_of l (signal b4 c.in_ok-ticket2.ticket2)) none (pushes2 f) (slot_of l (second_ticket l)) none (x14.kept _ y.two.there ∙ two) (ap (slot_of l) (later_is b3 b4 _ _ x4 c.in_ok-ticket2.ensures.means)) refl
+    ∙ same_mux (signal b4 k.two) (slot_of l (signal b4 c.in_ok-ticket2.ticket2)) none (pushes2 f)
+    (slot_of l (second_ticket l)) none (x14.kept _ y.two.there ∙ two)
+    (ap (slot_of l) (later_is b3 b4 _ _ x4 c.in_ok-ticket2.ensures.means)) refl
     ∙ sym (second_slot_is l f) in
     record {
       given = ports_kept a b5 l p h x05;
       one = subst (λ g. Means b5 k.one (pushes g)) s (record { there = x15.there _ y.one.there; same = x15.kept _ y.one.there ∙ one });
       two = subst (λ g. Means b5 k.two (pushes2 g)) s (record { there = x15.there _ y.two.there; same = x15.kept _ y.two.there ∙ two });
-      first = subst (λ g. Means b5 c.in_ok-first.first (first_addr l g)) s (record { there = x25.there _ c.in_ok-first.ensures.means.there; same = x25.kept _ c.in_ok-first.ensures.means.there ∙ first });
-      second = subst (λ g. Means b5 k.last (second_addr l g)) s (record { there = x15.there _ y.last.there; same = x15.kept _ y.last.there ∙ last ∙ sym (second_addr_is l f) });
-      first_slot = subst (λ g. Means b5 c.in_ok-first_slot.first_slot (first_slot l g)) s (record { there = x5.there _ c.in_ok-first_slot.ensures.means.there; same = x5.kept _ c.in_ok-first_slot.ensures.means.there ∙ first_slot_same });
-      second_slot = subst (λ g. Means b5 c.in_ok-second_slot.second_slot (second_slot l g)) s (record { there = c.in_ok-second_slot.ensures.means.there; same = second_slot_same });
+      first =
+          subst (λ g. Means b5 c.in_ok-first.first (first_addr l g)) s
+          (record { there = x25.there _ c.in_ok-first.ensures.means.there; same = x25.kept _ c.in_ok-first.ensures.means.there ∙ first });
+      second =
+          subst (λ g. Means b5 k.last (second_addr l g)) s
+          (record { there = x15.there _ y.last.there; same = x15.kept _ y.last.there ∙ last ∙ sym (second_addr_is l f) });
+      first_slot =
+          subst (λ g. Means b5 c.in_ok-first_slot.first_slot (first_slot l g)) s
+          (record { there = x5.there _ c.in_ok-first_slot.ensures.means.there; same = x5.kept _ c.in_ok-first_slot.ensures.means.there ∙ first_slot_same });
+      second_slot =
+          subst (λ g. Means b5 c.in_ok-second_slot.second_slot (second_slot l g)) s
+          (record { there = c.in_ok-second_slot.ensures.means.there; same = second_slot_same });
       first_wide = ap (λ (g : Signal). g.width) (x25.kept _ c.in_ok-first.ensures.means.there ∙ c.in_ok-first.ensures.means.same) ∙ y.before_wide;
       second_wide = ap (λ (g : Signal). g.width) (x15.kept _ y.last.there) ∙ y.last_wide;
       first_slot_wide = ap (λ (g : Signal). g.width) (x5.kept _ c.in_ok-first_slot.ensures.means.there) ∙ c.in_ok-first_slot.ensures.wide;

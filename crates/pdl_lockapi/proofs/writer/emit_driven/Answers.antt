@@ -115,7 +115,8 @@ emit_step-requires-clause-ports g c =
     let am = c.in_ok-addr.ensures.means in
     let vm = c.in_ok-value.ensures.means in
     let q = c.in_ok-ports.ensures in
-    let driver : IsDriver b6 c.in_ok-ports.ports r.bits r.width (L.tickets l) c.in_ok-one.one c.in_ok-zero.zero c.in_ok-addr.addr c.in_ok-value.value r.ticket = record {
+    let driver : IsDriver b6 c.in_ok-ports.ports r.bits r.width (L.tickets l) c.in_ok-one.one c.in_ok-zero.zero c.in_ok-addr.addr c.in_ok-value.value r.ticket =
+    record {
       reserves = q.reserves;
       writes = q.writes;
       release = q.release;
@@ -162,7 +163,8 @@ emit_step-requires-clause-fit g c =
     let am = c.in_ok-addr.ensures.means in
     let vm = c.in_ok-value.ensures.means in
     let q = c.in_ok-ports.ensures in
-    let driver : IsDriver b6 c.in_ok-ports.ports r.bits r.width (L.tickets l) c.in_ok-one.one c.in_ok-zero.zero c.in_ok-addr.addr c.in_ok-value.value r.ticket = record {
+    let driver : IsDriver b6 c.in_ok-ports.ports r.bits r.width (L.tickets l) c.in_ok-one.one c.in_ok-zero.zero c.in_ok-addr.addr c.in_ok-value.value r.ticket =
+    record {
       reserves = q.reserves;
       writes = q.writes;
       release = q.release;
@@ -209,7 +211,8 @@ returns g c =
     let am = c.in_ok-addr.ensures.means in
     let vm = c.in_ok-value.ensures.means in
     let q = c.in_ok-ports.ensures in
-    let driver : IsDriver b6 c.in_ok-ports.ports r.bits r.width (L.tickets l) c.in_ok-one.one c.in_ok-zero.zero c.in_ok-addr.addr c.in_ok-value.value r.ticket = record {
+    let driver : IsDriver b6 c.in_ok-ports.ports r.bits r.width (L.tickets l) c.in_ok-one.one c.in_ok-zero.zero c.in_ok-addr.addr c.in_ok-value.value r.ticket =
+    record {
       reserves = q.reserves;
       writes = q.writes;
       release = q.release;
@@ -239,30 +242,39 @@ returns g c =
     let ports3 : b3.ports ≡ p2 ++ p3 = x3.ports ∙ ap (λ (ps : List Port). ps ++ p3) ports2 in
     let x67 : ExtendsBut (own r) b6 b7 = c.in_ok-emit_step.ensures.extends in
     let x78 : ExtendsPorts b7 b8 (output_port b7 c.args.mem.now.name word ∷ []) = c.in_ok-output.ensures.extends in
-    let ports8 : b8.ports ≡ (p2 ++ p3) ++ output_port b7 c.args.mem.now.name word ∷ [] = x78.ports ∙ ap (λ (ps : List Port). ps ++ output_port b7 c.args.mem.now.name word ∷ []) (x67.ports ∙ x6.ports ∙ ports3) in
+    let ports8 : b8.ports ≡ (p2 ++ p3) ++ output_port b7 c.args.mem.now.name word ∷ [] =
+    x78.ports ∙ ap (λ (ps : List Port). ps ++ output_port b7 c.args.mem.now.name word ∷ []) (x67.ports ∙ x6.ports ∙ ports3) in
     let n1 : length (inputs_of b1) ≡ 0 = ap length (inputs_as b1 [] ports1) in
     let n2 : length (inputs_of b2) ≡ 1 = ap length (inputs_as b2 p2 ports2) in
-    let a5 : signal b5 c.in_ok-addr.addr ≡ input_signal r.bits 0 = (keeps_trans b2 b3 b5 (ports_keeps b2 b3 p3 x3) (extends_keeps b3 b5 x5)).kept c.in_ok-addr.addr am.there ∙ am.same ∙ ap (input_signal r.bits) n1 in
+    let a5 : signal b5 c.in_ok-addr.addr ≡ input_signal r.bits 0 =
+    (keeps_trans b2 b3 b5 (ports_keeps b2 b3 p3 x3) (extends_keeps b3 b5 x5)).kept c.in_ok-addr.addr am.there ∙ am.same ∙ ap (input_signal r.bits) n1 in
     let a6 : signal b6 c.in_ok-addr.addr ≡ input_signal r.bits 0 = k26.kept c.in_ok-addr.addr am.there ∙ am.same ∙ ap (input_signal r.bits) n1 in
     let v6 : signal b6 c.in_ok-value.value ≡ input_signal r.width 1 = k36.kept c.in_ok-value.value vm.there ∙ vm.same ∙ ap (input_signal r.width) n2 in
     let t6 : signal b6 r.ticket ≡ signal b1 r.ticket = k16.kept r.ticket s.nets.ticket_there in
     let t5 : signal b5 r.ticket ≡ signal b1 r.ticket = k15.kept r.ticket s.nets.ticket_there in
-    let f6 : step_signals b6 p ≡ driven (input_signal r.bits 0) (input_signal r.width 1) (signal b1 r.ticket) = driven_is b6 p c.in_ok-one.one c.in_ok-zero.zero c.in_ok-addr.addr c.in_ok-value.value r.ticket q.reserves q.writes q.release q.release2 q.squash q.tail driver.one_means.same driver.off_means.same ∙ cc (a6, v6, t6) in
+    let f6 : step_signals b6 p ≡ driven (input_signal r.bits 0) (input_signal r.width 1) (signal b1 r.ticket) =
+    driven_is b6 p c.in_ok-one.one c.in_ok-zero.zero c.in_ok-addr.addr c.in_ok-value.value r.ticket q.reserves q.writes q.release q.release2 q.squash q.tail driver.one_means.same driver.off_means.same
+    ∙ cc (a6, v6, t6) in
     let is_word : look.value ≡ Some word = c.unwrap-word.ensures in
     let there6 = c.in_ok-look.ensures.value.there word is_word in
     let frag7 : IsFragment b0 b7 r = fragment_kept b0 b1 b7 r s.fragment (keeps_trans b1 b6 b7 k16 (but_keeps (own r) b6 b7 x67)) in
     let kept : OwnKept (own r) b7 b8 = own_kept_ports (own r) b7 b7 b8 (output_port b7 c.args.mem.now.name word ∷ []) (own_here b0 b7 r frag7) x78 in
     let G : StepSignals → Type 0 = λ f. StepLaw stands (L.size l) (L.tickets l) (own r) b7 f (signal b7 n.commit) (signal b7 n.addr) (signal b7 n.value) in
-    let H : Signal → Type 0 = λ f. LookLaw stands (L.kind_of l) (L.tickets l) R f (signal b5 r.ticket) (signal b6 look.ready) (option_map (signal b6) look.value) in
-    let I : Signal → Type 0 = λ f. LookLaw stands (L.kind_of l) (L.tickets l) R (input_signal r.bits 0) f (signal b6 look.ready) (option_map (signal b6) look.value) in
-    let J = λ (v : Option Net). LookLaw stands (L.kind_of l) (L.tickets l) R (input_signal r.bits 0) (signal b1 r.ticket) (signal b6 look.ready) (option_map (signal b6) v) in
+    let H : Signal → Type 0 =
+    λ f. LookLaw stands (L.kind_of l) (L.tickets l) R f (signal b5 r.ticket) (signal b6 look.ready) (option_map (signal b6) look.value) in
+    let I : Signal → Type 0 =
+    λ f. LookLaw stands (L.kind_of l) (L.tickets l) R (input_signal r.bits 0) f (signal b6 look.ready) (option_map (signal b6) look.value) in
+    let J =
+    λ (v : Option Net). LookLaw stands (L.kind_of l) (L.tickets l) R (input_signal r.bits 0) (signal b1 r.ticket)
+    (signal b6 look.ready) (option_map (signal b6) v) in
     follows stands (L.kind_of l) (L.size l) (L.tickets l) r.bits r.width r b1 b7 b8 (signal b1 r.ticket) (signal b6 look.ready) (signal b6 word)
     (signal b7 n.commit) (signal b7 n.addr) (signal b7 n.value) word (record {
       some = s.size;
       start = s.start;
       addr_bits = refl;
       has_reg = kept.has_reg;
-      reset = λ k lo hi. x78.reset k (frag7.has_reg k lo hi) ∙ x67.reset k (k16.has_reg k (s.fragment.has_reg k lo hi)) ∙ k16.reset k (s.fragment.has_reg k lo hi);
+      reset =
+          λ k lo hi. x78.reset k (frag7.has_reg k lo hi) ∙ x67.reset k (k16.has_reg k (s.fragment.has_reg k lo hi)) ∙ k16.reset k (s.fragment.has_reg k lo hi);
       tickets = s.ticket;
       look = subst J is_word (subst I t5 (subst H a5 c.in_ok-look.ensures.law));
       steps = subst G f6 c.in_ok-emit_step.ensures.law;

@@ -11,5 +11,6 @@ pub returns-in-Reserve : goal.returns-in-Reserve
 returns-in-Reserve c earlier =
     let s = span_view c.args.place.now.span in
     let bs = map branch_view c.args.place.now.branches in
-    subst (λ (a : Action). IsOwn IsUsed c.args.used earlier (place_at s bs a) → c.args.used.reserved ≡ spec.is_reserved_again earlier (place_at s bs a)) (sym c.in-Reserve.is)
+    subst (λ (a : Action). IsOwn IsUsed c.args.used earlier (place_at s bs a) → c.args.used.reserved ≡ spec.is_reserved_again earlier (place_at s bs a))
+    (sym c.in-Reserve.is)
     (λ own. (own (location_view c.in-Reserve.field-0.now) refl).reserved)

@@ -13,19 +13,22 @@ returns-in-R c earlier =
     let s = span_view c.args.place.now.span in
     let bs = map branch_view c.args.place.now.branches in
     let is = c.in-Reserve.is ∙ ap (Reserve c.in-Reserve.field-0) c.in-R.is in
-    subst (λ (a : Action). IsOwn IsUsedMemory c.args.used earlier (place_at s bs a) → c.args.used.reserved ≡ spec.is_late_read earlier (place_at s bs a)) (sym is)
+    subst (λ (a : Action). IsOwn IsUsedMemory c.args.used earlier (place_at s bs a) → c.args.used.reserved ≡ spec.is_late_read earlier (place_at s bs a))
+    (sym is)
     (λ own. (own (location_view c.in-Reserve.field-0.now) refl).reserved)
 
 pub returns-in-CombRead : goal.returns-in-CombRead
 returns-in-CombRead c earlier =
     let s = span_view c.args.place.now.span in
     let bs = map branch_view c.args.place.now.branches in
-    subst (λ (a : Action). IsOwn IsUsedMemory c.args.used earlier (place_at s bs a) → c.args.used.written ≡ spec.is_late_read earlier (place_at s bs a)) (sym c.in-CombRead.is)
+    subst (λ (a : Action). IsOwn IsUsedMemory c.args.used earlier (place_at s bs a) → c.args.used.written ≡ spec.is_late_read earlier (place_at s bs a))
+    (sym c.in-CombRead.is)
     (λ own. (own (location_view c.in-CombRead.field-1.now) refl).written)
 
 pub returns-in-DelayedRead : goal.returns-in-DelayedRead
 returns-in-DelayedRead c earlier =
     let s = span_view c.args.place.now.span in
     let bs = map branch_view c.args.place.now.branches in
-    subst (λ (a : Action). IsOwn IsUsedMemory c.args.used earlier (place_at s bs a) → c.args.used.written ≡ spec.is_late_read earlier (place_at s bs a)) (sym c.in-DelayedRead.is)
+    subst (λ (a : Action). IsOwn IsUsedMemory c.args.used earlier (place_at s bs a) → c.args.used.written ≡ spec.is_late_read earlier (place_at s bs a))
+    (sym c.in-DelayedRead.is)
     (λ own. (own (location_view c.in-DelayedRead.field-1.now) refl).written)

@@ -15,7 +15,9 @@ returns-in-R c earlier =
     let s = span_view c.args.place.now.span in
     let bs = map branch_view c.args.place.now.branches in
     let is = c.in-Reserve.is ∙ ap (Reserve c.in-Reserve.field-0) c.in-R.is in
-    subst (λ (a : Action). IsOwn IsUsedMemory c.args.used earlier (place_at s bs a) → nat_le 4 c.args.used.reads ≡ spec.is_one_too_many earlier (place_at s bs a)) (sym is)
+    subst
+    (λ (a : Action). IsOwn IsUsedMemory c.args.used earlier (place_at s bs a) → nat_le 4 c.args.used.reads ≡ spec.is_one_too_many earlier (place_at s bs a))
+    (sym is)
     (λ own. up_to_four _ _ (own (location_view c.in-Reserve.field-0.now) refl).reads)
 
 pub returns-in-W : goal.returns-in-W
@@ -24,5 +26,6 @@ returns-in-W c earlier =
     let bs = map branch_view c.args.place.now.branches in
     let at = location_view c.in-Reserve.field-0.now in
     let is = c.in-Reserve.is ∙ ap (Reserve c.in-Reserve.field-0) c.in-W.is in
-    subst (λ (a : Action). IsOwn IsUsedMemory c.args.used earlier (place_at s bs a) → c.args.used.reserved ≡ spec.is_one_too_many earlier (place_at s bs a)) (sym is)
+    subst (λ (a : Action). IsOwn IsUsedMemory c.args.used earlier (place_at s bs a) → c.args.used.reserved ≡ spec.is_one_too_many earlier (place_at s bs a))
+    (sym is)
     (λ own. (own at refl).reserved ∙ any_counted (spec.is_reserve_of W at.mem.name) earlier)

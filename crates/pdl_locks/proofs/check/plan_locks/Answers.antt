@@ -16,7 +16,8 @@ returns-in_err-refuse-2 c =
     let e = err_from_is_err_and c.from_residual-in_err-refuse-2.result c.from_residual-in_err-refuse-2.ensures.1 in
     rw (e.1, e.2) (
     later L1 after_l1 p _ _ c.in_ok-refuse.ensures c.requires.lines.held (
-    told L2 after_l2 p _ _ c.in_err-refuse-2.ensures (c.astray_line.ensures ∙ ap (line_where (is_astray Locks) []) c.requires.of ∙ rule_lines L2 p [] (places p))))
+    told L2 after_l2 p _ _ c.in_err-refuse-2.ensures
+    (c.astray_line.ensures ∙ ap (line_where (is_astray Locks) []) c.requires.of ∙ rule_lines L2 p [] (places p))))
 
 pub returns-in_err-refuse-3 : goal.returns-in_err-refuse-3
 returns-in_err-refuse-3 c =
@@ -24,7 +25,9 @@ returns-in_err-refuse-3 c =
     let e = err_from_is_err_and c.from_residual-in_err-refuse-3.result c.from_residual-in_err-refuse-3.ensures.1 in
     rw (e.1, e.2) (
     later L1 after_l1 p _ _ c.in_ok-refuse.ensures c.requires.lines.held (
-    later L2 after_l2 p _ _ c.in_ok-refuse-2.ensures (c.astray_line.ensures ∙ ap (line_where (is_astray Locks) []) c.requires.of ∙ rule_lines L2 p [] (places p)) (
+    later L2 after_l2 p _ _ c.in_ok-refuse-2.ensures
+    (c.astray_line.ensures ∙ ap (line_where (is_astray Locks) []) c.requires.of ∙ rule_lines L2 p [] (places p))
+    (
     told L3 after_l3 p _ _ c.in_err-refuse-3.ensures c.requires.lines.read_first)))
 
 pub returns-in_err-refuse-4 : goal.returns-in_err-refuse-4
@@ -33,7 +36,9 @@ returns-in_err-refuse-4 c =
     let e = err_from_is_err_and c.from_residual-in_err-refuse-4.result c.from_residual-in_err-refuse-4.ensures.1 in
     rw (e.1, e.2) (
     later L1 after_l1 p _ _ c.in_ok-refuse.ensures c.requires.lines.held (
-    later L2 after_l2 p _ _ c.in_ok-refuse-2.ensures (c.astray_line.ensures ∙ ap (line_where (is_astray Locks) []) c.requires.of ∙ rule_lines L2 p [] (places p)) (
+    later L2 after_l2 p _ _ c.in_ok-refuse-2.ensures
+    (c.astray_line.ensures ∙ ap (line_where (is_astray Locks) []) c.requires.of ∙ rule_lines L2 p [] (places p))
+    (
     later L3 after_l3 p _ _ c.in_ok-refuse-3.ensures c.requires.lines.read_first (
     told L4 after_l4 p _ _ c.in_err-refuse-4.ensures c.requires.lines.few_reserves))))
 
@@ -43,7 +48,9 @@ returns-in_err-refuse-5 c =
     let e = err_from_is_err_and c.from_residual-in_err-refuse-5.result c.from_residual-in_err-refuse-5.ensures.1 in
     rw (e.1, e.2) (
     later L1 after_l1 p _ _ c.in_ok-refuse.ensures c.requires.lines.held (
-    later L2 after_l2 p _ _ c.in_ok-refuse-2.ensures (c.astray_line.ensures ∙ ap (line_where (is_astray Locks) []) c.requires.of ∙ rule_lines L2 p [] (places p)) (
+    later L2 after_l2 p _ _ c.in_ok-refuse-2.ensures
+    (c.astray_line.ensures ∙ ap (line_where (is_astray Locks) []) c.requires.of ∙ rule_lines L2 p [] (places p))
+    (
     later L3 after_l3 p _ _ c.in_ok-refuse-3.ensures c.requires.lines.read_first (
     later L4 after_l4 p _ _ c.in_ok-refuse-4.ensures c.requires.lines.few_reserves (
     told L5 after_l5 p _ _ c.in_err-refuse-5.ensures c.requires.lines.reserved_once)))))
@@ -54,7 +61,9 @@ returns-in_err-refuse-6 c =
     let e = err_from_is_err_and c.from_residual-in_err-refuse-6.result c.from_residual-in_err-refuse-6.ensures.1 in
     rw (e.1, e.2) (
     later L1 after_l1 p _ _ c.in_ok-refuse.ensures c.requires.lines.held (
-    later L2 after_l2 p _ _ c.in_ok-refuse-2.ensures (c.astray_line.ensures ∙ ap (line_where (is_astray Locks) []) c.requires.of ∙ rule_lines L2 p [] (places p)) (
+    later L2 after_l2 p _ _ c.in_ok-refuse-2.ensures
+    (c.astray_line.ensures ∙ ap (line_where (is_astray Locks) []) c.requires.of ∙ rule_lines L2 p [] (places p))
+    (
     later L3 after_l3 p _ _ c.in_ok-refuse-3.ensures c.requires.lines.read_first (
     later L4 after_l4 p _ _ c.in_ok-refuse-4.ensures c.requires.lines.few_reserves (
     later L5 after_l5 p _ _ c.in_ok-refuse-5.ensures c.requires.lines.reserved_once (
@@ -66,7 +75,9 @@ returns-in_err-refuse-7 c =
     let e = err_from_is_err_and c.from_residual-in_err-refuse-7.result c.from_residual-in_err-refuse-7.ensures.1 in
     rw (e.1, e.2) (
     later L1 after_l1 p _ _ c.in_ok-refuse.ensures c.requires.lines.held (
-    later L2 after_l2 p _ _ c.in_ok-refuse-2.ensures (c.astray_line.ensures ∙ ap (line_where (is_astray Locks) []) c.requires.of ∙ rule_lines L2 p [] (places p)) (
+    later L2 after_l2 p _ _ c.in_ok-refuse-2.ensures
+    (c.astray_line.ensures ∙ ap (line_where (is_astray Locks) []) c.requires.of ∙ rule_lines L2 p [] (places p))
+    (
     later L3 after_l3 p _ _ c.in_ok-refuse-3.ensures c.requires.lines.read_first (
     later L4 after_l4 p _ _ c.in_ok-refuse-4.ensures c.requires.lines.few_reserves (
     later L5 after_l5 p _ _ c.in_ok-refuse-5.ensures c.requires.lines.reserved_once (
@@ -79,7 +90,9 @@ returns-in_err-refuse-8 c =
     let e = err_from_is_err_and c.from_residual-in_err-refuse-8.result c.from_residual-in_err-refuse-8.ensures.1 in
     rw (e.1, e.2) (
     later L1 after_l1 p _ _ c.in_ok-refuse.ensures c.requires.lines.held (
-    later L2 after_l2 p _ _ c.in_ok-refuse-2.ensures (c.astray_line.ensures ∙ ap (line_where (is_astray Locks) []) c.requires.of ∙ rule_lines L2 p [] (places p)) (
+    later L2 after_l2 p _ _ c.in_ok-refuse-2.ensures
+    (c.astray_line.ensures ∙ ap (line_where (is_astray Locks) []) c.requires.of ∙ rule_lines L2 p [] (places p))
+    (
     later L3 after_l3 p _ _ c.in_ok-refuse-3.ensures c.requires.lines.read_first (
     later L4 after_l4 p _ _ c.in_ok-refuse-4.ensures c.requires.lines.few_reserves (
     later L5 after_l5 p _ _ c.in_ok-refuse-5.ensures c.requires.lines.reserved_once (
@@ -91,7 +104,9 @@ pub returns : goal.returns
 returns c =
     let p = pipe_view c.args.pipe.now in (
       none_more L1 after_l1 p _ c.in_ok-refuse.ensures c.requires.lines.held (
-          none_more L2 after_l2 p _ c.in_ok-refuse-2.ensures (c.astray_line.ensures ∙ ap (line_where (is_astray Locks) []) c.requires.of ∙ rule_lines L2 p [] (places p)) (
+          none_more L2 after_l2 p _ c.in_ok-refuse-2.ensures
+          (c.astray_line.ensures ∙ ap (line_where (is_astray Locks) []) c.requires.of ∙ rule_lines L2 p [] (places p))
+          (
           none_more L3 after_l3 p _ c.in_ok-refuse-3.ensures c.requires.lines.read_first (
           none_more L4 after_l4 p _ c.in_ok-refuse-4.ensures c.requires.lines.few_reserves (
           none_more L5 after_l5 p _ c.in_ok-refuse-5.ensures c.requires.lines.reserved_once (

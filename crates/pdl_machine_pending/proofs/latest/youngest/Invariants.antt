@@ -6,4 +6,6 @@ use Rattle.pdl_machine_pending.proofs.latest.youngest.Given as goal
 
 -- what is left finds the same as all
 abbrev pub invariant-loop-entry : goal.invariant-loop-entry
-invariant-loop-entry l = machine.youngest (map pending_view (drop l.entry-index l.pending)) l.thread l.address (latest_view l.found) ≡ machine.youngest (map pending_view l.pending) l.thread l.address Nothing
+invariant-loop-entry l =
+    machine.youngest (map pending_view (drop l.entry-index l.pending)) l.thread l.address (latest_view l.found)
+    ≡ machine.youngest (map pending_view l.pending) l.thread l.address Nothing

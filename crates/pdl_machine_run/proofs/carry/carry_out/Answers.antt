@@ -18,7 +18,8 @@ run_stage-requires-clause-fit c =
     let n = c.in-Some.thread in
     let t : Thread = thread_of n c.args.stage.now.slot in
     let fine : IsFine f t = subst (λ (o : Option ℕ). IfSome (thread_if o c.args.stage.now.slot) (IsFine f)) c.in-Some.is c.requires.fine in
-    let after : IsFine f (thread_of n c.give_answers.new.slot) = subst (IsFine f) (sym c.give_answers.ensures.thread) (answers_fine f b c.args.replies.now c.requires.memories t fine) in
+    let after : IsFine f (thread_of n c.give_answers.new.slot) =
+    subst (IsFine f) (sym c.give_answers.ensures.thread) (answers_fine f b c.args.replies.now c.requires.memories t fine) in
     subst (AreFit f) (sym (c.begin.ensures.deeds n)) (begun_fit f c.args.k (thread_of n c.give_answers.new.slot) after)
 
 pub run_stage-requires-clause-room : goal.run_stage-requires-clause-room
@@ -38,9 +39,16 @@ returns-in-Some-clause-carried c =
     let fine : IsFine f t = subst (λ (o : Option ℕ). IfSome (thread_if o c.args.stage.now.slot) (IsFine f)) c.in-Some.is c.requires.fine in
     let stood : thread_in c.args.stage.now.slot ≡ Some t = ap (λ (o : Option ℕ). thread_if o c.args.stage.now.slot) c.in-Some.is in
     let stands : thread_in c.give_answers.new.slot ≡ Some u =
-    ap (λ (o : Option ℕ). thread_if o c.give_answers.new.slot) (c.give_answers.ensures.number ∙ c.in-Some.is) ∙ ap (λ (v : Thread). Some v) c.give_answers.ensures.thread in
+    ap (λ (o : Option ℕ). thread_if o c.give_answers.new.slot) (c.give_answers.ensures.number ∙ c.in-Some.is)
+    ∙ ap (λ (v : Thread). Some v) c.give_answers.ensures.thread in
     let begun : deeds_view c.begin.new.self ≡ before_stage f.pipe k u = c.begin.ensures.deeds n ∙ ap (before_stage f.pipe k) c.give_answers.ensures.thread in
-    let done = c.run_stage.ensures.deeds ∙ carried_deeds f.pipe b c.as_slice.result.now n k u (deeds_view c.begin.new.self) c.as_slice.ensures.value (ap (λ (v : Thread). v.number) (sym c.give_answers.ensures.thread)) begun in
+    let done =
+    c.run_stage.ensures.deeds
+    ∙ carried_deeds f.pipe b c.as_slice.result.now n k u (deeds_view c.begin.new.self) c.as_slice.ensures.value
+    (ap (λ (v : Thread). v.number) (sym c.give_answers.ensures.thread)) begun in
     let all : IsCarried f b bits k (Some t) (record { slot = c.give_answers.new.slot; deeds = c.run_stage.new.deeds; moves = c.args.stage.now.moves }) =
     (stands, done, answers_fine f b bits c.requires.memories t fine, c.run_stage.ensures.fit) in
-    subst (λ (o : Option Thread). IsCarried f b bits k o (record { slot = c.give_answers.new.slot; deeds = c.run_stage.new.deeds; moves = c.args.stage.now.moves })) (sym stood) all
+    subst
+    (λ (o : Option Thread). IsCarried f b bits k o
+    (record { slot = c.give_answers.new.slot; deeds = c.run_stage.new.deeds; moves = c.args.stage.now.moves }))
+    (sym stood) all

@@ -48,7 +48,8 @@ step_beside-requires-clause-room c =
     turn_of f c.requires.run b bits next ys c.carry_out_all.new.stages zs c.requires.ready c.requires.beside c.requires.reached c.carry_out_all.auto.stages c.decide.auto.stages c.carry_out_all.ensures.carried c.carry_out_all.ensures.wide c.decide.ensures.slots c.decide.ensures.deeds c.decide.ensures.decided in
     let ms = acts_of 0 zs in
     let empty : c.clear.new.self.items ≡ [] = c.clear.ensures.items in
-    let first : c.show_stages.new.shown.items ≡ stage_values (are_held zs) (are_moving zs) = c.show_stages.ensures.shown ∙ ap (λ (vs : List ℕ). vs ++ stage_values (are_held zs) (are_moving zs)) empty in
+    let first : c.show_stages.new.shown.items ≡ stage_values (are_held zs) (are_moving zs) =
+    c.show_stages.ensures.shown ∙ ap (λ (vs : List ℕ). vs ++ stage_values (are_held zs) (are_moving zs)) empty in
     let many = ap (λ (vs : List ℕ). length vs) first in
     let all = stages_shown zs in
     let held = c.show_stages.new.shown.ok.0 in
@@ -70,8 +71,10 @@ show_end-requires c =
     turn_of f c.requires.run b bits next ys c.carry_out_all.new.stages zs c.requires.ready c.requires.beside c.requires.reached c.carry_out_all.auto.stages c.decide.auto.stages c.carry_out_all.ensures.carried c.carry_out_all.ensures.wide c.decide.ensures.slots c.decide.ensures.deeds c.decide.ensures.decided in
     let ms = acts_of 0 zs in
     let empty : c.clear.new.self.items ≡ [] = c.clear.ensures.items in
-    let first : c.show_stages.new.shown.items ≡ stage_values (are_held zs) (are_moving zs) = c.show_stages.ensures.shown ∙ ap (λ (vs : List ℕ). vs ++ stage_values (are_held zs) (are_moving zs)) empty in
-    let second : c.step_beside.new.shown.items ≡ stage_values (are_held zs) (are_moving zs) ++ (commits_shown 0 ms b.memories.items ++ requests_shown 0 ms f.pipe.mems) =
+    let first : c.show_stages.new.shown.items ≡ stage_values (are_held zs) (are_moving zs) =
+    c.show_stages.ensures.shown ∙ ap (λ (vs : List ℕ). vs ++ stage_values (are_held zs) (are_moving zs)) empty in
+    let second : c.step_beside.new.shown.items
+    ≡ stage_values (are_held zs) (are_moving zs) ++ (commits_shown 0 ms b.memories.items ++ requests_shown 0 ms f.pipe.mems) =
     c.step_beside.ensures.shown ∙ ap (λ (vs : List ℕ). vs ++ (commits_shown 0 ms b.memories.items ++ requests_shown 0 ms f.pipe.mems)) first in
     let many = ap (λ (vs : List ℕ). length vs) second in
     let all = stages_shown zs in
@@ -125,8 +128,10 @@ returns-clause-state c =
     let sq = c.squasher-squasher.result in
     let squashed = c.squasher-squasher.ensures in
     let way = c.args.way.now in
-    let born : thread_in c.call-called.new.place ≡ stated.born_thread f.pipe next (stated.child_of (acts_of 0 zs)) = c.call-called.ensures.thread f.pipe (t.run.typed.vars ∙ sym c.requires.ahead.count) in
-    turn_state f b bits next ys zs t sq squashed c.step_stages.new.stages (thread_in c.call-called.new.place) born c.step_stages.auto.stages c.step_stages.ensures.threads c.step_beside.new.beside c.step_beside.ensures.memories c.step_beside.ensures.orders c.step_beside.ensures.requests c.call-called.result c.call-called.ensures.called
+    let born : thread_in c.call-called.new.place ≡ stated.born_thread f.pipe next (stated.child_of (acts_of 0 zs)) =
+    c.call-called.ensures.thread f.pipe (t.run.typed.vars ∙ sym c.requires.ahead.count) in
+    turn_state f b bits next ys zs t sq squashed c.step_stages.new.stages
+    (thread_in c.call-called.new.place) born c.step_stages.auto.stages c.step_stages.ensures.threads c.step_beside.new.beside c.step_beside.ensures.memories c.step_beside.ensures.orders c.step_beside.ensures.requests c.call-called.result c.call-called.ensures.called
 
 pub returns-clause-ports : goal.returns-clause-ports
 returns-clause-ports c =
@@ -142,13 +147,18 @@ returns-clause-ports c =
     let squashed = c.squasher-squasher.ensures in
     let ms = acts_of 0 zs in
     let empty : c.clear.new.self.items ≡ [] = c.clear.ensures.items in
-    let first : c.show_stages.new.shown.items ≡ stage_values (are_held zs) (are_moving zs) = c.show_stages.ensures.shown ∙ ap (λ (vs : List ℕ). vs ++ stage_values (are_held zs) (are_moving zs)) empty in
-    let second : c.step_beside.new.shown.items ≡ stage_values (are_held zs) (are_moving zs) ++ (commits_shown 0 ms b.memories.items ++ requests_shown 0 ms f.pipe.mems) =
+    let first : c.show_stages.new.shown.items ≡ stage_values (are_held zs) (are_moving zs) =
+    c.show_stages.ensures.shown ∙ ap (λ (vs : List ℕ). vs ++ stage_values (are_held zs) (are_moving zs)) empty in
+    let second : c.step_beside.new.shown.items
+    ≡ stage_values (are_held zs) (are_moving zs) ++ (commits_shown 0 ms b.memories.items ++ requests_shown 0 ms f.pipe.mems) =
     c.step_beside.ensures.shown ∙ ap (λ (vs : List ℕ). vs ++ (commits_shown 0 ms b.memories.items ++ requests_shown 0 ms f.pipe.mems)) first in
     let ended = bit (one_ends f.pipe ms) in
-    let last : c.show_end.new.shown.items ≡ (stage_values (are_held zs) (are_moving zs) ++ (commits_shown 0 ms b.memories.items ++ requests_shown 0 ms f.pipe.mems)) ++ ended ∷ bit (is_some sq) ∷ [] =
+    let last : c.show_end.new.shown.items
+    ≡ (stage_values (are_held zs) (are_moving zs) ++ (commits_shown 0 ms b.memories.items ++ requests_shown 0 ms f.pipe.mems))
+    ++ ended ∷ bit (is_some sq) ∷ [] =
     c.show_end.ensures.shown ∙ ap₂ (λ (vs : List ℕ) (s : Bool). vs ++ ended ∷ bit s ∷ []) second c.is_some.ensures in
-    shown_all (stage_values (are_held zs) (are_moving zs)) (commits_shown 0 ms b.memories.items) (requests_shown 0 ms f.pipe.mems) (ended ∷ bit (is_some sq) ∷ []) c.show_end.new.shown.items last
+    shown_all (stage_values (are_held zs) (are_moving zs)) (commits_shown 0 ms b.memories.items)
+    (requests_shown 0 ms f.pipe.mems) (ended ∷ bit (is_some sq) ∷ []) c.show_end.new.shown.items last
     ∙ turn_ports f b bits next ys zs t sq squashed
 
 pub returns-clause-ready : goal.returns-clause-ready
@@ -164,8 +174,11 @@ returns-clause-ready c =
     let sq = c.squasher-squasher.result in
     let squashed = c.squasher-squasher.ensures in
     let way = c.args.way.now in
-    let born : thread_in c.call-called.new.place ≡ stated.born_thread f.pipe next (stated.child_of (acts_of 0 zs)) = c.call-called.ensures.thread f.pipe (t.run.typed.vars ∙ sym c.requires.ahead.count) in
-    turn_ready f b bits next ys zs t sq squashed c.step_stages.new.stages (thread_in c.call-called.new.place) born c.step_stages.auto.stages c.step_stages.ensures.threads (c.step_stages.ensures.wide f t.wide (c.call-called.ensures.wide f c.requires.ahead))
+    let born : thread_in c.call-called.new.place ≡ stated.born_thread f.pipe next (stated.child_of (acts_of 0 zs)) =
+    c.call-called.ensures.thread f.pipe (t.run.typed.vars ∙ sym c.requires.ahead.count) in
+    turn_ready f b bits next ys zs t sq squashed c.step_stages.new.stages
+    (thread_in c.call-called.new.place) born c.step_stages.auto.stages c.step_stages.ensures.threads
+    (c.step_stages.ensures.wide f t.wide (c.call-called.ensures.wide f c.requires.ahead))
 
 pub returns-clause-ahead : goal.returns-clause-ahead
 returns-clause-ahead c =
@@ -192,5 +205,8 @@ returns-clause-beside c =
     let sq = c.squasher-squasher.result in
     let squashed = c.squasher-squasher.ensures in
     let way = c.args.way.now in
-    let born : thread_in c.call-called.new.place ≡ stated.born_thread f.pipe next (stated.child_of (acts_of 0 zs)) = c.call-called.ensures.thread f.pipe (t.run.typed.vars ∙ sym c.requires.ahead.count) in
-    turn_beside f b bits next ys zs t sq squashed c.step_stages.new.stages (thread_in c.call-called.new.place) born c.step_stages.auto.stages c.step_stages.ensures.threads c.step_beside.new.beside c.step_beside.ensures.memories c.step_beside.ensures.orders c.step_beside.ensures.requests (c.step_beside.ensures.long (length f.pipe.stages) t.beside.long)
+    let born : thread_in c.call-called.new.place ≡ stated.born_thread f.pipe next (stated.child_of (acts_of 0 zs)) =
+    c.call-called.ensures.thread f.pipe (t.run.typed.vars ∙ sym c.requires.ahead.count) in
+    turn_beside f b bits next ys zs t sq squashed c.step_stages.new.stages
+    (thread_in c.call-called.new.place) born c.step_stages.auto.stages c.step_stages.ensures.threads c.step_beside.new.beside c.step_beside.ensures.memories c.step_beside.ensures.orders c.step_beside.ensures.requests
+    (c.step_beside.ensures.long (length f.pipe.stages) t.beside.long)

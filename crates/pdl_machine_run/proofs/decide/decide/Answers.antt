@@ -19,7 +19,9 @@ loop-k-preserved c =
     record {
       small = omega arith;
       count = long ∙ c.loop-k.invariant.count;
-      done = decided_more (form c.args.pipe.now).pipe c.args.beside.now c.args.replies.now now j c.loop-k.k m d less next (c.may_move-moves.ensures d) c.loop-k.invariant.done;
+      done =
+          decided_more (form c.args.pipe.now).pipe c.args.beside.now c.args.replies.now now j c.loop-k.k m d less next
+          (c.may_move-moves.ensures d) c.loop-k.invariant.done;
       slots = map_set (λ (x : r_stage.Stage). x.slot) now j y d less refl ∙ c.loop-k.invariant.slots;
       deeds = map_set (λ (x : r_stage.Stage). x.deeds) now j y d less refl ∙ c.loop-k.invariant.deeds;
     }

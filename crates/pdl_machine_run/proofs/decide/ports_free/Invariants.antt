@@ -10,4 +10,12 @@ use Rattle.pdl_machine_run.proofs.decide.ports_free.Given as goal
 
 -- the delayed reads left decide
 abbrev pub invariant-loop-ask : goal.invariant-loop-ask
-invariant-loop-ask l = list_all (λ (q : machine.Ask). moves.is_free (machine.request_of (outside l.beside) q.mem) (machine.is_answered (form l.pipe).pipe l.replies q.mem) (all_of l.first (drop l.first l.stages))) (map ask_view (drop l.ask-index l.asks)) ≡ list_all (λ (q : machine.Ask). moves.is_free (machine.request_of (outside l.beside) q.mem) (machine.is_answered (form l.pipe).pipe l.replies q.mem) (all_of l.first (drop l.first l.stages))) (map ask_view (l.asks))
+invariant-loop-ask l =
+    list_all
+    (λ (q : machine.Ask). moves.is_free (machine.request_of (outside l.beside) q.mem)
+    (machine.is_answered (form l.pipe).pipe l.replies q.mem) (all_of l.first (drop l.first l.stages)))
+    (map ask_view (drop l.ask-index l.asks))
+    ≡ list_all
+    (λ (q : machine.Ask). moves.is_free (machine.request_of (outside l.beside) q.mem)
+    (machine.is_answered (form l.pipe).pipe l.replies q.mem) (all_of l.first (drop l.first l.stages)))
+    (map ask_view (l.asks))

@@ -18,13 +18,16 @@ loop-k-preserved c =
     let long = c.loop-k.invariant.count in
     let same = c.pass.auto.stages in
     let less : j < length init = omega arith in
-    let done : (q : ℕ) (d : r_stage.Stage) → j + 1 ≤ q → q < length now → thread_in (get_or now q d).slot ≡ next_thread p q (all_of (j + 1) (drop (j + 1) init)) =
+    let done : (q : ℕ) (d : r_stage.Stage) → j + 1 ≤ q → q < length now
+    → thread_in (get_or now q d).slot ≡ next_thread p q (all_of (j + 1) (drop (j + 1) init)) =
     λ q d low high. c.loop-k.invariant.done q d (omega (arith, low, next)) high ∙ ap (λ i. next_thread p q (all_of i (drop i init))) next in
     let left : (i : ℕ) (d : r_stage.Stage) → i < j + 1 → get_or now i d ≡ get_or init i d = λ i d low. c.loop-k.invariant.left i d (omega (arith, low, next)) in
     record {
       small = omega arith;
       count = omega arith;
-      done = λ q d low high. moved p c.requires.leads j init now new less c.requires.count long left done c.pass.ensures.there c.pass.ensures.here q d low (omega (arith, high, same));
+      done =
+          λ q d low high. moved p c.requires.leads j init now new less c.requires.count long left done c.pass.ensures.there c.pass.ensures.here q d low
+          (omega (arith, high, same));
       left = λ q d low. c.pass.ensures.before q d low ∙ left q d (omega (arith, low));
       wide = λ f h. c.pass.ensures.wide f (c.loop-k.invariant.wide f h);
     }

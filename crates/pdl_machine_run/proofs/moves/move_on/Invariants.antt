@@ -14,7 +14,8 @@ invariant-loop-k l =
     record {
       small : l.k ≤ length l.stages;
       count : length l.stages ≡ length l.initial.stages;
-      done : (q : ℕ) (d : r_stage.Stage) → l.k ≤ q → q < length l.stages → thread_in (get_or l.stages q d).slot ≡ stated.next_thread (form l.pipe).pipe q (all_of l.k (drop l.k l.initial.stages));
+      done : (q : ℕ) (d : r_stage.Stage) → l.k ≤ q → q < length l.stages
+          → thread_in (get_or l.stages q d).slot ≡ stated.next_thread (form l.pipe).pipe q (all_of l.k (drop l.k l.initial.stages));
       left : (q : ℕ) (d : r_stage.Stage) → q < l.k → get_or l.stages q d ≡ get_or l.initial.stages q d;
       wide : (f : Form) → AreStages f l.initial.stages → AreStages f l.stages;
     }

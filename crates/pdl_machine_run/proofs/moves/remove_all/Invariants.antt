@@ -10,7 +10,8 @@ use Rattle.pdl_machine_run.proofs.moves.remove_all.Given as goal
 abbrev pub invariant-loop-k : goal.invariant-loop-k
 invariant-loop-k l =
     record {
-      done : (q : ℕ) (d : r_stage.Stage) → q < l.k → thread_in (get_or l.stages q d).slot ≡ stated.if_kept l.squasher (thread_in (get_or l.initial.stages q d).slot);
+      done : (q : ℕ) (d : r_stage.Stage) → q < l.k
+          → thread_in (get_or l.stages q d).slot ≡ stated.if_kept l.squasher (thread_in (get_or l.initial.stages q d).slot);
       left : (q : ℕ) (d : r_stage.Stage) → l.k ≤ q → get_or l.stages q d ≡ get_or l.initial.stages q d;
       wide : (f : Form) → AreStages f l.initial.stages → AreStages f l.stages;
     }

@@ -12,7 +12,8 @@ enter-requires c =
     let zs = c.args.stages.now in
     let x = c.index-stages-f.result in
     let old = c.args.branches.now.items in
-    let one : listed c.entered.result ≡ stated.entered_branches p c.args.f (acts_of 0 zs) = c.entered.ensures ∙ sym (entered_here p c.args.f zs x c.requires.stage c.index-stages-f.is) in
+    let one : listed c.entered.result ≡ stated.entered_branches p c.args.f (acts_of 0 zs) =
+    c.entered.ensures ∙ sym (entered_here p c.args.f zs x c.requires.stage c.index-stages-f.is) in
     let left : c.leave_first.new.branches.items ≡ (if stated.has_left p c.args.f (acts_of 0 zs) then stated.but_first old else old) =
     c.leave_first.ensures.branches ∙ ap (λ b. if b then stated.but_first old else old) c.has_left.ensures in
     let whole = ap (λ (bs : List Bool). length bs) (ap₂ (λ (a b : List Bool). a ++ b) left one) in
@@ -28,7 +29,8 @@ returns-clause-branches c =
     let zs = c.args.stages.now in
     let x = c.index-stages-f.result in
     let old = c.args.branches.now.items in
-    let one : listed c.entered.result ≡ stated.entered_branches p c.args.f (acts_of 0 zs) = c.entered.ensures ∙ sym (entered_here p c.args.f zs x c.requires.stage c.index-stages-f.is) in
+    let one : listed c.entered.result ≡ stated.entered_branches p c.args.f (acts_of 0 zs) =
+    c.entered.ensures ∙ sym (entered_here p c.args.f zs x c.requires.stage c.index-stages-f.is) in
     let left : c.leave_first.new.branches.items ≡ (if stated.has_left p c.args.f (acts_of 0 zs) then stated.but_first old else old) =
     c.leave_first.ensures.branches ∙ ap (λ b. if b then stated.but_first old else old) c.has_left.ensures in
     c.enter.ensures.branches ∙ ap₂ (λ (a b : List Bool). a ++ b) left one

@@ -9,7 +9,8 @@ use Rattle.pdl_machine_run.proofs.requests.show_requests.Given as goal
 abbrev pub invariant-loop-m : goal.invariant-loop-m
 invariant-loop-m l =
     record {
-      shown : l.shown.items ++ requests_shown l.m (acts_of 0 l.stages) (mems_view (drop l.m l.mems)) ≡ l.initial.shown.items ++ requests_shown 0 (acts_of 0 l.stages) (mems_view l.mems);
+      shown : l.shown.items ++ requests_shown l.m (acts_of 0 l.stages) (mems_view (drop l.m l.mems))
+          ≡ l.initial.shown.items ++ requests_shown 0 (acts_of 0 l.stages) (mems_view l.mems);
       room : vec_len l.shown + 2 * (length l.mems - l.m) ≤ vec_capacity l.shown;
       capacity : vec_capacity l.shown ≡ vec_capacity l.initial.shown;
     }

@@ -6,4 +6,6 @@ use Rattle.pdl_machine_run.proofs.requests.waits.Given as goal
 
 -- the requests left decide
 abbrev pub invariant-loop-m : goal.invariant-loop-m
-invariant-loop-m l = stated.waits_from (form l.pipe).pipe l.replies l.m (map request_view (drop l.m l.requests)) ≡ stated.waits_from (form l.pipe).pipe l.replies 0 (map request_view l.requests)
+invariant-loop-m l =
+    stated.waits_from (form l.pipe).pipe l.replies l.m (map request_view (drop l.m l.requests))
+    ≡ stated.waits_from (form l.pipe).pipe l.replies 0 (map request_view l.requests)

@@ -13,5 +13,9 @@ reserve_stage-requires c i =
     let here : j < length xs = omega arith in
     let next : j + 1 ≡ c.loop-k.k = omega arith in
     let room = room_here c.args.m i j xs x x c.args.memory.now.pending c.args.memory.now.capacity here c.index-stages-k.is c.requires.room in
-    let at = subst (λ k. length (stated.with_reserves c.args.m (act_of i (mover_of x) x) (stated.with_reserves c.args.m (acts_of k (drop k xs)) c.args.memory.now.pending)) ≤ c.args.memory.now.capacity) next room in
+    let at =
+    subst
+    (λ k. length
+    (stated.with_reserves c.args.m (act_of i (mover_of x) x)
+    (stated.with_reserves c.args.m (acts_of k (drop k xs)) c.args.memory.now.pending)) ≤ c.args.memory.now.capacity) next room in
     subst (λ (y : Memory). length (stated.with_reserves c.args.m (act_of i (mover_of x) x) y.pending) ≤ y.capacity) (sym c.loop-k.invariant.done) at

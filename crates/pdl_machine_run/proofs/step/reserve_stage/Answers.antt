@@ -12,8 +12,10 @@ reserve-requires c =
     let p = c.args.memory.now in
     let all : length (stated.with_reserves c.args.m (act_of 0 (Some c.in-Some.thread) x) p.pending) ≤ p.capacity =
     subst (λ (o : Option ℕ). length (stated.with_reserves c.args.m (act_of 0 o x) p.pending) ≤ p.capacity) (sym c.in-Some.ensures) (c.requires 0) in
-    let same : map reserved_view c.as_slice.result.now ≡ map reserved_view x.deeds.reserves.items = ap (λ (rs : List r_reserved.Reserved). map reserved_view rs) c.as_slice.ensures.value in
+    let same : map reserved_view c.as_slice.result.now ≡ map reserved_view x.deeds.reserves.items =
+    ap (λ (rs : List r_reserved.Reserved). map reserved_view rs) c.as_slice.ensures.value in
     let es = stated.new_entries c.args.m c.in-Some.thread in
-    let long : length (es (map reserved_view c.as_slice.result.now)) ≡ length (es (map reserved_view x.deeds.reserves.items)) = ap (λ (rs : List Reserved). length (es rs)) same in
+    let long : length (es (map reserved_view c.as_slice.result.now)) ≡ length (es (map reserved_view x.deeds.reserves.items)) =
+    ap (λ (rs : List Reserved). length (es rs)) same in
     let sum = length-append p.pending (es (map reserved_view x.deeds.reserves.items)) in
     omega arith

@@ -16,9 +16,11 @@ pub run_stmt-requires-clause-safe : goal.run_stmt-requires-clause-safe
 run_stmt-requires-clause-safe c on =
     let f = form c.args.pipe.now in
     let x = c.index-stmts-row.result in
-    let typed = row_typed f c.stmts-stmts.result.now c.stmts-stmts.ensures c.requires.typed.stmts c.rows-row-items.result.now c.rows-row-items.ensures.within c.loop-row.row-index c.loop-row-test.true x c.index-stmts-row.is in
+    let typed =
+    row_typed f c.stmts-stmts.result.now c.stmts-stmts.ensures c.requires.typed.stmts c.rows-row-items.result.now c.rows-row-items.ensures.within c.loop-row.row-index c.loop-row-test.true x c.index-stmts-row.is in
     let large = subst (IsLarge 0 (length f.pipe.start)) (sym c.loop-row.invariant.capacities) c.requires.large in
-    safe_op f c.requires.typed.wide c.args.memories.now c.requires.memories (stmt_view x).op (deeds_view c.loop-row.deeds) _ 0 typed c.loop-row.invariant.fit large
+    safe_op f c.requires.typed.wide c.args.memories.now c.requires.memories (stmt_view x).op
+    (deeds_view c.loop-row.deeds) _ 0 typed c.loop-row.invariant.fit large
 
 pub loop-row-preserved : goal.loop-row-preserved
 loop-row-preserved c =
@@ -31,8 +33,10 @@ loop-row-preserved c =
     let old = deeds_view c.loop-row.deeds in
     let new = deeds_view c.run_stmt.new.deeds in
     let rest = map (stmt_at f.pipe.stmts) (drop (j + 1) rows) in
-    let typed = row_typed f c.stmts-stmts.result.now c.stmts-stmts.ensures c.requires.typed.stmts rows c.rows-row-items.ensures.within j c.loop-row-test.true x c.index-stmts-row.is in
-    let split : map (stmt_at f.pipe.stmts) (drop j rows) ≡ s ∷ rest = row_split f c.stmts-stmts.result.now c.stmts-stmts.ensures c.requires.typed.stmts rows c.rows-row-items.ensures.within j c.loop-row-test.true x c.index-stmts-row.is in
+    let typed =
+    row_typed f c.stmts-stmts.result.now c.stmts-stmts.ensures c.requires.typed.stmts rows c.rows-row-items.ensures.within j c.loop-row-test.true x c.index-stmts-row.is in
+    let split : map (stmt_at f.pipe.stmts) (drop j rows) ≡ s ∷ rest =
+    row_split f c.stmts-stmts.result.now c.stmts-stmts.ensures c.requires.typed.stmts rows c.rows-row-items.ensures.within j c.loop-row-test.true x c.index-stmts-row.is in
     let one : length (drop j rows) ≡ suc (length (drop (j + 1) rows)) = omega (arith, length-drop {A = ℕ}) in
     record {
       deeds =

@@ -8,6 +8,9 @@ use Rattle.pdl_machine_run.proofs.stmts.verify.Goals as goal
 pub copy_words-requires : goal.copy_words-requires
 copy_words-requires c =
     let long : length c.as_slice-then-not-same_args.result.now ≡ length c.args.args.now =
-    ap (λ (ws : List ℕ). length ws) (c.as_slice-then-not-same_args.ensures.value ∙ c.values_of.ensures.values) ∙ ap (λ (ws : List ℕ). length (values_of (exprs_view c.args.args.now) ws)) c.as_slice.ensures.value ∙ values_count c.args.deeds.now.values.items (exprs_view c.args.args.now) ∙ length-map c.args.args.now expr_view in
+    ap (λ (ws : List ℕ). length ws) (c.as_slice-then-not-same_args.ensures.value ∙ c.values_of.ensures.values)
+    ∙ ap (λ (ws : List ℕ). length (values_of (exprs_view c.args.args.now) ws)) c.as_slice.ensures.value
+    ∙ values_count c.args.deeds.now.values.items (exprs_view c.args.args.now)
+    ∙ length-map c.args.args.now expr_view in
     let few = c.requires.args_room in
     omega arith

@@ -28,9 +28,11 @@ returns-in_err-push_line-clause-bytes g c =
     let all = c.args.out.now ++ lines_from 1 (flat_of c.args.machine.now) (state_of c.args.machine.now) (schedule delays cycles) in
     let piece = cycle_line (done + 1) new.shown stages in
     let after = left (flat_of new) (state_of new) delays (done + 1) cycles in
-    let e = cycle_step old new c.bits.result c.cycle.ensures.state c.cycle.ensures.ports c.cycle.ensures.pipe delays done cycles stages c.bits.ensures c.loop-done-test.true count in
+    let e =
+    cycle_step old new c.bits.result c.cycle.ensures.state c.cycle.ensures.ports c.cycle.ensures.pipe delays done cycles stages c.bits.ensures c.loop-done-test.true count in
     faulted c.from_residual.result o b all c.push_line.new.out c.from_residual.ensures.0
-    (step_off o a b all (left (flat_of old) (state_of old) delays done cycles) c.loop-done.out piece after e c.loop-done.invariant.way c.in_err-push_line.ensures.bytes)
+    (step_off o a b all
+    (left (flat_of old) (state_of old) delays done cycles) c.loop-done.out piece after e c.loop-done.invariant.way c.in_err-push_line.ensures.bytes)
 
 pub loop-done-preserved : goal.loop-done-preserved
 loop-done-preserved g c =
@@ -48,11 +50,14 @@ loop-done-preserved g c =
     let all = c.args.out.now ++ lines_from 1 (flat_of c.args.machine.now) (state_of c.args.machine.now) (schedule delays cycles) in
     let piece = cycle_line (done + 1) new.shown stages in
     let after = left (flat_of new) (state_of new) delays (done + 1) cycles in
-    let e = cycle_step old new c.bits.result c.cycle.ensures.state c.cycle.ensures.ports c.cycle.ensures.pipe delays done cycles stages c.bits.ensures c.loop-done-test.true count in
+    let e =
+    cycle_step old new c.bits.result c.cycle.ensures.state c.cycle.ensures.ports c.cycle.ensures.pipe delays done cycles stages c.bits.ensures c.loop-done-test.true count in
     record {
       pipe = c.cycle.ensures.pipe ∙ i.pipe;
       few = omega (arith, c.cycle.ensures.cycles, i.few);
-      way = step_on o a b all (left (flat_of old) (state_of old) delays done cycles) c.loop-done.out piece after e i.way c.push_line.new.out c.in_ok-push_line.ensures.bytes;
+      way =
+          step_on o a b all
+          (left (flat_of old) (state_of old) delays done cycles) c.loop-done.out piece after e i.way c.push_line.new.out c.in_ok-push_line.ensures.bytes;
       later = omega (arith, i.later, c.push_line.ensures.cause.later);
     }
 
@@ -62,5 +67,7 @@ returns-clause-bytes g c =
     let delays = c.args.delays.now in
     let done = c.loop-done.done in
     let cycles = c.args.cycles in
-    at_last (g.S.Sink.written c.args.sink.now) (g.S.Sink.written c.loop-done.sink) (c.args.out.now ++ lines_from 1 (flat_of c.args.machine.now) (state_of c.args.machine.now) (schedule delays cycles)) (left (flat_of m) (state_of m) delays done cycles) c.loop-done.out
+    at_last (g.S.Sink.written c.args.sink.now) (g.S.Sink.written c.loop-done.sink)
+    (c.args.out.now ++ lines_from 1 (flat_of c.args.machine.now) (state_of c.args.machine.now) (schedule delays cycles))
+    (left (flat_of m) (state_of m) delays done cycles) c.loop-done.out
     (left_none (flat_of m) (state_of m) delays done cycles (omega (arith, c.loop-done-test.false))) c.loop-done.invariant.way

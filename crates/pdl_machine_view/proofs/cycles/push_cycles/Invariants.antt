@@ -12,6 +12,7 @@ invariant-loop-done g l = record {
   pipe : l.machine.pipe ≡ l.fn.machine.pipe;
   few : l.machine.cycles ≤ l.done + 1;
   way : IsUnderWay (g.S.Sink.written l.fn.sink) (g.S.Sink.written l.sink)
-      (l.fn.out ++ lines_from 1 (flat_of l.fn.machine) (state_of l.fn.machine) (schedule l.delays l.cycles)) (left (flat_of l.machine) (state_of l.machine) l.delays l.done l.cycles) l.out;
+      (l.fn.out ++ lines_from 1 (flat_of l.fn.machine) (state_of l.fn.machine) (schedule l.delays l.cycles))
+      (left (flat_of l.machine) (state_of l.machine) l.delays l.done l.cycles) l.out;
   later : g.S.Sink.faults l.fn.sink ≤ g.S.Sink.faults l.sink;
 }

@@ -23,6 +23,10 @@ print_view-requires-clause-few_stages g c =
 pub returns-clause-text : goal.returns-clause-text
 returns-clause-text g c =
     let m = c.in_ok-machine.machine in
-    let shown = begun m c.args.accepted.now.typed.pipe c.args.image.now (schedule c.args.delays.now c.args.cycles) c.in_ok-machine.ensures.pipe c.in_ok-machine.ensures.first in
-    subst (λ text. Streams (g.S.Sink.written c.args.sink.now) (g.S.Sink.written c.print_view.new.sink) (g.S.Sink.faults c.args.sink.now) (g.S.Sink.faults c.print_view.new.sink) text c.print_view.result) shown
+    let shown =
+    begun m c.args.accepted.now.typed.pipe c.args.image.now
+    (schedule c.args.delays.now c.args.cycles) c.in_ok-machine.ensures.pipe c.in_ok-machine.ensures.first in
+    subst
+    (λ text. Streams (g.S.Sink.written c.args.sink.now) (g.S.Sink.written c.print_view.new.sink)
+    (g.S.Sink.faults c.args.sink.now) (g.S.Sink.faults c.print_view.new.sink) text c.print_view.result) shown
     c.print_view.ensures.text

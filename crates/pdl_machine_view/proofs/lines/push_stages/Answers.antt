@@ -9,4 +9,5 @@ returns-clause-bytes g c =
     let a = g.S.Sink.written c.push_letters.new.sink in
     let b = g.S.Sink.written c.push.new.sink in
     let letters = letters_from c.args.machine.now.shown 0 c.args.stages in
-    both_on o a b c.args.out.now letters (codes "\n") c.push_letters.new.out c.push.new.self c.in_ok-push_letters.ensures.bytes c.push.result c.push.ensures.bytes
+    both_on o a b c.args.out.now letters
+    (codes "\n") c.push_letters.new.out c.push.new.self c.in_ok-push_letters.ensures.bytes c.push.result c.push.ensures.bytes

@@ -6,8 +6,10 @@ use Rattle.pdl_net.proofs.Netlist.check_net.Goals as goal
 
 pub cell_widens-requires-clause-fits : goal.cell_widens-requires-clause-fits
 cell_widens-requires-clause-fits c =
-    fits_now (circuit_of c.args.self.now) c.requires.cells c.in-Cell.k (get_or c.as_slice.result.now c.in-Cell.k no_cell) (search (rules, nets)) (ap (λ l. get_or l c.in-Cell.k no_cell) c.as_slice.ensures)
+    fits_now (circuit_of c.args.self.now) c.requires.cells c.in-Cell.k (get_or c.as_slice.result.now c.in-Cell.k no_cell)
+    (search (rules, nets)) (ap (λ l. get_or l c.in-Cell.k no_cell) c.as_slice.ensures)
 
 pub cell_widens-requires-clause-width : goal.cell_widens-requires-clause-width
 cell_widens-requires-clause-width c =
-    width_now (circuit_of c.args.self.now) c.requires.cells c.in-Cell.k (get_or c.as_slice.result.now c.in-Cell.k no_cell) (search (rules, nets)) (ap (λ l. get_or l c.in-Cell.k no_cell) c.as_slice.ensures)
+    width_now (circuit_of c.args.self.now) c.requires.cells c.in-Cell.k (get_or c.as_slice.result.now c.in-Cell.k no_cell)
+    (search (rules, nets)) (ap (λ l. get_or l c.in-Cell.k no_cell) c.as_slice.ensures)

@@ -11,17 +11,27 @@ pub ports-requires : goal.ports-requires
 ports-requires c = ports_marked (circuit_of c.args.n.now) c.args.kept.now c.as_slice.result.now c.requires.well c.requires.kept c.as_slice.ensures
 
 pub regs-requires-clause-within : goal.regs-requires-clause-within
-regs-requires-clause-within c = regs_marked (circuit_of c.args.n.now) c.args.kept.now c.as_slice-2.result.now c.requires.well c.requires.kept c.as_slice-2.ensures
+regs-requires-clause-within c =
+    regs_marked (circuit_of c.args.n.now) c.args.kept.now c.as_slice-2.result.now c.requires.well c.requires.kept c.as_slice-2.ensures
 
 pub arrays-requires : goal.arrays-requires
 arrays-requires c = arrays_marked (circuit_of c.args.n.now) c.args.kept.now c.as_slice-3.result.now c.requires.well c.requires.kept c.as_slice-3.ensures
 
 pub cells-requires-clause-within : goal.cells-requires-clause-within
-cells-requires-clause-within c = cells_marked (circuit_of c.args.n.now) c.args.kept.now c.as_slice-4.result.now c.requires.well c.requires.kept c.as_slice-4.ensures
+cells-requires-clause-within c =
+    cells_marked (circuit_of c.args.n.now) c.args.kept.now c.as_slice-4.result.now c.requires.well c.requires.kept c.as_slice-4.ensures
 
 pub returns : goal.returns
 returns c =
-    let p : Netlist = record { name = c.in_ok-name.name; ports = c.in_ok-ports.ports; regs = c.in_ok-regs.regs; arrays = c.in_ok-arrays.arrays; cells = c.in_ok-cells.cells; mems = c.in_ok-mems.mems } in
+    let p : Netlist =
+    record {
+      name = c.in_ok-name.name;
+      ports = c.in_ok-ports.ports;
+      regs = c.in_ok-regs.regs;
+      arrays = c.in_ok-arrays.arrays;
+      cells = c.in_ok-cells.cells;
+      mems = c.in_ok-mems.mems;
+    } in
     let k = c.args.kept.now in
     same_netlist p (pruned k c.args.n.now)
     c.in_ok-name.ensures.cases

@@ -14,4 +14,5 @@ loop-k-preserved c =
     stepped_more ports c.args.memories.now c.loop-k.memories c.loop-k.k c.loop-k.bits c.args.replies m c.step_memory.new.memory
     (grind (arith, common_steps)) c.index-memories-k.is
     (c.step_memory.ensures.store ∙ ap (store_after ports c.is_reply.result) same ∙ ap (λ b. store_after ports b m) c.is_reply.ensures)
-    (c.step_memory.ensures.commits ∙ ap (λ (x : Outside). x.commits) same) (c.step_memory.ensures.requests ∙ ap (λ (x : Outside). x.requests) same) c.loop-k.invariant
+    (c.step_memory.ensures.commits ∙ ap (λ (x : Outside). x.commits) same)
+    (c.step_memory.ensures.requests ∙ ap (λ (x : Outside). x.requests) same) c.loop-k.invariant

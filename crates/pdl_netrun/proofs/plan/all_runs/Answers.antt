@@ -9,8 +9,12 @@ use Rattle.pdl_netrun.proofs.plan.all_runs.Goals as goal
 pub operands_of-operands-requires-clause-fits : goal.operands_of-operands-requires-clause-fits
 operands_of-operands-requires-clause-fits c =
     let o = subst (λ (n : Netlist). IsOrder (circuit_of n) c.args.order.now.cells.items c.args.order.now.places.items) c.requires.net c.requires.order.order in
-    ordered_fits (circuit_of c.args.n.now) c.args.order.now.cells.items c.args.order.now.places.items c.as_slice.result.now c.loop-j.j c.index.result.now c.requires.well o (grind (arith, common_steps)) (grind (arith, common_steps)) c.as_slice.ensures
+    ordered_fits
+    (circuit_of c.args.n.now) c.args.order.now.cells.items c.args.order.now.places.items c.as_slice.result.now c.loop-j.j c.index.result.now c.requires.well o
+    (grind (arith, common_steps))
+    (grind (arith, common_steps)) c.as_slice.ensures
 
 pub returns : goal.returns
 returns c =
-    runs_end c.loop-j.runs.items c.push.new.self.items c.loop-j.run c.args.order.now.cells.items _ c.loop-j.j (grind (arith, common_steps)) c.loop-j.invariant (grind (arith, common_steps))
+    runs_end c.loop-j.runs.items c.push.new.self.items c.loop-j.run c.args.order.now.cells.items _ c.loop-j.j
+    (grind (arith, common_steps)) c.loop-j.invariant (grind (arith, common_steps))

@@ -4,4 +4,5 @@ use Rattle.pdl_netrun.specs.Steps.{array_words}
 use Rattle.pdl_netrun.proofs.start.all_arrays.Given as goal
 
 abbrev pub invariant-loop-m : goal.invariant-loop-m
-invariant-loop-m l = array_words l.arrays.items ++ loaded_arrays (drop l.m l.n.arrays) (drop l.m (drop l.delayed l.image)) ≡ loaded_arrays l.n.arrays (drop l.delayed l.image)
+invariant-loop-m l =
+    array_words l.arrays.items ++ loaded_arrays (drop l.m l.n.arrays) (drop l.m (drop l.delayed l.image)) ≡ loaded_arrays l.n.arrays (drop l.delayed l.image)

@@ -4,7 +4,8 @@ use Rattle.pdl_netrun.proofs.walk.walk.Given as goal
 
 abbrev pub invariant-loop-k : goal.invariant-loop-k
 invariant-loop-k g l = record {
-  rest : after_steps (steps_with g.K.CellOperation.kind (drop l.k l.operands)) (l.first + l.k) l.values (array_words l.arrays) ≡ after_steps (steps_with g.K.CellOperation.kind l.operands) l.first l.initial.values (array_words l.arrays);
+  rest : after_steps (steps_with g.K.CellOperation.kind (drop l.k l.operands)) (l.first + l.k) l.values (array_words l.arrays)
+      ≡ after_steps (steps_with g.K.CellOperation.kind l.operands) l.first l.initial.values (array_words l.arrays);
   fit : StepsFit (steps_with g.K.CellOperation.kind (drop l.k l.operands)) (l.first + l.k) l.values (array_words l.arrays);
   count : length l.values ≡ length l.initial.values;
 }

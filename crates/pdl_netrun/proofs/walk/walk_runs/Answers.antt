@@ -5,7 +5,8 @@ use Rattle.pdl_netrun.proofs.walk.walk_runs.Goals as goal
 
 pub walk_run-requires-clause-fit : goal.walk_run-requires-clause-fit
 walk_run-requires-clause-fit c =
-    (run_fits c.args.runs.now c.loop-run.run-index _ c.loop-run.at c.run-item.result c.loop-run.values (array_words c.args.arrays.now) c.loop-run-test.true c.run-item.is refl c.loop-run.invariant.fit).0
+    (run_fits c.args.runs.now c.loop-run.run-index _ c.loop-run.at c.run-item.result c.loop-run.values
+    (array_words c.args.arrays.now) c.loop-run-test.true c.run-item.is refl c.loop-run.invariant.fit).0
 
 pub loop-run-preserved : goal.loop-run-preserved
 loop-run-preserved c =
@@ -19,7 +20,10 @@ loop-run-preserved c =
     let e = c.walk_run.ensures in
     record {
       room = omega (arith, m, n, c.loop-run.invariant.room);
-      rest = ap (λ x. after_steps (steps_of (drop (k + 1) c.args.runs.now)) (c.loop-run.at + (length c.as_slice.result.now)) x ws) e ∙ run_rest c.args.runs.now k (length c.as_slice.result.now) c.loop-run.at r vs ws c.loop-run-test.true c.run-item.is n ∙ c.loop-run.invariant.rest;
+      rest =
+          ap (λ x. after_steps (steps_of (drop (k + 1) c.args.runs.now)) (c.loop-run.at + (length c.as_slice.result.now)) x ws) e
+          ∙ run_rest c.args.runs.now k (length c.as_slice.result.now) c.loop-run.at r vs ws c.loop-run-test.true c.run-item.is n
+          ∙ c.loop-run.invariant.rest;
       fit = subst (λ (x : List ℕ). StepsFit (steps_of (drop (k + 1) c.args.runs.now)) (c.loop-run.at + (length c.as_slice.result.now)) x ws) (sym e) f.1;
       count = ap length e ∙ after_length (steps_with r.kind r.operands.items) c.loop-run.at vs ws ∙ c.loop-run.invariant.count;
     }

@@ -22,7 +22,9 @@ loop-port-preserved c =
       | in-Out+in-Some+in_ok-push w ↦
           let named = w.committing.ensures.value ∙ ap₂ number w.as_bytes.ensures w.as_slice.ensures in
           let there = subst (λ (ms : List MemInfo). w.in-Some.mem < length ms) w.as_slice.ensures w.in-Some.ensures.within in
-          one_more n ports k p w.in-Out.field-0 w.in-Some.mem c.loop-port.order.items c.match-port.order.items low here w.in-Out.is (sym w.in-Some.is ∙ named) there (ap (λ (v : Vec ℕ Global). v.items) w.order-is ∙ w.in_ok-push.ensures.items) c.loop-port.invariant
+          one_more n ports k p w.in-Out.field-0 w.in-Some.mem c.loop-port.order.items c.match-port.order.items low here w.in-Out.is
+          (sym w.in-Some.is ∙ named) there
+          (ap (λ (v : Vec ℕ Global). v.items) w.order-is ∙ w.in_ok-push.ensures.items) c.loop-port.invariant
       | in-Out+in_default-committing w ↦
           let named = w.committing.ensures.value ∙ ap₂ number w.as_bytes.ensures w.as_slice.ensures in
           subst (λ (v : Vec ℕ Global). AreSoFar n v.items rest) (sym w.order-is)

@@ -25,7 +25,8 @@ returns-in_err-push_commit-clause-bytes g c =
     let x = get_or order i 0 in
     let m = c.index-mems-i.result in
     let there : x < length c.args.mems.now = subst (λ (ms : List MemInfo). x < length ms) (sym c.requires.mems) (c.requires.order.there i 0 low) in
-    let is : m ≡ mem_at n x = c.index-mems-i.is ∙ get_or_default c.args.mems.now x m no_mem there ∙ ap (λ (ms : List MemInfo). get_or ms x no_mem) c.requires.mems in
+    let is : m ≡ mem_at n x =
+    c.index-mems-i.is ∙ get_or_default c.args.mems.now x m no_mem there ∙ ap (λ (ms : List MemInfo). get_or ms x no_mem) c.requires.mems in
     let all = c.args.out.now ++ lines (map (mem_at n) order) in
     let rest = lines (map (mem_at n) (drop i order)) in
     let after = lines (map (mem_at n) (drop (i + 1) order)) in
@@ -33,7 +34,9 @@ returns-in_err-push_commit-clause-bytes g c =
     let e : rest ≡ piece ++ after = lines_next c.args.cycle f (mem_at n) order i m c.commit.result low is c.commit.ensures in
     let prefix : TakesPrefix o b all = step_off o a b all rest c.loop-i.out piece after e c.loop-i.invariant.way c.in_err-push_commit.ensures.bytes in
     let same : all ≡ c.args.out.now ++ lines (commit_mems n) = ap (λ (ms : List MemInfo). c.args.out.now ++ lines ms) c.requires.order.mems in
-    faulted c.from_residual.result o b (c.args.out.now ++ lines (commit_mems n)) c.push_commit.new.out c.from_residual.ensures.0 (subst (TakesPrefix o b) same prefix)
+    faulted c.from_residual.result o b
+    (c.args.out.now ++ lines (commit_mems n)) c.push_commit.new.out c.from_residual.ensures.0
+    (subst (TakesPrefix o b) same prefix)
 
 pub loop-i-preserved : goal.loop-i-preserved
 loop-i-preserved g c =
@@ -49,7 +52,8 @@ loop-i-preserved g c =
     let x = get_or order i 0 in
     let m = c.index-mems-i.result in
     let there : x < length c.args.mems.now = subst (λ (ms : List MemInfo). x < length ms) (sym c.requires.mems) (c.requires.order.there i 0 low) in
-    let is : m ≡ mem_at n x = c.index-mems-i.is ∙ get_or_default c.args.mems.now x m no_mem there ∙ ap (λ (ms : List MemInfo). get_or ms x no_mem) c.requires.mems in
+    let is : m ≡ mem_at n x =
+    c.index-mems-i.is ∙ get_or_default c.args.mems.now x m no_mem there ∙ ap (λ (ms : List MemInfo). get_or ms x no_mem) c.requires.mems in
     let all = c.args.out.now ++ lines (map (mem_at n) order) in
     let rest = lines (map (mem_at n) (drop i order)) in
     let after = lines (map (mem_at n) (drop (i + 1) order)) in

@@ -8,4 +8,6 @@ use Rattle.pdl_netrun_lines.proofs.print.count.Goals as goal
 pub returns : goal.returns
 returns c =
     let begun : c.in_ok-sim.sim ≡ run_at_start c.args.net.now c.args.image.now = grind (arith, common_steps) in
-    subst (λ (s : Run). c.count_cycles.result ≡ counts_of (cycles_from s.netlist s.held (schedule c.args.schedule.now.delays.now c.args.schedule.now.cycles))) begun c.count_cycles.ensures
+    subst
+    (λ (s : Run). c.count_cycles.result
+    ≡ counts_of (cycles_from s.netlist s.held (schedule c.args.schedule.now.delays.now c.args.schedule.now.cycles))) begun c.count_cycles.ensures

@@ -17,5 +17,7 @@ loop-done-preserved c =
     let i = c.loop-done.invariant in
     record {
       netlist = ap (λ r. r.netlist) c.run_cycle.ensures ∙ i.netlist;
-      counted = counted_more c.loop-done.counts c.with_cycle-counts.result (cycle_of new.netlist new.last) before after all done more c.with_cycle-counts.ensures i.counted;
+      counted =
+          counted_more c.loop-done.counts c.with_cycle-counts.result
+          (cycle_of new.netlist new.last) before after all done more c.with_cycle-counts.ensures i.counted;
     }

@@ -6,5 +6,6 @@ use Rattle.pdl_netrun_lines.proofs.print.count_cycles.Given as goal
 abbrev pub invariant-loop-done : goal.invariant-loop-done
 invariant-loop-done l = record {
   netlist : l.sim.netlist ≡ l.fn.sim.netlist;
-  counted : Counted l.counts (left l.sim.netlist l.sim.held l.schedule.delays.now l.done l.schedule.cycles) (whole l.fn.sim.netlist l.fn.sim.held l.schedule.delays.now l.schedule.cycles) l.done;
+  counted : Counted l.counts (left l.sim.netlist l.sim.held l.schedule.delays.now l.done l.schedule.cycles)
+      (whole l.fn.sim.netlist l.fn.sim.held l.schedule.delays.now l.schedule.cycles) l.done;
 }

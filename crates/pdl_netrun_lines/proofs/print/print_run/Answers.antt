@@ -12,7 +12,9 @@ returns-in-Err-clause-text g c =
     let a = g.S.Sink.written c.push_run.new.sink in
     let b = g.S.Sink.written c.finish.new.sink in
     let sim = c.args.sim.now in
-    let text = lines (map column_of (commit_mems sim.netlist)) (cycles_from sim.netlist sim.held (schedule c.args.schedule.now.delays.now c.args.schedule.now.cycles)) in
+    let text =
+    lines (map column_of (commit_mems sim.netlist))
+    (cycles_from sim.netlist sim.held (schedule c.args.schedule.now.delays.now c.args.schedule.now.cycles)) in
     let held = c.push_run.new.out in
     let passed = subst (λ l. HasPassed o a (l ++ text) held) c.new-out.ensures c.in_ok-push_run.ensures.bytes in
     let failed = c.in-Err.ensures.cause.failed in

@@ -33,6 +33,7 @@ returns-clause-bytes g c =
     let same : c.as_bytes.result.now ≡ end_line (length cs) counts.ended counts.waits counts.squashes =
     c.as_bytes.ensures.bytes ∙ c.end_line-line.ensures
     ∙ ap (λ (k : RunCounts). end_line c.args.schedule.now.cycles k.ended k.waits k.squashes) c.in_ok-counts.ensures.counts
-    ∙ ap (λ k. end_line k counts.ended counts.waits counts.squashes) (sym (run_length sim.netlist sim.held c.args.schedule.now.delays.now c.args.schedule.now.cycles)) in
+    ∙ ap (λ k. end_line k counts.ended counts.waits counts.squashes)
+    (sym (run_length sim.netlist sim.held c.args.schedule.now.delays.now c.args.schedule.now.cycles)) in
     subst (λ l. Passes o b c.push.result (c.args.out.now ++ (front ++ l)) c.push.new.self) same
     (both_on o a b c.args.out.now front c.as_bytes.result.now c.run_cycles.new.out c.push.new.self c.in_ok-counts.ensures.bytes c.push.result c.push.ensures.bytes)

@@ -52,11 +52,15 @@ loop-done-preserved g c =
     let piece = cycle_lines (done + 1) (map column_of (commit_mems new.netlist)) one.puts in
     let rest = lines_from (done + 1 + 1) columns after in
     let e : lines_from (done + 1) columns before ≡ piece ++ rest =
-    lines_step (done + 1) columns one before after more ∙ ap (λ (m : Netlist). cycle_lines (done + 1) (map column_of (commit_mems m)) one.puts ++ rest) (sym same) in
+    lines_step (done + 1) columns one before after more
+    ∙ ap (λ (m : Netlist). cycle_lines (done + 1) (map column_of (commit_mems m)) one.puts ++ rest) (sym same) in
     let all = c.args.out.now ++ lines_from 1 columns (whole n c.args.sim.now.held rows cycles) in
     record {
       netlist = same;
-      way = step_on o a b all (lines_from (done + 1) columns before) c.loop-done.out piece rest e i.way c.push_commits.new.out c.in_ok-push_commits.ensures.bytes;
-      counted = counted_more c.loop-done.counts c.with_cycle-counts.result one before after (whole n c.args.sim.now.held rows cycles) done more c.with_cycle-counts.ensures i.counted;
+      way =
+          step_on o a b all (lines_from (done + 1) columns before) c.loop-done.out piece rest e i.way c.push_commits.new.out c.in_ok-push_commits.ensures.bytes;
+      counted =
+          counted_more c.loop-done.counts c.with_cycle-counts.result one before after
+          (whole n c.args.sim.now.held rows cycles) done more c.with_cycle-counts.ensures i.counted;
       later = omega (arith, i.later, c.push_commits.ensures.cause.later);
     }

@@ -11,7 +11,9 @@ invariant-loop-done g l = record {
   netlist : l.sim.netlist ≡ l.fn.sim.netlist;
   way : IsUnderWay (g.S.Sink.written l.fn.sink) (g.S.Sink.written l.sink)
       (l.fn.out ++ lines_from 1 (map column_of (commit_mems l.fn.sim.netlist)) (whole l.fn.sim.netlist l.fn.sim.held l.schedule.delays.now l.schedule.cycles))
-      (lines_from (l.done + 1) (map column_of (commit_mems l.fn.sim.netlist)) (left l.sim.netlist l.sim.held l.schedule.delays.now l.done l.schedule.cycles)) l.out;
-  counted : Counted l.counts (left l.sim.netlist l.sim.held l.schedule.delays.now l.done l.schedule.cycles) (whole l.fn.sim.netlist l.fn.sim.held l.schedule.delays.now l.schedule.cycles) l.done;
+      (lines_from (l.done + 1) (map column_of (commit_mems l.fn.sim.netlist))
+      (left l.sim.netlist l.sim.held l.schedule.delays.now l.done l.schedule.cycles)) l.out;
+  counted : Counted l.counts (left l.sim.netlist l.sim.held l.schedule.delays.now l.done l.schedule.cycles)
+      (whole l.fn.sim.netlist l.fn.sim.held l.schedule.delays.now l.schedule.cycles) l.done;
   later : g.S.Sink.faults l.fn.sink ≤ g.S.Sink.faults l.sink;
 }

@@ -52,4 +52,5 @@ returns-clause-bytes g c =
     ∙ sym (loud_text ports first c.args.cycle c.args.before.now row (sym c.if-is_silent.ensures)) in
     let whole = append_assoc c.args.out.now line after ∙ ap (λ l. c.args.out.now ++ l) e in
     subst (λ l. Passes o b c.push_ports.result l c.push_ports.new.out) whole
-    (passes_on o a b (c.args.out.now ++ line) c.push.new.self after c.in_ok-push.ensures.bytes c.push_ports.result c.push_ports.new.out c.push_ports.ensures.bytes)
+    (passes_on o a b
+    (c.args.out.now ++ line) c.push.new.self after c.in_ok-push.ensures.bytes c.push_ports.result c.push_ports.new.out c.push_ports.ensures.bytes)

@@ -30,7 +30,10 @@ returns-in_err-push_port-clause-bytes g c =
     let piece = port_text ports c.has_changed.result i c.port-value.result in
     let after = changes_text ports (changes (i + 1) was (drop (i + 1) row)) in
     let n = row_length ports row c.requires.shown.row in
-    let e = port_step ports c.args.first c.args.before.now row i (get_or c.loop-i.before i 0) c.port-value.result c.has_changed.result (omega (arith, n, c.loop-i-test.true)) (omega (arith, n, c.requires.before))
+    let e =
+    port_step ports c.args.first c.args.before.now row i
+    (get_or c.loop-i.before i 0) c.port-value.result c.has_changed.result (omega (arith, n, c.loop-i-test.true))
+    (omega (arith, n, c.requires.before))
     (ap (λ vs. get_or vs i 0) c.loop-i.invariant.before) c.port-value.ensures c.has_changed.ensures in
     faulted c.from_residual.result o b all c.push_port.new.out c.from_residual.ensures.0
     (step_off o a b all (changes_text ports (changes i was (drop i row))) c.loop-i.out piece after e c.loop-i.invariant.way c.in_err-push_port.ensures.bytes)
@@ -48,10 +51,16 @@ loop-i-preserved g c =
     let piece = port_text ports c.has_changed.result i c.port-value.result in
     let after = changes_text ports (changes (i + 1) was (drop (i + 1) row)) in
     let n = row_length ports row c.requires.shown.row in
-    let e = port_step ports c.args.first c.args.before.now row i (get_or c.loop-i.before i 0) c.port-value.result c.has_changed.result (omega (arith, n, c.loop-i-test.true)) (omega (arith, n, c.requires.before))
+    let e =
+    port_step ports c.args.first c.args.before.now row i
+    (get_or c.loop-i.before i 0) c.port-value.result c.has_changed.result (omega (arith, n, c.loop-i-test.true))
+    (omega (arith, n, c.requires.before))
     (ap (λ vs. get_or vs i 0) c.loop-i.invariant.before) c.port-value.ensures c.has_changed.ensures in
     record {
-      way = step_on o a b all (changes_text ports (changes i was (drop i row))) c.loop-i.out piece after e c.loop-i.invariant.way c.push_port.new.out c.in_ok-push_port.ensures.bytes;
+      way =
+          step_on o a b all
+          (changes_text ports
+          (changes i was (drop i row))) c.loop-i.out piece after e c.loop-i.invariant.way c.push_port.new.out c.in_ok-push_port.ensures.bytes;
       later = omega (arith, c.loop-i.invariant.later, c.push_port.ensures.cause.later);
       before =
           ap₂ (λ vs v. set vs i v) c.loop-i.invariant.before c.port-value.ensures
@@ -65,7 +74,9 @@ returns-clause-bytes g c =
     let was = known c.args.first c.args.before.now in
     let n = row_length ports row c.requires.shown.row in
     let i = c.loop-i.i in
-    at_last (g.S.Sink.written c.args.sink.now) (g.S.Sink.written c.loop-i.sink) (c.args.out.now ++ changes_text ports (changes 0 was row)) (changes_text ports (changes i was (drop i row))) c.loop-i.out
+    at_last (g.S.Sink.written c.args.sink.now) (g.S.Sink.written c.loop-i.sink)
+    (c.args.out.now ++ changes_text ports (changes 0 was row))
+    (changes_text ports (changes i was (drop i row))) c.loop-i.out
     (ap (λ vs. changes_text ports (changes i was vs)) (drop_all i row (omega (arith, n, c.loop-i-test.false)))) c.loop-i.invariant.way
 
 pub returns-clause-before : goal.returns-clause-before
@@ -74,5 +85,6 @@ returns-clause-before g c =
     let n = row_length c.args.ports.now row c.requires.shown.row in
     let i = c.loop-i.i in
     c.loop-i.invariant.before
-    ∙ ap₂ (λ xs ys. xs ++ ys) (take_all i row (omega (arith, n, c.loop-i-test.false))) (drop_all i c.args.before.now (omega (arith, c.requires.before, c.loop-i-test.false)))
+    ∙ ap₂ (λ xs ys. xs ++ ys) (take_all i row (omega (arith, n, c.loop-i-test.false)))
+    (drop_all i c.args.before.now (omega (arith, c.requires.before, c.loop-i-test.false)))
     ∙ append-nil row

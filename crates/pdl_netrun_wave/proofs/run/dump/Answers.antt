@@ -30,6 +30,15 @@ returns-clause-text g c =
     let now = g.S.Sink.written c.print_dump.new.sink in
     let before = g.S.Sink.faults c.args.sink.now in
     let after = g.S.Sink.faults c.print_dump.new.sink in
-    let P : Run → Type 0 = λ s. Streams written now before after (dump c.args.net.now.name c.deref.result.now (rows_of (nports_from s.netlist s.held (schedule c.args.schedule.now.delays.now c.args.schedule.now.cycles)))) c.print_dump.result in
-    let Q : List WavePort → Type 0 = λ ports. Streams written now before after (dump c.args.net.now.name ports (rows_of (nports_from (run_at_start c.args.net.now c.args.image.now).netlist (run_at_start c.args.net.now c.args.image.now).held (schedule c.args.schedule.now.delays.now c.args.schedule.now.cycles)))) c.print_dump.result in
+    let P : Run → Type 0 =
+    λ s. Streams written now before after
+    (dump c.args.net.now.name c.deref.result.now
+    (rows_of (nports_from s.netlist s.held (schedule c.args.schedule.now.delays.now c.args.schedule.now.cycles)))) c.print_dump.result in
+    let Q : List WavePort → Type 0 =
+    λ ports. Streams written now before after
+    (dump c.args.net.now.name ports
+    (rows_of
+    (nports_from (run_at_start c.args.net.now c.args.image.now).netlist
+    (run_at_start c.args.net.now c.args.image.now).held
+    (schedule c.args.schedule.now.delays.now c.args.schedule.now.cycles)))) c.print_dump.result in
     subst Q same (subst P begun c.print_dump.ensures.text)

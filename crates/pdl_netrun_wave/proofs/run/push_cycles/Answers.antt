@@ -28,7 +28,9 @@ returns-in_err-push_cycle-clause-bytes g c =
     let after = cycles_text ports (done + 1 + 1) new.last.ports (left new delays (done + 1) cycles) in
     let e = cycle_step old new c.bits.result c.cycle.ensures ports delays done cycles c.loop-done.before c.bits.ensures c.loop-done-test.true in
     faulted c.from_residual.result o b all c.push_cycle.new.out c.from_residual.ensures.0
-    (step_off o a b all (cycles_text ports (done + 1) c.loop-done.before (left old delays done cycles)) c.loop-done.out piece after e c.loop-done.invariant.way c.in_err-push_cycle.ensures.bytes)
+    (step_off o a b all
+    (cycles_text ports (done + 1) c.loop-done.before
+    (left old delays done cycles)) c.loop-done.out piece after e c.loop-done.invariant.way c.in_err-push_cycle.ensures.bytes)
 
 pub loop-done-preserved : goal.loop-done-preserved
 loop-done-preserved g c =
@@ -55,6 +57,9 @@ loop-done-preserved g c =
       netlist = ap (λ (r : Run). r.netlist) c.cycle.ensures ∙ i.netlist;
       fit = fit_after old new c.bits.result c.cycle.ensures i.fit;
       count = ap length c.in_ok-push_cycle.ensures.before ∙ row_length ports new.last.ports row.row;
-      way = step_on o a b all (cycles_text ports (done + 1) c.loop-done.before (left old delays done cycles)) c.loop-done.out piece after e i.way c.push_cycle.new.out c.in_ok-push_cycle.ensures.bytes;
+      way =
+          step_on o a b all
+          (cycles_text ports (done + 1) c.loop-done.before
+          (left old delays done cycles)) c.loop-done.out piece after e i.way c.push_cycle.new.out c.in_ok-push_cycle.ensures.bytes;
       later = omega (arith, i.later, c.push_cycle.ensures.cause.later);
     }

@@ -14,6 +14,7 @@ invariant-loop-done g l = record {
   count : length l.before ≡ length l.ports;
   way : IsUnderWay (g.S.Sink.written l.fn.sink) (g.S.Sink.written l.sink)
       (l.fn.out ++ cycles_text l.ports 1 l.fn.before (rows_of (nports_from l.fn.sim.netlist l.fn.sim.held (schedule l.schedule.delays.now l.schedule.cycles))))
-      (cycles_text l.ports (l.done + 1) l.before (rows_of (nports_from l.sim.netlist l.sim.held (replies_from l.schedule.delays.now (l.done + 1) (l.schedule.cycles - l.done))))) l.out;
+      (cycles_text l.ports (l.done + 1) l.before
+      (rows_of (nports_from l.sim.netlist l.sim.held (replies_from l.schedule.delays.now (l.done + 1) (l.schedule.cycles - l.done))))) l.out;
   later : g.S.Sink.faults l.fn.sink ≤ g.S.Sink.faults l.sink;
 }

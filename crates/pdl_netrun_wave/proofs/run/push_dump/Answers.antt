@@ -17,7 +17,8 @@ returns-in_err-push_header-clause-bytes g c =
     let head = flat_map ended (header c.args.heading.now.name.now ports) in
     let rest = cycles_text ports 1 c.args.before.now rows ++ ended (time_text (length rows + 1)) in
     faulted c.from_residual.result o a all c.push_header.new.out c.from_residual.ensures.0
-    (step_off o o a all text c.args.out.now head rest (dump_text c.args.heading.now.name.now ports rows c.args.before.now) (at_first o c.args.out.now text) c.in_err-push_header.ensures.bytes)
+    (step_off o o a all text c.args.out.now head rest (dump_text c.args.heading.now.name.now ports rows c.args.before.now)
+    (at_first o c.args.out.now text) c.in_err-push_header.ensures.bytes)
 
 pub returns-in_err-push_cycles-clause-bytes : goal.returns-in_err-push_cycles-clause-bytes
 returns-in_err-push_cycles-clause-bytes g c =
@@ -31,7 +32,10 @@ returns-in_err-push_cycles-clause-bytes g c =
     let head = flat_map ended (header c.args.heading.now.name.now ports) in
     let cycles = cycles_text ports 1 c.args.before.now rows in
     let end = ended (time_text (length rows + 1)) in
-    let way = step_on o o a all text c.args.out.now head (cycles ++ end) (dump_text c.args.heading.now.name.now ports rows c.args.before.now) (at_first o c.args.out.now text) c.push_header.new.out c.in_ok-push_header.ensures.bytes in
+    let way =
+    step_on o o a all text c.args.out.now head (cycles ++ end)
+    (dump_text c.args.heading.now.name.now ports rows c.args.before.now)
+    (at_first o c.args.out.now text) c.push_header.new.out c.in_ok-push_header.ensures.bytes in
     faulted c.from_residual-in_err-push_cycles.result o b all c.push_cycles.new.out c.from_residual-in_err-push_cycles.ensures.0
     (step_off o a b all (cycles ++ end) c.push_header.new.out cycles end refl way c.in_err-push_cycles.ensures.bytes)
 
@@ -49,7 +53,10 @@ returns-clause-bytes g c =
     let head = flat_map ended (header c.args.heading.now.name.now ports) in
     let cycles = cycles_text ports 1 c.args.before.now rows in
     let end = ended (time_text (length rows + 1)) in
-    let one = step_on o o a all text c.args.out.now head (cycles ++ end) (dump_text c.args.heading.now.name.now ports rows c.args.before.now) (at_first o c.args.out.now text) c.push_header.new.out c.in_ok-push_header.ensures.bytes in
+    let one =
+    step_on o o a all text c.args.out.now head (cycles ++ end)
+    (dump_text c.args.heading.now.name.now ports rows c.args.before.now)
+    (at_first o c.args.out.now text) c.push_header.new.out c.in_ok-push_header.ensures.bytes in
     let two = step_on o a b all (cycles ++ end) c.push_header.new.out cycles end refl one c.push_cycles.new.out c.in_ok-push_cycles.ensures.bytes in
     let line : end ≡ c.as_bytes.result.now =
     ap (λ k. ended (time_text (k + 1))) (left_length sim.netlist sim.held c.args.schedule.now.delays.now c.args.schedule.now.cycles ∙ sym c.from.ensures)

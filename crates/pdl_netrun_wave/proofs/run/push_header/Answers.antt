@@ -23,7 +23,8 @@ returns-in_err-push-clause-bytes g c =
     let n = header_length c.args.heading.now.name.now c.args.heading.now.ports.now in
     let e = next_line lines k (omega (arith, n, c.loop-k-test.true)) ∙ ap (λ l. l ++ flat_map ended (drop (k + 1) lines)) (sym line) in
     faulted c.from_residual.result o b all c.push.new.self c.from_residual.ensures.0
-    (step_off o a b all (flat_map ended (drop k lines)) c.loop-k.out c.as_bytes.result.now (flat_map ended (drop (k + 1) lines)) e c.loop-k.invariant.way c.in_err-push.ensures.bytes)
+    (step_off o a b all (flat_map ended (drop k lines)) c.loop-k.out c.as_bytes.result.now
+    (flat_map ended (drop (k + 1) lines)) e c.loop-k.invariant.way c.in_err-push.ensures.bytes)
 
 pub loop-k-preserved : goal.loop-k-preserved
 loop-k-preserved g c =
@@ -37,7 +38,9 @@ loop-k-preserved g c =
     let n = header_length c.args.heading.now.name.now c.args.heading.now.ports.now in
     let e = next_line lines k (omega (arith, n, c.loop-k-test.true)) ∙ ap (λ l. l ++ flat_map ended (drop (k + 1) lines)) (sym line) in
     record {
-      way = step_on o a b all (flat_map ended (drop k lines)) c.loop-k.out c.as_bytes.result.now (flat_map ended (drop (k + 1) lines)) e c.loop-k.invariant.way c.push.new.self c.in_ok-push.ensures.bytes;
+      way =
+          step_on o a b all (flat_map ended (drop k lines)) c.loop-k.out c.as_bytes.result.now
+          (flat_map ended (drop (k + 1) lines)) e c.loop-k.invariant.way c.push.new.self c.in_ok-push.ensures.bytes;
       later = omega (arith, c.loop-k.invariant.later, c.push.ensures.cause.later);
     }
 
@@ -45,5 +48,6 @@ pub returns-clause-bytes : goal.returns-clause-bytes
 returns-clause-bytes g c =
     let lines = header c.args.heading.now.name.now c.args.heading.now.ports.now in
     let n = header_length c.args.heading.now.name.now c.args.heading.now.ports.now in
-    at_last (g.S.Sink.written c.args.sink.now) (g.S.Sink.written c.loop-k.sink) (c.args.out.now ++ flat_map ended lines) (flat_map ended (drop c.loop-k.k lines)) c.loop-k.out
+    at_last (g.S.Sink.written c.args.sink.now) (g.S.Sink.written c.loop-k.sink) (c.args.out.now ++ flat_map ended lines)
+    (flat_map ended (drop c.loop-k.k lines)) c.loop-k.out
     (ap (flat_map ended) (drop_all c.loop-k.k lines (omega (arith, n, c.loop-k-test.false)))) c.loop-k.invariant.way

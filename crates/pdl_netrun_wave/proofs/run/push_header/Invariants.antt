@@ -7,6 +7,7 @@ use Rattle.pdl_netrun_wave.proofs.run.push_header.Given as goal
 abbrev pub invariant-loop-k : goal.invariant-loop-k
 invariant-loop-k g l = record {
   way : IsUnderWay (g.S.Sink.written l.fn.sink) (g.S.Sink.written l.sink)
-      (l.fn.out ++ flat_map ended (header l.heading.name.now l.heading.ports.now)) (flat_map ended (drop l.k (header l.heading.name.now l.heading.ports.now))) l.out;
+      (l.fn.out ++ flat_map ended (header l.heading.name.now l.heading.ports.now))
+      (flat_map ended (drop l.k (header l.heading.name.now l.heading.ports.now))) l.out;
   later : g.S.Sink.faults l.fn.sink ≤ g.S.Sink.faults l.sink;
 }

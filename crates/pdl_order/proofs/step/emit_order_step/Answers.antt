@@ -15,4 +15,5 @@ returns-clause-law c =
     let own_of : ℕ → Own = λ n. record { from = first_reg r; to = first_reg r + n; first = 0; last = 0 } in
     let P : OrderLayout → Type 0 = λ l. NextWords d l f in
     let Q : Own → Type 0 = λ o. StepLaw (stands r) r.stages o d f in
-    subst Q (ap own_of (sym c.requires.placed.count)) (step_law d (layout_of r) f c.requires.placed.words.low (subst P c.of-l.ensures c.in_ok-emit_words.ensures.next))
+    subst Q (ap own_of (sym c.requires.placed.count))
+    (step_law d (layout_of r) f c.requires.placed.words.low (subst P c.of-l.ensures c.in_ok-emit_words.ensures.next))

@@ -32,8 +32,11 @@ search-returns-in-Here t c = λ bs own.
     ∙ ap (λ m. with_branch gs m b) own ∙ sym (fold-append (with_branch gs) everywhere bs (b ∷ [])) in
     let found = c.search_all.ensures (bs ++ b ∷ []) first in
     subst (λ x. Tells (map (mask_in gs) (with_inner bs x)) c.args.number (Here c.in-Here.mask)) (sym is)
-    (in_first gs (Statement (Tree.If s cond when other) bs) (statements (bs ++ b ∷ []) when) (statements (bs ++ o ∷ []) other) c.args.number (c.args.number - 1) c.in-Here.mask (omega (arith, c.if-number-eq0.false))
-    (subst (λ r. Tells (map (mask_in gs) (statements (bs ++ b ∷ []) when)) (c.args.number - 1) r) c.in-Here.is (subst (λ xs. Tells (map (mask_in gs) (statements (bs ++ b ∷ []) (tree.stmts_view xs))) (c.args.number - 1) c.search_all.result) c.as_slice.ensures found)))
+    (in_first gs (Statement (Tree.If s cond when other) bs) (statements (bs ++ b ∷ []) when)
+    (statements (bs ++ o ∷ []) other) c.args.number (c.args.number - 1) c.in-Here.mask (omega (arith, c.if-number-eq0.false))
+    (subst (λ r. Tells (map (mask_in gs) (statements (bs ++ b ∷ []) when)) (c.args.number - 1) r) c.in-Here.is
+    (subst
+    (λ xs. Tells (map (mask_in gs) (statements (bs ++ b ∷ []) (tree.stmts_view xs))) (c.args.number - 1) c.search_all.result) c.as_slice.ensures found)))
 
 pub search-returns-in-After : goal.search-returns-in-After
 search-returns-in-After t c = λ bs own.
@@ -50,15 +53,23 @@ search-returns-in-After t c = λ bs own.
     let o : Branch = record { guard = guard_of s cond; truth = false; inside = other } in
     let number = c.number-guard.ensures ∙ ap (λ g. number_of g gs) c.guard_of.ensures in
     let first : c.with-first.result ≡ mask_of gs (bs ++ b ∷ []) =
-    c.with-first.ensures ∙ ap (λ n. with_number n true c.args.mask) number ∙ ap (λ m. with_branch gs m b) own ∙ sym (fold-append (with_branch gs) everywhere bs (b ∷ [])) in
+    c.with-first.ensures ∙ ap (λ n. with_number n true c.args.mask) number ∙ ap (λ m. with_branch gs m b) own
+    ∙ sym (fold-append (with_branch gs) everywhere bs (b ∷ [])) in
     let second : c.with-second.result ≡ mask_of gs (bs ++ o ∷ []) =
-    c.with-second.ensures ∙ ap (λ n. with_number n false c.args.mask) number ∙ ap (λ m. with_branch gs m o) own ∙ sym (fold-append (with_branch gs) everywhere bs (o ∷ [])) in
+    c.with-second.ensures ∙ ap (λ n. with_number n false c.args.mask) number ∙ ap (λ m. with_branch gs m o) own
+    ∙ sym (fold-append (with_branch gs) everywhere bs (o ∷ [])) in
     subst (λ x. Tells (map (mask_in gs) (with_inner bs x)) c.args.number c.search_all-in-After.result) (sym is)
-    (in_second gs (Statement (Tree.If s cond when other) bs) (statements (bs ++ b ∷ []) when) (statements (bs ++ o ∷ []) other) c.args.number (c.args.number - 1) c.in-After.left c.search_all-in-After.result
+    (in_second gs (Statement (Tree.If s cond when other) bs) (statements (bs ++ b ∷ []) when)
+    (statements (bs ++ o ∷ []) other) c.args.number (c.args.number - 1) c.in-After.left c.search_all-in-After.result
     (omega (arith, c.if-number-eq0.false))
     (subst (λ r. Tells (map (mask_in gs) (statements (bs ++ b ∷ []) when)) (c.args.number - 1) r) c.in-After.is
-    (subst (λ xs. Tells (map (mask_in gs) (statements (bs ++ b ∷ []) (tree.stmts_view xs))) (c.args.number - 1) c.search_all.result) c.as_slice.ensures (c.search_all.ensures (bs ++ b ∷ []) first)))
-    (subst (λ xs. Tells (map (mask_in gs) (statements (bs ++ o ∷ []) (tree.stmts_view xs))) c.in-After.left c.search_all-in-After.result) c.as_slice-in-After.ensures (c.search_all-in-After.ensures (bs ++ o ∷ []) second)))
+    (subst
+    (λ xs. Tells (map (mask_in gs) (statements (bs ++ b ∷ []) (tree.stmts_view xs))) (c.args.number - 1) c.search_all.result) c.as_slice.ensures
+    (c.search_all.ensures (bs ++ b ∷ []) first)))
+    (subst
+    (λ xs. Tells
+    (map (mask_in gs) (statements (bs ++ o ∷ []) (tree.stmts_view xs))) c.in-After.left c.search_all-in-After.result) c.as_slice-in-After.ensures
+    (c.search_all-in-After.ensures (bs ++ o ∷ []) second)))
 
 pub search_all-returns-in-Here : goal.search_all-returns-in-Here
 search_all-returns-in-Here t c = λ bs own.
@@ -66,7 +77,8 @@ search_all-returns-in-Here t c = λ bs own.
     let item = c.stmt-item.result in
     let rest = drop (c.loop-stmt.stmt-index + 1) c.args.stmts.now in
     c.loop-stmt.invariant bs (Here c.in-Here.mask) own
-    (subst (λ xs. Tells (map (mask_in gs) (statements bs (tree.stmts_view xs))) c.loop-stmt.left (Here c.in-Here.mask)) (sym (drop_next c.args.stmts.now c.loop-stmt.stmt-index item c.loop-stmt-test.true c.stmt-item.is))
+    (subst (λ xs. Tells (map (mask_in gs) (statements bs (tree.stmts_view xs))) c.loop-stmt.left (Here c.in-Here.mask))
+    (sym (drop_next c.args.stmts.now c.loop-stmt.stmt-index item c.loop-stmt-test.true c.stmt-item.is))
     (in_one gs (with_inner bs (tree.stmt_view item)) (statements bs (tree.stmts_view rest)) c.loop-stmt.left c.in-Here.mask
     (subst (λ r. Tells (map (mask_in gs) (with_inner bs (tree.stmt_view item))) c.loop-stmt.left r) c.in-Here.is (c.search.ensures bs own))))
 
@@ -76,7 +88,8 @@ search_all-loop-stmt-preserved t c = λ bs r own later.
     let item = c.stmt-item.result in
     let rest = drop (c.loop-stmt.stmt-index + 1) c.args.stmts.now in
     c.loop-stmt.invariant bs r own
-    (subst (λ xs. Tells (map (mask_in gs) (statements bs (tree.stmts_view xs))) c.loop-stmt.left r) (sym (drop_next c.args.stmts.now c.loop-stmt.stmt-index item c.loop-stmt-test.true c.stmt-item.is))
+    (subst (λ xs. Tells (map (mask_in gs) (statements bs (tree.stmts_view xs))) c.loop-stmt.left r)
+    (sym (drop_next c.args.stmts.now c.loop-stmt.stmt-index item c.loop-stmt-test.true c.stmt-item.is))
     (in_rest gs (with_inner bs (tree.stmt_view item)) (statements bs (tree.stmts_view rest)) c.loop-stmt.left c.in-After.further r
     (subst (λ f. Tells (map (mask_in gs) (with_inner bs (tree.stmt_view item))) c.loop-stmt.left f) c.in-After.is (c.search.ensures bs own))
     later))
@@ -85,4 +98,5 @@ pub search_all-returns : goal.search_all-returns
 search_all-returns t c = λ bs own.
     let gs = c.args.guards.now in
     let none = drop_all c.loop-stmt.stmt-index c.args.stmts.now (omega (arith, c.loop-stmt-test.false)) in
-    c.loop-stmt.invariant bs (After c.loop-stmt.left) own (subst (λ xs. Tells (map (mask_in gs) (statements bs (tree.stmts_view xs))) c.loop-stmt.left (After c.loop-stmt.left)) (sym none) (omega arith))
+    c.loop-stmt.invariant bs (After c.loop-stmt.left) own
+    (subst (λ xs. Tells (map (mask_in gs) (statements bs (tree.stmts_view xs))) c.loop-stmt.left (After c.loop-stmt.left)) (sym none) (omega arith))

@@ -31,7 +31,9 @@ returns-in-Here c =
     ∙ at_body gs p c.args.place k (k - c.len-mems.result) c.search_all.result
     (omega (arith, params, c.len-params.ensures, c.if-place-params.false))
     (omega (arith, mems, c.len-mems.ensures, c.if-place-params-2.false))
-    (subst (λ xs. Tells (map (mask_in gs) (statements [] (tree.stmts_view xs))) (k - c.len-mems.result) c.search_all.result) c.as_slice.ensures (c.search_all.ensures [] refl))
+    (subst
+    (λ xs. Tells (map (mask_in gs) (statements [] (tree.stmts_view xs))) (k - c.len-mems.result) c.search_all.result) c.as_slice.ensures
+    (c.search_all.ensures [] refl))
 
 pub returns-in-After : goal.returns-in-After
 returns-in-After c =
@@ -44,4 +46,6 @@ returns-in-After c =
     ∙ at_body gs p c.args.place k (k - c.len-mems.result) c.search_all.result
     (omega (arith, params, c.len-params.ensures, c.if-place-params.false))
     (omega (arith, mems, c.len-mems.ensures, c.if-place-params-2.false))
-    (subst (λ xs. Tells (map (mask_in gs) (statements [] (tree.stmts_view xs))) (k - c.len-mems.result) c.search_all.result) c.as_slice.ensures (c.search_all.ensures [] refl))
+    (subst
+    (λ xs. Tells (map (mask_in gs) (statements [] (tree.stmts_view xs))) (k - c.len-mems.result) c.search_all.result) c.as_slice.ensures
+    (c.search_all.ensures [] refl))

@@ -10,6 +10,9 @@ use Rattle.pdl_pipe.proofs.deeds.deeds.Given as goal
 abbrev pub invariant-loop-k : goal.invariant-loop-k
 invariant-loop-k l =
     (length l.deeds.items ≡ l.k)
-    × ((k : ℕ) (s : StageNets) (d : StageDeeds) → k < length l.deeds.items → IsAt l.line.stages.now k s → slice_index_or l.deeds.items k d ≡ d → d.ended.now ≡ s.end)
-    × ((k : ℕ) (s : StageNets) (d : StageDeeds) → k < length l.deeds.items → IsAt l.line.stages.now k s → slice_index_or l.deeds.items k d ≡ d → d.tickets.now ≡ s.tickets)
-    × ((k : ℕ) (y : Net) (d : StageDeeds) → k < length l.deeds.items → slice_index_or l.line.moves.now k y ≡ y → slice_index_or l.deeds.items k d ≡ d → d.moves ≡ y)
+    × ((k : ℕ) (s : StageNets) (d : StageDeeds) → k < length l.deeds.items → IsAt l.line.stages.now k s
+    → slice_index_or l.deeds.items k d ≡ d → d.ended.now ≡ s.end)
+    × ((k : ℕ) (s : StageNets) (d : StageDeeds) → k < length l.deeds.items → IsAt l.line.stages.now k s
+    → slice_index_or l.deeds.items k d ≡ d → d.tickets.now ≡ s.tickets)
+    × ((k : ℕ) (y : Net) (d : StageDeeds) → k < length l.deeds.items → slice_index_or l.line.moves.now k y ≡ y
+    → slice_index_or l.deeds.items k d ≡ d → d.moves ≡ y)

@@ -11,5 +11,7 @@ use Rattle.pdl_pipe.proofs.deeds.stage_ports.Given as goal
 abbrev pub invariant-loop-k : goal.invariant-loop-k
 invariant-loop-k l =
     (length l.shown.items ≡ l.k)
-    × ((k : ℕ) (s : StageNets) (y : ShownNets) → k < length l.shown.items → IsAt l.line.stages.now k s → slice_index_or l.shown.items k y ≡ y → y.valid ≡ RegNet s.regs.valid)
-    × ((k : ℕ) (z : Net) (y : ShownNets) → k < length l.shown.items → slice_index_or l.line.moves.now k z ≡ z → slice_index_or l.shown.items k y ≡ y → y.moves ≡ z)
+    × ((k : ℕ) (s : StageNets) (y : ShownNets) → k < length l.shown.items → IsAt l.line.stages.now k s
+    → slice_index_or l.shown.items k y ≡ y → y.valid ≡ RegNet s.regs.valid)
+    × ((k : ℕ) (z : Net) (y : ShownNets) → k < length l.shown.items → slice_index_or l.line.moves.now k z ≡ z
+    → slice_index_or l.shown.items k y ≡ y → y.moves ≡ z)

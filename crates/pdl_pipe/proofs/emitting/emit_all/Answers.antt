@@ -24,7 +24,9 @@ port_states-requires-clause-inputs g c =
     let ins = c.as_slice.result.now in
     let replies = subst (λ ys. AreReplies a f.pipe ys (length f.pipe.mems)) (sym c.as_slice.ensures.value) c.in_ok-inputs.ensures.inputs in
     subst (AreInputs d f.pipe) (sym c.as_slice-2.ensures.value)
-    (c.in_ok-reads.ensures.inputs d (inputs_now l g.met.L.LockModule.stays a b d d f c.in_ok-bits.bits xs ins c.in_ok-reads.reads.items [] c.in_ok-made.ensures.extends c.in_ok-bits.ensures.extends (extends_refl d) replies))
+    (c.in_ok-reads.ensures.inputs d
+    (inputs_now l g.met.L.LockModule.stays a b d d f c.in_ok-bits.bits xs ins c.in_ok-reads.reads.items [] c.in_ok-made.ensures.extends c.in_ok-bits.ensures.extends
+    (extends_refl d) replies))
 
 pub emit_stages-requires-clause-memories : goal.emit_stages-requires-clause-memories
 emit_stages-requires-clause-memories g c =
@@ -40,9 +42,14 @@ emit_stages-requires-clause-memories g c =
     let qs = c.in_ok-ports.ports.items in
     let made = c.in_ok-made.ensures in
     let replies = subst (λ ys. AreReplies a f.pipe ys (length f.pipe.mems)) (sym c.as_slice.ensures.value) c.in_ok-inputs.ensures.inputs in
-    let parts = subst (λ ys. AreParts port_own (has_port e f.pipe ys) (length d.regs) (length e.regs) qs (length f.pipe.mems)) c.as_slice-2.ensures.value c.in_ok-ports.ensures.ports in
+    let parts =
+    subst
+    (λ ys. AreParts port_own (has_port e f.pipe ys) (length d.regs)
+    (length e.regs) qs (length f.pipe.mems)) c.as_slice-2.ensures.value c.in_ok-ports.ensures.ports in
     let can = c.requires.can in
     subst (λ ys. HasMemoriesIn l e f c.in_ok-bits.bits ys c.as_slice-4.result.now) (sym c.as_slice-3.ensures.value)
     (subst (HasMemoriesIn l e f c.in_ok-bits.bits xs) (sym c.as_slice-4.ensures.value)
     (memories_now l g.met.L.LockModule.stays a b d e f c.in_ok-bits.bits xs ins reads qs made.extends c.in_ok-bits.ensures.extends c.port_states.ensures.extends made.locked made.lawful made.unwritten c.in_ok-bits.ensures.bits replies
-    (λ m r is. let k = can.reads.known m r is in (k.0, k.1)) can.onward c.in_ok-reads.ensures.read parts c.in_ok-ports.ensures.answers c.in_ok-inputs.ensures.ports (c.in_ok-inputs.ensures.shapes ∙ empty_shapes c.args.b.now c.requires.empty)))
+    (λ m r is. let k = can.reads.known m r is in
+    (k.0, k.1)) can.onward c.in_ok-reads.ensures.read parts c.in_ok-ports.ensures.answers c.in_ok-inputs.ensures.ports
+    (c.in_ok-inputs.ensures.shapes ∙ empty_shapes c.args.b.now c.requires.empty)))

@@ -21,7 +21,10 @@ emit_steps-requires-clause-line g c =
     let kills = c.as_slice-2.ensures.value in
     let e = extends_keeps a b c.all_moves.ensures.extends in
     let n = sym c.requires.line.count in
-    line_with b x (record x { moves = c.as_slice.result; kills = c.as_slice-2.result }) (line_keep a b x e c.requires.line) (ap length moves ∙ it.passed.moves_count ∙ n) (subst (Each (IsBit b)) (sym moves) it.passed.moves) (ap length kills ∙ it.kills_count ∙ n) (subst (Each (IsBit b)) (sym kills) it.kills)
+    line_with b x (record x { moves = c.as_slice.result; kills = c.as_slice-2.result })
+    (line_keep a b x e c.requires.line) (ap length moves ∙ it.passed.moves_count ∙ n)
+    (subst (Each (IsBit b)) (sym moves) it.passed.moves) (ap length kills ∙ it.kills_count ∙ n)
+    (subst (Each (IsBit b)) (sym kills) it.kills)
 
 pub emit_steps-requires-clause-moved : goal.emit_steps-requires-clause-moved
 emit_steps-requires-clause-moved g c =

@@ -88,7 +88,8 @@ set_registers-requires-clause-ends g c =
     let r = c.requests.new.b in
     let br = extends_keeps b r c.requests.ensures.extends in
     let ar = keeps_trans a b r ab br in
-    subst (AreEnds r (line_form x)) (c.as_slice.ensures.value ∙ sym c.as_slice-2.ensures.value) (ends_keep b r br (line_form x) c.as_slice.result.now (ends_there b x c.as_slice.result.now c.requires.line ends))
+    subst (AreEnds r (line_form x)) (c.as_slice.ensures.value ∙ sym c.as_slice-2.ensures.value)
+    (ends_keep b r br (line_form x) c.as_slice.result.now (ends_there b x c.as_slice.result.now c.requires.line ends))
 
 pub set_registers-requires-clause-ports : goal.set_registers-requires-clause-ports
 set_registers-requires-clause-ports g c =
@@ -168,7 +169,8 @@ set_registers-requires-clause-unwritten g c =
     let r = c.requests.new.b in
     let br = extends_keeps b r c.requests.ensures.extends in
     let ar = keeps_trans a b r ab br in
-    unwritten_kept a r (line_pipe x) (λ k has. c.requests.ensures.extends.writes k (ab.has_array k has) ∙ moved.to_moves.writes k has) layout.locked.has_array layout.unwritten
+    unwritten_kept a r (line_pipe x)
+    (λ k has. c.requests.ensures.extends.writes k (ab.has_array k has) ∙ moved.to_moves.writes k has) layout.locked.has_array layout.unwritten
 
 pub set_registers-requires-clause-next : goal.set_registers-requires-clause-next
 set_registers-requires-clause-next g c =
@@ -223,12 +225,16 @@ show-requires g c =
     let n = regs_grow a r ar in
     let i = c.set_registers.new.b in
     let steps = c.in_ok-steps.ensures in
-    let ri = steps_keep l r i x locks orders c.as_slice-2.result.now y.squash c.in_ok-steps.steps.tails c.in_ok-steps.steps.commits.items (apart_from high (length a.regs) (length r.regs) x.stages.now n layout.apart 0 (omega arith)) steps in
+    let ri =
+    steps_keep l r i x locks orders c.as_slice-2.result.now y.squash c.in_ok-steps.steps.tails c.in_ok-steps.steps.commits.items
+    (apart_from high (length a.regs) (length r.regs) x.stages.now n layout.apart 0 (omega arith)) steps in
     let bi = keeps_trans b r i br ri in
     let line = line_keep b i x bi c.requires.line in
     let shown = subst (AreShownOf x) (sym c.as_slice-3.ensures.value) c.in_ok-shown.ensures in
     let commits = commits_there l a i (line_pipe x) _ locks c.in_ok-steps.steps.commits.items layout.locked steps.last.stepped in
-    let asked = asked_kept r i (line_pipe x) c.in_ok-asked.asked.items ri (are_asked b r (line_pipe x) c.as_slice.result.now c.in_ok-asked.asked.items c.in_ok-asked.ensures.asks) in
+    let asked =
+    asked_kept r i (line_pipe x) c.in_ok-asked.asked.items ri
+    (are_asked b r (line_pipe x) c.as_slice.result.now c.in_ok-asked.asked.items c.in_ok-asked.ensures.asks) in
     let told : AreTold i (line_pipe x) c.as_slice-3.result.now c.as_slice-4.result.now c.as_slice-5.result.now y.squash =
     record {
       stages = shown_there i x c.as_slice-3.result.now line shown;
@@ -259,12 +265,16 @@ returns g c =
     let n = regs_grow a r ar in
     let i = c.set_registers.new.b in
     let steps = c.in_ok-steps.ensures in
-    let ri = steps_keep l r i x locks orders c.as_slice-2.result.now y.squash c.in_ok-steps.steps.tails c.in_ok-steps.steps.commits.items (apart_from high (length a.regs) (length r.regs) x.stages.now n layout.apart 0 (omega arith)) steps in
+    let ri =
+    steps_keep l r i x locks orders c.as_slice-2.result.now y.squash c.in_ok-steps.steps.tails c.in_ok-steps.steps.commits.items
+    (apart_from high (length a.regs) (length r.regs) x.stages.now n layout.apart 0 (omega arith)) steps in
     let bi = keeps_trans b r i br ri in
     let line = line_keep b i x bi c.requires.line in
     let shown = subst (AreShownOf x) (sym c.as_slice-3.ensures.value) c.in_ok-shown.ensures in
     let commits = commits_there l a i (line_pipe x) _ locks c.in_ok-steps.steps.commits.items layout.locked steps.last.stepped in
-    let asked = asked_kept r i (line_pipe x) c.in_ok-asked.asked.items ri (are_asked b r (line_pipe x) c.as_slice.result.now c.in_ok-asked.asked.items c.in_ok-asked.ensures.asks) in
+    let asked =
+    asked_kept r i (line_pipe x) c.in_ok-asked.asked.items ri
+    (are_asked b r (line_pipe x) c.as_slice.result.now c.in_ok-asked.asked.items c.in_ok-asked.ensures.asks) in
     let told : AreTold i (line_pipe x) c.as_slice-3.result.now c.as_slice-4.result.now c.as_slice-5.result.now y.squash =
     record {
       stages = shown_there i x c.as_slice-3.result.now line shown;
@@ -278,7 +288,18 @@ returns g c =
     let outs = c.in_ok-outs.outs in
     let one = c.as_slice.ensures.value in
     let two = c.as_slice-2.ensures.value in
-    let nets : Nets g.row.L.Denot = record { locks = locks; orders = orders; line = x; moves = y; requests = c.in_ok-asked.asked.items; tails = c.in_ok-steps.steps.tails; ends = es; deeds = steps.last.deeds; commits = c.in_ok-steps.steps.commits.items } in
+    let nets : Nets g.row.L.Denot =
+    record {
+      locks = locks;
+      orders = orders;
+      line = x;
+      moves = y;
+      requests = c.in_ok-asked.asked.items;
+      tails = c.in_ok-steps.steps.tails;
+      ends = es;
+      deeds = steps.last.deeds;
+      commits = c.in_ok-steps.steps.commits.items;
+    } in
     let emission : Emission l nets =
     record {
       a = a;
@@ -331,5 +352,7 @@ returns g c =
       there = c.in_ok-outs.ensures.there i told;
       ports = subst (λ os. ExtendsPorts i d (map (port_in i) (map output_of os))) c.as_slice-6.ensures ports;
       shown = subst (λ ns. ShowAll i (line_form x) c.as_slice-3.result.now y.squash ns c.in_ok-asked.asked.items outs) c.as_slice-4.ensures.value
-          (subst (λ rs. ShowAll i (line_form x) c.as_slice-3.result.now y.squash c.as_slice-4.result.now rs outs) c.as_slice-5.ensures.value (c.in_ok-outs.ensures.shown i told));
+          (subst
+          (λ rs. ShowAll i (line_form x) c.as_slice-3.result.now y.squash c.as_slice-4.result.now rs outs) c.as_slice-5.ensures.value
+          (c.in_ok-outs.ensures.shown i told));
     }

@@ -138,7 +138,10 @@ lock_steps-requires-clause-unwritten g c =
     let l = members g.L.LockModule in
     let locks = c.args.all.now.locks.now in
     unwritten_kept b h (line_pipe x)
-    (λ k has. c.in_ok-order_steps.ensures.extends.writes k (bi.has_array k has) ∙ c.in_ok-port_steps.ensures.extends.writes k (bf.has_array k has) ∙ c.tails.ensures.extends.writes k (be.has_array k has) ∙ (c.connect.ensures.extends 0 c.requires.apart).writes k has (inr (omega arith)))
+    (λ k has. c.in_ok-order_steps.ensures.extends.writes k (bi.has_array k has)
+    ∙ c.in_ok-port_steps.ensures.extends.writes k (bf.has_array k has)
+    ∙ c.tails.ensures.extends.writes k (be.has_array k has)
+    ∙ (c.connect.ensures.extends 0 c.requires.apart).writes k has (inr (omega arith)))
     c.requires.locked.has_array c.requires.unwritten
 
 pub lock_steps-requires-clause-next : goal.lock_steps-requires-clause-next
@@ -179,5 +182,7 @@ lock_steps-requires-clause-cut g c =
     let eh = keeps_trans e f h (extends_keeps e f c.tails.ensures.extends) fh in
     let row = c.in_ok-tails.ensures.row in
     subst (AreTickets l h locks) (sym c.as_slice.ensures)
-    (cut_fits l e f h (line_pipe x) locks c.in_ok-tails.tails.cut x.shared.now.next fh (locked_kept l b h (line_pipe x) locks bh g.met.L.LockModule.stays c.requires.locked) row.there row.wide
-    (signals_keep e h x.shared.now.next eh (there_keeps b e x.shared.now.next be c.requires.line.shared.next_there)) (next_kept l b h (line_pipe x) locks x.shared.now.next bh c.requires.locked c.requires.line.shared.next_there c.requires.next))
+    (cut_fits l e f h (line_pipe x) locks c.in_ok-tails.tails.cut x.shared.now.next fh
+    (locked_kept l b h (line_pipe x) locks bh g.met.L.LockModule.stays c.requires.locked) row.there row.wide
+    (signals_keep e h x.shared.now.next eh (there_keeps b e x.shared.now.next be c.requires.line.shared.next_there))
+    (next_kept l b h (line_pipe x) locks x.shared.now.next bh c.requires.locked c.requires.line.shared.next_there c.requires.next))

@@ -40,7 +40,8 @@ loop-i-preserved c =
         on = λ s.
             net.on s
             ∙ both_as (signal m0 c.in_ok-done.done) (signal m0 c.loop-i.net) (memory_answered p f k m (reading p m)) (all_answered p f k i (n - i))
-            (λ z. done.on z ∙ ap (λ (g : Signal). is_on g z) (memory_answered_same a b e p ports k m c.requires.ports)) (λ z. ap (λ (g : Signal). is_on g z) old ∙ c.loop-i.invariant.2.on z) s
+            (λ z. done.on z ∙ ap (λ (g : Signal). is_on g z) (memory_answered_same a b e p ports k m c.requires.ports))
+            (λ z. ap (λ (g : Signal). is_on g z) old ∙ c.loop-i.invariant.2.on z) s
             ∙ ap (λ (g : Signal). is_on g s) (answered_more p f k n i m low (ap (λ j. j - 1 - i) count));
       },
     )

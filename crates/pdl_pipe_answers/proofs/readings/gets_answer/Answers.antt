@@ -13,4 +13,7 @@ loop-m-preserved c =
     let count : length c.mems-m-end.result.now ≡ n = sym (length-map c.mems-m-end.result.now mem_view) ∙ ap length c.mems-m-end.ensures.mems in
     let test = c.loop-m-test.true in
     let low : c.loop-m.m < n = omega (arith, test, count) in
-    sym (gets_more p c.args.stage c.args.x n c.loop-m.m low ∙ ap (λ b. b || gets_some p c.args.stage c.args.x (n - (c.loop-m.m + 1)) (c.loop-m.m + 1)) (sym c.gets_from.ensures ∙ c.if-gets_from.false)) ∙ c.loop-m.invariant
+    sym
+    (gets_more p c.args.stage c.args.x n c.loop-m.m low
+    ∙ ap (λ b. b || gets_some p c.args.stage c.args.x (n - (c.loop-m.m + 1)) (c.loop-m.m + 1)) (sym c.gets_from.ensures ∙ c.if-gets_from.false))
+    ∙ c.loop-m.invariant

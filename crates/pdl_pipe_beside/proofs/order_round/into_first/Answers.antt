@@ -10,11 +10,13 @@ by_variable-requires-clause-var c =
     let f = form c.args.round.now.pipe.now in
     let k = c.args.fork in
     let x = c.in-Forks in
-    (fork_var f.widths (stage_at f.pipe k).next x.x x.first x.second (sym c.next_of.ensures ∙ ap next_view x.is) (fork_at f.widths f.pipe.stages k c.requires.stage c.requires.forks)).0
+    (fork_var f.widths (stage_at f.pipe k).next x.x x.first x.second (sym c.next_of.ensures ∙ ap next_view x.is)
+    (fork_at f.widths f.pipe.stages k c.requires.stage c.requires.forks)).0
 
 pub by_variable-requires-clause-wide : goal.by_variable-requires-clause-wide
 by_variable-requires-clause-wide c =
     let f = form c.args.round.now.pipe.now in
     let k = c.args.fork in
     let x = c.in-Forks in
-    (fork_var f.widths (stage_at f.pipe k).next x.x x.first x.second (sym c.next_of.ensures ∙ ap next_view x.is) (fork_at f.widths f.pipe.stages k c.requires.stage c.requires.forks)).1
+    (fork_var f.widths (stage_at f.pipe k).next x.x x.first x.second (sym c.next_of.ensures ∙ ap next_view x.is)
+    (fork_at f.widths f.pipe.stages k c.requires.stage c.requires.forks)).1

@@ -11,7 +11,8 @@ use Rattle.pdl_pipe_beside.proofs.OrderSteps.{leave_more}
 use Rattle.pdl_pipe_beside.proofs.order_round.leaves_fork.Goals as goal
 
 pub leave_or-requires-clause-ends : goal.leave_or-requires-clause-ends
-leave_or-requires-clause-ends c = ends_kept (form c.args.round.now.pipe.now) c.args.round.now.ends.now c.args.b.now c.loop-i.b c.requires.ends c.loop-i.invariant.extends
+leave_or-requires-clause-ends c =
+    ends_kept (form c.args.round.now.pipe.now) c.args.round.now.ends.now c.args.b.now c.loop-i.b c.requires.ends c.loop-i.invariant.extends
 
 pub loop-i-preserved : goal.loop-i-preserved
 loop-i-preserved c =
@@ -31,7 +32,8 @@ loop-i-preserved c =
       means = record {
         there = s.means.there;
         same = s.means.same
-            ∙ ap₂ (λ vs ms. leave_or p (λ j. slice_index_or vs j no_view) (λ j. signal_at ms j) c.args.fork (n - 1 - i) (signal b c.loop-i.net)) (views_same a b k f es c.requires.ends) (moves_same a b k f es c.requires.ends)
+            ∙ ap₂ (λ vs ms. leave_or p (λ j. slice_index_or vs j no_view) (λ j. signal_at ms j) c.args.fork (n - 1 - i) (signal b c.loop-i.net))
+            (views_same a b k f es c.requires.ends) (moves_same a b k f es c.requires.ends)
             ∙ ap (leave_or p (ends_in a es) (moves_in a es) c.args.fork (n - 1 - i)) v.means.same
             ∙ leave_more p (ends_in a es) (moves_in a es) c.args.fork n i low;
       };

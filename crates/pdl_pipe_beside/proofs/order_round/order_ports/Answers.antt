@@ -12,7 +12,8 @@ use Rattle.pdl_pipe_beside.proofs.OrderSteps.{move_same, view_same, leaves_same,
 use Rattle.pdl_pipe_beside.proofs.order_round.order_ports.Goals as goal
 
 pub enters-requires-clause-ends : goal.enters-requires-clause-ends
-enters-requires-clause-ends c = ends_kept (form c.args.round.now.pipe.now) c.args.round.now.ends.now c.args.b.now c.into_first.new.b c.requires.ends c.in_ok-first.ensures.extends
+enters-requires-clause-ends c =
+    ends_kept (form c.args.round.now.pipe.now) c.args.round.now.ends.now c.args.b.now c.into_first.new.b c.requires.ends c.in_ok-first.ensures.extends
 
 pub into_second-requires-clause-ends : goal.into_second-requires-clause-ends
 into_second-requires-clause-ends c =
@@ -59,12 +60,20 @@ returns-then-is_emptied-clause-same c =
     let to_end = extends_trans a b4 d to4 left.extends in
     let rest2 = extends_trans b2 b3 d second.extends (extends_trans b3 b4 d in_second.extends left.extends) in
     ports_same a d p es c.args.squash k
-    (record { entered_first = c.in_ok-entered_first.entered_first; entered_second = c.in_ok-entered_second.entered_second; left = c.in_ok-left.left; emptied = c.args.squash })
-    (rest2.kept c.in_ok-entered_first.entered_first in_first.means.there ∙ in_first.means.same ∙ ap₂ both (move_same a b1 f es k (extends_keeps a b1 first.extends) c.requires.ends) first.means.same)
+    (record {
+      entered_first = c.in_ok-entered_first.entered_first;
+      entered_second = c.in_ok-entered_second.entered_second;
+      left = c.in_ok-left.left;
+      emptied = c.args.squash;
+    })
+    (rest2.kept c.in_ok-entered_first.entered_first in_first.means.there ∙ in_first.means.same
+    ∙ ap₂ both (move_same a b1 f es k (extends_keeps a b1 first.extends) c.requires.ends) first.means.same)
     (left.extends.kept c.in_ok-entered_second.entered_second in_second.means.there ∙ in_second.means.same
-    ∙ ap₂ both (move_same a b3 f es k (extends_keeps a b3 to3) c.requires.ends) (second.means.same ∙ ap (λ (v : View). into_second p k n v.ended) (view_same a b2 f es k (extends_keeps a b2 to2) c.requires.ends)))
+    ∙ ap₂ both (move_same a b3 f es k (extends_keeps a b3 to3) c.requires.ends)
+    (second.means.same ∙ ap (λ (v : View). into_second p k n v.ended) (view_same a b2 f es k (extends_keeps a b2 to2) c.requires.ends)))
     (left.means.same ∙ leaves_same a b4 f es k (extends_keeps a b4 to4) c.requires.ends)
-    (to_end.kept c.args.squash c.requires.squash ∙ sym (ap (λ b. if b then signal a c.args.squash else zero_bit) (sym c.is_emptied.ensures ∙ c.if-is_emptied.true)))
+    (to_end.kept c.args.squash c.requires.squash
+    ∙ sym (ap (λ b. if b then signal a c.args.squash else zero_bit) (sym c.is_emptied.ensures ∙ c.if-is_emptied.true)))
 
 pub returns-else-is_emptied-clause-same : goal.returns-else-is_emptied-clause-same
 returns-else-is_emptied-clause-same c =
@@ -90,9 +99,17 @@ returns-else-is_emptied-clause-same c =
     let to_end = extends_trans a b4 d to4 left.extends in
     let rest2 = extends_trans b2 b3 d second.extends (extends_trans b3 b4 d in_second.extends left.extends) in
     ports_same a d p es c.args.squash k
-    (record { entered_first = c.in_ok-entered_first.entered_first; entered_second = c.in_ok-entered_second.entered_second; left = c.in_ok-left.left; emptied = c.args.round.now.bits.zero })
-    (rest2.kept c.in_ok-entered_first.entered_first in_first.means.there ∙ in_first.means.same ∙ ap₂ both (move_same a b1 f es k (extends_keeps a b1 first.extends) c.requires.ends) first.means.same)
+    (record {
+      entered_first = c.in_ok-entered_first.entered_first;
+      entered_second = c.in_ok-entered_second.entered_second;
+      left = c.in_ok-left.left;
+      emptied = c.args.round.now.bits.zero;
+    })
+    (rest2.kept c.in_ok-entered_first.entered_first in_first.means.there ∙ in_first.means.same
+    ∙ ap₂ both (move_same a b1 f es k (extends_keeps a b1 first.extends) c.requires.ends) first.means.same)
     (left.extends.kept c.in_ok-entered_second.entered_second in_second.means.there ∙ in_second.means.same
-    ∙ ap₂ both (move_same a b3 f es k (extends_keeps a b3 to3) c.requires.ends) (second.means.same ∙ ap (λ (v : View). into_second p k n v.ended) (view_same a b2 f es k (extends_keeps a b2 to2) c.requires.ends)))
+    ∙ ap₂ both (move_same a b3 f es k (extends_keeps a b3 to3) c.requires.ends)
+    (second.means.same ∙ ap (λ (v : View). into_second p k n v.ended) (view_same a b2 f es k (extends_keeps a b2 to2) c.requires.ends)))
     (left.means.same ∙ leaves_same a b4 f es k (extends_keeps a b4 to4) c.requires.ends)
-    (to_end.kept c.args.round.now.bits.zero c.requires.bits.zero.there ∙ c.requires.bits.zero.same ∙ sym (ap (λ b. if b then signal a c.args.squash else zero_bit) (sym c.is_emptied.ensures ∙ c.if-is_emptied.false)))
+    (to_end.kept c.args.round.now.bits.zero c.requires.bits.zero.there ∙ c.requires.bits.zero.same
+    ∙ sym (ap (λ b. if b then signal a c.args.squash else zero_bit) (sym c.is_emptied.ensures ∙ c.if-is_emptied.false)))

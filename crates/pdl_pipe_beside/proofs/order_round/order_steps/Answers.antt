@@ -10,10 +10,12 @@ use Rattle.pdl_pipe_beside.proofs.OrderSteps.{orders_stand, stepped_more, no_arr
 use Rattle.pdl_pipe_beside.proofs.order_round.order_steps.Goals as goal
 
 pub fork_step-requires-clause-ends : goal.fork_step-requires-clause-ends
-fork_step-requires-clause-ends c = ends_keep c.args.b.now c.loop-fork.b c.loop-fork.invariant.extends.keeps (form c.args.round.now.pipe.now) c.args.round.now.ends.now c.requires.ends
+fork_step-requires-clause-ends c =
+    ends_keep c.args.b.now c.loop-fork.b c.loop-fork.invariant.extends.keeps (form c.args.round.now.pipe.now) c.args.round.now.ends.now c.requires.ends
 
 pub fork_step-requires-clause-orders : goal.fork_step-requires-clause-orders
-fork_step-requires-clause-orders c = orders_stand c.args.b.now c.loop-fork.b (form c.args.round.now.pipe.now).pipe c.args.orders.now c.loop-fork.invariant.extends.keeps c.requires.orders
+fork_step-requires-clause-orders c =
+    orders_stand c.args.b.now c.loop-fork.b (form c.args.round.now.pipe.now).pipe c.args.orders.now c.loop-fork.invariant.extends.keeps c.requires.orders
 
 pub loop-fork-preserved : goal.loop-fork-preserved
 loop-fork-preserved c =
@@ -25,10 +27,12 @@ loop-fork-preserved c =
     let rs = c.args.orders.now in
     let v = c.loop-fork.invariant in
     let s = c.in_ok-fork_step.ensures in
-    let count : length c.stages-fork-end.result.now ≡ length f.pipe.stages = sym (length-map c.stages-fork-end.result.now stage_view) ∙ ap length c.stages-fork-end.ensures in
+    let count : length c.stages-fork-end.result.now ≡ length f.pipe.stages =
+    sym (length-map c.stages-fork-end.result.now stage_view) ∙ ap length c.stages-fork-end.ensures in
     let low : k < length f.pipe.stages = omega (arith, c.loop-fork-test.true, c.loop-fork.auto.fork-end, count) in
     record {
-      stepped = stepped_more a f c.args.round.now.ends.now c.args.squash rs c.requires.squash c.requires.orders c.requires.ends b d k low v.extends.keeps s.extends s.stepped v.stepped;
+      stepped =
+          stepped_more a f c.args.round.now.ends.now c.args.squash rs c.requires.squash c.requires.orders c.requires.ends b d k low v.extends.keeps s.extends s.stepped v.stepped;
       extends = extends_more (own_at order_own rs) k a b d (no_arrays rs k) v.extends s.extends;
     }
 
@@ -37,7 +41,8 @@ returns-in_err-fork_step-clause-extends c =
     let f = form c.args.round.now.pipe.now in
     let owns = own_at order_own c.args.orders.now in
     let k = c.loop-fork.fork in
-    let count : length c.stages-fork-end.result.now ≡ length f.pipe.stages = sym (length-map c.stages-fork-end.result.now stage_view) ∙ ap length c.stages-fork-end.ensures in
+    let count : length c.stages-fork-end.result.now ≡ length f.pipe.stages =
+    sym (length-map c.stages-fork-end.result.now stage_view) ∙ ap length c.stages-fork-end.ensures in
     let low : k < length f.pipe.stages = omega (arith, c.loop-fork-test.true, c.loop-fork.auto.fork-end, count) in
     parts_wider owns (k + 1) (length f.pipe.stages) c.args.b.now c.fork_step.new.b (omega (arith, low))
     (extends_more owns k c.args.b.now c.loop-fork.b c.fork_step.new.b (no_arrays c.args.orders.now k) c.loop-fork.invariant.extends c.fork_step.ensures.extends)

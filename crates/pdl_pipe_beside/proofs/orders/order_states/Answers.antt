@@ -20,8 +20,13 @@ loop-fork-preserved c =
     let v = c.loop-fork.invariant in
     let s = c.in_ok-order.ensures in
     let k = extends_keeps b d s.extends in
-    let more = parts_more order_own (HasOrderOf b p) (HasOrderOf d p) (length a.regs) b d c.loop-fork.orders.items c.in_ok-order.order f (has_order_stays b d k p) (regs_grow b d k) (regs_grow a b (extends_keeps a b v.extends)) s.new s.order v.orders in
+    let more =
+    parts_more order_own (HasOrderOf b p) (HasOrderOf d p)
+    (length a.regs) b d c.loop-fork.orders.items c.in_ok-order.order f (has_order_stays b d k p) (regs_grow b d k)
+    (regs_grow a b (extends_keeps a b v.extends)) s.new s.order v.orders in
     record {
-      orders = subst (λ (rs : List (Option OrderRegs)). AreParts order_own (HasOrderOf d p) (length a.regs) (length d.regs) rs (f + 1)) (sym c.in_ok-push.ensures.items) more;
+      orders =
+          subst (λ (rs : List (Option OrderRegs)). AreParts order_own (HasOrderOf d p) (length a.regs) (length d.regs) rs (f + 1))
+          (sym c.in_ok-push.ensures.items) more;
       extends = extends_trans a b d v.extends s.extends;
     }

@@ -31,7 +31,8 @@ stage_request-requires-clause-asks c =
     let is : reading f.pipe c.args.m ≡ Some r = sym c.read_delayed.ensures ∙ ap (option_map reading_view) c.in-Some.is in
     let at = end_is a f c.args.round.now.ends.now r.stage e c.requires.ends (c.requires.leads.stage c.args.m r is) c.end_at-end.ensures in
     let depth = c.address_bits-width.ensures.power ∙ ap (λ (x : Mem). x.depth) c.memory.ensures in
-    subst (λ (qs : List AskNet). Each (IsAddressNet a c.args.m c.address_bits-width.result) qs) (sym c.as_slice-asks.ensures) (end_addresses a f e c.args.m c.address_bits-width.result depth at)
+    subst (λ (qs : List AskNet). Each (IsAddressNet a c.args.m c.address_bits-width.result) qs)
+    (sym c.as_slice-asks.ensures) (end_addresses a f e c.args.m c.address_bits-width.result depth at)
 
 pub returns-in_ok-asked-in-Some-clause-asks : goal.returns-in_ok-asked-in-Some-clause-asks
 returns-in_ok-asked-in-Some-clause-asks c =
@@ -50,4 +51,5 @@ returns-in_ok-asked-in-Some-clause-asks c =
     let depth = c.address_bits-width.ensures.power ∙ ap (λ (y : Mem). y.depth) c.memory.ensures in
     let E : List AskNet → Type 0 = λ qs. Means d x.enable (asks_memory m (signal a e.moves) (map (ask_in a) qs)) in
     let A : List AskNet → Type 0 = λ qs. Means d x.addr (address_from m (signal a e.moves) (const_signal w 0) (map (ask_in a) qs)) in
-    request_some a d f.pipe es m w r e x is low c.end_at-end.ensures (subst E c.as_slice-asks.ensures s.enable) s.enable_one (subst A c.as_slice-asks.ensures s.addr) s.wide depth
+    request_some a d f.pipe es m w r e x is low c.end_at-end.ensures
+    (subst E c.as_slice-asks.ensures s.enable) s.enable_one (subst A c.as_slice-asks.ensures s.addr) s.wide depth

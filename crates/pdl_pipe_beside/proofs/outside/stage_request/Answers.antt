@@ -14,5 +14,9 @@ returns-clause-addr c =
     let addr = c.in_ok-addr.ensures.means in
     record {
       there = addr.there;
-      same = addr.same ∙ ap₂ (λ (f : Signal) (qs : List Ask). address_from c.args.m f (const_signal c.args.width 0) qs) (e.kept c.args.moves c.requires.moves) (asks_same a b c.args.m c.args.width c.args.asks.now (extends_keeps a b e) c.requires.asks);
+      same =
+          addr.same
+          ∙ ap₂ (λ (f : Signal) (qs : List Ask). address_from c.args.m f (const_signal c.args.width 0) qs)
+          (e.kept c.args.moves c.requires.moves)
+          (asks_same a b c.args.m c.args.width c.args.asks.now (extends_keeps a b e) c.requires.asks);
     }

@@ -10,12 +10,15 @@ use Rattle.pdl_pipe_beside.proofs.PortSteps.{some_stepped}
 use Rattle.pdl_pipe_beside.proofs.port_round.memory_step.Goals as goal
 
 pub step_nets-requires-clause-to : goal.step_nets-requires-clause-to
-step_nets-requires-clause-to c = c.requires.leads.to c.args.m (reading_view c.in-Some.r) (sym c.read_delayed.ensures ∙ ap (option_map reading_view) c.in-Some.is)
+step_nets-requires-clause-to c =
+    c.requires.leads.to c.args.m (reading_view c.in-Some.r) (sym c.read_delayed.ensures ∙ ap (option_map reading_view) c.in-Some.is)
 
 pub emit_port_step-requires-clause-placed : goal.emit_port_step-requires-clause-placed
 emit_port_step-requires-clause-placed c =
     let q = c.port_of.result.now in
-    let is = c.requires.ports.each c.args.m (reading_view c.in-Some.r) q (sym c.read_delayed.ensures ∙ ap (option_map reading_view) c.in-Some.is) c.port_of.ensures in
+    let is =
+    c.requires.ports.each c.args.m (reading_view c.in-Some.r) q
+    (sym c.read_delayed.ensures ∙ ap (option_map reading_view) c.in-Some.is) c.port_of.ensures in
     let a = c.args.b.now in
     let b = c.step_nets.new.b in
     port_keeps a b q (extends_keeps a b c.in_ok-step-in-Some.ensures.extends) is.placed
@@ -23,19 +26,25 @@ emit_port_step-requires-clause-placed c =
 pub emit_port_step-requires-clause-asked : goal.emit_port_step-requires-clause-asked
 emit_port_step-requires-clause-asked c =
     let q = c.port_of.result.now in
-    let is = c.requires.ports.each c.args.m (reading_view c.in-Some.r) q (sym c.read_delayed.ensures ∙ ap (option_map reading_view) c.in-Some.is) c.port_of.ensures in
+    let is =
+    c.requires.ports.each c.args.m (reading_view c.in-Some.r) q
+    (sym c.read_delayed.ensures ∙ ap (option_map reading_view) c.in-Some.is) c.port_of.ensures in
     subst (HasBits c.step_nets.new.b c.in_ok-step-in-Some.step.asked) (sym is.count) c.in_ok-step-in-Some.ensures.asked.bits
 
 pub emit_port_step-requires-clause-moves : goal.emit_port_step-requires-clause-moves
 emit_port_step-requires-clause-moves c =
     let q = c.port_of.result.now in
-    let is = c.requires.ports.each c.args.m (reading_view c.in-Some.r) q (sym c.read_delayed.ensures ∙ ap (option_map reading_view) c.in-Some.is) c.port_of.ensures in
+    let is =
+    c.requires.ports.each c.args.m (reading_view c.in-Some.r) q
+    (sym c.read_delayed.ensures ∙ ap (option_map reading_view) c.in-Some.is) c.port_of.ensures in
     subst (HasBits c.step_nets.new.b c.in_ok-step-in-Some.step.moves) (sym is.count) c.in_ok-step-in-Some.ensures.moves.bits
 
 pub emit_port_step-requires-clause-removed : goal.emit_port_step-requires-clause-removed
 emit_port_step-requires-clause-removed c =
     let q = c.port_of.result.now in
-    let is = c.requires.ports.each c.args.m (reading_view c.in-Some.r) q (sym c.read_delayed.ensures ∙ ap (option_map reading_view) c.in-Some.is) c.port_of.ensures in
+    let is =
+    c.requires.ports.each c.args.m (reading_view c.in-Some.r) q
+    (sym c.read_delayed.ensures ∙ ap (option_map reading_view) c.in-Some.is) c.port_of.ensures in
     subst (HasBits c.step_nets.new.b c.in_ok-step-in-Some.step.removed) (sym is.count) c.in_ok-step-in-Some.ensures.removed.bits
 
 pub returns-in_ok-emit_port_step-in-Some-clause-stepped : goal.returns-in_ok-emit_port_step-in-Some-clause-stepped

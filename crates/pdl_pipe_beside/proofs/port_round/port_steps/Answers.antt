@@ -14,10 +14,12 @@ pub memory_step-requires-clause-bits : goal.memory_step-requires-clause-bits
 memory_step-requires-clause-bits c = bits_keep c.args.b.now c.loop-m.b c.args.round.now.bits c.loop-m.invariant.extends.keeps c.requires.bits
 
 pub memory_step-requires-clause-ends : goal.memory_step-requires-clause-ends
-memory_step-requires-clause-ends c = ends_keep c.args.b.now c.loop-m.b c.loop-m.invariant.extends.keeps (form c.args.round.now.pipe.now) c.args.round.now.ends.now c.requires.ends
+memory_step-requires-clause-ends c =
+    ends_keep c.args.b.now c.loop-m.b c.loop-m.invariant.extends.keeps (form c.args.round.now.pipe.now) c.args.round.now.ends.now c.requires.ends
 
 pub memory_step-requires-clause-ports : goal.memory_step-requires-clause-ports
-memory_step-requires-clause-ports c = ports_stand c.args.b.now c.loop-m.b (form c.args.round.now.pipe.now).pipe c.args.ports.now c.loop-m.invariant.extends.keeps c.requires.ports
+memory_step-requires-clause-ports c =
+    ports_stand c.args.b.now c.loop-m.b (form c.args.round.now.pipe.now).pipe c.args.ports.now c.loop-m.invariant.extends.keeps c.requires.ports
 
 pub loop-m-preserved : goal.loop-m-preserved
 loop-m-preserved c =

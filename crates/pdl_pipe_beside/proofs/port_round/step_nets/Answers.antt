@@ -46,7 +46,9 @@ loop-i-preserved c =
     let to_b = extends_trans a o b first.extends v.extends in
     let to_d = extends_trans a b d to_b into.extends in
     let next : next_view c.next_of-next.result ≡ (stage_at p r.stage).next = c.next_of-next.ensures in
-    let low : i < length (places p r) = let n = c.place_count-i-end.ensures.count in let m = ap (λ (y : Next). length (places_of y)) next in omega (arith, c.loop-i-test.true, c.loop-i.auto.i-end, n, m) in
+    let low : i < length (places p r) = let n = c.place_count-i-end.ensures.count in
+    let m = ap (λ (y : Next). length (places_of y)) next in
+    omega (arith, c.loop-i-test.true, c.loop-i.auto.i-end, n, m) in
     let place_is : c.place.result ≡ place_at p r i = c.place.ensures ∙ ap (λ (y : Next). slice_index (places_of y) i) next in
     let known : c.place.result < length p.stages = let l = c.requires.to i low in omega (arith, l, place_is) in
     let within : c.place.result < length es = omega (arith, known, c.requires.ends.count) in
@@ -54,15 +56,18 @@ loop-i-preserved c =
     let views = views_same a b (extends_keeps a b to_b) f es c.requires.ends in
     let asked_is : signal d x ≡ asked_into p (ends_in a es) (moves_in a es) c.args.m r i =
     into.means.same
-    ∙ ap₂ (λ (g : Signal) (vs : List View). both g (goes_to_place (stage_at p r.stage).next i (slice_index_or vs r.stage no_view).ended)) (v.extends.kept asks first.means.there ∙ first.means.same) views in
+    ∙ ap₂ (λ (g : Signal) (vs : List View). both g (goes_to_place (stage_at p r.stage).next i (slice_index_or vs r.stage no_view).ended))
+    (v.extends.kept asks first.means.there ∙ first.means.same) views in
     let moves_are = to_d.kept e.moves is.moves ∙ move_at a es c.place.result e within c.end_at-end.ensures ∙ ap (moves_in a es) place_is in
     let kills_are = to_d.kept e.killed is.killed ∙ kill_at a es c.place.result e within c.end_at-end.ensures ∙ ap (kills_in a es) place_is in
     record {
       asked = subst (λ (xs : List Net). AreNetsOf d xs (i + 1) (asked_into p (ends_in a es) (moves_in a es) c.args.m r)) (sym c.in_ok-push.ensures.ok)
           (nets_more b d c.loop-i.asked i (asked_into p (ends_in a es) (moves_in a es) c.args.m r) x v.asked into.extends into.means.there into.one asked_is);
       moves = subst (λ (xs : List Net). AreNetsOf d xs (i + 1) (λ j. moves_in a es (place_at p r j))) (sym c.in_ok-push-2.ensures.ok)
-          (nets_more b d c.loop-i.moves i (λ j. moves_in a es (place_at p r j)) e.moves v.moves into.extends (to_d.there e.moves is.moves) (ap (λ (g : Signal). g.width) (to_d.kept e.moves is.moves) ∙ is.moves_one) moves_are);
+          (nets_more b d c.loop-i.moves i (λ j. moves_in a es (place_at p r j)) e.moves v.moves into.extends (to_d.there e.moves is.moves)
+          (ap (λ (g : Signal). g.width) (to_d.kept e.moves is.moves) ∙ is.moves_one) moves_are);
       removed = subst (λ (xs : List Net). AreNetsOf d xs (i + 1) (λ j. kills_in a es (place_at p r j))) (sym c.in_ok-push-3.ensures.ok)
-          (nets_more b d c.loop-i.removed i (λ j. kills_in a es (place_at p r j)) e.killed v.removed into.extends (to_d.there e.killed is.killed) (ap (λ (g : Signal). g.width) (to_d.kept e.killed is.killed) ∙ is.killed_one) kills_are);
+          (nets_more b d c.loop-i.removed i (λ j. kills_in a es (place_at p r j)) e.killed v.removed into.extends (to_d.there e.killed is.killed)
+          (ap (λ (g : Signal). g.width) (to_d.kept e.killed is.killed) ∙ is.killed_one) kills_are);
       extends = extends_trans o b d v.extends into.extends;
     }

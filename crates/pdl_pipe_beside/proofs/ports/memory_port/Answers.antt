@@ -7,7 +7,8 @@ use Rattle.pdl_pipe_beside.proofs.PortParts.{port_some}
 use Rattle.pdl_pipe_beside.proofs.ports.memory_port.Goals as goal
 
 pub read_port-requires-clause-leads : goal.read_port-requires-clause-leads
-read_port-requires-clause-leads c = c.requires.leads.onward c.args.m (reading_view c.in-Some.r) (sym c.read_delayed.ensures ∙ ap (option_map reading_view) c.in-Some.is)
+read_port-requires-clause-leads c =
+    c.requires.leads.onward c.args.m (reading_view c.in-Some.r) (sym c.read_delayed.ensures ∙ ap (option_map reading_view) c.in-Some.is)
 
 pub read_port-requires-clause-input : goal.read_port-requires-clause-input
 read_port-requires-clause-input c = c.requires.inputs.each c.args.m c.input_of-input.result c.input_of-input.ensures
@@ -17,4 +18,7 @@ returns-in_ok-port-in-Some-clause-port c =
     let p = (form c.args.pipe.now).pipe in
     let r = reading_view c.in-Some.r in
     let s = c.in_ok-port-in-Some.ensures in
-    port_some c.read_port.new.b p c.args.m r c.input_of-input.result (input_at c.args.inputs.now c.args.m) c.in_ok-port-in-Some.port (sym c.read_delayed.ensures ∙ ap (option_map reading_view) c.in-Some.is) c.input_of-input.ensures (s.port r refl) s.reply s.word
+    port_some c.read_port.new.b p c.args.m r c.input_of-input.result
+    (input_at c.args.inputs.now c.args.m) c.in_ok-port-in-Some.port
+    (sym c.read_delayed.ensures ∙ ap (option_map reading_view) c.in-Some.is) c.input_of-input.ensures
+    (s.port r refl) s.reply s.word

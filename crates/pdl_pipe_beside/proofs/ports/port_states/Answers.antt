@@ -29,9 +29,14 @@ loop-m-preserved c =
     let v = c.loop-m.invariant in
     let s = c.in_ok-port.ensures in
     let k = extends_keeps b d s.extends in
-    let more = parts_more port_own (has_port b p xs) (has_port d p xs) (length a.regs) b d c.loop-m.ports.items c.in_ok-port.port m (has_port_stays b d k p xs) (regs_grow b d k) (regs_grow a b (extends_keeps a b v.extends)) s.new s.port v.ports in
+    let more =
+    parts_more port_own (has_port b p xs) (has_port d p xs)
+    (length a.regs) b d c.loop-m.ports.items c.in_ok-port.port m (has_port_stays b d k p xs) (regs_grow b d k)
+    (regs_grow a b (extends_keeps a b v.extends)) s.new s.port v.ports in
     record {
-      ports = subst (λ (qs : List (Option PortRegs)). AreParts port_own (has_port d p xs) (length a.regs) (length d.regs) qs (m + 1)) (sym c.in_ok-push.ensures.items) more;
+      ports =
+          subst (λ (qs : List (Option PortRegs)). AreParts port_own (has_port d p xs) (length a.regs) (length d.regs) qs (m + 1))
+          (sym c.in_ok-push.ensures.items) more;
       extends = extends_trans a b d v.extends s.extends;
     }
 

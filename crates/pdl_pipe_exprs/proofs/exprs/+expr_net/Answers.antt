@@ -30,33 +30,56 @@ expr_net-requires-in-Binary-2 t c =
     let old = c.args.b.now in
     let vs = c.args.vars.now in
     let ns = signals_in old vs in
-    let seen : expr_view c.args.e.now ≡ Binary (op_view c.in-Binary.op) c.in-Binary.width (expr_view c.in-Binary.a) (expr_view c.in-Binary.c) = search (rules, the_lemmas) in
-    let typed = subst (λ (e : Expr). IsTyped (widths_of ns) e) seen c.requires.typed in
-    (search (rules, the_lemmas), next_typed old c.expr_net-in-Binary.new.b vs (expr_view c.get-in-Binary-2.result.now) c.expr_net-in-Binary.ensures.extends c.requires.there (rw c.get-in-Binary-2.ensures typed.1))
+    let seen : expr_view c.args.e.now ≡ Binary (op_view c.in-Binary.op) c.in-Binary.width (expr_view c.in-Binary.a) (expr_view c.in-Binary.c) =
+    search (rules, the_lemmas) in
+    let typed = subst (λ (e : Expr). IsTyped (widths_of ns) e) seen c.requires.typed in (
+      search (rules, the_lemmas),
+      next_typed old c.expr_net-in-Binary.new.b vs
+          (expr_view c.get-in-Binary-2.result.now) c.expr_net-in-Binary.ensures.extends c.requires.there
+          (rw c.get-in-Binary-2.ensures typed.1),
+    )
 
 pub bin-requires-clause-widths : goal.bin-requires-clause-widths
 bin-requires-clause-widths t c =
     let old = c.args.b.now in
     let vs = c.args.vars.now in
     let ns = signals_in old vs in
-    let seen : expr_view c.args.e.now ≡ Binary (op_view c.in-Binary.op) c.in-Binary.width (expr_view c.in-Binary.a) (expr_view c.in-Binary.c) = search (rules, the_lemmas) in
+    let seen : expr_view c.args.e.now ≡ Binary (op_view c.in-Binary.op) c.in-Binary.width (expr_view c.in-Binary.a) (expr_view c.in-Binary.c) =
+    search (rules, the_lemmas) in
     let typed = subst (λ (e : Expr). IsTyped (widths_of ns) e) seen c.requires.typed in
     let new = c.expr_net-in-Binary-2.new.b in
-    let x = first old c.expr_net-in-Binary.new.b new vs (expr_view c.in-Binary.a) (expr_view c.get-in-Binary.result.now) c.in_ok-a-in-Binary.a (ap expr_view c.get-in-Binary.ensures) c.expr_net-in-Binary-2.ensures.extends c.in_ok-a-in-Binary.ensures.means in
-    let y = last old c.expr_net-in-Binary.new.b new vs (expr_view c.in-Binary.c) (expr_view c.get-in-Binary-2.result.now) c.in_ok-c-in-Binary.c (ap expr_view c.get-in-Binary-2.ensures) c.expr_net-in-Binary.ensures.extends c.requires.there c.in_ok-c-in-Binary.ensures.means in
-    made_width new c.in_ok-a-in-Binary.a ns (expr_view c.in-Binary.a) x typed.0 ∙ typed.2 ∙ sym (made_width new c.in_ok-c-in-Binary.c ns (expr_view c.in-Binary.c) y typed.1 ∙ typed.3)
+    let x =
+    first old c.expr_net-in-Binary.new.b new vs (expr_view c.in-Binary.a)
+    (expr_view c.get-in-Binary.result.now) c.in_ok-a-in-Binary.a
+    (ap expr_view c.get-in-Binary.ensures) c.expr_net-in-Binary-2.ensures.extends c.in_ok-a-in-Binary.ensures.means in
+    let y =
+    last old c.expr_net-in-Binary.new.b new vs (expr_view c.in-Binary.c)
+    (expr_view c.get-in-Binary-2.result.now) c.in_ok-c-in-Binary.c
+    (ap expr_view c.get-in-Binary-2.ensures) c.expr_net-in-Binary.ensures.extends c.requires.there c.in_ok-c-in-Binary.ensures.means in
+    made_width new c.in_ok-a-in-Binary.a ns (expr_view c.in-Binary.a) x typed.0 ∙ typed.2
+    ∙ sym (made_width new c.in_ok-c-in-Binary.c ns (expr_view c.in-Binary.c) y typed.1 ∙ typed.3)
 
 pub returns-in_ok-c-in-Binary-clause-means : goal.returns-in_ok-c-in-Binary-clause-means
 returns-in_ok-c-in-Binary-clause-means t c =
     let old = c.args.b.now in
     let vs = c.args.vars.now in
     let ns = signals_in old vs in
-    let seen : expr_view c.args.e.now ≡ Binary (op_view c.in-Binary.op) c.in-Binary.width (expr_view c.in-Binary.a) (expr_view c.in-Binary.c) = search (rules, the_lemmas) in
+    let seen : expr_view c.args.e.now ≡ Binary (op_view c.in-Binary.op) c.in-Binary.width (expr_view c.in-Binary.a) (expr_view c.in-Binary.c) =
+    search (rules, the_lemmas) in
     let typed = subst (λ (e : Expr). IsTyped (widths_of ns) e) seen c.requires.typed in
     let new = c.expr_net-in-Binary-2.new.b in
-    let x = first old c.expr_net-in-Binary.new.b new vs (expr_view c.in-Binary.a) (expr_view c.get-in-Binary.result.now) c.in_ok-a-in-Binary.a (ap expr_view c.get-in-Binary.ensures) c.expr_net-in-Binary-2.ensures.extends c.in_ok-a-in-Binary.ensures.means in
-    let y = last old c.expr_net-in-Binary.new.b new vs (expr_view c.in-Binary.c) (expr_view c.get-in-Binary-2.result.now) c.in_ok-c-in-Binary.c (ap expr_view c.get-in-Binary-2.ensures) c.expr_net-in-Binary.ensures.extends c.requires.there c.in_ok-c-in-Binary.ensures.means in
-    let same = ap₂ (bin_signal c.bin_op.result) x y ∙ ap (λ (o : BinOp). bin_signal o (value_signal ns (expr_view c.in-Binary.a)) (value_signal ns (expr_view c.in-Binary.c))) c.bin_op.ensures ∙ ap (value_signal ns) (sym seen) in
+    let x =
+    first old c.expr_net-in-Binary.new.b new vs (expr_view c.in-Binary.a)
+    (expr_view c.get-in-Binary.result.now) c.in_ok-a-in-Binary.a
+    (ap expr_view c.get-in-Binary.ensures) c.expr_net-in-Binary-2.ensures.extends c.in_ok-a-in-Binary.ensures.means in
+    let y =
+    last old c.expr_net-in-Binary.new.b new vs (expr_view c.in-Binary.c)
+    (expr_view c.get-in-Binary-2.result.now) c.in_ok-c-in-Binary.c
+    (ap expr_view c.get-in-Binary-2.ensures) c.expr_net-in-Binary.ensures.extends c.requires.there c.in_ok-c-in-Binary.ensures.means in
+    let same =
+    ap₂ (bin_signal c.bin_op.result) x y
+    ∙ ap (λ (o : BinOp). bin_signal o (value_signal ns (expr_view c.in-Binary.a)) (value_signal ns (expr_view c.in-Binary.c))) c.bin_op.ensures
+    ∙ ap (value_signal ns) (sym seen) in
     IfOk-weaker c.bin.result _ _ (λ z m. means_as c.bin.new.self z _ _ same m) c.bin.ensures.means
 
 pub expr_net-requires-in-Cat-2 : goal.expr_net-requires-in-Cat-2
@@ -65,8 +88,12 @@ expr_net-requires-in-Cat-2 t c =
     let vs = c.args.vars.now in
     let ns = signals_in old vs in
     let seen : expr_view c.args.e.now ≡ Cat (expr_view c.in-Cat.a) c.in-Cat.width (expr_view c.in-Cat.c) = search (rules, the_lemmas) in
-    let typed = subst (λ (e : Expr). IsTyped (widths_of ns) e) seen c.requires.typed in
-    (search (rules, the_lemmas), next_typed old c.expr_net-in-Cat.new.b vs (expr_view c.get-in-Cat-2.result.now) c.expr_net-in-Cat.ensures.extends c.requires.there (rw c.get-in-Cat-2.ensures typed.1))
+    let typed = subst (λ (e : Expr). IsTyped (widths_of ns) e) seen c.requires.typed in (
+      search (rules, the_lemmas),
+      next_typed old c.expr_net-in-Cat.new.b vs
+          (expr_view c.get-in-Cat-2.result.now) c.expr_net-in-Cat.ensures.extends c.requires.there
+          (rw c.get-in-Cat-2.ensures typed.1),
+    )
 
 pub cat-requires-clause-widths : goal.cat-requires-clause-widths
 cat-requires-clause-widths t c =
@@ -76,9 +103,21 @@ cat-requires-clause-widths t c =
     let seen : expr_view c.args.e.now ≡ Cat (expr_view c.in-Cat.a) c.in-Cat.width (expr_view c.in-Cat.c) = search (rules, the_lemmas) in
     let typed = subst (λ (e : Expr). IsTyped (widths_of ns) e) seen c.requires.typed in
     let new = c.expr_net-in-Cat-2.new.b in
-    let x = first old c.expr_net-in-Cat.new.b new vs (expr_view c.in-Cat.a) (expr_view c.get-in-Cat.result.now) c.in_ok-a-in-Cat.a (ap expr_view c.get-in-Cat.ensures) c.expr_net-in-Cat-2.ensures.extends c.in_ok-a-in-Cat.ensures.means in
-    let y = last old c.expr_net-in-Cat.new.b new vs (expr_view c.in-Cat.c) (expr_view c.get-in-Cat-2.result.now) c.in_ok-c-in-Cat.c (ap expr_view c.get-in-Cat-2.ensures) c.expr_net-in-Cat.ensures.extends c.requires.there c.in_ok-c-in-Cat.ensures.means in
-    omega (arith, made_width new c.in_ok-a-in-Cat.a ns (expr_view c.in-Cat.a) x typed.0, made_width new c.in_ok-c-in-Cat.c ns (expr_view c.in-Cat.c) y typed.1, typed.2, typed.3)
+    let x =
+    first old c.expr_net-in-Cat.new.b new vs (expr_view c.in-Cat.a)
+    (expr_view c.get-in-Cat.result.now) c.in_ok-a-in-Cat.a
+    (ap expr_view c.get-in-Cat.ensures) c.expr_net-in-Cat-2.ensures.extends c.in_ok-a-in-Cat.ensures.means in
+    let y =
+    last old c.expr_net-in-Cat.new.b new vs (expr_view c.in-Cat.c)
+    (expr_view c.get-in-Cat-2.result.now) c.in_ok-c-in-Cat.c
+    (ap expr_view c.get-in-Cat-2.ensures) c.expr_net-in-Cat.ensures.extends c.requires.there c.in_ok-c-in-Cat.ensures.means in
+    omega (
+      arith,
+      made_width new c.in_ok-a-in-Cat.a ns (expr_view c.in-Cat.a) x typed.0,
+      made_width new c.in_ok-c-in-Cat.c ns (expr_view c.in-Cat.c) y typed.1,
+      typed.2,
+      typed.3,
+    )
 
 pub returns-in_ok-c-in-Cat-clause-means : goal.returns-in_ok-c-in-Cat-clause-means
 returns-in_ok-c-in-Cat-clause-means t c =
@@ -88,8 +127,14 @@ returns-in_ok-c-in-Cat-clause-means t c =
     let seen : expr_view c.args.e.now ≡ Cat (expr_view c.in-Cat.a) c.in-Cat.width (expr_view c.in-Cat.c) = search (rules, the_lemmas) in
     let typed = subst (λ (e : Expr). IsTyped (widths_of ns) e) seen c.requires.typed in
     let new = c.expr_net-in-Cat-2.new.b in
-    let x = first old c.expr_net-in-Cat.new.b new vs (expr_view c.in-Cat.a) (expr_view c.get-in-Cat.result.now) c.in_ok-a-in-Cat.a (ap expr_view c.get-in-Cat.ensures) c.expr_net-in-Cat-2.ensures.extends c.in_ok-a-in-Cat.ensures.means in
-    let y = last old c.expr_net-in-Cat.new.b new vs (expr_view c.in-Cat.c) (expr_view c.get-in-Cat-2.result.now) c.in_ok-c-in-Cat.c (ap expr_view c.get-in-Cat-2.ensures) c.expr_net-in-Cat.ensures.extends c.requires.there c.in_ok-c-in-Cat.ensures.means in
+    let x =
+    first old c.expr_net-in-Cat.new.b new vs (expr_view c.in-Cat.a)
+    (expr_view c.get-in-Cat.result.now) c.in_ok-a-in-Cat.a
+    (ap expr_view c.get-in-Cat.ensures) c.expr_net-in-Cat-2.ensures.extends c.in_ok-a-in-Cat.ensures.means in
+    let y =
+    last old c.expr_net-in-Cat.new.b new vs (expr_view c.in-Cat.c)
+    (expr_view c.get-in-Cat-2.result.now) c.in_ok-c-in-Cat.c
+    (ap expr_view c.get-in-Cat-2.ensures) c.expr_net-in-Cat.ensures.extends c.requires.there c.in_ok-c-in-Cat.ensures.means in
     let same = ap₂ cat_signal x y ∙ ap (value_signal ns) (sym seen) in
     IfOk-weaker c.cat.result _ _ (λ z m. means_as c.cat.new.self z _ _ same m) c.cat.ensures.means
 
@@ -98,32 +143,52 @@ expr_net-requires-in-LessSigned-2 t c =
     let old = c.args.b.now in
     let vs = c.args.vars.now in
     let ns = signals_in old vs in
-    let seen : expr_view c.args.e.now ≡ LessSigned c.in-LessSigned.width (expr_view c.in-LessSigned.a) (expr_view c.in-LessSigned.c) = search (rules, the_lemmas) in
-    let typed = subst (λ (e : Expr). IsTyped (widths_of ns) e) seen c.requires.typed in
-    (search (rules, the_lemmas), next_typed old c.expr_net-in-LessSigned.new.b vs (expr_view c.get-in-LessSigned-2.result.now) c.expr_net-in-LessSigned.ensures.extends c.requires.there (rw c.get-in-LessSigned-2.ensures typed.1))
+    let seen : expr_view c.args.e.now ≡ LessSigned c.in-LessSigned.width (expr_view c.in-LessSigned.a) (expr_view c.in-LessSigned.c) =
+    search (rules, the_lemmas) in
+    let typed = subst (λ (e : Expr). IsTyped (widths_of ns) e) seen c.requires.typed in (
+      search (rules, the_lemmas),
+      next_typed old c.expr_net-in-LessSigned.new.b vs
+          (expr_view c.get-in-LessSigned-2.result.now) c.expr_net-in-LessSigned.ensures.extends c.requires.there
+          (rw c.get-in-LessSigned-2.ensures typed.1),
+    )
 
 pub less_signed-requires-clause-widths : goal.less_signed-requires-clause-widths
 less_signed-requires-clause-widths t c =
     let old = c.args.b.now in
     let vs = c.args.vars.now in
     let ns = signals_in old vs in
-    let seen : expr_view c.args.e.now ≡ LessSigned c.in-LessSigned.width (expr_view c.in-LessSigned.a) (expr_view c.in-LessSigned.c) = search (rules, the_lemmas) in
+    let seen : expr_view c.args.e.now ≡ LessSigned c.in-LessSigned.width (expr_view c.in-LessSigned.a) (expr_view c.in-LessSigned.c) =
+    search (rules, the_lemmas) in
     let typed = subst (λ (e : Expr). IsTyped (widths_of ns) e) seen c.requires.typed in
     let new = c.expr_net-in-LessSigned-2.new.b in
-    let x = first old c.expr_net-in-LessSigned.new.b new vs (expr_view c.in-LessSigned.a) (expr_view c.get-in-LessSigned.result.now) c.in_ok-a-in-LessSigned.a (ap expr_view c.get-in-LessSigned.ensures) c.expr_net-in-LessSigned-2.ensures.extends c.in_ok-a-in-LessSigned.ensures.means in
-    let y = last old c.expr_net-in-LessSigned.new.b new vs (expr_view c.in-LessSigned.c) (expr_view c.get-in-LessSigned-2.result.now) c.in_ok-c-in-LessSigned.c (ap expr_view c.get-in-LessSigned-2.ensures) c.expr_net-in-LessSigned.ensures.extends c.requires.there c.in_ok-c-in-LessSigned.ensures.means in
-    made_width new c.in_ok-a-in-LessSigned.a ns (expr_view c.in-LessSigned.a) x typed.0 ∙ typed.2 ∙ sym (made_width new c.in_ok-c-in-LessSigned.c ns (expr_view c.in-LessSigned.c) y typed.1 ∙ typed.3)
+    let x =
+    first old c.expr_net-in-LessSigned.new.b new vs (expr_view c.in-LessSigned.a)
+    (expr_view c.get-in-LessSigned.result.now) c.in_ok-a-in-LessSigned.a
+    (ap expr_view c.get-in-LessSigned.ensures) c.expr_net-in-LessSigned-2.ensures.extends c.in_ok-a-in-LessSigned.ensures.means in
+    let y =
+    last old c.expr_net-in-LessSigned.new.b new vs (expr_view c.in-LessSigned.c)
+    (expr_view c.get-in-LessSigned-2.result.now) c.in_ok-c-in-LessSigned.c
+    (ap expr_view c.get-in-LessSigned-2.ensures) c.expr_net-in-LessSigned.ensures.extends c.requires.there c.in_ok-c-in-LessSigned.ensures.means in
+    made_width new c.in_ok-a-in-LessSigned.a ns (expr_view c.in-LessSigned.a) x typed.0 ∙ typed.2
+    ∙ sym (made_width new c.in_ok-c-in-LessSigned.c ns (expr_view c.in-LessSigned.c) y typed.1 ∙ typed.3)
 
 pub returns-in_ok-c-in-LessSigned-clause-means : goal.returns-in_ok-c-in-LessSigned-clause-means
 returns-in_ok-c-in-LessSigned-clause-means t c =
     let old = c.args.b.now in
     let vs = c.args.vars.now in
     let ns = signals_in old vs in
-    let seen : expr_view c.args.e.now ≡ LessSigned c.in-LessSigned.width (expr_view c.in-LessSigned.a) (expr_view c.in-LessSigned.c) = search (rules, the_lemmas) in
+    let seen : expr_view c.args.e.now ≡ LessSigned c.in-LessSigned.width (expr_view c.in-LessSigned.a) (expr_view c.in-LessSigned.c) =
+    search (rules, the_lemmas) in
     let typed = subst (λ (e : Expr). IsTyped (widths_of ns) e) seen c.requires.typed in
     let new = c.expr_net-in-LessSigned-2.new.b in
-    let x = first old c.expr_net-in-LessSigned.new.b new vs (expr_view c.in-LessSigned.a) (expr_view c.get-in-LessSigned.result.now) c.in_ok-a-in-LessSigned.a (ap expr_view c.get-in-LessSigned.ensures) c.expr_net-in-LessSigned-2.ensures.extends c.in_ok-a-in-LessSigned.ensures.means in
-    let y = last old c.expr_net-in-LessSigned.new.b new vs (expr_view c.in-LessSigned.c) (expr_view c.get-in-LessSigned-2.result.now) c.in_ok-c-in-LessSigned.c (ap expr_view c.get-in-LessSigned-2.ensures) c.expr_net-in-LessSigned.ensures.extends c.requires.there c.in_ok-c-in-LessSigned.ensures.means in
+    let x =
+    first old c.expr_net-in-LessSigned.new.b new vs (expr_view c.in-LessSigned.a)
+    (expr_view c.get-in-LessSigned.result.now) c.in_ok-a-in-LessSigned.a
+    (ap expr_view c.get-in-LessSigned.ensures) c.expr_net-in-LessSigned-2.ensures.extends c.in_ok-a-in-LessSigned.ensures.means in
+    let y =
+    last old c.expr_net-in-LessSigned.new.b new vs (expr_view c.in-LessSigned.c)
+    (expr_view c.get-in-LessSigned-2.result.now) c.in_ok-c-in-LessSigned.c
+    (ap expr_view c.get-in-LessSigned-2.ensures) c.expr_net-in-LessSigned.ensures.extends c.requires.there c.in_ok-c-in-LessSigned.ensures.means in
     let same = ap₂ (λ f g. bin_signal net_op.Lt (raised_signal f) (raised_signal g)) x y ∙ ap (value_signal ns) (sym seen) in
     IfOk-weaker c.less_signed.result _ _ (λ z m. means_as c.less_signed.new.self z _ _ same m) c.less_signed.ensures.means
 
@@ -155,8 +220,12 @@ expr_net-requires-in-Choose-2 t c =
     let vs = c.args.vars.now in
     let ns = signals_in old vs in
     let seen : expr_view c.args.e.now ≡ Choose (expr_view c.in-Choose.c) (expr_view c.in-Choose.a) (expr_view c.in-Choose.d) = search (rules, the_lemmas) in
-    let typed = subst (λ (e : Expr). IsTyped (widths_of ns) e) seen c.requires.typed in
-    (search (rules, the_lemmas), next_typed old c.expr_net-in-Choose.new.b vs (expr_view c.get-in-Choose-2.result.now) c.expr_net-in-Choose.ensures.extends c.requires.there (rw c.get-in-Choose-2.ensures typed.1))
+    let typed = subst (λ (e : Expr). IsTyped (widths_of ns) e) seen c.requires.typed in (
+      search (rules, the_lemmas),
+      next_typed old c.expr_net-in-Choose.new.b vs
+          (expr_view c.get-in-Choose-2.result.now) c.expr_net-in-Choose.ensures.extends c.requires.there
+          (rw c.get-in-Choose-2.ensures typed.1),
+    )
 
 pub expr_net-requires-in-Choose-3 : goal.expr_net-requires-in-Choose-3
 expr_net-requires-in-Choose-3 t c =
@@ -165,8 +234,11 @@ expr_net-requires-in-Choose-3 t c =
     let ns = signals_in old vs in
     let seen : expr_view c.args.e.now ≡ Choose (expr_view c.in-Choose.c) (expr_view c.in-Choose.a) (expr_view c.in-Choose.d) = search (rules, the_lemmas) in
     let typed = subst (λ (e : Expr). IsTyped (widths_of ns) e) seen c.requires.typed in
-    let far = extends_trans old c.expr_net-in-Choose.new.b c.expr_net-in-Choose-2.new.b c.expr_net-in-Choose.ensures.extends c.expr_net-in-Choose-2.ensures.extends in
-    (search (rules, the_lemmas), next_typed old c.expr_net-in-Choose-2.new.b vs (expr_view c.get-in-Choose-3.result.now) far c.requires.there (rw c.get-in-Choose-3.ensures typed.2))
+    let far =
+    extends_trans old c.expr_net-in-Choose.new.b c.expr_net-in-Choose-2.new.b c.expr_net-in-Choose.ensures.extends c.expr_net-in-Choose-2.ensures.extends in (
+      search (rules, the_lemmas),
+      next_typed old c.expr_net-in-Choose-2.new.b vs (expr_view c.get-in-Choose-3.result.now) far c.requires.there (rw c.get-in-Choose-3.ensures typed.2),
+    )
 
 pub mux-requires-clause-one : goal.mux-requires-clause-one
 mux-requires-clause-one t c =
@@ -180,9 +252,18 @@ mux-requires-clause-one t c =
     let new = c.expr_net-in-Choose-3.new.b in
     let later = c.expr_net-in-Choose-3.ensures.extends in
     let far = extends_trans old one two c.expr_net-in-Choose.ensures.extends c.expr_net-in-Choose-2.ensures.extends in
-    let w = first old one new vs (expr_view c.in-Choose.c) (expr_view c.get-in-Choose.result.now) c.in_ok-c-in-Choose.c (ap expr_view c.get-in-Choose.ensures) (extends_trans one two new c.expr_net-in-Choose-2.ensures.extends later) c.in_ok-c-in-Choose.ensures.means in
-    let x = between old one two new vs (expr_view c.in-Choose.a) (expr_view c.get-in-Choose-2.result.now) c.in_ok-a-in-Choose.a (ap expr_view c.get-in-Choose-2.ensures) c.expr_net-in-Choose.ensures.extends later c.requires.there c.in_ok-a-in-Choose.ensures.means in
-    let y = last old two new vs (expr_view c.in-Choose.d) (expr_view c.get-in-Choose-3.result.now) c.in_ok-d-in-Choose.d (ap expr_view c.get-in-Choose-3.ensures) far c.requires.there c.in_ok-d-in-Choose.ensures.means in
+    let w =
+    first old one new vs (expr_view c.in-Choose.c)
+    (expr_view c.get-in-Choose.result.now) c.in_ok-c-in-Choose.c (ap expr_view c.get-in-Choose.ensures)
+    (extends_trans one two new c.expr_net-in-Choose-2.ensures.extends later) c.in_ok-c-in-Choose.ensures.means in
+    let x =
+    between old one two new vs (expr_view c.in-Choose.a)
+    (expr_view c.get-in-Choose-2.result.now) c.in_ok-a-in-Choose.a
+    (ap expr_view c.get-in-Choose-2.ensures) c.expr_net-in-Choose.ensures.extends later c.requires.there c.in_ok-a-in-Choose.ensures.means in
+    let y =
+    last old two new vs (expr_view c.in-Choose.d)
+    (expr_view c.get-in-Choose-3.result.now) c.in_ok-d-in-Choose.d
+    (ap expr_view c.get-in-Choose-3.ensures) far c.requires.there c.in_ok-d-in-Choose.ensures.means in
     made_width new c.in_ok-c-in-Choose.c ns (expr_view c.in-Choose.c) w typed.0 ∙ typed.3
 
 pub mux-requires-clause-widths : goal.mux-requires-clause-widths
@@ -197,10 +278,20 @@ mux-requires-clause-widths t c =
     let new = c.expr_net-in-Choose-3.new.b in
     let later = c.expr_net-in-Choose-3.ensures.extends in
     let far = extends_trans old one two c.expr_net-in-Choose.ensures.extends c.expr_net-in-Choose-2.ensures.extends in
-    let w = first old one new vs (expr_view c.in-Choose.c) (expr_view c.get-in-Choose.result.now) c.in_ok-c-in-Choose.c (ap expr_view c.get-in-Choose.ensures) (extends_trans one two new c.expr_net-in-Choose-2.ensures.extends later) c.in_ok-c-in-Choose.ensures.means in
-    let x = between old one two new vs (expr_view c.in-Choose.a) (expr_view c.get-in-Choose-2.result.now) c.in_ok-a-in-Choose.a (ap expr_view c.get-in-Choose-2.ensures) c.expr_net-in-Choose.ensures.extends later c.requires.there c.in_ok-a-in-Choose.ensures.means in
-    let y = last old two new vs (expr_view c.in-Choose.d) (expr_view c.get-in-Choose-3.result.now) c.in_ok-d-in-Choose.d (ap expr_view c.get-in-Choose-3.ensures) far c.requires.there c.in_ok-d-in-Choose.ensures.means in
-    made_width new c.in_ok-a-in-Choose.a ns (expr_view c.in-Choose.a) x typed.1 ∙ typed.4 ∙ sym (made_width new c.in_ok-d-in-Choose.d ns (expr_view c.in-Choose.d) y typed.2)
+    let w =
+    first old one new vs (expr_view c.in-Choose.c)
+    (expr_view c.get-in-Choose.result.now) c.in_ok-c-in-Choose.c (ap expr_view c.get-in-Choose.ensures)
+    (extends_trans one two new c.expr_net-in-Choose-2.ensures.extends later) c.in_ok-c-in-Choose.ensures.means in
+    let x =
+    between old one two new vs (expr_view c.in-Choose.a)
+    (expr_view c.get-in-Choose-2.result.now) c.in_ok-a-in-Choose.a
+    (ap expr_view c.get-in-Choose-2.ensures) c.expr_net-in-Choose.ensures.extends later c.requires.there c.in_ok-a-in-Choose.ensures.means in
+    let y =
+    last old two new vs (expr_view c.in-Choose.d)
+    (expr_view c.get-in-Choose-3.result.now) c.in_ok-d-in-Choose.d
+    (ap expr_view c.get-in-Choose-3.ensures) far c.requires.there c.in_ok-d-in-Choose.ensures.means in
+    made_width new c.in_ok-a-in-Choose.a ns (expr_view c.in-Choose.a) x typed.1 ∙ typed.4
+    ∙ sym (made_width new c.in_ok-d-in-Choose.d ns (expr_view c.in-Choose.d) y typed.2)
 
 pub returns-in_ok-d-in-Choose-clause-means : goal.returns-in_ok-d-in-Choose-clause-means
 returns-in_ok-d-in-Choose-clause-means t c =
@@ -214,8 +305,21 @@ returns-in_ok-d-in-Choose-clause-means t c =
     let new = c.expr_net-in-Choose-3.new.b in
     let later = c.expr_net-in-Choose-3.ensures.extends in
     let far = extends_trans old one two c.expr_net-in-Choose.ensures.extends c.expr_net-in-Choose-2.ensures.extends in
-    let w = first old one new vs (expr_view c.in-Choose.c) (expr_view c.get-in-Choose.result.now) c.in_ok-c-in-Choose.c (ap expr_view c.get-in-Choose.ensures) (extends_trans one two new c.expr_net-in-Choose-2.ensures.extends later) c.in_ok-c-in-Choose.ensures.means in
-    let x = between old one two new vs (expr_view c.in-Choose.a) (expr_view c.get-in-Choose-2.result.now) c.in_ok-a-in-Choose.a (ap expr_view c.get-in-Choose-2.ensures) c.expr_net-in-Choose.ensures.extends later c.requires.there c.in_ok-a-in-Choose.ensures.means in
-    let y = last old two new vs (expr_view c.in-Choose.d) (expr_view c.get-in-Choose-3.result.now) c.in_ok-d-in-Choose.d (ap expr_view c.get-in-Choose-3.ensures) far c.requires.there c.in_ok-d-in-Choose.ensures.means in
-    let mux_same : mux_signal (signal new c.in_ok-c-in-Choose.c) (signal new c.in_ok-a-in-Choose.a) (signal new c.in_ok-d-in-Choose.d) ≡ mux_signal (value_signal ns (expr_view c.in-Choose.c)) (value_signal ns (expr_view c.in-Choose.a)) (value_signal ns (expr_view c.in-Choose.d)) = rw (w, x, y) refl in
-    IfOk-weaker c.mux.result _ _ (λ z m. means_as c.mux.new.self z (mux_signal (signal new c.in_ok-c-in-Choose.c) (signal new c.in_ok-a-in-Choose.a) (signal new c.in_ok-d-in-Choose.d)) (value_signal ns (expr_view c.args.e.now)) (mux_same ∙ ap (value_signal ns) (sym seen)) m) c.mux.ensures.means
+    let w =
+    first old one new vs (expr_view c.in-Choose.c)
+    (expr_view c.get-in-Choose.result.now) c.in_ok-c-in-Choose.c (ap expr_view c.get-in-Choose.ensures)
+    (extends_trans one two new c.expr_net-in-Choose-2.ensures.extends later) c.in_ok-c-in-Choose.ensures.means in
+    let x =
+    between old one two new vs (expr_view c.in-Choose.a)
+    (expr_view c.get-in-Choose-2.result.now) c.in_ok-a-in-Choose.a
+    (ap expr_view c.get-in-Choose-2.ensures) c.expr_net-in-Choose.ensures.extends later c.requires.there c.in_ok-a-in-Choose.ensures.means in
+    let y =
+    last old two new vs (expr_view c.in-Choose.d)
+    (expr_view c.get-in-Choose-3.result.now) c.in_ok-d-in-Choose.d
+    (ap expr_view c.get-in-Choose-3.ensures) far c.requires.there c.in_ok-d-in-Choose.ensures.means in
+    let mux_same : mux_signal (signal new c.in_ok-c-in-Choose.c) (signal new c.in_ok-a-in-Choose.a) (signal new c.in_ok-d-in-Choose.d)
+    ≡ mux_signal (value_signal ns (expr_view c.in-Choose.c)) (value_signal ns (expr_view c.in-Choose.a)) (value_signal ns (expr_view c.in-Choose.d)) =
+    rw (w, x, y) refl in
+    IfOk-weaker c.mux.result _ _
+    (λ z m. means_as c.mux.new.self z (mux_signal (signal new c.in_ok-c-in-Choose.c) (signal new c.in_ok-a-in-Choose.a) (signal new c.in_ok-d-in-Choose.d))
+    (value_signal ns (expr_view c.args.e.now)) (mux_same ∙ ap (value_signal ns) (sym seen)) m) c.mux.ensures.means

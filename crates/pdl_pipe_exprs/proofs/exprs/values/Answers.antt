@@ -24,8 +24,12 @@ loop-e-preserved c =
       there = nets_there a b c.args.vars.now e inv.there;
       same = nets_kept a b c.args.vars.now e inv.there ∙ inv.same;
       typed = (typed_left c.args.es.now c.loop-e.e-index d c.loop-e-test.true c.e-item.is (widths_of fs) inv.typed).1;
-      nets = subst (λ (xs : List Net). NetsThere b xs) (sym pushed) (net_more b c.loop-e.nets x (nets_there a b c.loop-e.nets e inv.nets) c.in_ok-net.ensures.means.there);
-      means = values_next c.args.es.now c.loop-e.e-index d c.loop-e-test.true c.e-item.is a b fs c.loop-e.nets c.push.new.self x (value_signals fs (exprs_view c.args.es.now)) e inv.nets
+      nets =
+          subst (λ (xs : List Net). NetsThere b xs) (sym pushed)
+          (net_more b c.loop-e.nets x (nets_there a b c.loop-e.nets e inv.nets) c.in_ok-net.ensures.means.there);
+      means =
+          values_next c.args.es.now c.loop-e.e-index d c.loop-e-test.true c.e-item.is a b fs c.loop-e.nets c.push.new.self x
+          (value_signals fs (exprs_view c.args.es.now)) e inv.nets
           (subst (λ (gs : List Signal). Means b x (value_signal gs (expr_view d))) inv.same c.in_ok-net.ensures.means) pushed inv.means;
       extends = extends_trans c.args.b.now a b inv.extends e;
       regs = c.value.ensures.regs ∙ inv.regs;

@@ -12,7 +12,8 @@ invariant-loop-e l = record {
   same : signals_in l.b l.vars ≡ signals_in l.fn.b l.fn.vars;
   typed : AreTyped (widths_of (signals_in l.fn.b l.fn.vars)) (exprs_view (drop l.e-index l.es));
   nets : NetsThere l.b l.nets;
-  means : signals_in l.b l.nets ++ value_signals (signals_in l.fn.b l.fn.vars) (exprs_view (drop l.e-index l.es)) ≡ value_signals (signals_in l.fn.b l.fn.vars) (exprs_view l.es);
+  means : signals_in l.b l.nets ++ value_signals (signals_in l.fn.b l.fn.vars) (exprs_view (drop l.e-index l.es))
+      ≡ value_signals (signals_in l.fn.b l.fn.vars) (exprs_view l.es);
   extends : Extends l.fn.b l.b;
   regs : l.b.regs ≡ l.fn.b.regs;
 }

@@ -19,7 +19,8 @@ loop-g-preserved c =
     let fs = signals_in c.args.b.now c.args.vars.now in
     let d : FlatGuard = record { var = 0; first = false } in
     let g = get_or c.args.guards.now c.loop-g.g-index d in
-    let now : signal b c.in_ok-on.on ≡ both (signal a c.loop-g.on) (literal g.first (signal_at (signals_in a c.args.vars.now) g.var)) = c.in_ok-on.ensures.means.same in
+    let now : signal b c.in_ok-on.on ≡ both (signal a c.loop-g.on) (literal g.first (signal_at (signals_in a c.args.vars.now) g.var)) =
+    c.in_ok-on.ensures.means.same in
     record {
       bits = bits_kept a b c.args.bits e inv.bits;
       there = nets_there a b c.args.vars.now e inv.there;
@@ -27,7 +28,9 @@ loop-g-preserved c =
       on = c.in_ok-on.ensures.means.there;
       one = c.in_ok-on.ensures.one;
       guards = guards_left c.args.guards.now c.loop-g.g-index d c.loop-g-test.true (widths_of fs) inv.guards;
-      means = taken_next c.args.guards.now c.loop-g.g-index d c.loop-g-test.true fs (signal a c.loop-g.on) (signal b c.in_ok-on.on) (taken_signal fs (guards_view c.args.guards.now))
+      means =
+          taken_next c.args.guards.now c.loop-g.g-index d c.loop-g-test.true fs (signal a c.loop-g.on)
+          (signal b c.in_ok-on.on) (taken_signal fs (guards_view c.args.guards.now))
           (subst (λ (gs : List Signal). signal b c.in_ok-on.on ≡ both (signal a c.loop-g.on) (literal g.first (signal_at gs g.var))) inv.same now) inv.means;
       extends = extends_trans c.args.b.now a b inv.extends e;
       regs = c.and_taken.ensures.regs ∙ inv.regs;

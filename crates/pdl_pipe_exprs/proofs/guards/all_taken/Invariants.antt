@@ -15,7 +15,8 @@ invariant-loop-g l = record {
   on : IsThere l.b l.on;
   one : (signal l.b l.on).width ≡ 1;
   guards : AreGuards (widths_of (signals_in l.fn.b l.fn.vars)) (guards_view (drop l.g-index l.guards));
-  means : taken_from (signals_in l.fn.b l.fn.vars) (signal l.b l.on) (guards_view (drop l.g-index l.guards)) ≡ taken_signal (signals_in l.fn.b l.fn.vars) (guards_view l.guards);
+  means : taken_from (signals_in l.fn.b l.fn.vars) (signal l.b l.on) (guards_view (drop l.g-index l.guards))
+      ≡ taken_signal (signals_in l.fn.b l.fn.vars) (guards_view l.guards);
   extends : Extends l.fn.b l.b;
   regs : l.b.regs ≡ l.fn.b.regs;
 }

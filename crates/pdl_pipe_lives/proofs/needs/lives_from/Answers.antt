@@ -10,7 +10,8 @@ returns-else-is_used c =
     let k = c.args.stage in
     let x = c.args.x in
     let ss = c.stages.result.now in
-    let none : rows_use k x (stmts_view c.args.pipe.now.stmts.items) ≡ false = ap (rows_use k x) (sym c.stmts.ensures) ∙ sym c.is_used.ensures ∙ c.if-is_used.false in
+    let none : rows_use k x (stmts_view c.args.pipe.now.stmts.items) ≡ false =
+    ap (rows_use k x) (sym c.stmts.ensures) ∙ sym c.is_used.ensures ∙ c.if-is_used.false in
     let rest = take_all (length ss - k) (drop k ss) (omega (arith, length-drop k ss)) in
     let turned : stages_view (drop k ss) ≡ drop k (stages_view ss) = sym (drop-map stage_view k ss) in
     c.is_fork_var.ensures

@@ -15,7 +15,10 @@ loop-m-init g c =
     let l : Members g.row.L.Denot = record { placed = L.placed; stands = L.stands; kind = L.kind_of; size = L.size; tickets = L.tickets } in
     let f = form c.args.pipe.now in
     let a = c.args.b.now in
-    record { made = subst (λ (xs : List (Option (MemLock g.row.L.Denot))). AreMadeTo l a a f.names f.pipe xs 0) (sym c.new-made.ensures.items) (made_none l a f.names f.pipe c.requires.none) }
+    record {
+      made = subst (λ (xs : List (Option (MemLock g.row.L.Denot))). AreMadeTo l a a f.names f.pipe xs 0)
+          (sym c.new-made.ensures.items) (made_none l a f.names f.pipe c.requires.none);
+    }
 
 pub memory-requires-clause-typed : goal.memory-requires-clause-typed
 memory-requires-clause-typed g c =
@@ -32,8 +35,10 @@ memory-requires-clause-served g c =
     let ms = c.mems-mems.result.now in
     let x = c.mem_at-mem.result.now in
     let i = c.loop-m.m in
-    served_at L.suits l f c.args.locks.now i x.name (mem_view x) c.lock_at-lock.result.now c.requires.suited (omega (arith, c.loop-m-test.true, mem_count f.pipe ms c.mems-mems.ensures.mems))
-    (name_is f.names ms i x c.mems-mems.ensures.names c.loop-m-test.true c.mem_at-mem.ensures) (mem_is f.pipe ms i x c.mems-mems.ensures.mems c.loop-m-test.true c.mem_at-mem.ensures) c.lock_at-lock.ensures
+    served_at L.suits l f c.args.locks.now i x.name (mem_view x) c.lock_at-lock.result.now c.requires.suited
+    (omega (arith, c.loop-m-test.true, mem_count f.pipe ms c.mems-mems.ensures.mems))
+    (name_is f.names ms i x c.mems-mems.ensures.names c.loop-m-test.true c.mem_at-mem.ensures)
+    (mem_is f.pipe ms i x c.mems-mems.ensures.mems c.loop-m-test.true c.mem_at-mem.ensures) c.lock_at-lock.ensures
 
 pub loop-m-preserved : goal.loop-m-preserved
 loop-m-preserved g c =
@@ -50,8 +55,10 @@ loop-m-preserved g c =
     let count = mem_count f.pipe ms c.mems-mems.ensures.mems in
     let named = name_count f.names f.pipe ms c.mems-mems.ensures.names c.mems-mems.ensures.mems in
     let low : i < length f.pipe.mems = omega (arith, c.loop-m-test.true, count) in
-    let more = made_more l g.met.L.LockModule.stays a b d f.names f.pipe c.loop-m.made.items i x.name (mem_view x) c.in_ok-one.one low (omega (arith, low, named))
-    (name_is f.names ms i x c.mems-mems.ensures.names c.loop-m-test.true c.mem_at-mem.ensures) (mem_is f.pipe ms i x c.mems-mems.ensures.mems c.loop-m-test.true c.mem_at-mem.ensures)
+    let more =
+    made_more l g.met.L.LockModule.stays a b d f.names f.pipe c.loop-m.made.items i x.name (mem_view x) c.in_ok-one.one low (omega (arith, low, named))
+    (name_is f.names ms i x c.mems-mems.ensures.names c.loop-m-test.true c.mem_at-mem.ensures)
+    (mem_is f.pipe ms i x c.mems-mems.ensures.mems c.loop-m-test.true c.mem_at-mem.ensures)
     s.extends s.unwritten s.memory c.loop-m.invariant.made in
     record { made = subst (λ (xs : List (Option (MemLock g.row.L.Denot))). AreMadeTo l a d f.names f.pipe xs (i + 1)) (sym c.in_ok-push.ensures.items) more }
 
@@ -63,7 +70,8 @@ returns-clause-locked g c =
     let ms = c.mems-mems.result.now in
     let count = mem_count f.pipe ms c.mems-mems.ensures.mems in
     let named = name_count f.names f.pipe ms c.mems-mems.ensures.names c.mems-mems.ensures.mems in
-    all_locked l c.args.b.now c.loop-m.b f.names f.pipe c.loop-m.made.items c.loop-m.m named (omega (arith, c.loop-m-test.false, c.loop-m.auto.m-end, count)) c.loop-m.invariant.made
+    all_locked l c.args.b.now c.loop-m.b f.names f.pipe c.loop-m.made.items c.loop-m.m named
+    (omega (arith, c.loop-m-test.false, c.loop-m.auto.m-end, count)) c.loop-m.invariant.made
 
 pub returns-clause-lawful : goal.returns-clause-lawful
 returns-clause-lawful g c =
@@ -73,7 +81,8 @@ returns-clause-lawful g c =
     let ms = c.mems-mems.result.now in
     let count = mem_count f.pipe ms c.mems-mems.ensures.mems in
     let named = name_count f.names f.pipe ms c.mems-mems.ensures.names c.mems-mems.ensures.mems in
-    all_lawful l c.args.b.now c.loop-m.b f.names f.pipe c.loop-m.made.items c.loop-m.m named (omega (arith, c.loop-m-test.false, c.loop-m.auto.m-end, count)) c.loop-m.invariant.made
+    all_lawful l c.args.b.now c.loop-m.b f.names f.pipe c.loop-m.made.items c.loop-m.m named
+    (omega (arith, c.loop-m-test.false, c.loop-m.auto.m-end, count)) c.loop-m.invariant.made
 
 pub returns-clause-above : goal.returns-clause-above
 returns-clause-above g c =
@@ -83,7 +92,8 @@ returns-clause-above g c =
     let ms = c.mems-mems.result.now in
     let count = mem_count f.pipe ms c.mems-mems.ensures.mems in
     let named = name_count f.names f.pipe ms c.mems-mems.ensures.names c.mems-mems.ensures.mems in
-    all_above l c.args.b.now c.loop-m.b f.names f.pipe c.loop-m.made.items c.loop-m.m named (omega (arith, c.loop-m-test.false, c.loop-m.auto.m-end, count)) c.loop-m.invariant.made
+    all_above l c.args.b.now c.loop-m.b f.names f.pipe c.loop-m.made.items c.loop-m.m named
+    (omega (arith, c.loop-m-test.false, c.loop-m.auto.m-end, count)) c.loop-m.invariant.made
 
 pub returns-clause-unwritten : goal.returns-clause-unwritten
 returns-clause-unwritten g c =
@@ -93,7 +103,8 @@ returns-clause-unwritten g c =
     let ms = c.mems-mems.result.now in
     let count = mem_count f.pipe ms c.mems-mems.ensures.mems in
     let named = name_count f.names f.pipe ms c.mems-mems.ensures.names c.mems-mems.ensures.mems in
-    all_unwritten l c.args.b.now c.loop-m.b f.names f.pipe c.loop-m.made.items c.loop-m.m named (omega (arith, c.loop-m-test.false, c.loop-m.auto.m-end, count)) c.loop-m.invariant.made
+    all_unwritten l c.args.b.now c.loop-m.b f.names f.pipe c.loop-m.made.items c.loop-m.m named
+    (omega (arith, c.loop-m-test.false, c.loop-m.auto.m-end, count)) c.loop-m.invariant.made
 
 pub returns-clause-extends : goal.returns-clause-extends
 returns-clause-extends g c =
@@ -103,7 +114,8 @@ returns-clause-extends g c =
     let ms = c.mems-mems.result.now in
     let count = mem_count f.pipe ms c.mems-mems.ensures.mems in
     let named = name_count f.names f.pipe ms c.mems-mems.ensures.names c.mems-mems.ensures.mems in
-    all_extends l c.args.b.now c.loop-m.b f.names f.pipe c.loop-m.made.items c.loop-m.m named (omega (arith, c.loop-m-test.false, c.loop-m.auto.m-end, count)) c.loop-m.invariant.made
+    all_extends l c.args.b.now c.loop-m.b f.names f.pipe c.loop-m.made.items c.loop-m.m named
+    (omega (arith, c.loop-m-test.false, c.loop-m.auto.m-end, count)) c.loop-m.invariant.made
 
 pub returns-in_err-one-clause-keeps : goal.returns-in_err-one-clause-keeps
 returns-in_err-one-clause-keeps g c =

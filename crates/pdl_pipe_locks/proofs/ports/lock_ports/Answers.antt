@@ -11,7 +11,8 @@ use Rattle.pdl_pipe_locks.proofs.ports.lock_ports.Goals as goal
 
 pub write_ports-requires-clause-given : goal.write_ports-requires-clause-given
 write_ports-requires-clause-given c =
-    given_all c.args.b.now c.reserve_ports.new.b (extends_keeps c.args.b.now c.reserve_ports.new.b c.in_ok-reserves.ensures.extends) c.args.m c.args.deeds.now c.requires.given
+    given_all c.args.b.now c.reserve_ports.new.b
+    (extends_keeps c.args.b.now c.reserve_ports.new.b c.in_ok-reserves.ensures.extends) c.args.m c.args.deeds.now c.requires.given
 
 pub release-requires-clause-given : goal.release-requires-clause-given
 release-requires-clause-given c =
@@ -33,11 +34,19 @@ returns-clause-ports c =
     let be = extends_trans b d e y z in
     let ae = extends_trans a d e ad z in
     let ps = c.in_ok-writes.writes in
-    let writes = subst (λ (fs : List TicketSignal). AreWrites d ps fs) (all_puts_kept a b (extends_keeps a b x) m ds (length ds) c.requires.given) c.in_ok-writes.ensures.are in
+    let writes =
+    subst (λ (fs : List TicketSignal). AreWrites d ps fs)
+    (all_puts_kept a b (extends_keeps a b x) m ds (length ds) c.requires.given) c.in_ok-writes.ensures.are in
     record {
-      reserves = are_reserves_kept b e (extends_keeps b e be) c.in_ok-reserves.reserves (all_reserves m (views_in a ds) (moves_in a ds) (length ds) 0) c.in_ok-reserves.ensures.are;
+      reserves =
+          are_reserves_kept b e (extends_keeps b e be) c.in_ok-reserves.reserves
+          (all_reserves m (views_in a ds) (moves_in a ds) (length ds) 0) c.in_ok-reserves.ensures.are;
       writes = are_writes_kept d e (extends_keeps d e z) ps (all_puts m (views_in a ds) (moves_in a ds) (length ds) 0) writes;
-      release = record { there = c.in_ok-release.ensures.means.there; same = c.in_ok-release.ensures.means.same ∙ released_kept a d (extends_keeps a d ad) m ds (length ds) c.requires.given };
+      release =
+          record {
+            there = c.in_ok-release.ensures.means.there;
+            same = c.in_ok-release.ensures.means.same ∙ released_kept a d (extends_keeps a d ad) m ds (length ds) c.requires.given;
+          };
       release2 = means_keeps a e c.args.bits.zero zero_bit (extends_keeps a e ae) c.requires.bits.zero;
       squash = record { there = ae.there c.args.squash c.requires.squash; same = ae.kept c.args.squash c.requires.squash };
       tail = record { there = ae.there c.args.tail c.requires.tail; same = ae.kept c.args.tail c.requires.tail };

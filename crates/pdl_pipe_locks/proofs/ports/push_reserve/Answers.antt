@@ -17,8 +17,11 @@ returns-clause-adds c =
     let x = c.in_ok-enable.ensures in
     let ps = c.args.ports.now in
     let fs : List ReserveSignal = record { enable = both (signal a c.args.moves) (signal a r.on); addr = signal a r.addr } ∷ [] in
-    let one = adds_one a b ps c.in_ok-enable.enable r.addr (both (signal a c.args.moves) (signal a r.on)) (signal a r.addr) x.extends c.requires.ports x.means c.requires.given.addr refl in
+    let one =
+    adds_one a b ps c.in_ok-enable.enable r.addr (both (signal a c.args.moves) (signal a r.on))
+    (signal a r.addr) x.extends c.requires.ports x.means c.requires.given.addr refl in
     let test : (r.mem == c.args.m) ≡ true = eq-eqb r.mem c.args.m c.if-r-m.false in
-    let P : List ReserveSignal → Type 0 = λ gs. AreReserves b (ps ++ record { enable = c.in_ok-enable.enable; kind = W; addr = r.addr } ∷ []) (map (reserve_signal a) ps ++ gs) in
+    let P : List ReserveSignal → Type 0 =
+    λ gs. AreReserves b (ps ++ record { enable = c.in_ok-enable.enable; kind = W; addr = r.addr } ∷ []) (map (reserve_signal a) ps ++ gs) in
     let Q : List ReservePort → Type 0 = λ qs. AreReserves b qs (map (reserve_signal a) ps ++ (if r.mem == c.args.m then fs else [])) in
     subst Q (sym c.in_ok-push.ensures.ok) (subst P (sym (ap (λ t. if t then fs else []) test)) one)

@@ -18,7 +18,8 @@ push_reserve-requires-clause-bits c = bits_kept c.args.b.now c.loop-r.b c.args.b
 pub push_reserve-requires-clause-given : goal.push_reserve-requires-clause-given
 push_reserve-requires-clause-given c =
     let k = extends_keeps c.args.b.now c.loop-r.b c.loop-r.invariant.extends in
-    each_get (IsGivenReserve c.loop-r.b) c.args.reserves.now c.loop-r.r-index no_reserve c.loop-r-test.true (given_reserves c.args.b.now c.loop-r.b k c.args.reserves.now c.requires.given)
+    each_get (IsGivenReserve c.loop-r.b) c.args.reserves.now c.loop-r.r-index no_reserve c.loop-r-test.true
+    (given_reserves c.args.b.now c.loop-r.b k c.args.reserves.now c.requires.given)
 
 pub push_reserve-requires-clause-one : goal.push_reserve-requires-clause-one
 push_reserve-requires-clause-one c = ap (λ (f : Signal). f.width) (c.loop-r.invariant.extends.kept c.args.moves c.requires.moves) ∙ c.requires.one
@@ -39,4 +40,5 @@ loop-r-preserved c =
     }
 
 pub returns-clause-adds : goal.returns-clause-adds
-returns-clause-adds c = reserves_end c.args.b.now c.loop-r.b c.args.ports.now c.loop-r.ports c.args.m c.args.moves c.args.reserves.now c.loop-r.r-index c.loop-r-test.false c.loop-r.invariant.adds
+returns-clause-adds c =
+    reserves_end c.args.b.now c.loop-r.b c.args.ports.now c.loop-r.ports c.args.m c.args.moves c.args.reserves.now c.loop-r.r-index c.loop-r-test.false c.loop-r.invariant.adds

@@ -15,10 +15,12 @@ returns-clause-adds c =
     let y = c.args.x.now in
     let x = c.in_ok-enable.ensures in
     let ps = c.args.ports.now in
-    let fs : List TicketSignal = record { enable = both (signal a c.args.moves) (signal a y.on); ticket = signal a c.args.ticket; value = signal a y.value } ∷ [] in
+    let fs : List TicketSignal =
+    record { enable = both (signal a c.args.moves) (signal a y.on); ticket = signal a c.args.ticket; value = signal a y.value } ∷ [] in
     let one = adds_write a b ps c.in_ok-enable.enable c.args.ticket y.value (both (signal a c.args.moves) (signal a y.on)) (signal a c.args.ticket)
     (signal a y.value) x.extends c.requires.ports x.means c.requires.ticket refl c.requires.given.value refl in
     let test : (y.mem == c.args.m) ≡ true = eq-eqb y.mem c.args.m c.if-x-m.false in
-    let P : List TicketSignal → Type 0 = λ gs. AreWrites b (ps ++ record { enable = c.in_ok-enable.enable; ticket = c.args.ticket; value = y.value } ∷ []) (map (ticket_signal a) ps ++ gs) in
+    let P : List TicketSignal → Type 0 =
+    λ gs. AreWrites b (ps ++ record { enable = c.in_ok-enable.enable; ticket = c.args.ticket; value = y.value } ∷ []) (map (ticket_signal a) ps ++ gs) in
     let Q : List TicketWrite → Type 0 = λ qs. AreWrites b qs (map (ticket_signal a) ps ++ (if y.mem == c.args.m then fs else [])) in
     subst Q (sym c.in_ok-push.ensures.ok) (subst P (sym (ap (λ t. if t then fs else []) test)) one)

@@ -18,7 +18,8 @@ push_write-requires-clause-bits c = bits_kept c.args.b.now c.loop-x.b c.args.bit
 pub push_write-requires-clause-given : goal.push_write-requires-clause-given
 push_write-requires-clause-given c =
     let k = extends_keeps c.args.b.now c.loop-x.b c.loop-x.invariant.extends in
-    each_get (IsGivenPut c.loop-x.b) c.args.puts.now c.loop-x.x-index no_put c.loop-x-test.true (given_puts c.args.b.now c.loop-x.b k c.args.puts.now c.requires.given)
+    each_get (IsGivenPut c.loop-x.b) c.args.puts.now c.loop-x.x-index no_put c.loop-x-test.true
+    (given_puts c.args.b.now c.loop-x.b k c.args.puts.now c.requires.given)
 
 pub push_write-requires-clause-one : goal.push_write-requires-clause-one
 push_write-requires-clause-one c = ap (λ (f : Signal). f.width) (c.loop-x.invariant.extends.kept c.args.moves c.requires.moves) ∙ c.requires.one
@@ -39,4 +40,5 @@ loop-x-preserved c =
     }
 
 pub returns-clause-adds : goal.returns-clause-adds
-returns-clause-adds c = writes_end c.args.b.now c.loop-x.b c.args.ports.now c.loop-x.ports c.args.m c.args.moves c.args.ticket c.args.puts.now c.loop-x.x-index c.loop-x-test.false c.loop-x.invariant.adds
+returns-clause-adds c =
+    writes_end c.args.b.now c.loop-x.b c.args.ports.now c.loop-x.ports c.args.m c.args.moves c.args.ticket c.args.puts.now c.loop-x.x-index c.loop-x-test.false c.loop-x.invariant.adds

@@ -21,15 +21,18 @@ releases_or-requires-clause-given c =
     let k = extends_keeps c.args.b.now c.loop-i.b c.loop-i.invariant.extends in
     let ds = c.args.deeds.now in
     let d = c.deed_at-deed.result in
-    let given = each_at (IsGiven c.args.b.now c.args.m) ds (length ds - 1 - c.loop-i.i) d (omega (arith, c.loop-i-test.true)) c.deed_at-deed.ensures c.requires.given in
-    subst (λ (xs : List LettingNet). Each (IsGivenLetting c.loop-i.b) xs) (sym c.as_slice.ensures) (given_kept c.args.b.now c.loop-i.b k c.args.m d given).lettings
+    let given =
+    each_at (IsGiven c.args.b.now c.args.m) ds (length ds - 1 - c.loop-i.i) d (omega (arith, c.loop-i-test.true)) c.deed_at-deed.ensures c.requires.given in
+    subst (λ (xs : List LettingNet). Each (IsGivenLetting c.loop-i.b) xs) (sym c.as_slice.ensures)
+    (given_kept c.args.b.now c.loop-i.b k c.args.m d given).lettings
 
 pub releases_or-requires-clause-moves : goal.releases_or-requires-clause-moves
 releases_or-requires-clause-moves c =
     let k = extends_keeps c.args.b.now c.loop-i.b c.loop-i.invariant.extends in
     let ds = c.args.deeds.now in
     let d = c.deed_at-deed.result in
-    let given = each_at (IsGiven c.args.b.now c.args.m) ds (length ds - 1 - c.loop-i.i) d (omega (arith, c.loop-i-test.true)) c.deed_at-deed.ensures c.requires.given in
+    let given =
+    each_at (IsGiven c.args.b.now c.args.m) ds (length ds - 1 - c.loop-i.i) d (omega (arith, c.loop-i-test.true)) c.deed_at-deed.ensures c.requires.given in
     k.there d.moves given.moves
 
 pub releases_or-requires-clause-one : goal.releases_or-requires-clause-one
@@ -37,7 +40,8 @@ releases_or-requires-clause-one c =
     let k = extends_keeps c.args.b.now c.loop-i.b c.loop-i.invariant.extends in
     let ds = c.args.deeds.now in
     let d = c.deed_at-deed.result in
-    let given = each_at (IsGiven c.args.b.now c.args.m) ds (length ds - 1 - c.loop-i.i) d (omega (arith, c.loop-i-test.true)) c.deed_at-deed.ensures c.requires.given in
+    let given =
+    each_at (IsGiven c.args.b.now c.args.m) ds (length ds - 1 - c.loop-i.i) d (omega (arith, c.loop-i-test.true)) c.deed_at-deed.ensures c.requires.given in
     (given_kept c.args.b.now c.loop-i.b k c.args.m d given).one
 
 pub releases_or-requires-clause-rest : goal.releases_or-requires-clause-rest
@@ -57,8 +61,13 @@ loop-i-preserved c =
     let m = c.args.m in
     let d = c.deed_at-deed.result in
     let v = c.loop-i.invariant in
-    let means = subst (λ (xs : List LettingNet). Means e c.in_ok-net.net (release_moves m (signal b d.moves) (map (letting_in b) xs) (signal b c.loop-i.net))) c.as_slice.ensures c.in_ok-net.ensures.means in
+    let means =
+    subst
+    (λ (xs : List LettingNet). Means e c.in_ok-net.net
+    (release_moves m (signal b d.moves) (map (letting_in b) xs) (signal b c.loop-i.net))) c.as_slice.ensures c.in_ok-net.ensures.means in
     record {
       extends = extends_trans a b e v.extends c.in_ok-net.ensures.extends;
-      means = released_more a b e m c.args.deeds.now c.loop-i.i d c.loop-i.net c.in_ok-net.net (extends_keeps a b v.extends) c.loop-i-test.true c.deed_at-deed.ensures c.requires.given v.means means;
+      means =
+          released_more a b e m c.args.deeds.now c.loop-i.i d c.loop-i.net c.in_ok-net.net
+          (extends_keeps a b v.extends) c.loop-i-test.true c.deed_at-deed.ensures c.requires.given v.means means;
     }

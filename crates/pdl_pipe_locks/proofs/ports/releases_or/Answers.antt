@@ -22,7 +22,9 @@ pub release_or-requires-clause-given : goal.release_or-requires-clause-given
 release_or-requires-clause-given c =
     let k = extends_keeps c.args.b.now c.loop-i.b c.loop-i.invariant.extends in
     let xs = c.args.lettings.now in
-    each_at (IsGivenLetting c.loop-i.b) xs (length xs - 1 - c.loop-i.i) c.letting_at-x.result (omega (arith, c.loop-i-test.true)) c.letting_at-x.ensures (given_lettings c.args.b.now c.loop-i.b k xs c.requires.given)
+    each_at (IsGivenLetting c.loop-i.b) xs (length xs - 1 - c.loop-i.i) c.letting_at-x.result
+    (omega (arith, c.loop-i-test.true)) c.letting_at-x.ensures
+    (given_lettings c.args.b.now c.loop-i.b k xs c.requires.given)
 
 pub release_or-requires-clause-moves : goal.release_or-requires-clause-moves
 release_or-requires-clause-moves c = c.loop-i.invariant.extends.there c.args.moves c.requires.moves
@@ -37,7 +39,8 @@ pub release_or-requires-clause-rest_one : goal.release_or-requires-clause-rest_o
 release_or-requires-clause-rest_one c =
     let a = c.args.b.now in
     let xs = c.args.lettings.now in
-    ap (λ (f : Signal). f.width) c.loop-i.invariant.means.same ∙ lets_one c.args.m (signal a c.args.moves) (map (letting_in a) (drop (length xs - c.loop-i.i) xs)) (signal a c.args.rest) c.requires.rest_one
+    ap (λ (f : Signal). f.width) c.loop-i.invariant.means.same
+    ∙ lets_one c.args.m (signal a c.args.moves) (map (letting_in a) (drop (length xs - c.loop-i.i) xs)) (signal a c.args.rest) c.requires.rest_one
 
 pub loop-i-preserved : goal.loop-i-preserved
 loop-i-preserved c =
@@ -48,7 +51,9 @@ loop-i-preserved c =
     let k = extends_keeps a b v.extends in
     record {
       extends = extends_trans a b d v.extends c.in_ok-net.ensures.extends;
-      means = lets_more a b d c.args.m (signal a c.args.moves) (signal b c.args.moves) c.args.lettings.now c.loop-i.i c.letting_at-x.result c.loop-i.net c.in_ok-net.net
+      means =
+          lets_more a b d c.args.m (signal a c.args.moves)
+          (signal b c.args.moves) c.args.lettings.now c.loop-i.i c.letting_at-x.result c.loop-i.net c.in_ok-net.net
           (signal a c.args.rest) k c.loop-i-test.true c.letting_at-x.ensures c.requires.given
           (k.kept c.args.moves c.requires.moves) v.means c.in_ok-net.ensures.means;
     }
@@ -56,4 +61,5 @@ loop-i-preserved c =
 pub returns-clause-means : goal.returns-clause-means
 returns-clause-means c =
     let a = c.args.b.now in
-    lets_end a c.loop-i.b c.args.m (signal a c.args.moves) c.args.lettings.now c.loop-i.i c.loop-i.net (signal a c.args.rest) c.loop-i-test.false c.loop-i.invariant.means
+    lets_end a c.loop-i.b c.args.m (signal a c.args.moves) c.args.lettings.now c.loop-i.i c.loop-i.net
+    (signal a c.args.rest) c.loop-i-test.false c.loop-i.invariant.means

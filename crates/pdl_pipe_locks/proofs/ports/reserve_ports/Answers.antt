@@ -18,15 +18,18 @@ push_reserves-requires-clause-given c =
     let k = extends_keeps c.args.b.now c.loop-i.b c.loop-i.invariant.extends in
     let ds = c.args.deeds.now in
     let d = c.deed_at-deed.result in
-    let given = each_at (IsGiven c.args.b.now c.args.m) ds (length ds - 1 - c.loop-i.i) d (omega (arith, c.loop-i-test.true)) c.deed_at-deed.ensures c.requires.given in
-    subst (λ (rs : List ReserveNet). Each (IsGivenReserve c.loop-i.b) rs) (sym c.as_slice.ensures) (given_kept c.args.b.now c.loop-i.b k c.args.m d given).reserves
+    let given =
+    each_at (IsGiven c.args.b.now c.args.m) ds (length ds - 1 - c.loop-i.i) d (omega (arith, c.loop-i-test.true)) c.deed_at-deed.ensures c.requires.given in
+    subst (λ (rs : List ReserveNet). Each (IsGivenReserve c.loop-i.b) rs) (sym c.as_slice.ensures)
+    (given_kept c.args.b.now c.loop-i.b k c.args.m d given).reserves
 
 pub push_reserves-requires-clause-moves : goal.push_reserves-requires-clause-moves
 push_reserves-requires-clause-moves c =
     let k = extends_keeps c.args.b.now c.loop-i.b c.loop-i.invariant.extends in
     let ds = c.args.deeds.now in
     let d = c.deed_at-deed.result in
-    let given = each_at (IsGiven c.args.b.now c.args.m) ds (length ds - 1 - c.loop-i.i) d (omega (arith, c.loop-i-test.true)) c.deed_at-deed.ensures c.requires.given in
+    let given =
+    each_at (IsGiven c.args.b.now c.args.m) ds (length ds - 1 - c.loop-i.i) d (omega (arith, c.loop-i-test.true)) c.deed_at-deed.ensures c.requires.given in
     k.there d.moves given.moves
 
 pub push_reserves-requires-clause-one : goal.push_reserves-requires-clause-one
@@ -34,7 +37,8 @@ push_reserves-requires-clause-one c =
     let k = extends_keeps c.args.b.now c.loop-i.b c.loop-i.invariant.extends in
     let ds = c.args.deeds.now in
     let d = c.deed_at-deed.result in
-    let given = each_at (IsGiven c.args.b.now c.args.m) ds (length ds - 1 - c.loop-i.i) d (omega (arith, c.loop-i-test.true)) c.deed_at-deed.ensures c.requires.given in
+    let given =
+    each_at (IsGiven c.args.b.now c.args.m) ds (length ds - 1 - c.loop-i.i) d (omega (arith, c.loop-i-test.true)) c.deed_at-deed.ensures c.requires.given in
     (given_kept c.args.b.now c.loop-i.b k c.args.m d given).one
 
 pub loop-i-preserved : goal.loop-i-preserved
@@ -47,8 +51,13 @@ loop-i-preserved c =
     let v = c.loop-i.invariant in
     let ps = c.loop-i.ports in
     let qs = c.push_reserves.new.ports in
-    let adds = subst (λ (rs : List ReserveNet). AddsReserves b e ps qs (reserves_to m (signal b d.moves) (map (reservation_in b) rs))) c.as_slice.ensures c.in_ok-push_reserves.ensures.adds in
+    let adds =
+    subst
+    (λ (rs : List ReserveNet). AddsReserves b e ps qs
+    (reserves_to m (signal b d.moves) (map (reservation_in b) rs))) c.as_slice.ensures c.in_ok-push_reserves.ensures.adds in
     record {
       extends = extends_trans a b e v.extends c.in_ok-push_reserves.ensures.extends;
-      are = reserves_more a b e m c.args.deeds.now c.loop-i.i d ps qs (extends_keeps a b v.extends) c.loop-i-test.true c.deed_at-deed.ensures c.requires.given v.are adds;
+      are =
+          reserves_more a b e m c.args.deeds.now c.loop-i.i d ps qs
+          (extends_keeps a b v.extends) c.loop-i-test.true c.deed_at-deed.ensures c.requires.given v.are adds;
     }

@@ -18,7 +18,8 @@ push_writes-requires-clause-given c =
     let k = extends_keeps c.args.b.now c.loop-i.b c.loop-i.invariant.extends in
     let ds = c.args.deeds.now in
     let d = c.deed_at-deed.result in
-    let given = each_at (IsGiven c.args.b.now c.args.m) ds (length ds - 1 - c.loop-i.i) d (omega (arith, c.loop-i-test.true)) c.deed_at-deed.ensures c.requires.given in
+    let given =
+    each_at (IsGiven c.args.b.now c.args.m) ds (length ds - 1 - c.loop-i.i) d (omega (arith, c.loop-i-test.true)) c.deed_at-deed.ensures c.requires.given in
     subst (λ (rs : List PutNet). Each (IsGivenPut c.loop-i.b) rs) (sym c.as_slice.ensures) (given_kept c.args.b.now c.loop-i.b k c.args.m d given).puts
 
 pub push_writes-requires-clause-moves : goal.push_writes-requires-clause-moves
@@ -26,7 +27,8 @@ push_writes-requires-clause-moves c =
     let k = extends_keeps c.args.b.now c.loop-i.b c.loop-i.invariant.extends in
     let ds = c.args.deeds.now in
     let d = c.deed_at-deed.result in
-    let given = each_at (IsGiven c.args.b.now c.args.m) ds (length ds - 1 - c.loop-i.i) d (omega (arith, c.loop-i-test.true)) c.deed_at-deed.ensures c.requires.given in
+    let given =
+    each_at (IsGiven c.args.b.now c.args.m) ds (length ds - 1 - c.loop-i.i) d (omega (arith, c.loop-i-test.true)) c.deed_at-deed.ensures c.requires.given in
     k.there d.moves given.moves
 
 pub push_writes-requires-clause-one : goal.push_writes-requires-clause-one
@@ -34,7 +36,8 @@ push_writes-requires-clause-one c =
     let k = extends_keeps c.args.b.now c.loop-i.b c.loop-i.invariant.extends in
     let ds = c.args.deeds.now in
     let d = c.deed_at-deed.result in
-    let given = each_at (IsGiven c.args.b.now c.args.m) ds (length ds - 1 - c.loop-i.i) d (omega (arith, c.loop-i-test.true)) c.deed_at-deed.ensures c.requires.given in
+    let given =
+    each_at (IsGiven c.args.b.now c.args.m) ds (length ds - 1 - c.loop-i.i) d (omega (arith, c.loop-i-test.true)) c.deed_at-deed.ensures c.requires.given in
     (given_kept c.args.b.now c.loop-i.b k c.args.m d given).one
 
 pub push_writes-requires-clause-ticket : goal.push_writes-requires-clause-ticket
@@ -42,13 +45,15 @@ push_writes-requires-clause-ticket c =
     let k = extends_keeps c.args.b.now c.loop-i.b c.loop-i.invariant.extends in
     let ds = c.args.deeds.now in
     let d = c.deed_at-deed.result in
-    let given = each_at (IsGiven c.args.b.now c.args.m) ds (length ds - 1 - c.loop-i.i) d (omega (arith, c.loop-i-test.true)) c.deed_at-deed.ensures c.requires.given in
+    let given =
+    each_at (IsGiven c.args.b.now c.args.m) ds (length ds - 1 - c.loop-i.i) d (omega (arith, c.loop-i-test.true)) c.deed_at-deed.ensures c.requires.given in
     k.there c.net_at-ticket.result (ticket_there c.args.b.now c.args.m d c.net_at-ticket.result c.net_at-ticket.ensures given)
 
 pub net_at-ticket-requires : goal.net_at-ticket-requires
 net_at-ticket-requires c =
     let ds = c.args.deeds.now in
-    (each_at (IsGiven c.args.b.now c.args.m) ds (length ds - 1 - c.loop-i.i) c.deed_at-deed.result (omega (arith, c.loop-i-test.true)) c.deed_at-deed.ensures c.requires.given).low
+    (each_at (IsGiven c.args.b.now c.args.m) ds (length ds - 1 - c.loop-i.i) c.deed_at-deed.result
+    (omega (arith, c.loop-i-test.true)) c.deed_at-deed.ensures c.requires.given).low
 
 pub loop-i-preserved : goal.loop-i-preserved
 loop-i-preserved c =
@@ -60,8 +65,13 @@ loop-i-preserved c =
     let v = c.loop-i.invariant in
     let ps = c.loop-i.ports in
     let qs = c.push_writes.new.ports in
-    let adds = subst (λ (rs : List PutNet). AddsWrites b e ps qs (puts_to m (signal b d.moves) (signal b c.net_at-ticket.result) (map (put_in b) rs))) c.as_slice.ensures c.in_ok-push_writes.ensures.adds in
+    let adds =
+    subst
+    (λ (rs : List PutNet). AddsWrites b e ps qs
+    (puts_to m (signal b d.moves) (signal b c.net_at-ticket.result) (map (put_in b) rs))) c.as_slice.ensures c.in_ok-push_writes.ensures.adds in
     record {
       extends = extends_trans a b e v.extends c.in_ok-push_writes.ensures.extends;
-      are = writes_more a b e m c.args.deeds.now c.loop-i.i d c.net_at-ticket.result ps qs (extends_keeps a b v.extends) c.loop-i-test.true c.deed_at-deed.ensures c.net_at-ticket.ensures c.requires.given v.are adds;
+      are =
+          writes_more a b e m c.args.deeds.now c.loop-i.i d c.net_at-ticket.result ps qs
+          (extends_keeps a b v.extends) c.loop-i-test.true c.deed_at-deed.ensures c.net_at-ticket.ensures c.requires.given v.are adds;
     }

@@ -10,10 +10,12 @@ use Rattle.pdl_pipe_locks.proofs.steps.lock_step.Goals as goal
 
 pub emit_step-requires-clause-placed : goal.emit_step-requires-clause-placed
 emit_step-requires-clause-placed g c =
-    g.met.L.LockModule.stays c.args.x.now.lock c.args.b.now c.lock_ports.new.b c.args.x.now.regs (extends_keeps c.args.b.now c.lock_ports.new.b c.in_ok-ports.ensures.extends) c.requires.placed
+    g.met.L.LockModule.stays c.args.x.now.lock c.args.b.now c.lock_ports.new.b c.args.x.now.regs
+    (extends_keeps c.args.b.now c.lock_ports.new.b c.in_ok-ports.ensures.extends) c.requires.placed
 
 pub emit_step-requires-clause-empty : goal.emit_step-requires-clause-empty
-emit_step-requires-clause-empty g c = unwritten_still c.args.x.now.regs.array c.args.b.now c.lock_ports.new.b c.in_ok-ports.ensures.extends c.requires.array c.requires.empty
+emit_step-requires-clause-empty g c =
+    unwritten_still c.args.x.now.regs.array c.args.b.now c.lock_ports.new.b c.in_ok-ports.ensures.extends c.requires.array c.requires.empty
 
 pub emit_step-requires-clause-ports : goal.emit_step-requires-clause-ports
 emit_step-requires-clause-ports g c =
@@ -21,7 +23,10 @@ emit_step-requires-clause-ports g c =
     let d = c.lock_ports.new.b in
     let r = c.args.round.now in
     let f = signals_of a r.deeds.now c.args.m (signal a r.squash) (tickets_in a r.tails.now c.args.m) in
-    let are : ArePorts d c.in_ok-ports.ports f = subst (λ (g : Signal). ArePorts d c.in_ok-ports.ports (signals_of a r.deeds.now c.args.m (signal a r.squash) g)) c.variable-tail.ensures.same c.in_ok-ports.ensures.ports in
+    let are : ArePorts d c.in_ok-ports.ports f =
+    subst
+    (λ (g : Signal). ArePorts d c.in_ok-ports.ports
+    (signals_of a r.deeds.now c.args.m (signal a r.squash) g)) c.variable-tail.ensures.same c.in_ok-ports.ensures.ports in
     ports_there d c.in_ok-ports.ports f are
 
 pub emit_step-requires-clause-fit : goal.emit_step-requires-clause-fit
@@ -30,7 +35,10 @@ emit_step-requires-clause-fit g c =
     let d = c.lock_ports.new.b in
     let r = c.args.round.now in
     let f = signals_of a r.deeds.now c.args.m (signal a r.squash) (tickets_in a r.tails.now c.args.m) in
-    let are : ArePorts d c.in_ok-ports.ports f = subst (λ (g : Signal). ArePorts d c.in_ok-ports.ports (signals_of a r.deeds.now c.args.m (signal a r.squash) g)) c.variable-tail.ensures.same c.in_ok-ports.ensures.ports in
+    let are : ArePorts d c.in_ok-ports.ports f =
+    subst
+    (λ (g : Signal). ArePorts d c.in_ok-ports.ports
+    (signals_of a r.deeds.now c.args.m (signal a r.squash) g)) c.variable-tail.ensures.same c.in_ok-ports.ensures.ports in
     let x = c.args.x.now in
     ports_fit d x.regs.bits x.regs.width (g.L.LockModule.tickets x.lock) c.in_ok-ports.ports f are c.requires.fit
 
@@ -40,12 +48,18 @@ returns-clause-law g c =
     let d = c.lock_ports.new.b in
     let r = c.args.round.now in
     let f = signals_of a r.deeds.now c.args.m (signal a r.squash) (tickets_in a r.tails.now c.args.m) in
-    let are : ArePorts d c.in_ok-ports.ports f = subst (λ (g : Signal). ArePorts d c.in_ok-ports.ports (signals_of a r.deeds.now c.args.m (signal a r.squash) g)) c.variable-tail.ensures.same c.in_ok-ports.ensures.ports in
+    let are : ArePorts d c.in_ok-ports.ports f =
+    subst
+    (λ (g : Signal). ArePorts d c.in_ok-ports.ports
+    (signals_of a r.deeds.now c.args.m (signal a r.squash) g)) c.variable-tail.ensures.same c.in_ok-ports.ensures.ports in
     let L = g.L.LockModule in
     let x = c.args.x.now in
     let e = c.emit_step.new.b in
     let n = c.in_ok-nets.nets in
-    subst (λ (s : StepSignals). StepLaw (L.stands x.lock x.regs) (L.size x.lock) (L.tickets x.lock) (own x.regs) e s (signal e n.commit) (signal e n.addr) (signal e n.value)) (ports_mean d c.in_ok-ports.ports f are) c.in_ok-nets.ensures.law
+    subst
+    (λ (s : StepSignals). StepLaw (L.stands x.lock x.regs) (L.size x.lock) (L.tickets x.lock)
+    (own x.regs) e s (signal e n.commit) (signal e n.addr) (signal e n.value))
+    (ports_mean d c.in_ok-ports.ports f are) c.in_ok-nets.ensures.law
 
 pub returns-clause-hides : goal.returns-clause-hides
 returns-clause-hides g c =
@@ -53,11 +67,16 @@ returns-clause-hides g c =
     let d = c.lock_ports.new.b in
     let r = c.args.round.now in
     let f = signals_of a r.deeds.now c.args.m (signal a r.squash) (tickets_in a r.tails.now c.args.m) in
-    let are : ArePorts d c.in_ok-ports.ports f = subst (λ (g : Signal). ArePorts d c.in_ok-ports.ports (signals_of a r.deeds.now c.args.m (signal a r.squash) g)) c.variable-tail.ensures.same c.in_ok-ports.ensures.ports in
+    let are : ArePorts d c.in_ok-ports.ports f =
+    subst
+    (λ (g : Signal). ArePorts d c.in_ok-ports.ports
+    (signals_of a r.deeds.now c.args.m (signal a r.squash) g)) c.variable-tail.ensures.same c.in_ok-ports.ensures.ports in
     let x = c.args.x.now in
-    subst (λ (s : StepSignals). HidesLaw (g.L.LockModule.kind_of x.lock) c.emit_step.new.b (own x.regs) s) (ports_mean d c.in_ok-ports.ports f are) c.in_ok-nets.ensures.hides
+    subst (λ (s : StepSignals). HidesLaw (g.L.LockModule.kind_of x.lock) c.emit_step.new.b (own x.regs) s)
+    (ports_mean d c.in_ok-ports.ports f are) c.in_ok-nets.ensures.hides
 
 pub returns-in_err-nets-clause-extends : goal.returns-in_err-nets-clause-extends
 returns-in_err-nets-clause-extends g c =
     let o = own c.args.x.now.regs in
-    but_trans o c.args.b.now c.lock_ports.new.b c.emit_step.new.b (but_extends o c.args.b.now c.lock_ports.new.b c.lock_ports.ensures.extends) c.emit_step.ensures.extends
+    but_trans o c.args.b.now c.lock_ports.new.b c.emit_step.new.b
+    (but_extends o c.args.b.now c.lock_ports.new.b c.lock_ports.ensures.extends) c.emit_step.ensures.extends

@@ -21,7 +21,8 @@ returns-in-None-clause-stepped g c =
     let a = c.args.b.now in
     let xs = c.args.round.now.locks.now in
     let ds = c.args.round.now.deeds.now in
-    stepped_not l a (mem_at p c.args.m) (steps_in a p ds c.args.round.now.squash c.args.round.now.tails.now c.args.m) (some_at xs c.args.m) (sym c.lock_at.ensures ∙ c.in-None.is)
+    stepped_not l a (mem_at p c.args.m) (steps_in a p ds c.args.round.now.squash c.args.round.now.tails.now c.args.m)
+    (some_at xs c.args.m) (sym c.lock_at.ensures ∙ c.in-None.is)
 
 pub lock_step-requires-clause-array : goal.lock_step-requires-clause-array
 lock_step-requires-clause-array g c i e =
@@ -44,7 +45,8 @@ lock_step-requires-clause-given g c =
     let L = g.L.LockModule in
     let l : Members g.row.L.Denot = record { placed = L.placed; stands = L.stands; kind = L.kind_of; size = L.size; tickets = L.tickets } in
     let f = form c.args.round.now.pipe.now in
-    all_given l c.args.b.now f.pipe f.widths c.args.round.now.locks.now c.args.m c.args.round.now.deeds.now (omega (arith, c.requires.low, c.requires.locked.count)) c.requires.deeds.each
+    all_given l c.args.b.now f.pipe f.widths c.args.round.now.locks.now c.args.m c.args.round.now.deeds.now
+    (omega (arith, c.requires.low, c.requires.locked.count)) c.requires.deeds.each
 
 pub lock_step-requires-clause-fit : goal.lock_step-requires-clause-fit
 lock_step-requires-clause-fit g c =
@@ -52,7 +54,9 @@ lock_step-requires-clause-fit g c =
     let l : Members g.row.L.Denot = record { placed = L.placed; stands = L.stands; kind = L.kind_of; size = L.size; tickets = L.tickets } in
     let f = form c.args.round.now.pipe.now in
     let e = sym c.lock_at.ensures ∙ c.in-Some.is in
-    signals_fit l c.args.b.now f.pipe f.widths c.args.round.now.locks.now c.args.m c.in-Some.x c.args.round.now.deeds.now (omega (arith, c.requires.low, c.requires.locked.count)) e (c.requires.locked.locks c.args.m c.in-Some.x c.requires.low e) c.requires.deeds.each c.args.round.now.squash c.args.round.now.tails.now c.requires.squash
+    signals_fit l c.args.b.now f.pipe f.widths c.args.round.now.locks.now c.args.m c.in-Some.x c.args.round.now.deeds.now
+    (omega (arith, c.requires.low, c.requires.locked.count)) e
+    (c.requires.locked.locks c.args.m c.in-Some.x c.requires.low e) c.requires.deeds.each c.args.round.now.squash c.args.round.now.tails.now c.requires.squash
 
 pub returns-in_ok-nets-in-Some-clause-stepped : goal.returns-in_ok-nets-in-Some-clause-stepped
 returns-in_ok-nets-in-Some-clause-stepped g c =
@@ -70,7 +74,13 @@ returns-in_ok-nets-in-Some-clause-stepped g c =
     let h = c.in_ok-nets-in-Some.ensures in
     let e = sym c.lock_at.ensures ∙ c.in-Some.is in
     let signals = steps_in a p ds c.args.round.now.squash c.args.round.now.tails.now m in
-    let law = subst (λ (s : StepSignals). StepLaw (L.stands x.lock x.regs) (L.size x.lock) (L.tickets x.lock) (own x.regs) d s (signal d n.commit) (signal d n.addr) (signal d n.value))
+    let law =
+    subst
+    (λ (s : StepSignals). StepLaw (L.stands x.lock x.regs) (L.size x.lock) (L.tickets x.lock)
+    (own x.regs) d s (signal d n.commit) (signal d n.addr) (signal d n.value))
     (signals_are l a p f.widths xs ds c.args.round.now.squash c.args.round.now.tails.now m c.requires.deeds) h.law in
-    let hides = subst (λ (s : StepSignals). HidesLaw (L.kind_of x.lock) d (own x.regs) s) (signals_are l a p f.widths xs ds c.args.round.now.squash c.args.round.now.tails.now m c.requires.deeds) h.hides in
-    stepped_some l d (mem_at p m) signals (some_at xs m) x n e (is_stepped l a d (comb_place p m) (mem_at p m) signals x n (c.requires.locked.locks m x c.requires.low e) h.nets law hides)
+    let hides =
+    subst (λ (s : StepSignals). HidesLaw (L.kind_of x.lock) d (own x.regs) s)
+    (signals_are l a p f.widths xs ds c.args.round.now.squash c.args.round.now.tails.now m c.requires.deeds) h.hides in
+    stepped_some l d (mem_at p m) signals (some_at xs m) x n e
+    (is_stepped l a d (comb_place p m) (mem_at p m) signals x n (c.requires.locked.locks m x c.requires.low e) h.nets law hides)

@@ -21,7 +21,9 @@ loop-m-init g c =
     let ds = c.args.round.now.deeds.now in
     let f = steps_in a p ds c.args.round.now.squash c.args.round.now.tails.now in
     record {
-      stepped = subst (λ (ns : List (Option LockNets)). AreStepped l a p f xs ns 0) (sym c.new-nets.ensures.items) (stepped_none l a p xs c.requires.locked c.requires.lawful f);
+      stepped =
+          subst (λ (ns : List (Option LockNets)). AreStepped l a p f xs ns 0) (sym c.new-nets.ensures.items)
+          (stepped_none l a p xs c.requires.locked c.requires.lawful f);
       extends = locks_none xs a;
     }
 
@@ -32,7 +34,8 @@ pub memory_step-requires-clause-locked : goal.memory_step-requires-clause-locked
 memory_step-requires-clause-locked g c =
     let L = g.L.LockModule in
     let l : Members g.row.L.Denot = record { placed = L.placed; stands = L.stands; kind = L.kind_of; size = L.size; tickets = L.tickets } in
-    locked_kept l c.args.b.now c.loop-m.b (form c.args.round.now.pipe.now).pipe c.args.round.now.locks.now c.loop-m.invariant.extends.keeps g.met.L.LockModule.stays c.requires.locked
+    locked_kept l c.args.b.now c.loop-m.b
+    (form c.args.round.now.pipe.now).pipe c.args.round.now.locks.now c.loop-m.invariant.extends.keeps g.met.L.LockModule.stays c.requires.locked
 
 pub memory_step-requires-clause-unwritten : goal.memory_step-requires-clause-unwritten
 memory_step-requires-clause-unwritten g c once =
@@ -40,7 +43,8 @@ memory_step-requires-clause-unwritten g c once =
     let l : Members g.row.L.Denot = record { placed = L.placed; stands = L.stands; kind = L.kind_of; size = L.size; tickets = L.tickets } in
     let p = (form c.args.round.now.pipe.now).pipe in
     let low : c.loop-m.m < length p.mems = omega (arith, c.loop-m-test.true, mem_count p c.mems-m-end.result.now c.mems-m-end.ensures.mems) in
-    still_unwritten l c.args.b.now p c.args.round.now.locks.now c.requires.locked c.requires.lawful c.loop-m.m c.loop-m.b low once c.loop-m.invariant.extends (c.requires.unwritten c.loop-m.m low once)
+    still_unwritten l c.args.b.now p c.args.round.now.locks.now c.requires.locked c.requires.lawful c.loop-m.m c.loop-m.b low once c.loop-m.invariant.extends
+    (c.requires.unwritten c.loop-m.m low once)
 
 pub memory_step-requires-clause-deeds : goal.memory_step-requires-clause-deeds
 memory_step-requires-clause-deeds g c =
@@ -72,8 +76,10 @@ loop-m-preserved g c =
     let low : m < length p.mems = omega (arith, c.loop-m-test.true, mem_count p c.mems-m-end.result.now c.mems-m-end.ensures.mems) in
     let f = steps_in a p ds c.args.round.now.squash c.args.round.now.tails.now in
     let h = steps_in b p ds c.args.round.now.squash c.args.round.now.tails.now m in
-    let same : h ≡ f m = step_same l a b p form.widths xs ds c.args.round.now.squash c.args.round.now.tails.now m v.extends.keeps c.requires.deeds c.requires.squash in
-    let more = stepped_more l a p xs c.requires.locked c.requires.lawful m b d f h c.loop-m.nets.items c.in_ok-net.net low same v.extends.keeps x.extends x.stepped v.stepped in
+    let same : h ≡ f m =
+    step_same l a b p form.widths xs ds c.args.round.now.squash c.args.round.now.tails.now m v.extends.keeps c.requires.deeds c.requires.squash in
+    let more =
+    stepped_more l a p xs c.requires.locked c.requires.lawful m b d f h c.loop-m.nets.items c.in_ok-net.net low same v.extends.keeps x.extends x.stepped v.stepped in
     record {
       stepped = subst (λ (ns : List (Option LockNets)). AreStepped l d p f xs ns (m + 1)) (sym c.in_ok-push.ensures.items) more;
       extends = locks_more xs m a b d v.extends x.extends;
@@ -88,13 +94,15 @@ returns-clause-stepped g c =
     let xs = c.args.round.now.locks.now in
     let ds = c.args.round.now.deeds.now in
     let f = steps_in a p ds c.args.round.now.squash c.args.round.now.tails.now in
-    let n : c.loop-m.m ≡ length p.mems = omega (arith, c.loop-m-test.false, c.loop-m.auto.m-end, mem_count p c.mems-m-end.result.now c.mems-m-end.ensures.mems) in
+    let n : c.loop-m.m ≡ length p.mems =
+    omega (arith, c.loop-m-test.false, c.loop-m.auto.m-end, mem_count p c.mems-m-end.result.now c.mems-m-end.ensures.mems) in
     subst (λ i. AreStepped l c.loop-m.b p f xs c.loop-m.nets.items i) n c.loop-m.invariant.stepped
 
 pub returns-clause-extends : goal.returns-clause-extends
 returns-clause-extends g c =
     let p = (form c.args.round.now.pipe.now).pipe in
-    let n : c.loop-m.m ≡ length p.mems = omega (arith, c.loop-m-test.false, c.loop-m.auto.m-end, mem_count p c.mems-m-end.result.now c.mems-m-end.ensures.mems) in
+    let n : c.loop-m.m ≡ length p.mems =
+    omega (arith, c.loop-m-test.false, c.loop-m.auto.m-end, mem_count p c.mems-m-end.result.now c.mems-m-end.ensures.mems) in
     subst (λ i. ExtendsLocks c.args.round.now.locks.now i c.args.b.now c.loop-m.b) n c.loop-m.invariant.extends
 
 pub returns-in_err-net-clause-extends : goal.returns-in_err-net-clause-extends
@@ -103,7 +111,8 @@ returns-in_err-net-clause-extends g c =
     let xs = c.args.round.now.locks.now in
     let m = c.loop-m.m in
     let low : m < length p.mems = omega (arith, c.loop-m-test.true, mem_count p c.mems-m-end.result.now c.mems-m-end.ensures.mems) in
-    locks_wider xs (m + 1) (length p.mems) c.args.b.now c.memory_step.new.b (omega (arith, low)) (locks_more xs m c.args.b.now c.loop-m.b c.memory_step.new.b c.loop-m.invariant.extends c.memory_step.ensures.extends)
+    locks_wider xs (m + 1) (length p.mems) c.args.b.now c.memory_step.new.b (omega (arith, low))
+    (locks_more xs m c.args.b.now c.loop-m.b c.memory_step.new.b c.loop-m.invariant.extends c.memory_step.ensures.extends)
 
 pub returns-in_err-push-clause-extends : goal.returns-in_err-push-clause-extends
 returns-in_err-push-clause-extends g c =
@@ -111,4 +120,5 @@ returns-in_err-push-clause-extends g c =
     let xs = c.args.round.now.locks.now in
     let m = c.loop-m.m in
     let low : m < length p.mems = omega (arith, c.loop-m-test.true, mem_count p c.mems-m-end.result.now c.mems-m-end.ensures.mems) in
-    locks_wider xs (m + 1) (length p.mems) c.args.b.now c.memory_step.new.b (omega (arith, low)) (locks_more xs m c.args.b.now c.loop-m.b c.memory_step.new.b c.loop-m.invariant.extends c.memory_step.ensures.extends)
+    locks_wider xs (m + 1) (length p.mems) c.args.b.now c.memory_step.new.b (omega (arith, low))
+    (locks_more xs m c.args.b.now c.loop-m.b c.memory_step.new.b c.loop-m.invariant.extends c.memory_step.ensures.extends)

@@ -27,9 +27,18 @@ returns-clause-on c =
     let path = path_by p (line_views a x) (signs_by a x y) (signal_at (signals_in a c.args.frees.now)) k in
     let g = unsquashed (verify_stage p.stmts) k (signal a y.squash) in
     let e1 = extends_keeps a b1 c.path_open.ensures.extends in
-    let e3 = extends_keeps a b3 (extends_trans a b1 b3 c.path_open.ensures.extends (extends_trans b1 b2 b3 c.unsquashed.ensures.extends c.both_bits.ensures.extends)) in
-    let lets : IsBitFor b2 c.in_ok-unsquashed.unsquashed g = subst (IsBitFor b2 c.in_ok-unsquashed.unsquashed) (ap (λ (f : Signal). unsquashed (verify_stage p.stmts) k f) (e1.kept y.squash c.requires.controls.squash.0)) c.in_ok-unsquashed.ensures.on in
-    let passes : IsBitFor b3 c.in_ok-passes.passes (both g path) = both_after b1 b2 b3 c.in_ok-unsquashed.unsquashed c.in_ok-path.path c.in_ok-passes.passes g path (extends_keeps b1 b2 c.unsquashed.ensures.extends) lets c.in_ok-path.ensures.on c.in_ok-passes.ensures.on in
+    let e3 =
+    extends_keeps a b3
+    (extends_trans a b1 b3 c.path_open.ensures.extends (extends_trans b1 b2 b3 c.unsquashed.ensures.extends c.both_bits.ensures.extends)) in
+    let lets : IsBitFor b2 c.in_ok-unsquashed.unsquashed g =
+    subst (IsBitFor b2 c.in_ok-unsquashed.unsquashed)
+    (ap (λ (f : Signal). unsquashed (verify_stage p.stmts) k f) (e1.kept y.squash c.requires.controls.squash.0)) c.in_ok-unsquashed.ensures.on in
+    let passes : IsBitFor b3 c.in_ok-passes.passes (both g path) =
+    both_after b1 b2 b3 c.in_ok-unsquashed.unsquashed c.in_ok-path.path c.in_ok-passes.passes g path
+    (extends_keeps b1 b2 c.unsquashed.ensures.extends) lets c.in_ok-path.ensures.on c.in_ok-passes.ensures.on in
     let answers = all_answered p (answers_in a x.shared.now.ports.now) k (length p.mems) 0 in
-    let answered : IsBitFor b4 c.in_ok-answered.answered answers = subst (IsBitFor b4 c.in_ok-answered.answered) (answered_same a b3 e3 p x.shared.now.ports.now k (length p.mems) 0 c.requires.line.shared.ports) c.in_ok-answered.ensures.on in
-    both_after b3 b4 b5 c.in_ok-answered.answered c.in_ok-passes.passes c.in_ok-gate.gate answers (both g path) (extends_keeps b3 b4 c.all_answered.ensures.extends) answered passes c.in_ok-gate.ensures.on
+    let answered : IsBitFor b4 c.in_ok-answered.answered answers =
+    subst (IsBitFor b4 c.in_ok-answered.answered)
+    (answered_same a b3 e3 p x.shared.now.ports.now k (length p.mems) 0 c.requires.line.shared.ports) c.in_ok-answered.ensures.on in
+    both_after b3 b4 b5 c.in_ok-answered.answered c.in_ok-passes.passes c.in_ok-gate.gate answers (both g path)
+    (extends_keeps b3 b4 c.all_answered.ensures.extends) answered passes c.in_ok-gate.ensures.on

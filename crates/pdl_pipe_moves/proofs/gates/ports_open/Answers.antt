@@ -15,26 +15,33 @@ use Rattle.pdl_pipe_moves.specs.Gates.{opens_by, IsAsked}
 use Rattle.pdl_pipe_moves.proofs.gates.ports_open.Goals as goal
 
 pub variable-free-requires-clause-there : goal.variable-free-requires-clause-there
-variable-free-requires-clause-there c = there_keeps c.args.b.now c.loop-i.b c.args.frees.now (extends_keeps c.args.b.now c.loop-i.b c.loop-i.invariant.0) (bits_there c.args.b.now c.args.frees.now c.requires.frees)
+variable-free-requires-clause-there c =
+    there_keeps c.args.b.now c.loop-i.b c.args.frees.now (extends_keeps c.args.b.now c.loop-i.b c.loop-i.invariant.0)
+    (bits_there c.args.b.now c.args.frees.now c.requires.frees)
 
 pub variable-free-requires-clause-low : goal.variable-free-requires-clause-low
 variable-free-requires-clause-low c =
     let xs = c.args.asks.now in
     let t = c.loop-i-test.true in
-    (each_at (IsAsked c.args.b.now c.args.frees.now) xs (length xs - 1 - c.loop-i.i) c.ask_at-ask.result (omega (arith, t)) (sym c.ask_at-ask.ensures) c.requires.asks).mem
+    (each_at (IsAsked c.args.b.now c.args.frees.now) xs (length xs - 1 - c.loop-i.i) c.ask_at-ask.result (omega (arith, t))
+    (sym c.ask_at-ask.ensures) c.requires.asks).mem
 
 pub mux-requires-clause-choice_there : goal.mux-requires-clause-choice_there
 mux-requires-clause-choice_there c =
     let xs = c.args.asks.now in
     let t = c.loop-i-test.true in
-    let h = each_at (IsAsked c.args.b.now c.args.frees.now) xs (length xs - 1 - c.loop-i.i) c.ask_at-ask.result (omega (arith, t)) (sym c.ask_at-ask.ensures) c.requires.asks in
+    let h =
+    each_at (IsAsked c.args.b.now c.args.frees.now) xs (length xs - 1 - c.loop-i.i) c.ask_at-ask.result (omega (arith, t))
+    (sym c.ask_at-ask.ensures) c.requires.asks in
     c.loop-i.invariant.0.there c.ask_at-ask.result.on h.on.0
 
 pub mux-requires-clause-one : goal.mux-requires-clause-one
 mux-requires-clause-one c =
     let xs = c.args.asks.now in
     let t = c.loop-i-test.true in
-    let h = each_at (IsAsked c.args.b.now c.args.frees.now) xs (length xs - 1 - c.loop-i.i) c.ask_at-ask.result (omega (arith, t)) (sym c.ask_at-ask.ensures) c.requires.asks in
+    let h =
+    each_at (IsAsked c.args.b.now c.args.frees.now) xs (length xs - 1 - c.loop-i.i) c.ask_at-ask.result (omega (arith, t))
+    (sym c.ask_at-ask.ensures) c.requires.asks in
     ap (λ (f : Signal). f.width) (c.loop-i.invariant.0.kept c.ask_at-ask.result.on h.on.0) ∙ h.on.1
 
 pub mux-requires-clause-widths : goal.mux-requires-clause-widths
@@ -46,8 +53,10 @@ mux-requires-clause-widths c =
     let t = c.loop-i-test.true in
     let e = extends_keeps a b c.loop-i.invariant.0 in
     let h = each_at (IsAsked a frees) xs (length xs - 1 - c.loop-i.i) c.ask_at-ask.result (omega (arith, t)) (sym c.ask_at-ask.ensures) c.requires.asks in
-    let free = c.variable-free.ensures.same ∙ ap (λ fs. signal_at fs c.ask_at-ask.result.mem) (signals_keep a b frees e (bits_there a frees c.requires.frees)) in
-    ap (λ (f : Signal). f.width) free ∙ bit_one a frees c.ask_at-ask.result.mem h.mem c.requires.frees ∙ sym (ap (λ (f : Signal). f.width) (e.kept c.args.bits.one c.requires.bits.one.there ∙ c.requires.bits.one.same))
+    let free =
+    c.variable-free.ensures.same ∙ ap (λ fs. signal_at fs c.ask_at-ask.result.mem) (signals_keep a b frees e (bits_there a frees c.requires.frees)) in
+    ap (λ (f : Signal). f.width) free ∙ bit_one a frees c.ask_at-ask.result.mem h.mem c.requires.frees
+    ∙ sym (ap (λ (f : Signal). f.width) (e.kept c.args.bits.one c.requires.bits.one.there ∙ c.requires.bits.one.same))
 
 pub both_bits-requires-clause-x : goal.both_bits-requires-clause-x
 both_bits-requires-clause-x c =
@@ -58,9 +67,13 @@ both_bits-requires-clause-x c =
     let t = c.loop-i-test.true in
     let e = extends_keeps a b c.loop-i.invariant.0 in
     let h = each_at (IsAsked a frees) xs (length xs - 1 - c.loop-i.i) c.ask_at-ask.result (omega (arith, t)) (sym c.ask_at-ask.ensures) c.requires.asks in
-    let free = c.variable-free.ensures.same ∙ ap (λ fs. signal_at fs c.ask_at-ask.result.mem) (signals_keep a b frees e (bits_there a frees c.requires.frees)) in
-    let means = c.in_ok-passes.ensures.means in
-    (means.there, ap (λ (f : Signal). f.width) (means.same ∙ ap (λ (g : Signal). mux_signal (signal b c.ask_at-ask.result.on) g (signal b c.args.bits.one)) free) ∙ bit_one a frees c.ask_at-ask.result.mem h.mem c.requires.frees)
+    let free =
+    c.variable-free.ensures.same ∙ ap (λ fs. signal_at fs c.ask_at-ask.result.mem) (signals_keep a b frees e (bits_there a frees c.requires.frees)) in
+    let means = c.in_ok-passes.ensures.means in (
+      means.there,
+      ap (λ (f : Signal). f.width) (means.same ∙ ap (λ (g : Signal). mux_signal (signal b c.ask_at-ask.result.on) g (signal b c.args.bits.one)) free)
+          ∙ bit_one a frees c.ask_at-ask.result.mem h.mem c.requires.frees,
+    )
 
 pub loop-i-preserved : goal.loop-i-preserved
 loop-i-preserved c =
@@ -91,7 +104,9 @@ loop-i-preserved c =
     let old = c.mux.ensures.extends.kept c.loop-i.net c.loop-i.invariant.2.there in
     let net = c.in_ok-net.ensures.on in
     let more : both (if_on (signal a ask.on) (f ask.mem)) rest ≡ opens_by f (map (ask_in a) (drop k xs)) =
-    sym (ap (λ (ys : List AskNet). opens_by f (map (ask_in a) ys)) (drop_more xs k ask low) ∙ ap (λ (y : AskNet). opens_by f (map (ask_in a) (y ∷ drop (k + 1) xs))) (sym is)) in (
+    sym
+    (ap (λ (ys : List AskNet). opens_by f (map (ask_in a) ys)) (drop_more xs k ask low)
+    ∙ ap (λ (y : AskNet). opens_by f (map (ask_in a) (y ∷ drop (k + 1) xs))) (sym is)) in (
       extends_trans a b d c.loop-i.invariant.0 (extends_trans b m d c.mux.ensures.extends c.both_bits.ensures.extends),
       c.both_bits.ensures.regs ∙ c.mux.ensures.regs ∙ c.loop-i.invariant.1,
       record {
@@ -99,7 +114,8 @@ loop-i-preserved c =
         one = net.one;
         on = λ s.
             net.on s
-            ∙ both_as (signal m c.in_ok-passes.passes) (signal m c.loop-i.net) (if_on (signal a ask.on) (f ask.mem)) rest (λ z. ap (λ (g : Signal). is_on g z) first)
+            ∙ both_as (signal m c.in_ok-passes.passes) (signal m c.loop-i.net)
+            (if_on (signal a ask.on) (f ask.mem)) rest (λ z. ap (λ (g : Signal). is_on g z) first)
             (λ z. ap (λ (g : Signal). is_on g z) old ∙ c.loop-i.invariant.2.on z ∙ ap (λ j. is_on (opens_by f (map (ask_in a) (drop j xs))) z) later) s
             ∙ ap (λ (g : Signal). is_on g s) more;
       },

@@ -44,7 +44,12 @@ returns-clause-moves c =
       one = moves.one;
       on = λ z.
           moves.on z
-          ∙ both_as (signal d2 (RegNet s.regs.valid)) (signal d2 c.in_ok-ready.ready) v.valid (both v.ended.ready (both g way)) (λ y. ap (λ (f : Signal). is_on f y) valid)
+          ∙ both_as (signal d2 (RegNet s.regs.valid))
+          (signal d2 c.in_ok-ready.ready) v.valid (both v.ended.ready (both g way))
+          (λ y. ap (λ (f : Signal). is_on f y) valid)
           (λ y. lets.on y ∙ both_as (signal d1 s.end.ready) (signal d1 c.in_ok-open.open) v.ended.ready (both g way) (λ w. ap (λ (f : Signal). is_on f w) ready)
-          (λ w. opens.on w ∙ both_as (signal b c.args.gate) (signal b c.in_ok-way.way) g way (λ u. ap (λ (f : Signal). is_on f u) gate) (λ u. ap (λ (f : Signal). is_on f u) c.in_ok-way.ensures.means.same) w) y) z;
+          (λ w. opens.on w
+          ∙ both_as (signal b c.args.gate)
+          (signal b c.in_ok-way.way) g way (λ u. ap (λ (f : Signal). is_on f u) gate)
+          (λ u. ap (λ (f : Signal). is_on f u) c.in_ok-way.ensures.means.same) w) y) z;
     }

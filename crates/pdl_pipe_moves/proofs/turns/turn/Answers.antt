@@ -15,7 +15,11 @@ pub order_of-requires-clause-low : goal.order_of-requires-clause-low
 order_of-requires-clause-low c = (c.requires.turns c.args.q c.in-Some.f c.requires.q (ap (λ (s : Stage). s.merges) (sym c.pipe_stage.ensures) ∙ c.in-Some.is)).0
 
 pub order_of-requires-clause-some : goal.order_of-requires-clause-some
-order_of-requires-clause-some c = some_order c.args.b.now (some_at c.args.orders.now c.in-Some.f) (c.requires.turns c.args.q c.in-Some.f c.requires.q (ap (λ (s : Stage). s.merges) (sym c.pipe_stage.ensures) ∙ c.in-Some.is)).1
+order_of-requires-clause-some c =
+    some_order c.args.b.now (some_at c.args.orders.now c.in-Some.f)
+    (c.requires.turns c.args.q c.in-Some.f c.requires.q (ap (λ (s : Stage). s.merges) (sym c.pipe_stage.ensures) ∙ c.in-Some.is)).1
 
 pub branch_turn-requires-clause-nets : goal.branch_turn-requires-clause-nets
-branch_turn-requires-clause-nets c = subst (IsOrderThere c.args.b.now) c.order_of.ensures (c.requires.turns c.args.q c.in-Some.f c.requires.q (ap (λ (s : Stage). s.merges) (sym c.pipe_stage.ensures) ∙ c.in-Some.is)).1
+branch_turn-requires-clause-nets c =
+    subst (IsOrderThere c.args.b.now) c.order_of.ensures
+    (c.requires.turns c.args.q c.in-Some.f c.requires.q (ap (λ (s : Stage). s.merges) (sym c.pipe_stage.ensures) ∙ c.in-Some.is)).1

@@ -21,13 +21,17 @@ pub turn-requires-clause-q : goal.turn-requires-clause-q
 turn-requires-clause-q c = straight_low (line_pipe c.args.line.now) c.requires.inside c.args.k c.requires.low c.in-Goes.to (sym c.in-Goes.ensures)
 
 pub turn-requires-in-Forks-clause-q : goal.turn-requires-in-Forks-clause-q
-turn-requires-in-Forks-clause-q c = first_low (line_pipe c.args.line.now) c.requires.inside c.args.k c.requires.low c.in-Forks.x c.in-Forks.first c.in-Forks.second (sym c.in-Forks.ensures)
+turn-requires-in-Forks-clause-q c =
+    first_low (line_pipe c.args.line.now) c.requires.inside c.args.k c.requires.low c.in-Forks.x c.in-Forks.first c.in-Forks.second (sym c.in-Forks.ensures)
 
 pub turn-requires-in-Forks-2-clause-q : goal.turn-requires-in-Forks-2-clause-q
-turn-requires-in-Forks-2-clause-q c = second_low (line_pipe c.args.line.now) c.requires.inside c.args.k c.requires.low c.in-Forks.x c.in-Forks.first c.in-Forks.second (sym c.in-Forks.ensures)
+turn-requires-in-Forks-2-clause-q c =
+    second_low (line_pipe c.args.line.now) c.requires.inside c.args.k c.requires.low c.in-Forks.x c.in-Forks.first c.in-Forks.second (sym c.in-Forks.ensures)
 
 pub turn-requires-in-Forks-2-clause-turns : goal.turn-requires-in-Forks-2-clause-turns
-turn-requires-in-Forks-2-clause-turns c = turns_keep c.args.b.now c.turn-in-Forks.new.b (extends_keeps c.args.b.now c.turn-in-Forks.new.b c.turn-in-Forks.ensures.extends) (line_pipe c.args.line.now) c.args.orders.now c.requires.turns
+turn-requires-in-Forks-2-clause-turns c =
+    turns_keep c.args.b.now c.turn-in-Forks.new.b (extends_keeps c.args.b.now c.turn-in-Forks.new.b c.turn-in-Forks.ensures.extends)
+    (line_pipe c.args.line.now) c.args.orders.now c.requires.turns
 
 pub variable-choice-requires-clause-low : goal.variable-choice-requires-clause-low
 variable-choice-requires-clause-low c =
@@ -36,7 +40,9 @@ variable-choice-requires-clause-low c =
     let n = c.requires.line.count in
     let l = c.requires.low in
     let now = c.requires.line.stages c.args.k s (omega (arith, n, l)) (sym c.stage_of-s.ensures) in
-    let low = (fork_at f.widths f.pipe.stages c.args.k c.in-Forks.x c.in-Forks.first c.in-Forks.second c.requires.low c.requires.line.forks (sym c.in-Forks.ensures)).0 in
+    let low =
+    (fork_at f.widths f.pipe.stages c.args.k c.in-Forks.x c.in-Forks.first c.in-Forks.second c.requires.low c.requires.line.forks
+    (sym c.in-Forks.ensures)).0 in
     let count = var_count f.pipe f.widths (parts_in c.args.b.now s.end) now.walk.sized in
     let long = length_signals c.args.b.now s.end.vars.items in
     let same = ap length c.as_slice.ensures.value in
@@ -52,10 +58,14 @@ mux-requires-clause-one c =
     let n = c.requires.line.count in
     let l = c.requires.low in
     let now = c.requires.line.stages c.args.k s (omega (arith, n, l)) (sym c.stage_of-s.ensures) in
-    let one = (fork_at f.widths f.pipe.stages c.args.k c.in-Forks.x c.in-Forks.first c.in-Forks.second c.requires.low c.requires.line.forks (sym c.in-Forks.ensures)).1 in
+    let one =
+    (fork_at f.widths f.pipe.stages c.args.k c.in-Forks.x c.in-Forks.first c.in-Forks.second c.requires.low c.requires.line.forks
+    (sym c.in-Forks.ensures)).1 in
     let choice = c.variable-choice.result in
     let there = c.variable-choice.ensures.there in
-    let kept = c.turn-in-Forks-2.ensures.extends.kept choice (c.turn-in-Forks.ensures.extends.there choice there) ∙ c.turn-in-Forks.ensures.extends.kept choice there in
+    let kept =
+    c.turn-in-Forks-2.ensures.extends.kept choice (c.turn-in-Forks.ensures.extends.there choice there)
+    ∙ c.turn-in-Forks.ensures.extends.kept choice there in
     let at = ap (λ xs. signal_at (signals_in a xs) c.in-Forks.x) c.as_slice.ensures.value in
     ap (λ (g : Signal). g.width) (kept ∙ c.variable-choice.ensures.same ∙ at) ∙ var_width f.pipe f.widths (parts_in a s.end) c.in-Forks.x now.walk.sized ∙ one
 
@@ -72,9 +82,13 @@ returns-in_ok-net-in-Forks-clause-on c =
     let low : c.args.k < length x.stages.now = omega (arith, n, l) in
     let choice = c.variable-choice.result in
     let there = c.variable-choice.ensures.there in
-    let kept = c.turn-in-Forks-2.ensures.extends.kept choice (c.turn-in-Forks.ensures.extends.there choice there) ∙ c.turn-in-Forks.ensures.extends.kept choice there in
+    let kept =
+    c.turn-in-Forks-2.ensures.extends.kept choice (c.turn-in-Forks.ensures.extends.there choice there)
+    ∙ c.turn-in-Forks.ensures.extends.kept choice there in
     let at = ap (λ xs. signal_at (signals_in a xs) c.in-Forks.x) c.as_slice.ensures.value in
-    let var = kept ∙ c.variable-choice.ensures.same ∙ at ∙ sym (ap (λ (v : View). v.ended.vars c.in-Forks.x) (view_at a x.stages.now c.args.k s low (sym c.stage_of-s.ensures))) in
+    let var =
+    kept ∙ c.variable-choice.ensures.same ∙ at
+    ∙ sym (ap (λ (v : View). v.ended.vars c.in-Forks.x) (view_at a x.stages.now c.args.k s low (sym c.stage_of-s.ensures))) in
     let e = extends_keeps a b c.turn-in-Forks.ensures.extends in
     let yes = c.in_ok-yes-in-Forks.ensures.on in
     let no = c.in_ok-no-in-Forks.ensures.on in
@@ -84,7 +98,10 @@ returns-in_ok-net-in-Forks-clause-on c =
     let var_a = (line_views a x c.args.k).ended.vars c.in-Forks.x in
     record {
       there = means.there;
-      one = ap (λ (g : Signal). g.width) means.same ∙ ap (λ (g : Signal). g.width) (c.turn-in-Forks-2.ensures.extends.kept c.in_ok-yes-in-Forks.yes yes.there) ∙ yes.one;
+      one =
+          ap (λ (g : Signal). g.width) means.same
+          ∙ ap (λ (g : Signal). g.width) (c.turn-in-Forks-2.ensures.extends.kept c.in_ok-yes-in-Forks.yes yes.there)
+          ∙ yes.one;
       on = λ z.
           ap (λ (g : Signal). is_on g z) means.same
           ∙ mux_as (signal d choice) var_a (signal d c.in_ok-yes-in-Forks.yes) (signal d c.in_ok-no-in-Forks.no) (f c.in-Forks.first) (f c.in-Forks.second) var

@@ -19,7 +19,8 @@ returns-clause-moved c =
     let k = kills.count_is in
     let q = clear.count_is in
     record {
-      passed = passed_certain d x c.args.orders.now x.shared.now.bits.zero c.args.blank.now c.in_ok-clear.clear.items c.pass_down.new.self.moves.items c.pass_down.new.self.frees.items 0 c.requires.none c.in_ok-pass_down.ensures.passed;
+      passed =
+          passed_certain d x c.args.orders.now x.shared.now.bits.zero c.args.blank.now c.in_ok-clear.clear.items c.pass_down.new.self.moves.items c.pass_down.new.self.frees.items 0 c.requires.none c.in_ok-pass_down.ensures.passed;
       squash = zero;
       kills_count = k ∙ n;
       kills = filled_bits d x.shared.now.bits.zero c.in_ok-kills.kills.items zero kills.each;

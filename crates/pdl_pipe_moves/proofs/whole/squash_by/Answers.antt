@@ -24,5 +24,8 @@ returns-clause-law c =
     let m = h.count in
     let view = view_at a x.stages.now v s (omega (arith, n, l)) (sym c.stage_of.ensures) in
     let nets = c.in_ok-nets.nets in
-    squash_as v (squash_net a xs) (λ k. (line_views a x k).valid) (signal a c.args.moves) (signal a c.args.moves) (signal a s.end.fails) (line_views a x v).ended.fails (signal b nets.squash) (signal b nets.squash) (squash_net b nets.removed) (squash_net b nets.removed) (squash_net b nets.clear) (squash_net b nets.clear)
-    (λ k q. valid_is a x xs c.requires.line h k (omega (arith, q, n, l, m))) refl (sym (ap (λ (w : View). w.ended.fails) view)) refl (λ k q. refl) (λ k q. refl) c.in_ok-nets.ensures.law
+    squash_as v (squash_net a xs) (λ k. (line_views a x k).valid) (signal a c.args.moves) (signal a c.args.moves)
+    (signal a s.end.fails) (line_views a x v).ended.fails (signal b nets.squash) (signal b nets.squash)
+    (squash_net b nets.removed) (squash_net b nets.removed) (squash_net b nets.clear) (squash_net b nets.clear)
+    (λ k q. valid_is a x xs c.requires.line h k (omega (arith, q, n, l, m))) refl (sym (ap (λ (w : View). w.ended.fails) view)) refl (λ k q. refl)
+    (λ k q. refl) c.in_ok-nets.ensures.law

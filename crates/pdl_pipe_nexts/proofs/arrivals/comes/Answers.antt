@@ -21,7 +21,9 @@ variable-choice-requires-clause-low c =
     let n = c.requires.line.count in
     let l = c.requires.low in
     let now = c.requires.line.stages c.args.j s (omega (arith, n, l)) (sym c.stage_of-s.ensures) in
-    let low = (fork_at f.widths f.pipe.stages c.args.j c.in-Forks.x c.in-Forks.first c.in-Forks.second c.requires.low c.requires.line.forks (sym c.in-Forks.ensures)).0 in
+    let low =
+    (fork_at f.widths f.pipe.stages c.args.j c.in-Forks.x c.in-Forks.first c.in-Forks.second c.requires.low c.requires.line.forks
+    (sym c.in-Forks.ensures)).0 in
     let count = var_count f.pipe f.widths (parts_in c.args.b.now s.end) now.walk.sized in
     let long = length_signals c.args.b.now s.end.vars.items in
     let same = ap length c.as_slice.ensures.value in
@@ -35,9 +37,12 @@ way-requires-clause-one c =
     let n = c.requires.line.count in
     let l = c.requires.low in
     let now = c.requires.line.stages c.args.j s (omega (arith, n, l)) (sym c.stage_of-s.ensures) in
-    let one = (fork_at f.widths f.pipe.stages c.args.j c.in-Forks.x c.in-Forks.first c.in-Forks.second c.requires.low c.requires.line.forks (sym c.in-Forks.ensures)).1 in
+    let one =
+    (fork_at f.widths f.pipe.stages c.args.j c.in-Forks.x c.in-Forks.first c.in-Forks.second c.requires.low c.requires.line.forks
+    (sym c.in-Forks.ensures)).1 in
     let at = ap (λ xs. signal_at (signals_in c.args.b.now xs) c.in-Forks.x) c.as_slice.ensures.value in
-    ap (λ (g : Signal). g.width) (c.variable-choice.ensures.same ∙ at) ∙ var_width f.pipe f.widths (parts_in c.args.b.now s.end) c.in-Forks.x now.walk.sized ∙ one
+    ap (λ (g : Signal). g.width) (c.variable-choice.ensures.same ∙ at)
+    ∙ var_width f.pipe f.widths (parts_in c.args.b.now s.end) c.in-Forks.x now.walk.sized ∙ one
 
 pub both-requires-clause-x_one : goal.both-requires-clause-x_one
 both-requires-clause-x_one c =
@@ -58,7 +63,11 @@ returns-in-Goes-clause-arrives c =
     record {
       there = c.variable-own.ensures.there;
       one = ap (λ (g : Signal). g.width) c.variable-own.ensures.same ∙ bit_one a x.moves.now c.args.j (omega (arith, n, m, l)) c.requires.line.moves;
-      on = λ s. ap (λ (g : Signal). is_on g s) c.variable-own.ensures.same ∙ straight (line_pipe x) (line_views a x) (line_moves a x) c.args.q c.args.j c.in-Goes.to (sym c.in-Goes.ensures) (eq-eqb c.in-Goes.to c.args.q c.if-to-q.true) s;
+      on =
+          λ s. ap (λ (g : Signal). is_on g s) c.variable-own.ensures.same
+          ∙ straight (line_pipe x) (line_views a x)
+          (line_moves a x) c.args.q c.args.j c.in-Goes.to (sym c.in-Goes.ensures)
+          (eq-eqb c.in-Goes.to c.args.q c.if-to-q.true) s;
     }
 
 pub returns-in-Ends-clause-arrives : goal.returns-in-Ends-clause-arrives
@@ -69,7 +78,11 @@ returns-in-Ends-clause-arrives c =
     record {
       there = zero.there;
       one = ap (λ (g : Signal). g.width) zero.same;
-      on = λ s. ap (λ (g : Signal). is_on g s) zero.same ∙ elsewhere (line_pipe x) (line_views a x) (line_moves a x) c.args.q c.args.j c.in-Goes.to (sym c.in-Goes.ensures) (ne_eqb c.in-Goes.to c.args.q c.if-to-q.false) s;
+      on =
+          λ s. ap (λ (g : Signal). is_on g s) zero.same
+          ∙ elsewhere (line_pipe x) (line_views a x)
+          (line_moves a x) c.args.q c.args.j c.in-Goes.to (sym c.in-Goes.ensures)
+          (ne_eqb c.in-Goes.to c.args.q c.if-to-q.false) s;
     }
 
 pub returns-in-Ends-2-clause-arrives : goal.returns-in-Ends-2-clause-arrives

@@ -44,8 +44,12 @@ loop-j-preserved c =
     let is = c.as_slice-j-items.ensures.value ∙ c.in_ok-ways.ensures in
     let all = subst (Each (λ k. k < length x.stages.now)) (sym is) (each_way p q (λ k. k < length x.stages.now) (λ k m. omega (arith, m, l, n))) in
     each_in (λ k. k < length x.stages.now) js i 0 low all) in
-    let now = comes_as d p (line_views b x) (line_views a x) (line_moves b x) (line_moves a x) q j c.in_ok-net.net (ended_same a b x e line j under) (moves_same a b x e line j) c.in_ok-net.ensures.arrives in
-    let old = arrivals_keep b d p (line_views a x) (line_moves a x) q (take i js) c.loop-j.list (extends_keeps b d c.comes.ensures.extends) c.loop-j.invariant.2 in
+    let now =
+    comes_as d p (line_views b x) (line_views a x) (line_moves b x)
+    (line_moves a x) q j c.in_ok-net.net (ended_same a b x e line j under)
+    (moves_same a b x e line j) c.in_ok-net.ensures.arrives in
+    let old =
+    arrivals_keep b d p (line_views a x) (line_moves a x) q (take i js) c.loop-j.list (extends_keeps b d c.comes.ensures.extends) c.loop-j.invariant.2 in
     let new : Arrival = record { from = j; comes = c.in_ok-net.net } in
     let more = arrivals_push d p (line_views a x) (line_moves a x) q (take i js) c.loop-j.list j new old record { from = refl; comes = now } in (
       extends_trans a b d c.loop-j.invariant.0 c.comes.ensures.extends,

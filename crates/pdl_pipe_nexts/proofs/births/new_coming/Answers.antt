@@ -16,10 +16,14 @@ use Rattle.pdl_pipe_nexts.proofs.births.new_coming.Goals as goal
 use Rattle.pdl_word.specs.Each.{Each}
 
 pub variable-moves-requires-clause-there : goal.variable-moves-requires-clause-there
-variable-moves-requires-clause-there c = bits_there c.loop-i.b c.args.line.now.moves.now (line_keep c.args.b.now c.loop-i.b c.args.line.now (extends_keeps c.args.b.now c.loop-i.b c.loop-i.invariant.extends) c.requires.line).moves
+variable-moves-requires-clause-there c =
+    bits_there c.loop-i.b c.args.line.now.moves.now
+    (line_keep c.args.b.now c.loop-i.b c.args.line.now (extends_keeps c.args.b.now c.loop-i.b c.loop-i.invariant.extends) c.requires.line).moves
 
 pub picked_of-requires-clause-bits : goal.picked_of-requires-clause-bits
-picked_of-requires-clause-bits c = bits_keep c.args.b.now c.loop-i.b c.args.line.now.shared.now.bits (extends_keeps c.args.b.now c.loop-i.b c.loop-i.invariant.extends) c.requires.line.shared.bits
+picked_of-requires-clause-bits c =
+    bits_keep c.args.b.now c.loop-i.b c.args.line.now.shared.now.bits
+    (extends_keeps c.args.b.now c.loop-i.b c.loop-i.invariant.extends) c.requires.line.shared.bits
 
 pub picked_of-requires-clause-births : goal.picked_of-requires-clause-births
 picked_of-requires-clause-births c =
@@ -39,7 +43,8 @@ picked_of-requires-clause-moves_one c =
     let t = c.loop-i-test.true in
     let m = c.requires.line.moves_count in
     let line = line_keep c.args.b.now c.loop-i.b x (extends_keeps c.args.b.now c.loop-i.b c.loop-i.invariant.extends) c.requires.line in
-    ap (λ (g : Signal). g.width) c.variable-moves.ensures.same ∙ bit_one c.loop-i.b x.moves.now (length x.stages.now - 1 - c.loop-i.i) (omega (arith, t, m)) line.moves
+    ap (λ (g : Signal). g.width) c.variable-moves.ensures.same
+    ∙ bit_one c.loop-i.b x.moves.now (length x.stages.now - 1 - c.loop-i.i) (omega (arith, t, m)) line.moves
 
 pub loop-i-preserved : goal.loop-i-preserved
 loop-i-preserved c =
@@ -60,13 +65,17 @@ loop-i-preserved c =
     let is : get_or ss k s ≡ s = sym (subst (λ m. s ≡ get_or ss m s) same c.stage_of-s.ensures) in
     let e = extends_keeps a b c.loop-i.invariant.extends in
     let moved = signal b c.variable-moves.result in
-    let births : map (birth_in b) s.end.births.items ≡ (vs k).ended.births = ap (λ (v : View). v.ended.births) (sym (view_at b ss k s low is)) ∙ ap (λ (w : Rattle.pdl_law_parts.specs.Walk.Walk). w.births) (ended_same a b x e c.requires.line k low) in
+    let births : map (birth_in b) s.end.births.items ≡ (vs k).ended.births =
+    ap (λ (v : View). v.ended.births) (sym (view_at b ss k s low is))
+    ∙ ap (λ (w : Rattle.pdl_law_parts.specs.Walk.Walk). w.births) (ended_same a b x e c.requires.line k low) in
     let moves : moved ≡ line_moves a x k = c.variable-moves.ensures.same ∙ moves_same a b x e c.requires.line j ∙ ap (line_moves a x) same in
     record {
       means = record {
         there = c.in_ok-net.ensures.means.there;
         same = c.in_ok-net.ensures.means.same
-            ∙ ap (λ (ys : List BirthNet). first_coming (brought_signal what) (map (new_by moved) (map (birth_in b) ys)) (signal b c.loop-i.net)) c.as_slice.ensures.value
+            ∙ ap
+            (λ (ys : List BirthNet). first_coming (brought_signal what) (map (new_by moved) (map (birth_in b) ys))
+            (signal b c.loop-i.net)) c.as_slice.ensures.value
             ∙ ap (λ (zs : List Birth). first_coming (brought_signal what) (map (new_by moved) zs) (signal b c.loop-i.net)) births
             ∙ ap (λ f. first_coming (brought_signal what) (map (new_by f) (vs k).ended.births) (signal b c.loop-i.net)) moves
             ∙ ap (λ f. first_coming (brought_signal what) (map (new_by (line_moves a x k)) (vs k).ended.births) f) c.loop-i.invariant.means.same

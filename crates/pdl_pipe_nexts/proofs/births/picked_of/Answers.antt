@@ -35,8 +35,13 @@ loop-i-preserved c =
     let birth = each_at (IsBirth a f) xs k x (omega (arith, t)) (sym is) c.requires.births in
     let more = extends_trans a b e c.loop-i.invariant.extends c.both.ensures.extends in
     record {
-      means = call_made f.pipe a b e d (signal a c.args.moves) c.args.moves c.in_ok-comes.comes c.brought-value.result c.loop-i.net c.in_ok-net.net c.args.what xs k (length xs - c.loop-i.i) x (signal a c.args.rest)
-          c.requires.what (omega (arith, t)) (omega (arith, t)) is (extends_keeps a b c.loop-i.invariant.extends) c.both.ensures.extends c.mux.ensures.extends c.requires.moves refl birth.on birth.args c.loop-i.invariant.means.there
+      means =
+          call_made f.pipe a b e d
+          (signal a c.args.moves) c.args.moves c.in_ok-comes.comes c.brought-value.result c.loop-i.net c.in_ok-net.net c.args.what xs k
+          (length xs - c.loop-i.i) x (signal a c.args.rest)
+          c.requires.what (omega (arith, t))
+          (omega (arith, t)) is
+          (extends_keeps a b c.loop-i.invariant.extends) c.both.ensures.extends c.mux.ensures.extends c.requires.moves refl birth.on birth.args c.loop-i.invariant.means.there
           c.in_ok-comes.ensures.means c.brought-value.ensures.means c.in_ok-net.ensures.means c.loop-i.invariant.means.same;
       wide = ap (λ (g : Signal). g.width) c.in_ok-net.ensures.means.same ∙ c.brought-value.ensures.wide ∙ sym c.requires.wide;
       extends = extends_trans a e d more c.mux.ensures.extends;

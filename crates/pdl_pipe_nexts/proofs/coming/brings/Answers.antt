@@ -16,4 +16,6 @@ returns-in-Some-clause-wide c =
     let s = c.stage_of.result.now in
     let now = c.requires.line.stages c.args.j s c.requires.low (sym c.stage_of.ensures) in
     let item = subst (IsBrought f) c.in-Some.is c.requires.what in
-    ap (λ (g : Signal). g.width) c.ended.ensures.same ∙ ended_width a f nexts s c.in-Some.item (stage_now a f nexts c.args.j s now) item ∙ ap (brought_width f nexts) (sym c.in-Some.is)
+    ap (λ (g : Signal). g.width) c.ended.ensures.same
+    ∙ ended_width a f nexts s c.in-Some.item (stage_now a f nexts c.args.j s now) item
+    ∙ ap (brought_width f nexts) (sym c.in-Some.is)

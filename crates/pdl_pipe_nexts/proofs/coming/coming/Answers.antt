@@ -23,14 +23,22 @@ loop-i-init c =
     let n = arrivals_count a p (line_views a x) (line_moves a x) c.args.q js c.args.arrivals.now c.requires.arrivals in
     record {
       there = c.requires.rest;
-      value = λ s. sym (ap (λ ks. (first_coming (brought_signal c.args.what) (Rattle.std.proofs.Common.map (Rattle.pdl_law_parts.specs.Views.out_of p (line_views a x) (line_moves a x) c.args.q) ks) (signal a c.args.rest)).value s) (drop_all (length c.args.arrivals.now - 0) js (omega (arith, n))));
+      value =
+          λ s. sym
+          (ap
+          (λ ks.
+          (first_coming (brought_signal c.args.what)
+          (Rattle.std.proofs.Common.map (Rattle.pdl_law_parts.specs.Views.out_of p (line_views a x) (line_moves a x) c.args.q) ks)
+          (signal a c.args.rest)).value s)
+          (drop_all (length c.args.arrivals.now - 0) js (omega (arith, n))));
       wide = refl;
       extends = search rules;
       regs = refl;
     }
 
 pub brings-value-requires-clause-line : goal.brings-value-requires-clause-line
-brings-value-requires-clause-line c = line_keep c.args.b.now c.loop-i.b c.args.line.now (extends_keeps c.args.b.now c.loop-i.b c.loop-i.invariant.extends) c.requires.line
+brings-value-requires-clause-line c =
+    line_keep c.args.b.now c.loop-i.b c.args.line.now (extends_keeps c.args.b.now c.loop-i.b c.loop-i.invariant.extends) c.requires.line
 
 pub brings-value-requires-clause-low : goal.brings-value-requires-clause-low
 brings-value-requires-clause-low c =
@@ -42,7 +50,9 @@ brings-value-requires-clause-low c =
     let t = c.loop-i-test.true in
     let k = length xs - 1 - c.loop-i.i in
     let n = arrivals_count a p (line_views a x) (line_moves a x) q (ways p q) xs c.requires.arrivals in
-    let is = arrival_nth a p (line_views a x) (line_moves a x) q (ways p q) xs k c.arrival_at-arrival.result (omega (arith, t)) c.arrival_at-arrival.ensures c.requires.arrivals in
+    let is =
+    arrival_nth a p (line_views a x)
+    (line_moves a x) q (ways p q) xs k c.arrival_at-arrival.result (omega (arith, t)) c.arrival_at-arrival.ensures c.requires.arrivals in
     let low = c.requires.low in
     let count = c.requires.line.count in
     let from = each_in (λ j. j < q) (ways p q) k 0 (omega (arith, t, n)) (each_way p q (λ j. j < q) (λ j l. l)) in
@@ -57,7 +67,10 @@ mux-requires-clause-choice_there c =
     let q = c.args.q in
     let xs = c.args.arrivals.now in
     let t = c.loop-i-test.true in
-    let is = arrival_nth a p (line_views a x) (line_moves a x) q (ways p q) xs (length xs - 1 - c.loop-i.i) c.arrival_at-arrival.result (omega (arith, t)) c.arrival_at-arrival.ensures c.requires.arrivals in
+    let is =
+    arrival_nth a p (line_views a x)
+    (line_moves a x) q (ways p q) xs (length xs - 1 - c.loop-i.i) c.arrival_at-arrival.result
+    (omega (arith, t)) c.arrival_at-arrival.ensures c.requires.arrivals in
     c.loop-i.invariant.extends.there c.arrival_at-arrival.result.comes is.comes.there
 
 pub mux-requires-clause-one : goal.mux-requires-clause-one
@@ -68,7 +81,10 @@ mux-requires-clause-one c =
     let q = c.args.q in
     let xs = c.args.arrivals.now in
     let t = c.loop-i-test.true in
-    let is = arrival_nth a p (line_views a x) (line_moves a x) q (ways p q) xs (length xs - 1 - c.loop-i.i) c.arrival_at-arrival.result (omega (arith, t)) c.arrival_at-arrival.ensures c.requires.arrivals in
+    let is =
+    arrival_nth a p (line_views a x)
+    (line_moves a x) q (ways p q) xs (length xs - 1 - c.loop-i.i) c.arrival_at-arrival.result
+    (omega (arith, t)) c.arrival_at-arrival.ensures c.requires.arrivals in
     ap (λ (g : Signal). g.width) (c.loop-i.invariant.extends.kept c.arrival_at-arrival.result.comes is.comes.there) ∙ is.comes.one
 
 pub mux-requires-clause-widths : goal.mux-requires-clause-widths
@@ -106,14 +122,24 @@ loop-i-preserved c =
     let count = c.requires.line.count in
     let from = each_in (λ i. i < q) js k 0 (omega (arith, t, n)) (each_way p q (λ i. i < q) (λ i l. l)) in
     let under : j < length x.stages.now = omega (arith, from, low, count) in
-    let value = c.brings-value.ensures.means.same ∙ ap (λ i. Rattle.pdl_pipe_nexts.specs.Brings.brought_out what (line_views b x i)) is.from ∙ out_as (line_views b x j) (vs j) what (ended_same a b x e c.requires.line j under) (tickets_same a b x e c.requires.line j under) in
+    let value =
+    c.brings-value.ensures.means.same
+    ∙ ap (λ i. Rattle.pdl_pipe_nexts.specs.Brings.brought_out what (line_views b x i)) is.from
+    ∙ out_as (line_views b x j) (vs j) what (ended_same a b x e c.requires.line j under) (tickets_same a b x e c.requires.line j under) in
     let rest = signal a c.args.rest in
     record {
       there = c.in_ok-net.ensures.means.there;
-      value = way_more p vs moves q js what k (signal b y.comes) (signal b c.brings-value.result) (signal b c.loop-i.net) (signal d c.in_ok-net.net) rest (omega (arith, t, n)) c.in_ok-net.ensures.means.same
+      value =
+          way_more p vs moves q js what k (signal b y.comes) (signal b c.brings-value.result) (signal b c.loop-i.net)
+          (signal d c.in_ok-net.net) rest (omega (arith, t, n)) c.in_ok-net.ensures.means.same
           (λ s. ap (λ (f : Signal). Rattle.pdl_law_parts.specs.Walk.is_on f s) (e.kept y.comes is.comes.there) ∙ is.comes.on s) value
-          (subst (λ i. Rattle.pdl_pipe_nexts.specs.Lines.ValueAs (signal b c.loop-i.net) (Rattle.pdl_pipe_nexts.proofs.BroughtItems.from_way p vs moves q js what i rest)) later c.loop-i.invariant.value);
-      wide = ap (λ (f : Signal). f.width) c.in_ok-net.ensures.means.same ∙ c.brings-value.ensures.wide ∙ ap (λ fs. brought_width (line_form x) fs what) (next_keep a b (line_form x) x.shared.now e c.requires.line.shared) ∙ sym c.requires.wide;
+          (subst
+          (λ i. Rattle.pdl_pipe_nexts.specs.Lines.ValueAs (signal b c.loop-i.net)
+          (Rattle.pdl_pipe_nexts.proofs.BroughtItems.from_way p vs moves q js what i rest)) later c.loop-i.invariant.value);
+      wide =
+          ap (λ (f : Signal). f.width) c.in_ok-net.ensures.means.same ∙ c.brings-value.ensures.wide
+          ∙ ap (λ fs. brought_width (line_form x) fs what) (next_keep a b (line_form x) x.shared.now e c.requires.line.shared)
+          ∙ sym c.requires.wide;
       extends = extends_trans a b d c.loop-i.invariant.extends c.mux.ensures.extends;
       regs = c.mux.ensures.regs ∙ c.loop-i.invariant.regs;
     }

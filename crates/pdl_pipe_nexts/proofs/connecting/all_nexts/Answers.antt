@@ -6,7 +6,8 @@ use Rattle.pdl_pipe_nexts.proofs.ConnectedRegisters.{FirstNexts, first_more, nex
 use Rattle.pdl_pipe_nexts.proofs.connecting.all_nexts.Goals as goal
 
 pub stage_nexts-requires-clause-line : goal.stage_nexts-requires-clause-line
-stage_nexts-requires-clause-line c = line_keep c.args.b.now c.loop-k.b c.args.line.now (extends_keeps c.args.b.now c.loop-k.b c.loop-k.invariant.0) c.requires.line
+stage_nexts-requires-clause-line c =
+    line_keep c.args.b.now c.loop-k.b c.args.line.now (extends_keeps c.args.b.now c.loop-k.b c.loop-k.invariant.0) c.requires.line
 
 pub loop-k-preserved : goal.loop-k-preserved
 loop-k-preserved c =

@@ -32,7 +32,9 @@ set_stage-requires-clause-fits c =
     let line = line_keep a b x e c.requires.line in
     let h = c.loop-k.invariant.1.each k s c.index.result.now (omega (arith, t, n)) (sym c.stage_of.ensures) (sym c.index.ensures) in
     subst (FitsRegs b s) (sym c.as_slice.ensures)
-    (fits_regs a b x k s c.index.result.now (signals_in b x.shared.now.next) (next_keep a b (line_form x) x.shared.now e c.requires.line.shared) (line.stages k s (omega (arith, t, n, count)) (sym c.stage_of.ensures)) h)
+    (fits_regs a b x k s c.index.result.now (signals_in b x.shared.now.next)
+    (next_keep a b (line_form x) x.shared.now e c.requires.line.shared)
+    (line.stages k s (omega (arith, t, n, count)) (sym c.stage_of.ensures)) h)
 
 pub loop-k-preserved : goal.loop-k-preserved
 loop-k-preserved c =
@@ -51,6 +53,8 @@ loop-k-preserved c =
     let nets = c.index.result.now in
     let h = c.loop-k.invariant.1.each k s nets (omega (arith, t, n)) (sym c.stage_of.ensures) (sym c.index.ensures) in
     let set = subst (AreSet b d s) c.as_slice.ensures c.set_stage.ensures.set in (
-      connected_more a b d x k s (signals_in b x.shared.now.next) low (sym c.stage_of.ensures) c.requires.apart line.stages c.set_stage.ensures.extends (takes_now a b d x k s nets h set) c.loop-k.invariant.0,
+      connected_more a b d x k s (signals_in b x.shared.now.next) low
+          (sym c.stage_of.ensures) c.requires.apart line.stages c.set_stage.ensures.extends
+          (takes_now a b d x k s nets h set) c.loop-k.invariant.0,
       all_keep a b d x c.in_ok-nexts.nexts.items (but_keeps (regs_of s.regs.valid (end_of s.regs)) b d c.set_stage.ensures.extends) c.loop-k.invariant.1,
     )

@@ -35,7 +35,9 @@ next-requires-clause-width c =
     let r = s.regs.valid + i in
     let e = but_keeps (regs_of s.regs.valid (end_of s.regs)) a b c.loop-i.invariant.extends in
     let fit = c.requires.fits i c.loop-i-test.true in
-    ap (λ (g : Signal). g.width) (net_is b nets i c.net_at.result c.loop-i-test.true c.net_at.ensures ∙ ap (λ fs. signal_at fs i) (signals_keep a b nets e c.requires.there)) ∙ fit.1 ∙ sym (e.width r (has_low a r fit.0))
+    ap (λ (g : Signal). g.width)
+    (net_is b nets i c.net_at.result c.loop-i-test.true c.net_at.ensures ∙ ap (λ fs. signal_at fs i) (signals_keep a b nets e c.requires.there))
+    ∙ fit.1 ∙ sym (e.width r (has_low a r fit.0))
 
 pub loop-i-preserved : goal.loop-i-preserved
 loop-i-preserved c =

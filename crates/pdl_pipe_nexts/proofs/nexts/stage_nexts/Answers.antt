@@ -16,14 +16,16 @@ use Rattle.pdl_pipe_nexts.proofs.NextsMade.{NextsSoFar, item_is, argument_is, re
 use Rattle.pdl_pipe_nexts.proofs.nexts.stage_nexts.Goals as goal
 
 pub staying-requires-clause-line : goal.staying-requires-clause-line
-staying-requires-clause-line c = line_keep c.args.b.now c.threads_into.new.b c.args.line.now (extends_keeps c.args.b.now c.threads_into.new.b c.threads_into.ensures.extends) c.requires.line
+staying-requires-clause-line c =
+    line_keep c.args.b.now c.threads_into.new.b c.args.line.now (extends_keeps c.args.b.now c.threads_into.new.b c.threads_into.ensures.extends) c.requires.line
 
 pub coming-requires-clause-line : goal.coming-requires-clause-line
 coming-requires-clause-line c =
     let a = c.args.b.now in
     let b = c.threads_into.new.b in
     let d = c.staying.new.b in
-    line_keep a d c.args.line.now (keeps_trans a b d (extends_keeps a b c.threads_into.ensures.extends) (extends_keeps b d c.staying.ensures.extends)) c.requires.line
+    line_keep a d c.args.line.now
+    (keeps_trans a b d (extends_keeps a b c.threads_into.ensures.extends) (extends_keeps b d c.staying.ensures.extends)) c.requires.line
 
 pub coming-requires-clause-arrivals : goal.coming-requires-clause-arrivals
 coming-requires-clause-arrivals c =
@@ -34,7 +36,9 @@ coming-requires-clause-arrivals c =
     let p = line_pipe x in
     let k = c.args.k in
     let e = keeps_trans a b d (extends_keeps a b c.threads_into.ensures.extends) (extends_keeps b d c.staying.ensures.extends) in
-    let list = arrivals_keep b d p (line_views a x) (line_moves a x) k (ways p k) c.in_ok-list.list (extends_keeps b d c.staying.ensures.extends) c.in_ok-list.ensures.arrivals in
+    let list =
+    arrivals_keep b d p (line_views a x)
+    (line_moves a x) k (ways p k) c.in_ok-list.list (extends_keeps b d c.staying.ensures.extends) c.in_ok-list.ensures.arrivals in
     let here = subst (λ xs. AreArrivals d p (line_views a x) (line_moves a x) k (ways p k) xs) (sym c.as_slice-arrivals.ensures) list in
     subst (λ vs. AreArrivals d p vs (line_moves d x) k (ways p k) c.as_slice-arrivals.result.now) (sym (views_same a d x e c.requires.line))
     (subst (λ ms. AreArrivals d p (line_views a x) ms k (ways p k) c.as_slice-arrivals.result.now) (sym (all_moves_same a d x e c.requires.line)) here)
@@ -60,7 +64,9 @@ loop-i-init c =
     let means = c.in_ok-stays.ensures.means s (sym c.stage_of-s.ensures) in
     let db = extends_keeps b d c.staying.ensures.extends in
     let rest : signal d stays ≡ staying d x k s = means.same ∙ sym (staying_same b d x db line_b k s) in
-    let first = nexts_first a d z x k s stays valid (extends_keeps a d ad) c.requires.line c.in_ok-valid.ensures.there (c.in_ok-valid.ensures.wide ∙ c.in_ok-stays.ensures.wide) rest c.in_ok-valid.ensures.value in (
+    let first =
+    nexts_first a d z x k s stays valid (extends_keeps a d ad) c.requires.line c.in_ok-valid.ensures.there
+    (c.in_ok-valid.ensures.wide ∙ c.in_ok-stays.ensures.wide) rest c.in_ok-valid.ensures.value in (
       extends_trans a d z ad c.coming.ensures.extends,
       c.coming.ensures.regs ∙ c.staying.ensures.regs ∙ c.threads_into.ensures.regs,
       subst (λ xs. AreArrivals z p (line_views a x) (line_moves a x) k (ways p k) xs) (sym c.as_slice-arrivals.ensures) list,
@@ -89,7 +95,10 @@ kept-rest-requires-clause-item c =
     let n = c.requires.line.count in
     let t = c.loop-i-test.true in
     let m = c.len-i-end.ensures in
-    item_kept b (line_form x) (signals_in b x.shared.now.next) c.args.k s (line.stages c.args.k s (omega (arith, l, n)) (sym c.stage_of-s.ensures)) c.loop-i.i (omega (arith, t, m)) line.params
+    item_kept b (line_form x)
+    (signals_in b x.shared.now.next) c.args.k s
+    (line.stages c.args.k s (omega (arith, l, n)) (sym c.stage_of-s.ensures)) c.loop-i.i
+    (omega (arith, t, m)) line.params
 
 pub kept-rest-requires-clause-reg : goal.kept-rest-requires-clause-reg
 kept-rest-requires-clause-reg c =
@@ -102,10 +111,12 @@ kept-rest-requires-clause-reg c =
     let n = c.requires.line.count in
     let t = c.loop-i-test.true in
     let m = c.len-i-end.ensures in
-    reg_low b (line_form x) (signals_in b x.shared.now.next) c.args.k s (line.stages c.args.k s (omega (arith, l, n)) (sym c.stage_of-s.ensures)) c.loop-i.i (omega (arith, t, m))
+    reg_low b (line_form x)
+    (signals_in b x.shared.now.next) c.args.k s (line.stages c.args.k s (omega (arith, l, n)) (sym c.stage_of-s.ensures)) c.loop-i.i (omega (arith, t, m))
 
 pub coming-requires-in-loop-i-clause-line : goal.coming-requires-in-loop-i-clause-line
-coming-requires-in-loop-i-clause-line c = line_keep c.args.b.now c.loop-i.b c.args.line.now (extends_keeps c.args.b.now c.loop-i.b c.loop-i.invariant.0) c.requires.line
+coming-requires-in-loop-i-clause-line c =
+    line_keep c.args.b.now c.loop-i.b c.args.line.now (extends_keeps c.args.b.now c.loop-i.b c.loop-i.invariant.0) c.requires.line
 
 pub coming-requires-in-loop-i-clause-arrivals : goal.coming-requires-in-loop-i-clause-arrivals
 coming-requires-in-loop-i-clause-arrivals c =
@@ -116,7 +127,8 @@ coming-requires-in-loop-i-clause-arrivals c =
     let k = c.args.k in
     let e = extends_keeps a b c.loop-i.invariant.0 in
     subst (λ vs. AreArrivals b p vs (line_moves b x) k (ways p k) c.as_slice-arrivals.result.now) (sym (views_same a b x e c.requires.line))
-    (subst (λ ms. AreArrivals b p (line_views a x) ms k (ways p k) c.as_slice-arrivals.result.now) (sym (all_moves_same a b x e c.requires.line)) c.loop-i.invariant.2)
+    (subst (λ ms. AreArrivals b p (line_views a x) ms k (ways p k) c.as_slice-arrivals.result.now)
+    (sym (all_moves_same a b x e c.requires.line)) c.loop-i.invariant.2)
 
 pub coming-requires-in-loop-i-clause-what : goal.coming-requires-in-loop-i-clause-what
 coming-requires-in-loop-i-clause-what c =
@@ -129,7 +141,10 @@ coming-requires-in-loop-i-clause-what c =
     let t = c.loop-i-test.true in
     let m = c.len-i-end.ensures in
     let is = c.item_of.ensures ∙ ap (λ ys. item_at ys c.loop-i.i) c.as_slice.ensures in
-    subst (λ j. IsBrought f (Some j)) (sym is) (item_is a f (signals_in a x.shared.now.next) c.args.k s (c.requires.line.stages c.args.k s (omega (arith, l, n)) (sym c.stage_of-s.ensures)) c.loop-i.i (omega (arith, t, m)) c.requires.line.params)
+    subst (λ j. IsBrought f (Some j)) (sym is)
+    (item_is a f (signals_in a x.shared.now.next) c.args.k s
+    (c.requires.line.stages c.args.k s (omega (arith, l, n)) (sym c.stage_of-s.ensures)) c.loop-i.i
+    (omega (arith, t, m)) c.requires.line.params)
 
 pub coming-requires-in-loop-i-clause-new : goal.coming-requires-in-loop-i-clause-new
 coming-requires-in-loop-i-clause-new c = λ e.
@@ -142,7 +157,10 @@ coming-requires-in-loop-i-clause-new c = λ e.
     let t = c.loop-i-test.true in
     let m = c.len-i-end.ensures in
     let is = c.item_of.ensures ∙ ap (λ ys. item_at ys c.loop-i.i) c.as_slice.ensures in
-    subst (λ j. IsArgument f.pipe (Some j)) (sym is) (argument_is a f (signals_in a x.shared.now.next) c.args.k s (c.requires.line.stages c.args.k s (omega (arith, l, n)) (sym c.stage_of-s.ensures)) c.loop-i.i (omega (arith, t, m)) e)
+    subst (λ j. IsArgument f.pipe (Some j)) (sym is)
+    (argument_is a f (signals_in a x.shared.now.next) c.args.k s
+    (c.requires.line.stages c.args.k s (omega (arith, l, n)) (sym c.stage_of-s.ensures)) c.loop-i.i
+    (omega (arith, t, m)) e)
 
 pub coming-requires-in-loop-i-clause-wide : goal.coming-requires-in-loop-i-clause-wide
 coming-requires-in-loop-i-clause-wide c =
@@ -158,7 +176,9 @@ coming-requires-in-loop-i-clause-wide c =
     let m = c.len-i-end.ensures in
     let is = c.item_of.ensures ∙ ap (λ ys. item_at ys c.loop-i.i) c.as_slice.ensures in
     ap (λ (g : Signal). g.width) c.kept-rest.ensures.same
-    ∙ kept_wide b f (signals_in b x.shared.now.next) c.args.k s (line.stages c.args.k s (omega (arith, l, n)) (sym c.stage_of-s.ensures)) c.loop-i.i (omega (arith, t, m)) line.params
+    ∙ kept_wide b f (signals_in b x.shared.now.next) c.args.k s
+    (line.stages c.args.k s (omega (arith, l, n)) (sym c.stage_of-s.ensures)) c.loop-i.i
+    (omega (arith, t, m)) line.params
     ∙ ap (λ j. brought_width f (signals_in b x.shared.now.next) (Some j)) (sym is)
 
 pub loop-i-preserved : goal.loop-i-preserved
@@ -181,7 +201,8 @@ loop-i-preserved c =
     let now = c.requires.line.stages k s (omega (arith, l, n)) (sym c.stage_of-s.ensures) in
     let is = c.item_of.ensures ∙ ap (λ ys. item_at ys c.loop-i.i) c.as_slice.ensures in
     let value = subst (λ j. ValueAs (signal d c.in_ok-net.net) (arriving b x k (Some j) (signal b c.kept-rest.result))) is c.in_ok-net.ensures.value in
-    let more = nexts_more a b d x k s c.loop-i.nets c.loop-i.i c.kept-rest.result c.in_ok-net.net e bd c.requires.line now low c.kept-rest.ensures.same c.in_ok-net.ensures.there c.in_ok-net.ensures.wide value c.loop-i.invariant.3 in (
+    let more =
+    nexts_more a b d x k s c.loop-i.nets c.loop-i.i c.kept-rest.result c.in_ok-net.net e bd c.requires.line now low c.kept-rest.ensures.same c.in_ok-net.ensures.there c.in_ok-net.ensures.wide value c.loop-i.invariant.3 in (
       extends_trans a b d c.loop-i.invariant.0 c.coming-in-loop-i.ensures.extends,
       c.coming-in-loop-i.ensures.regs ∙ c.loop-i.invariant.1,
       arrivals_keep b d p (line_views a x) (line_moves a x) k (ways p k) c.as_slice-arrivals.result.now bd c.loop-i.invariant.2,
@@ -200,4 +221,5 @@ returns-clause-nexts c = λ z is.
     let l = c.requires.low in
     let n = c.requires.line.count in
     let same : s ≡ z = at_same x.stages.now c.args.k s z (omega (arith, l, n)) (sym c.stage_of-s.ensures) is in
-    subst (λ y. AreNexts a b x c.args.k y c.loop-i.nets) same (nexts_all a b x c.args.k s c.loop-i.nets c.loop-i.i (omega (arith, t, m, h)) c.loop-i.invariant.3)
+    subst (λ y. AreNexts a b x c.args.k y c.loop-i.nets) same
+    (nexts_all a b x c.args.k s c.loop-i.nets c.loop-i.i (omega (arith, t, m, h)) c.loop-i.invariant.3)

@@ -9,5 +9,6 @@ use Rattle.pdl_pipe_nexts.proofs.nexts.stage_nexts.Given as goal
 -- the nets of the first items are there
 abbrev pub invariant-loop-i : goal.invariant-loop-i
 invariant-loop-i l =
-    Extends l.fn.b l.b × (l.b.regs ≡ l.fn.b.regs) × AreArrivals l.b (line_pipe l.line) (line_views l.fn.b l.line) (line_moves l.fn.b l.line) l.k (ways (line_pipe l.line) l.k) l.arrivals
+    Extends l.fn.b l.b × (l.b.regs ≡ l.fn.b.regs)
+    × AreArrivals l.b (line_pipe l.line) (line_views l.fn.b l.line) (line_moves l.fn.b l.line) l.k (ways (line_pipe l.line) l.k) l.arrivals
     × NextsSoFar l.fn.b l.b l.line l.k l.s l.nets l.i

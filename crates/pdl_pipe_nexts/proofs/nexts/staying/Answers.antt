@@ -14,11 +14,13 @@ mux-requires-clause-one c =
     let l = c.requires.low in
     let n = c.requires.line.count in
     let m = c.requires.line.kills_count in
-    ap (λ (g : Signal). g.width) c.variable-removed.ensures.same ∙ bit_one c.args.b.now c.args.line.now.kills.now c.args.k (omega (arith, l, n, m)) c.requires.line.kills
+    ap (λ (g : Signal). g.width) c.variable-removed.ensures.same
+    ∙ bit_one c.args.b.now c.args.line.now.kills.now c.args.k (omega (arith, l, n, m)) c.requires.line.kills
 
 pub mux-requires-2-clause-one : goal.mux-requires-2-clause-one
 mux-requires-2-clause-one c =
     let l = c.requires.low in
     let n = c.requires.line.count in
     let m = c.requires.line.moves_count in
-    ap (λ (g : Signal). g.width) (c.mux.ensures.extends.kept c.variable-moves.result c.variable-moves.ensures.there ∙ c.variable-moves.ensures.same) ∙ bit_one c.args.b.now c.args.line.now.moves.now c.args.k (omega (arith, l, n, m)) c.requires.line.moves
+    ap (λ (g : Signal). g.width) (c.mux.ensures.extends.kept c.variable-moves.result c.variable-moves.ensures.there ∙ c.variable-moves.ensures.same)
+    ∙ bit_one c.args.b.now c.args.line.now.moves.now c.args.k (omega (arith, l, n, m)) c.requires.line.moves

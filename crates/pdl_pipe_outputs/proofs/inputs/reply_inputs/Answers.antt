@@ -43,7 +43,9 @@ loop-mem-preserved c =
     let more : flat_map mem_ports (take i ms) ++ mem_ports m ≡ flat_map mem_ports (take (i + 1) ms) =
     ap (λ (x : r_mem.FlatMem). flat_map mem_ports (take i ms) ++ mem_ports x) c.mem-item.is ∙ sym (mems_more ms i m c.loop-mem-test.true) in
     record {
-      inputs = subst (λ (xs : List (Option PortInput)). AreReplies d p xs (i + 1)) (sym c.in_ok-push.ensures.items) (replies_more b d p c.loop-mem.found.items o i (ports_keeps b d (mem_ports m) s.extends) new v.inputs);
+      inputs =
+          subst (λ (xs : List (Option PortInput)). AreReplies d p xs (i + 1)) (sym c.in_ok-push.ensures.items)
+          (replies_more b d p c.loop-mem.found.items o i (ports_keeps b d (mem_ports m) s.extends) new v.inputs);
       place = inputs_place p b d m i (omega (arith, count, c.loop-mem-test.true)) is s.extends.ports v.place;
       extends = subst (λ (ps : List Port). ExtendsPorts a d ps) more (ports_trans a b d (flat_map mem_ports (take i ms)) (mem_ports m) v.extends s.extends);
       regs = s.regs ∙ v.regs;

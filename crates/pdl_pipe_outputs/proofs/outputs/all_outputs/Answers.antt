@@ -31,7 +31,8 @@ returns-clause-there c b told =
     let os = all_outs (mem_names c.mems.result.now) ss ns rs c.args.squash in
     let list : os ≡ all_outs f.names ss ns rs c.args.squash = ap (λ names. all_outs names ss ns rs c.args.squash) c.mems.ensures.names in
     IfOk-weaker c.all.result (λ (x : List OutNet). x ≡ os) (λ (x : List OutNet). OutsThere b x)
-    (λ (x : List OutNet) e. subst (OutsThere b) (sym (e ∙ list)) (all_there b f.pipe f.names ss ns rs c.args.squash c.requires.some c.requires.count named told))
+    (λ (x : List OutNet) e. subst (OutsThere b) (sym (e ∙ list))
+    (all_there b f.pipe f.names ss ns rs c.args.squash c.requires.some c.requires.count named told))
     c.all.ensures
 
 pub returns-clause-shown : goal.returns-clause-shown
@@ -46,5 +47,6 @@ returns-clause-shown c b told =
     IfOk-weaker c.all.result (λ (x : List OutNet). x ≡ os)
     (λ (x : List OutNet). (vs : ℕ → View) (gates : Gates) (moves : ℕ → Signal) (names : ℕ → List ℕ) → AreOf b ss c.args.squash f.names vs gates moves names
     → shown_by b x ≡ whole_shown f.pipe names (commits_in b ns) (asks_in b rs) vs gates moves)
-    (λ (x : List OutNet) e vs gates moves names h. ap (shown_by b) (e ∙ list) ∙ all_show b f.pipe f.names ss ns rs c.args.squash c.requires.some c.requires.count named told vs gates moves names h)
+    (λ (x : List OutNet) e vs gates moves names h. ap (shown_by b) (e ∙ list)
+    ∙ all_show b f.pipe f.names ss ns rs c.args.squash c.requires.some c.requires.count named told vs gates moves names h)
     c.all.ensures

@@ -21,21 +21,29 @@ use Rattle.pdl_pipe_registers.proofs.BeginMade.{frame_from, frame_to, vars_from,
 use Rattle.pdl_pipe_registers.proofs.entry.begin.Goals as goal
 
 pub begin_vars-requires-clause-shared : goal.begin_vars-requires-clause-shared
-begin_vars-requires-clause-shared c = shared_keep c.args.b.now c.new.new.b (form c.args.pipe.now) c.args.shared.now (extends_keeps c.args.b.now c.new.new.b c.new.ensures.extends) c.requires.shared
+begin_vars-requires-clause-shared c =
+    shared_keep c.args.b.now c.new.new.b (form c.args.pipe.now) c.args.shared.now
+    (extends_keeps c.args.b.now c.new.new.b c.new.ensures.extends) c.requires.shared
 
 pub begin_vars-requires-clause-earlier : goal.begin_vars-requires-clause-earlier
-begin_vars-requires-clause-earlier c = earlier_now c.args.b.now c.new.new.b (form c.args.pipe.now) c.args.shared.now c.args.earlier.now (extends_keeps c.args.b.now c.new.new.b c.new.ensures.extends) c.requires.shared c.requires.earlier
+begin_vars-requires-clause-earlier c =
+    earlier_now c.args.b.now c.new.new.b (form c.args.pipe.now) c.args.shared.now c.args.earlier.now
+    (extends_keeps c.args.b.now c.new.new.b c.new.ensures.extends) c.requires.shared c.requires.earlier
 
 pub begin_helds-requires-clause-shared : goal.begin_helds-requires-clause-shared
 begin_helds-requires-clause-shared c =
     let a = c.args.b.now in
-    let e = keeps_trans a c.new.new.b c.begin_vars.new.b (extends_keeps a c.new.new.b c.new.ensures.extends) (extends_keeps c.new.new.b c.begin_vars.new.b c.begin_vars.ensures.extends) in
+    let e =
+    keeps_trans a c.new.new.b c.begin_vars.new.b (extends_keeps a c.new.new.b c.new.ensures.extends)
+    (extends_keeps c.new.new.b c.begin_vars.new.b c.begin_vars.ensures.extends) in
     shared_keep a c.begin_vars.new.b (form c.args.pipe.now) c.args.shared.now e c.requires.shared
 
 pub begin_helds-requires-clause-earlier : goal.begin_helds-requires-clause-earlier
 begin_helds-requires-clause-earlier c =
     let a = c.args.b.now in
-    let e = keeps_trans a c.new.new.b c.begin_vars.new.b (extends_keeps a c.new.new.b c.new.ensures.extends) (extends_keeps c.new.new.b c.begin_vars.new.b c.begin_vars.ensures.extends) in
+    let e =
+    keeps_trans a c.new.new.b c.begin_vars.new.b (extends_keeps a c.new.new.b c.new.ensures.extends)
+    (extends_keeps c.new.new.b c.begin_vars.new.b c.begin_vars.ensures.extends) in
     earlier_now a c.begin_vars.new.b (form c.args.pipe.now) c.args.shared.now c.args.earlier.now e c.requires.shared c.requires.earlier
 
 pub begin_helds-requires-clause-frame : goal.begin_helds-requires-clause-frame
@@ -47,7 +55,8 @@ begin_helds-requires-clause-frame c =
     let e0 = extends_keeps a b0 c.new.ensures.extends in
     let e1 = keeps_trans a b0 b1 e0 (extends_keeps b0 b1 c.begin_vars.ensures.extends) in
     let r = c.begin_vars.new.regs in
-    frame_to a f c.args.earlier.now c.args.shared.now c.requires.shared c.requires.earlier b1 e1 b1 r (frame_from a f c.args.earlier.now c.args.shared.now c.requires.shared c.requires.earlier b0 e0 b1 r c.in_ok-vars.ensures.frame)
+    frame_to a f c.args.earlier.now c.args.shared.now c.requires.shared c.requires.earlier b1 e1 b1 r
+    (frame_from a f c.args.earlier.now c.args.shared.now c.requires.shared c.requires.earlier b0 e0 b1 r c.in_ok-vars.ensures.frame)
 
 pub begin_tickets-requires-clause-shared : goal.begin_tickets-requires-clause-shared
 begin_tickets-requires-clause-shared c =
@@ -67,7 +76,8 @@ begin_tickets-requires-clause-frame c =
     let e1 = keeps_trans a c.new.new.b b1 (extends_keeps a c.new.new.b c.new.ensures.extends) (extends_keeps c.new.new.b b1 c.begin_vars.ensures.extends) in
     let e2 = keeps_trans a b1 b2 e1 (extends_keeps b1 b2 c.begin_helds.ensures.extends) in
     let r = c.begin_helds.new.regs in
-    frame_to a f c.args.earlier.now c.args.shared.now c.requires.shared c.requires.earlier b2 e2 b2 r (frame_from a f c.args.earlier.now c.args.shared.now c.requires.shared c.requires.earlier b1 e1 b2 r c.in_ok-held.ensures.frame)
+    frame_to a f c.args.earlier.now c.args.shared.now c.requires.shared c.requires.earlier b2 e2 b2 r
+    (frame_from a f c.args.earlier.now c.args.shared.now c.requires.shared c.requires.earlier b1 e1 b2 r c.in_ok-held.ensures.frame)
 
 pub begin_guess-requires-clause-shared : goal.begin_guess-requires-clause-shared
 begin_guess-requires-clause-shared c =
@@ -102,7 +112,8 @@ begin_guess-requires-clause-frame c =
     let e2 = keeps_trans a b1 b2 e1 (extends_keeps b1 b2 c.begin_helds.ensures.extends) in
     let e3 = keeps_trans a b2 b3 e2 (extends_keeps b2 b3 c.begin_tickets.ensures.extends) in
     let r = c.begin_tickets.new.regs in
-    frame_to a f c.args.earlier.now c.args.shared.now c.requires.shared c.requires.earlier b3 e3 b3 r (frame_from a f c.args.earlier.now c.args.shared.now c.requires.shared c.requires.earlier b2 e2 b3 r c.in_ok-tickets.ensures.frame)
+    frame_to a f c.args.earlier.now c.args.shared.now c.requires.shared c.requires.earlier b3 e3 b3 r
+    (frame_from a f c.args.earlier.now c.args.shared.now c.requires.shared c.requires.earlier b2 e2 b3 r c.in_ok-tickets.ensures.frame)
 
 pub begin_guess-requires-clause-vars : goal.begin_guess-requires-clause-vars
 begin_guess-requires-clause-vars c =
@@ -118,7 +129,9 @@ begin_guess-requires-clause-wide c =
     let b2 = c.begin_helds.new.b in
     let b3 = c.begin_tickets.new.b in
     let e13 = keeps_trans b1 b2 b3 (extends_keeps b1 b2 c.begin_helds.ensures.extends) (extends_keeps b2 b3 c.begin_tickets.ensures.extends) in
-    ap (λ xs. widths_of (signals_in b3 xs)) c.as_slice.ensures ∙ ap widths_of (signals_keep b1 b3 c.in_ok-vars.vars e13 c.in_ok-vars.ensures.vars.there) ∙ c.in_ok-vars.ensures.vars.wide
+    ap (λ xs. widths_of (signals_in b3 xs)) c.as_slice.ensures
+    ∙ ap widths_of (signals_keep b1 b3 c.in_ok-vars.vars e13 c.in_ok-vars.ensures.vars.there)
+    ∙ c.in_ok-vars.ensures.vars.wide
 
 pub begin_answers-requires-clause-shared : goal.begin_answers-requires-clause-shared
 begin_answers-requires-clause-shared c =
@@ -151,7 +164,9 @@ begin_answers-requires-clause-wide c =
     let b4 = c.begin_guess.new.b in
     let e13 = keeps_trans b1 b2 b3 (extends_keeps b1 b2 c.begin_helds.ensures.extends) (extends_keeps b2 b3 c.begin_tickets.ensures.extends) in
     let e14 = keeps_trans b1 b3 b4 e13 (extends_keeps b3 b4 c.begin_guess.ensures.extends) in
-    ap (λ xs. widths_of (signals_in b4 xs)) c.as_slice-2.ensures ∙ ap widths_of (signals_keep b1 b4 c.in_ok-vars.vars e14 c.in_ok-vars.ensures.vars.there) ∙ c.in_ok-vars.ensures.vars.wide
+    ap (λ xs. widths_of (signals_in b4 xs)) c.as_slice-2.ensures
+    ∙ ap widths_of (signals_keep b1 b4 c.in_ok-vars.vars e14 c.in_ok-vars.ensures.vars.there)
+    ∙ c.in_ok-vars.ensures.vars.wide
 
 pub returns-clause-begun : goal.returns-clause-begun
 returns-clause-begun c =
@@ -195,12 +210,20 @@ returns-clause-begun c =
     let frame4 = frame_from a f x sh shared earlier b3 e3 b4 r4 c.in_ok-guess.ensures.frame in
     let vars1 = vars_from a f x sh shared earlier b0 e0 b1 r1 (lives_from f.pipe k) f.widths vars c.in_ok-vars.ensures.vars in
     let held2 = helds_from a f x sh shared earlier b1 e1 b2 r2 held c.in_ok-held.ensures.begun in
-    let tickets3 = subst (λ fs. AreBegun b3 f fs r3 Ticket (goes_with f.pipe k) (λ m. IsSettled f.pipe us k (Ticket m)) (widths_of fs) tickets) same3 (c.in_ok-tickets.ensures.tickets us) in
+    let tickets3 =
+    subst
+    (λ fs. AreBegun b3 f fs r3 Ticket (goes_with f.pipe k) (λ m. IsSettled f.pipe us k (Ticket m)) (widths_of fs) tickets) same3
+    (c.in_ok-tickets.ensures.tickets us) in
     let k13 = keeps_trans b1 b2 b3 (extends_keeps b1 b2 c.begin_helds.ensures.extends) (extends_keeps b2 b3 c.begin_tickets.ensures.extends) in
     let there3 = there_keeps b1 b3 vars k13 c.in_ok-vars.ensures.vars.there in
     let spared : ℕ → Signal → Type 0 = (λ i. IsSpared f.pipe us k (signals_in d vars) (Guess i)) in
-    let guess0 = subst (λ ys. AreBegun b4 f (signals_in b3 sh.next) r4 Guess (λ i. verifies_from f.pipe k) (λ i. IsSparedAfter b3 f x ys (Guess i)) (param_widths f) guess) c.as_slice.ensures c.in_ok-guess.ensures.guess in
-    let guess4 = guess_from a f x sh shared earlier b3 e3 b4 d r4 (λ i. verifies_from f.pipe k) (param_widths f) vars guess (signals_keep b3 d vars k3 there3) guess0 in
+    let guess0 =
+    subst
+    (λ ys. AreBegun b4 f (signals_in b3 sh.next) r4 Guess (λ i. verifies_from f.pipe k)
+    (λ i. IsSparedAfter b3 f x ys (Guess i))
+    (param_widths f) guess) c.as_slice.ensures c.in_ok-guess.ensures.guess in
+    let guess4 =
+    guess_from a f x sh shared earlier b3 e3 b4 d r4 (λ i. verifies_from f.pipe k) (param_widths f) vars guess (signals_keep b3 d vars k3 there3) guess0 in
     let next3 = subst (λ fs. AreNextTickets b3 f.pipe fs k tickets) same3 c.in_ok-tickets.ensures.same in
     let now3 = signals_keep b3 d tickets k3 tickets3.there in
     let answered = subst (λ ys. AreAnswered d f (answers_in b4 sh.ports.now) k ys begun) c.as_slice-2.ensures c.in_ok-begun.ensures.answered in

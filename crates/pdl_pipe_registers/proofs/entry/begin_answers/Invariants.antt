@@ -11,4 +11,6 @@ use Rattle.pdl_pipe_registers.proofs.entry.begin_answers.Given as goal
 abbrev pub invariant-loop-x : goal.invariant-loop-x
 invariant-loop-x l =
     Extends l.fn.b l.b × (l.b.regs ≡ l.fn.b.regs) × HasNets l.b (take l.x (form l.pipe).widths) l.nets
-    × ((y : ℕ) → y < l.x → signal_at (signals_in l.b l.nets) y ≡ with_answer (form l.pipe).pipe (answers_in l.fn.b l.shared.ports.now) l.stage y (signal_at (signals_in l.fn.b l.vars) y))
+    × ((y : ℕ) → y < l.x
+    → signal_at (signals_in l.b l.nets) y
+    ≡ with_answer (form l.pipe).pipe (answers_in l.fn.b l.shared.ports.now) l.stage y (signal_at (signals_in l.fn.b l.vars) y))

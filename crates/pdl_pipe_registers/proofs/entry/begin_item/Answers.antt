@@ -16,5 +16,8 @@ returns-in-Some-clause-may c =
       regs = refl;
       there = common.there;
       wide = common_width b f (signals_in b c.args.shared.now.next) x c.args.item c.in-Some.net c.requires.earlier c.requires.item common ∙ sym c.requires.wide;
-      settled = common_settled b f.pipe (earlier_views b x) (earlier_count x) x.ways.now c.args.item c.in-Some.net c.requires.after c.requires.earlier.ways (sym c.is_answered.ensures ∙ c.if-not-is_answered.true) common;
+      settled =
+          common_settled b f.pipe (earlier_views b x)
+          (earlier_count x) x.ways.now c.args.item c.in-Some.net c.requires.after c.requires.earlier.ways
+          (sym c.is_answered.ensures ∙ c.if-not-is_answered.true) common;
     }

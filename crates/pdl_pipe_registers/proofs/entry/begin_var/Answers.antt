@@ -4,7 +4,9 @@ use Rattle.pdl_pipe_registers.proofs.Widths.{wide_low, wide_high}
 use Rattle.pdl_pipe_registers.proofs.entry.begin_var.Goals as goal
 
 pub begin_item-requires-clause-low : goal.begin_item-requires-clause-low
-begin_item-requires-clause-low c = subst (λ n. 1 ≤ n) (sym c.width.ensures) (wide_low (form c.args.pipe.now).widths c.args.x c.requires.low c.requires.typed.wide)
+begin_item-requires-clause-low c =
+    subst (λ n. 1 ≤ n) (sym c.width.ensures) (wide_low (form c.args.pipe.now).widths c.args.x c.requires.low c.requires.typed.wide)
 
 pub begin_item-requires-clause-high : goal.begin_item-requires-clause-high
-begin_item-requires-clause-high c = subst (λ n. n ≤ 64) (sym c.width.ensures) (wide_high (form c.args.pipe.now).widths c.args.x c.requires.low c.requires.typed.wide)
+begin_item-requires-clause-high c =
+    subst (λ n. n ≤ 64) (sym c.width.ensures) (wide_high (form c.args.pipe.now).widths c.args.x c.requires.low c.requires.typed.wide)

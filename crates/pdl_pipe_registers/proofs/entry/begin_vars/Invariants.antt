@@ -10,4 +10,6 @@ use Rattle.pdl_pipe_registers.proofs.entry.begin_vars.Given as goal
 -- the first variables are begun
 abbrev pub invariant-loop-x : goal.invariant-loop-x
 invariant-loop-x l =
-    SoFar l.fn.b l.b (form l.pipe) (signals_in l.fn.b l.shared.next) (earlier_count l.earlier) l.fn.regs l.regs Var (lives_from (form l.pipe).pipe (earlier_count l.earlier)) (λ x. IsSettledAfter l.fn.b (form l.pipe) l.earlier (Var x)) (take l.x (form l.pipe).widths) l.nets
+    SoFar l.fn.b l.b (form l.pipe) (signals_in l.fn.b l.shared.next)
+    (earlier_count l.earlier) l.fn.regs l.regs Var (lives_from (form l.pipe).pipe (earlier_count l.earlier))
+    (λ x. IsSettledAfter l.fn.b (form l.pipe) l.earlier (Var x)) (take l.x (form l.pipe).widths) l.nets

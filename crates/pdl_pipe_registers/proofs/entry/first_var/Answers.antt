@@ -14,4 +14,5 @@ pub keep-requires-clause-fits : goal.keep-requires-clause-fits
 keep-requires-clause-fits c =
     let low : c.args.x < length (form c.args.pipe.now).pipe.start = subst (λ xs. c.args.x < length xs) c.start.ensures c.if-x-start.true in
     subst (λ n. n < 2 ^ c.width.result) (sym c.start_of.ensures)
-    (subst (λ n. slice_index (form c.args.pipe.now).pipe.start c.args.x < 2 ^ n) (sym c.width.ensures) (start_fits (form c.args.pipe.now).widths (form c.args.pipe.now).pipe.start c.args.x low c.requires.typed.start))
+    (subst (λ n. slice_index (form c.args.pipe.now).pipe.start c.args.x < 2 ^ n) (sym c.width.ensures)
+    (start_fits (form c.args.pipe.now).widths (form c.args.pipe.now).pipe.start c.args.x low c.requires.typed.start))

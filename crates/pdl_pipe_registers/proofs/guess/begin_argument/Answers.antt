@@ -11,10 +11,14 @@ use Rattle.pdl_pipe_registers.proofs.Widths.{wide_low, wide_high}
 use Rattle.pdl_pipe_registers.proofs.guess.begin_argument.Goals as goal
 
 pub begin_item-requires-clause-low : goal.begin_item-requires-clause-low
-begin_item-requires-clause-low c = subst (λ n. 1 ≤ n) (sym c.width.ensures) (wide_low (form c.args.pipe.now).widths c.args.i (let l = c.requires.low in let p = c.requires.typed.params in omega (arith, l, p)) c.requires.typed.wide)
+begin_item-requires-clause-low c =
+    subst (λ n. 1 ≤ n) (sym c.width.ensures)
+    (wide_low (form c.args.pipe.now).widths c.args.i (let l = c.requires.low in let p = c.requires.typed.params in omega (arith, l, p)) c.requires.typed.wide)
 
 pub begin_item-requires-clause-high : goal.begin_item-requires-clause-high
-begin_item-requires-clause-high c = subst (λ n. n ≤ 64) (sym c.width.ensures) (wide_high (form c.args.pipe.now).widths c.args.i (let l = c.requires.low in let p = c.requires.typed.params in omega (arith, l, p)) c.requires.typed.wide)
+begin_item-requires-clause-high c =
+    subst (λ n. n ≤ 64) (sym c.width.ensures)
+    (wide_high (form c.args.pipe.now).widths c.args.i (let l = c.requires.low in let p = c.requires.typed.params in omega (arith, l, p)) c.requires.typed.wide)
 
 pub returns-in-Some-clause-begins : goal.returns-in-Some-clause-begins
 returns-in-Some-clause-begins c =
@@ -35,7 +39,10 @@ returns-in-Some-clause-begins c =
       may = inr record {
         regs = refl;
         there = means.there;
-        wide = ap (λ (g : Signal). g.width) means.same ∙ sym (width_at vars x) ∙ ap (λ ws. slice_index ws x) c.requires.wide ∙ twin_width b f nexts e i x c.requires.earlier guess c.in-Some.ensures.low twin;
+        wide =
+            ap (λ (g : Signal). g.width) means.same ∙ sym (width_at vars x)
+            ∙ ap (λ ws. slice_index ws x) c.requires.wide
+            ∙ twin_width b f nexts e i x c.requires.earlier guess c.in-Some.ensures.low twin;
         settled = λ need. inr record { x = x; twin = twin; is = means.same };
       };
       own = inl refl;

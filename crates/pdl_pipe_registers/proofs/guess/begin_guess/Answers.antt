@@ -13,16 +13,23 @@ use Rattle.pdl_pipe_registers.proofs.SettledItems.{take_index}
 use Rattle.pdl_pipe_registers.proofs.guess.begin_guess.Goals as goal
 
 pub begin_argument-requires-clause-shared : goal.begin_argument-requires-clause-shared
-begin_argument-requires-clause-shared c = shared_keep c.args.b.now c.loop-i.b (form c.args.pipe.now) c.args.shared.now (extends_keeps c.args.b.now c.loop-i.b c.loop-i.invariant.extends) c.requires.shared
+begin_argument-requires-clause-shared c =
+    shared_keep c.args.b.now c.loop-i.b (form c.args.pipe.now) c.args.shared.now
+    (extends_keeps c.args.b.now c.loop-i.b c.loop-i.invariant.extends) c.requires.shared
 
 pub begin_argument-requires-clause-earlier : goal.begin_argument-requires-clause-earlier
-begin_argument-requires-clause-earlier c = earlier_now c.args.b.now c.loop-i.b (form c.args.pipe.now) c.args.shared.now c.args.earlier.now (extends_keeps c.args.b.now c.loop-i.b c.loop-i.invariant.extends) c.requires.shared c.requires.earlier
+begin_argument-requires-clause-earlier c =
+    earlier_now c.args.b.now c.loop-i.b (form c.args.pipe.now) c.args.shared.now c.args.earlier.now
+    (extends_keeps c.args.b.now c.loop-i.b c.loop-i.invariant.extends) c.requires.shared c.requires.earlier
 
 pub begin_argument-requires-clause-vars : goal.begin_argument-requires-clause-vars
-begin_argument-requires-clause-vars c = there_keeps c.args.b.now c.loop-i.b c.args.vars.now (extends_keeps c.args.b.now c.loop-i.b c.loop-i.invariant.extends) c.requires.vars
+begin_argument-requires-clause-vars c =
+    there_keeps c.args.b.now c.loop-i.b c.args.vars.now (extends_keeps c.args.b.now c.loop-i.b c.loop-i.invariant.extends) c.requires.vars
 
 pub begin_argument-requires-clause-wide : goal.begin_argument-requires-clause-wide
-begin_argument-requires-clause-wide c = ap widths_of (signals_keep c.args.b.now c.loop-i.b c.args.vars.now (extends_keeps c.args.b.now c.loop-i.b c.loop-i.invariant.extends) c.requires.vars) ∙ c.requires.wide
+begin_argument-requires-clause-wide c =
+    ap widths_of (signals_keep c.args.b.now c.loop-i.b c.args.vars.now (extends_keeps c.args.b.now c.loop-i.b c.loop-i.invariant.extends) c.requires.vars)
+    ∙ c.requires.wide
 
 pub loop-i-preserved : goal.loop-i-preserved
 loop-i-preserved c =
@@ -41,10 +48,19 @@ loop-i-preserved c =
     let net = c.in_ok-net.net in
     let needed : ℕ → Bool = (λ j. verifies_from f.pipe k) in
     let ws = take (length f.pipe.start) f.widths in
-    let low : i < length ws = (let t = c.loop-i-test.true in let s = ap length c.start-i-end.ensures in let n = length-take (length f.pipe.start) f.widths in let p = c.requires.typed.params in omega (arith, t, s, n, p)) in
-    let may0 = subst (λ fs. MayBegin d f fs k (needed i) r t (Guess i) net (IsSparedAfter b f x vars (Guess i))) (next_keep a b f c.args.shared.now e c.requires.shared) c.in_ok-net.ensures.begins in
+    let low : i < length ws =
+    (let t = c.loop-i-test.true in let s = ap length c.start-i-end.ensures in
+    let n = length-take (length f.pipe.start) f.widths in let p = c.requires.typed.params in
+    omega (arith, t, s, n, p)) in
+    let may0 =
+    subst (λ fs. MayBegin d f fs k (needed i) r t (Guess i) net (IsSparedAfter b f x vars (Guess i)))
+    (next_keep a b f c.args.shared.now e c.requires.shared) c.in_ok-net.ensures.begins in
     let spared : ℕ → Signal → Type 0 = (λ y. IsSparedAfter a f x vars (Guess y)) in
     let may = begin_as d f nexts k (needed i) r t (Guess i) net (IsSparedAfter b f x vars (Guess i)) (spared i)
-    (λ g h. spared_as f.pipe (earlier_views b x) (earlier_views a x) k (signals_in b vars) (signals_in a vars) (Guess i) g (λ y j l. sym (ends_same a b f nexts x.stages.now y e c.requires.earlier.ended j l)) (sym (signals_keep a b vars e c.requires.vars)) h) may0 in
-    let more = sofar_more a f nexts k c.args.regs.now Guess needed spared ws b d r t i c.loop-i.nets net low c.begin_argument.ensures.extends may c.in_ok-net.ensures.last (sym (take_index (length f.pipe.start) i f.widths low)) c.loop-i.invariant in
+    (λ g h. spared_as f.pipe (earlier_views b x) (earlier_views a x) k (signals_in b vars) (signals_in a vars)
+    (Guess i) g (λ y j l. sym (ends_same a b f nexts x.stages.now y e c.requires.earlier.ended j l))
+    (sym (signals_keep a b vars e c.requires.vars)) h) may0 in
+    let more =
+    sofar_more a f nexts k c.args.regs.now Guess needed spared ws b d r t i c.loop-i.nets net low c.begin_argument.ensures.extends may c.in_ok-net.ensures.last
+    (sym (take_index (length f.pipe.start) i f.widths low)) c.loop-i.invariant in
     subst (λ xs. SoFar a d f nexts k c.args.regs.now t Guess needed spared (take (i + 1) ws) xs) (sym c.in_ok-push.ensures.ok) more

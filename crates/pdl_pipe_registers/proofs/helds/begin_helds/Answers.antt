@@ -17,15 +17,20 @@ use Rattle.pdl_word.proofs.Each.{each_push}
 use Rattle.pdl_pipe_registers.proofs.helds.begin_helds.Goals as goal
 
 pub push_helds-requires-clause-shared : goal.push_helds-requires-clause-shared
-push_helds-requires-clause-shared c = shared_keep c.args.b.now c.loop-j.b (form c.args.pipe.now) c.args.shared.now (extends_keeps c.args.b.now c.loop-j.b c.loop-j.invariant.0.extends) c.requires.shared
+push_helds-requires-clause-shared c =
+    shared_keep c.args.b.now c.loop-j.b (form c.args.pipe.now) c.args.shared.now
+    (extends_keeps c.args.b.now c.loop-j.b c.loop-j.invariant.0.extends) c.requires.shared
 
 pub push_helds-requires-clause-earlier : goal.push_helds-requires-clause-earlier
-push_helds-requires-clause-earlier c = earlier_now c.args.b.now c.loop-j.b (form c.args.pipe.now) c.args.shared.now c.args.earlier.now (extends_keeps c.args.b.now c.loop-j.b c.loop-j.invariant.0.extends) c.requires.shared c.requires.earlier
+push_helds-requires-clause-earlier c =
+    earlier_now c.args.b.now c.loop-j.b (form c.args.pipe.now) c.args.shared.now c.args.earlier.now
+    (extends_keeps c.args.b.now c.loop-j.b c.loop-j.invariant.0.extends) c.requires.shared c.requires.earlier
 
 pub push_helds-requires-clause-frame : goal.push_helds-requires-clause-frame
 push_helds-requires-clause-frame c =
     let e = extends_keeps c.args.b.now c.loop-j.b c.loop-j.invariant.0.extends in
-    subst (λ fs. IsFrame c.loop-j.b (form c.args.pipe.now) fs (earlier_count c.args.earlier.now) c.loop-j.regs) (sym (next_keep c.args.b.now c.loop-j.b (form c.args.pipe.now) c.args.shared.now e c.requires.shared)) c.loop-j.invariant.0.frame
+    subst (λ fs. IsFrame c.loop-j.b (form c.args.pipe.now) fs (earlier_count c.args.earlier.now) c.loop-j.regs)
+    (sym (next_keep c.args.b.now c.loop-j.b (form c.args.pipe.now) c.args.shared.now e c.requires.shared)) c.loop-j.invariant.0.frame
 
 pub push_helds-requires-clause-begun : goal.push_helds-requires-clause-begun
 push_helds-requires-clause-begun c =
@@ -38,7 +43,8 @@ push_helds-requires-clause-begun c =
     let e = extends_keeps a b so.extends in
     let nexts = signals_in a c.args.shared.now.next in
     subst (λ fs. AreHeldBegun b f fs (earlier_views b x) k c.loop-j.regs c.loop-j.held) (sym (next_keep a b f c.args.shared.now e c.requires.shared))
-    (helds_as b f nexts (earlier_views a x) (earlier_views b x) k c.loop-j.regs c.loop-j.held (λ m v j l. ends_same a b f nexts x.stages.now (Held m v) e c.requires.earlier.ended j l) so.begun)
+    (helds_as b f nexts (earlier_views a x)
+    (earlier_views b x) k c.loop-j.regs c.loop-j.held (λ m v j l. ends_same a b f nexts x.stages.now (Held m v) e c.requires.earlier.ended j l) so.begun)
 
 pub loop-j-preserved : goal.loop-j-preserved
 loop-j-preserved c =
@@ -62,7 +68,8 @@ loop-j-preserved c =
     let i = c.loop-j.j-index in
     let low : i < length js = (let q = c.loop-j-test.true in omega (arith, q)) in
     let done = c.in_ok-push_helds.ensures in
-    let same : (m v j : ℕ) → j < k → ended_item (us j) (Held m v) ≡ ended_item (vs j) (Held m v) = λ m v j l. sym (ends_same a b f nexts x.stages.now (Held m v) e c.requires.earlier.ended j l) in
+    let same : (m v j : ℕ) → j < k → ended_item (us j) (Held m v) ≡ ended_item (vs j) (Held m v) =
+    λ m v j l. sym (ends_same a b f nexts x.stages.now (Held m v) e c.requires.earlier.ended j l) in
     let frame = subst (λ fs. IsFrame d f fs k t) is done.frame in
     let begun = helds_as d f nexts vs us k t xs same (subst (λ fs. AreHeldBegun d f fs vs k t xs) is done.begun) in
     let P : ℕ → Type 0 = λ j. HasAllHeld f.pipe k (us j) xs in
@@ -78,4 +85,5 @@ returns-clause-whole c =
     let f = form c.args.pipe.now in
     let x = c.args.earlier.now in
     let t = c.loop-j-test.false in
-    subst (Each (λ j. HasAllHeld f.pipe (earlier_count x) (earlier_views c.args.b.now x j) c.loop-j.held)) (take_all c.loop-j.j-index x.ways.now (omega (arith, t))) c.loop-j.invariant.1
+    subst (Each (λ j. HasAllHeld f.pipe (earlier_count x) (earlier_views c.args.b.now x j) c.loop-j.held))
+    (take_all c.loop-j.j-index x.ways.now (omega (arith, t))) c.loop-j.invariant.1

@@ -12,10 +12,14 @@ use Rattle.pdl_pipe_registers.proofs.HeldsBegun.{AreSeen, adds_as, helds_more, h
 use Rattle.pdl_pipe_registers.proofs.helds.push_helds.Goals as goal
 
 pub push_held-requires-clause-shared : goal.push_held-requires-clause-shared
-push_held-requires-clause-shared c = shared_keep c.args.b.now c.loop-i.b (form c.args.pipe.now) c.args.shared.now (extends_keeps c.args.b.now c.loop-i.b c.loop-i.invariant.0.extends) c.requires.shared
+push_held-requires-clause-shared c =
+    shared_keep c.args.b.now c.loop-i.b (form c.args.pipe.now) c.args.shared.now
+    (extends_keeps c.args.b.now c.loop-i.b c.loop-i.invariant.0.extends) c.requires.shared
 
 pub push_held-requires-clause-earlier : goal.push_held-requires-clause-earlier
-push_held-requires-clause-earlier c = earlier_now c.args.b.now c.loop-i.b (form c.args.pipe.now) c.args.shared.now c.args.earlier.now (extends_keeps c.args.b.now c.loop-i.b c.loop-i.invariant.0.extends) c.requires.shared c.requires.earlier
+push_held-requires-clause-earlier c =
+    earlier_now c.args.b.now c.loop-i.b (form c.args.pipe.now) c.args.shared.now c.args.earlier.now
+    (extends_keeps c.args.b.now c.loop-i.b c.loop-i.invariant.0.extends) c.requires.shared c.requires.earlier
 
 pub loop-i-preserved : goal.loop-i-preserved
 loop-i-preserved c =
@@ -40,14 +44,20 @@ loop-i-preserved c =
     let r = c.loop-i.regs in
     let u = c.push_held.new.regs in
     let after : 0 < k = (let l = c.requires.low in omega (arith, l)) in
-    let adds0 = subst (λ fs. AddsHeld d f fs (earlier_views b x) k h.mem h.var r hs u xs) (next_keep a b f c.args.shared.now e c.requires.shared) c.in_ok-push_held.ensures.adds in
-    let adds = adds_as d f nexts (earlier_views b x) us k h.mem h.var r u hs xs (λ j l. sym (ends_same a b f nexts x.stages.now (Held h.mem h.var) e c.requires.earlier.ended j l)) adds0 in
+    let adds0 =
+    subst (λ fs. AddsHeld d f fs (earlier_views b x) k h.mem h.var r hs u xs)
+    (next_keep a b f c.args.shared.now e c.requires.shared) c.in_ok-push_held.ensures.adds in
+    let adds =
+    adds_as d f nexts (earlier_views b x) us k h.mem h.var r u hs xs
+    (λ j l. sym (ends_same a b f nexts x.stages.now (Held h.mem h.var) e c.requires.earlier.ended j l)) adds0 in
     let so = c.loop-i.invariant.0 in
     let r0 = c.args.regs.now in
     let hs0 = c.args.held.now in
     let on : take i items ++ h ∷ [] ≡ take (i + 1) items = ap (λ y. take i items ++ y ∷ []) is ∙ sym (take_more items i h low) in (
       helds_more a b d f nexts us k r0 hs0 r u hs xs h.mem h.var after c.push_held.ensures.extends c.in_ok-push_held.ensures.last so adds,
-      subst (λ l. AreSeen f k l xs) on (seen_more f k (take i items) hs xs h (helds_still a b d f nexts us k r0 hs0 r u hs xs h.mem h.var after c.push_held.ensures.extends c.in_ok-push_held.ensures.last so adds)
+      subst (λ l. AreSeen f k l xs) on
+          (seen_more f k (take i items) hs xs h
+          (helds_still a b d f nexts us k r0 hs0 r u hs xs h.mem h.var after c.push_held.ensures.extends c.in_ok-push_held.ensures.last so adds)
           (helds_listed a b d f nexts us k r0 hs0 r u hs xs h.mem h.var after c.push_held.ensures.extends c.in_ok-push_held.ensures.last so adds) c.loop-i.invariant.1),
     )
 
@@ -63,4 +73,5 @@ returns-clause-whole c = λ m v need un.
     let t = c.loop-i-test.false in
     let l : length items ≤ c.loop-i.i = omega (arith, n, t) in
     let seen : AreSeen f k items c.loop-i.held = subst (λ ys. AreSeen f k ys c.loop-i.held) (take_all c.loop-i.i items l) c.loop-i.invariant.1 in
-    ap (λ (v' : View). v'.ended.held m v) (view_at a x.stages.now c.args.j s c.requires.low (sym c.stage_at-from.ensures)) ∙ all_seen a f k items c.loop-i.held m v seen need un
+    ap (λ (v' : View). v'.ended.held m v) (view_at a x.stages.now c.args.j s c.requires.low (sym c.stage_at-from.ensures))
+    ∙ all_seen a f k items c.loop-i.held m v seen need un

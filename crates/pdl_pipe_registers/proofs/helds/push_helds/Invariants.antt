@@ -8,5 +8,6 @@ use Rattle.pdl_pipe_registers.proofs.helds.push_helds.Given as goal
 -- the first locations are listed
 abbrev pub invariant-loop-i : goal.invariant-loop-i
 invariant-loop-i l =
-    HeldsSoFar l.fn.b l.b (form l.pipe) (signals_in l.fn.b l.shared.next) (earlier_views l.fn.b l.earlier) (earlier_count l.earlier) l.fn.regs l.fn.held l.regs l.held
+    HeldsSoFar l.fn.b l.b (form l.pipe) (signals_in l.fn.b l.shared.next) (earlier_views l.fn.b l.earlier)
+    (earlier_count l.earlier) l.fn.regs l.fn.held l.regs l.held
     × AreSeen (form l.pipe) (earlier_count l.earlier) (take l.i l.from.end.held.items) l.held

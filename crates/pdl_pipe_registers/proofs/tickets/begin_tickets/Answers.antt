@@ -22,7 +22,8 @@ none k = no_view
 pub variable-next-requires-clause-there : goal.variable-next-requires-clause-there
 variable-next-requires-clause-there c =
     let e = extends_keeps c.args.b.now c.loop-m.b (c.loop-m.invariant.0 none).extends in
-    subst (NetsThere c.loop-m.b) (sym c.as_slice.ensures) (shared_keep c.args.b.now c.loop-m.b (form c.args.pipe.now) c.args.shared.now e c.requires.shared).next_there
+    subst (NetsThere c.loop-m.b) (sym c.as_slice.ensures)
+    (shared_keep c.args.b.now c.loop-m.b (form c.args.pipe.now) c.args.shared.now e c.requires.shared).next_there
 
 pub begin_ticket-requires-clause-shared : goal.begin_ticket-requires-clause-shared
 begin_ticket-requires-clause-shared c =
@@ -33,10 +34,12 @@ pub begin_ticket-requires-clause-last : goal.begin_ticket-requires-clause-last
 begin_ticket-requires-clause-last c = (c.loop-m.invariant.0 none).frame.last
 
 pub returns-in_err-net-clause-extends : goal.returns-in_err-net-clause-extends
-returns-in_err-net-clause-extends c = extends_trans c.args.b.now c.loop-m.b c.begin_ticket.new.b (c.loop-m.invariant.0 none).extends c.begin_ticket.ensures.extends
+returns-in_err-net-clause-extends c =
+    extends_trans c.args.b.now c.loop-m.b c.begin_ticket.new.b (c.loop-m.invariant.0 none).extends c.begin_ticket.ensures.extends
 
 pub returns-in_err-push-clause-extends : goal.returns-in_err-push-clause-extends
-returns-in_err-push-clause-extends c = extends_trans c.args.b.now c.loop-m.b c.begin_ticket.new.b (c.loop-m.invariant.0 none).extends c.begin_ticket.ensures.extends
+returns-in_err-push-clause-extends c =
+    extends_trans c.args.b.now c.loop-m.b c.begin_ticket.new.b (c.loop-m.invariant.0 none).extends c.begin_ticket.ensures.extends
 
 pub loop-m-preserved : goal.loop-m-preserved
 loop-m-preserved c =
@@ -57,13 +60,20 @@ loop-m-preserved c =
     let net = c.in_ok-net.net in
     let xs = c.loop-m.nets in
     let needed : ℕ → Bool = goes_with f.pipe k in
-    let low : i < length ws = (let q = c.loop-m-test.true in let n = c.len-m-end.ensures in let s = length_signals a c.args.shared.now.next in let w = length_widths nexts in omega (arith, q, n, s, w)) in
+    let low : i < length ws =
+    (let q = c.loop-m-test.true in let n = c.len-m-end.ensures in let s = length_signals a c.args.shared.now.next in
+    let w = length_widths nexts in omega (arith, q, n, s, w)) in
     let settled : (ℕ → View) → ℕ → Signal → Type 0 = (λ us m. IsSettled f.pipe us k (Ticket m)) in
-    let may : (us : ℕ → View) → MayBegin d f nexts k (needed i) r t (Ticket i) net (settled us i) = λ us. subst (λ fs. MayBegin d f fs k (needed i) r t (Ticket i) net (settled us i)) is (c.in_ok-net.ensures.begins us) in
+    let may : (us : ℕ → View) → MayBegin d f nexts k (needed i) r t (Ticket i) net (settled us i) =
+    λ us. subst (λ fs. MayBegin d f fs k (needed i) r t (Ticket i) net (settled us i)) is (c.in_ok-net.ensures.begins us) in
     let pushed = c.in_ok-push.ensures.ok in
     let wide : (signal_at nexts i).width ≡ slice_index ws i = sym (width_at nexts i) in
     let next = c.variable-next.ensures.same ∙ ap (λ ys. signal_at (signals_in b ys) i) c.as_slice.ensures ∙ ap (λ fs. signal_at fs i) is in (
-      λ us. subst (λ ys. SoFar a d f nexts k c.args.regs.now t Ticket needed (settled us) (take (i + 1) ws) ys) (sym pushed) (sofar_more a f nexts k c.args.regs.now Ticket needed (settled us) ws b d r t i xs net low c.begin_ticket.ensures.extends (may us) c.in_ok-net.ensures.last wide (c.loop-m.invariant.0 us)),
+      λ us. subst (λ ys. SoFar a d f nexts k c.args.regs.now t Ticket needed (settled us) (take (i + 1) ws) ys)
+          (sym pushed)
+          (sofar_more a f nexts k c.args.regs.now Ticket needed
+          (settled us) ws b d r t i xs net low c.begin_ticket.ensures.extends (may us) c.in_ok-net.ensures.last wide
+          (c.loop-m.invariant.0 us)),
       subst (λ ys. (y : ℕ) → y < i + 1 → needed y ≡ false → signal_at (signals_in d ys) y ≡ signal_at nexts y) (sym pushed)
           (up_to (λ y. needed y ≡ false → signal_at (signals_in d (xs ++ net ∷ [])) y ≡ signal_at nexts y) i
           (λ y l no. push_old b d bd ws i xs net low first.begun.there first.begun.wide y l ∙ c.loop-m.invariant.1 y l no)
@@ -87,7 +97,10 @@ returns-clause-tickets c = λ us.
     let n = c.len-m-end.ensures in
     let s = length_signals c.args.b.now c.args.shared.now.next in
     let w = length_widths nexts in
-    subst (λ vs. AreBegun c.loop-m.b f nexts c.loop-m.regs Ticket (goes_with f.pipe c.args.stage) (λ m. IsSettled f.pipe us c.args.stage (Ticket m)) vs c.loop-m.nets) (take_all c.loop-m.m (widths_of nexts) (omega (arith, t, n, s, w))) (c.loop-m.invariant.0 us).begun
+    subst
+    (λ vs. AreBegun c.loop-m.b f nexts c.loop-m.regs Ticket (goes_with f.pipe c.args.stage)
+    (λ m. IsSettled f.pipe us c.args.stage (Ticket m)) vs c.loop-m.nets)
+    (take_all c.loop-m.m (widths_of nexts) (omega (arith, t, n, s, w))) (c.loop-m.invariant.0 us).begun
 
 pub returns-clause-extends : goal.returns-clause-extends
 returns-clause-extends c = (c.loop-m.invariant.0 none).extends

@@ -15,6 +15,8 @@ loop-j-preserved c =
     let low : j < q = omega (arith, t) in
     let leads = sym (c.leads_to.ensures ∙ ap (λ n. leads_to n q) c.next_of.ensures) in
     elim c.if-leads_to.branch [
-      | then-leads_to+in_ok-push w ↦ ap (λ xs. xs ++ ways_left p q (j + 1)) (ap (λ (l : Vec ℕ). l.items) w.list-is ∙ w.in_ok-push.ensures.items) ∙ one_leads p q j low c.loop-j.list.items (leads ∙ w.if-leads_to.true) ∙ c.loop-j.invariant
-      | else-leads_to w ↦ ap₂ (λ xs ys. xs ++ ys) (ap (λ (l : Vec ℕ). l.items) w.list-is) (none_leads p q j low (leads ∙ w.if-leads_to.false)) ∙ c.loop-j.invariant
+      | then-leads_to+in_ok-push w ↦ ap (λ xs. xs ++ ways_left p q (j + 1)) (ap (λ (l : Vec ℕ). l.items) w.list-is ∙ w.in_ok-push.ensures.items)
+          ∙ one_leads p q j low c.loop-j.list.items (leads ∙ w.if-leads_to.true) ∙ c.loop-j.invariant
+      | else-leads_to w ↦ ap₂ (λ xs ys. xs ++ ys) (ap (λ (l : Vec ℕ). l.items) w.list-is) (none_leads p q j low (leads ∙ w.if-leads_to.false))
+          ∙ c.loop-j.invariant
     ]

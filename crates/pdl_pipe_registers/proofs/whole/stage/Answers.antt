@@ -31,17 +31,22 @@ begin-requires-clause-earlier g c =
     }
 
 pub walk-requires-clause-bits : goal.walk-requires-clause-bits
-walk-requires-clause-bits g c = bits_keep c.args.b.now c.begin.new.b c.args.shared.now.bits (extends_keeps c.args.b.now c.begin.new.b c.begin.ensures.extends) c.requires.shared.bits
+walk-requires-clause-bits g c =
+    bits_keep c.args.b.now c.begin.new.b c.args.shared.now.bits (extends_keeps c.args.b.now c.begin.new.b c.begin.ensures.extends) c.requires.shared.bits
 
 pub walk-requires-clause-locks : goal.walk-requires-clause-locks
 walk-requires-clause-locks g c =
-    locked_keep (members g.L.LockModule) c.args.b.now c.begin.new.b (extends_keeps c.args.b.now c.begin.new.b c.begin.ensures.extends) g.met.L.LockModule.stays (form c.args.pipe.now).pipe c.args.locks.now c.requires.locks
+    locked_keep (members g.L.LockModule) c.args.b.now c.begin.new.b
+    (extends_keeps c.args.b.now c.begin.new.b c.begin.ensures.extends) g.met.L.LockModule.stays
+    (form c.args.pipe.now).pipe c.args.locks.now c.requires.locks
 
 pub walk-requires-clause-tickets : goal.walk-requires-clause-tickets
 walk-requires-clause-tickets g c =
     let nets = c.in_ok-s.ensures.begun.nets in
     subst (AreTickets (members g.L.LockModule) c.begin.new.b c.args.locks.now) (sym c.as_slice-tickets.ensures)
-    (tickets_fit (members g.L.LockModule) c.args.b.now c.begin.new.b (form c.args.pipe.now).pipe c.args.locks.now c.in_ok-s.s.tickets c.requires.locks nets.tickets (nets.tickets_wide ∙ ap widths_of c.requires.next))
+    (tickets_fit (members g.L.LockModule) c.args.b.now c.begin.new.b
+    (form c.args.pipe.now).pipe c.args.locks.now c.in_ok-s.s.tickets c.requires.locks nets.tickets
+    (nets.tickets_wide ∙ ap widths_of c.requires.next))
 
 pub returns-clause-staged : goal.returns-clause-staged
 returns-clause-staged g c =
@@ -60,8 +65,12 @@ returns-clause-staged g c =
     let ls = locks_in l f.pipe a c.args.locks.now in
     let same = locks_same l a b e g.met.L.LockModule.stays f.pipe c.args.locks.now c.requires.locks in
     let steps = subst (λ (x : Locks). AreSteps d f.pipe x (tickets_in b s.tickets) (in_stage k f.pipe.stmts) (walk_in b s.end) (walk_in d c.walk.new.self)) same
-    (subst (λ ts. AreSteps d f.pipe (locks_in l f.pipe b c.args.locks.now) (tickets_in b ts) (in_stage k f.pipe.stmts) (walk_in b s.end) (walk_in d c.walk.new.self)) c.as_slice-tickets.ensures c.in_ok-walk.ensures.steps) in
-    staged_made a b d (keeps_trans a b d e e2) e2 f nexts (answers_in a c.args.shared.now.ports.now) ls ss k s t c.requires.before (omega arith) refl c.in_ok-s.ensures.begun c.in_ok-walk.ensures.walk steps
+    (subst
+    (λ ts. AreSteps d f.pipe (locks_in l f.pipe b c.args.locks.now) (tickets_in b ts) (in_stage k f.pipe.stmts)
+    (walk_in b s.end) (walk_in d c.walk.new.self)) c.as_slice-tickets.ensures c.in_ok-walk.ensures.steps) in
+    staged_made a b d (keeps_trans a b d e e2) e2 f nexts
+    (answers_in a c.args.shared.now.ports.now) ls ss k s t c.requires.before
+    (omega arith) refl c.in_ok-s.ensures.begun c.in_ok-walk.ensures.walk steps
 
 pub returns-clause-last : goal.returns-clause-last
 returns-clause-last g c =

@@ -34,8 +34,12 @@ loop-init g c =
     let long = ap length next in
     let n = c.requires.locks.count in
     let none : c.new-stages.result.items ≡ [] = search rules in
-    subst (λ ys. StagesSoFar a b f (next_signals a xs) (answers_in a c.args.ports.now) (locks_in l f.pipe a xs) (record { bits = c.args.bits; zeros = c.in_ok-blank.blank; next = c.in_ok-next.next; ports = c.args.ports }) ys 0) (sym none)
-    (stages_none a b f (next_signals a xs) (answers_in a c.args.ports.now) (locks_in l f.pipe a xs) (record { bits = c.args.bits; zeros = c.in_ok-blank.blank; next = c.in_ok-next.next; ports = c.args.ports }) c.zeros.ensures.extends
+    subst
+    (λ ys. StagesSoFar a b f (next_signals a xs) (answers_in a c.args.ports.now) (locks_in l f.pipe a xs)
+    (record { bits = c.args.bits; zeros = c.in_ok-blank.blank; next = c.in_ok-next.next; ports = c.args.ports }) ys 0)
+    (sym none)
+    (stages_none a b f (next_signals a xs) (answers_in a c.args.ports.now) (locks_in l f.pipe a xs)
+    (record { bits = c.args.bits; zeros = c.in_ok-blank.blank; next = c.in_ok-next.next; ports = c.args.ports }) c.zeros.ensures.extends
     (record {
       bits = bits;
       zeros_there = c.in_ok-blank.ensures.there;
@@ -48,11 +52,16 @@ loop-init g c =
 
 pub stage-requires-clause-locks : goal.stage-requires-clause-locks
 stage-requires-clause-locks g c =
-    locked_keep (members g.L.LockModule) c.args.b.now c.loop.b (extends_keeps c.args.b.now c.loop.b c.loop.invariant.extends) g.met.L.LockModule.stays (form c.args.pipe.now).pipe c.args.locks.now c.requires.locks
+    locked_keep (members g.L.LockModule) c.args.b.now c.loop.b
+    (extends_keeps c.args.b.now c.loop.b c.loop.invariant.extends) g.met.L.LockModule.stays
+    (form c.args.pipe.now).pipe c.args.locks.now c.requires.locks
 
 pub stage-requires-clause-next : goal.stage-requires-clause-next
 stage-requires-clause-next g c =
-    c.loop.invariant.next ∙ sym (next_same (members g.L.LockModule) c.args.b.now c.loop.b (extends_keeps c.args.b.now c.loop.b c.loop.invariant.extends) (form c.args.pipe.now).pipe c.args.locks.now c.requires.locks)
+    c.loop.invariant.next
+    ∙ sym
+    (next_same (members g.L.LockModule) c.args.b.now c.loop.b (extends_keeps c.args.b.now c.loop.b c.loop.invariant.extends)
+    (form c.args.pipe.now).pipe c.args.locks.now c.requires.locks)
 
 pub stage-requires-clause-before : goal.stage-requires-clause-before
 stage-requires-clause-before g c =
@@ -83,13 +92,24 @@ loop-preserved g c =
     let inv = c.loop.invariant in
     let same = locks_same l a b (extends_keeps a b inv.extends) g.met.L.LockModule.stays f.pipe xs c.requires.locks in
     let e = extends_keeps a b inv.extends in
-    let now = subst (λ ys. IsStaged d f (signals_in b c.in_ok-next.next) (answers_in b c.args.ports.now) (locks_in l f.pipe b xs) ys (length ys) t) c.as_slice.ensures.value c.in_ok-s.ensures.staged in
+    let now =
+    subst
+    (λ ys. IsStaged d f (signals_in b c.in_ok-next.next) (answers_in b c.args.ports.now)
+    (locks_in l f.pipe b xs) ys (length ys) t) c.as_slice.ensures.value c.in_ok-s.ensures.staged in
     let new = subst (λ (z : Locks). IsStaged d f (next_signals a xs) (answers_in a c.args.ports.now) z ss (length ss) t) same
     (subst (λ fs. IsStaged d f fs (answers_in a c.args.ports.now) (locks_in l f.pipe b xs) ss (length ss) t) inv.next
     (staged_answers a b d f (signals_in b c.in_ok-next.next) c.args.ports.now (locks_in l f.pipe b xs) ss (length ss) t e c.requires.ports now)) in
     let more = stages_more a b d f (next_signals a xs) (answers_in a c.args.ports.now) (locks_in l f.pipe a xs)
-    (record { bits = c.args.bits; zeros = c.in_ok-blank.blank; next = c.in_ok-next.next; ports = c.args.ports }) ss c.loop.counter t c.stage.ensures.extends new c.in_ok-s.ensures.place c.in_ok-s.ensures.last inv in
-    subst (λ ys. StagesSoFar a d f (next_signals a xs) (answers_in a c.args.ports.now) (locks_in l f.pipe a xs) (record { bits = c.args.bits; zeros = c.in_ok-blank.blank; next = c.in_ok-next.next; ports = c.args.ports }) ys (c.loop.counter + 1)) (sym c.in_ok-append.ensures) more
+    (record {
+      bits = c.args.bits;
+      zeros = c.in_ok-blank.blank;
+      next = c.in_ok-next.next;
+      ports = c.args.ports;
+    }) ss c.loop.counter t c.stage.ensures.extends new c.in_ok-s.ensures.place c.in_ok-s.ensures.last inv in
+    subst
+    (λ ys. StagesSoFar a d f (next_signals a xs) (answers_in a c.args.ports.now) (locks_in l f.pipe a xs)
+    (record { bits = c.args.bits; zeros = c.in_ok-blank.blank; next = c.in_ok-next.next; ports = c.args.ports }) ys (c.loop.counter + 1))
+    (sym c.in_ok-append.ensures) more
 
 pub returns-clause-count : goal.returns-clause-count
 returns-clause-count g c =

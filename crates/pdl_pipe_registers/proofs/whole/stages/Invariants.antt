@@ -7,4 +7,6 @@ use Rattle.pdl_pipe_registers.proofs.whole.stages.Given as goal
 
 -- the first stages are made
 abbrev pub invariant-loop : goal.invariant-loop
-invariant-loop g l = StagesSoFar l.fn.b l.b (form l.pipe) (next_signals l.fn.b l.locks) (answers_in l.fn.b l.ports) (locks_in (members g.L.LockModule) (form l.pipe).pipe l.fn.b l.locks) l.shared l.stages.items l.counter
+invariant-loop g l =
+    StagesSoFar l.fn.b l.b (form l.pipe) (next_signals l.fn.b l.locks) (answers_in l.fn.b l.ports)
+    (locks_in (members g.L.LockModule) (form l.pipe).pipe l.fn.b l.locks) l.shared l.stages.items l.counter

@@ -8,13 +8,17 @@ use Rattle.pdl_pipe_tails.proofs.TailRegisters.{coming_keep, tails_keep, brought
 use Rattle.pdl_pipe_tails.proofs.carried.carried.Goals as goal
 
 pub coming-requires-clause-arrivals : goal.coming-requires-clause-arrivals
-coming-requires-clause-arrivals c = coming_keep c.args.b.now c.reg.new.self (length c.args.before.now) c.args.arrivals.now (extends_keeps c.args.b.now c.reg.new.self c.reg.ensures.extends) c.requires.arrivals
+coming-requires-clause-arrivals c =
+    coming_keep c.args.b.now c.reg.new.self (length c.args.before.now) c.args.arrivals.now
+    (extends_keeps c.args.b.now c.reg.new.self c.reg.ensures.extends) c.requires.arrivals
 
 pub coming-requires-clause-before : goal.coming-requires-clause-before
 coming-requires-clause-before c =
     let a = c.args.b.now in
     let b = c.reg.new.self in
-    subst (λ w. HaveTails b c.args.mem w c.args.before.now) (sym (ap (λ (g : Signal). g.width) c.in_ok-r.ensures.has.same)) (tails_keep a b c.args.mem c.args.width c.args.before.now (extends_keeps a b c.reg.ensures.extends) c.requires.before)
+    subst (λ w. HaveTails b c.args.mem w c.args.before.now)
+    (sym (ap (λ (g : Signal). g.width) c.in_ok-r.ensures.has.same))
+    (tails_keep a b c.args.mem c.args.width c.args.before.now (extends_keeps a b c.reg.ensures.extends) c.requires.before)
 
 pub returns-clause-carried : goal.returns-clause-carried
 returns-clause-carried c =

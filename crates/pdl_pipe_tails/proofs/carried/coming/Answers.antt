@@ -13,7 +13,11 @@ loop-i-init c =
     let a = c.args.b.now in
     let ys = c.args.arrivals.now in
     record {
-      means = record { there = c.requires.rest; same = sym (ap (λ zs. brought_tail a c.args.before.now c.args.mem zs (signal a c.args.rest)) (drop_all (length ys - 0) ys (omega arith))) };
+      means =
+          record {
+            there = c.requires.rest;
+            same = sym (ap (λ zs. brought_tail a c.args.before.now c.args.mem zs (signal a c.args.rest)) (drop_all (length ys - 0) ys (omega arith)));
+          };
       wide = refl;
       extends = extends_refl a;
       regs = refl;
@@ -23,7 +27,8 @@ pub row_at-row-requires : goal.row_at-row-requires
 row_at-row-requires c =
     let t = c.loop-i-test.true in
     let ys = c.args.arrivals.now in
-    (coming_nth c.args.b.now (length c.args.before.now) ys (length ys - 1 - c.loop-i.i) c.arrival_at-arrival.result (omega (arith, t)) c.arrival_at-arrival.ensures c.requires.arrivals).1
+    (coming_nth c.args.b.now (length c.args.before.now) ys (length ys - 1 - c.loop-i.i) c.arrival_at-arrival.result
+    (omega (arith, t)) c.arrival_at-arrival.ensures c.requires.arrivals).1
 
 pub variable-tail-requires-clause-there : goal.variable-tail-requires-clause-there
 variable-tail-requires-clause-there c =
@@ -32,8 +37,12 @@ variable-tail-requires-clause-there c =
     let t = c.loop-i-test.true in
     let ys = c.args.arrivals.now in
     let rows = c.args.before.now in
-    let from = coming_nth a (length rows) ys (length ys - 1 - c.loop-i.i) c.arrival_at-arrival.result (omega (arith, t)) c.arrival_at-arrival.ensures c.requires.arrivals in
-    let row = tails_keep a b c.args.mem (signal a c.args.rest).width rows (extends_keeps a b c.loop-i.invariant.extends) c.requires.before c.arrival_at-arrival.result.from from.1 in
+    let from =
+    coming_nth a (length rows) ys (length ys - 1 - c.loop-i.i) c.arrival_at-arrival.result
+    (omega (arith, t)) c.arrival_at-arrival.ensures c.requires.arrivals in
+    let row =
+    tails_keep a b c.args.mem (signal a c.args.rest).width rows
+    (extends_keeps a b c.loop-i.invariant.extends) c.requires.before c.arrival_at-arrival.result.from from.1 in
     subst (NetsThere b) (sym (c.as_slice.ensures ∙ c.row_at-row.ensures)) row.there
 
 pub variable-tail-requires-clause-low : goal.variable-tail-requires-clause-low
@@ -42,7 +51,9 @@ variable-tail-requires-clause-low c =
     let t = c.loop-i-test.true in
     let ys = c.args.arrivals.now in
     let rows = c.args.before.now in
-    let from = coming_nth a (length rows) ys (length ys - 1 - c.loop-i.i) c.arrival_at-arrival.result (omega (arith, t)) c.arrival_at-arrival.ensures c.requires.arrivals in
+    let from =
+    coming_nth a (length rows) ys (length ys - 1 - c.loop-i.i) c.arrival_at-arrival.result
+    (omega (arith, t)) c.arrival_at-arrival.ensures c.requires.arrivals in
     let row = c.requires.before c.arrival_at-arrival.result.from from.1 in
     subst (λ xs. c.args.mem < length xs) (sym (c.as_slice.ensures ∙ c.row_at-row.ensures)) row.low
 
@@ -54,9 +65,14 @@ mux-requires-clause-widths c =
     let t = c.loop-i-test.true in
     let ys = c.args.arrivals.now in
     let rows = c.args.before.now in
-    let from = coming_nth a (length rows) ys (length ys - 1 - c.loop-i.i) c.arrival_at-arrival.result (omega (arith, t)) c.arrival_at-arrival.ensures c.requires.arrivals in
-    let row = tails_keep a b m (signal a c.args.rest).width rows (extends_keeps a b c.loop-i.invariant.extends) c.requires.before c.arrival_at-arrival.result.from from.1 in
-    ap (λ (g : Signal). g.width) (c.variable-tail.ensures.same ∙ ap (λ xs. signal_at (signals_in b xs) m) (c.as_slice.ensures ∙ c.row_at-row.ensures)) ∙ row.wide ∙ sym c.loop-i.invariant.wide
+    let from =
+    coming_nth a (length rows) ys (length ys - 1 - c.loop-i.i) c.arrival_at-arrival.result
+    (omega (arith, t)) c.arrival_at-arrival.ensures c.requires.arrivals in
+    let row =
+    tails_keep a b m (signal a c.args.rest).width rows
+    (extends_keeps a b c.loop-i.invariant.extends) c.requires.before c.arrival_at-arrival.result.from from.1 in
+    ap (λ (g : Signal). g.width) (c.variable-tail.ensures.same ∙ ap (λ xs. signal_at (signals_in b xs) m) (c.as_slice.ensures ∙ c.row_at-row.ensures))
+    ∙ row.wide ∙ sym c.loop-i.invariant.wide
 
 pub loop-i-preserved : goal.loop-i-preserved
 loop-i-preserved c =
@@ -77,7 +93,10 @@ loop-i-preserved c =
     let is = subst (λ i. y ≡ get_or ys i y) at c.arrival_at-arrival.ensures in
     let from = coming_nth a (length rows) ys k y low is c.requires.arrivals in
     let e = extends_keeps a b v.extends in
-    let tail = c.variable-tail.ensures.same ∙ ap (λ xs. signal_at (signals_in b xs) m) (c.as_slice.ensures ∙ c.row_at-row.ensures) ∙ tail_keep a b m rest.width rows y.from e from.1 c.requires.before in
+    let tail =
+    c.variable-tail.ensures.same
+    ∙ ap (λ xs. signal_at (signals_in b xs) m) (c.as_slice.ensures ∙ c.row_at-row.ensures)
+    ∙ tail_keep a b m rest.width rows y.from e from.1 c.requires.before in
     record {
       means = record {
         there = c.in_ok-net.ensures.means.there;
@@ -86,7 +105,9 @@ loop-i-preserved c =
             ∙ ap (mux_signal (signal a y.comes) (tail_in a rows [] y.from m)) (v.means.same ∙ ap (λ i. brought_tail a rows m (drop i ys) rest) later)
             ∙ sym (brought_more a rows m ys k y rest low is);
       };
-      wide = ap (λ (g : Signal). g.width) (c.in_ok-net.ensures.means.same ∙ ap (λ g. mux_signal (signal b y.comes) g (signal b c.loop-i.net)) tail) ∙ (c.requires.before y.from from.1).wide;
+      wide =
+          ap (λ (g : Signal). g.width) (c.in_ok-net.ensures.means.same ∙ ap (λ g. mux_signal (signal b y.comes) g (signal b c.loop-i.net)) tail)
+          ∙ (c.requires.before y.from from.1).wide;
       extends = extends_trans a b d v.extends c.mux.ensures.extends;
       regs = c.mux.ensures.regs ∙ v.regs;
     }

@@ -19,7 +19,8 @@ stage_tail-requires-clause-fresh c =
     let a = c.args.b.now in
     let b = c.threads_into.new.b in
     let d = c.loop-m.b in
-    there_keeps a d c.args.fresh.now (keeps_trans a b d (extends_keeps a b c.threads_into.ensures.extends) (extends_keeps b d c.loop-m.invariant.extends)) c.requires.fresh.there
+    there_keeps a d c.args.fresh.now
+    (keeps_trans a b d (extends_keeps a b c.threads_into.ensures.extends) (extends_keeps b d c.loop-m.invariant.extends)) c.requires.fresh.there
 
 pub stage_tail-requires-clause-before : goal.stage_tail-requires-clause-before
 stage_tail-requires-clause-before c =
@@ -46,7 +47,8 @@ stage_tail-requires-clause-arrivals c =
     let list = c.in_ok-list.list in
     coming_keep b d (length rows) c.as_slice-arrivals.result.now (extends_keeps b d c.loop-m.invariant.extends)
     (subst (λ ys. AreComing b (length rows) ys) (sym c.as_slice-arrivals.ensures)
-    (arrivals_coming b p (line_views a x) (line_moves a x) k (length rows) (ways p k) list (each_way p k (λ j. j < length rows) (λ j l. omega (arith, l, n))) c.in_ok-list.ensures.arrivals))
+    (arrivals_coming b p (line_views a x) (line_moves a x) k (length rows)
+    (ways p k) list (each_way p k (λ j. j < length rows) (λ j l. omega (arith, l, n))) c.in_ok-list.ensures.arrivals))
 
 pub loop-m-preserved : goal.loop-m-preserved
 loop-m-preserved c =
@@ -68,7 +70,8 @@ loop-m-preserved c =
     let ab = extends_keeps a b c.threads_into.ensures.extends in
     let bd = extends_keeps b d v.extends in
     let low = subst (λ zs. AreComing b (length rows) zs) (sym c.as_slice-arrivals.ensures)
-    (arrivals_coming b p (line_views a x) (line_moves a x) k (length rows) (ways p k) c.in_ok-list.list (each_way p k (λ j. j < length rows) (λ j l. omega (arith, l, n))) c.in_ok-list.ensures.arrivals) in
+    (arrivals_coming b p (line_views a x) (line_moves a x) k (length rows)
+    (ways p k) c.in_ok-list.list (each_way p k (λ j. j < length rows) (λ j l. omega (arith, l, n))) c.in_ok-list.ensures.arrivals) in
     let w = (signal_at (signals_in a fresh) m).width in
     let have = tails_keep a b m w rows ab (c.requires.before m c.loop-m-test.true) in
     let here = tail_from b d f p fresh rows ys k m w (signal f new) bd (there_keeps a b fresh ab c.requires.fresh.there) low have c.in_ok-net.ensures.tail in
@@ -98,13 +101,15 @@ returns-clause-tails c = λ tails same.
     let h = c.loop-m.auto.m-end in
     let n = v.count in
     let long = c.requires.fresh.count in
-    let come = subst (λ zs. AreArrivals b p (line_views a x) (line_moves a x) k (ways p k) zs) (sym c.as_slice-arrivals.ensures) c.in_ok-list.ensures.arrivals in
+    let come =
+    subst (λ zs. AreArrivals b p (line_views a x) (line_moves a x) k (ways p k) zs) (sym c.as_slice-arrivals.ensures) c.in_ok-list.ensures.arrivals in
     record {
       there = v.there;
       count = omega (arith, t, h, n, long);
       each = λ m l.
           let low : m < length fresh = omega (arith, l, n, h) in
-          stage_tail_is a b d x fresh rows ys k m (signal_at (signals_in a fresh) m).width tails (signal_at (signals_in d c.loop-m.nets) m) (extends_keeps a b c.threads_into.ensures.extends) c.requires.fresh low (c.requires.before m low) c.requires.count come
+          stage_tail_is a b d x fresh rows ys k m (signal_at (signals_in a fresh) m).width tails (signal_at (signals_in d c.loop-m.nets) m)
+          (extends_keeps a b c.threads_into.ensures.extends) c.requires.fresh low (c.requires.before m low) c.requires.count come
           (λ j q. same j m q) (v.tails m (omega (arith, l, n)));
     }
 

@@ -17,7 +17,9 @@ use Rattle.pdl_pipe_tails.proofs.ReservedTickets.{reserves_of, stages_more}
 use Rattle.pdl_pipe_tails.proofs.reserved.after_all.Goals as goal
 
 pub variable-moves-requires-clause-there : goal.variable-moves-requires-clause-there
-variable-moves-requires-clause-there c = bits_there c.loop-k.b c.args.line.now.moves.now (line_keep c.args.b.now c.loop-k.b c.args.line.now (extends_keeps c.args.b.now c.loop-k.b c.loop-k.invariant.extends) c.requires.line).moves
+variable-moves-requires-clause-there c =
+    bits_there c.loop-k.b c.args.line.now.moves.now
+    (line_keep c.args.b.now c.loop-k.b c.args.line.now (extends_keeps c.args.b.now c.loop-k.b c.loop-k.invariant.extends) c.requires.line).moves
 
 pub after_stage-requires-clause-reserves : goal.after_stage-requires-clause-reserves
 after_stage-requires-clause-reserves c =
@@ -36,8 +38,10 @@ after_stage-requires-clause-moves c =
     let x = c.args.line.now in
     let t = c.loop-k-test.true in
     let m = c.requires.line.moves_count in
-    let line = line_keep a b x (extends_keeps a b c.loop-k.invariant.extends) c.requires.line in
-    (c.variable-moves.ensures.there, ap (λ (g : Signal). g.width) c.variable-moves.ensures.same ∙ bit_one b x.moves.now c.loop-k.k (omega (arith, t, m)) line.moves)
+    let line = line_keep a b x (extends_keeps a b c.loop-k.invariant.extends) c.requires.line in (
+      c.variable-moves.ensures.there,
+      ap (λ (g : Signal). g.width) c.variable-moves.ensures.same ∙ bit_one b x.moves.now c.loop-k.k (omega (arith, t, m)) line.moves,
+    )
 
 pub loop-k-preserved : goal.loop-k-preserved
 loop-k-preserved c =
@@ -54,10 +58,14 @@ loop-k-preserved c =
     let is = sym c.stage_of-s.ensures in
     let e = extends_keeps a b v.extends in
     let moved = c.variable-moves.ensures.same ∙ moves_same a b x e c.requires.line k in
-    let reserved : map (reservation_in b) s.end.reserves ≡ (line_views a x k).ended.reserves = ap (λ (u : View). u.ended.reserves) (sym (view_at b ss k s low is)) ∙ ap (λ (w : Walk). w.reserves) (ended_same a b x e c.requires.line k low) in
+    let reserved : map (reservation_in b) s.end.reserves ≡ (line_views a x k).ended.reserves =
+    ap (λ (u : View). u.ended.reserves) (sym (view_at b ss k s low is)) ∙ ap (λ (w : Walk). w.reserves) (ended_same a b x e c.requires.line k low) in
     let first = signal b c.loop-k.net in
     let last = signal d c.in_ok-net.net in
-    let by_list = subst (λ (rs : List ReserveNet). IsAfter first last (reserves_to m (signal b c.variable-moves.result) (map (reservation_in b) rs))) c.as_slice-in-loop-k.ensures c.in_ok-net.ensures.after in
+    let by_list =
+    subst
+    (λ (rs : List ReserveNet). IsAfter first last
+    (reserves_to m (signal b c.variable-moves.result) (map (reservation_in b) rs))) c.as_slice-in-loop-k.ensures c.in_ok-net.ensures.after in
     let by_view = subst (λ (rs : List Reservation). IsAfter first last (reserves_to m (signal b c.variable-moves.result) rs)) reserved by_list in
     let now = subst (λ f. IsAfter first last (reserves_to m f (line_views a x k).ended.reserves)) moved by_view in
     record {

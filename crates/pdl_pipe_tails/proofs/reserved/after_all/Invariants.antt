@@ -11,7 +11,8 @@ use Rattle.pdl_pipe_tails.proofs.reserved.after_all.Given as goal
 abbrev pub invariant-loop-k : goal.invariant-loop-k
 invariant-loop-k l = record {
   there : IsThere l.b l.net;
-  after : IsAfter (signal_at (signals_in l.fn.b l.line.shared.now.next) l.mem) (signal l.b l.net) (all_reserves l.mem (line_views l.fn.b l.line) (line_moves l.fn.b l.line) l.k 0);
+  after : IsAfter (signal_at (signals_in l.fn.b l.line.shared.now.next) l.mem) (signal l.b l.net)
+      (all_reserves l.mem (line_views l.fn.b l.line) (line_moves l.fn.b l.line) l.k 0);
   extends : Extends l.fn.b l.b;
   regs : l.b.regs ≡ l.fn.b.regs;
 }

@@ -17,4 +17,5 @@ returns-clause-after c =
     let a = c.args.b.now in
     let r = reservation_in a c.args.reserve.now in
     let made = c.in_ok-net.ensures.means.same ∙ ap₂ one_more c.in_ok-on.ensures.means.same (c.both.ensures.extends.kept c.args.ticket c.requires.ticket) in
-    subst (λ g. IsAfter (signal a c.args.ticket) g (reserves_to c.args.mem (signal a c.args.moves) (r ∷ []))) (sym made) (after_own c.args.mem (signal a c.args.moves) (signal a c.args.ticket) r c.if-reserve-mem.false)
+    subst (λ g. IsAfter (signal a c.args.ticket) g (reserves_to c.args.mem (signal a c.args.moves) (r ∷ []))) (sym made)
+    (after_own c.args.mem (signal a c.args.moves) (signal a c.args.ticket) r c.if-reserve-mem.false)

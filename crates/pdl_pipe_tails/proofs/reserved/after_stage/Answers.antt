@@ -25,7 +25,8 @@ after_reserve-requires-clause-bits c = bits_kept c.args.b.now c.loop-r.b c.args.
 pub after_reserve-requires-clause-reserve : goal.after_reserve-requires-clause-reserve
 after_reserve-requires-clause-reserve c =
     let k = extends_keeps c.args.b.now c.loop-r.b c.loop-r.invariant.extends in
-    (each_get (IsReserve c.loop-r.b) c.args.reserves.now c.loop-r.r-index no_reserve c.loop-r-test.true (reserves_keep c.args.b.now c.loop-r.b c.args.reserves.now k c.requires.reserves)).0
+    (each_get (IsReserve c.loop-r.b) c.args.reserves.now c.loop-r.r-index no_reserve c.loop-r-test.true
+    (reserves_keep c.args.b.now c.loop-r.b c.args.reserves.now k c.requires.reserves)).0
 
 pub after_reserve-requires-clause-moves : goal.after_reserve-requires-clause-moves
 after_reserve-requires-clause-moves c =
@@ -40,7 +41,9 @@ loop-r-preserved c =
     let v = c.loop-r.invariant in
     record {
       there = c.in_ok-net.ensures.there;
-      after = stage_more a b d c.args.mem c.args.moves (signal a c.args.ticket) (signal b c.loop-r.net) (signal d c.in_ok-net.net) c.args.reserves.now c.loop-r.r-index no_reserve
+      after =
+          stage_more a b d c.args.mem c.args.moves (signal a c.args.ticket) (signal b c.loop-r.net)
+          (signal d c.in_ok-net.net) c.args.reserves.now c.loop-r.r-index no_reserve
           (extends_keeps a b v.extends) c.requires.moves.0 c.requires.reserves c.loop-r-test.true v.after c.in_ok-net.ensures.after;
       extends = extends_trans a b d v.extends c.after_reserve.ensures.extends;
       regs = c.after_reserve.ensures.regs ∙ v.regs;
@@ -50,5 +53,7 @@ pub returns-clause-after : goal.returns-clause-after
 returns-clause-after c =
     let a = c.args.b.now in
     let rs = c.args.reserves.now in
-    subst (λ (xs : Rattle.std.proofs.Common.List ReserveNet). IsAfter (signal a c.args.ticket) (signal c.loop-r.b c.loop-r.net) (reserves_to c.args.mem (signal a c.args.moves) (map (reservation_in a) xs)))
+    subst
+    (λ (xs : Rattle.std.proofs.Common.List ReserveNet). IsAfter (signal a c.args.ticket)
+    (signal c.loop-r.b c.loop-r.net) (reserves_to c.args.mem (signal a c.args.moves) (map (reservation_in a) xs)))
     (take_all c.loop-r.r-index rs c.loop-r-test.false) c.loop-r.invariant.after

@@ -10,7 +10,8 @@ use Rattle.pdl_pipe_tails.proofs.reserved.after_stage.Given as goal
 abbrev pub invariant-loop-r : goal.invariant-loop-r
 invariant-loop-r l = record {
   there : IsThere l.b l.net;
-  after : IsAfter (signal l.fn.b l.fn.ticket) (signal l.b l.net) (reserves_to l.mem (signal l.fn.b l.moves) (map (reservation_in l.fn.b) (take l.r-index l.reserves)));
+  after : IsAfter (signal l.fn.b l.fn.ticket) (signal l.b l.net)
+      (reserves_to l.mem (signal l.fn.b l.moves) (map (reservation_in l.fn.b) (take l.r-index l.reserves)));
   extends : Extends l.fn.b l.b;
   regs : l.b.regs ≡ l.fn.b.regs;
 }

@@ -12,7 +12,8 @@ use Rattle.pdl_pipe_tails.proofs.Rows.{after_from}
 use Rattle.pdl_pipe_tails.proofs.reserved.next_after.Goals as goal
 
 pub after_all-requires-clause-line : goal.after_all-requires-clause-line
-after_all-requires-clause-line c = line_keep c.args.b.now c.loop-m.b c.args.line.now (extends_keeps c.args.b.now c.loop-m.b c.loop-m.invariant.extends) c.requires.line
+after_all-requires-clause-line c =
+    line_keep c.args.b.now c.loop-m.b c.args.line.now (extends_keeps c.args.b.now c.loop-m.b c.loop-m.invariant.extends) c.requires.line
 
 pub loop-m-preserved : goal.loop-m-preserved
 loop-m-preserved c =
@@ -27,14 +28,16 @@ loop-m-preserved c =
     let bd = extends_keeps b d c.after_all.ensures.extends in
     let pushed = c.in_ok-push.ensures.ok in
     let n = v.count in
-    let old : (i : ℕ) → i < length xs → signal_at (signals_in d (xs ++ new ∷ [])) i ≡ signal_at (signals_in b xs) i = λ i l. signal_old d xs new i l ∙ ap (λ fs. signal_at fs i) (signals_keep b d xs bd v.there) in
+    let old : (i : ℕ) → i < length xs → signal_at (signals_in d (xs ++ new ∷ [])) i ≡ signal_at (signals_in b xs) i =
+    λ i l. signal_old d xs new i l ∙ ap (λ fs. signal_at fs i) (signals_keep b d xs bd v.there) in
     record {
       there = subst (NetsThere d) (sym pushed) (net_more d xs new (there_keeps b d xs bd v.there) c.in_ok-net.ensures.there);
       count = ap length pushed ∙ length-append xs (new ∷ []) ∙ ap (λ i. i + 1) n;
       after = subst (λ ys. (i : ℕ) → i < m + 1 → IsAfterAll a x i (signal_at (signals_in d ys) i)) (sym pushed)
           (up_to (λ i. IsAfterAll a x i (signal_at (signals_in d (xs ++ new ∷ [])) i)) m
           (λ i l. subst (IsAfterAll a x i) (sym (old i (omega (arith, l, n)))) (v.after i l))
-          (subst (IsAfterAll a x m) (sym (signal_new d xs new m (sym n))) (after_from a b x m (signal d new) (extends_keeps a b v.extends) c.requires.line c.in_ok-net.ensures.after)));
+          (subst (IsAfterAll a x m) (sym (signal_new d xs new m (sym n)))
+          (after_from a b x m (signal d new) (extends_keeps a b v.extends) c.requires.line c.in_ok-net.ensures.after)));
       extends = extends_trans a b d v.extends c.after_all.ensures.extends;
       regs = c.after_all.ensures.regs ∙ v.regs;
     }

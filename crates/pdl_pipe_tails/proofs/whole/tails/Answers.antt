@@ -16,7 +16,8 @@ stage_tails-requires-clause-line c =
     let a = c.args.b.now in
     let b = c.next_after.new.b in
     let d = c.loop-k.b in
-    line_keep a d c.args.line.now (keeps_trans a b d (extends_keeps a b c.next_after.ensures.extends) (extends_keeps b d c.loop-k.invariant.extends)) c.requires.line
+    line_keep a d c.args.line.now
+    (keeps_trans a b d (extends_keeps a b c.next_after.ensures.extends) (extends_keeps b d c.loop-k.invariant.extends)) c.requires.line
 
 pub stage_tails-requires-clause-fresh : goal.stage_tails-requires-clause-fresh
 stage_tails-requires-clause-fresh c =
@@ -25,7 +26,8 @@ stage_tails-requires-clause-fresh c =
     let d = c.loop-k.b in
     let bd = extends_keeps b d c.loop-k.invariant.extends in
     let ad = keeps_trans a b d (extends_keeps a b c.next_after.ensures.extends) bd in
-    subst (AreAfterAll d d c.args.line.now) (sym c.as_slice-in-loop-k.ensures) (all_now a b d c.args.line.now c.in_ok-fresh.fresh ad bd c.requires.line c.in_ok-fresh.ensures.after)
+    subst (AreAfterAll d d c.args.line.now) (sym c.as_slice-in-loop-k.ensures)
+    (all_now a b d c.args.line.now c.in_ok-fresh.fresh ad bd c.requires.line c.in_ok-fresh.ensures.after)
 
 pub stage_tails-requires-clause-before : goal.stage_tails-requires-clause-before
 stage_tails-requires-clause-before c =
@@ -37,7 +39,8 @@ stage_tails-requires-clause-before c =
     let fresh = c.as_slice-in-loop-k.result.now in
     let bd = extends_keeps b d v.extends in
     let ad = keeps_trans a b d (extends_keeps a b c.next_after.ensures.extends) bd in
-    let now = subst (AreAfterAll d d x) (sym c.as_slice-in-loop-k.ensures) (all_now a b d x c.in_ok-fresh.fresh ad bd c.requires.line c.in_ok-fresh.ensures.after) in
+    let now =
+    subst (AreAfterAll d d x) (sym c.as_slice-in-loop-k.ensures) (all_now a b d x c.in_ok-fresh.fresh ad bd c.requires.line c.in_ok-fresh.ensures.after) in
     subst (λ rows. (m : ℕ) → m < length fresh → HaveTails d m (signal_at (signals_in d fresh) m).width rows) (sym c.as_slice-in-loop-k-2.ensures.value)
     (λ m l. have_rows a d x fresh c.loop-k.before.items c.loop-k.k m v.count ad c.requires.line now l v.rows)
 
@@ -56,7 +59,8 @@ loop-k-preserved c =
     let grown = c.stage_tails.ensures.extends in
     let ad = keeps_trans a b d (extends_keeps a b c.next_after.ensures.extends) (extends_keeps b d v.extends) in
     let agree : (j m : ℕ) → j < k → tail_in f longer [] j m ≡ tail_in d c.as_slice-in-loop-k-2.result.now [] j m =
-    λ j m l. tails_same a d f x rows longer [] k (extends_keeps d f grown) v.rows (same_front rows row k v.count) j m l ∙ ap (λ rs. tail_in d rs [] j m) (sym c.as_slice-in-loop-k-2.ensures.value) in
+    λ j m l. tails_same a d f x rows longer [] k (extends_keeps d f grown) v.rows (same_front rows row k v.count) j m l
+    ∙ ap (λ rs. tail_in d rs [] j m) (sym c.as_slice-in-loop-k-2.ensures.value) in
     let here = stage_from a d f x (tail_in f longer []) k row ad c.requires.line (c.in_ok-row.ensures.tails (tail_in f longer []) agree) in
     let pushed = c.in_ok-push.ensures.items in
     record {
@@ -70,7 +74,8 @@ stage_tails-requires-2-clause-line c =
     let a = c.args.b.now in
     let b = c.next_after.new.b in
     let d = c.loop-k.b in
-    line_keep a d c.args.line.now (keeps_trans a b d (extends_keeps a b c.next_after.ensures.extends) (extends_keeps b d c.loop-k.invariant.extends)) c.requires.line
+    line_keep a d c.args.line.now
+    (keeps_trans a b d (extends_keeps a b c.next_after.ensures.extends) (extends_keeps b d c.loop-k.invariant.extends)) c.requires.line
 
 pub stage_tails-requires-2-clause-fresh : goal.stage_tails-requires-2-clause-fresh
 stage_tails-requires-2-clause-fresh c =
@@ -79,7 +84,8 @@ stage_tails-requires-2-clause-fresh c =
     let d = c.loop-k.b in
     let bd = extends_keeps b d c.loop-k.invariant.extends in
     let ad = keeps_trans a b d (extends_keeps a b c.next_after.ensures.extends) bd in
-    subst (AreAfterAll d d c.args.line.now) (sym c.as_slice-2.ensures) (all_now a b d c.args.line.now c.in_ok-fresh.fresh ad bd c.requires.line c.in_ok-fresh.ensures.after)
+    subst (AreAfterAll d d c.args.line.now) (sym c.as_slice-2.ensures)
+    (all_now a b d c.args.line.now c.in_ok-fresh.fresh ad bd c.requires.line c.in_ok-fresh.ensures.after)
 
 pub stage_tails-requires-2-clause-before : goal.stage_tails-requires-2-clause-before
 stage_tails-requires-2-clause-before c =
@@ -114,7 +120,8 @@ returns-clause-cut c =
     let grown = c.stage_tails-2.ensures.extends in
     let ad = keeps_trans a b d (extends_keeps a b c.next_after.ensures.extends) (extends_keeps b d v.extends) in
     let agree : (j m : ℕ) → j < last → tails_in f t j m ≡ tail_in d c.as_slice-3.result.now [] j m =
-    λ j m l. tails_same a d f x rows rows t.cut last (extends_keeps d f grown) first (same_before rows t.cut last count) j m l ∙ ap (λ rs. tail_in d rs [] j m) (sym c.as_slice-3.ensures.value) in
+    λ j m l. tails_same a d f x rows rows t.cut last (extends_keeps d f grown) first (same_before rows t.cut last count) j m l
+    ∙ ap (λ rs. tail_in d rs [] j m) (sym c.as_slice-3.ensures.value) in
     let here = stage_from a d f x (tails_in f t) last t.cut ad c.requires.line (c.in_ok-cut-2.ensures.tails (tails_in f t) agree) in
     subst (HasCut a f x t) c.in-Some.ensures (rows_all a d f x t last count grown first here)
 
@@ -130,4 +137,5 @@ returns-clause-row c =
     let cut = c.in_ok-cut-2.cut in
     let ad = keeps_trans a b d (extends_keeps a b c.next_after.ensures.extends) (extends_keeps b d v.extends) in
     let tails = tail_in d c.as_slice-3.result.now [] in
-    row_is a f x tails last cut (stage_from a d f x tails last cut ad c.requires.line (c.in_ok-cut-2.ensures.tails tails (λ j m l. Rattle.std.proofs.Common.refl)))
+    row_is a f x tails last cut
+    (stage_from a d f x tails last cut ad c.requires.line (c.in_ok-cut-2.ensures.tails tails (λ j m l. Rattle.std.proofs.Common.refl)))

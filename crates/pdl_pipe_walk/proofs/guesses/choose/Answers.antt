@@ -44,13 +44,17 @@ loop-i-preserved c =
     let x_is = c.variable-x.ensures.same ∙ ap (λ hs. signal_at hs i) (nets_kept a b xs e c.requires.xs) in
     let y_is = c.variable-y.ensures.same ∙ ap (λ hs. signal_at hs i) (nets_kept a b ys e c.requires.ys) in
     let z_is : signal d z ≡ mux_signal (signal a c.args.on) (signal_at fs i) (signal_at gs i) =
-    means.same ∙ ap (λ o. mux_signal o (signal b c.variable-x.result) (signal b c.variable-y.result)) (e.kept c.args.on c.requires.on) ∙ ap₂ (mux_signal (signal a c.args.on)) x_is y_is in
+    means.same
+    ∙ ap (λ o. mux_signal o (signal b c.variable-x.result) (signal b c.variable-y.result)) (e.kept c.args.on c.requires.on)
+    ∙ ap₂ (mux_signal (signal a c.args.on)) x_is y_is in
     let low = c.loop-i-test.true in
     let n = length_signals a xs in
     record {
       there = subst (NetsThere d) (sym pushed) (net_more d nets z (nets_there b d nets k c.loop-i.invariant.there) means.there);
       means = ap (signals_in d) pushed ∙ map-append (signal d) nets (z ∷ [])
-          ∙ choices_more (signal a c.args.on) fs gs i (signals_in d nets) (signal d z) (omega (arith, low, n)) (same_length fs gs c.requires.widths) (nets_kept b d nets k c.loop-i.invariant.there ∙ c.loop-i.invariant.means) z_is;
+          ∙ choices_more (signal a c.args.on) fs gs i (signals_in d nets) (signal d z) (omega (arith, low, n))
+          (same_length fs gs c.requires.widths)
+          (nets_kept b d nets k c.loop-i.invariant.there ∙ c.loop-i.invariant.means) z_is;
       extends = extends_trans a b d e k;
     }
 

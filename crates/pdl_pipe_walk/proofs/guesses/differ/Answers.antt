@@ -46,7 +46,9 @@ loop-i-preserved c =
     record {
       found = means.there;
       one = ap (λ (f : Signal). f.width) z_is;
-      means = differ_more fs gs i found (signal d c.in_ok-found.found) (differ_signal fs gs) (omega (arith, low, n)) (same_length fs gs c.requires.widths) z_is c.loop-i.invariant.means;
+      means =
+          differ_more fs gs i found (signal d c.in_ok-found.found) (differ_signal fs gs) (omega (arith, low, n))
+          (same_length fs gs c.requires.widths) z_is c.loop-i.invariant.means;
       extends = extends_trans a b d e k;
     }
 
@@ -58,5 +60,9 @@ returns-clause-means c =
     let gs = signals_in a c.args.ys.now in
     let n = length_signals a c.args.xs.now in
     let out = c.loop-i-test.false in
-    let made : Means b c.loop-i.found (differ_signal fs gs) = record { there = c.loop-i.invariant.found; same = differ_all fs gs c.loop-i.i (signal b c.loop-i.found) (differ_signal fs gs) (omega (arith, out, n)) c.loop-i.invariant.means } in
+    let made : Means b c.loop-i.found (differ_signal fs gs) =
+    record {
+      there = c.loop-i.invariant.found;
+      same = differ_all fs gs c.loop-i.i (signal b c.loop-i.found) (differ_signal fs gs) (omega (arith, out, n)) c.loop-i.invariant.means;
+    } in
     made

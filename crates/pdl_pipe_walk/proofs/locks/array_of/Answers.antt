@@ -5,4 +5,6 @@ use Rattle.pdl_pipe_walk.proofs.Arrays.{count_same}
 use Rattle.pdl_pipe_walk.proofs.locks.array_of.Goals as goal
 
 pub returns : goal.returns
-returns c = c.count_at_once.ensures ∙ count_same c.mems.result.now c.args.m ∙ ap (λ (ms : List Mem). count_by (λ (x : Mem). if x.delayed then false else true) (take c.args.m ms)) c.mems.ensures.mems
+returns c =
+    c.count_at_once.ensures ∙ count_same c.mems.result.now c.args.m
+    ∙ ap (λ (ms : List Mem). count_by (λ (x : Mem). if x.delayed then false else true) (take c.args.m ms)) c.mems.ensures.mems

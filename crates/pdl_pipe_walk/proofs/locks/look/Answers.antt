@@ -17,7 +17,10 @@ emit_look-requires-clause-addr_width g c =
 pub returns-clause-has_value : goal.returns-clause-has_value
 returns-clause-has_value g c =
     let x = c.requires.locks.locks c.args.m c.lock_of-x.result.now c.requires.low c.lock_of-x.ensures in
-    IfOk-weaker c.emit_look.result _ _ (λ l h. h ∙ ap is_some x.array ∙ some_array (mem_at (form c.args.setting.now.pipe.now).pipe c.args.m) (comb_place (form c.args.setting.now.pipe.now).pipe c.args.m)) c.emit_look.ensures.has_value
+    IfOk-weaker c.emit_look.result _ _
+    (λ l h. h ∙ ap is_some x.array
+    ∙ some_array (mem_at (form c.args.setting.now.pipe.now).pipe c.args.m)
+    (comb_place (form c.args.setting.now.pipe.now).pipe c.args.m)) c.emit_look.ensures.has_value
 
 pub returns-clause-value : goal.returns-clause-value
 returns-clause-value g c =

@@ -14,6 +14,11 @@ returns-else-has_lock-clause-word g c =
     let a = c.args.b.now in
     let p = (form c.args.setting.now.pipe.now).pipe in
     IfOk-weaker c.read.result _ _
-    (λ x h. plain_word p (locks_in (members g.L.LockModule) (form c.args.setting.now.pipe.now).pipe a c.args.setting.now.locks.now) c.read.new.self x c.args.m (signal a c.args.addr) (signal a c.args.ticket) (array_width a (comb_place p c.args.m))
-    (sym (c.requires.locks.locked c.args.m c.requires.low) ∙ sym c.has_lock.ensures ∙ c.if-has_lock.false) (c.requires.locks.width c.args.m c.requires.low c.requires.at_once) (subst (λ (n : ℕ). Means c.read.new.self x (read_signal (array_width a n) n (signal a c.args.addr))) c.array_of-array.ensures h))
+    (λ x h. plain_word p
+    (locks_in (members g.L.LockModule) (form c.args.setting.now.pipe.now).pipe a c.args.setting.now.locks.now) c.read.new.self x c.args.m
+    (signal a c.args.addr)
+    (signal a c.args.ticket) (array_width a (comb_place p c.args.m))
+    (sym (c.requires.locks.locked c.args.m c.requires.low) ∙ sym c.has_lock.ensures ∙ c.if-has_lock.false)
+    (c.requires.locks.width c.args.m c.requires.low c.requires.at_once)
+    (subst (λ (n : ℕ). Means c.read.new.self x (read_signal (array_width a n) n (signal a c.args.addr))) c.array_of-array.ensures h))
     c.read.ensures.means

@@ -20,7 +20,8 @@ returns-clause-placed c =
     let q = c.requires in
     let l : PortLayout = record { from = c.reg_count.result; places = c.args.next_stages } in
     let r : PortRegs = record { regs = c.in_ok-regs.regs; reply = c.args.reply; word = c.args.word; answers = c.in_ok-answers.answers } in
-    let listed : AreListed l r = record { count = c.in_ok-regs.ensures.count; listed = c.in_ok-regs.ensures.listed; answers = c.in_ok-answers.ensures.answers.count } in
+    let listed : AreListed l r =
+    record { count = c.in_ok-regs.ensures.count; listed = c.in_ok-regs.ensures.listed; answers = c.in_ok-answers.ensures.answers.count } in
     let y = c.in_ok-answers.ensures.extends in
     let x : Extends a d = extends_trans a b d c.in_ok-emit_registers.ensures.extends y in
     are_placed d l r listed c.in_ok-emit_registers.ensures.small (places_kept b d l l.places c.in_ok-emit_registers.ensures.places y)
@@ -33,7 +34,8 @@ returns-clause-fragment c =
     let d = c.emit_answers.new.b in
     let l : PortLayout = record { from = c.reg_count.result; places = c.args.next_stages } in
     let r : PortRegs = record { regs = c.in_ok-regs.regs; reply = c.args.reply; word = c.args.word; answers = c.in_ok-answers.answers } in
-    let listed : AreListed l r = record { count = c.in_ok-regs.ensures.count; listed = c.in_ok-regs.ensures.listed; answers = c.in_ok-answers.ensures.answers.count } in
+    let listed : AreListed l r =
+    record { count = c.in_ok-regs.ensures.count; listed = c.in_ok-regs.ensures.listed; answers = c.in_ok-answers.ensures.answers.count } in
     is_fragment a b d l r listed c.reg_count.ensures c.in_ok-emit_registers.ensures.count c.in_ok-answers.ensures.extends
 
 pub returns-clause-answers : goal.returns-clause-answers
@@ -44,7 +46,8 @@ returns-clause-answers c =
     let q = c.requires in
     let l : PortLayout = record { from = c.reg_count.result; places = c.args.next_stages } in
     let r : PortRegs = record { regs = c.in_ok-regs.regs; reply = c.args.reply; word = c.args.word; answers = c.in_ok-answers.answers } in
-    let listed : AreListed l r = record { count = c.in_ok-regs.ensures.count; listed = c.in_ok-regs.ensures.listed; answers = c.in_ok-answers.ensures.answers.count } in
+    let listed : AreListed l r =
+    record { count = c.in_ok-regs.ensures.count; listed = c.in_ok-regs.ensures.listed; answers = c.in_ok-answers.ensures.answers.count } in
     let x = c.in_ok-emit_registers.ensures.extends in
     let y = c.in_ok-answers.ensures.extends in
     let P : PortLayout → Type 0 = λ g. AnswerLaw (Stands g) c.args.next_stages (signal d r.reply) (signal d r.word) (answer_signals d r) in

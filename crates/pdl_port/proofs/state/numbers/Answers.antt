@@ -7,5 +7,7 @@ loop-k-preserved c =
     let e = c.in_ok-push.ensures.ok in
     record {
       count = ap length e ∙ length-append c.loop-k.found ((c.args.from + c.loop-k.k) ∷ []) ∙ omega (arith, c.loop-k.invariant.count);
-      listed = λ k lt. ap (λ (xs : List ℕ). get_or xs k 0) e ∙ numbers_more c.loop-k.found c.args.from c.loop-k.k c.loop-k.invariant.count c.loop-k.invariant.listed k lt;
+      listed =
+          λ k lt. ap (λ (xs : List ℕ). get_or xs k 0) e
+          ∙ numbers_more c.loop-k.found c.args.from c.loop-k.k c.loop-k.invariant.count c.loop-k.invariant.listed k lt;
     }

@@ -25,6 +25,7 @@ returns c =
         orphan = z.nexts l.from there (inl (omega arith)) ∙ c.next.ensures.set ∙ c.in_ok-orphan.ensures.means.same;
       };
       extends = but_trans (own_all l) a m d
-          (but_trans (own_all l) a b m (but_extends (own_all l) a b x) (but_wider (one_reg l.from) (own_all l) b m (λ r u. ⊎_elim (λ v. inl v) (λ v. inr (omega arith)) u) (λ q u. inr (omega arith)) y))
+          (but_trans (own_all l) a b m (but_extends (own_all l) a b x)
+          (but_wider (one_reg l.from) (own_all l) b m (λ r u. ⊎_elim (λ v. inl v) (λ v. inr (omega arith)) u) (λ q u. inr (omega arith)) y))
           (but_wider (own_places l) (own_all l) m d (λ r u. ⊎_elim (λ v. inl (omega arith)) (λ v. inr (omega arith)) u) (λ q u. inr (omega arith)) z);
     }

@@ -23,6 +23,7 @@ loop-k-preserved c =
       extends = extends_trans a b d i.extends x;
       one = means_kept b d _ _ x i.one;
       zero = means_kept b d _ _ x i.zero;
-      orphan = orphan_net a b m n d c.args.l c.args.r.now c.args.p.now c.loop-k.k _ _ c.loop-k.orphan _ _ c.net.result _ c.requires.places c.requires.nets c.loop-k-test.true i.extends y z i.one i.zero i.orphan c.net.ensures c.in_ok-open.ensures.means left c.in_ok-orphan-2.ensures.means;
+      orphan =
+          orphan_net a b m n d c.args.l c.args.r.now c.args.p.now c.loop-k.k _ _ c.loop-k.orphan _ _ c.net.result _ c.requires.places c.requires.nets c.loop-k-test.true i.extends y z i.one i.zero i.orphan c.net.ensures c.in_ok-open.ensures.means left c.in_ok-orphan-2.ensures.means;
       wide = ap (λ (g : Signal). g.width) c.in_ok-orphan-2.ensures.means.same ∙ ap (λ (g : Signal). g.width) left.same ∙ ap (λ (g : Signal). g.width) one.same;
     }

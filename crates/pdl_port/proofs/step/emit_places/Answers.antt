@@ -23,6 +23,11 @@ loop-k-preserved c =
     let h = c.loop-k-test.true in
     record {
       extends = but_trans (own_places l) a m d (but_trans (own_places l) a b m i.extends (but_extends (own_places l) b m x.extends))
-          (but_wider (one_reg (owns_at l k)) (own_places l) m d (λ r u. ⊎_elim (λ v. inl (omega arith)) (λ v. inr (omega arith)) u) (λ q u. inr (omega arith)) e.extends);
-      next = places_next b m d l n _ k h (places_kept_but (own_places l) a b l n c.requires.places i.extends) i.next x.extends e.extends (e.set ∙ x.means.same ∙ owns_same l n _ _ k s h);
+          (but_wider (one_reg (owns_at l k))
+          (own_places l) m d (λ r u. ⊎_elim (λ v. inl (omega arith)) (λ v. inr (omega arith)) u)
+          (λ q u. inr (omega arith)) e.extends);
+      next =
+          places_next b m d l n _ k h
+          (places_kept_but (own_places l) a b l n c.requires.places i.extends) i.next x.extends e.extends
+          (e.set ∙ x.means.same ∙ owns_same l n _ _ k s h);
     }

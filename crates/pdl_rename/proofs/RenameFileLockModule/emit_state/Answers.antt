@@ -24,7 +24,8 @@ returns-clause-placed c =
     let r = c.in_ok-regs.regs in
     let g = c.in_ok-regs.ensures in
     let i : IsAnswered l r = record { regs = g.regs; slots = g.slots; width = g.width; bits = g.bits; array = g.array } in
-    is_rename q c.args.mem.now _ l r d e.layout e.renaming i (slots_kept b d l.slots e.slots g.extends) (map_kept b d l l.depth e.map g.extends) (store_kept b d l e.store.has g.extends)
+    is_rename q c.args.mem.now _ l r d e.layout e.renaming i (slots_kept b d l.slots e.slots g.extends)
+    (map_kept b d l l.depth e.map g.extends) (store_kept b d l e.store.has g.extends)
 
 pub returns-clause-fragment : goal.returns-clause-fragment
 returns-clause-fragment c =
@@ -98,7 +99,9 @@ returns-clause-start c =
     let same = layout_is q c.args.mem.now _ l r e.layout e.renaming i in
     let R : Layout → Type 0 = λ y. AreReset d y.slots y.depth in
     let M : Layout → Type 0 = λ y. IsMapReset d y y.depth in
-    start_law q d r (is_rename q c.args.mem.now _ l r d e.layout e.renaming i (slots_kept b d l.slots e.slots g.extends) (map_kept b d l l.depth e.map g.extends) (store_kept b d l e.store.has g.extends))
+    start_law q d r
+    (is_rename q c.args.mem.now _ l r d e.layout e.renaming i (slots_kept b d l.slots e.slots g.extends)
+    (map_kept b d l l.depth e.map g.extends) (store_kept b d l e.store.has g.extends))
     (subst R (sym same) (slots.reset_kept b d l.slots l.depth e.slots e.slots_reset g.extends))
     (subst M (sym same) (reset_kept b d l l.depth e.map e.map_reset g.extends))
 
@@ -112,7 +115,9 @@ returns-clause-places c =
     let r = c.in_ok-regs.regs in
     let g = c.in_ok-regs.ensures in
     let i : IsAnswered l r = record { regs = g.regs; slots = g.slots; width = g.width; bits = g.bits; array = g.array } in
-    places_law q d r (is_rename q c.args.mem.now _ l r d e.layout e.renaming i (slots_kept b d l.slots e.slots g.extends) (map_kept b d l l.depth e.map g.extends) (store_kept b d l e.store.has g.extends))
+    places_law q d r
+    (is_rename q c.args.mem.now _ l r d e.layout e.renaming i (slots_kept b d l.slots e.slots g.extends)
+    (map_kept b d l l.depth e.map g.extends) (store_kept b d l e.store.has g.extends))
 
 pub returns-clause-slots : goal.returns-clause-slots
 returns-clause-slots c =
@@ -124,7 +129,9 @@ returns-clause-slots c =
     let r = c.in_ok-regs.regs in
     let g = c.in_ok-regs.ensures in
     let i : IsAnswered l r = record { regs = g.regs; slots = g.slots; width = g.width; bits = g.bits; array = g.array } in
-    slots_law q d r (is_rename q c.args.mem.now _ l r d e.layout e.renaming i (slots_kept b d l.slots e.slots g.extends) (map_kept b d l l.depth e.map g.extends) (store_kept b d l e.store.has g.extends))
+    slots_law q d r
+    (is_rename q c.args.mem.now _ l r d e.layout e.renaming i (slots_kept b d l.slots e.slots g.extends)
+    (map_kept b d l l.depth e.map g.extends) (store_kept b d l e.store.has g.extends))
 
 pub returns-clause-room : goal.returns-clause-room
 returns-clause-room c =

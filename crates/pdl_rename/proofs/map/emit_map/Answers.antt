@@ -20,7 +20,8 @@ pub emit_word-requires-clause-map : goal.emit_word-requires-clause-map
 emit_word-requires-clause-map c = map_kept_but (own_map c.args.l) c.args.b.now c.loop-a.b c.args.l c.args.l.depth c.requires.map c.loop-a.invariant.extends
 
 pub emit_word-requires-clause-given : goal.emit_word-requires-clause-given
-emit_word-requires-clause-given c = ports_kept_but (own_map c.args.l) c.args.b.now c.loop-a.b c.args.l.slots c.args.p.now c.requires.given c.loop-a.invariant.extends
+emit_word-requires-clause-given c =
+    ports_kept_but (own_map c.args.l) c.args.b.now c.loop-a.b c.args.l.slots c.args.p.now c.requires.given c.loop-a.invariant.extends
 
 pub emit_word-requires-clause-oldest : goal.emit_word-requires-clause-oldest
 emit_word-requires-clause-oldest c =
@@ -45,5 +46,8 @@ loop-a-preserved c =
     let lt : k < l.depth = omega arith in
     record {
       extends = but_trans (own_map l) a b d x (reg_in_row l.map l.depth (map_at l k) b d (omega arith) (omega (arith, lt)) y);
-      next = map_more b d l (step_signals a p) k lt (map_kept_but (own_map l) a b l l.depth c.requires.map x) c.loop-a.invariant.next y (c.in_ok-emit_word.ensures.next ∙ ap (λ (g : StepSignals). next_map l g k) s);
+      next =
+          map_more b d l (step_signals a p) k lt
+          (map_kept_but (own_map l) a b l l.depth c.requires.map x) c.loop-a.invariant.next y
+          (c.in_ok-emit_word.ensures.next ∙ ap (λ (g : StepSignals). next_map l g k) s);
     }

@@ -25,6 +25,9 @@ returns-clause-next c =
     let x04 : Extends a b4 = extends_trans a b3 b4 x03 x4 in
     let x13 : Extends b1 b3 = extends_trans b1 b2 b3 x2 x3 in
     let x14 : Extends b1 b4 = extends_trans b1 b3 b4 x13 x4 in
-    let same : signal b3 c.in_ok-same.same ≡ _ = c.in_ok-same.ensures.means.same ∙ same_bin _ _ _ _ _ (later_is a b2 _ _ x02 h.addr2) c.in_ok-number.ensures.means.same in
-    let here : signal b4 c.in_ok-here.here ≡ _ = c.in_ok-here.ensures.means.same ∙ same_mux _ _ _ _ _ _ same (later_is a b3 _ _ x03 h.content2) (later_is b1 b3 _ _ x13 first) in
-    c.next.ensures.set ∙ c.in_ok-next.ensures.means.same ∙ same_mux _ _ _ _ _ _ (x04.kept p.release2 c.requires.given.ports.release2 ∙ sym (release2_is a p)) here (later_is b1 b4 _ _ x14 first)
+    let same : signal b3 c.in_ok-same.same ≡ _ =
+    c.in_ok-same.ensures.means.same ∙ same_bin _ _ _ _ _ (later_is a b2 _ _ x02 h.addr2) c.in_ok-number.ensures.means.same in
+    let here : signal b4 c.in_ok-here.here ≡ _ =
+    c.in_ok-here.ensures.means.same ∙ same_mux _ _ _ _ _ _ same (later_is a b3 _ _ x03 h.content2) (later_is b1 b3 _ _ x13 first) in
+    c.next.ensures.set ∙ c.in_ok-next.ensures.means.same
+    ∙ same_mux _ _ _ _ _ _ (x04.kept p.release2 c.requires.given.ports.release2 ∙ sym (release2_is a p)) here (later_is b1 b4 _ _ x14 first)

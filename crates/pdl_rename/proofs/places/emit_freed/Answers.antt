@@ -63,7 +63,8 @@ returns-clause-freed c =
     (x03.kept p.release2 h.ports.release2 ∙ sym (release2_is a p)) (ap (slot_of l.slots) (later_is b1 b3 _ _ x13 c.in_ok-next.ensures.means)) refl in
     let place : signal b3 c.in_ok-place.place ≡ freed_place l f = c.in_ok-place.ensures.means.same ∙ ap (mapped_place l) (later_is a b2 _ _ x02 o.addr) in
     let s : step_signals b4 p ≡ f = same_signals a b4 p h.ports (extends_keeps a b4 x04) in
-    let place2 : Means b5 c.in_ok-place2.place2 (freed2_place l f) = subst (λ (g : StepSignals). Means b5 c.in_ok-place2.place2 (freed2_place l g)) s c.in_ok-place2.ensures.means in
+    let place2 : Means b5 c.in_ok-place2.place2 (freed2_place l f) =
+    subst (λ (g : StepSignals). Means b5 c.in_ok-place2.place2 (freed2_place l g)) s c.in_ok-place2.ensures.means in
     record {
       slot = record { there = x25.there _ c.in_ok-slot.ensures.means.there; same = x25.kept _ c.in_ok-slot.ensures.means.there ∙ first };
       place = record { there = x35.there _ c.in_ok-place.ensures.means.there; same = x35.kept _ c.in_ok-place.ensures.means.there ∙ place };

@@ -17,7 +17,8 @@ loop-k-init c = record {
 }
 
 pub emit_place-requires-clause-given : goal.emit_place-requires-clause-given
-emit_place-requires-clause-given c = ports_kept_but (own_contents c.args.l.slots) c.args.b.now c.loop-k.b c.args.l.slots c.args.p.now c.requires.given c.loop-k.invariant.extends
+emit_place-requires-clause-given c =
+    ports_kept_but (own_contents c.args.l.slots) c.args.b.now c.loop-k.b c.args.l.slots c.args.p.now c.requires.given c.loop-k.invariant.extends
 
 pub emit_place-requires-clause-freed : goal.emit_place-requires-clause-freed
 emit_place-requires-clause-freed c =
@@ -41,6 +42,11 @@ loop-k-preserved c =
     let s : step_signals b p ≡ step_signals a p = same_signals a b p c.requires.given.ports (but_keeps (own_contents l.slots) a b x) in
     let lt : k < l.slots.size = omega arith in
     record {
-      extends = but_trans (own_contents l.slots) a b d x (reg_in_row (l.slots.from + 2 + 2 * l.slots.size) l.slots.size (value_at l.slots k) b d (omega arith) (omega (arith, lt)) y);
-      next = places_more b d l (step_signals a p) k lt (slots_kept_but (own_contents l.slots) a b l.slots c.requires.given.slots x) c.loop-k.invariant.next y (c.in_ok-emit_place.ensures.next ∙ ap (λ (g : StepSignals). next_place l g k) s);
+      extends =
+          but_trans (own_contents l.slots) a b d x
+          (reg_in_row (l.slots.from + 2 + 2 * l.slots.size) l.slots.size (value_at l.slots k) b d (omega arith) (omega (arith, lt)) y);
+      next =
+          places_more b d l (step_signals a p) k lt
+          (slots_kept_but (own_contents l.slots) a b l.slots c.requires.given.slots x) c.loop-k.invariant.next y
+          (c.in_ok-emit_place.ensures.next ∙ ap (λ (g : StepSignals). next_place l g k) s);
     }

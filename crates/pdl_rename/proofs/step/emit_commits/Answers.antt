@@ -31,10 +31,14 @@ returns-clause-commits c =
     let x13 : Extends a b3 = extends_trans a b2 b3 x12 x3 in
     let r1 : signal b1 p.release ≡ f.release = x1.kept p.release h.release ∙ sym (release_is a p) in
     let r2 : signal b2 p.release2 ≡ f.release2 = x12.kept p.release2 h.release2 ∙ sym (release2_is a p) in
-    let addr : Means b2 c.in_ok-addr.addr (mux_signal f.release (oldest_addr l.slots f) (const_signal l.slots.bits 0)) = means_as b2 _ _ _ e1.addr (same_mux _ _ (const_signal l.slots.bits 0) _ _ (const_signal l.slots.bits 0) r1 (later_is a b1 _ _ x1 o.addr) refl) in
-    let value : Means b2 c.in_ok-addr.value (mux_signal f.release (oldest_value l f) (const_signal l.slots.width 0)) = means_as b2 _ _ _ e1.value (same_mux _ _ (const_signal l.slots.width 0) _ _ (const_signal l.slots.width 0) r1 w.first.same refl) in
-    let addr2 : Means b3 c.in_ok-addr2.addr2 (mux_signal f.release2 (next_addr l.slots f) (const_signal l.slots.bits 0)) = means_as b3 _ _ _ e2.addr (same_mux _ _ (const_signal l.slots.bits 0) _ _ (const_signal l.slots.bits 0) r2 (later_is a b2 _ _ x12 o.addr2) refl) in
-    let value2 : Means b3 c.in_ok-addr2.value2 (mux_signal f.release2 (next_value l f) (const_signal l.slots.width 0)) = means_as b3 _ _ _ e2.value (same_mux _ _ (const_signal l.slots.width 0) _ _ (const_signal l.slots.width 0) r2 (later_is b1 b2 _ _ x2 w.second) refl) in
+    let addr : Means b2 c.in_ok-addr.addr (mux_signal f.release (oldest_addr l.slots f) (const_signal l.slots.bits 0)) =
+    means_as b2 _ _ _ e1.addr (same_mux _ _ (const_signal l.slots.bits 0) _ _ (const_signal l.slots.bits 0) r1 (later_is a b1 _ _ x1 o.addr) refl) in
+    let value : Means b2 c.in_ok-addr.value (mux_signal f.release (oldest_value l f) (const_signal l.slots.width 0)) =
+    means_as b2 _ _ _ e1.value (same_mux _ _ (const_signal l.slots.width 0) _ _ (const_signal l.slots.width 0) r1 w.first.same refl) in
+    let addr2 : Means b3 c.in_ok-addr2.addr2 (mux_signal f.release2 (next_addr l.slots f) (const_signal l.slots.bits 0)) =
+    means_as b3 _ _ _ e2.addr (same_mux _ _ (const_signal l.slots.bits 0) _ _ (const_signal l.slots.bits 0) r2 (later_is a b2 _ _ x12 o.addr2) refl) in
+    let value2 : Means b3 c.in_ok-addr2.value2 (mux_signal f.release2 (next_value l f) (const_signal l.slots.width 0)) =
+    means_as b3 _ _ _ e2.value (same_mux _ _ (const_signal l.slots.width 0) _ _ (const_signal l.slots.width 0) r2 (later_is b1 b2 _ _ x2 w.second) refl) in
     record {
       commit = record { there = x13.there p.release h.release; same = x13.kept p.release h.release ∙ sym (release_is a p) };
       addr = record { there = x3.there _ addr.there; same = later_is b2 b3 _ _ x3 addr };

@@ -29,7 +29,9 @@ emit_places-requires c =
     let l = c.args.l in
     let p = c.args.p.now in
     let h = c.requires.ready.given in
-    let k : Keeps a b2 = keeps_trans a b1 b2 (but_keeps (own_slots l.slots) a b1 c.in_ok-emit_slots.ensures.extends) (but_keeps (own_ends l.slots) b1 b2 c.in_ok-emit_ends.ensures.extends) in
+    let k : Keeps a b2 =
+    keeps_trans a b1 b2 (but_keeps (own_slots l.slots) a b1 c.in_ok-emit_slots.ensures.extends)
+    (but_keeps (own_ends l.slots) b1 b2 c.in_ok-emit_ends.ensures.extends) in
     let s : step_signals b2 p ≡ step_signals a p = same_signals a b2 p h.ports k in
     record {
       renaming = c.requires.renaming;
@@ -80,7 +82,10 @@ emit_writes-requires c =
       renaming = c.requires.renaming;
       given = ports_keep a b4 l.slots p c.requires.ready.given k4;
       store = store_keep a b4 l h k4;
-      empty = stays_empty (own_map l) b3 b4 l refl (store_keep a b3 l h k3) y4 (stays_empty (own_contents l.slots) b2 b3 l refl (store_keep a b2 l h k2) y3 (stays_empty (own_ends l.slots) b1 b2 l refl (store_keep a b1 l h k1) y2 (stays_empty (own_slots l.slots) a b1 l refl h y1 c.requires.empty)));
+      empty =
+          stays_empty (own_map l) b3 b4 l refl (store_keep a b3 l h k3) y4
+          (stays_empty (own_contents l.slots) b2 b3 l refl (store_keep a b2 l h k2) y3
+          (stays_empty (own_ends l.slots) b1 b2 l refl (store_keep a b1 l h k1) y2 (stays_empty (own_slots l.slots) a b1 l refl h y1 c.requires.empty)));
     }
 
 pub returns-clause-next : goal.returns-clause-next
@@ -132,7 +137,8 @@ returns-clause-next c =
       ends = ends_kept (own_store l) b4 b5 q f (inr (omega arith)) (inr (omega arith)) h4 ends4 y5;
       places = places_stay (own_store l) b4 b5 l f (λ k lt. inr (omega arith)) h4 places4 y5;
       map = map_stays (own_store l) b4 b5 l f (λ k lt. inr (omega arith)) (map_keep a b4 l l.depth c.requires.map k4) map4 y5;
-      store = c.in_ok-emit_writes.ensures.writes ∙ ap (λ (g : StepSignals). place_writes l g (length p.writes)) s4 ∙ ap (place_writes l f) (sym (writes_count a p));
+      store =
+          c.in_ok-emit_writes.ensures.writes ∙ ap (λ (g : StepSignals). place_writes l g (length p.writes)) s4 ∙ ap (place_writes l f) (sym (writes_count a p));
     }
 
 pub returns-clause-extends : goal.returns-clause-extends

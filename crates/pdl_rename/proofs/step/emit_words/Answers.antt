@@ -24,10 +24,14 @@ returns-clause-first c =
     let p = c.args.p.now in
     let f = step_signals a p in
     let x1 = c.in_ok-slot.ensures.extends in
-    let x35 : Extends b2 b5 = extends_trans b2 b3 b5 c.in_ok-next.ensures.extends (extends_trans b3 b4 b5 c.in_ok-slot2.ensures.extends c.in_ok-second.ensures.extends) in
+    let x35 : Extends b2 b5 =
+    extends_trans b2 b3 b5 c.in_ok-next.ensures.extends (extends_trans b3 b4 b5 c.in_ok-slot2.ensures.extends c.in_ok-second.ensures.extends) in
     let s : step_signals b1 p ≡ f = same_signals a b1 p c.requires.given.ports (extends_keeps a b1 x1) in
-    let slot : signal b1 c.in_ok-slot.slot ≡ slot_of l.slots (head_signal l.slots) = c.in_ok-slot.ensures.means.same ∙ ap (slot_of l.slots) c.requires.given.slots.head in
-    let first : Means b2 c.in_ok-first.first (oldest_value l f) = means_as b2 _ _ _ c.in_ok-first.ensures.means (same_stored l _ _ _ _ _ _ _ _ s slot (later_is a b1 c.args.o.first.content _ x1 c.requires.oldest.content) (sym (writes_count a p))) in
+    let slot : signal b1 c.in_ok-slot.slot ≡ slot_of l.slots (head_signal l.slots) =
+    c.in_ok-slot.ensures.means.same ∙ ap (slot_of l.slots) c.requires.given.slots.head in
+    let first : Means b2 c.in_ok-first.first (oldest_value l f) =
+    means_as b2 _ _ _ c.in_ok-first.ensures.means
+    (same_stored l _ _ _ _ _ _ _ _ s slot (later_is a b1 c.args.o.first.content _ x1 c.requires.oldest.content) (sym (writes_count a p))) in
     record { there = x35.there _ first.there; same = later_is b2 b5 _ _ x35 first }
 
 pub returns-clause-second : goal.returns-clause-second
@@ -41,7 +45,11 @@ returns-clause-second c =
     let l = c.args.l in
     let p = c.args.p.now in
     let f = step_signals a p in
-    let x : Extends a b4 = extends_trans a b2 b4 (extends_trans a b1 b2 c.in_ok-slot.ensures.extends c.in_ok-first.ensures.extends) (extends_trans b2 b3 b4 c.in_ok-next.ensures.extends c.in_ok-slot2.ensures.extends) in
+    let x : Extends a b4 =
+    extends_trans a b2 b4 (extends_trans a b1 b2 c.in_ok-slot.ensures.extends c.in_ok-first.ensures.extends)
+    (extends_trans b2 b3 b4 c.in_ok-next.ensures.extends c.in_ok-slot2.ensures.extends) in
     let s : step_signals b4 p ≡ f = same_signals a b4 p c.requires.given.ports (extends_keeps a b4 x) in
-    let slot : signal b4 c.in_ok-slot2.slot2 ≡ slot_of l.slots (next_head l.slots) = c.in_ok-slot2.ensures.means.same ∙ ap (slot_of l.slots) c.in_ok-next.ensures.means.same in
-    means_as b5 _ _ _ c.in_ok-second.ensures.means (same_stored l _ _ _ _ _ _ _ _ s slot (later_is a b4 c.args.o.second.content _ x c.requires.oldest.content2) (sym (writes_count a p)))
+    let slot : signal b4 c.in_ok-slot2.slot2 ≡ slot_of l.slots (next_head l.slots) =
+    c.in_ok-slot2.ensures.means.same ∙ ap (slot_of l.slots) c.in_ok-next.ensures.means.same in
+    means_as b5 _ _ _ c.in_ok-second.ensures.means
+    (same_stored l _ _ _ _ _ _ _ _ s slot (later_is a b4 c.args.o.second.content _ x c.requires.oldest.content2) (sym (writes_count a p)))

@@ -17,7 +17,8 @@ left_after_one-returns-in-If t c =
     ap tree.stmt_view c.in-If.is
     ∙ ap tree.stmt_view (sym (r_stmts.rolls-If c.in-If.span c.in-If.condition c.in-If.then c.in-If.otherwise))
     ∙ r_stmt.fold-roll-Stmt Tree.Stmt tree.stmt_step (Stmt-F.If c.in-If.span c.in-If.condition c.in-If.then c.in-If.otherwise)
-    ∙ ap₂ (λ xs ys. Tree.If (tree.span_view c.in-If.span) cond (tree.stmts_view xs) (tree.stmts_view ys)) (sym c.as_slice.ensures) (sym c.as_slice-in-If.ensures) in
+    ∙ ap₂ (λ xs ys. Tree.If (tree.span_view c.in-If.span) cond (tree.stmts_view xs) (tree.stmts_view ys))
+    (sym c.as_slice.ensures) (sym c.as_slice-in-If.ensures) in
     c.left_after.ensures
     ∙ ap (λ n. n - length (statements [] other)) (c.left_after-first.ensures ∙ ap (λ n. n - length (statements [] when)) c.saturating_sub-after.ensures)
     ∙ left_if (tree.span_view c.in-If.span) cond when other c.args.left

@@ -6,4 +6,5 @@ use Rattle.pdl_rules_forks.proofs.rules.is_fetched.Given as goal
 
 -- none so far reads it
 abbrev pub invariant-loop-place : goal.invariant-loop-place
-invariant-loop-place l = list_any (breaks_fetch_order l.memory) (map place_view (drop l.place-index l.before)) ≡ list_any (breaks_fetch_order l.memory) (map place_view l.before)
+invariant-loop-place l =
+    list_any (breaks_fetch_order l.memory) (map place_view (drop l.place-index l.before)) ≡ list_any (breaks_fetch_order l.memory) (map place_view l.before)

@@ -8,7 +8,8 @@ pub plan_locks-requires : goal.plan_locks-requires
 plan_locks-requires c = record { of = c.requires.known.of; facts = c.requires.known.facts; lines = c.requires.locks }
 
 pub returns-in-Ok-clause-answers : goal.returns-in-Ok-clause-answers
-returns-in-Ok-clause-answers c = then_answers lock_rules spec_rules (pipe_view c.args.pipe.now) c.from_calls.result c.in-Ok.ensures.0 c.from_calls.ensures.answers
+returns-in-Ok-clause-answers c =
+    then_answers lock_rules spec_rules (pipe_view c.args.pipe.now) c.from_calls.result c.in-Ok.ensures.0 c.from_calls.ensures.answers
 
 pub returns-in-Err-clause-answers : goal.returns-in-Err-clause-answers
 returns-in-Err-clause-answers c = first_tells lock_rules spec_rules (pipe_view c.args.pipe.now) c.in-Err.refusal c.in-Err.ensures

@@ -19,9 +19,11 @@ from_names-requires c =
     let first : map place_view c.as_slice.result.now ≡ places p = ap (map place_view) c.as_slice.ensures.value ∙ c.requires.of in
     let own : c.in_ok-guards.guards ≡ guards (places p) = c.in_ok-guards.ensures ∙ ap guards first in
     let new = c.set_masks.new.places in
-    let written : (with_items c.args.places new).items ≡ new = items_written c.args.places new (c.set_masks.auto.places ∙ ap (λ (xs : List Place). length xs) c.deref_mut.ensures.value) in
+    let written : (with_items c.args.places new).items ≡ new =
+    items_written c.args.places new (c.set_masks.auto.places ∙ ap (λ (xs : List Place). length xs) c.deref_mut.ensures.value) in
     let all : c.as_slice-all.result.now ≡ new = c.as_slice-all.ensures.value ∙ written in
-    let of : map place_view c.as_slice-all.result.now ≡ places p = ap (map place_view) all ∙ c.set_masks.ensures.places ∙ ap (map place_view) c.deref_mut.ensures.value ∙ c.requires.of in
+    let of : map place_view c.as_slice-all.result.now ≡ places p =
+    ap (map place_view) all ∙ c.set_masks.ensures.places ∙ ap (map place_view) c.deref_mut.ensures.value ∙ c.requires.of in
     record {
       few = subst (λ gs. length gs ≤ 10) (sym own) (few_guards p c.requires.kept);
       own = own ∙ ap guards (sym of);
@@ -38,9 +40,11 @@ returns-in-Ok-clause-found c =
     let first : map place_view c.as_slice.result.now ≡ places p = ap (map place_view) c.as_slice.ensures.value ∙ c.requires.of in
     let own : c.in_ok-guards.guards ≡ guards (places p) = c.in_ok-guards.ensures ∙ ap guards first in
     let new = c.set_masks.new.places in
-    let written : (with_items c.args.places new).items ≡ new = items_written c.args.places new (c.set_masks.auto.places ∙ ap (λ (xs : List Place). length xs) c.deref_mut.ensures.value) in
+    let written : (with_items c.args.places new).items ≡ new =
+    items_written c.args.places new (c.set_masks.auto.places ∙ ap (λ (xs : List Place). length xs) c.deref_mut.ensures.value) in
     let all : c.as_slice-all.result.now ≡ new = c.as_slice-all.ensures.value ∙ written in
-    let of : map place_view c.as_slice-all.result.now ≡ places p = ap (map place_view) all ∙ c.set_masks.ensures.places ∙ ap (map place_view) c.deref_mut.ensures.value ∙ c.requires.of in
+    let of : map place_view c.as_slice-all.result.now ≡ places p =
+    ap (map place_view) all ∙ c.set_masks.ensures.places ∙ ap (map place_view) c.deref_mut.ensures.value ∙ c.requires.of in
     record {
       guards = own;
       variables = c.in_ok-variables.ensures ∙ ap₂ (λ ms xs. fold (after_place (map mem_view ms)) [] xs) c.as_slice-2.ensures of;

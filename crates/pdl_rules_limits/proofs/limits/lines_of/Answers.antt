@@ -7,7 +7,11 @@ use Rattle.pdl_rules_limits.proofs.limits.lines_of.Goals as goal
 pub loop-k-init : goal.loop-k-init
 loop-k-init c =
     let e = c.new-lines.ensures in
-    record { lines = λ p. record { z2 = e.z2; z3 = e.z3; z4 = e.z4; z5 = e.z5; z6 = e.z6; z7 = e.z7 }; counts = c.new-counts.ensures; guards = λ h. c.new-guards.ensures }
+    record {
+      lines = λ p. record { z2 = e.z2; z3 = e.z3; z4 = e.z4; z5 = e.z5; z6 = e.z6; z7 = e.z7 };
+      counts = c.new-counts.ensures;
+      guards = λ h. c.new-guards.ensures;
+    }
 
 pub loop-k-preserved : goal.loop-k-preserved
 loop-k-preserved c =

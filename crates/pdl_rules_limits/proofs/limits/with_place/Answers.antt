@@ -18,10 +18,18 @@ returns-clause-lines c p h =
     let got = nth place_view c.args.places.now k r c.requires.here c.index-places-k.is in
     let o = c.over_at.ensures in
     record {
-      z2 = line_next (breaks_rule Z2 p) xs k y _ _ _ _ got (o.z2 ∙ ap (λ n. is_statement y && (n == 1024)) c.requires.counts.statements) c.line.ensures c.with.ensures.z2 h.z2;
-      z3 = line_next (breaks_rule Z3 p) xs k y _ _ _ _ got (o.z3 ∙ ap (λ n. is_separator y && (n == 63)) c.requires.counts.separators) c.line.ensures c.with.ensures.z3 h.z3;
-      z4 = line_next (breaks_rule Z4 p) xs k y _ _ _ _ got (o.z4 ∙ ap (λ n. is_memory y && (n == 16)) c.requires.counts.memories) c.line.ensures c.with.ensures.z4 h.z4;
-      z5 = line_next (breaks_rule Z5 p) xs k y _ _ _ _ got (o.z5 ∙ ap (λ n. is_binding y && (n == 512)) c.requires.counts.bindings) c.line.ensures c.with.ensures.z5 h.z5;
+      z2 =
+          line_next (breaks_rule Z2 p) xs k y _ _ _ _ got
+          (o.z2 ∙ ap (λ n. is_statement y && (n == 1024)) c.requires.counts.statements) c.line.ensures c.with.ensures.z2 h.z2;
+      z3 =
+          line_next (breaks_rule Z3 p) xs k y _ _ _ _ got
+          (o.z3 ∙ ap (λ n. is_separator y && (n == 63)) c.requires.counts.separators) c.line.ensures c.with.ensures.z3 h.z3;
+      z4 =
+          line_next (breaks_rule Z4 p) xs k y _ _ _ _ got
+          (o.z4 ∙ ap (λ n. is_memory y && (n == 16)) c.requires.counts.memories) c.line.ensures c.with.ensures.z4 h.z4;
+      z5 =
+          line_next (breaks_rule Z5 p) xs k y _ _ _ _ got
+          (o.z5 ∙ ap (λ n. is_binding y && (n == 512)) c.requires.counts.bindings) c.line.ensures c.with.ensures.z5 h.z5;
       z6 = line_next (breaks_rule Z6 p) xs k y c.args.lines.z6 _ (breaks_z6 (take k xs) y) _ got refl c.line.ensures
           (c.with.ensures.z6
           ∙ noted_if c.args.lines.z6 _ _ _ (λ e. o.z6 ∙ ap (λ gs. adds_guard gs y && (length gs == 10)) (c.requires.guards e) ∙ z6_parts (take k xs) y))

@@ -6,4 +6,5 @@ use Rattle.pdl_rules_limits.proofs.literals.has_wrong_literal.Given as goal
 
 -- those so far give nothing
 abbrev pub invariant-loop-literal : goal.invariant-loop-literal
-invariant-loop-literal l = list_any is_wrong_literal (map literal_view (drop l.literal-index l.literals)) ≡ list_any is_wrong_literal (map literal_view l.literals)
+invariant-loop-literal l =
+    list_any is_wrong_literal (map literal_view (drop l.literal-index l.literals)) ≡ list_any is_wrong_literal (map literal_view l.literals)

@@ -7,4 +7,6 @@ use Rattle.pdl_rules_limits.proofs.literals.in_args.Given as goal
 
 -- those so far give nothing
 abbrev pub invariant-loop-e : goal.invariant-loop-e
-invariant-loop-e l = list_any (some_part (of_constant is_wrong_literal)) (map expr_view (drop l.e-index l.args)) ≡ list_any (some_part (of_constant is_wrong_literal)) (map expr_view l.args)
+invariant-loop-e l =
+    list_any (some_part (of_constant is_wrong_literal)) (map expr_view (drop l.e-index l.args))
+    ≡ list_any (some_part (of_constant is_wrong_literal)) (map expr_view l.args)

@@ -10,4 +10,5 @@ use Rattle.pdl_rules_names.proofs.names.too_early_at.Goals as goal
 pub returns : goal.returns
 returns c =
     let p = pipe_view c.args.pipe.now in
-    subst (λ t. IfOk c.line_broken.result (λ line. line ≡ t)) (ap (line_where (breaks_rule N3 p) []) c.requires.suits.names.all ∙ rule_lines N3 p [] (places p)) c.line_broken.ensures
+    subst (λ t. IfOk c.line_broken.result (λ line. line ≡ t))
+    (ap (line_where (breaks_rule N3 p) []) c.requires.suits.names.all ∙ rule_lines N3 p [] (places p)) c.line_broken.ensures

@@ -12,7 +12,8 @@ loop-place-preserved c =
     let k = c.loop-place.place-index in
     let x = place_view c.place-item.result in
     let rest = map place_view (drop (k + 1) ps) in
-    let split : stage_after (map place_view (drop k ps)) ≡ stage_after (x ∷ rest) = ap stage_after (ahead place_view ps k c.place-item.result c.loop-place-test.true c.place-item.is) in
+    let split : stage_after (map place_view (drop k ps)) ≡ stage_after (x ∷ rest) =
+    ap stage_after (ahead place_view ps k c.place-item.result c.loop-place-test.true c.place-item.is) in
     elim c.if-is_separator.branch [
       | then-is_separator w ↦
           let more : stage_after (x ∷ rest) ≡ 1 + stage_after rest = count_step x rest _ (sym c.is_separator.ensures ∙ w.if-is_separator.true) in

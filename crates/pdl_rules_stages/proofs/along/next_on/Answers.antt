@@ -28,7 +28,8 @@ returns-then-is_on c gs on h p within =
     let below : j < length ps = omega arith in
     let got = nth place_view ps j y below c.index-places-j.is in
     let masked = subst (λ q. IsMasked gs q) (sym c.index-places-j.is) (h.masks j y below) in
-    let is_on : on_path on (place_view y) ≡ true = ap (λ path. on_path path (place_view y)) p.same ∙ sym (c.is_on.ensures gs masked h.distinct h.few p.within) ∙ c.if-is_on.true in
+    let is_on : on_path on (place_view y) ≡ true =
+    ap (λ path. on_path path (place_view y)) p.same ∙ sym (c.is_on.ensures gs masked h.distinct h.few p.within) ∙ c.if-is_on.true in
     let one : c.loop-j.begun + 1 ≡ suc c.loop-j.begun = omega arith in
     one
     ∙ sym (ap (next_on on c.loop-j.begun) (dropped xs j (place_view y) got)
@@ -49,7 +50,8 @@ loop-j-preserved c =
       | then-is_separator+else-is_on w ↦ (
         λ gs on h p.
             let masked = subst (λ q. IsMasked gs q) (sym c.index-places-j.is) (h.masks j y below) in
-            let is_off : on_path on (place_view y) ≡ false = ap (λ path. on_path path (place_view y)) p.same ∙ sym (w.is_on.ensures gs masked h.distinct h.few p.within) ∙ w.if-is_on.false in
+            let is_off : on_path on (place_view y) ≡ false =
+            ap (λ path. on_path path (place_view y)) p.same ∙ sym (w.is_on.ensures gs masked h.distinct h.few p.within) ∙ w.if-is_on.false in
             ap (λ n. next_on on n (drop (j + 1) xs)) (w.begun-is ∙ one)
             ∙ sym (ap (next_on on begun) (dropped xs j (place_view y) got)
             ∙ next_past on begun (place_view y) (drop (j + 1) xs) (sym c.is_separator.ensures ∙ w.if-is_separator.true) is_off)

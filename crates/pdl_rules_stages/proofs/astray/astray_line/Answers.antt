@@ -16,7 +16,8 @@ returns-then-is_astray c =
     let within : k ≤ length xs = omega (arith, length-map c.args.places.now place_view) in
     ap Some c.line.ensures
     ∙ sym (ap (option_map line_of) got)
-    ∙ lowest_line (is_astray c.args.kinds) xs k (record { within = within; found = λ l. sym c.is_astray.ensures ∙ c.if-is_astray.true; others = c.loop-k.invariant })
+    ∙ lowest_line (is_astray c.args.kinds) xs k
+    (record { within = within; found = λ l. sym c.is_astray.ensures ∙ c.if-is_astray.true; others = c.loop-k.invariant })
 
 pub returns : goal.returns
 returns c =

@@ -33,7 +33,8 @@ loop-place-preserved c =
         omega (arith, c.loop-place.invariant.1, w.begun-is),
       )
       | else-is_separator w ↦ (
-        stage_step begun found c.if-is_separator.begun c.if-is_separator.found bs x rest false _ (sym c.is_separator.ensures ∙ w.if-is_separator.false) refl w.begun-is w.found-is
+        stage_step begun found c.if-is_separator.begun c.if-is_separator.found bs x rest false _
+            (sym c.is_separator.ensures ∙ w.if-is_separator.false) refl w.begun-is w.found-is
             ∙ was ∙ c.loop-place.invariant.0,
         omega (arith, c.loop-place.invariant.1, w.begun-is),
       )

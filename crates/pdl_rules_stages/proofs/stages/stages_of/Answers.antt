@@ -16,6 +16,7 @@ loop-k-preserved c =
     let got = nth place_view ps k c.index-places-k.result (omega arith) c.index-places-k.is in
     c.in_ok-push.ensures.items
     ∙ ap (λ n. c.loop-k.stages.items ++ n ∷ [])
-    (c.stage_in.ensures ∙ ap (λ b. stage_in b (map branch_view c.branches_at.result.now)) (viewed place_view ps k) ∙ ap (stage_in (take k xs)) c.branches_at.ensures)
+    (c.stage_in.ensures ∙ ap (λ b. stage_in b (map branch_view c.branches_at.result.now)) (viewed place_view ps k)
+    ∙ ap (stage_in (take k xs)) c.branches_at.ensures)
     ∙ ap (λ ns. ns ++ stage_of (take k xs) x ∷ []) c.loop-k.invariant
     ∙ stages_more xs k x got

@@ -13,6 +13,7 @@ loop-bits-init g c = c.unbroken-lowest.ensures c.args.guards.now (map place_view
 
 pub returns : goal.returns
 returns g c =
-    let all : c.loop-bits.bits ≡ 2 ^ length c.args.guards.now = omega (arith, c.loop-bits-test.false, c.loop-bits.auto.bits-end, c.path_count-bits-end.ensures) in
+    let all : c.loop-bits.bits ≡ 2 ^ length c.args.guards.now =
+    omega (arith, c.loop-bits-test.false, c.loop-bits.auto.bits-end, c.path_count-bits-end.ensures) in
     c.lines.ensures c.args.guards.now
     (subst (λ n. g.R.PathRules.found c.args.rules.now c.args.guards.now (map place_view c.args.places.now) n c.loop-bits.lowest) all c.loop-bits.invariant)

@@ -7,4 +7,8 @@ use Rattle.pdl_rules_widths.proofs.arguments.start_fits.Given as goal
 
 -- those so far give nothing
 abbrev pub invariant-loop-i : goal.invariant-loop-i
-invariant-loop-i l = (length l.args ≡ length l.params) × (pointwise nat_eq (map (λ (x : Literal). x.width) (map literal_view (drop l.i l.args))) (map (λ (a : Param). a.width.value) (map param_view (drop l.i l.params))) ≡ pointwise nat_eq (map (λ (x : Literal). x.width) (map literal_view l.args)) (map (λ (a : Param). a.width.value) (map param_view l.params)))
+invariant-loop-i l =
+    (length l.args ≡ length l.params)
+    × (pointwise nat_eq (map (λ (x : Literal). x.width) (map literal_view (drop l.i l.args)))
+    (map (λ (a : Param). a.width.value) (map param_view (drop l.i l.params)))
+    ≡ pointwise nat_eq (map (λ (x : Literal). x.width) (map literal_view l.args)) (map (λ (a : Param). a.width.value) (map param_view l.params)))

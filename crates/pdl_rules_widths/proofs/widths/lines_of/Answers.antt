@@ -6,4 +6,6 @@ use Rattle.pdl_rules_widths.specs.Lines.{AreLines}
 use Rattle.pdl_rules_widths.proofs.widths.lines_of.Goals as goal
 
 pub returns : goal.returns
-returns c = subst (λ xs. AreLines (pipe_view c.args.pipe.now) xs c.loop-k.lines) (all_taken place_view c.args.places.now c.loop-k.k c.loop-k-test.false) c.loop-k.invariant
+returns c =
+    subst (λ xs. AreLines (pipe_view c.args.pipe.now) xs c.loop-k.lines)
+    (all_taken place_view c.args.places.now c.loop-k.k c.loop-k-test.false) c.loop-k.invariant

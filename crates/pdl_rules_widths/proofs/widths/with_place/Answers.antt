@@ -20,7 +20,8 @@ returns c =
     let h =
     subst (λ vs. AreFaults vs p.mems p.params y f) c.requires.variables
     (subst (λ ps. AreFaults c.args.variables.now p.mems (map param_view ps) y f) c.as_slice-2.ensures
-    (subst (λ ms. AreFaults c.args.variables.now (map mem_view ms) (map param_view c.as_slice-2.result.now) y f) c.as_slice.ensures c.faults_at-faults.ensures)) in
+    (subst
+    (λ ms. AreFaults c.args.variables.now (map mem_view ms) (map param_view c.as_slice-2.result.now) y f) c.as_slice.ensures c.faults_at-faults.ensures)) in
     record {
       w1 = line_next (breaks_rule W1 p) xs k y _ _ _ _ got h.w1 c.line.ensures c.with.ensures.w1 c.requires.lines.w1;
       w2 = line_next (breaks_rule W2 p) xs k y _ _ _ _ got h.w2 c.line.ensures c.with.ensures.w2 c.requires.lines.w2;

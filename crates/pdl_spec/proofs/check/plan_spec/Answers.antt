@@ -32,7 +32,8 @@ returns-in_err-refuse-3 c =
     rw (e.1, e.2) (
     later S1 (S2 ∷ S3 ∷ S4 ∷ S5 ∷ []) p _ _ c.in_ok-refuse.ensures c.requires.lines.one_call (
     later S2 (S3 ∷ S4 ∷ S5 ∷ []) p _ _ c.in_ok-refuse-2.ensures c.requires.lines.verified_once (
-    told S3 (S4 ∷ S5 ∷ []) p _ _ c.in_err-refuse-3.ensures (c.astray_line.ensures ∙ ap (line_where (is_astray Verifies) []) c.requires.of ∙ rule_lines S3 p [] (places p)))))
+    told S3 (S4 ∷ S5 ∷ []) p _ _ c.in_err-refuse-3.ensures
+    (c.astray_line.ensures ∙ ap (line_where (is_astray Verifies) []) c.requires.of ∙ rule_lines S3 p [] (places p)))))
 
 pub returns-in_err-refuse-4 : goal.returns-in_err-refuse-4
 returns-in_err-refuse-4 c =
@@ -41,7 +42,9 @@ returns-in_err-refuse-4 c =
     rw (e.1, e.2) (
     later S1 (S2 ∷ S3 ∷ S4 ∷ S5 ∷ []) p _ _ c.in_ok-refuse.ensures c.requires.lines.one_call (
     later S2 (S3 ∷ S4 ∷ S5 ∷ []) p _ _ c.in_ok-refuse-2.ensures c.requires.lines.verified_once (
-    later S3 (S4 ∷ S5 ∷ []) p _ _ c.in_ok-refuse-3.ensures (c.astray_line.ensures ∙ ap (line_where (is_astray Verifies) []) c.requires.of ∙ rule_lines S3 p [] (places p)) (
+    later S3 (S4 ∷ S5 ∷ []) p _ _ c.in_ok-refuse-3.ensures
+    (c.astray_line.ensures ∙ ap (line_where (is_astray Verifies) []) c.requires.of ∙ rule_lines S3 p [] (places p))
+    (
     told S4 (S5 ∷ []) p _ _ c.in_err-refuse-4.ensures c.requires.lines.released_sure))))
 
 pub returns-in_err-refuse-5 : goal.returns-in_err-refuse-5
@@ -51,7 +54,9 @@ returns-in_err-refuse-5 c =
     rw (e.1, e.2) (
     later S1 (S2 ∷ S3 ∷ S4 ∷ S5 ∷ []) p _ _ c.in_ok-refuse.ensures c.requires.lines.one_call (
     later S2 (S3 ∷ S4 ∷ S5 ∷ []) p _ _ c.in_ok-refuse-2.ensures c.requires.lines.verified_once (
-    later S3 (S4 ∷ S5 ∷ []) p _ _ c.in_ok-refuse-3.ensures (c.astray_line.ensures ∙ ap (line_where (is_astray Verifies) []) c.requires.of ∙ rule_lines S3 p [] (places p)) (
+    later S3 (S4 ∷ S5 ∷ []) p _ _ c.in_ok-refuse-3.ensures
+    (c.astray_line.ensures ∙ ap (line_where (is_astray Verifies) []) c.requires.of ∙ rule_lines S3 p [] (places p))
+    (
     later S4 (S5 ∷ []) p _ _ c.in_ok-refuse-4.ensures c.requires.lines.released_sure (
     told S5 [] p _ _ c.in_err-refuse-5.ensures c.requires.lines.checked_first)))))
 
@@ -60,7 +65,9 @@ returns c =
     let p = pipe_view c.args.pipe.now in (
       none_more S1 (S2 ∷ S3 ∷ S4 ∷ S5 ∷ []) p _ c.in_ok-refuse.ensures c.requires.lines.one_call (
           none_more S2 (S3 ∷ S4 ∷ S5 ∷ []) p _ c.in_ok-refuse-2.ensures c.requires.lines.verified_once (
-          none_more S3 (S4 ∷ S5 ∷ []) p _ c.in_ok-refuse-3.ensures (c.astray_line.ensures ∙ ap (line_where (is_astray Verifies) []) c.requires.of ∙ rule_lines S3 p [] (places p)) (
+          none_more S3 (S4 ∷ S5 ∷ []) p _ c.in_ok-refuse-3.ensures
+          (c.astray_line.ensures ∙ ap (line_where (is_astray Verifies) []) c.requires.of ∙ rule_lines S3 p [] (places p))
+          (
           none_more S4 (S5 ∷ []) p _ c.in_ok-refuse-4.ensures c.requires.lines.released_sure (
           none_more S5 [] p _ c.in_ok-refuse-5.ensures c.requires.lines.checked_first (
           refl))))),

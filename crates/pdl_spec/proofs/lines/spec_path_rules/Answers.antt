@@ -47,7 +47,10 @@ returns-clause-lines c lines h =
     let xs = map place_view c.args.places.now in
     let verified = c.args.verified in
     record {
-      one_call = h.0.0 ∙ at_places (λ path before x. is_wrong_call (filter (on_path path) before) x) p gs xs c.requires.own c.requires.of ∙ rule_lines S1 p [] (places p);
+      one_call =
+          h.0.0
+          ∙ at_places (λ path before x. is_wrong_call (filter (on_path path) before) x) p gs xs c.requires.own c.requires.of
+          ∙ rule_lines S1 p [] (places p);
       verified_once = h.0.1 ∙ at_places (is_unverified p) p gs xs c.requires.own c.requires.of ∙ rule_lines S2 p [] (places p);
       released_sure = h.1.0 ∙ at_places (breaks_sure verified) p gs xs c.requires.own c.requires.of ∙ sure_lines p verified c.requires.verified;
       checked_first = h.1.1 ∙ at_places (breaks_checked verified) p gs xs c.requires.own c.requires.of ∙ checked_lines p verified c.requires.verified;

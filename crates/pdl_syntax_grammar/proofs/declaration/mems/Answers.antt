@@ -10,23 +10,35 @@ use Rattle.pdl_syntax_grammar.proofs.declaration.mems.Goals as goal
 pub returns-in_err-next : goal.returns-in_err-next
 returns-in_err-next c =
     let fails : c.in_err-next.field-0.0 ≢ no_memory → spec.list_of spec.mem mark.CloseSquare c.args.room c.args.tokens.now ≡ Err c.mem.new.tokens =
-    λ h. sym c.loop-turn.invariant ∙ value_fails mem_view spec.mem mark.CloseSquare (c.args.room - c.loop-turn._turn) c.loop-turn.done c.loop-turn.tokens c.mem.new.tokens (omega arith) (c.in_err-next.ensures h) in
+    λ h. sym c.loop-turn.invariant
+    ∙ value_fails mem_view spec.mem mark.CloseSquare (c.args.room - c.loop-turn._turn) c.loop-turn.done c.loop-turn.tokens c.mem.new.tokens (omega arith)
+    (c.in_err-next.ensures h) in
     search (rules, fails)
 
 pub returns-then-not-more : goal.returns-then-not-more
 returns-then-not-more c =
     let read : spec.mem c.loop-turn.tokens ≡ Ok (mem_view c.in_ok-next.next, c.mem.new.tokens) = search rules in
     let last : spec.goes_on mark.CloseSquare (first_kind c.mem.new.tokens) ≡ Some false = search rules in
-    sym c.loop-turn.invariant ∙ value_last mem_view spec.mem mark.CloseSquare (c.args.room - c.loop-turn._turn) c.loop-turn.done c.push.new.self c.in_ok-next.next c.loop-turn.tokens c.mem.new.tokens c.skip.new.self (omega arith) read last c.in_ok-push.ensures.ok c.skip.ensures
+    sym c.loop-turn.invariant
+    ∙ value_last mem_view spec.mem mark.CloseSquare
+    (c.args.room - c.loop-turn._turn) c.loop-turn.done c.push.new.self c.in_ok-next.next c.loop-turn.tokens c.mem.new.tokens c.skip.new.self
+    (omega arith) read last c.in_ok-push.ensures.ok c.skip.ensures
 
 pub returns-in-None : goal.returns-in-None
 returns-in-None c h =
     let read : spec.mem c.loop-turn.tokens ≡ Ok (mem_view c.in_ok-next.next, c.mem.new.tokens) = search rules in
     let stuck : spec.goes_on mark.CloseSquare (first_kind c.mem.new.tokens) ≡ None = search rules in
-    sym c.loop-turn.invariant ∙ value_stuck mem_view spec.mem mark.CloseSquare (c.args.room - c.loop-turn._turn) c.loop-turn.done c.in_ok-next.next c.loop-turn.tokens c.mem.new.tokens (omega arith) read stuck
+    sym c.loop-turn.invariant
+    ∙ value_stuck mem_view spec.mem mark.CloseSquare
+    (c.args.room - c.loop-turn._turn) c.loop-turn.done c.in_ok-next.next c.loop-turn.tokens c.mem.new.tokens
+    (omega arith) read stuck
 
 pub loop-turn-preserved : goal.loop-turn-preserved
 loop-turn-preserved c =
     let read : spec.mem c.loop-turn.tokens ≡ Ok (mem_view c.in_ok-next.next, c.mem.new.tokens) = search rules in
     let more : spec.goes_on mark.CloseSquare (first_kind c.mem.new.tokens) ≡ Some true = search rules in
-    sym (value_more mem_view spec.mem mark.CloseSquare (c.args.room - c.loop-turn._turn) (c.args.room - (c.loop-turn._turn + 1)) c.loop-turn.done c.push.new.self c.in_ok-next.next c.loop-turn.tokens c.mem.new.tokens c.skip.new.self (omega arith) read more c.in_ok-push.ensures.ok c.skip.ensures) ∙ c.loop-turn.invariant
+    sym
+    (value_more mem_view spec.mem mark.CloseSquare (c.args.room - c.loop-turn._turn)
+    (c.args.room - (c.loop-turn._turn + 1)) c.loop-turn.done c.push.new.self c.in_ok-next.next c.loop-turn.tokens c.mem.new.tokens c.skip.new.self
+    (omega arith) read more c.in_ok-push.ensures.ok c.skip.ensures)
+    ∙ c.loop-turn.invariant

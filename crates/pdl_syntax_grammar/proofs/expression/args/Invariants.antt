@@ -7,4 +7,5 @@ use Rattle.pdl_syntax_grammar.proofs.expression.args.Given as goal
 
 -- what is read and what is to come are the whole
 abbrev pub invariant-loop-turn : goal.invariant-loop-turn
-invariant-loop-turn l = after (map expr_view l.done) (spec.list_of (spec.expr l.room) mark.CloseRound (l.room - l._turn) l.tokens) ≡ spec.args l.room l.fn.tokens
+invariant-loop-turn l =
+    after (map expr_view l.done) (spec.list_of (spec.expr l.room) mark.CloseRound (l.room - l._turn) l.tokens) ≡ spec.args l.room l.fn.tokens

@@ -15,8 +15,12 @@ loop-decl-preserved c =
     let all : nets ≡ spec.drivers (length c.args.decls.now) c.args.drives.now = first_of (cc c.in_ok-nets.ensures, search (rules, c.in_ok-nets.ensures)) in
     let d = c.in-Some.decl.now in
     let x = c.in-Some.net.now in
-    let t = zip_turn c.args.decls.now nets c.loop-decl.yielded c.into_iter-decl-iterator.result c.loop-decl.decl-iterator c.next.new.self c.next.result first second c.loop-decl.yielded_by (c.in-Some.decl, c.in-Some.net) c.in-Some.is c.next.ensures.steps in
-    port_push c.args.drives.now c.args.decls.now nets (length c.loop-decl.yielded) _ d x _ c.loop-decl.ports c.push.new.self _ all t.0 (t.2 d) (t.3 x) (length_push c.loop-decl.yielded (c.in-Some.decl, c.in-Some.net)) c.in_ok-port.ensures c.in_ok-push.ensures.ok c.loop-decl.invariant
+    let t =
+    zip_turn c.args.decls.now nets c.loop-decl.yielded c.into_iter-decl-iterator.result c.loop-decl.decl-iterator c.next.new.self c.next.result first second c.loop-decl.yielded_by
+    (c.in-Some.decl, c.in-Some.net) c.in-Some.is c.next.ensures.steps in
+    port_push c.args.drives.now c.args.decls.now nets (length c.loop-decl.yielded) _ d x _ c.loop-decl.ports c.push.new.self _ all t.0 (t.2 d)
+    (t.3 x)
+    (length_push c.loop-decl.yielded (c.in-Some.decl, c.in-Some.net)) c.in_ok-port.ensures c.in_ok-push.ensures.ok c.loop-decl.invariant
 
 pub returns : goal.returns
 returns c =
@@ -24,5 +28,6 @@ returns c =
     let first : iter_rest (zip_first c.into_iter-decl-iterator.result) ≡ c.args.decls.now = first_of (cc, search rules) in
     let second : iter_rest (zip_second c.into_iter-decl-iterator.result) ≡ nets = first_of (cc, search rules) in
     let all : nets ≡ spec.drivers (length c.args.decls.now) c.args.drives.now = first_of (cc c.in_ok-nets.ensures, search (rules, c.in_ok-nets.ensures)) in
-    let e = zip_end c.args.decls.now nets c.loop-decl.yielded c.into_iter-decl-iterator.result c.loop-decl.decl-iterator c.next.new.self c.next.result first second c.loop-decl.yielded_by c.in-None.is c.next.ensures.steps in
+    let e =
+    zip_end c.args.decls.now nets c.loop-decl.yielded c.into_iter-decl-iterator.result c.loop-decl.decl-iterator c.next.new.self c.next.result first second c.loop-decl.yielded_by c.in-None.is c.next.ensures.steps in
     ports_end c.args.drives.now c.args.decls.now nets (length c.loop-decl.yielded) c.loop-decl.ports _ all e c.loop-decl.invariant

@@ -4,4 +4,6 @@ use Rattle.pdl_vread_nets.proofs.passes.outputs.Given as goal
 
 -- what is done and what is to come are the whole
 abbrev pub invariant-loop-decl : goal.invariant-loop-decl
-invariant-loop-decl l = spec.after l.drives (spec.all_outputs l.scope.file.now l.scope.cells.count (drop l.decl-index l.decls)) ≡ spec.all_outputs l.scope.file.now l.scope.cells.count l.decls
+invariant-loop-decl l =
+    spec.after l.drives (spec.all_outputs l.scope.file.now l.scope.cells.count (drop l.decl-index l.decls))
+    ≡ spec.all_outputs l.scope.file.now l.scope.cells.count l.decls

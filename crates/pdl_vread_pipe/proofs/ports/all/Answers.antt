@@ -20,6 +20,8 @@ returns c =
     let e = flat_map request_ports s.delayed in
     let h1 : Some x1 ≡ after a hs = c.in_ok-left.ensures ∙ ap (λ z. after (flat_map reply_ports z) hs) c.as_slice.ensures in
     let h2 : Some x2 ≡ after (a ++ b) hs = c.in_ok-left-2.ensures ∙ after_both a b hs x1 h1 in
-    let h3 : Some x3 ≡ after ((a ++ b) ++ d) hs = c.in_ok-left-3.ensures ∙ (ap (λ z. after (flat_map commit_ports z) x2) c.as_slice-2.ensures ∙ after_both (a ++ b) d hs x2 h2) in
-    let h4 : Some x4 ≡ after (((a ++ b) ++ d) ++ e) hs = c.in_ok-left-4.ensures ∙ (ap (λ z. after (flat_map request_ports z) x3) c.as_slice-3.ensures ∙ after_both ((a ++ b) ++ d) e hs x3 h3) in
+    let h3 : Some x3 ≡ after ((a ++ b) ++ d) hs =
+    c.in_ok-left-3.ensures ∙ (ap (λ z. after (flat_map commit_ports z) x2) c.as_slice-2.ensures ∙ after_both (a ++ b) d hs x2 h2) in
+    let h4 : Some x4 ≡ after (((a ++ b) ++ d) ++ e) hs =
+    c.in_ok-left-4.ensures ∙ (ap (λ z. after (flat_map request_ports z) x3) c.as_slice-3.ensures ∙ after_both ((a ++ b) ++ d) e hs x3 h3) in
     c.ends.ensures ∙ after_both (((a ++ b) ++ d) ++ e) last_ports hs x4 h4

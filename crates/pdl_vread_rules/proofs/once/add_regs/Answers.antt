@@ -18,9 +18,12 @@ returns-then-not-reg_is_right c =
     let d = c.in-Some.decl.now in
     let first : iter_rest (zip_first c.into_iter-decl-iterator.result) ≡ decls = first_of (cc, search rules) in
     let second : iter_rest (zip_second c.into_iter-decl-iterator.result) ≡ counts = first_of (cc, search rules) in
-    let t = zip_turn decls counts c.loop-decl.yielded c.into_iter-decl-iterator.result c.loop-decl.decl-iterator c.next.new.self c.next.result first second c.loop-decl.yielded_by (c.in-Some.decl, c.in-Some.count) c.in-Some.is c.next.ensures.steps in
+    let t =
+    zip_turn decls counts c.loop-decl.yielded c.into_iter-decl-iterator.result c.loop-decl.decl-iterator c.next.new.self c.next.result first second c.loop-decl.yielded_by
+    (c.in-Some.decl, c.in-Some.count) c.in-Some.is c.next.ensures.steps in
     let counted : c.in-Some.count.now ≡ reg_drives drives n = t.3 0 ∙ c.in_ok-counts.ensures.counts n t.0 in
-    let right = reg_right drives decls n c.in-Some.count.now d c.reg_is_right.result t.0 (t.2 d) counted (c.reg_is_right.ensures _ c.loop-decl.invariant.names) in
+    let right =
+    reg_right drives decls n c.in-Some.count.now d c.reg_is_right.result t.0 (t.2 d) counted (c.reg_is_right.ensures _ c.loop-decl.invariant.names) in
     let wrong : c.reg_is_right.result ≡ false = cc in
     turn_stop (reg_once drives) decls n d.line d _ t.0 (right ∙ wrong) (ap (λ (z : RegDecl). z.line) (t.2 d)) c.loop-decl.invariant.rest
 
@@ -33,12 +36,17 @@ loop-decl-preserved c =
     let d = c.in-Some.decl.now in
     let first : iter_rest (zip_first c.into_iter-decl-iterator.result) ≡ decls = first_of (cc, search rules) in
     let second : iter_rest (zip_second c.into_iter-decl-iterator.result) ≡ counts = first_of (cc, search rules) in
-    let t = zip_turn decls counts c.loop-decl.yielded c.into_iter-decl-iterator.result c.loop-decl.decl-iterator c.next.new.self c.next.result first second c.loop-decl.yielded_by (c.in-Some.decl, c.in-Some.count) c.in-Some.is c.next.ensures.steps in
+    let t =
+    zip_turn decls counts c.loop-decl.yielded c.into_iter-decl-iterator.result c.loop-decl.decl-iterator c.next.new.self c.next.result first second c.loop-decl.yielded_by
+    (c.in-Some.decl, c.in-Some.count) c.in-Some.is c.next.ensures.steps in
     let counted : c.in-Some.count.now ≡ reg_drives drives n = t.3 0 ∙ c.in_ok-counts.ensures.counts n t.0 in
-    let right = reg_right drives decls n c.in-Some.count.now d c.reg_is_right.result t.0 (t.2 d) counted (c.reg_is_right.ensures _ c.loop-decl.invariant.names) in
+    let right =
+    reg_right drives decls n c.in-Some.count.now d c.reg_is_right.result t.0 (t.2 d) counted (c.reg_is_right.ensures _ c.loop-decl.invariant.names) in
     let ok : c.reg_is_right.result ≡ true = cc in
     let more = length_push c.loop-decl.yielded (c.in-Some.decl, c.in-Some.count) in
     record {
-      names = subst (λ z. AreFirsts z c.add.new.self) (names_more (λ q. q.name) decls n _ d t.0 more (t.2 d)) (c.in_ok-add.ensures.names _ c.loop-decl.invariant.names);
+      names =
+          subst (λ z. AreFirsts z c.add.new.self) (names_more (λ q. q.name) decls n _ d t.0 more (t.2 d))
+          (c.in_ok-add.ensures.names _ c.loop-decl.invariant.names);
       rest = turn_more (reg_once drives) decls n _ d _ t.0 more (right ∙ ok) c.loop-decl.invariant.rest;
     }

@@ -7,5 +7,6 @@ use Rattle.pdl_vread_rules.proofs.once.add_regs.Given as goal
 abbrev pub invariant-loop-decl : goal.invariant-loop-decl
 invariant-loop-decl l = record {
   names : AreFirsts (map (λ d. d.name) (take (length l.yielded) l.decls)) l.places;
-  rest : first_wrong (in_turn (reg_once l.drives) (take (length l.yielded) l.decls) (drop (length l.yielded) l.decls)) ≡ first_wrong (in_turn (reg_once l.drives) [] l.decls);
+  rest : first_wrong (in_turn (reg_once l.drives) (take (length l.yielded) l.decls) (drop (length l.yielded) l.decls))
+      ≡ first_wrong (in_turn (reg_once l.drives) [] l.decls);
 }

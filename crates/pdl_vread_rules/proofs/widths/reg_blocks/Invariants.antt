@@ -4,4 +4,6 @@ use Rattle.pdl_vread_rules.specs.Widths as spec
 use Rattle.pdl_vread_rules.proofs.widths.reg_blocks.Given as goal
 
 abbrev pub invariant-loop-decl : goal.invariant-loop-decl
-invariant-loop-decl l = first_wrong (both (spec.asked_block l.widths) (drop (length l.yielded) l.decls) (drop (length l.yielded) l.drives)) ≡ first_wrong (both (spec.asked_block l.widths) l.decls l.drives)
+invariant-loop-decl l =
+    first_wrong (both (spec.asked_block l.widths) (drop (length l.yielded) l.decls) (drop (length l.yielded) l.drives))
+    ≡ first_wrong (both (spec.asked_block l.widths) l.decls l.drives)

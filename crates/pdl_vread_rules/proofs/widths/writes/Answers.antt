@@ -10,5 +10,6 @@ pub returns : goal.returns
 returns c =
     let first : iter_rest (zip_first c.into_iter-decl-iterator.result) ≡ c.args.decls.now = first_of (cc, search rules) in
     let second : iter_rest (zip_second c.into_iter-decl-iterator.result) ≡ c.args.writes.now = first_of (cc, search rules) in
-    let e = zip_end c.args.decls.now c.args.writes.now c.loop-decl.yielded c.into_iter-decl-iterator.result c.loop-decl.decl-iterator c.next.new.self c.next.result first second c.loop-decl.yielded_by c.in-None.is c.next.ensures.steps in
+    let e =
+    zip_end c.args.decls.now c.args.writes.now c.loop-decl.yielded c.into_iter-decl-iterator.result c.loop-decl.decl-iterator c.next.new.self c.next.result first second c.loop-decl.yielded_by c.in-None.is c.next.ensures.steps in
     pair_end (spec.asked_write c.args.widths.now) c.args.decls.now c.args.writes.now (length c.loop-decl.yielded) _ e c.loop-decl.invariant

@@ -11,5 +11,6 @@ returns-in-None c = no_more_token _ _ _ _ _ _ c.loop-field-test.true c.loop-fiel
 
 pub loop-field-preserved : goal.loop-field-preserved
 loop-field-preserved c =
-    let k = one_more_token _ _ _ _ _ _ _ _ _ c.loop-field-test.true c.loop-field.invariant.fit c.loop-field.invariant.split c.in-Some.ensures c.skip.ensures c.in_ok-push-in-Some.ensures.items in
+    let k =
+    one_more_token _ _ _ _ _ _ _ _ _ c.loop-field-test.true c.loop-field.invariant.fit c.loop-field.invariant.split c.in-Some.ensures c.skip.ensures c.in_ok-push-in-Some.ensures.items in
     record { fit = k.0; split = k.1 }

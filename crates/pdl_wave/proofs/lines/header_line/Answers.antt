@@ -9,7 +9,8 @@ returns-then-k-ports c =
     c.declaration_line.ensures ∙ ap ended (ap (declaration (c.args.k - 2)) c.index-ports-k.is ∙ sym e)
 
 pub returns-then-k-ports-2 : goal.returns-then-k-ports-2
-returns-then-k-ports-2 c = c.fixed_line-then-k-ports-2.ensures ∙ ap ended (sym (upscope_line c.args.name.now c.args.ports.now c.args.k (omega arith) (omega arith)))
+returns-then-k-ports-2 c =
+    c.fixed_line-then-k-ports-2.ensures ∙ ap ended (sym (upscope_line c.args.name.now c.args.ports.now c.args.k (omega arith) (omega arith)))
 
 pub returns-else-k-ports-2 : goal.returns-else-k-ports-2
 returns-else-k-ports-2 c = c.fixed_line-else-k-ports-2.ensures ∙ ap ended (sym (last_line c.args.name.now c.args.ports.now c.args.k (omega arith)))

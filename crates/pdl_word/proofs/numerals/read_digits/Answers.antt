@@ -14,7 +14,8 @@ overflow_add-number c =
 
 pub loop-byte-preserved : goal.loop-byte-preserved
 loop-byte-preserved c =
-    let f = digits_next _ _ _ _ _ c.loop-byte-test.true c.loop-byte.invariant.digits c.loop-byte.invariant.value c.in_ok-digit.ensures.0 c.in_ok-digit.ensures.1 in
+    let f =
+    digits_next _ _ _ _ _ c.loop-byte-test.true c.loop-byte.invariant.digits c.loop-byte.invariant.value c.in_ok-digit.ensures.0 c.in_ok-digit.ensures.1 in
     record {
       digits = f.0;
       value = f.1;

@@ -6,20 +6,27 @@ use Rattle.pdl_form.proofs.flat.FlatPipe.rows.Goals as goal
 
 pub index-rows-requires : goal.index-rows-requires
 index-rows-requires c =
-    omega (arith, length_stages c.args.self.now.stages.items, ap length c.args.self.now.by_stage, rows_below-long (length c.args.self.now.stages.items) (stmts_view c.args.self.now.stmts.items))
+    omega (
+      arith,
+      length_stages c.args.self.now.stages.items,
+      ap length c.args.self.now.by_stage,
+      rows_below-long (length c.args.self.now.stages.items) (stmts_view c.args.self.now.stmts.items),
+    )
 
 pub returns-clause-value : goal.returns-clause-value
 returns-clause-value c =
     c.as_slice.ensures ∙ c.index-rows.ensures
     ∙ ap (λ rs. get_or rs c.args.stage c.index-rows.result.now) c.args.self.now.by_stage
-    ∙ rows_below-at (length c.args.self.now.stages.items) (stmts_view c.args.self.now.stmts.items) c.args.stage c.index-rows.result.now (omega (arith, length_stages c.args.self.now.stages.items))
+    ∙ rows_below-at (length c.args.self.now.stages.items)
+    (stmts_view c.args.self.now.stmts.items) c.args.stage c.index-rows.result.now (omega (arith, length_stages c.args.self.now.stages.items))
 
 pub returns-clause-stmts : goal.returns-clause-stmts
 returns-clause-stmts c =
     ap (map (stmt_at (stmts_view c.args.self.now.stmts.items)))
     (c.as_slice.ensures ∙ c.index-rows.ensures
     ∙ ap (λ rs. get_or rs c.args.stage c.index-rows.result.now) c.args.self.now.by_stage
-    ∙ rows_below-at (length c.args.self.now.stages.items) (stmts_view c.args.self.now.stmts.items) c.args.stage c.index-rows.result.now (omega (arith, length_stages c.args.self.now.stages.items)))
+    ∙ rows_below-at (length c.args.self.now.stages.items)
+    (stmts_view c.args.self.now.stmts.items) c.args.stage c.index-rows.result.now (omega (arith, length_stages c.args.self.now.stages.items)))
     ∙ rows_stmts c.args.stage (stmts_view c.args.self.now.stmts.items)
 
 pub returns-clause-within : goal.returns-clause-within
@@ -27,5 +34,6 @@ returns-clause-within c =
     subst (λ (rs : List ℕ). (j : ℕ) → j < length rs → get_or rs j 0 < length (stmts_view c.args.self.now.stmts.items))
     (sym (c.as_slice.ensures ∙ c.index-rows.ensures
     ∙ ap (λ rs. get_or rs c.args.stage c.index-rows.result.now) c.args.self.now.by_stage
-    ∙ rows_below-at (length c.args.self.now.stages.items) (stmts_view c.args.self.now.stmts.items) c.args.stage c.index-rows.result.now (omega (arith, length_stages c.args.self.now.stages.items))))
+    ∙ rows_below-at (length c.args.self.now.stages.items)
+    (stmts_view c.args.self.now.stmts.items) c.args.stage c.index-rows.result.now (omega (arith, length_stages c.args.self.now.stages.items))))
     (rows_within c.args.stage (stmts_view c.args.self.now.stmts.items))

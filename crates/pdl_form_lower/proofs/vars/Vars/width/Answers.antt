@@ -26,7 +26,8 @@ returns-in-Some-clause-small c =
     let d : Variable = record { name = []; width = 0 } in
     let value = c.width_at.ensures d
     ∙ ap (λ vs. (get_or vs c.in-Some.number.now d).width) c.as_slice.ensures.value
-    ∙ width_found c.self.inside.vars.items c.args.name.now c.in-Some.number.now d (sym (c.self.invariant.numbers c.args.name.now) ∙ sym c.in-Some.ensures.value) in
+    ∙ width_found c.self.inside.vars.items c.args.name.now c.in-Some.number.now d
+    (sym (c.self.invariant.numbers c.args.name.now) ∙ sym c.in-Some.ensures.value) in
     let small = c.self.invariant.small c.args.name.now in
     omega arith
 

@@ -10,12 +10,14 @@ pub returns-then-number-len : goal.returns-then-number-len
 returns-then-number-len c gs path before later s e is_on h =
     let number = c.number_of-number.result in
     let below : number < length c.args.state.now.items = omega (arith, c.if-number-len.true, c.len.ensures) in
-    stepped Memories IsUsedMemory memory_laws c.args.self.now.places.now c.args.self.now.first.now path before later (place_view c.args.place.now) c.args.k number c.args.state.now.items
+    stepped Memories IsUsedMemory memory_laws c.args.self.now.places.now c.args.self.now.first.now path before later
+    (place_view c.args.place.now) c.args.k number c.args.state.now.items
     c.after.result c.index.result.now s e is_on h c.number_of-number.ensures below c.index.ensures c.after.ensures
 
 pub returns-else-number-len : goal.returns-else-number-len
 returns-else-number-len c gs path before later s e is_on h =
     let number = c.number_of-number.result in
     let past : length c.args.state.now.items ≤ number = omega (arith, c.if-number-len.false, c.len.ensures) in
-    unstepped Memories IsUsedMemory memory_laws c.args.self.now.places.now c.args.self.now.first.now path before later (place_view c.args.place.now) c.args.k number c.args.state.now.items
+    unstepped Memories IsUsedMemory memory_laws c.args.self.now.places.now c.args.self.now.first.now path before later
+    (place_view c.args.place.now) c.args.k number c.args.state.now.items
     s e is_on h c.number_of-number.ensures past

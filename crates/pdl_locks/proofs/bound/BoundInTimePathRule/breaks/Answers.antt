@@ -24,7 +24,10 @@ returns-in-CombRead c gs path before later s e is_on at =
     ∙ ap₂ (λ n o. is_some_and (λ l. nat_lt l n) o)
     (c.stage_at.ensures ∙ ap (λ ns. get_or ns k 0) s.by_text ∙ nth_stage before later x k e)
     (c.last_at.ensures ∙ ap (λ ns. get_or ns k None) s.released ∙ nth_told (last_at p) before later x k None e)
-    ∙ subst (λ (a : Action). is_some_and (λ l. nat_lt l (stage_of before (place_at span bs a))) (last_at p (place_at span bs a)) ≡ bound_late p path before (place_at span bs a)) (sym c.in-CombRead.is)
+    ∙ subst
+    (λ (a : Action). is_some_and (λ l. nat_lt l (stage_of before (place_at span bs a))) (last_at p (place_at span bs a))
+    ≡ bound_late p path before (place_at span bs a))
+    (sym c.in-CombRead.is)
     (late_as p (location_view c.in-CombRead.field-1.now).mem.name (stage_in before bs))
 
 pub returns-in-DelayedRead : goal.returns-in-DelayedRead
@@ -39,7 +42,9 @@ returns-in-DelayedRead c gs path before later s e is_on at =
     let ahead = next_on path (stage_after before) (places_after p before) in
     c.is_after-in-DelayedRead.ensures
     ∙ ap₂ (λ n o. is_some_and (λ l. nat_lt l n) o)
-    (c.next_on.ensures guards path (subst (λ g. HavePaths g rows) s.own s.paths) at (is_within rows before later x k s.seen e) ∙ next_as p path rows before later x k s.text s.seen e)
+    (c.next_on.ensures guards path (subst (λ g. HavePaths g rows) s.own s.paths) at (is_within rows before later x k s.seen e)
+    ∙ next_as p path rows before later x k s.text s.seen e)
     (c.last_at-in-DelayedRead.ensures ∙ ap (λ ns. get_or ns k None) s.released ∙ nth_told (last_at p) before later x k None e)
-    ∙ subst (λ (a : Action). is_some_and (λ l. nat_lt l ahead) (last_at p (place_at span bs a)) ≡ bound_late p path before (place_at span bs a)) (sym c.in-DelayedRead.is)
+    ∙ subst (λ (a : Action). is_some_and (λ l. nat_lt l ahead) (last_at p (place_at span bs a)) ≡ bound_late p path before (place_at span bs a))
+    (sym c.in-DelayedRead.is)
     (late_as p (location_view c.in-DelayedRead.field-1.now).mem.name ahead)

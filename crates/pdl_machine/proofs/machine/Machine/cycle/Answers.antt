@@ -42,9 +42,14 @@ returns-clause-ports c =
     let count : length m.replies.items ≡ delayed_count p = c.self.invariant.replies ∙ ap (λ (f : Form). delayed_count f.pipe) (form_is m.accepted.now) in
     let told : c.as_slice.result.now ≡ replies_of (delayed_count p) c.args.replies =
     c.as_slice.ensures.value ∙ written ∙ c.put_bits.ensures ∙ ap (λ n. replies_of n c.args.replies) (many ∙ count) in
-    subst (λ (f : Form). c.cycle.new.self.shown.items ≡ whole_values f.pipe (stated.ports f.pipe (state_in m.run) (all_acts f.pipe (state_in m.run) c.as_slice.result.now))) (form_is m.accepted.now) c.cycle.ensures.ports
+    subst
+    (λ (f : Form). c.cycle.new.self.shown.items
+    ≡ whole_values f.pipe (stated.ports f.pipe (state_in m.run) (all_acts f.pipe (state_in m.run) c.as_slice.result.now)))
+    (form_is m.accepted.now) c.cycle.ensures.ports
     ∙ ap (λ (bits : List Bool). whole_values p (stated.ports p (state_in m.run) (all_acts p (state_in m.run) bits))) told
-    ∙ ap (λ (r : Running). whole_values (flat_of r) (stated.ports (flat_of r) (state_of r) (all_acts (flat_of r) (state_of r) (replies_to r c.args.replies)))) c.self.view_is
+    ∙ ap
+    (λ (r : Running). whole_values (flat_of r)
+    (stated.ports (flat_of r) (state_of r) (all_acts (flat_of r) (state_of r) (replies_to r c.args.replies)))) c.self.view_is
 
 pub returns-clause-waited : goal.returns-clause-waited
 returns-clause-waited c =
@@ -77,7 +82,8 @@ pub returns-clause-moves : goal.returns-clause-moves
 returns-clause-moves c image schedule h =
     let a = c.self.inside.accepted.now in
     subst (λ (r : Running). Advances (flat_of r) (arrays_of image) schedule (replies_to r c.args.replies)) c.self.view_is
-    (advances (pipe_view a.typed.pipe) a.source a.letters a.kept (arrays_of image) schedule (replies_of (delayed_count (flat (pipe_view a.typed.pipe))) c.args.replies))
+    (advances (pipe_view a.typed.pipe) a.source a.letters a.kept (arrays_of image) schedule
+    (replies_of (delayed_count (flat (pipe_view a.typed.pipe))) c.args.replies))
 
 pub returns-clause-pace : goal.returns-clause-pace
 returns-clause-pace c image schedule h =

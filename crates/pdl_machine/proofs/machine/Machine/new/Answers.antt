@@ -15,7 +15,8 @@ use Rattle.pdl_machine.proofs.machine.Machine.new.Goals as goal
 pub new-requires-clause-run : goal.new-requires-clause-run
 new-requires-clause-run c =
     let a = c.args.accepted.now in
-    subst IsRunnable (sym (form_is a)) (runnable (pipe_view a.typed.pipe) a.kept a.source a.letters (c.typed_form.ensures (pipe_view a.typed.pipe) a.kept a.letters))
+    subst IsRunnable (sym (form_is a))
+    (runnable (pipe_view a.typed.pipe) a.kept a.source a.letters (c.typed_form.ensures (pipe_view a.typed.pipe) a.kept a.letters))
 
 pub new-requires-clause-image : goal.new-requires-clause-image
 new-requires-clause-image c =
@@ -39,7 +40,9 @@ invariant_of-result c =
     let a = c.args.accepted.now in
     let first : c.in_ok-run.run'.next ≡ 2 = c.in_ok-run.ensures.next in
     record {
-      runnable = subst IsRunnable (sym (form_is a)) (runnable (pipe_view a.typed.pipe) a.kept a.source a.letters (c.typed_form.ensures (pipe_view a.typed.pipe) a.kept a.letters));
+      runnable =
+          subst IsRunnable (sym (form_is a))
+          (runnable (pipe_view a.typed.pipe) a.kept a.source a.letters (c.typed_form.ensures (pipe_view a.typed.pipe) a.kept a.letters));
       runs = c.in_ok-run.ensures.runs;
       replies = c.in_ok-replies.ensures ∙ ap (λ (ms : List Mem). count_by (λ (x : Mem). x.delayed) ms) c.mems.ensures.mems;
       next = omega arith;

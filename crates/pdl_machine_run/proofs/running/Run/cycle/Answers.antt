@@ -22,7 +22,9 @@ returns-clause-ports c =
     let p = (form c.args.pipe.now).pipe in
     let bits = c.args.replies.now in
     c.cycle-called.ensures.ports
-    ∙ ap (λ (ss : List r_stage.Stage). whole_values p (stated.ports p (state_of (seats ss) r.beside r.next) (all_acts p (state_of (seats ss) r.beside r.next) bits))) c.as_mut_slice.ensures.value
+    ∙ ap
+    (λ (ss : List r_stage.Stage). whole_values p
+    (stated.ports p (state_of (seats ss) r.beside r.next) (all_acts p (state_of (seats ss) r.beside r.next) bits))) c.as_mut_slice.ensures.value
 
 pub returns-clause-runs : goal.returns-clause-runs
 returns-clause-runs c =

@@ -7,7 +7,8 @@ use Rattle.pdl_net_needed.proofs.marking.Marking.close.Goals as goal
 
 pub loop-net-preserved : goal.loop-net-preserved
 loop-net-preserved c =
-    marking_more (circuit_of c.args.n.now) c.loop-net.self c.next_waiting.new.self c.need_sources.new.self c.in-Some.net c.loop-net.invariant c.in-Some.ensures.0 c.in-Some.ensures.1 c.in_ok-need_sources.ensures
+    marking_more
+    (circuit_of c.args.n.now) c.loop-net.self c.next_waiting.new.self c.need_sources.new.self c.in-Some.net c.loop-net.invariant c.in-Some.ensures.0 c.in-Some.ensures.1 c.in_ok-need_sources.ensures
 
 pub returns : goal.returns
 returns c =

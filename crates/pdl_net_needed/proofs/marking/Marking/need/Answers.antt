@@ -9,4 +9,5 @@ returns c =
     let old : Work = record { kept = c.self.inside.marks; waiting = c.self.inside.waiting.items } in
     let new : Work = record { kept = c.add.new.self; waiting = c.push.new.self.items } in
     subst (λ w. Adds w new (c.args.net ∷ [])) c.self.view_is
-    (adds_new old new c.args.net (subst (λ (w : Work). IsWithin w.kept c.args.net) (sym c.self.view_is) c.requires) (sym c.has.ensures ∙ c.if-has.false) c.add.ensures c.in_ok-push.ensures.items)
+    (adds_new old new c.args.net (subst (λ (w : Work). IsWithin w.kept c.args.net) (sym c.self.view_is) c.requires)
+    (sym c.has.ensures ∙ c.if-has.false) c.add.ensures c.in_ok-push.ensures.items)

@@ -10,8 +10,11 @@ no_write = record { enable = Input 0; addr = Input 0; value = Input 0 }
 
 pub need_write-requires : goal.need_write-requires
 unfolding no_write
-need_write-requires c = within_read read_by c.args.ports.now c.loop-i.i no_write c.args.self.now c.loop-i.self (flat_map read_by (take c.loop-i.i c.args.ports.now)) c.loop-i-test.true c.loop-i.invariant c.requires
+need_write-requires c =
+    within_read read_by c.args.ports.now c.loop-i.i no_write c.args.self.now c.loop-i.self
+    (flat_map read_by (take c.loop-i.i c.args.ports.now)) c.loop-i-test.true c.loop-i.invariant c.requires
 
 pub loop-i-preserved : goal.loop-i-preserved
 unfolding no_write
-loop-i-preserved c = adds_read read_by c.args.ports.now c.loop-i.i no_write c.args.self.now c.loop-i.self c.need_write.new.self c.loop-i-test.true c.loop-i.invariant c.in_ok-need_write.ensures
+loop-i-preserved c =
+    adds_read read_by c.args.ports.now c.loop-i.i no_write c.args.self.now c.loop-i.self c.need_write.new.self c.loop-i-test.true c.loop-i.invariant c.in_ok-need_write.ensures

@@ -10,5 +10,7 @@ returns-clause-order c =
       regs = o.regs;
       next = grind (arith, common_steps);
       arrays = o.arrays;
-      order = order_next _ _ _ _ c.args.k c.args.self.now.next o.order c.requires.there c.requires.new o.next c.requires.ready (omega arith) (grind (arith, common_steps));
+      order =
+          order_next _ _ _ _ c.args.k c.args.self.now.next o.order c.requires.there c.requires.new o.next c.requires.ready (omega arith)
+          (grind (arith, common_steps));
     }

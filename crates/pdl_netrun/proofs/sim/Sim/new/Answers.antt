@@ -15,23 +15,29 @@ use Rattle.pdl_netrun.proofs.Reset.{begun_is}
 use Rattle.pdl_netrun.proofs.Environment.{stand_outside, few_delayed}
 use Rattle.pdl_netrun.proofs.sim.Sim.new.Goals as goal
 
-fits : (n : Netlist) (image : List (List ℕ)) (k : ℕ) → IsWellFormed n → IsImage n.mems image → k ≡ length (delayed_mems n) → ImageFits (circuit_of n) (drop k image)
+fits : (n : Netlist) (image : List (List ℕ)) (k : ℕ) → IsWellFormed n → IsImage n.mems image
+    → k ≡ length (delayed_mems n) → ImageFits (circuit_of n) (drop k image)
 fits n image k w i e = rw e (image_part_fits n image w i.count i.depth i.width)
 
 pub all_arrays-requires-clause-fits : goal.all_arrays-requires-clause-fits
-all_arrays-requires-clause-fits c = fits c.args.net.now c.args.image.now c.count_delayed-delayed.result c.requires.well c.requires.image c.count_delayed-delayed.ensures
+all_arrays-requires-clause-fits c =
+    fits c.args.net.now c.args.image.now c.count_delayed-delayed.result c.requires.well c.requires.image c.count_delayed-delayed.ensures
 
 pub all_arrays-requires-clause-few : goal.all_arrays-requires-clause-few
 all_arrays-requires-clause-few c = let e = c.count_delayed-delayed.ensures in let f = (few_delayed c.args.net.now c.requires.well.pipe).1 in omega (arith, e, f)
 
 pub all_outside-requires-clause-first : goal.all_outside-requires-clause-first
-all_outside-requires-clause-first c = delayed_in_front c.args.net.now c.requires.well.pipe ∙ ap (λ k. take k c.args.net.now.mems) (sym c.count_delayed-delayed.ensures)
+all_outside-requires-clause-first c =
+    delayed_in_front c.args.net.now c.requires.well.pipe ∙ ap (λ k. take k c.args.net.now.mems) (sym c.count_delayed-delayed.ensures)
 
 pub all_outside-requires-clause-many : goal.all_outside-requires-clause-many
-all_outside-requires-clause-many c = let e = c.count_delayed-delayed.ensures in let f = (few_delayed c.args.net.now c.requires.well.pipe).0 in omega (arith, e, f)
+all_outside-requires-clause-many c = let e = c.count_delayed-delayed.ensures in
+    let f = (few_delayed c.args.net.now c.requires.well.pipe).0 in omega (arith, e, f)
 
 pub all_outside-requires-clause-image : goal.all_outside-requires-clause-image
-all_outside-requires-clause-image c = let e = c.count_delayed-delayed.ensures in let f = (few_delayed c.args.net.now c.requires.well.pipe).0 in let i = c.requires.image.count in omega (arith, e, f, i)
+all_outside-requires-clause-image c = let e = c.count_delayed-delayed.ensures in
+    let f = (few_delayed c.args.net.now c.requires.well.pipe).0 in let i = c.requires.image.count in
+    omega (arith, e, f, i)
 
 pub plan_of-requires-clause-outside : goal.plan_of-requires-clause-outside
 plan_of-requires-clause-outside c =
@@ -48,5 +54,6 @@ plan_of-requires-clause-holds c =
 pub returns : goal.returns
 returns c =
     subst (λ (r : Run). IfOk c.plan_of.result (λ sim. sim ≡ r))
-    (begun_is c.args.net.now c.args.image.now c.count_delayed-delayed.result c.in_ok-resets.resets.items (array_words c.in_ok-arrays.arrays.items) (stores_of c.in_ok-outside.outside.items) c.count_delayed-delayed.ensures c.in_ok-resets.ensures c.in_ok-arrays.ensures c.in_ok-outside.ensures.stores)
+    (begun_is c.args.net.now c.args.image.now c.count_delayed-delayed.result c.in_ok-resets.resets.items (array_words c.in_ok-arrays.arrays.items)
+    (stores_of c.in_ok-outside.outside.items) c.count_delayed-delayed.ensures c.in_ok-resets.ensures c.in_ok-arrays.ensures c.in_ok-outside.ensures.stores)
     c.plan_of.ensures

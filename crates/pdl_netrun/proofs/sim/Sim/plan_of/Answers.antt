@@ -15,7 +15,9 @@ invariant_of-result c =
     let k = ordered o n e c.requires.order c.requires.all in
     let h = c.requires.holds.reg_count in
     let m : o.regs + c.len-2.result ≡ first_place (circuit_of n) = (let r = k.regs in let l = c.len-2.ensures in grind (arith, common_steps, r, l, h)) in
-    let f = first_is o n c.in_ok-values.values.items c.put_constants.new.values.items (o.regs + c.len-2.result) e c.in_ok-put_constants.ensures (grind (arith, common_steps)) m in
+    let f =
+    first_is o n c.in_ok-values.values.items c.put_constants.new.values.items
+    (o.regs + c.len-2.result) e c.in_ok-put_constants.ensures (grind (arith, common_steps)) m in
     let l = values_count (circuit_of n) o.cells.items c.put_constants.new.values.items f in
     record {
       order = o.cells.items;
@@ -33,6 +35,8 @@ invariant_of-result c =
       writes = c.in_ok-writes.ensures;
       commits = c.in_ok-commits.ensures;
       room = l;
-      constants = constants_first (circuit_of n) o.cells.items o.places.items c.put_constants.new.values.items (length c.put_constants.new.values.items) k.order (let r = k.order.room in omega (arith, r, l)) f;
+      constants =
+          constants_first (circuit_of n) o.cells.items o.places.items c.put_constants.new.values.items
+          (length c.put_constants.new.values.items) k.order (let r = k.order.room in omega (arith, r, l)) f;
       holds = c.requires.holds;
     }

@@ -10,5 +10,6 @@ read_place-requires-clause-there c = drivers_now c.self.inside c.self.invariant 
 
 pub returns-then-self : goal.returns-then-self
 returns-then-self c =
-    port_now c.self.inside c.deref.result.now c.deref-then-self.result.now c.args.i _ (grind (arith, common_steps)) c.deref.ensures.value c.deref-then-self.ensures.value c.if-self.true c.read_place.ensures
+    port_now c.self.inside c.deref.result.now c.deref-then-self.result.now c.args.i _
+    (grind (arith, common_steps)) c.deref.ensures.value c.deref-then-self.ensures.value c.if-self.true c.read_place.ensures
     ∙ ap (λ (r : Run). slice_index r.last.ports c.args.i) c.self.view_is

@@ -19,9 +19,14 @@ returns-clause-passed c =
     let e = extends_keeps a d c.stage_passage.ensures.extends in
     let one = c.in_ok-one.one in
     let it = c.in_ok-one.ensures.passage in
-    let more = passed_more a d e x y c.requires.line c.requires.inside c.requires.stand c.requires.controls c.args.self.now.moves.items c.args.self.now.frees.items k one (record x { moves = c.as_slice.result }) c.as_slice.ensures.value c.requires.low c.requires.passed
+    let more =
+    passed_more a d e x y c.requires.line c.requires.inside c.requires.stand c.requires.controls c.args.self.now.moves.items c.args.self.now.frees.items k one
+    (record x { moves = c.as_slice.result }) c.as_slice.ensures.value c.requires.low c.requires.passed
     it.bit (record { count = it.frees.count; bits = it.frees.bits; free = it.frees.free }) it.moves in
-    subst (λ ms. ArePassed d x (signs_by d x y) ms c.set.new.self.frees.items k) (sym c.set.ensures.moves) (subst (λ fs. ArePassed d x (signs_by d x y) (slice_set c.args.self.now.moves.items k one.moves) fs k) (sym c.set.ensures.frees) more)
+    subst (λ ms. ArePassed d x (signs_by d x y) ms c.set.new.self.frees.items k) (sym c.set.ensures.moves)
+    (subst (λ fs. ArePassed d x (signs_by d x y) (slice_set c.args.self.now.moves.items k one.moves) fs k) (sym c.set.ensures.frees) more)
 
 pub returns-clause-later : goal.returns-clause-later
-returns-clause-later c = λ q l. ap (λ ns. net_at ns q) c.set.ensures.moves ∙ get_or-set_other c.args.self.now.moves.items c.args.k q c.in_ok-one.one.moves (Input 0) (λ e. omega (arith, l, e))
+returns-clause-later c =
+    λ q l. ap (λ ns. net_at ns q) c.set.ensures.moves
+    ∙ get_or-set_other c.args.self.now.moves.items c.args.k q c.in_ok-one.one.moves (Input 0) (λ e. omega (arith, l, e))

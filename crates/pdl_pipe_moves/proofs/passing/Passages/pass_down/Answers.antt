@@ -12,10 +12,14 @@ pub pass-requires-clause-line : goal.pass-requires-clause-line
 pass-requires-clause-line c = line_keep c.args.b.now c.loop-i.b c.args.line.now (extends_keeps c.args.b.now c.loop-i.b c.loop-i.invariant.0) c.requires.line
 
 pub pass-requires-clause-stand : goal.pass-requires-clause-stand
-pass-requires-clause-stand c = ports_stand c.args.b.now c.loop-i.b (line_pipe c.args.line.now) c.args.line.now.shared.now.ports.now (extends_keeps c.args.b.now c.loop-i.b c.loop-i.invariant.0) c.requires.stand
+pass-requires-clause-stand c =
+    ports_stand c.args.b.now c.loop-i.b (line_pipe c.args.line.now) c.args.line.now.shared.now.ports.now
+    (extends_keeps c.args.b.now c.loop-i.b c.loop-i.invariant.0) c.requires.stand
 
 pub pass-requires-clause-controls : goal.pass-requires-clause-controls
-pass-requires-clause-controls c = controls_keep c.args.b.now c.loop-i.b (line_pipe c.args.line.now) c.args.controls.now (extends_keeps c.args.b.now c.loop-i.b c.loop-i.invariant.0) c.requires.controls
+pass-requires-clause-controls c =
+    controls_keep c.args.b.now c.loop-i.b (line_pipe c.args.line.now) c.args.controls.now
+    (extends_keeps c.args.b.now c.loop-i.b c.loop-i.invariant.0) c.requires.controls
 
 pub pass-requires-clause-passed : goal.pass-requires-clause-passed
 pass-requires-clause-passed c =

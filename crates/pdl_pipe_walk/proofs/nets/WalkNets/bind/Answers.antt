@@ -14,10 +14,14 @@ use Rattle.pdl_pipe_walk.proofs.ChangedNets.{var_same}
 use Rattle.pdl_pipe_walk.proofs.nets.WalkNets.bind.Goals as goal
 
 pub value-requires-clause-walk : goal.value-requires-clause-walk
-value-requires-clause-walk c = walk_more c.args.b.now c.all_taken.new.b c.all_taken.ensures.extends (form c.args.pipe.now).pipe (form c.args.pipe.now).widths c.args.self.now c.requires.walk
+value-requires-clause-walk c =
+    walk_more c.args.b.now c.all_taken.new.b c.all_taken.ensures.extends (form c.args.pipe.now).pipe
+    (form c.args.pipe.now).widths c.args.self.now c.requires.walk
 
 pub set-requires-clause-walk : goal.set-requires-clause-walk
-set-requires-clause-walk c = walk_more c.args.b.now c.value.new.b (extends_trans c.args.b.now c.all_taken.new.b c.value.new.b c.all_taken.ensures.extends c.value.ensures.extends) (form c.args.pipe.now).pipe (form c.args.pipe.now).widths c.args.self.now c.requires.walk
+set-requires-clause-walk c =
+    walk_more c.args.b.now c.value.new.b (extends_trans c.args.b.now c.all_taken.new.b c.value.new.b c.all_taken.ensures.extends c.value.ensures.extends)
+    (form c.args.pipe.now).pipe (form c.args.pipe.now).widths c.args.self.now c.requires.walk
 
 pub set-requires-clause-wide : goal.set-requires-clause-wide
 set-requires-clause-wide c = c.in_ok-net.ensures.wide ∙ c.requires.wide
@@ -32,8 +36,12 @@ returns-clause-parts c =
     let far = extends_trans a one two first c.value.ensures.extends in
     let fs = signals_in a w.vars.items in
     on_ok c.set.result
-    (λ q. q ∙ var_same c.args.x (signal two c.in_ok-on.on) (taken_signal fs (guards_view c.args.guards.now)) (signal two c.in_ok-net.net) (value_signal fs (expr_view c.args.e.now)) (parts_in two w) (parts_in a w)
+    (λ q. q
+    ∙ var_same c.args.x (signal two c.in_ok-on.on) (taken_signal fs (guards_view c.args.guards.now))
+    (signal two c.in_ok-net.net) (value_signal fs (expr_view c.args.e.now)) (parts_in two w) (parts_in a w)
     (c.value.ensures.extends.kept c.in_ok-on.on c.in_ok-on.ensures.means.there ∙ c.in_ok-on.ensures.means.same)
-    (c.in_ok-net.ensures.means.same ∙ ap (λ (l : List Signal). value_signal l (expr_view c.args.e.now)) (vars_same a one first (form c.args.pipe.now).pipe (form c.args.pipe.now).widths w c.requires.walk))
+    (c.in_ok-net.ensures.means.same
+    ∙ ap (λ (l : List Signal). value_signal l (expr_view c.args.e.now))
+    (vars_same a one first (form c.args.pipe.now).pipe (form c.args.pipe.now).widths w c.requires.walk))
     (parts_more a two far (form c.args.pipe.now).pipe (form c.args.pipe.now).widths w c.requires.walk))
     c.set.ensures.parts

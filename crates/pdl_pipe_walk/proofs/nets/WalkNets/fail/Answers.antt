@@ -20,8 +20,11 @@ returns-clause-walk c =
     let means = c.in_ok-fails.ensures.means in
     let one_is = e.kept c.args.bits.one c.requires.bits.one.there ∙ c.requires.bits.one.same in
     let same : signal d c.in_ok-fails.fails ≡ mux_signal (both on wrong) one (signal a w.fails) =
-    means.same ∙ ap (λ f. mux_signal f (signal b c.args.bits.one) (signal b w.fails)) c.in_ok-here.ensures.means.same ∙ ap₂ (mux_signal (both on wrong)) one_is (e.kept w.fails c.requires.walk.there.fails) in
-    fails_walk a d (extends_trans a b d e c.mux.ensures.extends) (form c.args.pipe.now).pipe (form c.args.pipe.now).widths w c.requires.walk c.in_ok-fails.fails (mux_signal (both on wrong) one (signal a w.fails)) means.there same refl
+    means.same ∙ ap (λ f. mux_signal f (signal b c.args.bits.one) (signal b w.fails)) c.in_ok-here.ensures.means.same
+    ∙ ap₂ (mux_signal (both on wrong)) one_is (e.kept w.fails c.requires.walk.there.fails) in
+    fails_walk a d (extends_trans a b d e c.mux.ensures.extends)
+    (form c.args.pipe.now).pipe (form c.args.pipe.now).widths w c.requires.walk c.in_ok-fails.fails
+    (mux_signal (both on wrong) one (signal a w.fails)) means.there same refl
 
 pub returns-clause-parts : goal.returns-clause-parts
 returns-clause-parts c =
@@ -35,5 +38,8 @@ returns-clause-parts c =
     let means = c.in_ok-fails.ensures.means in
     let one_is = e.kept c.args.bits.one c.requires.bits.one.there ∙ c.requires.bits.one.same in
     let same : signal d c.in_ok-fails.fails ≡ mux_signal (both on wrong) one (signal a w.fails) =
-    means.same ∙ ap (λ f. mux_signal f (signal b c.args.bits.one) (signal b w.fails)) c.in_ok-here.ensures.means.same ∙ ap₂ (mux_signal (both on wrong)) one_is (e.kept w.fails c.requires.walk.there.fails) in
-    fails_parts a d (extends_keeps a d (extends_trans a b d e c.mux.ensures.extends)) w c.requires.walk.there c.in_ok-fails.fails (mux_signal (both on wrong) one (signal a w.fails)) same
+    means.same ∙ ap (λ f. mux_signal f (signal b c.args.bits.one) (signal b w.fails)) c.in_ok-here.ensures.means.same
+    ∙ ap₂ (mux_signal (both on wrong)) one_is (e.kept w.fails c.requires.walk.there.fails) in
+    fails_parts a d
+    (extends_keeps a d (extends_trans a b d e c.mux.ensures.extends)) w c.requires.walk.there c.in_ok-fails.fails
+    (mux_signal (both on wrong) one (signal a w.fails)) same

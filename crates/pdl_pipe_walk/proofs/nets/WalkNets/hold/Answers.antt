@@ -10,15 +10,22 @@ use Rattle.pdl_pipe_walk.proofs.nets.WalkNets.hold.Goals as goal
 
 pub mux-requires-clause-widths : goal.mux-requires-clause-widths
 mux-requires-clause-widths c =
-    c.requires.one ∙ sym (ap (λ (f : Signal). f.width) c.is_held-old.ensures.same ∙ held_width (parts_in c.args.b.now c.args.self.now).held c.args.held.mem c.args.held.var c.requires.walk.sized.held)
+    c.requires.one
+    ∙ sym
+    (ap (λ (f : Signal). f.width) c.is_held-old.ensures.same
+    ∙ held_width (parts_in c.args.b.now c.args.self.now).held c.args.held.mem c.args.held.var c.requires.walk.sized.held)
 
 pub returns-clause-parts : goal.returns-clause-parts
 returns-clause-parts c =
     let a = c.args.b.now in
     let e = c.push_held.ensures in
     on_ok c.push_held.result
-    (λ q. hold_parts a c.mux.new.self c.mux.ensures.extends (form c.args.pipe.now).pipe (form c.args.pipe.now).widths c.args.self.now c.requires.walk c.push_held.new.self c.args.held.mem c.args.held.var c.in_ok-net.net (signal a c.args.on) (signal a c.args.held.net)
-    (set_means a c.mux.new.self c.in_ok-net.net (signal a c.args.on) (signal a c.args.held.net) _ _ c.is_held-old.ensures.same c.in_ok-net.ensures.means) q e.vars e.births e.rest)
+    (λ q. hold_parts a c.mux.new.self c.mux.ensures.extends (form c.args.pipe.now).pipe
+    (form c.args.pipe.now).widths c.args.self.now c.requires.walk c.push_held.new.self c.args.held.mem c.args.held.var c.in_ok-net.net
+    (signal a c.args.on)
+    (signal a c.args.held.net)
+    (set_means a c.mux.new.self c.in_ok-net.net (signal a c.args.on)
+    (signal a c.args.held.net) _ _ c.is_held-old.ensures.same c.in_ok-net.ensures.means) q e.vars e.births e.rest)
     e.held
 
 pub returns-clause-walk : goal.returns-clause-walk
@@ -26,6 +33,10 @@ returns-clause-walk c =
     let a = c.args.b.now in
     let e = c.push_held.ensures in
     on_ok c.push_held.result
-    (λ q. hold_walk a c.mux.new.self c.mux.ensures.extends (form c.args.pipe.now).pipe (form c.args.pipe.now).widths c.args.self.now c.requires.walk c.push_held.new.self c.args.held.mem c.args.held.var c.in_ok-net.net (signal a c.args.on) (signal a c.args.held.net)
-    (set_means a c.mux.new.self c.in_ok-net.net (signal a c.args.on) (signal a c.args.held.net) _ _ c.is_held-old.ensures.same c.in_ok-net.ensures.means) q e.vars e.births e.rest c.requires.one)
+    (λ q. hold_walk a c.mux.new.self c.mux.ensures.extends (form c.args.pipe.now).pipe
+    (form c.args.pipe.now).widths c.args.self.now c.requires.walk c.push_held.new.self c.args.held.mem c.args.held.var c.in_ok-net.net
+    (signal a c.args.on)
+    (signal a c.args.held.net)
+    (set_means a c.mux.new.self c.in_ok-net.net (signal a c.args.on)
+    (signal a c.args.held.net) _ _ c.is_held-old.ensures.same c.in_ok-net.ensures.means) q e.vars e.births e.rest c.requires.one)
     e.held

@@ -11,12 +11,15 @@ use Rattle.pdl_pipe_walk.proofs.MadeLocks.{looked_as, ticket_bits}
 use Rattle.pdl_pipe_walk.proofs.nets.WalkNets.look_ready.Goals as goal
 
 pub look_held-requires-clause-held_one : goal.look_held-requires-clause-held_one
-look_held-requires-clause-held_one g c = ap (λ (f : Signal). f.width) c.is_held-held.ensures.same ∙ held_width (parts_in c.args.b.now c.args.self.now).held c.args.m c.args.a c.requires.walk.sized.held
+look_held-requires-clause-held_one g c =
+    ap (λ (f : Signal). f.width) c.is_held-held.ensures.same
+    ∙ held_width (parts_in c.args.b.now c.args.self.now).held c.args.m c.args.a c.requires.walk.sized.held
 
 pub look_held-requires-clause-ticket_wide : goal.look_held-requires-clause-ticket_wide
 look_held-requires-clause-ticket_wide g c =
     ap (λ (f : Signal). f.width) c.variable-ticket.ensures.same
-    ∙ ticket_bits (members g.L.LockModule) c.args.b.now (form c.args.setting.now.pipe.now).pipe c.args.setting.now.locks.now c.requires.locks c.args.m c.requires.at.memory c.requires.locked c.args.setting.now.tickets.now c.requires.tickets
+    ∙ ticket_bits (members g.L.LockModule) c.args.b.now
+    (form c.args.setting.now.pipe.now).pipe c.args.setting.now.locks.now c.requires.locks c.args.m c.requires.at.memory c.requires.locked c.args.setting.now.tickets.now c.requires.tickets
 
 pub returns-clause-looked : goal.returns-clause-looked
 returns-clause-looked g c =
@@ -27,5 +30,7 @@ returns-clause-looked g c =
     let addr = signal_at (signals_in a w.vars.items) c.args.a in
     let ticket = signal_at (signals_in a c.args.setting.now.tickets.now) c.args.m in
     IfOk-weaker c.look_held.result _ _
-    (λ x h. looked_as ls c.args.m (signal a c.is_held-held.result) held (signal a c.variable-addr.result) addr (signal a c.variable-ticket.result) ticket (signal c.look_held.new.b x) c.is_held-held.ensures.same c.variable-addr.ensures.same c.variable-ticket.ensures.same h)
+    (λ x h. looked_as ls c.args.m (signal a c.is_held-held.result) held (signal a c.variable-addr.result) addr
+    (signal a c.variable-ticket.result) ticket
+    (signal c.look_held.new.b x) c.is_held-held.ensures.same c.variable-addr.ensures.same c.variable-ticket.ensures.same h)
     c.look_held.ensures.looked

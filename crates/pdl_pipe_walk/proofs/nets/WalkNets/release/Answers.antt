@@ -18,15 +18,21 @@ use Rattle.pdl_pipe_walk.proofs.Updates.{letting_parts}
 use Rattle.pdl_pipe_walk.proofs.nets.WalkNets.release.Goals as goal
 
 pub is_held-held-requires-clause-there : goal.is_held-held-requires-clause-there
-is_held-held-requires-clause-there c = there_more c.args.b.now c.all_taken.new.b c.all_taken.ensures.extends (form c.args.pipe.now).pipe (form c.args.pipe.now).widths c.args.self.now c.requires.walk
+is_held-held-requires-clause-there c =
+    there_more c.args.b.now c.all_taken.new.b c.all_taken.ensures.extends (form c.args.pipe.now).pipe
+    (form c.args.pipe.now).widths c.args.self.now c.requires.walk
 
 pub both-requires-clause-y_one : goal.both-requires-clause-y_one
 both-requires-clause-y_one c =
-    let here = walk_more c.args.b.now c.all_taken.new.b c.all_taken.ensures.extends (form c.args.pipe.now).pipe (form c.args.pipe.now).widths c.args.self.now c.requires.walk in
+    let here =
+    walk_more c.args.b.now c.all_taken.new.b c.all_taken.ensures.extends (form c.args.pipe.now).pipe
+    (form c.args.pipe.now).widths c.args.self.now c.requires.walk in
     ap (λ (f : Signal). f.width) c.is_held-held.ensures.same ∙ held_width (parts_in c.all_taken.new.b c.args.self.now).held c.args.m c.args.a here.sized.held
 
 pub hold-requires-clause-walk : goal.hold-requires-clause-walk
-hold-requires-clause-walk c = walk_more c.args.b.now c.both.new.b (extends_trans c.args.b.now c.all_taken.new.b c.both.new.b c.all_taken.ensures.extends c.both.ensures.extends) (form c.args.pipe.now).pipe (form c.args.pipe.now).widths c.args.self.now c.requires.walk
+hold-requires-clause-walk c =
+    walk_more c.args.b.now c.both.new.b (extends_trans c.args.b.now c.all_taken.new.b c.both.new.b c.all_taken.ensures.extends c.both.ensures.extends)
+    (form c.args.pipe.now).pipe (form c.args.pipe.now).widths c.args.self.now c.requires.walk
 
 pub returns-clause-walk : goal.returns-clause-walk
 returns-clause-walk c =
@@ -41,10 +47,13 @@ returns-clause-walk c =
     let s = c.hold.new.self in
     let last = c.hold.ensures.extends in
     let here = walk_more a first_b first (form c.args.pipe.now).pipe (form c.args.pipe.now).widths w c.requires.walk in
-    let held_one : (signal first_b c.is_held-held.result).width ≡ 1 = ap (λ (f : Signal). f.width) c.is_held-held.ensures.same ∙ held_width (parts_in first_b w).held c.args.m c.args.a here.sized.held in
+    let held_one : (signal first_b c.is_held-held.result).width ≡ 1 =
+    ap (λ (f : Signal). f.width) c.is_held-held.ensures.same ∙ held_width (parts_in first_b w).held c.args.m c.args.a here.sized.held in
     on_ok c.push_letting.result
     (λ q. subst (IsWalk three (form c.args.pipe.now).pipe (form c.args.pipe.now).widths) (sym q)
-    (letting_walk three (form c.args.pipe.now).pipe (form c.args.pipe.now).widths s c.in_ok-hold.ensures.walk c.args.m c.in_ok-lets.lets (last.there c.in_ok-lets.lets c.in_ok-lets.ensures.means.there)
+    (letting_walk three (form c.args.pipe.now).pipe
+    (form c.args.pipe.now).widths s c.in_ok-hold.ensures.walk c.args.m c.in_ok-lets.lets
+    (last.there c.in_ok-lets.lets c.in_ok-lets.ensures.means.there)
     (ap (λ (f : Signal). f.width) (last.kept c.in_ok-lets.lets c.in_ok-lets.ensures.means.there ∙ c.in_ok-lets.ensures.means.same) ∙ held_one)))
     c.push_letting.ensures
 
@@ -61,7 +70,8 @@ returns-clause-parts c =
     let s = c.hold.new.self in
     let last = c.hold.ensures.extends in
     let here = walk_more a first_b first (form c.args.pipe.now).pipe (form c.args.pipe.now).widths w c.requires.walk in
-    let held_one : (signal first_b c.is_held-held.result).width ≡ 1 = ap (λ (f : Signal). f.width) c.is_held-held.ensures.same ∙ held_width (parts_in first_b w).held c.args.m c.args.a here.sized.held in
+    let held_one : (signal first_b c.is_held-held.result).width ≡ 1 =
+    ap (λ (f : Signal). f.width) c.is_held-held.ensures.same ∙ held_width (parts_in first_b w).held c.args.m c.args.a here.sized.held in
     let fs = signals_in a w.vars.items in
     let on = taken_signal fs (guards_view c.args.guards.now) in
     let lets = signal three c.in_ok-lets.lets in
@@ -70,10 +80,16 @@ returns-clause-parts c =
     on_ok c.push_letting.result
     (λ q. ap (parts_in three) q ∙ letting_parts three s (record { mem = c.args.m; on = c.in_ok-lets.lets })
     ∙ ap (λ (k : Parts). record k { lettings = k.lettings ++ record { mem = c.args.m; on = lets } ∷ [] }) c.in_ok-hold.ensures.parts
-    ∙ ap (λ (z : Signal). record (with_held c.args.m c.args.a (signal two c.in_ok-on.on) z (parts_in two w)) { lettings = (parts_in two w).lettings ++ record { mem = c.args.m; on = lets } ∷ [] }) zero_same
-    ∙ release_same c.args.m c.args.a (signal two c.in_ok-on.on) on zero_bit lets (both on (held_of (parts_in a w).held c.args.m c.args.a)) (parts_in two w) (parts_in a w)
+    ∙ ap
+    (λ (z : Signal). record (with_held c.args.m c.args.a (signal two c.in_ok-on.on) z (parts_in two w))
+    { lettings = (parts_in two w).lettings ++ record { mem = c.args.m; on = lets } ∷ [] }) zero_same
+    ∙ release_same c.args.m c.args.a (signal two c.in_ok-on.on) on zero_bit lets (both on (held_of (parts_in a w).held c.args.m c.args.a))
+    (parts_in two w) (parts_in a w)
     (after.kept c.in_ok-on.on c.in_ok-on.ensures.means.there ∙ on_same)
     (last.kept c.in_ok-lets.lets c.in_ok-lets.ensures.means.there ∙ c.in_ok-lets.ensures.means.same
-    ∙ ap₂ both on_same (c.is_held-held.ensures.same ∙ ap (λ (k : Parts). held_of k.held c.args.m c.args.a) (parts_more a first_b first (form c.args.pipe.now).pipe (form c.args.pipe.now).widths w c.requires.walk)))
+    ∙ ap₂ both on_same
+    (c.is_held-held.ensures.same
+    ∙ ap (λ (k : Parts). held_of k.held c.args.m c.args.a)
+    (parts_more a first_b first (form c.args.pipe.now).pipe (form c.args.pipe.now).widths w c.requires.walk)))
     (parts_more a two far (form c.args.pipe.now).pipe (form c.args.pipe.now).widths w c.requires.walk))
     c.push_letting.ensures

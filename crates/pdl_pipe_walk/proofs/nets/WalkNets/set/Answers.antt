@@ -11,12 +11,20 @@ pub returns-clause-parts : goal.returns-clause-parts
 returns-clause-parts c =
     let a = c.args.b.now in
     let e = c.put_var.ensures in
-    set_parts a c.mux.new.self c.mux.ensures.extends (form c.args.pipe.now).pipe (form c.args.pipe.now).widths c.args.self.now c.requires.walk c.put_var.new.self c.args.x c.in_ok-new.new (signal a c.args.on) (signal a c.args.net)
-    (set_means a c.mux.new.self c.in_ok-new.new (signal a c.args.on) (signal a c.args.net) _ _ c.variable-old.ensures.same c.in_ok-new.ensures.means) e.vars e.held e.births e.rest
+    set_parts a c.mux.new.self c.mux.ensures.extends (form c.args.pipe.now).pipe
+    (form c.args.pipe.now).widths c.args.self.now c.requires.walk c.put_var.new.self c.args.x c.in_ok-new.new
+    (signal a c.args.on)
+    (signal a c.args.net)
+    (set_means a c.mux.new.self c.in_ok-new.new (signal a c.args.on)
+    (signal a c.args.net) _ _ c.variable-old.ensures.same c.in_ok-new.ensures.means) e.vars e.held e.births e.rest
 
 pub returns-clause-walk : goal.returns-clause-walk
 returns-clause-walk c =
     let a = c.args.b.now in
     let e = c.put_var.ensures in
-    set_walk a c.mux.new.self c.mux.ensures.extends (form c.args.pipe.now).pipe (form c.args.pipe.now).widths c.args.self.now c.requires.walk c.put_var.new.self c.args.x c.in_ok-new.new (signal a c.args.on) (signal a c.args.net)
-    (set_means a c.mux.new.self c.in_ok-new.new (signal a c.args.on) (signal a c.args.net) _ _ c.variable-old.ensures.same c.in_ok-new.ensures.means) e.vars e.held e.births e.rest c.requires.wide
+    set_walk a c.mux.new.self c.mux.ensures.extends (form c.args.pipe.now).pipe
+    (form c.args.pipe.now).widths c.args.self.now c.requires.walk c.put_var.new.self c.args.x c.in_ok-new.new
+    (signal a c.args.on)
+    (signal a c.args.net)
+    (set_means a c.mux.new.self c.in_ok-new.new (signal a c.args.on)
+    (signal a c.args.net) _ _ c.variable-old.ensures.same c.in_ok-new.ensures.means) e.vars e.held e.births e.rest c.requires.wide

@@ -22,8 +22,11 @@ returns-clause-walk c =
     let means = c.in_ok-barrier.ensures.means in
     let one_is = e.kept c.args.bits.one c.requires.bits.one.there ∙ c.requires.bits.one.same in
     let same : signal d c.in_ok-barrier.barrier ≡ mux_signal on one (signal a w.barrier) =
-    means.same ∙ ap (λ f. mux_signal f (signal b c.args.bits.one) (signal b w.barrier)) c.in_ok-on.ensures.means.same ∙ ap₂ (mux_signal on) one_is (e.kept w.barrier c.requires.walk.there.barrier) in
-    barrier_walk a d (extends_trans a b d e c.mux.ensures.extends) (form c.args.pipe.now).pipe (form c.args.pipe.now).widths w c.requires.walk c.in_ok-barrier.barrier (mux_signal on one (signal a w.barrier)) means.there same refl
+    means.same ∙ ap (λ f. mux_signal f (signal b c.args.bits.one) (signal b w.barrier)) c.in_ok-on.ensures.means.same
+    ∙ ap₂ (mux_signal on) one_is (e.kept w.barrier c.requires.walk.there.barrier) in
+    barrier_walk a d (extends_trans a b d e c.mux.ensures.extends)
+    (form c.args.pipe.now).pipe (form c.args.pipe.now).widths w c.requires.walk c.in_ok-barrier.barrier
+    (mux_signal on one (signal a w.barrier)) means.there same refl
 
 pub returns-clause-parts : goal.returns-clause-parts
 returns-clause-parts c =
@@ -36,5 +39,8 @@ returns-clause-parts c =
     let means = c.in_ok-barrier.ensures.means in
     let one_is = e.kept c.args.bits.one c.requires.bits.one.there ∙ c.requires.bits.one.same in
     let same : signal d c.in_ok-barrier.barrier ≡ mux_signal on one (signal a w.barrier) =
-    means.same ∙ ap (λ f. mux_signal f (signal b c.args.bits.one) (signal b w.barrier)) c.in_ok-on.ensures.means.same ∙ ap₂ (mux_signal on) one_is (e.kept w.barrier c.requires.walk.there.barrier) in
-    barrier_parts a d (extends_keeps a d (extends_trans a b d e c.mux.ensures.extends)) w c.requires.walk.there c.in_ok-barrier.barrier (mux_signal on one (signal a w.barrier)) same
+    means.same ∙ ap (λ f. mux_signal f (signal b c.args.bits.one) (signal b w.barrier)) c.in_ok-on.ensures.means.same
+    ∙ ap₂ (mux_signal on) one_is (e.kept w.barrier c.requires.walk.there.barrier) in
+    barrier_parts a d
+    (extends_keeps a d (extends_trans a b d e c.mux.ensures.extends)) w c.requires.walk.there c.in_ok-barrier.barrier
+    (mux_signal on one (signal a w.barrier)) same

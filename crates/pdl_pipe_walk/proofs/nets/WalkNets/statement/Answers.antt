@@ -44,24 +44,30 @@ delayed_read-requires-clause-at g c = (typed_as (form c.args.setting.now.pipe.no
 pub spec_call-requires-clause-typed : goal.spec_call-requires-clause-typed
 spec_call-requires-clause-typed g c =
     let f = form c.args.setting.now.pipe.now in
-    subst (λ (es : List r_expr.FlatExpr). AreArguments f.widths (param_widths f) (exprs_view es)) (sym c.as_slice-in-SpecCall.ensures) (typed_as f c.args.s.now _ c.requires.typed c.in-SpecCall.is)
+    subst (λ (es : List r_expr.FlatExpr). AreArguments f.widths (param_widths f) (exprs_view es))
+    (sym c.as_slice-in-SpecCall.ensures) (typed_as f c.args.s.now _ c.requires.typed c.in-SpecCall.is)
 
 pub verify-requires-clause-typed : goal.verify-requires-clause-typed
 verify-requires-clause-typed g c =
     let f = form c.args.setting.now.pipe.now in
-    subst (λ (es : List r_expr.FlatExpr). AreArguments f.widths (param_widths f) (exprs_view es)) (sym c.as_slice-in-Verify.ensures) (typed_as f c.args.s.now _ c.requires.typed c.in-Verify.is)
+    subst (λ (es : List r_expr.FlatExpr). AreArguments f.widths (param_widths f) (exprs_view es))
+    (sym c.as_slice-in-Verify.ensures) (typed_as f c.args.s.now _ c.requires.typed c.in-Verify.is)
 
 pub delayed_read-requires-clause-guards : goal.delayed_read-requires-clause-guards
-delayed_read-requires-clause-guards g c = guards_as (form c.args.setting.now.pipe.now) c.args.s.now c.as_slice-guards.result.now c.requires.typed c.as_slice-guards.ensures
+delayed_read-requires-clause-guards g c =
+    guards_as (form c.args.setting.now.pipe.now) c.args.s.now c.as_slice-guards.result.now c.requires.typed c.as_slice-guards.ensures
 
 pub spec_call-requires-clause-guards : goal.spec_call-requires-clause-guards
-spec_call-requires-clause-guards g c = guards_as (form c.args.setting.now.pipe.now) c.args.s.now c.as_slice-guards.result.now c.requires.typed c.as_slice-guards.ensures
+spec_call-requires-clause-guards g c =
+    guards_as (form c.args.setting.now.pipe.now) c.args.s.now c.as_slice-guards.result.now c.requires.typed c.as_slice-guards.ensures
 
 pub verify-requires-clause-guards : goal.verify-requires-clause-guards
-verify-requires-clause-guards g c = guards_as (form c.args.setting.now.pipe.now) c.args.s.now c.as_slice-guards.result.now c.requires.typed c.as_slice-guards.ensures
+verify-requires-clause-guards g c =
+    guards_as (form c.args.setting.now.pipe.now) c.args.s.now c.as_slice-guards.result.now c.requires.typed c.as_slice-guards.ensures
 
 pub spec_barrier-requires-clause-guards : goal.spec_barrier-requires-clause-guards
-spec_barrier-requires-clause-guards g c = guards_as (form c.args.setting.now.pipe.now) c.args.s.now c.as_slice-guards.result.now c.requires.typed c.as_slice-guards.ensures
+spec_barrier-requires-clause-guards g c =
+    guards_as (form c.args.setting.now.pipe.now) c.args.s.now c.as_slice-guards.result.now c.requires.typed c.as_slice-guards.ensures
 
 pub write-requires-clause-low : goal.write-requires-clause-low
 write-requires-clause-low g c = (typed_as (form c.args.setting.now.pipe.now) c.args.s.now _ c.requires.typed c.in-Write.is).0.memory
@@ -87,28 +93,36 @@ block-requires-clause-locked g c = (typed_as (form c.args.setting.now.pipe.now) 
 pub call-requires-clause-typed : goal.call-requires-clause-typed
 call-requires-clause-typed g c =
     let f = form c.args.setting.now.pipe.now in
-    subst (λ (es : List r_expr.FlatExpr). AreArguments f.widths (param_widths f) (exprs_view es)) (sym c.as_slice.ensures) (typed_as f c.args.s.now _ c.requires.typed c.in-Call.is)
+    subst (λ (es : List r_expr.FlatExpr). AreArguments f.widths (param_widths f) (exprs_view es))
+    (sym c.as_slice.ensures) (typed_as f c.args.s.now _ c.requires.typed c.in-Call.is)
 
 pub bind-requires-clause-guards : goal.bind-requires-clause-guards
-bind-requires-clause-guards g c = guards_as (form c.args.setting.now.pipe.now) c.args.s.now c.as_slice-guards.result.now c.requires.typed c.as_slice-guards.ensures
+bind-requires-clause-guards g c =
+    guards_as (form c.args.setting.now.pipe.now) c.args.s.now c.as_slice-guards.result.now c.requires.typed c.as_slice-guards.ensures
 
 pub read-requires-clause-guards : goal.read-requires-clause-guards
-read-requires-clause-guards g c = guards_as (form c.args.setting.now.pipe.now) c.args.s.now c.as_slice-guards.result.now c.requires.typed c.as_slice-guards.ensures
+read-requires-clause-guards g c =
+    guards_as (form c.args.setting.now.pipe.now) c.args.s.now c.as_slice-guards.result.now c.requires.typed c.as_slice-guards.ensures
 
 pub write-requires-clause-guards : goal.write-requires-clause-guards
-write-requires-clause-guards g c = guards_as (form c.args.setting.now.pipe.now) c.args.s.now c.as_slice-guards.result.now c.requires.typed c.as_slice-guards.ensures
+write-requires-clause-guards g c =
+    guards_as (form c.args.setting.now.pipe.now) c.args.s.now c.as_slice-guards.result.now c.requires.typed c.as_slice-guards.ensures
 
 pub reserve-requires-clause-guards : goal.reserve-requires-clause-guards
-reserve-requires-clause-guards g c = guards_as (form c.args.setting.now.pipe.now) c.args.s.now c.as_slice-guards.result.now c.requires.typed c.as_slice-guards.ensures
+reserve-requires-clause-guards g c =
+    guards_as (form c.args.setting.now.pipe.now) c.args.s.now c.as_slice-guards.result.now c.requires.typed c.as_slice-guards.ensures
 
 pub block-requires-clause-guards : goal.block-requires-clause-guards
-block-requires-clause-guards g c = guards_as (form c.args.setting.now.pipe.now) c.args.s.now c.as_slice-guards.result.now c.requires.typed c.as_slice-guards.ensures
+block-requires-clause-guards g c =
+    guards_as (form c.args.setting.now.pipe.now) c.args.s.now c.as_slice-guards.result.now c.requires.typed c.as_slice-guards.ensures
 
 pub release-requires-clause-guards : goal.release-requires-clause-guards
-release-requires-clause-guards g c = guards_as (form c.args.setting.now.pipe.now) c.args.s.now c.as_slice-guards.result.now c.requires.typed c.as_slice-guards.ensures
+release-requires-clause-guards g c =
+    guards_as (form c.args.setting.now.pipe.now) c.args.s.now c.as_slice-guards.result.now c.requires.typed c.as_slice-guards.ensures
 
 pub call-requires-clause-guards : goal.call-requires-clause-guards
-call-requires-clause-guards g c = guards_as (form c.args.setting.now.pipe.now) c.args.s.now c.as_slice-guards.result.now c.requires.typed c.as_slice-guards.ensures
+call-requires-clause-guards g c =
+    guards_as (form c.args.setting.now.pipe.now) c.args.s.now c.as_slice-guards.result.now c.requires.typed c.as_slice-guards.ensures
 
 pub returns-in-Bind-clause-step : goal.returns-in-Bind-clause-step
 returns-in-Bind-clause-step g c =
@@ -121,11 +135,17 @@ returns-in-Bind-clause-step g c =
     let same : gs ≡ guards_view c.args.s.now.guards = ap guards_view c.as_slice-guards.ensures in
     let guards = subst (λ l. AreGuards (form c.args.setting.now.pipe.now).widths l) (sym same) c.requires.typed.0.0 in
     let typed = subst (λ (o : r_op.Op). IsTypedOp (form c.args.setting.now.pipe.now) (act_view o)) c.in-Bind.is c.requires.typed.0.1 in
-    let nets = has_keep a b (parts_in a w).vars (extends_keeps a b c.bind.ensures.extends) (nets_of a (form c.args.setting.now.pipe.now).pipe (form c.args.setting.now.pipe.now).widths w c.requires.walk) in
+    let nets =
+    has_keep a b (parts_in a w).vars (extends_keeps a b c.bind.ensures.extends)
+    (nets_of a (form c.args.setting.now.pipe.now).pipe (form c.args.setting.now.pipe.now).widths w c.requires.walk) in
     let op = sym (ap act_view c.in-Bind.is) in
     on_ok c.bind.result
-    (λ q. step_as b (form c.args.setting.now.pipe.now).pipe ls tickets gs (guards_view c.args.s.now.guards) (flat.Bind c.in-Bind.x (expr_view c.in-Bind.e)) (act_view c.args.s.now.op) (walk_of (parts_in a w)) (walk_of (parts_in b c.bind.new.self)) same op
-    (bind_step b (form c.args.setting.now.pipe.now).pipe (form c.args.setting.now.pipe.now).widths ls tickets gs (parts_in a w) nets c.requires.walk.sized refl guards c.in-Bind.x (expr_view c.in-Bind.e) (parts_in b c.bind.new.self) typed.0 typed.1 q))
+    (λ q. step_as b (form c.args.setting.now.pipe.now).pipe ls tickets gs (guards_view c.args.s.now.guards)
+    (flat.Bind c.in-Bind.x (expr_view c.in-Bind.e)) (act_view c.args.s.now.op) (walk_of (parts_in a w))
+    (walk_of (parts_in b c.bind.new.self)) same op
+    (bind_step b (form c.args.setting.now.pipe.now).pipe (form c.args.setting.now.pipe.now).widths ls tickets gs
+    (parts_in a w) nets c.requires.walk.sized refl guards c.in-Bind.x (expr_view c.in-Bind.e)
+    (parts_in b c.bind.new.self) typed.0 typed.1 q))
     c.bind.ensures.parts
 
 pub returns-in-CombRead-clause-step : goal.returns-in-CombRead-clause-step
@@ -139,11 +159,17 @@ returns-in-CombRead-clause-step g c =
     let same : gs ≡ guards_view c.args.s.now.guards = ap guards_view c.as_slice-guards.ensures in
     let guards = subst (λ l. AreGuards (form c.args.setting.now.pipe.now).widths l) (sym same) c.requires.typed.0.0 in
     let typed = subst (λ (o : r_op.Op). IsTypedOp (form c.args.setting.now.pipe.now) (act_view o)) c.in-CombRead.is c.requires.typed.0.1 in
-    let nets = has_keep a b (parts_in a w).vars (extends_keeps a b c.read.ensures.extends) (nets_of a (form c.args.setting.now.pipe.now).pipe (form c.args.setting.now.pipe.now).widths w c.requires.walk) in
+    let nets =
+    has_keep a b (parts_in a w).vars (extends_keeps a b c.read.ensures.extends)
+    (nets_of a (form c.args.setting.now.pipe.now).pipe (form c.args.setting.now.pipe.now).widths w c.requires.walk) in
     let op = sym (ap act_view c.in-CombRead.is) in
     on_ok c.read.result
-    (λ q. step_as b (form c.args.setting.now.pipe.now).pipe ls tickets gs (guards_view c.args.s.now.guards) (flat.CombRead c.in-CombRead.x c.in-CombRead.m c.in-CombRead.a) (act_view c.args.s.now.op) (walk_of (parts_in a w)) (walk_of (parts_in b c.read.new.self)) same op
-    (read_step b (form c.args.setting.now.pipe.now).pipe (form c.args.setting.now.pipe.now).widths ls tickets gs (parts_in a w) nets c.requires.walk.sized refl guards c.in-CombRead.x c.in-CombRead.m c.in-CombRead.a (parts_in b c.read.new.self) refl typed.0 typed.1 q))
+    (λ q. step_as b (form c.args.setting.now.pipe.now).pipe ls tickets gs (guards_view c.args.s.now.guards)
+    (flat.CombRead c.in-CombRead.x c.in-CombRead.m c.in-CombRead.a) (act_view c.args.s.now.op)
+    (walk_of (parts_in a w)) (walk_of (parts_in b c.read.new.self)) same op
+    (read_step b (form c.args.setting.now.pipe.now).pipe (form c.args.setting.now.pipe.now).widths ls tickets gs
+    (parts_in a w) nets c.requires.walk.sized refl guards c.in-CombRead.x c.in-CombRead.m c.in-CombRead.a
+    (parts_in b c.read.new.self) refl typed.0 typed.1 q))
     c.read.ensures.parts
 
 pub returns-in-Write-clause-step : goal.returns-in-Write-clause-step
@@ -157,11 +183,17 @@ returns-in-Write-clause-step g c =
     let same : gs ≡ guards_view c.args.s.now.guards = ap guards_view c.as_slice-guards.ensures in
     let guards = subst (λ l. AreGuards (form c.args.setting.now.pipe.now).widths l) (sym same) c.requires.typed.0.0 in
     let typed = subst (λ (o : r_op.Op). IsTypedOp (form c.args.setting.now.pipe.now) (act_view o)) c.in-Write.is c.requires.typed.0.1 in
-    let nets = has_keep a b (parts_in a w).vars (extends_keeps a b c.write.ensures.extends) (nets_of a (form c.args.setting.now.pipe.now).pipe (form c.args.setting.now.pipe.now).widths w c.requires.walk) in
+    let nets =
+    has_keep a b (parts_in a w).vars (extends_keeps a b c.write.ensures.extends)
+    (nets_of a (form c.args.setting.now.pipe.now).pipe (form c.args.setting.now.pipe.now).widths w c.requires.walk) in
     let op = sym (ap act_view c.in-Write.is) in
     on_ok c.write.result
-    (λ q. step_as b (form c.args.setting.now.pipe.now).pipe ls tickets gs (guards_view c.args.s.now.guards) (flat.Write c.in-Write.m c.in-Write.a (expr_view c.in-Write.e)) (act_view c.args.s.now.op) (walk_of (parts_in a w)) (walk_of (parts_in b c.write.new.self)) same op
-    (write_step b (form c.args.setting.now.pipe.now).pipe (form c.args.setting.now.pipe.now).widths ls tickets gs (parts_in a w) nets c.requires.walk.sized refl guards c.in-Write.m c.in-Write.a (expr_view c.in-Write.e) (parts_in b c.write.new.self) typed.1 q))
+    (λ q. step_as b (form c.args.setting.now.pipe.now).pipe ls tickets gs (guards_view c.args.s.now.guards)
+    (flat.Write c.in-Write.m c.in-Write.a (expr_view c.in-Write.e)) (act_view c.args.s.now.op)
+    (walk_of (parts_in a w)) (walk_of (parts_in b c.write.new.self)) same op
+    (write_step b (form c.args.setting.now.pipe.now).pipe (form c.args.setting.now.pipe.now).widths ls tickets gs
+    (parts_in a w) nets c.requires.walk.sized refl guards c.in-Write.m c.in-Write.a (expr_view c.in-Write.e)
+    (parts_in b c.write.new.self) typed.1 q))
     c.write.ensures.parts
 
 pub returns-in-ReserveWrite-clause-step : goal.returns-in-ReserveWrite-clause-step
@@ -175,11 +207,17 @@ returns-in-ReserveWrite-clause-step g c =
     let same : gs ≡ guards_view c.args.s.now.guards = ap guards_view c.as_slice-guards.ensures in
     let guards = subst (λ l. AreGuards (form c.args.setting.now.pipe.now).widths l) (sym same) c.requires.typed.0.0 in
     let typed = subst (λ (o : r_op.Op). IsTypedOp (form c.args.setting.now.pipe.now) (act_view o)) c.in-ReserveWrite.is c.requires.typed.0.1 in
-    let nets = has_keep a b (parts_in a w).vars (extends_keeps a b c.reserve.ensures.extends) (nets_of a (form c.args.setting.now.pipe.now).pipe (form c.args.setting.now.pipe.now).widths w c.requires.walk) in
+    let nets =
+    has_keep a b (parts_in a w).vars (extends_keeps a b c.reserve.ensures.extends)
+    (nets_of a (form c.args.setting.now.pipe.now).pipe (form c.args.setting.now.pipe.now).widths w c.requires.walk) in
     let op = sym (ap act_view c.in-ReserveWrite.is) in
     on_ok c.reserve.result
-    (λ q. step_as b (form c.args.setting.now.pipe.now).pipe ls tickets gs (guards_view c.args.s.now.guards) (flat.ReserveWrite c.in-ReserveWrite.m c.in-ReserveWrite.a) (act_view c.args.s.now.op) (walk_of (parts_in a w)) (walk_of (parts_in b c.reserve.new.self)) same op
-    (reserve_step b (form c.args.setting.now.pipe.now).pipe (form c.args.setting.now.pipe.now).widths ls tickets gs (parts_in a w) nets c.requires.walk.sized refl guards c.in-ReserveWrite.m c.in-ReserveWrite.a (parts_in b c.reserve.new.self) typed.0 typed.1 q))
+    (λ q. step_as b (form c.args.setting.now.pipe.now).pipe ls tickets gs (guards_view c.args.s.now.guards)
+    (flat.ReserveWrite c.in-ReserveWrite.m c.in-ReserveWrite.a) (act_view c.args.s.now.op) (walk_of (parts_in a w))
+    (walk_of (parts_in b c.reserve.new.self)) same op
+    (reserve_step b (form c.args.setting.now.pipe.now).pipe (form c.args.setting.now.pipe.now).widths ls tickets gs
+    (parts_in a w) nets c.requires.walk.sized refl guards c.in-ReserveWrite.m c.in-ReserveWrite.a
+    (parts_in b c.reserve.new.self) typed.0 typed.1 q))
     c.reserve.ensures.parts
 
 pub returns-in-Block-clause-step : goal.returns-in-Block-clause-step
@@ -193,11 +231,17 @@ returns-in-Block-clause-step g c =
     let same : gs ≡ guards_view c.args.s.now.guards = ap guards_view c.as_slice-guards.ensures in
     let guards = subst (λ l. AreGuards (form c.args.setting.now.pipe.now).widths l) (sym same) c.requires.typed.0.0 in
     let typed = subst (λ (o : r_op.Op). IsTypedOp (form c.args.setting.now.pipe.now) (act_view o)) c.in-Block.is c.requires.typed.0.1 in
-    let nets = has_keep a b (parts_in a w).vars (extends_keeps a b c.block.ensures.extends) (nets_of a (form c.args.setting.now.pipe.now).pipe (form c.args.setting.now.pipe.now).widths w c.requires.walk) in
+    let nets =
+    has_keep a b (parts_in a w).vars (extends_keeps a b c.block.ensures.extends)
+    (nets_of a (form c.args.setting.now.pipe.now).pipe (form c.args.setting.now.pipe.now).widths w c.requires.walk) in
     let op = sym (ap act_view c.in-Block.is) in
     on_ok c.block.result
-    (λ q. step_as b (form c.args.setting.now.pipe.now).pipe ls tickets gs (guards_view c.args.s.now.guards) (flat.Block c.in-Block.m c.in-Block.a) (act_view c.args.s.now.op) (walk_of (parts_in a w)) (walk_of (parts_in b c.block.new.self)) same op
-    (block_step b (form c.args.setting.now.pipe.now).pipe (form c.args.setting.now.pipe.now).widths ls tickets gs (parts_in a w) nets c.requires.walk.sized refl guards c.in-Block.m c.in-Block.a (parts_in b c.block.new.self) typed.1 q))
+    (λ q. step_as b (form c.args.setting.now.pipe.now).pipe ls tickets gs (guards_view c.args.s.now.guards)
+    (flat.Block c.in-Block.m c.in-Block.a) (act_view c.args.s.now.op) (walk_of (parts_in a w))
+    (walk_of (parts_in b c.block.new.self)) same op
+    (block_step b (form c.args.setting.now.pipe.now).pipe (form c.args.setting.now.pipe.now).widths ls tickets gs
+    (parts_in a w) nets c.requires.walk.sized refl guards c.in-Block.m c.in-Block.a
+    (parts_in b c.block.new.self) typed.1 q))
     c.block.ensures.parts
 
 pub returns-in-Release-clause-step : goal.returns-in-Release-clause-step
@@ -211,11 +255,17 @@ returns-in-Release-clause-step g c =
     let same : gs ≡ guards_view c.args.s.now.guards = ap guards_view c.as_slice-guards.ensures in
     let guards = subst (λ l. AreGuards (form c.args.setting.now.pipe.now).widths l) (sym same) c.requires.typed.0.0 in
     let typed = subst (λ (o : r_op.Op). IsTypedOp (form c.args.setting.now.pipe.now) (act_view o)) c.in-Release.is c.requires.typed.0.1 in
-    let nets = has_keep a b (parts_in a w).vars (extends_keeps a b c.release.ensures.extends) (nets_of a (form c.args.setting.now.pipe.now).pipe (form c.args.setting.now.pipe.now).widths w c.requires.walk) in
+    let nets =
+    has_keep a b (parts_in a w).vars (extends_keeps a b c.release.ensures.extends)
+    (nets_of a (form c.args.setting.now.pipe.now).pipe (form c.args.setting.now.pipe.now).widths w c.requires.walk) in
     let op = sym (ap act_view c.in-Release.is) in
     on_ok c.release.result
-    (λ q. step_as b (form c.args.setting.now.pipe.now).pipe ls tickets gs (guards_view c.args.s.now.guards) (flat.Release c.in-Release.m c.in-Release.a) (act_view c.args.s.now.op) (walk_of (parts_in a w)) (walk_of (parts_in b c.release.new.self)) same op
-    (release_step b (form c.args.setting.now.pipe.now).pipe (form c.args.setting.now.pipe.now).widths ls tickets gs (parts_in a w) nets c.requires.walk.sized refl guards c.in-Release.m c.in-Release.a (parts_in b c.release.new.self) q))
+    (λ q. step_as b (form c.args.setting.now.pipe.now).pipe ls tickets gs (guards_view c.args.s.now.guards)
+    (flat.Release c.in-Release.m c.in-Release.a) (act_view c.args.s.now.op) (walk_of (parts_in a w))
+    (walk_of (parts_in b c.release.new.self)) same op
+    (release_step b (form c.args.setting.now.pipe.now).pipe (form c.args.setting.now.pipe.now).widths ls tickets gs
+    (parts_in a w) nets c.requires.walk.sized refl guards c.in-Release.m c.in-Release.a
+    (parts_in b c.release.new.self) q))
     c.release.ensures.parts
 
 pub returns-in-Call-clause-step : goal.returns-in-Call-clause-step
@@ -229,15 +279,24 @@ returns-in-Call-clause-step g c =
     let same : gs ≡ guards_view c.args.s.now.guards = ap guards_view c.as_slice-guards.ensures in
     let guards = subst (λ l. AreGuards (form c.args.setting.now.pipe.now).widths l) (sym same) c.requires.typed.0.0 in
     let typed = subst (λ (o : r_op.Op). IsTypedOp (form c.args.setting.now.pipe.now) (act_view o)) c.in-Call.is c.requires.typed.0.1 in
-    let nets = has_keep a b (parts_in a w).vars (extends_keeps a b c.call.ensures.extends) (nets_of a (form c.args.setting.now.pipe.now).pipe (form c.args.setting.now.pipe.now).widths w c.requires.walk) in
+    let nets =
+    has_keep a b (parts_in a w).vars (extends_keeps a b c.call.ensures.extends)
+    (nets_of a (form c.args.setting.now.pipe.now).pipe (form c.args.setting.now.pipe.now).widths w c.requires.walk) in
     let es = exprs_view c.as_slice.result.now in
     let op = ap (λ (l : List r_expr.FlatExpr). flat.Call (exprs_view l)) c.as_slice.ensures ∙ sym (ap act_view c.in-Call.is) in
-    let args = subst (λ (l : List r_expr.FlatExpr). AreArguments (form c.args.setting.now.pipe.now).widths (param_widths (form c.args.setting.now.pipe.now)) (exprs_view l)) (sym c.as_slice.ensures) typed in
+    let args =
+    subst
+    (λ (l : List r_expr.FlatExpr). AreArguments (form c.args.setting.now.pipe.now).widths (param_widths (form c.args.setting.now.pipe.now)) (exprs_view l))
+    (sym c.as_slice.ensures) typed in
     let ws = (form c.args.setting.now.pipe.now).widths in
     let n = length (form c.args.setting.now.pipe.now).pipe.start in
     on_ok c.call.result
-    (λ q. step_as b (form c.args.setting.now.pipe.now).pipe ls tickets gs (guards_view c.args.s.now.guards) (flat.Call es) (act_view c.args.s.now.op) (walk_of (parts_in a w)) (walk_of (parts_in b c.call.new.self)) same op
-    (call_step b (form c.args.setting.now.pipe.now).pipe (form c.args.setting.now.pipe.now).widths ls tickets gs (parts_in a w) nets c.requires.walk.sized refl guards es (parts_in b c.call.new.self) (arguments_few ws n es args) (arguments_typed ws (param_widths (form c.args.setting.now.pipe.now)) es args) q))
+    (λ q. step_as b (form c.args.setting.now.pipe.now).pipe ls tickets gs (guards_view c.args.s.now.guards)
+    (flat.Call es) (act_view c.args.s.now.op) (walk_of (parts_in a w))
+    (walk_of (parts_in b c.call.new.self)) same op
+    (call_step b (form c.args.setting.now.pipe.now).pipe (form c.args.setting.now.pipe.now).widths ls tickets gs
+    (parts_in a w) nets c.requires.walk.sized refl guards es (parts_in b c.call.new.self)
+    (arguments_few ws n es args) (arguments_typed ws (param_widths (form c.args.setting.now.pipe.now)) es args) q))
     c.call.ensures.parts
 
 pub returns-in-ReserveRead-clause-step : goal.returns-in-ReserveRead-clause-step
@@ -248,8 +307,11 @@ returns-in-ReserveRead-clause-step g c =
     let tickets = tickets_in a c.args.setting.now.tickets.now in
     let gs = guards_view c.args.s.now.guards in
     let op : flat.ReserveRead c.in-ReserveRead.m c.in-ReserveRead.a ≡ act_view c.args.s.now.op = sym (ap act_view c.in-ReserveRead.is) in
-    step_as a (form c.args.setting.now.pipe.now).pipe ls tickets gs gs (flat.ReserveRead c.in-ReserveRead.m c.in-ReserveRead.a) (act_view c.args.s.now.op) (walk_of (parts_in a w)) (walk_of (parts_in a w)) refl op
-    (idle_step a (form c.args.setting.now.pipe.now).pipe (form c.args.setting.now.pipe.now).widths ls tickets gs (parts_in a w) (nets_of a (form c.args.setting.now.pipe.now).pipe (form c.args.setting.now.pipe.now).widths w c.requires.walk) c.requires.walk.sized refl c.requires.typed.0.0 c.in-ReserveRead.m c.in-ReserveRead.a)
+    step_as a (form c.args.setting.now.pipe.now).pipe ls tickets gs gs (flat.ReserveRead c.in-ReserveRead.m c.in-ReserveRead.a)
+    (act_view c.args.s.now.op) (walk_of (parts_in a w)) (walk_of (parts_in a w)) refl op
+    (idle_step a (form c.args.setting.now.pipe.now).pipe (form c.args.setting.now.pipe.now).widths ls tickets gs (parts_in a w)
+    (nets_of a (form c.args.setting.now.pipe.now).pipe
+    (form c.args.setting.now.pipe.now).widths w c.requires.walk) c.requires.walk.sized refl c.requires.typed.0.0 c.in-ReserveRead.m c.in-ReserveRead.a)
 
 pub returns-in-DelayedRead-clause-step : goal.returns-in-DelayedRead-clause-step
 returns-in-DelayedRead-clause-step g c =
@@ -261,11 +323,17 @@ returns-in-DelayedRead-clause-step g c =
     let gs = guards_view c.as_slice-guards.result.now in
     let same : gs ≡ guards_view c.args.s.now.guards = ap guards_view c.as_slice-guards.ensures in
     let guards = subst (λ l. AreGuards (form c.args.setting.now.pipe.now).widths l) (sym same) c.requires.typed.0.0 in
-    let nets = has_keep a b (parts_in a w).vars (extends_keeps a b c.delayed_read.ensures.extends) (nets_of a (form c.args.setting.now.pipe.now).pipe (form c.args.setting.now.pipe.now).widths w c.requires.walk) in
+    let nets =
+    has_keep a b (parts_in a w).vars (extends_keeps a b c.delayed_read.ensures.extends)
+    (nets_of a (form c.args.setting.now.pipe.now).pipe (form c.args.setting.now.pipe.now).widths w c.requires.walk) in
     let op = sym (ap act_view c.in-DelayedRead.is) in
     on_ok c.delayed_read.result
-    (λ q. step_as b (form c.args.setting.now.pipe.now).pipe ls tickets gs (guards_view c.args.s.now.guards) (flat.DelayedRead c.in-DelayedRead.x c.in-DelayedRead.m c.in-DelayedRead.a) (act_view c.args.s.now.op) (walk_of (parts_in a w)) (walk_of (parts_in b c.delayed_read.new.self)) same op
-    (ask_step b (form c.args.setting.now.pipe.now).pipe (form c.args.setting.now.pipe.now).widths ls tickets gs (parts_in a w) nets c.requires.walk.sized refl guards c.in-DelayedRead.x c.in-DelayedRead.m c.in-DelayedRead.a (parts_in b c.delayed_read.new.self) q))
+    (λ q. step_as b (form c.args.setting.now.pipe.now).pipe ls tickets gs (guards_view c.args.s.now.guards)
+    (flat.DelayedRead c.in-DelayedRead.x c.in-DelayedRead.m c.in-DelayedRead.a) (act_view c.args.s.now.op)
+    (walk_of (parts_in a w)) (walk_of (parts_in b c.delayed_read.new.self)) same op
+    (ask_step b (form c.args.setting.now.pipe.now).pipe (form c.args.setting.now.pipe.now).widths ls tickets gs
+    (parts_in a w) nets c.requires.walk.sized refl guards c.in-DelayedRead.x c.in-DelayedRead.m c.in-DelayedRead.a
+    (parts_in b c.delayed_read.new.self) q))
     c.delayed_read.ensures.parts
 
 pub returns-in-SpecCall-clause-step : goal.returns-in-SpecCall-clause-step
@@ -278,17 +346,29 @@ returns-in-SpecCall-clause-step g c =
     let gs = guards_view c.as_slice-guards.result.now in
     let same : gs ≡ guards_view c.args.s.now.guards = ap guards_view c.as_slice-guards.ensures in
     let guards = subst (λ l. AreGuards (form c.args.setting.now.pipe.now).widths l) (sym same) c.requires.typed.0.0 in
-    let nets = has_keep a b (parts_in a w).vars (extends_keeps a b c.spec_call.ensures.extends) (nets_of a (form c.args.setting.now.pipe.now).pipe (form c.args.setting.now.pipe.now).widths w c.requires.walk) in
+    let nets =
+    has_keep a b (parts_in a w).vars (extends_keeps a b c.spec_call.ensures.extends)
+    (nets_of a (form c.args.setting.now.pipe.now).pipe (form c.args.setting.now.pipe.now).widths w c.requires.walk) in
     let typed = subst (λ (o : r_op.Op). IsTypedOp (form c.args.setting.now.pipe.now) (act_view o)) c.in-SpecCall.is c.requires.typed.0.1 in
     let es = exprs_view c.as_slice-in-SpecCall.result.now in
     let op = ap (λ (l : List r_expr.FlatExpr). flat.SpecCall (exprs_view l)) c.as_slice-in-SpecCall.ensures ∙ sym (ap act_view c.in-SpecCall.is) in
-    let args = subst (λ (l : List r_expr.FlatExpr). AreArguments (form c.args.setting.now.pipe.now).widths (param_widths (form c.args.setting.now.pipe.now)) (exprs_view l)) (sym c.as_slice-in-SpecCall.ensures) typed in
+    let args =
+    subst
+    (λ (l : List r_expr.FlatExpr). AreArguments (form c.args.setting.now.pipe.now).widths (param_widths (form c.args.setting.now.pipe.now)) (exprs_view l))
+    (sym c.as_slice-in-SpecCall.ensures) typed in
     let ws = (form c.args.setting.now.pipe.now).widths in
     let n = length (form c.args.setting.now.pipe.now).pipe.start in
-    let wide = arguments_wide (parts_in a w).vars (param_widths (form c.args.setting.now.pipe.now)) es (subst (λ l. AreArguments l (param_widths (form c.args.setting.now.pipe.now)) es) (sym c.requires.walk.sized.vars) args) ∙ sym c.requires.walk.sized.guess in
+    let wide =
+    arguments_wide (parts_in a w).vars (param_widths (form c.args.setting.now.pipe.now)) es
+    (subst (λ l. AreArguments l (param_widths (form c.args.setting.now.pipe.now)) es) (sym c.requires.walk.sized.vars) args)
+    ∙ sym c.requires.walk.sized.guess in
     on_ok c.spec_call.result
-    (λ q. step_as b (form c.args.setting.now.pipe.now).pipe ls tickets gs (guards_view c.args.s.now.guards) (flat.SpecCall es) (act_view c.args.s.now.op) (walk_of (parts_in a w)) (walk_of (parts_in b c.spec_call.new.self)) same op
-    (guess_step b (form c.args.setting.now.pipe.now).pipe (form c.args.setting.now.pipe.now).widths ls tickets gs (parts_in a w) nets c.requires.walk.sized refl guards es (arguments_few ws n es args) (arguments_typed ws (param_widths (form c.args.setting.now.pipe.now)) es args) wide (parts_in b c.spec_call.new.self) q))
+    (λ q. step_as b (form c.args.setting.now.pipe.now).pipe ls tickets gs (guards_view c.args.s.now.guards)
+    (flat.SpecCall es) (act_view c.args.s.now.op) (walk_of (parts_in a w))
+    (walk_of (parts_in b c.spec_call.new.self)) same op
+    (guess_step b (form c.args.setting.now.pipe.now).pipe (form c.args.setting.now.pipe.now).widths ls tickets gs
+    (parts_in a w) nets c.requires.walk.sized refl guards es (arguments_few ws n es args)
+    (arguments_typed ws (param_widths (form c.args.setting.now.pipe.now)) es args) wide (parts_in b c.spec_call.new.self) q))
     c.spec_call.ensures.parts
 
 pub returns-in-Verify-clause-step : goal.returns-in-Verify-clause-step
@@ -301,17 +381,29 @@ returns-in-Verify-clause-step g c =
     let gs = guards_view c.as_slice-guards.result.now in
     let same : gs ≡ guards_view c.args.s.now.guards = ap guards_view c.as_slice-guards.ensures in
     let guards = subst (λ l. AreGuards (form c.args.setting.now.pipe.now).widths l) (sym same) c.requires.typed.0.0 in
-    let nets = has_keep a b (parts_in a w).vars (extends_keeps a b c.verify.ensures.extends) (nets_of a (form c.args.setting.now.pipe.now).pipe (form c.args.setting.now.pipe.now).widths w c.requires.walk) in
+    let nets =
+    has_keep a b (parts_in a w).vars (extends_keeps a b c.verify.ensures.extends)
+    (nets_of a (form c.args.setting.now.pipe.now).pipe (form c.args.setting.now.pipe.now).widths w c.requires.walk) in
     let typed = subst (λ (o : r_op.Op). IsTypedOp (form c.args.setting.now.pipe.now) (act_view o)) c.in-Verify.is c.requires.typed.0.1 in
     let es = exprs_view c.as_slice-in-Verify.result.now in
     let op = ap (λ (l : List r_expr.FlatExpr). flat.Verify (exprs_view l)) c.as_slice-in-Verify.ensures ∙ sym (ap act_view c.in-Verify.is) in
-    let args = subst (λ (l : List r_expr.FlatExpr). AreArguments (form c.args.setting.now.pipe.now).widths (param_widths (form c.args.setting.now.pipe.now)) (exprs_view l)) (sym c.as_slice-in-Verify.ensures) typed in
+    let args =
+    subst
+    (λ (l : List r_expr.FlatExpr). AreArguments (form c.args.setting.now.pipe.now).widths (param_widths (form c.args.setting.now.pipe.now)) (exprs_view l))
+    (sym c.as_slice-in-Verify.ensures) typed in
     let ws = (form c.args.setting.now.pipe.now).widths in
     let n = length (form c.args.setting.now.pipe.now).pipe.start in
-    let wide = arguments_wide (parts_in a w).vars (param_widths (form c.args.setting.now.pipe.now)) es (subst (λ l. AreArguments l (param_widths (form c.args.setting.now.pipe.now)) es) (sym c.requires.walk.sized.vars) args) ∙ sym c.requires.walk.sized.guess in
+    let wide =
+    arguments_wide (parts_in a w).vars (param_widths (form c.args.setting.now.pipe.now)) es
+    (subst (λ l. AreArguments l (param_widths (form c.args.setting.now.pipe.now)) es) (sym c.requires.walk.sized.vars) args)
+    ∙ sym c.requires.walk.sized.guess in
     on_ok c.verify.result
-    (λ q. step_as b (form c.args.setting.now.pipe.now).pipe ls tickets gs (guards_view c.args.s.now.guards) (flat.Verify es) (act_view c.args.s.now.op) (walk_of (parts_in a w)) (walk_of (parts_in b c.verify.new.self)) same op
-    (verify_step b (form c.args.setting.now.pipe.now).pipe (form c.args.setting.now.pipe.now).widths ls tickets gs (parts_in a w) nets c.requires.walk.sized refl guards es (arguments_few ws n es args) (arguments_typed ws (param_widths (form c.args.setting.now.pipe.now)) es args) wide (parts_in b c.verify.new.self) q))
+    (λ q. step_as b (form c.args.setting.now.pipe.now).pipe ls tickets gs (guards_view c.args.s.now.guards)
+    (flat.Verify es) (act_view c.args.s.now.op) (walk_of (parts_in a w))
+    (walk_of (parts_in b c.verify.new.self)) same op
+    (verify_step b (form c.args.setting.now.pipe.now).pipe (form c.args.setting.now.pipe.now).widths ls tickets gs
+    (parts_in a w) nets c.requires.walk.sized refl guards es (arguments_few ws n es args)
+    (arguments_typed ws (param_widths (form c.args.setting.now.pipe.now)) es args) wide (parts_in b c.verify.new.self) q))
     c.verify.ensures.parts
 
 pub returns-in-SpecBarrier-clause-step : goal.returns-in-SpecBarrier-clause-step
@@ -324,11 +416,15 @@ returns-in-SpecBarrier-clause-step g c =
     let gs = guards_view c.as_slice-guards.result.now in
     let same : gs ≡ guards_view c.args.s.now.guards = ap guards_view c.as_slice-guards.ensures in
     let guards = subst (λ l. AreGuards (form c.args.setting.now.pipe.now).widths l) (sym same) c.requires.typed.0.0 in
-    let nets = has_keep a b (parts_in a w).vars (extends_keeps a b c.spec_barrier.ensures.extends) (nets_of a (form c.args.setting.now.pipe.now).pipe (form c.args.setting.now.pipe.now).widths w c.requires.walk) in
+    let nets =
+    has_keep a b (parts_in a w).vars (extends_keeps a b c.spec_barrier.ensures.extends)
+    (nets_of a (form c.args.setting.now.pipe.now).pipe (form c.args.setting.now.pipe.now).widths w c.requires.walk) in
     let op = sym (ap act_view c.in-SpecBarrier.is) in
     on_ok c.spec_barrier.result
-    (λ q. step_as b (form c.args.setting.now.pipe.now).pipe ls tickets gs (guards_view c.args.s.now.guards) flat.SpecBarrier (act_view c.args.s.now.op) (walk_of (parts_in a w)) (walk_of (parts_in b c.spec_barrier.new.self)) same op
-    (barrier_step b (form c.args.setting.now.pipe.now).pipe (form c.args.setting.now.pipe.now).widths ls tickets gs (parts_in a w) nets c.requires.walk.sized refl guards (parts_in b c.spec_barrier.new.self) q))
+    (λ q. step_as b (form c.args.setting.now.pipe.now).pipe ls tickets gs (guards_view c.args.s.now.guards) flat.SpecBarrier (act_view c.args.s.now.op)
+    (walk_of (parts_in a w)) (walk_of (parts_in b c.spec_barrier.new.self)) same op
+    (barrier_step b (form c.args.setting.now.pipe.now).pipe (form c.args.setting.now.pipe.now).widths ls tickets gs
+    (parts_in a w) nets c.requires.walk.sized refl guards (parts_in b c.spec_barrier.new.self) q))
     c.spec_barrier.ensures.parts
 
 pub returns-in-SpecCheck-clause-step : goal.returns-in-SpecCheck-clause-step
@@ -339,5 +435,8 @@ returns-in-SpecCheck-clause-step g c =
     let tickets = tickets_in a c.args.setting.now.tickets.now in
     let gs = guards_view c.args.s.now.guards in
     let op : flat.SpecCheck ≡ act_view c.args.s.now.op = sym (ap act_view c.in-SpecCheck.is) in
-    step_as a (form c.args.setting.now.pipe.now).pipe ls tickets gs gs flat.SpecCheck (act_view c.args.s.now.op) (walk_of (parts_in a w)) (walk_of (parts_in a w)) refl op
-    (check_step a (form c.args.setting.now.pipe.now).pipe (form c.args.setting.now.pipe.now).widths ls tickets gs (parts_in a w) (nets_of a (form c.args.setting.now.pipe.now).pipe (form c.args.setting.now.pipe.now).widths w c.requires.walk) c.requires.walk.sized refl c.requires.typed.0.0)
+    step_as a (form c.args.setting.now.pipe.now).pipe ls tickets gs gs flat.SpecCheck (act_view c.args.s.now.op)
+    (walk_of (parts_in a w)) (walk_of (parts_in a w)) refl op
+    (check_step a (form c.args.setting.now.pipe.now).pipe (form c.args.setting.now.pipe.now).widths ls tickets gs (parts_in a w)
+    (nets_of a (form c.args.setting.now.pipe.now).pipe
+    (form c.args.setting.now.pipe.now).widths w c.requires.walk) c.requires.walk.sized refl c.requires.typed.0.0)

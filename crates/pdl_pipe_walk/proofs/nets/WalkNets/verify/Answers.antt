@@ -19,7 +19,9 @@ use Rattle.pdl_pipe_walk.proofs.ChangedNets.{birth_made, call_same}
 use Rattle.pdl_pipe_walk.proofs.nets.WalkNets.verify.Goals as goal
 
 pub values-requires-clause-walk : goal.values-requires-clause-walk
-values-requires-clause-walk c = walk_more c.args.b.now c.all_taken.new.b c.all_taken.ensures.extends (form c.args.pipe.now).pipe (form c.args.pipe.now).widths c.args.self.now c.requires.walk
+values-requires-clause-walk c =
+    walk_more c.args.b.now c.all_taken.new.b c.all_taken.ensures.extends (form c.args.pipe.now).pipe
+    (form c.args.pipe.now).widths c.args.self.now c.requires.walk
 
 pub differ-requires-clause-ys : goal.differ-requires-clause-ys
 differ-requires-clause-ys c =
@@ -36,7 +38,9 @@ differ-requires-clause-widths c =
     let wide = c.in_ok-nets.ensures.wide in
     let w = c.args.self.now in
     ap (λ (l : List Net). widths_of (signals_in two l)) c.as_slice.ensures ∙ wide
-    ∙ sym (ap (λ (l : List Net). widths_of (signals_in two l)) c.as_slice-2.ensures ∙ ap widths_of (nets_kept a two w.guess far c.requires.walk.there.guess) ∙ c.requires.walk.sized.guess)
+    ∙ sym
+    (ap (λ (l : List Net). widths_of (signals_in two l)) c.as_slice-2.ensures
+    ∙ ap widths_of (nets_kept a two w.guess far c.requires.walk.there.guess) ∙ c.requires.walk.sized.guess)
 
 pub fail-requires-clause-walk : goal.fail-requires-clause-walk
 fail-requires-clause-walk c =
@@ -44,7 +48,8 @@ fail-requires-clause-walk c =
     let b2 = c.values.new.b in
     let b3 = c.differ.new.b in
     let far = extends_trans a c.all_taken.new.b b2 c.all_taken.ensures.extends c.values.ensures.extends in
-    walk_more a b3 (extends_trans a b2 b3 far c.differ.ensures.extends) (form c.args.pipe.now).pipe (form c.args.pipe.now).widths c.args.self.now c.requires.walk
+    walk_more a b3 (extends_trans a b2 b3 far c.differ.ensures.extends)
+    (form c.args.pipe.now).pipe (form c.args.pipe.now).widths c.args.self.now c.requires.walk
 
 pub returns-clause-walk : goal.returns-clause-walk
 returns-clause-walk c =
@@ -66,8 +71,12 @@ returns-clause-walk c =
     let nets = c.in_ok-nets.nets in
     let on_there = e2.there on_net c.in_ok-on.ensures.means.there in
     let on_is : signal b2 on_net ≡ on = e2.kept on_net c.in_ok-on.ensures.means.there ∙ c.in_ok-on.ensures.means.same in
-    let args_is : signals_in b2 nets ≡ fs = c.in_ok-nets.ensures.means ∙ ap (λ (l : List Signal). value_signals l (exprs_view c.args.args.now)) (vars_same a b1 e1 (form c.args.pipe.now).pipe (form c.args.pipe.now).widths w h) in
-    let wide : widths_of fs ≡ take (length (form c.args.pipe.now).pipe.start) (form c.args.pipe.now).widths = ap widths_of (sym args_is) ∙ c.in_ok-nets.ensures.wide in
+    let args_is : signals_in b2 nets ≡ fs =
+    c.in_ok-nets.ensures.means
+    ∙ ap (λ (l : List Signal). value_signals l (exprs_view c.args.args.now))
+    (vars_same a b1 e1 (form c.args.pipe.now).pipe (form c.args.pipe.now).widths w h) in
+    let wide : widths_of fs ≡ take (length (form c.args.pipe.now).pipe.start) (form c.args.pipe.now).widths =
+    ap widths_of (sym args_is) ∙ c.in_ok-nets.ensures.wide in
     let xs_is : signals_in b2 c.as_slice.result.now ≡ fs = ap (signals_in b2) c.as_slice.ensures ∙ args_is in
     let ys_is : signals_in b2 c.as_slice-2.result.now ≡ gs = ap (signals_in b2) c.as_slice-2.ensures ∙ nets_kept a b2 w.guess far h.there.guess in
     let b4 = c.fail.new.b in
@@ -76,7 +85,9 @@ returns-clause-walk c =
     let wrong_is : signal b3 c.in_ok-wrong.wrong ≡ differ_signal fs gs = c.in_ok-wrong.ensures.means.same ∙ ap₂ differ_signal xs_is ys_is in
     let here : Signal = both on (differ_signal fs gs) in
     let here_is : signal b4 c.in_ok-fails.fails ≡ here = c.in_ok-fails.ensures.means.same ∙ ap₂ both (e3.kept on_net on_there ∙ on_is) wrong_is in
-    let made = birth_made b4 c.push_birth.result (form c.args.pipe.now).pipe (form c.args.pipe.now).widths c.fail.new.self c.push_birth.new.self c.in_ok-fails.fails nets c.in_ok-fails.ensures.walk c.in_ok-fails.ensures.means.there
+    let made =
+    birth_made b4 c.push_birth.result (form c.args.pipe.now).pipe
+    (form c.args.pipe.now).widths c.fail.new.self c.push_birth.new.self c.in_ok-fails.fails nets c.in_ok-fails.ensures.walk c.in_ok-fails.ensures.means.there
     (ap (λ (f : Signal). f.width) here_is ∙ ap (λ (f : Signal). f.width) (sym wrong_is) ∙ c.in_ok-wrong.ensures.one)
     (nets_there b2 b4 nets e34 c.in_ok-nets.ensures.there) (ap widths_of (nets_kept b2 b4 nets e34 c.in_ok-nets.ensures.there ∙ args_is) ∙ wide)
     c.push_birth.ensures.births c.push_birth.ensures.vars c.push_birth.ensures.held c.push_birth.ensures.rest in
@@ -102,8 +113,12 @@ returns-clause-parts c =
     let nets = c.in_ok-nets.nets in
     let on_there = e2.there on_net c.in_ok-on.ensures.means.there in
     let on_is : signal b2 on_net ≡ on = e2.kept on_net c.in_ok-on.ensures.means.there ∙ c.in_ok-on.ensures.means.same in
-    let args_is : signals_in b2 nets ≡ fs = c.in_ok-nets.ensures.means ∙ ap (λ (l : List Signal). value_signals l (exprs_view c.args.args.now)) (vars_same a b1 e1 (form c.args.pipe.now).pipe (form c.args.pipe.now).widths w h) in
-    let wide : widths_of fs ≡ take (length (form c.args.pipe.now).pipe.start) (form c.args.pipe.now).widths = ap widths_of (sym args_is) ∙ c.in_ok-nets.ensures.wide in
+    let args_is : signals_in b2 nets ≡ fs =
+    c.in_ok-nets.ensures.means
+    ∙ ap (λ (l : List Signal). value_signals l (exprs_view c.args.args.now))
+    (vars_same a b1 e1 (form c.args.pipe.now).pipe (form c.args.pipe.now).widths w h) in
+    let wide : widths_of fs ≡ take (length (form c.args.pipe.now).pipe.start) (form c.args.pipe.now).widths =
+    ap widths_of (sym args_is) ∙ c.in_ok-nets.ensures.wide in
     let xs_is : signals_in b2 c.as_slice.result.now ≡ fs = ap (signals_in b2) c.as_slice.ensures ∙ args_is in
     let ys_is : signals_in b2 c.as_slice-2.result.now ≡ gs = ap (signals_in b2) c.as_slice-2.ensures ∙ nets_kept a b2 w.guess far h.there.guess in
     let b4 = c.fail.new.b in
@@ -112,12 +127,20 @@ returns-clause-parts c =
     let wrong_is : signal b3 c.in_ok-wrong.wrong ≡ differ_signal fs gs = c.in_ok-wrong.ensures.means.same ∙ ap₂ differ_signal xs_is ys_is in
     let here : Signal = both on (differ_signal fs gs) in
     let here_is : signal b4 c.in_ok-fails.fails ≡ here = c.in_ok-fails.ensures.means.same ∙ ap₂ both (e3.kept on_net on_there ∙ on_is) wrong_is in
-    let made = birth_made b4 c.push_birth.result (form c.args.pipe.now).pipe (form c.args.pipe.now).widths c.fail.new.self c.push_birth.new.self c.in_ok-fails.fails nets c.in_ok-fails.ensures.walk c.in_ok-fails.ensures.means.there
+    let made =
+    birth_made b4 c.push_birth.result (form c.args.pipe.now).pipe
+    (form c.args.pipe.now).widths c.fail.new.self c.push_birth.new.self c.in_ok-fails.fails nets c.in_ok-fails.ensures.walk c.in_ok-fails.ensures.means.there
     (ap (λ (f : Signal). f.width) here_is ∙ ap (λ (f : Signal). f.width) (sym wrong_is) ∙ c.in_ok-wrong.ensures.one)
     (nets_there b2 b4 nets e34 c.in_ok-nets.ensures.there) (ap widths_of (nets_kept b2 b4 nets e34 c.in_ok-nets.ensures.there ∙ args_is) ∙ wide)
     c.push_birth.ensures.births c.push_birth.ensures.vars c.push_birth.ensures.held c.push_birth.ensures.rest in
-    let fails_is = c.in_ok-fails.ensures.parts ∙ ap₂ (λ (q : Parts) o. record q { fails = mux_signal o one q.fails }) (parts_more a b3 far3 (form c.args.pipe.now).pipe (form c.args.pipe.now).widths w h) (ap₂ both (e3.kept on_net on_there ∙ on_is) wrong_is) in
+    let fails_is =
+    c.in_ok-fails.ensures.parts
+    ∙ ap₂ (λ (q : Parts) o. record q { fails = mux_signal o one q.fails })
+    (parts_more a b3 far3 (form c.args.pipe.now).pipe (form c.args.pipe.now).widths w h)
+    (ap₂ both (e3.kept on_net on_there ∙ on_is) wrong_is) in
     on_ok c.push_birth.result
-    (λ q. q.1 ∙ call_same (signal b4 c.in_ok-fails.fails) here (signals_in b4 nets) fs (parts_in b4 c.fail.new.self) (record (parts_in a w) { fails = mux_signal here one (signal a w.fails) })
+    (λ q. q.1
+    ∙ call_same (signal b4 c.in_ok-fails.fails) here (signals_in b4 nets) fs (parts_in b4 c.fail.new.self)
+    (record (parts_in a w) { fails = mux_signal here one (signal a w.fails) })
     here_is (nets_kept b2 b4 nets e34 c.in_ok-nets.ensures.there ∙ args_is) fails_is)
     made

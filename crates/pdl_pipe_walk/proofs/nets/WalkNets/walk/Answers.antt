@@ -13,7 +13,8 @@ use Rattle.pdl_pipe_walk.proofs.nets.WalkNets.walk.Goals as goal
 pub walk_rows-requires-clause-typed : goal.walk_rows-requires-clause-typed
 walk_rows-requires-clause-typed g c =
     subst (λ (xs : List Stmt). AreWalkedRows (form c.args.setting.now.pipe.now) xs c.rows-rows.result.now) (sym c.stmts.ensures)
-    (rows_walked (form c.args.setting.now.pipe.now) (form c.args.setting.now.pipe.now).pipe.stmts c.rows-rows.result.now c.requires.typed c.rows-rows.ensures.within)
+    (rows_walked (form c.args.setting.now.pipe.now)
+    (form c.args.setting.now.pipe.now).pipe.stmts c.rows-rows.result.now c.requires.typed c.rows-rows.ensures.within)
 
 pub returns-clause-steps : goal.returns-clause-steps
 returns-clause-steps g c =
@@ -21,5 +22,8 @@ returns-clause-steps g c =
     let b = c.walk_rows.new.b in
     let ls = locks_in (members g.L.LockModule) (form c.args.setting.now.pipe.now).pipe a c.args.setting.now.locks.now in
     let same = ap (λ (xs : List Stmt). map (stmt_at xs) c.rows-rows.result.now) c.stmts.ensures ∙ c.rows-rows.ensures.stmts in
-    subst (λ (xs : List Stmt). OnOk c.walk_rows.result (AreSteps b (form c.args.setting.now.pipe.now).pipe ls (tickets_in a c.args.setting.now.tickets.now) xs (walk_in a c.args.self.now) (walk_in b c.walk_rows.new.self))) same
+    subst
+    (λ (xs : List Stmt). OnOk c.walk_rows.result
+    (AreSteps b (form c.args.setting.now.pipe.now).pipe ls (tickets_in a c.args.setting.now.tickets.now) xs (walk_in a c.args.self.now)
+    (walk_in b c.walk_rows.new.self))) same
     c.walk_rows.ensures.steps

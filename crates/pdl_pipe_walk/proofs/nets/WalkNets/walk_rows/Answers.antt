@@ -16,21 +16,31 @@ use Rattle.pdl_pipe_walk.proofs.RowSteps.{rows_split, rows_more, row_low, steps_
 use Rattle.pdl_pipe_walk.proofs.nets.WalkNets.walk_rows.Goals as goal
 
 pub row-s-requires : goal.row-s-requires
-row-s-requires g c = row_low c.args.stmts.now _ (rows_split c.args.rows.now c.loop-i.i-index c.loop-i-test.true (form c.args.setting.now.pipe.now) (stmts_view c.args.stmts.now) c.loop-i.invariant.typed).0.0
+row-s-requires g c =
+    row_low c.args.stmts.now _
+    (rows_split c.args.rows.now c.loop-i.i-index c.loop-i-test.true (form c.args.setting.now.pipe.now)
+    (stmts_view c.args.stmts.now) c.loop-i.invariant.typed).0.0
 
 pub statement-requires-clause-bits : goal.statement-requires-clause-bits
 statement-requires-clause-bits g c = bits_kept c.args.b.now c.loop-i.b c.args.setting.now.bits c.loop-i.invariant.extends c.requires.bits
 
 pub statement-requires-clause-locks : goal.statement-requires-clause-locks
-statement-requires-clause-locks g c = locked_keep (members g.L.LockModule) c.args.b.now c.loop-i.b (extends_keeps c.args.b.now c.loop-i.b c.loop-i.invariant.extends) g.met.L.LockModule.stays (form c.args.setting.now.pipe.now).pipe c.args.setting.now.locks.now c.requires.locks
+statement-requires-clause-locks g c =
+    locked_keep (members g.L.LockModule) c.args.b.now c.loop-i.b
+    (extends_keeps c.args.b.now c.loop-i.b c.loop-i.invariant.extends) g.met.L.LockModule.stays
+    (form c.args.setting.now.pipe.now).pipe c.args.setting.now.locks.now c.requires.locks
 
 pub statement-requires-clause-tickets : goal.statement-requires-clause-tickets
 statement-requires-clause-tickets g c =
-    tickets_keep (members g.L.LockModule) c.args.b.now c.loop-i.b (extends_keeps c.args.b.now c.loop-i.b c.loop-i.invariant.extends) g.met.L.LockModule.stays (form c.args.setting.now.pipe.now).pipe c.args.setting.now.locks.now c.requires.locks c.args.setting.now.tickets.now c.requires.tickets
+    tickets_keep (members g.L.LockModule) c.args.b.now c.loop-i.b
+    (extends_keeps c.args.b.now c.loop-i.b c.loop-i.invariant.extends) g.met.L.LockModule.stays
+    (form c.args.setting.now.pipe.now).pipe c.args.setting.now.locks.now c.requires.locks c.args.setting.now.tickets.now c.requires.tickets
 
 pub statement-requires-clause-typed : goal.statement-requires-clause-typed
 statement-requires-clause-typed g c =
-    let now = (rows_split c.args.rows.now c.loop-i.i-index c.loop-i-test.true (form c.args.setting.now.pipe.now) (stmts_view c.args.stmts.now) c.loop-i.invariant.typed).0 in
+    let now =
+    (rows_split c.args.rows.now c.loop-i.i-index c.loop-i-test.true (form c.args.setting.now.pipe.now)
+    (stmts_view c.args.stmts.now) c.loop-i.invariant.typed).0 in
     subst (IsWalked (form c.args.setting.now.pipe.now)) (sym c.row-s.ensures) now.1
 
 pub loop-i-preserved : goal.loop-i-preserved
@@ -52,13 +62,20 @@ loop-i-preserved g c =
     let now = (rows_split rows i low (form c.args.setting.now.pipe.now) (stmts_view ss) inv.typed).0 in
     let at = stmt_at (stmts_view ss) k in
     let pick : List Signal → ℕ → Signal = λ fs m. signal_at fs m in
-    let same = locks_same (members g.L.LockModule) a mid (extends_keeps a mid inv.extends) g.met.L.LockModule.stays (form c.args.setting.now.pipe.now).pipe c.args.setting.now.locks.now c.requires.locks in
-    let step = step_here b (form c.args.setting.now.pipe.now).pipe (stmt_view c.row-s.result.now) at c.row-s.ensures (locks_in (members g.L.LockModule) (form c.args.setting.now.pipe.now).pipe mid c.args.setting.now.locks.now) ls (tickets_in mid c.args.setting.now.tickets.now) tickets v u same
+    let same =
+    locks_same (members g.L.LockModule) a mid (extends_keeps a mid inv.extends) g.met.L.LockModule.stays
+    (form c.args.setting.now.pipe.now).pipe c.args.setting.now.locks.now c.requires.locks in
+    let step =
+    step_here b (form c.args.setting.now.pipe.now).pipe (stmt_view c.row-s.result.now) at c.row-s.ensures
+    (locks_in (members g.L.LockModule) (form c.args.setting.now.pipe.now).pipe mid c.args.setting.now.locks.now) ls
+    (tickets_in mid c.args.setting.now.tickets.now) tickets v u same
     (ap pick (nets_kept a mid c.args.setting.now.tickets.now inv.extends c.requires.tickets.there)) c.in_ok-statement.ensures.step in
     record {
       walk = c.in_ok-statement.ensures.walk;
       typed = (rows_split rows i low (form c.args.setting.now.pipe.now) (stmts_view ss) inv.typed).1;
-      steps = subst (λ (xs : List Stmt). AreSteps b (form c.args.setting.now.pipe.now).pipe ls tickets xs (walk_in a c.args.self.now) u) (sym (rows_more rows i low (form c.args.setting.now.pipe.now) (stmts_view ss)))
+      steps =
+          subst (λ (xs : List Stmt). AreSteps b (form c.args.setting.now.pipe.now).pipe ls tickets xs (walk_in a c.args.self.now) u)
+          (sym (rows_more rows i low (form c.args.setting.now.pipe.now) (stmts_view ss)))
           (steps_push mid b (form c.args.setting.now.pipe.now).pipe ls tickets _ at (walk_in a c.args.self.now) v u (extends_keeps mid b e) inv.steps step);
       extends = extends_trans a mid b inv.extends e;
     }

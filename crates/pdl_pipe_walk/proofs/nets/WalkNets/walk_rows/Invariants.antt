@@ -13,7 +13,8 @@ abbrev pub invariant-loop-i : goal.invariant-loop-i
 invariant-loop-i g l = record {
   walk : IsWalk l.b (form l.setting.pipe.now).pipe (form l.setting.pipe.now).widths l.self;
   typed : AreWalkedRows (form l.setting.pipe.now) (stmts_view l.stmts) (drop l.i-index l.rows);
-  steps : AreSteps l.b (form l.setting.pipe.now).pipe (locks_in (members g.L.LockModule) (form l.setting.pipe.now).pipe l.fn.b l.fn.setting.locks.now) (tickets_in l.fn.b l.fn.setting.tickets.now)
+  steps : AreSteps l.b (form l.setting.pipe.now).pipe (locks_in (members g.L.LockModule) (form l.setting.pipe.now).pipe l.fn.b l.fn.setting.locks.now)
+      (tickets_in l.fn.b l.fn.setting.tickets.now)
       (map (stmt_at (stmts_view l.stmts)) (take l.i-index l.rows)) (walk_in l.fn.b l.fn.self) (walk_in l.b l.self);
   extends : Extends l.fn.b l.b;
 }

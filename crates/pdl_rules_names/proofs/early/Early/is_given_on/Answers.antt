@@ -13,7 +13,8 @@ returns-then-not-is_on c =
     let gs = guards xs in
     let y = place_view c.args.definition.now in
     let below : c.args.path.bits < 2 ^ length gs = omega (arith, c.requires.bits, c.requires.path) in
-    let is_on = c.is_on.ensures gs c.requires.defined (guards_distinct xs) c.requires.ready.suits.few below ∙ ap (λ n. on_path (path_of gs n) y) c.requires.bits in
+    let is_on =
+    c.is_on.ensures gs c.requires.defined (guards_distinct xs) c.requires.ready.suits.few below ∙ ap (λ n. on_path (path_of gs n) y) c.requires.bits in
     given_off (path_of gs c.args.b) (take c.args.self.now.k (map place_view c.args.self.now.places.now)) c.args.d y (sym is_on ∙ c.if-not-is_on.true)
 
 pub returns-then-not-is_delayed : goal.returns-then-not-is_delayed
@@ -22,7 +23,8 @@ returns-then-not-is_delayed c =
     let gs = guards xs in
     let y = place_view c.args.definition.now in
     let below : c.args.path.bits < 2 ^ length gs = omega (arith, c.requires.bits, c.requires.path) in
-    let is_on = c.is_on.ensures gs c.requires.defined (guards_distinct xs) c.requires.ready.suits.few below ∙ ap (λ n. on_path (path_of gs n) y) c.requires.bits in
+    let is_on =
+    c.is_on.ensures gs c.requires.defined (guards_distinct xs) c.requires.ready.suits.few below ∙ ap (λ n. on_path (path_of gs n) y) c.requires.bits in
     given_at_once (path_of gs c.args.b) (take c.args.self.now.k (map place_view c.args.self.now.places.now)) c.args.d y (sym is_on ∙ c.if-not-is_on.false)
     (sym c.is_delayed.ensures ∙ c.if-not-is_delayed.true)
 
@@ -32,6 +34,7 @@ returns c =
     let gs = guards xs in
     let y = place_view c.args.definition.now in
     let below : c.args.path.bits < 2 ^ length gs = omega (arith, c.requires.bits, c.requires.path) in
-    let is_on = c.is_on.ensures gs c.requires.defined (guards_distinct xs) c.requires.ready.suits.few below ∙ ap (λ n. on_path (path_of gs n) y) c.requires.bits in
+    let is_on =
+    c.is_on.ensures gs c.requires.defined (guards_distinct xs) c.requires.ready.suits.few below ∙ ap (λ n. on_path (path_of gs n) y) c.requires.bits in
     given_later (path_of gs c.args.b) (take c.args.self.now.k (map place_view c.args.self.now.places.now)) c.args.d y _ (sym is_on ∙ c.if-not-is_on.false)
     (sym c.is_delayed.ensures ∙ c.if-not-is_delayed.false) (c.requires.ready.last.each c.args.b c.requires.path c.args.d)

@@ -20,4 +20,6 @@ returns-then-not-is_on c =
 pub returns : goal.returns
 returns c =
     let xs = places (pipe_view c.args.self.now.pipe.now) in
-    missing_if _ _ _ (sym (c.is_on.ensures (guards xs) c.requires.masked (guards_distinct xs) c.requires.ready.suits.few c.requires.path) ∙ c.if-not-is_on.false) c.is_given_on.ensures
+    missing_if _ _ _
+    (sym (c.is_on.ensures (guards xs) c.requires.masked (guards_distinct xs) c.requires.ready.suits.few c.requires.path)
+    ∙ c.if-not-is_on.false) c.is_given_on.ensures

@@ -10,7 +10,8 @@ use Rattle.pdl_rules_on_paths.proofs.Nth.{nth}
 use Rattle.pdl_rules_on_paths.proofs.Steps.{one_place}
 
 pub returns-then-d-self : goal.returns-then-d-self
-returns-then-d-self c u x first got = late (pipe_view c.args.self.now.pipe.now) (map place_view c.args.self.now.places.now) c.args.self.now.k c.args.d u x first c.if-d-self.true
+returns-then-d-self c u x first got =
+    late (pipe_view c.args.self.now.pipe.now) (map place_view c.args.self.now.places.now) c.args.self.now.k c.args.d u x first c.if-d-self.true
 
 pub returns-then-is_inside : goal.returns-then-is_inside
 returns-then-is_inside c u x first got =
@@ -26,7 +27,8 @@ returns-then-is_inside c u x first got =
     subst (λ z. false ≡ ungiven p xs k u z) (same_item xs k (place_view a) x here got)
     (missing_nowhere p xs k d u (place_view a) (place_view b)
     (record { all = c.requires.ready.suits.names.all; there = there; first = first; once = c.requires.ready.suits.once }) c.if-d-self.false
-    (λ n l. inside (path_of (guards (places p)) n) (take k xs) d (place_view a) (place_view b) (sym c.if-not-is_delayed.ensures) (c.if-is_inside.ensures (path_of (guards (places p)) n) refl)))
+    (λ n l. inside (path_of (guards (places p)) n) (take k xs) d (place_view a) (place_view b)
+    (sym c.if-not-is_delayed.ensures) (c.if-is_inside.ensures (path_of (guards (places p)) n) refl)))
 
 pub returns-then-is_missing_on : goal.returns-then-is_missing_on
 returns-then-is_missing_on c u x first got =
@@ -62,7 +64,8 @@ loop-b-preserved c =
     let ps = c.args.self.now.places.now in
     let a = get_or ps c.args.self.now.k c.index-self-self.result in
     let b = get_or ps c.args.d c.index-self-d.result in
-    let test : ℕ → Bool = λ n. on_path (path_of gs n) (place_view a) && not (given_on (path_of gs n) (take c.args.self.now.k (map place_view ps)) c.args.d (place_view b)) in
+    let test : ℕ → Bool =
+    λ n. on_path (path_of gs n) (place_view a) && not (given_on (path_of gs n) (take c.args.self.now.k (map place_view ps)) c.args.d (place_view b)) in
     one_place test c.loop-b.b c.loop-b.invariant (sym {b = test c.loop-b.b} c.is_missing_on.ensures ∙ c.if-is_missing_on.false)
 
 pub returns : goal.returns

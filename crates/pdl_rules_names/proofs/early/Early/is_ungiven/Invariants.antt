@@ -11,5 +11,6 @@ abbrev pub invariant-loop-b : goal.invariant-loop-b
 invariant-loop-b l =
     (b : ℕ) → b < l.b
     → (on_path (path_of (guards (places (pipe_view l.self.pipe.now))) b) (place_view l.place)
-    && not (given_on (path_of (guards (places (pipe_view l.self.pipe.now))) b) (take l.self.k (map place_view l.self.places.now)) l.d (place_view l.definition)))
+    && not
+    (given_on (path_of (guards (places (pipe_view l.self.pipe.now))) b) (take l.self.k (map place_view l.self.places.now)) l.d (place_view l.definition)))
     ≡ false

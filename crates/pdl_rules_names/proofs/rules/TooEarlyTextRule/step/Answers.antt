@@ -24,7 +24,8 @@ returns-then-not-is_separator c =
     let k = c.args.k in
     let y = place_view c.index-places-k.result in
     let got = nth place_view c.args.places.now k c.index-places-k.result c.requires.here c.index-places-k.is in
-    subst (λ ys. AreLast gs ys c.args.state.now.items) (take_next xs k y got) (all_kept gs (take k xs) y c.args.state.now.items (sym c.if-not-is_separator.ensures) c.requires.stands)
+    subst (λ ys. AreLast gs ys c.args.state.now.items) (take_next xs k y got)
+    (all_kept gs (take k xs) y c.args.state.now.items (sym c.if-not-is_separator.ensures) c.requires.stands)
 
 pub returns : goal.returns
 returns c =

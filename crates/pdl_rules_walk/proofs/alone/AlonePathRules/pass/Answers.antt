@@ -13,7 +13,8 @@ returns-then-k-courses g c gs xs bits suits got is_on h =
     let k = c.args.k in
     let path = path_of gs bits in
     let state = c.args.courses.now.state in
-    past (by_bits (g.R.PathRule.breaks_on rule) gs xs) (g.R.PathRule.stands rule path (take k xs) state) (g.R.PathRule.stands rule path (take (k + 1) xs) state) bits k (length xs) _
+    past (by_bits (g.R.PathRule.breaks_on rule) gs xs) (g.R.PathRule.stands rule path (take k xs) state)
+    (g.R.PathRule.stands rule path (take (k + 1) xs) state) bits k (length xs) _
     (omega (arith, c.if-k-courses.true)) h
 
 pub returns-then-breaks : goal.returns-then-breaks
@@ -28,7 +29,8 @@ returns-then-breaks g c gs xs bits suits got is_on h =
     let within : k ≤ c.args.courses.now.lowest = omega (arith, c.if-k-courses.false) in
     let stands = h.state within in
     let breaks = sym c.if-breaks.true ∙ c.breaks.ensures gs path (take k xs) (drop (suc k) xs) fits (taken_length xs k x got) is_on stands in
-    broken (by_bits (g.R.PathRule.breaks_on rule) gs xs) (g.R.PathRule.stands rule path (take k xs) state) (g.R.PathRule.stands rule path (take (k + 1) xs) state) bits k (length xs) _
+    broken (by_bits (g.R.PathRule.breaks_on rule) gs xs) (g.R.PathRule.stands rule path (take k xs) state)
+    (g.R.PathRule.stands rule path (take (k + 1) xs) state) bits k (length xs) _
     low (on (g.R.PathRule.breaks_on rule) path xs k x true got is_on breaks) h
 
 pub returns : goal.returns
@@ -42,7 +44,8 @@ returns g c gs xs bits suits got is_on h =
     let within : k ≤ c.args.courses.now.lowest = omega (arith, c.if-k-courses.false) in
     let stands = h.state within in
     let keeps = sym c.if-breaks.false ∙ c.breaks.ensures gs path (take k xs) (drop (suc k) xs) fits (taken_length xs k x got) is_on stands in
-    one_more (by_bits (g.R.PathRule.breaks_on rule) gs xs) (g.R.PathRule.stands rule path (take k xs) state) (g.R.PathRule.stands rule path (take (k + 1) xs) c.step.new.state)
+    one_more (by_bits (g.R.PathRule.breaks_on rule) gs xs) (g.R.PathRule.stands rule path (take k xs) state)
+    (g.R.PathRule.stands rule path (take (k + 1) xs) c.step.new.state)
     bits k (length xs) _ h
     (on (g.R.PathRule.breaks_on rule) path xs k x false got is_on keeps)
     (λ l stood. subst (λ b. g.R.PathRule.stands rule path b c.step.new.state) (take_next xs k x got)

@@ -13,4 +13,5 @@ of_flat-requires-clause-run c =
 
 pub of_flat-requires-clause-image : goal.of_flat-requires-clause-image
 of_flat-requires-clause-image c =
-    subst (λ (f : Form). IsImageFor f.pipe c.args.image.now) (sym c.flat.ensures) (images (pipe_view c.args.accepted.now.typed.pipe) c.args.image.now c.requires)
+    subst (λ (f : Form). IsImageFor f.pipe c.args.image.now) (sym c.flat.ensures)
+    (images (pipe_view c.args.accepted.now.typed.pipe) c.args.image.now c.requires)

@@ -12,7 +12,9 @@ returns-in_ok-push c gs path before later s e is_on h =
     let is_one : is_check_on path x ≡ true = ap₂ (λ a b. a && b) is_on (sym c.is_check.ensures ∙ c.if-is_check.true) in
     c.in_ok-push.ensures.items
     ∙ ap₂ (λ ns n. ns ++ n ∷ []) h (c.stage_at.ensures ∙ ap (λ ns. get_or ns k 0) s ∙ nth_stage before later x k e)
-    ∙ sym (that_more (is_check_on path) [] before x ∙ ap (λ (b : Bool). stages_that (is_check_on path) [] before ++ (if b then stage_of before x ∷ [] else [])) is_one)
+    ∙ sym
+    (that_more (is_check_on path) [] before x
+    ∙ ap (λ (b : Bool). stages_that (is_check_on path) [] before ++ (if b then stage_of before x ∷ [] else [])) is_one)
 
 pub returns-else-is_check : goal.returns-else-is_check
 returns-else-is_check c gs path before later s e is_on h =

@@ -18,7 +18,8 @@ returns-then-is_before c gs path before later s e is_on h =
     let earlier = filter (on_path path) before in
     let none = c.none.result in
     let stage = c.stage_at.ensures ∙ ap (λ ns. get_or ns k 0) s.by_text ∙ nth_stage before later x k e in
-    let early : is_before c.args.self.now.verified (stage_of before x) ≡ true = sym (c.is_before.ensures ∙ ap (is_before c.args.self.now.verified) stage) ∙ c.if-is_before.true in
+    let early : is_before c.args.self.now.verified (stage_of before x) ≡ true =
+    sym (c.is_before.ensures ∙ ap (is_before c.args.self.now.verified) stage) ∙ c.if-is_before.true in
     c.is_unsure.ensures earlier
     (own Locations IsUsed c.args.self.now.places.now c.args.self.now.first.now before later x k uses none c.use_at-used.result earlier s.numbers e h.kept
     (c.use_at-used.ensures ∙ ap (λ us. get_or us c.number_of.result none) c.as_slice.ensures.value ∙ ap (λ n. get_or uses n none) c.number_of.ensures))
@@ -31,5 +32,6 @@ returns-else-is_before c gs path before later s e is_on h =
     let k = c.args.k in
     let earlier = filter (on_path path) before in
     let stage = c.stage_at.ensures ∙ ap (λ ns. get_or ns k 0) s.by_text ∙ nth_stage before later x k e in
-    let late : is_before c.args.self.now.verified (stage_of before x) ≡ false = sym (c.is_before.ensures ∙ ap (is_before c.args.self.now.verified) stage) ∙ c.if-is_before.false in
+    let late : is_before c.args.self.now.verified (stage_of before x) ≡ false =
+    sym (c.is_before.ensures ∙ ap (is_before c.args.self.now.verified) stage) ∙ c.if-is_before.false in
     c.if-is_before.false ∙ sym (ap (λ b. b && releases_unsure earlier x) late)

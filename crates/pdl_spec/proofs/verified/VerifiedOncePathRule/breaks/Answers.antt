@@ -31,4 +31,7 @@ returns-in-SpecCall c gs path before later s e is_on at =
     (c.only_verify-verify.ensures guards path (subst (λ g. HavePaths g rows) s.own s.paths) at (s.by_text ∙ ap stages_in s.seen)
     ∙ ap (λ ys. only (stages_that (λ y. on_path path y && is_verify_of name y) [] ys)) (sym s.seen ∙ s.text))
     ∙ once_after (stage_of before x) (verify_stages p path name))
-    ∙ subst (λ (a : Action). not (is_once_after (stage_of before (place_at span bs a)) (verify_stages p path name)) ≡ is_unverified p path before (place_at span bs a)) (sym c.in-SpecCall.is) refl
+    ∙ subst
+    (λ (a : Action). not (is_once_after (stage_of before (place_at span bs a)) (verify_stages p path name))
+    ≡ is_unverified p path before (place_at span bs a))
+    (sym c.in-SpecCall.is) refl

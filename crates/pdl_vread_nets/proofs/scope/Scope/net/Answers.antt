@@ -9,4 +9,5 @@ pub returns-in-Some-find : goal.returns-in-Some-find
 returns-in-Some-find c = net_reg c.args.self.now.file.now _ _ _ (c.in-None.ensures _ c.requires.cells) (c.in-Some-find.ensures _ c.requires.regs)
 
 pub returns-in-None-find : goal.returns-in-None-find
-returns-in-None-find c = c.input.ensures ∙ net_input c.args.self.now.file.now _ _ (c.in-None.ensures _ c.requires.cells) (c.in-None-find.ensures _ c.requires.regs)
+returns-in-None-find c =
+    c.input.ensures ∙ net_input c.args.self.now.file.now _ _ (c.in-None.ensures _ c.requires.cells) (c.in-None-find.ensures _ c.requires.regs)
