@@ -138,6 +138,6 @@ def main(program, mebibytes=256, *kinds):
 
 
 if __name__ == "__main__":
-    if len(sys.argv) < 2:
+    if len(sys.argv) < 2 or "--help" in sys.argv:
         sys.exit(__doc__)
     main(*sys.argv[1:])

@@ -53,7 +53,7 @@ def measure(program, cycles, folder):
 
 
 def main():
-    if len(sys.argv) not in (2, 3):
+    if len(sys.argv) not in (2, 3) or "--help" in sys.argv:
         sys.exit(__doc__)
     program = str(pathlib.Path(sys.argv[1]).resolve())
     cycles = sys.argv[2] if len(sys.argv) == 3 else "1000000"

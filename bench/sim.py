@@ -182,6 +182,8 @@ def measure(name, program, source, image, cycles):
 
 
 def main():
+    if len(sys.argv) < 2 or "--help" in sys.argv:
+        sys.exit(__doc__)
     program = str(pathlib.Path(sys.argv[1]).resolve())
     cycles = int(sys.argv[2]) if len(sys.argv) > 2 else 100000
     five = (ROOT / "examples" / "loadstore_bypass.pdl").read_text()

@@ -13,6 +13,8 @@ import subprocess
 import sys
 import tempfile
 
+import usage
+
 WIRE = re.compile(r"^(\d+'h[0-9a-f]+|\w+\[\d+:\d+\]|\{.*\})$")
 STATE = re.compile(r"^\$(a?l?s?d?ffs?r?e?|s?dffc?e?|mem\w*)$")
 RESET = re.compile(r"<= rst \? \d+'h[0-9a-f]+ : ")
@@ -43,6 +45,5 @@ def main(program, sources):
 
 
 if __name__ == "__main__":
-    if len(sys.argv) < 3:
-        sys.exit(__doc__)
-    main(sys.argv[1], sys.argv[2:])
+    program, *sources = usage.words(__doc__, 2, sys.maxsize)
+    main(program, sources)

@@ -11,9 +11,9 @@ aren't given.
 """
 
 import random
-import sys
 
 import random_whole
+import usage
 from pdl_model import files, rules, tree
 from pdl_model.syntax import Refused
 
@@ -161,8 +161,6 @@ def pipes(chance, count):
 
 
 def main(words):
-    if not 1 <= len(words) <= 3:
-        sys.exit(__doc__)
     count, seed, cycles = [*map(int, words), *[1, 50][len(words) - 1 :]]
     print(HEAD, end="")
     for number, (pipe, layout) in enumerate(pipes(random.Random(seed), count)):
@@ -173,4 +171,4 @@ def main(words):
 
 
 if __name__ == "__main__":
-    main(sys.argv[1:])
+    main(usage.words(__doc__, 1, 3))

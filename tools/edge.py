@@ -21,6 +21,8 @@ import sys
 import tempfile
 import threading
 
+import usage
+
 HEAD = ("pipe p(n: uint<4>)[m: uint<8>[4] comb lock queue(1)] { a = n[1:0]; v = zext(n, 8); reserve(m[a], W); block(m[a]); "
         "m[a] <- v; release(m[a]); ")
 CALL = "call(n + 4'd1); } start p(4'd0);"
@@ -190,8 +192,9 @@ class Edge:
 
 
 def main():
+    program = usage.words(__doc__, 1, 1)[0]
     with tempfile.TemporaryDirectory() as folder:
-        edge = Edge(sys.argv[1], pathlib.Path(folder))
+        edge = Edge(program, pathlib.Path(folder))
         edge.outputs(), edge.stack(), edge.memory(), edge.sources()
     print(f"{sum(edge.counts.values())} cases: " + ", ".join(f"{count} {verdict}" for verdict, count in edge.counts.items()))
     sys.exit(1 if edge.counts["WRONG"] else 0)

@@ -14,6 +14,8 @@ import subprocess
 import sys
 import tempfile
 
+import usage
+
 # Counts the calls, and refuses the one whose number stands in REFUSED, and with LATER those after it; that it did so it tells
 # by a byte to the descriptor in TOLD.
 LIBRARY = r"""
@@ -127,6 +129,4 @@ def main(program):
 
 
 if __name__ == "__main__":
-    if len(sys.argv) != 2:
-        sys.exit(__doc__)
-    main(sys.argv[1])
+    main(usage.words(__doc__, 1, 1)[0])

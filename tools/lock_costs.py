@@ -14,6 +14,8 @@ import subprocess
 import sys
 import tempfile
 
+import usage
+
 PAGE = pathlib.Path(__file__).resolve().parent.parent / "docs" / "locks.md"
 KINDS = ("queue", "bypass", "rename")
 SIZES = (1, 2, 4, 8, 16)
@@ -74,6 +76,7 @@ def main(program, writes):
 
 
 if __name__ == "__main__":
-    if len(sys.argv) not in (2, 3) or sys.argv[2:] not in ([], ["--write"]):
+    program, *more = usage.words(__doc__, 1, 2)
+    if more not in ([], ["--write"]):
         sys.exit(__doc__)
-    sys.exit(main(sys.argv[1], len(sys.argv) == 3))
+    sys.exit(main(program, bool(more)))

@@ -14,6 +14,7 @@ each cycle. It needs nothing but Python, and is slow: a few thousand cycles in a
 import pathlib
 import sys
 
+import usage
 from pdl_model import files, rules
 from pdl_model.syntax import Refused
 
@@ -56,4 +57,4 @@ def main(words):
 
 
 if __name__ == "__main__":
-    main(sys.argv[1:])
+    main(usage.words(__doc__, 2, 6))

@@ -11,6 +11,7 @@ into a file that the viewer Konata opens.
 
 import argparse
 import pathlib
+import signal
 import subprocess
 import sys
 
@@ -150,6 +151,8 @@ def main():
     asked.add_argument("--delays")
     asked.add_argument("--konata")
     it = asked.parse_args()
+    # a reader that stops before the end, as `head` does, ends this program without a word
+    signal.signal(signal.SIGPIPE, signal.SIG_DFL)
     words = [it.source, it.image, str(it.cycles), *(["--delays", it.delays] if it.delays else [])]
     rows = [line.split(" ")[1] for line in said([it.program, "view", *words]).splitlines()]
     layout = rules.checked(pathlib.Path(it.source).read_bytes().decode("latin-1"))

@@ -27,6 +27,7 @@ from collections import Counter
 
 import random_pipes
 import random_whole
+import usage
 from pdl_model import files, promises, rules
 from pdl_model.dump import NoDump, Wave
 from pdl_model.syntax import Refused
@@ -261,4 +262,4 @@ def numbers(words):
 
 
 if __name__ == "__main__":
-    sys.exit(main(sys.argv[1:]))
+    sys.exit(main(usage.words(__doc__, 1, 4)))

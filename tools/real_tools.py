@@ -19,6 +19,7 @@ import subprocess
 import sys
 import tempfile
 
+import usage
 from pdl_model import files, rules
 from random_whole import RandomPipe, random_features
 
@@ -232,9 +233,10 @@ def random_pipes(program, count, seed, folder):
 
 
 def main():
-    program = str(pathlib.Path(sys.argv[1]).resolve())
-    count = int(sys.argv[2]) if len(sys.argv) > 2 else 200
-    seed = int(sys.argv[3]) if len(sys.argv) > 3 else 1
+    given = usage.words(__doc__, 1, 3)
+    program = str(pathlib.Path(given[0]).resolve())
+    count = int(given[1]) if len(given) > 1 else 200
+    seed = int(given[2]) if len(given) > 2 else 1
     asked = wrong = 0
     for words in (["iverilog", "-V"], ["verilator", "--version"], ["yosys", "-V"]):
         print(said(words, ".")[1].splitlines()[0] if shutil.which(words[0]) else f"{words[0]} is not installed")

@@ -11,6 +11,7 @@ import sys
 
 import pipeline
 import random_whole
+import usage
 from pdl_model import files, rules
 from pdl_model.machine import Machine
 from pdl_model.syntax import Refused
@@ -53,4 +54,4 @@ def main(words):
 
 
 if __name__ == "__main__":
-    main(sys.argv[1:])
+    main(usage.words(__doc__, 0, 2))

@@ -13,6 +13,7 @@ import re
 import sys
 import tempfile
 
+import usage
 from real_tools import Module, said
 
 TOP = pathlib.Path(__file__).resolve().parent.parent
@@ -70,7 +71,7 @@ def is_still_at_zero(program, source, folder):
 
 
 def main():
-    program = str(pathlib.Path(sys.argv[1]).resolve())
+    program = str(pathlib.Path(usage.words(__doc__, 1, 1)[0]).resolve())
     with tempfile.TemporaryDirectory() as name:
         folder = pathlib.Path(name)
         same = prints_the_run(program, folder)

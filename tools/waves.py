@@ -16,6 +16,7 @@ import subprocess
 import sys
 import tempfile
 
+import usage
 from pdl_model.dump import NoDump, Wave
 from real_tools import Module, examples, ports_shown, said
 
@@ -159,8 +160,9 @@ def judged(program, source, image, cycles, folder):
 
 
 def main():
-    program = str(pathlib.Path(sys.argv[1]).resolve())
-    cycles = int(sys.argv[2]) if len(sys.argv) > 2 else 60
+    words = usage.words(__doc__, 1, 2)
+    program = str(pathlib.Path(words[0]).resolve())
+    cycles = int(words[1]) if len(words) > 1 else 60
     asked = compared = bad = 0
     print(said(["iverilog", "-V"], ".")[1].splitlines()[0])
     for what, source, image, _ in examples():

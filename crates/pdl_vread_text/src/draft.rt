@@ -319,20 +319,8 @@ impl Draft {
             VerilogRule::InputPort => add_port(alloc, &mut self.file.ports, found, true),
             VerilogRule::OutputPort => add_port(alloc, &mut self.file.ports, found, false),
             VerilogRule::RegRange | VerilogRule::ArrayRange => self.range(found),
-            VerilogRule::RegDeclared => add_reg(
-                alloc,
-                &mut self.file.regs,
-                self.line,
-                self.high,
-                found,
-            ),
-            VerilogRule::ArrayDeclared => add_array(
-                alloc,
-                &mut self.file.arrays,
-                self.line,
-                self.high,
-                found,
-            ),
+            VerilogRule::RegDeclared => self.reg(alloc, found),
+            VerilogRule::ArrayDeclared => self.array(alloc, found),
             VerilogRule::CellHead => self.cell_head(alloc, found),
             VerilogRule::FirstOperand => self.first_operand(alloc, found),
             VerilogRule::ConstTerm
@@ -345,12 +333,7 @@ impl Draft {
             | VerilogRule::RepTerm => self.cell(alloc, rule, found),
             VerilogRule::OutputDriven => add_output(alloc, &mut self.file.outputs, found),
             VerilogRule::BlockHead | VerilogRule::ArrayHead => self.block_head(found),
-            VerilogRule::RegDriven => add_reg_block(
-                alloc,
-                &mut self.file.reg_blocks,
-                self.line,
-                found,
-            ),
+            VerilogRule::RegDriven => self.reg_block(alloc, found),
             VerilogRule::Written => add_write(alloc, &mut self.writes, found),
             VerilogRule::ArrayEnd => self.array_block(alloc),
             VerilogRule::NextPort
@@ -378,6 +361,24 @@ impl Draft {
         self.line = line_at(found, 0);
         self.high = number_at(found, 2);
         Ok(())
+    }
+
+    fn reg(&mut self, alloc: Global, found: &[VerilogToken<'_>]) -> Result<(), NoMemory>
+        ensures { OnOk result (self.new ≡ spec.with_reg self.old (map token_view found.now)) }
+    {
+        add_reg(alloc, &mut self.file.regs, self.line, self.high, found)
+    }
+
+    fn array(&mut self, alloc: Global, found: &[VerilogToken<'_>]) -> Result<(), NoMemory>
+        ensures { OnOk result (self.new ≡ spec.with_array self.old (map token_view found.now)) }
+    {
+        add_array(alloc, &mut self.file.arrays, self.line, self.high, found)
+    }
+
+    fn reg_block(&mut self, alloc: Global, found: &[VerilogToken<'_>]) -> Result<(), NoMemory>
+        ensures { OnOk result (self.new ≡ spec.with_reg_block self.old (map token_view found.now)) }
+    {
+        add_reg_block(alloc, &mut self.file.reg_blocks, self.line, found)
     }
 
     fn cell_head(&mut self, alloc: Global, found: &[VerilogToken<'_>]) -> Result<(), NoMemory>
