@@ -251,6 +251,7 @@ abbrev pub port_write : Option Pending → Option PortWrite
 port_write None = None
 port_write (Some e) = Some (record { address = e.address; value = commit_value e.value })
 
+-- what is seen of a cycle from outside
 pub record Ports : Type 0 where
   pub valid : List Bool  -- for each stage: it holds a thread at the start
   pub moves : List Bool  -- for each stage: its thread moves
@@ -301,6 +302,7 @@ is_wait p st bits = waits_from p bits 0 st.requests
 
 -- A RUN
 
+-- a cycle of a run, as it is seen, and whether it is a wait
 pub record Turn : Type 0 where
   pub ports : Ports
   pub wait : Bool
@@ -350,6 +352,7 @@ letter false moves = 46
 letter true true = 77
 letter true false = 83
 
+-- the letter of each stage, by whether it holds a thread and whether that moves
 abbrev pub letters : List Bool → List Bool → List ℕ
 letters (v ∷ vs) (m ∷ ms) = letter v m ∷ letters vs ms
 letters _ _ = []

@@ -92,6 +92,7 @@ pub record Position : Type 0 where
 abbrev pub with_var : List ℕ → ℕ → Position → Position
 with_var x width at' = record at' { vars = at'.vars ++ record { name = x; width = width } ∷ [] }
 
+-- in the stage that begins next
 abbrev pub next_position : Position → Position
 next_position at' = record at' { stage = suc at'.begun; begun = suc at'.begun }
 
@@ -139,6 +140,7 @@ abbrev mutual
   past ms (SpecCheck _) at' = at'
   past ms (SpecBarrier _) at' = at'
 
+  -- the place after some statements
   pub past_all : List Mem → Stmts → Position → Position
   past_all ms Nil at' = at'
   past_all ms (Cons s ss) at' = past_all ms ss (past ms s at')
@@ -167,6 +169,7 @@ reserve_op R m a = Flat.ReserveRead m a
 reserve_op W m a = Flat.ReserveWrite m a
 
 abbrev mutual
+  -- the flat statements of a statement, under these guards, at this place
   pub flat_stmt : List Mem → List Flat.Guard → Stmt → Position → List Flat.Stmt
   flat_stmt ms gs (Separator _) at' = []
   flat_stmt ms gs (CombRead _ x from) at' =
@@ -190,6 +193,7 @@ abbrev mutual
   flat_stmt ms gs (SpecCheck _) at' = at_position gs at' Flat.SpecCheck
   flat_stmt ms gs (SpecBarrier _) at' = at_position gs at' Flat.SpecBarrier
 
+  -- the flat statements of some, one after another
   pub flat_stmts : List Mem → List Flat.Guard → Stmts → Position → List Flat.Stmt
   flat_stmts ms gs Nil at' = []
   flat_stmts ms gs (Cons s ss) at' = flat_stmt ms gs s at' ++ flat_stmts ms gs ss (past ms s at')
@@ -214,6 +218,7 @@ abbrev mutual
   separators_in (SpecCheck _) = 0
   separators_in (SpecBarrier _) = 0
 
+  -- how many stages begin in some statements
   pub separators : Stmts → ℕ
   separators Nil = 0
   separators (Cons s ss) = separators_in s + separators ss
@@ -277,6 +282,7 @@ abbrev mutual
   graph_before ms branch (SpecCheck _) at' rest = rest
   graph_before ms branch (SpecBarrier _) at' rest = rest
 
+  -- the graph of some statements, one after another
   pub graph : List Mem → Option Flat.Branch → Flat.Next → Stmts → Position → Graph
   graph ms branch exit Nil at' = record { next = exit; later = [] }
   graph ms branch exit (Cons s ss) at' = graph_before ms branch s at' (graph ms branch exit ss (past ms s at'))

@@ -36,6 +36,7 @@ pub data Request : Type 0 where
   Owned : (owner address : ℕ) → Request
   Orphan : (address : ℕ) → Request
 
+-- the state of the machine between two cycles
 pub record State : Type 0 where
   pub stages : List (Option Thread)  -- for each stage at most one thread
   pub arrays : Arrays
@@ -80,6 +81,7 @@ abbrev pub is_held : List HeldLocation → ℕ → ℕ → Bool
 is_held [] m a = false
 is_held (l ∷ ls) m a = ((l.mem == m) && (l.var == a)) || is_held ls m a
 
+-- these locations without the first one that is this
 abbrev pub let_go : List HeldLocation → ℕ → ℕ → List HeldLocation
 let_go [] m a = []
 let_go (l ∷ ls) m a = if (l.mem == m) && (l.var == a) then ls else l ∷ let_go ls m a
@@ -117,6 +119,7 @@ pub record Reserved : Type 0 where
   pub mem : ℕ
   pub address : ℕ
 
+-- a value that a thread writes to a memory
 pub record Written : Type 0 where
   pub mem : ℕ
   pub value : ℕ

@@ -71,6 +71,7 @@ has_done test p l = list_any (λ x. test x.op) (past_stmts p l)
 abbrev pub held_places : Pipe → Live → List HeldLocation
 held_places p l = held_before l.stage l.thread.env p.stmts []
 
+-- it holds a location of this memory for writing
 abbrev pub holds_mem : ℕ → Pipe → Live → Bool
 holds_mem m p l = list_any (λ h. h.mem == m) (held_places p l)
 
@@ -234,6 +235,7 @@ abbrev pub other_branch : Option Branch → Option Branch → Bool
 other_branch (Some a) (Some b) = (a.fork == b.fork) && (if a.first then not b.first else b.first)
 other_branch _ _ = false
 
+-- the younger thread stands in an earlier stage, or in the other branch of a fork
 abbrev pub is_behind : Pipe → Live → Live → Bool
 is_behind p older younger =
     nat_lt younger.stage older.stage || other_branch (stage_at p older.stage).branch (stage_at p younger.stage).branch
@@ -276,6 +278,7 @@ request_address NoRequest = 0
 request_address (Owned owner a) = a
 request_address (Orphan a) = a
 
+-- what an awaited read will keep: the word at the address that was asked
 abbrev pub awaited_word : State → Awaited → Kept
 awaited_word st r = record { var = r.var; word = word_at st.arrays r.mem (request_address (request_of st r.mem)) }
 
@@ -343,6 +346,7 @@ abbrev pub released_by : ℕ → Pipe → List Follower → List Commit
 released_by m p [] = []
 released_by m p (f ∷ fs) = (if has_released m p f.live then turn_writes m p f else []) ++ released_by m p fs
 
+-- the array of a memory has what the ended threads wrote and what followers have released, and no stray has released a write
 abbrev pub array_right : Pipe → Arrays → ℕ → State → ℕ → ℕ → Bool
 array_right p image n st m depth =
     all_below (λ a. word_at st.arrays m a == wrote (row image m) (seqwrites p image m n ++ released_by m p (followers p image n st)) a) depth

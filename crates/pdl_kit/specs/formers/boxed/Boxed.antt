@@ -22,9 +22,11 @@ use Rattle.pdl_kit.specs.declared.boxed.Boxed.TheView.{view, invariant}
 use Rattle.pdl_kit.specs.contracts.boxed.Boxed as C
 use Rattle.pdl_kit.specs.contracts.boxed.Boxed.TheInside as I
 
+-- the shape of a box over the shape of what it holds
 abbrev pub the_former : Former {0} → Former {0}
 the_former g = g
 
+-- a box is larger than what it holds
 abbrev pub the_weighed : {g : Former {0}} → Weighed g → Weighed (the_former g)
 the_weighed w = w
 
@@ -47,11 +49,13 @@ module _ (R S : RattleType) (h : R.Denot → S.Denot) where
     shr_same = λ b i. (box_of (one_value R (a.mir_same i) (a.own_same b.value i) (a.shr_same b.value i) gnil)).shr_at (with_value b tt);
   }
 
+  -- the places of a box are alike where those of what it holds are
   pub the_places : Alike R S h → Alike (C.the_row R) (C.the_row S) ((the_former this).map R.Denot S.Denot h)
   the_places a = view_places fields this view (λ X Y k u. refl) (λ X u. refl) R.Denot S.Denot h (C.the_row R).coded (C.the_row S).coded
       (invariant R.Denot) (invariant S.Denot) (λ u p q. refl) (λ u p q. refl) (λ u e. tt) (λ u e. tt)
       (over (I.the_row R)) (over (I.the_row S))
       (struct_places (I.the_type R) (I.the_type S) ((λ b. with_value b (h b.value)), tt) _ (λ d. refl) refl (laid _ _ _ (box_places a), tt))
 
+  -- a box is coded anew where what it holds is
   pub the_codes_placed : Recodes R S h → Recodes (C.the_row R) (C.the_row S) ((the_former this).map R.Denot S.Denot h)
   the_codes_placed e d = e d
