@@ -23,6 +23,7 @@ pub record Before (text rest : List ℕ) : Type 0 where
   pub whole : front ++ rest ≡ text
   pub free : front ++ without_comment rest ≡ without_comment text
 
+-- one byte more stands before the rest, still free of comments, where no comment begins at that byte
 pub before_more : (text : List ℕ) (c : ℕ) (cs : List ℕ) → Before text (c ∷ cs) → is_comment (c ∷ cs) ≡ false → Before text cs
 before_more text c cs f h =
     record {

@@ -142,6 +142,7 @@ row_at : (t : TableValue) (labels : Labels) (done : List Placed) (n : ℕ)
 unfolding slots_of
 row_at t labels done n h = get_or-map-range_with_len (written_word t labels done) 0 addresses n n None h (zero-add n)
 
+-- the slots of the placed lines say of each address whether it is taken as the lines themselves do
 pub taken_is : (t : TableValue) (labels : Labels) (done : List Placed) (place : ℤ)
     → is_taken_in (slots_of t labels done) place ≡ is_taken t labels done place
 taken_is t labels done (negsuc n) = refl

@@ -140,6 +140,7 @@ pub extends_port : (c : Circuit) (p : Port) → IsWell c → ExtendsPorts c (wit
 unfolding shapes_of
 extends_port c p w = extends_ports_kept c (with_port c p) (p ∷ []) (port_keeps c p w) w (port_parts c p) refl refl
 
+-- a well formed circuit stays well formed with a port more, where the port fits it
 pub well_port : (c : Circuit) (p : Port) → IsWell c → IsWellPort c p → IsWell (with_port c p)
 well_port c p w f =
     let d = with_port c p in

@@ -71,6 +71,7 @@ module _ (a b : Inside) (g : Cell) (none : (k : ℕ) → slice_get a.cells.items
       ap (λ i. slice_get (a.cells.items ++ g ∷ []) i) (sym n) ∙ last_at a.cells.items g ∙ ap Some ((cell_equal g q).0 s)
   only_in false k q s e = still_at a.cells.items g q k (h.only k q e)
 
+  -- the map still tells the place of each cell, and of no other, after a new cell is put last and into the map
   pub found_pushed : AreFound same b
   found_pushed = record {
     found = found_in;

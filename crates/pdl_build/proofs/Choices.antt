@@ -29,6 +29,7 @@ mux_second a b v e w =
     ∙ ap (λ (n : ℕ). record { width = n; value = b.value }) w
 
 module _ (c : Circuit) (choice x y : Net) where
+  -- a choice between a net and that net itself means the net
   pub same_arm : x ≡ y → IsThere c x → Means c x (mux_signal (signal c choice) (signal c x) (signal c y))
   same_arm e t =
       record {
@@ -36,6 +37,7 @@ module _ (c : Circuit) (choice x y : Net) where
         same = sym (ap (λ (z : Net). mux_signal (signal c choice) (signal c x) (signal c z)) (sym e) ∙ mux_same (signal c choice) (signal c x));
       }
 
+  -- the first arm means what the choice does, where the choosing net is a constant that takes the first
   pub first_arm : (v : ℕ) → (signal c choice).value ≡ const_value v → (v == 1) ≡ true → IsThere c x
       → Means c x (mux_signal (signal c choice) (signal c x) (signal c y))
   first_arm v k e t =
@@ -47,6 +49,7 @@ module _ (c : Circuit) (choice x y : Net) where
             ∙ mux_first (signal c x) (signal c y) v e);
       }
 
+  -- the second arm means what the choice does, where the choosing net is a constant that takes it and both arms have one width
   pub second_arm : (v : ℕ) → (signal c choice).value ≡ const_value v → (v == 1) ≡ false
       → (signal c x).width ≡ (signal c y).width → IsThere c y
       → Means c y (mux_signal (signal c choice) (signal c x) (signal c y))

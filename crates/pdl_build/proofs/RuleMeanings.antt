@@ -45,6 +45,7 @@ abbrev pub at_rest : State
 at_rest = record { inputs = []; regs = []; arrays = [] }
 
 module _ (op : BinOp) (a b : Signal) where
+  -- the first operand's signal is the operator's, where the rule gives the first operand in every state
   pub first_same : ((s : State) → Gives First op a.width (a.value s) (b.value s)) → a ≡ bin_signal op a b
   unfolding bin_value
   first_same g =
@@ -52,6 +53,7 @@ module _ (op : BinOp) (a b : Signal) where
       ap (λ (v : Value). record { width = a.width; value = v }) (fun_ext (λ s. sym (g s).1))
       ∙ ap (λ (m : ℕ). record { width = m; value = bin_value op a.width a.value b.value }) (sym n)
 
+  -- the second operand's signal is the operator's, where the rule gives the second in every state and both have one width
   pub second_same : a.width ≡ b.width → ((s : State) → Gives Second op a.width (a.value s) (b.value s)) → b ≡ bin_signal op a b
   unfolding bin_value
   second_same e g =
@@ -59,6 +61,7 @@ module _ (op : BinOp) (a b : Signal) where
       ap (λ (v : Value). record { width = b.width; value = v }) (fun_ext (λ s. sym (g s).1))
       ∙ ap (λ (m : ℕ). record { width = m; value = bin_value op a.width a.value b.value }) (sym n)
 
+  -- the complement of the first operand is the operator's signal, where the rule gives the complement in every state
   pub complement_same : ((s : State) → Gives Complement op a.width (a.value s) (b.value s)) → not_signal a ≡ bin_signal op a b
   unfolding bin_value not_value
   complement_same g =
@@ -66,6 +69,7 @@ module _ (op : BinOp) (a b : Signal) where
       ap (λ (v : Value). record { width = a.width; value = v }) (fun_ext (λ s. sym (g s).1))
       ∙ ap (λ (m : ℕ). record { width = m; value = bin_value op a.width a.value b.value }) (sym n)
 
+  -- a constant of the answer's width is the operator's signal, where the rule gives its number in every state
   pub number_same : (w n : ℕ) → w ≡ bin_width op a.width
       → ((s : State) → Gives (Number n) op a.width (a.value s) (b.value s)) → const_signal w n ≡ bin_signal op a b
   unfolding bin_value const_value

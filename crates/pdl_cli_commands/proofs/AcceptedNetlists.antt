@@ -70,9 +70,11 @@ pub keeps_rules : (b : List ℕ) (p : Pipe) → IsAccepted b p → KeepsRules p
 keeps_rules b p accepted = kept_by (is_too_long b) p accepted.kept
 
 module _ (b : List ℕ) (p : Pipe) (n : Netlist) (accepted : IsAccepted b p) (follows : Follows p n) where
+  -- from each image, with each schedule of replies, the netlist writes what the threads write one after another
   pub writes : RefinesThreads p n
   writes = refines p (keeps_rules b p accepted) (source_of b p accepted.text) (named_of b p accepted.text) n follows
 
+  -- each run of the netlist from an image prints the machine's lines and keeps the promises of refinement and of progress
   pub promised : (start : List (List ℕ)) (schedule : List ℕ) → IsImage n.mems start → IsRunOf p n start schedule
   promised start schedule is_image =
       runs p (keeps_rules b p accepted) (source_of b p accepted.text) (named_of b p accepted.text) n follows start schedule is_image

@@ -117,6 +117,7 @@ start_fails holds before now v image' cycles delays n held NoMemory w = tt
 module _ (holds : Option Held) (before now : ℕ) (source b image' : List ℕ) (delays : Option (List ℕ)) (p : Pipe)
     (n : Netlist) (given : Gives holds source b) (accepted : IsAccepted b p) (follows : Follows p n)
     (command : Command) (wrong : (rule : Rule) (line : ℕ) → IsWrongRun holds source image' delays rule line → IsWrongFor holds command rule (Line line)) where
+  -- where the image or the delay file fails for the netlist's memories, the command on the source fails in the same way
   pub source_start_fails : (f : Failure) → StartFails holds before now image' delays n.mems (length (delayed_mems n)) f → Fails holds before now command f
   source_start_fails Usage (inl w) = w
   source_start_fails Usage (inr w) = w.4
@@ -149,6 +150,7 @@ module _ (holds : Option Held) (before now : ℕ) (source b image' : List ℕ) (
 module _ (holds : Option Held) (before now : ℕ) (source b image' : List ℕ) (delays : Option (List ℕ)) (p : Pipe)
     (given : Gives holds source b) (accepted : IsAccepted b p)
     (command : Command) (wrong : (rule : Rule) (line : ℕ) → IsWrongRun holds source image' delays rule line → IsWrongFor holds command rule (Line line)) where
+  -- where the image or the delay file fails for the pipe's memories, the command on the source fails in the same way
   pub pipe_start_fails : (f : Failure)
       → StartFails holds before now image' delays (infos_of p.mems) (delayed_count (flat p)) f
       → Fails holds before now command f

@@ -5,6 +5,7 @@ use Rattle.pdl_semantics.specs.Flat.{Op, Stmt, SpecCheck, Mem, Stage, Pipe}
 use Rattle.pdl_semantics.specs.Flatten.{Var, past_all, at_start, first_stage, flat}
 use Rattle.pdl_semantics.specs.Stages.{is_reserve, is_release}
 
+-- a flat form: the pipe of the semantics, the widths of its variables, and the names of its memories
 pub record Form : Type 0 where
   pub pipe : Pipe
   -- the widths of the variables

@@ -35,6 +35,7 @@ mutual
       (later_all ms (side at'.stage false) (Goes (suc (at'.begun + separators when + separators otherwise))) otherwise (at_otherwise ms c when at'))
   later_in ms b s at' rest = omega arith
 
+  -- as many stages begin in some statements as separators stand in them
   pub later_all : (ms : List Mem) (b : Option Branch) (exit : Next) (ss : Stmts) (at' : Position) → length (graph ms b exit ss at').later ≡ separators ss
   later_all ms b exit Nil at' = refl
   later_all ms b exit (Cons s ss) at' =
@@ -146,6 +147,7 @@ module _ (ms : List Mem) (b : Option Branch) (sp : Span) (c : Expr) (when otherw
   test : (n == begun) ≡ (separators when + separators otherwise == 0)
   test = ap (λ m. n == m) eb ∙ none_begun n at'.begun (separators when + separators otherwise) count
 
+  -- the stages after both branches of an `if`, settled and closed with what follows, are those of its flattening before that
   pub if_closed : (forked : Bool) (rest : Graph)
       → closed_stages k (if n == begun then forked else true) (settled_stages (n == begun) forked k begun before (Forks x u v) s2) rest
       ≡ closed_stages at'.stage forked s0 (graph_before ms b (If sp c when otherwise) at' rest)

@@ -38,6 +38,7 @@ abbrev mutual
   IsSizedStmt (SpecCheck _) = Unit {0}
   IsSizedStmt (SpecBarrier _) = Unit {0}
 
+  -- nor in any of these statements
   pub AreSizedStmts : Stmts → Type 0
   AreSizedStmts Nil = Unit {0}
   AreSizedStmts (Cons s ss) = IsSizedStmt s × AreSizedStmts ss
@@ -47,6 +48,7 @@ abbrev pub IsSizedLock : Option LockDecl → Type 0
 IsSizedLock None = Unit {0}
 IsSizedLock (Some l) = l.size.value ≤ 16
 
+-- the width, the depth and the lock of a memory are in these bounds
 pub record IsSizedMem (m : Mem) : Type 0 where
   pub width : m.width.value ≤ 64
   pub depth : m.depth.value ≤ 65536
@@ -62,6 +64,7 @@ abbrev pub AreSizedParams : List Param → Type 0
 AreSizedParams [] = Unit {0}
 AreSizedParams (x ∷ xs) = (x.width.value ≤ 64) × AreSizedParams xs
 
+-- the sizes in a pipe's parameters, memories and body are in bounds
 pub record IsSizedPipe (p : Pipe) : Type 0 where
   pub params : AreSizedParams p.params
   pub mems : AreSizedMems p.mems

@@ -27,6 +27,7 @@ module _ (p : Pipe) (rules : KeepsRules p) where
         all_walked p rules named mems (map Parameter p.params ++ map Memory p.mems) (closing p) [] [] p.body (at_start p)
         (by_body p rules) (after_front p rules) (begins_same (all_vars p)) tt
 
+    -- the flat form of a pipe that keeps the rules is typed, where no variable has the empty name
     pub typed_whole : IsTypedForm (form_of p)
     typed_whole = record {
       vars = sym (long_widths (all_vars p));

@@ -50,6 +50,7 @@ typed_mem m e =
     }
 
 module _ (p : Pipe) (rules : KeepsRules p) where
+  -- the memories of a pipe that keeps the rules are typed in the flat form
   pub typed_mems : (ms : List Mem) (before later : List Place) → places p ≡ before ++ (map Memory ms ++ later) → AreTypedMems (mems_of ms)
   typed_mems [] before later e = tt
   typed_mems (m ∷ ms) before later e = (
@@ -57,6 +58,7 @@ module _ (p : Pipe) (rules : KeepsRules p) where
     typed_mems ms (before ++ Memory m ∷ []) later (e ∙ sym (append_assoc before (Memory m ∷ []) (map Memory ms ++ later))),
   )
 
+  -- the memories of a pipe that keeps the rules all have depths that are allowed
   pub all_deep : (ms : List Mem) (before later : List Place) → places p ≡ before ++ (map Memory ms ++ later) → list_all has_depth ms ≡ true
   all_deep [] before later e = refl
   all_deep (m ∷ ms) before later e =

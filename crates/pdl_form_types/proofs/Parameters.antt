@@ -39,6 +39,7 @@ module _ (p : Pipe) (rules : KeepsRules p) where
   count : length (start_of p.start.args) ≡ length (told_widths p.params)
   count = long_start p.params p.start.args first_arguments
 
+  -- the flat form's parameters have the widths that the source tells
   pub params_are : param_widths (form_of p) ≡ told_widths p.params
   params_are =
       let begins = past_all_begins p.mems p.body (at_start p) in
@@ -46,10 +47,12 @@ module _ (p : Pipe) (rules : KeepsRules p) where
       ∙ ap (λ l. take (length (told_widths p.params)) (widths_of l)) begins.1
       ∙ take_params p.params begins.0
 
+  -- there are no more start arguments than variables in the flat form
   pub params_few : length (start_of p.start.args) ≤ length (widths_of (past_all p.mems p.body (at_start p)).vars)
   params_few =
       let begins = past_all_begins p.mems p.body (at_start p) in
       subst₂ (λ n l. n ≤ length (widths_of l)) (sym count) (sym begins.1) (few_params p.params begins.0)
 
+  -- each start argument is below what its parameter's width allows
   pub start_below : AreBelow (param_widths (form_of p)) (start_of p.start.args)
   start_below = subst (λ ns. AreBelow ns (start_of p.start.args)) (sym params_are) (below_start p.params p.start.args first_arguments)

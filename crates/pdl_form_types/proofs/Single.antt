@@ -25,6 +25,7 @@ use Rattle.pdl_form_types.proofs.Parameters.{params_are}
 use Rattle.pdl_form_types.proofs.VariableGrowth.{begins_same, new_last}
 use Rattle.pdl_semantics.proofs.Facts.{all_vars}
 
+-- whether a statement is an `if`
 abbrev pub is_if : Stmt → Bool
 is_if (If _ _ _ _) = true
 is_if _ = false
@@ -54,6 +55,7 @@ module _ (p : Pipe) (rules : KeepsRules p) (before : List Place) (bs : List Bran
     its_width : (v : Expr) → Fits (is_too_early p before (Statement s bs)) (variables p) (of_one v) → width_of (variables p) v ≡ width_of b.us v
     its_width v f = (tree_typed p rules before s bs later e w.vars b v f).1
 
+  -- the flat statements of a statement other than an `if` are typed, under guards that are
   pub single : (s : Stmt) → is_if s ≡ false → places p ≡ before ++ Statement s bs ∷ later → Begins (past p.mems s w).vars (all_vars p)
       → (gs : List flat.Guard) → AreGuards (widths_of (all_vars p)) gs → AreTypedStmts (form_of p) (flat_stmt p.mems gs s w)
   single (Separator sp) i e begins gs g = tt
@@ -125,6 +127,7 @@ module _ (p : Pipe) (rules : KeepsRules p) (before : List Place) (bs : List Bran
   -- WHAT STANDS BEHIND IT
 
   module _ (named : is_undefined (places p) (OfVariable []) ≡ true) (mems : AreTypedMems (mems_of p.mems)) where
+    -- the variables after a statement other than an `if` are still known to the rules, with allowed widths
     pub after_single : (s : Stmt) → is_if s ≡ false → places p ≡ before ++ Statement s bs ∷ later
         → After p (before ++ Statement s bs ∷ []) (past p.mems s w).vars
     after_single (CombRead sp x at) i e =

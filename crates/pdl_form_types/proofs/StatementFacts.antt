@@ -45,10 +45,12 @@ module _ (p : Pipe) (rules : KeepsRules p) (before : List Place) (s : Stmt) (bs 
     keeps : Stays b.us (variables p)
     keeps = known_stay p b.us before (Statement s bs ∷ later) e b.known
 
+    -- an expression of the statement is typed by the variables so far, and as wide by them as by all variables
     pub tree_typed : (v : Expr) → Fits (is_too_early p before (Statement s bs)) (variables p) (of_one v)
         → tree.IsTyped b.us v × (width_of (variables p) v ≡ width_of b.us v)
     tree_typed v f = typed b.us (variables p) (is_too_early p before (Statement s bs)) (knows p before vs b (Statement s bs)) (λ x t. (keeps x t).1) v f
 
+    -- expressions that have the widths of the parameters are arguments by the variables so far
     pub tree_arguments : (es : List Expr) → Fits (is_too_early p before (Statement s bs)) (variables p) (λ test. list_any test es)
         → pointwise nat_eq (map (width_of (variables p)) es) (map (λ (a : Param). a.width.value) p.params) ≡ true → tree.AreArguments b.us p.params es
     tree_arguments es f h =
@@ -61,6 +63,7 @@ module _ (p : Pipe) (rules : KeepsRules p) (before : List Place) (s : Stmt) (bs 
           sym (ap (is_some_and (in_location test)) is)
           ∙ (or_parts (is_some_and (in_location test) (location_of s)) (in_verify test s || some_expr_of (some_part (reads_some test)) s) h).0
 
+      -- the memory of the statement's location is one of the pipe's
       pub memory : IsTrue (is_memory p.mems at.mem.name)
       memory =
           let undefined = is_undefined (places p) in
@@ -82,6 +85,7 @@ module _ (p : Pipe) (rules : KeepsRules p) (before : List Place) (s : Stmt) (bs 
           let bits = eqb-true (var_width (variables p) at.address.name) (address_bits (mem_depth p.mems at.mem.name)) (not-false _ h) in
           ap (λ n. 2 ^ n) (sym (keeps at.address.name address).1 ∙ bits) ∙ bits_reach _ (deep p.mems at.mem.name depths memory)
 
+      -- the statement's location is one of the flat form: its memory is there, and its address reaches each word
       pub located : (ws : List ℕ) → Found b.us vs ws → IsLocation (flat p) ws (mem_of p.mems at.mem.name) (var_of vs at.address.name)
       located ws f = record {
         memory = mem_low p.mems at.mem.name memory;

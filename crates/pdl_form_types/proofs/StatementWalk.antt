@@ -24,6 +24,7 @@ use Rattle.pdl_semantics.proofs.Facts.{all_vars}
 
 -- LISTS
 
+-- guards are still typed with one more that is a variable of 1 bit
 pub guards_push : (ws : List ℕ) (gs : List flat.Guard) (g : flat.Guard) → AreGuards ws gs
     → (g.var < length ws) × (slice_index ws g.var ≡ 1) → AreGuards ws (gs ++ g ∷ [])
 guards_push ws [] g h k = (k.0, k.1, tt)
@@ -80,6 +81,7 @@ pub record Walked (p : Pipe) (before : List Place) (bs : List Branch) (gs : List
   pub forked : (branch : Option flat.Branch) (rest : Graph) → IsForked (widths_of (all_vars p)) rest
       → IsForked (widths_of (all_vars p)) (graph_before p.mems branch s w rest)
 
+-- what comes of some statements, one after another, that stand after these places
 pub record AllWalked (p : Pipe) (before : List Place) (bs : List Branch) (gs : List flat.Guard) (ss : Stmts) (w : Flatten.Position) : Type 0 where
   pub after : After p (before ++ statements bs ss) (past_all p.mems ss w).vars
   pub typed : AreTypedStmts (form_of p) (flat_stmts p.mems gs ss w)
@@ -148,6 +150,7 @@ module _ (p : Pipe) (rules : KeepsRules p) (named : is_undefined (places p) (OfV
       forked = λ out rest h. h;
     }
 
+    -- statements of a pipe that keeps the rules are typed, and leave variables that the rules know and forks on 1 bit
     pub all_walked : (before later : List Place) (bs : List Branch) (gs : List flat.Guard) (ss : Stmts) (w : Flatten.Position)
         → places p ≡ before ++ (statements bs ss ++ later)
         → After p before w.vars → Begins (past_all p.mems ss w).vars (all_vars p) → AreGuards (widths_of (all_vars p)) gs → AllWalked p before bs gs ss w

@@ -108,10 +108,12 @@ long_start (a ∷ ps) (l ∷ ls) t = let e = long_start ps ls t.2 in omega arith
 
 -- 1 TO 64 BITS
 
+-- a width is from 1 to 64 bits
 pub record IsWide (w : ℕ) : Type 0 where
   pub low : 1 ≤ w
   pub high : w ≤ 64
 
+-- each of a list of allowed widths is from 1 to 64 bits
 pub wide_at : (ws : List ℕ) (x : ℕ) → AreWidths ws → x < length ws → IsWide (slice_index ws x)
 wide_at [] x a h = absurd (let z : x < 0 = h in omega arith)
 wide_at (w ∷ ws) zero a h = record { low = a.0; high = a.1 }

@@ -137,9 +137,11 @@ module _ (p : Pipe) (rules : KeepsRules p) where
       append_assoc (map Parameter p.params ++ map Memory p.mems) (statements [] p.body) (closing p)
       ∙ append_assoc (map Parameter p.params) (map Memory p.mems) (statements [] p.body ++ closing p)
 
+  -- the places are those of the parameters and memories, then those of the statements, then the closing ones
   pub by_body : places p ≡ (map Parameter p.params ++ map Memory p.mems) ++ (statements [] p.body ++ closing p)
   by_body = append_assoc (map Parameter p.params ++ map Memory p.mems) (statements [] p.body) (closing p)
 
+  -- after the parameters and memories the rules know the parameters, and the flat form has these as its variables
   pub after_front : After p (map Parameter p.params ++ map Memory p.mems) (params_of p.params)
   after_front = record {
     us = params_of p.params;

@@ -22,6 +22,7 @@ guard_begins (Variable x) w = begins_same w.vars
 guard_begins c w = begins_self w.vars _
 
 mutual
+  -- the variables after a statement begin with those before it
   pub past_begins : (ms : List Mem) (s : Stmt) (w : Position) → Begins w.vars (past ms s w).vars
   past_begins ms (CombRead _ x from) w = begins_self w.vars _
   past_begins ms (Bind _ x e) w = begins_self w.vars _
@@ -31,6 +32,7 @@ mutual
       (begins_then (with_guard c w).vars (past_all ms when (with_guard c w)).vars _ (past_all_begins ms when (with_guard c w)) (past_all_begins ms otherwise _))
   past_begins ms _ w = begins_same w.vars
 
+  -- the variables after some statements begin with those before them
   pub past_all_begins : (ms : List Mem) (ss : Stmts) (w : Position) → Begins w.vars (past_all ms ss w).vars
   past_all_begins ms Nil w = begins_same w.vars
   past_all_begins ms (Cons s ss) w = begins_then w.vars (past ms s w).vars _ (past_begins ms s w) (past_all_begins ms ss (past ms s w))

@@ -88,9 +88,11 @@ module _ (ws env : List ℕ) (some : AreWidths ws) (f : Fit ws env) where
   fits (Choose c a b) t =
       bounds.mux_below (width_in ws a) (value_of c env) (value_of a env) (value_of b env) (fits a t.1) (as_wide _ _ _ (sym t.4) (fits b t.2))
 
+  -- a typed expression that is n bits wide has a value below 2^n
   pub fits_in : (e : Expr) (n : ℕ) → IsTyped ws e → width_in ws e ≡ n → value_of e env < 2 ^ n
   fits_in e n t is = as_wide _ _ _ is (fits e t)
 
+  -- in a typed expression every operator finds operands of its width
   pub safe : (e : Expr) → IsTyped ws e → IsSafe e env
   safe (Constant w v) t = tt
   safe (Variable x) t = tt
@@ -112,6 +114,7 @@ module _ (ws env : List ℕ) (some : AreWidths ws) (f : Fit ws env) where
       (safe a t.0, (subst IsWidth t.1 (has_width a t.0)).0, t.2, t.3, fits_in a w t.0 t.1)
   safe (Choose c a b) t = (safe c t.0, safe a t.1, safe b t.2)
 
+  -- in typed arguments every operator finds operands of its width
   pub all_safe : (ns : List ℕ) (es : List Expr) → AreArguments ws ns es → AreSafe es env
   all_safe [] [] t = tt
   all_safe (n ∷ ns) [] t = absurd t

@@ -24,6 +24,7 @@ byte n i = number n i / 65536 % 256
 abbrev pub stages : ℕ → ℕ
 stages n = 2 + n % 14
 
+-- the kinds of lock in order: queue, bypass, then renaming
 abbrev pub nth_kind : ℕ → LockKind
 nth_kind zero = Queue
 nth_kind (suc zero) = Bypass
@@ -43,6 +44,7 @@ step n = made_odd (byte n 1)
 
 -- THE SOURCE
 
+-- the word by which a source asks for a kind of lock
 abbrev pub kind_name : LockKind → List ℕ
 kind_name Queue = codes "queue"
 kind_name Bypass = codes "bypass"

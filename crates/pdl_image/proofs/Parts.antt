@@ -58,6 +58,7 @@ unfolding lines
 lines_at_place [] h = absurd (omega arith)
 lines_at_place (x ∷ xs) h = lines_step (eqb x 10) x xs (position_or_len (λ c. eqb c 10) xs) _ (lines_at_place xs) refl h
 
+-- at the first line feed of a text ends its first line, and the other lines are those of what follows
 pub lines_at : (xs : List ℕ) (i : ℕ) → position (λ c. eqb c 10) xs ≡ Some i → lines xs ≡ take i xs ∷ lines (drop (i + 1) xs)
 lines_at xs i e =
     let f = place_is (λ c. eqb c 10) xs i e in

@@ -172,6 +172,7 @@ module _ (p : Pipe) (lawful : IsLawful p) (st : machine.State) (bits : List Bool
                 get_or-set_other y.words e.address a (commit_value e.value) 0 (eqb-false a e.address g) ∙ h.same a i
                 ∙ ap (λ b. if b then commit_value e.value else st.arrays m a) (sym g)
 
+    -- its words with what it commits, and its request with what it is asked, stand for the machine's next state
     pub store_next : IsStore (cycle p st bits) m (mem_at p m)
         (record {
           words = committed_words y.words (write_of (port_write (taken_out st (moving p st bits) m)));
@@ -204,6 +205,7 @@ module _ (p : Pipe) (lawful : IsLawful p) (st : machine.State) (bits : List Bool
     pub wide : (e : Pending) → taken_out st (moving p st bits) m ≡ Some e → commit_value e.value < 2 ^ (mem_at p m).width
     pub low : (a : ℕ) → asked_in (moving p st bits) m ≡ Some a → a < (mem_at p m).depth
 
+  -- all delayed memories outside stand for the machine's next state, where each has its step and the machine's reply bit
   pub stores_next : (c : Circuit) (s : State) (names : ℕ → List ℕ) (m : ℕ) (xs : List Mem) (infos : List MemInfo) (ys : List Store) (b : ℕ)
       → m + length xs ≡ length p.mems → ((i : ℕ) → i < length xs → mem_at p (m + i) ≡ slice_index_or xs i plain_mem)
       → map (λ (i : MemInfo). i.name) infos ≡ names_delayed names m xs → AreStores st m xs ys → Replied p bits m xs b

@@ -65,6 +65,7 @@ list_first p image f low = at_stage (λ g. []) 0 p.stages f [] low
 
 module _ (p : Pipe) (c : Circuit) (vs : ℕ → View) (gates : Gates) (moves : ℕ → Signal) (sides : Sides) (own : Own)
     (f : ℕ) (low : f < length p.stages) (order : HasOrder p c vs gates moves sides own f) where
+  -- with registers at reset, a fork's order stands for its list in the machine's first state
   pub order_starts : (image : Arrays) (s : State) → s.regs ≡ map (λ (r : Reg). r.reset) c.regs → (sides.order f).stands s (fork_of (first p image) f)
   order_starts image s regs =
       subst ((sides.order f).stands s) (sym (list_first p image f low)) (order.starts.starts s (is_reset c own.from own.to s order.owned.regs regs))
@@ -287,9 +288,11 @@ OrdersStand p sides s st = (f q : ℕ) → f < length p.stages → (stage_at p q
 
 module _ (p : Pipe) (ls : Locks) (c : Circuit) (vs : ℕ → View) (gates : Gates) (moves : ℕ → Signal) (sides : Sides)
     (has : HasSides p ls c vs gates moves sides) where
+  -- with registers at reset, the order of each fork that is merged stands for its list in the machine's first state
   pub orders_first : (image : Arrays) (s : State) → s.regs ≡ map (λ (r : Reg). r.reset) c.regs → OrdersStand p sides s (first p image)
   orders_first image s regs f q low m = order_starts p c vs gates moves sides (has.order_owns f) f low (has.orders f q low m) image s regs
 
+  -- after a cycle whose stages and squash are as the machine's, the orders stand for the lists of the next state
   pub orders_next : Sound p → LeadsOn p → (s t : State) (st : machine.State) (bits : List Bool) → IsByStages p st bits
       → ((j : ℕ) → j < length p.stages → IsSeen p vs moves s st bits j)
       → gates.squash.value s ≡ bit (is_some (squasher (moving p st bits)))

@@ -294,6 +294,7 @@ module _ (p : Pipe) (sound : Sound p) (st : State) (bits : List Bool) (f : ℕ) 
           at true false false = refl
           at false v w = refl
 
+      -- what a cycle does to a fork's order is proper use, where the facts of threads in flight hold of the next state
       pub proper_order : InFlight p (cycle p st bits) → Proper (branch_stages p f) (fork_of st f) (order_act p st bits f)
       proper_order flight' = record {
         one = at (stage_moves p st bits f) (here p st bits f);

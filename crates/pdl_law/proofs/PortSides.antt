@@ -196,6 +196,7 @@ module _ (p : Pipe) (reads : Reads p) (leads : LeadsOn p)
             by_place z (inl g) = ap (λ c. c && b.told) (a.late (subst (λ i. Awaits u i × (is_answered p bits i ≡ false)) g z.3))
             by_place z (inr g) = none a.told b.told (b.late (z.0, g, (let h = z.2 in omega (arith, h)), z.3))
 
+    -- the answers of all ports together tell whether the thread of stage k awaits nothing more after this cycle's answers
     pub awaits_told : (all_answered p (answers_of sides) k (length p.mems) 0).value s ≡ bit (is_empty (with_answers p st bits u).awaits)
     awaits_told = (all_told (length p.mems) 0).value ∙ ap bit (at (is_empty (with_answers p st bits u).awaits) refl)
       where

@@ -216,6 +216,7 @@ module _ (p : Pipe) (reads : Reads p) (leads : LeadsOn p) (some : 0 < length p.s
     asked = asked_is;
   }
 
+  -- after the cycle the memory's port stands for the machine's next state
   pub ports_next : (t : State) → t.regs ≡ next_regs c s → t.arrays ≡ next_arrays c s → PortStands p sides t (cycle p st bits) m r
   ports_next t regs arrays = record {
     state = step (length (places p r)) stand.state (port_act p st bits m r (λ i. removed (place_at p r i)));

@@ -206,5 +206,6 @@ module _ (p : Pipe) (reads : Reads p) (st : MachineState) (bits : List Bool) (m 
               address_value s m (moves r.stage) true ((seen r.stage low).leaves ∙ ap bit f.2) (vs r.stage).ended.asks ∙ ap address_or (sym mine),
             )
 
+    -- its signals show whether the machine asks the memory, and at which address, 0 where it doesn't
     pub request_shown : (ask.enable.value s ≡ bit (is_some (asked_in (moving p st bits) m))) × (ask.addr.value s ≡ address_or (asked_in (moving p st bits) m))
     request_shown = let x = shown (reading p m) refl in (outside.enable s suits ∙ x.0, outside.addr s suits ∙ x.1)

@@ -76,9 +76,11 @@ known_source p rules source named =
 module _ (p : tree.Pipe) (rules : KeepsRules p) (source : is_source p ≡ true) (named : is_named p ≡ true) (ls : Locks)
     (vs : ℕ → View) (gates : Gates) (moves : ℕ → Signal) (sides : Sides) (n : Netlist)
     (made : IsMadeWhole p ls vs gates moves sides n) where
+  -- the rules give of the flat form what its netlist hangs on
   pub lawful : IsLawful (flat p)
   lawful = lawful_source p rules source named
 
+  -- the names of its memories differ
   pub apart : Apart (mem_names p.mems) (length (flat p).mems)
   apart = subst (Apart (mem_names p.mems)) (sym (same_count p.mems)) (names_apart p.mems (distinct p rules p.mems (map Parameter p.params) (all_after p)))
 
@@ -90,6 +92,7 @@ module _ (p : tree.Pipe) (rules : KeepsRules p) (source : is_source p ≡ true) 
       (known_source p rules source named) ls vs gates moves sides n made.compiled made.formed.well made.mems
       (arrays_of (in_order (flat p) image)) h st
 
+  -- from each image, what the netlist holds at the start stands for the machine's first state
   pub stands_source : (image : List (List ℕ)) → IsImage n.mems image
       → IsStandingFor image (start n image) (first (flat p) (arrays_of (in_order (flat p) image)))
   stands_source image is_image = record {
@@ -106,6 +109,7 @@ module _ (p : tree.Pipe) (rules : KeepsRules p) (source : is_source p ≡ true) 
         (state_in (start n image) b) suits refl refl);
   }
 
+  -- from each image and with each schedule of replies, each port of each cycle is the machine's
   pub shows_source : ShowsWhole (flat p) n
   shows_source =
       shows_whole (flat p)

@@ -80,6 +80,7 @@ module _ (p : Pipe) (reads : Reads p) (leads : LeadsOn p) (st : State) (bits : L
     (x : PortState) (same : SamePort p st m r x) where
   -- PLACES
 
+  -- each place of the delayed read is a stage of the pipe after the reading one
   pub place_up : (i : ℕ) → i < length (places p r) → (r.stage < place_at p r i) × (place_at p r i < length p.stages)
   place_up i l = let z = place_leads (stage_at p r.stage).next i l in leads.up r.stage (place_at p r i) z.0 r_low z.1
 
@@ -115,6 +116,7 @@ module _ (p : Pipe) (reads : Reads p) (leads : LeadsOn p) (st : State) (bits : L
       at port.Orphan f h = absurd (subst (λ q. SameRequest p st r (Owned number a) q) f h)
       at (port.Owned i) f h = (i, f, subst (λ q. SameRequest p st r (Owned number a) q) f h)
 
+  -- where a thread owns the memory's request, the port's reply bit is the machine's
   pub owned_reply : (number a : ℕ) → request_of st m ≡ Owned number a → reply_bit p st bits m ≡ is_answered p bits m
   owned_reply number a e = ap (λ q. is_outstanding q && is_answered p bits m) e
 
@@ -148,6 +150,7 @@ module _ (p : Pipe) (reads : Reads p) (leads : LeadsOn p) (st : State) (bits : L
       let same' = thread_is k i u o.0 e f o.3 in
       (subst (λ (t : Thread). Awaits t m) same' (owner_awaits o.0 o.1 i o.2 o.3), (o.0, o.1, o.2, sym (ap (λ (t : Thread). t.number) same') ∙ o.3.number))
 
+  -- where the thread of a place awaits nothing more after this cycle's answers, the port says that the place waits for no answer
   pub answered_yes : (i k : ℕ) (u : Thread) → place_at p r i ≡ k → slot st k ≡ Some u
       → is_empty (with_answers p st bits u).awaits ≡ true → port.is_answered x (reply_bit p st bits m) i ≡ true
   answered_yes i k u e f none = at (owns x i) refl
@@ -158,6 +161,7 @@ module _ (p : Pipe) (reads : Reads p) (leads : LeadsOn p) (st : State) (bits : L
           let o = owner_here k i u e f (owns_is x i g) in
           owned_reply o.1.0 o.1.1 o.1.2 ∙ all_in p st bits k u.number u.awaits (flight.awaited k u f) none m o.0
 
+  -- where the thread of stage k awaits the memory and no reply comes, the port says that the place of this stage waits
   pub answered_no : (k : ℕ) (u : Thread) → slot st k ≡ Some u → Awaits u m → is_answered p bits m ≡ false
       → (i : ℕ) × (i < length (places p r)) × (place_at p r i ≡ k) × (port.is_answered x (reply_bit p st bits m) i ≡ false)
   answered_no k u f w late =
@@ -274,6 +278,7 @@ module _ (p : Pipe) (reads : Reads p) (leads : LeadsOn p) (st : State) (bits : L
                   flight.same j (place_at p r i) s.0 o.thread s.1 o.slot (ap (λ (v : Thread). v.number) s.2 ∙ eqb-true t.number number z ∙ sym o.number) in
                   ap (stage_moves p st bits) j_is ∙ g
 
+  -- the machine has the port free for the reading stage just where the port is free by the moves of its places
   pub free_is : is_free (request_of st m) (is_answered p bits m) (later_acts p st bits r.stage)
       ≡ port.is_free x (reply_bit p st bits m) (λ i. stage_moves p st bits (place_at p r i))
   free_is = free_of (request_of st m) refl x refl

@@ -193,6 +193,7 @@ module _ (p : Pipe) (reads : Reads p) (leads : LeadsOn p) (some : 0 < length p.s
       let to = place_to (stage_at p r.stage).next (deeds p st r.stage t).env in
       sym (eqb-true to j (and_parts (asks_of m (deeds p st r.stage t).asks) _ e).1) ∙ eqb-true to k (and_parts (asks_of m (deeds p st r.stage t).asks) _ f).1
 
+  -- what a cycle does to the port is proper use, whichever places lose their threads
   pub proper_port : (removed : ℕ → Bool) → Proper (length (places p r)) x (port_act p st bits m r removed)
   proper_port removed = record {
     one = λ j k l h e f. one_place (stage_moves p st bits r.stage) (here p st bits r.stage) j k e f;
@@ -349,6 +350,7 @@ module _ (p : Pipe) (reads : Reads p) (leads : LeadsOn p) (some : 0 < length p.s
         (sym (asker_none (port_act p st bits m r removed).asked (length (places p r)) none))
         (left_same (request_of st m) refl x refl same (λ b i. request_is ∙ ap (request_left sq) (e ∙ ap (λ c. if c then NoRequest else request_of st m) i)))
 
+    -- after the cycle the port's step agrees with the request of the machine's next state
     pub same_next : SameRequest p (cycle p st bits) r (request_of (cycle p st bits) m) (step (length (places p r)) x (port_act p st bits m r removed))
     same_next = at (stage_moves p st bits r.stage) (here p st bits r.stage) refl refl
       where

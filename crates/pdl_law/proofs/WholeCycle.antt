@@ -46,6 +46,7 @@ module _ (p : Pipe) (lawful : IsLawful p) (ls : Locks) (vs : ℕ → View) (gate
     (beside : HasSides p ls c vs gates moves sides) where
   -- THE START
 
+  -- with registers at reset, where stages and locks stand for the machine's first state, so do ports, orders and second tickets
   pub whole_first : (image : Arrays) (s : State) → s.regs ≡ map (λ (r : Reg). r.reset) c.regs
       → StandsFor p ls vs s (first p image) → WholeStands p ls vs sides s (first p image)
   whole_first image s regs stands = record {

@@ -63,6 +63,7 @@ write_of (Some w) = Some (w.address, w.value)
 module _ (p : Pipe) (names : ℕ → List ℕ) (apart : Apart names (length p.mems)) (lawful : IsLawful p) (ls : Locks)
     (vs : ℕ → View) (gates : Gates) (moves : ℕ → Signal) (sides : Sides) (c : Circuit)
     (made : IsWhole p names ls vs gates moves sides c) where
+  -- the circuit has just the outputs that it was made with
   pub outputs_made : outputs_of c ≡ made.outs
   outputs_made =
       ap (filter_map port_output) made.ports ∙ filter_map-append port_output (reply_ports names 0 p.mems) (map (port_in c) made.outs)
@@ -140,10 +141,12 @@ module _ (p : Pipe) (names : ℕ → List ℕ) (apart : Apart names (length p.me
   module _ (s : State) (st : machine.State) (bits : List Bool) (suits : Suits c s) (known : IsKnown p st bits)
       (stands : StandsFor p ls vs s st) (seen : (j : ℕ) → j < length p.stages → IsSeen p vs moves s st bits j)
       (squashed : IsSquashed p ls vs gates s st bits) where
+    -- the signals of a locked memory's commit have the values of what the machine commits
     pub commit_at : (m : ℕ) → is_locked p m ≡ true
         → commit_words names s st (made.laid.commits m) ≡ commit_values (mem_at p m).lock (port_write (taken_out st (moving p st bits) m))
     commit_at = commit_laid p names ls vs gates moves c made.laid s st bits stands known.used known.by seen (stood p st bits) squashed
 
+    -- the signals of a delayed memory's request tell whether the machine asks it, and at which address
     pub request_at : (m : ℕ) → m < length p.mems → (mem_at p m).delayed ≡ true
         → ((made.asks m).enable.value s ≡ bit (is_some (asked_in (moving p st bits) m)))
         × ((made.asks m).addr.value s ≡ address_or (asked_in (moving p st bits) m))
@@ -187,6 +190,7 @@ module _ (p : Pipe) (names : ℕ → List ℕ) (apart : Apart names (length p.me
                 (ap (λ ws. slice_index ws 0) g)
                 ∙ ap₂ (λ a b. Some (a, b)) (ap (λ ws. slice_index ws 1) g) (ap (λ ws. slice_index ws 2) g)
 
+    -- a memory without lock has no commit by its name
     pub no_commit : (m : ℕ) → m < length p.mems → is_locked p m ≡ false → commit_of c (output_values c s) (names m) ≡ None
     no_commit m l e =
         ap

@@ -119,6 +119,7 @@ module _ (p : Pipe) (names : ℕ → List ℕ) (apart : Apart names (length p.me
             words = x.holds.words;
           }
 
+      -- what is known of each cycle of the machine is known of this one with its replies
       pub knows : IsKnown p st (replies_of (delayed_count p) b)
       knows = subst (λ y. IsKnown p y (replies_of (delayed_count p) b)) (sym x.reached) (known image x.before (replies_of (delayed_count p) b))
 
@@ -142,11 +143,13 @@ module _ (p : Pipe) (names : ℕ → List ℕ) (apart : Apart names (length p.me
             word = λ e. o.word (state_in h b) suits ∙ y.word e;
           }
 
+      -- each stage is seen in this cycle to be as the machine's
       pub seen : (j : ℕ) → j < length p.stages → IsSeen p vs moves (state_in h b) st (replies_of (delayed_count p) b) j
       seen =
           seen_whole p lawful ls vs gates moves sides (circuit_of n) made.laid made.beside (state_in h b) st
           (replies_of (delayed_count p) b) suits knows (x.whole b suits) given
 
+      -- the squash of this cycle is as the machine's
       pub squashed : IsSquashed p ls vs gates (state_in h b) st (replies_of (delayed_count p) b)
       squashed =
           squashed_whole p lawful ls vs gates moves sides (circuit_of n) made.laid made.beside (state_in h b) st

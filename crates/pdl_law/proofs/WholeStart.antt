@@ -104,6 +104,7 @@ module _ (p : Pipe) (names : ℕ → List ℕ) (ls : Locks) (n : Netlist) (mems 
       none_some : (a : ℕ) → None ≡ Some a → ⊥
       none_some a i = cc i
 
+  -- at the start the delayed memories outside stand for the machine's first state from the same image
   pub stores_start : AreStores (first p (model.arrays_of (in_order p image))) 0 p.mems (net_run.start n image).stores
   stores_start = stores_from (first p (model.arrays_of (in_order p image))) 0 p.mems (net_run.start n image).stores
       (length-map (take (length (delayed_mems n)) image) as_store ∙ length-take (length (delayed_mems n)) image ∙ small ∙ delayed_as_many p names ls n mems)

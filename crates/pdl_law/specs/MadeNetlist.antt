@@ -12,6 +12,7 @@ use Rattle.pdl_law_parts.specs.Declared.{mem_names}
 use Rattle.pdl_law_sides.specs.Sides.{Sides}
 use Rattle.pdl_law_sides.specs.WholeNetlist.{IsWhole, HasWholeMems}
 
+-- a netlist of a source of the whole language: it has the parts that the law asks for, is well formed, and has the pipe's memories
 pub record IsMadeWhole (p : tree.Pipe) (ls : Locks) (vs : ℕ → View) (gates : Gates) (moves : ℕ → Signal) (sides : Sides) (n : Netlist) : Type 1 where
   -- its stages, its locks, what stands beside them, and its ports, by their laws
   pub compiled : IsWhole (flat p) (mem_names p.mems) ls vs gates moves sides (circuit_of n)

@@ -70,6 +70,7 @@ module _ (p : tree.Pipe) (rules : KeepsRules p) (source : is_source p ≡ true) 
       (λ j. ((made.compiled.asks j).enable.width ≡ 1) × (2 ^ (made.compiled.asks j).addr.width ≡ (slice_index_or (mems_of p.mems) i plain_mem).depth)) z
       (made.requests i low d, (made.compiled.fits i low d).reach)
 
+  -- the netlist that was made of the source follows it
   pub follows : Follows p n
   follows =
       let formed =

@@ -35,6 +35,7 @@ module _ (ms : List Mem) (p : Pipe) (same : p.mems ≡ mems_of ms) where
   low_here : (m : ℕ) → m < length p.mems → m < length ms
   low_here m l = let e = ap length same ∙ mems_length ms in omega (arith, l, e)
 
+  -- at the place of memory m the netlist's memories have what is told of memory m
   pub told_here : (m : ℕ) (d : MemInfo) → m < length p.mems → slice_index_or (net_infos ms) (net_place p m) d ≡ slice_index_or (map info_of ms) m d
   told_here m d l = at (mem_at p m).delayed refl
     where

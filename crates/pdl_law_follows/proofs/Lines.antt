@@ -217,6 +217,7 @@ module _ (p : Pipe) (ms : List Mem) (same : p.mems ≡ mems_of ms) (n : Netlist)
 
   -- ---- all cycles
 
+  -- where each cycle shows what the machine has, the cycles by what the memories commit are the machine's cycles
   pub cycles_are : (xs : List Shown) (ts : List Turn) → AllHave p ts → map seen_of xs ≡ map (whole_had p) ts
       → map (cycle_by n (map info_of ms)) xs ≡ turn_cycles ts
   cycles_are [] [] h e = refl
@@ -237,6 +238,7 @@ module _ (p : Pipe) (ms : List Mem) (same : p.mems ≡ mems_of ms) (n : Netlist)
       let others : map seen_of xs ≡ map (whole_had p) ts = cc e in
       ap₂ (λ a b. a ++ b) (puts_are number x t h.0 one) (puts_lines (suc number) xs ts h.1 others)
 
+  -- where each cycle shows what the machine has, all lines of the netlist are the machine's
   pub all_lines : (xs : List Shown) (ts : List Turn) → AllHave p ts → map seen_of xs ≡ map (whole_had p) ts
       → lines (map column_of (commit_mems n)) (map (cycle_of n) xs) ≡ lines (columns ms) (turn_cycles ts)
   all_lines xs ts h e =

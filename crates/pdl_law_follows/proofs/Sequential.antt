@@ -102,6 +102,7 @@ module _ (p : tree.Pipe) (rules : KeepsRules p) (source : is_source p ≡ true) 
   turned : ShowsTurns p n
   turned = shows_turns p rules source named n follows
 
+  -- the netlist writes what the threads write one after another
   pub refines : RefinesThreads p n
   refines image schedule is_image =
       let words = arrays_of (in_order (flat p) image) in
@@ -109,12 +110,14 @@ module _ (p : tree.Pipe) (rules : KeepsRules p) (source : is_source p ≡ true) 
       subst (AreSequential (flat p) words replies) (sym (turned.cycles image schedule is_image))
       (machine_sequential (flat p) words replies (whole_refines (flat p) (of_source p rules source named) words replies))
 
+  -- in each cycle that leaves no request unanswered the oldest thread moves
   pub moves : MovesOldest p n
   moves image schedule bits is_image e =
       let words = arrays_of (in_order (flat p) image) in
       whole_advances (flat p) (of_source p rules source named) words (replies_in (flat p) schedule) (replies_of (delayed_count (flat p)) bits)
       (sym (last_wait (flat p) n bits schedule (start n image) (first (flat p) words) (follows.shows image (schedule ++ bits ∷ []) is_image)) ∙ e)
 
+  -- in each run at least as many threads end as its cycles that are no waits, divided by the depth
   pub ends : EndsThreads p n
   ends image schedule is_image =
       let words = arrays_of (in_order (flat p) image) in
@@ -127,6 +130,7 @@ module _ (p : tree.Pipe) (rules : KeepsRules p) (source : is_source p ≡ true) 
       (length-map schedule (replies_of (delayed_count (flat p))))
       (whole_paces (flat p) (of_source p rules source named) words replies))))
 
+  -- each run from an image prints the machine's lines, writes what the threads write, and moves the oldest thread
   pub runs : (image : List (List ℕ)) (schedule : List ℕ) → IsImage n.mems image → IsRunOf p n image schedule
   runs image schedule is_image =
       let words = arrays_of (in_order (flat p) image) in

@@ -56,6 +56,7 @@ module _ (p : Pipe) (ms : List Mem) (declared : AreDeclared ms) (same : p.mems �
   size : (m : Mem) → Among m ms → IsAddressed m
   size m h = addressed m (reach m h) (sized_among ms declared.sized m h)
 
+  -- its ports are those of a pipe with these stages, delayed memories and locked memories
   pub ports : map head_of n.ports ≡ pipe_ports (length p.stages) (map port_mem (delayed_of ms)) (locked_of ms)
   ports =
       ap (map head_of) made.ports

@@ -16,6 +16,7 @@ use Rattle.pdl_law_sides.specs.Sides.{Sides}
 use Rattle.pdl_law_sides.specs.WholeNetlist.{IsWhole, ShowsWhole}
 use Rattle.pdl_law_follows.specs.Memories.{delayed_of, comb_of, net_infos}
 
+-- a netlist that follows a pipe: it is well formed, has the pipe's name, ports and memories, and shows what the machine shows
 pub record Follows (p : tree.Pipe) (n : Netlist) : Type 0 where
   pub name : n.name ≡ p.name.name
   -- it breaks none of the rules of netlists

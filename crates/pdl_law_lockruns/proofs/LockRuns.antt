@@ -183,6 +183,7 @@ module _ (p : tree.Pipe) (rules : KeepsRules p) (source : is_source p ≡ true) 
         used_standing whole image (held_after n (start n image) schedule) (machine_after (flat p) image schedule)
         (reached image schedule is_image) bits m locked
 
+    -- each stage holds a thread where the machine's does, and moves one where one moves there
     pub stages_made : (image : List (List ℕ)) (schedule : List ℕ) (bits k : ℕ) → IsImage n.mems image → k < length (flat p).stages
         → IsStageAs (vs k) (moves k) (state_in (held_after n (start n image) schedule) bits) (flat p)
         (machine_after (flat p) image schedule) (replies_of (delayed_count (flat p)) bits) k

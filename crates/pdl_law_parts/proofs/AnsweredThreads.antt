@@ -4,6 +4,7 @@ use Rattle.pdl_semantics.specs.Flat.{Pipe}
 use Rattle.pdl_semantics.specs.Machine.{Thread, State, with_answers}
 use Rattle.pdl_machine_facts.specs.Slots.{slot, with_now, here}
 
+-- a thread stands in stage k with the number, the values and the guess of this one
 pub record Stood (st : State) (k : ℕ) (t : Thread) : Type 0 where
   pub thread : Thread
   pub slot : slot st k ≡ Some thread

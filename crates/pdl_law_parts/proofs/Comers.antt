@@ -150,6 +150,7 @@ module _ (p : Pipe) (ls : Locks) (vs : ℕ → View) (moves : ℕ → Signal) (s
         × (count_older u.number (list_three st (moving p st bits) m) + bit (has_release m (moving p st bits)) ≡ count_older u.number (machine.lock_of st m))
         × (is_kept (squasher (moving p st bits)) u.number ≡ true)
 
+  -- either both come into stage q and the comer brings what the thread has, or neither comes
   abbrev pub AreAlike : ℕ → Option Comer → Option Thread → Type 0
   AreAlike q None None = ⊤
   AreAlike q (Some c) (Some u) = Brings q c u
@@ -347,6 +348,7 @@ module _ (p : Pipe) (ls : Locks) (vs : ℕ → View) (moves : ℕ → Signal) (s
 
   -- ALL
 
+  -- who comes first into a stage by the signals brings what the machine's new thread, else its arriving one, has
   pub comers_alike : (q : ℕ) → q < length p.stages
       → AreAlike q (first_come s (comers p vs moves q)) (or_then (newborn p st bits q) (arriving_thread p st bits q))
   comers_alike q l =

@@ -147,6 +147,7 @@ module _ (p : Pipe) (ls : Locks) (vs : ℕ → View) (gates : Gates) (moves : �
             ∙ ap (λ es. (0 + count_older u.number es) % 2 ^ ls.bits m) (sym none));
       }
 
+  -- with registers at reset, the image in the arrays and locks at their starts, the state stands for the machine's first state
   pub stands_at_first : StandsFor p ls vs s (first p image)
   stands_at_first = record {
     valid = valid_first;

@@ -162,6 +162,7 @@ module _ (p : Pipe) (ls : Locks) (vs : ℕ → View) (moves : ℕ → Signal) (s
     acts_of zero k = []
     acts_of (suc n) k = acts_of n (suc k) ++ write_acts s m (stage_moves p st bits k) (base + older_of (here p st bits k)) (vs k).ended.puts
 
+    -- what the cycle does to the lock: its reservations, writes, release and squash, by the machine's threads
     abbrev pub act_of : LockAct
     act_of = record {
       reserves = addresses m (moving p st bits);
@@ -348,6 +349,7 @@ module _ (p : Pipe) (ls : Locks) (vs : ℕ → View) (moves : ℕ → Signal) (s
         let few = ticket_covered (suc n) (list_three st (moving p st bits) m) in
         omega (arith, two, three, few)
 
+    -- this act is proper use of the lock, where the memory declares this kind and size
     pub proper : (mem_at p m).lock ≡ as_lock (ls.kind m) (ls.size m) → Proper (ls.size m) before act_of
     proper kind =
         let es = machine.lock_of st m in

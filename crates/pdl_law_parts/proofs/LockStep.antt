@@ -134,9 +134,11 @@ module _ (p : Pipe) (ls : Locks) (vs : ℕ → View) (moves : ℕ → Signal) (s
   abbrev pub words_next : List ℕ
   words_next = words_after (has_release m ms) (forgotten_entries (list_two st ms m)) stand.words
 
+  -- after the cycle the lock has as many words as before
   pub words_long : length words_next ≡ length stand.words
   words_long = long_by (has_release m ms) (forgotten_entries (list_two st ms m)) stand.words
 
+  -- the words after the cycle are those of the machine's memory with its commit
   pub words_same : (a : ℕ) → a < (mem_at p m).depth → with_commit st.arrays m (taken_out st ms m) m a ≡ slice_index words_next a
   words_same a l = array_by (has_release m ms) m (mem_at p m).depth st.arrays (list_two st ms m) stand.words some_left stand.long stand.same a l
 

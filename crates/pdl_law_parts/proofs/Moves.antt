@@ -140,5 +140,6 @@ module _ (p : Pipe) (ls : Locks) (vs : ℕ → View) (gates : Gates) (moves : �
           subst (λ i. IsSeen p vs moves s st bits i) (Rattle.std.proofs.lemmas.Bool.eqb-true k j f) (seen_here k (omega (arith, e)) (λ i h m. later i h m))
       at false f later = later j (let z = Rattle.std.proofs.lemmas.Bool.eqb-false k j f in omega arith) l
 
+  -- each stage is seen to be as the machine's: whether it holds a thread, what that does, and whether it moves
   pub all_seen : (j : ℕ) → j < length p.stages → IsSeen p vs moves s st bits j
   all_seen j l = seen_from (length p.stages) 0 (omega arith) j (omega arith) l

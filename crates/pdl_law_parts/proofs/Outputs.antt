@@ -42,6 +42,7 @@ values_shown c s (o ∷ outs) = ap (λ l. net_value c s o.net ∷ l) (values_sho
 -- of each stage, where all are as the machine's
 module _ (p : Pipe) (vs : ℕ → View) (moves : ℕ → Signal) (s : State) (st : machine.State) (bits : List Bool)
     (seen : (j : ℕ) → j < length p.stages → IsSeen p vs moves s st bits j) where
+  -- the outputs of n stages from stage k on have the values of the machine's: whether each holds a thread, and whether that moves
   pub stages_are : (n k : ℕ) (xs : List Stage) → k + n ≡ length p.stages → n ≡ length xs
       → map (shown_value s) (stages_shown vs moves n k)
       ≡ stage_values (for_stages (λ i. is_some (slot st i)) k xs) (for_stages (λ i. stage_moves p st bits i) k xs)
@@ -57,6 +58,7 @@ module _ (names : ℕ → List ℕ) (s : State) (st : machine.State) where
   abbrev pub commit_words : Commit → List ℕ
   commit_words x = x.enable.value s ∷ x.addr.value s ∷ x.value.value s ∷ []
 
+  -- the commit outputs of these memories have the values of what is taken out, where the commit of each locked one has
   pub commits_are : (ms : List Act) (commits : ℕ → Commit) (m : ℕ) (xs : List Mem)
       → ((i : ℕ) → i < length xs → has_lock (slice_index_or xs i plain_mem).lock ≡ true
       → commit_words (commits (m + i)) ≡ commit_values (slice_index_or xs i plain_mem).lock (port_write (taken_out st ms (m + i))))

@@ -93,6 +93,7 @@ written_more s (x ∷ xs) y = at (is_on x.on s) (written_more s xs y)
     at true e = ap (λ l. record { mem = x.mem; value = x.value.value s } ∷ l) e
     at false e = e
 
+-- with a release more, the memories let go are those of the others, and its own where its condition is 1
 pub let_more : (s : State) (ls : List Letting) (l : Letting)
     → let_in s (ls ++ l ∷ []) ≡ let_in s ls ++ (if is_on l.on s then l.mem ∷ [] else [])
 let_more s [] l = refl

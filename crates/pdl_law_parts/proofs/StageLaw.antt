@@ -102,6 +102,7 @@ module _ (c : Circuit) (p : Pipe) (ls : Locks) (vs : ℕ → View) (s : State) (
         ((stands.locks m e).tickets k u.thread u.slot low));
   }
 
+  -- after all rows of a stage the walk tells whether the locks let its thread move, and as long as they do what it does
   pub stage_follows : (k : ℕ) (t : Thread) → AreRows c p ls (vs k).tickets (in_stage k p.stmts) (vs k).begun (vs k).ended
       → IsFresh (vs k).begun
       → length (vs k).begun.guess ≡ length p.start

@@ -26,6 +26,7 @@ use Rattle.pdl_word.proofs.Numbers.{eqb_self}
 use Rattle.pdl_semantics.proofs.Facts.{all_push}
 
 module _ (c : Circuit) (p : Pipe) (ls : Locks) (vs : ℕ → View) (s : State) (st : machine.State) (k thread : ℕ) (around : IsAround c p ls vs s st k thread) where
+  -- a row that writes: the write has the expression's value
   pub follows_write : (m a : ℕ) (e : Expr) → FollowsOp c p ls vs s st k thread around (Write m a e)
   follows_write m a e j gs r w d live on row here fine q =
       quiet c p ls vs s st k thread around gs r w d glive on q (Write m a e) (walk_after (Write m a e) r ls w) refl (λ b. same b) (λ h z b f. so h b f)
@@ -96,6 +97,7 @@ module _ (c : Circuit) (p : Pipe) (ls : Locks) (vs : ℕ → View) (s : State) (
             barrier = h.barrier;
           }
 
+  -- a row that reserves for reading: it does nothing and waits for nothing
   pub follows_reserve_read : (m a : ℕ) → FollowsOp c p ls vs s st k thread around (ReserveRead m a)
   follows_reserve_read m a j gs r w d live on row here fine q =
       quiet c p ls vs s st k thread around gs r w d glive on q (ReserveRead m a) w refl (λ b. same b) (λ h z b f. so h b)
@@ -111,6 +113,7 @@ module _ (c : Circuit) (p : Pipe) (ls : Locks) (vs : ℕ → View) (s : State) (
       so h true = h
       so h false = h
 
+  -- a row that reserves for writing: it waits for room, holds the location and reserves its address
   pub follows_reserve_write : (m a : ℕ) → FollowsOp c p ls vs s st k thread around (ReserveWrite m a)
   follows_reserve_write m a j gs r w d live on row here fine q =
       asking c p ls vs s st k thread around gs r w d glive on q (ReserveWrite m a)
@@ -195,6 +198,7 @@ module _ (c : Circuit) (p : Pipe) (ls : Locks) (vs : ℕ → View) (s : State) (
         barrier = h.barrier;
       }
 
+  -- a row that blocks: it waits until the look for its location is ready
   pub follows_block : (m a : ℕ) → FollowsOp c p ls vs s st k thread around (Block m a)
   follows_block m a j gs r w d live on row here fine q =
       asking c p ls vs s st k thread around gs r w d glive on q (Block m a)
@@ -265,6 +269,7 @@ module _ (c : Circuit) (p : Pipe) (ls : Locks) (vs : ℕ → View) (s : State) (
             barrier = h.barrier;
           }
 
+  -- a row that releases: the location is held no more, and its reservation for writing is let go where it had one
   pub follows_release : (m a : ℕ) → FollowsOp c p ls vs s st k thread around (Release m a)
   follows_release m a j gs r w d live on row here fine q =
       quiet c p ls vs s st k thread around gs r w d glive on q (Release m a) new refl (λ b. same b) (λ h z b f. so h z b f)

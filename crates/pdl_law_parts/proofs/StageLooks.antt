@@ -45,6 +45,7 @@ module _ (p : Pipe) (ls : Locks) (vs : ℕ → View) (s : State) (st : machine.S
       let e = length-map (machine.lock_of st m) forget in
       record { from = omega arith; to = omega (arith, l, e) }
 
+  -- the lock's net of room tells whether there is room for one more of the machine's pending writes
   pub room_is : RoomLaw (ls.stands m) (ls.size m) (ls.room m) → (ls.room m).value s ≡ bit (has_room (mem_at p m).lock (length (machine.lock_of st m)))
   room_is law =
       law.holds s state_of stands.stands

@@ -77,6 +77,7 @@ module _ (c : Circuit) (p : Pipe) (ls : Locks) (vs : ℕ → View) (s : State) (
   module _ (gs : List Guard) (r : Row) (w : Walk) (d : Deeds)
       (glive : (y : ℕ) → guards_use gs y ≡ true → lives_from p k y ≡ true)
       (on : (s : State) → Suits c s → r.on.value s ≡ bit (taken_in gs w s)) (q : Follows p k s st thread w d) where
+    -- the guards hold for the thread's values just where they are taken by the signals
     pub guards_same : IsSo p k s w d → all_hold gs d.env ≡ taken_in gs w s
     guards_same h = taken_same gs w s d.env (λ y u. h.env y (glive y u))
 
@@ -84,9 +85,11 @@ module _ (c : Circuit) (p : Pipe) (ls : Locks) (vs : ℕ → View) (s : State) (
     pub is_taken : IsSo p k s w d → all_hold gs d.env ≡ true → taken_in gs w s ≡ true
     is_taken h e = sym (guards_same h) ∙ e
 
+    -- where the guards don't hold for the thread's values, they aren't taken by the signals
     pub is_not : IsSo p k s w d → all_hold gs d.env ≡ false → taken_in gs w s ≡ false
     is_not h e = sym (guards_same h) ∙ e
 
+    -- the row's condition tells whether the guards hold for the thread's values
     pub on_at : IsSo p k s w d → r.on.value s ≡ bit (all_hold gs d.env)
     on_at h = on s around.suits ∙ ap bit (sym (guards_same h))
 
@@ -119,6 +122,7 @@ module _ (c : Circuit) (p : Pipe) (ls : Locks) (vs : ℕ → View) (s : State) (
 
     -- VARIABLES
 
+    -- where a variable gets a signal of its new value, the signals have the values with that one
     pub set_env : (y v : ℕ) (f : Signal) → y < length d.env → f.value s ≡ v → IsEnv p k s w.vars d.env → IsEnv p k s (with_var y f w).vars (slice_set d.env y v)
     set_env y v f l e h z live = at (z == y) refl
       where
@@ -126,6 +130,7 @@ module _ (c : Circuit) (p : Pipe) (ls : Locks) (vs : ℕ → View) (s : State) (
         at true g = ap (slice_index (slice_set d.env y v)) (eqb-true z y g) ∙ get_or-set_same d.env y v 0 l ∙ sym e
         at false g = get_or-set_other d.env y z v 0 (eqb-false z y g) ∙ h z live
 
+    -- where a variable gets a signal of the value that it had, the signals still have the same values
     pub keep_env : (y : ℕ) (f : Signal) → f.value s ≡ (w.vars y).value s → IsEnv p k s w.vars d.env → IsEnv p k s (with_var y f w).vars d.env
     keep_env y f e h z live = at (z == y) refl
       where
@@ -135,6 +140,7 @@ module _ (c : Circuit) (p : Pipe) (ls : Locks) (vs : ℕ → View) (s : State) (
 
     -- LOCATIONS
 
+    -- where one location gets a signal of whether it is held now, and no other location changes, the signals tell what is held
     pub hold : (m a : ℕ) (f : Signal) (new : List HeldLocation)
         → (held_from p k m a ≡ true → f.value s ≡ bit (is_held new m a))
         → ((n b : ℕ) → ((m == n) && (a == b)) ≡ false → is_held new n b ≡ is_held d.held n b)
@@ -162,6 +168,7 @@ module _ (c : Circuit) (p : Pipe) (ls : Locks) (vs : ℕ → View) (s : State) (
             word_is p ls s st thread m (w.vars a) ((vs k).tickets m) r.value word e (around.unlocked m e)
             (around.words m e comb ((w.vars a).value s) word.reach)
 
+  -- the values of the arguments are those of their signals, where the variables that they use have the signals' values
   pub values_same : (args : List Expr) (fs : List Signal) (w : Walk) (env : List ℕ) → HaveValues args w fs s
       → ((e : Expr) → ((y : ℕ) → uses_var e y ≡ true → are_using args y ≡ true) → AgreeOn e w s env)
       → values_of args env ≡ map (λ (f : Signal). f.value s) fs
@@ -172,6 +179,7 @@ module _ (c : Circuit) (p : Pipe) (ls : Locks) (vs : ℕ → View) (s : State) (
       ap₂ (λ v l. v ∷ l) (sym (h.0 env (g e (λ y u. or_left (uses_var e y) (are_using es y) u))))
       (values_same es fs w env h.1 (λ a u. g a (λ y i. or_right (uses_var e y) (are_using es y) (u y i))))
 
+  -- where a statement stands in stage k, and no later than in stage n, k is at most n
   pub early : (j n : ℕ) → j ≡ k → nat_le j n ≡ true → k ≤ n
   early j n here e = subst (λ i. i ≤ n) here (leb-true j n e)
 

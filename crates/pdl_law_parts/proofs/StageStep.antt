@@ -21,6 +21,7 @@ use Rattle.pdl_law_parts.proofs.StageCalls.{follows_call, follows_fetch, follows
 use Rattle.pdl_word.proofs.Numbers.{eqb_self}
 
 module _ (c : Circuit) (p : Pipe) (ls : Locks) (vs : ℕ → View) (s : State) (st : machine.State) (k thread : ℕ) (around : IsAround c p ls vs s st k thread) where
+  -- a row that binds: the variable gets the expression's value
   pub follows_bind : (y : ℕ) (e : Expr) → FollowsOp c p ls vs s st k thread around (Bind y e)
   follows_bind y e j gs r w d live on row here fine q =
       quiet c p ls vs s st k thread around gs r w d glive on q (Bind y e) (with_var y r.value w) refl (λ b. same b) (λ h z b f. so h b f)
@@ -73,6 +74,7 @@ module _ (c : Circuit) (p : Pipe) (ls : Locks) (vs : ℕ → View) (s : State) (
         barrier = h.barrier;
       }
 
+  -- a row that reads at once: the variable gets the word that the thread finds
   pub follows_read : (y m a : ℕ) → FollowsOp c p ls vs s st k thread around (CombRead y m a)
   follows_read y m a j gs r w d live on row here fine q =
       quiet c p ls vs s st k thread around gs r w d glive on q (CombRead y m a) (with_var y r.value w) refl (λ b. same b) (λ h z b f. so h z b f)

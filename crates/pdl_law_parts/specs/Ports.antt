@@ -82,6 +82,7 @@ abbrev pub commits_shown : (ℕ → List ℕ) → (ℕ → Commit) → ℕ → L
 commits_shown names commits m [] = []
 commits_shown names commits m (x ∷ xs) = (if has_lock x.lock then commit_shown (names m) (commits m) else []) ++ commits_shown names commits (suc m) xs
 
+-- all outputs where no memory is delayed: of the stages and the commits, whether a thread ends, and whether there is a squash
 abbrev pub all_shown : Pipe → (ℕ → List ℕ) → (ℕ → Commit) → (ℕ → View) → Gates → (ℕ → Signal) → List Shown
 all_shown p names commits vs gates moves =
     stages_shown vs moves (length p.stages) 0

@@ -39,6 +39,7 @@ pub record StandsLock (p : Pipe) (ls : Locks) (vs : ℕ → View) (s : State) (s
   pub tickets : (k : ℕ) (t : Thread) → slot st k ≡ Some t → k ≤ commit_stage p m
       → holds_ticket (ls.bits m) ((vs k).tickets m) s (base + count_older t.number (machine.lock_of st m))
 
+-- a state of the netlist stands for one of the machine: which stages hold a thread, what it has, memories' words, and locks
 pub record StandsFor (p : Pipe) (ls : Locks) (vs : ℕ → View) (s : State) (st : machine.State) : Type 0 where
   pub valid : (k : ℕ) → k < length p.stages → (vs k).valid.value s ≡ bit (is_some (slot st k))
   pub long : (k : ℕ) (t : Thread) → slot st k ≡ Some t → length t.env ≡ p.vars
@@ -59,6 +60,7 @@ abbrev pub written_in : State → List Put → List Written
 written_in s [] = []
 written_in s (x ∷ xs) = if is_on x.on s then record { mem = x.mem; value = x.value.value s } ∷ written_in s xs else written_in s xs
 
+-- the memories of the releases whose condition is 1 in a state
 abbrev pub let_in : State → List Letting → List ℕ
 let_in s [] = []
 let_in s (l ∷ ls) = if is_on l.on s then l.mem ∷ let_in s ls else let_in s ls

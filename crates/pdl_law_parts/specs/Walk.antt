@@ -50,25 +50,30 @@ pub record Reservation : Type 0 where
   pub on : Signal
   pub addr : Signal
 
+-- a write of a memory: its condition and its value
 pub record Put : Type 0 where
   pub mem : ℕ
   pub on : Signal
   pub value : Signal
 
+-- a release of a memory's write reservation, with its condition
 pub record Letting : Type 0 where
   pub mem : ℕ
   pub on : Signal
 
+-- a call: its condition and the arguments of the new thread
 pub record Birth : Type 0 where
   pub on : Signal
   pub args : List Signal
 
+-- a request of a delayed memory: the variable for its answer, its condition and its address
 pub record Ask : Type 0 where
   pub mem : ℕ
   pub var : ℕ
   pub on : Signal
   pub addr : Signal
 
+-- a stage on the way through its rows: its variables, what is held, what it waits for, and what its thread does
 pub record Walk : Type 0 where
   pub vars : ℕ → Signal
   -- whether a location, by its memory and its variable, is reserved for writing and not yet released
@@ -178,6 +183,7 @@ IsOp c p ls tickets gs (Verify args) w r =
 IsOp c p ls tickets gs SpecCheck w r = ⊤
 IsOp c p ls tickets gs SpecBarrier w r = ⊤
 
+-- the signals of a statement's row: its condition tells whether the guards are taken, and the others are as its operation asks
 pub record IsRow (c : Circuit) (p : Pipe) (ls : Locks) (tickets : ℕ → Signal) (x : Stmt) (w : Walk) (r : Row) : Type 0 where
   pub on : (s : State) → Suits c s → r.on.value s ≡ bit (taken_in x.guards w s)
   pub op : IsOp c p ls tickets x.guards x.op w r

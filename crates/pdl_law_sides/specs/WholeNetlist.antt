@@ -90,6 +90,7 @@ pub record StartsLock (p : Pipe) (ls : Locks) (c : Circuit) (from to m : ℕ) : 
   pub starts : (s : State) (image : List ℕ) → IsReset c from to s → length image ≡ (mem_at p m).depth
       → ((mem_at p m).delayed ≡ false → HasImage (ls.kind m) (Some (ls.array m)) s image) → ls.stands m s (start image)
 
+-- the whole netlist: stages and locks, what stands beside them, what delayed memories are asked, and all ports
 pub record IsWhole (p : Pipe) (names : ℕ → List ℕ) (ls : Locks) (vs : ℕ → View) (gates : Gates) (moves : ℕ → Signal)
     (sides : Sides) (c : Circuit) : Type 0 where
   pub laid : IsLaid p ls vs gates moves c

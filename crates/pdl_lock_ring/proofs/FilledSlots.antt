@@ -169,9 +169,11 @@ module _ (l : RingLayout) (v : ℕ → Signal) (s : State) (x : LockState) (f : 
   asked_all : Cycle l v s x f a → asked_addresses s (take (length f.reserves) f.reserves) ≡ a.reserves
   asked_all c = ap (asked_addresses s) (take_all (length f.reserves) f.reserves (omega arith)) ∙ sym c.drives.reserves
 
+  -- the signal that tells of a reservation is 1 just where the cycle makes one
   pub pushes_value : Cycle l v s x f a → (pushes f).value s ≡ some a.reserves
   pushes_value c = push_value f s (length f.reserves) (omega arith) ∙ ap some (asked_all c)
 
+  -- the signal that tells of two reservations is 1 just where the cycle makes two
   pub pushes2_value : Cycle l v s x f a → (pushes2 f).value s ≡ two a.reserves
   pushes2_value c = push2_value f s (length f.reserves) (omega arith) ∙ ap two (asked_all c)
 
@@ -189,10 +191,12 @@ module _ (l : RingLayout) (v : ℕ → Signal) (s : State) (x : LockState) (f : 
   unfolding second_addr
   second_is c = last_value l.bits f s (length f.reserves) (omega arith) ∙ ap (λ ys. last_or ys 0) (asked_all c)
 
+  -- the tail is the ticket of the next reservation, modulo the number of tickets
   pub tail_value : Cycle l v s x f a → (tail_signal l).value s ≡ (x.base + length x.entries) % 2 ^ l.ticket
   unfolding reg_value
   tail_value c = c.stands.tail
 
+  -- the second ticket is the one after the next, modulo the number of tickets
   pub second_value : Cycle l v s x f a → (second_ticket l).value s ≡ (x.base + length x.entries + 1) % 2 ^ l.ticket
   unfolding bin_value const_value
   second_value c = ap (λ n. words.add l.ticket n 1) (tail_value c) ∙ sum_held l.ticket (x.base + length x.entries) 1
@@ -258,6 +262,7 @@ module _ (l : RingLayout) (v : ℕ → Signal) (s : State) (x : LockState) (f : 
       let on : g.enable.value s ≡ 1 = c.drives.on j lt ∙ ap bit o in
       mux_one (g.enable.value s) ((slot_of l g.ticket).value s) l.size on ∙ slot_value l c.sized g.ticket s (act_at a.writes j).ticket (c.drives.ticket j lt o)
 
+  -- a write port that isn't enabled has the number of slots in place of a slot, so none is meant
   pub unwritten_value : Cycle l v s x f a → (j : ℕ) → j < length a.writes → (act_at a.writes j).on ≡ false → (written_slot l f j).value s ≡ l.size
   unfolding mux_value const_value
   unwritten_value c j lt o =
@@ -270,6 +275,7 @@ module _ (l : RingLayout) (v : ℕ → Signal) (s : State) (x : LockState) (f : 
   unfolding bin_value const_value
   fills_one c k j lt o = ap (λ n. words.equal n k) (written_value c j lt o)
 
+  -- a write port that isn't enabled writes into no slot
   pub fills_none : Cycle l v s x f a → (k j : ℕ) → k < l.size → j < length a.writes → (act_at a.writes j).on ≡ false → (fills_slot l f k j).value s ≡ 0
   unfolding bin_value const_value
   fills_none c k j h lt o = ap (λ n. words.equal n k) (unwritten_value c j lt o) ∙ eq_none l.size k (λ e. omega (arith, e, h))

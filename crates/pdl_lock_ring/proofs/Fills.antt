@@ -45,6 +45,7 @@ pub bit_none : (l : RingLayout) (f : StepSignals) (k : ℕ)
 unfolding filled_bit
 bit_none l f k = refl
 
+-- after one write port more, a slot has its value where that port fills it, and else as before
 pub bit_more : (l : RingLayout) (f : StepSignals) (k j : ℕ)
     → filled_bit l f k (j + 1) ≡ mux_signal (fills_slot l f k j) (const_signal 1 1) (filled_bit l f k j)
 unfolding filled_bit
@@ -56,6 +57,7 @@ unfolding filled_bit
 bit_width l f k zero = refl
 bit_width l f k (suc j) = refl
 
+-- before any write, a slot's value is the one that it had
 pub value_none : (l : RingLayout) (f : StepSignals) (v : Signal) (k : ℕ) → filled_value l f v k 0 ≡ v
 unfolding filled_value
 value_none l f v k = refl

@@ -81,6 +81,7 @@ module _ (l : RingLayout) (g : ℕ → Signal) (s : State) (x : LockState) (a t 
       ∙ mux_both ((same_at l a j).value s) 0)
       (cases_lt i.0 d)
 
+  -- a look's net is 1 just where no older pending write has the address
   pub free_looked : (ready_signal l a t).value s ≡ bit (is_free ys (a.value s))
   unfolding mux_value const_value
   free_looked = elim (youngest_of ys (a.value s)) [

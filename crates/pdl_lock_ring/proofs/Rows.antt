@@ -119,6 +119,7 @@ pub first_values : (c : Circuit) (l : RingLayout) (place : ℕ)
     → l.content ≡ Value → IsRowReset c (row_of l (l.from + 2 + 2 * l.size) l.kept) 0 0 l.size → AreFirst c l place
 first_values c l place e r = record { content = λ k h. r.reset k h ∙ (let z : 0 + 0 * k ≡ 0 = omega arith in z) ∙ sym (ap (λ x. first_content_of x place k) e) }
 
+-- what the slots hold first where they keep places: places that count up from a first one
 pub first_places : (c : Circuit) (l : RingLayout) (place : ℕ)
     → l.content ≡ Place → IsRowReset c (row_of l (l.from + 2 + 2 * l.size) l.kept) place 1 l.size → AreFirst c l place
 first_places c l place e r =

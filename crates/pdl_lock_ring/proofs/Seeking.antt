@@ -36,18 +36,22 @@ count_value l g s x z h =
 -- the laws of tickets and room, for each meaning of a state in which the registers stand for the pending writes
 module _ (stands : State → LockState → Type 0) (l : RingLayout) (g : ℕ → Signal) (z : IsSized l)
     (f : (s : State) (x : LockState) → stands s x → HasEntries l g s x) where
+  -- the tail keeps the law of the next ticket
   pub ticket_law : TicketLaw stands l.ticket (tail_signal l)
   unfolding reg_value
   ticket_law = record { holds = λ s x i. (f s x i).tail }
 
+  -- the tail plus 1 keeps the law of the ticket after the next
   pub ticket2_law : Ticket2Law stands l.ticket (second_ticket l)
   unfolding bin_value reg_value const_value
   ticket2_law = record { holds = λ s x i. ap (λ n. words.add l.ticket n 1) (f s x i).tail ∙ sum_held l.ticket (x.base + length x.entries) 1 }
 
+  -- the comparison of the number of pending writes with n keeps the law of room for one
   pub room_law : RoomLaw stands l.size (room_signal l)
   unfolding bin_value const_value words.less
   room_law = record { holds = λ s x i. ap (λ n. words.less n l.size) (count_value l g s x z (f s x i)) }
 
+  -- the comparison of the number of pending writes with n - 1 keeps the law of room for two
   pub room2_law : Room2Law stands l.size (room2_signal l)
   unfolding bin_value const_value words.less
   room2_law = record {

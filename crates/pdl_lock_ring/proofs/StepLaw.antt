@@ -28,10 +28,12 @@ use Rattle.pdl_lock_ring.proofs.FilledSlots.{TicketsFit, Cycle, some, two, all_f
 abbrev pub after_fill : RingLayout → StepSignals → (ℕ → Signal) → ℕ → Signal
 after_fill l f v k = filled_value l f (v k) k (length f.writes)
 
+-- a list whose first pending write has a value has at least one
 pub there_first : (xs : List Entry) → is_some (entry_at xs 0).value ≡ true → 0 < length xs
 there_first [] h = absurd (cc h)
 there_first (x ∷ xs) h = omega arith
 
+-- a list whose second pending write has a value has at least two
 pub there_second : (xs : List Entry) → is_some (entry_at xs 1).value ≡ true → 1 < length xs
 there_second [] h = absurd (cc h)
 there_second (x ∷ []) h = absurd (cc h)
@@ -71,6 +73,7 @@ squashed_number : (t : Bool) (w tail n v : ℕ)
 squashed_number true w tail n v h = h refl
 squashed_number false w tail n v h = refl
 
+-- the base never goes down by releases
 pub base_low : (t u : Bool) (b : ℕ) → b ≤ (if u then b + 2 else if t then b + 1 else b)
 base_low t true b = omega arith
 base_low true false b = omega arith
@@ -125,10 +128,12 @@ module _ (l : RingLayout) (v : ℕ → Signal) (s : State) (x : LockState) (f : 
   abbrev pub left : List Entry
   left = after_squash x a (after_release a (filled_entries x a))
 
+  -- the head is the ticket of the oldest pending write, modulo the number of tickets
   pub head_value : Cycle l v s x f a → (head_signal l).value s ≡ x.base % 2 ^ l.ticket
   unfolding reg_value
   head_value c = c.stands.head
 
+  -- the ticket after the head is that of the second oldest pending write
   pub next_head_value : Cycle l v s x f a → (next_head l).value s ≡ (x.base + 1) % 2 ^ l.ticket
   unfolding bin_value const_value
   next_head_value c = ap (λ n. words.add l.ticket n 1) (head_value c) ∙ sum_held l.ticket x.base 1
@@ -138,17 +143,20 @@ module _ (l : RingLayout) (v : ℕ → Signal) (s : State) (x : LockState) (f : 
   slot_zero : x.base % l.size ≡ (x.base + 0) % l.size
   slot_zero = ap (λ n. n % l.size) (omega arith)
 
+  -- where a write is released, the net of the oldest address has that of the oldest pending write
   pub oldest_addr_is : Cycle l v s x f a → a.release ≡ true → (oldest_addr l f).value s ≡ (entry_at (filled_entries x a) 0).addr
   oldest_addr_is c o =
       let h = all_filled l v s x f a c in
       ticket_value l c.sized (slot_addr l f) (head_signal l) s x.base (head_value c)
       ∙ ap (λ k. (slot_addr l f k).value s) slot_zero ∙ h.has_addr 0 (there_first xs (c.proper.done o))
 
+  -- where a second write is released, the net of the next address has that of the second oldest pending write
   pub next_addr_is : Cycle l v s x f a → a.release2 ≡ true → (next_addr l f).value s ≡ (entry_at (filled_entries x a) 1).addr
   next_addr_is c o =
       let h = all_filled l v s x f a c in
       ticket_value l c.sized (slot_addr l f) (next_head l) s (x.base + 1) (next_head_value c) ∙ h.has_addr 1 (there_second xs (c.proper.done2 o))
 
+  -- where a write is released, the value that is found at the head is that of the oldest pending write
   pub oldest_value_is : Cycle l v s x f a → a.release ≡ true
       → (at_ticket l (after_fill l f v) (head_signal l)).value s ≡ or_zero (entry_at (filled_entries x a) 0).value
   oldest_value_is c o =
@@ -156,6 +164,7 @@ module _ (l : RingLayout) (v : ℕ → Signal) (s : State) (x : LockState) (f : 
       ticket_value l c.sized (after_fill l f v) (head_signal l) s x.base (head_value c) ∙ ap (λ k. (after_fill l f v k).value s) slot_zero
       ∙ h.has_value 0 (or_zero (entry_at xs 0).value) (there_first xs (c.proper.done o)) (some_of (entry_at xs 0).value (c.proper.done o))
 
+  -- where a second write is released, the value that is found after the head is that of the second oldest pending write
   pub next_value_is : Cycle l v s x f a → a.release2 ≡ true
       → (at_ticket l (after_fill l f v) (next_head l)).value s ≡ or_zero (entry_at (filled_entries x a) 1).value
   next_value_is c o =
@@ -168,6 +177,7 @@ module _ (l : RingLayout) (v : ℕ → Signal) (s : State) (x : LockState) (f : 
   unfolding words.mux
   by_release c m n h = ap (λ t. if t then m else 0) (test_bit (f.release.value s) a.release c.drives.release) ∙ same_choice a.release m n 0 h
 
+  -- a choice between a value and 0 by the net of a second release is one by whether the cycle makes one
   pub by_release2 : Cycle l v s x f a → (m n : ℕ) → (a.release2 ≡ true → m ≡ n) → words.mux (f.release2.value s) m 0 ≡ (if a.release2 then n else 0)
   unfolding words.mux
   by_release2 c m n h = ap (λ t. if t then m else 0) (test_bit (f.release2.value s) a.release2 c.drives.release2) ∙ same_choice a.release2 m n 0 h
@@ -209,6 +219,7 @@ module _ (l : RingLayout) (v : ℕ → Signal) (s : State) (x : LockState) (f : 
       ∙ by_bit (f.squash.value s) a.squash (f.tail.value s) ((n + length a.reserves) % 2 ^ w) c.drives.squash
       ∙ squashed_number a.squash w a.tail (n + length a.reserves) (f.tail.value s) c.drives.tail
 
+  -- from the new base as many pending writes are left as reach the next ticket, or the tail of a squash
   pub left_long : Cycle l v s x f a → next_base x a + length left ≡ (if a.squash then a.tail else x.base + length x.entries + length a.reserves)
   left_long c =
       let n = length x.entries + length a.reserves in
@@ -223,6 +234,7 @@ module _ (l : RingLayout) (v : ℕ → Signal) (s : State) (x : LockState) (f : 
   pub record ValuesStay (t : State) : Type 0 where
     pub stay : (i : ℕ) → i < length left → (v ((next_base x a + i) % l.size)).value t ≡ (after_fill l f v ((next_base x a + i) % l.size)).value s
 
+  -- in the next state the slots stand for the pending writes of the step, where the values of those that are left stay
   pub entries_next : (b : Circuit) (o : Own) (t : State) → Cycle l v s x f a → EntriesStay b o l f → IsNext b o s t → ValuesStay t → HasEntries l v t (step x a)
   entries_next b o t c n i m =
       record {
@@ -328,6 +340,7 @@ module _ (b : Circuit) (l : RingLayout) (f : StepSignals) (keeps : l.content ≡
             (next_addr_is l V s x f a c) (next_same s x a c));
       }
 
+  -- a lock that keeps values in its slots keeps the law of the step, with the oldest pending write as its commit
   pub step_law : StepLaw (Stands l) l.size l.ticket (own_all l) b f f.release (mux_signal f.release (oldest_addr l f) (const_signal l.bits 0))
       (mux_signal f.release (oldest_value l f) (const_signal l.width 0))
   unfolding mux_value const_value
@@ -340,6 +353,7 @@ module _ (b : Circuit) (l : RingLayout) (f : StepSignals) (keeps : l.content ≡
     next = λ s u x a h d p o. stands_next s u x a h (cycle s x a h d p) o;
   }
 
+  -- a lock that keeps values in its slots keeps the law of the second commit, with the second oldest pending write
   pub commit2_law : Commit2Law (Stands l) l.size l.ticket f f.release2 (mux_signal f.release2 (next_addr l f) (const_signal l.bits 0))
       (mux_signal f.release2 (next_value l f) (const_signal l.width 0))
   unfolding mux_value const_value

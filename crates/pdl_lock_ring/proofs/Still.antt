@@ -47,6 +47,7 @@ module _ (l : RingLayout) (v : ℕ → Signal) (s : State) (x : LockState) (f : 
       (λ (o : (act_at a.writes j).on ≡ false). fills_none l v s x f a c k j below lt o)
       (cases_Bool (act_at a.writes j).on)
 
+  -- a spared slot keeps its address
   pub addr_still : (slot_addr l f k).value s ≡ reg_of s (addr_at l k)
   unfolding slot_addr mux_value reg_value
   addr_still = mux_zero ((takes_second l f k).value s) _ _ untaken.1 ∙ mux_zero ((takes_first l f k).value s) _ _ untaken.0
@@ -56,6 +57,7 @@ module _ (l : RingLayout) (v : ℕ → Signal) (s : State) (x : LockState) (f : 
   bit_still_at zero h = mux_zero ((takes_second l f k).value s) _ _ untaken.1 ∙ mux_zero ((takes_first l f k).value s) _ _ untaken.0
   bit_still_at (suc j) h = mux_zero ((fills_slot l f k j).value s) _ _ (unfilled j (omega arith)) ∙ bit_still_at j (omega arith)
 
+  -- a spared slot has its value after the cycle just where it had it before
   pub bit_still : (slot_bit l f k).value s ≡ reg_of s (has_at l k)
   bit_still = bit_still_at (length f.writes) (let e = c.drives.count in omega (arith, e))
 
@@ -64,6 +66,7 @@ module _ (l : RingLayout) (v : ℕ → Signal) (s : State) (x : LockState) (f : 
   value_still_at g zero h = refl
   value_still_at g (suc j) h = mux_zero ((fills_slot l f k j).value s) _ _ (unfilled j (omega arith)) ∙ value_still_at g j (omega arith)
 
+  -- a spared slot keeps its value, whatever signal has it
   pub value_still : (g : Signal) → (filled_value l f g k (length f.writes)).value s ≡ g.value s
   value_still g = value_still_at g (length f.writes) (let e = c.drives.count in omega (arith, e))
 

@@ -17,6 +17,7 @@ halved (suc b) h = let e : suc b - 1 ≡ b = omega arith in two-pow-succ b ∙ a
 
 -- ---- a choice by the bits of a number
 
+-- a choice by no bits is the first signal
 pub selected_none : (f : ℕ → Signal) (d : Signal) (b from : ℕ) → b ≡ 0 → selected_signal f d b from ≡ f from
 unfolding selected_signal
 selected_none f d b from e = ap (λ n. selected_signal f d n from) e
@@ -64,6 +65,7 @@ pub ruleset selecting = (selected_none, selected_more)
 
 -- ---- whether one is 1
 
+-- whether one of a single signal is 1 is that signal
 pub some_none : (f : ℕ → Signal) (b from : ℕ) → b ≡ 0 → some_signal f b from ≡ f from
 unfolding some_signal
 some_none f b from e = ap (λ n. some_signal f n from) e

@@ -138,9 +138,11 @@ next_value l f = at_ticket l (slot_value l f) (next_head l)
 pub record NextAddrs (c : Circuit) (l : RingLayout) (f : StepSignals) (n : ℕ) : Type 0 where
   pub addr : (k : ℕ) → k < n → next_signal c (addr_at l k) ≡ slot_addr l f k
 
+-- the bits that tell whether the first n slots have their values take what the cycle makes of them
 pub record NextBits (c : Circuit) (l : RingLayout) (f : StepSignals) (n : ℕ) : Type 0 where
   pub bit : (k : ℕ) → k < n → next_signal c (has_at l k) ≡ slot_bit l f k
 
+-- the contents of the first n slots take the values after the cycle's writes
 pub record NextContents (c : Circuit) (l : RingLayout) (f : StepSignals) (n : ℕ) : Type 0 where
   pub value : (k : ℕ) → k < n → next_signal c (value_at l k) ≡ slot_value l f k
 

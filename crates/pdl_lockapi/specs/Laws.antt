@@ -151,11 +151,13 @@ pub record ReserveSignal : Type 0 where
   pub enable : Signal
   pub addr : Signal
 
+-- what the nets of a write port mean: whether it writes, through which ticket, and which value
 pub record TicketSignal : Type 0 where
   pub enable : Signal
   pub ticket : Signal
   pub value : Signal
 
+-- what the nets of a whole step mean: reservations, writes, both releases, and a squash with its tail
 pub record StepSignals : Type 0 where
   pub reserves : List ReserveSignal
   pub writes : List TicketSignal

@@ -42,6 +42,7 @@ KeepsValues stands Queue n r = HoldsValues stands n r
 KeepsValues stands Bypass n r = HoldsValues stands n r
 KeepsValues stands Rename n r = Unit {0}
 
+-- each slot's registers have the address of the pending write that it serves, and its value unless the lock renames
 pub record SlotsLaw (stands : State → LockState → Type 0) (k : LockKind) (n : ℕ) (r : LockRegs) : Type 0 where
   pub regs : HasSlotRegs k n r
   pub addresses : HoldsAddresses stands n r

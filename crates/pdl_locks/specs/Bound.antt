@@ -13,6 +13,7 @@ use Rattle.pdl_rules_stages.specs.PathBits.{HavePaths}
 abbrev pub last_of : Pipe → List ℕ → Option ℕ
 last_of p m = if is_locked p.mems m then first_stage (releases_memory m) [] (places p) else None
 
+-- the stage of the releases of a location's memory, if there is a location
 abbrev pub last_for : Pipe → Option Location → Option ℕ
 last_for p (Some l) = last_of p l.mem.name
 last_for p None = None

@@ -29,6 +29,7 @@ Lines = PerRule (Option ℕ) (Option ℕ) (Option ℕ)
 abbrev pub IsLine : Pipe → Rule → Option ℕ → Type 0
 IsLine p rule line = line ≡ broken_line rule p [] (places p)
 
+-- for each of the rules L1 and L3 to L8, the line is that at which the pipe breaks it
 pub record AreLines (p : Pipe) (lines : Lines) : Type 0 where
   pub held : IsLine p L1 lines.held
   pub read_first : IsLine p L3 lines.read_first

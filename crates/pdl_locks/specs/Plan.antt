@@ -19,10 +19,12 @@ stages_of p m =
 abbrev pub plan_of : Pipe → List MemStages
 plan_of p = map (stages_of p) p.mems
 
+-- the stage of a memory's reserves, where the memory is there and has some
 abbrev pub reserved_of : Option MemStages → Option ℕ
 reserved_of None = None
 reserved_of (Some m) = m.reserved
 
+-- the stage of a memory's releases, where the memory is there and has some
 abbrev pub released_of : Option MemStages → Option ℕ
 released_of None = None
 released_of (Some m) = m.released

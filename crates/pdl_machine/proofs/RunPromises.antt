@@ -27,15 +27,19 @@ module _ (p : Pipe) (source : IsTrue (is_source p)) (letters : IsTrue (is_named 
   facts : Sound (flat p)
   facts = of_source p kept source letters
 
+  -- each memory's commits have all sequential writes of the threads that ended, and are a prefix of the sequential writes
   pub refines : Refines (flat p) image schedule
   refines = whole_refines (flat p) facts image schedule
 
+  -- after the schedule the oldest live thread moves in a cycle that is no wait
   pub advances : (bits : List Bool) → Advances (flat p) image schedule bits
   advances bits = whole_advances (flat p) facts image schedule bits
 
+  -- at least as many threads end as cycles that are no waits, divided by the depth
   pub paces : KeepsPace (flat p) image schedule
   paces = whole_paces (flat p) facts image schedule
 
+  -- the state after the schedule is sound
   pub stays_sound : IsTrue
       (is_sound (flat p) image (stated.ended_in (stated.turns (flat p) image schedule)) (stated.state_after (flat p) (stated.first (flat p) image) schedule))
   stays_sound = EveryState.sound_state (flat p) facts (paths_strict p kept source) image schedule

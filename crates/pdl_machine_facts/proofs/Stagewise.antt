@@ -67,6 +67,7 @@ module _ (p : Pipe) (leads : LeadsOn p) (some : 0 < length p.stages) (st : State
   abbrev next_state : State
   next_state = after_these p st bits (line_acts p st bits (length p.stages) 0) (moving p st bits) (squasher (moving p st bits))
 
+  -- the state after a cycle is the one that the movers of the stages make
   pub next_is : cycle p st bits ≡ next_state
   next_is = λ i. after_these p st bits (these_are i) (movers_here i) (squasher (movers_here i))
 
@@ -81,6 +82,7 @@ module _ (p : Pipe) (leads : LeadsOn p) (some : 0 < length p.stages) (st : State
       ∙ ap₂ (λ ms o. or_then (if k == 0 then born_thread p st.next (child_of ms) else None) (if_kept (squasher (moving p st bits)) o))
       (movers_are p st bits (length p.stages) 0) (stands_at p st bits leads k h)
 
+  -- a cycle goes stage by stage and memory by memory, where threads go on to later stages
   pub by_stages : IsByStages p st bits
   by_stages =
       record {

@@ -68,6 +68,7 @@ module _ (p : Pipe) (st : State) (bits : List Bool) where
   pub all_are : all_acts p st bits ≡ line_acts (length st.stages) 0
   all_are = acts_are st.stages 0 refl
 
+  -- the acts after stage k are those of the stages that follow it
   pub after_are : (k : ℕ) → later_acts p st bits k ≡ line_acts (length st.stages - suc k) (suc k)
   after_are k = acts_are (drop (suc k) st.stages) (suc k) refl ∙ ap (λ n. line_acts n (suc k)) (length-drop (suc k) st.stages)
 
@@ -79,6 +80,7 @@ module _ (p : Pipe) (st : State) (bits : List Bool) where
       at None = refl
       at (Some t) = refl
 
+  -- a stage holds a thread with this cycle's answers just where it held one
   pub some_here : (k : ℕ) → is_some (here p st bits k) ≡ is_some (slot st k)
   some_here k = at (slot st k)
     where
@@ -157,6 +159,7 @@ module _ (p : Pipe) (st : State) (bits : List Bool) where
   mover_seen false k None rest = refl
   mover_seen false k (Some t) rest = refl
 
+  -- those who move among the acts of n stages are the threads that move in these stages
   pub movers_are : (n k : ℕ) → movers (line_acts n k) ≡ movers_from p st bits n k
   movers_are zero k = refl
   movers_are (suc n) k =

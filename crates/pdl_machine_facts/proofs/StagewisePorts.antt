@@ -87,6 +87,7 @@ module _ (p : Pipe) (st : State) (bits : List Bool) where
   is_here s b k None rest e h = h
   is_here s b k (Some t) rest e h = ap (λ x. x || list_any (λ (a : Act). a.stage == s) rest) e
 
+  -- among the acts of n stages from k on one is of stage s just where that holds a thread
   pub valid_at : (n k s : ℕ) → k ≤ s → s < k + n → list_any (λ (a : Act). a.stage == s) (lined n k) ≡ is_some (slot st s)
   valid_at zero k s h i = absurd (omega (arith, h, i))
   valid_at (suc n) k s h i = at (k == s) refl (λ j. valid_at n (suc k) s j (omega (arith, i)))
@@ -121,6 +122,7 @@ module _ (p : Pipe) (st : State) (bits : List Bool) where
   mover_here s true k None rest e h = h
   mover_here s true k (Some t) rest e h = ap (λ x. x || list_any (λ (a : Act). a.stage == s) rest) e
 
+  -- among the movers of n stages from k on one is of stage s just where the thread in it moves
   pub moves_at : (n k s : ℕ) → k ≤ s → s < k + n → list_any (λ (a : Act). a.stage == s) (movers_from p st bits n k) ≡ stage_moves p st bits s
   moves_at zero k s h i = absurd (omega (arith, h, i))
   moves_at (suc n) k s h i = at (k == s) refl (λ j. moves_at n (suc k) s j (omega (arith, i)))
@@ -155,6 +157,7 @@ module _ (p : Pipe) (st : State) (bits : List Bool) where
     leaves_last k true (Some t) h =
         ap (λ x. x || false) (leads.ends k (deeds p st k t).env (omega (arith, h)) ∙ Rattle.std.proofs.Common.eq-eqb (suc k) (length p.stages) h)
 
+    -- among the movers of the stages up to the last one somebody leaves the pipe just where the last stage's thread moves
     pub ended_at : (n k : ℕ) → k + suc n ≡ length p.stages → list_any leaves (movers_from p st bits (suc n) k) ≡ stage_moves p st bits (length p.stages - 1)
     ended_at zero k e =
         leaves_last k (stage_moves p st bits k) (here p st bits k) (omega (arith, e)) ∙ someone p st bits k
@@ -251,6 +254,7 @@ module _ (p : Pipe) (st : State) (bits : List Bool) where
             ap (λ o. or_then o (or_then (first_of p st bits q rest) (Slots.staying_thread p st bits q)))
             (no_reach q j (stage_moves p st bits j) (here p st bits j) h)
 
+    -- after all moves a stage holds the thread that comes into it out of an earlier one, else the one that stays
     pub stands_at : (q : ℕ) → q < length p.stages
         → next_thread p q (lined (length p.stages) 0) ≡ or_then (arriving_thread p st bits q) (Slots.staying_thread p st bits q)
     stands_at q l =

@@ -16,6 +16,7 @@ ports_of p st bits = model_cycle.ports p st (all_acts p st bits)
 abbrev pub newborn : Pipe → State → List Bool → ℕ → Option Thread
 newborn p st bits k = if k == 0 then born_thread p st.next (child_of (moving p st bits)) else None
 
+-- who moves in a cycle, its ports and the state after it, by the stages and the memories
 pub record IsByStages (p : Pipe) (st : State) (bits : List Bool) : Type 0 where
   pub movers : model.movers (all_acts p st bits) ≡ moving p st bits
   -- a thread moves where it awaits nothing and the locks let it, where the rest lets it, and where its next stage is free

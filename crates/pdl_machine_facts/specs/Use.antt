@@ -71,6 +71,7 @@ AreFine p st thread (x ∷ xs) d =
     (all_hold x.guards d.env ≡ true → locks_ready p st thread d ≡ true → (is_early p x ≡ true) × IsOpFine p st thread x.op d)
     × AreFine p st thread xs (if all_hold x.guards d.env then deeds_after (word_for st thread) x.op d else d)
 
+-- the threads of a state use the locks as the rules have it, in a cycle with these replies
 pub record IsInUse (p : Pipe) (st : State) (bits : List Bool) : Type 0 where
   pub count : length st.stages ≡ length p.stages
   -- a memory without lock has no pending writes, and none is released

@@ -65,6 +65,7 @@ module _ (p : Pipe) (st : State) (bits : List Bool) (by : IsByStages p st bits) 
           some_is : {a b : Thread} → Some a ≡ Some b → a ≡ b
           some_is z = cc z
 
+  -- a thread of the next state stands in one of the pipe's stages
   pub stage_low : (q : ℕ) (u : Thread) → slot (cycle p st bits) q ≡ Some u → q < length p.stages
   stage_low q u e = ⊎_elim
       (λ (h : q < length p.stages). h)
@@ -74,6 +75,7 @@ module _ (p : Pipe) (st : State) (bits : List Bool) (by : IsByStages p st bits) 
       none_some : None ≡ Some u → ⊥
       none_some h = cc h
 
+  -- each thread of the next state is new, or moved there out of an earlier stage, or stayed
   pub came_from : (q : ℕ) (u : Thread) → slot (cycle p st bits) q ≡ Some u → CameFrom p st bits q u
   came_from q u e =
       at

@@ -144,6 +144,7 @@ module _ (p : Pipe) (reads : Reads p) (st : State) (d : Derived.State) (ls : Lis
       let l = owner_among n m ls h in
       (l.0.thread.stage, seat l.0, seat_of p st d ls sim l.0 l.1, l.2, awaits_some m l.0.thread.awaits l.3)
 
+  -- a state that goes with these live threads has all that holds of threads in flight
   pub in_flight : InFlight p st
   in_flight = record {
     count = stage_count p st d ls sim;

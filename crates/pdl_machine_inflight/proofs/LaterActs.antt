@@ -85,18 +85,21 @@ module _ (p : Pipe) (st : State) (bits : List Bool) where
           ap (list_all test) (after_are p st bits k)
           ∙ all_line (length st.stages - suc k) (suc k) (λ j t low high e. h j t (omega (arith, low)) (omega (arith, low, high, count)) e)
 
+      -- where the act of a thread in a later stage fails a test, not all acts after stage k pass it
       pub not_all_later : (j : ℕ) (t : Thread) → k < j → j < length p.stages → here p st bits j ≡ Some t
           → test (act_in j t) ≡ false → list_all test (later_acts p st bits k) ≡ false
       not_all_later j t low high e f =
           ap (list_all test) (after_are p st bits k)
           ∙ one_line (length st.stages - suc k) (suc k) j t (omega (arith, low)) (omega (arith, low, high, count)) e f
 
+      -- where no act of a thread in a later stage passes a test, none after stage k does
       pub none_later : ((j : ℕ) (t : Thread) → k < j → j < length p.stages → here p st bits j ≡ Some t → test (act_in j t) ≡ false)
           → list_any test (later_acts p st bits k) ≡ false
       none_later h =
           ap (list_any test) (after_are p st bits k)
           ∙ none_line (length st.stages - suc k) (suc k) (λ j t low high e. h j t (omega (arith, low)) (omega (arith, low, high, count)) e)
 
+      -- where the act of a thread in a later stage passes a test, some act after stage k does
       pub some_later : (j : ℕ) (t : Thread) → k < j → j < length p.stages → here p st bits j ≡ Some t
           → test (act_in j t) ≡ true → list_any test (later_acts p st bits k) ≡ true
       some_later j t low high e f =

@@ -92,9 +92,11 @@ module _ (p : Pipe) (st : State) (d : Derived.State) (ls : List Live) (sim : Sim
   pub seat_of : (l : Live) → Among l ls → slot st l.thread.stage ≡ Some (seat l)
   seat_of l i = slot_low l.thread.stage ((each_among _ l ls sim.seated i).keeps_on.inside) ∙ stands_alone p l ls sim.ordered i
 
+  -- the state has as many stages as the pipe
   pub stage_count : length st.stages ≡ length p.stages
   stage_count = ap length sim.stages ∙ stages_count (λ q. find q ls) 0 p.stages
 
+  -- two threads with one number stand in one stage
   pub same_stage : (j k : ℕ) (t u : Thread) → slot st j ≡ Some t → slot st k ≡ Some u → t.number ≡ u.number → j ≡ k
   same_stage j k t u e f g =
       let a = seated_in j t e in
@@ -102,12 +104,14 @@ module _ (p : Pipe) (st : State) (d : Derived.State) (ls : List Live) (sim : Sim
       let same = one_number st.next a.0 b.0 ls sim.falls a.1 b.1 (ap (λ (v : Thread). v.number) a.3 ∙ g ∙ sym (ap (λ (v : Thread). v.number) b.3)) in
       sym a.2 ∙ ap (λ (l : Live). l.thread.stage) same ∙ b.2
 
+  -- each thread has a number below the next thread's
   pub number_given : (k : ℕ) (t : Thread) → slot st k ≡ Some t → t.number < st.next
   number_given k t e =
       let a = seated_in k t e in
       let low = each_among _ a.0 ls (falls_each st.next ls sim.falls) a.1 in
       let z = ap (λ (v : Thread). v.number) a.3 in omega (arith, low, z)
 
+  -- each trunk stage that a thread has reached is one that an older thread has left
   pub behind_older : (j k : ℕ) (t u : Thread) → slot st j ≡ Some t → slot st k ≡ Some u → u.number < t.number → (r : ℕ)
       → (stage_at p r).branch ≡ None → r ≤ j → r < k
   behind_older j k t u e f g r trunk low =

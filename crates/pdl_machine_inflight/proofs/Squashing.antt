@@ -67,9 +67,11 @@ module _ (p : Pipe) (none : verify_stage p.stmts ≡ None) (st : State) (bits : 
       at None = refl
       at (Some t) = fails_never p none st k t
 
+  -- where nothing is verified nobody squashes
   pub no_squasher : squasher (moving p st bits) ≡ None
   no_squasher = never (length p.stages) 0
 
+  -- where nothing is verified no thread in a later stage moves with a failing verify
   pub none_fails : length st.stages ≡ length p.stages → (k : ℕ) → no_failure (later_acts p st bits k) ≡ true
   none_fails count k =
       all_later p st bits (λ (o : Act). not (o.moves && o.does.fails)) count k
@@ -95,9 +97,11 @@ module _ (p : Pipe) (sound : Sound p) (st : State) (bits : List Bool) (flight : 
   v_is None i = absurd (cc i)
   v_is (Some w) i = cc i
 
+  -- V stands in the trunk
   pub v_trunk : (stage_at p v).branch ≡ None
   v_trunk = subst (λ n. (stage_at p n).branch ≡ None) (v_is (verify_stage p.stmts) is) (CourseOf.v_trunk p sound (verify_stage p.stmts) refl)
 
+  -- V is one of the pipe's stages
   pub v_low : v < length p.stages
   v_low = verify_low (length p.stages) v p.stmts sound.inside is
 
@@ -140,6 +144,7 @@ module _ (p : Pipe) (sound : Sound p) (st : State) (bits : List Bool) (flight : 
   abbrev pub squashes : Bool
   squashes = stage_moves p st bits v && failing p st v (here p st bits v)
 
+  -- there is a squash just where the thread in V moves with a failing verify
   pub some_squash : is_some (squasher (moving p st bits)) ≡ (stage_moves p st bits v && failing p st v (here p st bits v))
   some_squash = ap (λ (o : Option ℕ). is_some o) squasher_is ∙ some_squasher p st v (stage_moves p st bits v) (here p st bits v)
 
@@ -148,10 +153,12 @@ module _ (p : Pipe) (sound : Sound p) (st : State) (bits : List Bool) (flight : 
   no_more true = refl
   no_more false = refl
 
+  -- from V on no thread in a later stage moves with a failing verify
   pub fails_high : (k : ℕ) → v ≤ k → no_failure (later_acts p st bits k) ≡ true
   fails_high k high = all_later p st bits (λ (o : Act). not (o.moves && o.does.fails)) flight.count k
       (λ j t low l e. ap (λ b. not (stage_moves p st bits j && b)) (fails_apart j t (λ i. omega (arith, high, low, i))) ∙ no_more (stage_moves p st bits j))
 
+  -- before V a thread in a later stage moves with a failing verify just where the one in V does
   pub fails_low : (k : ℕ) → k < v → no_failure (later_acts p st bits k) ≡ not (stage_moves p st bits v && failing p st v (here p st bits v))
   fails_low k low = at (here p st bits v) refl
     where
@@ -237,9 +244,11 @@ module _ (p : Pipe) (sound : Sound p) (st : State) (bits : List Bool) (flight : 
 
   -- BARRIERS
 
+  -- from V on a barrier finds no thread in a later stage up to V
   pub clear_high : (k : ℕ) → v ≤ k → none_up_to (Some v) (later_acts p st bits k) ≡ true
   clear_high k high = all_later p st bits (λ (o : Act). nat_lt v o.stage) flight.count k (λ j t low l e. lt-ltb v j (omega (arith, high, low)))
 
+  -- a barrier finds nobody where the stages after its own and up to V are empty
   pub clear_where : (k : ℕ) → ((j : ℕ) → k < j → j ≤ v → slot st j ≡ None) → none_up_to (Some v) (later_acts p st bits k) ≡ true
   clear_where k h = all_later p st bits (λ (o : Act). nat_lt v o.stage) flight.count k
       (λ j t low l e. lt-ltb v j (⊎_elim
@@ -250,6 +259,7 @@ module _ (p : Pipe) (sound : Sound p) (st : State) (bits : List Bool) (flight : 
       none_some : (t : Thread) → None ≡ Some t → ⊥
       none_some t i = cc i
 
+  -- a barrier finds somebody where a thread stands after its stage, in V or before
   pub not_clear : (k j : ℕ) (t : Thread) → k < j → j ≤ v → slot st j ≡ Some t → none_up_to (Some v) (later_acts p st bits k) ≡ false
   not_clear k j t low high e =
       not_all_later p st bits (λ (o : Act). nat_lt v o.stage) flight.count k j (with_answers p st bits t) low (let l = v_low in omega (arith, l, high))

@@ -26,6 +26,7 @@ pub record IsAwaited (p : Pipe) (st : State) (k number : ℕ) (r : Awaited) : Ty
   pub var : read.var ≡ r.var
   pub place : Some-of (λ (q : ℕ). q ≡ k) (places p read)
 
+-- the threads of a state, by their stages: their numbers and their order, what they await, and the forks' lists
 pub record InFlight (p : Pipe) (st : State) : Type 0 where
   pub count : length st.stages ≡ length p.stages
   -- threads have different numbers, all given before

@@ -35,6 +35,7 @@ module _ (p : Pipe) (st : State) (bits : List Bool) (P : Act → Type 0) where
   abbrev pub act_here : ℕ → Thread → Act
   act_here k t = record { stage = k; thread = t; does = deeds p st k t; moves = stage_moves p st bits k }
 
+  -- what holds of each act of a cycle holds of the act of the thread in a stage, as it is with this cycle's answers
   pub at_here : AllActs P (all_acts p st bits) → (k : ℕ) (t : Thread) → here p st bits k ≡ Some t → P (act_here k t)
   at_here h k t e = at (slot st k) refl e
     where

@@ -138,6 +138,7 @@ module _ (p : Pipe) (sound : Sound p) (st : State) (older : List Live) (l : Live
           ap (λ c. c || list_any (λ (r : Awaited). r.mem == m) rs) e
           ∙ go (ap (λ c. c || list_any (λ (r : Awaited). r.mem == m) (unanswered_reads p st bits l.number rs)) (sym e) ∙ i)
 
+  -- a thread that awaits a read of a memory beyond this cycle stands no later than the stage of the memory's releases
   pub still_early : (bits : List Bool) (m : ℕ) → list_any (λ (r : Awaited). r.mem == m) (unanswered_reads p st bits l.number l.thread.awaits) ≡ true
       → l.thread.stage ≤ commit_stage p m
   still_early bits m h = awaits_early m l.thread.awaits seated.keeps_on.fetched lasting.owns (still_among bits m l.thread.awaits h)

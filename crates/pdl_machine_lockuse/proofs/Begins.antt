@@ -228,6 +228,7 @@ module _ (p : Pipe) (sound : Sound p) (st : State) (d : Derived.State) (bits : L
   abbrev pub begun : Deeds
   begun = start_deeds p (sound_flows p sound) l.env (now_of p d bits l) (keeps_now p (sound_flows p sound) st d bits arrays l k.seated)
 
+  -- before the statements of its stage the thread in the stated machine has these deeds
   pub begun_is : before_stage p l.thread.stage (with_answers p st bits (seat l)) ≡ begun
   begun_is = λ i. record {
     env = k.values i;
@@ -243,6 +244,7 @@ module _ (p : Pipe) (sound : Sound p) (st : State) (d : Derived.State) (bits : L
     fails = false;
   }
 
+  -- the statements of its stage are carried out just where its path takes them
   pub along_here : IsAlong (path p sound st d bits arrays older l k) (word_for st l.number) (in_stage l.thread.stage p.stmts) begun
   along_here =
       along_of o (word_for st l.number) (λ b. block_ready p st l.number b) (λ r. has_room (mem_at p r.mem).lock (length (lock_of st r.mem)))

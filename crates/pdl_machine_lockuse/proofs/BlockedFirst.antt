@@ -36,6 +36,7 @@ let_looked (Flat.Write m a e) past past' f = f m a
 let_looked (Flat.DelayedRead x n b) past past' f = refl
 let_looked _ past past' f = refl
 
+-- the locations of writes were blocked before them just where they were with delayed reads answered at once
 pub lets_looked : (past past' : List Flat.Op) → ((m a : ℕ) → was_blocked m a past' ≡ was_blocked m a past) → (xs : List Flat.Stmt)
     → all_let_in past' (looked_all xs) ≡ all_let_in past xs
 lets_looked past past' f [] = refl

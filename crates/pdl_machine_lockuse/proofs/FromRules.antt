@@ -269,6 +269,7 @@ module _ (p : Pipe) (rules : KeepsRules p) where
         (grows_on p.mems (path_of p (value p path)) (params_of p.params) (all_vars p) (sites_of p) (grows_all p)) (keeps_all p rules (value p path)) locations
         (λ l h. absurd (false≢true (sym (none_blocked p (on_path (path_of p (value p path))) l) ∙ h)))
 
+  -- the flat form of an accepted source is careful with its blocks, its writes and the arguments of its guesses
   pub careful_source : is_source p ≡ true → Careful (flat p)
   careful_source source =
       record {

@@ -22,47 +22,61 @@ module _ (p : Pipe) (sound : Sound p) (strict : Strict p) (image : Arrays) (befo
   abbrev twin : Derived.State
   twin = Derived.state_after p (Derived.first p image) before
 
+  -- the threads use the locks as the rules have it, where the pipe is careful
   pub in_use_here : Careful p → IsInUse p (state_after p (first p image) before) bits
   in_use_here careful = let r = reached p sound strict image before in in_use p sound strict now twin bits r.0 r.1 r.2 careful
 
+  -- each read and each write finds the block of its location ready, where the pipe is careful
   pub lets_here : Careful p → AllActs (IsLet p (state_after p (first p image) before)) (all_acts p (state_after p (first p image) before) bits)
   lets_here careful = let r = reached p sound strict image before in lets_in p sound strict now twin bits r.0 r.1 r.2 careful
 
+  -- the cycle goes stage by stage and memory by memory
   pub stages_here : IsByStages p (state_after p (first p image) before) bits
   stages_here = let r = reached p sound strict image before in by p sound strict now twin bits r.0 r.1 r.2
 
+  -- no thread that moves is removed
   pub spared_here : AllActs (IsSpared p (state_after p (first p image) before) bits) (all_acts p (state_after p (first p image) before) bits)
   spared_here = let r = reached p sound strict image before in spared p sound strict now twin bits r.0 r.1 r.2
 
+  -- what a thread that moves releases is its own pending write, the oldest, which has its value
   pub owns_here : (m : ℕ) → AllActs (ReleasesOwn p (state_after p (first p image) before) bits m) (all_acts p (state_after p (first p image) before) bits)
   owns_here m = let r = reached p sound strict image before in owns p sound strict now twin bits r.0 r.1 r.2 m
 
+  -- where a write of the memory is released, the oldest pending one has its value
   pub written_here : (m : ℕ) → ReleasesWritten p (state_after p (first p image) before) bits m
   written_here m h =
       let r = reached p sound strict image before in
       let w = written p sound strict now twin bits r.0 r.1 r.2 m h in
       record { entry = record { thread = w.0; address = w.1.address; value = Some w.1.value }; rest = w.1.rest; value = w.1.value; is = w.1.is; written = refl }
 
+  -- a thread that moves writes at most once to the memory, into its own pending write, which has no value yet
   pub once_here : (m : ℕ) → AllActs (WritesOnce p (state_after p (first p image) before) bits m) (all_acts p (state_after p (first p image) before) bits)
   once_here m = let r = reached p sound strict image before in once p sound strict now twin bits r.0 r.1 r.2 m
 
+  -- what is released is no younger than a thread up to the stage of the memory's releases
   pub older_here : (m : ℕ) → AllActs (ReleasesOlder p (state_after p (first p image) before) bits m) (all_acts p (state_after p (first p image) before) bits)
   older_here m = let r = reached p sound strict image before in older_released p sound strict now twin bits r.0 r.1 r.2 m
 
+  -- what is released is no younger than a thread that awaits a read of the memory
   pub awaits_here : (m : ℕ) → AllActs (AwaitsOlder p (state_after p (first p image) before) bits m) (all_acts p (state_after p (first p image) before) bits)
   awaits_here m = let r = reached p sound strict image before in awaits_released p sound strict now twin bits r.0 r.1 r.2 m
 
+  -- up to V a thread's own and older pending writes become one fewer at each release
   pub tails_here : (m : ℕ) → AllActs (ShiftsTail p (state_after p (first p image) before) bits m) (all_acts p (state_after p (first p image) before) bits)
   tails_here m = let r = reached p sound strict image before in tails p sound strict now twin bits r.0 r.1 r.2 m
 
+  -- up to the stage of the reserves all pending writes are a thread's own or older, those of this cycle included
   pub all_here : (m : ℕ) → AllActs (FindsAll p (state_after p (first p image) before) bits m) (all_acts p (state_after p (first p image) before) bits)
   all_here m = let r = reached p sound strict image before in finds_all p sound strict now twin bits r.0 r.1 r.2 m
 
+  -- past the stage of the reserves the cycle appends nothing to a thread's own and older pending writes
   pub kept_here : (m : ℕ) → AllActs (KeepsTail p (state_after p (first p image) before) bits m) (all_acts p (state_after p (first p image) before) bits)
   kept_here m = let r = reached p sound strict image before in tails_kept p sound strict now twin bits r.0 r.1 r.2 m
 
+  -- a squash that leaves a thread leaves its own and all older pending writes
   pub left_here : (m : ℕ) → AllActs (LeavesTail p (state_after p (first p image) before) bits m) (all_acts p (state_after p (first p image) before) bits)
   left_here m = let r = reached p sound strict image before in tails_left p sound strict now twin bits r.0 r.1 r.2 m
 
+  -- a squash leaves of the memory's pending writes a front, those of the squasher and of older threads
   pub cuts_here : (m : ℕ) → Cuts p (state_after p (first p image) before) bits m
   cuts_here m = let r = reached p sound strict image before in cuts p sound strict now twin bits r.0 r.1 r.2 m

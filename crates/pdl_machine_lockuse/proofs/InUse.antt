@@ -115,6 +115,7 @@ module _ (p : Pipe) (sound : Sound p) (st : State) (m : ℕ) (plain : is_plain (
       ((sound_flows p sound).over l.env m)))
       (s.keeps_on.shape m))
 
+  -- no live thread has a pending write of a memory without lock
   pub none_pends : (ls : List Live) → Each (Seated p st) ls → pends m ls ≡ []
   none_pends [] s = refl
   none_pends (l ∷ ls) s = ap₂ (λ x y. x ++ y) (none_pends ls s.1) (none_pending l s.0)
@@ -131,6 +132,7 @@ module _ (p : Pipe) (st : State) (bits : List Bool) where
   rooms s (None ∷ xs) = rooms (suc s) xs
   rooms s (Some t ∷ xs) = (room_of (acts p st bits (suc s) xs) s (with_answers p st bits t) (deeds p st s (with_answers p st bits t)), rooms (suc s) xs)
 
+  -- each thread that moves has room for what it reserves
   pub all_room : AllActs (HasRoom p st) (all_acts p st bits)
   all_room = rooms 0 st.stages
 
@@ -160,6 +162,7 @@ module _ (p : Pipe) (sound : Sound p) (strict : Strict p) (st : State) (d : Deri
   count : length st.stages ≡ length p.stages
   count = ap length sim.stages ∙ stages_count (λ q. find q ls) 0 p.stages
 
+  -- the cycle goes stage by stage and memory by memory
   pub by : IsByStages p st bits
   by = by_stages p (leads_sound p sound) (sound_flows p sound).graph.some_stage st bits count
 
@@ -221,6 +224,7 @@ module _ (p : Pipe) (sound : Sound p) (strict : Strict p) (st : State) (d : Deri
         pair_both (λ x g h i j. own_values x.live.number (h i j) (g i j)) (pairs ls) (own_two p sound st d bits sim.arrays m ls all_known sim.ordered)
         (some_releases ls)
 
+    -- what a thread that moves releases is its own pending write, the oldest, which has its value
     pub owns : AllActs (ReleasesOwn p st bits m) (all_acts p st bits)
     owns = all_each p sound st d bits ls sim m (ReleasesOwn p st bits m) owns_pairs
 
@@ -242,6 +246,7 @@ module _ (p : Pipe) (sound : Sound p) (strict : Strict p) (st : State) (d : Deri
         at true i false j k go = go (sym (ap (λ c. c || has_release m (movers (lacts p st d bits ks))) j) ∙ k)
         at false i c j k go = go k
 
+    -- where a write of the memory is released, the oldest pending one is that of some thread, and has its value
     pub written : has_release m (moving p st bits) ≡ true → (n : ℕ) × Own n (with_values p st bits m)
     written h =
         let r : has_release m (movers (lacts p st d bits ls)) ≡ true = sym (releases_are p sound st d bits ls sim m) ∙ h in
@@ -291,11 +296,13 @@ module _ (p : Pipe) (sound : Sound p) (strict : Strict p) (st : State) (d : Deri
             pair_map (λ x h g. shifted e s.0 s.1 s.2 (suc x.live.number) (h g s.0 s.1 s.2)) (pairs ls)
             (up_released p sound st d bits sim.arrays m P st.next ls bars sim.seated all_known sim.ordered sim.falls r)
 
+    -- what is released is no younger than a thread up to the stage of the memory's releases
     pub older_released : AllActs (ReleasesOlder p st bits m) (all_acts p st bits)
     older_released =
         all_each p sound st d bits ls sim m (ReleasesOlder p st bits m)
         (shift_all (λ x. x.live.thread.stage ≤ commit_stage p m) (bars_commit p sound st d bits sim.arrays m ls all_known sim.ordered))
 
+    -- what is released is no younger than a thread that awaits a read of the memory
     pub awaits_released : AllActs (AwaitsOlder p st bits m) (all_acts p st bits)
     awaits_released = all_each p sound st d bits ls sim m (AwaitsOlder p st bits m)
         (pair_both (λ x g h i. h (g i)) (pairs ls) (pair_both (λ x k a. still_early p sound st x.older x.live k.seated a bits m) (pairs ls) knowns lastings)
@@ -317,9 +324,11 @@ module _ (p : Pipe) (sound : Sound p) (strict : Strict p) (st : State) (d : Deri
         same : (v : ℕ) → verify_stage p.stmts ≡ Some v → v ≡ w
         same v f = let i : Some v ≡ Some w = sym f ∙ e in cc
 
+    -- up to V a thread's own and older pending writes become one fewer at each release
     pub tails : AllActs (ShiftsTail p st bits m) (all_acts p st bits)
     tails = all_each p sound st d bits ls sim m (ShiftsTail p st bits m) (tails_at (verify_stage p.stmts) refl)
 
+    -- up to the stage of the reserves all pending writes are a thread's own or older, those of this cycle included
     pub finds_all : AllActs (FindsAll p st bits m) (all_acts p st bits)
     finds_all = all_each p sound st d bits ls sim m (FindsAll p st bits m)
         (pair_map
@@ -327,6 +336,7 @@ module _ (p : Pipe) (sound : Sound p) (strict : Strict p) (st : State) (d : Deri
         ∙ ap length (sym (with_new_is p sound st d bits ls sim m)))
         (pairs ls) (all_own p sound st d bits sim.arrays m st.next ls all_known sim.seated sim.ordered sim.falls))
 
+    -- past the stage of the reserves the cycle appends nothing to a thread's own and older pending writes
     pub tails_kept : AllActs (KeepsTail p st bits m) (all_acts p st bits)
     tails_kept = all_each p sound st d bits ls sim m (KeepsTail p st bits m)
         (pair_map
@@ -334,6 +344,7 @@ module _ (p : Pipe) (sound : Sound p) (strict : Strict p) (st : State) (d : Deri
         ∙ ap (count_older (suc x.live.number)) (sym (sim.locks m)))
         (pairs ls) (tail_kept p sound st d bits sim.arrays m st.next ls (pends m ls) sim.ordered sim.falls))
 
+    -- a squash that leaves a thread leaves its own and all older pending writes
     pub tails_left : AllActs (LeavesTail p st bits m) (all_acts p st bits)
     tails_left = every (all_acts p st bits)
       where
@@ -351,6 +362,7 @@ module _ (p : Pipe) (sound : Sound p) (strict : Strict p) (st : State) (d : Deri
         at true = order_behind 0 (with_values p st bits m) two_ordered
         at false = two_ordered
 
+    -- a squash leaves of the pending writes a front, those of the squasher and of older threads
     pub cuts : Cuts p st bits m
     cuts thread h = front_left thread 0 (with_release p st bits m) release_ordered
 
@@ -382,6 +394,7 @@ module _ (p : Pipe) (sound : Sound p) (strict : Strict p) (st : State) (d : Deri
           open_thread x.live.number (with_new p st bits m) (h i v c),
         )) (pairs ls) knowns open_all)
 
+    -- a thread that moves writes at most once to the memory, into its own pending write, which has no value yet
     pub once : AllActs (WritesOnce p st bits m) (all_acts p st bits)
     once =
         all_each p sound st d bits ls sim m (WritesOnce p st bits m)
@@ -416,6 +429,7 @@ module _ (p : Pipe) (sound : Sound p) (strict : Strict p) (st : State) (d : Deri
     spares ks g.1,
   )
 
+  -- no thread that moves is removed
   pub spared : AllActs (IsSpared p st bits) (all_acts p st bits)
   spared = all_each p sound st d bits ls sim 0 (IsSpared p st bits) (spares ls (fit p (sound_flows p sound) st d bits ls sim))
 
@@ -438,6 +452,7 @@ module _ (p : Pipe) (sound : Sound p) (strict : Strict p) (st : State) (d : Deri
         all_each p sound st d bits ls sim 0 Fine
         (pair_both (λ x k a. fine_here p sound st d bits sim.arrays x.older x.live k strict careful a) (pairs ls) knowns lastings)
 
+    -- each read and each write of a thread's stage finds the block of its location ready
     pub lets_in : AllActs (IsLet p st) (all_acts p st bits)
     lets_in =
         all_each p sound st d bits ls sim 0 (IsLet p st)
@@ -447,6 +462,7 @@ module _ (p : Pipe) (sound : Sound p) (strict : Strict p) (st : State) (d : Deri
     list_is : (m : ℕ) → with_reserves m (Slots.moving p st bits) (lock_of st m) ≡ with_new p st bits m
     list_is m = ap (λ ms. with_reserves m ms (lock_of st m)) (sym by.movers)
 
+    -- the threads of the state use the locks as the rules have it
     pub in_use : IsInUse p st bits
     in_use = record {
       count = count;

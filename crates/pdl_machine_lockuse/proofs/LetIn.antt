@@ -56,6 +56,7 @@ not_used x (op ∷ past) h = let k = or_parts (mentions_var x op) (is_mentioned 
     one _ i r = r
 
 module _ (p : Pipe) (st : State) (n : ℕ) where
+  -- a write to this address of the memory finds its block ready
   abbrev pub Let : ℕ → ℕ → Type 0
   Let m a = write_ready (mem_at p m).lock (older_write st n m a) ≡ true
 
@@ -105,6 +106,7 @@ module _ (p : Pipe) (st : State) (n : ℕ) where
   let_op s c past (Write m a v) d h w e f r k = right_at p s Let (blocks_of past) d.env m a (blocked_opened m a past w) (leb-true s (commit_stage p m) e) (r k)
   let_op s c past _ d h w e f r k = tt
 
+  -- where a path's statements of one stage pass the scans, each read and each write of them finds its location's block ready
   pub let_all : (vars s : ℕ) (c : Scan) (path : List ℕ) (past : List Op) (xs : List Stmt) (d : Deeds) → AllIn s xs → IsAlong path (word_for st n) xs d
       → reads_ok p c (looked_all (onpath path xs)) ≡ true → all_new vars past (onpath path xs) ≡ true → all_let_in past (onpath path xs) ≡ true
       → list_all (is_early p) (onpath path xs) ≡ true → Covers c.held d.held → RightIf p st n s c d → LetIf s past d → AreLetIn p st n xs d
@@ -165,6 +167,7 @@ module _ (p : Pipe) (s : ℕ) (clean : ℕ → ℕ → Type 0) (env : List ℕ) 
       by early (inr i) = cleans m a (either (has_entry es m a) i)
   block_let _ ls low b r = r
 
+  -- the locations that were blocked stand no earlier than the reserves, and are clean up to the releases
   pub let_start : (ops : List Op) → AllOps (LowBlock p s) ops → AllOps (BlockOk o env es past) ops → Right p s clean (blocks_of ops) env
   let_start [] low b = tt
   let_start (op ∷ ops) low b = block_let op (blocks_of ops) low.0 b.0 (let_start ops low.1 b.1)

@@ -261,6 +261,7 @@ module _ (p : Pipe) (k : ℕ) (read : ℕ → ℕ → ℕ) (path : List ℕ) whe
       at false = h
   one _ d g h = h
 
+  -- where the statements of stage k are early, all that they write is of memories with releases in k or later
   pub timely : (xs : List Stmt) (d : Deeds) → AllIn k xs → IsAlong path read xs d → list_all (is_early p) (onpath path xs) ≡ true
       → list_all is_timely d.writes ≡ true → list_all is_timely (deeds_after_all read xs d).writes ≡ true
   timely [] d i f e h = h
@@ -278,6 +279,7 @@ module _ (p : Pipe) (k : ℕ) (read : ℕ → ℕ → ℕ) (path : List ℕ) whe
       at true true q f e go =
           go (deeds_after read x.op d) f (and_right (is_early p x) _ e) (one x.op d (subst (λ j. in_time p j x.op ≡ true) i.0 (and_left (is_early p x) _ e)) h)
 
+  -- where all writes are of memories with releases in k or later, and one is of m, the releases of m stand in k or later
   pub timely_to : (m : ℕ) (ws : List Written) → list_all is_timely ws ≡ true → writes_to m ws ≡ true → k ≤ commit_stage p m
   timely_to m [] h w = absurd (false≢true w)
   timely_to m (x ∷ ws) h w = at (x.mem == m) refl w (timely_to m ws (and_right (is_timely x) _ h))

@@ -160,6 +160,7 @@ module _ (p : Pipe) (sound : Sound p) (st : State) (d : Derived.State) (bits : L
           (λ g. any_appended test m (movers (lacts p st d bits ls)) (pends m ls ++ pend m l.number l.thread.entries)
           (any_append test (pends m ls) (pend m l.number l.thread.entries) g))
 
+  -- a pending write without value that a moving thread has or reserves is there with those that are appended
   pub has_open : (ls : List Live) → Each (Seated p st) ls → Ordered p ls
       → EachPair
       (λ x. (did p d bits x.older x.live).moves ≡ true

@@ -92,6 +92,7 @@ module _ (p q : Pipe) (same : (m : ℕ) → commit_stage q m ≡ commit_stage p 
       at true e = e
       at false e = absurd (f (leb-false s c e))
 
+  -- a statement is in time where the scan of reads passes it, its block is released, and past the releases nothing follows
   pub one : (c : Scan) (op : Op) (ys : List Stmt) → op_ok q s c (answered_op op) ≡ true → lets_go op ys ≡ true
       → ((m : ℕ) → commit_stage p m < s → none_of (is_release m) ys ≡ true) → ((m a : ℕ) (e : Expr) → op ≡ Write m a e → commit_stage p m < s → ⊥)
       → in_time p s (answered_op op) ≡ true
@@ -132,12 +133,15 @@ module _ (p q : Pipe) (same : (m : ℕ) → commit_stage q m ≡ commit_stage p 
 module _ (p : Pipe) (sound : Sound p) (st : State) (d : Derived.State) (bits : List Bool)
     (arrays : st.arrays ≡ d.arrays) (older : List Live) (l : Live)
     (k : Known p (sound_flows p sound) st d bits arrays older l) where
+  -- the path that the thread takes, by the values with which its stage ends
   abbrev pub path : List ℕ
   path = (work_of_live p d bits older l).env
 
+  -- the statements of the thread's stage on its path
   abbrev pub mine : List Stmt
   mine = onpath path (in_stage l.thread.stage p.stmts)
 
+  -- what the thread has done before its stage
   abbrev pub passed : List Stmt
   passed = on_way p l.env l.thread.stage
 
@@ -153,9 +157,11 @@ module _ (p : Pipe) (sound : Sound p) (st : State) (d : Derived.State) (bits : L
   abbrev o : Around
   o = around p d bits (dacts p d bits older) l.thread.stage
 
+  -- before its next stage it has done what it did before its stage, and then the statements of this
   pub way_is : on_way p path (next_of p l.thread.stage path) ≡ passed ++ mine
   way_is = way_next p (sound_flows p sound) l.env (now_of p d bits l) keeps o
 
+  -- the statements on its path are those that it has passed, those of its stage, and those after them
   pub whole : onpath path p.stmts ≡ passed ++ (mine ++ rest)
   whole = (sound_flows p sound).all_pieces path next ∙ ap (λ xs. xs ++ rest) way_is ∙ append_assoc passed mine rest
 
@@ -163,6 +169,7 @@ module _ (p : Pipe) (sound : Sound p) (st : State) (d : Derived.State) (bits : L
   looked_whole =
       path_looked path p.stmts ∙ ap looked_all whole ∙ looked_append passed (mine ++ rest) ∙ ap (λ xs. looked_all passed ++ xs) (looked_append mine rest)
 
+  -- behind those that it has passed, the statements of its stage pass the scan of reads
   pub mine_reads : reads_ok (along path (at_once p)) (scan_after_all (looked_all passed) no_scan) (looked_all mine) ≡ true
   mine_reads =
       reads_back (along path (at_once p)) no_scan (looked_all passed) (looked_all mine)
@@ -170,17 +177,20 @@ module _ (p : Pipe) (sound : Sound p) (st : State) (d : Derived.State) (bits : L
       (way_looked p path next ∙ ap looked_all way_is ∙ looked_append passed mine)
       ((sound.pathwise.paths path).reads next))
 
+  -- behind those that it has passed, the statements of its stage write and release each memory in order
   pub mine_uses : (m : ℕ) → uses_ok m (phase_all m Fresh passed) mine ≡ true
   mine_uses m =
       uses_front m mine rest (phase_all m Fresh passed)
       (uses_back m passed (mine ++ rest) Fresh (subst (λ xs. uses_ok m Fresh xs ≡ true) whole ((sound_flows p sound).uses path m)))
 
+  -- behind those that it has passed, the statements of its stage make the next thread in order
   pub mine_makings : makings_ok (verify_stage (looked_all p.stmts)) (making_all Unmade (looked_all passed)) (looked_all mine) ≡ true
   mine_makings =
       makings_first (verify_stage (looked_all p.stmts)) (making_all Unmade (looked_all passed)) (looked_all mine) (looked_all rest)
       (makings_second (verify_stage (looked_all p.stmts)) Unmade (looked_all passed) (looked_all mine ++ looked_all rest)
       (subst (λ xs. makings_ok (verify_stage (looked_all p.stmts)) Unmade xs ≡ true) looked_whole (sound.pathwise.makings path)))
 
+  -- after each block that it has passed, the block's location was not reserved for writing
   pub passed_kinds : Careful p → all_keep_kind passed ≡ true
   passed_kinds careful = kinds_front passed (mine ++ rest) (subst (λ xs. all_keep_kind xs ≡ true) whole (careful.kinds path))
 
@@ -190,6 +200,7 @@ module _ (p : Pipe) (sound : Sound p) (st : State) (d : Derived.State) (bits : L
       all_new_front p.vars mine rest (onto passed [])
       (all_new_append p.vars passed (mine ++ rest) [] (subst (λ xs. all_new p.vars [] xs ≡ true) whole (strict.names path)))
 
+  -- the location of each write of its stage was blocked before it
   pub mine_let_in : Careful p → all_let_in (onto passed []) mine ≡ true
   mine_let_in careful =
       let_in_front mine rest (onto passed []) (let_in_back passed (mine ++ rest) [] (subst (λ xs. all_let_in [] xs ≡ true) whole (careful.writes path)))
@@ -213,6 +224,7 @@ module _ (p : Pipe) (sound : Sound p) (st : State) (d : Derived.State) (bits : L
   pub plain_to : (m : ℕ) → is_plain (mem_at p m).lock ≡ true → commit_stage p m ≡ length p.stages
   plain_to m e = (sound.pathwise.paths path).plain_to m e
 
+  -- the statements of its stage look at a memory, or write it, no later than the stage of its releases
   pub mine_early : Strict p → list_all (is_early p) mine ≡ true
   mine_early strict =
       early_all p (along path (at_once p)) (λ m. refl) l.thread.stage k.seated.keeps_on.inside plain_to (scan_after_all (looked_all passed) no_scan)

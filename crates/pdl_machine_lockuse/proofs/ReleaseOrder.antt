@@ -179,6 +179,7 @@ module _ (p : Pipe) (sound : Sound p) (path : List ℕ) where
       at true r = ap₂ (λ a b. a && b) (and_left (not (is_release m x.op) || (x.stage == c)) _ h) r
       at false r = r
 
+  -- each statement on the path blocks, reads or writes a memory no later than the stage of the memory's releases
   pub timely : Strict p → list_all (λ (x : Stmt). in_time p x.stage (answered_op x.op)) (onpath path p.stmts) ≡ true
   timely strict =
       all_early no_scan (λ m. Fresh) (onpath path p.stmts)

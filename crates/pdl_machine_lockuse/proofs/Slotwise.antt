@@ -35,6 +35,7 @@ module _ (p : Pipe) (sound : Sound p) (strict : Strict p) (image : Arrays) (befo
   count_three : (t m : ℕ) → count_older t (list_three now (Slots.moving p now bits) m) ≡ count_older t (with_release p now bits m)
   count_three t m = ap (count_older t) (three_is m) ∙ sym (same_count t (with_release p now bits m))
 
+  -- in each state of a run a squash cuts a lock's list after a thread's own and older pending writes
   pub cut_here : IsCut p (state_after p (first p image) before) bits
   cut_here = record {
     all = λ k t m h low.

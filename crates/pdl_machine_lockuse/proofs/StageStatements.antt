@@ -34,6 +34,7 @@ values_long [] env = refl
 values_long (e ∷ es) env = ap suc (values_long es env)
 
 module _ (p : Pipe) (st : State) (n : ℕ) where
+  -- a read at this address of the memory is ready
   abbrev pub Clean : ℕ → ℕ → Type 0
   Clean m a = read_ready (mem_at p m).lock (older_write st n m a) ≡ true
 
@@ -41,6 +42,7 @@ module _ (p : Pipe) (st : State) (n : ℕ) where
   abbrev pub RightIf : ℕ → Scan → Deeds → Type 0
   RightIf s c d = locks_ready p st n d ≡ true → Right p s Clean c.blocked d.env
 
+  -- a read that the scan passes is ready, as long as the locks let the thread move
   pub read_here : (s : ℕ) (c : Scan) (x m a : ℕ) (d : Deeds) → op_ok p s c (CombRead x m a) ≡ true → RightIf s c d → locks_ready p st n d ≡ true
       → read_ready (mem_at p m).lock (older_write st n m (slice_index d.env a)) ≡ true
   read_here s c x m a d h r k =
@@ -53,6 +55,7 @@ module _ (p : Pipe) (st : State) (n : ℕ) where
       at false e true f false g t = absurd (false≢true t)
       at false e false f q g t = absurd (false≢true t)
 
+  -- after a statement that the scan passes, the blocked locations are still clean
   pub right_next : (s : ℕ) (c : Scan) (op : Op) (d : Deeds) → op_ok p s c (answered_op op) ≡ true → Covers c.held d.held → RightIf s c d
       → RightIf s (scan_after (answered_op op) c) (deeds_after (word_for st n) op d)
   right_next s c (Bind x e) d h f r = λ k. right_set p s Clean c.blocked d.env x (value_of e d.env) h (r k)
@@ -100,6 +103,7 @@ module _ (p : Pipe) (st : State) (n : ℕ) where
   op_fine size s v c ph g (DelayedRead x m a) d h o q y f r k = tt
   op_fine size s v c ph g _ d h o q y f r k = tt
 
+  -- where a path's statements of one stage pass the scans, each of them is early and fine
   pub fine_all : (size s : ℕ) (v : Option ℕ) (c : Scan) (path : List ℕ) (ph : ℕ → Phase) (g : Making) (xs : List Stmt) (d : Deeds) → AllIn s xs
       → IsAlong path (word_for st n) xs d → reads_ok p c (looked_all (onpath path xs)) ≡ true → ((m : ℕ) → uses_ok m (ph m) (onpath path xs) ≡ true)
       → makings_ok v g (looked_all (onpath path xs)) ≡ true → list_all (λ (x : Stmt). passes_on size x.op) (onpath path xs) ≡ true

@@ -194,6 +194,7 @@ module _ (p : Pipe) (sound : Sound p) (st : State) (d : Derived.State) (bits : L
         (no_older l.number ls o.1 f.1),
   )
 
+  -- past the stage of the reserves nothing is appended to a thread's own and older pending writes
   pub tail_kept : (n : ℕ) (ls : List Live) (list : List Pending) → Ordered p ls → Falls n ls
       → EachPair
       (λ x. reserve_stage p m < x.live.thread.stage

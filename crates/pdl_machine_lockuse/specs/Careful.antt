@@ -100,6 +100,7 @@ passes_on n (Verify args) = length args == n
 passes_on n SpecCheck = true
 passes_on n SpecBarrier = true
 
+-- on each path blocks keep their kinds and writes were blocked before, and guesses pass as many arguments as the start
 pub record Careful (p : Pipe) : Type 0 where
   -- L1, L5: of each path, whose guards have these truth values
   pub kinds : (path : List ℕ) → all_keep_kind (onpath path p.stmts) ≡ true

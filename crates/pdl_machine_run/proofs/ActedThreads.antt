@@ -69,6 +69,7 @@ module _ (f : Form) where
   HasActed None x = ⊤
   HasActed (Some n) x = IsFine f (thread_of n x.slot) × AreFit f (deeds_view x.deeds) × (length (deeds_view x.deeds).asks ≤ length f.pipe.stmts)
 
+  -- in each of these stages the thread that is there fits, and so does what it does
   abbrev pub AllActed : List r_stage.Stage → Type 0
   AllActed [] = ⊤
   AllActed (z ∷ zs) = HasActed z.slot.number z × AllActed zs
@@ -88,6 +89,7 @@ module _ (f : Form) where
         some_same : {a d : Thread} → Some a ≡ Some d → a ≡ d
         some_same e = cc e
 
+    -- where the threads of all stages were carried on, each fits, and so does what it does
     pub all_acted : (k : ℕ) (ys zs : List r_stage.Stage) → length ys ≡ length zs
         → ((i : ℕ) (d : r_stage.Stage) → i < length ys → IsCarried f b bits (k + i) (thread_in (get_or ys i d).slot) (get_or zs i d))
         → AllActed zs
@@ -101,6 +103,7 @@ module _ (f : Form) where
           subst (λ j. IsCarried f b bits j (thread_in (get_or ys i e).slot) (get_or zs i e)) same (c (suc i) e (omega (arith, less)))),
     )
 
+  -- the thread in one of these stages fits, and so does what it does, where it is so in each
   pub acted_at : (zs : List r_stage.Stage) (i : ℕ) (d : r_stage.Stage) → AllActed zs → i < length zs → HasActed (get_or zs i d).slot.number (get_or zs i d)
   acted_at [] i d h less = absurd (omega arith)
   acted_at (z ∷ zs) zero d h less = h.0
@@ -118,6 +121,7 @@ module _ (f : Form) where
   sized_one k z None true more done h = h
   sized_one k z (Some n) true more done h = (done.1.reserves, done.1.writes, h)
 
+  -- where each thread fits, those who move reserve and write words that are there, with values of their widths
   pub acts_sized : (k : ℕ) (zs : List r_stage.Stage) → AllActed f zs → AllSized f.pipe (acts_of k zs)
   acts_sized k [] done = tt
   acts_sized k (z ∷ zs) done = sized_one k z z.slot.number z.moves (acts_of (suc k) zs) done.0 (acts_sized (suc k) zs done.1)
@@ -175,9 +179,11 @@ module _ (p : Pipe) (m : ℕ) where
   kept_filled [] es h k = k
   kept_filled (a ∷ ms) es h k = kept_puts a.thread.number a.does.writes (with_all_writes m ms es) h.1 (kept_filled ms es h.2 k)
 
+  -- with fitting reservations and writes, pending writes are of words that are there, with values of their width
   pub kept_both : (ms : List Act) (es : List Pending) → AllSized p ms → Kept es → Kept (both m ms es)
   kept_both ms es h k = kept_filled ms (with_reserves m ms es) h (kept_appended ms es h k)
 
+  -- the oldest pending write is of a word that is there
   pub oldest_within : (es : List Pending) → Kept es → IfSome (oldest es) (λ e. e.address < (mem_at p m).depth)
   oldest_within [] k = tt
   oldest_within (e ∷ es) k = k.0
@@ -216,6 +222,7 @@ module _ (p : Pipe) (m : ℕ) where
   words_count ws None = refl
   words_count ws (Some e) = length-set ws e.address (commit_value e.value)
 
+  -- what a squash leaves of pending writes is of words that are there, with values of their width
   pub entries_kept : (sq : Option ℕ) (es : List Pending) → Kept es → Kept (entries_left sq es)
   entries_kept sq [] k = tt
   entries_kept sq (e ∷ es) k = at (is_kept sq e.thread) (entries_kept sq es k.2)
@@ -224,6 +231,7 @@ module _ (p : Pipe) (m : ℕ) where
       at true h = (k.0, k.1, h)
       at false h = h
 
+  -- a memory keeps its depth, and its words and pending writes their width, after fitting acts and a squash
   pub kept_after : (ms : List Act) (sq : Option ℕ) (x : Memory) → AllSized p ms
       → IsKept (2 ^ (mem_at p m).width) (mem_at p m).depth x
       → IsKept (2 ^ (mem_at p m).width) (mem_at p m).depth (memory_after m ms sq x)
@@ -258,6 +266,7 @@ module _ (p : Pipe) (b : r_beside.Beside) (bits : List Bool) (m : ℕ) where
   abbrev st : State
   st = outside b
 
+  -- the memory's lock has room for one more pending write
   abbrev pub HasRoom : Type 0
   HasRoom = has_room (mem_at p m).lock (length (lock_of st m)) ≡ true
 
@@ -296,6 +305,7 @@ module _ (p : Pipe) (b : r_beside.Beside) (bits : List Bool) (m : ℕ) where
   room_act k z zs None true more done h = h
   room_act k z zs (Some n) true more done h = joined (addresses m more) (addresses_of m (deeds_view z.deeds).reserves) h (mover_room k n z zs done)
 
+  -- where it is decided who moves, those who do reserve nothing of the memory, or its lock has room
   pub room_acts : (k : ℕ) (zs : List r_stage.Stage) → AreDecided p b bits k zs → (addresses m (acts_of k zs) ≡ []) ⊎ HasRoom
   room_acts k [] done = inl refl
   room_acts k (z ∷ zs) done = room_act k z zs z.slot.number z.moves (acts_of (suc k) zs) done.0 (room_acts (suc k) zs done.1)

@@ -87,6 +87,7 @@ module _ (f : Form) (wide : AreWidths f.widths) (xs : List Memory) (ms : AreMemo
   fit_verify true args d h k = k
   fit_verify false args d h k = record { env = k.env; guess = k.guess; reserves = k.reserves; writes = k.writes; asks = k.asks; child = h }
 
+  -- the deeds after a typed statement have their widths, where those before it have
   pub fit_does : (thread : ℕ) (op : Op) (d : Deeds) → IsTypedOp f op → AreFit f d → AreFit f (deeds_after (word_of xs thread) op d)
   fit_does thread (Bind x e) d t k =
       let there : x < length d.env = subst (λ n. x < n) (sym k.env.count) t.0 in
@@ -170,6 +171,7 @@ module _ (f : Form) (wide : AreWidths f.widths) (xs : List Memory) (ms : AreMemo
       → IsTypedOp f x.op → AreFit f old → AreFit f new
   fit_more thread x old new e t k = subst (AreFit f) (sym e) (fit_if thread (all_hold x.guards old.env) x.op old t k)
 
+  -- a typed statement can be carried out on values of their widths, where there is room for its arguments
   pub safe_op : (op : Op) (d : Deeds) (c : Capacities) (n : ℕ) → IsTypedOp f op → AreFit f d → IsLarge n (length f.pipe.start) c → IsSafeOp c op d.env
   safe_op (Bind x e) d c n t k h = safe f.widths d.env wide k.env e t.1
   safe_op (CombRead x m a) d c n t k h = tt

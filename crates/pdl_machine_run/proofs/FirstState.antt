@@ -72,6 +72,7 @@ last [] x (suc k) h = absurd (omega arith)
 last (y ∷ xs) x zero h = absurd (omega arith)
 last (y ∷ xs) x (suc k) h = last xs x k (omega arith)
 
+-- where the first m memories are as a machine begins with them, and the next one too, so are the first m + 1
 pub first_push : (p : Pipe) (image : List (List ℕ)) (xs : List Memory) (x : Memory) (m : ℕ)
     → length xs ≡ m → ((k : ℕ) → k < m → IsFirst (mem_at p k).lock (slice_index_or image k []) (memory_at xs k))
     → IsFirst (mem_at p m).lock (slice_index_or image m []) x → (k : ℕ) → k < m + 1
@@ -93,6 +94,7 @@ first_push p image xs x m n each new k less = by_order (split k m less)
         subst (IsFirst (mem_at p k).lock (slice_index_or image k [])) (sym (last xs x k (omega arith)))
         (subst (λ i. IsFirst (mem_at p i).lock (slice_index_or image i []) x) (sym e) new)
 
+-- the lock of a memory that the program holds stands for that of the pipe's memory of this number
 pub lock_at : (p : Pipe) (mems : List r_mem.FlatMem) (m : ℕ) (x : r_mem.FlatMem)
     → mems_view mems ≡ p.mems → m < length mems → x ≡ get_or mems m x → lock_view x.lock ≡ (mem_at p m).lock
 lock_at p mems m x seen h is = ap (λ (d : Mem). d.lock) (seen_at mem_view mems m x plain_mem h is ∙ ap (λ (ds : List Mem). get_or ds m plain_mem) seen)
@@ -151,6 +153,7 @@ no_mem (d ∷ ds) (suc m) h = no_mem ds m (omega arith)
 
 module _ (f : Form) (run : IsRunnable f) (image : List (List ℕ)) (images : AreImages f.pipe image) (b : r_beside.Beside)
     (begun : IsFirstBeside f.pipe image b) where
+  -- the pipe of the form
   abbrev pub p : Pipe
   p = f.pipe
 
@@ -166,6 +169,7 @@ module _ (f : Form) (run : IsRunnable f) (image : List (List ℕ)) (images : Are
   there : (m : ℕ) → m < length xs → m < length p.mems
   there m less = subst (λ n. m < n) count less
 
+  -- with thread 1 in the first stage, the state of what the program begins with is the first one of the image
   pub first_is : (os : List (Option Thread)) → os ≡ seats_first p (length p.stages) → state_of os b 2 ≡ first p (arrays_of image)
   first_is os e =
       let words = first_words 0 image xs (images.count ∙ sym count) (λ i less. (each i (there i less)).words_are) in
@@ -217,6 +221,7 @@ module _ (f : Form) (run : IsRunnable f) (image : List (List ℕ)) (images : Are
       up (inl h) = inl (omega arith)
       up (inr h) = inr (omega arith)
 
+  -- the memories have room for what may be pending and one reservation more
   pub first_roomy : AreRoomy p xs
   first_roomy =
       record {
@@ -234,6 +239,7 @@ module _ (f : Form) (run : IsRunnable f) (image : List (List ℕ)) (images : Are
             pending = subst (λ (es : List Pending). AreKept (2 ^ (mem_at p m).width) (mem_at p m).depth es) (sym one.pending) tt;
           }
 
+  -- what stands beside the stages has room for a cycle
   pub first_beside : IsBeside p b
   first_beside =
       let rs = ap (λ (l : List Request). length l) begun.requests in
@@ -266,6 +272,7 @@ module _ (f : Form) (run : IsRunnable f) (image : List (List ℕ)) (images : Are
   seat_at (z ∷ zs) zero d less = refl
   seat_at (z ∷ zs) (suc k) d less = seat_at zs k d (omega arith)
 
+  -- stages of which the first holds thread 1 are ready, where they are wide enough
   pub first_ready : (zs : List r_stage.Stage) → seats zs ≡ seats_first p (length p.stages) → AreStages f zs → AreReady f zs
   first_ready zs e wide =
       let these : length (seats zs) ≡ length zs = length-map _ _ in

@@ -196,29 +196,36 @@ module _ (f : Form) (b : r_beside.Beside) (bits : List Bool) (next : ℕ) (ys zs
     (beside : IsBeside f.pipe b) (count : length ys ≡ length f.pipe.stages) (long : length ys ≡ length zs)
     (carried : (i : ℕ) (d : r_stage.Stage) → i < length ys → IsCarried f b bits i (thread_in (get_or ys i d).slot) (get_or zs i d))
     (decided : AreDecided f.pipe b bits 0 zs) where
+  -- the pipe of the form
   abbrev pub p : Pipe
   p = f.pipe
 
+  -- the state before the cycle
   abbrev pub st : State
   st = state_of (seats ys) b next
 
+  -- the acts of those who move
   abbrev pub ms : List Act
   ms = acts_of 0 zs
 
+  -- the memories before the cycle
   abbrev pub xs : List Memory
   xs = b.memories.items
 
   zero_on : (m : ℕ) → 0 + m ≡ m
   zero_on m = omega arith
 
+  -- the acts of the threads in the stages are all acts of the stated machine
   pub these_are : all_of 0 zs ≡ all_acts p st bits
   these_are =
       acts_are f b bits (seats ys) next 0 ys zs long
       (λ i d less. subst (λ j. IsCarried f b bits j (thread_in (get_or ys i d).slot) (get_or zs i d)) (sym (zero_on i)) (carried i d less)) decided
 
+  -- those who move in the stated machine are those whom the program lets move
   pub movers_known : movers (all_acts p st bits) ≡ ms
   movers_known = ap movers (sym these_are) ∙ movers_are 0 zs
 
+  -- the stated cycle is what comes of these acts and movers
   pub cycle_is : cycle p st bits ≡ after_these p st bits (all_of 0 zs) ms (squasher ms)
   cycle_is = ap (after_acts p st bits) (sym these_are) ∙ ap (λ (as' : List Act). after_these p st bits (all_of 0 zs) as' (squasher as')) (movers_are 0 zs)
 
@@ -236,6 +243,7 @@ module _ (f : Form) (b : r_beside.Beside) (bits : List Bool) (next : ℕ) (ys zs
       ∙ words_after st ms sq 0 p.mems xs st.arrays mems locked (λ i c. ap (λ j. st.arrays j c) (zero_on i) ∙ word_listed xs i c) within m a)
 
   module _ (news : List r_stage.Stage) (c : r_beside.Beside) (called : Bool) (sq : Option ℕ) (born : Option Thread) where
+    -- where stages, memories, orders and requests become what these acts make of them, the state is the one after the cycle
     pub next_state : length news ≡ length zs → sq ≡ squasher ms → born ≡ born_thread p next (child_of ms) → called ≡ is_some (child_of ms) → Within st ms 0 xs
         → ((q : ℕ) (d : r_stage.Stage) → q < length zs
         → thread_in (get_or news q d).slot ≡ or_then (if q == 0 then born else None) (if_kept sq (next_thread p q (all_of 0 zs))))
@@ -318,6 +326,7 @@ module _ (f : Form) (b : r_beside.Beside) (bits : List Bool) (next : ℕ) (ys zs
       some_stage [] h = absurd (omega arith)
       some_stage (n ∷ ns) h = n
 
+  -- what is shown of stages, commits, requests, the end and the squash are the stated ports
   pub next_ports : (sq : Option ℕ) → sq ≡ squasher ms
       → stage_values (are_held zs) (are_moving zs) ++ (commits_shown 0 ms xs ++ (requests_shown 0 ms p.mems ++ bit (one_ends p ms) ∷ bit (is_some sq) ∷ []))
       ≡ whole_values p (stated.ports p st (all_acts p st bits))

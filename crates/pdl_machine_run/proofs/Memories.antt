@@ -28,6 +28,7 @@ module _ (st : State) (ms : List Act) where
   abbrev Locked : ℕ → List Memory → Type 0
   Locked m xs = (i : ℕ) → lock_of st (m + i) ≡ (memory_at xs i).pending
 
+  -- the lists of the locks after the cycle are the pending writes of the memories after it
   pub locks_after : (sq : Option ℕ) (m : ℕ) (ds : List Mem) (xs : List Memory) → length ds ≡ length xs → Locked m xs
       → for_mems (λ n. entries_left sq (list_three st ms n)) m ds ≡ map (λ (x : Memory). x.pending) (memories_after m ms sq xs)
   locks_after sq m [] [] n h = refl
@@ -40,6 +41,7 @@ module _ (st : State) (ms : List Act) where
   out_at : (m : ℕ) (x : Memory) → lock_of st m ≡ x.pending → taken_out st ms m ≡ out_of m ms x.pending
   out_at m x h = ap (λ es. out_of m ms es) h
 
+  -- the commits that the stated ports show are those that these memories show
   pub commits_after : (m : ℕ) (ds : List Mem) (xs : List Memory) → length ds ≡ length xs → Locked m xs
       → ((i : ℕ) (d : Mem) → i < length ds → (slice_index_or ds i d).lock ≡ (memory_at xs i).lock)
       → all_commit_values ds (for_mems (λ n. port_write (taken_out st ms n)) m ds) ≡ commits_shown m ms xs
@@ -99,10 +101,12 @@ module _ (st : State) (ms : List Act) where
   abbrev Worded : Arrays → ℕ → List Memory → Type 0
   Worded arrays m xs = (i a : ℕ) → arrays (m + i) a ≡ slice_index (memory_at xs i).words a
 
+  -- what is released of each of these memories, of which the first is m, is of a word that is there
   abbrev pub Within : ℕ → List Memory → Type 0
   Within m [] = ⊤
   Within m (x ∷ xs) = IfSome (out_of m ms x.pending) (λ e. e.address < length x.words) × Within (suc m) xs
 
+  -- the arrays after the releases have the words of the memories after the cycle
   pub words_after : (sq : Option ℕ) (m : ℕ) (ds : List Mem) (xs : List Memory) (arrays : Arrays) → length ds ≡ length xs
       → Locked m xs → Worded arrays m xs → Within m xs
       → Worded (with_commits st ms m ds arrays) m (memories_after m ms sq xs)

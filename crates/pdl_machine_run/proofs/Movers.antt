@@ -21,6 +21,7 @@ goes_same p b bits k None x m later = refl
 goes_same p b bits k (Some n) x m later = refl
 
 module _ (p : Pipe) (b : r_beside.Beside) (bits : List Bool) where
+  -- where it is decided who moves in the stages after j, and now in j, it is decided in those from j on
   pub decided_more : (now : List r_stage.Stage) (j k : ℕ) (m : Bool) (d : r_stage.Stage) → j < length now → k ≡ j + 1
       → m ≡ goes p b bits j (get_or now j d).slot.number (get_or now j d) (drop (j + 1) now)
       → AreDecided p b bits k (drop k now) → AreDecided p b bits j (drop j (set now j (record (get_or now j d) { moves = m })))
@@ -89,6 +90,7 @@ module _ (f : Form) (b : r_beside.Beside) (bits : List Bool) (os : List (Option 
       some_same : {a c : Thread} → Some a ≡ Some c → a ≡ c
       some_same e = cc e
 
+  -- the acts of the threads in the stages from k on are those of the stated machine
   pub acts_are : (k : ℕ) (ys zs : List r_stage.Stage) → length ys ≡ length zs
       → ((i : ℕ) (d : r_stage.Stage) → i < length ys → IsCarried f b bits (k + i) (thread_in (get_or ys i d).slot) (get_or zs i d))
       → AreDecided f.pipe b bits k zs → all_of k zs ≡ acts f.pipe st bits k (seats ys)

@@ -46,6 +46,7 @@ module _ (xs : List r_place.LocationNumbers) (m a i : ℕ) (same : i ≡ place_i
       ∙ ap (λ j. take j (map place_view xs) ++ drop (j + 1) (map place_view xs)) same
       ∙ (place_there (map place_view xs) m a (omega arith)).1
 
+  -- letting go of a location that isn't held changes nothing
   pub kept : length xs ≤ i → map place_view xs ≡ machine.let_go (map place_view xs) m a
   kept h =
       let counted : length (map place_view xs) ≡ length xs = length-map _ _ in

@@ -40,12 +40,14 @@ pub reached_next : (p : Pipe) (st : State) (bits : List Bool) → IsReached p st
 reached_next p st bits r = (r.0, r.1 ++ bits ∷ [], ap (λ (s : State). cycle p s bits) r.2 ∙ sym (after_more p (first p r.0) r.1 bits))
 
 module _ (f : Form) (run : IsRunnable f) (st : State) (bits : List Bool) (r : IsReached f.pipe st) where
+  -- a cycle from a state of a run goes stage by stage and memory by memory
   pub by_run : IsByStages f.pipe st bits
   by_run = subst (λ (s : State). IsByStages f.pipe s bits) (sym r.2) (run.by r.0 r.1 bits)
 
   pub used_run : IsInUse f.pipe st bits
   used_run = subst (λ (s : State). IsInUse f.pipe s bits) (sym r.2) (run.used r.0 r.1 bits)
 
+  -- in a state of a run a fork's list is no longer than there are stages
   pub forked_run : (k : ℕ) → length (fork_of st k) ≤ length f.pipe.stages
   forked_run = subst (λ (s : State). (k : ℕ) → length (fork_of s k) ≤ length f.pipe.stages) (sym r.2) (run.forked r.0 r.1)
 
@@ -79,18 +81,23 @@ module _ (f : Form) (run : IsRunnable f) (b : r_beside.Beside) (bits : List Bool
     (long : length ys ≡ length zs)
     (carried : (i : ℕ) (d : r_stage.Stage) → i < length ys → IsCarried f b bits i (thread_in (get_or ys i d).slot) (get_or zs i d))
     (decided : AreDecided f.pipe b bits 0 zs) (reached : IsReached f.pipe (state_of (seats ys) b next)) where
+  -- the pipe of the form
   abbrev pub p : Pipe
   p = f.pipe
 
+  -- the state before the cycle
   abbrev pub st : State
   st = state_of (seats ys) b next
 
+  -- the acts of those who move
   abbrev pub ms : List Act
   ms = acts_of 0 zs
 
+  -- the memories before the cycle
   abbrev pub xs : List Memory
   xs = b.memories.items
 
+  -- each thread in the stages fits, and so does what it does
   pub acted : AllActed f zs
   acted =
       all_acted f b bits 0 ys zs long
@@ -125,6 +132,7 @@ module _ (f : Form) (run : IsRunnable f) (b : r_beside.Beside) (bits : List Bool
             (oldest_within p m (both m ms (memory_at xs m).pending) (kept_both p m ms (memory_at xs m).pending sized has.pending));
       }
 
+  -- each memory has room for what the acts reserve, and a word for what they release
   pub can_step : AllCanStep 0 ms xs
   can_step = all_step ms 0 xs (λ i less. let same : i ≡ 0 + i = omega arith in subst (λ j. CanStep j ms (memory_at xs i)) same (step_one i less))
 
@@ -137,6 +145,7 @@ module _ (f : Form) (run : IsRunnable f) (b : r_beside.Beside) (bits : List Bool
   all_within k [] h = tt
   all_within k (x ∷ ns) h = (out_within (has_release k ms) (length x.words) (both k ms x.pending) h.0.within, all_within (suc k) ns h.1)
 
+  -- what the acts release of each memory is of a word that is there
   pub within : Within st ms 0 xs
   within = all_within 0 xs can_step
 
@@ -184,6 +193,7 @@ module _ (f : Form) (run : IsRunnable f) (b : r_beside.Beside) (bits : List Bool
     few_after : (m : ℕ) → m < length p.mems → length (after m) ≤ size_of (memory_at xs m).lock
     few_after m less = few_room m less (room_acts p b bits m 0 zs decided)
 
+    -- the memories after the cycle have room for what may be pending and one reservation more
     pub roomy_after : AreRoomy p (memories_after 0 ms sq xs)
     roomy_after =
         record {
@@ -215,6 +225,7 @@ module _ (f : Form) (run : IsRunnable f) (b : r_beside.Beside) (bits : List Bool
     order_at (o ∷ os) zero d less = refl
     order_at (o ∷ os) (suc i) d less = order_at os i d (omega arith)
 
+    -- a fork's order has room for the branches of the threads that are inside after the cycle
     pub orders_room : (i : ℕ) (d : r_order.Order) → i < length b.orders.items
         → length (order_after p ms (is_some sq) i (get_or b.orders.items i d).branches.items) ≤ vec_capacity (get_or b.orders.items i d).branches
     orders_room i d less =

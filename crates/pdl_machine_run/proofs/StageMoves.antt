@@ -38,15 +38,19 @@ stages_set f xs k y h here i d less = at (same_or i k)
     at (inr n) = subst (IsStage f) (sym (get_or-set_other xs k i y d n)) (h i d (omega (arith, long, less)))
 
 module _ (xs : List r_stage.Stage) (k q : ℕ) (hk : k < length xs) (hq : q < length xs) where
+  -- after stages k and q change places, q has what stood at k
   pub swapped_there : (d : r_stage.Stage) → get_or (swap xs k q) q d ≡ get_or xs k d
   swapped_there d = (swapped_from_swap xs (swap xs k q) k q d hk hq refl).1
 
+  -- after stages k and q change places, k has what stood at q
   pub swapped_here : (d : r_stage.Stage) → get_or (swap xs k q) k d ≡ get_or xs q d
   swapped_here d = (swapped_from_swap xs (swap xs k q) k q d hk hq refl).0
 
+  -- after stages k and q change places, each other stage stands where it stood
   pub swapped_other : (i : ℕ) (d : r_stage.Stage) → (i ≡ k → ⊥) → (i ≡ q → ⊥) → get_or (swap xs k q) i d ≡ get_or xs i d
   swapped_other i d n m = (swapped_from_swap xs (swap xs k q) k q d hk hq refl).2 i n m
 
+  -- after two stages change places all are wide enough, if they were before
   pub stages_swap : (f : Form) → AreStages f xs → AreStages f (swap xs k q)
   stages_swap f h i d less = at (same_or i k) (same_or i q)
     where

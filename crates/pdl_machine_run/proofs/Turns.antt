@@ -92,17 +92,21 @@ orders_count p ms b k [] = refl
 orders_count p ms b k (l ∷ ls) = ap suc (orders_count p ms b (suc k) ls)
 
 module _ (f : Form) (b : r_beside.Beside) (bits : List Bool) (next : ℕ) (ys zs : List r_stage.Stage) (t : Turn f b bits next ys zs) where
+  -- the pipe of the form
   abbrev pub p : Pipe
   p = f.pipe
 
+  -- the acts of those who move
   abbrev pub ms : List Act
   ms = acts_of 0 zs
 
   -- WHAT THE STEPS TAKE
 
+  -- each memory can take what the acts do to it
   pub turn_steps : AllCanStep 0 ms b.memories.items
   turn_steps = can_step f t.run b bits next ys zs t.beside t.count t.long t.carried t.decided t.reached
 
+  -- each fork's order has room for the branches of the threads that are inside after the cycle
   pub turn_orders : (sq : Option ℕ) → sq ≡ squasher ms → (i : ℕ) (d : r_order.Order) → i < length b.orders.items
       → length (order_after p ms (is_some sq) i (get_or b.orders.items i d).branches.items) ≤ vec_capacity (get_or b.orders.items i d).branches
   turn_orders sq e = orders_room f t.run b bits next ys zs t.beside t.count t.long t.carried t.decided t.reached sq e
@@ -110,14 +114,17 @@ module _ (f : Form) (b : r_beside.Beside) (bits : List Bool) (next : ℕ) (ys zs
   turn_acted : Rattle.pdl_machine_run.proofs.ActedThreads.AllActed f zs
   turn_acted = acted f t.run b bits next ys zs t.beside t.count t.long t.carried t.decided t.reached
 
+  -- a slot that is wide enough has as many values as the new thread has arguments, or more
   pub turn_child : (way : r_slot.ThreadSlot) → IsWide f way → IfSome (child_of ms) (λ args. length args ≤ length way.values.items)
   turn_child way w = args_room f t.run.typed.vars (child_of ms) (length way.values.items) (sym w.count) (child_fits f 0 zs turn_acted)
 
+  -- each stage has room for what the thread that moves out of it asks for
   pub turn_awaits : (k : ℕ) (d : r_stage.Stage) → k < length zs → HasAwaits (get_or zs k d)
   turn_awaits k d less = awaits_room f zs k d turn_acted less (t.wide k d less)
 
   -- WHAT COMES OF IT
 
+  -- what is shown of stages, commits, requests, the end and the squash are the stated ports
   pub turn_ports : (sq : Option ℕ) → sq ≡ squasher ms
       → stage_values (are_held zs) (are_moving zs)
       ++ (commits_shown 0 ms b.memories.items ++ (requests_shown 0 ms p.mems ++ bit (one_ends p ms) ∷ bit (is_some sq) ∷ []))
@@ -128,6 +135,7 @@ module _ (f : Form) (b : r_beside.Beside) (bits : List Bool) (next : ℕ) (ys zs
       (bears : born ≡ born_thread p next (child_of ms)) (same : length news ≡ length zs)
       (threads : (q : ℕ) (d : r_stage.Stage) → q < length zs
       → thread_in (get_or news q d).slot ≡ or_then (if q == 0 then born else None) (if_kept sq (next_thread p q (all_of 0 zs)))) where
+    -- the stages after the cycle are ready, where they are wide enough
     pub turn_ready : AreStages f news → AreReady f news
     turn_ready wide =
         record {
@@ -143,12 +151,14 @@ module _ (f : Form) (b : r_beside.Beside) (bits : List Bool) (next : ℕ) (ys zs
     module _ (c : r_beside.Beside) (memories : c.memories.items ≡ memories_after 0 ms sq b.memories.items)
         (orders : order_views c.orders.items ≡ orders_after p ms (is_some sq) 0 (order_views b.orders.items))
         (requests : map request_view c.requests.items ≡ requests_after p bits ms sq 0 (map request_view b.requests.items)) where
+      -- what the program holds after the cycle is the stated state after it
       pub turn_state : (called : Bool) → called ≡ is_some (child_of ms)
           → state_of (seats news) c (if called then suc next else next) ≡ cycle p (state_of (seats ys) b next) bits
       turn_state called calls =
           next_state f b bits next ys zs t.beside t.count t.long t.carried t.decided news c called sq born same squashed bears calls
           (within f t.run b bits next ys zs t.beside t.count t.long t.carried t.decided t.reached) threads memories orders requests
 
+      -- what stands beside the stages has room for the next cycle, where the orders of forks have
       pub turn_beside : AreOrders (length p.stages) c.orders.items → IsBeside p c
       turn_beside long =
           let rs = ap (λ (l : List Request). length l) requests in

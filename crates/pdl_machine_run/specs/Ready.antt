@@ -17,6 +17,7 @@ pub record IsWide (f : Form) (s : r_slot.ThreadSlot) : Type 0 where
   pub awaits : length f.pipe.stmts ≤ vec_capacity s.awaits
   pub kept : length f.pipe.stmts ≤ vec_capacity s.kept
 
+-- a stage has a slot that is wide enough, a value for each variable, and room for the deeds of all statements
 pub record IsStage (f : Form) (x : r_stage.Stage) : Type 0 where
   pub slot : IsWide f x.slot
   pub count : length x.deeds.values.items ≡ length f.widths

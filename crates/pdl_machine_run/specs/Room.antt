@@ -2,6 +2,7 @@
 use Rattle.std.specs.Prelude.{◌≡◌, ℕ, ◌+◌, ◌*◌, ◌≤◌, vec_len, vec_capacity}
 use Rattle.pdl_machine_run.specs.declared.deeds.Deeds as r_deeds
 
+-- how much there is room for in each part of a stage's deeds
 pub record Capacities : Type 0 where
   pub guess : ℕ
   pub held : ℕ

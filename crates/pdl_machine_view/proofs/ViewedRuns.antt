@@ -71,9 +71,11 @@ module _ (p : Pipe) (st next : State) (bits : ℕ) (shown : List ℕ) (state : n
 module _ (old new : Running) (bits : ℕ) (state : state_of new ≡ stated.cycle (flat_of old) (state_of old) (replies_to old bits))
     (seen : new.shown ≡ whole_values (flat_of old) (ports (flat_of old) (state_of old) (all_acts (flat_of old) (state_of old) (replies_to old bits))))
     (pipe : new.pipe ≡ old.pipe) where
+  -- two values are shown of each stage
   pub stages_there : 2 * length (flat_of old).stages ≤ length new.shown
   stages_there = stages_in (flat_of old) (state_of old) (state_of new) bits new.shown state seen
 
+  -- the lines that are left before a cycle are the line of the cycle, and those that are left after it
   pub cycle_step : (delays : List ℕ) (done cycles stages : ℕ) → bits ≡ bits_in delays (done + 1) → done < cycles → stages ≡ length (flat_of old).stages
       → left (flat_of old) (state_of old) delays done cycles
       ≡ cycle_line (done + 1) new.shown stages ++ left (flat_of new) (state_of new) delays (done + 1) cycles

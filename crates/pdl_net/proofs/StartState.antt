@@ -150,6 +150,7 @@ inputs_told n p =
     ∙ grind
     (arith, filter_map-append, append-nil, replies_show p.delayed, stages_show (range_with_len 0 p.stages), commits_show p.locked, requests_show p.delayed)
 
+-- a netlist of a pipe without delayed memories has no inputs
 pub no_inputs : (n : Netlist) → IsWellFormed n → delayed_mems n ≡ [] → inputs_of (circuit_of n) ≡ []
 no_inputs n w e =
     let p = w.pipe in

@@ -31,6 +31,7 @@ fits_read c xs k n w h e m =
     let Q : ℕ → Type 0 = λ j. FitsIn c (IsThereAt c j) (signal c) (get_or xs k no_cell) in
     subst Q (sym m) (subst P (sym e) (fits_cell c w.cells k h))
 
+-- a cell's net has the signal that the cell makes of the nets which it reads
 pub signal_read : (c : Circuit) (xs : List Cell) (k : ℕ) → IsWell c
     → k < length c.cells → xs ≡ c.cells → signal c (CellNet k) ≡ cell_signal c (signal c) (get_or xs k no_cell)
 signal_read c xs k w h e = signal_cell c w.cells k h ∙ ap (λ l. cell_signal c (signal c) (get_or l k no_cell)) (sym e)
@@ -53,6 +54,7 @@ widths_more c ws us w h e f = record {
 
 pub ruleset widths = (fits_read, signal_read, widths_none, widths_more)
 
+-- an array of the netlist has the same width in its circuit
 pub width_of_array : (n : Netlist) (m : ℕ) (a : Array)
     → m < length n.arrays → a ≡ get_or n.arrays m a → (array_at (circuit_of n) m).width ≡ a.width
 width_of_array n m a h e = ap (λ (x : Array). x.width) (sym (e ∙ get_or_default n.arrays m a no_array h))

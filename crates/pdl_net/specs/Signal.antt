@@ -9,6 +9,7 @@ use Rattle.pdl_net.specs.Circuit.{State}
 abbrev pub Value : Type 0
 Value = State → ℕ
 
+-- what a net means: a width, and a value in each state
 pub record Signal : Type 0 where
   pub width : ℕ
   pub value : Value

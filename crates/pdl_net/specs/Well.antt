@@ -60,6 +60,7 @@ abbrev pub IsDriven : Circuit → ℕ → Dir → Type 0
 IsDriven c w In = Unit {0}
 IsDriven c w (Out x) = IsThere c x × ((signal c x).width ≡ w)
 
+-- a port has 1 to 64 bits, and an output is driven by a net of that width
 pub record IsWellPort (c : Circuit) (p : Port) : Type 0 where
   pub low : 1 ≤ p.width
   pub high : p.width ≤ 64
@@ -82,6 +83,7 @@ pub record IsWellWrite (c : Circuit) (a : Array) (p : WritePort) : Type 0 where
   pub reach : 2 ^ (signal c p.addr).width ≡ a.depth
   pub width : (signal c p.value).width ≡ a.width
 
+-- an array has words of 1 to 64 bits, a depth that is allowed, and write ports that fit it
 pub record IsWellArray (c : Circuit) (a : Array) : Type 0 where
   pub low : 1 ≤ a.width
   pub high : a.width ≤ 64

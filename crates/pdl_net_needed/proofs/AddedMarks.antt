@@ -175,6 +175,7 @@ within_added a b r c (Input i) h = tt
 within_added a b r c (RegNet q) h = omega (arith, r, h)
 within_added a b r c (CellNet j) h = omega (arith, c, h)
 
+-- a net that has a place for its mark still has one after nets are marked
 pub within_stays : (a b : Work) (xs : List Net) (x : Net) → Adds a b xs → IsWithin a.kept x → IsWithin b.kept x
 within_stays a b xs x h w = within_added a.kept b.kept h.regs h.cells x w
 
@@ -183,6 +184,7 @@ each_within_stays a b xs ys h w = each_weaker (IsWithin a.kept) (IsWithin b.kept
 
 -- ---- over lists
 
+-- the nets of the first i elements and then those of one more are added as those of the first i + 1
 pub adds_more : {X : Type 0} (f : X → List Net) (ps : List X) (i : ℕ) (p : X) (a b c : Work)
     → i < length ps → p ≡ get_or ps i p → Adds a b (flat_map f (take i ps)) → Adds b c (f p)
     → Adds a c (flat_map f (take (i + 1) ps))
@@ -193,10 +195,12 @@ adds_more f ps i p a b c l e h g =
     ∙ flat_map-append f (take i ps) (p ∷ []) ∙ ap (λ ys. flat_map f (take i ps) ++ ys) (append-nil (f p))) in
     subst (Adds a c) t (adds_then a b c (flat_map f (take i ps)) (f p) h g)
 
+-- past the last element, the nets of all elements are added
 pub adds_all : {X : Type 0} (f : X → List Net) (ps : List X) (i : ℕ) (a b : Work)
     → length ps ≤ i → Adds a b (flat_map f (take i ps)) → Adds a b (flat_map f ps)
 adds_all f ps i a b l h = subst (λ qs. Adds a b (flat_map f qs)) (take_all i ps l) h
 
+-- where the nets of all elements have places for their marks, those of the i-th have them after others are marked
 pub within_at : {X : Type 0} (f : X → List Net) (ps : List X) (i : ℕ) (p : X) (a b : Work) (xs : List Net)
     → i < length ps → p ≡ get_or ps i p → Adds a b xs → Each (IsWithin a.kept) (flat_map f ps)
     → Each (IsWithin b.kept) (f p)

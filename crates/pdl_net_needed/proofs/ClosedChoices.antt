@@ -12,12 +12,14 @@ use Rattle.pdl_net.specs.Circuit.{Circuit, array_at, no_array}
 use Rattle.pdl_net_needed.specs.Needed.{shown_by, read_by, written_from, used_outside, sources, Choice, IsKept, KeepsNeeded}
 use Rattle.pdl_net_needed.specs.Needed.IsNeeded.{outside, inside}
 
+-- a choice has a mark for each register and cell, keeps what is used outside, and keeps the sources of each net that it keeps
 pub record IsClosed (c : Circuit) (k : Choice) : Type 0 where
   pub reg_count : length k.regs ≡ length c.regs
   pub cell_count : length k.cells ≡ length c.cells
   pub ends : Each (IsKept k) (used_outside c)
   pub reads : (x : Net) → IsKept k x → Each (IsKept k) (sources c x)
 
+-- what holds of all that a list contains holds of each of its elements
 pub contained : {A : Type 0} (P : A → Type 0) (xs : List A) → ((x : A) → Contains xs x → P x) → Each P xs
 contained P xs h = each_from_all P xs (λ i d l. h (get_or xs i d) (Contains-get_or xs i d l))
 

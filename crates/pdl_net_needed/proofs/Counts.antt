@@ -110,6 +110,7 @@ pub kept_fewer : {A B : Type 0} (f : A → B) (bs : List Bool) (xs : List A) (i 
     → map f (kept_of (take (i + 1) bs) (take (i + 1) xs)) ≡ map f (kept_of (take i bs) (take i xs))
 kept_fewer f bs xs i e = rw add-one (kept_left f bs xs i e)
 
+-- past the last element, the kept ones of the elements so far are all kept ones
 pub kept_all : {A B : Type 0} (f : A → B) (bs : List Bool) (xs : List A) (i : ℕ)
     → length bs ≡ length xs → length xs ≤ i → map f (kept_of (take i bs) (take i xs)) ≡ map f (kept_of bs xs)
 kept_all f bs xs i e l = ap (λ cs. map f (kept_of cs (take i xs))) (take_all i bs (omega arith)) ∙ ap (λ ys. map f (kept_of bs ys)) (take_all i xs l)
@@ -134,6 +135,7 @@ kept_step (true ∷ bs) (suc i) = ap suc (kept_step bs i) ∙ push (get_or bs i 
     push false = refl
 kept_step (false ∷ bs) (suc i) = kept_step bs i
 
+-- one kept element more stands before place i + 1 than before place i, where the one there is kept
 pub count_more : (bs : List Bool) (i : ℕ) → get_or bs i false ≡ true → kept_before bs (i + 1) ≡ kept_before bs i + 1
 count_more bs i e = let s = kept_step bs i ∙ ap (λ b. cond b (suc (kept_before bs i)) (kept_before bs i)) e in
     let m : i + 1 ≡ suc i = omega arith in let n : kept_before bs i + 1 ≡ suc (kept_before bs i) = omega arith in

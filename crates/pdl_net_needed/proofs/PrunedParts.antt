@@ -88,6 +88,7 @@ net_same k n h f s s' t x there kept =
     let w = looked c c' k s s' (has_moved k n h) t (signals c) (signals c') (all_same k n h f s s' t).agree x (subst At (sym a) there) kept in
     record { there = subst To b w.there; same = w.same }
 
+-- a state without inputs, registers and arrays
 abbrev pub empty : State
 empty = record { inputs = []; regs = []; arrays = [] }
 

@@ -96,6 +96,7 @@ module _ (c : Circuit) (s : State) (w : IsWell c) (t : Suits c s) (places vs : L
       ∙ append_assoc (take k ws) (new ∷ []) (arrays_from c s ms (suc k))
       ∙ ap (λ x. take k ws ++ after_writes c s a.writes x ∷ arrays_from c s ms (suc k)) (h k (omega arith))
 
+  -- the planned writes, done one after another, leave the arrays of the next cycle
   pub arrays_written : after_all (planned_writes c places) vs s.arrays ≡ next_arrays c s
   unfolding next_arrays
   arrays_written = arrays_planned c.arrays 0 (λ j h. w.arrays j h) s.arrays (omega (arith, t.array_count)) (λ j h. refl)
@@ -135,5 +136,6 @@ module _ (c : Circuit) (s : State) (w : IsWell c) (t : Suits c s) (places vs : L
       (λ j i. let e : k + suc j ≡ suc k + j = omega arith in let r = g (suc j) (omega arith) in
       (omega (arith, r.0), r.1 ∙ ap (λ n. (array_at c n).depth) e)))
 
+  -- each planned write has places that are there, and an address within its array
   pub writes_fit : All (λ p. WriteFits p vs s.arrays) (planned_writes c places)
   writes_fit = all_fit c.arrays 0 (λ j h. w.arrays j h) (λ j h. let e : 0 + j ≡ j = omega arith in (omega arith, ap (λ n. (array_at c n).depth) (sym e)))

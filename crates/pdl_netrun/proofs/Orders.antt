@@ -53,6 +53,7 @@ there_later c k n (Input i) l h = h
 there_later c k n (RegNet r) l h = h
 there_later c k n (CellNet j) l h = omega arith
 
+-- all that a cell of a well formed circuit reads is there
 pub reads_there : (c : Circuit) → IsWell c → (k : ℕ) → k < length c.cells → Reads (IsThereAt c (length c.cells)) (cell_at c k)
 reads_there c w k h =
     reads_each (IsThereAt c k) (IsThereAt c (length c.cells))
@@ -144,6 +145,7 @@ module _ (c : Circuit) (order ps : List ℕ) (k : ℕ) (o : IsOrder c order ps) 
       (o.known m l))
       (cases_eq m k)
 
+  -- an order goes on with a cell that has no place yet, where all that it reads has an earlier one and there is room
   pub order_more : first_place c + length order + 1 < unplaced → IsOrder c (order ++ k ∷ []) new
   order_more l = record {
     count = length-set ps k at ∙ o.count;

@@ -148,6 +148,7 @@ sample_well = record {
 pub well_of : (n : Netlist) → n ≡ sample → IsWellFormed n
 well_of n e = subst IsWellFormed (sym e) sample_well
 
+-- the netlist of the tests has no delayed memory
 pub here_of : (n : Netlist) → n ≡ sample → delayed_mems n ≡ []
 here_of n e = ap delayed_mems e
 

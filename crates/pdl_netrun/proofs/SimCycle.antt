@@ -199,6 +199,7 @@ module _ (c : Circuit) (w : IsWell c) (ps : List ℕ) (n : ℕ) (all : AllEarly 
   outputs_below (o ∷ os) f zero d h = below o.net (f 0 o (omega arith))
   outputs_below (o ∷ os) f (suc k) d h = outputs_below os (λ j x l. f (suc j) x (omega arith)) k d (omega arith)
 
+  -- the places that the outputs are read from are below those of a list that has all nets
   pub drivers_below : (places : List ℕ) → places ≡ map (λ o. place c ps o.net) (outputs_of c) → AreBelow n places
   drivers_below places e = subst (AreBelow n) (sym e) (outputs_below (outputs_of c) (drivers_in c c.ports w.ports))
 
@@ -207,6 +208,7 @@ module _ (c : Circuit) (w : IsWell c) (ps : List ℕ) (n : ℕ) (all : AllEarly 
       let l : k < length c.regs = omega (arith, h, simp length-map at h) in
       subst (λ m. m < n) (sym (get_or-map (λ (r : Reg). place c ps r.next) c.regs k no_reg d l)) (below (reg_at c k).next ((w.regs k l).next))
 
+  -- so are the places that the registers' next values are read from
   pub nexts_below : (places : List ℕ) → places ≡ map (λ r. place c ps r.next) c.regs → AreBelow n places
   nexts_below places e = subst (AreBelow n) (sym e) next_below
 
@@ -221,6 +223,7 @@ module _ (c : Circuit) (s : State) (w : IsWell c) (ps vs : List ℕ) (v : HasVal
   outputs_valued [] f = refl
   outputs_valued (o ∷ os) f = ap₂ (λ x xs. x ∷ xs) (valued o.net (f 0 o (omega arith))) (outputs_valued os (λ j x l. f (suc j) x (omega arith)))
 
+  -- what is read at the places of the outputs' nets are the values of the outputs
   pub outputs_read : (places : List ℕ) → places ≡ map (λ o. place c ps o.net) (outputs_of c) → map (slice_index vs) places ≡ output_values c s
   unfolding output_values
   outputs_read places e = ap (map (slice_index vs)) e ∙ outputs_valued (outputs_of c) (drivers_in c c.ports w.ports)
@@ -230,6 +233,7 @@ module _ (c : Circuit) (s : State) (w : IsWell c) (ps vs : List ℕ) (v : HasVal
   regs_valued [] f = refl
   regs_valued (r ∷ rs) f = ap₂ (λ x xs. x ∷ xs) (valued r.next (f 0 (omega arith))) (regs_valued rs (λ k l. f (suc k) (omega arith)))
 
+  -- what is read at the places of the registers' next values are the registers of the next cycle
   pub nexts_read : (places : List ℕ) → places ≡ map (λ r. place c ps r.next) c.regs → map (slice_index vs) places ≡ next_regs c s
   unfolding next_regs
   nexts_read places e = ap (map (slice_index vs)) e ∙ regs_valued c.regs (λ k l. (w.regs k l).next)

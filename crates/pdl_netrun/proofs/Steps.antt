@@ -35,6 +35,7 @@ cells_fit kind os first k o vs ws h e f =
     let q : Q o = subst Q (sym e) g in
     (q.0, let R : ℕ → Type 0 = λ j. StepsFit (steps_with kind (drop (k + 1) os)) j (after_kind kind o (first + k) vs ws) ws in subst R n q.1)
 
+-- past the last cell of a kind no step changes the values
 pub cells_all : (kind : CellKind) (os : List CellOperands) (first k : ℕ) (vs : List ℕ) (ws : List (List ℕ))
     → length os ≤ k → after_steps (steps_with kind (drop k os)) (first + k) vs ws ≡ vs
 cells_all kind os first k vs ws h = ap (λ l. after_steps (steps_with kind l) (first + k) vs ws) (drop_all k os h)
@@ -63,6 +64,7 @@ pub constants_stand : (os : List CellOperands) (at : ℕ) (vs : List ℕ) (ws : 
 constants_stand [] at vs ws = refl
 constants_stand (o ∷ os) at vs ws = constants_stand os (suc at) vs ws
 
+-- there are as many steps of a kind as cells of it
 pub with_length : (kind : CellKind) (os : List CellOperands) → length (steps_with kind os) ≡ length os
 with_length kind os = simp length-map
 
@@ -119,6 +121,7 @@ pub after_length : (xs : List Step) (at : ℕ) (vs : List ℕ) (ws : List (List 
 after_length [] at vs ws = refl
 after_length (x ∷ xs) at vs ws = after_length xs (suc at) (after_step x at vs ws) ws ∙ after_kind_length x.kind x.operands at vs ws
 
+-- past the last run no step changes the values
 pub runs_all : (rs : List CellRun) (k at : ℕ) (vs : List ℕ) (ws : List (List ℕ))
     → length rs ≤ k → after_steps (steps_of (drop k rs)) at vs ws ≡ vs
 runs_all rs k at vs ws h = ap (λ l. after_steps (steps_of l) at vs ws) (drop_all k rs h)
@@ -136,6 +139,7 @@ pub mapped_more : {X : Type 0} → (f : X → ℕ) (xs : List X) (ys : List ℕ)
 mapped_more f xs ys k v d e l m w =
     take-set_at ys k (k + 1) v refl m ∙ ap (λ (z : List ℕ). z ++ v ∷ []) e ∙ ap (λ n. map f (take k xs) ++ n ∷ []) w ∙ sym (map_more f xs k d l)
 
+-- past the last element, a list that was set place by place is the whole mapped list
 pub mapped_all : {X : Type 0} → (f : X → ℕ) (xs : List X) (ys : List ℕ) (k : ℕ)
     → take k ys ≡ map f (take k xs) → length xs ≤ k → length ys ≤ k → ys ≡ map f xs
 mapped_all f xs ys k e l m = sym (take_all k ys m) ∙ e ∙ ap (map f) (take_all k xs l)
@@ -150,6 +154,7 @@ writes_more ps k p vs ws h e =
     ap (λ q. after_all (drop (k + 1) ps) vs (after_write q vs ws)) e
     ∙ sym (ap (λ l. after_all l vs ws) (drop_more ps k p h))
 
+-- past the last write no array changes
 pub writes_all : (ps : List PlannedWrite) (k : ℕ) (vs : List ℕ) (ws : List (List ℕ)) → length ps ≤ k → after_all (drop k ps) vs ws ≡ ws
 writes_all ps k vs ws h = ap (λ l. after_all l vs ws) (drop_all k ps h)
 

@@ -201,6 +201,7 @@ module _ (c : Circuit) (s : State) (w : IsWell c) (t : Suits c s) (order ps : Li
   fits_own : FitsIn c (IsPlaced c ps at) (signal c) own_cell
   fits_own = fits_turn c ps (slice_index order j) at w turn
 
+  -- the step of the cell at this turn reads places that are there, with words as wide as its kind takes them to be
   pub step_fits : KindFits (step_of_cell c ps own_cell).kind (cell_operands c ps own_cell) vs s.arrays
   step_fits = fits_planned c s w t ps vs at (omega (arith, count, l)) v own_cell fits_own
 
@@ -230,9 +231,11 @@ module _ (c : Circuit) (s : State) (w : IsWell c) (t : Suits c s) (order ps : Li
       ap (slice_index new) e ∙ own ∙ ap (λ m. (signal c (CellNet m)).value s) i)
       (cases_lt (slice_index ps k) at)
 
+  -- after the step the list has the values of all nets up to its own place
   pub step_values : HasValues c ps s new (suc at)
   step_values = record { each = each_new }
 
+  -- the step leaves as many values as there were
   pub step_count : length new ≡ length vs
   step_count = after_kind_length (step_of_cell c ps own_cell).kind (cell_operands c ps own_cell) at vs s.arrays
 
@@ -245,6 +248,7 @@ module _ (c : Circuit) (s : State) (w : IsWell c) (t : Suits c s) (order ps : Li
       (λ (ne : slice_index ps k ≢ at). subst (λ (x : ℕ). IsHeld (cell_at c k) x) (sym (other (slice_index ps k) ne)) (f.each k h b))
       (cases_eq (slice_index ps k) at)
 
+  -- after the step the list still has the values of all constants
   pub step_constants : HasConstants c ps (length new) new
   step_constants = record { each = λ k h b. kept k h (omega (arith, b, step_count)) }
 

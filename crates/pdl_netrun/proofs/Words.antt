@@ -9,6 +9,7 @@ pub word_list : (arrays : List (Vec ℕ Global)) (m : ℕ) (v : Vec ℕ Global)
     → m < length arrays → v ≡ get_or arrays m v → get_or (array_words arrays) m [] ≡ v.items
 word_list arrays m v h e = get_or-map (λ (w : Vec ℕ Global). w.items) arrays m v [] h ∙ ap (λ (w : Vec ℕ Global). w.items) (sym e)
 
+-- there are as many lists of words as arrays
 pub count_lists : (arrays : List (Vec ℕ Global)) → length (array_words arrays) ≡ length arrays
 count_lists arrays = simp length-map
 

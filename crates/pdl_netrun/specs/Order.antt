@@ -80,6 +80,7 @@ AllEarly c ps n = (k : ℕ) → k < length c.cells → slice_index ps k < n
 abbrev pub order_circuit : CellOrder → Circuit
 order_circuit o = circuit_of o.net.now
 
+-- of a netlist whose cells are being put in order, the place of the first register, the next place and the order are right
 pub record IsOrderOf (o : CellOrder) : Type 0 where
   pub regs : o.regs ≡ length (inputs_of (order_circuit o))
   pub next : o.next ≡ first_place (order_circuit o) + length o.cells.items

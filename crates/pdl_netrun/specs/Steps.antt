@@ -26,6 +26,7 @@ reading_at a b = record { places = a ∷ b ∷ []; selector = 0; width = 0; high
 abbrev pub first_of : CellOperands → ℕ
 first_of o = slice_index o.places 0
 
+-- the place of the second word
 abbrev pub second_of : CellOperands → ℕ
 second_of o = slice_index o.places 1
 

@@ -23,6 +23,7 @@ whole n h rows cycles = cycles_from n h (schedule rows cycles)
 abbrev pub left : Netlist → Held → List ℕ → ℕ → ℕ → List Cycle
 left n h rows done cycles = cycles_from n h (replies_from rows (done + 1) (cycles - done))
 
+-- while cycles are left, these are the next one, with the reply bits of its row, and those that are left after it
 pub left_step : (n : Netlist) (h : Held) (rows : List ℕ) (done cycles : ℕ)
     → done < cycles
     → left n h rows done cycles

@@ -176,6 +176,7 @@ not_quiet before row i l m d =
 
 -- ---- the values before, port by port
 
+-- before the i-th port's value of a cycle is taken, the i-th value is the one before the cycle
 pub value_kept : (before row : List ℕ) (i : ℕ) → i < length row → get_or (take i row ++ drop i before) i 0 ≡ get_or before i 0
 value_kept before row i l =
     let n : length (take i row) ≡ i = length-take-le i row (omega (arith, l)) in

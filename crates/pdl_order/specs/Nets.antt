@@ -9,6 +9,7 @@ use Rattle.pdl_order.specs.declared.layout.OrderLayout.{OrderLayout}
 use Rattle.pdl_order.specs.Laws.{StepSignals}
 use Rattle.pdl_order.specs.Words.{sides_at}
 
+-- the word of ones, one for each thread inside, as its register holds it
 abbrev pub used_signal : OrderLayout → Signal
 used_signal l = reg_signal l.stages l.from
 
@@ -28,6 +29,7 @@ first_signal l = slice_signal 0 0 (sides_signal l)
 abbrev pub left_signal : OrderLayout → StepSignals → Signal → Signal
 left_signal l f g = mux_signal f.left (bin_signal Shr g (const_signal l.stages 1)) g
 
+-- the word of ones, without the oldest thread's where that leaves
 abbrev pub used_left : OrderLayout → StepSignals → Signal
 used_left l f = left_signal l f (used_signal l)
 

@@ -116,6 +116,7 @@ module _ {T : Type 0} (l : Members T) (stays : Stays l) (c : Circuit) (f : Form)
   KeepsIt g d =
       KeepsLaw l g (name_in g) (locks_in l g.pipe d n.locks) (views_of l n em) (gates_of l n em) (moves_of l n em) (sides_of l n em) d n.locks n.commits
 
+  -- the circuit keeps the law of a netlist, with the nets of the form that were emitted into it
   pub keeps_law : KeepsIt f c
   keeps_law =
       subst (λ (g : Form). KeepsIt g c) h.form_is

@@ -77,6 +77,7 @@ module _ {T : Type 0} (l : Members T) (stays : Stays l) (p : tree.Pipe) (n : Net
   }
 
   module _ (rules : KeepsRules p) (source : is_source p ≡ true) (named : is_named p ≡ true) where
+    -- the netlist follows the pipe, where that is accepted
     pub follows_made : Follows p n
     follows_made = follows p rules source named ls vs gates moves sides n made
 

@@ -173,6 +173,7 @@ module _ {T : Type 0} (l : Members T) (n : Nets T) (em : Emission l n) where
       ∙ em.layout.inputs)
       ∙ ap (λ (ps : List Port). reply_ports (name_in f) 0 p.mems ++ ps) (sym (ports_kept em.i em.d outs em.keeps there))
 
+  -- the arrays are those of the pipe's memories
   pub shapes_made : shapes_of em.d ≡ shapes_in f.names p.mems
   shapes_made =
       em.shapes

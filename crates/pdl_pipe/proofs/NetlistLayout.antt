@@ -82,9 +82,11 @@ module _ {T : Type 0} (l : Members T) (stays : Stays l) (a b s c : Circuit) (x :
   zero_now : Means c bits.zero zero_bit
   zero_now = (bits_keep a c bits keeps mem.are_bits).zero
 
+  -- the nets of the next tickets mean in the last circuit the next tickets of its locks
   pub next_now : signals_in c x.shared.now.next ≡ next_signals c xs
   next_now = ap (signals_in c) next_is ∙ next_are l c (line_pipe x) bits.zero zero_now xs
 
+  -- what all stages share stands in the last circuit
   pub shared_now : IsShared c (line_form x) x.shared.now
   shared_now = record {
     bits = subst (AreBits c) (sym same_bits) (bits_keep a c bits keeps mem.are_bits);
@@ -98,6 +100,7 @@ module _ {T : Type 0} (l : Members T) (stays : Stays l) (a b s c : Circuit) (x :
   module _ (orders : AreParts order_own (HasOrderOf b (line_pipe x)) (length a.regs) (length b.regs) rs (length (line_pipe x).stages))
       (staged : AreStaged s (line_form x) (next_signals b xs) (answers_in b x.shared.now.ports.now) (locks_in l (line_pipe x) b xs) x.stages.now)
       (count : length x.stages.now ≡ length (line_pipe x).stages) (apart : AreApart (length b.regs) (length s.regs) x.stages.now) where
+    -- the stages stand with their rows in the last circuit, by its tickets, answers and locks
     pub staged_now : AreStaged c (line_form x) (next_signals c xs) (answers_in c x.shared.now.ports.now) (locks_in l (line_pipe x) c xs) x.stages.now
     staged_now =
         let locked = locked_kept l a b (line_pipe x) xs (extends_keeps a b ab) stays mem.locked in
@@ -113,6 +116,7 @@ module _ {T : Type 0} (l : Members T) (stays : Stays l) (a b s c : Circuit) (x :
         (subst (λ ns. AreStaged c (line_form x) ns (answers_in c x.shared.now.ports.now) (locks_in l (line_pipe x) b xs) x.stages.now)
         (sym (next_same l b c ebc (line_pipe x) xs locked)) answered)
 
+    -- memories, ports, orders and stages stand in the last circuit, the registers of each kind after those of the one before
     pub layout : IsLayout l c x xs rs low mid (length b.regs)
     layout =
         let n = regs_grow a b (extends_keeps a b ab) in
@@ -181,6 +185,7 @@ module _ {T : Type 0} (l : Members T) (stays : Stays l) (a b s c : Circuit) (x :
             (subst (AreApart (length b.regs) (length s.regs)) (sym stages_are) apart),
       )
 
+  -- the nets of the line are there: its stages, and a net of 1 bit for each stage's move and removal
   pub line_in : IsLineIn c x
   line_in =
       line_there c c x (next_signals c xs) (answers_in c x.shared.now.ports.now) (locks_in l (line_pipe x) c xs)

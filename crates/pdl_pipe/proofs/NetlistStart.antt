@@ -60,9 +60,11 @@ module _ {T : Type 0} (l : Members T) (stays : Stays l) (a b c d : Circuit) (f :
   keeps_bd : Keeps b d
   keeps_bd = extends_keeps b d bd
 
+  -- what comes from the delayed memories is there in the circuit with the bits as it was in that of the inputs
   pub inputs_now : AreReplies a f.pipe ins (length f.pipe.mems) → AreReplies c f.pipe ins (length f.pipe.mems)
   inputs_now = replies_kept a c f.pipe ins (length f.pipe.mems) keeps_ac
 
+  -- memories with their locks, and the ports of those that are read delayed, stand in the last circuit
   pub memories_now : AreLocked l b f.pipe xs → AreLawful l b f.pipe xs → AreUnwritten b f.pipe → AreBits c bits
       → AreReplies a f.pipe ins (length f.pipe.mems) → AreReadDelayed f.pipe → ReadsLeadOn f.pipe
       → AreWhereRead f.pipe ins reads (length ins)

@@ -58,6 +58,7 @@ module _ (a b : Circuit) (e : Keeps a b) where
       else (if second == k then both z.answered one else one))
       (at_place a b e w r 0 (omega (arith, n)) h) (at_place a b e w r 1 (omega (arith, n)) h)
 
+  -- whether the thread of stage k awaits no answer of memory m is told by the same signal in both circuits
   pub memory_answered_same : (p : Pipe) (ports : List (Option PortRegs)) (k m : ℕ) → HasAnswers a p ports
       → memory_answered p (answers_in b ports) k m (reading p m) ≡ memory_answered p (answers_in a ports) k m (reading p m)
   memory_answered_same p ports k m h = at (reading p m) refl

@@ -50,6 +50,7 @@ BindsWide p x w m = (r : Reading) → reading p m ≡ Some r → r.var ≡ x →
 abbrev pub IsBit : Circuit → Net → Type 0
 IsBit c x = IsThere c x × ((signal c x).width ≡ 1)
 
+-- a net that is there with 1 bit, and is 1 just where this signal is
 pub record IsBitFor (c : Circuit) (x : Net) (f : Signal) : Type 0 where
   pub there : IsThere c x
   pub one : (signal c x).width ≡ 1

@@ -36,12 +36,15 @@ pub end_is : (c : Circuit) (f : Form) (es : List StageEnd) (k : ℕ) (e : StageE
 end_is c f es k e h low at = subst (IsEnd c f) (sym at) (each_get (IsEnd c f) es k e (omega (arith, low, h.count)) h.each)
 
 module _ (c : Circuit) (es : List StageEnd) (k : ℕ) (e : StageEnd) (low : k < length es) (at : e ≡ slice_index_or es k e) where
+  -- the view of number k is that of stage k's nets
   pub view_at : ends_in c es k ≡ view_in c e
   view_at = get_or-map (view_in c) es k e no_view low ∙ ap (view_in c) (sym at)
 
+  -- whether the thread of stage k moves is told by that stage's net
   pub move_at : signal c e.moves ≡ moves_in c es k
   move_at = ap (move_in c) at ∙ sym (get_or-map (move_in c) es k e no_signal low)
 
+  -- whether the thread of stage k is removed is told by that stage's net
   pub kill_at : signal c e.killed ≡ kills_in c es k
   kill_at = ap (kill_in c) at ∙ sym (get_or-map (kill_in c) es k e no_signal low)
 
@@ -72,16 +75,20 @@ module _ (a b : Circuit) (k : Keeps a b) (f : Form) where
     killed_one = ap (λ (g : Signal). g.width) (k.kept e.killed h.killed) ∙ h.killed_one;
   }
 
+  -- the nets of all stages after their statements are there in a circuit that keeps what stands in theirs
   pub ends_keep : (es : List StageEnd) → AreEnds a f es → AreEnds b f es
   ends_keep es h = record { count = h.count; each = each_weaker (IsEnd a f) (IsEnd b f) end_keeps es h.each }
 
+  -- all stages have the views that they had
   pub views_same : (es : List StageEnd) → AreEnds a f es → map (view_in b) es ≡ map (view_in a) es
   views_same es h =
       map_each (view_in b) (view_in a) (IsEnd a f) (λ e x. ap (λ (w : Parts). view_of (walk_of w)) (parts_keep a b k e.ended.now x.walk.there)) es h.each
 
+  -- whether their threads move is told by the signals that told it
   pub moves_same : (es : List StageEnd) → AreEnds a f es → map (move_in b) es ≡ map (move_in a) es
   moves_same es h = map_each (move_in b) (move_in a) (IsEnd a f) (λ e x. k.kept e.moves x.moves) es h.each
 
+  -- whether their threads are removed is told by the signals that told it
   pub kills_same : (es : List StageEnd) → AreEnds a f es → map (kill_in b) es ≡ map (kill_in a) es
   kills_same es h = map_each (kill_in b) (kill_in a) (IsEnd a f) (λ e x. k.kept e.killed x.killed) es h.each
 

@@ -99,6 +99,7 @@ order_some a c p f r merged fits fragment nets placed starts first = record {
 -- ---- orders stay
 
 module _ (a b : Circuit) (k : Keeps a b) where
+  -- a fork's order stays, with its laws
   pub order_stays : (p : Pipe) (f : ℕ) (r : OrderRegs) → IsOrder a p f r → IsOrder b p f r
   order_stays p f r x =
       let e = k.kept r.first x.nets.first_there in
@@ -120,5 +121,6 @@ module _ (a b : Circuit) (k : Keeps a b) where
         };
       }
 
+  -- that a fork has an order just where it is merged stays so
   pub has_order_stays : (p : Pipe) (f : ℕ) (o : Option OrderRegs) → HasOrderOf a p f o → HasOrderOf b p f o
   has_order_stays p f o h = record { some = h.some; order = λ r e. order_stays p f r (h.order r e) }

@@ -43,12 +43,15 @@ leave_more p vs moves f n i l =
 -- ---- the nets of a step
 
 module _ (a b : Circuit) (f : Form) (es : List StageEnd) (k : ℕ) (e : Keeps a b) (h : AreEnds a f es) where
+  -- whether the thread of stage k moves is told by the same signal while the circuit grows
   pub move_same : moves_in b es k ≡ moves_in a es k
   move_same = ap (λ ms. signal_at ms k) (moves_same a b e f es h)
 
+  -- stage k has the same view while the circuit grows
   pub view_same : ends_in b es k ≡ ends_in a es k
   view_same = ap (λ vs. slice_index_or vs k no_view) (views_same a b e f es h)
 
+  -- whether a thread leaves the fork of stage k is told by the same signal while the circuit grows
   pub leaves_same : leaves_fork f.pipe (ends_in b es) (moves_in b es) k (length f.pipe.stages) 0
       ≡ leaves_fork f.pipe (ends_in a es) (moves_in a es) k (length f.pipe.stages) 0
   leaves_same =
@@ -121,6 +124,7 @@ signals_same a b f es squash k e h t =
     ap₂ (λ vs ms. step_by f.pipe k vs ms (map (kill_in b) es) (signal b squash)) (views_same a b e f es h) (moves_same a b e f es h)
     ∙ ap₂ (step_by f.pipe k (map (view_in a) es) (map (move_in a) es)) (kills_same a b e f es h) (e.kept squash t)
 
+-- the law of an order's step holds on in a circuit that keeps what its registers take next
 pub law_kept : (r : OrderRegs) (n : ℕ) (a b : Circuit) (f : StepSignals) → OwnKept (own r) a b
     → StepLaw (stands r) n (own r) a f → StepLaw (stands r) n (own r) b f
 law_kept r n a b f k x = record { next = λ s t xs d st dr pr nx. x.next s t xs d st dr pr (next_kept (own r) a b s t k nx) }
@@ -145,6 +149,7 @@ module _ (a : Circuit) (f : Form) (es : List StageEnd) (squash : Net) (rs : List
       } in
       law_kept r (branch_stages f.pipe j) b c (order_signals a f.pipe es squash j) kept (x r g)
 
+  -- with the step of one order more, the orders of the first k + 1 stages keep their laws
   pub stepped_more : (b c : Circuit) (k : ℕ) → k < length f.pipe.stages → Keeps a b → ExtendsBut (own_at own rs k) b c
       → IsOrderStepped b c f.pipe es squash rs k → ((j : ℕ) → j < k → IsOrderStepped a b f.pipe es squash rs j)
       → (j : ℕ) → j < k + 1 → IsOrderStepped a c f.pipe es squash rs j

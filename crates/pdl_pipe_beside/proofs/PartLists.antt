@@ -21,6 +21,7 @@ module _ {T : Type 0} (own : T → Own) (A B : ℕ → Option T → Type 0) (low
   last : some_at (xs ++ o ∷ []) n ≡ o
   last = some_last xs o n h.count
 
+  -- with one part more, the first n + 1 parts have what they should, with registers that follow one another
   pub parts_more : AreParts own B low (length b.regs) (xs ++ o ∷ []) (n + 1)
   parts_more = record {
     count = length-append xs (o ∷ []) ∙ ap (λ k. k + 1) h.count;

@@ -89,6 +89,7 @@ port_some c p m r i input q is at x reply word = record {
 -- ---- inputs and ports stay
 
 module _ (a b : Circuit) (k : Keeps a b) where
+  -- the inputs of a delayed memory stay, with their widths
   pub input_keeps : (w : ℕ) (i : PortInput) → IsInput a w i → IsInput b w i
   input_keeps w i x = record {
     reply_there = k.there i.reply x.reply_there;
@@ -97,6 +98,7 @@ module _ (a b : Circuit) (k : Keeps a b) where
     word_wide = ap (λ (f : Signal). f.width) (k.kept i.word x.word_there) ∙ x.word_wide;
   }
 
+  -- the inputs of all memories that are read delayed stay
   pub inputs_keep : (p : Pipe) (xs : List (Option PortInput)) → AreInputs a p xs → AreInputs b p xs
   inputs_keep p xs h = record { count = h.count; some = h.some; each = λ m i e. input_keeps (mem_at p m).width i (h.each m i e) }
 
@@ -141,6 +143,7 @@ module _ (a b : Circuit) (k : Keeps a b) where
             ∙ x.answers.value s y g w st (replies_back q s g w e f rep) j l on;
       }
 
+  -- the port of a delayed read stays, with its laws
   pub port_stays : (p : Pipe) (m : ℕ) (r : Reading) (q : PortRegs) → IsPort a p m r q → IsPort b p m r q
   port_stays p m r q x = record {
     count = x.count;
@@ -152,6 +155,7 @@ module _ (a b : Circuit) (k : Keeps a b) where
     answers = laws_keep p m r q x;
   }
 
+  -- that a memory has a port with its inputs just where it is read delayed stays so
   pub has_port_stays : (p : Pipe) (inputs : List (Option PortInput)) (m : ℕ) (o : Option PortRegs) → has_port a p inputs m o → has_port b p inputs m o
   has_port_stays p inputs m o h = record { some = h.some; port = λ r q e f. port_stays p m r q (h.port r q e f); reply = h.reply; word = h.word }
 

@@ -66,6 +66,7 @@ module _ (a b c : Circuit) (p : Pipe) (es : List StageEnd) (qs : List (Option Po
       (grows.kept q.reply port.placed.reply_there) moves.same removed.same asked.same
       (subst (λ n. StepLaw (stands q) n (own q) c (step_signals b q x)) port.count law)
 
+  -- the port keeps the law of its step by what the stages do, where the nets of the step mean that
   pub some_stepped : IsPortStepped a c p es qs m
   some_stepped s z e f =
       let one : r ≡ s = cc (is, e) in
@@ -114,6 +115,7 @@ module _ (a : Circuit) (f : Form) (es : List StageEnd) (qs : List (Option PortRe
       } in
       law_kept (stands q) (length (places f.pipe r)) (own q) b c (port_signals a f.pipe es j r q) kept (x r q e g)
 
+  -- with the step of one port more, the ports of the first m + 1 memories keep their laws
   pub stepped_more : (b c : Circuit) (m : ℕ) → m < length f.pipe.mems → Keeps a b → ExtendsBut (own_at own qs m) b c
       → IsPortStepped b c f.pipe es qs m → ((j : ℕ) → j < m → IsPortStepped a b f.pipe es qs j) → (j : ℕ) → j < m + 1
       → IsPortStepped a c f.pipe es qs j

@@ -95,6 +95,7 @@ module _ (a c : Circuit) (p : Pipe) (es : List StageEnd) (m w : ℕ) (r : Readin
   view_is : view_in a e ≡ ends_in a es r.stage
   view_is = sym (view_at a es r.stage e low at)
 
+  -- the nets of a memory that is read delayed have the values of what the reading stage asks
   pub request_some : IsRequest a c p es m x
   request_some =
       let P : Option Reading → Type 0 = λ o. signal c x.enable ≡ (request_of (ends_in a es) (moves_in a es) m o).enable in

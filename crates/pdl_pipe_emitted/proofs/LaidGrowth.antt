@@ -34,66 +34,87 @@ module _ {T : Type 0} (l : Members T) (n : Nets T) (em : Emission l n) where
 
   -- ---- from circuit to circuit
 
+  -- the circuit with the moves keeps what the first circuit has
   pub keeps_ab : Keeps em.a em.b
   keeps_ab = extends_keeps em.a em.b em.to_moves
 
+  -- the circuit with the requests keeps what the one with the moves has
   pub keeps_bc : Keeps em.b em.c
   keeps_bc = extends_keeps em.b em.c em.to_requests
 
+  -- the circuit with the stages connected keeps what the one with the requests has
   pub keeps_ce : Keeps em.c em.e
   keeps_ce = but_keeps (regs_of em.high (length em.c.regs)) em.c em.e em.to_nexts
 
+  -- the circuit with the tails keeps what the one with the stages connected has
   pub keeps_ef : Keeps em.e em.f
   keeps_ef = extends_keeps em.e em.f em.to_tails
 
+  -- the circuit after the steps of the orders keeps what the one with the tails has
   pub keeps_fh : Keeps em.f em.h
   keeps_fh = keeps_trans em.f em.g em.h em.to_ports.keeps em.to_orders.keeps
 
+  -- the circuit after the steps of the locks keeps what the one after the steps of the orders has
   pub keeps_hi : Keeps em.h em.i
   keeps_hi = em.to_locks.keeps
 
+  -- the circuit with the requests keeps what the first circuit has
   pub keeps_ac : Keeps em.a em.c
   keeps_ac = keeps_trans em.a em.b em.c keeps_ab keeps_bc
 
+  -- the circuit with the stages connected keeps what the first circuit has
   pub keeps_ae : Keeps em.a em.e
   keeps_ae = keeps_trans em.a em.c em.e keeps_ac keeps_ce
 
+  -- the circuit with the tails keeps what the first circuit has
   pub keeps_af : Keeps em.a em.f
   keeps_af = keeps_trans em.a em.e em.f keeps_ae keeps_ef
 
+  -- the circuit after the steps of the ports keeps what the first circuit has
   pub keeps_ag : Keeps em.a em.g
   keeps_ag = keeps_trans em.a em.f em.g keeps_af em.to_ports.keeps
 
+  -- the circuit after the steps of the orders keeps what the first circuit has
   pub keeps_ah : Keeps em.a em.h
   keeps_ah = keeps_trans em.a em.g em.h keeps_ag em.to_orders.keeps
 
+  -- the circuit after the steps of the locks keeps what the first circuit has
   pub keeps_ai : Keeps em.a em.i
   keeps_ai = keeps_trans em.a em.h em.i keeps_ah keeps_hi
 
+  -- the last circuit keeps what the first circuit has
   pub keeps_ad : Keeps em.a em.d
   keeps_ad = keeps_trans em.a em.i em.d keeps_ai em.keeps
 
+  -- the circuit after the steps of the orders keeps what the one with the stages connected has
   pub keeps_eh : Keeps em.e em.h
   keeps_eh = keeps_trans em.e em.f em.h keeps_ef keeps_fh
 
+  -- the circuit after the steps of the orders keeps what the one with the requests has
   pub keeps_ch : Keeps em.c em.h
   keeps_ch = keeps_trans em.c em.e em.h keeps_ce keeps_eh
 
+  -- the circuit after the steps of the orders keeps what the one with the moves has
   pub keeps_bh : Keeps em.b em.h
   keeps_bh = keeps_trans em.b em.c em.h keeps_bc keeps_ch
 
+  -- the last circuit keeps what the one after the steps of the orders has
   pub keeps_hd : Keeps em.h em.d
   keeps_hd = keeps_trans em.h em.i em.d keeps_hi em.keeps
 
+  -- the last circuit keeps what the one with the stages connected has
   pub keeps_ed : Keeps em.e em.d
   keeps_ed = keeps_trans em.e em.h em.d keeps_eh keeps_hd
 
+  -- the last circuit keeps what the one with the tails has
   pub keeps_fd : Keeps em.f em.d
   keeps_fd = keeps_trans em.f em.h em.d keeps_fh keeps_hd
 
+  -- the last circuit keeps what the one with the requests has
   pub keeps_cd : Keeps em.c em.d
   keeps_cd = keeps_trans em.c em.h em.d keeps_ch keeps_hd
 
+  -- the last circuit keeps what the one with the moves has
   pub keeps_bd : Keeps em.b em.d
   keeps_bd = keeps_trans em.b em.c em.d keeps_bc keeps_cd
 

@@ -45,17 +45,21 @@ module _ {T : Type 0} (l : Members T) (stays : Stays l) (n : Nets T) (em : Emiss
 
   -- ---- they are what they were before the stages
 
+  -- the locks are in the last circuit what they were in the first
   pub locks_made : locks_in l p em.d n.locks ≡ ls
   locks_made = locks_same l em.a em.d (keeps_ad l n em) stays p n.locks em.layout.locked
 
+  -- each memory has its array and its lock in the last circuit
   pub locked_made : AreLocked l em.d p n.locks
   locked_made = locked_kept l em.a em.d p n.locks (keeps_ad l n em) stays em.layout.locked
 
+  -- the locks of all memories keep their laws in the last circuit
   pub lawful_made : AreLawful l em.d p n.locks
   lawful_made = laws_kept l em.a em.d p n.locks (keeps_ad l n em) em.layout.locked em.layout.lawful
 
   -- ---- their steps
 
+  -- each lock has made its step in the last circuit, by what the stages do to it
   pub stepped_made : AreStepped l em.d p (step_of p vs gates goes) n.locks n.commits (length p.mems)
   stepped_made = record {
     count = em.stepped.count;

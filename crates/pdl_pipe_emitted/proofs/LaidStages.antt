@@ -27,10 +27,12 @@ module _ {T : Type 0} (l : Members T) (n : Nets T) (em : Emission l n) where
         (locks_of l n em) em.high (length em.a.regs)
         em.layout.staged em.layout.apart (keeps_ac l n em) em.line (keeps_ce l n em) em.takes (keeps_ed l n em) well (stage_nexts l n em)
 
+    -- at the start stage 0 holds the first thread's arguments, and nothing is held
     pub begins_made : IsStart (line_pipe n.line) em.d (views_of l n em)
     begins_made =
         is_start em.a em.c em.d n.line (next_signals em.a n.locks) (answers_in em.a n.line.shared.now.ports.now) (locks_of l n em) em.can.begins made_line
 
+    -- stage k is as the law of a netlist asks, where its move is the one by the gates and the moves of later stages
     pub stage_made : (k : ℕ) → k < length (line_pipe n.line).stages
         → Same em.d (moves_of l n em k) (moves_where (line_pipe n.line) (views_of l n em) (gates_of l n em).gate (moves_of l n em) k)
         → IsStage (line_pipe n.line) (locks_of l n em) em.d (views_of l n em) (gates_of l n em) (moves_of l n em) k

@@ -12,6 +12,7 @@ module _ {T : Type 0} (l : Members T) (n : Nets T) (em : Emission l n) where
   valid_one : (k : ℕ) → k < length n.line.stages.now → (views_of l n em k).valid.width ≡ 1
   valid_one k low = let (s, is) = some_stage n.line.stages.now k low in ap (λ (v : View). v.valid.width) (view_at em.c n.line.stages.now k s low is)
 
+  -- whether each stage holds a thread, whether that moves, and whether there is a squash are bits
   pub bits_wide : AreBitsWide (views_of l n em) (gates_of l n em) (moves_of l n em) (length (line_pipe n.line).stages)
   bits_wide = record {
     stages = λ k low. (

@@ -36,66 +36,87 @@ module _ {T : Type 0} (l : Members T) (n : Nets T) (em : Emission l n) where
 
   -- ---- each circuit keeps what was there
 
+  -- the circuit with the moves keeps what the first circuit has
   pub keeps_ab : Keeps em.a em.b
   keeps_ab = extends_keeps em.a em.b em.to_moves
 
+  -- the circuit with the requests keeps what the one with the moves has
   pub keeps_bc : Keeps em.b em.c
   keeps_bc = extends_keeps em.b em.c em.to_requests
 
+  -- the circuit with the stages connected keeps what the one with the requests has
   pub keeps_ce : Keeps em.c em.e
   keeps_ce = but_keeps (regs_of em.high (length em.c.regs)) em.c em.e em.to_nexts
 
+  -- the circuit with the tails keeps what the one with the stages connected has
   pub keeps_ef : Keeps em.e em.f
   keeps_ef = extends_keeps em.e em.f em.to_tails
 
+  -- the circuit after the steps of the ports keeps what the one with the tails has
   pub keeps_fg : Keeps em.f em.g
   keeps_fg = em.to_ports.keeps
 
+  -- the circuit after the steps of the orders keeps what the one after the steps of the ports has
   pub keeps_gh : Keeps em.g em.h
   keeps_gh = em.to_orders.keeps
 
+  -- the last circuit keeps what the one after the steps of the orders has
   pub keeps_hd : Keeps em.h em.d
   keeps_hd = keeps_trans em.h em.i em.d em.to_locks.keeps em.keeps
 
+  -- the last circuit keeps what the one after the steps of the ports has
   pub keeps_gd : Keeps em.g em.d
   keeps_gd = keeps_trans em.g em.h em.d keeps_gh keeps_hd
 
+  -- the last circuit keeps what the one with the tails has
   pub keeps_fd : Keeps em.f em.d
   keeps_fd = keeps_trans em.f em.g em.d keeps_fg keeps_gd
 
+  -- the last circuit keeps what the one with the stages connected has
   pub keeps_ed : Keeps em.e em.d
   keeps_ed = keeps_trans em.e em.f em.d keeps_ef keeps_fd
 
+  -- the last circuit keeps what the one with the requests has
   pub keeps_cd : Keeps em.c em.d
   keeps_cd = keeps_trans em.c em.e em.d keeps_ce keeps_ed
 
+  -- the last circuit keeps what the one with the moves has
   pub keeps_bd : Keeps em.b em.d
   keeps_bd = keeps_trans em.b em.c em.d keeps_bc keeps_cd
 
+  -- the circuit with the requests keeps what the first circuit has
   pub keeps_ac : Keeps em.a em.c
   keeps_ac = keeps_trans em.a em.b em.c keeps_ab keeps_bc
 
+  -- the last circuit keeps what the first circuit has
   pub keeps_ad : Keeps em.a em.d
   keeps_ad = keeps_trans em.a em.b em.d keeps_ab keeps_bd
 
+  -- the circuit with the stages connected keeps what the first circuit has
   pub keeps_ae : Keeps em.a em.e
   keeps_ae = keeps_trans em.a em.c em.e keeps_ac keeps_ce
 
+  -- the circuit with the tails keeps what the one with the requests has
   pub keeps_cf : Keeps em.c em.f
   keeps_cf = keeps_trans em.c em.e em.f keeps_ce keeps_ef
 
+  -- the circuit with the tails keeps what the first circuit has
   pub keeps_af : Keeps em.a em.f
   keeps_af = keeps_trans em.a em.e em.f keeps_ae keeps_ef
 
+  -- the circuit after the steps of the ports keeps what the first circuit has
   pub keeps_ag : Keeps em.a em.g
   keeps_ag = keeps_trans em.a em.f em.g keeps_af keeps_fg
 
+  -- the circuit after the steps of the ports keeps what the one with the requests has
   pub keeps_cg : Keeps em.c em.g
   keeps_cg = keeps_trans em.c em.f em.g keeps_cf keeps_fg
 
+  -- the circuit with the tails keeps what the one with the moves has
   pub keeps_bf : Keeps em.b em.f
   keeps_bf = keeps_trans em.b em.c em.f keeps_bc keeps_cf
 
+  -- the circuit after the steps of the ports keeps what the one with the moves has
   pub keeps_bg : Keeps em.b em.g
   keeps_bg = keeps_trans em.b em.f em.g keeps_bf keeps_fg
 
@@ -139,6 +160,7 @@ module _ {T : Type 0} (l : Members T) (n : Nets T) (em : Emission l n) where
 
   -- ---- ports and orders keep what their registers take next
 
+  -- what the registers of a memory's port take next stays as it is once the ports have their steps
   pub port_kept : (m : ℕ) (q : PortRegs) → m < length p.mems → some_at n.line.shared.now.ports.now m ≡ Some q
       → HasOwn em.a (port_laws.own q) → OwnKept (port_laws.own q) em.g em.d
   port_kept m q k e own =
@@ -151,6 +173,7 @@ module _ {T : Type 0} (l : Members T) (n : Nets T) (em : Emission l n) where
         writes = λ i from to. absurd (omega (arith, to));
       }
 
+  -- what the registers of a fork's order take next stays as it is once the orders have their steps
   pub order_kept : (i : ℕ) (q : OrderRegs) → i < length p.stages → some_at n.orders i ≡ Some q
       → HasOwn em.a (order_laws.own q) → OwnKept (order_laws.own q) em.h em.d
   order_kept i q k e own =

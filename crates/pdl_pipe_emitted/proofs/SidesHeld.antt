@@ -12,6 +12,7 @@ use Rattle.pdl_pipe_emitted.proofs.SidesPorts.{ports_are, orders_are}
 use Rattle.pdl_pipe_emitted.proofs.SidesRemoved.{removals_are, tails_are}
 
 module _ {T : Type 0} (l : Members T) (n : Nets T) (em : Emission l n) where
+  -- ports, orders, squashes and cuts are as the law asks, and the stages take their answers and go by their gates
   pub has_sides : HasSides (line_pipe n.line) (locks_of l n em) em.d (views_of l n em) (gates_of l n em) (moves_of l n em) (sides_of l n em)
   has_sides = record {
     begun = begun_is l n em;

@@ -62,6 +62,7 @@ module _ {T : Type 0} (l : Members T) (n : Nets T) (em : Emission l n) where
       let answers = answers_in em.a n.line.shared.now.ports.now in
       made_views_same (line_form n.line) (next_signals em.a n.locks) answers (locks_in l p em.a n.locks) n.line.stages.now em.a y keeps em.layout.staged
 
+  -- the stages have the same views before the requests as after them
   pub views_first : line_views em.b n.line ≡ vs
   views_first = views_from em.b (keeps_ab l n em) ∙ sym (views_from em.c (keeps_ac l n em))
 
@@ -81,6 +82,7 @@ module _ {T : Type 0} (l : Members T) (n : Nets T) (em : Emission l n) where
       (subst (λ (ms : ℕ → Signal). SquashLaw (squash_of (line_views em.b n.line) ms v) squash (line_kills em.c n.line) clear) (fun_ext (moves_first l n em))
       (subst (λ (ks : ℕ → Signal). SquashLaw (squash_of (line_views em.b n.line) first v) squash ks clear) (fun_ext kills_first) (em.moved.law v is)))
 
+  -- the verifying stage's squash keeps its law, without such a stage there is none, and from it on no thread is removed
   pub removals_are : HasRemovals p em.d vs gates moves sides
   removals_are = record {
     law = removes;
@@ -110,6 +112,7 @@ module _ {T : Type 0} (l : Members T) (n : Nets T) (em : Emission l n) where
         law = law.1;
       }
 
+  -- a squash of the stage that verifies cuts each lock where the law asks for it
   pub tails_are : (v : ℕ) → verify_stage p.stmts ≡ Some v → HasTails p ls em.d vs gates moves sides v
   tails_are v is =
       let line = line_keep em.c em.e n.line (keeps_ce l n em) em.line in

@@ -54,6 +54,7 @@ use Rattle.pdl_pipe_line.specs.MadeLine.{BeginsFirst}
 
 -- ---- what is asked of a form
 
+-- a form of which all nets can be made: typed statements, stages that lead on and inside the pipe, and forks that fit their orders
 pub record CanEmit (f : Form) : Type 0 where
   pub typed : IsTypedForm f
   pub walked : AreWalked f f.pipe.stmts
@@ -105,6 +106,7 @@ pub record IsLayout {T : Type 0} (l : Members T) (a : Circuit) (x : StageLine) (
 
 -- ---- all nets
 
+-- the nets of a pipe: locks, orders, the line of stages, moves, requests and tails, and by stages and memories what steps go by
 pub record Nets (T : Type 0) : Type 0 where
   pub locks : List (Option (MemLock T))
   pub orders : List (Option OrderRegs)
@@ -123,6 +125,7 @@ pub record AreEndsOf (x : StageLine) (es : List StageEnd) : Type 0 where
   pub moves : (k : ℕ) (y : Net) (e : StageEnd) → k < length es → slice_index_or x.moves.now k y ≡ y → slice_index_or es k e ≡ e → e.moves ≡ y
   pub killed : (k : ℕ) (y : Net) (e : StageEnd) → k < length es → slice_index_or x.kills.now k y ≡ y → slice_index_or es k e ≡ e → e.killed ≡ y
 
+-- what each stage does to the locks is given by its walk's end, its tickets and its move
 pub record AreDeedsOf (x : StageLine) (ds : List StageDeeds) : Type 0 where
   pub count : length ds ≡ length x.stages.now
   pub ended : (k : ℕ) (s : StageNets) (d : StageDeeds) → k < length ds → IsAt x.stages.now k s → slice_index_or ds k d ≡ d → d.ended.now ≡ s.end
@@ -177,12 +180,15 @@ pub record Emission {T : Type 0} (l : Members T) (n : Nets T) : Type 0 where
 -- ---- as the law of a netlist sees it
 
 module _ {T : Type 0} (l : Members T) (n : Nets T) (em : Emission l n) where
+  -- the locks, by the circuit in which they were laid out
   abbrev pub locks_of : Locks
   locks_of = locks_in l (line_pipe n.line) em.a n.locks
 
+  -- the views of the stages, by the circuit with the requests
   abbrev pub views_of : ℕ → View
   views_of = line_views em.c n.line
 
+  -- whether the threads of the stages move, by the circuit with the requests
   abbrev pub moves_of : ℕ → Signal
   moves_of = line_moves em.c n.line
 
@@ -191,9 +197,11 @@ module _ {T : Type 0} (l : Members T) (n : Nets T) (em : Emission l n) where
   free_of None m = one
   free_of (Some r) m = signal_at (signals_in em.b (frees_at n.moves.frees.items r.stage)) m
 
+  -- whether stage k is clear for a barrier, by the circuit with the moves
   abbrev pub clear_of : ℕ → Signal
   clear_of k = signal_at (signals_in em.b n.moves.clear.items) k
 
+  -- what stands beside the stages: the ports and the orders, which stages are clear, and where the locks are cut
   abbrev pub sides_of : Sides
   sides_of =
       sides_in em.d n.line.shared.now.ports.now (inputs_of (line_pipe n.line))

@@ -18,6 +18,7 @@ signals_in c xs = map (signal c) xs
 abbrev pub signal_at : List Signal → ℕ → Signal
 signal_at fs x = slice_index_or fs x no_signal
 
+-- the width of a signal
 abbrev pub width_of_signal : Signal → ℕ
 width_of_signal f = f.width
 

@@ -58,5 +58,6 @@ module _ (p : Pipe) (begins : BeginsFirst p) where
   some_none x zero m = refl
   some_none x (suc n) m = ap₂ (λ a b. a || b) (one_none x (reading p m)) (some_none x n (suc m))
 
+  -- no answer comes for a variable in the first stage
   pub first_unanswered : (x : ℕ) → gets_answer p 0 x ≡ false
   first_unanswered x = some_none x (length p.mems) 0

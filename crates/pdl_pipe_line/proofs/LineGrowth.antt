@@ -41,6 +41,7 @@ module _ (f : Form) (nexts : List Signal) (answers : ℕ → ℕ → AnswerSigna
   stage_is : (a : Circuit) (k : ℕ) (s : StageNets) → IsStaged a f nexts answers ls ss k s → IsStageNow a f nexts k s
   stage_is a k s h = record { registers = h.registers; own = h.own; nets = h.nets; walk = h.walk }
 
+  -- stages that stand with their rows are there as they end, with their tickets
   pub are_ended : (a : Circuit) → AreStaged a f nexts answers ls ss → AreEnded a f nexts ss
   are_ended a all = each_stage (IsEnded a f nexts) ss (λ k s l is. stage_now a f nexts k s (stage_is a k s (all k s l is)))
 
@@ -121,14 +122,18 @@ line_made a c e d x nexts answers ls low high staged apart ac line ce takes ed w
 
 module _ (a c d : Circuit) (x : StageLine) (nexts : List Signal) (answers : ℕ → ℕ → AnswerSignals) (ls : Locks)
     (made : IsLineMade a c d x nexts answers ls) where
+  -- the stages have in the circuit of their connection the views with which they were made
   pub views_before : line_views c x ≡ line_views a x
   views_before = made_views_same (line_form x) nexts answers ls x.stages.now a c made.before made.staged
 
+  -- the stages have in the later circuit the views that they had when they were connected
   pub views_after : line_views d x ≡ line_views c x
   views_after = views_same c d x made.after made.line
 
+  -- whether threads move is told in the later circuit by the signals of the connection
   pub moves_after : line_moves d x ≡ line_moves c x
   moves_after = all_moves_same c d x made.after made.line
 
+  -- whether threads are removed is told in the later circuit by the signals of the connection
   pub kills_after : line_kills d x ≡ line_kills c x
   kills_after = all_kills_same c d x made.after made.line

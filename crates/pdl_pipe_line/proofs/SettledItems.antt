@@ -107,6 +107,7 @@ module _ (p : Pipe) (vs : ℕ → View) (moves : ℕ → Signal) where
   ways_bring q [] i w v g e h = tt
   ways_bring q (j ∷ js) i w v g e h = (way_brings q j i w v (h.0 ∙ e), ways_bring q js i w v g e h.1)
 
+  -- in a later stage, an item with which all come as one constant stays that constant
   pub common_stays : (c : Circuit) (k : ℕ) (i : Item) (f : Signal) → IsCommon p vs (suc k) i f
       → Becomes c f (first_coming (comer_item i) (comers p vs moves (suc k)) f)
   common_stays c k i f h =
@@ -115,6 +116,7 @@ module _ (p : Pipe) (vs : ℕ → View) (moves : ℕ → Signal) where
       (constant_stays c (comer_item i) const.0 const.1 f (map (out_of p vs moves (suc k)) (ways p (suc k))) const.2
       (ways_bring (suc k) (ways p (suc k)) i const.0 const.1 f const.2 h.same))
 
+  -- in any stage, what is settled stays so, whoever comes into it
   pub settled_stays : (c : Circuit) → ((j : ℕ) → j < length p.stages → AreShort (length p.start) (vs j).ended.births) → (k : ℕ) (i : Item) (f : Signal)
       → IsSettled p vs k i f → Becomes c f (first_coming (comer_item i) (comers p vs moves k) f)
   settled_stays c short zero i f h = zero_stays c short i f h

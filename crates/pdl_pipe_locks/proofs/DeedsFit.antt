@@ -92,6 +92,7 @@ views_have c P (d ∷ ds) zero n h = h.0
 views_have c P (d ∷ ds) (suc k) n h = views_have c P ds k n h.1
 
 module _ {T : Type 0} (l : Members T) (c : Circuit) (p : Pipe) (ws : List ℕ) (xs : List (Option (MemLock T))) where
+  -- what one stage brings for the lock of memory m is there, with its ticket
   pub given_of : (m : ℕ) (d : StageDeeds) → m < length xs → IsDeed l c p ws xs d → IsGiven c m d
   given_of m d low h = record {
     moves = h.moves;
@@ -103,6 +104,7 @@ module _ {T : Type 0} (l : Members T) (c : Circuit) (p : Pipe) (ws : List ℕ) (
     tickets = h.tickets.there;
   }
 
+  -- what all stages bring for the lock of memory m is there, with their tickets
   pub all_given : (m : ℕ) (ds : List StageDeeds) → m < length xs → Each (IsDeed l c p ws xs) ds → Each (IsGiven c m) ds
   all_given m [] low h = tt
   all_given m (d ∷ ds) low h = (given_of m d low h.0, all_given m ds low h.1)
@@ -122,6 +124,7 @@ module _ {T : Type 0} (l : Members T) (c : Circuit) (p : Pipe) (ws : List ℕ) (
     views_put m x f ds low e h.1,
   )
 
+  -- what the stages do to a memory's lock has the widths that the lock takes
   pub signals_fit : (m : ℕ) (x : MemLock T) (ds : List StageDeeds) → m < length xs → some_at xs m ≡ Some x
       → IsLockIn l c (comb_place p m) (mem_at p m) x → Each (IsDeed l c p ws xs) ds → (squash : Net) (tails : List Net)
       → AreSquashNets l c xs squash tails

@@ -105,6 +105,7 @@ module _ {T : Type 0} (l : Members T) (stays : Stays l) (p : Pipe) (xs : List (O
       } in
       subst (λ (o : Own). GoesOn p ls c vs gates goes o (commits_in c ns m) m) own_is made
 
+  -- the lock of a memory has in the whole netlist what a cycle rests on
   pub goes_on : is_locked p m ≡ true → GoesOn p (locks_in l p a xs) c vs gates goes (own_of (some_at xs m)) (commits_in c ns m) m
   goes_on h =
       let (x, e) = some_of (some_at xs m) (locked.locked m low ∙ h) in
@@ -128,6 +129,7 @@ module _ {T : Type 0} (l : Members T) (stays : Stays l) (p : Pipe) (xs : List (O
       let P : (State → LockState → Type 0) → Type 0 = λ st. st t (start image) in
       subst P stands (law.start.starts t image reset_here (long ∙ sym it.bits) image_here)
 
+  -- with its registers at reset, and the image in its array where it has one, a memory's lock stands for the lock at its start
   pub starts : is_locked p m ≡ true → (t : State) (image : List ℕ)
       → IsReset c (own_of (some_at xs m)).from (own_of (some_at xs m)).to t → length image ≡ (mem_at p m).depth
       → ((mem_at p m).delayed ≡ false → HasImage ((locks_in l p a xs).kind m) (Some (comb_place p m)) t image) → (locks_in l p a xs).stands m t (start image)
@@ -164,6 +166,7 @@ module _ {T : Type 0} (l : Members T) (stays : Stays l) (p : Pipe) (xs : List (O
       let here : P (commit_of c (Some n)) = (one, reach, wide) in
       subst P (ap (commit_of c) (sym q)) here
 
+  -- the condition of a memory's commit has 1 bit, its address reaches each word and no more, and its value has a word's width
   pub commit_fits : is_locked p m ≡ true
       → ((commits_in c ns m).enable.width ≡ 1) × (2 ^ (commits_in c ns m).addr.width ≡ (mem_at p m).depth)
       × ((commits_in c ns m).value.width ≡ (mem_at p m).width)

@@ -61,6 +61,7 @@ stepped_not l c mem f o e = record { has = sym (ap is_some e); lock = λ y z g q
 
 -- ---- what is kept of a step
 
+-- the law of a lock's step holds on where its registers and its array take next what they took, for the same commit signals
 pub law_kept : (stands : State → LockState → Type 0) (size tickets : ℕ) (o : Own) (a b : Circuit) (f : StepSignals)
     (commit addr value commit' addr' value' : Signal)
     → OwnKept o a b → commit' ≡ commit → addr' ≡ addr → value' ≡ value
@@ -146,6 +147,7 @@ module _ {T : Type 0} (l : Members T) (a : Circuit) (p : Pipe) (xs : List (Optio
           outside_place (mem_at p m) (comb_place p m) y.regs.array (locked.locks m y low f).array (comb_place p j)
           (λ u. inl (place_below p j m h (omega (arith, low)) once))
 
+  -- an earlier lock keeps what its registers and its array take next while a later lock makes its step
   pub own_apart : (j m : ℕ) (x : MemLock T) (b c : Circuit) → j < m → m < length p.mems → some_at xs j ≡ Some x
       → Keeps a b → ExtendsBut (own_of (some_at xs m)) b c → OwnKept (own x.regs) b c
   own_apart j m x b c h low e k d =
@@ -173,9 +175,11 @@ module _ {T : Type 0} (l : Members T) (a : Circuit) (p : Pipe) (xs : List (Optio
     lock = λ x z e q. stepped_kept l b c (mem_at p j) f x z (but_keeps (own_of (some_at xs m)) b c d) (own_apart j m x b c h low e k d) (y.lock x z e q);
   }
 
+  -- before the first step no memory has made one
   pub stepped_none : (f : ℕ → StepSignals) → AreStepped l a p f xs [] 0
   stepped_none f = record { count = refl; each = λ m h. absurd (omega (arith, h)) }
 
+  -- with the step of one memory more, the first m + 1 memories have made theirs
   pub stepped_more : (m : ℕ) (b c : Circuit) (f : ℕ → StepSignals) (g : StepSignals) (ns : List (Option LockNets)) (n : Option LockNets)
       → m < length p.mems → g ≡ f m → Keeps a b → ExtendsBut (own_of (some_at xs m)) b c
       → IsSteppedMemory l c (mem_at p m) g (some_at xs m) n → AreStepped l b p f xs ns m → AreStepped l c p f xs (ns ++ n ∷ []) (m + 1)

@@ -76,6 +76,7 @@ served_at {T} suits l f ls i name mem o s low a b e =
 
 -- ---- the first i memories
 
+-- a lock that was made for a memory: its laws, its kind and size, and registers after those that were there
 pub record IsMadeLock {T : Type 0} (l : Members T) (a c : Circuit) (i : ℕ) (mem : Mem) (x : MemLock T) : Type 0 where
   pub is_in : IsLockIn l c i mem x
   pub laws : IsLawfulLock l c x
@@ -89,11 +90,13 @@ pub record IsMadeArray (c : Circuit) (i : ℕ) (mem : Mem) : Type 0 where
   pub deep : array_depth c i ≡ words_in mem.lock mem.depth
   pub unwritten : write_signals c i ≡ []
 
+-- a memory that was made: its array where it answers at once, and a lock where it should have one
 pub record IsMadeMemory {T : Type 0} (l : Members T) (a c : Circuit) (i : ℕ) (mem : Mem) (o : Option (MemLock T)) : Type 0 where
   pub array : mem.delayed ≡ false → IsMadeArray c i mem
   pub locked : is_some o ≡ has_lock mem.lock
   pub lock : (x : MemLock T) → o ≡ Some x → IsMadeLock l a c i mem x
 
+-- the first i memories were made: arrays in their order, and the registers of each lock after those of the earlier ones
 pub record AreMadeTo {T : Type 0} (l : Members T) (a c : Circuit) (names : List (List ℕ)) (p : Pipe) (xs : List (Option (MemLock T))) (i : ℕ) : Type 0 where
   pub count : length xs ≡ i
   pub arrays : length c.arrays ≡ comb_place p i
@@ -214,6 +217,7 @@ module _ {T : Type 0} (l : Members T) (stays : Stays l) (a b c : Circuit) (names
       let begins = (new.lock y (sym here ∙ f)).above in
       omega (arith, ends, begins)
 
+  -- with one memory more, the first i + 1 memories are made
   pub made_more : AreMadeTo l a c names p (xs ++ o ∷ []) (i + 1)
   made_more = record {
     count = length-append xs (o ∷ []) ∙ ap (λ n. n + 1) h.count;
@@ -240,12 +244,14 @@ module _ {T : Type 0} (l : Members T) (a c : Circuit) (names : List (List ℕ)) 
       let ms : drop i p.mems ≡ [] = drop_all i p.mems (omega (arith, all)) in
       sym (append-nil h.added) ∙ ap (λ ys. h.added ++ ys) (sym (ap₂ shapes_in ns ms)) ∙ h.whole
 
+  -- where all memories are made, the circuit has grown by their arrays
   pub all_extends : ExtendsArrays a c (shapes_in names p.mems)
   all_extends = subst (λ (fs : List Shape). ExtendsArrays a c fs) added_all h.extends
 
   made : (m : ℕ) → m < length p.mems → IsMadeMemory l a c (comb_place p m) (mem_at p m) (some_at xs m)
   made m k = h.each m (omega (arith, k, all))
 
+  -- where all memories are made, each has its array and its lock
   pub all_locked : AreLocked l c p xs
   all_locked = record {
     count = h.count ∙ all;
@@ -256,6 +262,7 @@ module _ {T : Type 0} (l : Members T) (a c : Circuit) (names : List (List ℕ)) 
     depth = λ m k e once. ((made m k).array once).deep ∙ words_plain (mem_at p m).lock (mem_at p m).depth e;
   }
 
+  -- where all memories are made, their locks keep their laws
   pub all_lawful : AreLawful l c p xs
   all_lawful = record {
     laws = λ m x k e. ((made m k).lock x e).laws;
@@ -267,8 +274,10 @@ module _ {T : Type 0} (l : Members T) (a c : Circuit) (names : List (List ℕ)) 
     apart = λ m n x y q k e f. h.apart n (omega (arith, k, all)) m x y q e f;
   }
 
+  -- where all memories are made, no port writes their arrays
   pub all_unwritten : AreUnwritten c p
   all_unwritten m k once = ((made m k).array once).unwritten
 
+  -- where all memories are made, the registers of each lock come after those that were there before
   pub all_above : (m : ℕ) (x : MemLock T) → m < length p.mems → some_at xs m ≡ Some x → length a.regs ≤ first_reg x.regs
   all_above m x k e = ((made m k).lock x e).above

@@ -20,6 +20,7 @@ use Rattle.pdl_pipe_locks.proofs.Places.{some_place}
 
 -- ---- arrays by their shapes
 
+-- a circuit has as many arrays as shapes of arrays
 pub array_count : (c : Circuit) → length c.arrays ≡ length (shapes_of c)
 unfolding shapes_of
 array_count c = sym (length-map c.arrays shape_of)
@@ -63,12 +64,15 @@ module _ (b c : Circuit) (x : Shape) (e : ExtendsArrays b c (x ∷ [])) where
   new_in : length b.arrays < length (shapes_of c)
   new_in = omega (arith, array_count b, ap length e.shapes, length-append (shapes_of b) (x ∷ []))
 
+  -- the new array is there, after those that were
   pub new_there : HasArray c (length b.arrays)
   new_there = there_by_shape c (length b.arrays) new_in
 
+  -- the new array has the width of its shape
   pub new_width : array_width c (length b.arrays) ≡ x.width
   new_width = width_by_shape c (length b.arrays) x new_in ∙ ap (λ (s : Shape). s.width) new_shape
 
+  -- the new array has the depth of its shape
   pub new_depth : array_depth c (length b.arrays) ≡ x.depth
   new_depth = depth_by_shape c (length b.arrays) x new_in ∙ ap (λ (s : Shape). s.depth) new_shape
 

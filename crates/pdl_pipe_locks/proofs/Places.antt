@@ -54,6 +54,7 @@ module _ (mem : Mem) (i : ℕ) (o : Option ℕ) (is : o ≡ array_of mem i) wher
   by_delay : (b : Bool) → mem.delayed ≡ b → o ≡ (if b then None else Some i)
   by_delay b e = is ∙ ap (λ (b : Bool). if b then None else Some i) e
 
+  -- the lock of a memory that answers at once has the array of the memory's place
   pub some_place : mem.delayed ≡ false → o ≡ Some i
   some_place e = by_delay false e
 
@@ -68,12 +69,14 @@ module _ (mem : Mem) (i : ℕ) (o : Option ℕ) (is : o ≡ array_of mem i) wher
           let h : n < i + 1 = subst (λ z. n < end_array z) (by_delay false e) hi in
           (e, omega (arith, l, h))
 
+  -- where the lock has an array, the memory answers at once and the array is that of its place
   pub at_place : (j : ℕ) → o ≡ Some j → (mem.delayed ≡ false) × (j ≡ i)
   at_place j e =
       let l : first_array o ≤ j = subst (λ z. first_array z ≤ j) (sym e) (omega arith) in
       let h : j < end_array o = subst (λ z. j < end_array z) (sym e) (omega arith) in
       own_place j l h
 
+  -- what is outside the memory's array, where it has one, is outside the lock's
   pub outside_place : (n : ℕ) → (mem.delayed ≡ false → Outside i (i + 1) n) → Outside (first_array o) (end_array o) n
   outside_place n h = by mem.delayed refl
     where
@@ -81,6 +84,7 @@ module _ (mem : Mem) (i : ℕ) (o : Option ℕ) (is : o ≡ array_of mem i) wher
       by true e = subst (λ z. Outside (first_array z) (end_array z) n) (sym (by_delay true e)) (inr (omega arith))
       by false e = subst (λ z. Outside (first_array z) (end_array z) n) (sym (by_delay false e)) (h e)
 
+  -- where no port writes the memory's array, none writes the lock's
   pub unwritten_place : (c : Circuit) → (mem.delayed ≡ false → write_signals c i ≡ []) → HasNoPorts o c
   unwritten_place c h = by mem.delayed refl
     where
@@ -88,6 +92,7 @@ module _ (mem : Mem) (i : ℕ) (o : Option ℕ) (is : o ≡ array_of mem i) wher
       by true e = subst (λ z. HasNoPorts z c) (sym (by_delay true e)) tt
       by false e = subst (λ z. HasNoPorts z c) (sym (by_delay false e)) (h e)
 
+  -- where the memory's array has an image in front, the lock's has it
   pub image_place : (k : LockKind) (s : State) (image : List ℕ) → (mem.delayed ≡ false → HasImage k (Some i) s image) → HasImage k o s image
   image_place k s image h = by mem.delayed refl
     where

@@ -32,9 +32,11 @@ module _ (a b : Circuit) (k : Keeps a b) where
   reserve_same : (q : ReservePort) → IsThereReserve a q → reserve_signal b q ≡ reserve_signal a q
   reserve_same q t = ap₂ (λ f g. record { enable = enabled_reserve q.kind f; addr = g }) (k.kept q.enable t.enable) (k.kept q.addr t.addr)
 
+  -- ports that reserve stay there
   pub reserves_kept : (ps : List ReservePort) → Each (IsThereReserve a) ps → Each (IsThereReserve b) ps
   reserves_kept ps t = each_weaker (IsThereReserve a) (IsThereReserve b) reserve_kept ps t
 
+  -- ports that reserve mean what they meant
   pub reserves_same : (ps : List ReservePort) → Each (IsThereReserve a) ps → map (reserve_signal b) ps ≡ map (reserve_signal a) ps
   reserves_same ps t = map_each (reserve_signal b) (reserve_signal a) (IsThereReserve a) reserve_same ps t
 
@@ -44,15 +46,19 @@ module _ (a b : Circuit) (k : Keeps a b) where
   write_same : (q : TicketWrite) → IsThereWrite a q → ticket_signal b q ≡ ticket_signal a q
   write_same q t = cc (k.kept q.enable t.enable, k.kept q.ticket t.ticket, k.kept q.value t.value)
 
+  -- ports that write stay there
   pub writes_kept : (ps : List TicketWrite) → Each (IsThereWrite a) ps → Each (IsThereWrite b) ps
   writes_kept ps t = each_weaker (IsThereWrite a) (IsThereWrite b) write_kept ps t
 
+  -- ports that write mean what they meant
   pub writes_same : (ps : List TicketWrite) → Each (IsThereWrite a) ps → map (ticket_signal b) ps ≡ map (ticket_signal a) ps
   writes_same ps t = map_each (ticket_signal b) (ticket_signal a) (IsThereWrite a) write_same ps t
 
+  -- ports that reserve stay there and mean the same signals
   pub are_reserves_kept : (ps : List ReservePort) (fs : List ReserveSignal) → AreReserves a ps fs → AreReserves b ps fs
   are_reserves_kept ps fs h = record { there = reserves_kept ps h.there; same = reserves_same ps h.there ∙ h.same }
 
+  -- ports that write stay there and mean the same signals
   pub are_writes_kept : (ps : List TicketWrite) (fs : List TicketSignal) → AreWrites a ps fs → AreWrites b ps fs
   are_writes_kept ps fs h = record { there = writes_kept ps h.there; same = writes_same ps h.there ∙ h.same }
 
@@ -60,9 +66,11 @@ module _ (a b : Circuit) (k : Keeps a b) where
   given_reserve : (r : ReserveNet) → IsGivenReserve a r → IsGivenReserve b r
   given_reserve r g = record { on = k.there r.on g.on; one = ap (λ (f : Signal). f.width) (k.kept r.on g.on) ∙ g.one; addr = k.there r.addr g.addr }
 
+  -- its reservations stay there, with conditions of 1 bit
   pub given_reserves : (rs : List ReserveNet) → Each (IsGivenReserve a) rs → Each (IsGivenReserve b) rs
   given_reserves rs g = each_weaker (IsGivenReserve a) (IsGivenReserve b) given_reserve rs g
 
+  -- its reservations mean what they meant
   pub reservations_same : (rs : List ReserveNet) → Each (IsGivenReserve a) rs → map (reservation_in b) rs ≡ map (reservation_in a) rs
   reservations_same rs g =
       map_each (reservation_in b) (reservation_in a) (IsGivenReserve a)
@@ -71,9 +79,11 @@ module _ (a b : Circuit) (k : Keeps a b) where
   given_put : (x : PutNet) → IsGivenPut a x → IsGivenPut b x
   given_put x g = record { on = k.there x.on g.on; one = ap (λ (f : Signal). f.width) (k.kept x.on g.on) ∙ g.one; value = k.there x.value g.value }
 
+  -- its writes stay there, with conditions of 1 bit
   pub given_puts : (xs : List PutNet) → Each (IsGivenPut a) xs → Each (IsGivenPut b) xs
   given_puts xs g = each_weaker (IsGivenPut a) (IsGivenPut b) given_put xs g
 
+  -- its writes mean what they meant
   pub puts_same : (xs : List PutNet) → Each (IsGivenPut a) xs → map (put_in b) xs ≡ map (put_in a) xs
   puts_same xs g =
       map_each (put_in b) (put_in a) (IsGivenPut a)
@@ -82,9 +92,11 @@ module _ (a b : Circuit) (k : Keeps a b) where
   given_letting : (x : LettingNet) → IsGivenLetting a x → IsGivenLetting b x
   given_letting x g = record { on = k.there x.on g.on; one = ap (λ (f : Signal). f.width) (k.kept x.on g.on) ∙ g.one }
 
+  -- its releases stay there, with conditions of 1 bit
   pub given_lettings : (xs : List LettingNet) → Each (IsGivenLetting a) xs → Each (IsGivenLetting b) xs
   given_lettings xs g = each_weaker (IsGivenLetting a) (IsGivenLetting b) given_letting xs g
 
+  -- its releases mean what they meant
   pub lettings_same : (xs : List LettingNet) → Each (IsGivenLetting a) xs → map (letting_in b) xs ≡ map (letting_in a) xs
   lettings_same xs g = map_each (letting_in b) (letting_in a) (IsGivenLetting a) (λ x t. ap (λ f. record { mem = x.mem; on = f }) (k.kept x.on t.on)) xs g
 
@@ -143,11 +155,13 @@ puts_split m f t x xs = at (x.mem == m)
 
 -- ---- on the way through a list
 
+-- the ports of the first i reservations of a stage are there, and with those that are left they make all that are to be added
 pub record ReservesUpTo (a b : Circuit) (ps qs : List ReservePort) (m : ℕ) (moves : Net) (rs : List ReserveNet) (i : ℕ) : Type 0 where
   pub there : Each (IsThereReserve b) qs
   pub same : map (reserve_signal b) qs ++ reserves_to m (signal a moves) (map (reservation_in a) (drop i rs))
       ≡ map (reserve_signal a) ps ++ reserves_to m (signal a moves) (map (reservation_in a) rs)
 
+-- the ports of the first i writes of a stage are there, and with those that are left they make all that are to be added
 pub record WritesUpTo (a b : Circuit) (ps qs : List TicketWrite) (m : ℕ) (moves ticket : Net) (xs : List PutNet) (i : ℕ) : Type 0 where
   pub there : Each (IsThereWrite b) qs
   pub same : map (ticket_signal b) qs ++ puts_to m (signal a moves) (signal a ticket) (map (put_in a) (drop i xs))

@@ -162,6 +162,7 @@ same_released m vs us f g (suc n) k h r =
     here
 
 module _ (a b : Circuit) (k : Keeps a b) (m : ℕ) where
+  -- whether the thread of stage j moves is told by the same signal
   pub kept_moves : (ds : List StageDeeds) (j : ℕ) → Each (IsGiven a m) ds → moves_in b ds j ≡ moves_in a ds j
   kept_moves [] j g = refl
   kept_moves (d ∷ ds) zero g = k.kept d.moves g.0.moves
@@ -182,12 +183,14 @@ module _ (a b : Circuit) (k : Keeps a b) (m : ℕ) where
   kept_lettings (d ∷ ds) zero g = lettings_same a b k d.ended.now.lettings g.0.lettings
   kept_lettings (d ∷ ds) (suc j) g = kept_lettings ds j g.1
 
+  -- the write ports of n stages are the same signals
   pub all_puts_kept : (ds : List StageDeeds) (n : ℕ) → Each (IsGiven a m) ds
       → all_puts m (views_in b ds) (moves_in b ds) n 0 ≡ all_puts m (views_in a ds) (moves_in a ds) n 0
   all_puts_kept ds n g =
       same_puts m (views_in b ds) (views_in a ds) (moves_in b ds) (moves_in a ds) n 0 (λ j l. kept_moves ds j g)
       (λ j l. kept_tickets ds j g) (λ j l. kept_puts ds j g)
 
+  -- whether one of n stages releases the memory is told by the same signal
   pub released_kept : (ds : List StageDeeds) (n : ℕ) → Each (IsGiven a m) ds
       → release_signal m (views_in b ds) (moves_in b ds) n 0 ≡ release_signal m (views_in a ds) (moves_in a ds) n 0
   released_kept ds n g =

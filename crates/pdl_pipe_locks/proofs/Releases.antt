@@ -29,6 +29,7 @@ lets_split m f x xs rest = at (x.mem == m)
         ≡ (if b then mux_signal (both f x.on) one (release_moves m f xs rest) else release_moves m f xs rest)
     at b = refl
 
+-- whether a memory is released by one stage, else as the rest tells, is told by 1 bit where the rest is
 pub lets_one : (m : ℕ) (f : Signal) (xs : List Letting) (rest : Signal) → rest.width ≡ 1 → (release_moves m f xs rest).width ≡ 1
 lets_one m f [] rest w = w
 lets_one m f (x ∷ xs) rest w = at (x.mem == m) (lets_one m f xs rest w)
@@ -45,6 +46,7 @@ released_one m vs moves (suc n) k = lets_one m (moves k) (vs k).ended.lettings (
 
 -- ---- the lettings of a stage
 
+-- before the releases of a stage, the net of the rest tells whether the memory is released
 pub lets_begin : (a : Circuit) (m : ℕ) (f : Signal) (xs : List LettingNet) (rest : Net) → IsThere a rest
     → Means a rest (release_moves m f (map (letting_in a) (drop (length xs - 0) xs)) (signal a rest))
 lets_begin a m f xs rest t =
@@ -53,12 +55,14 @@ lets_begin a m f xs rest t =
       same = sym (ap (λ (ys : List LettingNet). release_moves m f (map (letting_in a) ys) (signal a rest)) (drop_all (length xs - 0) xs (omega arith)));
     }
 
+-- past the releases of a stage, the net tells of all of them whether one releases the memory, else as the rest tells
 pub lets_end : (a b : Circuit) (m : ℕ) (f : Signal) (xs : List LettingNet) (i : ℕ) (net : Net) (rest : Signal)
     → length xs ≤ i → Means b net (release_moves m f (map (letting_in a) (drop (length xs - i) xs)) rest)
     → Means b net (release_moves m f (map (letting_in a) xs) rest)
 lets_end a b m f xs i net rest l h = let z : length xs - i ≡ 0 = omega (arith, l) in
     subst (λ k. Means b net (release_moves m f (map (letting_in a) (drop k xs)) rest)) z h
 
+-- with one release more, the net tells of the last i + 1 releases of a stage whether one releases the memory
 pub lets_more : (a b c : Circuit) (m : ℕ) (f g : Signal) (xs : List LettingNet) (i : ℕ) (x : LettingNet) (net y : Net) (rest : Signal)
     → Keeps a b → i < length xs → x ≡ get_or xs (length xs - 1 - i) x → Each (IsGivenLetting a) xs → g ≡ f
     → Means b net (release_moves m f (map (letting_in a) (drop (length xs - i) xs)) rest)

@@ -20,16 +20,19 @@ use Rattle.pdl_word.specs.Each.{Each}
 
 -- ---- what a stage brings for a memory's lock
 
+-- a reservation that a stage makes: its nets are there, and its condition has 1 bit
 pub record IsGivenReserve (c : Circuit) (r : ReserveNet) : Type 0 where
   pub on : IsThere c r.on
   pub one : (signal c r.on).width ≡ 1
   pub addr : IsThere c r.addr
 
+-- a write that a stage makes: its nets are there, and its condition has 1 bit
 pub record IsGivenPut (c : Circuit) (x : PutNet) : Type 0 where
   pub on : IsThere c x.on
   pub one : (signal c x.on).width ≡ 1
   pub value : IsThere c x.value
 
+-- a release that a stage makes: its condition is there, with 1 bit
 pub record IsGivenLetting (c : Circuit) (x : LettingNet) : Type 0 where
   pub on : IsThere c x.on
   pub one : (signal c x.on).width ≡ 1
@@ -52,6 +55,7 @@ pub record IsThereReserve (c : Circuit) (q : ReservePort) : Type 0 where
   pub enable : IsThere c q.enable
   pub addr : IsThere c q.addr
 
+-- a write through a ticket, whose nets are there
 pub record IsThereWrite (c : Circuit) (q : TicketWrite) : Type 0 where
   pub enable : IsThere c q.enable
   pub ticket : IsThere c q.ticket
@@ -62,6 +66,7 @@ pub record AreReserves (c : Circuit) (ps : List ReservePort) (fs : List ReserveS
   pub there : Each (IsThereReserve c) ps
   pub same : map (reserve_signal c) ps ≡ fs
 
+-- ports that write are there and mean this
 pub record AreWrites (c : Circuit) (ps : List TicketWrite) (fs : List TicketSignal) : Type 0 where
   pub there : Each (IsThereWrite c) ps
   pub same : map (ticket_signal c) ps ≡ fs

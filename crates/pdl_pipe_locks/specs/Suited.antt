@@ -14,6 +14,7 @@ use Rattle.pdl_pipe_walk.specs.Locked.{Members, some_at}
 abbrev pub info_of : List ℕ → Mem → MemInfo
 info_of name m = record { name = name; width = m.width; depth = m.depth; delayed = m.delayed }
 
+-- memory m of a form as it is told to its lock
 abbrev pub info_at : Form → ℕ → MemInfo
 info_at f m = info_of (slice_index_or f.names m []) (mem_at f.pipe m)
 

@@ -123,6 +123,7 @@ frees_bits c (fs ∷ xs) (suc k) h = frees_bits c xs k h.1
 module _ (a b : Circuit) (e : Keeps a b) (x : StageLine) (y : Controls) (line : IsLineIn a x)
     (inside : LeadsInside (line_pipe x)) (stand : StandPorts a (line_pipe x) x.shared.now.ports.now)
     (h : IsControlled a (line_pipe x) y) where
+  -- stages of which it is known whether their threads move stay so in the circuit that grew
   pub all_passed_keep : (nets : List Net) (opens : List (Seq Net)) (low : ℕ)
       → ArePassed a x (signs_by a x y) nets opens low → ArePassed b x (signs_by b x y) nets opens low
   all_passed_keep nets opens low it = record {
@@ -136,6 +137,7 @@ module _ (a b : Circuit) (e : Keeps a b) (x : StageLine) (y : Controls) (line : 
         (it.each k l m);
   }
 
+  -- with the move of stage k and its free ports found, it is known of each stage from k on
   pub passed_more : (nets : List Net) (opens : List (Seq Net)) (k : ℕ) (one : Passage) (z : StageLine)
       → z.moves.now ≡ nets → k < length (line_pipe x).stages → ArePassed a x (signs_by a x y) nets opens (k + 1)
       → IsBit b one.moves → HaveFree b (record z { pipe = x.pipe; shared = x.shared; stages = x.stages }) k one.frees (length (line_pipe x).mems)

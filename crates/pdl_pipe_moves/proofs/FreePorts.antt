@@ -51,6 +51,7 @@ place_low a x line inside k low i l =
 
 module _ (a b : Circuit) (e : Keeps a b) (x : StageLine) (line : IsLineIn a x) (inside : LeadsInside (line_pipe x))
     (stand : StandPorts a (line_pipe x) x.shared.now.ports.now) (k : ℕ) (low : k < length (line_pipe x).stages) where
+  -- a net that keeps the law of a free port, by the moves of the stage's places, tells whether the port is free for stage k
   pub made_free : (m : ℕ) (port : PortRegs) (net : Net) → some_at x.shared.now.ports.now m ≡ Some port
       → port_laws.places port ≡ length (places_of (stage_at (line_pipe x) k).next) → IsThere b net
       → (signal b net).width ≡ 1

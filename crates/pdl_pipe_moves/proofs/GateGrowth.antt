@@ -32,6 +32,7 @@ module _ (a b : Circuit) (e : Keeps a b) (x : StageLine) (y : Controls) (line : 
   clear_same : (k : ℕ) → signal_at (signals_in b y.clear.now) k ≡ signal_at (signals_in a y.clear.now) k
   clear_same k = ap (λ fs. signal_at fs k) (signals_keep a b y.clear.now e (bits_there a y.clear.now h.clear))
 
+  -- the gate of stage k is the same signal in the circuit that grew, by the same free ports
   pub gate_same : (frees : ℕ → Signal) (k : ℕ) → k < length (line_pipe x).stages
       → gate_by (line_pipe x) (line_views b x) (signs_by b x y) frees k ≡ gate_by (line_pipe x) (line_views a x) (signs_by a x y) frees k
   gate_same frees k low =

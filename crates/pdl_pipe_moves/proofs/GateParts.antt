@@ -60,6 +60,7 @@ both_after a b c x y z f g e h k r = record {
 -- ---- while the circuit grows
 
 module _ (a b : Circuit) (e : Keeps a b) where
+  -- whether the thread of stage k awaits no answer of n memories is told by the same signal in both circuits
   pub answered_same : (p : Pipe) (ports : List (Option PortRegs)) (k n m : ℕ) → HasAnswers a p ports
       → all_answered p (answers_in b ports) k n m ≡ all_answered p (answers_in a ports) k n m
   answered_same p ports k zero m h = refl

@@ -91,6 +91,7 @@ set_signals c [] k x = refl
 set_signals c (y ∷ ys) zero x = refl
 set_signals c (y ∷ ys) (suc k) x = ap (λ fs. signal c y ∷ fs) (set_signals c ys k x)
 
+-- where a net took the place of number k, the k-th signal is that net's
 pub set_here : (c : Circuit) (xs : List Net) (k : ℕ) (x : Net) → k < length xs → signal_at (signals_in c (slice_set xs k x)) k ≡ signal c x
 set_here c xs k x l =
     let n = length_signals c xs in
@@ -98,6 +99,7 @@ set_here c xs k x l =
     ∙ signal_set (signals_in c xs) k (signal c x) k (omega (arith, l, n))
     ∙ ap (λ b. if b then signal c x else signal_at (signals_in c xs) k) (eq-eqb k k refl)
 
+-- where a net took the place of number k, later signals are what they were
 pub set_later : (c : Circuit) (xs : List Net) (k : ℕ) (x : Net) (q : ℕ)
     → k < length xs → k < q → signal_at (signals_in c (slice_set xs k x)) q ≡ signal_at (signals_in c xs) q
 set_later c xs k x q l m =
@@ -127,6 +129,7 @@ gate_as p vs g h moves k e =
 -- ---- one stage
 
 module _ (x : StageLine) (inside : LeadsInside (line_pipe x)) (k : ℕ) (low : k < length (line_pipe x).stages) where
+  -- the thread of stage k moves alike by other moves that are the same for later stages
   pub moved_as : (c : Circuit) (g : Signs) (frees moves others : ℕ → Signal) (f : Signal)
       → ((q : ℕ) → k < q → moves q ≡ others q) → IsMovedBy c x g frees moves k f → IsMovedBy c x g frees others k f
   moved_as c g frees moves others f h is s =
@@ -134,6 +137,7 @@ module _ (x : StageLine) (inside : LeadsInside (line_pipe x)) (k : ℕ) (low : k
       ∙ ap (λ (i : Signal). is_on i s)
       (moves_as (line_pipe x) (line_views c x) (λ j. gate_by (line_pipe x) (line_views c x) g frees k) moves others k (λ q l. h q (inside k q low l).0))
 
+  -- a port is free for stage k alike by other moves that are the same for later stages
   pub frees_as : (c : Circuit) (moves others : ℕ → Signal) (m : ℕ) (f : Signal) → ((q : ℕ) → k < q → moves q ≡ others q)
       → IsFreeBy c x moves k m f → IsFreeBy c x others k m f
   frees_as c moves others m f h is = free_by c x moves others k m f (λ q l. h q (inside k q low l).0) is
@@ -171,12 +175,14 @@ module _ (x : StageLine) (inside : LeadsInside (line_pipe x)) (k : ℕ) (low : k
 -- ---- while the circuit grows
 
 module _ (a b : Circuit) (e : Keeps a b) (x : StageLine) (line : IsLineIn a x) where
+  -- a signal that tells whether a port is free for stage k tells it in the circuit that grew
   pub free_keep : (stand : StandPorts a (line_pipe x) x.shared.now.ports.now) (moves : ℕ → Signal) (k m : ℕ) (f : Signal)
       → IsFreeBy a x moves k m f → IsFreeBy b x moves k m f
   free_keep stand moves k m f h r q is at some =
       subst (λ (g : Signal). FreeLaw (stands q) (length (places (line_pipe x) r)) g (λ i. moves (place_at (line_pipe x) r i)) f)
       (sym (e.kept q.reply (stand.each m r q is some).placed.reply_there)) (h r q is at some)
 
+  -- a signal that tells whether the thread of stage k moves tells it in the circuit that grew, where the gate is the same
   pub moved_keep : (g h : Signs) (frees moves : ℕ → Signal) (k : ℕ) (f : Signal)
       → ((fs : ℕ → Signal) → gate_by (line_pipe x) (line_views b x) h fs k ≡ gate_by (line_pipe x) (line_views a x) g fs k)
       → IsMovedBy a x g frees moves k f → IsMovedBy b x h frees moves k f
@@ -186,6 +192,7 @@ module _ (a b : Circuit) (e : Keeps a b) (x : StageLine) (line : IsLineIn a x) w
       (sym (views_same a b x e line))
       ∙ ap (λ (i : Signal). is_on (moves_where (line_pipe x) (line_views b x) (λ j. i) moves k) s) (sym (same frees))
 
+  -- a stage of which it is known whether its thread moves stays so in the circuit that grew, where the gate is the same
   pub passed_keep : (stand : StandPorts a (line_pipe x) x.shared.now.ports.now) (g h : Signs) (moves frees : List Net) (k : ℕ)
       → ((fs : ℕ → Signal) → gate_by (line_pipe x) (line_views b x) h fs k ≡ gate_by (line_pipe x) (line_views a x) g fs k)
       → Each (IsBit a) moves → Each (IsBit a) frees → IsPassed a x g moves frees k → IsPassed b x h moves frees k

@@ -25,6 +25,7 @@ module _ (a b : Circuit) (e : Keeps a b) where
     empty_one = ap (λ (f : Signal). f.width) (e.kept r.empty h.empty_there) ∙ h.empty_one;
   }
 
+  -- each fork that is merged still has its order
   pub turns_keep : (p : Pipe) (rs : List (Option OrderRegs)) → HasTurns a p rs → HasTurns b p rs
   turns_keep p rs h = λ q f l is. ((h q f l is).0, there_keep (some_at rs f) (h q f l is).1)
 
@@ -33,6 +34,7 @@ module _ (a b : Circuit) (e : Keeps a b) where
   by_same None from h = refl
   by_same (Some r) from h = ap₂ (λ f g. turn_by f g from) (e.kept r.first h.first_there) (e.kept r.empty h.empty_there)
 
+  -- whether it is the turn of stage k's thread to go into stage q is told by the same signal
   pub turn_same : (p : Pipe) (rs : List (Option OrderRegs)) (k q : ℕ) → q < length p.stages → HasTurns a p rs → turn_in b p rs k q ≡ turn_in a p rs k q
   turn_same p rs k q l h = at (stage_at p q).merges refl
     where

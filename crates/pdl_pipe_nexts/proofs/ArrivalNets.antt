@@ -57,6 +57,7 @@ module _ (p : Pipe) (vs : ℕ → View) (moves : ℕ → Signal) (q j : ℕ) whe
       (ap (λ (f : Signal). is_on (both (moves j) f) s)
       (ap (λ (n : Next). branch n q (vs j).ended) e ∙ ap (λ (b : Bool). if b then one else zero_bit) there))
 
+  -- out of a stage in which threads end none comes here
   pub nowhere : (stage_at p j).next ≡ flat.Ends → (s : State) → is_on zero_bit s ≡ is_on (out_of p vs moves q j).comes s
   nowhere e s = both_zero (moves j) s ∙ sym (ap (λ (f : Signal). is_on (both (moves j) f) s) (ap (λ (n : Next). branch n q (vs j).ended) e))
 

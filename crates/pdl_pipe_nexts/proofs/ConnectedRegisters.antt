@@ -164,6 +164,7 @@ takes_keep a b d x k s nexts low high now l e h = record {
 
 -- ---- all stages
 
+-- the registers of the first n stages take what they should, and only registers of stages have changed what they take next
 pub record ConnectedSoFar (a b : Circuit) (x : StageLine) (n : ℕ) : Type 0 where
   pub extends : (low : ℕ) → AreApart low (length a.regs) x.stages.now → ExtendsBut (regs_of low (length a.regs)) a b
   pub takes : (k : ℕ) (s : StageNets) → k < n → IsAt x.stages.now k s → TakesNext a b x k s

@@ -96,9 +96,11 @@ module _ (a b : Circuit) (x : StageLine) (e : Keeps a b) (h : IsLineIn a x) wher
       ∙ ap (λ fs m. signal_at fs m) (signals_keep a b s.tickets e now.nets.tickets)
       ∙ sym (ap (λ (v : View). v.tickets) (view_at a x.stages.now j s l some.1))
 
+  -- whether its thread moves is told by the same signal
   pub moves_same : (j : ℕ) → line_moves b x j ≡ line_moves a x j
   moves_same j = ap (λ fs. signal_at fs j) (signals_keep a b x.moves.now e (bits_there a x.moves.now h.moves))
 
+  -- whether its thread is removed is told by the same signal
   pub kills_same : (j : ℕ) → line_kills b x j ≡ line_kills a x j
   kills_same j = ap (λ fs. signal_at fs j) (signals_keep a b x.kills.now e (bits_there a x.kills.now h.kills))
 
@@ -123,11 +125,13 @@ view_same a b f nexts k s e h =
     (begun_parts_keep a b e f nexts s h.nets) (parts_keep a b e s.end h.walk.there)
 
 module _ (a b : Circuit) (x : StageLine) (e : Keeps a b) (h : IsLineIn a x) where
+  -- all stages have the views that they had
   pub views_same : line_views b x ≡ line_views a x
   views_same =
       ap (λ vs k. get_or vs k no_view)
       (map_same (view_in b) (view_in a) x.stages.now (λ k s l is. view_same a b (line_form x) (signals_in a x.shared.now.next) k s e (h.stages k s l is)))
 
+  -- whether threads move is told for all stages by the signals that told it
   pub all_moves_same : line_moves b x ≡ line_moves a x
   all_moves_same = ap (λ fs k. signal_at fs k) (signals_keep a b x.moves.now e (bits_there a x.moves.now h.moves))
 
@@ -136,6 +140,7 @@ module _ (a b : Circuit) (x : StageLine) (e : Keeps a b) (h : IsLineIn a x) wher
   arriving_same k what rest =
       ap₂ (λ (vs : ℕ → View) (ms : ℕ → Signal). first_coming (brought_signal what) (comers (line_pipe x) vs ms k) rest) views_same all_moves_same
 
+  -- whether stage k still holds its thread is told by the same signal
   pub staying_same : (k : ℕ) (s : StageNets) → staying b x k s ≡ staying a x k s
   staying_same k s =
       ap₂ (λ (f g : Signal). mux_signal f zero_bit (mux_signal g zero_bit (reg_signal 1 s.regs.valid))) (moves_same a b x e h k) (kills_same a b x e h k)

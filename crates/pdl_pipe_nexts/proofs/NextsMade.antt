@@ -46,16 +46,20 @@ own_argument f zero (Guess i) e h = h
 own_argument f (suc k) i e h = absurd (omega (arith, e))
 
 module _ (c : Circuit) (f : Form) (nexts : List Signal) (k : ℕ) (s : StageNets) (h : IsStageNow c f nexts k s) (i : ℕ) (low : i < length s.regs.items) where
+  -- the i-th item is one of the form
   pub item_is : length f.pipe.start ≤ length f.widths → IsBrought f (Some (item_at s.regs.items i))
   item_is p = own_item f k (item_at s.regs.items i) p (h.own i low)
 
+  -- in stage 0 the i-th item is an argument of new threads
   pub argument_is : k ≡ 0 → IsArgument f.pipe (Some (item_at s.regs.items i))
   argument_is e = own_argument f k (item_at s.regs.items i) e (h.own i low)
 
+  -- the register of the i-th item is one of the circuit's
   pub reg_low : reg_of s.regs i < length c.regs
   unfolding HasReg
   reg_low = (h.registers.kept i low).has
 
+  -- the i-th item has its register, or is a variable of the stage
   pub item_kept : length f.pipe.start ≤ length f.widths → IsKeptItem c s i
   item_kept p = at (item_at s.regs.items i) (own_item f k (item_at s.regs.items i) p (h.own i low))
     where
@@ -85,6 +89,7 @@ kept_signal_keep a b f nexts k s i (Guess n) e l h = e.kept (RegNet (reg_of s.re
 
 -- ---- the first of them
 
+-- the nets for whether stage k holds a thread next and for its first i items are there, with their widths and values
 pub record NextsSoFar (a c : Circuit) (x : StageLine) (k : ℕ) (s : StageNets) (nets : List Net) (i : ℕ) : Type 0 where
   pub there : NetsThere c nets
   pub count : length nets ≡ suc i

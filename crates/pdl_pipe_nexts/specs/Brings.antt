@@ -27,6 +27,7 @@ abbrev pub brought_out : Option Item → View → Signal
 brought_out None v = one
 brought_out (Some i) v = ended_item v i
 
+-- the signal of an item among the arguments of a call: that of a variable, and none for any other item
 abbrev pub argument_signal : Item → List Signal → Signal
 argument_signal (Var x) args = signal_at args x
 argument_signal (Held m a) args = no_signal
@@ -48,6 +49,7 @@ abbrev pub IsBrought : Form → Option Item → Type 0
 IsBrought f None = ⊤
 IsBrought f (Some i) = IsItem f i
 
+-- an item that is an argument of new threads: one of the first variables
 abbrev pub IsArgumentItem : Pipe → Item → Type 0
 IsArgumentItem p (Var x) = x < length p.start
 IsArgumentItem p (Held m a) = ⊥

@@ -58,14 +58,17 @@ inputs_more a b added e =
 module _ (a b d : Circuit) (m : r_mem.FlatMem) (x y : List ℕ) (first : x ≡ codes "p_" ++ m.name)
     (second : y ≡ codes "pd_" ++ m.name) (one : ExtendsPorts a b (input_port x 1 ∷ []))
     (two : ExtendsPorts b d (input_port y m.width ∷ [])) where
+  -- the two inputs of the memory are added one after the other
   pub pair_added : ExtendsPorts a d (reply_pair m)
   pair_added =
       subst (ExtendsPorts a d) (ap₂ (λ (p q : List ℕ). input_port p 1 ∷ input_port q m.width ∷ []) first second)
       (ports_trans a b d (input_port x 1 ∷ []) (input_port y m.width ∷ []) one two)
 
+  -- a net that means a signal beside the first input means it beside both
   pub reply_means : (i : Net) (f : Signal) → Means b i f → Means d i f
   reply_means i f h = means_keeps b d i f (ports_keeps b d (input_port y m.width ∷ []) two) h
 
+  -- a net that means the input added second means the one whose number follows the reply's
   pub word_means : (i : Net) → Means d i (input_signal m.width (length (inputs_of b))) → Means d i (input_signal m.width (length (inputs_of a) + 1))
   word_means i h = subst (λ n. Means d i (input_signal m.width n)) (inputs_more a b (input_port x 1 ∷ []) one.ports) h
 

@@ -155,6 +155,7 @@ module _ (c : Circuit) (p : Pipe) (names : List (List ℕ)) (ss : List ShownNets
   asks_there : OutsThere c (requests_outs names rs)
   asks_there = requests_there c names rs (λ i l. told.asks.there i (omega (arith, l, told.asks.count)))
 
+  -- the net of each output is there
   pub all_there : OutsThere c (all_outs names ss ns rs squash)
   all_there =
       outs_more c ((stages_outs 0 ss ++ commits_outs names ns) ++ requests_outs names rs)
@@ -190,6 +191,7 @@ module _ (c : Circuit) (p : Pipe) (names : List (List ℕ)) (ss : List ShownNets
         last_means c ss squash some ∙ sym (h.moves (length ss - 1) (omega (arith, some))) ∙ ap (λ k. moves (k - 1)) count in
         ap₂ (λ f g. shown_signal (codes "ended") f ∷ shown_signal (codes "squash") g ∷ []) last (sym h.squash)
 
+    -- the outputs show the stages, the commits, the requests and the last two, as the law of a netlist asks
     pub all_show : shown_by c (all_outs names ss ns rs squash) ≡ whole_shown p name (commits_in c ns) (asks_in c rs) vs gates moves
     all_show =
         let S = stages_outs 0 ss in

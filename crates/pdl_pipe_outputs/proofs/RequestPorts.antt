@@ -69,11 +69,14 @@ module _ (a c : Circuit) (p : Pipe) (ins xs : List (Option PortInput)) (qs : Lis
     taken_is : some_at xs m ≡ Some input_is.0
     taken_is = read.each m (omega (arith, within, replies.count)) ∙ ap (λ (r : Option Reading). input_where r (some_at ins m)) reading_is.1 ∙ input_is.1
 
+    -- the port of memory m takes the reply that comes from the memory
     pub reply_taken : signal c q.reply ≡ (told_inputs p m).reply
     reply_taken = ap (signal c) ((ports.each m within).reply input_is.0 q taken_is here) ∙ ((replies.each m within).reply input_is.0 input_is.1).same
 
+    -- the port of memory m takes the word that comes from the memory
     pub word_taken : signal c q.word ≡ (told_inputs p m).word
     word_taken = ap (signal c) ((ports.each m within).word input_is.0 q taken_is here) ∙ ((replies.each m within).word input_is.0 input_is.1).same
 
+  -- each port takes what comes from its memory
   pub are_taken : AreTaken c qs (told_inputs p)
   are_taken = record { reply = reply_taken; word = word_taken }

@@ -99,9 +99,11 @@ module _ (a : Circuit) (f : Form) (x : Earlier) (s : Shared) (shared : IsShared 
   nexts_same : signals_in b s.next ≡ signals_in a s.next
   nexts_same = next_keep a b f s e shared
 
+  -- a stage's registers by the next tickets of the later circuit are such by those of the earlier one
   pub frame_from : (c : Circuit) (r : StageRegs) → IsFrame c f (signals_in b s.next) (earlier_count x) r → IsFrame c f (signals_in a s.next) (earlier_count x) r
   frame_from c r h = subst (λ fs. IsFrame c f fs (earlier_count x) r) nexts_same h
 
+  -- a stage's registers by the next tickets of the earlier circuit are such by those of the later one
   pub frame_to : (c : Circuit) (r : StageRegs) → IsFrame c f (signals_in a s.next) (earlier_count x) r → IsFrame c f (signals_in b s.next) (earlier_count x) r
   frame_to c r h = subst (λ fs. IsFrame c f fs (earlier_count x) r) (sym nexts_same) h
 
@@ -121,6 +123,7 @@ module _ (a : Circuit) (f : Form) (x : Earlier) (s : Shared) (shared : IsShared 
             (λ z. weaker i (signal_at (signals_in c xs) i) z) (now.begun i l need);
       }
 
+  -- the variables with which a stage begins in the later circuit are such by the nets of the earlier one
   pub vars_from : (c : Circuit) (r : StageRegs) (needed : ℕ → Bool) (ws : List ℕ) (xs : List Net)
       → AreBegun c f (signals_in b s.next) r Var needed (λ y. IsSettledAfter b f x (Var y)) ws xs
       → AreBegun c f (signals_in a s.next) r Var needed (λ y. IsSettledAfter a f x (Var y)) ws xs
@@ -139,6 +142,7 @@ module _ (a : Circuit) (f : Form) (x : Earlier) (s : Shared) (shared : IsShared 
       (λ i. IsSpared f.pipe (earlier_views a x) (earlier_count x) (signals_in d vars) (Guess i)) ws xs
       (λ i g z. spared_as f.pipe (earlier_views b x) (earlier_views a x) (earlier_count x) (signals_in b vars) (signals_in d vars) (Guess i) g ends same z) h
 
+  -- the held locations with which a stage begins in the later circuit are such by the nets of the earlier one
   pub helds_from : (c : Circuit) (r : StageRegs) (hs : List HeldNet)
       → AreHeldBegun c f (signals_in b s.next) (earlier_views b x) (earlier_count x) r hs
       → AreHeldBegun c f (signals_in a s.next) (earlier_views a x) (earlier_count x) r hs
@@ -147,6 +151,7 @@ module _ (a : Circuit) (f : Form) (x : Earlier) (s : Shared) (shared : IsShared 
       (earlier_count x) r hs (λ m v j l. ends (Held m v) j l)
       (subst (λ fs. AreHeldBegun c f fs (earlier_views b x) (earlier_count x) r hs) nexts_same h)
 
+  -- that all a thread may hold is listed for each way into the stage holds by the nets of the earlier circuit
   pub all_held_from : (hs : List HeldNet)
       → Each (λ j. HasAllHeld f.pipe (earlier_count x) (earlier_views b x j) hs) x.ways.now
       → Each (λ j. HasAllHeld f.pipe (earlier_count x) (earlier_views a x j) hs) (ways f.pipe (earlier_count x))
@@ -160,6 +165,7 @@ module _ (a : Circuit) (f : Form) (x : Earlier) (s : Shared) (shared : IsShared 
 
 -- ---- the stage
 
+-- the parts with which stage k begins: registers, variables, held locations, tickets, guess and answers, and a fresh walk
 pub record HasParts (c : Circuit) (f : Form) (nexts : List Signal) (answers : ℕ → ℕ → AnswerSignals) (us : ℕ → View)
     (k : ℕ) (bits : Bits) (s : StageNets) : Type 0 where
   pub frame : IsFrame c f nexts k s.regs
@@ -197,6 +203,7 @@ module _ (c : Circuit) (f : Form) (nexts : List Signal) (answers : ℕ → ℕ �
       let e11 : signal c s.end.barrier ≡ zero_bit = ap (signal c) fresh.barrier ∙ h.bits_are.zero.same in
       cc (e1, e2, e3, e4, e5, e6, e7, e8, e9, e10, e11)
 
+  -- the nets of its fresh walk are there, with their widths
   pub walk_is : IsWalk c f.pipe f.widths s.end
   walk_is = record {
     there = record {
@@ -270,6 +277,7 @@ module _ (c : Circuit) (f : Form) (nexts : List Signal) (answers : ℕ → ℕ �
         let p = typed.params in
         h.guess.begun i (omega (arith, low, n, p)) q.0
 
+    -- the stage stands as it is before its rows, where the form is typed
     pub begun_is : IsBegun c f nexts answers us k s
     begun_is = record {
       frame = h.frame;

@@ -206,9 +206,11 @@ nets_long c ws xs e = sym (length_signals c xs) ∙ sym (length_widths (signals_
 
 module _ (b c : Circuit) (e : Keeps b c) (ws : List ℕ) (i : ℕ) (xs : List Net) (net : Net) (low : i < length ws)
     (there : NetsThere b xs) (wide : widths_of (signals_in b xs) ≡ take i ws) where
+  -- there are i nets so far
   pub push_count : length xs ≡ i
   push_count = let n = nets_long b (take i ws) xs wide in let m = length-take i ws in omega (arith, n, m, low)
 
+  -- with a net of the next width more, there are nets of the first i + 1 widths
   pub push_nets : Rattle.pdl_net.specs.Meaning.IsThere c net → (signal c net).width ≡ slice_index ws i → HasNets c (take (i + 1) ws) (xs ++ net ∷ [])
   push_nets here w = record {
     there = net_more c xs net (there_keeps b c xs e there) here;
@@ -222,6 +224,7 @@ module _ (b c : Circuit) (e : Keeps b c) (ws : List ℕ) (i : ℕ) (xs : List Ne
   pub push_old : (y : ℕ) → y < i → signal_at (signals_in c (xs ++ net ∷ [])) y ≡ signal_at (signals_in b xs) y
   push_old y l = signal_old c xs net y (let n = push_count in omega (arith, l, n)) ∙ ap (λ fs. signal_at fs y) (signals_keep b c xs e there)
 
+  -- the net that was added is the i-th one
   pub push_new : signal_at (signals_in c (xs ++ net ∷ [])) i ≡ signal c net
   push_new = signal_new c xs net i (sym push_count)
 
@@ -241,6 +244,7 @@ module _ (f : Form) (nexts : List Signal) (item : ℕ → Item) (needed : ℕ �
       }
 
 module _ (f : Form) (nexts : List Signal) (k : ℕ) (item : ℕ → Item) (needed : ℕ → Bool) (S : ℕ → Signal → Type 0) (ws : List ℕ) where
+  -- before the first item there are no nets
   pub begun_none : (c : Circuit) (r : StageRegs) → AreBegun c f nexts r item needed S (take 0 ws) []
   begun_none c r = record { there = tt; wide = refl; begun = λ i low. absurd (omega (arith, low)) }
 
@@ -278,6 +282,7 @@ pub record SoFar (a c : Circuit) (f : Form) (nexts : List Signal) (k : ℕ) (r0 
 
 module _ (a : Circuit) (f : Form) (nexts : List Signal) (k : ℕ) (r0 : StageRegs) (item : ℕ → Item) (needed : ℕ → Bool)
     (S : ℕ → Signal → Type 0) (ws : List ℕ) where
+  -- before the first item nothing was added to the registers
   pub sofar_none : IsFrame a f nexts k r0 → AreOwn f k r0 → Extends a a → SoFar a a f nexts k r0 r0 item needed S (take 0 ws) []
   sofar_none frame own none = record {
     extends = none;
@@ -287,6 +292,7 @@ module _ (a : Circuit) (f : Form) (nexts : List Signal) (k : ℕ) (r0 : StageReg
     begun = begun_none f nexts k item needed S ws a r0;
   }
 
+  -- with the net of one item more, with a register of its own or none, the first i + 1 items have theirs
   pub sofar_more : (b c : Circuit) (r t : StageRegs) (i : ℕ) (xs : List Net) (net : Net) → i < length ws → Extends b c
       → MayBegin c f nexts k (needed i) r t (item i) net (S i) → end_of t ≡ length c.regs
       → item_width f nexts (item i) ≡ slice_index ws i

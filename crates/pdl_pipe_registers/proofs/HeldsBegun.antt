@@ -31,6 +31,7 @@ use Rattle.pdl_word.proofs.Each.{each_weaker, each_push}
 abbrev is_it : HeldNet → ℕ → ℕ → Bool
 is_it h m v = (h.mem == m) && (h.var == v)
 
+-- with a location more, just those are listed that were and this one
 pub listed_more : (xs : List HeldNet) (h : HeldNet) (m v : ℕ) → is_listed (xs ++ h ∷ []) m v ≡ (is_listed xs m v || is_it h m v)
 listed_more [] h m v = at (is_it h m v)
   where

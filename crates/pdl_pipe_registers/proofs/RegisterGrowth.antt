@@ -145,6 +145,7 @@ module _ (f : Form) (nexts : List Signal) where
       subst (λ (u : StageRegs). IsBegunBy f nexts u i (signal c net) Settled) (sym m.regs)
       (inl (length r.items, (let e = count_new r.items i in omega (arith, e)), item_new r.items i, ap (signal c) m.net_is ∙ m.register.same))
 
+  -- an item begins with a register, or with a signal that is so by a weaker demand
   pub by_weaker : (r : StageRegs) (i : Item) (g : Signal) (S Settled : Signal → Type 0) → (S g → Settled g)
       → IsBegunBy f nexts r i g S → IsBegunBy f nexts r i g Settled
   by_weaker r i g S Settled k (inl h) = inl h

@@ -40,6 +40,7 @@ use Rattle.pdl_word.specs.Each.{Each}
 use Rattle.pdl_word.proofs.Each.{each_weaker}
 
 module _ (c d : Circuit) (e : Keeps c d) where
+  -- what a stage begins with is there in a circuit that keeps its nets
   pub begun_keep : (f : Form) (nexts : List Signal) (s : StageNets) → IsThereBegun c f nexts s → IsThereBegun d f nexts s
   begun_keep f nexts s h = record {
     vars = there_keeps c d s.vars e h.vars;
@@ -54,6 +55,7 @@ module _ (c d : Circuit) (e : Keeps c d) where
     guess_wide = ap widths_of (signals_keep c d s.guess e h.guess) ∙ h.guess_wide;
   }
 
+  -- a stage begins with the same signals in a circuit that keeps its nets
   pub begun_parts_keep : (f : Form) (nexts : List Signal) (s : StageNets) → IsThereBegun c f nexts s → begun_parts d s ≡ begun_parts c s
   begun_parts_keep f nexts s h =
       let e1 = signals_keep c d s.begun e h.begun in
@@ -102,6 +104,7 @@ module _ (c d : Circuit) (e : Keeps c d) where
       (subst (λ (q : Parts). AreRows z f.pipe ls (tickets_in c s.tickets) xs (view_in c s).begun (walk_of q))
       (sym (parts_keep c d e s.end w.there)) (steps z (keeps_trans c d z e k) well)))
 
+  -- a stage stands with its rows in a circuit that keeps its nets and those of the stages before it
   pub staged_keep : (f : Form) (nexts : List Signal) (answers : ℕ → ℕ → AnswerSignals) (ls : Locks) (ss : List StageNets) (k : ℕ) (s : StageNets)
       → AreEnded c f nexts ss → k ≤ length ss → IsStaged c f nexts answers ls ss k s
       → IsStaged d f nexts answers ls ss k s

@@ -29,9 +29,11 @@ module _ {T : Type 0} (l : Members T) (b : Circuit) (p : Pipe) (none : Net) (zer
   signals_from (None ∷ xs) = ap₂ (λ (f : Signal) fs. f ∷ fs) zero_is.same (signals_from xs)
   signals_from (Some y ∷ xs) = ap (λ fs. signal b y.regs.ticket ∷ fs) (signals_from xs)
 
+  -- the nets of the locks' next tickets are there
   pub next_there : (xs : List (Option (MemLock T))) → AreLocked l b p xs → NetsThere b (map (ticket_net none) xs)
   next_there xs h = there_from xs (λ m x q e. (h.locks m x (let n = h.count in omega (arith, q, n)) e).ticket_there)
 
+  -- the nets mean the locks' next tickets, and 0 where a memory has no lock
   pub next_are : (xs : List (Option (MemLock T))) → signals_in b (map (ticket_net none) xs) ≡ next_signals b xs
   next_are xs = signals_from xs
 
@@ -63,6 +65,7 @@ module _ {T : Type 0} (l : Members T) (a b : Circuit) (e : Keeps a b) where
   same_from (Some y ∷ xs) h =
       ap₂ (λ (f : Signal) fs. f ∷ fs) (e.kept y.regs.ticket (h 0 y (omega arith) refl)) (same_from xs (λ m x q s. h (suc m) x (omega (arith, q)) s))
 
+  -- the next tickets of the locks are the same signals
   pub next_same : (p : Pipe) (xs : List (Option (MemLock T))) → AreLocked l a p xs → next_signals b xs ≡ next_signals a xs
   next_same p xs h = same_from xs (λ m x q s. (h.locks m x (let n = h.count in omega (arith, q, n)) s).ticket_there)
 

@@ -17,11 +17,13 @@ module _ (p : Pipe) (q j : ℕ) (low : j < q) where
       let s : suc j ≡ j + 1 = omega arith in
       ap (λ k. ways_from p q k j) n ∙ ap (λ k. if leads_to (stage_at p j).next q then j ∷ ways_from p q (q - (j + 1)) k else ways_from p q (q - (j + 1)) k) s
 
+  -- where stage j leads to stage q, it and those after it are the stages from j on that do
   pub one_leads : (xs : List ℕ) → leads_to (stage_at p j).next q ≡ true → (xs ++ j ∷ []) ++ ways_left p q (j + 1) ≡ xs ++ ways_left p q j
   one_leads xs h =
       append_assoc xs (j ∷ []) (ways_left p q (j + 1))
       ∙ ap (λ ys. xs ++ ys) (sym (next_left ∙ ap (λ b. if b then j ∷ ways_left p q (j + 1) else ways_left p q (j + 1)) h))
 
+  -- where stage j doesn't lead to stage q, those after it are the stages from j on that do
   pub none_leads : leads_to (stage_at p j).next q ≡ false → ways_left p q (j + 1) ≡ ways_left p q j
   none_leads h = sym (next_left ∙ ap (λ b. if b then j ∷ ways_left p q (j + 1) else ways_left p q (j + 1)) h)
 

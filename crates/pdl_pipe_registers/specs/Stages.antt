@@ -58,6 +58,7 @@ view_in c s =
       ended = walk_in c s.end;
     }
 
+-- a walk without variables, in which nothing is asked and nothing done
 abbrev pub no_walk : Walk
 no_walk =
     walk_of

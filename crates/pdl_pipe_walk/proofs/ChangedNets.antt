@@ -40,9 +40,11 @@ module _ (a b : Circuit) (e : Extends a b) (p : Pipe) (ws : List ℕ) (w : WalkN
   -- another variable
   module _ (new : WalkNets) (x : ℕ) (n : Net) (on f : Signal) (m : Means b n (mux_signal on f (signal_at (signals_in a w.vars.items) x)))
       (e1 : new.vars.items ≡ slice_set w.vars.items x n) (e2 : new.held ≡ w.held) (e3 : new.births ≡ w.births) (rest : SameRest w new) where
+    -- the walk's signals are those before, with the new one for the variable where the condition is 1
     pub set_parts : parts_in b new ≡ with_var x on f (parts_in a w)
     set_parts = vars_parts a b (extends_keeps a b e) w h.there new x n (mux_signal on f (signal_at (signals_in a w.vars.items) x)) m.same e1 e2 e3 rest
 
+    -- the nets of the walk with another variable are there, with their widths
     pub set_walk : f.width ≡ slice_index ws x → IsWalk b p ws new
     set_walk k = record {
       there =
@@ -57,6 +59,7 @@ module _ (a b : Circuit) (e : Extends a b) (p : Pipe) (ws : List ℕ) (w : WalkN
     pub wait_parts : parts_in b (record w { ready = n }) ≡ record (parts_in a w) { ready = both (parts_in a w).ready (if_on on f) }
     wait_parts = ready_parts a b (extends_keeps a b e) w h.there n (both (parts_in a w).ready (if_on on f)) s
 
+    -- the nets of the walk with another ready net are there, with their widths
     pub wait_walk : f.width ≡ 1 → IsWalk b p ws (record w { ready = n })
     wait_walk k = record {
       there =
@@ -101,6 +104,7 @@ module _ (a b : Circuit) (e : Extends a b) (p : Pipe) (ws : List ℕ) (w : WalkN
           (fails_parts a b (extends_keeps a b e) w h.there n f s) (sized_fails p ws (parts_in a w) h.sized f k);
     }
 
+    -- the nets of the walk with another barrier are there, with their widths
     pub barrier_walk : IsWalk b p ws (record w { barrier = n })
     barrier_walk = record {
       there =
@@ -122,6 +126,7 @@ module _ (a b : Circuit) (e : Extends a b) (p : Pipe) (ws : List ℕ) (w : WalkN
           (barrier_parts a b (extends_keeps a b e) w h.there n f s) (sized_barrier p ws (parts_in a w) h.sized f k);
     }
 
+  -- the nets of the walk with other nets of the guess are there, with their widths
   pub guess_walk : (ns : List Net) (fs : List Signal) → NetsThere b ns → signals_in b ns ≡ fs
       → widths_of fs ≡ take (length p.start) ws → IsWalk b p ws (record w { guess = ns })
   guess_walk ns fs t s k = record {
@@ -148,9 +153,11 @@ module _ (a b : Circuit) (e : Extends a b) (p : Pipe) (ws : List ℕ) (w : WalkN
   module _ (new : WalkNets) (mem var : ℕ) (n : Net) (on bit : Signal) (m : Means b n (mux_signal on bit (held_of (parts_in a w).held mem var)))
       (e1 : new.held.items ≡ record { mem = mem; var = var; net = n } ∷ w.held.items) (e2 : new.vars ≡ w.vars)
       (e3 : new.births ≡ w.births) (rest : SameRest w new) where
+    -- the walk's signals are those before, with the new one for the held location where the condition is 1
     pub hold_parts : parts_in b new ≡ with_held mem var on bit (parts_in a w)
     hold_parts = held_parts a b (extends_keeps a b e) w h.there new mem var n (mux_signal on bit (held_of (parts_in a w).held mem var)) m.same e1 e2 e3 rest
 
+    -- the nets of the walk with one more held location are there, with their widths
     pub hold_walk : bit.width ≡ 1 → IsWalk b p ws new
     hold_walk k = record {
       there =
@@ -186,6 +193,7 @@ module _ (b : Circuit) (p : Pipe) (ws : List ℕ) (w : WalkNets) (h : IsWalk b p
         (sized_put p ws (parts_in b w) h.sized m (signal b on) (signal b value) l o k);
   }
 
+  -- the nets of the walk with one more reservation are there, with their widths
   pub reserve_walk : (m : ℕ) (on addr : Net) → IsThere b on → IsThere b addr → m < length p.mems
       → (signal b on).width ≡ 1 → 2 ^ (signal b addr).width ≡ (mem_at p m).depth
       → IsWalk b p ws (record w { reserves = w.reserves ++ record { mem = m; on = on; addr = addr } ∷ [] })
@@ -210,6 +218,7 @@ module _ (b : Circuit) (p : Pipe) (ws : List ℕ) (w : WalkNets) (h : IsWalk b p
         (sized_reserve p ws (parts_in b w) h.sized m (signal b on) (signal b addr) l o k);
   }
 
+  -- the nets of the walk with one more release are there, with their widths
   pub letting_walk : (m : ℕ) (on : Net) → IsThere b on → (signal b on).width ≡ 1
       → IsWalk b p ws (record w { lettings = w.lettings ++ record { mem = m; on = on } ∷ [] })
   letting_walk m on t o = let n : LettingNet = record { mem = m; on = on } in let s = h.there in record {
@@ -233,6 +242,7 @@ module _ (b : Circuit) (p : Pipe) (ws : List ℕ) (w : WalkNets) (h : IsWalk b p
         (sized_letting p ws (parts_in b w) h.sized m (signal b on) o);
   }
 
+  -- the nets of the walk with one more request are there, with their widths
   pub ask_walk : (m x : ℕ) (on addr : Net) → IsThere b on → IsThere b addr → m < length p.mems → (signal b on).width ≡ 1
       → 2 ^ (signal b addr).width ≡ (mem_at p m).depth
       → IsWalk b p ws (record w { asks = w.asks ++ record { mem = m; var = x; on = on; addr = addr } ∷ [] })

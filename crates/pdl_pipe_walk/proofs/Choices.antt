@@ -59,6 +59,7 @@ module _ (s : State) (on : Signal) where
   choices_on (f ∷ fs) [] e h = absurd (omega (arith, e))
   choices_on (f ∷ fs) (g ∷ gs) e h = ap₂ (λ v vs. v ∷ vs) (mux_at s on f g true h) (choices_on fs gs (omega (arith, e)) h)
 
+  -- where the condition is 0 the choices have the values of the second signals
   pub choices_off : (fs gs : List Signal) → length fs ≡ length gs → on.value s ≡ bit false → values_at s (choices on fs gs) ≡ values_at s gs
   choices_off [] [] e h = refl
   choices_off [] (g ∷ gs) e h = absurd (omega (arith, e))

@@ -28,13 +28,16 @@ module _ (c : Circuit) (p : Pipe) (ws : List ℕ) (ls : Locks) (tickets : ℕ �
   abbrev plain : Row
   plain = record { on = taken_signal w.vars gs; value = no_signal; args = []; guess = [] }
 
+  -- a delayed read asks its memory for the word at the location
   pub ask_step : (x m a : ℕ) (w' : Parts) → w' ≡ with_ask m x a (taken_signal w.vars gs) w
       → IsStep c p ls tickets gs (flat.DelayedRead x m a) (walk_of w) (walk_of w')
   ask_step x m a w' h = record { row = plain; on = is_on c p ws ls tickets gs w nets sized vars guards; does = λ d k well. tt; next = ap walk_of h }
 
+  -- a `spec_check` changes nothing
   pub check_step : IsStep c p ls tickets gs flat.SpecCheck (walk_of w) (walk_of w)
   check_step = record { row = plain; on = is_on c p ws ls tickets gs w nets sized vars guards; does = λ d k well. tt; next = refl }
 
+  -- a `spec_barrier` makes the thread wait for the barrier
   pub barrier_step : (w' : Parts) → w' ≡ with_barrier (taken_signal w.vars gs) w → IsStep c p ls tickets gs flat.SpecBarrier (walk_of w) (walk_of w')
   barrier_step w' h = record { row = plain; on = is_on c p ws ls tickets gs w nets sized vars guards; does = λ d k well. tt; next = ap walk_of h }
 
@@ -47,6 +50,7 @@ module _ (c : Circuit) (p : Pipe) (ws : List ℕ) (ls : Locks) (tickets : ℕ �
         have_values s w.vars (walk_of w) (λ y. refl)
         (bounded_in c p ws ls tickets gs w nets sized vars guards d k well s suits) es (subst (λ l. AreTyped l es) (sym sized.vars) typed)
 
+    -- a `spec_call` makes a call whose arguments are kept as the guess
     pub guess_step : (w' : Parts) → w' ≡ with_guess (taken_signal w.vars gs) (value_signals w.vars es) w
         → IsStep c p ls tickets gs (flat.SpecCall es) (walk_of w) (walk_of w')
     guess_step w' h =
@@ -67,6 +71,7 @@ module _ (c : Circuit) (p : Pipe) (ws : List ℕ) (ls : Locks) (tickets : ℕ �
           next = ap walk_of h;
         }
 
+    -- a `verify` makes a call, and the guess fails, where the arguments differ from the guess
     pub verify_step : (w' : Parts) → w' ≡ with_verify (taken_signal w.vars gs) (value_signals w.vars es) w
         → IsStep c p ls tickets gs (flat.Verify es) (walk_of w) (walk_of w')
     verify_step w' h =

@@ -48,6 +48,7 @@ module _ {T : Type 0} (l : Members T) (a b : Circuit) (e : Keeps a b)
     array = k.array;
   }
 
+  -- each memory still has its array, and its lock where it has one
   pub locked_keep : AreLocked l b p xs
   locked_keep = record {
     count = h.count;
@@ -72,6 +73,7 @@ module _ {T : Type 0} (l : Members T) (a b : Circuit) (e : Keeps a b)
       (fun_ext (λ m. same_net (λ x. x.regs.room) (λ m x low s. (h.locks m x low s).room_there) m (some_at xs m) refl))
       (fun_ext (λ m. same_net (λ x. x.regs.ticket) (λ m x low s. (h.locks m x low s).ticket_there) m (some_at xs m) refl))
 
+  -- the tickets still are there with the bits of their locks' tickets
   pub tickets_keep : (ts : List Net) → AreTickets l a xs ts → AreTickets l b xs ts
   tickets_keep ts t = record {
     there = there_keeps a b ts e t.there;
@@ -88,16 +90,19 @@ held_on : (c : Circuit) (x : Bits) (y : Net) → AreBits c x → y ≡ x.one →
 held_on c x y b e s = ap (λ n. n == 1) (ap (λ (f : Signal). f.value s) (ap (signal c) e ∙ b.one.same) ∙ one_is s)
 
 module _ (ls : Locks) (m : ℕ) (addr ticket : Signal) where
+  -- where the location is never held, a look for reading tells whether it is ready
   pub looked_off : (c : Circuit) (x : Bits) (y : Net) → AreBits c x → y ≡ x.zero → (f : Signal) (v : Option Signal)
       → LookLaw (ls.stands m) (ls.kind m) (ls.bits m) look_kind.R addr ticket f v
       → IsLooked ls m (signal c y) addr ticket f
   looked_off c x y b e f v law s = block_one ls m addr ticket f (signal c y) v false s law (held_off c x y b e s)
 
+  -- where the location is always held, a look for writing tells whether it is ready
   pub looked_on : (c : Circuit) (x : Bits) (y : Net) → AreBits c x → y ≡ x.one → (f : Signal) (v : Option Signal)
       → LookLaw (ls.stands m) (ls.kind m) (ls.bits m) look_kind.W addr ticket f v
       → IsLooked ls m (signal c y) addr ticket f
   looked_on c x y b e f v law s = block_one ls m addr ticket f (signal c y) v true s law (held_on c x y b e s)
 
+  -- a choice between a look for writing where the location is held, else one for reading, tells whether it is ready
   pub looked_either : (held f g : Signal) (v u : Option Signal)
       → LookLaw (ls.stands m) (ls.kind m) (ls.bits m) look_kind.W addr ticket f v
       → LookLaw (ls.stands m) (ls.kind m) (ls.bits m) look_kind.R addr ticket g u
@@ -159,6 +164,7 @@ module _ {T : Type 0} (l : Members T) (c : Circuit) (p : Pipe) (xs : List (Optio
       by None e = absurd (false≢true (sym (ap is_some e) ∙ h.locked m low ∙ locked))
       by (Some x) e = refl
 
+  -- the net of its room is there, with 1 bit
   pub room_there : IsThere c (room_net (some_at xs m)) × ((signal c (room_net (some_at xs m))).width ≡ 1)
   room_there = by (some_at xs m) refl
     where

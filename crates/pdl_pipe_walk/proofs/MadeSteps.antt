@@ -60,6 +60,7 @@ set_walk x f w l = fun_ext (λ y. signal_set w.vars x f y l)
 
 module _ (c : Circuit) (p : Pipe) (ws : List ℕ) (ls : Locks) (tickets : ℕ → Signal) (gs : List Guard) (w : Parts)
     (nets : HasNets c w.vars) (sized : IsSized p ws w) (vars : p.vars ≡ length ws) (guards : AreGuards ws gs) where
+  -- in each well-formed circuit that this one grows to, the variables' values are within their widths
   pub bounded_in : (d : Circuit) → Keeps c d → IsWell d → (s : State) → Suits d s → AreBounded s w.vars
   bounded_in d k well s suits = are_bounded c d w.vars nets k well s suits
 
@@ -87,6 +88,7 @@ module _ (c : Circuit) (p : Pipe) (ws : List ℕ) (ls : Locks) (tickets : ℕ �
 
   -- ---- each kind of statement
 
+  -- a binding sets the variable to the value of the expression
   pub bind_step : (x : ℕ) (e : Expr) (w' : Parts) → x < length ws → IsTyped ws e
       → w' ≡ with_var x (taken_signal w.vars gs) (value_signal w.vars e) w
       → IsStep c p ls tickets gs (flat.Bind x e) (walk_of w) (walk_of w')
@@ -108,6 +110,7 @@ module _ (c : Circuit) (p : Pipe) (ws : List ℕ) (ls : Locks) (tickets : ℕ �
             ∙ ap (λ v. record (walk_of w) { vars = v }) (set_walk x (mux_signal on f (signal_at w.vars x)) w (omega (arith, l, var_count p ws w sized)));
       }
 
+  -- a write adds one with the value of the expression
   pub write_step : (m a : ℕ) (e : Expr) (w' : Parts) → IsTyped ws e
       → w' ≡ with_put m (taken_signal w.vars gs) (value_signal w.vars e) w
       → IsStep c p ls tickets gs (flat.Write m a e) (walk_of w) (walk_of w')
@@ -120,6 +123,7 @@ module _ (c : Circuit) (p : Pipe) (ws : List ℕ) (ls : Locks) (tickets : ℕ �
         next = ap walk_of h;
       }
 
+  -- a call adds one with the values of its arguments
   pub call_step : (es : List Expr) (w' : Parts) → length es ≤ length ws → AreTyped ws es
       → w' ≡ with_call (taken_signal w.vars gs) (value_signals w.vars es) w
       → IsStep c p ls tickets gs (flat.Call es) (walk_of w) (walk_of w')
@@ -136,6 +140,7 @@ module _ (c : Circuit) (p : Pipe) (ws : List ℕ) (ls : Locks) (tickets : ℕ �
         next = ap walk_of h;
       }
 
+  -- a release makes the location held no more, and lets its reservation for writing go where it was held
   pub release_step : (m a : ℕ) (w' : Parts) → w' ≡ with_release m a (taken_signal w.vars gs) w
       → IsStep c p ls tickets gs (flat.Release m a) (walk_of w) (walk_of w')
   release_step m a w' h = record {
@@ -145,6 +150,7 @@ module _ (c : Circuit) (p : Pipe) (ws : List ℕ) (ls : Locks) (tickets : ℕ �
     next = ap walk_of h;
   }
 
+  -- a reservation for reading changes nothing
   pub idle_step : (m a : ℕ) → IsStep c p ls tickets gs (flat.ReserveRead m a) (walk_of w) (walk_of w)
   idle_step m a = record {
     row = record { on = taken_signal w.vars gs; value = no_signal; args = []; guess = [] };
@@ -153,6 +159,7 @@ module _ (c : Circuit) (p : Pipe) (ws : List ℕ) (ls : Locks) (tickets : ℕ �
     next = refl;
   }
 
+  -- a reservation for writing holds the location, waits for room and reserves the address
   pub reserve_step : (m a : ℕ) (w' : Parts) → IsLocation p ws m a → is_locked p m ≡ true
       → w' ≡ with_reserve m a (taken_signal w.vars gs) (ls.room m) w
       → IsStep c p ls tickets gs (flat.ReserveWrite m a) (walk_of w) (walk_of w')
@@ -163,6 +170,7 @@ module _ (c : Circuit) (p : Pipe) (ws : List ℕ) (ls : Locks) (tickets : ℕ �
     next = ap walk_of h;
   }
 
+  -- a block waits until the look for its location is ready
   pub block_step : (m a : ℕ) (w' : Parts) → is_locked p m ≡ true
       → IsBlocked ls tickets (taken_signal w.vars gs) m a w w'
       → IsStep c p ls tickets gs (flat.Block m a) (walk_of w) (walk_of w')
@@ -194,6 +202,7 @@ module _ (c : Circuit) (p : Pipe) (ws : List ℕ) (ls : Locks) (tickets : ℕ �
     locked = λ u x t stands covered holds looked. e ∙ h.locked u x t stands covered holds looked;
   }
 
+  -- a read that answers at once sets the variable to the word at the location
   pub read_step : (x m a : ℕ) (w' : Parts) → ls.array m ≡ comb_place p m → x < length ws → IsLocation p ws m a
       → IsRead p ls tickets (taken_signal w.vars gs) x m a w w'
       → IsStep c p ls tickets gs (flat.CombRead x m a) (walk_of w) (walk_of w')

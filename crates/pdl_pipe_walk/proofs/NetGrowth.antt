@@ -33,6 +33,7 @@ bits_keep a b x e t = record {
 }
 
 module _ (a b : Circuit) (e : Keeps a b) where
+  -- held locations mean what they meant
   pub held_keep : (hs : List HeldNet) → Each (λ (h : HeldNet). IsThere a h.net) hs → map (held_in b) hs ≡ map (held_in a) hs
   held_keep hs t =
       map_each (held_in b) (held_in a) (λ h. IsThere a h.net) (λ h k. ap (λ f. record { mem = h.mem; var = h.var; signal = f }) (e.kept h.net k)) hs t
@@ -61,6 +62,7 @@ module _ (a b : Circuit) (e : Keeps a b) where
       map_each (ask_in b) (ask_in a) (λ x. IsThere a x.on × IsThere a x.addr)
       (λ x k. ap₂ (λ f g. record { mem = x.mem; var = x.var; on = f; addr = g }) (e.kept x.on k.0) (e.kept x.addr k.1)) xs t
 
+  -- all nets of a walk mean what they meant
   pub parts_keep : (w : WalkNets) → IsThereWalk a w → parts_in b w ≡ parts_in a w
   parts_keep w t =
       cc (
@@ -77,6 +79,7 @@ module _ (a b : Circuit) (e : Keeps a b) where
         e.kept w.barrier t.barrier,
       )
 
+  -- the nets of a walk stay there
   pub there_walk : (w : WalkNets) → IsThereWalk a w → IsThereWalk b w
   there_walk w t = record {
     vars = there_keeps a b w.vars.items e t.vars;
@@ -100,6 +103,7 @@ module _ (a b : Circuit) (e : Keeps a b) where
     barrier = e.there w.barrier t.barrier;
   }
 
+  -- the nets of a walk stay there, with their widths
   pub walk_keep : (p : Pipe) (ws : List ℕ) (w : WalkNets) → IsWalk a p ws w → IsWalk b p ws w
   walk_keep p ws w h = record { there = there_walk w h.there; sized = subst (IsSized p ws) (sym (parts_keep w h.there)) h.sized }
 

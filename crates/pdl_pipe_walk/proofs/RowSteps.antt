@@ -46,9 +46,11 @@ steps_push c b p ls tickets xs x w v u e h s d k well =
     rows_push d p ls tickets xs x w v u s.row (h d (keeps_trans c b d e k) well) (record { on = s.on d k well; op = s.does d k well }) s.next
 
 module _ (rows : List ℕ) (i : ℕ) (l : i < length rows) (f : Form) (xs : List Stmt) where
+  -- where nets can be made of the statements from the i-th number on, they can be of the next one and of those after it
   pub rows_split : AreWalkedRows f xs (drop i rows) → AreWalkedRows f xs (get_or rows i 0 ∷ drop (i + 1) rows)
   rows_split h = subst (AreWalkedRows f xs) (drop_more rows i 0 l) h
 
+  -- the statements of the first i + 1 numbers are those of the first i and that of the next one
   pub rows_more : map (stmt_at xs) (take (i + 1) rows) ≡ map (stmt_at xs) (take i rows) ++ stmt_at xs (get_or rows i 0) ∷ []
   rows_more = ap (map (stmt_at xs)) (take_more rows i 0 l) ∙ map-append (stmt_at xs) (take i rows) _
 

@@ -72,6 +72,7 @@ module _ (a b : Circuit) (e : Keeps a b) (w : WalkNets) (t : IsThereWalk a w) wh
   kept : parts_in b w ≡ parts_in a w
   kept = parts_keep a b e w t
 
+  -- with another net for a variable, its signal alone is another
   pub vars_parts : (new : WalkNets) (x : ℕ) (n : Net) (f : Signal) → signal b n ≡ f
       → new.vars.items ≡ slice_set w.vars.items x n → new.held ≡ w.held → new.births ≡ w.births → SameRest w new
       → parts_in b new ≡ record (parts_in a w) { vars = slice_set (signals_in a w.vars.items) x f }
@@ -81,9 +82,11 @@ module _ (a b : Circuit) (e : Keeps a b) (w : WalkNets) (t : IsThereWalk a w) wh
       (ap (λ h. map (held_in b) h.items) h) (ap (λ h. map (birth_in b) h.items) k) r
       ∙ ap (λ (q : Parts). record q { vars = slice_set q.vars x f }) kept
 
+  -- with another ready net, the ready signal alone is another
   pub ready_parts : (n : Net) (f : Signal) → signal b n ≡ f → parts_in b (record w { ready = n }) ≡ record (parts_in a w) { ready = f }
   ready_parts n f m = ap₂ (λ (q : Parts) g. record q { ready = g }) kept m
 
+  -- with one more held location, it comes in front of the held ones and nothing else changes
   pub held_parts : (new : WalkNets) (m v : ℕ) (n : Net) (f : Signal) → signal b n ≡ f
       → new.held.items ≡ record { mem = m; var = v; net = n } ∷ w.held.items → new.vars ≡ w.vars → new.births ≡ w.births
       → SameRest w new
@@ -95,12 +98,15 @@ module _ (a b : Circuit) (e : Keeps a b) (w : WalkNets) (t : IsThereWalk a w) wh
       (ap (λ h. map (birth_in b) h.items) h2) r
       ∙ ap (λ (q : Parts). record q { held = record { mem = m; var = v; signal = f } ∷ q.held }) kept
 
+  -- with another net of whether a verify fails, its signal alone is another
   pub fails_parts : (n : Net) (f : Signal) → signal b n ≡ f → parts_in b (record w { fails = n }) ≡ record (parts_in a w) { fails = f }
   fails_parts n f m = ap₂ (λ (q : Parts) g. record q { fails = g }) kept m
 
+  -- with another net of the barrier, its signal alone is another
   pub barrier_parts : (n : Net) (f : Signal) → signal b n ≡ f → parts_in b (record w { barrier = n }) ≡ record (parts_in a w) { barrier = f }
   barrier_parts n f m = ap₂ (λ (q : Parts) g. record q { barrier = g }) kept m
 
+  -- with other nets of the guess, its signals alone are others
   pub guess_parts : (ns : List Net) (fs : List Signal) → signals_in b ns ≡ fs → parts_in b (record w { guess = ns }) ≡ record (parts_in a w) { guess = fs }
   guess_parts ns fs m = ap₂ (λ (q : Parts) gs. record q { guess = gs }) kept m
 
@@ -110,16 +116,20 @@ module _ (b : Circuit) (w : WalkNets) where
       → parts_in b (record w { reserves = w.reserves ++ n ∷ [] }) ≡ record (parts_in b w) { reserves = (parts_in b w).reserves ++ reservation_in b n ∷ [] }
   reserve_parts n = ap (λ l. record (parts_in b w) { reserves = l }) (map-append (reservation_in b) w.reserves (n ∷ []))
 
+  -- with one write more, it comes after the writes and nothing else changes
   pub put_parts : (n : PutNet) → parts_in b (record w { puts = w.puts ++ n ∷ [] }) ≡ record (parts_in b w) { puts = (parts_in b w).puts ++ put_in b n ∷ [] }
   put_parts n = ap (λ l. record (parts_in b w) { puts = l }) (map-append (put_in b) w.puts (n ∷ []))
 
+  -- with one release more, it comes after the releases and nothing else changes
   pub letting_parts : (n : LettingNet)
       → parts_in b (record w { lettings = w.lettings ++ n ∷ [] }) ≡ record (parts_in b w) { lettings = (parts_in b w).lettings ++ letting_in b n ∷ [] }
   letting_parts n = ap (λ l. record (parts_in b w) { lettings = l }) (map-append (letting_in b) w.lettings (n ∷ []))
 
+  -- with one request more, it comes after the requests and nothing else changes
   pub ask_parts : (n : AskNet) → parts_in b (record w { asks = w.asks ++ n ∷ [] }) ≡ record (parts_in b w) { asks = (parts_in b w).asks ++ ask_in b n ∷ [] }
   ask_parts n = ap (λ l. record (parts_in b w) { asks = l }) (map-append (ask_in b) w.asks (n ∷ []))
 
+  -- with one call more, it comes in front of the calls and nothing else changes
   pub birth_parts : (new : WalkNets) (n : BirthNet) → new.births.items ≡ n ∷ w.births.items → new.vars ≡ w.vars → new.held ≡ w.held → SameRest w new
       → parts_in b new ≡ record (parts_in b w) { births = birth_in b n ∷ (parts_in b w).births }
   birth_parts new n h h1 h2 r =
@@ -129,6 +139,7 @@ module _ (b : Circuit) (w : WalkNets) where
 -- ---- widths after a change
 
 module _ (p : Pipe) (ws : List ℕ) (w : Parts) (s : IsSized p ws w) where
+  -- the widths stay as they should where a variable is set to a signal of its width
   pub sized_var : (x : ℕ) (on f : Signal) → f.width ≡ slice_index ws x → IsSized p ws (with_var x on f w)
   sized_var x on f e = record {
     vars = widths_set w.vars x (mux_signal on f (signal_at w.vars x)) (e ∙ sym (var_width p ws w x s)) ∙ s.vars;
@@ -144,6 +155,7 @@ module _ (p : Pipe) (ws : List ℕ) (w : Parts) (s : IsSized p ws w) where
     barrier = s.barrier;
   }
 
+  -- the widths stay as they should where the thread waits for a bit more
   pub sized_ready : (on f : Signal) → f.width ≡ 1 → IsSized p ws (record w { ready = both w.ready (if_on on f) })
   sized_ready on f e =
       record {
@@ -160,6 +172,7 @@ module _ (p : Pipe) (ws : List ℕ) (w : Parts) (s : IsSized p ws w) where
         barrier = s.barrier;
       }
 
+  -- the widths stay as they should where a location is held as a bit says
   pub sized_held : (m a : ℕ) (on bit : Signal) → bit.width ≡ 1 → IsSized p ws (with_held m a on bit w)
   sized_held m a on bit e =
       record {
@@ -176,6 +189,7 @@ module _ (p : Pipe) (ws : List ℕ) (w : Parts) (s : IsSized p ws w) where
         barrier = s.barrier;
       }
 
+  -- the widths stay as they should with one write more, of a word's width
   pub sized_put : (m : ℕ) (on f : Signal) → m < length p.mems → on.width ≡ 1 → f.width ≡ (mem_at p m).width → IsSized p ws (with_put m on f w)
   sized_put m on f l o e = record {
     vars = s.vars;
@@ -191,6 +205,7 @@ module _ (p : Pipe) (ws : List ℕ) (w : Parts) (s : IsSized p ws w) where
     puts = each_push (IsSizedPut p) w.puts (record { mem = m; on = on; value = f }) s.puts (l, o, e);
   }
 
+  -- the widths stay as they should with one reservation more, whose address reaches each word and no more
   pub sized_reserve : (m : ℕ) (on f : Signal) → m < length p.mems → on.width ≡ 1 → 2 ^ f.width ≡ (mem_at p m).depth
       → IsSized p ws (record w { reserves = w.reserves ++ record { mem = m; on = on; addr = f } ∷ [] })
   sized_reserve m on f l o e = record {
@@ -207,6 +222,7 @@ module _ (p : Pipe) (ws : List ℕ) (w : Parts) (s : IsSized p ws w) where
     reserves = each_push (IsSizedReserve p) w.reserves (record { mem = m; on = on; addr = f }) s.reserves (l, o, e);
   }
 
+  -- the widths stay as they should with one release more, whose condition has 1 bit
   pub sized_letting : (m : ℕ) (on : Signal) → on.width ≡ 1 → IsSized p ws (record w { lettings = w.lettings ++ record { mem = m; on = on } ∷ [] })
   sized_letting m on o = record {
     vars = s.vars;
@@ -222,6 +238,7 @@ module _ (p : Pipe) (ws : List ℕ) (w : Parts) (s : IsSized p ws w) where
     lettings = each_push (λ (x : Letting). x.on.width ≡ 1) w.lettings (record { mem = m; on = on }) s.lettings o;
   }
 
+  -- the widths stay as they should with one request more, whose address reaches each word and no more
   pub sized_ask : (m x : ℕ) (on f : Signal) → m < length p.mems → on.width ≡ 1 → 2 ^ f.width ≡ (mem_at p m).depth
       → IsSized p ws (record w { asks = w.asks ++ record { mem = m; var = x; on = on; addr = f } ∷ [] })
   sized_ask m x on f l o e = record {
@@ -238,6 +255,7 @@ module _ (p : Pipe) (ws : List ℕ) (w : Parts) (s : IsSized p ws w) where
     asks = each_push (IsSizedAsk p) w.asks (record { mem = m; var = x; on = on; addr = f }) s.asks (l, o, e);
   }
 
+  -- the widths stay as they should with another bit of whether a verify fails
   pub sized_fails : (f : Signal) → f.width ≡ 1 → IsSized p ws (record w { fails = f })
   sized_fails f e =
       record {
@@ -254,6 +272,7 @@ module _ (p : Pipe) (ws : List ℕ) (w : Parts) (s : IsSized p ws w) where
         barrier = s.barrier;
       }
 
+  -- the widths stay as they should with another bit of the barrier
   pub sized_barrier : (f : Signal) → f.width ≡ 1 → IsSized p ws (record w { barrier = f })
   sized_barrier f e =
       record {
@@ -270,6 +289,7 @@ module _ (p : Pipe) (ws : List ℕ) (w : Parts) (s : IsSized p ws w) where
         barrier = e;
       }
 
+  -- the widths stay as they should with another guess, of the parameters' widths
   pub sized_guess : (fs : List Signal) → widths_of fs ≡ take (length p.start) ws → IsSized p ws (record w { guess = fs })
   sized_guess fs e =
       record {
@@ -286,6 +306,7 @@ module _ (p : Pipe) (ws : List ℕ) (w : Parts) (s : IsSized p ws w) where
         barrier = s.barrier;
       }
 
+  -- the widths stay as they should with one call more, whose arguments have the parameters' widths
   pub sized_call : (on : Signal) (args : List Signal) → on.width ≡ 1 → widths_of args ≡ take (length p.start) ws → IsSized p ws (with_call on args w)
   sized_call on args o k =
       record {

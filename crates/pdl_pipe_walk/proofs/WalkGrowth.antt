@@ -21,21 +21,27 @@ use Rattle.pdl_pipe_walk.proofs.Arguments.{arguments_typed, arguments_wide}
 use Rattle.pdl_pipe_walk.proofs.NetGrowth.{there_walk, walk_keep, var_width, var_count, parts_keep}
 
 module _ (a b : Circuit) (e : Extends a b) (p : Pipe) (ws : List ℕ) (w : WalkNets) (h : IsWalk a p ws w) where
+  -- the nets of the walk stay there, with their widths
   pub walk_more : IsWalk b p ws w
   walk_more = walk_keep a b (extends_keeps a b e) p ws w h
 
+  -- the nets of the walk stay there
   pub there_more : IsThereWalk b w
   there_more = there_walk a b (extends_keeps a b e) w h.there
 
+  -- the nets of the walk mean what they meant
   pub parts_more : parts_in b w ≡ parts_in a w
   parts_more = parts_keep a b (extends_keeps a b e) w h.there
 
+  -- the nets of the variables stay there
   pub vars_more : NetsThere b w.vars.items
   vars_more = nets_there a b w.vars.items e h.there.vars
 
+  -- the nets of the variables mean what they meant
   pub vars_same : signals_in b w.vars.items ≡ signals_in a w.vars.items
   vars_same = nets_kept a b w.vars.items e h.there.vars
 
+  -- the nets of the variables have their widths
   pub widths_more : widths_of (signals_in b w.vars.items) ≡ ws
   widths_more = ap widths_of vars_same ∙ h.sized.vars
 
@@ -44,21 +50,26 @@ module _ (c : Circuit) (p : Pipe) (ws : List ℕ) (w : WalkNets) (h : IsWalk c p
   pub slice_there : NetsThere c vs
   slice_there = subst (NetsThere c) (sym e) h.there.vars
 
+  -- its nets mean what those of the variables mean
   pub slice_same : signals_in c vs ≡ signals_in c w.vars.items
   slice_same = ap (signals_in c) e
 
   slice_widths : widths_of (signals_in c vs) ≡ ws
   slice_widths = ap widths_of slice_same ∙ h.sized.vars
 
+  -- it has a net for each variable
   pub slice_low : (x : ℕ) → x < length ws → x < length vs
   slice_low x l = omega (arith, l, ap length e, var_count p ws (parts_in c w) h.sized, length_signals c w.vars.items)
 
+  -- guards that go by variables of 1 bit go by nets of 1 bit
   pub slice_guards : (gs : List Guard) → AreGuards ws gs → AreGuards (widths_of (signals_in c vs)) gs
   slice_guards gs t = subst (λ l. AreGuards l gs) (sym slice_widths) t
 
+  -- a value that is typed by the variables' widths is typed by those of the nets
   pub slice_typed : (v : Expr) → IsTyped ws v → IsTyped (widths_of (signals_in c vs)) v
   slice_typed v t = subst (λ l. IsTyped l v) (sym slice_widths) t
 
+  -- arguments that are typed by the variables' widths are typed by those of the nets
   pub slice_all_typed : (ns : List ℕ) (es : List Expr) → AreArguments ws ns es → AreTyped (widths_of (signals_in c vs)) es
   slice_all_typed ns es t = subst (λ l. AreTyped l es) (sym slice_widths) (arguments_typed ws ns es t)
 
@@ -66,6 +77,7 @@ module _ (c : Circuit) (p : Pipe) (ws : List ℕ) (w : WalkNets) (h : IsWalk c p
   pub slice_wide : (d : Circuit) (v : Expr) (n : Net) → IsTyped ws v → Means d n (value_signal (signals_in c vs) v) → (signal d n).width ≡ width_in ws v
   slice_wide d v n t m = ap (λ (f : Signal). f.width) m.same ∙ value_width (signals_in c vs) v (slice_typed v t) ∙ ap (λ l. width_in l v) slice_widths
 
+  -- the signals of the arguments' values have the parameters' widths
   pub slice_all_wide : (ns : List ℕ) (es : List Expr) (fs : List Signal) → AreArguments ws ns es → fs ≡ value_signals (signals_in c vs) es → widths_of fs ≡ ns
   slice_all_wide ns es fs t q = ap widths_of q ∙ arguments_wide (signals_in c vs) ns es (subst (λ l. AreArguments l ns es) (sym slice_widths) t)
 

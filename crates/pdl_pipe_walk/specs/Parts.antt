@@ -75,6 +75,7 @@ reservation_in c r = record { mem = r.mem; on = signal c r.on; addr = signal c r
 abbrev pub put_in : Circuit → PutNet → Put
 put_in c x = record { mem = x.mem; on = signal c x.on; value = signal c x.value }
 
+-- a release by its net in a circuit
 abbrev pub letting_in : Circuit → LettingNet → Letting
 letting_in c x = record { mem = x.mem; on = signal c x.on }
 

@@ -16,6 +16,7 @@ use Rattle.pdl_port.specs.Places.{HasPlaces, HasStep, owns_at}
 use Rattle.pdl_port.specs.Nets.{owns_signal, free_signal, open_signal, orphan_signal, next_owns, NextPlaces}
 use Rattle.pdl_word.proofs.Numbers.{upto}
 
+-- by no places, a port is free where there is no orphan, or the orphan is answered
 pub free_none : (l : PortLayout) (reply : Signal) (moves : ℕ → Signal)
     → free_signal l reply moves 0 ≡ mux_signal (reg_signal 1 l.from) reply (const_signal 1 1)
 unfolding free_signal
@@ -30,10 +31,12 @@ free_more l reply moves k = ap (free_signal l reply moves) (add-one k)
 
 pub ruleset frees = (free_none, free_more)
 
+-- by no places, an orphan is left where there was one that isn't answered
 pub orphan_none : (l : PortLayout) (f : StepSignals) → orphan_signal l f 0 ≡ mux_signal f.reply (const_signal 1 0) (reg_signal 1 l.from)
 unfolding orphan_signal
 orphan_none l f = refl
 
+-- whether an orphan is left by the first k + 1 places, by whether one is by the first k
 pub orphan_more : (l : PortLayout) (f : StepSignals) (k : ℕ)
     → orphan_signal l f (k + 1)
     ≡ mux_signal (f.removed k) (mux_signal (open_signal l f k) (const_signal 1 1) (orphan_signal l f k)) (orphan_signal l f k)

@@ -101,6 +101,7 @@ apart_same d n word slot word' slot' w v p = record {
   apart = λ j k h g e. p.apart j k h g (sym (w j h) ∙ e ∙ v k g);
 }
 
+-- what is 1 as a bit is true
 pub bit_one : (t : Bool) → bit t ≡ 1 → t ≡ true
 bit_one true e = refl
 bit_one false e = absurd (cc e)

@@ -15,6 +15,7 @@ use Rattle.pdl_rename.specs.Nets.{registers_of_map, registers_of_places, mapped_
 pub mapped_width : (l : Layout) (d : Signal) → (mapped_place l d).width ≡ l.slots.kept
 mapped_width l d = selected_width (register_of (registers_of_map l)) d l.slots.kept (λ k. refl) l.slots.bits 0
 
+-- the place that a ticket's slot holds has the bits of a place
 pub placed_width : (l : Layout) (d : Signal) → (ticket_place l d).width ≡ l.slots.kept
 placed_width l d = selected_width (register_of (registers_of_places l)) d l.slots.kept (λ k. refl) (l.slots.ticket - 1) 0
 

@@ -271,6 +271,7 @@ module _ (l : Layout) (s : State) (x : LockState) (f : StepSignals) (a : LockAct
   abbrev pub map_left : ℕ → ℕ
   map_left b = if a.release2 then M2 b else if a.release then M1 b else M b
 
+  -- the place of each slot after the cycle's releases
   abbrev pub places_left : ℕ → ℕ
   places_left k = if a.release2 then P2 k else if a.release then P1 k else P k
 
@@ -493,6 +494,7 @@ module _ (l : Layout) (s : State) (x : LockState) (f : StepSignals) (a : LockAct
         by true false = length-set x.words e0.addr (or_zero e0.value)
         by false false = refl
 
+    -- in the next state the registers and the array stand for the pending writes and the words of the step
     pub stands_next : Stands l t (step x a)
     stands_next = record {
       entries =
@@ -519,6 +521,7 @@ module _ (l : Layout) (s : State) (x : LockState) (f : StepSignals) (a : LockAct
       ((stored_signal l f slot place j).value s)) e
       ∙ ap (λ m. words.mux (words.equal ((written_slot l.slots f j).value s) k) ((ticket_at f.writes j).value.value s) m) rest
 
+  -- where a write is released, the net of its value has the oldest pending write's value
   pub commit0 : a.release ≡ true → (oldest_value l f).value s ≡ or_zero e0.value
   commit0 o =
       stored_is (slot_of l.slots (head_signal l.slots))
@@ -528,6 +531,7 @@ module _ (l : Layout) (s : State) (x : LockState) (f : StepSignals) (a : LockAct
       ∙ sym (ticket_value l.slots c.cycle.sized (after_fill l.slots f V) (head_signal l.slots) s x.base (ended.head_value l.slots V s x f a c.cycle))
       ∙ oldest_value_is l.slots V s x f a c.cycle o
 
+  -- where a second write is released, the net of its value has the second oldest pending write's value
   pub commit1 : a.release2 ≡ true → (next_value l f).value s ≡ or_zero e1.value
   commit1 o =
       stored_is (slot_of l.slots (next_head l.slots))
@@ -541,6 +545,7 @@ module _ (b : Circuit) (l : Layout) (f : StepSignals) (z : IsRenaming l) (w : Ti
   turn : (s : State) (x : LockState) (a : LockAct) → Stands l s x → Drives l.slots.ticket f s a → Proper l.slots.size x a → Turn l s x f a
   turn s x a h d p = record { renaming = z; stands = h; cycle = record { sized = z.sized; stands = h.entries; fit = w; drives = d; proper = p }; addresses = v }
 
+  -- the renaming lock keeps the law of the step, where its registers and array take next what they have to
   pub step_law : NextRename b l f
       → StepLaw (Stands l) l.slots.size l.slots.ticket (own_rename l) b f f.release (mux_signal f.release (oldest_addr l.slots f) (const_signal l.slots.bits 0))
       (mux_signal f.release (oldest_value l f) (const_signal l.slots.width 0))
@@ -556,6 +561,7 @@ module _ (b : Circuit) (l : Layout) (f : StepSignals) (z : IsRenaming l) (w : Ti
     next = λ s u x a h d p o. stands_next l s x f a (turn s x a h d p) b u n o;
   }
 
+  -- the renaming lock keeps the law of the second commit
   pub commit2_law : Commit2Law (Stands l) l.slots.size l.slots.ticket f f.release2 (mux_signal f.release2 (next_addr l.slots f) (const_signal l.slots.bits 0))
       (mux_signal f.release2 (next_value l f) (const_signal l.slots.width 0))
   unfolding mux_value const_value

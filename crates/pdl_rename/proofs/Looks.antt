@@ -68,6 +68,7 @@ ready_is W x t a = refl
 fits_in : (l : Layout) → IsRenaming l → (a : Signal) (s : State) → a.width ≡ l.slots.bits → a.value s < 2 ^ a.width → a.value s < l.depth
 fits_in l z a s w fit = subst (λ d. a.value s < d) (ap (λ n. 2 ^ n) w ∙ sym z.depth) fit
 
+-- the renaming lock's look keeps the law of looks, with the word that the found place has
 pub look_law : (l : Layout) (u : Kind) (a t : Signal) → IsRenaming l → a.width ≡ l.slots.bits → t.width ≡ l.slots.ticket
     → LookLaw (Stands l) Rename l.slots.ticket u a t (youngest_look u (youngest_ready l.slots a t)) (Some (found_word l a t))
 look_law l u a t z v w = record {
@@ -81,6 +82,7 @@ look_law l u a t z v w = record {
       (read_signal l.slots.width l.array (mapped_place l a)) (word_is l z a s x h (fits_in l z a s v fit)) ready;
 }
 
+-- the renaming lock's look keeps the law of late looks too, asked with the ticket after the next one
 pub late_law : (l : Layout) (u : Kind) (a t : Signal) → IsRenaming l
     → a.width ≡ l.slots.bits → t.width ≡ l.slots.ticket
     → LateLookLaw (Stands l) Rename l.slots.size l.slots.ticket u a t (youngest_look u (youngest_ready l.slots a t)) (Some (found_word l a t))

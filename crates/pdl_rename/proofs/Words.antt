@@ -5,6 +5,7 @@ use Rattle.pdl_lockapi.specs.Laws.{StepSignals}
 use Rattle.pdl_rename.specs.declared.layout.Layout.{Layout}
 use Rattle.pdl_rename.specs.Nets.{put_signal, stored_signal}
 
+-- before any write port, a slot's word is the array's at its place
 pub stored_none : (l : Layout) (f : StepSignals) (slot place : Signal)
     → stored_signal l f slot place 0 ≡ read_signal l.slots.width l.array place
 unfolding stored_signal

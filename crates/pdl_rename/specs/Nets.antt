@@ -116,6 +116,7 @@ next_map l f a =
 pub record NextMap (c : Circuit) (l : Layout) (f : StepSignals) (n : ℕ) : Type 0 where
   pub map : (a : ℕ) → a < n → next_signal c (map_at l a) ≡ next_map l f a
 
+-- what the places of the first n slots take next
 pub record NextPlaces (c : Circuit) (l : Layout) (f : StepSignals) (n : ℕ) : Type 0 where
   pub place : (k : ℕ) → k < n → next_signal c (value_at l.slots k) ≡ next_place l f k
 

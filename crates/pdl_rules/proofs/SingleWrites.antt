@@ -300,6 +300,7 @@ stuck_next p l before x keeps stuck = record {
       omega (arith, count_push (writes_location l) before x);
 }
 
+-- a reserve of a location that is blocked to be written, and so not released, leaves it open
 pub left_open : (before : List Place) (l : Location)
     → hold_after l before ≡ Blocked W → (x : Place) → reserves_location l x ≡ true → leaves_open before x ≡ true
 left_open before l e (Statement (Reserve s at k) bs) same = rw (held_alike at l same before, e) refl

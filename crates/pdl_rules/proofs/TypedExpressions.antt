@@ -69,6 +69,7 @@ equal_if m n e = eqb-true m n (not-false _ e)
 module _ (vs all : List Var) (early : Use → Bool)
     (knows : (x : List ℕ) → early (OfVariable x) ≡ false → IsTrue (is_named vs x))
     (stays : (x : List ℕ) → IsTrue (is_named vs x) → var_width all x ≡ var_width vs x) where
+  -- an expression that breaks no rule is typed by the variables so far, and as wide by them as by all variables
   pub typed : (e : Expr) → Fits early all (of_one e) → IsTyped vs e × (width_of all e ≡ width_of vs e)
   typed (Constant l) f =
       let width = width_is l.width f.literals in

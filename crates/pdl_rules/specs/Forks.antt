@@ -66,6 +66,7 @@ breaks_f2 p before x = at_statement false (λ s bs. is_wrong_fork (places_after 
 abbrev pub breaks_fetch_order : List ℕ → Place → Bool
 breaks_fetch_order m x = at_statement false (λ s bs. fetches (λ at. bytes_eq at.mem.name m) s) x
 
+-- F3: a delayed read that stands in the last stage, or whose memory a delayed read before it reads
 abbrev pub is_wrong_fetch : Pipe → List Place → ℕ → Location → Bool
 is_wrong_fetch p before k at = (k == stage_after (places p)) || list_any (breaks_fetch_order at.mem.name) before
 

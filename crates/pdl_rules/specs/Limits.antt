@@ -89,6 +89,7 @@ allows_lock d delayed Rename s = not delayed && (nat_le d 64 && nat_le s d)
 abbrev pub is_wrong_lock : Mem → LockDecl → Bool
 is_wrong_lock m l = not (is_size l.size.value && allows_lock m.depth.value m.delayed l.kind l.size.value)
 
+-- whether a memory has a width, a depth or a lock that is not allowed
 abbrev pub is_wrong_memory : Mem → Bool
 is_wrong_memory m = not (is_width m.width.value && is_depth m.depth.value) || is_some_and (is_wrong_lock m) m.lock
 

@@ -59,6 +59,7 @@ after_block (Reserved k) = Blocked k
 after_block (Blocked k) = Blocked k
 after_block Released = Released
 
+-- what is held of a location after a statement, by what was held before it
 abbrev pub after_statement : Location → Hold → Stmt → Hold
 after_statement at h (Separator _) = h
 after_statement at h (CombRead _ _ _) = h
@@ -202,6 +203,7 @@ breaks_l5 p before x = on_some_path (λ earlier. is_reserved_again earlier x) p 
 abbrev pub writes_location : Location → Place → Bool
 writes_location l x = at_statement false (λ s bs. writes (λ at e. same_location at l) s) x
 
+-- whether a location is held to be written, and the earlier places don't write it exactly once
 abbrev pub is_not_written : List Place → Location → Bool
 is_not_written earlier at = is_held_for W (hold_after at earlier) && not (count_by (writes_location at) earlier == 1)
 

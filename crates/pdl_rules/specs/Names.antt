@@ -124,6 +124,7 @@ breaks_n2 p before x = is_some_and (is_taken_name p before) (name_at x)
 abbrev pub is_parameter : Pipe → List ℕ → Bool
 is_parameter p x = list_any (λ (a : Param). bytes_eq x a.name.name) p.params
 
+-- whether a use needs a definition before it: that of a guess does, and that of a variable that is no parameter
 abbrev pub needs_definition : Pipe → Use → Bool
 needs_definition p (OfVariable x) = not (is_parameter p x)
 needs_definition p (OfMemory _) = false

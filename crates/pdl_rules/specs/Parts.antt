@@ -25,6 +25,7 @@ pub data Expressions : Type 0 where
   One : (e : Expr) → Expressions
   Arguments : (es : List Expr) → Expressions
 
+-- the parts of a statement: the names that it gives or verifies, its location, its expressions, and its branches
 pub record StmtParts : Type 0 where
   pub variable : Option Ident  -- that it binds
   pub guess : Option Ident  -- that it makes

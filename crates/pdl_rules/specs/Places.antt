@@ -80,6 +80,7 @@ abbrev mutual
   with_inner bs (SpecCheck s) = Statement (SpecCheck s) bs ∷ []
   with_inner bs (SpecBarrier s) = Statement (SpecBarrier s) bs ∷ []
 
+  -- the places of some statements in these branches, in text order
   pub statements : List Branch → Stmts → List Place
   statements bs Nil = []
   statements bs (Cons s ss) = with_inner bs s ++ statements bs ss

@@ -136,6 +136,7 @@ breaks_w4 p x = some_location (is_wrong_address p) x
 abbrev pub are_no_arguments : Pipe → List ℕ → Bool
 are_no_arguments p ws = not (pointwise nat_eq ws (map (λ (a : Param). a.width.value) p.params))
 
+-- whether expressions are arguments that don't have the parameters' number and widths
 abbrev pub has_wrong_arguments : Pipe → Expressions → Bool
 has_wrong_arguments p NoExpressions = false
 has_wrong_arguments p (One e) = false

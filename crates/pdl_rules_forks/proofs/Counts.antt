@@ -18,6 +18,7 @@ mutual
       ∙ sym (length-append (statements (cs ++ record { guard = guard_of sp c; truth = true; inside = when } ∷ []) when) _))
   long_in bs cs _ = refl
 
+  -- some statements have as many places in whichever branches they stand
   pub long_all : (bs cs : List Branch) (ss : Stmts) → length (statements bs ss) ≡ length (statements cs ss)
   long_all bs cs Nil = refl
   long_all bs cs (Cons s ss) =

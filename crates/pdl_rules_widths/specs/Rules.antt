@@ -17,11 +17,13 @@ is_wrong_address vs ms at = not (var_width vs at.address.name == address_bits (m
 abbrev pub are_wrong : List Param → List ℕ → Bool
 are_wrong params ws = not (pointwise nat_eq ws (map (λ (a : Param). a.width.value) params))
 
+-- whether expressions are arguments that don't have the parameters' number and widths
 abbrev pub are_wrong_arguments : List Var → List Param → Expressions → Bool
 are_wrong_arguments vs params NoExpressions = false
 are_wrong_arguments vs params (One e) = false
 are_wrong_arguments vs params (Arguments es) = are_wrong params (map (width_of vs) es)
 
+-- whether the arguments at a place, of a statement or of the start, don't have the parameters' number and widths
 abbrev pub has_wrong_arguments : List Var → List Param → Place → Bool
 has_wrong_arguments vs params (Parameter _) = false
 has_wrong_arguments vs params (Memory _) = false

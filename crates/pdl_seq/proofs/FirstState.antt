@@ -38,6 +38,7 @@ module _ (f : Form) (run : IsRunnable f) where
         below = λ x. subst (λ v. v < 2 ^ slice_index f.widths x) (sym (zeros_at f.pipe.vars x)) (pow_pos (slice_index f.widths x));
       }
 
+  -- a turn with the words of an image, zeros for values, the start arguments and no writes fits
   pub first_fits : (image : List (List ℕ)) → IsImageFor f.pipe image → (t : r_turn.Turn) → t.memories.items ≡ image
       → t.values.items ≡ replicate f.pipe.vars 0 → t.next.items ≡ f.pipe.start → t.commits.items ≡ [] → IsFit f t
   first_fits image is t mems values next none =

@@ -28,6 +28,7 @@ module _ (p : Pipe) (rules : KeepsRules p) where
       few_from ms (before ++ Memory m ∷ []) later (k + 1) (e ∙ sym (append_assoc before (Memory m ∷ []) (map Memory ms ++ later))) one (omega arith) in
       omega arith
 
+  -- the flat form of a pipe that breaks no rule has at most 16 memories
   pub few_mems : length (mems_of p.mems) ≤ 16
   few_mems =
       let same = mems_length p.mems in

@@ -33,6 +33,7 @@ module _ (f : Form) (typed : IsTypedForm f) (lists : List (List ℕ)) (s : IsSha
       let least : 2 ^ mem.bits ≤ 2 ^ 32 = pow_mono {i = mem.bits} {j = 32} (omega arith) in
       omega arith
 
+  -- a typed statement can be carried out on these values and memories, with room for as many arguments as the start has
   pub safe_op : (op : Op) → IsTypedOp f op → IsSafeOp lists room op r.env
   safe_op (Bind x e) t = (there_in f typed.wide r x k t.0, safe f.widths r.env typed.wide k.values e t.1)
   safe_op (CombRead x m a) t = (there_in f typed.wide r x k t.0, mem_there m t.1.memory)

@@ -27,6 +27,7 @@ module _ (ws env : List ℕ) (x v : ℕ) (f : Fit ws env) (h : v < 2 ^ slice_ind
       let other : y ≢ x = eqb-false y x e in
       subst (λ u. u < 2 ^ slice_index ws y) (sym (get_or-set_other env x y v 0 other)) (f.below y)
 
+  -- values have their widths after one of them is set to a value of its width
   pub fit_set : Fit ws (slice_set env x v)
   fit_set = record { count = length-set env x v ∙ f.count; below = λ y. set_below y (y == x) refl }
 
@@ -53,6 +54,7 @@ module _ (ws env : List ℕ) (wide : AreWidths ws) (f : Fit ws env) where
   values_below (n ∷ ns) (e ∷ es) t (suc x) = values_below ns es t.2 x
 
 module _ (f : Form) where
+  -- arguments that have the parameters' widths are no more than those of the start
   pub few_args : (args : List Expr) → AreArguments f.widths (param_widths f) args → length args ≤ length f.pipe.start
   few_args args t =
       let same = args_count f.widths (param_widths f) args t in
@@ -91,6 +93,7 @@ module _ (f : Form) where
 
     -- STATEMENTS
 
+    -- a variable of the pipe has a value in a run of which all fits
     pub there_in : (r : Run) (x : ℕ) → AreFitting f r → x < length f.widths → x < length r.env
     there_in r x k h = subst (λ n. x < n) (sym k.values.count) h
 
@@ -130,6 +133,7 @@ module _ (f : Form) where
     fits_runs SpecCheck r t k = k
     fits_runs SpecBarrier r t k = k
 
+    -- all of a run fits after a typed statement, whether it is carried out or not
     pub fits_if : (b : Bool) (op : Op) (r : Run) → IsTypedOp f op → AreFitting f r → AreFitting f (if b then run_after op r else r)
     fits_if true op r t k = fits_runs op r t k
     fits_if false op r t k = k

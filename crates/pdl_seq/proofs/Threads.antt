@@ -69,12 +69,15 @@ module _ (p : Pipe) (image : Arrays) (k n : ℕ) (is_next : n ≡ suc k) (arrays
   turned : r ≡ after_turns p image n
   turned = ran ∙ ap₂ (thread p) at with ∙ ap (after_turns p image) (sym is_next)
 
+  -- the arrays that the thread leaves are those after n turns
   pub arrays_next : r.arrays ≡ (after_turns p image n).arrays
   arrays_next = ap (λ (t : Run). t.arrays) turned
 
+  -- the arguments that the thread leaves are those after n turns
   pub args_next : r.next ≡ (after_turns p image n).next
   args_next = ap (λ (t : Run). t.next) turned
 
+  -- the numbered writes so far, with those of the thread, are those of the first n threads
   pub writes_next : (ws more : List r_write.Write) → ws ≡ numbered_writes 1 (threads p image k)
       → more ≡ ws ++ map (numbered_write n) r.writes → more ≡ numbered_writes 1 (threads p image n)
   writes_next ws more told_so_far told_more =

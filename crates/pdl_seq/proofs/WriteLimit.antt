@@ -65,6 +65,7 @@ module _ (f : Form) where
         subst (λ (r : Run). length (of_mem m r.writes) ≤ 1) (sym by_path)
         (at_most m (onpath path (looked_all f.pipe.stmts)) Fresh start ((run.sound.pathwise.paths path).phases m))
 
+    -- a thread writes at most 16 times
     pub few : length (thread f.pipe arrays args).writes ≤ 16
     few =
         let most : length (thread f.pipe arrays args).writes ≤ length f.pipe.mems =

@@ -6,6 +6,7 @@ use Rattle.pdl_form_values.specs.Safe.{IsSafe, AreSafe}
 use Rattle.pdl_seq.specs.declared.commit.Commit as r_commit
 use Rattle.pdl_seq.specs.declared.turn.Turn as r_turn
 
+-- a write of a turn, as the sequential meaning sees it
 abbrev pub commit_view : r_commit.Commit → Commit
 commit_view c = record { mem = c.mem; address = c.addr; value = c.value }
 

@@ -24,6 +24,7 @@ mutual
   after_level k e a r (tighter l) n h = after_level _ _ _ _ l n h
   after_level k e a r (joined s l m) n h = after_level _ _ _ _ m n (later 1 (after_level _ _ _ _ l n h))
 
+  -- where an expression and what comes after it stand from byte n on, so does what comes after it alone
   pub after_full : (e : Expr) (a r : Row) → Full e a r → Leaves a r
   after_full e a r (whole l) n h = after_level _ _ _ _ l n h
   after_full e a r (chosen l f g) n h = after_full _ _ _ g n (later 1 (after_full _ _ _ f n (later 1 (after_level _ _ _ _ l n h))))

@@ -20,14 +20,18 @@ module _ (text : List ℕ) (p : Pipe) (read : IsText text p) (kept : KeepsRules 
   facts : Sound (flat p)
   facts = of_source p kept (source_of text p read) (named_of text p read)
 
+  -- each memory's commits have all sequential writes of the threads that ended, and are a prefix of the sequential writes
   pub refines : Refines (flat p) image schedule
   refines = whole_refines (flat p) facts image schedule
 
+  -- after the schedule the oldest live thread moves in a cycle that is no wait
   pub advances : (bits : List Bool) → Advances (flat p) image schedule bits
   advances bits = whole_advances (flat p) facts image schedule bits
 
+  -- at least as many threads end as cycles that are no waits, divided by the depth
   pub paces : KeepsPace (flat p) image schedule
   paces = whole_paces (flat p) facts image schedule
 
+  -- the state after the schedule is sound
   pub stays_sound : IsTrue (is_sound (flat p) image (ended_in (turns (flat p) image schedule)) (state_after (flat p) (first (flat p) image) schedule))
   stays_sound = EveryState.sound_state (flat p) facts (paths_strict p kept (source_of text p read)) image schedule

@@ -78,6 +78,7 @@ mutual
   item_ordered ss a r checking bs xs f n h = (refl, f n (later 4 h))
   item_ordered ss a r barring bs xs f n h = (refl, f n (later 4 h))
 
+  -- statements with what stands after them are in the order of their tokens, where what stands after them is
   pub items_ordered : (ss : Stmts) (a r : Row) → Items ss a r → (bs : List Branch) (xs : List Place) → Follows r xs → Follows a (statements bs ss ++ xs)
   items_ordered ss a r none bs xs f n h = f n h
   items_ordered ss a r (more i is) bs xs f n h =

@@ -16,6 +16,7 @@ abbrev AreAfter : ℕ → Row → Type 0
 AreAfter n [] = ⊤
 AreAfter n (t ∷ ts) = (n ≤ t.span.start) × HasLetters t × AreAfter (suc t.span.start) ts
 
+-- tokens stand from byte n on, each after the beginning of the one before it, and those that are names have letters
 pub record Stand (n : ℕ) (ts : Row) : Type 0 where
   pub tokens : AreAfter n ts
 
@@ -29,6 +30,7 @@ also_stand n t ts le l h = record { tokens = (le, l, h.tokens) }
 pub from : {n : ℕ} {t : Token} {ts : Row} → Stand n (t ∷ ts) → n ≤ t.span.start
 from h = h.tokens.0
 
+-- the first token has letters if it is a name
 pub letters : {n : ℕ} {t : Token} {ts : Row} → Stand n (t ∷ ts) → HasLetters t
 letters h = h.tokens.1
 

@@ -25,6 +25,7 @@ abbrev pub making_ops : Making → List Flat.Op → Making
 making_ops k [] = k
 making_ops k (op ∷ os) = making_ops (next_making k (answered_op op)) os
 
+-- whether these operations of one stage make the next thread in order, from this point on
 abbrev pub making_oks : Option ℕ → Making → ℕ → List Flat.Op → Bool
 making_oks v k s [] = true
 making_oks v k s (op ∷ os) = making_ok v k s (answered_op op) && making_oks v (next_making k (answered_op op)) s os
@@ -175,6 +176,7 @@ module _ (ms : List Mem) (v : Option ℕ) (before : List Place) (bs : List Branc
       × (list_any (is_verify_of g.name) before ≡ false) × (stands_at v s ≡ true)
   Asked _ = Unit {0}
 
+  -- a statement of which this holds makes the next thread in order, and with it the places before are as far as its operations say
   pub stood_by : (k : Making) (t : Stmt) → Asked t → Stood k before → Goes k t (ops_of ms vs t)
   stood_by k (Call sp args) a i = calls k sp args i a
   stood_by k (SpecCall sp g args) a i = guesses k sp g args i a.0 a.1

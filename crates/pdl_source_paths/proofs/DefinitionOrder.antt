@@ -68,6 +68,7 @@ module _ (c : List Guard) (def : Place → Bool) (given : List Place → Bool) (
       by (inr (inl u)) d = absurd (false≢true (sym e ∙ u.0))
       by (inr (inr u)) d = absurd (false≢true (sym u.1 ∙ ap is_delayed (it u.0).1 ∙ d))
 
+  -- at each site on a path but separators, y stands no later if defined before, and earlier if it is a delayed read that is given
   pub came_along : (k end : ℕ) (earlier : List Place) (ts : List Site) → Rises k ts end → OnPath c earlier ts
       → All (IsIt def y) ts → Came c def given y k earlier
       → All (λ t. is_separator (place_of t) ≡ false → Came c def given y t.walk.stage (filter (on_path c) t.front)) ts

@@ -189,6 +189,7 @@ module _ (p : Pipe) (rules : KeepsRules p) (apart : are_apart (places p) ≡ tru
               (clear t h op e passed env' g (subst (λ n. t.walk.stage < n) (sym (next_same env env' d)) low)) d
           at false f false g = g ∙ sym f
 
+  -- values that differ only in what stage s reads delayed have the same statements on their paths before the next stage
   pub fetch_blind : (env env' : List ℕ) → DifferIn (in_stage s (flat p).stmts) env env'
       → onpath env' (before (next_of (flat p) s env) (flat p).stmts) ≡ onpath env (before (next_of (flat p) s env) (flat p).stmts)
   fetch_blind env env' d =

@@ -276,8 +276,10 @@ module _ (p : Pipe) (rules : KeepsRules p) (apart : are_apart (places p) ≡ tru
       at (Flat.DelayedRead x m a) e = none x m a e ys h.0
       at _ e = refl
 
+  -- no statement after a delayed read in its stage has to do with its variable
   pub fetch_unseen : is_unseen (in_stage s (flat p).stmts) ≡ true
   fetch_unseen = unseen_pairs (in_stage s (flat p).stmts) (pairs_of Unseen not_seen)
 
+  -- each two delayed reads of a stage have different variables and different memories
   pub fetch_alone : fetch_apart (in_stage s (flat p).stmts) ≡ true
   fetch_alone = apart_pairs (in_stage s (flat p).stmts) (pairs_of Alone one_read)

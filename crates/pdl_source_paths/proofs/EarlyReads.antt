@@ -305,9 +305,11 @@ module _ (p : Pipe) (rules : KeepsRules p) where
           omega arith
 
   module _ (apart : are_apart (places p) ≡ true) (named : list_any (defines_use (OfVariable [])) (places p) ≡ false) where
+    -- a delayed read that stands on some path stands before the stage of its memory's releases
     abbrev pub IsEarly : Flat.Stmt → Type 0
     IsEarly z = (x m a : ℕ) → z.op ≡ Flat.DelayedRead x m a → is_dead z.guards ≡ false → z.stage < commit_stage (flat p) m
 
+    -- each delayed read of the source that stands on some path stands before the stage of its memory's releases
     pub all_early : Each IsEarly (flat p).stmts
     all_early = each_stmt p IsEarly (all_map (Told p) (AtSite IsEarly p.mems) one (sites_of p) (all_told p rules apart named))
       where

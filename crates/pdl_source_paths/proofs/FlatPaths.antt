@@ -173,6 +173,7 @@ module _ (p : Pipe) (rules : KeepsRules p) (apart : are_apart (places p) ≡ tru
       place_of_site : Site → Place
       place_of_site t = Sites.place_of t
 
+  -- a path of the flat form leads through each site just where the path of the rules with the same truth values does
   pub all_alike : All (Alike path (path_of p (value p path))) (sites_of p)
   all_alike = go (sites_of p) (all_here p)
     where

@@ -93,6 +93,7 @@ none_later ms i vs us (t ∷ ts) h low =
         by false f = refl
 
 module _ (p : Pipe) (rules : KeepsRules p) (apart : are_apart (places p) ≡ true) (named : list_any (defines_use (OfVariable [])) (places p) ≡ false) where
+  -- all that is known of a site is so of each site of the source
   pub all_told : All (Told p) (sites_of p)
   all_told =
       all_both (Known p) (λ t. Settled p t × AllGuards (Guarded p t) t.gs) (Told p)
@@ -118,6 +119,7 @@ module _ (p : Pipe) (rules : KeepsRules p) (apart : are_apart (places p) ≡ tru
           (or_right (is_dead t.gs) (free_of t.gs (row_at t op ∷ owns p.mems ts))
           (ap (λ l. free_of t.gs (l ++ owns p.mems ts)) (sym e) ∙ free t.gs h.0.guards)) r
 
+  -- no statement of the text binds a guard's variable where it is tested or later in the text
   pub fixed_text : is_fixed (flat p).stmts ≡ true
   fixed_text = ap is_fixed (stmts_are p) ∙ fixed_all (params_of p.params) _ (sites_of p) (grows_all p) all_told
 
@@ -127,6 +129,7 @@ module _ (p : Pipe) (rules : KeepsRules p) (apart : are_apart (places p) ≡ tru
   abbrev pub Late : Flat.Stmt → Flat.Stmt → Type 0
   Late z y = binds_guard y.op z.guards ≡ true → (y.stage ≤ z.stage) × (is_fetch y.op ≡ true → y.stage < z.stage)
 
+  -- what binds a guard's variable of a live statement stands in no later stage, and a delayed read in an earlier one
   pub all_late : Each (λ z. is_dead z.guards ≡ false → Each (Late z) (flat p).stmts) (flat p).stmts
   all_late =
       each_stmt p (λ z. is_dead z.guards ≡ false → Each (Late z) (flat p).stmts)
@@ -143,6 +146,7 @@ module _ (p : Pipe) (rules : KeepsRules p) (apart : are_apart (places p) ≡ tru
           let r = g.1.bound env.0 (no_cut p.mems t.walk.vars t.stmt t.branches op e) env.1 y k.known (ap (from_op (binds_var g.0.var)) f ∙ g.2) in
           (r.0, λ d. r.2 (fetch_delayed p.mems y.walk.vars y.stmt y.branches o f d))) (sites_of p) all_told)
 
+  -- as a test: the guards' variables of each live statement are bound early enough for it
   pub guards_late : list_all (λ z. is_dead z.guards || late_for z (flat p).stmts) (flat p).stmts ≡ true
   guards_late =
       each_all (λ z. is_dead z.guards || late_for z (flat p).stmts)
@@ -172,6 +176,7 @@ module _ (p : Pipe) (rules : KeepsRules p) (apart : are_apart (places p) ≡ tru
           at true e = refl
           at false e = late z (flat p).stmts (h e)
 
+  -- no statement binds a guard's variable of a live one in a later stage
   pub all_rest : Each (Rests (flat p).stmts) (flat p).stmts
   all_rest =
       each_weaker (λ z. is_dead z.guards ≡ false → Each (Late z) (flat p).stmts) (Rests (flat p).stmts)

@@ -122,12 +122,15 @@ given_any u (x ∷ xs) e =
 
 module _ (p : Pipe) (rules : KeepsRules p) (v : Guard → Bool) (staged : All Staged (sites_of p))
     (verify_at : All (λ t. is_verify (place_of t) ≡ true → Stages.verify_stage (flat p).stmts ≡ Some t.walk.stage) (sites_of p)) where
+  -- the path of the rules with these truth values
   abbrev pub c : List Guard
   c = path_of p v
 
+  -- V of the flat form
   abbrev pub o : Option ℕ
   o = Stages.verify_stage (flat p).stmts
 
+  -- whether a place is on the path and verifies this guess
   abbrev pub verified_on : List ℕ → Place → Bool
   verified_on g y = on_path c y && is_verify_of g y
 
@@ -318,6 +321,7 @@ module _ (p : Pipe) (rules : KeepsRules p) (v : Guard → Bool) (staged : All St
     pub stage : Staged t
     pub verify : is_verify (place_of t) ≡ true → o ≡ Some t.walk.stage
 
+  -- each site along a path is as the rules of calls ask, and what is known of the calls before holds after the last one
   pub all_asked : (before : List Place) (ts : List Site) → OnPath c before ts → All Told ts → Called before
       → AllAsked p o before ts × Called (before ++ map place_of ts)
   all_asked before [] on h k = (tt, subst Called (sym (append-nil before)) k)
@@ -404,6 +408,7 @@ module _ (p : Pipe) (rules : KeepsRules p) (v : Guard → Bool) (staged : All St
               clash z = cc z
           found (inr r) = skip ∙ r
 
+  -- no site along a path that stands before V releases a write reservation with no barrier before it
   pub all_sure : (before : List Place) (ts : List Site) → OnPath c before ts → All Told ts → AllSure o before ts
   all_sure before [] on h = tt
   all_sure before (t ∷ ts) on h = (sure, all_sure (before ++ place_of t ∷ []) ts on.2 h.1)

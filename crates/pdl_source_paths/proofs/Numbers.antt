@@ -17,6 +17,7 @@ place_of (y ∷ ys) x = if bytes_eq y x then 0 else suc (place_of ys x)
 abbrev pub is_in : List (List ℕ) → List ℕ → Bool
 is_in ys x = list_any (λ y. bytes_eq y x) ys
 
+-- the number of a name that is among these is below their count
 pub in_low : (ys : List (List ℕ)) (x : List ℕ) → is_in ys x ≡ true → place_of ys x < length ys
 in_low [] x h = absurd (false≢true h)
 in_low (y ∷ ys) x h = at (bytes_eq y x) h (in_low ys x)

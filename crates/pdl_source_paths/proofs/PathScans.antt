@@ -148,6 +148,7 @@ module _ (p : Pipe) (q : Flat.Pipe) (lock_is : (m : List ℕ) → is_plain (mem_
       here (Separator sp) f g = absurd (false≢true g)
       here _ f g = absurd (false≢true f)
 
+  -- the flat statements of sites along a path pass the scan of reads, where the places before are those of the scan
   pub reads_along : (k end : ℕ) (vs us : List Var) (before : List Place) (c : Scan) (ts : List Site)
       → All (Known p q) ts → Grows p.mems vs ts us → Rises k ts end
       → Each (KeepsLocks p) before (map place_of ts ++ closing p)
@@ -182,6 +183,7 @@ module _ (p : Pipe) (q : Flat.Pipe) (lock_is : (m : List ℕ) → is_plain (mem_
           (scan_ok p q lock_is t.walk.vars before c t.branches here t.walk.stage low t.stmt each.0 h.0.located h.0.late)
           (f t.walk.stage (opens_ops (ops p.mems t) c) (since_next k before t h.0 j.0 since) next j.1)
 
+  -- the flat statements of sites along a path write memory m in order, and at the end its write isn't begun or is done
   pub writes_along : (m : List ℕ) → is_memory p.mems m ≡ true
       → (vs us : List Var) (before : List Place) (ph : Phase) (ts : List Site) → All (Known p q) ts
       → Grows p.mems vs ts us → Each (KeepsLocks p) before (map place_of ts ++ closing p)
@@ -198,6 +200,7 @@ module _ (p : Pipe) (q : Flat.Pipe) (lock_is : (m : List ℕ) → is_plain (mem_
         ap is_over (phase_append (mem_of p.mems m) t.walk.stage ph (ops p.mems t) (seen p.mems ts)) ∙ rest.1,
       )
 
+  -- the flat statements of sites along a path make the next thread in order, and after them the places are as far as they say
   pub makings_along : (v : Option ℕ) (before : List Place) (k : Making) (ts : List Site) → AllAsked p v before ts
       → Stood k before
       → (makings_ok v k (seen p.mems ts) ≡ true) × (j : Making) × (making_all k (seen p.mems ts) ≡ j) × Stood j (before ++ map place_of ts)
@@ -211,6 +214,7 @@ module _ (p : Pipe) (q : Flat.Pipe) (lock_is : (m : List ℕ) → is_plain (mem_
         subst (Stood rest.1) (append_assoc before (place_of t ∷ []) (map place_of ts)) rest.3,
       )
 
+  -- each release of a write reservation among the flat statements of sites along a path is certain
   pub sure_along : (v : Option ℕ) (vs us : List Var) (before : List Place) (c : Scan) (b : Bool) (ts : List Site)
       → All (Known p q) ts → Grows p.mems vs ts us → Each (KeepsLocks p) before (map place_of ts ++ closing p)
       → AllSure v before ts

@@ -341,6 +341,7 @@ module _ (p : Pipe) (rules : KeepsRules p) where
         (λ t. ops_all (λ op. knows_memory (length p.mems) (Alone.answered_op op)) (ops p.mems t) ≡ true)
         (λ t h. StatementTests.knows_all p.mems t.walk.vars t.stmt (λ at e. (h.located at e).0)) ts known))
 
+    -- the statements on a path pass all tests of a path, where delayed reads are reads
     pub path_ok : path_passes q (onpath path q.stmts) ≡ true
     path_ok =
         subst (λ xs. path_passes q xs ≡ true) (sym xs_are)

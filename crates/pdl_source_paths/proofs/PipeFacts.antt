@@ -85,6 +85,7 @@ module _ (p : Pipe) (rules : KeepsRules p) (apart : are_apart (places p) ≡ tru
   fixed_once : is_fixed (at_once (flat p)).stmts ≡ true
   fixed_once = fixed_looked (flat p).stmts ∙ fixed_text p rules apart named
 
+  -- all facts of an accepted pipe hold where `if`s on expressions begin at different bytes and no variable has an empty name
   pub sound : Sound (flat p)
   sound = record {
     graph = facts.graph;

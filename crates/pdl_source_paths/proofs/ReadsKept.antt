@@ -393,6 +393,7 @@ abbrev pub opens_ops : List Flat.Op → Scan → Scan
 opens_ops [] c = c
 opens_ops (op ∷ os) c = opens_ops os (scan_after (answered_op op) c)
 
+-- whether a scan of reads passes these operations of stage k one after the other
 abbrev pub ops_ok : Flat.Pipe → ℕ → Scan → List Flat.Op → Bool
 ops_ok q k c [] = true
 ops_ok q k c (op ∷ os) = op_ok q k c (answered_op op) && ops_ok q k (scan_after (answered_op op) c) os
@@ -420,6 +421,7 @@ module _ (p : Pipe) (q : Flat.Pipe) (lock_is : (m : List ℕ) → is_plain (mem_
   scanned_if (Variable y) x same none nor s = same_next p vs before x c same none nor i
   scanned_if _ x same none nor s = plain_next p vs _ before x c same none nor i
 
+  -- after a statement that keeps the rules of locks the scan has the locations that the places with it reserved and blocked
   pub scanned_next : (s : Stmt) → KeepsLocks p before (Statement s bs)
       → ((at : Location) → location_of s ≡ Some at → IsNamed p.mems vs at)
       → Scanned p (vars_past p.mems vs s) (before ++ Statement s bs ∷ []) (opens_ops (ops_of p.mems vs s) c)
@@ -466,6 +468,7 @@ module _ (p : Pipe) (q : Flat.Pipe) (lock_is : (m : List ℕ) → is_plain (mem_
     if_ok (Variable y) = refl
     if_ok _ = and_from _ _ unbound refl
 
+    -- a scan of reads passes each statement that keeps the rules of locks
     pub scan_ok : (s : Stmt) → KeepsLocks p before (Statement s bs) → ((at : Location) → location_of s ≡ Some at → IsNamed p.mems vs at)
         → ((at : Location) → reads_at s ≡ Some at → is_locked p.mems at.mem.name ≡ true → k ≤ commit_stage q (mem_of p.mems at.mem.name))
         → ops_ok q k c (ops_of p.mems vs s) ≡ true

@@ -25,6 +25,7 @@ abbrev pub barred_ops : Bool → List Flat.Op → Bool
 barred_ops b [] = b
 barred_ops b (op ∷ os) = barred_ops (b || is_barrier (answered_op op)) os
 
+-- whether each release among these operations of stage s is certain
 abbrev pub sure_oks : Option ℕ → Bool → Scan → ℕ → List Flat.Op → Bool
 sure_oks v b c s [] = true
 sure_oks v b c s (op ∷ os) = is_sure v b c s (answered_op op) && sure_oks v (b || is_barrier (answered_op op)) (scan_after (answered_op op) c) s os
@@ -83,6 +84,7 @@ module _ (p : Pipe) (v : Option ℕ) (vs : List Var) (before : List Place) (c : 
   if_next t (Variable y) e = (refl, still (Statement t bs) e)
   if_next t _ e = (refl, still_bind (Statement t bs) e)
 
+  -- a statement that releases nothing uncertain before V passes, and a barrier came just where one of the places with it is one
   pub sure_by : (t : Stmt) → KeepsLocks p before (Statement t bs)
       → ((at : Location) → location_of t ≡ Some at → IsNamed p.mems vs at)
       → (stands_before v s ≡ true → releases_unsure before (Statement t bs) ≡ false) → Goes t (ops_of p.mems vs t)

@@ -149,6 +149,7 @@ pub record Defined (p : Pipe) : Type 0 where
   pub known : Known p by
   pub it : defines_use (OfVariable name) (place_of by) ≡ true
 
+-- the values of a path, and a site that is an `if` on an expression which begins at this byte
 pub record Owner (p : Pipe) : Type 0 where
   pub env : List ℕ
   pub start : ℕ
@@ -170,9 +171,11 @@ Owned p t =
     → (d.by.walk.stage ≤ t.walk.stage) × (all_hold d.by.gs d.env ≡ true)
 
 module _ (p : Pipe) (rules : KeepsRules p) where
+  -- as many variables stand before a site as the places before it add names
   pub long : (t : Site) → Known p t → length t.walk.vars ≡ length (names t.front)
   long t h = sym (ForkVars.told_long t.walk.vars) ∙ ap length h.fine.here.named
 
+  -- two sites with one place and the same places before them stand in one stage
   pub same_stage : (x y : Site) → Known p x → Known p y → x.front ≡ y.front → place_of x ≡ place_of y → x.walk.stage ≡ y.walk.stage
   same_stage x y h k e f = sym h.fine.staged ∙ ap₂ stage_in e (ap branches_of f) ∙ k.fine.staged
 
@@ -203,6 +206,7 @@ module _ (p : Pipe) (rules : KeepsRules p) where
       (ForkVars.once_before p rules n y.front (place_of y) k.fine.later k.fine.whole (ForkVars.variable_name n (place_of y) f))
       (bytes_refl n))).0
 
+  -- the name of a variable that a site defines is no parameter's
   pub no_parameter : (n : List ℕ) (y : Site) → Known p y → defines_use (OfVariable n) (place_of y) ≡ true → is_parameter p n ≡ false
   no_parameter n y k f = at (is_parameter p n) refl
     where
@@ -240,6 +244,7 @@ module _ (p : Pipe) (rules : KeepsRules p) where
       mems (x ∷ xs) = mems xs
 
   module _ (apart : are_apart (places p) ≡ true) where
+    -- at each site, what defines a name that a path gives there stands on that path, in a stage no later
     pub all_settled : All (Settled p) (sites_of p)
     all_settled =
         all_any
@@ -284,6 +289,7 @@ module _ (p : Pipe) (rules : KeepsRules p) where
                 (none_front d.name d.by d.known d.it)
                 (some_filtered (defines_use (OfVariable d.name)) (on_path (way p d.env)) (front_of p) e)
 
+    -- at each site, an `if` on an expression that a path comes to before stands on that path, in a stage no later
     pub all_owned : All (Owned p) (sites_of p)
     all_owned =
         all_any

@@ -33,6 +33,7 @@ use Rattle.pdl_source_paths.proofs.SiteFacts.{Known, long, all_known, way, Bound
 use Rattle.pdl_word.proofs.Bytes.{bytes_same}
 use Rattle.pdl_rules.proofs.EachPlace.{closing}
 
+-- a guard's variable stands before the site, and what binds it stands on each path through the site, in a stage no later
 pub record Guarded (p : Pipe) (t : Site) (g : Flat.Guard) : Type 0 where
   pub low : g.var < length t.walk.vars
   pub bound : (env : List ℕ) → is_separator (place_of t) ≡ false → all_hold t.gs env ≡ true → (y : Site) → Known p y
@@ -232,6 +233,7 @@ module _ (p : Pipe) (rules : KeepsRules p) (named : list_any (defines_use (OfVar
                 );
           }
 
+    -- the guard of a choice is bound before the site, where each path through the site comes to the choice's `if`
     pub guarded : ((env : List ℕ) → all_hold t.gs env ≡ true → on_path (way p env) (its_if i) ≡ true) → Guarded p t (flat_guard i)
     guarded on = at i.condition refl
       where
@@ -275,6 +277,7 @@ module _ (p : Pipe) (rules : KeepsRules p) (named : list_any (defines_use (OfVar
           (λ env tk. ap (list_all (is_taken (way p env))) (append_assoc bs (rule_branch i ∷ []) (map rule_branch hs)) ∙ on env tk),
     )
 
+    -- each guard of each site of the source is bound before the site
     pub all_guarded : All (λ t. AllGuards (Guarded p t) t.gs) (sites_of p)
     all_guarded =
         all_both (Known p) (λ t. Settled p t × Owned p t) (λ t. AllGuards (Guarded p t) t.gs)

@@ -22,10 +22,12 @@ use Rattle.pdl_semantics.specs.Sound.{is_fetch}
 abbrev pub Blind : (Flat.Op → Bool) → Type 0
 Blind test = (op : Flat.Op) → test (answered_op op) ≡ test op
 
+-- the test for a reserve of a memory takes a delayed read for a read
 pub reserve_blind : (i : ℕ) → Blind (is_reserve i)
 reserve_blind i (Flat.DelayedRead x m a) = refl
 reserve_blind i _ = refl
 
+-- the test for a release of a memory takes a delayed read for a read
 pub release_blind : (i : ℕ) → Blind (is_release i)
 release_blind i (Flat.DelayedRead x m a) = refl
 release_blind i _ = refl
@@ -36,6 +38,7 @@ verify_blind _ = refl
 
 -- THE TEXT
 
+-- a kind of statements stands in one stage just where it does with delayed reads answered at once
 pub all_looked : (test : Flat.Op → Bool) → Blind test → (s : ℕ) (xs : List Flat.Stmt) → all_at test s (looked_all xs) ≡ all_at test s xs
 all_looked test f s [] = refl
 all_looked test f s (x ∷ xs) = ap₂ (λ a b. (not a || (x.stage == s)) && b) (f x.op) (all_looked test f s xs)
@@ -45,6 +48,7 @@ pub verify_looked : (xs : List Flat.Stmt) → verify_stage (looked_all xs) ≡ v
 verify_looked [] = refl
 verify_looked (x ∷ xs) = ap₂ (λ a b. if a then Some x.stage else b) (verify_blind x.op) (verify_looked xs)
 
+-- where delayed reads are answered at once there are none
 pub unfetched : (xs : List Flat.Stmt) → none_of is_fetch (looked_all xs) ≡ true
 unfetched [] = refl
 unfetched (x ∷ xs) = and_from _ _ (here x.op) (unfetched xs)
@@ -64,6 +68,7 @@ below_text n (x ∷ xs) h = at (is_verify x.op) (and_parts (nat_lt x.stage n) (F
     at true p k = p.0
     at false p k = k p.1
 
+-- V is below n where all statements stand in stages below n, also with delayed reads answered at once
 pub below_verify : (n : ℕ) (xs : List Flat.Stmt)
     → Flat.list_all (λ (x : Flat.Stmt). nat_lt x.stage n) xs ≡ true → is_below n (verify_stage (looked_all xs)) ≡ true
 below_verify n xs h = ap (is_below n) (verify_looked xs) ∙ below_text n xs h
@@ -76,6 +81,7 @@ ops_text test k gs [] h = refl
 ops_text test k gs (op ∷ os) h = let parts = and_parts (test (answered_op op)) (ops_all (λ op. test (answered_op op)) os) h in
     and_from _ _ parts.0 (ops_text test k gs os parts.1)
 
+-- where the operations of all sites pass a test with delayed reads answered at once, the flat statements of the text pass it so
 pub all_text : (test : Flat.Op → Bool) (ms : List Mem) (ts : List Site)
     → All (λ t. ops_all (λ op. test (answered_op op)) (ops ms t) ≡ true) ts
     → Flat.list_all (λ (x : Flat.Stmt). test x.op) (looked_all (owns ms ts)) ≡ true
@@ -91,6 +97,7 @@ inside_ops : (n k : ℕ) (gs : List Flat.Guard) (os : List Flat.Op)
 inside_ops n k gs [] h = refl
 inside_ops n k gs (op ∷ os) h = and_from _ _ (lt-ltb k n h) (inside_ops n k gs os h)
 
+-- where all sites stand in stages below n, so do their flat statements
 pub inside_text : (n : ℕ) (ms : List Mem) (ts : List Site)
     → All (λ t. t.walk.stage < n) ts → Flat.list_all (λ (x : Flat.Stmt). nat_lt x.stage n) (owns ms ts) ≡ true
 inside_text n ms [] h = refl
@@ -133,6 +140,7 @@ at_ops test f s k (op ∷ os) h =
     at true e i j = or_right (not (test (answered_op op))) _ (eq-eqb k s (i j))
     at false e i j = or_left _ (k == s) (ap not (e ∙ j))
 
+-- the flat statements of a kind on a path stand in stage s, where the sites that have such an operation do
 pub at_seen : (test : Flat.Op → Bool) → Blind test → (s : ℕ) (ms : List Mem) (ts : List Site)
     → All (λ t. some_op test (ops ms t) ≡ true → t.walk.stage ≡ s) ts → all_at test s (seen ms ts) ≡ true
 at_seen test f s ms [] h = refl
@@ -144,6 +152,7 @@ none_ops : (test : Flat.Op → Bool) → Blind test → (k : ℕ) (os : List Fla
 none_ops test f k [] h = refl
 none_ops test f k (op ∷ os) h = let parts = or_parts (test op) (some_op test os) h in and_from _ _ (ap not (f op ∙ parts.0)) (none_ops test f k os parts.1)
 
+-- no flat statement on a path is of a kind of which no site has an operation
 pub none_seen : (test : Flat.Op → Bool) → Blind test → (ms : List Mem) (ts : List Site)
     → All (λ t. some_op test (ops ms t) ≡ false) ts → none_of test (seen ms ts) ≡ true
 none_seen test f ms [] h = refl
@@ -173,6 +182,7 @@ no_release ms i vs (If sp (Variable x) a b) f = refl
 no_release ms i vs (If sp _ a b) f = refl
 no_release ms i vs _ f = refl
 
+-- where the memory of a statement's location is there, each of its operations has a memory that is there
 pub knows_all : (ms : List Mem) (vs : List Var) (s : Stmt)
     → ((at : Location) → location_of s ≡ Some at → is_memory ms at.mem.name ≡ true)
     → ops_all (λ op. knows_memory (length ms) (answered_op op)) (ops_of ms vs s) ≡ true

@@ -20,6 +20,7 @@ Wider vs x a e = (test : Use → Bool) → some_part (reads_some test) a ≡ tru
 wider : (vs : List Var) (x : ℕ) (a e : Expr) → Wider vs x a e → InExpr vs x a → InExpr vs x e
 wider vs x a e f h = (h.0, h.1, λ test t. f test (h.2 test t))
 
+-- a variable that an expression uses in flat form is the number of a name that the expression uses
 pub in_expr : (vs : List Var) (x : ℕ) (e : Expr) → uses_in x (flat_expr vs e) ≡ true → InExpr vs x e
 in_expr vs x (Constant l) h = absurd (false≢true h)
 in_expr vs x (Variable y) h = (y.name, eqb-true (var_of vs y.name) x h, λ test t. t)

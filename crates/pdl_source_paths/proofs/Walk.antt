@@ -166,12 +166,14 @@ module _ (p : Pipe) (rules : KeepsRules p) (v : Guard → Bool) where
   abbrev pub text : List Place
   text = front_of p ++ statements [] p.body
 
+  -- the places before the end that are on a path are those before the statements, and then those of the sites on it
   pub path_text : filter (on_path c) text ≡ filter (on_path c) (front_of p) ++ map place_of (on_sites c (sites_of p))
   path_text =
       filter_append (on_path c) (front_of p) (statements [] p.body)
       ∙ ap (λ l. filter (on_path c) (front_of p) ++ l)
       (ap (filter (on_path c)) (sym (places_all p.mems (front_of p) (at_start p) [] [] p.body)) ∙ path_places c (sites_of p))
 
+  -- after the places on a path the end and the start clause keep the rules of locks
   pub ends : Each (KeepsLocks p) (filter (on_path c) text) (closing p)
   ends = (
     keeps text (StartClause p.start ∷ []) (End p.end) refl refl,
@@ -182,12 +184,15 @@ module _ (p : Pipe) (rules : KeepsRules p) (v : Guard → Bool) where
     ),
   )
 
+  -- the places before the statements that are on the path
   abbrev pub front : List Place
   front = filter (on_path c) (front_of p)
 
+  -- the sites on the path
   abbrev pub along : List Site
   along = on_sites c (sites_of p)
 
+  -- each place along a path keeps the rules of locks with those before it, and so do the end and the start clause
   pub keeps_all : Each (KeepsLocks p) front (map place_of along ++ closing p)
   keeps_all =
       each_keeps front along (on_the_path c (front_of p) (sites_of p) (all_in_text p))

@@ -324,6 +324,7 @@ abbrev pub phase_ops : ℕ → Phase → List Flat.Op → Phase
 phase_ops m ph [] = ph
 phase_ops m ph (op ∷ os) = phase_ops m (next_phase m ph (answered_op op)) os
 
+-- whether the write to m is in order in these operations, from this phase on
 abbrev pub phase_oks : ℕ → Phase → List Flat.Op → Bool
 phase_oks m ph [] = true
 phase_oks m ph (op ∷ os) = phase_ok m ph (answered_op op) && phase_oks m (next_phase m ph (answered_op op)) os
@@ -385,6 +386,7 @@ module _ (p : Pipe) (m : List ℕ) (there : is_memory p.mems m ≡ true) (bs : L
   if_next vs before ph sp s (Variable y) same nor now i = (refl, kept_next vs before ph (Statement s bs) same nor now i)
   if_next vs before ph sp s _ same nor now i = (and_true _ (held_low vs before m ph i), bound_next vs _ before ph (Statement s bs) same nor now i)
 
+  -- a statement that keeps the rules of locks passes, and the write to m stands with it as its operations say
   pub stands_next : (vs : List Var) (before xs : List Place) (ph : Phase) (s : Stmt)
       → ((at : Location) → location_of s ≡ Some at → IsNamed p.mems vs at) → AreBacked before
       → Each (KeepsLocks p) before (Statement s bs ∷ (xs ++ closing p)) → Stands vs before m ph
@@ -466,6 +468,7 @@ module _ (p : Pipe) (m : List ℕ) (there : is_memory p.mems m ≡ true) (bs : L
   write_open (Blocked k) e = refl
   write_open Released e = absurd (false≢true e)
 
+  -- at the end of the body the write to m isn't begun or is done
   pub ends_over : (vs : List Var) (before : List Place) (ph : Phase) → KeepsLocks p before (End p.end) → Stands vs before m ph → is_over ph ≡ true
   ends_over vs before Fresh keeps s = refl
   ends_over vs before (Held x) keeps s =

@@ -42,6 +42,7 @@ module _ (p : Pipe) (rules : KeepsRules p) where
       (λ y h k e. found_if (flat p) (Homes.fetch_at p rules) s y.op (λ x m a f. ((h x m a f).0 ∙ e, (h x m a f).1, k x m a f)))
       (flat p).stmts (Homes.fetch_here p rules) (Homes.fetch_exact p rules)))
 
+  -- a source that breaks no rule has all facts of its stage graph and of the stages of its statements
   pub stage_facts : StageFacts (flat p)
   stage_facts = record {
     graph = Trunks.graph p rules;

@@ -32,6 +32,7 @@ use Rattle.pdl_word.specs.Each.{Each}
 abbrev Deep : Pipe → Site → Type 0
 Deep p t = Fine p t × (t.walk.stage ≤ t.walk.begun) × ((m : List Place) × (t.front ≡ front_of p ++ m))
 
+-- where a parameter has the name, one of the parameters' places defines a variable of that name
 pub any_param : (x : List ℕ) (ps : List Param)
     → list_any (λ (a : Param). bytes_eq x a.name.name) ps ≡ true
     → list_any (defines_use (OfVariable x)) (map Parameter ps) ≡ true
@@ -140,6 +141,7 @@ module _ (p : Pipe) (rules : KeepsRules p) where
       let b = cut_append (d ∷ []) m in
       omega arith
 
+  -- the variable of a fork is one of the pipe's variables
   pub fork_known : (s x a b : ℕ) → (stage_at (flat p) s).next ≡ Flat.Forks x a b → x < (flat p).vars
   fork_known s x a b e =
       let r = fork_if s x a b e in
@@ -200,6 +202,7 @@ module _ (p : Pipe) (rules : KeepsRules p) where
         each_of ts h.1,
       )
 
+  -- no statement in a stage after a fork binds the fork's variable
   pub fork_bound : (s x a b : ℕ) → (stage_at (flat p) s).next ≡ Flat.Forks x a b → none_of (binds_var x) (stages_from (suc s) (flat p).stmts) ≡ true
   fork_bound s x a b e = ForkVars.none_from (binds_var x) (suc s) (flat p).stmts (bound_by s x a b e)
 
@@ -307,6 +310,7 @@ module _ (p : Pipe) (rules : KeepsRules p) where
       let low = fork_low s x u f d in
       omega arith
 
+  -- a fork's stage has no delayed read into the fork's variable
   pub fork_seen : (s x a b : ℕ) → (stage_at (flat p) s).next ≡ Flat.Forks x a b → none_of (is_fetch_of x) (in_stage s (flat p).stmts) ≡ true
   fork_seen s x a b e =
       none_each (is_fetch_of x) (in_stage s (flat p).stmts)

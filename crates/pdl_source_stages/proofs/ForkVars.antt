@@ -56,6 +56,7 @@ all_low p =
 
 -- NUMBERS OF VARIABLES
 
+-- there are as many names of variables as variables
 pub told_long : (vs : List Var) → length (told vs) ≡ length vs
 told_long [] = refl
 told_long (v ∷ vs) = ap suc (told_long vs)
@@ -192,6 +193,7 @@ given_after u test (x ∷ xs) d m e f g h = at (test x) h (given_after u test xs
         (sym (ap (λ c. (c && (not (is_delayed x) || list_any is_separator (filter test (xs ++ d ∷ m)))) || is_given (filter test (xs ++ d ∷ m)) u) parts.0) ∙ k)
     at false k more = more k
 
+-- where one of these places is a separator, their count of separators is above 0
 pub some_cut : (xs : List Place) → list_any is_separator xs ≡ true → 0 < cut xs
 some_cut [] e = absurd (false≢true e)
 some_cut (x ∷ xs) e = at (is_separator x) refl e (some_cut xs)
@@ -219,6 +221,7 @@ module _ (p : Pipe) (rules : KeepsRules p) (x : List ℕ) where
       (or_parts (bytes_eq x p.name.name) (list_any (λ y. is_some_and (bytes_eq x) (name_at y)) before)
       (ap (is_some_and (is_taken_name p before)) (sym f) ∙ rules N2 before d later e)).1
 
+  -- no place after one that has the name defines a variable of that name
   pub once_after : (before m later : List Place) → places p ≡ before ++ (m ++ later)
       → list_any (λ y. is_some_and (bytes_eq x) (name_at y)) before ≡ true
       → list_any (defines_use (OfVariable x)) m ≡ false

@@ -187,6 +187,7 @@ module _ (p : Pipe) (rules : KeepsRules p) where
       (e ∙ ap (λ i. Flatten.first_stage (test i) (flat p).stmts) (let z : m ≡ 0 + m = omega arith in z)
       ∙ sym (first_index test (flat p).stmts 0 m p.mems l))
 
+  -- all reserves of a memory stand in one stage, that of its first reserve
   pub reserves_in : (m : ℕ) → all_at (is_reserve m) (reserve_stage (flat p) m) (flat p).stmts ≡ true
   reserves_in m =
       all_at_each (is_reserve m) (reserve_stage (flat p) m) (flat p).stmts
@@ -194,6 +195,7 @@ module _ (p : Pipe) (rules : KeepsRules p) where
       (λ y. is_reserve m y.op ≡ true → y.stage ≡ reserve_stage (flat p) m)
       (λ y h e. let r = h m e in stage_or is_reserve 0 m y.stage r.0 r.1) (flat p).stmts each_reserve)
 
+  -- all releases of a memory stand in one stage, that of its first release
   pub releases_in : (m : ℕ) → all_at (is_release m) (commit_stage (flat p) m) (flat p).stmts ≡ true
   releases_in m =
       all_at_each (is_release m) (commit_stage (flat p) m) (flat p).stmts
@@ -221,6 +223,7 @@ module _ (p : Pipe) (rules : KeepsRules p) where
           by true e = absurd (let r = (h m e).0 in let z = mems_long p.mems in let k : length (mems_of p.mems) ≤ m = l in omega arith)
           by false e = refl
 
+  -- a number that no memory has is released in no stage of the pipe
   pub unreleased : (m : ℕ) → length (flat p).mems ≤ m → length (flat p).stages ≤ commit_stage (flat p) m
   unreleased m l =
       let z = mems_long p.mems in
@@ -260,6 +263,7 @@ module _ (p : Pipe) (rules : KeepsRules p) where
       (sites_of p) (all_fine p rules)
       (one_stage p rules is_verify Speculation.is_verify (λ a. refl) (λ m. refl) verify_alike verify_elsewhere))
 
+  -- all verifies stand in V
   pub verifies_in : (v : ℕ) → verify_stage (flat p).stmts ≡ Some v → all_at is_verify v (flat p).stmts ≡ true
   verifies_in v e =
       all_at_each is_verify v (flat p).stmts
@@ -292,6 +296,7 @@ module _ (p : Pipe) (rules : KeepsRules p) where
           (rules F3 t.front (Statement (DelayedRead sp x l) t.branches) h.later (h.whole ∙ ap (λ s. t.front ++ Statement s t.branches ∷ h.later) e))).1)
       at s e g = absurd (false≢true g)
 
+  -- a site whose flat statement is a delayed read of memory m is a delayed read of a name that has the number m
   pub fetch_named : (t : Site) → Fine p t → (m : ℕ) (op : Flat.Op) → op_of p.mems t.walk.vars t.stmt ≡ Some op
       → is_fetch_of m op ≡ true
       → (n : List ℕ) × (is_known p.mems n ≡ true) × (mem_of p.mems n ≡ m) × (breaks_fetch_order n (place_of t) ≡ true)
@@ -316,6 +321,7 @@ module _ (p : Pipe) (rules : KeepsRules p) where
   abbrev pub fetch_at : ℕ → ℕ
   fetch_at m = unwrap_or (Flatten.first_stage (is_fetch_of m) (flat p).stmts) 0
 
+  -- each delayed read stands in the stage of its memory's delayed read, and its memory is there
   pub fetch_here : Each (λ y. (x m a : ℕ) → y.op ≡ Flat.DelayedRead x m a → (fetch_at m ≡ y.stage) × (m < length (flat p).mems)) (flat p).stmts
   fetch_here =
       each_weaker (λ y. (m : ℕ) → is_fetch_of m y.op ≡ true → (m < length p.mems) × (Some y.stage ≡ Flatten.first_stage (is_fetch_of m) (flat p).stmts))
@@ -357,6 +363,7 @@ module _ (p : Pipe) (rules : KeepsRules p) where
       at t h (If sp c when otherwise) e f g = false≢true f
       at t h s e f g = false≢true f
 
+  -- no delayed read stands in the last stage
   pub fetch_inside : (s : ℕ) → suc s ≡ length (flat p).stages → none_of is_fetch (in_stage s (flat p).stmts) ≡ true
   fetch_inside s e =
       none_each is_fetch (in_stage s (flat p).stmts)
@@ -401,6 +408,7 @@ module _ (p : Pipe) (rules : KeepsRules p) where
           (rules Z7 front (Memory m) (map Memory ms ++ later) e)).1 i
       at false i k = k i
 
+  -- the lock of a memory that is read delayed is one in which a ready read finds no pending write
   pub fetch_exact : Each (λ y. (x m a : ℕ) → y.op ≡ Flat.DelayedRead x m a → is_exact (mem_at (flat p) m).lock ≡ true) (flat p).stmts
   fetch_exact =
       each_fine p rules (λ y. (x m a : ℕ) → y.op ≡ Flat.DelayedRead x m a → is_exact (mem_at (flat p) m).lock ≡ true)

@@ -63,6 +63,7 @@ stage_count p h = let e = stages_from (flat p) p.mems 0 None (at_start p) p.body
 
 -- AT EACH SITE
 
+-- a site stands in the text after its front, what holds at each site holds there, and its stage is one of the pipe's
 pub record Fine (p : Pipe) (t : Site) : Type 0 where
   pub later : List Place
   pub whole : places p ≡ t.front ++ place_of t ∷ later

@@ -38,6 +38,7 @@ mutual
       )
   stages_in Good ms front w gs bs s here more = (here, tt)
 
+  -- a property of the stage where a list of statements begins, and of those that begin in it, holds of the stage of each site
   pub stages_all : (Good : ℕ → Type 0) (ms : List Mem) (front : List Place) (w : Flatten.Position) (gs : List Flat.Guard) (bs : List Branch) (ss : Stmts)
       → Good w.stage → ((n : ℕ) → w.begun < n → n ≤ w.begun + separators ss → Good n) → All (λ t. Good t.walk.stage) (sites ms front w gs bs ss)
   stages_all Good ms front w gs bs Nil here more = tt
@@ -93,6 +94,7 @@ all_map P R f (t ∷ ts) h = (f t h.0, all_map P R f ts h.1)
 
 -- STANDING
 
+-- a site stands in a trunk stage, or in a stage of a branch, and then under the guard of that branch
 pub data Standing (p : Flat.Pipe) (t : Site) : Type 0 where
   OnTrunk : Trunk p t.walk.stage → Standing p t
   OnBranch : (c : Flat.Branch) (x a b : ℕ) → Forked p c.fork x a b → In p c t.walk.stage

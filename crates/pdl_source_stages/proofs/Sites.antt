@@ -19,6 +19,7 @@ pub record Site : Type 0 where
 abbrev pub branch : Span → Expr → Bool → Stmts → Branch
 branch sp c truth inside = record { guard = guard_of sp c; truth = truth; inside = inside }
 
+-- the site of a statement with these places before it, this position, these guards and these branches
 abbrev pub site : List Place → Flatten.Position → List Flat.Guard → List Branch → Stmt → Site
 site front w gs bs s = record { front = front; walk = w; gs = gs; branches = bs; stmt = s }
 
@@ -32,6 +33,7 @@ abbrev mutual
       (at_otherwise ms c when w) (under gs w.vars c false) (bs ++ branch sp c false otherwise ∷ []) otherwise)
   sites_in ms front w gs bs s = site front w gs bs s ∷ []
 
+  -- the sites of statements one after the other, each behind the places of those before it
   pub sites : List Mem → List Place → Flatten.Position → List Flat.Guard → List Branch → Stmts → List Site
   sites ms front w gs bs Nil = []
   sites ms front w gs bs (Cons s ss) = sites_in ms front w gs bs s ++ sites ms (front ++ with_inner bs s) (past ms s w) gs bs ss
@@ -68,6 +70,7 @@ mutual
       (at_otherwise ms c when w) (under gs w.vars c false) (bs ++ branch sp c false otherwise ∷ []) otherwise))
   places_in ms front w gs bs _ = refl
 
+  -- the places of the sites of a list of statements are the places of the list
   pub places_all : (ms : List Mem) (front : List Place) (w : Flatten.Position) (gs : List Flat.Guard) (bs : List Branch) (ss : Stmts)
       → map place_of (sites ms front w gs bs ss) ≡ statements bs ss
   places_all ms front w gs bs Nil = refl
@@ -112,6 +115,7 @@ mutual
       (flat_stmts ms (under gs w.vars c false) otherwise (at_otherwise ms c when w)))
   owns_in ms front w gs bs s = append-nil (flat_stmt ms gs s w)
 
+  -- the flat statements of the sites of a list of statements are those of the list
   pub owns_all : (ms : List Mem) (front : List Place) (w : Flatten.Position) (gs : List Flat.Guard) (bs : List Branch) (ss : Stmts)
       → owns ms (sites ms front w gs bs ss) ≡ flat_stmts ms gs ss w
   owns_all ms front w gs bs Nil = refl
@@ -163,6 +167,7 @@ mutual
   )
   stands_in whole ms front w gs bs s tail e = ((tail, e), tt)
 
+  -- where a list of statements stands in a text after a front, each of its sites stands in that text after its own front
   pub stands_all : (whole : List Place) (ms : List Mem) (front : List Place) (w : Flatten.Position)
       (gs : List Flat.Guard) (bs : List Branch) (ss : Stmts) (tail : List Place)
       → whole ≡ front ++ (statements bs ss ++ tail) → All (Stands whole) (sites ms front w gs bs ss)

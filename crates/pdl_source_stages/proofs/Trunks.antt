@@ -183,6 +183,7 @@ before_same path a b (y ∷ ys) l h = at (all_hold y.guards path) refl (before_s
 -- THE FACTS
 
 module _ (p : Pipe) (rules : KeepsRules p) where
+  -- each stage is the last one, leads to the next, is a fork, or stands in a branch
   pub at_spot : (s : ℕ) → s < length (flat p).stages → Spot (flat p) s
   at_spot = spots p (body_forked p rules)
 
@@ -196,9 +197,11 @@ module _ (p : Pipe) (rules : KeepsRules p) where
           let rule = rules F1 t.front (place_of t) h.later h.whole in
           absurd (false≢true (sym rule ∙ and_from (is_trunk_only t.stmt) (in_fork t.branches) (op_trunk_only p.mems t.walk.vars t.stmt op e o) f))
 
+  -- each statement that no branch may hold stands in a trunk stage
   pub each_trunk : Each (λ y. trunk_only y.op ≡ true → Trunk (flat p) y.stage) (flat p).stmts
   each_trunk = each_fine p rules (λ y. trunk_only y.op ≡ true → Trunk (flat p) y.stage) (λ t h op e. only_trunk t h op e)
 
+  -- a stage in a branch has no statement that no branch may hold
   pub trunk_holds : (s : ℕ) (c : Flat.Branch) → In (flat p) c s → none_of trunk_only (in_stage s (flat p).stmts) ≡ true
   trunk_holds s c i =
       none_each trunk_only (in_stage s (flat p).stmts)
@@ -240,12 +243,14 @@ module _ (p : Pipe) (rules : KeepsRules p) where
           subst (λ o. Trunk (flat p) (unwrap_or o d)) (sym (first_index test (flat p).stmts 0 m p.mems l)) (by (first_stage (test (0 + m)) (flat p).stmts) refl)
       at (inr l) = subst (λ o. Trunk (flat p) (unwrap_or o d)) (sym (first_past test (flat p).stmts 0 m p.mems l)) t
 
+  -- the facts of the stage graph hold of a source that breaks no rule
   pub graph : Graph (flat p)
   graph =
       graph_of (flat p) at_spot some_stage trunk_start (λ m. trunk_or is_reserve reserve_trunk 0 m trunk_start)
       (λ m. trunk_or is_release release_trunk (length (flat p).stages) m
       (ap (λ (y : Flat.Stage). y.branch) (past_trunk (flat p) (length (flat p).stages) (omega arith))))
 
+  -- the facts of the branches of forks hold of a source that breaks no rule
   pub branches : Branches (flat p)
   branches = branches_of (flat p) at_spot
 
@@ -253,9 +258,11 @@ module _ (p : Pipe) (rules : KeepsRules p) where
   verify_in_trunk : (v : ℕ) → verify_stage (flat p).stmts ≡ Some v → Trunk (flat p) v
   verify_in_trunk v e = first_trunk is_verify verify_trunk v (sym (verify_first (flat p).stmts) ∙ e)
 
+  -- each flat statement stands in one of the pipe's stages
   pub each_inside : Each (λ y. y.stage < length (flat p).stages) (flat p).stmts
   each_inside = each_fine p rules (λ y. y.stage < length (flat p).stages) (λ t h op e. h.inside)
 
+  -- V is one of the pipe's stages
   pub verify_low : (v : ℕ) → verify_stage (flat p).stmts ≡ Some v → v < length (flat p).stages
   verify_low v e =
       first_good (λ n. n < length (flat p).stages) is_verify (flat p).stmts v
@@ -274,6 +281,7 @@ module _ (p : Pipe) (rules : KeepsRules p) where
       let same = r.2 in
       (i.x, i.a, i.b, subst (λ n. Forked (flat p) n i.x i.a i.b) same i.fork, omega arith, omega arith)
 
+  -- of a fork that merges in V or before, all stages in its branches stand before V
   pub merged : (v f b : ℕ) → verify_stage (flat p).stmts ≡ Some v → is_inside (flat p) f b ≡ true → merges_by (flat p) f (Some v) ≡ true → b < v
   merged v f b e i m =
       let here = of_fork f b i in
@@ -289,6 +297,7 @@ module _ (p : Pipe) (rules : KeepsRules p) where
       let s1 = same.1 in
       omega arith
 
+  -- a fork with a stage in a branch that doesn't merge in V or before stands no earlier than V
   pub unmerged : (v f b : ℕ) → verify_stage (flat p).stmts ≡ Some v → is_inside (flat p) f b ≡ true → merges_by (flat p) f (Some v) ≡ false → v ≤ f
   unmerged v f b e i m = at (cases_lt f v)
     where
@@ -336,6 +345,7 @@ module _ (p : Pipe) (rules : KeepsRules p) where
       by false true e = absurd (false≢true e)
       by false false e = refl
 
+  -- a path has no statement between a stage that it comes to and the next stage on it
   pub skips : (path : List ℕ) (s : ℕ) → s < length (flat p).stages → visits_stage (flat p) path s ≡ true
       → before (next_of (flat p) s path) (onpath path (flat p).stmts) ≡ before (suc s) (onpath path (flat p).stmts)
   skips path s low on = at (way (flat p) s path (at_spot s low))

@@ -37,6 +37,7 @@ module _ (ms : List Mem) (I : List Place → Flatten.Position → List Flat.Guar
     )
     holds_in front w gs bs s h = (h, tt)
 
+    -- what holds before a list of statements, and is kept by each statement and into each branch, holds at each site of the list
     pub holds_all : (front : List Place) (w : Flatten.Position) (gs : List Flat.Guard) (bs : List Branch) (ss : Stmts)
         → I front w gs bs → All (λ t. I t.front t.walk t.gs t.branches) (sites ms front w gs bs ss)
     holds_all front w gs bs Nil h = tt
@@ -58,6 +59,7 @@ guard_stage (Variable x) w = refl
 guard_stage _ w = refl
 
 mutual
+  -- after a statement as many more stages have begun as begin in it
   pub past_begun : (ms : List Mem) (s : Stmt) (w : Flatten.Position) → (past ms s w).begun ≡ w.begun + separators_in s
   past_begun ms (Separator _) w = omega arith
   past_begun ms (If _ c when otherwise) w =
@@ -78,6 +80,7 @@ mutual
   past_begun ms (SpecCheck _) w = omega arith
   past_begun ms (SpecBarrier _) w = omega arith
 
+  -- after a list of statements as many more stages have begun as begin in it
   pub past_all_begun : (ms : List Mem) (ss : Stmts) (w : Flatten.Position) → (past_all ms ss w).begun ≡ w.begun + separators ss
   past_all_begun ms Nil w = omega arith
   past_all_begun ms (Cons s ss) w =
@@ -94,6 +97,7 @@ pub cut_append : (xs ys : List Place) → cut (xs ++ ys) ≡ cut xs + cut ys
 cut_append xs ys = sum_by-append (λ x. cond (is_separator x) 1 0) xs ys
 
 mutual
+  -- a statement and what stands inside it have as many separators as stages begin in it
   pub cut_in : (bs : List Branch) (s : Stmt) → cut (with_inner bs s) ≡ separators_in s
   cut_in bs (Separator _) = refl
   cut_in bs (If sp c when otherwise) =
@@ -106,6 +110,7 @@ mutual
       omega arith
   cut_in bs _ = refl
 
+  -- the places of a list of statements have as many separators as stages begin in it
   pub cut_all : (bs : List Branch) (ss : Stmts) → cut (statements bs ss) ≡ separators ss
   cut_all bs Nil = refl
   cut_all bs (Cons s ss) =
@@ -194,6 +199,7 @@ told_guard sp (Variable x) when otherwise w = sym (append-nil (told w.vars))
 told_guard sp _ when otherwise w = told_append w.vars _
 
 mutual
+  -- after a statement the variables have the names of those before it, and then the names that its places add
   pub told_past : (ms : List Mem) (bs : List Branch) (s : Stmt) (w : Flatten.Position) → told (past ms s w).vars ≡ told w.vars ++ names (with_inner bs s)
   told_past ms bs (CombRead _ x from) w = told_append w.vars _
   told_past ms bs (Bind _ x e) w = told_append w.vars _
@@ -212,6 +218,7 @@ mutual
       (sym (names_append (statements (bs ++ branch sp c true when ∷ []) when) (statements (bs ++ branch sp c false otherwise ∷ []) otherwise)))
   told_past ms bs _ w = sym (append-nil (told w.vars))
 
+  -- after a list of statements the variables have the names of those before it, and then the names that its places add
   pub told_past_all : (ms : List Mem) (bs : List Branch) (ss : Stmts) (w : Flatten.Position)
       → told (past_all ms ss w).vars ≡ told w.vars ++ names (statements bs ss)
   told_past_all ms bs Nil w = sym (append-nil (told w.vars))
@@ -229,6 +236,7 @@ named_passes : (ms : List Mem) (front : List Place) (w : Flatten.Position) (bs :
     → Named (front ++ with_inner bs s) (past ms s w)
 named_passes ms front w bs s h = told_past ms bs s w ∙ ap (λ l. l ++ names (with_inner bs s)) h ∙ sym (names_append front (with_inner bs s))
 
+-- where the variables have the names of the places before an `if`, they have those before its first branch as well
 pub named_first : (front : List Place) (w : Flatten.Position) (bs : List Branch) (sp : Span) (c : Expr) (when otherwise : Stmts)
     → Named front w → Named (front ++ Statement (If sp c when otherwise) bs ∷ []) (with_guard c w)
 named_first front w bs sp c when otherwise h =

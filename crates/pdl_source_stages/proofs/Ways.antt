@@ -220,6 +220,7 @@ module _ (p : Flat.Pipe) (spots : (s : ℕ) → s < length p.stages → Spot p s
           let y = start_low f a first in
           merged f x a b k (to s env _ g) (below f k.trunk (omega arith))
 
+  -- the stage graph is in order, where there is a stage, and stage 0, each memory's reserves and its releases stand in the trunk
   pub graph_of : 0 < length p.stages → Trunk p 0 → ((m : ℕ) → Trunk p (reserve_stage p m)) → ((m : ℕ) → Trunk p (commit_stage p m)) → Graph p
   graph_of some zero_trunk reserve commit = record {
     some_stage = some;
@@ -382,6 +383,7 @@ module _ (p : Flat.Pipe) (spots : (s : ℕ) → s < length p.stages → Spot p s
         ),
       )
 
+  -- the branches of forks are in order, where each stage stands on one of the four kinds of spots
   pub branches_of : Branches p
   branches_of = record {
     fork_trunk = fork_trunk;

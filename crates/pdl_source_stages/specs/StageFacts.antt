@@ -30,6 +30,7 @@ abbrev pub AllFound : Pipe → (ℕ → ℕ) → ℕ → List Stmt → Type 0
 AllFound p fetch s [] = Unit {0}
 AllFound p fetch s (y ∷ ys) = FoundIf p fetch s y.op × AllFound p fetch s ys
 
+-- what is known of a pipe's stages, and of the stages in which its statements stand
 pub record StageFacts (p : Pipe) : Type 0 where
   -- F2: the stages
   pub graph : Graph p

@@ -34,6 +34,7 @@ abbrev mutual
   begun_in env ms (SpecCheck _) w = []
   begun_in env ms (SpecBarrier _) w = []
 
+  -- the stages that the separators of a path begin in a list of statements, in text order
   pub begun_by : List ℕ → List Mem → Stmts → Position → List ℕ
   begun_by env ms Nil w = []
   begun_by env ms (Cons s ss) w = begun_in env ms s w ++ begun_by env ms ss (past ms s w)

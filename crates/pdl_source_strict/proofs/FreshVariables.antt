@@ -30,6 +30,7 @@ module _ (vs : List Var) (test : Use → Bool) (named : (x : List ℕ) → test 
   low_name : (x : List ℕ) (y : ℕ) → test (OfVariable x) ≡ false → (var_of vs x == y) ≡ true → y < length vs
   low_name x y h e = subst (λ n. n < length vs) (eqb-true (var_of vs x) y e) (var_low vs x (named x h))
 
+  -- where an expression uses only names that are there, its flat form uses only variables that are there
   pub expr_low : (e : Expr) → some_part (reads_some test) e ≡ false → (y : ℕ) → uses_in y (flat_expr vs e) ≡ true → y < length vs
   expr_low (Constant l) h y u = absurd (false≢true u)
   expr_low (Variable x) h y u = low_name x.name y h u
@@ -44,6 +45,7 @@ module _ (vs : List Var) (test : Use → Bool) (named : (x : List ℕ) → test 
       either _ _ _ _ (y < length vs) h u (λ i j. expr_low c i y j)
       (λ i j. either _ _ _ _ (y < length vs) i j (λ k l. expr_low a k y l) (λ k l. expr_low b k y l))
 
+  -- where expressions use only names that are there, their flat forms use only variables that are there
   pub exprs_low : (es : List Expr) → list_any (some_part (reads_some test)) es ≡ false → (y : ℕ) → uses_any y (flat_exprs vs es) ≡ true → y < length vs
   exprs_low [] h y u = absurd (false≢true u)
   exprs_low (e ∷ es) h y u = either _ _ _ _ (y < length vs) h u (λ i j. expr_low e i y j) (λ i j. exprs_low es i y j)
@@ -127,6 +129,7 @@ module _ (vars k : ℕ) (ms : List Mem) (vs : List Var) (rest : List Flat.Stmt) 
   low_var : (a y : ℕ) → a < length vs → (a == y) ≡ true → y < length vs
   low_var a y low e = subst (λ n. n < length vs) (eqb-true a y e) low
 
+  -- after statements that have to do with earlier variables alone, a statement binds a new variable, and so does what follows it
   pub site_new : (s : Stmt) → Uses vs s → length (vars_past ms vs s) ≤ vars
       → Follows vars (length (vars_past ms vs s)) rest → Follows vars (length vs) (seen_ops k (ops_of ms vs s) ++ rest)
   site_new (Separator sp) u room go = go

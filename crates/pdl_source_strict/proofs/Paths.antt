@@ -138,5 +138,6 @@ module _ (p : Pipe) (rules : KeepsRules p) where
         (λ t. (at : Location) → location_of t.stmt ≡ Some at → is_named t.walk.vars at.address.name ≡ true)
         (λ t u. u.address) ts uses)
 
+  -- on each path of an accepted source each variable is bound anew, and the location of each block is released after it
   pub paths_strict : is_source p ≡ true → Strict (flat p)
   paths_strict source = record { names = names source; blocks = blocks source }

@@ -28,6 +28,7 @@ pub record AreOfPlaces (rows : List r_place.Place) (first stages : List ℕ) (xs
   pub numbers : AreNumbered Locations rows first xs
   pub by_text : stages ≡ stages_in xs
 
+-- the uses are those of the locations at these places, and the barrier says whether one stands among them
 pub record IsSure (rows : List r_place.Place) (earlier : List Place) (uses : List location.LocationUse) (barrier : Bool) : Type 0 where
   pub kept : AreKept Locations IsUsed (map place_view rows) earlier uses
   pub passed : barrier ≡ list_any is_barrier earlier

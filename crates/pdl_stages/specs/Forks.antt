@@ -3,6 +3,7 @@ use Rattle.std.specs.Prelude.{List, map}
 use Rattle.pdl_stages.specs.declared.fork.Fork as r_fork
 use Rattle.pdl_stages.specs.Graph.{Fork}
 
+-- the fork that a value of the program stands for
 abbrev pub fork_view : r_fork.Fork → Fork
 fork_view f = record { stage = f.stage; merge = f.merge }
 

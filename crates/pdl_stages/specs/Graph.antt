@@ -48,5 +48,6 @@ graph_with p places =
       depth = stages.depth p;
     }
 
+-- the graph of a pipe with these places
 abbrev pub graph_of : Flat.Pipe → List Place → Graph
 graph_of p xs = graph_with p (stages_in xs)

@@ -47,6 +47,7 @@ shortest assigned = some_literal ∷ at any mark.Semicolon ∷ []
 shortest assigned_name = at any mark.Semicolon ∷ []
 shortest in_square = on any kind.Name ∷ at any mark.CloseSquare ∷ at any mark.Semicolon ∷ []
 
+-- the shortest tokens that complete all that a stack expects
 abbrev pub ending : Stack → Row
 ending [] = []
 ending (s ∷ below) = shortest s ++ ending below

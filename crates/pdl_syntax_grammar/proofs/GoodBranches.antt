@@ -62,6 +62,7 @@ no_else (t ∷ ts) below e = go t.kind (word_of t) e
 
 module _ (top n : ℕ) (inside : Parser Stmts)
     (good : (ts : Row) → length ts < n → length ts ≤ top → Good (λ ss r. Items ss ts r) (m.items ∷ []) (a mark.CloseBrace ∷ []) (inside ts) ts) where
+  -- a branch is read as the automaton takes it, and what is read is so
   pub branch_good : (ts : Row) → length ts < n → length ts ≤ top → Good (IsBranch ts) (m.items ∷ []) [] (branch inside ts) ts
   branch_good ts le le2 =
       then [] _ (good ts le le2) (λ ss r1 p1 _.

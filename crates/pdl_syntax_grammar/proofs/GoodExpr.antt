@@ -138,6 +138,7 @@ module _ (inner : Inner) (n : ℕ) (fine : Fine inner n) where
 pub record Ends (n : ℕ) (r : Row) : Type 0 where
   pub none : (j : ℕ) → j < n → op_in j (first_kind r) ≡ None
 
+-- the tokens begin with the mark of this operator, which is of this looseness
 pub record BeginsOperator (n : ℕ) (op : BinaryOp) (ts : Row) : Type 0 where
   pub w : Word
   pub m : Mark

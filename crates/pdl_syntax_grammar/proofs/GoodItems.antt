@@ -68,6 +68,7 @@ module _ {A : Type 0} (P : A → Row → Row → Type 0) (p : Parser A) (l : Lis
           reads (last (subst (λ k. P x ts (on (word_of t) k ∷ us)) (closer_comes (closer l) t.kind e) h)) (omega arith)
           (λ below. more_step l t us (Some false) below e)
 
+  -- values with commas between them are read as the automaton takes them, and what is read is so, where each value is
   pub listed_good : (n : ℕ) (ts : Row) → length ts < n → length ts ≤ top → List_good ts (first_of l) (list_of p (closer l) n ts) ts
   unfolding list_of
   listed_good zero ts le le2 = absurd (omega arith)

@@ -16,6 +16,7 @@ use Rattle.pdl_syntax_grammar.specs.Reading.{Outcome, Parser, and_then, take, na
 use Rattle.pdl_syntax_grammar.specs.Reading as reading
 use Rattle.pdl_syntax_grammar.specs.Automaton.{Sym, a, a_name, a_number, a_literal, an_access, a_pace, a_lock_kind, Stack, act, run}
 
+-- what a reader answers is so, and the automaton has the same tokens left, and where it refuses tokens the automaton stops at them
 pub data Good {A : Type 0} (P : A → Row → Type 0) (before after : Stack) : Outcome A → Row → Type 0 where
   reads : {v : A} {r ts : Row} → P v r → length r ≤ length ts
       → ((below : Stack) → run ts (before ++ below) ≡ run r (after ++ below)) → Good P before after (Ok (v, r)) ts
@@ -71,6 +72,7 @@ word x s = record { text = x; span = s }
 abbrev pub word_of : Token → Word
 word_of t = word t.text t.span
 
+-- a mark that is taken for another is that one
 pub same_marks : (m k : Mark) → is_mark m (Some (kind.Mark k)) ≡ true → k ≡ m
 same_marks m k e = same_true the_type tt k m e
 
@@ -126,6 +128,7 @@ name_good (t ∷ ts) = go t.kind (word_of t)
     go kind.Name w = reads refl (omega arith) (λ below. refl)
     go _ w = stops (λ below. refl)
 
+-- the tokens begin with the number
 abbrev pub Numbered : Row → Number → Row → Type 0
 Numbered ts n r = (x : List ℕ) × (ts ≡ on (word x n.span) (kind.Number n.value) ∷ r)
 
@@ -153,6 +156,7 @@ literal_good (t ∷ ts) = go t.kind (word_of t)
     go (kind.Literal n v) w = reads (w.text, refl) (omega arith) (λ below. refl)
     go _ w = stops (λ below. refl)
 
+-- the tokens begin with the `R` or `W`
 abbrev pub Accessed : Row → Kind → Row → Type 0
 Accessed ts k r = (w : Word) × (ts ≡ at w (mark_of k) ∷ r)
 
@@ -167,6 +171,7 @@ access_good (t ∷ ts) = go t.kind (word_of t)
     go (kind.Mark mark.W) w = reads (w, refl) (omega arith) (λ below. refl)
     go _ w = stops (λ below. refl)
 
+-- the tokens begin with the kind of lock
 abbrev pub LockedBy : Row → LockKind → Row → Type 0
 LockedBy ts k r = (w : Word) × (ts ≡ at w (lock_mark k) ∷ r)
 
@@ -182,6 +187,7 @@ lock_kind_good (t ∷ ts) = go t.kind (word_of t)
     go (kind.Mark mark.Rename) w = reads (w, refl) (omega arith) (λ below. refl)
     go _ w = stops (λ below. refl)
 
+-- the tokens begin with the `comb` or `delayed`
 abbrev pub Paced : Row → Bool → Row → Type 0
 Paced ts delayed r = (w : Word) × (ts ≡ at w (pace_mark delayed) ∷ r)
 

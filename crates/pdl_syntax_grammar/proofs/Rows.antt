@@ -72,6 +72,7 @@ unfolding list_of
 listed_of p close zero m xs x ts r c e = absurd (omega arith)
 listed_of p close (suc n) m xs x ts r c e = let is : m ≡ n = omega arith in rw is (rw e refl)
 
+-- a value that a comma follows comes after those before it, and the list goes on behind the comma
 pub listed_more : {A : Type 0} (p : Parser A) (close : Mark) (n m : ℕ) (xs : List A) (x : A) (ts r : Row) → n ≡ m + 1
     → p ts ≡ Ok (x, r) → goes_on close (first_kind r) ≡ Some true →
     after xs (list_of p close n ts) ≡ after (xs ++ x ∷ []) (list_of p close m (next r))
@@ -109,20 +110,24 @@ module _ {A B : Type 0} (view : B → A) (p : Parser A) (close : Mark) where
   one_more : (done now : List B) (x : B) → now ≡ done ++ x ∷ [] → map view now ≡ map view done ++ view x ∷ []
   one_more done now x e = rw e (map-append view done (x ∷ []))
 
+  -- where a comma follows x, the list goes on behind the comma with x among what was read
   pub value_more : (n m : ℕ) (done now : List B) (x : B) (ts r left : Row) → n ≡ m + 1 → p ts ≡ Ok (view x, r)
       → goes_on close (first_kind r) ≡ Some true → now ≡ done ++ x ∷ [] → left ≡ next r →
       after (map view done) (list_of p close n ts) ≡ after (map view now) (list_of p close m left)
   value_more n m done now x ts r left c e k i j = rw (one_more done now x i, j) (listed_more p close n m (map view done) (view x) ts r c e k)
 
+  -- where the closer follows x, the values that were read and x are the list
   pub value_last : (n : ℕ) (done now : List B) (x : B) (ts r left : Row) → 1 ≤ n → p ts ≡ Ok (view x, r)
       → goes_on close (first_kind r) ≡ Some false → now ≡ done ++ x ∷ [] → left ≡ next r →
       after (map view done) (list_of p close n ts) ≡ Ok (map view now, left)
   value_last n done now x ts r left c e k i j = rw (one_more done now x i, j) (listed_last p close n (n - 1) (map view done) (view x) ts r (omega arith) e k)
 
+  -- where neither a comma nor the closer follows x, the tokens behind x are refused
   pub value_stuck : (n : ℕ) (done : List B) (x : B) (ts r : Row) → 1 ≤ n → p ts ≡ Ok (view x, r)
       → goes_on close (first_kind r) ≡ None → after (map view done) (list_of p close n ts) ≡ Err r
   value_stuck n done x ts r c e k = listed_stuck p close n (n - 1) (map view done) (view x) ts r (omega arith) e k
 
+  -- where the next value is refused, the list is refused at the same tokens
   pub value_fails : (n : ℕ) (done : List B) (ts left : Row) → 1 ≤ n → p ts ≡ Err left → after (map view done) (list_of p close n ts) ≡ Err left
   value_fails n done ts left c e = listed_fails p close n (map view done) ts left (λ z. omega arith) e
 

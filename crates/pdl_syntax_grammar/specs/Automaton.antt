@@ -25,6 +25,7 @@ pub data Listing : Type 0 where
   args : Listing
   literals : Listing
 
+-- what may be expected: one token of a kind, or a part of a text of which the next token decides
 pub data Sym : Type 0 where
   a : Mark → Sym  -- this mark
   a_name : Sym
@@ -72,6 +73,7 @@ closing comma = a mark.Comma
 closing colon = a mark.Colon
 closing in_args = more args
 
+-- a mark that is expected is taken, and nothing more is expected for it
 abbrev pub if_mark : Mark → TokenKind → Option Stack
 if_mark m k = cond (is_mark m (Some k)) (Some []) None
 
@@ -108,10 +110,12 @@ abbrev pub act_rest : Closer → TokenKind → Option Stack
 act_rest q (kind.Mark m) = act_operator q (kind.Mark m) (operator_of m)
 act_rest q k = act_close q k
 
+-- what a token brings after a name: a slice after a bracket, else what it brings after an operand
 abbrev pub act_slicing : Closer → TokenKind → Option Stack
 act_slicing q (kind.Mark mark.OpenSquare) = Some (a_number ∷ a mark.Colon ∷ a_number ∷ a mark.CloseSquare ∷ rest q ∷ [])
 act_slicing q k = act_rest q k
 
+-- what a token brings where an expression begins: what is left of the operand, and what follows it
 abbrev pub act_operand : Closer → TokenKind → Option Stack
 act_operand q (kind.Literal n v) = Some (rest q ∷ [])
 act_operand q kind.Name = Some (slicing q ∷ [])
@@ -123,6 +127,7 @@ act_operand q (kind.Mark mark.ZeroExtend) = Some (a mark.OpenRound ∷ operand c
 act_operand q (kind.Mark mark.SignExtend) = Some (a mark.OpenRound ∷ operand comma ∷ a_number ∷ a mark.CloseRound ∷ rest q ∷ [])
 act_operand q _ = None
 
+-- what a token brings after `comb` or `delayed`: a lock, or what follows a memory
 abbrev pub act_locked : TokenKind → Option Stack
 act_locked (kind.Mark mark.Lock) = Some (a_lock_kind ∷ a mark.OpenRound ∷ a_number ∷ a mark.CloseRound ∷ more mems ∷ [])
 act_locked k = act_more mems k
@@ -131,6 +136,7 @@ act_locked k = act_more mems k
 abbrev pub held_stack : Stack → Stack
 held_stack between = a mark.OpenRound ∷ a_name ∷ a mark.OpenSquare ∷ a_name ∷ a mark.CloseSquare ∷ (between ++ (a mark.CloseRound ∷ a mark.Semicolon ∷ []))
 
+-- what a token brings that begins a statement on a lock: a location in brackets, and then statements
 abbrev pub act_locking : TokenKind → Option Stack
 act_locking (kind.Mark mark.Reserve) = Some (held_stack (a mark.Comma ∷ an_access ∷ []) ++ (items ∷ []))
 act_locking (kind.Mark mark.Acquire) = Some (held_stack (a mark.Comma ∷ an_access ∷ []) ++ (items ∷ []))
@@ -138,6 +144,7 @@ act_locking (kind.Mark mark.Block) = Some (held_stack [] ++ (items ∷ []))
 act_locking (kind.Mark mark.Release) = Some (held_stack [] ++ (items ∷ []))
 act_locking _ = None
 
+-- what a token brings where a statement begins or the closing brace comes
 abbrev pub act_items : TokenKind → Option Stack
 act_items kind.Name = Some (after_name ∷ items ∷ [])
 act_items (kind.Mark mark.Separator) = Some (items ∷ [])
@@ -149,52 +156,63 @@ act_items (kind.Mark mark.SpecBarrier) = Some (a mark.OpenRound ∷ a mark.Close
 act_items (kind.Mark mark.CloseBrace) = Some []
 act_items k = act_locking k
 
+-- what a token brings after a branch: another branch after `else`, or else statements
 abbrev pub act_else_items : TokenKind → Option Stack
 act_else_items (kind.Mark mark.Else) = Some (a mark.OpenBrace ∷ items ∷ items ∷ [])
 act_else_items k = act_items k
 
+-- what a token brings after the name that a statement begins with: a binding, a delayed read or a write
 abbrev pub act_after_name : TokenKind → Option Stack
 act_after_name (kind.Mark mark.Assign) = Some (assigned ∷ [])
 act_after_name (kind.Mark mark.Arrow) = Some (a_name ∷ a mark.OpenSquare ∷ a_name ∷ a mark.CloseSquare ∷ a mark.Semicolon ∷ [])
 act_after_name (kind.Mark mark.OpenSquare) = Some (a_name ∷ a mark.CloseSquare ∷ a mark.Arrow ∷ operand semicolon ∷ [])
 act_after_name _ = None
 
+-- what a token brings after `x =`: a name, a guess, or an expression
 abbrev pub act_assigned : TokenKind → Option Stack
 act_assigned kind.Name = Some (assigned_name ∷ [])
 act_assigned (kind.Mark mark.SpecCall) = Some (a mark.OpenRound ∷ operand in_args ∷ a mark.Semicolon ∷ [])
 act_assigned k = act_operand semicolon k
 
+-- what a token brings after `x = y`: a bracket, or what follows an operand
 abbrev pub act_assigned_name : TokenKind → Option Stack
 act_assigned_name (kind.Mark mark.OpenSquare) = Some (in_square ∷ [])
 act_assigned_name k = act_rest semicolon k
 
+-- what a token brings after `x = y [`: the address of a read, or the bounds of a slice
 abbrev pub act_in_square : TokenKind → Option Stack
 act_in_square kind.Name = Some (a mark.CloseSquare ∷ a mark.Semicolon ∷ [])
 act_in_square (kind.Number n) = Some (a mark.Colon ∷ a_number ∷ a mark.CloseSquare ∷ rest semicolon ∷ [])
 act_in_square _ = None
 
+-- a name that is expected is taken
 abbrev pub if_name : TokenKind → Option Stack
 if_name kind.Name = Some []
 if_name _ = None
 
+-- a number that is expected is taken
 abbrev pub if_number : TokenKind → Option Stack
 if_number (kind.Number n) = Some []
 if_number _ = None
 
+-- a literal that is expected is taken
 abbrev pub if_literal : TokenKind → Option Stack
 if_literal (kind.Literal n v) = Some []
 if_literal _ = None
 
+-- `R` and `W` are taken where one of them is expected
 abbrev pub if_access : TokenKind → Option Stack
 if_access (kind.Mark mark.R) = Some []
 if_access (kind.Mark mark.W) = Some []
 if_access _ = None
 
+-- `comb` and `delayed` are taken where one of them is expected
 abbrev pub if_pace : TokenKind → Option Stack
 if_pace (kind.Mark mark.Comb) = Some []
 if_pace (kind.Mark mark.Delayed) = Some []
 if_pace _ = None
 
+-- `queue`, `bypass` and `rename` are taken where one of them is expected
 abbrev pub if_lock_kind : TokenKind → Option Stack
 if_lock_kind (kind.Mark mark.Queue) = Some []
 if_lock_kind (kind.Mark mark.Bypass) = Some []

@@ -52,6 +52,7 @@ type_row x c u o w n g more = on x kind.Name ∷ at c mark.Colon ∷ at u mark.U
 
 -- ---- values with commas between them, up to a closing mark, and it
 
+-- values by a rule, one at least, with commas between them and the closing mark after the last
 pub data Listed {A : Type 0} (Rule : A → Row → Row → Type 0) (close : Mark) : List A → Row → Row → Type 0 where
   last : {c : Word} {x : A} {a r : Row} → Rule x a (at c close ∷ r) → Listed Rule close (x ∷ []) a r
   further : {c : Word} {x : A} {xs : List A} {a b r : Row} → Rule x a (at c mark.Comma ∷ b) → Listed Rule close xs b r → Listed Rule close (x ∷ xs) a r

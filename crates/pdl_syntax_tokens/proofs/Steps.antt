@@ -13,6 +13,7 @@ use Rattle.pdl_syntax_tokens.specs.Tokens.{Piece, Spelling, symbols, spelling_at
 use Rattle.pdl_syntax_tokens.specs.Pieces.{piece_view, IsFront, IsLineAfter}
 use Rattle.pdl_word.proofs.Lists.{run_least, prefix_fits}
 
+-- a piece has at least 1 byte and at most n
 pub record Sized (p : Piece) (n : ℕ) : Type 0 where
   pub least : 1 ≤ p.size
   pub most : p.size ≤ n
@@ -97,6 +98,7 @@ comment_is : (c : ℕ) (cs : List ℕ) → starts_with nat_eq (c ∷ cs) (codes 
 comment_is c cs e = let k : nat_eq 47 c ≡ true = (and_parts (nat_eq 47 c) (pointwise nat_eq (47 ∷ []) (take 1 cs)) e).0 in
     let i : 47 ≡ c = grind (arith, nat_tests, k) in subst (λ x. in_line x ≡ true) i refl
 
+-- the piece at the front of bytes has at least 1 of them and at most all
 pub piece_sized : (c : ℕ) (cs : List ℕ) → Sized (piece_at c (c ∷ cs)) (length (c ∷ cs))
 unfolding piece_at
 piece_sized c cs =

@@ -6,6 +6,7 @@ use Rattle.pdl_syntax_tokens.specs.declared.spelling.Symbols.TheVariants.{One, S
 use Rattle.pdl_syntax_tokens.specs.declared.token.TokenKind.TheVariants as kind
 use Rattle.pdl_syntax_tokens.specs.Tokens.{Spelling, Piece, spelling_at, mark_or_bad}
 
+-- the spelling that a value of the program stands for
 abbrev pub spelling_view : r.Spelling → Spelling
 spelling_view s = record { text = s.text.now; mark = s.mark }
 

@@ -36,6 +36,7 @@ is_hex c = is_digit c || (nat_le 97 c && nat_le c 102)
 abbrev pub is_word : ℕ → Bool
 is_word c = is_lower c || (is_digit c || c == 95)
 
+-- a line feed
 abbrev pub is_line_end : ℕ → Bool
 is_line_end c = c == 10
 

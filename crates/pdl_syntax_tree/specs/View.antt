@@ -88,6 +88,7 @@ expr_view = r_expr.fold-Expr Expr expr_step
 abbrev pub exprs_view : List r_expr.Expr → List Expr
 exprs_view = map expr_view
 
+-- the statement that a value of the program stands for, where those inside it are given
 abbrev pub stmt_step : Stmt-F Stmt → Stmt
 stmt_step (Stmt-F.Separator s) = tree.Separator (span_view s)
 stmt_step (Stmt-F.CombRead s x l) = tree.CombRead (span_view s) (ident_view x) (location_view l)

@@ -17,25 +17,30 @@ pub record Drives (c : Circuit) (width r : ℕ) : Type 0 where
   pub there : IsThere c (Reg r)
   pub wide : (signal c (Reg r)).width ≡ width
 
+-- the registers of a look are there, with the bits of an address and of a ticket
 pub record IsLook (c : Circuit) (bits tickets : ℕ) (d : LookDrive) : Type 0 where
   pub addr : Drives c bits d.addr
   pub ticket : Drives c tickets d.ticket
 
+-- the registers of a reservation are there, with 1 bit and the bits of an address
 pub record IsReserve (c : Circuit) (bits : ℕ) (d : ReserveDrive) : Type 0 where
   pub enable : Drives c 1 d.enable
   pub addr : Drives c bits d.addr
 
+-- the registers of a write are there, with 1 bit, the bits of a ticket, and the width of a word
 pub record IsWrite (c : Circuit) (tickets width : ℕ) (d : WriteDrive) : Type 0 where
   pub enable : Drives c 1 d.enable
   pub ticket : Drives c tickets d.ticket
   pub value : Drives c width d.value
 
+-- the registers of two releases and a squash are there, each of 1 bit, and that of the squash's tail with the bits of a ticket
 pub record IsEnd (c : Circuit) (tickets : ℕ) (d : EndDrive) : Type 0 where
   pub release : Drives c 1 d.release
   pub release2 : Drives c 1 d.release2
   pub squash : Drives c 1 d.squash
   pub tail : Drives c tickets d.tail
 
+-- the registers of two reservations, two writes, two releases and a squash are there, with their widths
 pub record AreDrivers (c : Circuit) (bits width tickets : ℕ) (d : PortDrive) : Type 0 where
   pub reserve : IsReserve c bits d.reserve
   pub reserve2 : IsReserve c bits d.reserve2

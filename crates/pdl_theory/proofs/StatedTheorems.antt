@@ -15,16 +15,20 @@ use Rattle.pdl_theory_progress.proofs.Rates
 use Rattle.pdl_theory_simulation.proofs.WholeSimulation.{same_turns}
 
 module _ (p : Pipe) (sound : Sound p) where
+  -- in each cycle of a run both machines have the same ports and waits
   pub whole_same : (image : Arrays) (schedule : List (List Bool)) → SameTurns p (Cycle.turns p image schedule) (Derived.turns p image schedule)
   whole_same = same_turns p (sound_flows p sound)
 
+  -- every run of the stated machine refines the sequential run
   pub whole_refines : (image : Arrays) (schedule : List (List Bool)) → Refines p image schedule
   whole_refines image schedule =
       carries_refines p (sound_flows p sound) image schedule (Follows.refines p (course p sound) image schedule)
       (λ m n e. Follows.plain_writes p (course p sound) m n image p.start (ap is_plain e))
 
+  -- after any schedule the oldest thread of the stated machine moves in a cycle that isn't a wait
   pub whole_advances : (image : Arrays) (schedule : List (List Bool)) (bits : List Bool) → Advances p image schedule bits
   whole_advances image schedule bits = carries_advances p (sound_flows p sound) image schedule bits (Follows.advances p (course p sound) image schedule bits)
 
+  -- at least as many threads end in a run of the stated machine as its cycles that are no waits, divided by the depth
   pub whole_paces : (image : Arrays) (schedule : List (List Bool)) → KeepsPace p image schedule
   whole_paces image schedule = carries_pace p (sound_flows p sound) image schedule (Rates.keeps_pace p sound image schedule)

@@ -100,6 +100,7 @@ module _ (o : Around) (read : ℕ → ℕ → ℕ) (block : Blocked → Bool) (r
   Fits SpecCheck = Unit {0}
   Fits SpecBarrier = Unit {0}
 
+  -- the surroundings say of each of these statements what the stated conditions say
   abbrev pub AllFit : List Stmt → Type 0
   AllFit [] = Unit {0}
   AllFit (x ∷ xs) = Fits x.op × AllFit xs
@@ -171,11 +172,13 @@ module _ (o : Around) (read : ℕ → ℕ → ℕ) (block : Blocked → Bool) (r
             λ i. record (work_of d es cs) { ready = clear_swap ((list_all block d.blocks && list_all room d.reserves) && list_all free d.asks) d.barrier o.clear i };
       }
 
+  -- the work and the deeds stay those of the same statements over one more statement that is carried out or passed over
   pub told_step : (b : Bool) (op : Op) (d : Deeds) (es : List Entry) (cs : List Commit) → places es ≡ d.held → Fits op
       → Told (cond b (Machine.deeds_after read op d) d) (cond b (work_after o op (work_of d es cs)) (work_of d es cs))
   told_step true op d es cs h f = told_op op d es cs h f
   told_step false op d es cs h f = told d es cs h
 
+  -- the work and the deeds stay those of the same statements over more statements, where the surroundings fit each of them
   pub told_all : (xs : List Stmt) (d : Deeds) (es : List Entry) (cs : List Commit) → places es ≡ d.held → AllFit xs
       → Told (deeds_after_all read xs d) (do_all o xs (work_of d es cs))
   told_all [] d es cs h f = told d es cs h

@@ -266,6 +266,7 @@ unasked_op o (Verify args) w m h r = at (same_args (values_of args w.env) w.gues
     at false = refl
 unasked_op o _ w m h r = refl
 
+-- statements that leave a thread ready make no new request for m where the port of m isn't free
 pub unasked : (o : Around) (xs : List Stmt) (w : Work) (m : ℕ)
     → o.free m ≡ false → (do_all o xs w).ready ≡ true → find_ask (do_all o xs w).asks m ≡ find_ask w.asks m
 unasked o [] w m h r = refl

@@ -7,6 +7,7 @@ use Rattle.pdl_semantics.specs.Promises.{wrote, row}
 row_same : (arrays : Arrays) (m a v : ℕ) → row (with_word arrays m a v) m ≡ with_value (row arrays m) a v
 row_same arrays m a v = ap (λ c. cond c (with_value (arrays m) a v) (arrays m)) (eq-eqb m m refl)
 
+-- a word that is written to one memory leaves the words of another as they are
 pub row_other : (arrays : Arrays) (m n a v : ℕ) → n ≢ m → row (with_word arrays m a v) n ≡ row arrays n
 row_other arrays m n a v h = ap (λ c. cond c (with_value (arrays m) a v) (arrays n)) (ne_eqb n m h)
 

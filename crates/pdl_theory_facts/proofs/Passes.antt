@@ -55,12 +55,14 @@ module _ (p : Pipe) (h : Parts p) where
       below_at (lock_passes p)
       (length p.mems) m (and_right (nat_le (length p.releases_at) (length p.mems)) _ (and_right (nat_le (length p.reserves_at) (length p.mems)) _ locks_ok)) low
 
+  -- a number past those of the memories has its reserves in stage 0
   pub reserve_past : (m : ℕ) → length p.mems ≤ m → reserve_stage p m ≡ 0
   reserve_past m past =
       ap (λ o. unwrap_or o 0)
       (past_end p.reserves_at m None
       (let i : length p.reserves_at ≤ length p.mems = leb-true _ _ (and_left (nat_le (length p.reserves_at) (length p.mems)) _ locks_ok) in omega arith))
 
+  -- a number past those of the memories has its releases past the last stage
   pub commit_past : (m : ℕ) → length p.mems ≤ m → commit_stage p m ≡ length p.stages
   commit_past m past =
       ap (λ o. unwrap_or o (length p.stages)) (past_end p.releases_at m None
@@ -68,6 +70,7 @@ module _ (p : Pipe) (h : Parts p) where
       (and_left (nat_le (length p.releases_at) (length p.mems)) _ (and_right (nat_le (length p.reserves_at) (length p.mems)) _ locks_ok)) in
       omega arith))
 
+  -- each lock has room where no write is pending
   pub locks : (m : ℕ) → has_room (mem_at p m).lock 0 ≡ true
   locks m =
       by_bound (length p.mems) m (has_room (mem_at p m).lock 0 ≡ true) (λ low. and_left (has_room (mem_at p m).lock 0) _ (lock_ok m low))
@@ -86,12 +89,14 @@ module _ (p : Pipe) (h : Parts p) where
       where_true (is_plain (mem_at p m).lock) _
       (and_right (all_at (is_release m) (commit_stage p m) p.stmts) _ (and_right (all_at (is_reserve m) (reserve_stage p m) p.stmts) _ (lock_rest m low))) e
 
+  -- a memory without lock has its reserves in stage 0
   pub plain_from : (m : ℕ) → is_plain (mem_at p m).lock ≡ true → reserve_stage p m ≡ 0
   plain_from m e =
       by_bound (length p.mems) m (reserve_stage p m ≡ 0)
       (λ low. eqb-true _ _ (and_left (reserve_stage p m == 0) _ (plain_at m low e)))
       (λ past. reserve_past m past)
 
+  -- a memory without lock has its releases past the last stage
   pub plain_to : (m : ℕ) → is_plain (mem_at p m).lock ≡ true → commit_stage p m ≡ length p.stages
   plain_to m e =
       by_bound (length p.mems) m (commit_stage p m ≡ length p.stages)
@@ -102,15 +107,18 @@ module _ (p : Pipe) (h : Parts p) where
   pub known : list_all (λ x. knows_memory (length p.mems) x.op) p.stmts ≡ true
   known = h.known
 
+  -- no statement of the text is a delayed read
   pub unfetched : none_of is_fetch p.stmts ≡ true
   unfetched = h.unfetched
 
+  -- each reserve of a memory in the text stands in the stage of that memory's reserves
   pub reserves : (m : ℕ) → all_at (is_reserve m) (reserve_stage p m) p.stmts ≡ true
   reserves m =
       by_bound (length p.mems) m (all_at (is_reserve m) (reserve_stage p m) p.stmts ≡ true)
       (λ low. and_left (all_at (is_reserve m) (reserve_stage p m) p.stmts) _ (lock_rest m low))
       (λ past. all_at_none (is_reserve m) _ p.stmts (no_reserve m _ p.stmts known past))
 
+  -- each release of a memory in the text stands in the stage of that memory's releases
   pub releases : (m : ℕ) → all_at (is_release m) (commit_stage p m) p.stmts ≡ true
   releases m =
       by_bound (length p.mems) m (all_at (is_release m) (commit_stage p m) p.stmts ≡ true)
@@ -207,15 +215,19 @@ module _ (p : Pipe) (h : Parts p) where
     after_mems : (makings_ok (verify_stage p.stmts) Unmade xs && (is_made (making_all Unmade xs) && all_sure (verify_stage p.stmts) false no_scan xs)) ≡ true
     after_mems = and_right (all_below (mem_passes p xs) (length p.mems)) _ after_reads
 
+    -- a path makes the next thread in order: by one call, or by one guess and its verify
     pub path_makings : makings_ok (verify_stage p.stmts) Unmade (onpath path p.stmts) ≡ true
     path_makings = and_left _ _ after_mems
 
+    -- at the end of a path the next thread is made for certain
     pub path_made : is_made (making_all Unmade (onpath path p.stmts)) ≡ true
     path_made = and_left _ _ (and_right (makings_ok (verify_stage p.stmts) Unmade xs) _ after_mems)
 
+    -- each release on a path is certain: after a barrier, in V or later, or of what was not reserved for writing
     pub path_sure : all_sure (verify_stage p.stmts) false no_scan (onpath path p.stmts) ≡ true
     path_sure = and_right (is_made (making_all Unmade xs)) _ (and_right (makings_ok (verify_stage p.stmts) Unmade xs) _ after_mems)
 
+    -- the statements of a path, as a pipe of their own, have the facts of an accepted pipe
     pub accepted : Accepted (along path p)
     accepted =
         record {
@@ -237,6 +249,7 @@ module _ (p : Pipe) (h : Parts p) where
           releases = path_releases;
         }
 
+  -- the stage of the verifies is one of the pipe's stages
   pub verify_low : (v : ℕ) → verify_stage p.stmts ≡ Some v → v < length p.stages
   verify_low v e = ltb-true _ _ (subst (λ o. is_below (length p.stages) o ≡ true) e h.below)
 
@@ -292,6 +305,7 @@ module _ (p : Pipe) (h : paths_pass p ≡ true) where
       ≡ true
   after_fixed = and_right (is_fixed p.stmts) _ after_below
 
+  -- a pipe that passes the tests of all paths passes those of its locks, of its text and of each path
   pub parts_paths : Parts p
   parts_paths =
       record {
@@ -343,5 +357,6 @@ module _ (p : Pipe) (h : paths_pass p ≡ true) where
       (ap₂ (λ k l. k ++ l) n.0 n.1)
       ∙ ap is_fixed (append-nil p.stmts) ∙ and_left (is_fixed p.stmts) _ after_below)
 
+  -- a pipe that passes the tests of all paths has the facts of its text and of each of its paths
   pub pathwise_paths : Pathwise p
   pathwise_paths = pathwise p parts_paths (and_left (is_fixed p.stmts) _ after_below) fixed_each

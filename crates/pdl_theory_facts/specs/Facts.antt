@@ -14,6 +14,7 @@ use Rattle.pdl_semantics.specs.Sound.{stages_from, is_fetch}
 
 -- USES OF A VARIABLE
 
+-- whether variable x stands in an expression
 abbrev pub uses_in : ℕ → Expr → Bool
 uses_in x (Constant w v) = false
 uses_in x (Variable y) = y == x
@@ -26,6 +27,7 @@ uses_in x (ZeroExtend wide a) = uses_in x a
 uses_in x (SignExtend w wide a) = uses_in x a
 uses_in x (Choose c a b) = uses_in x c || (uses_in x a || uses_in x b)
 
+-- whether variable x stands in one of these expressions
 abbrev pub uses_any : ℕ → List Expr → Bool
 uses_any x [] = false
 uses_any x (e ∷ es) = uses_in x e || uses_any x es
@@ -169,6 +171,7 @@ comes_by p path (Some c) = goes_by p c path
 abbrev pub visits_stage : Pipe → List ℕ → ℕ → Bool
 visits_stage p path s = comes_by p path (stage_at p s).branch
 
+-- what is taken of an accepted pipe of the whole language: of its stages, paths, forks, locks and delayed reads
 pub record Sound (p : Pipe) : Type 0 where
   -- part C, F1, F2: the stages
   pub graph : Graph p

@@ -147,6 +147,7 @@ module _ (p : Pipe) (acc : Sound p) where
 
   -- THE STAGES THAT ARE LEFT
 
+  -- how many stages are left on a path from stage s on, with stage s
   abbrev pub left : List ℕ → ℕ → ℕ
   left path s = stages_on p path (length p.stages) s
 
@@ -186,6 +187,7 @@ module _ (p : Pipe) (acc : Sound p) where
           (sym (acc.graph.leaves s path low ∙ ap (λ b. cond b (Some (next_of p s path)) None) (lt-ltb _ _ inside)))
           ∙ ap (λ n. stages_on p path n s) (sym e)
 
+  -- from one of the pipe's stages on at least one stage is left
   pub left_some : (path : List ℕ) (s : ℕ) → s < length p.stages → 0 < left path s
   left_some path s low = at (length p.stages) refl
     where
@@ -221,15 +223,18 @@ module _ (p : Pipe) (acc : Sound p) where
                   ap (λ (x : Stage). stage_or (length p.stages) (goes_to x.next path)) (beyond (walk p path k) p.stages (ltb-false _ _ e)) in
                   let j = low in omega arith)
 
+  -- from a stage that a path comes to no more stages are left than the depth of the pipe
   pub reached_left : (path : List ℕ) (s : ℕ) → s < length p.stages → Reached p path s → left path s ≤ depth p
   reached_left path s low r =
       le_trans (subst (λ n. left path n ≤ left path 0) (sym r.1) (walk_left path r.0 (subst (λ n. n < length p.stages) r.1 low))) (path_most path)
 
   -- A RUN
 
+  -- the values that tell the path of the turn after n others
   abbrev pub turn_path : Arrays → ℕ → List ℕ
   turn_path image n = (thread (at_once p) (after_turns p image n).arrays (after_turns p image n).next).env
 
+  -- the stage of the oldest live thread, 0 where nobody lives
   abbrev pub lead : List Thread → ℕ
   lead [] = 0
   lead (t ∷ ts) = t.stage
@@ -375,6 +380,7 @@ module _ (p : Pipe) (acc : Sound p) where
   sum_up false true c waits ended d l l' h i f k = let e = suc-mul ended d in omega arith
   sum_up false false c waits ended d l l' h i f k = let g : 1 + l' ≤ l = f refl in omega arith
 
+  -- cycles from a state of a run on are fewer than their waits, a depth for each thread that ends, and what is left to the oldest
   pub runs_pace : (image : Arrays) (n : ℕ) (past : List Commit) (st : State) (schedule : List (List Bool)) → Runs p (course p acc) image n past st
       → suc (length schedule) ≤ waits_in (turns_from p st schedule) +
       (ended_in (turns_from p st schedule) * depth p + left (turn_path image n) (lead st.threads))
@@ -389,6 +395,7 @@ module _ (p : Pipe) (acc : Sound p) where
       (runs_pace image (if ends_one p (all_acts p st bits) then suc n else n) (past ++ commits_of (all_acts p st bits))
       (cycle p st bits) schedule (runs_cycle p (course p acc) image n past st bits r))
 
+  -- at least as many threads end in a run as its cycles that are no waits, divided by the depth of the pipe
   pub keeps_pace : (image : Arrays) (schedule : List (List Bool)) → KeepsPace p image schedule
   keeps_pace image schedule =
       let r = runs_first p (course p acc) image in

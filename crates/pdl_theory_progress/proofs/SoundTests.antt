@@ -546,6 +546,7 @@ module _ (p : Pipe) (h : passes_tests p ≡ true) where
       (λ i. below_at (λ s. test (in_stage s p.stmts)) (length p.stages) s k (ltb-true _ _ i))
       (λ i. ap test (none_past s p.stmts (ltb-false _ _ i) all.1.1.1.1.1.1.1.1.1.0) ∙ none)
 
+  -- a pipe that passes the tests of the whole language has the facts of a sound one
   pub sounded : Sound p
   sounded =
       record {

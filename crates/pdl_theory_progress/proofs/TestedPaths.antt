@@ -39,6 +39,7 @@ all_picks test path (g ∷ gs) e h =
 abbrev pub Agree : List ℕ → List ℕ → List ℕ → Type 0
 Agree gs e f = (g : ℕ) → among g gs ≡ true → (slice_index e g == 1) ≡ (slice_index f g == 1)
 
+-- guards hold alike with two lists of values that agree on their variables
 pub taken_agree : (gs : List ℕ) (e f : List ℕ) (hs : List Guard) → Agree gs e f
     → ((g : ℕ) → among g (vars_of hs) ≡ true → among g gs ≡ true) → all_hold hs e ≡ all_hold hs f
 taken_agree gs e f [] a i = refl
@@ -120,6 +121,7 @@ taken_fewer ys (g ∷ gs) env h = at (none_of (is_fetch_of g.var) ys) (taken_few
     at true r = ap₂ (λ a b. a && b) (and_left (takes_branch g.first (slice_index env g.var)) _ h) r
     at false r = r
 
+-- guards don't hold together where those among them that no delayed read decides don't
 pub not_taken : (ys : List Stmt) (gs : List Guard) (env : List ℕ) → all_hold (unfetched_guards ys gs) env ≡ false → all_hold gs env ≡ false
 not_taken ys gs env h = by_bool (all_hold gs env) (all_hold gs env ≡ false) (λ e. absurd (clash (sym h ∙ taken_fewer ys gs env e))) (λ e. e)
 

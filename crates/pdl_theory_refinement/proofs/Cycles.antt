@@ -55,6 +55,7 @@ abbrev pub start_spot : Pipe → List ℕ → Spot
 start_spot p args = record { stage = 0; env = start_env p args; asks = [] }
 
 module _ (p : Pipe) (acc : Course p) where
+  -- no stage stands behind itself
   pub not_self : (s : ℕ) → Under p s s → ⊥
   not_self s u = at (stage_at p s).branch refl
     where
@@ -117,6 +118,7 @@ module _ (p : Pipe) (acc : Course p) where
       three None y z = refl
       three (Some x) y z = refl
 
+  -- where the first thread stands, the cycle's requests are those of the older threads and of the ones behind it
   pub asks_stays : (all : List Ask) (asks : ℕ → Option ℕ) (a : Act) (rest : List Act) → a.moves ≡ false
       → NowAsks all asks (a ∷ rest) → NowAsks all (λ m. or_ask (asks m) None) rest
   asks_stays all asks a rest h now m =
@@ -131,6 +133,7 @@ module _ (p : Pipe) (acc : Course p) where
   start_waits : (asked : List (Option ℕ)) (v : Marks) (arrays : Arrays) (args : List ℕ) → Waits p acc asked v arrays args (start_spot p args)
   start_waits asked v arrays args = record { gets = ap (λ (w : Work). w.env) (sym (acc.start_so arrays args)); apart = tt; out = tt; sure = tt }
 
+  -- the thread that begins a turn stands on it, where the writes before the turn are the commits and the undone ones
   pub born_standing : (asked : List (Option ℕ)) (past w : Writes) (v : Marks) (arrays : Arrays) (args : List ℕ) (ahead : List ℕ) → AllUnder p ahead 0
       → ((m : ℕ) → w m ≡ past m ++ strips m (v m)) → Standing p acc asked past w v arrays args ahead (start_spot p args ∷ [])
   born_standing asked past w v arrays args ahead under h = (
@@ -146,13 +149,16 @@ module _ (p : Pipe) (acc : Course p) where
         ∙ ap (λ l. past m ++ l) (sym (strips_append m (v m) (marks p arrays args 0 m))),
   )
 
+  -- a new thread is the thread of its turn on the start spot
   pub born_seat : (arrays : Arrays) (args : List ℕ) → fresh p args ≡ seat p arrays args (start_spot p args)
   born_seat arrays args =
       ap (λ (w : Work). record { stage = 0; env = start_env p args; entries = w.entries; guess = w.guess; awaits = [] }) (sym (acc.start_so arrays args))
 
+  -- a thread in one of the pipe's stages isn't dropped where those past the last stage are
   pub shown_one : (t : Thread) (ts : List Thread) (s : ℕ) → s < length p.stages → t ∷ ts ≡ cond (nat_lt s (length p.stages)) (t ∷ []) [] ++ ts
   shown_one t ts s h = ap (λ b. cond b (t ∷ []) [] ++ ts) (sym (lt-ltb _ _ h))
 
+  -- a thread ends just where its next stage is past the last one
   pub exit_last : (s : ℕ) (env : List ℕ) → s < length p.stages → is_none (goes_to (stage_at p s).next env) ≡ not (nat_lt (next_of p s env) (length p.stages))
   exit_last s env low = ap is_none (acc.graph.leaves s env low) ∙ at (nat_lt (next_of p s env) (length p.stages))
     where
@@ -174,6 +180,7 @@ module _ (p : Pipe) (acc : Course p) where
         awaits = awaited_of (stage_work p arrays args s).asks;
       }) n.1 n.2
 
+  -- a thread that did its turn's work of a stage is on its turn in the next one, and gone where that is past the last
   pub moved_thread : (arrays : Arrays) (args : List ℕ) (s : ℕ) (w : Work) → acc.on arrays args s → s < length p.stages → w ≡ stage_work p arrays args s
       → moved_to (goes_to (stage_at p s).next w.env) w
       ≡ cond (nat_lt (next_at p arrays args s) (length p.stages)) (seat p arrays args (moved_spot p arrays args s) ∷ []) []
@@ -188,6 +195,7 @@ module _ (p : Pipe) (acc : Course p) where
       at true = ap (λ t. t ∷ []) (moved_seat arrays args s on low)
       at false = refl
 
+  -- after one more turn the arrays are the image with the writes before that turn and the turn's own
   pub rows_next : (image : Arrays) (w : Writes) (arrays : Arrays) (args : List ℕ) → RowsAt image w arrays
       → RowsAt image (λ m. w m ++ of_mem m (thread p arrays args).writes) (thread p arrays args).arrays
   rows_next image w arrays args rows m =
@@ -210,12 +218,14 @@ module _ (p : Pipe) (acc : Course p) where
 -- one thread in a cycle
 module _ (p : Pipe) (acc : Course p) (image : Arrays) (st : State) (bits : List Bool) (past past' : Writes)
     (all : List Ask) (rows : RowsAt image past st.arrays) (known : length st.asked ≡ length p.mems) where
+  -- the requests that are outstanding after the cycle
   abbrev pub asked' : List (Option ℕ)
   asked' = next_asks p bits all 0 st.asked
 
   module _ (older : List Act) (v v' : Marks) (d w : Writes) (asks : ℕ → Option ℕ) (arrays : Arrays) (args : List ℕ)
       (ahead ahead' : List ℕ) (sp : Spot) (last : Bool)
       (rows' : RowsAt image w arrays) (b : Behind p acc older v v' d asks ahead ahead') (h : Here p acc st.asked past w v arrays args ahead sp last) where
+    -- the thread stands in one of the pipe's stages
     pub low_here : sp.stage < length p.stages
     low_here = all_low p acc.graph acc.branches older ahead ahead' sp.stage b.moves h.under
 
@@ -298,12 +308,15 @@ module _ (p : Pipe) (acc : Course p) (image : Arrays) (st : State) (bits : List 
           (subst (λ t. (work_of_stage p (around p st bits older sp.stage) t).ready ≡ true) now_placed
           (moves_ready p st bits older (seat p arrays args sp) e)) h.clean
 
+      -- it does the work that its turn's stage does alone
       pub work_same : (act p st bits older (seat p arrays args sp)).work ≡ stage_work p arrays args sp.stage
       work_same = ap (work_of_stage p (around p st bits older sp.stage)) now_placed ∙ alike_here.0
 
+      -- it commits nothing to m where it isn't in the stage of m's releases
       pub commits_quiet : (m : ℕ) → sp.stage ≢ commit_stage p m → of_mem m (act p st bits older (seat p arrays args sp)).work.commits ≡ []
       commits_quiet = acc.quiet_at (around p st bits older sp.stage) (answered_thread p st bits (seat p arrays args sp))
 
+      -- it asks for m only in the stage of m's delayed reads
       pub asks_here : (m : ℕ) → is_some (find_ask (act p st bits older (seat p arrays args sp)).work.asks m) ≡ true → sp.stage ≡ acc.fetch m
       asks_here = acc.asks_at (around p st bits older sp.stage) (answered_thread p st bits (seat p arrays args sp))
 
@@ -313,6 +326,7 @@ module _ (p : Pipe) (acc : Course p) (image : Arrays) (st : State) (bits : List 
       more : sp.stage < next_at p arrays args sp.stage
       more = acc.graph.up sp.stage (stage_work p arrays args sp.stage).env low_here
 
+      -- after a cycle in which it moves it is on its turn in the next stage, behind the older threads as they stand then
       pub head_moves : (ts : List Thread) (last' : Bool)
           → Now past past' d (act p st bits older (seat p arrays args sp) ∷ acts p st bits (act p st bits older (seat p arrays args sp) ∷ older) ts)
           → NowAsks all asks (act p st bits older (seat p arrays args sp) ∷ acts p st bits (act p st bits older (seat p arrays args sp) ∷ older) ts)

@@ -82,6 +82,7 @@ module _ (p : Pipe) (acc : Course p) where
       (λ n. v n ++ marks p arrays args sp.stage n)
       (thread p arrays args).arrays (thread p arrays args).next (sp.stage ∷ ahead) sps (λ s u. f s u.1) h.1)
 
+  -- who stands behind the end of the pipe is in one of its stages
   pub low_end : (s : ℕ) → AllUnder p (length p.stages ∷ []) s → s < length p.stages
   low_end s u = at (nat_lt s (length p.stages)) refl
     where
@@ -134,6 +135,7 @@ module _ (p : Pipe) (acc : Course p) where
   dropped_tail arrays args sp [] strays h t = absurd (cc h)
   dropped_tail arrays args sp (r ∷ sps) strays h t = t
 
+  -- the oldest thread has no older ones, with nothing undone, committed or asked for before it
   pub behind_none : Behind p acc [] (λ m. []) (λ m. []) (λ m. []) (λ m. None) (length p.stages ∷ []) (suc (length p.stages) ∷ [])
   behind_none =
       record {
@@ -271,6 +273,7 @@ module _ (p : Pipe) (acc : Course p) where
   none_length [] = refl
   none_length (m ∷ ms) = ap suc (none_length ms)
 
+  -- the first state is one of a run, with no thread ended and nothing committed
   pub runs_first : (image : Arrays) → Runs p acc image 0 [] (first p image)
   runs_first image =
       record {
@@ -286,6 +289,7 @@ module _ (p : Pipe) (acc : Course p) where
         known = none_length p.mems;
       }
 
+  -- the state after a schedule is one of a run, with the threads that ended in it and its commits
   pub run_of : (image : Arrays) (schedule : List (List Bool))
       → Runs p acc image (ended_in (turns p image schedule)) (all_commits (turns p image schedule)) (state_after p (first p image) schedule)
   run_of image schedule =
@@ -404,6 +408,7 @@ module _ (p : Pipe) (acc : Course p) where
       l : (rest : List Commit) × (of_mem m (writes_from p (n + length r.spots) image p.start) ++ rest ≡ of_mem m (writes_from p (n + k) image p.start))
       l = longer p m n (length r.spots) k image p.start h
 
+  -- every run of the derived machine refines the sequential run
   pub refines : (image : Arrays) (schedule : List (List Bool)) → Refines p image schedule
   refines image schedule =
       let r = run_of image schedule in
@@ -418,6 +423,7 @@ module _ (p : Pipe) (acc : Course p) where
   plain_turn : (m : ℕ) (arrays : Arrays) (args : List ℕ) → is_plain (mem_at p m).lock ≡ true → of_mem m (thread p arrays args).writes ≡ []
   plain_turn m arrays args h = sym (acc.marks_start arrays args m) ∙ ap (strips m) (acc.marks_plain arrays args 0 m h)
 
+  -- no number of turns writes to a memory without lock
   pub plain_writes : (m k : ℕ) (arrays : Arrays) (args : List ℕ) → is_plain (mem_at p m).lock ≡ true → of_mem m (writes_from p k arrays args) ≡ []
   plain_writes m zero arrays args h = refl
   plain_writes m (suc k) arrays args h =
@@ -443,5 +449,6 @@ module _ (p : Pipe) (acc : Course p) where
       at (sp ∷ sps) h l =
           oldest p st bits (seat p (after_turns p image n).arrays (after_turns p image n).next sp) acc.locks (asked_all st.asked sp.asks h.0.waits.out) k
 
+  -- after any schedule the oldest thread of the derived machine moves in a cycle that isn't a wait
   pub advances : (image : Arrays) (schedule : List (List Bool)) (bits : List Bool) → Advances p image schedule bits
   advances image schedule bits k = oldest_of image _ _ (state_after p (first p image) schedule) bits (run_of image schedule) k

@@ -463,6 +463,7 @@ module _ (p : Pipe) (acc : Course p) (image : Arrays) (st : State) (bits : List 
         (λ k. ap (λ ts. acts p st bits (act p st bits older (seat p arrays args sp) ∷ older) ts) k)
         (so_far p arrays args sp.stage).child refl h.linked l (stage_work p arrays args sp.stage).child refl
 
+  -- after a cycle the live threads from one on are again threads on their turns, with those after a wrong guess behind them
   pub turned : (older : List Act) (v v' : Marks) (d w : Writes) (asks : ℕ → Option ℕ) (arrays : Arrays) (args : List ℕ)
       (ahead ahead' : List ℕ) (sps : List Spot) (strays : List Thread)
       → RowsAt image w arrays → Behind p acc older v v' d asks ahead ahead'

@@ -13,6 +13,7 @@ use Rattle.pdl_theory_turns.proofs.Courses.{Course, Strayed, onward}
 use Rattle.pdl_theory_refinement.proofs.Spots.{Strays}
 use Rattle.pdl_word.proofs.Bools.{by_bool}
 
+-- what a cycle leaves of the threads after a wrong guess: nothing committed, none ended, all behind the one that guessed
 pub record StraysAfter (p : Pipe) (stray : Thread → Type 0) (made : Thread → Bool) (bound' : ℕ) (none : Bool) (these : List Act) : Type 0 where
   pub commits : commits_of these ≡ []
   pub strays : Strays p stray made bound' (survivors p these)

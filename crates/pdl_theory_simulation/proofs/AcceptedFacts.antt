@@ -464,5 +464,6 @@ module _ (p : Pipe) (acc : Sound p) where
         fetch_inside = acc.fetch_inside;
       }
 
+  -- a sound pipe has the facts that the simulation takes
   pub sound_flows : Flows p
   sound_flows = flows_of_rules p flow_rules

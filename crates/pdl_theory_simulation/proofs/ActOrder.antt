@@ -168,6 +168,7 @@ plain_all read (x ∷ xs) d h =
     three false e = refl
 
 module _ (p : Pipe) (flows : Flows p) (st : State) (d : Derived.State) (bits : List Bool) (arrays : st.arrays ≡ d.arrays) where
+  -- the stated act of a thread with these older ones, as the derived machine decides it
   abbrev pub act_of : Pair → Moves.Act
   act_of x = lact p st d bits x.older x.live
 
@@ -233,6 +234,7 @@ module _ (p : Pipe) (flows : Flows p) (st : State) (d : Derived.State) (bits : L
           more _ _ ∙ ap (step (act_of y)) h ∙ commutes x y (s.0 (ltb-false _ _ e)) (f (acts_of p flows st d bits arrays ys))
           ∙ ap (step (act_of x)) (sym (more (act_of y) (acts_of p flows st d bits arrays ys)))
 
+  -- each thread may be taken before or after each older one that stands in no later stage
   abbrev pub Swaps : List Live → Type 0
   Swaps [] = Unit {0}
   Swaps (l ∷ ls) = EachPair (λ y. y.live.thread.stage ≤ l.thread.stage → Swap (record { live = l; older = ls }) y) (pairs ls) × Swaps ls
@@ -263,6 +265,7 @@ module _ (p : Pipe) (flows : Flows p) (st : State) (d : Derived.State) (bits : L
       at false true = refl
       at false false = refl
 
+  -- a step over those that move, which gives the same in either order of two, gives the same by stages and by age
   pub same_movers : (Z : Type 0) (f : List Moves.Act → Z) (step : Moves.Act → Z → Z)
       → ((a : Moves.Act) (rest : List Moves.Act) → f (a ∷ rest) ≡ step a (f rest)) → Commutes Z step → (ls : List Live)
       → Swaps ls
@@ -294,14 +297,17 @@ module _ (p : Pipe) (flows : Flows p) (st : State) (d : Derived.State) (bits : L
       (λ x y s z. put_all_swap m y.live.number x.live.number (deeds_of p st bits y.live).writes
       (deeds_of p st bits x.live).writes z (λ e. let i = s.numbers in absurd (omega arith)))
 
+  -- some thread that moves passes a test by stages just where one does by age
   pub same_any : (test : Moves.Act → Bool) (ls : List Live) → Swaps ls
       → list_any test (movers (acts_of p flows st d bits arrays (sorted ls))) ≡ list_any test (movers (lacts p st d bits ls))
   same_any test = same_movers Bool (list_any test) (λ a z. test a || z) (λ a rest. refl) (λ x y s z. or_swap (test (act_of y)) (test (act_of x)) z)
 
+  -- some thread passes a test by stages just where one does by age
   pub same_any_all : (test : Moves.Act → Bool) (ls : List Live) → Swaps ls
       → list_any test (acts_of p flows st d bits arrays (sorted ls)) ≡ list_any test (lacts p st d bits ls)
   same_any_all test = same_fold Bool (list_any test) (λ a z. test a || z) (λ a rest. refl) (λ x y s z. or_swap (test (act_of y)) (test (act_of x)) z)
 
+  -- the new thread's arguments are the same by stages and by age
   pub same_child : (ls : List Live) → Swaps ls → child_of (movers (acts_of p flows st d bits arrays (sorted ls))) ≡ child_of (movers (lacts p st d bits ls))
   same_child = same_movers (Option (List ℕ)) child_of (λ a z. if is_some a.does.child then a.does.child else z) (λ a rest. refl)
       (λ x y s z.
@@ -309,6 +315,7 @@ module _ (p : Pipe) (flows : Flows p) (st : State) (d : Derived.State) (bits : L
       ap₂ (λ a b. if is_some b then b else (if is_some a then a else z)) (plain_here x.live bx.0 bx.1).1 (plain_here y.live by.0 by.1).1
       ∙ sym (ap₂ (λ a b. if is_some a then a else (if is_some b then b else z)) (plain_here x.live bx.0 bx.1).1 (plain_here y.live by.0 by.1).1))
 
+  -- the thread that squashes is the same by stages and by age
   pub same_squasher : (ls : List Live) → Swaps ls → squasher (movers (acts_of p flows st d bits arrays (sorted ls))) ≡ squasher (movers (lacts p st d bits ls))
   same_squasher = same_movers (Option ℕ) squasher (λ a z. if a.does.fails then Some a.thread.number else z) (λ a rest. refl)
       (λ x y s z.
@@ -341,6 +348,7 @@ module _ (p : Pipe) (flows : Flows p) (st : State) (d : Derived.State) (bits : L
           (asks_at p flows st d bits arrays y.older y.live s.known_y m b (ap (λ q. find_ask q m) (sym works_y) ∙ f)) in
           let less : x.live.thread.stage < y.live.thread.stage = s.behind.branch (ap (λ n. (stage_at p n).branch) same) in omega arith)
 
+  -- the request of m after a cycle's new ones is the same by stages and by age
   pub same_asked : (m : ℕ) (old : Request) (ls : List Live) → Swaps ls
       → asked_by m (movers (acts_of p flows st d bits arrays (sorted ls))) old ≡ asked_by m (movers (lacts p st d bits ls)) old
   same_asked m old =
@@ -354,6 +362,7 @@ module _ (p : Pipe) (flows : Flows p) (st : State) (d : Derived.State) (bits : L
       at x y z (inr e) =
           asked_none m y.live.number _ _ e ∙ ap (asked_of m x.live.number (deeds_of p st bits x.live).asks) (sym (asked_none m y.live.number _ z e))
 
+  -- the address of m that is asked for in a cycle is the same by stages and by age
   pub same_shown : (m : ℕ) (ls : List Live) → Swaps ls
       → asked_in (movers (acts_of p flows st d bits arrays (sorted ls))) m ≡ asked_in (movers (lacts p st d bits ls)) m
   same_shown m = same_movers (Option ℕ) (λ ms. asked_in ms m) (λ a z. address_of m a.does.asks z) (λ a rest. refl) (λ x y s z. at x y z (one_asks m x y s))
@@ -364,6 +373,7 @@ module _ (p : Pipe) (flows : Flows p) (st : State) (d : Derived.State) (bits : L
       at x y z (inl e) = ap (address_of m (deeds_of p st bits y.live).asks) (address_none m _ z e) ∙ sym (address_none m _ _ e)
       at x y z (inr e) = address_none m _ _ e ∙ ap (address_of m (deeds_of p st bits x.live).asks) (sym (address_none m _ z e))
 
+  -- who stands in a stage after the moves is the same by stages and by age
   pub same_stands : (q : ℕ) (ls : List Live) → Swaps ls
       → next_thread p q (acts_of p flows st d bits arrays (sorted ls)) ≡ next_thread p q (lacts p st d bits ls)
   same_stands q =
@@ -401,6 +411,7 @@ module _ (p : Pipe) (flows : Flows p) (st : State) (d : Derived.State) (bits : L
       at true i None j = refl
       at true i (Some q) j = side q (stage_at p q).branch ((deeds_of p st bits l).env, j, low) refl (eqb-true _ _ i)
 
+  -- the branches into which threads go from a fork are the same by stages and by age
   pub same_entered : (f : ℕ) (ls : List Live) → Swaps ls
       → entered_branches p f (movers (acts_of p flows st d bits arrays (sorted ls))) ≡ entered_branches p f (movers (lacts p st d bits ls))
   same_entered f =
@@ -424,6 +435,7 @@ module _ (p : Pipe) (flows : Flows p) (st : State) (d : Derived.State) (bits : L
       → has_release m (movers (acts_of p flows st d bits arrays (sorted ls))) ≡ has_release m (movers (lacts p st d bits ls))
   same_releases m = same_any (λ a. list_any (λ n. n == m) a.does.releases)
 
+  -- the entry that is taken out of a lock is the same by stages and by age
   pub same_taken : (m : ℕ) (ls : List Live) → Swaps ls
       → taken_out st (movers (acts_of p flows st d bits arrays (sorted ls))) m ≡ taken_out st (movers (lacts p st d bits ls)) m
   same_taken m ls s = ap₂ (λ b l. if b then Cycle.oldest l else None) (same_releases m ls s) (same_two m ls s)
@@ -440,6 +452,7 @@ module _ (p : Pipe) (flows : Flows p) (st : State) (d : Derived.State) (bits : L
 
   -- THE CYCLE
 
+  -- the state after a cycle is the same with the acts by stages and by age
   pub same_after : (ls : List Live) → Swaps ls
       → Cycle.after_acts p st bits (acts_of p flows st d bits arrays (sorted ls))
       ≡ Cycle.after_these p st bits (lacts p st d bits ls) (movers (lacts p st d bits ls)) (squasher (movers (lacts p st d bits ls)))
@@ -461,6 +474,7 @@ module _ (p : Pipe) (flows : Flows p) (st : State) (d : Derived.State) (bits : L
     next = if is_some (same_child ls s i) then suc st.next else st.next;
   }
 
+  -- the ports of a cycle are the same with the acts by stages and by age
   pub same_ports : (ls : List Live) → Swaps ls
       → Cycle.ports p st (acts_of p flows st d bits arrays (sorted ls)) ≡ Cycle.ports p st (lacts p st d bits ls)
   same_ports ls s = λ i. record {
@@ -560,6 +574,7 @@ module _ (p : Pipe) (flows : Flows p) (st : State) (d : Derived.State) (bits : L
       at true e = out e (goes_to (stage_at p l.thread.stage).next (work_of_live p d bits ls l).env) refl
       at false e = target l.thread.stage (stays_none e) (become_stay p flows st d bits arrays l.thread.stage ls ks b)
 
+  -- live threads that each stand behind all older ones may be taken by stages or by age
   pub swaps_all : (n : ℕ) (ls : List Live) → AllKnown p flows st d bits arrays ls → Ordered p ls → Falls n ls → Swaps ls
   swaps_all n [] k o f = tt
   swaps_all n (l ∷ ls) k o f = (

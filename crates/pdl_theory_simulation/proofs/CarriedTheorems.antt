@@ -41,6 +41,7 @@ commits_same p m (t ∷ ts) [] h = absurd h
 commits_same p m (t ∷ ts) (u ∷ us) h =
     ap₂ (λ a b. a ++ b) (h.0.commits m) (commits_same p m ts us h.1) ∙ sym (of_mem_append m u.ports.commits (Derived.all_commits us))
 
+-- where the cycles of both machines have the same ports and waits, as many of them are waits
 pub waits_same : (p : Pipe) (ts : List Cycle.Turn) (us : List Derived.Turn) → SameTurns p ts us → Cycle.waits_in ts ≡ Derived.waits_in us
 waits_same p [] [] h = refl
 waits_same p [] (u ∷ us) h = absurd h
@@ -119,6 +120,7 @@ module _ (p : Pipe) (flows : Flows p) where
 
   -- THE THEOREMS
 
+  -- in each run both machines have the same ports and waits, and come to states that belong together
   pub run_same : (image : Arrays) (schedule : List (List Bool))
       → SameTurns p (Cycle.turns p image schedule) (Derived.turns p image schedule)
       × ((ls : List Live) × Sim p (Cycle.state_after p (Cycle.first p image) schedule) (Derived.state_after p (Derived.first p image) schedule) ls)

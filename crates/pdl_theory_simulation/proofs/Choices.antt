@@ -38,6 +38,7 @@ Matched NoRequest o m ls = o ≡ None
 Matched (Owned n a) o m ls = (o ≡ Some a) × (has_owner n m ls ≡ true)
 Matched (Orphan a) o m ls = o ≡ Some a
 
+-- the number of the thread that owns a request, 0 where none does
 abbrev pub owner_of : Request → ℕ
 owner_of NoRequest = 0
 owner_of (Owned n a) = n
@@ -116,6 +117,7 @@ module _ (p : Pipe) (flows : Flows p) (st : State) (d : Derived.State) (bits : L
       at true = ap (λ c. cond c (Some (word_at st.arrays m a)) None) (eq-eqb n n refl)
       at false = refl
 
+  -- of reads whose requests a thread owns, a cycle leaves the same unanswered in both machines
   pub waits_are : (n : ℕ) (rs : List Awaited) → AllOwned st n rs → unanswered_reads p st bits n rs ≡ still p bits rs
   waits_are n [] o = refl
   waits_are n (r ∷ rs) o = ap₂ (λ x l. cond (is_some x) [] (r ∷ []) ++ l) (answer_is n r.mem o.0.0 o.0.1) (waits_are n rs o.1) ∙ at (is_answered p bits r.mem)
@@ -283,6 +285,7 @@ module _ (p : Pipe) (flows : Flows p) (st : State) (d : Derived.State) (bits : L
     pub older : (m a : ℕ) → older_write st l.number m a ≡ latest (befores (dacts p d bits ls)) m a
     pub room : (m : ℕ) → l.thread.stage ≡ reserve_stage p m → pending (befores (dacts p d bits ls)) m ≡ length (lock_of st m)
 
+  -- what is known of a live thread at the start is known of each of these, behind the older ones
   abbrev pub AllKnown : List Live → Type 0
   AllKnown [] = Unit {0}
   AllKnown (l ∷ ls) = Known ls l × AllKnown ls
@@ -293,6 +296,7 @@ module _ (p : Pipe) (flows : Flows p) (st : State) (d : Derived.State) (bits : L
       Told (around p d bits (dacts p d bits ls) l.thread.stage) (word_for st l.number) (λ b. block_ready p st l.number b)
       (λ r. has_room (mem_at p r.mem).lock (length (lock_of st r.mem))) (λ q. port_free p d bits (dacts p d bits ls) q.mem) e w
 
+  -- what a thread finds around it in the derived machine says of these statements what the stated conditions say
   abbrev pub FitsAll : List Live → Live → List Stmt → Type 0
   FitsAll ls l xs =
       AllFit (around p d bits (dacts p d bits ls) l.thread.stage) (word_for st l.number) (λ b. block_ready p st l.number b)
@@ -320,6 +324,7 @@ module _ (p : Pipe) (flows : Flows p) (st : State) (d : Derived.State) (bits : L
       )
       at false e r = r
 
+  -- of a live thread's stage, what it finds around it in the derived machine says what the stated conditions say
   pub fit_all : (ls : List Live) (l : Live) → Known ls l → FitsAll ls l (in_stage l.thread.stage p.stmts)
   fit_all ls l k = fit_from ls l k p.stmts flows.reserves
 
@@ -344,6 +349,7 @@ module _ (p : Pipe) (flows : Flows p) (st : State) (d : Derived.State) (bits : L
     fails = false;
   })
 
+  -- what a live thread's stage asks of the stated machine and its work in the derived one are of the same statements
   pub told_here : (ls : List Live) (l : Live) → Known ls l → Same_deeds ls l (deeds_of p st bits l) (work_of_live p d bits ls l)
   told_here ls l k =
       subst (λ e. Same_deeds ls l e (work_of_live p d bits ls l)) (sym (deeds_are ls l k))
@@ -361,6 +367,7 @@ module _ (p : Pipe) (flows : Flows p) (st : State) (d : Derived.State) (bits : L
       (around p d bits (dacts p d bits ls) l.thread.stage) (word_for st l.number) (λ b. block_ready p st l.number b)
       (λ r. has_room (mem_at p r.mem).lock (length (lock_of st r.mem))) (λ q. port_free p d bits (dacts p d bits ls) q.mem) (fit_all ls l k) m l.number)
 
+  -- a thread that goes out of the pipe has no entry of m left
   pub ends_here : (ls : List Live) (l : Live) (k : Known ls l) (m : ℕ)
       → next_of p l.thread.stage (work_of_live p d bits ls l).env ≡ length p.stages
       → entries_of m (work_of_live p d bits ls l).entries ≡ []
@@ -369,6 +376,7 @@ module _ (p : Pipe) (flows : Flows p) (st : State) (d : Derived.State) (bits : L
       (around p d bits (dacts p d bits ls) l.thread.stage) (word_for st l.number) (λ b. block_ready p st l.number b)
       (λ r. has_room (mem_at p r.mem).lock (length (lock_of st r.mem))) (λ q. port_free p d bits (dacts p d bits ls) q.mem) (fit_all ls l k) m l.number
 
+  -- a thread that goes past the stage of m's releases has no entry of m left
   pub late_here : (ls : List Live) (l : Live) (k : Known ls l) (m : ℕ)
       → commit_stage p m < next_of p l.thread.stage (work_of_live p d bits ls l).env
       → entries_of m (work_of_live p d bits ls l).entries ≡ []

@@ -45,6 +45,7 @@ use_ok m ph (Verify args) = true
 use_ok m ph SpecCheck = true
 use_ok m ph SpecBarrier = true
 
+-- each of these statements is in order in its phase of the lock of m
 abbrev pub uses_ok : ℕ → Phase → List Stmt → Bool
 uses_ok m ph [] = true
 uses_ok m ph (x ∷ xs) = use_ok m ph x.op && uses_ok m (next_phase m ph x.op) xs
@@ -155,6 +156,7 @@ AllOf holds_location (x ∷ xs) = holds_location x × AllOf holds_location xs
 abbrev pub DefinedBy : ℕ → Op → ℕ → Type 0
 DefinedBy s op r = (s ≤ r) × (is_fetch op ≡ true → s < r)
 
+-- the facts that the simulation takes, in the form in which the rules give them
 pub record FlowRules (p : Pipe) : Type 0 where
   pub graph : Ways p
   -- F1

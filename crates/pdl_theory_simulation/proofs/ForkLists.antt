@@ -89,6 +89,7 @@ module _ (p : Pipe) (flows : Flows p) (st : State) (d : Derived.State) (bits : L
   all_on [] = []
   all_on (l ∷ ls) = next_live p st d bits ls l ++ all_on ls
 
+  -- the stated acts of the live threads that move, the youngest first
   abbrev pub ms : List Live → List Moves.Act
   ms ls = movers (lacts p st d bits ls)
 
@@ -102,6 +103,7 @@ module _ (p : Pipe) (flows : Flows p) (st : State) (d : Derived.State) (bits : L
     abbrev pub leaves : Live → Bool
     leaves l = is_branch_of (stage_at p l.thread.stage).branch f && goes_out p f (next_stage p l.thread.stage (deeds_of p st bits l))
 
+    -- the branch that a thread appends to the fork's list, none where it doesn't go from the fork into one
     abbrev pub enters : Live → List Bool
     enters l = if l.thread.stage == f then goes_into p f (next_stage p l.thread.stage (deeds_of p st bits l)) else []
 

@@ -93,6 +93,7 @@ born_live p n None = []
 born_live p n (Some args) = record { number = n; thread = fresh p args; env = (fresh p args).env; kept = [] } ∷ []
 
 module _ (p : Pipe) (flows : Flows p) (st : State) (d : Derived.State) (bits : List Bool) (arrays : st.arrays ≡ d.arrays) where
+  -- a thread doesn't move behind one that moves with a failing verify
   pub stuck_here : (ls : List Live) (l : Live) → fell p d bits ls ≡ true → (did p d bits ls l).moves ≡ false
   stuck_here ls l f = at (did p d bits ls l).moves refl
     where
@@ -114,6 +115,7 @@ module _ (p : Pipe) (flows : Flows p) (st : State) (d : Derived.State) (bits : L
   abbrev pub Made : List Live → Type 0
   Made ls = Each (λ l. has_made p l.env l.thread.stage ≡ true) ls
 
+  -- each live thread but the youngest has made its successor
   abbrev pub MadeBehind : List Live → Type 0
   MadeBehind [] = Unit {0}
   MadeBehind (l ∷ ls) = Made ls
@@ -124,6 +126,7 @@ module _ (p : Pipe) (flows : Flows p) (st : State) (d : Derived.State) (bits : L
   made (l ∷ ls) =
       if (did p d bits ls l).moves then (if is_some (work_of_live p d bits ls l).child then (work_of_live p d bits ls l).child else made ls) else made ls
 
+  -- the stated machine's new thread has the arguments that the live threads of the derived one make
   pub child_is : (ls : List Live) → AllKnown p flows st d bits arrays ls → child_of (movers (lacts p st d bits ls)) ≡ made ls
   child_is [] k = refl
   child_is (l ∷ ls) k = at (did p d bits ls l).moves (child_is ls k.1)
@@ -179,6 +182,7 @@ module _ (p : Pipe) (flows : Flows p) (st : State) (d : Derived.State) (bits : L
           (ap (λ x. born_threads p (work_of_live p d bits ls l).child ++ x) (none (work_of_live p d bits ls l).fails) ∙ append-nil _)
       at false = refl
 
+  -- the live threads after the cycle: the new one, if one is made, and those that live on
   abbrev pub lives_next : List Live → List Live
   lives_next ls = born_live p st.next (made ls) ++ go_on p st d bits ls
 

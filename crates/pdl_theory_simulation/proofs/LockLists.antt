@@ -95,6 +95,7 @@ abbrev pub Past : ℕ → List Live → Type 0
 Past r ls = Each (λ k. r < k.thread.stage) ls
 
 module _ (p : Pipe) (flows : Flows p) (st : State) (d : Derived.State) (bits : List Bool) (arrays : st.arrays ≡ d.arrays) where
+  -- the stated acts of the live threads that move, the youngest first
   abbrev pub ms : List Live → List Moves.Act
   ms ls = movers (lacts p st d bits ls)
 
@@ -103,10 +104,12 @@ module _ (p : Pipe) (flows : Flows p) (st : State) (d : Derived.State) (bits : L
   part m l =
       with_writes_of m l.number (deeds_of p st bits l).writes (pend m l.number l.thread.entries ++ new_entries m l.number (deeds_of p st bits l).reserves)
 
+  -- the live threads' entries of m after steps 1 and 2, the oldest thread's first
   abbrev pub two : ℕ → List Live → List Pending
   two m [] = []
   two m (l ∷ ls) = two m ls ++ (if (did p d bits ls l).moves then part m l else pend m l.number l.thread.entries)
 
+  -- the live threads' entries of m after step 3, the oldest thread's first
   abbrev pub three : ℕ → List Live → List Pending
   three m [] = []
   three m (l ∷ ls) =
@@ -130,6 +133,7 @@ module _ (p : Pipe) (flows : Flows p) (st : State) (d : Derived.State) (bits : L
       quiet_reserves m l.number (word_for st l.number)
       (in_stage l.thread.stage p.stmts) _ (none_in_stage (is_reserve m) (reserve_stage p m) l.thread.stage p.stmts (flows.reserves m) h) refl
 
+  -- a thread that releases a write of m stands in the stage of m's releases
   pub release_here : (ls : List Live) (l : Live) (k : Known p flows st d bits arrays ls l) (m : ℕ)
       → list_any (λ j. j == m) (deeds_of p st bits l).releases ≡ true → l.thread.stage ≡ commit_stage p m
   release_here ls l k m h = at (l.thread.stage == commit_stage p m) refl
@@ -212,9 +216,11 @@ module _ (p : Pipe) (flows : Flows p) (st : State) (d : Derived.State) (bits : L
           (strangers l.number _ ls (λ k i. foreign_append k _ _ (mine k i) (news k i)) f.1) (foreign_two m l.number ls f.1) h
       at false h = two_stays m (ms ls) (pends m ls) (pend m l.number l.thread.entries) (two m ls) side (strangers l.number _ ls mine f.1) h
 
+  -- what the derived machine commits to m in the cycle
   abbrev pub commits_here : ℕ → List Live → List Commit
   commits_here m ls = of_mem m (commits_of (rev (dacts p d bits ls)))
 
+  -- whether a thread's stage releases a write of m
   abbrev pub takes : ℕ → Live → Bool
   takes m l = list_any (λ k. k == m) (deeds_of p st bits l).releases
 

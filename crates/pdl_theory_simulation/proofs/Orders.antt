@@ -105,10 +105,12 @@ first_other true (x ∷ xs) rest h = h.0
 first_other false (x ∷ xs) rest h = ap not h.0
 
 module _ (p : Pipe) (flows : Flows p) (st : State) (d : Derived.State) (bits : List Bool) (arrays : st.arrays ≡ d.arrays) where
+  -- the stated acts of these threads with their older ones, as the derived machine decides them
   abbrev pub acts_of : List Pair → List Moves.Act
   acts_of [] = []
   acts_of (x ∷ xs) = lact p st d bits x.older x.live ∷ acts_of xs
 
+  -- the acts of all live threads with their older ones are those in the order of age
   pub acts_pairs : (ls : List Live) → acts_of (pairs ls) ≡ lacts p st d bits ls
   acts_pairs [] = refl
   acts_pairs (l ∷ ls) = ap (λ l'. lact p st d bits ls l ∷ l') (acts_pairs ls)
@@ -508,6 +510,7 @@ module _ (p : Pipe) (flows : Flows p) (st : State) (d : Derived.State) (bits : L
               enters = entered_same (next_stage p l.thread.stage (deeds_of p st bits l)) refl;
             }
 
+        -- the stated machine decides of a thread, by those in later stages, what the derived one decides by the older ones
         pub act_same : Moves.act p st bits (acts_of later) l.thread.stage (with_answers p st bits (seat l)) ≡ lact p st d bits older l
         act_same = act_is p flows st d bits arrays older l (acts_of later) mine.0 tells
 

@@ -165,9 +165,11 @@ module _ (p : Pipe) (flows : Flows p) (st : State) (d : Derived.State) (bits : L
   asking [] m = None
   asking (l ∷ ls) m = if (did p d bits ls l).moves then first_of (find_ask (work_of_live p d bits ls l).asks m) l.number (asking ls m) else asking ls m
 
+  -- a live thread's stage makes the same requests in both machines
   pub asks_are : (ls : List Live) (l : Live) → Known p flows st d bits arrays ls l → (deeds_of p st bits l).asks ≡ (work_of_live p d bits ls l).asks
   asks_are ls l k = ap (λ (w : Work). w.asks) (sym (told_here p flows st d bits arrays ls l k).is)
 
+  -- the stated request of m after the new ones is that of the thread that asks for m, else the old one
   pub asked_is : (m : ℕ) (old : Request) (ls : List Live) → AllKnown p flows st d bits arrays ls
       → asked_by m (movers (lacts p st d bits ls)) old ≡ owned_by (asking ls m) old
   asked_is m old [] k = refl
@@ -179,6 +181,7 @@ module _ (p : Pipe) (flows : Flows p) (st : State) (d : Derived.State) (bits : L
       at true h = ap₂ (λ q r. asked_of m l.number q r) (asks_are ls l k.0) h ∙ asked_first m l.number (work_of_live p d bits ls l).asks (asking ls m) old
       at false h = h
 
+  -- the address of m at the stated ports is that of the thread that asks for m
   pub shown_is : (m : ℕ) (ls : List Live) → AllKnown p flows st d bits arrays ls → asked_in (movers (lacts p st d bits ls)) m ≡ address_for (asking ls m)
   shown_is m [] k = refl
   shown_is m (l ∷ ls) k = at (did p d bits ls l).moves (shown_is m ls k.1)
@@ -234,6 +237,7 @@ module _ (p : Pipe) (flows : Flows p) (st : State) (d : Derived.State) (bits : L
           let behind : Behind p l.thread.stage h.0 = behind_someone p l.thread.stage h.0 ls o.0 h.2 in
           let less : l.thread.stage < h.0 = behind.branch (ap (λ n. (stage_at p n).branch) same) in omega arith)
 
+  -- the address of m that is asked for in the derived machine is that of the thread that asks for m
   pub finds_is : (m : ℕ) (ls : List Live) → AllKnown p flows st d bits arrays ls → Ordered p ls
       → find_ask (asks_of (rev (dacts p d bits ls))) m ≡ address_for (asking ls m)
   unfolding or_ask
@@ -406,12 +410,15 @@ module _ (p : Pipe) (flows : Flows p) (st : State) (d : Derived.State) (bits : L
 
   -- THE REQUESTS AFTER THE CYCLE
 
+  -- the stated request of m after the cycle: the new one, else the old one if it isn't answered, an orphan if its owner is removed
   abbrev pub request_now : Option ℕ → List Live → ℕ → Request
   request_now sq ls m = request_left sq (owned_by (asking ls m) (if is_answered p bits m then NoRequest else request_of st m))
 
+  -- the address that is outstanding for m in the derived machine after the cycle: the new one, else the old one if it isn't answered
   abbrev pub asked_now : List Live → ℕ → Option ℕ
   asked_now ls m = next_ask (address_for (asking ls m)) (is_answered p bits m) (asked_at d m)
 
+  -- after a cycle the requests of m in both machines go together, where they did before it
   pub matched_next : (m n : ℕ) (c : Option (List ℕ)) (sq : Option ℕ) (ls : List Live)
       → AllKnown p flows st d bits arrays ls → Agrees p d bits sq ls → Matched (request_of st m) (asked_at d m) m ls
       → Matched (request_now sq ls m) (asked_now ls m) m (born_live p n c ++ go_on p st d bits ls)

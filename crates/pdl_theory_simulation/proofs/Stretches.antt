@@ -410,6 +410,7 @@ module _ (p : Pipe) (flows : Flows p) (env : List ℕ) (t : Derived.Thread) (k :
   way : (on_way p t.env t.stage ≡ on_way p env t.stage) × (visits_stage p t.env t.stage ≡ visits_stage p env t.stage)
   way = k.path t.env (λ g h. refl)
 
+  -- the guards of its stage's statements hold, when they are met, just where they hold with its values at the end of the stage
   pub fixed_here : (o : Around) → Fixed (work_of_stage p o t).env o (in_stage t.stage p.stmts) (start_of t)
   fixed_here o = fixed_to (work_of_stage p o t).env o (in_stage t.stage p.stmts) (start_of t) (fixed_stage t.stage p.stmts flows.fixed_guards) refl
 
@@ -427,6 +428,7 @@ module _ (p : Pipe) (flows : Flows p) (env : List ℕ) (t : Derived.Thread) (k :
   reached_on : (o : Around) → visits_stage p (work_of_stage p o t).env t.stage ≡ true
   reached_on o = sym (steady_here o).1 ∙ way.1 ∙ k.reached
 
+  -- its way by its next stage is its way so far with the statements of this stage that it takes
   pub way_next : (o : Around)
       → on_way p (work_of_stage p o t).env (next_of p t.stage (work_of_stage p o t).env)
       ≡ on_way p env t.stage ++ onpath (work_of_stage p o t).env (in_stage t.stage p.stmts)
@@ -460,9 +462,11 @@ module _ (p : Pipe) (flows : Flows p) (env : List ℕ) (t : Derived.Thread) (k :
       no_entry m
       (none_onpath (is_reserve m) env (stages_before t.stage p.stmts) (none_till (is_reserve m) (reserve_stage p m) t.stage p.stmts (flows.reserves m) h))
 
+  -- it has no entry of a memory that the pipe doesn't have
   pub unknown : (m : ℕ) → length p.mems ≤ m → entries_of m t.entries ≡ []
   unknown m h = no_entry m (none_onpath (is_reserve m) env (stages_before t.stage p.stmts) (none_before (is_reserve m) t.stage p.stmts (flows.unreserved m h)))
 
+  -- it has no entry of m past the stage of m's releases
   pub late : (m : ℕ) → commit_stage p m < t.stage → entries_of m t.entries ≡ []
   late m h = shape_over m _ _ (over_at env t.stage m h) (k.shape m)
 
@@ -482,6 +486,7 @@ module _ (p : Pipe) (flows : Flows p) (env : List ℕ) (t : Derived.Thread) (k :
         (subst (λ l. uses_ok m Fresh l ≡ true) (way_next o) (uses_way (work_of_stage p o t).env (next_of p t.stage (work_of_stage p o t).env) m)))
         (shape_start m n _ t.entries (k.shape m)))
 
+    -- its stage does to its entries of m what the stated machine's deeds do
     pub stage_worked : Worked m n (pend m n t.entries) (deeds_after_all read (in_stage t.stage p.stmts) start_deeds) (work_of_stage p o t)
     stage_worked = worked m n _ _ _ _ here
 
@@ -489,9 +494,11 @@ module _ (p : Pipe) (flows : Flows p) (env : List ℕ) (t : Derived.Thread) (k :
         (entries_of m (work_of_stage p o t).entries)
     stage_shape = shape_end m n _ _ _ _ _ _ here
 
+    -- where it goes out of the pipe it has no entry of m left
     pub ends_empty : next_of p t.stage (work_of_stage p o t).env ≡ length p.stages → entries_of m (work_of_stage p o t).entries ≡ []
     ends_empty e = shape_over m _ _ (over_end _ _ m e) stage_shape
 
+    -- where it goes past the stage of m's releases it has no entry of m left
     pub late_empty : commit_stage p m < next_of p t.stage (work_of_stage p o t).env → entries_of m (work_of_stage p o t).entries ≡ []
     late_empty e = shape_over m _ _ (over_at _ _ m e) stage_shape
 

@@ -66,6 +66,7 @@ module _ (p : Pipe) (g : Ways p) where
       low (inl i) = h.branch (i ∙ sym f)
       low (inr i) = h.trunk s i.1 (le_refl s)
 
+  -- a younger thread that moves on stays behind where it enters neither the older one's stage nor the merge of a fork with that inside
   pub behind_moved : (s s' b : ℕ) → Leads p s s' → Behind p s b
       → ((f : ℕ) → (stage_at p s').merges ≡ Some f → is_inside p f b ≡ false) → (s' ≡ b → ⊥) → Behind p s' b
   behind_moved s s' b l h clear other = record { trunk = λ r t i. low r t (nat_le r s) refl i; branch = λ e. at (stage_at p s').branch refl e }
@@ -146,6 +147,7 @@ module _ (p : Pipe) (flows : Flows p) where
 
     -- ORDER
 
+    -- from the stage of a live thread some path leads to the stage where it goes
     pub leads_of : (ls : List Live) (l : Live) → Known p flows st d bits arrays ls l → (q : ℕ)
         → goes_to (stage_at p l.thread.stage).next (work_of_live p d bits ls l).env ≡ Some q → Leads p l.thread.stage q
     leads_of ls l k q i = ((work_of_live p d bits ls l).env, i, k.seated.keeps_on.inside)
@@ -167,6 +169,7 @@ module _ (p : Pipe) (flows : Flows p) where
       become_stay s ls k.1 h.1,
     )
 
+    -- a stage that is behind those of all these threads is behind those of the ones that live on after the cycle
     pub behind_stay : (s : ℕ) (ls : List Live) → AllKnown p flows st d bits arrays ls
         → Each (λ k. Behind p s k.thread.stage) ls → Each (λ k. Behind p s k.thread.stage) (go_on p st d bits ls)
     behind_stay s ls k h = becomes_on (λ k. Behind p s k.thread.stage) ls (become_stay s ls k h)
@@ -221,6 +224,7 @@ module _ (p : Pipe) (flows : Flows p) where
         → Each (λ k. Behind p s' k.thread.stage) (go_on p st d bits ls)
     behind_move s s' m ls k h e = becomes_on (λ k. Behind p s' k.thread.stage) ls (become_move s s' m ls k h e)
 
+    -- a live thread that moves can enter its next stage
     pub enters_here : (ls : List Live) (l : Live) → (did p d bits ls l).moves ≡ true
         → Derived.can_enter p (dacts p d bits ls) (goes_to (stage_at p l.thread.stage).next (work_of_live p d bits ls l).env) ≡ true
     enters_here ls l e = and_right _ _ e
@@ -286,6 +290,7 @@ module _ (p : Pipe) (flows : Flows p) where
     behind_zero : (b : ℕ) → 0 < b → Behind p 0 b
     behind_zero b h = record { trunk = λ r t i. omega arith; branch = λ e. h }
 
+    -- after a cycle each live thread stands behind all older ones
     pub ordered_next : (ls : List Live) → AllKnown p flows st d bits arrays ls → Ordered p ls
         → MadeBehind p flows st d bits arrays ls → Ordered p (lives_next p flows st d bits arrays ls)
     ordered_next ls k o m = at (made p flows st d bits arrays ls) refl
@@ -314,6 +319,7 @@ module _ (p : Pipe) (flows : Flows p) where
         at false true g = out _ g
         at false false g = (f.0, g)
 
+    -- after a cycle the live threads' numbers are below the next one, and fall towards the older ones
     pub falls_next : (ls : List Live) → Falls st.next ls
         → Falls (if is_some (made p flows st d bits arrays ls) then suc st.next else st.next) (lives_next p flows st d bits arrays ls)
     falls_next ls f = at (made p flows st d bits arrays ls)
@@ -416,9 +422,11 @@ module _ (p : Pipe) (flows : Flows p) where
 
     -- WAYS
 
+    -- a live thread keeps to its way, and its kept answers are in the derived machine's values
     abbrev pub OnWay : Live → Type 0
     OnWay l = Keeps p l.env l.thread × (Machine.with_kept l.kept l.env ≡ l.thread.env)
 
+    -- those that live on after a cycle keep to their ways
     pub ways_on : (ls : List Live) → AllKnown p flows st d bits arrays ls → Each OnWay (go_on p st d bits ls)
     ways_on [] k = tt
     ways_on (l ∷ ls) k =
@@ -436,6 +444,7 @@ module _ (p : Pipe) (flows : Flows p) where
             (λ q. Derived.port_free p d bits (dacts p d bits ls) q.mem)
             (fit_all p flows st d bits arrays ls l k.0) q i
 
+    -- after a cycle all live threads keep to their ways, the new one too
     pub ways_next : (ls : List Live) → AllKnown p flows st d bits arrays ls → Each OnWay (lives_next p flows st d bits arrays ls)
     ways_next ls k = at (made p flows st d bits arrays ls)
       where

@@ -60,6 +60,7 @@ module _ (p : Pipe) (flows : Flows p) where
       at false e = absurd (cc (sym h ∙ none_stage (is_delayed_read m) s p.stmts (flows.unfetched m (ltb-false _ _ e))))
 
   module _ (st : State) (d : Derived.State) (bits : List Bool) (ls : List Live) (sim : Sim p st d ls) where
+    -- in states that belong together, what is needed at the start of a cycle is known of each live thread
     pub known : AllKnown p flows st d bits sim.arrays ls
     known =
         known_all p flows st d bits sim.arrays ls sim.matched st.next ls sim.seated sim.ordered sim.falls
@@ -69,6 +70,7 @@ module _ (p : Pipe) (flows : Flows p) where
     inside_all : (ks : List Live) → Each (Seated p st) ks → Each (λ k. k.thread.stage < length p.stages) ks
     inside_all ks s = each_map (λ k h. h.keeps_on.inside) ks s
 
+    -- the stated acts of a cycle are those that the derived machine decides, by stages
     pub acts_are : Moves.all_acts p st bits ≡ acts_of p flows st d bits sim.arrays (sorted ls)
     acts_are =
         ap (Moves.acts p st bits 0) (sim.stages ∙ stages_same _ _ 0 p.stages (λ q i. sym (find_sorted p q ls sim.ordered)))
@@ -78,20 +80,24 @@ module _ (p : Pipe) (flows : Flows p) where
         ∙ acts_sorted p flows st d bits sim.arrays ls sim.matched st.next sim.seated sim.ordered sim.falls known sim.forks (length p.stages)
         (inside_all ls sim.seated)
 
+    -- the stated state after a cycle is that after the same acts by age
     pub after_is : Cycle.cycle p st bits
         ≡ Cycle.after_these p st bits (lacts p st d bits ls) (movers (lacts p st d bits ls)) (squasher (movers (lacts p st d bits ls)))
     after_is =
         ap (Cycle.after_acts p st bits) acts_are
         ∙ same_after p flows st d bits sim.arrays ls (swaps_all p flows st d bits sim.arrays st.next ls known sim.ordered sim.falls)
 
+    -- the stated ports of a cycle are those of the same acts by age
     pub ports_are : Cycle.ports p st (Moves.all_acts p st bits) ≡ Cycle.ports p st (lacts p st d bits ls)
     ports_are =
         ap (Cycle.ports p st) acts_are
         ∙ same_ports p flows st d bits sim.arrays ls (swaps_all p flows st d bits sim.arrays st.next ls known sim.ordered sim.falls)
 
+    -- the derived machine's acts are those of the live threads, the oldest first
     pub derived_acts_are : Derived.all_acts p d bits ≡ rev (dacts p d bits ls)
     derived_acts_are = ap (Derived.acts p d bits []) sim.threads ∙ acts_back p d bits ls
 
+    -- a squash of the stated machine leaves just those threads that the derived machine leaves
     pub fit : Agrees p d bits (squasher (movers (lacts p st d bits ls))) ls
     fit = agrees p flows st d bits sim.arrays st.next ls known sim.falls
 
@@ -110,9 +116,11 @@ module _ (p : Pipe) (flows : Flows p) where
     list_next : (m : ℕ) → list_three st (movers (lacts p st d bits ls)) m ≡ three p flows st d bits sim.arrays m ls
     list_next m = ap (λ l. cond (has_release m (movers (lacts p st d bits ls))) (but_oldest l) l) (list_is m) ∙ (out m).left
 
+    -- the derived machine commits to m what the stated one takes out of the lock
     pub commits_are : (m : ℕ) → of_mem m (commits_of (rev (dacts p d bits ls))) ≡ released m (taken_out st (movers (lacts p st d bits ls)) m)
     commits_are m = (out m).shows ∙ ap (λ l. released m (cond (has_release m (movers (lacts p st d bits ls))) (oldest l) None)) (sym (list_is m))
 
+    -- nothing is taken out of the lock of a memory that the pipe doesn't have
     pub never : (m : ℕ) → length p.mems ≤ m → taken_out st (movers (lacts p st d bits ls)) m ≡ None
     never m i =
         ap (λ b. cond b (oldest (list_two st (movers (lacts p st d bits ls)) m)) None)
@@ -186,6 +194,7 @@ module _ (p : Pipe) (flows : Flows p) where
         ∙ mems_same _ _ 0 p.mems
         (λ m. ap (λ q. next_ask q (is_answered p bits m) (asked_at d m)) (finds_is p flows st d bits sim.arrays m ls known sim.ordered))
 
+    -- the stated request of a memory after a cycle is the new one, or what is left of the old one
     pub request_at : (m : ℕ) → m < length p.mems
         → request_of (Cycle.after_these p st bits (lacts p st d bits ls) (movers (lacts p st d bits ls)) (squasher (movers (lacts p st d bits ls)))) m
         ≡ request_now p flows st d bits sim.arrays (squasher (movers (lacts p st d bits ls))) ls m
@@ -193,6 +202,7 @@ module _ (p : Pipe) (flows : Flows p) where
         ap (λ l. slice_index_or l m NoRequest) requests_are ∙ at_mem _ 0 p.mems m NoRequest h
         ∙ ap (request_now p flows st d bits sim.arrays (squasher (movers (lacts p st d bits ls))) ls) (zero-add m)
 
+    -- the address that is outstanding for a memory in the derived machine after a cycle is the new one, or the old one that is left
     pub asked_next : (m : ℕ) → m < length p.mems
         → asked_at (Derived.after_acts p d bits (rev (dacts p d bits ls))) m ≡ asked_now p flows st d bits sim.arrays ls m
     asked_next m h = ap (λ l. slice_index_or l m None) asked_are ∙ at_mem _ 0 p.mems m None h ∙ ap (asked_now p flows st d bits sim.arrays ls) (zero-add m)
@@ -477,6 +487,7 @@ module _ (p : Pipe) (flows : Flows p) where
           matched = matched_after;
         }
 
+    -- states that belong together belong together after a cycle of both machines
     pub cycle_sim : Sim p (Cycle.cycle p st bits) (Derived.cycle p d bits) (lives_next p flows st d bits sim.arrays ls)
     cycle_sim =
         subst (λ s. Sim p s (Derived.cycle p d bits) (lives_next p flows st d bits sim.arrays ls)) (sym after_is)
@@ -540,6 +551,7 @@ module _ (p : Pipe) (flows : Flows p) where
         at (Owned n a) h = ap is_some (sym h.0)
         at (Orphan a) h = ap is_some (sym h)
 
+    -- from states that belong together both machines have the same ports in a cycle, and both wait or neither
     pub turn_same : SameTurn p (record { ports = Cycle.ports p st (Moves.all_acts p st bits); wait = Cycle.is_wait p st bits })
         (record { ports = Derived.ports_of p (Derived.all_acts p d bits); wait = Derived.is_wait p d bits })
     turn_same =
@@ -631,6 +643,7 @@ module _ (p : Pipe) (flows : Flows p) where
       at false e true f = absurd (eqb-false a b e (sym (eqb-true b a f)))
       at false e false f = refl
 
+  -- thread 1 in stage 0 with the start arguments
   abbrev pub first_live : Live
   first_live = record { number = 1; thread = Derived.fresh p p.start; env = (Derived.fresh p p.start).env; kept = [] }
 

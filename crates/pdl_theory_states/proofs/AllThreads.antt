@@ -28,6 +28,7 @@ use Rattle.pdl_word.specs.Each.{Each}
 use Rattle.pdl_theory_simulation.proofs.SimulatedStates.{HaveMade, Sim}
 
 module _ (p : Pipe) (sound : Sound p) (st : State) (d : Derived.State) (ls : List Live) (sim : Sim p st d ls) (whole : Whole p st ls) where
+  -- the live threads of the stated state, oldest first, are those of the simulation
   pub live_here : live st ≡ oldest_first ls
   live_here = live_is p st st.next ls sim.stages (each_map (λ k h. h.keeps_on.inside) ls sim.seated) sim.ordered sim.falls
 
@@ -47,6 +48,7 @@ module _ (p : Pipe) (sound : Sound p) (st : State) (d : Derived.State) (ls : Lis
         each js b.1 g.1 c.1,
       )
 
+  -- threads, their numbers and the lists of forks are in order
   pub order_point : in_order p st ≡ true
   order_point =
       both_true
@@ -89,6 +91,7 @@ module _ (p : Pipe) (sound : Sound p) (st : State) (d : Derived.State) (ls : Lis
       by false i true j = holds (a.0.certain v e (any_onto is_barrier barred (λ op ops. refl) (on_way p l.env l.thread.stage) [] j))
       by false i false j = every ks i j
 
+  -- before a thread that is past V or a barrier all older ones are past V
   pub certain_point : all_pairs (certain_after p (verify_stage p.stmts)) (live st) ≡ true
   certain_point = ap (all_pairs (certain_after p (verify_stage p.stmts))) live_here ∙ pairs_all _ ls (at (verify_stage p.stmts) refl)
     where
@@ -109,9 +112,11 @@ module _ (p : Pipe) (sound : Sound p) (st : State) (d : Derived.State) (ls : Lis
   each_asks [] s a = tt
   each_asks (l ∷ ks) s a = (asks_point p st l s.0 a.0.local, each_asks ks s.1 a.1)
 
+  -- each live thread awaits and keeps just what it asked for in its last stage
   pub requests_point : list_all (asks_right p st) (live st) ≡ true
   requests_point = ap (list_all (asks_right p st)) live_here ∙ all_each (asks_right p st) ls (each_asks ls sim.seated whole.along)
 
+  -- each request that has an owner is awaited by a live thread of that number
   pub owners_point : all_from (λ m. Sound.has_owner st m (request_of st m)) 0 p.mems ≡ true
   owners_point = from_all _ 0 p.mems (λ m. at m (request_of st m) (sim.matched m))
     where
@@ -130,6 +135,7 @@ module _ (p : Pipe) (sound : Sound p) (st : State) (d : Derived.State) (ls : Lis
     each_block ks k.1 a.1,
   )
 
+  -- each block that a live thread has passed is still ready, or its location was released
   pub ready_point : list_all (λ l. list_all (λ (x : Stmt). stays_ready p st l x.op) (past_stmts p l)) (live st) ≡ true
   ready_point =
       ap (list_all (λ l. list_all (λ (x : Stmt). stays_ready p st l x.op) (past_stmts p l))) live_here
@@ -145,6 +151,7 @@ module _ (p : Pipe) (sound : Sound p) (st : State) (d : Derived.State) (ls : Lis
     each_path ks s.1 a.1 n.1 (λ m test h. f m test (any_front test (pends m ks) (pend m l.number l.thread.entries) h)),
   )
 
+  -- each live thread stands on its path, and has done just what the statements of its earlier stages say
   pub paths_point : list_all (on_path p st) (live st) ≡ true
   paths_point =
       ap (list_all (on_path p st)) live_here

@@ -55,32 +55,40 @@ module _ (p : Pipe) (sound : Sound p) (strict : Strict p) (image : Arrays) (sche
   whole_here : Whole p (state_after p (first p image) schedule) (reached p sound strict image schedule).0
   whole_here = (reached p sound strict image schedule).2
 
+  -- in every state that a run comes to, threads, their numbers and the lists of forks are in order
   pub order : IsTrue (in_order p (state_after p (first p image) schedule))
   order = true_is _ (order_point p sound _ _ _ sim_here whole_here)
 
+  -- in every state that a run comes to, all threads before one that is past V or a barrier are past V
   pub certain : IsTrue (all_pairs (certain_after p (verify_stage p.stmts)) (live (state_after p (first p image) schedule)))
   certain = true_is _ (certain_point p sound _ _ _ sim_here whole_here)
 
+  -- in every state that a run comes to, each thread awaits and keeps just what it asked for in its last stage
   pub requests : IsTrue (list_all (asks_right p (state_after p (first p image) schedule)) (live (state_after p (first p image) schedule)))
   requests = true_is _ (requests_point p sound _ _ _ sim_here whole_here)
 
+  -- in every state that a run comes to, each request that has an owner is awaited by a live thread of that number
   pub owners : IsTrue (all_from (λ m. has_owner (state_after p (first p image) schedule) m (request_of (state_after p (first p image) schedule) m)) 0 p.mems)
   owners = true_is _ (owners_point p sound _ _ _ sim_here whole_here)
 
+  -- in every state that a run comes to, each block that a thread has passed is still ready, or its location was released
   pub blocks : IsTrue
       (list_all (λ l. list_all (λ (x : Stmt). stays_ready p (state_after p (first p image) schedule) l x.op) (past_stmts p l))
       (live (state_after p (first p image) schedule)))
   blocks = true_is _ (ready_point p sound _ _ _ sim_here whole_here)
 
+  -- in every state that a run comes to, each thread stands on its path and has done just what its earlier stages say
   pub paths : IsTrue (list_all (on_path p (state_after p (first p image) schedule)) (live (state_after p (first p image) schedule)))
   paths = true_is _ (paths_point p sound _ _ _ sim_here whole_here)
 
+  -- in every state that a run comes to, a lock's list has an entry for each location that a thread holds, in thread order
   pub pending : IsTrue
       (all_from
       (λ m. same_args (Sound.owners (lock_of (state_after p (first p image) schedule) m))
       (Sound.holders p m (live (state_after p (first p image) schedule)))) 0 p.mems)
   pending = true_is _ (holders_point p sound _ _ _ sim_here whole_here)
 
+  -- the derived machine's state after the schedule is one of a run, with its ended threads and its commits
   pub runs_here : Follows.Runs p (course p sound) image (Derived.ended_in (Derived.turns p image schedule))
       (Derived.all_commits (Derived.turns p image schedule)) (Derived.state_after p (Derived.first p image) schedule)
   runs_here = Follows.run_of p (course p sound) image schedule
@@ -94,6 +102,7 @@ module _ (p : Pipe) (sound : Sound p) (strict : Strict p) (image : Arrays) (sche
   some_live : (reached p sound strict image schedule).0 ≡ [] → ⊥
   some_live e = some_seat _ _ runs_here.strays runs_here.spots (sym runs_here.threads ∙ sim_here.threads ∙ ap (λ ls. rev (threads_of ls)) e) runs_here.live
 
+  -- in every state that a run comes to, each thread but the youngest has made its successor
   pub chain_here : IsTrue (are_linked p (live (state_after p (first p image) schedule)))
   chain_here = true_is _ (chain_point p sound _ _ _ sim_here whole_here some_live)
 
@@ -250,6 +259,7 @@ module _ (p : Pipe) (sound : Sound p) (strict : Strict p) (image : Arrays) (sche
   arrays_from m [] = refl
   arrays_from m (x ∷ xs) = ap₂ (λ a b. a && b) (ap₂ (λ a b. a && b) (below_all _ x.depth (word_right m)) (none_astray m)) (arrays_from (suc m) xs)
 
+  -- in every state that a run comes to, the arrays are the image with what was released
   pub arrays : IsTrue (arrays_right p image (Cycle.ended_in (Cycle.turns p image schedule)) (state_after p (first p image) schedule) 0 p.mems)
   arrays = true_is _ (arrays_from 0 p.mems)
 
@@ -267,6 +277,7 @@ module _ (p : Pipe) (sound : Sound p) (strict : Strict p) (image : Arrays) (sche
   both : {a b : Bool} → IsTrue a → IsTrue b → IsTrue (a && b)
   both {a} {b} h k = true_is _ (ap₂ (λ a b. a && b) (is_true a h) (is_true b k))
 
+  -- every state that a run comes to is sound
   pub sound_state : IsTrue (is_sound p image (Cycle.ended_in (Cycle.turns p image schedule)) (state_after p (first p image) schedule))
   sound_state =
       both (both (both (both (both (both (both (both (both (both order chain_here) values) entries) arrays) certain) requests) owners) looks) blocks) paths

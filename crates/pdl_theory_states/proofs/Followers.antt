@@ -241,6 +241,7 @@ module _ (p : Pipe) (sound : Sound p) (image : Arrays) (st : State) (d : Derived
     pub plain : (m : ℕ) → is_plain (mem_at p m).lock ≡ true → v m ≡ []
     pub here : Here p (course p sound) d.asked past w v f.arrays f.args ahead sp last
 
+  -- each of these is a thread on its turn
   abbrev pub AllGood : List Follower → Type 0
   AllGood [] = Unit {0}
   AllGood (f ∷ fs) = Good f × AllGood fs
@@ -352,6 +353,7 @@ module _ (p : Pipe) (sound : Sound p) (image : Arrays) (st : State) (d : Derived
     answers_right n [] o a b = tt
     answers_right n (q ∷ qs) o a b = (answer_right n q o.0 a.0 b.0, answers_right n qs o.1 a.1 b.1)
 
+  -- with its awaited reads answered, a thread on its turn has the values of the sequential run before its stage
   pub values_are : (f : Follower) → Good f → once_answered st f.live.thread ≡ (turn_so_far p f).env
   values_are f g =
       ap (λ (x : Sound.Live). once_answered st x.thread) g.is
@@ -364,6 +366,7 @@ module _ (p : Pipe) (sound : Sound p) (image : Arrays) (st : State) (d : Derived
       ∙ ap (λ s. (Sequential.run_all (Sound.stages_before s p.stmts) (TurnPath.start_run p f.arrays f.args)).env)
       (ap (λ (t : Derived.Thread). t.stage) (sym g.thread) ∙ ap (λ (x : Sound.Live). x.stage) (sym g.is))
 
+  -- the test that compares these values passes of a thread on its turn
   pub values_good : (f : Follower) → Good f → same_args (once_answered st f.live.thread) (turn_so_far p f).env ≡ true
   values_good f g = ap (λ l. same_args l (turn_so_far p f).env) (values_are f g) ∙ same_args_refl (turn_so_far p f).env
 
@@ -378,6 +381,7 @@ module _ (p : Pipe) (sound : Sound p) (image : Arrays) (st : State) (d : Derived
 
   -- 4. its pending writes
 
+  -- each entry of a thread on its turn in the list of m has the turn's address and, once written, its value
   pub right_good : (m : ℕ) (f : Follower) → Good f → right_entries p st m f ≡ true
   right_good m f g =
       ap (λ (x : Sound.Live). list_all (of_thread x.thread.number (is_right_entry (has_done (is_write m) p x) (turn_writes m p f))) (lock_of st m)) g.is

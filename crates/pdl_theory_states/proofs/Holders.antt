@@ -58,11 +58,13 @@ owners_are p m (l ∷ ls) h =
     ∙ sym (holders_snoc p m (oldest_first ls) (told l))
 
 module _ (p : Pipe) (sound : Sound p) (st : State) (d : Derived.State) (ls : List Live) (sim : Sim p st d ls) (whole : Whole p st ls) where
+  -- the threads of the entries in the list of m are those that hold locations of m for writing, once for each, in thread order
   pub holders_same : (m : ℕ) → same_args (owners (lock_of st m)) (holders p m (live st)) ≡ true
   holders_same m =
       ap₂ same_args (ap owners (sim.locks m) ∙ owners_are p m ls (each_map (λ l s. s.keeps_on.held) ls sim.seated))
       (ap (holders p m) (live_here p sound st d ls sim whole))
       ∙ same_args_refl (holders p m (oldest_first ls))
 
+  -- of each memory of the pipe, the entries in its lock's list are those of the threads that hold its locations for writing
   pub holders_point : all_from (λ m. same_args (owners (lock_of st m)) (holders p m (live st))) 0 p.mems ≡ true
   holders_point = from_all _ 0 p.mems holders_same

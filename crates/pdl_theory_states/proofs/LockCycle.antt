@@ -73,6 +73,7 @@ module _ (p : Pipe) (flows : Flows p) (st : State) (d : Derived.State) (bits : L
       quiet_reserves m l.number (word_for st l.number)
       (in_stage l.thread.stage p.stmts) _ (none_in_stage (is_reserve m) (reserve_stage p m) l.thread.stage p.stmts (flows.reserves m) h) refl
 
+  -- a thread past the stage of m's reserves reserves no write of m
   pub past_new : (l : Live) → reserve_stage p m < l.thread.stage → new_entries m l.number (deeds_of p st bits l).reserves ≡ []
   past_new l h = quiet_new l (λ e. absurd (let i = h in omega arith))
 
@@ -121,6 +122,7 @@ module _ (p : Pipe) (flows : Flows p) (st : State) (d : Derived.State) (bits : L
           (with_writes_of m l.number (deeds_of p st bits l).writes
           (pend m l.number l.thread.entries ++ new_entries m l.number (deeds_of p st bits l).reserves))) e) short
 
+  -- all threads older than one that has come to the stage of m's reserves are past it
   pub older_past : (l : Live) (ls : List Live) → Each (λ k. Behind p l.thread.stage k.thread.stage) ls
       → reserve_stage p m ≤ l.thread.stage → Each (λ k. reserve_stage p m < k.thread.stage) ls
   older_past l ls b h = each_map (λ k i. i.trunk (reserve_stage p m) (flows.trunk_reserve m) h) ls b
@@ -211,6 +213,7 @@ module _ (p : Pipe) (flows : Flows p) (st : State) (d : Derived.State) (bits : L
       let j = as_many m a.thread.number a.does.reserves ∙ ap length h.0 in let k : length {A = Pending} [] ≡ 0 = refl in
       omega arith
 
+  -- at most one write of m is reserved in a cycle
   pub one_reserved : (ls : List Live) → AllKnown p flows st d bits arrays ls → Ordered p ls → reserved_count m (movers (lacts p st d bits ls)) ≤ 1
   one_reserved [] k o = omega arith
   one_reserved (l ∷ ls) k o = at (did p d bits ls l).moves (l.thread.stage == reserve_stage p m) refl (one_reserved ls k.1 o.1)
@@ -249,6 +252,7 @@ module _ (p : Pipe) (flows : Flows p) (st : State) (d : Derived.State) (bits : L
         (pairs_each (λ k. k.number < l.number) ls (falls_each l.number ls f.1)) (no_older l.number ls o.1 f.1),
   )
 
+  -- from the stage of m's reserves on, what the cycle reserves leaves a thread's place in the list as it is
   pub places_kept : (n : ℕ) (ls : List Live) (list : List Pending) → Ordered p ls → Falls n ls
       → EachPair
       (λ x. reserve_stage p m ≤ x.live.thread.stage
@@ -274,6 +278,7 @@ module _ (p : Pipe) (flows : Flows p) (st : State) (d : Derived.State) (bits : L
         let j = e in omega arith)),
   )
 
+  -- the list with a cycle's reservations is the same by stages and by age
   pub same_appended : (list : List Pending) (ls : List Live) → Swaps p flows st d bits arrays ls
       → with_reserves m (movers (acts_of p flows st d bits arrays (sorted ls))) list ≡ with_reserves m (movers (lacts p st d bits ls)) list
   same_appended list =
@@ -281,6 +286,7 @@ module _ (p : Pipe) (flows : Flows p) (st : State) (d : Derived.State) (bits : L
       (λ a z. z ++ new_entries m a.thread.number a.does.reserves) (λ a rest. refl)
       (λ x y s z. let none = swapped_new x y s in ap₂ (λ a b. (z ++ a) ++ b) none.0 none.1 ∙ sym (ap₂ (λ a b. (z ++ b) ++ a) none.0 none.1))
 
+  -- as many writes of m are reserved by stages as by age
   pub same_reserved : (ls : List Live) → Swaps p flows st d bits arrays ls
       → reserved_count m (movers (acts_of p flows st d bits arrays (sorted ls))) ≡ reserved_count m (movers (lacts p st d bits ls))
   same_reserved =

@@ -96,6 +96,7 @@ module _ (p : Pipe) (flows : Flows p) (st : State) (d : Derived.State) (bits : L
   abbrev pub Stays : Pair → Type 0
   Stays x = (x.live.thread.stage ≤ commit_stage p m) × (x.live.thread.stage ≡ commit_stage p m → (did p d bits x.older x.live).moves ≡ false)
 
+  -- the first entry of a list whose threads are all below a number is of a thread below it
   pub first_low : (a b : ℕ) (xs : List Pending) (e : Pending) (rest : List Pending) → xs ≡ e ∷ rest → Within a b xs → e.thread < b
   first_low a b xs e rest h w = at (subst (Within a b) h w)
     where
@@ -106,6 +107,7 @@ module _ (p : Pipe) (flows : Flows p) (st : State) (d : Derived.State) (bits : L
       at : Within a b (e ∷ rest) → e.thread < b
       at w = let i = up (e.thread + 1) b rest w.1 in omega arith
 
+  -- the first entry is older than each thread that is not past the releases and stays, where a write of m is released
   pub older_released : (n : ℕ) (ls : List Live) → Each (Seated p st) ls → AllKnown p flows st d bits arrays ls
       → Ordered p ls → Falls n ls → has_release m (movers (lacts p st d bits ls)) ≡ true
       → EachPair

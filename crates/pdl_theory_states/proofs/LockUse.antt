@@ -24,6 +24,7 @@ use Rattle.pdl_semantics.specs.PendingLists.{AreOrdered, count_older}
 use Rattle.pdl_theory_simulation.proofs.SimulatedStates.{Sim}
 
 module _ (p : Pipe) (sound : Sound p) (st : State) (d : Derived.State) (bits : List Bool) (ls : List Live) (sim : Sim p st d ls) (m : ℕ) where
+  -- a lock's list is in thread order, with at most one entry of each thread
   pub list_ordered : AreOrdered 0 (lock_of st m)
   list_ordered =
       subst (AreOrdered 0) (sym (sim.locks m))
@@ -35,11 +36,13 @@ module _ (p : Pipe) (sound : Sound p) (st : State) (d : Derived.State) (bits : L
   acts_each P [] h = tt
   acts_each P (x ∷ xs) h = (h.0, acts_each P xs h.1)
 
+  -- what holds of each live thread's act by age holds of each act of the stated machine's cycle
   pub all_each : (P : Act → Type 0) → EachPair (λ x. P (lact p st d bits x.older x.live)) (pairs ls) → AllActs P (all_acts p st bits)
   all_each P h =
       subst (AllActs P) (sym (acts_are p (sound_flows p sound) st d bits ls sim))
       (acts_each P (sorted ls) (sorted_each (λ x. P (lact p st d bits x.older x.live)) ls h))
 
+  -- up to the stage of the reserves a thread finds all pending writes of m older
   pub finds_older : AllActs (FindsOlder st m (reserve_stage p m)) (all_acts p st bits)
   finds_older = all_each (FindsOlder st m (reserve_stage p m))
       (pair_map (λ x h i. ap (count_older x.live.number) (sim.locks m) ∙ h i ∙ ap length (sym (sim.locks m))) (pairs ls)
@@ -47,15 +50,18 @@ module _ (p : Pipe) (sound : Sound p) (st : State) (d : Derived.State) (bits : L
 
   -- A CYCLE
 
+  -- the live threads may be taken by stages or by age
   pub swaps : Swaps p (sound_flows p sound) st d bits sim.arrays ls
   swaps = swaps_all p (sound_flows p sound) st d bits sim.arrays st.next ls (known p (sound_flows p sound) st d bits ls sim) sim.ordered sim.falls
 
+  -- a lock's list with the cycle's reservations is the live threads' entries with the reservations by age
   pub with_new_is : with_new p st bits m ≡ with_reserves m (movers (lacts p st d bits ls)) (pends m ls)
   with_new_is =
       ap (λ these. with_reserves m (movers these) (lock_of st m)) (acts_are p (sound_flows p sound) st d bits ls sim)
       ∙ same_appended p (sound_flows p sound) st d bits sim.arrays m (lock_of st m) ls swaps
       ∙ ap (with_reserves m (movers (lacts p st d bits ls))) (sim.locks m)
 
+  -- at most one write of m is reserved in the cycle, and the list stays in order
   pub reserves : Reserves p st bits m
   reserves = record {
     one =
@@ -70,6 +76,7 @@ module _ (p : Pipe) (sound : Sound p) (st : State) (d : Derived.State) (bits : L
         (within_new p (sound_flows p sound) st d bits sim.arrays m st.next ls (known p (sound_flows p sound) st d bits ls sim) sim.ordered sim.falls));
   }
 
+  -- from the stage of the reserves on, what the cycle reserves leaves a thread's place among the pending writes of m as it is
   pub places : AllActs (KeepsPlace p st bits m) (all_acts p st bits)
   places = all_each (KeepsPlace p st bits m)
       (pair_map (λ x h i. ap (count_older x.live.number) with_new_is ∙ h i ∙ ap (count_older x.live.number) (sym (sim.locks m))) (pairs ls)
@@ -81,6 +88,7 @@ module _ (p : Pipe) (sound : Sound p) (st : State) (d : Derived.State) (bits : L
       ap (λ these. has_release m (movers these)) (acts_are p (sound_flows p sound) st d bits ls sim)
       ∙ same_any p (sound_flows p sound) st d bits sim.arrays (λ (a : Act). list_any (λ n. n == m) a.does.releases) ls swaps
 
+  -- until a thread moves out of the stage of m's releases, its place among the pending writes shifts by one where one is released
   pub shifts : AllActs (ShiftsPlace p st bits m) (all_acts p st bits)
   shifts = at (has_release m (moving p st bits)) refl
     where
@@ -123,24 +131,29 @@ module _ (p : Pipe) (sound : Sound p) (st : State) (d : Derived.State) (bits : L
           (known p (sound_flows p sound) st d bits ls sim) sim.ordered sim.falls (sym releases_are ∙ e)))
 
 module _ (p : Pipe) (sound : Sound p) (strict : Strict p) (image : Arrays) (schedule : List (List Bool)) where
+  -- in every state that a run comes to, a lock's list is in thread order, with at most one entry of each thread
   pub ordered_here : (m : ℕ) → AreOrdered 0 (lock_of (state_after p (first p image) schedule) m)
   ordered_here m = let r = reached p sound strict image schedule in
       list_ordered p sound (state_after p (first p image) schedule) (Derived.state_after p (Derived.first p image) schedule) [] r.0 r.1 m
 
+  -- in every state that a run comes to, a thread up to the stage of m's reserves finds all pending writes of m older
   pub older_here : (bits : List Bool) (m : ℕ)
       → AllActs (FindsOlder (state_after p (first p image) schedule) m (reserve_stage p m)) (all_acts p (state_after p (first p image) schedule) bits)
   older_here bits m = let r = reached p sound strict image schedule in
       finds_older p sound (state_after p (first p image) schedule) (Derived.state_after p (Derived.first p image) schedule) bits r.0 r.1 m
 
+  -- in each cycle of a run at most one write of m is reserved, and the list stays in order with it
   pub reserves_here : (bits : List Bool) (m : ℕ) → Reserves p (state_after p (first p image) schedule) bits m
   reserves_here bits m = let r = reached p sound strict image schedule in
       reserves p sound (state_after p (first p image) schedule) (Derived.state_after p (Derived.first p image) schedule) bits r.0 r.1 m
 
+  -- in each cycle of a run, from the reserves' stage on, what is reserved leaves a thread's place among the pending writes as it is
   pub places_here : (bits : List Bool) (m : ℕ)
       → AllActs (KeepsPlace p (state_after p (first p image) schedule) bits m) (all_acts p (state_after p (first p image) schedule) bits)
   places_here bits m = let r = reached p sound strict image schedule in
       places p sound (state_after p (first p image) schedule) (Derived.state_after p (Derived.first p image) schedule) bits r.0 r.1 m
 
+  -- in each cycle of a run, until a thread moves out of the releases' stage, its place shifts by one where a write of m is released
   pub shifts_here : (bits : List Bool) (m : ℕ)
       → AllActs (ShiftsPlace p (state_after p (first p image) schedule) bits m) (all_acts p (state_after p (first p image) schedule) bits)
   shifts_here bits m = let r = reached p sound strict image schedule in

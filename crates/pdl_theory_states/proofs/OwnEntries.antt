@@ -15,6 +15,7 @@ use Rattle.pdl_word.specs.Each.{Each}
 abbrev pub of_thread : ℕ → (Pending → Bool) → Pending → Bool
 of_thread n test e = not (e.thread == n) || test e
 
+-- a live thread's own: what it keeps to, the requests that it awaits, and its entries in the locks' lists
 pub record Mine (p : Pipe) (st : State) (l : Live) : Type 0 where
   pub local : Local p l.env l.kept l.thread
   pub owns : Owns st l.number local.asks l.thread.awaits
@@ -68,5 +69,6 @@ module _ (p : Pipe) (st : State) where
         (all_append (of_thread n test) (pends m ks) _ h (others m n l.number test l.thread.entries (λ e. absurd (let j = i in omega arith))))),
   )
 
+  -- each live thread has these for its own, where the locks' lists are the live threads' entries
   pub each_mine : (ls : List Live) → Falls st.next ls → Along (Lasting p st) ls → ((m : ℕ) → lock_of st m ≡ pends m ls) → Each (Mine p st) ls
   each_mine ls f a e = mine_of st.next ls f a (λ m n test i h. ap (list_all (of_thread n test)) (e m) ∙ h)

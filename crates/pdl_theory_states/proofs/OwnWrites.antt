@@ -36,6 +36,7 @@ pend_short m n (e ∷ es) = let i = length-append (pend m n es) (cond (e.mem == 
     at false = omega arith
 
 module _ (p : Pipe) (flows : Flows p) (st : State) where
+  -- a live thread has at most one pending write of m
   pub one_pending : (m : ℕ) (l : Live) → Seated p st l → length (pend m l.number l.thread.entries) ≤ 1
   one_pending m l s =
       let i = own_short m (phase_all m Fresh (on_way p l.env l.thread.stage)) (entries_of m l.thread.entries) (s.keeps_on.shape m) in
@@ -46,6 +47,7 @@ module _ (p : Pipe) (flows : Flows p) (st : State) where
   pub none_pending : (m : ℕ) (l : Live) → Seated p st l → l.thread.stage ≤ reserve_stage p m → pend m l.number l.thread.entries ≡ []
   none_pending m l s h = pend_own m l.number l.thread.entries ∙ ap (pend m l.number) (early p flows l.env l.thread s.keeps_on m h)
 
+  -- the live threads' pending writes of m are in thread order, at most one of each thread
   pub within_pends : (m n : ℕ) (ls : List Live) → Each (Seated p st) ls → Falls n ls → Within 0 n (pends m ls)
   within_pends m n [] s f = omega arith
   within_pends m n (l ∷ ls) s f =

@@ -170,6 +170,7 @@ mention_touch x (Verify args) h = h
 mention_touch x SpecCheck h = h
 mention_touch x SpecBarrier h = h
 
+-- no statement hangs on a variable with which none of them has to do
 pub untouched : (x : ℕ) (ops : List Op) → is_mentioned x ops ≡ false → AllOps (λ op. touches x op ≡ false) ops
 untouched x [] h = tt
 untouched x (op ∷ ops) h = let k = or_parts (mentions_var x op) (is_mentioned x ops) h in (mention_touch x op k.0, untouched x ops k.1)
@@ -210,6 +211,7 @@ BlockOk o env es past op =
     on_block (λ m a. (is_released m a past ≡ true) ⊎ (cond (has_entry es m a) (o.can_write m (slice_index env a)) (o.can_read m (slice_index env a)) ≡ true))
     (Unit {0}) op
 
+-- what is still true of the statements that were carried out, the last one first
 pub record Past (o : Around) (vars : ℕ) (past : List Op) (w : Work) : Type 0 where
   pub long : vars ≤ length w.env
   pub done : AllOps (Done w.env w.guess) past
@@ -430,6 +432,7 @@ module _ (o : Around) (vars : ℕ) (kind : Kind o) where
         blocks = subst (λ l. AllOps (BlockOk o v.env l past) past) s (subst (λ l. AllOps (BlockOk o l w.entries past) past) e h.blocks);
       }
 
+  -- this stays true with one more statement of a ready thread, which binds a new variable and mentions none that is asked for
   pub past_step : (op : Op) (past : List Op) (w : Work) → is_new vars past (bound_by op) ≡ true
       → not (uses_own op) ≡ true → AllAsks (λ q. mentions_var q.var op ≡ false) w.asks
       → (is_call op ≡ true → AllOps (λ op. is_call op ≡ false) past) → (work_after o op w).ready ≡ true
@@ -506,6 +509,7 @@ module _ (o : Around) (vars : ℕ) (kind : Kind o) where
 
   -- THE STATEMENTS OF A STAGE
 
+  -- where no call was met so far, no statement that was carried out is one
   abbrev pub Uncalled : Bool → List Op → Type 0
   Uncalled c past = c ≡ false → AllOps (λ op. is_call op ≡ false) past
 
@@ -534,6 +538,7 @@ module _ (o : Around) (vars : ℕ) (kind : Kind o) where
   call_flag true op past k u i = untrue (sym (ap (λ b. not (true && b)) i) ∙ and_left (not (true && is_call op)) _ k)
   call_flag false op past k u i = u refl
 
+  -- this stays true with the statements of a path in a ready stage, which bind new variables and mention none that is asked for
   pub past_all : (path : List ℕ) (c : Bool) (xs : List Stmt) (past : List Op) (w : Work) → Fixed path o xs w
       → all_new vars past (onpath path xs) ≡ true → calls_ok c (onpath path xs) ≡ true → Uncalled c past
       → is_unseen xs ≡ true → AllAsks (λ q. silent_on q.var xs ≡ true) w.asks → (do_all o xs w).ready ≡ true

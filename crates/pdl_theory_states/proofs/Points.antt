@@ -69,6 +69,7 @@ onto_any test some f (x ∷ xs) past h = at (onto_any test some f xs (x.op ∷ p
     at (inl k) = inl (or_right (test x.op) _ k)
     at (inr k) = by (test x.op) refl (sym (f x.op past) ∙ k)
 
+-- where these statements have released a location, one of them is its release
 pub released_done : (m a : ℕ) (xs : List Stmt)
     → is_released m a (onto xs []) ≡ true → list_any (λ (x : Stmt). is_release_at m a x.op) xs ≡ true
 released_done m a xs h = at (onto_any (is_release_at m a) (is_released m a) (λ op ops. refl) xs [] h)
@@ -203,6 +204,7 @@ module _ (p : Pipe) (st : State) (l : Live) (older : List Live)
   block_op SpecCheck h = refl
   block_op SpecBarrier h = refl
 
+  -- where each block that a thread has passed is ready or let go, the test of Sound state on blocks passes
   pub blocks_point : AllOps (BlockOk (look_at p (threads_of older)) l.env l.thread.entries (past_of p l.env l.thread.stage)) (past_of p l.env l.thread.stage)
       → list_all (λ (x : Stmt). stays_ready p st (told l) x.op) (on_way p l.env l.thread.stage) ≡ true
   blocks_point h =
@@ -246,6 +248,7 @@ own_places n env past (e ∷ es) h test f =
         ∙ ap₂ (λ a b. (a && b) || false) (eq-eqb n n refl) (eq-eqb _ _ h.0)
 
 module _ (p : Pipe) (sound : Sound p) where
+  -- a thread that keeps to its path, with its pending writes in the locks' lists, passes the test of Sound state on paths
   pub path_point : (st : State) (l : Live) → Seated p st l → Local p l.env l.kept l.thread → l.number < st.next
       → ((m : ℕ) (test : Pending → Bool) → list_any test (pend m l.number l.thread.entries) ≡ true → list_any test (lock_of st m) ≡ true)
       → on_path p st (told l) ≡ true

@@ -37,6 +37,7 @@ abbrev pub Youngest : Pipe → List Live → Type 0
 Youngest p [] = Unit {0}
 Youngest p (l ∷ ls) = has_made p l.env l.thread.stage ≡ false
 
+-- what holds of all live threads: that of each one beside the older ones, and that the youngest has no successor
 pub record Whole (p : Pipe) (st : State) (ls : List Live) : Type 0 where
   pub along : Along (Lasting p st) ls
   pub youngest : Youngest p ls
@@ -262,6 +263,7 @@ module _ (p : Pipe) (sound : Sound p) (strict : Strict p) where
       (Derived.cycle p d bits) schedule (lives_next p (sound_flows p sound) st d bits sim.arrays ls)
       (cycle_sim p (sound_flows p sound) st d bits ls sim) (whole_next st d bits ls sim w)
 
+  -- every state that a run comes to belongs to one of the derived machine, and all this holds of its live threads
   pub reached : (image : Arrays) (schedule : List (List Bool))
       → (ks : List Live)
       × Sim p (state_after p (first p image) schedule) (Derived.state_after p (Derived.first p image) schedule) ks

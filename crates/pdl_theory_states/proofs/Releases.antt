@@ -185,6 +185,7 @@ module _ (p : Pipe) (sound : Sound p) (st : State) (l : Live) (seated : Seated p
       (ap (list_any (λ (h : HeldLocation). h.mem == m)) seated.keeps_on.held
       ∙ not-true _ (and_right (list_any (λ (x : Stmt). is_write_reserve m x.op) (on_way p l.env l.thread.stage)) _ h)))
 
+  -- a thread whose way has come to the release of its write of m has released it
   pub done_released : is_done (phase_all m Fresh (on_way p l.env l.thread.stage)) ≡ true → has_released m p (told l) ≡ true
   done_released h =
       ap₂ (λ a b. a && not b) (reserved (list_any (λ (x : Stmt). is_write_reserve m x.op) (on_way p l.env l.thread.stage)) refl)
@@ -217,6 +218,7 @@ module _ (p : Pipe) (sound : Sound p) (st : State) (l : Live) (seated : Seated p
           (none_onpath (is_release m) l.env (stages_before l.thread.stage p.stmts)
           (none_till (is_release m) (commit_stage p m) l.thread.stage p.stmts ((sound_flows p sound).releases m) (ltb-false _ _ e))) refl))
 
+  -- a thread whose way has not come to the release of a write of m has released none
   pub not_released : is_done (phase_all m Fresh (on_way p l.env l.thread.stage)) ≡ false → has_released m p (told l) ≡ false
   not_released h = at (has_released m p (told l)) refl
     where

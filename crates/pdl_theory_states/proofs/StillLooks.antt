@@ -22,6 +22,7 @@ use Rattle.pdl_theory_turns.proofs.Turn.{none_from}
 
 -- BLOCKS AND READS TO DO
 
+-- where each block of joined statements is released after it, each one of the second ones is
 pub let_go_behind : (xs ys : List Stmt) → all_let_go (xs ++ ys) ≡ true → all_let_go ys ≡ true
 let_go_behind [] ys h = h
 let_go_behind (x ∷ xs) ys h = let_go_behind xs ys (and_right (lets_go x.op (xs ++ ys)) _ h)
@@ -115,6 +116,7 @@ module _ (p q : Pipe) (m s : ℕ) (late : commit_stage q m < s) (locked : is_pla
       at false e i go = go i
 
 module _ (p : Pipe) (sound : Sound p) where
+  -- where a path has a block or a read of m in stage s or later, s is no later than the stage of m's releases
   pub looks_early : Strict p → (path : List ℕ) (s m : ℕ) → s < length p.stages
       → list_any (λ (x : Stmt). looks_at m x.op) (onpath path (stages_from s p.stmts)) ≡ true → s ≤ commit_stage p m
   looks_early strict path s m low h = at (nat_lt (commit_stage p m) s) refl
@@ -215,5 +217,6 @@ module _ (p : Pipe) (sound : Sound p) where
       at true e i go = one x.op refl (and_left _ _ e) (and_right (here p env s x) _ e)
       at false e i go = go i
 
+  -- a thread that binds a delayed read of m in stage s does so no later than the stage of m's releases
   pub binds_early : (env : List ℕ) (s m : ℕ) → list_any (λ x. here p env s x && is_delayed_read m x.op) (on_way p env s) ≡ true → s ≤ commit_stage p m
   binds_early env s m h = bind_early env s m (on_way p env s) (way_fetch env s p.stmts (each_fetch p.stmts sound.fetch_ok)) h

@@ -40,6 +40,7 @@ use Rattle.pdl_theory_simulation.proofs.SimulatedStates.{Sim}
 abbrev pub Owns : State → ℕ → List Ask → List Awaited → Type 0
 Owns st n asks rs = AllAwaited (λ r. AnyAsk (λ q. (q.var ≡ r.var) × (q.mem ≡ r.mem) × (request_of st r.mem ≡ Owned n q.address)) asks) rs
 
+-- what holds of a live thread: it keeps to its path, owns its requests, has older ones past V after a barrier, and ready blocks
 pub record Lasting (p : Pipe) (st : State) (l : Live) (older : List Live) : Type 0 where
   pub local : Local p l.env l.kept l.thread
   pub owns : Owns st l.number local.asks l.thread.awaits
@@ -86,6 +87,7 @@ not_barred (x ∷ xs) path h k = at (all_hold x.guards path) k (λ i. not_barred
     at false i f = f i
 
 module _ (p : Pipe) (sound : Sound p) (strict : Strict p) where
+  -- the facts of this pipe that the simulation takes
   abbrev pub flows : Flows p
   flows = sound_flows p sound
 
@@ -101,6 +103,7 @@ module _ (p : Pipe) (sound : Sound p) (strict : Strict p) where
   past_reserve s m ls b h = each_map (λ k i. i.trunk (reserve_stage p m) ((sound_flows p sound).trunk_reserve m) h) ls b
 
   module _ (st : State) (d : Derived.State) (bits : List Bool) (ls : List Live) (sim : Sim p st d ls) where
+    -- the stated state after the cycle
     abbrev pub next : State
     next = Cycle.after_these p st bits (lacts p st d bits ls) (movers (lacts p st d bits ls)) (squasher (movers (lacts p st d bits ls)))
 
@@ -108,6 +111,7 @@ module _ (p : Pipe) (sound : Sound p) (strict : Strict p) where
         (older : AllKnown p (sound_flows p sound) st d bits sim.arrays ks) (ordered : Ordered p ks)
         (behind : Each (λ k. Behind p l.thread.stage k.thread.stage) ks)
         (calm : fell p d bits ks ≡ false) (stays_on : is_kept (squasher (movers (lacts p st d bits ls))) l.number ≡ true) (h : Lasting p st l ks) where
+      -- what the thread finds around it in the derived machine
       abbrev pub o : Around
       o = around p d bits (dacts p d bits ks) l.thread.stage
 
@@ -145,6 +149,7 @@ module _ (p : Pipe) (sound : Sound p) (strict : Strict p) where
       asks_known : AllAwaited (λ r. AnyAsk (λ q. q.var ≡ r.var) h.local.asks) l.thread.awaits
       asks_known = awaited_map (λ r i. any_ask_map (λ q j. j.0) h.local.asks i) l.thread.awaits h.owns
 
+      -- a thread that stands keeps to its path, with this cycle's answers among those that are kept for it
       pub now_local : Local p l.env (l.kept ++ Machine.answered_reads p st bits l.number l.thread.awaits) (now_of p d bits l)
       now_local = local_answered p st bits l.number l.env l.kept l.thread (now_of p d bits l).env (still p bits l.thread.awaits) k.waits h.local asks_known
 
@@ -180,6 +185,7 @@ module _ (p : Pipe) (sound : Sound p) (strict : Strict p) where
           (stmts_map (λ z i. let u = among_low p (sound_flows p sound).graph l.env l.thread.stage h.local.trail h.local.walked z.stage i in omega arith)
           (on_way p l.env l.thread.stage) h.local.among)
 
+      -- what holds of a live thread holds of it after a cycle in which it stands
       pub lasting_stood : Lasting p
           (Cycle.after_these p st bits (lacts p st d bits ls) (movers (lacts p st d bits ls)) (squasher (movers (lacts p st d bits ls))))
           (stood p st d bits l) (go_on p st d bits ks)
@@ -320,6 +326,7 @@ module _ (p : Pipe) (sound : Sound p) (strict : Strict p) where
             (l.kept ++ Machine.answered_reads p st bits l.number l.thread.awaits)
             (now_of p d bits l) now_keeps k.values now_local ready q goes block_start
 
+        -- what holds of a live thread holds of it after a cycle in which it moves to a next stage
         pub lasting_moved : (q : ℕ) → goes_to (stage_at p l.thread.stage).next (work_of_live p d bits ks l).env ≡ Some q
             → Lasting p (Cycle.after_these p st bits (lacts p st d bits ls) (movers (lacts p st d bits ls)) (squasher (movers (lacts p st d bits ls))))
             (moved_one q l (work_of_live p d bits ks l)) (go_on p st d bits ks)

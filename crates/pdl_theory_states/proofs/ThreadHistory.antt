@@ -187,6 +187,7 @@ abbrev pub AllAwaited : (Awaited → Type 0) → List Awaited → Type 0
 AllAwaited P [] = Unit {0}
 AllAwaited P (r ∷ rs) = P r × AllAwaited P rs
 
+-- what a thread keeps to on its own: the stages that it came through, what it did there, and what it asked for in the last
 pub record Local (p : Pipe) (env : List ℕ) (kept : List Kept) (t : Derived.Thread) : Type 0 where
   pub long : p.vars ≤ length env
   -- the stages that it came through
@@ -334,6 +335,7 @@ module _ (p : Pipe) (st : State) (bits : List Bool) (n : ℕ) where
       flip : (a b c : ℕ) → a + (b + c) ≡ (a + c) + b
       flip a b c = omega arith
 
+  -- with answers, the requests that a thread made in its last stage are the same
   pub answered_asks : (env : List ℕ) (kept : List Kept) (t : Derived.Thread) (values : List ℕ) (rs : List Awaited)
       → (e : unanswered_reads p st bits n t.awaits ≡ rs) → (loc : Local p env kept t)
       → (h : AllAwaited (λ r. AnyAsk (λ q. q.var ≡ r.var) loc.asks) t.awaits)
@@ -431,6 +433,7 @@ kept_steady p env kept t loc =
 module _ (p : Pipe) (flows : Flows p) (sound : Sound p) (strict : Strict p) (o : Around) (kind : Kind o) (env : List ℕ)
     (kept : List Kept) (t : Derived.Thread) (kept_answer : Keeps p env t) (values : with_kept kept env ≡ t.env)
     (loc : Local p env kept t) (ready : (work_of_stage p o t).ready ≡ true) where
+  -- the statements of its stage that are on its path
   abbrev pub mine : List Stmt
   mine = onpath (work_of_stage p o t).env (in_stage t.stage p.stmts)
 
@@ -513,15 +516,18 @@ module _ (p : Pipe) (flows : Flows p) (sound : Sound p) (strict : Strict p) (o :
     is_next : next_of p t.stage (work_of_stage p o t).env ≡ q
     is_next = ap (stage_or (length p.stages)) goes
 
+    -- its way by its next stage is its way so far with the statements of this stage that it takes
     pub way_q : on_way p (work_of_stage p o t).env q ≡ on_way p env t.stage ++ onpath (work_of_stage p o t).env (in_stage t.stage p.stmts)
     way_q = ap (on_way p (work_of_stage p o t).env) (sym is_next) ∙ way_next p flows env t kept_answer o
 
+    -- what it has carried out by its next stage is what it had carried out before, and then these statements
     pub past_q : past_of p (work_of_stage p o t).env q ≡ onto (onpath (work_of_stage p o t).env (in_stage t.stage p.stmts)) (past_of p env t.stage)
     past_q = ap (λ l. onto l []) way_q ∙ onto_append (on_way p env t.stage) (onpath (work_of_stage p o t).env (in_stage t.stage p.stmts)) []
 
     up : t.stage < q
     up = (flows.graph.up t.stage q ((work_of_stage p o t).env, goes, kept_answer.inside)).0
 
+    -- into its next stage it came from this one, and through the same stages before
     pub new_trail : Trail p (work_of_stage p o t).env q (t.stage ∷ loc.trail)
     new_trail = (goes, kept_answer.inside, trail_same p env (work_of_stage p o t).env t.stage loc.trail steady_values loc.walked)
 
@@ -538,6 +544,7 @@ module _ (p : Pipe) (flows : Flows p) (sound : Sound p) (strict : Strict p) (o :
         → HeldOp [] (awaited_of (work_of_stage p o t).asks) z
     held_awaited z h x m a e = ap (λ l. held_in [] l x m) asks_here ∙ h x m a e
 
+    -- in its next stage it keeps to its path, and awaits just what it asked for in this one
     pub local_moved : AllOps (BlockOk o t.env t.entries (past_of p env t.stage)) (past_of p env t.stage)
         → Local p (work_of_stage p o t).env []
         (record {
@@ -589,11 +596,13 @@ module _ (p : Pipe) (flows : Flows p) (sound : Sound p) (strict : Strict p) (o :
               ∙ zero-add (count (λ (x : Stmt). is_fetch x.op) (onpath (work_of_stage p o t).env (in_stage t.stage p.stmts))));
         }
 
+    -- in its next stage its last requests are those of this stage
     pub moved_asks : (blocks : AllOps (BlockOk o t.env t.entries (past_of p env t.stage)) (past_of p env t.stage))
         → (local_moved blocks).asks ≡ (work_of_stage p o t).asks
     unfolding local_moved
     moved_asks blocks = refl
 
+    -- in its next stage it has come through this stage and those before
     pub moved_trail : (blocks : AllOps (BlockOk o t.env t.entries (past_of p env t.stage)) (past_of p env t.stage))
         → (local_moved blocks).trail ≡ t.stage ∷ loc.trail
     unfolding local_moved

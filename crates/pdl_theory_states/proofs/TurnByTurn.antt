@@ -209,6 +209,7 @@ module _ (p : Pipe) (sound : Sound p) (st : State) (asked : List (Option ℕ)) (
         at true e k = looks_early p sound strict (thread p arrays args).env o.thread.stage m seated.keeps_on.inside e
         at false e k = binds_early p sound o.env o.thread.stage m k
 
+    -- behind a thread on its turn that still looks at m, no thread on its turn has released a write of m
     pub pairs_good : (m : ℕ) (w : Writes) (v : Marks) (arrays : Arrays) (args ahead : List ℕ) (os : List Live) (sps : List Spot) (ts : List Derived.Thread)
         → Standing p (course p sound) asked past w v arrays args ahead sps
         → threads_of os ≡ seats p arrays args sps ++ ts → Each (Seated p st) os
@@ -274,6 +275,7 @@ module _ (p : Pipe) (sound : Sound p) (st : State) (asked : List (Option ℕ)) (
       at false true false i j = absurd (cc j)
       at false false false i j = refl
 
+  -- behind the threads on their turns nobody has released a write of m
   pub strays_good : (m : ℕ) (w : Writes) (v : Marks) (arrays : Arrays) (args ahead : List ℕ) (os : List Live) (sps : List Spot) (ts : List Derived.Thread)
       → Standing p (course p sound) asked past w v arrays args ahead sps
       → Tail p (course p sound).stray (course p sound).made arrays args sps ts

@@ -293,15 +293,19 @@ guess_all v k (x ∷ xs) h =
 -- A TURN
 
 module _ (p : Pipe) (sound : Sound p) (arrays : Arrays) (args : List ℕ) where
+  -- the values with which the turn ends where delayed reads have their answers at once, which tell its path
   abbrev pub path : List ℕ
   path = (thread (at_once p) arrays args).env
 
+  -- the statements of the turn's path, with delayed reads answered at once, have the facts of an accepted pipe
   pub acc : Accepted (along (thread (at_once p) arrays args).env (at_once p))
   acc = sound.pathwise.paths (thread (at_once p) arrays args).env
 
+  -- before each stage the turn has done the same on the statements of its path alone, with delayed reads answered at once
   pub so : (s : ℕ) → so_far p arrays args s ≡ so_far (along (thread (at_once p) arrays args).env (at_once p)) arrays args s
   so s = sym (StageFacts.same_so p sound arrays args s) ∙ Turns.so_path (at_once p) sound.pathwise arrays args s
 
+  -- the sequential thread is the same on the statements of its path alone, with delayed reads answered at once
   pub whole : thread p arrays args ≡ thread (along (thread (at_once p) arrays args).env (at_once p)) arrays args
   whole = sym (StageFacts.same_thread p sound arrays args) ∙ Turns.thread_path (at_once p) sound.pathwise arrays args
 

@@ -156,6 +156,7 @@ module _ (p : Pipe) (acc : Sound p) where
   v_low None e = acc.graph.some_stage
   v_low (Some v) e = acc.pathwise.verify_inside v (verify_looked p.stmts ∙ e)
 
+  -- the stage of the verifies, or stage 0 where there are none, is a trunk stage
   pub v_trunk : (o : Option ℕ) → verify_stage p.stmts ≡ o → Trunk p (v_of o)
   v_trunk None e = acc.graph.trunk_start
   v_trunk (Some v) e = at (stage_at p v).branch refl
@@ -275,6 +276,7 @@ module _ (p : Pipe) (acc : Sound p) where
           (barred (stage_at p t.stage).branch refl) ready in
           record { fails = h.2; commits = h.0; goes_on = h.1; once = h.3; born = λ x k. fresh_roams p acc x; made_next = h.4 }
 
+  -- a sound pipe has the facts of single threads that the pipeline's proof takes
   pub course : Course p
   course =
       record {

@@ -39,6 +39,7 @@ pub record AskOk (p : Pipe) (fetch : ℕ → ℕ) (s next : ℕ) (q : Ask) : Typ
   pub exact : is_exact (mem_at p q.mem).lock ≡ true
   pub early : next ≤ commit_stage p q.mem
 
+-- what is taken of each turn: its stages, values, reads, writes and successor, and of a thread after a wrong guess
 pub record Course (p : Pipe) : Type 1 where
   -- the stage graph and the memories
   pub graph : Graph p

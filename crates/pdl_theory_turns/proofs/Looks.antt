@@ -132,6 +132,7 @@ step_set arrays x v y w h =
     at true k = does_set arrays x v y.op w k
     at false k = refl
 
+-- statements that have nothing to do with a variable do the same whether it gets a value before or after them
 pub set_later : (arrays : Arrays) (x v : ℕ) (ys : List Stmt) (w : Work)
     → silent_on x ys ≡ true
     → do_all (alone arrays) (looked_all ys) (with_set w x v) ≡ with_set (do_all (alone arrays) (looked_all ys) w) x v

@@ -45,6 +45,7 @@ clash : false ≡ true → ⊥
 clash h = cc
 
 module _ (p : Pipe) (acc : Pathwise p) (path : List ℕ) (arrays : Arrays) (args : List ℕ) where
+  -- the statements of a path before a stage make the next thread in order
   pub makings_before : (s : ℕ) → makings_ok (verify_stage p.stmts) Unmade (before s (onpath path p.stmts)) ≡ true
   makings_before s =
       makings_first (verify_stage p.stmts) Unmade (before s (onpath path p.stmts)) (stages_from s (onpath path p.stmts))
@@ -55,11 +56,13 @@ module _ (p : Pipe) (acc : Pathwise p) (path : List ℕ) (arrays : Arrays) (args
       makings_second (verify_stage p.stmts) Unmade (before s (onpath path p.stmts)) (stages_from s (onpath path p.stmts))
       (subst (λ l. makings_ok (verify_stage p.stmts) Unmade l ≡ true) ((acc.paths path).ordered s) (acc.makings path))
 
+  -- the statements of a path in one stage make the next thread in order, after those before that stage
   pub makings_stage : (s : ℕ) → makings_ok (verify_stage p.stmts) (making_all Unmade (before s (onpath path p.stmts))) (in_stage s (onpath path p.stmts)) ≡ true
   makings_stage s =
       makings_second (verify_stage p.stmts) Unmade (before s (onpath path p.stmts)) (in_stage s (onpath path p.stmts))
       (subst (λ l. makings_ok (verify_stage p.stmts) Unmade l ≡ true) ((acc.paths path).pieces s) (makings_before (suc s)))
 
+  -- how far a path is with the next thread after a stage is what the stage's statements make of how far it was before
   pub next_making : (s : ℕ)
       → making_all Unmade (before (suc s) (onpath path p.stmts))
       ≡ making_all (making_all Unmade (before s (onpath path p.stmts))) (in_stage s (onpath path p.stmts))
@@ -72,6 +75,7 @@ module _ (p : Pipe) (acc : Pathwise p) (path : List ℕ) (arrays : Arrays) (args
       ∙ ap (making_all Unmade) (sym ((acc.paths path).ordered s))
       ∙ made_is _ (acc.made path)
 
+  -- before each stage the thread has made nobody, the one that it guesses, or the next turn's, by how far its path is
   pub calls_at : (s : ℕ)
       → Calls (making_all Unmade (before s (onpath path p.stmts)))
       (so_far (along path p) arrays args s).child (so_far (along path p) arrays args s).guess (run_at (along path p) arrays args s).next
@@ -90,6 +94,7 @@ module _ (p : Pipe) (acc : Pathwise p) (path : List ℕ) (arrays : Arrays) (args
       ∙ run_settled (verify_stage p.stmts) Made (stages_from s (onpath path p.stmts))
       (run_at (along path p) arrays args s) refl ok (unverified_made (verify_stage p.stmts) (stages_from s (onpath path p.stmts)) ok)
 
+  -- where a path has made the next thread for certain, that has the arguments which the sequential run gives it
   pub made_child : (s : ℕ) → making_all Unmade (before s (onpath path p.stmts)) ≡ Made
       → (so_far (along path p) arrays args s).child ≡ Some (thread (along path p) arrays args).next
   made_child s e =
@@ -111,6 +116,7 @@ module _ (p : Pipe) (acc : Pathwise p) (path : List ℕ) (arrays : Arrays) (args
       (λ k. Calls k (so_far (along path p) arrays args s).child (so_far (along path p) arrays args s).guess (run_at (along path p) arrays args s).next) e
       (calls_at s)
 
+  -- at the end of the pipe a thread has made a successor with the arguments which the sequential run gives it
   pub child_in_end : (so_far (along path p) arrays args (length p.stages)).child ≡ Some (thread (along path p) arrays args).next
   child_in_end = made_child (length p.stages) (ap (making_all Unmade) (acc.paths path).whole ∙ made_is _ (acc.made path))
 

@@ -9,6 +9,7 @@ use Rattle.pdl_theory_derived.specs.Derived.{Entry, latest_in}
 use Rattle.pdl_theory_derived.proofs.Entries.{entries_of, write_of}
 use Rattle.pdl_theory_facts.specs.Scans.{is_plain}
 
+-- an undone write: its address, its value, and whether the value is known already
 pub record Mark : Type 0 where
   pub address : ℕ
   pub value : ℕ

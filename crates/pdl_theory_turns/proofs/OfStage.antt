@@ -14,6 +14,7 @@ none_stage test s (x ∷ xs) h = at (x.stage == s) (none_stage test s xs (and_ri
     at true k = ap₂ (λ a b. a && b) (and_left _ _ h) k
     at false k = k
 
+-- where no statement of a text binds a variable of these guards, none of one stage does
 pub free_stage : (s : ℕ) (gs : List Guard) (xs : List Stmt) → free_of gs xs ≡ true → free_of gs (in_stage s xs) ≡ true
 free_stage s [] xs h = refl
 free_stage s (g ∷ gs) xs h = ap₂ (λ a b. a && b) (none_stage (binds_var g.var) s xs (and_left _ _ h)) (free_stage s gs xs (and_right _ _ h))

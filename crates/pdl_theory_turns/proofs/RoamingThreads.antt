@@ -34,9 +34,11 @@ abbrev pub awaits_var : ℕ → List Awaited → Bool
 awaits_var x [] = false
 awaits_var x (r ∷ rs) = (r.var == x) || awaits_var x rs
 
+-- values that differ in awaited variables alone take the same of these statements
 abbrev pub Blind : List Stmt → List Awaited → List ℕ → Type 0
 Blind xs rs env = (env' : List ℕ) → ((x : ℕ) → awaits_var x rs ≡ false → slice_index env' x ≡ slice_index env x) → onpath env' xs ≡ onpath env xs
 
+-- a thread after a wrong guess: on a path that hangs on no awaited read, with reserved writes alone pending, and past no barrier
 pub record Roams (p : Pipe) (t : Thread) : Type 0 where
   pub covers : Covers (scan_after_all (onpath t.env (before t.stage p.stmts)) no_scan).held t.entries
   pub barred : some_barrier false (onpath t.env (before t.stage p.stmts)) ≡ false
@@ -91,6 +93,7 @@ not_asked x [] h = refl
 not_asked x (q ∷ qs) h = ap₂ (λ a b. a || b) (not-true (q.var == x) h.0) (not_asked x qs h.1)
 
 module _ (p : Pipe) (acc : Sound p) where
+  -- a new thread is on its path and has made no successor
   pub fresh_roams : (args : List ℕ) → Roams p (fresh p args) × (has_made p (fresh p args) ≡ false)
   fresh_roams args = (
     record {

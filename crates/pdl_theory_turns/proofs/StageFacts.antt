@@ -117,12 +117,15 @@ module _ (p : Pipe) (acc : Sound p) (arrays : Arrays) (args : List ℕ) where
   abbrev pub path : List ℕ
   path = (thread (at_once p) arrays args).env
 
+  -- the sequential thread is the same with delayed reads answered at once
   pub same_thread : thread (at_once p) arrays args ≡ thread p arrays args
   same_thread = run_looked p.stmts _
 
+  -- a turn has done the same before each stage with delayed reads answered at once
   pub same_so : (s : ℕ) → so_far (at_once p) arrays args s ≡ so_far p arrays args s
   same_so s = ap (λ l. do_all (alone arrays) l (start_work p args)) (before_looked s p.stmts)
 
+  -- with delayed reads answered at once a turn's stage does its work with the answers to its requests
   pub same_stage : (s : ℕ) → stage_work (at_once p) arrays args s ≡ answered_now arrays (stage_work p arrays args s)
   same_stage s =
       ap₂ (λ l (w : Work). do_all (alone arrays) l (reset w)) (stage_looked s p.stmts) (same_so s)
@@ -169,9 +172,11 @@ module _ (p : Pipe) (acc : Sound p) (arrays : Arrays) (args : List ℕ) where
           ∙ ap (λ k. Some (if k == 1 then a else b)) (fork_value s x a b e)
           ∙ sym (ap (λ n. goes_to n (thread (at_once p) arrays args).env) e)
 
+  -- the path of a turn comes to stage 0
   pub on_start : visits_stage p (thread (at_once p) arrays args).env 0 ≡ true
   on_start = ap (comes_by p (thread (at_once p) arrays args).env) acc.graph.trunk_start
 
+  -- from each stage that it comes to, the path of a turn comes to the turn's next stage
   pub on_next : (s : ℕ) → visits_stage p (thread (at_once p) arrays args).env s ≡ true → s < length p.stages
       → visits_stage p (thread (at_once p) arrays args).env (next_at p arrays args s) ≡ true
   on_next s on low =
@@ -202,6 +207,7 @@ module _ (p : Pipe) (acc : Sound p) (arrays : Arrays) (args : List ℕ) where
       ∙ ap (λ l. do_all (alone arrays) l (start_work p args))
       (ap (before s) (path_looked (thread (at_once p) arrays args).env p.stmts) ∙ before_looked s (onpath (thread (at_once p) arrays args).env p.stmts))
 
+  -- the stages that a turn passes over add nothing to what it has done
   pub so_next : (s : ℕ) → visits_stage p (thread (at_once p) arrays args).env s ≡ true → s < length p.stages
       → so_far p arrays args (next_at p arrays args s) ≡ so_far p arrays args (suc s)
   so_next s on low = so_on (next_at p arrays args s) ∙ ap (λ l. do_all (alone arrays) l (start_work p args)) (path_skips s on low) ∙ sym (so_on (suc s))
@@ -219,6 +225,7 @@ module _ (p : Pipe) (acc : Sound p) (arrays : Arrays) (args : List ℕ) where
         ap (λ (w : Work). w.guess) (sym (same_stage s)) ∙ ap (λ (t : Thread). t.guess) (sym e) ∙ ap (λ (w : Work). w.guess) so,
       )
 
+  -- the successor that a turn has by its next stage is the one that this stage makes, else the one that it had
   pub child_next : (s : ℕ) → visits_stage p (thread (at_once p) arrays args).env s ≡ true → s < length p.stages
       → (so_far p arrays args (next_at p arrays args s)).child ≡ or_else (stage_work p arrays args s).child (so_far p arrays args s).child
   child_next s on low =
@@ -244,6 +251,7 @@ module _ (p : Pipe) (acc : Sound p) (arrays : Arrays) (args : List ℕ) where
   stage_here s =
       stage_path (thread (at_once p) arrays args).env s (looked_all p.stmts) ∙ ap (onpath (thread (at_once p) arrays args).env) (stage_looked s p.stmts)
 
+  -- in right surroundings a thread that is ready does what its turn does alone, and its blocked locations stay right
   pub here_alike : (o : Around) (s : ℕ) (clean : ℕ → ℕ → Type 0)
       → visits_stage p (thread (at_once p) arrays args).env s ≡ true → s < length p.stages
       → Surrounds p o arrays s clean → ((m a : ℕ) → is_plain (mem_at p m).lock ≡ true → clean m a)
@@ -360,6 +368,7 @@ module _ (p : Pipe) (acc : Sound p) (arrays : Arrays) (args : List ℕ) where
       ap₂ (λ b (w : Work). cond b [] (marked (has_value (entries_of m w.entries)) (of_mem m (thread p arrays args).writes)))
       (late_next s m low) (so_next s on low)
 
+  -- a stage commits the first of a turn's undone writes of m, and leaves the others with more of their values known
   pub marks_step : (s m : ℕ) → visits_stage p (thread (at_once p) arrays args).env s ≡ true → s < length p.stages
       → Later m (marks p arrays args s m) (of_mem m (stage_work p arrays args s).commits) (marks p arrays args (next_at p arrays args s) m)
   marks_step s m on low =
@@ -368,25 +377,31 @@ module _ (p : Pipe) (acc : Sound p) (arrays : Arrays) (args : List ℕ) where
       (subst (λ (w : Work). Later m (marks (at_once p) arrays args s m) (of_mem m w.commits) (marks (at_once p) arrays args (suc s) m))
       (same_stage s) (Turns.marks_step (at_once p) acc.pathwise arrays args s m)))
 
+  -- past the reserves of m a turn's pending writes say of an address what its undone writes say
   pub marks_seen : (s m a : ℕ) (rest : Latest) → reserve_stage p m < s
       → latest_in (so_far p arrays args s).entries m a rest ≡ seen a (marks p arrays args s m) rest
   marks_seen s m a rest h =
       ap (λ (w : Work). latest_in w.entries m a rest) (sym (same_so s))
       ∙ Turns.marks_seen (at_once p) acc.pathwise arrays args s m a rest h ∙ ap (λ k. seen a k rest) (same_marks s m)
 
+  -- a turn has no undone writes of a memory without lock
   pub marks_plain : (s m : ℕ) → is_plain (mem_at p m).lock ≡ true → marks p arrays args s m ≡ []
   marks_plain s m h = sym (same_marks s m) ∙ Turns.marks_plain (at_once p) acc.pathwise arrays args s m h
 
+  -- past the stage of its releases a turn has no undone writes of m
   pub marks_late : (s m : ℕ) → commit_stage p m < s → marks p arrays args s m ≡ []
   marks_late s m h = sym (same_marks s m) ∙ Turns.marks_late (at_once p) acc.pathwise arrays args s m h
 
+  -- at the end of the pipe a turn has no undone writes
   pub marks_end : (m : ℕ) → marks p arrays args (length p.stages) m ≡ []
   marks_end m = sym (same_marks (length p.stages) m) ∙ Turns.marks_end (at_once p) acc.pathwise arrays args m
 
+  -- at its start all writes of a turn are undone
   pub marks_start : (m : ℕ) → strips m (marks p arrays args 0 m) ≡ of_mem m (thread p arrays args).writes
   marks_start m =
       ap (strips m) (sym (same_marks 0 m)) ∙ Turns.marks_start (at_once p) acc.pathwise arrays args m ∙ ap (λ (r : Run). of_mem m r.writes) same_thread
 
+  -- after a turn the words of m are those before it with the turn's writes
   pub row_after : (m : ℕ) → row (thread p arrays args).arrays m ≡ wrote (row arrays m) (of_mem m (thread p arrays args).writes)
   row_after m =
       subst (λ (r : Run). row r.arrays m ≡ wrote (row arrays m) (of_mem m r.writes)) same_thread (Turns.row_after (at_once p) acc.pathwise arrays args m)

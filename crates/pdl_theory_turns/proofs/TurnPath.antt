@@ -103,6 +103,7 @@ reads_first : (p : Pipe) (xs ys : List Stmt) (c : Scan) → reads_ok p c (xs ++ 
 reads_first p [] ys c h = h
 reads_first p (x ∷ xs) ys c h = reads_first p xs ys (scan_after x.op c) (and_right _ _ h)
 
+-- what joined statements reserve and block is what the second ones do after the first
 pub opens_append : (xs ys : List Stmt) (c : Scan) → scan_after_all (xs ++ ys) c ≡ scan_after_all ys (scan_after_all xs c)
 opens_append [] ys c = refl
 opens_append (x ∷ xs) ys c = opens_append xs ys (scan_after x.op c)
@@ -113,18 +114,23 @@ run_append [] ys r = refl
 run_append (x ∷ xs) ys r = run_append xs ys (if all_hold x.guards r.env then run_after x.op r else r)
 
 module _ (p : Pipe) (acc : Accepted p) (arrays : Arrays) (args : List ℕ) where
+  -- at the start what the thread holds alone agrees with the sequential run, where no write is begun
   pub start_related : Related arrays (λ m. Fresh) (start_work p args) (start_run p arrays args)
   start_related = record { env = refl; arrays_now = refl; tied = λ m. (refl, refl, refl) }
 
+  -- the statements before a stage use each memory's write in order
   pub ok_before : (s m : ℕ) → phases_ok m Fresh (before s p.stmts) ≡ true
   ok_before s m = phases_first m (before s p.stmts) (stages_from s p.stmts) Fresh (subst (λ l. phases_ok m Fresh l ≡ true) (acc.ordered s) (acc.phases m))
 
+  -- the statements from a stage on use each memory's write in order, after those before it
   pub ok_from : (s m : ℕ) → phases_ok m (phase_all m Fresh (before s p.stmts)) (stages_from s p.stmts) ≡ true
   ok_from s m = phases_second m (before s p.stmts) (stages_from s p.stmts) Fresh (subst (λ l. phases_ok m Fresh l ≡ true) (acc.ordered s) (acc.phases m))
 
+  -- before each stage what the thread has done alone agrees with the sequential run
   pub related_at : (s : ℕ) → Related arrays (λ m. phase_all m Fresh (before s p.stmts)) (so_far p arrays args s) (run_at p arrays args s)
   related_at s = related_all arrays (before s p.stmts) (λ m. Fresh) (start_work p args) (start_run p arrays args) (ok_before s) start_related
 
+  -- in the end what the thread has done alone agrees with the sequential thread
   pub related_whole : Related arrays (λ m. phase_all m Fresh p.stmts) (do_all (alone arrays) p.stmts (start_work p args)) (thread p arrays args)
   related_whole = related_all arrays p.stmts (λ m. Fresh) (start_work p args) (start_run p arrays args) acc.phases start_related
 
@@ -146,14 +152,17 @@ module _ (p : Pipe) (acc : Accepted p) (arrays : Arrays) (args : List ℕ) where
       quiet m (alone arrays) (before s p.stmts) (start_work p args)
       (none_before (is_release m) (commit_stage p m) s p.stmts (release_looked m) (acc.releases m) h)
 
+  -- past the stage of m's releases the thread has committed all its writes of m
   pub commits_late : (s m : ℕ) → commit_stage p m < s → of_mem m (so_far p arrays args s).commits ≡ of_mem m (thread p arrays args).writes
   commits_late s m h =
       sym (quiet m (alone arrays) (stages_from s p.stmts) (so_far p arrays args s) (none_from (is_release m) (commit_stage p m) s p.stmts (acc.releases m) h))
       ∙ ap (λ (w : Work). of_mem m w.commits) (sym (rest_of s)) ∙ (at_end m).1
 
+  -- what is done by the following stage is what was done before this one, with this stage's work
   pub piece : (s : ℕ) → so_far p arrays args (suc s) ≡ joined (so_far p arrays args s) (work_of_stage p (alone arrays) (thread_at p arrays args s))
   piece s = next_piece p arrays args s (acc.pieces s)
 
+  -- a thread that isn't in the stage of m's releases commits nothing to m
   pub quiet_at : (o : Around) (t : Thread) (m : ℕ) → t.stage ≢ commit_stage p m → of_mem m (work_of_stage p o t).commits ≡ []
   quiet_at o t m h = quiet m o (in_stage t.stage p.stmts) _ (none_in_stage (is_release m) (commit_stage p m) t.stage p.stmts (acc.releases m) h)
 
@@ -206,5 +215,6 @@ module _ (p : Pipe) (acc : Accepted p) (arrays : Arrays) (args : List ℕ) where
   pub plain_writes : (m : ℕ) → is_plain (mem_at p m).lock ≡ true → of_mem m (thread p arrays args).writes ≡ []
   plain_writes m h = sym (at_end m).1 ∙ quiet m (alone arrays) p.stmts (start_work p args) (acc.plain m h)
 
+  -- the reads of a stage are in order after the statements before it
   pub reads_here : (s : ℕ) → reads_ok p (scan_after_all (before s p.stmts) no_scan) (in_stage s p.stmts) ≡ true
   reads_here s = reads_first p (before s p.stmts) (in_stage s p.stmts) no_scan (subst (λ l. reads_ok p no_scan l ≡ true) (acc.pieces s) (acc.reads (suc s)))

@@ -72,12 +72,15 @@ none_from_path test path s (x ∷ xs) h = at (nat_le s x.stage) refl (all_hold x
     at false e false k f = f k
 
 module _ (p : Pipe) (acc : Pathwise p) (arrays : Arrays) (args : List ℕ) where
+  -- the values with which the turn ends, which tell its path
   abbrev pub path : List ℕ
   path = (thread p arrays args).env
 
+  -- the statements of the turn's path have the facts of an accepted pipe
   pub accq : Accepted (along (thread p arrays args).env p)
   accq = acc.paths (thread p arrays args).env
 
+  -- the sequential thread is the same on the statements of its path alone
   pub thread_path : thread p arrays args ≡ thread (along (thread p arrays args).env p) arrays args
   thread_path = run_path (thread p arrays args).env p.stmts (TurnPath.start_run p arrays args) acc.fixed_guards refl
 
@@ -93,6 +96,7 @@ module _ (p : Pipe) (acc : Pathwise p) (arrays : Arrays) (args : List ℕ) where
       ∙ ap (λ l. slice_index l g)
       ((TurnPath.related_whole (along (thread p arrays args).env p) accq arrays args).env ∙ ap (λ (r : Run). r.env) (sym thread_path))
 
+  -- the guards of the statements before a stage hold, when they are met, just where they hold on the turn's path
   pub fixed_before : (s : ℕ) → Fixed (thread p arrays args).env (alone arrays) (before s p.stmts) (start_work p args)
   fixed_before s =
       fixed_path_to (thread p arrays args).env (alone arrays) (before s p.stmts)
@@ -100,11 +104,13 @@ module _ (p : Pipe) (acc : Pathwise p) (arrays : Arrays) (args : List ℕ) where
       (λ g k. ap (λ l. slice_index (do_all (alone arrays) l (start_work p args)).env g) (sym (before_path (thread p arrays args).env s p.stmts))
       ∙ value_kept s g (none_parts (binds_var g) s p.stmts k))
 
+  -- a turn has done the same before each stage on the statements of its path alone
   pub so_path : (s : ℕ) → so_far p arrays args s ≡ so_far (along (thread p arrays args).env p) arrays args s
   so_path s =
       fixed_all (thread p arrays args).env (alone arrays) (before s p.stmts) (start_work p args) (fixed_before s)
       ∙ ap (λ l. do_all (alone arrays) l (start_work p args)) (sym (before_path (thread p arrays args).env s p.stmts))
 
+  -- the guards of a stage's statements hold, when they are met, just where they hold on the turn's path
   pub fixed_stage : (s : ℕ) → Fixed (thread p arrays args).env (alone arrays) (in_stage s p.stmts) (reset (so_far p arrays args s))
   fixed_stage s =
       fixed_path_to (thread p arrays args).env (alone arrays) (in_stage s p.stmts) (stages_from (suc s) p.stmts)
@@ -113,6 +119,7 @@ module _ (p : Pipe) (acc : Pathwise p) (arrays : Arrays) (args : List ℕ) where
       (λ g k. (λ i. slice_index (do_all (alone arrays) (sym (stage_path (thread p arrays args).env s p.stmts) i) (reset (so_path s i))).env g)
       ∙ ap (λ (w : Work). slice_index w.env g) (sym (next_piece (along (thread p arrays args).env p) arrays args s (accq.pieces s))) ∙ value_kept (suc s) g k)
 
+  -- a stage does the same work on the statements of the turn's path alone
   pub works_path : (s : ℕ)
       → work_of_stage p (alone arrays) (thread_at p arrays args s)
       ≡ work_of_stage (along (thread p arrays args).env p) (alone arrays) (thread_at (along (thread p arrays args).env p) arrays args s)
@@ -125,12 +132,14 @@ module _ (p : Pipe) (acc : Pathwise p) (arrays : Arrays) (args : List ℕ) where
       ap₂ (λ (w : Work) (r : Run). cond (nat_lt (commit_stage p m) s) [] (marked (has_value (entries_of m w.entries)) (of_mem m r.writes)))
       (so_path s) thread_path
 
+  -- past the reserves of m its pending writes say of an address what its undone writes say
   pub marks_seen : (s m a : ℕ) (rest : Latest) → reserve_stage p m < s
       → latest_in (so_far p arrays args s).entries m a rest ≡ seen a (marks p arrays args s m) rest
   marks_seen s m a rest h =
       ap (λ (w : Work). latest_in w.entries m a rest) (so_path s)
       ∙ UndoneWrites.marks_seen _ accq arrays args s m a rest h ∙ ap (λ l. seen a l rest) (sym (marks_path s m))
 
+  -- a stage commits the first of its undone writes of m, and leaves the others with more of their values known
   pub marks_step : (s m : ℕ)
       → Later m (marks p arrays args s m) (of_mem m (work_of_stage p (alone arrays) (thread_at p arrays args s)).commits) (marks p arrays args (suc s) m)
   marks_step s m =
@@ -145,12 +154,15 @@ module _ (p : Pipe) (acc : Pathwise p) (arrays : Arrays) (args : List ℕ) where
       (sym (marks_path (suc s) m))
       (UndoneWrites.marks_step (along (thread p arrays args).env p) accq arrays args s m)))
 
+  -- it has no undone writes of a memory without lock
   pub marks_plain : (s m : ℕ) → is_plain (mem_at p m).lock ≡ true → marks p arrays args s m ≡ []
   marks_plain s m h = marks_path s m ∙ UndoneWrites.marks_plain _ accq arrays args s m h
 
+  -- past the stage of m's releases it has no undone writes of m
   pub marks_late : (s m : ℕ) → commit_stage p m < s → marks p arrays args s m ≡ []
   marks_late s m h = marks_path s m ∙ UndoneWrites.marks_late _ accq arrays args s m h
 
+  -- at the end of the pipe it has no undone writes
   pub marks_end : (m : ℕ) → marks p arrays args (length p.stages) m ≡ []
   marks_end m = marks_path (length p.stages) m ∙ UndoneWrites.marks_end _ accq arrays args m
 
@@ -160,6 +172,7 @@ module _ (p : Pipe) (acc : Pathwise p) (arrays : Arrays) (args : List ℕ) where
       ap (strips m) (marks_path 0 m) ∙ UndoneWrites.marks_strips _ accq arrays args 0 m ∙ TurnPath.undone_start _ accq arrays args m
       ∙ ap (λ (r : Run). of_mem m r.writes) (sym thread_path)
 
+  -- after the turn the words of m are those before it with the turn's writes
   pub row_after : (m : ℕ) → row (thread p arrays args).arrays m ≡ wrote (row arrays m) (of_mem m (thread p arrays args).writes)
   row_after m =
       ap (λ (r : Run). row r.arrays m) thread_path ∙ TurnPath.row_after _ accq arrays args m
@@ -169,12 +182,14 @@ module _ (p : Pipe) (acc : Pathwise p) (arrays : Arrays) (args : List ℕ) where
   pub piece : (s : ℕ) → so_far p arrays args (suc s) ≡ joined (so_far p arrays args s) (work_of_stage p (alone arrays) (thread_at p arrays args s))
   piece s = so_path (suc s) ∙ next_piece (along (thread p arrays args).env p) arrays args s (accq.pieces s) ∙ ap₂ joined (sym (so_path s)) (sym (works_path s))
 
+  -- in the following stage the thread has the values, the pending writes and the guess that this stage's work leaves
   pub placed_next : (s : ℕ)
       → thread_at p arrays args (suc s)
       ≡ (let w = work_of_stage p (alone arrays) (thread_at p arrays args s) in
       record { stage = suc s; env = w.env; entries = w.entries; guess = w.guess; awaits = [] })
   placed_next s = ap (λ (w : Work). record { stage = suc s; env = w.env; entries = w.entries; guess = w.guess; awaits = [] }) (piece s)
 
+  -- the successor that it has by the following stage is the one that this stage makes, else the one that it had
   pub child_next : (s : ℕ)
       → (so_far p arrays args (suc s)).child ≡ or_else (work_of_stage p (alone arrays) (thread_at p arrays args s)).child (so_far p arrays args s).child
   child_next s = ap (λ (w : Work). w.child) (piece s)

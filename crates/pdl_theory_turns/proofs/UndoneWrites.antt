@@ -72,6 +72,7 @@ settled_op m ph (Release n a) r h k = at (n == m)
     at false = (k, refl)
 settled_op m ph _ r h k = (k, refl)
 
+-- after a write of m that is made, statements that use m's write in order write nothing more to m
 pub settled_all : (m : ℕ) (xs : List Stmt) (ph : Phase) (r : Run)
     → phases_ok m ph xs ≡ true → is_settled ph ≡ true → Settled m (phase_all m ph xs) (run_all xs r) r
 settled_all m [] ph r h k = (k, refl)
@@ -188,6 +189,7 @@ module _ (p : Pipe) (acc : Accepted p) (arrays : Arrays) (args : List ℕ) where
       (phases_second m (before s p.stmts)
       (in_stage s p.stmts) Fresh (subst (λ l. phases_ok m Fresh l ≡ true) (acc.pieces s) (ok_before p acc arrays args (suc s) m))) h).0
 
+  -- past the reserves of m the turn's pending writes say of an address what its undone writes say
   pub marks_seen : (s m a : ℕ) (rest : Latest) → reserve_stage p m < s
       → latest_in (so_far p arrays args s).entries m a rest ≡ seen a (marks p arrays args s m) rest
   marks_seen s m a rest h = latest_own (so_far p arrays args s).entries m a rest ∙ at (nat_lt (commit_stage p m) s) refl
@@ -207,6 +209,7 @@ module _ (p : Pipe) (acc : Accepted p) (arrays : Arrays) (args : List ℕ) where
           ((related_at p acc arrays args s).tied m) (commits_early p acc arrays args s m (ltb-false _ _ e))
           (all_places p acc arrays args s m h) (settled_whole s m)
 
+  -- the writes that the turn's marks stand for are those that it has not released
   pub marks_strips : (s m : ℕ) → strips m (marks p arrays args s m) ≡ undone p arrays args s m
   marks_strips s m = at (nat_lt (commit_stage p m) s)
     where
@@ -216,6 +219,7 @@ module _ (p : Pipe) (acc : Accepted p) (arrays : Arrays) (args : List ℕ) where
       at true = refl
       at false = strips_marked m _ (thread p arrays args).writes
 
+  -- a stage commits the first of the turn's undone writes of m, and leaves the others with more of their values known
   pub marks_step : (s m : ℕ)
       → Later m (marks p arrays args s m) (of_mem m (work_of_stage p (alone arrays) (thread_at p arrays args s)).commits) (marks p arrays args (suc s) m)
   marks_step s m =
@@ -249,9 +253,11 @@ module _ (p : Pipe) (acc : Accepted p) (arrays : Arrays) (args : List ℕ) where
       none true = refl
       none false = refl
 
+  -- past the stage of m's releases the turn has no undone writes of m
   pub marks_late : (s m : ℕ) → commit_stage p m < s → marks p arrays args s m ≡ []
   marks_late s m h =
       ap (λ b. cond b [] (marked (has_value (entries_of m (so_far p arrays args s).entries)) (of_mem m (thread p arrays args).writes))) (lt-ltb _ _ h)
 
+  -- at the end of the pipe the turn has no undone writes
   pub marks_end : (m : ℕ) → marks p arrays args (length p.stages) m ≡ []
   marks_end m = no_strips m _ (marks_strips (length p.stages) m ∙ undone_in_end p acc arrays args m)

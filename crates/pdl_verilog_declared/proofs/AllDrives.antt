@@ -93,6 +93,7 @@ output_lines inputs (o ∷ ps) p line rest before f m h later =
 
 -- ---- registers
 
+-- what the block of the r-th register declares, on a line
 abbrev pub block_decl : List (List ℕ) → ℕ → ℕ → Reg → RegBlock
 block_decl inputs line r x = record { line = line; reg = codes "r" ++ decimal r; width = x.width; reset = x.reset; source = net inputs x.next }
 

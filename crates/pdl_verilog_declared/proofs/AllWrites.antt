@@ -27,6 +27,7 @@ abbrev pub AreWriteTexts : List (List ℕ) → List WritePort → Type 0
 AreWriteTexts inputs [] = Unit {0}
 AreWriteTexts inputs (p ∷ ps) = IsWriteText inputs p × AreWriteTexts inputs ps
 
+-- what a write of an array's block declares, on a line
 abbrev pub write_decl : List (List ℕ) → List ℕ → ℕ → WritePort → WriteDecl
 write_decl inputs name line p =
     record { line = line; enable = net inputs p.enable; array = codes "a_" ++ name; addr = net inputs p.addr; value = net inputs p.value }

@@ -139,18 +139,23 @@ module _ (n : Netlist) where
   abbrev pub regs_at : ℕ
   regs_at = 1 + 1
 
+  -- the line on which the arrays begin
   abbrev pub arrays_at : ℕ
   arrays_at = regs_at + length n.regs
 
+  -- the line on which the cells begin
   abbrev pub cells_at : ℕ
   cells_at = arrays_at + length n.arrays
 
+  -- the line on which the `assign`s of the outputs begin
   abbrev pub outputs_at : ℕ
   outputs_at = cells_end cells_at n.cells
 
+  -- the line on which the blocks of registers begin
   abbrev pub blocks_at : ℕ
   blocks_at = outputs_end outputs_at n.ports
 
+  -- the line on which the blocks of arrays begin
   abbrev pub writes_at : ℕ
   writes_at = blocks_end blocks_at n.regs
 
@@ -173,6 +178,7 @@ module _ (n : Netlist) where
   abbrev with_blocks : File
   with_blocks = add_blocks with_outputs (block_decls inputs blocks_at 0 n.regs)
 
+  -- the whole file that the text declares
   abbrev pub declared_file : File
   declared_file = add_array_blocks with_blocks (array_blocks_decls inputs writes_at n.arrays)
 

@@ -230,6 +230,7 @@ module _ (n : Netlist) (h : IsWellFormed n) (names : HasNames n) (few_regs : len
       let each = each_from_all (IsWellWrite c a) a.writes (λ k d l. w.0.writes k (get_or a.writes k d) (slice_get-get_or a.writes k d l)) in
       (record { named = t.0; writes = write_texts a a.writes each }, block_texts xs t.1 w.1)
 
+  -- the text of a well formed netlist with names of PDL and fewer than 2^64 registers and cells is one of the grammar
   pub textual : IsTextual n
   textual = record {
     named = names.netlist;

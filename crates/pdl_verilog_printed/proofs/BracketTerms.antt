@@ -61,6 +61,7 @@ module _ (line at high : ℕ) (name rest : List ℕ) (before f : File) where
   unfolding chosen operator_of
   slice_chosen = refl
 
+  -- the text of a slice completes a cell, where what follows goes on with a slice
   pub slice_term : (a : List ℕ) (h l : ℕ) → IsOperandText a → h < 1000000 → l < 1000000 → Continues (t.Slice a h l)
       → CompletesTerm line (a ++ (codes "[" ++ (decimal h ++ (codes ":" ++ (decimal l ++ (codes "];\n" ++ rest)))))) before at high name f
   slice_term a h l o p q k d e =
@@ -114,6 +115,7 @@ module _ (line at high : ℕ) (name rest : List ℕ) (before f : File) where
       one_rule part.Term rule.OpenTerm line line (codes "{" ++ more_text) more_text (token (codes "{") line)
       [] d f brace_chosen (more refl none) (brace_first more_text) k
 
+  -- the text of two joined nets completes a cell, where what follows goes on with them joined
   pub cat_term : (a b : List ℕ) → IsOperandText a → IsOperandText b → Continues (t.Cat a b)
       → CompletesTerm line (codes "{" ++ (a ++ (codes ", " ++ (b ++ (codes "};\n" ++ rest))))) before at high name f
   cat_term a b o p k d h =
@@ -136,6 +138,7 @@ module _ (line at high : ℕ) (name rest : List ℕ) (before f : File) where
   unfolding chosen
   number_chosen x h k = cond-false _ _ _ h ∙ cond-true _ _ _ k
 
+  -- the text of a repeated net completes a cell, where what follows goes on with it repeated
   pub rep_term : (n : ℕ) (a : List ℕ) → n < 1000000 → IsOperandText a → Continues (t.Rep n a)
       → CompletesTerm line (codes "{" ++ (decimal n ++ (codes "{" ++ (a ++ (codes "}};\n" ++ rest))))) before at high name f
   rep_term n a l o k d h =
@@ -162,6 +165,7 @@ module _ (line at high : ℕ) (name rest : List ℕ) (before f : File) where
   unfolding chosen constant_of number_of is_operand
   array_chosen x h = cond-true _ _ _ h
 
+  -- the text of an array's word completes a cell, where what follows goes on with the read
   pub read_term : (m a : List ℕ) → is_name m ≡ true → IsOperandText a → Continues (t.Read (codes "a_" ++ m) a)
       → CompletesTerm line ((codes "a_" ++ m) ++ (codes "[" ++ (a ++ (codes "];\n" ++ rest)))) before at high name f
   read_term m a e o k d h =

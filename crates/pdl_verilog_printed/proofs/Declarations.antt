@@ -58,9 +58,11 @@ high_back n h = ap (λ (o : Option ℕ). unwrap_or o 0) (number_back n h)
 
 -- ---- registers
 
+-- what the line of the r-th register declares
 abbrev pub reg_decl : ℕ → ℕ → Reg → RegDecl
 reg_decl line r x = record { line = line; name = codes "r" ++ decimal r; high = x.width - 1 }
 
+-- a file with one register more
 abbrev pub add_reg : File → RegDecl → File
 add_reg f g = record f { regs = f.regs ++ g ∷ [] }
 

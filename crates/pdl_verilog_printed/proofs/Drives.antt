@@ -24,6 +24,7 @@ use Rattle.pdl_verilog_printed.proofs.RuleSteps.{CompletesFile, one_rule}
 abbrev pub output_decl : ℕ → List ℕ → List ℕ → OutputDecl
 output_decl line name source = record { line = line; port = name; source = source }
 
+-- a file with one `assign` of an output more
 abbrev pub add_output : File → OutputDecl → File
 add_output f g = record f { outputs = f.outputs ++ g ∷ [] }
 
@@ -57,9 +58,11 @@ module _ (line : ℕ) (rest : List ℕ) (before f : File) where
 
   -- ---- registers
 
+  -- a file with one block of a register more
   abbrev pub add_block : File → RegBlock → File
   add_block f g = record f { reg_blocks = f.reg_blocks ++ g ∷ [] }
 
+  -- what the block of the r-th register declares: its width, its reset value, and the name of its next value's net
   abbrev pub reg_block : ℕ → ℕ → ℕ → List ℕ → RegBlock
   reg_block r w v a = record { line = line; reg = codes "r" ++ decimal r; width = w; reset = v; source = a }
 
@@ -67,11 +70,13 @@ module _ (line : ℕ) (rest : List ℕ) (before f : File) where
   abbrev pub always_row : Row
   always_row = token (codes "@") line ∷ token (codes "(") line ∷ token (codes "posedge") line ∷ token (codes "clk") line ∷ token (codes ")") line ∷ []
 
+  -- `always @(posedge clk)` and a space give these tokens
   pub always_tokens : (x : List ℕ)
       → tokens_from 0 line (always ++ (codes " " ++ x)) ≡ token (codes "always") line ∷ always_row ++ tokens_from 0 line (codes " " ++ x)
   unfolding piece_at always
   always_tokens x = refl
 
+  -- these tokens are what the rule of a block's head asks
   pub always_fits : AllFit (fields rule.BlockHead) (token (codes "always") line ∷ always_row)
   always_fits = more refl (more refl (more refl (more refl (more refl (more refl none)))))
 

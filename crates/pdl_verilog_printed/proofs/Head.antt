@@ -36,6 +36,7 @@ ArePortTexts (p ∷ ps) = IsPortText p × ArePortTexts ps
 abbrev pub port_decl : ℕ → Port → PortDecl
 port_decl line p = record { line = line; name = p.name; high = p.width - 1; input = is_input p.dir }
 
+-- a file with one port more
 abbrev pub add_port : File → PortDecl → File
 add_port f g = record f { ports = f.ports ++ g ∷ [] }
 
@@ -115,6 +116,7 @@ module _ (line : ℕ) (name x : List ℕ) (w : ℕ) (before f : File) (small : w
       ap (λ (g : File). add_port g (record { line = line; name = name; high = unwrap_or (number_of (decimal (w - 1))) 0; input = i })) e
       ∙ ap (λ n. add_port before (record { line = line; name = name; high = n; input = i })) (high_back (w - 1) (omega arith))
 
+  -- the text of a port after a comma completes the file, where what follows completes it with that port
   pub port_text : (d : Dir)
       → CompletesFile part.Ports line x (add_port before (record { line = line; name = name; high = w - 1; input = is_input d })) f
       → CompletesFile part.Ports line (direction d ++ after_word) before f

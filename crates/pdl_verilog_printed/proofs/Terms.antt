@@ -73,6 +73,7 @@ module _ (line at high : ℕ) (name rest : List ℕ) (before f : File) where
   unfolding chosen
   const_chosen x h = cond-true _ _ _ h
 
+  -- the text of a constant completes a cell, where what follows goes on with the constant
   pub const_term : (w v : ℕ) → 1 ≤ w → w ≤ 64 → v < 2 ^ w → Continues (t.Const w v)
       → CompletesTerm line (constant w v ++ (codes ";\n" ++ rest)) before at high name f
   const_term w v low most small k d h =
@@ -96,6 +97,7 @@ module _ (line at high : ℕ) (name rest : List ℕ) (before f : File) where
   unfolding chosen constant_of number_of
   not_chosen = refl
 
+  -- the text of a complement completes a cell, where what follows goes on with the complement
   pub not_term : (a : List ℕ) → IsOperandText a → Continues (t.Not a) → CompletesTerm line (codes "~" ++ (a ++ (codes ";\n" ++ rest))) before at high name f
   not_term a o k d h =
       let row : Row = token a line ∷ token (codes ";") line ∷ [] in
@@ -109,9 +111,11 @@ module _ (line at high : ℕ) (name rest : List ℕ) (before f : File) where
 
   -- ---- a first operand
 
+  -- a draft with a cell's head keeps it as a first operand is read
   pub with_first : (d : Draft) (a : List ℕ) → IsHeaded d before at high name → IsHeaded (with_operand d (token a line ∷ [])) before at high name
   with_first d a h = record { file = h.file; writes = h.writes; line_is = h.line_is; name_is = h.name_is; high_is = h.high_is; target_is = h.target_is }
 
+  -- a term that begins with an operand is completed by what follows, with that operand as the first
   pub first_operand : (a more_text : List ℕ) (d : Draft) → IsOperandText a → tokens_from 0 line (a ++ more_text) ≡ token a line ∷ tokens_from 0 line more_text
       → Completes part.AfterOperand line more_text (with_operand d (token a line ∷ [])) f → Completes part.Term line (a ++ more_text) d f
   first_operand a more_text d o e k =
@@ -138,6 +142,7 @@ module _ (line at high : ℕ) (name rest : List ℕ) (before f : File) where
   unfolding chosen
   operator_chosen x h = cond-true _ _ _ h
 
+  -- the text of an operator between two operands completes a cell, where what follows goes on with it
   pub bin_term : (o : BinOp) (a b : List ℕ) → IsOperandText a → IsOperandText b → Continues (t.Bin o a b)
       → CompletesTerm line (a ++ (codes " " ++ (operator o ++ (codes " " ++ (b ++ (codes ";\n" ++ rest)))))) before at high name f
   bin_term o a b p q k d h =
@@ -170,6 +175,7 @@ module _ (line at high : ℕ) (name rest : List ℕ) (before f : File) where
   unfolding chosen operator_of
   mux_chosen = refl
 
+  -- the text of a choice completes a cell, where what follows goes on with the choice
   pub mux_term : (x a b : List ℕ) → IsOperandText x → IsOperandText a → IsOperandText b → Continues (t.Mux x a b)
       → CompletesTerm line (x ++ (codes " ? " ++ (a ++ (codes " : " ++ (b ++ (codes ";\n" ++ rest)))))) before at high name f
   mux_term x a b o p q k d h =

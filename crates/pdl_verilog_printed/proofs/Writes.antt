@@ -43,6 +43,7 @@ module _ (line : ℕ) (rest : List ℕ) (before f : File) where
   unfolding piece_at
   takes_first x = refl
 
+  -- what the write of a value to an array at an address, where a net is 1, declares on this line
   abbrev pub write_decl : List ℕ → List ℕ → List ℕ → List ℕ → WriteDecl
   write_decl e m a v = record { line = line; enable = e; array = m; addr = a; value = v }
 
@@ -100,6 +101,7 @@ module _ (line : ℕ) (rest : List ℕ) (before f : File) where
   unfolding chosen
   end_chosen = refl
 
+  -- `end` completes a block of an array, where what follows completes the file with that block
   pub block_end : (ws : List WriteDecl) (at : ℕ)
       → CompletesFile part.ArrayBlocks (line + 1) rest (add_array_block before (record { line = at; writes = ws })) f
       → CompletesBlock part.Writes line (codes "end\n" ++ rest) before ws at f

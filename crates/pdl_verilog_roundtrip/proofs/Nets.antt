@@ -77,6 +77,7 @@ module _ (lines : Lines) (n : Netlist) (h : IsWellFormed n) (few : IsCounted n) 
 
   -- ---- registers
 
+  -- the name of the r-th register stands for it
   pub reg_found : (r : ℕ) → r < length n.regs → reg_place f (reg_name r) ≡ Some r
   reg_found r l =
       let b : 0 + length n.regs ≤ 2 ^ 64 = omega (arith, few.regs) in
@@ -105,6 +106,7 @@ module _ (lines : Lines) (n : Netlist) (h : IsWellFormed n) (few : IsCounted n) 
   net_named k l (RegNet r) t = sym (net_reg f k (reg_name r) r (sym (no_cell k 114 (reg_name r) l refl (λ e. omega arith))) (sym (reg_found r t)))
   net_named k l (CellNet j) t = sym (net_cell f k (cell_name j) j (sym (cell_found k j l t)))
 
+  -- the name of the m-th array stands for it
   pub array_found : (m : ℕ) → m < length n.arrays → array_place f (array n.arrays m) ≡ Some m
   array_found m l =
       let ns = map (λ (a : Array). a.name) n.arrays in

@@ -80,6 +80,7 @@ module _ (f : File) (k : ℕ) (inputs : List (List ℕ)) where
   IsOutput m name In = Unit {0}
   IsOutput m name (Out x) = (output_of f name ≡ Some m) × IsNet x
 
+  -- the declared `assign`s read as the drives of the outputs, where their names stand for ports and nets
   pub outputs_found : (at : ℕ → ℕ) (i m : ℕ) (ps : List Port)
       → ((j o : ℕ) (p : Port) → m + j ≡ o → slice_get ps j ≡ Some p → IsOutput o p.name p.dir)
       → all_outputs f k (output_decls at inputs i ps) ≡ Ok (output_drives m ps)
@@ -105,6 +106,7 @@ module _ (f : File) (k : ℕ) (inputs : List (List ℕ)) where
     pub width : x.width ≤ 64
     pub next : IsNet x.next
 
+  -- the declared blocks of registers read as what they give them, where their names stand for registers and nets
   pub regs_found : (at : ℕ → ℕ) (r : ℕ) (xs : List Reg)
       → ((i j : ℕ) (x : Reg) → r + i ≡ j → slice_get xs i ≡ Some x → IsRegister j x)
       → all_regs f k (reg_blocks at inputs r xs) ≡ Ok (reg_drives r xs)
@@ -147,6 +149,7 @@ module _ (f : File) (k : ℕ) (inputs : List (List ℕ)) where
     pub name : array_place f (array_name a) ≡ Some m
     pub writes : (i : ℕ) (p : WritePort) → slice_get a.writes i ≡ Some p → IsWrite p
 
+  -- the declared blocks of arrays read as their writes, where their names stand for arrays and nets
   pub blocks_found : (lines : Lines) (b m : ℕ) (xs : List Array)
       → ((i j : ℕ) (a : Array) → m + i ≡ j → slice_get xs i ≡ Some a → IsArray j a)
       → blocks_of f k (array_blocks lines inputs b xs) ≡ Ok (block_writes m xs)

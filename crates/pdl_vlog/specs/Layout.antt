@@ -66,6 +66,7 @@ operator Lt = codes "<"
 operator Shl = codes "<<"
 operator Shr = codes ">>"
 
+-- `a op b`
 abbrev pub bin : List (List ℕ) → BinOp → Net → Net → List ℕ
 bin inputs op a b = net inputs a ++ codes " " ++ operator op ++ codes " " ++ net inputs b
 
@@ -215,15 +216,19 @@ block_of inputs a = array_block inputs a.name a.writes
 
 -- ---- widths
 
+-- each port has at least 1 bit
 abbrev pub HavePortWidths : List Port → Type 0
 HavePortWidths ports = (i : ℕ) (p : Port) → slice_get ports i ≡ Some p → 1 ≤ p.width
 
+-- each register has at least 1 bit
 abbrev pub HaveRegWidths : List Reg → Type 0
 HaveRegWidths rs = (i : ℕ) (r : Reg) → slice_get rs i ≡ Some r → 1 ≤ r.width
 
+-- each register has at most 64 bits
 abbrev pub HaveShortWidths : List Reg → Type 0
 HaveShortWidths rs = (i : ℕ) (r : Reg) → slice_get rs i ≡ Some r → r.width ≤ 64
 
+-- each array has words of at least 1 bit, and at least one word
 abbrev pub HaveArrayWidths : List Array → Type 0
 HaveArrayWidths arrays = (i : ℕ) (a : Array) → slice_get arrays i ≡ Some a → (1 ≤ a.width) × (1 ≤ a.depth)
 

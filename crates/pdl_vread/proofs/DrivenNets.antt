@@ -20,12 +20,14 @@ driver_push : (i : ℕ) (x : Net) (ds : List OutputDrive) (d : OutputDrive)
 driver_push i x [] d = refl
 driver_push i x (o ∷ os) d = driver_push i (cond (eqb o.port i) o.net x) os d
 
+-- there is a driving net for each of n ports
 pub length_drivers : (n : ℕ) (ds : List OutputDrive) → length (drivers n ds) ≡ n
 length_drivers n ds = length-map-range_with_len (λ i. driver i (Input 0) ds) 0 n
 
 get_drivers : (n i : ℕ) (ds : List OutputDrive) (d : Net) → i < n → get_or (drivers n ds) i d ≡ driver i (Input 0) ds
 get_drivers n i ds d h = get_or-map-range_with_len (λ k. driver k (Input 0) ds) 0 n i i d h (omega arith)
 
+-- where no `assign` was read, each port has the first input as its net
 pub no_drives : (n : ℕ) → replicate n (Input 0) ≡ drivers n []
 no_drives n = fill_by_all (λ i. Input 0) (replicate n (Input 0)) n (Input 0) (length-replicate n (Input 0)) (λ k h. get_or-replicate n k (Input 0) (Input 0) h)
 
@@ -47,10 +49,12 @@ driver_set n ds d =
         ∙ (get_drivers n k ds (Input 0) h
         ∙ sym (driver_push k (Input 0) ds d ∙ ap (λ b. cond b d.net (driver k (Input 0) ds)) (ne_eqb d.port k e)))
 
+-- an `assign` more sets the net of its port
 pub drivers_more : (n i : ℕ) (ds : List OutputDrive) (d : OutputDrive)
     → i < length ds → set (drivers n (take i ds)) (get_or ds i d).port (get_or ds i d).net ≡ drivers n (take (i + 1) ds)
 drivers_more n i ds d h = driver_set n (take i ds) (get_or ds i d) ∙ ap (drivers n) (sym (take_more ds i d h))
 
+-- an `assign` more changes no net, where its port is past the last
 pub drivers_same : (n i : ℕ) (ds : List OutputDrive) (d : OutputDrive)
     → i < length ds → n ≤ (get_or ds i d).port → drivers n (take i ds) ≡ drivers n (take (i + 1) ds)
 drivers_same n i ds d h k =
@@ -111,6 +115,7 @@ no_regs_from : (r : ℕ) (decls : List RegDecl) → map undriven decls ≡ regs 
 no_regs_from r [] = refl
 no_regs_from r (c ∷ cs) = ap (λ q. undriven c ∷ q) (no_regs_from (suc r) cs)
 
+-- where no block was read, each register is as its declaration alone gives it
 pub no_blocks : (decls : List RegDecl) → map undriven decls ≡ regs [] 0 decls
 no_blocks decls = no_regs_from 0 decls
 
@@ -145,12 +150,14 @@ reg_set decls ds d y =
         (get_regs_from (ds ++ d ∷ []) 0 k k decls x z h (omega arith)
         ∙ (driven_push k u ds d ∙ ap (λ b. cond b (given (driven k u ds) d) (driven k u ds)) (ne_eqb d.reg k e))))
 
+-- a block more sets what its register takes
 pub regs_more : (decls : List RegDecl) (i : ℕ) (ds : List RegDrive) (d : RegDrive) (y : Reg)
     → i < length ds
     → set (regs (take i ds) 0 decls) (get_or ds i d).reg (given (get_or (regs (take i ds) 0 decls) (get_or ds i d).reg y) (get_or ds i d))
     ≡ regs (take (i + 1) ds) 0 decls
 regs_more decls i ds d y h = reg_set decls (take i ds) (get_or ds i d) y ∙ ap (λ x. regs x 0 decls) (sym (take_more ds i d h))
 
+-- a block more changes no register, where its own is past the last
 pub regs_same : (decls : List RegDecl) (i : ℕ) (ds : List RegDrive) (d : RegDrive)
     → i < length ds → length decls ≤ (get_or ds i d).reg → regs (take i ds) 0 decls ≡ regs (take (i + 1) ds) 0 decls
 regs_same decls i ds d h k =

@@ -171,10 +171,12 @@ pub read_names : (bytes : List ℕ) (r : Result Netlist VError) → Judges bytes
 read_names bytes (Ok n) h = mems_differ n (reads_well bytes n h)
 read_names bytes (Err e) h = tt
 
+-- the memories of a netlist that the reader answers have words of at least 1 bit
 pub read_low : (bytes : List ℕ) (r : Result Netlist VError) → Judges bytes r → IfOk r (λ n. All (λ m. 1 ≤ m.width) n.mems)
 read_low bytes (Ok n) h = λ k d l. (mems_wide n (reads_well bytes n h) k d l).0
 read_low bytes (Err e) h = tt
 
+-- the memories of a netlist that the reader answers have words of at most 64 bits
 pub read_high : (bytes : List ℕ) (r : Result Netlist VError) → Judges bytes r → IfOk r (λ n. All (λ m. m.width ≤ 64) n.mems)
 read_high bytes (Ok n) h = λ k d l. (mems_wide n (reads_well bytes n h) k d l).1
 read_high bytes (Err e) h = tt

@@ -39,6 +39,7 @@ place_below (y ∷ ys) x i h = go (bytes_eq x y) (place ys x) (place_below ys x)
         let l : j < length ys = k j refl in
         omega arith
 
+-- an array that a name stands for is one of the file's
 pub array_there : (f : File) (x : List ℕ) (m : ℕ) → array_place f x ≡ Some m → m < length f.arrays
 array_there f x m h =
     let l = place_below (map (λ a. a.name) f.arrays) x m h in

@@ -46,6 +46,7 @@ module _ {A : Type 0} (ask : List A → A → Asked) where
       let u = right_both (ask before x).right (first_wrong (in_turn ask (before ++ x ∷ []) xs)) (ask before x).line h in
       ap (λ z. (ask z (get_or xs i d)).right) (sym (append_assoc before (x ∷ []) (take i xs))) ∙ turn_from (before ++ x ∷ []) xs i d u.1 (omega arith)
 
+  -- where nothing that is asked in turn is wrong, what is asked of the i-th element by those before it is right
   pub turn_at : (xs : List A) (i : ℕ) (d : A) → first_wrong (in_turn ask [] xs) ≡ None → i < length xs → (ask (take i xs) (get_or xs i d)).right ≡ true
   turn_at xs i d h l = turn_from [] xs i d h l
 
@@ -82,6 +83,7 @@ map_right ask [] h i d l = absurd (omega arith)
 map_right ask (x ∷ xs) h zero d l = (right_both (ask x).right (first_wrong (map ask xs)) (ask x).line h).0
 map_right ask (x ∷ xs) h (suc i) d l = map_right ask xs (right_both (ask x).right (first_wrong (map ask xs)) (ask x).line h).1 i d (omega arith)
 
+-- the cells, outputs, registers and blocks of a wiring are those that the file's names stand for
 pub record WiringParts (f : File) (w : Wiring) : Type 0 where
   pub cells : cells_from f 0 f.cells ≡ Ok w.cells
   pub outputs : all_outputs f (length f.cells) f.outputs ≡ Ok w.outputs
@@ -112,6 +114,7 @@ wiring_parts f w h =
     go (Ok cs) (Ok os) (Err l) e p q r s i = absurd (cc)
     go (Ok cs) (Ok os) (Ok rs) (Err l) p q r s i = absurd (cc)
 
+-- V4 finds nothing wrong in the ports, the registers, the arrays and the blocks of a file
 pub record OnceParts (f : File) (w : Wiring) : Type 0 where
   pub ports : first_wrong (in_turn (port_once w.outputs) [] f.ports) ≡ None
   pub regs : first_wrong (in_turn (reg_once w.regs) [] f.regs) ≡ None

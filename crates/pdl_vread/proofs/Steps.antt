@@ -29,6 +29,7 @@ refused_pipe f w n (Refused rule line) d e h =
     subst (λ r. FileBreaks f r line) (sym h.0) b
 refused_pipe f w n NoMemory d e h = tt
 
+-- what is built of a wired file is its netlist, with memories by which its ports and arrays are a pipe's
 pub is_netlist : (f : File) (w : Wiring) (n m : Netlist) → IsWired f w → n ≡ built f w → m ≡ with_mems n m.mems → IsPipe m → IsNetlistOf f m
 is_netlist f w n m d e h p = record { wiring = w; wired = d; same = h ∙ ap (λ x. with_mems x m.mems) e; pipe = p }
 

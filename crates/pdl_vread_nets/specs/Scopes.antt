@@ -13,6 +13,7 @@ port_names f = map (λ p. p.name) f.ports
 abbrev pub reg_names : File → List (List ℕ)
 reg_names f = map (λ r. r.name) f.regs
 
+-- the names of a file's arrays
 abbrev pub array_names : File → List (List ℕ)
 array_names f = map (λ a. a.name) f.arrays
 

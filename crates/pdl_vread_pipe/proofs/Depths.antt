@@ -16,6 +16,7 @@ eqb-swap a b = go (eqb a b) (eqb b a) refl refl
     go true false h k = let e : a ≡ b = (Decides-eqb a b).0 h in let f = (Decides-eqb b a).1 (sym e) in cc
     go false true h k = let e : b ≡ a = (Decides-eqb b a).0 k in let f = (Decides-eqb a b).1 (sym e) in cc
 
+-- a depth is compared with 1 moved up by b places in 64 bits as with 2^b, where b is below 64
 pub shifted_out : (b d : ℕ) → b < 64 → eqb (1 * 2 ^ b % 2 ^ 64) d ≡ eqb d (2 ^ b)
 shifted_out b d h = ap (λ x. eqb x d) (one_shifted b h) ∙ eqb-swap (2 ^ b) d
 
@@ -36,6 +37,7 @@ pub ruleset reached = (shifted_out, beyond)
 pub twice : (b d : ℕ) → eqb d (2 ^ (b + 1)) ≡ eqb d (2 * 2 ^ b)
 twice b d = ap (eqb d) (twice_power b)
 
+-- no depth below 2^32 is twice one that 32 or more address bits reach
 pub too_deep : (b d : ℕ) → 32 ≤ b → d < 2 ^ 32 → false ≡ eqb d (2 * 2 ^ b)
 too_deep b d h l = let m : 2 ^ 32 ≤ 2 ^ b = pow_mono h in not_equal d (2 * 2 ^ b) (omega arith)
 

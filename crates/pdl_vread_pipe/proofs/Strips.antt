@@ -56,9 +56,11 @@ same_front p x y =
     let b = bytes_eq-Decides (p ++ x) (p ++ y) in
     same_from_decides _ _ a (λ e. front-cancel p x y (b.0 e), λ e. b.1 (ap (λ z. p ++ z) e))
 
+-- what is left of a name after a prefix is y just where the name is the prefix and y
 pub named_some : (s p y x : List ℕ) → Some x ≡ strip p s → bytes_eq x y ≡ bytes_eq s (p ++ y)
 named_some s p y x e = same_front p x y ∙ ap (λ z. bytes_eq z (p ++ y)) (sym (strip_some p s x (sym e)))
 
+-- a name that doesn't begin with a prefix is none of that prefix and y
 pub named_none : (s p y : List ℕ) → None ≡ strip p s → false ≡ bytes_eq s (p ++ y)
 named_none s p y e = go (bytes_eq s (p ++ y)) refl
   where
@@ -70,6 +72,7 @@ pub ruleset named = (named_some, named_none)
 
 -- ---- ports
 
+-- where ports begin with an expected one, the others that are expected are looked for behind it
 pub after_cons : (e : Head) (es hs ls : List Head) → Some ls ≡ after (e ∷ []) hs → after es ls ≡ after (e ∷ es) hs
 after_cons e es [] ls h = cc
 after_cons e es (x ∷ xs) ls h = go (same e x) h
@@ -78,6 +81,7 @@ after_cons e es (x ∷ xs) ls h = go (same e x) h
     go true h = let i : ls ≡ xs = cc in ap (after es) i
     go false h = cc
 
+-- ports that don't begin with an expected one don't begin with it and others
 pub stop_cons : (e : Head) (es hs : List Head) → None ≡ after (e ∷ []) hs → None ≡ after (e ∷ es) hs
 stop_cons e es [] h = refl
 stop_cons e es (x ∷ xs) h = go (same e x) h
@@ -113,16 +117,19 @@ module _ {A : Type 0} (f : A → List Head) where
   one_more : (xs : List A) (i : ℕ) (d : A) → i < length xs → flat_map f (drop i xs) ≡ f (get_or xs i d) ++ flat_map f (drop (i + 1) xs)
   one_more xs i d l = ap (flat_map f) (drop_more xs i d l)
 
+  -- where ports begin with those of the i-th element, those of the later elements are looked for behind them
   pub flat_more : (xs : List A) (i : ℕ) (d : A) (hs ls : List Head) (whole : Option (List Head)) → i < length xs
       → Some ls ≡ after (f (get_or xs i d)) hs → after (flat_map f (drop i xs)) hs ≡ whole
       → after (flat_map f (drop (i + 1) xs)) ls ≡ whole
   flat_more xs i d hs ls whole l e h =
       after_both (f (get_or xs i d)) (flat_map f (drop (i + 1) xs)) hs ls e ∙ (ap (λ z. after z hs) (sym (one_more xs i d l)) ∙ h)
 
+  -- where ports don't begin with those of the i-th element, they don't begin with those of the elements from it on
   pub flat_stop : (xs : List A) (i : ℕ) (d : A) (hs : List Head) (whole : Option (List Head)) → i < length xs
       → None ≡ after (f (get_or xs i d)) hs → after (flat_map f (drop i xs)) hs ≡ whole → None ≡ whole
   flat_stop xs i d hs whole l e h = after_stop (f (get_or xs i d)) (flat_map f (drop (i + 1) xs)) hs e ∙ (ap (λ z. after z hs) (sym (one_more xs i d l)) ∙ h)
 
+  -- past the last element all ports are left
   pub flat_end : (xs : List A) (i : ℕ) (hs : List Head) (whole : Option (List Head)) → length xs ≤ i
       → after (flat_map f (drop i xs)) hs ≡ whole → Some hs ≡ whole
   flat_end xs i hs whole l h = ap (λ z. after (flat_map f z) hs) (sym (drop_all i xs l)) ∙ h

@@ -26,6 +26,7 @@ IsShort m = m.bits ≤ 16
 abbrev pub has_address : PortMem → Bool
 has_address m = nat_le 1 m.bits && nat_le m.bits 16
 
+-- two memories have words of one width and addresses of as many bits
 abbrev pub same_sizes : PortMem → PortMem → Bool
 same_sizes d l = d.width == l.width && d.bits == l.bits
 
@@ -33,6 +34,7 @@ same_sizes d l = d.width == l.width && d.bits == l.bits
 abbrev pub agrees : PortMem → PortMem → Bool
 agrees d l = cond (bytes_eq d.name l.name) (same_sizes d l) true
 
+-- a memory agrees with each of the locked ones that has its name
 abbrev pub all_agree : List PortMem → PortMem → Bool
 all_agree locked d = list_all (agrees d) locked
 
@@ -44,6 +46,7 @@ has_depth bits depth = depth == 2 ^ bits || depth == 2 * 2 ^ bits
 abbrev pub fits_lock : Array → PortMem → Bool
 fits_lock a m = cond (bytes_eq m.name a.name) (a.width == m.width && has_depth m.bits a.depth) true
 
+-- an array has no write ports
 abbrev pub is_unwritten : List WritePort → Bool
 is_unwritten [] = true
 is_unwritten (w ∷ ws) = false
@@ -87,6 +90,7 @@ has_mems s arrays =
     && (list_all has_address s.locked
     && (list_all (all_agree s.locked) s.delayed && (list_all (is_array s.delayed s.locked) arrays && list_all (is_kept s.delayed arrays) s.locked)))
 
+-- the ports and arrays of a netlist are those of a pipe of this shape
 abbrev pub is_pipe : Netlist → Shape → Bool
 is_pipe n s = has_counts s n.arrays && (has_ports (heads n.ports) s && has_mems s n.arrays)
 

@@ -33,6 +33,7 @@ module _ (t : Widths) where
   no_more [] = refl
   no_more (b ∷ bs) = refl
 
+  -- where the writes of the i-th block are right, the first wrong one is looked for from the next block on
   pub block_more : (bs : List ArrayBlock) (more : List (List ArrayWrite)) (i j : ℕ) (b : ArrayBlock) (ws : List ArrayWrite) (whole : Option ℕ)
       → i < length bs → i < length more → j ≡ i + 1
       → first_wrong (block (get_or bs i b) (get_or more i ws)) ≡ None
@@ -43,6 +44,7 @@ module _ (t : Widths) where
       ∙ (sym (rest_first (block (get_or bs i b) (get_or more i ws)) (asked_writes t (drop (i + 1) bs) (drop (i + 1) more)) r)
       ∙ (ap first_wrong (sym (one_block bs more i b ws h k)) ∙ w))
 
+  -- where a write of the i-th block is wrong, an answer that tells the first such tells the first of all
   pub block_stop : (bs : List ArrayBlock) (more : List (List ArrayWrite)) (i : ℕ) (b : ArrayBlock) (ws : List ArrayWrite) (whole : Option ℕ) (e : PassStop)
       → i < length bs → i < length more
       → Tells (first_wrong (block (get_or bs i b) (get_or more i ws))) (Err e)
@@ -51,12 +53,14 @@ module _ (t : Widths) where
       subst (λ z. Tells z (Err e)) (sym (ap first_wrong (one_block bs more i b ws h k)) ∙ w)
       (front_tells (block (get_or bs i b) (get_or more i ws)) (asked_writes t (drop (i + 1) bs) (drop (i + 1) more)) e r)
 
+  -- so does an answer that tells a line, where that is the line of the first wrong write of the i-th block
   pub block_stop_at : (bs : List ArrayBlock) (more : List (List ArrayWrite)) (i : ℕ) (b : ArrayBlock) (ws : List ArrayWrite) (whole : Option ℕ) (e : PassStop)
       → i < length bs → i < length more
       → (told : Option ℕ) → told ≡ first_wrong (block (get_or bs i b) (get_or more i ws)) → Tells told (Err e)
       → first_wrong (asked_writes t (drop i bs) (drop i more)) ≡ whole → Tells whole (Err e)
   block_stop_at bs more i b ws whole e h k told m r w = block_stop bs more i b ws whole e h k (subst (λ z. Tells z (Err e)) m r) w
 
+  -- past the last block nothing is wrong
   pub block_end : (bs : List ArrayBlock) (more : List (List ArrayWrite)) (i : ℕ) (whole : Option ℕ)
       → i ≡ min (length bs) (length more) → first_wrong (asked_writes t (drop i bs) (drop i more)) ≡ whole
       → whole ≡ None

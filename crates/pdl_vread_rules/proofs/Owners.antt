@@ -65,6 +65,7 @@ module _ (bs : List ArrayBlock) (more : List (List ArrayWrite)) (i : ℕ) (b : A
       ∙ (ap (λ z. first_wrong (blocks_once before z (drop i more))) (drop_next bs i b h is)
       ∙ ap (λ z. first_wrong (blocks_once before (b ∷ drop (i + 1) bs) z)) (drop_next more i ws k are))
 
+  -- where an earlier block is of the same array, the first wrong line is this block's
   pub second_block : has_owner before ws ≡ true → whole ≡ Some b.line
   second_block r =
       one_block
@@ -75,6 +76,7 @@ module _ (bs : List ArrayBlock) (more : List (List ArrayWrite)) (i : ℕ) (b : A
       one_block
       ∙ ap (λ z. cond (not z) (first_wrong (inside b ws ++ blocks_once (before ++ owner ws ∷ []) (drop (i + 1) bs) (drop (i + 1) more))) (Some b.line)) r
 
+  -- where no earlier block is of its array and its writes are right, what is wrong is looked for after this block
   pub blocks_more : (j : ℕ) (after : List ℕ) → j ≡ i + 1 → after ≡ before ++ owner ws ∷ [] → has_owner before ws ≡ false
       → first_wrong (inside b ws) ≡ None → first_wrong (blocks_once after (drop j bs) (drop j more)) ≡ whole
   blocks_more j after m a r n =
@@ -82,6 +84,7 @@ module _ (bs : List ArrayBlock) (more : List (List ArrayWrite)) (i : ℕ) (b : A
       ∙ (ap (λ z. first_wrong (blocks_once (before ++ owner ws ∷ []) (drop z bs) (drop z more))) m
       ∙ (sym (rest_first (inside b ws) (blocks_once (before ++ owner ws ∷ []) (drop (i + 1) bs) (drop (i + 1) more)) n) ∙ sym (first_block r)))
 
+  -- where no earlier block is of its array but one of its writes is wrong, the first such is the first wrong of all
   pub blocks_stop : (told : Option ℕ) (e : PassStop) → has_owner before ws ≡ false → told ≡ first_wrong (inside b ws) → Tells told (Err e) → Tells whole (Err e)
   blocks_stop told e r m t =
       subst (λ z. Tells z (Err e)) (sym (first_block r))

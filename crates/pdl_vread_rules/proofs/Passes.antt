@@ -53,6 +53,7 @@ module _ {A B : Type 0} (ask : A → B → Asked) where
       go (inl h) = ap (both ask (drop i xs)) (drop_all i ys (omega arith)) ∙ no_seconds (drop i xs)
       go (inr h) = ap (λ z. both ask z (drop i ys)) (drop_all i xs (omega arith))
 
+  -- where the i-th pair is right, the first wrong one is looked for from the next pair on
   pub pair_more : (xs : List A) (ys : List B) (i j : ℕ) (x : A) (y : B) (whole : Option ℕ) → i < length xs
       → i < length ys → j ≡ i + 1 → (ask (get_or xs i x) (get_or ys i y)).right ≡ true
       → first_wrong (both ask (drop i xs) (drop i ys)) ≡ whole → first_wrong (both ask (drop j xs) (drop j ys)) ≡ whole
@@ -62,6 +63,7 @@ module _ {A B : Type 0} (ask : A → B → Asked) where
       ap (λ n. first_wrong (both ask (drop n xs) (drop n ys))) m
       ∙ (sym (ap (λ b. cond b (first_wrong rest) (Some a.line)) r) ∙ (ap first_wrong (sym (both_more xs ys i x y h k)) ∙ w))
 
+  -- where the i-th pair is wrong, its line is that of the first wrong one
   pub pair_stop : (xs : List A) (ys : List B) (i line : ℕ) (x : A) (y : B) (whole : Option ℕ) → i < length xs
       → i < length ys → (ask (get_or xs i x) (get_or ys i y)).right ≡ false
       → line ≡ (ask (get_or xs i x) (get_or ys i y)).line
@@ -71,6 +73,7 @@ module _ {A B : Type 0} (ask : A → B → Asked) where
       let rest = both ask (drop (i + 1) xs) (drop (i + 1) ys) in
       sym w ∙ (ap first_wrong (both_more xs ys i x y h k) ∙ (ap (λ b. cond b (first_wrong rest) (Some a.line)) r ∙ ap Some (sym m)))
 
+  -- past the last pair nothing is wrong
   pub pair_end : (xs : List A) (ys : List B) (i : ℕ) (whole : Option ℕ) → i ≡ min (length xs) (length ys)
       → first_wrong (both ask (drop i xs) (drop i ys)) ≡ whole → whole ≡ None
   pair_end xs ys i whole e w = sym w ∙ ap first_wrong (both_end xs ys i e)
@@ -86,6 +89,7 @@ pub all_rest : (f : File) (w : Wiring) (r : Result (Unit {0}) PassStop)
 unfolding width_line
 all_rest f w r h t = rest_tells (declared_questions f) (driven_questions f (widths_of f) w) r h t
 
+-- where a declaration is wrong, what is told of the declarations is told of all that V3 asks
 pub all_front : (f : File) (w : Wiring) (e : PassStop) → Tells (first_wrong (declared_questions f)) (Err e) → Tells (width_line f w) (Err e)
 unfolding width_line
 all_front f w e h = front_tells (declared_questions f) (driven_questions f (widths_of f) w) e h

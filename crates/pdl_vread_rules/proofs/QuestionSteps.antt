@@ -14,6 +14,7 @@ module _ {A : Type 0} (ask : List A → A → Asked) where
   one_turn xs i x h =
       ap (in_turn ask (take i xs)) (drop_more xs i x h) ∙ ap (λ z. ask (take i xs) (get_or xs i x) ∷ in_turn ask z (drop (i + 1) xs)) (sym (take_more xs i x h))
 
+  -- where the i-th element is right by those before it, the first wrong one is looked for from the next on
   pub turn_more : (xs : List A) (i j : ℕ) (x : A) (whole : Option ℕ) → i < length xs → j ≡ i + 1 → (ask (take i xs) (get_or xs i x)).right ≡ true
       → first_wrong (in_turn ask (take i xs) (drop i xs)) ≡ whole → first_wrong (in_turn ask (take j xs) (drop j xs)) ≡ whole
   turn_more xs i j x whole h m r w =
@@ -22,6 +23,7 @@ module _ {A : Type 0} (ask : List A → A → Asked) where
       ap (λ n. first_wrong (in_turn ask (take n xs) (drop n xs))) m
       ∙ (sym (ap (λ b. cond b (first_wrong rest) (Some a.line)) r) ∙ (ap first_wrong (sym (one_turn xs i x h)) ∙ w))
 
+  -- where the i-th element is wrong by those before it, its line is that of the first wrong one
   pub turn_stop : (xs : List A) (i line : ℕ) (x : A) (whole : Option ℕ) → i < length xs
       → (ask (take i xs) (get_or xs i x)).right ≡ false → line ≡ (ask (take i xs) (get_or xs i x)).line
       → first_wrong (in_turn ask (take i xs) (drop i xs)) ≡ whole → whole ≡ Some line

@@ -21,6 +21,7 @@ use Rattle.pdl_word.proofs.Lists.{longer, same_after}
 
 -- ---- what leads to a part
 
+-- these rules are those that were taken, and then some by which the part has the tokens that are left
 pub record Onward (done : List Taken) (part : Part) (left : Row) (rs : List Taken) : Type 0 where
   pub more : List Taken
   pub derives : Derives part left more

@@ -40,6 +40,7 @@ chosen_begins part t r e = found_begins (rules part) t r e
 
 -- ---- rules so far
 
+-- rules that lead from the start to this part took the tokens up to those that are left, and made this draft
 pub record AreSoFar (old new : Row) (part : Part) (d : Draft) : Type 0 where
   pub rules : List Taken
   pub leads : Leads rules part
@@ -90,6 +91,7 @@ one_more_rule old mid found new part rule d h e f =
       draft = ap (λ x. taken x rule found) h.draft ∙ sym (all_taken_more no_draft h.rules t);
     }
 
+-- a rule that comes at a part leaves fewer tokens than there were
 pub fewer_left : (part : Part) (rule : VerilogRule) (old found new : Row)
     → chosen_at part old ≡ Some rule → Found (fields rule) old found new → length new < length old
 fewer_left part rule old found new e f =

@@ -15,6 +15,7 @@ use Rattle.pdl_vread_text.specs.Grammar.{Row, Taken}
 
 -- ---- the tokens of a rule, counted from 0
 
+-- the i-th token
 abbrev pub token_at : Row → ℕ → Token
 token_at ts i = slice_index_or ts i (record { text = []; line = 0 })
 
@@ -30,9 +31,11 @@ line_at ts i = (token_at ts i).line
 abbrev pub number_at : Row → ℕ → ℕ
 number_at ts i = unwrap_or (number_of (text_at ts i)) 0
 
+-- the constant that the i-th token is
 abbrev pub constant_at : Row → ℕ → Constant
 constant_at ts i = unwrap_or (constant_of (text_at ts i)) (record { width = 0; value = 0 })
 
+-- the operator that the i-th token is
 abbrev pub operator_at : Row → ℕ → BinOp
 operator_at ts i = unwrap_or (operator_of (text_at ts i)) Add
 

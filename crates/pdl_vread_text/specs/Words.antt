@@ -30,6 +30,7 @@ constant_of text = with_parts (number_of (take (prefix_len is_digit text) text))
 
 -- ---- operators
 
+-- the comparison or shift that a symbol is, if it is one
 abbrev pub comparison_or_shift : List ℕ → Option BinOp
 comparison_or_shift text =
     cond (bytes_eq text (codes "==")) (Some Eq)

@@ -107,6 +107,7 @@ with_append : (k : ℕ) (xs : List Change) (later end : List Moment) → with_mo
 with_append k [] later end = refl
 with_append k (x ∷ xs) later end = refl
 
+-- the moment without changes by which a dump ends, at this time
 abbrev pub end_at : ℕ → List Moment
 end_at last = record { time = last; changes = [] } ∷ []
 

@@ -18,6 +18,7 @@ binary (suc n) v = binary n (v / 2) ++ (48 + v % 2) ∷ []
 
 -- ---- the lines, without their line feeds
 
+-- the line that tells the unit of time
 abbrev pub timescale : List ℕ
 timescale = codes "$timescale 1 ns $end"
 

@@ -30,6 +30,7 @@ number ds = if bytes_eq (decimal (digits_value 10 ds)) ds then Some (digits_valu
 abbrev pub after : List ℕ → List ℕ → Option (List ℕ)
 after front word = if starts_with nat_eq word front then Some (drop (length front) word) else None
 
+-- a word is `$end`
 abbrev pub is_end : List ℕ → Bool
 is_end word = bytes_eq word (codes "$end")
 
